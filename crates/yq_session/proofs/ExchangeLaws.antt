@@ -100,7 +100,7 @@ far_count [] = refl
 far_count (row_item r ∷ xs) = ap suc (far_count xs ∙ near_count 0 (0 + length (print_row r [])) xs)
 far_count (end_item gap marker ∷ xs) = far_count xs ∙ near_count 0 (0 + length (gap ++ marker)) xs
 
-kept_count : (n : ℕ) (p : Places) → length (kept_rows p) ≡ length (placed_rows n p)
+pub kept_count : (n : ℕ) (p : Places) → length (kept_rows p) ≡ length (placed_rows n p)
 kept_count n p =
     length-append p.front.items (reverse p.behind.items) ∙ (ap (λ (k : ℕ). length p.front.items + k) (sym (length-map (reverse p.behind.items) (turned n))) ∙ sym (length-append p.front.items (map (turned n) (reverse p.behind.items))))
 

@@ -7,4 +7,8 @@ pub mod BackLaws
 pub mod ExchangeLaws
 pub mod ItemPlaces
 pub mod ReadLaws
+pub mod EdgeLaws
+pub mod MarkedLaws
+pub mod MarkerLaws
 pub mod FollowLaws
+pub mod DoneLaws

@@ -47,10 +47,10 @@ front_kept p xs at placed gap h =
     }
 
 -- by what the last one is
-rows_row : (front : List Item) (r : Row) → near 0 (front ++ (row_item r ∷ [])) ≡ near 0 front ++ offsets_of (text_length front) (slices r) ∷ []
+pub rows_row : (front : List Item) (r : Row) → near 0 (front ++ (row_item r ∷ [])) ≡ near 0 front ++ offsets_of (text_length front) (slices r) ∷ []
 rows_row front r = near_joined 0 front (row_item r ∷ []) ∙ ap (λ (n : ℕ). near 0 front ++ offsets_of n (slices r) ∷ []) (let n : 0 + text_length front ≡ text_length front = omega arith in n)
 
-ends_row : (front : List Item) (r : Row) → ends_near 0 0 (front ++ (row_item r ∷ [])) ≡ ends_near 0 0 front
+pub ends_row : (front : List Item) (r : Row) → ends_near 0 0 (front ++ (row_item r ∷ [])) ≡ ends_near 0 0 front
 ends_row front r = ends_joined 0 0 front (row_item r ∷ []) ∙ append-nil (ends_near 0 0 front)
 
 pub rows_end : (front : List Item) (gap marker : List ℕ) → near 0 (front ++ (end_item gap marker ∷ [])) ≡ near 0 front

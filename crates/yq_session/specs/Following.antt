@@ -5,6 +5,7 @@ use Rattle.yq_rows.specs.Grammar.{IsCut}
 use Rattle.yq_rows.specs.Items.{Item, row_item, end_item, items_of, items_text}
 use Rattle.yq_rows.specs.Kept.{IsPlaced}
 use Rattle.yq_rows.specs.Meter.{begins_line, counted, line_count}
+use Rattle.yq_rows.specs.Regions.{no_items}
 use Rattle.yq_rows.specs.Rows.{Cut}
 use Rattle.yq_rows.specs.Touched.{TouchesOnly, in_back}
 use Rattle.yq_rows.specs.View.{shown}
@@ -38,12 +39,15 @@ pub record Follows (t : List ℕ) (places : Places) (kept : Kept) (new : List �
   pub front_edge : IsCharBoundary t kept.front
   pub back_edge : IsCharBoundary t (length t - kept.back)
 
--- the line of the marker behind items, where the last of them is the end of a part (own)
+-- the line of the marker behind an item, where that is the end of a part (own)
+abbrev pub marker_of : Item → List ℕ
+marker_of (row_item r) = []
+marker_of (end_item gap marker) = marker
+
+-- the line of the marker behind the last of items (own)
 abbrev pub last_marker : List Item → List ℕ
 last_marker [] = []
-last_marker (row_item r ∷ []) = []
-last_marker (end_item gap marker ∷ []) = marker
-last_marker (x ∷ (y ∷ xs)) = last_marker (y ∷ xs)
+last_marker (x ∷ xs) = if no_items xs then marker_of x else last_marker xs
 
 -- how long that line is, where all of it is among so many bytes at the end of items, else 0 (own)
 abbrev pub kept_marker : ℕ → List Item → ℕ

@@ -1,5 +1,6 @@
 //! What stands in front of what a change touches, and in front of what stands behind that.
-ghost use Rattle.std.specs.Prelude.{◌≡◌, ◌<◌, ◌≤◌, ◌^◌, List, ℕ, length, reverse};
+ghost use Rattle.std.specs.Prelude.{◌≡◌, ◌<◌, ◌≤◌, ◌^◌, ◌||◌, List, ℕ, length, nat_lt, reverse};
+ghost use Rattle.yq_rows.specs.Kept.{kept_rows};
 ghost use Rattle.yq_session.specs.Exchanging.{Change};
 ghost use Rattle.yq_session.specs.Following.{Follows};
 ghost use Rattle.yq_session.specs.Sides as spec;
@@ -136,6 +137,14 @@ fn marked_end(ends: &[EndPlace], front: Side, old: Side, at: usize) -> Option<En
     }
 }
 
+/// Whether rows or ends of parts stand behind others.
+fn has_more(places: &Places, old: Side) -> bool
+    ensures { result ≡ (nat_lt old.rows (length (kept_rows places.now))
+        || nat_lt old.ends (length places.now.ends.items)) }
+{
+    places.len() > old.rows || places.ends.len() > old.ends
+}
+
 /// The rows and ends of parts that a change of a text of `len` bytes touches; the split is where the
 /// first byte is that the change doesn't keep.
 pub(crate) fn find_touched(places: &Places, len: usize, kept: Kept) -> Touched
@@ -147,12 +156,10 @@ pub(crate) fn find_touched(places: &Places, len: usize, kept: Kept) -> Touched
 {
     let front = side_before(places, kept.front);
     let old = side_behind(places, len, kept.back);
-    let rows = places.len() - old.rows;
-    let ends = places.ends.len() - old.ends;
     Touched {
         front,
         old,
-        more: rows + ends > 0,
+        more: has_more(places, old),
         marked: marked_end(places.ends.as_slice(), front, old, len - kept.back),
     }
 }
