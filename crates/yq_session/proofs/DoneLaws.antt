@@ -45,7 +45,7 @@ same_sides p q b z same h = record {
 
 pub same_places : (t u : List ℕ) (p q : Places) → u ≡ t → IsPlacedIn t p → SamePlaces p q → ArePlacesOf u q
 same_places t u p q text h same =
-    let placed = record { before = h.placed.before; behind = h.placed.behind; placed = same_sides p q h.placed.before h.placed.behind same h.placed.placed; shown_is = h.placed.shown_is } in
+    let placed : IsPlaced q (shown h.cut) = record { before = h.placed.before; behind = h.placed.behind; placed = same_sides p q h.placed.before h.placed.behind same h.placed.placed; shown_is = h.placed.shown_is } in
     subst (λ (x : List ℕ). ArePlacesOf x q) (sym text) (places_of t q (record { cut = h.cut; is_cut = h.is_cut; placed = placed }))
 
 pub still_placed : (t u : List ℕ) (p : Places) → u ≡ t → IsPlacedIn t p → ArePlacesOf u p
