@@ -12,9 +12,10 @@ use Rattle.yq_rows.specs.declared.offsets.Offsets as declared
 use Rattle.yq_rows.specs.declared.places.Places.{Places}
 use Rattle.yq_rows.proofs.ItemLaws.{items_text-append}
 use Rattle.yq_rows.proofs.KeptLaws.{far_near, items_apart, near_joined}
-use Rattle.yq_session.specs.Sides.{ArePlaced, IsGapAt, ends_before, nearer, not_in_back, side_of, text_length}
+use Rattle.yq_session.specs.Sides.{AreAt, IsSplitAt, ends_before, nearer, not_in_back, side_of, text_length}
 use Rattle.yq_session.proofs.BeginLaws.{BackFound, back_found, begin_from, begin_where, ends_begin, first_long, joined_long, rows_begin}
 use Rattle.yq_session.proofs.CountLaws.{ends_joined}
+use Rattle.yq_session.proofs.ItemPlaces.{far_within}
 use Rattle.yq_session.proofs.SideLaws.{sides_same}
 use Rattle.yq_session.proofs.SplitLaws.{Within, ends_counted, nearer_split, prefix, turned_twice}
 
@@ -51,11 +52,6 @@ all_unmapped : (n : ℕ) (P Q : declared.Offsets → Type 0) → ((o : declared.
 all_unmapped n P Q f [] h = All-nil Q
 all_unmapped n P Q f (o ∷ os) h = All-cons Q o os (f o (All-head P (turned n o) (map (turned n) os) h)) (all_unmapped n P Q f os (All-tail P (turned n o) (map (turned n) os) h))
 
-pub far_within : (n : ℕ) (xs : List Item) → text_length xs ≤ n → All (Within n) (far xs)
-far_within n [] h = All-nil (Within n)
-far_within n (row_item r ∷ xs) h = All-cons (Within n) (offsets_of (text_length (row_item r ∷ xs)) (slices r)) (far xs) h (far_within n xs (omega (arith, h, first_long (row_item r) xs)))
-far_within n (end_item gap marker ∷ xs) h = far_within n xs (omega (arith, h, first_long (end_item gap marker) xs))
-
 -- Items near the end of their text, by the rows behind the gap, which stand there as they do at the end of any text, and by the ends of parts.
 pub record BackKept (p : Places) (front behind : List Item) (len back : ℕ) : Type 0 where
   pub before : List declared.Offsets
@@ -68,7 +64,7 @@ pub record BackKept (p : Places) (front behind : List Item) (len back : ℕ) : T
   pub ends_are : p.ends.items ≡ ends_near 0 0 front ++ ends_near (text_length front) (length (near 0 front)) behind
   pub count_is : ends_before ((len - back) + 1) p.ends.items ≡ length (ends_near 0 0 front)
 
-pub back_kept : (p : Places) (xs : List Item) (at back : ℕ) → ArePlaced p xs → IsGapAt at (text_length xs) p → at + back ≤ text_length xs → (h : BackFound 0 back xs) → BackKept p h.front h.behind (text_length xs) back
+pub back_kept : (p : Places) (xs : List Item) (at back : ℕ) → AreAt p xs → IsSplitAt at (text_length xs) p → at + back ≤ text_length xs → (h : BackFound 0 back xs) → BackKept p h.front h.behind (text_length xs) back
 back_kept p xs at back placed gap apart h =
     let len : ℕ = text_length xs in
     let m : ℕ = 0 + text_length h.front in
@@ -178,7 +174,7 @@ ByRows p len rows bytes = ((rows ≡ 0) × (bytes ≡ len)) ⊎ ((o : declared.O
 abbrev pub ByEnds : Places → (ends before bytes : ℕ) → Type 0
 ByEnds p ends before bytes = ((length p.ends.items ≤ ends) × (bytes ≡ before)) ⊎ ((e : EndPlace) × (ends < length p.ends.items) × (e ≡ get_or p.ends.items ends e) × (bytes ≡ min before e.start))
 
-pub behind_is : (p : Places) (xs : List Item) (at back rows ends before bytes : ℕ) → ArePlaced p xs → IsGapAt at (text_length xs) p → at + back ≤ text_length xs → rows ≡ length (nearer back (reverse p.behind.items)) →
+pub behind_is : (p : Places) (xs : List Item) (at back rows ends before bytes : ℕ) → AreAt p xs → IsSplitAt at (text_length xs) p → at + back ≤ text_length xs → rows ≡ length (nearer back (reverse p.behind.items)) →
     ends ≡ ends_before ((text_length xs - back) + 1) p.ends.items → ByRows p (text_length xs) rows before → ByEnds p ends before bytes → record { rows = length p.front.items + (length p.behind.items - rows); ends = ends; bytes = bytes } ≡ side_of (not_in_back back xs)
 behind_is p xs at back rows ends before bytes placed gap apart many count by_rows by_ends =
     let len : ℕ = text_length xs in

@@ -1,9 +1,14 @@
 pub mod SplitLaws
 pub mod BeginLaws
-pub mod GapLaws
+pub mod PassingLaws
 pub mod CountLaws
 pub mod SideLaws
 pub mod BackLaws
 pub mod ExchangeLaws
 pub mod ItemPlaces
+pub mod ReadLaws
+pub mod EdgeLaws
+pub mod MarkedLaws
+pub mod MarkerLaws
 pub mod FollowLaws
+pub mod DoneLaws
