@@ -4,3 +4,5 @@ pub mod ExtentLaws
 pub mod TouchLaws
 pub mod TurnLaws
 pub mod PlaceInList
+pub mod KeptSegments
+pub mod BetweenLaws
