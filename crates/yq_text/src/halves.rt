@@ -26,14 +26,14 @@ impl<'t> Halves<'t> {
     /// How long the text is, in bytes.
     pub fn len(self) -> usize
         requires { length (whole self) < 2 ^ 64 }
-        ensures { result ≡ length (whole self) }
+        ensures { result ≡ length (whole self.entry) }
     {
         self.front.len() + self.back.len()
     }
 
     /// Whether it has no bytes.
     pub fn is_empty(self) -> bool
-        ensures { result ≡ (length (whole self) == 0) }
+        ensures { result ≡ (length (whole self.entry) == 0) }
     {
         self.front.is_empty() && self.back.is_empty()
     }
@@ -41,8 +41,8 @@ impl<'t> Halves<'t> {
     /// The text cut behind so many bytes.
     pub fn split_at(self, at: usize) -> (Halves<'t>, Halves<'t>)
         requires { IsCharBoundary (whole self) at }
-        ensures front { whole result.0 ≡ take at (whole self) }
-        ensures back { whole result.1 ≡ drop at (whole self) }
+        ensures front { whole result.0 ≡ take at (whole self.entry) }
+        ensures back { whole result.1 ≡ drop at (whole self.entry) }
     {
         if at <= self.front.len() {
             let (before, rest) = self.front.split_at(at);

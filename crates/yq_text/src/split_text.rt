@@ -2,9 +2,11 @@
 ghost use Rattle.std.specs.Prelude.{◌≡◌, ◌+◌, ◌-◌, ◌≤◌, ◌<◌, ◌^◌, ◌++◌, [], drop, length, take, OnOk, OnErr, string_bytes};
 ghost use Rattle.std.specs.Str.{IsCharBoundary};
 ghost use Rattle.yq_text.specs.Split.{Split, joined};
+ghost use lib.Seq.{paste};
 
 use crate::halves::Halves;
 use std::alloc::AllocError;
+use std::cmp::max;
 use std::marker::Model;
 
 /// A text that is kept in two halves with room between them: what is written there moves no other byte,
@@ -19,16 +21,26 @@ pub struct SplitText {
 }
 
 impl Model for SplitText {
-    ghost use Rattle.std.specs.Prelude.{◌≤◌, ◌-◌, take, drop, length};
-    ghost use Rattle.std.specs.Str.{IsUtf8};
-    ghost use Rattle.yq_text.specs.Split.{Split};
+    ghost use Rattle.std.specs.Prelude.{◌-◌, take, drop};
+    ghost use Rattle.yq_text.specs.Split.{IsKept, Split};
 
     ghost Value = { Split };
 
-    ghost view = { λ t. record { front = take t.front t.bytes.items; back = drop t.back t.bytes.items; room = t.back - t.front } };
+    ghost view = { λ t. record {
+      front = take t.front t.bytes.items;
+      back = drop t.back t.bytes.items;
+      room = t.back - t.front;
+    } };
 
-    ghost invariant = { λ t. (t.front ≤ t.back) × (t.back ≤ length t.bytes.items) ×
-        IsUtf8 (take t.front t.bytes.items) × IsUtf8 (drop t.back t.bytes.items) };
+    ghost invariant = { λ t. IsKept t.bytes.items t.front t.back };
+}
+
+/// Writes a text over the bytes from a place on.
+fn write(bytes: &mut Vec<u8>, at: usize, text: &str)
+    requires { at + length text.now ≤ length bytes.old.items }
+    ensures { bytes.new.items ≡ paste bytes.old.items at text.now (length text.now) }
+{
+    bytes.as_mut_slice()[at..at + text.len()].copy_from_slice(text.as_bytes());
 }
 
 impl SplitText {
@@ -73,8 +85,21 @@ impl SplitText {
         ensures front { self.new.front ≡ self.old.front }
         ensures back { self.new.back ≡ self.old.back }
         ensures room { OnOk result (more ≤ self.new.room) }
+        ensures err { OnErr result (self.new ≡ self.old) }
     {
-        Err(AllocError)
+        let room = self.back - self.front;
+        if more <= room {
+            return Ok(());
+        }
+        let len = self.bytes.len();
+        let Some(end) = len.checked_add(max(more - room, len)) else {
+            return Err(AllocError);
+        };
+        self.bytes.resize(end, 0)?;
+        self.bytes
+            .copy_within(self.back..len, end - (len - self.back));
+        self.back += end - len;
+        Ok(())
     }
 
     /// Moves the split to a place in the text, in bytes.
@@ -86,12 +111,13 @@ impl SplitText {
     {
         if at < self.front {
             let count = self.front - at;
-            self.bytes.as_mut_slice().copy_within(at..self.front, self.back - count);
+            self.bytes.copy_within(at..self.front, self.back - count);
             self.front = at;
             self.back -= count;
         } else {
             let count = at - self.front;
-            self.bytes.as_mut_slice().copy_within(self.back..self.back + count, self.front);
+            self.bytes
+                .copy_within(self.back..self.back + count, self.front);
             self.front = at;
             self.back += count;
         }
@@ -104,30 +130,25 @@ impl SplitText {
         requires room { length text.now ≤ self.old.room + gone }
         ensures front { self.new.front ≡ self.old.front ++ text.now }
         ensures back { self.new.back ≡ drop gone self.old.back }
+        ensures room { self.new.room + length text.now ≡ self.old.room + gone }
     {
-        let end = self.front + text.len();
-        self.bytes.as_mut_slice()[self.front..end].copy_from_slice(text.as_bytes());
-        self.front = end;
+        write(&mut self.bytes, self.front, text);
+        self.front += text.len();
         self.back += gone;
-    }
-
-    /// The text; the split is then at its end.
-    pub fn text(&mut self) -> &str
-        ensures text { result.now ≡ joined self.old }
-    {
-        let len = self.len();
-        self.move_split(len);
-        self.halves().front
     }
 
     /// The text, where it is kept no longer. No memory is asked for.
     pub fn into_string(self) -> String
-        ensures { string_bytes result ≡ joined self.entry }
+        ensures { string_bytes result ≡ joined self }
     {
         let mut kept = self;
         let len = kept.len();
         kept.move_split(len);
-        let SplitText { mut bytes, front, .. } = kept;
+        let SplitText {
+            mut bytes,
+            front,
+            ..
+        } = kept;
         bytes.truncate(front);
         unsafe { String::from_utf8_unchecked(bytes) }
     }
