@@ -6,3 +6,4 @@ pub mod TurnLaws
 pub mod PlaceInList
 pub mod KeptSegments
 pub mod BetweenLaws
+pub mod ChangeLaws

@@ -1,5 +1,5 @@
 -- The segments so far and one more.
-use Rattle.std.proofs.Common.{◌≡◌, ℕ, ◌<◌, List, [], ◌∷◌, ◌++◌, ◌-◌, ◌≤◌, length, take, get_or, refl, sym, ap, ◌∙◌, arith, append-nil}
+use Rattle.std.proofs.Common.{◌≡◌, ℕ, ◌+◌, ◌<◌, List, [], ◌∷◌, ◌++◌, ◌-◌, ◌≤◌, length, take, get_or, refl, sym, ap, ◌∙◌, arith, append-nil}
 use Rattle.std.proofs.lemmas.List.{map-append, take_all, take_more}
 use Rattle.std.proofs.Common.{String, Global}
 use Rattle.std.specs.String.{string_bytes}
@@ -32,7 +32,7 @@ turn_done front whole rest bytes done all n o w none made found last =
 
 -- segments with the last one behind the others
 module _ (xs : List Held) (x d : Held) (some : 1 ≤ length xs) (is : x ≡ get_or xs (length xs - 1) d) where
-  but_last : List Held
+  abbrev but_last : List Held
   but_last = take (length xs - 1) xs
 
   with_last : segments_of xs ≡ segments_of but_last ++ (segment_of x ∷ [])
