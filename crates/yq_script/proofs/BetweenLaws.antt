@@ -2,12 +2,11 @@
 use Rattle.std.proofs.Common.{◌≡◌, ℕ, ◌+◌, Bool, true, false, cond, List, [], ◌∷◌, ◌++◌, length, nat_eq, refl, sym, ap, ◌∙◌, arith, append_assoc, append-nil, length-append}
 use Rattle.std.proofs.lemmas.Bool.{false≢true}
 use Rattle.yq_script.specs.Splice.{Splice}
-use Rattle.yq_script.specs.Script.{Segment, keep, put, new_text, keep_before, put_before, merged, splice_at, splices_at, changes_behind, are_kept, kept_front, kept_back, from_first, to_last}
+use Rattle.yq_script.specs.Script.{Segment, keep, put, old_text, new_text, keep_before, put_before, merged, splice_at, splices_at, changes_behind, are_kept, kept_front, kept_back, from_first, to_last}
 use Rattle.yq_script.proofs.TouchLaws.{put_twice}
 use Rattle.yq_script.proofs.KeptSegments.{last_kept, new_kept, one_kept}
 
 -- ---- the last one that gives way
-
 
 pub last_stays : (ss : List Segment) (t : List ℕ) → to_last (ss ++ (keep t ∷ [])) ≡ to_last ss
 last_stays [] t = refl
@@ -24,12 +23,17 @@ last_given [] o w = refl
 last_given (keep u ∷ ss) o w = λ i. cond (last_gives ss o w i) [] (keep u ∷ last_given ss o w i)
 last_given (put p x ∷ ss) o w = ap (λ s. put p x ∷ s) (last_given ss o w)
 
--- ---- the new text
+-- ---- the texts
 
 pub new_first : (ss : List Segment) → new_text ss ≡ kept_front ss ++ new_text (from_first ss)
 new_first [] = refl
 new_first (keep t ∷ ss) = ap (λ u. t ++ u) (new_first ss) ∙ sym (append_assoc t (kept_front ss) (new_text (from_first ss)))
 new_first (put o w ∷ ss) = refl
+
+pub old_first : (ss : List Segment) → old_text ss ≡ kept_front ss ++ old_text (from_first ss)
+old_first [] = refl
+old_first (keep t ∷ ss) = ap (λ u. t ++ u) (old_first ss) ∙ sym (append_assoc t (kept_front ss) (old_text (from_first ss)))
+old_first (put o w ∷ ss) = refl
 
 pub new_last : (ss : List Segment) → new_text ss ≡ new_text (to_last ss) ++ kept_back ss
 new_last [] = refl
@@ -104,6 +108,7 @@ run_last n o w (keep t ∷ ss) = go (are_kept ss) refl (λ k p x. run_last k p x
     one : (u : List ℕ) → ((k : ℕ) (p x : List ℕ) → run k p x (to_last ss) ≡ run k p x ss) → run n o w (keep u ∷ to_last ss) ≡ run n o w (keep u ∷ ss)
     one [] more = more n o w
     one (b ∷ u) more = ap (λ x. splice_at n o w ++ x) (more (n + length w + length (b ∷ u)) [] [])
+
     go : (b : Bool) → are_kept ss ≡ b → ((k : ℕ) (p x : List ℕ) → run k p x (to_last ss) ≡ run k p x ss) → run n o w (cond b [] (keep t ∷ to_last ss)) ≡ run n o w (keep t ∷ ss)
     go true e more = sym (run_kept n o w (keep t ∷ ss) e)
     go false e more = one t more

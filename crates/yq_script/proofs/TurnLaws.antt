@@ -1,13 +1,15 @@
 -- The segments so far and one more.
 use Rattle.std.proofs.Common.{◌≡◌, ℕ, ◌+◌, ◌<◌, List, [], ◌∷◌, ◌++◌, ◌-◌, ◌≤◌, length, take, get_or, refl, sym, ap, ◌∙◌, arith, append-nil}
 use Rattle.std.proofs.lemmas.List.{map-append, take_all, take_more}
-use Rattle.std.proofs.Common.{String, Global}
+use Rattle.std.proofs.Common.{Bool, true, false, cond, subst, String, Global}
+use Rattle.std.proofs.lemmas.Str.{IsUtf8-append}
+use Rattle.std.specs.Str.{IsUtf8}
 use Rattle.std.specs.String.{string_bytes}
 use Rattle.yq_text.specs.Halves.{whole}
 use Rattle.yq_text.specs.declared.halves.Halves.{Halves}
 use Rattle.yq_script.specs.Splice.{Splice}
 use Rattle.yq_script.specs.Exchanging.{gives}
-use Rattle.yq_script.specs.Script.{Segment, new_text, put_before, merged, splice_at, splices_at, changes_behind, to_last}
+use Rattle.yq_script.specs.Script.{Segment, keep, are_kept, kept_front, kept_back, new_text, put_before, merged, splice_at, splices_at, changes_behind, to_last}
 use Rattle.yq_script.specs.Segments.{segment_of, segments_of}
 use Rattle.yq_script.specs.declared.segment.Segment.{Segment as Held}
 use Rattle.yq_script.specs.declared.segment.Segment.TheVariants as held
@@ -47,3 +49,19 @@ module _ (xs : List Held) (x d : Held) (some : 1 ≤ length xs) (is : x ≡ get_
   last_put_is o w puts =
       let all : segments_of xs ≡ segments_of but_last ++ (segment_of (held.Put o w) ∷ []) = with_last ∙ ap (λ y. segments_of but_last ++ (segment_of y ∷ [])) puts in
       all ∙ sym (ap to_last all ∙ last_given (segments_of but_last) (whole o) (string_bytes w))
+
+-- a text behind another one
+pub texts_joined : (t u : List ℕ) → IsUtf8 t → IsUtf8 u → IsUtf8 (t ++ u)
+texts_joined = IsUtf8-append
+
+-- what is kept in front with one more
+pub front_more : (ss us : List Segment) (t : List ℕ) → IsUtf8 t → IsUtf8 (kept_front us) → ss ≡ keep t ∷ us → IsUtf8 (kept_front ss)
+front_more ss us t text more is = subst (λ x. IsUtf8 (kept_front x)) (sym is) (IsUtf8-append t (kept_front us) text more)
+
+-- and behind
+pub back_more : (ss us : List Segment) (t : List ℕ) → IsUtf8 t → IsUtf8 (kept_back us) → ss ≡ keep t ∷ us → IsUtf8 (kept_back ss)
+back_more ss us t text more is = subst (λ x. IsUtf8 (kept_back x)) (sym is) (go (are_kept us))
+  where
+    go : (b : Bool) → IsUtf8 (cond b (t ++ kept_back us) (kept_back us))
+    go true = IsUtf8-append t (kept_back us) text more
+    go false = more
