@@ -1,13 +1,18 @@
 -- Reading (own; a reader may skip it): the ends of the parts of a text, as the code keeps them: where they stand in it, and how long their pieces are.
-use Rattle.std.specs.Prelude.{ℕ, List, [], ◌∷◌, length, map, take, drop}
+use Rattle.std.specs.Prelude.{ℕ, ◌-◌, nat_lt, List, [], ◌∷◌, length, map, take, drop, if◌then◌else◌}
 use Rattle.std.specs.List.{All}
+use Rattle.yq_text.specs.declared.halves.Halves.{Halves}
 use Rattle.yq_rows.specs.Offsets.{AreCuts}
 use Rattle.yq_rows.specs.View.{Bound}
 use Rattle.yq_rows.specs.declared.ends.EndPlace as declared
 
--- the end of a part, cut out of the text in which it stands (own)
+-- the gap and the marker's line at the end of a part, cut from the front of a text (own)
+abbrev pub bound_at : List ℕ → declared.EndPlace → Bound
+bound_at t e = record { rows = e.rows; end = take e.gap t; marker = take e.marker (drop e.gap t) }
+
+-- the same where that end stands in the text (own)
 abbrev pub bound_in : List ℕ → declared.EndPlace → Bound
-bound_in whole e = record { rows = e.rows; end = take e.gap (drop e.start whole); marker = take e.marker (drop e.gap (drop e.start whole)) }
+bound_in whole e = bound_at (drop e.start whole) e
 
 -- the same of several parts (own)
 abbrev pub bounds_in : List ℕ → List declared.EndPlace → List Bound
@@ -20,6 +25,14 @@ EndStands whole e = AreCuts whole (e.start ∷ e.gap ∷ e.marker ∷ [])
 -- the same of several parts (own)
 abbrev pub EndsStand : List ℕ → List declared.EndPlace → Type 0
 EndsStand whole ends = All (EndStands whole) ends
+
+-- what stands behind so many bytes of a text, in the half in which they end; where both meet there, in the second one (own)
+abbrev pub half_from : Halves → ℕ → List ℕ
+half_from text n = if nat_lt n (length text.front.now) then drop n text.front.now else drop (n - length text.front.now) text.back.now
+
+-- the ends of parts of a text in two halves (own)
+abbrev pub bounds_in_halves : Halves → List declared.EndPlace → List Bound
+bounds_in_halves text ends = map (λ e. bound_at (half_from text e.start) e) ends
 
 -- the end of a part that begins behind so many bytes, before which so many rows stand, by its lengths (own)
 abbrev pub end_at : ℕ → ℕ → (end marker : List ℕ) → declared.EndPlace

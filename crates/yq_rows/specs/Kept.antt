@@ -1,14 +1,14 @@
--- Rows kept by where they stand (own; a reader of the contracts may skip it): in front of a gap by the distance from the text's beginning, behind it by
+-- Rows kept by where they stand (own; a reader of the contracts may skip it): in front of a split by the distance from the text's beginning, behind it by
 -- that to the text's end.
 use Rattle.std.specs.Prelude.{◌≡◌, ℕ, ◌+◌, ◌-◌, ◌<◌, ◌^◌, List, [], ◌∷◌, ◌++◌, length, map, reverse, Option, Some}
 use Rattle.yq_scalar.specs.Answers.{◌>>=◌}
-use Rattle.std.specs.List.Sorted.{IsNonDecreasingBy}
 use Rattle.std.specs.Str.{IsUtf8}
-use Rattle.yq_rows.specs.Ends.{EndsStand, bounds_in, end_at}
+use Rattle.yq_text.specs.declared.halves.Halves.{Halves}
+use Rattle.yq_rows.specs.Ends.{bounds_in_halves, end_at}
 use Rattle.yq_rows.specs.Items.{Item, row_item, end_item, items_of, items_text, rows_items, shown_items}
-use Rattle.yq_rows.specs.Offsets.{AreTexts, Stand, offsets_of, rows_in}
+use Rattle.yq_rows.specs.Offsets.{AreTexts, offsets_of, rows_in, slices_in}
 use Rattle.yq_rows.specs.Rows.{print_row, Part, Cut}
-use Rattle.yq_rows.specs.View.{Bound, slices, Shown}
+use Rattle.yq_rows.specs.View.{slices, Shown, Slices}
 use Rattle.yq_rows.specs.declared.ends.EndPlace.{EndPlace}
 use Rattle.yq_rows.specs.declared.offsets.Offsets as declared
 use Rattle.yq_rows.specs.declared.places.Places.{Places}
@@ -37,30 +37,11 @@ parts_placed offsets n read = read >>= λ c. Some (offsets ++ near n (items_of c
 abbrev pub ends_placed : List EndPlace → ℕ → ℕ → Option Cut → Option (List EndPlace)
 ends_placed ends n k read = read >>= λ c. Some (ends ++ ends_near n k (items_of c))
 
--- rows of a text by where they stand in it, and where its parts end (own)
-abbrev pub shown_in : List ℕ → List declared.Offsets → List Bound → Shown
-shown_in whole offsets bounds = record { rows = rows_in whole offsets; bounds = bounds }
-
 -- the pieces of items are characters (own)
 abbrev pub TextsIn : List Item → Type 0
 TextsIn [] = Unit {0}
 TextsIn (row_item r ∷ xs) = AreTexts (slices r) × TextsIn xs
 TextsIn (end_item gap marker ∷ xs) = IsUtf8 gap × IsUtf8 marker × TextsIn xs
-
--- Rows and ends of parts stand where those of items do that are a text, one behind the other, whose pieces are characters (own).
-pub record AreNear (whole : List ℕ) (offsets : List declared.Offsets) (ends : List EndPlace) (s : Shown) : Type 0 where
-  pub items : List Item
-  pub text_is : whole ≡ items_text items []
-  pub near_is : offsets ≡ near 0 items
-  pub ends_is : ends ≡ ends_near 0 0 items
-  pub shown_is : s ≡ shown_items items
-  pub texts : TextsIn items
-  pub small : length whole < 2 ^ 32
-
--- Where rows and ends of parts are kept, they stand in the text, as those of items that are the text; and the ends are in order (own).
-abbrev pub HavePlaces : List ℕ → List declared.Offsets → List EndPlace → Type 0
-HavePlaces whole offsets ends =
-    IsNonDecreasingBy (λ e. e.rows) ends × Stand whole offsets × EndsStand whole ends × AreNear whole offsets ends (shown_in whole offsets (bounds_in whole ends))
 
 -- the rows of items at the end of a text, by how far from there they begin (own)
 abbrev pub far : List Item → List declared.Offsets
@@ -80,19 +61,45 @@ raised n o = record o { start = o.start + n }
 abbrev pub moved : ℕ → ℕ → EndPlace → EndPlace
 moved rows start e = record e { rows = rows; start = start }
 
--- the rows in front of a gap and those behind it, the last one first, by their places in a text of so many bytes (own)
-abbrev pub both_sides : ℕ → List declared.Offsets → List declared.Offsets → List declared.Offsets
-both_sides n front behind = front ++ map (turned n) (reverse behind)
+-- the rows in front of the split and those behind it, as they are kept (own)
+abbrev pub kept_rows : Places → List declared.Offsets
+kept_rows p = p.front.items ++ reverse p.behind.items
 
--- the rows of a text of so many bytes, by where they are kept (own)
+-- the same by their places in a text of so many bytes (own)
 abbrev pub placed_rows : ℕ → Places → List declared.Offsets
-placed_rows n p = both_sides n p.front.items p.behind.items
+placed_rows n p = p.front.items ++ map (turned n) (reverse p.behind.items)
 
--- Rows and ends of parts are kept where those of items stand, one behind the other; these are the rows and ends of a text, whose pieces are characters (own).
+-- Rows and ends of parts are kept where those of items in front of the split and behind it stand, one behind the other, whose pieces are characters (own).
+pub record ArePlaced (p : Places) (before behind : List Item) : Type 0 where
+  pub split_is : p.split ≡ length (items_text before [])
+  pub front_are : p.front.items ≡ near 0 before
+  pub behind_are : reverse p.behind.items ≡ far behind
+  pub ends_are : p.ends.items ≡ ends_near 0 0 (before ++ behind)
+  pub texts : TextsIn (before ++ behind)
+  pub small : length (items_text (before ++ behind) []) < 2 ^ 32
+
+-- These are the rows and ends of a text that are kept so (own).
 pub record IsPlaced (p : Places) (s : Shown) : Type 0 where
-  pub items : List Item
-  pub shown_is : s ≡ shown_items items
-  pub rows_are : placed_rows (length (items_text items [])) p ≡ near 0 items
-  pub ends_are : p.ends.items ≡ ends_near 0 0 items
-  pub texts : TextsIn items
-  pub small : length (items_text items []) < 2 ^ 32
+  pub before : List Item
+  pub behind : List Item
+  pub placed : ArePlaced p before behind
+  pub shown_is : s ≡ shown_items (before ++ behind)
+
+-- Rows and ends of parts are kept where those of the two halves of a text stand (own).
+pub record HavePlaces (text : Halves) (p : Places) : Type 0 where
+  pub before : List Item
+  pub behind : List Item
+  pub placed : ArePlaced p before behind
+  pub front_is : text.front.now ≡ items_text before []
+  pub back_is : text.back.now ≡ items_text behind []
+
+-- the pieces of a row behind the split, in the second half of the text (own)
+abbrev pub slices_behind : List ℕ → declared.Offsets → Slices
+slices_behind back o = slices_in back (turned (length back) o)
+
+-- rows and ends of parts, by where they are kept, of a text in two halves (own)
+abbrev pub shown_in : Halves → Places → Shown
+shown_in text p = record {
+  rows = rows_in text.front.now p.front.items ++ map (slices_behind text.back.now) (reverse p.behind.items);
+  bounds = bounds_in_halves text p.ends.items;
+}

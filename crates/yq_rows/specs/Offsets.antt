@@ -9,10 +9,9 @@ use Rattle.yq_rows.specs.declared.offsets.Offsets as declared
 abbrev pub Ends : List ℕ → List ℕ → Type 0
 Ends text whole = drop (length whole - length text) whole ≡ text
 
--- the pieces of a row, cut out of the text in which it stands (own)
-unfoldable pub slices_in : List ℕ → declared.Offsets → Slices
-slices_in whole o =
-    let gap = drop o.start whole in
+-- the pieces of a row, cut from the front of a text (own)
+unfoldable pub pieces_of : List ℕ → declared.Offsets → Slices
+pieces_of gap o =
     let indent = drop o.gap gap in
     let dashes = drop o.column indent in
     let key = drop o.dashes dashes in
@@ -38,6 +37,10 @@ slices_in whole o =
       parent = o.parent;
     }
 
+-- the same where the row stands in the text (own)
+abbrev pub slices_in : List ℕ → declared.Offsets → Slices
+slices_in whole o = pieces_of (drop o.start whole) o
+
 -- the same of several rows (own)
 abbrev pub rows_in : List ℕ → List declared.Offsets → List Slices
 rows_in whole offsets = map (slices_in whole) offsets
@@ -47,9 +50,13 @@ abbrev pub AreCuts : List ℕ → List ℕ → Type 0
 AreCuts t [] = Unit {0}
 AreCuts t (n ∷ ns) = IsCharBoundary t n × AreCuts (drop n t) ns
 
+-- how long the pieces of a row are, in order (own)
+abbrev pub lengths : declared.Offsets → List ℕ
+lengths o = o.gap ∷ o.column ∷ o.dashes ∷ o.key ∷ o.colon ∷ o.space ∷ o.anchor ∷ o.apart ∷ o.head ∷ o.tail ∷ o.raw ∷ []
+
 -- what stands before a row, and its pieces, are in a text, each cut between characters (own)
-unfoldable pub Stands : List ℕ → declared.Offsets → Type 0
-Stands whole o = AreCuts whole (o.start ∷ o.gap ∷ o.column ∷ o.dashes ∷ o.key ∷ o.colon ∷ o.space ∷ o.anchor ∷ o.apart ∷ o.head ∷ o.tail ∷ o.raw ∷ [])
+abbrev pub Stands : List ℕ → declared.Offsets → Type 0
+Stands whole o = AreCuts whole (o.start ∷ lengths o)
 
 -- the same of several rows (own)
 abbrev pub Stand : List ℕ → List declared.Offsets → Type 0

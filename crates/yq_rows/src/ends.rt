@@ -1,8 +1,8 @@
 //! Where the parts of a text end in it.
-ghost use Rattle.std.specs.Prelude.{◌≡◌, ◌<◌, ◌+◌, ◌-◌, ◌^◌, ◌++◌, length};
+ghost use Rattle.std.specs.Prelude.{◌≡◌, ◌∷◌, ◌<◌, ◌+◌, ◌-◌, ◌^◌, ◌++◌, [], length};
 ghost use Rattle.yq_rows.specs.Ends as spec;
 ghost use Rattle.yq_rows.specs.Kept.{moved};
-ghost use Rattle.yq_rows.specs.Offsets.{Ends};
+ghost use Rattle.yq_rows.specs.Offsets.{AreCuts, Ends};
 ghost use Rattle.yq_rows.specs.View.{bound_view};
 
 /// The end of a part: the rows between two markers or the ends of the text.
@@ -55,13 +55,11 @@ impl EndPlace {
         }
     }
 
-    /// The end that stands there in its text.
-    #[tactic(auto, unfolding(crate::specs::Ends::EndStands))]
-    pub(crate) fn bound(self, whole: &str) -> Bound<'_>
-        requires { spec.EndStands whole.now self }
-        ensures { bound_view result ≡ spec.bound_in whole.now self }
+    /// The end in front of a text.
+    pub(crate) fn bound<'t>(&self, text: &'t str) -> Bound<'t>
+        requires { AreCuts text.now (self.now.gap ∷ self.now.marker ∷ []) }
+        ensures { bound_view result ≡ spec.bound_at text.now self.now }
     {
-        let text = whole.split_at(self.start as usize).1;
         let (end, text) = text.split_at(self.gap as usize);
         Bound {
             rows: self.rows,

@@ -1,5 +1,6 @@
 -- What the code tells of the end of a block collection, and of its column (own).
 use Rattle.std.specs.Prelude.{ℕ, suc, List, [], ◌∷◌, length, slice_get, Option, Some, None, is_some, ◌==◌, if◌then◌else◌}
+use Rattle.yq_text.specs.Halves.{whole}
 use Rattle.yq_scalar.specs.Answers.{◌>>=◌}
 use Rattle.yq_scalar.specs.Paths.{Step}
 use Rattle.yq_lines.specs.Ends.{line_of, lines_end}
@@ -10,7 +11,7 @@ use Rattle.yq_tree.specs.declared.places.collection_end.CollectionEnd as declare
 
 -- the end of a block collection that the code lends
 abbrev pub collection_told : declared.CollectionEnd → CollectionEnd
-collection_told x = record { column = x.column; before = x.before.now; broken = x.broken; behind = x.behind.now }
+collection_told x = record { column = x.column; before = whole x.before; broken = x.broken; behind = whole x.behind }
 
 -- the column of the block collection for which the lines from one up to another one stand
 abbrev pub lines_column : List Line → ℕ → ℕ → Option ℕ

@@ -1,5 +1,6 @@
 -- What the code tells of what is taken out with the first item or entry of a compact collection.
 use Rattle.std.specs.Prelude.{ℕ, List}
+use Rattle.yq_text.specs.Halves.{whole}
 use Rattle.yq_tree.specs.declared.places.first_removal.FirstRemoval as declared
 use Rattle.yq_tree.specs.FirstPlaces.{FirstOut}
 use Rattle.yq_documents.specs.Pieces.{Piece}
@@ -10,4 +11,4 @@ piece_of before text behind = record { before = before; text = text; behind = be
 
 -- what is taken out, as the code lends it (own)
 abbrev pub first_told : declared.FirstRemoval → FirstOut
-first_told r = record { before = r.before.now; space = r.space.now; entry = r.entry.now; break = r.line.now; indent = r.indent.now; behind = r.behind.now }
+first_told r = record { before = whole r.before; space = whole r.space; entry = whole r.entry; break = whole r.line; indent = whole r.indent; behind = whole r.behind }

@@ -1,5 +1,6 @@
 -- Reading (own; a reader may skip it): where inline nodes stand, by the rows of a text and their pieces, as the code counts.
 use Rattle.std.specs.Prelude.{◌||◌, ◌==◌, ℕ, suc, ◌+◌, List, [], ◌∷◌, length, Option, Some, None, is_some, Bool, true, false, if◌then◌else◌, slice_get}
+use Rattle.yq_text.specs.Halves.{whole}
 use Rattle.yq_scalar.specs.Answers.{◌>>=◌}
 use Rattle.yq_scalar.specs.Paths.{Step}
 use Rattle.yq_rows.specs.Rows.{Content, Nothing, Inline, Block, Row, Cut}
@@ -73,4 +74,4 @@ inline_telling w = (w.before, w.old, w.behind, w.alone)
 
 -- what the code tells of a place
 abbrev pub inline_told : declared.InlinePlace → InlineTelling
-inline_told w = (w.before.now, lent w.old, w.behind.now, w.alone)
+inline_told w = (whole w.before, lent w.old, whole w.behind, w.alone)

@@ -1,5 +1,6 @@
 -- Reading (own; a reader may skip it): what is taken out with an item or entry, by the pieces of rows, as the code counts.
 use Rattle.std.specs.Prelude.{◌≡◌, ℕ, ◌+◌, Bool, false, List, [], ◌∷◌, ◌++◌, length, slice_get, Option, Some, None, option_map}
+use Rattle.yq_text.specs.Halves.{whole}
 use Rattle.yq_scalar.specs.Answers.{◌>>=◌}
 use Rattle.yq_scalar.specs.Block.{BlockText, keeps}
 use Rattle.yq_scalar.specs.Paths.{Step}
@@ -62,4 +63,4 @@ seam_told s = record { keeps = s.keeps; indent = s.indent; column = s.column }
 
 -- what is taken out, as the code lends it
 abbrev pub removal_told : declared.Removal → Removal
-removal_told r = record { before = r.before.now; gone = r.gone.now; gap = r.gap.now; behind = r.behind.now; seam = option_map seam_told r.seam }
+removal_told r = record { before = whole r.before; gone = whole r.gone; gap = r.gap.now; behind = whole r.behind; seam = option_map seam_told r.seam }

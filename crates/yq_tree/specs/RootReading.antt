@@ -1,5 +1,6 @@
 -- Reading (own; a reader may skip it): where the root of a document stands, by the bounds of parts, as the code counts, and by pieces; and what the code tells of it.
 use Rattle.std.specs.Prelude.{ℕ, zero, suc, ◌+◌, Bool, true, false, List, [], ◌∷◌, length, Option, Some, None, option_map, if◌then◌else◌}
+use Rattle.yq_text.specs.Halves.{whole}
 use Rattle.yq_scalar.specs.Answers.{◌>>=◌}
 use Rattle.yq_rows.specs.Grammar.{begins_document, no_rows}
 use Rattle.yq_rows.specs.Rows.{Cut}
@@ -39,4 +40,4 @@ collection_place p c = collection_end p.doc (steps_of p) c >>= λ e. option_map 
 
 -- the place of a root that the code lends
 abbrev pub root_told : declared.RootPlace → RootPlace
-root_told x = record { before = x.before.now; old = lent x.old; behind = x.behind.now; column = x.column }
+root_told x = record { before = whole x.before; old = option_map whole x.old; behind = whole x.behind; column = x.column }

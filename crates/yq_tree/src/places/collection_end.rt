@@ -1,6 +1,7 @@
 //! Where one more item or entry of a block collection stands.
 ghost use Rattle.std.specs.Prelude.{◌≡◌, ◌++◌, List, ℕ, length, map, not, option_map, IfSome, Some};
 ghost use Rattle.std.specs.Str.{IsCharBoundary};
+ghost use Rattle.yq_text.specs.Halves.{whole};
 ghost use Rattle.yq_inline.specs.Entries.{step_of};
 ghost use Rattle.yq_rows.specs.Rows.{Cut};
 ghost use Rattle.yq_scalar.specs.Text.{cut_line, is_empty};
@@ -19,13 +20,14 @@ ghost use Rattle.yq_documents.specs.declared.path.Part.TheVariants as parts;
 
 use crate::cut_text::CutText;
 use crate::places::entry_place::lines_place;
+use crate::places::halves::split_line;
 use crate::places::node_place::{NodePlace, node_place};
 use crate::places::spot::{Spot, Stretch, behind_all, column_at, is_deeper};
 use crate::places::spot_marks::is_bare;
 use yq_documents::{Path, Span};
 use yq_inline::Step;
 use yq_rows::Rows;
-use yq_scalar::lines::split_line;
+use yq_text::Halves;
 
 /// The end of a block collection in a text.
 #[derive(Clone, Copy, Debug)]
@@ -33,11 +35,11 @@ pub struct CollectionEnd<'d> {
     /// The column of its items or entries.
     pub column: usize,
     /// The text up to the end of its last line, with its break.
-    pub before: &'d str,
+    pub before: Halves<'d>,
     /// Whether that line has a break.
     pub broken: bool,
     /// The text behind it.
-    pub behind: &'d str,
+    pub behind: Halves<'d>,
 }
 
 /// A block collection: the column of its items or entries, and its place.
@@ -95,15 +97,15 @@ fn collection_of(rows: &Rows<'_>, document: Stretch, steps: &[Step]) -> Option<C
 }
 
 /// The end of the block collection that ends at a place, in bytes, before its last break.
-fn end_at(whole: &str, column: usize, end: usize) -> CollectionEnd<'_>
-    requires { IsCharBoundary whole.now end }
-    ensures { (before last rest : List ℕ) → whole.now ≡ before ++ (last ++ rest) → end ≡
+fn end_at(text: Halves<'_>, column: usize, end: usize) -> CollectionEnd<'_>
+    requires { IsCharBoundary (whole text) end }
+    ensures { (before last rest : List ℕ) → whole text.entry ≡ before ++ (last ++ rest) → end ≡
         length before → cut_line (last ++ rest) ≡ (last, rest) → collection_told result ≡
         record { column = column; before = before ++ last; broken = not (is_empty last); behind = rest } }
 {
-    let (_, rest) = whole.split_at(end);
+    let (_, rest) = text.split_at(end);
     let (line_break, _) = split_line(rest);
-    let (before, behind) = whole.split_at(end + line_break.len());
+    let (before, behind) = text.split_at(end + line_break.len());
     CollectionEnd {
         column,
         before,

@@ -1,5 +1,6 @@
 //! Dashes with a collection behind them on their lines.
 ghost use Rattle.std.specs.Prelude.{◌≡◌, option_map};
+ghost use Rattle.yq_text.specs.Halves.{whole};
 ghost use Rattle.yq_rows.specs.View.{view};
 ghost use Rattle.yq_tree.specs.DashPlaces as spec;
 ghost use Rattle.yq_tree.specs.DashTelling as telling;
@@ -11,14 +12,15 @@ use crate::places::row_place::line_start;
 use crate::places::spot::{Spot, line_column};
 use yq_documents::{Path, comment_text};
 use yq_rows::Row;
+use yq_text::Halves;
 
 /// A dash of a text with a collection behind it on its line.
 #[derive(Clone, Copy, Debug)]
 pub struct DashPlace<'d> {
     /// The text up to the dash, with it.
-    pub before: &'d str,
+    pub before: Halves<'d>,
     /// The text behind it.
-    pub behind: &'d str,
+    pub behind: Halves<'d>,
     /// Its column, counted from 0.
     pub column: usize,
     /// Whether its row has an anchor or a comment.

@@ -1,75 +1,55 @@
 //! What is taken out of a text with the first item or entry of a compact collection.
-ghost use Rattle.std.specs.Prelude.{◌≡◌, ◌≤◌, length, option_map};
+ghost use Rattle.std.specs.Prelude.{◌≡◌, option_map};
+ghost use Rattle.yq_text.specs.Halves.{whole};
 ghost use Rattle.yq_tree.specs.FirstPlaces as spec;
 ghost use Rattle.yq_tree.specs.FirstTelling.{first_told, piece_of};
 ghost use Rattle.yq_documents.specs.Located.{steps_of};
 ghost use Rattle.yq_documents.specs.Reading.{cut_of};
 
 use crate::cut_text::CutText;
+use crate::places::halves::{begins_gap, split_end_spaces, split_line, split_spaces};
 use crate::places::written::cut_at;
 use yq_documents::Path;
-use yq_rows::begins_gap;
-use yq_scalar::lines::split_line;
-use yq_scalar::text::split_spaces;
+use yq_text::Halves;
 
 /// What is taken out of a text with the first item or entry of a compact collection.
 #[derive(Clone, Copy, Debug)]
 pub struct FirstRemoval<'d> {
     /// The text before what goes.
-    pub before: &'d str,
+    pub before: Halves<'d>,
     /// The spaces behind the dash, if they go.
-    pub space: &'d str,
+    pub space: Halves<'d>,
     /// The item or entry, which goes.
-    pub entry: &'d str,
+    pub entry: Halves<'d>,
     /// The break behind it, if that goes.
-    pub line: &'d str,
+    pub line: Halves<'d>,
     /// The spaces before the next one, if they go.
-    pub indent: &'d str,
+    pub indent: Halves<'d>,
     /// The text behind what goes.
-    pub behind: &'d str,
-}
-
-/// How long a text is less the spaces that end it, in bytes.
-fn less_spaces_len(text: &[u8]) -> usize
-    ensures value { result ≡ length (spec.less_spaces text.now) }
-    ensures within { result ≤ length text.now }
-{
-    let mut end = text.len();
-    'spaces: while end > 0 && text[end - 1] == b' ' {
-        end -= 1;
-    }
-    end
-}
-
-/// A text cut before the spaces that end it.
-fn split_end_spaces(text: &str) -> (&str, &str)
-    ensures front { result.0.now ≡ spec.less_spaces text.now }
-    ensures spaces { result.1.now ≡ spec.end_spaces text.now }
-{
-    text.split_at(less_spaces_len(text.as_bytes()))
+    pub behind: Halves<'d>,
 }
 
 /// What is taken out with an item or entry between two texts.
-fn first_out<'d>(before: &'d str, entry: &'d str, behind: &'d str) -> FirstRemoval<'d>
-    ensures { first_told result ≡ spec.first_out (piece_of before.now entry.now behind.now) }
+fn first_out<'d>(before: Halves<'d>, own: Halves<'d>, behind: Halves<'d>) -> FirstRemoval<'d>
+    ensures { first_told result ≡ spec.first_out (piece_of (whole before.entry) (whole own.entry) (whole behind.entry)) }
 {
     let (line, next) = split_line(behind);
-    if begins_gap(next.as_bytes()) {
+    if begins_gap(next) {
         let (before, space) = split_end_spaces(before);
         return FirstRemoval {
             before,
             space,
-            entry,
-            line: "",
-            indent: "",
+            entry: own,
+            line: Halves::of(""),
+            indent: Halves::of(""),
             behind,
         };
     }
     let (indent, behind) = split_spaces(next);
     FirstRemoval {
         before,
-        space: "",
-        entry,
+        space: Halves::of(""),
+        entry: own,
         line,
         indent,
         behind,

@@ -8,9 +8,23 @@ ghost use Rattle.yq_tree.specs.FlowTold as spec;
 
 use crate::cut_text::CutText;
 use crate::places::node_place::{node_place, place_line};
+use crate::places::row_head::RowHead;
 use std::alloc::{AllocError, Global};
 use yq_inline::{Form, Inline, Step};
 use yq_lines::Head;
+
+/// The node in the head of a line, and the steps that lead in it to a flow collection.
+#[derive(Debug, Drop)]
+pub struct FlowHead<'s, 't> {
+    /// The node, with the places of its parts in the text that begins with it.
+    pub node: Box<Inline<'t>>,
+    /// The steps.
+    pub left: &'s [Step],
+    /// The text that begins with the node: a piece of the text that was read.
+    pub text: &'t str,
+    /// How many bytes of that stand before the piece.
+    pub before: usize,
+}
 
 /// The flow collection to which steps lead in a node.
 pub fn collection_along<'d, 't>(node: &'d Inline<'t>, steps: &[Step]) -> Option<&'d Inline<'t>>
@@ -28,18 +42,15 @@ pub fn collection_along<'d, 't>(node: &'d Inline<'t>, steps: &[Step]) -> Option<
 }
 
 impl<'t> CutText<'_, 't> {
-    /// The node in the head of a line, with the places of its parts in the text, and the steps that
-    /// lead in it to the flow collection at a path of document `doc`, counted from 0, if there is one.
+    /// The node in the head of a line, and the steps that lead in it to the flow collection at a path
+    /// of document `doc`, counted from 0, if there is one.
     pub fn flow_head<'s>(
         &self,
         alloc: Global,
         doc: usize,
         steps: &'s [Step],
-    ) -> Result<Option<(Box<Inline<'t>>, &'s [Step])>, AllocError>
-        ensures { IfOk result (λ o.
-            option_and_then (λ x. spec.collection_along (map step_of x.1.now) (view x.0.value)) o ≡
-            option_map (spec.placed_collection (length self.now))
-            (flow_collection doc (map step_of steps.now) (cut_of self.now))) }
+    ) -> Result<Option<FlowHead<'s, 't>>, AllocError>
+        ensures { IfOk result (spec.TellsFlow self.now (flow_collection doc (map step_of steps.now) (cut_of self.now))) }
     {
         let _whole = self.whole();
         let rows = self.rows();
@@ -52,11 +63,16 @@ impl<'t> CutText<'_, 't> {
         let Some(at) = place_line(rows, document, place) else {
             return Ok(None);
         };
-        let head = self.row_head(alloc, at.row)?;
+        let RowHead { head, text, before } = self.row_head(alloc, at.row)?;
         match head {
             Head::Nothing => Ok(None),
             Head::Scalar(..) => Ok(None),
-            Head::Inline(node) => Ok(Some((node, left))),
+            Head::Inline(node) => Ok(Some(FlowHead {
+                node,
+                left,
+                text,
+                before,
+            })),
         }
     }
 }

@@ -1,6 +1,7 @@
 //! Where inline nodes stand outside flow collections, and where nothing is written.
 ghost use Rattle.std.specs.Prelude.{◌≡◌, ◌<◌, ℕ, List, Some, length, map, option_map, slice_get};
 ghost use Rattle.std.specs.Str.{IsCharBoundary};
+ghost use Rattle.yq_text.specs.Halves.{whole};
 ghost use Rattle.yq_inline.specs.Entries.{step_of};
 ghost use Rattle.yq_rows.specs.Grammar.{IsCut};
 ghost use Rattle.yq_rows.specs.Rows.{Cut, Row as RowOf};
@@ -21,16 +22,17 @@ use crate::places::written::cut_at;
 use yq_documents::{Path, Span, begins_block};
 use yq_inline::Step;
 use yq_rows::Rows;
+use yq_text::Halves;
 
 /// The place of an inline node outside flow collections, or one where nothing is written.
 #[derive(Clone, Copy, Debug)]
 pub struct InlinePlace<'d> {
     /// The text of the document before the place, with the node's anchor.
-    pub before: &'d str,
+    pub before: Halves<'d>,
     /// The node as it is written, without its anchor; where none is, a new one is put behind a space.
     pub old: Option<&'d str>,
     /// The text of the document behind the place.
-    pub behind: &'d str,
+    pub behind: Halves<'d>,
     /// Whether it is on a line of its own or a root, and not behind a key or dash.
     pub alone: bool,
 }
@@ -40,6 +42,8 @@ pub struct InlinePlace<'d> {
 pub(crate) struct InlineSpan {
     pub(crate) span: Span,
     pub(crate) alone: bool,
+    /// The row in which it is.
+    pub(crate) row: usize,
 }
 
 /// The place behind the mark of row `i`, unless a block scalar stands there.
@@ -57,6 +61,7 @@ fn row_extent(rows: &Rows<'_>, alone: bool, i: usize) -> Option<InlineSpan>
     Some(InlineSpan {
         span: Span { start, end },
         alone,
+        row: i,
     })
 }
 
@@ -140,11 +145,11 @@ impl<'t> CutText<'_, 't> {
             option_map spec.inline_telling (places.inline_place path.now (cut_of self.now)) }
     {
         let whole = self.whole();
-        let InlineSpan { span, alone } = self.inline_extent(path)?;
-        let (before, old, behind) = cut_at(whole, span.start, span.end);
+        let InlineSpan { span, alone, row } = self.inline_extent(path)?;
+        let (before, _, behind) = cut_at(whole, span.start, span.end);
         Some(InlinePlace {
             before,
-            old: if_written(old),
+            old: if_written(self.rows.row(row).head()),
             behind,
             alone,
         })

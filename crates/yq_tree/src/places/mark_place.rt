@@ -1,5 +1,6 @@
 //! Keys and dashes in a text, with what is written on their lines.
 ghost use Rattle.std.specs.Prelude.{◌≡◌, option_map};
+ghost use Rattle.yq_text.specs.Halves.{whole};
 ghost use Rattle.yq_rows.specs.View.{view};
 ghost use Rattle.yq_tree.specs.CommentTelling.{end_told};
 ghost use Rattle.yq_documents.specs.Located.{steps_of};
@@ -11,20 +12,21 @@ use crate::cut_text::CutText;
 use crate::places::line_end::LineEnd;
 use yq_documents::Path;
 use yq_rows::Row;
+use yq_text::Halves;
 
 /// A key or dash of a text, with the anchor behind it, if one stands there.
 #[derive(Clone, Copy, Debug)]
 pub struct MarkPlace<'d> {
     /// The text up to the end of these.
-    pub before: &'d str,
+    pub before: Halves<'d>,
     /// The white space behind them and what is written there.
-    pub gone: &'d str,
+    pub gone: Halves<'d>,
     /// The white space that ends its line, or stands before the line's comment.
     pub white: &'d str,
     /// The comment, if the line has one.
     pub comment: &'d str,
     /// The text from the line's break on.
-    pub behind: &'d str,
+    pub behind: Halves<'d>,
     /// Its column, counted from 0.
     pub column: usize,
     /// Whether it is a key.
@@ -42,10 +44,10 @@ pub(crate) fn column_of(parent: i64) -> usize
 
 /// A text that ends in what is written behind a row's key or dash, cut behind that or, if an anchor
 /// stands there, behind the anchor.
-fn split_mark<'d>(text: &'d str, row: &Row<'_>) -> (&'d str, &'d str)
-    requires { EndsBehindMark text.now (view row.now) }
-    ensures before { (h : EndsBehindMark text.now (view row.now)) → result.0.now ≡ spec.upto_anchor h.before (view row.now) }
-    ensures behind { result.1.now ≡ spec.behind_anchor (view row.now) }
+fn split_mark<'d>(text: Halves<'d>, row: &Row<'_>) -> (Halves<'d>, Halves<'d>)
+    requires { EndsBehindMark (whole text) (view row.now) }
+    ensures before { (h : EndsBehindMark (whole text.entry) (view row.now)) → whole result.0 ≡ spec.upto_anchor h.before (view row.now) }
+    ensures behind { whole result.1 ≡ spec.behind_anchor (view row.now) }
 {
     let behind = row.apart().len() + row.head().len();
     if row.anchor().is_empty() {
@@ -57,8 +59,8 @@ fn split_mark<'d>(text: &'d str, row: &Row<'_>) -> (&'d str, &'d str)
 
 /// The key or dash of a row, by the end of its line.
 fn mark_at<'d>(end: LineEnd<'d>, row: &Row<'_>) -> MarkPlace<'d>
-    requires { EndsBehindMark end.before.now (view row.now) }
-    ensures { (h : EndsBehindMark end.entry.before.now (view row.now)) → mark_told result ≡
+    requires { EndsBehindMark (whole end.before) (view row.now) }
+    ensures { (h : EndsBehindMark (whole end.entry.before) (view row.now)) → mark_told result ≡
         spec.mark_at h.before (view row.now) (end_told end.entry) }
 {
     let (before, gone) = split_mark(end.before, row);

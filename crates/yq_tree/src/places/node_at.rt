@@ -162,7 +162,7 @@ impl<'t> CutText<'_, 't> {
             return Ok(block_node(rows, document, place));
         };
         let head = self.row_head(alloc, at.row)?;
-        head_node(alloc, head, left)
+        head_node(alloc, head.head, left)
     }
 
     /// The scalar at a path, if one is there.

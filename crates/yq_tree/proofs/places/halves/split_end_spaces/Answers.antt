@@ -1,7 +1,7 @@
 use Rattle.std.proofs.Common.{length, drop, ap, ◌∙◌}
 use Rattle.yq_tree.specs.FirstPlaces.{less_spaces}
 use Rattle.yq_tree.proofs.FirstLaws.{front_less, spaces_boundary}
-use Rattle.yq_tree.proofs.places.first_removal.split_end_spaces.Goals as goal
+use Rattle.yq_tree.proofs.places.halves.split_end_spaces.Goals as goal
 
 pub split_at-requires : goal.split_at-requires
 split_at-requires c = spaces_boundary c.args.text.now c.less_spaces_len.result (c.less_spaces_len.ensures.value ∙ ap (λ t. length (less_spaces t)) c.as_bytes.ensures.value)

@@ -1,6 +1,6 @@
 use Rattle.std.proofs.Common.{◌≡◌, ◌≤◌, length, take}
 use Rattle.yq_tree.specs.FirstPlaces.{less_spaces}
-use Rattle.yq_tree.proofs.places.first_removal.less_spaces_len.Given as goal
+use Rattle.yq_tree.proofs.places.halves.less_spaces_len.Given as goal
 
 abbrev pub invariant-spaces : goal.invariant-spaces
 invariant-spaces l = record { within : l.end ≤ length l.text; so_far : less_spaces (take l.end l.text) ≡ less_spaces l.text }

@@ -4,7 +4,7 @@ use Rattle.std.specs.Str.{IsCharBoundary}
 use Rattle.yq_tree.specs.PrintedLines.{less_break, last_break}
 use Rattle.yq_tree.proofs.FinishLaws.{break_boundary}
 use Rattle.yq_tree.proofs.PrintedTexts.{less_is}
-use Rattle.yq_tree.proofs.places.row_place.split_break.Goals as goal
+use Rattle.yq_tree.proofs.places.halves.split_break.Goals as goal
 
 pub split_at-requires : goal.split_at-requires
 split_at-requires c =

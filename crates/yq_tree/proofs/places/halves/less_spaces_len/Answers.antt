@@ -1,6 +1,6 @@
 use Rattle.std.proofs.Common.{length, sym, ap, ◌∙◌, arith}
 use Rattle.yq_tree.proofs.FirstLaws.{none_less, some_less, step_less}
-use Rattle.yq_tree.proofs.places.first_removal.less_spaces_len.Goals as goal
+use Rattle.yq_tree.proofs.places.halves.less_spaces_len.Goals as goal
 
 pub spaces-preserved : goal.spaces-preserved
 spaces-preserved c = record {
