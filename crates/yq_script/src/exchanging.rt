@@ -126,6 +126,7 @@ pub(crate) fn build(
 /// new text's bytes, and one moves each of them once.
 ///
 /// The new text may have 16,777,216 bytes at most ([`ExchangeError::TooLarge`]).
+#[tactic(auto, unfolding(crate::specs::Script::changes))]
 pub fn exchange(alloc: Global, segments: &Segments<'_>) -> Result<Edited, ExchangeError>
     ensures { Exchanged result (exchange_of segments.now) }
 {
