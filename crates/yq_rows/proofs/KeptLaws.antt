@@ -111,6 +111,3 @@ texts_joined (end_item gap marker ∷ xs) ys h k = (h.0, h.1, texts_joined xs ys
 -- The row at an index.
 pub stands_at : (t : List ℕ) (os : List declared.Offsets) (i : ℕ) (o : declared.Offsets) → Stand t os → slice_get os i ≡ Some o → Stands t o
 stands_at t os i o h e = subst (Stands t) (get_or_from_slice_get os i o o e) (All-get_or (Stands t) os i o (slice_get_within os i o e) h)
-
-pub lent_at : (t : List ℕ) (os : List declared.Offsets) (i : ℕ) (o : declared.Offsets) → slice_get os i ≡ Some o → slice_get (rows_in t os) i ≡ Some (slices_in t o)
-lent_at t os i o e = slice_get-map (slices_in t) os i ∙ ap (option_map (slices_in t)) e

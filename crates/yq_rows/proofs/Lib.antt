@@ -1,5 +1,6 @@
 pub mod AlikeBlocks
 pub mod AlikeRows
+pub mod BlockNumberLaws
 pub mod CharacterLaws
 pub mod ContentEnds
 pub mod ContentLaws
@@ -50,5 +51,7 @@ pub mod KeptLaws
 pub mod NearLaws
 pub mod EndPlaceLaws
 pub mod EndsNear
+pub mod HalfLaws
+pub mod KeptPlaces
 pub mod PlacedLaws
 pub mod RegionEnds

@@ -1,5 +1,5 @@
 -- Rows at their distance from the beginning of a text: as they are read, and each by its index.
-use Rattle.std.proofs.Common.{◌≡◌, ℕ, zero, suc, ◌+◌, ◌-◌, ◌<◌, ◌^◌, Bool, true, false, List, [], ◌∷◌, ◌++◌, length, take, Option, Some, None, refl, sym, ap, ◌∙◌, subst, arith, append_assoc, append-nil, length-append}
+use Rattle.std.proofs.Common.{◌≡◌, ℕ, zero, suc, ◌+◌, ◌-◌, ◌<◌, Bool, true, false, List, [], ◌∷◌, ◌++◌, length, take, Option, Some, None, refl, sym, ap, ◌∙◌, subst, arith, append_assoc, append-nil, length-append}
 use Rattle.std.proofs.lemmas.Bool.{le-leb, lt-leb}
 use Rattle.std.proofs.lemmas.List.Sums.{sum_by-cons}
 use Rattle.std.proofs.lemmas.Option.{same_Some}
@@ -9,7 +9,7 @@ use Rattle.yq_scalar.specs.Text.{is_empty}
 use Rattle.yq_scalar.proofs.Bools.{bind_some}
 use Rattle.yq_rows.specs.Grammar.{Limit, limit_after, ends_part, begins_document}
 use Rattle.yq_rows.specs.Items.{Item, row_item, end_item, rows_items, items_of, items_text, rows_in_items, bounds_in_items, shown_items}
-use Rattle.yq_rows.specs.Kept.{near, ends_near, rows_placed, parts_placed, ends_placed, AreNear, TextsIn}
+use Rattle.yq_rows.specs.Kept.{near, ends_near, rows_placed, parts_placed, ends_placed}
 use Rattle.yq_rows.specs.Lending.{Lent, lent, row_lent, shown_read}
 use Rattle.yq_rows.specs.Offsets.{Ends, offsets_of, row_length}
 use Rattle.yq_rows.specs.Reading.{cut_gap, row_at, all_rows, part_at, marker_at, all_parts}
@@ -71,12 +71,6 @@ rows_placed_step os items o whole limit next t g r s after all ends e more h pus
     ∙ (sym same ∙ so_far))
 
 -- parts
-pub parts_placed_none : (os : List declared.Offsets) (n : ℕ) (started : Bool) (t : List ℕ) (all : Option (List declared.Offsets)) → rows_placed os n (part_at started t) ≡ None → parts_placed os n (all_parts started t) ≡ all → all ≡ None
-parts_placed_none os n started t all none so_far = sym so_far ∙ ap (parts_placed os n) (parts_refused started t (no_part (part_at started t) none)) where
-  no_part : (o : Option (Part × List ℕ)) → rows_placed os n o ≡ None → o ≡ None
-  no_part None h = refl
-  no_part (Some x) h = cc
-
 near_part : (n : ℕ) (rs : List Row) (end marker : List ℕ) (xs : List Item) → near n (rows_items rs (end_item end marker ∷ xs)) ≡ near n (rows_items rs []) ++ near (n + length (rows_text rs (end ++ marker))) xs
 near_part n rs end marker xs =
     let own = items_text (rows_items rs []) [] in
@@ -125,21 +119,26 @@ parts_placed_step os items whole started t after marker next all ends m placed s
     ∙ (sym (marked_placed os n p marker (all_parts (begins_document marker) next))
     ∙ (sym (ap (parts_placed os n) (parts_marked started t (p, after) (marker, next) m.read m.some m.line)) ∙ so_far)))
 
-near_cut : (t : List ℕ) (n : ℕ) (o : Option Cut) (os : List declared.Offsets) (es : List EndPlace) (s : Shown) → n ≡ 0 → ((c : Cut) → o ≡ Some c → t ≡ cut_text c) → parts_placed [] n o ≡ Some os → ends_placed [] n 0 o ≡ Some es → shown_read o ≡ Some s → ((xs : List Item) → s ≡ shown_items xs → TextsIn xs) → length t < 2 ^ 32 → AreNear t os es s
-near_cut t n None os es s zero_more text h g e each small = cc
-near_cut t n (Some c) os es s zero_more text h g e each small = record {
+-- Rows and ends of parts that were read are kept where those of the items of the text stand.
+pub record AreRead (t : List ℕ) (os : List declared.Offsets) (es : List EndPlace) (s : Shown) : Type 0 where
+  pub items : List Item
+  pub text_is : t ≡ items_text items []
+  pub near_is : os ≡ near 0 items
+  pub ends_is : es ≡ ends_near 0 0 items
+  pub shown_is : s ≡ shown_items items
+
+are_read : (t : List ℕ) (n : ℕ) (o : Option Cut) (os : List declared.Offsets) (es : List EndPlace) (s : Shown) → n ≡ 0 → ((c : Cut) → o ≡ Some c → t ≡ cut_text c) → parts_placed [] n o ≡ Some os → ends_placed [] n 0 o ≡ Some es → shown_read o ≡ Some s → AreRead t os es s
+are_read t n None os es s none text h g e = cc
+are_read t n (Some c) os es s none text h g e = record {
   items = items_of c;
   text_is = text c refl ∙ sym (items_of_text c);
-  near_is = sym (same_Some _ _ h) ∙ ap (λ (k : ℕ). near k (items_of c)) zero_more;
-  ends_is = sym (same_Some _ _ g) ∙ ap (λ (k : ℕ). ends_near k 0 (items_of c)) zero_more;
+  near_is = sym (same_Some _ _ h) ∙ ap (λ (k : ℕ). near k (items_of c)) none;
+  ends_is = sym (same_Some _ _ g) ∙ ap (λ (k : ℕ). ends_near k 0 (items_of c)) none;
   shown_is = sym (same_Some _ _ e) ∙ sym (items_shown c);
-  texts = each (items_of c) (sym (same_Some _ _ e) ∙ sym (items_shown c));
-  small = small;
 }
 
-pub near_read : (t : List ℕ) (os : List declared.Offsets) (es : List EndPlace) (s : Shown) → parts_placed [] (length t - length t) (all_parts true t) ≡ Some os → ends_placed [] (length t - length t) 0 (all_parts true t) ≡ Some es →
-    shown_read (all_parts true t) ≡ Some s → ((xs : List Item) → s ≡ shown_items xs → TextsIn xs) → length t < 2 ^ 32 → AreNear t os es s
-near_read t os es s h g e each small = near_cut t (length t - length t) (all_parts true t) os es s (omega arith) (λ c read. (parts_take (suc (length t)) true t c read).0) h g e each small
+pub near_read : (t : List ℕ) (os : List declared.Offsets) (es : List EndPlace) (s : Shown) → parts_placed [] (length t - length t) (all_parts true t) ≡ Some os → ends_placed [] (length t - length t) 0 (all_parts true t) ≡ Some es → shown_read (all_parts true t) ≡ Some s → AreRead t os es s
+near_read t os es s h g e = are_read t (length t - length t) (all_parts true t) os es s (omega arith) (λ c read. (parts_take (suc (length t)) true t c read).0) h g e
 
 -- a row by its index
 abbrev start_in : ℕ → ℕ → ℕ → List Item → ℕ
@@ -173,27 +172,15 @@ near_at (end_item gap marker ∷ xs) n k i s h =
     let place : start_in (n + length (gap ++ marker)) k i xs ≡ start_in n k i (end_item gap marker ∷ xs) = omega (arith, own, first, length-append gap marker) in
     near_at xs (n + length (gap ++ marker)) k i s h ∙ ap (λ (m : ℕ). Some (offsets_of m s)) place
 
-pub row_near : (t : List ℕ) (os : List declared.Offsets) (es : List EndPlace) (v : Shown) (i : ℕ) (s : Slices) → AreNear t os es v → slice_get v.rows i ≡ Some s → slice_get os i ≡ Some (offsets_of (row_start i v) s)
-row_near t os es v i s h there =
-    let at : slice_get (rows_in_items h.items) i ≡ Some s = sym (ap (λ (x : Shown). slice_get x.rows i) h.shown_is) ∙ there in
-    let place : start_in 0 0 i h.items ≡ row_start i (shown_items h.items) = omega (arith, ap (λ (j : ℕ). sum_by (passed_length j) (bounds_in_items 0 h.items)) (zero_plus i)) in
-    ap (λ (l : List declared.Offsets). slice_get l i) h.near_is ∙ (near_at h.items 0 0 i s at ∙ ap (λ (m : ℕ). Some (offsets_of m s)) (place ∙ ap (row_start i) (sym h.shown_is)))
+pub row_near : (xs : List Item) (i : ℕ) (s : Slices) → slice_get (rows_in_items xs) i ≡ Some s → slice_get (near 0 xs) i ≡ Some (offsets_of (row_start i (shown_items xs)) s)
+row_near xs i s there =
+    let place : start_in 0 0 i xs ≡ row_start i (shown_items xs) = omega (arith, ap (λ (j : ℕ). sum_by (passed_length j) (bounds_in_items 0 xs)) (zero_plus i)) in
+    near_at xs 0 0 i s there ∙ ap (λ (m : ℕ). Some (offsets_of m s)) place
   where
     zero_plus : (i : ℕ) → 0 + i ≡ i
     zero_plus i = omega arith
 
-some_row : (ss : List Slices) (i : ℕ) → i < length ss → (s : Slices) × (slice_get ss i ≡ Some s)
+pub some_row : (ss : List Slices) (i : ℕ) → i < length ss → (s : Slices) × (slice_get ss i ≡ Some s)
 some_row [] i less = absurd (omega (arith, less))
 some_row (s ∷ ss) zero less = (s, refl)
 some_row (s ∷ ss) (suc i) less = some_row ss i (omega (arith, less))
-
-pub row_lengths : (t : List ℕ) (os : List declared.Offsets) (es : List EndPlace) (v : Shown) (i : ℕ) (o : declared.Offsets) (s : Slices) → AreNear t os es v → slice_get v.rows i ≡ Some s → slice_get os i ≡ Some o → o ≡ offsets_of (row_start i v) s
-row_lengths t os es v i o s h there own = same_Some _ _ (sym own ∙ row_near t os es v i s h there)
-
-pub row_starts : (t : List ℕ) (os : List declared.Offsets) (es : List EndPlace) (v : Shown) (i : ℕ) (o : declared.Offsets) → AreNear t os es v → i < length v.rows → slice_get os i ≡ Some o → o.start ≡ row_start i v
-row_starts t os es v i o h less e = let s = some_row v.rows i less in ap (λ (p : declared.Offsets). p.start) (row_lengths t os es v i o s.0 h s.1 e)
-
-pub own_lengths : (t : List ℕ) (os : List declared.Offsets) (es : List EndPlace) (v : Shown) (i : ℕ) (o : declared.Offsets) (s : Slices) → AreNear t os es v → slice_get v.rows i ≡ Some s → slice_get os i ≡ Some o → o ≡ offsets_of o.start s
-own_lengths t os es v i o s h there e =
-    let is = row_lengths t os es v i o s h there e in
-    is ∙ ap (λ (n : ℕ). offsets_of n s) (sym (ap (λ (p : declared.Offsets). p.start) is))

@@ -1,30 +1,32 @@
 -- Rows and ends of parts that are kept by their places alone, lent in their text again.
-use Rattle.std.proofs.Common.{◌≡◌, ℕ, ◌+◌, ◌-◌, ◌<◌, ◌≤◌, ◌^◌, List, [], ◌∷◌, ◌++◌, length, Some, refl, sym, ap, ◌∙◌, subst, arith, append-nil, length-append}
-use Rattle.std.proofs.lemmas.List.Elements.{All-cons, All-head, All-map, All-nil, All-tail, All-weaker}
-use Rattle.std.proofs.lemmas.Str.{IsUtf8-drop, IsUtf8-nil, IsUtf8-take}
+use Rattle.std.proofs.Common.{◌≡◌, ℕ, ◌+◌, ◌≤◌, List, [], ◌∷◌, ◌++◌, length, drop, take, take_at, reverse, ◌<◌, ◌^◌, append-nil, refl, sym, ap, ◌∙◌, subst, arith}
+use Rattle.std.proofs.lemmas.List.{append_cancel_left, drop-drop, length-drop}
+use Rattle.std.proofs.lemmas.List.Elements.{All-head, All-map, All-tail, All-weaker}
+use Rattle.std.proofs.lemmas.Str.{IsCharBoundary-at_seam, IsCharBoundary-from_rest, IsUtf8-drop, IsUtf8-nil, IsUtf8-take}
 use Rattle.std.specs.List.{All}
-use Rattle.std.specs.Str.{IsUtf8}
+use Rattle.std.specs.Str.{IsCharBoundary, IsUtf8}
+use Rattle.yq_text.specs.Halves.{whole}
+use Rattle.yq_text.specs.declared.halves.Halves.{Halves}
 use Rattle.yq_rows.specs.Ends.{EndStands, EndsStand, bound_in, bounds_in, end_at}
 use Rattle.yq_rows.specs.Grammar.{IsCut}
 use Rattle.yq_rows.specs.Items.{Item, row_item, end_item, items_of, items_text, rows_in_items, bounds_in_items, shown_items}
-use Rattle.yq_rows.specs.Kept.{AreNear, HavePlaces, IsPlaced, TextsIn, both_sides, ends_near, near, placed_rows, shown_in}
-use Rattle.yq_rows.specs.Offsets.{AreTexts, Ends, Stand, Stands, offsets_of, rows_in, slices_in}
+use Rattle.yq_rows.specs.Kept.{HavePlaces, IsPlaced, TextsIn, ends_near, near, shown_in}
+use Rattle.yq_rows.specs.Offsets.{AreCuts, AreTexts, Stand, Stands, lengths, offsets_of, pieces_of, rows_in, slices_in}
 use Rattle.yq_rows.specs.Rows.{Row, Cut, print_row}
-use Rattle.yq_rows.specs.View.{Bound, Shown, Slices, shown, slices, slices_text}
+use Rattle.yq_rows.specs.View.{Bound, Shown, shown, slices, slices_text}
 use Rattle.yq_rows.specs.declared.ends.EndPlace.{EndPlace}
 use Rattle.yq_rows.specs.declared.offsets.Offsets as declared
 use Rattle.yq_rows.specs.declared.places.Places.{Places}
-use Rattle.yq_rows.proofs.EndPlaceLaws.{end_same, end_stands}
-use Rattle.yq_rows.proofs.FrontLaws.{front_drop, front_length}
-use Rattle.yq_rows.proofs.ItemLaws.{items_of_text, items_shown}
-use Rattle.yq_rows.proofs.KeptLaws.{KeptRows, end_apart, items_texts, near_kept, row_apart}
-use Rattle.yq_rows.proofs.RestLending.{read_rises}
+use Rattle.yq_rows.proofs.HalfLaws.{have_shown, texts_parts}
+use Rattle.yq_rows.proofs.ItemLaws.{items_of_text, items_shown, items_text-append}
+use Rattle.yq_rows.proofs.KeptLaws.{items_apart, items_texts}
+use Rattle.yq_rows.proofs.NearLaws.{AreRead}
 use Rattle.yq_rows.proofs.ScanLaws.{one_cut}
 use Rattle.yq_rows.proofs.SliceLaws.{slices_are}
 
 -- what stands in a text that is characters is characters
 pub row_texts_in : (t : List ℕ) (o : declared.Offsets) → IsUtf8 t → Stands t o → AreTexts (slices_in t o)
-unfolding Stands slices_in
+unfolding pieces_of
 row_texts_in t o u h =
     let gap = IsUtf8-drop t o.start u h.0 in
     let indent = IsUtf8-drop _ o.gap gap h.1.0 in
@@ -68,45 +70,11 @@ texts_by (end_item gap marker ∷ xs) k rows ends =
     let one = All-head AreEndTexts b (bounds_in_items k xs) ends in
     (one.0, one.1, texts_by xs k rows (All-tail AreEndTexts b (bounds_in_items k xs) ends))
 
-pub texts_stand : (t : List ℕ) (os : List declared.Offsets) (es : List EndPlace) (xs : List Item) → IsUtf8 t → Stand t os → EndsStand t es → shown_in t os (bounds_in t es) ≡ shown_items xs → TextsIn xs
-texts_stand t os es xs u rows ends e =
+pub texts_stand : (t : List ℕ) (os : List declared.Offsets) (es : List EndPlace) (xs : List Item) → IsUtf8 t → Stand t os → EndsStand t es → rows_in t os ≡ rows_in_items xs → bounds_in t es ≡ bounds_in_items 0 xs → TextsIn xs
+texts_stand t os es xs u rows ends first second =
     texts_by xs 0
-    (subst (All AreTexts) (ap (λ (s : Shown). s.rows) e) (All-map AreTexts (slices_in t) os (All-weaker (Stands t) (λ o. AreTexts (slices_in t o)) (λ o h. row_texts_in t o u h) os rows)))
-    (subst (All AreEndTexts) (ap (λ (s : Shown). s.bounds) e) (All-map AreEndTexts (bound_in t) es (All-weaker (EndStands t) (λ o. AreEndTexts (bound_in t o)) (λ o h. end_texts_in t o u h) es ends)))
-
--- Ends of parts by their distance from the beginning: whatever stands behind them.
-abbrev KeptEnds : List ℕ → List EndPlace → List Bound → Type 0
-KeptEnds whole es bs = (bounds_in whole es ≡ bs) × EndsStand whole es
-
-kept_end : (pre gap marker t : List ℕ) (k : ℕ) → IsUtf8 gap → IsUtf8 marker → IsUtf8 t → (bound_in (pre ++ (gap ++ (marker ++ t))) (end_at (length pre) k gap marker) ≡ record { rows = k; end = gap; marker = marker }) × EndStands (pre ++ (gap ++ (marker ++ t))) (end_at (length pre) k gap marker)
-kept_end pre gap marker t k g m u =
-    let own = gap ++ (marker ++ t) in
-    let whole = pre ++ own in
-    let at : length whole - length own ≡ length pre = front_length whole pre own refl in
-    let ends : Ends own whole = front_drop whole pre own refl in (
-      subst (λ (n : ℕ). bound_in whole (end_at n k gap marker) ≡ record { rows = k; end = gap; marker = marker }) at (end_same whole gap marker t k ends),
-      subst (λ (n : ℕ). EndStands whole (end_at n k gap marker)) at (end_stands whole gap marker t k ends g m u),
-    )
-
-pub ends_kept : (xs : List Item) (pre rest : List ℕ) (k : ℕ) → TextsIn xs → IsUtf8 rest → KeptEnds (pre ++ items_text xs rest) (ends_near (length pre) k xs) (bounds_in_items k xs)
-ends_kept [] pre rest k h u = (refl, All-nil (EndStands (pre ++ rest)))
-ends_kept (row_item r ∷ xs) pre rest k h u =
-    let t = items_text xs rest in
-    let long : length (pre ++ print_row r []) ≡ length pre + length (print_row r []) = length-append pre (print_row r []) in
-    let more = ends_kept xs (pre ++ print_row r []) rest (k + 1) h.1 u in
-    subst (λ (n : ℕ). KeptEnds (pre ++ print_row r t) (ends_near n (k + 1) xs) (bounds_in_items (k + 1) xs)) long (subst (λ (w : List ℕ). KeptEnds w (ends_near (length (pre ++ print_row r [])) (k + 1) xs) (bounds_in_items (k + 1) xs)) (sym (row_apart pre r t)) more)
-ends_kept (end_item gap marker ∷ xs) pre rest k h u =
-    let t = items_text xs rest in
-    let whole = pre ++ (gap ++ (marker ++ t)) in
-    let b : Bound = record { rows = k; end = gap; marker = marker } in
-    let one = kept_end pre gap marker t k h.0 h.1 (items_texts xs rest h.2 u) in
-    let long : length (pre ++ (gap ++ marker)) ≡ length pre + length (gap ++ marker) = length-append pre (gap ++ marker) in
-    let more = ends_kept xs (pre ++ (gap ++ marker)) rest k h.2 u in
-    let next : KeptEnds whole (ends_near (length pre + length (gap ++ marker)) k xs) (bounds_in_items k xs) =
-    subst (λ (n : ℕ). KeptEnds whole (ends_near n k xs) (bounds_in_items k xs)) long (subst (λ (w : List ℕ). KeptEnds w (ends_near (length (pre ++ (gap ++ marker))) k xs) (bounds_in_items k xs)) (sym (end_apart pre gap marker t)) more) in (
-      ap (λ x. x ∷ bounds_in whole (ends_near (length pre + length (gap ++ marker)) k xs)) one.0 ∙ ap (λ l. b ∷ l) next.0,
-      All-cons (EndStands whole) (end_at (length pre) k gap marker) (ends_near (length pre + length (gap ++ marker)) k xs) one.1 next.1,
-    )
+    (subst (All AreTexts) first (All-map AreTexts (slices_in t) os (All-weaker (Stands t) (λ o. AreTexts (slices_in t o)) (λ o h. row_texts_in t o u h) os rows)))
+    (subst (All AreEndTexts) second (All-map AreEndTexts (bound_in t) es (All-weaker (EndStands t) (λ o. AreEndTexts (bound_in t o)) (λ o h. end_texts_in t o u h) es ends)))
 
 -- items that are lent alike have one text
 later : (k : ℕ) (xs : List Item) (b : Bound) (bs : List Bound) → bounds_in_items k xs ≡ b ∷ bs → k ≤ b.rows
@@ -165,37 +133,77 @@ same_from (end_item gap marker ∷ xs) (end_item g m ∷ ys) n k rest rows ends 
 pub same_shown : (xs ys : List Item) (n : ℕ) (rest : List ℕ) → shown_items xs ≡ shown_items ys → SameItems n 0 rest xs ys
 same_shown xs ys n rest e = same_from xs ys n 0 rest (ap (λ (s : Shown). s.rows) e) (ap (λ (s : Shown). s.bounds) e)
 
--- the places of a text's items, lent in it
-pub placed : (t : List ℕ) (c : Cut) (p : Places) → IsCut t c → IsPlaced p (shown c) → HavePlaces t (placed_rows (length t) p) p.ends.items
-placed t c p cut h =
-    let items = h.items in
-    let lent : shown_items (items_of c) ≡ shown_items items = items_shown c ∙ h.shown_is in
-    let text : t ≡ items_text items [] = cut.text ∙ (sym (items_of_text c) ∙ (same_shown (items_of c) items 0 [] lent).text) in
-    let near_is : placed_rows (length t) p ≡ near 0 items = ap (λ (w : List ℕ). placed_rows (length w) p) text ∙ h.rows_are in
-    let rows : KeptRows t (placed_rows (length t) p) (rows_in_items items) = subst (λ (os : List declared.Offsets). KeptRows t os (rows_in_items items)) (sym near_is) (subst (λ (w : List ℕ). KeptRows w (near 0 items) (rows_in_items items)) (sym text) (near_kept items [] [] h.texts IsUtf8-nil)) in
-    let ends : KeptEnds t p.ends.items (bounds_in_items 0 items) = subst (λ (es : List EndPlace). KeptEnds t es (bounds_in_items 0 items)) (sym h.ends_are) (subst (λ (w : List ℕ). KeptEnds w (ends_near 0 0 items) (bounds_in_items 0 items)) (sym text) (ends_kept items [] [] 0 h.texts IsUtf8-nil)) in
-    let same : shown_in t (placed_rows (length t) p) (bounds_in t p.ends.items) ≡ shown_items items = ap (λ (l : List Slices). record { rows = l; bounds = bounds_in t p.ends.items }) rows.0 ∙ ap (λ (l : List Bound). record { rows = rows_in_items items; bounds = l }) ends.0 in (
-      read_rises t (Some c) (rows_in t (placed_rows (length t) p)) p.ends.items (ap Some (h.shown_is ∙ sym same)),
-      rows.1,
-      ends.1,
-      record { items = items; text_is = text; near_is = near_is; ends_is = h.ends_are; shown_is = same; texts = h.texts; small = subst (λ (w : List ℕ). length w < 2 ^ 32) (sym text) h.small },
-    )
+-- the parts of a text by the length of the first one
+append_parts : (a b x y : List ℕ) → length a ≡ length b → a ++ x ≡ b ++ y → (a ≡ b) × (x ≡ y)
+append_parts a b x y long e =
+    let first : a ≡ b = sym (take_at a x (length b) long) ∙ (ap (take (length b)) e ∙ take_at b y (length b) refl) in
+    (first, append_cancel_left b x y (ap (λ l. l ++ x) (sym first) ∙ e))
 
-pub placed_shown : (t : List ℕ) (c d : Cut) (p : Places) → IsCut t c → IsCut t d → IsPlaced p (shown c) → shown_in t (placed_rows (length t) p) (bounds_in t p.ends.items) ≡ shown d
-unfolding placed
-placed_shown t c d p cut other h = (placed t c p cut h).3.shown_is ∙ (sym h.shown_is ∙ ap shown (one_cut t c d cut other))
+-- places of a text's rows, and the two halves of it
+placed_text : (t : List ℕ) (c : Cut) (p : Places) → IsCut t c → (h : IsPlaced p (shown c)) → t ≡ items_text h.before [] ++ items_text h.behind []
+placed_text t c p cut h =
+    let lent : shown_items (items_of c) ≡ shown_items (h.before ++ h.behind) = items_shown c ∙ h.shown_is in
+    cut.text ∙ (sym (items_of_text c) ∙ ((same_shown (items_of c) (h.before ++ h.behind) 0 [] lent).text ∙ (items_text-append h.before h.behind [] ∙ items_apart h.before (items_text h.behind []))))
+
+pub have_places : (text : Halves) (c : Cut) (p : Places) → IsCut (whole text) c → length text.front.now ≡ p.split → IsPlaced p (shown c) → HavePlaces text p
+have_places text c p cut long h =
+    let halves = append_parts text.front.now (items_text h.before []) text.back.now (items_text h.behind []) (long ∙ h.placed.split_is) (placed_text (whole text) c p cut h) in
+    record { before = h.before; behind = h.behind; placed = h.placed; front_is = halves.0; back_is = halves.1 }
+
+pub placed_shown : (text : Halves) (c d : Cut) (p : Places) → IsCut (whole text) c → IsCut (whole text) d → length text.front.now ≡ p.split → IsPlaced p (shown c) → shown_in text p ≡ shown d
+unfolding have_places
+placed_shown text c d p cut other long h = have_shown text p (have_places text c p cut long h) ∙ (sym h.shown_is ∙ ap shown (one_cut (whole text) c d cut other))
 
 -- and back
-pub places_of : (t : List ℕ) (p : Places) (s : Shown) → AreNear t (placed_rows (length t) p) p.ends.items s → IsPlaced p s
-places_of t p s h = record {
-  items = h.items;
-  shown_is = h.shown_is;
-  rows_are = ap (λ (w : List ℕ). placed_rows (length w) p) (sym h.text_is) ∙ h.near_is;
-  ends_are = h.ends_is;
-  texts = h.texts;
-  small = subst (λ (w : List ℕ). length w < 2 ^ 32) h.text_is h.small;
-}
+pub places_of : (text : Halves) (p : Places) (h : HavePlaces text p) → IsPlaced p (shown_in text p)
+places_of text p h = record { before = h.before; behind = h.behind; placed = h.placed; shown_is = have_shown text p h }
 
--- rows that are all in front of their gap
-pub one_side : (n : ℕ) (front behind : List declared.Offsets) → behind ≡ [] → both_sides n front behind ≡ front
-one_side n front behind none = ap (both_sides n front) none ∙ append-nil front
+-- the split is between characters of the text
+pub split_boundary : (t : List ℕ) (c : Cut) (p : Places) → IsCut t c → IsPlaced p (shown c) → IsCharBoundary t p.split
+split_boundary t c p cut h =
+    let back : IsUtf8 (items_text h.behind []) = items_texts h.behind [] (texts_parts h.before h.behind h.placed.texts).1 IsUtf8-nil in
+    subst (IsCharBoundary t) (sym h.placed.split_is) (IsCharBoundary-at_seam t (items_text h.before []) (items_text h.behind []) (placed_text t c p cut h) back)
+
+-- Rows and ends of parts as they are kept where a text was read; all stand in front of the split.
+pub record Scanned (t : List ℕ) (text : Halves) (p : Places) : Type 0 where
+  pub read : AreRead t p.front.items p.ends.items (record { rows = rows_in t p.front.items; bounds = bounds_in t p.ends.items })
+  pub front_is : text.front.now ≡ t
+  pub back_is : text.back.now ≡ []
+  pub none_behind : p.behind.items ≡ []
+  pub split_is : p.split ≡ length t
+  pub characters : IsUtf8 t
+  pub rows_stand : Stand t p.front.items
+  pub ends_stand : EndsStand t p.ends.items
+  pub small : length t < 2 ^ 32
+
+pub scanned_places : (t : List ℕ) (text : Halves) (p : Places) → Scanned t text p → HavePlaces text p
+scanned_places t text p h =
+    let items = h.read.items in
+    let all : items ++ [] ≡ items = append-nil items in
+    let texts = texts_stand t p.front.items p.ends.items items h.characters h.rows_stand h.ends_stand (ap (λ (s : Shown). s.rows) h.read.shown_is) (ap (λ (s : Shown). s.bounds) h.read.shown_is) in
+    record {
+      before = items;
+      behind = [];
+      placed = record {
+        split_is = h.split_is ∙ ap length h.read.text_is;
+        front_are = h.read.near_is;
+        behind_are = ap reverse h.none_behind;
+        ends_are = h.read.ends_is ∙ ap (ends_near 0 0) (sym all);
+        texts = subst TextsIn (sym all) texts;
+        small = subst (λ (l : List ℕ). length l < 2 ^ 32) (h.read.text_is ∙ ap (λ (xs : List Item). items_text xs []) (sym all)) h.small;
+      };
+      front_is = h.front_is ∙ h.read.text_is;
+      back_is = h.back_is;
+    }
+
+pub scanned_shown : (t : List ℕ) (text : Halves) (p : Places) → Scanned t text p → shown_in text p ≡ record { rows = rows_in t p.front.items; bounds = bounds_in t p.ends.items }
+unfolding scanned_places
+scanned_shown t text p h = have_shown text p (scanned_places t text p h) ∙ (ap shown_items (append-nil h.read.items) ∙ sym h.read.shown_is)
+
+-- the key of a row is behind its first three pieces
+pub key_cut : (t : List ℕ) (o : declared.Offsets) → AreCuts t (lengths o) → IsCharBoundary t (o.gap + o.column + o.dashes) × IsCharBoundary (drop (o.gap + o.column + o.dashes) t) o.key
+key_cut t o h =
+    let long : o.gap + o.column ≤ length t = omega (arith, h.0.0, h.1.0.0, length-drop o.gap t) in
+    let place : IsCharBoundary (drop (o.gap + o.column) t) o.dashes = subst (λ (u : List ℕ). IsCharBoundary u o.dashes) (drop-drop o.column o.gap t) h.1.1.0 in
+    let rest : drop o.dashes (drop o.column (drop o.gap t)) ≡ drop (o.gap + o.column + o.dashes) t = ap (drop o.dashes) (drop-drop o.column o.gap t) ∙ drop-drop o.dashes (o.gap + o.column) t in
+    (IsCharBoundary-from_rest t (o.gap + o.column) o.dashes long place, subst (λ (u : List ℕ). IsCharBoundary u o.key) rest h.1.1.1.0)

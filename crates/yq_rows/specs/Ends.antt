@@ -30,9 +30,13 @@ EndsStand whole ends = All (EndStands whole) ends
 abbrev pub half_from : Halves → ℕ → List ℕ
 half_from text n = if nat_lt n (length text.front.now) then drop n text.front.now else drop (n - length text.front.now) text.back.now
 
--- the ends of parts of a text in two halves (own)
+-- the end of a part, in the half of a text in which it begins (own)
+abbrev pub bound_in_half : Halves → declared.EndPlace → Bound
+bound_in_half text e = bound_at (half_from text e.start) e
+
+-- the same of several parts (own)
 abbrev pub bounds_in_halves : Halves → List declared.EndPlace → List Bound
-bounds_in_halves text ends = map (λ e. bound_at (half_from text e.start) e) ends
+bounds_in_halves text ends = map (bound_in_half text) ends
 
 -- the end of a part that begins behind so many bytes, before which so many rows stand, by its lengths (own)
 abbrev pub end_at : ℕ → ℕ → (end marker : List ℕ) → declared.EndPlace

@@ -1,12 +1,12 @@
 -- Rows kept by where they stand (own; a reader of the contracts may skip it): in front of a split by the distance from the text's beginning, behind it by
 -- that to the text's end.
-use Rattle.std.specs.Prelude.{◌≡◌, ℕ, ◌+◌, ◌-◌, ◌<◌, ◌^◌, List, [], ◌∷◌, ◌++◌, length, map, reverse, Option, Some}
+use Rattle.std.specs.Prelude.{◌≡◌, ℕ, ◌+◌, ◌-◌, ◌<◌, ◌^◌, List, [], ◌∷◌, ◌++◌, drop, length, map, reverse, Option, Some}
 use Rattle.yq_scalar.specs.Answers.{◌>>=◌}
 use Rattle.std.specs.Str.{IsUtf8}
 use Rattle.yq_text.specs.declared.halves.Halves.{Halves}
 use Rattle.yq_rows.specs.Ends.{bounds_in_halves, end_at}
 use Rattle.yq_rows.specs.Items.{Item, row_item, end_item, items_of, items_text, rows_items, shown_items}
-use Rattle.yq_rows.specs.Offsets.{AreTexts, offsets_of, rows_in, slices_in}
+use Rattle.yq_rows.specs.Offsets.{AreTexts, offsets_of, pieces_of, rows_in}
 use Rattle.yq_rows.specs.Rows.{print_row, Part, Cut}
 use Rattle.yq_rows.specs.View.{slices, Shown, Slices}
 use Rattle.yq_rows.specs.declared.ends.EndPlace.{EndPlace}
@@ -95,7 +95,7 @@ pub record HavePlaces (text : Halves) (p : Places) : Type 0 where
 
 -- the pieces of a row behind the split, in the second half of the text (own)
 abbrev pub slices_behind : List ℕ → declared.Offsets → Slices
-slices_behind back o = slices_in back (turned (length back) o)
+slices_behind back o = pieces_of (drop (length back - o.start) back) o
 
 -- rows and ends of parts, by where they are kept, of a text in two halves (own)
 abbrev pub shown_in : Halves → Places → Shown

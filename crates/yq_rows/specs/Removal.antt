@@ -15,6 +15,10 @@ block_of (Nothing tail) = None
 block_of (Inline space node tail) = None
 block_of (Block space anchor block) = Some block
 
+-- whether a block scalar keeps the empty lines at its end, and how far its text is indented (YAML 1.2.2, sections 8.1.1.1 and 8.1.1.2)
+abbrev pub block_numbers : BlockText → Bool × ℕ
+block_numbers b = (keeps b.chomping, b.indent.columns)
+
 -- the block scalar that the last of these rows holds, if it does (own)
 abbrev pub last_block : List Row → Option BlockText
 last_block [] = None

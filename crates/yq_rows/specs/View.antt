@@ -136,10 +136,6 @@ limit_view limit = record { column = limit.column }
 abbrev pub bound_view : ends.Bound → Bound
 bound_view b = record { rows = b.rows; end = b.end.now; marker = b.marker.now }
 
--- the same of several parts (own)
-abbrev pub bound_views : List ends.Bound → List Bound
-bound_views bounds = map bound_view bounds
-
 -- the text of a row by its pieces, before a rest (own)
 abbrev pub slices_text : Slices → List ℕ → List ℕ
 slices_text s rest =

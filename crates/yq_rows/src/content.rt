@@ -231,7 +231,8 @@ fn read_scalar_content<'t>(
     space: &'t str,
     text: &'t str,
 ) -> Result<Filling<'t>, ReadError>
-    requires { (lending.begins_other text.now ≡ false) × (scalars.begins_scalar false text.now ≡ true) }
+    requires { (lending.begins_other text.now ≡ false) ×
+        (scalars.begins_scalar false text.now ≡ true) }
     ensures read { Gives filling_view result (lending.inline_lent parent space.now text.now) }
     ensures fault { IfErr result IsOfText }
 {

@@ -37,10 +37,17 @@ impl EndPlace {
     }
 
     /// How many bytes stand before what is behind its gap.
-    pub(crate) fn stop(self) -> usize
+    pub fn stop(self) -> usize
         ensures { result ≡ self.start + self.gap }
     {
         self.start as usize + self.gap as usize
+    }
+
+    /// How long the line of the marker behind its gap is, in bytes; behind the last part there is none.
+    pub fn marker(self) -> usize
+        ensures { result ≡ self.marker }
+    {
+        self.marker as usize
     }
 
     /// The same end where so many rows and so many bytes stand before it.
@@ -51,6 +58,16 @@ impl EndPlace {
         EndPlace {
             rows,
             start: start as u32,
+            ..self
+        }
+    }
+
+    /// The same end before a marker that is as long as that of another one.
+    pub fn marked_as(self, other: EndPlace) -> EndPlace
+        ensures { result ≡ record self { marker = other.marker } }
+    {
+        EndPlace {
+            marker: other.marker,
             ..self
         }
     }

@@ -78,7 +78,7 @@ impl Places {
     pub fn rows<'t>(self, text: Halves<'t>) -> Rows<'t>
         requires split { length text.front.now ≡ self.split }
         requires placed { (c : Cut) × IsCut (whole text) c × IsPlaced self (shown c) }
-        ensures { (c : Cut) → IsCut (whole text) c → result ≡ shown c }
+        ensures { (c : Cut) → IsCut (whole text.entry) c → result ≡ shown c }
     {
         Rows { text, places: self }
     }

@@ -20,7 +20,7 @@ use Rattle.yq_documents.specs.Reading.{cut_of}
 use Rattle.yq_documents.specs.Seats.{Seat, behind_one, seat, rows_before, document_row}
 use Rattle.yq_documents.specs.SoundReading.{Holds}
 use Rattle.yq_documents.specs.declared.checks.DocumentLines.{DocumentLines}
-use Rattle.yq_tree.specs.RowWalk.{HasLines, HeldAs, IsKnown, document_rows, stretch_told}
+use Rattle.yq_tree.specs.RowWalk.{HasLines, HeldAs, MayWalk, document_rows, stretch_told}
 use Rattle.yq_tree.specs.declared.places.spot.Stretch.{Stretch}
 use Rattle.yq_tree.proofs.SeatLaws.{none_past, part_at}
 use Rattle.yq_tree.proofs.WalkDocuments.{Found, found_document}
@@ -116,7 +116,7 @@ held_flows t s ds i d p h there at n q is mark =
     ∙ λ j. Some (row_flow (length (h.cut.text j)) q.row (sym (o.behind q.before told.0) j)))
 
 -- a document of a text whose documents are held
-module _ (t : List ℕ) (held s : Shown) (ds : List DocumentLines) (i : ℕ) (d : Stretch) (h : Holds t held ds) (is : s ≡ shown (cut_of t)) (e : Some (stretch_told d) ≡ document_rows i (cut_of t)) (known : IfSome d.known (IsKnown (shown (cut_of t)).rows)) where
+module _ (t : List ℕ) (held s : Shown) (ds : List DocumentLines) (i : ℕ) (d : Stretch) (h : Holds t held ds) (is : s ≡ shown (cut_of t)) (e : Some (stretch_told d) ≡ document_rows i (cut_of t)) (known : MayWalk d (cut_of t)) where
   abbrev document : Found s (cut_of t) i d
   document = found_document t s (cut_of t) i d h.cut is e known
 

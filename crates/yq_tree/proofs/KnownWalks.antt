@@ -1,23 +1,24 @@
--- A walk to an item goes on from an item that is known.
-use Rattle.std.proofs.Common.{◌≡◌, ◌⊎◌, inl, inr, ℕ, zero, suc, ◌+◌, ◌-◌, ◌<◌, ◌≤◌, ltb, eqb, cond, Bool, true, false, not, ◌&&◌, List, [], ◌∷◌, length, take, drop, Option, Some, refl, sym, ap, ◌∙◌, subst, arith}
+-- A walk to an item or entry goes on from one that is known.
+use Rattle.std.proofs.Common.{◌≡◌, ◌⊎◌, inl, inr, ℕ, zero, suc, ◌+◌, ◌-◌, ◌<◌, ◌≤◌, ltb, eqb, cond, Bool, true, false, not, ◌&&◌, List, [], ◌∷◌, length, take, drop, Option, Some, option_map, refl, sym, ap, ◌∙◌, subst, arith}
 use Rattle.std.proofs.lemmas.Bool.{cases_lt, cond-true, cond-false, lt-ltb, le-ltb, eq-eqb, ne_eqb}
 use Rattle.std.proofs.lemmas.List.{drop-drop, drop-take, take-take, length-take-le, length-drop}
 use Rattle.std.proofs.lemmas.Option.{same_Some, slice_get_within}
 use Rattle.std.specs.List.{slice_get}
-use Rattle.yq_scalar.specs.Paths.{Nth, is_here, is_item}
+use Rattle.yq_scalar.specs.Keys.{are_distinct, keys_of}
+use Rattle.yq_scalar.specs.Paths.{Step, To, Nth, is_here, is_item, further}
 use Rattle.yq_lines.specs.Ends.{IsEndOf, is_end, part}
-use Rattle.yq_lines.specs.Outline.{Line, Outline, key_of, label}
-use Rattle.yq_lines.specs.Places.{find_row}
-use Rattle.yq_lines.specs.Spots.{spot}
-use Rattle.yq_lines.proofs.SpotLaws.{spot_passed, here_item, further_item}
+use Rattle.yq_lines.specs.Outline.{Line, Outline, children, key_of, label, level}
+use Rattle.yq_lines.specs.Spots as lines
+use Rattle.yq_lines.proofs.SpotLaws.{spot_here, spot_passed, here_item}
 use Rattle.yq_rows.specs.View.{Slices, Shown}
 use Rattle.yq_documents.specs.Lines.{lines_of}
-use Rattle.yq_tree.specs.RowWalk.{line_level, level_count, deeper_rows, AreDeep, ArePassed, IsKnown, HasDocument, IsSpot, IsLine, GoesOn, line_number}
+use Rattle.yq_tree.specs.RowWalk.{line_level, level_count, deeper_rows, AreDeep, ArePassed, IsKnown, HasDocument, IsSpot, IsLine, IsAmong, IsKeyed, HaveKeys, Finds, GoesOn, found_from, line_number}
 use Rattle.yq_tree.specs.declared.places.spot.KnownItem.{KnownItem}
 use Rattle.yq_tree.specs.declared.places.spot.Spot.{Spot}
 use Rattle.yq_tree.specs.declared.places.spot.Stretch.{Stretch}
+use Rattle.yq_tree.proofs.EntryKeys.{keys_behind, other_key}
 use Rattle.yq_tree.proofs.KnownLaws.{one_there}
-use Rattle.yq_tree.proofs.WalkSpots.{located, deeper_told, behind_told, spot_line}
+use Rattle.yq_tree.proofs.WalkSpots.{Located, located, deeper_told, behind_told, spot_line}
 
 get_dropped : (ss : List Slices) (n i : ℕ) → slice_get (drop n ss) i ≡ slice_get ss (n + i)
 get_dropped [] zero i = refl
@@ -82,24 +83,51 @@ siblings n (y ∷ ys) h = go (cases_lt n (line_level 0 y)) (siblings n ys h.1)
         })
 
 module _ (s : Shown) (d : Stretch) (h : HasDocument s d) (floor row n : ℕ) (y : Slices) (within : row < d.end) (last : slice_get s.rows row ≡ Some y) (low : line_level 0 y ≤ n) (deeper : floor < n) where
-  -- where the walk to an item is
-  abbrev seen : Spot → ℕ → Option (ℕ × Line × Outline)
-  seen q i = spot (line_number d h.rows q) (find_row (Nth i) (part (lines_of h.rows) (line_number d h.rows q) floor))
+  -- where a step leads
+  abbrev seen : Spot → Step → Option (ℕ × Line × Outline)
+  seen q st = found_from d h.rows floor q st
 
   abbrev stop : Spot
   stop = record { row = row; line = 0 }
 
-  -- over one item
-  over : (q e : Spot) (x : Slices) → IsLine s d q → slice_get s.rows q.row ≡ Some x → line_level q.line x ≡ n → e.row ≡ (q.row + 1) + deeper_rows n (take (d.end - (q.row + 1)) (drop (q.row + 1) s.rows)) → e.line ≡ 0 → (i : ℕ) → seen q (suc i) ≡ seen e i
-  over q e x at there same next none i =
-      let told : (z : Slices) → slice_get s.rows q.row ≡ Some z → n ≡ line_level q.line z = λ z is. sym same ∙ ap (line_level q.line) (same_Some _ _ (sym there ∙ is)) in
-      let l = located s d h q at in
-      let ends = behind_told s d h q e n at told next none in
-      let here = sym (lt-ltb floor n deeper) ∙ deeper_told s d h q n floor at told in
-      let left : suc i - 1 ≡ i = omega arith in
-      let other : is_here (Nth (suc i)) (label l.line) ≡ false = here_item (suc i) l.line ∙ ap (λ (b : Bool). b && is_item (key_of l.line.mark)) (ne_eqb (suc i) 0 (λ e. omega (arith, e))) in
-      spot_passed (lines_of h.rows) (line_number d h.rows q) floor l.line l.is here (Nth (suc i)) (line_number d h.rows e) ends other
-      ∙ ap (λ st. spot (line_number d h.rows e) (find_row st (part (lines_of h.rows) (line_number d h.rows e) floor))) (further_item (suc i) ∙ ap Nth left)
+  -- the entries from a line on have different keys
+  abbrev HasKeys : Spot → Type 0
+  HasKeys q = are_distinct (keys_of (children (part (lines_of h.rows) (line_number d h.rows q) floor))) ≡ true
+
+  -- The lines under a line end at another one.
+  record Over (q e : Spot) : Type 0 where
+    pub piece : Slices
+    pub at : IsLine s d q
+    pub there : slice_get s.rows q.row ≡ Some piece
+    pub same : line_level q.line piece ≡ n
+    pub next : e.row ≡ (q.row + 1) + deeper_rows n (take (d.end - (q.row + 1)) (drop (q.row + 1) s.rows))
+    pub none : e.line ≡ 0
+
+  module _ (q e : Spot) (o : Over q e) where
+    abbrev l : Located s d h q
+    l = located s d h q o.at
+
+    told : (z : Slices) → slice_get s.rows q.row ≡ Some z → n ≡ line_level q.line z
+    told z is = sym o.same ∙ ap (line_level q.line) (same_Some _ _ (sym o.there ∙ is))
+
+    ends : IsEndOf (lines_of h.rows) (line_number d h.rows q) (line_number d h.rows e)
+    ends = behind_told s d h q e n o.at told o.next o.none
+
+    here : true ≡ not (is_end (part (lines_of h.rows) (line_number d h.rows q) floor))
+    here = sym (lt-ltb floor n deeper) ∙ deeper_told s d h q n floor o.at told
+
+    -- over one item that isn't the one
+    over : (st : Step) → is_here st (label l.line) ≡ false → seen q st ≡ seen e (further st)
+    over st other = spot_passed (lines_of h.rows) (line_number d h.rows q) floor l.line l.is here st (line_number d h.rows e) ends other
+
+    over_item : (i : ℕ) → seen q (Nth (suc i)) ≡ seen e (Nth i)
+    over_item i = over (Nth (suc i)) (here_item (suc i) l.line ∙ ap (λ (b : Bool). b && is_item (key_of l.line.mark)) (ne_eqb (suc i) 0 (λ e. omega (arith, e))))
+
+    more_keys : HasKeys q → HasKeys e
+    more_keys keys = keys_behind (lines_of h.rows) (line_number d h.rows q) floor (line_number d h.rows e) l.line l.is here ends keys
+
+    over_key : (key : List ℕ) (w : ℕ × Line × Outline) → HasKeys q → seen e (To key) ≡ Some w → seen q (To key) ≡ seen e (To key)
+    over_key key w keys found = over (To key) (other_key (lines_of h.rows) (line_number d h.rows q) floor (line_number d h.rows e) l.line l.is here ends keys key w found)
 
   -- the rows behind an item and in front of the last one
   abbrev behind : Spot → List Slices
@@ -152,35 +180,100 @@ module _ (s : Shown) (d : Stretch) (h : HasDocument s d) (floor row n : ℕ) (y 
         count = omega (arith, z.count, h.count, ap (level_count n) rest);
       }
 
-  -- over all of them
-  over_all : (p : ℕ) (q : Spot) → Passing q p → (i : ℕ) → seen q (suc p + i) ≡ seen stop i
-  over_all zero q h i = go (siblings n (behind q) h.deep)
+  -- behind an item that is passed comes the next one, or the last one
+  abbrev after : (q : Spot) → Sibling n (behind q) → Spot
+  after q z = record { row = (q.row + 1) + z.before; line = 0 }
+
+  to_next : (q : Spot) (p : ℕ) (h : Passing q p) (z : Sibling n (behind q)) → Over q (after q z)
+  to_next q p h z = record { piece = h.piece; at = h.at; there = h.there; same = h.same; next = omega (arith, z.is, total q h.less); none = refl }
+
+  to_stop : (q : Spot) (p : ℕ) (h : Passing q p) → deeper_rows n (behind q) ≡ length (behind q) → Over q stop
+  to_stop q p h all = record { piece = h.piece; at = h.at; there = h.there; same = h.same; next = omega (arith, all, total q h.less, size q h.less, h.less); none = refl }
+
+  -- over all of them to an item
+  over_items : (p : ℕ) (q : Spot) → Passing q p → (i : ℕ) → seen q (Nth (suc p + i)) ≡ seen stop (Nth i)
+  over_items zero q h i = go (siblings n (behind q) h.deep)
     where
-      go : ((deeper_rows n (behind q) ≡ length (behind q)) × (level_count n (behind q) ≡ 0)) ⊎ Sibling n (behind q) → seen q (suc 0 + i) ≡ seen stop i
-      go (inl z) = let one : suc 0 + i ≡ suc i = omega arith in ap (seen q) one ∙ over q stop h.piece h.at h.there h.same (omega (arith, z.0, total q h.less, size q h.less, h.less)) refl i
+      go : ((deeper_rows n (behind q) ≡ length (behind q)) × (level_count n (behind q) ≡ 0)) ⊎ Sibling n (behind q) → seen q (Nth (suc 0 + i)) ≡ seen stop (Nth i)
+      go (inl z) = let one : suc 0 + i ≡ suc i = omega arith in ap (λ (k : ℕ). seen q (Nth k)) one ∙ over_item q stop (to_stop q 0 h z.0) i
       go (inr z) = absurd (omega (arith, z.count, h.count))
-  over_all (suc p) q h i = go (siblings n (behind q) h.deep) (λ e g. over_all p e g i)
+  over_items (suc p) q h i = go (siblings n (behind q) h.deep) (λ e g. over_items p e g i)
     where
-      go : ((deeper_rows n (behind q) ≡ length (behind q)) × (level_count n (behind q) ≡ 0)) ⊎ Sibling n (behind q) → ((e : Spot) → Passing e p → seen e (suc p + i) ≡ seen stop i) → seen q (suc (suc p) + i) ≡ seen stop i
+      go : ((deeper_rows n (behind q) ≡ length (behind q)) × (level_count n (behind q) ≡ 0)) ⊎ Sibling n (behind q) → ((e : Spot) → Passing e p → seen e (Nth (suc p + i)) ≡ seen stop (Nth i)) → seen q (Nth (suc (suc p) + i)) ≡ seen stop (Nth i)
       go (inl z) later = absurd (omega (arith, z.1, h.count))
       go (inr z) later =
-          let e : Spot = record { row = (q.row + 1) + z.before; line = 0 } in
           let one : suc (suc p) + i ≡ suc (suc p + i) = omega arith in
-          ap (seen q) one ∙ (over q e h.piece h.at h.there h.same (omega (arith, z.is, total q h.less)) refl (suc p + i) ∙ later e (next_item q p h z))
+          ap (λ (k : ℕ). seen q (Nth k)) one ∙ (over_item q (after q z) (to_next q (suc p) h z) (suc p + i) ∙ later (after q z) (next_item q p h z))
 
--- a walk goes on from a known item
-pub goes_on : (s : Shown) (d : Stretch) (under : Spot) (floor index : ℕ) (k : KnownItem) (at : Spot) (left : ℕ) → IsSpot s d under → IsKnown s.rows k → k.under ≡ under → k.floor ≡ floor → k.index ≤ index → k.row < d.end →
-    ((y : Slices) → slice_get s.rows k.row ≡ Some y → line_level 0 y ≤ k.level) → at ≡ record { row = k.row; line = 0 } → left ≡ index - k.index → GoesOn s d floor under index at left
-goes_on s d under floor index k at left start known same_under same_floor more within low at_is left_is h =
-    let size : length (take k.row s.rows) ≡ k.row = length-take-le k.row s.rows (omega (arith, within, h.within)) in
-    let less : k.under.row < k.row = omega (arith, slice_get_within (take k.row s.rows) k.under.row known.piece known.there, size) in
-    let begin : IsSpot s d k.under = subst (IsSpot s d) (sym same_under) start in
-    let there : slice_get s.rows k.under.row ≡ Some known.piece = sym (get_taken s.rows k.row k.under.row less) ∙ known.there in
-    let y = one_there s.rows k.row (omega (arith, within, h.within)) in
-    let p : ℕ = level_count k.level (drop (k.under.row + 1) (take k.row s.rows)) in
-    let first : Passing s d h k.floor k.row k.level y.0 within y.1 (low y.0 y.1) known.deeper k.under p =
-    record { piece = known.piece; at = spot_line s d k.under begin (omega (arith, less, within)); there = there; same = sym known.level; less = less; deep = known.deep; count = refl } in
-    let all = over_all s d h k.floor k.row k.level y.0 within y.1 (low y.0 y.1) known.deeper p k.under first (index - k.index) in
-    let sum : suc p + (index - k.index) ≡ index = omega (arith, known.index, more) in
-    (λ i. spot (line_number d h.rows (sym same_under i)) (find_row (Nth (sym sum i)) (part (lines_of h.rows) (line_number d h.rows (sym same_under i)) (sym same_floor i))))
-    ∙ (all ∙ (λ i. spot (line_number d h.rows (sym at_is i)) (find_row (Nth (sym left_is i)) (part (lines_of h.rows) (line_number d h.rows (sym at_is i)) (same_floor i)))))
+  -- over all of them to an entry, which has its key alone
+  module _ (key : List ℕ) (w : ℕ × Line × Outline) (found : seen stop (To key) ≡ Some w) where
+    over_keys : (p : ℕ) (q : Spot) → Passing q p → HasKeys q → seen q (To key) ≡ Some w
+    over_keys zero q h keys = go (siblings n (behind q) h.deep)
+      where
+        go : ((deeper_rows n (behind q) ≡ length (behind q)) × (level_count n (behind q) ≡ 0)) ⊎ Sibling n (behind q) → seen q (To key) ≡ Some w
+        go (inl z) = over_key q stop (to_stop q 0 h z.0) key w keys found ∙ found
+        go (inr z) = absurd (omega (arith, z.count, h.count))
+    over_keys (suc p) q h keys = go (siblings n (behind q) h.deep) (over_keys p)
+      where
+        go : ((deeper_rows n (behind q) ≡ length (behind q)) × (level_count n (behind q) ≡ 0)) ⊎ Sibling n (behind q) → ((e : Spot) → Passing e p → HasKeys e → seen e (To key) ≡ Some w) → seen q (To key) ≡ Some w
+        go (inl z) later = absurd (omega (arith, z.1, h.count))
+        go (inr z) later =
+            let o = to_next q (suc p) h z in
+            let rest = later (after q z) (next_item q p h z) (more_keys q (after q z) o keys) in
+            over_key q (after q z) o key w keys rest ∙ rest
+
+-- A walk goes on from a known item.
+module _ (s : Shown) (d : Stretch) (under : Spot) (floor : ℕ) (k : KnownItem) (start : IsSpot s d under) (among : IsAmong s.rows under floor d.end k) (low : (y : Slices) → slice_get s.rows k.row ≡ Some y → line_level 0 y ≤ k.level) where
+  abbrev row_of : Spot
+  row_of = record { row = k.row; line = 0 }
+
+  all_taken : (h : HasDocument s d) → length (take k.row s.rows) ≡ k.row
+  all_taken h = length-take-le k.row s.rows (omega (arith, among.within, h.within))
+
+  in_front : (h : HasDocument s d) → k.under.row < k.row
+  in_front h = omega (arith, slice_get_within (take k.row s.rows) k.under.row among.known.piece among.known.there, all_taken h)
+
+  begin : IsSpot s d k.under
+  begin = subst (IsSpot s d) (sym among.under_is) start
+
+  last : (h : HasDocument s d) → (y : Slices) × (slice_get s.rows k.row ≡ Some y)
+  last h = one_there s.rows k.row (omega (arith, among.within, h.within))
+
+  abbrev count : ℕ
+  count = level_count k.level (drop (k.under.row + 1) (take k.row s.rows))
+
+  first : (h : HasDocument s d) → Passing s d h k.floor k.row k.level (last h).0 among.within (last h).1 (low (last h).0 (last h).1) among.known.deeper k.under count
+  first h = record {
+    piece = among.known.piece;
+    at = spot_line s d k.under begin (omega (arith, in_front h, among.within));
+    there = sym (get_taken s.rows k.row k.under.row (in_front h)) ∙ among.known.there;
+    same = sym among.known.level;
+    less = in_front h;
+    deep = among.known.deep;
+    count = refl;
+  }
+
+  -- the known item's line
+  pub known_line : HasDocument s d → IsLine s d row_of
+  known_line h = record { from = omega (arith, begin.from, in_front h); upto = among.within; line = λ x is. omega arith }
+
+  pub goes_on : (index : ℕ) → k.index ≤ index → GoesOn s d floor under index row_of (index - k.index)
+  goes_on index more h =
+      let all = over_items s d h k.floor k.row k.level (last h).0 among.within (last h).1 (low (last h).0 (last h).1) among.known.deeper count k.under (first h) (index - k.index) in
+      let sum : suc count + (index - k.index) ≡ index = omega (arith, among.known.index, more) in
+      (λ i. found_from d h.rows (sym among.floor_is i) (sym among.under_is i) (Nth (sym sum i)))
+      ∙ (all ∙ (λ i. found_from d h.rows (among.floor_is i) row_of (Nth (index - k.index))))
+
+  -- the entry of a known item is found, where it has the key
+  pub goes_to : (key : List ℕ) → HaveKeys s d under floor → ((y : Slices) → slice_get s.rows k.row ≡ Some y → k.level ≡ line_level 0 y) → IsKeyed s d k key → Finds s d under floor (To key) (Some row_of)
+  goes_to key keys exact keyed h =
+      let ls : List Line = lines_of h.rows in
+      let i : ℕ = line_number d h.rows row_of in
+      let l = located s d h row_of (known_line h) in
+      let deep : true ≡ not (is_end (part ls i k.floor)) = sym (lt-ltb k.floor k.level among.known.deeper) ∙ deeper_told s d h row_of k.level k.floor (known_line h) exact in
+      let here = spot_here ls i k.floor l.line l.is deep (To key) (keyed h l.line l.is) in
+      let one : lines.seen ls (Some i) ≡ Some (i, l.line, part ls (i + 1) (level l.line)) = ap (option_map (λ m. (i, m, part ls (i + 1) (level m)))) l.is in
+      let differ : are_distinct (keys_of (children (part ls (line_number d h.rows k.under) k.floor))) ≡ true =
+      (λ j. are_distinct (keys_of (children (part ls (line_number d h.rows (among.under_is j)) (among.floor_is j))))) ∙ keys h in
+      let all = over_keys s d h k.floor k.row k.level (last h).0 among.within (last h).1 (low (last h).0 (last h).1) among.known.deeper key _ (here ∙ one) count k.under (first h) differ in
+      (λ j. found_from d h.rows (sym among.floor_is j) (sym among.under_is j) (To key)) ∙ (all ∙ sym one)

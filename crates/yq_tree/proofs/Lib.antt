@@ -95,6 +95,10 @@ pub mod FlowNodeLaws
 pub mod MarkLaws
 pub mod DashLaws
 pub mod ScalarPlaceLaws
+pub mod EntryKeys
 pub mod KnownLaws
 pub mod KnownWalks
 pub mod KnownFronts
+mod HalvesLaws
+mod TailLaws
+mod FirstBreakLaws

@@ -1,6 +1,6 @@
 -- The rows of documents among those of a text.
 use Rattle.std.proofs.Common.{◌≡◌, ℕ, zero, suc, ◌+◌, ◌-◌, ◌<◌, ◌≤◌, eqb, List, [], ◌∷◌, ◌++◌, length, map, take, drop, Option, Some, None, option_map, Bool, true, false, cond, ◌&&◌, ◌||◌, not, refl, sym, ap, ◌∙◌, subst, arith, length-append}
-use Rattle.std.proofs.lemmas.Bool.{eq-eqb, eqb-true, lt-ltb, le-ltb, cond-true, cond-false, false≢true}
+use Rattle.std.proofs.lemmas.Bool.{and_parts, eq-eqb, eqb-true, lt-ltb, le-ltb, cond-true, cond-false, false≢true}
 use Rattle.std.proofs.lemmas.List.{drop-map, length-map, length-drop, take_at, map-append}
 use Rattle.std.proofs.lemmas.Option.{same_Some}
 use Rattle.std.specs.List.{slice_get}
@@ -20,9 +20,16 @@ use Rattle.yq_documents.proofs.RowFlowLaws.{lines_count}
 use Rattle.yq_documents.specs.Seats.{behind_one, seat, seat_of, seat_at, rows_before, document_row}
 use Rattle.yq_documents.specs.declared.path.Path.{Path}
 use Rattle.yq_documents.specs.Located.{steps_of}
-use Rattle.yq_tree.specs.RowWalk.{HasDocument, IsKnown, InCut, stretch_told, begin_rows, document_rows}
+use Rattle.yq_inline.specs.Inline.{depth_limit}
+use Rattle.yq_scalar.specs.Anchors.{names_of}
+use Rattle.yq_lines.specs.Group.{group}
+use Rattle.yq_lines.specs.LinesReading.{have_one_anchor_each, are_bound}
+use Rattle.yq_lines.specs.Sound.{is_sound}
+use Rattle.yq_documents.specs.Reading.{is_document, have_fit_keys, has_short_root, root_of}
+use Rattle.yq_tree.specs.RowWalk.{HasDocument, IsKnown, MayWalk, InCut, stretch_told, begin_rows, document_rows}
 use Rattle.yq_tree.specs.SeatReading.{Numbers, numbers}
 use Rattle.yq_tree.specs.declared.places.spot.Stretch.{Stretch}
+use Rattle.yq_tree.proofs.FoundLines.{each}
 use Rattle.yq_tree.proofs.SeatLaws.{part_begins}
 
 -- part after part
@@ -84,10 +91,18 @@ before_within false n (last q) = omega arith
 before_within true (suc n) (marked q marker c) = omega (arith, before_within (begins_document marker) n c, length-append q.rows (rows_of c))
 before_within false n (marked q marker c) = omega (arith, before_within (begins_document marker) n c, length-append q.rows (rows_of c))
 
+-- a document's lines are sound
+sound_part : (p : Part) → is_document p ≡ true → is_sound depth_limit (group (lines_of p.rows)) ≡ true
+sound_part p e =
+    let fit = and_parts (have_fit_keys p.rows) _ e in
+    let short = and_parts (has_short_root p.rows) _ fit.1 in
+    let one = and_parts (have_one_anchor_each (lines_of p.rows)) _ short.1 in
+    (and_parts (are_bound [] (names_of (root_of p))) _ one.1).1
+
 -- the document of a text with its cut
-pub document_has : (t : List ℕ) (s : Shown) (c : Cut) (n : ℕ) (p : Part) (d : Stretch) → IsCut t c → s ≡ shown c → slice_get (document_parts c) n ≡ Some p → d.first ≡ document_row n c → d.end ≡ document_row n c + length p.rows → IfSome d.known (IsKnown (shown c).rows) →
+pub document_has : (t : List ℕ) (s : Shown) (c : Cut) (n : ℕ) (p : Part) (d : Stretch) → IsCut t c → s ≡ shown c → slice_get (document_parts c) n ≡ Some p → d.first ≡ document_row n c → d.end ≡ document_row n c + length p.rows → MayWalk d c →
     (h : HasDocument s d) × (h.rows ≡ p.rows)
-document_has t s c n p d cut is at first end known =
+document_has t s c n p d cut is at first end walk =
     let b = part_begins c n p at in
     let v = part_rows true (begins_bare c || not (has_begin c)) n c p cut.parts at in
     let k : ℕ = document_row n c in
@@ -99,7 +114,18 @@ document_has t s c n p d cut is at first end known =
     let long : length s.rows - d.first ≡ length p.rows + length b.0 = sym (length-drop d.first s.rows) ∙ (ap length there ∙ (length-append (map slices p.rows) (map slices b.0) ∙ (λ i. length-map p.rows slices i + length-map b.0 slices i))) in
     let all : length s.rows ≡ length (rows_of c) = ap (λ (x : Shown). length x.rows) is ∙ length-map (rows_of c) slices in
     let upto : k ≤ length (rows_of c) = before_within (begins_bare c || not (has_begin c)) n c in (
-      record { rows = p.rows; limit = unlimited; end = p.end; rest = v.0; order = omega (arith, first, end); within = omega (arith, first, end, long, all, upto); pieces = pieces; valid = v.1; known = subst (λ (x : Shown). IfSome d.known (IsKnown x.rows)) (sym is) known },
+      record {
+        rows = p.rows;
+        limit = unlimited;
+        end = p.end;
+        rest = v.0;
+        order = omega (arith, first, end);
+        within = omega (arith, first, end, long, all, upto);
+        pieces = pieces;
+        valid = v.1;
+        sound = sound_part p (each (document_parts c) walk.sound n p at);
+        known = subst (λ (x : Shown). IfSome d.known (IsKnown x.rows)) (sym is) walk.known;
+      },
       refl,
     )
 
@@ -130,7 +156,7 @@ pub record Found (s : Shown) (c : Cut) (n : ℕ) (d : Stretch) : Type 0 where
   pub document : HasDocument s d
   pub rows : document.rows ≡ part.rows
 
-pub found_document : (t : List ℕ) (s : Shown) (c : Cut) (n : ℕ) (d : Stretch) → IsCut t c → s ≡ shown c → Some (stretch_told d) ≡ document_rows n c → IfSome d.known (IsKnown (shown c).rows) → Found s c n d
+pub found_document : (t : List ℕ) (s : Shown) (c : Cut) (n : ℕ) (d : Stretch) → IsCut t c → s ≡ shown c → Some (stretch_told d) ≡ document_rows n c → MayWalk d c → Found s c n d
 found_document t s c n d cut is e known = go (slice_get (document_parts c) n) refl e
   where
     go : (o : Option Part) → slice_get (document_parts c) n ≡ o → Some (stretch_told d) ≡ option_map (λ p. (document_row n c, document_row n c + length p.rows)) o → Found s c n d
@@ -156,7 +182,7 @@ found_in_cut t s c n d cut is f =
     )
 
 -- a place in a document that was found
-pub place_found : {A : Type 0} (t : List ℕ) (s : Shown) (c : Cut) (n : ℕ) (d : Stretch) (found : Option A) (place : ℕ → Cut → List Row → Option A) → IsCut t c → s ≡ shown c → Some (stretch_told d) ≡ document_rows n c → IfSome d.known (IsKnown (shown c).rows) →
+pub place_found : {A : Type 0} (t : List ℕ) (s : Shown) (c : Cut) (n : ℕ) (d : Stretch) (found : Option A) (place : ℕ → Cut → List Row → Option A) → IsCut t c → s ≡ shown c → Some (stretch_told d) ≡ document_rows n c → MayWalk d c →
     ((k : InCut s d c) → found ≡ place d.first c k.document.rows) → found ≡ (slice_get (document_parts c) n >>= λ p. place (document_row n c) c p.rows)
 place_found t s c n d found place cut is e known told =
     let f = found_document t s c n d cut is e known in

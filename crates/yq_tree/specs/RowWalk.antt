@@ -3,12 +3,16 @@ use Rattle.std.specs.Prelude.{◌≡◌, ℕ, zero, suc, Bool, true, false, ◌+
 use denote.Bor.{Bor}
 use Rattle.yq_inline.specs.declared.path.Step as declared
 use Rattle.yq_inline.specs.Entries.{step_of}
+use Rattle.yq_inline.specs.Inline.{depth_limit}
 use Rattle.yq_inline.specs.Places.{Placed}
-use Rattle.yq_scalar.specs.Paths.{Step, Nth}
+use Rattle.yq_scalar.specs.Keys.{are_distinct, keys_of}
+use Rattle.yq_scalar.specs.Paths.{Step, To, Nth, key_is}
 use Rattle.yq_scalar.specs.Text.{is_empty}
 use Rattle.yq_lines.specs.Ends.{deeper_count, is_end, part}
-use Rattle.yq_lines.specs.Outline.{Line}
+use Rattle.yq_lines.specs.Group.{group}
+use Rattle.yq_lines.specs.Outline.{Line, Outline, children, key_of}
 use Rattle.yq_lines.specs.Places.{find_row}
+use Rattle.yq_lines.specs.Sound.{is_sound}
 use Rattle.yq_lines.specs.Spots.{reach_from, seen, spot}
 use Rattle.yq_rows.specs.Grammar.{Limit, AreRows, IsCut, begins_document}
 use Rattle.yq_rows.specs.Rows.{Row, Cut}
@@ -52,7 +56,7 @@ abbrev pub AreDeep : ℕ → List Slices → Type 0
 AreDeep n [] = Unit {0}
 AreDeep n (s ∷ ss) = (n ≤ line_level 0 s) × AreDeep n ss
 
--- Behind the line of a first item, which is deeper than a level, no row in front begins less deep than it; and so many items begin as deep, it among them (8.2).
+-- Behind the line of a first item, which is deeper than a level, no row in front begins less deep. So many items begin as deep, it among them (8.2).
 pub record ArePassed (front : List Slices) (k : KnownItem) : Type 0 where
   pub piece : Slices
   pub there : slice_get front k.under.row ≡ Some piece
@@ -69,6 +73,18 @@ IsKnown ss k = ArePassed (take k.row ss) k
 abbrev pub StaysKnown : ℕ → Cut → KnownItem → Type 0
 StaysKnown front c k = (new : Cut) (back : ℕ) → TouchesOnly front back c new → IsKnown (shown new).rows k
 
+-- An item is known that begins before a row, among the lines from one on that are deeper than a level (own).
+pub record IsAmong (ss : List Slices) (under : Spot) (floor end : ℕ) (k : KnownItem) : Type 0 where
+  pub known : IsKnown ss k
+  pub under_is : k.under ≡ under
+  pub floor_is : k.floor ≡ floor
+  pub within : k.row < end
+
+-- An item that is known is one of a cut, and the parts of the cut stand for documents (own).
+pub record MayWalk (d : Stretch) (c : Cut) : Type 0 where
+  pub known : IfSome d.known (IsKnown (shown c).rows)
+  pub sound : all_documents c ≡ true
+
 -- The rows of a text from one up to another one are those of a document; an item that is known is one of the text.
 pub record HasDocument (s : Shown) (d : Stretch) : Type 0 where
   pub rows : List Row
@@ -79,6 +95,7 @@ pub record HasDocument (s : Shown) (d : Stretch) : Type 0 where
   pub within : d.end ≤ length s.rows
   pub pieces : take (d.end - d.first) (drop d.first s.rows) ≡ map slices rows
   pub valid : AreRows limit rows end rest
+  pub sound : is_sound depth_limit (group (lines_of rows)) ≡ true
   pub known : IfSome d.known (IsKnown s.rows)
 
 -- The lines that are kept of a document are those of its rows.
@@ -131,10 +148,23 @@ abbrev pub Finds : Shown → Stretch → Spot → ℕ → Step → Option Spot �
 Finds s d under floor step found =
     (h : HasDocument s d) → spot (line_number d h.rows under) (find_row step (part (lines_of h.rows) (line_number d h.rows under) floor)) ≡ seen (lines_of h.rows) (option_map (line_number d h.rows) found)
 
+-- where a step leads among the lines from one on that are deeper than a level
+abbrev pub found_from : Stretch → List Row → ℕ → Spot → Step → Option (ℕ × Line × Outline)
+found_from d rs floor q step = spot (line_number d rs q) (find_row step (part (lines_of rs) (line_number d rs q) floor))
+
 -- Among the lines from one on that are deeper than a level, a walk to an item goes on from another line, by the item's index from there on.
 abbrev pub GoesOn : Shown → Stretch → ℕ → Spot → ℕ → Spot → ℕ → Type 0
 GoesOn s d floor under index at left =
-    (h : HasDocument s d) → spot (line_number d h.rows under) (find_row (Nth index) (part (lines_of h.rows) (line_number d h.rows under) floor)) ≡ spot (line_number d h.rows at) (find_row (Nth left) (part (lines_of h.rows) (line_number d h.rows at) floor))
+    (h : HasDocument s d) → found_from d h.rows floor under (Nth index) ≡ found_from d h.rows floor at (Nth left)
+
+-- The entries among the lines from one on that are deeper than a level have different keys (3.2.1.3).
+abbrev pub HaveKeys : Shown → Stretch → Spot → ℕ → Type 0
+HaveKeys s d under floor =
+    (h : HasDocument s d) → are_distinct (keys_of (children (part (lines_of h.rows) (line_number d h.rows under) floor))) ≡ true
+
+-- An entry that is known has a key.
+abbrev pub IsKeyed : Shown → Stretch → KnownItem → List ℕ → Type 0
+IsKeyed s d k key = OfLine s d (record { row = k.row; line = 0 }) (λ l. key_is key (key_of l.mark) ≡ true)
 
 -- where steps lead whose first one leads there, with a line by its number
 abbrev pub next_reached : Stretch → List Row → Step → List Step → nexts.Next → Option (ℕ × List Step)

@@ -10,17 +10,20 @@ ghost use Rattle.yq_rows.specs.Splices.{CutsItsText, replace_row};
 /// stand behind it.
 pub fn rows_appended()
     ensures { (front : List Row) (r : Row) (break : List ℕ) (new : List Row) (limit : Limit) (end : List ℕ) → AreRows limit (front ++ (r ∷ [])) [] [] →
-        TakesBreak r break → pairs_returns (print_row r []) ≡ true → AreRows (limit_after r) new end [] →
+        TakesBreak r break → pairs_returns (print_row r []) ≡ true →
+        AreRows (limit_after r) new end [] →
         AreRows limit (front ++ (closed_by break r ∷ new)) end [] }
 {}
 
 /// The same in a cut.
 pub fn end_appended()
     ensures { (t : List ℕ) (c : Cut) (k : ℕ) (front : List Row) (r : Row) (break : List ℕ) (new : List Row) (gap : List ℕ) → IsCut t c →
-        IsLastRow k front r c → TakesBreak r break → AreRows (limit_after r) new gap [] → CutsItsText (replace_row k front (closed_by break r ∷ new) gap c) }
+        IsLastRow k front r c → TakesBreak r break → AreRows (limit_after r) new gap [] →
+        CutsItsText (replace_row k front (closed_by break r ∷ new) gap c) }
 {}
 
 /// A part behind the last marker of a text, which has no break: the marker gets one.
 pub fn marker_appended()
-    ensures { (t : List ℕ) (c : Cut) (break : List ℕ) (new : Part) → IsCut t c → PartFits break new c → CutsItsText (with_last_part break new c) }
+    ensures { (t : List ℕ) (c : Cut) (break : List ℕ) (new : Part) → IsCut t c →
+        PartFits break new c → CutsItsText (with_last_part break new c) }
 {}

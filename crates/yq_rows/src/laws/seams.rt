@@ -12,26 +12,33 @@ ghost use Rattle.yq_rows.specs.Seams.{MayFollowRows, TailFits, TakesPlace, retai
 /// A row before one text is a row before another one that may stand behind it: rows that begin where
 /// the row allows, and what its tail or block scalar asks.
 pub fn row_seamed()
-    ensures { (limit : Limit) (r : Row) (t : List ℕ) (behind : List Row) (end rest : List ℕ) → IsRow limit r t →
-        MayFollowRows limit (r ∷ []) behind end rest → IsRow limit r (rows_text behind (end ++ rest)) }
+    ensures { (limit : Limit) (r : Row) (t : List ℕ) (behind : List Row) (end rest : List ℕ) →
+        IsRow limit r t →
+        MayFollowRows limit (r ∷ []) behind end rest →
+        IsRow limit r (rows_text behind (end ++ rest)) }
 {}
 
 /// Rows behind rows, exchanged for others: what the last row in front asks of the text behind it.
 pub fn rows_seamed()
-    ensures { (front rows new : List Row) (limit : Limit) (end rest new_end new_rest : List ℕ) → AreRows limit (front ++ rows) end rest →
-        MayFollowRows limit front new new_end new_rest → AreRows limit (front ++ new) new_end new_rest }
+    ensures { (front rows new : List Row) (limit : Limit) (end rest new_end new_rest : List ℕ) →
+        AreRows limit (front ++ rows) end rest →
+        MayFollowRows limit front new new_end new_rest →
+        AreRows limit (front ++ new) new_end new_rest }
 {}
 
 /// A row with another tail, before another text, takes the place of the row, where that tail fits.
 pub fn row_retailed()
-    ensures { (limit : Limit) (r : Row) (t new u : List ℕ) → IsRow limit r t → pairs_returns (print_row r t) ≡ true →
+    ensures { (limit : Limit) (r : Row) (t new u : List ℕ) → IsRow limit r t →
+        pairs_returns (print_row r t) ≡ true →
         TailFits (parent_indent r) new r.content u → TakesPlace limit r t (retail new r) u }
 {}
 
 /// What stands behind a row's dashes, exchanged for a row that begins in that column.
 pub fn row_joined()
-    ensures row { (limit other : Limit) (r q : Row) (t u : List ℕ) → IsRow limit r t → IsRow other q u → Joins r q → TakesPlace limit r t (joined_row r q) u }
-    ensures limit { (r q : Row) → q.column ≡ mark_column r → limit_after (joined_row r q) ≡ limit_after q }
+    ensures row { (limit other : Limit) (r q : Row) (t u : List ℕ) → IsRow limit r t →
+        IsRow other q u → Joins r q → TakesPlace limit r t (joined_row r q) u }
+    ensures limit { (r q : Row) → q.column ≡ mark_column r → limit_after (joined_row r q) ≡
+        limit_after q }
 {}
 
 /// A row up to one of its dashes, with another content behind that; and a row behind whose dash
@@ -39,14 +46,18 @@ pub fn row_joined()
 pub fn row_dashed()
     ensures cut { (limit : Limit) (r : Row) (dashes : List ℕ) (n : ℕ) (more : List ℕ) (new : Content) (t u : List ℕ) → IsRow limit r t →
         DashFits r dashes n more new u → TakesPlace limit r t (dashed_row dashes new r) u }
-    ensures compact { (limit other : Limit) (n : ℕ) (r q : Row) (t u : List ℕ) → IsRow limit r t → IsRow other q u → CompactFits n r q →
+    ensures compact { (limit other : Limit) (n : ℕ) (r q : Row) (t u : List ℕ) → IsRow limit r t →
+        IsRow other q u → CompactFits n r q →
         TakesPlace limit r t (compact_row n r q) u }
 {}
 
 /// A gap behind what stays of another one: the lines are those of both, and it is a gap where the
 /// second one is; repaired, it is one too.
 pub fn gaps_joined()
-    ensures lines { (kept next x : List ℕ) → is_empty x ≡ false → IsGap kept x → lines_of (kept ++ next) ≡ lines_of kept ++ lines_of next }
-    ensures gap { (kept next x y : List ℕ) → is_empty x ≡ false → IsGap kept x → IsGap next y → IsGap (kept ++ next) y }
-    ensures repaired { (keep : Bool) (m column : ℕ) (gap rest : List ℕ) → IsGap gap rest → IsGap (joined (repair keep m column (lines_of gap))) rest }
+    ensures lines { (kept next x : List ℕ) → is_empty x ≡ false → IsGap kept x →
+        lines_of (kept ++ next) ≡ lines_of kept ++ lines_of next }
+    ensures gap { (kept next x y : List ℕ) → is_empty x ≡ false → IsGap kept x → IsGap next y →
+        IsGap (kept ++ next) y }
+    ensures repaired { (keep : Bool) (m column : ℕ) (gap rest : List ℕ) → IsGap gap rest →
+        IsGap (joined (repair keep m column (lines_of gap))) rest }
 {}

@@ -14,16 +14,21 @@ ghost use Rattle.yq_rows.specs.View.{rows_of};
 /// may stand. Its text is that before those rows, the new rows with the gap behind them, and the
 /// rest.
 pub fn rows_spliced()
-    ensures cut { (t : List ℕ) (c : Cut) (k i j : ℕ) (new : List Row) (gap : List ℕ) → IsCut t c → FitsIn k i j new gap c →
+    ensures cut { (t : List ℕ) (c : Cut) (k i j : ℕ) (new : List Row) (gap : List ℕ) → IsCut t c →
+        FitsIn k i j new gap c →
         CutsItsText (splice k i j new gap c) }
-    ensures old { (c : Cut) (k i j : ℕ) → i ≤ j → cut_text c ≡ before_rows k i c ++ rows_text (rows_between k i j c) (gap_before k j c ++ behind_rows k j c) }
+    ensures old { (c : Cut) (k i j : ℕ) → i ≤ j → cut_text c ≡
+        before_rows k i c ++ rows_text (rows_between k i j c)
+        (gap_before k j c ++ behind_rows k j c) }
     ensures new { (c : Cut) (k i j : ℕ) (new : List Row) (gap : List ℕ) →
-        cut_text (splice k i j new gap c) ≡ before_rows k i c ++ rows_text new (gap ++ behind_rows k j c) }
+        cut_text (splice k i j new gap c) ≡
+        before_rows k i c ++ rows_text new (gap ++ behind_rows k j c) }
 {}
 
 /// Rows exchanged for others whose text begins like theirs: nothing is asked of the rows in front.
 pub fn rows_replaced()
-    ensures { (t : List ℕ) (c : Cut) (k i j : ℕ) (new : List Row) (gap : List ℕ) → IsCut t c → ReplaceFits k i j new gap c →
+    ensures { (t : List ℕ) (c : Cut) (k i j : ℕ) (new : List Row) (gap : List ℕ) → IsCut t c →
+        ReplaceFits k i j new gap c →
         CutsItsText (splice k i j new gap c) }
 {}
 
@@ -52,17 +57,21 @@ pub fn tail_replaced()
 /// Rows put in behind a row: what that row asks of the text behind it, and where the next row
 /// stands. Behind a tail with a break any text may stand.
 pub fn rows_inserted()
-    ensures cut { (t : List ℕ) (c : Cut) (k i : ℕ) (new : List Row) (gap : List ℕ) → IsCut t c → InsertFits k i new gap c →
+    ensures cut { (t : List ℕ) (c : Cut) (k i : ℕ) (new : List Row) (gap : List ℕ) → IsCut t c →
+        InsertFits k i new gap c →
         CutsItsText (splice k i i new gap c) }
-    ensures line { (front : List Row) (u : List ℕ) → ends_in_line front ≡ true → ends_in_block front ≡ false → are_seamed front u ≡ true }
+    ensures line { (front : List Row) (u : List ℕ) → ends_in_line front ≡ true →
+        ends_in_block front ≡ false → are_seamed front u ≡ true }
 {}
 
 /// A cut, from which rows are taken away, is a cut where a gap stands in their place, the next row
 /// may stand there, and behind a block scalar stands what ends it. So is the cut whose gap is
 /// repaired.
 pub fn rows_removed()
-    ensures any { (t : List ℕ) (c : Cut) (k i j : ℕ) (gap : List ℕ) → IsCut t c → RemoveFits k i j gap c → CutsItsText (splice k i j [] gap c) }
-    ensures repaired { (t : List ℕ) (c : Cut) (k i j : ℕ) (kept run : List (List ℕ)) → IsCut t c → RepairFits k i j kept run c →
+    ensures any { (t : List ℕ) (c : Cut) (k i j : ℕ) (gap : List ℕ) → IsCut t c →
+        RemoveFits k i j gap c → CutsItsText (splice k i j [] gap c) }
+    ensures repaired { (t : List ℕ) (c : Cut) (k i j : ℕ) (kept run : List (List ℕ)) → IsCut t c →
+        RepairFits k i j kept run c →
         CutsItsText (without_rows k i j kept c) }
 {}
 

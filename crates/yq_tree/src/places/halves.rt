@@ -1,6 +1,7 @@
 //! What begins and ends a text in two halves.
 ghost use Rattle.std.specs.List.{prefix_len};
-ghost use Rattle.std.specs.Prelude.{◌≡◌, ◌==◌, ◌≤◌, length, slice_get};
+ghost use Rattle.std.specs.Prelude.{◌≡◌, ◌==◌, ◌≤◌, length, slice_index};
+ghost use Rattle.std.specs.Str.{IsUtf8};
 ghost use Rattle.yq_text.specs.Halves.{whole};
 ghost use Rattle.yq_rows.specs.Reading as reading;
 ghost use Rattle.yq_scalar.specs.Text as scan;
@@ -8,22 +9,30 @@ ghost use Rattle.yq_tree.specs.FirstPlaces as spaces;
 ghost use Rattle.yq_tree.specs.PrintedLines as lines;
 
 use yq_scalar::lines::{is_line, line_len};
-use yq_scalar::text::{spaces_len, whites_len};
+use yq_scalar::text::{is_break, spaces_len, whites_len};
 use yq_text::Halves;
 
-/// The byte at a place, if there is one.
-fn byte_at(text: Halves<'_>, at: usize) -> Option<u8>
-    ensures { result ≡ slice_get (whole text.entry) at }
+/// Two halves are whole characters, and so is the text.
+pub(crate) fn is_text(text: Halves<'_>)
+    ensures { IsUtf8 (whole text.entry) }
+{}
+
+/// The byte at a place; 0 behind the text.
+#[tactic(auto, using(crate::proofs::HalvesLaws::byte_front, crate::proofs::HalvesLaws::byte_back))]
+fn byte_at(text: Halves<'_>, at: usize) -> u8
+    ensures { result ≡ slice_index (whole text.entry) at }
 {
     let front = text.front.as_bytes();
+    let back = text.back.as_bytes();
     if at < front.len() {
-        front.get(at).copied()
-    } else {
-        text.back.as_bytes().get(at - front.len()).copied()
+        return front[at];
     }
+    let at = at - front.len();
+    if at < back.len() { back[at] } else { 0 }
 }
 
 /// How many spaces are in front.
+#[tactic(auto, using(crate::proofs::HalvesLaws::prefix_stays, crate::proofs::HalvesLaws::prefix_goes))]
 fn front_spaces(text: Halves<'_>) -> usize
     ensures { result ≡ prefix_len (λ b. b == 32) (whole text.entry) }
 {
@@ -36,8 +45,10 @@ fn front_spaces(text: Halves<'_>) -> usize
 }
 
 /// How many spaces and tabs are in front.
+#[tactic(auto, using(crate::proofs::HalvesLaws::prefix_stays, crate::proofs::HalvesLaws::prefix_goes))]
 fn front_whites(text: Halves<'_>) -> usize
-    ensures { result ≡ prefix_len scan.is_white (whole text.entry) }
+    ensures value { result ≡ prefix_len scan.is_white (whole text.entry) }
+    ensures within { result ≤ length (whole text.entry) }
 {
     let count = whites_len(text.front.as_bytes());
     if count < text.front.len() {
@@ -55,6 +66,7 @@ pub(crate) fn split_spaces<'t>(text: Halves<'t>) -> (Halves<'t>, Halves<'t>)
 }
 
 /// Whether a blank line or a comment line is in front (YAML 1.2.2, sections 6.4 and 6.6).
+#[tactic(auto, using(crate::proofs::HalvesLaws::gap_white, crate::proofs::HalvesLaws::gap_break, crate::proofs::HalvesLaws::gap_hash))]
 pub(crate) fn begins_gap(text: Halves<'_>) -> bool
     ensures { result ≡ reading.begins_gap (whole text.entry) }
 {
@@ -62,15 +74,15 @@ pub(crate) fn begins_gap(text: Halves<'_>) -> bool
         return false;
     }
     let at = front_whites(text);
-    match (byte_at(text, at), byte_at(text, at + 1)) {
-        (None, _) => true,
-        (Some(b'\n' | b'#'), _) => true,
-        (Some(b'\r'), Some(b'\n')) => true,
-        _ => false,
+    if at >= text.len() {
+        return true;
     }
+    let next = [byte_at(text, at), byte_at(text, at + 1)];
+    is_break(&next) || next[0] == b'#'
 }
 
 /// How long the line in front is with its break, in bytes.
+#[tactic(auto, using(crate::proofs::HalvesLaws::line_stays, crate::proofs::HalvesLaws::line_ends, crate::proofs::HalvesLaws::line_goes))]
 fn front_line(text: Halves<'_>) -> usize
     ensures { result ≡ scan.line_len (whole text.entry) }
 {
@@ -91,17 +103,19 @@ pub(crate) fn split_line<'t>(text: Halves<'t>) -> (Halves<'t>, Halves<'t>)
 }
 
 /// How long a text is less the break that ends it, in bytes.
+#[tactic(auto, using(crate::proofs::HalvesLaws::no_break, crate::proofs::HalvesLaws::break_feed, crate::proofs::HalvesLaws::break_return))]
 pub(crate) fn less_break_len(text: Halves<'_>) -> usize
     ensures value { result ≡ length (lines.less_break (whole text.entry)) }
     ensures within { result ≤ length (whole text.entry) }
 {
     let len = text.len();
-    let at = len.saturating_sub(2);
-    match (byte_at(text, at), byte_at(text, at + 1)) {
-        (Some(b'\n'), None) => at,
-        (Some(b'\r'), Some(b'\n')) => at,
-        (Some(_), Some(b'\n')) => at + 1,
-        _ => len,
+    if len == 0 || byte_at(text, len - 1) != b'\n' {
+        return len;
+    }
+    if len > 1 && byte_at(text, len - 2) == b'\r' {
+        len - 2
+    } else {
+        len - 1
     }
 }
 
@@ -114,12 +128,12 @@ pub fn split_break<'t>(text: Halves<'t>) -> (Halves<'t>, Halves<'t>)
 }
 
 /// How long a text is less the spaces that end it, in bytes.
-fn less_spaces_len(text: &[u8]) -> usize
-    ensures value { result ≡ length (spaces.less_spaces text.now) }
-    ensures within { result ≤ length text.now }
+fn less_spaces_len(text: Halves<'_>) -> usize
+    ensures value { result ≡ length (spaces.less_spaces (whole text.entry)) }
+    ensures within { result ≤ length (whole text.entry) }
 {
     let mut end = text.len();
-    'spaces: while end > 0 && text[end - 1] == b' ' {
+    'spaces: while end > 0 && byte_at(text, end - 1) == b' ' {
         end -= 1;
     }
     end
@@ -130,9 +144,5 @@ pub(crate) fn split_end_spaces<'t>(text: Halves<'t>) -> (Halves<'t>, Halves<'t>)
     ensures front { whole result.0 ≡ spaces.less_spaces (whole text.entry) }
     ensures spaces { whole result.1 ≡ spaces.end_spaces (whole text.entry) }
 {
-    let len = less_spaces_len(text.back.as_bytes());
-    if len > 0 {
-        return text.split_at(text.front.len() + len);
-    }
-    text.split_at(less_spaces_len(text.front.as_bytes()))
+    text.split_at(less_spaces_len(text))
 }

@@ -49,12 +49,12 @@ fn farther(one: Option<KnownItem>, other: Option<KnownItem>) -> Option<KnownItem
     }
 }
 
-/// The item to which a step by index leads, as one that is known.
+/// The item or entry of a line under another one, or of the root, as one that is known, unless it
+/// begins in the row of the first one.
 fn known_by(
     rows: &Rows<'_>,
     document: Stretch,
     from: Option<Spot>,
-    step: &Step,
     at: Spot,
 ) -> Option<KnownItem>
     requires shown { IsShown rows.now }
@@ -62,11 +62,7 @@ fn known_by(
     requires from { IfSome from (IsLine rows.now document) }
     requires at { IsLine rows.now document at }
     ensures known { IfSome result (IsKnown rows.now.rows) }
-    ensures within { IfSome result (λ k. k.row < length rows.now.rows) }
 {
-    if !matches!(step, Step::Index(_)) {
-        return None;
-    }
     let (under, floor) = begin_under(rows, document, from);
     if under.row >= at.row {
         return None;
@@ -78,8 +74,7 @@ fn known_by(
 fn known_along(rows: &Rows<'_>, document: Stretch, steps: &[Step]) -> Option<KnownItem>
     requires shown { IsShown rows.now }
     requires document { HasDocument rows.now document }
-    ensures known { IfSome result (IsKnown rows.now.rows) }
-    ensures within { IfSome result (λ k. k.row < length rows.now.rows) }
+    ensures { IfSome result (IsKnown rows.now.rows) }
 {
     let mut from = None;
     let mut found = None;
@@ -88,7 +83,7 @@ fn known_along(rows: &Rows<'_>, document: Stretch, steps: &[Step]) -> Option<Kno
         let Some(Next::Line(at)) = next_at(rows, document, from, step) else {
             return found;
         };
-        found = farther(found, known_by(rows, document, from, step, at));
+        found = farther(found, known_by(rows, document, from, at));
         from = Some(at);
         left = others;
     }
@@ -96,12 +91,14 @@ fn known_along(rows: &Rows<'_>, document: Stretch, steps: &[Step]) -> Option<Kno
 }
 
 /// A known item, or the one before it, if its row begins in front of so many bytes.
-fn known_in_front(rows: &Rows<'_>, known: KnownItem, front: usize) -> Option<KnownItem>
+fn begins_in_front(rows: &Rows<'_>, known: KnownItem, front: usize) -> Option<KnownItem>
     requires known { IsKnown rows.now.rows known }
-    requires within { known.row < length rows.now.rows }
     requires shown { IsShown rows.now }
     ensures { IfSome result (λ k. (c : Cut) → rows.now ≡ shown c → StaysKnown front c k) }
 {
+    if known.row >= rows.len() {
+        return None;
+    }
     if rows.start(known.row) < front {
         return Some(known);
     }
@@ -114,15 +111,27 @@ fn known_in_front(rows: &Rows<'_>, known: KnownItem, front: usize) -> Option<Kno
 }
 
 impl<'d, 't> CutText<'d, 't> {
-    /// The item on the way of a path from which a walk may go on in each text that keeps so many bytes
-    /// in front: the one that passed most rows, or the one before it.
-    pub fn known_at(&self, path: &Path, front: usize) -> Option<KnownItem>
+    /// The same text, where the item or entry on the way of a path that passed most rows is known, if
+    /// there is one: walks along the path go on from there.
+    pub fn along(&self, path: &Path) -> CutText<'d, 't>
+        ensures { result ≡ self.now }
+    {
+        let text = self.whole();
+        let rows = self.rows();
+        let Some(document) = self.stretch(path.doc) else {
+            return CutText::resumed(text, rows, None);
+        };
+        let known = known_along(rows, document, &path.steps);
+        CutText::resumed(text, rows, known)
+    }
+
+    /// The item that is known, or the one before it, if a walk may go on from there in each text that
+    /// keeps so many bytes in front.
+    pub fn known_in_front(&self, front: usize) -> Option<KnownItem>
         ensures { IfSome result (StaysKnown front (cut_of self.now)) }
     {
-        let document = self.stretch(path.doc)?;
         let _whole = self.whole();
         let rows = self.rows();
-        let known = known_along(rows, document, &path.steps)?;
-        known_in_front(rows, known, front)
+        begins_in_front(rows, self.known()?, front)
     }
 }

@@ -1,7 +1,7 @@
-//! Items that are known, from which a walk over the rows of a collection goes on.
+//! Items and entries that are known, from which a walk over the rows of a collection goes on.
 ghost use Rattle.std.specs.Prelude.{◌≡◌, ◌<◌, ◌≤◌, ◌+◌, length, IfSome, IsTrue, if◌then◌else◌};
 ghost use Rattle.yq_tree.specs.Extents.{IsShown};
-ghost use Rattle.yq_tree.specs.RowWalk.{GoesOn, HasDocument, IsKnown, IsSpot};
+ghost use Rattle.yq_tree.specs.RowWalk.{GoesOn, HasDocument, IsAmong, IsKnown, IsSpot};
 
 use crate::places::spot::{KnownItem, Spot, Stretch, level_at};
 use yq_rows::Rows;
@@ -14,29 +14,62 @@ fn is_among(known: KnownItem, under: Spot, floor: usize) -> bool
     known.under.row == under.row && known.under.line == under.line && known.floor == floor
 }
 
-/// The item before one that is known, if there is one.
+/// The item that is known among the lines of a document from one on that are deeper than a level.
+pub(crate) fn known_among(
+    rows: &Rows<'_>,
+    document: Stretch,
+    under: Spot,
+    floor: usize,
+) -> Option<KnownItem>
+    requires document { HasDocument rows.now document }
+    ensures { IfSome result (IsAmong rows.now.rows under floor document.end) }
+{
+    let _rows = rows;
+    let known = document.known?;
+    if !is_among(known, under, floor) || known.row >= document.end {
+        return None;
+    }
+    Some(known)
+}
+
+/// The item of an index that isn't behind a known one's, unless it begins the collection.
+pub(crate) fn item_back(rows: &Rows<'_>, known: KnownItem, index: usize) -> Option<KnownItem>
+    requires known { IsKnown rows.now.rows known }
+    requires within { known.row ≤ length rows.now.rows }
+    requires shown { IsShown rows.now }
+    ensures known { IfSome result (IsAmong rows.now.rows known.under known.floor (known.row + 1)) }
+    ensures index { IfSome result (λ k. k.index ≡ index) }
+{
+    let mut row = known.row;
+    let mut at = known.index;
+    'rows: while index < at && row.saturating_sub(known.under.row) > 1 {
+        row -= 1;
+        if level_at(rows, Spot { row, line: 0 }) == known.level {
+            at -= 1;
+        }
+    }
+    if at != index {
+        return None;
+    }
+    Some(KnownItem {
+        index,
+        row,
+        ..known
+    })
+}
+
+/// The item before one that is known, unless it begins the collection.
 pub(crate) fn item_before(rows: &Rows<'_>, known: KnownItem) -> Option<KnownItem>
     requires known { IsKnown rows.now.rows known }
     requires within { known.row ≤ length rows.now.rows }
     requires shown { IsShown rows.now }
-    ensures known { IfSome result (IsKnown rows.now.rows) }
-    ensures within { IfSome result (λ k. k.row < length rows.now.rows) }
+    ensures { IfSome result (IsAmong rows.now.rows known.under known.floor (known.row + 1)) }
 {
-    let mut row = known.row;
-    'rows: while row.saturating_sub(known.under.row) > 1 {
-        row -= 1;
-        if level_at(rows, Spot { row, line: 0 }) == known.level {
-            return Some(KnownItem {
-                index: known.index - 1,
-                row,
-                ..known
-            });
-        }
-    }
-    None
+    item_back(rows, known, known.index - 1)
 }
 
-/// The item that is known, or the one before it, if a walk to an item goes on from there.
+/// The item that is known, or one before it, if a walk to an item goes on from there: where the way
+/// back is no longer than that from the first one.
 fn known_for(
     rows: &Rows<'_>,
     document: Stretch,
@@ -46,24 +79,17 @@ fn known_for(
 ) -> Option<KnownItem>
     requires shown { IsShown rows.now }
     requires document { HasDocument rows.now document }
-    ensures known { IfSome result (IsKnown rows.now.rows) }
-    ensures under { IfSome result (λ k. k.under ≡ under) }
-    ensures floor { IfSome result (λ k. k.floor ≡ floor) }
+    ensures known { IfSome result (IsAmong rows.now.rows under floor document.end) }
     ensures index { IfSome result (λ k. k.index ≤ index) }
-    ensures within { IfSome result (λ k. k.row < document.end) }
 {
-    let known = document.known?;
-    if !is_among(known, under, floor) || known.row >= document.end {
-        return None;
-    }
+    let known = known_among(rows, document, under, floor)?;
     if known.index <= index {
         return Some(known);
     }
-    let before = item_before(rows, known)?;
-    if !is_among(before, under, floor) || before.row >= document.end || before.index > index {
+    if known.index - index > index {
         return None;
     }
-    Some(before)
+    item_back(rows, known, index)
 }
 
 /// Where the walk to an item begins, among the lines from one on that are deeper than a level, and the
@@ -114,7 +140,7 @@ fn first_known(rows: &Rows<'_>, under: Spot, floor: usize) -> Option<KnownItem>
 }
 
 /// How many items there are with one more, if that is one.
-fn counted(index: usize, is_item: bool) -> Option<usize>
+pub(crate) fn counted(index: usize, is_item: bool) -> Option<usize>
     ensures { IfSome result (λ n. n ≡ (if is_item then index + 1 else index)) }
 {
     if is_item {
@@ -150,7 +176,35 @@ fn known_further(rows: &Rows<'_>, known: KnownItem, row: usize) -> Option<KnownI
     })
 }
 
+/// The item of a row in front of one that is known.
+fn known_back(rows: &Rows<'_>, known: KnownItem, row: usize) -> Option<KnownItem>
+    requires known { IsKnown rows.now.rows known }
+    requires within { known.row ≤ length rows.now.rows }
+    requires order { known.under.row < row }
+    requires shown { IsShown rows.now }
+    ensures known { IfSome result (IsKnown rows.now.rows) }
+    ensures row { IfSome result (λ k. k.row ≡ row) }
+{
+    let mut at = known.row;
+    let mut index = known.index;
+    'rows: while row < at {
+        at -= 1;
+        if level_at(rows, Spot { row: at, line: 0 }) == known.level {
+            index -= 1;
+        }
+    }
+    if at != row {
+        return None;
+    }
+    Some(KnownItem {
+        index,
+        row,
+        ..known
+    })
+}
+
 /// The item of a row among the lines from one on that are deeper than a level, as one that is known.
+/// The rows are counted from the known item on or back to it, or from the first one on.
 pub(crate) fn known_to(
     rows: &Rows<'_>,
     document: Stretch,
@@ -160,14 +214,17 @@ pub(crate) fn known_to(
 ) -> Option<KnownItem>
     requires shown { IsShown rows.now }
     requires document { HasDocument rows.now document }
-    requires under { under.row < length rows.now.rows }
+    requires order { under.row < row }
     requires within { row < length rows.now.rows }
     ensures known { IfSome result (IsKnown rows.now.rows) }
     ensures row { IfSome result (λ k. k.row ≡ row) }
 {
-    if let Some(known) = document.known {
-        if is_among(known, under, floor) && known.row <= row {
+    if let Some(known) = known_among(rows, document, under, floor) {
+        if known.row <= row {
             return known_further(rows, known, row);
+        }
+        if known.row - row <= row - under.row {
+            return known_back(rows, known, row);
         }
     }
     let first = first_known(rows, under, floor)?;

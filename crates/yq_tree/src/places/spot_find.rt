@@ -3,9 +3,10 @@ ghost use Rattle.std.specs.Prelude.{IfSome};
 ghost use Rattle.yq_inline.specs.Entries.{step_of};
 ghost use Rattle.yq_scalar.specs.Paths as steps;
 ghost use Rattle.yq_tree.specs.Extents.{IsShown};
-ghost use Rattle.yq_tree.specs.RowWalk.{Finds, HasDocument, IsLine, IsSpot};
+ghost use Rattle.yq_tree.specs.RowWalk.{Finds, HasDocument, HaveKeys, IsLine, IsSpot};
 
 use crate::places::known_item::walk_begin;
+use crate::places::known_key::key_near;
 use crate::places::spot::{Spot, Stretch, behind, is_deeper};
 use crate::places::spot_marks::{is_item_at, is_key};
 use yq_inline::Step;
@@ -33,6 +34,28 @@ fn find_key(
         at = behind(rows, document, at);
     }
     None
+}
+
+/// The same, where the entry is looked for near one that is known first.
+fn find_entry(
+    rows: &Rows<'_>,
+    document: Stretch,
+    under: Spot,
+    floor: usize,
+    key: &str,
+) -> Option<Spot>
+    requires shown { IsShown rows.now }
+    requires document { HasDocument rows.now document }
+    requires under { IsSpot rows.now document under }
+    requires keys { HaveKeys rows.now document under floor }
+    ensures within { IfSome result (IsLine rows.now document) }
+    ensures found { Finds rows.now document under floor (steps.To key.now) result }
+{
+    let near = key_near(rows, document, under, floor, key);
+    if near.is_some() {
+        return near;
+    }
+    find_key(rows, document, under, floor, key)
 }
 
 /// The line of an item, by its index, among the lines of a document from one on that are deeper than a
@@ -74,11 +97,12 @@ pub(crate) fn find_step(
     requires shown { IsShown rows.now }
     requires document { HasDocument rows.now document }
     requires under { IsSpot rows.now document under }
+    requires keys { HaveKeys rows.now document under floor }
     ensures within { IfSome result (IsLine rows.now document) }
     ensures found { Finds rows.now document under floor (step_of step.now) result }
 {
     match step {
-        Step::Key(key) => find_key(rows, document, under, floor, key.as_str()),
+        Step::Key(key) => find_entry(rows, document, under, floor, key.as_str()),
         Step::Index(index) => find_item(rows, document, under, floor, *index),
     }
 }

@@ -6,7 +6,7 @@ ghost use Rattle.yq_lines.specs.Spots as spots;
 ghost use Rattle.yq_documents.specs.Lines.{lines_of};
 ghost use Rattle.yq_tree.specs.Extents.{IsShown};
 ghost use Rattle.yq_tree.specs.RowWalk as spec;
-ghost use Rattle.yq_tree.specs.RowWalk.{HasDocument, IsLine, IsSpot, LeadsTo, OfLines, line_number};
+ghost use Rattle.yq_tree.specs.RowWalk.{HasDocument, HaveKeys, IsLine, IsSpot, LeadsTo, OfLines, line_number};
 
 use crate::places::spot::{Spot, Stretch, is_deeper, level_at, next};
 use crate::places::spot_find::find_step;
@@ -54,6 +54,7 @@ fn next_in(
     requires shown { IsShown rows.now }
     requires document { HasDocument rows.now document }
     requires under { IsSpot rows.now document under }
+    requires keys { HaveKeys rows.now document under floor }
     ensures within { IfSome result (λ x. IsLine rows.now document (spec.next_spot x)) }
     ensures found { LeadsTo rows.now document (λ ls n ss. spots.reach_in ls (n under) floor (step_of step.now) ss) (step_of step.now) result }
 {

@@ -1,12 +1,11 @@
 //! The rows of documents among those of a text, and lines of them at paths.
 ghost use Rattle.std.specs.Prelude.{◌≡◌, ◌&&◌, ◌==◌, ◌-◌, map, option_map, if◌then◌else◌, IfSome};
 ghost use Rattle.yq_inline.specs.Entries.{step_of};
-ghost use Rattle.yq_rows.specs.View.{shown};
 ghost use Rattle.yq_documents.specs.Reading.{cut_of};
 ghost use Rattle.yq_documents.specs.Seats.{document_row, seat_at, seat_of};
 ghost use Rattle.yq_tree.specs.Extents.{IsShown};
 ghost use Rattle.yq_tree.specs.RowWalk as spec;
-ghost use Rattle.yq_tree.specs.RowWalk.{HasDocument, IsKnown};
+ghost use Rattle.yq_tree.specs.RowWalk.{HasDocument};
 ghost use Rattle.yq_tree.specs.SeatReading.{numbers, told};
 
 use crate::cut_text::CutText;
@@ -79,8 +78,9 @@ impl<'d, 't> CutText<'d, 't> {
     /// The rows of document `doc`, counted from 0, if there is one.
     pub(crate) fn stretch(&self, doc: usize) -> Option<Stretch>
         ensures place { option_map spec.stretch_told result ≡ spec.document_rows doc (cut_of self.now) }
-        ensures known { IfSome result (λ d. IfSome d.known (IsKnown (shown (cut_of self.now)).rows)) }
+        ensures known { IfSome result (λ d. spec.MayWalk d (cut_of self.now)) }
     {
+        let _whole = self.whole();
         let rows = self.rows();
         let known = self.known();
         begin_rows(rows, first_is_document(rows), doc, known)

@@ -2,18 +2,16 @@ use Rattle.std.proofs.Common.{◌≡◌, ℕ, ◌+◌, List, [], ◌++◌, true,
 use Rattle.std.proofs.lemmas.List.Elements.{All-push}
 use Rattle.yq_scalar.specs.Text.{is_empty}
 use Rattle.yq_rows.specs.Grammar.{begins_document}
-use Rattle.yq_rows.specs.Kept.{HavePlaces, shown_in}
 use Rattle.yq_rows.specs.Offsets.{Ends, rows_in}
 use Rattle.yq_rows.specs.Ends.{EndStands, EndsStand, bounds_in}
-use Rattle.yq_rows.specs.declared.offsets.Offsets.{Offsets}
+use Rattle.yq_rows.specs.declared.places.Places.{Places}
 use Rattle.yq_rows.proofs.EndsNear.{ends_placed_end, ends_placed_step, kept_part}
 use Rattle.yq_rows.proofs.Failing.{fails_by}
 use Rattle.yq_rows.proofs.NearLaws.{near_read, parts_placed_end, parts_placed_step}
 use Rattle.yq_rows.proofs.OffsetLaws.{ends_next, rows_length}
 use Rattle.yq_rows.proofs.PartLending.{one_part, end_ends, empty_by, bounds_push, part_is_marker, part_smaller, parts_none, parts_unmarked, parts_end, parts_more}
 use Rattle.yq_rows.proofs.PartsLaws.{marker_takes}
-use Rattle.yq_rows.proofs.PlacedLaws.{one_side, texts_stand}
-use Rattle.yq_rows.proofs.RestLending.{read_rises}
+use Rattle.yq_rows.proofs.PlacedLaws.{Scanned, scanned_places, scanned_shown}
 use Rattle.yq_rows.proofs.scanning.cut.Goals as goal
 
 pub returns-in-Err-clause-read : goal.returns-in-Err-clause-read
@@ -24,8 +22,8 @@ end_of-requires-clause-ends c =
     let part = one_part (rows_in c.args.text.now c.parts.rows.items) c.parts.is_open c.parts.rest.now (rows_in c.args.text.now c.in-Ok.part.0.items) c.in-Ok.part.1.now c.in-Ok.part.2.now c.in-Ok.ensures.found in
     end_ends c.args.text.now c.parts.rest.now c.in-Ok.part.1.now c.in-Ok.part.2.now c.parts.is_open part.part c.parts.invariant.ends part.read part.end_is
 
-pub invariant_of-result : goal.invariant_of-result
-invariant_of-result c =
+scanned : (c : goal.After-of-text) → Scanned c.args.text.now c.of-text.result (record { front = c.in-Ok.part.0; behind = c.new-behind.result; ends = c.push.new.self; split = length c.args.text.now })
+scanned c =
     let whole = c.args.text.now in
     let none : is_empty c.in-Ok.part.2.now ≡ true = empty_by c.in-Ok.part.2.now _ true c.is_empty.ensures c.if-is_empty.true in
     let count : c.len-count.result ≡ length (rows_in whole c.in-Ok.part.0.items) = c.len-count.ensures ∙ (c.in-Ok.part.0.ok.0 ∙ rows_length whole c.in-Ok.part.0.items) in
@@ -35,26 +33,33 @@ invariant_of-result c =
     let kept = kept_part c.parts.is_open whole c.parts.rest.now c.in-Ok.part.2.now [] c.in-Ok.part.2.now c.in-Ok.part.1.now (length c.parts.rows.items) c.len-count.result part.part c.end_of.result c.parts.invariant.ends part.read part.end_is refl rows c.end_of.ensures.place in
     let read = parts_end _ (rows_in whole c.in-Ok.part.0.items) _ _ _ _ _ _ _ _ c.in-Ok.ensures.found none count pushed c.parts.invariant.so_far in
     let stand = subst (EndsStand whole) (sym c.in_ok-push.ensures.items) (All-push (EndStands whole) c.parts.ends.items c.end_of.result c.parts.invariant.ends_stand c.end_of.ensures.stands) in
-    subst (λ (os : List Offsets). HavePlaces whole os c.push.new.self.items) (sym (one_side (length whole) c.in-Ok.part.0.items c.new-behind.result.items c.new-behind.ensures.items)) (
-      read_rises whole _ (rows_in whole c.in-Ok.part.0.items) _ read,
-      c.in-Ok.ensures.kept,
-      stand,
-      near_read whole c.in-Ok.part.0.items _ _
+    record {
+      read = near_read whole c.in-Ok.part.0.items _ _
           (parts_placed_end c.parts.rows.items c.in-Ok.part.0.items (length whole - length c.parts.rest.now) c.parts.is_open c.parts.rest.now c.in-Ok.part.2.now part.part _ part.read none c.in-Ok.ensures.placed c.parts.invariant.placed)
           (ends_placed_end c.parts.ends.items _ c.end_of.result whole c.parts.rest.now c.in-Ok.part.2.now (length c.parts.rows.items) c.parts.is_open part.part _ part.read none kept c.in_ok-push.ensures.items c.parts.invariant.ends_placed)
-          read
-          (λ xs e. texts_stand whole c.in-Ok.part.0.items c.push.new.self.items xs c.utf8.text c.in-Ok.ensures.kept stand e)
-          c.requires,
-    )
+          read;
+      front_is = c.of-text.ensures.front;
+      back_is = c.of-text.ensures.back;
+      none_behind = c.new-behind.ensures.items;
+      split_is = refl;
+      characters = c.utf8.text;
+      rows_stand = c.in-Ok.ensures.kept;
+      ends_stand = stand;
+      small = c.requires;
+    }
+
+pub invariant_of-result : goal.invariant_of-result
+invariant_of-result c = scanned_places c.args.text.now c.of-text.result (record { front = c.in-Ok.part.0; behind = c.new-behind.result; ends = c.push.new.self; split = length c.args.text.now }) (scanned c)
 
 pub returns-then-is_empty-clause-read : goal.returns-then-is_empty-clause-read
 returns-then-is_empty-clause-read c =
     let whole = c.args.text.now in
+    let p : Places = record { front = c.in-Ok.part.0; behind = c.new-behind.result; ends = c.push.new.self; split = length whole } in
     let none : is_empty c.in-Ok.part.2.now ≡ true = empty_by c.in-Ok.part.2.now _ true c.is_empty.ensures c.if-is_empty.true in
     let count : c.len-count.result ≡ length (rows_in whole c.in-Ok.part.0.items) = c.len-count.ensures ∙ (c.in-Ok.part.0.ok.0 ∙ rows_length whole c.in-Ok.part.0.items) in
     let pushed = bounds_push whole c.parts.ends.items _ c.end_of.result _ c.in_ok-push.ensures.items c.end_of.ensures.same in
     parts_end _ (rows_in whole c.in-Ok.part.0.items) _ _ _ _ _ _ _ _ c.in-Ok.ensures.found none count pushed c.parts.invariant.so_far
-    ∙ ap (λ (os : List Offsets). Some (shown_in whole os (bounds_in whole c.push.new.self.items))) (sym (one_side (length whole) c.in-Ok.part.0.items c.new-behind.result.items c.new-behind.ensures.items))
+    ∙ ap Some (sym (scanned_shown whole c.of-text.result p (scanned c)))
 
 pub read_marker-requires : goal.read_marker-requires
 read_marker-requires c =

@@ -4,4 +4,4 @@ use Rattle.yq_rows.proofs.PlacedLaws.{places_of}
 use Rattle.yq_rows.proofs.scanning.Rows.into_places.Goals as goal
 
 pub returns : goal.returns
-returns c = subst (IsPlaced c.self.inside.places) c.self.view_is (places_of c.self.inside.text.now c.self.inside.places _ c.self.invariant.3)
+returns c = subst (IsPlaced c.self.inside.places) c.self.view_is (places_of c.self.inside.text c.self.inside.places c.self.invariant)

@@ -1,11 +1,9 @@
-use Rattle.std.proofs.Common.{length, subst}
-use Rattle.yq_rows.specs.Kept.{AreNear, placed_rows}
-use Rattle.yq_rows.proofs.NearLaws.{own_lengths}
+use Rattle.std.proofs.Common.{ap, slice_get, ◌∙◌}
+use Rattle.yq_rows.specs.View.{Shown}
+use Rattle.yq_rows.proofs.KeptPlaces.{kept_lengths}
 use Rattle.yq_rows.proofs.scanning.Rows.level.Goals as goal
 
 pub returns : goal.returns
 returns c s there =
-    let t = c.self.inside.text.now in
-    let rows = placed_rows (length t) c.self.inside.places in
-    let near = subst (AreNear t rows c.self.inside.places.ends.items) c.self.view_is c.self.invariant.3 in
-    c.level.ensures s (own_lengths t rows c.self.inside.places.ends.items c.args.self.now c.args.i c.place.result s near there c.place.ensures)
+    let own = ap (λ (v : Shown). slice_get v.rows c.args.i) c.self.view_is ∙ there in
+    c.level.ensures s (kept_lengths c.self.inside.text c.self.inside.places c.args.i c.kept.result.now s c.self.invariant own c.kept.ensures)

@@ -1,11 +1,28 @@
-use Rattle.std.proofs.Common.{length, subst, ◌∙◌}
-use Rattle.yq_rows.specs.Kept.{AreNear, placed_rows}
-use Rattle.yq_rows.proofs.NearLaws.{row_starts}
+use Rattle.std.proofs.Common.{◌-◌, ◌<◌, ◌∙◌, ap, arith, length, length-append, subst, sym}
+use Rattle.yq_rows.specs.RowStarts.{row_start}
+use Rattle.yq_rows.specs.View.{Shown}
+use Rattle.yq_rows.proofs.KeptPlaces.{back_within, halves_small, start_back, start_front}
 use Rattle.yq_rows.proofs.scanning.Rows.start.Goals as goal
+
+pub returns-then-i-len : goal.returns-then-i-len
+returns-then-i-len c =
+    let within = subst (λ (v : Shown). c.args.i < length v.rows) (sym c.self.view_is) c.requires in
+    c.start-start.ensures
+    ∙ (start_front c.self.inside.text c.self.inside.places c.args.i c.kept.result.now c.self.invariant within c.kept.ensures (omega (arith, c.self.inside.places.front.ok.0))
+    ∙ ap (row_start c.args.i) c.self.view_is)
+
+pub len-requires-2 : goal.len-requires-2
+len-requires-2 c = let small = halves_small c.self.inside.text c.self.inside.places c.self.invariant in omega (arith, small)
+
+pub overflow_sub-result : goal.overflow_sub-result
+overflow_sub-result c =
+    let text = c.self.inside.text in
+    let within = back_within text c.self.inside.places c.args.i c.kept.result.now c.self.invariant c.kept.ensures (omega (arith, c.self.inside.places.front.ok.0)) in
+    omega (arith, within, length-append text.front.now text.back.now)
 
 pub returns : goal.returns
 returns c =
-    let t = c.self.inside.text.now in
-    let rows = placed_rows (length t) c.self.inside.places in
-    let near = subst (AreNear t rows c.self.inside.places.ends.items) c.self.view_is c.self.invariant.3 in
-    c.start.ensures ∙ row_starts t rows c.self.inside.places.ends.items c.args.self.now c.args.i c.place.result near c.requires c.place.ensures
+    let within = subst (λ (v : Shown). c.args.i < length v.rows) (sym c.self.view_is) c.requires in
+    rw (c.len-2.ensures, c.start-start.ensures)
+    (start_back c.self.inside.text c.self.inside.places c.args.i c.kept.result.now c.self.invariant within c.kept.ensures (omega (arith, c.self.inside.places.front.ok.0))
+    ∙ ap (row_start c.args.i) c.self.view_is)

@@ -14,7 +14,7 @@ returns-in_err-collection c =
 
 pub end_at-requires : goal.end_at-requires
 end_at-requires c =
-    let u : IsUtf8 c.args.self.now = subst IsUtf8 c.whole-whole.ensures.text c.whole-whole.utf8 in
+    let u : IsUtf8 c.args.self.now = c.whole-whole.ensures.utf8 in
     subst (λ t. IsCharBoundary t c.in_ok-collection.collection.place.end) (sym c.whole-whole.ensures.text)
     (end_boundary c.args.self.now c.args.path.now (span c.in_ok-collection.collection.place) c.whole-whole.ensures.cut c.whole-whole.ensures.documents u c.in_ok-collection.ensures.place)
 

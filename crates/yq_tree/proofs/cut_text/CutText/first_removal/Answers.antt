@@ -18,18 +18,18 @@ returns-in_err-span c = rw c.from_residual-in_err-span.ensures (no_first_entry c
 
 pub cut_at-requires-clause-order : goal.cut_at-requires-clause-order
 cut_at-requires-clause-order c =
-    let u : IsUtf8 c.args.self.now = subst IsUtf8 c.whole-whole.ensures.text c.whole-whole.utf8 in
+    let u : IsUtf8 c.args.self.now = c.whole-whole.ensures.utf8 in
     (entry_stands c.args.self.now (cut_of c.args.self.now) c.args.path.now c.in_ok-span.span.start c.in_ok-span.span.end u c.whole-whole.ensures.cut c.whole-whole.ensures.documents _ (told c.in_ok-seat.seat) c.in_ok-seat.ensures c.in_ok-span.ensures).order
 
 pub cut_at-requires-clause-start : goal.cut_at-requires-clause-start
 cut_at-requires-clause-start c =
-    let u : IsUtf8 c.args.self.now = subst IsUtf8 c.whole-whole.ensures.text c.whole-whole.utf8 in
+    let u : IsUtf8 c.args.self.now = c.whole-whole.ensures.utf8 in
     let h = entry_stands c.args.self.now (cut_of c.args.self.now) c.args.path.now c.in_ok-span.span.start c.in_ok-span.span.end u c.whole-whole.ensures.cut c.whole-whole.ensures.documents _ (told c.in_ok-seat.seat) c.in_ok-seat.ensures c.in_ok-span.ensures in
     subst (λ (t : List ℕ). IsCharBoundary t c.in_ok-span.span.start) (sym c.whole-whole.ensures.text) h.begins
 
 pub cut_at-requires-clause-end : goal.cut_at-requires-clause-end
 cut_at-requires-clause-end c =
-    let u : IsUtf8 c.args.self.now = subst IsUtf8 c.whole-whole.ensures.text c.whole-whole.utf8 in
+    let u : IsUtf8 c.args.self.now = c.whole-whole.ensures.utf8 in
     let h = entry_stands c.args.self.now (cut_of c.args.self.now) c.args.path.now c.in_ok-span.span.start c.in_ok-span.span.end u c.whole-whole.ensures.cut c.whole-whole.ensures.documents _ (told c.in_ok-seat.seat) c.in_ok-seat.ensures c.in_ok-span.ensures in
     subst (λ (t : List ℕ). IsCharBoundary (drop c.in_ok-span.span.start t) (c.in_ok-span.span.end - c.in_ok-span.span.start)) (sym c.whole-whole.ensures.text) h.ends
 
@@ -38,7 +38,7 @@ returns c =
     let t : List ℕ = c.args.self.now in
     let from : ℕ = c.in_ok-span.span.start in
     let size : ℕ = c.in_ok-span.span.end - from in
-    let u : IsUtf8 t = subst IsUtf8 c.whole-whole.ensures.text c.whole-whole.utf8 in
+    let u : IsUtf8 t = c.whole-whole.ensures.utf8 in
     let h = entry_stands t (cut_of t) c.args.path.now from c.in_ok-span.span.end u c.whole-whole.ensures.cut c.whole-whole.ensures.documents _ (told c.in_ok-seat.seat) c.in_ok-seat.ensures c.in_ok-span.ensures in
     let text = c.whole-whole.ensures.text in
     let before = c.cut_at.ensures.before ∙ (ap (take from) text ∙ h.before_is) in

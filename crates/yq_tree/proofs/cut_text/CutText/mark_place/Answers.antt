@@ -1,4 +1,5 @@
 use Rattle.std.proofs.Common.{option_map, sym, ap, ◌∙◌}
+use Rattle.yq_text.specs.Halves.{whole}
 use Rattle.yq_rows.specs.View.{view}
 use Rattle.yq_tree.specs.CommentPlaces.{line_end}
 use Rattle.yq_tree.specs.CommentTelling.{end_told}
@@ -20,19 +21,19 @@ returns-in_err-seat c = ap (option_map mark_told) c.from_residual-in_err-seat.en
 
 pub row-requires : goal.row-requires
 row-requires c =
-    row_within c.self.inside.text.now c.self.inside.rows.now c.args.path.now (told c.in_ok-seat.seat) c.self.invariant.0
+    row_within (whole c.self.inside.text) c.self.inside.rows.now c.args.path.now (told c.in_ok-seat.seat) c.self.invariant.0
     (c.in_ok-seat.ensures ∙ ap (λ t. option_map (numbers (document_row c.args.path.now.doc (cut_of t))) (seat_at c.args.path.now (cut_of t))) (sym c.self.view_is))
 
 pub mark_at-requires : goal.mark_at-requires
 mark_at-requires c =
-    ends_there c.self.inside.text.now c.self.inside.rows.now c.self.invariant.0 c.args.path.now (told c.in_ok-seat.seat)
+    ends_there (whole c.self.inside.text) c.self.inside.rows.now c.self.invariant.0 c.args.path.now (told c.in_ok-seat.seat)
     (c.in_ok-seat.ensures ∙ ap (λ t. option_map (numbers (document_row c.args.path.now.doc (cut_of t))) (seat_at c.args.path.now (cut_of t))) (sym c.self.view_is))
     (end_told c.in_ok-end.end) (c.in_ok-end.ensures ∙ ap (λ t. line_end c.args.path.now.doc (steps_of c.args.path.now) (cut_of t)) (sym c.self.view_is))
     (view c.row.result) c.row.ensures
 
 pub returns : goal.returns
 returns c =
-    mark_there c.self.inside.text.now c.self.inside.rows.now c.self.invariant.0 c.args.path.now (told c.in_ok-seat.seat)
+    mark_there (whole c.self.inside.text) c.self.inside.rows.now c.self.invariant.0 c.args.path.now (told c.in_ok-seat.seat)
     (c.in_ok-seat.ensures ∙ ap (λ t. option_map (numbers (document_row c.args.path.now.doc (cut_of t))) (seat_at c.args.path.now (cut_of t))) (sym c.self.view_is))
     (end_told c.in_ok-end.end) (c.in_ok-end.ensures ∙ ap (λ t. line_end c.args.path.now.doc (steps_of c.args.path.now) (cut_of t)) (sym c.self.view_is))
     (view c.row.result) c.row.ensures (mark_told c.mark_at.result) c.mark_at.ensures

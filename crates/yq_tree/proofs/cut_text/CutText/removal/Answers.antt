@@ -1,4 +1,5 @@
 use Rattle.std.proofs.Common.{Some, sym, ap, ◌∙◌, subst}
+use Rattle.yq_text.specs.Halves.{whole}
 use Rattle.yq_rows.specs.Grammar.{IsCut}
 use Rattle.yq_rows.specs.View.{shown}
 use Rattle.yq_documents.specs.Located.{steps_of}
@@ -16,7 +17,7 @@ rows_out-requires c =
     let text = c.whole-whole.ensures.text in
     let cut = subst (λ t. IsCut t (cut_of t)) (sym text) c.whole-whole.ensures.cut in
     let rows = c.rows.ensures ∙ ap (λ t. shown (cut_of t)) (sym text) in
-    let x = taken_at c.whole-whole.result.now c.rows.result.now c.args.path.now.doc (steps_of c.args.path.now) _ cut rows (c.in_ok-marks.ensures ∙ ap (λ t. marks_at c.args.path.now.doc (steps_of c.args.path.now) (cut_of t)) (sym text)) in
+    let x = taken_at (whole c.whole-whole.result) c.rows.result.now c.args.path.now.doc (steps_of c.args.path.now) _ cut rows (c.in_ok-marks.ensures ∙ ap (λ t. marks_at c.args.path.now.doc (steps_of c.args.path.now) (cut_of t)) (sym text)) in
     record { part = x.part; rows = x.rows; is = x.is }
 
 pub returns : goal.returns
@@ -24,5 +25,5 @@ returns c =
     let text = c.whole-whole.ensures.text in
     let cut = subst (λ t. IsCut t (cut_of t)) (sym text) c.whole-whole.ensures.cut in
     let rows = c.rows.ensures ∙ ap (λ t. shown (cut_of t)) (sym text) in
-    let x = taken_at c.whole-whole.result.now c.rows.result.now c.args.path.now.doc (steps_of c.args.path.now) _ cut rows (c.in_ok-marks.ensures ∙ ap (λ t. marks_at c.args.path.now.doc (steps_of c.args.path.now) (cut_of t)) (sym text)) in
+    let x = taken_at (whole c.whole-whole.result) c.rows.result.now c.args.path.now.doc (steps_of c.args.path.now) _ cut rows (c.in_ok-marks.ensures ∙ ap (λ t. marks_at c.args.path.now.doc (steps_of c.args.path.now) (cut_of t)) (sym text)) in
     ap Some (c.rows_out.ensures x.part x.rows x.is) ∙ (sym x.place ∙ ap (λ t. removal_place c.args.path.now.doc (steps_of c.args.path.now) (cut_of t)) text)

@@ -1,14 +1,15 @@
 use Rattle.std.proofs.Common.{List, ℕ, take, drop, sym, ap, ◌∙◌, subst}
 use Rattle.std.specs.Str.{IsUtf8, IsCharBoundary}
+use Rattle.yq_text.specs.Halves.{whole}
 use Rattle.yq_tree.proofs.RootPlaceLaws.{unwritten_boundary, unwritten_told}
 use Rattle.yq_tree.proofs.cut_text.CutText.unwritten_place.Goals as goal
 
 pub split_at-requires : goal.split_at-requires
 split_at-requires c =
-    let u : IsUtf8 c.args.self.now = subst IsUtf8 c.whole-whole.ensures.text c.whole-whole.utf8 in
+    let u : IsUtf8 c.args.self.now = c.whole-whole.ensures.utf8 in
     subst (λ (t : List ℕ). IsCharBoundary t c.in_ok-end.end) (sym c.whole-whole.ensures.text) (unwritten_boundary c.args.self.now c.args.doc c.in_ok-end.end c.whole-whole.ensures.cut u c.in_ok-end.ensures)
 
 pub returns : goal.returns
 returns c =
-    unwritten_told c.args.self.now c.args.doc c.in_ok-end.end c.split_at.result.0.now c.split_at.result.1.now c.whole-whole.ensures.cut c.in_ok-end.ensures
+    unwritten_told c.args.self.now c.args.doc c.in_ok-end.end (whole c.split_at.result.0) (whole c.split_at.result.1) c.whole-whole.ensures.cut c.in_ok-end.ensures
     (c.split_at.ensures.front ∙ ap (take c.in_ok-end.end) c.whole-whole.ensures.text) (c.split_at.ensures.back ∙ ap (drop c.in_ok-end.end) c.whole-whole.ensures.text)

@@ -1,6 +1,5 @@
 use Rattle.std.proofs.Common.{◌≡◌, List, Some, map, option_map, refl, sym, ap, ◌∙◌, subst, arith}
 use Rattle.std.proofs.lemmas.Option.{slice_get_read}
-use Rattle.std.specs.Prelude.{IfSome}
 use Rattle.yq_inline.specs.Entries.{step_of, entry_view}
 use Rattle.yq_documents.specs.Located.{steps_of}
 use Rattle.yq_documents.specs.Reading.{cut_of}
@@ -8,7 +7,7 @@ use Rattle.yq_lines.specs.View.{flows, views}
 use Rattle.yq_lines.specs.declared.line.Line.{Line}
 use Rattle.yq_rows.specs.View.{shown}
 use Rattle.yq_tree.specs.EntryReading.{flow_entry_at, flow_entry_of}
-use Rattle.yq_tree.specs.RowWalk.{HasLines, HeldAs, IsKnown, document_rows, stretch_told}
+use Rattle.yq_tree.specs.RowWalk.{HasLines, HeldAs, MayWalk, document_rows, stretch_told}
 use Rattle.yq_tree.proofs.HeldFlows.{held_in, held_lines, held_within}
 use Rattle.yq_tree.proofs.WalkDocuments.{no_place_found}
 use Rattle.yq_tree.proofs.document.Documents.flow_entry.Goals as goal
@@ -25,7 +24,7 @@ index-requires c =
     omega (
       arith,
       held_within t c.self.inside.rows (shown (cut_of t)) c.self.inside.documents.items c.args.path.now.doc c.in_ok-document.document c.self.invariant refl (c.in_ok-document.ensures.place ∙ ap (λ x. document_rows c.args.path.now.doc (cut_of x)) same)
-          (subst (λ x. IfSome c.in_ok-document.document.known (IsKnown (shown (cut_of x)).rows)) same c.in_ok-document.ensures.known),
+          (subst (λ x. MayWalk c.in_ok-document.document (cut_of x)) same c.in_ok-document.ensures.known),
     )
 
 pub flow_entry-requires-clause-lines : goal.flow_entry-requires-clause-lines
@@ -36,7 +35,7 @@ flow_entry-requires-clause-lines c =
     let same : c.cut-cut.result ≡ t = c.cut-cut.ensures ∙ sym c.self.view_is in
     let is : c.rows.result.now ≡ shown (cut_of t) = c.rows.ensures ∙ ap (λ x. shown (cut_of x)) same in
     let e : Some (stretch_told d) ≡ document_rows i (cut_of t) = c.in_ok-document.ensures.place ∙ ap (λ x. document_rows i (cut_of x)) same in
-    let known : IfSome d.known (IsKnown (shown (cut_of t)).rows) = subst (λ x. IfSome d.known (IsKnown (shown (cut_of x)).rows)) same c.in_ok-document.ensures.known in
+    let known : MayWalk d (cut_of t) = subst (λ x. MayWalk d (cut_of x)) same c.in_ok-document.ensures.known in
     let within = held_within t c.self.inside.rows c.rows.result.now c.self.inside.documents.items i d c.self.invariant is e known in
     let there = slice_get_read c.self.inside.documents.items _ i c.index.result.now refl within c.index.ensures in
     subst (λ (ls : List Line). HasLines c.rows.result.now d (views ls)) (sym c.lines-lines.ensures)
@@ -50,7 +49,7 @@ returns c =
     let same : c.cut-cut.result ≡ t = c.cut-cut.ensures ∙ sym c.self.view_is in
     let is : c.rows.result.now ≡ shown (cut_of t) = c.rows.ensures ∙ ap (λ x. shown (cut_of x)) same in
     let e : Some (stretch_told d) ≡ document_rows i (cut_of t) = c.in_ok-document.ensures.place ∙ ap (λ x. document_rows i (cut_of x)) same in
-    let known : IfSome d.known (IsKnown (shown (cut_of t)).rows) = subst (λ x. IfSome d.known (IsKnown (shown (cut_of x)).rows)) same c.in_ok-document.ensures.known in
+    let known : MayWalk d (cut_of t) = subst (λ x. MayWalk d (cut_of x)) same c.in_ok-document.ensures.known in
     let within = held_within t c.self.inside.rows c.rows.result.now c.self.inside.documents.items i d c.self.invariant is e known in
     let there = slice_get_read c.self.inside.documents.items _ i c.index.result.now refl within c.index.ensures in
     held_in t c.self.inside.rows c.rows.result.now c.self.inside.documents.items i d c.self.invariant is e known c.index.result.now there _ (λ k cut rs. flow_entry_of k cut rs (steps_of c.args.path.now))

@@ -1,13 +1,13 @@
-use Rattle.std.proofs.Common.{length, drop, ap, ◌∙◌}
-use Rattle.yq_tree.specs.FirstPlaces.{less_spaces}
+use Rattle.std.proofs.Common.{drop, ap, ◌∙◌}
+use Rattle.yq_text.specs.Halves.{whole}
 use Rattle.yq_tree.proofs.FirstLaws.{front_less, spaces_boundary}
 use Rattle.yq_tree.proofs.places.halves.split_end_spaces.Goals as goal
 
 pub split_at-requires : goal.split_at-requires
-split_at-requires c = spaces_boundary c.args.text.now c.less_spaces_len.result (c.less_spaces_len.ensures.value ∙ ap (λ t. length (less_spaces t)) c.as_bytes.ensures.value)
+split_at-requires c = spaces_boundary (whole c.args.text) c.less_spaces_len.result c.less_spaces_len.ensures.value
 
 pub returns-clause-front : goal.returns-clause-front
-returns-clause-front c = c.split_at.ensures.front ∙ front_less c.args.text.now c.less_spaces_len.result (c.less_spaces_len.ensures.value ∙ ap (λ t. length (less_spaces t)) c.as_bytes.ensures.value)
+returns-clause-front c = c.split_at.ensures.front ∙ front_less (whole c.args.text) c.less_spaces_len.result c.less_spaces_len.ensures.value
 
 pub returns-clause-spaces : goal.returns-clause-spaces
-returns-clause-spaces c = c.split_at.ensures.back ∙ ap (λ n. drop n c.args.text.now) (c.less_spaces_len.ensures.value ∙ ap (λ t. length (less_spaces t)) c.as_bytes.ensures.value)
+returns-clause-spaces c = c.split_at.ensures.back ∙ ap (λ n. drop n (whole c.args.text)) c.less_spaces_len.ensures.value

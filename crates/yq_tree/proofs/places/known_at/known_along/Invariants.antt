@@ -1,4 +1,4 @@
-use Rattle.std.proofs.Common.{◌<◌, length}
+use Rattle.std.proofs.Common.{length}
 use Rattle.std.specs.Prelude.{IfSome}
 use Rattle.yq_tree.specs.RowWalk.{IsKnown, IsLine}
 use Rattle.yq_tree.proofs.places.known_at.known_along.Given as goal
@@ -11,5 +11,4 @@ abbrev pub invariant-steps : goal.invariant-steps
 invariant-steps l = record {
   from : IfSome l.from (IsLine l.rows l.document);
   known : IfSome l.found (IsKnown l.rows.rows);
-  within : IfSome l.found (λ k. k.row < length l.rows.rows);
 }
