@@ -1,5 +1,5 @@
 -- The text and the rows of a session follow an operation that is carried out by segments.
-use Rattle.std.proofs.Common.{◌≡◌, ◌⊎◌, inl, inr, ℕ, ◌+◌, ◌-◌, ◌≤◌, Bool, true, false, cond, ltb, List, [], ◌∷◌, ◌++◌, length, take, drop, Option, Some, None, IfSome, string_bytes, refl, sym, ap, ◌∙◌, subst, arith, append-nil, eqb, eqb-true, Vec, vec_len}
+use Rattle.std.proofs.Common.{◌≡◌, ◌⊎◌, inl, inr, ℕ, ◌+◌, ◌-◌, ◌≤◌, Bool, true, false, cond, ltb, List, [], ◌∷◌, ◌++◌, length, take, drop, Some, string_bytes, refl, sym, ap, ◌∙◌, subst, arith, append-nil, eqb, eqb-true, Vec, vec_len}
 use Rattle.std.proofs.lemmas.Bool.{false≢true, le-ltb}
 use Rattle.std.proofs.lemmas.List.{length-append}
 use Rattle.std.proofs.lemmas.Option.{same_Some}
@@ -17,8 +17,8 @@ use Rattle.yq_rows.specs.declared.places.Places.{Places}
 use Rattle.yq_rows.proofs.MeterLaws.{counted_within}
 use Rattle.yq_documents.specs.Documents.{Document, Reads}
 use Rattle.yq_documents.specs.Reading.{documents, cut_of, read_at}
-use Rattle.yq_tree.specs.RowWalk.{IsKnown, StaysKnown}
-use Rattle.yq_tree.specs.declared.places.spot.KnownItem.{KnownItem}
+use Rattle.yq_tree.specs.RowWalk.{AreKnown, StayKnown}
+use Rattle.yq_tree.specs.declared.places.spot.KnownItems.{KnownItems}
 use Rattle.yq_tree.proofs.ExactReading.{parts_read}
 use Rattle.yq_meaning.specs.Fits.{Fits}
 use Rattle.yq_meaning.specs.Operations.{Operation}
@@ -35,12 +35,12 @@ use Rattle.yq_carrying.specs.Carrying.{carrying, or_stay}
 use Rattle.yq_carrying.proofs.CarryingLocalLaws.{carrying_local}
 use Rattle.yq_ways.specs.Local.{IsLocalTo}
 use Rattle.yq_ways.specs.Operands.{HasOperand}
-use Rattle.yq_ways.proofs.KeptSegments.{IsBetween, between}
+use Rattle.yq_script.proofs.KeptSegments.{IsBetween, between}
 use Rattle.yq_ways.proofs.TouchLaws.{local_touches}
 use Rattle.yq_flow_ways.proofs.CutLaws.{cut_read, cut_same, text_read}
 use Rattle.yq_splice.specs.Carried.{carried}
 use Rattle.yq_splice.specs.Edit.{gives}
-use Rattle.yq_splice.specs.Session.{HasPlaces, KnowsItem, Scans}
+use Rattle.yq_splice.specs.Session.{HasPlaces, KnowsItems, Scans}
 use Rattle.yq_splice.specs.Theorems.{IsFitting, IsApplied}
 use Rattle.yq_splice.specs.Valid.{segments_by}
 use Rattle.yq_splice.proofs.ApplyLaws.{fits, applied_by}
@@ -81,10 +81,9 @@ touches_itself n c =
     rest.1 ∙ ap (λ (l : List Item). in_front n xs ++ l) (sym (append-nil rest.0) ∙ ap (λ (l : List Item). rest.0 ++ l) (sym (none_behind xs))) in
     record { touched = rest.0; written = rest.0; old_are = all; new_are = all; front_same = refl; back_same = refl }
 
--- an item that stays known is so in the text itself
-pub known_here : (n : ℕ) (t : List ℕ) (k : Option KnownItem) → IfSome k (StaysKnown n (cut_of t)) → KnowsItem t k
-known_here n t None stays = tt
-known_here n t (Some k) stays = stays (cut_of t) 0 (touches_itself n (cut_of t))
+-- items that stay known are so in the text itself
+pub known_here : (n : ℕ) (t : List ℕ) (k : KnownItems) → StayKnown n (cut_of t) k → KnowsItems t k
+known_here n t k stay = stay (cut_of t) 0 (touches_itself n (cut_of t))
 
 -- ---- an operation by its segments
 
@@ -228,14 +227,13 @@ module _ (op : Operation) (t : List ℕ) (operand : HasOperand op) (fitting : Is
       read_after : read_at new ≡ Some new_cut
       read_after = ap read_at (sym text_after) ∙ made_read
 
-      known_by : (k : Option KnownItem) → IfSome k (StaysKnown kept.front (cut_of t)) → KnowsItem new k
-      known_by None stays = tt
-      known_by (Some k) stays =
-          subst (λ (d : Cut). IsKnown (shown d).rows k) (sym (cut_same new new_cut read_after))
-          (stays new_cut kept.back (subst (λ (d : Cut). TouchesOnly kept.front kept.back d new_cut) (sym (cut_same t c h.read)) told))
+      known_by : (k : KnownItems) → StayKnown kept.front (cut_of t) k → KnowsItems new k
+      known_by k stay =
+          subst (λ (d : Cut). AreKnown (shown d).rows k) (sym (cut_same new new_cut read_after))
+          (stay new_cut kept.back (subst (λ (d : Cut). TouchesOnly kept.front kept.back d new_cut) (sym (cut_same t c h.read)) told))
 
-      pub kept_after : (q : Places) (k : Option KnownItem) → ArePlacesOf new q → IfSome k (StaysKnown kept.front (cut_of t)) → HasPlaces new q × KnowsItem new k
-      kept_after q k placed stays = (record { cut = new_cut; read = read_after; placed = placed new_cut is_cut }, known_by k stays)
+      pub kept_after : (q : Places) (k : KnownItems) → ArePlacesOf new q → StayKnown kept.front (cut_of t) k → HasPlaces new q × KnowsItems new k
+      kept_after q k placed stay = (record { cut = new_cut; read = read_after; placed = placed new_cut is_cut }, known_by k stay)
 
       pub scans : (count before after : ℕ) → count ≡ before → CountsWritten t new kept count after → Scans op t new x.splices.items before after
       scans count before after is counts =

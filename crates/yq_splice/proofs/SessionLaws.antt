@@ -1,5 +1,5 @@
 -- A text with its cut, which a session keeps, and what is lent of it.
-use Rattle.std.proofs.Common.{◌≡◌, ℕ, ◌<◌, ◌≤◌, ◌^◌, List, ◌++◌, length, take, drop, Option, Some, IfSome, refl, sym, ap, ◌∙◌, subst, arith, append-nil}
+use Rattle.std.proofs.Common.{◌≡◌, ℕ, ◌<◌, ◌≤◌, ◌^◌, List, ◌++◌, length, take, drop, Option, Some, refl, sym, ap, ◌∙◌, subst, arith, append-nil}
 use Rattle.std.proofs.lemmas.List.{length-take-le, take-append-drop}
 use Rattle.std.proofs.lemmas.Str.{IsUtf8-from_is_utf8}
 use Rattle.std.specs.Str.{IsCharBoundary, IsUtf8, is_utf8}
@@ -17,8 +17,8 @@ use Rattle.yq_rows.specs.View.{Shown, shown}
 use Rattle.yq_rows.specs.declared.places.Places.{Places}
 use Rattle.yq_rows.proofs.PlacedLaws.{split_boundary}
 use Rattle.yq_documents.specs.Reading.{all_documents, documents, cut_of, read_at}
-use Rattle.yq_tree.specs.RowWalk.{HasCut, IsKnown}
-use Rattle.yq_tree.specs.declared.places.spot.KnownItem.{KnownItem}
+use Rattle.yq_tree.specs.RowWalk.{AreKnown, HasCut}
+use Rattle.yq_tree.specs.declared.places.spot.KnownItems.{KnownItems}
 use Rattle.yq_tree.proofs.ReadLaws.{text_takes, read_takes}
 use Rattle.yq_meaning.specs.Operations.{Operation}
 use Rattle.yq_script.specs.Changing.{IsChange}
@@ -29,7 +29,7 @@ use Rattle.yq_carrying.proofs.CarryingLaws.{carrying_is}
 use Rattle.yq_flow_ways.proofs.CutLaws.{cut_read, cut_same, text_read}
 use Rattle.yq_splice.specs.Carried.{carry_one, carried}
 use Rattle.yq_splice.specs.Edit.{gives, by_reading, edit_made}
-use Rattle.yq_splice.specs.Session.{HasPlaces, KnowsItem, NotOpened}
+use Rattle.yq_splice.specs.Session.{HasPlaces, KnowsItems, NotOpened}
 use Rattle.yq_splice.specs.Theorems.{HasReading}
 use Rattle.yq_splice.specs.Valid.{segments_by}
 use Rattle.yq_splice.proofs.TextFaults.{FailsToRead, text_unread}
@@ -88,9 +88,9 @@ module _ (t : List ℕ) (p : Places) (h : HasPlaces t p) where
       pub cut_lent : HasCut (whole text) r
       cut_lent = subst (λ (x : List ℕ). HasCut x r) (sym whole_lent) (has_cut t h.cut r h.read own)
 
-      -- an item that is known
-      pub known_lent : (k : Option KnownItem) → KnowsItem t k → IfSome k (IsKnown r.rows)
-      known_lent k is = subst (λ (x : Shown). IfSome k (IsKnown x.rows)) (sym (own ∙ ap shown (sym (cut_same t h.cut h.read)))) is
+      -- items that are known
+      pub known_lent : (k : KnownItems) → KnowsItems t k → AreKnown r.rows k
+      known_lent k is = subst (λ (x : Shown). AreKnown x.rows k) (sym (own ∙ ap shown (sym (cut_same t h.cut h.read)))) is
 
       -- and given back
       pub places_back : (q : Places) → IsPlaced q r → HasPlaces t q

@@ -1,5 +1,5 @@
 -- What a session is known by, and what an operation applied to it adds to its count.
-use Rattle.std.specs.Prelude.{◌≡◌, ◌≢◌, ◌⊎◌, ⊤, ℕ, ◌+◌, ◌≤◌, List, [], length, Option, Some, IfSome}
+use Rattle.std.specs.Prelude.{◌≡◌, ◌≢◌, ◌⊎◌, ⊤, ℕ, ◌+◌, ◌≤◌, List, [], length, Some}
 use Rattle.yq_scalar.specs.declared.fault.FaultKind.TheVariants.{NotUtf8}
 use Rattle.yq_scalar.specs.declared.fault.ReadError.{ReadError}
 use Rattle.yq_scalar.specs.declared.fault.ReadError.TheVariants as reading
@@ -10,8 +10,8 @@ use Rattle.yq_rows.specs.Touched.{TouchesOnly}
 use Rattle.yq_rows.specs.View.{shown}
 use Rattle.yq_rows.specs.declared.places.Places.{Places}
 use Rattle.yq_documents.specs.Reading.{cut_of, read_at}
-use Rattle.yq_tree.specs.RowWalk.{IsKnown}
-use Rattle.yq_tree.specs.declared.places.spot.KnownItem.{KnownItem}
+use Rattle.yq_tree.specs.RowWalk.{AreKnown}
+use Rattle.yq_tree.specs.declared.places.spot.KnownItems.{KnownItems}
 use Rattle.yq_meaning.specs.Operations.{Operation}
 use Rattle.yq_script.specs.Script.{Segment, kept_front, kept_back}
 use Rattle.yq_script.specs.Splice.{Splice}
@@ -31,9 +31,9 @@ pub record HasPlaces (t : List ℕ) (places : Places) : Type 0 where
   pub read : read_at t ≡ Some cut
   pub placed : IsPlaced places (shown cut)
 
--- an item that is kept is known among the rows of a text (own)
-abbrev pub KnowsItem : List ℕ → Option KnownItem → Type 0
-KnowsItem t known = IfSome known (IsKnown (shown (cut_of t)).rows)
+-- items that are kept are known among the rows of a text (own)
+abbrev pub KnowsItems : List ℕ → KnownItems → Type 0
+KnowsItems t known = AreKnown (shown (cut_of t)).rows known
 
 -- why no session of a text is opened: it has no reading, or memory ran out (own)
 abbrev pub NotOpened : ReadError → List ℕ → Type 0

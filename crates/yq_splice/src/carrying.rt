@@ -1,9 +1,9 @@
 //! Carrying out: operations done on a text, one after the other.
-ghost use Rattle.std.specs.Prelude.{◌≡◌, IfErr, IfOk, IfSome, string_bytes};
+ghost use Rattle.std.specs.Prelude.{◌≡◌, IfErr, IfOk, string_bytes};
 ghost use Rattle.yq_meaning.specs.Operations.{operation_of, operations_of};
 ghost use Rattle.yq_documents.specs.Reading.{cut_of};
 ghost use Rattle.yq_script.specs.Changing.{IsChange};
-ghost use Rattle.yq_tree.specs.RowWalk.{StaysKnown};
+ghost use Rattle.yq_tree.specs.RowWalk.{StayKnown};
 ghost use Rattle.yq_splice.specs.Answers.{Edits, Fails};
 ghost use Rattle.yq_splice.specs.Carried as spec;
 ghost use Rattle.yq_splice.specs.Edit.{behind};
@@ -16,35 +16,35 @@ use crate::operands::operand_holds;
 use crate::session::Session;
 use std::alloc::Global;
 use yq_carrying::op_segments;
-use yq_documents::Path;
 use yq_expr::Op;
 use yq_rows::Places;
 use yq_script::{Changed, Edited, Splice, changes, exchange};
-use yq_tree::{CutText, KnownItem, read};
+use yq_tree::{CutText, KnownItems, read};
 
-/// The path at which an operation acts.
-fn path_of(op: &Op) -> &Path {
+/// The same text, where what stands on the way of an operation is known.
+fn on_the_way<'d, 't>(cut: &CutText<'d, 't>, op: &Op) -> CutText<'d, 't>
+    ensures { result ≡ cut.now }
+{
     match op {
-        Op::Replace(path, _) => path,
-        Op::Append(path, _, _) => path,
-        Op::Remove(path) => path,
-        Op::LineComment(path, _) => path,
-        Op::HeadComment(path, _) => path,
+        Op::Replace(path, _) => cut.along(path),
+        Op::Append(path, _, _) => cut.along(path).to_end(path),
+        Op::Remove(path) => cut.along(path),
+        Op::LineComment(path, _) => cut.along(path),
+        Op::HeadComment(path, _) => cut.along(path),
     }
 }
 
-/// What an operation changes in a text with its cut, and an item on its way from which a walk may go on
-/// behind it.
+/// What an operation changes in a text with its cut, and what is known behind it of its way.
 pub(crate) fn change_one(
     alloc: Global,
     cut: &CutText<'_, '_>,
     op: &Op,
-) -> Result<(Changed, Option<KnownItem>), EditError>
+) -> Result<(Changed, KnownItems), EditError>
     ensures ok { IfOk result (λ x. IsChange (segments_by (operation_of op.now) (cut_of cut.now)) x.0) }
-    ensures known { IfOk result (λ x. IfSome x.1 (StaysKnown x.0.front (cut_of cut.now))) }
+    ensures known { IfOk result (λ x. StayKnown x.0.front (cut_of cut.now) x.1) }
     ensures err { IfErr result (λ e. Fails e (spec.carry_one (operation_of op.now) (cut_of cut.now))) }
 {
-    let cut = cut.along(path_of(op));
+    let cut = on_the_way(cut, op);
     let segments = op_segments(alloc, &cut, op)?;
     let _text = cut.text();
     let changed = changes(alloc, &segments)?;
@@ -56,7 +56,7 @@ pub(crate) fn change_one(
 pub(crate) fn carry_one(alloc: Global, cut: &CutText<'_, '_>, op: &Op) -> Result<Edited, EditError>
     ensures { Edits result (spec.carry_one (operation_of op.now) (cut_of cut.now)) }
 {
-    let segments = op_segments(alloc, &cut.along(path_of(op)), op)?;
+    let segments = op_segments(alloc, &on_the_way(cut, op), op)?;
     Ok(exchange(alloc, &segments)?)
 }
 

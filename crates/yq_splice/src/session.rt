@@ -1,12 +1,12 @@
 //! Sessions: operations applied to one text, whose rows are kept.
-ghost use Rattle.std.specs.Prelude.{◌≡◌, IfErr, IfOk, IfSome, OnErr, OnOk, string_bytes};
+ghost use Rattle.std.specs.Prelude.{◌≡◌, IfErr, IfOk, OnErr, OnOk, string_bytes};
 ghost use Rattle.yq_documents.specs.Reading.{cut_of, read_at};
 ghost use Rattle.yq_meaning.specs.Operations.{operation_of};
 ghost use Rattle.yq_rows.specs.Meter.{counted, line_count};
 ghost use Rattle.yq_scalar.specs.Answers.{Gives};
 ghost use Rattle.yq_script.specs.Changing.{IsChange};
 ghost use Rattle.yq_text.specs.Halves.{whole};
-ghost use Rattle.yq_tree.specs.RowWalk.{StaysKnown};
+ghost use Rattle.yq_tree.specs.RowWalk.{StayKnown};
 ghost use Rattle.yq_splice.specs.Answers.{Edits, Fails};
 ghost use Rattle.yq_splice.specs.Carried.{carried};
 ghost use Rattle.yq_splice.specs.Edit.{behind, gives};
@@ -26,7 +26,7 @@ use yq_scalar::ReadError;
 use yq_script::{Changed, Edited, Splice};
 use yq_session::{Kept, follow};
 use yq_text::{Halves, SplitText};
-use yq_tree::{CutText, KnownItem, read};
+use yq_tree::{CutText, KnownItems, read};
 
 /// A text that reads, kept with where its rows stand, both on two sides of where it was changed last: so that
 /// operations are applied to it one after the other, each passes what stands between its place and the last
@@ -37,19 +37,19 @@ pub struct Session {
     alloc: Global,
     text: SplitText,
     places: Places,
-    known: Option<KnownItem>,
+    known: KnownItems,
     meter: Meter,
 }
 
 impl Model for Session {
     ghost use Rattle.yq_text.specs.Split.{joined};
-    ghost use Rattle.yq_splice.specs.Session.{SessionState, HasPlaces, KnowsItem};
+    ghost use Rattle.yq_splice.specs.Session.{SessionState, HasPlaces, KnowsItems};
 
     ghost Value = { SessionState };
 
     ghost view = { λ s. record { text = joined s.text; scanned = s.meter } };
 
-    ghost invariant = { λ s. HasPlaces (joined s.text) s.places × KnowsItem (joined s.text) s.known };
+    ghost invariant = { λ s. HasPlaces (joined s.text) s.places × KnowsItems (joined s.text) s.known };
 }
 
 impl Session {
@@ -72,7 +72,7 @@ impl Session {
             alloc,
             text,
             places,
-            known: None,
+            known: KnownItems::none(),
             meter,
         })
     }
@@ -86,16 +86,17 @@ impl Session {
             alloc,
             text: SplitText::of(text),
             places,
-            known: None,
+            known: KnownItems::none(),
             meter: Meter::new(),
         }
     }
 
-    /// What an operation changes in the text, and an item on its way from which the next one may go on.
-    fn change(&mut self, op: &Op) -> Result<(Changed, Option<KnownItem>), EditError>
+    /// What an operation changes in the text, and what is known of its way behind it, from which the
+    /// next one may go on.
+    fn change(&mut self, op: &Op) -> Result<(Changed, KnownItems), EditError>
         ensures same { self.new ≡ self.old }
         ensures ok { IfOk result (λ x. IsChange (segments_by (operation_of op.now) (cut_of self.old.text)) x.0) }
-        ensures known { IfOk result (λ x. IfSome x.1 (StaysKnown x.0.front (cut_of self.old.text))) }
+        ensures known { IfOk result (λ x. StayKnown x.0.front (cut_of self.old.text) x.1) }
         ensures err { IfErr result (λ e. Fails e (carried (operation_of op.now) self.old.text)) }
     {
         let places = mem::replace(&mut self.places, Places::new(self.alloc));

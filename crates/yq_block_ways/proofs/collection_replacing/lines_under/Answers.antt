@@ -12,6 +12,6 @@ use Rattle.yq_block_ways.proofs.collection_replacing.lines_under.Goals as goal
 
 pub returns-clause-ends : goal.returns-clause-ends
 returns-clause-ends c = λ w x is.
-    subst (λ (p : MarkPlace × CollectionEnd). EndsIn p.0.behind.now p.1.behind.now) (same_Some _ _ is)
+    subst (λ (p : MarkPlace × CollectionEnd). EndsIn (whole p.0.behind) (whole p.1.behind)) (same_Some _ _ is)
     (ends_there c.args.cut.now c.args.path.now.doc (steps_of c.args.path.now) (mark_told c.in_ok-mark.mark) (collection_told c.in_ok-end.end) (subst IsUtf8 c.whole-whole.ensures.text c.whole-whole.utf8) c.whole-whole.ensures.cut
     c.whole-whole.ensures.documents c.in_ok-mark.ensures c.in_ok-end.ensures)

@@ -12,6 +12,6 @@ use Rattle.yq_block_ways.proofs.compact_replacing.compact_place.Goals as goal
 
 pub returns-clause-ends : goal.returns-clause-ends
 returns-clause-ends c = λ d x is.
-    subst (λ (p : DashPlace × CollectionEnd). EndsIn p.0.behind.now p.1.behind.now) (same_Some _ _ is)
+    subst (λ (p : DashPlace × CollectionEnd). EndsIn (whole p.0.behind) (whole p.1.behind)) (same_Some _ _ is)
     (compact_ends c.args.cut.now c.args.path.now.doc (steps_of c.args.path.now) (dash_told c.in_ok-dash.dash) (collection_told c.in_ok-end.end) (subst IsUtf8 c.whole-whole.ensures.text c.whole-whole.utf8) c.whole-whole.ensures.cut
     c.whole-whole.ensures.documents c.in_ok-dash.ensures c.in_ok-end.ensures)
