@@ -1,5 +1,5 @@
 -- A text with its cut, which a session keeps, and what is lent of it.
-use Rattle.std.proofs.Common.{◌≡◌, ℕ, ◌<◌, ◌≤◌, ◌^◌, List, ◌++◌, length, take, drop, Option, Some, refl, sym, ap, ◌∙◌, subst, arith, append-nil}
+use Rattle.std.proofs.Common.{◌≡◌, ℕ, ◌<◌, ◌≤◌, ◌^◌, true, List, ◌++◌, length, take, drop, Option, Some, None, refl, sym, ap, ◌∙◌, subst, arith, append-nil}
 use Rattle.std.proofs.lemmas.List.{length-take-le, take-append-drop}
 use Rattle.std.proofs.lemmas.Str.{IsUtf8-from_is_utf8}
 use Rattle.std.specs.Str.{IsCharBoundary, IsUtf8, is_utf8}
@@ -24,6 +24,7 @@ use Rattle.yq_meaning.specs.Operations.{Operation}
 use Rattle.yq_script.specs.Changing.{IsChange}
 use Rattle.yq_script.specs.Script.{Segment, new_text, old_text}
 use Rattle.yq_script.specs.declared.changed.Changed.{Changed}
+use Rattle.yq_session.specs.Following.{ArePlacesOf}
 use Rattle.yq_carrying.specs.Carrying.{carrying, or_stay}
 use Rattle.yq_carrying.proofs.CarryingLaws.{carrying_is}
 use Rattle.yq_flow_ways.proofs.CutLaws.{cut_read, cut_same, text_read}
@@ -62,24 +63,34 @@ not_opened (reading.Fault fault) bytes t same utf8 h = let k = text_unread bytes
 
 -- ---- its rows
 
+-- a text whose split was moved is the same
+pub moved_same : (t : List ℕ) (n : ℕ) (s : Split) → s.front ≡ take n t → s.back ≡ drop n t → joined s ≡ t
+moved_same t n s front back = (λ i. front i ++ back i) ∙ take-append-drop n t
+
+-- those of a text that is as before
+pub places_stay : (t u : List ℕ) (p q : Places) (k : KnownItems) → u ≡ t → HasPlaces t p → KnowsItems t k → ArePlacesOf u q → HasPlaces u q × KnowsItems u k
+places_stay t u p q k same h knows placed =
+    let read : read_at u ≡ Some h.cut = ap read_at same ∙ h.read in
+    (record { cut = h.cut; read = read; placed = placed h.cut (cut_read u h.cut read) }, subst (λ (x : List ℕ). KnowsItems x k) (sym same) knows)
+
 module _ (t : List ℕ) (p : Places) (h : HasPlaces t p) where
-  -- its split is in the text
+  -- their split is in the text
   pub split_is : IsCharBoundary t p.split
   split_is = split_boundary t h.cut p (cut_read t h.cut h.read) h.placed
 
-  -- lent on the halves of the text, which is split where they are
-  module _ (s : Split) (text : Halves) (q : Places) (front_is : text.front.now ≡ s.front) (back_is : text.back.now ≡ s.back) (front : s.front ≡ take p.split t) (back : s.back ≡ drop p.split t) (same : q ≡ p) where
+  -- lent on the halves of the text, which is split there
+  module _ (text : Halves) (lent : (text.front.now ≡ take p.split t) × (text.back.now ≡ drop p.split t)) where
     pub whole_lent : whole text ≡ t
-    whole_lent = (λ i. (front_is ∙ front) i ++ (back_is ∙ back) i) ∙ take-append-drop p.split t
+    whole_lent = (λ i. lent.0 i ++ lent.1 i) ∙ take-append-drop p.split t
 
     own_cut : (d : Cut) → IsCut t d → IsCut (whole text) d
     own_cut d = subst (λ (x : List ℕ). IsCut x d) (sym whole_lent)
 
-    pub split_lent : length text.front.now ≡ q.split
-    split_lent = ap length (front_is ∙ front) ∙ (length-take-le p.split t split_is.0 ∙ ap (λ (x : Places). x.split) (sym same))
+    pub split_lent : length text.front.now ≡ p.split
+    split_lent = ap length lent.0 ∙ length-take-le p.split t split_is.0
 
-    pub places_lent : (c : Cut) × IsCut (whole text) c × IsPlaced q (shown c)
-    places_lent = (h.cut, own_cut h.cut (cut_read t h.cut h.read), subst (λ (x : Places). IsPlaced x (shown h.cut)) (sym same) h.placed)
+    pub places_lent : (c : Cut) × IsCut (whole text) c × IsPlaced p (shown c)
+    places_lent = (h.cut, own_cut h.cut (cut_read t h.cut h.read), h.placed)
 
     module _ (r : Shown) (shows : (c : Cut) → IsCut (whole text) c → r ≡ shown c) where
       own : r ≡ shown h.cut
