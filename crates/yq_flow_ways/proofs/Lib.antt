@@ -20,3 +20,4 @@ pub mod FlowAppendAnswers
 pub mod SoleLaws
 pub mod SoleAnswers
 pub mod FlowRests
+pub mod FlowLonger

@@ -34,14 +34,14 @@ fn is_closed_text(text: &[u8]) -> bool
 }
 
 /// The same of a text in two halves.
-#[tactic(auto, unfolding(crate::specs::RootWriting::is_closed_text))]
+#[tactic(auto, using(crate::proofs::RootAnswers::half_told))]
 fn is_closed(text: Halves<'_>) -> bool
     ensures { result ≡ spec.is_closed_text (whole text.entry) }
 {
-    match text.back.as_bytes() {
-        [] => is_closed_text(text.front.as_bytes()),
-        back => is_closed_text(back),
+    if text.back.is_empty() {
+        return is_closed_text(text.front.as_bytes());
     }
+    is_closed_text(text.back.as_bytes())
 }
 
 /// A value in block style, behind the spaces before its first line.
