@@ -79,6 +79,7 @@ pub shown_stays : (s : Shown) (k : KnownItem) (front : ℕ) → IsKnown s.rows k
 shown_stays s k front known within before c is =
     stays_known c k front (subst (λ (x : Shown). IsKnown x.rows k) is known) (subst (λ (x : Shown). k.row < length x.rows) is within) (subst (λ (x : Shown). row_start k.row x < front) is before)
 
-pub all_stay : (front : ℕ) (s : Shown) (c : Cut) (k : Option KnownItem) → s ≡ shown c → IfSome k (λ x. (a : Cut) → s ≡ shown a → StaysKnown front a x) → IfSome k (StaysKnown front c)
-all_stay front s c None is h = h
-all_stay front s c (Some k) is h = h c is
+-- an item, if there is one, stays known in a text that keeps what is in front
+pub one_stays : (front back : ℕ) (s : Shown) (c new : Cut) (k : Option KnownItem) → s ≡ shown c → IfSome k (λ x. (a : Cut) → s ≡ shown a → StaysKnown front a x) → TouchesOnly front back c new → IfSome k (IsKnown (shown new).rows)
+one_stays front back s c new None is h touched = h
+one_stays front back s c new (Some k) is h touched = h c is new back touched

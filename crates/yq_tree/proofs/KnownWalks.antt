@@ -1,5 +1,5 @@
 -- A walk to an item or entry goes on from one that is known.
-use Rattle.std.proofs.Common.{◌≡◌, ◌⊎◌, inl, inr, ℕ, zero, suc, ◌+◌, ◌-◌, ◌<◌, ◌≤◌, ltb, eqb, cond, Bool, true, false, not, ◌&&◌, List, [], ◌∷◌, length, take, drop, Option, Some, option_map, refl, sym, ap, ◌∙◌, subst, arith}
+use Rattle.std.proofs.Common.{◌≡◌, ◌⊎◌, inl, inr, ℕ, zero, suc, ◌+◌, ◌-◌, ◌<◌, ◌≤◌, ltb, cond, Bool, true, false, not, ◌&&◌, List, [], ◌∷◌, length, take, drop, Option, Some, option_map, refl, sym, ap, ◌∙◌, subst, arith}
 use Rattle.std.proofs.lemmas.Bool.{cases_lt, cond-true, cond-false, lt-ltb, le-ltb, eq-eqb, ne_eqb}
 use Rattle.std.proofs.lemmas.List.{drop-drop, drop-take, take-take, length-take-le, length-drop}
 use Rattle.std.proofs.lemmas.Option.{same_Some, slice_get_within}
@@ -9,15 +9,17 @@ use Rattle.yq_scalar.specs.Paths.{Step, To, Nth, is_here, is_item, further}
 use Rattle.yq_lines.specs.Ends.{IsEndOf, is_end, part}
 use Rattle.yq_lines.specs.Outline.{Line, Outline, children, key_of, label, level}
 use Rattle.yq_lines.specs.Spots as lines
+use Rattle.yq_lines.proofs.Parts.{drop_at}
 use Rattle.yq_lines.proofs.SpotLaws.{spot_here, spot_passed, here_item}
 use Rattle.yq_rows.specs.View.{Slices, Shown}
 use Rattle.yq_documents.specs.Lines.{lines_of}
-use Rattle.yq_tree.specs.RowWalk.{line_level, level_count, deeper_rows, AreDeep, ArePassed, IsKnown, HasDocument, IsSpot, IsLine, IsAmong, IsKeyed, HaveKeys, Finds, GoesOn, found_from, line_number}
+use Rattle.yq_tree.specs.RowWalk.{line_level, level_count, deeper_rows, AreDeep, HasDocument, IsSpot, IsLine, IsAmong, IsKeyed, HaveKeys, Finds, GoesOn, found_from, line_number, rows_end}
 use Rattle.yq_tree.specs.declared.places.spot.KnownItem.{KnownItem}
 use Rattle.yq_tree.specs.declared.places.spot.Spot.{Spot}
 use Rattle.yq_tree.specs.declared.places.spot.Stretch.{Stretch}
 use Rattle.yq_tree.proofs.EntryKeys.{keys_behind, other_key}
 use Rattle.yq_tree.proofs.KnownLaws.{one_there}
+use Rattle.yq_tree.proofs.WalkRows.{under_more}
 use Rattle.yq_tree.proofs.WalkSpots.{Located, located, deeper_told, behind_told, spot_line}
 
 get_dropped : (ss : List Slices) (n i : ℕ) → slice_get (drop n ss) i ≡ slice_get ss (n + i)
@@ -221,6 +223,33 @@ module _ (s : Shown) (d : Stretch) (h : HasDocument s d) (floor row n : ℕ) (y 
             let o = to_next q (suc p) h z in
             let rest = later (after q z) (next_item q p h z) (more_keys q (after q z) o keys) in
             over_key q (after q z) o key w keys rest ∙ rest
+
+-- rows are counted from one on, where those before are deeper
+rows_passed : (ss : List Slices) (floor n end : ℕ) → floor < n → end ≤ length ss → (m a : ℕ) → a + m ≤ end → AreDeep n (drop a (take (a + m) ss)) →
+    a + deeper_rows floor (take (end - a) (drop a ss)) ≡ (a + m) + deeper_rows floor (take (end - (a + m)) (drop (a + m) ss))
+rows_passed ss floor n end less long zero a within deep = let none : a ≡ a + zero = omega arith in ap (λ (k : ℕ). k + deeper_rows floor (take (end - k) (drop k ss))) none
+rows_passed ss floor n end less long (suc m) a within deep =
+    let x = one_there ss a (omega (arith, within, long)) in
+    let sum : a + suc m ≡ (a + 1) + m = omega arith in
+    let first : drop a (take (a + suc m) ss) ≡ x.0 ∷ drop (a + 1) (take ((a + 1) + m) ss) =
+    drop_at (take (a + suc m) ss) a x.0 (get_taken ss (a + suc m) a (omega arith) ∙ x.1) ∙ ap (λ (k : ℕ). x.0 ∷ drop (a + 1) (take k ss)) sum in
+    let both : AreDeep n (x.0 ∷ drop (a + 1) (take ((a + 1) + m) ss)) = subst (AreDeep n) first deep in
+    under_more ss floor a end x.0 x.1 (omega (arith, within)) (omega (arith, less, both.0))
+    ∙ (rows_passed ss floor n end less long m (a + 1) (omega (arith, within)) both.1 ∙ ap (λ (k : ℕ). k + deeper_rows floor (take (end - k) (drop k ss))) (sym sum))
+
+-- the end of a collection is looked for from a known item on
+module _ (s : Shown) (d : Stretch) (h : HasDocument s d) (under : Spot) (floor : ℕ) (k : KnownItem) (among : IsAmong s.rows under floor d.end k) where
+  pub row_later : under.row < k.row
+  row_later =
+      omega (arith, slice_get_within (take k.row s.rows) k.under.row among.known.piece among.known.there, length-take-le k.row s.rows (omega (arith, among.within, h.within)), ap (λ (q : Spot). q.row) among.under_is)
+
+  pub end_later : rows_end s d floor k.row ≡ rows_end s d floor (under.row + 1)
+  end_later =
+      let a : ℕ = under.row + 1 in
+      let m : ℕ = k.row - a in
+      let row : a + m ≡ k.row = omega (arith, row_later) in
+      let deep : AreDeep k.level (drop a (take (a + m) s.rows)) = subst (λ (q : Spot × ℕ). AreDeep k.level (drop (q.0.row + 1) (take q.1 s.rows))) (λ i. (among.under_is i, sym row i)) among.known.deep in
+      sym (rows_passed s.rows floor k.level d.end (omega (arith, among.floor_is, among.known.deeper)) h.within m a (omega (arith, row, among.within)) deep ∙ ap (rows_end s d floor) row)
 
 -- A walk goes on from a known item.
 module _ (s : Shown) (d : Stretch) (under : Spot) (floor : ℕ) (k : KnownItem) (start : IsSpot s d under) (among : IsAmong s.rows under floor d.end k) (low : (y : Slices) → slice_get s.rows k.row ≡ Some y → line_level 0 y ≤ k.level) where

@@ -5,7 +5,7 @@ use Rattle.std.proofs.lemmas.Option.{slice_get-map}
 use Rattle.std.specs.List.{slice_get}
 use Rattle.yq_rows.specs.Exchange.{row_front, before_at, before_content}
 use Rattle.yq_rows.specs.Rows.{Row, rows_text, part_text, Cut, last, marked}
-use Rattle.yq_rows.specs.View.{Slices, slices, rows_of, Shown, shown}
+use Rattle.yq_rows.specs.View.{Slices, slices, rows_of, shown}
 use Rattle.yq_rows.proofs.ExchangeLaws.{slice_front, slice_back}
 use Rattle.yq_tree.specs.Extents.{row_start, front_length, head_place}
 use Rattle.yq_tree.specs.CommentReading.{before_row}

@@ -26,7 +26,7 @@ use Rattle.yq_lines.specs.Group.{group}
 use Rattle.yq_lines.specs.LinesReading.{have_one_anchor_each, are_bound}
 use Rattle.yq_lines.specs.Sound.{is_sound}
 use Rattle.yq_documents.specs.Reading.{is_document, have_fit_keys, has_short_root, root_of}
-use Rattle.yq_tree.specs.RowWalk.{HasDocument, IsKnown, MayWalk, InCut, stretch_told, begin_rows, document_rows}
+use Rattle.yq_tree.specs.RowWalk.{HasDocument, AreKnown, MayWalk, InCut, stretch_told, begin_rows, document_rows}
 use Rattle.yq_tree.specs.SeatReading.{Numbers, numbers}
 use Rattle.yq_tree.specs.declared.places.spot.Stretch.{Stretch}
 use Rattle.yq_tree.proofs.FoundLines.{each}
@@ -124,7 +124,7 @@ document_has t s c n p d cut is at first end walk =
         pieces = pieces;
         valid = v.1;
         sound = sound_part p (each (document_parts c) walk.sound n p at);
-        known = subst (λ (x : Shown). IfSome d.known (IsKnown x.rows)) (sym is) walk.known;
+        known = subst (λ (x : Shown). AreKnown x.rows d.known) (sym is) walk.known;
       },
       refl,
     )

@@ -6,7 +6,7 @@ use Rattle.yq_inline.specs.Entries.{step_of}
 use Rattle.yq_inline.specs.Inline.{depth_limit}
 use Rattle.yq_inline.specs.Places.{Placed}
 use Rattle.yq_scalar.specs.Keys.{are_distinct, keys_of}
-use Rattle.yq_scalar.specs.Paths.{Step, To, Nth, key_is}
+use Rattle.yq_scalar.specs.Paths.{Step, Nth, key_is}
 use Rattle.yq_scalar.specs.Text.{is_empty}
 use Rattle.yq_lines.specs.Ends.{deeper_count, is_end, part}
 use Rattle.yq_lines.specs.Group.{group}
@@ -25,6 +25,7 @@ use Rattle.yq_documents.specs.Seats.{document_row}
 use Rattle.yq_tree.specs.EntryReading.{dash_at, HasFlows}
 use Rattle.yq_tree.specs.Extents.{lines_before_mark}
 use Rattle.yq_tree.specs.declared.places.spot.KnownItem.{KnownItem}
+use Rattle.yq_tree.specs.declared.places.spot.KnownItems.{KnownItems}
 use Rattle.yq_tree.specs.declared.places.spot.Spot.{Spot}
 use Rattle.yq_tree.specs.declared.places.spot.Stretch.{Stretch}
 use Rattle.yq_tree.specs.declared.places.spot_reach.Next as nexts
@@ -45,6 +46,10 @@ line_level k s = 3 * line_column k s + line_rank k s
 abbrev pub deeper_rows : ℕ → List Slices → ℕ
 deeper_rows n [] = 0
 deeper_rows n (s ∷ ss) = if nat_lt n (line_level 0 s) then suc (deeper_rows n ss) else 0
+
+-- the first row of a document from one on that doesn't begin deeper than a level, or the document's end (8.2)
+abbrev pub rows_end : Shown → Stretch → ℕ → ℕ → ℕ
+rows_end s d n from = from + deeper_rows n (take (d.end - from) (drop from s.rows))
 
 -- how many rows begin at a level (8.2)
 abbrev pub level_count : ℕ → List Slices → ℕ
@@ -69,9 +74,17 @@ pub record ArePassed (front : List Slices) (k : KnownItem) : Type 0 where
 abbrev pub IsKnown : List Slices → KnownItem → Type 0
 IsKnown ss k = ArePassed (take k.row ss) k
 
+-- Items are known.
+abbrev pub AreKnown : List Slices → KnownItems → Type 0
+AreKnown ss ks = IfSome ks.far (IsKnown ss) × IfSome ks.near (IsKnown ss)
+
 -- An item stays known in each text in which the items of its cut stay that end in front of so many bytes.
 abbrev pub StaysKnown : ℕ → Cut → KnownItem → Type 0
 StaysKnown front c k = (new : Cut) (back : ℕ) → TouchesOnly front back c new → IsKnown (shown new).rows k
+
+-- The same of several items.
+abbrev pub StayKnown : ℕ → Cut → KnownItems → Type 0
+StayKnown front c ks = (new : Cut) (back : ℕ) → TouchesOnly front back c new → AreKnown (shown new).rows ks
 
 -- An item is known that begins before a row, among the lines from one on that are deeper than a level (own).
 pub record IsAmong (ss : List Slices) (under : Spot) (floor end : ℕ) (k : KnownItem) : Type 0 where
@@ -80,12 +93,12 @@ pub record IsAmong (ss : List Slices) (under : Spot) (floor end : ℕ) (k : Know
   pub floor_is : k.floor ≡ floor
   pub within : k.row < end
 
--- An item that is known is one of a cut, and the parts of the cut stand for documents (own).
+-- The items that are known are those of a cut, and the parts of the cut stand for documents (own).
 pub record MayWalk (d : Stretch) (c : Cut) : Type 0 where
-  pub known : IfSome d.known (IsKnown (shown c).rows)
+  pub known : AreKnown (shown c).rows d.known
   pub sound : all_documents c ≡ true
 
--- The rows of a text from one up to another one are those of a document; an item that is known is one of the text.
+-- The rows of a text from one up to another one are those of a document; the items that are known are those of the text.
 pub record HasDocument (s : Shown) (d : Stretch) : Type 0 where
   pub rows : List Row
   pub limit : Limit
@@ -96,7 +109,7 @@ pub record HasDocument (s : Shown) (d : Stretch) : Type 0 where
   pub pieces : take (d.end - d.first) (drop d.first s.rows) ≡ map slices rows
   pub valid : AreRows limit rows end rest
   pub sound : is_sound depth_limit (group (lines_of rows)) ≡ true
-  pub known : IfSome d.known (IsKnown s.rows)
+  pub known : AreKnown s.rows d.known
 
 -- The lines that are kept of a document are those of its rows.
 pub record HasLines (s : Shown) (d : Stretch) (ls : List Line) : Type 0 where

@@ -11,9 +11,10 @@ ghost use Rattle.yq_documents.specs.Reading.{cut_of};
 
 use crate::cut_text::CutText;
 use crate::places::entry_place::lines_place;
+use crate::places::known_end::behind_all;
 use crate::places::node_place::{NodePlace, node_place};
 use crate::places::row_place::head_extent;
-use crate::places::spot::{Spot, Stretch, behind_all, is_deeper};
+use crate::places::spot::{Spot, Stretch, is_deeper};
 use crate::places::spot_marks::is_bare;
 use yq_documents::{Path, Span};
 use yq_inline::Step;

@@ -1,14 +1,15 @@
 //! The item on the way of a path from which a later walk may go on.
-ghost use Rattle.std.specs.Prelude.{◌≡◌, ◌⊎◌, ◌<◌, length, IfSome};
+ghost use Rattle.std.specs.Prelude.{◌≡◌, IfSome};
 ghost use Rattle.yq_rows.specs.Rows.{Cut};
 ghost use Rattle.yq_rows.specs.View.{shown};
 ghost use Rattle.yq_documents.specs.Reading.{cut_of};
 ghost use Rattle.yq_tree.specs.Extents.{IsShown};
-ghost use Rattle.yq_tree.specs.RowWalk.{HasDocument, IsKnown, IsLine, StaysKnown};
+ghost use Rattle.yq_tree.specs.RowWalk.{AreKnown, HasDocument, IsKnown, IsLine, StayKnown, StaysKnown};
 
 use crate::cut_text::CutText;
+use crate::places::known_end::known_end;
 use crate::places::known_item::{item_before, known_to};
-use crate::places::spot::{KnownItem, Spot, Stretch, level_at, next};
+use crate::places::spot::{KnownItem, KnownItems, Spot, Stretch, level_at, next};
 use crate::places::spot_reach::{Next, next_at};
 use yq_documents::Path;
 use yq_inline::Step;
@@ -32,31 +33,45 @@ fn begin_under(rows: &Rows<'_>, document: Stretch, from: Option<Spot>) -> (Spot,
     }
 }
 
-/// The one of two items that are known that passed more rows.
-fn farther(one: Option<KnownItem>, other: Option<KnownItem>) -> Option<KnownItem>
-    ensures { (result ≡ one) ⊎ (result ≡ other) }
+/// How many rows a walk passes that goes on from an item.
+fn rows_passed(item: KnownItem) -> usize {
+    item.row.saturating_sub(item.under.row)
+}
+
+/// Of items that are known and one more, the two that passed most rows.
+fn with_item(rows: &Rows<'_>, known: KnownItems, more: Option<KnownItem>) -> KnownItems
+    requires known { AreKnown rows.now.rows known }
+    requires more { IfSome more (IsKnown rows.now.rows) }
+    ensures { AreKnown rows.now.rows result }
 {
-    let Some(first) = one else {
-        return other;
+    let _rows = rows;
+    let Some(item) = more else {
+        return known;
     };
-    let Some(second) = other else {
-        return one;
+    let Some(far) = known.far else {
+        return KnownItems {
+            far: more,
+            near: known.near,
+        };
     };
-    if first.row.saturating_sub(first.under.row) < second.row.saturating_sub(second.under.row) {
-        other
-    } else {
-        one
+    if rows_passed(far) < rows_passed(item) {
+        return KnownItems {
+            far: more,
+            near: known.far,
+        };
+    }
+    match known.near {
+        Some(near) if rows_passed(item) <= rows_passed(near) => known,
+        _ => KnownItems {
+            far: known.far,
+            near: more,
+        },
     }
 }
 
 /// The item or entry of a line under another one, or of the root, as one that is known, unless it
 /// begins in the row of the first one.
-fn known_by(
-    rows: &Rows<'_>,
-    document: Stretch,
-    from: Option<Spot>,
-    at: Spot,
-) -> Option<KnownItem>
+fn known_by(rows: &Rows<'_>, document: Stretch, from: Option<Spot>, at: Spot) -> Option<KnownItem>
     requires shown { IsShown rows.now }
     requires document { HasDocument rows.now document }
     requires from { IfSome from (IsLine rows.now document) }
@@ -70,20 +85,20 @@ fn known_by(
     known_to(rows, document, under, floor, at.row)
 }
 
-/// The item on the way of steps that passed most rows, as one that is known.
-fn known_along(rows: &Rows<'_>, document: Stretch, steps: &[Step]) -> Option<KnownItem>
+/// The items on the way of steps that passed most rows, as items that are known.
+fn known_along(rows: &Rows<'_>, document: Stretch, steps: &[Step]) -> KnownItems
     requires shown { IsShown rows.now }
     requires document { HasDocument rows.now document }
-    ensures { IfSome result (IsKnown rows.now.rows) }
+    ensures { AreKnown rows.now.rows result }
 {
     let mut from = None;
-    let mut found = None;
+    let mut found = KnownItems::none();
     let mut left = steps;
     'steps: while let [step, others @ ..] = left {
         let Some(Next::Line(at)) = next_at(rows, document, from, step) else {
             return found;
         };
-        found = farther(found, known_by(rows, document, from, at));
+        found = with_item(rows, found, known_by(rows, document, from, at));
         from = Some(at);
         left = others;
     }
@@ -110,28 +125,55 @@ fn begins_in_front(rows: &Rows<'_>, known: KnownItem, front: usize) -> Option<Kn
     }
 }
 
+/// The same of an item, if there is one.
+fn if_in_front(rows: &Rows<'_>, known: Option<KnownItem>, front: usize) -> Option<KnownItem>
+    requires known { IfSome known (IsKnown rows.now.rows) }
+    requires shown { IsShown rows.now }
+    ensures { IfSome result (λ k. (c : Cut) → rows.now ≡ shown c → StaysKnown front c k) }
+{
+    begins_in_front(rows, known?, front)
+}
+
 impl<'d, 't> CutText<'d, 't> {
-    /// The same text, where the item or entry on the way of a path that passed most rows is known, if
-    /// there is one: walks along the path go on from there.
+    /// The same text, where the items and entries on the way of a path are known that passed most rows:
+    /// walks along the path go on from there.
     pub fn along(&self, path: &Path) -> CutText<'d, 't>
         ensures { result ≡ self.now }
     {
         let text = self.whole();
         let rows = self.rows();
         let Some(document) = self.stretch(path.doc) else {
-            return CutText::resumed(text, rows, None);
+            return CutText::resumed(text, rows, KnownItems::none());
         };
         let known = known_along(rows, document, &path.steps);
         CutText::resumed(text, rows, known)
     }
 
-    /// The item that is known, or the one before it, if a walk may go on from there in each text that
-    /// keeps so many bytes in front.
-    pub fn known_in_front(&self, front: usize) -> Option<KnownItem>
-        ensures { IfSome result (StaysKnown front (cut_of self.now)) }
+    /// The same text, where the end of the collection at a path is known as well.
+    pub fn to_end(&self, path: &Path) -> CutText<'d, 't>
+        ensures { result ≡ self.now }
+    {
+        let text = self.whole();
+        let rows = self.rows();
+        let known = self.known();
+        let Some(document) = self.stretch(path.doc) else {
+            return CutText::resumed(text, rows, known);
+        };
+        let end = known_end(rows, document, &path.steps);
+        CutText::resumed(text, rows, with_item(rows, known, end))
+    }
+
+    /// The items that are known, or those before them, as far as walks may go on from there in each text
+    /// that keeps so many bytes in front.
+    pub fn known_in_front(&self, front: usize) -> KnownItems
+        ensures { StayKnown front (cut_of self.now) result }
     {
         let _whole = self.whole();
         let rows = self.rows();
-        begins_in_front(rows, self.known()?, front)
+        let known = self.known();
+        KnownItems {
+            far: if_in_front(rows, known.far, front),
+            near: if_in_front(rows, known.near, front),
+        }
     }
 }

@@ -14,6 +14,26 @@ fn is_among(known: KnownItem, under: Spot, floor: usize) -> bool
     known.under.row == under.row && known.under.line == under.line && known.floor == floor
 }
 
+/// An item that is known, if it is one of the lines of a document from one on that are deeper than a
+/// level.
+fn if_among(
+    rows: &Rows<'_>,
+    document: Stretch,
+    under: Spot,
+    floor: usize,
+    known: Option<KnownItem>,
+) -> Option<KnownItem>
+    requires known { IfSome known (IsKnown rows.now.rows) }
+    ensures { IfSome result (IsAmong rows.now.rows under floor document.end) }
+{
+    let _rows = rows;
+    let known = known?;
+    if !is_among(known, under, floor) || known.row >= document.end {
+        return None;
+    }
+    Some(known)
+}
+
 /// The item that is known among the lines of a document from one on that are deeper than a level.
 pub(crate) fn known_among(
     rows: &Rows<'_>,
@@ -24,12 +44,11 @@ pub(crate) fn known_among(
     requires document { HasDocument rows.now document }
     ensures { IfSome result (IsAmong rows.now.rows under floor document.end) }
 {
-    let _rows = rows;
-    let known = document.known?;
-    if !is_among(known, under, floor) || known.row >= document.end {
-        return None;
+    let far = if_among(rows, document, under, floor, document.known.far);
+    if far.is_some() {
+        return far;
     }
-    Some(known)
+    if_among(rows, document, under, floor, document.known.near)
 }
 
 /// The item of an index that isn't behind a known one's, unless it begins the collection.
@@ -68,8 +87,7 @@ pub(crate) fn item_before(rows: &Rows<'_>, known: KnownItem) -> Option<KnownItem
     item_back(rows, known, known.index - 1)
 }
 
-/// The item that is known, or one before it, if a walk to an item goes on from there: where the way
-/// back is no longer than that from the first one.
+/// The item that is known, or one before it, if the way to an item from there is no longer.
 fn known_for(
     rows: &Rows<'_>,
     document: Stretch,
@@ -121,7 +139,7 @@ pub(crate) fn walk_begin(
 }
 
 /// The first item among the lines from one on that are deeper than a level, as one that is known.
-fn first_known(rows: &Rows<'_>, under: Spot, floor: usize) -> Option<KnownItem>
+pub(crate) fn first_known(rows: &Rows<'_>, under: Spot, floor: usize) -> Option<KnownItem>
     requires within { under.row < length rows.now.rows }
     requires shown { IsShown rows.now }
     ensures { IfSome result (IsKnown rows.now.rows) }

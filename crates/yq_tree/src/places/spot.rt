@@ -1,5 +1,5 @@
 //! Lines of a document by their rows, and how deep they are.
-ghost use Rattle.std.specs.Prelude.{◌≡◌, ◌<◌, ◌≤◌, ◌+◌, ◌-◌, drop, length, not, slice_get, take, IsTrue, Some};
+ghost use Rattle.std.specs.Prelude.{◌≡◌, ◌<◌, ◌≤◌, ◌+◌, ◌-◌, drop, length, not, slice_get, take, IsTrue, None, Some};
 ghost use Rattle.yq_lines.specs.Ends.{IsEndOf, is_end, part};
 ghost use Rattle.yq_lines.specs.Outline.{level};
 ghost use Rattle.yq_rows.specs.View.{view, Slices};
@@ -18,8 +18,8 @@ use yq_rows::{Row, Rows};
 pub(crate) struct Stretch {
     pub(crate) first: usize,
     pub(crate) end: usize,
-    /// An item of the text from which a walk may go on.
-    pub(crate) known: Option<KnownItem>,
+    /// Items of the text from which a walk may go on.
+    pub(crate) known: KnownItems,
 }
 
 /// A line of a document by its row, of those of the text, and by how many lines of that row stand
@@ -33,7 +33,7 @@ pub(crate) struct Spot {
 /// An item of a collection of rows, from which a walk over the items behind it may go on: how many
 /// of them stand before its row.
 #[derive(Clone, Copy, Debug)]
-pub struct KnownItem {
+pub(crate) struct KnownItem {
     /// The line of the collection's first item.
     pub(crate) under: Spot,
     /// How deep the collection is; its items are deeper.
@@ -44,6 +44,26 @@ pub struct KnownItem {
     pub(crate) index: usize,
     /// How many rows of the text stand before the item's.
     pub(crate) row: usize,
+}
+
+/// Items from which walks over a text may go on: the two on the way of a path that passed most rows.
+#[derive(Clone, Copy, Debug)]
+pub struct KnownItems {
+    pub(crate) far: Option<KnownItem>,
+    pub(crate) near: Option<KnownItem>,
+}
+
+impl KnownItems {
+    /// No items.
+    pub fn none() -> KnownItems
+        ensures far { result.far ≡ None }
+        ensures near { result.near ≡ None }
+    {
+        KnownItems {
+            far: None,
+            near: None,
+        }
+    }
 }
 
 /// A line of a row.
@@ -119,7 +139,7 @@ pub(crate) fn column_at(rows: &Rows<'_>, spot: Spot) -> usize
 }
 
 /// The first row from one on, before another one, that doesn't begin deeper than a level.
-fn rows_under(rows: &Rows<'_>, from: usize, end: usize, level: usize) -> usize
+pub(crate) fn rows_under(rows: &Rows<'_>, from: usize, end: usize, level: usize) -> usize
     requires order { from ≤ end }
     requires within { end ≤ length rows.now.rows }
     requires shown { IsShown rows.now }
@@ -186,22 +206,5 @@ pub(crate) fn next(rows: &Rows<'_>, document: Stretch, spot: Spot) -> Spot
             row: spot.row + 1,
             line: 0,
         }
-    }
-}
-
-/// What is behind the lines from one on that are deeper than a level, of which that is one.
-pub(crate) fn behind_all(rows: &Rows<'_>, document: Stretch, from: Spot, floor: usize) -> Spot
-    requires shown { IsShown rows.now }
-    requires document { HasDocument rows.now document }
-    requires from { IsLine rows.now document from }
-    requires deeper { OfLine rows.now document from (λ l. floor < level l) }
-    ensures number { OfLines rows.now document (λ ls n. n result ≡ lines_stop (n from) floor ls) }
-    ensures spot { IsSpot rows.now document result }
-    ensures line { result.line ≡ 0 }
-    ensures later { from.row < result.row }
-{
-    Spot {
-        row: rows_under(rows, from.row + 1, document.end, floor),
-        line: 0,
     }
 }

@@ -10,7 +10,7 @@ ghost use Rattle.yq_tree.specs.SeatReading.{numbers, told};
 
 use crate::cut_text::CutText;
 use crate::places::extent::lines_before_mark;
-use crate::places::spot::{KnownItem, Seat, Stretch};
+use crate::places::spot::{KnownItems, Seat, Stretch};
 use crate::places::spot_reach::line_at;
 use yq_documents::{Path, first_is_document};
 use yq_inline::Step;
@@ -34,9 +34,9 @@ pub(crate) fn left_behind(is_document: bool, left: usize) -> usize
     }
 }
 
-/// The rows of document `i`, where it is known of the first part whether it is one, with an item that
-/// is known.
-fn begin_rows(rows: &Rows<'_>, first: bool, i: usize, known: Option<KnownItem>) -> Option<Stretch>
+/// The rows of document `i`, where it is known of the first part whether it is one, with items that
+/// are known.
+fn begin_rows(rows: &Rows<'_>, first: bool, i: usize, known: KnownItems) -> Option<Stretch>
     ensures place { option_map spec.stretch_told result ≡ spec.begin_rows first i 0 rows.now.bounds }
     ensures known { IfSome result (λ d. d.known ≡ known) }
 {

@@ -1,0 +1,92 @@
+//! The end of a collection, looked for from an item that is known.
+ghost use Rattle.std.specs.Prelude.{◌≡◌, ◌<◌, ◌≤◌, ◌+◌, length, IfSome};
+ghost use Rattle.yq_lines.specs.Outline.{level};
+ghost use Rattle.yq_tree.specs.Extents.{IsShown};
+ghost use Rattle.yq_tree.specs.RowWalk as spec;
+ghost use Rattle.yq_tree.specs.RowWalk.{HasDocument, IsKnown, IsLine, IsSpot, OfLine, OfLines, lines_stop};
+
+use crate::places::known_item::{counted, first_known, known_among};
+use crate::places::node_place::{NodePlace, node_place};
+use crate::places::spot::{KnownItem, Spot, Stretch, level_at, rows_under};
+use yq_inline::Step;
+use yq_rows::Rows;
+
+/// The row from which on the end is looked for of the lines from one on that are deeper than a level: that
+/// of an item that is known, or the next one.
+fn search_row(rows: &Rows<'_>, document: Stretch, from: Spot, floor: usize) -> usize
+    requires document { HasDocument rows.now document }
+    requires from { IsLine rows.now document from }
+    ensures later { from.row < result }
+    ensures within { result ≤ document.end }
+    ensures value { spec.rows_end rows.now document floor result ≡ spec.rows_end rows.now document floor (from.row + 1) }
+{
+    match known_among(rows, document, from, floor) {
+        Some(known) => known.row,
+        None => from.row + 1,
+    }
+}
+
+/// What is behind the lines from one on that are deeper than a level, of which that is one.
+pub(crate) fn behind_all(rows: &Rows<'_>, document: Stretch, from: Spot, floor: usize) -> Spot
+    requires shown { IsShown rows.now }
+    requires document { HasDocument rows.now document }
+    requires from { IsLine rows.now document from }
+    requires deeper { OfLine rows.now document from (λ l. floor < level l) }
+    ensures number { OfLines rows.now document (λ ls n. n result ≡ lines_stop (n from) floor ls) }
+    ensures spot { IsSpot rows.now document result }
+    ensures line { result.line ≡ 0 }
+    ensures later { from.row < result.row }
+{
+    let begin = search_row(rows, document, from, floor);
+    Spot {
+        row: rows_under(rows, begin, document.end, floor),
+        line: 0,
+    }
+}
+
+/// The last row of the collection of an item that is known, before that where a document ends, as an
+/// item that is known.
+fn known_last(rows: &Rows<'_>, known: KnownItem, end: usize) -> KnownItem
+    requires known { IsKnown rows.now.rows known }
+    requires within { end ≤ length rows.now.rows }
+    requires shown { IsShown rows.now }
+    ensures { IsKnown rows.now.rows result }
+{
+    let mut last = known;
+    let mut index = known.index;
+    'rows: for row in known.row..end {
+        let level = level_at(rows, Spot { row, line: 0 });
+        if level < known.level {
+            return last;
+        }
+        last = KnownItem {
+            index,
+            row,
+            ..known
+        };
+        let Some(next) = counted(index, level == known.level) else {
+            return last;
+        };
+        index = next;
+    }
+    last
+}
+
+/// The last row of the collection to which steps lead, if it is one of rows, as an item that is known.
+pub(crate) fn known_end(rows: &Rows<'_>, document: Stretch, steps: &[Step]) -> Option<KnownItem>
+    requires shown { IsShown rows.now }
+    requires document { HasDocument rows.now document }
+    ensures { IfSome result (IsKnown rows.now.rows) }
+{
+    let (NodePlace::Lines(under, floor), _) = node_place(rows, document, steps)? else {
+        return None;
+    };
+    if under.row >= document.end {
+        return None;
+    }
+    let known = match known_among(rows, document, under, floor) {
+        Some(known) => known,
+        None => first_known(rows, under, floor)?,
+    };
+    Some(known_last(rows, known, document.end))
+}
