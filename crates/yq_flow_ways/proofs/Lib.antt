@@ -21,3 +21,4 @@ pub mod SoleLaws
 pub mod SoleAnswers
 pub mod FlowRests
 pub mod FlowLonger
+pub mod FlowHeads
