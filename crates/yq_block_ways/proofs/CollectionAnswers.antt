@@ -1,8 +1,9 @@
 -- What replacing a block collection comes to, by what the code finds.
-use Rattle.std.proofs.Common.{◌≡◌, ℕ, ◌-◌, ◌≤◌, List, [], ◌∷◌, ◌++◌, length, Some, true, sym, ap, ◌∙◌, subst, arith, length-append, append_assoc}
+use Rattle.std.proofs.Common.{◌≡◌, ℕ, ◌-◌, ◌≤◌, Bool, true, false, cond, List, [], ◌∷◌, ◌++◌, length, Some, option_map, refl, sym, ap, ◌∙◌, subst, arith, length-append, append_assoc}
 use Rattle.std.proofs.lemmas.Bool.{cond-true}
 use Rattle.std.proofs.lemmas.Str.{IsCharBoundary-at_seam, IsUtf8-append, is_utf8-from_IsUtf8}
 use Rattle.std.specs.Str.{IsUtf8, IsCharBoundary}
+use Rattle.yq_scalar.specs.Tree.{Node}
 use Rattle.yq_scalar.specs.Paths.{Step}
 use Rattle.yq_rows.specs.Grammar.{IsCut}
 use Rattle.yq_rows.specs.Rows.{rows_text, Cut, cut_text}
@@ -10,7 +11,12 @@ use Rattle.yq_tree.specs.CollectionEnds.{CollectionEnd, collection_end}
 use Rattle.yq_tree.specs.MarkPlaces.{MarkPlace, mark_place}
 use Rattle.yq_documents.specs.Reading.{all_documents, cut_of, read_at}
 use Rattle.yq_tree.proofs.ReadLaws.{text_again}
-use Rattle.yq_block_ways.specs.CollectionReplacing.{EndsIn, HasEnd}
+use Rattle.yq_block.specs.BlockReading.{is_filled}
+use Rattle.yq_block.specs.declared.layout.Layout.{Layout}
+use Rattle.yq_ways.specs.Layouts.{LooksLike}
+use Rattle.yq_ways.specs.Replacing.{value_written}
+use Rattle.yq_block_ways.specs.BlockWriting.{below_mark, lines_below}
+use Rattle.yq_block_ways.specs.CollectionReplacing.{EndsIn, HasEnd, beside_mark, written_of, written_there}
 use Rattle.yq_block_ways.proofs.CollectionReplaceLaws.{no_mark}
 use Rattle.yq_block_ways.proofs.CollectionRows.{node, rest_is, tail, there_is, whole_text}
 use Rattle.yq_block_ways.proofs.NodeRowLaws.{NodeRows}
@@ -59,3 +65,14 @@ ends_there t n steps w x u cut docs at ends =
       ends = ends_in n steps (cut_of t) w x read (sym at) (sym ends);
       size = omega (arith, cut.size, ap length cut.text, behind_within n steps (cut_of t) w x read (sym at) (sym ends));
     }
+
+-- what is written by one look is what is written by another one that is like it
+pub written_like : (v : Node) (l k : Layout) (w : MarkPlace) → LooksLike v l k → written_there l v w ≡ written_there k v w
+written_like v l k w h = go (is_filled v) refl
+  where
+    by : (m : Layout) → is_filled v ≡ false → written_there m v w ≡ option_map beside_mark (value_written false [] v)
+    by m e = ap (λ (b : Bool). cond b (Some (written_of [] (lines_below m (below_mark m w v) v))) (option_map beside_mark (value_written false [] v))) e
+
+    go : (b : Bool) → is_filled v ≡ b → written_there l v w ≡ written_there k v w
+    go true e = ap (λ (m : Layout). written_there m v w) (h.1 e)
+    go false e = by l e ∙ sym (by k e)

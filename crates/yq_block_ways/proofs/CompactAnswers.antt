@@ -1,13 +1,19 @@
 -- What replacing a compact collection comes to, by what the code finds.
-use Rattle.std.proofs.Common.{◌≡◌, ◌≤◌, List, [], ◌∷◌, ℕ, length, Some, true, sym, ap, arith, length-append}
+use Rattle.std.proofs.Common.{◌≡◌, ◌∙◌, ◌≤◌, Bool, true, false, cond, List, [], ◌∷◌, ℕ, length, Some, option_map, refl, sym, ap, arith, length-append}
 use Rattle.std.specs.Str.{IsUtf8}
+use Rattle.yq_scalar.specs.Tree.{Node}
 use Rattle.yq_scalar.specs.Paths.{Step}
 use Rattle.yq_rows.specs.Grammar.{IsCut}
 use Rattle.yq_rows.specs.Rows.{Cut, cut_text}
 use Rattle.yq_tree.specs.CollectionEnds.{CollectionEnd, collection_end}
 use Rattle.yq_tree.specs.DashPlaces.{DashPlace, dash_place}
 use Rattle.yq_documents.specs.Reading.{all_documents, cut_of, read_at}
+use Rattle.yq_block.specs.BlockReading.{is_filled}
+use Rattle.yq_block.specs.declared.layout.Layout.{Layout}
+use Rattle.yq_ways.specs.Layouts.{LooksLike}
+use Rattle.yq_ways.specs.Replacing.{value_written}
 use Rattle.yq_block_ways.specs.CollectionReplacing.{EndsIn, HasEnd}
+use Rattle.yq_block_ways.specs.CompactReplacing.{filled_behind, value_behind}
 use Rattle.yq_block_ways.proofs.CollectionAnswers.{text_reads}
 use Rattle.yq_block_ways.proofs.CompactReplaceLaws.{no_dash}
 use Rattle.yq_block_ways.proofs.CompactRows.{IsCompact, ends_in, inner, whole_text}
@@ -31,3 +37,14 @@ compact_ends t n steps d x u cut docs at ends =
       ends = dash_ends_in n steps (cut_of t) d x read (sym at) (sym ends);
       size = omega (arith, cut.size, ap length cut.text, dash_within n steps (cut_of t) d x read (sym at) (sym ends));
     }
+
+-- what is written by one look is what is written by another one that is like it
+pub behind_like : (v : Node) (l k : Layout) (d : DashPlace) → LooksLike v l k → value_behind l v d ≡ value_behind k v d
+behind_like v l k d h = go (is_filled v) refl
+  where
+    by : (m : Layout) → is_filled v ≡ false → value_behind m v d ≡ option_map (λ t. 32 ∷ t) (value_written false [] v)
+    by m e = ap (λ (b : Bool). cond b (Some (filled_behind m v d)) (option_map (λ t. 32 ∷ t) (value_written false [] v))) e
+
+    go : (b : Bool) → is_filled v ≡ b → value_behind l v d ≡ value_behind k v d
+    go true e = ap (λ (m : Layout). value_behind m v d) (h.1 e)
+    go false e = by l e ∙ sym (by k e)

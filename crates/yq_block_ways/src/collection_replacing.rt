@@ -23,7 +23,7 @@ use yq_meaning::Op;
 use yq_script::{Segment, Segments};
 use yq_text::Halves;
 use yq_tree::{CollectionEnd, CutText, MarkPlace, Path, split_break};
-use yq_ways::{inline_written, layout_of};
+use yq_ways::{inline_written, layout_for};
 
 /// How long a text is, in bytes; they are characters.
 #[tactic(auto, using(crate::proofs::CollectionAnswers::texts_joined))]
@@ -113,6 +113,7 @@ fn exchange_under<'d>(
 }
 
 /// A value put in the place of the block collection at a path.
+#[tactic(auto, using(crate::proofs::CollectionAnswers::written_like))]
 fn exchange_collection<'d>(
     alloc: Global,
     cut: &CutText<'_, 'd>,
@@ -124,7 +125,7 @@ fn exchange_collection<'d>(
     let Some((mark, end)) = lines_under(cut, path) else {
         return Ok(None);
     };
-    let layout = layout_of(cut, path.doc);
+    let layout = layout_for(cut, path.doc, value);
     let Some((beside, below)) = written_there(alloc, &layout, &mark, value)? else {
         return Ok(None);
     };

@@ -21,7 +21,7 @@ use yq_inline::Value;
 use yq_meaning::Op;
 use yq_script::{Segment, Segments};
 use yq_tree::{CollectionEnd, CutText, DashPlace, Path};
-use yq_ways::{inline_written, layout_of};
+use yq_ways::{inline_written, layout_for};
 
 /// What is written of a collection with items or entries behind a dash, or on lines under it.
 fn filled_behind(
@@ -96,6 +96,7 @@ fn exchange_behind<'d>(
 }
 
 /// A value put in the place of the compact collection at a path.
+#[tactic(auto, using(crate::proofs::CompactAnswers::behind_like))]
 fn exchange_compact<'d>(
     alloc: Global,
     cut: &CutText<'_, 'd>,
@@ -107,7 +108,7 @@ fn exchange_compact<'d>(
     let Some((dash, end)) = compact_place(cut, path) else {
         return Ok(None);
     };
-    let layout = layout_of(cut, path.doc);
+    let layout = layout_for(cut, path.doc, value);
     let Some(text) = value_behind(alloc, &layout, &dash, value)? else {
         return Ok(None);
     };

@@ -82,25 +82,22 @@ module _ (z : CollAt) (is : IsCollAt z) where
   last_within : is_several w.items ≡ true → length (last_text w.items ++ sep_text (last_sep w.items) (w.close ∷ w.rest)) ≤ length t
   last_within some = omega (arith, items_within, longer_behind (items_text w.close w.items w.rest) (until_last w.items) _ (until_text w.close w.items w.rest some))
 
+  abbrev Within : FlowEdit → Type 0
+  Within e = length (e.old ++ e.behind) ≤ length t
+
   pub removed_within : (s : Step) (y : EntryPieces) → item_at w.close s w.items w.rest ≡ Some y → length ((removing s w).old ++ (removing s w).behind) ≤ length t
   removed_within s y at = several (is_several w.items) refl
     where
-      Within : FlowEdit → Type 0
-      Within e = length (e.old ++ e.behind) ≤ length t
-
       sole : Within (removing_sole w)
-      unfolding Within
       sole =
           let all : coll_text w.close w.gap w.items [] ++ w.rest ≡ coll_text w.close w.gap w.items w.rest =
           ap (λ l. open_of w.close ∷ l) (append_assoc w.gap (items_text w.close w.items []) w.rest ∙ ap (λ l. w.gap ++ l) (sym (items_append w.close w.items [] w.rest))) in
           omega (arith, ap length all, longer_behind t around.before _ around.text)
 
       before : Within (removing_before s w)
-      unfolding Within
       before = omega (arith, item_within s y at, ap length (dropped_text w.close s w.items w.rest y at))
 
       at_end : is_several w.items ≡ true → (b : Bool) → Within (cond b (removing_to_comma w) (removing_last w))
-      unfolding Within
       at_end some true =
           let all : (last_text w.items ++ comma_old (last_sep w.items)) ++ comma_on (last_sep w.items) (w.close ∷ w.rest) ≡ last_text w.items ++ sep_text (last_sep w.items) (w.close ∷ w.rest) =
           append_assoc (last_text w.items) (comma_old (last_sep w.items)) (comma_on (last_sep w.items) (w.close ∷ w.rest)) ∙ ap (λ l. last_text w.items ++ l) (sym (comma_was (last_sep w.items) (w.close ∷ w.rest))) in

@@ -20,7 +20,7 @@ use yq_scalar::block_written::break_text;
 use yq_script::{Segment, Segments};
 use yq_text::Halves;
 use yq_tree::{CutText, RootPlace};
-use yq_ways::{is_kept, layout_of};
+use yq_ways::{is_kept, layout_for};
 
 /// Whether a text is empty or ends in a break.
 #[tactic(auto, unfolding(crate::specs::RootWriting::is_closed_text))]
@@ -137,7 +137,7 @@ pub fn root_way<'d>(
     let Some(place) = cut.root_place(path) else {
         return Ok(None);
     };
-    let layout = layout_of(cut, path.doc);
+    let layout = layout_for(cut, path.doc, value);
     if let Some(old) = place.old {
         return put_root(alloc, &layout, place, old, value);
     }

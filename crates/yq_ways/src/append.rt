@@ -8,7 +8,7 @@ ghost use Rattle.yq_documents.specs.Reading.{cut_of};
 ghost use Rattle.yq_ways.specs.AppendWay as spec;
 ghost use Rattle.yq_ways.specs.WayAnswers.{Carries};
 
-use crate::layout::layout_of;
+use crate::layout::layout_for;
 use std::alloc::{AllocError, Global};
 use yq_block::{Layout, push_entry};
 use yq_inline::Value;
@@ -62,6 +62,7 @@ fn entry_text(
 
 /// An operation that appends carried out: the item or entry stands on lines of its own behind the
 /// last line of a block collection.
+#[tactic(auto, using(crate::proofs::LayoutLaws::append_like))]
 pub fn append_way<'d>(
     alloc: Global,
     cut: &CutText<'_, 'd>,
@@ -75,7 +76,7 @@ pub fn append_way<'d>(
     let Some(end) = cut.collection_end(path) else {
         return Ok(None);
     };
-    let layout = layout_of(cut, path.doc);
+    let layout = layout_for(cut, path.doc, value);
     let new = entry_text(alloc, &layout, &end, key.as_deref(), value)?;
     let segments = vec![in alloc;
         Segment::Keep(end.before),

@@ -19,14 +19,14 @@ returns-in_default-root_place c =
 
 pub returns-in-Some-old : goal.returns-in-Some-old
 returns-in-Some-old c =
-    let way = collection_there c.in-Replace.path (values.node_of c.in-Replace.value) c.args.cut.now c.root_place.result c.root_place.ensures c.in-Some.place c.in-Some-old.old c.layout_of-layout.result
-    c.in-Some.is c.in-Some-old.is c.layout_of-layout.ensures in
+    let way = collection_there c.in-Replace.path (values.node_of c.in-Replace.value) c.args.cut.now c.root_place.result c.root_place.ensures c.in-Some.place c.in-Some-old.old c.layout_for-layout.result
+    c.in-Some.is c.in-Some-old.is c.layout_for-layout.ensures in
     rw c.in-Replace.is (subst (Carries c.put_root.result) (sym way) c.put_root.ensures)
 
 pub returns : goal.returns
 returns c =
     let p = c.in-Replace.path in
     let v = values.node_of c.in-Replace.value in
-    let way = nothing_there p v c.args.cut.now c.root_place.result c.root_place.ensures c.in-Some.place c.layout_of-layout.result c.in_ok-kept.kept c.in-Some.is c.in_default-old.is c.layout_of-layout.ensures
+    let way = nothing_there p v c.args.cut.now c.root_place.result c.root_place.ensures c.in-Some.place c.layout_for-layout.result c.in_ok-kept.kept c.in-Some.is c.in_default-old.is c.layout_for-layout.ensures
     (c.in_ok-kept.ensures) in
     rw c.in-Replace.is (subst (Carries c.put_new.result) (sym way) c.put_new.ensures)
