@@ -1,13 +1,12 @@
 -- What a gap behind a block scalar asks of it, by the pieces of its row.
-use Rattle.std.proofs.Common.{◌≡◌, ℕ, ℤ, Bool, true, false, eqb, cond, List, [], ◌∷◌, ◌++◌, Option, Some, None, refl, sym, ap, ◌∙◌, append-nil, option_map}
+use Rattle.std.proofs.Common.{◌≡◌, ℕ, ℤ, true, false, eqb, cond, List, [], ◌∷◌, ◌++◌, Some, None, refl, sym, ap, ◌∙◌, append-nil, option_map}
 use Rattle.std.proofs.lemmas.Bool.{cond_both, false≢true}
-use Rattle.yq_scalar.specs.Block.{BlockText, IsBlock, ends_block, keeps, mark_of}
-use Rattle.yq_scalar.specs.BlockReading.{Indicators, indent_at, indicators_at}
+use Rattle.yq_scalar.specs.Block.{BlockText, IsBlock, ends_block, mark_of}
+use Rattle.yq_scalar.specs.BlockReading.{indent_at, indicators_at}
 use Rattle.yq_scalar.specs.Piece.{deeper}
 use Rattle.yq_scalar.specs.Text.{front, joined, lines_of}
 use Rattle.yq_scalar.specs.declared.block_header.BlockStyle.{BlockStyle}
 use Rattle.yq_scalar.specs.declared.block_header.BlockStyle.TheVariants as styles
-use Rattle.yq_scalar.specs.declared.block_lines.TextIndent.{TextIndent}
 use Rattle.yq_scalar.proofs.DetectedLaws.{indent_again}
 use Rattle.yq_scalar.proofs.HeaderLaws.{indicators_again}
 use Rattle.yq_scalar.proofs.RawLaws.{raw_lines}

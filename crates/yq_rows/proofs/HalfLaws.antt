@@ -1,32 +1,24 @@
 -- Rows and ends of parts by where they are kept, lent on the two halves of their text.
-use Rattle.std.proofs.Common.{◌≡◌, ℕ, zero, suc, ◌⊎◌, ⊎_elim, ◌+◌, ◌-◌, ◌<◌, ◌≤◌, ◌^◌, nat_lt, Bool, true, false, List, [], ◌∷◌, ◌++◌, length, map, reverse, Option, Some, slice_get, refl, sym, ap, ◌∙◌, subst, arith, append-nil, drop, get_or, length-append}
+use Rattle.std.proofs.Common.{◌≡◌, ℕ, ⊎_elim, ◌+◌, ◌-◌, ◌<◌, ◌≤◌, nat_lt, true, false, List, [], ◌∷◌, ◌++◌, length, map, reverse, refl, sym, ap, ◌∙◌, subst, arith, append-nil, length-append}
 use Rattle.std.proofs.lemmas.Bool.{cases_lt, le-ltb, lt-ltb}
-use Rattle.std.proofs.lemmas.List.{length-map, map-id}
 use Rattle.std.proofs.lemmas.Simd.{map-map}
-use Rattle.std.proofs.lemmas.List.Elements.{All-cons, All-get_or, All-nil}
-use Rattle.std.proofs.lemmas.Option.{get_or_from_slice_get, same_Some, slice_get-map, slice_get_read, slice_get_within}
+use Rattle.std.proofs.lemmas.List.Elements.{All-cons, All-nil}
 use Rattle.std.proofs.lemmas.Str.{IsUtf8-nil}
 use Rattle.std.specs.List.{All}
-use Rattle.std.specs.Option.{option_map}
-use Rattle.std.specs.Str.{IsCharBoundary, IsUtf8}
-use Rattle.yq_text.specs.Halves.{whole}
+use Rattle.std.specs.Str.{IsUtf8}
 use Rattle.yq_text.specs.declared.halves.Halves.{Halves}
-use Rattle.yq_rows.specs.Ends.{EndStands, bound_at, bound_in, bound_in_half, bounds_in_halves, end_at, half_from}
+use Rattle.yq_rows.specs.Ends.{EndStands, bound_in, bound_in_half, bounds_in_halves, end_at}
 use Rattle.yq_rows.specs.Items.{Item, row_item, end_item, items_text, rows_in_items, bounds_in_items, shown_items}
-use Rattle.yq_rows.specs.Kept.{HavePlaces, TextsIn, ends_near, far, kept_rows, near, placed_rows, shown_in, slices_behind, turned}
-use Rattle.yq_rows.specs.Offsets.{AreCuts, Ends, Stand, Stands, offsets_of, pieces_of, rows_in, slices_in}
-use Rattle.yq_rows.specs.RowStarts.{row_start}
+use Rattle.yq_rows.specs.Kept.{HavePlaces, TextsIn, ends_near, near, shown_in, slices_behind, turned}
+use Rattle.yq_rows.specs.Offsets.{Ends, pieces_of, rows_in, slices_in}
 use Rattle.yq_rows.specs.Rows.{print_row}
-use Rattle.yq_rows.specs.View.{Bound, Shown, Slices, slices}
+use Rattle.yq_rows.specs.View.{Bound, Slices, slices}
 use Rattle.yq_rows.specs.declared.ends.EndPlace.{EndPlace}
 use Rattle.yq_rows.specs.declared.offsets.Offsets as declared
 use Rattle.yq_rows.specs.declared.places.Places.{Places}
 use Rattle.yq_rows.proofs.EndPlaceLaws.{end_same, end_stands}
 use Rattle.yq_rows.proofs.FrontLaws.{front_drop, front_length}
-use Rattle.yq_rows.proofs.ItemLaws.{items_text-append}
-use Rattle.yq_rows.proofs.KeptLaws.{KeptRows, end_apart, far_near, items_apart, items_texts, near_joined, near_kept, row_apart, stands_at}
-use Rattle.yq_rows.proofs.NearLaws.{row_near, some_row}
-use Rattle.yq_rows.proofs.SliceLaws.{print-length}
+use Rattle.yq_rows.proofs.KeptLaws.{KeptRows, end_apart, far_near, items_texts, near_kept, row_apart}
 
 -- one end of a part in a text
 kept_end : (pre gap marker t : List ℕ) (k : ℕ) → IsUtf8 gap → IsUtf8 marker → IsUtf8 t → (bound_in (pre ++ (gap ++ (marker ++ t))) (end_at (length pre) k gap marker) ≡ record { rows = k; end = gap; marker = marker }) × EndStands (pre ++ (gap ++ (marker ++ t))) (end_at (length pre) k gap marker)

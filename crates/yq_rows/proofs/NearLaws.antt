@@ -23,7 +23,7 @@ use Rattle.yq_rows.proofs.ItemLaws.{items_of_text, items_shown, rows_items_text}
 use Rattle.yq_rows.proofs.ItemSpliceLaws.{rows_front}
 use Rattle.yq_rows.proofs.KeptLaws.{items_apart, near_joined}
 use Rattle.yq_rows.proofs.OffsetLaws.{row_then}
-use Rattle.yq_rows.proofs.PartsLaws.{parts_refused, parts_last, parts_marked, part_takes, marker_takes, part_marker}
+use Rattle.yq_rows.proofs.PartsLaws.{parts_last, parts_marked, part_takes, marker_takes, part_marker}
 use Rattle.yq_rows.proofs.RowLending.{row_joined}
 use Rattle.yq_rows.proofs.RowsLaws.{with_front, rows_from, rows_cut, rows_step, rows_refused, rows_done}
 use Rattle.yq_rows.proofs.ScanLaws.{parts_take}

@@ -1,5 +1,5 @@
 -- Reading (own; a reader may skip it): what a gap behind a block scalar asks of it, by the pieces of its row.
-use Rattle.std.specs.Prelude.{ℤ, ℕ, ◌==◌, ◌||◌, Bool, List, [], ◌∷◌, Option, Some, None, if◌then◌else◌}
+use Rattle.std.specs.Prelude.{ℤ, ℕ, ◌==◌, ◌||◌, Bool, List, [], ◌∷◌, Option, None, if◌then◌else◌}
 use Rattle.std.specs.Option.{option_map}
 use Rattle.yq_scalar.specs.Block.{keeps}
 use Rattle.yq_scalar.specs.BlockReading.{indent_at, indicators_at}

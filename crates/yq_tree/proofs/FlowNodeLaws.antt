@@ -1,13 +1,19 @@
 -- The flow collection at a path is the one that the code finds in the head of a line.
-use Rattle.std.proofs.Common.{◌≡◌, ℕ, ◌+◌, List, [], ◌∷◌, ◌++◌, length, Option, Some, None, option_map, refl, sym, ap, ◌∙◌}
+use Rattle.std.proofs.Common.{◌≡◌, ℕ, ◌+◌, Bool, true, false, cond, List, [], ◌∷◌, ◌++◌, length, map, take, Option, Some, None, option_and_then, option_map, refl, sym, ap, ◌∙◌, subst, append-nil}
 use Rattle.std.specs.List.{slice_get}
 use Rattle.yq_scalar.specs.Answers.{◌>>=◌}
-use Rattle.yq_scalar.specs.Paths.{Step}
-use Rattle.yq_inline.specs.Nodes.{Node, empty, alias, scalar, coll, anchored}
+use Rattle.yq_scalar.specs.Paths.{Step, is_here, further}
+use Rattle.yq_inline.specs.Collections.{CollPieces, coll_along, coll_in}
+use Rattle.yq_inline.specs.Entries.{EntryPieces, inside, item_at, step_of}
+use Rattle.yq_inline.specs.Nodes.{Items, none, item, Key, Node, empty, alias, scalar, coll, anchored, items_text, sep_text}
 use Rattle.yq_inline.specs.Places.{Placed, placed, nothing, name, text, sequence, mapping, with_anchor, locate}
+use Rattle.yq_inline.specs.Trees.{inner, key_content}
+use Rattle.yq_inline.specs.View.{view}
+use Rattle.yq_inline.proofs.WrittenLaws.{items_append, sep_append}
 use Rattle.yq_rows.specs.Exchange.{behind_row}
-use Rattle.yq_rows.specs.Rows.{Content, Nothing, Inline, Block, Row, Part, Cut, cut_text}
-use Rattle.yq_rows.specs.View.{Shown}
+use Rattle.yq_rows.specs.Grammar.{IsCut}
+use Rattle.yq_rows.specs.Rows.{Content, Nothing, Inline, Block, Row, Part, Cut}
+use Rattle.yq_rows.specs.View.{Shown, shown}
 use Rattle.yq_lines.specs.Outline.{Line}
 use Rattle.yq_lines.specs.Places.{lines_before, Found}
 use Rattle.yq_documents.specs.Documents.{document_parts}
@@ -16,12 +22,16 @@ use Rattle.yq_documents.specs.Lines.{tail_of, lines_of}
 use Rattle.yq_documents.specs.Reading.{outline_of}
 use Rattle.yq_documents.specs.Seats.{Seat, document_row}
 use Rattle.yq_tree.specs.FlowNodes.{content_flow, find_head, flow_collection, line_collection, part_collection}
-use Rattle.yq_tree.specs.FlowTold.{placed_collection, collection_along}
+use Rattle.yq_tree.specs.FlowTold as told
+use Rattle.yq_tree.specs.FlowTold.{TellsFlow, placed_collection, collection_along}
 use Rattle.yq_tree.specs.NodeReading.{NodePlace, with_steps, node_place, place_line, head_at}
 use Rattle.yq_tree.specs.RowWalk.{InCut, IsLine, line_number}
+use Rattle.yq_tree.specs.declared.places.flow_node.FlowHead.{FlowHead}
 use Rattle.yq_tree.specs.declared.places.spot.Spot.{Spot}
 use Rattle.yq_tree.specs.declared.places.spot.Stretch.{Stretch}
 use Rattle.yq_tree.proofs.FlowToldLaws.{collection_placed, head_found, numbered}
+use Rattle.yq_tree.proofs.WalkDocuments as documents
+use Rattle.yq_tree.proofs.WalkDocuments.{found_in_cut}
 use Rattle.yq_tree.proofs.WalkNodes.{row_is, seat_is, before_is}
 
 -- ---- the head of a row
@@ -63,29 +73,71 @@ row_along total r rest ss = kept_along ss (locate total (content_core r.content)
     go (Inline space node tail) = core_along total node (tail ++ rest) ss ∙ sym (collection_placed total ss node (tail ++ rest))
     go (Block space anchor block) = nothing_along total (tail_of (Block space anchor block) ++ rest) ss
 
+-- ---- more text behind
+
+as_entry : Key → Node → List ℕ → Option EntryPieces
+as_entry key n rest = Some (record { key = key; node = n; rest = rest })
+
+abbrev entry_more : List ℕ → EntryPieces → EntryPieces
+entry_more more y = record { key = y.key; node = y.node; rest = y.rest ++ more }
+
+item_more : (k : ℕ) (s : Step) (is : Items) (rest more : List ℕ) → item_at k s is (rest ++ more) ≡ option_map (entry_more more) (item_at k s is rest)
+unfolding as_entry
+item_more k s none rest more = refl
+item_more k s (item key n sep is) rest more = go (is_here s (inner (key_content key))) (item_more k (further s) is rest more)
+  where
+    go : (b : Bool) → item_at k (further s) is (rest ++ more) ≡ option_map (entry_more more) (item_at k (further s) is rest) →
+        cond b (as_entry key n (sep_text sep (items_text k is (rest ++ more)))) (item_at k (further s) is (rest ++ more)) ≡ option_map (entry_more more) (cond b (as_entry key n (sep_text sep (items_text k is rest))) (item_at k (further s) is rest))
+    go true again = ap (as_entry key n) (ap (sep_text sep) (items_append k is rest more) ∙ sep_append sep (items_text k is rest) more)
+    go false again = again
+
+inside_more : (s : Step) (node : Node) (rest more : List ℕ) → inside s node (rest ++ more) ≡ option_map (entry_more more) (inside s node rest)
+inside_more s empty rest more = refl
+inside_more s (alias n) rest more = refl
+inside_more s (scalar p) rest more = refl
+inside_more s (coll k gap is) rest more = item_more k s is rest more
+inside_more s (anchored n gap node) rest more = inside_more s node rest more
+
+abbrev with_more : List ℕ → CollPieces → CollPieces
+with_more more w = record { close = w.close; gap = w.gap; items = w.items; rest = w.rest ++ more }
+
+coll_in_more : (node : Node) (rest more : List ℕ) → coll_in node (rest ++ more) ≡ option_map (with_more more) (coll_in node rest)
+coll_in_more empty rest more = refl
+coll_in_more (alias n) rest more = refl
+coll_in_more (scalar p) rest more = refl
+coll_in_more (coll k gap is) rest more = refl
+coll_in_more (anchored n gap node) rest more = coll_in_more node rest more
+
+coll_more : (ss : List Step) (node : Node) (rest more : List ℕ) → coll_along ss node (rest ++ more) ≡ option_map (with_more more) (coll_along ss node rest)
+coll_more [] node rest more = coll_in_more node rest more
+coll_more (s ∷ ss) node rest more = ap (option_and_then (λ (y : EntryPieces). coll_along ss y.node y.rest)) (inside_more s node rest more) ∙ go (inside s node rest) (λ y. coll_more ss y.node y.rest more)
+  where
+    go : (o : Option EntryPieces) → ((y : EntryPieces) → coll_along ss y.node (y.rest ++ more) ≡ option_map (with_more more) (coll_along ss y.node y.rest)) →
+        option_and_then (λ (y : EntryPieces). coll_along ss y.node y.rest) (option_map (entry_more more) o) ≡ option_map (with_more more) (option_and_then (λ (y : EntryPieces). coll_along ss y.node y.rest) o)
+    go None again = refl
+    go (Some y) again = again y
+
+content_more : (ss : List Step) (x : Content) (rest : List ℕ) → content_flow ss x rest ≡ option_map (with_more rest) (content_flow ss x [])
+content_more ss (Nothing tail) rest = refl
+content_more ss (Inline space node tail) rest = coll_more ss node tail rest ∙ ap (λ (l : List ℕ). option_map (with_more rest) (coll_along ss node l)) (sym (append-nil tail))
+content_more ss (Block space anchor block) rest = refl
+
 -- ---- the collection
 
--- the flow collection to which steps lead among rows, before which k rows of a cut stand, with its places in the text
-abbrev pub rows_collection : ℕ → Cut → List Row → List Step → Option Placed
-rows_collection k c rs steps = head_at steps (lines_of rs) >>= λ x. option_map (placed_collection (length (cut_text c))) (line_collection k c rs x.0 x.1)
+-- the flow collection to which steps lead among rows, before which k rows of a cut stand
+abbrev pub rows_collection : ℕ → Cut → List Row → List Step → Option CollPieces
+rows_collection k c rs steps = head_at steps (lines_of rs) >>= λ x. line_collection k c rs x.0 x.1
 
 pub no_collection : (k : ℕ) (c : Cut) (rs : List Row) (steps : List Step) → None ≡ head_at steps (lines_of rs) → None ≡ rows_collection k c rs steps
-no_collection k c rs steps e = ap (λ (o : Option (ℕ × List Step)). o >>= λ x. option_map (placed_collection (length (cut_text c))) (line_collection k c rs x.0 x.1)) e
+no_collection k c rs steps e = ap (λ (o : Option (ℕ × List Step)). o >>= λ x. line_collection k c rs x.0 x.1) e
 
 -- the collection in the head of a line, by its row
-pub collection_told : (s : Shown) (d : Stretch) (c : Cut) (k : InCut s d c) (q : Spot) (at : IsLine s d q) (steps left : List Step) → head_at steps (lines_of k.document.rows) ≡ Some (line_number d k.document.rows q, left) →
-    (row_flow (length (cut_text c)) (row_is s d c k q at) (behind_row q.row c) >>= collection_along left) ≡ rows_collection d.first c k.document.rows steps
-collection_told s d c k q at steps left e =
-    let total : ℕ = length (cut_text c) in
-    row_along total (row_is s d c k q at) (behind_row q.row c) left
-    ∙ (ap (λ (i : ℕ). option_map (placed_collection total) (content_flow left (row_is s d c k q at).content (behind_row i c))) (sym (before_is s d c k q at))
-    ∙ (sym (ap (λ (o : Option Seat). option_map (placed_collection total) (o >>= λ x. content_flow left x.row.content (behind_row (d.first + x.before) c))) (seat_is s d c k q at))
-    ∙ sym (ap (λ (o : Option (ℕ × List Step)). o >>= λ x. option_map (placed_collection total) (line_collection d.first c k.document.rows x.0 x.1)) e)))
-
-pub flow_told : (t : List ℕ) (s : Shown) (d : Stretch) (c : Cut) (k : InCut s d c) (q : Spot) (at : IsLine s d q) (steps left : List Step) (f : Option Placed) → t ≡ cut_text c → Some (line_number d k.document.rows q, left) ≡ head_at steps (lines_of k.document.rows) →
-    f ≡ row_flow (length t) (row_is s d c k q at) (behind_row q.row c) → (f >>= collection_along left) ≡ rows_collection d.first c k.document.rows steps
-flow_told t s d c k q at steps left f whole e flow =
-    ap (λ (o : Option Placed). o >>= collection_along left) (flow ∙ ap (λ (y : List ℕ). row_flow (length y) (row_is s d c k q at) (behind_row q.row c)) whole) ∙ collection_told s d c k q at steps left (sym e)
+line_told : (s : Shown) (d : Stretch) (c : Cut) (k : InCut s d c) (q : Spot) (at : IsLine s d q) (steps left : List Step) → head_at steps (lines_of k.document.rows) ≡ Some (line_number d k.document.rows q, left) →
+    rows_collection d.first c k.document.rows steps ≡ content_flow left (row_is s d c k q at).content (behind_row q.row c)
+line_told s d c k q at steps left e =
+    ap (λ (o : Option (ℕ × List Step)). o >>= λ x. line_collection d.first c k.document.rows x.0 x.1) e
+    ∙ (ap (λ (o : Option Seat). o >>= λ x. content_flow left x.row.content (behind_row (d.first + x.before) c)) (seat_is s d c k q at)
+    ∙ ap (λ (i : ℕ). content_flow left (row_is s d c k q at).content (behind_row i c)) (before_is s d c k q at))
 
 -- the line in whose head it is
 pub head_line_at : (ls : List Line) (steps left : List Step) (p : NodePlace) (o : Option ℕ) → Some (p, left) ≡ node_place steps ls → o ≡ place_line ls p → with_steps left o ≡ head_at steps ls
@@ -95,20 +147,57 @@ head_line_at ls steps left p o e found =
 pub no_head_at : (ls : List Line) (steps : List Step) → None ≡ node_place steps ls → None ≡ head_at steps ls
 no_head_at ls steps e = ap (λ (x : Option (NodePlace × List Step)). x >>= λ y. with_steps y.1 (place_line ls y.0)) e
 
-part_collection_is : (k : ℕ) (c : Cut) (p : Part) (steps : List Step) → rows_collection k c p.rows steps ≡ option_map (placed_collection (length (cut_text c))) (part_collection k c steps p)
-part_collection_is k c p steps =
-    ap (λ (o : Option (ℕ × List Step)). o >>= λ x. option_map (placed_collection (length (cut_text c))) (line_collection k c p.rows x.0 x.1)) (sym (head_found (lines_of p.rows) steps)) ∙ go (find_head steps (outline_of p))
+part_collection_is : (k : ℕ) (c : Cut) (p : Part) (steps : List Step) → rows_collection k c p.rows steps ≡ part_collection k c steps p
+part_collection_is k c p steps = ap (λ (o : Option (ℕ × List Step)). o >>= λ x. line_collection k c p.rows x.0 x.1) (sym (head_found (lines_of p.rows) steps)) ∙ go (find_head steps (outline_of p))
   where
-    go : (o : Option (Found × List Step)) → (option_map numbered o >>= λ x. option_map (placed_collection (length (cut_text c))) (line_collection k c p.rows x.0 x.1)) ≡
-        option_map (placed_collection (length (cut_text c))) (o >>= λ x. line_collection k c p.rows (length (lines_before x.0.place)) x.1)
+    go : (o : Option (Found × List Step)) → (option_map numbered o >>= λ x. line_collection k c p.rows x.0 x.1) ≡ (o >>= λ x. line_collection k c p.rows (length (lines_before x.0.place)) x.1)
     go None = refl
     go (Some x) = refl
 
 -- the collection in a document of a text
-pub collection_is : (t : List ℕ) (c : Cut) (n : ℕ) (steps : List Step) → t ≡ cut_text c →
-    (slice_get (document_parts c) n >>= λ p. rows_collection (document_row n c) c p.rows steps) ≡ option_map (placed_collection (length t)) (flow_collection n steps c)
-collection_is t c n steps whole = go (slice_get (document_parts c) n) ∙ ap (λ (y : List ℕ). option_map (placed_collection (length y)) (flow_collection n steps c)) (sym whole)
+pub collection_is : (c : Cut) (n : ℕ) (steps : List Step) → (slice_get (document_parts c) n >>= λ p. rows_collection (document_row n c) c p.rows steps) ≡ flow_collection n steps c
+collection_is c n steps = go (slice_get (document_parts c) n)
   where
-    go : (o : Option Part) → (o >>= λ p. rows_collection (document_row n c) c p.rows steps) ≡ option_map (placed_collection (length (cut_text c))) (o >>= part_collection (document_row n c) c steps)
+    go : (o : Option Part) → (o >>= λ p. rows_collection (document_row n c) c p.rows steps) ≡ (o >>= part_collection (document_row n c) c steps)
     go None = refl
     go (Some p) = part_collection_is (document_row n c) c p steps
+
+pub no_flow_told : (t : List ℕ) (all : Option CollPieces) → None ≡ all → TellsFlow t all None
+no_flow_told t all e = subst (λ (o : Option CollPieces). TellsFlow t o None) e tt
+
+-- ---- the head that the code has read
+
+module _ (t : List ℕ) (s : Shown) (c : Cut) (n : ℕ) (d : Stretch) (cut : IsCut t c) (is : s ≡ shown c) (f : documents.Found s c n d) (q : Spot) (at : IsLine s d q) (steps left : List Step)
+    (leads : head_at steps (lines_of (found_in_cut t s c n d cut is f).0.document.rows) ≡ Some (line_number d (found_in_cut t s c n d cut is f).0.document.rows q, left)) where
+  abbrev k : InCut s d c
+  k = (found_in_cut t s c n d cut is f).0
+
+  abbrev row : Row
+  row = row_is s d c k q at
+
+  abbrev alone : Option CollPieces
+  alone = content_flow left row.content []
+
+  all_is : flow_collection n steps c ≡ option_map (with_more (behind_row q.row c)) alone
+  all_is =
+      sym (collection_is c n steps)
+      ∙ (ap (λ (o : Option Part). o >>= λ p. rows_collection (document_row n c) c p.rows steps) f.there
+      ∙ ((λ i. rows_collection (sym f.first i) c (sym (found_in_cut t s c n d cut is f).1 i) steps)
+      ∙ (line_told s d c k q at steps left leads ∙ content_more left row.content (behind_row q.row c))))
+
+  pub other_head : (total : ℕ) → None ≡ row_flow total row [] → TellsFlow t (flow_collection n steps c) None
+  other_head total e = no_flow_told t (flow_collection n steps c) (go alone (ap (λ (o : Option Placed). o >>= collection_along left) e ∙ row_along total row [] left) ∙ sym all_is)
+    where
+      go : (o : Option CollPieces) → None ≡ option_map (placed_collection total) o → None ≡ option_map (with_more (behind_row q.row c)) o
+      go None e = refl
+      go (Some w) e = absurd (cc)
+
+  pub head_tells : (x : FlowHead) → left ≡ map step_of x.left.now → t ≡ take x.before t ++ (x.text.now ++ behind_row q.row c) → x.before ≡ length (take x.before t) → Some (view x.node.value) ≡ row_flow (length x.text.now) row [] →
+      TellsFlow t (flow_collection n steps c) (Some x)
+  head_tells x own stands begins e =
+      subst (λ (o : Option CollPieces). TellsFlow t o (Some x)) (sym all_is)
+      (go alone (ap (λ (ss : List Step). collection_along ss (view x.node.value)) (sym own) ∙ (ap (λ (o : Option Placed). o >>= collection_along left) e ∙ row_along (length x.text.now) row [] left)))
+    where
+      go : (o : Option CollPieces) → told.collection_told x ≡ option_map (placed_collection (length x.text.now)) o → TellsFlow t (option_map (with_more (behind_row q.row c)) o) (Some x)
+      go None e = e
+      go (Some w) e = record { front = take x.before t; behind = behind_row q.row c; rest = w.rest; text = stands; before = begins; rest_is = refl; found = e }

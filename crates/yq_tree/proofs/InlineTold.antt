@@ -1,5 +1,5 @@
 -- What the code is told of the extents of inline nodes.
-use Rattle.std.proofs.Common.{◌≡◌, ℕ, List, Some, None, option_map, Bool, true, false, refl, sym, ap, ◌∙◌}
+use Rattle.std.proofs.Common.{◌≡◌, ◌-◌, ℕ, List, take, drop, Some, None, option_map, Bool, true, false, refl, sym, ap, ◌∙◌}
 use Rattle.std.proofs.lemmas.Bool.{false≢true}
 use Rattle.std.proofs.lemmas.Option.{slice_get-map, same_Some}
 use Rattle.std.specs.List.{slice_get}
@@ -11,6 +11,8 @@ use Rattle.yq_tree.specs.Extents.{head_place}
 use Rattle.yq_tree.specs.InlineReading.{content_extent, row_extent}
 use Rattle.yq_documents.specs.RowReading.{begins_block}
 use Rattle.yq_tree.proofs.HeadEnds.{block_told}
+use Rattle.yq_tree.proofs.HeadSpanLaws.{head_written}
+use Rattle.yq_tree.proofs.SpanLaws.{get_row}
 
 -- the pieces of a row that is shown
 pub slices_are : (c : Cut) (s : Shown) (i : ℕ) (x : Slices) (r : Row) → s ≡ shown c → slice_get s.rows i ≡ Some x → slice_get (rows_of c) i ≡ Some r → x ≡ slices r
@@ -35,3 +37,10 @@ row_inline t c s alone i x r place cut is there row b at =
     go (Nothing tail) e = refl
     go (Inline space node tail) e = refl
     go (Block space anchor block) e = absurd (false≢true (sym e))
+
+-- what stands in its place
+pub old_written : (t : List ℕ) (c : Cut) (s : Shown) (i : ℕ) (x : Slices) (place : ℕ × ℕ) (old : List ℕ) → IsCut t c → s ≡ shown c → slice_get s.rows i ≡ Some x → ((r : Row) → slice_get (rows_of c) i ≡ Some r → place ≡ head_place i c r) → old ≡ x.head →
+    take (place.1 - place.0) (drop place.0 t) ≡ old
+old_written t c s i x place old cut is there at own =
+    let r = get_row (rows_of c) i x (sym (slice_get-map slices (rows_of c) i) ∙ (ap (λ (y : Shown). slice_get y.rows i) (sym is) ∙ there)) in
+    head_written t c i r.0 place cut r.1 (at r.0 r.1) ∙ (ap (λ (y : Slices). y.head) r.2 ∙ sym own)

@@ -73,7 +73,6 @@ pub mod PlacedPartLaws
 pub mod RemovalTexts
 pub mod RemovalLines
 pub mod RemovalPlaceLaws
-pub mod BlockRowLaws
 pub mod RemovalBounds
 pub mod RemovalTold
 pub mod FirstLaws

@@ -194,7 +194,6 @@ pub record FourCuts (t : List ℕ) (x : Removal) (start size gap : ℕ) : Type 0
   pub ends : IsCharBoundary (drop size (drop start t)) gap
   pub before_is : take start t ≡ x.before
   pub gone_is : take size (drop start t) ≡ x.gone
-  pub gap_is : take gap (drop size (drop start t)) ≡ x.gap
   pub behind_is : drop gap (drop size (drop start t)) ≡ x.behind
 
 four_cuts : (t : List ℕ) (x : Removal) → IsUtf8 t → t ≡ x.before ++ (x.gone ++ (x.gap ++ x.behind)) → LineSeam x.before (x.gone ++ (x.gap ++ x.behind)) → LineSeam x.gone (x.gap ++ x.behind) → LineSeam x.gap x.behind →
@@ -211,7 +210,6 @@ four_cuts t x u text a b g =
       ends = subst (λ (y : List ℕ). IsCharBoundary y (length x.gap)) (sym two) (line_boundary x.gap x.behind g left);
       before_is = ap (take (length x.before)) text ∙ take-append_seam x.before (x.gone ++ (x.gap ++ x.behind));
       gone_is = ap (take (length x.gone)) one ∙ take-append_seam x.gone (x.gap ++ x.behind);
-      gap_is = ap (take (length x.gap)) two ∙ take-append_seam x.gap x.behind;
       behind_is = ap (drop (length x.gap)) two ∙ drop-append_seam x.gap x.behind;
     }
 
@@ -226,6 +224,7 @@ pub record CodeTold (t : List ℕ) (d : PlacedPart) (x : OwnRows) (kept gap : Li
   pub kept_is : kept ≡ kept_gap x.own d.part.end
   pub within : begin + length kept ≤ length t
   pub order : begin + length kept ≤ stop
+  pub gap_is : gap ≡ first_gap x.back d.part.end
   pub column_is : column ≡ next_column x.back
   pub cuts : FourCuts t (rows_out d x) (begin + length kept) (stop - (begin + length kept)) (length gap)
 
@@ -243,6 +242,7 @@ code_told t s d x first at end y kept gap begin stop column u o there kept_now b
       kept_is = own;
       within = omega (arith, start, whole, length-append out.before (out.gone ++ (out.gap ++ out.behind)));
       order = omega (arith, start, stop_is, o.stop);
+      gap_is = gap_is;
       column_is = ap (λ (z : List ℕ × ℕ). z.1) both;
       cuts = cuts_told t s d x first at end (begin + length kept) (stop - (begin + length kept)) (length gap) u o start size (ap length gap_is);
     }

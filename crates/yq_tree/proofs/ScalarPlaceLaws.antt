@@ -1,15 +1,16 @@
 -- Block scalars behind keys and dashes, by the row that the code has found.
-use Rattle.std.proofs.Common.{◌≡◌, ℕ, ◌+◌, ◌-◌, eqb, List, ◌∷◌, ◌++◌, length, take, drop, Option, Some, None, option_map, Bool, true, false, cond, refl, sym, ap, ◌∙◌, subst, arith, append_assoc, length-append}
+use Rattle.std.proofs.Common.{◌≡◌, ◌≤◌, ℕ, ◌+◌, ◌-◌, eqb, List, ◌∷◌, ◌++◌, length, take, drop, Option, Some, None, option_map, Bool, true, false, cond, refl, sym, ap, ◌∙◌, subst, arith, append_assoc, length-append}
 use Rattle.std.proofs.Math.Seq.{take-append_seam, drop-append_seam}
 use Rattle.std.proofs.lemmas.Bool.{eq-eqb, eqb-true}
 use Rattle.std.proofs.lemmas.Option.{slice_get-map, same_Some}
-use Rattle.std.proofs.lemmas.Str.{IsCharBoundary-at_seam, IsCharBoundary-from_take, IsUtf8-append}
+use Rattle.std.proofs.lemmas.Str.{IsCharBoundary-at_seam, IsCharBoundary-from_take, IsUtf8-append, IsUtf8-drop}
 use Rattle.std.specs.List.{slice_get}
 use Rattle.std.specs.Str.{IsUtf8, IsCharBoundary}
 use Rattle.yq_scalar.specs.Answers.{◌>>=◌}
 use Rattle.yq_scalar.specs.Block.{BlockText}
 use Rattle.yq_rows.specs.Exchange.{row_front, before_content}
-use Rattle.yq_rows.specs.Removal.{block_of}
+use Rattle.yq_rows.specs.Grammar.{IsCut}
+use Rattle.yq_rows.specs.Removal.{block_numbers, block_of}
 use Rattle.yq_rows.specs.Rows.{Content, Nothing, Inline, Block, Row, print_row, Cut}
 use Rattle.yq_rows.specs.View.{Slices, slices, content_cut, rows_of, Shown, shown}
 use Rattle.yq_rows.proofs.NodePieces.{BeginsAscii, before_ascii}
@@ -19,7 +20,6 @@ use Rattle.yq_tree.specs.Extents.{head_place}
 use Rattle.yq_documents.specs.Located.{steps_of}
 use Rattle.yq_tree.specs.PlacedRows.{PlacedRow}
 use Rattle.yq_documents.specs.Reading.{cut_of}
-use Rattle.yq_tree.specs.RemovalReading.{block_numbers}
 use Rattle.yq_tree.specs.ScalarPlaces.{ScalarPlace, anchor_before, space_before, scalar_by, scalar_in, scalar_of, scalar_place}
 use Rattle.yq_tree.specs.ScalarTelling.{StandsAt}
 use Rattle.yq_tree.specs.SeatReading.{Numbers, numbers}
@@ -49,20 +49,23 @@ module _ (t : List ℕ) (start : ℕ) (s : Slices) (h : StandsAt t start s) wher
   own_size : length s.head + length s.tail + length s.raw ≡ length (s.head ++ (s.tail ++ s.raw))
   own_size = omega (arith, length-append s.head (s.tail ++ s.raw), length-append s.tail s.raw)
 
-  start_size : (front : List ℕ) → front ≡ take start t → length front - length (space_before s) ≡ length h.before
-  start_size front e = omega (arith, ap length (e ∙ front_text), length-append h.before (space_before s))
+  start_size : start - length (space_before s) ≡ length h.before
+  start_size = omega (arith, h.start_is, length-append h.before (space_before s))
 
-  pub before_boundary : (front : List ℕ) → front ≡ take start t → IsUtf8 (space_before s) → IsCharBoundary front (length front - length (space_before s))
-  before_boundary front e u = subst (IsCharBoundary front) (sym (start_size front e)) (IsCharBoundary-at_seam front h.before (space_before s) (e ∙ front_text) u)
+  pub space_fits : length (space_before s) ≤ start
+  space_fits = omega (arith, h.start_is, length-append h.before (space_before s))
 
-  pub before_is : (front : List ℕ) → front ≡ take start t → take (length front - length (space_before s)) front ≡ h.before
-  before_is front e = (λ i. take (start_size front e i) ((e ∙ front_text) i)) ∙ take-append_seam h.before (space_before s)
+  pub before_boundary : (front : List ℕ) → front ≡ take start t → IsUtf8 (space_before s) → IsCharBoundary front (start - length (space_before s))
+  before_boundary front e u = subst (IsCharBoundary front) (sym start_size) (IsCharBoundary-at_seam front h.before (space_before s) (e ∙ front_text) u)
 
-  pub behind_boundary : (rest : List ℕ) → rest ≡ drop start t → IsUtf8 rest → IsUtf8 s.head → IsUtf8 s.tail → IsUtf8 s.raw → IsCharBoundary rest (length s.head + length s.tail + length s.raw)
+  pub before_is : (front : List ℕ) → front ≡ take start t → take (start - length (space_before s)) front ≡ h.before
+  before_is front e = (λ i. take (start_size i) ((e ∙ front_text) i)) ∙ take-append_seam h.before (space_before s)
+
+  pub behind_boundary : (rest : List ℕ) → rest ≡ drop start t → IsUtf8 t → IsUtf8 s.head → IsUtf8 s.tail → IsUtf8 s.raw → IsCharBoundary rest (length s.head + length s.tail + length s.raw)
   behind_boundary rest e u a b d =
       let whole : rest ≡ own ++ h.behind = e ∙ rest_text in
       let front : take (length s.head + length s.tail + length s.raw) rest ≡ own = (λ i. take (own_size i) (whole i)) ∙ take-append_seam own h.behind in
-      IsCharBoundary-from_take rest (length s.head + length s.tail + length s.raw) u (omega (arith, own_size, ap length whole, length-append own h.behind)) (subst IsUtf8 (sym front) (IsUtf8-append s.head (s.tail ++ s.raw) a (IsUtf8-append s.tail s.raw b d)))
+      IsCharBoundary-from_take rest (length s.head + length s.tail + length s.raw) (subst IsUtf8 (sym e) (IsUtf8-drop t start u h.boundary)) (omega (arith, own_size, ap length whole, length-append own h.behind)) (subst IsUtf8 (sym front) (IsUtf8-append s.head (s.tail ++ s.raw) a (IsUtf8-append s.tail s.raw b d)))
 
   pub behind_is : (rest : List ℕ) → rest ≡ drop start t → drop (length s.head + length s.tail + length s.raw) rest ≡ h.behind
   behind_is rest e = (λ i. drop (own_size i) ((e ∙ rest_text) i)) ∙ drop-append_seam own h.behind
@@ -129,18 +132,15 @@ module _ (t : List ℕ) (x : Shown) (held : HasCut t x) (path : Path) (n : Numbe
   row_there : slice_get (rows_of (cut_of t)) n.0 ≡ Some w.row
   row_there = (seat_placed path (cut_of t) n seat_is).1.at.there
 
-  row_in_text : slice_get (rows_of (cut_of text)) n.0 ≡ Some w.row
-  row_in_text = ap (λ u. slice_get (rows_of (cut_of u)) n.0) same ∙ row_there
-
   shown_row : slice_get x.rows n.0 ≡ Some (slices w.row)
   shown_row = ap (λ (y : Shown). slice_get y.rows n.0) held.rows ∙ (slice_get-map slices (rows_of (cut_of t)) n.0 ∙ ap (option_map slices) row_there)
 
   -- the numbers that the code has found for the block scalar of this row
   abbrev IsTold : Option (Bool × ℕ) → Type 0
-  IsTold o = (r : Row) → slice_get (rows_of (cut_of text)) n.0 ≡ Some r → o ≡ option_map block_numbers (block_of r.content)
+  IsTold o = (t : List ℕ) (c : Cut) (r : Row) → IsCut t c → x ≡ shown c → slice_get (rows_of c) n.0 ≡ Some r → o ≡ option_map block_numbers (block_of r.content)
 
   pub no_scalar_there : IsTold None → None ≡ scalar_place path.doc (steps_of path) (cut_of t)
-  no_scalar_there told = sym (scalar_here path (cut_of t) n seat_is last ∙ ap (option_map (scalar_in w)) (no_block (block_of w.row.content) (told w.row row_in_text)))
+  no_scalar_there told = sym (scalar_here path (cut_of t) n seat_is last ∙ ap (option_map (scalar_in w)) (no_block (block_of w.row.content) (told t (cut_of t) w.row held.cut held.rows row_there)))
 
   abbrev IsHeadPlace : ℕ × ℕ → Type 0
   IsHeadPlace place = (c : Cut) → x ≡ shown c → (r : Row) → slice_get (rows_of c) n.0 ≡ Some r → place ≡ head_place n.0 c r
@@ -154,7 +154,7 @@ module _ (t : List ℕ) (x : Shown) (held : HasCut t x) (path : Path) (n : Numbe
     rest = s.tail ++ (s.raw ++ w.behind)
 
     found : (b : BlockText) × ((block_of w.row.content ≡ Some b) × (indent ≡ b.indent.columns))
-    found = some_block (block_of w.row.content) indent keeps (told w.row row_in_text)
+    found = some_block (block_of w.row.content) indent keeps (told t (cut_of t) w.row held.cut held.rows row_there)
 
     line : line_text w.row ≡ row_front w.row ++ (anchor_before s ++ (space_before s ++ s.head))
     line = ap (λ u. row_front w.row ++ u) (head_front w.row.content found.0 s s.head found.1.0 refl refl refl)

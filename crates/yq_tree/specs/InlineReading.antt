@@ -1,8 +1,10 @@
 -- Reading (own; a reader may skip it): where inline nodes stand, by the rows of a text and their pieces, as the code counts.
-use Rattle.std.specs.Prelude.{◌||◌, ◌==◌, ℕ, suc, ◌+◌, List, [], ◌∷◌, length, Option, Some, None, is_some, Bool, true, false, if◌then◌else◌, slice_get}
+use Rattle.std.specs.Prelude.{◌≡◌, ◌||◌, ◌==◌, ℕ, suc, ◌+◌, ◌-◌, IfSome, List, [], ◌∷◌, length, take, drop, Option, Some, None, is_some, Bool, true, false, if◌then◌else◌, slice_get}
 use Rattle.yq_text.specs.Halves.{whole}
 use Rattle.yq_scalar.specs.Answers.{◌>>=◌}
 use Rattle.yq_scalar.specs.Paths.{Step}
+use Rattle.yq_rows.specs.Grammar.{IsCut}
+use Rattle.yq_rows.specs.View.{Shown, shown}
 use Rattle.yq_rows.specs.Rows.{Content, Nothing, Inline, Block, Row, Cut}
 use Rattle.yq_lines.specs.Bodies.{lent}
 use Rattle.yq_lines.specs.Ends.{line_of, lines_end}
@@ -31,6 +33,14 @@ extent_of w = (length w.before, length w.before + length (written_text w.old), w
 -- the extent that the code tells
 abbrev pub extent_view : InlineSpan → InlineExtent
 extent_view s = (s.span.start, s.span.end, s.alone)
+
+-- What stands in an extent of a text is what the code lends for it.
+abbrev pub HoldsOld : List ℕ → InlineSpan → Type 0
+HoldsOld t x = take (x.span.end - x.span.start) (drop x.span.start t) ≡ x.old.now
+
+-- The same of the text of which these are the pieces, if there is an extent.
+abbrev pub LendsOld : Shown → Option InlineSpan → Type 0
+LendsOld s o = (t : List ℕ) (c : Cut) → IsCut t c → s ≡ shown c → IfSome o (HoldsOld t)
 
 -- the extent of a content, by where its head stands; a block scalar has none
 abbrev pub content_extent : Bool → ℕ × ℕ → Content → Option InlineExtent

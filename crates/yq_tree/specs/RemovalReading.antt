@@ -1,8 +1,7 @@
 -- Reading (own; a reader may skip it): what is taken out with an item or entry, by the pieces of rows, as the code counts.
-use Rattle.std.specs.Prelude.{◌≡◌, ℕ, ◌+◌, Bool, false, List, [], ◌∷◌, ◌++◌, length, slice_get, Option, Some, None, option_map}
+use Rattle.std.specs.Prelude.{◌≡◌, ℕ, ◌+◌, false, List, [], ◌∷◌, ◌++◌, length, slice_get, Option, Some, None, option_map}
 use Rattle.yq_text.specs.Halves.{whole}
 use Rattle.yq_scalar.specs.Answers.{◌>>=◌}
-use Rattle.yq_scalar.specs.Block.{BlockText, keeps}
 use Rattle.yq_scalar.specs.Paths.{Step}
 use Rattle.yq_rows.specs.Grammar.{IsCut, no_rows}
 use Rattle.yq_rows.specs.Rows.{Cut}
@@ -24,10 +23,6 @@ gap_and_column [] (Some s) = (s.gap, s.column)
 -- the same of row i
 abbrev pub gap_at : ℕ → Shown → List ℕ × ℕ
 gap_at i s = gap_and_column (bounds_at i s.bounds) (slice_get s.rows i)
-
--- whether a block scalar keeps the empty lines at its end, and how far its text is indented
-abbrev pub block_numbers : BlockText → Bool × ℕ
-block_numbers b = (keeps b.chomping, b.indent.columns)
 
 -- how many rows stand before a document, before an item or entry of it, and before what is behind that
 abbrev pub Marks : Type 0

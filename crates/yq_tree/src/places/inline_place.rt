@@ -1,5 +1,5 @@
 //! Where inline nodes stand outside flow collections, and where nothing is written.
-ghost use Rattle.std.specs.Prelude.{◌≡◌, ◌<◌, ℕ, List, Some, length, map, option_map, slice_get};
+ghost use Rattle.std.specs.Prelude.{◌≡◌, ◌<◌, ℕ, IfSome, List, Some, length, map, option_map, slice_get};
 ghost use Rattle.std.specs.Str.{IsCharBoundary};
 ghost use Rattle.yq_text.specs.Halves.{whole};
 ghost use Rattle.yq_inline.specs.Entries.{step_of};
@@ -39,41 +39,49 @@ pub struct InlinePlace<'d> {
 
 /// Such a place in bytes, and whether it is alone.
 #[derive(Clone, Copy, Debug)]
-pub(crate) struct InlineSpan {
+pub(crate) struct InlineSpan<'t> {
     pub(crate) span: Span,
     pub(crate) alone: bool,
-    /// The row in which it is.
-    pub(crate) row: usize,
+    /// What stands there.
+    pub(crate) old: &'t str,
 }
 
 /// The place behind the mark of row `i`, unless a block scalar stands there.
-fn row_extent(rows: &Rows<'_>, alone: bool, i: usize) -> Option<InlineSpan>
+fn row_extent<'t>(rows: &Rows<'t>, alone: bool, i: usize) -> Option<InlineSpan<'t>>
     requires within { i < length rows.now.rows }
     requires shown { IsShown rows.now }
-    ensures { (t : List ℕ) (c : Cut) → IsCut t c → rows.now ≡ shown c → (r : RowOf) →
+    ensures extent { (t : List ℕ) (c : Cut) → IsCut t c → rows.now ≡ shown c → (r : RowOf) →
         slice_get (rows_of c) i ≡ Some r → option_map spec.extent_view result ≡
         spec.row_extent alone i r c }
+    ensures old { spec.LendsOld rows.now result }
 {
-    if begins_block(rows.row(i).head().as_bytes()) {
+    let old = rows.row(i).head();
+    if begins_block(old.as_bytes()) {
         return None;
     }
     let (start, end) = head_place(rows, i);
     Some(InlineSpan {
         span: Span { start, end },
         alone,
-        row: i,
+        old,
     })
 }
 
 /// The place of the node on a line of its own with which the lines begin, from one on, that are deeper
 /// than a level.
-fn node_extent(rows: &Rows<'_>, document: Stretch, under: Spot, floor: usize) -> Option<InlineSpan>
+fn node_extent<'t>(
+    rows: &Rows<'t>,
+    document: Stretch,
+    under: Spot,
+    floor: usize,
+) -> Option<InlineSpan<'t>>
     requires shown { IsShown rows.now }
     requires document { HasDocument rows.now document }
     requires under { IsSpot rows.now document under }
-    ensures { InEach rows.now document (λ first c rs n. (to : ℕ) →
+    ensures extent { InEach rows.now document (λ first c rs n. (to : ℕ) →
         EndsAt document rs under floor to → option_map spec.extent_view result ≡
         spec.lines_extent first c rs (n under) to) }
+    ensures old { spec.LendsOld rows.now result }
 {
     if begins_with_node(rows, document, under, floor) {
         row_extent(rows, true, under.row)
@@ -83,12 +91,17 @@ fn node_extent(rows: &Rows<'_>, document: Stretch, under: Spot, floor: usize) ->
 }
 
 /// The place of the node of a line.
-fn entry_extent(rows: &Rows<'_>, document: Stretch, at: Spot) -> Option<InlineSpan>
+fn entry_extent<'t>(
+    rows: &Rows<'t>,
+    document: Stretch,
+    at: Spot,
+) -> Option<InlineSpan<'t>>
     requires shown { IsShown rows.now }
     requires document { HasDocument rows.now document }
     requires at { IsLine rows.now document at }
-    ensures { InEach rows.now document (λ first c rs n. option_map spec.extent_view result ≡
+    ensures extent { InEach rows.now document (λ first c rs n. option_map spec.extent_view result ≡
         spec.entry_extent first c rs (n at)) }
+    ensures old { spec.LendsOld rows.now result }
 {
     if has_head(rows, document, at) {
         return row_extent(rows, false, at.row);
@@ -102,11 +115,16 @@ fn entry_extent(rows: &Rows<'_>, document: Stretch, at: Spot) -> Option<InlineSp
 }
 
 /// The place of the node to which steps lead.
-fn extent_in(rows: &Rows<'_>, document: Stretch, steps: &[Step]) -> Option<InlineSpan>
+fn extent_in<'t>(
+    rows: &Rows<'t>,
+    document: Stretch,
+    steps: &[Step],
+) -> Option<InlineSpan<'t>>
     requires shown { IsShown rows.now }
     requires document { HasDocument rows.now document }
-    ensures { InEach rows.now document (λ first c rs n. option_map spec.extent_view result ≡
+    ensures extent { InEach rows.now document (λ first c rs n. option_map spec.extent_view result ≡
         spec.extent_in first c rs (map step_of steps.now)) }
+    ensures old { spec.LendsOld rows.now result }
 {
     if steps.is_empty() {
         let first = Spot {
@@ -128,9 +146,10 @@ fn if_written(text: &str) -> Option<&str>
 
 impl<'t> CutText<'_, 't> {
     /// The place, in bytes, of the inline node at a path, or of nothing.
-    fn inline_extent(&self, path: &Path) -> Option<InlineSpan>
-        ensures { option_map spec.extent_view result ≡
+    fn inline_extent(&self, path: &Path) -> Option<InlineSpan<'t>>
+        ensures extent { option_map spec.extent_view result ≡
             option_map spec.extent_of (places.inline_place path.now (cut_of self.now)) }
+        ensures old { IfSome result (spec.HoldsOld self.now) }
     {
         let document = self.stretch(path.doc)?;
         let _whole = self.whole();
@@ -145,11 +164,11 @@ impl<'t> CutText<'_, 't> {
             option_map spec.inline_telling (places.inline_place path.now (cut_of self.now)) }
     {
         let whole = self.whole();
-        let InlineSpan { span, alone, row } = self.inline_extent(path)?;
+        let InlineSpan { span, alone, old } = self.inline_extent(path)?;
         let (before, _, behind) = cut_at(whole, span.start, span.end);
         Some(InlinePlace {
             before,
-            old: if_written(self.rows.row(row).head()),
+            old: if_written(old),
             behind,
             alone,
         })

@@ -4,7 +4,7 @@ ghost use Rattle.yq_text.specs.Halves.{whole};
 ghost use Rattle.yq_inline.specs.Entries.{step_of};
 ghost use Rattle.yq_rows.specs.Grammar.{IsCut};
 ghost use Rattle.yq_rows.specs.Offsets.{row_length};
-ghost use Rattle.yq_rows.specs.Removal.{block_of, hold_comment, last_block};
+ghost use Rattle.yq_rows.specs.Removal.{block_numbers, hold_comment, last_block};
 ghost use Rattle.yq_rows.specs.Rows.{Cut, Part, Row as RowOf};
 ghost use Rattle.yq_rows.specs.View.{rows_of, shown, Slices};
 ghost use Rattle.yq_scalar.specs.Block.{BlockText};
@@ -120,37 +120,26 @@ fn row_stop(rows: &Rows<'_>, i: usize) -> usize
     row_start(rows, i) + row_len(&rows.row(i))
 }
 
-/// Whether the block scalar of row `i` keeps the empty lines at its end, and how far its text is
-/// indented; none, where the row holds no block scalar.
-pub(crate) fn block_in(rows: &Rows<'_>, i: usize) -> Option<(bool, usize)>
-    requires within { i < length rows.now.rows }
-    ensures { (t : List ℕ) (c : Cut) → IsCut t c → rows.now ≡ shown c → (r : RowOf) → slice_get (rows_of c) i ≡ Some r →
-        option_map (λ b. (b.0, b.1)) result ≡
-        option_map reading.block_numbers (block_of r.content) }
-{
-    let _ = rows.len();
-    None
-}
-
-/// The same of the row before row `at` of a document, the first row of which is this one.
+/// What a gap asks that stands behind the block scalar of the row before row `at` of a document, the
+/// first row of which is this one; none, where that row holds no block scalar.
 fn block_before(rows: &Rows<'_>, first: usize, at: usize) -> Option<(bool, usize)>
     requires order { first ≤ at }
     requires within { at < length rows.now.rows }
     ensures { (t : List ℕ) (c : Cut) → IsCut t c → rows.now ≡ shown c → (p : Part) (more : List RowOf) → drop first (rows_of c) ≡
         p.rows ++ more → at - first ≤ length p.rows → option_map (λ b. (b.0, b.1)) result ≡
-        option_map reading.block_numbers (last_block (take (at - first) p.rows)) }
+        option_map block_numbers (last_block (take (at - first) p.rows)) }
 {
     if at == first {
         None
     } else {
-        block_in(rows, at - 1)
+        rows.block(at - 1)
     }
 }
 
 /// The seam behind a block scalar, where no comment line stays behind it.
 fn seam_of(block: Option<(bool, usize)>, column: usize, kept: &str) -> Option<Seam>
     ensures { (b : Option BlockText) → option_map (λ b. (b.0, b.1)) block ≡
-        option_map reading.block_numbers b → option_map reading.seam_told result ≡
+        option_map block_numbers b → option_map reading.seam_told result ≡
         spec.seam_behind b column kept.now }
 {
     let (keeps, indent) = block?;

@@ -46,10 +46,11 @@ impl<'t> CutText<'_, 't> {
         ensures { (r : RowOf) → slice_get (rows_of (cut_of self.now)) i ≡ Some r →
             IfOk result (IsRowHead i r (cut_of self.now)) }
     {
+        let whole = self.whole();
         let rows = self.rows();
         let row = rows.row(i);
         let (start, _) = head_place(rows, i);
-        let (_, rest) = self.whole().split_at(start);
+        let (_, rest) = whole.split_at(start);
         let len = row.head().len() + row.tail().len() + row.raw().len();
         let Some(text) = in_one(rest.split_at(len).0) else {
             return Err(AllocError);

@@ -12,7 +12,6 @@ ghost use Rattle.yq_tree.specs.ScalarTelling.{scalar_told, StandsAt};
 use crate::cut_text::CutText;
 use crate::places::extent::head_place;
 use crate::places::mark_place::column_of;
-use crate::places::removal_place::block_in;
 use yq_documents::Path;
 use yq_rows::Row;
 use yq_text::Halves;
@@ -108,7 +107,7 @@ impl<'t> CutText<'_, 't> {
         if seat.line != seat.dashes {
             return None;
         }
-        let (_, indent) = block_in(self.rows, seat.row)?;
+        let (_, indent) = self.rows.block(seat.row)?;
         let (start, _) = head_place(self.rows, seat.row);
         Some(place_at(whole, &self.rows.row(seat.row), start, indent))
     }

@@ -1,6 +1,5 @@
 use Rattle.std.proofs.Common.{arith, ◌-◌, List, ℕ, Some, ap, drop, length, slice_get, subst, sym, ◌∙◌}
 use Rattle.std.specs.Str.{IsCharBoundary}
-use Rattle.yq_rows.specs.Kept.{turned}
 use Rattle.yq_rows.specs.Offsets.{AreCuts, lengths, pieces_of}
 use Rattle.yq_rows.specs.View.{Shown}
 use Rattle.yq_rows.proofs.KeptPlaces.{back_found, back_within, front_found, row_back, row_front}

@@ -1,4 +1,4 @@
-use Rattle.std.proofs.Common.{◌-◌, ◌<◌, ◌∙◌, ap, arith, length, length-append, subst, sym}
+use Rattle.std.proofs.Common.{◌<◌, ◌∙◌, ap, arith, length, length-append, subst, sym}
 use Rattle.yq_rows.specs.RowStarts.{row_start}
 use Rattle.yq_rows.specs.View.{Shown}
 use Rattle.yq_rows.proofs.KeptPlaces.{back_within, halves_small, start_back, start_front}

@@ -1,14 +1,15 @@
-use Rattle.std.proofs.Common.{ℕ, List, map, Some, None, sym, ap, ◌∙◌}
+use Rattle.std.proofs.Common.{ℕ, List, length, map, Some, None, refl, sym, ap, ◌∙◌}
 use Rattle.yq_inline.specs.Entries.{step_of}
 use Rattle.yq_inline.specs.View.{view}
 use Rattle.yq_lines.specs.View.{head_flow}
+use Rattle.yq_tree.specs.FlowNodes.{flow_collection}
 use Rattle.yq_tree.specs.NodeReading.{place_told}
 use Rattle.yq_tree.specs.RowWalk.{line_number}
 use Rattle.yq_scalar.specs.Paths.{Step}
 use Rattle.yq_documents.specs.Lines.{lines_of}
 use Rattle.yq_documents.specs.Reading.{cut_of}
-use Rattle.yq_tree.proofs.FlowNodeLaws.{collection_is, flow_told, head_line_at, no_collection, no_head_at, rows_collection}
-use Rattle.yq_tree.proofs.RowHeads.{line_fit, line_within}
+use Rattle.yq_tree.proofs.FlowNodeLaws.{collection_is, head_line_at, head_tells, no_collection, no_flow_told, no_head_at, other_head, rows_collection}
+use Rattle.yq_tree.proofs.RowHeads.{line_fit, line_within, row_start, row_text}
 use Rattle.yq_tree.proofs.WalkDocuments.{found_document, found_in_cut, place_found}
 use Rattle.yq_tree.proofs.WalkNodes.{row_is, row_in_cut}
 use Rattle.yq_tree.proofs.cut_text.CutText.flow_head.Goals as goal
@@ -35,54 +36,71 @@ pub returns-in_default-node_place : goal.returns-in_default-node_place
 returns-in_default-node_place c =
     let t : List ℕ = c.args.self.now in
     let steps : List Step = map step_of c.args.steps.now in
-    let rows = c.rows-rows.result.now in
     let d = c.in-Some.document in
-    place_found t rows (cut_of t) c.args.doc d None (λ k x rs. rows_collection k x rs steps) c.whole-whole.ensures.cut c.rows-rows.ensures c.in-Some.ensures.place c.in-Some.ensures.known
+    no_flow_told t (flow_collection c.args.doc steps (cut_of t))
+    (place_found t c.rows-rows.result.now (cut_of t) c.args.doc d None (λ k x rs. rows_collection k x rs steps) c.whole-whole.ensures.cut c.rows-rows.ensures c.in-Some.ensures.place c.in-Some.ensures.known
     (λ k. no_collection d.first (cut_of t) k.document.rows steps (no_head_at (lines_of k.document.rows) steps (c.in_default-node_place.ensures.found k.document)))
-    ∙ collection_is t (cut_of t) c.args.doc steps c.whole-whole.ensures.cut.text
+    ∙ collection_is (cut_of t) c.args.doc steps)
 
 pub returns-in_default-place_line : goal.returns-in_default-place_line
 returns-in_default-place_line c =
     let t : List ℕ = c.args.self.now in
     let steps : List Step = map step_of c.args.steps.now in
-    let rows = c.rows-rows.result.now in
     let d = c.in-Some.document in
-    place_found t rows (cut_of t) c.args.doc d None (λ k x rs. rows_collection k x rs steps) c.whole-whole.ensures.cut c.rows-rows.ensures c.in-Some.ensures.place c.in-Some.ensures.known
+    no_flow_told t (flow_collection c.args.doc steps (cut_of t))
+    (place_found t c.rows-rows.result.now (cut_of t) c.args.doc d None (λ k x rs. rows_collection k x rs steps) c.whole-whole.ensures.cut c.rows-rows.ensures c.in-Some.ensures.place c.in-Some.ensures.known
     (λ k. no_collection d.first (cut_of t) k.document.rows steps (head_line_at (lines_of k.document.rows) steps (map step_of c.in-Some-node_place.left.now) (place_told d k.document.rows c.in-Some-node_place.place) None (c.in-Some-node_place.ensures.found k.document) (c.in_default-place_line.ensures.found k.document)))
-    ∙ collection_is t (cut_of t) c.args.doc steps c.whole-whole.ensures.cut.text
+    ∙ collection_is (cut_of t) c.args.doc steps)
 
 pub returns-in-Nothing : goal.returns-in-Nothing
 returns-in-Nothing c =
     let t : List ℕ = c.args.self.now in
     let steps : List Step = map step_of c.args.steps.now in
+    let left : List Step = map step_of c.in-Some-node_place.left.now in
     let rows = c.rows-rows.result.now in
     let d = c.in-Some.document in
-    place_found t rows (cut_of t) c.args.doc d None (λ k x rs. rows_collection k x rs steps) c.whole-whole.ensures.cut c.rows-rows.ensures c.in-Some.ensures.place c.in-Some.ensures.known
-    (λ k. flow_told t rows d (cut_of t) k c.in-Some-place_line.at c.in-Some-place_line.ensures.within steps (map step_of c.in-Some-node_place.left.now) None c.whole-whole.ensures.cut.text
-    (head_line_at (lines_of k.document.rows) steps (map step_of c.in-Some-node_place.left.now) (place_told d k.document.rows c.in-Some-node_place.place) (Some (line_number d k.document.rows c.in-Some-place_line.at)) (c.in-Some-node_place.ensures.found k.document) (c.in-Some-place_line.ensures.found k.document))
-    (ap head_flow (sym c.in-Nothing.is) ∙ c.in_ok-head.ensures.flow (row_is rows d (cut_of t) k c.in-Some-place_line.at c.in-Some-place_line.ensures.within) (row_in_cut rows d (cut_of t) k c.in-Some-place_line.at c.in-Some-place_line.ensures.within)))
-    ∙ collection_is t (cut_of t) c.args.doc steps c.whole-whole.ensures.cut.text
+    let q = c.in-Some-place_line.at in
+    let at = c.in-Some-place_line.ensures.within in
+    let cut = c.whole-whole.ensures.cut in
+    let f = found_document t rows (cut_of t) c.args.doc d cut c.rows-rows.ensures c.in-Some.ensures.place c.in-Some.ensures.known in
+    let k = (found_in_cut t rows (cut_of t) c.args.doc d cut c.rows-rows.ensures f).0 in
+    let leads = head_line_at (lines_of k.document.rows) steps left (place_told d k.document.rows c.in-Some-node_place.place) (Some (line_number d k.document.rows q)) (c.in-Some-node_place.ensures.found k.document) (c.in-Some-place_line.ensures.found k.document) in
+    let head = c.in_ok-head.ensures (row_is rows d (cut_of t) k q at) (row_in_cut rows d (cut_of t) k q at) in
+    other_head t rows (cut_of t) c.args.doc d cut c.rows-rows.ensures f q at steps left (sym leads) (length c.in_ok-head.field-0.text.now) (ap head_flow (sym c.in-Nothing.is) ∙ head.flow)
 
 pub returns-in-Scalar : goal.returns-in-Scalar
 returns-in-Scalar c =
     let t : List ℕ = c.args.self.now in
     let steps : List Step = map step_of c.args.steps.now in
+    let left : List Step = map step_of c.in-Some-node_place.left.now in
     let rows = c.rows-rows.result.now in
     let d = c.in-Some.document in
-    place_found t rows (cut_of t) c.args.doc d None (λ k x rs. rows_collection k x rs steps) c.whole-whole.ensures.cut c.rows-rows.ensures c.in-Some.ensures.place c.in-Some.ensures.known
-    (λ k. flow_told t rows d (cut_of t) k c.in-Some-place_line.at c.in-Some-place_line.ensures.within steps (map step_of c.in-Some-node_place.left.now) None c.whole-whole.ensures.cut.text
-    (head_line_at (lines_of k.document.rows) steps (map step_of c.in-Some-node_place.left.now) (place_told d k.document.rows c.in-Some-node_place.place) (Some (line_number d k.document.rows c.in-Some-place_line.at)) (c.in-Some-node_place.ensures.found k.document) (c.in-Some-place_line.ensures.found k.document))
-    (ap head_flow (sym c.in-Scalar.is) ∙ c.in_ok-head.ensures.flow (row_is rows d (cut_of t) k c.in-Some-place_line.at c.in-Some-place_line.ensures.within) (row_in_cut rows d (cut_of t) k c.in-Some-place_line.at c.in-Some-place_line.ensures.within)))
-    ∙ collection_is t (cut_of t) c.args.doc steps c.whole-whole.ensures.cut.text
+    let q = c.in-Some-place_line.at in
+    let at = c.in-Some-place_line.ensures.within in
+    let cut = c.whole-whole.ensures.cut in
+    let f = found_document t rows (cut_of t) c.args.doc d cut c.rows-rows.ensures c.in-Some.ensures.place c.in-Some.ensures.known in
+    let k = (found_in_cut t rows (cut_of t) c.args.doc d cut c.rows-rows.ensures f).0 in
+    let leads = head_line_at (lines_of k.document.rows) steps left (place_told d k.document.rows c.in-Some-node_place.place) (Some (line_number d k.document.rows q)) (c.in-Some-node_place.ensures.found k.document) (c.in-Some-place_line.ensures.found k.document) in
+    let head = c.in_ok-head.ensures (row_is rows d (cut_of t) k q at) (row_in_cut rows d (cut_of t) k q at) in
+    other_head t rows (cut_of t) c.args.doc d cut c.rows-rows.ensures f q at steps left (sym leads) (length c.in_ok-head.field-0.text.now) (ap head_flow (sym c.in-Scalar.is) ∙ head.flow)
 
 pub returns : goal.returns
 returns c =
     let t : List ℕ = c.args.self.now in
     let steps : List Step = map step_of c.args.steps.now in
+    let left : List Step = map step_of c.in-Some-node_place.left.now in
     let rows = c.rows-rows.result.now in
     let d = c.in-Some.document in
-    place_found t rows (cut_of t) c.args.doc d _ (λ k x rs. rows_collection k x rs steps) c.whole-whole.ensures.cut c.rows-rows.ensures c.in-Some.ensures.place c.in-Some.ensures.known
-    (λ k. flow_told t rows d (cut_of t) k c.in-Some-place_line.at c.in-Some-place_line.ensures.within steps (map step_of c.in-Some-node_place.left.now) (Some (view c.in-Inline.node.value)) c.whole-whole.ensures.cut.text
-    (head_line_at (lines_of k.document.rows) steps (map step_of c.in-Some-node_place.left.now) (place_told d k.document.rows c.in-Some-node_place.place) (Some (line_number d k.document.rows c.in-Some-place_line.at)) (c.in-Some-node_place.ensures.found k.document) (c.in-Some-place_line.ensures.found k.document))
-    (ap head_flow (sym c.in-Inline.is) ∙ c.in_ok-head.ensures.flow (row_is rows d (cut_of t) k c.in-Some-place_line.at c.in-Some-place_line.ensures.within) (row_in_cut rows d (cut_of t) k c.in-Some-place_line.at c.in-Some-place_line.ensures.within)))
-    ∙ collection_is t (cut_of t) c.args.doc steps c.whole-whole.ensures.cut.text
+    let q = c.in-Some-place_line.at in
+    let at = c.in-Some-place_line.ensures.within in
+    let cut = c.whole-whole.ensures.cut in
+    let f = found_document t rows (cut_of t) c.args.doc d cut c.rows-rows.ensures c.in-Some.ensures.place c.in-Some.ensures.known in
+    let k = (found_in_cut t rows (cut_of t) c.args.doc d cut c.rows-rows.ensures f).0 in
+    let leads = head_line_at (lines_of k.document.rows) steps left (place_told d k.document.rows c.in-Some-node_place.place) (Some (line_number d k.document.rows q)) (c.in-Some-node_place.ensures.found k.document) (c.in-Some-place_line.ensures.found k.document) in
+    let row = row_is rows d (cut_of t) k q at in
+    let there = row_in_cut rows d (cut_of t) k q at in
+    let head = c.in_ok-head.ensures row there in
+    head_tells t rows (cut_of t) c.args.doc d cut c.rows-rows.ensures f q at steps left (sym leads) _ refl
+    (row_text t (cut_of t) q.row row c.in_ok-head.field-0.before c.whole-whole.ensures.utf8 cut there head.before c.in_ok-head.field-0.text.now head.text)
+    (row_start t (cut_of t) q.row row c.in_ok-head.field-0.before c.whole-whole.ensures.utf8 cut there head.before)
+    (ap head_flow (sym c.in-Inline.is) ∙ head.flow)

@@ -61,7 +61,7 @@ returns c =
     let at = c.in-Some-place_line.ensures.within in
     let left : List Step = map step_of c.in-Some-node_place.left.now in
     let told = place_found t rows (cut_of t) c.args.doc d _ (node_among steps) c.whole-whole.ensures.cut c.rows-rows.ensures c.in-Some.ensures.place c.in-Some.ensures.known
-    (λ k. head_told rows d (cut_of t) k q at steps left (place_told d k.document.rows c.in-Some-node_place.place) (head_view c.in_ok-head.head) (c.in-Some-node_place.ensures.found k.document) (c.in-Some-place_line.ensures.found k.document)
-    (c.in_ok-head.ensures.view (row_is rows d (cut_of t) k q at) (row_in_cut rows d (cut_of t) k q at)))
+    (λ k. head_told rows d (cut_of t) k q at steps left (place_told d k.document.rows c.in-Some-node_place.place) (head_view c.in_ok-head.head.head) (c.in-Some-node_place.ensures.found k.document) (c.in-Some-place_line.ensures.found k.document)
+    (c.in_ok-head.ensures (row_is rows d (cut_of t) k q at) (row_in_cut rows d (cut_of t) k q at)).view)
     ∙ node_is (cut_of t) c.args.doc steps 0 c.whole-whole.ensures.documents in
     IfOk-weaker c.head_node.result _ _ (λ o is. is ∙ told) c.head_node.ensures

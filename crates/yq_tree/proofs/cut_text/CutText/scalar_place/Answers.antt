@@ -17,8 +17,8 @@ returns-in_err-seat c = ap (option_map scalar_told) c.from_residual.ensures ∙ 
 pub returns-then-seat : goal.returns-then-seat
 returns-then-seat c = other_scalar c.args.path.now (cut_of c.args.self.now) (told c.in_ok-seat.seat) c.in_ok-seat.ensures c.if-seat.true
 
-pub block_in-requires-clause-within : goal.block_in-requires-clause-within
-block_in-requires-clause-within c =
+pub block-requires : goal.block-requires
+block-requires c =
     row_within (whole c.self.inside.text) c.self.inside.rows.now c.args.path.now (told c.in_ok-seat.seat) c.self.invariant.0
     (c.in_ok-seat.ensures ∙ ap (λ t. option_map (numbers (document_row c.args.path.now.doc (cut_of t))) (seat_at c.args.path.now (cut_of t))) (sym c.self.view_is))
 
