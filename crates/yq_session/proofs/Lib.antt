@@ -13,5 +13,6 @@ pub mod LineLaws
 pub mod NodeLines
 pub mod RowLines
 pub mod MarkerLaws
+pub mod KeptSides
 pub mod FollowLaws
 pub mod DoneLaws
