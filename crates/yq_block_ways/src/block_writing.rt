@@ -17,6 +17,7 @@ use yq_meaning::Op;
 use yq_scalar::block_written::break_text;
 use yq_scalar::push_spaces;
 use yq_script::{Segment, Segments};
+use yq_text::Halves;
 use yq_tree::{CutText, MarkPlace, Path};
 use yq_ways::layout_of;
 
@@ -93,9 +94,9 @@ fn put_under<'d>(
     let segments = vec![in alloc;
         Segment::Keep(place.before),
         Segment::Put(place.gone, String::new(alloc)),
-        Segment::Keep(place.white),
-        Segment::Keep(place.comment),
-        Segment::Put("", lines),
+        Segment::Keep(Halves::of(place.white)),
+        Segment::Keep(Halves::of(place.comment)),
+        Segment::Put(Halves::of(""), lines),
         Segment::Keep(place.behind),
     ]?;
     Ok(Some(Segments::new(segments)))
@@ -114,8 +115,8 @@ fn put_behind<'d>(
     let segments = vec![in alloc;
         Segment::Keep(place.before),
         Segment::Put(place.gone, text),
-        Segment::Keep(place.white),
-        Segment::Keep(place.comment),
+        Segment::Keep(Halves::of(place.white)),
+        Segment::Keep(Halves::of(place.comment)),
         Segment::Keep(place.behind),
     ]?;
     Ok(Some(Segments::new(segments)))

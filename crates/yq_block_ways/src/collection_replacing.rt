@@ -1,5 +1,7 @@
 //! The way to replace a block collection under a key or dash.
-ghost use Rattle.std.specs.Prelude.{◌≡◌, ◌∷◌, ℕ, List, IfOk, Some, option_map, string_bytes};
+ghost use Rattle.std.specs.Prelude.{◌≡◌, ◌<◌, ◌^◌, length, ◌∷◌, ℕ, List, IfOk, Some, option_map, string_bytes};
+ghost use Rattle.std.specs.Str.{IsUtf8};
+ghost use Rattle.yq_text.specs.Halves.{whole};
 ghost use Rattle.yq_inline.specs.Values as values;
 ghost use Rattle.yq_tree.specs.CollectionTelling.{collection_told};
 ghost use Rattle.yq_documents.specs.Located.{steps_of};
@@ -19,16 +21,27 @@ use yq_block::{Layout, is_filled};
 use yq_inline::Value;
 use yq_meaning::Op;
 use yq_script::{Segment, Segments};
+use yq_text::Halves;
 use yq_tree::{CollectionEnd, CutText, MarkPlace, Path, split_break};
 use yq_ways::{inline_written, layout_of};
 
-/// A text up to the rest in which it ends, less its last break, and that break.
-pub(crate) fn lines_upto<'d>(text: &'d str, rest: &str) -> (&'d str, &'d str)
-    requires { spec.EndsIn text.now rest.now }
-    ensures gone { result.0.now ≡ lines.less_break (text_before text.now rest.now) }
-    ensures last { result.1.now ≡ lines.last_break (text_before text.now rest.now) }
+/// How long a text is, in bytes; they are characters.
+#[tactic(auto, using(crate::proofs::CollectionAnswers::texts_joined))]
+fn text_len(text: Halves<'_>) -> usize
+    requires { length (whole text) < 2 ^ 64 }
+    ensures len { result ≡ length (whole text.entry) }
+    ensures text { IsUtf8 (whole text.entry) }
 {
-    let (own, _) = text.split_at(text.len() - rest.len());
+    text.front.as_bytes().len() + text.back.as_bytes().len()
+}
+
+/// A text up to the rest in which it ends, less its last break, and that break.
+pub(crate) fn lines_upto<'d>(text: Halves<'d>, rest: Halves<'_>) -> (Halves<'d>, Halves<'d>)
+    requires { spec.HasEnd (whole text) (whole rest) }
+    ensures gone { whole result.0 ≡ lines.less_break (text_before (whole text.entry) (whole rest.entry)) }
+    ensures last { whole result.1 ≡ lines.last_break (text_before (whole text.entry) (whole rest.entry)) }
+{
+    let (own, _) = text.split_at(text_len(text) - text_len(rest));
     split_break(own)
 }
 
@@ -65,7 +78,7 @@ fn written_there(
 
 /// The key or dash of the entry or item at a path, and the end of the block collection under it.
 fn lines_under<'d>(cut: &CutText<'_, 'd>, path: &Path) -> Option<(MarkPlace<'d>, CollectionEnd<'d>)>
-    ensures ends { (w : MarkPlaceOf) (x : CollectionEndOf) → result ≡ Some (w, x) → spec.EndsIn w.behind.now x.behind.now }
+    ensures ends { (w : MarkPlaceOf) (x : CollectionEndOf) → result ≡ Some (w, x) → spec.HasEnd (whole w.behind) (whole x.behind) }
     ensures place { option_map (λ p. spec.lines_upto (mark_told p.0) (collection_told p.1)) result ≡ spec.lines_under path.now.doc (steps_of path.now) (cut_of cut.now) }
 {
     let _whole = cut.whole();
@@ -82,16 +95,16 @@ fn exchange_under<'d>(
     beside: String,
     below: String,
 ) -> Result<Option<Segments<'d>>, AllocError>
-    requires { spec.EndsIn mark.now.behind.now end.now.behind.now }
+    requires { spec.HasEnd (whole mark.now.behind) (whole end.now.behind) }
     ensures { Carries result (Some (spec.exchange_segments (spec.lines_upto (mark_told mark.now) (collection_told end.now)) (spec.written_of (string_bytes beside) (string_bytes below)))) }
 {
     let (gone, last) = lines_upto(mark.behind, end.behind);
     let segments = vec![in alloc;
         Segment::Keep(mark.before),
         Segment::Keep(mark.gone),
-        Segment::Put("", beside),
-        Segment::Keep(mark.white),
-        Segment::Keep(mark.comment),
+        Segment::Put(Halves::of(""), beside),
+        Segment::Keep(Halves::of(mark.white)),
+        Segment::Keep(Halves::of(mark.comment)),
         Segment::Put(gone, below),
         Segment::Keep(last),
         Segment::Keep(end.behind),

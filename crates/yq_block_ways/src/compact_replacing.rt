@@ -1,5 +1,6 @@
 //! The way to replace a compact collection, which begins on the line of a dash.
 ghost use Rattle.std.specs.Prelude.{◌≡◌, IfOk, Some, option_map, string_bytes};
+ghost use Rattle.yq_text.specs.Halves.{whole};
 ghost use Rattle.yq_inline.specs.Values as values;
 ghost use Rattle.yq_tree.specs.CollectionTelling.{collection_told};
 ghost use Rattle.yq_tree.specs.DashTelling.{dash_told};
@@ -8,7 +9,7 @@ ghost use Rattle.yq_documents.specs.Reading.{cut_of};
 ghost use Rattle.yq_tree.specs.declared.places.collection_end.CollectionEnd.{CollectionEnd as CollectionEndOf};
 ghost use Rattle.yq_tree.specs.declared.places.dash_place.DashPlace.{DashPlace as DashPlaceOf};
 ghost use Rattle.yq_meaning.specs.Operations.{operation_of};
-ghost use Rattle.yq_block_ways.specs.CollectionReplacing.{EndsIn};
+ghost use Rattle.yq_block_ways.specs.CollectionReplacing.{HasEnd};
 ghost use Rattle.yq_block_ways.specs.CompactReplacing as spec;
 ghost use Rattle.yq_ways.specs.WayAnswers.{Carries};
 
@@ -62,7 +63,7 @@ fn compact_place<'d>(
     cut: &CutText<'_, 'd>,
     path: &Path,
 ) -> Option<(DashPlace<'d>, CollectionEnd<'d>)>
-    ensures ends { (d : DashPlaceOf) (x : CollectionEndOf) → result ≡ Some (d, x) → EndsIn d.behind.now x.behind.now }
+    ensures ends { (d : DashPlaceOf) (x : CollectionEndOf) → result ≡ Some (d, x) → HasEnd (whole d.behind) (whole x.behind) }
     ensures place { option_map (λ p. spec.compact_upto (dash_told p.0)
         (collection_told p.1)) result ≡
         spec.compact_place path.now.doc (steps_of path.now) (cut_of cut.now) }
@@ -80,7 +81,7 @@ fn exchange_behind<'d>(
     end: &CollectionEnd<'d>,
     text: String,
 ) -> Result<Option<Segments<'d>>, AllocError>
-    requires { EndsIn dash.now.behind.now end.now.behind.now }
+    requires { HasEnd (whole dash.now.behind) (whole end.now.behind) }
     ensures { Carries result (Some (spec.compact_segments (spec.compact_upto (dash_told dash.now)
         (collection_told end.now)) (string_bytes text))) }
 {

@@ -18,6 +18,7 @@ use yq_scalar::lines::split_at_break;
 use yq_scalar::push_spaces;
 use yq_scalar::text::split_white;
 use yq_script::{Segment, Segments};
+use yq_text::Halves;
 use yq_tree::{CutText, ScalarPlace};
 use yq_ways::layout_of;
 
@@ -63,10 +64,10 @@ fn put_rows<'d>(
     let rows = rows_in(alloc, layout, column, value)?;
     let segments = vec![in alloc;
         Segment::Keep(place.before),
-        Segment::Put(place.space, String::new(alloc)),
-        Segment::Put(place.header, String::new(alloc)),
-        Segment::Keep(place.tail),
-        Segment::Put(place.raw, rows),
+        Segment::Put(Halves::of(place.space), String::new(alloc)),
+        Segment::Put(Halves::of(place.header), String::new(alloc)),
+        Segment::Keep(Halves::of(place.tail)),
+        Segment::Put(Halves::of(place.raw), rows),
         Segment::Keep(place.behind),
     ]?;
     Ok(Some(Segments::new(segments)))
@@ -87,10 +88,10 @@ fn put_on_line<'d>(
     let (before, lines, last) = split_lines(header_break, place.raw);
     let segments = vec![in alloc;
         Segment::Keep(place.before),
-        Segment::Put(place.space, String::new(alloc)),
-        Segment::Put(place.header, text),
-        Segment::Keep(white),
-        Segment::Keep(comment),
+        Segment::Put(Halves::of(place.space), String::new(alloc)),
+        Segment::Put(Halves::of(place.header), text),
+        Segment::Keep(Halves::of(white)),
+        Segment::Keep(Halves::of(comment)),
         Segment::Put(before, String::new(alloc)),
         Segment::Put(lines, String::new(alloc)),
         Segment::Keep(last),

@@ -1,6 +1,7 @@
 //! The way to replace a block scalar by a value that is written inline on the line of its header.
 ghost use Rattle.std.specs.List.{list_any};
 ghost use Rattle.std.specs.Prelude.{◌≡◌, [], IfOk, Some, if◌then◌else◌, not, option_map, string_bytes};
+ghost use Rattle.yq_text.specs.Halves.{whole};
 ghost use Rattle.yq_meaning.specs.Operations.{operation_of};
 ghost use Rattle.yq_inline.specs.Values as values;
 ghost use Rattle.yq_scalar.specs.Text.{is_empty, is_feed};
@@ -19,6 +20,7 @@ use yq_scalar::lines::split_at_break;
 use yq_scalar::text::split_white;
 use yq_scalar::{Place, Style, can_write, write_scalar};
 use yq_script::{Segment, Segments};
+use yq_text::Halves;
 use yq_tree::{CutText, Path, ScalarPlace, split_break};
 use yq_ways::{inline_written, is_kept};
 
@@ -62,14 +64,18 @@ fn line_written(alloc: Global, text: bool, value: &Value) -> Result<Option<Strin
 }
 
 /// The break of a header's line where lines are behind it, those lines less the last break, and that.
-pub(crate) fn split_lines<'d>(header_break: &'d str, raw: &'d str) -> (&'d str, &'d str, &'d str)
-    ensures before { result.0.now ≡ (if is_empty raw.now then [] else header_break.now) }
-    ensures lines { result.1.now ≡ lines.less_break raw.now }
-    ensures last { result.2.now ≡ (if is_empty raw.now then header_break.now else lines.last_break raw.now) }
+pub(crate) fn split_lines<'d>(
+    header_break: &'d str,
+    raw: &'d str,
+) -> (Halves<'d>, Halves<'d>, Halves<'d>)
+    ensures before { whole result.0 ≡ (if is_empty raw.now then [] else header_break.now) }
+    ensures lines { whole result.1 ≡ lines.less_break raw.now }
+    ensures last { whole result.2 ≡ (if is_empty raw.now then header_break.now else lines.last_break raw.now) }
 {
-    let (lines, last) = split_break(raw);
+    let header_break = Halves::of(header_break);
+    let (lines, last) = split_break(Halves::of(raw));
     if raw.is_empty() {
-        ("", lines, header_break)
+        (Halves::of(""), lines, header_break)
     } else {
         (header_break, lines, last)
     }
@@ -88,10 +94,10 @@ fn put_line<'d>(
     let (before, lines, last) = split_lines(header_break, place.raw);
     let segments = vec![in alloc;
         Segment::Keep(place.before),
-        Segment::Keep(place.space),
-        Segment::Put(place.header, text),
-        Segment::Keep(white),
-        Segment::Keep(comment),
+        Segment::Keep(Halves::of(place.space)),
+        Segment::Put(Halves::of(place.header), text),
+        Segment::Keep(Halves::of(white)),
+        Segment::Keep(Halves::of(comment)),
         Segment::Put(before, String::new(alloc)),
         Segment::Put(lines, String::new(alloc)),
         Segment::Keep(last),
@@ -111,10 +117,10 @@ pub(crate) fn put_scalar<'d>(
 {
     let segments = vec![in alloc;
         Segment::Keep(place.before),
-        Segment::Keep(place.space),
-        Segment::Put(place.header, header),
-        Segment::Keep(place.tail),
-        Segment::Put(place.raw, raw),
+        Segment::Keep(Halves::of(place.space)),
+        Segment::Put(Halves::of(place.header), header),
+        Segment::Keep(Halves::of(place.tail)),
+        Segment::Put(Halves::of(place.raw), raw),
         Segment::Keep(place.behind),
     ]?;
     Ok(Some(Segments::new(segments)))

@@ -1,6 +1,7 @@
 //! The way to write the root of a document: in the place of a block collection, or where none is
 //! written.
 ghost use Rattle.std.specs.Prelude.{◌≡◌, IfOk, Some, string_bytes};
+ghost use Rattle.yq_text.specs.Halves.{whole};
 ghost use Rattle.yq_inline.specs.Values.{node_of};
 ghost use Rattle.yq_scalar.specs.BlockWritten.{break_text};
 ghost use Rattle.yq_block.specs.BlockText.{block_value};
@@ -17,6 +18,7 @@ use yq_inline::Value;
 use yq_meaning::Op;
 use yq_scalar::block_written::break_text;
 use yq_script::{Segment, Segments};
+use yq_text::Halves;
 use yq_tree::{CutText, RootPlace};
 use yq_ways::{is_kept, layout_of};
 
@@ -29,6 +31,17 @@ fn is_closed_text(text: &[u8]) -> bool
         [] => true,
         [.., last] => *last == b'\n',
     }
+}
+
+/// The same of a text in two halves.
+#[tactic(auto, using(crate::proofs::RootAnswers::half_told))]
+fn is_closed(text: Halves<'_>) -> bool
+    ensures { result ≡ spec.is_closed_text (whole text.entry) }
+{
+    if text.back.is_empty() {
+        return is_closed_text(text.front.as_bytes());
+    }
+    is_closed_text(text.back.as_bytes())
 }
 
 /// A value in block style, behind the spaces before its first line.
@@ -53,11 +66,11 @@ fn value_lines(
     value: &Value,
 ) -> Result<String, AllocError>
     ensures { IfOk result (λ s. string_bytes s ≡
-        lines_put_behind (spec.is_closed_text place.now.before.now) (break_text layout.now.br)
+        lines_put_behind (spec.is_closed_text (whole place.now.before)) (break_text layout.now.br)
         (block_value layout.now place.now.column (node_of value.now))) }
 {
     let mut text = String::new(alloc);
-    if is_closed_text(place.before.as_bytes()) {
+    if is_closed(place.before) {
         push_block(alloc, &mut text, layout, place.column, value)?;
         text.push_str(break_text(layout.br))?;
     } else {
@@ -72,10 +85,10 @@ fn put_root<'d>(
     alloc: Global,
     layout: &Layout,
     place: RootPlace<'d>,
-    old: &'d str,
+    old: Halves<'d>,
     value: &Value,
 ) -> Result<Option<Segments<'d>>, AllocError>
-    ensures { Carries result (Some (spec.root_segments layout.now (node_of value.now) (root_told place.entry) old.now)) }
+    ensures { Carries result (Some (spec.root_segments layout.now (node_of value.now) (root_told place.entry) (whole old.entry))) }
 {
     let text = value_text(alloc, layout, place.column, value)?;
     let segments = vec![in alloc;
@@ -103,7 +116,7 @@ fn put_new<'d>(
     let lines = value_lines(alloc, layout, place, value)?;
     let segments = vec![in alloc;
         Segment::Keep(place.before),
-        Segment::Put("", lines),
+        Segment::Put(Halves::of(""), lines),
         Segment::Keep(place.behind),
     ]?;
     Ok(Some(Segments::new(segments)))

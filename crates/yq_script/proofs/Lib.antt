@@ -4,3 +4,6 @@ pub mod ExtentLaws
 pub mod TouchLaws
 pub mod TurnLaws
 pub mod PlaceInList
+pub mod KeptSegments
+pub mod BetweenLaws
+pub mod ChangeLaws

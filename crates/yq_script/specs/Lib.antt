@@ -2,3 +2,4 @@ pub mod Splice
 pub mod Script
 pub mod Segments
 pub mod Exchanging
+pub mod Changing

@@ -53,9 +53,13 @@ splices_at n [] = []
 splices_at n (keep t ∷ ss) = splices_at (n + length t) ss
 splices_at n (put o w ∷ ss) = splice_at n o w ++ splices_at (n + length w) ss
 
+-- the splices of segments that stand behind n bytes of a text (own)
+abbrev pub changes_behind : ℕ → List Segment → List Splice
+changes_behind n ss = splices_at n (merged ss)
+
 -- the splices of an edit (own)
 unfoldable pub changes : List Segment → List Splice
-changes ss = splices_at 0 (merged ss)
+changes ss = changes_behind 0 ss
 
 -- the segments with each exchange turned round (own)
 abbrev pub swapped_segments : List Segment → List Segment
@@ -86,6 +90,18 @@ abbrev pub kept_back : List Segment → List ℕ
 kept_back [] = []
 kept_back (keep t ∷ ss) = if are_kept ss then t ++ kept_back ss else kept_back ss
 kept_back (put o w ∷ ss) = kept_back ss
+
+-- the segments from the first one that gives way on (own)
+abbrev pub from_first : List Segment → List Segment
+from_first [] = []
+from_first (keep t ∷ ss) = from_first ss
+from_first (put o w ∷ ss) = put o w ∷ ss
+
+-- the segments up to the last one that gives way (own)
+abbrev pub to_last : List Segment → List Segment
+to_last [] = []
+to_last (keep t ∷ ss) = if are_kept ss then [] else keep t ∷ to_last ss
+to_last (put o w ∷ ss) = put o w ∷ to_last ss
 
 -- A range of a text: from an offset up to another one (own).
 pub record Extent : Type 0 where

@@ -1,5 +1,6 @@
 //! A text made anew of its segments.
-ghost use Rattle.std.specs.Prelude.{◌≡◌, ◌++◌, ◌∷◌, ℕ, List, IfErr, OnOk, length};
+ghost use Rattle.std.specs.Prelude.{◌≡◌, ◌+◌, ◌<◌, ◌^◌, ◌++◌, ◌∷◌, ℕ, List, IfErr, OnOk, length, string_bytes};
+ghost use Rattle.yq_text.specs.Halves.{whole};
 ghost use Rattle.yq_script.specs.Exchanging.{Exchanged, exchange_of, gives, within_limit};
 ghost use Rattle.yq_script.specs.Script as script;
 ghost use Rattle.yq_script.specs.Segments.{segment_of, segments_of};
@@ -9,28 +10,31 @@ use crate::edited::Edited;
 use crate::exchange_error::ExchangeError;
 use crate::segment::{Segment, Segments};
 use crate::splice::Splice;
-use std::alloc::Global;
+use std::alloc::{AllocError, Global};
 use yq_scalar::characters::TEXT_LIMIT;
+use yq_text::Halves;
 
 /// What stands in the new text for a segment.
-fn new_of<'s>(segment: &'s Segment<'_>) -> &'s str
-    ensures { (ss : List script.Segment) → script.new_text (segment_of segment.now ∷ ss) ≡ result.now ++ script.new_text ss }
+fn new_of<'s>(segment: &'s Segment<'_>) -> Halves<'s>
+    ensures { (ss : List script.Segment) →
+        script.new_text (segment_of segment.now ∷ ss) ≡ whole result ++ script.new_text ss }
 {
     match segment {
-        Segment::Keep(text) => text,
-        Segment::Put(_, new) => new,
+        Segment::Keep(text) => *text,
+        Segment::Put(_, new) => Halves::of(new),
     }
 }
 
 /// How long the new text is, unless it is too large.
-fn new_len(segments: &[Segment<'_>]) -> Option<usize>
+pub(crate) fn new_len(segments: &[Segment<'_>]) -> Option<usize>
     ensures { result ≡ within_limit (length (script.new_text (segments_of segments.now))) }
 {
     let mut len = 0;
     let mut rest = segments;
     'segments: while let [segment, after @ ..] = rest {
         let new = new_of(segment);
-        if new.len() > TEXT_LIMIT - len {
+        let left = TEXT_LIMIT - len;
+        if new.front.len() > left || new.back.len() > left - new.front.len() {
             return None;
         }
         len += new.len();
@@ -46,7 +50,8 @@ fn push_splice(
     old: Vec<u8>,
     new: Vec<u8>,
 ) -> Result<(), ExchangeError>
-    ensures ok { OnOk result (splices.new.items ≡ splices.old.items ++ script.splice_at at old.items new.items) }
+    ensures ok { OnOk result (splices.new.items ≡
+        splices.old.items ++ script.splice_at at old.items new.items) }
     ensures err { IfErr result (λ e. e ≡ Memory) }
 {
     if old.as_slice() == new.as_slice() {
@@ -57,15 +62,41 @@ fn push_splice(
     Ok(())
 }
 
-/// The new text of segments, which is that long, and their splices.
-fn build(alloc: Global, segments: &[Segment<'_>], len: usize) -> Result<Edited, ExchangeError>
-    ensures { Exchanged result (gives (script.new_text (segments_of segments.now)) (script.changes (segments_of segments.now))) }
+/// Adds what stays to a text.
+fn push_kept(text: &mut String, kept: Halves<'_>) -> Result<(), AllocError>
+    ensures { OnOk result (string_bytes text.new ≡ string_bytes text.old ++ whole kept.entry) }
+{
+    text.push_str(kept.front)?;
+    text.push_str(kept.back)?;
+    Ok(())
+}
+
+/// Adds what gives way to bytes.
+fn push_gone(bytes: &mut Vec<u8>, gone: Halves<'_>) -> Result<(), AllocError>
+    ensures { OnOk result (bytes.new.items ≡ bytes.old.items ++ whole gone.entry) }
+{
+    bytes.extend_from_slice(gone.front.as_bytes())?;
+    bytes.extend_from_slice(gone.back.as_bytes())?;
+    Ok(())
+}
+
+/// The new text of segments, which is about that long, and their splices behind so many bytes.
+#[tactic(auto, using(crate::proofs::BetweenLaws::behind_nothing, crate::proofs::BetweenLaws::turn_kept))]
+pub(crate) fn build(
+    alloc: Global,
+    segments: &[Segment<'_>],
+    front: usize,
+    len: usize,
+) -> Result<Edited, ExchangeError>
+    requires { front + length (script.new_text (segments_of segments.now)) < 2 ^ 64 }
+    ensures { Exchanged result (gives (script.new_text (segments_of segments.now))
+        (script.changes_behind front (segments_of segments.now))) }
 {
     let mut text = String::with_capacity(alloc, len)?;
     let mut splices = Vec::new(alloc);
     let mut old = Vec::new(alloc);
     let mut new = Vec::new(alloc);
-    let mut at = 0;
+    let mut at = front;
     let mut rest = segments;
     'segments: while let [segment, after @ ..] = rest {
         match segment {
@@ -74,12 +105,12 @@ fn build(alloc: Global, segments: &[Segment<'_>], len: usize) -> Result<Edited, 
                     push_splice(&mut splices, at, old, new)?;
                     old = Vec::new(alloc);
                     new = Vec::new(alloc);
-                    text.push_str(kept)?;
-                    at = text.len();
+                    push_kept(&mut text, *kept)?;
+                    at = front + text.len();
                 }
             }
             Segment::Put(gone, come) => {
-                old.extend_from_slice(gone.as_bytes())?;
+                push_gone(&mut old, *gone)?;
                 new.extend_from_slice(come.as_bytes())?;
                 text.push_str(come)?;
             }
@@ -95,12 +126,13 @@ fn build(alloc: Global, segments: &[Segment<'_>], len: usize) -> Result<Edited, 
 /// new text's bytes, and one moves each of them once.
 ///
 /// The new text may have 16,777,216 bytes at most ([`ExchangeError::TooLarge`]).
+#[tactic(auto, unfolding(crate::specs::Script::changes))]
 pub fn exchange(alloc: Global, segments: &Segments<'_>) -> Result<Edited, ExchangeError>
     ensures { Exchanged result (exchange_of segments.now) }
 {
     let segments = segments.segments.as_slice();
     match new_len(segments) {
-        Some(len) => build(alloc, segments, len),
+        Some(len) => build(alloc, segments, 0, len),
         None => Err(ExchangeError::TooLarge),
     }
 }

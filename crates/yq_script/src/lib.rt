@@ -2,6 +2,8 @@
 //! that they make, and the splices that lead to it.
 #![tactic(auto)]
 
+mod changed;
+mod changing;
 mod edited;
 mod exchange_error;
 mod exchanging;
@@ -9,6 +11,8 @@ mod laws;
 mod segment;
 mod splice;
 
+pub use changed::Changed;
+pub use changing::changes;
 pub use edited::Edited;
 pub use exchange_error::ExchangeError;
 pub use exchanging::exchange;

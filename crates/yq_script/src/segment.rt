@@ -1,18 +1,18 @@
 //! Segments of a text.
-ghost use Rattle.std.specs.Prelude.{◌≡◌, ◌<◌, ◌^◌, ◌++◌, ◌∷◌, [], OnOk, length};
-ghost use Rattle.yq_script.specs.Script as script;
+ghost use Rattle.std.specs.Prelude.{◌≡◌, ◌++◌, ◌∷◌, [], OnOk};
 ghost use Rattle.yq_script.specs.Segments.{segment_of, segments_of};
 
 use std::alloc::AllocError;
 use std::marker::Model;
+use yq_text::Halves;
 
-/// A segment of a text.
+/// A segment of a text, which stands in two halves.
 #[derive(Debug, Drop)]
 pub enum Segment<'t> {
     /// It stays.
-    Keep(&'t str),
+    Keep(Halves<'t>),
     /// The first text gives way to the second one.
-    Put(&'t str, String),
+    Put(Halves<'t>, String),
 }
 
 /// Segments of a text, in its order. What they keep and what gives way is lent from the text, and what
@@ -47,41 +47,5 @@ impl<'t> Segments<'t> {
     {
         self.segments.push(segment)?;
         Ok(())
-    }
-
-    /// How many bytes are kept in front of the first segment that gives way; those of all segments
-    /// where none does.
-    pub fn kept_front(&self) -> usize
-        requires { length (script.old_text self.now) < 2 ^ 64 }
-        ensures { result ≡ length (script.kept_front self.now) }
-    {
-        let mut len = 0;
-        let mut rest = self.segments.as_slice();
-        'segments: while let [segment, after @ ..] = rest {
-            match segment {
-                Segment::Keep(text) => len += text.len(),
-                Segment::Put(_, _) => return len,
-            }
-            rest = after;
-        }
-        len
-    }
-
-    /// How many bytes are kept behind the last segment that gives way; those of all segments where
-    /// none does.
-    pub fn kept_back(&self) -> usize
-        requires { length (script.old_text self.now) < 2 ^ 64 }
-        ensures { result ≡ length (script.kept_back self.now) }
-    {
-        let mut len = 0;
-        let mut rest = self.segments.as_slice();
-        'segments: while let [segment, after @ ..] = rest {
-            len = match segment {
-                Segment::Keep(text) => len + text.len(),
-                Segment::Put(_, _) => 0,
-            };
-            rest = after;
-        }
-        len
     }
 }

@@ -37,7 +37,7 @@ use Rattle.yq_carrying.proofs.CarryingLaws.{carrying_is}
 use Rattle.yq_carrying.proofs.CarryingLocalLaws.{carrying_local}
 use Rattle.yq_ways.specs.Local.{IsLocalTo}
 use Rattle.yq_ways.specs.Operands.{HasOperand}
-use Rattle.yq_ways.proofs.KeptSegments.{IsBetween, between}
+use Rattle.yq_script.proofs.KeptSegments.{IsBetween, between}
 use Rattle.yq_ways.proofs.TouchLaws.{local_touches}
 use Rattle.yq_flow_ways.proofs.CutLaws.{cut_read, cut_same, text_read}
 use Rattle.yq_splice.specs.Carried.{carry_one, carried}

@@ -33,7 +33,6 @@ pub mod BreakLaws
 pub mod PrintedDocuments
 pub mod AppendServed
 pub mod CommentServed
-pub mod KeptSegments
 pub mod CarriedLaws
 pub mod OneLines
 pub mod LocalLaws

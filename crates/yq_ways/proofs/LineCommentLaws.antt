@@ -64,7 +64,7 @@ use Rattle.yq_ways.proofs.CommentPieceLaws.{nothing, byte_then, line_text_is}
 use Rattle.yq_ways.proofs.CommentReadLaws.{quiet_none, comment_behind, comment_is}
 use Rattle.yq_ways.proofs.CommentRowLaws.{rows_front, IsFound, row_found, found_text, found_row, cut_is, HasRow, line_whole, end_parts, line_some, some_steps}
 use Rattle.yq_ways.proofs.DoneLaws.{document_done}
-use Rattle.yq_ways.proofs.KeptSegments.{front_round, back_round, round_puts}
+use Rattle.yq_script.proofs.KeptSegments.{front_round, back_round, round_puts}
 use Rattle.yq_ways.proofs.LocalLaws.{cut_known, RowsGiveWay, row_local}
 use Rattle.yq_ways.proofs.SegmentLaws.{segments_readable}
 

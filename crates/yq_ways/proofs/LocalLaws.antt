@@ -19,7 +19,7 @@ use Rattle.yq_change.specs.DocumentRows.{behind_document}
 use Rattle.yq_change.proofs.DocumentItemLaws.{rows_before, rows_joined, rows_spell, document_has_items}
 use Rattle.yq_script.specs.Script.{Segment, old_text, new_text, are_kept, kept_front, kept_back}
 use Rattle.yq_ways.specs.Local.{InFirst, InLast, IsLocal, IsLocalTo}
-use Rattle.yq_ways.proofs.KeptSegments.{IsBetween, between}
+use Rattle.yq_script.proofs.KeptSegments.{IsBetween, between}
 
 -- the new text has one cut
 pub cut_known : (ss : List Segment) (c d : Cut) → read_at (cut_text d) ≡ Some d → cut_text d ≡ new_text ss → IsLocal ss c d → IsLocalTo ss c

@@ -38,7 +38,7 @@ use Rattle.yq_ways.specs.Operands.{HasOperand}
 use Rattle.yq_ways.specs.Removing.{indented, lines_mended, gap_mended, removed, removed_at, remove_way}
 use Rattle.yq_ways.specs.Local.{IsLocal, IsLocalTo, IsLocalWay}
 use Rattle.yq_ways.specs.Ways.{ReadsAfter, IsWay}
-use Rattle.yq_ways.proofs.KeptSegments.{IsBehind, behind, back_last}
+use Rattle.yq_script.proofs.KeptSegments.{IsBehind, behind, back_last}
 use Rattle.yq_ways.proofs.GapLaws.{RowsGoOut, out_local}
 use Rattle.yq_ways.proofs.LocalLaws.{at_row, last_within, cut_known}
 use Rattle.yq_ways.proofs.DoneLaws.{document_done}

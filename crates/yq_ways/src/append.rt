@@ -16,6 +16,7 @@ use yq_meaning::Op;
 use yq_scalar::block_written::break_text;
 use yq_scalar::push_spaces;
 use yq_script::{Segment, Segments};
+use yq_text::Halves;
 use yq_tree::{CollectionEnd, CutText};
 
 /// Adds the lines of an item or entry at a column, up to their last break.
@@ -78,7 +79,7 @@ pub fn append_way<'d>(
     let new = entry_text(alloc, &layout, &end, key.as_deref(), value)?;
     let segments = vec![in alloc;
         Segment::Keep(end.before),
-        Segment::Put("", new),
+        Segment::Put(Halves::of(""), new),
         Segment::Keep(end.behind),
     ]?;
     Ok(Some(Segments::new(segments)))

@@ -11,6 +11,7 @@ use yq_meaning::Op;
 use yq_scalar::block_written::break_text;
 use yq_scalar::push_spaces;
 use yq_script::{Segment, Segments};
+use yq_text::Halves;
 use yq_tree::CutText;
 
 /// Adds a line of a head comment, with its break.
@@ -62,7 +63,7 @@ pub fn head_comment_way<'t>(
     let new = head_lines(alloc, above.column, br, text)?;
     let segments = vec![in alloc;
         Segment::Keep(above.before),
-        Segment::Put(above.run, new),
+        Segment::Put(Halves::of(above.run), new),
         Segment::Keep(above.behind),
     ]?;
     Ok(Some(Segments::new(segments)))

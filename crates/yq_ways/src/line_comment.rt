@@ -10,6 +10,7 @@ ghost use Rattle.yq_ways.specs.WayAnswers.{Carries};
 use std::alloc::{AllocError, Global};
 use yq_meaning::Op;
 use yq_script::{Segment, Segments};
+use yq_text::Halves;
 use yq_tree::{CutText, LineEnd};
 
 /// The white space that ends a line: it goes with a comment that is taken away.
@@ -17,9 +18,9 @@ fn white_segment<'t>(alloc: Global, text: &str, end: LineEnd<'t>) -> Segment<'t>
     ensures { segment_of result ≡ spec.white_segment text.now (end_told end.entry) }
 {
     if text.is_empty() && !end.comment.is_empty() {
-        Segment::Put(end.white, String::new(alloc))
+        Segment::Put(Halves::of(end.white), String::new(alloc))
     } else {
-        Segment::Keep(end.white)
+        Segment::Keep(Halves::of(end.white))
     }
 }
 
@@ -58,7 +59,7 @@ pub fn line_comment_way<'t>(
     let segments = vec![in alloc;
         Segment::Keep(end.before),
         white_segment(alloc, text, end),
-        Segment::Put(end.comment, new),
+        Segment::Put(Halves::of(end.comment), new),
         Segment::Keep(end.behind),
     ]?;
     Ok(Some(Segments::new(segments)))

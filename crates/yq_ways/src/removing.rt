@@ -15,6 +15,7 @@ use yq_scalar::lines::split_line;
 use yq_scalar::push_spaces;
 use yq_scalar::text::split_white;
 use yq_script::{Segment, Segments};
+use yq_text::Halves;
 use yq_tree::{CutText, Removal, Seam};
 
 /// So many spaces.
@@ -37,8 +38,8 @@ fn push_indented<'t>(
 {
     let (white, rest) = split_white(line);
     let indent = spaces(alloc, column)?;
-    segments.push(Segment::Put(white, indent))?;
-    segments.push(Segment::Keep(rest))?;
+    segments.push(Segment::Put(Halves::of(white), indent))?;
+    segments.push(Segment::Keep(Halves::of(rest)))?;
     Ok(())
 }
 
@@ -52,11 +53,11 @@ fn push_blank<'t>(
     ensures { OnOk result (segments.new ≡ segments.old ++ spec.blank_mended (seam_told seam) line.now) }
 {
     if seam.keeps {
-        segments.push(Segment::Put(line, String::new(alloc)))?;
+        segments.push(Segment::Put(Halves::of(line), String::new(alloc)))?;
         return Ok(());
     }
     if is_short(seam.indent, line.as_bytes()) {
-        segments.push(Segment::Keep(line))?;
+        segments.push(Segment::Keep(Halves::of(line)))?;
         return Ok(());
     }
     push_indented(alloc, segments, 0, line)
@@ -72,7 +73,7 @@ fn push_comment<'t>(
     ensures { OnOk result (segments.new ≡ segments.old ++ spec.comment_mended (seam_told seam) line.now) }
 {
     if is_outside(seam.indent, line.as_bytes()) {
-        segments.push(Segment::Keep(line))?;
+        segments.push(Segment::Keep(Halves::of(line)))?;
         return Ok(());
     }
     push_indented(alloc, segments, seam.column, line)
@@ -92,7 +93,7 @@ fn push_lines<'t>(
         let (line, after) = split_line(rest);
         if !is_blank(line.as_bytes()) {
             push_comment(alloc, segments, seam, line)?;
-            segments.push(Segment::Keep(after))?;
+            segments.push(Segment::Keep(Halves::of(after)))?;
             return Ok(());
         }
         push_blank(alloc, segments, seam, line)?;
@@ -113,7 +114,7 @@ fn push_gap<'t>(
     match seam {
         Some(seam) => push_lines(alloc, segments, seam, gap),
         None => {
-            segments.push(Segment::Keep(gap))?;
+            segments.push(Segment::Keep(Halves::of(gap)))?;
             Ok(())
         }
     }

@@ -19,6 +19,7 @@ use yq_inline::{Value, style_of};
 use yq_meaning::Op;
 use yq_scalar::{Kind, Place, write_scalar};
 use yq_script::{Segment, Segments};
+use yq_text::Halves;
 use yq_tree::{CutText, InlinePlace, Path};
 
 /// Whether a value is a scalar of that kind and that text.
@@ -106,7 +107,7 @@ fn put<'d>(
 {
     let segments = vec![in alloc;
         Segment::Keep(place.before),
-        Segment::Put(old, new),
+        Segment::Put(Halves::of(old), new),
         Segment::Keep(place.behind),
     ]?;
     Ok(Some(Segments::new(segments)))

@@ -4,5 +4,5 @@ use Rattle.yq_script.proofs.exchanging.build.Goals as goal
 
 pub returns : goal.returns
 returns c =
-    turn_done (segments_of c.args.segments.now) (segments_of c.segments.rest.now) _ c.segments.splices.items c.push_splice-2.new.splices.items c.segments.at c.segments.old.items c.segments.new.items
+    turn_done c.args.front (segments_of c.args.segments.now) (segments_of c.segments.rest.now) _ c.segments.splices.items c.push_splice-2.new.splices.items c.segments.at c.segments.old.items c.segments.new.items
     (none_left c.segments.rest.now c.in_default.len_below) c.segments.invariant.made c.segments.invariant.found c.in_ok-push_splice.ensures.ok

@@ -5,7 +5,7 @@ use Rattle.yq_script.specs.Script.{Segment, keep, put, old_text, new_text, are_k
 
 -- ---- kept segments
 
-one_kept : (t : List ℕ) (ss : List Segment) (b : Bool) → are_kept ss ≡ b → kept_back (keep t ∷ ss) ≡ cond b (t ++ kept_back ss) (kept_back ss)
+pub one_kept : (t : List ℕ) (ss : List Segment) (b : Bool) → are_kept ss ≡ b → kept_back (keep t ∷ ss) ≡ cond b (t ++ kept_back ss) (kept_back ss)
 one_kept t ss b e = ap (λ x. cond x (t ++ kept_back ss) (kept_back ss)) e
 
 old_kept : (ss : List Segment) → are_kept ss ≡ true → old_text ss ≡ kept_back ss
@@ -13,7 +13,7 @@ old_kept [] e = refl
 old_kept (keep t ∷ ss) e = ap (λ u. t ++ u) (old_kept ss e) ∙ sym (one_kept t ss true e)
 old_kept (put o w ∷ ss) e = absurd (false≢true e)
 
-new_kept : (ss : List Segment) → are_kept ss ≡ true → new_text ss ≡ kept_back ss
+pub new_kept : (ss : List Segment) → are_kept ss ≡ true → new_text ss ≡ kept_back ss
 new_kept [] e = refl
 new_kept (keep t ∷ ss) e = ap (λ u. t ++ u) (new_kept ss e) ∙ sym (one_kept t ss true e)
 new_kept (put o w ∷ ss) e = absurd (false≢true e)
@@ -64,7 +64,7 @@ between (put o w ∷ ss) e = let h = behind (put o w ∷ ss) in record { old = h
 
 -- ---- segments between a kept one in front and one behind
 
-last_kept : (ss : List Segment) (b : List ℕ) → are_kept (ss ++ (keep b ∷ [])) ≡ are_kept ss
+pub last_kept : (ss : List Segment) (b : List ℕ) → are_kept (ss ++ (keep b ∷ [])) ≡ are_kept ss
 last_kept [] b = refl
 last_kept (keep t ∷ ss) b = last_kept ss b
 last_kept (put o w ∷ ss) b = refl

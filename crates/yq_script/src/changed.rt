@@ -1,0 +1,17 @@
+//! What an edit changes of a text.
+
+use crate::splice::Splice;
+
+/// What an edit changes of a text whose ends stay.
+#[derive(Debug, Drop)]
+pub struct Changed {
+    /// How many bytes stay in front of all that gives way; all, where nothing does.
+    pub front: usize,
+    /// How many bytes stay behind all that gives way; all, where nothing does.
+    pub back: usize,
+    /// What stands between them in the new text.
+    pub new: String,
+    /// The splices that, done in order, lead to the new text. An edit that
+    /// changes no byte has none.
+    pub splices: Vec<Splice>,
+}
