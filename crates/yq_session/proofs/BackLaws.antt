@@ -1,20 +1,22 @@
 -- What stands in front of the items that are near the end of a text, by the places that are kept.
-use Rattle.std.proofs.Common.{◌≡◌, ◌⊎◌, inl, inr, ⊎_elim, ℕ, ◌+◌, ◌-◌, ◌<◌, ◌≤◌, min, List, [], ◌∷◌, ◌++◌, length, map, reverse, get_or, refl, sym, ap, ◌∙◌, subst, arith, append_assoc, append-nil, length-append}
-use Rattle.std.proofs.lemmas.List.{get_or_at, length-map, length-reverse, reverse-append, reverse-reverse}
+use Rattle.std.proofs.Common.{◌≡◌, ◌⊎◌, inl, inr, ⊎_elim, ℕ, ◌+◌, ◌-◌, ◌<◌, ◌≤◌, min, List, [], ◌∷◌, ◌++◌, length, map, reverse, get_or, take, refl, sym, ap, ◌∙◌, subst, arith, append_assoc, append-nil, length-append}
+use Rattle.std.proofs.lemmas.List.{get_or_at, length-map, length-reverse, reverse-append, reverse-reverse, take_at}
 use Rattle.std.proofs.lemmas.List.Elements.{All-cons, All-head, All-nil, All-tail, All-weaker}
 use Rattle.std.specs.List.{All}
 use Rattle.yq_rows.specs.Items.{Item, row_item, end_item, items_text}
 use Rattle.yq_rows.specs.Kept.{far, near, ends_near, turned}
 use Rattle.yq_rows.specs.Offsets.{offsets_of}
+use Rattle.yq_rows.specs.Touched.{in_back}
 use Rattle.yq_rows.specs.View.{slices}
 use Rattle.yq_rows.specs.declared.ends.EndPlace.{EndPlace}
 use Rattle.yq_rows.specs.declared.offsets.Offsets as declared
 use Rattle.yq_rows.specs.declared.places.Places.{Places}
 use Rattle.yq_rows.proofs.ItemLaws.{items_text-append}
 use Rattle.yq_rows.proofs.KeptLaws.{far_near, items_apart, near_joined}
-use Rattle.yq_session.specs.Sides.{ArePlaced, IsGapAt, ends_before, nearer, not_in_back, side_of, text_length}
+use Rattle.yq_session.specs.Sides.{AreAt, IsSplitAt, ends_before, nearer, not_in_back, side_of, text_length}
 use Rattle.yq_session.proofs.BeginLaws.{BackFound, back_found, begin_from, begin_where, ends_begin, first_long, joined_long, rows_begin}
-use Rattle.yq_session.proofs.CountLaws.{ends_joined}
+use Rattle.yq_session.proofs.CountLaws.{ends_joined, near_count}
+use Rattle.yq_session.proofs.ItemPlaces.{far_within}
 use Rattle.yq_session.proofs.SideLaws.{sides_same}
 use Rattle.yq_session.proofs.SplitLaws.{Within, ends_counted, nearer_split, prefix, turned_twice}
 
@@ -51,11 +53,6 @@ all_unmapped : (n : ℕ) (P Q : declared.Offsets → Type 0) → ((o : declared.
 all_unmapped n P Q f [] h = All-nil Q
 all_unmapped n P Q f (o ∷ os) h = All-cons Q o os (f o (All-head P (turned n o) (map (turned n) os) h)) (all_unmapped n P Q f os (All-tail P (turned n o) (map (turned n) os) h))
 
-pub far_within : (n : ℕ) (xs : List Item) → text_length xs ≤ n → All (Within n) (far xs)
-far_within n [] h = All-nil (Within n)
-far_within n (row_item r ∷ xs) h = All-cons (Within n) (offsets_of (text_length (row_item r ∷ xs)) (slices r)) (far xs) h (far_within n xs (omega (arith, h, first_long (row_item r) xs)))
-far_within n (end_item gap marker ∷ xs) h = far_within n xs (omega (arith, h, first_long (end_item gap marker) xs))
-
 -- Items near the end of their text, by the rows behind the gap, which stand there as they do at the end of any text, and by the ends of parts.
 pub record BackKept (p : Places) (front behind : List Item) (len back : ℕ) : Type 0 where
   pub before : List declared.Offsets
@@ -68,7 +65,7 @@ pub record BackKept (p : Places) (front behind : List Item) (len back : ℕ) : T
   pub ends_are : p.ends.items ≡ ends_near 0 0 front ++ ends_near (text_length front) (length (near 0 front)) behind
   pub count_is : ends_before ((len - back) + 1) p.ends.items ≡ length (ends_near 0 0 front)
 
-pub back_kept : (p : Places) (xs : List Item) (at back : ℕ) → ArePlaced p xs → IsGapAt at (text_length xs) p → at + back ≤ text_length xs → (h : BackFound 0 back xs) → BackKept p h.front h.behind (text_length xs) back
+pub back_kept : (p : Places) (xs : List Item) (at back : ℕ) → AreAt p xs → IsSplitAt at (text_length xs) p → at + back ≤ text_length xs → (h : BackFound 0 back xs) → BackKept p h.front h.behind (text_length xs) back
 back_kept p xs at back placed gap apart h =
     let len : ℕ = text_length xs in
     let m : ℕ = 0 + text_length h.front in
@@ -178,7 +175,7 @@ ByRows p len rows bytes = ((rows ≡ 0) × (bytes ≡ len)) ⊎ ((o : declared.O
 abbrev pub ByEnds : Places → (ends before bytes : ℕ) → Type 0
 ByEnds p ends before bytes = ((length p.ends.items ≤ ends) × (bytes ≡ before)) ⊎ ((e : EndPlace) × (ends < length p.ends.items) × (e ≡ get_or p.ends.items ends e) × (bytes ≡ min before e.start))
 
-pub behind_is : (p : Places) (xs : List Item) (at back rows ends before bytes : ℕ) → ArePlaced p xs → IsGapAt at (text_length xs) p → at + back ≤ text_length xs → rows ≡ length (nearer back (reverse p.behind.items)) →
+pub behind_is : (p : Places) (xs : List Item) (at back rows ends before bytes : ℕ) → AreAt p xs → IsSplitAt at (text_length xs) p → at + back ≤ text_length xs → rows ≡ length (nearer back (reverse p.behind.items)) →
     ends ≡ ends_before ((text_length xs - back) + 1) p.ends.items → ByRows p (text_length xs) rows before → ByEnds p ends before bytes → record { rows = length p.front.items + (length p.behind.items - rows); ends = ends; bytes = bytes } ≡ side_of (not_in_back back xs)
 behind_is p xs at back rows ends before bytes placed gap apart many count by_rows by_ends =
     let len : ℕ = text_length xs in
@@ -207,3 +204,15 @@ behind_is p xs at back rows ends before bytes placed gap apart many count by_row
           by_ends;
     } in
     sides_same (length p.front.items + (length p.behind.items - rows)) ends bytes (side_of h.front) in_front in_ends (first_bytes m len j h.behind rows (length p.ends.items - ends) bytes long first) ∙ ap side_of (sym h.is_front)
+
+-- the rows that stay on either side
+pub back_taken : (p : Places) (xs : List Item) (at back : ℕ) → AreAt p xs → IsSplitAt at (text_length xs) p → at + back ≤ text_length xs → reverse (take (length (near 0 (in_back back xs))) p.behind.items) ≡ far (in_back back xs)
+back_taken p xs at back placed gap apart =
+    let h = back_found xs 0 back in
+    let k = back_kept p xs at back placed gap apart h in
+    let all : p.behind.items ≡ reverse k.rows ++ reverse k.before = sym (reverse-reverse p.behind.items) ∙ (ap reverse k.split ∙ reverse-append k.before k.rows) in
+    let count : length (reverse k.rows) ≡ length (near 0 h.behind) = length-reverse k.rows ∙ (sym (length-map k.rows (turned (text_length xs))) ∙ (ap length k.back_rows ∙ near_count (text_length h.front) 0 h.behind)) in
+    ap (λ (z : List Item). reverse (take (length (near 0 z)) p.behind.items)) h.is_behind
+    ∙ (ap (λ (l : List declared.Offsets). reverse (take (length (near 0 h.behind)) l)) all
+    ∙ (ap reverse (take_at (reverse k.rows) (reverse k.before) (length (near 0 h.behind)) count)
+    ∙ (reverse-reverse k.rows ∙ (k.far_rows ∙ ap far (sym h.is_behind)))))

@@ -1,12 +1,12 @@
 -- Rows and ends of parts of items between others that give way to those of other items, by their places.
-use Rattle.std.proofs.Common.{◌≡◌, ◌⊎◌, inl, inr, ℕ, suc, ◌+◌, ◌-◌, ◌<◌, ◌≤◌, ◌^◌, List, [], ◌∷◌, ◌++◌, length, map, reverse, take, drop, drop_at, Some, slice_get, refl, sym, ap, ◌∙◌, arith, append_assoc, append-nil, length-append, length-take, take_all}
+use Rattle.std.proofs.Common.{◌≡◌, ◌⊎◌, inl, inr, ℕ, suc, ◌+◌, ◌-◌, ◌<◌, ◌≤◌, ◌^◌, List, [], ◌∷◌, ◌++◌, length, map, reverse, take, drop, drop_at, Some, slice_get, refl, sym, ap, ◌∙◌, subst, arith, append_assoc, append-nil, length-append, length-take, take_all}
 use Rattle.std.proofs.lemmas.List.{length-map, length-reverse, map_more, take_at}
 use Rattle.std.proofs.lemmas.List.Elements.{All-weaker}
 use Rattle.std.proofs.lemmas.Option.{get_or_from_slice_get, slice_get_within}
 use Rattle.std.specs.List.{All}
 use Rattle.yq_rows.specs.Ends.{end_at}
 use Rattle.yq_rows.specs.Items.{Item, row_item, end_item, items_text}
-use Rattle.yq_rows.specs.Kept.{far, near, ends_near, raised, turned, placed_rows, both_sides, TextsIn}
+use Rattle.yq_rows.specs.Kept.{ArePlaced, far, kept_rows, near, ends_near, raised, turned, placed_rows, TextsIn}
 use Rattle.yq_rows.specs.Offsets.{offsets_of}
 use Rattle.yq_rows.specs.Regions.{alone}
 use Rattle.yq_rows.specs.Rows.{print_row}
@@ -17,8 +17,10 @@ use Rattle.yq_rows.specs.declared.places.Places.{Places}
 use Rattle.yq_rows.proofs.ItemLaws.{items_text-append}
 use Rattle.yq_rows.proofs.KeptLaws.{far_near, items_apart, near_joined, texts_joined}
 use Rattle.yq_session.specs.Exchanging.{GivesWay, IsMovable, joined_ends, moved_from}
-use Rattle.yq_session.specs.Sides.{ArePlaced, origin, text_length}
+use Rattle.yq_session.specs.Sides.{AreAt, both_sides, origin, text_length}
+use Rattle.yq_session.specs.declared.reading.Come.{Come}
 use Rattle.yq_session.specs.declared.sides.Side.{Side}
+use Rattle.yq_session.specs.declared.sides.Touched.{Touched}
 use Rattle.yq_session.proofs.BeginLaws.{begin_within, ends_begin, joined_long, rows_begin}
 use Rattle.yq_session.proofs.CountLaws.{ends_count, ends_joined, ends_rows, near_count}
 
@@ -82,61 +84,38 @@ alone_are w (i ∷ z) = record {
   texts = texts_first w (end_item [] [] ∷ []);
 }
 
--- how many of the ends that were read are kept
-abbrev pub EndCount : ℕ → ℕ → ℕ → ℕ → Type 0
-EndCount kept later all count = ((kept + later ≡ 0) × (count ≡ all)) ⊎ ((kept + later ≡ 0 → ⊥) × (count ≡ all - 1))
-
-some_behind : (i : Item) (z : List Item) → length (near 0 (i ∷ z)) + length (ends_near 0 0 (i ∷ z)) ≡ 0 → ⊥
-some_behind (row_item r) z h = omega (arith, h)
-some_behind (end_item gap marker) z h = omega (arith, h)
-
-pub ends_kept : (es : List EndPlace) (w z : List Item) (kept later count : ℕ) → es ≡ ends_near 0 0 (alone w z) → kept ≡ length (near 0 z) → later ≡ length (ends_near 0 0 z) → EndCount kept later (length es) count → take count es ≡ ends_near 0 0 w
-ends_kept es w [] kept later count all rows ends (inl n) = ap (λ (k : ℕ). take k es) n.1 ∙ (take_all (length es) es (omega arith) ∙ all)
-ends_kept es w [] kept later count all rows ends (inr n) = absurd (n.0 (omega (arith, rows, ends)))
-ends_kept es w (i ∷ z) kept later count all rows ends (inl n) = absurd (some_behind i z (omega (arith, n.0, rows, ends)))
-ends_kept es w (i ∷ z) kept later count all rows ends (inr n) =
-    let e = end_at (0 + text_length w) (0 + length (near 0 w)) [] [] in
-    let list : es ≡ ends_near 0 0 w ++ e ∷ [] = all ∙ ends_joined 0 0 w (end_item [] [] ∷ []) in
-    let size : length (ends_near 0 0 w) ≡ count = omega (arith, n.1, ap length list, length-append (ends_near 0 0 w) (e ∷ [])) in
-    ap (take count) list ∙ take_at (ends_near 0 0 w) (e ∷ []) count size
-
-pub some_end : (es : List EndPlace) (w z : List Item) (kept later : ℕ) → es ≡ ends_near 0 0 (alone w z) → kept ≡ length (near 0 z) → later ≡ length (ends_near 0 0 z) → (kept + later ≡ 0 → ⊥) → 1 ≤ length es
-some_end es w [] kept later all rows ends more = absurd (more (omega (arith, rows, ends)))
-some_end es w (i ∷ z) kept later all rows ends more = let e = end_at (0 + text_length w) (0 + length (near 0 w)) [] [] in omega (arith, ap length (all ∙ ends_joined 0 0 w (end_item [] [] ∷ [])), length-append (ends_near 0 0 w) (e ∷ []))
-
 -- ---- what gives way, in numbers
 
-pub record Numbers (p found : Places) (front old : Side) (len : ℕ) (written behind : List Item) : Type 0 where
-  pub front_rows : front.rows ≤ length p.front.items
-  pub all_rows : (n : ℕ) → length (placed_rows n p) ≡ old.rows + length (near 0 behind)
+pub record Numbers (p : Places) (x : Touched) (come : Come) (written behind : List Item) : Type 0 where
+  pub front_rows : x.front.rows ≤ length p.front.items
+  pub all_rows : length (kept_rows p) ≡ x.old.rows + length (near 0 behind)
   pub back_rows : length (near 0 behind) ≤ length p.behind.items
-  pub all_ends : length p.ends.items ≡ old.ends + length (ends_near 0 0 behind)
-  pub front_ends : front.ends ≤ length p.ends.items
-  pub found_rows : (n : ℕ) → length (placed_rows n found) ≡ length (near 0 written)
-  pub bytes : (front.bytes + len) + text_length behind < 2 ^ 32
+  pub old_ends : x.old.ends ≤ length p.ends.items
+  pub front_ends : x.front.ends ≤ length p.ends.items
+  pub come_rows : length (kept_rows come.places) ≡ length (near 0 written)
+  pub bytes : (x.front.bytes + come.len) + text_length behind < 2 ^ 32
 
 far_count : (xs : List Item) → length (far xs) ≡ length (near 0 xs)
 far_count [] = refl
 far_count (row_item r ∷ xs) = ap suc (far_count xs ∙ near_count 0 (0 + length (print_row r [])) xs)
 far_count (end_item gap marker ∷ xs) = far_count xs ∙ near_count 0 (0 + length (gap ++ marker)) xs
 
-sides_count : (n m : ℕ) (front behind : List declared.Offsets) → length (both_sides n front behind) ≡ length (both_sides m front behind)
-sides_count n m front behind =
-    length-append front (map (turned n) (reverse behind)) ∙ (ap (λ (k : ℕ). length front + k) (length-map (reverse behind) (turned n) ∙ sym (length-map (reverse behind) (turned m))) ∙ sym (length-append front (map (turned m) (reverse behind))))
+pub kept_count : (n : ℕ) (p : Places) → length (kept_rows p) ≡ length (placed_rows n p)
+kept_count n p =
+    length-append p.front.items (reverse p.behind.items) ∙ (ap (λ (k : ℕ). length p.front.items + k) (sym (length-map (reverse p.behind.items) (turned n))) ∙ sym (length-append p.front.items (map (turned n) (reverse p.behind.items))))
 
-pub numbers : (p found : Places) (front old : Side) (len : ℕ) (h : GivesWay p found front old len) → Numbers p found front old len h.written h.behind
-numbers p found front old len h =
+pub numbers : (p : Places) (x : Touched) (come : Come) (h : GivesWay p x come) → Numbers p x come h.written h.behind
+numbers p x come h =
     let bt : List Item = h.before ++ h.touched in
     let all : h.before ++ (h.touched ++ h.behind) ≡ bt ++ h.behind = sym (append_assoc h.before h.touched h.behind) in
     let rows : near 0 (h.before ++ (h.touched ++ h.behind)) ≡ near 0 bt ++ near (0 + text_length bt) h.behind = ap (near 0) all ∙ near_joined 0 bt h.behind in
     let ends : ends_near 0 0 (h.before ++ (h.touched ++ h.behind)) ≡ ends_near 0 0 bt ++ ends_near (0 + text_length bt) (0 + length (near 0 bt)) h.behind = ap (ends_near 0 0) all ∙ ends_joined 0 0 bt h.behind in
     let later = near_count (0 + text_length bt) 0 h.behind in
-    let ends_later = ends_count (0 + text_length bt) (0 + length (near 0 bt)) 0 0 h.behind in
-    let old_rows : old.rows ≡ length (near 0 bt) = ap (λ (s : Side). s.rows) h.old_is in
-    let old_ends : old.ends ≡ length (ends_near 0 0 bt) = ap (λ (s : Side). s.ends) h.old_is in
-    let front_rows : front.rows ≡ length (near 0 h.before) = ap (λ (s : Side). s.rows) h.front_is in
-    let front_ends : front.ends ≡ length (ends_near 0 0 h.before) = ap (λ (s : Side). s.ends) h.front_is in
-    let front_bytes : front.bytes ≡ text_length h.before = ap (λ (s : Side). s.bytes) h.front_is in
+    let old_rows : x.old.rows ≡ length (near 0 bt) = ap (λ (s : Side). s.rows) h.old_is in
+    let old_ends : x.old.ends ≡ length (ends_near 0 0 bt) = ap (λ (s : Side). s.ends) h.old_is in
+    let front_rows : x.front.rows ≡ length (near 0 h.before) = ap (λ (s : Side). s.rows) h.front_is in
+    let front_ends : x.front.ends ≡ length (ends_near 0 0 h.before) = ap (λ (s : Side). s.ends) h.front_is in
+    let front_bytes : x.front.bytes ≡ text_length h.before = ap (λ (s : Side). s.bytes) h.front_is in
     let n : ℕ = length (near 0 h.behind) in
     let whole : ℕ = text_length (h.before ++ (h.touched ++ h.behind)) in
     let told : length (placed_rows whole p) ≡ length (near 0 bt) + length (near (0 + text_length bt) h.behind) = ap length h.placed.rows_are ∙ (ap length rows ∙ length-append (near 0 bt) (near (0 + text_length bt) h.behind)) in
@@ -144,15 +123,14 @@ numbers p found front old len h =
     ap length h.placed.ends_are ∙ (ap length ends ∙ length-append (ends_near 0 0 bt) (ends_near (0 + text_length bt) (0 + length (near 0 bt)) h.behind)) in
     let first_ends : length (ends_near 0 0 bt) ≡ length (ends_near 0 0 h.before) + length (ends_near (0 + text_length h.before) (0 + length (near 0 h.before)) h.touched) =
     ap length (ends_joined 0 0 h.before h.touched) ∙ length-append (ends_near 0 0 h.before) (ends_near (0 + text_length h.before) (0 + length (near 0 h.before)) h.touched) in
-    let a = alone_are h.written h.behind in
     record {
-      front_rows = omega (arith, front_rows, ap length h.front_rows, length-take front.rows p.front.items);
-      all_rows = λ k. sides_count k whole p.front.items p.behind.items ∙ omega (arith, told, old_rows, later);
+      front_rows = omega (arith, front_rows, ap length h.front_rows, length-take x.front.rows p.front.items);
+      all_rows = kept_count whole p ∙ omega (arith, told, old_rows, later);
       back_rows = omega (arith, ap length h.back_rows, length-reverse (take n p.behind.items), length-take n p.behind.items, far_count h.behind);
-      all_ends = omega (arith, ends_told, old_ends, ends_later);
+      old_ends = omega (arith, ends_told, old_ends);
       front_ends = omega (arith, ends_told, first_ends, front_ends);
-      found_rows = λ k. sides_count k (text_length (alone h.written h.behind)) found.front.items found.behind.items ∙ (ap length h.found_are.rows_are ∙ ap length a.rows);
-      bytes = omega (arith, h.small, front_bytes, h.long, joined_long h.before (h.written ++ h.behind), joined_long h.written h.behind);
+      come_rows = kept_count come.read come.places ∙ ap length h.are_read.rows;
+      bytes = omega (arith, h.small, front_bytes, h.are_read.long, joined_long h.before (h.written ++ h.behind), joined_long h.written h.behind);
     }
 
 -- ---- they may be moved
@@ -169,58 +147,49 @@ ends_movable from to xs rows bytes =
     let b = ends_begin (λ s. s ≤ last) (from.bytes + 0) (from.rows + 0) xs (begin_within last (from.bytes + 0) xs (omega arith)) in
     λ k d l. (let r = a k d l in omega (arith, r, rows), let s = b k d l in omega (arith, s, bytes))
 
-pub ends_behind : (p found : Places) (front old : Side) (len : ℕ) (h : GivesWay p found front old len) → drop old.ends p.ends.items ≡ ends_near (old.bytes + 0) (old.rows + 0) h.behind
-ends_behind p found front old len h =
+pub ends_behind : (p : Places) (x : Touched) (come : Come) (h : GivesWay p x come) → drop x.old.ends p.ends.items ≡ ends_near (x.old.bytes + 0) (x.old.rows + 0) h.behind
+ends_behind p x come h =
     let bt : List Item = h.before ++ h.touched in
     let m : ℕ = 0 + text_length bt in
     let k : ℕ = 0 + length (near 0 bt) in
     let ends : p.ends.items ≡ ends_near 0 0 bt ++ ends_near m k h.behind = h.placed.ends_are ∙ (ap (ends_near 0 0) (sym (append_assoc h.before h.touched h.behind)) ∙ ends_joined 0 0 bt h.behind) in
-    let count : length (ends_near 0 0 bt) ≡ old.ends = sym (ap (λ (s : Side). s.ends) h.old_is) in
-    let bytes : m ≡ old.bytes + 0 = omega (arith, ap (λ (s : Side). s.bytes) h.old_is) in
-    let rows : k ≡ old.rows + 0 = omega (arith, ap (λ (s : Side). s.rows) h.old_is) in
-    ap (drop old.ends) ends ∙ (drop_at (ends_near 0 0 bt) (ends_near m k h.behind) old.ends count ∙ (λ i. ends_near (bytes i) (rows i) h.behind))
+    let count : length (ends_near 0 0 bt) ≡ x.old.ends = sym (ap (λ (s : Side). s.ends) h.old_is) in
+    let bytes : m ≡ x.old.bytes + 0 = omega (arith, ap (λ (s : Side). s.bytes) h.old_is) in
+    let rows : k ≡ x.old.rows + 0 = omega (arith, ap (λ (s : Side). s.rows) h.old_is) in
+    ap (drop x.old.ends) ends ∙ (drop_at (ends_near 0 0 bt) (ends_near m k h.behind) x.old.ends count ∙ (λ i. ends_near (bytes i) (rows i) h.behind))
 
 -- ---- what stands there then
 
-pub found_near : (p found : Places) (front old : Side) (len : ℕ) (h : GivesWay p found front old len) → placed_rows len found ≡ near 0 h.written
-found_near p found front old len h =
-    let a = alone_are h.written h.behind in
-    ap (λ (n : ℕ). placed_rows n found) (h.long ∙ sym a.long) ∙ (h.found_are.rows_are ∙ a.rows)
-
-pub exchanged : (p new found : Places) (front old next : Side) (len kept : ℕ) (come : List EndPlace) (h : GivesWay p found front old len) → kept ≡ length (near 0 h.behind) → come ≡ ends_near 0 0 h.written →
-    next.rows ≡ front.rows + length (placed_rows len found) → next.bytes ≡ front.bytes + len → new.front.items ≡ take front.rows p.front.items ++ map (raised front.bytes) (placed_rows len found) → new.behind.items ≡ take kept p.behind.items →
-    new.ends.items ≡ joined_ends front old next p.ends.items come → ArePlaced new (h.before ++ (h.written ++ h.behind))
-exchanged p new found front old next len kept come h kept_is come_is rows_is bytes_is front_now behind_now ends_now =
+pub exchanged : (p new : Places) (x : Touched) (come : Come) (next : Side) (kept : ℕ) (h : GivesWay p x come) → kept ≡ length (near 0 h.behind) → next.rows ≡ x.front.rows + length (kept_rows come.places) → next.bytes ≡ x.front.bytes + come.len →
+    new.front.items ≡ take x.front.rows p.front.items ++ map (raised x.front.bytes) (placed_rows come.read come.places) → new.behind.items ≡ take kept p.behind.items → new.ends.items ≡ joined_ends x.front x.old next p.ends.items come.places.ends.items → new.split ≡ next.bytes →
+    ArePlaced new (h.before ++ h.written) h.behind
+exchanged p new x come next kept h kept_is rows_is bytes_is front_now behind_now ends_now split_now =
     let b = h.before in
     let w = h.written in
     let z = h.behind in
     let n : ℕ = 0 + text_length b in
     let k : ℕ = 0 + length (near 0 b) in
-    let whole : List ℕ = items_text (b ++ (w ++ z)) [] in
-    let front_rows : front.rows ≡ length (near 0 b) = ap (λ (s : Side). s.rows) h.front_is in
-    let front_ends : front.ends ≡ length (ends_near 0 0 b) = ap (λ (s : Side). s.ends) h.front_is in
-    let front_bytes : front.bytes ≡ text_length b = ap (λ (s : Side). s.bytes) h.front_is in
-    let came : map (raised front.bytes) (placed_rows len found) ≡ near n w = ap (map (raised front.bytes)) (found_near p found front old len h) ∙ (raised_near front.bytes 0 w ∙ ap (λ (m : ℕ). near (0 + m) w) front_bytes) in
-    let first : new.front.items ≡ near 0 b ++ near n w = front_now ∙ (λ i. h.front_rows i ++ came i) in
+    let front_rows : x.front.rows ≡ length (near 0 b) = ap (λ (s : Side). s.rows) h.front_is in
+    let front_ends : x.front.ends ≡ length (ends_near 0 0 b) = ap (λ (s : Side). s.ends) h.front_is in
+    let front_bytes : x.front.bytes ≡ text_length b = ap (λ (s : Side). s.bytes) h.front_is in
+    let came : map (raised x.front.bytes) (placed_rows come.read come.places) ≡ near n w = ap (map (raised x.front.bytes)) h.are_read.rows ∙ (raised_near x.front.bytes 0 w ∙ ap (λ (m : ℕ). near (0 + m) w) front_bytes) in
     let back : reverse new.behind.items ≡ far z = ap reverse behind_now ∙ (ap (λ (m : ℕ). reverse (take m p.behind.items)) kept_is ∙ h.back_rows) in
-    let split : whole ≡ items_text (b ++ w) [] ++ items_text z [] = ap (λ (l : List Item). items_text l []) (sym (append_assoc b w z)) ∙ (items_text-append (b ++ w) z [] ∙ items_apart (b ++ w) (items_text z [])) in
-    let size : length (items_text (b ++ w) []) ≡ n + text_length w = omega (arith, joined_long b w) in
-    let last : map (turned (length whole)) (reverse new.behind.items) ≡ near (n + text_length w) z = ap (map (turned (length whole))) back ∙ (far_near z (items_text (b ++ w) []) whole split ∙ ap (λ (m : ℕ). near m z) size) in
-    let rows : near 0 (b ++ (w ++ z)) ≡ near 0 b ++ (near n w ++ near (n + text_length w) z) = near_joined 0 b (w ++ z) ∙ ap (λ l. near 0 b ++ l) (near_joined n w z) in
     let ends : ends_near 0 0 (b ++ (w ++ z)) ≡ ends_near 0 0 b ++ (ends_near n k w ++ ends_near (n + text_length w) (k + length (near n w)) z) = ends_joined 0 0 b (w ++ z) ∙ ap (λ l. ends_near 0 0 b ++ l) (ends_joined n k w z) in
-    let one : front.bytes + 0 ≡ n = omega (arith, front_bytes) in
-    let two : front.rows + 0 ≡ k = omega (arith, front_rows) in
-    let ends_come : map (moved_from origin front) come ≡ ends_near n k w = ap (map (moved_from origin front)) come_is ∙ (moved_near origin front 0 0 w ∙ (λ i. ends_near (one i) (two i) w)) in
-    let three : next.bytes + 0 ≡ n + text_length w = omega (arith, front_bytes, bytes_is, h.long) in
-    let four : next.rows + 0 ≡ k + length (near n w) = omega (arith, front_rows, rows_is, ap length (found_near p found front old len h), near_count n 0 w) in
-    let ends_last : map (moved_from old next) (drop old.ends p.ends.items) ≡ ends_near (n + text_length w) (k + length (near n w)) z = ap (map (moved_from old next)) (ends_behind p found front old len h) ∙ (moved_near old next 0 0 z ∙ (λ i. ends_near (three i) (four i) z)) in
+    let one : x.front.bytes + 0 ≡ n = omega (arith, front_bytes) in
+    let two : x.front.rows + 0 ≡ k = omega (arith, front_rows) in
+    let ends_come : map (moved_from origin x.front) come.places.ends.items ≡ ends_near n k w = ap (map (moved_from origin x.front)) h.are_read.ends ∙ (moved_near origin x.front 0 0 w ∙ (λ i. ends_near (one i) (two i) w)) in
+    let three : next.bytes + 0 ≡ n + text_length w = omega (arith, front_bytes, bytes_is, h.are_read.long) in
+    let four : next.rows + 0 ≡ k + length (near n w) = omega (arith, front_rows, rows_is, (numbers p x come h).come_rows, near_count n 0 w) in
+    let ends_last : map (moved_from x.old next) (drop x.old.ends p.ends.items) ≡ ends_near (n + text_length w) (k + length (near n w)) z = ap (map (moved_from x.old next)) (ends_behind p x come h) ∙ (moved_near x.old next 0 0 z ∙ (λ i. ends_near (three i) (four i) z)) in
     let tail : List Item = h.touched ++ z in
     let old_ends : p.ends.items ≡ ends_near 0 0 b ++ ends_near n k tail = h.placed.ends_are ∙ ends_joined 0 0 b tail in
-    let ends_first : take front.ends p.ends.items ≡ ends_near 0 0 b = ap (take front.ends) old_ends ∙ take_at (ends_near 0 0 b) (ends_near n k tail) front.ends (sym front_ends) in
-    let a = alone_are w z in
+    let ends_first : take x.front.ends p.ends.items ≡ ends_near 0 0 b = ap (take x.front.ends) old_ends ∙ take_at (ends_near 0 0 b) (ends_near n k tail) x.front.ends (sym front_ends) in
+    let group : (b ++ w) ++ z ≡ b ++ (w ++ z) = append_assoc b w z in
     record {
-      rows_are = (λ i. first i ++ last i) ∙ (append_assoc (near 0 b) (near n w) (near (n + text_length w) z) ∙ sym rows);
-      ends_are = ends_now ∙ ((λ i. ends_first i ++ (ends_come i ++ ends_last i)) ∙ sym ends);
-      texts = texts_joined b (w ++ z) (texts_first b tail h.placed.texts) (texts_joined w z (a.texts h.found_are.texts) (texts_second h.touched z (texts_second b tail h.placed.texts)));
-      small = h.small;
+      split_is = split_now ∙ omega (arith, bytes_is, front_bytes, h.are_read.long, joined_long b w);
+      front_are = front_now ∙ ((λ i. h.front_rows i ++ came i) ∙ sym (near_joined 0 b w));
+      behind_are = back;
+      ends_are = ends_now ∙ ((λ i. ends_first i ++ (ends_come i ++ ends_last i)) ∙ (sym ends ∙ ap (ends_near 0 0) (sym group)));
+      texts = subst TextsIn (sym group) (texts_joined b (w ++ z) (texts_first b tail h.placed.texts) (texts_joined w z h.are_read.texts (texts_second h.touched z (texts_second b tail h.placed.texts))));
+      small = subst (λ (l : List Item). text_length l < 2 ^ 32) (sym group) h.small;
     }

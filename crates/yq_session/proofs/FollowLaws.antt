@@ -1,227 +1,278 @@
--- Places that follow a change: what stands in the new text, and what is exchanged.
-use Rattle.std.proofs.Common.{◌≡◌, Ok, Err, Result, OnOk, OnErr, ltb, cond, Bool, true, false, ℕ, ◌+◌, ◌-◌, ◌<◌, ◌≤◌, ◌^◌, List, [], ◌∷◌, ◌++◌, length, reverse, take, drop, take_at, drop_at, refl, sym, ap, ◌∙◌, subst, arith, append_assoc, append-nil, length-append, ltb-true}
+-- What a change touches, and what is read and exchanged for it.
+use Rattle.std.proofs.Common.{◌≡◌, ⊎_elim, ltb, leb, ◌||◌, cond, Bool, true, false, not, ℕ, ◌+◌, ◌-◌, ◌<◌, ◌≤◌, ◌^◌, List, [], ◌∷◌, ◌++◌, length, reverse, take, drop, take_at, Option, Some, None, refl, sym, ap, ◌∙◌, subst, arith, append_assoc, append-nil, length-append, length-drop, length-take, take_all, ltb-true, if◌then◌else◌}
+use Rattle.std.proofs.lemmas.Bool.{cases_Bool, cases_lt, le-ltb, lt-ltb, or_right}
 use Rattle.std.proofs.lemmas.List.{append_cancel_left, append_cancel_right, length-map, length-reverse, reverse-append, reverse-reverse}
-use Rattle.std.proofs.lemmas.Str.{IsCharBoundary-from_take, IsUtf8-nil, IsUtf8-take}
+use Rattle.std.proofs.lemmas.Option.{same_Some}
+use Rattle.std.proofs.lemmas.Str.{IsUtf8-nil}
 use Rattle.std.specs.Str.{IsCharBoundary, IsUtf8}
-use Rattle.yq_rows.specs.Grammar.{IsCut}
-use Rattle.yq_rows.specs.Items.{Item, end_item, items_of, items_text, rows_items}
-use Rattle.yq_rows.specs.Kept.{far, near, placed_rows, turned, TextsIn}
-use Rattle.yq_rows.specs.Regions.{alone, no_items}
-use Rattle.yq_rows.specs.Rows.{Row, Cut, last, marked}
+use Rattle.yq_scalar.specs.Characters.{text_limit}
+use Rattle.yq_rows.specs.Grammar.{IsCut, IsMarkerLine}
+use Rattle.yq_rows.specs.Items.{Item, row_item, end_item, items_of, items_text, rows_items, nothing_asked, asked_of, AreItems}
+use Rattle.yq_rows.specs.Kept.{far, kept_rows, near, ends_near, placed_rows, turned, TextsIn}
+use Rattle.yq_rows.specs.Meter.{begins_line}
+use Rattle.yq_rows.specs.Regions.{IsReadAlone, StandIn, ended, no_items}
+use Rattle.yq_rows.specs.Rows.{Row, Cut, last, marked, cut_text}
 use Rattle.yq_rows.specs.Touched.{TouchesOnly, in_back, in_front, item_text}
+use Rattle.yq_rows.specs.declared.ends.EndPlace.{EndPlace}
 use Rattle.yq_rows.specs.declared.offsets.Offsets as declared
 use Rattle.yq_rows.specs.declared.places.Places.{Places}
-use Rattle.yq_rows.proofs.FrontLaws.{front_boundary}
-use Rattle.yq_rows.proofs.ItemLaws.{items_of_text, items_text-append}
-use Rattle.yq_rows.proofs.KeptLaws.{items_apart, items_texts}
+use Rattle.yq_rows.proofs.ItemLaws.{items_joined, items_of_text, parts_are_items}
+use Rattle.yq_rows.proofs.KeptLaws.{items_texts, near_joined}
+use Rattle.yq_rows.proofs.RegionEnds.{region_end}
 use Rattle.yq_rows.proofs.RegionLaws.{region}
 use Rattle.yq_rows.proofs.ScanLaws.{one_cut}
-use Rattle.yq_session.specs.Exchanging.{Change, GivesWay}
-use Rattle.yq_session.specs.Following.{Follows}
-use Rattle.yq_session.specs.Sides.{ArePlaced, IsGapAt, IsSideBefore, IsSideBehind, not_in_back, side_of, text_length}
+use Rattle.yq_session.specs.Exchanging.{Change}
+use Rattle.yq_session.specs.Following.{Follows, exchanged, kept_marker, read_text, without_line}
+use Rattle.yq_session.specs.Reading.{AreEdges, IsRead, IsUnread, read_part, region_text, unread_end}
+use Rattle.yq_session.specs.Sides.{AreAt, IsSplitAt, IsSideBefore, IsSideBehind, marked_end, not_in_back, side_of, text_length}
 use Rattle.yq_session.specs.declared.kept.Kept.{Kept}
 use Rattle.yq_session.specs.declared.sides.Side.{Side}
-use Rattle.yq_session.proofs.BackLaws.{back_kept}
+use Rattle.yq_session.specs.declared.sides.Touched.{Touched}
+use Rattle.yq_session.proofs.BackLaws.{back_taken}
 use Rattle.yq_session.proofs.BeginLaws.{back_found, first_long, joined_long}
-use Rattle.yq_session.proofs.CountLaws.{near_count}
-use Rattle.yq_session.proofs.ExchangeLaws.{texts_first, texts_second}
-use Rattle.yq_session.proofs.ItemPlaces.{cut_long, cut_places, still_placed}
+use Rattle.yq_session.proofs.CountLaws.{near_count, ends_count, ends_joined}
+use Rattle.yq_session.proofs.EdgeLaws.{Pieces, begin_edge, back_edge, end_edge, region_ends, region_is}
+use Rattle.yq_session.proofs.ExchangeLaws.{kept_count, texts_first, texts_second}
+use Rattle.yq_session.proofs.KeptSides.{all_in_front, back_long, cut_some, front_long, last_long, some_behind}
+use Rattle.yq_session.proofs.ItemPlaces.{cut_long, cut_places, text_split}
+use Rattle.yq_session.proofs.MarkedLaws.{KeepsEnd, Tells, told}
+use Rattle.yq_session.proofs.MarkerLaws.{marker_stays, marker_there}
+use Rattle.yq_session.proofs.ReadLaws.{unread_is, without, without_none}
 use Rattle.yq_session.proofs.SideLaws.{front_taken}
 
--- the rows that stay on either side
-pub back_taken : (p : Places) (xs : List Item) (at back : ℕ) → ArePlaced p xs → IsGapAt at (text_length xs) p → at + back ≤ text_length xs → reverse (take (length (near 0 (in_back back xs))) p.behind.items) ≡ far (in_back back xs)
-back_taken p xs at back placed gap apart =
-    let h = back_found xs 0 back in
-    let k = back_kept p xs at back placed gap apart h in
-    let all : p.behind.items ≡ reverse k.rows ++ reverse k.before = sym (reverse-reverse p.behind.items) ∙ (ap reverse k.split ∙ reverse-append k.before k.rows) in
-    let count : length (reverse k.rows) ≡ length (near 0 h.behind) = length-reverse k.rows ∙ (sym (length-map k.rows (turned (text_length xs))) ∙ (ap length k.back_rows ∙ near_count (text_length h.front) 0 h.behind)) in
-    ap (λ (z : List Item). reverse (take (length (near 0 z)) p.behind.items)) h.is_behind
-    ∙ (ap (λ (l : List declared.Offsets). reverse (take (length (near 0 h.behind)) l)) all
-    ∙ (ap reverse (take_at (reverse k.rows) (reverse k.before) (length (near 0 h.behind)) count)
-    ∙ (reverse-reverse k.rows ∙ (k.far_rows ∙ ap far (sym h.is_behind)))))
+-- the text of three lists of items
+three : (a b c : List Item) → items_text (a ++ (b ++ c)) [] ≡ items_text a [] ++ (items_text b [] ++ items_text c [])
+three a b c = text_split a (b ++ c) ∙ ap (λ l. items_text a [] ++ l) (text_split b c)
 
--- a cut has items, and not all of them are in front of an offset within its text
-all_in_front : (xs : List Item) (n : ℕ) → in_front n xs ≡ xs → no_items xs ≡ false → text_length xs < n
-all_in_front [] n all some = absurd cc
-all_in_front (i ∷ xs) n all some = go (λ rest more. all_in_front xs (n - length (item_text i)) rest more) (ltb (length (item_text i)) n) refl where
-  tail : (j k : Item) (ys zs : List Item) → j ∷ ys ≡ k ∷ zs → ys ≡ zs
-  tail j k ys zs e = cc
+module _ (t new : List ℕ) (kept : Kept) (p : Places) (x : Touched) (h : Follows t p kept new) (split : IsSplitAt kept.front (length t) p) (before : IsSideBefore p kept.front x.front) (behind : IsSideBehind p (length t) kept.back x.old)
+    (marked_is : x.marked ≡ marked_end p.ends.items x.front x.old (length t - kept.back)) (more_is : x.more ≡ (ltb x.old.rows (length (kept_rows p)) || ltb x.old.ends (length p.ends.items))) where
+  abbrev xs : List Item
+  xs = items_of h.old_cut
 
-  one : (ys : List Item) → (no_items ys ≡ false → text_length ys < n - length (item_text i)) → length (item_text i) < n → text_length (i ∷ ys) < n
-  one [] more less = omega (arith, less, first_long i [])
-  one (j ∷ ys) more less = omega (arith, more refl, less, first_long i (j ∷ ys))
+  abbrev f : List Item
+  f = in_front kept.front xs
 
-  go : (in_front (n - length (item_text i)) xs ≡ xs → no_items xs ≡ false → text_length xs < n - length (item_text i)) → (b : Bool) → ltb (length (item_text i)) n ≡ b → text_length (i ∷ xs) < n
-  go next true e =
-      let is : i ∷ in_front (n - length (item_text i)) xs ≡ i ∷ xs = sym (ap (λ (b : Bool). cond b (i ∷ in_front (n - length (item_text i)) xs) []) e) ∙ all in
-      let rest : in_front (n - length (item_text i)) xs ≡ xs = tail i i (in_front (n - length (item_text i)) xs) xs is in
-      one xs (next rest) (ltb-true (length (item_text i)) n e)
-  go next false e =
-      let is : [] ≡ i ∷ xs = sym (ap (λ (b : Bool). cond b (i ∷ in_front (n - length (item_text i)) xs) []) e) ∙ all in
-      absurd cc
+  abbrev z : List Item
+  z = in_back kept.back xs
 
-rows_some : (rs : List Row) (i : Item) (xs : List Item) → no_items (rows_items rs (i ∷ xs)) ≡ false
-rows_some [] i xs = refl
-rows_some (r ∷ rs) i xs = refl
+  abbrev tch : List Item
+  tch = h.touches.touched
 
-cut_some : (c : Cut) → no_items (items_of c) ≡ false
-cut_some (last p) = rows_some p.rows (end_item p.end []) []
-cut_some (marked p marker c) = rows_some p.rows (end_item p.end marker) (items_of c)
+  abbrev w : List Item
+  w = h.touches.written
 
--- ---- the new text
+  long : length t ≡ text_length xs
+  long = cut_long t h.old_cut h.old_is
 
--- What stands in front of the items that are written, they, and what stands behind them.
-pub record NewText (new : List ℕ) (f w z : List Item) : Type 0 where
-  pub text : new ≡ (items_text f [] ++ items_text w []) ++ items_text z []
-  pub long : length new ≡ (text_length f + text_length w) + text_length z
+  at_xs : AreAt p xs
+  at_xs = cut_places p h.old_cut h.placed
 
-pub new_text : (new : List ℕ) (d : Cut) (f w z : List Item) → IsCut new d → items_of d ≡ f ++ (w ++ z) → NewText new f w z
-new_text new d f w z cut items =
-    let joined : items_text (f ++ (w ++ z)) [] ≡ items_text f [] ++ (items_text w [] ++ items_text z []) =
-    items_text-append f (w ++ z) [] ∙ (items_apart f (items_text (w ++ z) []) ∙ ap (λ l. items_text f [] ++ l) (items_text-append w z [] ∙ items_apart w (items_text z []))) in
-    let text : new ≡ (items_text f [] ++ items_text w []) ++ items_text z [] = cut.text ∙ (sym (items_of_text d) ∙ (ap (λ (l : List Item). items_text l []) items ∙ (joined ∙ sym (append_assoc (items_text f []) (items_text w []) (items_text z []))))) in
-    record { text = text; long = ap length text ∙ (length-append (items_text f [] ++ items_text w []) (items_text z []) ∙ ap (λ (n : ℕ). n + text_length z) (length-append (items_text f []) (items_text w []))) }
+  here : IsSplitAt kept.front (text_length xs) p
+  here = subst (λ (n : ℕ). IsSplitAt kept.front n p) long split
 
-pub front_part : (new : List ℕ) (f w z : List Item) (back : ℕ) → NewText new f w z → back ≡ text_length z → take (length new - back) new ≡ items_text f [] ++ items_text w []
-front_part new f w z back h is =
-    ap (take (length new - back)) h.text ∙ take_at (items_text f [] ++ items_text w []) (items_text z []) (length new - back) (length-append (items_text f []) (items_text w []) ∙ (let n : text_length f + text_length w ≡ length new - back = omega (arith, h.long, is) in n))
+  fits : kept.front + kept.back ≤ text_length xs
+  fits = omega (arith, h.within, long)
 
-pub written_part : (new : List ℕ) (f w z : List Item) (front back : ℕ) → NewText new f w z → front ≡ text_length f → back ≡ text_length z → drop front (take (length new - back) new) ≡ items_text w []
-written_part new f w z front back h first is = ap (drop front) (front_part new f w z back h is) ∙ drop_at (items_text f []) (items_text w []) front (sym first)
+  group : xs ≡ (f ++ tch) ++ z
+  group = h.touches.old_are ∙ sym (append_assoc f tch z)
 
-pub end_boundary : (new : List ℕ) (f w z : List Item) (back : ℕ) → NewText new f w z → TextsIn z → back ≡ text_length z → IsCharBoundary new (length new - back)
-end_boundary new f w z back h texts is = subst (λ (n : ℕ). IsCharBoundary new (length new - n)) (sym is) (front_boundary new (items_text f [] ++ items_text w []) (items_text z []) h.text (items_texts z [] texts IsUtf8-nil))
+  front_is : x.front ≡ side_of f
+  front_is = before xs at_xs here (omega (arith, fits))
 
-pub begin_boundary : (new : List ℕ) (f w z : List Item) (front back : ℕ) → NewText new f w z → TextsIn f → TextsIn z → IsUtf8 new → front ≡ text_length f → back ≡ text_length z → IsCharBoundary (take (length new - back) new) front
-begin_boundary new f w z front back h front_texts back_texts utf8 front_is back_is =
-    let t = take (length new - back) new in
-    let text = front_part new f w z back h back_is in
-    let own : IsUtf8 t = IsUtf8-take new (length new - back) utf8 (end_boundary new f w z back h back_texts back_is) in
-    let size : length t ≡ text_length f + text_length w = ap length text ∙ length-append (items_text f []) (items_text w []) in
-    let is : take front t ≡ items_text f [] = ap (take front) text ∙ take_at (items_text f []) (items_text w []) front (sym front_is) in
-    IsCharBoundary-from_take t front own (omega (arith, size, front_is)) (subst IsUtf8 (sym is) (items_texts f [] front_texts IsUtf8-nil))
+  old_is : x.old ≡ side_of (f ++ tch)
+  old_is =
+      let b = back_found xs 0 kept.back in
+      let y : List Item = not_in_back kept.back xs in
+      let all : y ++ z ≡ (f ++ tch) ++ z = (λ i. b.is_front i ++ b.is_behind i) ∙ (sym b.split ∙ group) in
+      behind xs kept.front at_xs split h.within long ∙ ap side_of (append_cancel_right y (f ++ tch) z all)
 
--- what is written is one
-pub written_once : (new : List ℕ) (kept : Kept) (c d e k : Cut) → IsCut new d → IsCut new k → (h : TouchesOnly kept.front kept.back c d) (j : TouchesOnly kept.front kept.back e k) → h.written ≡ j.written
-written_once new kept c d e k cut other h j =
-    let same : d ≡ k = one_cut new d k cut other in
-    let front : in_front kept.front (items_of c) ≡ in_front kept.front (items_of e) = sym h.front_same ∙ (ap (λ (x : Cut). in_front kept.front (items_of x)) same ∙ j.front_same) in
-    let back : in_back kept.back (items_of c) ≡ in_back kept.back (items_of e) = sym h.back_same ∙ (ap (λ (x : Cut). in_back kept.back (items_of x)) same ∙ j.back_same) in
-    let all : in_front kept.front (items_of c) ++ (h.written ++ in_back kept.back (items_of c)) ≡ in_front kept.front (items_of c) ++ (j.written ++ in_back kept.back (items_of c)) =
-    sym h.new_are ∙ (ap items_of same ∙ (j.new_are ∙ (λ i. sym front i ++ (j.written ++ sym back i)))) in
-    append_cancel_right h.written j.written (in_back kept.back (items_of c)) (append_cancel_left (in_front kept.front (items_of c)) (h.written ++ in_back kept.back (items_of c)) (j.written ++ in_back kept.back (items_of c)) all)
+  placed : AreAt p (f ++ (tch ++ z))
+  placed = subst (AreAt p) h.touches.old_are at_xs
 
--- ---- what follows
+  size : text_length xs ≡ text_length (f ++ tch) + text_length z
+  size = ap text_length group ∙ joined_long (f ++ tch) z
 
--- What is in front, touched, written and behind, where places follow a change, once the gap is at the first byte that isn't kept.
-pub record Found (p : Places) (new : List ℕ) (front old : Side) (back : ℕ) (kept : Kept) : Type 0 where
-  pub part : List ℕ
-  pub change : Change p new kept front old part
-  pub text : NewText new change.before change.written change.behind
-  pub back_bytes : back ≡ text_length change.behind
+  pieces : Pieces t (items_text f []) (items_text tch []) (items_text z []) kept.front kept.back
+  pieces = record {
+    text = h.old_is.text ∙ (sym (items_of_text h.old_cut) ∙ (ap (λ (l : List Item). items_text l []) h.touches.old_are ∙ three f tch z));
+    first = front_long kept.front xs;
+    last = back_long kept.back xs;
+    within = h.within;
+  }
 
-found : (q p : Places) (new : List ℕ) (front old : Side) (len back : ℕ) (kept : Kept) (h : Follows q len new kept) → ArePlaced p (items_of h.old_cut) → len ≡ text_length (items_of h.old_cut) → IsGapAt kept.front len p →
-    front ≡ side_of (in_front kept.front (items_of h.old_cut)) → old ≡ side_of (not_in_back kept.back (items_of h.old_cut)) → back ≡ len - old.bytes → Found p new front old back kept
-found q p new front old len back kept h placed long gap front_is old_is back_is =
-    let xs = items_of h.old_cut in
-    let f = in_front kept.front xs in
-    let z = in_back kept.back xs in
-    let t = h.touches.touched in
-    let w = h.touches.written in
-    let b = back_found xs 0 kept.back in
-    let y : List Item = not_in_back kept.back xs in
-    let all : y ++ z ≡ (f ++ t) ++ z = (λ i. b.is_front i ++ b.is_behind i) ∙ (sym b.split ∙ (h.touches.old_are ∙ sym (append_assoc f t z))) in
-    let here : IsGapAt kept.front (text_length xs) p = subst (λ (n : ℕ). IsGapAt kept.front n p) long gap in
-    let fits : kept.front + kept.back ≤ text_length xs = omega (arith, h.old_within, long) in
-    let own : old ≡ side_of (f ++ t) = old_is ∙ ap side_of (append_cancel_right y (f ++ t) z all) in
-    let size : text_length xs ≡ text_length (f ++ t) + text_length z = ap text_length (h.touches.old_are ∙ sym (append_assoc f t z)) ∙ joined_long (f ++ t) z in
-    let text : NewText new f w z = new_text new h.new_cut f w z h.new_is h.touches.new_are in
-    record {
-      part = items_text w [];
-      change = record {
-        before = f;
-        touched = t;
-        written = w;
-        behind = z;
-        placed = subst (ArePlaced p) h.touches.old_are placed;
-        front_is = front_is;
-        old_is = own;
-        front_rows = ap (λ (n : ℕ). take n p.front.items) (ap (λ (s : Side). s.rows) front_is) ∙ front_taken p xs kept.front placed here (omega (arith, fits));
-        back_rows = back_taken p xs kept.front kept.back placed here fits;
-        part_is = refl;
-        read = region w z (record { text = new; cut = h.new_cut; is_cut = h.new_is; front = f; items = h.touches.new_are; some = some_left (w ++ z) h.touches.new_are });
-        items = λ d cut. sym h.touches.new_are ∙ ap items_of (one_cut new h.new_cut d h.new_is cut);
-        once = λ c d cut j. written_once new kept h.old_cut h.new_cut c d h.new_is cut h.touches j;
-        small = omega (arith, h.small, text.long, joined_long f (w ++ z), joined_long w z);
-      };
-      text = text;
-      back_bytes = omega (arith, long, size, back_is, ap (λ (s : Side). s.bytes) own);
-    }
-  where
-    whole : items_of h.new_cut ≡ in_front kept.front (items_of h.old_cut) ++ [] → ⊥
-    whole is =
-        let same : in_front kept.front (items_of h.new_cut) ≡ items_of h.new_cut = h.touches.front_same ∙ (sym (append-nil (in_front kept.front (items_of h.old_cut))) ∙ sym is) in
-        omega (arith, all_in_front (items_of h.new_cut) kept.front same (cut_some h.new_cut), h.new_within, ap length (h.new_is.text ∙ sym (items_of_text h.new_cut)))
+  begin : x.front.bytes ≡ length (items_text f [])
+  begin = ap (λ (s : Side). s.bytes) front_is
 
-    some_left : (l : List Item) → items_of h.new_cut ≡ in_front kept.front (items_of h.old_cut) ++ l → no_items l ≡ false
-    some_left [] is = absurd (whole is)
-    some_left (i ∷ l) is = refl
+  end : x.old.bytes ≡ length (items_text f []) + length (items_text tch [])
+  end = ap (λ (s : Side). s.bytes) old_is ∙ joined_long f tch
 
-pub found_by : (q p : Places) (new : List ℕ) (front old : Side) (len back : ℕ) (kept : Kept) → Follows q len new kept → placed_rows len p ≡ placed_rows len q → p.ends.items ≡ q.ends.items → IsGapAt kept.front len p →
-    IsSideBefore p kept.front front → IsSideBehind p len kept.back old → back ≡ len - old.bytes → Found p new front old back kept
-found_by q p new front old len back kept h rows ends gap before behind back_is =
-    let xs = items_of h.old_cut in
-    let long : len ≡ text_length xs = h.long ∙ cut_long h.old_cut in
-    let placed : ArePlaced p xs = still_placed q p xs len long rows ends (cut_places q h.old_cut h.placed) in
-    found q p new front old len back kept h placed long gap (before xs placed (subst (λ (n : ℕ). IsGapAt kept.front n p) long gap) (omega (arith, h.old_within, long))) (behind xs kept.front placed gap h.old_within long) back_is
+  abbrev part : List ℕ
+  part = region_text t x kept new
 
--- the part of the new text
-pub part_within : (p : Places) (new : List ℕ) (front old : Side) (back : ℕ) (kept : Kept) (k : Found p new front old back kept) → front.bytes + back ≤ length new
-part_within p new front old back kept k = omega (arith, k.text.long, k.back_bytes, ap (λ (s : Side). s.bytes) k.change.front_is)
+  part_is : part ≡ items_text w []
+  part_is = region_is t (items_text f []) (items_text tch []) (items_text z []) kept.front kept.back pieces new (items_text w []) x.front.bytes x.old.bytes begin end
+      (h.new_is.text ∙ (sym (items_of_text h.new_cut) ∙ (ap (λ (l : List Item). items_text l []) h.touches.new_are ∙ three f w z)))
 
-behind_texts : (p : Places) (new : List ℕ) (front old : Side) (back : ℕ) (kept : Kept) (k : Found p new front old back kept) → TextsIn k.change.behind
-behind_texts p new front old back kept k = let x = k.change in texts_second x.touched x.behind (texts_second x.before (x.touched ++ x.behind) x.placed.texts)
+  new_size : length (exchanged kept t new) ≡ (text_length f + text_length w) + text_length z
+  new_size = cut_long (exchanged kept t new) h.new_cut h.new_is ∙ (ap text_length h.touches.new_are ∙ omega (arith, joined_long f (w ++ z), joined_long w z))
 
-pub part_ends : (p : Places) (new : List ℕ) (front old : Side) (back : ℕ) (kept : Kept) (k : Found p new front old back kept) → IsCharBoundary new (length new - back)
-part_ends p new front old back kept k = let x = k.change in end_boundary new x.before x.written x.behind back k.text (behind_texts p new front old back kept k) k.back_bytes
+  -- texts
+  front_texts : TextsIn f
+  front_texts = texts_first f (tch ++ z) placed.texts
 
-pub part_begins : (p : Places) (new : List ℕ) (front old : Side) (back : ℕ) (kept : Kept) (k : Found p new front old back kept) → IsUtf8 new → IsCharBoundary (take (length new - back) new) front.bytes
-part_begins p new front old back kept k utf8 =
-    let x = k.change in
-    begin_boundary new x.before x.written x.behind front.bytes back k.text (texts_first x.before (x.touched ++ x.behind) x.placed.texts) (behind_texts p new front old back kept k) utf8 (ap (λ (s : Side). s.bytes) x.front_is) k.back_bytes
+  back_texts : TextsIn z
+  back_texts = texts_second tch z (texts_second f (tch ++ z) placed.texts)
 
-pub part_changes : (p : Places) (new part : List ℕ) (front old : Side) (back : ℕ) (kept : Kept) (k : Found p new front old back kept) → part ≡ drop front.bytes (take (length new - back) new) → Change p new kept front old part
-part_changes p new part front old back kept k is =
-    let x = k.change in
-    subst (Change p new kept front old) (x.part_is ∙ (sym (written_part new x.before x.written x.behind front.bytes back k.text (ap (λ (s : Side). s.bytes) x.front_is) k.back_bytes) ∙ sym is)) x
+  utf8 : IsUtf8 t
+  utf8 = subst IsUtf8 (items_of_text h.old_cut ∙ sym h.old_is.text) (items_texts xs [] at_xs.texts IsUtf8-nil)
 
-pub part_small : (p : Places) (new part : List ℕ) (front old : Side) (kept : Kept) → Change p new kept front old part → length part < 2 ^ 32
-part_small p new part front old kept k = omega (arith, ap length k.part_is, k.small, joined_long k.before (k.written ++ k.behind), joined_long k.written k.behind)
+  edges : AreEdges t x kept
+  edges =
+      let back_utf8 = items_texts z [] back_texts IsUtf8-nil in
+      record {
+        front = h.front_edge;
+        begin = begin_edge t (items_text f []) (items_text tch []) (items_text z []) kept.front kept.back pieces x.front.bytes begin utf8 (items_texts f [] front_texts IsUtf8-nil) h.front_edge;
+        back = back_edge t (items_text f []) (items_text tch []) (items_text z []) kept.front kept.back pieces x.old.bytes end h.back_edge;
+        end = end_edge t (items_text f []) (items_text tch []) (items_text z []) kept.front kept.back pieces x.old.bytes end back_utf8;
+      }
 
--- what gives way
-pub gives_way : (p q : Places) (new part : List ℕ) (front old : Side) (kept : Kept) (k : Change p new kept front old part) → ArePlaced q (alone k.written k.behind) → (h : GivesWay p q front old (length part)) × (h.before ++ (h.written ++ h.behind) ≡ k.before ++ (k.written ++ k.behind))
-gives_way p q new part front old kept k there = (
-  record {
-    before = k.before;
-    touched = k.touched;
-    written = k.written;
-    behind = k.behind;
-    placed = k.placed;
-    found_are = there;
-    front_is = k.front_is;
-    old_is = k.old_is;
-    long = ap length k.part_is;
-    front_rows = k.front_rows;
-    back_rows = k.back_rows;
-    small = k.small;
-  },
-  refl,
-)
+  -- whether items stand behind
+  more : x.more ≡ not (no_items z)
+  more = more_is ∙ go z (omega (arith, ap (λ (s : Side). s.rows) old_is, rows)) (omega (arith, ap (λ (s : Side). s.ends) old_is, ends))
+    where
+      rows : length (kept_rows p) ≡ length (near 0 (f ++ tch)) + length (near 0 z)
+      rows = kept_count (text_length xs) p ∙ (ap length at_xs.rows_are ∙ (ap (λ (l : List Item). length (near 0 l)) group ∙ (ap length (near_joined 0 (f ++ tch) z) ∙ (length-append (near 0 (f ++ tch)) (near (0 + text_length (f ++ tch)) z) ∙ ap (λ (n : ℕ). length (near 0 (f ++ tch)) + n) (near_count (0 + text_length (f ++ tch)) 0 z)))))
 
-pub on_err : {T E P : Type 0} (r : Result T E) → P → OnErr r P
-on_err (Ok x) p = tt
-on_err (Err e) p = p
+      ends : length p.ends.items ≡ length (ends_near 0 0 (f ++ tch)) + length (ends_near 0 0 z)
+      ends =
+          let m : ℕ = 0 + text_length (f ++ tch) in
+          let k : ℕ = 0 + length (near 0 (f ++ tch)) in
+          ap length at_xs.ends_are ∙ (ap (λ (l : List Item). length (ends_near 0 0 l)) group ∙ (ap length (ends_joined 0 0 (f ++ tch) z) ∙ (length-append (ends_near 0 0 (f ++ tch)) (ends_near m k z) ∙ ap (λ (n : ℕ). length (ends_near 0 0 (f ++ tch)) + n) (ends_count m k 0 0 z))))
 
-pub on_ok : {T E P : Type 0} (r : Result T E) → P → OnOk r P
-on_ok (Ok x) p = p
-on_ok (Err e) p = tt
+      go : (l : List Item) → length (kept_rows p) ≡ x.old.rows + length (near 0 l) → length p.ends.items ≡ x.old.ends + length (ends_near 0 0 l) → (ltb x.old.rows (length (kept_rows p)) || ltb x.old.ends (length p.ends.items)) ≡ not (no_items l)
+      go [] a b = rw (le-ltb x.old.rows (length (kept_rows p)) (omega (arith, a)), le-ltb x.old.ends (length p.ends.items) (omega (arith, b))) refl
+      go (i ∷ l) a b = ⊎_elim {0, 0, 0}
+          (λ (less : x.old.rows < length (kept_rows p)). rw (lt-ltb x.old.rows (length (kept_rows p)) less) refl)
+          (λ (no : length (kept_rows p) ≤ x.old.rows).
+          let less : x.old.ends < length p.ends.items = ⊎_elim {0, 0, 0} (λ (l : x.old.ends < length p.ends.items). l) (λ (n : length p.ends.items ≤ x.old.ends). absurd (some_behind i l (omega (arith, a, b, no, n)))) (cases_lt x.old.ends (length p.ends.items)) in
+          rw (lt-ltb x.old.ends (length p.ends.items) less) (or_right (ltb x.old.rows (length (kept_rows p))) true refl))
+          (cases_lt x.old.rows (length (kept_rows p)))
+
+  -- the items that are read
+  some_left : (l : List Item) → items_of h.new_cut ≡ f ++ l → no_items l ≡ false
+  some_left [] is =
+      let same : in_front kept.front (items_of h.new_cut) ≡ items_of h.new_cut = h.touches.front_same ∙ (sym (append-nil f) ∙ sym is) in
+      absurd (omega (arith, all_in_front (items_of h.new_cut) kept.front same (cut_some h.new_cut), new_size, cut_long (exchanged kept t new) h.new_cut h.new_is, pieces.last, pieces.within, size, long, h.new_is.size, later))
+    where
+      later : kept.front + kept.back ≤ length (exchanged kept t new)
+      later = omega (arith, length-append (take kept.front t) (new ++ drop (length t - kept.back) t), length-append new (drop (length t - kept.back) t), length-take kept.front t, length-drop (length t - kept.back) t, h.within)
+  some_left (i ∷ l) is = refl
+
+  stand_in : (a b : List Item) → w ++ z ≡ a ++ b → StandIn a b
+  stand_in a b is = record {
+    text = exchanged kept t new;
+    cut = h.new_cut;
+    is_cut = h.new_is;
+    front = f;
+    items = h.touches.new_are ∙ ap (λ (l : List Item). f ++ l) is;
+    some = some_left (a ++ b) (h.touches.new_are ∙ ap (λ (l : List Item). f ++ l) is);
+  }
+
+  -- the marker that is kept
+  tells : Tells tch (kept.back - text_length z) x.marked
+  tells = subst (Tells tch (kept.back - text_length z)) (sym marked_is) (told f tch z p.ends.items x.front x.old (length t) kept.back (record {
+    rest = ends_near (0 + text_length (f ++ tch)) (0 + length (near 0 (f ++ tch))) z;
+    ends = at_xs.ends_are ∙ (ap (ends_near 0 0) group ∙ ends_joined 0 0 (f ++ tch) z);
+    front_is = front_is;
+    old_is = old_is;
+    long = long ∙ size;
+    last = pieces.last;
+    within = omega (arith, h.within);
+  }))
+
+  module _ (e : EndPlace) (k : KeepsEnd tch (kept.back - text_length z) e) where
+    -- the text before the marker's line
+    abbrev inner : List ℕ
+    inner = items_text k.front [] ++ k.gap
+
+    touched_ends : items_text f [] ++ items_text tch [] ≡ (items_text f [] ++ inner) ++ k.marker
+    touched_ends =
+        let own : items_text tch [] ≡ inner ++ k.marker = ap (λ (l : List Item). items_text l []) k.items
+            ∙ (text_split k.front (end_item k.gap k.marker ∷ []) ∙ (ap (λ l. items_text k.front [] ++ (k.gap ++ l)) (append-nil k.marker) ∙ sym (append_assoc (items_text k.front []) k.gap k.marker))) in
+        ap (λ l. items_text f [] ++ l) own ∙ sym (append_assoc (items_text f []) inner k.marker)
+
+    line : IsMarkerLine k.marker (items_text z [])
+    line = marker_there xs (f ++ k.front) z k.gap k.marker (subst (λ (l : List Item). AreItems nothing_asked l []) refl (parts_are_items h.old_cut true h.old_is.parts))
+        (group ∙ (ap (λ (l : List Item). (f ++ l) ++ z) k.items ∙ ap (λ (l : List Item). l ++ z) (sym (append_assoc f k.front (end_item k.gap k.marker ∷ []))))) k.some
+
+    ends_so : (lead : List ℕ) × (items_text w [] ≡ lead ++ k.marker)
+    ends_so =
+        let y : List ℕ = items_text f [] ++ inner in
+        let low : length t - kept.back ≤ length y = omega (arith, k.within, pieces.last, long, size, joined_long f tch, ap length touched_ends, length-append y k.marker, length-append (items_text f []) (items_text tch [])) in
+        (drop x.front.bytes (take kept.front t) ++ (new ++ drop (length t - kept.back) y), sym part_is ∙ region_ends t (items_text f []) (items_text tch []) (items_text z []) kept.front kept.back pieces new y k.marker x.front.bytes x.old.bytes end touched_ends low)
+
+    stays : begins_line (items_text w []) (length (items_text w []) - e.marker) ≡ true → (front : List Item) × (gap : List ℕ) × (w ≡ ended front gap k.marker)
+    stays begins =
+        let lead = ends_so.0 in
+        let place : length (items_text w []) - e.marker ≡ length lead = omega (arith, k.long, ap length ends_so.1, length-append lead k.marker) in
+        let behind = items_joined f (w ++ z) nothing_asked [] (subst (λ (l : List Item). AreItems nothing_asked l []) h.touches.new_are (parts_are_items h.new_cut true h.new_is.parts)) in
+        marker_stays (asked_of nothing_asked f) w z lead k.marker behind line ends_so.1 (subst (λ (n : ℕ). begins_line (items_text w []) n ≡ true) place begins) k.some
+        (λ u i is. omega (arith, k.within, pieces.last, last_long kept.back f u z i (ap (λ (l : List Item). in_back kept.back (f ++ (l ++ z))) (sym is) ∙ (ap (in_back kept.back) (sym h.touches.new_are) ∙ h.touches.back_same))))
+
+    unread : begins_line (items_text w []) (length (items_text w []) - e.marker) ≡ true → IsUnread w e
+    unread begins =
+        let s = stays begins in
+        let texts = texts_second k.front (end_item k.gap k.marker ∷ []) (subst TextsIn k.items (texts_first tch z (texts_second f (tch ++ z) placed.texts))) in
+        record { front = s.0; gap = s.1; marker = k.marker; items = s.2; long = k.long; text = texts.1; read = region_end s.0 z s.1 k.marker (stand_in (ended s.0 s.1 k.marker) z (ap (λ (l : List Item). l ++ z) s.2)) }
+
+  read : IsRead part x
+  read = record {
+    written = w;
+    behind = z;
+    text = part_is;
+    read = region w z (stand_in w z refl);
+    more = more;
+    unread = λ d is. go x.marked tells d (subst (λ (l : List ℕ). unread_end l x.marked ≡ Some d) part_is is);
+    small = omega (arith, ap length part_is, new_size, h.new_is.size, limit);
+  } where
+    limit : text_limit < 2 ^ 32
+    limit = omega arith
+
+    go : (o : Option EndPlace) → Tells tch (kept.back - text_length z) o → (d : EndPlace) → unread_end (items_text w []) o ≡ Some d → IsUnread w d
+    go None k d is = absurd cc
+    go (Some e) k d is = let u = unread_is (items_text w []) e d is in subst (IsUnread w) u.0 (unread e k u.1)
+
+  -- what is counted
+  once : (c d : Cut) → IsCut t c → IsCut (exchanged kept t new) d → (j : TouchesOnly kept.front kept.back c d) → read_text kept c d j ≡ read_part part x.marked
+  once c d was is j =
+      let same : h.old_cut ≡ c = one_cut t h.old_cut c h.old_is was in
+      let newer : h.new_cut ≡ d = one_cut (exchanged kept t new) h.new_cut d h.new_is is in
+      let front : in_front kept.front (items_of c) ≡ f = ap (λ (k : Cut). in_front kept.front (items_of k)) (sym same) in
+      let back : in_back kept.back (items_of c) ≡ z = ap (λ (k : Cut). in_back kept.back (items_of k)) (sym same) in
+      let old : f ++ (j.touched ++ z) ≡ f ++ (tch ++ z) = (λ i. sym front i ++ (j.touched ++ sym back i)) ∙ (sym j.old_are ∙ (ap items_of (sym same) ∙ h.touches.old_are)) in
+      let new : f ++ (j.written ++ z) ≡ f ++ (w ++ z) = (λ i. sym front i ++ (j.written ++ sym back i)) ∙ (sym j.new_are ∙ (ap items_of (sym newer) ∙ h.touches.new_are)) in
+      let touched : j.touched ≡ tch = append_cancel_right j.touched tch z (append_cancel_left f (j.touched ++ z) (tch ++ z) old) in
+      let written : j.written ≡ w = append_cancel_right j.written w z (append_cancel_left f (j.written ++ z) (w ++ z) new) in
+      let all : read_text kept c d j ≡ without_line (kept_marker (kept.back - text_length z) tch) (items_text w []) = λ i. without_line (kept_marker (kept.back - text_length (back i)) (touched i)) (items_text (written i) []) in
+      all ∙ (go x.marked tells ∙ ap (λ (l : List ℕ). read_part l x.marked) (sym part_is))
+    where
+      go : (o : Option EndPlace) → Tells tch (kept.back - text_length z) o → without_line (kept_marker (kept.back - text_length z) tch) (items_text w []) ≡ read_part (items_text w []) o
+      go None k = ap (λ (n : ℕ). without_line n (items_text w [])) k ∙ without_none (items_text w [])
+      go (Some e) k = ap (λ (n : ℕ). without_line n (items_text w [])) (k.kept ∙ sym k.long) ∙ without (items_text w []) e
+
+  pub changes : Change t new kept p x
+  unfolding read
+  changes = record {
+    before = f;
+    touched = tch;
+    read = read;
+    placed = placed;
+    front_is = front_is;
+    old_is = old_is;
+    front_rows = ap (λ (n : ℕ). take n p.front.items) (ap (λ (s : Side). s.rows) front_is) ∙ front_taken p xs kept.front at_xs here (omega (arith, fits));
+    back_rows = back_taken p xs kept.front kept.back at_xs here fits;
+    edges = edges;
+    items = λ d is. sym h.touches.new_are ∙ ap items_of (one_cut (exchanged kept t new) h.new_cut d h.new_is is);
+    small = omega (arith, new_size, h.new_is.size, joined_long f (w ++ z), joined_long w z);
+    once = once;
+  }

@@ -14,7 +14,7 @@ use Rattle.yq_rows.specs.declared.ends.EndPlace.{EndPlace}
 use Rattle.yq_rows.specs.declared.offsets.Offsets as declared
 use Rattle.yq_rows.specs.declared.places.Places.{Places}
 use Rattle.yq_rows.proofs.KeptLaws.{near_joined}
-use Rattle.yq_session.specs.Sides.{ArePlaced, IsGapAt, LastBefore, ends_before, side_of, text_length}
+use Rattle.yq_session.specs.Sides.{AreAt, IsSplitAt, LastBefore, ends_before, side_of, text_length}
 use Rattle.yq_session.specs.declared.sides.Side.{Side}
 use Rattle.yq_session.proofs.BeginLaws.{FrontFound, begin_where, ends_begin, front_found, rows_begin}
 use Rattle.yq_session.proofs.CountLaws.{ends_joined, ends_rows}
@@ -27,7 +27,7 @@ pub record FrontKept (front : List Item) (first : Item) (rows : List declared.Of
   pub ends_are : ends ≡ ends_near 0 0 (front ++ (first ∷ [])) ++ rest
   pub count_is : count ≡ length (ends_near 0 0 (front ++ (first ∷ [])))
 
-pub front_kept : (p : Places) (xs : List Item) (at : ℕ) → ArePlaced p xs → IsGapAt at (text_length xs) p → (h : FrontFound 0 at xs) → FrontKept h.front h.first p.front.items p.ends.items (ends_before at p.ends.items)
+pub front_kept : (p : Places) (xs : List Item) (at : ℕ) → AreAt p xs → IsSplitAt at (text_length xs) p → (h : FrontFound 0 at xs) → FrontKept h.front h.first p.front.items p.ends.items (ends_before at p.ends.items)
 front_kept p xs at placed gap h =
     let f : List Item = h.front ++ (h.first ∷ []) in
     let m : ℕ = 0 + text_length f in
@@ -47,16 +47,16 @@ front_kept p xs at placed gap h =
     }
 
 -- by what the last one is
-rows_row : (front : List Item) (r : Row) → near 0 (front ++ (row_item r ∷ [])) ≡ near 0 front ++ offsets_of (text_length front) (slices r) ∷ []
+pub rows_row : (front : List Item) (r : Row) → near 0 (front ++ (row_item r ∷ [])) ≡ near 0 front ++ offsets_of (text_length front) (slices r) ∷ []
 rows_row front r = near_joined 0 front (row_item r ∷ []) ∙ ap (λ (n : ℕ). near 0 front ++ offsets_of n (slices r) ∷ []) (let n : 0 + text_length front ≡ text_length front = omega arith in n)
 
-ends_row : (front : List Item) (r : Row) → ends_near 0 0 (front ++ (row_item r ∷ [])) ≡ ends_near 0 0 front
+pub ends_row : (front : List Item) (r : Row) → ends_near 0 0 (front ++ (row_item r ∷ [])) ≡ ends_near 0 0 front
 ends_row front r = ends_joined 0 0 front (row_item r ∷ []) ∙ append-nil (ends_near 0 0 front)
 
-rows_end : (front : List Item) (gap marker : List ℕ) → near 0 (front ++ (end_item gap marker ∷ [])) ≡ near 0 front
+pub rows_end : (front : List Item) (gap marker : List ℕ) → near 0 (front ++ (end_item gap marker ∷ [])) ≡ near 0 front
 rows_end front gap marker = near_joined 0 front (end_item gap marker ∷ []) ∙ append-nil (near 0 front)
 
-ends_end : (front : List Item) (gap marker : List ℕ) → ends_near 0 0 (front ++ (end_item gap marker ∷ [])) ≡ ends_near 0 0 front ++ end_at (text_length front) (length (near 0 front)) gap marker ∷ []
+pub ends_end : (front : List Item) (gap marker : List ℕ) → ends_near 0 0 (front ++ (end_item gap marker ∷ [])) ≡ ends_near 0 0 front ++ end_at (text_length front) (length (near 0 front)) gap marker ∷ []
 ends_end front gap marker =
     ends_joined 0 0 front (end_item gap marker ∷ [])
     ∙ (ap (λ (n : ℕ). ends_near 0 0 front ++ end_at n (0 + length (near 0 front)) gap marker ∷ []) (let n : 0 + text_length front ≡ text_length front = omega arith in n)
@@ -141,13 +141,13 @@ Kept p xs at = (front : List Item) × (first : Item) × (in_front at xs ≡ fron
 abbrev Nothing : Places → List Item → ℕ → Type 0
 Nothing p xs at = (length p.front.items ≡ 0) × (ends_before at p.ends.items ≡ 0) × (in_front at xs ≡ [])
 
-found : (p : Places) (xs : List Item) (at : ℕ) → ArePlaced p xs → IsGapAt at (text_length xs) p → at ≤ text_length xs → Nothing p xs at ⊎ Kept p xs at
+found : (p : Places) (xs : List Item) (at : ℕ) → AreAt p xs → IsSplitAt at (text_length xs) p → at ≤ text_length xs → Nothing p xs at ⊎ Kept p xs at
 found p xs zero placed gap within = inl (none_before p.front.items gap.0, no_ends_before p.ends.items, none_in_front xs)
 found p xs (suc at) placed gap within =
     let h = front_found xs 0 (suc at) (omega arith) within in
     inr (h.front, h.first, h.is, front_kept p xs (suc at) placed gap h)
 
-pub before_end : (p : Places) (xs : List Item) (at : ℕ) (e : EndPlace) (n count : ℕ) → ArePlaced p xs → IsGapAt at (text_length xs) p → at ≤ text_length xs → n ≡ length p.front.items → count ≡ ends_before at p.ends.items → 0 < count →
+pub before_end : (p : Places) (xs : List Item) (at : ℕ) (e : EndPlace) (n count : ℕ) → AreAt p xs → IsSplitAt at (text_length xs) p → at ≤ text_length xs → n ≡ length p.front.items → count ≡ ends_before at p.ends.items → 0 < count →
     e ≡ get_or p.ends.items (count - 1) e → n ≤ e.rows → record { rows = n; ends = count - 1; bytes = e.start } ≡ side_of (in_front at xs)
 before_end p xs at e n count placed gap within long many some own high =
     ⊎_elim {0, 0, 0}
@@ -155,7 +155,7 @@ before_end p xs at e n count placed gap within long many some own high =
     (λ (k : Kept p xs at). at_end k.0 k.1 p.front.items p.ends.items e n count (subst (FrontKept k.0 k.1 p.front.items p.ends.items) (sym many) k.3) long some own high ∙ ap side_of (sym k.2))
     (found p xs at placed gap within)
 
-pub before_row : (p : Places) (xs : List Item) (at : ℕ) (o : declared.Offsets) (n count : ℕ) → ArePlaced p xs → IsGapAt at (text_length xs) p → at ≤ text_length xs → n ≡ length p.front.items → count ≡ ends_before at p.ends.items → 0 < n →
+pub before_row : (p : Places) (xs : List Item) (at : ℕ) (o : declared.Offsets) (n count : ℕ) → AreAt p xs → IsSplitAt at (text_length xs) p → at ≤ text_length xs → n ≡ length p.front.items → count ≡ ends_before at p.ends.items → 0 < n →
     NoEndBehind n p.ends.items count → o ≡ get_or p.front.items (n - 1) o → record { rows = n - 1; ends = count; bytes = o.start } ≡ side_of (in_front at xs)
 before_row p xs at o n count placed gap within long many some none own =
     ⊎_elim {0, 0, 0}
@@ -163,7 +163,7 @@ before_row p xs at o n count placed gap within long many some none own =
     (λ (k : Kept p xs at). at_row k.0 k.1 p.front.items p.ends.items o n count (subst (FrontKept k.0 k.1 p.front.items p.ends.items) (sym many) k.3) long none own ∙ ap side_of (sym k.2))
     (found p xs at placed gap within)
 
-pub before_none : (p : Places) (xs : List Item) (at : ℕ) (n count : ℕ) → ArePlaced p xs → IsGapAt at (text_length xs) p → at ≤ text_length xs → n ≡ length p.front.items → count ≡ ends_before at p.ends.items → n ≡ 0 →
+pub before_none : (p : Places) (xs : List Item) (at : ℕ) (n count : ℕ) → AreAt p xs → IsSplitAt at (text_length xs) p → at ≤ text_length xs → n ≡ length p.front.items → count ≡ ends_before at p.ends.items → n ≡ 0 →
     NoEndBehind n p.ends.items count → record { rows = 0; ends = 0; bytes = 0 } ≡ side_of (in_front at xs)
 before_none p xs at n count placed gap within long many empty none =
     ⊎_elim {0, 0, 0}
@@ -172,7 +172,7 @@ before_none p xs at n count placed gap within long many empty none =
     (found p xs at placed gap within)
 
 -- the rows that stay in front
-pub front_taken : (p : Places) (xs : List Item) (at : ℕ) → ArePlaced p xs → IsGapAt at (text_length xs) p → at ≤ text_length xs → take (length (near 0 (in_front at xs))) p.front.items ≡ near 0 (in_front at xs)
+pub front_taken : (p : Places) (xs : List Item) (at : ℕ) → AreAt p xs → IsSplitAt at (text_length xs) p → at ≤ text_length xs → take (length (near 0 (in_front at xs))) p.front.items ≡ near 0 (in_front at xs)
 front_taken p xs at placed gap within =
     ⊎_elim {0, 0, 0}
     (λ (k : Nothing p xs at). ap (λ (l : List Item). take (length (near 0 l)) p.front.items) k.2 ∙ ap (near 0) (sym k.2))

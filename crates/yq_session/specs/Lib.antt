@@ -1,3 +1,4 @@
 pub mod Sides
-pub mod Exchanging
 pub mod Following
+pub mod Reading
+pub mod Exchanging

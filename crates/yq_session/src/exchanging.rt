@@ -2,11 +2,12 @@
 ghost use Rattle.std.specs.Prelude.{◌≡◌, ◌<◌, ◌≤◌, ◌+◌, ◌^◌, ◌++◌, IfOk, OnOk, OnErr, length, map, drop};
 ghost use Rattle.std.specs.List.{All};
 ghost use Rattle.std.specs.Vec.{vec_capacity, vec_len};
-ghost use Rattle.yq_rows.specs.Kept.{placed_rows, raised};
+ghost use Rattle.yq_rows.specs.Kept.{kept_rows, placed_rows, raised};
 ghost use Rattle.yq_session.specs.Exchanging.{Exchanged, GivesWay, IsMovable, SamePlaces, joined_ends, moved_from};
 ghost use Rattle.yq_session.specs.Sides.{origin};
 
-use crate::sides::Side;
+use crate::reading::Come;
+use crate::sides::{Side, Touched};
 use std::alloc::{AllocError, Global};
 use yq_rows::{EndPlace, Offsets, Places};
 
@@ -60,7 +61,7 @@ fn join_ends(
 /// Adds rows of a text of `len` bytes, before which so many more stand; there is room for them.
 fn push_rows(rows: &mut Vec<Offsets>, found: &Places, len: usize, by: usize)
     requires small { len < 2 ^ 32 }
-    requires room { vec_len rows.old + length (placed_rows len found.now) ≤ vec_capacity rows.old }
+    requires room { vec_len rows.old + length (kept_rows found.now) ≤ vec_capacity rows.old }
     requires within { All (λ o. o.start + by < 2 ^ 32) (placed_rows len found.now) }
     ensures { rows.new.items ≡ rows.old.items ++ map (raised by) (placed_rows len found.now) }
 {
@@ -70,40 +71,33 @@ fn push_rows(rows: &mut Vec<Offsets>, found: &Places, len: usize, by: usize)
     }
 }
 
-/// Rows and ends of parts that stand behind `front`, up to `old`, give way to those that were found in
-/// a text of `len` bytes; those behind them stand behind these.
+/// Rows and ends of parts that a change touches give way to those that were read; those behind them stand
+/// behind these, and the split is between the two.
 pub(crate) fn exchange(
     alloc: Global,
     places: &mut Places,
-    front: Side,
-    old: Side,
-    found: &Places,
-    len: usize,
+    touched: Touched,
+    come: &Come,
 ) -> Result<(), AllocError>
-    requires { GivesWay places.old found.now front old len }
-    ensures ok { OnOk result (Exchanged places.old found.now places.new front old len) }
+    requires { GivesWay places.old touched come.now }
+    ensures ok { OnOk result (Exchanged places.old touched come.now places.new) }
     ensures err { OnErr result (SamePlaces places.old places.new) }
 {
+    let Touched { front, old, .. } = touched;
     let kept = places.len() - old.rows;
-    let later = places.ends.len() - old.ends;
-    // What is read of a text that isn't the last one has an empty end behind it.
-    let count = if kept + later == 0 {
-        found.ends.len()
-    } else {
-        found.ends.len() - 1
-    };
-    let come = &found.ends.as_slice()[..count];
-    let rows = found.len();
+    let rows = come.places.len();
     places.front.reserve(rows)?;
     let new = Side {
         rows: front.rows + rows,
         ends: 0,
-        bytes: front.bytes + len,
+        bytes: front.bytes + come.len,
     };
-    let ends = join_ends(alloc, places.ends.as_slice(), come, front, old, new)?;
+    let found = come.places.ends.as_slice();
+    let ends = join_ends(alloc, places.ends.as_slice(), found, front, old, new)?;
     places.front.truncate(front.rows);
-    push_rows(&mut places.front, found, len, front.bytes);
+    push_rows(&mut places.front, &come.places, come.read, front.bytes);
     places.behind.truncate(kept);
     places.ends = ends;
+    places.split = new.bytes;
     Ok(())
 }

@@ -1,77 +1,62 @@
-//! Places that follow a change of their text.
-ghost use Rattle.std.specs.Prelude.{◌≡◌, ◌≤◌, ◌+◌, ◌-◌, IfOk, OnOk, OnErr, length, take, drop};
+//! A text and the places of its rows that follow a change.
+ghost use Rattle.std.specs.Prelude.{◌≡◌, ◌≤◌, ◌+◌, ◌-◌, OnOk, length, is_ok, if◌then◌else◌};
 ghost use Rattle.std.specs.Str.{IsCharBoundary};
-ghost use Rattle.yq_rows.specs.Grammar.{IsCut};
-ghost use Rattle.yq_rows.specs.Kept.{IsPlaced};
-ghost use Rattle.yq_rows.specs.Rows.{Cut};
-ghost use Rattle.yq_rows.specs.View.{shown};
-ghost use Rattle.yq_session.specs.Exchanging.{Change};
-ghost use Rattle.yq_session.specs.Following.{CountsWritten, Follows, StaysPlaced};
+ghost use Rattle.yq_text.specs.Split.{joined};
+ghost use Rattle.yq_session.specs.Following.{ArePlacesOf, CountsWritten, Follows, exchanged};
 
 use crate::exchanging::exchange;
-use crate::gap::move_gap;
 use crate::kept::Kept;
-use crate::sides::{Side, side_before, side_behind};
+use crate::reading::{read, region};
+use crate::sides::find_touched;
+use crate::split::move_split;
 use std::alloc::{AllocError, Global};
-use yq_rows::{Meter, Places, read_region};
-use yq_scalar::ReadError;
+use yq_rows::{Meter, Places};
+use yq_text::SplitText;
 
-/// What stands between so many bytes at the beginning of a text and so many at its end.
-fn between(text: &str, front: usize, back: usize) -> &str
-    requires within { front + back ≤ length text.now }
-    requires end { IsCharBoundary text.now (length text.now - back) }
-    requires begin { IsCharBoundary (take (length text.now - back) text.now) front }
-    ensures { result.now ≡ drop front (take (length text.now - back) text.now) }
+/// Writes what comes into a text in the place of the bytes that aren't kept; there is room for it. The
+/// split is then at a place behind it.
+fn write(text: &mut SplitText, kept: Kept, new: &str, split: usize)
+    requires within { kept.front + kept.back ≤ length (joined text.old) }
+    requires front { IsCharBoundary (joined text.old) kept.front }
+    requires back { IsCharBoundary (joined text.old) (length (joined text.old) - kept.back) }
+    requires room { length new.now ≤ text.old.room }
+    requires split { IsCharBoundary (exchanged kept (joined text.old) new.now) split }
+    ensures { joined text.new ≡ exchanged kept (joined text.old) new.now }
 {
-    let (text, _) = text.split_at(text.len() - back);
-    text.split_at(front).1
+    let gone = text.len() - kept.back - kept.front;
+    text.move_split(kept.front);
+    text.exchange(gone, new);
+    text.move_split(split);
 }
 
-/// What stands in front of the rows and ends of parts that a change touches, what stands in front of
-/// those behind them, and the text that is written in their place; the gap is then where they begin.
-fn find<'t>(
-    places: &mut Places,
-    len: usize,
-    new: &'t str,
-    kept: Kept,
-) -> Result<(Side, Side, &'t str), AllocError>
-    requires { Follows places.old len new.now kept }
-    ensures found { IfOk result (λ s. Change places.new new.now kept s.0 s.1 s.2.now) }
-    ensures kept { StaysPlaced len places.old places.new }
-{
-    move_gap(places, len, kept.front)?;
-    let front = side_before(places, kept.front);
-    let old = side_behind(places, len, kept.back);
-    let part = between(new, front.bytes, len.saturating_sub(old.bytes));
-    Ok((front, old, part))
-}
-
-/// Places of a text of `len` bytes come to be those of the new text, of which no more is read than what
-/// is written in the place of the touched rows and ends of parts: the lines of that are counted. Other
-/// rows stay as they are, in front and behind: the time goes to the touched rows, the ends of parts,
-/// and the rows between this change and the one before.
+/// Writes what comes into a text in the place of the bytes that a change doesn't keep, and places of its
+/// rows come to be those of the new text. Of that no more is read than what comes in the place of the
+/// touched rows and ends of parts, without the line of a marker that stays behind them: the lines of
+/// that are counted. Other rows and bytes stay as they are, in front and behind: the time goes to the
+/// touched rows, the ends of parts, and the rows and bytes between this change and the one before.
 ///
 /// # Errors
-/// Want of memory alone. The places are then those of the old text.
+/// Want of memory alone. Text and places are then those of the old text.
 pub fn follow(
     alloc: Global,
+    text: &mut SplitText,
     places: &mut Places,
-    len: usize,
-    new: &str,
     kept: Kept,
+    new: &str,
     meter: &mut Meter,
 ) -> Result<(), AllocError>
-    requires { Follows places.old len new.now kept }
-    ensures placed { OnOk result ((d : Cut) → IsCut new.now d → IsPlaced places.new (shown d)) }
-    ensures counted { OnOk result (CountsWritten new.now kept meter.old meter.new) }
-    ensures kept { OnErr result (StaysPlaced len places.old places.new) }
+    requires { Follows (joined text.old) places.old kept new.now }
+    ensures text { joined text.new ≡
+        (if is_ok result then exchanged kept (joined text.old) new.now else joined text.old) }
+    ensures placed { ArePlacesOf (joined text.new) places.new }
+    ensures counted { OnOk result (CountsWritten (joined text.old) (joined text.new) kept meter.old meter.new) }
 {
-    let (front, old, part) = find(places, len, new, kept)?;
-    let found = match read_region(alloc, part, meter) {
-        Ok(rows) => rows.into_places(),
-        Err(ReadError::Memory) => return Err(AllocError),
-        // The part is read alone as the rows and ends of the new text that it is.
-        Err(ReadError::Fault(_)) => unreachable!(),
-    };
-    exchange(alloc, places, front, old, &found, part.len())
+    move_split(text, places, kept.front)?;
+    let touched = find_touched(places, text.len(), kept);
+    let region = region(alloc, text.halves(), touched, kept, new)?;
+    let come = read(alloc, region.as_str(), touched, meter)?;
+    text.reserve(new.len())?;
+    exchange(alloc, places, touched, &come)?;
+    write(text, kept, new, places.split);
+    Ok(())
 }

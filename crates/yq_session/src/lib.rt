@@ -1,11 +1,12 @@
-//! Places of rows, kept while the text is changed.
+//! A text in two halves and the places of its rows, kept while the text is changed.
 #![tactic(auto)]
 
 mod exchanging;
 mod following;
-mod gap;
 mod kept;
+mod reading;
 mod sides;
+mod split;
 
 pub use following::follow;
 pub use kept::Kept;

@@ -1,7 +1,11 @@
 //! What stands in front of what a change touches, and in front of what stands behind that.
-ghost use Rattle.std.specs.Prelude.{◌≡◌, ◌<◌, ◌≤◌, ◌^◌, length, reverse};
+ghost use Rattle.std.specs.Prelude.{◌≡◌, ◌<◌, ◌≤◌, ◌^◌, ◌||◌, List, ℕ, length, nat_lt, reverse};
+ghost use Rattle.yq_rows.specs.Kept.{kept_rows};
+ghost use Rattle.yq_session.specs.Exchanging.{Change};
+ghost use Rattle.yq_session.specs.Following.{Follows};
 ghost use Rattle.yq_session.specs.Sides as spec;
 
+use crate::kept::Kept;
 use yq_rows::{EndPlace, Offsets, Places};
 
 /// How many rows, ends of parts and bytes stand in front of a place in a text.
@@ -10,6 +14,19 @@ pub(crate) struct Side {
     pub rows: usize,
     pub ends: usize,
     pub bytes: usize,
+}
+
+/// The rows and ends of parts that a change touches.
+#[derive(Clone, Copy, Debug)]
+pub(crate) struct Touched {
+    /// What stands in front of them.
+    pub front: Side,
+    /// What stands in front of those behind them.
+    pub old: Side,
+    /// Whether others stand behind them.
+    pub more: bool,
+    /// The last of them, where that is the end of a part and the change keeps the line of its marker.
+    pub marked: Option<EndPlace>,
 }
 
 /// How many ends of parts begin in front of an offset, up to the first one that doesn't.
@@ -43,8 +60,8 @@ fn rows_nearer(behind: &[Offsets], back: usize) -> usize
 }
 
 /// What stands in front of the last row or end of a part that begins in front of an offset, at which
-/// the gap is.
-pub(crate) fn side_before(places: &Places, at: usize) -> Side
+/// the split is.
+fn side_before(places: &Places, at: usize) -> Side
     ensures { spec.IsSideBefore places.now at result }
 {
     let rows = places.front.len();
@@ -74,8 +91,8 @@ pub(crate) fn side_before(places: &Places, at: usize) -> Side
 }
 
 /// What stands in front of the first row or end of a part that is nearer than `back` bytes to the end of
-/// the text, which has `len` bytes; the gap is in front of it.
-pub(crate) fn side_behind(places: &Places, len: usize, back: usize) -> Side
+/// the text, which has `len` bytes; the split is in front of it.
+fn side_behind(places: &Places, len: usize, back: usize) -> Side
     requires small { len < 2 ^ 32 }
     requires within { back ≤ len }
     ensures { spec.IsSideBehind places.now len back result }
@@ -93,5 +110,56 @@ pub(crate) fn side_behind(places: &Places, len: usize, back: usize) -> Side
         rows: places.front.len() + (places.behind.len() - rows),
         ends,
         bytes,
+    }
+}
+
+/// Whether so many rows stand before an end of a part, and the line of its marker, if there is one, begins
+/// at an offset or behind it.
+fn keeps_marker(end: EndPlace, rows: usize, at: usize) -> bool
+    ensures { result ≡ spec.keeps_marker end rows at }
+{
+    end.rows == rows && end.marker() > 0 && at <= end.stop()
+}
+
+/// The last end of a part among those that a change touches, where no row stands behind it there and the
+/// line of its marker begins at an offset or behind it.
+fn marked_end(ends: &[EndPlace], front: Side, old: Side, at: usize) -> Option<EndPlace>
+    ensures { result ≡ spec.marked_end ends.now front old at }
+{
+    if old.ends <= front.ends {
+        return None;
+    }
+    let end = *ends.get(old.ends - 1)?;
+    if keeps_marker(end, old.rows, at) {
+        Some(end)
+    } else {
+        None
+    }
+}
+
+/// Whether rows or ends of parts stand behind others.
+fn has_more(places: &Places, old: Side) -> bool
+    ensures { result ≡ (nat_lt old.rows (length (kept_rows places.now))
+        || nat_lt old.ends (length places.now.ends.items)) }
+{
+    places.len() > old.rows || places.ends.len() > old.ends
+}
+
+/// The rows and ends of parts that a change of a text of `len` bytes touches; the split is where the
+/// first byte is that the change doesn't keep.
+pub(crate) fn find_touched(places: &Places, len: usize, kept: Kept) -> Touched
+    requires small { len < 2 ^ 32 }
+    requires within { kept.back ≤ len }
+    requires split { spec.IsSplitAt kept.front len places.now }
+    ensures { (t new : List ℕ) → len ≡ length t → (h : Follows t places.now kept new) →
+        Change t new kept places.now result }
+{
+    let front = side_before(places, kept.front);
+    let old = side_behind(places, len, kept.back);
+    Touched {
+        front,
+        old,
+        more: has_more(places, old),
+        marked: marked_end(places.ends.as_slice(), front, old, len - kept.back),
     }
 }

@@ -1,6 +1,6 @@
 use Rattle.std.proofs.Common.{◌≡◌, inl, inr, ◌+◌, ◌-◌, ℕ, List, length, reverse, ap, subst, ◌∙◌, arith}
 use Rattle.yq_rows.specs.declared.offsets.Offsets as declared
-use Rattle.yq_session.specs.Sides.{IsGapAt, ends_before, nearer, not_in_back, side_of, text_length}
+use Rattle.yq_session.specs.Sides.{IsSplitAt, ends_before, nearer, not_in_back, side_of, text_length}
 use Rattle.yq_session.specs.declared.sides.Side.{Side}
 use Rattle.yq_session.proofs.BackLaws.{ByEnds, ByRows, behind_is}
 use Rattle.yq_session.proofs.sides.side_behind.Goals.{then-rows-gt0, else-rows-gt0, then-ends-len, else-ends-len}
@@ -20,5 +20,5 @@ returns c xs at placed gap apart long =
     let by_ends : ByEnds p ends c.if-rows-gt0.bytes c.if-ends-len.bytes = elim c.if-ends-len.branch [ then-ends-len w ↦ inr (w.index-then-ends-len.result.now, omega arith, w.index-then-ends-len.ensures, omega arith) | else-ends-len w ↦ inl (omega arith, omega arith) ] in
     let first : c.len-2.result + (c.len-3.result - rows) ≡ length p.front.items + (length p.behind.items - rows) = omega arith in
     let side : Side = record { rows = length p.front.items + (length p.behind.items - rows); ends = ends; bytes = c.if-ends-len.bytes } in
-    let all : side ≡ side_of (not_in_back back xs) = behind_is p xs at back rows ends c.if-rows-gt0.bytes c.if-ends-len.bytes placed (subst (λ (n : ℕ). IsGapAt at n p) long gap) (omega arith) many count by_rows by_ends in
+    let all : side ≡ side_of (not_in_back back xs) = behind_is p xs at back rows ends c.if-rows-gt0.bytes c.if-ends-len.bytes placed (subst (λ (n : ℕ). IsSplitAt at n p) long gap) (omega arith) many count by_rows by_ends in
     ap (λ (n : ℕ). record { rows = n; ends = ends; bytes = c.if-ends-len.bytes }) first ∙ all

@@ -3,9 +3,9 @@ use Rattle.std.proofs.Common.{◌≡◌, ℕ, ◌-◌, ◌<◌, Option, Some, Li
 use Rattle.std.proofs.lemmas.List.{reverse-append}
 use Rattle.std.proofs.lemmas.List.Elements.{All-pop}
 use Rattle.std.specs.List.{All}
-use Rattle.yq_rows.specs.Kept.{both_sides, turned}
+use Rattle.yq_rows.specs.Kept.{turned}
 use Rattle.yq_rows.specs.declared.offsets.Offsets as declared
-use Rattle.yq_session.specs.Sides.{LastBefore}
+use Rattle.yq_session.specs.Sides.{LastBefore, both_sides}
 use Rattle.yq_session.proofs.SplitLaws.{Within, last_of_joined, turned_one}
 
 pub popped : (old new : List declared.Offsets) (n m : ℕ) (r : Option declared.Offsets) (o : declared.Offsets) → old ≡ new ++ option_to_list r → ((d : declared.Offsets) → 0 < n → r ≡ Some (slice_index_or old (n - 1) d)) →

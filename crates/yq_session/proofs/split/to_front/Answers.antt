@@ -1,9 +1,9 @@
 use Rattle.std.proofs.Common.{◌≡◌, ◌<◌, ◌∙◌, ◌++◌, ◌∷◌, [], List, ap, sym, subst, arith}
-use Rattle.yq_rows.specs.Kept.{both_sides}
 use Rattle.yq_rows.specs.declared.offsets.Offsets as declared
-use Rattle.yq_session.specs.Sides.{LastBefore}
-use Rattle.yq_session.proofs.GapLaws.{last_pushed, passed_front, popped}
-use Rattle.yq_session.proofs.gap.to_front.Goals as goal
+use Rattle.yq_session.specs.Sides.{LastBefore, both_sides}
+use Rattle.yq_session.proofs.PassingLaws.{all_popped, last_pushed, passed_front, popped}
+use Rattle.yq_session.proofs.SplitLaws.{Within}
+use Rattle.yq_session.proofs.split.to_front.Goals as goal
 
 pub rows-preserved : goal.rows-preserved
 rows-preserved c =
@@ -17,4 +17,5 @@ rows-preserved c =
       same = ap (λ (l : List declared.Offsets). both_sides len l c.pop.new.self.items) (front ∙ ap (λ (o : declared.Offsets). c.rows.front.items ++ (o ∷ [])) c.turned-row.ensures)
           ∙ (step ∙ (ap (λ (l : List declared.Offsets). both_sides len c.rows.front.items l) (sym all) ∙ c.rows.invariant.same));
       last = subst (LastBefore c.args.at) (sym front) (last_pushed c.args.at c.rows.front.items row less);
+      later = (all_popped (Within len) c.rows.behind.items c.pop.new.self.items c.index.result.now all c.rows.invariant.later).0;
     }

@@ -1,0 +1,82 @@
+-- What a change that was followed leaves.
+use Rattle.std.proofs.Common.{◌≡◌, ℕ, List, [], ◌++◌, length, reverse, refl, sym, ap, ◌∙◌, subst, append_assoc}
+use Rattle.std.specs.Str.{IsCharBoundary}
+use Rattle.yq_rows.specs.Grammar.{IsCut}
+use Rattle.yq_rows.specs.Items.{Item, items_of}
+use Rattle.yq_rows.specs.Kept.{ArePlaced, IsPlaced}
+use Rattle.yq_rows.specs.Rows.{Cut}
+use Rattle.yq_rows.specs.View.{Shown, shown}
+use Rattle.yq_rows.specs.declared.places.Places.{Places}
+use Rattle.yq_session.specs.Exchanging.{Change, Exchanged, GivesWay, SamePlaces}
+use Rattle.yq_session.specs.Following.{ArePlacesOf, Follows, IsPlacedIn, exchanged}
+use Rattle.yq_session.specs.Reading.{ArePlacesRead}
+use Rattle.yq_session.specs.declared.kept.Kept.{Kept}
+use Rattle.yq_session.specs.declared.reading.Come.{Come}
+use Rattle.yq_session.specs.declared.sides.Touched.{Touched}
+use Rattle.yq_session.proofs.ItemPlaces.{BothSides, placed_in, places_of, split_edge}
+
+-- before a change: places that were moved
+pub placed_before : (t : List ℕ) (p : Places) (kept : Kept) (new : List ℕ) → Follows t p kept new → IsPlacedIn t p
+placed_before t p kept new h = record { cut = h.old_cut; is_cut = h.old_is; placed = h.placed }
+
+pub moved_follows : (t : List ℕ) (p q : Places) (kept : Kept) (new : List ℕ) → Follows t p kept new → IsPlacedIn t q → Follows t q kept new
+moved_follows t p q kept new h placed = record {
+  old_cut = h.old_cut;
+  new_cut = h.new_cut;
+  old_is = h.old_is;
+  placed = places_of t q placed h.old_cut h.old_is;
+  new_is = h.new_is;
+  touches = h.touches;
+  within = h.within;
+  front_edge = h.front_edge;
+  back_edge = h.back_edge;
+}
+
+-- places that are the same
+same_sides : (p q : Places) (b z : List Item) → SamePlaces p q → ArePlaced p b z → ArePlaced q b z
+same_sides p q b z same h = record {
+  split_is = same.3 ∙ h.split_is;
+  front_are = same.0 ∙ h.front_are;
+  behind_are = ap reverse same.1 ∙ h.behind_are;
+  ends_are = same.2 ∙ h.ends_are;
+  texts = h.texts;
+  small = h.small;
+}
+
+pub same_places : (t u : List ℕ) (p q : Places) → u ≡ t → IsPlacedIn t p → SamePlaces p q → ArePlacesOf u q
+same_places t u p q text h same =
+    let placed : IsPlaced q (shown h.cut) = record { before = h.placed.before; behind = h.placed.behind; placed = same_sides p q h.placed.before h.placed.behind same h.placed.placed; shown_is = h.placed.shown_is } in
+    subst (λ (x : List ℕ). ArePlacesOf x q) (sym text) (places_of t q (record { cut = h.cut; is_cut = h.is_cut; placed = placed }))
+
+pub still_placed : (t u : List ℕ) (p : Places) → u ≡ t → IsPlacedIn t p → ArePlacesOf u p
+still_placed t u p text h = same_places t u p p text h (refl, refl, refl, refl)
+
+-- what gives way, and what stands there then
+pub gives_way : (t new : List ℕ) (kept : Kept) (p : Places) (x : Touched) (come : Come) → (k : Change t new kept p x) → ArePlacesRead k.read.written come → GivesWay p x come
+gives_way t new kept p x come k read = record {
+  before = k.before;
+  touched = k.touched;
+  written = k.read.written;
+  behind = k.read.behind;
+  placed = k.placed;
+  are_read = read;
+  front_is = k.front_is;
+  old_is = k.old_is;
+  front_rows = k.front_rows;
+  back_rows = k.back_rows;
+  small = k.small;
+}
+
+new_sides : (t new : List ℕ) (kept : Kept) (p q : Places) (x : Touched) (come : Come) (d : Cut) → (k : Change t new kept p x) → ArePlacesRead k.read.written come → Exchanged p x come q → IsCut (exchanged kept t new) d → BothSides q (items_of d)
+unfolding gives_way
+new_sides t new kept p q x come d k read done is =
+    (k.before ++ k.read.written, k.read.behind, append_assoc k.before k.read.written k.read.behind ∙ k.items d is, done (gives_way t new kept p x come k read))
+
+pub new_edge : (t u new : List ℕ) (kept : Kept) (p q : Places) (x : Touched) (come : Come) (d : Cut) → u ≡ t → (k : Change t new kept p x) → ArePlacesRead k.read.written come → Exchanged p x come q → IsCut (exchanged kept t new) d → IsCharBoundary (exchanged kept u new) q.split
+new_edge t u new kept p q x come d text k read done is =
+    subst (λ (l : List ℕ). IsCharBoundary (exchanged kept l new) q.split) (sym text) (split_edge (exchanged kept t new) d q is (new_sides t new kept p q x come d k read done is))
+
+pub new_places : (t u v new : List ℕ) (kept : Kept) (p q : Places) (x : Touched) (come : Come) (d : Cut) → u ≡ t → v ≡ exchanged kept u new → (k : Change t new kept p x) → ArePlacesRead k.read.written come → Exchanged p x come q → IsCut (exchanged kept t new) d → ArePlacesOf v q
+new_places t u v new kept p q x come d text made k read done is =
+    subst (λ (l : List ℕ). ArePlacesOf l q) (sym (made ∙ ap (λ (l : List ℕ). exchanged kept l new) text))
+    (places_of (exchanged kept t new) q (placed_in (exchanged kept t new) q d is (new_sides t new kept p q x come d k read done is)))

@@ -1,0 +1,200 @@
+-- The last end of a part among the touched items, and whether its marker is kept.
+use Rattle.std.proofs.Common.{◌≡◌, ◌⊎◌, inl, inr, ⊎_elim, ℕ, zero, suc, ◌+◌, ◌-◌, ◌<◌, ◌≤◌, Bool, true, false, eqb, ltb, leb, get_or, if◌then◌else◌, ◌&&◌, List, [], ◌∷◌, ◌++◌, length, Option, Some, None, slice_get, refl, sym, ap, ◌∙◌, subst, arith, append_assoc, append-nil, length-append}
+use Rattle.std.proofs.lemmas.Bool.{and_from, and_parts, cases_Bool, cases_lt, eq-eqb, false≢true, leb-true, le-leb, lt-leb, lt-ltb, ltb-true, ne_eqb}
+use Rattle.std.proofs.lemmas.List.Elements.{All-get_or}
+use Rattle.std.proofs.lemmas.Option.{get_or_from_slice_get}
+use Rattle.yq_scalar.specs.Answers.{◌>>=◌}
+use Rattle.yq_rows.specs.Ends.{end_at}
+use Rattle.yq_rows.specs.Items.{Item, row_item, end_item}
+use Rattle.yq_rows.specs.Kept.{near, ends_near}
+use Rattle.yq_rows.specs.Regions.{ended, no_items}
+use Rattle.yq_rows.specs.Offsets.{offsets_of}
+use Rattle.yq_rows.specs.Rows.{Row}
+use Rattle.yq_rows.specs.View.{slices}
+use Rattle.yq_rows.specs.declared.ends.EndPlace.{EndPlace}
+use Rattle.yq_session.specs.Following.{kept_marker, last_marker, marker_of}
+use Rattle.yq_session.specs.Sides.{keeps_marker, marked_end, side_of, text_length}
+use Rattle.yq_session.specs.declared.sides.Side.{Side}
+use Rattle.yq_session.proofs.BeginLaws.{first_long, joined_long}
+use Rattle.yq_session.proofs.CountLaws.{ends_joined, ends_rows}
+use Rattle.yq_session.proofs.SideLaws.{ends_end, ends_row, rows_end, rows_row}
+
+-- The last touched item is the end of a part whose marker the change keeps.
+pub record KeepsEnd (touched : List Item) (n : ℕ) (e : EndPlace) : Type 0 where
+  pub front : List Item
+  pub gap : List ℕ
+  pub marker : List ℕ
+  pub items : touched ≡ ended front gap marker
+  pub long : e.marker ≡ length marker
+  pub some : 0 < length marker
+  pub within : length marker ≤ n
+  pub kept : kept_marker n touched ≡ length marker
+
+-- what the end of a part tells of the marker that is kept
+abbrev pub Tells : List Item → ℕ → Option EndPlace → Type 0
+Tells touched n None = kept_marker n touched ≡ 0
+Tells touched n (Some e) = KeepsEnd touched n e
+
+-- the last of items
+abbrev pub HasLast : List Item → Type 0
+HasLast xs = (xs ≡ []) ⊎ ((front : List Item) × (last : Item) × (xs ≡ front ++ (last ∷ [])))
+
+pub last_of : (xs : List Item) → HasLast xs
+last_of [] = inl refl
+last_of (x ∷ xs) = ⊎_elim {0, 0, 0}
+    (λ (e : xs ≡ []). inr ([], x, ap (λ (l : List Item). x ∷ l) e))
+    (λ (h : (front : List Item) × (last : Item) × (xs ≡ front ++ (last ∷ []))). inr (x ∷ h.0, h.1, ap (λ (l : List Item). x ∷ l) h.2))
+    (last_of xs)
+
+some_items : (u : List Item) (i : Item) → no_items (u ++ (i ∷ [])) ≡ false
+some_items [] i = refl
+some_items (x ∷ u) i = refl
+
+last_marker_is : (u : List Item) (i : Item) → last_marker (u ++ (i ∷ [])) ≡ marker_of i
+last_marker_is [] i = refl
+last_marker_is (x ∷ u) i = rw (some_items u i) (last_marker_is u i)
+
+kept_none : (n : ℕ) (xs : List Item) → last_marker xs ≡ [] → kept_marker n xs ≡ 0
+kept_none n xs h = rw h (⊎_elim {0, 0, 0} (λ e. rw e refl) (λ e. rw e refl) (cases_Bool (leb 0 n)))
+
+slice_joined : (es rest : List EndPlace) (n : ℕ) (e : EndPlace) → n ≡ length es → slice_get (es ++ (e ∷ rest)) n ≡ Some e
+slice_joined [] rest n e is = ap (slice_get (e ∷ rest)) is
+slice_joined (x ∷ es) rest n e is = ap (slice_get (x ∷ (es ++ (e ∷ rest)))) is ∙ slice_joined es rest (length es) e refl
+
+slice_left : (es rest : List EndPlace) (i : ℕ) → i < length es → slice_get (es ++ rest) i ≡ slice_get es i
+slice_left [] rest i less = absurd (omega (arith, less))
+slice_left (x ∷ es) rest zero less = refl
+slice_left (x ∷ es) rest (suc i) less = slice_left es rest i (omega (arith, less))
+
+-- the end that is chosen
+none_chosen : (es : List EndPlace) (front old : Side) (at : ℕ) → old.ends ≤ front.ends → marked_end es front old at ≡ None
+none_chosen es front old at h = rw (le-leb old.ends front.ends h) refl
+
+abbrev test : Side → ℕ → EndPlace → Option EndPlace
+test old at e = if keeps_marker e old.rows at then Some e else None
+
+chosen : (es : List EndPlace) (front old : Side) (at : ℕ) (o : Option EndPlace) → front.ends < old.ends → slice_get es (old.ends - 1) ≡ o → marked_end es front old at ≡ (o >>= test old at)
+chosen es front old at o h is = rw (lt-leb old.ends front.ends h, is) refl
+
+refused : (e : EndPlace) (rows at : ℕ) → (e.rows ≡ rows → ⊥) → keeps_marker e rows at ≡ false
+refused e rows at h = rw (ne_eqb e.rows rows h) refl
+
+-- What stands before, among and behind the touched items, and how many bytes are kept behind.
+pub record Stretch (f touched z : List Item) (es : List EndPlace) (front old : Side) (len back : ℕ) : Type 0 where
+  pub rest : List EndPlace
+  pub ends : es ≡ ends_near 0 0 (f ++ touched) ++ rest
+  pub front_is : front ≡ side_of f
+  pub old_is : old ≡ side_of (f ++ touched)
+  pub long : len ≡ text_length (f ++ touched) + text_length z
+  pub last : text_length z ≤ back
+  pub within : back ≤ len
+
+told_none : (f touched z : List Item) (es : List EndPlace) (front old : Side) (len back : ℕ) → Stretch f touched z es front old len back → touched ≡ [] → Tells touched (back - text_length z) (marked_end es front old (len - back))
+told_none f touched z es front old len back h none =
+    let n : ℕ = back - text_length z in
+    let same : old.ends ≡ front.ends = ap (λ (s : Side). s.ends) (h.old_is ∙ (ap (λ (l : List Item). side_of (f ++ l)) none ∙ (ap side_of (append-nil f) ∙ sym h.front_is))) in
+    subst (Tells touched n) (sym (none_chosen es front old (len - back) (omega (arith, same)))) (kept_none n touched (ap last_marker none))
+
+-- the last touched item is a row
+row_there : (g : List Item) (r : Row) (rest es : List EndPlace) (i : ℕ) (e : EndPlace) → es ≡ ends_near 0 0 (g ++ (row_item r ∷ [])) ++ rest → i < length (ends_near 0 0 g) → slice_get es i ≡ Some e → e.rows ≤ length (near 0 g)
+row_there g r rest es i e ends less is =
+    let own : slice_get (ends_near 0 0 g) i ≡ Some e = sym (slice_left (ends_near 0 0 g) rest i less) ∙ (ap (λ (l : List EndPlace). slice_get l i) (sym (ends ∙ ap (λ (l : List EndPlace). l ++ rest) (ends_row g r))) ∙ is) in
+    let at : e ≡ get_or (ends_near 0 0 g) i e = sym (get_or_from_slice_get (ends_near 0 0 g) i e e own) in
+    let bound = All-get_or (λ (x : EndPlace). x.rows ≤ length (near 0 g)) (ends_near 0 0 g) i e less (ends_rows 0 0 (length (near 0 g)) g (omega arith)) in
+    subst (λ (x : EndPlace). x.rows ≤ length (near 0 g)) (sym at) bound
+
+told_row : (f touched z : List Item) (es : List EndPlace) (front old : Side) (len back : ℕ) (u : List Item) (r : Row) → Stretch f touched z es front old len back → touched ≡ u ++ (row_item r ∷ []) → Tells touched (back - text_length z) (marked_end es front old (len - back))
+told_row f touched z es front old len back u r h is = ⊎_elim {0, 0, 0}
+    (λ (low : front.ends < old.ends). subst (Tells touched n) (sym (chosen es front old (len - back) (slice_get es (old.ends - 1)) low refl)) (go low (slice_get es (old.ends - 1)) refl))
+    (λ (high : old.ends ≤ front.ends). subst (Tells touched n) (sym (none_chosen es front old (len - back) high)) zero)
+    (cases_lt front.ends old.ends)
+  where
+    n : ℕ
+    n = back - text_length z
+
+    zero : kept_marker n touched ≡ 0
+    zero = kept_none n touched (ap last_marker is ∙ last_marker_is u (row_item r))
+
+    g : List Item
+    g = f ++ u
+
+    all : f ++ touched ≡ g ++ (row_item r ∷ [])
+    all = ap (λ (l : List Item). f ++ l) is ∙ sym (append_assoc f u (row_item r ∷ []))
+
+    rows : old.rows ≡ length (near 0 g) + 1
+    rows = ap (λ (s : Side). s.rows) h.old_is ∙ (ap (λ (l : List Item). length (near 0 l)) all ∙ (ap length (rows_row g r) ∙ length-append (near 0 g) (offsets_of (text_length g) (slices r) ∷ [])))
+
+    ends : old.ends ≡ length (ends_near 0 0 g)
+    ends = ap (λ (s : Side). s.ends) h.old_is ∙ (ap (λ (l : List Item). length (ends_near 0 0 l)) all ∙ ap length (ends_row g r))
+
+    go : front.ends < old.ends → (o : Option EndPlace) → slice_get es (old.ends - 1) ≡ o → Tells touched n (o >>= test old (len - back))
+    go low None at = zero
+    go low (Some e) at =
+        let few = row_there g r h.rest es (old.ends - 1) e (h.ends ∙ ap (λ (l : List Item). ends_near 0 0 l ++ h.rest) all) (omega (arith, ends, low)) at in
+        rw (refused e old.rows (len - back) (λ same. omega (arith, same, few, rows))) zero
+
+-- the last touched item is the end of a part
+told_end : (f touched z : List Item) (es : List EndPlace) (front old : Side) (len back : ℕ) (u : List Item) (gap marker : List ℕ) → Stretch f touched z es front old len back → touched ≡ ended u gap marker → Tells touched (back - text_length z) (marked_end es front old (len - back))
+told_end f touched z es front old len back u gap marker h is =
+    subst (Tells touched n) (sym (chosen es front old at (Some e) low there)) (go (keeps_marker e old.rows at) refl)
+  where
+    n : ℕ
+    n = back - text_length z
+
+    at : ℕ
+    at = len - back
+
+    g : List Item
+    g = f ++ u
+
+    e : EndPlace
+    e = end_at (text_length g) (length (near 0 g)) gap marker
+
+    all : f ++ touched ≡ g ++ (end_item gap marker ∷ [])
+    all = ap (λ (l : List Item). f ++ l) is ∙ sym (append_assoc f u (end_item gap marker ∷ []))
+
+    list : es ≡ ends_near 0 0 g ++ e ∷ h.rest
+    list = h.ends ∙ (ap (λ (l : List Item). ends_near 0 0 l ++ h.rest) all ∙ (ap (λ (l : List EndPlace). l ++ h.rest) (ends_end g gap marker) ∙ append_assoc (ends_near 0 0 g) (e ∷ []) h.rest))
+
+    ends : old.ends ≡ length (ends_near 0 0 g) + 1
+    ends = ap (λ (s : Side). s.ends) h.old_is ∙ (ap (λ (l : List Item). length (ends_near 0 0 l)) all ∙ (ap length (ends_end g gap marker) ∙ length-append (ends_near 0 0 g) (e ∷ [])))
+
+    rows : old.rows ≡ length (near 0 g)
+    rows = ap (λ (s : Side). s.rows) h.old_is ∙ (ap (λ (l : List Item). length (near 0 l)) all ∙ ap length (rows_end g gap marker))
+
+    low : front.ends < old.ends
+    low = omega (arith, ends, ap (λ (s : Side). s.ends) h.front_is, ap length (ends_joined 0 0 f u), length-append (ends_near 0 0 f) (ends_near (0 + text_length f) (0 + length (near 0 f)) u))
+
+    there : slice_get es (old.ends - 1) ≡ Some e
+    there = ap (λ (l : List EndPlace). slice_get l (old.ends - 1)) list ∙ slice_joined (ends_near 0 0 g) h.rest (old.ends - 1) e (omega (arith, ends))
+
+    own : last_marker touched ≡ marker
+    own = ap last_marker is ∙ last_marker_is u (end_item gap marker)
+
+    size : len ≡ ((text_length g + length gap) + length marker) + text_length z
+    size = h.long ∙ omega (arith, ap text_length all, joined_long g (end_item gap marker ∷ []), first_long (end_item gap marker) [], length-append gap marker)
+
+    go : (b : Bool) → keeps_marker e old.rows at ≡ b → Tells touched n (if b then Some e else None)
+    go true t =
+        let a = and_parts (eqb e.rows old.rows && ltb 0 e.marker) (leb at (e.start + e.gap)) t in
+        let some : 0 < length marker = ltb-true 0 (length marker) (and_parts (eqb e.rows old.rows) (ltb 0 e.marker) a.0).1 in
+        let begins : at ≤ text_length g + length gap = leb-true at (text_length g + length gap) a.1 in
+        let within : length marker ≤ n = omega (arith, begins, size, h.last, h.within) in
+        record { front = u; gap = gap; marker = marker; items = is; long = refl; some = some; within = within; kept = rw (own, le-leb (length marker) n within) refl }
+    go false t = ⊎_elim {0, 0, 0}
+        (λ (l : leb (length marker) n ≡ true). rw (own, l) (⊎_elim {0, 0, 0} (λ (some : 0 < length marker). absurd (both some (leb-true (length marker) n l))) (λ (no : length marker ≤ 0). let x : length marker ≡ 0 = omega (arith, no) in x) (cases_lt 0 (length marker))))
+        (λ (l : leb (length marker) n ≡ false). rw (own, l) refl)
+        (cases_Bool (leb (length marker) n))
+      where
+        both : 0 < length marker → length marker ≤ n → ⊥
+        both some within = false≢true (sym t ∙ and_from (eqb e.rows old.rows && ltb 0 e.marker) (leb at (e.start + e.gap)) (and_from (eqb e.rows old.rows) (ltb 0 e.marker) (eq-eqb e.rows old.rows (sym rows)) (lt-ltb 0 (length marker) some)) (le-leb at (text_length g + length gap) (omega (arith, within, some, size, h.last, h.within))))
+
+pub told : (f touched z : List Item) (es : List EndPlace) (front old : Side) (len back : ℕ) → Stretch f touched z es front old len back → Tells touched (back - text_length z) (marked_end es front old (len - back))
+told f touched z es front old len back h = ⊎_elim {0, 0, 0}
+    (λ (e : touched ≡ []). told_none f touched z es front old len back h e)
+    (λ (l : (u : List Item) × (i : Item) × (touched ≡ u ++ (i ∷ []))). by_last l.0 l.1 l.2)
+    (last_of touched)
+  where
+    by_last : (u : List Item) (i : Item) → touched ≡ u ++ (i ∷ []) → Tells touched (back - text_length z) (marked_end es front old (len - back))
+    by_last u (row_item r) is = told_row f touched z es front old len back u r h is
+    by_last u (end_item gap marker) is = told_end f touched z es front old len back u gap marker h is

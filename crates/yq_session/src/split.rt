@@ -1,0 +1,111 @@
+//! The split of a text and of its kept rows, moved to a place in the text.
+ghost use Rattle.std.specs.Prelude.{◌≡◌, ◌<◌, ◌≤◌, ◌^◌, OnOk, length, reverse};
+ghost use Rattle.std.specs.List.{All};
+ghost use Rattle.yq_text.specs.Split.{joined};
+ghost use Rattle.yq_session.specs.Following.{IsPlacedIn};
+ghost use Rattle.yq_session.specs.Sides.{IsSplitAt, LastBefore, FirstFrom, both_sides, first_byte};
+
+use std::alloc::AllocError;
+use yq_rows::{Offsets, Places};
+use yq_text::SplitText;
+
+/// Moves rows that begin at an offset or behind it to the other side of the split.
+fn to_behind(
+    front: &mut Vec<Offsets>,
+    behind: &mut Vec<Offsets>,
+    len: usize,
+    at: usize,
+) -> Result<(), AllocError>
+    requires small { len < 2 ^ 32 }
+    requires within { All (λ o. o.start ≤ len) front.old.items }
+    requires later { All (λ o. o.start ≤ len) behind.old.items }
+    ensures same { both_sides len front.new.items behind.new.items ≡
+        both_sides len front.old.items behind.old.items }
+    ensures later { All (λ o. o.start ≤ len) behind.new.items }
+    ensures ok { OnOk result (LastBefore at front.new.items) }
+{
+    'rows: while front.len() > 0 {
+        let row = front[front.len() - 1];
+        if row.start() < at {
+            return Ok(());
+        }
+        behind.push(row.turned(len))?;
+        let _ = front.pop();
+    }
+    Ok(())
+}
+
+/// Moves rows that begin in front of an offset to the front of the split.
+fn to_front(
+    front: &mut Vec<Offsets>,
+    behind: &mut Vec<Offsets>,
+    len: usize,
+    at: usize,
+) -> Result<(), AllocError>
+    requires small { len < 2 ^ 32 }
+    requires later { All (λ o. o.start ≤ len) behind.old.items }
+    requires last { LastBefore at front.old.items }
+    ensures same { both_sides len front.new.items behind.new.items ≡
+        both_sides len front.old.items behind.old.items }
+    ensures later { All (λ o. o.start ≤ len) behind.new.items }
+    ensures last { LastBefore at front.new.items }
+    ensures ok { OnOk result (FirstFrom at len behind.new.items) }
+{
+    'rows: while behind.len() > 0 {
+        let row = behind[behind.len() - 1].turned(len);
+        if row.start() >= at {
+            return Ok(());
+        }
+        front.push(row)?;
+        let _ = behind.pop();
+    }
+    Ok(())
+}
+
+/// Moves rows so that those that begin in front of an offset of a text of so many bytes stand in front
+/// of the split, and the others behind it.
+fn move_rows(places: &mut Places, len: usize, at: usize) -> Result<(), AllocError>
+    requires small { len < 2 ^ 32 }
+    requires within { All (λ o. o.start ≤ len) places.old.front.items }
+    requires later { All (λ o. o.start ≤ len) places.old.behind.items }
+    ensures same { both_sides len places.new.front.items places.new.behind.items ≡
+        both_sides len places.old.front.items places.old.behind.items }
+    ensures later { All (λ o. o.start ≤ len) places.new.behind.items }
+    ensures ends { places.new.ends.items ≡ places.old.ends.items }
+    ensures ok { OnOk result (IsSplitAt at len places.new) }
+{
+    to_behind(&mut places.front, &mut places.behind, len, at)?;
+    to_front(&mut places.front, &mut places.behind, len, at)
+}
+
+/// Where the first of the rows behind the split begins in a text of so many bytes, or where that ends.
+fn begin_of(behind: &[Offsets], len: usize) -> usize
+    ensures { result ≡ first_byte len (reverse behind.now) }
+{
+    match behind {
+        [.., row] => len.saturating_sub(row.start()),
+        [] => len,
+    }
+}
+
+/// Moves the split of a text and of its rows: behind it stands the first row that begins at an offset or
+/// behind it.
+///
+/// # Errors
+/// Want of memory. The split is then somewhere between, at the same place of the text and of the rows.
+pub(crate) fn move_split(
+    text: &mut SplitText,
+    places: &mut Places,
+    at: usize,
+) -> Result<(), AllocError>
+    requires { IsPlacedIn (joined text.old) places.old }
+    ensures text { joined text.new ≡ joined text.old }
+    ensures placed { IsPlacedIn (joined text.old) places.new }
+    ensures ok { OnOk result (IsSplitAt at (length (joined text.old)) places.new) }
+{
+    let len = text.len();
+    let moved = move_rows(places, len, at);
+    places.split = begin_of(places.behind.as_slice(), len);
+    text.move_split(places.split);
+    moved
+}
