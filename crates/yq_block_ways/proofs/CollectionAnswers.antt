@@ -47,8 +47,14 @@ ended_within : {t front tail rest white comment break behind : List ℕ} → t �
 ended_within {t} {front} {tail} {rest} {white} {comment} {break} {behind} whole parts is =
     omega (
       arith,
-      ap length whole, length-append front (tail ++ rest), length-append tail rest, ap length parts,
-      length-append white (comment ++ break), length-append comment break, ap length is, length-append break rest,
+      ap length whole,
+      length-append front (tail ++ rest),
+      length-append tail rest,
+      ap length parts,
+      length-append white (comment ++ break),
+      length-append comment break,
+      ap length is,
+      length-append break rest,
     )
 
 behind_within : (n : ℕ) (steps : List Step) (c : Cut) (w : MarkPlace) (x : CollectionEnd) → read_at (cut_text c) ≡ Some c → mark_place n steps c ≡ Some w → collection_end n steps c ≡ Some x → length w.behind ≤ length (cut_text c)

@@ -1,20 +1,18 @@
 -- What a change touches, and what is read and exchanged for it.
-use Rattle.std.proofs.Common.{◌≡◌, ⊎_elim, ltb, leb, ◌||◌, cond, Bool, true, false, not, ℕ, ◌+◌, ◌-◌, ◌<◌, ◌≤◌, ◌^◌, List, [], ◌∷◌, ◌++◌, length, reverse, take, drop, take_at, Option, Some, None, refl, sym, ap, ◌∙◌, subst, arith, append_assoc, append-nil, length-append, length-drop, length-take, take_all, ltb-true, if◌then◌else◌}
-use Rattle.std.proofs.lemmas.Bool.{cases_Bool, cases_lt, le-ltb, lt-ltb, or_right}
-use Rattle.std.proofs.lemmas.List.{append_cancel_left, append_cancel_right, length-map, length-reverse, reverse-append, reverse-reverse}
-use Rattle.std.proofs.lemmas.Option.{same_Some}
+use Rattle.std.proofs.Common.{◌≡◌, ⊎_elim, ltb, ◌||◌, true, false, not, ℕ, ◌+◌, ◌-◌, ◌<◌, ◌≤◌, ◌^◌, List, [], ◌∷◌, ◌++◌, length, take, drop, Option, Some, None, refl, sym, ap, ◌∙◌, subst, arith, append_assoc, append-nil, length-append, length-drop, length-take}
+use Rattle.std.proofs.lemmas.Bool.{cases_lt, le-ltb, lt-ltb, or_right}
+use Rattle.std.proofs.lemmas.List.{append_cancel_left, append_cancel_right}
 use Rattle.std.proofs.lemmas.Str.{IsUtf8-nil}
-use Rattle.std.specs.Str.{IsCharBoundary, IsUtf8}
+use Rattle.std.specs.Str.{IsUtf8}
 use Rattle.yq_scalar.specs.Characters.{text_limit}
 use Rattle.yq_rows.specs.Grammar.{IsCut, IsMarkerLine}
-use Rattle.yq_rows.specs.Items.{Item, row_item, end_item, items_of, items_text, rows_items, nothing_asked, asked_of, AreItems}
-use Rattle.yq_rows.specs.Kept.{far, kept_rows, near, ends_near, placed_rows, turned, TextsIn}
+use Rattle.yq_rows.specs.Items.{Item, end_item, items_of, items_text, nothing_asked, asked_of, AreItems}
+use Rattle.yq_rows.specs.Kept.{kept_rows, near, ends_near, TextsIn}
 use Rattle.yq_rows.specs.Meter.{begins_line}
-use Rattle.yq_rows.specs.Regions.{IsReadAlone, StandIn, ended, no_items}
-use Rattle.yq_rows.specs.Rows.{Row, Cut, last, marked, cut_text}
-use Rattle.yq_rows.specs.Touched.{TouchesOnly, in_back, in_front, item_text}
+use Rattle.yq_rows.specs.Regions.{StandIn, ended, no_items}
+use Rattle.yq_rows.specs.Rows.{Cut}
+use Rattle.yq_rows.specs.Touched.{TouchesOnly, in_back, in_front}
 use Rattle.yq_rows.specs.declared.ends.EndPlace.{EndPlace}
-use Rattle.yq_rows.specs.declared.offsets.Offsets as declared
 use Rattle.yq_rows.specs.declared.places.Places.{Places}
 use Rattle.yq_rows.proofs.ItemLaws.{items_joined, items_of_text, parts_are_items}
 use Rattle.yq_rows.proofs.KeptLaws.{items_texts, near_joined}
@@ -29,7 +27,7 @@ use Rattle.yq_session.specs.declared.kept.Kept.{Kept}
 use Rattle.yq_session.specs.declared.sides.Side.{Side}
 use Rattle.yq_session.specs.declared.sides.Touched.{Touched}
 use Rattle.yq_session.proofs.BackLaws.{back_taken}
-use Rattle.yq_session.proofs.BeginLaws.{back_found, first_long, joined_long}
+use Rattle.yq_session.proofs.BeginLaws.{back_found, joined_long}
 use Rattle.yq_session.proofs.CountLaws.{near_count, ends_count, ends_joined}
 use Rattle.yq_session.proofs.EdgeLaws.{Pieces, begin_edge, back_edge, end_edge, region_ends, region_is}
 use Rattle.yq_session.proofs.ExchangeLaws.{kept_count, texts_first, texts_second}
@@ -198,7 +196,7 @@ module _ (t new : List ℕ) (kept : Kept) (p : Places) (x : Touched) (h : Follow
     touched_ends : items_text f [] ++ items_text tch [] ≡ (items_text f [] ++ inner) ++ k.marker
     touched_ends =
         let own : items_text tch [] ≡ inner ++ k.marker = ap (λ (l : List Item). items_text l []) k.items
-            ∙ (text_split k.front (end_item k.gap k.marker ∷ []) ∙ (ap (λ l. items_text k.front [] ++ (k.gap ++ l)) (append-nil k.marker) ∙ sym (append_assoc (items_text k.front []) k.gap k.marker))) in
+        ∙ (text_split k.front (end_item k.gap k.marker ∷ []) ∙ (ap (λ l. items_text k.front [] ++ (k.gap ++ l)) (append-nil k.marker) ∙ sym (append_assoc (items_text k.front []) k.gap k.marker))) in
         ap (λ l. items_text f [] ++ l) own ∙ sym (append_assoc (items_text f []) inner k.marker)
 
     line : IsMarkerLine k.marker (items_text z [])

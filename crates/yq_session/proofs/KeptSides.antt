@@ -1,42 +1,13 @@
 -- How long what a change keeps on either side is.
-use Rattle.std.proofs.Common.{◌≡◌, ⊎_elim, ltb, leb, ◌||◌, cond, Bool, true, false, not, ℕ, ◌+◌, ◌-◌, ◌<◌, ◌≤◌, ◌^◌, List, [], ◌∷◌, ◌++◌, length, reverse, take, drop, take_at, Option, Some, None, refl, sym, ap, ◌∙◌, subst, arith, append_assoc, append-nil, length-append, length-drop, length-take, take_all, ltb-true, if◌then◌else◌}
-use Rattle.std.proofs.lemmas.Bool.{cases_Bool, cases_lt, le-ltb, lt-ltb, or_right}
-use Rattle.std.proofs.lemmas.List.{append_cancel_left, append_cancel_right, length-map, length-reverse, reverse-append, reverse-reverse}
-use Rattle.std.proofs.lemmas.Option.{same_Some}
-use Rattle.std.proofs.lemmas.Str.{IsUtf8-nil}
-use Rattle.std.specs.Str.{IsCharBoundary, IsUtf8}
-use Rattle.yq_scalar.specs.Characters.{text_limit}
-use Rattle.yq_rows.specs.Grammar.{IsCut, IsMarkerLine}
-use Rattle.yq_rows.specs.Items.{Item, row_item, end_item, items_of, items_text, rows_items, nothing_asked, asked_of, AreItems}
-use Rattle.yq_rows.specs.Kept.{far, kept_rows, near, ends_near, placed_rows, turned, TextsIn}
-use Rattle.yq_rows.specs.Meter.{begins_line}
-use Rattle.yq_rows.specs.Regions.{IsReadAlone, StandIn, ended, no_items}
-use Rattle.yq_rows.specs.Rows.{Row, Cut, last, marked, cut_text}
-use Rattle.yq_rows.specs.Touched.{TouchesOnly, in_back, in_front, item_text}
-use Rattle.yq_rows.specs.declared.ends.EndPlace.{EndPlace}
-use Rattle.yq_rows.specs.declared.offsets.Offsets as declared
-use Rattle.yq_rows.specs.declared.places.Places.{Places}
-use Rattle.yq_rows.proofs.ItemLaws.{items_joined, items_of_text, parts_are_items}
-use Rattle.yq_rows.proofs.KeptLaws.{items_texts, near_joined}
-use Rattle.yq_rows.proofs.RegionEnds.{region_end}
-use Rattle.yq_rows.proofs.RegionLaws.{region}
-use Rattle.yq_rows.proofs.ScanLaws.{one_cut}
-use Rattle.yq_session.specs.Exchanging.{Change}
-use Rattle.yq_session.specs.Following.{Follows, exchanged, kept_marker, read_text, without_line}
-use Rattle.yq_session.specs.Reading.{AreEdges, IsRead, IsUnread, read_part, region_text, unread_end}
-use Rattle.yq_session.specs.Sides.{AreAt, IsSplitAt, IsSideBefore, IsSideBehind, marked_end, not_in_back, side_of, text_length}
-use Rattle.yq_session.specs.declared.kept.Kept.{Kept}
-use Rattle.yq_session.specs.declared.sides.Side.{Side}
-use Rattle.yq_session.specs.declared.sides.Touched.{Touched}
-use Rattle.yq_session.proofs.BackLaws.{back_kept}
-use Rattle.yq_session.proofs.BeginLaws.{back_found, first_long, joined_long}
-use Rattle.yq_session.proofs.CountLaws.{near_count, ends_count, ends_joined}
-use Rattle.yq_session.proofs.EdgeLaws.{Pieces, begin_edge, back_edge, end_edge, region_ends, region_is}
-use Rattle.yq_session.proofs.ExchangeLaws.{kept_count, texts_first, texts_second}
-use Rattle.yq_session.proofs.ItemPlaces.{cut_long, cut_places, text_split}
-use Rattle.yq_session.proofs.MarkedLaws.{KeepsEnd, Tells, told}
-use Rattle.yq_session.proofs.MarkerLaws.{marker_stays, marker_there}
-use Rattle.yq_session.proofs.SideLaws.{front_taken}
+use Rattle.std.proofs.Common.{◌≡◌, ⊎_elim, ltb, cond, Bool, true, false, ℕ, ◌+◌, ◌-◌, ◌<◌, ◌≤◌, List, [], ◌∷◌, ◌++◌, length, refl, sym, ap, ◌∙◌, arith, append_assoc, length-append, ltb-true}
+use Rattle.std.proofs.lemmas.Bool.{cases_lt, lt-ltb}
+use Rattle.yq_rows.specs.Items.{Item, row_item, end_item, items_of, rows_items}
+use Rattle.yq_rows.specs.Kept.{near, ends_near}
+use Rattle.yq_rows.specs.Regions.{no_items}
+use Rattle.yq_rows.specs.Rows.{Row, Cut, last, marked}
+use Rattle.yq_rows.specs.Touched.{in_back, in_front, item_text}
+use Rattle.yq_session.specs.Sides.{text_length}
+use Rattle.yq_session.proofs.BeginLaws.{first_long}
 
 -- a cut has items, and not all of them are in front of an offset within its text
 pub all_in_front : (xs : List Item) (n : ℕ) → in_front n xs ≡ xs → no_items xs ≡ false → text_length xs < n
@@ -110,4 +81,3 @@ last_long n f u z i is = ⊎_elim {0, 0, 0}
     absurd (omega (arith, ap length all, length-append m.0 (i ∷ z))))
     (λ (more : n ≤ text_length (i ∷ z)). omega (arith, more, first_long i z))
     (cases_lt (text_length (i ∷ z)) n)
-

@@ -1,5 +1,5 @@
 -- The line of a marker that begins a line is a marker in every cut.
-use Rattle.std.proofs.Common.{◌≡◌, ◌⊎◌, inl, inr, ⊎_elim, ℕ, suc, ◌+◌, ◌-◌, ◌<◌, ◌≤◌, Bool, true, false, List, [], ◌∷◌, ◌++◌, length, drop, refl, sym, ap, ◌∙◌, subst, arith, append_assoc, append-nil, length-append}
+use Rattle.std.proofs.Common.{◌≡◌, ⊎_elim, ℕ, ◌<◌, ◌≤◌, Bool, true, false, List, [], ◌∷◌, ◌++◌, length, drop, refl, sym, ap, ◌∙◌, subst, arith, append_assoc, append-nil, length-append}
 use Rattle.std.proofs.lemmas.Bool.{cases_lt, false≢true}
 use Rattle.std.proofs.lemmas.List.{append_cancel_right, nil_from_length}
 use Rattle.yq_scalar.specs.Text.{front, is_feed, is_marker}
@@ -14,7 +14,7 @@ use Rattle.yq_rows.specs.Touched.{item_text}
 use Rattle.yq_rows.proofs.ItemLaws.{items_joined}
 use Rattle.yq_rows.proofs.KeptLaws.{print_then}
 use Rattle.yq_session.proofs.ItemPlaces.{text_split}
-use Rattle.yq_session.proofs.LineLaws.{Unmarked, Upto, upto_line, upto_none}
+use Rattle.yq_session.proofs.LineLaws.{Unmarked, Upto, upto_none}
 use Rattle.yq_session.proofs.MarkedLaws.{last_of}
 use Rattle.yq_session.proofs.RowLines.{gap_lines, marker_lines, row_lines}
 

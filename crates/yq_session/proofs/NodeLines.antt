@@ -1,14 +1,14 @@
 -- No line begins with a document marker inside a node.
-use Rattle.std.proofs.Common.{◌≡◌, ◌⊎◌, ⊎_elim, if◌then◌else◌, ℕ, zero, suc, Bool, true, false, not, ◌&&◌, ◌||◌, eqb, List, [], ◌∷◌, ◌++◌, Option, refl, sym, ap, ◌∙◌, subst, append_assoc, eqb-true}
-use Rattle.std.proofs.lemmas.Bool.{cases_Bool, false≢true, not-false, not-true, or_cases}
-use Rattle.yq_scalar.specs.Plain.{IsPlain, is_flow_indicator}
+use Rattle.std.proofs.Common.{◌≡◌, ◌⊎◌, ⊎_elim, if◌then◌else◌, ℕ, zero, suc, Bool, true, false, ◌&&◌, ◌||◌, eqb, List, [], ◌∷◌, ◌++◌, Option, refl, sym, ap, ◌∙◌, subst, append_assoc, eqb-true}
+use Rattle.std.proofs.lemmas.Bool.{cases_Bool, false≢true, not-false, or_cases}
+use Rattle.yq_scalar.specs.Plain.{IsPlain}
 use Rattle.yq_scalar.specs.Quoted.{Lines, IsQuoted, spell_lines}
-use Rattle.yq_scalar.specs.Text.{is_feed, is_marker, is_return, is_space, is_white, no_white, unless, NoneIn}
+use Rattle.yq_scalar.specs.Text.{is_feed, is_marker, is_space, is_white, no_white, unless, NoneIn}
 use Rattle.yq_inline.specs.declared.gap.Before.{Before}
 use Rattle.yq_inline.specs.declared.gap.Before.TheVariants.{Token, White, Break, Comment}
 use Rattle.yq_inline.specs.Gaps.{goes, next, behind, is_break, is_comment, AllGo, IsGap}
-use Rattle.yq_inline.specs.Nodes.{Node, empty, alias, scalar, coll, anchored, Items, none, item, Key, bare, keyed, Sep, last, comma, key_text, sep_text, node_text, items_text, open_of, is_close, in_name, begins_node, begins_content, IsName, IsApart, IsLead, IsKey, IsSep, Deeper, IsNode, AreItems}
-use Rattle.yq_inline.specs.Scalars.{IsInQuotes, IsScalar}
+use Rattle.yq_inline.specs.Nodes.{Node, empty, alias, scalar, coll, anchored, Items, none, item, Key, bare, keyed, Sep, last, comma, key_text, sep_text, node_text, items_text, open_of, is_close, in_name, begins_node, begins_content, IsApart, IsLead, IsKey, IsSep, IsNode, AreItems}
+use Rattle.yq_inline.specs.Scalars.{IsScalar}
 use Rattle.yq_session.proofs.LineLaws.{NoFeed, Upto, no_marker_byte, plain_lines, quoted_lines, space_no_marker, upto_byte, upto_line, upto_more, upto_piece}
 
 -- a byte is one of two
@@ -110,6 +110,7 @@ sep_lines k (comma b g) t rest h u = gap_lines b (44 ∷ (g ++ t)) rest h.0 (upt
 
 mutual
   unfolding IsNode AreItems node_text items_text
+
   pub node_lines : (flow : Bool) (spaces : Option ℕ) (d : ℕ) (node : Node) (t rest : List ℕ) → IsNode flow spaces d node t → Upto false t rest → Upto false (node_text node t) rest
   node_lines flow spaces d empty t rest h u = u
   node_lines flow spaces d (alias n) t rest h u = upto_byte 42 (n ++ t) rest refl (upto_piece n t rest (name_no_feed n t h.inside) u)

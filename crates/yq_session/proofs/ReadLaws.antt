@@ -1,5 +1,5 @@
 -- What is read of a region, and the places that come of it.
-use Rattle.std.proofs.Common.{◌≡◌, ℕ, ◌+◌, ◌-◌, ◌<◌, ◌≤◌, ◌^◌, Bool, true, false, not, List, [], ◌∷◌, ◌++◌, length, map, take, drop, drop_at, get_or, slice_set, suc, Option, Some, None, IfSome, if◌then◌else◌, ⊎_elim, take_all, refl, sym, ap, ◌∙◌, subst, arith, append-nil, append_assoc, length-append, length-take}
+use Rattle.std.proofs.Common.{◌≡◌, ℕ, ◌+◌, ◌-◌, ◌<◌, ◌≤◌, Bool, true, false, not, List, [], ◌∷◌, ◌++◌, length, map, take, drop, drop_at, get_or, slice_set, suc, Option, Some, None, IfSome, if◌then◌else◌, ⊎_elim, take_all, refl, sym, ap, ◌∙◌, subst, arith, append-nil, append_assoc, length-append, length-take}
 use Rattle.std.proofs.lemmas.Bool.{cases_Bool}
 use Rattle.std.proofs.lemmas.Option.{same_Some}
 use Rattle.std.proofs.lemmas.List.{drop_all, drop_more, set_split, take_at}
@@ -11,21 +11,19 @@ use Rattle.yq_scalar.specs.declared.fault.ReadError.TheVariants as reading
 use Rattle.yq_scalar.specs.declared.fault.ReadFault.{ReadFault}
 use Rattle.yq_rows.specs.Ends.{end_at}
 use Rattle.yq_rows.specs.Items.{Item, end_item, items_of, items_text, rows_items, shown_items}
-use Rattle.yq_rows.specs.Kept.{IsPlaced, near, ends_near, placed_rows, TextsIn}
+use Rattle.yq_rows.specs.Kept.{IsPlaced, near, ends_near, TextsIn}
 use Rattle.yq_rows.specs.Meter.{begins_line}
 use Rattle.yq_rows.specs.Regions.{IsReadAlone, alone, ended, no_items}
 use Rattle.yq_rows.specs.Rows.{Row, Cut, last, marked, print_row}
 use Rattle.yq_rows.specs.View.{Shown}
 use Rattle.yq_rows.specs.declared.ends.EndPlace.{EndPlace}
 use Rattle.yq_rows.specs.declared.places.Places.{Places}
-use Rattle.yq_rows.proofs.ItemLaws.{items_text-append}
-use Rattle.yq_rows.proofs.KeptLaws.{items_apart, near_joined, texts_joined}
+use Rattle.yq_rows.proofs.KeptLaws.{texts_joined}
 use Rattle.yq_session.specs.Following.{without_line}
-use Rattle.yq_session.specs.Reading.{ArePlacesRead, Comes, IsRead, IsUnread, marked_as, read_part, settled, unread_end, without_marker}
-use Rattle.yq_session.specs.Sides.{AreAt, both_sides, text_length}
+use Rattle.yq_session.specs.Reading.{ArePlacesRead, IsRead, IsUnread, marked_as, read_part, settled, unread_end, without_marker}
+use Rattle.yq_session.specs.Sides.{both_sides, text_length}
 use Rattle.yq_session.specs.declared.reading.Come.{Come}
 use Rattle.yq_session.specs.declared.sides.Touched.{Touched}
-use Rattle.yq_session.proofs.BeginLaws.{joined_long}
 use Rattle.yq_session.proofs.CountLaws.{ends_joined}
 use Rattle.yq_session.proofs.ExchangeLaws.{alone_are, texts_first, texts_second}
 use Rattle.yq_session.proofs.ItemPlaces.{places_are, text_split}

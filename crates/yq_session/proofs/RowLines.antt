@@ -1,5 +1,5 @@
 -- No line begins with a document marker inside a row.
-use Rattle.std.proofs.Common.{◌≡◌, ◌⊎◌, inl, inr, ⊎_elim, ℕ, zero, suc, ◌+◌, ◌-◌, ◌<◌, ◌≤◌, ℤ, pos, Bool, true, false, not, ◌&&◌, ◌||◌, eqb, leb, List, [], ◌∷◌, ◌++◌, length, drop, Option, Some, None, refl, sym, ap, ◌∙◌, subst, arith, append_assoc, eqb-true, replicate}
+use Rattle.std.proofs.Common.{◌≡◌, ◌⊎◌, ⊎_elim, ℕ, zero, suc, ◌+◌, ◌≤◌, true, false, not, ◌&&◌, ◌||◌, eqb, leb, List, [], ◌∷◌, ◌++◌, length, drop, Option, Some, None, refl, sym, ap, ◌∙◌, subst, arith, append_assoc, eqb-true, replicate}
 use Rattle.std.proofs.lemmas.Bool.{and_from, and_parts, cases_Bool, false≢true, leb-true, ne_eqb, or_cases, or_right}
 use Rattle.yq_scalar.specs.Block.{BlockText, IsBlock, IsDetected, IsDigit, IsIndicators, IsRawLine, IsTextIndent, AreRaw, block_text, digit_text, is_empty_line, is_text_line, mark_of, sign_text}
 use Rattle.yq_scalar.specs.declared.block_header.BlockStyle.{BlockStyle}
@@ -11,12 +11,12 @@ use Rattle.yq_scalar.specs.Lines.{behind_spaces, spaces}
 use Rattle.yq_scalar.specs.Piece.{deeper}
 use Rattle.yq_scalar.specs.Text.{ends_line, front, is_break, is_empty, is_feed, is_line, is_marker, is_return, is_space, is_white, joined, NoneIn}
 use Rattle.yq_inline.specs.Nodes.{node_text}
-use Rattle.yq_rows.specs.Gap.{AreGapLines, IsBreak, IsComment, IsGap, IsGapLine, IsLineEnd, IsWhite}
-use Rattle.yq_rows.specs.Grammar.{AreDashes, IsAnchor, IsColon, IsContent, IsKey, IsMark, IsMarkerLine, IsRow, IsTail, Limit, may_be_alone}
+use Rattle.yq_rows.specs.Gap.{AreGapLines, IsBreak, IsComment, IsGap, IsLineEnd, IsWhite}
+use Rattle.yq_rows.specs.Grammar.{IsAnchor, IsContent, IsMark, IsMarkerLine, IsRow, IsTail, Limit, may_be_alone}
 use Rattle.yq_rows.specs.Rows.{Anchor, Bare, Content, Dash, Inline, Key, Mark, Nothing, Row, anchor_text, behind_gap, behind_indent, content_text, dashes_text, mark_column, mark_text, parent_indent, parent_of, print_row}
 use Rattle.yq_rows.specs.Rows as rows
 use Rattle.yq_rows.proofs.seams.MarkerSeams.{marker_byte}
-use Rattle.yq_session.proofs.LineLaws.{NoFeed, Upto, line_lines, no_marker_byte, space_no_marker, upto_byte, upto_inside, upto_line, upto_more, upto_none, upto_piece}
+use Rattle.yq_session.proofs.LineLaws.{NoFeed, Upto, line_lines, no_marker_byte, space_no_marker, upto_byte, upto_inside, upto_line, upto_none, upto_piece}
 use Rattle.yq_session.proofs.NodeLines.{name_no_feed, node_lines, scalar_lines, two_bytes}
 
 -- ---- ends of lines
