@@ -5,8 +5,8 @@ use Rattle.yq_tree.specs.PrintedLines.{last_break, less_break}
 use Rattle.yq_block_ways.proofs.CollectionAnswers.{rest_cuts}
 use Rattle.yq_block_ways.proofs.collection_replacing.lines_upto.Goals as goal
 
-pub text_len-2-requires : goal.text_len-2-requires
-text_len-2-requires c = omega (arith, c.requires.size, ap length c.requires.ends.1, length-append c.requires.ends.0 (whole c.args.rest))
+pub text_len-requires-2 : goal.text_len-requires-2
+text_len-requires-2 c = omega (arith, c.requires.size, ap length c.requires.ends.1, length-append c.requires.ends.0 (whole c.args.rest))
 
 pub split_at-requires : goal.split_at-requires
 split_at-requires c =
