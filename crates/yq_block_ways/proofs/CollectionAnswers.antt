@@ -43,8 +43,8 @@ rest_cuts t rest h u =
 pub texts_joined : (t u : List ℕ) → IsUtf8 t → IsUtf8 u → IsUtf8 (t ++ u)
 texts_joined = IsUtf8-append
 
-ended_within : {t front tail rest white comment break behind : List ℕ} → t ≡ front ++ (tail ++ rest) → tail ≡ white ++ (comment ++ break) → behind ≡ break ++ rest → length behind ≤ length t
-ended_within {t} {front} {tail} {rest} {white} {comment} {break} {behind} whole parts is =
+ended_within : (t front tail rest white comment break behind : List ℕ) → t ≡ front ++ (tail ++ rest) → tail ≡ white ++ (comment ++ break) → behind ≡ break ++ rest → length behind ≤ length t
+ended_within t front tail rest white comment break behind whole parts is =
     omega (
       arith,
       ap length whole,
@@ -60,7 +60,7 @@ ended_within {t} {front} {tail} {rest} {white} {comment} {break} {behind} whole 
 behind_within : (n : ℕ) (steps : List Step) (c : Cut) (w : MarkPlace) (x : CollectionEnd) → read_at (cut_text c) ≡ Some c → mark_place n steps c ≡ Some w → collection_end n steps c ≡ Some x → length w.behind ≤ length (cut_text c)
 behind_within n [] c w x read at ends = absurd (no_mark n c w at)
 behind_within n (s ∷ ss) c w x read at ends =
-    ended_within (whole_text n s ss c w x read at ends) (tail n s ss c w x read at ends).line.spelled (ap (λ (q : MarkPlace). q.behind) (sym (there_is n s ss c w x read at ends)))
+    ended_within _ _ _ _ _ _ _ _ (whole_text n s ss c w x read at ends) (tail n s ss c w x read at ends).line.spelled (ap (λ (q : MarkPlace). q.behind) (sym (there_is n s ss c w x read at ends)))
 
 -- where the code finds both
 pub ends_there : (t : List ℕ) (n : ℕ) (steps : List Step) (w : MarkPlace) (x : CollectionEnd) → IsUtf8 t → IsCut t (cut_of t) → all_documents (cut_of t) ≡ true → Some w ≡ mark_place n steps (cut_of t) → Some x ≡ collection_end n steps (cut_of t) →

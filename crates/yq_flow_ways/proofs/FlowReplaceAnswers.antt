@@ -124,6 +124,9 @@ module _ (c : Cut) (doc : ℕ) (path init : List Step) (s : Step) (x : FlowHead)
   way_there : (y : EntryPieces) → item_at own.close s own.items own.rest ≡ Some y → flow_replace_way (replace doc path v) c ≡ Some (made (entry_more told.behind y))
   way_there y at = way_is ∙ ap (λ (z : Option EntryPieces). option_map made (option_map (entry_more told.behind) z)) at
 
+  way_kept : (y : EntryPieces) → item_at own.close s own.items own.rest ≡ Some y → is_kept (node_in doc path c) v ≡ true → flow_replace_way (replace doc path v) c ≡ Some (keep t ∷ [])
+  way_kept y at kept = way_there y at ∙ ap (λ (k : Bool). Some (replaced_by k v c s w (entry_more told.behind y))) kept
+
 -- ---- the answers
 
 -- The place that the code finds of a content in a row, behind so many bytes, is that of the segments that put a value there.
@@ -136,6 +139,7 @@ pub record ContentFound (t row : List ℕ) (c : Cut) (doc : ℕ) (path : List St
   pub is : is_kept (node_in doc path c) v ≡ false → flow_replace_way (replace doc path v) c ≡ Some (edit_segments t (moved_on n p) (value_text (drop p.start (take p.end row)) v))
 
 content_at : (c : Cut) (doc : ℕ) (path init : List Step) (s : Step) (x : FlowHead) (q : Placed) (p : PlacedEntry) (v : tree.Node) → Finds (cut_text c) c doc path init s x q (Some p) → ContentFound (cut_text c) x.text.now c doc path v x.before (replace_place p.1)
+unfolding there_is
 content_at c doc path init s x q p v f =
     let t : List ℕ = cut_text c in
     let row : List ℕ = x.text.now in
@@ -187,7 +191,7 @@ content_kept t doc path init s x q p v f =
     let c : Cut = cut_of t in
     subst (λ (u : List ℕ). Finds u c doc path init s x q (Some p) → is_kept (node_in doc path c) v ≡ true → flow_replace_way (replace doc path v) c ≡ Some (keep u ∷ [])) (text_read t c f.found.read) (λ f kept.
     let h = entry_there c doc path init s x q (Some p) v f p refl in
-    way_there c doc path init s x q (Some p) v f h.0 h.1 ∙ ap (λ (k : Bool). Some (replaced_by k v c s _ _)) kept) f
+    way_kept c doc path init s x q (Some p) v f h.0 h.1 kept) f
 
 pub content_missing : (t : List ℕ) (doc : ℕ) (path init : List Step) (s : Step) (x : FlowHead) (q : Placed) (v : tree.Node) → Finds t (cut_of t) doc path init s x q None → flow_replace_way (replace doc path v) (cut_of t) ≡ None
 content_missing t doc path init s x q v f =

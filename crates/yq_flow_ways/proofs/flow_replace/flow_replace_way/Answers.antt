@@ -1,4 +1,4 @@
-use Rattle.std.proofs.Common.{◌∙◌, ℕ, ◌+◌, ◌<◌, ◌^◌, List, [], ◌∷◌, length, map, Option, Some, None, sym, ap, subst}
+use Rattle.std.proofs.Common.{◌∙◌, ℕ, ◌+◌, ◌<◌, ◌^◌, List, [], ◌∷◌, length, map, take, drop, Option, Some, None, sym, ap, subst}
 use Rattle.std.specs.Str.{IsCharBoundary}
 use Rattle.yq_text.specs.Halves.{whole}
 use Rattle.yq_scalar.specs.Paths.{Step}
@@ -205,5 +205,6 @@ returns c =
     let h = content_told t doc path init s x q entry v (edit_view c.replace_place-place.result) finds c.replace_place-place.ensures in
     let written = c.in_ok-new.ensures ∙ ap (λ (l : List ℕ). value_text l v) c.bytes_at.ensures in
     let place : PlacedEdit = moved_on x.before (edit_view c.replace_place-place.result) in
-    let segments = ap (λ (l : List ℕ). Some (edit_segments l place _)) (sym c.text-text.ensures.text) ∙ ap (λ (l : List ℕ). Some (edit_segments (whole c.text-text.result) place l)) (sym written) in
+    let old : List ℕ = drop c.replace_place-place.result.start (take c.replace_place-place.result.end x.text.now) in
+    let segments = ap (λ (l : List ℕ). Some (edit_segments l place (value_text old v))) (sym c.text-text.ensures.text) ∙ ap (λ (l : List ℕ). Some (edit_segments (whole c.text-text.result) place l)) (sym written) in
     rw c.in-Replace.is (subst (Carries c.edit_at.result) (sym (h.is (sym c.in_ok-stays.ensures ∙ c.if-stays.false) ∙ segments)) c.edit_at.ensures)
