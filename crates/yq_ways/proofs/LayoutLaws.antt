@@ -1,6 +1,7 @@
 -- The steps of a document's layout.
 use Rattle.std.proofs.Common.{◌≡◌, ℕ, ◌+◌, ◌*◌, ◌-◌, ◌<◌, ◌≤◌, ◌&&◌, Bool, true, false, cond, List, [], ◌∷◌, ◌++◌, replicate, Option, Some, None, refl, sym, ap, ◌∙◌, arith}
 use Rattle.std.proofs.lemmas.Bool.{false≢true, ltb-true, and_parts}
+use Rattle.std.specs.Option.{is_none}
 use Rattle.std.specs.Prelude.{nat_lt}
 use Rattle.std.specs.List.{slice_get}
 use Rattle.yq_scalar.specs.BlockWritten.{break_text}
@@ -13,7 +14,6 @@ use Rattle.yq_documents.specs.Documents.{document_parts}
 use Rattle.yq_documents.specs.Lines.{lines_of}
 use Rattle.yq_tree.specs.Steps.{is_key, is_kind, begins_under, first_step, steps_of_part}
 use Rattle.yq_block.specs.Alone.{alone}
-use Rattle.yq_block.specs.BlockReading.{is_none}
 use Rattle.yq_block.specs.BlockRows.{column_below, inline_of}
 use Rattle.yq_block.specs.BlockText.{block_entry, block_node, block_value, inline_or}
 use Rattle.yq_block.specs.declared.layout.Layout.{Layout}
@@ -60,21 +60,21 @@ mapping_least n c = steps_least (slice_get (document_parts c) n)
 
 -- ---- what is written of a value that asks for no steps
 
-inline_entry : (l k : Layout) (column : ℕ) (key : Option (List ℕ)) (node : inline.Node) (t u : List ℕ) → block_entry l column key (Some node) t ≡ block_entry k column key (Some node) u
-inline_entry l k column None node t u = refl
-inline_entry l k column (Some j) node t u = refl
+inline_entry : (l k : Layout) (m n : ℕ) (key : Option (List ℕ)) (node : inline.Node) (t u : List ℕ) → block_entry l m key (Some node) t ≡ block_entry k n key (Some node) u
+inline_entry l k m n None node t u = refl
+inline_entry l k m n (Some j) node t u = refl
 
 -- an item or entry
 inline_alone : (l k : Layout) (column : ℕ) (key : Option (List ℕ)) (v : Node) (node : inline.Node) → inline_of v ≡ Some node → block_value l column (alone key v) ≡ block_value k column (alone key v)
 unfolding block_node
 inline_alone l k column key v node is = go key
   where
-    by : (m : Layout) (j : Option (List ℕ)) → block_entry m column j (inline_of v) (block_node m (column_below m column j v) v) ≡ block_entry m column j (Some node) (block_node m (column_below m column j v) v)
-    by m j = ap (λ (o : Option inline.Node). block_entry m column j o (block_node m (column_below m column j v) v)) is
+    by : (m : Layout) (j : Option (List ℕ)) → block_entry m (column_below m column j v) j (inline_of v) (block_node m (column_below m column j v) v) ≡ block_entry m (column_below m column j v) j (Some node) (block_node m (column_below m column j v) v)
+    by m j = ap (λ (o : Option inline.Node). block_entry m (column_below m column j v) j o (block_node m (column_below m column j v) v)) is
 
     go : (j : Option (List ℕ)) → block_value l column (alone j v) ≡ block_value k column (alone j v)
-    go None = ap (λ t. t ++ []) (by l None ∙ (inline_entry l k column None node _ _ ∙ sym (by k None)))
-    go (Some j) = ap (λ t. t ++ []) (by l (Some j) ∙ (inline_entry l k column (Some j) node _ _ ∙ sym (by k (Some j))))
+    go None = ap (λ t. t ++ []) (by l None ∙ (inline_entry l k (column_below l column None v) (column_below k column None v) None node (block_node l (column_below l column None v) v) (block_node k (column_below k column None v) v) ∙ sym (by k None)))
+    go (Some j) = ap (λ t. t ++ []) (by l (Some j) ∙ (inline_entry l k (column_below l column (Some j) v) (column_below k column (Some j) v) (Some j) node (block_node l (column_below l column (Some j) v) v) (block_node k (column_below k column (Some j) v) v) ∙ sym (by k (Some j))))
 
 entry_like : (v : Node) (l k : Layout) (column : ℕ) (key : Option (List ℕ)) → LooksLike v l k → entry_lines l column key v ≡ entry_lines k column key v
 entry_like v l k column key h = go (inline_of v) refl

@@ -62,7 +62,6 @@ fn entry_text(
 
 /// An operation that appends carried out: the item or entry stands on lines of its own behind the
 /// last line of a block collection.
-#[tactic(auto, using(crate::proofs::LayoutLaws::append_like))]
 pub fn append_way<'d>(
     alloc: Global,
     cut: &CutText<'_, 'd>,
