@@ -1,9 +1,5 @@
-use Rattle.std.proofs.Common.{rules, ℕ, List, sym, ap, ◌∙◌, subst}
+use Rattle.std.proofs.Common.{rules, sym, subst}
 use Rattle.yq_inline.specs.Values as values
-use Rattle.yq_documents.specs.Located.{steps_of}
-use Rattle.yq_documents.specs.Reading.{cut_of}
-use Rattle.yq_tree.specs.NodesAt.{node_in}
-use Rattle.yq_ways.specs.Replacing.{is_kept}
 use Rattle.yq_root_ways.specs.RootWriting.{root_way}
 use Rattle.yq_ways.specs.WayAnswers.{Carries}
 use Rattle.yq_root_ways.proofs.RootAnswers.{no_place, collection_there, nothing_there}
