@@ -1,6 +1,7 @@
 -- The way to replace a block collection under a key or dash: by what is written inline behind that, or by lines under it (YAML 1.2.2, 8.2; own).
-use Rattle.std.specs.Prelude.{◌≡◌, ℕ, List, [], ◌∷◌, ◌++◌, Option, Some, None, option_map, false, if◌then◌else◌}
+use Rattle.std.specs.Prelude.{◌≡◌, ℕ, ◌≤◌, List, [], ◌∷◌, ◌++◌, length, Option, Some, None, option_map, false, if◌then◌else◌}
 use Rattle.yq_scalar.specs.Answers.{◌>>=◌}
+use Rattle.yq_scalar.specs.Characters.{text_limit}
 use Rattle.yq_scalar.specs.Paths.{Step}
 use Rattle.yq_scalar.specs.Tree.{Node}
 use Rattle.yq_rows.specs.Rows.{Cut}
@@ -26,6 +27,11 @@ pub record LinesUnder : Type 0 where
 -- a text ends in a rest
 abbrev pub EndsIn : List ℕ → List ℕ → Type 0
 EndsIn t rest = (own : List ℕ) × (t ≡ own ++ rest)
+
+-- A text that is no longer than a text may be ends in a rest.
+pub record HasEnd (t rest : List ℕ) : Type 0 where
+  pub ends : EndsIn t rest
+  pub size : length t ≤ text_limit
 
 -- the lines from the end of the line of a key or dash to the end of a collection
 abbrev pub lines_upto : MarkPlace → CollectionEnd → LinesUnder

@@ -1,5 +1,6 @@
 //! The way to replace a block collection under a key or dash.
-ghost use Rattle.std.specs.Prelude.{◌≡◌, ◌∷◌, ℕ, List, IfOk, Some, option_map, string_bytes};
+ghost use Rattle.std.specs.Prelude.{◌≡◌, ◌<◌, ◌^◌, length, ◌∷◌, ℕ, List, IfOk, Some, option_map, string_bytes};
+ghost use Rattle.std.specs.Str.{IsUtf8};
 ghost use Rattle.yq_text.specs.Halves.{whole};
 ghost use Rattle.yq_inline.specs.Values as values;
 ghost use Rattle.yq_tree.specs.CollectionTelling.{collection_told};
@@ -22,15 +23,25 @@ use yq_meaning::Op;
 use yq_script::{Segment, Segments};
 use yq_text::Halves;
 use yq_tree::{CollectionEnd, CutText, MarkPlace, Path, split_break};
-use yq_ways::{inline_written, layout_of};
+use yq_ways::{inline_written, layout_for};
+
+/// How long a text is, in bytes; they are characters.
+#[tactic(auto, using(crate::proofs::CollectionAnswers::texts_joined))]
+fn text_len(text: Halves<'_>) -> usize
+    requires { length (whole text) < 2 ^ 64 }
+    ensures len { result ≡ length (whole text.entry) }
+    ensures text { IsUtf8 (whole text.entry) }
+{
+    text.front.as_bytes().len() + text.back.as_bytes().len()
+}
 
 /// A text up to the rest in which it ends, less its last break, and that break.
 pub(crate) fn lines_upto<'d>(text: Halves<'d>, rest: Halves<'_>) -> (Halves<'d>, Halves<'d>)
-    requires { spec.EndsIn (whole text) (whole rest) }
+    requires { spec.HasEnd (whole text) (whole rest) }
     ensures gone { whole result.0 ≡ lines.less_break (text_before (whole text.entry) (whole rest.entry)) }
     ensures last { whole result.1 ≡ lines.last_break (text_before (whole text.entry) (whole rest.entry)) }
 {
-    let (own, _) = text.split_at(text.len() - rest.len());
+    let (own, _) = text.split_at(text_len(text) - text_len(rest));
     split_break(own)
 }
 
@@ -67,7 +78,7 @@ fn written_there(
 
 /// The key or dash of the entry or item at a path, and the end of the block collection under it.
 fn lines_under<'d>(cut: &CutText<'_, 'd>, path: &Path) -> Option<(MarkPlace<'d>, CollectionEnd<'d>)>
-    ensures ends { (w : MarkPlaceOf) (x : CollectionEndOf) → result ≡ Some (w, x) → spec.EndsIn (whole w.behind) (whole x.behind) }
+    ensures ends { (w : MarkPlaceOf) (x : CollectionEndOf) → result ≡ Some (w, x) → spec.HasEnd (whole w.behind) (whole x.behind) }
     ensures place { option_map (λ p. spec.lines_upto (mark_told p.0) (collection_told p.1)) result ≡ spec.lines_under path.now.doc (steps_of path.now) (cut_of cut.now) }
 {
     let _whole = cut.whole();
@@ -84,7 +95,7 @@ fn exchange_under<'d>(
     beside: String,
     below: String,
 ) -> Result<Option<Segments<'d>>, AllocError>
-    requires { spec.EndsIn (whole mark.now.behind) (whole end.now.behind) }
+    requires { spec.HasEnd (whole mark.now.behind) (whole end.now.behind) }
     ensures { Carries result (Some (spec.exchange_segments (spec.lines_upto (mark_told mark.now) (collection_told end.now)) (spec.written_of (string_bytes beside) (string_bytes below)))) }
 {
     let (gone, last) = lines_upto(mark.behind, end.behind);
@@ -102,6 +113,7 @@ fn exchange_under<'d>(
 }
 
 /// A value put in the place of the block collection at a path.
+#[tactic(auto, using(crate::proofs::CollectionAnswers::written_like))]
 fn exchange_collection<'d>(
     alloc: Global,
     cut: &CutText<'_, 'd>,
@@ -113,7 +125,7 @@ fn exchange_collection<'d>(
     let Some((mark, end)) = lines_under(cut, path) else {
         return Ok(None);
     };
-    let layout = layout_of(cut, path.doc);
+    let layout = layout_for(cut, path.doc, value);
     let Some((beside, below)) = written_there(alloc, &layout, &mark, value)? else {
         return Ok(None);
     };

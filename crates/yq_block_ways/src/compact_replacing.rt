@@ -9,7 +9,7 @@ ghost use Rattle.yq_documents.specs.Reading.{cut_of};
 ghost use Rattle.yq_tree.specs.declared.places.collection_end.CollectionEnd.{CollectionEnd as CollectionEndOf};
 ghost use Rattle.yq_tree.specs.declared.places.dash_place.DashPlace.{DashPlace as DashPlaceOf};
 ghost use Rattle.yq_meaning.specs.Operations.{operation_of};
-ghost use Rattle.yq_block_ways.specs.CollectionReplacing.{EndsIn};
+ghost use Rattle.yq_block_ways.specs.CollectionReplacing.{HasEnd};
 ghost use Rattle.yq_block_ways.specs.CompactReplacing as spec;
 ghost use Rattle.yq_ways.specs.WayAnswers.{Carries};
 
@@ -21,7 +21,7 @@ use yq_inline::Value;
 use yq_meaning::Op;
 use yq_script::{Segment, Segments};
 use yq_tree::{CollectionEnd, CutText, DashPlace, Path};
-use yq_ways::{inline_written, layout_of};
+use yq_ways::{inline_written, layout_for};
 
 /// What is written of a collection with items or entries behind a dash, or on lines under it.
 fn filled_behind(
@@ -63,7 +63,7 @@ fn compact_place<'d>(
     cut: &CutText<'_, 'd>,
     path: &Path,
 ) -> Option<(DashPlace<'d>, CollectionEnd<'d>)>
-    ensures ends { (d : DashPlaceOf) (x : CollectionEndOf) → result ≡ Some (d, x) → EndsIn (whole d.behind) (whole x.behind) }
+    ensures ends { (d : DashPlaceOf) (x : CollectionEndOf) → result ≡ Some (d, x) → HasEnd (whole d.behind) (whole x.behind) }
     ensures place { option_map (λ p. spec.compact_upto (dash_told p.0)
         (collection_told p.1)) result ≡
         spec.compact_place path.now.doc (steps_of path.now) (cut_of cut.now) }
@@ -81,7 +81,7 @@ fn exchange_behind<'d>(
     end: &CollectionEnd<'d>,
     text: String,
 ) -> Result<Option<Segments<'d>>, AllocError>
-    requires { EndsIn (whole dash.now.behind) (whole end.now.behind) }
+    requires { HasEnd (whole dash.now.behind) (whole end.now.behind) }
     ensures { Carries result (Some (spec.compact_segments (spec.compact_upto (dash_told dash.now)
         (collection_told end.now)) (string_bytes text))) }
 {
@@ -96,6 +96,7 @@ fn exchange_behind<'d>(
 }
 
 /// A value put in the place of the compact collection at a path.
+#[tactic(auto, using(crate::proofs::CompactAnswers::behind_like))]
 fn exchange_compact<'d>(
     alloc: Global,
     cut: &CutText<'_, 'd>,
@@ -107,7 +108,7 @@ fn exchange_compact<'d>(
     let Some((dash, end)) = compact_place(cut, path) else {
         return Ok(None);
     };
-    let layout = layout_of(cut, path.doc);
+    let layout = layout_for(cut, path.doc, value);
     let Some(text) = value_behind(alloc, &layout, &dash, value)? else {
         return Ok(None);
     };

@@ -1,5 +1,5 @@
 -- A text that reads is that of its cut.
-use Rattle.std.proofs.Common.{◌≡◌, ℕ, List, Some, sym}
+use Rattle.std.proofs.Common.{◌≡◌, ◌<◌, ◌^◌, ℕ, List, length, Some, arith, sym}
 use Rattle.std.specs.Str.{is_utf8}
 use Rattle.yq_scalar.proofs.Bools.{guard_then}
 use Rattle.yq_rows.specs.Grammar.{IsCut}
@@ -17,3 +17,6 @@ text_read t c h = sym (cut_read t c h).text
 
 pub cut_same : (t : List ℕ) (c : Cut) → read_at t ≡ Some c → cut_of t ≡ c
 cut_same t c h = cut_is t c (cut_read t c h)
+
+pub text_small : (t : List ℕ) (c : Cut) → read_at t ≡ Some c → length t < 2 ^ 64
+text_small t c h = omega (arith, (cut_read t c h).size)

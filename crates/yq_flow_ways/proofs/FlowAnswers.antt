@@ -1,11 +1,11 @@
 -- What the code finds of flow collections is what the ways inside them take.
-use Rattle.std.proofs.Common.{◌≡◌, ℕ, ◌-◌, ◌≤◌, Bool, true, false, cond, List, [], ◌∷◌, ◌++◌, length, map, take, drop, slice_index_or, Option, Some, None, option_and_then, option_map, refl, sym, ap, ◌∙◌, subst, arith, append_assoc, length-append}
+use Rattle.std.proofs.Common.{◌≡◌, ℕ, ◌+◌, ◌-◌, ◌<◌, ◌^◌, ◌≤◌, Bool, true, false, cond, List, [], ◌∷◌, ◌++◌, length, map, take, drop, slice_index_or, Option, Some, None, option_and_then, option_map, refl, sym, ap, ◌∙◌, subst, arith, append_assoc, length-append}
 use Rattle.std.proofs.Math.Seq.{take-append_seam, drop-append_seam}
 use Rattle.std.proofs.lemmas.Option.{none-some, same_Some}
 use Rattle.std.specs.Str.{IsCharBoundary}
 use Rattle.yq_scalar.specs.Answers.{◌>>=◌}
 use Rattle.yq_scalar.specs.Paths.{Step, is_here, further}
-use Rattle.yq_inline.specs.Collections.{CollPieces}
+use Rattle.yq_inline.specs.Collections.{CollAt, CollPieces, IsCollAt}
 use Rattle.yq_flow.specs.declared.among.Among.{Among}
 use Rattle.yq_inline.specs.Entries.{EntryPieces, end_of, entry_start, item_at}
 use Rattle.yq_flow.specs.FlowEdits.{FlowEdit}
@@ -14,28 +14,29 @@ use Rattle.yq_inline.specs.Nodes.{Items, none, item, items_text, key_text, node_
 use Rattle.yq_inline.specs.Places.{Placed, placed, Parts, nothing, name, text, sequence, mapping, holder, key_placed, locate, locate_items}
 use Rattle.yq_flow.specs.Removals.{removing}
 use Rattle.yq_inline.specs.Trees.{inner, key_content}
-use Rattle.yq_flow.proofs.RemovePlaces.{remove_placed}
+use Rattle.yq_flow.proofs.EditLaws.{around_is}
 use Rattle.yq_inline.proofs.TreeLaws.{key_tree}
 use Rattle.yq_rows.specs.Rows.{Cut, cut_text}
 use Rattle.yq_tree.specs.FlowNodes.{flow_collection}
-use Rattle.yq_tree.specs.FlowTold.{placed_collection, behind_anchor, collection_of}
+use Rattle.yq_tree.specs.FlowTold.{IsTold, TellsFlow, behind_anchor, collection_told, placed_collection}
+use Rattle.yq_tree.specs.declared.places.flow_node.FlowHead.{FlowHead}
 use Rattle.yq_documents.specs.Reading.{cut_of, read_at}
-use Rattle.yq_tree.proofs.FlowToldLaws.{node_collection}
-use Rattle.yq_change.proofs.FlowPathLaws.{flow_found}
-use Rattle.yq_change.proofs.FlowStandLaws.{coll_stands}
 use Rattle.yq_meaning.specs.Operations.{remove}
 use Rattle.yq_script.specs.Script.{keep, put}
-use Rattle.yq_flow_ways.specs.FlowWays.{edit_segments, flow_remove_way, flow_segments, in_flow_at, last_step, flow_removed}
+use Rattle.yq_flow_ways.specs.FlowWays.{edit_segments, flow_remove_way, flow_segments, in_flow_at, last_step, moved_on, flow_removed}
+use Rattle.yq_flow_ways.proofs.CutLaws.{text_read, text_small}
+use Rattle.yq_flow_ways.proofs.FlowHeads.{in_text, item_whole, remove_found, removed_within, told_there, whole_is}
+use Rattle.yq_flow_ways.proofs.FlowLonger.{SameEdit, entry_more, removing_more}
 use Rattle.yq_flow_ways.proofs.FlowPieceLaws.{removed_empty}
 use Rattle.yq_flow_ways.proofs.FlowRemoveLaws.{bounds, texts}
 use Rattle.yq_flow_ways.proofs.FlowStandings.{EntryAt}
 
--- ---- the flow collection in a head that was read
-
-pub found_along : {A : Type 0} (along : A → Option Placed) (t u : List ℕ) (doc : ℕ) (steps : List Step) (o : Option A) (x : A) (q : Placed) → u ≡ t →
-    option_and_then along o ≡ option_map (placed_collection (length u)) (flow_collection doc steps (cut_of u)) → o ≡ Some x → Some (behind_anchor q) ≡ along x → Some (behind_anchor q) ≡ option_map (placed_collection (length t)) (flow_collection doc steps (cut_of t))
-found_along along t u doc steps o x q same told is node =
-    node ∙ (ap (option_and_then along) (sym is) ∙ (told ∙ ap (λ (y : List ℕ). option_map (placed_collection (length y)) (flow_collection doc steps (cut_of y))) same))
+-- What the code finds of a flow collection in which a path ends: a node in the head of a row, and the collection in it.
+pub record FindsIn (t : List ℕ) (c : Cut) (doc : ℕ) (path init : List Step) (s : Step) (x : FlowHead) (q : Placed) : Type 0 where
+  pub read : read_at t ≡ Some c
+  pub last : Some (init, s) ≡ last_step path
+  pub told : TellsFlow t (flow_collection doc init c) (Some x)
+  pub node : Some (behind_anchor q) ≡ collection_told x
 
 -- ---- the last step
 
@@ -72,23 +73,10 @@ segments_at t before e is =
 pub edit_order : (t : List ℕ) (e : FlowEdit) → (place_edit (length t) e).start ≤ (place_edit (length t) e).end
 edit_order t e = omega (arith, length-append e.old e.behind)
 
--- ---- the collection
-
-pub coll_found : (n : ℕ) (o : Option CollPieces) (p : Placed) → Some p ≡ option_map (placed_collection n) o → (w : CollPieces) × (o ≡ Some w) × (p ≡ placed_collection n w)
-coll_found n None p e = absurd (none-some _ (sym e))
-coll_found n (Some w) p e = (w, refl, same_Some _ _ e)
-
 -- ---- where an item or entry is taken out
 
 core_place : (t : List ℕ) (s : Step) (p : Placed) → remove_place t s (behind_anchor p) ≡ remove_place t s p
 core_place t s (placed a b c e f) = refl
-
-found_place : (t : List ℕ) (s : Step) (p r : Placed) → collection_of p ≡ Some r → remove_place t s p ≡ remove_place t s r
-found_place t s (placed a b c e nothing) r h = absurd (none-some _ h)
-found_place t s (placed a b c e (name n)) r h = absurd (none-some _ h)
-found_place t s (placed a b c e (text x piece)) r h = absurd (none-some _ h)
-found_place t s (placed a b c e (sequence parts)) r h = ap (remove_place t s) (same_Some _ _ h)
-found_place t s (placed a b c e (mapping parts)) r h = ap (remove_place t s) (same_Some _ _ h)
 
 none_among : (total k : ℕ) (b : Option ℕ) (s : Step) (is : Items) (rest : List ℕ) → item_at k s is rest ≡ None → among b s (locate_items total k is rest) ≡ None
 unfolding locate_items
@@ -123,75 +111,95 @@ none_place : (t : List ℕ) (s : Step) (w : CollPieces) → item_at w.close s w.
 unfolding locate
 none_place t s w h = holder_none t s w.close _ _ (locate_items (length t) w.close w.items w.rest) (none_among (length t) w.close None s w.items w.rest h)
 
-pub removal_placed : (c : Cut) (doc : ℕ) (init : List Step) (s : Step) (w : CollPieces) → read_at (cut_text c) ≡ Some c → flow_collection doc init c ≡ Some w →
-    remove_place (cut_text c) s (placed_collection (length (cut_text c)) w) ≡ option_map (λ (y : EntryPieces). place_edit (length (cut_text c)) (removing s w)) (item_at w.close s w.items w.rest)
-removal_placed c doc init s w read found = go (item_at w.close s w.items w.rest) refl
-  where
-    go : (o : Option EntryPieces) → item_at w.close s w.items w.rest ≡ o →
-        remove_place (cut_text c) s (placed_collection (length (cut_text c)) w) ≡ option_map (λ (y : EntryPieces). place_edit (length (cut_text c)) (removing s w)) o
-    go None is = none_place (cut_text c) s w is
-    go (Some y) is =
-        let cs = coll_stands c doc init w read (flow_found (cut_text c) c doc init w read found) in
-        let there : collection_of (locate (length (cut_text c)) cs.node cs.rest) ≡ Some (placed_collection (length (cut_text c)) w) =
-        sym (node_collection (length (cut_text c)) cs.node cs.rest) ∙ ap (option_map (placed_collection (length (cut_text c)))) cs.is in
-        sym (found_place (cut_text c) s (locate (length (cut_text c)) cs.node cs.rest) (placed_collection (length (cut_text c)) w) there)
-        ∙ remove_placed cs.valid.flow cs.valid.spaces cs.valid.depth (cut_text c) cs.before cs.node cs.rest w s y cs.valid.is cs.is is cs.text
+own_place : (z : CollAt) (is : IsCollAt z) (s : Step) (o : Option EntryPieces) → item_at z.coll.close s z.coll.items z.coll.rest ≡ o →
+    remove_place (node_text z.node z.rest) s (placed_collection (length (node_text z.node z.rest)) z.coll) ≡ option_map (λ (y : EntryPieces). place_edit (length (node_text z.node z.rest)) (removing s z.coll)) o
+own_place z is s None at = none_place (node_text z.node z.rest) s z.coll at
+own_place z is s (Some y) at = remove_found z is s y at
 
 -- ---- the answers
 
--- The place that the code finds of an item or entry to which a path leads is that of the segments that take it out.
-pub record RemovalFound (t : List ℕ) (c : Cut) (doc : ℕ) (path : List Step) (p : PlacedEdit) : Type 0 where
+-- The place that the code finds, behind so many bytes, of an item or entry to which a path leads is that of the segments that take it out.
+pub record RemovalFound (t : List ℕ) (c : Cut) (doc : ℕ) (path : List Step) (n : ℕ) (p : PlacedEdit) : Type 0 where
+  pub size : length t < 2 ^ 64
   pub order : p.start ≤ p.end
-  pub start : IsCharBoundary t p.start
-  pub end : IsCharBoundary t p.end
-  pub is : flow_remove_way (remove doc path) c ≡ Some (edit_segments t p [])
+  pub start : IsCharBoundary t (n + p.start)
+  pub end : IsCharBoundary t (n + p.end)
+  pub is : flow_remove_way (remove doc path) c ≡ Some (edit_segments t (moved_on n p) [])
 
-module _ (c : Cut) (doc : ℕ) (path init : List Step) (s : Step) (w : CollPieces) (read : read_at (cut_text c) ≡ Some c) (last : last_step path ≡ Some (init, s)) (found : flow_collection doc init c ≡ Some w) where
+module _ (c : Cut) (doc : ℕ) (path init : List Step) (s : Step) (x : FlowHead) (q : Placed) (f : FindsIn (cut_text c) c doc path init s x q) where
+  abbrev t : List ℕ
+  t = cut_text c
+
+  abbrev row : List ℕ
+  row = x.text.now
+
+  there_is : (w : CollPieces) × (flow_collection doc init c ≡ Some w) × (h : IsTold t w x) × (behind_anchor q ≡ placed_collection (length row) h.at.coll)
+  there_is = told_there t (flow_collection doc init c) x q f.told f.node
+
+  abbrev w : CollPieces
+  w = there_is.0
+
+  abbrev told : IsTold t w x
+  told = there_is.2
+
+  abbrev own : CollPieces
+  own = told.at.coll
+
   abbrev e : FlowEdit
   e = removing s w
 
-  way_is : (o : Option EntryPieces) → item_at w.close s w.items w.rest ≡ o → flow_remove_way (remove doc path) c ≡ option_map (λ (y : EntryPieces). flow_segments (cut_text c) e) o
-  way_is o at = ap (in_flow_at (flow_removed c) doc c) last ∙ (ap (λ (o : Option CollPieces). o >>= flow_removed c s) found ∙ ap (option_map (λ (y : EntryPieces). flow_segments (cut_text c) e)) at)
+  way_is : (o : Option EntryPieces) → item_at w.close s w.items w.rest ≡ o → flow_remove_way (remove doc path) c ≡ option_map (λ (y : EntryPieces). flow_segments t e) o
+  way_is o at = ap (in_flow_at (flow_removed c) doc c) (sym f.last) ∙ (ap (λ (o : Option CollPieces). o >>= flow_removed c s) there_is.1 ∙ ap (option_map (λ (y : EntryPieces). flow_segments t e)) at)
 
-  place_is : (o : Option EntryPieces) → item_at w.close s w.items w.rest ≡ o → remove_place (cut_text c) s (placed_collection (length (cut_text c)) w) ≡ option_map (λ (y : EntryPieces). place_edit (length (cut_text c)) e) o
-  place_is o at = removal_placed c doc init s w read found ∙ ap (option_map (λ (y : EntryPieces). place_edit (length (cut_text c)) e)) at
+  place_is : (o : Option EntryPieces) → item_at own.close s own.items own.rest ≡ o → remove_place row s q ≡ option_map (λ (y : EntryPieces). place_edit (length row) (removing s own)) o
+  place_is o at =
+      sym (core_place row s q)
+      ∙ (ap (remove_place row s) there_is.3
+      ∙ subst (λ (l : List ℕ). remove_place l s (placed_collection (length l) own) ≡ option_map (λ (y : EntryPieces). place_edit (length l) (removing s own)) o) (sym told.node_is) (own_place told.at told.stands s o at))
 
-  removal_at : (p : PlacedEdit) → Some p ≡ remove_place (cut_text c) s (placed_collection (length (cut_text c)) w) → RemovalFound (cut_text c) c doc path p
-  removal_at p is = go (item_at w.close s w.items w.rest) refl
+  item_there : (o : Option EntryPieces) → item_at own.close s own.items own.rest ≡ o → item_at w.close s w.items w.rest ≡ option_map (entry_more told.behind) o
+  item_there o at = item_whole t w x told s ∙ ap (option_map (entry_more told.behind)) at
+
+  removal_at : (p : PlacedEdit) → Some p ≡ remove_place row s q → RemovalFound t c doc path x.before p
+  removal_at p is = go (item_at own.close s own.items own.rest) refl
     where
-      go : (o : Option EntryPieces) → item_at w.close s w.items w.rest ≡ o → RemovalFound (cut_text c) c doc path p
+      go : (o : Option EntryPieces) → item_at own.close s own.items own.rest ≡ o → RemovalFound t c doc path x.before p
       go None at = absurd (none-some _ (sym (is ∙ place_is None at)))
       go (Some y) at =
-          let a : EntryAt c doc path = record { init = init; step = s; last = last; coll = w; found = found; item = y; at = at } in
-          let b = bounds c doc path read a in
-          let x = texts c doc path read a in
-          let segments = ap (edit_segments (cut_text c) (place_edit (length (cut_text c)) e)) (sym (removed_empty s w)) ∙ segments_at (cut_text c) x.before e x.old in
-          subst (RemovalFound (cut_text c) c doc path) (sym (same_Some _ _ (is ∙ place_is (Some y) at))) (record {
-            order = edit_order (cut_text c) e;
-            start = b.0;
-            end = b.1;
-            is = way_is (Some y) at ∙ ap Some (sym segments);
-          })
+          let there = item_there (Some y) at in
+          let a : EntryAt c doc path = record { init = init; step = s; last = sym f.last; coll = w; found = there_is.1; item = entry_more told.behind y; at = there } in
+          let b = bounds c doc path f.read a in
+          let all = texts c doc path f.read a in
+          let place : p ≡ place_edit (length row) (removing s own) = same_Some _ _ (is ∙ place_is (Some y) at) in
+          let moved : place_edit (length t) e ≡ moved_on x.before p =
+          in_text t w x told e (removing s own)
+          (subst (λ (v : CollPieces). SameEdit told.behind (removing s v) (removing s own)) (sym (whole_is t w x told)) (removing_more s told.behind own (around_is told.at told.stands).closes))
+          (removed_within told.at told.stands s y at) ∙ ap (moved_on x.before) (sym place) in
+          record {
+            size = text_small t c f.read;
+            order = subst (λ (z : PlacedEdit). z.start ≤ z.end) (sym place) (edit_order row (removing s own));
+            start = subst (λ (z : PlacedEdit). IsCharBoundary t z.start) moved b.0;
+            end = subst (λ (z : PlacedEdit). IsCharBoundary t z.end) moved b.1;
+            is =
+                way_is (Some (entry_more told.behind y)) there
+                ∙ ap Some (sym (ap (λ (z : PlacedEdit). edit_segments t z []) (sym moved) ∙ (ap (edit_segments t (place_edit (length t) e)) (sym (removed_empty s w)) ∙ segments_at t all.before e all.old)));
+          }
 
-  missing_at : None ≡ remove_place (cut_text c) s (placed_collection (length (cut_text c)) w) → flow_remove_way (remove doc path) c ≡ None
-  missing_at is = go (item_at w.close s w.items w.rest) refl
+  missing_at : None ≡ remove_place row s q → flow_remove_way (remove doc path) c ≡ None
+  missing_at is = go (item_at own.close s own.items own.rest) refl
     where
-      go : (o : Option EntryPieces) → item_at w.close s w.items w.rest ≡ o → flow_remove_way (remove doc path) c ≡ None
-      go None at = way_is None at
+      go : (o : Option EntryPieces) → item_at own.close s own.items own.rest ≡ o → flow_remove_way (remove doc path) c ≡ None
+      go None at = way_is None (item_there None at)
       go (Some y) at = absurd (none-some _ (is ∙ place_is (Some y) at))
 
--- the place that the code finds in a node
-abbrev Placing : List ℕ → Cut → ℕ → List Step → List Step → Step → Placed → Option PlacedEdit → Type 0 → Type 0
-Placing t c doc path init s q place R = read_at t ≡ Some c → Some (init, s) ≡ last_step path → Some (behind_anchor q) ≡ option_map (placed_collection (length t)) (flow_collection doc init c) → place ≡ remove_place t s q → R
+-- the same of the cut that is read
+pub removal_found : (t : List ℕ) (doc : ℕ) (path init : List Step) (s : Step) (x : FlowHead) (q : Placed) (p : PlacedEdit) → FindsIn t (cut_of t) doc path init s x q → Some p ≡ remove_place x.text.now s q →
+    RemovalFound t (cut_of t) doc path x.before p
+removal_found t doc path init s x q p f =
+    let c : Cut = cut_of t in
+    subst (λ (u : List ℕ). FindsIn u c doc path init s x q → Some p ≡ remove_place x.text.now s q → RemovalFound u c doc path x.before p) (text_read t c f.read) (λ f is. removal_at c doc path init s x q f p is) f
 
-pub removal_found : (t : List ℕ) (c : Cut) (doc : ℕ) (path init : List Step) (s : Step) (q : Placed) (p : PlacedEdit) → cut_text c ≡ t → Placing t c doc path init s q (Some p) (RemovalFound t c doc path p)
-removal_found t c doc path init s q p whole =
-    subst (λ (u : List ℕ). Placing u c doc path init s q (Some p) (RemovalFound u c doc path p)) whole (λ read last found is.
-    let w = coll_found (length (cut_text c)) (flow_collection doc init c) (behind_anchor q) found in
-    removal_at c doc path init s w.0 read (sym last) w.1 p (is ∙ (sym (core_place (cut_text c) s q) ∙ ap (remove_place (cut_text c) s) w.2)))
-
-pub removal_missing : (t : List ℕ) (c : Cut) (doc : ℕ) (path init : List Step) (s : Step) (q : Placed) → cut_text c ≡ t → Placing t c doc path init s q None (flow_remove_way (remove doc path) c ≡ None)
-removal_missing t c doc path init s q whole =
-    subst (λ (u : List ℕ). Placing u c doc path init s q None (flow_remove_way (remove doc path) c ≡ None)) whole (λ read last found is.
-    let w = coll_found (length (cut_text c)) (flow_collection doc init c) (behind_anchor q) found in
-    missing_at c doc path init s w.0 read (sym last) w.1 (is ∙ (sym (core_place (cut_text c) s q) ∙ ap (remove_place (cut_text c) s) w.2)))
+pub removal_missing : (t : List ℕ) (doc : ℕ) (path init : List Step) (s : Step) (x : FlowHead) (q : Placed) → FindsIn t (cut_of t) doc path init s x q → None ≡ remove_place x.text.now s q → flow_remove_way (remove doc path) (cut_of t) ≡ None
+removal_missing t doc path init s x q f =
+    let c : Cut = cut_of t in
+    subst (λ (u : List ℕ). FindsIn u c doc path init s x q → None ≡ remove_place x.text.now s q → flow_remove_way (remove doc path) c ≡ None) (text_read t c f.read) (λ f is. missing_at c doc path init s x q f is) f

@@ -1,5 +1,5 @@
 -- What replacing in a flow collection comes to, by what the code finds.
-use Rattle.std.proofs.Common.{◌≡◌, ℕ, ◌-◌, ◌≤◌, Bool, true, false, List, [], ◌∷◌, ◌++◌, length, take, drop, Option, Some, None, option_map, refl, sym, ap, ◌∙◌, subst, arith, append_assoc, append-nil, length-append}
+use Rattle.std.proofs.Common.{◌≡◌, ℕ, ◌+◌, ◌-◌, ◌<◌, ◌^◌, ◌≤◌, Bool, true, false, List, [], ◌∷◌, ◌++◌, length, take, drop, Option, Some, None, option_map, refl, sym, ap, ◌∙◌, subst, arith, append_assoc, append-nil, length-append}
 use Rattle.std.proofs.Math.Seq.{take-append_seam, drop-append_seam}
 use Rattle.std.proofs.lemmas.Option.{none-some, same_Some}
 use Rattle.std.specs.Prelude.{option_and_then}
@@ -9,33 +9,33 @@ use Rattle.yq_scalar.specs.Paths.{Step}
 use Rattle.yq_scalar.specs.Tree as tree
 use Rattle.yq_inline.specs.Collections.{CollPieces}
 use Rattle.yq_inline.specs.Entries.{EntryPieces, PlacedEntry, entry_pieces_at, item_at, locate_entry, part_at, parts_of, placed_entry_at}
-use Rattle.yq_flow.specs.FlowEdits.{FlowEdit}
+use Rattle.yq_flow.specs.FlowEdits.{FlowEdit, replacing}
 use Rattle.yq_flow.specs.FlowPlaces.{PlacedEdit, place_edit, replace_place}
 use Rattle.yq_inline.specs.Nodes.{bare, coll, node_text}
-use Rattle.yq_inline.specs.Places.{Placed, placed}
+use Rattle.yq_inline.specs.Places.{Placed, placed, locate}
 use Rattle.yq_inline.specs.Written.{flow_of}
-use Rattle.yq_flow.proofs.EditLaws.{around_is}
-use Rattle.yq_inline.proofs.PathLaws.{items_hold, path_places}
-use Rattle.yq_flow.proofs.PlacedEdits.{replace_placed}
+use Rattle.yq_inline.proofs.PathLaws.{path_places}
 use Rattle.yq_rows.specs.Rows.{Cut, cut_text}
 use Rattle.yq_tree.specs.FlowNodes.{flow_collection}
-use Rattle.yq_tree.specs.FlowTold.{placed_collection, behind_anchor}
+use Rattle.yq_tree.specs.FlowTold.{IsTold, behind_anchor, placed_collection}
+use Rattle.yq_tree.specs.declared.places.flow_node.FlowHead.{FlowHead}
 use Rattle.yq_documents.specs.Reading.{cut_of, read_at}
 use Rattle.yq_meaning.specs.Operations.{replace}
 use Rattle.yq_script.specs.Script.{Segment, keep}
-use Rattle.yq_flow_ways.specs.FlowWays.{edit_segments, flow_replace_way, flow_value, in_flow_at, last_step, replaced_at, replaced_by, value_text}
+use Rattle.yq_flow_ways.specs.FlowWays.{edit_segments, flow_replace_way, flow_value, in_flow_at, moved_on, replaced_at, replaced_by, value_text}
 use Rattle.yq_tree.specs.NodesAt.{node_in}
 use Rattle.yq_ways.specs.Replacing.{is_kept}
-use Rattle.yq_flow_ways.proofs.CutLaws.{text_read}
-use Rattle.yq_flow_ways.proofs.FlowAnswers.{coll_found, edit_order, segments_at}
-use Rattle.yq_flow_ways.proofs.FlowReplaceLaws.{bounds, e, m, stands, there, x}
+use Rattle.yq_flow_ways.proofs.CutLaws.{text_read, text_small}
+use Rattle.yq_flow_ways.proofs.FlowAnswers.{FindsIn, edit_order, segments_at}
+use Rattle.yq_flow_ways.proofs.FlowHeads.{in_text, item_whole, replace_found, replaced_within, told_there}
+use Rattle.yq_flow_ways.proofs.FlowLonger.{entry_more}
+use Rattle.yq_flow_ways.proofs.FlowReplaceLaws.{bounds, e, m, there}
 use Rattle.yq_flow_ways.proofs.FlowStandings.{EntryAt}
+use Rattle.yq_flow_ways.proofs.FlowWholeLaws.{StandsBefore, replaced_stands}
 
--- What the code finds of an item or entry at the last step of a path: the steps, the flow collection and the part.
-pub record Finds (t : List ℕ) (c : Cut) (doc : ℕ) (path init : List Step) (s : Step) (q : Placed) (o : Option PlacedEntry) : Type 0 where
-  pub read : read_at t ≡ Some c
-  pub last : Some (init, s) ≡ last_step path
-  pub found : Some (behind_anchor q) ≡ option_map (placed_collection (length t)) (flow_collection doc init c)
+-- What the code finds of an item or entry at the last step of a path: the steps, a node in the head of a row, the flow collection in it and the part.
+pub record Finds (t : List ℕ) (c : Cut) (doc : ℕ) (path init : List Step) (s : Step) (x : FlowHead) (q : Placed) (o : Option PlacedEntry) : Type 0 where
+  pub found : FindsIn t c doc path init s x q
   pub part : o ≡ part_at s (parts_of q)
 
 -- the parts of a node without its anchor
@@ -74,84 +74,126 @@ value_is old (tree.map a cs) = refl
 
 -- ---- in the text of a cut
 
-module _ (c : Cut) (doc : ℕ) (path init : List Step) (s : Step) (q : Placed) (o : Option PlacedEntry) (v : tree.Node) (f : Finds (cut_text c) c doc path init s q o) where
-  found_there : (w : CollPieces) × (flow_collection doc init c ≡ Some w) × (behind_anchor q ≡ placed_collection (length (cut_text c)) w)
-  found_there = coll_found (length (cut_text c)) (flow_collection doc init c) (behind_anchor q) f.found
+module _ (c : Cut) (doc : ℕ) (path init : List Step) (s : Step) (x : FlowHead) (q : Placed) (o : Option PlacedEntry) (v : tree.Node) (f : Finds (cut_text c) c doc path init s x q o) where
+  abbrev t : List ℕ
+  t = cut_text c
 
-  part_is : (w : CollPieces) → behind_anchor q ≡ placed_collection (length (cut_text c)) w → o ≡ option_map (locate_entry (length (cut_text c))) (item_at w.close s w.items w.rest)
-  part_is w is = f.part ∙ (ap (part_at s) (sym (core_parts q) ∙ ap parts_of is) ∙ part_placed (length (cut_text c)) s w)
+  abbrev row : List ℕ
+  row = x.text.now
 
-  way_is : (w : CollPieces) → flow_collection doc init c ≡ Some w → flow_replace_way (replace doc path v) c ≡ option_map (replaced_by (is_kept (node_in doc path c) v) v c s w) (item_at w.close s w.items w.rest)
-  way_is w is =
+  there_is : (w : CollPieces) × (flow_collection doc init c ≡ Some w) × (h : IsTold t w x) × (behind_anchor q ≡ placed_collection (length row) h.at.coll)
+  there_is = told_there t (flow_collection doc init c) x q f.found.told f.found.node
+
+  abbrev w : CollPieces
+  w = there_is.0
+
+  abbrev told : IsTold t w x
+  told = there_is.2
+
+  abbrev own : CollPieces
+  own = told.at.coll
+
+  part_is : o ≡ option_map (locate_entry (length row)) (item_at own.close s own.items own.rest)
+  part_is = f.part ∙ (ap (part_at s) (sym (core_parts q) ∙ ap parts_of there_is.3) ∙ part_placed (length row) s own)
+
+  abbrev made : EntryPieces → List Segment
+  made = replaced_by (is_kept (node_in doc path c) v) v c s w
+
+  way_is : flow_replace_way (replace doc path v) c ≡ option_map made (option_map (entry_more told.behind) (item_at own.close s own.items own.rest))
+  way_is =
       let k : Bool = is_kept (node_in doc path c) v in
-      ap (in_flow_at (replaced_at k v c) doc c) (sym f.last) ∙ ap (λ (y : Option CollPieces). y >>= replaced_at k v c s) is
+      ap (in_flow_at (replaced_at k v c) doc c) (sym f.found.last)
+      ∙ (ap (λ (y : Option CollPieces). y >>= replaced_at k v c s) there_is.1 ∙ ap (option_map made) (item_whole t w x told s))
 
   -- there is none
   way_missing : o ≡ None → flow_replace_way (replace doc path v) c ≡ None
-  way_missing none = let w = found_there in go (replaced_by (is_kept (node_in doc path c) v) v c s w.0) (item_at w.0.close s w.0.items w.0.rest) (sym none ∙ part_is w.0 w.2) (way_is w.0 w.1)
+  way_missing none = go (item_at own.close s own.items own.rest) (sym none ∙ part_is) way_is
     where
-      go : (g : EntryPieces → List Segment) (y : Option EntryPieces) → None ≡ option_map (locate_entry (length (cut_text c))) y → flow_replace_way (replace doc path v) c ≡ option_map g y → flow_replace_way (replace doc path v) c ≡ None
-      go g None is way = way
-      go g (Some y) is way = absurd (none-some _ is)
+      go : (y : Option EntryPieces) → None ≡ option_map (locate_entry (length row)) y → flow_replace_way (replace doc path v) c ≡ option_map made (option_map (entry_more told.behind) y) → flow_replace_way (replace doc path v) c ≡ None
+      go None is way = way
+      go (Some y) is way = absurd (none-some _ is)
 
   -- there is one
-  entry_there : (p : PlacedEntry) → o ≡ Some p → (a : EntryAt c doc path) × (p ≡ locate_entry (length (cut_text c)) a.item) × (flow_replace_way (replace doc path v) c ≡ Some (replaced_by (is_kept (node_in doc path c) v) v c a.step a.coll a.item))
-  entry_there p is = let w = found_there in go w.0 w.1 (item_at w.0.close s w.0.items w.0.rest) refl (sym is ∙ part_is w.0 w.2)
+  entry_there : (p : PlacedEntry) → o ≡ Some p → (y : EntryPieces) × (item_at own.close s own.items own.rest ≡ Some y) × (p ≡ locate_entry (length row) y)
+  entry_there p is = go (item_at own.close s own.items own.rest) refl (sym is ∙ part_is)
     where
-      go : (w : CollPieces) → flow_collection doc init c ≡ Some w → (y : Option EntryPieces) → item_at w.close s w.items w.rest ≡ y → Some p ≡ option_map (locate_entry (length (cut_text c))) y →
-          (a : EntryAt c doc path) × (p ≡ locate_entry (length (cut_text c)) a.item) × (flow_replace_way (replace doc path v) c ≡ Some (replaced_by (is_kept (node_in doc path c) v) v c a.step a.coll a.item))
-      go w own None item e = absurd (none-some _ (sym e))
-      go w own (Some y) item e =
-          (record { init = init; step = s; last = sym f.last; coll = w; found = own; item = y; at = item }, same_Some _ _ e, way_is w own ∙ ap (option_map (replaced_by (is_kept (node_in doc path c) v) v c s w)) item)
+      go : (y : Option EntryPieces) → item_at own.close s own.items own.rest ≡ y → Some p ≡ option_map (locate_entry (length row)) y → (y : EntryPieces) × (item_at own.close s own.items own.rest ≡ Some y) × (p ≡ locate_entry (length row) y)
+      go None at e = absurd (none-some _ (sym e))
+      go (Some y) at e = (y, at, same_Some _ _ e)
+
+  way_there : (y : EntryPieces) → item_at own.close s own.items own.rest ≡ Some y → flow_replace_way (replace doc path v) c ≡ Some (made (entry_more told.behind y))
+  way_there y at = way_is ∙ ap (λ (z : Option EntryPieces). option_map made (option_map (entry_more told.behind) z)) at
+
+  way_kept : (y : EntryPieces) → item_at own.close s own.items own.rest ≡ Some y → is_kept (node_in doc path c) v ≡ true → flow_replace_way (replace doc path v) c ≡ Some (keep t ∷ [])
+  way_kept y at kept = way_there y at ∙ ap (λ (k : Bool). Some (replaced_by k v c s w (entry_more told.behind y))) kept
 
 -- ---- the answers
 
--- The place that the code finds of a content is that of the segments that put a value there.
-pub record ContentFound (t : List ℕ) (c : Cut) (doc : ℕ) (path : List Step) (v : tree.Node) (p : PlacedEdit) : Type 0 where
+-- The place that the code finds of a content in a row, behind so many bytes, is that of the segments that put a value there.
+pub record ContentFound (t row : List ℕ) (c : Cut) (doc : ℕ) (path : List Step) (v : tree.Node) (n : ℕ) (p : PlacedEdit) : Type 0 where
+  pub size : length t < 2 ^ 64
   pub order : p.start ≤ p.end
-  pub start : IsCharBoundary t p.start
-  pub end : IsCharBoundary t p.end
-  pub is : is_kept (node_in doc path c) v ≡ false → flow_replace_way (replace doc path v) c ≡ Some (edit_segments t p (value_text (drop p.start (take p.end t)) v))
+  pub within : p.end ≤ length row
+  pub start : IsCharBoundary t (n + p.start)
+  pub end : IsCharBoundary t (n + p.end)
+  pub is : is_kept (node_in doc path c) v ≡ false → flow_replace_way (replace doc path v) c ≡ Some (edit_segments t (moved_on n p) (value_text (drop p.start (take p.end row)) v))
 
-content_at : (c : Cut) (doc : ℕ) (path init : List Step) (s : Step) (q : Placed) (p : PlacedEntry) (v : tree.Node) → Finds (cut_text c) c doc path init s q (Some p) → ContentFound (cut_text c) c doc path v (replace_place p.1)
-content_at c doc path init s q p v f =
-    let h = entry_there c doc path init s q (Some p) v f p refl in
-    let a : EntryAt c doc path = h.0 in
+content_at : (c : Cut) (doc : ℕ) (path init : List Step) (s : Step) (x : FlowHead) (q : Placed) (p : PlacedEntry) (v : tree.Node) → Finds (cut_text c) c doc path init s x q (Some p) → ContentFound (cut_text c) x.text.now c doc path v x.before (replace_place p.1)
+unfolding there_is
+content_at c doc path init s x q p v f =
     let t : List ℕ = cut_text c in
-    let edit : FlowEdit = e c doc path v f.read a in
-    let w = there c doc path v f.read a in
-    let b = bounds c doc path v f.read a in
-    let i = around_is (x c doc path v f.read a) (stands c doc path v f.read a) in
-    let is = items_hold i.inner_depth a.coll.close a.step a.coll.items a.coll.rest a.item i.items a.at in
-    let place : place_edit (length t) edit ≡ replace_place p.1 =
-    sym (ap (λ (y : PlacedEntry). replace_place y.1) h.1 ∙ replace_placed true (Some 0) i.inner_depth (length t) a.step a.item (m c doc path v f.read a) a.coll is) in
-    let old = old_at t w.before edit w.text in
-    subst (ContentFound t c doc path v) place (record {
-      order = edit_order t edit;
-      start = b.0;
-      end = b.1;
+    let row : List ℕ = x.text.now in
+    let read = f.found.read in
+    let there_is = told_there t (flow_collection doc init c) x q f.found.told f.found.node in
+    let w : CollPieces = there_is.0 in
+    let told : IsTold t w x = there_is.2 in
+    let own : CollPieces = told.at.coll in
+    let h = entry_there c doc path init s x q (Some p) v f p refl in
+    let y : EntryPieces = h.0 in
+    let a : EntryAt c doc path =
+    record { init = init; step = s; last = sym f.found.last; coll = w; found = there_is.1; item = entry_more told.behind y; at = item_whole t w x told s ∙ ap (option_map (entry_more told.behind)) h.1 } in
+    let edit : FlowEdit = e c doc path v read a in
+    let alone : FlowEdit = replacing s y (m c doc path v read a) own in
+    let all = there c doc path v read a in
+    let b = bounds c doc path v read a in
+    let within = replaced_within told.at told.stands s y (m c doc path v read a) h.1 in
+    let stands = subst (λ (l : List ℕ). StandsBefore l (alone.old ++ alone.behind)) (sym told.node_is) (replaced_stands told.at [] told.stands s y h.1) in
+    let place : replace_place p.1 ≡ place_edit (length row) alone =
+    ap (λ (z : PlacedEntry). replace_place z.1) h.2
+    ∙ subst (λ (l : List ℕ). replace_place (locate (length l) y.node y.rest) ≡ place_edit (length l) alone) (sym told.node_is) (replace_found told.at told.stands s y (m c doc path v read a) h.1) in
+    let moved : place_edit (length t) edit ≡ moved_on x.before (place_edit (length row) alone) = in_text t w x told edit alone (record { old = refl; lead = refl; behind = refl }) within in
+    let old = old_at row stands.before alone stands.text in
+    subst (ContentFound t row c doc path v x.before) (sym place) (record {
+      size = text_small t c read;
+      order = edit_order row alone;
+      within = omega arith;
+      start = subst (λ (z : PlacedEdit). IsCharBoundary t z.start) moved b.0;
+      end = subst (λ (z : PlacedEdit). IsCharBoundary t z.end) moved b.1;
       is = λ kept.
-          h.2
-          ∙ (ap (λ (k : Bool). Some (replaced_by k v c a.step a.coll a.item)) kept
-          ∙ sym (ap Some (ap (λ (l : List ℕ). edit_segments t (place_edit (length t) edit) l) (ap (λ (l : List ℕ). value_text l v) old ∙ value_is edit.old v) ∙ segments_at t w.before edit w.text)));
+          way_there c doc path init s x q (Some p) v f y h.1
+          ∙ (ap (λ (k : Bool). Some (replaced_by k v c s w (entry_more told.behind y))) kept
+          ∙ sym (ap Some (ap (λ (z : PlacedEdit). edit_segments t z (value_text (drop (place_edit (length row) alone).start (take (place_edit (length row) alone).end row)) v)) (sym moved)
+          ∙ (ap (λ (l : List ℕ). edit_segments t (place_edit (length t) edit) l) (ap (λ (l : List ℕ). value_text l v) old ∙ value_is edit.old v) ∙ segments_at t all.before edit all.text))));
     })
 
 -- the same of the cut that is read, with a place that the code holds
-pub content_told : (t : List ℕ) (doc : ℕ) (path init : List Step) (s : Step) (q : Placed) (p : PlacedEntry) (v : tree.Node) (e : PlacedEdit) → Finds t (cut_of t) doc path init s q (Some p) → e ≡ replace_place p.1 → ContentFound t (cut_of t) doc path v e
-content_told t doc path init s q p v e f is =
+pub content_told : (t : List ℕ) (doc : ℕ) (path init : List Step) (s : Step) (x : FlowHead) (q : Placed) (p : PlacedEntry) (v : tree.Node) (e : PlacedEdit) → Finds t (cut_of t) doc path init s x q (Some p) → e ≡ replace_place p.1 →
+    ContentFound t x.text.now (cut_of t) doc path v x.before e
+content_told t doc path init s x q p v e f is =
     let c : Cut = cut_of t in
-    let there' : ContentFound t c doc path v (replace_place p.1) =
-    subst (λ (u : List ℕ). Finds u c doc path init s q (Some p) → ContentFound u c doc path v (replace_place p.1)) (text_read t c f.read) (content_at c doc path init s q p v) f in
-    subst (ContentFound t c doc path v) (sym is) there'
+    let there' : ContentFound t x.text.now c doc path v x.before (replace_place p.1) =
+    subst (λ (u : List ℕ). Finds u c doc path init s x q (Some p) → ContentFound u x.text.now c doc path v x.before (replace_place p.1)) (text_read t c f.found.read) (content_at c doc path init s x q p v) f in
+    subst (ContentFound t x.text.now c doc path v x.before) (sym is) there'
 
-pub content_kept : (t : List ℕ) (doc : ℕ) (path init : List Step) (s : Step) (q : Placed) (p : PlacedEntry) (v : tree.Node) → Finds t (cut_of t) doc path init s q (Some p) → is_kept (node_in doc path (cut_of t)) v ≡ true →
+pub content_kept : (t : List ℕ) (doc : ℕ) (path init : List Step) (s : Step) (x : FlowHead) (q : Placed) (p : PlacedEntry) (v : tree.Node) → Finds t (cut_of t) doc path init s x q (Some p) → is_kept (node_in doc path (cut_of t)) v ≡ true →
     flow_replace_way (replace doc path v) (cut_of t) ≡ Some (keep t ∷ [])
-content_kept t doc path init s q p v f =
+content_kept t doc path init s x q p v f =
     let c : Cut = cut_of t in
-    subst (λ (u : List ℕ). Finds u c doc path init s q (Some p) → is_kept (node_in doc path c) v ≡ true → flow_replace_way (replace doc path v) c ≡ Some (keep u ∷ [])) (text_read t c f.read) (λ f kept.
-    let h = entry_there c doc path init s q (Some p) v f p refl in h.2 ∙ ap (λ (k : Bool). Some (replaced_by k v c h.0.step h.0.coll h.0.item)) kept) f
+    subst (λ (u : List ℕ). Finds u c doc path init s x q (Some p) → is_kept (node_in doc path c) v ≡ true → flow_replace_way (replace doc path v) c ≡ Some (keep u ∷ [])) (text_read t c f.found.read) (λ f kept.
+    let h = entry_there c doc path init s x q (Some p) v f p refl in
+    way_kept c doc path init s x q (Some p) v f h.0 h.1 kept) f
 
-pub content_missing : (t : List ℕ) (doc : ℕ) (path init : List Step) (s : Step) (q : Placed) (v : tree.Node) → Finds t (cut_of t) doc path init s q None → flow_replace_way (replace doc path v) (cut_of t) ≡ None
-content_missing t doc path init s q v f =
+pub content_missing : (t : List ℕ) (doc : ℕ) (path init : List Step) (s : Step) (x : FlowHead) (q : Placed) (v : tree.Node) → Finds t (cut_of t) doc path init s x q None → flow_replace_way (replace doc path v) (cut_of t) ≡ None
+content_missing t doc path init s x q v f =
     let c : Cut = cut_of t in
-    subst (λ (u : List ℕ). Finds u c doc path init s q None → flow_replace_way (replace doc path v) c ≡ None) (text_read t c f.read) (λ f. way_missing c doc path init s q None v f refl) f
+    subst (λ (u : List ℕ). Finds u c doc path init s x q None → flow_replace_way (replace doc path v) c ≡ None) (text_read t c f.found.read) (λ f. way_missing c doc path init s x q None v f refl) f

@@ -20,3 +20,5 @@ pub mod FlowAppendAnswers
 pub mod SoleLaws
 pub mod SoleAnswers
 pub mod FlowRests
+pub mod FlowLonger
+pub mod FlowHeads

@@ -1,5 +1,5 @@
 -- Ways to carry out operations inside flow collections (YAML 1.2.2, 7.4; own).
-use Rattle.std.specs.Prelude.{ℕ, ◌==◌, List, [], ◌∷◌, ◌++◌, take, drop, Option, Some, None, is_some, option_map, Bool, true, false, not, if◌then◌else◌}
+use Rattle.std.specs.Prelude.{ℕ, ◌+◌, ◌==◌, List, [], ◌∷◌, ◌++◌, take, drop, Option, Some, None, is_some, option_map, Bool, true, false, not, if◌then◌else◌}
 use Rattle.yq_scalar.specs.Answers.{◌>>=◌}
 use Rattle.yq_scalar.specs.Paths.{Step}
 use Rattle.yq_scalar.specs.Tree as tree
@@ -31,6 +31,10 @@ flow_segments t e = keep (text_before t (e.old ++ e.behind)) ∷ (put e.old e.le
 abbrev pub edit_segments : List ℕ → PlacedEdit → List ℕ → List Segment
 edit_segments t p written =
     keep (take p.start t) ∷ (put (drop p.start (take p.end t)) p.lead ∷ (put [] written ∷ (keep (drop p.end t) ∷ [])))
+
+-- an edit of a part of a text, before which so many bytes of the text stand, as one of the text (own)
+abbrev pub moved_on : ℕ → PlacedEdit → PlacedEdit
+moved_on n p = record { start = n + p.start; end = n + p.end; lead = p.lead }
 
 -- the steps to a collection, and the last one, to an item or entry in it (own)
 abbrev pub last_step : List Step → Option (List Step × Step)

@@ -51,10 +51,10 @@ pub fn flow_append_way<'d>(
         return Ok(None);
     };
     let found = cut.flow_head(alloc, path.doc, &path.steps)?;
-    let Some((head, left)) = found else {
+    let Some(head) = found else {
         return Ok(None);
     };
-    let Some(node) = collection_along(&head, left) else {
+    let Some(node) = collection_along(&head.node, head.left) else {
         return Ok(None);
     };
     let text = cut.text();
@@ -65,5 +65,5 @@ pub fn flow_append_way<'d>(
         return Ok(None);
     };
     let new = entry_text(alloc, key.as_deref(), value)?;
-    edit_at(alloc, text, place, new)
+    edit_at(alloc, text, head.before, place, new)
 }

@@ -1,6 +1,7 @@
 //! Edits of flow collections, by their places in the text.
-ghost use Rattle.std.specs.Prelude.{◌≡◌, ◌≤◌, Some, drop, map, option_map, string_bytes, take};
+ghost use Rattle.std.specs.Prelude.{◌≡◌, ◌≤◌, ◌<◌, ◌^◌, ◌+◌, Some, drop, length, map, option_map, string_bytes, take};
 ghost use Rattle.std.specs.Str.{IsCharBoundary};
+ghost use Rattle.yq_text.specs.Halves.{whole};
 ghost use Rattle.yq_inline.specs.Entries.{step_of};
 ghost use Rattle.yq_flow.specs.FlowPlaces.{edit_view};
 ghost use Rattle.yq_flow_ways.specs.FlowWays as spec;
@@ -9,6 +10,7 @@ ghost use Rattle.yq_ways.specs.WayAnswers.{Carries};
 use std::alloc::{AllocError, Global};
 use yq_flow::EditPlace;
 use yq_script::{Segment, Segments};
+use yq_text::Halves;
 use yq_tree::Step;
 
 /// The steps to a collection, and the last one.
@@ -21,37 +23,39 @@ pub(crate) fn last_step(steps: &[Step]) -> Option<(&[Step], &Step)>
     }
 }
 
-/// A text in which the bytes of an edit give way to what it leads with and to what is written.
+/// A text in which the bytes of an edit give way to what it leads with and to what is written; so many
+/// bytes stand before the part of the text in which the edit has its place.
 pub(crate) fn edit_at<'d>(
     alloc: Global,
-    text: &'d str,
+    text: Halves<'d>,
+    before: usize,
     place: EditPlace,
     written: String,
 ) -> Result<Option<Segments<'d>>, AllocError>
+    requires small { length (whole text) < 2 ^ 64 }
     requires order { place.start ≤ place.end }
-    requires start { IsCharBoundary text.now place.start }
-    requires end { IsCharBoundary text.now place.end }
-    ensures { Carries result (Some (spec.edit_segments text.now (edit_view place) (string_bytes written))) }
+    requires start { IsCharBoundary (whole text) (before + place.start) }
+    requires end { IsCharBoundary (whole text) (before + place.end) }
+    ensures { Carries result (Some (spec.edit_segments (whole text.entry)
+        (spec.moved_on before (edit_view place)) (string_bytes written))) }
 {
-    let (front, behind) = text.split_at(place.end);
-    let (before, old) = front.split_at(place.start);
+    let (front, behind) = text.split_at(before + place.end);
+    let (kept, old) = front.split_at(before + place.start);
     let lead = String::from_str(alloc, place.lead)?;
     let segments = vec![in alloc;
-        Segment::Keep(before),
+        Segment::Keep(kept),
         Segment::Put(old, lead),
-        Segment::Put("", written),
+        Segment::Put(Halves::of(""), written),
         Segment::Keep(behind),
     ]?;
     Ok(Some(Segments::new(segments)))
 }
 
 /// What stands at the place of an edit.
-pub(crate) fn text_at(text: &str, place: EditPlace) -> &str
+pub(crate) fn bytes_at(text: &str, place: EditPlace) -> &[u8]
     requires order { place.start ≤ place.end }
-    requires start { IsCharBoundary text.now place.start }
-    requires end { IsCharBoundary text.now place.end }
+    requires end { place.end ≤ length text.now }
     ensures { result.now ≡ drop place.start (take place.end text.now) }
 {
-    let (front, _) = text.split_at(place.end);
-    front.split_at(place.start).1
+    &text.as_bytes()[place.start..place.end]
 }

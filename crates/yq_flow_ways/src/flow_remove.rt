@@ -26,16 +26,16 @@ pub fn flow_remove_way<'d>(
         return Ok(None);
     };
     let found = cut.flow_head(alloc, path.doc, above)?;
-    let Some((head, left)) = found else {
+    let Some(head) = found else {
         return Ok(None);
     };
-    let Some(node) = collection_along(&head, left) else {
+    let Some(node) = collection_along(&head.node, head.left) else {
         return Ok(None);
     };
     let text = cut.text();
-    let Some(place) = remove_place(node, text, last) else {
+    let Some(place) = remove_place(node, head.text, last) else {
         return Ok(None);
     };
     let nothing = String::new(alloc);
-    edit_at(alloc, text, place, nothing)
+    edit_at(alloc, text, head.before, place, nothing)
 }

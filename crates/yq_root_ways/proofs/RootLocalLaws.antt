@@ -1,12 +1,12 @@
 -- Rows of a root come in the place of others, or behind the gap of a document that has none: which items they exchange.
-use Rattle.std.proofs.Common.{inl, ◌≡◌, ℕ, ◌+◌, ◌≤◌, true, false, List, [], ◌∷◌, ◌++◌, length, replicate, refl, sym, ap, ◌∙◌, subst, append_assoc, append-nil, arith}
+use Rattle.std.proofs.Common.{◌≡◌, ℕ, false, List, [], ◌∷◌, ◌++◌, length, replicate, sym, ap, ◌∙◌, append-nil, arith}
 use Rattle.std.proofs.lemmas.Bool.{false≢true}
 use Rattle.std.proofs.lemmas.List.{length-append}
 use Rattle.yq_scalar.specs.Tree as tree
 use Rattle.yq_scalar.specs.Tree.{Node}
 use Rattle.yq_flow.specs.Valued.{IsValueTree}
 use Rattle.yq_rows.specs.Grammar.{no_rows}
-use Rattle.yq_rows.specs.Rows.{Row, behind_gap, behind_indent, print_row, rows_text, Part, part_text, Cut, cut_text}
+use Rattle.yq_rows.specs.Rows.{Row, behind_gap, behind_indent, Part, part_text, Cut, cut_text}
 use Rattle.yq_rows.specs.Splices.{first_gap, with_first_gap}
 use Rattle.yq_documents.specs.Documents.{document_parts}
 use Rattle.yq_change.specs.Changed.{put_document}
@@ -16,13 +16,12 @@ use Rattle.yq_change.specs.Replaces.{rooted}
 use Rattle.yq_block.specs.BlockRows.{node_rows}
 use Rattle.yq_block.specs.declared.layout.Layout.{Layout}
 use Rattle.yq_block.proofs.LineLaws.{BeginAt, node_begun}
-use Rattle.yq_script.specs.Script.{Segment, old_text, new_text, are_kept, kept_front, kept_back}
+use Rattle.yq_script.specs.Script.{Segment, kept_front, kept_back}
 use Rattle.yq_ways.specs.Local.{InFirst, IsLocal}
 use Rattle.yq_ways.proofs.LocalLaws.{above_is, rows_last, h}
 use Rattle.yq_root_ways.proofs.RootRows.{lone_row, root_rows}
 use Rattle.yq_change.proofs.DocumentItemLaws.{rows_before}
 use Rattle.yq_inline.specs.Nodes as inline
-use Rattle.yq_rows.specs.Splices.{with_row_gap}
 use Rattle.yq_rows.specs.Items.{Item}
 use Rattle.std.specs.List.{slice_get}
 use Rattle.std.proofs.Common.{Some}

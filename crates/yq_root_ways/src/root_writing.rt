@@ -20,7 +20,7 @@ use yq_scalar::block_written::break_text;
 use yq_script::{Segment, Segments};
 use yq_text::Halves;
 use yq_tree::{CutText, RootPlace};
-use yq_ways::{is_kept, layout_of};
+use yq_ways::{is_kept, layout_for};
 
 /// Whether a text is empty or ends in a break.
 #[tactic(auto, unfolding(crate::specs::RootWriting::is_closed_text))]
@@ -34,14 +34,14 @@ fn is_closed_text(text: &[u8]) -> bool
 }
 
 /// The same of a text in two halves.
-#[tactic(auto, unfolding(crate::specs::RootWriting::is_closed_text))]
+#[tactic(auto, using(crate::proofs::RootAnswers::half_told))]
 fn is_closed(text: Halves<'_>) -> bool
     ensures { result ≡ spec.is_closed_text (whole text.entry) }
 {
-    match text.back.as_bytes() {
-        [] => is_closed_text(text.front.as_bytes()),
-        back => is_closed_text(back),
+    if text.back.is_empty() {
+        return is_closed_text(text.front.as_bytes());
     }
+    is_closed_text(text.back.as_bytes())
 }
 
 /// A value in block style, behind the spaces before its first line.
@@ -137,7 +137,7 @@ pub fn root_way<'d>(
     let Some(place) = cut.root_place(path) else {
         return Ok(None);
     };
-    let layout = layout_of(cut, path.doc);
+    let layout = layout_for(cut, path.doc, value);
     if let Some(old) = place.old {
         return put_root(alloc, &layout, place, old, value);
     }

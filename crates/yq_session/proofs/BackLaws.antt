@@ -1,11 +1,12 @@
 -- What stands in front of the items that are near the end of a text, by the places that are kept.
-use Rattle.std.proofs.Common.{◌≡◌, ◌⊎◌, inl, inr, ⊎_elim, ℕ, ◌+◌, ◌-◌, ◌<◌, ◌≤◌, min, List, [], ◌∷◌, ◌++◌, length, map, reverse, get_or, refl, sym, ap, ◌∙◌, subst, arith, append_assoc, append-nil, length-append}
-use Rattle.std.proofs.lemmas.List.{get_or_at, length-map, length-reverse, reverse-append, reverse-reverse}
+use Rattle.std.proofs.Common.{◌≡◌, ◌⊎◌, inl, inr, ⊎_elim, ℕ, ◌+◌, ◌-◌, ◌<◌, ◌≤◌, min, List, [], ◌∷◌, ◌++◌, length, map, reverse, get_or, take, refl, sym, ap, ◌∙◌, subst, arith, append_assoc, append-nil, length-append}
+use Rattle.std.proofs.lemmas.List.{get_or_at, length-map, length-reverse, reverse-append, reverse-reverse, take_at}
 use Rattle.std.proofs.lemmas.List.Elements.{All-cons, All-head, All-nil, All-tail, All-weaker}
 use Rattle.std.specs.List.{All}
 use Rattle.yq_rows.specs.Items.{Item, row_item, end_item, items_text}
 use Rattle.yq_rows.specs.Kept.{far, near, ends_near, turned}
 use Rattle.yq_rows.specs.Offsets.{offsets_of}
+use Rattle.yq_rows.specs.Touched.{in_back}
 use Rattle.yq_rows.specs.View.{slices}
 use Rattle.yq_rows.specs.declared.ends.EndPlace.{EndPlace}
 use Rattle.yq_rows.specs.declared.offsets.Offsets as declared
@@ -13,8 +14,8 @@ use Rattle.yq_rows.specs.declared.places.Places.{Places}
 use Rattle.yq_rows.proofs.ItemLaws.{items_text-append}
 use Rattle.yq_rows.proofs.KeptLaws.{far_near, items_apart, near_joined}
 use Rattle.yq_session.specs.Sides.{AreAt, IsSplitAt, ends_before, nearer, not_in_back, side_of, text_length}
-use Rattle.yq_session.proofs.BeginLaws.{BackFound, back_found, begin_from, begin_where, ends_begin, first_long, joined_long, rows_begin}
-use Rattle.yq_session.proofs.CountLaws.{ends_joined}
+use Rattle.yq_session.proofs.BeginLaws.{BackFound, back_found, begin_from, begin_where, ends_begin, joined_long, rows_begin}
+use Rattle.yq_session.proofs.CountLaws.{ends_joined, near_count}
 use Rattle.yq_session.proofs.ItemPlaces.{far_within}
 use Rattle.yq_session.proofs.SideLaws.{sides_same}
 use Rattle.yq_session.proofs.SplitLaws.{Within, ends_counted, nearer_split, prefix, turned_twice}
@@ -203,3 +204,15 @@ behind_is p xs at back rows ends before bytes placed gap apart many count by_row
           by_ends;
     } in
     sides_same (length p.front.items + (length p.behind.items - rows)) ends bytes (side_of h.front) in_front in_ends (first_bytes m len j h.behind rows (length p.ends.items - ends) bytes long first) ∙ ap side_of (sym h.is_front)
+
+-- the rows that stay on either side
+pub back_taken : (p : Places) (xs : List Item) (at back : ℕ) → AreAt p xs → IsSplitAt at (text_length xs) p → at + back ≤ text_length xs → reverse (take (length (near 0 (in_back back xs))) p.behind.items) ≡ far (in_back back xs)
+back_taken p xs at back placed gap apart =
+    let h = back_found xs 0 back in
+    let k = back_kept p xs at back placed gap apart h in
+    let all : p.behind.items ≡ reverse k.rows ++ reverse k.before = sym (reverse-reverse p.behind.items) ∙ (ap reverse k.split ∙ reverse-append k.before k.rows) in
+    let count : length (reverse k.rows) ≡ length (near 0 h.behind) = length-reverse k.rows ∙ (sym (length-map k.rows (turned (text_length xs))) ∙ (ap length k.back_rows ∙ near_count (text_length h.front) 0 h.behind)) in
+    ap (λ (z : List Item). reverse (take (length (near 0 z)) p.behind.items)) h.is_behind
+    ∙ (ap (λ (l : List declared.Offsets). reverse (take (length (near 0 h.behind)) l)) all
+    ∙ (ap reverse (take_at (reverse k.rows) (reverse k.before) (length (near 0 h.behind)) count)
+    ∙ (reverse-reverse k.rows ∙ (k.far_rows ∙ ap far (sym h.is_behind)))))

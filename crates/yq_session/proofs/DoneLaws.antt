@@ -1,11 +1,11 @@
 -- What a change that was followed leaves.
-use Rattle.std.proofs.Common.{◌≡◌, ℕ, List, [], ◌++◌, length, reverse, refl, sym, ap, ◌∙◌, subst, append_assoc}
+use Rattle.std.proofs.Common.{◌≡◌, ℕ, List, ◌++◌, reverse, refl, sym, ap, ◌∙◌, subst, append_assoc}
 use Rattle.std.specs.Str.{IsCharBoundary}
 use Rattle.yq_rows.specs.Grammar.{IsCut}
 use Rattle.yq_rows.specs.Items.{Item, items_of}
 use Rattle.yq_rows.specs.Kept.{ArePlaced, IsPlaced}
 use Rattle.yq_rows.specs.Rows.{Cut}
-use Rattle.yq_rows.specs.View.{Shown, shown}
+use Rattle.yq_rows.specs.View.{shown}
 use Rattle.yq_rows.specs.declared.places.Places.{Places}
 use Rattle.yq_session.specs.Exchanging.{Change, Exchanged, GivesWay, SamePlaces}
 use Rattle.yq_session.specs.Following.{ArePlacesOf, Follows, IsPlacedIn, exchanged}

@@ -1,6 +1,6 @@
 -- The text of what comes in the place of what a change touches, and where a text may be cut for it.
-use Rattle.std.proofs.Common.{◌≡◌, ℕ, ◌+◌, ◌-◌, ◌<◌, ◌≤◌, min, List, [], ◌∷◌, ◌++◌, length, take, drop, drop_at, refl, sym, ap, ◌∙◌, subst, arith, append_assoc, length-append, length-drop, length-take, take-append-drop, take-take}
-use Rattle.std.proofs.lemmas.List.{append_cancel_left, append_cancel_right, drop-append-le, get_or-take, take-append-le, take_at}
+use Rattle.std.proofs.Common.{◌≡◌, ℕ, ◌+◌, ◌-◌, ◌≤◌, List, ◌++◌, length, take, drop, drop_at, sym, ap, ◌∙◌, subst, arith, append_assoc, length-append, length-take, take-append-drop, take-take}
+use Rattle.std.proofs.lemmas.List.{append_cancel_left, append_cancel_right, drop-append-le, get_or-take, take_at}
 use Rattle.std.proofs.lemmas.Str.{IsCharBoundary-at_seam, IsCharBoundary-from_take, IsUtf8-take}
 use Rattle.std.specs.Str.{IsCharBoundary, IsUtf8}
 

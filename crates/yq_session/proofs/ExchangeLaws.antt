@@ -1,11 +1,11 @@
 -- Rows and ends of parts of items between others that give way to those of other items, by their places.
-use Rattle.std.proofs.Common.{◌≡◌, ◌⊎◌, inl, inr, ℕ, suc, ◌+◌, ◌-◌, ◌<◌, ◌≤◌, ◌^◌, List, [], ◌∷◌, ◌++◌, length, map, reverse, take, drop, drop_at, Some, slice_get, refl, sym, ap, ◌∙◌, subst, arith, append_assoc, append-nil, length-append, length-take, take_all}
+use Rattle.std.proofs.Common.{◌≡◌, ℕ, suc, ◌+◌, ◌-◌, ◌<◌, ◌≤◌, ◌^◌, List, [], ◌∷◌, ◌++◌, length, map, reverse, take, drop, drop_at, Some, slice_get, refl, sym, ap, ◌∙◌, subst, arith, append_assoc, append-nil, length-append, length-take}
 use Rattle.std.proofs.lemmas.List.{length-map, length-reverse, map_more, take_at}
 use Rattle.std.proofs.lemmas.List.Elements.{All-weaker}
 use Rattle.std.proofs.lemmas.Option.{get_or_from_slice_get, slice_get_within}
 use Rattle.std.specs.List.{All}
 use Rattle.yq_rows.specs.Ends.{end_at}
-use Rattle.yq_rows.specs.Items.{Item, row_item, end_item, items_text}
+use Rattle.yq_rows.specs.Items.{Item, row_item, end_item}
 use Rattle.yq_rows.specs.Kept.{ArePlaced, far, kept_rows, near, ends_near, raised, turned, placed_rows, TextsIn}
 use Rattle.yq_rows.specs.Offsets.{offsets_of}
 use Rattle.yq_rows.specs.Regions.{alone}
@@ -14,15 +14,14 @@ use Rattle.yq_rows.specs.View.{slices}
 use Rattle.yq_rows.specs.declared.ends.EndPlace.{EndPlace}
 use Rattle.yq_rows.specs.declared.offsets.Offsets as declared
 use Rattle.yq_rows.specs.declared.places.Places.{Places}
-use Rattle.yq_rows.proofs.ItemLaws.{items_text-append}
-use Rattle.yq_rows.proofs.KeptLaws.{far_near, items_apart, near_joined, texts_joined}
+use Rattle.yq_rows.proofs.KeptLaws.{near_joined, texts_joined}
 use Rattle.yq_session.specs.Exchanging.{GivesWay, IsMovable, joined_ends, moved_from}
-use Rattle.yq_session.specs.Sides.{AreAt, both_sides, origin, text_length}
+use Rattle.yq_session.specs.Sides.{origin, text_length}
 use Rattle.yq_session.specs.declared.reading.Come.{Come}
 use Rattle.yq_session.specs.declared.sides.Side.{Side}
 use Rattle.yq_session.specs.declared.sides.Touched.{Touched}
 use Rattle.yq_session.proofs.BeginLaws.{begin_within, ends_begin, joined_long, rows_begin}
-use Rattle.yq_session.proofs.CountLaws.{ends_count, ends_joined, ends_rows, near_count}
+use Rattle.yq_session.proofs.CountLaws.{ends_joined, ends_rows, near_count}
 
 -- one place more
 pub row_more : (by i : ℕ) (os : List declared.Offsets) (o : declared.Offsets) → slice_get os i ≡ Some o → map (raised by) (take (i + 1) os) ≡ map (raised by) (take i os) ++ raised by o ∷ []

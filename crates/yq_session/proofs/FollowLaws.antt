@@ -1,20 +1,18 @@
 -- What a change touches, and what is read and exchanged for it.
-use Rattle.std.proofs.Common.{◌≡◌, ⊎_elim, ltb, leb, ◌||◌, cond, Bool, true, false, not, ℕ, ◌+◌, ◌-◌, ◌<◌, ◌≤◌, ◌^◌, List, [], ◌∷◌, ◌++◌, length, reverse, take, drop, take_at, Option, Some, None, refl, sym, ap, ◌∙◌, subst, arith, append_assoc, append-nil, length-append, length-drop, length-take, take_all, ltb-true, if◌then◌else◌}
-use Rattle.std.proofs.lemmas.Bool.{cases_Bool, cases_lt, le-ltb, lt-ltb, or_right}
-use Rattle.std.proofs.lemmas.List.{append_cancel_left, append_cancel_right, length-map, length-reverse, reverse-append, reverse-reverse}
-use Rattle.std.proofs.lemmas.Option.{same_Some}
+use Rattle.std.proofs.Common.{◌≡◌, ⊎_elim, ltb, ◌||◌, true, false, not, ℕ, ◌+◌, ◌-◌, ◌<◌, ◌≤◌, ◌^◌, List, [], ◌∷◌, ◌++◌, length, take, drop, Option, Some, None, refl, sym, ap, ◌∙◌, subst, arith, append_assoc, append-nil, length-append, length-drop, length-take}
+use Rattle.std.proofs.lemmas.Bool.{cases_lt, le-ltb, lt-ltb, or_right}
+use Rattle.std.proofs.lemmas.List.{append_cancel_left, append_cancel_right}
 use Rattle.std.proofs.lemmas.Str.{IsUtf8-nil}
-use Rattle.std.specs.Str.{IsCharBoundary, IsUtf8}
+use Rattle.std.specs.Str.{IsUtf8}
 use Rattle.yq_scalar.specs.Characters.{text_limit}
 use Rattle.yq_rows.specs.Grammar.{IsCut, IsMarkerLine}
-use Rattle.yq_rows.specs.Items.{Item, row_item, end_item, items_of, items_text, rows_items, nothing_asked, asked_of, AreItems}
-use Rattle.yq_rows.specs.Kept.{far, kept_rows, near, ends_near, placed_rows, turned, TextsIn}
+use Rattle.yq_rows.specs.Items.{Item, end_item, items_of, items_text, nothing_asked, asked_of, AreItems}
+use Rattle.yq_rows.specs.Kept.{kept_rows, near, ends_near, TextsIn}
 use Rattle.yq_rows.specs.Meter.{begins_line}
-use Rattle.yq_rows.specs.Regions.{IsReadAlone, StandIn, ended, no_items}
-use Rattle.yq_rows.specs.Rows.{Row, Cut, last, marked, cut_text}
-use Rattle.yq_rows.specs.Touched.{TouchesOnly, in_back, in_front, item_text}
+use Rattle.yq_rows.specs.Regions.{StandIn, ended, no_items}
+use Rattle.yq_rows.specs.Rows.{Cut}
+use Rattle.yq_rows.specs.Touched.{TouchesOnly, in_back, in_front}
 use Rattle.yq_rows.specs.declared.ends.EndPlace.{EndPlace}
-use Rattle.yq_rows.specs.declared.offsets.Offsets as declared
 use Rattle.yq_rows.specs.declared.places.Places.{Places}
 use Rattle.yq_rows.proofs.ItemLaws.{items_joined, items_of_text, parts_are_items}
 use Rattle.yq_rows.proofs.KeptLaws.{items_texts, near_joined}
@@ -28,120 +26,21 @@ use Rattle.yq_session.specs.Sides.{AreAt, IsSplitAt, IsSideBefore, IsSideBehind,
 use Rattle.yq_session.specs.declared.kept.Kept.{Kept}
 use Rattle.yq_session.specs.declared.sides.Side.{Side}
 use Rattle.yq_session.specs.declared.sides.Touched.{Touched}
-use Rattle.yq_session.proofs.BackLaws.{back_kept}
-use Rattle.yq_session.proofs.BeginLaws.{back_found, first_long, joined_long}
+use Rattle.yq_session.proofs.BackLaws.{back_taken}
+use Rattle.yq_session.proofs.BeginLaws.{back_found, joined_long}
 use Rattle.yq_session.proofs.CountLaws.{near_count, ends_count, ends_joined}
 use Rattle.yq_session.proofs.EdgeLaws.{Pieces, begin_edge, back_edge, end_edge, region_ends, region_is}
 use Rattle.yq_session.proofs.ExchangeLaws.{kept_count, texts_first, texts_second}
+use Rattle.yq_session.proofs.KeptSides.{all_in_front, back_long, cut_some, front_long, last_long, some_behind}
 use Rattle.yq_session.proofs.ItemPlaces.{cut_long, cut_places, text_split}
 use Rattle.yq_session.proofs.MarkedLaws.{KeepsEnd, Tells, told}
 use Rattle.yq_session.proofs.MarkerLaws.{marker_stays, marker_there}
+use Rattle.yq_session.proofs.ReadLaws.{unread_is, without, without_none}
 use Rattle.yq_session.proofs.SideLaws.{front_taken}
-
--- the rows that stay on either side
-pub back_taken : (p : Places) (xs : List Item) (at back : ℕ) → AreAt p xs → IsSplitAt at (text_length xs) p → at + back ≤ text_length xs → reverse (take (length (near 0 (in_back back xs))) p.behind.items) ≡ far (in_back back xs)
-back_taken p xs at back placed gap apart =
-    let h = back_found xs 0 back in
-    let k = back_kept p xs at back placed gap apart h in
-    let all : p.behind.items ≡ reverse k.rows ++ reverse k.before = sym (reverse-reverse p.behind.items) ∙ (ap reverse k.split ∙ reverse-append k.before k.rows) in
-    let count : length (reverse k.rows) ≡ length (near 0 h.behind) = length-reverse k.rows ∙ (sym (length-map k.rows (turned (text_length xs))) ∙ (ap length k.back_rows ∙ near_count (text_length h.front) 0 h.behind)) in
-    ap (λ (z : List Item). reverse (take (length (near 0 z)) p.behind.items)) h.is_behind
-    ∙ (ap (λ (l : List declared.Offsets). reverse (take (length (near 0 h.behind)) l)) all
-    ∙ (ap reverse (take_at (reverse k.rows) (reverse k.before) (length (near 0 h.behind)) count)
-    ∙ (reverse-reverse k.rows ∙ (k.far_rows ∙ ap far (sym h.is_behind)))))
-
--- a cut has items, and not all of them are in front of an offset within its text
-all_in_front : (xs : List Item) (n : ℕ) → in_front n xs ≡ xs → no_items xs ≡ false → text_length xs < n
-all_in_front [] n all some = absurd cc
-all_in_front (i ∷ xs) n all some = go (λ rest more. all_in_front xs (n - length (item_text i)) rest more) (ltb (length (item_text i)) n) refl where
-  tail : (j k : Item) (ys zs : List Item) → j ∷ ys ≡ k ∷ zs → ys ≡ zs
-  tail j k ys zs e = cc
-
-  one : (ys : List Item) → (no_items ys ≡ false → text_length ys < n - length (item_text i)) → length (item_text i) < n → text_length (i ∷ ys) < n
-  one [] more less = omega (arith, less, first_long i [])
-  one (j ∷ ys) more less = omega (arith, more refl, less, first_long i (j ∷ ys))
-
-  go : (in_front (n - length (item_text i)) xs ≡ xs → no_items xs ≡ false → text_length xs < n - length (item_text i)) → (b : Bool) → ltb (length (item_text i)) n ≡ b → text_length (i ∷ xs) < n
-  go next true e =
-      let is : i ∷ in_front (n - length (item_text i)) xs ≡ i ∷ xs = sym (ap (λ (b : Bool). cond b (i ∷ in_front (n - length (item_text i)) xs) []) e) ∙ all in
-      let rest : in_front (n - length (item_text i)) xs ≡ xs = tail i i (in_front (n - length (item_text i)) xs) xs is in
-      one xs (next rest) (ltb-true (length (item_text i)) n e)
-  go next false e =
-      let is : [] ≡ i ∷ xs = sym (ap (λ (b : Bool). cond b (i ∷ in_front (n - length (item_text i)) xs) []) e) ∙ all in
-      absurd cc
-
-rows_some : (rs : List Row) (i : Item) (xs : List Item) → no_items (rows_items rs (i ∷ xs)) ≡ false
-rows_some [] i xs = refl
-rows_some (r ∷ rs) i xs = refl
-
-cut_some : (c : Cut) → no_items (items_of c) ≡ false
-cut_some (last p) = rows_some p.rows (end_item p.end []) []
-cut_some (marked p marker c) = rows_some p.rows (end_item p.end marker) (items_of c)
-
--- how long what is kept on either side is
-front_long : (n : ℕ) (xs : List Item) → text_length (in_front n xs) ≤ n
-front_long n [] = omega arith
-front_long n (i ∷ xs) = go (front_long (n - length (item_text i)) xs) (ltb (length (item_text i)) n) refl
-  where
-    go : text_length (in_front (n - length (item_text i)) xs) ≤ n - length (item_text i) → (b : Bool) → ltb (length (item_text i)) n ≡ b → text_length (cond b (i ∷ in_front (n - length (item_text i)) xs) []) ≤ n
-    go more true e = omega (arith, more, first_long i (in_front (n - length (item_text i)) xs), ltb-true (length (item_text i)) n e)
-    go more false e = omega arith
-
-back_long : (n : ℕ) (xs : List Item) → text_length (in_back n xs) ≤ n
-back_long n [] = omega arith
-back_long n (i ∷ xs) = go (back_long n xs) (ltb (text_length (i ∷ xs)) n) refl
-  where
-    go : text_length (in_back n xs) ≤ n → (b : Bool) → ltb (text_length (i ∷ xs)) n ≡ b → text_length (cond b (i ∷ xs) (in_back n xs)) ≤ n
-    go more true e = omega (arith, ltb-true (text_length (i ∷ xs)) n e)
-    go more false e = more
-
--- something stands behind, as a row or as the end of a part
-some_behind : (i : Item) (z : List Item) → length (near 0 (i ∷ z)) + length (ends_near 0 0 (i ∷ z)) ≡ 0 → ⊥
-some_behind (row_item r) z h = omega (arith, h)
-some_behind (end_item gap marker) z h = omega (arith, h)
-
--- items that are kept behind, where others in front of them would be kept too
-abbrev BackMore : List Item → List Item → ℕ → Type 0
-BackMore a b n = (more : List Item) × (in_back n (a ++ b) ≡ more ++ b)
-
-back_more : (a b : List Item) (n : ℕ) → text_length b < n → BackMore a b n
-back_more [] [] n less = ([], refl)
-back_more [] (j ∷ b) n less = ([], ap (λ (x : Bool). cond x (j ∷ b) (in_back n b)) (lt-ltb (text_length (j ∷ b)) n less))
-back_more (i ∷ a) b n less = go (back_more a b n less) (ltb (text_length (i ∷ (a ++ b))) n)
-  where
-    go : BackMore a b n → (x : Bool) → (more : List Item) × (cond x (i ∷ (a ++ b)) (in_back n (a ++ b)) ≡ more ++ b)
-    go rest true = (i ∷ a, refl)
-    go rest false = rest
-
-pub last_long : (n : ℕ) (f u z : List Item) (i : Item) → in_back n (f ++ ((u ++ (i ∷ [])) ++ z)) ≡ z → n ≤ length (item_text i) + text_length z
-last_long n f u z i is = ⊎_elim {0, 0, 0}
-    (λ (less : text_length (i ∷ z) < n).
-    let group : f ++ ((u ++ (i ∷ [])) ++ z) ≡ (f ++ u) ++ (i ∷ z) = ap (λ (l : List Item). f ++ l) (append_assoc u (i ∷ []) z) ∙ sym (append_assoc f u (i ∷ z)) in
-    let m = back_more (f ++ u) (i ∷ z) n less in
-    let all : z ≡ m.0 ++ (i ∷ z) = sym is ∙ (ap (in_back n) group ∙ m.1) in
-    absurd (omega (arith, ap length all, length-append m.0 (i ∷ z))))
-    (λ (more : n ≤ text_length (i ∷ z)). omega (arith, more, first_long i z))
-    (cases_lt (text_length (i ∷ z)) n)
 
 -- the text of three lists of items
 three : (a b c : List Item) → items_text (a ++ (b ++ c)) [] ≡ items_text a [] ++ (items_text b [] ++ items_text c [])
 three a b c = text_split a (b ++ c) ∙ ap (λ l. items_text a [] ++ l) (text_split b c)
-
--- what a text is read without
-without : (w : List ℕ) (e : EndPlace) → without_line e.marker w ≡ read_part w (Some e)
-without w e = ⊎_elim {0, 0, 0} (λ (t : begins_line w (length w - e.marker) ≡ true). rw t refl) (λ (t : begins_line w (length w - e.marker) ≡ false). rw t refl) (cases_Bool (begins_line w (length w - e.marker)))
-
-without_none : (w : List ℕ) → without_line 0 w ≡ w
-without_none w =
-    let all : take (length w - 0) w ≡ w = take_all (length w - 0) w (omega arith) in
-    ⊎_elim {0, 0, 0} (λ (t : begins_line w (length w - 0) ≡ true). rw t all) (λ (t : begins_line w (length w - 0) ≡ false). rw t refl) (cases_Bool (begins_line w (length w - 0)))
-
-unread_is : (w : List ℕ) (e d : EndPlace) → unread_end w (Some e) ≡ Some d → (e ≡ d) × (begins_line w (length w - e.marker) ≡ true)
-unread_is w e d is = go (begins_line w (length w - e.marker)) refl is
-  where
-    go : (b : Bool) → begins_line w (length w - e.marker) ≡ b → (if b then Some e else None) ≡ Some d → (e ≡ d) × (begins_line w (length w - e.marker) ≡ true)
-    go true t at = (same_Some _ _ at, t)
-    go false t at = absurd cc
 
 module _ (t new : List ℕ) (kept : Kept) (p : Places) (x : Touched) (h : Follows t p kept new) (split : IsSplitAt kept.front (length t) p) (before : IsSideBefore p kept.front x.front) (behind : IsSideBehind p (length t) kept.back x.old)
     (marked_is : x.marked ≡ marked_end p.ends.items x.front x.old (length t - kept.back)) (more_is : x.more ≡ (ltb x.old.rows (length (kept_rows p)) || ltb x.old.ends (length p.ends.items))) where
@@ -297,7 +196,7 @@ module _ (t new : List ℕ) (kept : Kept) (p : Places) (x : Touched) (h : Follow
     touched_ends : items_text f [] ++ items_text tch [] ≡ (items_text f [] ++ inner) ++ k.marker
     touched_ends =
         let own : items_text tch [] ≡ inner ++ k.marker = ap (λ (l : List Item). items_text l []) k.items
-            ∙ (text_split k.front (end_item k.gap k.marker ∷ []) ∙ (ap (λ l. items_text k.front [] ++ (k.gap ++ l)) (append-nil k.marker) ∙ sym (append_assoc (items_text k.front []) k.gap k.marker))) in
+        ∙ (text_split k.front (end_item k.gap k.marker ∷ []) ∙ (ap (λ l. items_text k.front [] ++ (k.gap ++ l)) (append-nil k.marker) ∙ sym (append_assoc (items_text k.front []) k.gap k.marker))) in
         ap (λ l. items_text f [] ++ l) own ∙ sym (append_assoc (items_text f []) inner k.marker)
 
     line : IsMarkerLine k.marker (items_text z [])

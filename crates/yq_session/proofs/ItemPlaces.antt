@@ -1,7 +1,7 @@
 -- Places of the items of a cut, by what is lent of them, and on both sides of a split.
-use Rattle.std.proofs.Common.{◌≡◌, ℕ, ◌+◌, ◌-◌, ◌<◌, ◌≤◌, ◌^◌, List, [], ◌∷◌, ◌++◌, length, map, reverse, refl, sym, ap, ◌∙◌, subst, arith, append-nil}
+use Rattle.std.proofs.Common.{◌≡◌, ℕ, ◌+◌, ◌<◌, ◌≤◌, ◌^◌, List, [], ◌∷◌, ◌++◌, length, map, reverse, refl, sym, ap, ◌∙◌, subst, arith}
 use Rattle.std.proofs.lemmas.List.{reverse-append, reverse-reverse}
-use Rattle.std.proofs.lemmas.List.Elements.{All-append, All-cons, All-head, All-nil, All-push, All-tail}
+use Rattle.std.proofs.lemmas.List.Elements.{All-cons, All-head, All-nil, All-push, All-tail}
 use Rattle.std.proofs.lemmas.Str.{IsCharBoundary-at_seam, IsUtf8-nil}
 use Rattle.std.specs.List.{All}
 use Rattle.std.specs.Str.{IsCharBoundary}
@@ -9,7 +9,7 @@ use Rattle.yq_rows.specs.Grammar.{IsCut}
 use Rattle.yq_rows.specs.Items.{Item, row_item, end_item, items_of, items_text, shown_items}
 use Rattle.yq_rows.specs.Kept.{ArePlaced, IsPlaced, far, near, ends_near, placed_rows, turned, TextsIn}
 use Rattle.yq_rows.specs.Offsets.{offsets_of}
-use Rattle.yq_rows.specs.Rows.{Cut, cut_text, print_row}
+use Rattle.yq_rows.specs.Rows.{Cut, print_row}
 use Rattle.yq_rows.specs.View.{Shown, shown, slices}
 use Rattle.yq_rows.specs.declared.offsets.Offsets as declared
 use Rattle.yq_rows.specs.declared.places.Places.{Places}
@@ -18,7 +18,7 @@ use Rattle.yq_rows.proofs.KeptLaws.{far_near, items_apart, items_texts, near_joi
 use Rattle.yq_rows.proofs.PlacedLaws.{same_shown}
 use Rattle.yq_rows.proofs.ScanLaws.{one_cut}
 use Rattle.yq_session.specs.Following.{ArePlacesOf, IsPlacedIn}
-use Rattle.yq_session.specs.Sides.{AreAt, both_sides, first_byte, text_length}
+use Rattle.yq_session.specs.Sides.{AreAt, first_byte, text_length}
 use Rattle.yq_session.proofs.BeginLaws.{begin_within, first_long, joined_long, rows_begin}
 use Rattle.yq_session.proofs.SplitLaws.{Within, turned_twice}
 
@@ -116,15 +116,19 @@ settled p xs h within split =
     let text : items_text xs [] ≡ items_text d.before [] ++ items_text d.later [] = ap (λ (l : List Item). items_text l []) (sym d.items) ∙ text_split d.before d.later in
     let size : text_length d.later ≤ n = omega (arith, ap text_length d.items, joined_long d.before d.later) in
     let begin : 0 + text_length d.before ≡ text_length d.before = omega arith in
-    let turned_far : map (turned n) (reverse p.behind.items) ≡ map (turned n) (far d.later) = d.behind_are ∙ (ap (λ (k : ℕ). near k d.later) begin ∙ sym (far_near d.later (items_text d.before []) (items_text xs []) text)) in
-    (d.before, d.later, d.items, record {
-      split_is = split ∙ (d.first ∙ begin);
-      front_are = d.front_are;
-      behind_are = sym (turned_twice n (reverse p.behind.items) (all_reversed (Within n) p.behind.items within)) ∙ (ap (map (turned n)) turned_far ∙ turned_twice n (far d.later) (far_within n d.later size));
-      ends_are = h.ends_are ∙ ap (λ l. ends_near 0 0 l) (sym d.items);
-      texts = subst TextsIn (sym d.items) h.texts;
-      small = subst (λ (l : List Item). text_length l < 2 ^ 32) (sym d.items) h.small;
-    })
+    let turned_far : map (turned n) (reverse p.behind.items) ≡ map (turned n) (far d.later) = d.behind_are ∙ (ap (λ (k : ℕ). near k d.later) begin ∙ sym (far_near d.later (items_text d.before []) (items_text xs []) text)) in (
+      d.before,
+      d.later,
+      d.items,
+      record {
+        split_is = split ∙ (d.first ∙ begin);
+        front_are = d.front_are;
+        behind_are = sym (turned_twice n (reverse p.behind.items) (all_reversed (Within n) p.behind.items within)) ∙ (ap (map (turned n)) turned_far ∙ turned_twice n (far d.later) (far_within n d.later size));
+        ends_are = h.ends_are ∙ ap (λ l. ends_near 0 0 l) (sym d.items);
+        texts = subst TextsIn (sym d.items) h.texts;
+        small = subst (λ (l : List Item). text_length l < 2 ^ 32) (sym d.items) h.small;
+      },
+    )
 
 -- ---- places of a text
 
@@ -133,9 +137,6 @@ placed_in t p c cut s = record { cut = c; is_cut = cut; placed = record { before
 
 pub places_of : (t : List ℕ) (p : Places) → IsPlacedIn t p → ArePlacesOf t p
 places_of t p h c cut = subst (λ (x : Cut). IsPlaced p (shown x)) (one_cut t h.cut c h.is_cut cut) h.placed
-
-pub at_cut : (t : List ℕ) (p : Places) (c : Cut) → IsPlacedIn t p → IsCut t c → AreAt p (items_of c)
-at_cut t p c h cut = cut_places p c (places_of t p h c cut)
 
 -- the same rows and ends of parts, on other sides of the split
 pub still_at : (p q : Places) (xs : List Item) (len : ℕ) → len ≡ text_length xs → placed_rows len q ≡ placed_rows len p → q.ends.items ≡ p.ends.items → AreAt p xs → AreAt q xs

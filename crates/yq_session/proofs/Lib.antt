@@ -9,6 +9,10 @@ pub mod ItemPlaces
 pub mod ReadLaws
 pub mod EdgeLaws
 pub mod MarkedLaws
+pub mod LineLaws
+pub mod NodeLines
+pub mod RowLines
 pub mod MarkerLaws
+pub mod KeptSides
 pub mod FollowLaws
 pub mod DoneLaws

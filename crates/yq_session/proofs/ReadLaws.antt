@@ -1,6 +1,7 @@
 -- What is read of a region, and the places that come of it.
-use Rattle.std.proofs.Common.{◌≡◌, ℕ, ◌+◌, ◌-◌, ◌<◌, ◌≤◌, ◌^◌, Bool, true, false, not, List, [], ◌∷◌, ◌++◌, length, map, take, drop, drop_at, get_or, slice_set, suc, Option, Some, None, IfSome, refl, sym, ap, ◌∙◌, subst, arith, append-nil, append_assoc, length-append, length-take}
-use Rattle.std.proofs.lemmas.Bool.{false≢true, true≢false}
+use Rattle.std.proofs.Common.{◌≡◌, ℕ, ◌+◌, ◌-◌, ◌<◌, ◌≤◌, Bool, true, false, not, List, [], ◌∷◌, ◌++◌, length, map, take, drop, drop_at, get_or, slice_set, suc, Option, Some, None, IfSome, if◌then◌else◌, ⊎_elim, take_all, refl, sym, ap, ◌∙◌, subst, arith, append-nil, append_assoc, length-append, length-take}
+use Rattle.std.proofs.lemmas.Bool.{cases_Bool}
+use Rattle.std.proofs.lemmas.Option.{same_Some}
 use Rattle.std.proofs.lemmas.List.{drop_all, drop_more, set_split, take_at}
 use Rattle.std.proofs.lemmas.Str.{IsCharBoundary-at_seam}
 use Rattle.std.specs.Str.{IsCharBoundary}
@@ -10,19 +11,19 @@ use Rattle.yq_scalar.specs.declared.fault.ReadError.TheVariants as reading
 use Rattle.yq_scalar.specs.declared.fault.ReadFault.{ReadFault}
 use Rattle.yq_rows.specs.Ends.{end_at}
 use Rattle.yq_rows.specs.Items.{Item, end_item, items_of, items_text, rows_items, shown_items}
-use Rattle.yq_rows.specs.Kept.{IsPlaced, near, ends_near, placed_rows, TextsIn}
+use Rattle.yq_rows.specs.Kept.{IsPlaced, near, ends_near, TextsIn}
+use Rattle.yq_rows.specs.Meter.{begins_line}
 use Rattle.yq_rows.specs.Regions.{IsReadAlone, alone, ended, no_items}
 use Rattle.yq_rows.specs.Rows.{Row, Cut, last, marked, print_row}
 use Rattle.yq_rows.specs.View.{Shown}
 use Rattle.yq_rows.specs.declared.ends.EndPlace.{EndPlace}
 use Rattle.yq_rows.specs.declared.places.Places.{Places}
-use Rattle.yq_rows.proofs.ItemLaws.{items_text-append}
-use Rattle.yq_rows.proofs.KeptLaws.{items_apart, near_joined, texts_joined}
-use Rattle.yq_session.specs.Reading.{ArePlacesRead, Comes, IsRead, IsUnread, marked_as, settled, unread_end, without_marker}
-use Rattle.yq_session.specs.Sides.{AreAt, both_sides, text_length}
+use Rattle.yq_rows.proofs.KeptLaws.{texts_joined}
+use Rattle.yq_session.specs.Following.{without_line}
+use Rattle.yq_session.specs.Reading.{ArePlacesRead, IsRead, IsUnread, marked_as, read_part, settled, unread_end, without_marker}
+use Rattle.yq_session.specs.Sides.{both_sides, text_length}
 use Rattle.yq_session.specs.declared.reading.Come.{Come}
 use Rattle.yq_session.specs.declared.sides.Touched.{Touched}
-use Rattle.yq_session.proofs.BeginLaws.{joined_long}
 use Rattle.yq_session.proofs.CountLaws.{ends_joined}
 use Rattle.yq_session.proofs.ExchangeLaws.{alone_are, texts_first, texts_second}
 use Rattle.yq_session.proofs.ItemPlaces.{places_are, text_split}
@@ -161,3 +162,19 @@ part_edge region x h (Some e) is =
 -- what is read alone has no fault
 pub no_fault : {Y : Type 0} (e : ReadError) (f : ReadFault) (y : Y) → e ≡ reading.Fault f → Fails e (Some y) → ⊥
 no_fault {Y} e f y is h = let none : Some y ≡ None = subst (λ (x : ReadError). Fails x (Some y)) is h in absurd cc
+
+-- what a text is read without
+pub without : (w : List ℕ) (e : EndPlace) → without_line e.marker w ≡ read_part w (Some e)
+without w e = ⊎_elim {0, 0, 0} (λ (t : begins_line w (length w - e.marker) ≡ true). rw t refl) (λ (t : begins_line w (length w - e.marker) ≡ false). rw t refl) (cases_Bool (begins_line w (length w - e.marker)))
+
+pub without_none : (w : List ℕ) → without_line 0 w ≡ w
+without_none w =
+    let all : take (length w - 0) w ≡ w = take_all (length w - 0) w (omega arith) in
+    ⊎_elim {0, 0, 0} (λ (t : begins_line w (length w - 0) ≡ true). rw t all) (λ (t : begins_line w (length w - 0) ≡ false). rw t refl) (cases_Bool (begins_line w (length w - 0)))
+
+pub unread_is : (w : List ℕ) (e d : EndPlace) → unread_end w (Some e) ≡ Some d → (e ≡ d) × (begins_line w (length w - e.marker) ≡ true)
+unread_is w e d is = go (begins_line w (length w - e.marker)) refl is
+  where
+    go : (b : Bool) → begins_line w (length w - e.marker) ≡ b → (if b then Some e else None) ≡ Some d → (e ≡ d) × (begins_line w (length w - e.marker) ≡ true)
+    go true t at = (same_Some _ _ at, t)
+    go false t at = absurd cc

@@ -46,7 +46,11 @@ pub(crate) fn region(
         spec.region_text (whole text.entry) touched kept new.now) }
 {
     let front = between(text, touched.front.bytes, kept.front);
-    let back = between(text, text.len().saturating_sub(kept.back), touched.old.bytes);
+    let back = between(
+        text,
+        text.len().saturating_sub(kept.back),
+        touched.old.bytes,
+    );
     let mut region = String::with_capacity(alloc, front.len() + new.len() + back.len())?;
     region.push_str(front.front)?;
     region.push_str(front.back)?;

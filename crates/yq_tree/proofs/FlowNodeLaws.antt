@@ -1,25 +1,31 @@
 -- The flow collection at a path is the one that the code finds in the head of a line.
-use Rattle.std.proofs.Common.{◌≡◌, ℕ, ◌+◌, Bool, true, false, cond, List, [], ◌∷◌, ◌++◌, length, map, take, Option, Some, None, option_and_then, option_map, refl, sym, ap, ◌∙◌, subst, append-nil}
+use Rattle.std.proofs.Common.{◌≡◌, ℕ, ℤ, ◌+◌, Bool, true, false, not, cond, List, [], ◌∷◌, ◌++◌, length, map, take, Option, Some, None, option_and_then, option_map, refl, sym, ap, ◌∙◌, subst, append-nil}
 use Rattle.std.specs.List.{slice_get}
 use Rattle.yq_scalar.specs.Answers.{◌>>=◌}
 use Rattle.yq_scalar.specs.Paths.{Step, is_here, further}
-use Rattle.yq_inline.specs.Collections.{CollPieces, coll_along, coll_in}
+use Rattle.yq_scalar.specs.Piece.{deeper}
+use Rattle.yq_scalar.specs.declared.style.Place.TheVariants.{Block}
+use Rattle.yq_inline.specs.Collections.{CollAt, CollPieces, IsCollAt, coll_along, coll_in}
 use Rattle.yq_inline.specs.Entries.{EntryPieces, inside, item_at, step_of}
-use Rattle.yq_inline.specs.Nodes.{Items, none, item, Key, Node, empty, alias, scalar, coll, anchored, items_text, sep_text}
+use Rattle.yq_inline.specs.Nodes.{Items, none, item, Key, Node, empty, alias, scalar, coll, anchored, items_text, sep_text, node_text, is_bare, IsNode}
+use Rattle.yq_inline.specs.Inline.{depth_limit}
 use Rattle.yq_inline.specs.Places.{Placed, placed, nothing, name, text, sequence, mapping, with_anchor, locate}
 use Rattle.yq_inline.specs.Trees.{inner, key_content}
 use Rattle.yq_inline.specs.View.{view}
-use Rattle.yq_inline.proofs.WrittenLaws.{items_append, sep_append}
+use Rattle.yq_inline.proofs.WrittenLaws.{items_append, node_then, sep_append}
 use Rattle.yq_rows.specs.Exchange.{behind_row}
-use Rattle.yq_rows.specs.Grammar.{IsCut}
-use Rattle.yq_rows.specs.Rows.{Content, Nothing, Inline, Block, Row, Part, Cut}
-use Rattle.yq_rows.specs.View.{Shown, shown}
+use Rattle.yq_rows.specs.Grammar.{IsContent, IsCut}
+use Rattle.yq_rows.specs.Rows as rows
+use Rattle.yq_rows.specs.Rows.{Content, Nothing, Inline, Row, Part, Cut, parent_indent}
+use Rattle.yq_rows.specs.View.{Shown, anchor_cut, content_cut, shown, slices}
+use Rattle.yq_rows.proofs.PlaceLaws.{row_in}
 use Rattle.yq_lines.specs.Outline.{Line}
 use Rattle.yq_lines.specs.Places.{lines_before, Found}
 use Rattle.yq_documents.specs.Documents.{document_parts}
 use Rattle.yq_documents.specs.FlowReading.{kept, core, content_core, row_flow}
 use Rattle.yq_documents.specs.Lines.{tail_of, lines_of}
 use Rattle.yq_documents.specs.Reading.{outline_of}
+use Rattle.yq_documents.specs.RowReading.{from_head}
 use Rattle.yq_documents.specs.Seats.{Seat, document_row}
 use Rattle.yq_tree.specs.FlowNodes.{content_flow, find_head, flow_collection, line_collection, part_collection}
 use Rattle.yq_tree.specs.FlowTold as told
@@ -32,7 +38,8 @@ use Rattle.yq_tree.specs.declared.places.spot.Stretch.{Stretch}
 use Rattle.yq_tree.proofs.FlowToldLaws.{collection_placed, head_found, numbered}
 use Rattle.yq_tree.proofs.WalkDocuments as documents
 use Rattle.yq_tree.proofs.WalkDocuments.{found_in_cut}
-use Rattle.yq_tree.proofs.WalkNodes.{row_is, seat_is, before_is}
+use Rattle.yq_tree.proofs.RowHeads.{row_alone}
+use Rattle.yq_tree.proofs.WalkNodes.{row_is, row_in_cut, seat_is, before_is}
 
 -- ---- the head of a row
 
@@ -71,7 +78,7 @@ row_along total r rest ss = kept_along ss (locate total (content_core r.content)
     go : (x : Content) → collection_along ss (locate total (content_core x) (tail_of x ++ rest)) ≡ option_map (placed_collection total) (content_flow ss x rest)
     go (Nothing tail) = nothing_along total (tail ++ rest) ss
     go (Inline space node tail) = core_along total node (tail ++ rest) ss ∙ sym (collection_placed total ss node (tail ++ rest))
-    go (Block space anchor block) = nothing_along total (tail_of (Block space anchor block) ++ rest) ss
+    go (rows.Block space anchor block) = nothing_along total (tail_of (rows.Block space anchor block) ++ rest) ss
 
 -- ---- more text behind
 
@@ -120,7 +127,7 @@ coll_more (s ∷ ss) node rest more = ap (option_and_then (λ (y : EntryPieces).
 content_more : (ss : List Step) (x : Content) (rest : List ℕ) → content_flow ss x rest ≡ option_map (with_more rest) (content_flow ss x [])
 content_more ss (Nothing tail) rest = refl
 content_more ss (Inline space node tail) rest = coll_more ss node tail rest ∙ ap (λ (l : List ℕ). option_map (with_more rest) (coll_along ss node l)) (sym (append-nil tail))
-content_more ss (Block space anchor block) rest = refl
+content_more ss (rows.Block space anchor block) rest = refl
 
 -- ---- the collection
 
@@ -165,6 +172,63 @@ collection_is c n steps = go (slice_get (document_parts c) n)
 pub no_flow_told : (t : List ℕ) (all : Option CollPieces) → None ≡ all → TellsFlow t all None
 no_flow_told t all e = subst (λ (o : Option CollPieces). TellsFlow t o None) e tt
 
+-- ---- a collection in a row alone
+
+core_coll : (ss : List Step) (node : Node) (rest : List ℕ) → coll_along ss node rest ≡ coll_along ss (core node) rest
+core_coll [] empty rest = refl
+core_coll [] (alias n) rest = refl
+core_coll [] (scalar p) rest = refl
+core_coll [] (coll k g is) rest = refl
+core_coll [] (anchored n g node) rest = refl
+core_coll (s ∷ ss) empty rest = refl
+core_coll (s ∷ ss) (alias n) rest = refl
+core_coll (s ∷ ss) (scalar p) rest = refl
+core_coll (s ∷ ss) (coll k g is) rest = refl
+core_coll (s ∷ ss) (anchored n g node) rest = refl
+
+core_valid : (spaces : Option ℕ) (node : Node) (rest : List ℕ) → IsNode false spaces depth_limit node rest → IsNode false spaces depth_limit (core node) rest
+unfolding IsNode
+core_valid spaces empty rest h = h
+core_valid spaces (alias n) rest h = h
+core_valid spaces (scalar p) rest h = h
+core_valid spaces (coll k g is) rest h = h
+core_valid spaces (anchored n g node) rest h = h.4
+
+some_bare : (ss : List Step) (node : Node) (rest : List ℕ) (w : CollPieces) → coll_along ss node rest ≡ Some w → not (is_bare node) ≡ true
+some_bare [] empty rest w e = absurd (cc)
+some_bare (s ∷ ss) empty rest w e = absurd (cc)
+some_bare ss (alias n) rest w e = refl
+some_bare ss (scalar p) rest w e = refl
+some_bare ss (coll k g is) rest w e = refl
+some_bare ss (anchored n g node) rest w e = refl
+
+core_text : (node : Node) → (anchor_cut node).2 ≡ node_text (core node) []
+unfolding node_text
+core_text empty = refl
+core_text (alias n) = refl
+core_text (scalar p) = refl
+core_text (coll k g is) = refl
+core_text (anchored n g node) = refl
+
+-- Steps lead to a collection in a text that is an inline node and what follows it.
+record HasColl (t : List ℕ) (ss : List Step) (w : CollPieces) : Type 0 where
+  pub at : CollAt
+  pub stands : IsCollAt at
+  pub node_is : t ≡ node_text at.node at.rest
+  pub coll_is : at.coll ≡ w
+
+content_coll : (n : ℤ) (x : Content) (ss : List Step) (w : CollPieces) → IsContent n x [] → content_flow ss x [] ≡ Some w → HasColl ((content_cut x).3 ++ ((content_cut x).4 ++ ((content_cut x).5 ++ []))) ss w
+content_coll n (Nothing tail) ss w h e = absurd (cc)
+content_coll n (Inline space node tail) ss w h e =
+    let found : coll_along ss (core node) (tail ++ []) ≡ Some w = sym (core_coll ss node (tail ++ [])) ∙ e in
+    record {
+      at = record { place = Block; indent = n; around = 0; node = core node; rest = tail ++ []; steps = ss; coll = w };
+      stands = record { inline = record { valid = core_valid (Some (deeper n)) node (tail ++ []) h.1.valid; something = some_bare ss (core node) (tail ++ []) w found }; found = found };
+      node_is = ap (λ (l : List ℕ). l ++ (tail ++ [])) (core_text node) ∙ sym (node_then (core node) (tail ++ []));
+      coll_is = refl;
+    }
+content_coll n (rows.Block space anchor block) ss w h e = absurd (cc)
+
 -- ---- the head that the code has read
 
 module _ (t : List ℕ) (s : Shown) (c : Cut) (n : ℕ) (d : Stretch) (cut : IsCut t c) (is : s ≡ shown c) (f : documents.Found s c n d) (q : Spot) (at : IsLine s d q) (steps left : List Step)
@@ -192,12 +256,27 @@ module _ (t : List ℕ) (s : Shown) (c : Cut) (n : ℕ) (d : Stretch) (cut : IsC
       go None e = refl
       go (Some w) e = absurd (cc)
 
-  pub head_tells : (x : FlowHead) → left ≡ map step_of x.left.now → t ≡ take x.before t ++ (x.text.now ++ behind_row q.row c) → x.before ≡ length (take x.before t) → Some (view x.node.value) ≡ row_flow (length x.text.now) row [] →
-      TellsFlow t (flow_collection n steps c) (Some x)
-  head_tells x own stands begins e =
+  pub head_tells : (x : FlowHead) → left ≡ map step_of x.left.now → t ≡ take x.before t ++ (x.text.now ++ behind_row q.row c) → x.before ≡ length (take x.before t) → x.text.now ≡ from_head (slices row) [] →
+      Some (view x.node.value) ≡ row_flow (length x.text.now) row [] → TellsFlow t (flow_collection n steps c) (Some x)
+  head_tells x own stands begins ends e =
       subst (λ (o : Option CollPieces). TellsFlow t o (Some x)) (sym all_is)
-      (go alone (ap (λ (ss : List Step). collection_along ss (view x.node.value)) (sym own) ∙ (ap (λ (o : Option Placed). o >>= collection_along left) e ∙ row_along (length x.text.now) row [] left)))
+      (go alone refl (ap (λ (ss : List Step). collection_along ss (view x.node.value)) (sym own) ∙ (ap (λ (o : Option Placed). o >>= collection_along left) e ∙ row_along (length x.text.now) row [] left)))
     where
-      go : (o : Option CollPieces) → told.collection_told x ≡ option_map (placed_collection (length x.text.now)) o → TellsFlow t (option_map (with_more (behind_row q.row c)) o) (Some x)
-      go None e = e
-      go (Some w) e = record { front = take x.before t; behind = behind_row q.row c; rest = w.rest; text = stands; before = begins; rest_is = refl; found = e }
+      go : (o : Option CollPieces) → alone ≡ o → told.collection_told x ≡ option_map (placed_collection (length x.text.now)) o → TellsFlow t (option_map (with_more (behind_row q.row c)) o) (Some x)
+      go None there e = e
+      go (Some w) there e =
+          let valid = row_in c q.row true row cut.parts (row_in_cut s d c k q at) in
+          let h = content_coll (parent_indent row) row.content left w (row_alone valid.limit row (behind_row q.row c) valid.row).content there in
+          record {
+            front = take x.before t;
+            behind = behind_row q.row c;
+            rest = w.rest;
+            text = stands;
+            before = begins;
+            rest_is = refl;
+            at = h.at;
+            stands = h.stands;
+            node_is = ends ∙ h.node_is;
+            coll_is = h.coll_is;
+            found = e;
+          }

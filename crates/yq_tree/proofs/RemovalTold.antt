@@ -233,15 +233,17 @@ pub code_told : (t : List ℕ) (s : Shown) (d : PlacedPart) (x : OwnRows) (first
 code_told t s d x first at end y kept gap begin stop column u o there kept_now begin_is stop_is pair =
     let out : Removal = rows_out d x in
     let own : kept ≡ kept_gap x.own d.part.end = kept_now ∙ o.kept y there in
-    let both : (gap, column) ≡ (first_gap x.back d.part.end, next_column x.back) = pair ∙ o.gap in
-    let gap_is : gap ≡ out.gap = ap (λ (z : List ℕ × ℕ). z.0) both in
     let start : begin + length kept ≡ length out.before = omega (arith, begin_is, ap length own, o.start) in
     let size : stop - (begin + length kept) ≡ length out.gone = omega (arith, start, stop_is, o.stop) in
     let whole = ap length o.text in
+    let within : begin + length kept ≤ length t = omega (arith, start, whole, length-append out.before (out.gone ++ (out.gap ++ out.behind))) in
+    let order : begin + length kept ≤ stop = omega (arith, start, stop_is, o.stop) in
+    let both : (gap, column) ≡ (first_gap x.back d.part.end, next_column x.back) = pair ∙ o.gap in
+    let gap_is : gap ≡ out.gap = ap (λ (z : List ℕ × ℕ). z.0) both in
     record {
       kept_is = own;
-      within = omega (arith, start, whole, length-append out.before (out.gone ++ (out.gap ++ out.behind)));
-      order = omega (arith, start, stop_is, o.stop);
+      within = within;
+      order = order;
       gap_is = gap_is;
       column_is = ap (λ (z : List ℕ × ℕ). z.1) both;
       cuts = cuts_told t s d x first at end (begin + length kept) (stop - (begin + length kept)) (length gap) u o start size (ap length gap_is);

@@ -2,9 +2,9 @@
 use Rattle.std.specs.Prelude.{◌≡◌, ℕ, List, [], ◌++◌, length, map, Option, Some, None}
 use Rattle.yq_scalar.specs.Answers.{◌>>=◌}
 use Rattle.yq_scalar.specs.Paths.{Step}
-use Rattle.yq_inline.specs.Collections.{CollPieces}
+use Rattle.yq_inline.specs.Collections.{CollAt, CollPieces, IsCollAt}
 use Rattle.yq_inline.specs.Entries.{placed_entry_at, step_of}
-use Rattle.yq_inline.specs.Nodes.{coll}
+use Rattle.yq_inline.specs.Nodes.{coll, node_text}
 use Rattle.yq_inline.specs.View.{view}
 use Rattle.yq_tree.specs.declared.places.flow_node.FlowHead.{FlowHead}
 use Rattle.yq_inline.specs.Places.{Placed, placed, Content, nothing, name, text, sequence, mapping, locate}
@@ -37,7 +37,7 @@ collection_along steps p = placed_entry_at steps (None, p) >>= λ e. collection_
 abbrev pub collection_told : FlowHead → Option Placed
 collection_told x = collection_along (map step_of x.left.now) (view x.node.value)
 
--- The collection to which the steps lead is this one of a text: the node stands in a piece of that text, and has its places in this piece (7.4; own).
+-- The collection to which the steps lead is this one of a text: the node stands in a piece of that text, where it could stand alone, and has its places in this piece (7.4; own).
 pub record IsTold (t : List ℕ) (w : CollPieces) (x : FlowHead) : Type 0 where
   pub front : List ℕ
   pub behind : List ℕ
@@ -45,6 +45,10 @@ pub record IsTold (t : List ℕ) (w : CollPieces) (x : FlowHead) : Type 0 where
   pub text : t ≡ front ++ (x.text.now ++ behind)
   pub before : x.before ≡ length front
   pub rest_is : w.rest ≡ rest ++ behind
+  pub at : CollAt
+  pub stands : IsCollAt at
+  pub node_is : x.text.now ≡ node_text at.node at.rest
+  pub coll_is : at.coll ≡ record w { rest = rest }
   pub found : collection_told x ≡ Some (placed_collection (length x.text.now) (record w { rest = rest }))
 
 -- What the code tells is the flow collection at a path of a text; nothing, where there is none (7.4; own).

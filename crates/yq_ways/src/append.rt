@@ -5,10 +5,11 @@ ghost use Rattle.yq_lines.specs.Bodies.{lent};
 ghost use Rattle.yq_scalar.specs.BlockWritten.{break_text};
 ghost use Rattle.yq_meaning.specs.Operations.{operation_of};
 ghost use Rattle.yq_documents.specs.Reading.{cut_of};
+ghost use Rattle.yq_tree.specs.CollectionTelling.{collection_told};
 ghost use Rattle.yq_ways.specs.AppendWay as spec;
 ghost use Rattle.yq_ways.specs.WayAnswers.{Carries};
 
-use crate::layout::layout_of;
+use crate::layout::layout_for;
 use std::alloc::{AllocError, Global};
 use yq_block::{Layout, push_entry};
 use yq_inline::Value;
@@ -60,8 +61,29 @@ fn entry_text(
     Ok(out)
 }
 
+/// An item or entry put behind the last line of a block collection.
+fn put_behind<'d>(
+    alloc: Global,
+    layout: &Layout,
+    end: &CollectionEnd<'d>,
+    key: Option<&str>,
+    value: &Value,
+) -> Result<Segments<'d>, AllocError>
+    ensures { IfOk result (λ ss. ss ≡
+        spec.append_segments layout.now (lent key.entry) (node_of value.now) (collection_told end.now)) }
+{
+    let new = entry_text(alloc, layout, end, key, value)?;
+    let segments = vec![in alloc;
+        Segment::Keep(end.before),
+        Segment::Put(Halves::of(""), new),
+        Segment::Keep(end.behind),
+    ]?;
+    Ok(Segments::new(segments))
+}
+
 /// An operation that appends carried out: the item or entry stands on lines of its own behind the
 /// last line of a block collection.
+#[tactic(auto, using(crate::proofs::LayoutLaws::append_there))]
 pub fn append_way<'d>(
     alloc: Global,
     cut: &CutText<'_, 'd>,
@@ -75,12 +97,6 @@ pub fn append_way<'d>(
     let Some(end) = cut.collection_end(path) else {
         return Ok(None);
     };
-    let layout = layout_of(cut, path.doc);
-    let new = entry_text(alloc, &layout, &end, key.as_deref(), value)?;
-    let segments = vec![in alloc;
-        Segment::Keep(end.before),
-        Segment::Put(Halves::of(""), new),
-        Segment::Keep(end.behind),
-    ]?;
-    Ok(Some(Segments::new(segments)))
+    let layout = layout_for(cut, path.doc, value);
+    Ok(Some(put_behind(alloc, &layout, &end, key.as_deref(), value)?))
 }

@@ -1,4 +1,4 @@
-//! Regions that are read alone, with their lines counted, and where rows begin, also when they are lent again.
+//! Regions that are read alone, with their lines counted, and where rows begin.
 
 use std::test::Fail;
 use yq_rows::{Meter, Rows, read_region, scan};
@@ -42,8 +42,6 @@ fn regions(rt: HostRuntime) -> Result<(), Fail> {
     let text = "# c\na:\n  - b: 1\n--- # d\nc\n";
     let rows = scan(alloc, text)?;
     assert!(rt; are_rows(&rows, &ROWS), "starts, levels and keys");
-    let again = rows.into_places().rows(text);
-    assert!(rt; are_rows(&again, &ROWS), "their places, lent again");
-    assert!(rt; again.parts() == 2 && again.part(0).marker == "--- # d\n");
+    assert!(rt; rows.parts() == 2 && rows.part(0).marker == "--- # d\n");
     Ok(())
 }

@@ -91,11 +91,7 @@ fn node_extent<'t>(
 }
 
 /// The place of the node of a line.
-fn entry_extent<'t>(
-    rows: &Rows<'t>,
-    document: Stretch,
-    at: Spot,
-) -> Option<InlineSpan<'t>>
+fn entry_extent<'t>(rows: &Rows<'t>, document: Stretch, at: Spot) -> Option<InlineSpan<'t>>
     requires shown { IsShown rows.now }
     requires document { HasDocument rows.now document }
     requires at { IsLine rows.now document at }
@@ -115,11 +111,7 @@ fn entry_extent<'t>(
 }
 
 /// The place of the node to which steps lead.
-fn extent_in<'t>(
-    rows: &Rows<'t>,
-    document: Stretch,
-    steps: &[Step],
-) -> Option<InlineSpan<'t>>
+fn extent_in<'t>(rows: &Rows<'t>, document: Stretch, steps: &[Step]) -> Option<InlineSpan<'t>>
     requires shown { IsShown rows.now }
     requires document { HasDocument rows.now document }
     ensures extent { InEach rows.now document (λ first c rs n. option_map spec.extent_view result ≡

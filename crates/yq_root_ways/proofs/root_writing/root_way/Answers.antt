@@ -1,9 +1,5 @@
-use Rattle.std.proofs.Common.{rules, ℕ, List, sym, ap, ◌∙◌, subst}
+use Rattle.std.proofs.Common.{rules, sym, subst}
 use Rattle.yq_inline.specs.Values as values
-use Rattle.yq_documents.specs.Located.{steps_of}
-use Rattle.yq_documents.specs.Reading.{cut_of}
-use Rattle.yq_tree.specs.NodesAt.{node_in}
-use Rattle.yq_ways.specs.Replacing.{is_kept}
 use Rattle.yq_root_ways.specs.RootWriting.{root_way}
 use Rattle.yq_ways.specs.WayAnswers.{Carries}
 use Rattle.yq_root_ways.proofs.RootAnswers.{no_place, collection_there, nothing_there}
@@ -19,14 +15,14 @@ returns-in_default-root_place c =
 
 pub returns-in-Some-old : goal.returns-in-Some-old
 returns-in-Some-old c =
-    let way = collection_there c.in-Replace.path (values.node_of c.in-Replace.value) c.args.cut.now c.root_place.result c.root_place.ensures c.in-Some.place c.in-Some-old.old c.layout_of-layout.result
-    c.in-Some.is c.in-Some-old.is c.layout_of-layout.ensures in
+    let way = collection_there c.in-Replace.path (values.node_of c.in-Replace.value) c.args.cut.now c.root_place.result c.root_place.ensures c.in-Some.place c.in-Some-old.old c.layout_for-layout.result
+    c.in-Some.is c.in-Some-old.is c.layout_for-layout.ensures in
     rw c.in-Replace.is (subst (Carries c.put_root.result) (sym way) c.put_root.ensures)
 
 pub returns : goal.returns
 returns c =
     let p = c.in-Replace.path in
     let v = values.node_of c.in-Replace.value in
-    let way = nothing_there p v c.args.cut.now c.root_place.result c.root_place.ensures c.in-Some.place c.layout_of-layout.result c.in_ok-kept.kept c.in-Some.is c.in_default-old.is c.layout_of-layout.ensures
+    let way = nothing_there p v c.args.cut.now c.root_place.result c.root_place.ensures c.in-Some.place c.layout_for-layout.result c.in_ok-kept.kept c.in-Some.is c.in_default-old.is c.layout_for-layout.ensures
     (c.in_ok-kept.ensures) in
     rw c.in-Replace.is (subst (Carries c.put_new.result) (sym way) c.put_new.ensures)

@@ -1,10 +1,10 @@
-use Rattle.std.proofs.Common.{◌≡◌, ◌∙◌, ◌++◌, List, ℕ, length, string_bytes, sym, ap, subst}
+use Rattle.std.proofs.Common.{◌∙◌, ◌++◌, List, ℕ, length, sym, ap, subst}
 use Rattle.yq_text.specs.Split.{joined}
 use Rattle.yq_rows.specs.Grammar.{IsCut}
 use Rattle.yq_rows.specs.Meter.{counted, line_count}
 use Rattle.yq_session.specs.Exchanging.{Change}
 use Rattle.yq_session.specs.Following.{exchanged}
-use Rattle.yq_session.specs.Reading.{AreEdges, ArePlacesRead, Comes, IsRead, read_part, region_text}
+use Rattle.yq_session.specs.Reading.{AreEdges, Comes, IsRead, read_part, region_text}
 use Rattle.yq_session.proofs.DoneLaws.{gives_way, moved_follows, new_edge, new_places, placed_before, same_places, still_placed}
 use Rattle.yq_session.proofs.following.follow.Goals as goal
 

@@ -1,4 +1,4 @@
-use Rattle.std.proofs.Common.{◌≡◌, ◌∙◌, ap, reverse}
+use Rattle.std.proofs.Common.{◌∙◌, ap, reverse}
 use Rattle.yq_rows.specs.declared.places.Places.{Places}
 use Rattle.yq_session.specs.Sides.{first_byte}
 use Rattle.yq_session.proofs.ItemPlaces.{behind_in, front_in, moved_sides, placed_in, split_edge}

@@ -103,4 +103,5 @@ returns c =
     head_tells t rows (cut_of t) c.args.doc d cut c.rows-rows.ensures f q at steps left (sym leads) _ refl
     (row_text t (cut_of t) q.row row c.in_ok-head.field-0.before c.whole-whole.ensures.utf8 cut there head.before c.in_ok-head.field-0.text.now head.text)
     (row_start t (cut_of t) q.row row c.in_ok-head.field-0.before c.whole-whole.ensures.utf8 cut there head.before)
+    head.text
     (ap head_flow (sym c.in-Inline.is) ∙ head.flow)
