@@ -151,7 +151,10 @@ fn touched_lines(rt: HostRuntime) -> Result<(), Fail> {
         let mut session = Session::open(alloc, text)?;
         let before = session.scanned();
         let _splices = carry_out(&rt, alloc, &mut session, &program, false)?;
-        assert!(rt; session.scanned() <= before.saturating_add(*most), "{expr} on {text:?}");
+        assert!(rt;
+            session.scanned() <= before.saturating_add(*most),
+            "{expr} on {text:?}"
+        );
     }
     Ok(())
 }
