@@ -104,9 +104,9 @@ fn places_of_inline_nodes(rt: HostRuntime) -> Result<(), Fail> {
         let documents = read(rt.alloc(), text.as_bytes())?;
         let path = path(rt.alloc(), 0, words)?;
         let got = documents.cut().inline_place(&path).map(|place| (
-            place.before,
+            place.before.front,
             place.old,
-            place.behind,
+            place.behind.front,
             place.alone,
         ));
         assert_eq!(rt; got, *wanted, "at {text:?} {words:?}");
