@@ -1,17 +1,15 @@
 -- The text and the rows of a session follow an operation that is carried out by segments.
-use Rattle.std.proofs.Common.{◌≡◌, ◌⊎◌, inl, inr, ℕ, ◌+◌, ◌-◌, ◌≤◌, Bool, true, false, cond, ltb, List, [], ◌∷◌, ◌++◌, length, take, drop, Some, string_bytes, refl, sym, ap, ◌∙◌, subst, arith, append-nil, eqb, eqb-true, Vec, vec_len}
-use Rattle.std.proofs.lemmas.Bool.{false≢true, le-ltb}
+use Rattle.std.proofs.Common.{◌≡◌, ◌⊎◌, inl, inr, ℕ, ◌+◌, ◌-◌, ◌≤◌, Bool, true, false, List, [], ◌∷◌, ◌++◌, length, Some, string_bytes, refl, sym, ap, ◌∙◌, subst, arith, eqb, eqb-true, Vec, vec_len}
+use Rattle.std.proofs.lemmas.Bool.{false≢true}
 use Rattle.std.proofs.lemmas.List.{length-append}
 use Rattle.std.proofs.lemmas.Option.{same_Some}
 use Rattle.std.specs.Str.{IsCharBoundary, IsUtf8}
 use Rattle.std.specs.declared.alloc.Global.{Global}
 use Rattle.yq_scalar.specs.Characters.{text_limit}
 use Rattle.yq_rows.specs.Grammar.{IsCut}
-use Rattle.yq_rows.specs.Items.{Item, items_of, items_text}
-use Rattle.yq_rows.specs.Kept.{IsPlaced}
 use Rattle.yq_rows.specs.Meter.{counted, line_count}
 use Rattle.yq_rows.specs.Rows.{Cut, cut_text}
-use Rattle.yq_rows.specs.Touched.{TouchesOnly, in_back, in_front, item_text}
+use Rattle.yq_rows.specs.Touched.{TouchesOnly}
 use Rattle.yq_rows.specs.View.{shown}
 use Rattle.yq_rows.specs.declared.places.Places.{Places}
 use Rattle.yq_rows.proofs.MeterLaws.{counted_within}
@@ -57,33 +55,6 @@ no_splices cs h = go cs.items (sym cs.ok.0 ∙ eqb-true (vec_len cs) 0 h)
 
 pub some_splices : (cs : Vec Splice Global) → eqb (vec_len cs) 0 ≡ false → ¬ (cs.items ≡ [])
 some_splices cs h none = absurd (false≢true (sym h ∙ ap (λ (n : ℕ). eqb n 0) (cs.ok.0 ∙ ap length none)))
-
--- ---- a change that keeps all
-
--- the items in front of an offset are the first ones
-front_part : (n : ℕ) (xs : List Item) → (ys : List Item) × (xs ≡ in_front n xs ++ ys)
-front_part n [] = ([], refl)
-front_part n (i ∷ xs) = go (front_part (n - length (item_text i)) xs) (ltb (length (item_text i)) n) refl
-  where
-    go : ((ys : List Item) × (xs ≡ in_front (n - length (item_text i)) xs ++ ys)) → (b : Bool) → ltb (length (item_text i)) n ≡ b → (ys : List Item) × (i ∷ xs ≡ in_front n (i ∷ xs) ++ ys)
-    go more true e = (more.0, ap (λ (l : List Item). i ∷ l) more.1 ∙ ap (λ (b : Bool). cond b (i ∷ in_front (n - length (item_text i)) xs) [] ++ more.0) (sym e))
-    go more false e = (i ∷ xs, ap (λ (b : Bool). cond b (i ∷ in_front (n - length (item_text i)) xs) [] ++ (i ∷ xs)) (sym e))
-
-none_behind : (xs : List Item) → in_back 0 xs ≡ []
-none_behind [] = refl
-none_behind (i ∷ xs) = rw (le-ltb (length (items_text (i ∷ xs) [])) 0 (omega arith)) (none_behind xs)
-
-touches_itself : (n : ℕ) (c : Cut) → TouchesOnly n 0 c c
-touches_itself n c =
-    let xs = items_of c in
-    let rest = front_part n xs in
-    let all : xs ≡ in_front n xs ++ (rest.0 ++ in_back 0 xs) =
-    rest.1 ∙ ap (λ (l : List Item). in_front n xs ++ l) (sym (append-nil rest.0) ∙ ap (λ (l : List Item). rest.0 ++ l) (sym (none_behind xs))) in
-    record { touched = rest.0; written = rest.0; old_are = all; new_are = all; front_same = refl; back_same = refl }
-
--- items that stay known are so in the text itself
-pub known_here : (n : ℕ) (t : List ℕ) (k : KnownItems) → StayKnown n (cut_of t) k → KnowsItems t k
-known_here n t k stay = stay (cut_of t) 0 (touches_itself n (cut_of t))
 
 -- ---- an operation by its segments
 

@@ -1,5 +1,6 @@
 -- A text with its cut, which a session keeps, and what is lent of it.
-use Rattle.std.proofs.Common.{◌≡◌, ℕ, ◌<◌, ◌≤◌, ◌^◌, true, List, ◌++◌, length, take, drop, Option, Some, None, refl, sym, ap, ◌∙◌, subst, arith, append-nil}
+use Rattle.std.proofs.Common.{◌≡◌, ℕ, ◌-◌, ◌<◌, ◌≤◌, ◌^◌, Bool, true, false, cond, ltb, List, [], ◌∷◌, ◌++◌, length, take, drop, Option, Some, None, refl, sym, ap, ◌∙◌, subst, arith, append-nil}
+use Rattle.std.proofs.lemmas.Bool.{le-ltb}
 use Rattle.std.proofs.lemmas.List.{length-take-le, take-append-drop}
 use Rattle.std.proofs.lemmas.Str.{IsUtf8-from_is_utf8}
 use Rattle.std.specs.Str.{IsCharBoundary, IsUtf8, is_utf8}
@@ -11,13 +12,15 @@ use Rattle.yq_scalar.specs.declared.fault.ReadError.TheVariants as reading
 use Rattle.yq_scalar.specs.Characters.{text_limit}
 use Rattle.yq_scalar.proofs.Bools.{guard_then}
 use Rattle.yq_rows.specs.Grammar.{IsCut}
+use Rattle.yq_rows.specs.Items.{Item, items_of, items_text}
 use Rattle.yq_rows.specs.Kept.{IsPlaced}
 use Rattle.yq_rows.specs.Rows.{Cut, cut_text}
+use Rattle.yq_rows.specs.Touched.{TouchesOnly, in_back, in_front, item_text}
 use Rattle.yq_rows.specs.View.{Shown, shown}
 use Rattle.yq_rows.specs.declared.places.Places.{Places}
 use Rattle.yq_rows.proofs.PlacedLaws.{split_boundary}
 use Rattle.yq_documents.specs.Reading.{all_documents, documents, cut_of, read_at}
-use Rattle.yq_tree.specs.RowWalk.{AreKnown, HasCut}
+use Rattle.yq_tree.specs.RowWalk.{AreKnown, HasCut, StayKnown}
 use Rattle.yq_tree.specs.declared.places.spot.KnownItems.{KnownItems}
 use Rattle.yq_tree.proofs.ReadLaws.{text_takes, read_takes}
 use Rattle.yq_meaning.specs.Operations.{Operation}
@@ -106,6 +109,33 @@ module _ (t : List ℕ) (p : Places) (h : HasPlaces t p) where
       -- and given back
       pub places_back : (q : Places) → IsPlaced q r → HasPlaces t q
       places_back q placed = record { cut = h.cut; read = h.read; placed = subst (IsPlaced q) own placed }
+
+-- ---- items that are known
+
+-- the items in front of an offset are the first ones
+front_part : (n : ℕ) (xs : List Item) → (ys : List Item) × (xs ≡ in_front n xs ++ ys)
+front_part n [] = ([], refl)
+front_part n (i ∷ xs) = go (front_part (n - length (item_text i)) xs) (ltb (length (item_text i)) n) refl
+  where
+    go : ((ys : List Item) × (xs ≡ in_front (n - length (item_text i)) xs ++ ys)) → (b : Bool) → ltb (length (item_text i)) n ≡ b → (ys : List Item) × (i ∷ xs ≡ in_front n (i ∷ xs) ++ ys)
+    go more true e = (more.0, ap (λ (l : List Item). i ∷ l) more.1 ∙ ap (λ (b : Bool). cond b (i ∷ in_front (n - length (item_text i)) xs) [] ++ more.0) (sym e))
+    go more false e = (i ∷ xs, ap (λ (b : Bool). cond b (i ∷ in_front (n - length (item_text i)) xs) [] ++ (i ∷ xs)) (sym e))
+
+none_behind : (xs : List Item) → in_back 0 xs ≡ []
+none_behind [] = refl
+none_behind (i ∷ xs) = rw (le-ltb (length (items_text (i ∷ xs) [])) 0 (omega arith)) (none_behind xs)
+
+touches_itself : (n : ℕ) (c : Cut) → TouchesOnly n 0 c c
+touches_itself n c =
+    let xs = items_of c in
+    let rest = front_part n xs in
+    let all : xs ≡ in_front n xs ++ (rest.0 ++ in_back 0 xs) =
+    rest.1 ∙ ap (λ (l : List Item). in_front n xs ++ l) (sym (append-nil rest.0) ∙ ap (λ (l : List Item). rest.0 ++ l) (sym (none_behind xs))) in
+    record { touched = rest.0; written = rest.0; old_are = all; new_are = all; front_same = refl; back_same = refl }
+
+-- items that stay known are so in the text itself
+pub known_here : (n : ℕ) (t : List ℕ) (k : KnownItems) → StayKnown n (cut_of t) k → KnowsItems t k
+known_here n t k stay = stay (cut_of t) 0 (touches_itself n (cut_of t))
 
 -- ---- an operation on it
 

@@ -1,4 +1,4 @@
-use Rattle.std.proofs.Common.{◌≡◌, inl, ℕ, List, string_bytes, sym, ap, ◌∙◌, subst}
+use Rattle.std.proofs.Common.{◌≡◌, inl, ℕ, List, sym, ap, ◌∙◌, subst}
 use Rattle.std.proofs.lemmas.Result.{err_from_is_err_and}
 use Rattle.yq_text.specs.Split.{joined}
 use Rattle.yq_meaning.specs.Operations.{operation_of}
@@ -7,8 +7,8 @@ use Rattle.yq_splice.specs.Edit.{gives}
 use Rattle.yq_splice.specs.Session.{SessionState, HasPlaces, KnowsItems}
 use Rattle.yq_splice.specs.Theorems.{IsApplied}
 use Rattle.yq_splice.proofs.ApplyLaws.{refused_by}
-use Rattle.yq_splice.proofs.FollowLaws.{applied_none, applied_some, carried_none, carried_some, follows, kept_after, known_here, no_splices, scans, some_splices}
-use Rattle.yq_splice.proofs.SessionLaws.{places_stay}
+use Rattle.yq_splice.proofs.FollowLaws.{applied_none, applied_some, carried_none, carried_some, follows, kept_after, no_splices, scans, some_splices}
+use Rattle.yq_splice.proofs.SessionLaws.{known_here, places_stay}
 use Rattle.yq_splice.proofs.session.Session.apply.Goals as goal
 
 pub returns-in_err-changed-clause-refused : goal.returns-in_err-changed-clause-refused

@@ -1,4 +1,4 @@
-use Rattle.std.proofs.Common.{◌≡◌, IfOk, IfErr, List, ℕ, sym, ap, ◌∙◌, subst}
+use Rattle.std.proofs.Common.{IfOk, IfErr, List, ℕ, sym, ap, ◌∙◌, subst}
 use Rattle.yq_text.specs.Split.{joined}
 use Rattle.yq_documents.specs.Reading.{cut_of}
 use Rattle.yq_meaning.specs.Operations.{operation_of}
