@@ -132,12 +132,13 @@ fn many_rows(rt: HostRuntime) -> Result<(), Fail> {
     Ok(())
 }
 
-/// A text, an update of it, and how many lines of rows and end gaps it touches.
+/// A text, an update of each of its documents, and how many lines of rows and end gaps that touches, by
+/// hand: a row at whose edge something is put or taken away is touched too.
 static TOUCHED: [(&str, &str, u64); 6] = [
     ("a: 1\nb: 2\n---\n", "del(.b)", 1),
-    ("a: 1\n# end\n---\nb: 2\n", ".a = 3", 1),
-    ("a: 1\n# end\n---\nb: 2\n", ".c = 3", 3),
-    ("a: 1\n---\nb: 2\n", ".a line_comment = \"x\"", 1),
+    ("a: 1\n# end\n---\na: 2\n", ".a = 3", 2),
+    ("a: 1\n# end\n---\nb: 2\n", ".c = 3", 5),
+    ("a: 1\n---\na: 2\n", ".a line_comment = \"x\"", 2),
     ("a: 1\n# b\nb: 2\nc: 3\n", "del(.b)", 2),
     ("a: 1\nb: 2\n", ".a = 1", 0),
 ];
