@@ -28,7 +28,7 @@ use yq_planning::{
     Aliases, Change, Changed, Place, aliases_of, allow, find, has_comment, path_steps, right_value,
 };
 use yq_program::{Assignment, Operator, Stage, Term, Update};
-use yq_tree::Documents;
+use yq_tree::{CutText, Documents};
 
 /// Puts a change of a place's node behind others, if nothing refuses it.
 fn push_change(
@@ -51,7 +51,7 @@ fn push_change(
 /// Puts what is changed at a place behind other changes.
 fn push_effect<'a, 't>(
     alloc: Global,
-    documents: &Documents<'_>,
+    cut: &mut CutText<'_, '_>,
     doc: usize,
     aliases: &Aliases<'_>,
     effect: Effect<'a, '_>,
@@ -59,11 +59,14 @@ fn push_effect<'a, 't>(
     changes: &mut Vec<Changed>,
 ) -> Result<(), MatchError>
     requires { HasScalars (place_of place).node }
-    ensures { (root : TreeNode) → HasAliases (names_of root) aliases.now →
+    ensures same { cut.new ≡ cut.old }
+    ensures change { (root : TreeNode) → HasAliases (names_of root) aliases.now →
         IsIn root (place_of place.entry) →
-        Matches (λ _. map changed_of changes.new.items) result (put_behind (map changed_of changes.old.items) (and_then (spec.all_allowed root) (effect_at doc (room_of documents.now doc) effect.entry (place_of place.entry)))) }
+        Matches (λ _. map changed_of changes.new.items) result
+        (put_behind (map changed_of changes.old.items) (and_then (spec.all_allowed root)
+        (effect_at doc (room_of cut.old doc) effect.entry (place_of place.entry)))) }
 {
-    match change_at(alloc, documents, doc, effect, place)? {
+    match change_at(alloc, cut, doc, effect, place)? {
         None => Ok(()),
         Some(change) => push_change(alloc, aliases, place, change, changes),
     }
@@ -84,8 +87,9 @@ fn at_each<'a, 't>(
         Matches (λ v. map changed_of v.items) result (spec.at_each root (effect_at doc (room_of documents.now doc) effect.entry) (places_of places.now)) }
 {
     let mut changes = Vec::new(alloc);
+    let mut cut = documents.cut();
     'places: for place in places {
-        push_effect(alloc, documents, doc, aliases, effect, *place, &mut changes)?;
+        push_effect(alloc, &mut cut, doc, aliases, effect, *place, &mut changes)?;
     }
     Ok(changes)
 }

@@ -17,7 +17,7 @@ use yq_planning::{
     Change, Missing, NodePath, Place, added, copied, is_null, path_steps, put, right_value,
 };
 use yq_program::{CommentPlace, Term};
-use yq_tree::Documents;
+use yq_tree::CutText;
 
 /// What an update does at each place.
 #[derive(Clone, Copy)]
@@ -68,55 +68,61 @@ fn part(place: CommentPlace) -> Part
     }
 }
 
-/// Whether the text of documents has room for a comment of what is at a place
-/// of document `doc`.
+/// Whether the text has room for a comment of what is at a place of document `doc`. What is on the way
+/// there is known then, so that the next place of the text is near.
 fn has_room(
     alloc: Global,
-    documents: &Documents<'_>,
+    cut: &mut CutText<'_, '_>,
     doc: usize,
     comment: CommentPlace,
     place: Place<'_, '_>,
 ) -> Result<bool, AllocError>
-    ensures { IfOk result (λ b. b ≡ (room_of documents.now doc).has comment (place_of place.entry).path) }
+    ensures same { cut.new ≡ cut.old }
+    ensures room { IfOk result (λ b. b ≡ (room_of cut.old doc).has comment (place_of place.entry).path) }
 {
     let path = Path {
         doc,
         steps: path_steps(alloc, place.path)?,
     };
-    Ok(documents.has_room(&path, part(comment)))
+    *cut = cut.along(&path);
+    Ok(cut.has_room(&path, part(comment)))
 }
 
 /// The text of a comment that is set at a place.
 fn set_comment(
     alloc: Global,
-    documents: &Documents<'_>,
+    cut: &mut CutText<'_, '_>,
     doc: usize,
     comment: CommentPlace,
     text: &str,
     place: Place<'_, '_>,
 ) -> Result<Option<Change>, MatchError>
-    ensures { Matches (placed (place_of place.entry)) result (spec.comment_at (room_of documents.now doc) comment text.now (place_of place.entry)) }
+    ensures same { cut.new ≡ cut.old }
+    ensures change { Matches (placed (place_of place.entry)) result
+        (spec.comment_at (room_of cut.old doc) comment text.now (place_of place.entry)) }
 {
     if let Missing::Further(..) = place.missing {
         return Err(MatchError::Refused(Refusal::NoPlaceForComment));
     }
-    if !has_room(alloc, documents, doc, comment, place)? {
+    if !has_room(alloc, cut, doc, comment, place)? {
         return Err(MatchError::Refused(Refusal::NoPlaceForComment));
     }
     let text = String::from_str(alloc, text)?;
     Ok(Some(Change::SetsComment(comment, text)))
 }
 
-/// What is changed at a place of document `doc`, before anything refuses it.
+/// What is changed at a place of document `doc` of a text, before anything refuses it.
 pub(crate) fn change_at<'a, 't>(
     alloc: Global,
-    documents: &Documents<'_>,
+    cut: &mut CutText<'_, '_>,
     doc: usize,
     effect: Effect<'a, '_>,
     place: Place<'a, 't>,
 ) -> Result<Option<Change>, MatchError>
     requires { HasScalars (place_of place).node }
-    ensures { Matches (placed (place_of place.entry)) result (effect_at doc (room_of documents.now doc) effect.entry (place_of place.entry)) }
+    ensures same { cut.new ≡ cut.old }
+    ensures change { Matches (placed (place_of place.entry)) result
+        (effect_at doc (room_of cut.old doc) effect.entry (place_of place.entry)) }
 {
     match effect {
         Effect::Put(value) => Ok(Some(put(alloc, place, copied(alloc, value)?)?)),
@@ -126,8 +132,6 @@ pub(crate) fn change_at<'a, 't>(
         }
         Effect::Add(value) => add(alloc, place, value),
         Effect::Remove => remove(place),
-        Effect::SetComment(comment, text) => {
-            set_comment(alloc, documents, doc, comment, text, place)
-        }
+        Effect::SetComment(comment, text) => { set_comment(alloc, cut, doc, comment, text, place) }
     }
 }

@@ -20,19 +20,20 @@ returns-in_err-push_effect c = λ root named within.
     let f : Place → Judgement (List Changed) = λ q. and_then (all_allowed root) (effect_at c.args.doc (room_of c.args.documents.now c.args.doc) c.args.effect q) in
     failed _ _ _ _ (p.1 ∙ ap Err p.2)
     (each_fails place_of f (map changed_of c.places.changes.items) c.args.places.now c.places.place-index c.place-item.result _ _ c.places-test.true c.place-item.is
-    (c.in_err-push_effect.ensures root named (subst (AreIn root) here (c.places.invariant.within root within)).0)
+    ((rw c.places.invariant.same at c.in_err-push_effect.ensures.change) root named (subst (AreIn root) here (c.places.invariant.within root within)).0)
     (c.places.invariant.so_far root named within))
 
 pub places-preserved : goal.places-preserved
 places-preserved c =
     let here = reached place_of c.args.places.now c.places.place-index c.place-item.result c.places-test.true c.place-item.is in
     record {
+      same = c.push_effect.ensures.same ∙ c.places.invariant.same;
       scalars = (subst HaveScalars here c.places.invariant.scalars).1;
       within = λ root within. (subst (AreIn root) here (c.places.invariant.within root within)).1;
       so_far = λ root named within.
           let f : Place → Judgement (List Changed) = λ q. and_then (all_allowed root) (effect_at c.args.doc (room_of c.args.documents.now c.args.doc) c.args.effect q) in
           each_more place_of f (map changed_of c.places.changes.items) (map changed_of c.push_effect.new.changes.items) c.args.places.now c.places.place-index c.place-item.result _ c.places-test.true c.place-item.is
-          (c.in_ok-push_effect.ensures root named (subst (AreIn root) here (c.places.invariant.within root within)).0)
+          ((rw c.places.invariant.same at c.in_ok-push_effect.ensures.change) root named (subst (AreIn root) here (c.places.invariant.within root within)).0)
           (c.places.invariant.so_far root named within);
     }
 

@@ -13,6 +13,7 @@ use Rattle.yq_expr.proofs.changes.at_each.Given as goal
 
 abbrev pub invariant-places : goal.invariant-places
 invariant-places l = record {
+  same : l.cut ≡ l.documents;
   scalars : HaveScalars (places_of (drop l.place-index l.places));
   within : (root : Node) → AreIn root (places_of l.places) → AreIn root (places_of (drop l.place-index l.places));
   so_far : (root : Node) → HasAliases (names_of root) l.aliases → AreIn root (places_of l.places) →
