@@ -62,6 +62,9 @@ class Update:
                 node = self.source.choice(under)[1]
             else:
                 step, other = self.source.choice(under)
+                if isinstance(step, str) and re.search(r'[*?"\\]', step):
+                    # A pattern is refused, and what is shown has no escapes.
+                    break
                 steps.append(step - len(under) if isinstance(step, int) and self.source.random() < 0.3 else step)
                 node = other
         return steps, self.shown(steps)
