@@ -55,3 +55,5 @@ pub mod HalfLaws
 pub mod KeptPlaces
 pub mod PlacedLaws
 pub mod RegionEnds
+pub mod WordFronts
+pub mod DashSteps

@@ -13,6 +13,10 @@ use Rattle.yq_inline.specs.Reading.{scalar_at, name_at, all_node}
 use Rattle.yq_rows.specs.Grammar.{is_entry, may_be_alone, Limit, unlimited, allows, limit_after, key_limit, no_rows, begins_document, ends_part}
 use Rattle.yq_rows.specs.Rows.{Mark, Bare, Dash, Key, Anchor, Content, Nothing, Inline, Block, Row, behind_columns, parent_of, Part, Cut, last, marked}
 
+-- a letter or a digit, as ASCII has them (own)
+abbrev pub is_word : ℕ → Bool
+is_word b = (nat_le 97 b && nat_le b 122) || (nat_le 65 b && nat_le b 90) || (nat_le 48 b && nat_le b 57)
+
 -- a blank line or a comment line in front (own)
 abbrev pub begins_gap : List ℕ → Bool
 begins_gap t = not (is_empty t) && (ends_line (past_white t) || is_hash (past_white t))

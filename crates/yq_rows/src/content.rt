@@ -14,9 +14,10 @@ use crate::fault::{block_fault, fault};
 use crate::gap::is_hash;
 use crate::marks::Mark;
 use crate::naming::{no_content, no_further_line, no_tail};
+use crate::words::{begins_word, read_front};
 use yq_inline::DEPTH_LIMIT;
 use yq_inline::measuring::{Measured, NodeKind, measure_node};
-use yq_inline::pieces::{begins_scalar, first_is, is_quoted, name_len, read_scalar, strip};
+use yq_inline::pieces::{begins_scalar, first_is, is_quoted, name_len, strip};
 use yq_scalar::lines::split_line;
 use yq_scalar::text::{ends_line, split_white};
 use yq_scalar::{FaultKind, Place, ReadError, ReadFault, further_spaces, read_block};
@@ -45,6 +46,9 @@ pub struct Filling<'t> {
 pub(crate) fn find_tail(text: &str) -> Option<(&str, &str)>
     ensures { option_map (λ x. (x.0.now, x.1.now)) result ≡ spec.tail_at text.now }
 {
+    if first_is(b'\n', text.as_bytes()) {
+        return Some(text.split_at(1));
+    }
     let (white, rest) = split_white(text);
     let next = rest.as_bytes();
     if ends_line(next) || (!white.is_empty() && is_hash(next)) {
@@ -237,7 +241,7 @@ fn read_scalar_content<'t>(
     ensures fault { IfErr result IsOfText }
 {
     let spaces = further_spaces(Place::Block, parent);
-    let (head, behind) = match read_scalar(false, spaces, whole, text) {
+    let (head, behind) = match read_front(spaces, whole, text) {
         Ok(found) => found,
         Err(e) => return Err(ReadError::Fault(e)),
     };
@@ -268,6 +272,9 @@ pub(crate) fn read_content<'t>(
     ensures fault { IfErr result IsOfText }
 {
     let (space, rest) = split_white(text);
+    if begins_word(rest.as_bytes()) {
+        return read_scalar_content(whole, mark, parent, space, rest);
+    }
     if begins_block(rest) {
         return read_block_content(whole, parent, space, rest);
     }

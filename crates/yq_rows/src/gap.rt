@@ -3,6 +3,8 @@ ghost use Rattle.std.specs.Prelude.{◌≡◌};
 ghost use Rattle.yq_scalar.specs.Lines as lines;
 ghost use Rattle.yq_rows.specs.Reading as spec;
 
+use crate::words::begins_word;
+use yq_inline::pieces::first_is;
 use yq_scalar::lines::line_len;
 use yq_scalar::text::{ends_line, past_white};
 
@@ -15,9 +17,13 @@ pub(crate) fn is_hash(text: &[u8]) -> bool
 
 /// Whether a blank line or a comment line is in front (YAML 1.2.2, sections 6.4
 /// and 6.6).
+#[tactic(auto, using(crate::proofs::WordFronts::word_gap, crate::proofs::WordFronts::dash_gap))]
 pub fn begins_gap(text: &[u8]) -> bool
     ensures { result ≡ spec.begins_gap text.now }
 {
+    if begins_word(text) || first_is(b'-', text) {
+        return false;
+    }
     let next = past_white(text);
     !text.is_empty() && (ends_line(next) || is_hash(next))
 }

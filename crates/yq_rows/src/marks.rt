@@ -1,6 +1,6 @@
 //! Dashes and keys.
 ghost use Rattle.std.specs.Option.{option_map};
-ghost use Rattle.std.specs.Prelude.{◌≡◌, ◌≤◌, ◌&&◌, ◌+◌, length, nat_le, not};
+ghost use Rattle.std.specs.Prelude.{◌≡◌, ◌≤◌, ◌&&◌, ◌+◌, length, nat_le, not, None, if◌then◌else◌};
 ghost use Rattle.std.specs.Str.{chars};
 ghost use Rattle.yq_scalar.specs.Text.{is_empty};
 ghost use Rattle.yq_rows.specs.Grammar as grammar;
@@ -9,7 +9,7 @@ ghost use Rattle.yq_rows.specs.Lending.{begin_view, begun, mark_view};
 ghost use Rattle.yq_rows.specs.Reading as spec;
 ghost use Rattle.yq_rows.specs.Rows as rows;
 
-use yq_inline::pieces::read_scalar;
+use crate::words::read_front;
 use yq_scalar::characters::char_count;
 use yq_scalar::text::{separates, split_spaces, split_white};
 
@@ -106,7 +106,7 @@ fn has_key_room(key: &str, colon: &str) -> bool
 fn find_key(text: &str) -> Option<(&str, &str, &str)>
     ensures { option_map (λ x. (x.0.now, x.1.now, x.2.now)) result ≡ spec.key_at text.now }
 {
-    let Ok((key, rest)) = read_scalar(false, None, text, text) else {
+    let Ok((key, rest)) = read_front(None, text, text) else {
         return None;
     };
     let (colon, rest) = find_colon(rest)?;
@@ -134,11 +134,23 @@ pub(crate) fn begins_entry(text: &str) -> bool
     is_dash(text.as_bytes()) || find_key(text).is_some()
 }
 
-/// Whether behind a dash and these spaces a further dash or a key stands.
+/// Whether behind a dash and these spaces a further dash stands.
 fn goes_on(spaces: &str, next: &str) -> bool
-    ensures { result ≡ (not (is_empty spaces.now) && spec.begins_entry next.now) }
+    ensures { result ≡ (not (is_empty spaces.now) && spec.is_dash next.now) }
 {
-    !spaces.is_empty() && begins_entry(next)
+    !spaces.is_empty() && is_dash(next.as_bytes())
+}
+
+/// The key behind a dash and these spaces, what stands behind it up to its `:`, and what follows.
+fn key_behind<'t>(spaces: &str, next: &'t str) -> Option<(&'t str, &'t str, &'t str)>
+    ensures { option_map (λ x. (x.0.now, x.1.now, x.2.now)) result
+        ≡ (if is_empty spaces.now then None else spec.key_at next.now) }
+{
+    if spaces.is_empty() {
+        None
+    } else {
+        find_key(next)
+    }
 }
 
 /// The mark in front that is no dash, and what follows.
@@ -162,11 +174,19 @@ pub(crate) fn read_begin(text: &str) -> Begin<'_>
         let behind = rest.split_at(1).1;
         let (spaces, next) = split_spaces(behind);
         if !goes_on(spaces, next) {
-            return Begin {
-                dashes: text.split_at(text.len() - behind.len()).0,
-                columns: text.len() - rest.len(),
-                mark: Mark::Dash,
-                rest: behind,
+            return match key_behind(spaces, next) {
+                Some((key, colon, after)) => Begin {
+                    dashes: text.split_at(text.len() - next.len()).0,
+                    columns: text.len() - next.len(),
+                    mark: Mark::Key(key, colon),
+                    rest: after,
+                },
+                None => Begin {
+                    dashes: text.split_at(text.len() - behind.len()).0,
+                    columns: text.len() - rest.len(),
+                    mark: Mark::Dash,
+                    rest: behind,
+                },
             };
         }
         rest = next;

@@ -3,12 +3,13 @@ use Rattle.std.proofs.Common.{◌≡◌, ℕ, suc, ◌+◌, ◌-◌, ◌<◌, �
 use Rattle.std.proofs.lemmas.Bool.{false≢true, false_from_ne_true, and_parts, cases_Bool}
 use Rattle.std.proofs.lemmas.List.{take_rest, take-append-drop}
 use Rattle.std.proofs.lemmas.Option.{cond_some}
+use Rattle.std.specs.List.{prefix_len}
 use Rattle.std.specs.Option.{is_none, option_or}
 use Rattle.yq_scalar.specs.Answers.{more}
 use Rattle.yq_scalar.specs.Text.{upto, cut, is_empty, is_feed, is_white, is_break, is_return, is_space, front}
 use Rattle.yq_scalar.specs.Plain.{begins_deep, ends_plain, ends_text, follows, last_line, may_follow, no_gap}
 use Rattle.yq_scalar.specs.PlainReading.{across}
-use Rattle.yq_scalar.proofs.Bools.{more_more, more_some, at_byte}
+use Rattle.yq_scalar.proofs.Bools.{more_more, more_none, more_some, at_byte}
 
 -- what stands behind the first byte, as a slice's pattern gives it
 abbrev pub rest_of : List ℕ → List ℕ
@@ -38,10 +39,34 @@ across_return flow spaces deep b bs h e f =
 go : (n : ℕ) (x y z : Option ℕ) → x ≡ more 1 y → more n x ≡ z → more (n + 1) y ≡ z
 go n x y z h e = more_more n 1 y ∙ (ap (more n) (sym h) ∙ e)
 
-pub go_white : (flow : Bool) (spaces : Option ℕ) (deep : Bool) (n : ℕ) (r : List ℕ) (z : Option ℕ) → 1 ≤ length r → is_white (get_or r 0 0) ≡ true →
-    more n (across flow spaces deep r) ≡ z → more (n + 1) (across flow spaces deep (rest_of r)) ≡ z
-go_white flow spaces deep n [] z le w e = absurd (omega arith)
-go_white flow spaces deep n (b ∷ bs) z le w e = rw (rest_is) (go n _ _ z (across_white flow spaces deep b bs w) e)
+more_suc : (k : ℕ) (o : Option ℕ) → more (suc k) o ≡ more 1 (more k o)
+more_suc k None = refl
+more_suc k (Some m) = ap Some (omega arith)
+
+over_whites : (flow : Bool) (spaces : Option ℕ) (deep : Bool) (r : List ℕ) → across flow spaces deep r ≡ more (prefix_len is_white r) (across flow spaces deep (drop (prefix_len is_white r) r))
+over_whites flow spaces deep [] = sym (more_none (across flow spaces deep []))
+over_whites flow spaces deep (b ∷ bs) = elim (cases_Bool (is_white b)) [
+  | inl w ↦
+      let again = over_whites flow spaces deep bs in
+      let k = prefix_len is_white bs in
+      let same : suc k ≡ prefix_len is_white (b ∷ bs) = rw w (omega arith) in
+      subst (λ (n : ℕ). across flow spaces deep (b ∷ bs) ≡ more n (across flow spaces deep (drop n (b ∷ bs)))) same
+      (across_white flow spaces deep b bs w ∙ (ap (more 1) again ∙ sym (more_suc k (across flow spaces deep (drop k bs)))))
+  | inr w ↦
+      let same : 0 ≡ prefix_len is_white (b ∷ bs) = rw w refl in
+      subst (λ (n : ℕ). across flow spaces deep (b ∷ bs) ≡ more n (across flow spaces deep (drop n (b ∷ bs)))) same (sym (more_none (across flow spaces deep (b ∷ bs))))
+]
+
+pub whites_some : (r : List ℕ) → 1 ≤ length r → is_white (get_or r 0 0) ≡ true → 0 < prefix_len is_white r
+whites_some [] le w = absurd (omega arith)
+whites_some (b ∷ bs) le w = rw w (omega arith)
+
+-- over a run of white space
+pub go_whites : (flow : Bool) (spaces : Option ℕ) (deep : Bool) (n k : ℕ) (r : List ℕ) (z : Option ℕ) → k ≡ prefix_len is_white r →
+    more n (across flow spaces deep r) ≡ z → more (n + k) (across flow spaces deep (drop k r)) ≡ z
+go_whites flow spaces deep n k r z is e =
+    subst (λ (j : ℕ). more (n + j) (across flow spaces deep (drop j r)) ≡ z) (sym is)
+    (more_more n (prefix_len is_white r) (across flow spaces deep (drop (prefix_len is_white r) r)) ∙ (ap (more n) (sym (over_whites flow spaces deep r)) ∙ e))
 
 pub go_line : (flow : Bool) (spaces : Option ℕ) (deep next : Bool) (n : ℕ) (r : List ℕ) (z : Option ℕ) → 1 ≤ length r → is_white (get_or r 0 0) ≡ false → get_or r 0 0 ≡ 10 → next ≡ begins_deep spaces (rest_of r) →
     more n (across flow spaces deep r) ≡ z → more (n + 1) (across flow spaces next (rest_of r)) ≡ z

@@ -1,7 +1,8 @@
 -- Distinct keys in another order, and in a sorted list.
 use Rattle.std.proofs.Common.{◌≡◌, ◌≢◌, ℕ, ◌+◌, ◌<◌, ◌⊎◌, List, [], ◌∷◌, map, length, get_or, swap, Bool, true, false, IsPermutation, IsSorted, Bor, Ordering, Less, Equal, Greater, nat_cmp, is_eq, is_lt, bytes_eq, inl, inr, refl, sym, ap, ◌∙◌, arith}
 use Rattle.std.proofs.lemmas.Bool.{cases_eq}
-use Rattle.std.proofs.lemmas.Cmp.{on_total, nat_list_cmp_total}
+use Rattle.std.proofs.lemmas.Cmp.{on_total, then_total, nat_cmp_total, nat_list_cmp_total, tied_itself}
+use Rattle.std.specs.Cmp.{IsTotalOrder}
 use Rattle.std.proofs.lemmas.List.{get_or-map, length-map}
 use Rattle.std.proofs.lemmas.List.Edits.{Swapped, swapped_from_swap, length-swap}
 use Rattle.std.proofs.lemmas.List.Sorted.{IsPermutation-keeps, IsPermutation-map, IsPermutation-sym}
@@ -9,8 +10,8 @@ use Rattle.std.proofs.lemmas.Map.Keys.{sorted_from_all_adjacent, Less-from_sorte
 use Rattle.std.proofs.lemmas.Map.Text.{is_eq-slice_cmp}
 use Rattle.std.proofs.lemmas.Slice.Eq.{bytes_eq-Decides}
 use Rattle.std.specs.Cmp.Lexicographic.{slice_cmp}
-use Rattle.std.specs.Ordering.{ordering_reverse}
-use Rattle.yq_scalar.specs.Keys.{AreDistinct}
+use Rattle.std.specs.Ordering.{ordering_reverse, ordering_then, on, then_cmp}
+use Rattle.yq_scalar.specs.Keys.{AreDistinct, DiffersBefore}
 
 abbrev pub Key : Type 0
 Key = Bor (List ℕ)
@@ -40,6 +41,25 @@ pub DifferAt-from_distinct : (ks : List Key) (i j : ℕ) → AreDistinct (texts 
 DifferAt-from_distinct ks i j h less within d =
     let inside : j < length (texts ks) = omega (arith, length-map ks (λ (x : Key). x.now)) in
     tested (get_or ks i d).now (get_or ks j d).now _ refl (λ e. h i j [] less inside (get_or-map (λ x. x.now) ks i d [] (omega arith) ∙ e ∙ sym (get_or-map (λ x. x.now) ks j d [] within)))
+
+-- Each key and those before it.
+
+pub DiffersBefore-from_places : (ks : List Key) (j : ℕ) → j < length ks → ((i : ℕ) → i < j → DifferAt ks i j) → DiffersBefore (texts ks) j
+DiffersBefore-from_places [] j within h i d less e = omega arith
+DiffersBefore-from_places (k ∷ ks) j within h i d less e =
+    let all = k ∷ ks in
+    apart _ _ (h i less k) (sym (get_or-map (λ x. x.now) all i k d (omega arith)) ∙ e ∙ get_or-map (λ x. x.now) all j k d within)
+
+pub DifferAt-from_before : (ks : List Key) (j i : ℕ) → DiffersBefore (texts ks) j → j < length ks → i < j → DifferAt ks i j
+DifferAt-from_before ks j i h within less d =
+    let inside : j < length (texts ks) = omega (arith, length-map ks (λ (x : Key). x.now)) in
+    tested (get_or ks i d).now (get_or ks j d).now _ refl (λ e. h i [] less (get_or-map (λ x. x.now) ks i d [] (omega arith) ∙ e ∙ sym (get_or-map (λ x. x.now) ks j d [] within)))
+
+pub AreDistinct-from_before : (ks : List Key) → ((j : ℕ) → j < length ks → DiffersBefore (texts ks) j) → AreDistinct (texts ks)
+AreDistinct-from_before ks h i j d less within e = let inside : j < length ks = omega (arith, length-map ks (λ (x : Key). x.now)) in h j inside i d less e
+
+pub DiffersBefore-from_distinct : (ks : List Key) (j : ℕ) → AreDistinct (texts ks) → j < length ks → DiffersBefore (texts ks) j
+DiffersBefore-from_distinct ks j h within i d less e = let inside : j < length (texts ks) = omega (arith, length-map ks (λ (x : Key). x.now)) in h i j d less inside e
 
 -- Another order.
 
@@ -101,3 +121,27 @@ DifferAt-from_sorted ks sorted neighbours =
     let total = on_total (λ (k : Key). k.now) nat_list_cmp_total in
     DifferAt-from_rising ks (λ k h d. let x = get_or ks k d in let y = get_or ks (k + 1) d in
     only_less (key_cmp x y) (key_cmp y x) (total.antisymm x y) (sorted k d (omega arith) h) (is_eq-slice_cmp x.now y.now ∙ neighbours k h d))
+
+-- how keys are in order that grow: a shorter one first, and of those as long the lesser one
+abbrev pub grow_cmp : Key → Key → Ordering
+grow_cmp = then_cmp (on (λ (k : Key). length k.now) nat_cmp) key_cmp
+
+grow_total : IsTotalOrder grow_cmp
+grow_total = then_total (on_total (λ (k : Key). length k.now) nat_cmp_total) (on_total (λ (k : Key). k.now) nat_list_cmp_total)
+
+-- the same order of texts
+abbrev text_cmp : List ℕ → List ℕ → Ordering
+text_cmp a b = ordering_then (nat_cmp (length a) (length b)) (slice_cmp nat_cmp a b)
+
+-- the key at k is before the next one
+abbrev pub GrowsAt : List Key → ℕ → Type 0
+GrowsAt ks k = (d : Key) → grow_cmp (get_or ks k d) (get_or ks (k + 1) d) ≡ Less
+
+-- Where neighbours grow, all pairs differ.
+pub DifferAt-from_growing : (ks : List Key) → ((k : ℕ) → k + 1 < length ks → GrowsAt ks k) → (i j : ℕ) → i < j → j < length ks → DifferAt ks i j
+DifferAt-from_growing ks grows i j less within d =
+    let x = get_or ks i d in
+    let y = get_or ks j d in
+    let below : grow_cmp x y ≡ Less = Less-from_sorted grow_cmp ks i j d (sorted_from_all_adjacent grow_total ks d (λ k h. grows k h d)) less within in
+    let same : grow_cmp x x ≡ Equal = tied_itself grow_total x in
+    tested x.now y.now _ refl (λ e. let tie : Less ≡ Equal = sym below ∙ (ap (text_cmp x.now) (sym e) ∙ same) in cc)

@@ -1,5 +1,5 @@
 -- The keys of a mapping (YAML 1.2.2, section 3.2.1.3), and how deep collections are nested.
-use Rattle.std.specs.Prelude.{◌≢◌, ℕ, suc, max, List, [], ◌∷◌, Option, Some, None, Bool, true, not, ◌&&◌, AllPairs, ⊤}
+use Rattle.std.specs.Prelude.{◌≢◌, ◌<◌, ℕ, get_or, suc, max, List, [], ◌∷◌, Option, Some, None, Bool, true, not, ◌&&◌, AllPairs, ⊤}
 use Rattle.std.specs.List.{list_any}
 use Rattle.std.specs.Str.{bytes_eq}
 use Rattle.yq_scalar.specs.Tree.{Node, alias, scalar, list, map, Children, none, child}
@@ -7,6 +7,10 @@ use Rattle.yq_scalar.specs.Tree.{Node, alias, scalar, list, map, Children, none,
 -- no two keys have the same content (YAML 1.2.2, section 3.2.1.3)
 abbrev pub AreDistinct : List (List ℕ) → Type 0
 AreDistinct keys = AllPairs (λ a b. a ≢ b) keys
+
+-- the key at a place differs from each one before it (own)
+abbrev pub DiffersBefore : List (List ℕ) → ℕ → Type 0
+DiffersBefore keys at = (i : ℕ) (d : List ℕ) → i < at → get_or keys i d ≢ get_or keys at d
 
 -- whether no two keys are equal (own)
 abbrev pub are_distinct : List (List ℕ) → Bool

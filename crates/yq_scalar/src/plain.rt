@@ -5,7 +5,7 @@ ghost use Rattle.yq_scalar.specs.Plain as spec;
 ghost use Rattle.yq_scalar.specs.PlainReading as reading;
 ghost use Rattle.yq_scalar.specs.Text.{cut, upto};
 
-use crate::text::{is_break, is_marker, is_space, is_white, separates, spaces_len};
+use crate::text::{is_break, is_marker, is_space, is_white, separates, spaces_len, whites_len};
 
 /// `,`, `[`, `]`, `{` or `}`.
 pub fn is_flow_indicator(b: u8) -> bool
@@ -75,8 +75,9 @@ fn across(flow: bool, spaces: Option<usize>, text: &[u8]) -> Option<usize>
     let mut deep = true;
     'each: while let [first, after @ ..] = rest {
         if is_white(*first) {
-            n += 1;
-            rest = after;
+            let run = whites_len(rest);
+            n += run;
+            rest = rest.split_at(run).1;
         } else if *first == b'\n' {
             deep = begins_deep(spaces, after);
             n += 1;

@@ -49,12 +49,26 @@ pub fn is_marker(text: &[u8]) -> bool
     }
 }
 
-/// How many spaces are in front.
-pub fn spaces_len(text: &[u8]) -> usize
+/// How many spaces are in front, counted one by one.
+fn each_space(text: &[u8]) -> usize
     ensures value { result ≡ prefix_len (λ b. b == 32) text.now }
     ensures within { result ≤ length text.now }
 {
     text.iter().take_while(|b| **b == b' ').count()
+}
+
+/// How many spaces are in front; four are passed at a time.
+pub fn spaces_len(text: &[u8]) -> usize
+    ensures value { result ≡ prefix_len (λ b. b == 32) text.now }
+    ensures within { result ≤ length text.now }
+{
+    let mut n = 0;
+    let mut rest = text;
+    'fours: while let [b' ', b' ', b' ', b' ', after @ ..] = rest {
+        n += 4;
+        rest = after;
+    }
+    n + each_space(rest)
 }
 
 /// How many spaces and tabs are in front.

@@ -1,12 +1,22 @@
-use Rattle.std.proofs.Common.{rules, ◌∙◌, sym}
-use Rattle.yq_scalar.proofs.Across.{rest_length, go_white, go_line, go_return}
+use Rattle.std.proofs.Common.{rules, ◌≡◌, ℕ, List, drop, ◌∙◌, sym, arith}
+use Rattle.yq_scalar.proofs.Across.{rest_length, whites_some, go_whites, go_line, go_return}
 use Rattle.yq_scalar.proofs.plain.across.Goals as goal
 
+pub each-smaller-then-is_white : goal.each-smaller-then-is_white
+each-smaller-then-is_white c =
+    let some = whites_some c.each.rest.now c.in-len1-up.len_at_least (sym c.is_white.ensures ∙ c.if-is_white.true) in
+    omega (arith, some, c.whites_len-run.ensures.value, c.whites_len-run.ensures.within, c.split_at.ensures.back_len)
+
 pub each-preserved-then-is_white : goal.each-preserved-then-is_white
-each-preserved-then-is_white c = record {
-  within = rest_length c.each.n c.each.rest.now _ c.in-len1-up.len_at_least c.each.invariant.within;
-  so_far = go_white c.args.flow c.args.spaces c.each.deep c.each.n c.each.rest.now _ c.in-len1-up.len_at_least (sym c.is_white.ensures ∙ c.if-is_white.true) c.each.invariant.so_far;
-}
+each-preserved-then-is_white c =
+    let r : List ℕ = c.each.rest.now in
+    let k = c.whites_len-run.result in
+    let on = go_whites c.args.flow c.args.spaces c.each.deep c.each.n k r _ c.whites_len-run.ensures.value c.each.invariant.so_far in
+    let back : c.split_at.result.1.now ≡ drop k r = c.split_at.ensures.back in
+    record {
+      within = omega (arith, c.whites_len-run.ensures.within, c.split_at.ensures.back_len, c.each.invariant.within);
+      so_far = rw back on;
+    }
 
 pub each-preserved-then-first-eq10 : goal.each-preserved-then-first-eq10
 each-preserved-then-first-eq10 c = record {
