@@ -4,15 +4,12 @@ use Rattle.std.proofs.lemmas.Option.{same_Some}
 use mathlib.Core.List.{head-eq_of_cons-eq, tail-eq_of_cons-eq}
 use Rattle.std.specs.List.{slice_get}
 use Rattle.yq_scalar.specs.Paths.{change_child, within}
-use Rattle.yq_scalar.specs.Tree.{Node, Children, none, child, children_of}
+use Rattle.yq_scalar.specs.Tree.{Node, Children, none, child}
 use Rattle.yq_rows.specs.Rows.{Part}
-use Rattle.yq_documents.specs.Documents.{Document, document_parts, lead_of}
-use Rattle.yq_documents.specs.Reading.{document_of, root_of}
-use Rattle.yq_change.specs.After.{EndIsChange, with_root_after, AfterBlock, AfterKept, ChangedAlike}
-use Rattle.yq_change.specs.Changed.{changed}
+use Rattle.yq_documents.specs.Documents.{Document}
+use Rattle.yq_documents.specs.Reading.{document_of}
+use Rattle.yq_change.specs.After.{EndIsChange}
 use Rattle.yq_change.specs.Edited.{first_above}
-use Rattle.yq_change.proofs.ChangedLaws.{document_put}
-use Rattle.yq_change.proofs.EditedLaws.{root_has_lead}
 use Rattle.yq_documents.specs.TreeEdits.{change_nth, lead_by}
 
 pub end_is_change : EndIsChange
@@ -39,25 +36,6 @@ pub by_first : (cs : Children) (lead other : List (List ℕ)) → first_above cs
 by_first none lead other e = cc
 by_first (child l n cs) lead other e = cc
 
-pub after_block : AfterBlock
-after_block c k p q lead f there keeps h block =
-    let parts = document_put c k p q there keeps in
-    let is : document_of q ≡ changed lead f (document_of p) = nth_is k p q (changed lead f) (document_parts c) there (sym (ap (map document_of) parts) ∙ h.documents_are) in
-    let root : root_of q ≡ f (root_of p) = ap (λ (d : Document). d.root) is in
-    let first : first_above (children_of (f (root_of p))) ≡ Some lead = ap (λ n. first_above (children_of n)) (sym root) ∙ (root_has_lead q block ∙ ap (λ (d : Document). Some d.lead) is) in
-    let same : lead_by true (children_of (f (root_of p))) (lead_of p) ≡ lead = by_first (children_of (f (root_of p))) lead (lead_of p) first in
-    h.documents_are ∙ nth_same k p (changed lead f) (with_root_after true f) (document_parts c) there (λ i. record { lead = sym same i; root = f (root_of p) })
-
 pub none_kept : (block : Bool) (cs : Children) (lead : List (List ℕ)) → (block ≡ true → cs ≡ none) → lead_by block cs lead ≡ lead
 none_kept false cs lead h = refl
 none_kept true cs lead h = ap (λ ds. lead_by true ds lead) (h refl)
-
-pub after_kept : AfterKept
-after_kept c new k p f block there h none_left =
-    h.documents_are ∙ nth_same k p (changed (lead_of p) f) (with_root_after block f) (document_parts c) there (λ i. record { lead = sym (none_kept block (children_of (f (root_of p))) (lead_of p) none_left) i; root = f (root_of p) })
-
-pub changed_alike : ChangedAlike
-changed_alike c new k p lead f g there h same = record {
-  read = h.read;
-  documents_are = h.documents_are ∙ nth_same k p (changed lead f) (changed lead g) (document_parts c) there (λ i. record { lead = lead; root = same i });
-}

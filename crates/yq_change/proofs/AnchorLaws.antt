@@ -12,7 +12,7 @@ use Rattle.yq_lines.proofs.Allowing.{Allows, IsCollection}
 use Rattle.yq_lines.proofs.Plug.{headless_entry}
 use Rattle.yq_lines.proofs.NameLaws.{each_front, each_back}
 use Rattle.yq_tree.proofs.FlowToldLaws.{before_under}
-use Rattle.yq_change.specs.Conditions.{last_anchor, BeginsEntry, AnchorsStay, LinesAmong, FitStays}
+use Rattle.yq_change.specs.Conditions.{last_anchor, BeginsEntry, AnchorsStay, LinesAmong}
 use Rattle.yq_change.specs.Siblings.{IsEntry, NodeLines, under_line}
 use Rattle.yq_change.proofs.NodeLineLaws.{after_under, Under, lines_found, under_even}
 use Rattle.yq_change.proofs.SiblingLaws.{next, entry_out}
@@ -92,9 +92,3 @@ fit_parts (r ∷ xs) ys h = let k = fit_parts xs ys h.2 in ((h.0, h.1, k.0), k.1
 pub fit_from : (xs ys : List Row) → HaveFitKeys xs → HaveFitKeys ys → HaveFitKeys (xs ++ ys)
 fit_from [] ys h k = k
 fit_from (r ∷ xs) ys h k = (h.0, h.1, fit_from xs ys h.2 k)
-
-pub fit_stays : FitStays
-fit_stays before gone come after h new =
-    let p = fit_parts before (gone ++ after) h in
-    let q = fit_parts gone after p.1 in
-    fit_from before (come ++ after) p.0 (fit_from come after new q.1)

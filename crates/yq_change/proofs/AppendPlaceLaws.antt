@@ -13,7 +13,7 @@ use Rattle.yq_rows.specs.Exchange.{allows_first, asked_behind}
 use Rattle.yq_rows.specs.Gap.{IsGap}
 use Rattle.yq_rows.specs.Grammar.{Limit, unlimited, allows, limit_after, AreRows}
 use Rattle.yq_rows.specs.Rows as rows
-use Rattle.yq_rows.specs.Rows.{Content, Row, behind_columns, before_column, mark_column, parent_of, parent_indent, rows_text, Part, Cut}
+use Rattle.yq_rows.specs.Rows.{Content, Row, mark_column, parent_of, parent_indent, Part, Cut}
 use Rattle.yq_rows.specs.Splices.{first_gap, behind_first}
 use Rattle.yq_rows.proofs.PlainEnds.{AtLine, rows_line}
 use Rattle.yq_rows.proofs.seams.SeamLaws.{part_line}

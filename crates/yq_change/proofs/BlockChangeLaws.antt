@@ -1,9 +1,8 @@
 -- The operations on block nodes, by the lines that they exchange, add or drop.
 use Rattle.std.proofs.Common.{◌≡◌, ℕ, ◌+◌, List, [], ◌∷◌, ◌++◌, length, Option, Some, option_map, refl, sym, ap, ◌∙◌, subst, arith, append-nil, length-append}
 use Rattle.yq_scalar.specs.Keys.{keys_of}
-use Rattle.yq_scalar.specs.Paths.{child_at, node_at, within}
+use Rattle.yq_scalar.specs.Paths.{child_at, node_at}
 use Rattle.yq_scalar.specs.Tree.{Node, Children, children_of}
-use Rattle.yq_documents.specs.Documents.{lead_of}
 use Rattle.yq_lines.specs.Group.{level_or}
 use Rattle.yq_documents.specs.Lines.{lines_from, lines_of}
 use Rattle.yq_lines.specs.Outline.{Mark, Bare, Key, Dash, Line, Outline, end, row, flatten, anchored, label, collection, children, value}
@@ -14,23 +13,19 @@ use Rattle.yq_rows.specs.Rows.{Row, behind_columns}
 use Rattle.yq_lines.proofs.Finding.{FoundNode, path_node, row_child}
 use Rattle.yq_lines.proofs.Plug.{entry_whole}
 use Rattle.yq_lines.proofs.Values.{same_rank, same_entry}
-use Rattle.yq_change.specs.Changed.{put_document, first_comment}
 use Rattle.yq_change.specs.Conditions.{last_anchor}
-use Rattle.yq_change.specs.Edited.{with_lead}
-use Rattle.yq_change.specs.BlockChanges.{NodeReplaced, RootReplaced, RootRewritten, EntryAppended, EntryRemoved, EntryRelabelled, FirstRemoved, FirstDropped}
+use Rattle.yq_change.specs.BlockChanges.{NodeReplaced, RootReplaced, EntryAppended, EntryRemoved, EntryRelabelled, FirstRemoved, FirstDropped}
 use Rattle.yq_change.specs.Moved.{dash_lines}
 use Rattle.yq_change.specs.SoundRoots.{IsNewKey}
 use Rattle.yq_change.specs.Siblings.{IsEntry, HasEntries}
-use Rattle.yq_change.proofs.ChangedLaws.{lead_is_first}
-use Rattle.yq_change.proofs.EditedLaws.{old_is_sound, old_is_even, lines_are_there, line_exchanged, lines_exchanged, lines_appended, lines_removed, line_relabelled, lead_is_above, led_as, root_keeps}
+use Rattle.yq_change.proofs.EditedLaws.{old_is_sound, old_is_even, lines_are_there, line_exchanged, lines_exchanged, lines_appended, lines_removed, line_relabelled}
 use Rattle.yq_change.proofs.AnchorLaws.{any_free}
 use Rattle.yq_change.proofs.MovedLaws.{first_moved, first_emptied}
 use Rattle.yq_change.proofs.PlacedLaws.{entry_placed, found_is_entry}
 use Rattle.yq_change.proofs.SiblingLaws.{entry_in, entry_out}
 use Rattle.yq_change.proofs.SoundRootLaws.{replace_keeps, append_keeps}
 use Rattle.yq_change.proofs.SoundRootLess.{remove_keeps, relabel_keeps}
-use Rattle.yq_documents.specs.TreeEdits.{headed, replaced}
-use Rattle.yq_lines.specs.LineAnchors.{HaveOneAnchorEach}
+use Rattle.yq_documents.specs.TreeEdits.{replaced}
 use Rattle.yq_lines.proofs.NodeLaws.{anchored_none}
 use Rattle.yq_change.proofs.LineLaws.{dashes_count}
 
@@ -49,26 +44,6 @@ root_replaced t c k p q v m u put fits lines may =
     lines_exchanged t c k p q [] _ (replaced v) m u put refl
     (record { deep = fits.deep; even = fits.even; node_is = anchored_none (value u) ∙ (fits.value_is ∙ ap (replaced v) (sym (anchored_none (root_of p)))) })
     (record { each = fits.anchors; free = tt }) (lines ∙ sym (append-nil (flatten u))) sound
-
--- anchors under another lead
-led_anchors : (above : List (List ℕ)) (o : Outline) → HaveOneAnchorEach (flatten o) → HaveOneAnchorEach (flatten (with_lead above o))
-led_anchors above end h = h
-led_anchors above (row l u a) h = h
-
-pub root_rewritten : RootRewritten
-root_rewritten t c k p q v m u put fits block lines is =
-    let above : List (List ℕ) = lead_of p in
-    let w = lead_is_above above m u block fits.even in
-    let value_is : value (with_lead above u) ≡ within (headed above) v = w.1 ∙ ap (within (headed above)) fits.value_is in
-    let sound = (root_keeps above v is).1 in
-    led_as c (put_document k q c) k (lead_of q) above (λ old. within (headed above) v) (lead_is_first q ∙ (ap (first_comment (head_comment q.end)) lines ∙ first u block))
-    (lines_exchanged t c k p q [] _ (λ old. within (headed above) v) m (with_lead above u) put refl
-    (record { deep = fits.deep; even = w.0; node_is = anchored_none (value (with_lead above u)) ∙ value_is })
-    (record { each = led_anchors above u fits.anchors; free = tt }) (lines ∙ sym (append-nil (flatten (with_lead above u)))) sound)
-  where
-    first : (o : Outline) → HasEntries o → first_comment (head_comment q.end) (flatten (with_lead (lead_of p) o)) ≡ lead_of p
-    first end b = absurd b
-    first (row k x a) b = refl
 
 -- the items or entries of a block collection behind an anchor
 block_children : (a : Option (List ℕ)) (o : Outline) → HasEntries o → children_of (anchored a (value o)) ≡ children o

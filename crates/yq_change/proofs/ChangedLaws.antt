@@ -1,5 +1,5 @@
 -- Texts in which one document has another part.
-use Rattle.std.proofs.Common.{◌≡◌, ℕ, zero, suc, List, [], ◌∷◌, ◌++◌, map, Bool, true, false, not, ◌||◌, Some, refl, sym, ap, ◌∙◌, append_assoc}
+use Rattle.std.proofs.Common.{◌≡◌, ℕ, zero, suc, List, [], ◌∷◌, ◌++◌, map, Bool, true, false, not, ◌||◌, Some, refl, sym, ap, ◌∙◌}
 use Rattle.std.proofs.lemmas.Bool.{and_parts, and_from, cond-true}
 use Rattle.std.proofs.lemmas.Option.{same_Some}
 use mathlib.Core.List.{cons≢nil}
@@ -7,8 +7,7 @@ use Rattle.std.specs.List.{slice_get, list_all}
 use Rattle.yq_scalar.specs.Tree.{Node}
 use Rattle.yq_lines.specs.Comments.{head_comment}
 use Rattle.yq_rows.specs.Grammar.{no_rows, begins_document}
-use Rattle.yq_rows.specs.Rows.{Row, Part, Cut, last, marked, part_text, cut_text}
-use Rattle.yq_rows.proofs.PlaceLaws.{part_then}
+use Rattle.yq_rows.specs.Rows.{Row, Part, Cut, last, marked, cut_text}
 use Rattle.yq_documents.specs.Documents.{Document, IsRoot, parts_from, has_begin, begins_bare, document_parts, lead_of}
 use Rattle.yq_rows.specs.Splices.{first_gap}
 use Rattle.yq_documents.specs.Lines.{lines_from, lines_of}
@@ -19,7 +18,7 @@ use Rattle.yq_tree.proofs.DocumentLaws.{is_document_of}
 use Rattle.yq_tree.proofs.ReadLaws.{text_takes, text_again}
 use Rattle.yq_scalar.proofs.Bools.{guard_then}
 use Rattle.yq_change.specs.Siblings.{StandsSomewhere}
-use Rattle.yq_change.specs.Changed.{put_from, put_document, KeepsRows, DocumentPut, DifferIn, TextPut, changed, PartStands, DocumentChanged, first_comment, LeadIsFirst}
+use Rattle.yq_change.specs.Changed.{put_from, put_document, KeepsRows, DocumentPut, changed, PartStands, DocumentChanged, first_comment, LeadIsFirst}
 use Rattle.yq_documents.specs.TreeEdits.{change_nth}
 
 -- parts
@@ -92,29 +91,6 @@ document_put c k p q there keeps =
     let before : (not (no_rows (first_part c).rows) || not (has_begin c)) ≡ is = ap (λ b. b || not (has_begin c)) (sym (bare_is c)) in
     let stays : (begins_bare new || not (has_begin new)) ≡ is = ap (λ b. b || not (has_begin new)) (bare_is new) ∙ first_is is k p q c before there keeps in
     ap (λ b. parts_from b new) stays ∙ from_put is k q c
-
--- the texts before and behind a part
-part_place : (p : Part) (marker before text rest : List ℕ) → rest ≡ before ++ text → part_text p (marker ++ rest) ≡ part_text p (marker ++ before) ++ text
-part_place p marker before text rest h = ap (λ l. part_text p (marker ++ l)) h ∙ (ap (part_text p) (sym (append_assoc marker before text)) ∙ part_then p (marker ++ before) text)
-
-further : (x : Part) (marker : List ℕ) (c new : Cut) (p q : Part) → DifferIn c new p q → DifferIn (marked x marker c) (marked x marker new) p q
-further x marker c new p q h = record {
-  before = part_text x (marker ++ h.before);
-  behind = h.behind;
-  old_text = part_place x marker h.before (part_text p h.behind) (cut_text c) h.old_text;
-  new_text = part_place x marker h.before (part_text q h.behind) (cut_text new) h.new_text;
-}
-
-texts_put : (is : Bool) (k : ℕ) (p q : Part) (c : Cut) → slice_get (parts_from is c) k ≡ Some p → DifferIn c (put_from is k q c) p q
-texts_put true zero p q (last x) e = record { before = []; behind = []; old_text = ap (λ y. part_text y []) (same_Some _ _ e); new_text = refl }
-texts_put true (suc k) p q (last x) e = absurd (cc)
-texts_put false k p q (last x) e = absurd (cc)
-texts_put true zero p q (marked x marker c) e = record { before = []; behind = marker ++ cut_text c; old_text = ap (λ y. part_text y (marker ++ cut_text c)) (same_Some _ _ e); new_text = refl }
-texts_put true (suc k) p q (marked x marker c) e = further x marker c (put_from (begins_document marker) k q c) p q (texts_put (begins_document marker) k p q c e)
-texts_put false k p q (marked x marker c) e = further x marker c (put_from (begins_document marker) k q c) p q (texts_put (begins_document marker) k p q c e)
-
-pub text_put : TextPut
-text_put c k p q there = texts_put (begins_bare c || not (has_begin c)) k p q c there
 
 -- the root of lines
 root_of_lines : (ls : List Line) (root : Node) → StandsSomewhere ls root → IsRoot ls root

@@ -32,10 +32,10 @@ use Rattle.yq_documents.specs.Reading.{outline_of, root_of}
 use Rattle.yq_tree.specs.RowPaths.{spelled, IsReadable}
 use Rattle.yq_documents.specs.TreeEdits.{replaced}
 use Rattle.yq_change.specs.Changed.{IsChanged, put_document}
-use Rattle.yq_change.specs.Contents.{recontent, TakesContent, EntryContentReplaced, LowerContentReplaced, RootContentReplaced}
+use Rattle.yq_change.specs.Contents.{recontent, TakesContent, LowerContentReplaced, RootContentReplaced}
 use Rattle.yq_change.specs.Appends.{inserted}
 use Rattle.yq_change.specs.DocumentRows.{IsDocumentPart, behind_document, part_number}
-use Rattle.yq_change.specs.Edited.{IsPut, LineFits}
+use Rattle.yq_change.specs.Edited.{IsPut}
 use Rattle.yq_change.specs.Moved.{dash_lines}
 use Rattle.yq_change.specs.SoundRoots.{MayReplace}
 use Rattle.yq_change.proofs.AnchorLaws.{fit_parts, fit_from}
@@ -45,7 +45,7 @@ use Rattle.yq_change.proofs.FirstRowLaws.{short_first}
 use Rattle.yq_change.proofs.LineLaws.{above_mark, dashes_count}
 use Rattle.yq_change.proofs.NodeLineLaws.{low_level, under_even}
 use Rattle.yq_change.proofs.PartLaws.{document_known, is_put, part_numbered, part_rows, rows_put, take_front}
-use Rattle.yq_change.proofs.PlacedLaws.{same_parts, whole_line, line_placed}
+use Rattle.yq_change.proofs.PlacedLaws.{same_parts, whole_line}
 use Rattle.yq_change.proofs.RemarkLaws.{last_lines}
 use Rattle.yq_change.proofs.ReplaceLaws.{rows_before_some}
 use Rattle.yq_change.proofs.RowCommentLaws.{rows_behind, lead_content}
@@ -227,29 +227,6 @@ module _ (t : List ℕ) (c : Cut) (k : ℕ) (p : Part) (front : List Row) (r : R
   spelled_new : spelled new ≡ anchored (content_anchor r.content) v
   spelled_new = (λ i. anchored (h.anchor_is i) (head_or (h.head_is i) null_node))
 
-  -- behind a key or dash
-  entry_fits : (f : Found) → x ∷ [] ≡ f.line ∷ flatten f.under → f.under ≡ end → LineFits [] f (replaced v) (suc (level l)) l end
-  unfolding level
-  entry_fits f one none =
-      let line : x ≡ f.line = head-eq_of_cons-eq one in
-      record {
-        label_is = (λ i. record { key = outline.key_of x.mark; head_comment = x.head_comment; line_comment = h.comment_is i }) ∙ ap outline.label line;
-        level_is = ap level line;
-        headless = subst (λ y. IsOpen y end) (sym h.head_is) tt;
-        deep = omega arith;
-        even = tt;
-        node_is = spelled_new ∙ (ap (λ y. anchored y v) (sym named) ∙ (λ i. replaced v (content (line i) (sym none i))));
-      }
-
-  pub entry_is : (s : Step) (ss : List Step) (f : Found) → find s ss (outline_of p) ≡ Some (f, []) → f.under ≡ end → length (lines_of front) + length r.dashes ≡ length (lines_before f.place) →
-      MayReplace v (content f.line f.under) (root_of p) (length (s ∷ ss)) → IsChanged c (put_document k q c) k (lead_of p) (change (s ∷ ss) (replaced v))
-  entry_is s ss f found none number may =
-      let size : length a ≡ length (lines_before f.place) =
-      length-append (lines_of front) (dash_lines (head_comment r.gap) r.column r.dashes) ∙ (ap (λ (n : ℕ). length (lines_of front) + n) (dashes_count (head_comment r.gap) r.column r.dashes) ∙ number) in
-      let one = line_placed (level_or 0 (outline_of p)) p s ss [] f a (x ∷ []) (lines_of back) even found
-      (record { parts_are = old_lines; before_are = size; size_is = ap (λ u. suc (length (flatten u))) (sym none) }) in
-      node_replaced t c k p q s ss f v (suc (level l)) l end is_it found (entry_fits f one.0 none) (free_alone l.anchor, tt) (new_lines ∙ sym (one.1 (l ∷ []))) may
-
   -- alone on the line under a key or dash
   pub lower_is : (s : Step) (ss : List Step) (f : Found) → find s ss (outline_of p) ≡ Some (f, []) → f.line.head ≡ None → length (flatten f.under) ≡ 1 → r.mark ≡ rows.Bare → length (lines_of front) + length r.dashes ≡ suc (length (lines_before f.place)) →
       MayReplace v (content f.line f.under) (root_of p) (length (s ∷ ss)) → IsChanged c (put_document k q c) k (lead_of p) (change (s ∷ ss) (replaced v))
@@ -321,9 +298,6 @@ module _ (t : List ℕ) (c : Cut) (k : ℕ) (p : Part) (front : List Row) (r : R
     where
       none : length a ≡ 0
       none = omega (arith, count, ap length old_lines, length-append a (x ∷ lines_of back))
-
-pub entry_content_replaced : EntryContentReplaced
-entry_content_replaced t c k p front back r v new s ss f h found none number may = entry_is t c k p front r back v new h s ss f found none number may
 
 pub lower_content_replaced : LowerContentReplaced
 lower_content_replaced t c k p front back r v new s ss f h found open' count mark number may = lower_is t c k p front r back v new h s ss f found open' count mark number may

@@ -1,21 +1,17 @@
 -- Another inline node behind the anchor of what is written behind a mark.
-use Rattle.std.proofs.Common.{◌≡◌, inl, inr, ℕ, ℤ, ◌||◌, not, eqb, List, [], ◌∷◌, ◌++◌, Option, Some, None, Bool, true, false, refl, sym, ap, ◌∙◌, append_assoc}
-use Rattle.std.proofs.lemmas.Bool.{cond_both, false≢true, or_right, not-true}
-use Rattle.std.proofs.lemmas.Option.{none-some, same_Some}
+use Rattle.std.proofs.Common.{◌≡◌, inl, inr, ℕ, ◌||◌, not, eqb, List, [], ◌∷◌, ◌++◌, Option, None, Bool, true, false, refl, sym, ap, ◌∙◌}
+use Rattle.std.proofs.lemmas.Bool.{cond_both, false≢true, or_right}
 use Rattle.yq_scalar.specs.Text.{is_empty, no_white, unless, NoneIn}
 use Rattle.yq_inline.specs.Nodes.{Node, empty, alias, scalar, coll, anchored, node_text, items_text, open_of, first_is, in_name, begins_content, takes_anchor, is_bare, IsName, IsLead, IsNode}
 use Rattle.yq_inline.specs.Trees.{node_anchor, node_head}
 use Rattle.yq_inline.specs.Scalars.{IsScalar, begins_scalar}
 use Rattle.yq_inline.proofs.PieceLaws.{scalar_begins}
-use Rattle.yq_inline.proofs.WrittenLaws.{node_then}
-use Rattle.yq_rows.specs.Grammar.{IsContent, is_more}
-use Rattle.yq_rows.specs.Rows.{Content, Nothing, Inline, Block, content_text}
+use Rattle.yq_rows.specs.Grammar.{is_more}
+use Rattle.yq_rows.specs.Rows.{Content, Nothing, Inline, Block}
 use Rattle.yq_rows.proofs.Fronts.{node_starts}
 use Rattle.yq_rows.proofs.EmptyTexts.{none_is}
 use Rattle.yq_documents.specs.Documents.{HasFitKeys}
-use Rattle.yq_tree.specs.InlinePlaces.{InlinePlace, node_inline, mark_inline}
 use Rattle.yq_tree.specs.RowPaths.{apart}
-use Rattle.yq_change.specs.InlineRows.{place_text}
 
 -- a node in the place of another one, behind its anchor
 abbrev pub recore : Node → Node → Node
@@ -131,41 +127,8 @@ core_node spaces d core rest u b a s (anchored n g (scalar p)) h = anchored_node
 core_node spaces d core rest u b a s (anchored n g (coll k x is)) h = anchored_node spaces d core rest u b a s n g (coll k x is) (open_of k ∷ (x ++ items_text k is rest)) refl h.0 h.1 h.2
 core_node spaces d core rest u b a s (anchored n g (anchored m x node)) h = absurd (false≢true h.3)
 
--- ---- its text
+-- ---- no white space before nothing
 
 pub empty_gap : (g rest : List ℕ) → IsLead false (begins_content false) g rest → begins_content false rest ≡ false → g ≡ []
 empty_gap g rest (inl h) none = absurd (false≢true (sym none ∙ h.1))
 empty_gap g rest (inr h) none = h.0
-
-deep_text : (alone : Bool) (before : List ℕ) (core node : Node) (rest : List ℕ) → takes_anchor node ≡ true → is_bare node ≡ false → before ++ node_text core rest ≡ place_text (node_inline alone before node rest) (node_text core [])
-deep_text alone before core empty rest t b = absurd (false≢true (sym b))
-deep_text alone before core (alias n) rest t b = absurd (false≢true t)
-deep_text alone before core (scalar p) rest t b = ap (λ l. before ++ l) (node_then core rest)
-deep_text alone before core (coll k g is) rest t b = ap (λ l. before ++ l) (node_then core rest)
-deep_text alone before core (anchored n g node) rest t b = absurd (false≢true t)
-
-regroup : (before n g x : List ℕ) → before ++ (38 ∷ (n ++ (g ++ x))) ≡ (before ++ 38 ∷ (n ++ g)) ++ x
-regroup before n g x = simp append_assoc refl
-
-pub core_text : (alone : Bool) (before : List ℕ) (core node : Node) (spaces : Option ℕ) (d : ℕ) (rest : List ℕ) → is_bare node ≡ false → IsNode false spaces d node rest →
-    before ++ node_text (recore core node) rest ≡ place_text (node_inline alone before node rest) (node_text core [])
-unfolding IsNode node_text
-core_text alone before core empty spaces d rest b h = absurd (false≢true (sym b))
-core_text alone before core (alias n) spaces d rest b h = ap (λ l. before ++ l) (node_then core rest)
-core_text alone before core (scalar p) spaces d rest b h = ap (λ l. before ++ l) (node_then core rest)
-core_text alone before core (coll k g is) spaces d rest b h = ap (λ l. before ++ l) (node_then core rest)
-core_text alone before core (anchored n g empty) spaces d rest b h =
-    let none : g ≡ [] = empty_gap g rest h.1 h.4.0 in
-    regroup before n [] (32 ∷ node_text core rest) ∙ (λ i. (before ++ 38 ∷ (n ++ sym none i)) ++ (32 ∷ node_then core rest i))
-core_text alone before core (anchored n g (alias m)) spaces d rest b h = absurd (false≢true h.3)
-core_text alone before core (anchored n g (scalar p)) spaces d rest b h = regroup before n g (node_text core rest) ∙ deep_text alone (before ++ 38 ∷ (n ++ g)) core (scalar p) rest refl refl
-core_text alone before core (anchored n g (coll k x is)) spaces d rest b h = regroup before n g (node_text core rest) ∙ deep_text alone (before ++ 38 ∷ (n ++ g)) core (coll k x is) rest refl refl
-core_text alone before core (anchored n g (anchored m x node)) spaces d rest b h = absurd (false≢true h.3)
-
-pub content_text_is : (alone : Bool) (before : List ℕ) (core : Node) (n : ℤ) (x : Content) (rest : List ℕ) (w : InlinePlace) → IsContent n x rest → mark_inline alone before x rest ≡ Some w →
-    before ++ content_text (put_core core x) rest ≡ place_text w (node_text core [])
-content_text_is alone before core n (Nothing tail) rest w h e = ap (λ l. before ++ (32 ∷ l)) (node_then core (tail ++ rest)) ∙ ap (λ (y : InlinePlace). place_text y (node_text core [])) (same_Some _ _ e)
-content_text_is alone before core n (Inline space node tail) rest w h e =
-    sym (append_assoc before space (node_text (recore core node) (tail ++ rest)))
-    ∙ (core_text alone (before ++ space) core node _ _ (tail ++ rest) (not-true (is_bare node) h.1.something) h.1.valid ∙ ap (λ (y : InlinePlace). place_text y (node_text core [])) (same_Some _ _ e))
-content_text_is alone before core n (Block space anchor block) rest w h e = absurd (none-some _ e)

@@ -1,24 +1,21 @@
 -- Texts with other lines in one document.
-use Rattle.std.proofs.Common.{◌≡◌, ℕ, zero, suc, ◌≤◌, List, [], ◌∷◌, ◌++◌, Option, Some, None, true, refl, sym, ap, ◌∙◌, subst, append_assoc, arith}
+use Rattle.std.proofs.Common.{◌≡◌, ℕ, List, [], ◌∷◌, ◌++◌, Option, Some, None, true, refl, sym, ap, ◌∙◌, subst, append_assoc}
 use Rattle.std.proofs.lemmas.Option.{same_Some}
-use Rattle.std.specs.Prelude.{map as each_of}
-use Rattle.std.specs.List.{slice_get}
 use Rattle.yq_scalar.specs.Keys.{HasUniqueKeys, depth}
-use Rattle.yq_inline.specs.Inline.{depth_limit}
 use Rattle.yq_scalar.specs.Paths.{Step, append_child, change, node_at, relabel_child, remove_child, within}
 use Rattle.yq_scalar.specs.Tree.{Label, Node, alias, scalar, list, map, Children, none, child, children_of}
 use Rattle.yq_scalar.proofs.Bools.{guard_then}
 use Rattle.yq_lines.specs.Comments.{head_comment}
 use Rattle.yq_rows.specs.Rows.{Part, Cut}
-use Rattle.yq_scalar.specs.Anchors.{names_of, AreBound}
+use Rattle.yq_scalar.specs.Anchors.{names_of}
 use Rattle.yq_lines.specs.LineAnchors.{IsFree, HaveOneAnchorEach}
-use Rattle.yq_documents.specs.Documents.{Document, document_parts, lead_of}
+use Rattle.yq_documents.specs.Documents.{document_parts, lead_of}
 use Rattle.yq_lines.specs.Group.{level_or}
 use Rattle.yq_lines.specs.Laws.{with_lines}
 use Rattle.yq_documents.specs.Lines.{lines_of}
 use Rattle.yq_lines.specs.Outline.{Mark, Bare, Key, Dash, Line, level, Outline, end, row, flatten, IsWhole, IsEven, anchored, head_or, label, collection, children, value}
 use Rattle.yq_lines.specs.Places.{lines_before, lines_after, plug, Found, find, content}
-use Rattle.yq_documents.specs.Reading.{document_of, is_document, outline_of, read_at, root_of}
+use Rattle.yq_documents.specs.Reading.{is_document, outline_of, read_at, root_of}
 use Rattle.yq_lines.proofs.Allowing as allowing
 use Rattle.yq_lines.proofs.Allowing.{Allows}
 use Rattle.yq_lines.proofs.Decides.{flatten-group, even_from}
@@ -31,10 +28,10 @@ use Rattle.yq_tree.proofs.RowPathLaws.{document_fine}
 use Rattle.yq_lines.proofs.Values.{same_rank, same_entry}
 use Rattle.yq_lines.proofs.NameLaws.{each_front, each_back}
 use Rattle.yq_lines.proofs.NodeLaws.{anchored_none}
-use Rattle.yq_change.specs.Changed.{changed, IsChanged, put_document, first_comment}
+use Rattle.yq_change.specs.Changed.{IsChanged, put_document, first_comment}
 use Rattle.yq_change.specs.Conditions.{last_anchor, BeginsEntry}
-use Rattle.yq_change.specs.Edited.{IsPut, OldIsEven, OldIsSound, LinesAreThere, LineExchanged, LinesExchanged, LinesAppended, LinesRemoved, LineRelabelled, LeadStays, LeadIsAbove}
-use Rattle.yq_change.specs.Edited.{first_above, RootHasLead, RootKeeps, with_root, LeadKept}
+use Rattle.yq_change.specs.Edited.{IsPut, OldIsEven, OldIsSound, LinesAreThere, LineExchanged, LinesExchanged, LinesAppended, LinesRemoved, LineRelabelled, LeadIsAbove}
+use Rattle.yq_change.specs.Edited.{first_above, RootHasLead}
 use Rattle.yq_change.specs.SoundRoots.{IsSoundRoot}
 use Rattle.yq_change.specs.Siblings.{append_outline, IsEntry, HasEntries, NodeLines, put_lines, StandsSomewhere}
 use Rattle.yq_change.proofs.AnchorLaws.{any_free, anchors_stay, after_anew, both_anew, collection_anew, lines_among}
@@ -42,7 +39,7 @@ use Rattle.yq_change.proofs.ChangedLaws.{document_changed, lead_is_first}
 use Rattle.yq_change.proofs.CollectionLaws.{Splits, some_at, level_mark, appended, removed, relabelled}
 use Rattle.yq_change.proofs.NodeLineLaws.{Under, lines_found, lines_even, lines_replaced}
 use Rattle.yq_change.proofs.SiblingLaws.{entry_out, entries, even_right, next, rest_entries}
-use Rattle.yq_documents.specs.TreeEdits.{change_nth, headed}
+use Rattle.yq_documents.specs.TreeEdits.{headed}
 use Rattle.yq_change.proofs.PartLaws.{all_at}
 
 -- What is known of a part that is a document.
@@ -99,9 +96,6 @@ pub lead_from : (p q : Part) (before : List Line) (l m : Line) (ls ms : List Lin
     lead_of q ≡ lead_of p
 lead_from p q before l m ls ms old new same =
     lead_is_first q ∙ (ap (first_comment (head_comment q.end)) new ∙ (first_same (head_comment q.end) (head_comment p.end) before l m ls ms same ∙ sym (lead_is_first p ∙ ap (first_comment (head_comment p.end)) old)))
-
-pub lead_stays : LeadStays
-lead_stays p q l m ls ms old new same = lead_from p q [] l m ls ms old new same
 
 pub led_as : (c : Cut) (new : Cut) (k : ℕ) (a b : List (List ℕ)) (f : Node → Node) → a ≡ b → IsChanged c new k a f → IsChanged c new k b f
 led_as c new k a b f e h = subst (λ x. IsChanged c new k x f) e h
@@ -264,24 +258,3 @@ led_same above (list a none) = (refl, refl, λ h. h)
 led_same above (list a (child l n cs)) = (refl, refl, λ h. h)
 led_same above (map a none) = (refl, refl, λ h. h)
 led_same above (map a (child l n cs)) = (refl, refl, λ h. h)
-
-pub root_keeps : RootKeeps
-root_keeps above v is =
-    let r = led_same above v in
-    let deep = is.nested in
-    let nested : depth v ≤ depth_limit = omega (arith, deep) in (
-      record { unique = is.unique; nested = nested; bound = subst (AreBound []) (sym is.bare) tt },
-      record { unique = r.2 is.unique; nested = subst (λ k. k ≤ depth_limit) (sym r.1) nested; bound = subst (AreBound []) (sym (r.0 ∙ is.bare)) tt },
-    )
-
--- the documents of parts
-abbrev map_of : List Part → List Document
-map_of ps = each_of document_of ps
-
-pub lead_kept : LeadKept
-lead_kept c k p f there = go (document_parts c) k there
-  where
-    go : (ps : List Part) (k : ℕ) → slice_get ps k ≡ Some p → change_nth k (changed (lead_of p) f) (map_of ps) ≡ change_nth k (with_root f) (map_of ps)
-    go [] k e = refl
-    go (x ∷ ps) zero e = ap (λ (y : Part). record { lead = lead_of y; root = f (root_of x) } ∷ map_of ps) (sym (same_Some _ _ e))
-    go (x ∷ ps) (suc k) e = ap (λ ds. document_of x ∷ ds) (go ps k e)

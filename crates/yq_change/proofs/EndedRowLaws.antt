@@ -12,7 +12,7 @@ use Rattle.yq_tree.proofs.CommentPieceLaws.{Ended, content_end}
 use Rattle.yq_tree.proofs.SeamLaws.{raw_end, last_ended}
 
 -- the text of a content
-many_lf : (a b c d t : List ℕ) → IsLf t → IsLf (a ++ (b ++ (c ++ (d ++ t))))
+pub many_lf : (a b c d t : List ℕ) → IsLf t → IsLf (a ++ (b ++ (c ++ (d ++ t))))
 many_lf a b c d t h = append_lf a (b ++ (c ++ (d ++ t))) (append_lf b (c ++ (d ++ t)) (append_lf c (d ++ t) (append_lf d t h)))
 
 content_ended : (n : ℤ) (c : Content) (rest : List ℕ) → IsContent n c rest → Ended (content_text c []) rest

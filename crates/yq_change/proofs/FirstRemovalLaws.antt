@@ -37,7 +37,7 @@ use Rattle.yq_change.specs.Conditions.{AreSpared}
 use Rattle.yq_change.specs.DocumentRows.{IsDocumentPart, Known, behind_document}
 use Rattle.yq_change.specs.Moved.{emptied, moved_up}
 use Rattle.yq_change.specs.PathRows.{IsEntryLine}
-use Rattle.yq_change.specs.RemovalChanges.{IsTakenOut, MayTakeOut, FirstTakenOut}
+use Rattle.yq_change.specs.RemovalChanges.{IsTakenOut, MayTakeOut}
 use Rattle.yq_change.specs.Siblings.{HasEntries}
 use Rattle.yq_change.specs.TextPieces.{IsPiece}
 use Rattle.yq_change.proofs.AfterLaws.{end_is_change}
@@ -343,6 +343,3 @@ first_gone c k steps x read e may size = go steps refl (out_is c k steps x e)
         let v = snoc y ys in
         subst (λ (zs : List Step). IsFirstGone c k zs x) (sym (is ∙ v.2))
         (first_taken c k y ys v.0 v.1 x v.2 read (subst (λ (zs : List Step). IsFirstOut c k zs x) is h) (subst (MayTakeOut c k) (is ∙ v.2) may) size)
-
-pub first_taken_out : FirstTakenOut
-first_taken_out c k steps x read e may size = (first_gone c k steps x read e may size).0

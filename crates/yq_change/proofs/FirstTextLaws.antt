@@ -21,7 +21,7 @@ use Rattle.yq_documents.specs.declared.path.Part.TheVariants.{Entry}
 use Rattle.yq_documents.specs.Lines.{dash_line, lines_from, lines_of}
 use Rattle.yq_tree.specs.PathPieces.{BlockEntry, found_entry, piece_in, piece_in_entry}
 use Rattle.yq_documents.specs.Pieces.{Piece}
-use Rattle.yq_tree.specs.PrintedLines.{PrintedLine, line_front, print_lines, printed_from, printed_lines, line_in, run_piece}
+use Rattle.yq_tree.specs.PrintedLines.{PrintedLine, line_front, print_lines, printed_from, printed_lines, printed_row, line_in, run_piece}
 use Rattle.yq_documents.specs.Seats.{Seat, seat}
 use Rattle.yq_tree.proofs.FoundEntries.{lines_count}
 use Rattle.yq_tree.proofs.PrintedLaws.{lines_are}
@@ -34,9 +34,12 @@ use Rattle.yq_change.proofs.FirstBreakLaws.{IsOneBreak, lines_break, rows_break}
 use Rattle.yq_change.proofs.FirstEntryLaws.{FirstRows}
 use Rattle.yq_change.proofs.FirstReplaceLaws.{rows_after}
 use Rattle.yq_change.proofs.PartLaws.{take_front}
-use Rattle.yq_change.proofs.CollectionPlaceLaws.{printed_parts}
 
 -- ---- lines of rows
+
+printed_parts : (front back : List Row) → printed_lines (front ++ back) ≡ printed_lines front ++ printed_lines back
+printed_parts [] back = refl
+printed_parts (r ∷ front) back = ap (λ ls. printed_row r ++ ls) (printed_parts front back) ∙ sym (append_assoc (printed_row r) (printed_lines front) (printed_lines back))
 
 printed_count : (rs : List Row) → length (printed_lines rs) ≡ length (lines_of rs)
 printed_count rs = omega (arith, lines_count (printed_lines rs), ap length (lines_are rs))

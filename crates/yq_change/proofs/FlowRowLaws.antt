@@ -10,7 +10,7 @@ use Rattle.yq_inline.specs.Alike.{Alike, stop, after}
 use Rattle.yq_inline.specs.Collections.{CollPieces, coll_along, put_at}
 use Rattle.yq_flow.specs.FlowEdits.{edited_node}
 use Rattle.yq_inline.specs.Inline.{IsInline}
-use Rattle.yq_inline.specs.Nodes.{Node, empty, alias, scalar, coll, anchored, Items, node_text, items_text}
+use Rattle.yq_inline.specs.Nodes.{Node, empty, alias, scalar, coll, anchored, Items, node_text}
 use Rattle.yq_inline.specs.Trees.{collection, items_tree, node_anchor, node_head, tree_of}
 use Rattle.yq_inline.proofs.Alikes.{alike_append, alike_separates}
 use Rattle.yq_flow.proofs.CollLaws.{open_stop}
@@ -19,15 +19,15 @@ use Rattle.yq_lines.specs.Comments.{head_comment}
 use Rattle.yq_lines.specs.Group.{level_or}
 use Rattle.yq_lines.specs.Laws.{with_lines}
 use Rattle.yq_lines.specs.Outline as outlines
-use Rattle.yq_lines.specs.Outline.{Line, Outline, end, flatten, first_anchor}
+use Rattle.yq_lines.specs.Outline.{Line, Outline, end, flatten}
 use Rattle.yq_lines.specs.Places.{lines_before, lines_after, Found}
 use Rattle.yq_lines.proofs.Decides.{flatten-group}
 use Rattle.yq_lines.proofs.PlaceLaws.{placed}
 use Rattle.yq_lines.proofs.Plug.{allows_from}
 use Rattle.yq_rows.specs.Exchange.{allows_first, asked_behind, with_content}
-use Rattle.yq_rows.specs.Grammar.{IsContent, IsMark, IsRow, Limit, AreRows, unlimited, is_entry, is_more, is_plain, limit_after, may_be_alone, no_rows}
+use Rattle.yq_rows.specs.Grammar.{IsContent, IsMark, IsRow, Limit, AreRows, unlimited, is_more, is_plain, no_rows}
 use Rattle.yq_rows.specs.Rows as rows
-use Rattle.yq_rows.specs.Rows.{Content, Inline, Row, content_text, mark_column, mark_text, parent_indent, print_row, rows_text, Part, Cut}
+use Rattle.yq_rows.specs.Rows.{Content, Inline, Row, content_text, mark_column, mark_text, parent_indent, rows_text, Part, Cut}
 use Rattle.yq_rows.specs.Seams.{TakesPlace}
 use Rattle.yq_rows.specs.Splices.{first_gap}
 use Rattle.yq_rows.proofs.AlikeRows.{dashes_text_alike}

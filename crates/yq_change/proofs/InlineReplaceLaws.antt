@@ -1,12 +1,10 @@
--- An inline node outside flow collections, or nothing, gives way to the inline node of a value.
-use Rattle.std.proofs.Common.{◌≡◌, ℕ, ℤ, zero, suc, ◌+◌, ◌*◌, ◌<◌, ◌≤◌, List, [], ◌∷◌, ◌++◌, length, take, Some, Bool, true, false, refl, sym, ap, ◌∙◌, subst, arith, append_assoc, length-append}
+-- What stands behind a row that is alone on its line.
+use Rattle.std.proofs.Common.{◌≡◌, ℕ, ℤ, zero, suc, ◌+◌, ◌*◌, ◌<◌, List, [], ◌∷◌, ◌++◌, length, take, Some, true, false, refl, sym, ap, ◌∙◌, subst, arith, append_assoc, length-append}
 use Rattle.std.proofs.lemmas.Bool.{false≢true, lt-ltb}
-use mathlib.Core.List.{head-eq_of_cons-eq}
 use Rattle.yq_scalar.specs.Paths.{Step}
 use Rattle.yq_scalar.specs.Piece.{deeper}
 use Rattle.yq_scalar.specs.Plain.{ends_plain}
 use Rattle.yq_lines.specs.Group.{group, level_or, is_fine}
-use Rattle.yq_lines.specs.Outline as outline
 use Rattle.yq_lines.specs.Outline.{Line, level, rank, Outline, end, row, flatten, IsEven}
 use Rattle.yq_lines.specs.Places.{lines_before, lines_after, Found}
 use Rattle.yq_lines.specs.Comments.{head_comment}
@@ -15,7 +13,7 @@ use Rattle.yq_rows.specs.Exchange.{allows_first, asked_behind}
 use Rattle.yq_inline.specs.Nodes.{scalar}
 use Rattle.yq_rows.specs.Grammar.{Limit, unlimited, AreRows, IsTail, is_entry, ends_part}
 use Rattle.yq_rows.specs.Rows as rows
-use Rattle.yq_rows.specs.Rows.{Content, Nothing, Inline, Block, Row, mark_column, parent_of, parent_indent, rows_text, Part, Cut, cut_text}
+use Rattle.yq_rows.specs.Rows.{Inline, Row, mark_column, parent_of, parent_indent, rows_text, Part, Cut}
 use Rattle.yq_rows.proofs.ExchangeLaws.{relimit}
 use Rattle.yq_rows.proofs.seams.SeamLaws.{rows_drop}
 use Rattle.yq_rows.proofs.seams.TailLaws.{fits_by}
@@ -23,15 +21,14 @@ use Rattle.yq_documents.specs.Lines.{mark_of, mark_line, row_lines, lines_of}
 use Rattle.yq_documents.specs.Reading.{outline_of}
 use Rattle.yq_tree.proofs.NextLaws.{StartsAt, found_starts}
 use Rattle.yq_change.specs.DocumentRows.{IsDocumentPart, behind_document}
-use Rattle.yq_change.specs.InlineRows.{LeadsToEntry, LeadsBelow, IsRootRow, LeadsToContent}
+use Rattle.yq_change.specs.InlineRows.{LeadsBelow, IsRootRow, LeadsToLone}
 use Rattle.yq_change.specs.LineRows.{Begins}
 use Rattle.yq_change.specs.Moved.{dash_lines}
-use Rattle.yq_change.specs.Siblings.{IsEntry}
 use Rattle.yq_change.proofs.ColumnLaws.{next_low}
 use Rattle.yq_change.proofs.LineLaws.{above_mark, dashes_count, row_count}
 use Rattle.yq_change.proofs.NodeLineLaws.{under_even}
 use Rattle.yq_change.proofs.PartLaws.{document_known, part_rows, take_front, drop_front}
-use Rattle.yq_change.proofs.PlacedLaws.{found_is_entry, same_parts, whole_line}
+use Rattle.yq_change.proofs.PlacedLaws.{same_parts, whole_line}
 use Rattle.yq_change.proofs.RemarkLaws.{last_lines}
 
 -- the rows from one on
@@ -75,30 +72,6 @@ module _ (p : Part) (front : List Row) (r : Row) (back : List Row) (rows_are : p
   unfolding level
   level_is = refl
 
-  -- behind a key or dash
-  pub entry_back : (s : Step) (ss : List Step) (h : LeadsToEntry p s ss front r) → (x ≡ h.found.line) × (lines_of back ≡ flatten h.found.after ++ lines_after h.found.place)
-  entry_back s ss h =
-      let f : Found = h.found in
-      let whole : lines_of p.rows ≡ lines_before f.place ++ ((f.line ∷ flatten f.under) ++ (flatten f.after ++ lines_after f.place)) = sym (flatten-group (lines_of p.rows)) ∙ whole_line (outline_of p) s ss [] f h.is in
-      let parts = same_parts a (x ∷ []) (lines_of back) (lines_before f.place) (f.line ∷ flatten f.under) (flatten f.after ++ lines_after f.place) (sym all ∙ whole) (size ∙ h.number) (ap (λ u. suc (length (flatten u))) (sym h.under)) in
-      (head-eq_of_cons-eq parts.1, parts.2)
-
-  entry_next : (s : Step) (ss : List Step) (h : LeadsToEntry p s ss front r) → is_entry r.mark ≡ true → allows_first (record { column = Some (deeper (parent_indent r)) }) back ≡ true
-  entry_next s ss h e =
-      let b = entry_back s ss h in
-      let starts : Begins (level h.found.line) (lines_of back) = subst (Begins (level h.found.line)) (sym b.1) (begins _ (found_starts (lines_of p.rows) s ss [] h.found h.is fine)) in
-      subst (λ d. allows_first (record { column = Some d }) back ≡ true) (sym (deeper_entry r.mark (mark_column r) e))
-      (next_by (level h.found.line) (suc (mark_column r)) back starts (omega (arith, ap level b.0, level_is, rank_high (mark_of r.mark))))
-    where
-      rank_high : (m : outline.Mark) → rank m ≤ 3
-      rank_high outline.Bare = omega arith
-      rank_high (outline.Key j) = omega arith
-      rank_high outline.Dash = omega arith
-
-      begins : (ls : List Line) → StartsAt (level h.found.line) ls → Begins (level h.found.line) ls
-      begins [] s = tt
-      begins (l ∷ ls) s = s
-
   -- alone on the line under it
   lower_back : (s : Step) (ss : List Step) (h : LeadsBelow p s ss front r) → (lines_of back ≡ flatten h.found.after ++ lines_after h.found.place) × (level h.found.line < level x)
   lower_back s ss h =
@@ -135,19 +108,10 @@ module _ (p : Part) (front : List Row) (r : Row) (back : List Row) (rows_are : p
       none [] e = refl
       none (b ∷ bs) e = absurd (omega (arith, e, row_count b, length-append (row_lines b) (lines_of bs)))
 
-  pub entry_mark : (s : Step) (ss : List Step) (h : LeadsToEntry p s ss front r) → is_entry r.mark ≡ true
-  entry_mark s ss h = is_it r.mark (subst (λ (l : Line). IsEntry l.mark) (sym (entry_back s ss h).0) (found_is_entry (level_or 0 (outline_of p)) p s ss h.found even h.is))
-    where
-      is_it : (m : rows.Mark) → IsEntry (mark_of m) → is_entry m ≡ true
-      is_it rows.Bare e = absurd e
-      is_it rows.Dash e = refl
-      is_it (rows.Key key colon) e = refl
-
   -- the next row stands where no further line of what is behind the mark does
-  pub next_stands : (steps : List Step) (alone : Bool) → LeadsToContent p alone steps front r → allows_first (record { column = Some (deeper (parent_indent r)) }) back ≡ true
-  next_stands [] alone h = ap (allows_first (record { column = Some (deeper (parent_indent r)) })) (root_back h.0)
-  next_stands (s ∷ ss) false h = entry_next s ss h (entry_mark s ss h)
-  next_stands (s ∷ ss) true h = lower_next s ss h
+  pub next_stands : (steps : List Step) → LeadsToLone p steps front r → allows_first (record { column = Some (deeper (parent_indent r)) }) back ≡ true
+  next_stands [] h = ap (allows_first (record { column = Some (deeper (parent_indent r)) })) (root_back h)
+  next_stands (s ∷ ss) h = lower_next s ss h
 
 -- before what stands behind a row's content a plain scalar ends
 pub tail_ends_plain : (n : ℤ) (tail : List ℕ) (limit : Limit) (back : List Row) (gap rest : List ℕ) → IsTail tail (rows_text back (gap ++ rest)) → AreRows limit back gap rest → allows_first (record { column = Some (deeper n) }) back ≡ true → ends_part rest ≡ true →

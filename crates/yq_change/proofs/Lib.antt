@@ -37,11 +37,10 @@ pub mod RemovalPieceLaws
 pub mod RemovalChangeLaws
 pub mod ContentLaws
 pub mod PlaceTextLaws
-pub mod InlineRowLaws
 pub mod CoreLaws
 pub mod ValueContentLaws
 pub mod InlineReplaceLaws
-pub mod InlineDoneLaws
+pub mod MarkFirst
 pub mod RowExamples
 pub mod LeadLaws
 pub mod TextPieceLaws
@@ -56,7 +55,6 @@ pub mod FirstOutLaws
 pub mod FirstChangeLaws
 pub mod FirstLineLaws
 pub mod FirstRemovalLaws
-pub mod CollectionPlaceLaws
 pub mod AppendPlaceLaws
 pub mod EndedRowLaws
 pub mod FlowLineLaws
@@ -67,3 +65,5 @@ pub mod FlowStandLaws
 pub mod UnderLaws
 pub mod UnbrokenLaws
 pub mod DocumentItemLaws
+pub mod StandingRows
+pub mod StandingMarks

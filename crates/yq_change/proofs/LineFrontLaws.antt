@@ -1,5 +1,5 @@
 -- A text cut before the end of a line: no CR stands before the break.
-use Rattle.std.proofs.Common.{inl, inr, ◌⊎◌, ◌≡◌, ℕ, zero, suc, ◌+◌, ℤ, Bool, true, false, ◌&&◌, ◌||◌, not, List, [], ◌∷◌, ◌++◌, length, replicate, refl, sym, ap, ◌∙◌, subst, append_assoc, append-nil, ⊎_elim, arith}
+use Rattle.std.proofs.Common.{inl, inr, ◌⊎◌, ◌≡◌, ℕ, zero, suc, ◌+◌, ℤ, true, false, not, List, [], ◌∷◌, ◌++◌, length, replicate, refl, sym, ap, ◌∙◌, subst, append_assoc, append-nil, ⊎_elim, arith}
 use Rattle.std.proofs.Math.Seq.{drop-append_seam}
 use Rattle.std.proofs.lemmas.Bool.{false≢true, or_right, and_from, and_parts, cases_Bool}
 use Rattle.std.proofs.lemmas.Str.{IsUtf8-drop}
@@ -13,13 +13,13 @@ use Rattle.yq_scalar.specs.declared.block_header.Chomping.{Chomping}
 use Rattle.yq_scalar.specs.declared.block_header.Chomping.TheVariants as chompings
 use Rattle.yq_scalar.proofs.Bools.{at_byte}
 use Rattle.yq_inline.specs.Nodes as nodes
-use Rattle.yq_inline.specs.Nodes.{Node, empty, alias, scalar, coll, anchored, Items, none, item, Key, Sep, in_name, is_close, open_of, key_text, sep_text, node_text, items_text, IsNode}
+use Rattle.yq_inline.specs.Nodes.{Node, empty, alias, scalar, coll, anchored, Items, none, item, Key, in_name, is_close, open_of, key_text, sep_text, node_text, items_text, IsNode}
 use Rattle.yq_inline.proofs.WrittenLaws.{key_append, sep_append, node_append}
 use Rattle.yq_rows.specs.Gap.{IsWhite, IsGap}
 use Rattle.yq_rows.specs.Grammar.{IsContent, IsMark}
 use Rattle.yq_rows.specs.Exchange.{row_front}
 use Rattle.yq_rows.specs.Rows as rows
-use Rattle.yq_rows.specs.Rows.{Content, Nothing, Inline, Block, Row, behind_gap, behind_indent, content_text, dashes_text, mark_text, parent_indent, print_row}
+use Rattle.yq_rows.specs.Rows.{Content, Nothing, Inline, Block, behind_gap, behind_indent, content_text, dashes_text, mark_text, parent_indent}
 use Rattle.yq_rows.specs.View.{anchor_cut, anchor_of, apart_of, content_cut}
 use Rattle.yq_rows.proofs.CharacterLaws.{all_text, all_join, pairs_back}
 use Rattle.yq_rows.proofs.NothingLaws.{some_behind}
@@ -84,7 +84,7 @@ clean_gap [] rest h = refl
 clean_gap (b ∷ g) rest h = clean_byte b g (white_byte b h.0) (clean_gap g rest h.1)
 
 -- items end in their closing bracket
-items_close : (k : ℕ) (is : Items) → (front : List ℕ) × (items_text k is [] ≡ front ++ k ∷ [])
+pub items_close : (k : ℕ) (is : Items) → (front : List ℕ) × (items_text k is [] ≡ front ++ k ∷ [])
 unfolding items_text
 items_close k none = ([], refl)
 items_close k (item key n s is) =

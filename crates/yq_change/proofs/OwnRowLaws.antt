@@ -12,7 +12,6 @@ use Rattle.yq_lines.specs.Outline.{Line, level, flatten, IsEven}
 use Rattle.yq_lines.specs.Outline.{row}
 use Rattle.yq_lines.specs.Places.{lines_before, lines_after, Found}
 use Rattle.yq_lines.proofs.Decides.{flatten-group}
-use Rattle.yq_rows.specs.Rows as rows
 use Rattle.yq_rows.specs.Rows.{Row, Part}
 use Rattle.yq_documents.specs.Lines.{row_lines, lines_of}
 use Rattle.yq_documents.specs.Reading.{outline_of}

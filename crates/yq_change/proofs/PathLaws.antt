@@ -19,13 +19,12 @@ use Rattle.yq_lines.proofs.Values.{If}
 use Rattle.yq_tree.proofs.FlowToldLaws.{before_under}
 use Rattle.yq_change.specs.Siblings.{IsEntry, HasEntries, NodeLines, lines_at, lines_below, under_line}
 use Rattle.yq_change.proofs.NodeLineLaws.{Under, lines_found}
-use Rattle.yq_change.specs.PathRows.{IsEntryLine, PathIsEntry, PathLineCommented, PathHeadCommented, PathHasRows}
+use Rattle.yq_change.specs.PathRows.{IsEntryLine, PathIsEntry, PathLineCommented, PathHeadCommented}
 use Rattle.yq_change.proofs.ApartLaws.{Stood, row_stood}
 use Rattle.yq_change.proofs.HeadLaws.{head_commented}
 use Rattle.yq_change.proofs.LineLaws.{seat_splits}
 use Rattle.yq_change.proofs.PartLaws.{document_known}
 use Rattle.yq_change.proofs.RemarkLaws.{line_commented}
-use Rattle.yq_change.proofs.RowsLaws.{entry_rows}
 
 -- the line to which steps lead; the root has none
 abbrev found_at : List Step → Outline → Option (Found × List Step)
@@ -199,10 +198,3 @@ path_head_commented t c k p steps s x front back run old seat_is first takes bef
     let number = seat_number p.rows front back l.0 x l.2 takes.rows_are before in
     let count = w.number in
     head_commented t c k p steps s w.h w.f front back x.row run old w.entry takes (omega (arith, number, first, count)) text
-
-pub path_has_rows : PathHasRows
-path_has_rows t c k p steps s x old seat_is first =
-    let known = document_known t c k p old in
-    let l = seat_line p.rows (line_of (steps ++ (s ∷ [])) (lines_of p.rows)) x seat_is in
-    let w = path_is_entry p (level_or 0 (outline_of p)) steps s l.0 known.even l.1 in
-    record { h = w.h; f = w.f; entry = w.entry; rows = entry_rows p (level_or 0 (outline_of p)) steps s w.h w.f x known.even w.entry (subst (λ (n : ℕ). seat n p.rows ≡ Some x) w.number l.2) first }

@@ -17,7 +17,7 @@ use Rattle.yq_lines.proofs.Finding.{IsFoundIn, path_whole}
 use Rattle.yq_lines.proofs.PlaceLaws.{at, placed}
 use Rattle.yq_lines.proofs.Values.{If}
 use Rattle.yq_tree.proofs.UnderExchange.{lines_append}
-use Rattle.yq_change.specs.Placed.{SameParts, RowsInParts, LinePlaced, LinesPlaced, EntryPlaced, FoundIsEntry}
+use Rattle.yq_change.specs.Placed.{SameParts, RowsInParts, LinePlaced, EntryPlaced, FoundIsEntry}
 use Rattle.yq_change.specs.Siblings.{NodeLines, lines_at, put_lines}
 use Rattle.yq_change.proofs.CollectionLaws.{some_at}
 use Rattle.yq_change.proofs.NodeLineLaws.{Under, lines_found, put_under}
@@ -54,12 +54,6 @@ whole_lines o (s ∷ ss) h e = found (lines_found s ss o h e)
   where
     found : Under s ss o h → flatten o ≡ put_lines h (flatten h.lines)
     found w = subst (λ (x : NodeLines). flatten o ≡ put_lines x (flatten x.lines)) w.place_is (whole_line o s ss [] w.found w.is ∙ sym (put_under w.found (flatten w.found.under)))
-
-pub lines_placed : LinesPlaced
-lines_placed n p steps h a x z even is parted =
-    let parts =
-    same_parts a x z (lines_before h.place) (flatten h.lines) (lines_after h.place) (sym parted.parts_are ∙ (sym (flatten-group (lines_of p.rows)) ∙ whole_lines (outline_of p) steps h is)) parted.before_are parted.size_is in
-    (parts.1, λ ls. λ i. sym parts.0 i ++ (ls ++ sym parts.2 i))
 
 around : (a x e y z : List Line) → a ++ ((x ++ (e ++ y)) ++ z) ≡ (a ++ x) ++ (e ++ (y ++ z))
 around a x e y z = ap (λ v. a ++ v) (append_assoc x (e ++ y) z ∙ ap (λ v. x ++ v) (append_assoc e y z)) ∙ sym (append_assoc a x (e ++ (y ++ z)))

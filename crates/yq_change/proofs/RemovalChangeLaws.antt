@@ -34,7 +34,7 @@ use Rattle.yq_tree.proofs.RemovalTexts.{old_text}
 use Rattle.yq_change.specs.Changed.{IsChanged, KeepsRows, put_document}
 use Rattle.yq_change.specs.Conditions.{AreSpared}
 use Rattle.yq_change.specs.DocumentRows.{IsDocumentPart, behind_document}
-use Rattle.yq_change.specs.RemovalChanges.{mended, HasOwnRows, RemovalStands, IsTakenOut, MayTakeOut, EntryTakenOut}
+use Rattle.yq_change.specs.RemovalChanges.{mended, HasOwnRows, RemovalStands, IsTakenOut, MayTakeOut}
 use Rattle.yq_change.specs.Removes.{without}
 use Rattle.yq_change.specs.Siblings.{IsEntry, HasEntries, IsEntryAt, NodeLines, lines_at, put_lines}
 use Rattle.yq_change.specs.TextPieces.{IsPiece}
@@ -341,6 +341,3 @@ entry_taken c k steps x read e may size = go steps refl (out_is c k steps x e)
         let same : steps ≡ y.0 ++ (y.1 ∷ []) = is ∙ y.2 in
         subst (λ (zs : List Step). (out : IsTakenOut c k zs (x.before ++ (mended x.seam x.gap ++ x.behind))) × AreRowsTaken c k x out.old out.new) (sym same)
         (taken_at c k y.0 y.1 x read (subst (λ (zs : List Step). IsRowsOut c k zs x) same h) (subst (MayTakeOut c k) same may) size)
-
-pub entry_taken_out : EntryTakenOut
-entry_taken_out c k steps x read e may size = (entry_taken c k steps x read e may size).0

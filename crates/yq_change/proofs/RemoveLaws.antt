@@ -43,7 +43,7 @@ use Rattle.yq_change.proofs.PlacedLaws.{entry_placed, same_parts}
 use Rattle.yq_change.proofs.SiblingLaws.{entries, even_right, flatten-append, next, rest_entries}
 use Rattle.yq_change.specs.LineRows.{lines_behind, Begins, AreClosed}
 use Rattle.yq_change.specs.DocumentRows.{IsDocumentPart, behind_document, part_number}
-use Rattle.yq_change.specs.Removes.{left_gap, without, BlockRemoved}
+use Rattle.yq_change.specs.Removes.{left_gap, without}
 use Rattle.yq_change.proofs.ApartLaws.{entries_apart, even_closed, block_some}
 use Rattle.yq_change.proofs.AppendLaws.{rows_with}
 use Rattle.yq_change.proofs.ColumnLaws.{closed_stands_less, next_stays}
@@ -203,6 +203,3 @@ block_gone t c k p steps s h f front gone back old at left has spared text =
     (fit_from front (with_first_gap gap back) keys.0 (gap_fit gap back (fit_parts gone back keys.1).1))
     (short_left front gone back gap limit p.end rest (subst HasShortRoot has.rows_are known.document.short) further (subst BeginsEntry (sym parts.2) (behind_entry (level_or 0 o) o steps s h f known.even at))) in
     (entry_removed t c k p q steps h s f put at left lines spared, lines)
-
-pub block_removed : BlockRemoved
-block_removed t c k p steps s h f front gone back old at left has spared text = (block_gone t c k p steps s h f front gone back old at left has spared text).0

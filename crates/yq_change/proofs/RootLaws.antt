@@ -11,8 +11,8 @@ use Rattle.yq_rows.proofs.splices.SpliceLaws.{spliced}
 use Rattle.yq_documents.specs.Documents.{HaveFitKeys, HasShortRoot}
 use Rattle.yq_documents.specs.Lines.{lines_of}
 use Rattle.yq_change.specs.DocumentRows.{RowsFit, part_number}
-use Rattle.yq_change.specs.Replaces.{DocumentRooted, RootRowsReplaced, RootRowsRewritten, rooted}
-use Rattle.yq_change.proofs.BlockChangeLaws.{root_replaced, root_rewritten}
+use Rattle.yq_change.specs.Replaces.{DocumentRooted, RootRowsReplaced, rooted}
+use Rattle.yq_change.proofs.BlockChangeLaws.{root_replaced}
 use Rattle.yq_change.proofs.PartLaws.{document_known, document_started, fits, is_put, part_numbered, rows_put}
 
 pub document_rooted : DocumentRooted
@@ -41,9 +41,3 @@ root_rows_replaced t c k p v new gap m u old takes fit lines may text =
     let there : new ++ [] ≡ new = append-nil new in
     let put = is_put t c k p (rooted new gap p) old (some_all new takes.some) text (document_rooted t c k p new gap old takes text) (subst HaveFitKeys (sym there) takes.keys) (subst HasShortRoot (sym there) takes.short) in
     root_replaced t c k p (rooted new gap p) v m u put fit (ap lines_of there ∙ lines) may
-
-pub root_rows_rewritten : RootRowsRewritten
-root_rows_rewritten t c k p v new gap m u old takes fit block lines is text =
-    let there : new ++ [] ≡ new = append-nil new in
-    let put = is_put t c k p (rooted new gap p) old (some_all new takes.some) text (document_rooted t c k p new gap old takes text) (subst HaveFitKeys (sym there) takes.keys) (subst HasShortRoot (sym there) takes.short) in
-    root_rewritten t c k p (rooted new gap p) v m u put fit block (ap lines_of there ∙ lines) is

@@ -1,8 +1,5 @@
 -- Whole operations on the smallest texts, from bytes through all premises of their laws.
-use Rattle.std.proofs.Common.{false, ◌≡◌, [], ◌∷◌, ◌++◌, Some, None, refl, ◌∙◌, codes, true, ⊎_elim, arith}
-use Rattle.std.proofs.lemmas.Bool.{cond-true}
-use Rattle.std.specs.Str as strings
-use Rattle.yq_scalar.specs.Characters.{is_text, text_limit}
+use Rattle.std.proofs.Common.{false, ◌≡◌, [], ◌∷◌, ◌++◌, Some, None, refl, codes, ⊎_elim, arith}
 use Rattle.yq_scalar.specs.ContentReading as contents
 use Rattle.yq_scalar.specs.Paths.{append_child, change, within}
 use Rattle.yq_scalar.specs.Text as text
@@ -11,18 +8,14 @@ use Rattle.yq_inline.specs.Scalars.{content_of}
 use Rattle.yq_inline.specs.Trees.{tree_of}
 use Rattle.yq_rows.specs.Grammar.{IsCut}
 use Rattle.yq_rows.specs.Rows.{Row, Part, last, cut_text}
-use Rattle.yq_rows.specs.Reading as scanning
 use Rattle.yq_rows.proofs.ScanLaws.{scan_takes}
-use Rattle.yq_documents.specs.Reading.{all_documents, outline_of, read_at, root_of, text_at}
+use Rattle.yq_documents.specs.Reading.{outline_of}
 use Rattle.yq_tree.specs.RowPaths.{IsReadable}
-use Rattle.yq_documents.specs.TreeEdits.{headed}
-use Rattle.yq_tree.proofs.ReadLaws.{text_again}
 use Rattle.yq_lines.specs.Outline.{level, end, label}
 use Rattle.yq_lines.specs.Places.{content, here}
 use Rattle.yq_change.specs.Appends.{inserted}
 use Rattle.yq_change.specs.Changed.{IsChanged, put_document}
 use Rattle.yq_change.specs.DocumentRows.{IsDocumentPart}
-use Rattle.yq_change.specs.Replaces.{rooted}
 use Rattle.yq_change.specs.Siblings.{NodeLines}
 use Rattle.yq_change.proofs.AppendLaws.{block_appended}
 use Rattle.yq_lines.specs.Places.{Found, find}
@@ -32,11 +25,8 @@ use Rattle.yq_inline.specs.Alike.{Alike, after, byte}
 use Rattle.yq_rows.specs.Rows.{rows_text}
 use Rattle.yq_documents.specs.Lines.{mark_line}
 use Rattle.yq_documents.specs.TreeEdits.{replaced}
-use Rattle.yq_lines.proofs.KeyLaws.{distinct_is}
 use Rattle.yq_change.proofs.ReplaceLaws.{node_rows_replaced}
-use Rattle.yq_change.proofs.Examples.{plain_row, scanned_y, y_bytes, a_entry, b_entry, old_part, b_end, scanned_old, old_bytes, new_bytes, read_old, new_cut, keys_apart}
-use Rattle.yq_change.proofs.RootLaws.{root_rows_rewritten}
-use Rattle.yq_scalar.specs.Characters as characters
+use Rattle.yq_change.proofs.Examples.{plain_row, scanned_y, y_bytes, a_entry, b_entry, old_part, b_end, new_bytes, read_old, new_cut, keys_apart}
 
 -- `a: x`, and `b: y` behind it
 is_document : IsDocumentPart (codes "a: x\n") (last old_part) 0 old_part
@@ -62,38 +52,6 @@ appended_rows =
       value_is = record { bare = refl; unique = tt; nested = omega arith };
       key = λ m. ⊎_elim {0, 0, 0} keys_apart (λ n. n) m;
     }) (record { rows_are = refl; new_are = new_cut.parts.rows.1; closed = λ e d. refl }) readable_both
-
--- no text, and `a: x` as its root
-abbrev nothing : Part
-nothing = record { rows = []; end = [] }
-
-scanned_nothing : scanning.scan_at [] ≡ Some (last nothing)
-unfolding scanning.scan_at strings.chars characters.pairs_returns scanning.parts_at scanning.part_at scanning.rows_at scanning.gap_lines text.upto text.lines_of
-scanned_nothing = refl
-
-is_nothing : all_documents (last nothing) ≡ true
-unfolding level tree_of
-is_nothing = refl
-
-read_nothing : read_at [] ≡ Some (last nothing)
-unfolding read_at strings.is_utf8 strings.chars
-read_nothing = cond-true (strings.is_utf8 []) (text_at []) None refl ∙ text_again [] (last nothing) (scan_takes [] (last nothing) scanned_nothing) is_nothing
-
-old_cut : IsCut (cut_text (last old_part)) (last old_part)
-unfolding inline.node_text
-old_cut = scan_takes (codes "a: x\n") (last old_part) scanned_old
-
-readable_one : IsReadable (cut_text (put_document 0 (rooted (a_entry ∷ []) [] nothing) (last nothing)))
-unfolding inline.node_text
-readable_one = record { utf8 = old_bytes; characters = old_cut.characters; size = old_cut.size }
-
-rewritten : IsChanged (last nothing) (put_document 0 (rooted (a_entry ∷ []) [] nothing) (last nothing)) 0 [] (λ old. within (headed []) (root_of old_part))
-unfolding level tree_of text.lines_of
-rewritten =
-    root_rows_rewritten [] (last nothing) 0 nothing (root_of old_part) (a_entry ∷ []) [] 2 (outline_of old_part) (record { read = read_nothing; there = refl })
-    (record { some = refl; new_are = old_cut.parts.rows; start = λ e. refl; keys = ((λ e. cc), tt, tt); short = refl })
-    (record { deep = omega arith; even = (refl, tt, tt, (3, omega arith, tt), tt); value_is = refl; anchors = (tt, tt) }) tt refl
-    (record { bare = refl; unique = (distinct_is (content_of (codes "a") ∷ []) refl, (tt, tt)); nested = omega arith }) readable_one
 
 -- `a: x`, and y in the place of x
 abbrev y_entry : Row

@@ -1,26 +1,19 @@
 -- The rows of a collection's items or entries, and of one of them.
-use Rattle.std.proofs.Common.{◌≡◌, List, [], ◌∷◌, ◌++◌, length, refl, sym, ap, ◌∙◌, arith, append_assoc, length-append}
+use Rattle.std.proofs.Common.{◌≡◌, List, [], ◌∷◌, ◌++◌, length, refl, sym, ap, ◌∙◌, arith, length-append}
 use Rattle.yq_documents.specs.Lines.{lines_of}
 use Rattle.yq_lines.specs.Outline.{Line, flatten}
 use Rattle.yq_lines.specs.Places.{lines_before, lines_after}
 use Rattle.yq_documents.specs.Reading.{outline_of}
 use Rattle.yq_lines.proofs.Decides.{flatten-group}
 use Rattle.yq_tree.proofs.UnderExchange.{lines_append}
-use Rattle.yq_change.proofs.CollectionLaws.{collection_replaced, relabelled}
-use Rattle.yq_change.proofs.NodeLineLaws.{lines_even}
+use Rattle.yq_change.proofs.CollectionLaws.{relabelled}
 use Rattle.yq_change.proofs.PlacedLaws.{same_parts}
 use Rattle.yq_change.specs.LineRows.{lines_behind}
-use Rattle.yq_change.specs.EntryRows.{CollectionRows, EntryRows}
-use Rattle.yq_change.proofs.ApartLaws.{entries_apart, lines_apart, row_begins}
+use Rattle.yq_change.specs.EntryRows.{EntryRows}
+use Rattle.yq_change.proofs.ApartLaws.{entries_apart, row_begins}
 use Rattle.yq_change.proofs.ColumnLaws.{apart_later}
 use Rattle.yq_change.proofs.LineLaws.{seat_splits}
 use Rattle.yq_change.proofs.RemarkLaws.{around}
-
-pub collection_rows : CollectionRows
-collection_rows p n steps h even there =
-    let olds = (collection_replaced n (outline_of p) h.lines steps h (λ cs. cs) even there there.block (lines_even n (outline_of p) steps h even there.place_is there.block).1 refl).0 in
-    row_begins p.rows (lines_before h.place ++ flatten h.lines) (lines_after h.place)
-    (sym (flatten-group (lines_of p.rows)) ∙ (olds ∙ sym (append_assoc (lines_before h.place) (flatten h.lines) (lines_after h.place)))) (lines_apart n (outline_of p) steps h even there.place_is there.block).0
 
 pub entry_rows : EntryRows
 entry_rows p n steps s h f x even at is first =

@@ -7,7 +7,7 @@ use Rattle.yq_lines.specs.Places.{content}
 use Rattle.yq_lines.proofs.Allowing as allowing
 use Rattle.yq_lines.proofs.Allowing.{IsCollection}
 use Rattle.yq_lines.proofs.Values.{same_rank, same_collection, same_entry, within-shaped}
-use Rattle.yq_change.specs.Siblings.{append_outline, IsEntry, HasEntries, SiblingsReplaced}
+use Rattle.yq_change.specs.Siblings.{append_outline, IsEntry, HasEntries}
 
 -- marks of items and entries
 pub entry_in : (m : Mark) → IsEntry m → allowing.IsEntry m
@@ -29,16 +29,10 @@ pub flatten-append : (a b : Outline) → flatten (append_outline a b) ≡ flatte
 flatten-append end b = refl
 flatten-append (row l u a) b = ap (λ x. l ∷ x) (ap (λ x. flatten u ++ x) (flatten-append a b) ∙ sym (append_assoc (flatten u) (flatten a) (flatten b)))
 
-pub flatten-three : (a b c : Outline) → flatten (append_outline a (append_outline b c)) ≡ flatten a ++ (flatten b ++ flatten c)
-flatten-three a b c = flatten-append a (append_outline b c) ∙ ap (λ x. flatten a ++ x) (flatten-append b c)
-
 -- items and entries
 pub children-append : (a b : Outline) → children (append_outline a b) ≡ append_children (children a) (children b)
 children-append end b = refl
 children-append (row l u a) b = ap (child (label l) (content l u)) (children-append a b)
-
-pub children-three : (a b c : Outline) → children (append_outline a (append_outline b c)) ≡ append_children (children a) (append_children (children b) (children c))
-children-three a b c = children-append a (append_outline b c) ∙ ap (append_children (children a)) (children-append b c)
 
 -- what stands behind an entry's line at its level is an entry's
 pub next : (n : ℕ) (l : Line) (o : Outline) → allowing.IsEntry l.mark → level l ≡ n → IsEven n o → IsCollection o
@@ -97,9 +91,3 @@ even_replaced n a b c d even new old block =
     behind : (a : Outline) (n : ℕ) → IsEven n a → HasEntries (append_outline a (append_outline d c)) → IsEven n d → IsEven n c → IsCollection (append_outline d c)
     behind end n e b new back = entries (append_outline d c) b
     behind (row l u a) n e b new back = run d n l (entry_in l.mark b) e.0 new back
-
-pub siblings_replaced : SiblingsReplaced
-siblings_replaced n a b c d even new old block =
-    let all = even_replaced n a b c d even new old block in
-    let f : Children → Children = λ cs. append_children (children a) (append_children (children d) (children c)) in
-    (children-three a b c, all, flatten-three a d c, block_value n (append_outline a (append_outline b c)) (append_outline a (append_outline d c)) f old block even all (children-three a d c))

@@ -15,7 +15,7 @@ use Rattle.yq_documents.specs.Reading.{read_at}
 use Rattle.yq_documents.proofs.TextLaws.{seam}
 use Rattle.yq_tree.proofs.ReadLaws.{text_takes}
 use Rattle.yq_scalar.proofs.Bools.{guard_then}
-use Rattle.yq_change.specs.TextPieces.{IsPiece, TextIsPiece, PiecesJoined, LineCut, BeginsPiece, ByteCut, PiecesCut}
+use Rattle.yq_change.specs.TextPieces.{IsPiece, TextIsPiece, PiecesJoined, LineCut, BeginsPiece, ByteCut}
 
 pub pieces_joined : PiecesJoined
 pieces_joined a b h k =
@@ -71,9 +71,3 @@ pub byte_cut : ByteCut
 byte_cut a b h e =
     let x = ascii_front b e in
     pieces_cut a b h (subst IsUtf8 (take-append_seam a b) (IsUtf8-take (a ++ b) (length a) h.utf8 (before_ascii a b x.0))) (before x.1)
-
-pub pieces_in_three : PiecesCut
-pieces_in_three t a o b h p n m =
-    let x = pieces_cut a (o ++ b) (subst IsPiece p.text h) p.before_utf8 (before n) in
-    let y = pieces_cut o b x.1 p.old_utf8 (before m) in
-    (x.0, y.0, y.1)

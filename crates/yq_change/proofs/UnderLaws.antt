@@ -7,24 +7,17 @@ use Rattle.yq_lines.specs.Group.{level_or}
 use Rattle.yq_lines.specs.Outline.{Line, flatten, IsEven}
 use Rattle.yq_lines.specs.Places.{lines_before, lines_after}
 use Rattle.yq_lines.proofs.Decides.{flatten-group}
-use Rattle.yq_rows.specs.Exchange.{with_content}
 use Rattle.yq_rows.specs.Grammar.{is_entry}
 use Rattle.yq_rows.specs.Rows as rows
 use Rattle.yq_rows.specs.Rows.{Content, Row, mark_column, Part}
-use Rattle.yq_rows.specs.Splices.{first_gap}
-use Rattle.yq_rows.proofs.splices.SpliceTexts.{own_gap}
 use Rattle.yq_documents.specs.Lines.{mark_of, mark_line, lines_of}
 use Rattle.yq_documents.specs.Reading.{outline_of}
-use Rattle.yq_documents.specs.Ready.{begins_no_node}
-use Rattle.yq_change.specs.Contents.{recontent}
 use Rattle.yq_change.specs.Moved.{dash_lines}
 use Rattle.yq_change.specs.Siblings.{IsEntry}
-use Rattle.yq_change.specs.Unders.{HasUnder, UnderKept}
+use Rattle.yq_change.specs.Unders.{HasUnder}
 use Rattle.yq_change.proofs.AppendLaws.{around}
 use Rattle.yq_change.proofs.LineLaws.{above_mark, dashes_count, mark_behind}
 use Rattle.yq_change.proofs.PlacedLaws.{found_is_entry, rows_in_parts, same_parts, whole_line}
-use Rattle.yq_change.proofs.RemarkLaws.{last_lines}
-use Rattle.yq_change.proofs.InlineDoneLaws.{no_node_first}
 
 -- the line of a row's mark, with a content
 abbrev pub line_with : Row → Content → Line
@@ -39,20 +32,6 @@ pub gone_lines : (r : Row) (under : List Row) → lines_of (r ∷ under) ≡ das
 gone_lines r under = ap (λ (ls : List Line). ls ++ lines_of under) (mark_behind (head_comment r.gap) r.column r.dashes r.mark r.content) ∙ append_assoc (dashes_of r) (line_with r r.content ∷ []) (lines_of under)
 
 -- ---- what stays
-
-gap_same : (front : List Row) (r : Row) (new : Content) (cs bs : List Row) (a b : List ℕ) → first_gap (front ++ (with_content new r ∷ cs)) a ≡ first_gap (front ++ (r ∷ bs)) b
-gap_same [] r new cs bs a b = refl
-gap_same (q ∷ front) r new cs bs a b = refl
-
-pub under_kept : UnderKept
-under_kept p front r under back new e =
-    let q : Part = recontent front r back new p in
-    let there : q.rows ≡ front ++ (with_content new r ∷ back) = ap (λ (rs : List Row). front ++ (with_content new r ∷ rs)) (own_gap back p.end) in (
-      ap (λ (rs : List Row). head_comment (first_gap rs q.end)) there ∙ (ap head_comment (gap_same front r new back (under ++ back) q.end p.end) ∙ ap (λ (rs : List Row). head_comment (first_gap rs p.end)) (sym e)),
-      ap begins_no_node (ap lines_of there ∙ last_lines front r back new)
-          ∙ (no_node_first (lines_of front ++ dashes_of r) (line_with r new) (line_with r r.content) (lines_of back) (lines_of (under ++ back)) refl
-          ∙ sym (ap begins_no_node (ap lines_of e ∙ last_lines front r (under ++ back) r.content))),
-    )
 
 -- ---- the lines under the row
 

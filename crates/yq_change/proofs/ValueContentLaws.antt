@@ -2,7 +2,6 @@
 use Rattle.std.proofs.Common.{◌≡◌, inl, inr, ℕ, ℤ, ◌&&◌, ◌||◌, not, eqb, List, [], ◌∷◌, ◌++◌, Option, Some, Bool, true, false, refl, sym, ap, ◌∙◌}
 use Rattle.std.proofs.lemmas.Bool.{false≢true, and_parts, and_from, eqb-true}
 use Rattle.std.proofs.lemmas.List.Folds.{list_any-append}
-use Rattle.std.proofs.lemmas.Option.{none-some}
 use Rattle.yq_scalar.specs.Piece.{deeper}
 use Rattle.yq_scalar.specs.Plain.{ends_plain, holds_break}
 use Rattle.yq_scalar.specs.Text.{is_empty, is_feed, is_marker, is_white, no_white, separates, unless, NoneIn}
@@ -15,12 +14,11 @@ use Rattle.yq_rows.proofs.NothingLaws.{tail_apart}
 use Rattle.std.specs.List.{list_any}
 use Rattle.yq_inline.proofs.Alikes.{no_first}
 use Rattle.yq_lines.specs.Comments.{line_comment}
-use Rattle.yq_rows.specs.Grammar.{IsContent, IsMark, IsTail, is_entry, is_more, is_plain, may_be_alone}
+use Rattle.yq_rows.specs.Grammar.{IsContent, IsTail, is_more, is_plain, may_be_alone}
 use Rattle.yq_rows.specs.Rows as rows
-use Rattle.yq_rows.specs.Rows.{Content, Nothing, Inline, Block, content_text, parent_indent, Row}
-use Rattle.yq_rows.proofs.NodeExchange.{inline_starts, mark_apart, space_apart}
+use Rattle.yq_rows.specs.Rows.{Content, Nothing, Inline, Block, content_text}
 use Rattle.yq_documents.specs.Documents.{ContentHasFitKeys, is_long_plain}
-use Rattle.yq_tree.specs.InlinePlaces.{InlinePlace, mark_inline}
+use Rattle.yq_rows.specs.Seams.{is_block}
 use Rattle.yq_documents.specs.Lines.{content_anchor, head_of, tail_of}
 use Rattle.yq_change.specs.InlineRows.{IsValueNode}
 use Rattle.yq_change.proofs.CoreLaws.{recore, put_core, core_head, core_anchor, core_keys, core_bare, core_more, core_node}
@@ -68,17 +66,16 @@ module _ (v : Node) (node : inline.Node) (is : IsValueNode v node) where
   some : is_bare node ≡ false
   some = more_some node is.more
 
-  pub content_is : (n : ℤ) (alone : Bool) (before : List ℕ) (x : Content) (rest : List ℕ) (w : InlinePlace) → IsContent n x rest → mark_inline alone before x rest ≡ Some w →
-      ((tail : List ℕ) → IsTail tail rest → ends_plain false (Some (deeper n)) (tail ++ rest) ≡ true) → IsContent n (put_core node x) rest
-  content_is n alone before (Nothing tail) rest w h e ends = ((refl, tt), is.stands n (tail ++ rest) (ends tail h), h)
-  content_is n alone before (Inline space old tail) rest w h e ends =
+  pub content_is : (n : ℤ) (x : Content) (rest : List ℕ) → is_block x ≡ false → IsContent n x rest → ((tail : List ℕ) → IsTail tail rest → ends_plain false (Some (deeper n)) (tail ++ rest) ≡ true) → IsContent n (put_core node x) rest
+  content_is n (Nothing tail) rest block h ends = ((refl, tt), is.stands n (tail ++ rest) (ends tail h), h)
+  content_is n (Inline space old tail) rest block h ends =
       (h.0, record { valid = core_node _ _ node (tail ++ rest) is.unnamed some is.takes (is.stands n (tail ++ rest) (ends tail h.2)).valid old h.1.valid; something = ap not (core_bare node old some) }, h.2)
-  content_is n alone before (Block space anchor block) rest w h e ends = absurd (none-some _ e)
+  content_is n (Block space anchor b) rest block h ends = absurd (false≢true (sym block))
 
-  pub content_head : (alone : Bool) (before : List ℕ) (x : Content) (rest : List ℕ) (w : InlinePlace) → mark_inline alone before x rest ≡ Some w → head_of (put_core node x) ≡ Some v
-  content_head alone before (Nothing tail) rest w e = is.head
-  content_head alone before (Inline space old tail) rest w e = core_head node old ∙ is.head
-  content_head alone before (Block space anchor block) rest w e = absurd (none-some _ e)
+  pub content_head : (x : Content) → is_block x ≡ false → head_of (put_core node x) ≡ Some v
+  content_head (Nothing tail) block = is.head
+  content_head (Inline space old tail) block = core_head node old ∙ is.head
+  content_head (Block space anchor b) block = absurd (false≢true (sym block))
 
   pub content_named : (x : Content) → content_anchor (put_core node x) ≡ content_anchor x
   content_named (Nothing tail) = is.unnamed
@@ -94,13 +91,6 @@ module _ (v : Node) (node : inline.Node) (is : IsValueNode v node) where
   content_keys (Nothing tail) = is.keys
   content_keys (Inline space old tail) = core_keys node old is.keys
   content_keys (Block space anchor block) = tt
-
-  -- behind a key or dash stands white space
-  pub content_apart : (n : ℤ) (mark : rows.Mark) (x : Content) (rest : List ℕ) → is_entry mark ≡ true → IsMark mark x rest → IsContent n x rest → separates (content_text (put_core node x) rest) ≡ true
-  content_apart n mark (Nothing tail) rest entry m h = refl
-  content_apart n mark (Inline space old tail) rest entry m h =
-      space_apart space (node_text old (tail ++ rest)) (node_text (recore node old) (tail ++ rest)) h.0 (mark_apart mark (Inline space old tail) rest entry m) (inline_starts n old (tail ++ rest) h.1).joined
-  content_apart n mark (Block space anchor block) rest entry m h = mark_apart mark (Block space anchor block) rest entry m
 
   -- it may stand alone where the old one does
   pub content_alone : (x : Content) → may_be_alone x ≡ true → may_be_alone (put_core node x) ≡ true

@@ -15,11 +15,11 @@ use Rattle.yq_lines.specs.Places.{lines_before, plug, Found, find, content}
 use Rattle.yq_documents.specs.Reading.{outline_of, root_of}
 use Rattle.yq_change.specs.Changed.{IsChanged, put_document}
 use Rattle.yq_change.specs.Conditions.{AreSpared}
-use Rattle.yq_change.specs.Edited.{IsPut, with_lead, LineFits}
+use Rattle.yq_change.specs.Edited.{IsPut, LineFits}
 use Rattle.yq_change.specs.Moved.{moved_up, emptied}
 use Rattle.yq_change.specs.SoundRoots.{IsNewKey, IsNewValue, MayReplace}
 use Rattle.yq_change.specs.Siblings.{HasEntries, NodeLines, put_lines, IsCollectionAt, IsEntryAt, EntryFits, IsRelabelled}
-use Rattle.yq_documents.specs.TreeEdits.{headed, replaced}
+use Rattle.yq_documents.specs.TreeEdits.{replaced}
 
 -- An outline may be that of a root, which it stands for.
 pub record RootFits (m : ℕ) (u : Outline) (root : Node) : Type 0 where
@@ -40,12 +40,6 @@ abbrev pub RootReplaced : Type 0
 RootReplaced =
     (t : List ℕ) (c : Cut) (k : ℕ) (p q : Part) (v : Node) (m : ℕ) (u : Outline) → IsPut t c k p q → RootFits m u (replaced v (root_of p)) → lines_of q.rows ≡ flatten u →
     MayReplace v (root_of p) (root_of p) 0 → IsChanged c (put_document k q c) k (lead_of q) (replaced v)
-
--- The root is replaced by a block collection, whose first entry or item takes the lead as its head comment.
-abbrev pub RootRewritten : Type 0
-RootRewritten =
-    (t : List ℕ) (c : Cut) (k : ℕ) (p q : Part) (v : Node) (m : ℕ) (u : Outline) → IsPut t c k p q → RootFits m u v → HasEntries u → lines_of q.rows ≡ flatten (with_lead (lead_of p) u) →
-    IsNewValue v 0 → IsChanged c (put_document k q c) k (lead_of p) (λ old. within (headed (lead_of p)) v)
 
 -- One item or entry more is appended to a block collection.
 abbrev pub EntryAppended : Type 0

@@ -1,12 +1,12 @@
 -- Texts in which one document has other rows, and what they read as (own).
-use Rattle.std.specs.Prelude.{◌≡◌, ℕ, zero, suc, ◌≤◌, List, [], ◌∷◌, ◌++◌, slice_get, Some, Bool, true, false, not, ◌||◌}
+use Rattle.std.specs.Prelude.{◌≡◌, ℕ, zero, suc, ◌≤◌, List, [], ◌∷◌, slice_get, Some, Bool, true, false, not, ◌||◌}
 use Rattle.std.specs.Str.{is_utf8}
 use Rattle.yq_scalar.specs.Keys.{HasUniqueKeys, depth}
 use Rattle.yq_scalar.specs.Tree.{Node}
 use Rattle.yq_inline.specs.Inline.{depth_limit}
 use Rattle.yq_lines.specs.Comments.{head_comment}
 use Rattle.yq_rows.specs.Grammar.{IsCut, no_rows, begins_document}
-use Rattle.yq_rows.specs.Rows.{Part, Cut, last, marked, part_text, cut_text}
+use Rattle.yq_rows.specs.Rows.{Part, Cut, last, marked, cut_text}
 use Rattle.yq_scalar.specs.Anchors.{names_of, AreBound}
 use Rattle.yq_lines.specs.LineAnchors.{HaveOneAnchorEach}
 use Rattle.yq_documents.specs.Documents.{Document, HaveFitKeys, HasShortRoot, IsDocument, begins_bare, document_parts, has_begin, lead_of}
@@ -36,17 +36,6 @@ KeepsRows p q = no_rows q.rows ≡ true → no_rows p.rows ≡ true
 -- A part that keeps rows where document k has some is document k instead, and the other documents stay.
 abbrev pub DocumentPut : Type 0
 DocumentPut = (c : Cut) (k : ℕ) (p q : Part) → slice_get (document_parts c) k ≡ Some p → KeepsRows p q → document_parts (put_document k q c) ≡ change_nth k (λ x. q) (document_parts c)
-
--- Two cuts are alike but for a part of each.
-pub record DifferIn (c new : Cut) (p q : Part) : Type 0 where
-  pub before : List ℕ
-  pub behind : List ℕ
-  pub old_text : cut_text c ≡ before ++ part_text p behind
-  pub new_text : cut_text new ≡ before ++ part_text q behind
-
--- The text before and behind the part that is document k stays.
-abbrev pub TextPut : Type 0
-TextPut = (c : Cut) (k : ℕ) (p q : Part) → slice_get (document_parts c) k ≡ Some p → DifferIn c (put_document k q c) p q
 
 -- a document with another lead, and its root changed
 abbrev pub changed : List (List ℕ) → (Node → Node) → Document → Document

@@ -1,14 +1,14 @@
 -- The rows at the end of a block collection, by its place in a text (own).
-use Rattle.std.specs.Prelude.{◌≡◌, ℕ, ◌+◌, List, ◌∷◌, ◌++◌, [], length, Some}
+use Rattle.std.specs.Prelude.{◌≡◌, ℕ, ◌+◌, List, ◌∷◌, ◌++◌, [], length}
 use Rattle.yq_scalar.specs.Paths.{Step}
 use Rattle.yq_rows.specs.Rows.{Row, rows_text, Part, part_text, Cut, cut_text}
 use Rattle.yq_lines.specs.Outline.{Outline, end, row, flatten}
 use Rattle.yq_lines.specs.Places.{lines_before}
-use Rattle.yq_tree.specs.CollectionEnds.{CollectionEnd, is_broken, collection_end}
+use Rattle.yq_tree.specs.CollectionEnds.{CollectionEnd, is_broken}
 use Rattle.yq_documents.specs.Lines.{lines_of}
 use Rattle.yq_documents.specs.Reading.{outline_of}
 use Rattle.yq_change.specs.Changed.{put_document}
-use Rattle.yq_change.specs.DocumentRows.{IsDocumentPart, behind_document}
+use Rattle.yq_change.specs.DocumentRows.{behind_document}
 use Rattle.yq_change.specs.Siblings.{NodeLines, IsCollectionAt}
 
 -- the first of lines begins at a column
@@ -34,7 +34,3 @@ pub record IsCollectionEnd (c : Cut) (k : ℕ) (p : Part) (steps : List Step) (x
   pub behind_is : x.behind ≡ rows_text back (p.end ++ behind_document k c)
   pub old_text : cut_text c ≡ start ++ part_text p (behind_document k c)
   pub new_text : (q : Part) → cut_text (put_document k q c) ≡ start ++ part_text q (behind_document k c)
-
--- The end of the block collection at a path of a document is such a place, at which rows end.
-abbrev pub CollectionPlaces : Type 0
-CollectionPlaces = (t : List ℕ) (c : Cut) (k : ℕ) (p : Part) (steps : List Step) (x : CollectionEnd) → IsDocumentPart t c k p → collection_end k steps c ≡ Some x → IsCollectionEnd c k p steps x

@@ -3,10 +3,8 @@ use Rattle.std.specs.Prelude.{◌≡◌, ℕ, ◌+◌, ◌≤◌, List, [], ◌�
 use Rattle.yq_scalar.specs.Keys.{HasUniqueKeys, depth}
 use Rattle.yq_scalar.specs.Paths.{Step, node_at, change}
 use Rattle.yq_scalar.specs.Tree.{Node}
-use Rattle.yq_rows.specs.Rows.{Row}
 use Rattle.yq_scalar.specs.Anchors.{Name, Anchors, Refers, names_of, IsAmong, AreBound}
 use Rattle.yq_lines.specs.LineAnchors.{IsFree, HaveOneAnchorEach}
-use Rattle.yq_documents.specs.Documents.{HaveFitKeys}
 use Rattle.yq_lines.specs.Outline.{Line, Outline, IsEven}
 use Rattle.yq_lines.specs.Places.{lines_before, lines_after}
 use Rattle.yq_change.specs.Siblings.{IsEntry, NodeLines, lines_at}
@@ -92,7 +90,3 @@ AnchorsStay =
 abbrev pub LinesAmong : Type 0
 LinesAmong =
     (n : ℕ) (o : Outline) (steps : List Step) (h : NodeLines) → IsEven n o → lines_at steps o ≡ Some h → BeginsEntry (lines_after h.place) × (last_anchor (lines_before h.place) ≡ h.anchor)
-
--- Where rows give way to others with fit keys, all keys stay fit.
-abbrev pub FitStays : Type 0
-FitStays = (before gone come after : List Row) → HaveFitKeys (before ++ (gone ++ after)) → HaveFitKeys come → HaveFitKeys (before ++ (come ++ after))

@@ -35,13 +35,6 @@ pub record TakesContent (t : List ℕ) (c : Cut) (k : ℕ) (p : Part) (front : L
   pub short : is_long_plain r.mark new ≡ false
   pub text : IsReadable (cut_text (put_document k (recontent front r back new p) c))
 
--- What is written behind a key or dash, with no lines under it, is replaced.
-abbrev pub EntryContentReplaced : Type 0
-EntryContentReplaced =
-    (t : List ℕ) (c : Cut) (k : ℕ) (p : Part) (front back : List Row) (r : Row) (v : Node) (new : Content) (s : Step) (ss : List Step) (f : Found) → TakesContent t c k p front r back v new →
-    find s ss (outline_of p) ≡ Some (f, []) → f.under ≡ end → length (lines_of front) + length r.dashes ≡ length (lines_before f.place) → MayReplace v (content f.line f.under) (root_of p) (length (s ∷ ss)) →
-    IsChanged c (put_document k (recontent front r back new p) c) k (lead_of p) (change (s ∷ ss) (replaced v))
-
 -- A node that is alone on the line under its key or dash is replaced.
 abbrev pub LowerContentReplaced : Type 0
 LowerContentReplaced =

@@ -6,18 +6,18 @@ use Rattle.yq_scalar.specs.Tree.{Label, Node, Children, none, child, children_of
 use Rattle.yq_rows.specs.Grammar.{IsCut}
 use Rattle.yq_rows.specs.Rows.{Part, Cut, cut_text}
 use Rattle.yq_lines.specs.LineAnchors.{IsFree, HaveOneAnchorEach}
-use Rattle.yq_documents.specs.Documents.{Document, HaveFitKeys, HasShortRoot, document_parts, lead_of}
+use Rattle.yq_documents.specs.Documents.{HaveFitKeys, HasShortRoot, document_parts, lead_of}
 use Rattle.yq_lines.specs.Group.{level_or}
 use Rattle.yq_lines.specs.Laws.{with_lines}
 use Rattle.yq_documents.specs.Lines.{lines_of}
 use Rattle.yq_lines.specs.Outline.{Line, level, Outline, end, row, flatten, IsOpen, IsWhole, IsEven, anchored, label, value}
 use Rattle.yq_lines.specs.Places.{lines_before, plug, Found, find, content}
-use Rattle.yq_documents.specs.Reading.{documents, outline_of, read_at, root_of}
-use Rattle.yq_change.specs.Changed.{changed, IsChanged, KeepsRows, put_document}
+use Rattle.yq_documents.specs.Reading.{outline_of, read_at, root_of}
+use Rattle.yq_change.specs.Changed.{IsChanged, KeepsRows, put_document}
 use Rattle.yq_change.specs.Conditions.{last_anchor}
-use Rattle.yq_change.specs.SoundRoots.{IsSoundRoot, IsNewValue}
+use Rattle.yq_change.specs.SoundRoots.{IsSoundRoot}
 use Rattle.yq_change.specs.Siblings.{HasEntries, NodeLines, lines_at, put_lines, IsCollectionAt, IsEntryAt, LinesFit, EntryFits, IsRelabelled}
-use Rattle.yq_documents.specs.TreeEdits.{change_nth, headed}
+use Rattle.yq_documents.specs.TreeEdits.{headed}
 
 -- A text reads as a cut, and another one has that cut with part q for part p of document k; its rows have fit keys and a short root.
 pub record IsPut (t : List ℕ) (c : Cut) (k : ℕ) (p q : Part) : Type 0 where
@@ -91,10 +91,6 @@ LineRelabelled =
     IsEntryAt steps s (outline_of p) h f → IsRelabelled g f.line l → lines_of q.rows ≡ put_lines h (with_lines f (l ∷ flatten f.under)) →
     IsSoundRoot (change steps (within (relabel_child s g)) (root_of p)) → IsChanged c (put_document k q c) k (lead_of q) (change steps (within (relabel_child s g)))
 
--- Documents whose first lines have the same head comment have the same lead.
-abbrev pub LeadStays : Type 0
-LeadStays = (p q : Part) (l m : Line) (ls ms : List Line) → lines_of p.rows ≡ l ∷ ls → lines_of q.rows ≡ m ∷ ms → m.head_comment ≡ l.head_comment → lead_of q ≡ lead_of p
-
 -- an outline whose first line has this head comment
 abbrev pub with_lead : List (List ℕ) → Outline → Outline
 with_lead above end = end
@@ -112,16 +108,3 @@ first_above (child l n cs) = Some l.head_comment
 -- The first item or entry of a block root has the document's lead as its head comment.
 abbrev pub RootHasLead : Type 0
 RootHasLead = (p : Part) → HasEntries (outline_of p) → first_above (children_of (root_of p)) ≡ Some (lead_of p)
-
--- A value without anchors and aliases is sound as a root, also with a lead above it.
-abbrev pub RootKeeps : Type 0
-RootKeeps = (above : List (List ℕ)) (v : Node) → IsNewValue v 0 → IsSoundRoot v × IsSoundRoot (within (headed above) v)
-
--- a document with its root changed
-abbrev pub with_root : (Node → Node) → Document → Document
-with_root f d = record d { root = f d.root }
-
--- A document that is changed with its old lead is the old one with its root changed.
-abbrev pub LeadKept : Type 0
-LeadKept =
-    (c : Cut) (k : ℕ) (p : Part) (f : Node → Node) → slice_get (document_parts c) k ≡ Some p → change_nth k (changed (lead_of p) f) (documents c) ≡ change_nth k (with_root f) (documents c)

@@ -4,17 +4,11 @@ use Rattle.yq_scalar.specs.Paths.{Step}
 use Rattle.yq_rows.specs.Rows.{Row, Part}
 use Rattle.yq_documents.specs.Lines.{lines_of}
 use Rattle.yq_lines.specs.Outline.{flatten, IsEven}
-use Rattle.yq_lines.specs.Places.{lines_before, lines_after, Found}
+use Rattle.yq_lines.specs.Places.{Found}
 use Rattle.yq_documents.specs.Reading.{outline_of}
 use Rattle.yq_documents.specs.Seats.{Seat, seat}
-use Rattle.yq_change.specs.Siblings.{IsEntryAt, NodeLines, IsCollectionAt}
-use Rattle.yq_change.specs.LineRows.{InRows, line_number}
-
--- Behind the last row of the block collection at a path stand the other rows.
-abbrev pub CollectionRows : Type 0
-CollectionRows =
-    (p : Part) (n : ℕ) (steps : List Step) (h : NodeLines) → IsEven n (outline_of p) → IsCollectionAt steps (outline_of p) h →
-    InRows p.rows (lines_before h.place ++ flatten h.lines) (lines_after h.place)
+use Rattle.yq_change.specs.Siblings.{IsEntryAt, NodeLines}
+use Rattle.yq_change.specs.LineRows.{line_number}
 
 -- The rows of an item or entry that has whole rows are those between others in front and others behind.
 pub record HasRows (p : Part) (h : NodeLines) (f : Found) (front gone back : List Row) : Type 0 where

@@ -33,3 +33,4 @@ pub mod FlowRows
 pub mod FlowKept
 pub mod Unders
 pub mod DocumentItems
+pub mod StandingLaws

@@ -38,11 +38,6 @@ pub record PathEntry (p : Part) (steps : List Step) (s : Step) (before : ℕ) : 
   pub entry : IsEntryAt steps s (outline_of p) h f
   pub rows : RowsFrom p h f before
 
--- A path whose line is the first of its row leads to an item or entry that has rows of its own.
-abbrev pub PathHasRows : Type 0
-PathHasRows =
-    (t : List ℕ) (c : Cut) (k : ℕ) (p : Part) (steps : List Step) (s : Step) (x : Seat) → IsDocumentPart t c k p → seat_of (steps ++ (s ∷ [])) p.rows ≡ Some x → x.line ≡ 0 → PathEntry p steps s x.before
-
 -- The line comment at a path is set, where the path's line is the last of its row.
 abbrev pub PathLineCommented : Type 0
 PathLineCommented =

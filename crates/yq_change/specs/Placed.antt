@@ -7,7 +7,7 @@ use Rattle.yq_documents.specs.Lines.{lines_of}
 use Rattle.yq_lines.specs.Outline.{Line, flatten, IsEven}
 use Rattle.yq_lines.specs.Places.{lines_before, Found, find}
 use Rattle.yq_documents.specs.Reading.{outline_of}
-use Rattle.yq_change.specs.Siblings.{IsEntry, NodeLines, lines_at, put_lines, IsEntryAt}
+use Rattle.yq_change.specs.Siblings.{IsEntry, NodeLines, put_lines, IsEntryAt}
 
 -- Lines in three parts are in the same three parts wherever these have the same lengths.
 abbrev pub SameParts : Type 0
@@ -28,12 +28,6 @@ abbrev pub LinePlaced : Type 0
 LinePlaced =
     (n : ℕ) (p : Part) (s : Step) (ss rest : List Step) (f : Found) (a x z : List Line) → IsEven n (outline_of p) → find s ss (outline_of p) ≡ Some (f, rest) →
     ArePartedAt (lines_of p.rows) a x z (length (lines_before f.place)) (length (f.line ∷ flatten f.under)) → (x ≡ f.line ∷ flatten f.under) × ((ls : List Line) → with_lines f ls ≡ a ++ (ls ++ z))
-
--- The same of the lines of the node at a path.
-abbrev pub LinesPlaced : Type 0
-LinesPlaced =
-    (n : ℕ) (p : Part) (steps : List Step) (h : NodeLines) (a x z : List Line) → IsEven n (outline_of p) → lines_at steps (outline_of p) ≡ Some h →
-    ArePartedAt (lines_of p.rows) a x z (length (lines_before h.place)) (length (flatten h.lines)) → (x ≡ flatten h.lines) × ((ls : List Line) → put_lines h ls ≡ a ++ (ls ++ z))
 
 -- The same of the lines of an item or entry of that node.
 abbrev pub EntryPlaced : Type 0

@@ -1,7 +1,6 @@
 -- What is taken out of a text with an item or entry, as rows taken out of a document (own).
-use Rattle.std.specs.Prelude.{◌≡◌, ◌≤◌, ℕ, List, [], ◌∷◌, ◌++◌, length, slice_get, Option, Some, None, true}
+use Rattle.std.specs.Prelude.{◌≡◌, ℕ, List, [], ◌∷◌, ◌++◌, slice_get, Option, Some, None, true}
 use Rattle.yq_scalar.specs.BlockRepair.{repair}
-use Rattle.yq_scalar.specs.Characters.{text_limit}
 use Rattle.yq_scalar.specs.Paths.{Step, node_at, remove_child}
 use Rattle.yq_scalar.specs.Text.{joined, lines_of as text_lines}
 use Rattle.yq_scalar.specs.Tree.{Node}
@@ -61,17 +60,6 @@ pub record MayTakeOut (c : Cut) (k : ℕ) (steps : List Step) : Type 0 where
   pub node_is : node_at steps (root_of part) ≡ Some node
   pub spared : AreSpared (names_of node) [] (names_of (root_of part))
 
--- An item or entry that may be taken out is taken out, where the new text isn't too long.
-abbrev pub EntryTakenOut : Type 0
-EntryTakenOut =
-    (c : Cut) (k : ℕ) (steps : List Step) (x : Removal) → read_at (cut_text c) ≡ Some c → removal_place k steps c ≡ Some x → MayTakeOut c k steps →
-    length (x.before ++ (mended x.seam x.gap ++ x.behind)) ≤ text_limit → IsTakenOut c k steps (x.before ++ (mended x.seam x.gap ++ x.behind))
-
 -- What is taken out with the first item or entry of a compact collection stands in the text.
 abbrev pub FirstStands : Type 0
 FirstStands = (c : Cut) (k : ℕ) (steps : List Step) (x : FirstOut) → first_removal k steps c ≡ Some x → cut_text c ≡ x.before ++ (x.space ++ (x.entry ++ (x.break ++ (x.indent ++ x.behind))))
-
--- The first item or entry of a compact collection, if it may be taken out, is taken out, where the new text isn't too long.
-abbrev pub FirstTakenOut : Type 0
-FirstTakenOut =
-    (c : Cut) (k : ℕ) (steps : List Step) (x : FirstOut) → read_at (cut_text c) ≡ Some c → first_removal k steps c ≡ Some x → MayTakeOut c k steps → length (x.before ++ x.behind) ≤ text_limit → IsTakenOut c k steps (x.before ++ x.behind)

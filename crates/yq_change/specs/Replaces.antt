@@ -16,16 +16,16 @@ use Rattle.yq_documents.specs.Documents.{HaveFitKeys, HasShortRoot, lead_of}
 use Rattle.yq_documents.specs.Lines.{lines_from, lines_of}
 use Rattle.yq_documents.specs.Reading.{outline_of, root_of}
 use Rattle.yq_tree.specs.RowPaths.{IsReadable}
-use Rattle.yq_documents.specs.TreeEdits.{headed, replaced}
+use Rattle.yq_documents.specs.TreeEdits.{replaced}
 use Rattle.yq_change.specs.Appends.{inserted}
 use Rattle.yq_change.specs.BlockChanges.{AreCounted, MovesUp, RootFits, StaysEmpty}
 use Rattle.yq_change.specs.Changed.{IsChanged, put_document}
 use Rattle.yq_change.specs.Conditions.{AreSpared}
 use Rattle.yq_change.specs.DocumentRows.{IsDocumentPart, behind_document, part_number, put_rows}
-use Rattle.yq_change.specs.Edited.{LineFits, with_lead}
+use Rattle.yq_change.specs.Edited.{LineFits}
 use Rattle.yq_change.specs.Moved.{moved_up, emptied}
 use Rattle.yq_change.specs.Siblings.{HasEntries, IsEntryAt, NodeLines}
-use Rattle.yq_change.specs.SoundRoots.{IsNewValue, MayReplace}
+use Rattle.yq_change.specs.SoundRoots.{MayReplace}
 
 -- Rows may stand in the place of some of a part, with a gap behind them, before a rest: they are rows there, the next row may follow, and their text begins like the old one.
 pub record RowsReplace (front gone new back : List Row) (gap : List ℕ) (p : Part) (rest : List ℕ) : Type 0 where
@@ -83,13 +83,6 @@ RootRowsReplaced =
     (t : List ℕ) (c : Cut) (k : ℕ) (p : Part) (v : Node) (new : List Row) (gap : List ℕ) (m : ℕ) (u : Outline) → IsDocumentPart t c k p → TakesRoot c k p new gap →
     RootFits m u (replaced v (root_of p)) → lines_of new ≡ flatten u → MayReplace v (root_of p) (root_of p) 0 → IsReadable (cut_text (put_document k (rooted new gap p) c)) →
     IsChanged c (put_document k (rooted new gap p) c) k (lead_of (rooted new gap p)) (replaced v)
-
--- The root is replaced by the rows of a block collection, whose first item or entry takes the lead as its head comment.
-abbrev pub RootRowsRewritten : Type 0
-RootRowsRewritten =
-    (t : List ℕ) (c : Cut) (k : ℕ) (p : Part) (v : Node) (new : List Row) (gap : List ℕ) (m : ℕ) (u : Outline) → IsDocumentPart t c k p → TakesRoot c k p new gap →
-    RootFits m u v → HasEntries u → lines_of new ≡ flatten (with_lead (lead_of p) u) → IsNewValue v 0 → IsReadable (cut_text (put_document k (rooted new gap p) c)) →
-    IsChanged c (put_document k (rooted new gap p) c) k (lead_of p) (λ old. within (headed (lead_of p)) v)
 
 -- The first item or entry of a compact collection is removed: the next one's row b stands behind the dash.
 abbrev pub FirstRowMoved : Type 0

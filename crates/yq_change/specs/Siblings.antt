@@ -1,6 +1,6 @@
 -- Items or entries of a block collection exchanged, and the lines of a node at a path (own).
 use Rattle.std.specs.Prelude.{◌≡◌, ℕ, ◌<◌, List, [], ◌∷◌, ◌++◌, Option, Some, None, option_and_then, ⊤}
-use Rattle.yq_scalar.specs.Paths.{Step, append_child, change, relabel_child, remove_child, within, append_children}
+use Rattle.yq_scalar.specs.Paths.{Step, append_child, change, relabel_child, remove_child, within}
 use Rattle.yq_scalar.specs.Tree.{Label, Node, Children}
 use Rattle.yq_lines.specs.Group.{level_or}
 use Rattle.yq_lines.specs.Laws.{with_lines}
@@ -22,16 +22,6 @@ IsEntry Dash = ⊤
 abbrev pub HasEntries : Outline → Type 0
 HasEntries end = ⊥
 HasEntries (row l under after) = IsEntry l.mark
-
--- Where some of the items or entries of a collection give way to others at the same level, or to none while some are left, the lines stand for the collection with these in their place.
-abbrev pub SiblingsReplaced : Type 0
-SiblingsReplaced =
-    (n : ℕ) (a b c d : Outline) → IsEven n (append_outline a (append_outline b c)) → IsEven n d → HasEntries (append_outline a (append_outline b c)) →
-    HasEntries (append_outline a (append_outline d c)) →
-    (children (append_outline a (append_outline b c)) ≡ append_children (children a) (append_children (children b) (children c))) ×
-    IsEven n (append_outline a (append_outline d c)) ×
-    (flatten (append_outline a (append_outline d c)) ≡ flatten a ++ (flatten d ++ flatten c)) ×
-    (value (append_outline a (append_outline d c)) ≡ within (λ cs. append_children (children a) (append_children (children d) (children c))) (value (append_outline a (append_outline b c))))
 
 -- The lines of a node: their place in an outline, the level that they are deeper than, the anchor in the line above, and their outline.
 pub record NodeLines : Type 0 where

@@ -2,9 +2,8 @@
 use Rattle.std.specs.Prelude.{◌≡◌, ◌<◌, ℕ, List, [], ◌∷◌, ◌++◌, Some, true, false}
 use Rattle.std.specs.Str.{IsUtf8}
 use Rattle.yq_scalar.specs.Characters.{is_text}
-use Rattle.yq_scalar.specs.Text.{front, is_feed}
+use Rattle.yq_scalar.specs.Text.{is_feed}
 use Rattle.yq_rows.specs.Rows.{Cut, cut_text}
-use Rattle.yq_rows.specs.Exchange.{HasPieces}
 use Rattle.yq_documents.specs.Reading.{read_at}
 
 -- A piece of a text: whole characters, which a text may hold, with an LF behind each CR (YAML 1.2.2, sections 5.1 and 5.4; own).
@@ -32,7 +31,3 @@ BeginsPiece (b ∷ t) = (b < 128) × (is_feed b ≡ false)
 -- A piece that is cut before such a byte is two pieces.
 abbrev pub ByteCut : Type 0
 ByteCut = (a b : List ℕ) → IsPiece (a ++ b) → BeginsPiece b → IsPiece a × IsPiece b
-
--- A piece in three parts, of which neither the second nor the third begins with an LF, is three pieces.
-abbrev pub PiecesCut : Type 0
-PiecesCut = (t a o b : List ℕ) → IsPiece t → HasPieces t a o b → front is_feed (o ++ b) ≡ false → front is_feed b ≡ false → IsPiece a × IsPiece o × IsPiece b

@@ -5,11 +5,8 @@ use Rattle.yq_inline.specs.Nodes as inline
 use Rattle.yq_lines.specs.Outline.{flatten}
 use Rattle.yq_lines.specs.Places.{lines_before, Found, find}
 use Rattle.yq_rows.specs.Rows.{Content, Inline, Row, Part}
-use Rattle.yq_documents.specs.Documents.{lead_of}
 use Rattle.yq_documents.specs.Lines.{lines_of}
 use Rattle.yq_documents.specs.Reading.{outline_of}
-use Rattle.yq_change.specs.Contents.{recontent}
-use Rattle.yq_change.specs.Rooms.{is_block_root}
 
 -- Steps lead to an item or entry whose line is that of a row's mark, with these rows under it, between others in front and others behind.
 pub record HasUnder (p : Part) (s : Step) (ss : List Step) (front : List Row) (r : Row) (under back : List Row) : Type 0 where
@@ -18,12 +15,6 @@ pub record HasUnder (p : Part) (s : Step) (ss : List Step) (front : List Row) (r
   pub rows_are : p.rows ≡ front ++ (r ∷ (under ++ back))
   pub number : length (lines_of front) + length r.dashes ≡ length (lines_before found.place)
   pub count : length (lines_of under) ≡ length (flatten found.under)
-
--- Without the rows under an item or entry, and with another content behind its mark, a document has the same lead, and its root is block where it was.
-abbrev pub UnderKept : Type 0
-UnderKept =
-    (p : Part) (front : List Row) (r : Row) (under back : List Row) (new : Content) → p.rows ≡ front ++ (r ∷ (under ++ back)) →
-    (lead_of (recontent front r back new p) ≡ lead_of p) × (is_block_root (recontent front r back new p) ≡ is_block_root p)
 
 -- an inline node behind a space, as a content
 abbrev pub spaced : inline.Node → List ℕ → Content

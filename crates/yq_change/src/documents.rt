@@ -1,19 +1,13 @@
 //! Laws on lines exchanged, for the crates above.
-ghost use Rattle.yq_change.specs.After.{AfterBlock, AfterKept, ChangedAlike, EndIsChange};
-ghost use Rattle.yq_change.specs.Changed.{DocumentChanged, DocumentPut, LeadIsFirst, PartStands, TextPut};
-ghost use Rattle.yq_change.specs.Conditions.{AnchorsStay, BoundChanged, BoundStays, DepthChanged, FitStays, LinesAmong, NamesAround, UniqueChanged};
-ghost use Rattle.yq_change.specs.Edited.{LinesAreThere, LeadIsAbove, LeadKept, LeadStays, LineExchanged, LineRelabelled, LinesAppended, LinesExchanged, LinesRemoved, OldIsEven, OldIsSound, RootHasLead, RootKeeps};
-ghost use Rattle.yq_change.specs.FlowChanges.{FlowAppended, FlowRemoved, FlowReplaced, HeadChanged, ItemsChanged, RootItemsChanged};
-ghost use Rattle.yq_change.specs.BlockChanges.{EntryAppended, EntryRelabelled, EntryRemoved, FirstDropped, FirstRemoved, NodeReplaced, RootReplaced, RootRewritten};
+ghost use Rattle.yq_change.specs.After.{EndIsChange};
+ghost use Rattle.yq_change.specs.Changed.{DocumentChanged, DocumentPut, LeadIsFirst, PartStands};
+ghost use Rattle.yq_change.specs.Conditions.{AnchorsStay, BoundChanged, BoundStays, DepthChanged, LinesAmong, NamesAround, UniqueChanged};
+ghost use Rattle.yq_change.specs.Edited.{LinesAreThere, LeadIsAbove, LineExchanged, LineRelabelled, LinesAppended, LinesExchanged, LinesRemoved, OldIsEven, OldIsSound, RootHasLead};
+ghost use Rattle.yq_change.specs.BlockChanges.{EntryAppended, EntryRelabelled, EntryRemoved, FirstDropped, FirstRemoved, NodeReplaced, RootReplaced};
 ghost use Rattle.yq_change.specs.Moved.{DashesFirst, FirstEmptied, FirstMoved};
 ghost use Rattle.yq_change.specs.SoundRoots.{AppendKeeps, RelabelKeeps, RemoveKeeps, ReplaceKeeps};
-ghost use Rattle.yq_change.specs.Placed.{EntryPlaced, FoundIsEntry, LinesPlaced, LinePlaced, RowsInParts, SameParts};
-ghost use Rattle.yq_change.specs.Siblings.{Appended, CollectionReplaced, LinesReplaced, Relabelled, Removed, SiblingsReplaced};
-
-/// Items or entries of a collection give way to others.
-pub fn siblings_replaced()
-    ensures { SiblingsReplaced }
-{}
+ghost use Rattle.yq_change.specs.Placed.{EntryPlaced, FoundIsEntry, LinePlaced, RowsInParts, SameParts};
+ghost use Rattle.yq_change.specs.Siblings.{Appended, CollectionReplaced, LinesReplaced, Relabelled, Removed};
 
 /// The lines of the node at a path exchanged.
 pub fn lines_replaced()
@@ -40,7 +34,6 @@ pub fn conditions_changed()
 /// A text with another part for one document reads as the same documents but for that one.
 pub fn document_changed()
     ensures put { DocumentPut }
-    ensures text { TextPut }
     ensures part { PartStands }
     ensures read { DocumentChanged }
     ensures lead { LeadIsFirst }
@@ -50,7 +43,6 @@ pub fn document_changed()
 pub fn rows_stay()
     ensures anchors { AnchorsStay }
     ensures among { LinesAmong }
-    ensures keys { FitStays }
 {}
 
 /// The lines without the first entry of a compact collection.
@@ -66,7 +58,6 @@ pub fn operations_keep()
     ensures appended { AppendKeeps }
     ensures removed { RemoveKeeps }
     ensures relabelled { RelabelKeeps }
-    ensures root { RootKeeps }
 {}
 
 /// A text whose lines were exchanged reads as the same documents but for the node at a path.
@@ -87,17 +78,14 @@ pub fn document_known()
 
 /// Leads and first lines.
 pub fn leads()
-    ensures stays { LeadStays }
     ensures above { LeadIsAbove }
     ensures root { RootHasLead }
-    ensures kept { LeadKept }
 {}
 
 /// The operations on block nodes, each read as the documents that it makes.
 pub fn operations_read()
     ensures replaced { NodeReplaced }
     ensures root { RootReplaced }
-    ensures rewritten { RootRewritten }
     ensures appended { EntryAppended }
     ensures removed { EntryRemoved }
     ensures first { FirstRemoved }
@@ -110,25 +98,11 @@ pub fn lines_placed()
     ensures parts { SameParts }
     ensures rows { RowsInParts }
     ensures line { LinePlaced }
-    ensures lines { LinesPlaced }
     ensures entry { EntryPlaced }
     ensures found { FoundIsEntry }
 {}
 
 /// A changed text, told as a tree with the lead that goes with it.
 pub fn tree_after()
-    ensures end { EndIsChange }
-    ensures block { AfterBlock }
-    ensures kept { AfterKept }
-    ensures alike { ChangedAlike }
-{}
-
-/// The operations inside flow collections, each read as the documents that it makes.
-pub fn flow_read()
-    ensures head { HeadChanged }
-    ensures items { ItemsChanged }
-    ensures root { RootItemsChanged }
-    ensures replaced { FlowReplaced }
-    ensures appended { FlowAppended }
-    ensures removed { FlowRemoved }
+    ensures { EndIsChange }
 {}

@@ -6,3 +6,4 @@ pub mod documents;
 pub mod operations;
 pub mod removals;
 pub mod rooms;
+pub mod standing;

@@ -3,19 +3,17 @@ ghost use Rattle.yq_change.specs.Appends.{BlockAppended};
 ghost use Rattle.yq_change.specs.Columns.{BlockIsDeeper, ClosedStandsLess, NextAllowed, NextStays};
 ghost use Rattle.yq_change.specs.Ends.{EndAppended};
 ghost use Rattle.yq_change.specs.Heads.{HeadCommented};
-ghost use Rattle.yq_change.specs.Contents.{EntryContentReplaced, LowerContentReplaced, RootContentReplaced};
-ghost use Rattle.yq_change.specs.InlineRows.{InlinePlaced, InlineReplaced};
+ghost use Rattle.yq_change.specs.Contents.{LowerContentReplaced, RootContentReplaced};
 ghost use Rattle.yq_change.specs.DocumentRows.{DocumentKnown, DocumentSpliced, PartNumbered, RowsPut};
 ghost use Rattle.yq_change.specs.Remarks.{LineCommented};
-ghost use Rattle.yq_change.specs.PathRows.{PathHasRows, PathHeadCommented, PathIsEntry, PathLineCommented};
+ghost use Rattle.yq_change.specs.PathRows.{PathHeadCommented, PathIsEntry, PathLineCommented};
 ghost use Rattle.yq_change.specs.PathTails.{PathTailPut};
 ghost use Rattle.yq_change.specs.PlacedParts.{DocumentStandsAt};
 ghost use Rattle.yq_change.specs.RowComments.{BlockCommented, ContentCommented, RowReplaces};
-ghost use Rattle.yq_change.specs.EntryRows.{CollectionRows, EntryRows};
+ghost use Rattle.yq_change.specs.EntryRows.{EntryRows};
 ghost use Rattle.yq_change.specs.FlowKept.{FlowKeys, FlowRooms, LeftKeys};
 ghost use Rattle.yq_change.specs.FlowRows.{FlowEdited, FlowFound, FlowStands, RowTexts};
-ghost use Rattle.yq_change.specs.Removes.{BlockRemoved};
-ghost use Rattle.yq_change.specs.Replaces.{DocumentReplaced, DocumentRooted, FirstRowDropped, FirstRowMoved, NodeRowsReplaced, RootRowsReplaced, RootRowsRewritten};
+ghost use Rattle.yq_change.specs.Replaces.{DocumentReplaced, DocumentRooted, FirstRowDropped, FirstRowMoved, NodeRowsReplaced, RootRowsReplaced};
 ghost use Rattle.yq_change.specs.LineFronts.{CleanCut, LineEndsClean};
 ghost use Rattle.yq_change.specs.LineRows.{EntriesApart, EvenClosed, LinesApart, RowBegins, SeatSplits};
 
@@ -56,23 +54,16 @@ pub fn appended()
     ensures last { EndAppended }
 {}
 
-/// One item or entry less.
-pub fn removed()
-    ensures { BlockRemoved }
-{}
-
 /// The row of a path, and comments there.
 pub fn at_paths()
     ensures entry { PathIsEntry }
-    ensures rows { PathHasRows }
     ensures line { PathLineCommented }
     ensures head { PathHeadCommented }
 {}
 
 /// The rows of a collection's items or entries, and of one of them.
 pub fn rows_of_entries()
-    ensures collection { CollectionRows }
-    ensures entry { EntryRows }
+    ensures { EntryRows }
 {}
 
 /// Rows that give way to others whose text begins like theirs, and a node at a path that does.
@@ -85,7 +76,6 @@ pub fn replaced()
 pub fn root_replaced()
     ensures cut { DocumentRooted }
     ensures replaced { RootRowsReplaced }
-    ensures rewritten { RootRowsRewritten }
 {}
 
 /// The first item or entry of a compact collection less: the next one's row stands behind the dash,
@@ -116,12 +106,9 @@ pub fn line_fronts()
     ensures clean { LineEndsClean }
 {}
 
-/// What is written behind the mark of one row gives way to a value: behind a key or dash, alone on
-/// the line under it, or as a root.
+/// What is written in a row that is alone on its line gives way to a value: under a key or dash, or
+/// as a root.
 pub fn content_replaced()
-    ensures placed { InlinePlaced }
-    ensures inline { InlineReplaced }
-    ensures entry { EntryContentReplaced }
     ensures lower { LowerContentReplaced }
     ensures root { RootContentReplaced }
 {}

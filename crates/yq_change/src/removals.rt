@@ -1,5 +1,5 @@
 //! Items and entries taken out of a text.
-ghost use Rattle.yq_change.specs.RemovalChanges.{EntryTakenOut, FirstStands, FirstTakenOut, OwnRowsStand, RemovalStands};
+ghost use Rattle.yq_change.specs.RemovalChanges.{FirstStands, OwnRowsStand, RemovalStands};
 
 /// Which rows an item or entry has.
 pub fn rows_in_text()
@@ -8,12 +8,10 @@ pub fn rows_in_text()
 
 /// One of several items or entries, with whole rows, taken out of a text.
 pub fn taken_out()
-    ensures stands { RemovalStands }
-    ensures reads { EntryTakenOut }
+    ensures { RemovalStands }
 {}
 
 /// The first of several items or entries of a compact collection taken out of a text.
 pub fn first_taken_out()
-    ensures stands { FirstStands }
-    ensures reads { FirstTakenOut }
+    ensures { FirstStands }
 {}

@@ -1,8 +1,7 @@
 //! Laws on leads, on the room for comments, and on pieces of texts.
-ghost use Rattle.yq_change.specs.CollectionPlaces.{CollectionPlaces};
 ghost use Rattle.yq_change.specs.DocumentItems.{DocumentHasItems};
 ghost use Rattle.yq_change.specs.Rooms.{BlockLeadGoes, KeptLeadGoes, SameLeadGoes, ShapeTells};
-ghost use Rattle.yq_change.specs.TextPieces.{ByteCut, LineCut, PiecesCut, PiecesJoined, TextIsPiece};
+ghost use Rattle.yq_change.specs.TextPieces.{ByteCut, LineCut, PiecesJoined, TextIsPiece};
 
 /// The lead of a part goes with its root.
 pub fn lead_goes()
@@ -22,12 +21,6 @@ pub fn pieces_of_texts()
     ensures joined { PiecesJoined }
     ensures line { LineCut }
     ensures byte { ByteCut }
-    ensures three { PiecesCut }
-{}
-
-/// Rows stand in front of the end of a block collection and behind it.
-pub fn collections_end()
-    ensures { CollectionPlaces }
 {}
 
 /// Each document of a cut stands among its rows and ends of parts.

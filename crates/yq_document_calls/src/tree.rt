@@ -2,13 +2,13 @@
 
 mod documents;
 mod examples;
-mod inline_places;
 mod nodes;
 mod prefixes;
 mod refused_memory;
 mod room;
 mod shown;
 mod spans;
+mod standings;
 
 use std::alloc::{AllocError, Global};
 use yq_tree::{Path, Step};

@@ -1,4 +1,4 @@
--- An operation that fits is carried out by a way.
+-- An operation that fits is carried out by what it exchanges.
 use Rattle.std.proofs.Common.{◌≡◌, ℕ, ◌<◌, ◌≤◌, Bool, true, false, cond, leb, List, length, Option, Some, Result, Ok, Err, IfOk, IfErr, string_bytes, refl, sym, ap, ◌∙◌, subst}
 use Rattle.std.proofs.lemmas.Bool.{leb-true, leb-false}
 use Rattle.yq_scalar.specs.Characters.{text_limit}
@@ -17,21 +17,20 @@ use Rattle.yq_script.specs.Splice.{Splice}
 use Rattle.yq_script.specs.Script.{Segment, new_text, changes}
 use Rattle.yq_script.specs.declared.edited.Edited.{Edited}
 use Rattle.yq_script.specs.Exchanging as exchange
-use Rattle.yq_carrying.specs.Carrying.{carrying, or_stay}
-use Rattle.yq_ways.specs.Operands.{HasOperand}
-use Rattle.yq_ways.specs.Serving.{IsServed}
-use Rattle.yq_ways.specs.Ways.{ReadsAfter}
-use Rattle.yq_flow_ways.proofs.CutLaws.{cut_same}
-use Rattle.yq_carrying.proofs.CarryingLaws.{carrying_is}
-use Rattle.yq_carrying.proofs.FitServed.{fit_served}
+use Rattle.yq_edits.specs.Operands.{HasOperand}
+use Rattle.yq_edits.specs.EditLaws.{IsEdit}
+use Rattle.yq_edits.specs.Edits.{edits, or_stay}
+use Rattle.yq_edits.specs.ReadsAfter.{ReadsAfter}
+use Rattle.yq_flow_edits.proofs.CutLaws.{cut_same}
 use Rattle.yq_splice.specs.Answers.{Edits, Fails}
 use Rattle.yq_splice.specs.Carried.{carry_one, carried}
 use Rattle.yq_splice.specs.Edit.{Edit, unreadable, refuses, gives, by_reading, edit_of_segments, edit_made}
 use Rattle.yq_splice.specs.Theorems.{IsFitting, IsApplied, IsLarge, IsRefused}
 use Rattle.yq_splice.specs.declared.edit_error.EditError.{EditError}
 use Rattle.yq_splice.specs.declared.edit_error.EditError.TheVariants as error
+use Rattle.yq_splice.proofs.EditsHold.{edit_is, edit_there}
 
--- what an operation that fits comes to: a way carries it out, or its text is too large
+-- what an operation that fits comes to: it is carried out, or its text is too large
 abbrev pub OperationComes : Operation → List ℕ → Edit → Type 0
 OperationComes op t unreadable = ⊥
 OperationComes op t (refuses why) = (why ≡ TooLarge) × IsLarge op t
@@ -55,26 +54,29 @@ module _ (op : Operation) (t : List ℕ) (operand : HasOperand op) (k : IsFittin
       subst (λ (x : List ℕ). Fits (room_of x) op (documents cut)) (sym text)
       (subst (Fits (room_of t) op) (sym is.1) k.fits)
 
-  way : IsServed carrying op cut
-  way = fit_served op cut again operand fits
+  own : (ss : List Segment) × (edits op cut ≡ Some ss)
+  own = edit_there op cut again operand fits
+
+  edit : IsEdit op cut own.0
+  edit = edit_is op cut own.0 again own.1
 
   abbrev made : List ℕ
-  made = new_text way.0
+  made = new_text own.0
 
-  comes : carried op t ≡ edit_of_segments way.0
-  comes = ap (by_reading (carry_one op)) is.0 ∙ ap (λ (x : Option (List Segment)). edit_of_segments (or_stay cut x)) way.1
+  comes : carried op t ≡ edit_of_segments own.0
+  comes = ap (by_reading (carry_one op)) is.0 ∙ ap (λ (x : Option (List Segment)). edit_of_segments (or_stay cut x)) own.1
 
-  is_applied : length made ≤ text_limit → IsApplied op t made (changes way.0)
+  is_applied : length made ≤ text_limit → IsApplied op t made (changes own.0)
   is_applied size =
-      let r : ReadsAfter op cut made = carrying_is.reads op cut way.0 again way.1 operand fits size in
+      let r : ReadsAfter op cut made = (edit.carried operand fits size).reads in
       let after : documents r.cut ≡ after_op (room_of t) op k.before =
       r.documents_are ∙ (λ i. after_op (room_of (text i)) op (is.1 i)) in
       record {
         before = k.before;
         read = k.read;
-        segments = way.0;
-        way = way.1;
-        old_is = carrying_is.old op cut way.0 again way.1 ∙ text;
+        segments = own.0;
+        exchanged = own.1;
+        old_is = edit.old ∙ text;
         new_is = refl;
         splices = refl;
         reads = subst (Reads made) after (read_takes made r.cut r.read);
@@ -86,14 +88,14 @@ module _ (op : Operation) (t : List ℕ) (operand : HasOperand op) (k : IsFittin
   is_large size = record {
     before = k.before;
     read = k.read;
-    segments = way.0;
-    way = way.1;
-    old_is = carrying_is.old op cut way.0 again way.1 ∙ text;
+    segments = own.0;
+    exchanged = own.1;
+    old_is = edit.old ∙ text;
     size = size;
   }
 
   by_size : (b : Bool) → leb (length made) text_limit ≡ b →
-      OperationComes op t (edit_made (cond b (exchange.gives made (changes way.0)) exchange.too_large))
+      OperationComes op t (edit_made (cond b (exchange.gives made (changes own.0)) exchange.too_large))
   by_size true e = is_applied (leb-true (length made) text_limit e)
   by_size false e = (refl, is_large (leb-false (length made) text_limit e))
 

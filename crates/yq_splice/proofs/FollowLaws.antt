@@ -29,19 +29,22 @@ use Rattle.yq_script.proofs.ChangeLaws.{cut_back, cut_front}
 use Rattle.yq_script.proofs.ScriptLaws.{changes_lead, kept_changes}
 use Rattle.yq_session.specs.Following.{ArePlacesOf, CountsWritten, Follows, exchanged, read_text}
 use Rattle.yq_session.specs.declared.kept.Kept.{Kept}
-use Rattle.yq_carrying.specs.Carrying.{carrying, or_stay}
-use Rattle.yq_carrying.proofs.CarryingLocalLaws.{carrying_local}
-use Rattle.yq_ways.specs.Local.{IsLocalTo}
-use Rattle.yq_ways.specs.Operands.{HasOperand}
+use Rattle.yq_edits.specs.Edits.{edits, or_stay}
+use Rattle.yq_edits.specs.Local.{IsLocalTo}
+use Rattle.yq_edits.specs.Operands.{HasOperand}
+use Rattle.yq_edits.specs.TouchedRanges.{IsNear}
 use Rattle.yq_script.proofs.KeptSegments.{IsBetween, between}
-use Rattle.yq_ways.proofs.TouchLaws.{local_touches}
-use Rattle.yq_flow_ways.proofs.CutLaws.{cut_read, cut_same, text_read}
+use Rattle.yq_edits.proofs.NearLaws.{edits_are_near}
+use Rattle.yq_edits.proofs.TouchLaws.{local_touches}
+use Rattle.yq_edits.proofs.TouchedLaws.{near_touched}
+use Rattle.yq_flow_edits.proofs.CutLaws.{cut_read, cut_same, text_read}
 use Rattle.yq_splice.specs.Carried.{carried}
 use Rattle.yq_splice.specs.Edit.{gives}
 use Rattle.yq_splice.specs.Session.{HasPlaces, KnowsItems, Scans}
 use Rattle.yq_splice.specs.Theorems.{IsFitting, IsApplied}
 use Rattle.yq_splice.specs.Valid.{segments_by}
 use Rattle.yq_splice.proofs.ApplyLaws.{fits, applied_by}
+use Rattle.yq_splice.proofs.EditsHold.{edit_is}
 use Rattle.yq_splice.proofs.SessionLaws.{carried_by, text_utf8}
 
 -- ---- whether there are splices, by their number
@@ -115,11 +118,11 @@ module _ (op : Operation) (t : List ℕ) (operand : HasOperand op) (fitting : Is
     cut_known : (docs : List Document) (d : Reads t docs) → d.parts ≡ c
     cut_known docs d = same_Some _ _ (sym (parts_read t docs d).0 ∙ h.read)
 
-    way : carrying op c ≡ Some ss
-    way = subst (λ (x : Cut). carrying op x ≡ Some ss) (cut_known a.before a.read) a.way
+    exchanged_there : edits op c ≡ Some ss
+    exchanged_there = subst (λ (x : Cut). edits op x ≡ Some ss) (cut_known a.before a.read) a.exchanged
 
-    by_way : own ≡ ss
-    by_way = ap (segments_by op) (cut_same t c h.read) ∙ ap (or_stay c) way
+    own_is : own ≡ ss
+    own_is = ap (segments_by op) (cut_same t c h.read) ∙ ap (or_stay c) exchanged_there
 
     fit : Fits (room_of (cut_text c)) op (documents c)
     fit = subst (λ (x : Cut). Fits (room_of (cut_text x)) op (documents x)) (cut_known fitting.before fitting.read) (fits op t operand fitting)
@@ -138,34 +141,37 @@ module _ (op : Operation) (t : List ℕ) (operand : HasOperand op) (fitting : Is
     by_local (inr stay) = absurd (changed stay)
 
     touches : TouchesOnly (length (kept_front ss)) (length (kept_back ss)) c new_cut
-    touches = local_touches ss c new_cut (by_local (carrying_local op c ss again way operand fit size) new_cut (ap read_at a.new_is ∙ made_read))
+    touches = local_touches ss c new_cut (by_local ((edit_is op c ss again exchanged_there).carried operand fit size).local new_cut (ap read_at a.new_is ∙ made_read))
 
-    some_given_way : are_kept ss ≡ false
-    some_given_way = some_given ss changed
+    some_given_there : are_kept ss ≡ false
+    some_given_there = some_given ss changed
+
+    near : IsNear ss
+    near = edits_are_near op c ss again exchanged_there operand fit size
 
     room : IsBetween ss
-    room = between ss some_given_way
+    room = between ss some_given_there
 
     abbrev kept : Kept
     kept = record { front = x.front; back = x.back }
 
     front : kept.front ≡ length (kept_front ss)
-    front = change.front ∙ ap (λ (y : List Segment). length (kept_front y)) by_way
+    front = change.front ∙ ap (λ (y : List Segment). length (kept_front y)) own_is
 
     back : kept.back ≡ length (kept_back ss)
-    back = change.back ∙ ap (λ (y : List Segment). length (kept_back y)) by_way
+    back = change.back ∙ ap (λ (y : List Segment). length (kept_back y)) own_is
 
     told : TouchesOnly kept.front kept.back c new_cut
     told = subst (λ (n : ℕ). TouchesOnly n kept.back c new_cut) (sym front) (subst (λ (n : ℕ). TouchesOnly (length (kept_front ss)) n c new_cut) (sym back) touches)
 
     of_text : old_text own ≡ t
-    of_text = ap old_text by_way ∙ a.old_is
+    of_text = ap old_text own_is ∙ a.old_is
 
     utf8 : IsUtf8 (old_text own)
     utf8 = subst IsUtf8 (sym of_text) (text_utf8 t c h.read)
 
     made_is : made ≡ exchanged kept t (string_bytes x.new)
-    made_is = change.text (ap are_kept by_way ∙ some_given_way) ∙ ap (λ (y : List ℕ). exchanged kept y (string_bytes x.new)) of_text
+    made_is = change.text (ap are_kept own_is ∙ some_given_there) ∙ ap (λ (y : List ℕ). exchanged kept y (string_bytes x.new)) of_text
 
     -- the text and the rows follow
     pub follows : Follows t p kept (string_bytes x.new)
@@ -218,11 +224,13 @@ module _ (op : Operation) (t : List ℕ) (operand : HasOperand op) (fitting : Is
               segments = ss;
               read = h.read;
               new_read = read_after;
-              way = way;
+              exchanged = exchanged_there;
+              new_is = sym text_after ∙ sym a.new_is;
               kept = kept;
               front = front;
               back = back;
               touches = told;
+              each = near_touched ss c new_cut near some_given_there (ap read_at a.new_is ∙ made_read) kept.front kept.back front back told;
               exact = exact;
               most = omega (arith, exact, counted_within lines before);
             },

@@ -10,3 +10,9 @@ pub mod FollowLaws
 pub mod OperationsLaws
 pub mod AnswerLaws
 pub mod PrintLaws
+pub mod TableLaws
+pub mod TableExists
+pub mod ChoiceLaws
+pub mod EditsHold
+pub mod RemoveExists
+pub mod PrintedDocuments

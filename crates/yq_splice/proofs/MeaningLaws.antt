@@ -16,7 +16,7 @@ use Rattle.yq_meaning.specs.declared.refusal.Refusal.{Refusal}
 use Rattle.yq_planning.specs.Plans.{plan}
 use Rattle.yq_program.specs.Program.{Update, UpdatesHold}
 use Rattle.yq_meaning.specs.Rooms.{room_of}
-use Rattle.yq_flow_ways.proofs.CutLaws.{cut_same}
+use Rattle.yq_flow_edits.proofs.CutLaws.{cut_same}
 use Rattle.yq_splice.specs.Carried.{carry_all}
 use Rattle.yq_splice.specs.Edit.{Edit, unreadable, refuses, gives}
 use Rattle.yq_splice.specs.Theorems.{IsUpdated, UpdateRefused}

@@ -28,15 +28,15 @@ use Rattle.yq_script.specs.Changing.{IsChange}
 use Rattle.yq_script.specs.Script.{Segment, new_text, old_text}
 use Rattle.yq_script.specs.declared.changed.Changed.{Changed}
 use Rattle.yq_session.specs.Following.{ArePlacesOf}
-use Rattle.yq_carrying.specs.Carrying.{carrying, or_stay}
-use Rattle.yq_carrying.proofs.CarryingLaws.{carrying_is}
-use Rattle.yq_flow_ways.proofs.CutLaws.{cut_read, cut_same, text_read}
+use Rattle.yq_edits.specs.Edits.{edits, or_stay}
+use Rattle.yq_flow_edits.proofs.CutLaws.{cut_read, cut_same, text_read}
 use Rattle.yq_splice.specs.Carried.{carry_one, carried}
 use Rattle.yq_splice.specs.Edit.{gives, by_reading, edit_made}
 use Rattle.yq_splice.specs.Session.{HasPlaces, KnowsItems, NotOpened}
 use Rattle.yq_splice.specs.Theorems.{HasReading}
 use Rattle.yq_splice.specs.Valid.{segments_by}
 use Rattle.yq_splice.proofs.TextFaults.{FailsToRead, text_unread}
+use Rattle.yq_splice.proofs.EditsHold.{edit_is}
 use Rattle.yq_splice.proofs.UpdateLaws.{no_reading}
 
 -- ---- a text with its cut
@@ -141,11 +141,11 @@ known_here n t k stay = stay (cut_of t) 0 (touches_itself n (cut_of t))
 
 -- its segments are of the text
 old_by : (op : Operation) (c : Cut) → read_at (cut_text c) ≡ Some c → old_text (segments_by op c) ≡ cut_text c
-old_by op c read = go (carrying op c) refl
+old_by op c read = go (edits op c) refl
   where
-    go : (o : Option (List Segment)) → carrying op c ≡ o → old_text (or_stay c o) ≡ cut_text c
+    go : (o : Option (List Segment)) → edits op c ≡ o → old_text (or_stay c o) ≡ cut_text c
     go None is = append-nil (cut_text c)
-    go (Some ss) is = carrying_is.old op c ss read is
+    go (Some ss) is = (edit_is op c ss read is).old
 
 pub segments_short : (op : Operation) (t : List ℕ) (ss : List Segment) → read_at t ≡ Some (cut_of t) → ss ≡ segments_by op (cut_of t) → length (old_text ss) < 2 ^ 64
 segments_short op t ss read is =

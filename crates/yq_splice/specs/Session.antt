@@ -13,11 +13,12 @@ use Rattle.yq_documents.specs.Reading.{cut_of, read_at}
 use Rattle.yq_tree.specs.RowWalk.{AreKnown}
 use Rattle.yq_tree.specs.declared.places.spot.KnownItems.{KnownItems}
 use Rattle.yq_meaning.specs.Operations.{Operation}
-use Rattle.yq_script.specs.Script.{Segment, kept_front, kept_back}
+use Rattle.yq_script.specs.Script.{Segment, kept_front, kept_back, new_text}
 use Rattle.yq_script.specs.Splice.{Splice}
 use Rattle.yq_session.specs.Following.{read_text}
 use Rattle.yq_session.specs.declared.kept.Kept.{Kept}
-use Rattle.yq_carrying.specs.Carrying.{carrying}
+use Rattle.yq_edits.specs.Edits.{edits}
+use Rattle.yq_edits.specs.TouchedRanges.{WrittenAreTouched}
 use Rattle.yq_splice.specs.Theorems.{HasReading}
 
 -- What a session is known by: its text, and how many lines were counted (own).
@@ -41,18 +42,20 @@ NotOpened (reading.Fault fault) t = (¬ HasReading t) × (fault.kind ≢ NotUtf8
 NotOpened reading.Memory t = ⊤
 
 -- The lines were counted that are read where an operation exchanges rows and ends of parts: of those that it wrote, in the place of those that its
--- segments touch, without the line of a marker that stays; and no others (own).
+-- segments touch, without the line of a marker that stays; and no others. Each of those is touched by a range of what was put (own).
 pub record IsScanned (op : Operation) (t new : List ℕ) (before after : ℕ) : Type 0 where
   pub cut : Cut
   pub new_cut : Cut
   pub segments : List Segment
   pub read : read_at t ≡ Some cut
   pub new_read : read_at new ≡ Some new_cut
-  pub way : carrying op cut ≡ Some segments
+  pub exchanged : edits op cut ≡ Some segments
+  pub new_is : new ≡ new_text segments
   pub kept : Kept
   pub front : kept.front ≡ length (kept_front segments)
   pub back : kept.back ≡ length (kept_back segments)
   pub touches : TouchesOnly kept.front kept.back cut new_cut
+  pub each : WrittenAreTouched segments kept.front kept.back cut new_cut touches
   pub exact : after ≡ counted (line_count (read_text kept cut new_cut touches)) before
   pub most : after ≤ before + line_count (read_text kept cut new_cut touches)
 

@@ -15,7 +15,7 @@ use Rattle.yq_planning.specs.Plans.{plan}
 use Rattle.yq_program.specs.Program.{Program, Update, read, updates}
 use Rattle.yq_script.specs.Splice.{Splice, all_done, lengths_done}
 use Rattle.yq_script.specs.Script.{Segment, old_text, new_text, changes}
-use Rattle.yq_carrying.specs.Carrying.{carrying}
+use Rattle.yq_edits.specs.Edits.{edits}
 use Rattle.yq_splice.specs.declared.edit_error.EditError.{EditError}
 use Rattle.yq_splice.specs.declared.edit_error.EditError.TheVariants as error
 
@@ -48,25 +48,25 @@ pub record IsFitting (op : Operation) (t : List ℕ) : Type 0 where
   pub read : Reads t before
   pub fits : Fits (room_of t) op before
 
--- A way carries an operation out on a text that reads: of its segments some stay and some give way, and
+-- An operation is carried out on a text that reads: of its segments some stay and some give way, and
 -- the new text, which they make, reads as the documents after the operation; the splices are theirs (own).
 pub record IsApplied (op : Operation) (t new : List ℕ) (cs : List Splice) : Type 0 where
   pub before : List Document
   pub read : Reads t before
   pub segments : List Segment
-  pub way : carrying op read.parts ≡ Some segments
+  pub exchanged : edits op read.parts ≡ Some segments
   pub old_is : old_text segments ≡ t
   pub new_is : new_text segments ≡ new
   pub splices : changes segments ≡ cs
   pub reads : Reads new (after_op (room_of t) op before)
   pub room : LeavesRooms op (room_of t) (room_of new) (after_op (room_of t) op before)
 
--- The text that a way makes of a text that reads is larger than one may be (own).
+-- The text that an operation makes of a text that reads is larger than one may be (own).
 pub record IsLarge (op : Operation) (t : List ℕ) : Type 0 where
   pub before : List Document
   pub read : Reads t before
   pub segments : List Segment
-  pub way : carrying op read.parts ≡ Some segments
+  pub exchanged : edits op read.parts ≡ Some segments
   pub old_is : old_text segments ≡ t
   pub size : text_limit < length (new_text segments)
 

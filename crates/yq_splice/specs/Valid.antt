@@ -8,8 +8,8 @@ use Rattle.yq_meaning.specs.RoomsKept.{MayFollow}
 use Rattle.yq_program.specs.Program.{Update, updates}
 use Rattle.yq_script.specs.Splice.{Splice}
 use Rattle.yq_script.specs.Script.{Segment}
-use Rattle.yq_carrying.specs.Carrying.{carrying, or_stay}
-use Rattle.yq_ways.specs.Operands.{HasOperand}
+use Rattle.yq_edits.specs.Edits.{edits, or_stay}
+use Rattle.yq_edits.specs.Operands.{HasOperand}
 use Rattle.yq_splice.specs.Answers.{Fails}
 use Rattle.yq_splice.specs.Carried.{updated}
 use Rattle.yq_splice.specs.Edit.{in_order}
@@ -35,7 +35,7 @@ AreServed ops t = (docs : List Document) × Serves docs ops t
 
 -- the segments of a cut's text by which an operation is carried out; the text stays where there are none (own)
 abbrev pub segments_by : Operation → Cut → List Segment
-segments_by op c = or_stay c (carrying op c)
+segments_by op c = or_stay c (edits op c)
 
 -- An update is carried out, as it comes to and as it means (own).
 pub record IsStep (u : Update) (t new : List ℕ) (cs : List Splice) : Type 0 where

@@ -12,10 +12,10 @@ ghost use Rattle.yq_splice.specs.Theorems.{IsApplied, IsFitting, IsRefused};
 ghost use Rattle.yq_splice.specs.Valid.{AreServed, segments_by};
 
 use crate::edit_error::EditError;
+use crate::op_segments::op_segments;
 use crate::operands::operand_holds;
 use crate::session::Session;
 use std::alloc::Global;
-use yq_carrying::op_segments;
 use yq_expr::Op;
 use yq_rows::Places;
 use yq_script::{Changed, Edited, Splice, changes, exchange};

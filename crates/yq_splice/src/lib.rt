@@ -3,7 +3,9 @@
 
 mod carrying;
 mod edit_error;
+pub mod edit_laws;
 mod editing;
+mod op_segments;
 mod operands;
 mod printing;
 mod session;

@@ -5,7 +5,7 @@ ghost use Rattle.std.specs.Str.{IsUtf8};
 ghost use Rattle.yq_flow.specs.Valued.{AreValueTrees, IsValid, IsValueTree};
 ghost use Rattle.yq_inline.specs.Values.{entries_of, items_of, node_of};
 ghost use Rattle.yq_meaning.specs.Operations.{operation_of, operations_of};
-ghost use Rattle.yq_ways.specs.Operands.{HasOperand, KeyIsUtf8};
+ghost use Rattle.yq_edits.specs.Operands.{HasOperand, KeyIsUtf8};
 ghost use Rattle.yq_splice.specs.Valid.{HaveOperands};
 
 use yq_expr::{Op, Value};

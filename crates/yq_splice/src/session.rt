@@ -124,8 +124,8 @@ impl Session {
         ensures done { IfOk result (λ cs.
             IsApplied (operation_of op.now) self.old.text self.new.text cs.items) }
         ensures refused { IfErr result (λ e. IsRefused e (operation_of op.now) self.old.text) }
-        // At most the lines of the rows and end gaps that it touches are counted; none, where no splice
-        // comes.
+        // The lines of the rows and ends of parts that it wrote are counted, and no others; none, where no
+        // splice comes.
         ensures scanned { IfOk result (λ cs. Scans (operation_of op.now) self.old.text self.new.text cs.items
             self.old.scanned self.new.scanned) }
         // What is refused leaves the session as it is.

@@ -1,9 +1,7 @@
 -- A content ends in a break, or the text ends behind it.
-use Rattle.std.proofs.Common.{◌≡◌, ◌⊎◌, inl, inr, ℕ, ℤ, Bool, true, false, not, length, take, drop, ◌&&◌, List, [], ◌∷◌, ◌++◌, refl, sym, ap, ◌∙◌, subst, append-nil}
-use Rattle.std.proofs.Math.Seq.{take-append_seam, drop-append_seam}
+use Rattle.std.proofs.Common.{◌≡◌, ◌⊎◌, inl, inr, ℕ, ℤ, Bool, true, false, ◌&&◌, List, [], ◌∷◌, ◌++◌, refl, sym, ap, ◌∙◌, subst, append-nil}
 use Rattle.std.proofs.lemmas.Bool.{eqb-true, false_from_ne_true, false≢true, and_parts, or_parts}
-use Rattle.yq_scalar.specs.Text.{front, is_white, is_feed, is_return, is_break, is_line, is_empty, line_len, cut_line, ends_line, NoneIn}
-use Rattle.yq_scalar.proofs.LineLaws.{line_cut}
+use Rattle.yq_scalar.specs.Text.{front, is_white, is_feed, is_return, is_break, is_line, ends_line, NoneIn}
 use Rattle.yq_rows.specs.Gap.{IsBreak, IsComment, IsWhite}
 use Rattle.yq_rows.specs.Grammar.{IsContent, IsTail}
 use Rattle.yq_rows.specs.Rows.{Content, Nothing, Inline, Block}
@@ -57,20 +55,3 @@ content_ends n (Nothing tail) rest h = tail_ends tail rest h
 content_ends n (Inline space node tail) rest h = tail_ends tail rest h.2
 content_ends n (Block space anchor block) rest h =
     inl (refl, raw_last block.indent block.raw block.tail h.2.lines (and_parts (is_line block.tail) _ h.2.tail).0)
-
--- so the line in front of what stands behind a content less its break is that break
-some_line : (l : List ℕ) → is_line l ≡ true → not (is_empty l) ≡ true
-unfolding is_line
-some_line [] h = absurd (false≢true h)
-some_line (b ∷ l) h = refl
-
-no_cut : cut_line [] ≡ ([], [])
-unfolding line_len
-no_cut = refl
-
-pub end_cut : (broken : Bool) (break rest : List ℕ) → Ends broken break rest → (cut_line (break ++ rest) ≡ (break, rest)) × (not (is_empty break) ≡ broken)
-end_cut broken break rest (inl h) =
-    let n : line_len (break ++ rest) ≡ length break = line_cut break rest h.1 in
-    ((λ i. (take (n i) (break ++ rest), drop (n i) (break ++ rest))) ∙ (λ i. (take-append_seam break rest i, drop-append_seam break rest i)), some_line break h.1 ∙ sym h.0)
-end_cut broken break rest (inr h) =
-    ((λ i. cut_line (h.1 i ++ h.2 i)) ∙ (no_cut ∙ (λ i. (sym h.1 i, sym h.2 i))), ap (λ b. not (is_empty b)) h.1 ∙ sym h.0)

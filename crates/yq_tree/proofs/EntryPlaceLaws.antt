@@ -142,7 +142,3 @@ seat_entry p c first x e = go (slice_get (document_parts c) p.doc) e
     go : (o : Option Part) → Some x ≡ option_map (numbers first) (o >>= λ d. seat_of (steps_of p) d.rows) → (o >>= λ d. line_entry_of k c d.rows (steps_of p)) ≡ (o >>= λ d. entry_of k c d.rows (steps_of p))
     go None e = refl
     go (Some d) e = line_entry_is k c d.rows (steps_of p) first x e
-
--- the place of the content that doesn't stand in flow
-pub content_here : (p : Path) (c : Cut) (x : ℕ × ℕ) → Some x ≡ line_content_at p c → Some x ≡ content_at p c
-content_here p c x e = ap (λ (o : Place). or_flow o (option_and_then (λ (e : PlacedEntry). content_place e.1) (flow_entry_at p c))) e ∙ sym (content_either p c)

@@ -1,11 +1,11 @@
 -- What a text in two halves begins and ends with.
-use Rattle.std.proofs.Common.{◌≡◌, ℕ, zero, suc, ◌+◌, ◌-◌, ◌<◌, ◌≤◌, Bool, true, false, cond, eqb, List, [], ◌∷◌, ◌++◌, length, drop, slice_index, ◌&&◌, ◌||◌, not, refl, sym, ap, ◌∙◌, ◌⊎◌, inl, inr, ⊎_elim, arith, drop-cons}
+use Rattle.std.proofs.Common.{◌≡◌, ℕ, zero, suc, ◌+◌, ◌-◌, ◌<◌, ◌≤◌, Bool, true, false, cond, eqb, List, [], ◌∷◌, ◌++◌, length, drop, slice_index, ◌&&◌, ◌||◌, refl, sym, ap, ◌∙◌, ◌⊎◌, inl, inr, ⊎_elim, arith, drop-cons}
 use Rattle.std.proofs.lemmas.Bool.{cases_lt, eq-eqb, eqb-true, ne_eqb, false_from_ne_true}
 use Rattle.std.proofs.lemmas.List.{drop_all, get_or_append_left, get_or-append_right, get_or_past}
 use Rattle.std.proofs.lemmas.List.Folds.{prefix_len-append}
 use Rattle.std.proofs.lemmas.List.Sums.{prefix_len-le-length}
 use Rattle.std.specs.List.{prefix_len}
-use Rattle.yq_scalar.specs.Text.{front, is_break, is_empty, is_feed, is_line, is_return, is_white, line_len, no_white, past_white, upto}
+use Rattle.yq_scalar.specs.Text.{front, is_break, is_empty, is_feed, is_line, is_return, is_white, line_len, past_white}
 use Rattle.yq_scalar.proofs.Upto.{upto_unless}
 use Rattle.yq_rows.specs.Reading.{begins_gap}
 use Rattle.yq_tree.specs.PrintedLines.{less_break}

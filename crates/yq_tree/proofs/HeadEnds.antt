@@ -13,7 +13,6 @@ use Rattle.yq_inline.proofs.PieceLaws.{front_not, scalar_begins}
 use Rattle.yq_rows.specs.Exchange.{behind_row}
 use Rattle.yq_rows.specs.Grammar.{IsContent, IsCut}
 use Rattle.yq_rows.specs.Rows.{Content, Nothing, Inline, Block, Row, parent_indent, Cut}
-use Rattle.yq_rows.specs.Seams.{is_block}
 use Rattle.yq_rows.specs.View.{Slices, slices, anchor_cut, content_cut, rows_of, Shown, shown}
 use Rattle.yq_rows.proofs.PlaceLaws.{row_in}
 use Rattle.yq_tree.specs.EntryReading.{ending, head_end, head_extent, through_row}
@@ -60,15 +59,6 @@ content_ends : (n : ℤ) (end : ℕ) (x : Content) (rest : List ℕ) → IsConte
 content_ends n end (Nothing tail) rest h = refl
 content_ends n end (Inline space node tail) rest h = cond-false _ _ _ (node_begins n node (tail ++ rest) h.1.valid)
 content_ends n end (Block space anchor block) rest h = ap (λ (b : Bool). cond b (end + length block.tail + length (joined block.raw)) end) (block_marks block.style block.indicators)
-
--- the head of a row begins as a block scalar does where it is one
-pub block_told : (t : List ℕ) (c : Cut) (i : ℕ) (r : Row) → IsCut t c → slice_get (rows_of c) i ≡ Some r → begins_block (slices r).head ≡ is_block r.content
-block_told t c i r cut is = go r.content (row_in c i true r cut.parts is).row.content
-  where
-    go : (x : Content) → IsContent (parent_indent r) x (behind_row i c) → begins_block (content_cut x).3 ≡ is_block x
-    go (Nothing tail) h = refl
-    go (Inline space node tail) h = node_begins (parent_indent r) node (tail ++ behind_row i c) h.1.valid
-    go (Block space anchor block) h = block_marks block.style block.indicators
 
 head_ends : (t : List ℕ) (c : Cut) (i : ℕ) (r : Row) (end : ℕ) → IsCut t c → slice_get (rows_of c) i ≡ Some r → head_finish end (slices r) ≡ head_end end r.content
 head_ends t c i r end cut is = content_ends (parent_indent r) end r.content (behind_row i c) (row_in c i true r cut.parts is).row.content

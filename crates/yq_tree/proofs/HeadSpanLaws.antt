@@ -1,6 +1,6 @@
 -- The heads of rows, and what stands in flow in them, go from one whole character to another.
-use Rattle.std.proofs.Common.{◌≡◌, ℕ, ◌+◌, ◌-◌, ◌<◌, List, [], ◌∷◌, ◌++◌, length, take, drop, replicate, Option, Some, Bool, true, false, refl, sym, ap, ◌∙◌, subst, arith, append_assoc, length-append, inl}
-use Rattle.std.proofs.Math.Seq.{take-append_seam, drop-append_seam}
+use Rattle.std.proofs.Common.{◌≡◌, ℕ, ◌+◌, ◌-◌, ◌<◌, List, [], ◌∷◌, ◌++◌, length, drop, replicate, Option, Some, Bool, true, false, refl, sym, ap, ◌∙◌, subst, arith, append_assoc, length-append, inl}
+use Rattle.std.proofs.Math.Seq.{drop-append_seam}
 use Rattle.std.proofs.lemmas.Bool.{false≢true, and_parts}
 use Rattle.std.specs.List.{slice_get}
 use Rattle.std.specs.Str.{IsUtf8, IsCharBoundary}
@@ -29,7 +29,6 @@ use Rattle.yq_rows.proofs.EmptyTexts.{empty_is}
 use Rattle.yq_documents.specs.RowReading.{from_head}
 use Rattle.yq_tree.specs.CommentReading.{before_tail, before_row}
 use Rattle.yq_tree.specs.EntryReading.{before_line, head_end, head_extent}
-use Rattle.yq_tree.specs.Extents.{head_place}
 use Rattle.yq_tree.proofs.CommentPieceLaws.{Ended, content_end}
 use Rattle.yq_tree.proofs.CommentPieceLaws.{tail_place}
 use Rattle.yq_tree.proofs.SeamLaws.{seam_boundary, ended_seam, ended_after, raw_end, last_ended, line_boundary}
@@ -84,17 +83,6 @@ regroup a b c d e x = simp append_assoc refl
 -- the text of a cut round the head of a row
 pub head_text : (c : Cut) (i : ℕ) (r : Row) → slice_get (rows_of c) i ≡ Some r → cut_text c ≡ (before_content i c ++ ((slices r).space ++ ((slices r).anchor ++ (slices r).apart))) ++ from_head (slices r) (behind_row i c)
 head_text c i r is = tail_place c i r is ∙ regroup (before_content i c) (slices r).space (slices r).anchor (slices r).apart (slices r).head ((slices r).tail ++ ((slices r).raw ++ behind_row i c))
-
--- what stands in the place of a head
-pub head_written : (t : List ℕ) (c : Cut) (i : ℕ) (r : Row) (place : ℕ × ℕ) → IsCut t c → slice_get (rows_of c) i ≡ Some r → place ≡ head_place i c r → take (place.1 - place.0) (drop place.0 t) ≡ (slices r).head
-head_written t c i r place cut is at =
-    let s : Slices = slices r in
-    let before : List ℕ = before_content i c ++ (s.space ++ (s.anchor ++ s.apart)) in
-    let start : place.0 ≡ length before = ap (λ (x : ℕ × ℕ). x.0) at in
-    let stop : place.1 ≡ length before + length s.head = ap (λ (x : ℕ × ℕ). x.1) at in
-    let size : place.1 - place.0 ≡ length s.head = omega (arith, start, stop) in
-    (λ j. take (size j) (drop (start j) ((cut.text ∙ head_text c i r is) j)))
-    ∙ (ap (take (length s.head)) (drop-append_seam before (from_head s (behind_row i c))) ∙ take-append_seam s.head (s.tail ++ (s.raw ++ behind_row i c)))
 
 grouped : (a b c d : List ℕ) → a ++ (b ++ (c ++ d)) ≡ (a ++ (b ++ (c ++ []))) ++ d
 grouped a b c d = simp append_assoc refl

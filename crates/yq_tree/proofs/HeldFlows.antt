@@ -3,7 +3,6 @@ use Rattle.std.proofs.Common.{◌≡◌, ◌⊎◌, inl, inr, ℕ, zero, suc, �
 use Rattle.std.proofs.lemmas.Bool.{cases_lt, lt-ltb, le-ltb, cond-true, cond-false}
 use Rattle.std.proofs.lemmas.Option.{none-some, slice_get-map, same_Some}
 use Rattle.std.specs.List.{slice_get}
-use Rattle.std.specs.Prelude.{IfSome}
 use Rattle.yq_inline.specs.Places.{Placed}
 use Rattle.yq_rows.specs.Exchange.{behind_at, behind_row}
 use Rattle.yq_rows.specs.Grammar.{begins_document}

@@ -103,10 +103,6 @@ known_less ss k x index row h is next less e =
     let size : length (take row ss) ≡ row = length-take-le row ss (omega (arith, slice_get_within ss row x is)) in
     passed_less (take row ss) x k index row (subst (λ (xs : List Slices). ArePassed xs k) more h) (omega (arith, less, size)) e
 
--- a known item's row is behind the first item's line
-pub known_behind : (ss : List Slices) (k : KnownItem) → IsKnown ss k → k.row ≤ length ss → k.under.row < k.row
-known_behind ss k h within = omega (arith, slice_get_within (take k.row ss) k.under.row h.piece h.there, length-take-le k.row ss within)
-
 -- the first item
 pub known_first : (ss : List Slices) (k : KnownItem) (x : Slices) → slice_get ss k.under.row ≡ Some x → k.level ≡ line_level k.under.line x → k.floor < k.level → k.index ≡ 1 → k.row ≡ k.under.row + 1 → IsKnown ss k
 known_first ss k x is level deeper one next =

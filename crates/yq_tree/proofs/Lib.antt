@@ -1,6 +1,5 @@
 pub mod AllLaws
 pub mod RootPlaceLaws
-pub mod RootTold
 pub mod CommentPlaceLaws
 pub mod CommentStandLaws
 pub mod Conditions
@@ -37,7 +36,6 @@ pub mod SpanLaws
 pub mod RowPathLaws
 pub mod SeatedLaws
 pub mod NextLaws
-pub mod HeldScalars
 pub mod WalkDocuments
 pub mod WalkEnds
 pub mod WalkLevels
@@ -58,10 +56,6 @@ pub mod RunSpans
 pub mod UnderCounts
 pub mod FlowSpans
 pub mod PieceSpans
-pub mod InlineExtents
-pub mod InlineTexts
-pub mod InlineHolds
-pub mod InlineTold
 pub mod PieceHolds
 pub mod PieceExists
 pub mod PieceBegins
@@ -85,19 +79,19 @@ pub mod NodeAtLaws
 pub mod KeptLines
 pub mod LastBreakLaws
 pub mod ContentEndLaws
-pub mod EndedLines
-pub mod EndCutLaws
-pub mod CollectionSpans
-pub mod CollectionTold
 pub mod FlowToldLaws
 pub mod FlowNodeLaws
-pub mod MarkLaws
 pub mod DashLaws
-pub mod ScalarPlaceLaws
 pub mod EntryKeys
 pub mod KnownLaws
 pub mod KnownWalks
 pub mod KnownFronts
 mod HalvesLaws
-mod TailLaws
 mod FirstBreakLaws
+mod EntryNumbers
+mod LinesCutLaws
+mod EntryRowLaws
+mod HeldTexts
+mod StandingTold
+mod LoneLaws
+mod RootStandingLaws

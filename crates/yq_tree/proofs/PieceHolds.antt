@@ -29,7 +29,6 @@ use Rattle.yq_tree.proofs.SeatLaws.{part_begins}
 use Rattle.yq_tree.specs.PrintedLines.{printed_lines, line_in}
 use Rattle.yq_tree.specs.PathPieces.{PrintedDocument, behind_text, printed_part, printed_document, piece_in, piece_at}
 use Rattle.yq_tree.specs.PieceLaws.{PiecesHold}
-use Rattle.yq_tree.specs.RowWalk.{document_rows}
 use Rattle.yq_tree.proofs.PieceTexts.{document_text, document_whole, whole_text}
 use Rattle.yq_tree.proofs.PrintedLaws.{ArePrinted, lines_are, document_is}
 use Rattle.yq_tree.proofs.SeatedLines.{IsPlaced, document_placed}
@@ -47,22 +46,6 @@ no_part false n (last p) e = refl
 no_part true zero (marked p marker c) e = cc
 no_part true (suc n) (marked p marker c) e = no_part (begins_document marker) n c (none_map (behind_text (part_text p marker)) (printed_part (begins_document marker) n c) e)
 no_part false n (marked p marker c) e = no_part (begins_document marker) n c (none_map (behind_text (part_text p marker)) (printed_part (begins_document marker) n c) e)
-
--- no document, no lines
-no_lines : (is : Bool) (n : ℕ) (c : Cut) → slice_get (parts_from is c) n ≡ None → printed_part is n c ≡ None
-no_lines true zero (last p) e = cc
-no_lines true (suc n) (last p) e = refl
-no_lines false n (last p) e = refl
-no_lines true zero (marked p marker c) e = cc
-no_lines true (suc n) (marked p marker c) e = ap (option_map (behind_text (part_text p marker))) (no_lines (begins_document marker) n c e)
-no_lines false n (marked p marker c) e = ap (option_map (behind_text (part_text p marker))) (no_lines (begins_document marker) n c e)
-
-pub no_document : (n : ℕ) (c : Cut) → None ≡ document_rows n c → printed_document n c ≡ None
-no_document n c e = go (slice_get (document_parts c) n) refl e
-  where
-    go : (o : Option Part) → slice_get (document_parts c) n ≡ o → ◌≡◌ {A = Option (ℕ × ℕ)} None (option_map (λ p. (document_row n c, document_row n c + length p.rows)) o) → printed_document n c ≡ None
-    go None is e = no_lines _ n c is
-    go (Some p) is e = cc
 
 -- what the code answers is the span of the piece
 pub spans_are : (t : List ℕ) (c : Cut) (path : Path) → IsCut t c → all_documents c ≡ true →

@@ -1,5 +1,5 @@
 -- The texts of lines, and of runs of them.
-use Rattle.std.proofs.Common.{◌≡◌, ℕ, zero, suc, ◌+◌, ◌-◌, List, [], ◌∷◌, ◌++◌, length, take, drop, Option, Some, None, option_map, Bool, true, false, cond, refl, sym, ap, ◌∙◌, append_assoc, append-nil, replicate, arith}
+use Rattle.std.proofs.Common.{◌≡◌, ℕ, zero, suc, ◌+◌, List, [], ◌∷◌, ◌++◌, length, take, drop, Option, Some, None, option_map, Bool, true, false, cond, refl, sym, ap, ◌∙◌, append_assoc, append-nil, replicate}
 use Rattle.std.proofs.lemmas.Option.{none-some, same_Some}
 use Rattle.std.specs.List.{slice_get}
 use Rattle.yq_scalar.specs.Text.{is_empty}
@@ -19,15 +19,6 @@ less_is (b ∷ bs) = go (is_last_break (b ∷ bs)) (less_is bs)
     go : (c : Bool) → less_break bs ++ drop (length (less_break bs)) bs ≡ bs → cond c [] (b ∷ less_break bs) ++ drop (length (cond c [] (b ∷ less_break bs))) (b ∷ bs) ≡ b ∷ bs
     go true h = refl
     go false h = ap (λ l. b ∷ l) h
-
--- where a break can begin that ends a text, its last two bytes tell
-pub less_from : (n : ℕ) (t : List ℕ) → n ≡ length t - 2 → n + length (less_break (drop n t)) ≡ length (less_break t)
-unfolding less_break
-less_from zero t e = omega arith
-less_from (suc n) [] e = absurd (omega (arith, e))
-less_from (suc n) (b ∷ []) e = absurd (omega (arith, e))
-less_from (suc n) (b ∷ (d ∷ [])) e = absurd (omega (arith, e))
-less_from (suc n) (b ∷ (d ∷ (x ∷ t))) e = omega (arith, less_from n (d ∷ (x ∷ t)) (omega (arith, e)))
 
 pub last_is : (tail raw z : List ℕ) → less_last tail raw ++ (cond (is_empty raw) (last_break tail) (last_break raw) ++ z) ≡ tail ++ (raw ++ z)
 last_is tail [] z = sym (append_assoc (less_break tail) (last_break tail) z) ∙ ap (λ l. l ++ z) (less_is tail)

@@ -99,7 +99,7 @@ row_step r rs u h more = go (row_ended r (rows_text rs u) h) more
     go (inl lf) (inl e) = inl (subst IsLf (sym (ap (print_row r) e)) lf)
     go (inr none) (inl e) = inr (both_none (rows_text rs []) u e (sym (texts_then rs [] u) ∙ none))
 
-rows_seam : (a b : List Row) (limit : Limit) (end rest : List ℕ) → AreRows limit (a ++ b) end rest → LineSeam (rows_text a []) (rows_text b (end ++ rest))
+pub rows_seam : (a b : List Row) (limit : Limit) (end rest : List ℕ) → AreRows limit (a ++ b) end rest → LineSeam (rows_text a []) (rows_text b (end ++ rest))
 rows_seam [] b limit end rest h = inl refl
 rows_seam (r ∷ a) b limit end rest h =
     inr (row_step r a (rows_text b (end ++ rest)) (subst (IsContent (parent_indent r) r.content) (rows_text-append a b (end ++ rest)) h.0.content) (rows_seam a b _ end rest h.1))

@@ -57,7 +57,7 @@ rows_more [] j q e = absurd (cc)
 rows_more (r ∷ rs) zero q e = let same : r ≡ q = cc in omega (arith, print-length r [], ap (λ (x : Row). row_length (slices x)) same)
 rows_more (r ∷ rs) (suc j) q e = omega (arith, print-length r (rows_text (take (suc j) rs) []), print-length r (rows_text (take j rs) []), rows_more rs j q e)
 
-slice_seam : (front : List Row) (r : Row) (back : List Row) → slice_get (front ++ (r ∷ back)) (length front) ≡ Some r
+pub slice_seam : (front : List Row) (r : Row) (back : List Row) → slice_get (front ++ (r ∷ back)) (length front) ≡ Some r
 slice_seam [] r back = refl
 slice_seam (x ∷ front) r back = slice_seam front r back
 
@@ -258,7 +258,7 @@ pub record TakenAt (t : List ℕ) (s : Shown) (n : ℕ) (steps : List Step) (m :
   pub is : IsOwn t s part rows m
   pub place : removal_place n steps (cut_of t) ≡ Some (rows_out part rows)
 
-placed_is : (is : Bool) (n : ℕ) (c : Cut) (p : Part) → slice_get (parts_from is c) n ≡ Some p → (d : PlacedPart) × (placed_part is n c ≡ Some d) × (d.part ≡ p)
+pub placed_is : (is : Bool) (n : ℕ) (c : Cut) (p : Part) → slice_get (parts_from is c) n ≡ Some p → (d : PlacedPart) × (placed_part is n c ≡ Some d) × (d.part ≡ p)
 placed_is true zero (last q) p e = (record { before = []; part = q; behind = [] }, refl, same_Some _ _ e)
 placed_is true (suc n) (last q) p e = absurd (cc)
 placed_is false n (last q) p e = absurd (cc)

@@ -21,9 +21,9 @@ use Rattle.yq_documents.specs.Reading.{cut_of}
 use Rattle.yq_documents.specs.Seats.{document_row}
 use Rattle.yq_tree.specs.RowWalk.{document_rows}
 use Rattle.yq_tree.specs.declared.places.spot.Stretch.{Stretch}
-use Rattle.yq_tree.specs.RootPlaces.{RootPlace}
 use Rattle.yq_rows.specs.RowStarts.{part_end}
 use Rattle.yq_tree.specs.RootReading.{part_number, if_unwritten, unwritten_place, unwritten_at}
+use Rattle.yq_tree.specs.Standings.{NoRows}
 use Rattle.yq_tree.proofs.CommentPieceLaws.{gap_end}
 use Rattle.yq_tree.proofs.LengthLaws.{part-length}
 use Rattle.yq_documents.proofs.PartsLinedLaws.{document_is}
@@ -162,7 +162,7 @@ pub none_there : (n : ℕ) (c : Cut) → None ≡ document_rows n c → None ≡
 none_there n c e = go (placed_document n c) refl
   where
     go : (o : Option PlacedPart) → placed_document n c ≡ o → None ≡ unwritten_at n c
-    go None is = sym (ap (λ (o : Option PlacedPart). option_map (λ (x : RootPlace). length x.before) (o >>= if_unwritten)) is)
+    go None is = sym (ap (λ (o : Option PlacedPart). option_map (λ (x : NoRows). length x.before) (o >>= if_unwritten)) is)
     go (Some d) is = let at = document_placed n c ∙ ap part_of is in absurd (none-some _ (e ∙ ap (option_map (λ (p : Part). (document_row n c, document_row n c + length p.rows))) at))
 
 part_there : (n : ℕ) (c : Cut) (p : Part) → slice_get (document_parts c) n ≡ Some p → (d : PlacedPart) × (placed_document n c ≡ Some d) × (d.part ≡ p)
@@ -172,7 +172,7 @@ pub written_none : (s : Shown) (c : Cut) (i : ℕ) (d : Stretch) → Found s c i
 written_none s c i d f some =
     let w = part_there i c f.part f.there in
     let rows : w.0.part.rows ≡ f.document.rows = ap (λ (q : Part). q.rows) w.2 ∙ sym f.rows in
-    sym (ap (option_map (λ (x : RootPlace). length x.before)) (placed_at i c w.0 w.1 ∙ cond-false _ _ _ (go w.0.part.rows rows)))
+    sym (ap (option_map (λ (x : NoRows). length x.before)) (placed_at i c w.0 w.1 ∙ cond-false _ _ _ (go w.0.part.rows rows)))
   where
     go : (rs : List Row) → rs ≡ f.document.rows → no_rows rs ≡ false
     go [] is = absurd (some (omega (arith, ap length is, rows_length s d f.document, f.document.order)))
@@ -193,13 +193,13 @@ end_there s c i d first k b is f none first_is number bound =
     (λ j. sum_by row_length (take (size j) (is j).rows) + sum_by bound_length (take (same j) (is j).bounds) + length (own j).end) ∙ e.length_is in
     let text : part_text w.0.part [] ≡ w.0.part.end = ap (λ (rs : List Row). rows_text rs (w.0.part.end ++ [])) rows ∙ append-nil w.0.part.end in
     ap Some (lengths ∙ ap (λ x. length (w.0.before ++ x)) text)
-    ∙ sym (ap (option_map (λ (x : RootPlace). length x.before)) (placed_at i c w.0 w.1 ∙ cond-true _ _ _ (ap no_rows rows)))
+    ∙ sym (ap (option_map (λ (x : NoRows). length x.before)) (placed_at i c w.0 w.1 ∙ cond-true _ _ _ (ap no_rows rows)))
 
 pub no_end : (s : Shown) (c : Cut) (i : ℕ) (first : Bool) → s ≡ shown c → first ≡ (first_rows s.bounds || not (some_begin s.bounds)) → None ≡ part_number first i 0 s.bounds → None ≡ unwritten_at i c
 no_end s c i first is first_is number = go (placed_document i c) refl
   where
     go : (o : Option PlacedPart) → placed_document i c ≡ o → None ≡ unwritten_at i c
-    go None at = sym (ap (λ (o : Option PlacedPart). option_map (λ (x : RootPlace). length x.before) (o >>= if_unwritten)) at)
+    go None at = sym (ap (λ (o : Option PlacedPart). option_map (λ (x : NoRows). length x.before) (o >>= if_unwritten)) at)
     go (Some d) at =
         let e = ends_at (begins_bare c || not (has_begin c)) i 0 0 c d at in
         absurd (none-some _ (number ∙ ((λ j. part_number ((first_is ∙ document_is c s is) j) i 0 (is j).bounds) ∙ e.number_is)))
@@ -207,12 +207,11 @@ no_end s c i first is first_is number = go (placed_document i c) refl
 -- ---- the place in the text
 
 -- A text in two at the place of a root that isn't written.
-pub record IsUnwritten (t : List ℕ) (w : RootPlace) : Type 0 where
+record IsUnwritten (t : List ℕ) (w : NoRows) : Type 0 where
   pub text : t ≡ w.before ++ w.behind
   pub seam : LineSeam w.before w.behind
-  pub same : w ≡ record { before = w.before; old = None; behind = w.behind; column = 0 }
 
-pub unwritten_is : (t : List ℕ) (i : ℕ) (w : RootPlace) → IsCut t (cut_of t) → unwritten_place i (cut_of t) ≡ Some w → IsUnwritten t w
+unwritten_is : (t : List ℕ) (i : ℕ) (w : NoRows) → IsCut t (cut_of t) → unwritten_place i (cut_of t) ≡ Some w → IsUnwritten t w
 unwritten_is t i w cut e =
     let c : Cut = cut_of t in
     let d = bind_some (placed_document i c) e in
@@ -225,7 +224,6 @@ unwritten_is t i w cut e =
     subst (IsUnwritten t) (same_Some _ _ g.1) (record {
       text = cut.text ∙ (st.text ∙ (ap (λ x. d.0.before ++ x) part ∙ sym (append_assoc d.0.before d.0.part.end d.0.behind)));
       seam = seam_join d.0.before d.0.part.end d.0.behind (subst (LineSeam d.0.before) part lies.seam) gap;
-      same = refl;
     })
   where
     none_left : (rs : List Row) → no_rows rs ≡ true → rs ≡ []
@@ -234,15 +232,15 @@ unwritten_is t i w cut e =
 
 pub unwritten_boundary : (t : List ℕ) (i end : ℕ) → IsCut t (cut_of t) → IsUtf8 t → Some end ≡ unwritten_at i (cut_of t) → IsCharBoundary t end
 unwritten_boundary t i end cut u e =
-    let w = map_some (λ (x : RootPlace). length x.before) (unwritten_place i (cut_of t)) end (sym e) in
+    let w = map_some (λ (x : NoRows). length x.before) (unwritten_place i (cut_of t)) end (sym e) in
     let x = unwritten_is t i w.0 cut w.1 in
     subst (λ (y : List ℕ). IsCharBoundary y end) (sym x.text) (subst (IsCharBoundary (w.0.before ++ w.0.behind)) w.2 (line_boundary w.0.before w.0.behind x.seam (subst IsUtf8 x.text u)))
 
 pub unwritten_told : (t : List ℕ) (i end : ℕ) (before behind : List ℕ) → IsCut t (cut_of t) → Some end ≡ unwritten_at i (cut_of t) → before ≡ take end t → behind ≡ drop end t →
-    Some (record { before = before; old = None; behind = behind; column = 0 }) ≡ unwritten_place i (cut_of t)
+    Some (record { before = before; behind = behind }) ≡ unwritten_place i (cut_of t)
 unwritten_told t i end before behind cut e first second =
-    let w = map_some (λ (x : RootPlace). length x.before) (unwritten_place i (cut_of t)) end (sym e) in
+    let w = map_some (λ (x : NoRows). length x.before) (unwritten_place i (cut_of t)) end (sym e) in
     let x = unwritten_is t i w.0 cut w.1 in
     let a : before ≡ w.0.before = first ∙ ((λ j. take (sym w.2 j) (x.text j)) ∙ take-append_seam w.0.before w.0.behind) in
     let b : behind ≡ w.0.behind = second ∙ ((λ j. drop (sym w.2 j) (x.text j)) ∙ drop-append_seam w.0.before w.0.behind) in
-    (λ j. Some (record { before = a j; old = None; behind = b j; column = 0 })) ∙ (ap Some (sym x.same) ∙ sym w.1)
+    (λ j. Some (record { before = a j; behind = b j })) ∙ sym w.1

@@ -1,9 +1,9 @@
 -- The head of a row of a text with its cut, read again.
-use Rattle.std.proofs.Common.{◌≡◌, ℕ, zero, suc, ◌+◌, ◌-◌, ◌<◌, ◌&&◌, Bool, true, List, [], ◌∷◌, ◌++◌, length, take, drop, Some, refl, sym, ap, ◌∙◌, subst, arith, append_assoc, append-nil, length-append}
+use Rattle.std.proofs.Common.{◌≡◌, ℕ, zero, suc, ◌+◌, ◌-◌, ◌<◌, ◌&&◌, Bool, true, List, [], ◌∷◌, ◌++◌, length, take, drop, Some, option_map, refl, sym, ap, ◌∙◌, subst, arith, append_assoc, append-nil, length-append}
 use Rattle.std.proofs.Math.Seq.{take-append_seam, drop-append_seam}
 use Rattle.std.proofs.lemmas.Bool.{and_parts, or_right}
 use Rattle.std.proofs.lemmas.List.{length-take-le, take-append-drop}
-use Rattle.std.proofs.lemmas.Option.{slice_get_within, same_Some}
+use Rattle.std.proofs.lemmas.Option.{slice_get_within, slice_get-map, same_Some}
 use Rattle.std.proofs.lemmas.Str.{IsCharBoundary-from_take, IsUtf8-append, IsUtf8-drop}
 use Rattle.std.specs.List.{slice_get}
 use Rattle.std.specs.Str.{IsUtf8, IsCharBoundary}
@@ -14,7 +14,7 @@ use Rattle.yq_rows.specs.Exchange.{before_content, behind_row}
 use Rattle.yq_rows.specs.Grammar.{IsCut, IsRow, Limit}
 use Rattle.yq_rows.specs.Rows.{Content, Nothing, Inline, Block, Row, Cut, cut_text, parent_indent}
 use Rattle.yq_rows.specs.Seams.{is_closed, is_seam}
-use Rattle.yq_rows.specs.View.{Slices, slices, rows_of, Shown}
+use Rattle.yq_rows.specs.View.{Slices, slices, rows_of, Shown, shown}
 use Rattle.yq_rows.proofs.ItemCuts.{no_gap}
 use Rattle.yq_rows.proofs.PlaceLaws.{row_in}
 use Rattle.yq_rows.proofs.seams.SeamLaws.{row_seam, plain_before}
@@ -30,6 +30,10 @@ use Rattle.yq_tree.proofs.HeadSpanLaws.{head_span, head_text}
 use Rattle.yq_tree.proofs.WalkDocuments.{Found}
 use Rattle.yq_tree.proofs.WalkNodes.{row_is as row_at, row_in_cut}
 use Rattle.yq_tree.proofs.WalkSpots.{located}
+
+-- the pieces of a row that is shown
+pub slices_are : (c : Cut) (s : Shown) (i : ℕ) (x : Slices) (r : Row) → s ≡ shown c → slice_get s.rows i ≡ Some x → slice_get (rows_of c) i ≡ Some r → x ≡ slices r
+slices_are c s i x r is there row = same_Some _ _ (sym there ∙ (ap (λ (y : Shown). slice_get y.rows i) is ∙ (slice_get-map slices (rows_of c) i ∙ ap (option_map slices) row)))
 
 -- the keys in a row of a document are fit
 fit_in : (rs : List Row) (i : ℕ) (r : Row) → have_fit_keys rs ≡ true → slice_get rs i ≡ Some r → content_is_fit r.content ≡ true

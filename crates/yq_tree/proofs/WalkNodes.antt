@@ -1,17 +1,15 @@
 -- What stands under a line or a document, and in which row of a cut a line is.
-use Rattle.std.proofs.Common.{◌≡◌, ◌⊎◌, inl, inr, ℕ, suc, ◌+◌, ◌-◌, ◌<◌, ◌≤◌, eqb, Bool, true, false, cond, not, ◌||◌, List, [], ◌∷◌, length, drop, get_or, Option, Some, None, option_map, option_and_then, refl, sym, ap, ◌∙◌, arith}
-use Rattle.std.proofs.lemmas.Bool.{cases_Bool, cases_lt, false≢true, eq-eqb, ne_eqb, eqb-true, eqb-false, lt-ltb, le-ltb, cond-true, cond-false}
+use Rattle.std.proofs.Common.{◌≡◌, ◌⊎◌, inl, inr, ℕ, suc, ◌+◌, ◌-◌, ◌<◌, ◌≤◌, eqb, Bool, true, false, cond, not, List, [], ◌∷◌, length, drop, get_or, Option, Some, None, option_map, option_and_then, refl, sym, ap, ◌∙◌, arith}
+use Rattle.std.proofs.lemmas.Bool.{cases_lt, false≢true, eq-eqb, ne_eqb, eqb-true, lt-ltb, le-ltb, cond-true, cond-false}
 use Rattle.std.proofs.lemmas.List.{drop_all}
 use Rattle.std.proofs.lemmas.Option.{slice_get_cases}
 use Rattle.std.specs.List.{slice_get}
-use Rattle.std.specs.Prelude.{is_some}
 use Rattle.yq_scalar.specs.Answers.{◌>>=◌}
 use Rattle.yq_scalar.specs.Paths.{Step}
 use Rattle.yq_lines.specs.Ends.{is_end, part, deeper_count, lines_end, found_line, line_of, reached}
 use Rattle.yq_lines.specs.Group.{deeper, group}
 use Rattle.yq_lines.specs.Outline.{Line, level}
 use Rattle.yq_lines.specs.Places.{lines_before, Found, find}
-use Rattle.yq_lines.specs.Spots.{is_bare, begins_with_node}
 use Rattle.yq_lines.proofs.EndsLaws.{not_end}
 use Rattle.yq_lines.proofs.LineEnds.{end_line}
 use Rattle.yq_lines.proofs.LinesLaws.{above}
@@ -25,12 +23,6 @@ use Rattle.yq_tree.specs.declared.places.spot.Stretch.{Stretch}
 use Rattle.yq_tree.proofs.EntryPlaceLaws.{row_there}
 use Rattle.yq_tree.proofs.WalkDocuments.{seat_number}
 use Rattle.yq_tree.proofs.WalkSpots.{located}
-
-turned : (a b : ℕ) → eqb a b ≡ eqb b a
-turned a b = elim (cases_Bool (eqb a b)) [
-  | inl e ↦ e ∙ sym (eq-eqb b a (sym (eqb-true a b e)))
-  | inr e ↦ e ∙ sym (ne_eqb b a (λ same. eqb-false a b e (sym same)))
-]
 
 -- lines that are deeper than a level end where they begin exactly where there are none
 pub stops_here : (ls : List Line) (n floor : ℕ) → eqb n (lines_stop n floor ls) ≡ is_end (part ls n floor)
@@ -73,74 +65,10 @@ all_stop ls = omega (arith, all ls)
     all [] = refl
     all (l ∷ ls) = cond-true _ (suc (deeper_count 0 ls)) 0 (lt-ltb 0 (level l) (above l)) ∙ ap suc (all ls)
 
--- no lines stand under a line exactly where its end is right behind it
-pub ends_under : (ls : List Line) (n m floor : ℕ) (l : Line) → slice_get ls n ≡ Some l → m ≡ n + 1 → floor ≡ level l → eqb m (lines_end n ls) ≡ is_end (part ls m floor)
-ends_under ls n m floor l is next deep =
-    let same : suc n ≡ m = omega (arith, next) in
-    ap (eqb m) (sym (line_stop ls n l is) ∙ (λ i. lines_stop (same i) (sym deep i) ls)) ∙ stops_here ls m floor
-
-pub ends_here : (ls : List Line) (n : ℕ) (l : Line) → slice_get ls n ≡ Some l → eqb (lines_end n ls) (suc n) ≡ is_end (part ls (n + 1) (level l))
-ends_here ls n l is =
-    let next : suc n ≡ n + 1 = omega arith in
-    turned (lines_end n ls) (suc n) ∙ (ap (λ (k : ℕ). eqb k (lines_end n ls)) next ∙ ends_under ls n (n + 1) (level l) l is refl refl)
-
--- what is said of the node of a line, by whether it has a head and lines under it
-module _ {A : Type 0} (ls : List Line) (n : ℕ) (l : Line) (x y : Option A) (is : slice_get ls n ≡ Some l) where
-  abbrev Said : Option A
-  Said = slice_get ls n >>= λ l. cond (is_some l.head || eqb (lines_end n ls) (suc n)) x y
-
-  said : (slice_get ls n >>= λ l. cond (is_some l.head || eqb (lines_end n ls) (suc n)) x y) ≡ cond (is_some l.head || eqb (lines_end n ls) (suc n)) x y
-  said = ap (λ (o : Option Line). o >>= λ l. cond (is_some l.head || eqb (lines_end n ls) (suc n)) x y) is
-
-  pub with_head : true ≡ is_some l.head → x ≡ Said
-  with_head head = ap (λ b. cond (b || eqb (lines_end n ls) (suc n)) x y) head ∙ sym said
-
-  pub without_lines : eqb (lines_end n ls) (suc n) ≡ true → x ≡ Said
-  without_lines none = go (is_some l.head) ∙ sym said
-    where
-      go : (b : Bool) → x ≡ cond (b || eqb (lines_end n ls) (suc n)) x y
-      go true = refl
-      go false = sym (ap (λ b. cond b x y) none)
-
-  pub with_lines : false ≡ is_some l.head → eqb (lines_end n ls) (suc n) ≡ false → y ≡ Said
-  with_lines head some = sym (ap (λ b. cond b x y) some) ∙ (ap (λ b. cond (b || eqb (lines_end n ls) (suc n)) x y) head ∙ sym said)
-
--- a document has no lines exactly where it has none that are deeper than 0
-pub no_lines : (ls : List Line) → eqb 0 (length ls) ≡ is_end (part ls 0 0)
-no_lines ls = ap (eqb 0) (sym (all_stop ls)) ∙ stops_here ls 0 0
-
--- what the lines under a line, or of a document, begin with
-pub node_first : {A : Type 0} (ls : List Line) (n to floor : ℕ) (x : Option A) → eqb n to ≡ is_end (part ls n floor) →
-    cond (begins_with_node (part ls n floor)) x None ≡ cond (eqb n to) None (slice_get ls n >>= λ l. cond (is_bare l.mark) x None)
-node_first {A = A} ls n to floor x e = go ((slice_get_cases ls n).1)
-  where
-    go : ((l : Line) × (n < length ls) × (slice_get ls n ≡ Some l) × (get_or ls n l ≡ l)) ⊎ ((length ls ≤ n) × (slice_get ls n ≡ None)) →
-        cond (begins_with_node (part ls n floor)) x None ≡ cond (eqb n to) None (slice_get ls n >>= λ l. cond (is_bare l.mark) x None)
-    go (inr past) =
-        let none : part ls n floor ≡ deeper floor (group []) = ap (λ (ms : List Line). deeper floor (group ms)) (drop_all n ls past.0) in
-        ap (λ o. cond (begins_with_node o) x None) none ∙ sym (ap (λ b. cond b None (slice_get ls n >>= λ l. cond (is_bare l.mark) x None)) (e ∙ ap is_end none))
-    go (inl there) = go2 there.0 there.2 (cases_lt floor (level there.0))
-      where
-        go2 : (l : Line) → slice_get ls n ≡ Some l → (floor < level l) ⊎ (level l ≤ floor) → cond (begins_with_node (part ls n floor)) x None ≡ cond (eqb n to) None (slice_get ls n >>= λ l. cond (is_bare l.mark) x None)
-        go2 l is (inl deep) =
-            let there = part_row ls n floor l is deep in
-            ap (λ o. cond (begins_with_node o) x None) there
-            ∙ (sym (ap (λ (o : Option Line). o >>= λ l. cond (is_bare l.mark) x None) is)
-            ∙ sym (ap (λ b. cond b None (slice_get ls n >>= λ l. cond (is_bare l.mark) x None)) (e ∙ ap is_end there)))
-        go2 l is (inr low) =
-            let none = part_stop ls n floor l is low in
-            ap (λ o. cond (begins_with_node o) x None) none ∙ sym (ap (λ b. cond b None (slice_get ls n >>= λ l. cond (is_bare l.mark) x None)) (e ∙ ap is_end none))
-
 -- steps of which there are none
 pub no_steps : (steps : List Step) → true ≡ eqb (length steps) 0 → steps ≡ []
 no_steps [] e = refl
 no_steps (s ∷ ss) e = absurd (omega (arith, eqb-true (length (s ∷ ss)) 0 (sym e)))
-
--- what is said of the line to which steps lead, where there are any
-pub along_line : {A : Type 0} (along : List Step → Option A) (line : ℕ → Option A) (ls : List Line) (steps : List Step) → ((s : Step) (ss : List Step) → (line_of (s ∷ ss) ls >>= line) ≡ along (s ∷ ss)) → false ≡ eqb (length steps) 0 →
-    (line_of steps ls >>= line) ≡ along steps
-along_line along line ls [] e some = absurd (false≢true (some ∙ eq-eqb 0 0 refl))
-along_line along line ls (s ∷ ss) e some = e s ss
 
 -- where steps lead nowhere, no line is
 pub no_line : (steps : List Step) (ls : List Line) → None ≡ reached steps ls → None ≡ line_of steps ls

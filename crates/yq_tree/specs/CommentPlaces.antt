@@ -1,5 +1,5 @@
 -- Where the comments of entries and items stand, or would stand, in a text (YAML 1.2.2, 6.6; own).
-use Rattle.std.specs.Prelude.{ℕ, ◌==◌, List, ◌++◌, length, Option, Some, None, if◌then◌else◌}
+use Rattle.std.specs.Prelude.{ℕ, ◌==◌, List, ◌++◌, Option, Some, None, if◌then◌else◌}
 use Rattle.yq_scalar.specs.Answers.{◌>>=◌}
 use Rattle.yq_scalar.specs.Paths.{Step}
 use Rattle.yq_scalar.specs.Text as text
@@ -30,10 +30,6 @@ line_text r = let s = slices r in row_front r ++ (s.space ++ (s.anchor ++ (s.apa
 -- the end of the line of a row's key or dash (6.6; own)
 abbrev pub end_of_line : PlacedRow → LineEnd
 end_of_line w = let s = slices w.row in end_before (w.before ++ line_text w.row) (s.tail ++ (s.raw ++ w.behind))
-
--- the end of the line of the entry or item to which steps lead in document n, where its line comment stands or would stand, if that line is the last one of its row (6.6; own)
-abbrev pub line_end : ℕ → List Step → Cut → Option LineEnd
-line_end n steps c = row_of_path n steps c >>= λ w. if w.line == length w.row.dashes then Some (end_of_line w) else None
 
 -- The lines above a row: the text before the run of comment lines that ends them, that run, which may be nothing, the row's column, and the text from the row's line on (6.6; own).
 pub record LinesAbove : Type 0 where

@@ -1,15 +1,13 @@
 //! What is taken out of a text with an item or entry of a block collection.
-ghost use Rattle.std.specs.Prelude.{◌≡◌, ◌<◌, ◌≤◌, ◌+◌, ◌-◌, ◌++◌, ℕ, List, Option, drop, take, length, map, option_map, slice_get, Some};
+ghost use Rattle.std.specs.Prelude.{◌≡◌, ◌<◌, ◌≤◌, ◌+◌, ◌-◌, ◌++◌, ℕ, List, Option, drop, take, length, map, option_map, Some};
 ghost use Rattle.yq_text.specs.Halves.{whole};
 ghost use Rattle.yq_inline.specs.Entries.{step_of};
 ghost use Rattle.yq_rows.specs.Grammar.{IsCut};
-ghost use Rattle.yq_rows.specs.Offsets.{row_length};
 ghost use Rattle.yq_rows.specs.Removal.{block_numbers, hold_comment, last_block};
 ghost use Rattle.yq_rows.specs.Rows.{Cut, Part, Row as RowOf};
-ghost use Rattle.yq_rows.specs.View.{rows_of, shown, Slices};
+ghost use Rattle.yq_rows.specs.View.{rows_of, shown};
 ghost use Rattle.yq_scalar.specs.Block.{BlockText};
 ghost use Rattle.yq_scalar.specs.Text.{joined, lines_of as text_lines};
-ghost use Rattle.yq_tree.specs.Extents as extents;
 ghost use Rattle.yq_tree.specs.Extents.{IsShown};
 ghost use Rattle.yq_documents.specs.Located.{steps_of};
 ghost use Rattle.yq_documents.specs.Pieces as pieces;
@@ -20,7 +18,8 @@ ghost use Rattle.yq_tree.specs.RemovalReading as reading;
 ghost use Rattle.yq_tree.specs.RowWalk.{HasDocument};
 
 use crate::cut_text::CutText;
-use crate::places::extent::{row_len, row_start};
+use crate::places::extent::row_start;
+use crate::places::row_place::row_stop;
 use crate::places::spot::{Stretch, behind};
 use crate::places::spot_reach::line_at;
 use yq_documents::{Path, last_run};
@@ -109,15 +108,6 @@ fn gap_before<'t>(rows: &Rows<'t>, i: usize) -> (&'t str, usize)
     } else {
         ("", 0)
     }
-}
-
-/// Where row `i` ends, with its break.
-fn row_stop(rows: &Rows<'_>, i: usize) -> usize
-    requires within { i < length rows.now.rows }
-    requires shown { IsShown rows.now }
-    ensures { (x : Slices) → slice_get rows.now.rows i ≡ Some x → result ≡ extents.row_start i rows.now + row_length x }
-{
-    row_start(rows, i) + row_len(&rows.row(i))
 }
 
 /// What a gap asks that stands behind the block scalar of the row before row `at` of a document, the

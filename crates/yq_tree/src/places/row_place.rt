@@ -2,6 +2,7 @@
 ghost use Rattle.std.specs.Prelude.{◌≡◌, ◌<◌, ◌≤◌, ◌+◌, ℕ, List, length, slice_get, Some};
 ghost use Rattle.yq_scalar.specs.Characters.{text_limit};
 ghost use Rattle.yq_rows.specs.Grammar.{IsCut};
+ghost use Rattle.yq_rows.specs.Offsets.{row_length};
 ghost use Rattle.yq_rows.specs.Rows.{Cut, Row as RowOf};
 ghost use Rattle.yq_rows.specs.View.{rows_of, shown, Slices, view};
 ghost use Rattle.yq_tree.specs.EntryReading as spec;
@@ -9,7 +10,7 @@ ghost use Rattle.yq_tree.specs.Extents as extents;
 ghost use Rattle.yq_tree.specs.Extents.{IsShown};
 ghost use Rattle.yq_documents.specs.Pieces.{span};
 
-use crate::places::extent::{head_place, row_start};
+use crate::places::extent::{head_place, row_len, row_start};
 use crate::places::halves::less_break_len;
 use crate::places::spot::Spot;
 use yq_documents::{Span, begins_block};
@@ -48,6 +49,15 @@ pub(crate) fn line_start(rows: &Rows<'_>, spot: Spot) -> usize
     let row = rows.row(spot.row);
     let dash = dash_at(row.dashes().as_bytes(), spot.line);
     row_start(rows, spot.row) + row.gap().len() + row.column() + dash
+}
+
+/// Where row `i` ends, with its break.
+pub(crate) fn row_stop(rows: &Rows<'_>, i: usize) -> usize
+    requires within { i < length rows.now.rows }
+    requires shown { IsShown rows.now }
+    ensures { (x : Slices) → slice_get rows.now.rows i ≡ Some x → result ≡ extents.row_start i rows.now + row_length x }
+{
+    row_start(rows, i) + row_len(&rows.row(i))
 }
 
 /// How long the tail and the raw lines of a row are less their last break, in bytes.

@@ -7,7 +7,7 @@ ghost use Rattle.yq_documents.specs.Lines.{lines_of};
 ghost use Rattle.yq_scalar.specs.Characters.{text_limit};
 ghost use Rattle.yq_tree.specs.Extents.{IsShown};
 ghost use Rattle.yq_tree.specs.RowWalk as spec;
-ghost use Rattle.yq_tree.specs.RowWalk.{HasDocument, IsLine, IsSpot, OfLine, OfLines, lines_stop};
+ghost use Rattle.yq_tree.specs.RowWalk.{HasDocument, IsLine, IsSpot};
 
 use crate::places::extent::lines_before_mark;
 use crate::places::row_place::dash_at;
@@ -127,15 +127,6 @@ pub(crate) fn rank_at(rows: &Rows<'_>, spot: Spot) -> usize
         0 => 3,
         rank => rank,
     }
-}
-
-/// The column of a line.
-pub(crate) fn column_at(rows: &Rows<'_>, spot: Spot) -> usize
-    requires within { spot.row < length rows.now.rows }
-    requires shown { IsShown rows.now }
-    ensures { (x : Slices) → slice_get rows.now.rows spot.row ≡ Some x → result ≡ spec.line_column spot.line x }
-{
-    line_column(&rows.row(spot.row), spot.line)
 }
 
 /// The first row from one on, before another one, that doesn't begin deeper than a level.

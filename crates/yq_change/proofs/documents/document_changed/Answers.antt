@@ -1,4 +1,4 @@
-use Rattle.yq_change.proofs.ChangedLaws.{document_put, text_put, part_stands, document_changed, lead_is_first}
+use Rattle.yq_change.proofs.ChangedLaws.{document_put, part_stands, document_changed, lead_is_first}
 use Rattle.yq_change.proofs.documents.document_changed.Goals as goal
 
 pub returns-clause-put : goal.returns-clause-put
@@ -12,6 +12,3 @@ returns-clause-read c = document_changed
 
 pub returns-clause-lead : goal.returns-clause-lead
 returns-clause-lead c = lead_is_first
-
-pub returns-clause-text : goal.returns-clause-text
-returns-clause-text c = text_put

@@ -1,4 +1,4 @@
-use Rattle.yq_change.proofs.PlacedLaws.{same_parts, rows_in_parts, line_placed, lines_placed, entry_placed, found_is_entry}
+use Rattle.yq_change.proofs.PlacedLaws.{same_parts, rows_in_parts, line_placed, entry_placed, found_is_entry}
 use Rattle.yq_change.proofs.documents.lines_placed.Goals as goal
 
 pub returns-clause-parts : goal.returns-clause-parts
@@ -9,9 +9,6 @@ returns-clause-rows c = rows_in_parts
 
 pub returns-clause-line : goal.returns-clause-line
 returns-clause-line c = line_placed
-
-pub returns-clause-lines : goal.returns-clause-lines
-returns-clause-lines c = lines_placed
 
 pub returns-clause-entry : goal.returns-clause-entry
 returns-clause-entry c = entry_placed

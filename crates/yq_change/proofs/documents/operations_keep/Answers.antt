@@ -1,6 +1,5 @@
 use Rattle.yq_change.proofs.SoundRootLaws.{replace_keeps, append_keeps}
 use Rattle.yq_change.proofs.SoundRootLess.{remove_keeps, relabel_keeps}
-use Rattle.yq_change.proofs.EditedLaws.{root_keeps}
 use Rattle.yq_change.proofs.documents.operations_keep.Goals as goal
 
 pub returns-clause-replaced : goal.returns-clause-replaced
@@ -14,6 +13,3 @@ returns-clause-removed c = remove_keeps
 
 pub returns-clause-relabelled : goal.returns-clause-relabelled
 returns-clause-relabelled c = relabel_keeps
-
-pub returns-clause-root : goal.returns-clause-root
-returns-clause-root c = root_keeps

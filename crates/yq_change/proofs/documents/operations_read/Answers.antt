@@ -1,4 +1,4 @@
-use Rattle.yq_change.proofs.BlockChangeLaws.{node_replaced, root_replaced, root_rewritten, entry_appended, entry_removed, first_removed, first_dropped, entry_relabelled}
+use Rattle.yq_change.proofs.BlockChangeLaws.{node_replaced, root_replaced, entry_appended, entry_removed, first_removed, first_dropped, entry_relabelled}
 use Rattle.yq_change.proofs.documents.operations_read.Goals as goal
 
 pub returns-clause-replaced : goal.returns-clause-replaced
@@ -6,9 +6,6 @@ returns-clause-replaced c = node_replaced
 
 pub returns-clause-root : goal.returns-clause-root
 returns-clause-root c = root_replaced
-
-pub returns-clause-rewritten : goal.returns-clause-rewritten
-returns-clause-rewritten c = root_rewritten
 
 pub returns-clause-appended : goal.returns-clause-appended
 returns-clause-appended c = entry_appended

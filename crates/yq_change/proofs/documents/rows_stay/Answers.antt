@@ -1,4 +1,4 @@
-use Rattle.yq_change.proofs.AnchorLaws.{anchors_stay, lines_among, fit_stays}
+use Rattle.yq_change.proofs.AnchorLaws.{anchors_stay, lines_among}
 use Rattle.yq_change.proofs.documents.rows_stay.Goals as goal
 
 pub returns-clause-anchors : goal.returns-clause-anchors
@@ -6,6 +6,3 @@ returns-clause-anchors c = anchors_stay
 
 pub returns-clause-among : goal.returns-clause-among
 returns-clause-among c = lines_among
-
-pub returns-clause-keys : goal.returns-clause-keys
-returns-clause-keys c = fit_stays

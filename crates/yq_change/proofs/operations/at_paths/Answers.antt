@@ -1,4 +1,4 @@
-use Rattle.yq_change.proofs.PathLaws.{path_has_rows, path_is_entry, path_line_commented, path_head_commented}
+use Rattle.yq_change.proofs.PathLaws.{path_is_entry, path_line_commented, path_head_commented}
 use Rattle.yq_change.proofs.operations.at_paths.Goals as goal
 
 pub returns-clause-entry : goal.returns-clause-entry
@@ -9,6 +9,3 @@ returns-clause-line c = path_line_commented
 
 pub returns-clause-head : goal.returns-clause-head
 returns-clause-head c = path_head_commented
-
-pub returns-clause-rows : goal.returns-clause-rows
-returns-clause-rows c = path_has_rows

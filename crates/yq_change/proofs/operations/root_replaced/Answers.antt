@@ -1,4 +1,4 @@
-use Rattle.yq_change.proofs.RootLaws.{document_rooted, root_rows_replaced, root_rows_rewritten}
+use Rattle.yq_change.proofs.RootLaws.{document_rooted, root_rows_replaced}
 use Rattle.yq_change.proofs.operations.root_replaced.Goals as goal
 
 pub returns-clause-cut : goal.returns-clause-cut
@@ -6,6 +6,3 @@ returns-clause-cut c = document_rooted
 
 pub returns-clause-replaced : goal.returns-clause-replaced
 returns-clause-replaced c = root_rows_replaced
-
-pub returns-clause-rewritten : goal.returns-clause-rewritten
-returns-clause-rewritten c = root_rows_rewritten

@@ -1,8 +1,5 @@
-use Rattle.yq_change.proofs.RemovalChangeLaws.{entry_taken_out, removal_stands}
+use Rattle.yq_change.proofs.RemovalChangeLaws.{removal_stands}
 use Rattle.yq_change.proofs.removals.taken_out.Goals as goal
 
-pub returns-clause-stands : goal.returns-clause-stands
-returns-clause-stands c = removal_stands
-
-pub returns-clause-reads : goal.returns-clause-reads
-returns-clause-reads c = entry_taken_out
+pub returns : goal.returns
+returns c = removal_stands

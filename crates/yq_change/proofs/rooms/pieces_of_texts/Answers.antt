@@ -1,4 +1,4 @@
-use Rattle.yq_change.proofs.TextPieceLaws.{text_is_piece, pieces_joined, line_cut, byte_cut, pieces_in_three}
+use Rattle.yq_change.proofs.TextPieceLaws.{text_is_piece, pieces_joined, line_cut, byte_cut}
 use Rattle.yq_change.proofs.rooms.pieces_of_texts.Goals as goal
 
 pub returns-clause-text : goal.returns-clause-text
@@ -12,6 +12,3 @@ returns-clause-line c = line_cut
 
 pub returns-clause-byte : goal.returns-clause-byte
 returns-clause-byte c = byte_cut
-
-pub returns-clause-three : goal.returns-clause-three
-returns-clause-three c = pieces_in_three

@@ -1,6 +1,5 @@
 use Rattle.std.proofs.Common.{ℕ, List, length, map, Some, None, refl, sym, ap, ◌∙◌}
 use Rattle.yq_inline.specs.Entries.{step_of}
-use Rattle.yq_inline.specs.View.{view}
 use Rattle.yq_lines.specs.View.{head_flow}
 use Rattle.yq_tree.specs.FlowNodes.{flow_collection}
 use Rattle.yq_tree.specs.NodeReading.{place_told}

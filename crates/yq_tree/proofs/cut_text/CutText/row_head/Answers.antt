@@ -1,14 +1,13 @@
-use Rattle.std.proofs.Common.{◌≡◌, ◌≤◌, ℕ, List, length, take, drop, sym, ap, ◌∙◌, subst, arith}
-use Rattle.std.specs.Str.{IsUtf8, IsCharBoundary}
+use Rattle.std.proofs.Common.{◌≤◌, ℕ, List, length, drop, sym, ap, ◌∙◌, subst, arith}
+use Rattle.std.specs.Str.{IsCharBoundary}
 use Rattle.yq_text.specs.Halves.{whole}
 use Rattle.yq_scalar.specs.Characters.{text_limit}
 use Rattle.yq_rows.specs.View.{view, rows_of}
 use Rattle.yq_documents.specs.Reading.{cut_of}
 use Rattle.yq_tree.specs.Extents.{IsShown}
 use Rattle.yq_tree.proofs.FoundEntries.{within_some}
-use Rattle.yq_tree.proofs.InlineTold.{slices_are}
 use Rattle.yq_tree.proofs.LengthLaws.{row_fits, shown_small}
-use Rattle.yq_tree.proofs.RowHeads.{head_boundary, has_head, row_boundary, row_taken}
+use Rattle.yq_tree.proofs.RowHeads.{head_boundary, has_head, row_boundary, row_taken, slices_are}
 use Rattle.yq_tree.proofs.cut_text.CutText.row_head.Goals as goal
 
 pub split_at-requires : goal.split_at-requires

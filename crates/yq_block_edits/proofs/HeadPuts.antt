@@ -1,0 +1,99 @@
+-- A value on one line takes the place of what is written on the line of a key or dash, with another content of the row.
+use Rattle.std.proofs.Common.{◌≡◌, ℕ, ◌≤◌, false, true, cond, List, [], ◌∷◌, ◌++◌, length, refl, sym, ap, ◌∙◌, subst, append_assoc, append-nil}
+use Rattle.yq_scalar.specs.BlockWritten.{break_text}
+use Rattle.yq_scalar.specs.Characters.{text_limit}
+use Rattle.yq_scalar.specs.Paths.{Step}
+use Rattle.yq_scalar.specs.Text.{is_empty, separates}
+use Rattle.yq_scalar.specs.Tree.{Node}
+use Rattle.yq_scalar.specs.declared.block_written.Break.{Break}
+use Rattle.yq_inline.specs.Nodes.{node_text}
+use Rattle.yq_inline.proofs.WrittenLaws.{node_then}
+use Rattle.yq_rows.specs.Exchange.{row_front, with_content}
+use Rattle.yq_rows.specs.Grammar.{IsContent, IsMark}
+use Rattle.yq_rows.specs.Rows.{Content, Row, content_text, parent_indent, print_row, rows_text, Cut}
+use Rattle.yq_rows.specs.View.{slices}
+use Rattle.yq_rows.proofs.NodeExchange.{mark_apart}
+use Rattle.yq_tree.specs.RowPieces.{anchor_before, space_before}
+use Rattle.yq_tree.specs.Standings.{Held, PlacedEntry, held}
+use Rattle.yq_change.specs.DocumentRows.{behind_document}
+use Rattle.yq_change.specs.StandingLaws.{StandsThere}
+use Rattle.yq_meaning.specs.Operations.{replace}
+use Rattle.yq_script.specs.Script.{Segment, new_text}
+use Rattle.yq_edits.specs.EditLaws.{CarriedOut}
+use Rattle.yq_edits.specs.ReplaceEdits.{held_put}
+use Rattle.yq_edits.specs.WrittenValues.{inline}
+use Rattle.yq_edits.proofs.FitLaws.{FitsReplace}
+use Rattle.yq_edits.proofs.ValueTexts.{IsWrittenFor}
+use Rattle.yq_change.proofs.StandingMarks.{entry_there}
+use Rattle.yq_block_edits.proofs.ContentRows.{IsContentFor, takes_content}
+use Rattle.yq_block_edits.proofs.HeldCarried.{Spells, held_carried}
+use Rattle.yq_block_edits.proofs.HeldKnown.{KnowsHeld}
+use Rattle.yq_block_edits.proofs.NodeLeads.{first_lead, own_space_lead}
+use Rattle.yq_block_edits.proofs.NodeRowLaws.{rest, rows_there}
+use Rattle.yq_block_edits.proofs.StandingNodes.{behind_is, mark_node}
+
+-- ---- the row of a head
+
+module _ (n : ℕ) (s : Step) (ss : List Step) (c : Cut) (e : PlacedEntry) (there : StandsThere n s ss c e) (last : e.line ≡ length e.row.dashes) (k : KnowsHeld n s ss c e there last) (some : is_empty (slices e.row).head ≡ false) where
+  -- no rows are under it
+  rest_is : rows_text (e.under ++ e.back) (there.part.end ++ behind_document n c) ≡ rest n s ss c (mark_node n s ss c e there last)
+  rest_is = ap (λ (us : List Row). rows_text (us ++ e.back) (there.part.end ++ behind_document n c)) (k.headless some)
+
+  pub content_there : IsContent (parent_indent e.row) e.row.content (rest n s ss c (mark_node n s ss c e there last))
+  content_there = subst (IsContent (parent_indent e.row) e.row.content) rest_is (rows_there n s ss c (mark_node n s ss c e there last)).0.content
+
+  pub apart_there : separates (content_text e.row.content (rest n s ss c (mark_node n s ss c e there last))) ≡ true
+  apart_there =
+      mark_apart e.row.mark e.row.content (rest n s ss c (mark_node n s ss c e there last)) (entry_there n s ss c e there last)
+      (subst (IsMark e.row.mark e.row.content) rest_is (rows_there n s ss c (mark_node n s ss c e there last)).0.mark)
+
+-- ---- another one in its place
+
+module _ (n : ℕ) (s : Step) (ss : List Step) (c : Cut) (e : PlacedEntry) (there : StandsThere n s ss c e) (last : e.line ≡ length e.row.dashes) (k : KnowsHeld n s ss c e there last)
+    (br : Break) (v : Node) (f : FitsReplace n (s ∷ ss) v c there.part) (t : List ℕ) (for : IsWrittenFor v t) (x : Content) (is : IsContentFor n s ss c (mark_node n s ss c e there last) v x)
+    (spelled : (u : List ℕ) → e.start ++ (rows_text e.front [] ++ rows_text (with_content x e.row ∷ []) u) ≡ (held e).before ++ ((held e).space ++ node_text for.node (((held e).white ++ ((held e).comment ++ (held e).last)) ++ u)))
+    (some : is_empty (slices e.row).head ≡ false) where
+  abbrev w : Held
+  w = held e
+
+  abbrev us : List Segment
+  us = held_put (break_text br) w (inline t)
+
+  abbrev front : List ℕ
+  front = rows_text e.front []
+
+  abbrev tail : List ℕ
+  tail = w.white ++ (w.comment ++ w.last)
+
+  abbrev new : List Row
+  new = with_content x e.row ∷ []
+
+  text : e.start ++ (front ++ rows_text new (rest n s ss c (mark_node n s ss c e there last))) ≡ new_text us
+  text =
+      let z : List ℕ = rest n s ss c (mark_node n s ss c e there last) in
+      let ends : (w.white ++ (w.comment ++ w.last)) ++ w.behind ≡ w.white ++ (w.comment ++ (w.last ++ (w.behind ++ []))) = simp (append_assoc, append-nil) refl in
+      spelled z
+      ∙ (ap (λ r. w.before ++ (w.space ++ r)) (node_then for.node (tail ++ z) ∙ ap (λ r. r ++ (tail ++ z)) for.text)
+      ∙ (ap (λ r. w.before ++ (w.space ++ (t ++ (tail ++ r)))) (sym (behind_is n s ss c e there last))
+      ∙ (ap (λ r. w.before ++ (w.space ++ (t ++ r))) ends
+      ∙ ap (λ b. w.before ++ (w.space ++ (cond b (32 ∷ t) t ++ (w.white ++ (w.comment ++ (w.last ++ (w.behind ++ []))))))) (sym some))))
+
+  abbrev lead : List ℕ
+  lead = row_front e.row ++ (anchor_before (slices e.row) ++ space_before (slices e.row))
+
+  place_is : w.before ++ w.space ≡ (e.start ++ front) ++ lead
+  place_is = let parts : (((e.start ++ front) ++ row_front e.row) ++ anchor_before (slices e.row)) ++ space_before (slices e.row) ≡ (e.start ++ front) ++ (row_front e.row ++ (anchor_before (slices e.row) ++ space_before (slices e.row))) = simp append_assoc refl in parts
+
+  spells : Spells n s ss c e there last k v us new
+  spells = record {
+    takes = takes_content n s ss c (mark_node n s ss c e there last) v x is;
+    text = text;
+    lead = lead;
+    before_is = ap (λ y. w.before ++ y) (append-nil w.space) ∙ place_is;
+    within = own_space_lead e.row;
+    begins = first_lead e.start front (print_row (with_content x e.row) []) (w.before ++ w.space) (node_text for.node (tail ++ [])) lead
+        (spelled [] ∙ sym (append_assoc w.before w.space (node_text for.node (tail ++ [])))) place_is;
+  }
+
+  pub head_carried : length (new_text us) ≤ text_limit → CarriedOut (replace n (s ∷ ss) v) c us
+  head_carried = held_carried n s ss c e there last k v f br (inline t) new spells for.piece

@@ -1,0 +1,85 @@
+-- A value put in the place of what a key or dash holds is an edit.
+use Rattle.std.proofs.Common.{◌≡◌, ℕ, ◌≤◌, Bool, true, false, cond, List, [], ◌∷◌, length, refl, sym, ◌∙◌}
+use Rattle.yq_scalar.specs.BlockWritten.{break_text}
+use Rattle.yq_scalar.specs.Characters.{text_limit}
+use Rattle.yq_scalar.specs.Paths.{Step}
+use Rattle.yq_scalar.specs.Tree.{Node}
+use Rattle.yq_scalar.specs.declared.style.Place.TheVariants.{Block as InBlock}
+use Rattle.yq_flow.specs.Valued.{IsValueTree}
+use Rattle.yq_rows.specs.Rows.{Cut}
+use Rattle.yq_rows.specs.Seams.{is_block}
+use Rattle.yq_tree.specs.Standings.{Held, PlacedEntry, held}
+use Rattle.yq_change.specs.StandingLaws.{StandsThere}
+use Rattle.yq_block.specs.declared.layout.Layout.{Layout}
+use Rattle.yq_block.specs.BlockReading.{is_filled}
+use Rattle.yq_block.specs.BlockRows.{item_column}
+use Rattle.yq_block.specs.BlockText.{block_value}
+use Rattle.yq_meaning.specs.Operations.{Operation, replace}
+use Rattle.yq_script.specs.Script.{Segment, new_text}
+use Rattle.yq_edits.specs.EditLaws.{CarriedOut, IsEdit}
+use Rattle.yq_edits.specs.Layouts.{layout_of}
+use Rattle.yq_edits.specs.ReplaceEdits.{held_put}
+use Rattle.yq_edits.specs.WrittenValues.{Written, inline, compact_text, lines, collection_at, column_under, lines_in, takes_compact, value_text, written_at, written_below}
+use Rattle.yq_edits.proofs.FitLaws.{FitsReplace, fits_replace}
+use Rattle.yq_edits.proofs.ValueTexts.{value_for}
+use Rattle.yq_block_edits.proofs.HeldCarried.{held_old}
+use Rattle.yq_block_edits.proofs.HeldCompact.{held_compact}
+use Rattle.yq_block_edits.proofs.HeldInline.{held_inline}
+use Rattle.yq_block_edits.proofs.HeldKnown.{KnowsHeld}
+use Rattle.yq_block_edits.proofs.HeldLines.{held_lines}
+
+module _ (n : ℕ) (s : Step) (ss : List Step) (c : Cut) (e : PlacedEntry) (there : StandsThere n s ss c e) (last : e.line ≡ length e.row.dashes) (k : KnowsHeld n s ss c e there last) (v : Node) (block : is_block e.row.content ≡ false) where
+  abbrev w : Held
+  w = held e
+
+  abbrev l : Layout
+  l = layout_of n c
+
+  abbrev op : Operation
+  op = replace n (s ∷ ss) v
+
+  abbrev us : Written → List Segment
+  us y = held_put (break_text l.br) w y
+
+  -- segments that carry it out where they aren't too long
+  abbrev Carries : Written → Type 0
+  Carries y = length (new_text (us y)) ≤ text_limit → CarriedOut op c (us y)
+
+  module _ (tree : IsValueTree v) (f : FitsReplace n (s ∷ ss) v c there.part) where
+    on_line : (old : List ℕ) → Carries (inline (value_text InBlock old v))
+    on_line old = held_inline n s ss c e there last k l.br v f (value_text InBlock old v) (value_for old v tree f.deep f.long) block
+
+    on_lines : is_filled v ≡ true → Carries (lines (lines_in l (column_under l w.mark v) v))
+    on_lines full = held_lines n s ss c e there last k v tree f full block
+
+    collection : is_filled v ≡ true → Carries (collection_at l w.mark v)
+    collection full = go (takes_compact w.mark) refl
+      where
+        go : (b : Bool) → takes_compact w.mark ≡ b → Carries (cond b (compact_text (block_value l (item_column w.mark.column) v)) (lines (lines_in l (column_under l w.mark v) v)))
+        go true free = held_compact n s ss c e there last k v tree f full free
+        go false other = on_lines full
+
+    at_carried : Carries (written_at l w.mark w.head v)
+    at_carried = go (is_filled v) refl
+      where
+        go : (b : Bool) → is_filled v ≡ b → Carries (cond b (collection_at l w.mark v) (inline (value_text InBlock w.head v)))
+        go true full = collection full
+        go false other = on_line w.head
+
+    below_carried : Carries (written_below l w.mark v)
+    below_carried = go (is_filled v) refl
+      where
+        go : (b : Bool) → is_filled v ≡ b → Carries (cond b (lines (lines_in l (column_under l w.mark v) v)) (inline (value_text InBlock [] v)))
+        go true full = on_lines full
+        go false other = on_line []
+
+  edit_of : (y : Written) → (IsValueTree v → FitsReplace n (s ∷ ss) v c there.part → Carries y) → IsEdit op c (us y)
+  edit_of y f = record { old = held_old (break_text l.br) w y ∙ sym k.spells; carried = λ tree fits. f tree (fits_replace n (s ∷ ss) v c there.part there.old.there tree fits) }
+
+  -- in the place of an inline node, or of nothing
+  pub at_edit : IsEdit op c (us (written_at l w.mark w.head v))
+  at_edit = edit_of (written_at l w.mark w.head v) at_carried
+
+  -- in the place of lines below
+  pub below_edit : IsEdit op c (us (written_below l w.mark v))
+  below_edit = edit_of (written_below l w.mark v) below_carried

@@ -1,0 +1,179 @@
+-- What literal block scalars hold and how they are written: line breaks alone without a known indentation, pieces of a text.
+use Rattle.std.proofs.Common.{◌≡◌, ◌⊎◌, inl, inr, ℕ, zero, suc, ◌+◌, ◌≤◌, cond, eqb, not, ◌&&◌, ◌||◌, List, [], ◌∷◌, ◌++◌, length, replicate, Option, Some, None, Bool, true, false, refl, sym, ap, ◌∙◌, subst, arith, append-nil, eqb-true}
+use Rattle.std.proofs.lemmas.Bool.{false≢true, and_parts, cases_Bool}
+use Rattle.std.proofs.lemmas.List.Folds.{list_all-append}
+use Rattle.std.specs.List.{list_all, list_any}
+use Rattle.std.specs.Str.{IsUtf8, chars}
+use Rattle.yq_scalar.specs.Block.{BlockText, is_text_line, no_lines, Lines, AreRaw, IsDetected, IsDigit, IsRawLine, IsTextIndent, ends_block, is_empty_line, is_less_indented}
+use Rattle.yq_scalar.specs.BlockContent.{block_content, content_of, broken, ending, folded, kind_of, joint, literal, line_text, part_of, strips, unindented}
+use Rattle.yq_scalar.specs.BlockWritten.{break_text, header_text, indented, written, written_line}
+use Rattle.yq_scalar.specs.Characters.{is_text_char}
+use Rattle.yq_scalar.specs.Lines.{behind_spaces}
+use Rattle.yq_scalar.specs.PlainText.{is_plain_char}
+use Rattle.yq_scalar.specs.Scalar.{ScalarText}
+use Rattle.yq_scalar.specs.Text.{ends_line, front, is_white, is_feed, is_line, joined, lines_of, upto}
+use Rattle.yq_scalar.specs.Writable.{can_write, is_literal_char, is_literal_text, is_string}
+use Rattle.yq_scalar.specs.declared.block_content.Before.{Before}
+use Rattle.yq_scalar.specs.declared.block_content.Before.TheVariants as before
+use Rattle.yq_scalar.specs.declared.block_header.BlockStyle.{BlockStyle}
+use Rattle.yq_scalar.specs.declared.block_header.BlockStyle.TheVariants as block_styles
+use Rattle.yq_scalar.specs.declared.block_header.Chomping.{Chomping}
+use Rattle.yq_scalar.specs.declared.block_header.Chomping.TheVariants as chompings
+use Rattle.yq_scalar.specs.declared.block_lines.TextIndent.{TextIndent}
+use Rattle.yq_scalar.specs.declared.block_written.Break.{Break}
+use Rattle.yq_scalar.specs.declared.style.Place.TheVariants as places
+use Rattle.yq_scalar.specs.declared.style.Style.TheVariants as styles
+use Rattle.yq_scalar.proofs.BlockWrittenLines.{Good, IsText, NoCr, indented_some, lines_good}
+use Rattle.yq_scalar.proofs.Bytes.{Each}
+use Rattle.yq_scalar.proofs.LineLaws.{AreLines, joined_lines, lines_are}
+use Rattle.yq_scalar.proofs.LiteralText.{literal_can}
+use Rattle.yq_change.specs.TextPieces.{IsPiece}
+use Rattle.yq_change.proofs.TextPieceLaws.{line_cut, pieces_joined}
+use Rattle.yq_change.proofs.RemovalPieceLaws.{spaces_piece}
+use Rattle.yq_edits.proofs.CommentPieceLaws.{break_piece, byte_then, front_piece, no_return, nothing, text_piece}
+
+-- ---- without a known indentation a block scalar holds line breaks alone
+
+no_part : (t : List ℕ) → ends_line t ≡ true → line_text t ≡ []
+unfolding upto
+no_part [] h = refl
+no_part (b ∷ t) h = rw h refl
+
+part_none : (f : TextIndent) (l : List ℕ) → f.known ≡ false → IsRawLine f l → part_of f l ≡ []
+part_none f l known raw =
+    let own : unindented f l ≡ behind_spaces l = rw known refl in
+    ap line_text own ∙ no_part (behind_spaces l) (go raw.1)
+  where
+    go : (is_empty_line f l ≡ true) ⊎ (is_text_line f l ≡ true) → ends_line (behind_spaces l) ≡ true
+    go (inl e) = (and_parts (ends_line (behind_spaces l)) _ e).0
+    go (inr e) = absurd (false≢true (sym known ∙ (and_parts (not (is_empty_line f l)) f.known (and_parts (not (is_empty_line f l) && f.known) _ e).0).1))
+
+feeds : (k : ℕ) → list_all is_feed (replicate k 10) ≡ true
+feeds zero = refl
+feeds (suc k) = feeds k
+
+broken_feeds : (b : Bool) → list_all is_feed (broken b) ≡ true
+broken_feeds true = refl
+broken_feeds false = refl
+
+literal_feeds : (strip : Bool) (f : TextIndent) (ls : Lines) → f.known ≡ false → AreRaw f ls → list_all is_feed (literal strip f ls) ≡ true
+unfolding literal
+literal_feeds strip f [] known raw = refl
+literal_feeds strip f (l ∷ ls) known raw =
+    let b : Bool = not (strip && no_lines ls) in
+    ap (λ x. list_all is_feed ((x ++ broken b) ++ literal strip f ls)) (part_none f l known raw.0)
+    ∙ (list_all-append is_feed (broken b) (literal strip f ls) ∙ rw (broken_feeds b, literal_feeds strip f ls known raw.1) refl)
+
+ending_feeds : (c : Chomping) (b : Before) (k : ℕ) → list_all is_feed (ending c b k) ≡ true
+ending_feeds chompings.Strip b k = refl
+ending_feeds chompings.Clip before.Nothing k = refl
+ending_feeds chompings.Clip before.Spaced k = refl
+ending_feeds chompings.Clip before.Text k = refl
+ending_feeds chompings.Keep before.Nothing k = feeds k
+ending_feeds chompings.Keep before.Spaced k = feeds k
+ending_feeds chompings.Keep before.Text k = feeds k
+
+folded_feeds : (c : Chomping) (f : TextIndent) (b : Before) (k : ℕ) (ls : Lines) → f.known ≡ false → AreRaw f ls → list_all is_feed (folded c f b k ls) ≡ true
+unfolding folded
+folded_feeds c f b k [] known raw = ending_feeds c b k
+folded_feeds c f b k (l ∷ ls) known raw =
+    ap (λ x. list_all is_feed (cond (eqb (length x) 0) (folded c f b (k + 1) ls) (joint b (front is_white x) k ++ (x ++ folded c f (kind_of x) 0 ls)))) (part_none f l known raw.0)
+    ∙ folded_feeds c f b (k + 1) ls known raw.1
+
+content_feeds : (b : BlockText) → b.indent.known ≡ false → AreRaw b.indent b.raw → list_all is_feed (block_content b) ≡ true
+content_feeds b known raw = go b.style
+  where
+    go : (s : BlockStyle) → list_all is_feed (content_of s b.chomping b.indent b.raw) ≡ true
+    go block_styles.Literal = literal_feeds (strips b.chomping) b.indent b.raw known raw
+    go block_styles.Folded = folded_feeds b.chomping b.indent before.Nothing 0 b.raw known raw
+
+no_others : (t : List ℕ) → list_all is_feed t ≡ true → list_any (λ b. not (is_feed b)) t ≡ false
+no_others [] h = refl
+no_others (b ∷ t) h = let both = and_parts (is_feed b) (list_all is_feed t) h in rw (both.0, no_others t both.1) refl
+
+pub known_text : (b : BlockText) → AreRaw b.indent b.raw → list_any (λ x. not (is_feed x)) (block_content b) ≡ true → b.indent.known ≡ true
+known_text b raw h = go (cases_Bool b.indent.known)
+  where
+    go : (b.indent.known ≡ true) ⊎ (b.indent.known ≡ false) → b.indent.known ≡ true
+    go (inl e) = e
+    go (inr e) = absurd (false≢true (sym (no_others (block_content b) (content_feeds b e raw)) ∙ h))
+
+-- ---- its indentation, and what stands behind it
+
+detected_least : (least : ℕ) (f : TextIndent) (ls : Lines) → IsDetected least f ls → least ≤ f.columns
+detected_least least f [] h = subst (λ (x : TextIndent). least ≤ x.columns) (sym h) (omega arith)
+detected_least least f (l ∷ ls) (inl h) = detected_least least f ls h.2
+detected_least least f (l ∷ ls) (inr h) = subst (λ (x : TextIndent). least ≤ x.columns) (sym h.1) h.2
+
+pub indent_least : (least : ℕ) (digit : Option ℕ) (f : TextIndent) (ls : Lines) → IsDigit digit → IsTextIndent least digit f ls → least ≤ f.columns
+indent_least least None f ls d h = detected_least least f ls h
+indent_least least (Some n) f ls d h = subst (λ (x : TextIndent). least ≤ x.columns) (sym h) (let small = d.0 in omega (arith, small))
+
+pub loose : (keep : Bool) (f : TextIndent) (ls : Lines) → ends_block keep f ls ≡ true → ends_block false f ls ≡ true
+unfolding ends_block
+loose false f ls h = h
+loose true f [] h = refl
+loose true f (l ∷ ls) h = go (is_empty_line f l) h
+  where
+    go : (b : Bool) → cond b (false && ends_block true f ls) (is_less_indented f l) ≡ true → cond b (true && ends_block false f ls) (is_less_indented f l) ≡ true
+    go true e = absurd (false≢true e)
+    go false e = e
+
+-- ---- pieces
+
+text_quiet : (t : List ℕ) → IsText t → Each no_return t
+text_quiet [] h = tt
+text_quiet (b ∷ t) h = (ap not h.1, text_quiet t h.2)
+
+whole_quiet : (t : List ℕ) → NoCr t → Each no_return t
+whole_quiet [] h = tt
+whole_quiet (b ∷ t) h = (ap not h.0, whole_quiet t h.1)
+
+literal_is_text : (c : ℕ) → is_literal_char c ≡ true → is_text_char c ≡ true
+literal_is_text c h = go (is_plain_char c) refl (eqb c 9) refl (is_feed c) refl h
+  where
+    go : (x : Bool) → is_plain_char c ≡ x → (y : Bool) → eqb c 9 ≡ y → (w : Bool) → is_feed c ≡ w → ((x || y) || w) ≡ true → is_text_char c ≡ true
+    go true e y f w g h = (and_parts (is_text_char c) _ e).0
+    go false e true f w g h = ap is_text_char (eqb-true c 9 f)
+    go false e false f true g h = ap is_text_char (eqb-true c 10 g)
+    go false e false f false g h = absurd (false≢true h)
+
+string_piece : (s : ScalarText) → IsUtf8 s.text → can_write s styles.Literal places.Block ≡ true → IsPiece s.text
+string_piece s u can =
+    let t : List ℕ = s.text in
+    let text : is_literal_text t ≡ true = (and_parts (is_string s.kind && true) (is_literal_text t) can).1 in
+    text_piece is_literal_char t u literal_is_text (and_parts _ (list_all is_literal_char (chars t)) text).1 (whole_quiet t (literal_can t u text).plain)
+
+indented_piece : (m : ℕ) (t : List ℕ) → IsPiece t → IsPiece (indented m t)
+indented_piece m [] h = nothing
+indented_piece m (b ∷ t) h = subst IsPiece (sym (indented_some m b t)) (pieces_joined (replicate m 32) (b ∷ t) (spaces_piece m) h)
+
+line_piece : (m : ℕ) (br : Break) (l : List ℕ) → IsPiece (line_text l) → IsPiece (written_line m (break_text br) l)
+line_piece m br l h = pieces_joined (indented m (line_text l)) (break_text br) (indented_piece m (line_text l) h) (break_piece br)
+
+written_piece : (m : ℕ) (br : Break) (ls : Lines) → AreLines ls → Good ls → IsPiece (joined ls) → IsPiece (joined (written m (break_text br) ls))
+unfolding written
+written_piece m br [] are good h = nothing
+written_piece m br (l ∷ ls) are good h =
+    go (λ a b. pieces_joined (written_line m (break_text br) l) (joined (written m (break_text br) ls)) (line_piece m br l a) (written_piece m br ls are.1 good.1 b)) (is_line l) refl are.0
+  where
+    go : (IsPiece (line_text l) → IsPiece (joined ls) → IsPiece (joined (written m (break_text br) (l ∷ ls)))) → (b : Bool) → is_line l ≡ b → (is_line l ≡ true) ⊎ (ls ≡ []) → IsPiece (joined (written m (break_text br) (l ∷ ls)))
+    go join true e more =
+        let own : l ≡ line_text l ++ 10 ∷ [] = good.0.1 ∙ ap (λ b. line_text l ++ broken b) e in
+        let cut = line_cut (line_text l) (joined ls) (subst IsPiece (ap (λ x. x ++ joined ls) own) h) in
+        join (front_piece (line_text l) cut.0 (text_quiet (line_text l) good.0.0)) cut.1
+    go join false e (inl more) = absurd (false≢true (sym e ∙ more))
+    go join false e (inr none) =
+        let own : l ≡ line_text l = good.0.1 ∙ (ap (λ b. line_text l ++ broken b) e ∙ append-nil (line_text l)) in
+        let alone : l ++ joined ls ≡ line_text l = ap (λ x. l ++ joined x) none ∙ (append-nil l ∙ own) in
+        join (subst IsPiece alone h) (subst (λ x. IsPiece (joined x)) (sym none) nothing)
+
+pub raw_piece : (m : ℕ) (br : Break) (s : ScalarText) → IsUtf8 s.text → can_write s styles.Literal places.Block ≡ true → IsPiece (joined (written m (break_text br) (lines_of s.text)))
+raw_piece m br s u can =
+    let text : is_literal_text s.text ≡ true = (and_parts (is_string s.kind && true) (is_literal_text s.text) can).1 in
+    written_piece m br (lines_of s.text) (lines_are s.text) (lines_good s.text (literal_can s.text u text).plain) (subst IsPiece (sym (joined_lines s.text)) (string_piece s u can))
+
+pub header_piece : (c : Chomping) → IsPiece (header_text c)
+header_piece chompings.Strip = byte_then 124 (45 ∷ []) refl (byte_then 45 [] refl nothing)
+header_piece chompings.Clip = byte_then 124 [] refl nothing
+header_piece chompings.Keep = byte_then 124 (43 ∷ []) refl (byte_then 43 [] refl nothing)

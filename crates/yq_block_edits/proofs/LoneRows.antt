@@ -1,0 +1,204 @@
+-- Rows that are alone on their lines: under a key or dash, and as roots.
+use Rattle.std.proofs.Common.{option_map, append-nil, ◌≡◌, inl, inr, ℕ, ◌+◌, true, false, List, [], ◌∷◌, ◌++◌, length, Option, Some, None, refl, sym, ap, ◌∙◌, subst, arith, append_assoc, length-append}
+use Rattle.std.proofs.lemmas.Bool.{and_parts, false≢true}
+use Rattle.std.proofs.lemmas.Option.{same_Some}
+use mathlib.Core.List.{head-eq_of_cons-eq}
+use Rattle.yq_scalar.specs.Answers.{◌>>=◌}
+use Rattle.yq_scalar.specs.Paths.{Step}
+use Rattle.yq_scalar.specs.Text.{is_empty}
+use Rattle.yq_scalar.specs.Tree.{Node}
+use Rattle.yq_scalar.proofs.Bools.{bind_some}
+use Rattle.yq_lines.specs.Comments.{head_comment}
+use Rattle.yq_lines.specs.Group.{level_or}
+use Rattle.yq_lines.specs.Outline as outline
+use Rattle.yq_lines.specs.Outline.{Line, Outline, end, row, flatten, IsEven, IsOpen, IsWhole}
+use Rattle.yq_lines.specs.Places.{find}
+use Rattle.yq_lines.specs.Spots.{is_bare}
+use Rattle.yq_lines.proofs.Decides.{flatten-group}
+use Rattle.yq_rows.specs.Grammar.{AreRows, unlimited}
+use Rattle.yq_rows.specs.Rows as rows
+use Rattle.yq_rows.specs.Rows.{Row, rows_text, print_row, Part, Cut, cut_text}
+use Rattle.yq_rows.proofs.seams.SeamLaws.{rows_text-append}
+use Rattle.yq_documents.specs.Lines.{lines_from, lines_of, mark_line, mark_of, row_lines}
+use Rattle.yq_documents.specs.Reading.{outline_of, read_at}
+use Rattle.yq_documents.specs.Seats.{Seat, seat_of}
+use Rattle.yq_tree.specs.PlacedRows.{PlacedPart, placed_document}
+use Rattle.yq_tree.specs.Standings.{PlacedEntry, before_entry, behind_entry, entry_at, is_alone, lone, placed_entry}
+use Rattle.yq_tree.proofs.CommentPieceLaws.{Ended}
+use Rattle.yq_tree.proofs.PrintedTexts.{map_some}
+use Rattle.yq_tree.proofs.RemovalLines.{LineSeam}
+use Rattle.yq_tree.proofs.RunSpans.{rows_then}
+use Rattle.yq_tree.proofs.UnderExchange.{lines_append}
+use Rattle.yq_change.specs.DocumentRows.{IsDocumentPart, behind_document}
+use Rattle.yq_change.specs.InlineRows.{LeadsBelow, IsRootRow}
+use Rattle.yq_change.specs.PlacedParts.{StandsAt}
+use Rattle.yq_change.specs.StandingLaws.{StandsThere}
+use Rattle.yq_change.proofs.EndedRowLaws.{rows_ended}
+use Rattle.yq_change.proofs.LineLaws.{row_count}
+use Rattle.yq_change.proofs.NodeLineLaws.{under_even}
+use Rattle.yq_change.proofs.PartLaws.{document_known, part_rows}
+use Rattle.yq_change.proofs.PlacedPartLaws.{document_stands_at}
+use Rattle.yq_change.proofs.StandingRows.{rows_stand}
+use Rattle.yq_change.proofs.UnderLaws.{under_is}
+use Rattle.yq_meaning.specs.Operations.{replace}
+use Rattle.yq_edits.specs.EditLaws.{IsEdit}
+use Rattle.yq_edits.specs.ReplaceEdits.{lone_put}
+use Rattle.yq_change.proofs.StandingMarks.{under_it}
+use Rattle.yq_block_edits.proofs.LoneCarried.{lone_carried}
+
+-- ---- a row alone
+
+bare_mark : (m : rows.Mark) → is_bare (mark_of m) ≡ true → m ≡ rows.Bare
+bare_mark rows.Bare h = refl
+bare_mark rows.Dash h = absurd (false≢true h)
+bare_mark (rows.Key key colon) h = absurd (false≢true h)
+
+no_text : (ns : List ℕ) → is_empty ns ≡ true → ns ≡ []
+no_text [] h = refl
+no_text (n ∷ ns) h = absurd (false≢true h)
+
+-- such a row has neither dashes nor a mark
+alone_row : (r : Row) → is_alone r ≡ true → (r.mark ≡ rows.Bare) × (r.dashes ≡ [])
+alone_row r h = let p = and_parts (is_empty r.dashes) (is_bare (mark_of r.mark)) h in (bare_mark r.mark p.1, no_text r.dashes p.0)
+
+-- it is one line
+alone_line : (r : Row) → is_alone r ≡ true → (l : Line) × (row_lines r ≡ l ∷ []) × (l.mark ≡ outline.Bare)
+alone_line r h = let p = alone_row r h in go r.dashes r.mark p.1 p.0
+  where
+    go : (ns : List ℕ) (m : rows.Mark) → ns ≡ [] → m ≡ rows.Bare → (l : Line) × (lines_from (head_comment r.gap) r.column ns m r.content ≡ l ∷ []) × (l.mark ≡ outline.Bare)
+    go [] m e is = (mark_line (head_comment r.gap) r.column m r.content, refl, ap mark_of is)
+    go (n ∷ ns) m e is = absurd (let no : n ∷ ns ≡ [] = e in cc)
+
+-- a node on a line of its own is there, and is alone
+whole_bare : (m : outline.Mark) (h : Option Node) (a b : Outline) → m ≡ outline.Bare → IsOpen h a → IsWhole m h b → (a ≡ end) × (b ≡ end)
+whole_bare outline.Bare None a b e o w = absurd w
+whole_bare outline.Bare (Some x) end end e o w = (refl, refl)
+whole_bare outline.Bare (Some x) (row l u c) b e o w = absurd o
+whole_bare outline.Bare (Some x) end (row l u c) e o w = absurd w
+whole_bare (outline.Key k) h a b e o w = absurd (cc)
+whole_bare outline.Dash h a b e o w = absurd (cc)
+
+open_row : (o : Option Node) (l : Line) (u after : Outline) → IsOpen o (row l u after) → o ≡ None
+open_row None l u after h = refl
+open_row (Some k) l u after h = absurd h
+
+-- an outline of lines of which the first one is bare is of one line
+one_line : (m : ℕ) (o : Outline) (l : Line) (ls : List Line) → IsEven m o → l ∷ ls ≡ flatten o → l.mark ≡ outline.Bare → length (flatten o) ≡ 1
+one_line m end l ls even e bare = absurd (let no : l ∷ ls ≡ [] = e in cc)
+one_line m (row x u a) l ls even e bare =
+    let one = whole_bare x.mark x.head u a (ap (λ (k : Line). k.mark) (sym (head-eq_of_cons-eq e)) ∙ bare) even.1 even.2 in
+    λ i. length (flatten (row x (one.0 i) (one.1 i)))
+
+-- ---- under a key or dash
+
+module _ (n : ℕ) (s : Step) (ss : List Step) (v : Node) (c : Cut) (read : read_at (cut_text c) ≡ Some c) (d : PlacedPart) (placed : placed_document n c ≡ Some d) (x : Seat) (seated : seat_of (s ∷ ss) d.part.rows ≡ Some x) (r : Row) (rs : List Row)
+    (last : (entry_at d x).line ≡ length (entry_at d x).row.dashes) (under : (entry_at d x).under ≡ r ∷ rs) (alone : is_alone r ≡ true) where
+  abbrev e : PlacedEntry
+  e = entry_at d x
+
+  abbrev front : List Row
+  front = e.front ++ (e.row ∷ [])
+
+  at : placed_entry n (s ∷ ss) c ≡ Some e
+  at = ap (λ (o : Option PlacedPart). o >>= λ q. option_map (entry_at q) (seat_of (s ∷ ss) q.part.rows)) placed ∙ ap (option_map (entry_at d)) seated
+
+  there : StandsThere n s ss c e
+  there = rows_stand n s ss c e read at
+
+  stands : StandsAt c n d
+  stands = document_stands_at c n d placed
+
+  same : there.part ≡ d.part
+  same = same_Some _ _ (sym there.old.there ∙ stands.there)
+
+  even : IsEven (level_or 0 (outline_of there.part)) (outline_of there.part)
+  even = (document_known (cut_text c) c n there.part there.old).even
+
+  lines : lines_of (r ∷ rs) ≡ flatten there.found.under
+  lines = ap lines_of (sym under) ∙ under_is there.part s ss e.front e.row e.under e.back (under_it n s ss c e there last) even
+
+  one : (l : Line) × (row_lines r ≡ l ∷ []) × (l.mark ≡ outline.Bare)
+  one = alone_line r alone
+
+  first : one.0 ∷ lines_of rs ≡ flatten there.found.under
+  first = ap (λ (ls : List Line). ls ++ lines_of rs) (sym one.1) ∙ lines
+
+  below : IsOpen there.found.line.head there.found.under × (m : ℕ) × IsEven m there.found.under
+  below = let old = (under_even (level_or 0 (outline_of there.part)) (outline_of there.part) s ss there.found even there.is).1 in (old.1, old.3.0, old.3.2)
+
+  no_head : there.found.line.head ≡ None
+  no_head = go there.found.under first below.0
+    where
+      go : (o : Outline) → one.0 ∷ lines_of rs ≡ flatten o → IsOpen there.found.line.head o → there.found.line.head ≡ None
+      go end e h = absurd (let no : one.0 ∷ lines_of rs ≡ [] = e in cc)
+      go (row l u a) e h = open_row there.found.line.head l u a h
+
+  leads : LeadsBelow d.part s ss front r
+  leads = record {
+    found = there.found;
+    is = subst (λ (p : Part). find s ss (outline_of p) ≡ Some (there.found, [])) same there.is;
+    open' = no_head;
+    count = one_line below.1 there.found.under one.0 (lines_of rs) below.2 first one.2;
+    mark = (alone_row r alone).0;
+    number = omega (
+      arith,
+      there.number,
+      last,
+      ap length (lines_append e.front (e.row ∷ [])),
+      length-append (lines_of e.front) (lines_of (e.row ∷ [])),
+      length-append (row_lines e.row) [],
+      row_count e.row,
+      ap length (alone_row r alone).1,
+    );
+  }
+
+  rows_are : d.part.rows ≡ front ++ (r ∷ (rs ++ e.back))
+  rows_are =
+      subst (λ (p : Part). p.rows ≡ e.front ++ (e.row ∷ (e.under ++ e.back))) same there.rows_are
+      ∙ (ap (λ (us : List Row). e.front ++ (e.row ∷ (us ++ e.back))) under ∙ sym (append_assoc e.front (e.row ∷ []) (r ∷ (rs ++ e.back))))
+
+  ended : LineSeam (rows_text front []) (rows_text (r ∷ (rs ++ e.back)) (d.part.end ++ d.behind))
+  ended =
+      let all : AreRows unlimited (e.front ++ (e.row ∷ (r ∷ (rs ++ e.back)))) d.part.end (behind_document n c) =
+      subst (λ (us : List Row). AreRows unlimited us d.part.end (behind_document n c)) (rows_are ∙ append_assoc e.front (e.row ∷ []) (r ∷ (rs ++ e.back)))
+      (part_rows (cut_text c) c n d.part (record { read = read; there = stands.there }) (document_known (cut_text c) c n d.part (record { read = read; there = stands.there })).cut) in
+      inr (subst (λ u. Ended (rows_text front []) (rows_text (r ∷ (rs ++ e.back)) (d.part.end ++ u))) stands.behind (rows_ended unlimited e.front e.row (r ∷ (rs ++ e.back)) d.part.end (behind_document n c) all))
+
+  -- the texts round it
+  before_is : d.before ++ rows_text front [] ≡ before_entry e ++ print_row e.row []
+  before_is = ap (λ t. d.before ++ t) (rows_text-append e.front (e.row ∷ []) [] ∙ rows_then e.front (print_row e.row [])) ∙ sym (append_assoc d.before (rows_text e.front []) (print_row e.row []))
+
+  behind_is : rows_text (rs ++ e.back) (d.part.end ++ d.behind) ≡ rows_text rs (behind_entry e)
+  behind_is = rows_text-append rs e.back (d.part.end ++ d.behind)
+
+  edit_there : IsEdit (replace n (s ∷ ss) v) c (lone_put (lone (before_entry e ++ print_row e.row []) r (rows_text rs (behind_entry e))) v)
+  edit_there =
+      subst (λ (b : List ℕ). IsEdit (replace n (s ∷ ss) v) c (lone_put (lone b r (rows_text rs (behind_entry e))) v)) before_is
+      (subst (λ (z : List ℕ). IsEdit (replace n (s ∷ ss) v) c (lone_put (lone (d.before ++ rows_text front []) r z) v)) behind_is
+      (lone_carried n (s ∷ ss) v c read d placed front r (rs ++ e.back) rows_are (alone_row r alone).0 (alone_row r alone).1 leads ended))
+
+pub lone_edit : (n : ℕ) (s : Step) (ss : List Step) (v : Node) (c : Cut) (e : PlacedEntry) (r : Row) (rs : List Row) → read_at (cut_text c) ≡ Some c → placed_entry n (s ∷ ss) c ≡ Some e → e.line ≡ length e.row.dashes →
+    e.under ≡ r ∷ rs → is_alone r ≡ true → IsEdit (replace n (s ∷ ss) v) c (lone_put (lone (before_entry e ++ print_row e.row []) r (rows_text rs (behind_entry e))) v)
+lone_edit n s ss v c e r rs read at last under alone =
+    let d = bind_some (placed_document n c) at in
+    let x = map_some (seat_of (s ∷ ss) d.0.part.rows) d.2 in
+    subst (λ (y : PlacedEntry). y.line ≡ length y.row.dashes → y.under ≡ r ∷ rs → IsEdit (replace n (s ∷ ss) v) c (lone_put (lone (before_entry y ++ print_row y.row []) r (rows_text rs (behind_entry y))) v)) x.2
+    (λ own below. edit_there n s ss v c read d.0 d.1 x.0 x.1 r rs own below alone) last under
+
+-- ---- a root
+
+pub lone_root_edit : (n : ℕ) (v : Node) (c : Cut) (d : PlacedPart) (r : Row) (rs : List Row) → read_at (cut_text c) ≡ Some c → placed_document n c ≡ Some d → d.part.rows ≡ r ∷ rs → is_alone r ≡ true →
+    IsEdit (replace n [] v) c (lone_put (lone d.before r (rows_text rs (d.part.end ++ d.behind))) v)
+lone_root_edit n v c d r rs read placed are alone =
+    subst (λ (b : List ℕ). IsEdit (replace n [] v) c (lone_put (lone b r (rows_text rs (d.part.end ++ d.behind))) v)) (append-nil d.before)
+    (lone_carried n [] v c read d placed [] r rs are (alone_row r alone).0 (alone_row r alone).1 root (inl refl))
+  where
+    old : IsDocumentPart (cut_text c) c n d.part
+    old = record { read = read; there = (document_stands_at c n d placed).there }
+
+    root : IsRootRow d.part r
+    root =
+        let l = alone_line r alone in
+        let lines : lines_of d.part.rows ≡ l.0 ∷ lines_of rs = ap lines_of are ∙ ap (λ (ls : List Line). ls ++ lines_of rs) l.1 in
+        let flat : flatten (outline_of d.part) ≡ lines_of d.part.rows = flatten-group (lines_of d.part.rows) in
+        record { count = sym (ap length flat) ∙ one_line _ (outline_of d.part) l.0 (lines_of rs) (document_known (cut_text c) c n d.part old).even (sym lines ∙ sym flat) l.2; mark = (alone_row r alone).0 }

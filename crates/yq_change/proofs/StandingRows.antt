@@ -1,0 +1,152 @@
+-- The rows of an item or entry that are found are those of the line to which steps lead, with the lines under it.
+use Rattle.std.proofs.Common.{◌≡◌, ◌≤◌, true, ℕ, zero, suc, ◌+◌, List, [], ◌∷◌, ◌++◌, take, drop, length, map, Option, Some, None, option_map, option_and_then, refl, sym, ap, ◌∙◌, subst, arith, length-append}
+use Rattle.std.proofs.lemmas.List.{take-append-drop}
+use Rattle.std.proofs.lemmas.Option.{none-some, same_Some}
+use Rattle.std.specs.List.{slice_get}
+use Rattle.std.specs.Str.{is_utf8}
+use Rattle.yq_scalar.specs.Answers.{◌>>=◌}
+use Rattle.yq_scalar.specs.Paths.{Step}
+use Rattle.yq_scalar.proofs.Bools.{bind_some, guard_then}
+use Rattle.yq_lines.specs.Comments.{head_comment}
+use Rattle.yq_lines.specs.Ends.{IsEndOf, found_line, lines_end, line_of}
+use Rattle.yq_lines.specs.Group.{group, is_fine}
+use Rattle.yq_lines.specs.Outline.{Line, flatten, level}
+use Rattle.yq_lines.specs.Places.{Found, find, lines_before}
+use Rattle.yq_lines.proofs.LineEnds.{end_told}
+use Rattle.yq_rows.specs.Rows.{Row, Cut, cut_text, part_text}
+use Rattle.yq_rows.specs.View.{slices}
+use Rattle.yq_rows.specs.Grammar.{unlimited}
+use Rattle.yq_rows.proofs.splices.ContentPlaces.{count_front, rows_around}
+use Rattle.yq_documents.specs.Documents.{document_parts}
+use Rattle.yq_documents.specs.Lines.{lines_of, row_lines}
+use Rattle.yq_documents.specs.Reading.{read_at}
+use Rattle.yq_documents.specs.Seats.{Seat, seat, seat_of}
+use Rattle.yq_tree.specs.PlacedRows.{PlacedPart, PlacedRow, placed_document, placed_row, row_of_path}
+use Rattle.yq_tree.specs.RowWalk.{deeper_rows, line_level}
+use Rattle.yq_tree.proofs.DashLaws.{line_within}
+use Rattle.yq_tree.proofs.FoundLines.{each}
+use Rattle.yq_tree.proofs.PrintedTexts.{map_some}
+use Rattle.yq_tree.proofs.ReadLaws.{text_takes}
+use Rattle.yq_tree.proofs.RowPathLaws.{document_fine}
+use Rattle.yq_tree.proofs.SeatedLaws.{steps_row}
+use Rattle.yq_tree.proofs.UnderCounts.{end_is}
+use Rattle.yq_tree.proofs.WalkEnds.{ends_at, lines_upto}
+use Rattle.yq_tree.proofs.WalkLevels.{AreTelling, IsLineOf, IsTelling, level_is, line_in}
+use Rattle.yq_tree.proofs.WalkRows.{rows_telling}
+use Rattle.yq_change.specs.DocumentRows.{IsDocumentPart, behind_document}
+use Rattle.yq_change.specs.PlacedParts.{StandsAt}
+use Rattle.yq_change.proofs.LineLaws.{row_count}
+use Rattle.yq_change.proofs.PartLaws.{document_known, part_rows}
+use Rattle.yq_change.proofs.PathLaws.{seat_number}
+use Rattle.yq_change.proofs.PlacedPartLaws.{document_stands_at}
+use Rattle.yq_change.specs.StandingLaws.{RowsStand, StandsThere}
+use Rattle.yq_tree.specs.Standings.{PlacedEntry, entry_at, placed_entry, under_count}
+
+telling_at : (rs : List Row) (i : ℕ) (r : Row) → AreTelling rs → slice_get rs i ≡ Some r → IsTelling r
+telling_at [] i r h e = absurd (cc)
+telling_at (x ∷ rs) zero r h e = subst IsTelling (same_Some _ _ e) h.0
+telling_at (x ∷ rs) (suc i) r h e = telling_at rs i r h.1 e
+
+-- the line that was found, where it has a number
+found_of : (o : Option (Found × List Step)) (m : ℕ) → option_and_then (λ x. found_line x.0 x.1) o ≡ Some m → (f : Found) × (o ≡ Some (f, [])) × (length (lines_before f.place) ≡ m)
+found_of None m e = absurd (none-some _ e)
+found_of (Some y) m e = go y.0 y.1 e
+  where
+    go : (f : Found) (left : List Step) → found_line f left ≡ Some m → (g : Found) × (◌≡◌ {A = Option (Found × List Step)} (Some (f, left)) (Some (g, []))) × (length (lines_before g.place) ≡ m)
+    go f [] e = (f, refl, same_Some _ _ e)
+    go f (t ∷ ts) e = absurd (none-some _ e)
+
+module _ (n : ℕ) (s : Step) (ss : List Step) (c : Cut) (read : read_at (cut_text c) ≡ Some c) (d : PlacedPart) (at : placed_document n c ≡ Some d) (x : Seat) (seated : seat_of (s ∷ ss) d.part.rows ≡ Some x) where
+  abbrev rs : List Row
+  rs = d.part.rows
+
+  abbrev under : ℕ
+  under = under_count x (drop (suc x.before) d.part.rows)
+
+  stands : StandsAt c n d
+  stands = document_stands_at c n d at
+
+  old : IsDocumentPart (cut_text c) c n d.part
+  old = record { read = read; there = stands.there }
+
+  fine : is_fine (group (lines_of d.part.rows)) ≡ true
+  unfolding read_at
+  fine = document_fine d.part (each (document_parts c) (text_takes (cut_text c) c (guard_then (is_utf8 (cut_text c)) read).1).1 n d.part stands.there)
+
+  row : slice_get d.part.rows x.before ≡ Some x.row
+  row = steps_row (line_of (s ∷ ss) (lines_of d.part.rows)) d.part.rows x seated
+
+  within : x.line ≤ length x.row.dashes
+  within =
+      let w : PlacedRow = placed_row d x in
+      line_within n (s ∷ ss) c w (ap (λ (o : Option PlacedPart). o >>= λ q. option_map (placed_row q) (seat_of (s ∷ ss) q.part.rows)) at ∙ ap (option_map (placed_row d)) seated)
+
+  -- its number
+  numbered : (m : ℕ) × (line_of (s ∷ ss) (lines_of d.part.rows) ≡ Some m) × (seat m d.part.rows ≡ Some x)
+  numbered = bind_some (line_of (s ∷ ss) (lines_of d.part.rows)) seated
+
+  found : (f : Found) × (find s ss (group (lines_of d.part.rows)) ≡ Some (f, [])) × (length (lines_before f.place) ≡ numbered.0)
+  found = found_of (find s ss (group (lines_of d.part.rows))) numbered.0 numbered.1
+
+  rows_are : d.part.rows ≡ take x.before d.part.rows ++ (x.row ∷ drop (suc x.before) d.part.rows)
+  rows_are = rows_around d.part.rows x.before x.row row
+
+  number : length (lines_of (take x.before d.part.rows)) + x.line ≡ length (lines_before found.0.place)
+  number = sym (found.2 ∙ seat_number d.part.rows (take x.before d.part.rows) (drop (suc x.before) d.part.rows) numbered.0 x numbered.2 rows_are (count_front d.part.rows x.before x.row row))
+
+  -- the lines under it
+  telling : AreTelling d.part.rows
+  telling = rows_telling unlimited d.part.rows d.part.end (behind_document n c) (part_rows (cut_text c) c n d.part old (document_known (cut_text c) c n d.part old).cut)
+
+  line : (l : Line) × (slice_get (row_lines x.row) x.line ≡ Some l) × IsLineOf x.row.column x.row.dashes x.row.mark x.row.content x.line l
+  line = line_in (head_comment x.row.gap) x.row.column x.row.dashes x.row.mark x.row.content x.line within
+
+  deep : level line.0 ≡ line_level x.line (slices x.row)
+  deep = level_is x.row x.line line.0 (telling_at d.part.rows x.before x.row telling row) within line.2
+
+  abbrev stop : ℕ → ℕ
+  stop k = length (lines_of (take (suc x.before + deeper_rows k (map slices (drop (suc x.before) d.part.rows))) d.part.rows))
+
+  ends : IsEndOf (lines_of d.part.rows) (length (lines_of (take x.before d.part.rows)) + x.line) (stop (line_level x.line (slices x.row)))
+  ends =
+      subst (λ k. IsEndOf (lines_of d.part.rows) (length (lines_of (take x.before d.part.rows)) + x.line) (stop k)) deep
+      (ends_at d.part.rows x.before x.line x.row line.0 telling row within line.1)
+
+  counted : length (lines_of (x.row ∷ take under (drop (suc x.before) d.part.rows))) ≡ x.line + suc (length (flatten found.0.under))
+  counted =
+      let a : ℕ = length (lines_of (take x.before d.part.rows)) + x.line in
+      let told : stop (line_level x.line (slices x.row)) ≡ lines_end a (lines_of d.part.rows) =
+      end_told (lines_of d.part.rows) a (stop (line_level x.line (slices x.row))) (let first = ends.0 in let last = ends.1 in omega (arith, first, last)) ends in
+      let end : lines_end a (lines_of d.part.rows) ≡ suc (length (lines_before found.0.place)) + length (flatten found.0.under) =
+      ap (λ k. lines_end k (lines_of d.part.rows)) number ∙ (end_is (lines_of d.part.rows) s ss [] found.0 found.1 fine).1 in
+      let upto = lines_upto d.part.rows x.before under x.row row in
+      omega (arith, told, end, upto, number, row_count x.row, length-append (row_lines x.row) (lines_of (take under (drop (suc x.before) d.part.rows))))
+
+  there : StandsThere n s ss c (entry_at d x)
+  there = record {
+    part = d.part;
+    old = old;
+    found = found.0;
+    is = found.1;
+    rows_are = rows_are ∙ ap (λ (ys : List Row). take x.before d.part.rows ++ (x.row ∷ ys)) (sym (take-append-drop under (drop (suc x.before) d.part.rows)));
+    end_is = refl;
+    behind_is = sym stands.behind;
+    number = number;
+    count = counted;
+    put = λ q. stands.put q ∙ ap (λ t. d.before ++ part_text q t) (sym stands.behind);
+  }
+
+pub rows_stand : RowsStand
+rows_stand n s ss c e read is =
+    let d = bind_some (placed_document n c) is in
+    let x = map_some (seat_of (s ∷ ss) d.0.part.rows) d.2 in
+    subst (StandsThere n s ss c) x.2 (there n s ss c read d.0 d.1 x.0 x.1)
+
+-- The line of the key or dash of rows is one of those of the first row.
+pub entry_within : (n : ℕ) (s : Step) (ss : List Step) (c : Cut) (e : PlacedEntry) → placed_entry n (s ∷ ss) c ≡ Some e → e.line ≤ length e.row.dashes
+entry_within n s ss c e is =
+    let d = bind_some (placed_document n c) is in
+    let x = map_some (seat_of (s ∷ ss) d.0.part.rows) d.2 in
+    let row : row_of_path n (s ∷ ss) c ≡ Some (placed_row d.0 x.0) =
+    ap (λ (o : Option PlacedPart). o >>= λ q. option_map (placed_row q) (seat_of (s ∷ ss) q.part.rows)) d.1 ∙ ap (option_map (placed_row d.0)) x.1 in
+    subst (λ (q : PlacedEntry). q.line ≤ length q.row.dashes) x.2 (line_within n (s ∷ ss) c (placed_row d.0 x.0) row)

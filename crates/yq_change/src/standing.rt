@@ -1,0 +1,7 @@
+//! Laws on the rows in which items and entries stand.
+ghost use Rattle.yq_change.specs.StandingLaws.{RowsStand};
+
+/// The rows of an item or entry are those of its line, with the lines under it.
+pub fn rows_stand()
+    ensures { RowsStand }
+{}

@@ -1,0 +1,169 @@
+-- The rows of one item or entry that is written.
+use Rattle.std.proofs.Common.{◌≡◌, ℕ, ◌+◌, ◌*◌, ◌<◌, ◌≤◌, true, List, [], ◌∷◌, ◌++◌, Option, Some, None, refl, sym, ap, ◌∙◌, subst, arith, append-nil}
+use Rattle.yq_scalar.specs.Text.{upto}
+use Rattle.yq_scalar.specs.Tree as tree
+use Rattle.yq_scalar.specs.Tree.{Node, Children, none, child}
+use Rattle.yq_inline.specs.Nodes as inline
+use Rattle.yq_flow.specs.Valued.{IsValueTree}
+use Rattle.yq_lines.specs.LineAnchors.{HaveOneAnchorEach}
+use Rattle.yq_lines.specs.Comments.{line_comment}
+use Rattle.yq_lines.specs.Outline.{Mark, Bare, Key, Dash, Line, level, rank, Outline, end, row, flatten, IsOpen, IsEven, label, collection, children, value, Stands}
+use Rattle.yq_lines.specs.Places.{content}
+use Rattle.yq_lines.proofs.ByRules.{rules_give}
+use Rattle.yq_rows.specs.Gap.{IsGap}
+use Rattle.yq_rows.specs.Grammar.{Limit, limit_after, allows, AreRows}
+use Rattle.yq_rows.specs.Rows.{Row}
+use Rattle.yq_rows.specs.Splices.{first_gap}
+use Rattle.yq_documents.specs.Documents.{HaveFitKeys}
+use Rattle.yq_documents.specs.Lines.{lines_of}
+use Rattle.yq_documents.specs.TreeEdits.{new_label}
+use Rattle.yq_block.specs.declared.layout.Layout.{Layout}
+use Rattle.yq_block.specs.Alone.{alone}
+use Rattle.yq_block.specs.BlockRows.{inline_of, node_rows, children_rows, entry_rows, behind_dash, end_before, column_below}
+use Rattle.yq_block.specs.BlockValues.{IsEnd, IsFilledValue, IsNear, HasNearKeys, IsWritable, level_at}
+use Rattle.yq_block.proofs.FitLaws.{node_fit, keys_fit, anchors_fit}
+use Rattle.yq_block.proofs.LaidRows.{laid_rows}
+use Rattle.yq_block.proofs.LineLaws.{node_stands}
+use Rattle.yq_block.proofs.RowLaws.{value_laid}
+use Rattle.yq_edits.specs.Operands.{KeyIsUtf8}
+
+-- a collection of one item or entry is a value that is written in rows
+pub alone_value : (key : Option (List ℕ)) (v : Node) → KeyIsUtf8 key → IsValueTree v → IsFilledValue (alone key v)
+alone_value None v u h = record { filled = tt; value = (refl, (refl, h, tt)) }
+alone_value (Some k) v u h = record { filled = tt; value = (refl, ((k, refl, u), h, tt)) }
+
+alone_near : (key : Option (List ℕ)) (v : Node) → IsNear key → HasNearKeys v → HasNearKeys (alone key v)
+alone_near None v near h = (tt, h, tt)
+alone_near (Some k) v near h = (near, h, tt)
+
+pub alone_writable : (key : Option (List ℕ)) (v : Node) (column : ℕ) (last rest : List ℕ) → KeyIsUtf8 key → IsValueTree v → IsNear key → HasNearKeys v → IsEnd column last rest → IsWritable (alone key v) column last rest
+alone_writable key v column last rest u h near keys e = record { rows = alone_value key v u h; near = alone_near key v near keys; ends = e }
+
+-- the level of its line
+abbrev pub entry_level : Option (List ℕ) → ℕ → ℕ
+entry_level None column = 3 * column + 3
+entry_level (Some k) column = 3 * column + 2
+
+alone_level : (key : Option (List ℕ)) (v : Node) (column : ℕ) → level_at column (alone key v) ≡ entry_level key column
+alone_level None v column = refl
+alone_level (Some k) v column = refl
+
+-- An item or entry, by its line and the lines under it.
+pub record IsEntryOf (key : Option (List ℕ)) (v : Node) (column : ℕ) (rs : List Row) : Type 0 where
+  pub line : Line
+  pub under : Outline
+  pub lines : lines_of rs ≡ line ∷ flatten under
+  pub level_is : level line ≡ entry_level key column
+  pub headless : IsOpen line.head under
+  pub deep : (m : ℕ) × (level line < m) × IsEven m under
+  pub label_is : label line ≡ new_label key
+  pub node_is : content line under ≡ v
+
+no_more : (a : Outline) → none ≡ children a → a ≡ end
+no_more end e = refl
+no_more (row l u a) e = absurd (cc)
+
+children_same : (x y : tree.Label) (n m : Node) (cs ds : Children) → child x n cs ≡ child y m ds → (x ≡ y) × (n ≡ m) × (ds ≡ cs)
+children_same x y n m cs ds e = (cc, cc, cc)
+
+list_same : (cs ds : Children) → tree.list None cs ≡ tree.list None ds → cs ≡ ds
+list_same cs ds e = cc
+
+map_same : (cs ds : Children) → tree.map None cs ≡ tree.map None ds → cs ≡ ds
+map_same cs ds e = cc
+
+-- the line of an outline with one item or entry
+abbrev IsOne : Option (List ℕ) → Node → Line → Outline → Outline → Type 0
+IsOne k v l u a = (label l ≡ new_label k) × (content l u ≡ v) × (a ≡ end)
+
+made : (k : Option (List ℕ)) (v : Node) (l : Line) (u a : Outline) → child (label l) (content l u) (children a) ≡ child (new_label k) v none → IsOne k v l u a
+made k v l u a e = let x = children_same (label l) (new_label k) (content l u) v (children a) none e in (x.0, x.1, no_more a x.2)
+
+-- its mark, by its level
+is_one : (k : Option (List ℕ)) (v : Node) (column : ℕ) (l : Line) (u a : Outline) (m : Mark) → l.mark ≡ m → 3 * l.column + rank m ≡ entry_level k column → collection m (child (label l) (content l u) (children a)) ≡ alone k v → IsOne k v l u a
+is_one None v column l u a Bare is lev e = absurd (omega (arith, lev))
+is_one None v column l u a (Key j) is lev e = absurd (omega (arith, lev))
+is_one None v column l u a Dash is lev e = made None v l u a (list_same _ _ e)
+is_one (Some k) v column l u a Bare is lev e = absurd (omega (arith, lev))
+is_one (Some k) v column l u a (Key j) is lev e = made (Some k) v l u a (map_same _ _ e)
+is_one (Some k) v column l u a Dash is lev e = absurd (omega (arith, lev))
+
+-- the outline of a collection of one item or entry
+one_row : (key : Option (List ℕ)) (v : Node) (column : ℕ) (o : Outline) (rs : List Row) → IsEven (entry_level key column) o → flatten o ≡ lines_of rs → value o ≡ alone key v → IsEntryOf key v column rs
+unfolding level
+one_row None v column end rs even lines same = absurd (cc)
+one_row (Some k) v column end rs even lines same = absurd (cc)
+one_row key v column (row l u a) rs even lines same =
+    let only : IsOne key v l u a = is_one key v column l u a l.mark refl even.0 same in
+    record {
+      line = l;
+      under = u;
+      lines = sym lines ∙ (ap (λ x. l ∷ (flatten u ++ flatten x)) only.2 ∙ ap (λ x. l ∷ x) (append-nil (flatten u)));
+      level_is = even.0;
+      headless = even.1;
+      deep = (even.3.0, subst (λ n. n < even.3.0) (sym even.0) even.3.1, even.3.2);
+      label_is = only.0;
+      node_is = only.1;
+    }
+
+-- nothing is no comment
+pub none_quiet : line_comment [] ≡ None
+unfolding upto
+none_quiet = refl
+
+pub entry_of : (key : Option (List ℕ)) (v : Node) (l : Layout) (column : ℕ) (last : List ℕ) → line_comment last ≡ None → 1 ≤ l.mapping → KeyIsUtf8 key → IsValueTree v → IsEntryOf key v column (node_rows l column last (alone key v))
+entry_of key v l column last quiet step u h =
+    let w = alone_value key v u h in
+    let rs : List Row = node_rows l column last (alone key v) in
+    let s : Stands (lines_of rs) (alone key v) (level_at column (alone key v)) = rules_give (level_at column (alone key v)) (lines_of rs) (alone key v) (node_stands (alone key v) l column last step w.filled w.value quiet) in
+    one_row key v column s.outline rs (subst (λ n. IsEven n s.outline) (alone_level key v column) s.even) s.lines_are s.node_is
+
+-- its keys and anchors
+pub entry_keys : (key : Option (List ℕ)) (v : Node) (l : Layout) (column : ℕ) (last : List ℕ) → KeyIsUtf8 key → IsValueTree v → HaveFitKeys (node_rows l column last (alone key v))
+entry_keys key v l column last u h = keys_fit (node_rows l column last (alone key v)) (node_fit (alone key v) l column last (alone_value key v u h).value)
+
+pub entry_anchors : (key : Option (List ℕ)) (v : Node) (l : Layout) (column : ℕ) (last : List ℕ) → KeyIsUtf8 key → IsValueTree v → HaveOneAnchorEach (lines_of (node_rows l column last (alone key v)))
+entry_anchors key v l column last u h = anchors_fit (node_rows l column last (alone key v)) (node_fit (alone key v) l column last (alone_value key v u h).value)
+
+-- no gap is before it
+first_bare : (rs more : List Row) → first_gap rs [] ≡ [] → (rs ≡ [] → first_gap more [] ≡ []) → first_gap (rs ++ more) [] ≡ []
+first_bare [] more e f = f refl
+first_bare (r ∷ rs) more e f = e
+
+dash_bare : (column : ℕ) (rs : List Row) → first_gap rs [] ≡ [] → first_gap (behind_dash column rs) [] ≡ []
+dash_bare column [] e = e
+dash_bare column (r ∷ rs) e = e
+
+mutual
+  unfolding node_rows children_rows
+
+  rows_bare : (l : Layout) (column : ℕ) (last : List ℕ) (v : Node) → first_gap (node_rows l column last v) [] ≡ []
+  rows_bare l column last (tree.alias name) = refl
+  rows_bare l column last (tree.scalar a kind text) = refl
+  rows_bare l column last (tree.list a cs) = each_bare l column last cs
+  rows_bare l column last (tree.map a cs) = each_bare l column last cs
+
+  each_bare : (l : Layout) (column : ℕ) (last : List ℕ) (cs : Children) → first_gap (children_rows l column last cs) [] ≡ []
+  each_bare l column last tree.none = refl
+  each_bare l column last (tree.child told n cs) =
+      first_bare (entry_rows l column (end_before l last cs) told.key (inline_of n) (node_rows l (column_below l column told.key n) (end_before l last cs) n)) (children_rows l column last cs)
+      (by told.key (inline_of n) (node_rows l (column_below l column told.key n) (end_before l last cs) n) (rows_bare l (column_below l column told.key n) (end_before l last cs) n)) (λ e. each_bare l column last cs)
+    where
+      by : (key : Option (List ℕ)) (node : Option inline.Node) (rs : List Row) → first_gap rs [] ≡ [] → first_gap (entry_rows l column (end_before l last cs) key node rs) [] ≡ []
+      by (Some k) (Some node) rs e = refl
+      by (Some k) None rs e = refl
+      by None (Some node) rs e = refl
+      by None None rs e = dash_bare column rs e
+
+pub entry_bare : (key : Option (List ℕ)) (v : Node) (l : Layout) (column : ℕ) (last : List ℕ) → first_gap (node_rows l column last (alone key v)) [] ≡ []
+entry_bare key v l column last = rows_bare l column last (alone key v)
+
+-- they are rows
+pub rows_gap : (limit : Limit) (rs : List Row) (gap rest : List ℕ) → AreRows limit rs [] (gap ++ rest) → IsGap gap rest → AreRows limit rs gap rest
+rows_gap limit [] gap rest h g = g
+rows_gap limit (r ∷ rs) gap rest h g = (h.0, rows_gap (limit_after r) rs gap rest h.1 g)
+
+pub entry_rows_are : (key : Option (List ℕ)) (v : Node) (l : Layout) (column : ℕ) (last gap rest : List ℕ) (limit : Limit) → IsWritable (alone key v) column last (gap ++ rest) → allows limit column ≡ true → IsGap gap rest →
+    AreRows limit (node_rows l column last (alone key v)) gap rest
+entry_rows_are key v l column last gap rest limit w allowed g =
+    rows_gap limit (node_rows l column last (alone key v)) gap rest (laid_rows column (node_rows l column last (alone key v)) (gap ++ rest) limit (value_laid (alone key v) l column last (gap ++ rest) w) allowed) g

@@ -1,0 +1,183 @@
+-- The place of one more item or entry in a text, and its rows there.
+use Rattle.std.proofs.Common.{inl, inr, ◌≡◌, ℕ, suc, true, false, List, [], ◌∷◌, ◌++◌, length, Option, Some, None, sym, ap, ◌∙◌, subst, append_assoc, append-nil, replicate}
+use Rattle.std.proofs.lemmas.Bool.{false≢true}
+use Rattle.std.proofs.lemmas.Option.{same_Some}
+use Rattle.std.specs.List.{slice_get}
+use Rattle.yq_scalar.specs.Keys.{HasUniqueKeys, keys_of}
+use Rattle.yq_scalar.specs.Paths.{Step, append_child, change, node_at, within}
+use Rattle.yq_scalar.specs.Tree as tree
+use Rattle.yq_scalar.specs.Tree.{Node}
+use Rattle.yq_flow.specs.Valued.{IsValueTree}
+use Rattle.yq_lines.specs.LineAnchors.{HaveOneAnchorEach}
+use Rattle.yq_lines.specs.Outline.{children, label}
+use Rattle.yq_lines.specs.Places.{content}
+use Rattle.yq_rows.specs.Grammar.{unlimited, AreRows, no_rows, Limit, allows}
+use Rattle.yq_rows.specs.Rows.{rows_text, Part, Cut, cut_text}
+use Rattle.yq_rows.proofs.seams.SeamLaws.{rows_text-append}
+use Rattle.yq_tree.specs.CollectionEnds.{CollectionEnd}
+use Rattle.yq_documents.specs.Documents.{document_parts, lead_of}
+use Rattle.yq_documents.specs.Reading.{outline_of, read_at, root_of}
+use Rattle.yq_tree.proofs.CommentPieceLaws.{Ended}
+use Rattle.yq_block.specs.declared.layout.Layout.{Layout}
+use Rattle.yq_block.specs.Alone.{alone}
+use Rattle.yq_block.specs.BlockRows.{node_rows}
+use Rattle.yq_block.specs.BlockText.{block_value}
+use Rattle.yq_block.specs.BlockValues.{IsFilledValue, IsEnd}
+use Rattle.yq_block.proofs.CharacterLaws.{value_sound}
+use Rattle.yq_change.specs.Appends.{IsWritten}
+use Rattle.yq_change.specs.Changed.{IsChanged, put_document}
+use Rattle.yq_change.specs.CollectionPlaces.{IsCollectionEnd}
+use Rattle.yq_change.specs.DocumentRows.{IsDocumentPart, behind_document}
+use Rattle.yq_change.specs.Rooms.{is_block_root}
+use Rattle.yq_change.specs.SoundRoots.{IsNewKey, IsNewValue}
+use Rattle.yq_change.specs.TextPieces.{IsPiece}
+use Rattle.yq_change.proofs.AppendPlaceLaws.{EndAllows, end_allows}
+use Rattle.yq_change.proofs.EditedLaws.{lines_are_there}
+use Rattle.yq_change.proofs.EndedRowLaws.{rows_ended, rows_then}
+use Rattle.yq_change.proofs.LeadLaws.{same_lead_goes}
+use Rattle.yq_change.proofs.TextPieceLaws.{text_is_piece, pieces_joined, line_cut}
+use Rattle.yq_meaning.specs.Changes.{is_long, has_long_key, is_deep}
+use Rattle.yq_meaning.specs.Fits.{Takes}
+use Rattle.yq_meaning.specs.Operations.{append}
+use Rattle.yq_edits.specs.Layouts.{layout_of}
+use Rattle.yq_script.specs.Script.{Segment, keep, put}
+use Rattle.yq_edits.specs.EntryEdits.{entry_lines}
+use Rattle.yq_edits.specs.Operands.{KeyIsUtf8}
+use Rattle.yq_edits.specs.ReadsAfter.{ReadsAfter}
+use Rattle.yq_edits.proofs.AppendEntryLaws.{alone_value, alone_writable, IsEntryOf, entry_of, entry_keys, entry_anchors, entry_bare, entry_rows_are}
+use Rattle.yq_edits.proofs.DoneLaws.{document_done}
+use Rattle.yq_edits.proofs.FitLaws.{new_value, key_near, near_keys}
+use Rattle.yq_edits.proofs.CommentPieceLaws.{nothing}
+use Rattle.yq_lines.specs.Comments.{line_comment as said}
+use Rattle.yq_rows.specs.Gap.{IsGap}
+use Rattle.yq_change.proofs.RemovalPieceLaws.{spaces_piece}
+use Rattle.yq_edits.proofs.AppendTakers.{IsTaker, taker}
+use Rattle.yq_edits.proofs.LayoutLaws.{steps_least}
+
+-- The place of one more item or entry: the end of the block collection to which steps lead in document doc.
+pub record IsAppendPlace (doc : ℕ) (steps : List Step) (c : Cut) (x : CollectionEnd) : Type 0 where
+  pub part : Part
+  pub there : slice_get (document_parts c) doc ≡ Some part
+  pub end : IsCollectionEnd c doc part steps x
+
+-- the segments of a text in which another one is put there
+abbrev pub put_segments : CollectionEnd → List ℕ → List Segment
+put_segments x new = keep x.before ∷ (put [] new ∷ (keep x.behind ∷ []))
+
+module _ (doc : ℕ) (steps : List Step) (c : Cut) (x : CollectionEnd) (read : read_at (cut_text c) ≡ Some c) (at : IsAppendPlace doc steps c x) where
+  abbrev t : List ℕ
+  t = cut_text c
+
+  abbrev rest : List ℕ
+  rest = behind_document doc c
+
+  abbrev pub p : Part
+  p = at.part
+
+  pub there : IsDocumentPart t c doc p
+  there = record { read = read; there = at.there }
+
+  pub e : IsCollectionEnd c doc p steps x
+  e = at.end
+
+  pub allows_there : EndAllows c doc p x e.front e.back
+  allows_there = end_allows t c doc p steps x there e
+
+  -- the old text
+  pub old_is : x.before ++ x.behind ≡ t
+  old_is =
+      (λ i. e.before_is i ++ e.behind_is i)
+      ∙ (append_assoc e.start (rows_text e.front []) (rows_text e.back (p.end ++ rest))
+      ∙ (ap (λ z. e.start ++ z) (sym (rows_then e.front (rows_text e.back (p.end ++ rest))) ∙ (sym (rows_text-append e.front e.back (p.end ++ rest)) ∙ ap (λ rs. rows_text rs (p.end ++ rest)) (sym e.rows_are)))
+      ∙ sym e.old_text))
+
+  pub kept_pieces : IsPiece x.before × IsPiece x.behind
+  kept_pieces = go (subst (λ z. Ended z (rows_text e.back (p.end ++ rest))) (ap (λ rs. rows_text rs []) (sym e.front_is)) (rows_ended unlimited e.others e.last e.back p.end rest rows_there))
+    where
+      rows_there : AreRows unlimited (e.others ++ (e.last ∷ e.back)) p.end rest
+      rows_there = subst (λ rs. AreRows unlimited rs p.end rest) (ap (λ rs. rs ++ e.back) e.front_is ∙ append_assoc e.others (e.last ∷ []) e.back) allows_there.rows
+
+      whole : IsPiece (x.before ++ x.behind)
+      whole = subst IsPiece (sym old_is) (text_is_piece c read)
+
+      go : Ended (rows_text e.front []) (rows_text e.back (p.end ++ rest)) → IsPiece x.before × IsPiece x.behind
+      go (inl lf) =
+          let text : x.before ≡ (e.start ++ lf.0) ++ 10 ∷ [] = e.before_is ∙ (ap (λ z. e.start ++ z) lf.1 ∙ sym (append_assoc e.start lf.0 (10 ∷ []))) in
+          subst (λ z. IsPiece z × IsPiece x.behind) (sym text) (line_cut (e.start ++ lf.0) x.behind (subst (λ z. IsPiece (z ++ x.behind)) text whole))
+      go (inr none_behind) =
+          let no_rest : x.behind ≡ [] = e.behind_is ∙ none_behind in
+          (subst IsPiece (ap (λ z. x.before ++ z) no_rest ∙ append-nil x.before) whole, subst IsPiece (sym no_rest) nothing)
+
+-- What is known of an operation that appends, and of the node to which its steps lead in a part.
+pub record IsAsked (steps : List Step) (key : Option (List ℕ)) (v : Node) (part : Part) : Type 0 where
+  pub key_utf8 : KeyIsUtf8 key
+  pub value_tree : IsValueTree v
+  pub unique : HasUniqueKeys v
+  pub short : is_long key ≡ false
+  pub near : has_long_key v ≡ false
+  pub deep : is_deep (suc (length steps)) v ≡ false
+  pub node : Node
+  pub node_is : node_at steps (root_of part) ≡ Some node
+  pub takes : Takes key node
+
+module _ (doc : ℕ) (steps : List Step) (key : Option (List ℕ)) (v : Node) (c : Cut) (x : CollectionEnd) (read : read_at (cut_text c) ≡ Some c) (at : IsAppendPlace doc steps c x) (g : IsAsked steps key v (p doc steps c x read at)) where
+  abbrev l : Layout
+  l = layout_of doc c
+
+  abbrev part : Part
+  part = p doc steps c x read at
+
+  abbrev place : IsCollectionEnd c doc (p doc steps c x read at) steps x
+  place = e doc steps c x read at
+
+  pub filled : IsFilledValue (alone key v)
+  filled = alone_value key v g.key_utf8 g.value_tree
+
+  pub entry_piece : IsPiece (entry_lines l x.column key v)
+  entry_piece =
+      let w = value_sound (alone key v) l x.column filled.value in
+      pieces_joined (replicate x.column 32) (block_value l x.column (alone key v)) (spaces_piece x.column) (record { utf8 = w.0; characters = w.1 })
+
+  -- the rows of the item or entry, the last of which has this end
+  pub entry : (last : List ℕ) → said last ≡ None → IsEntryOf key v x.column (node_rows l x.column last (alone key v))
+  entry last quiet = entry_of key v l x.column last quiet (steps_least (slice_get (document_parts c) doc)) g.key_utf8 g.value_tree
+
+  known_taker : IsTaker key place.h.lines x.column
+  known_taker =
+      taker key g.node place.h.anchor place.h.lines x.column g.takes (same_Some _ _ (sym g.node_is ∙ lines_are_there steps (outline_of part) place.h place.collection.place_is)) place.collection.block place.first
+
+  pub written : (last : List ℕ) (quiet : said last ≡ None) → IsWritten place.h (node_rows l x.column last (alone key v)) (entry last quiet).deep.0 (entry last quiet).line (entry last quiet).under (length steps)
+  written last quiet =
+      let w = entry last quiet in
+      record {
+        lines = w.lines;
+        bare = entry_bare key v l x.column last;
+        fits = record { level_is = w.level_is ∙ sym known_taker.level_is; headless = w.headless; deep = w.deep.1; even = w.deep.2 };
+        anchors = subst HaveOneAnchorEach w.lines (entry_anchors key v l x.column last g.key_utf8 g.value_tree);
+        keys = entry_keys key v l x.column last g.key_utf8 g.value_tree;
+        value_is = subst (λ y. IsNewValue y (suc (length steps))) (sym w.node_is) (new_value (suc (length steps)) v g.value_tree g.unique g.deep);
+        key = subst (λ (y : tree.Label). IsNewKey y.key (keys_of (children place.h.lines))) (sym w.label_is) known_taker.key_is;
+      }
+
+  pub new_rows_are : (last gap rest : List ℕ) (limit : Limit) → IsEnd x.column last (gap ++ rest) → allows limit x.column ≡ true → IsGap gap rest → AreRows limit (node_rows l x.column last (alone key v)) gap rest
+  new_rows_are last gap rest limit ends allowed h =
+      entry_rows_are key v l x.column last gap rest limit
+      (alone_writable key v x.column last (gap ++ rest) g.key_utf8 g.value_tree (key_near key g.key_utf8 g.short) (near_keys v g.value_tree g.near) ends) allowed h
+
+  -- a part with such rows, in which the first row stays, is what the operation asks
+  pub finished : (q : Part) (last : List ℕ) (quiet : said last ≡ None) →
+      IsChanged c (put_document doc q c) doc (lead_of part) (change steps (within (append_child (label (entry last quiet).line) (content (entry last quiet).line (entry last quiet).under)))) →
+      lead_of q ≡ lead_of part → is_block_root q ≡ is_block_root part → no_rows q.rows ≡ false → ReadsAfter (append doc steps key v) c (cut_text (put_document doc q c))
+  finished q last quiet changed lead block some =
+      let w = entry last quiet in
+      document_done (append doc steps key v) c part q (lead_of part) (change steps (within (append_child (label w.line) (content w.line w.under))))
+      (record {
+        read = read;
+        there = at.there;
+        rows = λ none_left. absurd (false≢true (sym some ∙ none_left));
+        changed = changed;
+        root = λ i. change steps (within (append_child (w.label_is i) (w.node_is i))) (root_of part);
+        lead_goes = same_lead_goes part q lead block;
+        block = λ keeps. block;
+        seats = λ sets. absurd sets;
+      })

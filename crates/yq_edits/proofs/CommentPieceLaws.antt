@@ -1,0 +1,224 @@
+-- What is written for comments is made of pieces of texts.
+use Rattle.std.proofs.Common.{◌≡◌, ◌≢◌, get_or, ◌⊎◌, inl, inr, ℕ, zero, suc, ◌+◌, ◌<◌, ◌≤◌, Bool, true, false, ◌&&◌, not, cond, eqb, List, [], ◌∷◌, ◌++◌, length, replicate, refl, sym, ap, ◌∙◌, subst, arith, append-nil, append_assoc, length-append}
+use Rattle.std.proofs.lemmas.Bool.{false≢true, ltb-true, and_parts, cases_Bool}
+use Rattle.std.proofs.lemmas.Str.{encode_ascii, IsUtf8-nil, IsUtf8-take}
+use Rattle.std.proofs.Math.Seq.{take-append_seam}
+use Rattle.std.proofs.Math.Utf8.{encodes, encode, scalars, low_scalar}
+use Rattle.std.specs.List.{list_all}
+use Rattle.std.specs.Str.{chars, IsUtf8}
+use Rattle.yq_scalar.specs.BlockWritten.{break_text}
+use Rattle.yq_scalar.specs.Characters.{is_text, is_text_char, pairs_returns}
+use Rattle.yq_scalar.specs.Text.{front, is_feed, is_return, is_empty}
+use Rattle.yq_scalar.specs.declared.block_written.Break.{Break}
+use Rattle.yq_scalar.specs.declared.block_written.Break.TheVariants.{Lf, CrLf}
+use Rattle.yq_scalar.proofs.Bools.{not_byte}
+use Rattle.yq_scalar.proofs.Bytes.{Each, each_byte}
+use Rattle.yq_scalar.proofs.WrittenText.{no_break, is_shown, IsLine, line_is_text}
+use Rattle.yq_rows.proofs.NodePieces.{before_ascii}
+use Rattle.yq_rows.proofs.seams.ScalarSeams.{ends_return}
+use Rattle.yq_change.specs.TextPieces.{IsPiece}
+use Rattle.yq_change.proofs.LineFrontLaws.{clean_byte, clean_cut}
+use Rattle.yq_change.proofs.TextPieceLaws.{pieces_joined, line_cut}
+use Rattle.yq_meaning.specs.Changes.{is_comment}
+use Rattle.yq_program.specs.declared.program.CommentPlace.TheVariants as comments
+use Rattle.yq_change.proofs.RemovalPieceLaws.{spaces_piece}
+use Rattle.yq_meaning.specs.Meaning.{head_of, onto_first, parted}
+use Rattle.yq_edits.specs.CommentEdits.{head_line, head_lines}
+
+-- ---- single bytes
+
+nothing_text : is_text [] ≡ true
+unfolding chars pairs_returns
+nothing_text = refl
+
+pub nothing : IsPiece []
+nothing = record { utf8 = IsUtf8-nil; characters = nothing_text }
+
+low_line : (b : ℕ) → is_shown b ≡ true → IsLine (b ∷ []) × IsUtf8 (b ∷ [])
+low_line b h =
+    let p = and_parts (Rattle.std.proofs.Common.ltb b 128 && is_text_char b) (no_break b) h in
+    let r = and_parts (Rattle.std.proofs.Common.ltb b 128) (is_text_char b) p.0 in
+    let low : b < 128 = ltb-true b 128 r.0 in
+    let spelled : encodes (b ∷ []) ≡ b ∷ [] = append-nil (encode b) ∙ encode_ascii b low in
+    let valid : scalars (b ∷ []) ≡ true = rw (low_scalar b (omega (arith, low))) refl in
+    (record { chars = b ∷ []; spelled = spelled; valid = valid; text = rw r.1 refl; bytes = (p.1, tt) }, (b ∷ [], (valid, spelled)))
+
+shown_piece : (b : ℕ) → is_shown b ≡ true → IsPiece (b ∷ [])
+shown_piece b h = let x = low_line b h in record { utf8 = x.1; characters = line_is_text (b ∷ []) x.0 }
+
+pub byte_then : (b : ℕ) (t : List ℕ) → is_shown b ≡ true → IsPiece t → IsPiece (b ∷ t)
+byte_then b t h k = pieces_joined (b ∷ []) t (shown_piece b h) k
+
+break_chars : (br : Break) → (encodes (break_text br) ≡ break_text br) × (scalars (break_text br) ≡ true) × (list_all is_text_char (break_text br) ≡ true) × (pairs_returns (break_text br) ≡ true)
+unfolding pairs_returns
+break_chars Lf = (append-nil (encode 10) ∙ encode_ascii 10 (omega arith), refl, refl, refl)
+break_chars CrLf = ((λ i. encode_ascii 13 (omega arith) i ++ (append-nil (encode 10) ∙ encode_ascii 10 (omega arith)) i), refl, refl, refl)
+
+pub break_piece : (br : Break) → IsPiece (break_text br)
+break_piece br =
+    let x = break_chars br in
+    record {
+      utf8 = (break_text br, (x.1, x.0));
+      characters = rw (subst (λ (t : List ℕ). chars t ≡ break_text br) x.0 (Rattle.std.proofs.lemmas.Str.chars-encodes (break_text br) x.1)) (rw (x.2, x.3) refl);
+    }
+
+-- ---- texts of comments
+
+-- a byte that is no CR
+abbrev pub no_return : ℕ → Bool
+no_return b = not (is_return b)
+
+all_weaker : (p q : ℕ → Bool) → ((c : ℕ) → p c ≡ true → q c ≡ true) → (cs : List ℕ) → list_all p cs ≡ true → list_all q cs ≡ true
+all_weaker p q f [] h = refl
+all_weaker p q f (c ∷ cs) h = let x = and_parts (p c) (list_all p cs) h in rw (f c x.0, all_weaker p q f cs x.1) refl
+
+no_pairs : (t : List ℕ) → Each no_return t → pairs_returns t ≡ true
+unfolding pairs_returns
+no_pairs [] h = refl
+no_pairs (b ∷ t) h = go (cases_Bool (is_return b)) (no_pairs t h.1)
+  where
+    go : (is_return b ≡ true) ⊎ (is_return b ≡ false) → pairs_returns t ≡ true → cond (is_return b) (front is_feed t && pairs_returns t) (pairs_returns t) ≡ true
+    go (inl e) k = absurd (false≢true (ap not (sym e) ∙ h.0))
+    go (inr e) k = rw e k
+
+pub text_piece : (p : ℕ → Bool) (t : List ℕ) → IsUtf8 t → ((c : ℕ) → p c ≡ true → is_text_char c ≡ true) → list_all p (chars t) ≡ true → Each no_return t → IsPiece t
+text_piece p t u f h e = record { utf8 = u; characters = rw (all_weaker p is_text_char f (chars t) h) (no_pairs t e) }
+
+-- a text of a line comment
+pub line_text_is : (t : List ℕ) → IsUtf8 t → is_comment comments.Line t ≡ true → Each no_break t × IsPiece t
+line_text_is t u h =
+    let none : Each no_break t = each_byte no_break (λ c. is_text_char c && (not (eqb c 10) && not (eqb c 13))) t u h (λ c low p. (and_parts (is_text_char c) (not (eqb c 10) && not (eqb c 13)) p).1)
+    (λ b high. rw (not_byte b 10 (omega arith), not_byte b 13 (omega arith)) refl) in
+    (none, text_piece (λ c. is_text_char c && (not (eqb c 10) && not (eqb c 13))) t u (λ c p. (and_parts (is_text_char c) (not (eqb c 10) && not (eqb c 13)) p).0) h (go t none))
+  where
+    go : (t : List ℕ) → Each no_break t → Each no_return t
+    go [] e = tt
+    go (b ∷ t) e = ((and_parts (not (is_feed b)) (not (is_return b)) e.0).1, go t e.1)
+
+-- a text of a head comment
+head_text_is : (t : List ℕ) → IsUtf8 t → is_comment comments.Head t ≡ true → Each no_return t × IsPiece t
+head_text_is t u h =
+    let none : Each no_return t = each_byte no_return (λ c. is_text_char c && not (eqb c 13)) t u h (λ c low p. (and_parts (is_text_char c) (not (eqb c 13)) p).1) (λ b high. rw (not_byte b 13 (omega arith)) refl) in
+    (none, text_piece (λ c. is_text_char c && not (eqb c 13)) t u (λ c p. (and_parts (is_text_char c) (not (eqb c 13)) p).0) h none)
+
+-- ---- the parts of a text
+
+-- each is a piece without a break
+abbrev pub AreParts : List (List ℕ) → Type 0
+AreParts [] = Unit {0}
+AreParts (t ∷ ts) = Each no_break t × IsPiece t × AreParts ts
+
+-- a text is one part, or a part before an LF and more
+data Lines : List ℕ → Type 0 where
+  one : {t : List ℕ} → Each (λ b. not (is_feed b)) t → Lines t
+  more : {t : List ℕ} (a b : List ℕ) → Each (λ b. not (is_feed b)) a → t ≡ a ++ 10 ∷ b → Lines t
+
+lines : (t : List ℕ) → Lines t
+lines [] = one tt
+lines (b ∷ t) = go (lines t) (cases_Bool (is_feed b))
+  where
+    go : Lines t → (is_feed b ≡ true) ⊎ (is_feed b ≡ false) → Lines (b ∷ t)
+    go x (inl e) = more [] t tt (ap (λ y. y ∷ t) (Rattle.std.proofs.Common.eqb-true b 10 e))
+    go (one h) (inr e) = one (rw e refl, h)
+    go (more c d h is) (inr e) = more (b ∷ c) d (rw e refl, h) (ap (λ x. b ∷ x) is)
+
+one_part : (t : List ℕ) → Each (λ b. not (is_feed b)) t → parted t ≡ t ∷ []
+one_part [] h = refl
+one_part (b ∷ t) h = go (cases_Bool (is_feed b)) (one_part t h.1)
+  where
+    go : (is_feed b ≡ true) ⊎ (is_feed b ≡ false) → parted t ≡ t ∷ [] → cond (eqb b 10) ([] ∷ parted t) (onto_first b (parted t)) ≡ (b ∷ t) ∷ []
+    go (inl e) k = absurd (false≢true (ap not (sym e) ∙ h.0))
+    go (inr e) k = rw e (ap (onto_first b) k)
+
+more_parts : (a b : List ℕ) → Each (λ b. not (is_feed b)) a → parted (a ++ 10 ∷ b) ≡ a ∷ parted b
+more_parts [] b h = refl
+more_parts (x ∷ a) b h = go (cases_Bool (is_feed x)) (more_parts a b h.1)
+  where
+    go : (is_feed x ≡ true) ⊎ (is_feed x ≡ false) → parted (a ++ 10 ∷ b) ≡ a ∷ parted b → cond (eqb x 10) ([] ∷ parted (a ++ 10 ∷ b)) (onto_first x (parted (a ++ 10 ∷ b))) ≡ (x ∷ a) ∷ parted b
+    go (inl e) k = absurd (false≢true (ap not (sym e) ∙ h.0))
+    go (inr e) k = rw e (ap (onto_first x) k)
+
+both : (t : List ℕ) → Each (λ b. not (is_feed b)) t → Each no_return t → Each no_break t
+both [] h k = tt
+both (b ∷ t) h k = (rw (h.0, k.0) refl, both t h.1 k.1)
+
+each_cut : (p : ℕ → Bool) (a b : List ℕ) → Each p (a ++ b) → Each p a × Each p b
+each_cut p [] b h = (tt, h)
+each_cut p (x ∷ a) b h = let y = each_cut p a b h.1 in ((h.0, y.0), y.1)
+
+no_return_end : (t : List ℕ) → Each no_return t → ends_return t ≡ false
+no_return_end [] h = refl
+no_return_end (b ∷ t) h = clean_byte b t (go (cases_Bool (is_return b))) (no_return_end t h.1)
+  where
+    go : (is_return b ≡ true) ⊎ (is_return b ≡ false) → is_return b ≡ false
+    go (inl e) = absurd (false≢true (ap not (sym e) ∙ h.0))
+    go (inr e) = e
+
+pub front_piece : (a : List ℕ) → IsPiece (a ++ 10 ∷ []) → Each no_return a → IsPiece a
+front_piece a h e =
+    let u : IsUtf8 a = subst IsUtf8 (take-append_seam a (10 ∷ [])) (IsUtf8-take (a ++ 10 ∷ []) (length a) h.utf8 (before_ascii a (10 ∷ []) (let low : 10 < 128 = omega arith in low))) in
+    (clean_cut a (10 ∷ []) h u (λ f. no_return_end a e)).0
+
+parts_of : (n : ℕ) (t : List ℕ) → length t ≤ n → IsPiece t → Each no_return t → AreParts (parted t)
+parts_of zero t small h e = go (lines t)
+  where
+    go : Lines t → AreParts (parted t)
+    go (one f) = subst AreParts (sym (one_part t f)) (both t f e, h, tt)
+    go (more a b f is) = absurd (omega (arith, small, ap length is, length-append a (10 ∷ b)))
+parts_of (suc n) t small h e = go (lines t) (λ b less k f. parts_of n b less k f)
+  where
+    go : Lines t → ((b : List ℕ) → length b ≤ n → IsPiece b → Each no_return b → AreParts (parted b)) → AreParts (parted t)
+    go (one f) again = subst AreParts (sym (one_part t f)) (both t f e, h, tt)
+    go (more a b f is) again =
+        let whole : t ≡ (a ++ 10 ∷ []) ++ b = is ∙ sym (append_assoc a (10 ∷ []) b) in
+        let k = line_cut a b (subst IsPiece whole h) in
+        let x = each_cut no_return a (10 ∷ b) (subst (Each no_return) is e) in
+        subst AreParts (sym (ap parted is ∙ more_parts a b f)) (both a f x.0, front_piece a k.0 x.0, again b (omega (arith, small, ap length is, length-append a (10 ∷ b))) k.1 x.1.1)
+
+-- ---- the parts of a text, as it is cut at each LF
+
+-- a text without LF, by its bytes
+quiet_by : (t : List ℕ) → ((i : ℕ) → i < length t → get_or t i 0 ≢ 10) → Each (λ b. not (is_feed b)) t
+quiet_by [] h = tt
+quiet_by (b ∷ t) h = (go (cases_Bool (is_feed b)), quiet_by t (λ i less. h (suc i) (omega (arith, less))))
+  where
+    go : (is_feed b ≡ true) ⊎ (is_feed b ≡ false) → not (is_feed b) ≡ true
+    go (inl e) = absurd (h 0 (omega arith) (Rattle.std.proofs.Common.eqb-true b 10 e))
+    go (inr e) = ap not e
+
+-- a line more of a head comment
+pub turn_more : (column : ℕ) (br out outs text rest line after : List ℕ) → rest ≡ line ++ 10 ∷ after → ((i : ℕ) → i < length line → get_or line i 0 ≢ 10) →
+    out ++ head_lines column br (parted rest) ≡ head_lines column br (parted text) → outs ≡ out ++ head_line column br line → outs ++ head_lines column br (parted after) ≡ head_lines column br (parted text)
+turn_more column br out outs text rest line after is none before pushed =
+    ap (λ o. o ++ head_lines column br (parted after)) pushed
+    ∙ (append_assoc out (head_line column br line) (head_lines column br (parted after))
+    ∙ (ap (λ ts. out ++ head_lines column br ts) (sym (ap parted is ∙ more_parts line after (quiet_by line none))) ∙ before))
+
+-- the last one
+pub turn_done : (column : ℕ) (br out outs text rest : List ℕ) → ((i : ℕ) → i < length rest → get_or rest i 0 ≢ 10) →
+    out ++ head_lines column br (parted rest) ≡ head_lines column br (parted text) → outs ≡ out ++ head_line column br rest → 0 < length text → outs ≡ head_lines column br (head_of text)
+turn_done column br out outs text rest none before pushed some =
+    pushed
+    ∙ (ap (λ l. out ++ l) (sym (append-nil (head_line column br rest)) ∙ ap (head_lines column br) (sym (one_part rest (quiet_by rest none))))
+    ∙ (before ∙ ap (head_lines column br) (whole text some)))
+  where
+    whole : (t : List ℕ) → 0 < length t → parted t ≡ head_of t
+    whole [] k = absurd (omega (arith, k))
+    whole (b ∷ t) k = refl
+
+pub head_parts : (t : List ℕ) → IsUtf8 t → is_comment comments.Head t ≡ true → AreParts (head_of t)
+head_parts [] u h = tt
+head_parts (b ∷ t) u h = let x = head_text_is (b ∷ t) u h in parts_of (length (b ∷ t)) (b ∷ t) (omega arith) x.1 x.0
+
+-- ---- lines
+
+text_after : (t : List ℕ) → IsPiece t → IsPiece (cond (is_empty t) [] (32 ∷ t))
+text_after [] h = nothing
+text_after (b ∷ t) h = byte_then 32 (b ∷ t) refl h
+
+pub line_piece : (column : ℕ) (br : Break) (t : List ℕ) → IsPiece t → IsPiece (head_line column (break_text br) t)
+line_piece column br t h = pieces_joined (replicate column 32) _ (spaces_piece column) (byte_then 35 _ refl (pieces_joined (cond (is_empty t) [] (32 ∷ t)) (break_text br) (text_after t h) (break_piece br)))
+
+pub lines_piece : (column : ℕ) (br : Break) (ts : List (List ℕ)) → AreParts ts → IsPiece (head_lines column (break_text br) ts)
+lines_piece column br [] h = nothing
+lines_piece column br (t ∷ ts) h = pieces_joined (head_line column (break_text br) t) _ (line_piece column br t h.1) (lines_piece column br ts h.2)

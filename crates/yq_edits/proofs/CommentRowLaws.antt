@@ -1,0 +1,197 @@
+-- The row of the line to which steps lead, in its document and in the text.
+use Rattle.std.proofs.Common.{◌≡◌, ◌⊎◌, inl, inr, ⊎_elim, ℕ, suc, ◌+◌, ◌||◌, not, true, false, List, [], ◌∷◌, ◌++◌, take, drop, replicate, Option, Some, None, option_and_then, option_map, refl, sym, ap, ◌∙◌, subst, append_assoc}
+use Rattle.std.proofs.lemmas.List.{take-append-drop}
+use Rattle.std.proofs.lemmas.Bool.{false≢true, or_cases, cases_Bool}
+use Rattle.std.proofs.lemmas.Option.{none-some}
+use Rattle.std.specs.List.{slice_get}
+use Rattle.yq_scalar.specs.Answers.{◌>>=◌}
+use Rattle.yq_scalar.specs.Paths.{Step}
+use Rattle.yq_scalar.specs.Text.{is_empty, ends_line, no_white, past_white}
+use Rattle.yq_scalar.specs.Text as text
+use Rattle.yq_scalar.specs.Lines.{is_hash}
+use Rattle.yq_scalar.proofs.Bools.{bind_some, guard_then}
+use Rattle.yq_scalar.proofs.Upto.{cut_takes}
+use Rattle.yq_lines.specs.Ends.{found_line, line_of}
+use Rattle.yq_lines.specs.Places.{Found, bare_or}
+use Rattle.yq_lines.specs.Sound.{is_entry}
+use Rattle.yq_lines.specs.Outline.{Mark, Bare, Key, Dash, Line}
+use Rattle.yq_rows.specs.Exchange.{row_front}
+use Rattle.yq_rows.specs.Gap.{IsWhite}
+use Rattle.yq_rows.specs.Grammar.{IsCut, IsTail, IsRow, Limit}
+use Rattle.yq_rows.specs.Rows as rows
+use Rattle.yq_rows.specs.Rows.{Row, behind_indent, dashes_text, mark_text, print_row, rows_text, Cut, cut_text}
+use Rattle.yq_rows.specs.View.{slices}
+use Rattle.yq_rows.proofs.Fronts.{Starts}
+use Rattle.yq_rows.proofs.LineEnds.{line_end_behind}
+use Rattle.yq_rows.proofs.PlaceLaws.{row_then, row_in}
+use Rattle.yq_rows.proofs.RowAgain.{row_starts}
+use Rattle.yq_rows.proofs.EmptyTexts.{empty_is}
+use Rattle.yq_rows.proofs.seams.SeamLaws.{rows_text-append}
+use Rattle.yq_rows.proofs.splices.ContentPlaces.{rows_around}
+use Rattle.yq_tree.specs.CommentPlaces.{end_before, line_text}
+use Rattle.yq_documents.specs.Lines.{lines_from, lines_of}
+use Rattle.yq_tree.specs.PlacedRows.{PlacedPart, PlacedRow, placed_document, placed_row, row_of_path}
+use Rattle.yq_documents.specs.Reading.{read_at}
+use Rattle.yq_documents.specs.Ready.{begins_no_node}
+use Rattle.yq_documents.specs.Seats.{Seat, seat_of, document_row}
+use Rattle.yq_tree.specs.Standings.{PlacedEntry, before_entry, behind_entry, entry_at, placed_entry, under_count}
+use Rattle.yq_tree.proofs.CommentEndLaws.{row_line}
+use Rattle.yq_tree.proofs.CommentPieceLaws.{row_place}
+use Rattle.yq_tree.proofs.PlacedRowLaws.{IsAt, part_at}
+use Rattle.yq_tree.proofs.PrintedTexts.{map_some}
+use Rattle.yq_tree.proofs.ReadLaws.{text_takes}
+use Rattle.yq_tree.proofs.SeatedLaws.{steps_row}
+use Rattle.yq_change.specs.PlacedParts.{StandsAt}
+use Rattle.yq_change.proofs.PlacedPartLaws.{document_stands_at}
+
+pub rows_front : (front rs : List Row) (rest : List ℕ) → rows_text (front ++ rs) rest ≡ rows_text front [] ++ rows_text rs rest
+rows_front [] rs rest = refl
+rows_front (r ∷ front) rs rest = ap (print_row r) (rows_front front rs rest) ∙ row_then r (rows_text front []) (rows_text rs rest)
+
+-- What is known of a row that was found.
+pub record IsFound (n : ℕ) (steps : List Step) (c : Cut) (w : PlacedRow) : Type 0 where
+  pub s : PlacedPart
+  pub x : Seat
+  pub document : placed_document n c ≡ Some s
+  pub seat_is : seat_of steps s.part.rows ≡ Some x
+  pub row : slice_get s.part.rows x.before ≡ Some x.row
+  pub is : placed_row s x ≡ w
+  pub stands : StandsAt c n s
+  pub at : IsAt c (document_row n c + x.before) w.before w.row w.behind
+  pub rows_are : s.part.rows ≡ take x.before s.part.rows ++ (x.row ∷ drop (suc x.before) s.part.rows)
+
+pub row_found : (n : ℕ) (steps : List Step) (c : Cut) (w : PlacedRow) → row_of_path n steps c ≡ Some w → IsFound n steps c w
+row_found n steps c w e =
+    let s = bind_some (placed_document n c) e in
+    let x = map_some (seat_of steps s.0.part.rows) s.2 in
+    let row = steps_row (line_of steps (lines_of s.0.part.rows)) s.0.part.rows x.0 x.1 in
+    let at = part_at _ n c s.0 s.1 x.0.before x.0.row row in
+    record {
+      s = s.0;
+      x = x.0;
+      document = s.1;
+      seat_is = x.1;
+      row = row;
+      is = x.2;
+      stands = document_stands_at c n s.0 s.1;
+      at = subst (λ (y : PlacedRow). IsAt c (document_row n c + x.0.before) y.before y.row y.behind) x.2 at;
+      rows_are = rows_around s.0.part.rows x.0.before x.0.row row;
+    }
+
+-- the row of an item or entry
+abbrev pub entry_row : PlacedEntry → PlacedRow
+entry_row e = record { before = before_entry e; row = e.row; line = e.line; behind = rows_text e.under (behind_entry e) }
+
+-- a row of a path is that of its item or entry
+pub rows_same : (n : ℕ) (steps : List Step) (c : Cut) → row_of_path n steps c ≡ option_map entry_row (placed_entry n steps c)
+rows_same n steps c = go (placed_document n c)
+  where
+    seated : (d : PlacedPart) (o : Option Seat) → option_map (placed_row d) o ≡ option_map entry_row (option_map (entry_at d) o)
+    seated d None = refl
+    seated d (Some x) =
+        let rs : List Row = drop (suc x.before) d.part.rows in
+        let k : ℕ = under_count x rs in
+        let end : List ℕ = d.part.end ++ d.behind in
+        let split : rows_text rs end ≡ rows_text (take k rs) (rows_text (drop k rs) end) = ap (λ (xs : List Row). rows_text xs end) (sym (take-append-drop k rs)) ∙ rows_text-append (take k rs) (drop k rs) end in
+        ap (λ t. Some (record { before = d.before ++ rows_text (take x.before d.part.rows) []; row = x.row; line = x.line; behind = t })) split
+
+    go : (o : Option PlacedPart) → (o >>= λ d. option_map (placed_row d) (seat_of steps d.part.rows)) ≡ option_map entry_row (o >>= λ d. option_map (entry_at d) (seat_of steps d.part.rows))
+    go None = refl
+    go (Some d) = seated d (seat_of steps d.part.rows)
+
+pub entry_is_row : (n : ℕ) (steps : List Step) (c : Cut) (e : PlacedEntry) → placed_entry n steps c ≡ Some e → row_of_path n steps c ≡ Some (entry_row e)
+entry_is_row n steps c e is = rows_same n steps c ∙ ap (option_map entry_row) is
+
+-- the text of the cut, by that row
+pub found_text : (c : Cut) (i : ℕ) (w : PlacedRow) → IsAt c i w.before w.row w.behind → cut_text c ≡ w.before ++ print_row w.row w.behind
+found_text c i w at = row_place c i w.row at.there ∙ (λ j. at.before_is j ++ print_row w.row (at.behind_is j))
+
+pub cut_is : (c : Cut) → read_at (cut_text c) ≡ Some c → IsCut (cut_text c) c
+unfolding read_at
+cut_is c h = (text_takes (cut_text c) c (guard_then _ h).1).0
+
+-- What is known of such a row in a cut.
+pub record HasRow (w : PlacedRow) : Type 0 where
+  pub limit : Limit
+  pub row : IsRow limit w.row w.behind
+
+pub found_row : (c : Cut) (i : ℕ) (w : PlacedRow) → IsCut (cut_text c) c → IsAt c i w.before w.row w.behind → HasRow w
+found_row c i w cut at = let x = row_in c i true w.row cut.parts at.there in record { limit = x.limit; row = subst (IsRow x.limit w.row) at.behind_is x.row }
+
+-- the text up to the end of the line, and behind
+pub line_whole : (w : PlacedRow) → w.before ++ print_row w.row w.behind ≡ (w.before ++ line_text w.row) ++ ((slices w.row).tail ++ ((slices w.row).raw ++ w.behind))
+line_whole w = ap (λ l. w.before ++ l) (row_line w.row w.behind) ∙ sym (append_assoc w.before (line_text w.row) ((slices w.row).tail ++ ((slices w.row).raw ++ w.behind)))
+
+-- a rest is the end of its line and what is behind
+pub end_parts : (before rest : List ℕ) → rest ≡ (end_before before rest).white ++ ((end_before before rest).comment ++ (end_before before rest).behind)
+end_parts before rest = cut_takes no_white rest ∙ ap (λ x. (text.cut no_white rest).0 ++ x) (cut_takes ends_line (past_white rest))
+
+-- ---- something is written on the line of a row
+
+left_none : (a b : List ℕ) → a ++ b ≡ [] → a ≡ []
+left_none [] b e = refl
+left_none (x ∷ a) b e = absurd (let bad : x ∷ (a ++ b) ≡ [] = e in cc)
+
+no_start : (tail more : List ℕ) → IsTail tail more → Starts (tail ++ more) → ⊥
+no_start tail more h s = let u = line_end_behind h.white h.comment tail more h.line in go h.white u.0 u.1 h.line.blank u.3
+  where
+    go : (w v : List ℕ) → tail ++ more ≡ w ++ v → IsWhite w → (ends_line v || is_hash v) ≡ true → ⊥
+    go (b ∷ w) v e blank f = false≢true (sym (ap not blank.0) ∙ (sym (ap no_white e) ∙ s.no_white))
+    go [] v e blank f = ⊎_elim {0, 0, 0} (λ k. false≢true (sym s.no_end ∙ (ap ends_line e ∙ k))) (λ k. false≢true (sym s.no_hash ∙ (ap is_hash e ∙ k))) (or_cases (ends_line v) (is_hash v) f)
+
+pub line_some : (limit : Limit) (r : Row) (rest : List ℕ) → IsRow limit r rest → IsTail (slices r).tail ((slices r).raw ++ rest) → is_empty (line_text r) ≡ false
+line_some limit r rest h tail = go (cases_Bool (is_empty (line_text r)))
+  where
+    starts : line_text r ≡ [] → Starts ((slices r).tail ++ ((slices r).raw ++ rest))
+    starts e =
+        let first : row_front r ≡ [] = left_none (row_front r) _ e in
+        let gap : r.gap ≡ [] = left_none r.gap (replicate r.column 32 ++ dashes_text r.dashes (mark_text r.mark [])) first in
+        let rest_none : replicate r.column 32 ++ dashes_text r.dashes (mark_text r.mark []) ≡ [] = sym (ap (λ g. g ++ (replicate r.column 32 ++ dashes_text r.dashes (mark_text r.mark []))) gap) ∙ first in
+        let spaces : replicate r.column 32 ≡ [] = left_none (replicate r.column 32) (dashes_text r.dashes (mark_text r.mark [])) rest_none in
+        let whole : behind_indent r rest ≡ (slices r).tail ++ ((slices r).raw ++ rest) =
+        sym (λ i. gap i ++ (spaces i ++ behind_indent r rest)) ∙ (row_line r rest ∙ ap (λ l. l ++ ((slices r).tail ++ ((slices r).raw ++ rest))) e) in
+        subst Starts whole (row_starts limit r rest h)
+
+    go : (is_empty (line_text r) ≡ true) ⊎ (is_empty (line_text r) ≡ false) → is_empty (line_text r) ≡ false
+    go (inr e) = e
+    go (inl e) = absurd (no_start (slices r).tail ((slices r).raw ++ rest) tail (starts (empty_is (line_text r) e)))
+
+-- ---- a path to a line
+
+-- steps that lead to a line end in one
+split_last : (s : Step) (ss : List Step) → (init : List Step) × (l : Step) × (s ∷ ss ≡ init ++ l ∷ [])
+split_last s [] = ([], s, refl)
+split_last s (t ∷ ts) = let x = split_last t ts in (s ∷ x.0, x.1, ap (λ l. s ∷ l) x.2)
+
+pub some_steps : (steps : List Step) (rs : List Row) (x : Seat) → seat_of steps rs ≡ Some x → (init : List Step) × (l : Step) × (steps ≡ init ++ l ∷ [])
+some_steps [] rs x e = absurd (none-some _ e)
+some_steps (s ∷ ss) rs x e = split_last s ss
+
+bare_none : (m : Mark) → m ≡ Bare → (f : Found) (s : Step) (ss : List Step) (y : Option (Found × List Step)) → option_and_then (λ x. found_line x.0 x.1) (bare_or m (Some (f, s ∷ ss)) y) ≡ None
+bare_none m is f s ss y = ap (λ k. option_and_then (λ x. found_line x.0 x.1) (bare_or k (Some (f, s ∷ ss)) y)) is
+
+bare_line : (s : Step) (ss : List Step) (l : Line) (ls : List Line) → l.mark ≡ Bare → line_of (s ∷ ss) (l ∷ ls) ≡ None
+bare_line s [] l ls is = bare_none l.mark is _ s [] _
+bare_line s (t ∷ ts) l ls is = bare_none l.mark is _ s (t ∷ ts) _
+
+no_bare : (s : Step) (ss : List Step) (l : Line) (ls : List Line) (m : Mark) → l.mark ≡ m → (n : ℕ) → line_of (s ∷ ss) (l ∷ ls) ≡ Some n → begins_no_node (l ∷ ls) ≡ true
+no_bare s ss l ls (Key k) is n e = ap is_entry is
+no_bare s ss l ls Dash is n e = ap is_entry is
+no_bare s ss l ls Bare is n e = absurd (none-some _ (sym (bare_line s ss l ls is) ∙ e))
+
+line_is_block : (steps : List Step) (ls : List Line) (n : ℕ) → line_of steps ls ≡ Some n → begins_no_node ls ≡ true
+line_is_block [] ls n e = absurd (none-some _ e)
+line_is_block (s ∷ ss) [] n e = refl
+line_is_block (s ∷ ss) (l ∷ ls) n e = no_bare s ss l ls l.mark refl n e
+
+pub seat_is_block : (steps : List Step) (rs : List Row) (x : Seat) → seat_of steps rs ≡ Some x → begins_no_node (lines_of rs) ≡ true
+seat_is_block steps rs x e = let n = bind_some (line_of steps (lines_of rs)) e in line_is_block steps (lines_of rs) n.0 n.1
+
+-- rows have lines
+row_some : (above : List (List ℕ)) (column : ℕ) (ns : List ℕ) (m : rows.Mark) (c : rows.Content) (more : List Line) → lines_from above column ns m c ++ more ≡ [] → ⊥
+row_some above column [] m c more e = cc
+row_some above column (n ∷ ns) m c more e = cc
+
+pub lines_some : (front : List Row) (r : Row) (back : List Row) → lines_of (front ++ (r ∷ back)) ≡ [] → ⊥
+lines_some [] r back e = row_some _ r.column r.dashes r.mark r.content (lines_of back) e
+lines_some (x ∷ front) r back e = row_some _ x.column x.dashes x.mark x.content (lines_of (front ++ (r ∷ back))) e

@@ -1,0 +1,104 @@
+-- What a key or dash holds spells the text of its rows.
+use Rattle.std.proofs.Common.{◌≡◌, ℕ, Bool, true, false, cond, List, [], ◌∷◌, ◌++◌, Some, None, refl, sym, ap, ◌∙◌, append_assoc, append-nil}
+use Rattle.std.proofs.lemmas.Bool.{false≢true}
+use Rattle.yq_scalar.specs.Paths.{Step}
+use Rattle.yq_scalar.specs.Text.{is_empty}
+use Rattle.yq_inline.specs.Nodes as inline
+use Rattle.yq_rows.specs.Exchange.{row_front}
+use Rattle.yq_rows.specs.Rows.{Content, Nothing, Inline, Block, Row, Cut, cut_text, print_row, rows_text}
+use Rattle.yq_rows.specs.View.{Slices, content_cut, slices}
+use Rattle.yq_tree.specs.CommentPlaces.{LineEnd, end_before, line_text}
+use Rattle.yq_tree.specs.PrintedLines.{last_break, less_break}
+use Rattle.yq_tree.specs.RowPieces.{anchor_before, space_before}
+use Rattle.yq_tree.proofs.PrintedTexts.{less_is}
+use Rattle.yq_tree.proofs.RunSpans.{rows_then}
+use Rattle.yq_edits.proofs.CommentRowLaws.{end_parts, entry_is_row, entry_row, found_text, line_whole, row_found}
+use Rattle.yq_change.specs.StandingLaws.{held_text}
+use Rattle.yq_tree.specs.Standings.{PlacedEntry, before_entry, behind_entry, placed_entry, held}
+
+-- ---- the pieces of a row
+
+nothing_there : (t : List ℕ) → is_empty t ≡ true → t ≡ []
+nothing_there [] e = refl
+nothing_there (b ∷ t) e = absurd (false≢true e)
+
+-- a row without an anchor has no white space behind one
+no_apart : (r : Row) → is_empty (slices r).anchor ≡ true → (slices r).apart ≡ []
+no_apart r = go r.content
+  where
+    go : (x : Content) → is_empty (content_cut x).1 ≡ true → (content_cut x).2 ≡ []
+    go (Nothing tail) e = refl
+    go (Inline space inline.empty tail) e = refl
+    go (Inline space (inline.alias name) tail) e = refl
+    go (Inline space (inline.scalar p) tail) e = refl
+    go (Inline space (inline.coll close gap items) tail) e = refl
+    go (Inline space (inline.anchored name gap node) tail) e = absurd (false≢true e)
+    go (Block space None b) e = refl
+    go (Block space (Some a) b) e = absurd (false≢true e)
+
+-- the text of a line up to its tail: the key or dash with its anchor, the white space behind that, and the head
+pub front_is : (b : List ℕ) (r : Row) → b ++ line_text r ≡ ((b ++ row_front r) ++ anchor_before (slices r)) ++ (space_before (slices r) ++ (slices r).head)
+front_is b r = go (is_empty (slices r).anchor) refl
+  where
+    go : (x : Bool) → is_empty (slices r).anchor ≡ x →
+        b ++ (row_front r ++ ((slices r).space ++ ((slices r).anchor ++ ((slices r).apart ++ (slices r).head))))
+        ≡ ((b ++ row_front r) ++ cond x [] ((slices r).space ++ (slices r).anchor)) ++ (cond x (slices r).space (slices r).apart ++ (slices r).head)
+    go true e =
+        (λ i. b ++ (row_front r ++ ((slices r).space ++ (nothing_there (slices r).anchor e i ++ (no_apart r e i ++ (slices r).head)))))
+        ∙ simp (append_assoc, append-nil) refl
+    go false e = simp append_assoc refl
+
+-- ---- the lines below
+
+no_break : less_break [] ≡ []
+unfolding less_break
+no_break = refl
+
+-- a break, lines and what is behind them: the break goes before lines, or is the last one
+pub below_is : (below t behind : List ℕ) → t ++ (below ++ behind) ≡ cond (is_empty below) [] t ++ (less_break below ++ (cond (is_empty below) t (last_break below) ++ behind))
+below_is [] t behind = sym (ap (λ x. x ++ (t ++ behind)) no_break)
+below_is (b ∷ below) t behind =
+    ap (λ x. t ++ x) (ap (λ x. x ++ behind) (sym (less_is (b ∷ below))) ∙ append_assoc (less_break (b ∷ below)) (last_break (b ∷ below)) behind)
+
+-- ---- an item or entry
+
+module _ (e : PlacedEntry) where
+  abbrev s : Slices
+  s = slices e.row
+
+  abbrev t : LineEnd
+  t = end_before [] (slices e.row).tail
+
+  abbrev below : List ℕ
+  below = (slices e.row).raw ++ rows_text e.under []
+
+  abbrev lead : List ℕ
+  lead = (before_entry e ++ row_front e.row) ++ anchor_before (slices e.row)
+
+  abbrev tail_text : List ℕ
+  tail_text = cond (is_empty below) [] t.behind ++ (less_break below ++ (cond (is_empty below) t.behind (last_break below) ++ behind_entry e))
+
+  -- what is behind the head
+  rest_is : (slices e.row).tail ++ ((slices e.row).raw ++ rows_text e.under (behind_entry e)) ≡ t.white ++ (t.comment ++ tail_text)
+  rest_is =
+      let apart : s.tail ++ (s.raw ++ (rows_text e.under [] ++ behind_entry e)) ≡ s.tail ++ (below ++ behind_entry e) = ap (λ x. s.tail ++ x) (sym (append_assoc s.raw (rows_text e.under []) (behind_entry e))) in
+      let ended : s.tail ++ (below ++ behind_entry e) ≡ t.white ++ (t.comment ++ (t.behind ++ (below ++ behind_entry e))) =
+      ap (λ x. x ++ (below ++ behind_entry e)) (end_parts [] s.tail)
+      ∙ (append_assoc t.white (t.comment ++ t.behind) (below ++ behind_entry e) ∙ ap (λ x. t.white ++ x) (append_assoc t.comment t.behind (below ++ behind_entry e))) in
+      ap (λ x. s.tail ++ (s.raw ++ x)) (rows_then e.under (behind_entry e)) ∙ (apart ∙ (ended ∙ ap (λ x. t.white ++ (t.comment ++ x)) (below_is below t.behind (behind_entry e))))
+
+  -- The pieces of what its key or dash holds spell the text of its rows.
+  pub held_spelled : before_entry e ++ print_row e.row (rows_text e.under (behind_entry e)) ≡ held_text (held e)
+  held_spelled =
+      let rest : List ℕ = t.white ++ (t.comment ++ tail_text) in
+      let apart : (lead ++ (space_before s ++ s.head)) ++ rest ≡ lead ++ (space_before s ++ (s.head ++ rest)) =
+      append_assoc lead (space_before s ++ s.head) rest ∙ ap (λ x. lead ++ x) (append_assoc (space_before s) s.head rest) in
+      line_whole (entry_row e) ∙ ((λ i. front_is (before_entry e) e.row i ++ rest_is i) ∙ apart)
+
+-- ---- the text of a cut
+
+pub cut_spelled : (n : ℕ) (steps : List Step) (c : Cut) (e : PlacedEntry) → placed_entry n steps c ≡ Some e → cut_text c ≡ before_entry e ++ print_row e.row (rows_text e.under (behind_entry e))
+cut_spelled n steps c e is = found_text c _ (entry_row e) (row_found n steps c (entry_row e) (entry_is_row n steps c e is)).at
+
+pub held_there : (n : ℕ) (steps : List Step) (c : Cut) (e : PlacedEntry) → placed_entry n steps c ≡ Some e → cut_text c ≡ held_text (held e)
+held_there n steps c e is = cut_spelled n steps c e is ∙ held_spelled e

@@ -1,0 +1,53 @@
+-- Texts of one line: no line feed stands in them, but perhaps as the last byte.
+use Rattle.std.proofs.Common.{inl, inr, ◌≡◌, ℕ, Bool, true, false, cond, List, [], ◌∷◌, ◌++◌, refl, sym, ap, ◌∙◌}
+use mathlib.Core.List.{head-eq_of_cons-eq, tail-eq_of_cons-eq}
+use Rattle.std.proofs.lemmas.Bool.{false≢true, and_parts}
+use Rattle.yq_scalar.specs.Text.{is_break, is_empty, is_feed, is_line}
+use Rattle.yq_scalar.proofs.BlockPieceLaws.{IsLf}
+use Rattle.yq_scalar.proofs.LineLaws.{is_empty_is}
+use Rattle.yq_rows.specs.Gap.{IsBreak}
+
+-- whether no line feed stands in a text, but perhaps as its last byte
+abbrev pub is_one_line : List ℕ → Bool
+is_one_line [] = true
+is_one_line (b ∷ t) = cond (is_feed b) (is_empty t) (is_one_line t)
+
+pub left_none : (a b : List ℕ) → a ++ b ≡ [] → b ≡ []
+left_none [] b e = e
+left_none (x ∷ a) b e = absurd (let none : x ∷ (a ++ b) ≡ [] = e in cc)
+
+-- what stands behind a line feed in such a text
+pub behind_feed : (u w : List ℕ) → is_one_line (u ++ w) ≡ true → IsLf u → w ≡ []
+behind_feed [] w h lf = absurd (none lf.0 lf.1)
+  where
+    none : (f : List ℕ) → [] ≡ f ++ 10 ∷ [] → ⊥
+    none [] e = cc
+    none (x ∷ f) e = cc
+behind_feed (b ∷ u) w h lf = go (behind_feed u w) (is_feed b) refl
+  where
+    more : is_feed b ≡ false → (f : List ℕ) → b ∷ u ≡ f ++ 10 ∷ [] → IsLf u
+    more e [] is = absurd (false≢true (sym e ∙ ap is_feed (head-eq_of_cons-eq is)))
+    more e (x ∷ f) is = (f, tail-eq_of_cons-eq is)
+
+    go : (is_one_line (u ++ w) ≡ true → IsLf u → w ≡ []) → (x : Bool) → is_feed b ≡ x → w ≡ []
+    go again true e = left_none u w (is_empty_is (u ++ w) (sym (ap (λ x. cond x (is_empty (u ++ w)) (is_one_line (u ++ w))) e) ∙ h))
+    go again false e = again (sym (ap (λ x. cond x (is_empty (u ++ w)) (is_one_line (u ++ w))) e) ∙ h) (more e lf.0 lf.1)
+
+-- ---- ends of lines
+
+-- a byte that is no line feed, in front
+one_more : (b : ℕ) (t : List ℕ) → is_feed b ≡ false → is_one_line t ≡ true → is_one_line (b ∷ t) ≡ true
+one_more b t e h = ap (λ x. cond x (is_empty t) (is_one_line t)) e ∙ h
+
+line_is_one : (t : List ℕ) → is_line t ≡ true → is_one_line t ≡ true
+unfolding is_line
+line_is_one [] h = refl
+line_is_one (b ∷ t) h = go (line_is_one t) (is_feed b) refl
+  where
+    go : (is_line t ≡ true → is_one_line t ≡ true) → (x : Bool) → is_feed b ≡ x → is_one_line (b ∷ t) ≡ true
+    go again true e = ap (λ x. cond x (is_empty t) (is_one_line t)) e ∙ (sym (ap (λ x. cond x (is_empty t) (is_line t)) e) ∙ h)
+    go again false e = one_more b t e (again (sym (ap (λ x. cond x (is_empty t) (is_line t)) e) ∙ h))
+
+pub break_line : (b rest : List ℕ) → IsBreak b rest → is_one_line b ≡ true
+break_line b rest (inl e) = line_is_one b (and_parts (is_break b) (is_line b) e).1
+break_line b rest (inr e) = ap is_one_line e.0

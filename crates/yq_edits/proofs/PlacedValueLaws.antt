@@ -1,0 +1,61 @@
+-- What is put where something stands asks for no more than it writes.
+use Rattle.std.proofs.Common.{◌≡◌, ℕ, Bool, true, false, cond, List, [], ◌∷◌, Some, option_map, refl, sym, ap, ◌∙◌}
+use Rattle.yq_scalar.specs.BlockWritten.{break_text}
+use Rattle.yq_scalar.specs.Paths.{Step}
+use Rattle.yq_scalar.specs.Tree.{Node}
+use Rattle.yq_scalar.specs.declared.style.Place.TheVariants.{Block as InBlock}
+use Rattle.yq_rows.specs.Rows.{Cut}
+use Rattle.yq_tree.specs.NodesAt.{node_in, scalar_in}
+use Rattle.yq_tree.specs.Standings.{Mark, Standing, alone, beside, under, compact, block, root, no_rows, standing_at}
+use Rattle.yq_block.specs.BlockReading.{is_filled}
+use Rattle.yq_block.specs.declared.layout.Layout.{Layout}
+use Rattle.yq_script.specs.Script.{Segment, keep, put}
+use Rattle.yq_edits.specs.ClosedTexts.{is_closed_text, lines_put_behind}
+use Rattle.yq_edits.specs.Layouts.{LooksLike, layout_of}
+use Rattle.yq_edits.specs.ReplaceEdits.{dash_put, has_text, held_put, block_scalar_put, value_put}
+use Rattle.yq_edits.specs.WrittenValues.{collection_at, column_under, inline, lines, lines_in, value_text, written_at, written_below}
+use Rattle.yq_edits.proofs.LayoutLaws.{value_like}
+
+-- ---- a value that isn't a collection with items or entries
+
+module _ (l : Layout) (m : Mark) (v : Node) (none : is_filled v ≡ false) where
+  pub unfilled_at : (old : List ℕ) → written_at l m old v ≡ inline (value_text InBlock old v)
+  unfilled_at old = ap (λ b. cond b (collection_at l m v) (inline (value_text InBlock old v))) none
+
+  pub unfilled_below : written_below l m v ≡ inline (value_text InBlock [] v)
+  unfilled_below = ap (λ b. cond b (lines (lines_in l (column_under l m v) v)) (inline (value_text InBlock [] v))) none
+
+-- ---- layouts
+
+module _ (v : Node) (l k : Layout) (h : LooksLike v l k) where
+  -- as it is written behind a key or dash
+  at_like : (m : Mark) (old : List ℕ) → written_at l m old v ≡ written_at k m old v
+  at_like m old = go (is_filled v) refl
+    where
+      go : (b : Bool) → is_filled v ≡ b → written_at l m old v ≡ written_at k m old v
+      go true is = ap (λ (j : Layout). written_at j m old v) (h.1 is)
+      go false is = unfilled_at l m v is old ∙ sym (unfilled_at k m v is old)
+
+  below_like : (m : Mark) → written_below l m v ≡ written_below k m v
+  below_like m = go (is_filled v) refl
+    where
+      go : (b : Bool) → is_filled v ≡ b → written_below l m v ≡ written_below k m v
+      go true is = ap (λ (j : Layout). written_below j m v) (h.1 is)
+      go false is = unfilled_below l m v is ∙ sym (unfilled_below k m v is)
+
+  -- what is put by one look is what is put by another one that is like it
+  put_like : (text : Bool) (t : Standing) → value_put text l v t ≡ value_put text k v t
+  put_like text (alone w) = refl
+  put_like text (beside held) = λ i. held_put (break_text (h.0 i)) held (at_like held.mark held.head i)
+  put_like text (under held column) = λ i. held_put (break_text (h.0 i)) held (below_like held.mark i)
+  put_like text (compact p) = λ i. dash_put (break_text (h.0 i)) p (at_like p.mark [] i)
+  put_like text (block held indent) = λ i. block_scalar_put text (break_text (h.0 i)) held indent (at_like held.mark [] i) (scalar_in v)
+  put_like text (root w) = λ i. keep w.before ∷ (put w.old (value_like v l k w.column h i) ∷ (keep w.last ∷ (keep w.behind ∷ [])))
+  put_like text (no_rows w) = λ i. keep w.before ∷ (put [] (lines_put_behind (is_closed_text w.before) (break_text (h.0 i)) (value_like v l k 0 h i)) ∷ (keep w.behind ∷ []))
+
+-- a value put where something stands, by a look that is like the document's, and by a text that is asked where it is a matter of that
+pub placed_there : (n : ℕ) (steps : List Step) (v : Node) (c : Cut) (l : Layout) (b : Bool) (t : Standing) (ss : List Segment) → Some t ≡ standing_at n steps c → LooksLike v l (layout_of n c) →
+    ((k : Layout) → value_put b k v t ≡ value_put (has_text (node_in n steps c)) k v t) → ss ≡ value_put b l v t →
+    option_map (value_put (has_text (node_in n steps c)) (layout_of n c) v) (standing_at n steps c) ≡ Some ss
+placed_there n steps v c l b t ss found like asked is =
+    ap (option_map (value_put (has_text (node_in n steps c)) (layout_of n c) v)) (sym found) ∙ ap Some (sym (asked (layout_of n c)) ∙ (sym (put_like v l (layout_of n c) like b t) ∙ sym is))

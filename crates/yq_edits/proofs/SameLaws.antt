@@ -1,0 +1,44 @@
+-- Scalars that are tested to be equal are.
+use Rattle.std.proofs.Common.{◌≡◌, true, eqb, refl, eqb-true}
+use Rattle.std.proofs.lemmas.Bool.{and_parts}
+use Rattle.std.proofs.lemmas.Slice.Eq.{bytes_eq-Decides}
+use Rattle.std.specs.Str.{bytes_eq}
+use Rattle.yq_scalar.specs.Scalar.{ScalarText}
+use Rattle.yq_scalar.specs.declared.kind.Kind.{Kind}
+use Rattle.yq_scalar.specs.declared.kind.Kind.TheVariants as kinds
+use Rattle.yq_edits.specs.Style.{table_row, is_same}
+
+same_kind : (a b : Kind) → table_row a ≡ table_row b → a ≡ b
+same_kind kinds.Null kinds.Null h = refl
+same_kind kinds.Null kinds.Bool h = absurd (cc)
+same_kind kinds.Null kinds.Int h = absurd (cc)
+same_kind kinds.Null kinds.Float h = absurd (cc)
+same_kind kinds.Null kinds.Text h = absurd (cc)
+same_kind kinds.Bool kinds.Null h = absurd (cc)
+same_kind kinds.Bool kinds.Bool h = refl
+same_kind kinds.Bool kinds.Int h = absurd (cc)
+same_kind kinds.Bool kinds.Float h = absurd (cc)
+same_kind kinds.Bool kinds.Text h = absurd (cc)
+same_kind kinds.Int kinds.Null h = absurd (cc)
+same_kind kinds.Int kinds.Bool h = absurd (cc)
+same_kind kinds.Int kinds.Int h = refl
+same_kind kinds.Int kinds.Float h = absurd (cc)
+same_kind kinds.Int kinds.Text h = absurd (cc)
+same_kind kinds.Float kinds.Null h = absurd (cc)
+same_kind kinds.Float kinds.Bool h = absurd (cc)
+same_kind kinds.Float kinds.Int h = absurd (cc)
+same_kind kinds.Float kinds.Float h = refl
+same_kind kinds.Float kinds.Text h = absurd (cc)
+same_kind kinds.Text kinds.Null h = absurd (cc)
+same_kind kinds.Text kinds.Bool h = absurd (cc)
+same_kind kinds.Text kinds.Int h = absurd (cc)
+same_kind kinds.Text kinds.Float h = absurd (cc)
+same_kind kinds.Text kinds.Text h = refl
+
+-- scalars that are tested to be equal are
+pub same_is : (a b : ScalarText) → is_same a b ≡ true → a ≡ b
+same_is a b h =
+    let p = and_parts (eqb (table_row a.kind) (table_row b.kind)) (bytes_eq a.text b.text) h in
+    let kind : a.kind ≡ b.kind = same_kind a.kind b.kind (eqb-true (table_row a.kind) (table_row b.kind) p.0) in
+    let text : a.text ≡ b.text = (bytes_eq-Decides a.text b.text).0 p.1 in
+    λ i. record { kind = kind i; text = text i }

@@ -1,0 +1,65 @@
+-- The text at the end of a line, in pieces that can be read.
+use Rattle.std.proofs.Common.{◌≡◌, ◌⊎◌, inl, inr, ⊎_elim, ℕ, true, false, eqb, List, [], ◌∷◌, ◌++◌, length, refl, sym, ap, ◌∙◌, subst, append_assoc}
+use Rattle.std.proofs.Math.Seq.{take-append_seam}
+use Rattle.std.proofs.lemmas.Bool.{false≢true, or_cases, eqb-true, and_parts, cases_Bool}
+use Rattle.std.proofs.lemmas.Str.{IsUtf8-take}
+use Rattle.std.specs.Str.{IsUtf8}
+use Rattle.yq_scalar.specs.Characters.{pairs_returns}
+use Rattle.yq_scalar.specs.Text.{front, is_feed, is_return, ends_line, NoneIn}
+use Rattle.yq_scalar.proofs.WrittenText.{is_shown}
+use Rattle.yq_rows.specs.Gap.{IsWhite}
+use Rattle.yq_rows.specs.Grammar.{IsTail, IsRow, Limit}
+use Rattle.yq_rows.specs.Rows.{print_row}
+use Rattle.yq_rows.specs.View.{slices}
+use Rattle.yq_rows.proofs.CharacterLaws.{pairs_back}
+use Rattle.yq_rows.proofs.LineEnds.{white_none}
+use Rattle.yq_rows.proofs.NodePieces.{before_ascii, tail_ascii}
+use Rattle.yq_rows.proofs.seams.ScalarSeams.{ends_return}
+use Rattle.yq_tree.specs.CommentPlaces.{line_text}
+use Rattle.yq_tree.specs.PlacedRows.{PlacedRow}
+use Rattle.yq_change.specs.TextPieces.{IsPiece}
+use Rattle.yq_change.proofs.LineFrontLaws.{ends_more, clean_cut, line_ends_clean}
+use Rattle.yq_edits.proofs.CommentPieceLaws.{nothing, byte_then}
+use Rattle.yq_edits.proofs.CommentRowLaws.{line_whole, line_some}
+
+none_clean : (c rest : List ℕ) → NoneIn ends_line c rest → front is_feed rest ≡ true → ends_return c ≡ false
+none_clean [] rest h f = refl
+none_clean (b ∷ []) rest h f = go (cases_Bool (is_return b))
+  where
+    go : (is_return b ≡ true) ⊎ (is_return b ≡ false) → is_return b ≡ false
+    go (inr e) = e
+    go (inl e) = absurd (false≢true (sym h.0 ∙ rw (e, f) (Rattle.std.proofs.lemmas.Bool.or_right (is_feed b) true refl)))
+none_clean (b ∷ (d ∷ c)) rest h f = none_clean (d ∷ c) rest h.1 f
+
+pub white_piece : (w : List ℕ) → IsWhite w → IsPiece w
+white_piece [] h = nothing
+white_piece (b ∷ w) h = ⊎_elim {0, 0, 0} (λ (e : eqb b 32 ≡ true). byte_then b w (ap is_shown (eqb-true b 32 e)) (white_piece w h.1)) (λ e. byte_then b w (ap is_shown (eqb-true b 9 e)) (white_piece w h.1)) (or_cases (eqb b 32) (eqb b 9) h.0)
+
+-- What is known of the pieces of the text at the end of a line.
+pub record HasPieces (w : PlacedRow) (tail more : List ℕ) (h : IsTail tail more) : Type 0 where
+  pub before : IsPiece (w.before ++ line_text w.row)
+  pub white : IsPiece h.white
+  pub line : IsPiece (h.white ++ h.comment)
+  pub behind : IsPiece (h.line.break ++ more)
+
+front_utf8 : (a b : List ℕ) → IsPiece (a ++ b) → Rattle.yq_rows.proofs.NodePieces.BeginsAscii b → IsUtf8 a
+front_utf8 a b h k = subst IsUtf8 (take-append_seam a b) (IsUtf8-take (a ++ b) (length a) h.utf8 (before_ascii a b k))
+
+pub pieces : (w : PlacedRow) (limit : Limit) → IsRow limit w.row w.behind → IsPiece (w.before ++ print_row w.row w.behind) → (h : IsTail (slices w.row).tail ((slices w.row).raw ++ w.behind)) → HasPieces w (slices w.row).tail ((slices w.row).raw ++ w.behind) h
+pieces w limit row whole h =
+    let tail : List ℕ = (slices w.row).tail in
+    let more : List ℕ = (slices w.row).raw ++ w.behind in
+    let front_text : List ℕ = w.before ++ line_text w.row in
+    let line : List ℕ = h.white ++ h.comment in
+    let behind : List ℕ = h.line.break ++ more in
+    let text : IsPiece (front_text ++ (tail ++ more)) = subst IsPiece (line_whole w) whole in
+    let pairs : pairs_returns (print_row w.row w.behind) ≡ true = pairs_back w.before (print_row w.row w.behind) (and_parts _ (pairs_returns (w.before ++ print_row w.row w.behind)) whole.characters).1 in
+    let first = clean_cut front_text (tail ++ more) text (front_utf8 front_text (tail ++ more) text (tail_ascii tail more h))
+    (λ f. ends_more w.before (line_text w.row) (line_some limit w.row w.behind row h) ∙ line_ends_clean limit w.row w.behind row pairs f) in
+    let split : tail ++ more ≡ line ++ behind =
+    ap (λ l. l ++ more) (h.line.spelled ∙ sym (append_assoc h.white h.comment h.line.break)) ∙ append_assoc line h.line.break more in
+    let rest : IsPiece (line ++ behind) = subst IsPiece split first.1 in
+    let ends : IsTail h.line.break more = record { white = []; comment = []; line = record { break = h.line.break; spelled = refl; blank = tt; remark = tt; ends = h.line.ends }; apart = refl } in
+    let none : NoneIn ends_line line behind = white_none h.white h.comment behind h.line.blank (Rattle.yq_tree.proofs.LineEndLaws.comment_more h.comment h.line.break more h.line.remark h.line.ends) in
+    let second = clean_cut line behind rest (front_utf8 line behind rest (tail_ascii h.line.break more ends)) (λ f. none_clean line behind none f) in
+    record { before = first.0; white = white_piece h.white h.line.blank; line = second.0; behind = second.1 }

@@ -1,0 +1,55 @@
+-- The text of a value that is written on one line is that of its inline node.
+use Rattle.std.proofs.Common.{◌≡◌, ℕ, ◌≤◌, Bool, true, false, cond, List, [], Option, eqb, refl, append-nil}
+use Rattle.yq_scalar.specs.Keys.{depth}
+use Rattle.yq_scalar.specs.Scalar.{ScalarText}
+use Rattle.yq_scalar.specs.Text.{front}
+use Rattle.yq_scalar.specs.Tree as tree
+use Rattle.yq_scalar.specs.Tree.{Node}
+use Rattle.yq_scalar.specs.Writable.{can_write}
+use Rattle.yq_scalar.specs.Written.{written, IsInline}
+use Rattle.yq_scalar.specs.declared.style.Place.TheVariants.{Block}
+use Rattle.yq_scalar.specs.declared.style.Style.{Style}
+use Rattle.yq_scalar.specs.declared.style.Style.TheVariants as styles
+use Rattle.yq_inline.specs.Inline.{depth_limit}
+use Rattle.yq_inline.specs.Nodes as inline
+use Rattle.yq_inline.specs.Nodes.{node_text}
+use Rattle.yq_inline.specs.Scalars.{style_of}
+use Rattle.yq_inline.specs.Written.{flow_of}
+use Rattle.yq_flow.specs.Valued.{IsValueTree}
+use Rattle.yq_change.specs.InlineRows.{IsValueNode}
+use Rattle.yq_change.specs.TextPieces.{IsPiece}
+use Rattle.yq_meaning.specs.Changes.{has_long_key}
+use Rattle.yq_edits.specs.Style.{style_in}
+use Rattle.yq_edits.specs.WrittenValues.{value_text}
+use Rattle.yq_edits.proofs.StyleLaws.{style_writes, style_inline}
+use Rattle.yq_edits.proofs.ValueNodes.{scalar_is, list_is, map_is, flow_piece}
+
+-- A text that is written inline for a value, by its node.
+pub record IsWrittenFor (v : Node) (t : List ℕ) : Type 0 where
+  pub node : inline.Node
+  pub is : IsValueNode v node
+  pub text : node_text node [] ≡ t
+  pub piece : IsPiece t
+
+pub style_line : (p : List ℕ) → IsInline (style_of p)
+style_line p = go (front (λ b. eqb b 39) p) (front (λ b. eqb b 34) p)
+  where
+    go : (a b : Bool) → IsInline (cond a styles.Single (cond b styles.Double styles.Plain))
+    go true b = tt
+    go false true = tt
+    go false false = tt
+
+pub scalar_for : (a : Option (List ℕ)) (s : ScalarText) (style : Style) → IsValueTree (tree.scalar a s.kind s.text) → IsInline style → can_write s style Block ≡ true → IsWrittenFor (tree.scalar a s.kind s.text) (written style s.text)
+unfolding node_text
+scalar_for a s style h i can =
+    let w = scalar_is a s.kind s.text style h i can in
+    record { node = inline.scalar (written style s.text); is = w.0; text = append-nil (written style s.text); piece = w.1 }
+
+-- in the place of any text
+pub value_for : (old : List ℕ) (v : Node) → IsValueTree v → depth v ≤ depth_limit → has_long_key v ≡ false → IsWrittenFor v (value_text Block old v)
+value_for old (tree.alias name) h deep long = absurd h
+value_for old (tree.scalar a kind text) h deep long =
+    let s : ScalarText = record { kind = kind; text = text } in
+    scalar_for a s (style_in Block s (style_of old)) h (style_inline Block s (style_of old) (style_line old)) (style_writes Block s (style_of old))
+value_for old (tree.list a cs) h deep long = record { node = flow_of (tree.list a cs); is = list_is a cs h deep long; text = refl; piece = flow_piece (tree.list a cs) h }
+value_for old (tree.map a cs) h deep long = record { node = flow_of (tree.map a cs); is = map_is a cs h deep long; text = refl; piece = flow_piece (tree.map a cs) h }

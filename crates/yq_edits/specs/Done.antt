@@ -1,0 +1,42 @@
+-- One document of a text in the place of another, as an operation makes it (own).
+use Rattle.std.specs.Prelude.{◌≡◌, ℕ, ◌≤◌, List, [], ◌∷◌, length, slice_get, Some, ⊤}
+use Rattle.yq_scalar.specs.Characters.{text_limit}
+use Rattle.yq_scalar.specs.Tree.{Node}
+use Rattle.yq_rows.specs.Rows.{Part, Cut, cut_text}
+use Rattle.yq_documents.specs.Documents.{document_parts, lead_of}
+use Rattle.yq_documents.specs.Reading.{read_at, root_of}
+use Rattle.yq_tree.specs.RowPaths.{IsReadable}
+use Rattle.yq_change.specs.Changed.{IsChanged, KeepsRows, put_document}
+use Rattle.yq_change.specs.Rooms.{is_block_root, LeadGoes, SameSeats}
+use Rattle.yq_change.specs.TextPieces.{IsPiece}
+use Rattle.yq_meaning.specs.After.{document_of, root_after}
+use Rattle.yq_meaning.specs.Operations.{Operation}
+use Rattle.yq_meaning.specs.RoomsKept.{KeepsBlock, SetsComment}
+use Rattle.yq_script.specs.Script.{Segment, keep, put, new_text}
+use Rattle.yq_edits.specs.ReadsAfter.{ReadsAfter}
+
+-- The document of an operation has part p, and with part q for it the text reads so that this document is as the operation makes it (own).
+pub record IsDone (op : Operation) (c : Cut) (p q : Part) (lead : List (List ℕ)) (f : Node → Node) : Type 0 where
+  pub read : read_at (cut_text c) ≡ Some c
+  pub there : slice_get (document_parts c) (document_of op) ≡ Some p
+  pub rows : KeepsRows p q
+  pub changed : IsChanged c (put_document (document_of op) q c) (document_of op) lead f
+  pub root : f (root_of p) ≡ root_after (is_block_root p) (lead_of p) op (root_of p)
+  pub lead_goes : LeadGoes p q
+  pub block : KeepsBlock op (root_of q) → is_block_root q ≡ is_block_root p
+  pub seats : SetsComment op → SameSeats p q
+
+-- A text whose document is so done reads as the documents after the operation (own).
+abbrev pub DocumentDone : Type 0
+DocumentDone = (op : Operation) (c : Cut) (p q : Part) (lead : List (List ℕ)) (f : Node → Node) →
+    IsDone op c p q lead f → ReadsAfter op c (cut_text (put_document (document_of op) q c))
+
+-- what segments keep and put in are pieces of texts (own)
+abbrev pub ArePieces : List Segment → Type 0
+ArePieces [] = ⊤
+ArePieces (keep t ∷ ss) = IsPiece t × ArePieces ss
+ArePieces (put o w ∷ ss) = IsPiece w × ArePieces ss
+
+-- What such segments make of a text may be read, if it isn't too long (own).
+abbrev pub SegmentsReadable : Type 0
+SegmentsReadable = (ss : List Segment) → ArePieces ss → length (new_text ss) ≤ text_limit → IsReadable (new_text ss)

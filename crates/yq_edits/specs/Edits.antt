@@ -1,0 +1,61 @@
+-- What each operation exchanges, by its kind and by what stands at its place: the tables of docs/STYLE-AND-EXTENTS.md (own).
+use Rattle.std.specs.Option.{option_or}
+use Rattle.std.specs.Prelude.{ℕ, List, [], ◌∷◌, Option, Some, None, option_map, if◌then◌else◌}
+use Rattle.yq_scalar.specs.Answers.{◌>>=◌}
+use Rattle.yq_scalar.specs.Paths.{Step}
+use Rattle.yq_scalar.specs.Tree.{Node, alias, scalar, list, map, none}
+use Rattle.yq_rows.specs.Rows.{Cut, cut_text}
+use Rattle.yq_tree.specs.FlowNodes.{flow_collection}
+use Rattle.yq_tree.specs.NodesAt.{node_in}
+use Rattle.yq_tree.specs.RemovalPlaces.{has_others_at}
+use Rattle.yq_tree.specs.Standings.{flow_standing, last_step}
+use Rattle.yq_meaning.specs.Operations.{Operation, replace, append, remove, line_comment, head_comment}
+use Rattle.yq_script.specs.Script.{Segment, keep}
+use Rattle.yq_edits.specs.CommentEdits.{head_comment_at, line_comment_at}
+use Rattle.yq_edits.specs.EntryEdits.{more_at, one_removed}
+use Rattle.yq_edits.specs.FlowParts.{flow_more, flow_put, flow_removed}
+use Rattle.yq_edits.specs.ReplaceEdits.{value_put_at}
+use Rattle.yq_edits.specs.Replacing.{is_kept}
+
+-- Replace: an equal scalar leaves the bytes alone; else by what stands there outside flow collections, or by the part of one
+abbrev pub replaced : ℕ → List Step → Node → Cut → Option (List Segment)
+replaced n steps v c =
+    if is_kept (node_in n steps c) v then Some (keep (cut_text c) ∷ [])
+    else option_or (value_put_at n steps v c) (option_map (flow_put (cut_text c) v) (flow_standing n c (last_step steps)))
+
+-- Append: rows behind those of a block collection, or else a part more in a flow collection
+abbrev pub appended : ℕ → List Step → Option (List ℕ) → Node → Cut → Option (List Segment)
+appended n steps key v c = option_or (more_at n steps c key v) (flow_collection n steps c >>= flow_more (cut_text c) key v)
+
+-- the empty collection of the kind of a collection
+abbrev pub emptied : Node → Option Node
+emptied (alias name) = None
+emptied (scalar anchor kind text) = None
+emptied (list anchor cs) = Some (list None none)
+emptied (map anchor cs) = Some (map None none)
+
+-- a sole item or entry, in block or in flow: `[]` or `{}` is put in the place of its collection (7.4, 8.2)
+abbrev pub sole_removed : ℕ → Cut → Option (List Step × Step) → Option (List Segment)
+sole_removed n c None = None
+sole_removed n c (Some x) = node_in n x.0 c >>= emptied >>= λ v. replaced n x.0 v c
+
+-- one of several, of a block collection or of a flow collection
+abbrev pub several_removed : ℕ → List Step → Cut → Option (List Segment)
+several_removed n steps c = option_or (one_removed n steps c) (option_map (flow_removed (cut_text c)) (flow_standing n c (last_step steps)))
+
+-- Remove: one of several, or a sole one
+abbrev pub removed : ℕ → List Step → Cut → Option (List Segment)
+removed n steps c = if has_others_at n steps c then several_removed n steps c else sole_removed n c (last_step steps)
+
+-- each operation, by its kind
+abbrev pub edits : Operation → Cut → Option (List Segment)
+edits (replace n steps v) c = replaced n steps v c
+edits (append n steps key v) c = appended n steps key v c
+edits (remove n steps) c = removed n steps c
+edits (line_comment n steps text) c = line_comment_at n steps c text
+edits (head_comment n steps text) c = head_comment_at n steps c text
+
+-- where there is nothing to exchange, as for no operation that fits, the text stays
+abbrev pub or_stay : Cut → Option (List Segment) → List Segment
+or_stay c None = keep (cut_text c) ∷ []
+or_stay c (Some ss) = ss

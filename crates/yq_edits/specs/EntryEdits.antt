@@ -1,0 +1,60 @@
+-- Append and Remove: what is exchanged, by what stands at the place (YAML 1.2.2, 8.2; own).
+use Rattle.std.specs.Option.{option_or}
+use Rattle.std.specs.Prelude.{ℕ, not, List, [], ◌∷◌, ◌++◌, replicate, Option, Some, None, option_map}
+use Rattle.yq_scalar.specs.Answers.{◌>>=◌}
+use Rattle.yq_scalar.specs.BlockWritten.{break_text}
+use Rattle.yq_scalar.specs.Paths.{Step}
+use Rattle.yq_scalar.specs.Text.{is_empty}
+use Rattle.yq_scalar.specs.Tree.{Node}
+use Rattle.yq_rows.specs.Rows.{Cut}
+use Rattle.yq_tree.specs.FirstPlaces.{first_removal}
+use Rattle.yq_tree.specs.RemovalPlaces.{removal_place}
+use Rattle.yq_tree.specs.Standings.{Held, Standing, alone, beside, under, compact, block, root, no_rows, standing_at}
+use Rattle.yq_block.specs.declared.layout.Layout.{Layout}
+use Rattle.yq_block.specs.Alone as single
+use Rattle.yq_block.specs.BlockText.{block_value}
+use Rattle.yq_script.specs.Script.{Segment, keep, put}
+use Rattle.yq_edits.specs.ClosedTexts.{lines_put_behind}
+use Rattle.yq_edits.specs.Layouts.{layout_of}
+use Rattle.yq_edits.specs.Removing.{rows_removed}
+use Rattle.yq_edits.specs.RemovingFirst.{first_removed}
+
+-- ---- Append
+
+-- an item or entry on lines that begin at a column, up to its last break (8.2)
+abbrev pub entry_lines : Layout → ℕ → Option (List ℕ) → Node → List ℕ
+entry_lines l column key v = replicate column 32 ++ block_value l column (single.alone key v)
+
+-- the lines of one more item or entry behind the last line of a block collection, with a break behind them, or in front where that line has none (8.2)
+abbrev pub more_lines : Layout → Option (List ℕ) → Node → ℕ → List ℕ → List ℕ
+more_lines l key v column last = lines_put_behind (not (is_empty last)) (break_text l.br) (entry_lines l column key v)
+
+-- these lines put behind what a key or dash holds
+abbrev pub behind_held : Held → List ℕ → List Segment
+behind_held h new =
+    keep h.before ∷ (keep h.space ∷ (keep h.head ∷ (keep h.white ∷ (keep h.comment ∷
+    (keep h.break ∷ (keep h.lines ∷ (keep h.last ∷ (put [] new ∷ (keep h.behind ∷ [])))))))))
+
+-- these lines put behind a text and the break that ends it, if one does
+abbrev pub behind_lines : (before old last new behind : List ℕ) → List Segment
+behind_lines before old last new behind = keep before ∷ (keep old ∷ (keep last ∷ (put [] new ∷ (keep behind ∷ []))))
+
+-- one more item or entry at the end of what stands there, if that is a block collection (8.2)
+abbrev pub more_put : Layout → Option (List ℕ) → Node → Standing → Option (List Segment)
+more_put l key v (alone w) = None
+more_put l key v (beside h) = None
+more_put l key v (under h column) = Some (behind_held h (more_lines l key v column h.last))
+more_put l key v (compact p) = Some (behind_lines p.before p.old p.last (more_lines l key v p.column p.last) p.behind)
+more_put l key v (block h indent) = None
+more_put l key v (root w) = Some (behind_lines w.before w.old w.last (more_lines l key v w.column w.last) w.behind)
+more_put l key v (no_rows w) = None
+
+-- the same where steps lead in document n
+abbrev pub more_at : ℕ → List Step → Cut → Option (List ℕ) → Node → Option (List Segment)
+more_at n steps c key v = standing_at n steps c >>= more_put (layout_of n c) key v
+
+-- ---- Remove
+
+-- one of several items or entries of a block collection taken out: with its rows, if it begins one; else it is the first one of a compact collection (8.2)
+abbrev pub one_removed : ℕ → List Step → Cut → Option (List Segment)
+one_removed n steps c = option_or (option_map rows_removed (removal_place n steps c)) (option_map first_removed (first_removal n steps c))

@@ -1,0 +1,117 @@
+//! Replace, outside flow collections: a value in the place of what stands there.
+ghost use Rattle.std.specs.List.{list_any};
+ghost use Rattle.std.specs.Prelude.{◌≡◌, IfOk, not};
+ghost use Rattle.yq_inline.specs.Values.{node_of};
+ghost use Rattle.yq_scalar.specs.Tree.{Node as NodeOf};
+ghost use Rattle.yq_scalar.specs.Text.{is_feed};
+ghost use Rattle.yq_documents.specs.Located.{steps_of};
+ghost use Rattle.yq_documents.specs.Reading.{cut_of};
+ghost use Rattle.yq_tree.specs.NodesAt.{node_in};
+ghost use Rattle.yq_tree.specs.StandingTelling.{standing_told};
+ghost use Rattle.yq_block.specs.declared.layout.Layout.{Layout as LayoutOf};
+ghost use Rattle.yq_edits.specs.ReplaceEdits as spec;
+ghost use Rattle.yq_edits.specs.Answers.{Carries};
+
+mod block;
+mod held;
+mod lone;
+
+use crate::layout::layout_for;
+use block::block_scalar_put;
+use held::{beside_put, dash_put, under_put};
+use lone::{first_put, lone_put, root_put};
+use std::alloc::{AllocError, Global};
+use yq_block::Layout;
+use yq_inline::Value;
+use yq_script::Segments;
+use yq_tree::{CutText, Path, Standing};
+
+/// A value in the place of what stands there; `has_text` tells of a block scalar whether it has a
+/// text line.
+fn value_put<'t>(
+    alloc: Global,
+    has_text: bool,
+    layout: &Layout,
+    value: &Value,
+    standing: &Standing<'t>,
+) -> Result<Segments<'t>, AllocError>
+    ensures { IfOk result (λ ss. ss ≡
+        spec.value_put has_text layout.now (node_of value.now) (standing_told standing.now)) }
+{
+    match standing {
+        Standing::Alone(lone) => lone_put(alloc, lone, value),
+        Standing::Beside(held) => beside_put(alloc, layout, held, value),
+        Standing::Under(held, _) => under_put(alloc, layout, held, value),
+        Standing::Compact(compact) => dash_put(alloc, layout, compact, value),
+        Standing::Block(held, indent) => {
+            block_scalar_put(alloc, has_text, layout, held, *indent, value)
+        }
+        Standing::Root(root) => root_put(alloc, layout, root, value),
+        Standing::NoRows(place) => first_put(alloc, layout, place, value),
+    }
+}
+
+/// Whether a text holds more than line breaks.
+fn holds_text(text: &str) -> bool
+    ensures { result ≡ list_any (λ b. not (is_feed b)) text.now }
+{
+    text.as_bytes().iter().any(|b| *b != b'\n')
+}
+
+/// Whether the node at a path, if one is there, is a scalar that holds more than line breaks.
+fn has_text(alloc: Global, cut: &CutText<'_, '_>, path: &Path) -> Result<bool, AllocError>
+    ensures { IfOk result (λ b. b ≡
+        spec.has_text (node_in path.now.doc (steps_of path.now) (cut_of cut.now))) }
+{
+    let found = cut.scalar_at(alloc, path)?;
+    let Some((_, old)) = found else {
+        return Ok(false);
+    };
+    Ok(holds_text(old.text()))
+}
+
+/// Whether the block scalar at a path has a text line, if one stands there; elsewhere nothing asks
+/// for it.
+fn text_there(
+    alloc: Global,
+    cut: &CutText<'_, '_>,
+    path: &Path,
+    standing: &Standing<'_>,
+) -> Result<bool, AllocError>
+    ensures { IfOk result (λ b. (l : LayoutOf) (v : NodeOf) →
+        spec.value_put b l v (standing_told standing.now) ≡
+        spec.value_put (spec.has_text (node_in path.now.doc (steps_of path.now) (cut_of cut.now)))
+        l v (standing_told standing.now)) }
+{
+    match standing {
+        Standing::Block(_, _) => has_text(alloc, cut, path),
+        Standing::Alone(_) => Ok(false),
+        Standing::Beside(_) => Ok(false),
+        Standing::Under(_, _) => Ok(false),
+        Standing::Compact(_) => Ok(false),
+        Standing::Root(_) => Ok(false),
+        Standing::NoRows(_) => Ok(false),
+    }
+}
+
+/// A value in the place of what stands at a path; `None` where nothing stands there outside flow
+/// collections.
+///
+/// # Errors
+/// [`AllocError`] where memory is refused.
+pub fn value_put_at<'t>(
+    alloc: Global,
+    cut: &CutText<'_, 't>,
+    path: &Path,
+    value: &Value,
+) -> Result<Option<Segments<'t>>, AllocError>
+    ensures { Carries result (spec.value_put_at path.now.doc (steps_of path.now) (node_of value.now)
+        (cut_of cut.now)) }
+{
+    let Some(standing) = cut.standing(path) else {
+        return Ok(None);
+    };
+    let layout = layout_for(cut, path.doc, value);
+    let text = text_there(alloc, cut, path, &standing)?;
+    Ok(Some(value_put(alloc, text, &layout, value, &standing)?))
+}

@@ -1,0 +1,2 @@
+pub mod EditPlaces
+pub mod Emptying

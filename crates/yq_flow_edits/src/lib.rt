@@ -1,0 +1,15 @@
+//! Edits of flow collections; and the empty collection that is put in the place of one whose sole
+//! item or entry is removed.
+#![tactic(auto)]
+
+mod append;
+mod edit;
+pub mod laws;
+mod put;
+mod remove;
+mod sole;
+
+pub use append::append_in_flow;
+pub use put::put_in_flow;
+pub use remove::remove_in_flow;
+pub use sole::{EmptyPut, emptying};

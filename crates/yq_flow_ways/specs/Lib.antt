@@ -1,2 +1,0 @@
-pub mod FlowWays
-pub mod SoleRemoving

@@ -1,0 +1,15 @@
+pub mod RootRows
+pub mod RootValues
+pub mod RootReadLaws
+pub mod RootFits
+pub mod SameDocuments
+pub mod ClosedTexts
+pub mod StandingRoots
+pub mod FirstRows
+pub mod BlockRootLaws
+pub mod UnwrittenRootLaws
+pub mod OpenGapLaws
+pub mod OpenMarkerLaws
+pub mod OpenRootLaws
+pub mod RootEditLaws
+pub mod RootLocalLaws

@@ -1,0 +1,98 @@
+-- Where a block collection stands that is a root, or no rows.
+use Rattle.std.proofs.Common.{◌≡◌, ℕ, List, [], ◌∷◌, ◌++◌, Some, Bool, true, false, cond, refl, sym, ap, ◌∙◌}
+use Rattle.std.proofs.lemmas.Bool.{false≢true}
+use Rattle.std.specs.Prelude.{◌==◌, length}
+use Rattle.yq_scalar.specs.Paths.{Step}
+use Rattle.yq_scalar.specs.Text.{is_empty}
+use Rattle.yq_rows.specs.Rows as rows
+use Rattle.yq_rows.specs.Rows.{Content, Nothing, Inline, Row, print_row, rows_text, Cut}
+use Rattle.yq_rows.specs.View.{slices}
+use Rattle.yq_tree.specs.PlacedRows.{PlacedPart, placed_document}
+use Rattle.yq_tree.specs.Standings.{BlockRoot, NoRows, PlacedEntry, Standing, alone, beside, under, compact, block, root, no_rows, behind_mark, below, block_root, compact_in, entry_standing, held, is_alone, lone, before_entry, behind_entry, placed_entry, root_standing, standing_at}
+use Rattle.yq_tree.proofs.PlacedPartLaws.{map_some}
+
+-- whether what stands somewhere is a root that is a block collection, or no rows
+abbrev is_root : Standing → Bool
+is_root (alone w) = false
+is_root (beside h) = false
+is_root (under h column) = false
+is_root (compact p) = false
+is_root (block h indent) = false
+is_root (root w) = true
+is_root (no_rows w) = true
+
+-- nothing of that kind stands at an item or entry
+below_other : (e : PlacedEntry) (rs : List Row) → is_root (below e rs) ≡ false
+below_other e [] = refl
+below_other e (r ∷ rs) = go (is_alone r)
+  where
+    go : (b : Bool) → is_root (cond b (alone (lone (before_entry e ++ print_row e.row []) r (rows_text rs (behind_entry e)))) (under (held e) r.column)) ≡ false
+    go true = refl
+    go false = refl
+
+behind_other : (e : PlacedEntry) (x : Content) → is_root (behind_mark e x) ≡ false
+behind_other e (Nothing tail) = below_other e e.under
+behind_other e (Inline space node tail) = go (is_empty (slices e.row).head)
+  where
+    go : (b : Bool) → is_root (cond b (below e e.under) (beside (held e))) ≡ false
+    go true = below_other e e.under
+    go false = refl
+behind_other e (rows.Block space anchor b) = refl
+
+entry_other : (e : PlacedEntry) → is_root (entry_standing e) ≡ false
+entry_other e = go (e.line == length e.row.dashes)
+  where
+    go : (b : Bool) → is_root (cond b (behind_mark e e.row.content) (compact (compact_in e))) ≡ false
+    go true = behind_other e e.row.content
+    go false = refl
+
+-- no steps lead to what is of that kind
+root_found : (n : ℕ) (steps : List Step) (c : Cut) (t : Standing) → standing_at n steps c ≡ Some t → is_root t ≡ true → (steps ≡ []) × (d : PlacedPart) × (placed_document n c ≡ Some d) × (root_standing d d.part.rows ≡ t)
+root_found n [] c t at is = let x = map_some (λ (d : PlacedPart). root_standing d d.part.rows) (placed_document n c) t at in (refl, x.0, x.1, x.2)
+root_found n (s ∷ ss) c t at is = let x = map_some entry_standing (placed_entry n (s ∷ ss) c) t at in absurd (false≢true (sym (entry_other x.0) ∙ (ap is_root x.2 ∙ is)))
+
+-- A block collection that is a root: the rows of its document.
+pub record HasRoot (n : ℕ) (c : Cut) (w : BlockRoot) : Type 0 where
+  pub d : PlacedPart
+  pub placed : placed_document n c ≡ Some d
+  pub row : Row
+  pub others : List Row
+  pub rows_are : d.part.rows ≡ row ∷ others
+  pub block : is_alone row ≡ false
+  pub is : block_root d row others ≡ w
+
+-- A root that isn't written: the document without rows, and the text round it.
+pub record IsUnwrittenRoot (n : ℕ) (c : Cut) (w : NoRows) : Type 0 where
+  pub d : PlacedPart
+  pub placed : placed_document n c ≡ Some d
+  pub rows_are : d.part.rows ≡ []
+  pub before_is : w.before ≡ d.before ++ d.part.end
+  pub behind_is : w.behind ≡ d.behind
+
+module _ (n : ℕ) (c : Cut) (d : PlacedPart) (placed : placed_document n c ≡ Some d) where
+  abbrev first : List Row → Row → Standing
+  first rs r = alone (lone d.before r (rows_text rs (d.part.end ++ d.behind)))
+
+  rooted_there : (w : BlockRoot) (rs : List Row) → d.part.rows ≡ rs → root_standing d rs ≡ root w → HasRoot n c w
+  rooted_there w [] rows e = absurd (let x = e in cc)
+  rooted_there w (r ∷ rs) rows e = go (is_alone r) refl e
+    where
+      go : (b : Bool) → is_alone r ≡ b → cond b (first rs r) (root (block_root d r rs)) ≡ root w → HasRoot n c w
+      go true bare x = absurd (let y = x in cc)
+      go false bare x = record { d = d; placed = placed; row = r; others = rs; rows_are = rows; block = bare; is = let y : block_root d r rs ≡ w = cc in y }
+
+  unwritten_there : (w : NoRows) (rs : List Row) → d.part.rows ≡ rs → root_standing d rs ≡ no_rows w → IsUnwrittenRoot n c w
+  unwritten_there w [] rows e =
+      let y : record { before = d.before ++ d.part.end; behind = d.behind } ≡ w = cc in
+      record { d = d; placed = placed; rows_are = rows; before_is = ap (λ (z : NoRows). z.before) (sym y); behind_is = ap (λ (z : NoRows). z.behind) (sym y) }
+  unwritten_there w (r ∷ rs) rows e = absurd (go (is_alone r) e)
+    where
+      go : (b : Bool) → cond b (first rs r) (root (block_root d r rs)) ≡ no_rows w → ⊥
+      go true x = let y = x in cc
+      go false x = let y = x in cc
+
+pub has_root : (n : ℕ) (steps : List Step) (c : Cut) (w : BlockRoot) → standing_at n steps c ≡ Some (root w) → (steps ≡ []) × HasRoot n c w
+has_root n steps c w at = let x = root_found n steps c (root w) at refl in (x.0, rooted_there n c x.1 x.2 w x.1.part.rows refl x.3)
+
+pub has_no_rows : (n : ℕ) (steps : List Step) (c : Cut) (w : NoRows) → standing_at n steps c ≡ Some (no_rows w) → (steps ≡ []) × IsUnwrittenRoot n c w
+has_no_rows n steps c w at = let x = root_found n steps c (no_rows w) at refl in (x.0, unwritten_there n c x.1 x.2 w x.1.part.rows refl x.3)

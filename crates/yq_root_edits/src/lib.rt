@@ -1,0 +1,4 @@
+//! Laws on values that are put as roots.
+#![tactic(auto)]
+
+pub mod roots;

@@ -1,0 +1,194 @@
+-- An operation that fits has its edit: where a node is, something stands.
+use Rattle.std.proofs.Common.{◌≡◌, ◌⊎◌, inl, inr, ℕ, zero, suc, Bool, true, false, cond, eqb, List, [], ◌∷◌, ◌++◌, length, Option, Some, None, option_map, refl, sym, ap, ◌∙◌, subst}
+use Rattle.std.proofs.lemmas.Bool.{cond-true, false≢true}
+use Rattle.std.proofs.lemmas.Option.{none-some, same_Some}
+use Rattle.std.specs.List.{slice_get}
+use Rattle.std.specs.Option.{option_or}
+use Rattle.std.specs.Prelude as prelude
+use Rattle.yq_scalar.specs.Answers.{◌>>=◌}
+use Rattle.yq_scalar.specs.BlockWritten.{break_text}
+use Rattle.yq_scalar.specs.Paths.{Step, child_at, node_at}
+use Rattle.yq_scalar.specs.Tree as tree
+use Rattle.yq_scalar.specs.Tree.{Node, children_of}
+use Rattle.yq_scalar.proofs.Bools.{bind_some}
+use Rattle.yq_rows.specs.Rows as rows
+use Rattle.yq_rows.specs.Rows.{Cut, cut_text}
+use Rattle.yq_documents.specs.declared.path.Part.{Part}
+use Rattle.yq_documents.specs.declared.path.Part.TheVariants.{HeadComment, LineComment}
+use Rattle.yq_documents.specs.Documents.{Document, document_parts}
+use Rattle.yq_documents.specs.Reading.{cut_of, document_of, documents, read_at}
+use Rattle.yq_documents.specs.Seats.{Seat, line_has_room, seat_has_room, seat_of}
+use Rattle.yq_tree.specs.FirstBreak.{first_break}
+use Rattle.yq_tree.specs.NodesAt.{node_in}
+use Rattle.yq_tree.specs.PlacedRows.{PlacedPart, placed_document}
+use Rattle.yq_tree.specs.RemovalPlaces.{has_others_at}
+use Rattle.yq_tree.specs.Standings.{FlowPart, PlacedEntry, Standing, entry_at, entry_standing, flow_standing, held, last_step, placed_entry, standing_at}
+use Rattle.yq_tree.proofs.PlacedRowLaws.{document_placed, part_of}
+use Rattle.yq_change.specs.StandingLaws.{EntriesStand, RootsStand}
+use Rattle.yq_meaning.specs.Fits.{Fits}
+use Rattle.yq_meaning.specs.Operations.{Operation, replace, append, remove, line_comment, head_comment}
+use Rattle.yq_meaning.specs.Rooms.{room_of}
+use Rattle.yq_script.specs.Script.{Segment, keep}
+use Rattle.yq_edits.specs.CommentEdits.{above_rows, comment_put, head_comment_put, head_comment_segments, line_comment_put}
+use Rattle.yq_edits.specs.EditLaws.{FittingHasEdit, TakersHaveEdit}
+use Rattle.yq_edits.specs.Edits.{edits, emptied, removed, replaced, several_removed, sole_removed}
+use Rattle.yq_edits.specs.EntryEdits.{one_removed}
+use Rattle.yq_edits.specs.FlowParts.{flow_put, flow_removed}
+use Rattle.yq_edits.specs.Layouts.{layout_of}
+use Rattle.yq_edits.specs.ReplaceEdits.{has_text, value_put}
+use Rattle.yq_edits.specs.Replacing.{is_kept}
+use Rattle.yq_edits.proofs.DoneLaws.{read_cut}
+use Rattle.yq_flow_edits.proofs.FlowSoundLaws.{above_is}
+use Rattle.yq_splice.proofs.RemoveExists.{one_there}
+
+-- there is an edit
+abbrev IsThere : Option (List Segment) → Type 0
+IsThere o = (ss : List Segment) × (o ≡ Some ss)
+
+-- the first of two that is there
+first_there : (a b : Option (List Segment)) → IsThere a → IsThere (option_or a b)
+first_there a b h = (h.0, ap (λ (x : Option (List Segment)). option_or x b) h.1)
+
+second_there : (a b : Option (List Segment)) → IsThere b → IsThere (option_or a b)
+second_there None b h = h
+second_there (Some ss) b h = (ss, refl)
+
+-- ---- the documents
+
+-- a document of a cut is that of a part
+mapped : (n : ℕ) (ps : List rows.Part) (d : Document) → slice_get (prelude.map document_of ps) n ≡ Some d → (p : rows.Part) × (slice_get ps n ≡ Some p)
+mapped n [] d e = absurd (none-some _ e)
+mapped zero (p ∷ ps) d e = (p, refl)
+mapped (suc n) (p ∷ ps) d e = mapped n ps d e
+
+module _ (roots : RootsStand) (entries : EntriesStand) where
+  -- where a node is, something stands
+  stands : (n : ℕ) (steps : List Step) (c : Cut) (w : Node) → read_at (cut_text c) ≡ Some c → node_in n steps c ≡ Some w →
+      ((t : Standing) × (standing_at n steps c ≡ Some t)) ⊎ ((x : FlowPart) × (flow_standing n c (last_step steps) ≡ Some x))
+  stands n [] c w read at = let d = bind_some (slice_get (documents c) n) at in let p = mapped n (document_parts c) d.0 d.1 in inl (roots n c p.0 p.1)
+  stands n (s ∷ ss) c w read at = go (entries n s ss c w read at)
+    where
+      go : ((e : PlacedEntry) × (placed_entry n (s ∷ ss) c ≡ Some e)) ⊎ ((x : FlowPart) × (flow_standing n c (last_step (s ∷ ss)) ≡ Some x)) →
+          ((t : Standing) × (standing_at n (s ∷ ss) c ≡ Some t)) ⊎ ((x : FlowPart) × (flow_standing n c (last_step (s ∷ ss)) ≡ Some x))
+      go (inl e) = inl (entry_standing e.0, ap (option_map entry_standing) e.1)
+      go (inr x) = inr x
+
+  -- a node is replaced
+  replaced_there : (n : ℕ) (steps : List Step) (v : Node) (c : Cut) (w : Node) → read_at (cut_text c) ≡ Some c → node_in n steps c ≡ Some w → IsThere (replaced n steps v c)
+  replaced_there n steps v c w read at = go (is_kept (node_in n steps c) v)
+    where
+      block : Option (List Segment)
+      block = option_map (value_put (has_text (node_in n steps c)) (layout_of n c) v) (standing_at n steps c)
+
+      flow : Option (List Segment)
+      flow = option_map (flow_put (cut_text c) v) (flow_standing n c (last_step steps))
+
+      put_there : ((t : Standing) × (standing_at n steps c ≡ Some t)) ⊎ ((x : FlowPart) × (flow_standing n c (last_step steps) ≡ Some x)) → IsThere (option_or block flow)
+      put_there (inl t) = first_there block flow (value_put (has_text (node_in n steps c)) (layout_of n c) v t.0, ap (option_map (value_put (has_text (node_in n steps c)) (layout_of n c) v)) t.1)
+      put_there (inr x) = second_there block flow (flow_put (cut_text c) v x.0, ap (option_map (flow_put (cut_text c) v)) x.1)
+
+      go : (b : Bool) → IsThere (cond b (Some (keep (cut_text c) ∷ [])) (option_or block flow))
+      go true = (keep (cut_text c) ∷ [], refl)
+      go false = put_there (stands n steps c w read at)
+
+  -- one of several is taken out
+  several_there : (n : ℕ) (s : Step) (ss : List Step) (c : Cut) (w : Node) → read_at (cut_text c) ≡ Some c → node_in n (s ∷ ss) c ≡ Some w → IsThere (several_removed n (s ∷ ss) c)
+  several_there n s ss c w read at = go (entries n s ss c w read at)
+    where
+      part_out : Option (List Segment)
+      part_out = option_map (flow_removed (cut_text c)) (flow_standing n c (last_step (s ∷ ss)))
+
+      go : ((e : PlacedEntry) × (placed_entry n (s ∷ ss) c ≡ Some e)) ⊎ ((x : FlowPart) × (flow_standing n c (last_step (s ∷ ss)) ≡ Some x)) → IsThere (option_or (one_removed n (s ∷ ss) c) part_out)
+      go (inl e) = first_there (one_removed n (s ∷ ss) c) part_out (one_there n s ss c e.0 read e.1)
+      go (inr x) = second_there (one_removed n (s ∷ ss) c) part_out (flow_removed (cut_text c) x.0, ap (option_map (flow_removed (cut_text c))) x.1)
+
+  -- the collection of an item or entry becomes empty
+  holds : (s : Step) (o : Node) (w : Node) → child_at s (children_of o) ≡ Some w → (v : Node) × (emptied o ≡ Some v)
+  holds s (tree.alias name) w e = absurd (none-some _ e)
+  holds s (tree.scalar a kind text) w e = absurd (none-some _ e)
+  holds s (tree.list a cs) w e = (tree.list None tree.none, refl)
+  holds s (tree.map a cs) w e = (tree.map None tree.none, refl)
+
+  last_there : (s : Step) (ss : List Step) → (init : List Step) × (last : Step) × (last_step (s ∷ ss) ≡ Some (init, last)) × (s ∷ ss ≡ init ++ (last ∷ []))
+  last_there s [] = ([], s, refl, refl)
+  last_there s (t ∷ ss) =
+      let x = last_there t ss in (s ∷ x.0, x.1, ap (option_map {U = List Step × Step} (λ (y : List Step × Step). (s ∷ y.0, y.1))) x.2, ap (λ (l : List Step). s ∷ l) x.3)
+
+  sole_there : (n : ℕ) (s : Step) (ss : List Step) (c : Cut) (w : Node) → read_at (cut_text c) ≡ Some c → node_in n (s ∷ ss) c ≡ Some w → IsThere (sole_removed n c (last_step (s ∷ ss)))
+  sole_there n s ss c w read at =
+      let d = bind_some (slice_get (documents c) n) at in
+      let x = last_there s ss in
+      let a = above_is x.0 x.1 d.0.root w (subst (λ (path : List Step). node_at path d.0.root ≡ Some w) x.3 d.2) in
+      let v = holds x.1 a.0 w a.2 in
+      let above : node_in n x.0 c ≡ Some a.0 = ap (λ (o : Option Document). o >>= λ e. node_at x.0 e.root) d.1 ∙ a.1 in
+      let r = replaced_there n x.0 v.0 c a.0 read above in (
+        r.0,
+        ap (sole_removed n c) x.2 ∙ (ap (λ (o : Option Node). o >>= emptied >>= λ u. replaced n x.0 u c) above ∙ (ap (λ (o : Option Node). o >>= λ u. replaced n x.0 u c) v.1 ∙ r.1)),
+      )
+
+  removed_there : (n : ℕ) (s : Step) (ss : List Step) (c : Cut) (w : Node) → read_at (cut_text c) ≡ Some c → node_in n (s ∷ ss) c ≡ Some w → IsThere (removed n (s ∷ ss) c)
+  removed_there n s ss c w read at = go (has_others_at n (s ∷ ss) c)
+    where
+      go : (b : Bool) → IsThere (cond b (several_removed n (s ∷ ss) c) (sole_removed n c (last_step (s ∷ ss))))
+      go true = several_there n s ss c w read at
+      go false = sole_there n s ss c w read at
+
+-- ---- comments
+
+-- The line to which steps lead in document n of a cut stands in rows that are found, and has room for a comment.
+record HasRoomAt (part : Part) (n : ℕ) (steps : List Step) (c : Cut) : Type 0 where
+  document : PlacedPart
+  seat : Seat
+  entry : placed_entry n steps c ≡ Some (entry_at document seat)
+  room : line_has_room part seat ≡ true
+
+-- whether a document, if it is there, has room for a comment
+abbrev has_room_by : Part → List Step → Option rows.Part → Type 0
+has_room_by part steps o = seat_has_room part (o >>= λ p. seat_of steps p.rows) ≡ true
+
+room_there : (part : Part) (n : ℕ) (steps : List Step) (c : Cut) → has_room_by part steps (slice_get (document_parts c) n) → HasRoomAt part n steps c
+room_there part n steps c room = go (placed_document n c) refl (sym (ap (λ (o : Option rows.Part). seat_has_room part (o >>= λ p. seat_of steps p.rows)) (document_placed n c)) ∙ room)
+  where
+    seated : (d : PlacedPart) → placed_document n c ≡ Some d → (o : Option Seat) → seat_of steps d.part.rows ≡ o → seat_has_room part o ≡ true → HasRoomAt part n steps c
+    seated d there None is e = absurd (false≢true e)
+    seated d there (Some x) is e = record {
+      document = d;
+      seat = x;
+      entry = ap (λ (o : Option PlacedPart). o >>= λ s. option_map (entry_at s) (seat_of steps s.part.rows)) there ∙ ap (option_map (entry_at d)) is;
+      room = e;
+    }
+
+    go : (o : Option PlacedPart) → placed_document n c ≡ o → has_room_by part steps (part_of o) → HasRoomAt part n steps c
+    go None there e = absurd (false≢true e)
+    go (Some d) there e = seated d there (seat_of steps d.part.rows) refl e
+
+-- the same of a cut that has a reading, by what its text has room for
+read_there : (part : Part) (n : ℕ) (steps : List Step) (c : Cut) → read_at (cut_text c) ≡ Some c → has_room_by part steps (slice_get (document_parts (cut_of (cut_text c))) n) → HasRoomAt part n steps c
+read_there part n steps c read room =
+    room_there part n steps c (ap (λ (z : Cut). seat_has_room part (slice_get (document_parts z) n >>= λ p. seat_of steps p.rows)) (sym (read_cut (cut_text c) c read)) ∙ room)
+
+line_comment_there : (n : ℕ) (steps : List Step) (text : List ℕ) (c : Cut) → read_at (cut_text c) ≡ Some c → Fits (room_of (cut_text c)) (line_comment n steps text) (documents c) →
+    IsThere (edits (line_comment n steps text) c)
+line_comment_there n steps text c read fits =
+    let h = read_there LineComment n steps c read fits.2.0 in
+    let e : PlacedEntry = entry_at h.document h.seat in
+    (comment_put text (held e), ap (λ (o : Option PlacedEntry). o >>= line_comment_put text) h.entry ∙ cond-true _ _ _ h.room)
+
+head_comment_there : (n : ℕ) (steps : List Step) (text : List ℕ) (c : Cut) → read_at (cut_text c) ≡ Some c → Fits (room_of (cut_text c)) (head_comment n steps text) (documents c) →
+    IsThere (edits (head_comment n steps text) c)
+head_comment_there n steps text c read fits =
+    let h = read_there HeadComment n steps c read fits.2.0 in
+    let e : PlacedEntry = entry_at h.document h.seat in
+    let br : List ℕ = break_text (first_break (cut_text c)) in
+    (head_comment_segments br text (above_rows e), ap (λ (o : Option PlacedEntry). o >>= head_comment_put br text) h.entry ∙ cond-true _ _ _ h.room)
+
+-- ---- each operation
+
+-- An operation that fits has its edit.
+pub fitting_has_edit : RootsStand → EntriesStand → TakersHaveEdit → FittingHasEdit
+fitting_has_edit roots entries takers (replace n steps v) c read operand fits = replaced_there roots entries n steps v c fits.2.1.0 read (ap (λ (o : Option Document). o >>= λ d. node_at steps d.root) fits.1 ∙ fits.2.1.1)
+fitting_has_edit roots entries takers (append n steps key v) c read operand fits = takers n steps key v c read fits
+fitting_has_edit roots entries takers (remove n []) c read operand fits = absurd fits.2.0
+fitting_has_edit roots entries takers (remove n (s ∷ ss)) c read operand fits = removed_there roots entries n s ss c fits.2.1.0 read (ap (λ (o : Option Document). o >>= λ d. node_at (s ∷ ss) d.root) fits.1 ∙ fits.2.1.1)
+fitting_has_edit roots entries takers (line_comment n steps text) c read operand fits = line_comment_there n steps text c read fits
+fitting_has_edit roots entries takers (head_comment n steps text) c read operand fits = head_comment_there n steps text c read fits

@@ -1,0 +1,14 @@
+//! Laws on what operations exchange.
+ghost use Rattle.yq_edits.specs.EditLaws.{EditsCarryOut, FittingHasEdit};
+
+/// What an operation exchanges are segments of the text; where it fits, they make of it a text that
+/// reads as the documents after it, and exchange the rows and ends of parts that they touch, and no
+/// others, or all bytes stay.
+pub fn edits_carry_out()
+    ensures { EditsCarryOut }
+{}
+
+/// Every operation that fits the documents of a text has what it exchanges.
+pub fn fitting_has_edit()
+    ensures { FittingHasEdit }
+{}

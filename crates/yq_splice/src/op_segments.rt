@@ -1,0 +1,150 @@
+//! What an operation exchanges in a text, by its kind and by what stands at its place.
+ghost use Rattle.std.specs.Prelude.{◌≡◌, ◌∷◌, IfOk, [], Some};
+ghost use Rattle.yq_text.specs.Halves.{whole};
+ghost use Rattle.yq_inline.specs.Values.{node_of};
+ghost use Rattle.yq_lines.specs.Bodies.{lent};
+ghost use Rattle.yq_rows.specs.Rows.{cut_text};
+ghost use Rattle.yq_documents.specs.Located.{steps_of};
+ghost use Rattle.yq_documents.specs.Reading.{cut_of};
+ghost use Rattle.yq_tree.specs.Standings.{last_step};
+ghost use Rattle.yq_meaning.specs.Operations.{operation_of};
+ghost use Rattle.yq_script.specs.Script.{keep};
+ghost use Rattle.yq_edits.specs.Edits as spec;
+ghost use Rattle.yq_edits.specs.Answers.{Carries};
+
+use std::alloc::{AllocError, Global};
+use yq_edits::{head_comment_at, is_kept, line_comment_at, more_at, one_removed, value_put_at};
+use yq_expr::Op;
+use yq_flow_edits::{append_in_flow, emptying, put_in_flow, remove_in_flow};
+use yq_inline::Value;
+use yq_script::{Segment, Segments};
+use yq_tree::{CutText, Path};
+
+/// A text of which all bytes stay.
+#[tactic(auto, using(crate::proofs::ChoiceLaws::whole_kept))]
+fn unchanged<'d>(alloc: Global, cut: &CutText<'_, 'd>) -> Result<Segments<'d>, AllocError>
+    ensures { IfOk result (λ ss. ss ≡ keep (cut_text (cut_of cut.now)) ∷ []) }
+{
+    let whole = vec![in alloc; Segment::Keep(cut.text())]?;
+    Ok(Segments::new(whole))
+}
+
+/// A value put in the place of the node at a path; an equal scalar leaves the bytes alone.
+#[tactic(auto, using(crate::proofs::ChoiceLaws::first_is, crate::proofs::ChoiceLaws::second_is, crate::proofs::ChoiceLaws::chosen, crate::proofs::ChoiceLaws::not_chosen))]
+fn replaced<'d>(
+    alloc: Global,
+    cut: &CutText<'_, 'd>,
+    path: &Path,
+    value: &Value,
+) -> Result<Option<Segments<'d>>, AllocError>
+    ensures { Carries result (spec.replaced path.now.doc (steps_of path.now) (node_of value.now)
+        (cut_of cut.now)) }
+{
+    let stays = is_kept(alloc, cut, path, value)?;
+    if stays {
+        return Ok(Some(unchanged(alloc, cut)?));
+    }
+    if let Some(segments) = value_put_at(alloc, cut, path, value)? {
+        return Ok(Some(segments));
+    }
+    put_in_flow(alloc, cut, path, value)
+}
+
+/// One more item or entry at the end of the collection at a path.
+#[tactic(auto, using(crate::proofs::ChoiceLaws::first_is, crate::proofs::ChoiceLaws::second_is))]
+fn appended<'d>(
+    alloc: Global,
+    cut: &CutText<'_, 'd>,
+    path: &Path,
+    key: Option<&str>,
+    value: &Value,
+) -> Result<Option<Segments<'d>>, AllocError>
+    ensures { Carries result (spec.appended path.now.doc (steps_of path.now) (lent key.entry)
+        (node_of value.now) (cut_of cut.now)) }
+{
+    if let Some(segments) = more_at(alloc, cut, path, key, value)? {
+        return Ok(Some(segments));
+    }
+    append_in_flow(alloc, cut, path, key, value)
+}
+
+/// One of several items or entries taken out.
+#[tactic(auto, using(crate::proofs::ChoiceLaws::first_is, crate::proofs::ChoiceLaws::second_is))]
+fn several_removed<'d>(
+    alloc: Global,
+    cut: &CutText<'_, 'd>,
+    path: &Path,
+) -> Result<Option<Segments<'d>>, AllocError>
+    ensures { Carries result (spec.several_removed path.now.doc (steps_of path.now)
+        (cut_of cut.now)) }
+{
+    if let Some(segments) = one_removed(alloc, cut, path)? {
+        return Ok(Some(segments));
+    }
+    remove_in_flow(alloc, cut, path)
+}
+
+/// A sole item or entry taken out: an empty collection is put in the place of its own.
+fn sole_removed<'d>(
+    alloc: Global,
+    cut: &CutText<'_, 'd>,
+    path: &Path,
+) -> Result<Option<Segments<'d>>, AllocError>
+    ensures { Carries result (spec.sole_removed path.now.doc (cut_of cut.now)
+        (last_step (steps_of path.now))) }
+{
+    let Some(empty) = emptying(alloc, cut, path)? else {
+        return Ok(None);
+    };
+    replaced(alloc, cut, &empty.place, &empty.value)
+}
+
+/// An item or entry taken out.
+#[tactic(auto, using(crate::proofs::ChoiceLaws::chosen, crate::proofs::ChoiceLaws::not_chosen))]
+fn removed<'d>(
+    alloc: Global,
+    cut: &CutText<'_, 'd>,
+    path: &Path,
+) -> Result<Option<Segments<'d>>, AllocError>
+    ensures { Carries result (spec.removed path.now.doc (steps_of path.now) (cut_of cut.now)) }
+{
+    let others = cut.has_others(alloc, path)?;
+    if others {
+        several_removed(alloc, cut, path)
+    } else {
+        sole_removed(alloc, cut, path)
+    }
+}
+
+/// What an operation exchanges, if what it names is there.
+fn edits<'d>(
+    alloc: Global,
+    cut: &CutText<'_, 'd>,
+    op: &Op,
+) -> Result<Option<Segments<'d>>, AllocError>
+    ensures { Carries result (spec.edits (operation_of op.now) (cut_of cut.now)) }
+{
+    match op {
+        Op::Replace(path, value) => replaced(alloc, cut, path, value),
+        Op::Append(path, key, value) => appended(alloc, cut, path, key.as_deref(), value),
+        Op::Remove(path) => removed(alloc, cut, path),
+        Op::LineComment(path, text) => line_comment_at(alloc, cut, path, text),
+        Op::HeadComment(path, text) => head_comment_at(alloc, cut, path, text),
+    }
+}
+
+/// The segments of a text by which an operation is carried out on its documents. One that fits them
+/// has what it exchanges; by any other the text stays.
+pub(crate) fn op_segments<'d>(
+    alloc: Global,
+    cut: &CutText<'_, 'd>,
+    op: &Op,
+) -> Result<Segments<'d>, AllocError>
+    ensures { IfOk result (λ ss. ss ≡
+        spec.or_stay (cut_of cut.now) (spec.edits (operation_of op.now) (cut_of cut.now))) }
+{
+    match edits(alloc, cut, op)? {
+        Some(segments) => Ok(segments),
+        None => unchanged(alloc, cut),
+    }
+}
