@@ -14,7 +14,7 @@ use Rattle.yq_lines.specs.Comments.{head_comment, line_comment}
 use Rattle.yq_rows.specs.Rows as rows
 use Rattle.yq_rows.specs.Rows.{Nothing, Inline, Row, behind_columns}
 use Rattle.yq_lines.specs.Grammar.{IsNode, mapping, sequence, AreEntries, no_more, entry, IsUnder, headed, deeper_lines}
-use Rattle.yq_documents.specs.Lines.{mark_line, dash_line, lines_from, row_lines, lines_of}
+use Rattle.yq_walk.specs.Lines.{mark_line, dash_line, lines_from, row_lines, lines_of}
 use Rattle.yq_lines.specs.Outline.{Mark, Bare, Key, Dash, Line, rank, level, anchored, label}
 use Rattle.yq_lines.proofs.NodeLaws.{anchored_none}
 use Rattle.yq_tree.proofs.UnderExchange.{lines_append}
@@ -104,10 +104,10 @@ under_dash column (tree.scalar a kind t) b = absurd b
 under_dash column (tree.list a cs) b = omega arith
 under_dash column (tree.map a cs) b = omega arith
 
-key_label : (k : List ℕ) (column : ℕ) (c : rows.Content) → IsUtf8 k → line_comment (Rattle.yq_documents.specs.Lines.tail_of c) ≡ None → label (mark_line (head_comment []) column (rows.Key (block_key k) (58 ∷ [])) c) ≡ inner (Some k)
+key_label : (k : List ℕ) (column : ℕ) (c : rows.Content) → IsUtf8 k → line_comment (Rattle.yq_walk.specs.Lines.tail_of c) ≡ None → label (mark_line (head_comment []) column (rows.Key (block_key k) (58 ∷ [])) c) ≡ inner (Some k)
 key_label k column c u quiet = λ i. record { key = Some (key_content_is k u i); head_comment = no_head i; line_comment = quiet i }
 
-dash_label : (column : ℕ) (c : rows.Content) → line_comment (Rattle.yq_documents.specs.Lines.tail_of c) ≡ None → label (mark_line (head_comment []) column rows.Dash c) ≡ inner None
+dash_label : (column : ℕ) (c : rows.Content) → line_comment (Rattle.yq_walk.specs.Lines.tail_of c) ≡ None → label (mark_line (head_comment []) column rows.Dash c) ≡ inner None
 dash_label column c quiet = λ i. record { key = None; head_comment = no_head i; line_comment = quiet i }
 
 entry_lines : (l : Layout) (column : ℕ) (end : List ℕ) (keyed : Bool) (told : tree.Label) (n : tree.Node) (node : Option inline.Node) (below : List Row) (after : List Line) (cs : Children) → 1 ≤ l.mapping →

@@ -13,7 +13,7 @@ use Rattle.yq_rows.proofs.AlikeRows.{row_gap_alike, dashes_text_alike}
 use Rattle.yq_inline.proofs.Alikes.{alike_append, alike_marker}
 use Rattle.yq_rows.proofs.ExchangeLaws.{one_row, relimit, chain}
 use Rattle.yq_rows.proofs.NodeExchange.{mark_apart}
-use Rattle.yq_documents.specs.Lines.{dash_line, lines_from, row_lines, lines_of}
+use Rattle.yq_walk.specs.Lines.{dash_line, lines_from, row_lines, lines_of}
 use Rattle.yq_lines.specs.Outline as outline
 use Rattle.yq_lines.specs.Outline.{Line}
 use Rattle.yq_rows.specs.Joined.{dashed_row, compact_row}

@@ -16,7 +16,7 @@ use Rattle.yq_rows.specs.Rows.{Bare, Inline, Row, rows_text, last, cut_text}
 use Rattle.yq_rows.specs.Splices.{first_gap}
 use Rattle.yq_documents.specs.Documents.{IsRoot, HasShortRoot, is_long_plain, Reads, document_parts, AreDocuments}
 use Rattle.yq_lines.specs.Grammar.{IsNode, alone, mapping, sequence}
-use Rattle.yq_documents.specs.Lines.{lines_of}
+use Rattle.yq_walk.specs.Lines.{lines_of}
 use Rattle.yq_lines.specs.Outline.{Line}
 use Rattle.std.proofs.Common.{not}
 use Rattle.yq_scalar.specs.BlockWritten.{break_text}

@@ -8,7 +8,7 @@ use Rattle.yq_rows.specs.Exchange.{asked_behind, with_content}
 use Rattle.yq_rows.specs.Grammar.{IsContent, is_entry, Limit, allows, IsRow, AreRows}
 use Rattle.yq_rows.specs.Joined.{dashed_row, compact_row}
 use Rattle.yq_rows.specs.Rows.{Dash, Content, Nothing, content_text, Row, parent_indent, mark_column, print_row, rows_text}
-use Rattle.yq_documents.specs.Lines.{row_lines, lines_of}
+use Rattle.yq_walk.specs.Lines.{row_lines, lines_of}
 use Rattle.yq_block.specs.declared.layout.Layout.{Layout}
 use Rattle.yq_block.specs.BlockRows.{item_column, node_rows}
 use Rattle.yq_block.specs.BlockValues.{IsFilledValue, IsWritable}

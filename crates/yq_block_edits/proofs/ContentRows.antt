@@ -13,7 +13,7 @@ use Rattle.yq_rows.specs.Exchange.{with_content}
 use Rattle.yq_rows.specs.Grammar.{is_plain, unlimited, allows, limit_behind, IsContent}
 use Rattle.yq_rows.specs.Rows.{Content, Nothing, Inline, Block, content_text, Row, mark_column, parent_indent, rows_text, Cut, cut_text}
 use Rattle.yq_documents.specs.Documents.{MarkIsFit, ContentHasFitKeys, HaveFitKeys}
-use Rattle.yq_documents.specs.Lines.{content_anchor, head_of, tail_of}
+use Rattle.yq_walk.specs.Lines.{content_anchor, head_of, tail_of}
 use Rattle.yq_documents.specs.Nodes.{anchor_of}
 use Rattle.yq_change.specs.DocumentRows.{behind_document}
 use Rattle.yq_change.proofs.AnchorLaws.{fit_parts}

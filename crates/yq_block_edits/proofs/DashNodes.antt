@@ -13,7 +13,7 @@ use Rattle.yq_rows.specs.Grammar.{AreDashes, is_entry}
 use Rattle.yq_rows.specs.Rows as rows
 use Rattle.yq_rows.specs.Rows.{Cut, Row, behind_dashes, cut_text, print_row, rows_text}
 use Rattle.yq_rows.proofs.PlaceLaws.{row_then}
-use Rattle.yq_documents.specs.Lines.{lines_of}
+use Rattle.yq_walk.specs.Lines.{lines_of}
 use Rattle.yq_documents.specs.Nodes.{anchor_of}
 use Rattle.yq_documents.specs.Reading.{read_at}
 use Rattle.yq_tree.specs.RowPieces.{past_dash, upto_dash}

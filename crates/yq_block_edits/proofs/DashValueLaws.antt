@@ -11,7 +11,7 @@ use Rattle.yq_lines.proofs.ByRules.{rules_give}
 use Rattle.yq_rows.specs.Exchange.{row_front}
 use Rattle.yq_rows.specs.Rows as rows
 use Rattle.yq_rows.specs.Rows.{Nothing, Row, mark_column, rows_text, Cut}
-use Rattle.yq_documents.specs.Lines.{mark_line, lines_of, tail_of}
+use Rattle.yq_walk.specs.Lines.{mark_line, lines_of, tail_of}
 use Rattle.yq_documents.specs.Nodes.{anchor_of}
 use Rattle.yq_change.specs.DocumentRows.{behind_document}
 use Rattle.yq_change.proofs.LineLaws.{above_mark, mark_behind}
@@ -65,7 +65,7 @@ module _ (doc : ℕ) (s : Step) (ss : List Step) (c : Cut) (h : NodeRows doc s s
 
   dash_level : level (line_with h.mark (Nothing [])) ≡ entry_level None (mark_column h.mark)
   unfolding level
-  dash_level = ap (λ m. 3 * mark_column h.mark + Rattle.yq_lines.specs.Outline.rank (Rattle.yq_documents.specs.Lines.mark_of m)) dash
+  dash_level = ap (λ m. 3 * mark_column h.mark + Rattle.yq_lines.specs.Outline.rank (Rattle.yq_walk.specs.Lines.mark_of m)) dash
 
   new_lines : lines_of behind_rows ≡ dashes_of h.mark ++ (line_with h.mark (Nothing []) ∷ flatten stands.outline)
   new_lines =

@@ -13,7 +13,7 @@ use Rattle.yq_rows.specs.Exchange.{row_front}
 use Rattle.yq_rows.specs.Rows as rows
 use Rattle.yq_rows.specs.Rows.{Row, mark_column, rows_text, Cut}
 use Rattle.yq_rows.specs.View.{slices}
-use Rattle.yq_documents.specs.Lines.{tail_of}
+use Rattle.yq_walk.specs.Lines.{tail_of}
 use Rattle.yq_documents.specs.Nodes.{anchor_of}
 use Rattle.yq_documents.proofs.RowLineLaws.{tail_is}
 use Rattle.yq_tree.specs.RowPieces.{anchor_before}

@@ -10,7 +10,7 @@ use Rattle.yq_rows.specs.Gap.{IsBreak}
 use Rattle.yq_rows.specs.Grammar.{IsTail}
 use Rattle.yq_rows.specs.Rows.{Row, Cut, cut_text}
 use Rattle.yq_rows.specs.View.{slices}
-use Rattle.yq_documents.specs.Lines.{content_anchor}
+use Rattle.yq_walk.specs.Lines.{content_anchor}
 use Rattle.yq_documents.specs.Nodes.{anchor_of}
 use Rattle.yq_tree.specs.Standings.{PlacedEntry, held, is_alone}
 use Rattle.yq_change.specs.TextPieces.{IsPiece}

@@ -20,7 +20,7 @@ use Rattle.yq_rows.specs.Rows as rows
 use Rattle.yq_rows.specs.Rows.{Content, Nothing, Inline, Block, Cut, Row, cut_text, parent_indent, rows_text}
 use Rattle.yq_rows.specs.View.{Slices, content_cut, slices}
 use Rattle.yq_rows.proofs.CharacterLaws.{pairs_back}
-use Rattle.yq_documents.specs.Lines.{content_anchor, head_of, lines_of, mark_of, row_lines}
+use Rattle.yq_walk.specs.Lines.{content_anchor, head_of, lines_of, mark_of, row_lines}
 use Rattle.yq_documents.specs.Nodes.{anchor_of}
 use Rattle.yq_documents.specs.Reading.{outline_of, read_at}
 use Rattle.yq_tree.specs.CommentPlaces.{LineEnd, end_before, line_text}
@@ -120,7 +120,7 @@ entries_first : (rs : List Row) → first_alone rs ≡ false → (l : Line) (u a
 entries_first [] beside l u after e = absurd (let no : [] ≡ l ∷ (flatten u ++ flatten after) = e in cc)
 entries_first (r ∷ rs) beside l u after e = go r.dashes r.mark (Rattle.yq_lines.specs.Comments.head_comment r.gap) beside e
   where
-    go : (ns : List ℕ) (m : rows.Mark) (above : List (List ℕ)) → (is_empty ns && Rattle.yq_lines.specs.Spots.is_bare (mark_of m)) ≡ false → Rattle.yq_documents.specs.Lines.lines_from above r.column ns m r.content ++ lines_of rs ≡ l ∷ (flatten u ++ flatten after) →
+    go : (ns : List ℕ) (m : rows.Mark) (above : List (List ℕ)) → (is_empty ns && Rattle.yq_lines.specs.Spots.is_bare (mark_of m)) ≡ false → Rattle.yq_walk.specs.Lines.lines_from above r.column ns m r.content ++ lines_of rs ≡ l ∷ (flatten u ++ flatten after) →
         siblings.IsEntry l.mark
     go [] rows.Bare above beside e = absurd (false≢true (sym beside))
     go [] rows.Dash above beside e = subst (λ (k : Line). siblings.IsEntry k.mark) (head-eq_of_cons-eq e) tt

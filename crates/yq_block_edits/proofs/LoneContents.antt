@@ -28,7 +28,7 @@ use Rattle.yq_rows.proofs.seams.SeamLaws.{rows_text-append}
 use Rattle.yq_rows.proofs.splices.PartPlaces.{part_ends}
 use Rattle.yq_rows.proofs.splices.SpliceTexts.{own_gap, own_end}
 use Rattle.yq_documents.specs.Documents.{document_parts, lead_of}
-use Rattle.yq_documents.specs.Lines.{lines_of, mark_line, mark_of}
+use Rattle.yq_walk.specs.Lines.{lines_of, mark_line, mark_of}
 use Rattle.yq_documents.specs.Reading.{outline_of, read_at, root_of}
 use Rattle.yq_documents.specs.Ready.{begins_no_node}
 use Rattle.yq_documents.specs.TreeEdits.{replaced}

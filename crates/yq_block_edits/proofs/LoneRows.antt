@@ -19,7 +19,7 @@ use Rattle.yq_rows.specs.Grammar.{AreRows, unlimited}
 use Rattle.yq_rows.specs.Rows as rows
 use Rattle.yq_rows.specs.Rows.{Row, rows_text, print_row, Part, Cut, cut_text}
 use Rattle.yq_rows.proofs.seams.SeamLaws.{rows_text-append}
-use Rattle.yq_documents.specs.Lines.{lines_from, lines_of, mark_line, mark_of, row_lines}
+use Rattle.yq_walk.specs.Lines.{lines_from, lines_of, mark_line, mark_of, row_lines}
 use Rattle.yq_documents.specs.Reading.{outline_of, read_at}
 use Rattle.yq_documents.specs.Seats.{Seat, seat_of}
 use Rattle.yq_tree.specs.PlacedRows.{PlacedPart, placed_document}

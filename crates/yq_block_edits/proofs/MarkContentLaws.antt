@@ -15,7 +15,7 @@ use Rattle.yq_rows.specs.View.{content_cut}
 use Rattle.yq_rows.proofs.NodeExchange.{space_apart}
 use Rattle.yq_rows.proofs.NothingLaws.{tail_apart, tail_lead, tail_no_node}
 use Rattle.yq_rows.proofs.seams.ScalarSeams.{name_seam}
-use Rattle.yq_documents.specs.Lines.{content_anchor, lines_from, lines_of, tail_of}
+use Rattle.yq_walk.specs.Lines.{content_anchor, lines_from, lines_of, tail_of}
 use Rattle.yq_change.proofs.CoreLaws.{put_core}
 use Rattle.yq_block.proofs.LaidRows.{AreLaid}
 

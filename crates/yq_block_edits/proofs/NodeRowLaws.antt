@@ -15,7 +15,7 @@ use Rattle.yq_rows.specs.Grammar.{Limit, unlimited, limit_after, AreRows, is_ent
 use Rattle.yq_rows.specs.Rows as rows
 use Rattle.yq_rows.specs.Rows.{Row, mark_column, rows_text, Part, part_text, Cut, cut_text}
 use Rattle.yq_documents.specs.Documents.{document_parts}
-use Rattle.yq_documents.specs.Lines.{mark_of, lines_of}
+use Rattle.yq_walk.specs.Lines.{mark_of, lines_of}
 use Rattle.yq_documents.specs.Reading.{outline_of, read_at}
 use Rattle.yq_tree.proofs.FoundLines.{each}
 use Rattle.yq_tree.proofs.NextLaws.{StartsAt, found_starts}

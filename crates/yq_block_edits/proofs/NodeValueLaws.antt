@@ -23,7 +23,7 @@ use Rattle.yq_rows.specs.Seams.{is_block}
 use Rattle.yq_rows.proofs.NodeExchange.{inline_starts, space_apart}
 use Rattle.yq_rows.proofs.splices.PartPlaces.{part_ends}
 use Rattle.yq_documents.specs.Documents.{ContentHasFitKeys}
-use Rattle.yq_documents.specs.Lines.{content_anchor, head_of, tail_of, lines_of, mark_of}
+use Rattle.yq_walk.specs.Lines.{content_anchor, head_of, tail_of, lines_of, mark_of}
 use Rattle.yq_documents.specs.Nodes.{anchor_of}
 use Rattle.yq_change.specs.DocumentRows.{behind_document, part_number}
 use Rattle.yq_change.specs.InlineRows.{IsValueNode}

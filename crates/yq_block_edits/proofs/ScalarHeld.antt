@@ -12,7 +12,7 @@ use Rattle.yq_rows.specs.Grammar.{IsContent, IsTail}
 use Rattle.yq_rows.specs.Rows.{Anchor, Block, anchor_text, content_text, Row, parent_indent, rows_text, Cut, cut_text}
 use Rattle.yq_rows.specs.View.{slices}
 use Rattle.yq_rows.proofs.LineEnds.{comment_none, text_line, white_none}
-use Rattle.yq_documents.specs.Lines.{block_anchor, content_anchor}
+use Rattle.yq_walk.specs.Lines.{block_anchor, content_anchor}
 use Rattle.yq_documents.specs.Nodes.{anchor_of}
 use Rattle.yq_tree.specs.CommentPlaces.{LineEnd, end_before}
 use Rattle.yq_tree.specs.PrintedLines.{last_break, less_break}

@@ -19,7 +19,7 @@ use Rattle.yq_rows.proofs.LineEnds.{none_in_white}
 use Rattle.yq_rows.proofs.NodeExchange.{space_apart}
 use Rattle.yq_rows.proofs.PlaceLaws.{row_front-append}
 use Rattle.yq_rows.proofs.seams.RowSeams.{block_no_space}
-use Rattle.yq_documents.specs.Lines.{block_anchor}
+use Rattle.yq_walk.specs.Lines.{block_anchor}
 use Rattle.yq_documents.proofs.RowLineLaws.{tail_is}
 use Rattle.yq_tree.specs.Standings.{Held, PlacedEntry, held}
 use Rattle.yq_change.specs.InlineRows.{IsValueNode}

@@ -29,7 +29,7 @@ use Rattle.yq_rows.specs.View.{slices}
 use Rattle.yq_rows.proofs.NodeExchange.{space_apart}
 use Rattle.yq_rows.proofs.PlaceLaws.{row_front-append}
 use Rattle.yq_rows.proofs.seams.RowSeams.{block_no_space}
-use Rattle.yq_documents.specs.Lines.{head_of, tail_of}
+use Rattle.yq_walk.specs.Lines.{head_of, tail_of}
 use Rattle.yq_lines.specs.Comments.{line_comment}
 use Rattle.yq_tree.specs.NodesAt.{node_in, scalar_in}
 use Rattle.yq_tree.specs.RowPieces.{anchor_before, space_before}

@@ -13,7 +13,7 @@ use Rattle.yq_rows.specs.Grammar.{IsTail}
 use Rattle.yq_rows.specs.Rows.{Anchor, Content, Block, content_text, Row, mark_column, parent_indent, print_row, rows_text, Cut}
 use Rattle.yq_rows.specs.View.{slices}
 use Rattle.yq_rows.proofs.PlaceLaws.{row_front-append}
-use Rattle.yq_documents.specs.Lines.{tail_of}
+use Rattle.yq_walk.specs.Lines.{tail_of}
 use Rattle.yq_tree.specs.RowPieces.{anchor_before}
 use Rattle.yq_tree.specs.Standings.{Held, PlacedEntry, before_entry, held}
 use Rattle.yq_tree.proofs.LineEndLaws.{header_tail}

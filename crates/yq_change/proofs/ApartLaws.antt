@@ -10,7 +10,7 @@ use Rattle.yq_lines.specs.Comments.{head_comment}
 use Rattle.yq_rows.specs.Rows as rows
 use Rattle.yq_rows.specs.Rows.{Content, Row}
 use Rattle.yq_lines.specs.Group.{level_or}
-use Rattle.yq_documents.specs.Lines.{mark_line, lines_from, row_lines, lines_of}
+use Rattle.yq_walk.specs.Lines.{mark_line, lines_from, row_lines, lines_of}
 use Rattle.yq_lines.specs.Outline.{Line, level, Outline, flatten, IsOpen, IsEven, label}
 use Rattle.yq_lines.specs.Outline.{end}
 use Rattle.yq_lines.specs.Outline.{row}

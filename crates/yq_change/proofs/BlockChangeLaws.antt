@@ -4,7 +4,7 @@ use Rattle.yq_scalar.specs.Keys.{keys_of}
 use Rattle.yq_scalar.specs.Paths.{child_at, node_at}
 use Rattle.yq_scalar.specs.Tree.{Node, Children, children_of}
 use Rattle.yq_lines.specs.Group.{level_or}
-use Rattle.yq_documents.specs.Lines.{lines_from, lines_of}
+use Rattle.yq_walk.specs.Lines.{lines_from, lines_of}
 use Rattle.yq_lines.specs.Outline.{Mark, Bare, Key, Dash, Line, Outline, end, row, flatten, anchored, label, collection, children, value}
 use Rattle.yq_lines.specs.Places.{lines_before, content}
 use Rattle.yq_documents.specs.Reading.{outline_of, root_of}

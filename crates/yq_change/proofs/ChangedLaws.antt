@@ -10,7 +10,7 @@ use Rattle.yq_rows.specs.Grammar.{no_rows, begins_document}
 use Rattle.yq_rows.specs.Rows.{Row, Part, Cut, last, marked, cut_text}
 use Rattle.yq_documents.specs.Documents.{Document, IsRoot, parts_from, has_begin, begins_bare, document_parts, lead_of}
 use Rattle.yq_rows.specs.Splices.{first_gap}
-use Rattle.yq_documents.specs.Lines.{lines_from, lines_of}
+use Rattle.yq_walk.specs.Lines.{lines_from, lines_of}
 use Rattle.yq_lines.specs.Outline.{Line, Outline, end, row, flatten, value, null_node}
 use Rattle.yq_documents.specs.Reading.{root_of, document_of, is_document, all_documents, read_at}
 use Rattle.yq_lines.proofs.ByRules.{rules_from}

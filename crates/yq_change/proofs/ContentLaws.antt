@@ -26,7 +26,7 @@ use Rattle.yq_rows.specs.SpliceFits.{StandsFor}
 use Rattle.yq_rows.specs.Splices.{asked_at, first_gap, nth_part, rest_behind, splice}
 use Rattle.yq_rows.proofs.splices.RowReplaced.{row_exchanged}
 use Rattle.yq_documents.specs.Documents.{HaveFitKeys, HasShortRoot, lead_of}
-use Rattle.yq_documents.specs.Lines.{block_anchor, content_anchor, head_of, mark_of, mark_line, lines_of}
+use Rattle.yq_walk.specs.Lines.{block_anchor, content_anchor, head_of, mark_of, mark_line, lines_of}
 use Rattle.yq_documents.specs.Nodes.{anchor_of}
 use Rattle.yq_documents.specs.Reading.{outline_of, root_of}
 use Rattle.yq_tree.specs.RowPaths.{spelled, IsReadable}

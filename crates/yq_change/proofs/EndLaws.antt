@@ -27,9 +27,9 @@ use Rattle.yq_rows.proofs.splices.PartPlaces.{part_in}
 use Rattle.yq_rows.proofs.seams.TailLaws.{comment_closed, no_end_return, content_tail, tail_pairs}
 use Rattle.yq_documents.specs.Documents.{HaveFitKeys, HasShortRoot}
 use Rattle.yq_lines.specs.Group.{level_or}
-use Rattle.yq_documents.specs.Lines.{mark_line, lines_of}
+use Rattle.yq_walk.specs.Lines.{mark_line, lines_of}
 use Rattle.yq_inline.specs.Trees as trees
-use Rattle.yq_documents.specs.Lines as lines
+use Rattle.yq_walk.specs.Lines as lines
 use Rattle.yq_lines.specs.Outline.{Line, flatten}
 use Rattle.yq_lines.specs.Places.{lines_before, lines_after}
 use Rattle.yq_documents.specs.Reading.{outline_of}

@@ -5,7 +5,7 @@ use Rattle.yq_inline.specs.Scalars.{content_of}
 use Rattle.yq_inline.specs.Trees.{tree_of}
 use Rattle.yq_rows.specs.Grammar.{IsCut}
 use Rattle.yq_rows.proofs.ScanLaws.{scan_takes}
-use Rattle.yq_documents.specs.Lines.{mark_line}
+use Rattle.yq_walk.specs.Lines.{mark_line}
 use Rattle.yq_lines.specs.Places.{content, here, below, find_row}
 use Rattle.yq_documents.specs.Reading.{all_documents, outline_of, read_at, text_at}
 use Rattle.yq_tree.proofs.ReadLaws.{text_again}

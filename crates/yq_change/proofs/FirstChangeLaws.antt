@@ -16,7 +16,7 @@ use Rattle.yq_rows.proofs.splices.SpliceTexts.{own_gap, own_end}
 use Rattle.yq_rows.proofs.seams.JoinLaws.{dashes_text-append}
 use Rattle.yq_documents.specs.Documents.{lead_of}
 use Rattle.yq_tree.specs.FirstPlaces.{are_spaces, less_spaces}
-use Rattle.yq_documents.specs.Lines.{lines_from, lines_of}
+use Rattle.yq_walk.specs.Lines.{lines_from, lines_of}
 use Rattle.yq_documents.specs.Reading.{outline_of, root_of}
 use Rattle.yq_documents.proofs.RowLineLaws.{no_comments}
 use Rattle.yq_tree.specs.RowPaths.{IsReadable}

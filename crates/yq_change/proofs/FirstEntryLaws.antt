@@ -12,7 +12,7 @@ use Rattle.yq_lines.proofs.Values.{rank_small}
 use Rattle.yq_rows.specs.Grammar.{AreDashes, is_entry}
 use Rattle.yq_rows.specs.Rows as rows
 use Rattle.yq_rows.specs.Rows.{Content, Row, behind_columns, Part}
-use Rattle.yq_documents.specs.Lines.{dash_line, mark_line, lines_from, row_lines, lines_of}
+use Rattle.yq_walk.specs.Lines.{dash_line, mark_line, lines_from, row_lines, lines_of}
 use Rattle.yq_documents.specs.Reading.{outline_of}
 use Rattle.yq_documents.specs.Seats.{Seat, seat}
 use Rattle.yq_documents.proofs.RowLineLaws.{no_comments}

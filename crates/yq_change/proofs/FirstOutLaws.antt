@@ -14,7 +14,7 @@ use Rattle.yq_rows.specs.Reading.{begins_gap}
 use Rattle.yq_documents.specs.declared.path.Part.TheVariants.{Entry}
 use Rattle.yq_documents.specs.Documents.{document_parts}
 use Rattle.yq_tree.specs.FirstPlaces.{less_spaces, end_spaces, FirstOut, first_out, first_entry, first_removal}
-use Rattle.yq_documents.specs.Lines.{lines_of}
+use Rattle.yq_walk.specs.Lines.{lines_of}
 use Rattle.yq_tree.specs.PathPieces.{printed_document, piece_in}
 use Rattle.yq_documents.specs.Pieces.{Piece}
 use Rattle.yq_documents.specs.Seats.{Seat, seat, seat_of}

@@ -18,7 +18,7 @@ use Rattle.yq_rows.specs.Rows as rows
 use Rattle.yq_rows.specs.Rows.{Content, Nothing, Row, behind_columns, rows_text, Part}
 use Rattle.yq_rows.proofs.seams.FrontSeams.{rows_some}
 use Rattle.yq_documents.specs.declared.path.Part.TheVariants.{Entry}
-use Rattle.yq_documents.specs.Lines.{dash_line, lines_from, lines_of}
+use Rattle.yq_walk.specs.Lines.{dash_line, lines_from, lines_of}
 use Rattle.yq_tree.specs.PathPieces.{BlockEntry, found_entry, piece_in, piece_in_entry}
 use Rattle.yq_documents.specs.Pieces.{Piece}
 use Rattle.yq_tree.specs.PrintedLines.{PrintedLine, line_front, print_lines, printed_from, printed_lines, printed_row, line_in, run_piece}

@@ -9,7 +9,7 @@ use Rattle.yq_lines.specs.LineAnchors.{MayTake, IsFree, HaveOneAnchorEach}
 use Rattle.yq_documents.specs.Documents.{lead_of}
 use Rattle.yq_lines.specs.Group.{level_or}
 use Rattle.yq_lines.specs.Laws.{with_lines}
-use Rattle.yq_documents.specs.Lines.{lines_of}
+use Rattle.yq_walk.specs.Lines.{lines_of}
 use Rattle.yq_lines.specs.Outline.{Mark, Bare, Key, Dash, Line, level, Outline, end, row, flatten, IsOpen, IsWhole, IsEven, anchored, head_or, value}
 use Rattle.yq_lines.specs.Places.{lines_before, plug, Found, find, content}
 use Rattle.yq_documents.specs.Reading.{outline_of, root_of}

@@ -36,7 +36,7 @@ use Rattle.yq_rows.proofs.RowPlaces.{takes_place}
 use Rattle.yq_rows.proofs.seams.SeamLaws.{rows_drop}
 use Rattle.yq_rows.proofs.splices.SpliceTexts.{own_gap}
 use Rattle.yq_documents.specs.Documents.{HaveFitKeys, HasShortRoot, is_long_plain}
-use Rattle.yq_documents.specs.Lines.{mark_line, lines_of}
+use Rattle.yq_walk.specs.Lines.{mark_line, lines_of}
 use Rattle.yq_documents.specs.Reading.{outline_of}
 use Rattle.yq_tree.proofs.FlowPieces.{named_is, none_anchored, twice}
 use Rattle.yq_tree.proofs.RemovalLines.{front_some}

@@ -33,7 +33,7 @@ use Rattle.yq_documents.specs.Pieces.{before_run, last_run}
 use Rattle.yq_documents.specs.Documents.{HaveFitKeys, HasShortRoot}
 use Rattle.yq_lines.specs.Group.{level_or}
 use Rattle.yq_lines.specs.Laws.{with_lines}
-use Rattle.yq_documents.specs.Lines.{mark_line, dash_line, lines_from, lines_of}
+use Rattle.yq_walk.specs.Lines.{mark_line, dash_line, lines_from, lines_of}
 use Rattle.yq_lines.specs.Outline.{Line, level, flatten, label}
 use Rattle.yq_documents.specs.Reading.{outline_of}
 use Rattle.yq_lines.proofs.Decides.{flatten-group}

@@ -17,7 +17,7 @@ use Rattle.yq_rows.specs.Rows.{Inline, Row, mark_column, parent_of, parent_inden
 use Rattle.yq_rows.proofs.ExchangeLaws.{relimit}
 use Rattle.yq_rows.proofs.seams.SeamLaws.{rows_drop}
 use Rattle.yq_rows.proofs.seams.TailLaws.{fits_by}
-use Rattle.yq_documents.specs.Lines.{mark_of, mark_line, row_lines, lines_of}
+use Rattle.yq_walk.specs.Lines.{mark_of, mark_line, row_lines, lines_of}
 use Rattle.yq_documents.specs.Reading.{outline_of}
 use Rattle.yq_tree.proofs.NextLaws.{StartsAt, found_starts}
 use Rattle.yq_change.specs.DocumentRows.{IsDocumentPart, behind_document}

@@ -4,7 +4,7 @@ use Rattle.std.proofs.lemmas.Bool.{ltb-true, ltb-false}
 use Rattle.yq_lines.specs.Comments.{head_comment}
 use Rattle.yq_rows.specs.Rows as rows
 use Rattle.yq_rows.specs.Rows.{Content, Row, behind_columns}
-use Rattle.yq_documents.specs.Lines.{mark_line, dash_line, lines_from, row_lines, lines_of}
+use Rattle.yq_walk.specs.Lines.{mark_line, dash_line, lines_from, row_lines, lines_of}
 use Rattle.yq_lines.specs.Outline.{Line}
 use Rattle.yq_documents.specs.Seats.{Seat, seat, behind_one}
 use Rattle.yq_lines.proofs.PlaceLaws.{at}

@@ -7,7 +7,7 @@ use Rattle.yq_scalar.specs.Paths.{Step}
 use Rattle.yq_scalar.specs.Tree.{Node}
 use Rattle.yq_rows.specs.Rows.{Row}
 use Rattle.yq_lines.specs.Group.{level_or}
-use Rattle.yq_documents.specs.Lines.{lines_of}
+use Rattle.yq_walk.specs.Lines.{lines_of}
 use Rattle.yq_lines.specs.Outline.{Mark, Bare, Key, Dash, Line, Outline, flatten, IsEven}
 use Rattle.yq_lines.specs.Outline.{end}
 use Rattle.yq_lines.specs.Outline.{row}

@@ -23,7 +23,7 @@ use Rattle.yq_rows.proofs.seams.SeamLaws.{rows_drop}
 use Rattle.yq_rows.proofs.seams.TailLaws.{fits_by}
 use Rattle.yq_rows.proofs.splices.PartPlaces.{part_ends}
 use Rattle.yq_documents.specs.Documents.{lead_of}
-use Rattle.yq_documents.specs.Lines.{lines_of}
+use Rattle.yq_walk.specs.Lines.{lines_of}
 use Rattle.yq_documents.specs.Reading.{outline_of}
 use Rattle.yq_tree.specs.RowPaths.{IsReadable}
 use Rattle.yq_documents.specs.Seats.{Seat, seat_of}

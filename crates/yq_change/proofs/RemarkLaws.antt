@@ -12,7 +12,7 @@ use Rattle.yq_rows.proofs.splices.RowReplaced.{tail_replaced}
 use Rattle.yq_documents.specs.Documents.{HaveFitKeys, HasShortRoot, ContentHasFitKeys, has_lines, is_long_plain, lead_of}
 use Rattle.yq_lines.specs.Group.{level_or}
 use Rattle.yq_lines.specs.Laws.{with_lines}
-use Rattle.yq_documents.specs.Lines.{content_anchor, head_of, tail_of, mark_line, lines_of}
+use Rattle.yq_walk.specs.Lines.{content_anchor, head_of, tail_of, mark_line, lines_of}
 use Rattle.yq_lines.specs.Outline.{Line, level, flatten, label}
 use Rattle.yq_lines.specs.Places.{lines_before, lines_after, Found}
 use Rattle.yq_documents.specs.Reading.{outline_of}

@@ -22,7 +22,7 @@ use Rattle.yq_rows.specs.Grammar.{no_rows}
 use Rattle.yq_rows.specs.Rows.{Row, rows_text, Part, part_text, Cut, cut_text}
 use Rattle.yq_rows.specs.Splices.{first_gap, behind_first}
 use Rattle.yq_documents.specs.Documents.{begins_bare, has_begin, lead_of}
-use Rattle.yq_documents.specs.Lines.{lines_of}
+use Rattle.yq_walk.specs.Lines.{lines_of}
 use Rattle.yq_documents.specs.Reading.{outline_of, read_at, root_of}
 use Rattle.yq_documents.specs.Ready.{begins_no_node}
 use Rattle.yq_tree.specs.PlacedRows.{PlacedPart, placed_document}

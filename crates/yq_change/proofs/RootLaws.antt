@@ -9,7 +9,7 @@ use Rattle.yq_rows.specs.Splices.{behind_part, is_started, marker_before, nth_pa
 use Rattle.yq_rows.proofs.splices.PartPlaces.{part_after}
 use Rattle.yq_rows.proofs.splices.SpliceLaws.{spliced}
 use Rattle.yq_documents.specs.Documents.{HaveFitKeys, HasShortRoot}
-use Rattle.yq_documents.specs.Lines.{lines_of}
+use Rattle.yq_walk.specs.Lines.{lines_of}
 use Rattle.yq_change.specs.DocumentRows.{RowsFit, part_number}
 use Rattle.yq_change.specs.Replaces.{DocumentRooted, RootRowsReplaced, rooted}
 use Rattle.yq_change.proofs.BlockChangeLaws.{root_replaced}

@@ -23,7 +23,7 @@ use Rattle.yq_lines.specs.Outline.{Line}
 use Rattle.yq_scalar.specs.Paths.{To}
 use Rattle.yq_inline.specs.Alike.{Alike, after, byte}
 use Rattle.yq_rows.specs.Rows.{rows_text}
-use Rattle.yq_documents.specs.Lines.{mark_line}
+use Rattle.yq_walk.specs.Lines.{mark_line}
 use Rattle.yq_documents.specs.TreeEdits.{replaced}
 use Rattle.yq_change.proofs.ReplaceLaws.{node_rows_replaced}
 use Rattle.yq_change.proofs.Examples.{plain_row, scanned_y, y_bytes, a_entry, b_entry, old_part, b_end, new_bytes, read_old, new_cut, keys_apart}

@@ -13,7 +13,7 @@ use Rattle.yq_lines.specs.Places.{Place, here, below, beside, lines_before, comp
 use Rattle.yq_rows.specs.Rows as rows
 use Rattle.yq_rows.specs.Rows.{Row, Content, Part}
 use Rattle.yq_documents.specs.declared.path.Part as places
-use Rattle.yq_documents.specs.Lines.{head_of, mark_of, lines_from, row_lines, lines_of}
+use Rattle.yq_walk.specs.Lines.{head_of, mark_of, lines_from, row_lines, lines_of}
 use Rattle.yq_documents.specs.Ready.{begins_no_node}
 use Rattle.yq_documents.specs.Seats.{Seat, behind_one, seat, seat_has_room}
 use Rattle.yq_change.specs.Rooms.{RowShape, row_shape, SameSeats, ShapeTells}

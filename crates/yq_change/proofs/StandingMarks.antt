@@ -9,7 +9,7 @@ use Rattle.yq_rows.specs.Grammar.{AreRows, IsRow, Limit, is_entry, limit_after, 
 use Rattle.yq_rows.specs.Rows.{Cut, Row, cut_text, print_row, rows_text}
 use Rattle.yq_rows.proofs.PlaceLaws.{row_then}
 use Rattle.yq_rows.proofs.seams.SeamLaws.{rows_text-append}
-use Rattle.yq_documents.specs.Lines.{lines_of, row_lines}
+use Rattle.yq_walk.specs.Lines.{lines_of, row_lines}
 use Rattle.yq_documents.specs.Reading.{outline_of}
 use Rattle.yq_tree.specs.Standings.{PlacedEntry, behind_entry}
 use Rattle.yq_tree.proofs.CommentPieceLaws.{Ended}

@@ -18,11 +18,11 @@ use Rattle.yq_rows.specs.View.{slices}
 use Rattle.yq_rows.specs.Grammar.{unlimited}
 use Rattle.yq_rows.proofs.splices.ContentPlaces.{count_front, rows_around}
 use Rattle.yq_documents.specs.Documents.{document_parts}
-use Rattle.yq_documents.specs.Lines.{lines_of, row_lines}
+use Rattle.yq_walk.specs.Lines.{lines_of, row_lines}
 use Rattle.yq_documents.specs.Reading.{read_at}
 use Rattle.yq_documents.specs.Seats.{Seat, seat, seat_of}
 use Rattle.yq_tree.specs.PlacedRows.{PlacedPart, PlacedRow, placed_document, placed_row, row_of_path}
-use Rattle.yq_tree.specs.RowWalk.{deeper_rows, line_level}
+use Rattle.yq_walk.specs.RowWalk.{deeper_rows, line_level}
 use Rattle.yq_tree.proofs.DashLaws.{line_within}
 use Rattle.yq_tree.proofs.FoundLines.{each}
 use Rattle.yq_tree.proofs.PrintedTexts.{map_some}
@@ -30,9 +30,9 @@ use Rattle.yq_tree.proofs.ReadLaws.{text_takes}
 use Rattle.yq_tree.proofs.RowPathLaws.{document_fine}
 use Rattle.yq_tree.proofs.SeatedLaws.{steps_row}
 use Rattle.yq_tree.proofs.UnderCounts.{end_is}
-use Rattle.yq_tree.proofs.WalkEnds.{ends_at, lines_upto}
-use Rattle.yq_tree.proofs.WalkLevels.{AreTelling, IsLineOf, IsTelling, level_is, line_in}
-use Rattle.yq_tree.proofs.WalkRows.{rows_telling}
+use Rattle.yq_walk.proofs.WalkEnds.{ends_at, lines_upto}
+use Rattle.yq_walk.proofs.WalkLevels.{AreTelling, IsLineOf, IsTelling, level_is, line_in}
+use Rattle.yq_walk.proofs.WalkRows.{rows_telling}
 use Rattle.yq_change.specs.DocumentRows.{IsDocumentPart, behind_document}
 use Rattle.yq_change.specs.PlacedParts.{StandsAt}
 use Rattle.yq_change.proofs.LineLaws.{row_count}

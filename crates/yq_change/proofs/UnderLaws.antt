@@ -10,7 +10,7 @@ use Rattle.yq_lines.proofs.Decides.{flatten-group}
 use Rattle.yq_rows.specs.Grammar.{is_entry}
 use Rattle.yq_rows.specs.Rows as rows
 use Rattle.yq_rows.specs.Rows.{Content, Row, mark_column, Part}
-use Rattle.yq_documents.specs.Lines.{mark_of, mark_line, lines_of}
+use Rattle.yq_walk.specs.Lines.{mark_of, mark_line, lines_of}
 use Rattle.yq_documents.specs.Reading.{outline_of}
 use Rattle.yq_change.specs.Moved.{dash_lines}
 use Rattle.yq_change.specs.Siblings.{IsEntry}

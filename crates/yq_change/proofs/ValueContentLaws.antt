@@ -19,7 +19,7 @@ use Rattle.yq_rows.specs.Rows as rows
 use Rattle.yq_rows.specs.Rows.{Content, Nothing, Inline, Block, content_text}
 use Rattle.yq_documents.specs.Documents.{ContentHasFitKeys, is_long_plain}
 use Rattle.yq_rows.specs.Seams.{is_block}
-use Rattle.yq_documents.specs.Lines.{content_anchor, head_of, tail_of}
+use Rattle.yq_walk.specs.Lines.{content_anchor, head_of, tail_of}
 use Rattle.yq_change.specs.InlineRows.{IsValueNode}
 use Rattle.yq_change.proofs.CoreLaws.{recore, put_core, core_head, core_anchor, core_keys, core_bare, core_more, core_node}
 

@@ -10,7 +10,7 @@ use Rattle.yq_rows.specs.Rows.{Part, Cut, last, marked, cut_text}
 use Rattle.yq_scalar.specs.Anchors.{names_of, AreBound}
 use Rattle.yq_lines.specs.LineAnchors.{HaveOneAnchorEach}
 use Rattle.yq_documents.specs.Documents.{Document, HaveFitKeys, HasShortRoot, IsDocument, begins_bare, document_parts, has_begin, lead_of}
-use Rattle.yq_documents.specs.Lines.{lines_of}
+use Rattle.yq_walk.specs.Lines.{lines_of}
 use Rattle.yq_lines.specs.Outline.{Line}
 use Rattle.yq_documents.specs.Reading.{documents, read_at, root_of}
 use Rattle.yq_change.specs.Siblings.{StandsSomewhere}

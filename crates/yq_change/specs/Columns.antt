@@ -5,7 +5,7 @@ use Rattle.yq_rows.specs.Exchange.{allows_first, asked_behind}
 use Rattle.yq_rows.specs.Grammar.{Limit, AreRows, no_rows}
 use Rattle.yq_rows.specs.Rows.{Row}
 use Rattle.yq_rows.specs.Removal.{last_block, next_column, StandsLess}
-use Rattle.yq_documents.specs.Lines.{lines_of}
+use Rattle.yq_walk.specs.Lines.{lines_of}
 use Rattle.yq_lines.specs.Outline.{Line, level}
 use Rattle.yq_change.specs.LineRows.{AreClosed, AreDeep, Begins, StandApart}
 

@@ -10,7 +10,7 @@ use Rattle.yq_rows.specs.Grammar.{unlimited}
 use Rattle.yq_rows.specs.Rows.{Bare, Content, Row, rows_text, Part, Cut, cut_text}
 use Rattle.yq_rows.specs.SpliceFits.{StandsFor}
 use Rattle.yq_documents.specs.Documents.{ContentHasFitKeys, is_long_plain, lead_of}
-use Rattle.yq_documents.specs.Lines.{content_anchor, head_of, tail_of, lines_of}
+use Rattle.yq_walk.specs.Lines.{content_anchor, head_of, tail_of, lines_of}
 use Rattle.yq_documents.specs.Reading.{outline_of, root_of}
 use Rattle.yq_tree.specs.RowPaths.{IsReadable}
 use Rattle.yq_documents.specs.TreeEdits.{replaced}

@@ -2,7 +2,7 @@
 use Rattle.std.specs.Prelude.{◌≡◌, ℕ, List, ◌∷◌, ◌++◌, length, Some}
 use Rattle.yq_scalar.specs.Paths.{Step}
 use Rattle.yq_rows.specs.Rows.{Row, Part}
-use Rattle.yq_documents.specs.Lines.{lines_of}
+use Rattle.yq_walk.specs.Lines.{lines_of}
 use Rattle.yq_lines.specs.Outline.{flatten, IsEven}
 use Rattle.yq_lines.specs.Places.{Found}
 use Rattle.yq_documents.specs.Reading.{outline_of}

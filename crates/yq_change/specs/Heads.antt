@@ -7,7 +7,7 @@ use Rattle.yq_rows.specs.Gap.{IsGap}
 use Rattle.yq_rows.specs.Rows.{Row, behind_gap, rows_text, Part, Cut, cut_text}
 use Rattle.yq_documents.specs.Pieces.{before_run}
 use Rattle.yq_documents.specs.Documents.{lead_of}
-use Rattle.yq_documents.specs.Lines.{lines_of}
+use Rattle.yq_walk.specs.Lines.{lines_of}
 use Rattle.yq_lines.specs.Places.{Found}
 use Rattle.yq_documents.specs.Reading.{outline_of}
 use Rattle.yq_tree.specs.RowPaths.{IsReadable}

@@ -2,7 +2,7 @@
 use Rattle.std.specs.Prelude.{◌≡◌, ℕ, ◌+◌, ◌≤◌, List, [], ◌∷◌, ◌++◌, length, Some, is_some, true, ⊤}
 use Rattle.yq_scalar.specs.Paths.{Step}
 use Rattle.yq_rows.specs.Rows.{Row}
-use Rattle.yq_documents.specs.Lines.{lines_of}
+use Rattle.yq_walk.specs.Lines.{lines_of}
 use Rattle.yq_lines.specs.Outline.{Line, level, Outline, flatten, IsEven}
 use Rattle.yq_lines.specs.Places.{lines_before, lines_after, Found}
 use Rattle.yq_documents.specs.Seats.{Seat, seat}

@@ -4,7 +4,7 @@ use Rattle.yq_scalar.specs.Paths.{Step, change, relabel_child, within}
 use Rattle.yq_lines.specs.Comments.{line_comment, head_comment}
 use Rattle.yq_rows.specs.Rows.{Row, Part, Cut, cut_text}
 use Rattle.yq_documents.specs.Documents.{lead_of}
-use Rattle.yq_documents.specs.Lines.{lines_of}
+use Rattle.yq_walk.specs.Lines.{lines_of}
 use Rattle.yq_lines.specs.Outline.{Outline, IsEven}
 use Rattle.yq_lines.specs.Places.{Found}
 use Rattle.yq_documents.specs.Reading.{outline_of}

@@ -6,7 +6,7 @@ use Rattle.yq_rows.specs.Rows.{Row, parent_indent, rows_text, Part, Cut, cut_tex
 use Rattle.yq_rows.specs.Seams.{TailFits, is_block, retail}
 use Rattle.yq_rows.specs.Splices.{first_gap}
 use Rattle.yq_documents.specs.Documents.{lead_of}
-use Rattle.yq_documents.specs.Lines.{lines_of}
+use Rattle.yq_walk.specs.Lines.{lines_of}
 use Rattle.yq_lines.specs.Places.{Found}
 use Rattle.yq_documents.specs.Reading.{outline_of}
 use Rattle.yq_tree.specs.RowPaths.{IsReadable}

@@ -5,7 +5,7 @@ use Rattle.yq_scalar.specs.Tree.{none, children_of}
 use Rattle.yq_rows.specs.Rows.{Mark, Row, Part}
 use Rattle.yq_documents.specs.declared.path.Part as places
 use Rattle.yq_documents.specs.Documents.{lead_of}
-use Rattle.yq_documents.specs.Lines.{head_of, lines_of}
+use Rattle.yq_walk.specs.Lines.{head_of, lines_of}
 use Rattle.yq_documents.specs.Reading.{outline_of, root_of}
 use Rattle.yq_documents.specs.Ready.{begins_no_node}
 use Rattle.yq_documents.specs.Seats.{seat_of, seat_has_room}

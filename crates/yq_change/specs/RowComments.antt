@@ -11,7 +11,7 @@ use Rattle.yq_rows.specs.Rows.{Content, Block, Row, rows_text, Part, Cut, cut_te
 use Rattle.yq_rows.specs.Seams.{TakesPlace}
 use Rattle.yq_rows.specs.Splices.{first_gap}
 use Rattle.yq_documents.specs.Documents.{ContentHasFitKeys, is_long_plain, lead_of}
-use Rattle.yq_documents.specs.Lines.{content_anchor, head_of, tail_of, lines_of}
+use Rattle.yq_walk.specs.Lines.{content_anchor, head_of, tail_of, lines_of}
 use Rattle.yq_documents.specs.Reading.{outline_of}
 use Rattle.yq_tree.specs.RowPaths.{IsReadable}
 use Rattle.yq_documents.specs.TreeEdits.{with_line_comment}

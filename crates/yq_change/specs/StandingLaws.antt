@@ -6,7 +6,7 @@ use Rattle.yq_lines.specs.Outline.{flatten}
 use Rattle.yq_lines.specs.Places.{Found, find, lines_before}
 use Rattle.yq_rows.specs.Rows.{Cut, Part, cut_text, part_text}
 use Rattle.yq_documents.specs.Documents.{document_parts}
-use Rattle.yq_documents.specs.Lines.{lines_of}
+use Rattle.yq_walk.specs.Lines.{lines_of}
 use Rattle.yq_documents.specs.Reading.{outline_of, read_at}
 use Rattle.yq_tree.specs.NodesAt.{node_in}
 use Rattle.yq_change.specs.Changed.{put_document}

@@ -5,7 +5,7 @@ use Rattle.yq_inline.specs.Nodes as inline
 use Rattle.yq_lines.specs.Outline.{flatten}
 use Rattle.yq_lines.specs.Places.{lines_before, Found, find}
 use Rattle.yq_rows.specs.Rows.{Content, Inline, Row, Part}
-use Rattle.yq_documents.specs.Lines.{lines_of}
+use Rattle.yq_walk.specs.Lines.{lines_of}
 use Rattle.yq_documents.specs.Reading.{outline_of}
 
 -- Steps lead to an item or entry whose line is that of a row's mark, with these rows under it, between others in front and others behind.

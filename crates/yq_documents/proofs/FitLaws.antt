@@ -22,7 +22,7 @@ use Rattle.yq_documents.specs.Documents.{has_lines, is_long_plain}
 use Rattle.yq_documents.specs.Reading.{has_short_root}
 use Rattle.yq_documents.specs.FitReading.{is_plain_head, is_long}
 use Rattle.yq_documents.specs.PartReading.{HasRows}
-use Rattle.yq_documents.proofs.RowLineLaws.{colon_some}
+use Rattle.yq_walk.proofs.RowLaws.{colon_some}
 
 or_none : (x : Bool) → not (x || false) ≡ not x
 or_none true = refl

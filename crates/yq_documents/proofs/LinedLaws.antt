@@ -15,7 +15,7 @@ use Rattle.yq_rows.specs.Splices.{first_gap}
 use Rattle.yq_documents.specs.Documents.{lead_of}
 use Rattle.yq_documents.specs.FlowReading.{rows_flows, part_flows}
 use Rattle.yq_documents.specs.KeyReading.{EndsIn}
-use Rattle.yq_documents.specs.Lines.{lines_of}
+use Rattle.yq_walk.specs.Lines.{lines_of}
 use Rattle.yq_lines.specs.Outline.{Line}
 use Rattle.yq_documents.specs.PartReading.{HasRows, HasPart, part_made, part_fits, lined_made}
 use Rattle.yq_documents.specs.Reading.{have_fit_keys, has_short_root}

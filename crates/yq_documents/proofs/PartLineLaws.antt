@@ -13,7 +13,7 @@ use Rattle.yq_rows.specs.Rows.{Row, rows_text}
 use Rattle.yq_rows.specs.View.{Slices, slices}
 use Rattle.yq_documents.specs.FlowReading.{row_flows, rows_flows}
 use Rattle.yq_documents.specs.KeyReading.{EndsIn}
-use Rattle.yq_documents.specs.Lines.{row_lines, lines_of}
+use Rattle.yq_walk.specs.Lines.{row_lines, lines_of}
 use Rattle.yq_lines.specs.Outline.{Line}
 use Rattle.yq_documents.specs.PartReading.{HasRows, part_made}
 use Rattle.yq_documents.specs.Reading.{mark_is_fit, content_is_fit, have_fit_keys}

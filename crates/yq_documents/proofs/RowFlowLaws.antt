@@ -22,10 +22,11 @@ use Rattle.yq_rows.specs.View.{Slices, last_dash, anchor_cut, content_cut, slice
 use Rattle.yq_lines.specs.declared.line.Line as declared
 use Rattle.yq_documents.specs.FlowReading.{kept, node_flow_at, head_flow_at, core, content_core, row_flow, row_flows}
 use Rattle.yq_documents.specs.KeyReading.{EndsIn}
-use Rattle.yq_documents.specs.Lines.{tail_of, mark_line, lines_from}
+use Rattle.yq_walk.specs.Lines.{tail_of, mark_line, lines_from}
 use Rattle.yq_lines.specs.Outline.{Line}
 use Rattle.yq_documents.specs.RowReading.{is_short_plain, begins_block, Begun, dashes_at, from_head, HasRow, HasHead}
 use Rattle.yq_lines.specs.View.{views, head_flow, flows}
+use Rattle.yq_walk.proofs.RowLaws.{lines_count}
 use Rattle.yq_documents.proofs.HeadLaws.{ends_drop, head_text, opens, block_marks, scalar_some_is}
 use Rattle.yq_documents.proofs.RowLineLaws.{finish, dashes_are}
 
@@ -119,10 +120,6 @@ head_is whole n (Block space anchor block) rest ends h =
     by_block whole n (mark_of block.style ∷ block.indicators) (head_text (Block space anchor block) rest) refl (block_marks block.style block.indicators) ∙ empty_none (length whole) (block.tail ++ rest)
 
 -- how many lines a row's dashes are
-pub lines_count : (above : List (List ℕ)) (column : ℕ) (ns : List ℕ) (m : rows.Mark) (c : Content) → length (lines_from above column ns m c) ≡ suc (length ns)
-lines_count above column [] m c = refl
-lines_count above column (n ∷ ns) m c = ap suc (lines_count [] (suc (column + n)) ns m c)
-
 dashes_count : (r : Row) (limit : Limit) (rest : List ℕ) (lines : List Line) (b : Begun) → IsRow limit r rest → b ≡ dashes_at lines r.gap r.column (dashes_text r.dashes (last_dash r.mark)) → length b.lines ≡ length lines + length r.dashes
 dashes_count r limit rest lines b h begun =
     let line = mark_line (comments.head_comment b.gap) b.column r.mark r.content in

@@ -1,5 +1,5 @@
 -- The lines of a row are made of its pieces.
-use Rattle.std.proofs.Common.{◌≡◌, ◌≤◌, inl, inr, ℕ, ℤ, zero, suc, ◌+◌, Bool, true, false, ◌&&◌, cond, not, eqb, codes, List, [], ◌∷◌, ◌++◌, Option, Some, None, refl, sym, ap, ◌∙◌, subst, replicate, append_assoc, append-nil, arith, length, length-append}
+use Rattle.std.proofs.Common.{◌≡◌, ◌≤◌, ℕ, ℤ, zero, suc, ◌+◌, Bool, true, false, ◌&&◌, cond, not, codes, List, [], ◌∷◌, ◌++◌, Option, Some, None, refl, sym, ap, ◌∙◌, subst, replicate, append_assoc, append-nil, arith, length, length-append}
 use Rattle.std.proofs.lemmas.List.{length-replicate}
 use Rattle.std.specs.Str.{bytes_eq}
 use Rattle.std.proofs.lemmas.Bool.{false≢true, and_from, cond-true, cond-false, and_right}
@@ -11,35 +11,30 @@ use Rattle.yq_scalar.specs.declared.block_header.BlockStyle.{BlockStyle}
 use Rattle.yq_scalar.specs.declared.block_header.BlockStyle.TheVariants as styles
 use Rattle.yq_scalar.specs.Block.{mark_of as block_mark}
 use Rattle.yq_scalar.specs.Piece.{deeper}
-use Rattle.yq_scalar.specs.Plain.{begins_plain}
 use Rattle.yq_scalar.specs.Quoted.{IsQuotedText}
 use Rattle.yq_scalar.specs.Text.{is_empty, lines_of}
 use Rattle.yq_scalar.specs.Tree as trees
 use Rattle.yq_inline.specs.Inline.{depth_limit}
 use Rattle.yq_inline.specs.Nodes.{Node, empty, alias, scalar, coll, anchored, node_text, items_text, IsNode}
 use Rattle.yq_inline.proofs.NodeAgain.{is_anchored, takes_unanchored}
-use Rattle.yq_inline.specs.Scalars.{IsScalar, is_quoted, content_of}
-use Rattle.yq_inline.proofs.PieceLaws.{front_not}
+use Rattle.yq_inline.specs.Scalars.{is_quoted, content_of}
 use Rattle.yq_lines.specs.Comments as comments
 use Rattle.yq_rows.specs.Grammar.{IsMark, IsContent, AreDashes, Limit, IsRow}
 use Rattle.yq_rows.specs.Rows as rows
 use Rattle.yq_rows.specs.Rows.{Content, Nothing, Inline, Block, Row, dashes_text, parent_indent, print_row}
 use Rattle.yq_rows.specs.View.{Slices, last_dash, key_of, colon_of, anchor_cut, content_cut, slices, slices_text}
 use Rattle.yq_rows.proofs.SliceLaws.{slices_are}
-use Rattle.yq_documents.specs.Lines.{content_anchor, head_of, tail_of, mark_of, mark_line, dash_line, lines_from, row_lines}
+use Rattle.yq_walk.specs.Lines.{content_anchor, head_of, tail_of, mark_of, mark_line, dash_line, lines_from, row_lines}
 use Rattle.yq_lines.specs.Outline.{Mark, Bare, Key, Dash, Line}
 use Rattle.yq_documents.specs.FitReading.{key_fits}
 use Rattle.yq_documents.specs.KeyReading.{EndsIn}
 use Rattle.yq_documents.specs.Reading.{mark_is_fit, content_is_fit}
 use Rattle.yq_documents.specs.RowReading.{name_in, Begun, dashes_at, mark_at, line_with, line_at, from_head, head_at, HasRow, HasHead, row_fits, row_made}
+use Rattle.yq_walk.proofs.RowLaws.{colon_some, mark_quoted, scalar_quoted}
 use Rattle.yq_documents.proofs.FlowKeyLaws.{past}
 use Rattle.yq_documents.proofs.HeadLaws.{fitting, head_is, opens}
 
 -- the pieces of a row tell its mark, its anchor and its tail
-pub colon_some : (white : List ℕ) → is_empty (white ++ 58 ∷ []) ≡ false
-colon_some [] = refl
-colon_some (b ∷ bs) = refl
-
 abbrev marked : rows.Mark → Mark
 marked m = cond (is_empty (colon_of m)) (cond (is_empty (last_dash m)) Bare Dash) (Key (content_of (key_of m)))
 
@@ -64,26 +59,9 @@ tail_is (Inline space node tail) = refl
 tail_is (Block space anchor block) = refl
 
 -- a quoted key is a quoted scalar
-plain_key : (key rest : List ℕ) → begins_plain false (key ++ rest) ≡ true → is_quoted key ≡ true → IsQuotedText key
-plain_key [] rest h q = absurd (false≢true q)
-plain_key (b ∷ bs) rest h q =
-    let double : eqb b 34 ≡ false = front_not (begins_plain false) 34 (λ cs. refl) (b ∷ (bs ++ rest)) h in
-    let single : eqb b 39 ≡ false = front_not (begins_plain false) 39 (λ cs. refl) (b ∷ (bs ++ rest)) h in
-    let no : is_quoted (b ∷ bs) ≡ false = rw (double, single) refl in
-    absurd (false≢true (sym no ∙ q))
-
-scalar_quoted : (spaces : Option ℕ) (p rest : List ℕ) → IsScalar false spaces p rest → is_quoted p ≡ true → IsQuotedText p
-scalar_quoted spaces p rest (inl h) q = plain_key p rest h.begins q
-scalar_quoted spaces p rest (inr h) q = (h.0.0, (h.0.1.0, (rest, h.0.1.1)))
-
-key_is : (m : rows.Mark) (c : Content) (rest : List ℕ) → IsMark m c rest → is_quoted (key_of m) ≡ true → IsQuotedText (key_of m)
-key_is rows.Bare c rest h q = absurd (false≢true q)
-key_is rows.Dash c rest h q = absurd (false≢true q)
-key_is (rows.Key key colon) c rest h q = scalar_quoted None key (colon ++ rows.content_text c rest) h.scalar q
-
 pub quoted_key : (s : Slices) (t : List ℕ) → HasRow s t → is_quoted s.key ≡ true → IsQuotedText s.key
 quoted_key s t h =
-    subst (λ (x : Slices). is_quoted x.key ≡ true → IsQuotedText x.key) (sym h.pieces) (key_is h.row.mark h.row.content h.rest h.valid.mark)
+    subst (λ (x : Slices). is_quoted x.key ≡ true → IsQuotedText x.key) (sym h.pieces) (mark_quoted h.row.mark h.row.content h.rest h.valid.mark)
 
 -- a quoted head is a quoted scalar
 written_quoted : (n : ℤ) (node : Node) (rest : List ℕ) → is_anchored node ≡ false → IsNode false (Some (deeper n)) depth_limit node rest → is_quoted (node_text node []) ≡ true → IsQuotedText (node_text node [])

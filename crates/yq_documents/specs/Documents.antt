@@ -15,7 +15,7 @@ use Rattle.yq_rows.specs.Splices.{first_gap}
 use Rattle.yq_scalar.specs.Anchors.{names_of, AreBound}
 use Rattle.yq_lines.specs.LineAnchors.{HaveOneAnchorEach}
 use Rattle.yq_lines.specs.Grammar.{IsNode}
-use Rattle.yq_documents.specs.Lines.{lines_of}
+use Rattle.yq_walk.specs.Lines.{lines_of}
 use Rattle.yq_lines.specs.Outline.{Line, null_node}
 
 -- A document: the comment before it and its root node (9.1; own).

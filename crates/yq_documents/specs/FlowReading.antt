@@ -12,7 +12,7 @@ use Rattle.yq_rows.specs.Rows as rows
 use Rattle.yq_rows.specs.Rows.{Row, rows_text, Part, Cut, last, marked, cut_text}
 use Rattle.yq_documents.specs.declared.part_lines.PartLines.{PartLines}
 use Rattle.yq_documents.specs.Documents.{begins_bare, has_begin}
-use Rattle.yq_documents.specs.Lines.{tail_of}
+use Rattle.yq_walk.specs.Lines.{tail_of}
 use Rattle.yq_documents.specs.PartReading.{Marked, parts_text}
 use Rattle.yq_documents.specs.RowReading.{begins_block, is_short_plain}
 use Rattle.yq_lines.specs.View.{flows}

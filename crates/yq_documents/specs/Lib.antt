@@ -19,7 +19,6 @@ pub use Rattle.yq_lines.specs.Laws
 pub use Rattle.yq_lines.specs.ShapedLines
 pub mod Seats
 pub mod SoundReading
-pub mod Lines
 pub mod Children
 pub mod Documents
 pub mod Reading

@@ -7,7 +7,7 @@ use Rattle.yq_rows.specs.Rows.{Row, rows_text, Part, part_text}
 use Rattle.yq_rows.specs.View.{Slices, slices, Bound}
 use Rattle.yq_documents.specs.declared.part_lines.PartLines.{PartLines}
 use Rattle.yq_documents.specs.Documents.{lead_of, with_part}
-use Rattle.yq_documents.specs.Lines.{lines_of}
+use Rattle.yq_walk.specs.Lines.{lines_of}
 use Rattle.yq_lines.specs.Outline.{Line}
 use Rattle.yq_documents.specs.Reading.{have_fit_keys, has_short_root}
 use Rattle.yq_lines.specs.View.{views}

@@ -14,7 +14,7 @@ use Rattle.yq_rows.specs.Rows.{Content, Nothing, Inline, Block, Row, Part, Cut, 
 use Rattle.yq_scalar.specs.Anchors.{names_of}
 use Rattle.yq_documents.specs.Documents.{Document, document_parts, lead_of, is_long_plain}
 use Rattle.yq_lines.specs.Group.{group}
-use Rattle.yq_documents.specs.Lines.{lines_of}
+use Rattle.yq_walk.specs.Lines.{lines_of}
 use Rattle.yq_lines.specs.LinesReading.{have_one_anchor_each, are_bound}
 use Rattle.yq_lines.specs.Outline.{Outline, value}
 use Rattle.yq_lines.specs.Sound.{is_sound}

@@ -20,7 +20,7 @@ use Rattle.yq_rows.specs.Grammar.{Limit, IsRow}
 use Rattle.yq_rows.specs.Rows.{Row, print_row}
 use Rattle.yq_rows.specs.View.{Slices, slices}
 use Rattle.yq_documents.specs.KeyReading.{node_fits}
-use Rattle.yq_documents.specs.Lines.{dash_line, row_lines}
+use Rattle.yq_walk.specs.Lines.{dash_line, row_lines}
 use Rattle.yq_lines.specs.Outline.{Mark, Bare, Key, Dash, Line}
 use Rattle.yq_documents.specs.Reading.{mark_is_fit, content_is_fit}
 use Rattle.yq_documents.specs.declared.front.Front.{Front}

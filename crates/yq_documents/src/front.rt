@@ -5,7 +5,7 @@ ghost use Rattle.yq_inline.specs.Scalars as scalars;
 ghost use Rattle.yq_rows.specs.View.{slices_text, view as row_view};
 ghost use Rattle.yq_documents.specs.RowReading as spec;
 ghost use Rattle.yq_lines.specs.Comments as comments;
-ghost use Rattle.yq_documents.specs.Lines as lines_spec;
+ghost use Rattle.yq_walk.specs.Lines as lines_spec;
 ghost use Rattle.yq_lines.specs.View.{mark_view, view, views, flows, head_flow};
 
 use std::alloc::{AllocError, Global};

@@ -10,7 +10,7 @@ use Rattle.yq_scalar.specs.Text.{is_line}
 use Rattle.yq_lines.specs.Outline.{flatten}
 use Rattle.yq_rows.specs.Rows.{print_row, Row, rows_text, Part, Cut, cut_text}
 use Rattle.yq_tree.specs.CollectionEnds.{CollectionEnd}
-use Rattle.yq_documents.specs.Lines.{lines_of}
+use Rattle.yq_walk.specs.Lines.{lines_of}
 use Rattle.yq_documents.specs.Reading.{read_at}
 use Rattle.yq_tree.specs.RowPaths.{IsReadable}
 use Rattle.yq_block.specs.declared.layout.Layout.{Layout}

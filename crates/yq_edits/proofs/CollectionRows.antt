@@ -11,7 +11,7 @@ use Rattle.yq_rows.specs.Grammar.{AreRows, unlimited}
 use Rattle.yq_rows.specs.Rows.{Row, behind_columns, dashes_text, print_row, rows_text}
 use Rattle.yq_tree.specs.CollectionEnds.{is_broken}
 use Rattle.yq_tree.specs.PrintedLines.{last_break}
-use Rattle.yq_tree.proofs.WalkLevels.{AreTelling, IsTelling}
+use Rattle.yq_walk.proofs.WalkLevels.{AreTelling, IsTelling}
 use Rattle.yq_change.specs.Siblings.{IsEntry}
 use Rattle.yq_change.proofs.EndedRowLaws.{row_there, rows_then}
 use Rattle.yq_rows.proofs.seams.SeamLaws.{rows_text-append}

@@ -22,7 +22,7 @@ use Rattle.yq_rows.proofs.RowAgain.{row_starts}
 use Rattle.yq_rows.proofs.SliceLaws.{content_slices}
 use Rattle.yq_rows.proofs.seams.ScalarSeams.{last_no_space}
 use Rattle.yq_tree.specs.CollectionEnds.{is_broken}
-use Rattle.yq_documents.specs.Lines.{mark_of}
+use Rattle.yq_walk.specs.Lines.{mark_of}
 use Rattle.yq_lines.specs.Spots.{is_bare}
 use Rattle.yq_tree.specs.Standings.{is_alone}
 use Rattle.yq_tree.specs.PrintedLines.{end_break, last_break, less_break}

@@ -25,7 +25,7 @@ use Rattle.yq_rows.proofs.RowAgain.{row_starts}
 use Rattle.yq_tree.specs.CommentPlaces.{LinesAbove, above_row}
 use Rattle.yq_tree.specs.FirstBreak.{first_break}
 use Rattle.yq_documents.specs.Documents.{lead_of}
-use Rattle.yq_documents.specs.Lines as lines
+use Rattle.yq_walk.specs.Lines as lines
 use Rattle.yq_documents.specs.Pieces.{before_run, last_run}
 use Rattle.yq_tree.specs.PlacedRows.{PlacedRow, placed_row}
 use Rattle.yq_documents.specs.Reading.{read_at, root_of}

@@ -170,7 +170,7 @@ row_then_text r tail rest =
 shape_same : (r : Row) (tail : List ℕ) → row_shape (tailed tail r) ≡ row_shape r
 shape_same r tail = ap (λ (h : Bool). record { column = r.column; dashes = r.dashes; mark = r.mark; headed = h }) (go r.content)
   where
-    go : (c : Content) → Rattle.std.specs.Option.is_some (Rattle.yq_documents.specs.Lines.head_of (with_line_tail tail c)) ≡ Rattle.std.specs.Option.is_some (Rattle.yq_documents.specs.Lines.head_of c)
+    go : (c : Content) → Rattle.std.specs.Option.is_some (Rattle.yq_walk.specs.Lines.head_of (with_line_tail tail c)) ≡ Rattle.std.specs.Option.is_some (Rattle.yq_walk.specs.Lines.head_of c)
     go (Nothing e) = refl
     go (Inline space node e) = refl
     go (Block space anchor block) = refl

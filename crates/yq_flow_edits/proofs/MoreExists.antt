@@ -24,7 +24,7 @@ use Rattle.yq_rows.specs.Grammar.{IsContent, IsRow, Limit, unlimited}
 use Rattle.yq_rows.specs.Rows.{Content, Nothing, Inline, Block, Cut, Part, Row, cut_text, parent_indent, rows_text}
 use Rattle.yq_rows.specs.View.{anchor_cut, content_cut, slices}
 use Rattle.yq_documents.specs.Documents.{document_parts}
-use Rattle.yq_documents.specs.Lines.{head_of, lines_from, lines_of, mark_of}
+use Rattle.yq_walk.specs.Lines.{head_of, lines_from, lines_of, mark_of}
 use Rattle.yq_documents.specs.Reading.{outline_of, read_at, root_of}
 use Rattle.yq_tree.specs.FlowNodes.{find_head, flow_collection}
 use Rattle.yq_tree.specs.PlacedRows.{PlacedPart}

@@ -16,7 +16,7 @@ use Rattle.yq_lines.proofs.ChildLaws.{anchored_children}
 use Rattle.yq_lines.proofs.Finding.{row_child}
 use Rattle.yq_rows.specs.Rows.{Part, Cut, cut_text}
 use Rattle.yq_documents.specs.Documents.{Document, document_parts}
-use Rattle.yq_documents.specs.Lines.{lines_of}
+use Rattle.yq_walk.specs.Lines.{lines_of}
 use Rattle.yq_documents.specs.Reading.{documents, outline_of, read_at, root_of}
 use Rattle.yq_documents.specs.Seats.{seat, seat_of}
 use Rattle.yq_tree.specs.FlowNodes.{find_head}

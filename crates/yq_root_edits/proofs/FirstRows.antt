@@ -10,7 +10,7 @@ use Rattle.yq_rows.specs.Grammar.{IsMark}
 use Rattle.yq_rows.specs.Rows as rows
 use Rattle.yq_rows.specs.Rows.{Content, Row, behind_dashes, behind_indent, content_text, dashes_text, mark_text}
 use Rattle.yq_rows.proofs.PlaceLaws.{content_then}
-use Rattle.yq_documents.specs.Lines.{lines_from, lines_of, mark_of}
+use Rattle.yq_walk.specs.Lines.{lines_from, lines_of, mark_of}
 use Rattle.yq_documents.specs.Ready.{begins_no_node}
 use Rattle.yq_tree.specs.PrintedLines.{last_break}
 use Rattle.yq_tree.specs.Standings.{is_alone}

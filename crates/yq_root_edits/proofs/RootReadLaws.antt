@@ -18,7 +18,7 @@ use Rattle.yq_rows.specs.Rows.{Row, rows_text, Part, Cut, cut_text}
 use Rattle.yq_rows.specs.SpliceFits.{is_after}
 use Rattle.yq_rows.specs.Splices.{first_gap, marker_before}
 use Rattle.yq_documents.specs.Documents.{Document, document_parts, lead_of}
-use Rattle.yq_documents.specs.Lines.{lines_of}
+use Rattle.yq_walk.specs.Lines.{lines_of}
 use Rattle.yq_documents.specs.Nodes.{anchor_of}
 use Rattle.yq_tree.specs.PlacedRows.{PlacedPart}
 use Rattle.yq_documents.specs.Reading as reading

@@ -27,7 +27,7 @@ use Rattle.yq_rows.proofs.PlainEnds.{tail_ends, gap_line}
 use Rattle.yq_rows.proofs.seams.FrontSeams.{behind_row_some}
 use Rattle.yq_rows.proofs.seams.SeamLaws.{part_line}
 use Rattle.yq_documents.specs.Documents.{HaveFitKeys, HasShortRoot, is_long_plain}
-use Rattle.yq_documents.specs.Lines.{mark_line, lines_from, lines_of}
+use Rattle.yq_walk.specs.Lines.{mark_line, lines_from, lines_of}
 use Rattle.yq_documents.specs.TreeEdits.{headed}
 use Rattle.yq_block.specs.declared.layout.Layout.{Layout}
 use Rattle.yq_block.specs.BlockRows.{inline_of, node_rows}

@@ -25,7 +25,7 @@ use Rattle.yq_documents.specs.Documents.{begins_bare, has_begin, lead_of}
 use Rattle.yq_tree.specs.PlacedRows.{PlacedPart, part_behind, placed_part}
 use Rattle.yq_documents.specs.Reading.{read_at}
 use Rattle.yq_documents.specs.Ready.{begins_no_node}
-use Rattle.yq_documents.specs.Lines.{lines_of}
+use Rattle.yq_walk.specs.Lines.{lines_of}
 use Rattle.yq_tree.specs.Standings.{NoRows}
 use Rattle.yq_tree.proofs.CommentPieceLaws.{gap_end}
 use Rattle.yq_tree.proofs.PlacedPartLaws.{map_some}

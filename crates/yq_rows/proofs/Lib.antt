@@ -18,6 +18,7 @@ pub mod NodeExchange
 pub mod NodeFronts
 pub mod NodePieces
 pub mod PartsLaws
+pub mod PieceCuts
 pub mod PieceLaws
 pub mod PlaceLaws
 pub mod RowAgain

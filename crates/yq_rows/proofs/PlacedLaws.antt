@@ -199,11 +199,3 @@ scanned_places t text p h =
 pub scanned_shown : (t : List ℕ) (text : Halves) (p : Places) → Scanned t text p → shown_in text p ≡ record { rows = rows_in t p.front.items; bounds = bounds_in t p.ends.items }
 unfolding scanned_places
 scanned_shown t text p h = have_shown text p (scanned_places t text p h) ∙ (ap shown_items (append-nil h.read.items) ∙ sym h.read.shown_is)
-
--- the key of a row is behind its first three pieces
-pub key_cut : (t : List ℕ) (o : declared.Offsets) → AreCuts t (lengths o) → IsCharBoundary t (o.gap + o.column + o.dashes) × IsCharBoundary (drop (o.gap + o.column + o.dashes) t) o.key
-key_cut t o h =
-    let long : o.gap + o.column ≤ length t = omega (arith, h.0.0, h.1.0.0, length-drop o.gap t) in
-    let place : IsCharBoundary (drop (o.gap + o.column) t) o.dashes = subst (λ (u : List ℕ). IsCharBoundary u o.dashes) (drop-drop o.column o.gap t) h.1.1.0 in
-    let rest : drop o.dashes (drop o.column (drop o.gap t)) ≡ drop (o.gap + o.column + o.dashes) t = ap (drop o.dashes) (drop-drop o.column o.gap t) ∙ drop-drop o.dashes (o.gap + o.column) t in
-    (IsCharBoundary-from_rest t (o.gap + o.column) o.dashes long place, subst (λ (u : List ℕ). IsCharBoundary u o.key) rest h.1.1.1.0)

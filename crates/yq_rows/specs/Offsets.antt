@@ -97,3 +97,15 @@ offsets_of start s = record {
   raw = length s.raw;
   parent = s.parent;
 }
+
+-- how many bytes of a row stand before its key (own)
+abbrev pub before_key : declared.Offsets → ℕ
+before_key o = o.gap + o.column + o.dashes
+
+-- the same before its anchor (own)
+abbrev pub before_anchor : declared.Offsets → ℕ
+before_anchor o = before_key o + o.key + o.colon + o.space
+
+-- the same before its head (own)
+abbrev pub before_head : declared.Offsets → ℕ
+before_head o = before_anchor o + o.anchor + o.apart

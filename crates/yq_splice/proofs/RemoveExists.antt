@@ -12,7 +12,7 @@ use Rattle.yq_lines.specs.Places.{Found, find, lines_after, lines_before}
 use Rattle.yq_rows.specs.Rows.{Part, Cut, cut_text}
 use Rattle.yq_documents.specs.declared.path.Part.TheVariants.{Entry}
 use Rattle.yq_documents.specs.Documents.{document_parts}
-use Rattle.yq_documents.specs.Lines.{lines_of}
+use Rattle.yq_walk.specs.Lines.{lines_of}
 use Rattle.yq_documents.specs.Pieces.{Piece}
 use Rattle.yq_documents.specs.Reading.{outline_of, read_at}
 use Rattle.yq_documents.specs.Seats.{Seat, seat, seat_of}

@@ -10,8 +10,8 @@ use Rattle.yq_rows.specs.Touched.{TouchesOnly}
 use Rattle.yq_rows.specs.View.{shown}
 use Rattle.yq_rows.specs.declared.places.Places.{Places}
 use Rattle.yq_documents.specs.Reading.{cut_of, read_at}
-use Rattle.yq_tree.specs.RowWalk.{AreKnown}
-use Rattle.yq_tree.specs.declared.places.spot.KnownItems.{KnownItems}
+use Rattle.yq_walk.specs.RowWalk.{AreKnown}
+use Rattle.yq_walk.specs.declared.spot.KnownItems.{KnownItems}
 use Rattle.yq_meaning.specs.Operations.{Operation}
 use Rattle.yq_script.specs.Script.{Segment, kept_front, kept_back, new_text}
 use Rattle.yq_script.specs.Splice.{Splice}

@@ -19,7 +19,7 @@ use Rattle.yq_rows.proofs.ScanLaws.{scan_again}
 use Rattle.yq_documents.specs.Documents.{Document, with_part, parts_from, document_parts, begins_bare, has_begin}
 use Rattle.yq_documents.specs.FlowReading.{document_flows, lines_flows}
 use Rattle.yq_lines.specs.Group.{group}
-use Rattle.yq_documents.specs.Lines.{lines_of}
+use Rattle.yq_walk.specs.Lines.{lines_of}
 use Rattle.yq_lines.specs.LinesReading.{lines_are_sound}
 use Rattle.yq_lines.specs.Names.{HaveHeadsApart}
 use Rattle.yq_lines.specs.Outline.{value}

@@ -9,10 +9,10 @@ use Rattle.yq_rows.specs.View.{Slices, slices, rows_of, shown}
 use Rattle.yq_scalar.proofs.LineLaws.{joined_lines}
 use Rattle.yq_documents.specs.Pieces.{tail_comment, before_run, last_run, gap_comment, piece_span}
 use Rattle.yq_tree.specs.CommentReading.{before_tail, line_comment_in, head_comment_in, tail_span, line_comment_span, gap_span, head_comment_span, before_row}
-use Rattle.yq_tree.specs.Extents.{row_start, front_length, head_place}
+use Rattle.yq_walk.specs.Extents.{row_start, front_length, head_place}
 use Rattle.yq_tree.specs.SeatReading.{numbers}
 use Rattle.yq_documents.specs.Seats.{Seat}
-use Rattle.yq_tree.proofs.LengthLaws.{head_told}
+use Rattle.yq_walk.proofs.LengthLaws.{head_told}
 use Rattle.yq_documents.proofs.RunLaws.{run_split}
 use Rattle.yq_tree.proofs.StartLaws.{start_told}
 

@@ -7,7 +7,7 @@ use Rattle.yq_rows.specs.Exchange.{row_front}
 use Rattle.yq_rows.specs.Rows.{Row, behind_dashes, dashes_text, print_row, Cut}
 use Rattle.yq_rows.proofs.PlaceLaws.{dashes_then}
 use Rattle.yq_tree.specs.RowPieces.{past_dash, upto_dash}
-use Rattle.yq_documents.specs.Lines.{lines_of}
+use Rattle.yq_walk.specs.Lines.{lines_of}
 use Rattle.yq_tree.specs.PlacedRows.{PlacedRow, placed_document, row_of_path}
 use Rattle.yq_documents.specs.Seats.{seat_of}
 use Rattle.yq_tree.proofs.EntryPlaceLaws.{seat_is}

@@ -10,7 +10,7 @@ use Rattle.yq_rows.specs.Rows.{Part}
 use Rattle.yq_scalar.specs.Anchors.{names_of}
 use Rattle.yq_documents.specs.Documents.{Document, IsRoot, IsDocument, AreDocuments}
 use Rattle.yq_lines.specs.Group.{group, is_fine}
-use Rattle.yq_documents.specs.Lines.{lines_of}
+use Rattle.yq_walk.specs.Lines.{lines_of}
 use Rattle.yq_lines.specs.Outline.{Line, value}
 use Rattle.yq_documents.specs.Reading.{outline_of, root_of, document_of, have_fit_keys, has_short_root, is_document}
 use Rattle.yq_lines.specs.LinesReading.{have_one_anchor_each, are_bound}

@@ -12,31 +12,31 @@ use Rattle.yq_rows.specs.Rows.{Row, Part, Cut}
 use Rattle.yq_rows.specs.View.{Slices, slices, Shown, shown}
 use Rattle.yq_lines.specs.Ends.{line_of}
 use Rattle.yq_documents.specs.Documents.{begins_bare, has_begin, document_parts}
-use Rattle.yq_documents.specs.Lines.{lines_of}
+use Rattle.yq_walk.specs.Lines.{lines_of}
 use Rattle.yq_documents.specs.Reading.{cut_of}
 use Rattle.yq_documents.specs.Seats.{Seat, document_row, seat, seat_of}
-use Rattle.yq_tree.specs.Extents.{lines_before_mark}
+use Rattle.yq_walk.specs.Extents.{lines_before_mark}
 use Rattle.yq_tree.specs.PlacedRows.{PlacedPart, placed_document}
-use Rattle.yq_tree.specs.RowWalk.{HasDocument, IsLine, deeper_rows, line_level, line_number}
+use Rattle.yq_walk.specs.RowWalk.{HasRows, IsLine, deeper_rows, line_level, line_number}
 use Rattle.yq_tree.specs.Standings.{PlacedEntry, entry_at, placed_entry, under_count}
 use Rattle.yq_tree.specs.StandingReading.{IsEntry, Numbers, numbers_at, seat_numbers, told}
 use Rattle.yq_tree.specs.declared.places.placed_entry.PlacedEntry as declared
-use Rattle.yq_tree.specs.declared.places.spot.Spot.{Spot}
-use Rattle.yq_tree.specs.declared.places.spot.Stretch.{Stretch}
+use Rattle.yq_walk.specs.declared.spot.Spot.{Spot}
+use Rattle.yq_walk.specs.declared.spot.Stretch.{Stretch}
 use Rattle.yq_tree.proofs.EntryPlaceLaws.{seat_is}
 use Rattle.yq_tree.proofs.PlacedPartLaws.{map_some, part_stands}
 use Rattle.yq_tree.proofs.RemovalTold.{placed_is}
 use Rattle.yq_tree.proofs.SeatedLaws.{steps_row}
 use Rattle.yq_tree.proofs.WalkDocuments.{seat_number}
-use Rattle.yq_tree.proofs.WalkRows.{rows_behind}
-use Rattle.yq_tree.proofs.WalkSpots.{located}
+use Rattle.yq_walk.proofs.WalkRows.{rows_behind}
+use Rattle.yq_walk.proofs.WalkSpots.{located}
 
 -- ---- where steps lead in a document
 
 pub none_along : (first : ℕ) (rs : List Row) (steps : List Step) → None ≡ line_of steps (lines_of rs) → None ≡ option_map (seat_numbers first rs) (seat_of steps rs)
 none_along first rs steps e = ap (λ (o : Option ℕ). option_map (seat_numbers first rs) (o >>= λ n. seat n rs)) e
 
-pub entry_told : (s : Shown) (d : Stretch) (h : HasDocument s d) (q : Spot) → IsLine s d q → (steps : List Step) (level dashes end : ℕ) → ((x : Slices) → slice_get s.rows q.row ≡ Some x → level ≡ line_level q.line x) →
+pub entry_told : (s : Shown) (d : Stretch) (h : HasRows s d) (q : Spot) → IsLine s d q → (steps : List Step) (level dashes end : ℕ) → ((x : Slices) → slice_get s.rows q.row ≡ Some x → level ≡ line_level q.line x) →
     ((x : Slices) → slice_get s.rows q.row ≡ Some x → dashes ≡ lines_before_mark x) → end ≡ (q.row + 1) + deeper_rows level (take (d.end - (q.row + 1)) (drop (q.row + 1) s.rows)) →
     Some (line_number d h.rows q) ≡ line_of steps (lines_of h.rows) → Some (q.row, q.line, dashes, end) ≡ option_map (seat_numbers d.first h.rows) (seat_of steps h.rows)
 entry_told s d h q at steps level dashes end level_is dashes_are end_is line =

@@ -16,7 +16,7 @@ use Rattle.yq_tree.specs.EntryReading.{line_entry, line_content, entry_from, con
 use Rattle.yq_tree.specs.EntryReading.{line_entry_of, line_content_of, flow_entry_from, flow_entry_of, line_entry_at, line_content_at, flow_entry_at}
 use Rattle.yq_lines.specs.Group.{group}
 use Rattle.yq_lines.specs.Places.{lines_before, Found, find}
-use Rattle.yq_documents.specs.Lines.{lines_of}
+use Rattle.yq_walk.specs.Lines.{lines_of}
 use Rattle.yq_tree.specs.SeatReading.{Numbers, numbers}
 use Rattle.yq_documents.specs.Seats.{Seat, behind_one, seat, seat_of, seat_at, document_row}
 use Rattle.yq_lines.specs.Ends.{found_line, reached}

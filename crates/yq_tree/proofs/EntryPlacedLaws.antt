@@ -16,7 +16,7 @@ use Rattle.yq_rows.specs.View.{rows_of}
 use Rattle.yq_documents.specs.declared.path.Path.{Path}
 use Rattle.yq_documents.specs.Documents.{document_parts}
 use Rattle.yq_tree.specs.EntryReading.{lines_place, line_entry, line_head, lines_content, line_content, flow_entry, entry_from, content_from, entry_of, content_of, entry_at, content_at}
-use Rattle.yq_documents.specs.Lines.{row_lines, lines_of}
+use Rattle.yq_walk.specs.Lines.{row_lines, lines_of}
 use Rattle.yq_documents.specs.Located.{steps_of}
 use Rattle.yq_lines.specs.Ends.{reached, lines_end}
 use Rattle.yq_documents.specs.Seats.{Seat, behind_one, seat, document_row}
@@ -26,7 +26,7 @@ use Rattle.yq_tree.proofs.FinishLaws.{row_boundary, lines_order}
 use Rattle.yq_tree.proofs.FlowSpanLaws.{AreSpans, flow_spans}
 use Rattle.yq_tree.proofs.HeadSpanLaws.{head_span}
 use Rattle.yq_lines.proofs.LineEnds.{end_within}
-use Rattle.yq_documents.proofs.RowFlowLaws.{lines_count}
+use Rattle.yq_walk.proofs.RowLaws.{lines_count}
 use Rattle.yq_tree.proofs.SeamLaws.{line_boundary}
 use Rattle.yq_tree.proofs.SeatLaws.{part_begins}
 

@@ -18,13 +18,13 @@ use Rattle.yq_documents.specs.Reading.{cut_of}
 use Rattle.yq_documents.specs.Seats.{document_row}
 use Rattle.yq_tree.specs.CommentPlaces.{line_text}
 use Rattle.yq_tree.specs.CommentReading.{before_row}
-use Rattle.yq_tree.specs.Extents.{IsShown, head_place, row_start}
+use Rattle.yq_walk.specs.Extents.{IsShown, head_place, row_start}
 use Rattle.yq_tree.specs.RemovalPlaces.{OwnRows, rows_out}
 use Rattle.yq_tree.specs.Standings.{PlacedEntry, before_entry, behind_entry}
 use Rattle.yq_tree.specs.StandingReading.{AreRowsOf}
 use Rattle.yq_tree.proofs.CommentEndLaws.{row_line}
 use Rattle.yq_tree.proofs.CommentPieceLaws.{Ended, content_end, row_place}
-use Rattle.yq_tree.proofs.LengthLaws.{row_fits, shown_small}
+use Rattle.yq_walk.proofs.LengthLaws.{row_fits, shown_small}
 use Rattle.yq_tree.proofs.PlacedRowLaws.{IsAt, part_at}
 use Rattle.yq_tree.proofs.RemovalLines.{LineSeam, lies_in, rows_seam, seam_join}
 use Rattle.yq_tree.proofs.RemovalTexts.{texts_then}

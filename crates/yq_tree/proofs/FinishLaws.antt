@@ -15,7 +15,7 @@ use Rattle.yq_rows.proofs.PlaceLaws.{row_front-append, row_in}
 use Rattle.yq_tree.specs.CommentReading.{before_tail, before_row}
 use Rattle.yq_tree.specs.EntryReading.{before_line, ending, through_row}
 use Rattle.yq_tree.specs.PrintedLines.{is_last_break, less_break}
-use Rattle.yq_tree.proofs.LengthLaws.{part-length}
+use Rattle.yq_walk.proofs.LengthLaws.{part-length}
 use Rattle.yq_rows.proofs.SliceLaws.{print-length}
 use Rattle.yq_tree.proofs.CommentPieceLaws.{Ended, content_end}
 use Rattle.yq_tree.proofs.CommentPieceLaws.{tail_place}

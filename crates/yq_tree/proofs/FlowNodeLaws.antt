@@ -23,7 +23,7 @@ use Rattle.yq_lines.specs.Outline.{Line}
 use Rattle.yq_lines.specs.Places.{lines_before, Found}
 use Rattle.yq_documents.specs.Documents.{document_parts}
 use Rattle.yq_documents.specs.FlowReading.{kept, core, content_core, row_flow}
-use Rattle.yq_documents.specs.Lines.{tail_of, lines_of}
+use Rattle.yq_walk.specs.Lines.{tail_of, lines_of}
 use Rattle.yq_documents.specs.Reading.{outline_of}
 use Rattle.yq_documents.specs.RowReading.{from_head}
 use Rattle.yq_documents.specs.Seats.{Seat, document_row}
@@ -31,10 +31,11 @@ use Rattle.yq_tree.specs.FlowNodes.{content_flow, find_head, flow_collection, li
 use Rattle.yq_tree.specs.FlowTold as told
 use Rattle.yq_tree.specs.FlowTold.{TellsFlow, placed_collection, collection_along}
 use Rattle.yq_tree.specs.NodeReading.{NodePlace, with_steps, node_place, place_line, head_at}
-use Rattle.yq_tree.specs.RowWalk.{InCut, IsLine, line_number}
+use Rattle.yq_tree.specs.RowWalk.{InCut}
+use Rattle.yq_walk.specs.RowWalk.{IsLine, line_number}
 use Rattle.yq_tree.specs.declared.places.flow_node.FlowHead.{FlowHead}
-use Rattle.yq_tree.specs.declared.places.spot.Spot.{Spot}
-use Rattle.yq_tree.specs.declared.places.spot.Stretch.{Stretch}
+use Rattle.yq_walk.specs.declared.spot.Spot.{Spot}
+use Rattle.yq_walk.specs.declared.spot.Stretch.{Stretch}
 use Rattle.yq_tree.proofs.FlowToldLaws.{collection_placed, head_found, numbered}
 use Rattle.yq_tree.proofs.WalkDocuments as documents
 use Rattle.yq_tree.proofs.WalkDocuments.{found_in_cut}
@@ -139,10 +140,10 @@ pub no_collection : (k : ℕ) (c : Cut) (rs : List Row) (steps : List Step) → 
 no_collection k c rs steps e = ap (λ (o : Option (ℕ × List Step)). o >>= λ x. line_collection k c rs x.0 x.1) e
 
 -- the collection in the head of a line, by its row
-line_told : (s : Shown) (d : Stretch) (c : Cut) (k : InCut s d c) (q : Spot) (at : IsLine s d q) (steps left : List Step) → head_at steps (lines_of k.document.rows) ≡ Some (line_number d k.document.rows q, left) →
-    rows_collection d.first c k.document.rows steps ≡ content_flow left (row_is s d c k q at).content (behind_row q.row c)
+line_told : (s : Shown) (d : Stretch) (c : Cut) (k : InCut s d c) (q : Spot) (at : IsLine s d q) (steps left : List Step) → head_at steps (lines_of k.document.stand.rows) ≡ Some (line_number d k.document.stand.rows q, left) →
+    rows_collection d.first c k.document.stand.rows steps ≡ content_flow left (row_is s d c k q at).content (behind_row q.row c)
 line_told s d c k q at steps left e =
-    ap (λ (o : Option (ℕ × List Step)). o >>= λ x. line_collection d.first c k.document.rows x.0 x.1) e
+    ap (λ (o : Option (ℕ × List Step)). o >>= λ x. line_collection d.first c k.document.stand.rows x.0 x.1) e
     ∙ (ap (λ (o : Option Seat). o >>= λ x. content_flow left x.row.content (behind_row (d.first + x.before) c)) (seat_is s d c k q at)
     ∙ ap (λ (i : ℕ). content_flow left (row_is s d c k q at).content (behind_row i c)) (before_is s d c k q at))
 
@@ -232,7 +233,7 @@ content_coll n (rows.Block space anchor block) ss w h e = absurd (cc)
 -- ---- the head that the code has read
 
 module _ (t : List ℕ) (s : Shown) (c : Cut) (n : ℕ) (d : Stretch) (cut : IsCut t c) (is : s ≡ shown c) (f : documents.Found s c n d) (q : Spot) (at : IsLine s d q) (steps left : List Step)
-    (leads : head_at steps (lines_of (found_in_cut t s c n d cut is f).0.document.rows) ≡ Some (line_number d (found_in_cut t s c n d cut is f).0.document.rows q, left)) where
+    (leads : head_at steps (lines_of (found_in_cut t s c n d cut is f).0.document.stand.rows) ≡ Some (line_number d (found_in_cut t s c n d cut is f).0.document.stand.rows q, left)) where
   abbrev k : InCut s d c
   k = (found_in_cut t s c n d cut is f).0
 

@@ -19,7 +19,7 @@ use Rattle.yq_inline.specs.Nodes.{bare, Node, empty, alias, scalar, coll, anchor
 use Rattle.yq_inline.specs.Trees.{inner, key_content, tree_of, items_tree, collection, with_name}
 use Rattle.yq_inline.proofs.PathLaws.{path_holds}
 use Rattle.yq_rows.specs.Rows.{Content, Nothing, Inline, Block}
-use Rattle.yq_documents.specs.Lines.{head_of}
+use Rattle.yq_walk.specs.Lines.{head_of}
 use Rattle.yq_inline.specs.Trees.{node_head}
 use Rattle.yq_lines.specs.Outline as outlines
 use Rattle.yq_lines.specs.Outline.{Mark, Line, level, Outline, end, row, flatten, IsEven, first_anchor, head_or, value}

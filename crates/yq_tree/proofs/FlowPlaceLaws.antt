@@ -16,7 +16,7 @@ use Rattle.yq_tree.specs.EntryReading.{inline_node, placed_inline, flow_entry}
 use Rattle.yq_tree.specs.EntryReading.{entry_within, HasFlows}
 use Rattle.yq_documents.specs.FlowReading.{kept, core, content_core, row_flow}
 use Rattle.yq_lines.specs.Group.{group}
-use Rattle.yq_documents.specs.Lines.{tail_of, lines_of}
+use Rattle.yq_walk.specs.Lines.{tail_of, lines_of}
 use Rattle.yq_lines.specs.Outline.{Mark, Bare, Key, Dash, Line, Outline, end, row}
 use Rattle.yq_lines.specs.Places.{here, lines_before, Found, find_row, inside, bare_or, in_head, find}
 use Rattle.yq_lines.specs.Ends.{reached}

@@ -17,7 +17,7 @@ use Rattle.yq_rows.specs.Grammar.{IsCut}
 use Rattle.yq_rows.specs.Rows.{Content, Nothing, Inline, Block, Row, Cut, cut_text}
 use Rattle.yq_rows.specs.View.{rows_of}
 use Rattle.yq_tree.specs.EntryReading.{inline_node, placed_inline}
-use Rattle.yq_documents.specs.Lines.{tail_of}
+use Rattle.yq_walk.specs.Lines.{tail_of}
 use Rattle.yq_tree.proofs.HeadSpanLaws.{node_spans}
 
 -- an item or entry with its key

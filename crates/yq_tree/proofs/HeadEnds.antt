@@ -17,10 +17,10 @@ use Rattle.yq_rows.specs.View.{Slices, slices, anchor_cut, content_cut, rows_of,
 use Rattle.yq_rows.proofs.PlaceLaws.{row_in}
 use Rattle.yq_tree.specs.EntryReading.{ending, head_end, head_extent, through_row}
 use Rattle.yq_tree.specs.EntryReading.{head_finish}
-use Rattle.yq_tree.specs.Extents.{row_start, front_length, head_place, IsShown}
+use Rattle.yq_walk.specs.Extents.{row_start, front_length, head_place, IsShown}
 use Rattle.yq_documents.specs.RowReading.{begins_block}
 use Rattle.yq_documents.proofs.HeadLaws.{block_marks}
-use Rattle.yq_tree.proofs.LengthLaws.{row_fits, shown_small}
+use Rattle.yq_walk.proofs.LengthLaws.{row_fits, shown_small}
 use Rattle.yq_tree.proofs.RowStarts.{head_is, row_ends}
 use Rattle.yq_tree.proofs.SpanLaws.{get_row}
 

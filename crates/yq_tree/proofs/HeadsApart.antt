@@ -10,7 +10,7 @@ use Rattle.yq_rows.specs.Grammar.{Limit, limit_after, IsContent, AreRows}
 use Rattle.yq_rows.specs.Rows as rows
 use Rattle.yq_rows.specs.Rows.{Anchor, Content, Nothing, Inline, Row, parent_indent}
 use Rattle.yq_scalar.specs.Anchors.{IsNoAlias}
-use Rattle.yq_documents.specs.Lines.{block_anchor, content_anchor, head_of, lines_from, row_lines, lines_of}
+use Rattle.yq_walk.specs.Lines.{block_anchor, content_anchor, head_of, lines_from, row_lines, lines_of}
 use Rattle.yq_lines.specs.Names.{IsUnnamed, MayBeNamed, HaveHeadsApart}
 use Rattle.yq_lines.specs.Outline.{Line}
 

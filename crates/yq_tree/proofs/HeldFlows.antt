@@ -13,14 +13,15 @@ use Rattle.yq_documents.specs.Documents.{parts_from, document_parts, begins_bare
 use Rattle.yq_tree.specs.EntryReading.{HasFlows}
 use Rattle.yq_documents.specs.FlowReading.{row_flow, rows_flows, cut_flows, lines_flows}
 use Rattle.yq_lines.specs.View.{flows, views}
-use Rattle.yq_documents.specs.Lines.{lines_of}
+use Rattle.yq_walk.specs.Lines.{lines_of}
 use Rattle.yq_documents.specs.PartReading.{Lined, lined, document_view}
-use Rattle.yq_documents.specs.Reading.{cut_of}
+use Rattle.yq_documents.specs.Reading.{all_documents, cut_of}
 use Rattle.yq_documents.specs.Seats.{Seat, behind_one, seat, rows_before, document_row}
 use Rattle.yq_documents.specs.SoundReading.{Holds}
 use Rattle.yq_documents.specs.declared.checks.DocumentLines.{DocumentLines}
-use Rattle.yq_tree.specs.RowWalk.{HasLines, HeldAs, MayWalk, document_rows, stretch_told}
-use Rattle.yq_tree.specs.declared.places.spot.Stretch.{Stretch}
+use Rattle.yq_tree.specs.RowWalk.{HasLines, HeldAs, document_rows}
+use Rattle.yq_walk.specs.RowWalk.{stretch_told}
+use Rattle.yq_walk.specs.declared.spot.Stretch.{Stretch}
 use Rattle.yq_tree.proofs.SeatLaws.{none_past, part_at}
 use Rattle.yq_tree.proofs.WalkDocuments.{Found, found_document}
 
@@ -115,7 +116,7 @@ held_flows t s ds i d p h there at n q is mark =
     ∙ λ j. Some (row_flow (length (h.cut.text j)) q.row (sym (o.behind q.before told.0) j)))
 
 -- a document of a text whose documents are held
-module _ (t : List ℕ) (held s : Shown) (ds : List DocumentLines) (i : ℕ) (d : Stretch) (h : Holds t held ds) (is : s ≡ shown (cut_of t)) (e : Some (stretch_told d) ≡ document_rows i (cut_of t)) (known : MayWalk d (cut_of t)) where
+module _ (t : List ℕ) (held s : Shown) (ds : List DocumentLines) (i : ℕ) (d : Stretch) (h : Holds t held ds) (is : s ≡ shown (cut_of t)) (e : Some (stretch_told d) ≡ document_rows i (cut_of t)) (known : all_documents (cut_of t) ≡ true) where
   abbrev document : Found s (cut_of t) i d
   document = found_document t s (cut_of t) i d h.cut is e known
 
@@ -130,10 +131,10 @@ module _ (t : List ℕ) (held s : Shown) (ds : List DocumentLines) (i : ℕ) (d 
     abbrev part : (p : Part) × (slice_get (document_parts (cut_of t)) i ≡ Some p) × (document_view x ≡ lined p)
     part = part_at ds (document_parts (cut_of t)) h.lined i x there
 
-    rows : part.0.rows ≡ document.document.rows
+    rows : part.0.rows ≡ document.document.stand.rows
     rows = ap (λ (p : Part). p.rows) (same_Some _ _ (sym part.1 ∙ document.there)) ∙ sym document.rows
 
-    own : views x.lines ≡ lines_of document.document.rows
+    own : views x.lines ≡ lines_of document.document.stand.rows
     own = ap (λ (y : Lined). y.1) part.2 ∙ ap lines_of rows
 
     pub held_lines : HasLines s d (views x.lines)

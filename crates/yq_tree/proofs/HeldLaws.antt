@@ -2,7 +2,7 @@
 use Rattle.std.proofs.Common.{◌≤◌, ℕ, List, length, subst}
 use Rattle.yq_scalar.specs.Characters.{text_limit}
 use Rattle.yq_rows.specs.View.{Shown}
-use Rattle.yq_tree.specs.Extents.{IsShown}
+use Rattle.yq_walk.specs.Extents.{IsShown}
 use Rattle.yq_tree.specs.RowWalk.{HasCut}
 use Rattle.yq_documents.specs.Reading.{cut_of}
 

@@ -14,15 +14,15 @@ use Rattle.yq_rows.specs.Offsets.{row_length}
 use Rattle.yq_rows.specs.Rows.{Content, Nothing, Inline, Block, Row, behind_columns, dashes_text, mark_column, print_row, rows_text, Cut}
 use Rattle.yq_rows.specs.View.{Slices, slices, content_cut, last_dash, rows_of, Shown, shown}
 use Rattle.yq_tree.specs.CommentPlaces.{LineEnd, end_before, line_text}
-use Rattle.yq_tree.specs.Extents.{head_place, row_start}
+use Rattle.yq_walk.specs.Extents.{head_place, row_start}
 use Rattle.yq_tree.specs.LineReading.{CutsLines, LinesIn, lines_between, lines_of}
 use Rattle.yq_tree.specs.PrintedLines.{last_break}
-use Rattle.yq_tree.specs.RowWalk.{line_column}
+use Rattle.yq_walk.specs.RowWalk.{line_column}
 use Rattle.yq_tree.specs.RowPieces.{anchor_before, space_before}
 use Rattle.yq_tree.specs.Standings.{Held, PlacedEntry, before_entry, behind_entry, held}
 use Rattle.yq_tree.specs.StandingReading.{AreRowsOf}
 use Rattle.yq_tree.proofs.EntryRowLaws.{head_ends, line_boundary_at, line_cut, pieces_at, stop_boundary, stop_is, through_is}
-use Rattle.yq_tree.proofs.RowStarts.{last_is, to_dash}
+use Rattle.yq_walk.proofs.ToDashes.{last_is, to_dash}
 
 -- the column behind dashes
 columns : (c : ℕ) (ns : List ℕ) → behind_columns c ns ≡ c + length (dashes_text ns [])

@@ -14,9 +14,10 @@ use Rattle.yq_rows.specs.View.{Slices, slices, Shown, shown}
 use Rattle.yq_rows.specs.declared.offsets.Offsets as declared
 use Rattle.yq_rows.proofs.ItemLaws.{items_shown}
 use Rattle.yq_rows.proofs.NearLaws.{near_at}
-use Rattle.yq_tree.specs.RowWalk.{ArePassed, IsKnown, StaysKnown}
-use Rattle.yq_tree.specs.declared.places.spot.KnownItem.{KnownItem}
-use Rattle.yq_tree.proofs.KnownLaws.{one_there}
+use Rattle.yq_walk.specs.RowWalk.{ArePassed, IsKnown}
+use Rattle.yq_tree.specs.RowWalk.{StaysKnown}
+use Rattle.yq_walk.specs.declared.spot.KnownItem.{KnownItem}
+use Rattle.yq_walk.proofs.KnownLaws.{one_there}
 
 begins_behind : (xs : List Item) (m i : ℕ) (o : declared.Offsets) → slice_get (near m xs) i ≡ Some o → m ≤ o.start
 begins_behind [] m i o e = absurd (cc)

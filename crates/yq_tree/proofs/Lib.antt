@@ -3,7 +3,6 @@ pub mod RootPlaceLaws
 pub mod CommentPlaceLaws
 pub mod CommentStandLaws
 pub mod Conditions
-pub mod CountLaws
 pub mod DocumentLaws
 pub mod RowStarts
 pub mod EntryPlaceLaws
@@ -19,8 +18,6 @@ pub mod HeadsApart
 pub mod ReadLaws
 pub mod ExactReading
 pub mod ReadyLaws
-pub mod LengthLaws
-pub mod FirstLevels
 pub mod GapRanges
 pub mod CommentPieceLaws
 pub mod CommentSpans
@@ -37,10 +34,6 @@ pub mod RowPathLaws
 pub mod SeatedLaws
 pub mod NextLaws
 pub mod WalkDocuments
-pub mod WalkEnds
-pub mod WalkLevels
-pub mod WalkRows
-pub mod WalkSpots
 pub mod WalkLines
 pub mod WalkNodes
 pub mod WrittenLaws
@@ -82,9 +75,6 @@ pub mod ContentEndLaws
 pub mod FlowToldLaws
 pub mod FlowNodeLaws
 pub mod DashLaws
-pub mod EntryKeys
-pub mod KnownLaws
-pub mod KnownWalks
 pub mod KnownFronts
 mod HalvesLaws
 mod FirstBreakLaws

@@ -16,12 +16,12 @@ use Rattle.yq_rows.specs.Rows as rows
 use Rattle.yq_rows.specs.Rows.{Content, Nothing, Inline, Block, Row, dashes_text, parent_indent, print_row, rows_text, Cut}
 use Rattle.yq_rows.specs.View.{Slices, slices, content_cut, rows_of, Shown, shown}
 use Rattle.yq_rows.proofs.NodePieces.{before_ascii, behind_ascii, tail_ascii}
-use Rattle.yq_documents.specs.Lines.{mark_of}
+use Rattle.yq_walk.specs.Lines.{mark_of}
 use Rattle.yq_documents.specs.Reading.{cut_of}
 use Rattle.yq_tree.specs.CommentPlaces.{line_text}
 use Rattle.yq_tree.specs.RowPieces.{upto_dash}
 use Rattle.yq_tree.specs.EntryReading.{line_begin}
-use Rattle.yq_tree.specs.Extents.{head_place, row_start}
+use Rattle.yq_walk.specs.Extents.{head_place, row_start}
 use Rattle.yq_tree.specs.LineReading.{CutsLines, LinesIn, lines_between, lines_of}
 use Rattle.yq_tree.specs.Standings.{Lone, PlacedEntry, before_entry, behind_entry, dash_text, is_alone, lone}
 use Rattle.yq_tree.specs.StandingReading.{AreRowsOf}

@@ -31,14 +31,15 @@ use Rattle.yq_lines.proofs.PlaceLaws.{at}
 use Rattle.yq_rows.specs.Rows.{Row, Part, Cut}
 use Rattle.yq_rows.specs.View.{Shown}
 use Rattle.yq_documents.specs.Documents.{document_parts}
-use Rattle.yq_documents.specs.Lines.{head_of, lines_of}
+use Rattle.yq_walk.specs.Lines.{head_of, lines_of}
 use Rattle.yq_documents.specs.Reading.{all_documents, document_of}
 use Rattle.yq_tree.specs.NodeReading.{NodePlace, at_head, at_lines, line_place, with_line, node_place, place_line, told_in_head, told_in_line, told_of_lines, line_or, place_node}
 use Rattle.yq_tree.specs.NodesAt.{NodeAt, list, map as mapping, node_told, node_in, told_several, scalar_in, told_scalar}
 use Rattle.yq_tree.specs.RemovalPlaces.{has_several}
-use Rattle.yq_tree.specs.RowWalk.{HasDocument, InCut, IsLine, line_number}
-use Rattle.yq_tree.specs.declared.places.spot.Spot.{Spot}
-use Rattle.yq_tree.specs.declared.places.spot.Stretch.{Stretch}
+use Rattle.yq_walk.specs.RowWalk.{HasRows, IsLine, line_number}
+use Rattle.yq_tree.specs.RowWalk.{InCut}
+use Rattle.yq_walk.specs.declared.spot.Spot.{Spot}
+use Rattle.yq_walk.specs.declared.spot.Stretch.{Stretch}
 use Rattle.yq_tree.proofs.FlowPlaceLaws.{TakesSteps, Takes, takes_left}
 use Rattle.yq_tree.proofs.FlowToldLaws.{numbered}
 use Rattle.yq_tree.proofs.FoundLines.{each}
@@ -46,7 +47,7 @@ use Rattle.yq_tree.proofs.NodePlaceLaws.{node_found}
 use Rattle.yq_tree.proofs.RowPathLaws.{document_fine}
 use Rattle.yq_tree.proofs.SeenLaws.{first_is, found_seen}
 use Rattle.yq_tree.proofs.WalkNodes.{row_is}
-use Rattle.yq_tree.proofs.WalkSpots.{Located, located}
+use Rattle.yq_walk.proofs.WalkSpots.{Located, located}
 
 -- an anchor tells nothing of a node
 pub told_named : (a : Option (List ℕ)) (n : Node) → node_told (named a n) ≡ node_told n
@@ -152,7 +153,7 @@ head_takes ls (s ∷ ss) left p n l e found is = go (find s ss (group ls)) refl 
         line x.0 x.1 takes seen (found ∙ ap (place_line ls) place)
 
 -- its head is that of its row
-pub row_takes : (s : Shown) (d : Stretch) (h : HasDocument s d) (q : Spot) (l : Located s d h q) → TakesSteps l.line → l.line.head ≡ head_of l.row.content
+pub row_takes : (s : Shown) (d : Stretch) (h : HasRows s d) (q : Spot) (l : Located s d h q) → TakesSteps l.line → l.line.head ≡ head_of l.row.content
 row_takes s d h q l takes = go (cases_lt q.line (length l.row.dashes))
   where
     go : (q.line < length l.row.dashes) ⊎ (length l.row.dashes ≤ q.line) → l.line.head ≡ head_of l.row.content
@@ -174,12 +175,12 @@ pub block_told : (ls : List Line) (steps left : List Step) (p : NodePlace) → S
 block_told ls steps left p e none = ap (λ (o : Option ℕ). line_or o (told_in_line ls left) (told_of_lines ls p)) none ∙ ap (λ (o : Option (NodePlace × List Step)). o >>= λ x. place_node ls x.0 x.1) e
 
 -- in the head of a line, by its row
-pub head_told : (s : Shown) (d : Stretch) (c : Cut) (k : InCut s d c) (q : Spot) (w : IsLine s d q) (steps left : List Step) (p : NodePlace) (h : Option Node) → Some (p, left) ≡ node_place steps (lines_of k.document.rows) →
-    Some (line_number d k.document.rows q) ≡ place_line (lines_of k.document.rows) p → h ≡ head_of (row_is s d c k q w).content → told_in_head left h ≡ node_among steps d.first c k.document.rows
+pub head_told : (s : Shown) (d : Stretch) (c : Cut) (k : InCut s d c) (q : Spot) (w : IsLine s d q) (steps left : List Step) (p : NodePlace) (h : Option Node) → Some (p, left) ≡ node_place steps (lines_of k.document.stand.rows) →
+    Some (line_number d k.document.stand.rows q) ≡ place_line (lines_of k.document.stand.rows) p → h ≡ head_of (row_is s d c k q w).content → told_in_head left h ≡ node_among steps d.first c k.document.stand.rows
 head_told s d c k q w steps left p h e found head =
-    let ls : List Line = lines_of k.document.rows in
-    let l = located s d k.document q w in
-    let same : h ≡ l.line.head = head ∙ sym (row_takes s d k.document q l (head_takes ls steps left p (line_number d k.document.rows q) l.line e found l.is)) in
+    let ls : List Line = lines_of k.document.stand.rows in
+    let l = located s d k.document.stand q w in
+    let same : h ≡ l.line.head = head ∙ sym (row_takes s d k.document.stand q l (head_takes ls steps left p (line_number d k.document.stand.rows q) l.line e found l.is)) in
     ap (told_in_head left) same
     ∙ (sym (ap (λ (o : Option Line). o >>= λ x. told_in_head left x.head) l.is)
     ∙ (ap (λ (o : Option ℕ). line_or o (told_in_line ls left) (told_of_lines ls p)) found ∙ ap (λ (o : Option (NodePlace × List Step)). o >>= λ x. place_node ls x.0 x.1) e))

@@ -17,7 +17,7 @@ use Rattle.yq_lines.proofs.Finding.{FoundNode, node-anchored, path_node}
 use Rattle.yq_lines.proofs.LinesLaws.{part-all}
 use Rattle.yq_tree.specs.NodesAt.{node_told}
 use Rattle.yq_tree.specs.NodeReading.{NodePlace, at_head, at_lines, line_place, with_line, node_place, told_in_head, told_in_line, line_or, place_node, said_at}
-use Rattle.yq_tree.specs.RowWalk.{lines_stop}
+use Rattle.yq_walk.specs.RowWalk.{lines_stop}
 use Rattle.yq_tree.proofs.FlowPieces.{head_there}
 use Rattle.yq_tree.proofs.FlowToldLaws.{numbered}
 use Rattle.yq_tree.proofs.PieceSpelling.{bare_is}

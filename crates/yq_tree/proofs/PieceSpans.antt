@@ -21,7 +21,7 @@ use Rattle.yq_tree.specs.EntryReading as places
 use Rattle.yq_tree.specs.EntryReading.{lines_place, line_head, lines_content, line_content, line_entry, inline_node, placed_inline, flow_entry, entry_from, content_from}
 use Rattle.yq_lines.specs.Ends.{deeper_count, lines_end}
 use Rattle.yq_lines.specs.Group.{group, level_or, is_fine}
-use Rattle.yq_documents.specs.Lines.{head_of, tail_of, lines_of}
+use Rattle.yq_walk.specs.Lines.{head_of, tail_of, lines_of}
 use Rattle.yq_lines.specs.Outline as outlines
 use Rattle.yq_lines.specs.Outline.{Line, level, Outline, end, row, flatten, IsEven, IsWhole}
 use Rattle.yq_lines.specs.Places.{lines_before, lines_after, Found, find}

@@ -17,7 +17,7 @@ use Rattle.yq_documents.specs.declared.path.Part.TheVariants as parts
 use Rattle.yq_documents.specs.declared.path.Path.{Path}
 use Rattle.yq_documents.specs.Documents.{document_parts}
 use Rattle.yq_lines.specs.Group.{group, level_or, is_fine}
-use Rattle.yq_documents.specs.Lines.{head_of, lines_of}
+use Rattle.yq_walk.specs.Lines.{head_of, lines_of}
 use Rattle.yq_inline.specs.Trees.{node_head}
 use Rattle.yq_documents.specs.Documents.{Document}
 use Rattle.yq_documents.specs.Nodes.{unlabelled}

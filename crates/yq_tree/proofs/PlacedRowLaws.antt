@@ -13,7 +13,7 @@ use Rattle.yq_lines.specs.Ends.{line_of}
 use Rattle.yq_documents.specs.declared.path.Path.{Path}
 use Rattle.yq_tree.specs.CommentReading.{before_row}
 use Rattle.yq_documents.specs.Documents.{document_parts, parts_from}
-use Rattle.yq_documents.specs.Lines.{lines_of}
+use Rattle.yq_walk.specs.Lines.{lines_of}
 use Rattle.yq_documents.specs.Located.{steps_of}
 use Rattle.yq_tree.specs.PlacedRows.{PlacedPart, PlacedRow, part_behind, placed_part, placed_document, placed_row, row_of_path}
 use Rattle.yq_tree.specs.SeatReading.{Numbers, numbers}

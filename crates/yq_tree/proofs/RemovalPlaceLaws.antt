@@ -19,13 +19,13 @@ use Rattle.yq_lines.specs.Outline.{Line}
 use Rattle.yq_rows.specs.Grammar.{no_rows}
 use Rattle.yq_rows.specs.Removal.{hold_comment}
 use Rattle.yq_rows.specs.Rows.{Mark, Content, Row}
-use Rattle.yq_documents.specs.Lines.{lines_from, row_lines, lines_of}
+use Rattle.yq_walk.specs.Lines.{lines_from, row_lines, lines_of}
 use Rattle.yq_documents.specs.Pieces.{before_run, last_run}
 use Rattle.yq_tree.specs.RemovalPlaces.{OwnRows, row_count, in_three, own_rows}
 use Rattle.yq_tree.specs.RemovalReading.{marks}
-use Rattle.yq_tree.specs.RowWalk.{line_number}
-use Rattle.yq_tree.specs.declared.places.spot.Spot.{Spot}
-use Rattle.yq_tree.specs.declared.places.spot.Stretch.{Stretch}
+use Rattle.yq_walk.specs.RowWalk.{line_number}
+use Rattle.yq_walk.specs.declared.spot.Spot.{Spot}
+use Rattle.yq_walk.specs.declared.spot.Stretch.{Stretch}
 use Rattle.yq_documents.specs.Seats.{Seat, behind_one, seat}
 use Rattle.yq_tree.proofs.PlacedPartLaws.{map_some}
 use Rattle.yq_tree.proofs.RemovalTexts.{gap_parts}

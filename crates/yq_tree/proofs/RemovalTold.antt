@@ -21,7 +21,7 @@ use Rattle.yq_rows.proofs.NodePieces.{BeginsAscii, before_ascii}
 use Rattle.yq_rows.proofs.seams.SeamLaws.{rows_text-append}
 use Rattle.yq_rows.proofs.splices.SpliceTexts.{first_text}
 use Rattle.yq_documents.specs.Documents.{begins_bare, has_begin, parts_from, document_parts}
-use Rattle.yq_tree.specs.Extents.{row_start}
+use Rattle.yq_walk.specs.Extents.{row_start}
 use Rattle.yq_documents.specs.Pieces.{before_run}
 use Rattle.yq_documents.specs.Reading.{cut_of}
 use Rattle.yq_tree.specs.PlacedRows.{PlacedPart, part_behind, placed_part, placed_document}
@@ -29,7 +29,6 @@ use Rattle.yq_tree.specs.RemovalPlaces.{OwnRows, own_rows, Removal, kept_gap, ro
 use Rattle.yq_tree.specs.RemovalReading.{Marks, marks, marks_at, gap_at, IsOwn}
 use Rattle.yq_documents.specs.Seats.{document_row}
 use Rattle.yq_tree.proofs.CommentPieceLaws.{gap_end}
-use Rattle.yq_tree.proofs.LengthLaws.{}
 use Rattle.yq_rows.proofs.SliceLaws.{print-length}
 use Rattle.yq_tree.proofs.PlacedPartLaws.{map_some, part_stands}
 use Rattle.yq_tree.proofs.RemovalBounds.{gap_behind, last_row, text_before}

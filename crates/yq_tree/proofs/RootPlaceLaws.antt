@@ -14,25 +14,25 @@ use Rattle.yq_rows.specs.Offsets.{row_length}
 use Rattle.yq_rows.specs.Rows.{Row, rows_text, Part, part_text, Cut, last, marked}
 use Rattle.yq_rows.specs.View.{Slices, slices, Bound, bounds_from, rows_of, Shown, shown}
 use Rattle.yq_documents.specs.Documents.{begins_bare, has_begin, document_parts}
-use Rattle.yq_tree.specs.Extents.{bound_length}
+use Rattle.yq_walk.specs.Extents.{bound_length}
 use Rattle.yq_documents.specs.PartReading.{some_begin, first_rows}
 use Rattle.yq_tree.specs.PlacedRows.{PlacedPart, part_behind, placed_part, placed_document}
 use Rattle.yq_documents.specs.Reading.{cut_of}
 use Rattle.yq_documents.specs.Seats.{document_row}
 use Rattle.yq_tree.specs.RowWalk.{document_rows}
-use Rattle.yq_tree.specs.declared.places.spot.Stretch.{Stretch}
+use Rattle.yq_walk.specs.declared.spot.Stretch.{Stretch}
 use Rattle.yq_rows.specs.RowStarts.{part_end}
 use Rattle.yq_tree.specs.RootReading.{part_number, if_unwritten, unwritten_place, unwritten_at}
 use Rattle.yq_tree.specs.Standings.{NoRows}
 use Rattle.yq_tree.proofs.CommentPieceLaws.{gap_end}
-use Rattle.yq_tree.proofs.LengthLaws.{part-length}
+use Rattle.yq_walk.proofs.LengthLaws.{part-length}
 use Rattle.yq_documents.proofs.PartsLinedLaws.{document_is}
 use Rattle.yq_tree.proofs.PlacedPartLaws.{map_some, part_stands}
 use Rattle.yq_tree.proofs.PlacedRowLaws.{part_of, document_placed}
 use Rattle.yq_tree.proofs.RemovalLines.{LineSeam, lies_in, seam_join}
 use Rattle.yq_tree.proofs.RemovalTold.{line_boundary}
 use Rattle.yq_tree.proofs.WalkDocuments.{Found}
-use Rattle.yq_tree.proofs.WalkRows.{rows_length}
+use Rattle.yq_walk.proofs.WalkRows.{rows_length}
 
 -- ---- part after part
 
@@ -171,11 +171,11 @@ part_there n c p e = map_some (λ (d : PlacedPart). d.part) (placed_document n c
 pub written_none : (s : Shown) (c : Cut) (i : ℕ) (d : Stretch) → Found s c i d → (d.first ≡ d.end → ⊥) → None ≡ unwritten_at i c
 written_none s c i d f some =
     let w = part_there i c f.part f.there in
-    let rows : w.0.part.rows ≡ f.document.rows = ap (λ (q : Part). q.rows) w.2 ∙ sym f.rows in
+    let rows : w.0.part.rows ≡ f.document.stand.rows = ap (λ (q : Part). q.rows) w.2 ∙ sym f.rows in
     sym (ap (option_map (λ (x : NoRows). length x.before)) (placed_at i c w.0 w.1 ∙ cond-false _ _ _ (go w.0.part.rows rows)))
   where
-    go : (rs : List Row) → rs ≡ f.document.rows → no_rows rs ≡ false
-    go [] is = absurd (some (omega (arith, ap length is, rows_length s d f.document, f.document.order)))
+    go : (rs : List Row) → rs ≡ f.document.stand.rows → no_rows rs ≡ false
+    go [] is = absurd (some (omega (arith, ap length is, rows_length s d f.document.stand, f.document.stand.order)))
     go (r ∷ rs) is = refl
 
 -- where such a document ends
@@ -183,7 +183,7 @@ pub end_there : (s : Shown) (c : Cut) (i : ℕ) (d : Stretch) (first : Bool) (k 
     first ≡ (first_rows s.bounds || not (some_begin s.bounds)) → Some k ≡ part_number first i 0 s.bounds → slice_get s.bounds k ≡ Some b → Some (part_end k b s) ≡ unwritten_at i c
 end_there s c i d first k b is f none first_is number bound =
     let w = part_there i c f.part f.there in
-    let rows : w.0.part.rows ≡ [] = ap (λ (q : Part). q.rows) w.2 ∙ (sym f.rows ∙ nil_from_length f.document.rows (omega (arith, none, rows_length s d f.document))) in
+    let rows : w.0.part.rows ≡ [] = ap (λ (q : Part). q.rows) w.2 ∙ (sym f.rows ∙ nil_from_length f.document.stand.rows (omega (arith, none, rows_length s d f.document.stand))) in
     let e = ends_at (begins_bare c || not (has_begin c)) i 0 0 c w.0 w.1 in
     let told : Some k ≡ Some (0 + e.number) = number ∙ ((λ j. part_number ((first_is ∙ document_is c s is) j) i 0 (is j).bounds) ∙ e.number_is) in
     let same : k ≡ e.number = same_Some _ _ told ∙ omega arith in

@@ -13,21 +13,21 @@ use Rattle.yq_documents.specs.Documents.{begins_bare, has_begin}
 use Rattle.yq_documents.specs.Reading.{cut_of}
 use Rattle.yq_documents.specs.Seats.{document_row}
 use Rattle.yq_tree.specs.EntryReading.{before_line, line_begin}
-use Rattle.yq_tree.specs.Extents.{row_start}
+use Rattle.yq_walk.specs.Extents.{row_start}
 use Rattle.yq_tree.specs.LineReading.{CutsLines, LinesIn, lines_between, lines_of}
 use Rattle.yq_tree.specs.PlacedRows.{PlacedPart, placed_document}
 use Rattle.yq_tree.specs.RootReading.{if_unwritten, unwritten_at, unwritten_place}
 use Rattle.yq_tree.specs.RowWalk.{document_rows}
 use Rattle.yq_tree.specs.Standings.{NoRows, PlacedEntry, alone, before_entry, behind_entry, block_root, is_alone, lone, no_rows, root, root_standing, standing_at}
 use Rattle.yq_tree.specs.StandingReading.{IsRootOf, root_entry}
-use Rattle.yq_tree.specs.declared.places.spot.Stretch.{Stretch}
+use Rattle.yq_walk.specs.declared.spot.Stretch.{Stretch}
 use Rattle.yq_tree.proofs.EntryRowLaws.{cut_in_two, first_at, pieces_at, stop_boundary, stop_is}
 use Rattle.yq_tree.proofs.PlacedRowLaws.{document_placed, part_of}
 use Rattle.yq_tree.proofs.RemovalTold.{placed_is}
 use Rattle.yq_tree.proofs.RowStarts.{line_begins}
 use Rattle.yq_tree.proofs.SeamLaws.{line_boundary}
 use Rattle.yq_tree.proofs.WalkDocuments.{Found}
-use Rattle.yq_tree.proofs.WalkRows.{rows_length}
+use Rattle.yq_walk.proofs.WalkRows.{rows_length}
 
 -- ---- documents without rows
 
@@ -97,7 +97,7 @@ root_found t s n d cut is f none =
           end_is = refl;
           behind_is = refl;
           row_is = omega (arith, f.first);
-          last_is = omega (arith, rows_length s d f.document, f.document.order, ap length (f.rows ∙ (sym same ∙ rows)));
+          last_is = omega (arith, rows_length s d f.document.stand, f.document.stand.order, ap length (f.rows ∙ (sym same ∙ rows)));
         };
       };
       place = ap (option_map (λ (y : PlacedPart). root_standing y y.part.rows)) placed ∙ ap (λ (l : List Row). Some (root_standing x l)) rows;

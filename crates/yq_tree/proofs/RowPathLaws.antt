@@ -6,7 +6,7 @@ use Rattle.yq_rows.specs.Rows.{Part}
 use Rattle.yq_scalar.specs.Anchors.{names_of}
 use Rattle.yq_lines.specs.Group.{group, level_or, is_fine}
 use Rattle.yq_lines.specs.Laws.{with_lines}
-use Rattle.yq_documents.specs.Lines.{lines_of}
+use Rattle.yq_walk.specs.Lines.{lines_of}
 use Rattle.yq_lines.specs.Outline.{Line, level, Outline, row, flatten, IsEven}
 use Rattle.yq_lines.specs.Places.{plug, Found, find}
 use Rattle.yq_documents.specs.Reading.{outline_of, root_of, have_fit_keys, has_short_root, is_document}

@@ -14,7 +14,7 @@ use Rattle.yq_rows.specs.Rows.{Content, Nothing, Inline, Block, dashes_text, mar
 use Rattle.yq_rows.specs.View.{anchor_cut, anchor_of, apart_of, content_cut, rows_of}
 use Rattle.yq_rows.proofs.PlaceLaws.{part_then}
 use Rattle.yq_tree.specs.EntryReading.{before_line, through_row, lines_place, head_end, head_extent, line_head}
-use Rattle.yq_documents.specs.Lines.{head_of, lines_of}
+use Rattle.yq_walk.specs.Lines.{head_of, lines_of}
 use Rattle.yq_inline.specs.Trees.{node_head}
 use Rattle.yq_tree.specs.CommentReading.{before_row}
 use Rattle.yq_documents.specs.Seats.{Seat, seat}

@@ -6,10 +6,10 @@ use Rattle.std.specs.List.{slice_get}
 use Rattle.yq_lines.specs.Comments as comments
 use Rattle.yq_rows.specs.Rows as rows
 use Rattle.yq_rows.specs.Rows.{Content, Row}
-use Rattle.yq_documents.specs.Lines.{lines_from, row_lines, lines_of}
+use Rattle.yq_walk.specs.Lines.{lines_from, row_lines, lines_of}
 use Rattle.yq_lines.specs.Outline.{Dash, Line}
 use Rattle.yq_documents.specs.Seats.{Seat, behind_one, seat}
-use Rattle.yq_documents.proofs.RowFlowLaws.{lines_count}
+use Rattle.yq_walk.proofs.RowLaws.{lines_count}
 
 -- Line n of a row, before whose mark so many dashes stand: before the mark it is that of a dash.
 pub record IsTold (dashes n : ℕ) (l : Line) : Type 0 where

@@ -7,8 +7,8 @@ use Rattle.yq_rows.specs.Rows.{Row, Part, Cut}
 use Rattle.yq_rows.specs.View.{Slices, slices, rows_of, Shown, shown}
 use Rattle.yq_documents.specs.declared.path.Path.{Path}
 use Rattle.yq_documents.specs.Documents.{document_parts}
-use Rattle.yq_tree.specs.Extents.{row_start}
-use Rattle.yq_documents.specs.Lines.{lines_of}
+use Rattle.yq_walk.specs.Extents.{row_start}
+use Rattle.yq_walk.specs.Lines.{lines_of}
 use Rattle.yq_documents.specs.Located.{steps_of}
 use Rattle.yq_documents.specs.Pieces.{Piece, piece_span}
 use Rattle.yq_documents.specs.Reading.{cut_of}

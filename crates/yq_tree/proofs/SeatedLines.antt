@@ -11,7 +11,7 @@ use Rattle.yq_rows.specs.Rows as rows
 use Rattle.yq_rows.specs.Rows.{Content, Nothing, Row, dashes_text, mark_text, rows_text, print_row, Part, part_text, Cut, last, marked, cut_text}
 use Rattle.yq_rows.proofs.PlaceLaws.{part_then}
 use Rattle.yq_documents.specs.Documents.{parts_from}
-use Rattle.yq_documents.specs.Lines.{mark_of, dash_line}
+use Rattle.yq_walk.specs.Lines.{mark_of, dash_line}
 use Rattle.yq_lines.specs.Outline.{level}
 use Rattle.yq_tree.specs.CommentReading.{before_row}
 use Rattle.yq_documents.specs.Seats.{Seat, behind_one, seat, rows_before}

@@ -12,9 +12,9 @@ use Rattle.yq_rows.specs.Rows as rows
 use Rattle.yq_rows.specs.Rows.{Content, Nothing, Inline, Block, Row, dashes_text, print_row, rows_text, Cut}
 use Rattle.yq_rows.specs.View.{Slices, slices, colon_of, content_cut, last_dash, Shown}
 use Rattle.yq_rows.proofs.seams.SeamLaws.{rows_text-append}
-use Rattle.yq_documents.specs.Lines.{mark_of}
+use Rattle.yq_walk.specs.Lines.{mark_of}
 use Rattle.yq_documents.specs.Reading.{cut_of}
-use Rattle.yq_documents.proofs.RowLineLaws.{colon_some}
+use Rattle.yq_walk.proofs.RowLaws.{colon_some}
 use Rattle.yq_tree.specs.Standings.{PlacedEntry, alone, before_entry, behind_entry, behind_mark, below, beside, block, compact, compact_in, entry_standing, held, is_alone, lone, placed_entry, standing_at, under}
 use Rattle.yq_tree.specs.StandingReading.{AreRowsOf, IsEntry, numbers_at}
 use Rattle.yq_tree.specs.StandingTelling.{held_at, held_if_last}

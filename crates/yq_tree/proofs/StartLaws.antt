@@ -7,9 +7,9 @@ use Rattle.yq_rows.specs.Exchange.{row_front, before_at, before_content}
 use Rattle.yq_rows.specs.Rows.{Row, rows_text, part_text, Cut, last, marked}
 use Rattle.yq_rows.specs.View.{Slices, slices, rows_of, shown}
 use Rattle.yq_rows.proofs.ExchangeLaws.{slice_front, slice_back}
-use Rattle.yq_tree.specs.Extents.{row_start, front_length, head_place}
+use Rattle.yq_walk.specs.Extents.{row_start, front_length, head_place}
 use Rattle.yq_tree.specs.CommentReading.{before_row}
-use Rattle.yq_tree.proofs.LengthLaws.{part-length, front-length, head_told}
+use Rattle.yq_walk.proofs.LengthLaws.{part-length, front-length, head_told}
 use Rattle.yq_rows.proofs.SliceLaws.{print-length}
 
 -- the text before a row's content is that before the row, and the row's front

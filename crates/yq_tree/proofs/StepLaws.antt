@@ -8,17 +8,17 @@ use Rattle.yq_lines.specs.Outline.{Mark, Bare, Key, Dash, Line, level, rank}
 use Rattle.yq_rows.specs.Rows as rows
 use Rattle.yq_rows.specs.Rows.{Content, Row, Cut}
 use Rattle.yq_rows.specs.View.{Slices, slices, Shown}
-use Rattle.yq_documents.specs.Lines.{dash_line, lines_from, row_lines, lines_of}
-use Rattle.yq_tree.specs.Extents.{lines_before_mark}
-use Rattle.yq_tree.specs.RowWalk.{HasDocument, line_level}
+use Rattle.yq_walk.specs.Lines.{dash_line, lines_from, row_lines, lines_of}
+use Rattle.yq_walk.specs.Extents.{lines_before_mark}
+use Rattle.yq_walk.specs.RowWalk.{HasRows, line_level}
 use Rattle.yq_tree.specs.StepReading.{begins_under}
 use Rattle.yq_tree.specs.Steps as spec
 use Rattle.yq_tree.specs.Steps.{Steps, steps_in, steps_of_part, document_steps, is_key, is_kind, first_step}
-use Rattle.yq_tree.specs.declared.places.spot.Stretch.{Stretch}
+use Rattle.yq_walk.specs.declared.spot.Stretch.{Stretch}
 use Rattle.yq_lines.proofs.Parts.{drop_at}
 use Rattle.yq_tree.proofs.WalkDocuments.{Found}
-use Rattle.yq_tree.proofs.WalkLevels.{IsTelling, line_in, level_is}
-use Rattle.yq_tree.proofs.WalkSpots.{Located, located}
+use Rattle.yq_walk.proofs.WalkLevels.{IsTelling, line_in, level_is}
+use Rattle.yq_walk.proofs.WalkSpots.{Located, located}
 
 -- the step of the first collection that begins under a key, in lines behind one of a level
 abbrev pub step_behind : (dashes : Bool) → ℕ → List Line → ℕ
@@ -99,7 +99,7 @@ row_step dashes a n k r ys t first last =
     lines_step dashes a above r.column r.dashes r.mark r.content f.0 l.0 ys f.1 l.1 ∙ (λ i. cond (begins_under dashes a (begins i)) ((begins i - a) / 3) (step_behind dashes (ends i) ys))
 
 -- the lines from a row of a document on
-module _ (s : Shown) (d : Stretch) (h : HasDocument s d) (dashes : Bool) (i above first : ℕ) (from : d.first ≤ i) (upto : i < d.end) (told : (x : Slices) → slice_get s.rows i ≡ Some x → first ≡ line_level 0 x) where
+module _ (s : Shown) (d : Stretch) (h : HasRows s d) (dashes : Bool) (i above first : ℕ) (from : d.first ≤ i) (upto : i < d.end) (told : (x : Slices) → slice_get s.rows i ≡ Some x → first ≡ line_level 0 x) where
   abbrev at : Located s d h (record { row = i; line = 0 })
   at = located s d h (record { row = i; line = 0 }) (record { from = from; upto = upto; line = λ x e. omega arith })
 
@@ -123,5 +123,5 @@ module _ (s : Shown) (d : Stretch) (h : HasDocument s d) (dashes : Bool) (i abov
       ∙ ap (λ b. cond b ((first - above) / 3) (step_behind dashes n (lines_of (drop ((i + 1) - d.first) h.rows)))) other)
 
 -- the steps of a document that was found, and of one that isn't there
-pub steps_found : (s : Shown) (c : Cut) (n : ℕ) (d : Stretch) (f : Found s c n d) → steps_in (lines_of f.document.rows) ≡ document_steps n c
+pub steps_found : (s : Shown) (c : Cut) (n : ℕ) (d : Stretch) (f : Found s c n d) → steps_in (lines_of f.document.stand.rows) ≡ document_steps n c
 steps_found s c n d f = ap (λ (rs : List Row). steps_in (lines_of rs)) f.rows ∙ ap steps_of_part (sym f.there)

@@ -12,10 +12,10 @@ use Rattle.yq_rows.specs.Grammar.{IsCut, unlimited, AreRows, AreParts, begins_do
 use Rattle.yq_rows.specs.Rows.{Row, Part, Cut, last, marked, cut_text}
 use Rattle.yq_rows.specs.View.{slices, Bound, bounds_from, rows_of, Shown, shown}
 use Rattle.yq_documents.specs.Documents.{parts_from, document_parts, begins_bare, has_begin}
-use Rattle.yq_documents.specs.Lines.{row_lines, lines_of}
+use Rattle.yq_walk.specs.Lines.{row_lines, lines_of}
 use Rattle.yq_documents.specs.PartReading.{some_begin, first_rows}
 use Rattle.yq_documents.proofs.PartsLinedLaws.{document_is}
-use Rattle.yq_documents.proofs.RowFlowLaws.{lines_count}
+use Rattle.yq_walk.proofs.RowLaws.{lines_count}
 use Rattle.yq_documents.specs.Seats.{behind_one, seat, seat_of, seat_at, rows_before, document_row}
 use Rattle.yq_documents.specs.declared.path.Path.{Path}
 use Rattle.yq_documents.specs.Located.{steps_of}
@@ -24,10 +24,11 @@ use Rattle.yq_scalar.specs.Anchors.{names_of}
 use Rattle.yq_lines.specs.Group.{group}
 use Rattle.yq_lines.specs.LinesReading.{have_one_anchor_each, are_bound}
 use Rattle.yq_lines.specs.Sound.{is_sound}
-use Rattle.yq_documents.specs.Reading.{is_document, have_fit_keys, has_short_root, root_of}
-use Rattle.yq_tree.specs.RowWalk.{HasDocument, AreKnown, MayWalk, InCut, stretch_told, begin_rows, document_rows}
+use Rattle.yq_documents.specs.Reading.{all_documents, is_document, have_fit_keys, has_short_root, root_of}
+use Rattle.yq_walk.specs.RowWalk.{HasDocument, stretch_told}
+use Rattle.yq_tree.specs.RowWalk.{InCut, begin_rows, document_rows}
 use Rattle.yq_tree.specs.SeatReading.{Numbers, numbers}
-use Rattle.yq_tree.specs.declared.places.spot.Stretch.{Stretch}
+use Rattle.yq_walk.specs.declared.spot.Stretch.{Stretch}
 use Rattle.yq_tree.proofs.FoundLines.{each}
 use Rattle.yq_tree.proofs.SeatLaws.{part_begins}
 
@@ -99,8 +100,8 @@ sound_part p e =
     (and_parts (are_bound [] (names_of (root_of p))) _ one.1).1
 
 -- the document of a text with its cut
-pub document_has : (t : List ℕ) (s : Shown) (c : Cut) (n : ℕ) (p : Part) (d : Stretch) → IsCut t c → s ≡ shown c → slice_get (document_parts c) n ≡ Some p → d.first ≡ document_row n c → d.end ≡ document_row n c + length p.rows → MayWalk d c →
-    (h : HasDocument s d) × (h.rows ≡ p.rows)
+pub document_has : (t : List ℕ) (s : Shown) (c : Cut) (n : ℕ) (p : Part) (d : Stretch) → IsCut t c → s ≡ shown c → slice_get (document_parts c) n ≡ Some p → d.first ≡ document_row n c → d.end ≡ document_row n c + length p.rows → all_documents c ≡ true →
+    (h : HasDocument s d) × (h.stand.rows ≡ p.rows)
 document_has t s c n p d cut is at first end walk =
     let b = part_begins c n p at in
     let v = part_rows true (begins_bare c || not (has_begin c)) n c p cut.parts at in
@@ -114,16 +115,17 @@ document_has t s c n p d cut is at first end walk =
     let all : length s.rows ≡ length (rows_of c) = ap (λ (x : Shown). length x.rows) is ∙ length-map (rows_of c) slices in
     let upto : k ≤ length (rows_of c) = before_within (begins_bare c || not (has_begin c)) n c in (
       record {
-        rows = p.rows;
-        limit = unlimited;
-        end = p.end;
-        rest = v.0;
-        order = omega (arith, first, end);
-        within = omega (arith, first, end, long, all, upto);
-        pieces = pieces;
-        valid = v.1;
-        sound = sound_part p (each (document_parts c) walk.sound n p at);
-        known = subst (λ (x : Shown). AreKnown x.rows d.known) (sym is) walk.known;
+        stand = record {
+          rows = p.rows;
+          limit = unlimited;
+          end = p.end;
+          rest = v.0;
+          order = omega (arith, first, end);
+          within = omega (arith, first, end, long, all, upto);
+          pieces = pieces;
+          valid = v.1;
+        };
+        sound = sound_part p (each (document_parts c) walk n p at);
       },
       refl,
     )
@@ -153,9 +155,9 @@ pub record Found (s : Shown) (c : Cut) (n : ℕ) (d : Stretch) : Type 0 where
   pub there : slice_get (document_parts c) n ≡ Some part
   pub first : d.first ≡ document_row n c
   pub document : HasDocument s d
-  pub rows : document.rows ≡ part.rows
+  pub rows : document.stand.rows ≡ part.rows
 
-pub found_document : (t : List ℕ) (s : Shown) (c : Cut) (n : ℕ) (d : Stretch) → IsCut t c → s ≡ shown c → Some (stretch_told d) ≡ document_rows n c → MayWalk d c → Found s c n d
+pub found_document : (t : List ℕ) (s : Shown) (c : Cut) (n : ℕ) (d : Stretch) → IsCut t c → s ≡ shown c → Some (stretch_told d) ≡ document_rows n c → all_documents c ≡ true → Found s c n d
 found_document t s c n d cut is e known = go (slice_get (document_parts c) n) refl e
   where
     go : (o : Option Part) → slice_get (document_parts c) n ≡ o → Some (stretch_told d) ≡ option_map (λ p. (document_row n c, document_row n c + length p.rows)) o → Found s c n d
@@ -166,7 +168,7 @@ found_document t s c n d cut is e known = go (slice_get (document_parts c) n) re
         record { part = p; there = at; first = ap (λ (y : ℕ × ℕ). y.0) same; document = x.0; rows = x.1 }
 
 -- its rows stand among those of the cut
-pub found_in_cut : (t : List ℕ) (s : Shown) (c : Cut) (n : ℕ) (d : Stretch) → IsCut t c → s ≡ shown c → (f : Found s c n d) → (k : InCut s d c) × (k.document.rows ≡ f.part.rows)
+pub found_in_cut : (t : List ℕ) (s : Shown) (c : Cut) (n : ℕ) (d : Stretch) → IsCut t c → s ≡ shown c → (f : Found s c n d) → (k : InCut s d c) × (k.document.stand.rows ≡ f.part.rows)
 found_in_cut t s c n d cut is f =
     let b = part_begins c n f.part f.there in (
       record {
@@ -181,8 +183,8 @@ found_in_cut t s c n d cut is f =
     )
 
 -- a place in a document that was found
-pub place_found : {A : Type 0} (t : List ℕ) (s : Shown) (c : Cut) (n : ℕ) (d : Stretch) (found : Option A) (place : ℕ → Cut → List Row → Option A) → IsCut t c → s ≡ shown c → Some (stretch_told d) ≡ document_rows n c → MayWalk d c →
-    ((k : InCut s d c) → found ≡ place d.first c k.document.rows) → found ≡ (slice_get (document_parts c) n >>= λ p. place (document_row n c) c p.rows)
+pub place_found : {A : Type 0} (t : List ℕ) (s : Shown) (c : Cut) (n : ℕ) (d : Stretch) (found : Option A) (place : ℕ → Cut → List Row → Option A) → IsCut t c → s ≡ shown c → Some (stretch_told d) ≡ document_rows n c → all_documents c ≡ true →
+    ((k : InCut s d c) → found ≡ place d.first c k.document.stand.rows) → found ≡ (slice_get (document_parts c) n >>= λ p. place (document_row n c) c p.rows)
 place_found t s c n d found place cut is e known told =
     let f = found_document t s c n d cut is e known in
     let k = found_in_cut t s c n d cut is f in
@@ -198,7 +200,7 @@ no_place_found {A = A} c n place e = go (slice_get (document_parts c) n) e
     go (Some p) e = absurd (cc)
 
 -- the line of a path in a document that was found
-pub seat_found : (s : Shown) (c : Cut) (path : Path) (d : Stretch) (steps : List Step) (found : Option Numbers) (f : Found s c path.doc d) → steps ≡ steps_of path → found ≡ option_map (numbers d.first) (seat_of steps f.document.rows) →
+pub seat_found : (s : Shown) (c : Cut) (path : Path) (d : Stretch) (steps : List Step) (found : Option Numbers) (f : Found s c path.doc d) → steps ≡ steps_of path → found ≡ option_map (numbers d.first) (seat_of steps f.document.stand.rows) →
     found ≡ option_map (numbers (document_row path.doc c)) (seat_at path c)
 seat_found s c path d steps found f same e =
     e

@@ -1,15 +1,14 @@
 -- What stands under a line or a document, and in which row of a cut a line is.
-use Rattle.std.proofs.Common.{◌≡◌, ◌⊎◌, inl, inr, ℕ, suc, ◌+◌, ◌-◌, ◌<◌, ◌≤◌, eqb, Bool, true, false, cond, not, List, [], ◌∷◌, length, drop, get_or, Option, Some, None, option_map, option_and_then, refl, sym, ap, ◌∙◌, arith}
+use Rattle.std.proofs.Common.{◌≡◌, ◌⊎◌, inl, inr, ℕ, suc, ◌+◌, ◌-◌, ◌<◌, ◌≤◌, eqb, Bool, true, false, cond, not, List, [], ◌∷◌, length, drop, get_or, Option, Some, None, refl, sym, ap, ◌∙◌, arith}
 use Rattle.std.proofs.lemmas.Bool.{cases_lt, false≢true, eq-eqb, ne_eqb, eqb-true, lt-ltb, le-ltb, cond-true, cond-false}
 use Rattle.std.proofs.lemmas.List.{drop_all}
 use Rattle.std.proofs.lemmas.Option.{slice_get_cases}
 use Rattle.std.specs.List.{slice_get}
 use Rattle.yq_scalar.specs.Answers.{◌>>=◌}
 use Rattle.yq_scalar.specs.Paths.{Step}
-use Rattle.yq_lines.specs.Ends.{is_end, part, deeper_count, lines_end, found_line, line_of, reached}
+use Rattle.yq_lines.specs.Ends.{is_end, part, deeper_count, lines_end}
 use Rattle.yq_lines.specs.Group.{deeper, group}
 use Rattle.yq_lines.specs.Outline.{Line, level}
-use Rattle.yq_lines.specs.Places.{lines_before, Found, find}
 use Rattle.yq_lines.proofs.EndsLaws.{not_end}
 use Rattle.yq_lines.proofs.LineEnds.{end_line}
 use Rattle.yq_lines.proofs.LinesLaws.{above}
@@ -17,12 +16,13 @@ use Rattle.yq_lines.proofs.Parts.{drop_at, part_row, part_stop}
 use Rattle.yq_rows.specs.Rows.{Row, Cut}
 use Rattle.yq_rows.specs.View.{rows_of, Shown}
 use Rattle.yq_documents.specs.Seats.{Seat, seat}
-use Rattle.yq_tree.specs.RowWalk.{InCut, IsLine, line_number, lines_stop}
-use Rattle.yq_tree.specs.declared.places.spot.Spot.{Spot}
-use Rattle.yq_tree.specs.declared.places.spot.Stretch.{Stretch}
+use Rattle.yq_tree.specs.RowWalk.{InCut}
+use Rattle.yq_walk.specs.RowWalk.{IsLine, line_number, lines_stop}
+use Rattle.yq_walk.specs.declared.spot.Spot.{Spot}
+use Rattle.yq_walk.specs.declared.spot.Stretch.{Stretch}
 use Rattle.yq_tree.proofs.EntryPlaceLaws.{row_there}
 use Rattle.yq_tree.proofs.WalkDocuments.{seat_number}
-use Rattle.yq_tree.proofs.WalkSpots.{located}
+use Rattle.yq_walk.proofs.WalkSpots.{located}
 
 -- lines that are deeper than a level end where they begin exactly where there are none
 pub stops_here : (ls : List Line) (n floor : ℕ) → eqb n (lines_stop n floor ls) ≡ is_end (part ls n floor)
@@ -70,32 +70,23 @@ pub no_steps : (steps : List Step) → true ≡ eqb (length steps) 0 → steps �
 no_steps [] e = refl
 no_steps (s ∷ ss) e = absurd (omega (arith, eqb-true (length (s ∷ ss)) 0 (sym e)))
 
--- where steps lead nowhere, no line is
-pub no_line : (steps : List Step) (ls : List Line) → None ≡ reached steps ls → None ≡ line_of steps ls
-no_line [] ls e = refl
-no_line (s ∷ ss) ls e = go (find s ss (group ls)) e
-  where
-    go : (o : Option (Found × List Step)) → ◌≡◌ {A = Option (ℕ × List Step)} None (option_map (λ x. (length (lines_before x.0.place), x.1)) o) → None ≡ option_and_then (λ x. found_line x.0 x.1) o
-    go None e = refl
-    go (Some x) e = absurd (cc)
-
 -- the row of a line among those of a cut
 module _ (s : Shown) (d : Stretch) (c : Cut) (k : InCut s d c) (q : Spot) (at : IsLine s d q) where
   abbrev pub row_is : Row
-  row_is = (located s d k.document q at).row
+  row_is = (located s d k.document.stand q at).row
 
-  pub seat_is : seat (line_number d k.document.rows q) k.document.rows ≡ Some (record { before = q.row - d.first; row = row_is; line = q.line })
-  seat_is = let l = located s d k.document q at in seat_number k.document.rows (q.row - d.first) q.line l.row l.there l.within
+  pub seat_is : seat (line_number d k.document.stand.rows q) k.document.stand.rows ≡ Some (record { before = q.row - d.first; row = row_is; line = q.line })
+  seat_is = let l = located s d k.document.stand q at in seat_number k.document.stand.rows (q.row - d.first) q.line l.row l.there l.within
 
   pub before_is : d.first + (q.row - d.first) ≡ q.row
   before_is = omega (arith, at.from)
 
   pub row_in_cut : slice_get (rows_of c) q.row ≡ Some row_is
-  row_in_cut = ap (slice_get (rows_of c)) (sym before_is) ∙ row_there c k.document.rows k.more d.first (line_number d k.document.rows q) (record { before = q.row - d.first; row = row_is; line = q.line }) k.there seat_is
+  row_in_cut = ap (slice_get (rows_of c)) (sym before_is) ∙ row_there c k.document.stand.rows k.more d.first (line_number d k.document.stand.rows q) (record { before = q.row - d.first; row = row_is; line = q.line }) k.there seat_is
 
   -- what is said of that row is said of the line's
   pub row_told : {A : Type 0} (said : ℕ → Row → Option A) (found : Option A) → ((r : Row) → slice_get (rows_of c) q.row ≡ Some r → found ≡ said q.row r) →
-      found ≡ (seat (line_number d k.document.rows q) k.document.rows >>= λ s. said (d.first + s.before) s.row)
+      found ≡ (seat (line_number d k.document.stand.rows q) k.document.stand.rows >>= λ s. said (d.first + s.before) s.row)
   row_told {A = A} said found told =
       told row_is row_in_cut
       ∙ ((λ i. said (sym before_is i) row_is) ∙ sym (ap (λ (o : Option Seat). o >>= λ s. said (d.first + s.before) s.row) seat_is))

@@ -2,7 +2,7 @@
 use Rattle.std.specs.Prelude.{ℕ, ◌+◌, ◌-◌, ◌==◌, List, length, Option, Some, None, if◌then◌else◌, [], ◌++◌, nat_lt, take}
 use Rattle.yq_scalar.specs.Text.{cut, front, ends_line, is_empty, joined, lines_of, no_white, past_white}
 use Rattle.yq_rows.specs.View.{Slices, slices}
-use Rattle.yq_tree.specs.Extents.{front_length}
+use Rattle.yq_walk.specs.Extents.{front_length}
 use Rattle.yq_tree.specs.SeatReading.{Numbers}
 use Rattle.yq_rows.specs.Exchange.{before_content, behind_row}
 use Rattle.yq_rows.specs.Rows.{Row, Cut, rows_text, part_text, last, marked, behind_gap}

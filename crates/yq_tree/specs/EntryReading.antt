@@ -1,4 +1,5 @@
 -- Reading (own; a reader may skip it): where lines, entries and contents begin and end, by the rows of a text and their pieces, as the code counts.
+use Rattle.yq_walk.specs.Extents.{dash_at}
 use Rattle.std.specs.Prelude.{ℕ, suc, ◌+◌, ◌-◌, ◌==◌, List, [], ◌∷◌, ◌++◌, length, replicate, slice_get, take, Option, Some, None, is_some, option_map, option_and_then, if◌then◌else◌, ◌≡◌}
 use Rattle.yq_scalar.specs.Answers.{◌>>=◌}
 use Rattle.yq_scalar.specs.Paths.{Step}
@@ -12,8 +13,8 @@ use Rattle.yq_rows.specs.View.{Slices, slices}
 use Rattle.yq_documents.specs.declared.path.Path.{Path}
 use Rattle.yq_tree.specs.CommentReading.{before_tail, before_row}
 use Rattle.yq_documents.specs.Documents.{document_parts}
-use Rattle.yq_tree.specs.Extents.{head_place}
-use Rattle.yq_documents.specs.Lines.{tail_of, lines_of}
+use Rattle.yq_walk.specs.Extents.{head_place}
+use Rattle.yq_walk.specs.Lines.{tail_of, lines_of}
 use Rattle.yq_documents.specs.Located.{steps_of}
 use Rattle.yq_lines.specs.Ends.{line_of, reached, lines_end}
 use Rattle.yq_documents.specs.Seats.{seat, document_row, Seat}
@@ -136,11 +137,6 @@ line_content_at p c = slice_get (document_parts c) p.doc >>= λ d. line_content_
 -- the item or entry of a flow collection at a path (7.4)
 abbrev pub flow_entry_at : Path → Cut → Option PlacedEntry
 flow_entry_at p c = slice_get (document_parts c) p.doc >>= λ d. flow_entry_of (document_row p.doc c) c d.rows (steps_of p)
-
--- how far it is in a text to the dash before which k others stand, or to the end
-unfoldable pub dash_at : ℕ → List ℕ → ℕ
-dash_at k [] = 0
-dash_at k (b ∷ bs) = if b == 45 then (if k == 0 then 0 else suc (dash_at (k - 1) bs)) else suc (dash_at k bs)
 
 -- where line k of a row begins, by where the row begins
 abbrev pub line_begin : ℕ → Slices → ℕ → ℕ

@@ -4,9 +4,9 @@ use Rattle.yq_lines.specs.View.{head_flow, head_view}
 use Rattle.yq_rows.specs.Rows.{Row, Cut}
 use Rattle.yq_rows.specs.View.{slices}
 use Rattle.yq_documents.specs.FlowReading.{row_flow}
-use Rattle.yq_documents.specs.Lines.{head_of}
+use Rattle.yq_walk.specs.Lines.{head_of}
 use Rattle.yq_documents.specs.RowReading.{from_head}
-use Rattle.yq_tree.specs.Extents.{head_place}
+use Rattle.yq_walk.specs.Extents.{head_place}
 use Rattle.yq_tree.specs.declared.places.row_head.RowHead.{RowHead}
 
 -- The head of row i, with the text from there to the end of the row, in which it has its places.

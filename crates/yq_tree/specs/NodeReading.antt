@@ -12,9 +12,9 @@ use Rattle.yq_lines.specs.Spots.{begins_with_node}
 use Rattle.yq_rows.specs.Rows.{Row}
 use Rattle.yq_rows.specs.View.{Shown}
 use Rattle.yq_tree.specs.NodesAt.{NodeAt, node_told}
-use Rattle.yq_tree.specs.RowWalk.{IsLine, IsSpot, line_number, lines_stop}
+use Rattle.yq_walk.specs.RowWalk.{IsLine, IsSpot, line_number, lines_stop}
 use Rattle.yq_tree.specs.declared.places.node_place.NodePlace as declared
-use Rattle.yq_tree.specs.declared.places.spot.Stretch.{Stretch}
+use Rattle.yq_walk.specs.declared.spot.Stretch.{Stretch}
 
 -- Where a node is written: in the head of a line, or on the lines from one on that are deeper than a level (8.2).
 pub data NodePlace : Type 0 where

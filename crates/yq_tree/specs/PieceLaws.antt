@@ -11,7 +11,7 @@ use Rattle.yq_documents.specs.declared.path.Part.{Part}
 use Rattle.yq_documents.specs.declared.path.Part.TheVariants.{Content, Entry}
 use Rattle.yq_documents.specs.declared.path.Path.{Path}
 use Rattle.yq_documents.specs.Documents.{document_parts}
-use Rattle.yq_documents.specs.Lines.{lines_of}
+use Rattle.yq_walk.specs.Lines.{lines_of}
 use Rattle.yq_inline.specs.Trees.{node_anchor}
 use Rattle.yq_documents.specs.Located.{labelled_located, located}
 use Rattle.yq_lines.specs.Labelled.{Labelled}

@@ -3,7 +3,7 @@ use Rattle.std.specs.Prelude.{ℕ, suc, ◌+◌, ◌&&◌, List, [], ◌∷◌, 
 use Rattle.yq_scalar.specs.Text.{is_empty, is_feed, is_return}
 use Rattle.yq_rows.specs.Rows.{Content, Nothing, mark_text, content_text, Row, last}
 use Rattle.yq_rows.specs.View.{content_cut}
-use Rattle.yq_documents.specs.Lines.{mark_line, dash_line}
+use Rattle.yq_walk.specs.Lines.{mark_line, dash_line}
 use Rattle.yq_lines.specs.Outline.{Line}
 use Rattle.yq_lines.specs.Spots.{is_bare}
 use Rattle.yq_lines.specs.Comments as comments

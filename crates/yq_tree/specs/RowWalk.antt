@@ -1,82 +1,22 @@
--- Reading (own; a reader may skip it): where steps lead in a document, row by row, by the pieces of rows, as the code goes.
-use Rattle.std.specs.Prelude.{◌≡◌, ℕ, zero, suc, Bool, true, false, ◌+◌, ◌-◌, ◌*◌, ◌==◌, ◌<◌, ◌≤◌, nat_eq, nat_lt, IfSome, List, [], ◌∷◌, ◌++◌, length, map, take, drop, slice_get, Option, Some, None, option_and_then, option_map, if◌then◌else◌}
-use denote.Bor.{Bor}
-use Rattle.yq_inline.specs.declared.path.Step as declared
-use Rattle.yq_inline.specs.Entries.{step_of}
-use Rattle.yq_inline.specs.Inline.{depth_limit}
+-- Reading (own; a reader may skip it): the rows of documents among those of a cut, and items that stay known in other cuts.
+use Rattle.std.specs.Prelude.{◌≡◌, ℕ, zero, suc, Bool, true, false, ◌+◌, nat_eq, List, [], ◌∷◌, ◌++◌, length, drop, slice_get, Option, Some, None, option_map}
 use Rattle.yq_inline.specs.Places.{Placed}
-use Rattle.yq_scalar.specs.Keys.{are_distinct, keys_of}
-use Rattle.yq_scalar.specs.Paths.{Step, Nth, key_is}
-use Rattle.yq_scalar.specs.Text.{is_empty}
-use Rattle.yq_lines.specs.Ends.{deeper_count, is_end, part}
-use Rattle.yq_lines.specs.Group.{group}
-use Rattle.yq_lines.specs.Outline.{Line, Outline, children, key_of}
-use Rattle.yq_lines.specs.Places.{find_row}
-use Rattle.yq_lines.specs.Sound.{is_sound}
-use Rattle.yq_lines.specs.Spots.{reach_from, seen, spot}
-use Rattle.yq_rows.specs.Grammar.{Limit, AreRows, IsCut, begins_document}
+use Rattle.yq_lines.specs.Ends.{is_end, part}
+use Rattle.yq_lines.specs.Outline.{Line}
+use Rattle.yq_rows.specs.Grammar.{IsCut, begins_document}
 use Rattle.yq_rows.specs.Rows.{Row, Cut}
 use Rattle.yq_rows.specs.Touched.{TouchesOnly}
-use Rattle.yq_rows.specs.View.{Slices, slices, rows_of, Bound, Shown, shown}
+use Rattle.yq_rows.specs.View.{rows_of, Bound, Shown, shown}
 use Rattle.yq_documents.specs.Documents.{document_parts}
-use Rattle.yq_documents.specs.Lines.{lines_of}
+use Rattle.yq_walk.specs.Lines.{lines_of}
 use Rattle.yq_documents.specs.Reading.{all_documents, cut_of}
 use Rattle.yq_documents.specs.Seats.{document_row}
-use Rattle.yq_tree.specs.EntryReading.{dash_at, HasFlows}
-use Rattle.yq_tree.specs.Extents.{lines_before_mark}
-use Rattle.yq_tree.specs.declared.places.spot.KnownItem.{KnownItem}
-use Rattle.yq_tree.specs.declared.places.spot.KnownItems.{KnownItems}
-use Rattle.yq_tree.specs.declared.places.spot.Spot.{Spot}
-use Rattle.yq_tree.specs.declared.places.spot.Stretch.{Stretch}
-use Rattle.yq_tree.specs.declared.places.spot_reach.Next as nexts
-
--- the rank of line k of a row: that of a dash, of a key, or of a node itself (8.2.3)
-abbrev pub line_rank : ℕ → Slices → ℕ
-line_rank k s = if nat_lt (dash_at k s.dashes) (length s.dashes) then 3 else (if is_empty s.colon then 1 else 2)
-
--- the column of line k of a row (8.2.3)
-abbrev pub line_column : ℕ → Slices → ℕ
-line_column k s = s.column + dash_at k s.dashes
-
--- how deep line k of a row is (8.2.3)
-abbrev pub line_level : ℕ → Slices → ℕ
-line_level k s = 3 * line_column k s + line_rank k s
-
--- how many rows in front begin deeper than a level (8.2)
-abbrev pub deeper_rows : ℕ → List Slices → ℕ
-deeper_rows n [] = 0
-deeper_rows n (s ∷ ss) = if nat_lt n (line_level 0 s) then suc (deeper_rows n ss) else 0
-
--- the first row of a document from one on that doesn't begin deeper than a level, or the document's end (8.2)
-abbrev pub rows_end : Shown → Stretch → ℕ → ℕ → ℕ
-rows_end s d n from = from + deeper_rows n (take (d.end - from) (drop from s.rows))
-
--- how many rows begin at a level (8.2)
-abbrev pub level_count : ℕ → List Slices → ℕ
-level_count n [] = 0
-level_count n (s ∷ ss) = if line_level 0 s == n then suc (level_count n ss) else level_count n ss
-
--- no rows begin less deep than a level (8.2)
-abbrev pub AreDeep : ℕ → List Slices → Type 0
-AreDeep n [] = Unit {0}
-AreDeep n (s ∷ ss) = (n ≤ line_level 0 s) × AreDeep n ss
-
--- Behind the line of a first item, which is deeper than a level, no row in front begins less deep. So many items begin as deep, it among them (8.2).
-pub record ArePassed (front : List Slices) (k : KnownItem) : Type 0 where
-  pub piece : Slices
-  pub there : slice_get front k.under.row ≡ Some piece
-  pub level : k.level ≡ line_level k.under.line piece
-  pub deeper : k.floor < k.level
-  pub deep : AreDeep k.level (drop (k.under.row + 1) front)
-  pub index : k.index ≡ suc (level_count k.level (drop (k.under.row + 1) front))
-
--- The items before one that is known are those in front of its row.
-abbrev pub IsKnown : List Slices → KnownItem → Type 0
-IsKnown ss k = ArePassed (take k.row ss) k
-
--- Items are known.
-abbrev pub AreKnown : List Slices → KnownItems → Type 0
-AreKnown ss ks = IfSome ks.far (IsKnown ss) × IfSome ks.near (IsKnown ss)
+use Rattle.yq_tree.specs.EntryReading.{HasFlows}
+use Rattle.yq_walk.specs.RowWalk.{IsKnown, AreKnown, HasDocument, line_number}
+use Rattle.yq_walk.specs.declared.spot.KnownItem.{KnownItem}
+use Rattle.yq_walk.specs.declared.spot.KnownItems.{KnownItems}
+use Rattle.yq_walk.specs.declared.spot.Spot.{Spot}
+use Rattle.yq_walk.specs.declared.spot.Stretch.{Stretch}
 
 -- An item stays known in each text in which the items of its cut stay that end in front of so many bytes.
 abbrev pub StaysKnown : ℕ → Cut → KnownItem → Type 0
@@ -86,120 +26,14 @@ StaysKnown front c k = (new : Cut) (back : ℕ) → TouchesOnly front back c new
 abbrev pub StayKnown : ℕ → Cut → KnownItems → Type 0
 StayKnown front c ks = (new : Cut) (back : ℕ) → TouchesOnly front back c new → AreKnown (shown new).rows ks
 
--- An item is known that begins before a row, among the lines from one on that are deeper than a level (own).
-pub record IsAmong (ss : List Slices) (under : Spot) (floor end : ℕ) (k : KnownItem) : Type 0 where
-  pub known : IsKnown ss k
-  pub under_is : k.under ≡ under
-  pub floor_is : k.floor ≡ floor
-  pub within : k.row < end
-
--- The items that are known are those of a cut, and the parts of the cut stand for documents (own).
-pub record MayWalk (d : Stretch) (c : Cut) : Type 0 where
-  pub known : AreKnown (shown c).rows d.known
-  pub sound : all_documents c ≡ true
-
--- The rows of a text from one up to another one are those of a document; the items that are known are those of the text.
-pub record HasDocument (s : Shown) (d : Stretch) : Type 0 where
-  pub rows : List Row
-  pub limit : Limit
-  pub end : List ℕ
-  pub rest : List ℕ
-  pub order : d.first ≤ d.end
-  pub within : d.end ≤ length s.rows
-  pub pieces : take (d.end - d.first) (drop d.first s.rows) ≡ map slices rows
-  pub valid : AreRows limit rows end rest
-  pub sound : is_sound depth_limit (group (lines_of rows)) ≡ true
-  pub known : AreKnown s.rows d.known
-
 -- The lines that are kept of a document are those of its rows.
 pub record HasLines (s : Shown) (d : Stretch) (ls : List Line) : Type 0 where
   pub document : HasDocument s d
-  pub lines : ls ≡ lines_of document.rows
+  pub lines : ls ≡ lines_of document.stand.rows
 
 -- What is said of lines that are kept, and of what stands in flow in them, is so of the rows of the document, among those of a cut.
 abbrev pub HeldAs : Shown → Stretch → List Line → List (Option Placed) → (ℕ → Cut → List Row → Type 0) → Type 0
-HeldAs s d ls fs said = (k : ℕ) (c : Cut) (h : HasDocument s d) → ls ≡ lines_of h.rows → HasFlows k c h.rows fs → said k c h.rows
-
--- A line of a document, or the end behind its rows.
-pub record IsSpot (s : Shown) (d : Stretch) (q : Spot) : Type 0 where
-  pub from : d.first ≤ q.row
-  pub upto : q.row ≤ d.end
-  pub line : (x : Slices) → slice_get s.rows q.row ≡ Some x → q.line ≤ lines_before_mark x
-  pub last : q.row ≡ d.end → q.line ≡ 0
-
--- A line of a document.
-pub record IsLine (s : Shown) (d : Stretch) (q : Spot) : Type 0 where
-  pub from : d.first ≤ q.row
-  pub upto : q.row < d.end
-  pub line : (x : Slices) → slice_get s.rows q.row ≡ Some x → q.line ≤ lines_before_mark x
-
--- the number of a line among those of a document's rows
-abbrev pub line_number : Stretch → List Row → Spot → ℕ
-line_number d rs q = length (lines_of (take (q.row - d.first) rs)) + q.line
-
--- Lines of a document from one up to another one, which is the first line of its row or the end.
-pub record AreLines (s : Shown) (d : Stretch) (p q : Spot) : Type 0 where
-  pub begin : IsSpot s d p
-  pub stop : IsSpot s d q
-  pub first : q.line ≡ 0
-  pub order : (h : HasDocument s d) → line_number d h.rows p ≤ line_number d h.rows q
-
--- the number of the line behind those from one on that are deeper than a level (8.2)
-abbrev pub lines_stop : ℕ → ℕ → List Line → ℕ
-lines_stop n floor ls = n + deeper_count floor (drop n ls)
-
--- What is said of the line of a document that is there.
-abbrev pub OfLine : Shown → Stretch → Spot → (Line → Type 0) → Type 0
-OfLine s d q said = (h : HasDocument s d) (l : Line) → slice_get (lines_of h.rows) (line_number d h.rows q) ≡ Some l → said l
-
--- What is said of the lines of a document, with their numbers.
-abbrev pub OfLines : Shown → Stretch → (List Line → (Spot → ℕ) → Type 0) → Type 0
-OfLines s d said = (h : HasDocument s d) → said (lines_of h.rows) (line_number d h.rows)
-
--- A step leads to that line, if to any, among the lines from one on that are deeper than a level.
-abbrev pub Finds : Shown → Stretch → Spot → ℕ → Step → Option Spot → Type 0
-Finds s d under floor step found =
-    (h : HasDocument s d) → spot (line_number d h.rows under) (find_row step (part (lines_of h.rows) (line_number d h.rows under) floor)) ≡ seen (lines_of h.rows) (option_map (line_number d h.rows) found)
-
--- where a step leads among the lines from one on that are deeper than a level
-abbrev pub found_from : Stretch → List Row → ℕ → Spot → Step → Option (ℕ × Line × Outline)
-found_from d rs floor q step = spot (line_number d rs q) (find_row step (part (lines_of rs) (line_number d rs q) floor))
-
--- Among the lines from one on that are deeper than a level, a walk to an item goes on from another line, by the item's index from there on.
-abbrev pub GoesOn : Shown → Stretch → ℕ → Spot → ℕ → Spot → ℕ → Type 0
-GoesOn s d floor under index at left =
-    (h : HasDocument s d) → found_from d h.rows floor under (Nth index) ≡ found_from d h.rows floor at (Nth left)
-
--- The entries among the lines from one on that are deeper than a level have different keys (3.2.1.3).
-abbrev pub HaveKeys : Shown → Stretch → Spot → ℕ → Type 0
-HaveKeys s d under floor =
-    (h : HasDocument s d) → are_distinct (keys_of (children (part (lines_of h.rows) (line_number d h.rows under) floor))) ≡ true
-
--- An entry that is known has a key.
-abbrev pub IsKeyed : Shown → Stretch → KnownItem → List ℕ → Type 0
-IsKeyed s d k key = OfLine s d (record { row = k.row; line = 0 }) (λ l. key_is key (key_of l.mark) ≡ true)
-
--- where steps lead whose first one leads there, with a line by its number
-abbrev pub next_reached : Stretch → List Row → Step → List Step → nexts.Next → Option (ℕ × List Step)
-next_reached d rs s ss (nexts.TheVariants.Line q) = reach_from (lines_of rs) (Some (line_number d rs q)) ss
-next_reached d rs s ss (nexts.TheVariants.Head q) = Some (line_number d rs q, s ∷ ss)
-
--- Where steps lead, by lines and their numbers, is where the code finds that the first of them leads.
-abbrev pub LeadsTo : Shown → Stretch → (List Line → (Spot → ℕ) → List Step → Option (ℕ × List Step)) → Step → Option nexts.Next → Type 0
-LeadsTo s d leads step found = (h : HasDocument s d) (ss : List Step) → leads (lines_of h.rows) (line_number d h.rows) ss ≡ option_and_then (next_reached d h.rows step ss) found
-
--- the line where a step leads
-abbrev pub next_spot : nexts.Next → Spot
-next_spot (nexts.TheVariants.Line q) = q
-next_spot (nexts.TheVariants.Head q) = q
-
--- where the code's steps lead, with a line by its number, and on
-abbrev pub reached_told : Stretch → List Row → Spot × Bor (List declared.Step) → ℕ × List Step
-reached_told d rs x = (line_number d rs x.0, map step_of x.1.now)
-
--- the rows of a document as two numbers: how many rows of the text stand before them, and before what is behind them
-abbrev pub stretch_told : Stretch → ℕ × ℕ
-stretch_told d = (d.first, d.end)
+HeldAs s d ls fs said = (k : ℕ) (c : Cut) (h : HasDocument s d) → ls ≡ lines_of h.stand.rows → HasFlows k c h.stand.rows fs → said k c h.stand.rows
 
 -- these numbers of document n, by where parts end: k rows stand before the first of them, of which it is known whether it is a document
 abbrev pub begin_rows : Bool → ℕ → ℕ → List Bound → Option (ℕ × ℕ)
@@ -225,7 +59,7 @@ pub record InCut (s : Shown) (d : Stretch) (c : Cut) : Type 0 where
   pub rows : s ≡ shown c
   pub document : HasDocument s d
   pub more : List Row
-  pub there : drop d.first (rows_of c) ≡ document.rows ++ more
+  pub there : drop d.first (rows_of c) ≡ document.stand.rows ++ more
 
 -- Lines from one on that are deeper than a level end before that number exactly where there are none of them.
 abbrev pub EndsAt : Stretch → List Row → Spot → ℕ → ℕ → Type 0
@@ -233,4 +67,4 @@ EndsAt d rs under floor to = nat_eq (line_number d rs under) to ≡ is_end (part
 
 -- What is said of a document is so of its rows, with the numbers of its lines, in each cut in which these stand.
 abbrev pub InEach : Shown → Stretch → (ℕ → Cut → List Row → (Spot → ℕ) → Type 0) → Type 0
-InEach s d said = (c : Cut) (k : InCut s d c) → said d.first c k.document.rows (line_number d k.document.rows)
+InEach s d said = (c : Cut) (k : InCut s d c) → said d.first c k.document.stand.rows (line_number d k.document.stand.rows)

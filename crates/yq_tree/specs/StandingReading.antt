@@ -11,7 +11,7 @@ use Rattle.yq_documents.specs.Seats.{Seat, document_row, seat_of}
 use Rattle.yq_tree.specs.PlacedRows.{PlacedPart, placed_document}
 use Rattle.yq_tree.specs.Standings.{PlacedEntry, under_count}
 use Rattle.yq_tree.specs.declared.places.placed_entry.PlacedEntry as declared
-use Rattle.yq_tree.specs.declared.places.spot.Stretch.{Stretch}
+use Rattle.yq_walk.specs.declared.spot.Stretch.{Stretch}
 
 -- how many rows stand before the first one, how many lines of that before the one of the key or dash and before that of its mark, and how many rows stand before what is behind
 abbrev pub Numbers : Type 0

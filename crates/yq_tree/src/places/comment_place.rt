@@ -3,21 +3,21 @@ ghost use Rattle.std.specs.Prelude.{◌≡◌, ◌<◌, ◌≤◌, ◌+◌, leng
 ghost use Rattle.yq_scalar.specs.Characters.{text_limit};
 ghost use Rattle.yq_rows.specs.View.{Slices};
 ghost use Rattle.yq_tree.specs.CommentReading as spec;
-ghost use Rattle.yq_tree.specs.Extents as extents;
+ghost use Rattle.yq_walk.specs.Extents as extents;
 ghost use Rattle.yq_documents.specs.Pieces.{piece_span, span};
-ghost use Rattle.yq_tree.specs.Extents.{IsShown};
+ghost use Rattle.yq_walk.specs.Extents.{IsShown};
 ghost use Rattle.yq_tree.specs.PathPieces.{piece_at};
 ghost use Rattle.yq_documents.specs.Reading.{cut_of};
 ghost use Rattle.yq_tree.specs.SeatReading.{told};
 ghost use Rattle.yq_documents.specs.declared.path.Part.TheVariants as parts;
 
 use crate::cut_text::CutText;
-use crate::places::extent::{front_len, row_start};
-use crate::places::spot::Seat;
+use crate::places::stretch::Seat;
 use yq_documents::{Path, Span, is_comment, last_run};
 use yq_rows::Rows;
 use yq_scalar::lines::split_at_break;
 use yq_scalar::text::split_white;
+use yq_walk::{front_len, row_start};
 
 /// The place of the comment in a tail that begins at a place.
 fn tail_comment(start: usize, tail: &str) -> Option<Span>

@@ -3,9 +3,10 @@ ghost use Rattle.std.specs.Prelude.{◌≡◌, map, option_map};
 ghost use Rattle.yq_inline.specs.Entries.{step_of};
 ghost use Rattle.yq_rows.specs.Rows.{Cut};
 ghost use Rattle.yq_tree.specs.EntryReading as spec;
-ghost use Rattle.yq_tree.specs.Extents.{IsShown};
-ghost use Rattle.yq_tree.specs.RowWalk.{HasDocument, InEach, IsSpot, line_number, lines_stop};
-ghost use Rattle.yq_documents.specs.Lines.{lines_of};
+ghost use Rattle.yq_walk.specs.Extents.{IsShown};
+ghost use Rattle.yq_walk.specs.RowWalk.{AreKnown, HasDocument, IsSpot, line_number, lines_stop};
+ghost use Rattle.yq_tree.specs.RowWalk.{InEach};
+ghost use Rattle.yq_walk.specs.Lines.{lines_of};
 ghost use Rattle.yq_documents.specs.Pieces.{span};
 ghost use Rattle.yq_documents.specs.Reading.{cut_of};
 
@@ -14,16 +15,22 @@ use crate::places::entry_place::lines_place;
 use crate::places::known_end::behind_all;
 use crate::places::node_place::{NodePlace, node_place};
 use crate::places::row_place::head_extent;
-use crate::places::spot::{Spot, Stretch, is_deeper};
-use crate::places::spot_marks::is_bare;
 use yq_documents::{Path, Span};
 use yq_inline::Step;
 use yq_rows::Rows;
+use yq_walk::{KnownItems, Spot, Stretch, is_bare, is_deeper};
 
 /// The place of the node for which the lines stand, from one on, that are deeper than a level.
-fn lines_content(rows: &Rows<'_>, document: Stretch, from: Spot, floor: usize) -> Option<Span>
+fn lines_content(
+    rows: &Rows<'_>,
+    document: Stretch,
+    known: KnownItems,
+    from: Spot,
+    floor: usize,
+) -> Option<Span>
     requires shown { IsShown rows.now }
     requires document { HasDocument rows.now document }
+    requires known { AreKnown rows.now.rows known }
     requires from { IsSpot rows.now document from }
     ensures { InEach rows.now document (λ first c rs n. option_map span result ≡
         spec.lines_content first c rs (n from) (lines_stop (n from) floor (lines_of rs))) }
@@ -34,24 +41,25 @@ fn lines_content(rows: &Rows<'_>, document: Stretch, from: Spot, floor: usize) -
     if is_bare(rows, document, from) {
         return Some(head_extent(rows, from.row));
     }
-    let to = behind_all(rows, document, from, floor);
+    let to = behind_all(rows, document, known, from, floor);
     Some(lines_place(rows, document, from, to))
 }
 
 /// The place of the node to which steps lead, unless they go on in a head.
-fn content_of(rows: &Rows<'_>, document: Stretch, steps: &[Step]) -> Option<Span>
+fn content_of(rows: &Rows<'_>, document: Stretch, known: KnownItems, steps: &[Step]) -> Option<Span>
     requires shown { IsShown rows.now }
     requires document { HasDocument rows.now document }
+    requires known { AreKnown rows.now.rows known }
     ensures { InEach rows.now document (λ first c rs n. option_map span result ≡
         spec.line_content_of first c rs (map step_of steps.now)) }
 {
-    let (place, left) = node_place(rows, document, steps)?;
+    let (place, left) = node_place(rows, document, known, steps)?;
     if !left.is_empty() {
         return None;
     }
     match place {
         NodePlace::Head(at) => Some(head_extent(rows, at.row)),
-        NodePlace::Lines(from, floor) => lines_content(rows, document, from, floor),
+        NodePlace::Lines(from, floor) => lines_content(rows, document, known, from, floor),
     }
 }
 
@@ -62,6 +70,6 @@ impl CutText<'_, '_> {
     {
         let document = self.stretch(path.doc)?;
         let _whole = self.whole();
-        content_of(self.rows(), document, &path.steps)
+        content_of(self.rows(), document, self.known(), &path.steps)
     }
 }

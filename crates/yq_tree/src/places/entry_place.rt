@@ -3,18 +3,18 @@ ghost use Rattle.std.specs.Prelude.{◌≡◌, ◌<◌, ◌-◌, map, option_map
 ghost use Rattle.yq_inline.specs.Entries.{step_of};
 ghost use Rattle.yq_rows.specs.Rows.{Cut};
 ghost use Rattle.yq_tree.specs.EntryReading as spec;
-ghost use Rattle.yq_tree.specs.Extents.{IsShown};
-ghost use Rattle.yq_tree.specs.RowWalk.{AreLines, HasDocument, InEach, IsLine, line_number};
+ghost use Rattle.yq_walk.specs.Extents.{IsShown};
+ghost use Rattle.yq_walk.specs.RowWalk.{AreKnown, AreLines, HasDocument, IsLine, line_number};
+ghost use Rattle.yq_tree.specs.RowWalk.{InEach};
 ghost use Rattle.yq_documents.specs.Pieces.{span};
 ghost use Rattle.yq_documents.specs.Reading.{cut_of};
 
 use crate::cut_text::CutText;
 use crate::places::row_place::{line_start, row_end};
-use crate::places::spot::{Spot, Stretch, behind};
-use crate::places::spot_reach::line_at;
 use yq_documents::{Path, Span};
 use yq_inline::Step;
 use yq_rows::Rows;
+use yq_walk::{KnownItems, Spot, Stretch, behind, line_at};
 
 /// The place from the beginning of a line of a document to the end of the last row before another one.
 pub(crate) fn lines_place(rows: &Rows<'_>, document: Stretch, from: Spot, to: Spot) -> Span
@@ -41,13 +41,14 @@ fn line_entry(rows: &Rows<'_>, document: Stretch, at: Spot) -> Span
 }
 
 /// The place of the entry or item of the line to which steps lead.
-fn entry_of(rows: &Rows<'_>, document: Stretch, steps: &[Step]) -> Option<Span>
+fn entry_of(rows: &Rows<'_>, document: Stretch, known: KnownItems, steps: &[Step]) -> Option<Span>
     requires shown { IsShown rows.now }
     requires document { HasDocument rows.now document }
+    requires known { AreKnown rows.now.rows known }
     ensures { InEach rows.now document (λ first c rs n. option_map span result ≡
         spec.line_entry_of first c rs (map step_of steps.now)) }
 {
-    let at = line_at(rows, document, steps)?;
+    let at = line_at(rows, document, known, steps)?;
     Some(line_entry(rows, document, at))
 }
 
@@ -58,6 +59,6 @@ impl CutText<'_, '_> {
     {
         let document = self.stretch(path.doc)?;
         let _whole = self.whole();
-        entry_of(self.rows(), document, &path.steps)
+        entry_of(self.rows(), document, self.known(), &path.steps)
     }
 }

@@ -8,15 +8,14 @@ ghost use Rattle.yq_tree.specs.Standings as spec;
 ghost use Rattle.yq_tree.specs.StandingReading.{AreRowsOf, HasEntry, HasRows, IsEntry};
 ghost use Rattle.yq_tree.specs.StandingTelling as telling;
 
-use crate::places::extent::head_place;
 use crate::places::held::{Mark, held_in, is_noted};
 use crate::places::lines_cut::{cut_lines, cut_tail};
 use crate::places::placed_entry::PlacedEntry;
 use crate::places::row_place::{line_start, row_stop};
-use crate::places::spot::{Spot, line_column};
 use crate::places::standing::{Compact, Lone, Standing};
 use yq_rows::{Row, Rows};
 use yq_text::Halves;
+use yq_walk::{Spot, head_place, line_column};
 
 /// Whether a row is a node that is alone on its line.
 pub(crate) fn is_alone(row: &Row<'_>) -> bool

@@ -2,21 +2,20 @@
 ghost use Rattle.std.specs.Prelude.{◌≡◌, map, option_map, slice_get, Some};
 ghost use Rattle.yq_inline.specs.Entries.{content_place, entry_place, entry_view, step_of};
 ghost use Rattle.yq_tree.specs.EntryReading as spec;
-ghost use Rattle.yq_tree.specs.Extents.{IsShown};
-ghost use Rattle.yq_tree.specs.RowWalk.{HasDocument, HasLines, HeldAs, IsLine, line_number};
-ghost use Rattle.yq_documents.specs.Lines.{lines_of};
+ghost use Rattle.yq_walk.specs.Extents.{IsShown};
+ghost use Rattle.yq_walk.specs.RowWalk.{AreKnown, HasRows, IsLine, line_number};
+ghost use Rattle.yq_tree.specs.RowWalk.{HasLines, HeldAs};
+ghost use Rattle.yq_walk.specs.Lines.{lines_of};
 ghost use Rattle.yq_documents.specs.Pieces.{span};
 ghost use Rattle.yq_documents.specs.Reading.{cut_of};
 ghost use Rattle.yq_lines.specs.View.{flows, head_flow, views};
 
 use crate::document::Documents;
-use crate::places::extent::lines_before_mark;
-use crate::places::spot::{Spot, Stretch};
-use crate::places::spot_reach::reach;
 use yq_documents::{Path, Span};
 use yq_inline::{Entry, Step};
 use yq_lines::{Head, Line};
 use yq_rows::Rows;
+use yq_walk::{KnownItems, Spot, Stretch, lines_before_mark, reach};
 
 /// The line of a document at a spot, of those that are kept.
 fn line_kept<'d, 't>(
@@ -27,12 +26,12 @@ fn line_kept<'d, 't>(
 ) -> &'d Line<'t>
     requires lines { HasLines rows.now document (views lines.now) }
     requires at { IsLine rows.now document at }
-    ensures { (h : HasDocument rows.now document) → views lines.now ≡ lines_of h.rows →
+    ensures { (h : HasRows rows.now document) → views lines.now ≡ lines_of h.rows →
         slice_get (flows lines.now) (line_number document h.rows at) ≡ Some (head_flow result.now.head) }
 {
     let mut count = 0;
     'rows: for row in document.first..at.row {
-        let dashes = lines_before_mark(&rows.row(row));
+        let dashes = lines_before_mark(rows, row);
         count = count + dashes + 1;
     }
     &lines[count + at.line]
@@ -69,16 +68,18 @@ pub(crate) fn content_span(entry: &Entry<'_, '_>) -> Option<Span>
 fn flow_entry<'d, 't>(
     rows: &Rows<'_>,
     document: Stretch,
+    known: KnownItems,
     lines: &'d [Line<'t>],
     steps: &[Step],
 ) -> Option<Entry<'d, 't>>
     requires shown { IsShown rows.now }
     requires lines { HasLines rows.now document (views lines.now) }
+    requires known { AreKnown rows.now.rows known }
     ensures { HeldAs rows.now document (views lines.now) (flows lines.now)
         (λ k c rs. option_map entry_view result ≡
         spec.flow_entry_of k c rs (map step_of steps.now)) }
 {
-    let (at, left) = reach(rows, document, steps)?;
+    let (at, left) = reach(rows, document, known, steps)?;
     if left.is_empty() {
         return None;
     }
@@ -95,6 +96,6 @@ impl<'t> Documents<'t> {
         let _whole = cut.whole();
         let document = cut.stretch(path.doc)?;
         let lines = self.documents[path.doc].lines.lines();
-        flow_entry(cut.rows(), document, lines, &path.steps)
+        flow_entry(cut.rows(), document, cut.known(), lines, &path.steps)
     }
 }

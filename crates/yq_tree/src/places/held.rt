@@ -11,14 +11,13 @@ ghost use Rattle.yq_tree.specs.StandingReading.{HasEntry, IsEntry};
 ghost use Rattle.yq_tree.specs.StandingTelling as telling;
 
 use crate::cut_text::CutText;
-use crate::places::extent::head_place;
 use crate::places::lines_cut::{cut_lines, cut_tail, either};
 use crate::places::placed_entry::PlacedEntry;
 use crate::places::row_place::row_stop;
-use crate::places::spot::line_column;
 use yq_documents::Path;
 use yq_rows::{Row, Rows};
 use yq_text::Halves;
+use yq_walk::{head_place, line_column};
 
 /// A key or dash of a text.
 #[derive(Clone, Copy, Debug)]

@@ -3,17 +3,18 @@ ghost use Rattle.std.specs.Prelude.{◌≡◌, IfSome};
 ghost use Rattle.yq_rows.specs.Rows.{Cut};
 ghost use Rattle.yq_rows.specs.View.{shown};
 ghost use Rattle.yq_documents.specs.Reading.{cut_of};
-ghost use Rattle.yq_tree.specs.Extents.{IsShown};
-ghost use Rattle.yq_tree.specs.RowWalk.{AreKnown, HasDocument, IsKnown, IsLine, StayKnown, StaysKnown};
+ghost use Rattle.yq_walk.specs.Extents.{IsShown};
+ghost use Rattle.yq_walk.specs.RowWalk.{AreKnown, HasDocument, IsKnown, IsLine};
+ghost use Rattle.yq_tree.specs.RowWalk.{StayKnown, StaysKnown};
 
 use crate::cut_text::CutText;
 use crate::places::known_end::known_end;
-use crate::places::known_item::{item_before, known_to};
-use crate::places::spot::{KnownItem, KnownItems, Spot, Stretch, level_at, next};
-use crate::places::spot_reach::{Next, next_at};
 use yq_documents::Path;
 use yq_inline::Step;
 use yq_rows::Rows;
+use yq_walk::{
+    KnownItem, KnownItems, Next, Spot, Stretch, item_before, known_to, level_at, next, next_at,
+};
 
 /// Where what is under a line begins, or under the root, and how deep that line is.
 fn begin_under(rows: &Rows<'_>, document: Stretch, from: Option<Spot>) -> (Spot, usize)
@@ -71,9 +72,16 @@ fn with_item(rows: &Rows<'_>, known: KnownItems, more: Option<KnownItem>) -> Kno
 
 /// The item or entry of a line under another one, or of the root, as one that is known, unless it
 /// begins in the row of the first one.
-fn known_by(rows: &Rows<'_>, document: Stretch, from: Option<Spot>, at: Spot) -> Option<KnownItem>
+fn known_by(
+    rows: &Rows<'_>,
+    document: Stretch,
+    known: KnownItems,
+    from: Option<Spot>,
+    at: Spot,
+) -> Option<KnownItem>
     requires shown { IsShown rows.now }
     requires document { HasDocument rows.now document }
+    requires known { AreKnown rows.now.rows known }
     requires from { IfSome from (IsLine rows.now document) }
     requires at { IsLine rows.now document at }
     ensures known { IfSome result (IsKnown rows.now.rows) }
@@ -82,23 +90,24 @@ fn known_by(rows: &Rows<'_>, document: Stretch, from: Option<Spot>, at: Spot) ->
     if under.row >= at.row {
         return None;
     }
-    known_to(rows, document, under, floor, at.row)
+    known_to(rows, document, known, under, floor, at.row)
 }
 
 /// The items on the way of steps that passed most rows, as items that are known.
-fn known_along(rows: &Rows<'_>, document: Stretch, steps: &[Step]) -> KnownItems
+fn known_along(rows: &Rows<'_>, document: Stretch, known: KnownItems, steps: &[Step]) -> KnownItems
     requires shown { IsShown rows.now }
     requires document { HasDocument rows.now document }
+    requires known { AreKnown rows.now.rows known }
     ensures { AreKnown rows.now.rows result }
 {
     let mut from = None;
     let mut found = KnownItems::none();
     let mut left = steps;
     'steps: while let [step, others @ ..] = left {
-        let Some(Next::Line(at)) = next_at(rows, document, from, step) else {
+        let Some(Next::Line(at)) = next_at(rows, document, known, from, step) else {
             return found;
         };
-        found = with_item(rows, found, known_by(rows, document, from, at));
+        found = with_item(rows, found, known_by(rows, document, known, from, at));
         from = Some(at);
         left = others;
     }
@@ -145,7 +154,7 @@ impl<'d, 't> CutText<'d, 't> {
         let Some(document) = self.stretch(path.doc) else {
             return CutText::resumed(text, rows, KnownItems::none());
         };
-        let known = known_along(rows, document, &path.steps);
+        let known = known_along(rows, document, self.known(), &path.steps);
         CutText::resumed(text, rows, known)
     }
 
@@ -159,7 +168,7 @@ impl<'d, 't> CutText<'d, 't> {
         let Some(document) = self.stretch(path.doc) else {
             return CutText::resumed(text, rows, known);
         };
-        let end = known_end(rows, document, &path.steps);
+        let end = known_end(rows, document, known, &path.steps);
         CutText::resumed(text, rows, with_item(rows, known, end))
     }
 

@@ -1,35 +1,50 @@
 //! The end of a collection, looked for from an item that is known.
 ghost use Rattle.std.specs.Prelude.{◌≡◌, ◌<◌, ◌≤◌, ◌+◌, length, IfSome};
 ghost use Rattle.yq_lines.specs.Outline.{level};
-ghost use Rattle.yq_tree.specs.Extents.{IsShown};
-ghost use Rattle.yq_tree.specs.RowWalk as spec;
-ghost use Rattle.yq_tree.specs.RowWalk.{HasDocument, IsKnown, IsLine, IsSpot, OfLine, OfLines, lines_stop};
+ghost use Rattle.yq_walk.specs.Extents.{IsShown};
+ghost use Rattle.yq_walk.specs.RowWalk as spec;
+ghost use Rattle.yq_walk.specs.RowWalk.{AreKnown, HasDocument, IsKnown, IsLine, IsSpot, OfLine, OfLines, lines_stop};
 
-use crate::places::known_item::{counted, first_known, known_among};
 use crate::places::node_place::{NodePlace, node_place};
-use crate::places::spot::{KnownItem, Spot, Stretch, level_at, rows_under};
 use yq_inline::Step;
 use yq_rows::Rows;
+use yq_walk::{
+    KnownItem, KnownItems, Spot, Stretch, counted, first_known, known_among, level_at, rows_under,
+};
 
 /// The row from which on the end is looked for of the lines from one on that are deeper than a level: that
 /// of an item that is known, or the next one.
-fn search_row(rows: &Rows<'_>, document: Stretch, from: Spot, floor: usize) -> usize
+fn search_row(
+    rows: &Rows<'_>,
+    document: Stretch,
+    known: KnownItems,
+    from: Spot,
+    floor: usize,
+) -> usize
     requires document { HasDocument rows.now document }
+    requires known { AreKnown rows.now.rows known }
     requires from { IsLine rows.now document from }
     ensures later { from.row < result }
     ensures within { result ≤ document.end }
     ensures value { spec.rows_end rows.now document floor result ≡ spec.rows_end rows.now document floor (from.row + 1) }
 {
-    match known_among(rows, document, from, floor) {
+    match known_among(rows, document, known, from, floor) {
         Some(known) => known.row,
         None => from.row + 1,
     }
 }
 
 /// What is behind the lines from one on that are deeper than a level, of which that is one.
-pub(crate) fn behind_all(rows: &Rows<'_>, document: Stretch, from: Spot, floor: usize) -> Spot
+pub(crate) fn behind_all(
+    rows: &Rows<'_>,
+    document: Stretch,
+    known: KnownItems,
+    from: Spot,
+    floor: usize,
+) -> Spot
     requires shown { IsShown rows.now }
     requires document { HasDocument rows.now document }
+    requires known { AreKnown rows.now.rows known }
     requires from { IsLine rows.now document from }
     requires deeper { OfLine rows.now document from (λ l. floor < level l) }
     ensures number { OfLines rows.now document (λ ls n. n result ≡ lines_stop (n from) floor ls) }
@@ -37,7 +52,7 @@ pub(crate) fn behind_all(rows: &Rows<'_>, document: Stretch, from: Spot, floor: 
     ensures line { result.line ≡ 0 }
     ensures later { from.row < result.row }
 {
-    let begin = search_row(rows, document, from, floor);
+    let begin = search_row(rows, document, known, from, floor);
     Spot {
         row: rows_under(rows, begin, document.end, floor),
         line: 0,
@@ -73,18 +88,24 @@ fn known_last(rows: &Rows<'_>, known: KnownItem, end: usize) -> KnownItem
 }
 
 /// The last row of the collection to which steps lead, if it is one of rows, as an item that is known.
-pub(crate) fn known_end(rows: &Rows<'_>, document: Stretch, steps: &[Step]) -> Option<KnownItem>
+pub(crate) fn known_end(
+    rows: &Rows<'_>,
+    document: Stretch,
+    known: KnownItems,
+    steps: &[Step],
+) -> Option<KnownItem>
     requires shown { IsShown rows.now }
     requires document { HasDocument rows.now document }
+    requires known { AreKnown rows.now.rows known }
     ensures { IfSome result (IsKnown rows.now.rows) }
 {
-    let (NodePlace::Lines(under, floor), _) = node_place(rows, document, steps)? else {
+    let (NodePlace::Lines(under, floor), _) = node_place(rows, document, known, steps)? else {
         return None;
     };
     if under.row >= document.end {
         return None;
     }
-    let known = match known_among(rows, document, under, floor) {
+    let known = match known_among(rows, document, known, under, floor) {
         Some(known) => known,
         None => first_known(rows, under, floor)?,
     };

@@ -7,25 +7,24 @@ ghost use Rattle.yq_lines.specs.Ends.{part};
 ghost use Rattle.yq_lines.specs.Outline.{value};
 ghost use Rattle.yq_lines.specs.Spots.{begins_with_node};
 ghost use Rattle.yq_lines.specs.View.{head_view};
-ghost use Rattle.yq_documents.specs.Lines.{lines_of};
+ghost use Rattle.yq_walk.specs.Lines.{lines_of};
 ghost use Rattle.yq_documents.specs.Located.{steps_of};
 ghost use Rattle.yq_documents.specs.Reading.{cut_of};
-ghost use Rattle.yq_tree.specs.Extents.{IsShown};
+ghost use Rattle.yq_walk.specs.Extents.{IsShown};
 ghost use Rattle.yq_tree.specs.NodeReading as reading;
 ghost use Rattle.yq_tree.specs.NodesAt as spec;
 ghost use Rattle.yq_tree.specs.RemovalPlaces.{has_others_at};
-ghost use Rattle.yq_tree.specs.RowWalk.{HasDocument, IsSpot, line_number};
+ghost use Rattle.yq_walk.specs.RowWalk.{HasRows, IsSpot, line_number};
 
 use crate::cut_text::CutText;
 use crate::places::node_place::{NodePlace, node_place, place_line};
-use crate::places::spot::{Spot, Stretch, behind, is_deeper};
-use crate::places::spot_marks::is_item_at;
 use std::alloc::{AllocError, Global};
 use yq_documents::Path;
 use yq_inline::{Form, Inline, Step};
 use yq_lines::{Content, Head};
 use yq_rows::Rows;
 use yq_scalar::Kind;
+use yq_walk::{Spot, Stretch, behind, is_deeper, is_item_at};
 
 /// What a node is, as far as updates ask.
 #[derive(Debug, Drop)]
@@ -107,9 +106,9 @@ fn head_node<'t>(
 /// first of them is no node itself.
 fn lines_node<'t>(rows: &Rows<'_>, document: Stretch, under: Spot, floor: usize) -> NodeAt<'t>
     requires shown { IsShown rows.now }
-    requires document { HasDocument rows.now document }
+    requires document { HasRows rows.now document }
     requires under { IsSpot rows.now document under }
-    ensures { (h : HasDocument rows.now document) → begins_with_node (part (lines_of h.rows) (line_number document h.rows under) floor) ≡ false →
+    ensures { (h : HasRows rows.now document) → begins_with_node (part (lines_of h.rows) (line_number document h.rows under) floor) ≡ false →
         spec.node_view result ≡ spec.node_told (value (part (lines_of h.rows) (line_number document h.rows under) floor)) }
 {
     if !is_deeper(rows, document, under, floor) {
@@ -127,9 +126,9 @@ fn lines_node<'t>(rows: &Rows<'_>, document: Stretch, under: Spot, floor: usize)
 /// What the node is that is written in the head of no line.
 fn block_node<'t>(rows: &Rows<'_>, document: Stretch, place: NodePlace) -> Option<NodeAt<'t>>
     requires shown { IsShown rows.now }
-    requires document { HasDocument rows.now document }
+    requires document { HasRows rows.now document }
     requires place { reading.IsPlace rows.now document place }
-    ensures { (h : HasDocument rows.now document) → reading.place_line (lines_of h.rows) (reading.place_told document h.rows place) ≡ None →
+    ensures { (h : HasRows rows.now document) → reading.place_line (lines_of h.rows) (reading.place_told document h.rows place) ≡ None →
         option_map spec.node_view result ≡ reading.told_of_lines (lines_of h.rows) (reading.place_told document h.rows place) }
 {
     match place {
@@ -155,7 +154,7 @@ impl<'t> CutText<'_, 't> {
         let Some(document) = self.stretch(doc) else {
             return Ok(None);
         };
-        let Some((place, left)) = node_place(rows, document, steps) else {
+        let Some((place, left)) = node_place(rows, document, self.known(), steps) else {
             return Ok(None);
         };
         let Some(at) = place_line(rows, document, place) else {

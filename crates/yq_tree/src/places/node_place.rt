@@ -2,16 +2,14 @@
 ghost use Rattle.std.specs.Prelude.{◌≡◌, map, option_map, slice_get, IfSome, Some};
 ghost use Rattle.yq_inline.specs.Entries.{step_of};
 ghost use Rattle.yq_lines.specs.Outline.{Line};
-ghost use Rattle.yq_documents.specs.Lines.{lines_of};
-ghost use Rattle.yq_tree.specs.Extents.{IsShown};
+ghost use Rattle.yq_walk.specs.Lines.{lines_of};
+ghost use Rattle.yq_walk.specs.Extents.{IsShown};
 ghost use Rattle.yq_tree.specs.NodeReading as spec;
-ghost use Rattle.yq_tree.specs.RowWalk.{HasDocument, IsLine, line_number};
+ghost use Rattle.yq_walk.specs.RowWalk.{AreKnown, HasDocument, HasRows, IsLine, line_number};
 
-use crate::places::spot::{Spot, Stretch, level_at, next};
-use crate::places::spot_marks::has_head;
-use crate::places::spot_reach::{begins_with_node, reach};
 use yq_inline::Step;
 use yq_rows::Rows;
+use yq_walk::{KnownItems, Spot, Stretch, begins_with_node, has_head, level_at, next, reach};
 
 /// Where a node is written.
 #[derive(Clone, Copy, Debug)]
@@ -26,10 +24,10 @@ pub(crate) enum NodePlace {
 /// lines under it.
 fn line_place(rows: &Rows<'_>, document: Stretch, at: Spot, left: &[Step]) -> NodePlace
     requires shown { IsShown rows.now }
-    requires document { HasDocument rows.now document }
+    requires document { HasRows rows.now document }
     requires at { IsLine rows.now document at }
     ensures within { spec.IsPlace rows.now document result }
-    ensures told { (h : HasDocument rows.now document) (l : Line) → slice_get (lines_of h.rows) (line_number document h.rows at) ≡ Some l →
+    ensures told { (h : HasRows rows.now document) (l : Line) → slice_get (lines_of h.rows) (line_number document h.rows at) ≡ Some l →
         spec.place_told document h.rows result ≡ spec.line_place (line_number document h.rows at) (map step_of left.now) l }
 {
     if !left.is_empty() {
@@ -45,14 +43,16 @@ fn line_place(rows: &Rows<'_>, document: Stretch, at: Spot, left: &[Step]) -> No
 pub(crate) fn node_place<'s>(
     rows: &Rows<'_>,
     document: Stretch,
+    known: KnownItems,
     steps: &'s [Step],
 ) -> Option<(NodePlace, &'s [Step])>
     requires shown { IsShown rows.now }
     requires document { HasDocument rows.now document }
+    requires known { AreKnown rows.now.rows known }
     ensures within { IfSome result (λ x. spec.IsPlace rows.now document x.0) }
     ensures found { (h : HasDocument rows.now document) →
-        option_map (spec.node_place_told document h.rows) result ≡
-        spec.node_place (map step_of steps.now) (lines_of h.rows) }
+        option_map (spec.node_place_told document h.stand.rows) result ≡
+        spec.node_place (map step_of steps.now) (lines_of h.stand.rows) }
 {
     if steps.is_empty() {
         let first = Spot {
@@ -61,17 +61,17 @@ pub(crate) fn node_place<'s>(
         };
         return Some((NodePlace::Lines(first, 0), steps));
     }
-    let (at, left) = reach(rows, document, steps)?;
+    let (at, left) = reach(rows, document, known, steps)?;
     Some((line_place(rows, document, at, left), left))
 }
 
 /// The line in whose head a node is written, if it is in one.
 pub(crate) fn place_line(rows: &Rows<'_>, document: Stretch, place: NodePlace) -> Option<Spot>
     requires shown { IsShown rows.now }
-    requires document { HasDocument rows.now document }
+    requires document { HasRows rows.now document }
     requires place { spec.IsPlace rows.now document place }
     ensures within { IfSome result (IsLine rows.now document) }
-    ensures found { (h : HasDocument rows.now document) →
+    ensures found { (h : HasRows rows.now document) →
         option_map (line_number document h.rows) result ≡
         spec.place_line (lines_of h.rows) (spec.place_told document h.rows place) }
 {

@@ -4,17 +4,15 @@ ghost use Rattle.yq_inline.specs.Entries.{step_of};
 ghost use Rattle.yq_documents.specs.Located.{steps_of};
 ghost use Rattle.yq_documents.specs.Reading.{cut_of};
 ghost use Rattle.yq_documents.specs.Seats.{seat_of};
-ghost use Rattle.yq_tree.specs.Extents.{IsShown};
-ghost use Rattle.yq_tree.specs.RowWalk.{HasDocument};
+ghost use Rattle.yq_walk.specs.Extents.{IsShown};
+ghost use Rattle.yq_walk.specs.RowWalk.{AreKnown, HasDocument};
 ghost use Rattle.yq_tree.specs.StandingReading as reading;
 
 use crate::cut_text::CutText;
-use crate::places::extent::lines_before_mark;
-use crate::places::spot::{Stretch, level_at, rows_under};
-use crate::places::spot_reach::line_at;
 use yq_documents::Path;
 use yq_inline::Step;
 use yq_rows::Rows;
+use yq_walk::{KnownItems, Stretch, level_at, line_at, lines_before_mark, rows_under};
 
 /// The rows of an item or entry.
 #[derive(Clone, Copy, Debug)]
@@ -30,18 +28,24 @@ pub(crate) struct PlacedEntry {
 }
 
 /// The rows of the item or entry to which steps lead in a document.
-fn entry_along(rows: &Rows<'_>, document: Stretch, steps: &[Step]) -> Option<PlacedEntry>
+fn entry_along(
+    rows: &Rows<'_>,
+    document: Stretch,
+    known: KnownItems,
+    steps: &[Step],
+) -> Option<PlacedEntry>
     requires shown { IsShown rows.now }
     requires document { HasDocument rows.now document }
+    requires known { AreKnown rows.now.rows known }
     ensures { (h : HasDocument rows.now document) → option_map reading.told result ≡
-        option_map (reading.seat_numbers document.first h.rows) (seat_of (map step_of steps.now) h.rows) }
+        option_map (reading.seat_numbers document.first h.stand.rows) (seat_of (map step_of steps.now) h.stand.rows) }
 {
-    let at = line_at(rows, document, steps)?;
+    let at = line_at(rows, document, known, steps)?;
     let level = level_at(rows, at);
     Some(PlacedEntry {
         row: at.row,
         line: at.line,
-        dashes: lines_before_mark(&rows.row(at.row)),
+        dashes: lines_before_mark(rows, at.row),
         end: rows_under(rows, at.row + 1, document.end, level),
     })
 }
@@ -54,6 +58,6 @@ impl<'t> CutText<'_, 't> {
     {
         let document = self.stretch(path.doc)?;
         let _whole = self.whole();
-        entry_along(self.rows(), document, &path.steps)
+        entry_along(self.rows(), document, self.known(), &path.steps)
     }
 }

@@ -8,26 +8,24 @@ ghost use Rattle.yq_rows.specs.Rows.{Cut, Part, Row as RowOf};
 ghost use Rattle.yq_rows.specs.View.{rows_of, shown};
 ghost use Rattle.yq_scalar.specs.Block.{BlockText};
 ghost use Rattle.yq_scalar.specs.Text.{joined, lines_of as text_lines};
-ghost use Rattle.yq_tree.specs.Extents.{IsShown};
+ghost use Rattle.yq_walk.specs.Extents.{IsShown};
 ghost use Rattle.yq_documents.specs.Located.{steps_of};
 ghost use Rattle.yq_documents.specs.Pieces as pieces;
 ghost use Rattle.yq_documents.specs.Reading.{cut_of};
 ghost use Rattle.yq_tree.specs.PlacedRows.{PlacedPart};
 ghost use Rattle.yq_tree.specs.RemovalPlaces as spec;
 ghost use Rattle.yq_tree.specs.RemovalReading as reading;
-ghost use Rattle.yq_tree.specs.RowWalk.{HasDocument};
+ghost use Rattle.yq_walk.specs.RowWalk.{AreKnown, HasDocument};
 
 use crate::cut_text::CutText;
-use crate::places::extent::row_start;
 use crate::places::row_place::row_stop;
-use crate::places::spot::{Stretch, behind};
-use crate::places::spot_reach::line_at;
 use yq_documents::{Path, last_run};
 use yq_inline::Step;
 use yq_rows::Rows;
 use yq_scalar::block_lines::is_blank;
 use yq_scalar::lines::split_line;
 use yq_text::Halves;
+use yq_walk::{KnownItems, Stretch, behind, line_at, row_start};
 
 /// What a gap that comes to stand behind a block scalar asks.
 #[derive(Clone, Copy, Debug)]
@@ -81,13 +79,19 @@ fn holds_comment(gap: &str) -> bool
 
 /// Where the rows of the item or entry begin and end to which steps lead, behind where those of its
 /// document begin, if its line is the first one of a row.
-fn own_rows(rows: &Rows<'_>, document: Stretch, steps: &[Step]) -> Option<(usize, usize, usize)>
+fn own_rows(
+    rows: &Rows<'_>,
+    document: Stretch,
+    known: KnownItems,
+    steps: &[Step],
+) -> Option<(usize, usize, usize)>
     requires shown { IsShown rows.now }
     requires document { HasDocument rows.now document }
+    requires known { AreKnown rows.now.rows known }
     ensures { (h : HasDocument rows.now document) → option_map (λ m. (m.0, m.1, m.2)) result ≡
-        option_map (reading.marks document.first) (spec.own_rows (map step_of steps.now) h.rows) }
+        option_map (reading.marks document.first) (spec.own_rows (map step_of steps.now) h.stand.rows) }
 {
-    let at = line_at(rows, document, steps)?;
+    let at = line_at(rows, document, known, steps)?;
     if at.line != 0 {
         return None;
     }
@@ -176,7 +180,7 @@ impl<'t> CutText<'_, 't> {
     {
         let document = self.stretch(path.doc)?;
         let _whole = self.whole();
-        own_rows(self.rows(), document, &path.steps)
+        own_rows(self.rows(), document, self.known(), &path.steps)
     }
 
     /// What is taken out of the text with the item or entry at a path: the lines of the comment above

@@ -11,12 +11,12 @@ use crate::cut_text::CutText;
 use crate::places::entry_standing::{is_alone, lone_in};
 use crate::places::lines_cut::cut_lines;
 use crate::places::row_place::{line_start, row_stop};
-use crate::places::spot::{Spot, Stretch};
 use crate::places::standing::{BlockRoot, NoRows, Standing};
 use crate::places::stretch::{is_sought, left_behind};
 use yq_documents::first_is_document;
 use yq_rows::{Rows, begins_document};
 use yq_text::Halves;
+use yq_walk::{Spot, Stretch};
 
 /// A block collection that is a root, for which all rows of a document stand.
 fn block_root_in<'t>(rows: &Rows<'t>, text: Halves<'t>, document: Stretch) -> BlockRoot<'t>

@@ -7,11 +7,11 @@ ghost use Rattle.yq_documents.specs.Reading.{content_is_fit, cut_of};
 ghost use Rattle.yq_tree.specs.HeadReading.{IsRowHead};
 
 use crate::cut_text::CutText;
-use crate::places::extent::head_place;
 use std::alloc::{AllocError, Global};
 use yq_documents::row_head;
 use yq_lines::Head;
 use yq_text::Halves;
+use yq_walk::head_place;
 
 /// The head of a row, with the text that begins with it.
 #[derive(Debug, Drop)]

@@ -6,38 +6,15 @@ ghost use Rattle.yq_rows.specs.Offsets.{row_length};
 ghost use Rattle.yq_rows.specs.Rows.{Cut, Row as RowOf};
 ghost use Rattle.yq_rows.specs.View.{rows_of, shown, Slices, view};
 ghost use Rattle.yq_tree.specs.EntryReading as spec;
-ghost use Rattle.yq_tree.specs.Extents as extents;
-ghost use Rattle.yq_tree.specs.Extents.{IsShown};
+ghost use Rattle.yq_walk.specs.Extents as extents;
+ghost use Rattle.yq_walk.specs.Extents.{IsShown};
 ghost use Rattle.yq_documents.specs.Pieces.{span};
 
-use crate::places::extent::{head_place, row_len, row_start};
 use crate::places::halves::less_break_len;
-use crate::places::spot::Spot;
 use yq_documents::{Span, begins_block};
 use yq_rows::{Row, Rows};
 use yq_text::Halves;
-
-/// How far it is to the dash before which so many others stand, or to the end, in bytes.
-#[tactic(auto, unfolding(crate::specs::EntryReading::dash_at))]
-pub(crate) fn dash_at(dashes: &[u8], count: usize) -> usize
-    ensures value { result ≡ spec.dash_at count dashes.now }
-    ensures within { result ≤ length dashes.now }
-{
-    let mut at = 0;
-    let mut left = count;
-    let mut rest = dashes;
-    'each: while let [first, after @ ..] = rest {
-        if *first == b'-' {
-            if left == 0 {
-                return at;
-            }
-            left -= 1;
-        }
-        at += 1;
-        rest = after;
-    }
-    at
-}
+use yq_walk::{Spot, dash_at, head_place, row_len, row_start};
 
 /// Where a line begins, in bytes: at its dash, its key or its head.
 pub(crate) fn line_start(rows: &Rows<'_>, spot: Spot) -> usize

@@ -1,16 +1,15 @@
 //! By how many columns the collections of a document stand deeper than their keys.
 ghost use Rattle.std.specs.Prelude.{◌≡◌, Bool};
-ghost use Rattle.yq_documents.specs.Lines.{lines_of};
+ghost use Rattle.yq_walk.specs.Lines.{lines_of};
 ghost use Rattle.yq_documents.specs.Reading.{cut_of};
-ghost use Rattle.yq_tree.specs.Extents.{IsShown};
-ghost use Rattle.yq_tree.specs.RowWalk.{HasDocument};
+ghost use Rattle.yq_walk.specs.Extents.{IsShown};
+ghost use Rattle.yq_walk.specs.RowWalk.{HasRows};
 ghost use Rattle.yq_tree.specs.StepReading as reading;
 ghost use Rattle.yq_tree.specs.Steps as spec;
 
 use crate::cut_text::CutText;
-use crate::places::extent::lines_before_mark;
-use crate::places::spot::{Spot, Stretch, level_at};
 use yq_rows::Rows;
+use yq_walk::{Spot, Stretch, level_at, lines_before_mark};
 
 /// How much deeper than its key a mapping, and a sequence, stands in a document.
 #[derive(Clone, Copy, Debug)]
@@ -32,8 +31,8 @@ fn begins_under(above: usize, level: usize, dashes: bool) -> bool
 /// key. It begins a row, since a key ends one.
 fn first_step(rows: &Rows<'_>, document: Stretch, dashes: bool) -> usize
     requires shown { IsShown rows.now }
-    requires document { HasDocument rows.now document }
-    ensures { (h : HasDocument rows.now document) → result ≡ spec.first_step (spec.is_kind dashes) (lines_of h.rows) }
+    requires document { HasRows rows.now document }
+    ensures { (h : HasRows rows.now document) → result ≡ spec.first_step (spec.is_kind dashes) (lines_of h.rows) }
 {
     let mut above = 0;
     'rows: for at in document.first..document.end {
@@ -41,7 +40,7 @@ fn first_step(rows: &Rows<'_>, document: Stretch, dashes: bool) -> usize
         if begins_under(above, first, dashes) {
             return (first - above) / 3;
         }
-        let last = lines_before_mark(&rows.row(at));
+        let last = lines_before_mark(rows, at);
         above = level_at(
             rows,
             Spot {

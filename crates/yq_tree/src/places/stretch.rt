@@ -1,20 +1,29 @@
 //! The rows of documents among those of a text, and lines of them at paths.
-ghost use Rattle.std.specs.Prelude.{◌≡◌, ◌&&◌, ◌==◌, ◌-◌, map, option_map, if◌then◌else◌, IfSome};
+ghost use Rattle.std.specs.Prelude.{◌≡◌, ◌&&◌, ◌==◌, ◌-◌, map, option_map, if◌then◌else◌, true};
 ghost use Rattle.yq_inline.specs.Entries.{step_of};
-ghost use Rattle.yq_documents.specs.Reading.{cut_of};
+ghost use Rattle.yq_documents.specs.Reading.{all_documents, cut_of};
 ghost use Rattle.yq_documents.specs.Seats.{document_row, seat_at, seat_of};
-ghost use Rattle.yq_tree.specs.Extents.{IsShown};
+ghost use Rattle.yq_walk.specs.Extents.{IsShown};
 ghost use Rattle.yq_tree.specs.RowWalk as spec;
-ghost use Rattle.yq_tree.specs.RowWalk.{HasDocument};
+ghost use Rattle.yq_walk.specs.RowWalk.{AreKnown, HasDocument, stretch_told};
 ghost use Rattle.yq_tree.specs.SeatReading.{numbers, told};
 
 use crate::cut_text::CutText;
-use crate::places::extent::lines_before_mark;
-use crate::places::spot::{KnownItems, Seat, Stretch};
-use crate::places::spot_reach::line_at;
 use yq_documents::{Path, first_is_document};
 use yq_inline::Step;
 use yq_rows::{Rows, begins_document};
+use yq_walk::{KnownItems, Stretch, line_at, lines_before_mark};
+
+/// A line of a row.
+#[derive(Clone, Copy, Debug)]
+pub(crate) struct Seat {
+    /// How many rows of the text stand before the row.
+    pub(crate) row: usize,
+    /// How many lines of the row stand before this one.
+    pub(crate) line: usize,
+    /// How many lines of the row stand before that of its mark.
+    pub(crate) dashes: usize,
+}
 
 /// Whether a part is the document before which so many are left.
 pub(crate) fn is_sought(is_document: bool, left: usize) -> bool
@@ -34,11 +43,9 @@ pub(crate) fn left_behind(is_document: bool, left: usize) -> usize
     }
 }
 
-/// The rows of document `i`, where it is known of the first part whether it is one, with items that
-/// are known.
-fn begin_rows(rows: &Rows<'_>, first: bool, i: usize, known: KnownItems) -> Option<Stretch>
-    ensures place { option_map spec.stretch_told result ≡ spec.begin_rows first i 0 rows.now.bounds }
-    ensures known { IfSome result (λ d. d.known ≡ known) }
+/// The rows of document `i`, where it is known of the first part whether it is one.
+fn begin_rows(rows: &Rows<'_>, first: bool, i: usize) -> Option<Stretch>
+    ensures { option_map stretch_told result ≡ spec.begin_rows first i 0 rows.now.bounds }
 {
     let mut is_document = first;
     let mut left = i;
@@ -49,7 +56,6 @@ fn begin_rows(rows: &Rows<'_>, first: bool, i: usize, known: KnownItems) -> Opti
             return Some(Stretch {
                 first: from,
                 end: bound.rows,
-                known,
             });
         }
         left = left_behind(is_document, left);
@@ -60,30 +66,30 @@ fn begin_rows(rows: &Rows<'_>, first: bool, i: usize, known: KnownItems) -> Opti
 }
 
 /// The line of the entry or item to which steps lead in a document, if one of a row is.
-fn seat_along(rows: &Rows<'_>, document: Stretch, steps: &[Step]) -> Option<Seat>
+fn seat_along(rows: &Rows<'_>, document: Stretch, known: KnownItems, steps: &[Step]) -> Option<Seat>
     requires shown { IsShown rows.now }
     requires document { HasDocument rows.now document }
+    requires known { AreKnown rows.now.rows known }
     ensures { (h : HasDocument rows.now document) → option_map told result ≡
-        option_map (numbers document.first) (seat_of (map step_of steps.now) h.rows) }
+        option_map (numbers document.first) (seat_of (map step_of steps.now) h.stand.rows) }
 {
-    let spot = line_at(rows, document, steps)?;
+    let spot = line_at(rows, document, known, steps)?;
     Some(Seat {
         row: spot.row,
         line: spot.line,
-        dashes: lines_before_mark(&rows.row(spot.row)),
+        dashes: lines_before_mark(rows, spot.row),
     })
 }
 
 impl<'d, 't> CutText<'d, 't> {
     /// The rows of document `doc`, counted from 0, if there is one.
     pub(crate) fn stretch(&self, doc: usize) -> Option<Stretch>
-        ensures place { option_map spec.stretch_told result ≡ spec.document_rows doc (cut_of self.now) }
-        ensures known { IfSome result (λ d. spec.MayWalk d (cut_of self.now)) }
+        ensures place { option_map stretch_told result ≡ spec.document_rows doc (cut_of self.now) }
+        ensures sound { all_documents (cut_of self.now) ≡ true }
     {
         let _whole = self.whole();
         let rows = self.rows();
-        let known = self.known();
-        begin_rows(rows, first_is_document(rows), doc, known)
+        begin_rows(rows, first_is_document(rows), doc)
     }
 
     /// The line of the entry or item at a path, if one of a row is.
@@ -94,6 +100,6 @@ impl<'d, 't> CutText<'d, 't> {
     {
         let document = self.stretch(path.doc)?;
         let _whole = self.whole();
-        seat_along(self.rows(), document, &path.steps)
+        seat_along(self.rows(), document, self.known(), &path.steps)
     }
 }

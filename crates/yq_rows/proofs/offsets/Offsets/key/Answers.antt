@@ -1,24 +1,21 @@
-use Rattle.std.proofs.Common.{◌+◌, ◌∙◌, List, ap, drop, subst, sym, take, ℕ}
-use Rattle.std.proofs.lemmas.List.{drop-drop}
+use Rattle.std.proofs.Common.{ℕ, ◌∷◌, [], ◌∙◌, ap, drop, subst, sym, take}
 use Rattle.std.specs.Str.{IsCharBoundary}
 use Rattle.yq_rows.specs.Offsets.{pieces_of}
-use Rattle.yq_rows.proofs.PlacedLaws.{key_cut}
+use Rattle.yq_rows.proofs.PieceCuts.{behind_sum, piece_cut}
 use Rattle.yq_rows.proofs.offsets.Offsets.key.Goals as goal
 
-pub split_at-requires : goal.split_at-requires
-split_at-requires c =
+pub piece-requires-clause-before : goal.piece-requires-clause-before
+piece-requires-clause-before c =
     let o = c.args.self.now in
-    (key_cut c.args.text.now o c.requires).0
+    subst (λ (n : ℕ). IsCharBoundary c.args.text.now n) (sym c.before_key.ensures) (piece_cut o.gap (o.column ∷ o.dashes ∷ []) o.key (o.colon ∷ o.space ∷ o.anchor ∷ o.apart ∷ o.head ∷ o.tail ∷ o.raw ∷ []) c.args.text.now c.requires).0
 
-pub split_at-requires-2 : goal.split_at-requires-2
-split_at-requires-2 c =
+pub piece-requires-clause-behind : goal.piece-requires-clause-behind
+piece-requires-clause-behind c =
     let o = c.args.self.now in
-    subst (λ (t : List ℕ). IsCharBoundary t o.key) (sym c.split_at.ensures.back) (key_cut c.args.text.now o c.requires).1
+    subst (λ (n : ℕ). IsCharBoundary (drop n c.args.text.now) o.key) (sym c.before_key.ensures) (piece_cut o.gap (o.column ∷ o.dashes ∷ []) o.key (o.colon ∷ o.space ∷ o.anchor ∷ o.apart ∷ o.head ∷ o.tail ∷ o.raw ∷ []) c.args.text.now c.requires).1
 
 pub returns : goal.returns
 unfolding pieces_of
 returns c =
     let o = c.args.self.now in
-    let t = c.args.text.now in
-    c.split_at-2.ensures.front
-    ∙ (ap (take o.key) c.split_at.ensures.back ∙ ap (take o.key) (sym (ap (drop o.dashes) (drop-drop o.column o.gap t) ∙ drop-drop o.dashes (o.gap + o.column) t)))
+    c.piece.ensures ∙ (ap (λ (n : ℕ). take o.key (drop n c.args.text.now)) c.before_key.ensures ∙ ap (take o.key) (sym (behind_sum o.gap (o.column ∷ o.dashes ∷ []) c.args.text.now)))

@@ -11,10 +11,10 @@ returns-in_err-document c = rw c.from_residual.ensures (no_place_found (cut_of c
 
 pub content_of-requires-clause-document : goal.content_of-requires-clause-document
 content_of-requires-clause-document c =
-    (found_document c.args.self.now c.rows.result.now (cut_of c.args.self.now) c.args.path.now.doc c.in_ok-document.document c.whole-whole.ensures.cut c.rows.ensures c.in_ok-document.ensures.place c.in_ok-document.ensures.known).document
+    (found_document c.args.self.now c.rows.result.now (cut_of c.args.self.now) c.args.path.now.doc c.in_ok-document.document c.whole-whole.ensures.cut c.rows.ensures c.in_ok-document.ensures.place c.in_ok-document.ensures.sound).document
 
 pub returns : goal.returns
 returns c =
     let t : List ℕ = c.args.self.now in
-    place_found t c.rows.result.now (cut_of t) c.args.path.now.doc c.in_ok-document.document _ (λ k cut rows. line_content_of k cut rows (steps_of c.args.path.now)) c.whole-whole.ensures.cut c.rows.ensures c.in_ok-document.ensures.place c.in_ok-document.ensures.known
-    (λ k. c.content_of.ensures (cut_of t) k ∙ ap (λ xs. line_content_of c.in_ok-document.document.first (cut_of t) k.document.rows (map step_of xs)) c.deref.ensures.value)
+    place_found t c.rows.result.now (cut_of t) c.args.path.now.doc c.in_ok-document.document _ (λ k cut rows. line_content_of k cut rows (steps_of c.args.path.now)) c.whole-whole.ensures.cut c.rows.ensures c.in_ok-document.ensures.place c.in_ok-document.ensures.sound
+    (λ k. c.content_of.ensures (cut_of t) k ∙ ap (λ xs. line_content_of c.in_ok-document.document.first (cut_of t) k.document.stand.rows (map step_of xs)) c.deref.ensures.value)

@@ -13,10 +13,10 @@ returns-in_err-document c =
 
 pub entry_along-requires-clause-document : goal.entry_along-requires-clause-document
 entry_along-requires-clause-document c =
-    (found_document c.args.self.now c.rows.result.now (cut_of c.args.self.now) c.args.path.now.doc c.in_ok-document.document c.whole-whole.ensures.cut c.rows.ensures c.in_ok-document.ensures.place c.in_ok-document.ensures.known).document
+    (found_document c.args.self.now c.rows.result.now (cut_of c.args.self.now) c.args.path.now.doc c.in_ok-document.document c.whole-whole.ensures.cut c.rows.ensures c.in_ok-document.ensures.place c.in_ok-document.ensures.sound).document
 
 pub returns : goal.returns
 returns c =
     let t : List ℕ = c.args.self.now in
-    place_found t c.rows.result.now (cut_of t) c.args.path.now.doc c.in_ok-document.document _ (λ k cut rows. option_map (seat_numbers k rows) (seat_of (steps_of c.args.path.now) rows)) c.whole-whole.ensures.cut c.rows.ensures c.in_ok-document.ensures.place c.in_ok-document.ensures.known
-    (λ k. c.entry_along.ensures k.document ∙ ap (λ xs. option_map (seat_numbers c.in_ok-document.document.first k.document.rows) (seat_of (map step_of xs) k.document.rows)) c.deref.ensures.value)
+    place_found t c.rows.result.now (cut_of t) c.args.path.now.doc c.in_ok-document.document _ (λ k cut rows. option_map (seat_numbers k rows) (seat_of (steps_of c.args.path.now) rows)) c.whole-whole.ensures.cut c.rows.ensures c.in_ok-document.ensures.place c.in_ok-document.ensures.sound
+    (λ k. c.entry_along.ensures k.document ∙ ap (λ xs. option_map (seat_numbers c.in_ok-document.document.first k.document.stand.rows) (seat_of (map step_of xs) k.document.stand.rows)) c.deref.ensures.value)

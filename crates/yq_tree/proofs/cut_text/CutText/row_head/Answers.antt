@@ -4,9 +4,9 @@ use Rattle.yq_text.specs.Halves.{whole}
 use Rattle.yq_scalar.specs.Characters.{text_limit}
 use Rattle.yq_rows.specs.View.{view, rows_of}
 use Rattle.yq_documents.specs.Reading.{cut_of}
-use Rattle.yq_tree.specs.Extents.{IsShown}
+use Rattle.yq_walk.specs.Extents.{IsShown}
 use Rattle.yq_tree.proofs.FoundEntries.{within_some}
-use Rattle.yq_tree.proofs.LengthLaws.{row_fits, shown_small}
+use Rattle.yq_walk.proofs.LengthLaws.{row_fits, shown_small}
 use Rattle.yq_tree.proofs.RowHeads.{head_boundary, has_head, row_boundary, row_taken, slices_are}
 use Rattle.yq_tree.proofs.cut_text.CutText.row_head.Goals as goal
 

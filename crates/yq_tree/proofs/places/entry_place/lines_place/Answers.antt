@@ -3,10 +3,10 @@ use Rattle.yq_tree.proofs.WalkLines.{lines_told}
 use Rattle.yq_tree.proofs.places.entry_place.lines_place.Goals as goal
 
 pub line_start-requires-clause-within : goal.line_start-requires-clause-within
-line_start-requires-clause-within c = omega (arith, c.requires.some, c.requires.lines.stop.upto, c.requires.document.within)
+line_start-requires-clause-within c = omega (arith, c.requires.some, c.requires.lines.stop.upto, c.requires.document.stand.within)
 
 pub row_end-requires-clause-within : goal.row_end-requires-clause-within
-row_end-requires-clause-within c = omega (arith, c.requires.some, c.requires.lines.stop.upto, c.requires.document.within)
+row_end-requires-clause-within c = omega (arith, c.requires.some, c.requires.lines.stop.upto, c.requires.document.stand.within)
 
 pub returns : goal.returns
 returns c = λ cut k.

@@ -6,7 +6,7 @@ use Rattle.yq_scalar.specs.Text.{is_empty}
 use Rattle.yq_rows.specs.View.{Slices, view}
 use Rattle.yq_tree.specs.CommentPlaces.{end_before}
 use Rattle.yq_tree.specs.LineReading.{lines_told}
-use Rattle.yq_tree.specs.RowWalk.{line_column}
+use Rattle.yq_walk.specs.RowWalk.{line_column}
 use Rattle.yq_tree.proofs.EntryRowLaws.{column_fits, last_within, pieces_at, row_within}
 use Rattle.yq_tree.proofs.HeldTexts.{column_is}
 use Rattle.yq_tree.proofs.LoneLaws.{dash_cut, dash_fits, dash_lines}

@@ -1,6 +1,6 @@
 use Rattle.std.proofs.Common.{length}
 use Rattle.std.specs.Prelude.{IfSome}
-use Rattle.yq_tree.specs.RowWalk.{AreKnown, IsLine}
+use Rattle.yq_walk.specs.RowWalk.{AreKnown, IsLine}
 use Rattle.yq_tree.proofs.places.known_at.known_along.Given as goal
 
 abbrev pub decreases-steps : goal.decreases-steps

@@ -1,5 +1,5 @@
 use Rattle.std.proofs.Common.{refl, ◌∙◌}
-use Rattle.yq_tree.proofs.WalkSpots.{located, stop_told}
+use Rattle.yq_walk.proofs.WalkSpots.{located, stop_told}
 use Rattle.yq_tree.proofs.places.known_end.behind_all.Goals as goal
 
 pub returns-clause-number : goal.returns-clause-number

@@ -1,10 +1,10 @@
 use Rattle.std.proofs.Common.{cond, not, refl, sym, ap, ◌∙◌}
-use Rattle.yq_documents.specs.Lines.{lines_of}
+use Rattle.yq_walk.specs.Lines.{lines_of}
 use Rattle.yq_lines.specs.Ends.{is_end, part}
 use Rattle.yq_tree.specs.NodesAt.{list, map as mapping}
-use Rattle.yq_tree.specs.RowWalk.{line_number}
+use Rattle.yq_walk.specs.RowWalk.{line_number}
 use Rattle.yq_tree.proofs.NodeAtLaws.{collection_told}
-use Rattle.yq_tree.proofs.WalkSpots.{located, spot_line}
+use Rattle.yq_walk.proofs.WalkSpots.{located, spot_line}
 use Rattle.yq_tree.proofs.places.node_at.lines_node.Goals as goal
 
 pub returns-then-is_item_at : goal.returns-then-is_item_at

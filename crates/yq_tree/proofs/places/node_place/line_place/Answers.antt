@@ -4,10 +4,10 @@ use Rattle.std.proofs.lemmas.Option.{same_Some}
 use Rattle.yq_inline.specs.Entries.{step_of}
 use Rattle.yq_lines.specs.Outline.{level}
 use Rattle.yq_rows.specs.View.{slices}
-use Rattle.yq_tree.specs.RowWalk.{line_number}
+use Rattle.yq_walk.specs.RowWalk.{line_number}
 use Rattle.yq_tree.proofs.NodeAtLaws.{lines_place}
 use Rattle.yq_tree.proofs.WalkNodes.{no_steps}
-use Rattle.yq_tree.proofs.WalkSpots.{located}
+use Rattle.yq_walk.proofs.WalkSpots.{located}
 use Rattle.yq_tree.proofs.places.node_place.line_place.Goals as goal
 
 pub returns-clause-told : goal.returns-clause-told

@@ -1,6 +1,6 @@
 use Rattle.std.proofs.Common.{arith}
 use Rattle.yq_rows.specs.View.{view}
-use Rattle.yq_tree.proofs.LengthLaws.{row_fits, shown_small}
+use Rattle.yq_walk.proofs.LengthLaws.{row_fits, shown_small}
 use Rattle.yq_tree.proofs.places.row_place.row_stop.Goals as goal
 
 pub row_len-requires : goal.row_len-requires

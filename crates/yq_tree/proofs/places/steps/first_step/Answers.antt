@@ -1,7 +1,5 @@
 use Rattle.std.proofs.Common.{◌≡◌, ◌-◌, drop, sym, ap, ◌∙◌, arith}
-use Rattle.std.proofs.lemmas.Option.{same_Some}
-use Rattle.yq_documents.specs.Lines.{lines_of}
-use Rattle.yq_tree.specs.Extents.{lines_before_mark}
+use Rattle.yq_walk.specs.Lines.{lines_of}
 use Rattle.yq_tree.proofs.StepLaws.{step_behind, steps_told, step_here, step_on}
 use Rattle.yq_tree.proofs.places.steps.first_step.Goals as goal
 
@@ -18,5 +16,5 @@ returns-then-begins_under c = λ h.
 pub rows-preserved : goal.rows-preserved
 rows-preserved c = λ h.
     step_on c.args.rows.now c.args.document h c.args.dashes c.rows.at c.rows.above c.level_at-first.result (omega arith) c.rows-test.true c.level_at-first.ensures
-    c.lines_before_mark-last.result c.level_at-above.result (sym c.begins_under.ensures ∙ c.if-begins_under.false) (λ x e. c.lines_before_mark-last.ensures ∙ ap lines_before_mark (same_Some _ _ (sym c.row.ensures ∙ e))) c.level_at-above.ensures
+    c.lines_before_mark-last.result c.level_at-above.result (sym c.begins_under.ensures ∙ c.if-begins_under.false) c.lines_before_mark-last.ensures c.level_at-above.ensures
     ∙ c.rows.invariant h

@@ -1,0 +1,17 @@
+pub mod EntryKeys
+pub mod LengthLaws
+pub mod WalkLevels
+pub mod WalkRows
+pub mod WalkEnds
+pub mod WalkSpots
+pub mod KnownLaws
+pub mod KnownWalks
+pub mod CountLaws
+pub mod FirstLevels
+pub mod ToDashes
+pub mod RowLaws
+pub mod ReachLaws
+pub mod LineNames
+pub mod BesideLaws
+pub mod WalkKeys
+pub mod StopLaws

@@ -1,0 +1,42 @@
+-- Where lines end that are deeper than a level: behind one of them and those under it.
+use Rattle.std.proofs.Common.{◌≡◌, ◌⊎◌, inl, inr, ℕ, suc, ◌+◌, ◌<◌, ◌≤◌, List, [], ◌∷◌, length, drop, Some, refl, sym, ap, ◌∙◌, subst, arith}
+use Rattle.std.proofs.lemmas.Bool.{cases_lt, lt-ltb, le-ltb, cond-true, cond-false}
+use Rattle.std.proofs.lemmas.List.{drop-drop}
+use Rattle.std.proofs.lemmas.Option.{slice_get_within}
+use Rattle.std.specs.List.{slice_get}
+use Rattle.yq_lines.specs.Ends.{IsEndOf, deeper_count}
+use Rattle.yq_lines.specs.Outline.{Line, level}
+use Rattle.yq_lines.proofs.LineEnds.{end_counted, end_told}
+use Rattle.yq_lines.proofs.Parts.{drop_at}
+
+count_more : (n : ℕ) (l : Line) (ls : List Line) → n < level l → deeper_count n (l ∷ ls) ≡ suc (deeper_count n ls)
+count_more n l ls h = cond-true _ (suc (deeper_count n ls)) 0 (lt-ltb n (level l) h)
+
+-- lines that are deeper than a level are passed with those that are deeper than one above it
+passed : (n floor : ℕ) (ls : List Line) → floor < n → deeper_count floor ls ≡ deeper_count n ls + deeper_count floor (drop (deeper_count n ls) ls)
+passed n floor [] h = refl
+passed n floor (l ∷ ls) h = go (cases_lt n (level l))
+  where
+    go : (n < level l) ⊎ (level l ≤ n) → deeper_count floor (l ∷ ls) ≡ deeper_count n (l ∷ ls) + deeper_count floor (drop (deeper_count n (l ∷ ls)) (l ∷ ls))
+    go (inl deep) =
+        count_more floor l ls (omega (arith, h, deep))
+        ∙ (ap suc (passed n floor ls h) ∙ sym (ap (λ (k : ℕ). k + deeper_count floor (drop k (l ∷ ls))) (count_more n l ls deep)))
+    go (inr low) =
+        let none : deeper_count n (l ∷ ls) ≡ 0 = cond-false _ (suc (deeper_count n ls)) 0 (le-ltb n (level l) low) in
+        sym (ap (λ (k : ℕ). k + deeper_count floor (drop k (l ∷ ls))) none)
+
+pub stop_end : (ls : List Line) (at : ℕ) (l : Line) → slice_get ls at ≡ Some l → IsEndOf ls at ((at + 1) + deeper_count (level l) (drop (at + 1) ls))
+stop_end ls at l is =
+    let one : suc at ≡ at + 1 = omega arith in
+    subst (λ (k : ℕ). IsEndOf ls at (k + deeper_count (level l) (drop k ls))) one (end_counted ls at l is)
+
+pub stop_step : (ls : List Line) (at floor next : ℕ) (l : Line) → slice_get ls at ≡ Some l → floor < level l → IsEndOf ls at next →
+    at + deeper_count floor (drop at ls) ≡ next + deeper_count floor (drop next ls)
+stop_step ls at floor next l is deep ends =
+    let rest : List Line = drop (at + 1) ls in
+    let m : ℕ = deeper_count (level l) rest in
+    let within : at < length ls = slice_get_within ls at l is in
+    let next_is : next ≡ (at + 1) + m = end_told ls at next within ends ∙ sym (end_told ls at ((at + 1) + m) within (stop_end ls at l is)) in
+    let count : deeper_count floor (drop at ls) ≡ suc (deeper_count floor rest) = ap (deeper_count floor) (drop_at ls at l is) ∙ count_more floor l rest deep in
+    let behind : deeper_count floor (drop next ls) ≡ deeper_count floor (drop m rest) = ap (λ (k : ℕ). deeper_count floor (drop k ls)) next_is ∙ ap (deeper_count floor) (sym (drop-drop m (at + 1) ls)) in
+    omega (arith, count, passed (level l) floor rest deep, next_is, behind)

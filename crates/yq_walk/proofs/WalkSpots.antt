@@ -1,0 +1,252 @@
+-- Lines of a document by their rows and by their numbers.
+use Rattle.std.proofs.Common.{◌≡◌, ◌⊎◌, inl, inr, ℕ, zero, suc, ◌+◌, ◌-◌, ◌<◌, ◌≤◌, ltb, eqb, Bool, true, false, not, ◌&&◌, List, [], ◌∷◌, length, map, take, drop, Option, Some, None, refl, sym, ap, ◌∙◌, subst, arith}
+use Rattle.std.proofs.lemmas.Bool.{cases_lt, eq-eqb, ne_eqb, false≢true}
+use Rattle.std.proofs.lemmas.List.{take_all}
+use Rattle.std.proofs.lemmas.Option.{same_Some}
+use Rattle.std.specs.List.{slice_get}
+use Rattle.std.specs.Prelude.{is_none, is_some}
+use Rattle.std.specs.Str.{bytes_eq}
+use Rattle.yq_inline.specs.Scalars.{content_of, is_quoted}
+use Rattle.yq_lines.specs.Comments as comments
+use Rattle.yq_lines.specs.Ends.{IsEndOf, is_end, part}
+use Rattle.yq_lines.specs.Outline.{Mark, Bare, Key, Dash, Line, key_of, level, rank}
+use Rattle.yq_lines.specs.Spots.{is_bare, if_head}
+use Rattle.yq_scalar.specs.Paths.{Step, is_item, key_is}
+use Rattle.yq_scalar.specs.Quoted.{IsQuotedText}
+use Rattle.yq_scalar.specs.Text.{is_empty}
+use Rattle.yq_scalar.specs.Tree.{Node}
+use Rattle.yq_lines.proofs.EndsLaws.{deeper_at}
+use Rattle.yq_rows.specs.Rows as rows
+use Rattle.yq_rows.specs.Rows.{Row}
+use Rattle.yq_rows.specs.View.{Slices, slices, Shown}
+use Rattle.yq_walk.specs.Lines.{mark_of, row_lines, lines_of}
+use Rattle.yq_walk.specs.Extents.{lines_before_mark}
+use Rattle.yq_walk.specs.RowWalk.{line_rank, line_level, deeper_rows, HasRows, IsSpot, IsLine, line_number, lines_stop}
+use Rattle.yq_walk.specs.declared.spot.Spot.{Spot}
+use Rattle.yq_walk.specs.declared.spot.Stretch.{Stretch}
+use Rattle.yq_walk.proofs.WalkEnds.{line_of_row, lines_upto, ends_at, stops_at}
+use Rattle.yq_walk.proofs.WalkLevels.{IsTelling, AreTelling, IsLineOf, line_in, rank_is, level_is}
+use Rattle.yq_walk.proofs.WalkRows.{rows_behind, rows_length, row_of, rows_telling}
+
+telling_at : (rs : List Row) (i : ℕ) (r : Row) → AreTelling rs → slice_get rs i ≡ Some r → IsTelling r
+telling_at [] i r t e = absurd (cc)
+telling_at (x ∷ rs) zero r t e = subst IsTelling (same_Some _ _ e) t.0
+telling_at (x ∷ rs) (suc i) r t e = telling_at rs i r t.1 e
+
+-- A line of a document, with its row and what is told of it.
+pub record Located (s : Shown) (d : Stretch) (h : HasRows s d) (q : Spot) : Type 0 where
+  pub row : Row
+  pub line : Line
+  pub there : slice_get h.rows (q.row - d.first) ≡ Some row
+  pub pieces : slice_get s.rows q.row ≡ Some (slices row)
+  pub telling : IsTelling row
+  pub within : q.line ≤ length row.dashes
+  pub in_row : slice_get (row_lines row) q.line ≡ Some line
+  pub is : slice_get (lines_of h.rows) (line_number d h.rows q) ≡ Some line
+  pub told : IsLineOf row.column row.dashes row.mark row.content q.line line
+  pub level_told : level line ≡ line_level q.line (slices row)
+
+pub has_row : (ss : List Slices) (i : ℕ) → i < length ss → (x : Slices) × (slice_get ss i ≡ Some x)
+has_row [] i h = absurd (omega (arith, h))
+has_row (x ∷ ss) zero h = (x, refl)
+has_row (x ∷ ss) (suc i) h = has_row ss i (omega (arith, h))
+
+pub located : (s : Shown) (d : Stretch) (h : HasRows s d) (q : Spot) → IsLine s d q → Located s d h q
+located s d h q at =
+    let x = has_row s.rows q.row (omega (arith, at.upto, h.within)) in
+    let r = row_of s d h q.row x.0 at.from at.upto x.1 in
+    let t : IsTelling r.0 = telling_at h.rows (q.row - d.first) r.0 (rows_telling h.limit h.rows h.end h.rest h.valid) r.1 in
+    let counted : lines_before_mark x.0 ≡ length r.0.dashes = ap lines_before_mark (sym r.2) ∙ t.counted in
+    let within : q.line ≤ length r.0.dashes = omega (arith, at.line x.0 x.1, counted) in
+    let l = line_in (comments.head_comment r.0.gap) r.0.column r.0.dashes r.0.mark r.0.content q.line within in
+    record {
+      row = r.0;
+      line = l.0;
+      there = r.1;
+      pieces = x.1 ∙ ap Some (sym r.2);
+      telling = t;
+      within = within;
+      in_row = l.1;
+      is = line_of_row h.rows (q.row - d.first) q.line r.0 r.1 within ∙ l.1;
+      told = l.2;
+      level_told = level_is r.0 q.line l.0 t within l.2;
+    }
+
+-- whether a line is deeper than a level
+pub deeper_told : (s : Shown) (d : Stretch) (h : HasRows s d) (q : Spot) (n floor : ℕ) → IsLine s d q → ((x : Slices) → slice_get s.rows q.row ≡ Some x → n ≡ line_level q.line x) →
+    ltb floor n ≡ not (is_end (part (lines_of h.rows) (line_number d h.rows q) floor))
+deeper_told s d h q n floor at told =
+    let l = located s d h q at in
+    let same : n ≡ level l.line = told (slices l.row) l.pieces ∙ sym l.level_told in
+    ap (ltb floor) same ∙ deeper_at (lines_of h.rows) (line_number d h.rows q) floor l.line l.is
+
+-- behind the last row there is none
+pub end_number : (s : Shown) (d : Stretch) (h : HasRows s d) (q : Spot) → IsSpot s d q → d.end ≤ q.row → line_number d h.rows q ≡ length (lines_of h.rows)
+end_number s d h q at past =
+    let last : q.row ≡ d.end = omega (arith, at.upto, past) in
+    let all : take (q.row - d.first) h.rows ≡ h.rows = take_all (q.row - d.first) h.rows (omega (arith, rows_length s d h, last)) in
+    omega (arith, at.last last, ap (λ (rs : List Row). length (lines_of rs)) all)
+
+pub end_told : (s : Shown) (d : Stretch) (h : HasRows s d) (q : Spot) (floor : ℕ) → IsSpot s d q → d.end ≤ q.row → false ≡ not (is_end (part (lines_of h.rows) (line_number d h.rows q) floor))
+end_told s d h q floor at past =
+    let n = end_number s d h q at past in
+    sym (ap (λ (k : ℕ). not (is_end (part (lines_of h.rows) k floor))) n ∙ ap (λ (ls : List Line). not (is_end (Rattle.yq_lines.specs.Group.deeper floor (Rattle.yq_lines.specs.Group.group ls)))) (all (lines_of h.rows)))
+  where
+    all : (ls : List Line) → drop (length ls) ls ≡ []
+    all [] = refl
+    all (l ∷ ls) = all ls
+
+-- a line is a spot
+pub line_spot : (s : Shown) (d : Stretch) (q : Spot) → IsLine s d q → IsSpot s d q
+line_spot s d q at = record { from = at.from; upto = omega (arith, at.upto); line = at.line; last = λ e. absurd (omega (arith, e, at.upto)) }
+
+-- a spot before the end is a line
+pub spot_line : (s : Shown) (d : Stretch) (q : Spot) → IsSpot s d q → q.row < d.end → IsLine s d q
+spot_line s d q at less = record { from = at.from; upto = less; line = at.line }
+
+-- the number of the first line behind rows that begin deeper than a level
+rows_upto : (s : Shown) (d : Stretch) (h : HasRows s d) (q e : Spot) (n : ℕ) → IsLine s d q → e.row ≡ (q.row + 1) + deeper_rows n (take (d.end - (q.row + 1)) (drop (q.row + 1) s.rows)) → e.line ≡ 0 →
+    length (lines_of (take (suc (q.row - d.first) + deeper_rows n (map slices (drop (suc (q.row - d.first)) h.rows))) h.rows)) ≡ line_number d h.rows e
+rows_upto s d h q e n at row none =
+    let i : ℕ = q.row - d.first in
+    let next : (q.row + 1) - d.first ≡ suc i = omega (arith, at.from) in
+    let rest : take (d.end - (q.row + 1)) (drop (q.row + 1) s.rows) ≡ map slices (drop (suc i) h.rows) =
+    rows_behind s d h (q.row + 1) (omega (arith, at.from)) (omega (arith, at.upto)) ∙ ap (λ (k : ℕ). map slices (drop k h.rows)) next in
+    let upto : e.row - d.first ≡ suc i + deeper_rows n (map slices (drop (suc i) h.rows)) = omega (arith, row, ap (deeper_rows n) rest, at.from) in
+    omega (arith, none, ap (λ (k : ℕ). length (lines_of (take k h.rows))) upto)
+
+-- where the lines under a line end
+pub behind_told : (s : Shown) (d : Stretch) (h : HasRows s d) (q e : Spot) (n : ℕ) → IsLine s d q → ((x : Slices) → slice_get s.rows q.row ≡ Some x → n ≡ line_level q.line x) →
+    e.row ≡ (q.row + 1) + deeper_rows n (take (d.end - (q.row + 1)) (drop (q.row + 1) s.rows)) → e.line ≡ 0 → IsEndOf (lines_of h.rows) (line_number d h.rows q) (line_number d h.rows e)
+behind_told s d h q e n at told row none =
+    let l = located s d h q at in
+    let i : ℕ = q.row - d.first in
+    let same : level l.line ≡ n = l.level_told ∙ sym (told (slices l.row) l.pieces) in
+    subst (IsEndOf (lines_of h.rows) (line_number d h.rows q)) (ap (λ (m : ℕ). length (lines_of (take (suc i + deeper_rows m (map slices (drop (suc i) h.rows))) h.rows))) same ∙ rows_upto s d h q e n at row none)
+    (ends_at h.rows i q.line l.row l.line (rows_telling h.limit h.rows h.end h.rest h.valid) l.there l.within l.in_row)
+
+-- where lines end that are deeper than a level
+pub stop_told : (s : Shown) (d : Stretch) (h : HasRows s d) (q e : Spot) (n : ℕ) (at : IsLine s d q) → n < level (located s d h q at).line → e.row ≡ (q.row + 1) + deeper_rows n (take (d.end - (q.row + 1)) (drop (q.row + 1) s.rows)) → e.line ≡ 0 →
+    line_number d h.rows e ≡ lines_stop (line_number d h.rows q) n (lines_of h.rows)
+stop_told s d h q e n at deep row none =
+    let l = located s d h q at in
+    sym (rows_upto s d h q e n at row none) ∙ stops_at h.rows (q.row - d.first) q.line l.row l.line (rows_telling h.limit h.rows h.end h.rest h.valid) l.there l.within l.in_row n deep
+
+pub next_row : (s : Shown) (d : Stretch) (h : HasRows s d) (q e : Spot) → IsLine s d q → ((x : Slices) → slice_get s.rows q.row ≡ Some x → lines_before_mark x ≤ q.line) → e.row ≡ q.row + 1 → e.line ≡ 0 →
+    line_number d h.rows e ≡ line_number d h.rows q + 1
+next_row s d h q e at last row none =
+    let l = located s d h q at in
+    let i : ℕ = q.row - d.first in
+    let next : e.row - d.first ≡ suc i + 0 = omega (arith, row, at.from) in
+    let counted : lines_before_mark (slices l.row) ≡ length l.row.dashes = l.telling.counted in
+    omega (
+      arith,
+      none,
+      l.within,
+      last (slices l.row) l.pieces,
+      counted,
+      ap (λ (k : ℕ). length (lines_of (take k h.rows))) next,
+      lines_upto h.rows i 0 l.row l.there,
+    )
+
+-- what is told of a line's mark, by its rank
+bare_ranked : (m : Mark) → is_bare m ≡ eqb (rank m) 1
+bare_ranked Bare = refl
+bare_ranked (Key k) = refl
+bare_ranked Dash = refl
+
+item_ranked : (m : Mark) → is_item (key_of m) ≡ not (eqb (rank m) 2)
+item_ranked Bare = refl
+item_ranked (Key k) = refl
+item_ranked Dash = refl
+
+module _ (s : Shown) (d : Stretch) (h : HasRows s d) (q : Spot) (at : IsLine s d q) (l : Line) (is : slice_get (lines_of h.rows) (line_number d h.rows q) ≡ Some l) where
+  abbrev k : Located s d h q
+  k = located s d h q at
+
+  own : (located s d h q at).line ≡ l
+  own = same_Some _ _ (sym k.is ∙ is)
+
+  ranked : rank l.mark ≡ line_rank q.line (slices (located s d h q at).row)
+  ranked = ap (λ (y : Line). rank y.mark) (sym own) ∙ rank_is k.row q.line k.line k.telling k.within k.told
+
+  module _ (n : ℕ) (told : (x : Slices) → slice_get s.rows q.row ≡ Some x → n ≡ line_rank q.line x) where
+    same : n ≡ rank l.mark
+    same = told (slices k.row) k.pieces ∙ sym ranked
+
+    pub bare_told : eqb n 1 ≡ is_bare l.mark
+    bare_told = ap (λ (j : ℕ). eqb j 1) same ∙ sym (bare_ranked l.mark)
+
+    pub item_told : not (eqb n 2) ≡ is_item (key_of l.mark)
+    item_told = ap (λ (j : ℕ). not (eqb j 2)) same ∙ sym (item_ranked l.mark)
+
+    -- a line that begins with no key is no key's
+    pub other_told : (key : List ℕ) → (n ≡ 2 → ⊥) → false ≡ key_is key (key_of l.mark)
+    other_told key other = go l.mark same
+      where
+        go : (m : Mark) → n ≡ rank m → false ≡ key_is key (key_of m)
+        go Bare r = refl
+        go (Key j) r = absurd (other r)
+        go Dash r = refl
+
+    -- a line that begins with a key is that key's
+    pub key_told : (piece key : List ℕ) → ((x : Slices) → slice_get s.rows q.row ≡ Some x → piece ≡ x.key) → n ≡ 2 → bytes_eq (content_of piece) key ≡ key_is key (key_of l.mark)
+    key_told piece key written two = ap (λ (t : List ℕ). bytes_eq (content_of t) key) (written (slices k.row) k.pieces) ∙ go (cases_lt q.line (length k.row.dashes))
+      where
+        marked : (m : rows.Mark) → rank (mark_of m) ≡ 2 → bytes_eq (content_of (Rattle.yq_rows.specs.View.key_of m)) key ≡ key_is key (key_of (mark_of m))
+        marked rows.Bare r = absurd (omega (arith, r))
+        marked rows.Dash r = absurd (omega (arith, r))
+        marked (rows.Key j colon) r = refl
+
+        go : (q.line < length k.row.dashes) ⊎ (length k.row.dashes ≤ q.line) → bytes_eq (content_of (slices k.row).key) key ≡ key_is key (key_of l.mark)
+        go (inl less) =
+            let dash : l.mark ≡ Dash = ap (λ (y : Line). y.mark) (sym own) ∙ (k.told.dash less).0 in
+            absurd (omega (arith, ap rank dash, same, two))
+        go (inr past) =
+            let last : q.line ≡ length k.row.dashes = omega (arith, past, k.within) in
+            let mark : l.mark ≡ mark_of k.row.mark = ap (λ (y : Line). y.mark) (sym own) ∙ (k.told.mark last).0 in
+            marked k.row.mark (sym (ap rank mark) ∙ (sym same ∙ two)) ∙ ap (λ (m : Mark). key_is key (key_of m)) (sym mark)
+
+  pub head_told : (last : Bool) (x : Slices) → slice_get s.rows q.row ≡ Some x → last ≡ eqb q.line (lines_before_mark x) → (last && not (is_empty x.head)) ≡ is_some l.head
+  head_told last x there e = go (cases_lt q.line (length k.row.dashes))
+    where
+      pieces : slices k.row ≡ x
+      pieces = same_Some _ _ (sym k.pieces ∙ there)
+
+      counted : lines_before_mark x ≡ length k.row.dashes
+      counted = ap lines_before_mark (sym pieces) ∙ k.telling.counted
+
+      some : (o : Option Node) → not (is_none o) ≡ is_some o
+      some None = refl
+      some (Some n) = refl
+
+      go : (q.line < length k.row.dashes) ⊎ (length k.row.dashes ≤ q.line) → (last && not (is_empty x.head)) ≡ is_some l.head
+      go (inl less) =
+          let no : last ≡ false = e ∙ ne_eqb q.line (lines_before_mark x) (λ same. omega (arith, same, less, counted)) in
+          ap (λ b. b && not (is_empty x.head)) no ∙ sym (ap is_some (ap (λ (y : Line). y.head) (sym own) ∙ (k.told.dash less).1))
+      go (inr past) =
+          let same : q.line ≡ length k.row.dashes = omega (arith, past, k.within) in
+          let yes : last ≡ true = e ∙ eq-eqb q.line (lines_before_mark x) (omega (arith, same, counted)) in
+          let head : is_empty x.head ≡ is_none l.head = ap (λ (y : Slices). is_empty y.head) (sym pieces) ∙ (k.telling.head ∙ ap is_none (sym (k.told.mark same).1 ∙ ap (λ (y : Line). y.head) own)) in
+          ap (λ b. b && not (is_empty x.head)) yes ∙ (ap not head ∙ some l.head)
+
+-- a quoted key is a quoted scalar
+pub quoted_told : (s : Shown) (d : Stretch) (h : HasRows s d) (q : Spot) → IsLine s d q → (piece : List ℕ) → ((x : Slices) → slice_get s.rows q.row ≡ Some x → piece ≡ x.key) → is_quoted piece ≡ true → IsQuotedText piece
+quoted_told s d h q at piece written =
+    let k = located s d h q at in
+    subst (λ (y : List ℕ). is_quoted y ≡ true → IsQuotedText y) (sym (written (slices k.row) k.pieces)) k.telling.quoted
+
+-- the first line of a document
+pub first_number : (d : Stretch) (rs : List Row) → 0 ≡ line_number d rs (record { row = d.first; line = 0 })
+first_number d rs =
+    let none : d.first - d.first ≡ 0 = omega arith in
+    omega (arith, ap (λ (k : ℕ). length (lines_of (take k rs))) none)
+
+-- where a line has a head, and where it has none
+pub head_here : (o : Option Node) (x y : Option (ℕ × List Step)) → true ≡ is_some o → if_head o x y ≡ x
+head_here None x y e = absurd (false≢true (sym e))
+head_here (Some n) x y e = refl
+
+pub head_none : (o : Option Node) (x y : Option (ℕ × List Step)) → false ≡ is_some o → if_head o x y ≡ y
+head_none None x y e = refl
+head_none (Some n) x y e = absurd (false≢true e)

@@ -1,0 +1,8 @@
+use Rattle.std.proofs.Common.{sym, arith}
+use Rattle.yq_walk.proofs.KnownWalks.{goes_to}
+use Rattle.yq_walk.proofs.known_key.keyed.Goals as goal
+
+pub returns-clause-found : goal.returns-clause-found
+returns-clause-found c =
+    goes_to c.args.rows.now c.args.document c.args.under c.args.floor c.args.known c.requires.under c.requires.known (λ y is. omega (arith, c.level_at.ensures y is, c.if-level_at-known.false)) c.args.key.now c.requires.keys
+    (λ y is. omega (arith, c.level_at.ensures y is, c.if-level_at-known.false)) (λ h l is. sym (c.if-not-is_key.ensures h l is))

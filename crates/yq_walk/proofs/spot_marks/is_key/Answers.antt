@@ -1,0 +1,15 @@
+use Rattle.std.proofs.Common.{◌∙◌}
+use Rattle.yq_walk.proofs.WalkSpots.{key_told, other_told, quoted_told}
+use Rattle.yq_walk.proofs.spot_marks.is_key.Goals as goal
+
+pub returns-then-rank_at-ne2 : goal.returns-then-rank_at-ne2
+returns-then-rank_at-ne2 c = λ h l is.
+    other_told c.args.rows.now c.args.document h c.args.spot c.requires.spot l is c.rank_at.result c.rank_at.ensures c.args.key.now c.if-rank_at-ne2.true
+
+pub is_written-requires : goal.is_written-requires
+is_written-requires c = quoted_told c.args.rows.now c.args.document c.requires.document c.args.spot c.requires.spot c.key.result.now c.key.ensures
+
+pub returns : goal.returns
+returns c = λ h l is.
+    c.is_written.ensures
+    ∙ key_told c.args.rows.now c.args.document h c.args.spot c.requires.spot l is c.rank_at.result c.rank_at.ensures c.key.result.now c.args.key.now c.key.ensures c.if-rank_at-ne2.false

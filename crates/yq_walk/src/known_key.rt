@@ -1,0 +1,109 @@
+//! The entry of a key, looked for on both sides of an entry that is known.
+ghost use Rattle.std.specs.Prelude.{◌≡◌, ◌<◌, ◌≤◌, length, IfSome, Some};
+ghost use Rattle.yq_scalar.specs.Paths as steps;
+ghost use Rattle.yq_walk.specs.Extents.{IsShown};
+ghost use Rattle.yq_walk.specs.RowWalk.{AreKnown, Finds, HasDocument, HaveKeys, IsAmong, IsKnown, IsLine, IsSpot};
+
+use crate::known_count::counted;
+use crate::known_item::{item_before, known_among};
+use crate::spot::{KnownItem, KnownItems, Spot, Stretch, level_at};
+use crate::spot_marks::is_key;
+use yq_rows::Rows;
+
+/// The item behind one that is known, before the row where a document ends.
+fn item_behind(rows: &Rows<'_>, known: KnownItem, end: usize) -> Option<KnownItem>
+    requires known { IsKnown rows.now.rows known }
+    requires within { end ≤ length rows.now.rows }
+    requires shown { IsShown rows.now }
+    ensures { IfSome result (IsAmong rows.now.rows known.under known.floor end) }
+{
+    let mut index = known.index;
+    'rows: for row in known.row..end {
+        let level = level_at(rows, Spot { row, line: 0 });
+        if level < known.level {
+            return None;
+        }
+        let is_item = level == known.level;
+        if is_item && known.row < row {
+            return Some(KnownItem {
+                index,
+                row,
+                ..known
+            });
+        }
+        index = counted(index, is_item)?;
+    }
+    None
+}
+
+/// The line of an entry that is known among the lines of a document from one on that are deeper than a
+/// level, if its key is this one.
+fn keyed(
+    rows: &Rows<'_>,
+    document: Stretch,
+    under: Spot,
+    floor: usize,
+    known: KnownItem,
+    key: &str,
+) -> Option<Spot>
+    requires shown { IsShown rows.now }
+    requires document { HasDocument rows.now document }
+    requires under { IsSpot rows.now document under }
+    requires keys { HaveKeys rows.now document under floor }
+    requires known { IsAmong rows.now.rows under floor document.end known }
+    ensures within { IfSome result (IsLine rows.now document) }
+    ensures found { IfSome result (λ q.
+        Finds rows.now document under floor (steps.To key.now) (Some q)) }
+{
+    let at = Spot {
+        row: known.row,
+        line: 0,
+    };
+    if level_at(rows, at) != known.level || !is_key(rows, document, at, key) {
+        return None;
+    }
+    Some(at)
+}
+
+/// The line of a key's entry among the lines of a document from one on that are deeper than a level,
+/// where one of them is known: it is looked for one by one on both sides, the nearest ones first.
+pub fn key_near(
+    rows: &Rows<'_>,
+    document: Stretch,
+    known: KnownItems,
+    under: Spot,
+    floor: usize,
+    key: &str,
+) -> Option<Spot>
+    requires shown { IsShown rows.now }
+    requires document { HasDocument rows.now document }
+    requires known { AreKnown rows.now.rows known }
+    requires under { IsSpot rows.now document under }
+    requires keys { HaveKeys rows.now document under floor }
+    ensures within { IfSome result (IsLine rows.now document) }
+    ensures found { IfSome result (λ q.
+        Finds rows.now document under floor (steps.To key.now) (Some q)) }
+{
+    let mut ahead = known_among(rows, document, known, under, floor);
+    let mut back = ahead;
+    'entries: for _ in document.first..document.end {
+        if let Some(known) = ahead {
+            let at = keyed(rows, document, under, floor, known, key);
+            if at.is_some() {
+                return at;
+            }
+            ahead = item_behind(rows, known, document.end);
+        }
+        if let Some(known) = back {
+            let at = keyed(rows, document, under, floor, known, key);
+            if at.is_some() {
+                return at;
+            }
+            back = item_before(rows, known);
+        }
+        if ahead.is_none() && back.is_none() {
+            return None;
+        }
+    }
+    None
+}

@@ -1,0 +1,24 @@
+//! The lines that rows have, and where steps lead among them, row by row.
+#![tactic(auto)]
+
+mod extent;
+mod known_count;
+mod known_item;
+mod known_key;
+mod spot;
+mod spot_find;
+mod spot_marks;
+mod spot_reach;
+mod written_key;
+
+pub use extent::{dash_at, front_len, head_place, lines_before_mark, row_len, row_start};
+pub use known_count::{counted, first_known, known_to};
+pub use known_item::{item_before, known_among};
+pub use spot::{
+    KnownItem, KnownItems, Spot, Stretch, behind, is_deeper, level_at, line_column, next, rank_at,
+    rows_under,
+};
+pub use spot_find::{find_item, find_key, find_step};
+pub use spot_marks::{has_head, is_bare, is_item_at, is_key};
+pub use spot_reach::{Next, begins_with_node, line_at, next_at, reach};
+pub use written_key::is_written;
