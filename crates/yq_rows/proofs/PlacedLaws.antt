@@ -1,8 +1,8 @@
 -- Rows and ends of parts that are kept by their places alone, lent in their text again.
-use Rattle.std.proofs.Common.{◌≡◌, ℕ, ◌+◌, ◌≤◌, List, [], ◌∷◌, ◌++◌, length, drop, take, take_at, reverse, ◌<◌, ◌^◌, append-nil, refl, sym, ap, ◌∙◌, subst, arith}
-use Rattle.std.proofs.lemmas.List.{append_cancel_left, drop-drop, length-drop}
+use Rattle.std.proofs.Common.{◌≡◌, ℕ, ◌+◌, ◌≤◌, List, [], ◌∷◌, ◌++◌, length, take, take_at, reverse, ◌<◌, ◌^◌, append-nil, refl, sym, ap, ◌∙◌, subst, arith}
+use Rattle.std.proofs.lemmas.List.{append_cancel_left}
 use Rattle.std.proofs.lemmas.List.Elements.{All-head, All-map, All-tail, All-weaker}
-use Rattle.std.proofs.lemmas.Str.{IsCharBoundary-at_seam, IsCharBoundary-from_rest, IsUtf8-drop, IsUtf8-nil, IsUtf8-take}
+use Rattle.std.proofs.lemmas.Str.{IsCharBoundary-at_seam, IsUtf8-drop, IsUtf8-nil, IsUtf8-take}
 use Rattle.std.specs.List.{All}
 use Rattle.std.specs.Str.{IsCharBoundary, IsUtf8}
 use Rattle.yq_text.specs.Halves.{whole}
@@ -11,7 +11,7 @@ use Rattle.yq_rows.specs.Ends.{EndStands, EndsStand, bound_in, bounds_in, end_at
 use Rattle.yq_rows.specs.Grammar.{IsCut}
 use Rattle.yq_rows.specs.Items.{Item, row_item, end_item, items_of, items_text, rows_in_items, bounds_in_items, shown_items}
 use Rattle.yq_rows.specs.Kept.{HavePlaces, IsPlaced, TextsIn, ends_near, near, shown_in}
-use Rattle.yq_rows.specs.Offsets.{AreCuts, AreTexts, Stand, Stands, lengths, offsets_of, pieces_of, rows_in, slices_in}
+use Rattle.yq_rows.specs.Offsets.{AreTexts, Stand, Stands, offsets_of, pieces_of, rows_in, slices_in}
 use Rattle.yq_rows.specs.Rows.{Row, Cut, print_row}
 use Rattle.yq_rows.specs.View.{Bound, Shown, shown, slices, slices_text}
 use Rattle.yq_rows.specs.declared.ends.EndPlace.{EndPlace}

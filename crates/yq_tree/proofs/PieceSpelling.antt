@@ -20,11 +20,10 @@ use Rattle.yq_lines.specs.Group.{group, level_or, is_fine}
 use Rattle.yq_walk.specs.Lines.{head_of, lines_of}
 use Rattle.yq_inline.specs.Trees.{node_head}
 use Rattle.yq_documents.specs.Documents.{Document}
-use Rattle.yq_documents.specs.Nodes.{unlabelled}
 use Rattle.yq_lines.specs.Labelled.{Labelled, labelled_from}
 use Rattle.yq_lines.proofs.LabelledLaws.{labelled_path}
 use Rattle.yq_lines.proofs.LabelPaths.{FoundEntry, path_entry}
-use Rattle.yq_documents.specs.Located.{steps_of, document_at, labelled_located, located}
+use Rattle.yq_documents.specs.Located.{steps_of, document_at, labelled_located, located, unlabelled}
 use Rattle.yq_lines.specs.Outline as outlines
 use Rattle.yq_lines.specs.Outline.{Mark, Line, level, Outline, end, row, flatten, IsEven, first_anchor, head_or, value, label}
 use Rattle.yq_lines.specs.Places.{lines_before, lines_after, Found, find}
