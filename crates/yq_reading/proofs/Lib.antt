@@ -1,0 +1,16 @@
+pub mod DecidingLaws
+pub mod NamedLaws
+pub mod StopLaws
+pub mod SpotOrder
+pub mod UnderLaws
+pub mod LineTold
+pub mod ReadyLaws
+pub mod GivesLaws
+pub mod HeadTold
+pub mod FitLaws
+pub mod AnchorRows
+pub mod RowContents
+pub mod NameRows
+pub mod QuietLaws
+pub mod HeadsApart
+pub mod LendLaws
