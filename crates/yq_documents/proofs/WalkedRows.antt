@@ -83,14 +83,15 @@ get_drop xs zero j = ap (slice_get xs) (omega arith)
 get_drop [] (suc k) j = refl
 get_drop (x ∷ xs) (suc k) j = let more : suc (k + j) ≡ suc k + j = omega arith in get_drop xs k j ∙ ap (slice_get (x ∷ xs)) more
 
--- the document of a text with its cut
-document_has : (t : List ℕ) (s : Shown) (c : Cut) (n : ℕ) (p : Part) (d : Stretch) → IsCut t c → all_documents c ≡ true → s ≡ shown c → slice_get (document_parts c) n ≡ Some p → d.first ≡ document_row n c → d.end ≡ document_row n c + length p.rows →
-    (h : HasDocument s d) × (h.stand.rows ≡ p.rows)
-document_has t s c n p d cut sound is at first end =
+-- the rows of a document stand among those of its cut
+pub rows_stand : (t : List ℕ) (s : Shown) (c : Cut) (n : ℕ) (p : Part) (d : Stretch) → IsCut t c → s ≡ shown c → slice_get (document_parts c) n ≡ Some p → d.first ≡ document_row n c → d.end ≡ document_row n c + length p.rows →
+    (h : HasRows s d) × ((h.rows ≡ p.rows) × (h.rows ≡ take (d.end - d.first) (drop d.first (rows_of c))))
+rows_stand t s c n p d cut is at first end =
     let b = begins (begins_bare c || not (has_begin c)) n c p at in
     let v = part_stands true (begins_bare c || not (has_begin c)) n c p cut.parts at in
     let k : ℕ = document_row n c in
     let size : d.end - d.first ≡ length p.rows = omega (arith, first, end) in
+    let here : drop d.first (rows_of c) ≡ p.rows ++ b.0 = ap (λ (j : ℕ). drop j (rows_of c)) first ∙ b.1 in
     let there : drop d.first s.rows ≡ map slices p.rows ++ map slices b.0 =
     (λ i. drop (first i) (is i).rows) ∙ (drop-map slices k (rows_of c) ∙ (ap (map slices) b.1 ∙ map-append slices p.rows b.0)) in
     let pieces : take (d.end - d.first) (drop d.first s.rows) ≡ map slices p.rows =
@@ -99,20 +100,24 @@ document_has t s c n p d cut sound is at first end =
     let all : length s.rows ≡ length (rows_of c) = ap (λ (x : Shown). length x.rows) is ∙ length-map (rows_of c) slices in
     let upto : k ≤ length (rows_of c) = before_within (begins_bare c || not (has_begin c)) n c in (
       record {
-        stand = record {
-          rows = p.rows;
-          limit = unlimited;
-          end = p.end;
-          rest = v.0;
-          order = omega (arith, first, end);
-          within = omega (arith, first, end, long, all, upto);
-          pieces = pieces;
-          valid = v.1;
-        };
-        sound = sound_part p (each (document_parts c) sound n p at);
+        rows = p.rows;
+        limit = unlimited;
+        end = p.end;
+        rest = v.0;
+        order = omega (arith, first, end);
+        within = omega (arith, first, end, long, all, upto);
+        pieces = pieces;
+        valid = v.1;
       },
-      refl,
+      (refl, sym ((λ i. take (size i) (here i)) ∙ take_at p.rows b.0 (length p.rows) refl)),
     )
+
+-- the document of a text with its cut
+document_has : (t : List ℕ) (s : Shown) (c : Cut) (n : ℕ) (p : Part) (d : Stretch) → IsCut t c → all_documents c ≡ true → s ≡ shown c → slice_get (document_parts c) n ≡ Some p → d.first ≡ document_row n c → d.end ≡ document_row n c + length p.rows →
+    (h : HasDocument s d) × (h.stand.rows ≡ p.rows)
+document_has t s c n p d cut sound is at first end =
+    let h = rows_stand t s c n p d cut is at first end in
+    (record { stand = h.0; sound = ap (λ (rs : List Row). is_sound depth_limit (group (lines_of rs))) h.1.0 ∙ sound_part p (each (document_parts c) sound n p at) }, h.1.0)
 
 pub document_in : (t : List ℕ) (n : ℕ) (s : Shown) (d : Stretch) → HasText t n s d → (h : HasDocument s d) × (h.stand.rows ≡ document_rows n t)
 document_in t n s d x =
