@@ -11,6 +11,7 @@ use Rattle.yq_rows.specs.Grammar.{AreRows, Limit, limit_after}
 use Rattle.yq_rows.specs.Rows.{Row, parent_indent, rows_text}
 use Rattle.yq_rows.specs.View.{Shown, Slices, slices}
 use Rattle.yq_scalar.specs.Quoted.{IsQuotedText}
+use Rattle.yq_scalar.specs.Text.{upto}
 use Rattle.yq_scalar.specs.Tree.{Node}
 use Rattle.yq_walk.specs.Extents.{lines_before_mark}
 use Rattle.yq_walk.specs.Lines.{head_of}
@@ -28,6 +29,7 @@ use Rattle.yq_documents.proofs.RowLineLaws.{anchor_is, content_quoted, tail_is}
 
 -- of no text there is no comment
 no_line_comment : comments.line_comment [] ≡ None
+unfolding upto
 no_line_comment = refl
 
 -- a quoted head is a quoted scalar

@@ -1,5 +1,5 @@
 -- The rows of a document among those of a text.
-use Rattle.std.proofs.Common.{◌≡◌, ℕ, zero, suc, ◌+◌, ◌-◌, ◌<◌, ◌≤◌, List, [], ◌∷◌, ◌++◌, length, map, take, drop, Option, Some, Bool, true, false, ◌||◌, not, refl, sym, ap, ◌∙◌, subst, arith, append-nil, length-append}
+use Rattle.std.proofs.Common.{◌≡◌, ℕ, zero, suc, ◌+◌, ◌-◌, ◌<◌, ◌≤◌, List, [], ◌∷◌, ◌++◌, length, map, take, drop, Some, Bool, true, false, ◌||◌, not, refl, sym, ap, ◌∙◌, subst, arith, append-nil, length-append}
 use Rattle.std.proofs.Math.Seq.{drop-append-add}
 use Rattle.std.proofs.lemmas.Bool.{and_parts}
 use Rattle.std.proofs.lemmas.List.{drop-map, length-map, length-drop, take_at, map-append}
@@ -21,7 +21,7 @@ use Rattle.yq_documents.specs.Reading.{all_documents, is_document, have_fit_keys
 use Rattle.yq_documents.specs.Seats.{rows_before, document_row}
 
 -- a document's rows stand among those of a cut, behind so many others
-begins : (is : Bool) (n : ℕ) (c : Cut) (p : Part) → slice_get (parts_from is c) n ≡ Some p → (more : List Row) × (drop (rows_before is n c) (rows_of c) ≡ p.rows ++ more)
+pub begins : (is : Bool) (n : ℕ) (c : Cut) (p : Part) → slice_get (parts_from is c) n ≡ Some p → (more : List Row) × (drop (rows_before is n c) (rows_of c) ≡ p.rows ++ more)
 begins true zero (last q) p e = let same : q ≡ p = cc in ([], ap (λ (x : Part). x.rows) same ∙ sym (append-nil p.rows))
 begins true (suc n) (last q) p e = absurd (cc)
 begins false n (last q) p e = absurd (cc)

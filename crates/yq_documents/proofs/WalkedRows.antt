@@ -29,11 +29,17 @@ document_in {t} {n} {s} {d} x =
 
 module _ {t : List ℕ} {n : ℕ} {s : Shown} {d : Stretch} (x : HasText t n s d) where
   -- what is told of the lines of the rows that were walked is so of those of the document
-  pub told_lines : (P : List Line → (Spot → ℕ) → Type 0) → P (lines_of (document_in x).0.stand.rows) (line_number d (document_in x).0.stand.rows) → P (document_lines n t) (number_of n t)
+  told_lines : (P : List Line → (Spot → ℕ) → Type 0) → P (lines_of (document_in x).0.stand.rows) (line_number d (document_in x).0.stand.rows) → P (document_lines n t) (number_of n t)
   told_lines P p = subst (λ (y : List Row × Stretch). P (lines_of y.0) (line_number y.1 y.0)) (λ i. ((document_in x).1 i, x.place i)) p
 
+  pub told_rows : (P : List Line → (Spot → ℕ) → Type 0) → ((h : HasRows s d) → P (lines_of h.rows) (line_number d h.rows)) → P (document_lines n t) (number_of n t)
+  told_rows P f = told_lines P (f (document_in x).0.stand)
+
+  pub told_document : (P : List Line → (Spot → ℕ) → Type 0) → ((h : HasDocument s d) → P (lines_of h.stand.rows) (line_number d h.stand.rows)) → P (document_lines n t) (number_of n t)
+  told_document P f = told_lines P (f (document_in x).0)
+
   pub of_line : (q : Spot) (said : Line → Type 0) → OfLine s d q said → OfLineIn t n q said
-  of_line q said f = told_lines (λ ls num. (l : Line) → slice_get ls (num q) ≡ Some l → said l) (f (document_in x).0.stand)
+  of_line q said = told_rows (λ ls num. (l : Line) → slice_get ls (num q) ≡ Some l → said l)
 
   pub stands : HasRows s d
   stands = (document_in x).0.stand
@@ -90,7 +96,7 @@ module _ {t : List ℕ} {n : ℕ} {s : Shown} {d : Stretch} (x : HasText t n s d
   first_spot = spot_back (record { from = omega arith; upto = (document_in x).0.stand.order; line = λ y e. omega arith; last = λ e. refl })
 
   pub first_is : number_of n t (record { row = d.first; line = 0 }) ≡ 0
-  first_is = told_lines (λ ls num. num (record { row = d.first; line = 0 }) ≡ 0) (sym (first_number d (document_in x).0.stand.rows))
+  first_is = told_rows (λ ls num. num (record { row = d.first; line = 0 }) ≡ 0) (λ h. sym (first_number d h.rows))
 
 -- the root of a document
 part_root : (o : Option Part) (d : Document) → option_map document_of o ≡ Some d → value (group (lines_of (part_rows o))) ≡ d.root

@@ -1,31 +1,27 @@
 -- Lines of a document by their rows and by their numbers.
-use Rattle.std.proofs.Common.{◌≡◌, ◌⊎◌, inl, inr, ℕ, zero, suc, ◌+◌, ◌-◌, ◌<◌, ◌≤◌, ltb, eqb, Bool, true, false, not, ◌&&◌, List, [], ◌∷◌, length, map, take, drop, Option, Some, None, refl, sym, ap, ◌∙◌, subst, arith}
-use Rattle.std.proofs.lemmas.Bool.{cases_lt, eq-eqb, ne_eqb, false≢true}
+use Rattle.std.proofs.Common.{◌≡◌, ℕ, zero, suc, ◌+◌, ◌-◌, ◌<◌, ◌≤◌, ltb, true, false, not, List, [], ◌∷◌, length, map, take, drop, Option, Some, None, refl, sym, ap, ◌∙◌, subst, arith}
+use Rattle.std.proofs.lemmas.Bool.{false≢true}
 use Rattle.std.proofs.lemmas.List.{take_all}
 use Rattle.std.proofs.lemmas.Option.{same_Some}
 use Rattle.std.specs.List.{slice_get}
-use Rattle.std.specs.Prelude.{is_none, is_some}
-use Rattle.std.specs.Str.{bytes_eq}
-use Rattle.yq_inline.specs.Scalars.{content_of, is_quoted}
+use Rattle.std.specs.Prelude.{is_some}
 use Rattle.yq_lines.specs.Comments as comments
 use Rattle.yq_lines.specs.Ends.{IsEndOf, is_end, part}
-use Rattle.yq_lines.specs.Outline.{Mark, Bare, Key, Dash, Line, key_of, level, rank}
-use Rattle.yq_lines.specs.Spots.{is_bare, if_head}
-use Rattle.yq_scalar.specs.Paths.{Step, is_item, key_is}
-use Rattle.yq_scalar.specs.Quoted.{IsQuotedText}
-use Rattle.yq_scalar.specs.Text.{is_empty}
+use Rattle.yq_lines.specs.Outline.{Line, level}
+use Rattle.yq_lines.specs.Spots.{if_head}
+use Rattle.yq_scalar.specs.Paths.{Step}
 use Rattle.yq_scalar.specs.Tree.{Node}
 use Rattle.yq_lines.proofs.EndsLaws.{deeper_at}
 use Rattle.yq_rows.specs.Rows as rows
 use Rattle.yq_rows.specs.Rows.{Row}
 use Rattle.yq_rows.specs.View.{Slices, slices, Shown}
-use Rattle.yq_walk.specs.Lines.{mark_of, row_lines, lines_of}
+use Rattle.yq_walk.specs.Lines.{row_lines, lines_of}
 use Rattle.yq_walk.specs.Extents.{lines_before_mark}
-use Rattle.yq_walk.specs.RowWalk.{line_rank, line_level, deeper_rows, HasRows, IsSpot, IsLine, line_number, lines_stop}
+use Rattle.yq_walk.specs.RowWalk.{line_level, deeper_rows, HasRows, IsSpot, IsLine, line_number, lines_stop}
 use Rattle.yq_walk.specs.declared.spot.Spot.{Spot}
 use Rattle.yq_walk.specs.declared.spot.Stretch.{Stretch}
 use Rattle.yq_walk.proofs.WalkEnds.{line_of_row, lines_upto, ends_at, stops_at}
-use Rattle.yq_walk.proofs.WalkLevels.{IsTelling, AreTelling, IsLineOf, line_in, rank_is, level_is}
+use Rattle.yq_walk.proofs.WalkLevels.{IsTelling, AreTelling, IsLineOf, line_in, level_is}
 use Rattle.yq_walk.proofs.WalkRows.{rows_behind, rows_length, row_of, rows_telling}
 
 telling_at : (rs : List Row) (i : ℕ) (r : Row) → AreTelling rs → slice_get rs i ≡ Some r → IsTelling r

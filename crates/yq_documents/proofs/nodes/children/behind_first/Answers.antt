@@ -2,7 +2,7 @@ use Rattle.std.proofs.Common.{◌≡◌, ◌+◌, ◌-◌, ◌<◌, length, true
 use Rattle.yq_lines.specs.Ends.{IsEndOf}
 use Rattle.yq_documents.specs.Stretches.{document_lines, number_of}
 use Rattle.yq_lines.proofs.ChildLaws.{first_child}
-use Rattle.yq_documents.proofs.WalkedRows.{line_here, spot_back, stands, told_lines}
+use Rattle.yq_documents.proofs.WalkedRows.{line_here, spot_back, stands, told_rows}
 use Rattle.yq_documents.proofs.NodeLines.{no_children}
 use Rattle.yq_documents.proofs.nodes.children.behind_first.Goals as goal
 
@@ -28,7 +28,7 @@ returns-clause-behind c =
     let q = c.args.under.first in
     let ls = document_lines n t in
     let at = c.if-not-has_lines.ensures.some refl in
-    let ends = told_lines c.document_rows.ensures (λ ms num. IsEndOf ms (num q) (num c.behind.result)) (c.behind.ensures.end (stands c.document_rows.ensures)) in
+    let ends = told_rows c.document_rows.ensures (λ ms num. IsEndOf ms (num q) (num c.behind.result)) c.behind.ensures.end in
     record { first = at; children_are = first_child ls (number_of n t q) c.args.under.floor (number_of n t c.behind.result) at.line at.there c.if-not-has_lines.ensures.test ends }
 
 pub returns-clause-fewer : goal.returns-clause-fewer
@@ -36,5 +36,5 @@ returns-clause-fewer c =
     let t = c.args.under.text.now in
     let n = c.args.under.document in
     let q = c.args.under.first in
-    let ends = told_lines c.document_rows.ensures (λ ms num. IsEndOf ms (num q) (num c.behind.result)) (c.behind.ensures.end (stands c.document_rows.ensures)) in
+    let ends = told_rows c.document_rows.ensures (λ ms num. IsEndOf ms (num q) (num c.behind.result)) c.behind.ensures.end in
     omega (arith, ends.0, ends.1)

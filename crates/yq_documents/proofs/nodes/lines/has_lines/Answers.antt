@@ -1,7 +1,7 @@
 use Rattle.std.proofs.Common.{◌≡◌, not}
 use Rattle.yq_lines.specs.Ends.{is_end, part}
 use Rattle.yq_walk.proofs.WalkSpots.{spot_line}
-use Rattle.yq_documents.proofs.WalkedRows.{line_back, spot_here, stands, told_lines}
+use Rattle.yq_documents.proofs.WalkedRows.{line_back, spot_here, stands, told_rows}
 use Rattle.yq_documents.proofs.nodes.lines.has_lines.Goals as goal
 
 pub document_rows-requires : goal.document_rows-requires
@@ -26,5 +26,5 @@ returns-clause-some c = λ yes.
 pub returns-clause-test : goal.returns-clause-test
 returns-clause-test c =
     let t = c.args.under.text.now in
-    told_lines c.document_rows.ensures (λ ls num. c.is_deeper.result ≡ not (is_end (part ls (num c.args.under.first) c.args.under.floor)))
-    (c.is_deeper.ensures.test (stands c.document_rows.ensures))
+    told_rows c.document_rows.ensures (λ ls num. c.is_deeper.result ≡ not (is_end (part ls (num c.args.under.first) c.args.under.floor)))
+    c.is_deeper.ensures.test
