@@ -31,7 +31,7 @@ pub(crate) fn row_fault(x: Checked<'_, '_>, at: Spot, kind: FaultKind) -> ReadFa
     let place = if at.row < x.rows.len() {
         x.rows
             .start(at.row)
-            .saturating_add(x.rows.row(at.row).gap().len())
+            .saturating_add(x.rows.gap(at.row).len())
     } else {
         x.text.len()
     };
