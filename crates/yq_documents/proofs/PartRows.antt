@@ -14,7 +14,7 @@ use Rattle.yq_rows.specs.Rows.{Row, Part, Cut, last, marked, cut_text}
 use Rattle.yq_rows.specs.View.{slices, rows_of, Shown, shown}
 use Rattle.yq_scalar.specs.Anchors.{names_of}
 use Rattle.yq_walk.specs.Lines.{lines_of}
-use Rattle.yq_walk.specs.RowWalk.{HasDocument}
+use Rattle.yq_walk.specs.RowWalk.{HasDocument, HasRows}
 use Rattle.yq_walk.specs.declared.spot.Stretch.{Stretch}
 use Rattle.yq_documents.specs.Documents.{parts_from, document_parts, begins_bare, has_begin}
 use Rattle.yq_documents.specs.Reading.{all_documents, is_document, have_fit_keys, has_short_root, root_of}
@@ -72,14 +72,15 @@ has_part [] i h = absurd (omega (arith, h))
 has_part (x ∷ ps) zero h = (x, refl)
 has_part (x ∷ ps) (suc i) h = has_part ps i (omega (arith, h))
 
--- the document of a text with its cut
-pub document_has : (t : List ℕ) (s : Shown) (c : Cut) (n : ℕ) (p : Part) (d : Stretch) → IsCut t c → s ≡ shown c → slice_get (document_parts c) n ≡ Some p → d.first ≡ document_row n c → d.end ≡ document_row n c + length p.rows → all_documents c ≡ true →
-    (h : HasDocument s d) × (h.stand.rows ≡ p.rows)
-document_has t s c n p d cut is at first end walk =
+-- the rows of a document stand among those of its cut
+pub rows_stand : (t : List ℕ) (s : Shown) (c : Cut) (n : ℕ) (p : Part) (d : Stretch) → IsCut t c → s ≡ shown c → slice_get (document_parts c) n ≡ Some p → d.first ≡ document_row n c → d.end ≡ document_row n c + length p.rows →
+    (h : HasRows s d) × ((h.rows ≡ p.rows) × (h.rows ≡ take (d.end - d.first) (drop d.first (rows_of c))))
+rows_stand t s c n p d cut is at first end =
     let b = part_begins c n p at in
     let v = part_stands true (begins_bare c || not (has_begin c)) n c p cut.parts at in
     let k : ℕ = document_row n c in
     let size : d.end - d.first ≡ length p.rows = omega (arith, first, end) in
+    let here : drop d.first (rows_of c) ≡ p.rows ++ b.0 = ap (λ (j : ℕ). drop j (rows_of c)) first ∙ b.1 in
     let there : drop d.first s.rows ≡ map slices p.rows ++ map slices b.0 =
     (λ i. drop (first i) (is i).rows) ∙ (drop-map slices k (rows_of c) ∙ (ap (map slices) b.1 ∙ map-append slices p.rows b.0)) in
     let pieces : take (d.end - d.first) (drop d.first s.rows) ≡ map slices p.rows =
@@ -88,17 +89,21 @@ document_has t s c n p d cut is at first end walk =
     let all : length s.rows ≡ length (rows_of c) = ap (λ (x : Shown). length x.rows) is ∙ length-map (rows_of c) slices in
     let upto : k ≤ length (rows_of c) = before_within (begins_bare c || not (has_begin c)) n c in (
       record {
-        stand = record {
-          rows = p.rows;
-          limit = unlimited;
-          end = p.end;
-          rest = v.0;
-          order = omega (arith, first, end);
-          within = omega (arith, first, end, long, all, upto);
-          pieces = pieces;
-          valid = v.1;
-        };
-        sound = sound_part p (each (document_parts c) walk n p at);
+        rows = p.rows;
+        limit = unlimited;
+        end = p.end;
+        rest = v.0;
+        order = omega (arith, first, end);
+        within = omega (arith, first, end, long, all, upto);
+        pieces = pieces;
+        valid = v.1;
       },
-      refl,
+      (refl, sym ((λ i. take (size i) (here i)) ∙ take_at p.rows b.0 (length p.rows) refl)),
     )
+
+-- the document of a text with its cut
+pub document_has : (t : List ℕ) (s : Shown) (c : Cut) (n : ℕ) (p : Part) (d : Stretch) → IsCut t c → s ≡ shown c → slice_get (document_parts c) n ≡ Some p → d.first ≡ document_row n c → d.end ≡ document_row n c + length p.rows → all_documents c ≡ true →
+    (h : HasDocument s d) × (h.stand.rows ≡ p.rows)
+document_has t s c n p d cut is at first end walk =
+    let h = rows_stand t s c n p d cut is at first end in
+    (record { stand = h.0; sound = ap (λ (rs : List Row). is_sound depth_limit (group (lines_of rs))) h.1.0 ∙ sound_part p (each (document_parts c) walk n p at) }, h.1.0)

@@ -12,7 +12,6 @@ use Rattle.yq_lines.specs.Spots.{if_head}
 use Rattle.yq_scalar.specs.Paths.{Step}
 use Rattle.yq_scalar.specs.Tree.{Node}
 use Rattle.yq_lines.proofs.EndsLaws.{deeper_at}
-use Rattle.yq_rows.specs.Rows as rows
 use Rattle.yq_rows.specs.Rows.{Row}
 use Rattle.yq_rows.specs.View.{Slices, slices, Shown}
 use Rattle.yq_walk.specs.Lines.{row_lines, lines_of}
