@@ -60,8 +60,11 @@ has_row [] i h = absurd (omega (arith, h))
 has_row (r ∷ rs) zero h = (r, refl)
 has_row (r ∷ rs) (suc i) h = has_row rs i (omega (arith, h))
 
+pub rows_count : (t : List ℕ) (s : Shown) → IsCutInto t s → length s.rows ≡ length (rows_of (cut_of t))
+rows_count t s k = ap (λ (y : Shown). length y.rows) k.rows ∙ length-map (rows_of (cut_of t)) slices
+
 pub row_at : (t : List ℕ) (s : Shown) → IsCutInto t s → (i : ℕ) → i < length s.rows → (r : Row) × (slice_get (rows_of (cut_of t)) i ≡ Some r)
-row_at t s k i h = has_row (rows_of (cut_of t)) i (omega (arith, h, ap (λ (y : Shown). length y.rows) k.rows, length-map (rows_of (cut_of t)) slices))
+row_at t s k i h = has_row (rows_of (cut_of t)) i (omega (arith, h, rows_count t s k))
 
 regroup : (a b c d e : List ℕ) → a ++ (b ++ (c ++ (d ++ e))) ≡ (a ++ (b ++ (c ++ d))) ++ e
 regroup a b c d e = simp append_assoc refl

@@ -1,5 +1,5 @@
 -- Reading (own; a reader may skip it): what is made of the rows of a text.
-use Rattle.std.specs.Prelude.{◌≡◌, ℕ, List, length, slice_get, Option, Some, option_and_then, option_map}
+use Rattle.std.specs.Prelude.{◌≡◌, ℕ, List, [], ◌∷◌, length, slice_get, Option, Some, None, option_and_then, option_map}
 use Rattle.yq_lines.specs.declared.line.Head.{Head}
 use Rattle.yq_lines.specs.View.{head_flow, head_view}
 use Rattle.yq_rows.specs.Exchange.{behind_row}
@@ -30,3 +30,8 @@ pub record IsHeadMade (t : List ℕ) (i : ℕ) (h : Option Head) (r : Row) : Typ
 pub record AreMade (t : List ℕ) (ms : List Made) : Type 0 where
   pub rise : Rise 0 ms
   pub told : (i : ℕ) → OfRow t i (IsTold (length t) (cut_of t) ms i)
+
+-- what is made of a row, if anything is, as a list (own)
+abbrev pub listed : Option Made → List Made
+listed None = []
+listed (Some m) = m ∷ []
