@@ -6,7 +6,8 @@ use Rattle.std.proofs.lemmas.List.{length-map}
 use Rattle.std.proofs.lemmas.Option.{cond_some, slice_get-map}
 use Rattle.std.proofs.lemmas.Str.{IsCharBoundary-start}
 use Rattle.std.specs.List.{slice_get}
-use Rattle.std.specs.Prelude.{option_map}
+use Rattle.std.specs.Prelude.{String, option_and_then, option_map, string_bytes}
+use Rattle.std.specs.declared.alloc.Global.{Global}
 use Rattle.std.specs.Str.{IsCharBoundary, IsUtf8}
 use Rattle.yq_scalar.specs.Answers.{Fails}
 use Rattle.yq_scalar.specs.Quoted.{IsQuotedText}
@@ -14,7 +15,7 @@ use Rattle.yq_scalar.specs.Text.{is_empty}
 use Rattle.yq_scalar.specs.Tree as trees
 use Rattle.yq_scalar.specs.declared.fault.ReadError.{ReadError}
 use Rattle.yq_scalar.specs.declared.fault.ReadError.TheVariants as errors
-use Rattle.yq_inline.specs.Scalars.{is_quoted}
+use Rattle.yq_inline.specs.Scalars.{content_of, is_quoted}
 use Rattle.yq_lines.specs.declared.line.Head.{Head}
 use Rattle.yq_lines.specs.View.{head_flow, head_view}
 use Rattle.yq_rows.specs.Exchange.{before_content, behind_row, rows_behind}
@@ -25,9 +26,10 @@ use Rattle.yq_rows.proofs.PlaceLaws.{RowIn, place, row_in}
 use Rattle.yq_rows.proofs.SliceLaws.{content_slices}
 use Rattle.yq_documents.specs.FlowReading.{head_flow_at, row_flow}
 use Rattle.yq_documents.specs.KeyReading.{EndsIn}
-use Rattle.yq_documents.specs.Made.{lent_head}
+use Rattle.yq_documents.specs.Made.{IsToldBy, lent_head, lent_text, made_or}
 use Rattle.yq_documents.specs.Reading.{content_is_fit, cut_of, mark_is_fit}
 use Rattle.yq_documents.specs.RowReading.{head_at, row_fits}
+use Rattle.yq_documents.specs.declared.made.Made.{Made}
 use Rattle.yq_walk.specs.Lines.{head_of}
 use Rattle.yq_documents.proofs.HeadLaws.{fitting, head_is, head_text}
 use Rattle.yq_documents.proofs.RowFlowLaws.{flow_is}
@@ -53,6 +55,15 @@ unfit_told (errors.Fault k) o false head is f = refl
 
 pub fit_told : (o : Option (Option trees.Node)) (fit : Bool) (head x : Option trees.Node) → o ≡ fitting fit head → o ≡ Some x → fit ≡ true
 fit_told o fit head x is e = (cond_some fit _ _ (sym is ∙ e)).0
+
+-- what is made of a row's key and of its head is made of the row
+pub told_by : (t : List ℕ) (i : ℕ) (r : Row) (piece : List ℕ) (key : Option (String Global)) (head : Option Head) (m : Option Made) → piece ≡ (slices r).key → made_or (option_map string_bytes key) (lent_text piece) ≡ content_of piece → IsHeadMade t i head r →
+    option_and_then (λ x. option_map string_bytes x.key) m ≡ option_map string_bytes key → option_and_then (λ x. option_map head_view x.head) m ≡ option_map head_view head → option_and_then (λ x. option_and_then head_flow x.head) m ≡ option_and_then head_flow head → IsToldBy (length t) (cut_of t) m i r
+told_by t i r piece key head m is spelled made k h f = record {
+  key = subst (λ (x : List ℕ). made_or (option_and_then (λ y. option_map string_bytes y.key) m) (lent_text x) ≡ content_of x) is (ap (λ o. made_or o (lent_text piece)) k ∙ spelled);
+  head = ap (λ o. made_or o (lent_head (slices r).head)) h ∙ made.head;
+  flow = f ∙ made.flow;
+}
 
 -- a row is there
 has_row : (rs : List Row) (i : ℕ) → i < length rs → (r : Row) × (slice_get rs i ≡ Some r)
@@ -138,21 +149,22 @@ module _ (t : List ℕ) (s : Shown) (k : IsCutInto t s) (i : ℕ) (r : Row) (is 
       whole_there t before h rest n (text_there ∙ ap (λ (y : List ℕ). before ++ (y ++ rest)) (sym e)) at (unlent_some h unlent) u
 
   -- the head is read
-  module _ (p : ℤ) (h text : List ℕ) (start : ℕ) (parent : p ≡ parent_indent r) (head : h ≡ (slices r).head) (from : text ≡ drop start t) (place_is : start ≡ length before) where
+  module _ (text : List ℕ) (start : ℕ) (from : text ≡ drop start t) (place_is : start ≡ length before) where
     from_there : text ≡ behind
     from_there = from ∙ ((λ j. drop (place_is j) (text_there j)) ∙ drop-append_seam before behind)
 
     pub text_ends : EndsIn t text
     text_ends = (before, text_there ∙ ap (λ (x : List ℕ). before ++ x) (sym from_there))
 
-    pub head_read : head_at t p h text ≡ fitting (content_is_fit r.content) (head_of r.content)
-    head_read = (λ j. head_at t (parent j) (head j) (from_there j)) ∙ read_again
+    module _ (p : ℤ) (h : List ℕ) (parent : p ≡ parent_indent r) (head : h ≡ (slices r).head) where
+      pub head_read : head_at t p h text ≡ fitting (content_is_fit r.content) (head_of r.content)
+      head_read = (λ j. head_at t (parent j) (head j) (from_there j)) ∙ read_again
 
-    pub flow_read : head_flow_at t p h text ≡ row_flow (length t) r (behind_row i c)
-    flow_read = (λ j. head_flow_at t (parent j) (head j) (from_there j)) ∙ flow_again
+      flow_read : head_flow_at t p h text ≡ row_flow (length t) r (behind_row i c)
+      flow_read = (λ j. head_flow_at t (parent j) (head j) (from_there j)) ∙ flow_again
 
-    pub read_made : (x : Head) → head_at t p h text ≡ Some (head_view x) → head_flow x ≡ head_flow_at t p h text → IsHeadMade t i (Some x) r
-    read_made x view flow = record {
-      head = sym (cond_some (content_is_fit r.content) _ _ (sym head_read ∙ view)).1;
-      flow = flow ∙ flow_read;
-    }
+      pub read_made : (x : Head) → head_at t p h text ≡ Some (head_view x) → head_flow x ≡ head_flow_at t p h text → IsHeadMade t i (Some x) r
+      read_made x view flow = record {
+        head = sym (cond_some (content_is_fit r.content) _ _ (sym head_read ∙ view)).1;
+        flow = flow ∙ flow_read;
+      }
