@@ -7,12 +7,14 @@ use Rattle.yq_scalar.specs.Answers.{◌>>=◌}
 use Rattle.yq_scalar.specs.Paths.{Step}
 use Rattle.yq_inline.specs.Entries.{PlacedEntry, entry_place, content_place}
 use Rattle.yq_inline.specs.Places.{Placed}
-use Rattle.yq_rows.specs.Rows.{Row, Part, Cut}
+use Rattle.yq_rows.specs.Exchange.{behind_row}
+use Rattle.yq_rows.specs.Rows.{Row, Part, Cut, cut_text}
 use Rattle.yq_rows.specs.View.{rows_of}
 use Rattle.yq_documents.specs.Documents.{document_parts}
+use Rattle.yq_documents.specs.FlowReading.{row_flow}
 use Rattle.yq_documents.specs.declared.path.Path.{Path}
 use Rattle.yq_documents.specs.Located.{steps_of}
-use Rattle.yq_tree.specs.EntryReading.{line_entry, line_content, entry_from, content_from, entry_of, content_of, entry_at, content_at, entry_within, HasFlows}
+use Rattle.yq_tree.specs.EntryReading.{line_entry, line_content, entry_from, content_from, entry_of, content_of, entry_at, content_at, entry_within}
 use Rattle.yq_tree.specs.EntryReading.{line_entry_of, line_content_of, flow_entry_from, flow_entry_of, line_entry_at, line_content_at, flow_entry_at}
 use Rattle.yq_lines.specs.Group.{group}
 use Rattle.yq_lines.specs.Places.{lines_before, Found, find}
@@ -54,12 +56,11 @@ abbrev pub Place : Type 0
 Place = Option (ℕ × ℕ)
 
 -- where steps go on in the head of a line
-pub flow_left : (k : ℕ) (c : Cut) (rs : List Row) (fs : List (Option Placed)) (steps left : List Step) (n : ℕ) (found : Option PlacedEntry) → HasFlows k c rs fs → Some (n, left) ≡ reached steps (lines_of rs) → false ≡ eqb (length left) 0 →
-    ((f : Option Placed) → slice_get fs n ≡ Some f → found ≡ entry_within left f) → found ≡ flow_entry_of k c rs steps
-flow_left k c rs fs steps [] n found holds e some told = absurd (false≢true (some ∙ eq-eqb 0 0 refl))
-flow_left k c rs fs steps (t ∷ ts) n found holds e some told =
-    let f = flow_told k c rs fs steps n t ts holds (sym e) in
-    told f.0 f.1 ∙ (f.2 ∙ ap (λ (o : Option (ℕ × List Step)). o >>= λ x. flow_entry_from k c rs x.0 x.1) e)
+pub flow_left : (k : ℕ) (c : Cut) (rs : List Row) (steps left : List Step) (n : ℕ) (q : Seat) (flow : Option Placed) (found : Option PlacedEntry) → seat n rs ≡ Some q →
+    flow ≡ row_flow (length (cut_text c)) q.row (behind_row (k + q.before) c) → found ≡ entry_within left flow → Some (n, left) ≡ reached steps (lines_of rs) → false ≡ eqb (length left) 0 → found ≡ flow_entry_of k c rs steps
+flow_left k c rs steps [] n q flow found is own told e some = absurd (false≢true (some ∙ eq-eqb 0 0 refl))
+flow_left k c rs steps (t ∷ ts) n q flow found is own told e some =
+    told ∙ (ap (entry_within (t ∷ ts)) own ∙ (flow_told k c rs n t ts q is ∙ ap (λ (o : Option (ℕ × List Step)). o >>= λ x. flow_entry_from k c rs x.0 x.1) e))
 
 pub no_flow_left : (k : ℕ) (c : Cut) (rs : List Row) (steps left : List Step) (n : ℕ) → Some (n, left) ≡ reached steps (lines_of rs) → true ≡ eqb (length left) 0 → None ≡ flow_entry_of k c rs steps
 no_flow_left k c rs steps [] n e none = ap (λ (o : Option (ℕ × List Step)). o >>= λ x. flow_entry_from k c rs x.0 x.1) e

@@ -13,7 +13,7 @@ use Rattle.yq_inline.specs.Places.{Placed, placed, nothing, name, text, sequence
 use Rattle.yq_rows.specs.Exchange.{behind_row}
 use Rattle.yq_rows.specs.Rows.{Content, Nothing, Inline, Block, Row, Cut, cut_text}
 use Rattle.yq_tree.specs.EntryReading.{inline_node, placed_inline, flow_entry}
-use Rattle.yq_tree.specs.EntryReading.{entry_within, HasFlows}
+use Rattle.yq_tree.specs.EntryReading.{entry_within}
 use Rattle.yq_documents.specs.FlowReading.{kept, core, content_core, row_flow}
 use Rattle.yq_lines.specs.Group.{group}
 use Rattle.yq_walk.specs.Lines.{tail_of, lines_of}
@@ -83,19 +83,6 @@ mark_seat rs n l e takes = let q = seat_line rs n l e in (q.0, q.1, go q.0 q.2 (
     go s told (inl less) = absurd (dash_takes_none l (told.dash less) takes)
     go s told (inr more) = omega (arith, more, told.within)
 
--- where steps are left, the line is that of its row's mark
-pub reached_seat : (rs : List Row) (steps : List Step) (n : ℕ) (t : Step) (ts : List Step) → reached steps (lines_of rs) ≡ Some (n, t ∷ ts) → MarkSeat rs n
-reached_seat rs [] n t ts e = absurd (cc)
-reached_seat rs (s ∷ ss) n t ts e = go (find s ss (group (lines_of rs))) refl (takes_left s ss (group (lines_of rs))) e
-  where
-    go : (r : Option (Found × List Step)) → find s ss (group (lines_of rs)) ≡ r → If r Takes → option_map {U = ℕ × List Step} (λ (x : Found × List Step). (length (lines_before x.0.place), x.1)) r ≡ Some (n, t ∷ ts) → MarkSeat rs n
-    go None is h e = absurd (cc)
-    go (Some x) is h e =
-        let index : length (lines_before x.0.place) ≡ n = ap (λ y. y.0) (same_Some _ _ e) in
-        let left : x.1 ≡ t ∷ ts = ap (λ y. y.1) (same_Some _ _ e) in
-        let there : slice_get (lines_of rs) (length (lines_before x.0.place)) ≡ Some x.0.line = ap (λ (k : List Line). slice_get k (length (lines_before x.0.place))) (found_lines (lines_of rs) s ss x.1 x.0 is) ∙ middle (lines_before x.0.place) _ x.0.line in
-        mark_seat rs n x.0.line (ap (slice_get (lines_of rs)) (sym index) ∙ there) (subst (TakesLeft x.0.line) left h)
-
 -- the items and entries of a node are those behind its anchor
 core_parts : (total : ℕ) (node : Node) (rest : List ℕ) → parts_of (locate total (core node) rest) ≡ parts_of (locate total node rest)
 unfolding locate
@@ -127,13 +114,9 @@ row_entry total r rest t ts =
     ∙ (kept_entry t ts (locate total (core (inline_node r.content)) (tail_of r.content ++ rest))
     ∙ ap (λ (ps : Parts). option_and_then (placed_entry_at ts) (part_at t ps)) (core_parts total (inline_node r.content) (tail_of r.content ++ rest)))
 
--- what the code holds of the line to which steps lead is what its row says
-pub flow_told : (k : ℕ) (c : Cut) (rs : List Row) (fs : List (Option Placed)) (steps : List Step) (n : ℕ) (t : Step) (ts : List Step) → HasFlows k c rs fs → reached steps (lines_of rs) ≡ Some (n, t ∷ ts) →
-    (f : Option Placed) × (slice_get fs n ≡ Some f) × (entry_within (t ∷ ts) f ≡ flow_entry k c rs n (t ∷ ts))
-flow_told k c rs fs steps n t ts holds e =
-    let q = reached_seat rs steps n t ts e in (
-      row_flow (length (cut_text c)) q.0.row (behind_row (k + q.0.before) c),
-      holds n q.0 q.1 q.2,
-      row_entry (length (cut_text c)) q.0.row (behind_row (k + q.0.before) c) t ts
-          ∙ sym (ap (λ (o : Option Seat). o >>= λ s. placed_entry_at (t ∷ ts) (None, placed_inline (k + s.before) s.row c)) q.1),
-    )
+-- what is told of a row's alias or flow collection tells where steps lead in it
+pub flow_told : (k : ℕ) (c : Cut) (rs : List Row) (n : ℕ) (t : Step) (ts : List Step) (q : Seat) → seat n rs ≡ Some q →
+    entry_within (t ∷ ts) (row_flow (length (cut_text c)) q.row (behind_row (k + q.before) c)) ≡ flow_entry k c rs n (t ∷ ts)
+flow_told k c rs n t ts q is =
+    row_entry (length (cut_text c)) q.row (behind_row (k + q.before) c) t ts
+    ∙ sym (ap (λ (o : Option Seat). o >>= λ s. placed_entry_at (t ∷ ts) (None, placed_inline (k + s.before) s.row c)) is)

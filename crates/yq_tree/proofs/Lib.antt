@@ -1,4 +1,3 @@
-pub mod AllLaws
 pub mod RootPlaceLaws
 pub mod CommentPlaceLaws
 pub mod CommentStandLaws
@@ -6,15 +5,14 @@ pub mod Conditions
 pub mod DocumentLaws
 pub mod RowStarts
 pub mod EntryPlaceLaws
+pub mod FlowEntries
 pub mod FlowPlaceLaws
-pub mod HeldFlows
 pub mod HeadEnds
 pub mod StartLaws
 pub mod EntryPlacedLaws
 pub mod HeldLaws
 pub mod QuietLaws
 pub mod RemarkLaws
-pub mod HeadsApart
 pub mod ReadLaws
 pub mod ExactReading
 pub mod ReadyLaws
@@ -69,7 +67,6 @@ pub mod SeenLaws
 pub mod NodePlaceLaws
 pub mod RowHeads
 pub mod NodeAtLaws
-pub mod KeptLines
 pub mod LastBreakLaws
 pub mod ContentEndLaws
 pub mod FlowToldLaws

@@ -1,16 +1,20 @@
 -- Reading bytes as documents, both ways.
-use Rattle.std.proofs.Common.{◌≡◌, ℕ, List, true, Option, Some, None, sym, ap, ◌∙◌, subst}
-use Rattle.std.proofs.lemmas.Bool.{cond-true}
+use Rattle.std.proofs.Common.{◌≡◌, ℕ, List, true, false, Option, Some, None, refl, sym, ap, ◌∙◌, subst}
+use Rattle.std.proofs.lemmas.Bool.{cond-true, cond-false}
 use Rattle.std.proofs.lemmas.Option.{cond_some, none-some, same_Some}
 use Rattle.std.specs.Str.{is_utf8}
-use Rattle.yq_scalar.specs.Answers.{◌>>=◌}
+use Rattle.yq_scalar.specs.Answers.{◌>>=◌, Fails}
+use Rattle.yq_scalar.specs.declared.fault.ReadError.{ReadError}
+use Rattle.yq_scalar.specs.declared.fault.ReadError.TheVariants as errors
 use Rattle.yq_scalar.proofs.Bools.{bind_some, guard_then}
 use Rattle.yq_rows.specs.Grammar.{IsCut}
+use Rattle.yq_rows.specs.Lending.{shown_read}
 use Rattle.yq_rows.specs.Reading.{scan_at}
 use Rattle.yq_rows.specs.Rows.{Cut}
 use Rattle.yq_rows.proofs.ScanLaws.{scan_takes, scan_again}
 use Rattle.yq_documents.specs.Documents.{Document, document_parts, Reads}
 use Rattle.yq_documents.specs.Reading.{documents, all_documents, checked, text_at, read_at, cut_or, cut_of}
+use Rattle.yq_reading.specs.Deciding.{Denies}
 use Rattle.yq_tree.proofs.DocumentLaws.{documents_take, documents_again}
 
 -- a text and its cut, whose parts stand for documents
@@ -29,6 +33,26 @@ text_again t c h e = ap (λ o. o >>= checked) (scan_again t c h) ∙ cond-true _
 pub cut_is : (t : List ℕ) (c : Cut) → IsCut t c → cut_of t ≡ c
 unfolding cut_of
 cut_is t c h = ap cut_or (scan_again t c h)
+
+-- a text that is read has its own cut
+pub text_read : (t : List ℕ) (c : Cut) → IsCut t c → all_documents c ≡ true → text_at t ≡ Some (cut_of t)
+text_read t c h e = text_again t c h e ∙ ap Some (sym (cut_is t c h))
+
+-- a text without a cut
+not_cut : (o : Option Cut) → shown_read o ≡ None → (o >>= checked) ≡ None
+not_cut (Some c) h = cc
+not_cut None h = refl
+
+pub scan_fails : (t : List ℕ) (e : ReadError) → Fails e (shown_read (scan_at t)) → Fails e (text_at t)
+unfolding text_at
+scan_fails t errors.Memory h = tt
+scan_fails t (errors.Fault f) h = not_cut (scan_at t) h
+
+-- a text with parts that stand for no documents
+pub text_denied : (t : List ℕ) (c : Cut) (e : ReadError) → IsCut t c → Denies e (all_documents c) → Fails e (text_at t)
+unfolding text_at
+text_denied t c errors.Memory h no = tt
+text_denied t c (errors.Fault f) h no = ap (λ o. o >>= checked) (scan_again t c h) ∙ cond-false _ _ _ no
 
 pub read_takes : (bytes : List ℕ) (c : Cut) → read_at bytes ≡ Some c → Reads bytes (documents c)
 unfolding read_at

@@ -1,6 +1,6 @@
 -- Reading (own; a reader may skip it): where lines, entries and contents begin and end, by the rows of a text and their pieces, as the code counts.
 use Rattle.yq_walk.specs.Extents.{dash_at}
-use Rattle.std.specs.Prelude.{ℕ, suc, ◌+◌, ◌-◌, ◌==◌, List, [], ◌∷◌, ◌++◌, length, replicate, slice_get, take, Option, Some, None, is_some, option_map, option_and_then, if◌then◌else◌, ◌≡◌}
+use Rattle.std.specs.Prelude.{ℕ, suc, ◌+◌, ◌-◌, ◌==◌, List, [], ◌∷◌, ◌++◌, length, replicate, slice_get, take, Option, Some, None, is_some, option_map, option_and_then, if◌then◌else◌}
 use Rattle.yq_scalar.specs.Answers.{◌>>=◌}
 use Rattle.yq_scalar.specs.Paths.{Step}
 use Rattle.yq_scalar.specs.Text.{is_empty, joined}
@@ -17,9 +17,8 @@ use Rattle.yq_walk.specs.Extents.{head_place}
 use Rattle.yq_walk.specs.Lines.{tail_of, lines_of}
 use Rattle.yq_documents.specs.Located.{steps_of}
 use Rattle.yq_lines.specs.Ends.{line_of, reached, lines_end}
-use Rattle.yq_documents.specs.Seats.{seat, document_row, Seat}
+use Rattle.yq_documents.specs.Seats.{seat, document_row}
 use Rattle.yq_lines.specs.Spots.{is_bare}
-use Rattle.yq_documents.specs.FlowReading.{row_flow}
 use Rattle.yq_documents.specs.RowReading.{begins_block}
 use Rattle.yq_tree.specs.PrintedLines.{less_break}
 
@@ -149,7 +148,3 @@ head_finish end s = if begins_block s.head then end + length s.tail + length s.r
 -- the item or entry to which steps lead in an alias or flow collection, if there is one
 abbrev pub entry_within : List Step → Option Placed → Option PlacedEntry
 entry_within steps flow = flow >>= λ p. placed_entry_at steps (None, p)
-
--- line by line, these are the aliases and flow collections in the heads of rows, before which k rows of a cut stand
-abbrev pub HasFlows : ℕ → Cut → List Row → List (Option Placed) → Type 0
-HasFlows k c rs fs = (n : ℕ) (s : Seat) → seat n rs ≡ Some s → s.line ≡ length s.row.dashes → slice_get fs n ≡ Some (row_flow (length (cut_text c)) s.row (behind_row (k + s.before) c))

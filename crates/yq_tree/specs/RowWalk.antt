@@ -1,8 +1,6 @@
 -- Reading (own; a reader may skip it): the rows of documents among those of a cut, and items that stay known in other cuts.
 use Rattle.std.specs.Prelude.{◌≡◌, ℕ, zero, suc, Bool, true, false, ◌+◌, nat_eq, List, [], ◌∷◌, ◌++◌, length, drop, slice_get, Option, Some, None, option_map}
-use Rattle.yq_inline.specs.Places.{Placed}
 use Rattle.yq_lines.specs.Ends.{is_end, part}
-use Rattle.yq_lines.specs.Outline.{Line}
 use Rattle.yq_rows.specs.Grammar.{IsCut, begins_document}
 use Rattle.yq_rows.specs.Rows.{Row, Cut}
 use Rattle.yq_rows.specs.Touched.{TouchesOnly}
@@ -11,7 +9,6 @@ use Rattle.yq_documents.specs.Documents.{document_parts}
 use Rattle.yq_walk.specs.Lines.{lines_of}
 use Rattle.yq_documents.specs.Reading.{all_documents, cut_of}
 use Rattle.yq_documents.specs.Seats.{document_row}
-use Rattle.yq_tree.specs.EntryReading.{HasFlows}
 use Rattle.yq_walk.specs.RowWalk.{IsKnown, AreKnown, HasDocument, line_number}
 use Rattle.yq_walk.specs.declared.spot.KnownItem.{KnownItem}
 use Rattle.yq_walk.specs.declared.spot.KnownItems.{KnownItems}
@@ -25,15 +22,6 @@ StaysKnown front c k = (new : Cut) (back : ℕ) → TouchesOnly front back c new
 -- The same of several items.
 abbrev pub StayKnown : ℕ → Cut → KnownItems → Type 0
 StayKnown front c ks = (new : Cut) (back : ℕ) → TouchesOnly front back c new → AreKnown (shown new).rows ks
-
--- The lines that are kept of a document are those of its rows.
-pub record HasLines (s : Shown) (d : Stretch) (ls : List Line) : Type 0 where
-  pub document : HasDocument s d
-  pub lines : ls ≡ lines_of document.stand.rows
-
--- What is said of lines that are kept, and of what stands in flow in them, is so of the rows of the document, among those of a cut.
-abbrev pub HeldAs : Shown → Stretch → List Line → List (Option Placed) → (ℕ → Cut → List Row → Type 0) → Type 0
-HeldAs s d ls fs said = (k : ℕ) (c : Cut) (h : HasDocument s d) → ls ≡ lines_of h.stand.rows → HasFlows k c h.stand.rows fs → said k c h.stand.rows
 
 -- these numbers of document n, by where parts end: k rows stand before the first of them, of which it is known whether it is a document
 abbrev pub begin_rows : Bool → ℕ → ℕ → List Bound → Option (ℕ × ℕ)

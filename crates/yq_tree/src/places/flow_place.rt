@@ -1,41 +1,17 @@
 //! Where items and entries stand in flow collections, and their contents.
-ghost use Rattle.std.specs.Prelude.{◌≡◌, map, option_map, slice_get, Some};
+ghost use Rattle.std.specs.Prelude.{◌≡◌, map, option_map};
 ghost use Rattle.yq_inline.specs.Entries.{content_place, entry_place, entry_view, step_of};
-ghost use Rattle.yq_tree.specs.EntryReading as spec;
-ghost use Rattle.yq_walk.specs.Extents.{IsShown};
-ghost use Rattle.yq_walk.specs.RowWalk.{AreKnown, HasRows, IsLine, line_number};
-ghost use Rattle.yq_tree.specs.RowWalk.{HasLines, HeldAs};
-ghost use Rattle.yq_walk.specs.Lines.{lines_of};
+ghost use Rattle.yq_lines.specs.View.{head_flow};
+ghost use Rattle.yq_documents.specs.Made.{told_flow};
 ghost use Rattle.yq_documents.specs.Pieces.{span};
 ghost use Rattle.yq_documents.specs.Reading.{cut_of};
-ghost use Rattle.yq_lines.specs.View.{flows, head_flow, views};
+ghost use Rattle.yq_tree.specs.EntryReading as spec;
 
 use crate::document::Documents;
-use yq_documents::{Path, Span};
+use yq_documents::{Made, Path, Span};
 use yq_inline::{Entry, Step};
-use yq_lines::{Head, Line};
-use yq_rows::Rows;
-use yq_walk::{KnownItems, Spot, Stretch, lines_before_mark, reach};
-
-/// The line of a document at a spot, of those that are kept.
-fn line_kept<'d, 't>(
-    rows: &Rows<'_>,
-    document: Stretch,
-    lines: &'d [Line<'t>],
-    at: Spot,
-) -> &'d Line<'t>
-    requires lines { HasLines rows.now document (views lines.now) }
-    requires at { IsLine rows.now document at }
-    ensures { (h : HasRows rows.now document) → views lines.now ≡ lines_of h.rows →
-        slice_get (flows lines.now) (line_number document h.rows at) ≡ Some (head_flow result.now.head) }
-{
-    let mut count = 0;
-    'rows: for row in document.first..at.row {
-        let dashes = lines_before_mark(rows, row);
-        count = count + dashes + 1;
-    }
-    &lines[count + at.line]
-}
+use yq_lines::Head;
+use yq_walk::reach;
 
 /// The item or entry to which steps lead in a head.
 fn head_entry<'d, 't>(head: &'d Head<'t>, steps: &[Step]) -> Option<Entry<'d, 't>>
@@ -64,27 +40,15 @@ pub(crate) fn content_span(entry: &Entry<'_, '_>) -> Option<Span>
     Some(Span { start, end })
 }
 
-/// The item or entry of a flow collection to which steps lead, if they lead to one.
-fn flow_entry<'d, 't>(
-    rows: &Rows<'_>,
-    document: Stretch,
-    known: KnownItems,
-    lines: &'d [Line<'t>],
-    steps: &[Step],
-) -> Option<Entry<'d, 't>>
-    requires shown { IsShown rows.now }
-    requires lines { HasLines rows.now document (views lines.now) }
-    requires known { AreKnown rows.now.rows known }
-    ensures { HeldAs rows.now document (views lines.now) (flows lines.now)
-        (λ k c rs. option_map entry_view result ≡
-        spec.flow_entry_of k c rs (map step_of steps.now)) }
+/// The item or entry to which steps lead in what is made of a row.
+fn made_entry<'d, 't>(made: Option<&'d Made<'t>>, steps: &[Step]) -> Option<Entry<'d, 't>>
+    ensures { option_map entry_view result ≡
+        spec.entry_within (map step_of steps.now) (told_flow (option_map (λ m. m.now) made.entry)) }
 {
-    let (at, left) = reach(rows, document, known, steps)?;
-    if left.is_empty() {
-        return None;
+    match &made?.head {
+        Some(head) => head_entry(head, steps),
+        None => None,
     }
-    let line = line_kept(rows, document, lines, at);
-    head_entry(&line.head, left)
 }
 
 impl<'t> Documents<'t> {
@@ -95,7 +59,10 @@ impl<'t> Documents<'t> {
         let cut = self.cut();
         let _whole = cut.whole();
         let document = cut.stretch(path.doc)?;
-        let lines = self.documents[path.doc].lines.lines();
-        flow_entry(cut.rows(), document, cut.known(), lines, &path.steps)
+        let (at, left) = reach(cut.rows(), document, cut.known(), &path.steps)?;
+        if left.is_empty() {
+            return None;
+        }
+        made_entry(self.read.made(at.row), left)
     }
 }

@@ -33,6 +33,7 @@ impl<'t> Documents<'t> {
         ensures cut { IsCut self.now (cut_of self.now) }
         ensures documents { all_documents (cut_of self.now) ≡ true }
     {
-        self.text
+        let _rows = self.read.rows();
+        self.read.text()
     }
 }
