@@ -11,7 +11,7 @@ use Rattle.yq_documents.specs.Documents.{has_begin, begins_bare}
 use Rattle.yq_documents.specs.PartReading.{some_begin, first_rows}
 
 -- what stands at an index, and behind it
-drop_step : {X : Type 0} (xs : List X) (i : ℕ) (x : X) → slice_get xs i ≡ Some x → drop i xs ≡ x ∷ drop (i + 1) xs
+pub drop_step : {X : Type 0} (xs : List X) (i : ℕ) (x : X) → slice_get xs i ≡ Some x → drop i xs ≡ x ∷ drop (i + 1) xs
 drop_step xs i x h = drop_more xs i x (slice_get_within xs i x h) ∙ ap (λ y. y ∷ drop (i + 1) xs) (get_or_from_slice_get xs i x x h)
 
 -- a marker that is `---`, among others

@@ -25,7 +25,7 @@ use Rattle.yq_documents.specs.Seats.{rows_before, document_row}
 use Rattle.yq_documents.specs.Stretches.{HasText, IsLineIn, IsSpotIn, OfLineIn, document_lines, document_rows, number_of, part_rows}
 
 -- a document's rows stand among those of a cut, behind so many others
-begins : (is : Bool) (n : ℕ) (c : Cut) (p : Part) → slice_get (parts_from is c) n ≡ Some p → (more : List Row) × (drop (rows_before is n c) (rows_of c) ≡ p.rows ++ more)
+pub begins : (is : Bool) (n : ℕ) (c : Cut) (p : Part) → slice_get (parts_from is c) n ≡ Some p → (more : List Row) × (drop (rows_before is n c) (rows_of c) ≡ p.rows ++ more)
 begins true zero (last q) p e = let same : q ≡ p = cc in ([], ap (λ (x : Part). x.rows) same ∙ sym (append-nil p.rows))
 begins true (suc n) (last q) p e = absurd (cc)
 begins false n (last q) p e = absurd (cc)
@@ -84,7 +84,7 @@ get_drop [] (suc k) j = refl
 get_drop (x ∷ xs) (suc k) j = let more : suc (k + j) ≡ suc k + j = omega arith in get_drop xs k j ∙ ap (slice_get (x ∷ xs)) more
 
 -- the document of a text with its cut
-document_has : (t : List ℕ) (s : Shown) (c : Cut) (n : ℕ) (p : Part) (d : Stretch) → IsCut t c → all_documents c ≡ true → s ≡ shown c → slice_get (document_parts c) n ≡ Some p → d.first ≡ document_row n c → d.end ≡ document_row n c + length p.rows →
+pub document_has : (t : List ℕ) (s : Shown) (c : Cut) (n : ℕ) (p : Part) (d : Stretch) → IsCut t c → all_documents c ≡ true → s ≡ shown c → slice_get (document_parts c) n ≡ Some p → d.first ≡ document_row n c → d.end ≡ document_row n c + length p.rows →
     (h : HasDocument s d) × (h.stand.rows ≡ p.rows)
 document_has t s c n p d cut sound is at first end =
     let b = begins (begins_bare c || not (has_begin c)) n c p at in

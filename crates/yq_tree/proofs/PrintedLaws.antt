@@ -12,7 +12,7 @@ use Rattle.yq_rows.specs.View.{content_cut}
 use Rattle.yq_rows.specs.Rows.{Content, Nothing, Inline, Block, content_text, mark_text, dashes_text, behind_gap, Row, rows_text, Part, Cut, last, marked, cut_text}
 use Rattle.yq_documents.specs.Documents.{parts_from}
 use Rattle.yq_walk.specs.Lines.{head_of, tail_of, dash_line, lines_from, lines_of}
-use Rattle.yq_documents.proofs.RowLineLaws.{no_comments}
+use Rattle.yq_walk.proofs.RowLaws.{no_comments}
 use Rattle.yq_tree.specs.PrintedLines.{behind_front, PrintedLine, print_lines, printed_from, printed_row, printed_lines, line_in}
 use Rattle.yq_tree.specs.PathPieces.{PrintedDocument, printed_part}
 use Rattle.yq_tree.proofs.CommentPieceLaws.{Ended, content_end, gap_end}

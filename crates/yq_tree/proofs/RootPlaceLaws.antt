@@ -26,7 +26,7 @@ use Rattle.yq_tree.specs.RootReading.{part_number, if_unwritten, unwritten_place
 use Rattle.yq_tree.specs.Standings.{NoRows}
 use Rattle.yq_tree.proofs.CommentPieceLaws.{gap_end}
 use Rattle.yq_walk.proofs.LengthLaws.{part-length}
-use Rattle.yq_documents.proofs.PartsLinedLaws.{document_is}
+use Rattle.yq_documents.proofs.BeginLaws.{document_is}
 use Rattle.yq_tree.proofs.PlacedPartLaws.{map_some, part_stands}
 use Rattle.yq_tree.proofs.PlacedRowLaws.{part_of, document_placed}
 use Rattle.yq_tree.proofs.RemovalLines.{LineSeam, lies_in, seam_join}

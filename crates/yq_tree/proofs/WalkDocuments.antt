@@ -14,7 +14,8 @@ use Rattle.yq_rows.specs.View.{slices, Bound, bounds_from, rows_of, Shown, shown
 use Rattle.yq_documents.specs.Documents.{parts_from, document_parts, begins_bare, has_begin}
 use Rattle.yq_walk.specs.Lines.{row_lines, lines_of}
 use Rattle.yq_documents.specs.PartReading.{some_begin, first_rows}
-use Rattle.yq_documents.proofs.PartsLinedLaws.{document_is}
+use Rattle.yq_documents.proofs.BeginLaws.{document_is}
+use Rattle.yq_documents.proofs.WalkedRows.{document_has}
 use Rattle.yq_walk.proofs.RowLaws.{lines_count}
 use Rattle.yq_documents.specs.Seats.{behind_one, seat, seat_of, seat_at, rows_before, document_row}
 use Rattle.yq_documents.specs.declared.path.Path.{Path}
@@ -74,62 +75,6 @@ rows_told c s n is =
     ∙ (ap (λ (x : Shown). begin_rows first n 0 x.bounds) is
     ∙ (begun first n 0 c ∙ ap (λ (k : ℕ). option_map (pair k) (slice_get (document_parts c) n)) (omega arith)))
 
--- the rows of a part are rows
-part_rows : (started is : Bool) (n : ℕ) (c : Cut) (p : Part) → AreParts started c → slice_get (parts_from is c) n ≡ Some p → (rest : List ℕ) × AreRows unlimited p.rows p.end rest
-part_rows started true zero (last q) p h e = ([], subst (λ (x : Part). AreRows unlimited x.rows x.end []) (same_Some _ _ e) h.rows)
-part_rows started true (suc n) (last q) p h e = absurd (cc)
-part_rows started false n (last q) p h e = absurd (cc)
-part_rows started true zero (marked q marker c) p h e = (marker ++ cut_text c, subst (λ (x : Part). AreRows unlimited x.rows x.end (marker ++ cut_text c)) (same_Some _ _ e) h.0.rows)
-part_rows started true (suc n) (marked q marker c) p h e = part_rows (begins_document marker) (begins_document marker) n c p h.2 e
-part_rows started false n (marked q marker c) p h e = part_rows (begins_document marker) (begins_document marker) n c p h.2 e
-
--- no more rows stand before a document than there are
-before_within : (is : Bool) (n : ℕ) (c : Cut) → rows_before is n c ≤ length (rows_of c)
-before_within true zero c = omega arith
-before_within true (suc n) (last q) = omega arith
-before_within false n (last q) = omega arith
-before_within true (suc n) (marked q marker c) = omega (arith, before_within (begins_document marker) n c, length-append q.rows (rows_of c))
-before_within false n (marked q marker c) = omega (arith, before_within (begins_document marker) n c, length-append q.rows (rows_of c))
-
--- a document's lines are sound
-sound_part : (p : Part) → is_document p ≡ true → is_sound depth_limit (group (lines_of p.rows)) ≡ true
-sound_part p e =
-    let fit = and_parts (have_fit_keys p.rows) _ e in
-    let short = and_parts (has_short_root p.rows) _ fit.1 in
-    let one = and_parts (have_one_anchor_each (lines_of p.rows)) _ short.1 in
-    (and_parts (are_bound [] (names_of (root_of p))) _ one.1).1
-
--- the document of a text with its cut
-pub document_has : (t : List ℕ) (s : Shown) (c : Cut) (n : ℕ) (p : Part) (d : Stretch) → IsCut t c → s ≡ shown c → slice_get (document_parts c) n ≡ Some p → d.first ≡ document_row n c → d.end ≡ document_row n c + length p.rows → all_documents c ≡ true →
-    (h : HasDocument s d) × (h.stand.rows ≡ p.rows)
-document_has t s c n p d cut is at first end walk =
-    let b = part_begins c n p at in
-    let v = part_rows true (begins_bare c || not (has_begin c)) n c p cut.parts at in
-    let k : ℕ = document_row n c in
-    let size : d.end - d.first ≡ length p.rows = omega (arith, first, end) in
-    let there : drop d.first s.rows ≡ map slices p.rows ++ map slices b.0 =
-    (λ i. drop (first i) (is i).rows) ∙ (drop-map slices k (rows_of c) ∙ (ap (map slices) b.1 ∙ map-append slices p.rows b.0)) in
-    let pieces : take (d.end - d.first) (drop d.first s.rows) ≡ map slices p.rows =
-    (λ i. take (size i) (there i)) ∙ take_at (map slices p.rows) (map slices b.0) (length p.rows) (length-map p.rows slices) in
-    let long : length s.rows - d.first ≡ length p.rows + length b.0 = sym (length-drop d.first s.rows) ∙ (ap length there ∙ (length-append (map slices p.rows) (map slices b.0) ∙ (λ i. length-map p.rows slices i + length-map b.0 slices i))) in
-    let all : length s.rows ≡ length (rows_of c) = ap (λ (x : Shown). length x.rows) is ∙ length-map (rows_of c) slices in
-    let upto : k ≤ length (rows_of c) = before_within (begins_bare c || not (has_begin c)) n c in (
-      record {
-        stand = record {
-          rows = p.rows;
-          limit = unlimited;
-          end = p.end;
-          rest = v.0;
-          order = omega (arith, first, end);
-          within = omega (arith, first, end, long, all, upto);
-          pieces = pieces;
-          valid = v.1;
-        };
-        sound = sound_part p (each (document_parts c) walk n p at);
-      },
-      refl,
-    )
-
 -- the line of a number, by its row
 pub seat_number : (rs : List Row) (i k : ℕ) (r : Row) → slice_get rs i ≡ Some r → k ≤ length r.dashes → seat (length (lines_of (take i rs)) + k) rs ≡ Some (record { before = i; row = r; line = k })
 seat_number [] i k r e h = absurd (cc)
@@ -164,7 +109,7 @@ found_document t s c n d cut is e known = go (slice_get (document_parts c) n) re
     go None at e = absurd (cc)
     go (Some p) at e =
         let same : (d.first, d.end) ≡ (document_row n c, document_row n c + length p.rows) = same_Some _ _ e in
-        let x = document_has t s c n p d cut is at (ap (λ (y : ℕ × ℕ). y.0) same) (ap (λ (y : ℕ × ℕ). y.1) same) known in
+        let x = document_has t s c n p d cut known is at (ap (λ (y : ℕ × ℕ). y.0) same) (ap (λ (y : ℕ × ℕ). y.1) same) in
         record { part = p; there = at; first = ap (λ (y : ℕ × ℕ). y.0) same; document = x.0; rows = x.1 }
 
 -- its rows stand among those of the cut

@@ -2,7 +2,7 @@ use Rattle.std.proofs.Common.{◌∙◌, ◌+◌, drop, sym, ap}
 use Rattle.yq_rows.specs.Grammar.{begins_document}
 use Rattle.yq_rows.specs.View.{bound_view}
 use Rattle.yq_tree.specs.RootReading.{part_number}
-use Rattle.yq_documents.proofs.PartLineLaws.{drop_step}
+use Rattle.yq_documents.proofs.BeginLaws.{drop_step}
 use Rattle.yq_tree.proofs.RootPlaceLaws.{part_here, part_later}
 use Rattle.yq_tree.proofs.places.root_standing.part_number.Goals as goal
 
