@@ -37,9 +37,8 @@ use Rattle.yq_change.specs.TextPieces.{IsPiece}
 use Rattle.yq_change.proofs.ContentLaws.{content_named}
 use Rattle.yq_change.proofs.LineLaws.{row_count}
 use Rattle.yq_change.proofs.NodeLineLaws.{under_even}
-use Rattle.yq_change.proofs.RemovalPieceLaws.{piece_back}
 use Rattle.yq_change.proofs.StandingMarks.{even_there, row_there, under_it}
-use Rattle.yq_change.proofs.TextPieceLaws.{text_is_piece}
+use Rattle.yq_change.proofs.TextPieceLaws.{piece_back, text_is_piece}
 use Rattle.yq_change.proofs.UnderLaws.{line_is, under_is}
 use Rattle.yq_edits.proofs.BreakLaws.{IsLfOrCrLf, last_is}
 use Rattle.yq_edits.proofs.BrokenTails.{other_comment, other_tail, quiet_tail}

@@ -18,7 +18,7 @@ use Rattle.yq_documents.specs.Documents.{lead_of}
 use Rattle.yq_tree.specs.FirstPlaces.{are_spaces, less_spaces}
 use Rattle.yq_walk.specs.Lines.{lines_from, lines_of}
 use Rattle.yq_documents.specs.Reading.{outline_of, root_of}
-use Rattle.yq_documents.proofs.RowLineLaws.{no_comments}
+use Rattle.yq_walk.proofs.RowLaws.{no_comments}
 use Rattle.yq_tree.specs.RowPaths.{IsReadable}
 use Rattle.yq_tree.proofs.RemovalTexts.{texts_then}
 use Rattle.yq_change.specs.Appends.{inserted}

@@ -53,8 +53,8 @@ use Rattle.yq_change.proofs.PartLaws.{document_known, part_rows}
 use Rattle.yq_change.proofs.PathLaws.{path_is_entry}
 use Rattle.yq_change.proofs.PlaceTextLaws.{IsAround, around}
 use Rattle.yq_change.proofs.RemovalChangeLaws.{snoc, may_go, FirstEntry, first_group, group_begins, keeps, root_entries}
-use Rattle.yq_change.proofs.RemovalPieceLaws.{piece_back, spaces_piece}
-use Rattle.yq_change.proofs.TextPieceLaws.{cut_behind, pieces_joined, text_is_piece}
+use Rattle.yq_change.proofs.RemovalPieceLaws.{spaces_piece}
+use Rattle.yq_change.proofs.TextPieceLaws.{cut_behind, piece_back, pieces_joined, text_is_piece}
 
 -- bytes that end the last one of rows (own)
 abbrev pub EndLastRow : List ℕ → List Row → Type 0

@@ -20,10 +20,9 @@ use Rattle.yq_tree.proofs.LineEndLaws.{line_tail, tail_is_end}
 use Rattle.yq_tree.proofs.RunSpans.{rows_then}
 use Rattle.yq_change.specs.StandingLaws.{HeldSpells, HoldsPieces, StandsThere}
 use Rattle.yq_change.specs.TextPieces.{IsPiece}
-use Rattle.yq_change.proofs.RemovalPieceLaws.{piece_back}
 use Rattle.yq_change.proofs.StandingMarks.{entry_there, row_there, rows_ended_there}
 use Rattle.yq_change.proofs.StandingRows.{rows_stand}
-use Rattle.yq_change.proofs.TextPieceLaws.{line_cut, text_is_piece}
+use Rattle.yq_change.proofs.TextPieceLaws.{line_cut, piece_back, text_is_piece}
 use Rattle.yq_edits.proofs.BreakLaws.{IsLfOrCrLf, break_is, last_is}
 use Rattle.yq_edits.proofs.CommentRowLaws.{entry_row}
 use Rattle.yq_edits.proofs.HeldCuts.{EndsIn, anchor_cut, anchor_ends, break_is_piece, dashes_end, ends_behind, last_of, less_piece, low_last, mark_ends, space_white}
