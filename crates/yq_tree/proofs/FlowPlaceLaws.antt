@@ -1,7 +1,6 @@
 -- The items and entries to which steps lead in a head are those of its row.
-use Rattle.std.proofs.Common.{◌≡◌, ◌⊎◌, inl, inr, ℕ, ◌+◌, ◌<◌, ◌≤◌, List, [], ◌∷◌, ◌++◌, length, Option, Some, None, option_map, option_and_then, true, refl, sym, ap, ◌∙◌, subst, arith}
+use Rattle.std.proofs.Common.{◌≡◌, ◌⊎◌, inl, inr, ℕ, ◌+◌, ◌<◌, ◌≤◌, List, [], ◌∷◌, ◌++◌, length, Option, Some, None, option_map, option_and_then, true, refl, sym, ap, ◌∙◌, arith}
 use Rattle.std.proofs.lemmas.Bool.{cases_lt, false≢true}
-use Rattle.std.proofs.lemmas.Option.{same_Some}
 use Rattle.std.specs.List.{slice_get}
 use Rattle.std.specs.Prelude.{is_some}
 use Rattle.yq_scalar.specs.Answers.{◌>>=◌}
@@ -15,17 +14,13 @@ use Rattle.yq_rows.specs.Rows.{Content, Nothing, Inline, Block, Row, Cut, cut_te
 use Rattle.yq_tree.specs.EntryReading.{inline_node, placed_inline, flow_entry}
 use Rattle.yq_tree.specs.EntryReading.{entry_within}
 use Rattle.yq_documents.specs.FlowReading.{kept, core, content_core, row_flow}
-use Rattle.yq_lines.specs.Group.{group}
 use Rattle.yq_walk.specs.Lines.{tail_of, lines_of}
 use Rattle.yq_lines.specs.Outline.{Mark, Bare, Key, Dash, Line, Outline, end, row}
-use Rattle.yq_lines.specs.Places.{here, lines_before, Found, find_row, inside, bare_or, in_head, find}
-use Rattle.yq_lines.specs.Ends.{reached}
+use Rattle.yq_lines.specs.Places.{here, Found, find_row, inside, bare_or, in_head, find}
 use Rattle.yq_documents.specs.Seats.{Seat, seat}
 use Rattle.yq_lines.specs.Spots.{is_bare}
-use Rattle.yq_tree.proofs.RowPathLaws.{found_lines}
 use Rattle.yq_tree.proofs.SeatLineLaws.{Tells, seat_line}
 use Rattle.yq_lines.proofs.Values.{If}
-use Rattle.yq_tree.proofs.FoundLines.{middle}
 
 -- a line in whose head steps may go on: a node itself, or a line that has a head
 abbrev pub TakesSteps : Line → Type 0

@@ -1,16 +1,15 @@
 -- The rows of documents among those of a text.
-use Rattle.std.proofs.Common.{◌≡◌, ℕ, zero, suc, ◌+◌, ◌-◌, ◌<◌, ◌≤◌, eqb, List, [], ◌∷◌, ◌++◌, length, map, take, drop, Option, Some, None, option_map, Bool, true, false, cond, ◌&&◌, ◌||◌, not, refl, sym, ap, ◌∙◌, subst, arith, length-append}
-use Rattle.std.proofs.lemmas.Bool.{and_parts, eq-eqb, eqb-true, lt-ltb, le-ltb, cond-true, cond-false, false≢true}
-use Rattle.std.proofs.lemmas.List.{drop-map, length-map, length-drop, take_at, map-append}
+use Rattle.std.proofs.Common.{◌≡◌, ℕ, zero, suc, ◌+◌, ◌-◌, ◌<◌, ◌≤◌, eqb, List, [], ◌∷◌, ◌++◌, length, take, drop, Option, Some, None, option_map, Bool, true, false, cond, ◌&&◌, ◌||◌, not, refl, sym, ap, ◌∙◌, arith, length-append}
+use Rattle.std.proofs.lemmas.Bool.{eq-eqb, eqb-true, lt-ltb, le-ltb, cond-true, cond-false, false≢true}
 use Rattle.std.proofs.lemmas.Option.{same_Some}
 use Rattle.std.specs.List.{slice_get}
 use Rattle.yq_lines.specs.Comments as comments
 use Rattle.yq_scalar.specs.Answers.{◌>>=◌}
 use Rattle.yq_scalar.specs.Paths.{Step}
 use Rattle.yq_lines.specs.Ends.{line_of}
-use Rattle.yq_rows.specs.Grammar.{IsCut, unlimited, AreRows, AreParts, begins_document}
-use Rattle.yq_rows.specs.Rows.{Row, Part, Cut, last, marked, cut_text}
-use Rattle.yq_rows.specs.View.{slices, Bound, bounds_from, rows_of, Shown, shown}
+use Rattle.yq_rows.specs.Grammar.{IsCut, begins_document}
+use Rattle.yq_rows.specs.Rows.{Row, Part, Cut, last, marked}
+use Rattle.yq_rows.specs.View.{Bound, bounds_from, rows_of, Shown, shown}
 use Rattle.yq_documents.specs.Documents.{parts_from, document_parts, begins_bare, has_begin}
 use Rattle.yq_walk.specs.Lines.{row_lines, lines_of}
 use Rattle.yq_documents.specs.PartReading.{some_begin, first_rows}
@@ -20,17 +19,11 @@ use Rattle.yq_walk.proofs.RowLaws.{lines_count}
 use Rattle.yq_documents.specs.Seats.{behind_one, seat, seat_of, seat_at, rows_before, document_row}
 use Rattle.yq_documents.specs.declared.path.Path.{Path}
 use Rattle.yq_documents.specs.Located.{steps_of}
-use Rattle.yq_inline.specs.Inline.{depth_limit}
-use Rattle.yq_scalar.specs.Anchors.{names_of}
-use Rattle.yq_lines.specs.Group.{group}
-use Rattle.yq_lines.specs.LinesReading.{have_one_anchor_each, are_bound}
-use Rattle.yq_lines.specs.Sound.{is_sound}
-use Rattle.yq_documents.specs.Reading.{all_documents, is_document, have_fit_keys, has_short_root, root_of}
+use Rattle.yq_documents.specs.Reading.{all_documents}
 use Rattle.yq_walk.specs.RowWalk.{HasDocument, stretch_told}
 use Rattle.yq_tree.specs.RowWalk.{InCut, begin_rows, document_rows}
 use Rattle.yq_tree.specs.SeatReading.{Numbers, numbers}
 use Rattle.yq_walk.specs.declared.spot.Stretch.{Stretch}
-use Rattle.yq_tree.proofs.FoundLines.{each}
 use Rattle.yq_tree.proofs.SeatLaws.{part_begins}
 
 -- part after part
