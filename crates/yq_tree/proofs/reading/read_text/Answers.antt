@@ -1,3 +1,5 @@
+use Rattle.std.proofs.Common.{Some, sym, ap, ◌∙◌}
+use Rattle.yq_documents.specs.Reading.{cut_of}
 use Rattle.yq_tree.proofs.ReadLaws.{scan_fails, text_denied, text_read}
 use Rattle.yq_tree.proofs.reading.read_text.Goals as goal
 
@@ -7,7 +9,7 @@ returns-in-Err-clause-exact c = scan_fails c.args.text.now c.in-Err.e c.in-Err.e
 pub returns-in-Ok-read_rows-clause-exact : goal.returns-in-Ok-read_rows-clause-exact
 returns-in-Ok-read_rows-clause-exact c =
     let f = c.in-Ok.ensures.found in
-    text_read c.args.text.now f.0 f.1 (c.in-Ok-read_rows.ensures.documents f.0 f.1)
+    text_read c.args.text.now f.0 f.1 (c.in-Ok-read_rows.ensures.documents f.0 f.1) ∙ ap (λ x. Some (cut_of x)) (sym c.in-Ok-read_rows.ensures.text)
 
 pub returns-in-Err-read_rows-clause-exact : goal.returns-in-Err-read_rows-clause-exact
 returns-in-Err-read_rows-clause-exact c =
