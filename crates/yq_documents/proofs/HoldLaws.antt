@@ -19,7 +19,7 @@ use Rattle.yq_documents.specs.Reading.{all_documents, cut_of, document_of, docum
 use Rattle.yq_documents.specs.Stretches.{HasText, document_lines, part_rows, stretch_of}
 use Rattle.yq_documents.specs.declared.made.Made.{Made}
 use Rattle.yq_documents.specs.declared.read_text.DocumentRows.{DocumentRows}
-use Rattle.yq_documents.proofs.WalkedRows.{has_part}
+use Rattle.yq_documents.proofs.PartRows.{has_part}
 
 same_stretch : (x y : Stretch) → x.first ≡ y.first → x.end ≡ y.end → x ≡ y
 same_stretch x y a b = λ i. record { first = a i; end = b i }

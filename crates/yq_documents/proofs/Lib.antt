@@ -14,4 +14,5 @@ pub mod RowFlowLaws
 pub mod RowLineLaws
 pub mod RunLaws
 pub mod WalkLaws
+pub mod PartRows
 pub mod WalkedRows

@@ -105,12 +105,12 @@ node_is whole n (coll k g is) rest ends h = written_is whole n (coll k g is) res
 node_is whole n (anchored name g node) rest ends h = written_is whole n node rest (takes_unanchored node h.3) ends h.4
 
 -- that of a row's content
-head_is : (whole : List ℕ) (n : ℤ) (c : Content) (rest : List ℕ) → EndsIn whole (head_text c rest) → IsContent n c rest → head_flow_at whole n (content_cut c).3 (head_text c rest) ≡ kept (locate (length whole) (content_core c) (tail_of c ++ rest))
-head_is whole n (Nothing tail) rest ends h = by_nothing whole n (tail ++ rest) ∙ empty_none (length whole) (tail ++ rest)
-head_is whole n (Inline space node tail) rest ends h = node_is whole n node (tail ++ rest) ends h.1.valid
-head_is whole n (Block space anchor block) rest ends h =
+pub flow_is : (whole : List ℕ) (n : ℤ) (c : Content) (rest : List ℕ) → EndsIn whole (head_text c rest) → IsContent n c rest → head_flow_at whole n (content_cut c).3 (head_text c rest) ≡ kept (locate (length whole) (content_core c) (tail_of c ++ rest))
+flow_is whole n (Nothing tail) rest ends h = by_nothing whole n (tail ++ rest) ∙ empty_none (length whole) (tail ++ rest)
+flow_is whole n (Inline space node tail) rest ends h = node_is whole n node (tail ++ rest) ends h.1.valid
+flow_is whole n (Block space anchor block) rest ends h =
     by_block whole n (mark_of block.style ∷ block.indicators) (head_text (Block space anchor block) rest) refl (block_marks block.style block.indicators) ∙ empty_none (length whole) (block.tail ++ rest)
 
 -- the alias or flow collection in a row's head that is read again
 pub flow_again : (whole : List ℕ) (s : Slices) (t : List ℕ) (h : HasHead s t) → EndsIn whole t → head_flow_at whole s.parent s.head t ≡ row_flow (length whole) h.row h.rest
-flow_again whole s t h ends = (λ i. head_flow_at whole (h.pieces i).parent (h.pieces i).head (h.text i)) ∙ head_is whole (parent_indent h.row) h.row.content h.rest (subst (EndsIn whole) h.text ends) h.valid.content
+flow_again whole s t h ends = (λ i. head_flow_at whole (h.pieces i).parent (h.pieces i).head (h.text i)) ∙ flow_is whole (parent_indent h.row) h.row.content h.rest (subst (EndsIn whole) h.text ends) h.valid.content

@@ -18,7 +18,7 @@ pub use made::Made;
 pub use nodes::children::Children;
 pub use nodes::comments::{Comments, comment_text, is_comment, last_run};
 pub use nodes::flow::node_refers;
-pub use nodes::heads::lent_text;
+pub use nodes::heads::{lent_text, told_key};
 pub use nodes::node::{Node, NodeKind};
 pub use of_row::made_at;
 pub use path::{Part, Path, Span};

@@ -1,5 +1,5 @@
 //! What is made of a row.
-ghost use Rattle.std.specs.Prelude.{◌≡◌, option_and_then, option_map, string_bytes};
+ghost use Rattle.std.specs.Prelude.{◌≡◌, option_and_then, option_map};
 ghost use Rattle.yq_lines.specs.View.{head_view};
 ghost use Rattle.yq_documents.specs.Made as spec;
 
@@ -29,17 +29,6 @@ pub(crate) fn made_head<'d, 't>(made: Option<&'d Made<'t>>) -> Option<&'d Head<'
 {
     match &made?.head {
         Some(head) => Some(head),
-        None => None,
-    }
-}
-
-/// The key that is made of a row, if one is.
-pub(crate) fn made_key<'d>(made: Option<&'d Made<'_>>) -> Option<&'d str>
-    ensures { option_map (λ k. k.now) result ≡
-        option_and_then (λ x. option_map string_bytes x.key) (option_map (λ m. m.now) made.entry) }
-{
-    match &made?.key {
-        Some(key) => Some(key.as_str()),
         None => None,
     }
 }

@@ -18,17 +18,9 @@ use Rattle.yq_walk.specs.declared.spot.KnownItem.{KnownItem}
 use Rattle.yq_walk.specs.declared.spot.Spot.{Spot}
 use Rattle.yq_walk.specs.declared.spot.Stretch.{Stretch}
 use Rattle.yq_walk.proofs.EntryKeys.{keys_behind, other_key}
-use Rattle.yq_walk.proofs.KnownLaws.{one_there}
+use Rattle.yq_walk.proofs.KnownLaws.{get_dropped, one_there}
 use Rattle.yq_walk.proofs.WalkRows.{under_more}
 use Rattle.yq_walk.proofs.WalkSpots.{Located, located, deeper_told, behind_told, spot_line}
-
-get_dropped : (ss : List Slices) (n i : ℕ) → slice_get (drop n ss) i ≡ slice_get ss (n + i)
-get_dropped [] zero i = refl
-get_dropped [] (suc n) i = refl
-get_dropped (x ∷ ss) zero i = ap (slice_get (x ∷ ss)) (omega arith)
-get_dropped (x ∷ ss) (suc n) i =
-    let sum : suc (n + i) ≡ suc n + i = omega arith in
-    get_dropped ss n i ∙ ap (slice_get (x ∷ ss)) sum
 
 get_taken : (ss : List Slices) (n i : ℕ) → i < n → slice_get (take n ss) i ≡ slice_get ss i
 get_taken [] zero i h = refl

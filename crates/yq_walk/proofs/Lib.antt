@@ -13,5 +13,5 @@ pub mod RowLaws
 pub mod ReachLaws
 pub mod LineNames
 pub mod BesideLaws
-pub mod WalkKeys
+pub mod WalkMarks
 pub mod StopLaws

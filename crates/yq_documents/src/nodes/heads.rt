@@ -16,9 +16,10 @@ ghost use Rattle.yq_documents.specs.Reading.{documents_of};
 ghost use Rattle.yq_documents.specs.Stretches.{IsLineIn, OfLineIn};
 
 use crate::head::anchor_name;
+use crate::made::Made;
 use crate::nodes::body::Body;
 use crate::nodes::node::Written;
-use crate::of_row::{made_head, made_key};
+use crate::of_row::made_head;
 use crate::read_text::ReadText;
 use yq_inline::pieces::is_quoted;
 use yq_lines::Head;
@@ -43,6 +44,20 @@ pub fn lent_text(piece: &str) -> &str
         between_quotes(piece)
     } else {
         piece
+    }
+}
+
+/// The text of a row's key, by what is made of the row and by its key as it is written.
+pub fn told_key<'d>(made: Option<&'d Made<'_>>, piece: &'d str) -> &'d str
+    requires { is_quoted piece.now ≡ true → IsQuotedText piece.now }
+    ensures { result.now ≡ spec.told_key (option_map (λ m. m.now) made.entry) piece.now }
+{
+    match made {
+        Some(row) => match &row.key {
+            Some(key) => key.as_str(),
+            None => lent_text(piece),
+        },
+        None => lent_text(piece),
     }
 }
 
@@ -125,10 +140,7 @@ fn line_key<'d>(text: &'d ReadText<'_>, document: usize, at: Spot) -> Option<&'d
     if rank_at(rows, at) != 2 {
         return None;
     }
-    match made_key(text.made(at.row)) {
-        Some(key) => Some(key),
-        None => Some(lent_text(rows.key(at.row))),
-    }
+    Some(told_key(text.made(at.row), rows.key(at.row)))
 }
 
 /// The gap before a line's row, where the line begins it.

@@ -9,7 +9,7 @@ pub returns-then-at-made : goal.returns-then-at-made
 returns-then-at-made c =
     let ms = c.args.made.now in
     let part = IsPartitionPoint-from_clause (λ m. ltb m.row c.args.row) _ _ c.partition_point-at.ensures.partitioned (IsPartitionedBy-ltb (λ m. m.row) _ c.args.row (rises 0 ms c.requires)) (λ a r q k. search rules) in
-    made_none 0 ms c.args.row c.partition_point-at.result c.requires part (λ m e is. omega (arith, slice_get_within ms c.partition_point-at.result m e, c.if-at-made.true, c.len.ensures))
+    made_none 0 ms c.args.row c.partition_point-at.result c.requires part (λ m e is. omega (arith, slice_get_within ms c.partition_point-at.result m e, c.if-at-made.true))
 
 pub returns-then-found-row : goal.returns-then-found-row
 returns-then-found-row c =

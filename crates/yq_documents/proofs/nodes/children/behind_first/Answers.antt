@@ -2,7 +2,7 @@ use Rattle.std.proofs.Common.{◌≡◌, ◌+◌, ◌-◌, ◌<◌, length, true
 use Rattle.yq_lines.specs.Ends.{IsEndOf}
 use Rattle.yq_documents.specs.Stretches.{document_lines, number_of}
 use Rattle.yq_lines.proofs.ChildLaws.{first_child}
-use Rattle.yq_documents.proofs.WalkedRows.{line_here, spot_back, stands, told_lines}
+use Rattle.yq_documents.proofs.WalkedRows.{line_here, spot_back, stands, told_rows}
 use Rattle.yq_documents.proofs.NodeLines.{no_children}
 use Rattle.yq_documents.proofs.nodes.children.behind_first.Goals as goal
 
@@ -13,10 +13,10 @@ pub behind-requires-clause-shown : goal.behind-requires-clause-shown
 behind-requires-clause-shown c = c.document_rows.ensures.small
 
 pub behind-requires-clause-document : goal.behind-requires-clause-document
-behind-requires-clause-document c = stands c.args.under.text.now c.args.under.document c.document_rows.result.0.now c.document_rows.result.1 c.document_rows.ensures
+behind-requires-clause-document c = stands c.document_rows.ensures
 
 pub behind-requires-clause-spot : goal.behind-requires-clause-spot
-behind-requires-clause-spot c = line_here c.args.under.text.now c.args.under.document c.document_rows.result.0.now c.document_rows.result.1 c.document_rows.ensures c.args.under.first (c.if-not-has_lines.ensures.some refl)
+behind-requires-clause-spot c = line_here c.document_rows.ensures (c.if-not-has_lines.ensures.some refl)
 
 pub returns-then-not-has_lines-clause-behind : goal.returns-then-not-has_lines-clause-behind
 returns-then-not-has_lines-clause-behind c = no_children _ c.if-not-has_lines.ensures.test
@@ -28,7 +28,7 @@ returns-clause-behind c =
     let q = c.args.under.first in
     let ls = document_lines n t in
     let at = c.if-not-has_lines.ensures.some refl in
-    let ends = told_lines t n c.document_rows.result.0.now c.document_rows.result.1 c.document_rows.ensures (λ ms num. IsEndOf ms (num q) (num c.behind.result)) (c.behind.ensures.end (stands t n c.document_rows.result.0.now c.document_rows.result.1 c.document_rows.ensures)) in
+    let ends = told_rows c.document_rows.ensures (λ ms num. IsEndOf ms (num q) (num c.behind.result)) c.behind.ensures.end in
     record { first = at; children_are = first_child ls (number_of n t q) c.args.under.floor (number_of n t c.behind.result) at.line at.there c.if-not-has_lines.ensures.test ends }
 
 pub returns-clause-fewer : goal.returns-clause-fewer
@@ -36,5 +36,5 @@ returns-clause-fewer c =
     let t = c.args.under.text.now in
     let n = c.args.under.document in
     let q = c.args.under.first in
-    let ends = told_lines t n c.document_rows.result.0.now c.document_rows.result.1 c.document_rows.ensures (λ ms num. IsEndOf ms (num q) (num c.behind.result)) (c.behind.ensures.end (stands t n c.document_rows.result.0.now c.document_rows.result.1 c.document_rows.ensures)) in
+    let ends = told_rows c.document_rows.ensures (λ ms num. IsEndOf ms (num q) (num c.behind.result)) c.behind.ensures.end in
     omega (arith, ends.0, ends.1)

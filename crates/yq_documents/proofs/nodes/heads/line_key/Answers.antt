@@ -1,35 +1,29 @@
-use Rattle.std.proofs.Common.{Some, ap, ◌∙◌}
+use Rattle.std.proofs.Common.{Some, option_map, ap, ◌∙◌}
 use Rattle.yq_rows.specs.View.{slices}
-use Rattle.yq_walk.proofs.WalkSpots.{quoted_told}
-use Rattle.yq_documents.specs.Made.{lent_text, made_or}
+use Rattle.yq_walk.proofs.WalkMarks.{quoted_told}
+use Rattle.yq_documents.specs.Made.{told_key}
 use Rattle.yq_documents.proofs.WalkedRows.{line_here, located_in, row_in, row_there, stands}
-use Rattle.yq_documents.proofs.LineWritten.{key_none, key_some}
+use Rattle.yq_documents.proofs.LineWritten.{no_key, own_key}
 use Rattle.yq_documents.proofs.nodes.heads.line_key.Goals as goal
 
 pub rank_at-requires-clause-within : goal.rank_at-requires-clause-within
-rank_at-requires-clause-within c = row_in c.args.text.now c.args.document c.document_rows.result.0.now c.document_rows.result.1 c.document_rows.ensures c.args.at c.requires.line
+rank_at-requires-clause-within c = row_in c.document_rows.ensures c.requires.line
 
 pub rank_at-requires-clause-shown : goal.rank_at-requires-clause-shown
 rank_at-requires-clause-shown c = c.document_rows.ensures.small
 
 pub returns-then-rank_at-ne2 : goal.returns-then-rank_at-ne2
-returns-then-rank_at-ne2 c = λ l e. key_none c.args.text.now c.args.document c.document_rows.result.0.now c.document_rows.result.1 c.document_rows.ensures c.args.at c.requires.line l e c.rank_at.result c.rank_at.ensures c.if-rank_at-ne2.true
-
-pub returns-in-Some : goal.returns-in-Some
-returns-in-Some c = λ l e.
-    let k = located_in c.args.text.now c.args.document c.document_rows.result.0.now c.document_rows.result.1 c.document_rows.ensures c.args.at c.requires.line in
-    let told = c.made.ensures k.row (row_there c.args.text.now c.args.document c.document_rows.result.0.now c.document_rows.result.1 c.document_rows.ensures c.args.at c.requires.line) in
-    ap Some (ap (λ o. made_or o (lent_text (slices k.row).key)) c.in-Some.ensures ∙ told.key) ∙ key_some c.args.text.now c.args.document c.document_rows.result.0.now c.document_rows.result.1 c.document_rows.ensures c.args.at c.requires.line l e c.rank_at.result c.rank_at.ensures c.if-rank_at-ne2.false
+returns-then-rank_at-ne2 c = λ l e. no_key c.document_rows.ensures c.requires.line l e c.rank_at.result c.rank_at.ensures c.if-rank_at-ne2.true
 
 pub key-requires : goal.key-requires
-key-requires c = row_in c.args.text.now c.args.document c.document_rows.result.0.now c.document_rows.result.1 c.document_rows.ensures c.args.at c.requires.line
+key-requires c = row_in c.document_rows.ensures c.requires.line
 
-pub lent_text-requires : goal.lent_text-requires
-lent_text-requires c = quoted_told c.document_rows.result.0.now c.document_rows.result.1 (stands c.args.text.now c.args.document c.document_rows.result.0.now c.document_rows.result.1 c.document_rows.ensures) c.args.at (line_here c.args.text.now c.args.document c.document_rows.result.0.now c.document_rows.result.1 c.document_rows.ensures c.args.at c.requires.line) c.key.result.now c.key.ensures
+pub told_key-requires : goal.told_key-requires
+told_key-requires c = quoted_told c.document_rows.result.0.now c.document_rows.result.1 (stands c.document_rows.ensures) c.args.at (line_here c.document_rows.ensures c.requires.line) c.key.result.now c.key.ensures
 
-pub returns-in-None : goal.returns-in-None
-returns-in-None c = λ l e.
-    let k = located_in c.args.text.now c.args.document c.document_rows.result.0.now c.document_rows.result.1 c.document_rows.ensures c.args.at c.requires.line in
-    let told = c.made.ensures k.row (row_there c.args.text.now c.args.document c.document_rows.result.0.now c.document_rows.result.1 c.document_rows.ensures c.args.at c.requires.line) in
-    ap Some (c.lent_text.ensures ∙ (ap lent_text (c.key.ensures (slices k.row) k.pieces) ∙ (ap (λ o. made_or o (lent_text (slices k.row).key)) c.in-None.ensures ∙ told.key)))
-    ∙ key_some c.args.text.now c.args.document c.document_rows.result.0.now c.document_rows.result.1 c.document_rows.ensures c.args.at c.requires.line l e c.rank_at.result c.rank_at.ensures c.if-rank_at-ne2.false
+pub returns : goal.returns
+returns c = λ l e.
+    let k = located_in c.document_rows.ensures c.requires.line in
+    let told = c.made.ensures k.row (row_there c.document_rows.ensures c.requires.line) in
+    ap Some (c.told_key.ensures ∙ (ap (told_key (option_map (λ m. m.now) c.made.result)) (c.key.ensures (slices k.row) k.pieces) ∙ told.key))
+    ∙ own_key c.document_rows.ensures c.requires.line l e c.rank_at.result c.rank_at.ensures c.if-rank_at-ne2.false

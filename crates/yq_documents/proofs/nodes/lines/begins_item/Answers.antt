@@ -8,10 +8,10 @@ pub is_item_at-requires-clause-shown : goal.is_item_at-requires-clause-shown
 is_item_at-requires-clause-shown c = c.document_rows.ensures.small
 
 pub is_item_at-requires-clause-document : goal.is_item_at-requires-clause-document
-is_item_at-requires-clause-document c = stands c.args.text.now c.args.document c.document_rows.result.0.now c.document_rows.result.1 c.document_rows.ensures
+is_item_at-requires-clause-document c = stands c.document_rows.ensures
 
 pub is_item_at-requires-clause-spot : goal.is_item_at-requires-clause-spot
-is_item_at-requires-clause-spot c = line_here c.args.text.now c.args.document c.document_rows.result.0.now c.document_rows.result.1 c.document_rows.ensures c.args.at c.requires.line
+is_item_at-requires-clause-spot c = line_here c.document_rows.ensures c.requires.line
 
 pub returns : goal.returns
-returns c = of_line c.args.text.now c.args.document c.document_rows.result.0.now c.document_rows.result.1 c.document_rows.ensures c.args.at (λ l. c.is_item_at.result ≡ is_item (key_of l.mark)) c.is_item_at.ensures
+returns c = of_line c.document_rows.ensures c.args.at (λ l. c.is_item_at.result ≡ is_item (key_of l.mark)) c.is_item_at.ensures

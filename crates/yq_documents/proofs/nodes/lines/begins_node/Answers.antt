@@ -7,10 +7,10 @@ pub is_bare-requires-clause-shown : goal.is_bare-requires-clause-shown
 is_bare-requires-clause-shown c = c.document_rows.ensures.small
 
 pub is_bare-requires-clause-document : goal.is_bare-requires-clause-document
-is_bare-requires-clause-document c = stands c.args.text.now c.args.document c.document_rows.result.0.now c.document_rows.result.1 c.document_rows.ensures
+is_bare-requires-clause-document c = stands c.document_rows.ensures
 
 pub is_bare-requires-clause-spot : goal.is_bare-requires-clause-spot
-is_bare-requires-clause-spot c = line_here c.args.text.now c.args.document c.document_rows.result.0.now c.document_rows.result.1 c.document_rows.ensures c.args.at c.requires.line
+is_bare-requires-clause-spot c = line_here c.document_rows.ensures c.requires.line
 
 pub returns : goal.returns
-returns c = of_line c.args.text.now c.args.document c.document_rows.result.0.now c.document_rows.result.1 c.document_rows.ensures c.args.at (λ l. c.is_bare.result ≡ is_bare l.mark) c.is_bare.ensures
+returns c = of_line c.document_rows.ensures c.args.at (λ l. c.is_bare.result ≡ is_bare l.mark) c.is_bare.ensures

@@ -11,5 +11,5 @@ returns-clause-node c = λ d e.
     let t = c.args.text.now in
     let ls = document_lines c.args.i t in
     c.lines_node.ensures
-    ∙ (ap (λ n. anchored None (value (part ls n 0))) (first_is t c.args.i c.document_rows.result.0.now c.document_rows.result.1 c.document_rows.ensures)
+    ∙ (ap (λ n. anchored None (value (part ls n 0))) (first_is c.document_rows.ensures)
     ∙ (all_value ls ∙ root_is t c.args.i d e))
