@@ -33,7 +33,7 @@ use Rattle.yq_documents.specs.Reading.{outline_of, read_at, root_of}
 use Rattle.yq_documents.specs.Ready.{begins_no_node}
 use Rattle.yq_documents.specs.TreeEdits.{replaced}
 use Rattle.yq_tree.specs.RowPaths.{IsReadable}
-use Rattle.yq_tree.proofs.FoundLines.{each}
+use Rattle.yq_documents.proofs.PartRows.{each}
 use Rattle.yq_tree.proofs.ReadLaws.{text_takes}
 use Rattle.yq_tree.proofs.RemovalLines.{front_some}
 use Rattle.yq_tree.proofs.RowPathLaws.{document_fine}

@@ -17,7 +17,7 @@ use Rattle.yq_rows.specs.Rows.{Row, mark_column, rows_text, Part, part_text, Cut
 use Rattle.yq_documents.specs.Documents.{document_parts}
 use Rattle.yq_walk.specs.Lines.{mark_of, lines_of}
 use Rattle.yq_documents.specs.Reading.{outline_of, read_at}
-use Rattle.yq_tree.proofs.FoundLines.{each}
+use Rattle.yq_documents.proofs.PartRows.{each}
 use Rattle.yq_tree.proofs.NextLaws.{StartsAt, found_starts}
 use Rattle.yq_tree.proofs.ReadLaws.{text_takes}
 use Rattle.yq_tree.proofs.RowPathLaws.{document_fine}

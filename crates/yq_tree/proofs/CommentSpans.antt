@@ -28,7 +28,7 @@ use Rattle.yq_tree.proofs.PrintedLaws.{lines_are}
 use Rattle.yq_tree.proofs.FoundEntries.{line_there, entry_is}
 use Rattle.yq_tree.proofs.PrintedTexts.{map_some, lines_then}
 use Rattle.yq_tree.proofs.RunSpans.{begin_is, content_size, seat_at as seat_there}
-use Rattle.yq_tree.proofs.SeatLaws.{part_begins}
+use Rattle.yq_documents.proofs.PartRows.{part_begins}
 use Rattle.yq_tree.proofs.SeatedLines.{row_begin, IsSeated, IsPlaced, document_placed}
 
 -- spans of comments, by how long the text before them is

@@ -28,7 +28,7 @@ use Rattle.yq_lines.proofs.Finding.{entry_of}
 use Rattle.yq_lines.proofs.LabelPaths.{reach, FoundEntry, path_entry}
 use Rattle.yq_lines.proofs.Values.{If}
 use Rattle.yq_documents.proofs.RowLineLaws.{tail_is}
-use Rattle.yq_tree.proofs.FoundLines.{each}
+use Rattle.yq_documents.proofs.PartRows.{each}
 use Rattle.yq_tree.proofs.FlowPieces.{head_there}
 use Rattle.yq_tree.proofs.PieceHolds.{no_part}
 use Rattle.yq_tree.proofs.PrintedLaws.{ArePrinted, lines_are, document_is}

@@ -28,7 +28,7 @@ use Rattle.yq_tree.proofs.HeadSpanLaws.{head_span}
 use Rattle.yq_lines.proofs.LineEnds.{end_within}
 use Rattle.yq_walk.proofs.RowLaws.{lines_count}
 use Rattle.yq_tree.proofs.SeamLaws.{line_boundary}
-use Rattle.yq_tree.proofs.SeatLaws.{part_begins}
+use Rattle.yq_documents.proofs.PartRows.{part_begins}
 
 -- a line that has a seat is there, and lines have theirs in order
 seat_within : (rs : List Row) (n : ℕ) (s : Seat) → seat n rs ≡ Some s → n < length (lines_of rs)

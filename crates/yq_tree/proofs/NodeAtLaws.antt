@@ -42,7 +42,7 @@ use Rattle.yq_walk.specs.declared.spot.Spot.{Spot}
 use Rattle.yq_walk.specs.declared.spot.Stretch.{Stretch}
 use Rattle.yq_tree.proofs.FlowPlaceLaws.{TakesSteps, Takes, takes_left}
 use Rattle.yq_tree.proofs.FlowToldLaws.{numbered}
-use Rattle.yq_tree.proofs.FoundLines.{each}
+use Rattle.yq_documents.proofs.PartRows.{each}
 use Rattle.yq_tree.proofs.NodePlaceLaws.{node_found}
 use Rattle.yq_tree.proofs.RowPathLaws.{document_fine}
 use Rattle.yq_tree.proofs.SeenLaws.{first_is, found_seen}

@@ -22,7 +22,7 @@ use Rattle.yq_lines.specs.Outline.{Mark, Line, Outline, end, row, flatten, IsEve
 use Rattle.yq_lines.specs.Places.{Found, find, content}
 use Rattle.yq_documents.specs.Reading.{document_of, read_at}
 use Rattle.yq_lines.specs.Spots.{is_bare}
-use Rattle.yq_tree.proofs.FoundLines.{each}
+use Rattle.yq_documents.proofs.PartRows.{each}
 use Rattle.yq_lines.proofs.Decides.{flatten-group, even_from}
 use Rattle.yq_lines.specs.Labelled.{labelled_from}
 use Rattle.yq_lines.proofs.LabelledLaws.{labelled_path}

@@ -20,12 +20,12 @@ use Rattle.yq_documents.specs.Located.{steps_of}
 use Rattle.yq_documents.specs.Pieces.{piece_span, HoldsPiece}
 use Rattle.yq_documents.specs.Reading.{all_documents, read_at}
 use Rattle.yq_documents.specs.Seats.{document_row}
-use Rattle.yq_tree.proofs.FoundLines.{each}
+use Rattle.yq_documents.proofs.PartRows.{each}
 use Rattle.yq_tree.proofs.EntryPlacedLaws.{entries_placed}
 use Rattle.yq_tree.proofs.CommentHolds.{comments_hold}
 use Rattle.yq_tree.proofs.ReadLaws.{text_takes}
 use Rattle.yq_tree.proofs.RowPathLaws.{document_fine}
-use Rattle.yq_tree.proofs.SeatLaws.{part_begins}
+use Rattle.yq_documents.proofs.PartRows.{part_begins}
 use Rattle.yq_tree.specs.PrintedLines.{printed_lines, line_in}
 use Rattle.yq_tree.specs.PathPieces.{PrintedDocument, behind_text, printed_part, printed_document, piece_in, piece_at}
 use Rattle.yq_tree.specs.PieceLaws.{PiecesHold}

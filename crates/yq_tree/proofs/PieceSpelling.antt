@@ -30,7 +30,7 @@ use Rattle.yq_lines.specs.Places.{lines_before, lines_after, Found, find}
 use Rattle.yq_lines.specs.Places as places
 use Rattle.yq_documents.specs.Reading.{document_of, read_at}
 use Rattle.yq_lines.specs.Spots.{is_bare}
-use Rattle.yq_tree.proofs.FoundLines.{each}
+use Rattle.yq_documents.proofs.PartRows.{each}
 use Rattle.yq_lines.proofs.Decides.{flatten-group, even_from}
 use Rattle.yq_lines.proofs.Finding.{entry_of}
 use Rattle.yq_tree.proofs.ReadLaws.{cut_is, text_takes}

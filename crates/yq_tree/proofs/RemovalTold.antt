@@ -35,7 +35,7 @@ use Rattle.yq_tree.proofs.RemovalBounds.{gap_behind, last_row, text_before}
 use Rattle.yq_tree.proofs.RemovalLines.{LineSeam, are_lines, lies_in, line_seam}
 use Rattle.yq_tree.proofs.RemovalPlaceLaws.{own_stands}
 use Rattle.yq_tree.proofs.RemovalTexts.{old_text, texts_then}
-use Rattle.yq_tree.proofs.SeatLaws.{part_begins}
+use Rattle.yq_documents.proofs.PartRows.{part_begins}
 use Rattle.yq_tree.proofs.SeatedLaws.{get_drop, get_front}
 use Rattle.yq_tree.proofs.StartLaws.{start_told}
 

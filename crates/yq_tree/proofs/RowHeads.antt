@@ -26,7 +26,7 @@ use Rattle.yq_tree.specs.RowWalk.{InCut}
 use Rattle.yq_walk.specs.RowWalk.{IsLine}
 use Rattle.yq_walk.specs.declared.spot.Spot.{Spot}
 use Rattle.yq_walk.specs.declared.spot.Stretch.{Stretch}
-use Rattle.yq_tree.proofs.FoundLines.{each}
+use Rattle.yq_documents.proofs.PartRows.{each}
 use Rattle.yq_tree.proofs.HeadSpanLaws.{head_span, head_text}
 use Rattle.yq_tree.proofs.WalkDocuments.{Found}
 use Rattle.yq_tree.proofs.WalkNodes.{row_is as row_at, row_in_cut}

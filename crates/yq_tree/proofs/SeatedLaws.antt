@@ -16,7 +16,7 @@ use Rattle.yq_lines.specs.Ends.{line_of}
 use Rattle.yq_tree.specs.RowWalk.{HasCut}
 use Rattle.yq_tree.specs.SeatReading.{Numbers, numbers}
 use Rattle.yq_documents.specs.Seats.{Seat, behind_one, seat, seat_of, seat_at, document_row}
-use Rattle.yq_tree.proofs.SeatLaws.{part_begins}
+use Rattle.yq_documents.proofs.PartRows.{part_begins}
 use Rattle.yq_lines.proofs.Values.{If}
 
 -- the row of a line

@@ -14,7 +14,7 @@ use Rattle.yq_documents.specs.Documents.{parts_from, document_parts, begins_bare
 use Rattle.yq_walk.specs.Lines.{row_lines, lines_of}
 use Rattle.yq_documents.specs.PartReading.{some_begin, first_rows}
 use Rattle.yq_documents.proofs.BeginLaws.{document_is}
-use Rattle.yq_documents.proofs.WalkedRows.{document_has}
+use Rattle.yq_documents.proofs.PartRows.{document_has}
 use Rattle.yq_walk.proofs.RowLaws.{lines_count}
 use Rattle.yq_documents.specs.Seats.{behind_one, seat, seat_of, seat_at, rows_before, document_row}
 use Rattle.yq_documents.specs.declared.path.Path.{Path}
@@ -24,7 +24,7 @@ use Rattle.yq_walk.specs.RowWalk.{HasDocument, stretch_told}
 use Rattle.yq_tree.specs.RowWalk.{InCut, begin_rows, document_rows}
 use Rattle.yq_tree.specs.SeatReading.{Numbers, numbers}
 use Rattle.yq_walk.specs.declared.spot.Stretch.{Stretch}
-use Rattle.yq_tree.proofs.SeatLaws.{part_begins}
+use Rattle.yq_documents.proofs.PartRows.{part_begins}
 
 -- part after part
 pub rows_here : (is : Bool) (n k : ℕ) (b : Bound) (bs rest : List Bound) → bs ≡ b ∷ rest → true ≡ (is && eqb n 0) → Some (k, b.rows) ≡ begin_rows is n k bs
