@@ -1,5 +1,5 @@
 -- Anchors of neighbouring lines, by the rows of these.
-use Rattle.std.proofs.Common.{◌≡◌, ℕ, ℤ, zero, suc, ◌+◌, eqb, List, [], ◌∷◌, ◌++◌, Option, Some, None, Bool, true, false, cond, not, ◌&&◌, ◌||◌, refl, sym, ap, ◌∙◌, subst, append-nil}
+use Rattle.std.proofs.Common.{◌≡◌, ℕ, ℤ, zero, ◌+◌, eqb, List, [], ◌∷◌, ◌++◌, Option, Some, None, Bool, true, false, cond, not, ◌&&◌, ◌||◌, refl, sym, ap, ◌∙◌, subst, append-nil}
 use Rattle.std.proofs.lemmas.Bool.{false≢true, cond_both}
 use Rattle.std.proofs.lemmas.Option.{same_Some}
 use Rattle.std.specs.List.{slice_get}
@@ -16,7 +16,7 @@ use Rattle.yq_inline.specs.Scalars.{IsScalar, begins_scalar}
 use Rattle.yq_inline.specs.Trees.{collection, items_tree, node_head, tree_of}
 use Rattle.yq_inline.proofs.NodeAgain.{is_anchored, takes_unanchored}
 use Rattle.yq_inline.proofs.PieceLaws.{front_not, scalar_begins}
-use Rattle.yq_lines.specs.LinesReading.{is_free, is_no_alias, have_one_anchor_each, may_take}
+use Rattle.yq_lines.specs.LinesReading.{is_free, is_no_alias, may_take}
 use Rattle.yq_lines.specs.Outline.{Mark, Bare, Key, Dash, Line}
 use Rattle.yq_lines.specs.Spots.{is_bare}
 use Rattle.yq_rows.specs.Grammar.{IsContent}
@@ -26,26 +26,7 @@ use Rattle.yq_rows.specs.View.{anchor_cut, content_cut}
 use Rattle.yq_walk.specs.Lines.{content_anchor, head_of, lines_from, mark_line, row_lines}
 use Rattle.yq_documents.specs.RowReading.{name_in}
 
--- the anchor of a row is that of its last line
-free_from : (above : List (List ℕ)) (column : ℕ) (ns : List ℕ) (m : rows.Mark) (c : Content) (ls : List Line) →
-    have_one_anchor_each (lines_from above column ns m c ++ ls) ≡ (is_free (content_anchor c) ls && have_one_anchor_each ls)
-free_from above column [] m c ls = refl
-free_from above column (n ∷ ns) m c ls = free_from [] (suc (column + n)) ns m c ls
-
-pub free_row : (r : Row) (ls : List Line) → have_one_anchor_each (row_lines r ++ ls) ≡ (is_free (content_anchor r.content) ls && have_one_anchor_each ls)
-free_row r ls = free_from _ r.column r.dashes r.mark r.content ls
-
--- an anchor by its piece
-pub anchor_is : (c : Content) → name_in (content_cut c).1 ≡ content_anchor c
-anchor_is (Nothing tail) = refl
-anchor_is (Inline space empty tail) = refl
-anchor_is (Inline space (alias name) tail) = refl
-anchor_is (Inline space (scalar p) tail) = refl
-anchor_is (Inline space (coll k g is) tail) = refl
-anchor_is (Inline space (anchored name g node) tail) = refl
-anchor_is (Block space None block) = refl
-anchor_is (Block space (Some a) block) = refl
-
+-- whether a row has an anchor
 pub anchor_some : (c : Content) → is_empty (content_cut c).1 ≡ is_none (content_anchor c)
 anchor_some (Nothing tail) = refl
 anchor_some (Inline space empty tail) = refl

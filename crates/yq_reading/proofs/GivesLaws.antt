@@ -12,10 +12,11 @@ use Rattle.yq_walk.specs.Lines.{lines_of}
 use Rattle.yq_walk.specs.RowWalk.{HasRows, IsLine, IsSpot, OfLine, OfLines, line_number, lines_stop}
 use Rattle.yq_walk.specs.declared.spot.Spot.{Spot}
 use Rattle.yq_walk.specs.declared.spot.Stretch.{Stretch}
+use Rattle.yq_walk.proofs.StopLaws.{stop_step}
 use Rattle.yq_walk.proofs.WalkSpots.{located, spot_line}
 use Rattle.yq_reading.specs.Checking.{GivesStop, GivesEnd}
 use Rattle.yq_reading.proofs.SpotOrder.{head_last, row_later, row_order}
-use Rattle.yq_reading.proofs.StopLaws.{count_none, count_one, stop_step}
+use Rattle.yq_reading.proofs.StopLaws.{count_none, count_one}
 
 -- where none are deeper, the spot itself
 pub gives_none : (s : Shown) (d : Stretch) (q : Spot) (floor : ℕ) → IsSpot s d q → OfLines s d (λ ls n. is_end (part ls (n q) floor) ≡ true) → GivesStop s d q floor q

@@ -14,3 +14,8 @@ pub mod NameRows
 pub mod QuietLaws
 pub mod HeadsApart
 pub mod LendLaws
+pub mod RowsRead
+pub mod AllOf
+pub mod MadeRows
+pub mod PartLaws
+pub mod DocumentsRead

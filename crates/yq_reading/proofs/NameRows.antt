@@ -1,5 +1,5 @@
 -- The anchors and aliases of lines, row by row.
-use Rattle.std.proofs.Common.{◌≡◌, ℕ, suc, ◌+◌, ◌≤◌, Bool, true, false, cond, List, [], ◌∷◌, ◌++◌, drop, length, Option, Some, None, refl, sym, ap, ◌∙◌, append_assoc, append-nil}
+use Rattle.std.proofs.Common.{◌≡◌, ℕ, ◌+◌, ◌≤◌, Bool, true, false, cond, List, [], ◌++◌, drop, length, Option, Some, None, refl, sym, ap, ◌∙◌, append_assoc, append-nil}
 use Rattle.std.proofs.lemmas.List.{drop_all}
 use Rattle.std.specs.List.{slice_get}
 use Rattle.std.specs.Prelude.{option_and_then, option_map}
@@ -12,23 +12,14 @@ use Rattle.yq_lines.specs.declared.line.Head as heads
 use Rattle.yq_lines.specs.Names.{head_names, line_names}
 use Rattle.yq_lines.specs.Outline.{Line}
 use Rattle.yq_lines.specs.View.{head_flow, head_view}
-use Rattle.yq_rows.specs.Rows as rows
-use Rattle.yq_rows.specs.Rows.{Content, Row}
-use Rattle.yq_walk.specs.Lines.{content_anchor, head_of, lines_from, lines_of, row_lines}
+use Rattle.yq_rows.specs.Rows.{Row}
+use Rattle.yq_walk.specs.Lines.{content_anchor, head_of, lines_of}
 use Rattle.yq_documents.specs.Made.{lent_head, lent_text, made_or, told_flow, told_head}
 use Rattle.yq_documents.specs.RowReading.{string_head}
 use Rattle.yq_documents.specs.declared.made.Made.{Made}
 use Rattle.yq_reading.specs.Named.{flow_names}
+use Rattle.yq_walk.proofs.LineNames.{names_row}
 use Rattle.yq_reading.proofs.RowContents.{lines_at}
-
--- the names of a row are its anchor and those in its head
-names_from : (above : List (List ℕ)) (column : ℕ) (ns : List ℕ) (m : rows.Mark) (c : Content) (ls : List Line) →
-    line_names (lines_from above column ns m c ++ ls) ≡ with_anchor (content_anchor c) (head_names (head_of c) ++ line_names ls)
-names_from above column [] m c ls = refl
-names_from above column (n ∷ ns) m c ls = names_from [] (suc (column + n)) ns m c ls
-
-pub names_row : (r : Row) (ls : List Line) → line_names (row_lines r ++ ls) ≡ with_anchor (content_anchor r.content) (head_names (head_of r.content) ++ line_names ls)
-names_row r ls = names_from _ r.column r.dashes r.mark r.content ls
 
 with-append : (a : Option (List ℕ)) (xs ys : List Name) → with_anchor a (xs ++ ys) ≡ with_anchor a xs ++ ys
 with-append None xs ys = refl

@@ -9,12 +9,13 @@ use Rattle.yq_rows.specs.Rows.{Row}
 use Rattle.yq_rows.specs.View.{Shown, slices}
 use Rattle.yq_walk.specs.Lines.{content_anchor, head_of, lines_of}
 use Rattle.yq_walk.specs.declared.spot.Stretch.{Stretch}
+use Rattle.yq_walk.proofs.LineNames.{names_row}
 use Rattle.yq_documents.specs.Made.{made_at, told_flow}
 use Rattle.yq_documents.specs.declared.made.Made.{Made}
 use Rattle.yq_reading.specs.Checking.{IsReady, made_refers, some_refer}
 use Rattle.yq_reading.specs.Named.{flow_names}
 use Rattle.yq_reading.proofs.HeadTold.{row_in_cut}
-use Rattle.yq_reading.proofs.NameRows.{flow_named, names_row}
+use Rattle.yq_reading.proofs.NameRows.{flow_named}
 
 or_parts : (a b : Bool) → (a || b) ≡ false → (a ≡ false) × (b ≡ false)
 or_parts true b e = absurd (false≢true (sym e))

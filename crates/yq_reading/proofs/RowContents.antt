@@ -12,7 +12,8 @@ use Rattle.yq_rows.specs.Grammar.{AreRows, IsContent, Limit, limit_after}
 use Rattle.yq_rows.specs.Rows.{Row, parent_indent}
 use Rattle.yq_walk.specs.Lines.{content_anchor, lines_of, row_lines}
 use Rattle.yq_documents.specs.RowReading.{name_in}
-use Rattle.yq_reading.proofs.AnchorRows.{free_row, free_told}
+use Rattle.yq_walk.proofs.LineNames.{free_row}
+use Rattle.yq_reading.proofs.AnchorRows.{free_told}
 
 -- the content of a row is one
 pub row_content : (limit : Limit) (rs : List Row) (end rest : List ℕ) (i : ℕ) (r : Row) → AreRows limit rs end rest → slice_get rs i ≡ Some r → (t : List ℕ) × IsContent (parent_indent r) r.content t

@@ -20,6 +20,6 @@ has_break s = holds_break s.anchor || (holds_break s.apart || holds_break s.head
 abbrev pub is_long : Slices → Bool
 is_long s = is_empty s.dashes && (is_empty s.colon && (is_plain_head s.head && has_break s))
 
--- the key of a row is no plain `<<`, by its pieces (own)
-abbrev pub key_fits : Slices → Bool
-key_fits s = not (bytes_eq s.key (codes "<<"))
+-- a key as it is written, if there is one, is no plain `<<` (own)
+abbrev pub key_fits : List ℕ → Bool
+key_fits key = not (bytes_eq key (codes "<<"))

@@ -4,4 +4,5 @@ pub mod FitReading
 pub mod Deciding
 pub mod Checking
 pub mod Named
+pub mod Making
 pub mod Places

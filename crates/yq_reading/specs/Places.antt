@@ -1,22 +1,48 @@
 -- Reading (own; a reader may skip it): where the documents of a text stand among its rows, by where its parts end.
-use Rattle.std.specs.Prelude.{◌≡◌, ℕ, List, [], ◌∷◌, length, map, slice_get, Some, Bool, true, false, ◌||◌, not}
-use Rattle.yq_lines.specs.Comments.{head_comment}
+use Rattle.std.specs.Prelude.{◌≡◌, ◌×◌, ℕ, List, [], ◌∷◌, length, map, nat_lt, slice_get, Option, Some, None, Bool, true, false, ◌&&◌, if◌then◌else◌}
+use Rattle.std.specs.List.{list_all}
+use Rattle.yq_lines.specs.LinesReading.{lines_are_sound}
 use Rattle.yq_rows.specs.Grammar.{begins_document}
-use Rattle.yq_rows.specs.Rows.{Part, Cut}
-use Rattle.yq_rows.specs.View.{Bound}
-use Rattle.yq_documents.specs.Documents.{document_parts, lead_of}
+use Rattle.yq_rows.specs.Rows.{Part}
+use Rattle.yq_rows.specs.View.{Bound, Slices}
+use Rattle.yq_walk.specs.Lines.{lines_of}
+use Rattle.yq_documents.specs.Documents.{document_parts}
+use Rattle.yq_documents.specs.Holding.{IsPlaced}
+use Rattle.yq_documents.specs.Reading.{cut_of, has_short_root}
 use Rattle.yq_documents.specs.declared.read_text.DocumentRows.{DocumentRows}
 
--- the rows of documents as two numbers each: how many rows of the text stand before them, and before what is behind them; k rows stand before the first part, of which it is known whether it is a document (own)
-abbrev pub all_rows : Bool → ℕ → List Bound → List (ℕ × ℕ)
-all_rows is k [] = []
-all_rows true k (b ∷ bs) = (k, b.rows) ∷ all_rows (begins_document b.marker) b.rows bs
-all_rows false k (b ∷ bs) = all_rows (begins_document b.marker) b.rows bs
+-- the gap of a row, if there is one, or another gap (own)
+abbrev pub gap_or : Option Slices → List ℕ → List ℕ
+gap_or None end = end
+gap_or (Some s) end = s.gap
 
--- the same numbers of the code (own)
-abbrev pub rows_told : List DocumentRows → List (ℕ × ℕ)
-rows_told ds = map (λ d. (d.first, d.end)) ds
+-- the gap before row k, where it stands before the end of a part, or the gap there (own)
+abbrev pub first_gap : List Slices → ℕ → Bound → List ℕ
+first_gap ss k b = if nat_lt k b.rows then gap_or (slice_get ss k) b.end else b.end
 
--- the gaps that the leads of documents end are theirs (own)
-abbrev pub HaveLeads : Cut → List DocumentRows → Type 0
-HaveLeads c ds = (n : ℕ) (d : DocumentRows) (p : Part) → slice_get ds n ≡ Some d → slice_get (document_parts c) n ≡ Some p → head_comment d.lead.now ≡ lead_of p
+-- where the rows of documents begin and end, and the gaps that their leads end; k rows stand before the first part, of which it is known whether it is a document (own)
+abbrev pub all_rows : List Slices → Bool → ℕ → List Bound → List (ℕ × ℕ × List ℕ)
+all_rows ss is k [] = []
+all_rows ss true k (b ∷ bs) = (k, b.rows, first_gap ss k b) ∷ all_rows ss (begins_document b.marker) b.rows bs
+all_rows ss false k (b ∷ bs) = all_rows ss (begins_document b.marker) b.rows bs
+
+-- the same of a document of the code (own)
+abbrev pub row_told : DocumentRows → ℕ × ℕ × List ℕ
+row_told d = (d.first, d.end, d.lead.now)
+
+-- the same of documents of the code (own)
+abbrev pub rows_told : List DocumentRows → List (ℕ × ℕ × List ℕ)
+rows_told ds = map row_told ds
+
+-- The documents of a text stand there (own).
+pub record ArePlaced (t : List ℕ) (ds : List DocumentRows) : Type 0 where
+  pub count : length ds ≡ length (document_parts (cut_of t))
+  pub each : (n : ℕ) (d : DocumentRows) (p : Part) → slice_get ds n ≡ Some d → slice_get (document_parts (cut_of t)) n ≡ Some p → IsPlaced t n p d
+
+-- the root of a part is no plain scalar of several lines, and its lines are sound (own)
+abbrev pub part_is_sound : Part → Bool
+part_is_sound p = has_short_root p.rows && lines_are_sound (lines_of p.rows)
+
+-- the same of parts (own)
+abbrev pub all_sound : List Part → Bool
+all_sound ps = list_all part_is_sound ps

@@ -27,8 +27,7 @@ fn may_take(x: Checked<'_, '_>, at: Spot) -> bool
     if !is_bare(x.rows, x.document, at) {
         return true;
     }
-    let row = x.rows.row(at.row);
-    is_unnamed(row.anchor(), row.head())
+    is_unnamed(x.rows.anchor(at.row), x.rows.head(at.row))
 }
 
 /// Whether an anchor, if one is written before the first line of a row, is the only one of its node.
@@ -55,7 +54,7 @@ pub(crate) fn second_anchor(x: Checked<'_, '_>) -> Option<Spot>
         if !is_free(x, before, at) {
             return Some(at);
         }
-        before = x.rows.row(row).anchor();
+        before = x.rows.anchor(row);
     }
     None
 }

@@ -1,15 +1,12 @@
 //! A document whose rows are checked.
-ghost use Rattle.std.specs.Prelude.{◌≡◌, ◌≢◌, option_map, true};
+ghost use Rattle.std.specs.Prelude.{◌≡◌, ◌≢◌};
 ghost use Rattle.yq_scalar.specs.declared.fault.FaultKind.TheVariants.{NotUtf8};
-ghost use Rattle.yq_scalar.specs.Quoted.{IsQuotedText};
-ghost use Rattle.yq_inline.specs.Scalars.{is_quoted};
-ghost use Rattle.yq_documents.specs.Made as spec;
 ghost use Rattle.yq_lines.specs.Bodies.{lent};
 ghost use Rattle.yq_lines.specs.Outline as outline;
 ghost use Rattle.yq_walk.specs.RowWalk.{IsLine, OfLine};
 ghost use Rattle.yq_reading.specs.Checking.{IsReady};
 
-use yq_documents::{Made, fault_at, lent_text, made_at};
+use yq_documents::{Made, fault_at, made_at, told_key};
 use yq_rows::Rows;
 use yq_scalar::{FaultKind, ReadFault};
 use yq_walk::{Spot, Stretch, level_at, rank_at};
@@ -31,7 +28,7 @@ pub(crate) fn row_fault(x: Checked<'_, '_>, at: Spot, kind: FaultKind) -> ReadFa
     let place = if at.row < x.rows.len() {
         x.rows
             .start(at.row)
-            .saturating_add(x.rows.row(at.row).gap().len())
+            .saturating_add(x.rows.gap(at.row).len())
     } else {
         x.text.len()
     };
@@ -45,20 +42,6 @@ pub(crate) fn line_level(x: Checked<'_, '_>, at: Spot) -> usize
     ensures { OfLine x.entry.rows.now x.entry.document at (λ l. result ≡ outline.level l) }
 {
     level_at(x.rows, at)
-}
-
-/// The text of a row's key, by what is made of the row, or as it is lent.
-fn told_key<'a>(made: Option<&'a Made<'_>>, piece: &'a str) -> &'a str
-    requires { is_quoted piece.now ≡ true → IsQuotedText piece.now }
-    ensures { result.now ≡ spec.told_key (option_map (λ m. m.now) made.entry) piece.now }
-{
-    match made {
-        Some(row) => match &row.key {
-            Some(key) => key.as_str(),
-            None => lent_text(piece),
-        },
-        None => lent_text(piece),
-    }
 }
 
 /// The key of a line, if it has one.

@@ -29,7 +29,7 @@ pub(crate) fn names_of<'t>(alloc: Global, x: Checked<'_, 't>) -> Result<Vec<Name
 {
     let mut names = Vec::new(alloc);
     'rows: for i in x.document.first..x.document.end {
-        push_anchor(&mut names, anchor_name(x.rows.row(i).anchor()))?;
+        push_anchor(&mut names, anchor_name(x.rows.anchor(i)))?;
         push_flow(&mut names, made_flow(made_at(x.made, i)))?;
     }
     Ok(names)

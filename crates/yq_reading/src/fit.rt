@@ -35,11 +35,11 @@ fn is_long(row: &Row<'_>) -> bool
     row.dashes().is_empty() && (row.colon().is_empty() && (is_plain(row.head()) && has_break(row)))
 }
 
-/// Whether the key of a row, if it has one, is no plain `<<`.
-pub(crate) fn key_fits(row: &Row<'_>) -> bool
-    ensures { result ≡ spec.key_fits (row_view row.now) }
+/// Whether a key as it is written, if there is one, is no plain `<<`.
+pub(crate) fn key_fits(key: &str) -> bool
+    ensures { result ≡ spec.key_fits key.now }
 {
-    row.key() != "<<"
+    key != "<<"
 }
 
 /// Whether the first row of a document, if there is one, is no plain scalar of several lines alone.

@@ -13,7 +13,7 @@ mod making;
 mod names;
 mod nested;
 mod parts;
-mod read_rows;
+mod reading;
 mod sound;
 
-pub use read_rows::read_rows;
+pub use reading::read_rows;

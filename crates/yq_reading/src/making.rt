@@ -1,32 +1,31 @@
 //! What rows spell, made where their text doesn't lend it.
-ghost use Rattle.std.specs.Prelude.{◌≡◌, ◌<◌, length, slice_get, true, Some, IfErr, IfOk, IfSome};
+ghost use Rattle.std.specs.Prelude.{◌≡◌, ◌<◌, length, option_map, string_bytes, true, IfErr, IfOk, IfSome};
 ghost use Rattle.yq_scalar.specs.Answers.{IsOfText};
 ghost use Rattle.yq_scalar.specs.Quoted.{IsQuotedText};
-ghost use Rattle.yq_inline.specs.Scalars as scalars;
-ghost use Rattle.yq_rows.specs.Grammar.{IsCut};
-ghost use Rattle.yq_rows.specs.Rows.{Cut, Row as RowOf};
-ghost use Rattle.yq_rows.specs.View.{rows_of, shown};
-ghost use Rattle.yq_walk.specs.Extents.{IsShown};
-ghost use Rattle.yq_documents.specs.Made.{IsTold, IsToldBy, Rise};
-ghost use Rattle.yq_documents.specs.Reading.{have_fit_keys};
+ghost use Rattle.yq_inline.specs.Scalars.{content_of, is_quoted as is_in_quotes};
+ghost use Rattle.yq_rows.specs.View.{rows_of};
+ghost use Rattle.yq_documents.specs.Made.{IsToldBy, lent_text as lent, made_or};
+ghost use Rattle.yq_documents.specs.Reading.{content_is_fit, cut_of, have_fit_keys};
 ghost use Rattle.yq_documents.specs.RowReading.{row_fits};
 ghost use Rattle.yq_reading.specs.Checking as spec;
 ghost use Rattle.yq_reading.specs.Deciding.{Decides};
+ghost use Rattle.yq_reading.specs.Making.{AreMade, IsCutInto, IsHeadMade, OfRow};
 
 use crate::fit::key_fits;
 use crate::nested::made_flow;
 use std::alloc::{AllocError, Global};
-use yq_documents::{Made, begins_block, fault_at, node_refers, read_head};
+use yq_documents::{Made, fault_at, lent_text, node_refers, read_head};
 use yq_inline::pieces::{first_is, is_quoted};
-use yq_lines::{between_quotes, content_of};
+use yq_lines::Head;
 use yq_rows::Rows;
+use yq_scalar::folding::{plain_content, quoted_content};
 use yq_scalar::plain::holds_break;
 use yq_scalar::{FaultKind, ReadError};
 use yq_walk::head_place;
 
 /// Whether the text lends what a key or scalar stands for: it is on one line, and has no escapes.
 fn lends_text(piece: &str) -> bool
-    requires { scalars.is_quoted piece.now ≡ true → IsQuotedText piece.now }
+    requires { is_in_quotes piece.now ≡ true → IsQuotedText piece.now }
     ensures { result ≡ spec.lends_text piece.now }
 {
     if holds_break(piece) {
@@ -40,28 +39,72 @@ fn lends_text(piece: &str) -> bool
     } else {
         b'\''
     };
-    !between_quotes(piece).as_bytes().iter().any(|b| *b == sign)
+    !lent_text(piece).as_bytes().iter().any(|b| *b == sign)
+}
+
+/// Whether an alias, a flow collection or a block scalar begins so.
+fn begins_tree(head: &[u8]) -> bool
+    ensures { result ≡ spec.begins_tree head.now }
+{
+    matches!(head, [b'|' | b'>' | b'*' | b'[' | b'{', ..])
 }
 
 /// Whether the text lends what a head spells.
 fn lends_head(head: &str) -> bool
-    requires { scalars.is_quoted head.now ≡ true → IsQuotedText head.now }
+    requires { is_in_quotes head.now ≡ true → IsQuotedText head.now }
     ensures { result ≡ spec.lends_head head.now }
 {
-    let bytes = head.as_bytes();
-    let tree = begins_block(bytes)
-        || (first_is(b'*', bytes) || (first_is(b'[', bytes) || first_is(b'{', bytes)));
-    !tree && lends_text(head)
+    !begins_tree(head.as_bytes()) && lends_text(head)
+}
+
+/// The text that a key stands for.
+#[tactic(auto, unfolding(yq_inline::specs::Scalars::content_of))]
+fn key_text(alloc: Global, key: &str) -> Result<String, AllocError>
+    requires { is_in_quotes key.now ≡ true → IsQuotedText key.now }
+    ensures { IfOk result (λ s. string_bytes s ≡ content_of key.now) }
+{
+    if is_quoted(key.as_bytes()) {
+        quoted_content(alloc, key)
+    } else {
+        plain_content(alloc, key)
+    }
 }
 
 /// The text of a key that its text doesn't lend.
 fn made_key(alloc: Global, key: &str) -> Result<Option<String>, AllocError>
-    requires { scalars.is_quoted key.now ≡ true → IsQuotedText key.now }
+    requires { is_in_quotes key.now ≡ true → IsQuotedText key.now }
+    ensures { IfOk result (λ k. made_or (option_map string_bytes k) (lent key.now) ≡ content_of key.now) }
 {
     if lends_text(key) {
         return Ok(None);
     }
-    Ok(Some(content_of(alloc, key)?.into_string(alloc)?))
+    Ok(Some(key_text(alloc, key)?))
+}
+
+/// The head of row `i` that its text doesn't lend, where its keys are fit.
+fn made_head<'t>(
+    alloc: Global,
+    text: &'t str,
+    rows: &Rows<'t>,
+    i: usize,
+) -> Result<Option<Head<'t>>, ReadError>
+    requires cut { IsCutInto text.now rows.now }
+    requires within { i < length rows.now.rows }
+    ensures fits { OfRow text.now i (λ r. Decides result (content_is_fit r.content)) }
+    ensures told { OfRow text.now i (λ r. IfOk result (λ h. IsHeadMade text.now i h r)) }
+    ensures fault { IfErr result IsOfText }
+{
+    let head = rows.head(i);
+    if lends_head(head) {
+        return Ok(None);
+    }
+    let (start, _) = head_place(rows, i);
+    let behind = text.split_at(start).1;
+    let parent = rows.row(i).parent_indent();
+    match read_head(alloc, text, parent, head, behind) {
+        Ok(head) => Ok(Some(head)),
+        Err(e) => Err(e),
+    }
 }
 
 /// What is made of row `i`, where its keys are fit; nothing where its text lends all that it spells.
@@ -71,31 +114,22 @@ fn made_of<'t>(
     rows: &Rows<'t>,
     i: usize,
 ) -> Result<Option<Made<'t>>, ReadError>
-    requires cut { (c : Cut) × IsCut text.now c × (rows.now ≡ shown c) }
-    requires shown { IsShown rows.now }
+    requires cut { IsCutInto text.now rows.now }
     requires within { i < length rows.now.rows }
-    ensures fits { (c : Cut) → IsCut text.now c → rows.now ≡ shown c → (r : RowOf) → slice_get (rows_of c) i ≡ Some r →
-        Decides result (row_fits r) }
-    ensures told { (c : Cut) → IsCut text.now c → rows.now ≡ shown c → (r : RowOf) → slice_get (rows_of c) i ≡ Some r →
-        IfOk result (λ m. IsToldBy (length text.now) c m i r) }
+    ensures fits { OfRow text.now i (λ r. Decides result (row_fits r)) }
+    ensures told { OfRow text.now i (λ r. IfOk result (λ m. IsToldBy (length text.now) (cut_of text.now) m i r)) }
     ensures row { IfOk result (λ m. IfSome m (λ x. x.row ≡ i)) }
     ensures fault { IfErr result IsOfText }
 {
-    let row = rows.row(i);
-    if !key_fits(&row) {
-        let place = rows.start(i).saturating_add(row.gap().len());
+    let key = rows.key(i);
+    if !key_fits(key) {
+        let place = rows.start(i).saturating_add(rows.gap(i).len());
         return Err(ReadError::Fault(fault_at(FaultKind::MergeKey, text, place)));
     }
-    let key = made_key(alloc, row.key())?;
-    let head = if lends_head(row.head()) {
-        None
-    } else {
-        let (start, _) = head_place(rows, i);
-        let behind = text.split_at(start).1;
-        match read_head(alloc, text, row.parent_indent(), row.head(), behind) {
-            Ok(head) => Some(head),
-            Err(e) => return Err(e),
-        }
+    let key = made_key(alloc, key)?;
+    let head = match made_head(alloc, text, rows, i) {
+        Ok(head) => head,
+        Err(e) => return Err(e),
     };
     if key.is_none() && head.is_none() {
         return Ok(None);
@@ -109,22 +143,22 @@ pub(crate) fn made_rows<'t>(
     text: &'t str,
     rows: &Rows<'t>,
 ) -> Result<Vec<Made<'t>>, ReadError>
-    requires cut { (c : Cut) × IsCut text.now c × (rows.now ≡ shown c) }
-    requires shown { IsShown rows.now }
-    ensures fits { (c : Cut) → IsCut text.now c → rows.now ≡ shown c → Decides result (have_fit_keys (rows_of c)) }
-    ensures rise { IfOk result (λ ms. Rise 0 ms.items) }
-    ensures told { (c : Cut) → IsCut text.now c → rows.now ≡ shown c → (i : _) (r : RowOf) → slice_get (rows_of c) i ≡ Some r →
-        IfOk result (λ ms. IsTold (length text.now) c ms.items i r) }
+    requires cut { IsCutInto text.now rows.now }
+    ensures fits { Decides result (have_fit_keys (rows_of (cut_of text.now))) }
+    ensures made { IfOk result (λ ms. AreMade text.now ms.items) }
     ensures fault { IfErr result IsOfText }
 {
     let mut made = Vec::new(alloc);
-    'rows: for i in 0..rows.len() {
-        match made_of(alloc, text, rows, i) {
+    let mut at = 0;
+    'rows: while at < rows.len() {
+        match made_of(alloc, text, rows, at) {
             Ok(Some(found)) => made.push(found)?,
             Ok(None) => {}
             Err(e) => return Err(e),
         }
+        at += 1;
     }
+    made.shrink_to_fit();
     Ok(made)
 }
 

@@ -4,7 +4,7 @@ use Rattle.std.specs.List.{slice_get}
 use Rattle.yq_scalar.specs.Text.{is_empty}
 use Rattle.yq_inline.specs.Nodes.{first_is}
 use Rattle.yq_lines.specs.Outline.{Line}
-use Rattle.yq_rows.specs.View.{Slices, slices, view}
+use Rattle.yq_rows.specs.View.{slices}
 use Rattle.yq_walk.specs.Lines.{row_lines}
 use Rattle.yq_walk.proofs.WalkSpots.{located}
 use Rattle.yq_reading.proofs.AnchorRows.{bare_told, mark_takes}
@@ -16,16 +16,18 @@ use Rattle.yq_reading.proofs.anchors.may_take.Goals as goal
 pub returns-then-not-is_bare : goal.returns-then-not-is_bare
 returns-then-not-is_bare c = λ h l is. mark_takes l.mark l.anchor l.head (c.if-not-is_bare.ensures h l is)
 
-pub row-row-requires : goal.row-row-requires
-row-row-requires c = row_within c.args.x.text.now c.args.x.rows.now c.args.x.made.now c.args.x.document c.args.at c.requires.ready c.requires.line
+pub anchor-requires : goal.anchor-requires
+anchor-requires c = row_within c.args.x.text.now c.args.x.rows.now c.args.x.made.now c.args.x.document c.args.at c.requires.ready c.requires.line
+
+pub head-requires : goal.head-requires
+head-requires c = row_within c.args.x.text.now c.args.x.rows.now c.args.x.made.now c.args.x.document c.args.at c.requires.ready c.requires.line
 
 pub returns : goal.returns
 returns c = λ h l is.
     let k = located c.args.x.rows.now c.args.x.document h c.args.at c.requires.line in
     let own = same_Some _ _ (sym k.is ∙ is) in
-    let pieces = same_Some (view c.row-row.result) (slices k.row) (sym c.row-row.ensures ∙ k.pieces) in
     let v = row_content h.limit h.rows h.end h.rest _ k.row h.valid k.there in
     let first = ap (slice_get (row_lines k.row)) (sym c.requires.first) ∙ (k.in_row ∙ ap Some own) in
     c.is_unnamed.ensures
-    ∙ ((λ i. is_empty (c.anchor.ensures i) && not (first_is 42 (c.head.ensures i)))
-    ∙ (ap (λ (y : Slices). is_empty y.anchor && not (first_is 42 y.head)) pieces ∙ bare_told (parent_indent k.row) k.row v.0 l v.1 first (c.if-not-is_bare.ensures h l is)))
+    ∙ ((λ i. is_empty (c.anchor.ensures (slices k.row) k.pieces i) && not (first_is 42 (c.head.ensures (slices k.row) k.pieces i)))
+    ∙ bare_told (parent_indent k.row) k.row v.0 l v.1 first (c.if-not-is_bare.ensures h l is))

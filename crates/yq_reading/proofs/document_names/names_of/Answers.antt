@@ -1,8 +1,7 @@
 use Rattle.std.proofs.Common.{◌≡◌, ℕ, ◌+◌, ◌-◌, ◌++◌, [], drop, sym, ap, ◌∙◌, arith}
-use Rattle.std.proofs.lemmas.Option.{same_Some}
 use Rattle.yq_scalar.specs.Anchors.{with_anchor}
 use Rattle.yq_lines.specs.Names.{head_names, line_names}
-use Rattle.yq_rows.specs.View.{Slices, slices, view}
+use Rattle.yq_rows.specs.View.{slices}
 use Rattle.yq_walk.specs.Lines.{content_anchor, head_of, lines_of}
 use Rattle.yq_walk.specs.RowWalk.{IsLine}
 use Rattle.yq_walk.proofs.WalkRows.{rows_length}
@@ -10,7 +9,7 @@ use Rattle.yq_walk.proofs.WalkSpots.{located}
 use Rattle.yq_documents.specs.Made.{made_at, told_flow}
 use Rattle.yq_documents.specs.RowReading.{name_in}
 use Rattle.yq_reading.specs.Named.{all_named, flow_names}
-use Rattle.yq_reading.proofs.AnchorRows.{anchor_is}
+use Rattle.yq_documents.proofs.RowLineLaws.{anchor_is}
 use Rattle.yq_reading.proofs.HeadTold.{row_of_cut}
 use Rattle.yq_reading.proofs.NameRows.{flow_named, names_all, names_turn}
 use Rattle.yq_reading.proofs.ReadyLaws.{row_line}
@@ -22,8 +21,8 @@ rows-init c = λ k.
     ap (λ ns. all_named ns ++ line_names (lines_of (drop (c.args.x.document.first - c.args.x.document.first) k.document.rows))) c.new-names.ensures.items
     ∙ ap (λ (j : ℕ). line_names (lines_of (drop j k.document.rows))) none
 
-pub row-requires : goal.row-requires
-row-requires c = omega (arith, c.rows-test.true, c.requires.ready.document.within)
+pub anchor-requires : goal.anchor-requires
+anchor-requires c = omega (arith, c.rows-test.true, c.requires.ready.document.within)
 
 pub rows-preserved : goal.rows-preserved
 rows-preserved c = λ k.
@@ -31,8 +30,7 @@ rows-preserved c = λ k.
     let d = x.document in
     let at : IsLine x.rows.now d (record { row = c.rows.i; line = 0 }) = row_line x.rows.now d c.rows.i c.rows.auto.i c.rows-test.true in
     let f = located x.rows.now d k.document (record { row = c.rows.i; line = 0 }) at in
-    let pieces = same_Some (view c.row.result) (slices f.row) (sym c.row.ensures ∙ f.pieces) in
-    let name = c.anchor_name.ensures ∙ (ap name_in (c.anchor.ensures ∙ ap (λ (y : Slices). y.anchor) pieces) ∙ anchor_is f.row.content) in
+    let name = c.anchor_name.ensures ∙ (ap name_in (c.anchor.ensures (slices f.row) f.pieces) ∙ anchor_is f.row.content) in
     let told = k.told c.rows.i f.row (row_of_cut x.text.now x.rows.now x.made.now d k (record { row = c.rows.i; line = 0 }) at) in
     let head = c.made_flow.ensures ∙ ap told_flow c.made_at.ensures in
     let next : (c.rows.i - d.first) + 1 ≡ (c.rows.i + 1) - d.first = omega (arith, c.rows.auto.i) in

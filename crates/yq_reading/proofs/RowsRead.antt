@@ -1,0 +1,132 @@
+-- What the rows of a text spell is told by reading their heads again.
+use Rattle.std.proofs.Common.{◌≡◌, ℕ, ℤ, zero, suc, ◌+◌, ◌<◌, Bool, true, false, ◌&&◌, cond, not, codes, List, [], ◌∷◌, ◌++◌, length, drop, map, Option, Some, None, Result, Ok, Err, refl, sym, ap, ◌∙◌, subst, arith, append_assoc}
+use Rattle.std.proofs.Math.Seq.{drop-append_seam, get_or-append_seam}
+use Rattle.std.proofs.lemmas.Bool.{and_left, and_right}
+use Rattle.std.proofs.lemmas.List.{length-map}
+use Rattle.std.proofs.lemmas.Option.{cond_some, slice_get-map}
+use Rattle.std.specs.List.{slice_get}
+use Rattle.std.specs.Prelude.{option_map}
+use Rattle.std.specs.Str.{bytes_eq}
+use Rattle.yq_scalar.specs.Answers.{Gives}
+use Rattle.yq_scalar.specs.Quoted.{IsQuotedText}
+use Rattle.yq_scalar.specs.Tree as trees
+use Rattle.yq_scalar.specs.declared.fault.ReadError.{ReadError}
+use Rattle.yq_scalar.specs.declared.fault.ReadError.TheVariants as errors
+use Rattle.yq_inline.specs.Scalars.{is_quoted}
+use Rattle.yq_lines.specs.declared.line.Head.{Head}
+use Rattle.yq_lines.specs.View.{head_flow, head_view}
+use Rattle.yq_rows.specs.Exchange.{before_content, behind_row}
+use Rattle.yq_rows.specs.Rows as rows
+use Rattle.yq_rows.specs.Rows.{Row, Cut, content_text, parent_indent}
+use Rattle.yq_rows.specs.View.{Slices, content_cut, key_of, slices, rows_of, Shown, shown}
+use Rattle.yq_rows.proofs.PlaceLaws.{RowIn, place, row_in}
+use Rattle.yq_rows.proofs.SliceLaws.{content_slices}
+use Rattle.yq_documents.specs.FlowReading.{head_flow_at, row_flow}
+use Rattle.yq_documents.specs.KeyReading.{EndsIn}
+use Rattle.yq_documents.specs.Made.{lent_head}
+use Rattle.yq_documents.specs.Reading.{content_is_fit, cut_of, mark_is_fit}
+use Rattle.yq_documents.specs.RowReading.{head_at, row_fits}
+use Rattle.yq_walk.specs.Lines.{head_of}
+use Rattle.yq_documents.proofs.HeadLaws.{fitting, head_is, head_text}
+use Rattle.yq_documents.proofs.RowFlowLaws.{flow_is}
+use Rattle.yq_documents.proofs.RowLineLaws.{content_quoted}
+use Rattle.yq_walk.proofs.RowLaws.{mark_quoted}
+use Rattle.yq_reading.specs.Checking.{lends_head}
+use Rattle.yq_reading.specs.Deciding.{Decides, Denies}
+use Rattle.yq_reading.specs.FitReading.{key_fits}
+use Rattle.yq_reading.specs.Making.{IsCutInto, IsHeadMade}
+use Rattle.yq_reading.proofs.LendLaws.{lent_read}
+
+-- a key is fit that is no plain `<<`
+pub key_fit : (m : rows.Mark) → key_fits (key_of m) ≡ mark_is_fit m
+key_fit rows.Bare = refl
+key_fit rows.Dash = refl
+key_fit (rows.Key key colon) = refl
+
+-- an answer that comes where keys are fit decides it
+pub fit_given : (r : Result Head ReadError) (fit : Bool) (head : Option trees.Node) → Gives head_view r (fitting fit head) → Decides r fit
+fit_given (Ok h) fit head g = (cond_some fit _ _ g).0
+fit_given (Err errors.Memory) fit head g = tt
+fit_given (Err (errors.Fault f)) true head g = absurd (cc)
+fit_given (Err (errors.Fault f)) false head g = refl
+
+-- a row is there
+has_row : (rs : List Row) (i : ℕ) → i < length rs → (r : Row) × (slice_get rs i ≡ Some r)
+has_row [] i h = absurd (omega (arith, h))
+has_row (r ∷ rs) zero h = (r, refl)
+has_row (r ∷ rs) (suc i) h = has_row rs i (omega (arith, h))
+
+pub row_at : (t : List ℕ) (s : Shown) → IsCutInto t s → (i : ℕ) → i < length s.rows → (r : Row) × (slice_get (rows_of (cut_of t)) i ≡ Some r)
+row_at t s k i h = has_row (rows_of (cut_of t)) i (omega (arith, h, ap (λ (y : Shown). length y.rows) k.rows, length-map (rows_of (cut_of t)) slices))
+
+regroup : (a b c d e : List ℕ) → a ++ (b ++ (c ++ (d ++ e))) ≡ (a ++ (b ++ (c ++ d))) ++ e
+regroup a b c d e = simp append_assoc refl
+
+-- a row of a text
+module _ (t : List ℕ) (s : Shown) (k : IsCutInto t s) (i : ℕ) (r : Row) (is : slice_get (rows_of (cut_of t)) i ≡ Some r) where
+  abbrev c : Cut
+  c = cut_of t
+
+  abbrev before : List ℕ
+  before = before_content i c ++ ((slices r).space ++ ((slices r).anchor ++ (slices r).apart))
+
+  abbrev behind : List ℕ
+  behind = head_text r.content (behind_row i c)
+
+  pub pieces_there : slice_get s.rows i ≡ Some (slices r)
+  pieces_there = ap (λ (y : Shown). slice_get y.rows i) k.rows ∙ (slice_get-map slices (rows_of c) i ∙ ap (option_map slices) is)
+
+  row_here : RowIn r (behind_row i c) _
+  row_here = row_in c i true r k.cut.parts is
+
+  pub head_quoted : (h : List ℕ) → h ≡ (slices r).head → is_quoted h ≡ true → IsQuotedText h
+  head_quoted h e = subst (λ (x : List ℕ). is_quoted x ≡ true → IsQuotedText x) (sym e) (content_quoted (parent_indent r) r.content (behind_row i c) row_here.row.content)
+
+  pub key_quoted : (h : List ℕ) → h ≡ (slices r).key → is_quoted h ≡ true → IsQuotedText h
+  key_quoted h e = subst (λ (x : List ℕ). is_quoted x ≡ true → IsQuotedText x) (sym e) (mark_quoted r.mark r.content (behind_row i c) row_here.row.mark)
+
+  pub text_there : t ≡ before ++ behind
+  text_there =
+      let x : Slices = slices r in
+      k.cut.text
+      ∙ (place c i r is
+      ∙ (ap (λ (y : List ℕ). before_content i c ++ y) (sym (content_slices r.content (behind_row i c))) ∙ regroup (before_content i c) x.space x.anchor x.apart behind))
+
+  read_again : head_at t (parent_indent r) (slices r).head behind ≡ fitting (content_is_fit r.content) (head_of r.content)
+  read_again = head_is t (parent_indent r) r.content (behind_row i c) (before, text_there) row_here.row.content
+
+  flow_again : head_flow_at t (parent_indent r) (slices r).head behind ≡ row_flow (length t) r (behind_row i c)
+  flow_again = flow_is t (parent_indent r) r.content (behind_row i c) (before, text_there) row_here.row.content
+
+  -- the head is lent
+  module _ (h : List ℕ) (head : h ≡ (slices r).head) (lends : lends_head h ≡ true) where
+    lent_so : (fitting (content_is_fit r.content) (head_of r.content) ≡ Some (lent_head (slices r).head)) × (None ≡ row_flow (length t) r (behind_row i c))
+    lent_so =
+        let l = lent_read t (parent_indent r) (slices r).head behind (head_quoted (slices r).head refl) (ap lends_head (sym head) ∙ lends) in
+        (sym read_again ∙ l.0, sym l.1 ∙ flow_again)
+
+    pub lent_fit : content_is_fit r.content ≡ true
+    lent_fit = (cond_some (content_is_fit r.content) _ _ lent_so.0).0
+
+    pub lent_made : IsHeadMade t i None r
+    lent_made = record { head = sym (cond_some (content_is_fit r.content) _ _ lent_so.0).1; flow = lent_so.1 }
+
+  -- the head is read
+  module _ (p : ℤ) (h text : List ℕ) (start : ℕ) (parent : p ≡ parent_indent r) (head : h ≡ (slices r).head) (from : text ≡ drop start t) (place_is : start ≡ length before) where
+    from_there : text ≡ behind
+    from_there = from ∙ ((λ j. drop (place_is j) (text_there j)) ∙ drop-append_seam before behind)
+
+    pub text_ends : EndsIn t text
+    text_ends = (before, text_there ∙ ap (λ (x : List ℕ). before ++ x) (sym from_there))
+
+    pub head_read : head_at t p h text ≡ fitting (content_is_fit r.content) (head_of r.content)
+    head_read = (λ j. head_at t (parent j) (head j) (from_there j)) ∙ read_again
+
+    pub flow_read : head_flow_at t p h text ≡ row_flow (length t) r (behind_row i c)
+    flow_read = (λ j. head_flow_at t (parent j) (head j) (from_there j)) ∙ flow_again
+
+    pub read_made : (x : Head) → head_at t p h text ≡ Some (head_view x) → head_flow x ≡ head_flow_at t p h text → IsHeadMade t i (Some x) r
+    read_made x view flow = record {
+      head = sym (cond_some (content_is_fit r.content) _ _ (sym head_read ∙ view)).1;
+      flow = flow ∙ flow_read;
+    }
