@@ -24,7 +24,7 @@ use Rattle.yq_documents.specs.Seats.{Seat, behind_one, seat, seat_of, seat_at, d
 use Rattle.yq_lines.specs.Ends.{found_line, reached}
 use Rattle.yq_tree.proofs.FlowPlaceLaws.{flow_told}
 use Rattle.yq_lines.proofs.Values.{If}
-use Rattle.yq_tree.proofs.SeatedLaws.{get_drop, get_front}
+use Rattle.yq_walk.proofs.KnownLaws.{get_dropped, get_front}
 
 -- a line is one of its row, and that is one of the rows
 abbrev pub IsSeated : List Row → Seat → Type 0
@@ -49,7 +49,7 @@ seat_is n rs s e = go (seat n rs) (seated n rs) e
 -- the row of a line of rows that stand among those of a cut
 pub row_there : (c : Cut) (rs more : List Row) (first n : ℕ) (s : Seat) → drop first (rows_of c) ≡ rs ++ more → seat n rs ≡ Some s → slice_get (rows_of c) (first + s.before) ≡ Some s.row
 row_there c rs more first n s there e =
-    sym (get_drop first (rows_of c) s.before) ∙ (ap (λ (xs : List Row). slice_get xs s.before) there ∙ get_front rs more s.before s.row (seat_is n rs s e).0)
+    sym (get_dropped (rows_of c) first s.before) ∙ (ap (λ (xs : List Row). slice_get xs s.before) there ∙ get_front rs more s.before s.row (seat_is n rs s e).0)
 
 -- a place in a text
 abbrev pub Place : Type 0

@@ -17,6 +17,7 @@ use Rattle.yq_rows.specs.Rows.{Content, Nothing, Inline, Block, content_text, Ro
 use Rattle.yq_rows.specs.View.{rows_of}
 use Rattle.yq_rows.proofs.PlaceLaws.{place, content_then}
 use Rattle.yq_documents.specs.declared.path.Part.TheVariants as parts
+use Rattle.yq_walk.proofs.KnownLaws.{get_dropped}
 use Rattle.yq_tree.specs.EntryReading as places
 use Rattle.yq_tree.specs.EntryReading.{lines_place, line_head, lines_content, line_content, line_entry, inline_node, placed_inline, flow_entry, entry_from, content_from}
 use Rattle.yq_lines.specs.Ends.{deeper_count, lines_end}
@@ -40,7 +41,7 @@ use Rattle.yq_tree.proofs.PrintedLaws.{IsPrinted, ArePrinted, lines_are}
 use Rattle.yq_tree.proofs.FoundEntries.{lines_count, within_some, IsFound, entry_found, line_there, entry_is}
 use Rattle.yq_tree.proofs.FlowPieces.{pieces, at_pieces, head_there}
 use Rattle.yq_tree.proofs.SeatedLines.{IsSeated, IsPlaced}
-use Rattle.yq_tree.proofs.RunSpans.{get_some, get_drop, content_size, seat_at, run_span, head_span}
+use Rattle.yq_tree.proofs.RunSpans.{get_some, content_size, seat_at, run_span, head_span}
 use Rattle.yq_tree.proofs.UnderCounts.{count_stops, count_holds, end_is}
 use Rattle.yq_tree.proofs.FlowSpans.{item_place, value_place}
 use Rattle.yq_tree.proofs.PieceSpelling.{bare_is}
@@ -122,7 +123,7 @@ module _ (c : Cut) (p : Part) (more : List Row) (k : ℕ) (before behind : List 
   last_under n m l z x el count ez ex = omega (arith, first, deep m refl)
     where
       line : (j : ℕ) (w : PrintedLine) → slice_get (printed_lines p.rows) (suc n + j) ≡ Some w → slice_get (drop (suc n) (map line_in (printed_lines p.rows))) j ≡ Some w.line
-      line j w ew = get_drop (map line_in (printed_lines p.rows)) (suc n) j ∙ (slice_get-map line_in (printed_lines p.rows) (suc n + j) ∙ ap (option_map line_in) ew)
+      line j w ew = get_dropped (map line_in (printed_lines p.rows)) (suc n) j ∙ (slice_get-map line_in (printed_lines p.rows) (suc n + j) ∙ ap (option_map line_in) ew)
 
       first : level x.line ≤ level l.line
       first =

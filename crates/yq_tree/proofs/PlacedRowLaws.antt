@@ -19,7 +19,8 @@ use Rattle.yq_tree.specs.PlacedRows.{PlacedPart, PlacedRow, part_behind, placed_
 use Rattle.yq_tree.specs.SeatReading.{Numbers, numbers}
 use Rattle.yq_documents.specs.Seats.{Seat, seat_of, seat_at, rows_before, document_row}
 use Rattle.yq_tree.proofs.PrintedTexts.{map_some}
-use Rattle.yq_tree.proofs.SeatedLaws.{steps_row, get_front}
+use Rattle.yq_walk.proofs.KnownLaws.{get_front}
+use Rattle.yq_tree.proofs.SeatedLaws.{steps_row}
 
 -- A row of a cut stands behind others, between these texts.
 pub record IsAt (c : Cut) (i : ℕ) (before : List ℕ) (r : Row) (behind : List ℕ) : Type 0 where

@@ -36,7 +36,7 @@ use Rattle.yq_tree.proofs.RemovalLines.{LineSeam, are_lines, lies_in, line_seam}
 use Rattle.yq_tree.proofs.RemovalPlaceLaws.{own_stands}
 use Rattle.yq_tree.proofs.RemovalTexts.{old_text, texts_then}
 use Rattle.yq_documents.proofs.PartRows.{part_begins}
-use Rattle.yq_tree.proofs.SeatedLaws.{get_drop, get_front}
+use Rattle.yq_walk.proofs.KnownLaws.{get_dropped, get_front}
 use Rattle.yq_tree.proofs.StartLaws.{start_told}
 
 -- ---- a text cut between lines
@@ -105,7 +105,7 @@ told_first t s d front r rs back m h =
     let total : length d.part.rows ≡ length front + (length own + length back) =
     ap length h.rows_are ∙ (length-append front (own ++ back) ∙ ap (λ (j : ℕ). length front + j) (length-append own back)) in
     let there : (j : ℕ) (q : Row) → slice_get d.part.rows j ≡ Some q → slice_get (rows_of c) (k + j) ≡ Some q =
-    λ j q e. sym (get_drop k (rows_of c) j) ∙ (ap (λ (z : List Row). slice_get z j) begin.1 ∙ get_front d.part.rows begin.0 j q e) in
+    λ j q e. sym (get_dropped (rows_of c) k j) ∙ (ap (λ (z : List Row). slice_get z j) begin.1 ∙ get_front d.part.rows begin.0 j q e) in
     let pieces : (j : ℕ) (q : Row) → slice_get d.part.rows j ≡ Some q → slice_get s.rows (k + j) ≡ Some (slices q) =
     λ j q e. ap (λ (y : Shown). slice_get y.rows (k + j)) h.shown_is ∙ (slice_get-map slices (rows_of c) (k + j) ∙ ap (option_map slices) (there j q e)) in
     let own_row : slice_get d.part.rows (length front) ≡ Some r = ap (λ (z : List Row). slice_get z (length front)) h.rows_are ∙ slice_seam front r (rs ++ back) in

@@ -13,6 +13,7 @@ use Rattle.yq_rows.specs.Rows as rows
 use Rattle.yq_rows.specs.Rows.{Content, Nothing, Inline, Block, dashes_text, mark_text, anchor_text, Row, rows_text, Part, Cut}
 use Rattle.yq_rows.specs.View.{anchor_cut, anchor_of, apart_of, content_cut, rows_of}
 use Rattle.yq_rows.proofs.PlaceLaws.{part_then}
+use Rattle.yq_walk.proofs.KnownLaws.{get_dropped}
 use Rattle.yq_tree.specs.EntryReading.{before_line, through_row, lines_place, head_end, head_extent, line_head}
 use Rattle.yq_walk.specs.Lines.{head_of, lines_of}
 use Rattle.yq_inline.specs.Trees.{node_head}
@@ -124,11 +125,6 @@ get_some [] n x e = absurd (none-some _ e)
 get_some (y ∷ xs) zero x e = ap (λ z. z ∷ xs) (same_Some _ _ e)
 get_some (y ∷ xs) (suc n) x e = get_some xs n x e
 
-pub get_drop : {A : Type 0} (xs : List A) (n m : ℕ) → slice_get (drop n xs) m ≡ slice_get xs (n + m)
-get_drop xs zero m = let e : m ≡ 0 + m = omega arith in ap (slice_get xs) e
-get_drop [] (suc n) m = refl
-get_drop (x ∷ xs) (suc n) m = let e : suc (n + m) ≡ suc n + m = omega arith in get_drop xs n m ∙ ap (slice_get (x ∷ xs)) e
-
 -- the text of a line up to its last break
 abbrev pub line_less : PrintedLine → List ℕ
 line_less z = line_front z ++ (z.mark ++ less_end z.content)
@@ -209,7 +205,7 @@ module _ (c : Cut) (p : Part) (more : List Row) (k : ℕ) (s : PrintedDocument) 
       let rest : List PrintedLine = drop (suc n) (printed_lines p.rows) in
       let from : drop n (printed_lines p.rows) ≡ l ∷ rest = get_some (printed_lines p.rows) n l el in
       let run : (line_front l) ++ run_text l (take m rest) ≡ print_lines (take m (l ∷ rest)) (line_less z) =
-      run_last m l z rest (ap (λ x. slice_get x m) (sym from) ∙ (get_drop (printed_lines p.rows) n m ∙ ez)) in
+      run_last m l z rest (ap (λ x. slice_get x m) (sym from) ∙ (get_dropped (printed_lines p.rows) n m ∙ ez)) in
       let whole : print_lines (take (n + m) (printed_lines p.rows)) (line_less z) ≡ print_lines (take n (printed_lines p.rows)) (line_front l ++ run_text l (take m rest)) =
       ap (λ x. print_lines x (line_less z)) (take-add n m (printed_lines p.rows) ∙ ap (λ x. take n (printed_lines p.rows) ++ take m x) from)
       ∙ (lines_append (take n (printed_lines p.rows)) (take m (l ∷ rest)) (line_less z) ∙ ap (print_lines (take n (printed_lines p.rows))) (sym run)) in

@@ -1,5 +1,5 @@
 -- Where a part of a line stands, by the pieces of its row.
-use Rattle.std.proofs.Common.{◌≡◌, ℕ, zero, suc, ◌+◌, ◌-◌, ◌<◌, ltb, List, [], ◌∷◌, ◌++◌, length, drop, Option, Some, None, option_map, Bool, true, false, cond, refl, sym, ap, ◌∙◌, subst, arith}
+use Rattle.std.proofs.Common.{◌≡◌, ℕ, suc, ◌+◌, ◌-◌, ◌<◌, ltb, List, [], ◌∷◌, length, Option, Some, None, option_map, Bool, true, false, cond, refl, sym, ap, ◌∙◌, subst}
 use Rattle.std.proofs.lemmas.Option.{slice_get_within, slice_get-map, same_Some}
 use Rattle.std.specs.List.{slice_get}
 use Rattle.yq_scalar.specs.Answers.{◌>>=◌}
@@ -17,6 +17,7 @@ use Rattle.yq_tree.specs.RowWalk.{HasCut}
 use Rattle.yq_tree.specs.SeatReading.{Numbers, numbers}
 use Rattle.yq_documents.specs.Seats.{Seat, behind_one, seat, seat_of, seat_at, document_row}
 use Rattle.yq_documents.proofs.PartRows.{part_begins}
+use Rattle.yq_walk.proofs.KnownLaws.{get_dropped, get_front}
 use Rattle.yq_lines.proofs.Values.{If}
 
 -- the row of a line
@@ -37,21 +38,11 @@ pub steps_row : (steps : Option ℕ) (rs : List Row) (s : Seat) → (steps >>= �
 steps_row None rs s e = absurd (cc)
 steps_row (Some n) rs s e = of_some (λ q. slice_get rs q.before ≡ Some q.row) (seat n rs) s (seat_row n rs) e
 
-pub get_front : (xs more : List Row) (i : ℕ) (r : Row) → slice_get xs i ≡ Some r → slice_get (xs ++ more) i ≡ Some r
-get_front [] more i r e = absurd (cc)
-get_front (x ∷ xs) more zero r e = e
-get_front (x ∷ xs) more (suc i) r e = get_front xs more i r e
-
-pub get_drop : (k : ℕ) (xs : List Row) (i : ℕ) → slice_get (drop k xs) i ≡ slice_get xs (k + i)
-get_drop zero xs i = let same : i ≡ 0 + i = omega arith in ap (slice_get xs) same
-get_drop (suc k) [] i = refl
-get_drop (suc k) (x ∷ xs) i = let same : suc (k + i) ≡ suc k + i = omega arith in get_drop k xs i ∙ ap (slice_get (x ∷ xs)) same
-
 document_seat : (path : Path) (c : Cut) (o : Option Part) (s : Seat) → slice_get (document_parts c) path.doc ≡ o → (o >>= λ d. seat_of (steps_of path) d.rows) ≡ Some s → slice_get (rows_of c) (document_row path.doc c + s.before) ≡ Some s.row
 document_seat path c None s is e = absurd (cc)
 document_seat path c (Some p) s is e =
     let b = part_begins c path.doc p is in
-    sym (get_drop (document_row path.doc c) (rows_of c) s.before)
+    sym (get_dropped (rows_of c) (document_row path.doc c) s.before)
     ∙ (ap (λ (rs : List Row). slice_get rs s.before) b.1
     ∙ get_front p.rows b.0 s.before s.row (steps_row (line_of (steps_of path) (lines_of p.rows)) p.rows s e))
 
