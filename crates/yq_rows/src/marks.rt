@@ -8,6 +8,7 @@ ghost use Rattle.yq_rows.specs.Grammar.{key_limit};
 ghost use Rattle.yq_rows.specs.Lending.{begin_view, begun, mark_view};
 ghost use Rattle.yq_rows.specs.Reading as spec;
 ghost use Rattle.yq_rows.specs.Rows as rows;
+ghost use Rattle.yq_rows.specs.View as view;
 
 use crate::words::read_front;
 use yq_scalar::characters::char_count;
@@ -46,6 +47,18 @@ pub(crate) fn is_entry(mark: Mark<'_>) -> bool
     matches!(mark, Mark::Dash | Mark::Key(..))
 }
 
+/// The key of a mark, and what stands behind it up to its `:`; nothing where it has none.
+#[inline]
+pub(crate) fn key_of<'t>(mark: Mark<'t>) -> (&'t str, &'t str)
+    ensures key { result.0.now ≡ view.key_of (mark_view mark.entry) }
+    ensures colon { result.1.now ≡ view.colon_of (mark_view mark.entry) }
+{
+    match mark {
+        Mark::Bare | Mark::Dash => ("", ""),
+        Mark::Key(key, colon) => (key, colon),
+    }
+}
+
 /// The parent indentation of what stands behind a mark in a column: that column, or, without a key
 /// or dash, one less.
 pub(crate) fn parent_of(mark: Mark<'_>, column: usize) -> i64
@@ -59,8 +72,8 @@ pub(crate) fn parent_of(mark: Mark<'_>, column: usize) -> i64
 }
 
 /// One column less, from -1 on.
-fn before_column(column: usize) -> i64
-    requires { column ≤ 4294967295 }
+pub(crate) fn before_column(column: usize) -> i64
+    requires { column ≤ 8589934591 }
     ensures { result ≡ rows.before_column column }
 {
     if column == 0 { -1 } else { (column - 1) as i64 }
