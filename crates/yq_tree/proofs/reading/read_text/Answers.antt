@@ -1,6 +1,7 @@
 use Rattle.std.proofs.Common.{Some, sym, ap, ◌∙◌}
 use Rattle.yq_documents.specs.Reading.{cut_of}
-use Rattle.yq_tree.proofs.ReadLaws.{scan_fails, text_denied, text_read}
+use Rattle.yq_places.proofs.ReadLaws.{scan_fails, text_read}
+use Rattle.yq_tree.proofs.DeniedLaws.{text_denied}
 use Rattle.yq_tree.proofs.reading.read_text.Goals as goal
 
 pub returns-in-Err-clause-exact : goal.returns-in-Err-clause-exact

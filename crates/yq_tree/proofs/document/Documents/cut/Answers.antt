@@ -1,4 +1,4 @@
-use Rattle.yq_tree.proofs.HeldLaws.{cut_told}
+use Rattle.yq_places.proofs.HeldLaws.{cut_told}
 use Rattle.yq_tree.proofs.document.Documents.cut.Goals as goal
 
 pub new-requires : goal.new-requires
