@@ -19,9 +19,10 @@ use Rattle.yq_inline.specs.Scalars.{content_of, is_quoted}
 use Rattle.yq_lines.specs.declared.line.Head.{Head}
 use Rattle.yq_lines.specs.View.{head_flow, head_view}
 use Rattle.yq_rows.specs.Exchange.{before_content, behind_row, rows_behind}
+use Rattle.yq_rows.specs.Grammar.{IsMark}
 use Rattle.yq_rows.specs.Rows as rows
 use Rattle.yq_rows.specs.Rows.{Row, Cut, content_text, parent_indent}
-use Rattle.yq_rows.specs.View.{Slices, content_cut, key_of, slices, rows_of, Shown, shown}
+use Rattle.yq_rows.specs.View.{Slices, colon_of, content_cut, key_of, slices, rows_of, Shown, shown}
 use Rattle.yq_rows.proofs.PlaceLaws.{RowIn, place, row_in}
 use Rattle.yq_rows.proofs.SliceLaws.{content_slices}
 use Rattle.yq_documents.specs.FlowReading.{head_flow_at, row_flow}
@@ -34,15 +35,16 @@ use Rattle.yq_walk.specs.Lines.{head_of}
 use Rattle.yq_documents.proofs.HeadLaws.{fitting, head_is, head_text}
 use Rattle.yq_documents.proofs.RowFlowLaws.{flow_is}
 use Rattle.yq_documents.proofs.RowLineLaws.{content_quoted}
-use Rattle.yq_walk.proofs.RowLaws.{mark_quoted}
-use Rattle.yq_reading.specs.Checking.{lends_head}
+use Rattle.yq_walk.proofs.RowLaws.{colon_some, mark_quoted}
+use Rattle.yq_lines.proofs.OneLine.{kept}
+use Rattle.yq_reading.specs.Checking.{lends_head, lends_text}
 use Rattle.yq_reading.specs.Deciding.{Denies}
 use Rattle.yq_reading.specs.FitReading.{key_fits}
-use Rattle.yq_reading.specs.Making.{IsCutInto, IsHeadMade}
-use Rattle.yq_reading.proofs.LendLaws.{lent_read}
+use Rattle.yq_reading.specs.Making.{IsCutInto, IsHeadMade, IsKeyMade}
+use Rattle.yq_reading.proofs.LendLaws.{lends_key, lent_read}
 
 -- a key is fit that is no plain `<<`
-pub key_fit : (m : rows.Mark) → key_fits (key_of m) ≡ mark_is_fit m
+key_fit : (m : rows.Mark) → key_fits (key_of m) ≡ mark_is_fit m
 key_fit rows.Bare = refl
 key_fit rows.Dash = refl
 key_fit (rows.Key key colon) = refl
@@ -56,11 +58,22 @@ unfit_told (errors.Fault k) o false head is f = refl
 pub fit_told : (o : Option (Option trees.Node)) (fit : Bool) (head x : Option trees.Node) → o ≡ fitting fit head → o ≡ Some x → fit ≡ true
 fit_told o fit head x is e = (cond_some fit _ _ (sym is ∙ e)).0
 
+-- a row without a colon has no key, which is fit and stands for itself
+no_key : (m : rows.Mark) (c : rows.Content) (rest : List ℕ) → IsMark m c rest → is_empty (colon_of m) ≡ true → (mark_is_fit m ≡ true) × (lent_text (key_of m) ≡ content_of (key_of m))
+no_key rows.Bare c rest h e = (refl, kept [] refl refl)
+no_key rows.Dash c rest h e = (refl, kept [] refl refl)
+no_key (rows.Key key colon) c rest h e = absurd (false≢true (sym (ap is_empty h.colon_is.spelled ∙ colon_some h.colon_is.white) ∙ e))
+
+-- no head is lent
+pub no_head : (h : List ℕ) → is_empty h ≡ true → lends_head h ≡ true
+no_head [] e = refl
+no_head (b ∷ bs) e = absurd (false≢true e)
+
 -- what is made of a row's key and of its head is made of the row
-pub told_by : (t : List ℕ) (i : ℕ) (r : Row) (piece : List ℕ) (key : Option (String Global)) (head : Option Head) (m : Option Made) → piece ≡ (slices r).key → made_or (option_map string_bytes key) (lent_text piece) ≡ content_of piece → IsHeadMade t i head r →
+pub told_by : (t : List ℕ) (i : ℕ) (r : Row) (key : Option (String Global)) (head : Option Head) (m : Option Made) → IsKeyMade key r → IsHeadMade t i head r →
     option_and_then (λ x. option_map string_bytes x.key) m ≡ option_map string_bytes key → option_and_then (λ x. option_map head_view x.head) m ≡ option_map head_view head → option_and_then (λ x. option_and_then head_flow x.head) m ≡ option_and_then head_flow head → IsToldBy (length t) (cut_of t) m i r
-told_by t i r piece key head m is spelled made k h f = record {
-  key = subst (λ (x : List ℕ). made_or (option_and_then (λ y. option_map string_bytes y.key) m) (lent_text x) ≡ content_of x) is (ap (λ o. made_or o (lent_text piece)) k ∙ spelled);
+told_by t i r key head m spelled made k h f = record {
+  key = ap (λ o. made_or o (lent_text (slices r).key)) k ∙ spelled;
   head = ap (λ o. made_or o (lent_head (slices r).head)) h ∙ made.head;
   flow = f ∙ made.flow;
 }
@@ -115,6 +128,17 @@ module _ (t : List ℕ) (s : Shown) (k : IsCutInto t s) (i : ℕ) (r : Row) (is 
 
   pub key_quoted : (h : List ℕ) → h ≡ (slices r).key → is_quoted h ≡ true → IsQuotedText h
   key_quoted h e = subst (λ (x : List ℕ). is_quoted x ≡ true → IsQuotedText x) (sym e) (mark_quoted r.mark r.content (behind_row i c) row_here.row.mark)
+
+  pub keyless : is_empty (slices r).colon ≡ true → (mark_is_fit r.mark ≡ true) × IsKeyMade None r
+  keyless = no_key r.mark r.content (behind_row i c) row_here.row.mark
+
+  -- the key is written
+  module _ (key : List ℕ) (is_key : key ≡ (slices r).key) where
+    pub key_fits_is : key_fits key ≡ mark_is_fit r.mark
+    key_fits_is = ap key_fits is_key ∙ key_fit r.mark
+
+    pub key_lent : lends_text key ≡ true → IsKeyMade None r
+    key_lent lends = lends_key (slices r).key (key_quoted (slices r).key refl) (ap lends_text (sym is_key) ∙ lends)
 
   pub text_there : t ≡ before ++ behind
   text_there =

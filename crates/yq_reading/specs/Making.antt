@@ -1,5 +1,7 @@
 -- Reading (own; a reader may skip it): what is made of the rows of a text.
-use Rattle.std.specs.Prelude.{◌≡◌, ℕ, List, [], ◌∷◌, length, slice_get, Option, Some, None, option_and_then, option_map}
+use Rattle.std.specs.Prelude.{◌≡◌, ℕ, List, [], ◌∷◌, length, slice_get, Option, Some, None, String, option_and_then, option_map, string_bytes}
+use Rattle.std.specs.declared.alloc.Global.{Global}
+use Rattle.yq_inline.specs.Scalars.{content_of}
 use Rattle.yq_lines.specs.declared.line.Head.{Head}
 use Rattle.yq_lines.specs.View.{head_flow, head_view}
 use Rattle.yq_rows.specs.Exchange.{behind_row}
@@ -8,7 +10,7 @@ use Rattle.yq_rows.specs.Rows.{Row}
 use Rattle.yq_rows.specs.View.{rows_of, slices, Shown, shown}
 use Rattle.yq_walk.specs.Lines.{head_of}
 use Rattle.yq_documents.specs.FlowReading.{row_flow}
-use Rattle.yq_documents.specs.Made.{IsTold, Rise, lent_head, made_or}
+use Rattle.yq_documents.specs.Made.{IsTold, Rise, lent_head, lent_text, made_or}
 use Rattle.yq_documents.specs.Reading.{cut_of}
 use Rattle.yq_documents.specs.declared.made.Made.{Made}
 
@@ -20,6 +22,10 @@ pub record IsCutInto (t : List ℕ) (s : Shown) : Type 0 where
 -- What is said of row i of a text (own).
 abbrev pub OfRow : List ℕ → ℕ → (Row → Type 0) → Type 0
 OfRow t i said = (r : Row) → slice_get (rows_of (cut_of t)) i ≡ Some r → said r
+
+-- What a row's key stands for is told by the text that is made of it, if one is (own).
+abbrev pub IsKeyMade : Option (String Global) → Row → Type 0
+IsKeyMade k r = made_or (option_map string_bytes k) (lent_text (slices r).key) ≡ content_of (slices r).key
 
 -- What a row's head spells is told by the head that is made of it, if one is (own).
 pub record IsHeadMade (t : List ℕ) (i : ℕ) (h : Option Head) (r : Row) : Type 0 where

@@ -6,12 +6,12 @@ ghost use Rattle.yq_scalar.specs.Quoted.{IsQuotedText};
 ghost use Rattle.yq_inline.specs.Scalars.{content_of, is_quoted as is_in_quotes};
 ghost use Rattle.yq_lines.specs.View.{head_flow, head_view};
 ghost use Rattle.yq_rows.specs.View.{rows_of};
-ghost use Rattle.yq_documents.specs.Made.{IsToldBy, lent_text as lent, made_or};
-ghost use Rattle.yq_documents.specs.Reading.{content_is_fit, cut_of, have_fit_keys};
+ghost use Rattle.yq_documents.specs.Made.{IsToldBy};
+ghost use Rattle.yq_documents.specs.Reading.{content_is_fit, cut_of, have_fit_keys, mark_is_fit};
 ghost use Rattle.yq_documents.specs.RowReading.{row_fits};
 ghost use Rattle.yq_reading.specs.Checking as spec;
 ghost use Rattle.yq_reading.specs.Deciding.{Decides};
-ghost use Rattle.yq_reading.specs.Making.{AreMade, IsCutInto, IsHeadMade, OfRow, listed};
+ghost use Rattle.yq_reading.specs.Making.{AreMade, IsCutInto, IsHeadMade, IsKeyMade, OfRow, listed};
 
 use crate::fit::key_fits;
 use crate::nested::made_flow;
@@ -76,11 +76,27 @@ fn key_text(alloc: Global, key: &str) -> Result<String, AllocError>
     }
 }
 
-/// The text of a key that its text doesn't lend.
-fn made_key(alloc: Global, key: &str) -> Result<Option<String>, AllocError>
-    requires { is_in_quotes key.now ≡ true → IsQuotedText key.now }
-    ensures { IfOk result (λ k. made_or (option_map string_bytes k) (lent key.now) ≡ content_of key.now) }
+/// The text of row `i`'s key that its text doesn't lend, where the key is fit.
+fn made_key<'t>(
+    alloc: Global,
+    text: &'t str,
+    rows: &Rows<'t>,
+    i: usize,
+) -> Result<Option<String>, ReadError>
+    requires cut { IsCutInto text.now rows.now }
+    requires within { i < length rows.now.rows }
+    ensures fits { OfRow text.now i (λ r. Decides result (mark_is_fit r.mark)) }
+    ensures told { OfRow text.now i (λ r. IfOk result (λ k. IsKeyMade k r)) }
+    ensures fault { IfErr result IsOfText }
 {
+    if !rows.has_colon(i) {
+        return Ok(None);
+    }
+    let key = rows.key(i);
+    if !key_fits(key) {
+        let place = rows.start(i).saturating_add(rows.gap(i).len());
+        return Err(ReadError::Fault(fault_at(FaultKind::MergeKey, text, place)));
+    }
     if lends_text(key) {
         return Ok(None);
     }
@@ -100,6 +116,9 @@ fn made_head<'t>(
     ensures told { OfRow text.now i (λ r. IfOk result (λ h. IsHeadMade text.now i h r)) }
     ensures fault { IfErr result IsOfText }
 {
+    if !rows.has_head(i) {
+        return Ok(None);
+    }
     let head = rows.head(i);
     if lends_head(head) {
         return Ok(None);
@@ -140,12 +159,10 @@ fn made_of<'t>(
     ensures row { IfOk result (λ m. IfSome m (λ x. x.row ≡ i)) }
     ensures fault { IfErr result IsOfText }
 {
-    let piece = rows.key(i);
-    if !key_fits(piece) {
-        let place = rows.start(i).saturating_add(rows.gap(i).len());
-        return Err(ReadError::Fault(fault_at(FaultKind::MergeKey, text, place)));
-    }
-    let key = made_key(alloc, piece)?;
+    let key = match made_key(alloc, text, rows, i) {
+        Ok(key) => key,
+        Err(e) => return Err(e),
+    };
     match made_head(alloc, text, rows, i) {
         Ok(head) => Ok(made_row(i, key, head)),
         Err(e) => Err(e),

@@ -1,10 +1,24 @@
-use Rattle.std.proofs.Common.{◌≡◌, rules, ℕ, ℤ, List, sym, ap, ◌∙◌, SFits, w64, to_z}
+use Rattle.std.proofs.Common.{◌≡◌, rules, ℕ, ℤ, refl, sym, ap, ◌∙◌, SFits, w64, to_z}
+use Rattle.std.proofs.lemmas.Bool.{not-false}
 use Rattle.std.proofs.lemmas.Int.{to_z-of_z}
+use Rattle.yq_scalar.specs.Text.{is_empty}
 use Rattle.std.proofs.lemmas.Option.{same_Some}
 use Rattle.yq_rows.specs.View.{Slices, slices, view as row_view}
 use Rattle.yq_documents.specs.Reading.{cut_of}
-use Rattle.yq_reading.proofs.RowsRead.{fit_told, head_quoted, head_read, lent_fit, lent_made, pieces_there, place_whole, read_made, row_at, text_ends, unfit_told}
+use Rattle.yq_reading.proofs.RowsRead.{fit_told, head_quoted, head_read, lent_fit, lent_made, no_head, pieces_there, place_whole, read_made, row_at, text_ends, unfit_told}
 use Rattle.yq_reading.proofs.making.made_head.Goals as goal
+
+pub returns-then-not-has_head-clause-fits : goal.returns-then-not-has_head-clause-fits
+returns-then-not-has_head-clause-fits c = λ r is.
+    let k = c.requires.cut in
+    let none = not-false (is_empty (slices r).head) (sym (c.has_head.ensures (slices r) (pieces_there c.args.text.now c.args.rows.now k c.args.i r is)) ∙ c.if-not-has_head.true) in
+    lent_fit c.args.text.now c.args.rows.now k c.args.i r is (slices r).head refl (no_head (slices r).head none)
+
+pub returns-then-not-has_head-clause-told : goal.returns-then-not-has_head-clause-told
+returns-then-not-has_head-clause-told c = λ r is.
+    let k = c.requires.cut in
+    let none = not-false (is_empty (slices r).head) (sym (c.has_head.ensures (slices r) (pieces_there c.args.text.now c.args.rows.now k c.args.i r is)) ∙ c.if-not-has_head.true) in
+    lent_made c.args.text.now c.args.rows.now k c.args.i r is (slices r).head refl (no_head (slices r).head none)
 
 pub lends_head-requires : goal.lends_head-requires
 lends_head-requires c =
