@@ -135,7 +135,7 @@ fn made_head<'t>(
 /// What is made of row `i`, by what is made of its key and of its head, if anything is.
 fn made_row<'t>(i: usize, key: Option<String>, head: Option<Head<'t>>) -> Option<Made<'t>>
     ensures row { IfSome result (λ m. m.row ≡ i) }
-    ensures key { option_and_then (λ m. option_map string_bytes m.key) result ≡ option_map string_bytes key.entry }
+    ensures key { option_and_then (λ m. option_map string_bytes m.key) result ≡ option_map string_bytes key }
     ensures head { option_and_then (λ m. option_map head_view m.head) result ≡ option_map head_view head.entry }
     ensures flow { option_and_then (λ m. option_and_then head_flow m.head) result ≡ option_and_then head_flow head.entry }
 {
