@@ -1,6 +1,7 @@
-use Rattle.std.proofs.Common.{ℕ, refl, sym, ap, ◌∙◌}
+use Rattle.std.proofs.Common.{rules, ℕ, refl, sym, ap, ◌∙◌, SFits, w64}
 use Rattle.std.proofs.lemmas.Bool.{not-false}
 use Rattle.yq_scalar.specs.Text.{is_empty}
+use Rattle.std.proofs.lemmas.Int.{to_z-of_z}
 use Rattle.std.proofs.lemmas.Option.{same_Some}
 use Rattle.yq_rows.specs.View.{Slices, slices}
 use Rattle.yq_documents.specs.Reading.{cut_of}
@@ -64,7 +65,8 @@ returns-in-Ok-clause-fits c = λ r is.
     let pieces = pieces_there c.args.text.now c.args.rows.now k c.args.i r is in
     let head = c.head-head.ensures (slices r) pieces in
     let start = ap (λ (x : ℕ × ℕ). x.0) (c.head_place-start.ensures (cut_of c.args.text.now) k.rows r is) in
-    let parent = c.parent_indent-parent.ensures ∙ ap (λ (x : Slices). x.parent) (same_Some _ _ (sym c.row.ensures ∙ pieces)) in
+    let f : SFits w64 c.parent_indent-parent.result = search rules in
+    let parent = to_z-of_z w64 c.parent_indent-parent.result f ∙ (c.parent_indent-parent.ensures ∙ ap (λ (x : Slices). x.parent) (same_Some _ _ (sym c.row.ensures ∙ pieces))) in
     fit_told _ _ _ _ (head_read c.args.text.now c.args.rows.now k c.args.i r is c.split_at.result.1.now c.head_place-start.result.0 c.split_at.ensures.back start _ c.head-head.result.now parent head) c.in-Ok.ensures.view
 
 pub returns-in-Ok-clause-told : goal.returns-in-Ok-clause-told
@@ -73,7 +75,8 @@ returns-in-Ok-clause-told c = λ r is.
     let pieces = pieces_there c.args.text.now c.args.rows.now k c.args.i r is in
     let head = c.head-head.ensures (slices r) pieces in
     let start = ap (λ (x : ℕ × ℕ). x.0) (c.head_place-start.ensures (cut_of c.args.text.now) k.rows r is) in
-    let parent = c.parent_indent-parent.ensures ∙ ap (λ (x : Slices). x.parent) (same_Some _ _ (sym c.row.ensures ∙ pieces)) in
+    let f : SFits w64 c.parent_indent-parent.result = search rules in
+    let parent = to_z-of_z w64 c.parent_indent-parent.result f ∙ (c.parent_indent-parent.ensures ∙ ap (λ (x : Slices). x.parent) (same_Some _ _ (sym c.row.ensures ∙ pieces))) in
     read_made c.args.text.now c.args.rows.now k c.args.i r is c.split_at.result.1.now c.head_place-start.result.0 c.split_at.ensures.back start _ c.head-head.result.now parent head c.in-Ok.head c.in-Ok.ensures.view c.in-Ok.ensures.flow
 
 pub returns-in-Err-clause-fits : goal.returns-in-Err-clause-fits
@@ -82,5 +85,6 @@ returns-in-Err-clause-fits c = λ r is.
     let pieces = pieces_there c.args.text.now c.args.rows.now k c.args.i r is in
     let head = c.head-head.ensures (slices r) pieces in
     let start = ap (λ (x : ℕ × ℕ). x.0) (c.head_place-start.ensures (cut_of c.args.text.now) k.rows r is) in
-    let parent = c.parent_indent-parent.ensures ∙ ap (λ (x : Slices). x.parent) (same_Some _ _ (sym c.row.ensures ∙ pieces)) in
+    let f : SFits w64 c.parent_indent-parent.result = search rules in
+    let parent = to_z-of_z w64 c.parent_indent-parent.result f ∙ (c.parent_indent-parent.ensures ∙ ap (λ (x : Slices). x.parent) (same_Some _ _ (sym c.row.ensures ∙ pieces))) in
     unfit_told c.in-Err.e _ _ _ (head_read c.args.text.now c.args.rows.now k c.args.i r is c.split_at.result.1.now c.head_place-start.result.0 c.split_at.ensures.back start _ c.head-head.result.now parent head) c.in-Err.ensures.view
