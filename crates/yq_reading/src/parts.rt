@@ -26,8 +26,8 @@ fn push_document<'t>(
     from: usize,
     bound: Bound<'t>,
 ) -> Result<Vec<DocumentRows<'t>>, AllocError>
-    ensures { IfOk result (λ ds. spec.rows_told ds.items ≡
-        spec.rows_told documents.entry.items ++ spec.part_row rows.now.rows is_document from (bound_view bound.entry)) }
+    ensures { IfOk result (λ ds. spec.rows_told ds.items ≡ spec.rows_told documents.entry.items
+        ++ spec.part_row rows.now.rows is_document from (bound_view bound.entry)) }
 {
     let mut documents = documents;
     if is_document {
