@@ -1,4 +1,4 @@
-use Rattle.std.proofs.Common.{◌+◌, length, arith}
+use Rattle.std.proofs.Common.{arith}
 use Rattle.yq_rows.specs.View.{rows_of}
 use Rattle.yq_documents.specs.Reading.{cut_of, have_fit_keys}
 use Rattle.yq_documents.specs.RowReading.{row_fits}
