@@ -41,7 +41,7 @@ module _ {t : List ℕ} {n : ℕ} {s : Shown} {d : Stretch} (x : HasText t n s d
   pub of_line : (q : Spot) (said : Line → Type 0) → OfLine s d q said → OfLineIn t n q said
   of_line q said = told_rows (λ ls num. (l : Line) → slice_get ls (num q) ≡ Some l → said l)
 
-  pub stands : HasRows s d
+  abbrev pub stands : HasRows s d
   stands = (document_in x).0.stand
 
   pub line_here : {q : Spot} → IsLineIn t n q → IsLine s d q
