@@ -54,7 +54,7 @@ module _ {t : List ℕ} {n : ℕ} {s : Shown} {d : Stretch} (x : HasText t n s d
   spot_back {q} at = subst (λ (y : Shown × Stretch). IsSpot y.0 y.1 q) (λ i. (x.rows i, x.place i)) at
 
   -- a line with its row
-  pub located_in : {q : Spot} → IsLineIn t n q → Located s d (document_in x).0.stand q
+  abbrev pub located_in : {q : Spot} → IsLineIn t n q → Located s d (document_in x).0.stand q
   located_in {q} at = located s d (document_in x).0.stand q (line_here at)
 
   pub line_back : {q : Spot} → IsLine s d q → IsLineIn t n q
