@@ -8,11 +8,11 @@ use Rattle.yq_rows.specs.Rows.{Cut, Part, cut_text, part_text}
 use Rattle.yq_documents.specs.Documents.{document_parts}
 use Rattle.yq_walk.specs.Lines.{lines_of}
 use Rattle.yq_documents.specs.Reading.{outline_of, read_at}
-use Rattle.yq_tree.specs.NodesAt.{node_in}
+use Rattle.yq_places.specs.NodesAt.{node_in}
 use Rattle.yq_change.specs.Changed.{put_document}
 use Rattle.yq_change.specs.DocumentRows.{IsDocumentPart, behind_document}
 use Rattle.yq_change.specs.TextPieces.{IsPiece}
-use Rattle.yq_tree.specs.Standings.{PlacedEntry, FlowPart, Held, Standing, placed_entry, flow_standing, held, last_step, standing_at}
+use Rattle.yq_places.specs.Standings.{PlacedEntry, FlowPart, Held, Standing, placed_entry, flow_standing, held, last_step, standing_at}
 
 -- ---- there is something
 

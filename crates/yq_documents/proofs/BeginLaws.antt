@@ -2,24 +2,19 @@
 use Rattle.std.proofs.Common.{◌≡◌, ℕ, suc, ◌+◌, ◌-◌, true, false, ◌||◌, not, eqb, List, [], ◌∷◌, length, drop, Some, refl, sym, ap, ◌∙◌, arith, eqb-true}
 use Rattle.std.proofs.lemmas.Bool.{false_from_ne_true}
 use Rattle.std.specs.List.{slice_get}
-use Rattle.std.proofs.lemmas.List.{drop_more}
-use Rattle.std.proofs.lemmas.Option.{get_or_from_slice_get, slice_get_within}
+use Rattle.yq_lines.proofs.Parts.{drop_at}
 use Rattle.yq_rows.specs.Grammar.{begins_document, no_rows}
 use Rattle.yq_rows.specs.Rows.{Row, Cut, last, marked}
 use Rattle.yq_rows.specs.View.{Bound, bounds_from, bounds_of, Shown, shown}
 use Rattle.yq_documents.specs.Documents.{has_begin, begins_bare}
 use Rattle.yq_documents.specs.PartReading.{some_begin, first_rows}
 
--- what stands at an index, and behind it
-pub drop_step : {X : Type 0} (xs : List X) (i : ℕ) (x : X) → slice_get xs i ≡ Some x → drop i xs ≡ x ∷ drop (i + 1) xs
-drop_step xs i x h = drop_more xs i x (slice_get_within xs i x h) ∙ ap (λ y. y ∷ drop (i + 1) xs) (get_or_from_slice_get xs i x x h)
-
 -- a marker that is `---`, among others
 pub begin_here : (bs : List Bound) (i : ℕ) (b : Bound) → slice_get bs i ≡ Some b → begins_document b.marker ≡ true → some_begin (drop i bs) ≡ true
-begin_here bs i b h e = ap some_begin (drop_step bs i b h) ∙ rw e refl
+begin_here bs i b h e = ap some_begin (drop_at bs i b h) ∙ rw e refl
 
 pub begin_later : (bs : List Bound) (i : ℕ) (b : Bound) → slice_get bs i ≡ Some b → begins_document b.marker ≡ false → some_begin (drop (i + 1) bs) ≡ some_begin (drop i bs)
-begin_later bs i b h e = sym (ap some_begin (drop_step bs i b h) ∙ rw e refl)
+begin_later bs i b h e = sym (ap some_begin (drop_at bs i b h) ∙ rw e refl)
 
 -- whether the first part is a document
 begin_is : (n : ℕ) (c : Cut) → some_begin (bounds_from n c) ≡ has_begin c

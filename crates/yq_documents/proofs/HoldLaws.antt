@@ -24,7 +24,7 @@ use Rattle.yq_documents.proofs.PartRows.{has_part}
 same_stretch : (x y : Stretch) → x.first ≡ y.first → x.end ≡ y.end → x ≡ y
 same_stretch x y a b = λ i. record { first = a i; end = b i }
 
-module _ (t u : List ℕ) (s : Shown) (ds : List DocumentRows) (ms : List Made) (refers : Bool) (h : Holds t s ds ms refers) (e : t ≡ u) where
+module _ {t u : List ℕ} {s : Shown} {ds : List DocumentRows} {ms : List Made} {refers : Bool} (h : Holds t s ds ms refers) (e : t ≡ u) where
   pub cut_held : IsCut u (cut_of u)
   cut_held = subst (λ (x : List ℕ). IsCut x (cut_of x)) e h.cut
 

@@ -5,6 +5,7 @@ pub mod WalkRows
 pub mod WalkEnds
 pub mod WalkSpots
 pub mod KnownLaws
+pub mod Siblings
 pub mod KnownWalks
 pub mod CountLaws
 pub mod FirstLevels

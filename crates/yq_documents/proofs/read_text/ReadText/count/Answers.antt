@@ -5,4 +5,4 @@ use Rattle.yq_documents.proofs.read_text.ReadText.count.Goals as goal
 pub returns : goal.returns
 returns c =
     let counted : c.len.result ≡ length c.self.inside.documents.items = search rules in
-    counted ∙ count_held _ _ _ _ _ _ c.self.invariant c.self.view_is
+    counted ∙ count_held c.self.invariant c.self.view_is

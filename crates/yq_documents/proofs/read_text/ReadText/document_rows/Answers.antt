@@ -5,5 +5,5 @@ use Rattle.yq_documents.proofs.read_text.ReadText.document_rows.Goals as goal
 
 pub returns : goal.returns
 returns c =
-    let there = slice_get_read c.self.inside.documents.items _ c.args.i c.index-document.result.now refl (omega (arith, c.requires, count_held _ _ _ _ _ _ c.self.invariant c.self.view_is)) c.index-document.ensures in
-    place_held _ _ _ _ _ _ c.self.invariant c.self.view_is c.args.i c.index-document.result.now there _ refl refl c.requires
+    let there = slice_get_read c.self.inside.documents.items _ c.args.i c.index-document.result.now refl (omega (arith, c.requires, count_held c.self.invariant c.self.view_is)) c.index-document.ensures in
+    place_held c.self.invariant c.self.view_is c.args.i c.index-document.result.now there _ refl refl c.requires

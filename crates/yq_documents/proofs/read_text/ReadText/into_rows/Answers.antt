@@ -2,4 +2,4 @@ use Rattle.yq_documents.proofs.HoldLaws.{rows_held}
 use Rattle.yq_documents.proofs.read_text.ReadText.into_rows.Goals as goal
 
 pub returns : goal.returns
-returns c = rows_held _ _ _ _ _ _ c.self.invariant c.self.view_is
+returns c = rows_held c.self.invariant c.self.view_is

@@ -9,4 +9,4 @@ made_at-requires c = subst (Rise 0) (sym c.as_slice.ensures.value) c.self.invari
 
 pub returns : goal.returns
 returns c = λ r e.
-    subst (λ o. IsToldBy (length c.args.self.now) (cut_of c.args.self.now) o c.args.i r) (sym (c.made_at.ensures ∙ ap (made_at c.args.i) c.as_slice.ensures.value)) (told_held _ _ _ _ _ _ c.self.invariant c.self.view_is c.args.i r e)
+    subst (λ o. IsToldBy (length c.args.self.now) (cut_of c.args.self.now) o c.args.i r) (sym (c.made_at.ensures ∙ ap (made_at c.args.i) c.as_slice.ensures.value)) (told_held c.self.invariant c.self.view_is c.args.i r e)
