@@ -13,5 +13,5 @@ use Rattle.yq_reading.specs.Deciding.{Denies}
 -- a text with parts that stand for no documents
 pub text_denied : (t : List ℕ) (c : Cut) (e : ReadError) → IsCut t c → Denies e (all_documents c) → Fails e (text_at t)
 unfolding text_at
-text_denied t c errors.Memory h no = tt
-text_denied t c (errors.Fault f) h no = ap (λ o. o >>= checked) (scan_again t c h) ∙ cond-false _ _ _ no
+text_denied t c errors.Memory h denied = tt
+text_denied t c (errors.Fault f) h denied = ap (λ o. o >>= checked) (scan_again t c h) ∙ cond-false _ _ _ denied

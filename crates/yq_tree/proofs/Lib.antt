@@ -1,1 +1,2 @@
-pub mod FlowEntries
+mod DeniedLaws
+mod FlowEntries

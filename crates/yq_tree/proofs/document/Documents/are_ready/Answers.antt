@@ -5,4 +5,4 @@ use Rattle.yq_tree.proofs.document.Documents.are_ready.Goals as goal
 
 pub returns : goal.returns
 returns c =
-    subst TextIsReady c.self.view_is (cut_ready c.lines_shaped.ensures.shaped c.lines_shaped.ensures.tree c.self.inside.read c.rows-_rows.ensures.cut c.rows-_rows.ensures.sound)
+    subst TextIsReady c.self.view_is (cut_ready c.lines_shaped.ensures.shaped c.lines_shaped.ensures.tree c.self.inside.read c.rows-rows.ensures.cut c.rows-rows.ensures.sound)
