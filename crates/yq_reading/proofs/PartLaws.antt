@@ -75,6 +75,7 @@ pub are_placed : (t : List ℕ) (s : Shown) (ds : List DocumentRows) → IsCutIn
 are_placed t s ds k e =
     let c : Cut = cut_of t in
     let is : Bool = begins_bare c || not (has_begin c) in
+    let start : (n : ℕ) → 0 + rows_before is n c ≡ rows_before is n c = λ n. omega arith in
     let told : rows_told ds ≡ all_rows (map slices (rows_of c)) is 0 (bounds_from 0 c) = e ∙ (λ i. all_rows (k.rows i).rows (document_is c s k.rows i) 0 (k.rows i).bounds) in
     record {
       count = sym (length-map ds row_told) ∙ (ap length told ∙ told_count (map slices (rows_of c)) is 0 c);
@@ -83,7 +84,7 @@ are_placed t s ds k e =
           same_Some _ _ (sym (slice_get-map row_told ds n ∙ ap (option_map row_told) there) ∙ (ap (λ l. slice_get l n) told ∙ told_at (rows_of c) [] 0 is n c p refl refl at)) in
           record {
             lead = ap (λ (x : ℕ × ℕ × List ℕ). head_comment x.2) own;
-            first = ap (λ (x : ℕ × ℕ × List ℕ). x.0) own;
+            first = ap (λ (x : ℕ × ℕ × List ℕ). x.0) own ∙ start n;
             end = ap (λ (x : ℕ × ℕ × List ℕ). x.1) own ∙ ap (λ (x : ℕ × ℕ × List ℕ). x.0 + length p.rows) (sym own);
           };
     }

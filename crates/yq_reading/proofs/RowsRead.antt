@@ -1,21 +1,23 @@
 -- What the rows of a text spell is told by reading their heads again.
-use Rattle.std.proofs.Common.{◌≡◌, ℕ, ℤ, zero, suc, ◌+◌, ◌<◌, Bool, true, false, ◌&&◌, cond, not, codes, List, [], ◌∷◌, ◌++◌, length, drop, map, Option, Some, None, Result, Ok, Err, refl, sym, ap, ◌∙◌, subst, arith, append_assoc}
+use Rattle.std.proofs.Common.{◌≡◌, ℕ, ℤ, zero, suc, ◌+◌, ◌<◌, ◌≤◌, Bool, true, false, ◌&&◌, cond, not, codes, List, [], ◌∷◌, ◌++◌, length, drop, get_or, Option, Some, None, refl, sym, ap, ◌∙◌, subst, arith, append_assoc, length-append}
 use Rattle.std.proofs.Math.Seq.{drop-append_seam, get_or-append_seam}
-use Rattle.std.proofs.lemmas.Bool.{and_left, and_right}
+use Rattle.std.proofs.lemmas.Bool.{false≢true}
 use Rattle.std.proofs.lemmas.List.{length-map}
 use Rattle.std.proofs.lemmas.Option.{cond_some, slice_get-map}
+use Rattle.std.proofs.lemmas.Str.{IsCharBoundary-start}
 use Rattle.std.specs.List.{slice_get}
 use Rattle.std.specs.Prelude.{option_map}
-use Rattle.std.specs.Str.{bytes_eq}
-use Rattle.yq_scalar.specs.Answers.{Gives}
+use Rattle.std.specs.Str.{IsCharBoundary, IsUtf8}
+use Rattle.yq_scalar.specs.Answers.{Fails}
 use Rattle.yq_scalar.specs.Quoted.{IsQuotedText}
+use Rattle.yq_scalar.specs.Text.{is_empty}
 use Rattle.yq_scalar.specs.Tree as trees
 use Rattle.yq_scalar.specs.declared.fault.ReadError.{ReadError}
 use Rattle.yq_scalar.specs.declared.fault.ReadError.TheVariants as errors
 use Rattle.yq_inline.specs.Scalars.{is_quoted}
 use Rattle.yq_lines.specs.declared.line.Head.{Head}
 use Rattle.yq_lines.specs.View.{head_flow, head_view}
-use Rattle.yq_rows.specs.Exchange.{before_content, behind_row}
+use Rattle.yq_rows.specs.Exchange.{before_content, behind_row, rows_behind}
 use Rattle.yq_rows.specs.Rows as rows
 use Rattle.yq_rows.specs.Rows.{Row, Cut, content_text, parent_indent}
 use Rattle.yq_rows.specs.View.{Slices, content_cut, key_of, slices, rows_of, Shown, shown}
@@ -32,7 +34,7 @@ use Rattle.yq_documents.proofs.RowFlowLaws.{flow_is}
 use Rattle.yq_documents.proofs.RowLineLaws.{content_quoted}
 use Rattle.yq_walk.proofs.RowLaws.{mark_quoted}
 use Rattle.yq_reading.specs.Checking.{lends_head}
-use Rattle.yq_reading.specs.Deciding.{Decides, Denies}
+use Rattle.yq_reading.specs.Deciding.{Denies}
 use Rattle.yq_reading.specs.FitReading.{key_fits}
 use Rattle.yq_reading.specs.Making.{IsCutInto, IsHeadMade}
 use Rattle.yq_reading.proofs.LendLaws.{lent_read}
@@ -43,12 +45,14 @@ key_fit rows.Bare = refl
 key_fit rows.Dash = refl
 key_fit (rows.Key key colon) = refl
 
--- an answer that comes where keys are fit decides it
-pub fit_given : (r : Result Head ReadError) (fit : Bool) (head : Option trees.Node) → Gives head_view r (fitting fit head) → Decides r fit
-fit_given (Ok h) fit head g = (cond_some fit _ _ g).0
-fit_given (Err errors.Memory) fit head g = tt
-fit_given (Err (errors.Fault f)) true head g = absurd (cc)
-fit_given (Err (errors.Fault f)) false head g = refl
+-- where a head isn't read, its keys aren't fit
+pub unfit_told : (e : ReadError) (o : Option (Option trees.Node)) (fit : Bool) (head : Option trees.Node) → o ≡ fitting fit head → Fails e o → Denies e fit
+unfit_told errors.Memory o fit head is f = tt
+unfit_told (errors.Fault k) o true head is f = absurd (cc)
+unfit_told (errors.Fault k) o false head is f = refl
+
+pub fit_told : (o : Option (Option trees.Node)) (fit : Bool) (head x : Option trees.Node) → o ≡ fitting fit head → o ≡ Some x → fit ≡ true
+fit_told o fit head x is e = (cond_some fit _ _ (sym is ∙ e)).0
 
 -- a row is there
 has_row : (rs : List Row) (i : ℕ) → i < length rs → (r : Row) × (slice_get rs i ≡ Some r)
@@ -61,6 +65,19 @@ row_at t s k i h = has_row (rows_of (cut_of t)) i (omega (arith, h, ap (λ (y : 
 
 regroup : (a b c d e : List ℕ) → a ++ (b ++ (c ++ (d ++ e))) ≡ (a ++ (b ++ (c ++ d))) ++ e
 regroup a b c d e = simp append_assoc refl
+
+-- a head that isn't lent is written, and begins with a whole character
+unlent_some : (h : List ℕ) → lends_head h ≡ false → is_empty h ≡ false
+unlent_some [] e = absurd (false≢true (sym e))
+unlent_some (b ∷ bs) e = refl
+
+whole_there : (t before h more : List ℕ) (n : ℕ) → t ≡ before ++ (h ++ more) → n ≡ length before → is_empty h ≡ false → IsUtf8 h → IsCharBoundary t n
+whole_there t before [] more n is at some u = absurd (false≢true (sym some))
+whole_there t before (b ∷ h) more n is at some u =
+    let first : 128 ≤ b → 192 ≤ b = (IsCharBoundary-start (b ∷ h) u).1 (omega arith) in
+    let there : get_or (before ++ (b ∷ (h ++ more))) (length before) 0 ≡ b = get_or-append_seam before b (h ++ more) 0 in
+    subst (λ (x : List ℕ). IsCharBoundary x n) (sym is)
+    (subst (IsCharBoundary (before ++ (b ∷ (h ++ more)))) (sym at) (omega (arith, length-append before (b ∷ (h ++ more))), λ _ high. omega (arith, there, first (omega (arith, there, high)))))
 
 -- a row of a text
 module _ (t : List ℕ) (s : Shown) (k : IsCutInto t s) (i : ℕ) (r : Row) (is : slice_get (rows_of (cut_of t)) i ≡ Some r) where
@@ -76,7 +93,7 @@ module _ (t : List ℕ) (s : Shown) (k : IsCutInto t s) (i : ℕ) (r : Row) (is 
   pub pieces_there : slice_get s.rows i ≡ Some (slices r)
   pieces_there = ap (λ (y : Shown). slice_get y.rows i) k.rows ∙ (slice_get-map slices (rows_of c) i ∙ ap (option_map slices) is)
 
-  row_here : RowIn r (behind_row i c) _
+  row_here : RowIn r (behind_row i c) (rows_behind i c)
   row_here = row_in c i true r k.cut.parts is
 
   pub head_quoted : (h : List ℕ) → h ≡ (slices r).head → is_quoted h ≡ true → IsQuotedText h
@@ -110,6 +127,12 @@ module _ (t : List ℕ) (s : Shown) (k : IsCutInto t s) (i : ℕ) (r : Row) (is 
 
     pub lent_made : IsHeadMade t i None r
     lent_made = record { head = sym (cond_some (content_is_fit r.content) _ _ lent_so.0).1; flow = lent_so.1 }
+
+  pub place_whole : (h : List ℕ) (n : ℕ) → h ≡ (slices r).head → lends_head h ≡ false → IsUtf8 h → n ≡ length before → IsCharBoundary t n
+  place_whole h n e unlent u at =
+      let x : Slices = slices r in
+      let rest : List ℕ = x.tail ++ (x.raw ++ behind_row i c) in
+      whole_there t before h rest n (text_there ∙ ap (λ (y : List ℕ). before ++ (y ++ rest)) (sym e)) at (unlent_some h unlent) u
 
   -- the head is read
   module _ (p : ℤ) (h text : List ℕ) (start : ℕ) (parent : p ≡ parent_indent r) (head : h ≡ (slices r).head) (from : text ≡ drop start t) (place_is : start ≡ length before) where

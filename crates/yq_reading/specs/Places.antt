@@ -1,5 +1,5 @@
 -- Reading (own; a reader may skip it): where the documents of a text stand among its rows, by where its parts end.
-use Rattle.std.specs.Prelude.{◌≡◌, ◌×◌, ℕ, List, [], ◌∷◌, length, map, nat_lt, slice_get, Option, Some, None, Bool, true, false, ◌&&◌, if◌then◌else◌}
+use Rattle.std.specs.Prelude.{◌≡◌, ℕ, List, [], ◌∷◌, length, map, nat_lt, slice_get, Option, Some, None, Bool, true, false, ◌&&◌, if◌then◌else◌}
 use Rattle.std.specs.List.{list_all}
 use Rattle.yq_lines.specs.LinesReading.{lines_are_sound}
 use Rattle.yq_rows.specs.Grammar.{begins_document}
