@@ -1,1 +1,2 @@
+pub mod DeniedLaws
 pub mod FlowEntries
