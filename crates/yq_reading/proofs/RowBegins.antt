@@ -2,12 +2,10 @@
 use Rattle.std.proofs.Common.{◌≡◌, ℕ, ℤ, ◌+◌, true, false, cond, eqb, List, [], ◌∷◌, ◌++◌, length, Some, None, refl, sym, ap, ◌∙◌, subst}
 use Rattle.std.proofs.lemmas.Bool.{cond_both, false≢true}
 use Rattle.std.specs.List.{slice_get}
-use Rattle.yq_inline.specs.Inline.{depth_limit}
 use Rattle.yq_inline.specs.Nodes.{Node, empty, alias, scalar, coll, anchored, node_text, items_text, IsNode}
 use Rattle.yq_inline.specs.Places.{locate}
 use Rattle.yq_inline.specs.Scalars.{content_of, is_quoted}
 use Rattle.yq_inline.proofs.NodeAgain.{is_anchored, takes_unanchored}
-use Rattle.yq_scalar.specs.Block.{mark_of}
 use Rattle.yq_lines.proofs.OneLine.{kept as stands}
 use Rattle.yq_rows.specs.Exchange.{behind_row, rows_behind}
 use Rattle.yq_rows.specs.Grammar.{IsContent, IsMark}
