@@ -148,7 +148,7 @@ fn made_row<'t>(i: usize, key: Option<String>, head: Option<Head<'t>>) -> Option
     Some(Made { row: i, key, head })
 }
 
-/// What is made of row `i`, where its keys are fit; nothing where its text lends all that it spells.
+/// What is made of row `i`, where its keys are fit; nothing where its text lends all it spells.
 fn made_of<'t>(
     alloc: Global,
     text: &'t str,
