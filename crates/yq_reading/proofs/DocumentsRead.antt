@@ -93,7 +93,7 @@ module _ (t : List ℕ) (s : Shown) (ms : List Made) (ds : List DocumentRows) (k
     placed : IsPlaced t n p d
     placed = a.each n d p there at
 
-    stand : (h : HasRows s x) × ((h.rows ≡ p.rows) × (h.rows ≡ take (x.end - x.first) (drop x.first (rows_of (cut_of t)))))
+    pub stand : (h : HasRows s x) × ((h.rows ≡ p.rows) × (h.rows ≡ take (x.end - x.first) (drop x.first (rows_of (cut_of t)))))
     stand = rows_stand t s (cut_of t) n p x k.cut k.rows at (first ∙ placed.first) (end ∙ (placed.end ∙ ap (λ j. j + length p.rows) placed.first))
 
     abbrev pub ready : IsReady t s ms x
