@@ -10,7 +10,7 @@ use yq_documents::{Made, fault_at, made_at, told_key};
 use yq_inline::pieces::is_quoted;
 use yq_rows::Rows;
 use yq_scalar::{FaultKind, ReadFault};
-use yq_walk::{Spot, Stretch, level_at, rank_at};
+use yq_walk::{Spot, Stretch, rank_at};
 
 /// A document of a text whose rows are cut, with what is made of these.
 #[derive(Clone, Copy, Debug)]
@@ -34,15 +34,6 @@ pub(crate) fn row_fault(x: Checked<'_, '_>, at: Spot, kind: FaultKind) -> ReadFa
         x.text.len()
     };
     fault_at(kind, x.text, place)
-}
-
-/// How deep a line is.
-pub(crate) fn line_level(x: Checked<'_, '_>, at: Spot) -> usize
-    requires ready { IsChecked x }
-    requires line { IsLine x.rows.now x.document at }
-    ensures { OfLine x.entry.rows.now x.entry.document at (λ l. result ≡ outline.level l) }
-{
-    level_at(x.rows, at)
 }
 
 /// The key of a line, if it has one.
