@@ -18,8 +18,8 @@ use Rattle.yq_flow.proofs.PlacedEdits.{append_placed, replace_placed}
 use Rattle.yq_flow.proofs.RemovePlaces.{remove_placed}
 use Rattle.yq_inline.proofs.PathLaws.{items_hold, path_stands}
 use Rattle.yq_inline.proofs.WrittenLaws.{items_append}
-use Rattle.yq_tree.specs.FlowTold.{IsTold, TellsFlow, behind_anchor, collection_told, placed_collection}
-use Rattle.yq_tree.specs.declared.places.flow_node.FlowHead.{FlowHead}
+use Rattle.yq_places.specs.FlowTold.{IsTold, TellsFlow, behind_anchor, collection_told, placed_collection}
+use Rattle.yq_places.specs.declared.places.flow_node.FlowHead.{FlowHead}
 use Rattle.yq_flow_edits.specs.EditPlaces.{moved_on}
 use Rattle.yq_flow_edits.proofs.FlowAppendLaws.{all_behind}
 use Rattle.yq_flow_edits.proofs.FlowLonger.{SameEdit, entry_more, item_more, place_moved, with_more}

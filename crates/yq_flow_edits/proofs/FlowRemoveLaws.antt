@@ -30,7 +30,7 @@ use Rattle.yq_meaning.specs.Fits.{Fits}
 use Rattle.yq_meaning.specs.Operations.{remove}
 use Rattle.yq_meaning.specs.Rooms.{room_of}
 use Rattle.yq_script.specs.Script.{new_text}
-use Rattle.yq_tree.specs.Standings.{FlowPart}
+use Rattle.yq_places.specs.Standings.{FlowPart}
 use Rattle.yq_edits.specs.EditLaws.{CarriedOut, FlowPartIsRemoved, IsEdit}
 use Rattle.yq_edits.specs.FlowParts.{flow_removed, flow_segments}
 use Rattle.yq_flow_edits.proofs.FlowRests.{along_rest, removed_rest}

@@ -13,9 +13,9 @@ use Rattle.yq_inline.specs.Trees.{inner, key_content}
 use Rattle.yq_flow.proofs.EditLaws.{around_is}
 use Rattle.yq_inline.proofs.TreeLaws.{key_tree}
 use Rattle.yq_rows.specs.Rows.{Cut, cut_text}
-use Rattle.yq_tree.specs.FlowTold.{behind_anchor, placed_collection}
-use Rattle.yq_tree.specs.Standings.{flow_standing, last_step}
-use Rattle.yq_tree.specs.declared.places.flow_node.FlowHead.{FlowHead}
+use Rattle.yq_places.specs.FlowTold.{behind_anchor, placed_collection}
+use Rattle.yq_places.specs.Standings.{flow_standing, last_step}
+use Rattle.yq_places.specs.declared.places.flow_node.FlowHead.{FlowHead}
 use Rattle.yq_edits.specs.FlowParts.{flow_removed}
 use Rattle.yq_flow_edits.specs.EditPlaces.{edit_segments, moved_on}
 use Rattle.yq_flow_edits.proofs.FlowAnswers.{CollFound, EditFound, edit_found, entry_found, part_in, standing_is}

@@ -3,15 +3,16 @@ ghost use Rattle.std.specs.Prelude.{option_map};
 ghost use Rattle.yq_rows.specs.Rows.{cut_text};
 ghost use Rattle.yq_documents.specs.Located.{steps_of};
 ghost use Rattle.yq_documents.specs.Reading.{cut_of};
-ghost use Rattle.yq_tree.specs.Standings.{flow_standing, last_step};
+ghost use Rattle.yq_places.specs.Standings.{flow_standing, last_step};
 ghost use Rattle.yq_edits.specs.FlowParts.{flow_removed};
 ghost use Rattle.yq_edits.specs.Answers.{Carries};
 
 use crate::edit::{collection_in, edit_at, last_step};
 use std::alloc::{AllocError, Global};
+use yq_documents::Path;
 use yq_flow::remove_place;
+use yq_places::CutText;
 use yq_script::Segments;
-use yq_tree::{CutText, Path};
 
 /// An item or entry removed from a flow collection, with the white space and comma that go with
 /// it; `None` where the path leads to no part of a flow collection.
