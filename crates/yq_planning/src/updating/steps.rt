@@ -9,27 +9,11 @@ use crate::matching::place::{Missing, NodePath};
 use std::alloc::{AllocError, Global};
 use yq_program::Step;
 
-/// How many steps a path has, as far as they are counted.
-fn step_count(path: NodePath<'_>) -> usize {
-    let mut count: usize = 0;
-    let mut rest = path;
-    'steps: loop {
-        match rest {
-            NodePath::Root => break,
-            NodePath::Below(front, _) => {
-                count = count.saturating_add(1);
-                rest = *front;
-            }
-        }
-    }
-    count
-}
-
 /// The steps of a path.
 pub fn path_steps(alloc: Global, path: NodePath<'_>) -> Result<Vec<yq_inline::Step>, AllocError>
     ensures { IfOk result (λ v. map tree_step v.items ≡ path_of path.entry) }
 {
-    let mut steps = Vec::with_capacity(alloc, step_count(path))?;
+    let mut steps = Vec::new(alloc);
     let mut rest = path;
     'steps: loop {
         match rest {
