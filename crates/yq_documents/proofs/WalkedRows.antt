@@ -41,7 +41,7 @@ module _ {t : List ℕ} {n : ℕ} {s : Shown} {d : Stretch} (x : HasText t n s d
   pub of_line : (q : Spot) (said : Line → Type 0) → OfLine s d q said → OfLineIn t n q said
   of_line q said = told_rows (λ ls num. (l : Line) → slice_get ls (num q) ≡ Some l → said l)
 
-  pub stands : HasRows s d
+  abbrev pub stands : HasRows s d
   stands = (document_in x).0.stand
 
   pub line_here : {q : Spot} → IsLineIn t n q → IsLine s d q
@@ -54,7 +54,7 @@ module _ {t : List ℕ} {n : ℕ} {s : Shown} {d : Stretch} (x : HasText t n s d
   spot_back {q} at = subst (λ (y : Shown × Stretch). IsSpot y.0 y.1 q) (λ i. (x.rows i, x.place i)) at
 
   -- a line with its row
-  pub located_in : {q : Spot} → IsLineIn t n q → Located s d (document_in x).0.stand q
+  abbrev pub located_in : {q : Spot} → IsLineIn t n q → Located s d (document_in x).0.stand q
   located_in {q} at = located s d (document_in x).0.stand q (line_here at)
 
   pub line_back : {q : Spot} → IsLine s d q → IsLineIn t n q

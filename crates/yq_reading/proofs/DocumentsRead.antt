@@ -1,6 +1,5 @@
 -- A text reads as documents where the keys of its rows are fit and its documents are sound.
 use Rattle.std.proofs.Common.{◌≡◌, ℕ, zero, suc, ◌+◌, ◌<◌, ◌≤◌, ◌-◌, Bool, true, false, ◌||◌, ◌&&◌, not, List, [], ◌∷◌, ◌++◌, length, take, drop, Option, Some, None, refl, sym, ap, ◌∙◌, subst, arith}
-use Rattle.std.proofs.Math.Bool.{and-false}
 use Rattle.std.proofs.lemmas.Bool.{false≢true}
 use Rattle.std.proofs.lemmas.List.Folds.{list_all-append}
 use Rattle.std.proofs.lemmas.Option.{slice_get_within}
@@ -22,7 +21,7 @@ use Rattle.yq_documents.specs.RowReading.{row_fits}
 use Rattle.yq_documents.specs.Stretches.{document_lines, part_rows}
 use Rattle.yq_documents.specs.declared.made.Made.{Made}
 use Rattle.yq_documents.specs.declared.read_text.DocumentRows.{DocumentRows}
-use Rattle.yq_documents.proofs.WalkedRows.{rows_stand}
+use Rattle.yq_documents.proofs.PartRows.{has_part, rows_stand}
 use Rattle.yq_reading.specs.Checking.{IsReady, some_refer}
 use Rattle.yq_reading.specs.Making.{AreMade, IsCutInto}
 use Rattle.yq_reading.specs.Places.{ArePlaced, all_sound, part_is_sound}
@@ -97,7 +96,7 @@ module _ (t : List ℕ) (s : Shown) (ms : List Made) (ds : List DocumentRows) (k
     stand : (h : HasRows s x) × ((h.rows ≡ p.rows) × (h.rows ≡ take (x.end - x.first) (drop x.first (rows_of (cut_of t)))))
     stand = rows_stand t s (cut_of t) n p x k.cut k.rows at (first ∙ placed.first) (end ∙ (placed.end ∙ ap (λ j. j + length p.rows) placed.first))
 
-    pub ready : IsReady t s ms x
+    abbrev pub ready : IsReady t s ms x
     ready = record {
       cut = cut_of t;
       is_cut = k.cut;

@@ -1,10 +1,9 @@
 -- The spots that checks give, behind lines and those under them.
-use Rattle.std.proofs.Common.{◌≡◌, ◌⊎◌, inl, inr, ℕ, suc, ◌+◌, ◌<◌, ◌≤◌, true, false, not, List, drop, length, Some, refl, sym, ap, ◌∙◌, subst, arith}
+use Rattle.std.proofs.Common.{◌≡◌, ◌⊎◌, inl, inr, ℕ, suc, ◌+◌, ◌<◌, true, false, drop, sym, ap, ◌∙◌, subst, arith}
 use Rattle.std.proofs.lemmas.Bool.{false≢true}
-use Rattle.std.specs.List.{slice_get}
 use Rattle.std.specs.Prelude.{is_some}
 use Rattle.yq_lines.specs.Ends.{IsEndOf, deeper_count, is_end, part}
-use Rattle.yq_lines.specs.Outline.{Line, level}
+use Rattle.yq_lines.specs.Outline.{level}
 use Rattle.yq_lines.proofs.EndsLaws.{deeper_line}
 use Rattle.yq_lines.proofs.LineEnds.{end_counted}
 use Rattle.yq_rows.specs.View.{Shown}
@@ -13,7 +12,7 @@ use Rattle.yq_walk.specs.RowWalk.{HasRows, IsLine, IsSpot, OfLine, OfLines, line
 use Rattle.yq_walk.specs.declared.spot.Spot.{Spot}
 use Rattle.yq_walk.specs.declared.spot.Stretch.{Stretch}
 use Rattle.yq_walk.proofs.StopLaws.{stop_step}
-use Rattle.yq_walk.proofs.WalkSpots.{located, spot_line}
+use Rattle.yq_walk.proofs.WalkSpots.{located}
 use Rattle.yq_reading.specs.Checking.{GivesStop, GivesEnd}
 use Rattle.yq_reading.proofs.SpotOrder.{head_last, row_later, row_order}
 use Rattle.yq_reading.proofs.StopLaws.{count_none, count_one}

@@ -53,6 +53,10 @@ lends_key (b ∷ bs) q e = go (is_quoted (b ∷ bs)) refl
         (sym (cond-true (is_quoted (b ∷ bs)) (list_any (λ x. eqb x (cond (eqb b 34) 92 39)) inner) false quoted) ∙ parts.1) ∙ sym (quoted_is (b ∷ bs) quoted))
     go false quoted = cond-false (is_quoted (b ∷ bs)) _ (b ∷ bs) quoted ∙ kept (b ∷ bs) quoted parts.0
 
+-- one in quotes, by what stands between them
+pub lends_quoted : (t inner : List ℕ) (escaped : Bool) → holds_break t ≡ false → is_quoted t ≡ true → inner ≡ lent_text t → escaped ≡ list_any (λ b. eqb b (cond (first_is 34 t) 92 39)) inner → not escaped ≡ lends_text t
+lends_quoted t inner escaped broken quoted is e = rw (broken, quoted) (ap not (e ∙ ap (list_any (λ b. eqb b (cond (first_is 34 t) 92 39))) (rw quoted at is)))
+
 -- a head that is lent is read as what is lent of it, and holds no alias and no flow collection
 abbrev Lent : List ℕ → ℤ → List ℕ → List ℕ → Type 0
 Lent whole n h t = (head_at whole n h t ≡ Some (lent_head h)) × (head_flow_at whole n h t ≡ None)

@@ -1,5 +1,5 @@
 -- In which order lines stand by their rows.
-use Rattle.std.proofs.Common.{◌≡◌, ◌⊎◌, inl, inr, ℕ, suc, ◌+◌, ◌-◌, ◌<◌, ◌≤◌, true, List, length, take, Some, None, sym, ap, ◌∙◌, subst, arith}
+use Rattle.std.proofs.Common.{◌≡◌, ◌⊎◌, inl, inr, ℕ, suc, ◌+◌, ◌-◌, ◌<◌, ◌≤◌, true, length, take, Some, sym, ap, ◌∙◌, arith}
 use Rattle.std.proofs.lemmas.Bool.{cases_lt, false≢true}
 use Rattle.std.proofs.lemmas.Option.{same_Some}
 use Rattle.std.specs.List.{slice_get}
@@ -12,7 +12,7 @@ use Rattle.yq_walk.specs.RowWalk.{HasRows, IsLine, IsSpot, line_number}
 use Rattle.yq_walk.specs.declared.spot.Spot.{Spot}
 use Rattle.yq_walk.specs.declared.spot.Stretch.{Stretch}
 use Rattle.yq_walk.proofs.WalkEnds.{lines_upto}
-use Rattle.yq_walk.proofs.WalkSpots.{Located, located, spot_line}
+use Rattle.yq_walk.proofs.WalkSpots.{located, spot_line}
 
 -- a later line is of no earlier row
 pub row_order : (s : Shown) (d : Stretch) (h : HasRows s d) (q e : Spot) → IsLine s d q → IsSpot s d e → line_number d h.rows q < line_number d h.rows e → q.row ≤ e.row

@@ -19,6 +19,7 @@ use Rattle.yq_documents.specs.Made.{IsTold, Rise, told_flow}
 use Rattle.yq_reading.specs.Named.{flow_names}
 use Rattle.yq_documents.specs.RowReading.{begins_block}
 use Rattle.yq_documents.specs.declared.made.Made.{Made}
+use Rattle.yq_reading.specs.declared.checked.Checked.{Checked}
 
 -- a backslash in double quotes, or a quote in single ones, stands behind the first byte and before the last (own)
 abbrev pub holds_escape : List ℕ → Bool
@@ -55,9 +56,17 @@ made_refers m = list_any is_reference (flow_names (told_flow (Some m)))
 abbrev pub some_refer : List Made → Bool
 some_refer ms = list_any made_refers ms
 
--- What is said of the lines of such a document, with their numbers (own).
-abbrev pub OfReady : List ℕ → Shown → List Made → Stretch → (List Line → (Spot → ℕ) → Type 0) → Type 0
-OfReady t s ms d said = (k : IsReady t s ms d) → said (lines_of k.document.rows) (line_number d k.document.rows)
+-- The document that is checked is such a one (own).
+abbrev pub IsChecked : Checked → Type 0
+IsChecked x = IsReady x.text.now x.rows.now x.made.now x.document
+
+-- What is said of the lines of the document that is checked, with their numbers (own).
+abbrev pub OfChecked : Checked → (List Line → (Spot → ℕ) → Type 0) → Type 0
+OfChecked x said = (k : IsChecked x) → said (lines_of k.document.rows) (line_number x.document k.document.rows)
+
+-- What is said of one of them (own).
+abbrev pub OfCheckedLine : Checked → Spot → (List Line → (Spot → ℕ) → Line → Type 0) → Type 0
+OfCheckedLine x at said = OfChecked x (λ ls n. (l : Line) → slice_get ls (n at) ≡ Some l → said ls n l)
 
 -- The spot behind the lines from one on that are deeper than a level is given, where there is no fault (own).
 pub record GivesStop (s : Shown) (d : Stretch) (from : Spot) (floor : ℕ) (q : Spot) : Type 0 where

@@ -4,7 +4,7 @@ ghost use Rattle.yq_scalar.specs.declared.fault.FaultKind.TheVariants.{NotUtf8};
 ghost use Rattle.yq_lines.specs.Bodies.{lent};
 ghost use Rattle.yq_lines.specs.Outline as outline;
 ghost use Rattle.yq_walk.specs.RowWalk.{IsLine, OfLine};
-ghost use Rattle.yq_reading.specs.Checking.{IsReady};
+ghost use Rattle.yq_reading.specs.Checking.{IsChecked};
 
 use yq_documents::{Made, fault_at, made_at, told_key};
 use yq_rows::Rows;
@@ -37,7 +37,7 @@ pub(crate) fn row_fault(x: Checked<'_, '_>, at: Spot, kind: FaultKind) -> ReadFa
 
 /// How deep a line is.
 pub(crate) fn line_level(x: Checked<'_, '_>, at: Spot) -> usize
-    requires ready { IsReady x.text.now x.rows.now x.made.now x.document }
+    requires ready { IsChecked x }
     requires line { IsLine x.rows.now x.document at }
     ensures { OfLine x.entry.rows.now x.entry.document at (λ l. result ≡ outline.level l) }
 {
@@ -46,9 +46,10 @@ pub(crate) fn line_level(x: Checked<'_, '_>, at: Spot) -> usize
 
 /// The key of a line, if it has one.
 pub(crate) fn line_key<'a>(x: Checked<'a, '_>, at: Spot) -> Option<&'a str>
-    requires ready { IsReady x.text.now x.rows.now x.made.now x.document }
+    requires ready { IsChecked x }
     requires line { IsLine x.rows.now x.document at }
-    ensures { OfLine x.entry.rows.now x.entry.document at (λ l. lent result ≡ outline.key_of l.mark) }
+    ensures { OfLine x.entry.rows.now x.entry.document at (λ l.
+        lent result ≡ outline.key_of l.mark) }
 {
     if rank_at(x.rows, at) != 2 {
         return None;

@@ -1,12 +1,11 @@
 //! What is asked of a head: how deep collections are nested in it, and the keys of each.
-ghost use Rattle.std.specs.Prelude.{◌≡◌, option_map, slice_get, IfErr, Some};
+ghost use Rattle.std.specs.Prelude.{◌≡◌, option_map, IfErr, Some};
 ghost use Rattle.yq_scalar.specs.Answers.{IsOfText};
 ghost use Rattle.yq_inline.specs.View.{view};
-ghost use Rattle.yq_lines.specs.Outline.{Line};
 ghost use Rattle.yq_lines.specs.Sound as spec;
 ghost use Rattle.yq_walk.specs.RowWalk.{IsLine};
 ghost use Rattle.yq_documents.specs.Made.{told_flow};
-ghost use Rattle.yq_reading.specs.Checking.{IsReady, OfReady};
+ghost use Rattle.yq_reading.specs.Checking.{IsChecked, OfCheckedLine};
 ghost use Rattle.yq_reading.specs.Deciding.{Decides};
 
 use crate::checked::Checked;
@@ -40,10 +39,10 @@ pub(crate) fn head_fault(
     at: Spot,
     depth: usize,
 ) -> Result<(), ReadError>
-    requires ready { IsReady x.text.now x.rows.now x.made.now x.document }
+    requires ready { IsChecked x }
     requires line { IsLine x.rows.now x.document at }
-    ensures sound { OfReady x.entry.text.now x.entry.rows.now x.entry.made.now x.entry.document (λ ls n. (l : Line) →
-        slice_get ls (n at) ≡ Some l → Decides result (spec.head_is_sound depth l.head)) }
+    ensures sound { OfCheckedLine x.entry at (λ ls n l. Decides result
+        (spec.head_is_sound depth l.head)) }
     ensures fault { IfErr result IsOfText }
 {
     if !has_head(x.rows, x.document, at) {

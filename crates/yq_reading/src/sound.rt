@@ -1,5 +1,5 @@
 //! What is asked of a document's lines, row by row.
-ghost use Rattle.std.specs.Prelude.{◌≡◌, ◌≢◌, ◌+◌, ◌++◌, ◌&&◌, [], false, is_some, map, slice_get, IfErr, IfOk, OnOk, Some};
+ghost use Rattle.std.specs.Prelude.{◌≡◌, ◌≢◌, ◌+◌, ◌++◌, ◌&&◌, [], false, is_some, map, IfErr, IfOk, OnOk, Some};
 ghost use Rattle.yq_scalar.specs.Answers.{IsOfText};
 ghost use Rattle.yq_scalar.specs.Keys.{with_key};
 ghost use Rattle.yq_scalar.specs.declared.fault.FaultKind.TheVariants.{NotUtf8};
@@ -7,7 +7,7 @@ ghost use Rattle.yq_lines.specs.Ends.{part, is_end};
 ghost use Rattle.yq_lines.specs.Outline as outline;
 ghost use Rattle.yq_lines.specs.Sound as spec;
 ghost use Rattle.yq_walk.specs.RowWalk.{IsLine, IsSpot, OfLine, OfLines};
-ghost use Rattle.yq_reading.specs.Checking.{GivesEnd, GivesStop, IsReady, OfReady};
+ghost use Rattle.yq_reading.specs.Checking.{IsChecked, OfChecked, OfCheckedLine, GivesEnd, GivesStop};
 ghost use Rattle.yq_reading.specs.Deciding.{Decides};
 
 use crate::checked::{Checked, line_key, line_level, row_fault};
@@ -39,11 +39,13 @@ fn check_bare(
     floor: usize,
     depth: usize,
 ) -> Result<Spot, ReadError>
-    requires ready { IsReady x.text.now x.rows.now x.made.now x.document }
+    requires ready { IsChecked x }
     requires line { IsLine x.rows.now x.document at }
-    requires deep { OfLines x.rows.now x.document (λ ls n. is_end (part ls (n at) floor) ≡ false) }
-    ensures sound { OfReady x.entry.text.now x.entry.rows.now x.entry.made.now x.entry.document (λ ls n. (l : outline.Line) →
-        slice_get ls (n at) ≡ Some l → Decides result ((is_some l.head && is_end (part ls (n at + 1) floor)) && spec.head_is_sound depth l.head)) }
+    requires deep { OfLines x.rows.now x.document (λ ls n.
+        is_end (part ls (n at) floor) ≡ false) }
+    ensures sound { OfCheckedLine x.entry at (λ ls n l.
+        Decides result ((is_some l.head && is_end (part ls (n at + 1) floor)) &&
+        spec.head_is_sound depth l.head)) }
     ensures behind { IfOk result (GivesStop x.entry.rows.now x.entry.document at floor) }
     ensures fault { IfErr result IsOfText }
 {
@@ -62,9 +64,10 @@ fn check_bare(
 
 /// Adds the key of a line, if it has one.
 fn push_key<'k>(keys: &mut Keys<'k>, x: Checked<'k, '_>, at: Spot) -> Result<(), AllocError>
-    requires ready { IsReady x.text.now x.rows.now x.made.now x.document }
+    requires ready { IsChecked x }
     requires line { IsLine x.rows.now x.document at }
-    ensures { OfLine x.entry.rows.now x.entry.document at (λ l. OnOk result (map (λ k. k.now) keys.new.items ≡
+    ensures { OfLine x.entry.rows.now x.entry.document at (λ l. OnOk result
+        (map (λ k. k.now) keys.new.items ≡
         map (λ k. k.now) keys.old.items ++ with_key (outline.key_of l.mark) [])) }
 {
     match line_key(x, at) {
@@ -84,7 +87,7 @@ fn repeated_line(
     start: Spot,
     floor: usize,
 ) -> Result<Spot, AllocError>
-    requires ready { IsReady x.text.now x.rows.now x.made.now x.document }
+    requires ready { IsChecked x }
     requires start { IsSpot x.rows.now x.document start }
 {
     let mut known = BTreeMap::new(alloc);
@@ -110,10 +113,10 @@ fn check_line(
     n: usize,
     depth: usize,
 ) -> Result<Spot, ReadError>
-    requires ready { IsReady x.text.now x.rows.now x.made.now x.document }
+    requires ready { IsChecked x }
     requires line { IsLine x.rows.now x.document at }
-    ensures sound { OfReady x.entry.text.now x.entry.rows.now x.entry.made.now x.entry.document (λ ls num. (l : outline.Line) →
-        slice_get ls (num at) ≡ Some l → Decides result (spec.are_sound_under depth n l (part ls (num at + 1) (outline.level l)))) }
+    ensures sound { OfCheckedLine x.entry at (λ ls num l. Decides result
+        (spec.are_sound_under depth n l (part ls (num at + 1) (outline.level l)))) }
     ensures behind { IfOk result (GivesEnd x.entry.rows.now x.entry.document at) }
     ensures fault { IfErr result IsOfText }
 {
@@ -144,10 +147,10 @@ pub(crate) fn check_lines(
     floor: usize,
     depth: usize,
 ) -> Result<Spot, ReadError>
-    requires ready { IsReady x.text.now x.rows.now x.made.now x.document }
+    requires ready { IsChecked x }
     requires start { IsSpot x.rows.now x.document start }
-    ensures sound { OfReady x.entry.text.now x.entry.rows.now x.entry.made.now x.entry.document (λ ls n.
-        Decides result (spec.is_sound depth (part ls (n start) floor))) }
+    ensures sound { OfChecked x.entry (λ ls n. Decides result
+        (spec.is_sound depth (part ls (n start) floor))) }
     ensures behind { IfOk result (GivesStop x.entry.rows.now x.entry.document start floor) }
     ensures fault { IfErr result IsOfText }
 {

@@ -1,5 +1,4 @@
-use Rattle.std.proofs.Common.{◌≡◌, ℕ, ◌&&◌, false, true, sym, ap, ◌∙◌}
-use Rattle.yq_documents.specs.Reading.{has_short_root}
+use Rattle.std.proofs.Common.{ℕ, ◌&&◌, sym, ap, ◌∙◌}
 use Rattle.yq_inline.specs.Inline.{depth_limit}
 use Rattle.yq_lines.specs.Ends.{part}
 use Rattle.yq_lines.specs.LinesReading.{lines_are_sound}

@@ -1,8 +1,7 @@
-use Rattle.std.proofs.Common.{◌≡◌, ℕ, ◌+◌, ◌-◌, ◌++◌, [], drop, sym, ap, ◌∙◌, arith}
-use Rattle.yq_scalar.specs.Anchors.{with_anchor}
+use Rattle.std.proofs.Common.{◌≡◌, ℕ, ◌+◌, ◌-◌, ◌++◌, drop, sym, ap, ◌∙◌, arith}
 use Rattle.yq_lines.specs.Names.{head_names, line_names}
 use Rattle.yq_rows.specs.View.{slices}
-use Rattle.yq_walk.specs.Lines.{content_anchor, head_of, lines_of}
+use Rattle.yq_walk.specs.Lines.{lines_of}
 use Rattle.yq_walk.specs.RowWalk.{IsLine}
 use Rattle.yq_walk.proofs.WalkRows.{rows_length}
 use Rattle.yq_walk.proofs.WalkSpots.{located}

@@ -1,6 +1,5 @@
-use Rattle.std.proofs.Common.{◌+◌, ◌-◌, inl, refl, sym, ap, ◌∙◌, subst, arith, map}
+use Rattle.std.proofs.Common.{◌-◌, inl, refl, sym, ◌∙◌, subst, arith, map}
 use Rattle.yq_lines.specs.Ends.{is_end, part}
-use Rattle.yq_lines.specs.Outline.{level}
 use Rattle.yq_lines.specs.Sound.{is_sound}
 use Rattle.yq_lines.proofs.EndsLaws.{is_at_end, not_end}
 use Rattle.yq_lines.proofs.EntryLaws.{start_asked, start_deep, start_bare, one_fails, one_passes, no_more}

@@ -3,7 +3,7 @@ use Rattle.yq_lines.specs.Ends.{part}
 use Rattle.yq_lines.specs.Sound.{is_sound}
 use Rattle.yq_lines.proofs.SoundLaws.{asked, IsEntryLevel}
 use Rattle.yq_walk.specs.RowWalk.{IsSpot, OfLines, lines_stop}
-use Rattle.yq_reading.specs.Checking.{OfReady}
+use Rattle.yq_reading.specs.Checking.{OfChecked}
 use Rattle.yq_reading.proofs.sound.+sound.Given as goal
 
 abbrev pub decreases-check_lines : goal.decreases-check_lines
@@ -22,6 +22,6 @@ invariant-check_lines-lines l = record {
   moved : (l.at ≡ l.start) ⊎ (l.start.row < l.at.row);
   more : 0 < l.depth;
   entries : IsEntryLevel l.n;
-  so_far : OfReady l.x.text.now l.x.rows.now l.x.made.now l.x.document (λ ls num. is_sound l.depth (part ls (num l.start) l.floor) ≡ asked (l.depth - 1) l.n (map (λ k. k.now) l.keys.items) (part ls (num l.at) l.floor));
+  so_far : OfChecked l.x (λ ls num. is_sound l.depth (part ls (num l.start) l.floor) ≡ asked (l.depth - 1) l.n (map (λ k. k.now) l.keys.items) (part ls (num l.at) l.floor));
   stop : OfLines l.x.rows.now l.x.document (λ ls num. lines_stop (num l.start) l.floor ls ≡ lines_stop (num l.at) l.floor ls);
 }
