@@ -99,6 +99,7 @@ fn level_behind(first: usize, dashes: &[u8], line: usize, has_colon: bool) -> us
 }
 
 /// How deep a line is, told by its row's dashes.
+#[inline(never)]
 fn level_within(rows: &Rows<'_>, spot: Spot) -> usize
     requires within { spot.row < length rows.now.rows }
     requires shown { IsShown rows.now }
