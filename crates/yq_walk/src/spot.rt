@@ -98,6 +98,22 @@ fn level_behind(first: usize, dashes: &[u8], line: usize, has_colon: bool) -> us
     begin + line_rank(dashes, line, has_colon)
 }
 
+/// How deep a line is, told by its row's dashes.
+#[inline(never)]
+fn level_within(rows: &Rows<'_>, spot: Spot) -> usize
+    requires within { spot.row < length rows.now.rows }
+    requires shown { IsShown rows.now }
+    ensures { (x : Slices) → slice_get rows.now.rows spot.row ≡ Some x →
+        result ≡ spec.line_level spot.line x }
+{
+    let first = rows.level(spot.row);
+    if !rows.has_dashes(spot.row) {
+        return first;
+    }
+    let dashes = rows.dashes(spot.row).as_bytes();
+    level_behind(first, dashes, spot.line, rows.has_colon(spot.row))
+}
+
 /// How deep a line is.
 #[inline(always)]
 pub fn level_at(rows: &Rows<'_>, spot: Spot) -> usize
@@ -106,15 +122,10 @@ pub fn level_at(rows: &Rows<'_>, spot: Spot) -> usize
     ensures { (x : Slices) → slice_get rows.now.rows spot.row ≡ Some x →
         result ≡ spec.line_level spot.line x }
 {
-    let first = rows.level(spot.row);
     if spot.line == 0 {
-        return first;
+        return rows.level(spot.row);
     }
-    if !rows.has_dashes(spot.row) {
-        return first;
-    }
-    let dashes = rows.dashes(spot.row).as_bytes();
-    level_behind(first, dashes, spot.line, rows.has_colon(spot.row))
+    level_within(rows, spot)
 }
 
 /// What a line begins with, as the order of marks in a column.
