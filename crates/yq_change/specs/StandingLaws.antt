@@ -43,7 +43,9 @@ pub record StandsThere (n : ℕ) (s : Step) (ss : List Step) (c : Cut) (e : Plac
 
 -- Rows that are found stand so.
 abbrev pub RowsStand : Type 0
-RowsStand = (n : ℕ) (s : Step) (ss : List Step) (c : Cut) (e : PlacedEntry) → read_at (cut_text c) ≡ Some c → placed_entry n (s ∷ ss) c ≡ Some e → StandsThere n s ss c e
+RowsStand =
+    (n : ℕ) (s : Step) (ss : List Step) (c : Cut) (e : PlacedEntry) → read_at (cut_text c) ≡ Some c → placed_entry n (s ∷ ss) c ≡ Some e →
+    StandsThere n s ss c e
 
 -- ---- what a key or dash holds
 
@@ -65,5 +67,6 @@ pub record HoldsPieces (h : Held) : Type 0 where
 -- The pieces of what the key or dash of rows holds spell the text, where its line is the last one of its row.
 abbrev pub HeldSpells : Type 0
 HeldSpells =
-    (n : ℕ) (s : Step) (ss : List Step) (c : Cut) (e : PlacedEntry) → read_at (cut_text c) ≡ Some c → placed_entry n (s ∷ ss) c ≡ Some e → e.line ≡ length e.row.dashes →
+    (n : ℕ) (s : Step) (ss : List Step) (c : Cut) (e : PlacedEntry) → read_at (cut_text c) ≡ Some c → placed_entry n (s ∷ ss) c ≡ Some e →
+    e.line ≡ length e.row.dashes →
     (cut_text c ≡ held_text (held e)) × HoldsPieces (held e)

@@ -11,7 +11,7 @@ pub use Rattle.yq_lines.specs.Sound
 pub use Rattle.yq_lines.specs.Ends
 pub use Rattle.yq_lines.specs.Places
 pub use Rattle.yq_lines.specs.Labelled
-pub use Rattle.yq_lines.specs.Bodies
+pub use Rattle.yq_lines.specs.Bodies as LineBodies
 pub use Rattle.yq_lines.specs.Counts
 pub use Rattle.yq_lines.specs.Comments
 pub use Rattle.yq_lines.specs.Laws

@@ -17,7 +17,7 @@ pub record LineEnd : Type 0 where
   pub comment : List ℕ
   pub behind : List ℕ
 
--- the end of the line in front of a rest (6.6)
+-- the end of a line, by the text before the white space that ends it, and the text from that on (6.6)
 abbrev pub end_before : List ℕ → List ℕ → LineEnd
 end_before before rest =
     let line = text.cut ends_line (past_white rest) in
@@ -31,7 +31,8 @@ line_text r = let s = slices r in row_front r ++ (s.space ++ (s.anchor ++ (s.apa
 abbrev pub end_of_line : PlacedRow → LineEnd
 end_of_line w = let s = slices w.row in end_before (w.before ++ line_text w.row) (s.tail ++ (s.raw ++ w.behind))
 
--- The lines above a row: the text before the run of comment lines that ends them, that run, which may be nothing, the row's column, and the text from the row's line on (6.6; own).
+-- The lines above a row: the text before the run of comment lines that ends them, that run, which may be nothing, the row's column, and
+-- the text from the row's line on (6.6; own).
 pub record LinesAbove : Type 0 where
   pub before : List ℕ
   pub run : List ℕ
@@ -40,12 +41,18 @@ pub record LinesAbove : Type 0 where
 
 -- the lines of a gap between two texts, above a row in a column (6.6; own)
 abbrev pub gap_above : List ℕ → List ℕ → ℕ → List ℕ → LinesAbove
-gap_above before gap column rest = record { before = before ++ joined (before_run (lines_of gap)); run = joined (last_run (lines_of gap)); column = column; behind = rest }
+gap_above before gap column rest = record {
+  before = before ++ joined (before_run (lines_of gap));
+  run = joined (last_run (lines_of gap));
+  column = column;
+  behind = rest;
+}
 
 -- the lines above a row (6.6; own)
 abbrev pub above_row : PlacedRow → LinesAbove
 above_row w = gap_above w.before w.row.gap w.row.column (behind_gap w.row w.behind)
 
--- the lines above the entry or item to which steps lead in document n, where its head comment stands or would stand, if its line is the first one of its row (6.6; own)
+-- the lines above the entry or item to which steps lead in document n, where its head comment stands or would stand, if its line is the
+-- first one of its row (6.6; own)
 abbrev pub lines_above : ℕ → List Step → Cut → Option LinesAbove
 lines_above n steps c = row_of_path n steps c >>= λ w. if w.line == 0 then Some (above_row w) else None

@@ -29,11 +29,13 @@ end_spaces t = drop (length (less_spaces t)) t
 abbrev pub line_seat : ℕ → List Step → Cut → Option Seat
 line_seat n steps c = slice_get (document_parts c) n >>= λ p. seat_of steps p.rows
 
--- the item or entry to which steps lead in document n, where its line isn't the first one of its row: behind a dash stands the first one of a compact collection (8.2.1)
+-- the item or entry to which steps lead in document n, where its line isn't the first one of its row: behind a dash stands the first one of
+-- a compact collection (8.2.1)
 abbrev pub first_entry : ℕ → List Step → Cut → Option Piece
 first_entry n steps c = line_seat n steps c >>= λ s. if s.line == 0 then None else (printed_document n c >>= piece_in Entry steps)
 
--- What is taken out with the first item or entry of a compact collection, between the text before and the text behind: spaces, the item or entry, its break and the next one's spaces, of which all but the second may be nothing (8.2.1; own).
+-- What is taken out with the first item or entry of a compact collection, between the text before and the text behind: spaces, the item or
+-- entry, its break and the next one's spaces, of which all but the second may be nothing (8.2.1; own).
 pub record FirstOut : Type 0 where
   pub before : List ℕ
   pub space : List ℕ
@@ -42,12 +44,14 @@ pub record FirstOut : Type 0 where
   pub indent : List ℕ
   pub behind : List ℕ
 
--- what is taken out with such an item or entry: all up to the next one, if there is no gap between their lines; else what stands behind the dash up to the end of its last line, before its break (8.2.1; own)
+-- what is taken out with such an item or entry: where a gap is behind its last line, what stands behind the dash up to the end of that line,
+-- before its break; else all up to the next one (8.2.1; own)
 abbrev pub first_out : Piece → FirstOut
 first_out p =
     let line = cut_line p.behind in
     let next = cut no_space line.1 in
-    if begins_gap line.1 then record { before = less_spaces p.before; space = end_spaces p.before; entry = p.text; break = []; indent = []; behind = p.behind }
+    if begins_gap line.1
+    then record { before = less_spaces p.before; space = end_spaces p.before; entry = p.text; break = []; indent = []; behind = p.behind }
     else record { before = p.before; space = []; entry = p.text; break = line.0; indent = next.0; behind = next.1 }
 
 -- what is taken out with the item or entry to which steps lead in document n, if it is the first one of a compact collection (8.2.1; own)

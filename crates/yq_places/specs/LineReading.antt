@@ -8,7 +8,7 @@ use Rattle.yq_places.specs.PrintedLines.{last_break, less_break}
 use Rattle.yq_places.specs.declared.places.lines_cut.LinesCut as declared_lines
 use Rattle.yq_places.specs.declared.places.lines_cut.TailCut as declared_tail
 
--- A break, or nothing (5.4).
+-- LF, CR LF or nothing (5.4).
 abbrev pub IsLastBreak : List ℕ → Type 0
 IsLastBreak t = (t ≡ []) ⊎ ((t ≡ 10 ∷ []) ⊎ (t ≡ 13 ∷ (10 ∷ [])))
 

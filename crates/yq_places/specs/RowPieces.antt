@@ -9,7 +9,7 @@ use Rattle.yq_rows.specs.View.{Slices}
 abbrev pub anchor_before : Slices → List ℕ
 anchor_before s = if is_empty s.anchor then [] else s.space ++ s.anchor
 
--- the white space before the head of a row
+-- the white space before the head of a row; without a head there is none, it is in the tail
 abbrev pub space_before : Slices → List ℕ
 space_before s = if is_empty s.anchor then s.space else s.apart
 

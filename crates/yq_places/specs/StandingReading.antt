@@ -13,7 +13,8 @@ use Rattle.yq_places.specs.Standings.{PlacedEntry, under_count}
 use Rattle.yq_places.specs.declared.places.placed_entry.PlacedEntry as declared
 use Rattle.yq_walk.specs.declared.spot.Stretch.{Stretch}
 
--- how many rows stand before the first one, how many lines of that before the one of the key or dash and before that of its mark, and how many rows stand before what is behind
+-- how many rows stand before the first one, how many lines of that before the one of the key or dash and before that of its mark, and how
+-- many rows stand before what is behind
 abbrev pub Numbers : Type 0
 Numbers = ℕ × ℕ × ℕ × ℕ
 
@@ -29,7 +30,7 @@ numbers_at n steps c = slice_get (document_parts c) n >>= λ p. option_map (seat
 abbrev pub told : declared.PlacedEntry → Numbers
 told m = (m.row, m.line, m.dashes, m.end)
 
--- Rows stand in a text, some in front of them and some behind, up to so many and before so many of it.
+-- An item's or entry's rows are those of a text from number `row` up to number `end`, which isn't one of them.
 pub record AreRowsOf (t : List ℕ) (s : Shown) (e : PlacedEntry) (row end : ℕ) : Type 0 where
   pub cut : IsCut t (cut_of t)
   pub shown_is : s ≡ shown (cut_of t)
@@ -50,12 +51,12 @@ pub record IsEntry (t : List ℕ) (s : Shown) (e : PlacedEntry) (m : declared.Pl
   pub dashes : m.dashes ≡ length e.row.dashes
   pub upto : e.line ≤ length e.row.dashes
 
--- Those of some do.
+-- Of some item or entry the numbers are these.
 pub record HasEntry (t : List ℕ) (s : Shown) (m : declared.PlacedEntry) : Type 0 where
   pub entry : PlacedEntry
   pub is : IsEntry t s entry m
 
--- Rows that begin so stand in a text, with some others.
+-- Rows of some item or entry, or of a document, begin in a text at number `row`.
 pub record HasRows (t : List ℕ) (s : Shown) (row : ℕ) : Type 0 where
   pub entry : PlacedEntry
   pub end : ℕ
@@ -65,7 +66,7 @@ pub record HasRows (t : List ℕ) (s : Shown) (row : ℕ) : Type 0 where
 abbrev pub root_entry : PlacedPart → Row → List Row → PlacedEntry
 root_entry d r rs = record { start = d.before; front = []; row = r; line = 0; under = rs; back = []; end = d.part.end; behind = d.behind }
 
--- All rows of a document stand in a text, of which there are some.
+-- A document with rows has these numbers in a text: its first row, and the one behind its last.
 pub record IsRootOf (t : List ℕ) (s : Shown) (d : Stretch) : Type 0 where
   pub part : PlacedPart
   pub row : Row

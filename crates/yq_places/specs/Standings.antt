@@ -20,7 +20,9 @@ use Rattle.yq_walk.specs.RowWalk.{deeper_rows, line_level}
 
 -- ---- the rows of an item or entry
 
--- The rows of an item or entry in a text: the text before its document, and the document's rows in front of them; the first one of them, and how many of its lines stand before that of the key or dash; those under it; the further rows of the document; its end gap; and the text behind the document (8.2).
+-- The rows of an item or entry in a text: the text before its document, and the document's rows in front of them; the first one of them,
+-- and how many of its lines stand before that of the key or dash; those under it; the further rows of the document; its end gap;
+-- and the text behind the document (8.2). A line is a key, a dash or a node alone; a seat is the row in which it stands; slices are a row's pieces.
 pub record PlacedEntry : Type 0 where
   pub start : List ℕ
   pub front : List Row
@@ -35,7 +37,7 @@ pub record PlacedEntry : Type 0 where
 abbrev pub under_count : Seat → List Row → ℕ
 under_count s rs = deeper_rows (line_level s.line (slices s.row)) (map slices rs)
 
--- the rows of the item or entry of a line, where so many of the rows behind it are under it
+-- the rows of the item or entry of a line, with the first n of the rows behind it under it
 abbrev pub entry_with : PlacedPart → Seat → ℕ → PlacedEntry
 entry_with d s n = record {
   start = d.before;
@@ -48,7 +50,7 @@ entry_with d s n = record {
   behind = d.behind;
 }
 
--- those deeper than it are under it (8.2)
+-- the rows of the item or entry of a line: under it are those that begin deeper (8.2)
 abbrev pub entry_at : PlacedPart → Seat → PlacedEntry
 entry_at d s = entry_with d s (under_count s (drop (suc s.before) d.part.rows))
 
@@ -66,13 +68,18 @@ behind_entry e = rows_text e.back (e.end ++ e.behind)
 
 -- ---- what stands there, in pieces
 
--- A key or dash: its column, whether it is a key, and whether an anchor or a comment stands on its line (8.2).
+-- A key or dash: its column, whether it is a key, and whether its row has an anchor before what is written behind its last mark, or a
+-- comment behind that (8.2).
 pub record Mark : Type 0 where
   pub column : ℕ
   pub keyed : Bool
   pub noted : Bool
 
--- A key or dash in a text, with what it holds: the text up to it, or to its anchor; the white space behind that; what is written there, an inline node, the header of a block scalar or nothing; the white space and the comment that end its line; that line's break, where lines are under it; these lines, less the break of the last one; the break of the last line, with or without lines under it; and the text behind (8.1, 8.2).
+-- A key or dash in a text, with what it holds. In order: the text up to its end, or to that of its anchor; the white space behind that, and
+-- what is written there, an inline node, the header of a block scalar or nothing; the white space and the comment that end its line. Where
+-- lines are below, `break` ends its line, `lines` are they, and `last` is the break of the last one. Where none are, `break` and `lines` are
+-- nothing, and `last` ends its line (8.1, 8.2). Of `a: &x | # c`, with the line `  t` below: before `a: &x`, space and white one space each,
+-- head `|`, comment `# c`, lines `  t`.
 pub record Held : Type 0 where
   pub mark : Mark
   pub before : List ℕ
@@ -85,13 +92,15 @@ pub record Held : Type 0 where
   pub last : List ℕ
   pub behind : List ℕ
 
--- A node in a text that isn't behind a key or dash: the text before it, with its anchor; what is written of it, or nothing; and the text behind (7, 8.2).
+-- A node that is alone on its line, under a key or dash or as a root: the text before it, with its anchor; the node without that, which is
+-- never nothing; and the text behind (7, 8.2).
 pub record Lone : Type 0 where
   pub before : List ℕ
   pub head : List ℕ
   pub behind : List ℕ
 
--- A collection that begins on the line of a dash: the dash; the column of its items or entries; the text up to the dash, with it; what stands behind it up to the end of the last line; the break of that; and the text behind (8.2.1).
+-- A collection that begins on the line of a dash: the dash; the column of its items or entries; the text up to the dash, with it; what stands
+-- behind it up to the end of the last line; the break of that; and the text behind (8.2.1).
 pub record Compact : Type 0 where
   pub mark : Mark
   pub column : ℕ
@@ -113,7 +122,9 @@ pub record NoRows : Type 0 where
   pub before : List ℕ
   pub behind : List ℕ
 
--- What stands outside flow collections: a node alone on its line; one behind a key or dash on its line, or nothing; a block collection on the lines under a key or dash, by its column; one that begins on the line of its dash; a block scalar, by how far its text is indented; a root that is a block collection; or no rows.
+-- What stands outside flow collections: a node alone on its line; one behind a key or dash on its line, or nothing; a block collection on the
+-- lines under a key or dash, by its column; one that begins on the line of its dash; a block scalar, by its text's indentation in columns; a
+-- root that is a block collection; or no rows.
 pub data Standing : Type 0 where
   alone : Lone → Standing
   beside : Held → Standing
@@ -160,7 +171,8 @@ is_alone r = is_empty r.dashes && is_bare (mark_of r.mark)
 -- what stands behind a key or dash behind which no node is written: nothing, a node on the line under it, or a block collection (8.2)
 abbrev pub below : PlacedEntry → List Row → Standing
 below e [] = beside (held e)
-below e (r ∷ rs) = if is_alone r then alone (lone (before_entry e ++ print_row e.row []) r (rows_text rs (behind_entry e))) else under (held e) r.column
+below e (r ∷ rs) =
+    if is_alone r then alone (lone (before_entry e ++ print_row e.row []) r (rows_text rs (behind_entry e))) else under (held e) r.column
 
 -- what stands behind the mark of a row, by its content
 abbrev pub behind_mark : PlacedEntry → Content → Standing
@@ -175,7 +187,11 @@ dash_text e = past_dash (drop e.line e.row.dashes) (behind_dashes e.row (rows_te
 -- the collection that begins on the line of a dash (8.2.1)
 abbrev pub compact_in : PlacedEntry → Compact
 compact_in e = record {
-  mark = record { column = behind_columns e.row.column (take e.line e.row.dashes); keyed = false; noted = (mark_in e.row (slices e.row) (end_before [] (slices e.row).tail)).noted };
+  mark = record {
+    column = behind_columns e.row.column (take e.line e.row.dashes);
+    keyed = false;
+    noted = (mark_in e.row (slices e.row) (end_before [] (slices e.row).tail)).noted;
+  };
   column = behind_columns e.row.column (take (suc e.line) e.row.dashes);
   before = before_entry e ++ row_front (upto_dash e.line e.row);
   old = less_break (dash_text e);
@@ -191,7 +207,13 @@ entry_standing e = if e.line == length e.row.dashes then behind_mark e e.row.con
 abbrev pub block_root : PlacedPart → Row → List Row → BlockRoot
 block_root d r rs =
     let t = behind_indent r (rows_text rs []) in
-    record { column = r.column; before = d.before ++ (r.gap ++ replicate r.column 32); old = less_break t; last = last_break t; behind = d.part.end ++ d.behind }
+    record {
+      column = r.column;
+      before = d.before ++ (r.gap ++ replicate r.column 32);
+      old = less_break t;
+      last = last_break t;
+      behind = d.part.end ++ d.behind;
+    }
 
 -- what stands at the root of a document, by its rows (9.1)
 abbrev pub root_standing : PlacedPart → List Row → Standing

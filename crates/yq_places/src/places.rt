@@ -1,4 +1,5 @@
-//! Where entries, contents and comments stand in a text, and where a node can be put.
+//! Where entries, contents and comments stand in a text; what stands at a path, in pieces; and what is
+//! taken out.
 
 pub mod comment_place;
 pub mod content_place;

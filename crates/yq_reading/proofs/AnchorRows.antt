@@ -1,5 +1,5 @@
 -- Anchors of neighbouring lines, by the rows of these.
-use Rattle.std.proofs.Common.{◌≡◌, ℕ, ℤ, zero, ◌+◌, eqb, List, [], ◌∷◌, ◌++◌, Option, Some, None, Bool, true, false, cond, not, ◌&&◌, ◌||◌, refl, sym, ap, ◌∙◌, subst, append-nil}
+use Rattle.std.proofs.Common.{◌≡◌, ℕ, ℤ, ◌+◌, eqb, List, [], ◌∷◌, ◌++◌, Option, Some, None, Bool, true, false, cond, not, ◌&&◌, ◌||◌, refl, sym, ap, ◌∙◌, append-nil}
 use Rattle.std.proofs.lemmas.Bool.{false≢true, cond_both}
 use Rattle.std.proofs.lemmas.Option.{same_Some}
 use Rattle.std.specs.List.{slice_get}
@@ -23,7 +23,7 @@ use Rattle.yq_rows.specs.Grammar.{IsContent}
 use Rattle.yq_rows.specs.Rows as rows
 use Rattle.yq_rows.specs.Rows.{Content, Nothing, Inline, Block, Row}
 use Rattle.yq_rows.specs.View.{anchor_cut, content_cut}
-use Rattle.yq_walk.specs.Lines.{content_anchor, head_of, lines_from, mark_line, row_lines}
+use Rattle.yq_walk.specs.Lines.{content_anchor, head_of, lines_from, row_lines}
 use Rattle.yq_documents.specs.RowReading.{name_in}
 
 -- whether a row has an anchor

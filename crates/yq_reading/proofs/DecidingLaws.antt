@@ -1,5 +1,5 @@
 -- What answers say of whether a text is as is asked.
-use Rattle.std.proofs.Common.{◌≡◌, Bool, true, false, Result, Ok, Err, refl, sym, ◌∙◌, subst}
+use Rattle.std.proofs.Common.{◌≡◌, Bool, false, Result, subst}
 use Rattle.yq_scalar.specs.declared.fault.ReadError.{ReadError}
 use Rattle.yq_scalar.specs.declared.fault.ReadError.TheVariants as error
 use Rattle.yq_reading.specs.Deciding.{Denies, Decides}

@@ -1,5 +1,5 @@
 -- What a line's head spells, by what is made of its row.
-use Rattle.std.proofs.Common.{◌≡◌, ℕ, zero, suc, ◌+◌, ◌-◌, ◌≤◌, Bool, true, false, cond, List, [], ◌∷◌, length, take, drop, Option, Some, None, refl, sym, ap, ◌∙◌, subst, arith}
+use Rattle.std.proofs.Common.{◌≡◌, ℕ, zero, suc, ◌+◌, ◌-◌, Bool, true, false, cond, List, [], ◌∷◌, take, drop, Option, Some, None, refl, sym, ap, ◌∙◌, arith}
 use Rattle.std.proofs.lemmas.Bool.{false≢true, le-leb}
 use Rattle.std.proofs.lemmas.Option.{same_Some}
 use Rattle.std.specs.List.{slice_get}
@@ -20,7 +20,8 @@ use Rattle.yq_walk.specs.Lines.{lines_of}
 use Rattle.yq_walk.specs.RowWalk.{IsLine, line_number}
 use Rattle.yq_walk.specs.declared.spot.Spot.{Spot}
 use Rattle.yq_walk.specs.declared.spot.Stretch.{Stretch}
-use Rattle.yq_walk.proofs.WalkSpots.{Located, located}
+use Rattle.yq_walk.proofs.KnownLaws.{get_dropped}
+use Rattle.yq_walk.proofs.WalkSpots.{located}
 use Rattle.yq_documents.specs.Made.{lent_head, lent_text, made_at, made_or, told_flow, told_head}
 use Rattle.yq_documents.specs.RowReading.{string_head}
 use Rattle.yq_documents.specs.declared.made.Made.{Made}
@@ -34,18 +35,9 @@ get_take (suc n) i [] x e = absurd (cc)
 get_take (suc n) zero (y ∷ xs) x e = e
 get_take (suc n) (suc i) (y ∷ xs) x e = get_take n i xs x e
 
-get_drop : {A : Type 0} (m i : ℕ) (xs : List A) (x : A) → slice_get (drop m xs) i ≡ Some x → slice_get xs (m + i) ≡ Some x
-get_drop zero i xs x e =
-    let same : zero + i ≡ i = omega arith in
-    ap (slice_get xs) same ∙ e
-get_drop (suc m) i [] x e = absurd (cc)
-get_drop (suc m) i (y ∷ xs) x e =
-    let past : suc m + i ≡ suc (m + i) = omega arith in
-    ap (slice_get (y ∷ xs)) past ∙ get_drop m i xs x e
-
 pub row_in_cut : (t : List ℕ) (s : Shown) (ms : List Made) (d : Stretch) (k : IsReady t s ms d) (i : ℕ) (r : Row) → slice_get k.document.rows i ≡ Some r → slice_get (rows_of k.cut) (d.first + i) ≡ Some r
 row_in_cut t s ms d k i r e =
-    get_drop d.first i (rows_of k.cut) r (get_take (d.end - d.first) i (drop d.first (rows_of k.cut)) r (ap (λ (rs : List Row). slice_get rs i) (sym k.there) ∙ e))
+    sym (get_dropped (rows_of k.cut) d.first i) ∙ get_take (d.end - d.first) i (drop d.first (rows_of k.cut)) r (ap (λ (rs : List Row). slice_get rs i) (sym k.there) ∙ e)
 
 -- the row of a line is one of the cut
 pub row_of_cut : (t : List ℕ) (s : Shown) (ms : List Made) (d : Stretch) (k : IsReady t s ms d) (q : Spot) (at : IsLine s d q) → slice_get (rows_of k.cut) q.row ≡ Some (located s d k.document q at).row
@@ -89,7 +81,7 @@ flat_of d (Some heads.TheVariants.Nothing) h e = refl
 flat_of d (Some (heads.TheVariants.Scalar kind text)) h e = rw (le-leb 0 d (omega arith)) refl
 flat_of d (Some (heads.TheVariants.Inline node)) h e = absurd (cc)
 
-pub head_flat : (d : ℕ) (m : Option Made) (h : List ℕ) → told_flow m ≡ None → head_is_sound d (told_head m h) ≡ true
+head_flat : (d : ℕ) (m : Option Made) (h : List ℕ) → told_flow m ≡ None → head_is_sound d (told_head m h) ≡ true
 head_flat d None h e = lent_flat d h
 head_flat d (Some x) h e = flat_of d x.head h e
 
@@ -97,3 +89,11 @@ head_flat d (Some x) h e = flat_of d x.head h e
 pub headless : (d : ℕ) (o : Option Node) → false ≡ is_some o → head_is_sound d o ≡ true
 headless d None e = refl
 headless d (Some n) e = absurd (false≢true e)
+
+-- a line with no alias and no flow collection made of its row
+pub head_free : (t : List ℕ) (s : Shown) (ms : List Made) (d : Stretch) (k : IsReady t s ms d) (q : Spot) (at : IsLine s d q) (l : Line) → slice_get (lines_of k.document.rows) (line_number d k.document.rows q) ≡ Some l → (depth : ℕ) → told_flow (made_at q.row ms) ≡ None → head_is_sound depth l.head ≡ true
+head_free t s ms d k q at l is depth none = go (is_some l.head) refl
+  where
+    go : (b : Bool) → is_some l.head ≡ b → head_is_sound depth l.head ≡ true
+    go true e = ap (head_is_sound depth) (sym (head_line t s ms d k q at l is (sym e))) ∙ head_flat depth (made_at q.row ms) (slices (located s d k.document q at).row).head none
+    go false e = headless depth l.head (sym e)

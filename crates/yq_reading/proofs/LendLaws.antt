@@ -27,7 +27,7 @@ any_take f (suc n) (b ∷ bs) e =
     let rest : list_any f (take n bs) ≡ false = any_take f n bs p.1 in
     (λ i. p.0 i || rest i)
 
-quoted_is : (t : List ℕ) → is_quoted t ≡ true → content_of t ≡ quoted_content t
+pub quoted_is : (t : List ℕ) → is_quoted t ≡ true → content_of t ≡ quoted_content t
 unfolding content_of
 quoted_is t q = rw q refl
 
@@ -52,6 +52,10 @@ lends_key (b ∷ bs) q e = go (is_quoted (b ∷ bs)) refl
         ∙ (lent_quoted (b ∷ bs) inner (b ∷ bs) (q quoted) refl refl (any_take is_feed (length (b ∷ bs) - 2) bs (any_drop is_feed 1 (b ∷ bs) parts.0))
         (sym (cond-true (is_quoted (b ∷ bs)) (list_any (λ x. eqb x (cond (eqb b 34) 92 39)) inner) false quoted) ∙ parts.1) ∙ sym (quoted_is (b ∷ bs) quoted))
     go false quoted = cond-false (is_quoted (b ∷ bs)) _ (b ∷ bs) quoted ∙ kept (b ∷ bs) quoted parts.0
+
+-- one in quotes, by what stands between them
+pub lends_quoted : (t inner : List ℕ) (escaped : Bool) → holds_break t ≡ false → is_quoted t ≡ true → inner ≡ lent_text t → escaped ≡ list_any (λ b. eqb b (cond (first_is 34 t) 92 39)) inner → not escaped ≡ lends_text t
+lends_quoted t inner escaped broken quoted is e = rw (broken, quoted) (ap not (e ∙ ap (list_any (λ b. eqb b (cond (first_is 34 t) 92 39))) (rw quoted at is)))
 
 -- a head that is lent is read as what is lent of it, and holds no alias and no flow collection
 abbrev Lent : List ℕ → ℤ → List ℕ → List ℕ → Type 0

@@ -1,10 +1,10 @@
 -- How deep a line is, by its row.
-use Rattle.std.proofs.Common.{◌≡◌, ℕ, zero, suc, List, [], ◌∷◌, map, Option, Some, refl, sym, ap, ◌∙◌}
+use Rattle.std.proofs.Common.{◌≡◌, ℕ, zero, suc, List, [], ◌∷◌, map, Some, refl, sym, ap, ◌∙◌}
 use Rattle.std.proofs.lemmas.Option.{same_Some}
 use Rattle.std.specs.List.{slice_get}
 use Rattle.yq_lines.specs.Outline.{level}
 use Rattle.yq_rows.specs.Rows.{Row}
-use Rattle.yq_rows.specs.View.{Slices, slices, Shown, shown, rows_of}
+use Rattle.yq_rows.specs.View.{Slices, slices, Shown}
 use Rattle.yq_walk.specs.RowWalk.{IsLine, OfLine, line_level}
 use Rattle.yq_walk.specs.declared.spot.Spot.{Spot}
 use Rattle.yq_walk.specs.declared.spot.Stretch.{Stretch}

@@ -1,15 +1,16 @@
 -- What is made of rows, one behind the other.
-use Rattle.std.proofs.Common.{◌≡◌, ◌⊎◌, inl, inr, ℕ, zero, suc, ◌+◌, ◌<◌, ◌≤◌, eqb, Bool, true, ◌&&◌, cond, List, [], ◌∷◌, ◌++◌, length, drop, map, Option, Some, None, refl, sym, ap, ◌∙◌, subst, arith, ⊎_elim}
+use Rattle.std.proofs.Common.{◌≡◌, ◌⊎◌, inl, inr, ℕ, suc, ◌+◌, ◌<◌, ◌≤◌, eqb, Bool, true, false, ◌&&◌, cond, List, [], ◌∷◌, ◌++◌, length, drop, Option, Some, None, refl, sym, ap, ◌∙◌, subst, arith, append-nil}
 use Rattle.std.proofs.lemmas.Bool.{cases_lt, cond-false, cond-true, eq-eqb, ne_eqb}
 use Rattle.std.proofs.lemmas.Option.{same_Some, slice_get_within}
 use Rattle.std.specs.List.{list_all, slice_get}
+use Rattle.std.specs.Prelude.{IfSome}
 use Rattle.yq_rows.specs.Rows.{Row}
-use Rattle.yq_rows.specs.View.{rows_of, Shown}
+use Rattle.yq_rows.specs.View.{rows_of}
 use Rattle.yq_documents.specs.Made.{IsTold, IsToldBy, Rise, made_at}
 use Rattle.yq_documents.specs.Reading.{content_is_fit, cut_of, have_fit_keys, mark_is_fit}
 use Rattle.yq_documents.specs.RowReading.{row_fits}
 use Rattle.yq_documents.specs.declared.made.Made.{Made}
-use Rattle.yq_reading.specs.Making.{AreMade, IsCutInto, OfRow}
+use Rattle.yq_reading.specs.Making.{AreMade, OfRow, listed}
 use Rattle.yq_reading.proofs.AllOf.{all_done, all_step}
 
 -- what is made of rows from one on, before another one, is in their order
@@ -85,7 +86,7 @@ module _ (t : List ℕ) (i : ℕ) (ms : List Made) (k : MadeUpto t i ms) where
     fits_more = all_step row_fits (rows_of (cut_of t)) i _ k.fits r is fit
 
     -- nothing is made of the row
-    pub lent_turn : IsToldBy (length t) (cut_of t) None i r → MadeUpto t (i + 1) ms
+    lent_turn : IsToldBy (length t) (cut_of t) None i r → MadeUpto t (i + 1) ms
     lent_turn here = record {
       rise = rise_more 0 i ms k.rise;
       told = told_more ms (λ j less. refl) (subst (λ (o : Option Made). IsToldBy (length t) (cut_of t) o i r) (sym (made_none 0 i i ms k.rise (omega arith))) here);
@@ -93,7 +94,7 @@ module _ (t : List ℕ) (i : ℕ) (ms : List Made) (k : MadeUpto t i ms) where
     }
 
     -- something is made of it
-    pub made_turn : (m : Made) (new : List Made) → m.row ≡ i → new ≡ ms ++ m ∷ [] → IsToldBy (length t) (cut_of t) (Some m) i r → MadeUpto t (i + 1) new
+    made_turn : (m : Made) (new : List Made) → m.row ≡ i → new ≡ ms ++ m ∷ [] → IsToldBy (length t) (cut_of t) (Some m) i r → MadeUpto t (i + 1) new
     made_turn m new row pushed here =
         subst (MadeUpto t (i + 1)) (sym pushed)
         (record {
@@ -101,6 +102,10 @@ module _ (t : List ℕ) (i : ℕ) (ms : List Made) (k : MadeUpto t i ms) where
           told = told_more (ms ++ m ∷ []) (λ j less. made_same i j ms m row less) (subst (λ (o : Option Made). IsToldBy (length t) (cut_of t) o i r) (sym (made_last 0 i ms m k.rise row)) here);
           fits = fits_more;
         })
+
+    pub row_turn : (m : Option Made) (new : List Made) → IfSome m (λ x. x.row ≡ i) → new ≡ ms ++ listed m → IsToldBy (length t) (cut_of t) m i r → MadeUpto t (i + 1) new
+    row_turn None new row pushed here = subst (MadeUpto t (i + 1)) (sym (pushed ∙ append-nil ms)) (lent_turn here)
+    row_turn (Some m) new row pushed here = made_turn m new row pushed here
 
 -- all rows are passed
 pub are_made : (t : List ℕ) (i : ℕ) (ms : List Made) → MadeUpto t i ms → length (rows_of (cut_of t)) ≤ i → AreMade t ms

@@ -1,7 +1,7 @@
 -- Where the documents of a text stand among its rows is told by where its parts end.
-use Rattle.std.proofs.Common.{◌≡◌, ℕ, zero, suc, ◌+◌, Bool, true, false, ◌||◌, not, ltb, List, [], ◌∷◌, ◌++◌, length, drop, map, Option, Some, refl, sym, ap, ◌∙◌, arith, append_assoc, append-nil, length-append}
-use Rattle.std.proofs.lemmas.Bool.{cond-false, cond-true, false≢true, le-ltb, lt-ltb}
-use Rattle.std.proofs.lemmas.List.{length-map}
+use Rattle.std.proofs.Common.{◌≡◌, ℕ, zero, suc, ◌+◌, ◌≤◌, Bool, true, false, ◌||◌, not, ltb, List, [], ◌∷◌, ◌++◌, length, drop, map, Option, Some, refl, sym, ap, ◌∙◌, arith, append_assoc, append-nil, length-append}
+use Rattle.std.proofs.lemmas.Bool.{cond-false, cond-true, le-ltb, lt-ltb}
+use Rattle.std.proofs.lemmas.List.{drop_all, length-map}
 use Rattle.std.proofs.lemmas.Option.{same_Some, slice_get-map}
 use Rattle.std.specs.List.{slice_get}
 use Rattle.std.specs.Prelude.{option_map}
@@ -11,14 +11,14 @@ use Rattle.yq_rows.specs.Grammar.{begins_document}
 use Rattle.yq_rows.specs.Rows.{Row, Part, Cut, last, marked}
 use Rattle.yq_rows.specs.Splices.{first_gap as gap_of}
 use Rattle.yq_rows.specs.View.{Bound, Slices, slices, bounds_from, rows_of, Shown}
-use Rattle.yq_documents.specs.Documents.{begins_bare, document_parts, has_begin, parts_from}
+use Rattle.yq_documents.specs.Documents.{begins_bare, has_begin, parts_from}
 use Rattle.yq_documents.specs.PartReading.{first_rows, some_begin}
 use Rattle.yq_documents.specs.Reading.{cut_of}
 use Rattle.yq_documents.specs.Seats.{rows_before}
 use Rattle.yq_documents.specs.declared.read_text.DocumentRows.{DocumentRows}
 use Rattle.yq_documents.proofs.BeginLaws.{document_is}
 use Rattle.yq_reading.specs.Making.{IsCutInto}
-use Rattle.yq_reading.specs.Places.{ArePlaced, all_rows, first_gap, gap_or, row_told, rows_told}
+use Rattle.yq_reading.specs.Places.{ArePlaced, all_rows, first_gap, gap_or, part_row, row_told, rows_told}
 
 -- the gap in front of rows that stand behind others
 get_seam : (xs : List Row) (r : Row) (ys : List Row) → slice_get (xs ++ (r ∷ ys)) (length xs) ≡ Some r
@@ -75,6 +75,7 @@ pub are_placed : (t : List ℕ) (s : Shown) (ds : List DocumentRows) → IsCutIn
 are_placed t s ds k e =
     let c : Cut = cut_of t in
     let is : Bool = begins_bare c || not (has_begin c) in
+    let start : (n : ℕ) → 0 + rows_before is n c ≡ rows_before is n c = λ n. omega arith in
     let told : rows_told ds ≡ all_rows (map slices (rows_of c)) is 0 (bounds_from 0 c) = e ∙ (λ i. all_rows (k.rows i).rows (document_is c s k.rows i) 0 (k.rows i).bounds) in
     record {
       count = sym (length-map ds row_told) ∙ (ap length told ∙ told_count (map slices (rows_of c)) is 0 c);
@@ -83,27 +84,18 @@ are_placed t s ds k e =
           same_Some _ _ (sym (slice_get-map row_told ds n ∙ ap (option_map row_told) there) ∙ (ap (λ l. slice_get l n) told ∙ told_at (rows_of c) [] 0 is n c p refl refl at)) in
           record {
             lead = ap (λ (x : ℕ × ℕ × List ℕ). head_comment x.2) own;
-            first = ap (λ (x : ℕ × ℕ × List ℕ). x.0) own;
+            first = ap (λ (x : ℕ × ℕ × List ℕ). x.0) own ∙ start n;
             end = ap (λ (x : ℕ × ℕ × List ℕ). x.1) own ∙ ap (λ (x : ℕ × ℕ × List ℕ). x.0 + length p.rows) (sym own);
           };
     }
 
 -- one part on
-module _ (ss : List Slices) (is : Bool) (k at : ℕ) (bs : List Bound) (b : Bound) (there : slice_get bs at ≡ Some b) (next : Bool) (begins : next ≡ begins_document b.marker) (before all : List (ℕ × ℕ × List ℕ)) (so_far : before ++ all_rows ss is k (drop at bs) ≡ all) where
-  abbrev behind : List (ℕ × ℕ × List ℕ)
-  behind = all_rows ss next b.rows (drop (at + 1) bs)
+module _ (ss : List Slices) (is : Bool) (k at : ℕ) (bs : List Bound) (b : Bound) (there : slice_get bs at ≡ Some b) (next : Bool) (begins : next ≡ begins_document b.marker) (before new all : List (ℕ × ℕ × List ℕ)) where
+  pub part_turn : before ++ all_rows ss is k (drop at bs) ≡ all → new ≡ before ++ part_row ss is k b → new ++ all_rows ss next b.rows (drop (at + 1) bs) ≡ all
+  part_turn so_far pushed =
+      (λ i. pushed i ++ all_rows ss (begins i) b.rows (drop (at + 1) bs))
+      ∙ (append_assoc before (part_row ss is k b) (all_rows ss (begins_document b.marker) b.rows (drop (at + 1) bs))
+      ∙ (ap (λ (l : List Bound). before ++ all_rows ss is k l) (sym (drop_at bs at b there)) ∙ so_far))
 
-  here : before ++ all_rows ss is k (b ∷ drop (at + 1) bs) ≡ all
-  here = ap (λ (l : List Bound). before ++ all_rows ss is k l) (sym (drop_at bs at b there)) ∙ so_far
-
-  rest_is : behind ≡ all_rows ss (begins_document b.marker) b.rows (drop (at + 1) bs)
-  rest_is = ap (λ (x : Bool). all_rows ss x b.rows (drop (at + 1) bs)) begins
-
-  pub document_turn : is ≡ true → (new : List (ℕ × ℕ × List ℕ)) → new ≡ before ++ (k, b.rows, first_gap ss k b) ∷ [] → new ++ behind ≡ all
-  document_turn e new pushed =
-      (λ i. pushed i ++ rest_is i)
-      ∙ (append_assoc before ((k, b.rows, first_gap ss k b) ∷ []) (all_rows ss (begins_document b.marker) b.rows (drop (at + 1) bs))
-      ∙ (ap (λ (x : Bool). before ++ all_rows ss x k (b ∷ drop (at + 1) bs)) (sym e) ∙ here))
-
-  pub other_turn : is ≡ false → before ++ behind ≡ all
-  other_turn e = ap (λ l. before ++ l) rest_is ∙ (ap (λ (x : Bool). before ++ all_rows ss x k (b ∷ drop (at + 1) bs)) (sym e) ∙ here)
+pub part_done : (ss : List Slices) (is : Bool) (k at : ℕ) (bs : List Bound) (told all : List (ℕ × ℕ × List ℕ)) → length bs ≤ at → told ++ all_rows ss is k (drop at bs) ≡ all → told ≡ all
+part_done ss is k at bs told all past so_far = sym (append-nil told) ∙ (ap (λ (l : List Bound). told ++ all_rows ss is k l) (sym (drop_all at bs past)) ∙ so_far)

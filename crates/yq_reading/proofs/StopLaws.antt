@@ -2,7 +2,7 @@
 use Rattle.std.proofs.Common.{◌≡◌, ℕ, zero, suc, ◌+◌, ◌<◌, List, [], ◌∷◌, drop, Some, true, not, refl, ap, ◌∙◌, arith}
 use Rattle.std.proofs.lemmas.Bool.{lt-ltb, cond-true, cond-false}
 use Rattle.std.specs.List.{slice_get}
-use Rattle.yq_lines.specs.Ends.{deeper_count, lines_end, part, is_end}
+use Rattle.yq_lines.specs.Ends.{deeper_count, part, is_end}
 use Rattle.yq_lines.specs.Outline.{Line, level}
 use Rattle.yq_lines.proofs.EndsLaws.{deeper_at}
 use Rattle.yq_lines.proofs.Parts.{drop_at}

@@ -1,5 +1,5 @@
 -- What is asked of a line and of the lines under it.
-use Rattle.std.proofs.Common.{◌≡◌, ℕ, ◌+◌, Option, Some, None, Bool, true, false, not, ◌&&◌, refl, sym, ap, ◌∙◌, arith}
+use Rattle.std.proofs.Common.{◌≡◌, ℕ, Option, Some, None, Bool, true, false, ◌&&◌, refl, sym, arith}
 use Rattle.std.proofs.lemmas.Bool.{false≢true, eq-eqb, ne_eqb, le-leb}
 use Rattle.std.specs.Prelude.{is_some}
 use Rattle.yq_scalar.specs.Tree.{Node}

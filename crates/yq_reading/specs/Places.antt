@@ -1,5 +1,5 @@
 -- Reading (own; a reader may skip it): where the documents of a text stand among its rows, by where its parts end.
-use Rattle.std.specs.Prelude.{◌≡◌, ◌×◌, ℕ, List, [], ◌∷◌, length, map, nat_lt, slice_get, Option, Some, None, Bool, true, false, ◌&&◌, if◌then◌else◌}
+use Rattle.std.specs.Prelude.{◌≡◌, ℕ, List, [], ◌∷◌, ◌++◌, length, map, nat_lt, slice_get, Option, Some, None, Bool, true, false, ◌&&◌, if◌then◌else◌}
 use Rattle.std.specs.List.{list_all}
 use Rattle.yq_lines.specs.LinesReading.{lines_are_sound}
 use Rattle.yq_rows.specs.Grammar.{begins_document}
@@ -20,11 +20,15 @@ gap_or (Some s) end = s.gap
 abbrev pub first_gap : List Slices → ℕ → Bound → List ℕ
 first_gap ss k b = if nat_lt k b.rows then gap_or (slice_get ss k) b.end else b.end
 
--- where the rows of documents begin and end, and the gaps that their leads end; k rows stand before the first part, of which it is known whether it is a document (own)
+-- where the rows of a part begin and end, and the gap that its lead ends, if it is a document; k rows stand before it (own)
+abbrev pub part_row : List Slices → Bool → ℕ → Bound → List (ℕ × ℕ × List ℕ)
+part_row ss true k b = (k, b.rows, first_gap ss k b) ∷ []
+part_row ss false k b = []
+
+-- the same of documents; of the first part it is known whether it is one (own)
 abbrev pub all_rows : List Slices → Bool → ℕ → List Bound → List (ℕ × ℕ × List ℕ)
 all_rows ss is k [] = []
-all_rows ss true k (b ∷ bs) = (k, b.rows, first_gap ss k b) ∷ all_rows ss (begins_document b.marker) b.rows bs
-all_rows ss false k (b ∷ bs) = all_rows ss (begins_document b.marker) b.rows bs
+all_rows ss is k (b ∷ bs) = part_row ss is k b ++ all_rows ss (begins_document b.marker) b.rows bs
 
 -- the same of a document of the code (own)
 abbrev pub row_told : DocumentRows → ℕ × ℕ × List ℕ

@@ -4,7 +4,7 @@ ghost use Rattle.yq_inline.specs.Nodes as nodes;
 ghost use Rattle.yq_scalar.specs.Text.{is_empty};
 ghost use Rattle.yq_lines.specs.LinesReading as spec;
 ghost use Rattle.yq_walk.specs.RowWalk.{IsLine, OfLine, OfLines};
-ghost use Rattle.yq_reading.specs.Checking.{IsReady};
+ghost use Rattle.yq_reading.specs.Checking.{IsChecked};
 
 use crate::checked::Checked;
 use yq_inline::pieces::first_is;
@@ -19,10 +19,11 @@ fn is_unnamed(anchor: &str, head: &str) -> bool
 
 /// Whether the node that begins with the first line of a row may take an anchor that stands before it.
 fn may_take(x: Checked<'_, '_>, at: Spot) -> bool
-    requires ready { IsReady x.text.now x.rows.now x.made.now x.document }
+    requires ready { IsChecked x }
     requires line { IsLine x.rows.now x.document at }
     requires first { at.line ≡ 0 }
-    ensures { OfLine x.entry.rows.now x.entry.document at (λ l. result ≡ spec.may_take l.mark l.anchor l.head) }
+    ensures { OfLine x.entry.rows.now x.entry.document at (λ l.
+        result ≡ spec.may_take l.mark l.anchor l.head) }
 {
     if !is_bare(x.rows, x.document, at) {
         return true;
@@ -32,10 +33,11 @@ fn may_take(x: Checked<'_, '_>, at: Spot) -> bool
 
 /// Whether an anchor, if one is written before the first line of a row, is the only one of its node.
 fn is_free(x: Checked<'_, '_>, before: &str, at: Spot) -> bool
-    requires ready { IsReady x.text.now x.rows.now x.made.now x.document }
+    requires ready { IsChecked x }
     requires line { IsLine x.rows.now x.document at }
     requires first { at.line ≡ 0 }
-    ensures { OfLine x.entry.rows.now x.entry.document at (λ l. result ≡ (is_empty before.now || spec.may_take l.mark l.anchor l.head)) }
+    ensures { OfLine x.entry.rows.now x.entry.document at (λ l. result ≡
+        (is_empty before.now || spec.may_take l.mark l.anchor l.head)) }
 {
     if before.is_empty() {
         return true;
@@ -45,8 +47,9 @@ fn is_free(x: Checked<'_, '_>, before: &str, at: Spot) -> bool
 
 /// The first line whose node has an anchor already, or is an alias, behind a row with an anchor.
 pub(crate) fn second_anchor(x: Checked<'_, '_>) -> Option<Spot>
-    requires ready { IsReady x.text.now x.rows.now x.made.now x.document }
-    ensures { OfLines x.entry.rows.now x.entry.document (λ ls n. is_none result ≡ spec.have_one_anchor_each ls) }
+    requires ready { IsChecked x }
+    ensures { OfLines x.entry.rows.now x.entry.document (λ ls n.
+        is_none result ≡ spec.have_one_anchor_each ls) }
 {
     let mut before = "";
     'rows: for row in x.document.first..x.document.end {

@@ -5,7 +5,7 @@ ghost use Rattle.yq_lines.specs.LinesReading as lines;
 ghost use Rattle.yq_lines.specs.Names.{line_names};
 ghost use Rattle.yq_walk.specs.Lines.{lines_of};
 ghost use Rattle.yq_documents.specs.Reading.{has_short_root};
-ghost use Rattle.yq_reading.specs.Checking.{IsReady, OfReady, some_refer};
+ghost use Rattle.yq_reading.specs.Checking.{IsChecked, OfChecked, some_refer};
 ghost use Rattle.yq_reading.specs.Deciding.{Decides};
 
 use crate::anchors::second_anchor;
@@ -13,6 +13,7 @@ use crate::bound::unbound_alias;
 use crate::checked::{Checked, row_fault};
 use crate::document_names::names_of;
 use crate::fit::has_short_root;
+use crate::reached::with_level;
 use crate::sound::check_lines;
 use std::alloc::Global;
 use yq_documents::fault_at;
@@ -22,10 +23,9 @@ use yq_walk::Spot;
 
 /// The aliases of a document: an earlier anchor of its name for each. Whether there are some is known.
 fn check_aliases(alloc: Global, x: Checked<'_, '_>, refers: bool) -> Result<(), ReadError>
-    requires ready { IsReady x.text.now x.rows.now x.made.now x.document }
+    requires ready { IsChecked x }
     requires refers { refers ≡ some_refer x.made.now }
-    ensures sound { OfReady x.entry.text.now x.entry.rows.now x.entry.made.now x.entry.document (λ ls n.
-        Decides result (lines.are_bound [] (line_names ls))) }
+    ensures sound { OfChecked x.entry (λ ls n. Decides result (lines.are_bound [] (line_names ls))) }
     ensures fault { IfErr result IsOfText }
 {
     if !refers {
@@ -41,10 +41,9 @@ fn check_aliases(alloc: Global, x: Checked<'_, '_>, refers: bool) -> Result<(), 
 /// The anchors and aliases of a document: no second anchor of a node, no anchor of an alias, and an
 /// earlier anchor of its name for each alias.
 fn check_names(alloc: Global, x: Checked<'_, '_>, refers: bool) -> Result<(), ReadError>
-    requires ready { IsReady x.text.now x.rows.now x.made.now x.document }
+    requires ready { IsChecked x }
     requires refers { refers ≡ some_refer x.made.now }
-    ensures sound { OfReady x.entry.text.now x.entry.rows.now x.entry.made.now x.entry.document (λ ls n.
-        Decides result (lines.names_are_sound ls)) }
+    ensures sound { OfChecked x.entry (λ ls n. Decides result (lines.names_are_sound ls)) }
     ensures fault { IfErr result IsOfText }
 {
     match second_anchor(x) {
@@ -60,10 +59,10 @@ pub(crate) fn check_document(
     x: Checked<'_, '_>,
     refers: bool,
 ) -> Result<(), ReadError>
-    requires ready { IsReady x.text.now x.rows.now x.made.now x.document }
+    requires ready { IsChecked x }
     requires refers { refers ≡ some_refer x.made.now }
-    ensures sound { (k : IsReady x.entry.text.now x.entry.rows.now x.entry.made.now x.entry.document) →
-        Decides result (has_short_root k.document.rows && lines.lines_are_sound (lines_of k.document.rows)) }
+    ensures sound { (k : IsChecked x.entry) → Decides result
+        (has_short_root k.document.rows && lines.lines_are_sound (lines_of k.document.rows)) }
     ensures fault { IfErr result IsOfText }
 {
     let first = Spot {
@@ -73,7 +72,7 @@ pub(crate) fn check_document(
     if !has_short_root(x.rows, x.document) {
         return Err(ReadError::Fault(row_fault(x, first, FaultKind::BadScalar)));
     }
-    match check_lines(alloc, x, first, 0, DEPTH_LIMIT) {
+    match check_lines(alloc, x, with_level(x, first), 0, DEPTH_LIMIT) {
         Ok(_) => check_names(alloc, x, refers),
         Err(e) => Err(e),
     }

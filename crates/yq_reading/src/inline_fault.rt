@@ -1,5 +1,5 @@
 //! What is asked of flow collections: how deep they are nested, and the keys of each.
-ghost use Rattle.std.specs.Prelude.{◌≡◌, ◌&&◌, Some, IfErr};
+ghost use Rattle.std.specs.Prelude.{◌&&◌, Some, IfErr};
 ghost use Rattle.yq_scalar.specs.Answers.{IsOfText};
 ghost use Rattle.yq_scalar.specs.Keys.{are_distinct, keys_of};
 ghost use Rattle.yq_inline.specs.Trees.{parts_tree, placed_tree};
@@ -52,7 +52,8 @@ fn items_fault(
     items: &Vec<Inline<'_>>,
     depth: usize,
 ) -> Result<(), ReadError>
-    ensures sound { Decides result (spec.are_sound depth (parts_tree (items_end items.now.items))) }
+    ensures sound { Decides result
+        (spec.are_sound depth (parts_tree (items_end items.now.items))) }
     ensures fault { IfErr result IsOfText }
 {
     'each: for item in items {
@@ -86,7 +87,8 @@ fn entries_fault(
     entries: &Vec<(String, Piece, Inline<'_>)>,
     depth: usize,
 ) -> Result<(), ReadError>
-    ensures sound { let cs = parts_tree (entries_end entries.now.items) in Decides result ((spec.are_sound depth cs && are_distinct (keys_of cs))) }
+    ensures sound { let cs = parts_tree (entries_end entries.now.items) in
+        Decides result (spec.are_sound depth cs && are_distinct (keys_of cs)) }
     ensures fault { IfErr result IsOfText }
 {
     let mut keys = Keys::new(alloc);

@@ -1,15 +1,17 @@
 //! What rows spell, made where their text doesn't lend it.
-ghost use Rattle.std.specs.Prelude.{◌≡◌, ◌<◌, length, option_map, string_bytes, true, IfErr, IfOk, IfSome};
+ghost use Rattle.std.specs.List.{list_any};
+ghost use Rattle.std.specs.Prelude.{◌≡◌, ◌<◌, ◌++◌, ◌==◌, if◌then◌else◌, length, option_and_then, option_map, string_bytes, true, IfErr, IfOk, IfSome};
 ghost use Rattle.yq_scalar.specs.Answers.{IsOfText};
 ghost use Rattle.yq_scalar.specs.Quoted.{IsQuotedText};
-ghost use Rattle.yq_inline.specs.Scalars.{content_of, is_quoted as is_in_quotes};
+ghost use Rattle.yq_inline.specs.Scalars.{is_quoted as is_in_quotes};
+ghost use Rattle.yq_lines.specs.View.{head_flow, head_view};
 ghost use Rattle.yq_rows.specs.View.{rows_of};
-ghost use Rattle.yq_documents.specs.Made.{IsToldBy, lent_text as lent, made_or};
-ghost use Rattle.yq_documents.specs.Reading.{content_is_fit, cut_of, have_fit_keys};
+ghost use Rattle.yq_documents.specs.Made.{IsToldBy};
+ghost use Rattle.yq_documents.specs.Reading.{content_is_fit, cut_of, have_fit_keys, mark_is_fit};
 ghost use Rattle.yq_documents.specs.RowReading.{row_fits};
 ghost use Rattle.yq_reading.specs.Checking as spec;
 ghost use Rattle.yq_reading.specs.Deciding.{Decides};
-ghost use Rattle.yq_reading.specs.Making.{AreMade, IsCutInto, IsHeadMade, OfRow};
+ghost use Rattle.yq_reading.specs.Making.{AreMade, IsCutInto, IsHeadMade, IsKeyMade, OfRow, listed};
 
 use crate::fit::key_fits;
 use crate::nested::made_flow;
@@ -18,10 +20,18 @@ use yq_documents::{Made, fault_at, lent_text, node_refers, read_head};
 use yq_inline::pieces::{first_is, is_quoted};
 use yq_lines::Head;
 use yq_rows::Rows;
-use yq_scalar::folding::{plain_content, quoted_content};
+use yq_scalar::folding::quoted_content;
 use yq_scalar::plain::holds_break;
 use yq_scalar::{FaultKind, ReadError};
 use yq_walk::head_place;
+
+/// Whether a backslash stands in what is between double quotes, or a quote between single ones.
+fn holds_escape(is_double: bool, inner: &str) -> bool
+    ensures { result ≡ list_any (λ b. b == (if is_double then 92 else 39)) inner.now }
+{
+    let sign = if is_double { b'\\' } else { b'\'' };
+    inner.as_bytes().iter().any(|b| *b == sign)
+}
 
 /// Whether the text lends what a key or scalar stands for: it is on one line, and has no escapes.
 fn lends_text(piece: &str) -> bool
@@ -34,16 +44,12 @@ fn lends_text(piece: &str) -> bool
     if !is_quoted(piece.as_bytes()) {
         return true;
     }
-    let sign = if first_is(b'"', piece.as_bytes()) {
-        b'\\'
-    } else {
-        b'\''
-    };
-    !lent_text(piece).as_bytes().iter().any(|b| *b == sign)
+    let is_double = first_is(b'"', piece.as_bytes());
+    !holds_escape(is_double, lent_text(piece))
 }
 
 /// Whether an alias, a flow collection or a block scalar begins so.
-fn begins_tree(head: &[u8]) -> bool
+pub(crate) fn begins_tree(head: &[u8]) -> bool
     ensures { result ≡ spec.begins_tree head.now }
 {
     matches!(head, [b'|' | b'>' | b'*' | b'[' | b'{', ..])
@@ -57,28 +63,34 @@ fn lends_head(head: &str) -> bool
     !begins_tree(head.as_bytes()) && lends_text(head)
 }
 
-/// The text that a key stands for.
-#[tactic(auto, unfolding(yq_inline::specs::Scalars::content_of))]
-fn key_text(alloc: Global, key: &str) -> Result<String, AllocError>
-    requires { is_in_quotes key.now ≡ true → IsQuotedText key.now }
-    ensures { IfOk result (λ s. string_bytes s ≡ content_of key.now) }
+/// The text of row `i`'s key that its text doesn't lend, where the key is fit.
+fn made_key<'t>(
+    alloc: Global,
+    text: &'t str,
+    rows: &Rows<'t>,
+    i: usize,
+) -> Result<Option<String>, ReadError>
+    requires cut { IsCutInto text.now rows.now }
+    requires within { i < length rows.now.rows }
+    ensures fits { OfRow text.now i (λ r. Decides result (mark_is_fit r.mark)) }
+    ensures told { OfRow text.now i (λ r. IfOk result (λ k. IsKeyMade k r)) }
+    ensures fault { IfErr result IsOfText }
 {
-    if is_quoted(key.as_bytes()) {
-        quoted_content(alloc, key)
-    } else {
-        plain_content(alloc, key)
+    if !rows.has_colon(i) {
+        return Ok(None);
     }
-}
-
-/// The text of a key that its text doesn't lend.
-fn made_key(alloc: Global, key: &str) -> Result<Option<String>, AllocError>
-    requires { is_in_quotes key.now ≡ true → IsQuotedText key.now }
-    ensures { IfOk result (λ k. made_or (option_map string_bytes k) (lent key.now) ≡ content_of key.now) }
-{
+    let key = rows.key(i);
+    if !key_fits(key) {
+        let place = rows.start(i).saturating_add(rows.gap(i).len());
+        return Err(ReadError::Fault(fault_at(FaultKind::MergeKey, text, place)));
+    }
+    if !is_quoted(key.as_bytes()) {
+        return Ok(None);
+    }
     if lends_text(key) {
         return Ok(None);
     }
-    Ok(Some(key_text(alloc, key)?))
+    Ok(Some(quoted_content(alloc, key)?))
 }
 
 /// The head of row `i` that its text doesn't lend, where its keys are fit.
@@ -94,6 +106,9 @@ fn made_head<'t>(
     ensures told { OfRow text.now i (λ r. IfOk result (λ h. IsHeadMade text.now i h r)) }
     ensures fault { IfErr result IsOfText }
 {
+    if !rows.has_head(i) {
+        return Ok(None);
+    }
     let head = rows.head(i);
     if lends_head(head) {
         return Ok(None);
@@ -107,7 +122,23 @@ fn made_head<'t>(
     }
 }
 
-/// What is made of row `i`, where its keys are fit; nothing where its text lends all that it spells.
+/// What is made of row `i`, by what is made of its key and of its head, if anything is.
+fn made_row<'t>(i: usize, key: Option<String>, head: Option<Head<'t>>) -> Option<Made<'t>>
+    ensures row { IfSome result (λ m. m.row ≡ i) }
+    ensures key { option_and_then (λ m. option_map string_bytes m.key) result ≡
+        option_map string_bytes key }
+    ensures head { option_and_then (λ m. option_map head_view m.head) result ≡
+        option_map head_view head.entry }
+    ensures flow { option_and_then (λ m. option_and_then head_flow m.head) result ≡
+        option_and_then head_flow head.entry }
+{
+    if key.is_none() && head.is_none() {
+        return None;
+    }
+    Some(Made { row: i, key, head })
+}
+
+/// What is made of row `i`, where its keys are fit; nothing where its text lends all it spells.
 fn made_of<'t>(
     alloc: Global,
     text: &'t str,
@@ -117,24 +148,33 @@ fn made_of<'t>(
     requires cut { IsCutInto text.now rows.now }
     requires within { i < length rows.now.rows }
     ensures fits { OfRow text.now i (λ r. Decides result (row_fits r)) }
-    ensures told { OfRow text.now i (λ r. IfOk result (λ m. IsToldBy (length text.now) (cut_of text.now) m i r)) }
+    ensures told { OfRow text.now i (λ r.
+        IfOk result (λ m. IsToldBy (length text.now) (cut_of text.now) m i r)) }
     ensures row { IfOk result (λ m. IfSome m (λ x. x.row ≡ i)) }
     ensures fault { IfErr result IsOfText }
 {
-    let key = rows.key(i);
-    if !key_fits(key) {
-        let place = rows.start(i).saturating_add(rows.gap(i).len());
-        return Err(ReadError::Fault(fault_at(FaultKind::MergeKey, text, place)));
-    }
-    let key = made_key(alloc, key)?;
-    let head = match made_head(alloc, text, rows, i) {
-        Ok(head) => head,
+    let key = match made_key(alloc, text, rows, i) {
+        Ok(key) => key,
         Err(e) => return Err(e),
     };
-    if key.is_none() && head.is_none() {
-        return Ok(None);
+    match made_head(alloc, text, rows, i) {
+        Ok(head) => Ok(made_row(i, key, head)),
+        Err(e) => Err(e),
     }
-    Ok(Some(Made { row: i, key, head }))
+}
+
+/// Adds what is made of one more row, if anything is.
+fn push_made<'t>(made: Vec<Made<'t>>, row: Option<Made<'t>>) -> Result<Vec<Made<'t>>, AllocError>
+    ensures { IfOk result (λ ms. ms.items ≡ made.entry.items ++ listed row.entry) }
+{
+    let mut made = made;
+    match row {
+        Some(found) => {
+            made.push(found)?;
+            Ok(made)
+        }
+        None => Ok(made),
+    }
 }
 
 /// What is made of the rows of a text, where the keys of each are fit.
@@ -151,11 +191,11 @@ pub(crate) fn made_rows<'t>(
     let mut made = Vec::new(alloc);
     let mut at = 0;
     'rows: while at < rows.len() {
-        match made_of(alloc, text, rows, at) {
-            Ok(Some(found)) => made.push(found)?,
-            Ok(None) => {}
+        let row = match made_of(alloc, text, rows, at) {
+            Ok(row) => row,
             Err(e) => return Err(e),
-        }
+        };
+        made = push_made(made, row)?;
         at += 1;
     }
     made.shrink_to_fit();

@@ -21,7 +21,8 @@ pub(crate) fn push_anchor<'t>(
     names: &mut Vec<Name<'t>>,
     anchor: Option<&'t str>,
 ) -> Result<(), AllocError>
-    ensures { OnOk result (all_named names.new.items ≡ all_named names.old.items ++ spec.with_anchor (option_map (λ a. a.now) anchor.entry) []) }
+    ensures { OnOk result (all_named names.new.items ≡ all_named names.old.items ++
+        spec.with_anchor (option_map (λ a. a.now) anchor.entry) []) }
 {
     match anchor {
         None => Ok(()),
@@ -35,7 +36,8 @@ pub(crate) fn push_anchor<'t>(
 /// Adds the names in an inline node. An alias has no anchor.
 #[cycle(names)]
 pub(crate) fn push_node<'t>(names: &mut Vec<Name<'t>>, node: &Inline<'t>) -> Result<(), AllocError>
-    ensures { OnOk result (all_named names.new.items ≡ all_named names.old.items ++ spec.names_of (placed_tree (inline.view node.now))) }
+    ensures { OnOk result (all_named names.new.items ≡ all_named names.old.items ++
+        spec.names_of (placed_tree (inline.view node.now))) }
 {
     match &node.form {
         Form::Empty | Form::Scalar(..) => push_anchor(names, node.anchor),
@@ -57,7 +59,8 @@ pub(crate) fn push_node<'t>(names: &mut Vec<Name<'t>>, node: &Inline<'t>) -> Res
 /// The same of items.
 #[cycle(names)]
 fn push_items<'t>(names: &mut Vec<Name<'t>>, items: &Vec<Inline<'t>>) -> Result<(), AllocError>
-    ensures { OnOk result (all_named names.new.items ≡ all_named names.old.items ++ spec.names_in (parts_tree (inline.items_end items.now.items))) }
+    ensures { OnOk result (all_named names.new.items ≡ all_named names.old.items ++
+        spec.names_in (parts_tree (inline.items_end items.now.items))) }
 {
     'each: for item in items {
         push_node(names, item)?;
@@ -71,7 +74,8 @@ fn push_entries<'t>(
     names: &mut Vec<Name<'t>>,
     entries: &Vec<(String, Piece, Inline<'t>)>,
 ) -> Result<(), AllocError>
-    ensures { OnOk result (all_named names.new.items ≡ all_named names.old.items ++ spec.names_in (parts_tree (inline.entries_end entries.now.items))) }
+    ensures { OnOk result (all_named names.new.items ≡ all_named names.old.items ++
+        spec.names_in (parts_tree (inline.entries_end entries.now.items))) }
 {
     'each: for entry in entries {
         push_node(names, &entry.2)?;

@@ -1,5 +1,5 @@
 //! What the lines of rows spell, lent or made.
-ghost use Rattle.std.specs.Prelude.{◌≡◌, ◌<◌, ◌-◌, None, Some, drop, length, option_map, take, true};
+ghost use Rattle.std.specs.Prelude.{◌≡◌, ◌<◌, None, Some, length, option_map, true};
 ghost use Rattle.yq_inline.specs.Scalars.{is_quoted};
 ghost use Rattle.yq_inline.specs.Trees.{scalar_node};
 ghost use Rattle.yq_lines.specs.Bodies.{lent};
@@ -22,18 +22,9 @@ use crate::nodes::node::Written;
 use crate::of_row::made_head;
 use crate::read_text::ReadText;
 use yq_inline::pieces::is_quoted;
-use yq_lines::Head;
+use yq_lines::{Head, between_quotes};
 use yq_scalar::{Kind, resolve};
 use yq_walk::{Spot, has_head, lines_before_mark, rank_at};
-
-/// What stands between the quotes of a quoted scalar.
-fn between_quotes(piece: &str) -> &str
-    requires { IsQuotedText piece.now }
-    ensures { result.now ≡ take (length piece.now - 2) (drop 1 piece.now) }
-{
-    let inner = piece.split_at(1).1;
-    inner.split_at(inner.len() - 1).0
-}
 
 /// A text as it is written, without its quotes.
 pub fn lent_text(piece: &str) -> &str

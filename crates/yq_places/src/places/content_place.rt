@@ -1,7 +1,6 @@
 //! Where the contents of nodes stand outside flow collections.
 ghost use Rattle.std.specs.Prelude.{◌≡◌, map, option_map};
 ghost use Rattle.yq_inline.specs.Entries.{step_of};
-ghost use Rattle.yq_rows.specs.Rows.{Cut};
 ghost use Rattle.yq_places.specs.EntryReading as spec;
 ghost use Rattle.yq_walk.specs.Extents.{IsShown};
 ghost use Rattle.yq_walk.specs.RowWalk.{AreKnown, HasDocument, IsSpot, line_number, lines_stop};

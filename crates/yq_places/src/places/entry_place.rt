@@ -1,10 +1,9 @@
 //! Where entries and items stand in block collections.
 ghost use Rattle.std.specs.Prelude.{◌≡◌, ◌<◌, ◌-◌, map, option_map, Some};
 ghost use Rattle.yq_inline.specs.Entries.{step_of};
-ghost use Rattle.yq_rows.specs.Rows.{Cut};
 ghost use Rattle.yq_places.specs.EntryReading as spec;
 ghost use Rattle.yq_walk.specs.Extents.{IsShown};
-ghost use Rattle.yq_walk.specs.RowWalk.{AreKnown, AreLines, HasDocument, IsLine, line_number};
+ghost use Rattle.yq_walk.specs.RowWalk.{AreKnown, AreLines, HasDocument, IsLine};
 ghost use Rattle.yq_places.specs.RowWalk.{InEach};
 ghost use Rattle.yq_documents.specs.Pieces.{span};
 ghost use Rattle.yq_documents.specs.Reading.{cut_of};

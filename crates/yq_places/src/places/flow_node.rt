@@ -1,5 +1,5 @@
 //! Flow collections at paths, with their places.
-ghost use Rattle.std.specs.Prelude.{◌≡◌, length, map, option_and_then, option_map, IfOk};
+ghost use Rattle.std.specs.Prelude.{◌≡◌, map, option_map, IfOk};
 ghost use Rattle.yq_inline.specs.Entries.{step_of};
 ghost use Rattle.yq_inline.specs.View.{view};
 ghost use Rattle.yq_documents.specs.Reading.{cut_of};

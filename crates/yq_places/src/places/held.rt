@@ -26,7 +26,8 @@ pub struct Mark {
     pub column: usize,
     /// Whether it is a key.
     pub keyed: bool,
-    /// Whether an anchor or a comment stands on its line.
+    /// Whether its row has an anchor before what is written behind its last mark, or a comment behind
+    /// that.
     pub noted: bool,
 }
 
@@ -45,11 +46,11 @@ pub struct Held<'t> {
     pub white: &'t str,
     /// The comment, if the line has one.
     pub comment: &'t str,
-    /// The line's break, where lines are under it.
+    /// The line's break, where lines are under it; empty where none are.
     pub line_break: &'t str,
-    /// These lines, less the break of the last one.
+    /// The lines under it, less the break of the last one.
     pub lines: Halves<'t>,
-    /// The break of the last line, with or without lines under it.
+    /// The break that ends it all: of the last line under it, or of its own line.
     pub last: &'t str,
     /// The text behind.
     pub behind: Halves<'t>,
@@ -69,7 +70,7 @@ fn has_key(row: &Row<'_>) -> bool
     !row.colon().is_empty()
 }
 
-/// The white space before the head of a row.
+/// The white space before the head of a row. Without a head there is none, it is in the tail.
 fn space_before<'t>(row: &Row<'t>) -> &'t str
     ensures { result.now ≡ pieces.space_before (view row.now) }
 {

@@ -18,7 +18,7 @@ use yq_rows::{Rows, begins_document};
 use yq_text::Halves;
 use yq_walk::{Spot, Stretch};
 
-/// A block collection that is a root, for which all rows of a document stand.
+/// The root of a document as a block collection: from its first key or dash to its last line.
 fn block_root_in<'t>(rows: &Rows<'t>, text: Halves<'t>, document: Stretch) -> BlockRoot<'t>
     requires { IsRootOf (whole text) rows.now document }
     ensures { (h : IsRootOf (whole text.entry) rows.now document) →
@@ -53,7 +53,8 @@ fn rows_standing<'t>(rows: &Rows<'t>, text: Halves<'t>, document: Stretch) -> St
     }
 }
 
-/// Which part document `i` is, where it is known of the first part whether it is one.
+/// The number of the part that is document `i`, both counted from 0, where `first` tells whether part 0
+/// is a document.
 fn part_number(rows: &Rows<'_>, first: bool, i: usize) -> Option<usize>
     ensures value { result ≡ reading.part_number first i 0 rows.now.bounds }
     ensures within { IfSome result (λ k. k < length rows.now.bounds) }

@@ -11,12 +11,12 @@ use crate::places::held::{Held, Mark};
 use yq_documents::Path;
 use yq_text::Halves;
 
-/// A node of a text that isn't behind a key or dash.
+/// A node that is alone on its line: under a key or dash, or as a root.
 #[derive(Clone, Copy, Debug)]
 pub struct Lone<'t> {
     /// The text before it, with its anchor.
     pub before: Halves<'t>,
-    /// What is written of it, or nothing.
+    /// The node without its anchor, never nothing.
     pub head: &'t str,
     /// The text behind it.
     pub behind: Halves<'t>,
@@ -70,11 +70,11 @@ pub enum Standing<'t> {
     Alone(Lone<'t>),
     /// An inline node, or nothing, on the line of a key or dash.
     Beside(Held<'t>),
-    /// A block collection on the lines under a key or dash, by its column.
+    /// A block collection on the lines under a key or dash, by its column, counted from 0.
     Under(Held<'t>, usize),
     /// A collection that begins on the line of its dash.
     Compact(Compact<'t>),
-    /// A block scalar, by how far its text is indented.
+    /// A block scalar, by the indentation of its text, in columns.
     Block(Held<'t>, usize),
     /// A root that is a block collection.
     Root(BlockRoot<'t>),
@@ -83,7 +83,8 @@ pub enum Standing<'t> {
 }
 
 impl<'t> CutText<'_, 't> {
-    /// What stands at a path, outside flow collections.
+    /// What stands at a path; none where no item, entry or document is there, or where it stands in a
+    /// flow collection.
     pub fn standing(&self, path: &Path) -> Option<Standing<'t>>
         ensures { option_map standing_told result ≡
             standing_at path.now.doc (steps_of path.now) (cut_of self.now) }

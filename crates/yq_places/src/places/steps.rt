@@ -1,5 +1,5 @@
 //! By how many columns the collections of a document stand deeper than their keys.
-ghost use Rattle.std.specs.Prelude.{◌≡◌, Bool};
+ghost use Rattle.std.specs.Prelude.{◌≡◌};
 ghost use Rattle.yq_walk.specs.Lines.{lines_of};
 ghost use Rattle.yq_documents.specs.Reading.{cut_of};
 ghost use Rattle.yq_walk.specs.Extents.{IsShown};
@@ -14,7 +14,9 @@ use yq_walk::{Spot, Stretch, level_at, lines_before_mark};
 /// How much deeper than its key a mapping, and a sequence, stands in a document.
 #[derive(Clone, Copy, Debug)]
 pub struct Steps {
+    /// Of mappings, in columns.
     pub mapping: usize,
+    /// Of sequences, in columns; 0 where they stand in their key's column.
     pub sequence: usize,
 }
 

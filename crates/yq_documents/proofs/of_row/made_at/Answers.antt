@@ -1,4 +1,4 @@
-use Rattle.std.proofs.Common.{◌≡◌, List, length, ltb, rules, refl, sym, ap, ◌∙◌, arith}
+use Rattle.std.proofs.Common.{length, ltb, rules, refl, sym, ap, ◌∙◌, arith}
 use Rattle.std.proofs.lemmas.List.Sorted.{IsPartitionPoint-from_clause, IsPartitionedBy-ltb}
 use Rattle.std.proofs.lemmas.Option.{same_Some, slice_get_read, slice_get_within}
 use Rattle.yq_documents.specs.declared.made.Made.{Made}

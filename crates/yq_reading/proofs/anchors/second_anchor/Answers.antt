@@ -1,9 +1,7 @@
-use Rattle.std.proofs.Common.{rules, ◌≡◌, ℕ, ◌+◌, ◌-◌, ◌&&◌, ◌≤◌, [], Some, true, drop, length, refl, sym, ap, ◌∙◌, arith}
-use Rattle.std.proofs.lemmas.List.{drop_all}
+use Rattle.std.proofs.Common.{rules, ◌≡◌, ℕ, ◌+◌, ◌-◌, ◌&&◌, drop, refl, sym, ap, ◌∙◌, arith}
 use Rattle.std.specs.Prelude.{is_none}
 use Rattle.yq_scalar.specs.Text.{is_empty}
 use Rattle.yq_lines.specs.LinesReading.{have_one_anchor_each, is_free}
-use Rattle.yq_rows.specs.Rows.{Row}
 use Rattle.yq_rows.specs.View.{slices}
 use Rattle.yq_walk.specs.Lines.{content_anchor, lines_of}
 use Rattle.yq_walk.specs.RowWalk.{IsLine}
@@ -12,7 +10,7 @@ use Rattle.yq_walk.proofs.WalkSpots.{located}
 use Rattle.yq_documents.specs.RowReading.{name_in}
 use Rattle.yq_documents.proofs.RowLineLaws.{anchor_is}
 use Rattle.yq_reading.proofs.AnchorRows.{anchor_some, row_fails, row_passes}
-use Rattle.yq_reading.proofs.ReadyLaws.{row_line, row_within}
+use Rattle.yq_reading.proofs.ReadyLaws.{row_line}
 use Rattle.yq_reading.proofs.RowContents.{anchor_step, nothing_left}
 use Rattle.yq_reading.proofs.anchors.second_anchor.Goals as goal
 

@@ -1,8 +1,8 @@
-use Rattle.std.proofs.Common.{◌≡◌, ◌+◌, ◌-◌, ◌<◌, length, true, not, refl, sym, arith}
+use Rattle.std.proofs.Common.{refl, arith}
 use Rattle.yq_lines.specs.Ends.{IsEndOf}
 use Rattle.yq_documents.specs.Stretches.{document_lines, number_of}
 use Rattle.yq_lines.proofs.ChildLaws.{first_child}
-use Rattle.yq_documents.proofs.WalkedRows.{line_here, spot_back, stands, told_rows}
+use Rattle.yq_documents.proofs.WalkedRows.{line_here, stands, told_rows}
 use Rattle.yq_documents.proofs.NodeLines.{no_children}
 use Rattle.yq_documents.proofs.nodes.children.behind_first.Goals as goal
 

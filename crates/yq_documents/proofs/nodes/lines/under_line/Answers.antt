@@ -1,9 +1,9 @@
-use Rattle.std.proofs.Common.{◌≡◌, ◌+◌, ◌-◌, ◌<◌, ℕ, List, length, ap, sym, ◌∙◌, arith}
+use Rattle.std.proofs.Common.{◌≡◌, ◌+◌, ap, sym, ◌∙◌, arith}
 use Rattle.std.proofs.lemmas.Option.{slice_get_within}
 use Rattle.yq_lines.specs.Ends.{part}
-use Rattle.yq_lines.specs.Outline.{Line, level}
+use Rattle.yq_lines.specs.Outline.{level}
 use Rattle.yq_documents.specs.Stretches.{document_lines, number_of}
-use Rattle.yq_documents.proofs.WalkedRows.{line_here, located_in, own_line, row_in, spot_back, stands, told_rows}
+use Rattle.yq_documents.proofs.WalkedRows.{line_here, located_in, own_line, row_in, stands, told_rows}
 use Rattle.yq_documents.proofs.nodes.lines.under_line.Goals as goal
 
 pub next-requires-clause-document : goal.next-requires-clause-document

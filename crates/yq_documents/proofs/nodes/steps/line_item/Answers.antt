@@ -18,9 +18,6 @@ find_item-requires-clause-shown c = c.document_rows.ensures.small
 pub find_item-requires-clause-document : goal.find_item-requires-clause-document
 find_item-requires-clause-document c = (document_in c.document_rows.ensures).0
 
-pub find_item-requires-clause-known : goal.find_item-requires-clause-known
-find_item-requires-clause-known c = (tt, tt)
-
 pub find_item-requires-clause-under : goal.find_item-requires-clause-under
 find_item-requires-clause-under c = spot_here c.document_rows.ensures c.args.under.spot
 

@@ -1,4 +1,4 @@
-use Rattle.std.proofs.Common.{ap, None, sym, ◌∙◌}
+use Rattle.std.proofs.Common.{ap, None, ◌∙◌}
 use Rattle.yq_lines.specs.Ends.{part}
 use Rattle.yq_lines.specs.Outline.{anchored, value}
 use Rattle.yq_lines.proofs.LinesLaws.{all_value}
