@@ -7,7 +7,7 @@ ghost use Rattle.yq_lines.specs.Spots as spots;
 ghost use Rattle.yq_walk.specs.RowWalk.{IsLine, IsSpot, OfLine, OfLines};
 ghost use Rattle.yq_reading.specs.Checking.{IsChecked, IsReached};
 
-use crate::checked::{Checked, line_key};
+use crate::checked::{Checked, row_key};
 use yq_walk::{Spot, level_at, next};
 
 /// A line of a document with how deep it is, or the end behind its rows, which is at level 0.
@@ -83,5 +83,5 @@ pub(crate) fn key_at<'a>(x: Checked<'a, '_>, at: Reached) -> Option<&'a str>
     if !has_key(x, at) {
         return None;
     }
-    line_key(x, at.spot)
+    Some(row_key(x, at.spot.row))
 }
