@@ -10,7 +10,7 @@ use Rattle.yq_reading.proofs.PartLaws.{are_placed}
 use Rattle.yq_reading.proofs.reading.read_rows.Goals as goal
 
 pub made_rows-requires : goal.made_rows-requires
-made_rows-requires c = cut_into c.args.text.now c.args.rows c.requires.0 c.requires.1 c.requires.2
+made_rows-requires c = record { cut = cut_into c.args.text.now c.args.rows c.requires.0 c.requires.1 c.requires.2 }
 
 pub returns-in-Err-clause-documents : goal.returns-in-Err-clause-documents
 returns-in-Err-clause-documents c = λ d h.
