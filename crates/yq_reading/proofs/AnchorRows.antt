@@ -1,5 +1,5 @@
 -- Anchors of neighbouring lines, by the rows of these.
-use Rattle.std.proofs.Common.{◌≡◌, ℕ, ℤ, ◌+◌, eqb, List, [], ◌∷◌, ◌++◌, Option, Some, None, Bool, true, false, cond, not, ◌&&◌, ◌||◌, refl, sym, ap, ◌∙◌, append-nil}
+use Rattle.std.proofs.Common.{◌≡◌, ℕ, ℤ, eqb, List, [], ◌∷◌, ◌++◌, Option, Some, None, Bool, true, false, cond, not, ◌&&◌, ◌||◌, refl, sym, ap, ◌∙◌, append-nil}
 use Rattle.std.proofs.lemmas.Bool.{false≢true, cond_both}
 use Rattle.std.proofs.lemmas.Option.{same_Some}
 use Rattle.std.specs.List.{slice_get}

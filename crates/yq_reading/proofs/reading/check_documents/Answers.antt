@@ -1,4 +1,4 @@
-use Rattle.std.proofs.Common.{sym, arith, ◌+◌, ◌≤◌, ◌∙◌}
+use Rattle.std.proofs.Common.{sym, arith, ◌∙◌}
 use Rattle.yq_documents.specs.Documents.{document_parts}
 use Rattle.yq_documents.specs.Reading.{cut_of}
 use Rattle.yq_reading.specs.Places.{all_sound, part_is_sound}
