@@ -1,5 +1,5 @@
 -- What the rows of a text spell is told by reading their heads again.
-use Rattle.std.proofs.Common.{◌≡◌, ℕ, ℤ, zero, suc, ◌+◌, ◌<◌, ◌≤◌, Bool, true, false, ◌&&◌, cond, not, codes, List, [], ◌∷◌, ◌++◌, length, drop, get_or, Option, Some, None, refl, sym, ap, ◌∙◌, subst, arith, append_assoc, length-append}
+use Rattle.std.proofs.Common.{◌≡◌, ℕ, ℤ, zero, suc, ◌+◌, ◌<◌, ◌≤◌, Bool, true, false, List, [], ◌∷◌, ◌++◌, length, drop, get_or, Option, Some, None, refl, sym, ap, ◌∙◌, subst, arith, append_assoc, length-append}
 use Rattle.std.proofs.Math.Seq.{drop-append_seam, get_or-append_seam}
 use Rattle.std.proofs.lemmas.Bool.{false≢true}
 use Rattle.std.proofs.lemmas.List.{length-map}
@@ -21,15 +21,15 @@ use Rattle.yq_lines.specs.View.{head_flow, head_view}
 use Rattle.yq_rows.specs.Exchange.{before_content, behind_row, rows_behind}
 use Rattle.yq_rows.specs.Grammar.{IsMark}
 use Rattle.yq_rows.specs.Rows as rows
-use Rattle.yq_rows.specs.Rows.{Row, Cut, content_text, parent_indent}
-use Rattle.yq_rows.specs.View.{Slices, colon_of, content_cut, key_of, slices, rows_of, Shown, shown}
+use Rattle.yq_rows.specs.Rows.{Row, Cut, parent_indent}
+use Rattle.yq_rows.specs.View.{Slices, colon_of, key_of, slices, rows_of, Shown}
 use Rattle.yq_rows.proofs.PlaceLaws.{RowIn, place, row_in}
 use Rattle.yq_rows.proofs.SliceLaws.{content_slices}
 use Rattle.yq_documents.specs.FlowReading.{head_flow_at, row_flow}
 use Rattle.yq_documents.specs.KeyReading.{EndsIn}
 use Rattle.yq_documents.specs.Made.{IsToldBy, lent_head, lent_text, made_or}
 use Rattle.yq_documents.specs.Reading.{content_is_fit, cut_of, mark_is_fit}
-use Rattle.yq_documents.specs.RowReading.{head_at, row_fits}
+use Rattle.yq_documents.specs.RowReading.{head_at}
 use Rattle.yq_documents.specs.declared.made.Made.{Made}
 use Rattle.yq_walk.specs.Lines.{head_of}
 use Rattle.yq_documents.proofs.HeadLaws.{fitting, head_is, head_text}

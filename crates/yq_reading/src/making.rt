@@ -135,9 +135,12 @@ fn made_head<'t>(
 /// What is made of row `i`, by what is made of its key and of its head, if anything is.
 fn made_row<'t>(i: usize, key: Option<String>, head: Option<Head<'t>>) -> Option<Made<'t>>
     ensures row { IfSome result (λ m. m.row ≡ i) }
-    ensures key { option_and_then (λ m. option_map string_bytes m.key) result ≡ option_map string_bytes key.entry }
-    ensures head { option_and_then (λ m. option_map head_view m.head) result ≡ option_map head_view head.entry }
-    ensures flow { option_and_then (λ m. option_and_then head_flow m.head) result ≡ option_and_then head_flow head.entry }
+    ensures key { option_and_then (λ m. option_map string_bytes m.key) result ≡
+        option_map string_bytes key }
+    ensures head { option_and_then (λ m. option_map head_view m.head) result ≡
+        option_map head_view head.entry }
+    ensures flow { option_and_then (λ m. option_and_then head_flow m.head) result ≡
+        option_and_then head_flow head.entry }
 {
     if key.is_none() && head.is_none() {
         return None;
@@ -145,7 +148,7 @@ fn made_row<'t>(i: usize, key: Option<String>, head: Option<Head<'t>>) -> Option
     Some(Made { row: i, key, head })
 }
 
-/// What is made of row `i`, where its keys are fit; nothing where its text lends all that it spells.
+/// What is made of row `i`, where its keys are fit; nothing where its text lends all it spells.
 fn made_of<'t>(
     alloc: Global,
     text: &'t str,
@@ -155,7 +158,8 @@ fn made_of<'t>(
     requires cut { IsCutInto text.now rows.now }
     requires within { i < length rows.now.rows }
     ensures fits { OfRow text.now i (λ r. Decides result (row_fits r)) }
-    ensures told { OfRow text.now i (λ r. IfOk result (λ m. IsToldBy (length text.now) (cut_of text.now) m i r)) }
+    ensures told { OfRow text.now i (λ r.
+        IfOk result (λ m. IsToldBy (length text.now) (cut_of text.now) m i r)) }
     ensures row { IfOk result (λ m. IfSome m (λ x. x.row ≡ i)) }
     ensures fault { IfErr result IsOfText }
 {
@@ -170,10 +174,7 @@ fn made_of<'t>(
 }
 
 /// Adds what is made of one more row, if anything is.
-fn push_made<'t>(
-    made: Vec<Made<'t>>,
-    row: Option<Made<'t>>,
-) -> Result<Vec<Made<'t>>, AllocError>
+fn push_made<'t>(made: Vec<Made<'t>>, row: Option<Made<'t>>) -> Result<Vec<Made<'t>>, AllocError>
     ensures { IfOk result (λ ms. ms.items ≡ made.entry.items ++ listed row.entry) }
 {
     let mut made = made;

@@ -1,6 +1,5 @@
 use Rattle.std.proofs.Common.{sym, ap, ◌∙◌}
 use Rattle.std.proofs.lemmas.Bool.{not-false}
-use Rattle.std.specs.String.{string_bytes}
 use Rattle.yq_scalar.specs.Text.{is_empty}
 use Rattle.yq_inline.specs.Scalars.{content_of}
 use Rattle.yq_rows.specs.View.{slices}
