@@ -14,6 +14,7 @@ pub mod NameRows
 pub mod QuietLaws
 pub mod HeadsApart
 pub mod LendLaws
+pub mod RowBegins
 pub mod RowsRead
 pub mod AllOf
 pub mod MadeRows

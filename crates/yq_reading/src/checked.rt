@@ -7,6 +7,7 @@ ghost use Rattle.yq_walk.specs.RowWalk.{IsLine, OfLine};
 ghost use Rattle.yq_reading.specs.Checking.{IsChecked};
 
 use yq_documents::{Made, fault_at, made_at, told_key};
+use yq_inline::pieces::is_quoted;
 use yq_rows::Rows;
 use yq_scalar::{FaultKind, ReadFault};
 use yq_walk::{Spot, Stretch, level_at, rank_at};
@@ -54,5 +55,9 @@ pub(crate) fn line_key<'a>(x: Checked<'a, '_>, at: Spot) -> Option<&'a str>
     if rank_at(x.rows, at) != 2 {
         return None;
     }
-    Some(told_key(made_at(x.made, at.row), x.rows.key(at.row)))
+    let piece = x.rows.key(at.row);
+    if is_quoted(piece.as_bytes()) {
+        return Some(told_key(made_at(x.made, at.row), piece));
+    }
+    Some(piece)
 }
