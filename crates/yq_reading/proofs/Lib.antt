@@ -6,6 +6,7 @@ pub mod UnderLaws
 pub mod LineTold
 pub mod ReadyLaws
 pub mod GivesLaws
+pub mod ReachedLaws
 pub mod HeadTold
 pub mod FitLaws
 pub mod AnchorRows

@@ -14,8 +14,10 @@ use Rattle.yq_rows.specs.Rows.{Content, Nothing, Inline, Block, Row, content_tex
 use Rattle.yq_rows.specs.View.{Slices, Shown, content_cut, key_of, rows_of, slices}
 use Rattle.yq_rows.proofs.KeyLines.{key_line}
 use Rattle.yq_rows.proofs.PlaceLaws.{RowIn, row_in}
+use Rattle.yq_scalar.specs.Quoted.{IsQuotedText}
 use Rattle.yq_walk.specs.Lines.{tail_of}
 use Rattle.yq_walk.specs.declared.spot.Stretch.{Stretch}
+use Rattle.yq_walk.proofs.RowLaws.{mark_quoted}
 use Rattle.yq_documents.specs.FlowReading.{content_core, kept}
 use Rattle.yq_documents.specs.Made.{made_at, told_flow}
 use Rattle.yq_documents.specs.declared.made.Made.{Made}
@@ -67,6 +69,9 @@ module _ (t : List ℕ) (s : Shown) (ms : List Made) (d : Stretch) (ready : IsRe
 
   row_is : RowIn found.0 (behind_row i ready.cut) (rows_behind i ready.cut)
   row_is = row_in ready.cut i true found.0 ready.is_cut.parts found.1
+
+  pub key_quoted : is_quoted x.key ≡ true → IsQuotedText x.key
+  key_quoted = subst (λ (y : Slices). is_quoted y.key ≡ true → IsQuotedText y.key) found.2 (mark_quoted found.0.mark found.0.content (behind_row i ready.cut) row_is.row.mark)
 
   pub key_plain : is_quoted x.key ≡ false → x.key ≡ content_of x.key
   key_plain = subst (λ (y : Slices). is_quoted y.key ≡ false → y.key ≡ content_of y.key) found.2 (mark_plain found.0.mark found.0.content (behind_row i ready.cut) row_is.row.mark)

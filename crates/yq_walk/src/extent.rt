@@ -1,5 +1,5 @@
 //! Where what rows spell stands in their text.
-ghost use Rattle.std.specs.Prelude.{◌≡◌, ◌<◌, ◌≤◌, length, slice_get, Some};
+ghost use Rattle.std.specs.Prelude.{◌≡◌, ◌<◌, ◌≤◌, ◌-◌, length, slice_get, Some};
 ghost use Rattle.yq_scalar.specs.Characters.{text_limit};
 ghost use Rattle.yq_rows.specs.Offsets.{row_length};
 ghost use Rattle.yq_rows.specs.Rows.{Cut, Row as RowOf};
@@ -69,6 +69,16 @@ fn dash_count(text: &str) -> usize
     text.as_bytes().iter().filter(|b| **b == b'-').count()
 }
 
+/// How many dashes stand in front of the last one.
+fn before_last(dashes: &str) -> usize
+    ensures { result ≡ spec.dash_count dashes.now - 1 }
+{
+    if dashes.len() <= 1 {
+        return 0;
+    }
+    dash_count(dashes).saturating_sub(1)
+}
+
 /// How many lines of row `i` stand before its last one.
 pub fn lines_before_mark(rows: &Rows<'_>, i: usize) -> usize
     requires { i < length rows.now.rows }
@@ -78,11 +88,11 @@ pub fn lines_before_mark(rows: &Rows<'_>, i: usize) -> usize
     if !rows.has_dashes(i) {
         return 0;
     }
-    let count = dash_count(rows.dashes(i));
+    let dashes = rows.dashes(i);
     if rows.has_colon(i) {
-        count
+        dash_count(dashes)
     } else {
-        count.saturating_sub(1)
+        before_last(dashes)
     }
 }
 

@@ -98,17 +98,15 @@ fn level_behind(first: usize, dashes: &[u8], line: usize, has_colon: bool) -> us
     begin + line_rank(dashes, line, has_colon)
 }
 
-/// How deep a line is.
-pub fn level_at(rows: &Rows<'_>, spot: Spot) -> usize
+/// How deep a line is, told by its row's dashes.
+#[inline(never)]
+fn level_within(rows: &Rows<'_>, spot: Spot) -> usize
     requires within { spot.row < length rows.now.rows }
     requires shown { IsShown rows.now }
     ensures { (x : Slices) → slice_get rows.now.rows spot.row ≡ Some x →
         result ≡ spec.line_level spot.line x }
 {
     let first = rows.level(spot.row);
-    if spot.line == 0 {
-        return first;
-    }
     if !rows.has_dashes(spot.row) {
         return first;
     }
@@ -116,7 +114,22 @@ pub fn level_at(rows: &Rows<'_>, spot: Spot) -> usize
     level_behind(first, dashes, spot.line, rows.has_colon(spot.row))
 }
 
+/// How deep a line is.
+#[inline(always)]
+pub fn level_at(rows: &Rows<'_>, spot: Spot) -> usize
+    requires within { spot.row < length rows.now.rows }
+    requires shown { IsShown rows.now }
+    ensures { (x : Slices) → slice_get rows.now.rows spot.row ≡ Some x →
+        result ≡ spec.line_level spot.line x }
+{
+    if spot.line == 0 {
+        return rows.level(spot.row);
+    }
+    level_within(rows, spot)
+}
+
 /// What a line begins with, as the order of marks in a column.
+#[inline(always)]
 pub fn rank_at(rows: &Rows<'_>, spot: Spot) -> usize
     requires within { spot.row < length rows.now.rows }
     requires shown { IsShown rows.now }
@@ -147,6 +160,7 @@ pub fn rows_under(rows: &Rows<'_>, from: usize, end: usize, level: usize) -> usi
 }
 
 /// Whether a line is there, and is deeper than a level.
+#[inline(always)]
 pub fn is_deeper(rows: &Rows<'_>, document: Stretch, spot: Spot, floor: usize) -> bool
     requires shown { IsShown rows.now }
     requires document { HasRows rows.now document }
@@ -181,6 +195,7 @@ pub fn behind(rows: &Rows<'_>, document: Stretch, spot: Spot) -> Spot
 }
 
 /// The line behind a line.
+#[inline(always)]
 pub fn next(rows: &Rows<'_>, document: Stretch, spot: Spot) -> Spot
     requires document { HasRows rows.now document }
     requires spot { IsLine rows.now document spot }
