@@ -1,10 +1,11 @@
 -- An item replaced, and one added behind the last.
-use Rattle.std.proofs.Common.{◌≡◌, ⊎_elim, ℕ, Bool, true, false, not, ◌&&◌, ◌||◌, eqb, cond, List, [], ◌∷◌, ◌++◌, Some, None, refl, sym, ap, ◌∙◌, subst, arith, append_assoc, eqb-true}
+use Rattle.std.proofs.Common.{◌≡◌, ℕ, Bool, true, false, not, ◌&&◌, ◌||◌, eqb, cond, List, [], ◌∷◌, ◌++◌, Some, None, refl, sym, ap, ◌∙◌, subst, arith, append_assoc}
 use Rattle.std.proofs.Math.Bool.{and-false}
-use Rattle.std.proofs.lemmas.Bool.{false≢true, or_right, not-true, or_cases, or_parts}
+use Rattle.std.proofs.lemmas.Bool.{false≢true, or_right, not-true, or_parts}
 use Rattle.std.proofs.lemmas.Option.{same_Some}
 use Rattle.yq_scalar.specs.Paths.{Step, is_here, further, change_child, append_child}
 use Rattle.yq_scalar.specs.Text.{front, is_white, is_feed, is_return, is_space, is_marker, separates}
+use Rattle.yq_scalar.proofs.Bools.{at_byte}
 use Rattle.yq_inline.specs.Alike.{Alike, stop, EndsItem, fresh, KeepsApart}
 use Rattle.yq_inline.specs.Gaps.{IsGap}
 use Rattle.yq_inline.specs.Nodes.{Key, bare, keyed, Sep, last, comma, Node, Items, none, item, key_text, sep_text, node_text, items_text, first_is, begins_content, begins_node, is_close, IsKey, IsSep, is_bare, is_keyed, IsNode, AreItems}
@@ -16,6 +17,7 @@ use Rattle.yq_inline.specs.Trees.{inner, key_content, tree_of, items_tree}
 use Rattle.yq_inline.proofs.Alikes.{no_second, no_third, alike_append}
 use Rattle.yq_inline.proofs.AlikePieces.{gap_alike}
 use Rattle.yq_flow.proofs.ItemSwaps.{item_cut}
+use Rattle.yq_inline.proofs.EndLaws.{ends_by}
 use Rattle.yq_inline.proofs.GapLaws.{none_gap}
 use Rattle.yq_inline.proofs.KeepLaws.{NotEmpty, some_text, gap_some, keeps_append, keeps_alike, some_begins}
 use Rattle.yq_inline.proofs.KeyKeeps.{key_keeps}
@@ -142,6 +144,11 @@ pub record Unmarked (u : List ℕ) : Type 0 where
   pub dash : first_is 45 u ≡ false
   pub dot : first_is 46 u ≡ false
 
+-- a bracket or comma is neither a dash nor a dot
+pub ends_mark : (k : ℕ) (t : List ℕ) → is_close k ≡ true → EndsItem k t → Unmarked t
+ends_mark k t c e = ends_by Unmarked k t c e (λ r. record { dash = refl; dot = refl }) (λ r. record { dash = refl; dot = refl }) (λ r. record { dash = refl; dot = refl })
+    (λ b r s. record { dash = at_byte (λ x. is_space (x ∷ r)) b 45 s refl; dot = at_byte (λ x. is_space (x ∷ r)) b 46 s refl })
+
 byte_on : (b : ℕ) (t u : List ℕ) → (is_return b && front is_feed u) ≡ false → is_space (b ∷ t) ≡ false → is_space (b ∷ u) ≡ false
 byte_on b t u r h = let x = or_parts (is_white b) (is_feed b || (is_return b && front is_feed t)) h in let y = or_parts (is_feed b) (is_return b && front is_feed t) x.1 in rw (x.0, y.0, r) refl
 
@@ -184,12 +191,6 @@ keeps_from line (b ∷ p) t u m a = (
 -- a comma directly behind
 pub comma_apart : (line : Bool) (p u : List ℕ) → IsApartFrom line p (44 ∷ u)
 comma_apart line p u = record { unmarked = and-false (ends_marked line p); unbroken = and-false (ends_return p) }
-
-close_no_space : (k : ℕ) (r : List ℕ) → is_close k ≡ true → is_space (k ∷ r) ≡ false
-close_no_space k r c = ⊎_elim {0, 0, 0} (λ e. subst (λ (b : ℕ). is_space (b ∷ r) ≡ false) (sym (eqb-true k 93 e)) refl) (λ e. subst (λ (b : ℕ). is_space (b ∷ r) ≡ false) (sym (eqb-true k 125 e)) refl) (or_cases (eqb k 93) (eqb k 125) c)
-
-pub close_gap : (k : ℕ) (r : List ℕ) → is_close k ≡ true → IsGap [] (k ∷ r)
-close_gap k r c = none_gap (k ∷ r) (rw (close_no_space k r c) refl)
 
 -- the text of an item isn't empty
 pub item_some : (d k : ℕ) (key : Key) (n : Node) (t : List ℕ) → IsKey k key (node_text n t) → (is_keyed key || not (is_bare n)) ≡ true → IsNode true (Some 0) d n t → NotEmpty (key_text key (node_text n []))

@@ -21,8 +21,7 @@ use Rattle.yq_flow.specs.Valued.{IsValid, IsLabel, IsValueTree}
 use Rattle.yq_inline.specs.Written.{scalar_text, flow_key, flow_of}
 use Rattle.yq_inline.proofs.Alikes.{no_first, no_second, no_third}
 use Rattle.yq_inline.proofs.EndLaws.{ends_plainly, ends_quote}
-use Rattle.yq_flow.proofs.ItemLaws.{Unmarked}
-use Rattle.yq_flow.proofs.LastLaws.{ends_mark}
+use Rattle.yq_flow.proofs.ItemLaws.{Unmarked, ends_mark}
 use Rattle.yq_flow.proofs.SpelledLaws.{no_bare, node_begins, written_node, items_fit, entries_fit}
 use Rattle.yq_flow.proofs.SpelledScalars.{plain_anywhere}
 use Rattle.yq_flow.proofs.StyledScalars.{styled_spells}

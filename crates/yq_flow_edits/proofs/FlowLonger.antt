@@ -1,5 +1,6 @@
 -- Edits of a flow collection in a part of a text, as edits of the text.
-use Rattle.std.proofs.Common.{◌≡◌, ℕ, ◌+◌, ◌-◌, ◌≤◌, Bool, true, false, ◌&&◌, ◌||◌, eqb, eqb-true, cond, List, [], ◌∷◌, ◌++◌, length, Option, Some, option_map, refl, sym, ap, ◌∙◌, subst, arith, append_assoc, length-append}
+use Rattle.std.proofs.Common.{◌≡◌, ℕ, ◌+◌, ◌-◌, ◌≤◌, Bool, true, false, ◌&&◌, ◌||◌, eqb, eqb-true, cond, List, [], ◌∷◌, ◌++◌, length, Option, Some, None, option_map, refl, sym, ap, ◌∙◌, subst, arith, append_assoc, length-append}
+use Rattle.std.specs.Option.{option_or}
 use Rattle.yq_scalar.specs.Paths.{Step, is_here, further}
 use Rattle.yq_scalar.specs.PlainText.{begins_marker}
 use Rattle.yq_inline.specs.Alike.{fresh}
@@ -8,9 +9,10 @@ use Rattle.yq_inline.specs.Entries.{EntryPieces, item_at}
 use Rattle.yq_flow.specs.FlowEdits.{FlowEdit, appending, appending_first, appending_last, behind_last, is_none}
 use Rattle.yq_flow.specs.FlowPlaces.{place_edit}
 use Rattle.yq_inline.specs.Nodes.{Key, Sep, last, comma, Node, Items, none, item, is_close, items_text, key_text, node_text, sep_text}
-use Rattle.yq_flow.specs.Removals.{comma_on, ends_marked, gap_of, has_next, is_several, items_behind, last_sep, removed_for, removing, removing_before, removing_end, removing_last, removing_sole, removing_to_comma, space_to, until_last}
+use Rattle.yq_flow.specs.Removals.{before_next, behind_item, comma_left, ends_marked, gap_of, last_gone, last_out, last_removed, next_text, removing_from, space_to}
 use Rattle.yq_inline.specs.Trees.{inner, key_content}
 use Rattle.yq_flow.proofs.ItemSwaps.{item_cut}
+use Rattle.yq_flow.proofs.RemovePlaces.{or_mapped}
 use Rattle.yq_inline.proofs.WrittenLaws.{items_append, sep_append}
 use Rattle.yq_flow_edits.specs.EditPlaces.{moved_on}
 
@@ -127,35 +129,46 @@ space_more k g is rest more c =
     ap (λ (b : Bool). cond (fresh false g && b) (32 ∷ []) [])
     (ap begins_marker (h.1 (rest ++ more)) ∙ (marker_more h.0 (rest ++ more) rest k c ∙ sym (ap begins_marker (h.1 rest))))
 
-removed_more : (k : ℕ) (s : Step) (g : List ℕ) (is : Items) (rest more : List ℕ) → is_close k ≡ true → removed_for k (rest ++ more) s g is ≡ removed_for k rest s g is
-removed_more k s g none rest more c = refl
-removed_more k s g (item key n sep is) rest more c =
-    λ i. cond (is_here s (inner (key_content key))) (space_more k g is rest more c i) (removed_more k (further s) (gap_of sep) is rest more c i)
+-- the edit before a longer rest
+abbrev pub edit_more : List ℕ → FlowEdit → FlowEdit
+edit_more more e = record { gap = e.gap; items = e.items; old = e.old; lead = e.lead; written = e.written; behind = e.behind ++ more }
 
-comma_more : (sep : Sep) (rest more : List ℕ) → comma_on sep (rest ++ more) ≡ comma_on sep rest ++ more
-comma_more (last b) rest more = sym (append_assoc b rest more)
-comma_more (comma b g) rest more = ap (λ l. 44 ∷ l) (sym (append_assoc g rest more))
+next_more : (k : ℕ) (g : List ℕ) (key : Key) (n : Node) (sep : Sep) (is : Items) (rest more : List ℕ) → is_close k ≡ true → before_next k (rest ++ more) g key n sep is ≡ option_map (edit_more more) (before_next k rest g key n sep is)
+next_more k g key n sep none rest more c = refl
+next_more k g key n sep (item key2 n2 sep2 is) rest more c =
+    let sp = space_more k g (item key2 n2 sep2 is) rest more c in
+    let y = items_append k (item key2 n2 sep2 is) rest more in
+    λ i. Some (record { gap = g ++ sp i; items = item key2 n2 sep2 is; old = key_text key (node_text n (sep_text sep [])); lead = sp i; written = []; behind = y i })
 
-pub removing_more : (s : Step) (more : List ℕ) (w : CollPieces) → is_close w.close ≡ true → SameEdit more (removing s (with_more more w)) (removing s w)
-removing_more s more w c = several (is_several w.items)
-  where
-    k : ℕ
-    k = w.close
+comma_more : (k : ℕ) (g : List ℕ) (key : Key) (n : Node) (sep : Sep) (key2 : Key) (n2 : Node) (sep2 : Sep) (rest more : List ℕ) → comma_left k (rest ++ more) g key n sep key2 n2 sep2 ≡ edit_more more (comma_left k rest g key n sep key2 n2 sep2)
+comma_more k g key n sep key2 n2 (last b) rest more =
+    ap (λ (l : List ℕ). record { gap = g; items = item key n (comma [] b) none; old = next_text sep key2 n2; lead = 44 ∷ []; written = []; behind = l }) (sym (append_assoc b (k ∷ rest) more))
+comma_more k g key n sep key2 n2 (comma b h) rest more =
+    ap (λ (l : List ℕ). record { gap = g; items = item key n (comma [] h) none; old = next_text sep key2 n2 ++ b; lead = []; written = []; behind = 44 ∷ l }) (sym (append_assoc h (k ∷ rest) more))
 
-    all : CollPieces
-    all = with_more more w
+out_more : (k : ℕ) (s : Step) (g : List ℕ) (key : Key) (n : Node) (sep : Sep) (is : Items) (rest more : List ℕ) → last_out k (rest ++ more) s g key n sep is ≡ option_map (edit_more more) (last_out k rest s g key n sep is)
+out_more k s g key n sep none rest more = refl
+out_more k s g key n sep (item key2 n2 sep2 (item key3 n3 sep3 is)) rest more = refl
+out_more k s g key n sep (item key2 n2 sep2 none) rest more =
+    let new : List ℕ → FlowEdit = λ r. last_removed k r g key n sep key2 n2 sep2 in
+    let gone : last_gone k (rest ++ more) g key n sep key2 n2 sep2 ≡ edit_more more (last_gone k rest g key n sep key2 n2 sep2) =
+    ap (λ (l : List ℕ). record { gap = g; items = item key n sep2 none; old = next_text sep key2 n2; lead = []; written = []; behind = l }) (sep_append sep2 (k ∷ rest) more) in
+    let one : new (rest ++ more) ≡ edit_more more (new rest) =
+    elim (ends_marked (fresh false g) (key_text key (node_text n [])))
+    as (λ v. cond v (comma_left k (rest ++ more) g key n sep key2 n2 sep2) (last_gone k (rest ++ more) g key n sep key2 n2 sep2) ≡ edit_more more (cond v (comma_left k rest g key n sep key2 n2 sep2) (last_gone k rest g key n sep key2 n2 sep2)))
+    [ true ↦ comma_more k g key n sep key2 n2 sep2 rest more | false ↦ gone ] in
+    elim (is_here s (inner (key_content key2))) as (λ v. cond v (Some (new (rest ++ more))) None ≡ option_map (edit_more more) (cond v (Some (new rest)) None)) [ true ↦ ap Some one | false ↦ refl ]
 
-    before : SameEdit more (removing_before s (with_more more w)) (removing_before s w)
-    before = record { old = refl; lead = removed_more w.close s w.gap w.items w.rest more c; behind = items_append w.close (items_behind s w.items) w.rest more }
+behind_more : (g : List ℕ) (key : Key) (n : Node) (sep : Sep) (more : List ℕ) (o : Option FlowEdit) → option_map (behind_item g key n sep) (option_map (edit_more more) o) ≡ option_map (edit_more more) (option_map (behind_item g key n sep) o)
+behind_more g key n sep more None = refl
+behind_more g key n sep more (Some e) = refl
 
-    at_end : (b : Bool) → SameEdit more (cond b (removing_to_comma (with_more more w)) (removing_last (with_more more w))) (cond b (removing_to_comma w) (removing_last w))
-    at_end true = record { old = refl; lead = refl; behind = comma_more (last_sep w.items) (w.close ∷ w.rest) more }
-    at_end false = record { old = refl; lead = refl; behind = sep_append (last_sep w.items) (w.close ∷ w.rest) more }
-
-    next : (b : Bool) → SameEdit more (cond b (removing_before s (with_more more w)) (removing_end (with_more more w))) (cond b (removing_before s w) (removing_end w))
-    next true = before
-    next false = at_end (ends_marked (fresh false w.gap) (until_last w.items))
-
-    several : (b : Bool) → SameEdit more (cond b (cond (has_next s w.items) (removing_before s (with_more more w)) (removing_end (with_more more w))) (removing_sole (with_more more w))) (cond b (cond (has_next s w.items) (removing_before s w) (removing_end w)) (removing_sole w))
-    several true = next (has_next s w.items)
-    several false = record { old = refl; lead = refl; behind = refl }
+pub removing_more : (k : ℕ) (s : Step) (g : List ℕ) (is : Items) (rest more : List ℕ) → is_close k ≡ true → removing_from k (rest ++ more) s g is ≡ option_map (edit_more more) (removing_from k rest s g is)
+removing_more k s g none rest more c = refl
+removing_more k s g (item key n sep is) rest more c =
+    let t : Step = further s in
+    let again = ap (option_map (behind_item g key n sep)) (removing_more k t (gap_of sep) is rest more c) ∙ behind_more g key n sep more (removing_from k rest t (gap_of sep) is) in
+    elim (is_here s (inner (key_content key)))
+    as (λ b. cond b (before_next k (rest ++ more) g key n sep is) (option_or (last_out k (rest ++ more) t g key n sep is) (option_map (behind_item g key n sep) (removing_from k (rest ++ more) t (gap_of sep) is)))
+        ≡ option_map (edit_more more) (cond b (before_next k rest g key n sep is) (option_or (last_out k rest t g key n sep is) (option_map (behind_item g key n sep) (removing_from k rest t (gap_of sep) is)))))
+    [ true ↦ next_more k g key n sep is rest more c | false ↦ (λ i. option_or (out_more k t g key n sep is rest more i) (again i)) ∙ or_mapped (edit_more more) (last_out k rest t g key n sep is) (option_map (behind_item g key n sep) (removing_from k rest t (gap_of sep) is)) ]

@@ -4,14 +4,12 @@ use Rattle.std.proofs.lemmas.Bool.{cond_both}
 use Rattle.std.proofs.lemmas.List.{length-append}
 use Rattle.std.proofs.lemmas.Option.{none-some, same_Some}
 use Rattle.yq_scalar.specs.Paths.{Step, is_here, further}
-use Rattle.yq_inline.specs.Nodes.{Node, empty, alias, scalar, coll, anchored, Key, Sep, last, comma, Items, none, item, sep_text, items_text}
+use Rattle.yq_inline.specs.Nodes.{Node, empty, alias, scalar, coll, anchored, Key, Items, none, item, sep_text, items_text}
 use Rattle.yq_inline.specs.Collections.{CollPieces, coll_in, coll_along}
 use Rattle.yq_inline.specs.Entries.{EntryPieces, item_at, inside}
 use Rattle.yq_inline.specs.Trees.{inner, key_content}
 use Rattle.yq_inline.proofs.NodeAgain.{sep_longer, items_longer}
-use Rattle.yq_inline.specs.Alike.{fresh}
 use Rattle.yq_flow.specs.FlowEdits.{FlowEdit, is_none, behind_last, appending, appending_first, appending_last}
-use Rattle.yq_flow.specs.Removals.{comma_on, has_next, is_several, items_behind, last_sep, removing, removing_before, removing_end, removing_last, removing_sole, removing_to_comma, ends_marked, until_last}
 
 -- ---- items and collections
 
@@ -52,24 +50,7 @@ last_rest k none rest = omega arith
 last_rest k (item j n sep none) rest = omega (arith, sep_longer sep (k ∷ rest))
 last_rest k (item j n sep (item j2 n2 sep2 is)) rest = last_rest k (item j2 n2 sep2 is) rest
 
-comma_rest : (sep : Sep) (rest : List ℕ) → length rest ≤ length (comma_on sep rest)
-comma_rest (last b) rest = omega (arith, length-append b rest)
-comma_rest (comma b g) rest = omega (arith, length-append g rest)
-
 pub appended_rest : (key : Key) (m : Node) (w : CollPieces) → length w.rest ≤ length (appending key m w).behind
 appended_rest key m w =
     cond_both (is_none w.items) (appending_first key m w) (appending_last key m w) (λ (e : FlowEdit). length w.rest ≤ length e.behind)
     (λ _. omega (arith, length-append w.gap (w.close ∷ w.rest))) (λ _. last_rest w.close w.items w.rest)
-
--- what stands behind an edit is no less than what stands behind its collection
-abbrev Keeps : CollPieces → FlowEdit → Type 0
-Keeps w e = length w.rest ≤ length e.behind
-
-pub removed_rest : (s : Step) (w : CollPieces) → length w.rest ≤ length (removing s w).behind
-removed_rest s w =
-    cond_both (is_several w.items) (cond (has_next s w.items) (removing_before s w) (removing_end w)) (removing_sole w) (Keeps w)
-    (λ _. cond_both (has_next s w.items) (removing_before s w) (removing_end w) (Keeps w)
-    (λ _. omega (arith, items_longer w.close (items_behind s w.items) w.rest))
-    (λ _. cond_both (ends_marked (fresh false w.gap) (until_last w.items)) (removing_to_comma w) (removing_last w) (Keeps w)
-    (λ _. omega (arith, comma_rest (last_sep w.items) (w.close ∷ w.rest))) (λ _. omega (arith, sep_longer (last_sep w.items) (w.close ∷ w.rest)))))
-    (λ _. omega arith)

@@ -12,12 +12,11 @@ use Rattle.yq_inline.specs.Nodes.{bare, Node, empty, alias, scalar, coll, anchor
 use Rattle.yq_flow.specs.Removals.{ends_return}
 use Rattle.yq_inline.specs.Trees.{inner, key_content}
 use Rattle.yq_flow.proofs.EditLaws.{Around, around_is, none_is}
-use Rattle.yq_flow.proofs.EditWholes.{whole_front}
 use Rattle.yq_flow.proofs.ItemLaws.{item_begins, item_some}
 use Rattle.yq_flow.proofs.ItemSwaps.{item_cut}
 use Rattle.yq_flow.proofs.LocalLaws.{node_no_feed}
 use Rattle.yq_inline.proofs.NodeKeeps.{sep_ends}
-use Rattle.yq_flow.proofs.ReturnLaws.{Whole, item_return, return_some, whole_by}
+use Rattle.yq_flow.proofs.ReturnLaws.{Whole, item_return, return_some, whole_by, whole_front}
 use Rattle.yq_inline.proofs.WrittenLaws.{key_append, node_then}
 
 -- An item or entry stands behind a text, and what ends it behind that.
