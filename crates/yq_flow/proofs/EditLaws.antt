@@ -13,7 +13,7 @@ use Rattle.yq_inline.specs.Entries.{EntryPieces}
 use Rattle.yq_inline.specs.Trees.{inner, key_content, tree_of, items_tree}
 use Rattle.yq_flow.proofs.CollLaws.{Stands}
 use Rattle.yq_flow.proofs.ContextLaws.{path_stands}
-use Rattle.yq_flow.proofs.ItemLaws.{put_local, put_tree, put_before, becomes_same, add_local, add_tree, item_begins}
+use Rattle.yq_flow.proofs.ItemLaws.{put_local, put_before, becomes_same, add_local, item_begins}
 use Rattle.yq_flow.proofs.LocalLaws.{no_gap_before}
 use Rattle.yq_inline.proofs.WrittenLaws.{node_then, key_append}
 use Rattle.yq_scalar.specs.Tree as tree
@@ -55,7 +55,7 @@ replaced x s y m h found fits =
     let i = around_is x h in
     let f : FitsNode i.inner_depth m y.rest = subst (λ (e : ℕ). FitsNode e m y.rest) (room_is x i) fits in
     let l = put_local i.inner_depth c.close s m c.items c.rest y i.closes i.items found f in
-    edited x (replacing s y m x.coll) (change_child s (put_value (tree_of m))) i (l.front c.gap i.gap) l.are (put_tree i.inner_depth c.close s m c.items c.rest y i.closes i.items found f)
+    edited x (replacing s y m x.coll) (change_child s (put_value (tree_of m))) i (l.front c.gap i.gap) l.are l.tree
     (behind_gap c.close c.gap c.items (put_item s m c.items) c.rest _ _ y.rest l.text)
 
 -- one more behind the last item or entry
@@ -67,7 +67,7 @@ appended_last x key m h some fits =
     let t : List ℕ = behind_last c.close c.items c.rest in
     let f : FitsItem i.inner_depth c.close key m t = subst (λ (e : ℕ). FitsItem e c.close key m t) (room_is x i) fits in
     let l = add_local i.inner_depth c.close key m c.items c.rest i.closes some i.items f in
-    edited x (appending_last key m c) (append_child (inner (key_content key)) (tree_of m)) i (l.front c.gap i.gap) l.are (add_tree key m c.items some) (behind_gap c.close c.gap c.items (add_last key m c.items) c.rest _ _ _ l.text)
+    edited x (appending_last key m c) (append_child (inner (key_content key)) (tree_of m)) i (l.front c.gap i.gap) l.are l.tree (behind_gap c.close c.gap c.items (add_last key m c.items) c.rest _ _ _ l.text)
 
 pub none_is : (is : Items) → is_none is ≡ true → is ≡ none
 none_is none h = refl

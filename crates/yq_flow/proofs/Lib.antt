@@ -4,6 +4,7 @@ pub mod SpelledLaws
 pub mod ValuedLaws
 pub mod CollLaws
 pub mod ItemSwaps
+pub mod ItemPlaces
 pub mod ContextLaws
 pub mod LocalLaws
 pub mod ItemLaws
