@@ -1,19 +1,23 @@
 -- The bytes of an edit of a flow collection go from one whole character to another.
-use Rattle.std.proofs.Common.{◌≡◌, ◌⊎◌, inl, inr, ℕ, zero, suc, ◌<◌, Bool, true, false, cond, eqb-true, List, [], ◌∷◌, length, drop, Option, Some, None, option_map, refl, subst, arith}
-use Rattle.std.proofs.lemmas.Bool.{false≢true}
+use Rattle.std.proofs.Common.{◌≡◌, ◌⊎◌, inl, inr, ⊎_elim, ℕ, zero, suc, ◌-◌, ◌<◌, Bool, true, false, ◌&&◌, ◌||◌, eqb, cond, eqb-true, eq-eqb, List, [], ◌∷◌, ◌++◌, length, drop, Option, Some, None, option_map, refl, ap, ◌∙◌, subst, arith}
+use Rattle.std.proofs.lemmas.Bool.{false≢true, and_parts, or_cases}
 use Rattle.std.proofs.lemmas.Option.{none-some, same_Some}
 use Rattle.std.proofs.lemmas.Str.{IsCharBoundary-before_ascii}
 use Rattle.std.specs.Option.{option_or}
 use Rattle.std.specs.Prelude.{get_or}
 use Rattle.std.specs.Str.{IsCharBoundary}
 use Rattle.yq_scalar.specs.Paths.{Step, is_here, further}
+use Rattle.yq_scalar.specs.Text.{front, is_feed, is_space}
 use Rattle.yq_scalar.specs.declared.piece.Piece.{Piece}
+use Rattle.yq_inline.specs.Alike.{EndsItem}
 use Rattle.yq_inline.specs.Entries.{end_of, entry_start, parts_in}
 use Rattle.yq_flow.specs.FlowPlaces.{PlacedEdit, first_start, marks_before, only_end, past_gap, remove_before, remove_end, remove_part, remove_place, replace_place}
-use Rattle.yq_inline.specs.Nodes.{first_is}
+use Rattle.yq_inline.specs.Nodes.{first_is, is_close}
 use Rattle.yq_inline.specs.Places.{Placed, placed, Content, nothing, name, text, sequence, mapping, Parts, end, part}
 use Rattle.yq_inline.specs.Spans.{ContentHasSpans, HasKeySpan, HasSpans, PartsHaveSpans}
 use Rattle.yq_inline.specs.Trees.{inner, unplaced_key}
+use Rattle.yq_inline.proofs.EndLaws.{ends_by}
+use Rattle.yq_flow.proofs.RemovePlaces.{drop_end}
 use Rattle.yq_flow.proofs.RemoveTexts.{either}
 
 -- an edit begins and ends at whole characters
@@ -37,6 +41,18 @@ ascii_boundary t n k low h = let x = there t n h in IsCharBoundary-before_ascii 
     there [] (suc n) h = absurd (false≢true h)
     there (b ∷ t) zero h = (omega arith, eqb-true b k h)
     there (b ∷ t) (suc n) h = let x = there t n h in (omega (arith, x.0), x.1)
+
+-- where an item or entry ends
+space_low : (b : ℕ) (r : List ℕ) → is_space (b ∷ r) ≡ true → b < 128
+space_low b r h = ⊎_elim {0, 0, 0}
+    (λ w. ⊎_elim {0, 0, 0} (λ e. omega (arith, eqb-true b 32 e)) (λ e. omega (arith, eqb-true b 9 e)) (or_cases (eqb b 32) (eqb b 9) w))
+    (λ w. ⊎_elim {0, 0, 0} (λ e. omega (arith, eqb-true b 10 e)) (λ e. omega (arith, eqb-true b 13 (and_parts (eqb b 13) (front is_feed r) e).0)) (or_cases (eqb b 10) (eqb b 13 && front is_feed r) w))
+    (or_cases (eqb b 32 || eqb b 9) (eqb b 10 || (eqb b 13 && front is_feed r)) h)
+
+pub ends_bound : (k : ℕ) (t a u : List ℕ) → is_close k ≡ true → EndsItem k u → t ≡ a ++ u → IsCharBoundary t (length t - length u)
+ends_bound k t a u c ends is =
+    let x = ends_by (λ (l : List ℕ). (b : ℕ) × (r : List ℕ) × (l ≡ b ∷ r) × (b < 128)) k u c ends (λ r. (44, r, refl, omega arith)) (λ r. (93, r, refl, omega arith)) (λ r. (125, r, refl, omega arith)) (λ b r s. (b, r, refl, space_low b r s)) in
+    ascii_boundary t (length t - length u) x.0 x.3 (ap (first_is x.0) (drop_end t a u is ∙ x.2) ∙ eq-eqb x.0 x.0 refl)
 
 -- one that is taken out
 entry_begins : (t : List ℕ) (key : Option (List ℕ × Piece)) (n : Placed) → HasKeySpan t key → HasSpans t n → IsCharBoundary t (entry_start (key, n))

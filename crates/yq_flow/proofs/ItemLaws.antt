@@ -10,7 +10,7 @@ use Rattle.yq_inline.specs.Alike.{Alike, stop, EndsItem, fresh, KeepsApart}
 use Rattle.yq_inline.specs.Gaps.{IsGap}
 use Rattle.yq_inline.specs.Nodes.{Key, bare, keyed, Sep, last, comma, Node, Items, none, item, key_text, sep_text, node_text, items_text, first_is, begins_content, begins_node, is_close, IsKey, IsSep, is_bare, is_keyed, IsNode, AreItems}
 use Rattle.yq_inline.specs.Entries.{EntryPieces, item_at}
-use Rattle.yq_flow.specs.FlowEdits.{Becomes, content_node, space_for, put_content, put_item, put_value, FitsNode, is_none, add_last, behind_last, FitsItem}
+use Rattle.yq_flow.specs.FlowEdits.{Becomes, content_node, space_for, put_content, put_item, put_value, FitsNode, add_item, is_none, behind_last, FitsItem}
 use Rattle.yq_flow.specs.Removals.{is_marks, ends_marked, ends_return, IsApartFrom}
 use Rattle.yq_inline.specs.Scalars.{begins_scalar}
 use Rattle.yq_inline.specs.Trees.{inner, key_content, tree_of, items_tree}
@@ -197,11 +197,11 @@ gap_before d k key n t u q h s x keeps gap =
     subst (IsGap q) (sym (cut u)) (gap_some q (key_text key (node_text n [])) t u (item_some d k key n t h s x) keeps (subst (IsGap q) (cut t) gap))
 
 -- one more behind the last
-pub add_local : (d k : ℕ) (key : Key) (m : Node) (is : Items) (rest : List ℕ) → is_close k ≡ true → is_none is ≡ false → AreItems d k is rest → FitsItem d k key m (behind_last k is rest) →
-    Local d k is (add_last key m is) (append_child (inner (key_content key)) (tree_of m) (items_tree is)) rest [] (44 ∷ (32 ∷ key_text key (node_text m []))) (behind_last k is rest)
+pub add_local : (d k : ℕ) (key : Key) (m : Node) (gap : List ℕ) (is : Items) (rest : List ℕ) → is_close k ≡ true → is_none is ≡ false → AreItems d k is rest → FitsItem d k key m (behind_last k gap is rest) →
+    Local d k is (add_item key m gap is) (append_child (inner (key_content key)) (tree_of m) (items_tree is)) rest [] (44 ∷ (32 ∷ key_text key (node_text m []))) (behind_last k gap is rest)
 unfolding items_text AreItems items_tree
-add_local d k key m none rest c some a f = absurd (false≢true (sym some))
-add_local d k key m (item j n sep none) rest c some a f =
+add_local d k key m gap none rest c some a f = absurd (false≢true (sym some))
+add_local d k key m gap (item j n sep none) rest c some a f =
     let t : List ℕ = sep_text sep (k ∷ rest) in
     let x : List ℕ = key_text key (node_text m t) in
     let u : List ℕ = 44 ∷ (32 ∷ x) in
@@ -221,5 +221,5 @@ add_local d k key m (item j n sep none) rest c some a f =
         is = ap (key_text j) (node_then n u) ∙ (key_append j (node_text n []) u ∙ ap (λ l. key_text j (node_text n []) ++ (44 ∷ (32 ∷ l))) (ap (key_text key) (node_then m t) ∙ key_append key (node_text m []) t));
       };
     }
-add_local d k key m (item j n sep (item j2 n2 sep2 is)) rest c some a f =
-    cons_local d k j n sep (item j2 n2 sep2 is) (add_last key m (item j2 n2 sep2 is)) _ rest [] _ _ c refl a (add_local d k key m (item j2 n2 sep2 is) rest c refl a.4 f)
+add_local d k key m gap (item j n sep (item j2 n2 sep2 is)) rest c some a f =
+    cons_local d k j n sep (item j2 n2 sep2 is) (add_item key m gap (item j2 n2 sep2 is)) _ rest [] _ _ c refl a (add_local d k key m gap (item j2 n2 sep2 is) rest c refl a.4 f)

@@ -40,12 +40,12 @@ item_behind d k s (item key n sep is) rest y a e = go (is_here s (inner (key_con
     go false again e = further_behind d k (key_text key (node_text n (sep_text sep tail))) tail (key_text key (node_text n (sep_text sep []))) y (item_cut key n sep tail) (again e)
 
 -- the last one
-pub last_behind : (d k : ℕ) (is : Items) (rest : List ℕ) → is_none is ≡ false → AreItems d k is rest → (y : EntryPieces) × (y.rest ≡ behind_last k is rest) × Behind d k (items_text k is rest) y
+pub last_behind : (d k : ℕ) (gap : List ℕ) (is : Items) (rest : List ℕ) → is_none is ≡ false → AreItems d k is rest → (y : EntryPieces) × (y.rest ≡ behind_last k gap is rest) × Behind d k (items_text k is rest) y
 unfolding items_text AreItems
-last_behind d k none rest some a = absurd (false≢true (sym some))
-last_behind d k (item key n sep none) rest some a =
+last_behind d k gap none rest some a = absurd (false≢true (sym some))
+last_behind d k gap (item key n sep none) rest some a =
     (record { key = key; node = n; rest = sep_text sep (k ∷ rest) }, refl, record { before = []; text = refl; fits = record { key_is = a.0; some = a.1; is = a.2 }; ends = sep_ends k sep (k ∷ rest) a.3 })
-last_behind d k (item key n sep (item key2 n2 sep2 is)) rest some a =
-    let more = last_behind d k (item key2 n2 sep2 is) rest refl a.4 in
+last_behind d k gap (item key n sep (item key2 n2 sep2 is)) rest some a =
+    let more = last_behind d k gap (item key2 n2 sep2 is) rest refl a.4 in
     let tail : List ℕ = items_text k (item key2 n2 sep2 is) rest in
     (more.0, more.1, further_behind d k (key_text key (node_text n (sep_text sep tail))) tail (key_text key (node_text n (sep_text sep []))) more.0 (item_cut key n sep tail) more.2)

@@ -31,7 +31,7 @@ use Rattle.yq_flow.proofs.RemoveTexts.{comma_new_bytes, comma_old_bytes, gone_by
 -- ---- up to the next one
 
 -- what a text ends in
-drop_end : (t v x : List ℕ) → t ≡ v ++ x → drop (length t - length x) t ≡ x
+pub drop_end : (t v x : List ℕ) → t ≡ v ++ x → drop (length t - length x) t ≡ x
 drop_end t v x h =
     let at : length t - length x ≡ length v = omega (arith, ap length h, length-append v x) in
     ap (λ n. drop n t) at ∙ (ap (drop (length v)) h ∙ drop-append_seam v x)

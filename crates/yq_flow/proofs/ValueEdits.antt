@@ -1,6 +1,6 @@
 -- Values put into a flow collection.
-use Rattle.std.proofs.Common.{◌≡◌, ℕ, ◌≤◌, Bool, true, false, eqb, cond, List, [], ◌∷◌, ◌++◌, Some, refl, ap, ◌∙◌, subst, eq-eqb}
-use Rattle.std.proofs.lemmas.Bool.{false≢true, or_right}
+use Rattle.std.proofs.Common.{◌≡◌, ℕ, ◌≤◌, true, eqb, List, [], ◌∷◌, ◌++◌, Some, refl, ap, ◌∙◌, subst, eq-eqb}
+use Rattle.std.proofs.lemmas.Bool.{or_right}
 use Rattle.yq_scalar.specs.declared.style.Style.{Style}
 use Rattle.yq_scalar.specs.Keys.{depth}
 use Rattle.yq_scalar.specs.Paths.{Step, change_child, append_child, within, change}
@@ -9,9 +9,9 @@ use Rattle.yq_scalar.specs.Writable.{can_write}
 use Rattle.yq_scalar.specs.Written.{written}
 use Rattle.yq_inline.specs.Alike.{EndsItem}
 use Rattle.yq_inline.specs.Gaps.{IsGap}
-use Rattle.yq_flow.specs.FlowEdits.{put_value, is_none, behind_last, replacing, appending, IsEdited, FlowEdit, behind_appended}
+use Rattle.yq_flow.specs.FlowEdits.{put_value, behind_last, replacing, appending, IsEdited, FlowEdit, behind_appended}
 use Rattle.yq_inline.specs.Entries.{EntryPieces}
-use Rattle.yq_inline.specs.Nodes.{Node, scalar, Items, none, item, items_text}
+use Rattle.yq_inline.specs.Nodes.{Node, scalar, Items, none, item, items_text, AreItems}
 use Rattle.yq_inline.specs.Trees.{inner, scalar_node, key_content, tree_of}
 use Rattle.yq_flow.specs.Valued.{IsValid, IsLabel, IsValueTree}
 use Rattle.yq_inline.specs.Written.{flow_key, flow_of}
@@ -55,18 +55,14 @@ scalar_replaced x s y v style h found is i can =
     let fits = scalar_fits c.close (room_in x) v style y.rest j.closes (item_behind j.inner_depth c.close s c.items c.rest y j.items found).ends is i can in
     edited_same x (replacing s y m x.coll) _ _ (put_same x s m (scalar_node v) (scalar_same v style is i can)) (replaced x s y m h found fits)
 
--- the gap in an empty collection
-empty_ends : (k : ℕ) (g : List ℕ) (is : Items) (rest : List ℕ) → is_none is ≡ true → IsGap g (items_text k is rest) → EndsItem k (g ++ (k ∷ rest))
-unfolding items_text
-empty_ends k g none rest e h = record { gap = g; close = k; rest = rest; spelled = refl; is_gap = h; ends = or_right (eqb k 44) (eqb k k) (eq-eqb k k refl) }
-empty_ends k g (item key n sep is) rest e h = absurd (false≢true e)
-
 -- what stands behind an appended item ends one
-appended_ends : (x : CollAt) → (i : Around x) → EndsItem x.coll.close (behind_appended x.coll)
-appended_ends x i = go (is_none x.coll.items) refl where
-  go : (b : Bool) → is_none x.coll.items ≡ b → EndsItem x.coll.close (cond b (x.coll.gap ++ (x.coll.close ∷ x.coll.rest)) (behind_last x.coll.close x.coll.items x.coll.rest))
-  go true e = empty_ends x.coll.close x.coll.gap x.coll.items x.coll.rest e i.gap
-  go false e = let y = last_behind i.inner_depth x.coll.close x.coll.items x.coll.rest e i.items in subst (EndsItem x.coll.close) y.1 y.2.ends
+last_ends : (d k : ℕ) (gap : List ℕ) (is : Items) (rest : List ℕ) → IsGap gap (items_text k is rest) → AreItems d k is rest → EndsItem k (behind_last k gap is rest)
+unfolding items_text
+last_ends d k gap none rest h a = record { gap = gap; close = k; rest = rest; spelled = refl; is_gap = h; ends = or_right (eqb k 44) (eqb k k) (eq-eqb k k refl) }
+last_ends d k gap (item key n sep is) rest h a = let y = last_behind d k gap (item key n sep is) rest refl a in subst (EndsItem k) y.1 y.2.ends
+
+pub appended_ends : (x : CollAt) → (i : Around x) → EndsItem x.coll.close (behind_appended x.coll)
+appended_ends x i = last_ends i.inner_depth x.coll.close x.coll.gap x.coll.items x.coll.rest i.gap i.items
 
 -- a value as one more item or entry
 pub value_appended : (x : CollAt) (label : tree.Label) (v : tree.Node) → IsCollAt x → IsLabel (eqb x.coll.close 125) label → IsValueTree v → depth v ≤ room_in x → IsEdited x (appending (flow_key label.key) (flow_of v) x.coll) (change x.steps (within (append_child label v)))

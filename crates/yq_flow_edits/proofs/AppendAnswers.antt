@@ -16,9 +16,9 @@ use Rattle.yq_tree.specs.FlowNodes.{flow_collection}
 use Rattle.yq_tree.specs.FlowTold.{behind_anchor, placed_collection}
 use Rattle.yq_tree.specs.declared.places.flow_node.FlowHead.{FlowHead}
 use Rattle.yq_edits.specs.FlowParts.{flow_more, flow_segments, takes_key}
-use Rattle.yq_flow_edits.specs.EditPlaces.{content_takes, edit_segments, moved_on, placed_takes}
+use Rattle.yq_flow_edits.specs.EditPlaces.{content_takes, moved_on, placed_takes}
 use Rattle.yq_flow_edits.proofs.FlowAnswers.{CollFound, EditFound, edit_found}
-use Rattle.yq_flow_edits.proofs.FlowAppendLaws.{bounds, there, written_is}
+use Rattle.yq_flow_edits.proofs.FlowAppendLaws.{bounds, there}
 use Rattle.yq_flow_edits.proofs.FlowHeads.{append_found, appended_within, whole_is}
 use Rattle.yq_flow_edits.proofs.FlowLonger.{SameEdit, appending_more}
 
@@ -69,4 +69,4 @@ module _ (c : Cut) (n : ℕ) (steps : List Step) (key : Option (List ℕ)) (v : 
       let w =
       edit_found c n steps x q f (edit f.coll) (edit own) s.before whole p same (appended_within f.told.at f.told.stands (flow_key key) (flow_of v)) (bounds c n steps key v f.coll f.read f.found) s.text
       (same_Some _ _ (is ∙ place_is)) all in
-      record { lies = w.lies; is = more_is true takes ∙ (w.is ∙ ap (λ (l : List ℕ). Some (edit_segments whole (moved_on x.before p) l)) (written_is (flow_key key) (flow_of v) f.coll)) }
+      record { lies = w.lies; is = more_is true takes ∙ w.is }

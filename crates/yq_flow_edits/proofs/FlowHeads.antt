@@ -17,7 +17,6 @@ use Rattle.yq_inline.proofs.PathLaws.{items_hold}
 use Rattle.yq_tree.specs.FlowTold.{IsTold, TellsFlow, behind_anchor, collection_told, placed_collection}
 use Rattle.yq_tree.specs.declared.places.flow_node.FlowHead.{FlowHead}
 use Rattle.yq_flow_edits.specs.EditPlaces.{moved_on}
-use Rattle.yq_flow_edits.proofs.FlowAppendLaws.{all_behind}
 use Rattle.yq_flow_edits.proofs.FlowLonger.{SameEdit, entry_more, item_more, place_moved, with_more}
 use Rattle.yq_flow_edits.proofs.FlowWholeLaws.{StandsBefore, appended_stands, replaced_stands}
 
@@ -50,7 +49,7 @@ module _ (z : CollAt) (is : IsCollAt z) where
   valid = (around.closes, around.gap, around.items)
 
   pub appended_within : (key : Key) (m : Node) → length ((appending key m w).old ++ (appending key m w).behind) ≤ length t
-  appended_within key m = subst (λ (l : List ℕ). length l ≤ length t) (sym (all_behind key m w)) (stands_within t _ (appended_stands z [] is))
+  appended_within key m = stands_within t _ (appended_stands z [] is)
 
   pub replaced_within : (s : Step) (y : EntryPieces) (m : Node) → item_at w.close s w.items w.rest ≡ Some y → length ((replacing s y m w).old ++ (replacing s y m w).behind) ≤ length t
   replaced_within s y m at = stands_within t _ (replaced_stands z [] is s y at)

@@ -6,7 +6,7 @@ use Rattle.yq_scalar.specs.PlainText.{begins_marker}
 use Rattle.yq_inline.specs.Alike.{fresh}
 use Rattle.yq_inline.specs.Collections.{CollPieces}
 use Rattle.yq_inline.specs.Entries.{EntryPieces, item_at}
-use Rattle.yq_flow.specs.FlowEdits.{FlowEdit, appending, appending_first, appending_last, behind_last, is_none}
+use Rattle.yq_flow.specs.FlowEdits.{FlowEdit, appending, behind_last}
 use Rattle.yq_flow.specs.FlowPlaces.{place_edit}
 use Rattle.yq_inline.specs.Nodes.{Key, Sep, last, comma, Node, Items, none, item, is_close, items_text, key_text, node_text, sep_text}
 use Rattle.yq_flow.specs.Removals.{before_next, behind_item, comma_left, ends_marked, gap_of, last_gone, last_out, last_removed, next_text, removing_from, space_to}
@@ -60,17 +60,13 @@ place_moved front u more e f same within =
 
 -- ---- what is put into a collection
 
-last_more : (k : ℕ) (is : Items) (rest more : List ℕ) → behind_last k is (rest ++ more) ≡ behind_last k is rest ++ more
-last_more k none rest more = refl
-last_more k (item key n sep none) rest more = sep_append sep (k ∷ rest) more
-last_more k (item key n sep (item key2 n2 sep2 is)) rest more = last_more k (item key2 n2 sep2 is) rest more
+last_more : (k : ℕ) (gap : List ℕ) (is : Items) (rest more : List ℕ) → behind_last k gap is (rest ++ more) ≡ behind_last k gap is rest ++ more
+last_more k gap none rest more = sym (append_assoc gap (k ∷ rest) more)
+last_more k gap (item key n sep none) rest more = sep_append sep (k ∷ rest) more
+last_more k gap (item key n sep (item key2 n2 sep2 is)) rest more = last_more k gap (item key2 n2 sep2 is) rest more
 
 pub appending_more : (key : Key) (m : Node) (more : List ℕ) (w : CollPieces) → SameEdit more (appending key m (with_more more w)) (appending key m w)
-appending_more key m more w = go (is_none w.items)
-  where
-    go : (b : Bool) → SameEdit more (cond b (appending_first key m (with_more more w)) (appending_last key m (with_more more w))) (cond b (appending_first key m w) (appending_last key m w))
-    go true = record { old = refl; lead = refl; behind = sym (append_assoc w.gap (w.close ∷ w.rest) more) }
-    go false = record { old = refl; lead = refl; behind = last_more w.close w.items w.rest more }
+appending_more key m more w = record { old = refl; lead = refl; behind = last_more w.close w.gap w.items w.rest more }
 
 -- ---- what is taken out of a collection
 

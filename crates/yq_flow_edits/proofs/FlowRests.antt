@@ -1,15 +1,14 @@
 -- What stands behind an edit of a flow collection is no less than what stands behind the node in which the collection is.
 use Rattle.std.proofs.Common.{◌≡◌, ℕ, ◌≤◌, Bool, true, false, cond, List, ◌∷◌, [], length, Option, Some, None, option_and_then, refl, subst, arith}
-use Rattle.std.proofs.lemmas.Bool.{cond_both}
 use Rattle.std.proofs.lemmas.List.{length-append}
 use Rattle.std.proofs.lemmas.Option.{none-some, same_Some}
 use Rattle.yq_scalar.specs.Paths.{Step, is_here, further}
-use Rattle.yq_inline.specs.Nodes.{Node, empty, alias, scalar, coll, anchored, Key, Items, none, item, sep_text, items_text}
+use Rattle.yq_inline.specs.Nodes.{Node, empty, alias, scalar, coll, anchored, Items, none, item, sep_text, items_text}
 use Rattle.yq_inline.specs.Collections.{CollPieces, coll_in, coll_along}
 use Rattle.yq_inline.specs.Entries.{EntryPieces, item_at, inside}
 use Rattle.yq_inline.specs.Trees.{inner, key_content}
 use Rattle.yq_inline.proofs.NodeAgain.{sep_longer, items_longer}
-use Rattle.yq_flow.specs.FlowEdits.{FlowEdit, is_none, behind_last, appending, appending_first, appending_last}
+use Rattle.yq_flow.specs.FlowEdits.{behind_last}
 
 -- ---- items and collections
 
@@ -45,12 +44,7 @@ along_rest (s ∷ ss) node rest w e = go (λ n r. along_rest ss n r w) (inside s
 
 -- ---- edits
 
-last_rest : (k : ℕ) (is : Items) (rest : List ℕ) → length rest ≤ length (behind_last k is rest)
-last_rest k none rest = omega arith
-last_rest k (item j n sep none) rest = omega (arith, sep_longer sep (k ∷ rest))
-last_rest k (item j n sep (item j2 n2 sep2 is)) rest = last_rest k (item j2 n2 sep2 is) rest
-
-pub appended_rest : (key : Key) (m : Node) (w : CollPieces) → length w.rest ≤ length (appending key m w).behind
-appended_rest key m w =
-    cond_both (is_none w.items) (appending_first key m w) (appending_last key m w) (λ (e : FlowEdit). length w.rest ≤ length e.behind)
-    (λ _. omega (arith, length-append w.gap (w.close ∷ w.rest))) (λ _. last_rest w.close w.items w.rest)
+pub last_rest : (k : ℕ) (gap : List ℕ) (is : Items) (rest : List ℕ) → length rest ≤ length (behind_last k gap is rest)
+last_rest k gap none rest = omega (arith, length-append gap (k ∷ rest))
+last_rest k gap (item j n sep none) rest = omega (arith, sep_longer sep (k ∷ rest))
+last_rest k gap (item j n sep (item j2 n2 sep2 is)) rest = last_rest k gap (item j2 n2 sep2 is) rest
