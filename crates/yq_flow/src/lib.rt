@@ -11,5 +11,5 @@ pub use flow_laws::{
     scalar_spells_in_flow,
 };
 pub use flow_place::{EditPlace, append_place, replace_place};
-pub use removal::remove_place;
+pub use removal::{behind, remove_place};
 pub use write::{push_scalar, write_entry, write_inline};

@@ -12,7 +12,7 @@ use yq_scalar::Piece;
 use yq_scalar::plain_text::begins_marker;
 
 /// What stands behind so many bytes.
-fn behind(text: &[u8], at: usize) -> &[u8]
+pub fn behind(text: &[u8], at: usize) -> &[u8]
     ensures { result.now ≡ drop at text.now }
 {
     if at <= text.len() {

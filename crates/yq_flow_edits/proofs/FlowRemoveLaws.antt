@@ -1,6 +1,6 @@
 -- An item or entry taken out of a flow collection.
-use Rattle.std.proofs.Common.{arith, ◌≡◌, true, ℕ, ◌-◌, ◌≤◌, List, [], ◌∷◌, ◌++◌, length, map, Some, option_map, sym, ap, ◌∙◌, subst}
-use Rattle.std.specs.List.{slice_get}
+use Rattle.std.proofs.Common.{arith, ◌≡◌, true, ℕ, ◌-◌, ◌≤◌, List, ◌++◌, length, Some, option_map, sym, ap, ◌∙◌, subst}
+use Rattle.std.proofs.lemmas.Option.{same_Some}
 use Rattle.std.specs.Str.{IsCharBoundary}
 use Rattle.yq_scalar.specs.Characters.{pairs_returns, text_limit}
 use Rattle.yq_scalar.specs.Paths.{Step, change, remove_child, within}
@@ -33,17 +33,12 @@ use Rattle.yq_tree.specs.FlowNodes.{flow_collection}
 use Rattle.yq_tree.specs.Standings.{last_step}
 use Rattle.yq_edits.specs.EditLaws.{CarriedOut, FlowPartIsRemoved, IsEdit}
 use Rattle.yq_edits.specs.FlowParts.{flow_segments}
+use Rattle.yq_edits.proofs.DoneLaws.{nth_map}
 use Rattle.yq_flow_edits.proofs.FlowRests.{along_rest}
 use Rattle.yq_flow_edits.proofs.FlowPieceLaws.{edit_pieces, lead_piece, nothing_piece}
 use Rattle.yq_flow_edits.proofs.FlowStandings as standing
 use Rattle.yq_flow_edits.proofs.FlowSoundLaws.{remove_root, remove_sound}
 use Rattle.yq_flow_edits.proofs.FlowEditLaws.{edited_at, before_is, FlowTexts, flow_made, flow_texts, segments_old}
-
--- the document of a number among documents
-nth_document : (k : ℕ) (p : Rattle.yq_rows.specs.Rows.Part) (ps : List Rattle.yq_rows.specs.Rows.Part) (d : Document) → slice_get ps k ≡ Some p → slice_get (map reading.document_of ps) k ≡ Some d → d ≡ reading.document_of p
-nth_document k p [] d a b = absurd (cc)
-nth_document Rattle.std.proofs.Common.zero p (q ∷ ps) d a b = let same : q ≡ p = cc in let is : reading.document_of q ≡ d = cc in sym is ∙ ap reading.document_of same
-nth_document (Rattle.std.proofs.Common.suc k) p (q ∷ ps) d a b = nth_document k p ps d a b
 
 module _ (c : Cut) (doc : ℕ) (path init : List Step) (s : Step) (w : CollPieces) (e : FlowEdit) (read : read_at (cut_text c) ≡ Some c) (last : last_step path ≡ Some (init, s)) (found : flow_collection doc init c ≡ Some w) (gone : removing s w ≡ Some e) where
   abbrev at : FlowAt c doc init w
@@ -80,7 +75,7 @@ module _ (c : Cut) (doc : ℕ) (path init : List Step) (s : Step) (w : CollPiece
   removed_carried fits size =
       let old = standing.old c doc init w read found in
       let known = document_known (cut_text c) c doc at.part old in
-      let root : fits.0.root ≡ root_of at.part = ap (λ (d : Document). d.root) (nth_document doc at.part (document_parts c) fits.0 at.there fits.1) in
+      let root : fits.0.root ≡ root_of at.part = ap (λ (d : Document). d.root) (same_Some _ _ (sym fits.1 ∙ nth_map doc at.part reading.document_of (document_parts c) at.there)) in
       let n = subst (λ r. (n : Rattle.yq_scalar.specs.Tree.Node) × (Rattle.yq_scalar.specs.Paths.node_at path r ≡ Some n) × (Rattle.yq_meaning.specs.Changes.is_used_in (Rattle.yq_scalar.specs.Anchors.names_of r) (Some n) ≡ Rattle.std.proofs.Common.false)) root fits.2.1 in
       let sound : IsSoundRoot (root_of at.part) = record { unique = known.document.unique; nested = known.document.nested; bound = known.document.bound } in
       let whole = removed_whole x s e stands gone row_text.before texts.before pairs (sym row_text.old ∙ texts.old) in

@@ -135,7 +135,7 @@ entry_there c n path v h b at =
 -- ---- any node below the root
 
 -- a path that isn't the root's has a last step
-last_there : (t : Step) (ts : List Step) → (x : List Step × Step) × (last_step (t ∷ ts) ≡ Some x)
+pub last_there : (t : Step) (ts : List Step) → (x : List Step × Step) × (last_step (t ∷ ts) ≡ Some x)
 last_there t [] = (([], t), refl)
 last_there t (y ∷ ys) = let x = last_there y ys in ((t ∷ x.0.0, x.0.1), ap (option_map (λ (z : List Step × Step). (t ∷ z.0, z.1))) x.1)
 

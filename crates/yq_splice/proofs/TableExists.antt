@@ -1,10 +1,9 @@
 -- An operation that fits has its edit: where a node is, something stands.
-use Rattle.std.proofs.Common.{◌≡◌, ◌⊎◌, inl, inr, ltb, ℕ, zero, suc, Bool, true, false, cond, eqb, List, [], ◌∷◌, ◌++◌, length, Option, Some, None, option_map, refl, sym, ap, ◌∙◌, subst}
+use Rattle.std.proofs.Common.{◌≡◌, ◌⊎◌, inl, inr, ltb, ℕ, Bool, true, false, cond, eqb, List, [], ◌∷◌, length, Option, Some, None, option_map, refl, sym, ap, ◌∙◌, subst}
 use Rattle.std.proofs.lemmas.Bool.{cond-true, false≢true}
 use Rattle.std.proofs.lemmas.Option.{none-some, same_Some}
 use Rattle.std.specs.List.{slice_get}
 use Rattle.std.specs.Option.{option_or}
-use Rattle.std.specs.Prelude as prelude
 use Rattle.yq_scalar.specs.Answers.{◌>>=◌}
 use Rattle.yq_scalar.specs.BlockWritten.{break_text}
 use Rattle.yq_scalar.specs.Paths.{Step, child_at, further, is_here, node_at}
@@ -23,7 +22,7 @@ use Rattle.yq_rows.specs.Rows.{Cut, cut_text}
 use Rattle.yq_documents.specs.declared.path.Part.{Part}
 use Rattle.yq_documents.specs.declared.path.Part.TheVariants.{HeadComment, LineComment}
 use Rattle.yq_documents.specs.Documents.{Document, document_parts}
-use Rattle.yq_documents.specs.Reading.{cut_of, document_of, documents, read_at}
+use Rattle.yq_documents.specs.Reading.{cut_of, documents, read_at}
 use Rattle.yq_documents.specs.Seats.{Seat, line_has_room, seat_has_room, seat_of}
 use Rattle.yq_tree.specs.FirstBreak.{first_break}
 use Rattle.yq_tree.specs.FlowNodes.{flow_collection}
@@ -47,7 +46,9 @@ use Rattle.yq_edits.specs.Layouts.{layout_of}
 use Rattle.yq_edits.specs.ReplaceEdits.{has_text, value_put}
 use Rattle.yq_edits.specs.Replacing.{is_kept}
 use Rattle.yq_edits.proofs.DoneLaws.{read_cut}
-use Rattle.yq_flow_edits.proofs.FlowSoundLaws.{above_is}
+use Rattle.yq_flow_edits.proofs.DocumentParts as parts
+use Rattle.yq_flow_edits.proofs.FlowSoundLaws.{above_is, last_is}
+use Rattle.yq_flow_edits.proofs.StandingExists.{last_there}
 use Rattle.yq_splice.proofs.RemoveExists.{one_there}
 
 -- there is an edit
@@ -100,19 +101,13 @@ removing_there k rest s g (item key n sep (item key2 n2 sep2 (item key3 n3 sep3 
     go true again at = (_, refl)
     go false again at = let e = again at in (behind_item g key n sep e.0, ap (option_map (behind_item g key n sep)) e.1)
 
--- ---- the documents
-
--- a document of a cut is that of a part
-mapped : (n : ℕ) (ps : List rows.Part) (d : Document) → slice_get (prelude.map document_of ps) n ≡ Some d → (p : rows.Part) × (slice_get ps n ≡ Some p)
-mapped n [] d e = absurd (none-some _ e)
-mapped zero (p ∷ ps) d e = (p, refl)
-mapped (suc n) (p ∷ ps) d e = mapped n ps d e
+-- ---- where nodes are
 
 module _ (roots : RootsStand) (entries : EntriesStand) where
   -- where a node is, something stands
   stands : (n : ℕ) (steps : List Step) (c : Cut) (w : Node) → read_at (cut_text c) ≡ Some c → node_in n steps c ≡ Some w →
       ((t : Standing) × (standing_at n steps c ≡ Some t)) ⊎ ((x : FlowPart) × (flow_standing n c (last_step steps) ≡ Some x))
-  stands n [] c w read at = let d = bind_some (slice_get (documents c) n) at in let p = mapped n (document_parts c) d.0 d.1 in inl (roots n c p.0 p.1)
+  stands n [] c w read at = let d = bind_some (slice_get (documents c) n) at in let p = parts.part_of c n d.0 d.1 in inl (roots n c p.part p.there)
   stands n (s ∷ ss) c w read at = go (entries n s ss c w read at)
     where
       go : ((e : PlacedEntry) × (placed_entry n (s ∷ ss) c ≡ Some e)) ⊎ ((x : FlowPart) × (flow_standing n c (last_step (s ∷ ss)) ≡ Some x) × (has_others_at n (s ∷ ss) c ≡ ltb 1 (count (items_tree x.collection.items)))) →
@@ -163,21 +158,16 @@ module _ (roots : RootsStand) (entries : EntriesStand) where
   holds s (tree.list a cs) w e = (tree.list None tree.none, refl)
   holds s (tree.map a cs) w e = (tree.map None tree.none, refl)
 
-  last_there : (s : Step) (ss : List Step) → (init : List Step) × (last : Step) × (last_step (s ∷ ss) ≡ Some (init, last)) × (s ∷ ss ≡ init ++ (last ∷ []))
-  last_there s [] = ([], s, refl, refl)
-  last_there s (t ∷ ss) =
-      let x = last_there t ss in (s ∷ x.0, x.1, ap (option_map {U = List Step × Step} (λ (y : List Step × Step). (s ∷ y.0, y.1))) x.2, ap (λ (l : List Step). s ∷ l) x.3)
-
   sole_there : (n : ℕ) (s : Step) (ss : List Step) (c : Cut) (w : Node) → read_at (cut_text c) ≡ Some c → node_in n (s ∷ ss) c ≡ Some w → IsThere (sole_removed n c (last_step (s ∷ ss)))
   sole_there n s ss c w read at =
       let d = bind_some (slice_get (documents c) n) at in
       let x = last_there s ss in
-      let a = above_is x.0 x.1 d.0.root w (subst (λ (path : List Step). node_at path d.0.root ≡ Some w) x.3 d.2) in
-      let v = holds x.1 a.0 w a.2 in
-      let above : node_in n x.0 c ≡ Some a.0 = ap (λ (o : Option Document). o >>= λ e. node_at x.0 e.root) d.1 ∙ a.1 in
-      let r = replaced_there n x.0 v.0 c a.0 read above in (
+      let a = above_is x.0.0 x.0.1 d.0.root w (subst (λ (path : List Step). node_at path d.0.root ≡ Some w) (last_is (s ∷ ss) x.0.0 x.0.1 x.1) d.2) in
+      let v = holds x.0.1 a.0 w a.2 in
+      let above : node_in n x.0.0 c ≡ Some a.0 = ap (λ (o : Option Document). o >>= λ e. node_at x.0.0 e.root) d.1 ∙ a.1 in
+      let r = replaced_there n x.0.0 v.0 c a.0 read above in (
         r.0,
-        ap (sole_removed n c) x.2 ∙ (ap (λ (o : Option Node). o >>= emptied >>= λ u. replaced n x.0 u c) above ∙ (ap (λ (o : Option Node). o >>= λ u. replaced n x.0 u c) v.1 ∙ r.1)),
+        ap (sole_removed n c) x.1 ∙ (ap (λ (o : Option Node). o >>= emptied >>= λ u. replaced n x.0.0 u c) above ∙ (ap (λ (o : Option Node). o >>= λ u. replaced n x.0.0 u c) v.1 ∙ r.1)),
       )
 
   removed_there : (n : ℕ) (s : Step) (ss : List Step) (c : Cut) (w : Node) → read_at (cut_text c) ≡ Some c → node_in n (s ∷ ss) c ≡ Some w → IsThere (removed n (s ∷ ss) c)
