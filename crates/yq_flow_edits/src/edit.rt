@@ -64,10 +64,9 @@ pub(crate) fn bytes_at(text: &str, place: EditPlace) -> &[u8]
     ensures { result.now ≡ drop place.start (take place.end text.now) }
 {
     let bytes = text.as_bytes();
-    let front = if place.end <= bytes.len() {
-        bytes.split_at(place.end).0
+    if place.end <= bytes.len() {
+        behind(bytes.split_at(place.end).0, place.start)
     } else {
-        bytes
-    };
-    behind(front, place.start)
+        behind(bytes, place.start)
+    }
 }
