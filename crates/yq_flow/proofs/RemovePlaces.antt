@@ -207,13 +207,13 @@ part_removed d k s g (item key n sep is) rest t w b c a feed text =
     let start : entry_start (key_placed total own key, locate total n behind) ≡ total - length own = entry_placed total (record { key = key; node = n; rest = behind }) in
     let again = further_placed d k (further s) g key n sep is rest t w b c a text (λ p v e f x. part_removed d k (further s) p is rest t v e c a.4 f x) in
     let others : option_or (option_map (remove_end t (total - length own) (total - length behind)) (only_end (further s) parts)) (remove_part t (further s) parts)
-        ≡ option_map (place_edit total) (option_or (last_out k rest (further s) g key n sep is) (option_map (behind_item g key n sep) (removing_from k rest (further s) (gap_of sep) is))) =
+    ≡ option_map (place_edit total) (option_or (last_out k rest (further s) g key n sep is) (option_map (behind_item g key n sep) (removing_from k rest (further s) (gap_of sep) is))) =
     (λ i. option_or (last_placed d k (further s) g key n sep is rest t w b c a.4 feed text i) ((again ∙ same_place total g key n sep (removing_from k rest (further s) (gap_of sep) is)) i))
     ∙ or_mapped (place_edit total) (last_out k rest (further s) g key n sep is) (option_map (behind_item g key n sep) (removing_from k rest (further s) (gap_of sep) is)) in
     (λ i. cond (is_here s (inner (key_tree total own key i))) (option_map (remove_before t (start i)) (first_start parts)) (option_or (option_map (remove_end t (start i) (end_placed total n behind i)) (only_end (further s) parts)) (remove_part t (further s) parts)))
     ∙ elim (is_here s (inner (key_content key)))
     as (λ v. cond v (option_map (remove_before t (total - length own)) (first_start parts)) (option_or (option_map (remove_end t (total - length own) (total - length behind)) (only_end (further s) parts)) (remove_part t (further s) parts))
-        ≡ option_map (place_edit total) (cond v (before_next k rest g key n sep is) (option_or (last_out k rest (further s) g key n sep is) (option_map (behind_item g key n sep) (removing_from k rest (further s) (gap_of sep) is)))))
+    ≡ option_map (place_edit total) (cond v (before_next k rest g key n sep is) (option_or (last_out k rest (further s) g key n sep is) (option_map (behind_item g key n sep) (removing_from k rest (further s) (gap_of sep) is)))))
     [ true ↦ next_placed k g key n sep is rest t w b feed text | false ↦ others ]
 
 -- ---- in a node

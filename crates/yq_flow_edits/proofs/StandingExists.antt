@@ -112,8 +112,7 @@ part_there c n path v h y found =
     let g : EntryPieces → FlowPart = λ z. record { step = h.step; collection = w.0; part = z } in
     let others : has_others_at n path c ≡ ltb 1 (count (children_of h.old)) =
     ap (λ p. has_others_at n p c) (last_is path h.init h.step h.last)
-    ∙ ((λ i. has_several (slice_get (documents c) n >>= λ (d : Document). node_at (take_init h.init h.step i) d.root)) ∙ ap has_several h.node) in
-    (
+    ∙ ((λ i. has_several (slice_get (documents c) n >>= λ (d : Document). node_at (take_init h.init h.step i) d.root)) ∙ ap has_several h.node) in (
       g item.0,
       ap (flow_standing n c) h.last ∙ (ap (λ (o : Option CollPieces). o >>= flow_part h.step) w.1 ∙ ap (option_map g) item.1),
       others ∙ ap (λ cs. ltb 1 (count cs)) (x.2 ∙ sym (ap (λ (z : Held). z.1) w.2)),
