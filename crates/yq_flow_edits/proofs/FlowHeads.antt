@@ -17,7 +17,7 @@ use Rattle.yq_inline.proofs.PathLaws.{items_hold}
 use Rattle.yq_tree.specs.FlowTold.{IsTold, TellsFlow, behind_anchor, collection_told, placed_collection}
 use Rattle.yq_tree.specs.declared.places.flow_node.FlowHead.{FlowHead}
 use Rattle.yq_flow_edits.specs.EditPlaces.{moved_on}
-use Rattle.yq_flow_edits.proofs.FlowLonger.{SameEdit, entry_more, item_more, place_moved, with_more}
+use Rattle.yq_flow_edits.proofs.FlowLonger.{edit_more, entry_more, item_more, place_moved, with_more}
 use Rattle.yq_flow_edits.proofs.FlowWholeLaws.{StandsBefore, appended_stands, replaced_stands}
 
 -- ---- lengths
@@ -85,10 +85,10 @@ module _ (t : List ℕ) (w : CollPieces) (x : FlowHead) (h : IsTold t w x) where
   told_is = h.found ∙ ap (λ v. Some (placed_collection (length row) v)) (sym h.coll_is)
 
   -- an edit in the text
-  pub in_text : (e f : FlowEdit) → SameEdit h.behind e f → length (f.old ++ f.behind) ≤ length (node_text h.at.node h.at.rest) → place_edit (length t) e ≡ moved_on x.before (place_edit (length row) f)
+  pub in_text : (e f : FlowEdit) → e ≡ edit_more h.behind f → length (f.old ++ f.behind) ≤ length (node_text h.at.node h.at.rest) → place_edit (length t) e ≡ moved_on x.before (place_edit (length row) f)
   in_text e f same within =
-      (λ i. place_edit (length (h.text i)) e)
-      ∙ (place_moved h.front row h.behind e f same (subst (λ (l : List ℕ). length (f.old ++ f.behind) ≤ length l) (sym h.node_is) within)
+      (λ i. place_edit (length (h.text i)) (same i))
+      ∙ (place_moved h.front row h.behind f (subst (λ (l : List ℕ). length (f.old ++ f.behind) ≤ length l) (sym h.node_is) within)
       ∙ ap (λ (n : ℕ). moved_on n (place_edit (length row) f)) (sym h.before))
 
   -- an item or entry in the row alone, and in the text

@@ -41,22 +41,17 @@ item_more k s (item key n sep is) rest more = go (is_here s (inner (key_content 
 
 -- ---- the same edit before a longer rest
 
--- Edits whose bytes are the same, before a rest and before a longer one.
-pub record SameEdit (more : List ℕ) (e f : FlowEdit) : Type 0 where
-  pub old : e.old ≡ f.old
-  pub lead : e.lead ≡ f.lead
-  pub behind : e.behind ≡ f.behind ++ more
+-- the edit before a longer rest
+abbrev pub edit_more : List ℕ → FlowEdit → FlowEdit
+edit_more more e = record { gap = e.gap; items = e.items; old = e.old; lead = e.lead; written = e.written; behind = e.behind ++ more }
 
-pub place_moved : (front u more : List ℕ) (e f : FlowEdit) → SameEdit more e f → length (f.old ++ f.behind) ≤ length u → place_edit (length (front ++ (u ++ more))) e ≡ moved_on (length front) (place_edit (length u) f)
-place_moved front u more e f same within =
+pub place_moved : (front u more : List ℕ) (f : FlowEdit) → length (f.old ++ f.behind) ≤ length u → place_edit (length (front ++ (u ++ more))) (edit_more more f) ≡ moved_on (length front) (place_edit (length u) f)
+place_moved front u more f within =
     let total : length (front ++ (u ++ more)) ≡ length front + (length u + length more) = omega (arith, length-append front (u ++ more), length-append u more) in
-    let all : length (e.old ++ e.behind) ≡ length (f.old ++ f.behind) + length more =
-    omega (arith, ap length same.old, ap length same.behind, length-append e.old e.behind, length-append f.old f.behind, length-append f.behind more) in
-    let behind : length e.behind ≡ length f.behind + length more = omega (arith, ap length same.behind, length-append f.behind more) in
-    let size : length f.behind ≤ length u = omega (arith, within, length-append f.old f.behind) in
-    let start : length (front ++ (u ++ more)) - length (e.old ++ e.behind) ≡ length front + (length u - length (f.old ++ f.behind)) = omega (arith, total, all, within) in
-    let end_ : length (front ++ (u ++ more)) - length e.behind ≡ length front + (length u - length f.behind) = omega (arith, total, behind, size) in
-    λ i. record { start = start i; end = end_ i; lead = same.lead i }
+    let all : length (f.old ++ (f.behind ++ more)) ≡ length (f.old ++ f.behind) + length more = omega (arith, length-append f.old (f.behind ++ more), length-append f.old f.behind, length-append f.behind more) in
+    let start : length (front ++ (u ++ more)) - length (f.old ++ (f.behind ++ more)) ≡ length front + (length u - length (f.old ++ f.behind)) = omega (arith, total, all, within) in
+    let end_ : length (front ++ (u ++ more)) - length (f.behind ++ more) ≡ length front + (length u - length f.behind) = omega (arith, total, within, length-append f.old f.behind, length-append f.behind more) in
+    λ i. record { start = start i; end = end_ i; lead = f.lead }
 
 -- ---- what is put into a collection
 
@@ -65,8 +60,8 @@ last_more k gap none rest more = sym (append_assoc gap (k ∷ rest) more)
 last_more k gap (item key n sep none) rest more = sep_append sep (k ∷ rest) more
 last_more k gap (item key n sep (item key2 n2 sep2 is)) rest more = last_more k gap (item key2 n2 sep2 is) rest more
 
-pub appending_more : (key : Key) (m : Node) (more : List ℕ) (w : CollPieces) → SameEdit more (appending key m (with_more more w)) (appending key m w)
-appending_more key m more w = record { old = refl; lead = refl; behind = last_more w.close w.gap w.items w.rest more }
+pub appending_more : (key : Key) (m : Node) (more : List ℕ) (w : CollPieces) → appending key m (with_more more w) ≡ edit_more more (appending key m w)
+appending_more key m more w = ap (λ (l : List ℕ). record (appending key m w) { behind = l }) (last_more w.close w.gap w.items w.rest more)
 
 -- ---- what is taken out of a collection
 
@@ -124,10 +119,6 @@ space_more k g is rest more c =
     let h = items_close k is in
     ap (λ (b : Bool). cond (fresh false g && b) (32 ∷ []) [])
     (ap begins_marker (h.1 (rest ++ more)) ∙ (marker_more h.0 (rest ++ more) rest k c ∙ sym (ap begins_marker (h.1 rest))))
-
--- the edit before a longer rest
-abbrev pub edit_more : List ℕ → FlowEdit → FlowEdit
-edit_more more e = record { gap = e.gap; items = e.items; old = e.old; lead = e.lead; written = e.written; behind = e.behind ++ more }
 
 next_more : (k : ℕ) (g : List ℕ) (key : Key) (n : Node) (sep : Sep) (is : Items) (rest more : List ℕ) → is_close k ≡ true → before_next k (rest ++ more) g key n sep is ≡ option_map (edit_more more) (before_next k rest g key n sep is)
 next_more k g key n sep none rest more c = refl

@@ -104,7 +104,7 @@ module _ (c : Cut) (n : ℕ) (path init : List Step) (s : Step) (x : FlowHead) (
       let place : replace_place (locate_entry (length row) y).1 ≡ place_edit (length row) alone =
       subst (λ (l : List ℕ). replace_place (locate (length l) y.node y.rest) ≡ place_edit (length l) alone) (sym f.told.node_is) (replace_found f.told.at f.told.stands s y (m c n path v f.read a) at) in
       let w =
-      edit_found c n init x q f edit alone t.before whole (place_edit (length row) alone) (record { old = refl; lead = refl; behind = refl }) (replaced_within f.told.at f.told.stands s y (m c n path v f.read a) at)
+      edit_found c n init x q f edit alone t.before whole (place_edit (length row) alone) refl (replaced_within f.told.at f.told.stands s y (m c n path v f.read a) at)
       (bounds c n path v f.read a) t.text refl all in
       subst (ContentFound c (option_map (flow_put (cut_text c) v) (flow_standing n c (last_step path))) x v whole) (sym place) (record {
         lies = w.lies;

@@ -53,7 +53,7 @@ module _ (c : Cut) (n : ℕ) (path init : List Step) (s : Step) (x : FlowHead) (
           let gone : removing s f.coll ≡ Some (edit_more f.told.behind e) = all_is ∙ ap (option_map (edit_more f.told.behind)) at in
           let b = texts c n path init s f.coll (edit_more f.told.behind e) f.read (sym last) f.found gone in
           let w =
-          edit_found c n init x q f (edit_more f.told.behind e) e b.before whole p (record { old = refl; lead = refl; behind = refl }) (removed_within f.told.at f.told.stands s e at)
+          edit_found c n init x q f (edit_more f.told.behind e) e b.before whole p refl (removed_within f.told.at f.told.stands s e at)
           (bounds c n path init s f.coll (edit_more f.told.behind e) f.read (sym last) f.found gone) b.old (same_Some _ _ (is ∙ (place_is ∙ ap (option_map (place_edit (length row))) at))) all in
           record {
             lies = w.lies;
