@@ -1,13 +1,14 @@
 -- Where an item or entry stands among others, and what ends it.
-use Rattle.std.proofs.Common.{◌≡◌, ℕ, Bool, true, false, cond, List, [], ◌∷◌, ◌++◌, Some, refl, sym, ap, ◌∙◌, subst, append_assoc}
+use Rattle.std.proofs.Common.{◌≡◌, ℕ, ◌≤◌, length, arith, length-append, Bool, true, false, cond, List, [], ◌∷◌, ◌++◌, Some, refl, sym, ap, ◌∙◌, subst, append_assoc}
 use Rattle.std.proofs.lemmas.Bool.{false≢true}
-use Rattle.std.proofs.lemmas.Option.{same_Some}
+use Rattle.std.proofs.lemmas.Option.{none-some, same_Some}
 use Rattle.yq_scalar.specs.Paths.{Step, is_here, further}
 use Rattle.yq_inline.specs.Alike.{EndsItem}
 use Rattle.yq_inline.specs.Entries.{EntryPieces, item_at, pieces_text}
 use Rattle.yq_flow.specs.FlowEdits.{FitsItem, behind_last, is_none}
 use Rattle.yq_inline.specs.Nodes.{Items, none, item, key_text, sep_text, node_text, items_text, AreItems}
 use Rattle.yq_inline.specs.Trees.{inner, key_content}
+use Rattle.yq_inline.proofs.NodeAgain.{items_longer, sep_longer}
 use Rattle.yq_inline.proofs.NodeKeeps.{sep_ends}
 use Rattle.yq_flow.proofs.ItemSwaps.{item_cut}
 
@@ -49,3 +50,18 @@ last_behind d k gap (item key n sep (item key2 n2 sep2 is)) rest some a =
     let more = last_behind d k gap (item key2 n2 sep2 is) rest refl a.4 in
     let tail : List ℕ = items_text k (item key2 n2 sep2 is) rest in
     (more.0, more.1, further_behind d k (key_text key (node_text n (sep_text sep tail))) tail (key_text key (node_text n (sep_text sep []))) more.0 (item_cut key n sep tail) more.2)
+
+-- ---- what stands behind is no less than what stands behind the closing bracket
+
+pub item_rest : (k : ℕ) (s : Step) (is : Items) (rest : List ℕ) (y : EntryPieces) → item_at k s is rest ≡ Some y → length rest ≤ length y.rest
+item_rest k s none rest y e = absurd (none-some _ e)
+item_rest k s (item key n sep is) rest y e = go (item_rest k (further s) is rest y) (is_here s (inner (key_content key))) e
+  where
+    go : (item_at k (further s) is rest ≡ Some y → length rest ≤ length y.rest) → (b : Bool) → cond b (Some (record { key = key; node = n; rest = sep_text sep (items_text k is rest) })) (item_at k (further s) is rest) ≡ Some y → length rest ≤ length y.rest
+    go again true e = subst (λ (z : EntryPieces). length rest ≤ length z.rest) (same_Some _ _ e) (omega (arith, sep_longer sep (items_text k is rest), items_longer k is rest))
+    go again false e = again e
+
+pub last_rest : (k : ℕ) (gap : List ℕ) (is : Items) (rest : List ℕ) → length rest ≤ length (behind_last k gap is rest)
+last_rest k gap none rest = omega (arith, length-append gap (k ∷ rest))
+last_rest k gap (item j n sep none) rest = omega (arith, sep_longer sep (k ∷ rest))
+last_rest k gap (item j n sep (item j2 n2 sep2 is)) rest = last_rest k gap (item j2 n2 sep2 is) rest

@@ -23,7 +23,7 @@ use Rattle.yq_tree.specs.FlowNodes.{flow_collection}
 use Rattle.yq_documents.specs.Reading as reading
 use Rattle.yq_documents.specs.Reading.{documents, read_at, root_of}
 use Rattle.yq_documents.specs.TreeEdits.{new_label}
-use Rattle.yq_change.specs.FlowRows.{behind_node, FlowAt}
+use Rattle.yq_change.specs.FlowRows.{FlowAt}
 use Rattle.yq_change.specs.SoundRoots.{IsNewKey, IsNewValue, IsSoundRoot}
 use Rattle.yq_change.specs.TextPieces.{IsPiece}
 use Rattle.yq_change.proofs.FlowKeptLaws.{flow_keys}
@@ -36,7 +36,7 @@ use Rattle.yq_script.specs.Script.{new_text}
 use Rattle.yq_edits.specs.EditLaws.{CarriedOut, FlowMoreIsPut, IsEdit}
 use Rattle.yq_edits.specs.FlowParts.{flow_segments, takes_key}
 use Rattle.yq_edits.specs.Operands.{KeyIsUtf8}
-use Rattle.yq_flow_edits.proofs.FlowRests.{along_rest, last_rest}
+use Rattle.yq_flow.proofs.ItemPlaces.{last_rest}
 use Rattle.yq_edits.proofs.DoneLaws.{nth_map}
 use Rattle.yq_edits.proofs.FitLaws.{new_key, new_value, tree_unique}
 use Rattle.yq_flow_edits.proofs.FlowPieceLaws.{edit_pieces, nothing_piece}
@@ -119,7 +119,7 @@ module _ (c : Cut) (doc : ℕ) (steps : List Step) (key : Option (List ℕ)) (v 
             (key_piece (eqb w.close 125) (new_label key) (node_text (flow_of v) []) (label_is w.close key u takes) (flow_piece v h), (parts.1, tt)),
           ),
         );
-        stays = omega (arith, along_rest at.rest at.row.node (behind_node c doc at.part at.row) w at.at.along, last_rest w.close w.gap w.items w.rest);
+        stays = omega (arith, (around_is x stands).longer, last_rest w.close w.gap w.items w.rest);
       }) size
 
 -- Append: one more item or entry, where the collection takes it.

@@ -10,6 +10,7 @@ use Rattle.yq_flow.specs.FlowPlaces.{place_edit}
 use Rattle.yq_inline.specs.Nodes.{node_text}
 use Rattle.yq_inline.specs.Places.{locate}
 use Rattle.yq_flow.specs.Removals.{removing}
+use Rattle.yq_flow.proofs.EditLaws.{around_is}
 use Rattle.yq_flow.proofs.EditSpans.{remove_spans}
 use Rattle.yq_flow.proofs.RemoveLaws.{removed, removed_whole}
 use Rattle.yq_flow.proofs.RemovePlaces.{remove_placed}
@@ -34,7 +35,6 @@ use Rattle.yq_tree.specs.Standings.{last_step}
 use Rattle.yq_edits.specs.EditLaws.{CarriedOut, FlowPartIsRemoved, IsEdit}
 use Rattle.yq_edits.specs.FlowParts.{flow_segments}
 use Rattle.yq_edits.proofs.DoneLaws.{nth_map}
-use Rattle.yq_flow_edits.proofs.FlowRests.{along_rest}
 use Rattle.yq_flow_edits.proofs.FlowPieceLaws.{edit_pieces, lead_piece, nothing_piece}
 use Rattle.yq_flow_edits.proofs.FlowStandings as standing
 use Rattle.yq_flow_edits.proofs.FlowSoundLaws.{remove_root, remove_sound}
@@ -89,7 +89,7 @@ module _ (c : Cut) (doc : ℕ) (path init : List Step) (s : Step) (w : CollPiece
           subst IsPiece (sym (before_is (cut_text c) texts.before (e.old ++ e.behind) texts.old)) parts.0,
           (lead_piece e.lead bytes.lead, (subst IsPiece (sym bytes.none_written) nothing_piece, (parts.1, tt))),
         );
-        stays = omega (arith, along_rest at.rest at.row.node (behind_node c doc at.part at.row) w at.at.along, bytes.longer);
+        stays = omega (arith, (around_is x stands).longer, bytes.longer);
       }) size
 
 -- Remove: an item or entry with the comma and the white space that go with it.
