@@ -4,6 +4,7 @@ use Rattle.std.proofs.Math.Bool.{and-false}
 use Rattle.std.proofs.lemmas.Bool.{false≢true, or_right, not-true, or_parts}
 use Rattle.std.proofs.lemmas.Option.{same_Some}
 use Rattle.yq_scalar.specs.Paths.{Step, is_here, further, change_child, append_child}
+use Rattle.yq_scalar.specs.PlainText.{begins_marker}
 use Rattle.yq_scalar.specs.Text.{front, is_white, is_feed, is_return, is_space, is_marker, separates}
 use Rattle.yq_scalar.proofs.Bools.{at_byte}
 use Rattle.yq_inline.specs.Alike.{Alike, stop, EndsItem, fresh, KeepsApart}
@@ -14,7 +15,7 @@ use Rattle.yq_flow.specs.FlowEdits.{Becomes, content_node, space_for, put_conten
 use Rattle.yq_flow.specs.Removals.{is_marks, ends_marked, ends_return, IsApartFrom}
 use Rattle.yq_inline.specs.Scalars.{begins_scalar}
 use Rattle.yq_inline.specs.Trees.{inner, key_content, tree_of, items_tree}
-use Rattle.yq_inline.proofs.Alikes.{no_second, no_third, alike_append}
+use Rattle.yq_inline.proofs.Alikes.{no_first, no_second, no_third, alike_append}
 use Rattle.yq_inline.proofs.AlikePieces.{gap_alike}
 use Rattle.yq_flow.proofs.ItemSwaps.{item_cut}
 use Rattle.yq_inline.proofs.EndLaws.{ends_by}
@@ -139,6 +140,29 @@ pub record Unmarked (u : List ℕ) : Type 0 where
 pub ends_mark : (k : ℕ) (t : List ℕ) → is_close k ≡ true → EndsItem k t → Unmarked t
 ends_mark k t c e = ends_by Unmarked k t c e (λ r. record { dash = refl; dot = refl }) (λ r. record { dash = refl; dot = refl }) (λ r. record { dash = refl; dot = refl })
     (λ b r s. record { dash = at_byte (λ x. is_space (x ∷ r)) b 45 s refl; dot = at_byte (λ x. is_space (x ∷ r)) b 46 s refl })
+
+-- no document marker is in front
+pub marker_append : (t rest : List ℕ) → begins_marker t ≡ false → Unmarked rest → is_marker (t ++ rest) ≡ false
+marker_append [] [] h m = refl
+marker_append [] (b ∷ rest) h m = no_first b rest m.dash m.dot
+marker_append (a ∷ []) [] h m = refl
+marker_append (a ∷ []) (b ∷ rest) h m = no_second a b rest m.dash m.dot
+marker_append (a ∷ b ∷ []) [] h m = refl
+marker_append (a ∷ b ∷ []) (c ∷ rest) h m = no_third a b c rest m.dash m.dot
+marker_append (a ∷ b ∷ c ∷ t) rest h m = rw h refl
+
+-- whether a marker is in front is told by a text before what begins with neither
+pub marks_own : (t rest : List ℕ) → Unmarked rest → begins_marker (t ++ rest) ≡ begins_marker t
+marks_own [] [] m = refl
+marks_own [] (a ∷ []) m = refl
+marks_own [] (a ∷ b ∷ []) m = refl
+marks_own [] (a ∷ b ∷ c ∷ rest) m = rw (m.dash, m.dot) refl
+marks_own (a ∷ []) [] m = refl
+marks_own (a ∷ []) (b ∷ []) m = refl
+marks_own (a ∷ []) (b ∷ c ∷ rest) m = rw (m.dash, m.dot, and-false (eqb a 45), and-false (eqb a 46)) refl
+marks_own (a ∷ b ∷ []) [] m = refl
+marks_own (a ∷ b ∷ []) (c ∷ rest) m = rw (m.dash, m.dot, and-false (eqb a 45 && eqb b 45), and-false (eqb a 46 && eqb b 46)) refl
+marks_own (a ∷ b ∷ c ∷ t) rest m = refl
 
 byte_on : (b : ℕ) (t u : List ℕ) → (is_return b && front is_feed u) ≡ false → is_space (b ∷ t) ≡ false → is_space (b ∷ u) ≡ false
 byte_on b t u r h = let x = or_parts (is_white b) (is_feed b || (is_return b && front is_feed t)) h in let y = or_parts (is_feed b) (is_return b && front is_feed t) x.1 in rw (x.0, y.0, r) refl

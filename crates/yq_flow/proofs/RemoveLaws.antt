@@ -23,7 +23,7 @@ use Rattle.yq_inline.proofs.NodeKeeps.{sep_ends, key_text_alike, node_text_alike
 use Rattle.yq_flow.specs.FlowEdits.{FlowEdit, IsEdited}
 use Rattle.yq_flow.specs.Removals.{IsApartFrom, before_next, behind_item, comma_left, ends_marked, ends_return, gap_of, gap_to, last_gone, last_out, last_removed, removing, removing_from}
 use Rattle.yq_flow.proofs.EditLaws.{edited, around_is, opened}
-use Rattle.yq_flow.proofs.ItemLaws.{item_begins, item_keeps, item_some, comma_apart, comma_like, ends_mark, gap_before, keeps_from}
+use Rattle.yq_flow.proofs.ItemLaws.{item_begins, item_keeps, item_some, comma_apart, comma_like, ends_mark, gap_before, keeps_from, marker_append, Unmarked}
 use Rattle.yq_flow.proofs.ItemSwaps.{item_cut, text_cut}
 use Rattle.yq_flow.proofs.LocalLaws.{gap_new, node_no_feed, node_stops}
 use Rattle.yq_flow.proofs.RemoveTexts.{LastBytes, behind_cut, comma_new_bytes, comma_old_bytes, either, gone_bytes, made_of, removed_text, sep_front}
@@ -46,24 +46,21 @@ break_is White h = absurd (false≢true h)
 break_is Break h = refl
 break_is Comment h = absurd (false≢true h)
 
-marker_begins : (t : List ℕ) → begins_marker t ≡ false → is_marker t ≡ false
-marker_begins [] h = refl
-marker_begins (a ∷ []) h = refl
-marker_begins (a ∷ b ∷ []) h = refl
-marker_begins (a ∷ b ∷ c ∷ t) h = rw h refl
+gap_moves : (g x own u : List ℕ) → begins_node true x ≡ true → begins_node true (own ++ u) ≡ true → Unmarked u → IsGap g x → IsGap (gap_to g own) (own ++ u)
+gap_moves g x own u bx by m h = go (fresh false g && begins_marker own) refl where
+  y : List ℕ
+  y = own ++ u
 
-gap_moves : (g x y : List ℕ) → begins_node true x ≡ true → begins_node true y ≡ true → IsGap g x → IsGap (gap_to g y) y
-gap_moves g x y bx by h = go (fresh false g && begins_marker y) refl where
   at : at_break (behind Token g) ≡ fresh false g
   at = behind_fresh Token g
 
-  go : (c : Bool) → (fresh false g && begins_marker y) ≡ c → IsGap (g ++ cond c (32 ∷ []) []) y
+  go : (c : Bool) → (fresh false g && begins_marker own) ≡ c → IsGap (g ++ cond c (32 ∷ []) []) y
   go false e = subst (λ (l : List ℕ). IsGap l y) (sym (append-nil g)) (gap_new g x y bx by (rw at (unmarked (fresh false g) e)) h) where
-    unmarked : (f : Bool) → (f && begins_marker y) ≡ false → (f && is_marker y) ≡ false
-    unmarked true q = marker_begins y q
+    unmarked : (f : Bool) → (f && begins_marker own) ≡ false → (f && is_marker (own ++ u)) ≡ false
+    unmarked true q = marker_append own u q m
     unmarked false q = refl
   go true e =
-      let line : behind Token g ≡ Break = break_is (behind Token g) (at ∙ (and_parts (fresh false g) (begins_marker y) e).0) in
+      let line : behind Token g ≡ Break = break_is (behind Token g) (at ∙ (and_parts (fresh false g) (begins_marker own) e).0) in
       let last_ : behind Token (g ++ (32 ∷ [])) ≡ White = behind_append Token g 32 ∙ ap (λ s. next s 32) line in
       record {
         inside = go_append Token g 32 y (go_front Token g x (32 ∷ y) (node_no_feed x bx) h.inside) (rw line refl);
@@ -81,17 +78,21 @@ record Left (d k : ℕ) (s : Step) (g : List ℕ) (is : Items) (rest : List ℕ)
   whole : (x b : List ℕ) → x ++ (g ++ items_text k is rest) ≡ b ++ (e.old ++ e.behind) → Whole b (e.old ++ e.behind)
 
 -- up to the next one
-before_left : (d k : ℕ) (s : Step) (g : List ℕ) (key : Key) (n : Node) (sep : Sep) (is : Items) (rest : List ℕ) (e : FlowEdit) → is_here s (inner (key_content key)) ≡ true → IsGap g (items_text k (item key n sep is) rest) →
+before_left : (d k : ℕ) (s : Step) (g : List ℕ) (key : Key) (n : Node) (sep : Sep) (is : Items) (rest : List ℕ) (e : FlowEdit) → is_close k ≡ true → is_here s (inner (key_content key)) ≡ true → IsGap g (items_text k (item key n sep is) rest) →
     AreItems d k (item key n sep is) rest → before_next k rest g key n sep is ≡ Some e → Left d k s g (item key n sep is) rest e
 unfolding items_text AreItems items_tree
-before_left d k s g key n sep none rest e here gap a at = absurd (none-some _ at)
-before_left d k s g key n sep (item key2 n2 sep2 is) rest e here gap a at =
+before_left d k s g key n sep none rest e c here gap a at = absurd (none-some _ at)
+before_left d k s g key n sep (item key2 n2 sep2 is) rest e c here gap a at =
     let y : List ℕ = items_text k (item key2 n2 sep2 is) rest in
     let bx = item_begins d k key n (sep_text sep y) a.0 a.1 a.2 in
-    let by = item_begins d k key2 n2 (sep_text sep2 (items_text k is rest)) a.4.0 a.4.1 a.4.2 in
+    let u : List ℕ = sep_text sep2 (items_text k is rest) in
+    let own : List ℕ = key_text key2 (node_text n2 []) in
+    let cut : y ≡ own ++ u = text_cut key2 n2 u in
+    let by = subst (λ (l : List ℕ). begins_node true l ≡ true) cut (item_begins d k key2 n2 u a.4.0 a.4.1 a.4.2) in
+    let moved = gap_moves g (key_text key (node_text n (sep_text sep y))) own u bx by (ends_mark k u c (sep_ends k sep2 (items_text k is rest) a.4.3)) gap in
     subst (Left d k s g (item key n sep (item key2 n2 sep2 is)) rest) (same_Some _ _ at) (record {
       are = a.4;
-      gap = gap_moves g (key_text key (node_text n (sep_text sep y))) y bx by gap;
+      gap = subst (IsGap (gap_to g own)) (sym cut) moved;
       tree = rw here refl;
       whole = λ x b same. whole_front b (key_text key (node_text n (sep_text sep [])) ++ y) (ap (front is_feed) (sym (item_cut key n sep y)) ∙ node_no_feed (key_text key (node_text n (sep_text sep y))) bx);
     })
@@ -193,7 +194,7 @@ left d k s g (item key n sep is) rest e c pairs gap a at = go (is_here s (inner 
 
   go : (b : Bool) → is_here s (inner (key_content key)) ≡ b → ((x : FlowEdit) → pairs_returns (items_text k is rest) ≡ true → IsGap (gap_of sep) (items_text k is rest) → removing_from k rest (further s) (gap_of sep) is ≡ Some x → Left d k (further s) (gap_of sep) is rest x) →
       cond b (before_next k rest g key n sep is) (option_or (last_out k rest (further s) g key n sep is) (option_map (behind_item g key n sep) (removing_from k rest (further s) (gap_of sep) is))) ≡ Some e → Left d k s g (item key n sep is) rest e
-  go true here again at = before_left d k s g key n sep is rest e here gap a at
+  go true here again at = before_left d k s g key n sep is rest e c here gap a at
   go false here again at = other here again (either _ _ at)
 
 -- ---- in a node

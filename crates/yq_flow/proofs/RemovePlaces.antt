@@ -19,11 +19,13 @@ use Rattle.yq_inline.specs.Trees.{inner, key_content}
 use Rattle.yq_inline.proofs.EditPlaces.{end_placed, entry_placed}
 use Rattle.yq_inline.proofs.GapLaws.{gap_append}
 use Rattle.yq_inline.proofs.NodeAgain.{item_front}
+use Rattle.yq_inline.proofs.NodeKeeps.{sep_ends}
 use Rattle.yq_inline.proofs.TreeLaws.{key_tree}
 use Rattle.yq_flow.specs.FlowEdits.{FlowEdit}
 use Rattle.yq_flow.specs.FlowPlaces.{PlacedEdit, behind_feed, first_start, marks_before, only_end, past_gap, place_edit, remove_before, remove_end, remove_part, remove_place, space_at}
 use Rattle.yq_flow.specs.Removals.{before_next, behind_item, comma_left, ends_marked, gap_of, last_gone, last_out, last_removed, removing, removing_from, space_to}
 use Rattle.yq_flow.proofs.CollLaws.{coll_stands}
+use Rattle.yq_flow.proofs.ItemLaws.{Unmarked, ends_mark, marks_own}
 use Rattle.yq_flow.proofs.ItemSwaps.{item_cut, text_cut}
 use Rattle.yq_flow.proofs.Marks.{line_behind, marks_are}
 use Rattle.yq_flow.proofs.RemoveTexts.{comma_new_bytes, comma_old_bytes, gone_bytes}
@@ -37,26 +39,32 @@ drop_end t v x h =
     ap (λ n. drop n t) at ∙ (ap (drop (length v)) h ∙ drop-append_seam v x)
 
 -- the space
-spaced_here : (t w : List ℕ) (b : ℕ) (g front tail : List ℕ) → is_feed b ≡ false → t ≡ w ++ (b ∷ (g ++ (front ++ tail))) → space_at t (length t - length (front ++ tail)) (length t - length tail) ≡ space_to g tail
-spaced_here t w b g front tail feed is =
+spaced_here : (t w : List ℕ) (b : ℕ) (g front own u : List ℕ) → is_feed b ≡ false → Unmarked u → t ≡ w ++ (b ∷ (g ++ (front ++ (own ++ u)))) → space_at t (length t - length (front ++ (own ++ u))) (length t - length (own ++ u)) ≡ space_to g own
+spaced_here t w b g front own u feed m is =
+    let tail : List ℕ = own ++ u in
     let x : List ℕ = front ++ tail in
     let at : length t - length x ≡ suc (length w + length g) = omega (arith, ap length is, length-append w (b ∷ (g ++ x)), length-append g x) in
     let line : behind_feed t (length t - length x) ≡ fresh false g = ap (λ l. behind_feed l (length t - length x)) is ∙ (line_behind g w b x (length t - length x) at ∙ ap (λ f. fresh f g) feed) in
     let whole : t ≡ (w ++ (b ∷ (g ++ front))) ++ tail = is ∙ (ap (λ l. w ++ (b ∷ l)) (sym (append_assoc g front tail)) ∙ sym (append_assoc w (b ∷ (g ++ front)) tail)) in
-    let next : drop (length t - length tail) t ≡ tail = drop_end t (w ++ (b ∷ (g ++ front))) tail whole in
-    λ i. cond (line i && begins_marker (next i)) (32 ∷ []) []
+    let next : begins_marker (drop (length t - length tail) t) ≡ begins_marker own = ap begins_marker (drop_end t (w ++ (b ∷ (g ++ front))) tail whole) ∙ marks_own own u m in
+    λ i. cond (line i && next i) (32 ∷ []) []
 
-next_placed : (k : ℕ) (g : List ℕ) (key : Key) (n : Node) (sep : Sep) (is : Items) (rest t w : List ℕ) (b : ℕ) → is_feed b ≡ false → t ≡ w ++ (b ∷ (g ++ items_text k (item key n sep is) rest)) →
+next_placed : (d k : ℕ) (g : List ℕ) (key : Key) (n : Node) (sep : Sep) (is : Items) (rest t w : List ℕ) (b : ℕ) → is_close k ≡ true → AreItems d k is rest → is_feed b ≡ false → t ≡ w ++ (b ∷ (g ++ items_text k (item key n sep is) rest)) →
     option_map (remove_before t (length t - length (items_text k (item key n sep is) rest))) (first_start (locate_items (length t) k is rest)) ≡ option_map (place_edit (length t)) (before_next k rest g key n sep is)
-unfolding items_text locate_items
-next_placed k g key n sep none rest t w b feed text = refl
-next_placed k g key n sep (item key2 n2 sep2 is) rest t w b feed text =
-    let y : List ℕ = items_text k (item key2 n2 sep2 is) rest in
+unfolding items_text locate_items AreItems
+next_placed d k g key n sep none rest t w b c a feed text = refl
+next_placed d k g key n sep (item key2 n2 sep2 is) rest t w b c a feed text =
+    let u : List ℕ = sep_text sep2 (items_text k is rest) in
+    let y : List ℕ = key_text key2 (node_text n2 u) in
+    let own : List ℕ = key_text key2 (node_text n2 []) in
     let front : List ℕ = key_text key (node_text n (sep_text sep [])) in
     let cut : key_text key (node_text n (sep_text sep y)) ≡ front ++ y = item_cut key n sep y in
-    let start : entry_start (key_placed (length t) y key2, locate (length t) n2 (sep_text sep2 (items_text k is rest))) ≡ length t - length y = entry_placed (length t) (record { key = key2; node = n2; rest = sep_text sep2 (items_text k is rest) }) in
-    (λ i. Some (remove_before t (length t - length (cut i)) (start i)))
-    ∙ ap (λ l. Some (record { start = length t - length (front ++ y); end = length t - length y; lead = l })) (spaced_here t w b g front y feed (text ∙ ap (λ l. w ++ (b ∷ (g ++ l))) cut))
+    let own_cut : y ≡ own ++ u = text_cut key2 n2 u in
+    let start : entry_start (key_placed (length t) y key2, locate (length t) n2 u) ≡ length t - length y = entry_placed (length t) (record { key = key2; node = n2; rest = u }) in
+    let space : space_at t (length t - length (front ++ y)) (length t - length y) ≡ space_to g own =
+    (λ i. space_at t (length t - length (front ++ own_cut i)) (length t - length (own_cut i)))
+    ∙ spaced_here t w b g front own u feed (ends_mark k u c (sep_ends k sep2 (items_text k is rest) a.3)) (text ∙ ap (λ l. w ++ (b ∷ (g ++ l))) (cut ∙ ap (λ l. front ++ l) own_cut)) in
+    (λ i. Some (remove_before t (length t - length (cut i)) (start i))) ∙ ap (λ l. Some (record { start = length t - length (front ++ y); end = length t - length y; lead = l })) space
 
 -- ---- the last one
 
@@ -214,7 +222,7 @@ part_removed d k s g (item key n sep is) rest t w b c a feed text =
     ∙ elim (is_here s (inner (key_content key)))
     as (λ v. cond v (option_map (remove_before t (total - length own)) (first_start parts)) (option_or (option_map (remove_end t (total - length own) (total - length behind)) (only_end (further s) parts)) (remove_part t (further s) parts))
     ≡ option_map (place_edit total) (cond v (before_next k rest g key n sep is) (option_or (last_out k rest (further s) g key n sep is) (option_map (behind_item g key n sep) (removing_from k rest (further s) (gap_of sep) is)))))
-    [ true ↦ next_placed k g key n sep is rest t w b feed text | false ↦ others ]
+    [ true ↦ next_placed d k g key n sep is rest t w b c a.4 feed text | false ↦ others ]
 
 -- ---- in a node
 

@@ -65,15 +65,16 @@ unfolding items_text
 before_text k rest g key n sep none e at = absurd (none-some _ at)
 before_text k rest g key n sep (item key2 n2 sep2 is) e at =
     let y : List ℕ = items_text k (item key2 n2 sep2 is) rest in
+    let own : List ℕ = key_text key2 (node_text n2 []) in
     subst (RemovedText k rest g (item key n sep (item key2 n2 sep2 is))) (same_Some _ _ at) (record {
       text = record {
         before = g;
         was = ap (λ l. g ++ l) (item_cut key n sep y);
-        is = append_assoc g (space_to g y) y ∙ ap (λ l. g ++ (l ++ y)) (sym (append-nil (space_to g y)));
+        is = append_assoc g (space_to g own) y ∙ ap (λ l. g ++ (l ++ y)) (sym (append-nil (space_to g own)));
       };
       none_written = refl;
       longer = omega (arith, items_longer k (item key2 n2 sep2 is) rest);
-      lead = cond_both (fresh false g && begins_marker y) (32 ∷ []) [] (λ (l : List ℕ). (l ≡ []) ⊎ ((l ≡ 32 ∷ []) ⊎ (l ≡ 44 ∷ []))) (λ _. inr (inl refl)) (λ _. inl refl);
+      lead = cond_both (fresh false g && begins_marker own) (32 ∷ []) [] (λ (l : List ℕ). (l ≡ []) ⊎ ((l ≡ 32 ∷ []) ⊎ (l ≡ 44 ∷ []))) (λ _. inr (inl refl)) (λ _. inl refl);
     })
 
 -- from the end of one to that of the next one

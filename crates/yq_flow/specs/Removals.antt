@@ -57,8 +57,15 @@ behind_item g key n sep e = record { gap = g; items = item key n (with_gap e.gap
 abbrev pub before_next : ℕ → List ℕ → List ℕ → Key → Node → Sep → Items → Option FlowEdit
 before_next k rest g key n sep none = None
 before_next k rest g key n sep (item key2 n2 sep2 is) =
-    let next = items_text k (item key2 n2 sep2 is) rest in
-    Some (record { gap = gap_to g next; items = item key2 n2 sep2 is; old = key_text key (node_text n (sep_text sep [])); lead = space_to g next; written = []; behind = next })
+    let next = key_text key2 (node_text n2 []) in
+    Some (record {
+      gap = gap_to g next;
+      items = item key2 n2 sep2 is;
+      old = key_text key (node_text n (sep_text sep []));
+      lead = space_to g next;
+      written = [];
+      behind = items_text k (item key2 n2 sep2 is) rest;
+    })
 
 -- the text from the end of an item to that of the next one (own)
 abbrev pub next_text : Sep → Key → Node → List ℕ

@@ -1,17 +1,15 @@
 -- Edits of a flow collection in a part of a text, as edits of the text.
-use Rattle.std.proofs.Common.{◌≡◌, ℕ, ◌+◌, ◌-◌, ◌≤◌, Bool, true, false, ◌&&◌, ◌||◌, eqb, eqb-true, cond, List, [], ◌∷◌, ◌++◌, length, Option, Some, None, option_map, refl, sym, ap, ◌∙◌, subst, arith, append_assoc, length-append}
+use Rattle.std.proofs.Common.{◌≡◌, ℕ, ◌+◌, ◌-◌, ◌≤◌, Bool, true, false, cond, List, [], ◌∷◌, ◌++◌, length, Option, Some, None, option_map, refl, sym, ap, ◌∙◌, arith, append_assoc, length-append}
 use Rattle.std.specs.Option.{option_or}
 use Rattle.yq_scalar.specs.Paths.{Step, is_here, further}
-use Rattle.yq_scalar.specs.PlainText.{begins_marker}
 use Rattle.yq_inline.specs.Alike.{fresh}
 use Rattle.yq_inline.specs.Collections.{CollPieces}
 use Rattle.yq_inline.specs.Entries.{EntryPieces, item_at}
 use Rattle.yq_flow.specs.FlowEdits.{FlowEdit, appending, behind_last}
 use Rattle.yq_flow.specs.FlowPlaces.{place_edit}
-use Rattle.yq_inline.specs.Nodes.{Key, Sep, last, comma, Node, Items, none, item, is_close, items_text, key_text, node_text, sep_text}
-use Rattle.yq_flow.specs.Removals.{before_next, behind_item, comma_left, ends_marked, gap_of, last_gone, last_out, last_removed, next_text, removing_from, space_to}
+use Rattle.yq_inline.specs.Nodes.{Key, Sep, last, comma, Node, Items, none, item, items_text, key_text, node_text, sep_text}
+use Rattle.yq_flow.specs.Removals.{before_next, behind_item, comma_left, ends_marked, gap_of, gap_to, last_gone, last_out, last_removed, next_text, removing_from, space_to}
 use Rattle.yq_inline.specs.Trees.{inner, key_content}
-use Rattle.yq_flow.proofs.ItemSwaps.{item_cut}
 use Rattle.yq_flow.proofs.RemovePlaces.{or_mapped}
 use Rattle.yq_inline.proofs.WrittenLaws.{items_append, sep_append}
 use Rattle.yq_flow_edits.specs.EditPlaces.{moved_on}
@@ -65,67 +63,11 @@ appending_more key m more w = ap (λ (l : List ℕ). record (appending key m w) 
 
 -- ---- what is taken out of a collection
 
--- a closing bracket is neither a dash nor a dot
-Apart : ℕ → Type 0
-Apart k = (eqb k 45 ≡ false) × (eqb k 46 ≡ false)
-
-close_apart : (k : ℕ) → is_close k ≡ true → Apart k
-unfolding Apart
-close_apart k c = go (eqb k 93) refl c
-  where
-    go : (b : Bool) → eqb k 93 ≡ b → (b || eqb k 125) ≡ true → (eqb k 45 ≡ false) × (eqb k 46 ≡ false)
-    go true is c = subst (λ (n : ℕ). (eqb n 45 ≡ false) × (eqb n 46 ≡ false)) (sym (eqb-true k 93 is)) (refl, refl)
-    go false is c = subst (λ (n : ℕ). (eqb n 45 ≡ false) × (eqb n 46 ≡ false)) (sym (eqb-true k 125 c)) (refl, refl)
-
-and_false : (a b : Bool) → b ≡ false → (a && b) ≡ false
-and_false true b e = e
-and_false false b e = refl
-
-none_marked : (a b c : ℕ) → ((eqb a 45 && eqb b 45) && eqb c 45) ≡ false → ((eqb a 46 && eqb b 46) && eqb c 46) ≡ false → (((eqb a 45 && eqb b 45) && eqb c 45) || ((eqb a 46 && eqb b 46) && eqb c 46)) ≡ false
-none_marked a b c dash dot = λ i. dash i || dot i
-
--- whether a marker is in front is told in front of the closing bracket
-marker_more : (m r s : List ℕ) (k : ℕ) → is_close k ≡ true → begins_marker (m ++ (k ∷ r)) ≡ begins_marker (m ++ (k ∷ s))
-unfolding Apart
-marker_more [] r s k c = first r ∙ sym (first s)
-  where
-    first : (r : List ℕ) → begins_marker (k ∷ r) ≡ false
-    first [] = refl
-    first (b ∷ []) = refl
-    first (b ∷ (d ∷ r)) =
-        let h = close_apart k c in
-        none_marked k b d (ap (λ x. (x && eqb b 45) && eqb d 45) h.0) (ap (λ x. (x && eqb b 46) && eqb d 46) h.1)
-marker_more (a ∷ []) r s k c = second r ∙ sym (second s)
-  where
-    second : (r : List ℕ) → begins_marker (a ∷ (k ∷ r)) ≡ false
-    second [] = refl
-    second (d ∷ r) =
-        let h = close_apart k c in
-        none_marked a k d (ap (λ x. x && eqb d 45) (and_false (eqb a 45) (eqb k 45) h.0)) (ap (λ x. x && eqb d 46) (and_false (eqb a 46) (eqb k 46) h.1))
-marker_more (a ∷ (b ∷ [])) r s k c = refl
-marker_more (a ∷ (b ∷ (d ∷ m))) r s k c = refl
-
--- items end in their closing bracket
-items_close : (k : ℕ) (is : Items) → (m : List ℕ) × ((rest : List ℕ) → items_text k is rest ≡ m ++ (k ∷ rest))
-unfolding items_text
-items_close k none = ([], λ rest. refl)
-items_close k (item key n sep is) =
-    let h = items_close k is in
-    let front : List ℕ = key_text key (node_text n (sep_text sep [])) in
-    (front ++ h.0, λ rest. item_cut key n sep (items_text k is rest) ∙ (ap (λ l. front ++ l) (h.1 rest) ∙ sym (append_assoc front h.0 (k ∷ rest))))
-
-space_more : (k : ℕ) (g : List ℕ) (is : Items) (rest more : List ℕ) → is_close k ≡ true → space_to g (items_text k is (rest ++ more)) ≡ space_to g (items_text k is rest)
-space_more k g is rest more c =
-    let h = items_close k is in
-    ap (λ (b : Bool). cond (fresh false g && b) (32 ∷ []) [])
-    (ap begins_marker (h.1 (rest ++ more)) ∙ (marker_more h.0 (rest ++ more) rest k c ∙ sym (ap begins_marker (h.1 rest))))
-
-next_more : (k : ℕ) (g : List ℕ) (key : Key) (n : Node) (sep : Sep) (is : Items) (rest more : List ℕ) → is_close k ≡ true → before_next k (rest ++ more) g key n sep is ≡ option_map (edit_more more) (before_next k rest g key n sep is)
-next_more k g key n sep none rest more c = refl
-next_more k g key n sep (item key2 n2 sep2 is) rest more c =
-    let sp = space_more k g (item key2 n2 sep2 is) rest more c in
-    let y = items_append k (item key2 n2 sep2 is) rest more in
-    λ i. Some (record { gap = g ++ sp i; items = item key2 n2 sep2 is; old = key_text key (node_text n (sep_text sep [])); lead = sp i; written = []; behind = y i })
+next_more : (k : ℕ) (g : List ℕ) (key : Key) (n : Node) (sep : Sep) (is : Items) (rest more : List ℕ) → before_next k (rest ++ more) g key n sep is ≡ option_map (edit_more more) (before_next k rest g key n sep is)
+next_more k g key n sep none rest more = refl
+next_more k g key n sep (item key2 n2 sep2 is) rest more =
+    let own : List ℕ = key_text key2 (node_text n2 []) in
+    ap (λ (l : List ℕ). Some (record { gap = gap_to g own; items = item key2 n2 sep2 is; old = key_text key (node_text n (sep_text sep [])); lead = space_to g own; written = []; behind = l })) (items_append k (item key2 n2 sep2 is) rest more)
 
 comma_more : (k : ℕ) (g : List ℕ) (key : Key) (n : Node) (sep : Sep) (key2 : Key) (n2 : Node) (sep2 : Sep) (rest more : List ℕ) → comma_left k (rest ++ more) g key n sep key2 n2 sep2 ≡ edit_more more (comma_left k rest g key n sep key2 n2 sep2)
 comma_more k g key n sep key2 n2 (last b) rest more =
@@ -150,12 +92,12 @@ behind_more : (g : List ℕ) (key : Key) (n : Node) (sep : Sep) (more : List ℕ
 behind_more g key n sep more None = refl
 behind_more g key n sep more (Some e) = refl
 
-pub removing_more : (k : ℕ) (s : Step) (g : List ℕ) (is : Items) (rest more : List ℕ) → is_close k ≡ true → removing_from k (rest ++ more) s g is ≡ option_map (edit_more more) (removing_from k rest s g is)
-removing_more k s g none rest more c = refl
-removing_more k s g (item key n sep is) rest more c =
+pub removing_more : (k : ℕ) (s : Step) (g : List ℕ) (is : Items) (rest more : List ℕ) → removing_from k (rest ++ more) s g is ≡ option_map (edit_more more) (removing_from k rest s g is)
+removing_more k s g none rest more = refl
+removing_more k s g (item key n sep is) rest more =
     let t : Step = further s in
-    let again = ap (option_map (behind_item g key n sep)) (removing_more k t (gap_of sep) is rest more c) ∙ behind_more g key n sep more (removing_from k rest t (gap_of sep) is) in
+    let again = ap (option_map (behind_item g key n sep)) (removing_more k t (gap_of sep) is rest more) ∙ behind_more g key n sep more (removing_from k rest t (gap_of sep) is) in
     elim (is_here s (inner (key_content key)))
     as (λ b. cond b (before_next k (rest ++ more) g key n sep is) (option_or (last_out k (rest ++ more) t g key n sep is) (option_map (behind_item g key n sep) (removing_from k (rest ++ more) t (gap_of sep) is)))
     ≡ option_map (edit_more more) (cond b (before_next k rest g key n sep is) (option_or (last_out k rest t g key n sep is) (option_map (behind_item g key n sep) (removing_from k rest t (gap_of sep) is)))))
-    [ true ↦ next_more k g key n sep is rest more c | false ↦ (λ i. option_or (out_more k t g key n sep is rest more i) (again i)) ∙ or_mapped (edit_more more) (last_out k rest t g key n sep is) (option_map (behind_item g key n sep) (removing_from k rest t (gap_of sep) is)) ]
+    [ true ↦ next_more k g key n sep is rest more | false ↦ (λ i. option_or (out_more k t g key n sep is rest more i) (again i)) ∙ or_mapped (edit_more more) (last_out k rest t g key n sep is) (option_map (behind_item g key n sep) (removing_from k rest t (gap_of sep) is)) ]

@@ -8,7 +8,6 @@ use Rattle.yq_flow.specs.FlowEdits.{FlowEdit}
 use Rattle.yq_flow.specs.FlowPlaces.{PlacedEdit, place_edit, remove_place}
 use Rattle.yq_inline.specs.Places.{Placed, placed}
 use Rattle.yq_flow.specs.Removals.{removing}
-use Rattle.yq_flow.proofs.EditLaws.{around_is}
 use Rattle.yq_rows.specs.Rows.{Cut, cut_text}
 use Rattle.yq_tree.specs.FlowTold.{behind_anchor, placed_collection}
 use Rattle.yq_tree.specs.Standings.{last_step}
@@ -39,7 +38,7 @@ module _ (c : Cut) (n : ℕ) (path init : List Step) (s : Step) (x : FlowHead) (
       ∙ subst (λ (l : List ℕ). remove_place l s (placed_collection (length l) own) ≡ option_map (place_edit (length l)) (removing s own)) (sym f.told.node_is) (remove_found f.told.at f.told.stands s))
 
   all_is : removing s f.coll ≡ option_map (edit_more f.told.behind) (removing s own)
-  all_is = ap (removing s) (whole_is (cut_text c) f.coll x f.told) ∙ removing_more own.close s own.gap own.items own.rest f.told.behind (around_is f.told.at f.told.stands).closes
+  all_is = ap (removing s) (whole_is (cut_text c) f.coll x f.told) ∙ removing_more own.close s own.gap own.items own.rest f.told.behind
 
   part_is : part_removed n c (last_step path) ≡ option_map (flow_segments (cut_text c)) (removing s f.coll)
   part_is = ap (part_removed n c) (sym last) ∙ ap (λ (o : Option CollPieces). o >>= flow_removed (cut_text c) s) f.found
