@@ -9,7 +9,7 @@ use Rattle.yq_inline.specs.declared.gap.Before.{Before}
 use Rattle.yq_inline.specs.declared.gap.Before.TheVariants.{Token, White, Break, Comment}
 use Rattle.yq_inline.specs.Alike.{Alike, colon, any_colon, EndsItem}
 use Rattle.yq_inline.specs.Gaps.{behind, is_break as at_break, stops, IsGap}
-use Rattle.yq_inline.specs.Nodes.{Key, bare, keyed, Node, empty, alias, scalar, coll, anchored, key_text, node_text, first_is, begins_content, begins_node, is_close, IsName, IsKey, is_bare, is_keyed, IsNode}
+use Rattle.yq_inline.specs.Nodes.{Key, bare, keyed, Node, empty, alias, scalar, coll, anchored, key_text, node_text, first_is, begins_content, begins_node, is_close, IsName, IsKey, is_bare, is_keyed, IsNode, takes_anchor}
 use Rattle.yq_flow.specs.FlowEdits.{Becomes, content_node, space_for, put_content, anchor_in, put_value, FitsNode}
 use Rattle.yq_inline.specs.Trees.{collection, with_name, named, key_content, tree_of, items_tree}
 use Rattle.yq_inline.proofs.Alikes.{no_first, alike_append}

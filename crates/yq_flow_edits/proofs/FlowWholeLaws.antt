@@ -6,7 +6,7 @@ use Rattle.yq_scalar.specs.Text.{front, is_feed}
 use Rattle.yq_inline.specs.Collections.{CollAt, IsCollAt, item_in}
 use Rattle.yq_inline.specs.Entries.{EntryPieces, pieces_text}
 use Rattle.yq_flow.specs.FlowEdits.{behind_appended, behind_last, content_node}
-use Rattle.yq_inline.specs.Nodes.{bare, Node, empty, alias, scalar, coll, anchored, Items, none, key_text, node_text, items_text, is_close, is_bare, IsNode, open_of}
+use Rattle.yq_inline.specs.Nodes.{bare, Node, empty, alias, scalar, coll, anchored, Items, none, item, key_text, node_text, items_text, AreItems, is_close, is_bare, IsNode, open_of}
 use Rattle.yq_flow.specs.Removals.{ends_return}
 use Rattle.yq_flow.proofs.EditLaws.{Around, around_is}
 use Rattle.yq_flow.proofs.ItemLaws.{item_begins, item_some}
@@ -82,6 +82,7 @@ last_stands d k a gap (item key n sep is) rest c h =
     let y = last_behind d k gap (item key n sep is) rest refl h in
     subst (StandsBefore t) y.1 (rest_stands d k t y.0 c (further_behind d k t items (a ++ (open_of k ∷ gap)) y.0 (sym (append_assoc a (open_of k ∷ gap) items)) y.2))
 
+-- what stands from its content on
 content_stands : (d k : ℕ) (t : List ℕ) (y : EntryPieces) → is_close k ≡ true → Behind d k t y → StandsBefore t (node_text (content_node y.node) [] ++ y.rest)
 content_stands d k t y c h = go (is_bare (content_node y.node)) refl
   where
@@ -121,8 +122,6 @@ module _ (x : CollAt) (text : List ℕ) (h : IsCollAt x) where
   -- the content of an item or entry
   pub replaced_stands : (s : Step) (y : EntryPieces) → item_in s x ≡ Some y → StandsBefore t (node_text (content_node y.node) [] ++ y.rest)
   replaced_stands s y found = content_stands around.inner_depth x.coll.close t y around.closes (in_text y (item_behind around.inner_depth x.coll.close s x.coll.items x.coll.rest y around.items found))
-
-  -- in an empty collection, the bracket and what stands behind it
 
   -- what stands behind one more item or entry
   pub appended_stands : StandsBefore t (behind_appended x.coll)
