@@ -18,10 +18,10 @@ use Rattle.yq_rows.specs.Rows.{Cut, Nothing, Row, cut_text, mark_column, rows_te
 use Rattle.yq_rows.proofs.NothingLaws.{tail_apart}
 use Rattle.yq_rows.proofs.PlaceLaws.{row_front-append}
 use Rattle.yq_documents.specs.Reading.{outline_of, read_at, root_of}
-use Rattle.yq_tree.specs.RowPieces.{upto_dash}
-use Rattle.yq_tree.specs.PrintedLines.{last_break, less_break}
-use Rattle.yq_tree.specs.Standings.{Compact, PlacedEntry, compact_in, dash_text, placed_entry}
-use Rattle.yq_tree.proofs.PrintedTexts.{less_is}
+use Rattle.yq_places.specs.RowPieces.{upto_dash}
+use Rattle.yq_places.specs.PrintedLines.{last_break, less_break}
+use Rattle.yq_places.specs.Standings.{Compact, PlacedEntry, compact_in, dash_text, placed_entry}
+use Rattle.yq_places.proofs.PrintedTexts.{less_is}
 use Rattle.yq_change.specs.Appends.{inserted}
 use Rattle.yq_change.specs.Changed.{put_document}
 use Rattle.yq_change.specs.SoundRoots.{MayReplace}

@@ -16,12 +16,12 @@ use Rattle.yq_rows.proofs.PlaceLaws.{row_then}
 use Rattle.yq_walk.specs.Lines.{lines_of}
 use Rattle.yq_documents.specs.Nodes.{anchor_of}
 use Rattle.yq_documents.specs.Reading.{read_at}
-use Rattle.yq_tree.specs.RowPieces.{past_dash, upto_dash}
-use Rattle.yq_tree.specs.PrintedLines.{last_break}
-use Rattle.yq_tree.specs.Standings.{PlacedEntry, before_entry, behind_entry, dash_text, placed_entry}
-use Rattle.yq_tree.proofs.CommentPieceLaws.{Ended}
-use Rattle.yq_tree.proofs.DashLaws.{front_is, row_cut}
-use Rattle.yq_tree.proofs.RunSpans.{rows_then}
+use Rattle.yq_places.specs.RowPieces.{past_dash, upto_dash}
+use Rattle.yq_places.specs.PrintedLines.{last_break}
+use Rattle.yq_places.specs.Standings.{PlacedEntry, before_entry, behind_entry, dash_text, placed_entry}
+use Rattle.yq_places.proofs.CommentPieceLaws.{Ended}
+use Rattle.yq_places.proofs.DashLaws.{front_is, row_cut}
+use Rattle.yq_places.proofs.RunSpans.{rows_then}
 use Rattle.yq_change.specs.Siblings.{HasEntries}
 use Rattle.yq_change.specs.StandingLaws.{StandsThere}
 use Rattle.yq_change.specs.TextPieces.{IsPiece}

@@ -13,8 +13,8 @@ use Rattle.yq_rows.specs.Grammar.{IsContent, IsMark}
 use Rattle.yq_rows.specs.Rows.{Content, Row, content_text, parent_indent, print_row, rows_text, Cut}
 use Rattle.yq_rows.specs.View.{slices}
 use Rattle.yq_rows.proofs.NodeExchange.{mark_apart}
-use Rattle.yq_tree.specs.RowPieces.{anchor_before, space_before}
-use Rattle.yq_tree.specs.Standings.{Held, PlacedEntry, held}
+use Rattle.yq_places.specs.RowPieces.{anchor_before, space_before}
+use Rattle.yq_places.specs.Standings.{Held, PlacedEntry, held}
 use Rattle.yq_change.specs.DocumentRows.{behind_document}
 use Rattle.yq_change.specs.StandingLaws.{StandsThere}
 use Rattle.yq_meaning.specs.Operations.{replace}

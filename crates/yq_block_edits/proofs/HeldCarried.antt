@@ -11,7 +11,7 @@ use Rattle.yq_lines.proofs.Finding.{FoundNode, path_node}
 use Rattle.yq_rows.specs.Items.{rows_items}
 use Rattle.yq_rows.specs.Rows.{Row, print_row, rows_text, Cut, cut_text}
 use Rattle.yq_documents.specs.Reading.{outline_of, root_of}
-use Rattle.yq_tree.specs.Standings.{Held, PlacedEntry, behind_entry, held}
+use Rattle.yq_places.specs.Standings.{Held, PlacedEntry, behind_entry, held}
 use Rattle.yq_change.specs.SoundRoots.{MayReplace}
 use Rattle.yq_change.specs.StandingLaws.{StandsThere, held_text}
 use Rattle.yq_change.specs.TextPieces.{IsPiece}

@@ -16,8 +16,8 @@ use Rattle.yq_rows.specs.View.{slices}
 use Rattle.yq_walk.specs.Lines.{tail_of}
 use Rattle.yq_documents.specs.Nodes.{anchor_of}
 use Rattle.yq_documents.proofs.RowLineLaws.{tail_is}
-use Rattle.yq_tree.specs.RowPieces.{anchor_before}
-use Rattle.yq_tree.specs.Standings.{Held, PlacedEntry, held}
+use Rattle.yq_places.specs.RowPieces.{anchor_before}
+use Rattle.yq_places.specs.Standings.{Held, PlacedEntry, held}
 use Rattle.yq_change.specs.StandingLaws.{StandsThere}
 use Rattle.yq_change.proofs.StandingMarks.{entry_there}
 use Rattle.yq_block.specs.declared.layout.Layout.{Layout}

@@ -15,10 +15,10 @@ use Rattle.yq_rows.specs.Rows.{Content, Nothing, Inline, Block, Row, content_tex
 use Rattle.yq_rows.specs.Seams.{is_block}
 use Rattle.yq_rows.specs.View.{content_cut, slices}
 use Rattle.yq_rows.proofs.PlaceLaws.{row_front-append}
-use Rattle.yq_tree.specs.CommentPlaces.{LineEnd, end_before}
-use Rattle.yq_tree.specs.PrintedLines.{last_break}
-use Rattle.yq_tree.specs.RowPieces.{anchor_before}
-use Rattle.yq_tree.specs.Standings.{Held, PlacedEntry, before_entry, held}
+use Rattle.yq_places.specs.CommentPlaces.{LineEnd, end_before}
+use Rattle.yq_places.specs.PrintedLines.{last_break}
+use Rattle.yq_places.specs.RowPieces.{anchor_before}
+use Rattle.yq_places.specs.Standings.{Held, PlacedEntry, before_entry, held}
 use Rattle.yq_change.specs.StandingLaws.{StandsThere}
 use Rattle.yq_change.proofs.CoreLaws.{put_core}
 use Rattle.yq_meaning.specs.Operations.{replace}

@@ -12,7 +12,7 @@ use Rattle.yq_rows.specs.Rows.{Row, Cut, cut_text}
 use Rattle.yq_rows.specs.View.{slices}
 use Rattle.yq_walk.specs.Lines.{content_anchor}
 use Rattle.yq_documents.specs.Nodes.{anchor_of}
-use Rattle.yq_tree.specs.Standings.{PlacedEntry, held, is_alone}
+use Rattle.yq_places.specs.Standings.{PlacedEntry, held, is_alone}
 use Rattle.yq_change.specs.TextPieces.{IsPiece}
 use Rattle.yq_change.specs.StandingLaws.{HoldsPieces, StandsThere, held_text}
 use Rattle.yq_block_edits.proofs.NodeRowLaws.{rest}

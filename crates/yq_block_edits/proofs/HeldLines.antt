@@ -11,8 +11,8 @@ use Rattle.yq_rows.specs.Grammar.{IsTail}
 use Rattle.yq_rows.specs.Rows.{Content, Row, mark_column, print_row, rows_text, Cut}
 use Rattle.yq_rows.specs.Seams.{is_block}
 use Rattle.yq_rows.specs.View.{slices}
-use Rattle.yq_tree.specs.RowPieces.{anchor_before}
-use Rattle.yq_tree.specs.Standings.{Held, PlacedEntry, held}
+use Rattle.yq_places.specs.RowPieces.{anchor_before}
+use Rattle.yq_places.specs.Standings.{Held, PlacedEntry, held}
 use Rattle.yq_change.specs.StandingLaws.{StandsThere}
 use Rattle.yq_change.specs.TextPieces.{IsPiece}
 use Rattle.yq_change.proofs.RemovalPieceLaws.{spaces_piece}

@@ -23,13 +23,13 @@ use Rattle.yq_rows.proofs.CharacterLaws.{pairs_back}
 use Rattle.yq_walk.specs.Lines.{content_anchor, head_of, lines_of, mark_of, row_lines}
 use Rattle.yq_documents.specs.Nodes.{anchor_of}
 use Rattle.yq_documents.specs.Reading.{outline_of, read_at}
-use Rattle.yq_tree.specs.CommentPlaces.{LineEnd, end_before, line_text}
-use Rattle.yq_tree.specs.PrintedLines.{last_break}
-use Rattle.yq_tree.specs.Standings.{PlacedEntry, before_entry, behind_entry, held, placed_entry}
-use Rattle.yq_tree.proofs.CommentPieceLaws.{Ended}
-use Rattle.yq_tree.proofs.LastBreakLaws.{lf_last}
-use Rattle.yq_tree.proofs.LineEndLaws.{line_tail}
-use Rattle.yq_tree.proofs.RunSpans.{rows_then}
+use Rattle.yq_places.specs.CommentPlaces.{LineEnd, end_before, line_text}
+use Rattle.yq_places.specs.PrintedLines.{last_break}
+use Rattle.yq_places.specs.Standings.{PlacedEntry, before_entry, behind_entry, held, placed_entry}
+use Rattle.yq_places.proofs.CommentPieceLaws.{Ended}
+use Rattle.yq_places.proofs.LastBreakLaws.{lf_last}
+use Rattle.yq_places.proofs.LineEndLaws.{line_tail}
+use Rattle.yq_places.proofs.RunSpans.{rows_then}
 use Rattle.yq_change.specs.Siblings as siblings
 use Rattle.yq_change.specs.Siblings.{HasEntries}
 use Rattle.yq_change.specs.StandingLaws.{StandsThere}
@@ -37,9 +37,8 @@ use Rattle.yq_change.specs.TextPieces.{IsPiece}
 use Rattle.yq_change.proofs.ContentLaws.{content_named}
 use Rattle.yq_change.proofs.LineLaws.{row_count}
 use Rattle.yq_change.proofs.NodeLineLaws.{under_even}
-use Rattle.yq_change.proofs.RemovalPieceLaws.{piece_back}
 use Rattle.yq_change.proofs.StandingMarks.{even_there, row_there, under_it}
-use Rattle.yq_change.proofs.TextPieceLaws.{text_is_piece}
+use Rattle.yq_change.proofs.TextPieceLaws.{piece_back, text_is_piece}
 use Rattle.yq_change.proofs.UnderLaws.{line_is, under_is}
 use Rattle.yq_edits.proofs.BreakLaws.{IsLfOrCrLf, last_is}
 use Rattle.yq_edits.proofs.BrokenTails.{other_comment, other_tail, quiet_tail}

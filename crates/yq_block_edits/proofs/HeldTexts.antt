@@ -13,7 +13,7 @@ use Rattle.yq_rows.specs.View.{content_cut, slices}
 use Rattle.yq_rows.proofs.NodeExchange.{mark_apart}
 use Rattle.yq_rows.proofs.PlaceLaws.{row_front-append}
 use Rattle.yq_documents.proofs.RowLineLaws.{tail_is}
-use Rattle.yq_tree.specs.Standings.{PlacedEntry, before_entry, held}
+use Rattle.yq_places.specs.Standings.{PlacedEntry, before_entry, held}
 use Rattle.yq_change.specs.DocumentRows.{behind_document}
 use Rattle.yq_change.specs.StandingLaws.{StandsThere}
 use Rattle.yq_change.proofs.CoreLaws.{put_core}

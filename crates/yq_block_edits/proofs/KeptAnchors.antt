@@ -15,7 +15,7 @@ use Rattle.yq_rows.proofs.NodeExchange.{space_apart}
 use Rattle.yq_rows.proofs.NothingLaws.{name_again, tail_apart, tail_lead, tail_no_node}
 use Rattle.yq_rows.proofs.seams.ScalarSeams.{apart_unnamed}
 use Rattle.yq_walk.specs.Lines.{block_anchor, content_anchor, tail_of}
-use Rattle.yq_tree.specs.RowPieces.{anchor_before}
+use Rattle.yq_places.specs.RowPieces.{anchor_before}
 
 -- ---- nothing but the anchor of a block scalar behind a mark
 

@@ -32,13 +32,13 @@ use Rattle.yq_walk.specs.Lines.{lines_of, mark_line, mark_of}
 use Rattle.yq_documents.specs.Reading.{outline_of, read_at, root_of}
 use Rattle.yq_documents.specs.Ready.{begins_no_node}
 use Rattle.yq_documents.specs.TreeEdits.{replaced}
-use Rattle.yq_tree.specs.RowPaths.{IsReadable}
-use Rattle.yq_tree.proofs.FoundLines.{each}
-use Rattle.yq_tree.proofs.ReadLaws.{text_takes}
-use Rattle.yq_tree.proofs.RemovalLines.{front_some}
-use Rattle.yq_tree.proofs.RowPathLaws.{document_fine}
-use Rattle.yq_tree.proofs.RunSpans.{rows_then}
-use Rattle.yq_tree.proofs.WrittenLaws.{may_follow}
+use Rattle.yq_places.specs.RowPaths.{IsReadable}
+use Rattle.yq_documents.proofs.PartRows.{each}
+use Rattle.yq_places.proofs.ReadLaws.{text_takes}
+use Rattle.yq_places.proofs.RemovalLines.{front_some}
+use Rattle.yq_places.proofs.RowPathLaws.{document_fine}
+use Rattle.yq_places.proofs.RunSpans.{rows_then}
+use Rattle.yq_places.proofs.WrittenLaws.{may_follow}
 use Rattle.yq_change.specs.Changed.{IsChanged, put_document}
 use Rattle.yq_change.specs.Contents.{TakesContent, recontent}
 use Rattle.yq_change.specs.DocumentRows.{IsDocumentPart, behind_document, part_number}

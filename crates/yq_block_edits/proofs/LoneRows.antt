@@ -22,13 +22,13 @@ use Rattle.yq_rows.proofs.seams.SeamLaws.{rows_text-append}
 use Rattle.yq_walk.specs.Lines.{lines_from, lines_of, mark_line, mark_of, row_lines}
 use Rattle.yq_documents.specs.Reading.{outline_of, read_at}
 use Rattle.yq_documents.specs.Seats.{Seat, seat_of}
-use Rattle.yq_tree.specs.PlacedRows.{PlacedPart, placed_document}
-use Rattle.yq_tree.specs.Standings.{PlacedEntry, before_entry, behind_entry, entry_at, is_alone, lone, placed_entry}
-use Rattle.yq_tree.proofs.CommentPieceLaws.{Ended}
-use Rattle.yq_tree.proofs.PrintedTexts.{map_some}
-use Rattle.yq_tree.proofs.RemovalLines.{LineSeam}
-use Rattle.yq_tree.proofs.RunSpans.{rows_then}
-use Rattle.yq_tree.proofs.UnderExchange.{lines_append}
+use Rattle.yq_places.specs.PlacedRows.{PlacedPart, placed_document}
+use Rattle.yq_places.specs.Standings.{PlacedEntry, before_entry, behind_entry, entry_at, is_alone, lone, placed_entry}
+use Rattle.yq_places.proofs.CommentPieceLaws.{Ended}
+use Rattle.yq_places.proofs.PrintedTexts.{map_some}
+use Rattle.yq_places.proofs.RemovalLines.{LineSeam}
+use Rattle.yq_places.proofs.RunSpans.{rows_then}
+use Rattle.yq_places.proofs.UnderExchange.{lines_append}
 use Rattle.yq_change.specs.DocumentRows.{IsDocumentPart, behind_document}
 use Rattle.yq_change.specs.InlineRows.{LeadsBelow, IsRootRow}
 use Rattle.yq_change.specs.PlacedParts.{StandsAt}

@@ -17,10 +17,10 @@ use Rattle.yq_rows.specs.Rows.{Row, mark_column, rows_text, Part, part_text, Cut
 use Rattle.yq_documents.specs.Documents.{document_parts}
 use Rattle.yq_walk.specs.Lines.{mark_of, lines_of}
 use Rattle.yq_documents.specs.Reading.{outline_of, read_at}
-use Rattle.yq_tree.proofs.FoundLines.{each}
-use Rattle.yq_tree.proofs.NextLaws.{StartsAt, found_starts}
-use Rattle.yq_tree.proofs.ReadLaws.{text_takes}
-use Rattle.yq_tree.proofs.RowPathLaws.{document_fine}
+use Rattle.yq_documents.proofs.PartRows.{each}
+use Rattle.yq_places.proofs.NextLaws.{StartsAt, found_starts}
+use Rattle.yq_places.proofs.ReadLaws.{text_takes}
+use Rattle.yq_places.proofs.RowPathLaws.{document_fine}
 use Rattle.yq_change.specs.Changed.{put_document}
 use Rattle.yq_change.specs.DocumentRows.{IsDocumentPart, behind_document}
 use Rattle.yq_change.specs.LineRows.{Begins}

@@ -31,9 +31,9 @@ use Rattle.yq_rows.proofs.PlaceLaws.{row_front-append}
 use Rattle.yq_rows.proofs.seams.RowSeams.{block_no_space}
 use Rattle.yq_walk.specs.Lines.{head_of, tail_of}
 use Rattle.yq_lines.specs.Comments.{line_comment}
-use Rattle.yq_tree.specs.NodesAt.{node_in, scalar_in}
-use Rattle.yq_tree.specs.RowPieces.{anchor_before, space_before}
-use Rattle.yq_tree.specs.Standings.{Held, PlacedEntry, held}
+use Rattle.yq_places.specs.NodesAt.{node_in, scalar_in}
+use Rattle.yq_places.specs.RowPieces.{anchor_before, space_before}
+use Rattle.yq_places.specs.Standings.{Held, PlacedEntry, held}
 use Rattle.yq_change.specs.StandingLaws.{StandsThere}
 use Rattle.yq_change.proofs.PathTailLaws.{anchor_other}
 use Rattle.yq_meaning.specs.Operations.{replace}

@@ -14,9 +14,9 @@ use Rattle.yq_rows.specs.Rows.{Anchor, Content, Block, content_text, Row, mark_c
 use Rattle.yq_rows.specs.View.{slices}
 use Rattle.yq_rows.proofs.PlaceLaws.{row_front-append}
 use Rattle.yq_walk.specs.Lines.{tail_of}
-use Rattle.yq_tree.specs.RowPieces.{anchor_before}
-use Rattle.yq_tree.specs.Standings.{Held, PlacedEntry, before_entry, held}
-use Rattle.yq_tree.proofs.LineEndLaws.{header_tail}
+use Rattle.yq_places.specs.RowPieces.{anchor_before}
+use Rattle.yq_places.specs.Standings.{Held, PlacedEntry, before_entry, held}
+use Rattle.yq_places.proofs.LineEndLaws.{header_tail}
 use Rattle.yq_change.specs.StandingLaws.{StandsThere}
 use Rattle.yq_change.specs.TextPieces.{IsPiece}
 use Rattle.yq_change.proofs.RemovalPieceLaws.{spaces_piece}

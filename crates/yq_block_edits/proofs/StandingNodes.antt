@@ -4,7 +4,7 @@ use Rattle.yq_scalar.specs.Paths.{Step}
 use Rattle.yq_lines.specs.Outline.{flatten}
 use Rattle.yq_rows.specs.Rows.{Cut}
 use Rattle.yq_walk.specs.Lines.{lines_of}
-use Rattle.yq_tree.specs.Standings.{PlacedEntry, behind_entry}
+use Rattle.yq_places.specs.Standings.{PlacedEntry, behind_entry}
 use Rattle.yq_change.specs.StandingLaws.{StandsThere}
 use Rattle.yq_change.proofs.StandingMarks.{behind_there, entry_there}
 use Rattle.yq_block.specs.BlockPlaces.{at_mark}

@@ -4,7 +4,7 @@ use Rattle.std.proofs.lemmas.Option.{slice_get-get_or}
 use Rattle.yq_documents.specs.Documents.{Document, Reads}
 use Rattle.yq_documents.specs.Reading.{documents_of}
 use Rattle.yq_documents.specs.Ready.{TextIsReady}
-use Rattle.yq_tree.proofs.ReadLaws.{one_reading}
+use Rattle.yq_places.proofs.ReadLaws.{one_reading}
 use Rattle.yq_meaning.specs.After.{after_op}
 use Rattle.yq_meaning.specs.Judgement.{gives}
 use Rattle.yq_meaning.specs.Operations.{Operation, operation_of, operations_of}
@@ -12,11 +12,11 @@ use Rattle.yq_meaning.specs.declared.op.Op.{Op}
 use Rattle.yq_meaning.specs.Rooms.{room_of}
 use Rattle.yq_meaning.specs.RoomsKept.{LeavesRooms, MayFollow}
 use Rattle.yq_program.specs.Program.{Program, Update, LiteralsHold, delete, read, updates, update_at, update_count}
-use Rattle.yq_planning.specs.Plans.{plan}
-use Rattle.yq_planning.proofs.RoomLaws.{rooms_are_ready}
-use Rattle.yq_planning.proofs.updates.AlikeRooms.{rest_follow}
-use Rattle.yq_planning.proofs.updates.PlanAnswers.{literals_hold}
-use Rattle.yq_planning.proofs.updates.RoomsLast.{plan_follows}
+use Rattle.yq_meaning.specs.Plans.{plan}
+use Rattle.yq_plans.proofs.RoomLaws.{rooms_are_ready}
+use Rattle.yq_plans.proofs.updates.AlikeRooms.{rest_follow}
+use Rattle.yq_plans.proofs.updates.PlanAnswers.{literals_hold}
+use Rattle.yq_plans.proofs.updates.RoomsLast.{plan_follows}
 use Rattle.yq_script.specs.Splice.{Splice}
 use Rattle.yq_splice.specs.Theorems.{IsApplied, IsFitting}
 use Rattle.yq_calls.specs.Fitting.{AreFitting}

@@ -14,8 +14,8 @@ use Rattle.yq_walk.specs.Lines.{lines_from, lines_of}
 use Rattle.yq_lines.specs.Outline.{Line, Outline, end, row, flatten, value, null_node}
 use Rattle.yq_documents.specs.Reading.{root_of, document_of, is_document, all_documents, read_at}
 use Rattle.yq_lines.proofs.ByRules.{rules_from}
-use Rattle.yq_tree.proofs.DocumentLaws.{is_document_of}
-use Rattle.yq_tree.proofs.ReadLaws.{text_takes, text_again}
+use Rattle.yq_places.proofs.DocumentLaws.{is_document_of}
+use Rattle.yq_places.proofs.ReadLaws.{text_takes, text_again}
 use Rattle.yq_scalar.proofs.Bools.{guard_then}
 use Rattle.yq_change.specs.Siblings.{StandsSomewhere}
 use Rattle.yq_change.specs.Changed.{put_from, put_document, KeepsRows, DocumentPut, changed, PartStands, DocumentChanged, first_comment, LeadIsFirst}

@@ -11,7 +11,7 @@ use Rattle.yq_rows.specs.Rows.{Content, Nothing, Inline, Block}
 use Rattle.yq_rows.proofs.Fronts.{node_starts}
 use Rattle.yq_rows.proofs.EmptyTexts.{none_is}
 use Rattle.yq_documents.specs.Documents.{HasFitKeys}
-use Rattle.yq_tree.specs.RowPaths.{apart}
+use Rattle.yq_places.specs.RowPaths.{apart}
 
 -- a node in the place of another one, behind its anchor
 abbrev pub recore : Node → Node → Node

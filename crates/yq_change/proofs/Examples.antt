@@ -8,7 +8,7 @@ use Rattle.yq_rows.proofs.ScanLaws.{scan_takes}
 use Rattle.yq_walk.specs.Lines.{mark_line}
 use Rattle.yq_lines.specs.Places.{content, here, below, find_row}
 use Rattle.yq_documents.specs.Reading.{all_documents, outline_of, read_at, text_at}
-use Rattle.yq_tree.proofs.ReadLaws.{text_again}
+use Rattle.yq_places.proofs.ReadLaws.{text_again}
 use Rattle.yq_scalar.specs.Paths.{append_child, change, within, To, Nth}
 use Rattle.yq_change.specs.Changed.{IsChanged, put_document}
 use Rattle.yq_change.specs.Edited.{IsPut}

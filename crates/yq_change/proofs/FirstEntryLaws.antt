@@ -15,8 +15,8 @@ use Rattle.yq_rows.specs.Rows.{Content, Row, behind_columns, Part}
 use Rattle.yq_walk.specs.Lines.{dash_line, mark_line, lines_from, row_lines, lines_of}
 use Rattle.yq_documents.specs.Reading.{outline_of}
 use Rattle.yq_documents.specs.Seats.{Seat, seat}
-use Rattle.yq_documents.proofs.RowLineLaws.{no_comments}
-use Rattle.yq_tree.proofs.UnderExchange.{lines_append}
+use Rattle.yq_walk.proofs.RowLaws.{no_comments}
+use Rattle.yq_places.proofs.UnderExchange.{lines_append}
 use Rattle.yq_change.specs.LineRows.{Begins, StandApart, InRows, IsSeat, line_number, lines_behind}
 use Rattle.yq_change.specs.Moved.{dash_lines}
 use Rattle.yq_change.specs.Siblings.{IsEntry, HasEntries, IsEntryAt, NodeLines}

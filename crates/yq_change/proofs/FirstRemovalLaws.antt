@@ -22,15 +22,15 @@ use Rattle.yq_rows.proofs.splices.SpliceTexts.{own_gap, own_end}
 use Rattle.yq_rows.specs.Reading.{begins_gap}
 use Rattle.yq_documents.specs.declared.path.Part.TheVariants.{Entry}
 use Rattle.yq_documents.specs.Documents.{begins_bare, has_begin, document_parts, lead_of}
-use Rattle.yq_tree.specs.FirstPlaces.{less_spaces, end_spaces, FirstOut, first_out, first_removal}
+use Rattle.yq_places.specs.FirstPlaces.{less_spaces, end_spaces, FirstOut, first_out, first_removal}
 use Rattle.yq_walk.specs.Lines.{lines_from, lines_of}
-use Rattle.yq_tree.specs.PathPieces.{PrintedDocument, piece_in}
+use Rattle.yq_places.specs.PathPieces.{PrintedDocument, piece_in}
 use Rattle.yq_documents.specs.Reading.{outline_of, read_at, root_of}
-use Rattle.yq_tree.specs.RowPaths.{IsReadable}
+use Rattle.yq_places.specs.RowPaths.{IsReadable}
 use Rattle.yq_documents.specs.Seats.{Seat, seat}
-use Rattle.yq_tree.proofs.FoundLines.{each}
-use Rattle.yq_tree.proofs.ReadLaws.{text_takes}
-use Rattle.yq_tree.proofs.RowPathLaws.{document_fine}
+use Rattle.yq_documents.proofs.PartRows.{each}
+use Rattle.yq_places.proofs.ReadLaws.{text_takes}
+use Rattle.yq_places.proofs.RowPathLaws.{document_fine}
 use Rattle.yq_change.specs.Appends.{inserted}
 use Rattle.yq_change.specs.Changed.{IsChanged, put_document}
 use Rattle.yq_change.specs.Conditions.{AreSpared}
@@ -53,8 +53,8 @@ use Rattle.yq_change.proofs.PartLaws.{document_known, part_rows}
 use Rattle.yq_change.proofs.PathLaws.{path_is_entry}
 use Rattle.yq_change.proofs.PlaceTextLaws.{IsAround, around}
 use Rattle.yq_change.proofs.RemovalChangeLaws.{snoc, may_go, FirstEntry, first_group, group_begins, keeps, root_entries}
-use Rattle.yq_change.proofs.RemovalPieceLaws.{piece_back, spaces_piece}
-use Rattle.yq_change.proofs.TextPieceLaws.{cut_behind, pieces_joined, text_is_piece}
+use Rattle.yq_change.proofs.RemovalPieceLaws.{spaces_piece}
+use Rattle.yq_change.proofs.TextPieceLaws.{cut_behind, piece_back, pieces_joined, text_is_piece}
 
 -- bytes that end the last one of rows (own)
 abbrev pub EndLastRow : List ℕ → List Row → Type 0

@@ -19,15 +19,15 @@ use Rattle.yq_rows.specs.Rows.{Content, Nothing, Row, behind_columns, rows_text,
 use Rattle.yq_rows.proofs.seams.FrontSeams.{rows_some}
 use Rattle.yq_documents.specs.declared.path.Part.TheVariants.{Entry}
 use Rattle.yq_walk.specs.Lines.{dash_line, lines_from, lines_of}
-use Rattle.yq_tree.specs.PathPieces.{BlockEntry, found_entry, piece_in, piece_in_entry}
+use Rattle.yq_places.specs.PathPieces.{BlockEntry, found_entry, piece_in, piece_in_entry}
 use Rattle.yq_documents.specs.Pieces.{Piece}
-use Rattle.yq_tree.specs.PrintedLines.{PrintedLine, line_front, print_lines, printed_from, printed_lines, printed_row, line_in, run_piece}
+use Rattle.yq_places.specs.PrintedLines.{PrintedLine, line_front, print_lines, printed_from, printed_lines, printed_row, line_in, run_piece}
 use Rattle.yq_documents.specs.Seats.{Seat, seat}
-use Rattle.yq_tree.proofs.FoundEntries.{lines_count}
-use Rattle.yq_tree.proofs.PrintedLaws.{lines_are}
-use Rattle.yq_tree.proofs.PrintedTexts.{lines_then, rows_are}
-use Rattle.yq_tree.proofs.SeatedLines.{row_begin, seated, row_count}
-use Rattle.yq_tree.proofs.UnderCounts.{end_is}
+use Rattle.yq_places.proofs.FoundEntries.{lines_count}
+use Rattle.yq_places.proofs.PrintedLaws.{lines_are}
+use Rattle.yq_places.proofs.PrintedTexts.{lines_then, rows_are}
+use Rattle.yq_places.proofs.SeatedLines.{row_begin, seated, row_count}
+use Rattle.yq_places.proofs.UnderCounts.{end_is}
 use Rattle.yq_change.specs.LineRows.{line_number}
 use Rattle.yq_change.specs.Siblings.{NodeLines}
 use Rattle.yq_change.proofs.FirstBreakLaws.{IsOneBreak, lines_break, rows_break}

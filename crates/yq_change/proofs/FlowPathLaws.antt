@@ -20,12 +20,12 @@ use Rattle.yq_rows.specs.View.{rows_of}
 use Rattle.yq_rows.proofs.PlaceLaws.{place, new_place}
 use Rattle.yq_rows.proofs.splices.SpliceTexts.{own_gap, own_end}
 use Rattle.yq_documents.specs.Documents.{begins_bare, document_parts, has_begin, parts_from}
-use Rattle.yq_tree.specs.FlowNodes.{content_flow, find_head}
+use Rattle.yq_places.specs.FlowNodes.{content_flow, find_head}
 use Rattle.yq_walk.specs.Lines.{lines_of}
 use Rattle.yq_documents.specs.Reading.{outline_of}
 use Rattle.yq_documents.specs.Seats.{Seat, seat, rows_before, document_row}
-use Rattle.yq_tree.proofs.FlowPlaceLaws.{mark_seat}
-use Rattle.yq_tree.proofs.FoundLines.{middle}
+use Rattle.yq_places.proofs.FlowPlaceLaws.{mark_seat}
+use Rattle.yq_places.proofs.FoundLines.{middle}
 use Rattle.yq_change.specs.Appends.{inserted}
 use Rattle.yq_change.specs.Changed.{put_from}
 use Rattle.yq_change.specs.DocumentRows.{behind_document, number_from}

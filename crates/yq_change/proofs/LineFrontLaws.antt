@@ -1,9 +1,6 @@
 -- A text cut before the end of a line: no CR stands before the break.
-use Rattle.std.proofs.Common.{inl, inr, ◌⊎◌, ◌≡◌, ℕ, zero, suc, ◌+◌, ℤ, true, false, not, List, [], ◌∷◌, ◌++◌, length, replicate, refl, sym, ap, ◌∙◌, subst, append_assoc, append-nil, ⊎_elim, arith}
-use Rattle.std.proofs.Math.Seq.{drop-append_seam}
+use Rattle.std.proofs.Common.{inl, inr, ◌⊎◌, ◌≡◌, ℕ, zero, suc, ◌+◌, ℤ, true, false, not, List, [], ◌∷◌, ◌++◌, replicate, refl, sym, ap, ◌∙◌, append_assoc, append-nil, ⊎_elim, arith}
 use Rattle.std.proofs.lemmas.Bool.{false≢true, or_right, and_from, and_parts, cases_Bool}
-use Rattle.std.proofs.lemmas.Str.{IsUtf8-drop}
-use Rattle.std.specs.Str.{IsUtf8, IsCharBoundary}
 use Rattle.yq_scalar.specs.Block.{digit_text, sign_text, IsDigit, IsIndicators}
 use Rattle.yq_scalar.specs.Characters.{pairs_returns}
 use Rattle.yq_scalar.specs.Text.{front, is_white, is_feed, is_return, is_empty, no_white, unless, NoneIn}
@@ -28,9 +25,9 @@ use Rattle.yq_rows.proofs.RowAgain.{row_starts}
 use Rattle.yq_rows.proofs.seams.NodeSeams.{plain_text}
 use Rattle.yq_rows.proofs.seams.ScalarSeams.{ends_return}
 use Rattle.yq_rows.proofs.seams.TailLaws.{content_joined}
-use Rattle.yq_tree.proofs.CommentPieceLaws.{Ended, gap_end}
-use Rattle.yq_documents.proofs.TextLaws.{seam}
+use Rattle.yq_places.proofs.CommentPieceLaws.{Ended, gap_end}
 use Rattle.yq_change.specs.LineFronts.{CleanCut, LineEndsClean}
+use Rattle.yq_change.proofs.TextPieceLaws.{piece_back}
 
 -- ---- texts that end in no CR
 
@@ -218,8 +215,5 @@ pub clean_cut : CleanCut
 clean_cut a b h u clean =
     let x = and_parts (all_text (a ++ b)) (pairs_returns (a ++ b)) h.characters in
     let y = and_parts (all_text a) (all_text b) (sym (all_join a b u) ∙ x.0) in
-    let start : IsCharBoundary (a ++ b) (length a) = seam (a ++ b) a b refl h.utf8 u in
-    let pairs : pairs_returns a ≡ true = ⊎_elim {0, 0, 0} (λ (e : front is_feed b ≡ true). pairs_clean a b (clean e) x.1) (λ e. Rattle.yq_rows.proofs.CharacterLaws.pairs_front a b e x.1) (cases_Bool (front is_feed b)) in (
-      record { utf8 = u; characters = and_from _ _ y.0 pairs },
-      record { utf8 = subst IsUtf8 (drop-append_seam a b) (IsUtf8-drop (a ++ b) (length a) h.utf8 start); characters = and_from _ _ y.1 (pairs_back a b x.1) },
-    )
+    let pairs : pairs_returns a ≡ true = ⊎_elim {0, 0, 0} (λ (e : front is_feed b ≡ true). pairs_clean a b (clean e) x.1) (λ e. Rattle.yq_rows.proofs.CharacterLaws.pairs_front a b e x.1) (cases_Bool (front is_feed b)) in
+    (record { utf8 = u; characters = and_from _ _ y.0 pairs }, piece_back a b u h)

@@ -15,10 +15,10 @@ use Rattle.yq_lines.proofs.Decides.{flatten-group}
 use Rattle.yq_rows.specs.Rows.{Row, Part}
 use Rattle.yq_walk.specs.Lines.{row_lines, lines_of}
 use Rattle.yq_documents.specs.Reading.{outline_of}
-use Rattle.yq_tree.specs.RemovalPlaces.{OwnRows, row_count, in_three}
+use Rattle.yq_places.specs.RemovalPlaces.{OwnRows, row_count, in_three}
 use Rattle.yq_documents.specs.Seats.{Seat, seat}
 use Rattle.yq_walk.proofs.RowLaws.{lines_count}
-use Rattle.yq_tree.proofs.UnderCounts.{count_under}
+use Rattle.yq_places.proofs.UnderCounts.{count_under}
 use Rattle.yq_change.specs.EntryRows.{HasRows}
 use Rattle.yq_change.specs.LineRows.{Begins, lines_behind}
 use Rattle.yq_change.specs.RemovalChanges.{OwnRowsStand}

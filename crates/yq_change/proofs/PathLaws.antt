@@ -16,7 +16,7 @@ use Rattle.yq_documents.specs.Reading.{outline_of}
 use Rattle.yq_lines.specs.Ends.{found_line, line_of}
 use Rattle.yq_documents.specs.Seats.{Seat, seat}
 use Rattle.yq_lines.proofs.Values.{If}
-use Rattle.yq_tree.proofs.FlowToldLaws.{before_under}
+use Rattle.yq_places.proofs.FlowToldLaws.{before_under}
 use Rattle.yq_change.specs.Siblings.{IsEntry, HasEntries, NodeLines, lines_at, lines_below, under_line}
 use Rattle.yq_change.proofs.NodeLineLaws.{Under, lines_found}
 use Rattle.yq_change.specs.PathRows.{IsEntryLine, PathIsEntry, PathLineCommented, PathHeadCommented}

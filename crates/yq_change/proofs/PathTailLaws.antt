@@ -25,10 +25,10 @@ use Rattle.yq_rows.proofs.splices.PartPlaces.{part_ends}
 use Rattle.yq_documents.specs.Documents.{lead_of}
 use Rattle.yq_walk.specs.Lines.{lines_of}
 use Rattle.yq_documents.specs.Reading.{outline_of}
-use Rattle.yq_tree.specs.RowPaths.{IsReadable}
+use Rattle.yq_places.specs.RowPaths.{IsReadable}
 use Rattle.yq_documents.specs.Seats.{Seat, seat_of}
 use Rattle.yq_documents.specs.TreeEdits.{with_line_comment}
-use Rattle.yq_tree.proofs.WrittenLaws.{free_first}
+use Rattle.yq_places.proofs.WrittenLaws.{free_first}
 use Rattle.yq_change.specs.Appends.{inserted}
 use Rattle.yq_change.specs.Changed.{IsChanged, put_document}
 use Rattle.yq_change.specs.DocumentRows.{IsDocumentPart, behind_document, part_number}

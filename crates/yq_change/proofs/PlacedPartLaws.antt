@@ -7,7 +7,7 @@ use Rattle.yq_rows.specs.Rows.{Part, part_text, Cut, last, marked, cut_text}
 use Rattle.yq_rows.specs.Splices.{behind_part}
 use Rattle.yq_rows.proofs.PlaceLaws.{part_then}
 use Rattle.yq_documents.specs.Documents.{parts_from}
-use Rattle.yq_tree.specs.PlacedRows.{PlacedPart, part_behind, placed_part}
+use Rattle.yq_places.specs.PlacedRows.{PlacedPart, part_behind, placed_part}
 use Rattle.yq_change.specs.Changed.{put_from}
 use Rattle.yq_change.specs.DocumentRows.{number_from}
 use Rattle.yq_change.specs.PlacedParts.{DocumentStandsAt}

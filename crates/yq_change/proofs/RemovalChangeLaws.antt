@@ -25,12 +25,12 @@ use Rattle.yq_documents.specs.Documents.{begins_bare, has_begin, lead_of}
 use Rattle.yq_walk.specs.Lines.{lines_of}
 use Rattle.yq_documents.specs.Reading.{outline_of, read_at, root_of}
 use Rattle.yq_documents.specs.Ready.{begins_no_node}
-use Rattle.yq_tree.specs.PlacedRows.{PlacedPart, placed_document}
-use Rattle.yq_tree.specs.RemovalPlaces.{OwnRows, own_rows, kept_gap, Removal, rows_out, removal_place, has_several}
-use Rattle.yq_tree.specs.RowPaths.{IsReadable}
-use Rattle.yq_tree.proofs.PlacedPartLaws.{map_some}
-use Rattle.yq_tree.proofs.ReadLaws.{text_takes}
-use Rattle.yq_tree.proofs.RemovalTexts.{old_text}
+use Rattle.yq_places.specs.PlacedRows.{PlacedPart, placed_document}
+use Rattle.yq_places.specs.RemovalPlaces.{OwnRows, own_rows, kept_gap, Removal, rows_out, removal_place, has_several}
+use Rattle.yq_places.specs.RowPaths.{IsReadable}
+use Rattle.yq_places.proofs.PlacedPartLaws.{map_some}
+use Rattle.yq_places.proofs.ReadLaws.{text_takes}
+use Rattle.yq_places.proofs.RemovalTexts.{old_text}
 use Rattle.yq_change.specs.Changed.{IsChanged, KeepsRows, put_document}
 use Rattle.yq_change.specs.Conditions.{AreSpared}
 use Rattle.yq_change.specs.DocumentRows.{IsDocumentPart, behind_document}

@@ -1,11 +1,10 @@
 -- The text with rows taken out is joined of pieces of the old one.
-use Rattle.std.proofs.Common.{◌≡◌, ◌⊎◌, inl, inr, ℕ, zero, suc, ◌<◌, Bool, true, ◌&&◌, cond, List, [], ◌∷◌, ◌++◌, length, replicate, Option, Some, None, refl, sym, ap, ◌∙◌, subst, append-nil, arith}
-use Rattle.std.proofs.Math.Seq.{drop-append_seam}
-use Rattle.std.proofs.lemmas.Bool.{cond_both, and_from, and_parts, cases_Bool}
-use Rattle.std.proofs.lemmas.Str.{IsUtf8-drop, IsUtf8-from_ascii, IsUtf8-nil, chars-IsAscii}
+use Rattle.std.proofs.Common.{◌≡◌, ◌⊎◌, inl, inr, ℕ, zero, suc, ◌<◌, Bool, true, ◌&&◌, cond, List, [], ◌∷◌, ◌++◌, replicate, Option, Some, None, refl, sym, ap, ◌∙◌, subst, append-nil, arith}
+use Rattle.std.proofs.lemmas.Bool.{cond_both, cases_Bool}
+use Rattle.std.proofs.lemmas.Str.{IsUtf8-from_ascii, IsUtf8-nil, chars-IsAscii}
 use Rattle.std.proofs.lemmas.Str.Ascii.{IsAscii-nil, IsAscii-cons}
 use Rattle.std.specs.List.{list_all}
-use Rattle.std.specs.Str.{chars, IsAscii, IsUtf8}
+use Rattle.std.specs.Str.{chars, IsAscii}
 use Rattle.yq_scalar.specs.Block.{Lines}
 use Rattle.yq_scalar.specs.BlockRepair.{is_short, is_outside, repaired_blank, repaired_comment, repair}
 use Rattle.yq_scalar.specs.Characters.{is_text, is_text_char, pairs_returns}
@@ -17,18 +16,16 @@ use Rattle.yq_rows.specs.Gap.{IsGap, IsGapLine, AreGapLines}
 use Rattle.yq_rows.specs.Grammar.{AreParts}
 use Rattle.yq_rows.specs.Rows.{Row, rows_text, Cut, cut_text}
 use Rattle.yq_rows.specs.Splices.{behind_first, first_gap}
-use Rattle.yq_rows.proofs.CharacterLaws.{all_text, all_join, pairs_back}
 use Rattle.yq_rows.proofs.seams.GapFronts.{gap_lines}
-use Rattle.yq_tree.specs.PlacedRows.{PlacedPart, placed_part}
-use Rattle.yq_tree.specs.RemovalPlaces.{Seam, kept_gap, rows_out}
-use Rattle.yq_tree.proofs.CommentPieceLaws.{Ended, gap_end}
-use Rattle.yq_tree.proofs.PlacedPartLaws.{part_stands}
-use Rattle.yq_tree.proofs.RemovalLines.{LineSeam, line_seam, lies_in, are_lines}
-use Rattle.yq_tree.proofs.RemovalTexts.{old_text}
-use Rattle.yq_documents.proofs.TextLaws.{seam}
+use Rattle.yq_places.specs.PlacedRows.{PlacedPart, placed_part}
+use Rattle.yq_places.specs.RemovalPlaces.{Seam, kept_gap, rows_out}
+use Rattle.yq_places.proofs.CommentPieceLaws.{Ended, gap_end}
+use Rattle.yq_places.proofs.PlacedPartLaws.{part_stands}
+use Rattle.yq_places.proofs.RemovalLines.{LineSeam, line_seam, lies_in, are_lines}
+use Rattle.yq_places.proofs.RemovalTexts.{old_text}
 use Rattle.yq_change.specs.RemovalChanges.{mended}
 use Rattle.yq_change.specs.TextPieces.{IsPiece}
-use Rattle.yq_change.proofs.TextPieceLaws.{line_cut, pieces_joined}
+use Rattle.yq_change.proofs.TextPieceLaws.{line_cut, piece_back, pieces_joined}
 
 nothing_text : is_text [] ≡ true
 unfolding chars pairs_returns
@@ -61,15 +58,6 @@ pieces_left is started k c d front r rs back parts e rows piece =
     record { before_is = first.0; gap_is = third.0; behind_is = third.1; gap_stands = h.gap }
 
 -- ---- the gap that is mended
-
-pub piece_back : (a b : List ℕ) → IsUtf8 a → IsPiece (a ++ b) → IsPiece b
-piece_back a b u h =
-    let x = and_parts (all_text (a ++ b)) (pairs_returns (a ++ b)) h.characters in
-    let y = and_parts (all_text a) (all_text b) (sym (all_join a b u) ∙ x.0) in
-    record {
-      utf8 = subst IsUtf8 (drop-append_seam a b) (IsUtf8-drop (a ++ b) (length a) h.utf8 (seam (a ++ b) a b refl h.utf8 u));
-      characters = and_from _ _ y.1 (pairs_back a b x.1);
-    }
 
 byte_ascii : (b : ℕ) → b < 128 → IsAscii (b ∷ [])
 byte_ascii b h = IsAscii-cons b [] h IsAscii-nil

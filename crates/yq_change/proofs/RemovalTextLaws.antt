@@ -7,9 +7,9 @@ use Rattle.yq_rows.specs.Removal.{hold_comment, last_block, next_column, seam_ga
 use Rattle.yq_rows.specs.Rows.{rows_text, part_text}
 use Rattle.yq_rows.specs.Splices.{behind_first, end_gap, first_gap, with_first_gap}
 use Rattle.yq_rows.proofs.seams.SeamLaws.{gap_text, rows_text-append}
-use Rattle.yq_tree.specs.PlacedRows.{PlacedPart}
-use Rattle.yq_tree.specs.RemovalPlaces.{OwnRows, Seam, seam_behind, kept_gap, rows_out}
-use Rattle.yq_tree.proofs.RemovalTexts.{texts_then}
+use Rattle.yq_places.specs.PlacedRows.{PlacedPart}
+use Rattle.yq_places.specs.RemovalPlaces.{OwnRows, Seam, seam_behind, kept_gap, rows_out}
+use Rattle.yq_places.proofs.RemovalTexts.{texts_then}
 use Rattle.yq_change.specs.RemovalChanges.{mended}
 use Rattle.yq_change.specs.Removes.{left_gap, without}
 

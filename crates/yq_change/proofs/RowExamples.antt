@@ -10,7 +10,7 @@ use Rattle.yq_rows.specs.Grammar.{IsCut}
 use Rattle.yq_rows.specs.Rows.{Row, Part, last, cut_text}
 use Rattle.yq_rows.proofs.ScanLaws.{scan_takes}
 use Rattle.yq_documents.specs.Reading.{outline_of}
-use Rattle.yq_tree.specs.RowPaths.{IsReadable}
+use Rattle.yq_places.specs.RowPaths.{IsReadable}
 use Rattle.yq_lines.specs.Outline.{level, end, label}
 use Rattle.yq_lines.specs.Places.{content, here}
 use Rattle.yq_change.specs.Appends.{inserted}

@@ -11,8 +11,8 @@ use Rattle.yq_rows.proofs.PlaceLaws.{row_then}
 use Rattle.yq_rows.proofs.seams.SeamLaws.{rows_text-append}
 use Rattle.yq_walk.specs.Lines.{lines_of, row_lines}
 use Rattle.yq_documents.specs.Reading.{outline_of}
-use Rattle.yq_tree.specs.Standings.{PlacedEntry, behind_entry}
-use Rattle.yq_tree.proofs.CommentPieceLaws.{Ended}
+use Rattle.yq_places.specs.Standings.{PlacedEntry, behind_entry}
+use Rattle.yq_places.proofs.CommentPieceLaws.{Ended}
 use Rattle.yq_change.specs.DocumentRows.{behind_document}
 use Rattle.yq_change.specs.StandingLaws.{StandsThere}
 use Rattle.yq_change.specs.Unders.{HasUnder}

@@ -21,15 +21,15 @@ use Rattle.yq_documents.specs.Documents.{document_parts}
 use Rattle.yq_walk.specs.Lines.{lines_of, row_lines}
 use Rattle.yq_documents.specs.Reading.{read_at}
 use Rattle.yq_documents.specs.Seats.{Seat, seat, seat_of}
-use Rattle.yq_tree.specs.PlacedRows.{PlacedPart, PlacedRow, placed_document, placed_row, row_of_path}
+use Rattle.yq_places.specs.PlacedRows.{PlacedPart, PlacedRow, placed_document, placed_row, row_of_path}
 use Rattle.yq_walk.specs.RowWalk.{deeper_rows, line_level}
-use Rattle.yq_tree.proofs.DashLaws.{line_within}
-use Rattle.yq_tree.proofs.FoundLines.{each}
-use Rattle.yq_tree.proofs.PrintedTexts.{map_some}
-use Rattle.yq_tree.proofs.ReadLaws.{text_takes}
-use Rattle.yq_tree.proofs.RowPathLaws.{document_fine}
-use Rattle.yq_tree.proofs.SeatedLaws.{steps_row}
-use Rattle.yq_tree.proofs.UnderCounts.{end_is}
+use Rattle.yq_places.proofs.DashLaws.{line_within}
+use Rattle.yq_documents.proofs.PartRows.{each}
+use Rattle.yq_places.proofs.PrintedTexts.{map_some}
+use Rattle.yq_places.proofs.ReadLaws.{text_takes}
+use Rattle.yq_places.proofs.RowPathLaws.{document_fine}
+use Rattle.yq_places.proofs.SeatedLaws.{steps_row}
+use Rattle.yq_places.proofs.UnderCounts.{end_is}
 use Rattle.yq_walk.proofs.WalkEnds.{ends_at, lines_upto}
 use Rattle.yq_walk.proofs.WalkLevels.{AreTelling, IsLineOf, IsTelling, level_is, line_in}
 use Rattle.yq_walk.proofs.WalkRows.{rows_telling}
@@ -40,7 +40,7 @@ use Rattle.yq_change.proofs.PartLaws.{document_known, part_rows}
 use Rattle.yq_change.proofs.PathLaws.{seat_number}
 use Rattle.yq_change.proofs.PlacedPartLaws.{document_stands_at}
 use Rattle.yq_change.specs.StandingLaws.{RowsStand, StandsThere}
-use Rattle.yq_tree.specs.Standings.{PlacedEntry, entry_at, placed_entry, under_count}
+use Rattle.yq_places.specs.Standings.{PlacedEntry, entry_at, placed_entry, under_count}
 
 telling_at : (rs : List Row) (i : ℕ) (r : Row) → AreTelling rs → slice_get rs i ≡ Some r → IsTelling r
 telling_at [] i r h e = absurd (cc)

@@ -1,9 +1,7 @@
 -- Pieces of a text, joined and cut.
-use Rattle.std.proofs.Common.{arith, ◌≡◌, ℕ, true, false, List, [], ◌∷◌, ◌++◌, length, refl, sym, ap, ◌∙◌, subst, append_assoc}
-use Rattle.std.proofs.Math.Seq.{drop-append_seam}
-use Rattle.std.proofs.lemmas.Str.{IsUtf8-append, IsUtf8-drop, IsUtf8-from_is_utf8}
-use Rattle.std.proofs.lemmas.Str.{IsUtf8-take}
-use Rattle.std.proofs.Math.Seq.{take-append_seam}
+use Rattle.std.proofs.Common.{arith, ◌≡◌, ℕ, true, false, List, [], ◌∷◌, ◌++◌, length, refl, sym, ap, ◌∙◌, subst, append_assoc, length-append}
+use Rattle.std.proofs.Math.Seq.{take-append_seam, drop-append_seam}
+use Rattle.std.proofs.lemmas.Str.{IsCharBoundary-from_take, IsUtf8-append, IsUtf8-drop, IsUtf8-from_is_utf8, IsUtf8-take}
 use Rattle.std.proofs.lemmas.Bool.{and_from, and_parts}
 use Rattle.std.specs.Str.{IsUtf8, IsCharBoundary}
 use Rattle.yq_scalar.specs.Characters.{pairs_returns}
@@ -12,8 +10,7 @@ use Rattle.yq_rows.specs.Rows.{cut_text}
 use Rattle.yq_rows.proofs.CharacterLaws.{all_text, all_join, pairs_join, pairs_back, pairs_front, pairs_cut, EndsBlack}
 use Rattle.yq_rows.proofs.NodePieces.{EndsAscii, BeginsAscii, behind_ascii, before_ascii}
 use Rattle.yq_documents.specs.Reading.{read_at}
-use Rattle.yq_documents.proofs.TextLaws.{seam}
-use Rattle.yq_tree.proofs.ReadLaws.{text_takes}
+use Rattle.yq_places.proofs.ReadLaws.{text_takes}
 use Rattle.yq_scalar.proofs.Bools.{guard_then}
 use Rattle.yq_change.specs.TextPieces.{IsPiece, TextIsPiece, PiecesJoined, LineCut, BeginsPiece, ByteCut}
 
@@ -46,14 +43,19 @@ pairs_cut_at a b (behind e) h =
     let split : a ++ b ≡ e.front ++ (e.last ∷ b) = ap (λ (q : List ℕ). q ++ b) e.is ∙ append_assoc e.front (e.last ∷ []) b in
     ap pairs_returns e.is ∙ pairs_cut e.front b e.last e.no_return (ap pairs_returns (sym split) ∙ h)
 
+-- behind a text that is UTF-8
+pub piece_back : (a b : List ℕ) → IsUtf8 a → IsPiece (a ++ b) → IsPiece b
+piece_back a b u h =
+    let x = and_parts (all_text (a ++ b)) (pairs_returns (a ++ b)) h.characters in
+    let y = and_parts (all_text a) (all_text b) (sym (all_join a b u) ∙ x.0) in
+    let start : IsCharBoundary (a ++ b) (length a) = IsCharBoundary-from_take (a ++ b) (length a) h.utf8 (omega (arith, length-append a b)) (subst IsUtf8 (sym (take-append_seam a b)) u) in
+    record { utf8 = subst IsUtf8 (drop-append_seam a b) (IsUtf8-drop (a ++ b) (length a) h.utf8 start); characters = and_from _ _ y.1 (pairs_back a b x.1) }
+
 pieces_cut : (a b : List ℕ) → IsPiece (a ++ b) → IsUtf8 a → MayCut a b → IsPiece a × IsPiece b
 pieces_cut a b h u may =
     let x = and_parts (all_text (a ++ b)) (pairs_returns (a ++ b)) h.characters in
     let y = and_parts (all_text a) (all_text b) (sym (all_join a b u) ∙ x.0) in
-    let start : IsCharBoundary (a ++ b) (length a) = seam (a ++ b) a b refl h.utf8 u in (
-      record { utf8 = u; characters = and_from _ _ y.0 (pairs_cut_at a b may x.1) },
-      record { utf8 = subst IsUtf8 (drop-append_seam a b) (IsUtf8-drop (a ++ b) (length a) h.utf8 start); characters = and_from _ _ y.1 (pairs_back a b x.1) },
-    )
+    (record { utf8 = u; characters = and_from _ _ y.0 (pairs_cut_at a b may x.1) }, piece_back a b u h)
 
 -- behind an ASCII byte that is no CR
 pub cut_behind : (a b : List ℕ) → IsPiece (a ++ b) → EndsAscii a → EndsBlack a → IsPiece a × IsPiece b

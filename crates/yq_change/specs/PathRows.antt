@@ -8,7 +8,7 @@ use Rattle.yq_walk.specs.Lines.{lines_of}
 use Rattle.yq_lines.specs.Outline.{Outline, IsEven}
 use Rattle.yq_lines.specs.Places.{Found}
 use Rattle.yq_documents.specs.Reading.{outline_of}
-use Rattle.yq_tree.specs.RowPaths.{IsReadable}
+use Rattle.yq_places.specs.RowPaths.{IsReadable}
 use Rattle.yq_lines.specs.Ends.{line_of}
 use Rattle.yq_documents.specs.Seats.{Seat, seat_of}
 use Rattle.yq_change.specs.Changed.{IsChanged, put_document}

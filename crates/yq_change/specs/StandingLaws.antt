@@ -10,12 +10,12 @@ use Rattle.yq_rows.specs.Rows.{Cut, Part, cut_text, part_text}
 use Rattle.yq_documents.specs.Documents.{document_parts}
 use Rattle.yq_walk.specs.Lines.{lines_of}
 use Rattle.yq_documents.specs.Reading.{outline_of, read_at}
-use Rattle.yq_tree.specs.NodesAt.{node_in}
-use Rattle.yq_tree.specs.RemovalPlaces.{has_others_at}
+use Rattle.yq_places.specs.NodesAt.{node_in}
+use Rattle.yq_places.specs.RemovalPlaces.{has_others_at}
 use Rattle.yq_change.specs.Changed.{put_document}
 use Rattle.yq_change.specs.DocumentRows.{IsDocumentPart, behind_document}
 use Rattle.yq_change.specs.TextPieces.{IsPiece}
-use Rattle.yq_tree.specs.Standings.{PlacedEntry, FlowPart, Held, Standing, placed_entry, flow_standing, held, last_step, standing_at}
+use Rattle.yq_places.specs.Standings.{PlacedEntry, FlowPart, Held, Standing, placed_entry, flow_standing, held, last_step, standing_at}
 
 -- ---- there is something
 
@@ -46,7 +46,9 @@ pub record StandsThere (n : ℕ) (s : Step) (ss : List Step) (c : Cut) (e : Plac
 
 -- Rows that are found stand so.
 abbrev pub RowsStand : Type 0
-RowsStand = (n : ℕ) (s : Step) (ss : List Step) (c : Cut) (e : PlacedEntry) → read_at (cut_text c) ≡ Some c → placed_entry n (s ∷ ss) c ≡ Some e → StandsThere n s ss c e
+RowsStand =
+    (n : ℕ) (s : Step) (ss : List Step) (c : Cut) (e : PlacedEntry) → read_at (cut_text c) ≡ Some c → placed_entry n (s ∷ ss) c ≡ Some e →
+    StandsThere n s ss c e
 
 -- ---- what a key or dash holds
 
@@ -68,5 +70,6 @@ pub record HoldsPieces (h : Held) : Type 0 where
 -- The pieces of what the key or dash of rows holds spell the text, where its line is the last one of its row.
 abbrev pub HeldSpells : Type 0
 HeldSpells =
-    (n : ℕ) (s : Step) (ss : List Step) (c : Cut) (e : PlacedEntry) → read_at (cut_text c) ≡ Some c → placed_entry n (s ∷ ss) c ≡ Some e → e.line ≡ length e.row.dashes →
+    (n : ℕ) (s : Step) (ss : List Step) (c : Cut) (e : PlacedEntry) → read_at (cut_text c) ≡ Some c → placed_entry n (s ∷ ss) c ≡ Some e →
+    e.line ≡ length e.row.dashes →
     (cut_text c ≡ held_text (held e)) × HoldsPieces (held e)

@@ -1,5 +1,5 @@
 -- The head of a row is that of its content.
-use Rattle.std.proofs.Common.{◌≡◌, ℕ, ℤ, ◌-◌, ◌≤◌, arith, Bool, true, false, cond, not, eqb, List, [], ◌∷◌, ◌++◌, length, drop, Option, Some, None, refl, sym, ap, ◌∙◌, ⊎_elim, append-nil, length-append, subst}
+use Rattle.std.proofs.Common.{◌≡◌, ℕ, ℤ, ◌-◌, arith, Bool, true, false, cond, not, eqb, List, [], ◌∷◌, ◌++◌, length, drop, Option, Some, None, refl, sym, ap, ◌∙◌, ⊎_elim, append-nil, length-append, subst}
 use Rattle.std.proofs.lemmas.Bool.{false≢true, cond_both, and_parts, cases_Bool}
 use Rattle.std.proofs.lemmas.List.{drop_at}
 use Rattle.std.proofs.lemmas.Str.{IsCharBoundary-at_seam}
@@ -177,9 +177,6 @@ head_is whole n (Inline space node tail) rest ends h = node_is whole n node (tai
 head_is whole n (Block space anchor block) rest ends h = block_is whole n space block rest h.2
 
 -- where a text ends in a whole one
-pub ends_within : (whole t : List ℕ) → EndsIn whole t → length t ≤ length whole
-ends_within whole t h = omega (arith, ap length h.1, length-append h.0 t)
-
 pub ends_seam : (whole t : List ℕ) → EndsIn whole t → IsUtf8 t → IsCharBoundary whole (length whole - length t)
 ends_seam whole t h u =
     let there : length h.0 ≡ length whole - length t = omega (arith, ap length h.1, length-append h.0 t) in

@@ -11,14 +11,12 @@ pub use Rattle.yq_lines.specs.Sound
 pub use Rattle.yq_lines.specs.Ends
 pub use Rattle.yq_lines.specs.Places
 pub use Rattle.yq_lines.specs.Labelled
-pub use Rattle.yq_lines.specs.View
-pub use Rattle.yq_lines.specs.Bodies
+pub use Rattle.yq_lines.specs.Bodies as LineBodies
 pub use Rattle.yq_lines.specs.Counts
 pub use Rattle.yq_lines.specs.Comments
 pub use Rattle.yq_lines.specs.Laws
 pub use Rattle.yq_lines.specs.ShapedLines
 pub mod Seats
-pub mod SoundReading
 pub mod Children
 pub mod Documents
 pub mod Reading
@@ -26,10 +24,13 @@ pub mod Ready
 pub mod Located
 pub mod RowReading
 pub mod PartReading
-pub mod FitReading
 pub mod KeyReading
 pub mod FlowReading
 pub mod Nodes
+pub mod Bodies
+pub mod Stretches
+pub mod Made
+pub mod Holding
 pub mod Pieces
 pub mod Texts
 pub mod TreeEdits

@@ -1,12 +1,11 @@
 -- The documents of the code, and the nodes at paths in them.
-use Rattle.std.specs.Prelude.{List, ℕ, map, Option, option_and_then, slice_get}
+use Rattle.std.specs.Prelude.{List, [], ℕ, map, None, Option, option_and_then, slice_get}
 use Rattle.yq_inline.specs.Entries.{step_of}
 use Rattle.yq_scalar.specs.Paths.{Step, node_at}
-use Rattle.yq_scalar.specs.Tree.{Node}
+use Rattle.yq_scalar.specs.Tree.{Label, Node}
 use Rattle.yq_documents.specs.declared.path.Path.{Path}
 use Rattle.yq_documents.specs.Documents.{Document}
 use Rattle.yq_lines.specs.Labelled.{Labelled, labelled_from}
-use Rattle.yq_documents.specs.Nodes.{unlabelled}
 use Rattle.yq_documents.specs.Reading.{documents_of}
 
 -- the steps of a path (own)
@@ -16,6 +15,10 @@ steps_of p = map step_of p.steps.items
 -- a document of a text, by its index (own)
 abbrev pub document_at : List ℕ → ℕ → Option Document
 document_at text i = slice_get (documents_of text) i
+
+-- what is told of a root, which is no entry and no item (own)
+abbrev pub unlabelled : Label
+unlabelled = record { key = None; head_comment = []; line_comment = None }
 
 -- the node at a path in a text, if it leads to one (own)
 abbrev pub located : Path → List ℕ → Option Node

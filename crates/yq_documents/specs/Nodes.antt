@@ -2,27 +2,29 @@
 use Rattle.std.specs.Prelude.{List, [], ℕ, Option, None}
 use Rattle.yq_scalar.specs.Tree.{Label, Node, alias, scalar, list, map}
 use Rattle.yq_inline.specs.Trees.{inner}
+use Rattle.yq_documents.specs.Bodies.{named_node}
+use Rattle.yq_documents.specs.Located.{unlabelled}
 use Rattle.yq_documents.specs.declared.nodes.node.Node as declared
 use Rattle.yq_documents.specs.declared.nodes.node.NodeKind.{NodeKind}
 use Rattle.yq_documents.specs.declared.nodes.node.NodeKind.TheVariants as kinds
 use Rattle.yq_documents.specs.declared.nodes.node.Slot as slots
-use Rattle.yq_lines.specs.Bodies.{lent, named_node}
+use Rattle.yq_documents.specs.declared.nodes.node.Written.{Written}
+use Rattle.yq_lines.specs.Bodies.{lent}
+use Rattle.yq_lines.specs.Comments as comments
 use Rattle.yq_lines.specs.Labelled.{Labelled}
-use Rattle.yq_lines.specs.Outline as outline
-use Rattle.yq_lines.specs.View.{view, views}
 
 -- the node that one of the code stands for (own)
 abbrev pub node_of : declared.Node → Node
-node_of n = named_node (views n.document.now) n.named
+node_of n = named_node n.named
 
--- what is told of a root, which is no entry and no item (own)
-abbrev pub unlabelled : Label
-unlabelled = record { key = None; head_comment = []; line_comment = None }
+-- what is told of the entry or item of a line (own)
+abbrev pub written_label : Written → Label
+written_label w = record { key = lent w.key; head_comment = comments.head_comment w.gap.now; line_comment = comments.line_comment w.tail.now }
 
 -- what is told of what stands in such a place (own)
 abbrev pub slot_label : slots.Slot → Label
 slot_label slots.TheVariants.Root = unlabelled
-slot_label (slots.TheVariants.Line l) = outline.label (view l.now)
+slot_label (slots.TheVariants.Line w) = written_label w
 slot_label (slots.TheVariants.Inline key) = inner (lent key)
 
 -- what is told of the entry or item of a node of the code (own)

@@ -1,5 +1,5 @@
 -- Reading (own; a reader may skip it: the grammar is what is believed, and the clauses `found` and `only` tie the two): the lines of a row by its pieces.
-use Rattle.std.specs.Prelude.{◌≡◌, ℕ, suc, ◌-◌, ◌==◌, Bool, true, ◌||◌, ◌&&◌, not, List, [], ◌∷◌, ◌++◌, length, drop, Option, Some, None, if◌then◌else◌, ℤ}
+use Rattle.std.specs.Prelude.{◌≡◌, ℕ, ◌-◌, ◌==◌, Bool, true, ◌||◌, ◌&&◌, not, List, ◌++◌, length, drop, Option, Some, None, if◌then◌else◌, ℤ}
 use Rattle.yq_scalar.specs.declared.kind.Kind.TheVariants.{Text}
 use Rattle.yq_scalar.specs.declared.style.Place.TheVariants as places
 use Rattle.yq_scalar.specs.Answers.{◌>>=◌}
@@ -15,15 +15,11 @@ use Rattle.yq_inline.specs.Nodes.{first_is}
 use Rattle.yq_inline.specs.Places.{Placed, placed, Content, nothing, name, text, sequence, mapping}
 use Rattle.yq_inline.specs.Scalars.{is_quoted, content_of}
 use Rattle.yq_inline.specs.Trees.{scalar_node, placed_tree}
-use Rattle.yq_lines.specs.Comments as comments
 use Rattle.yq_rows.specs.Grammar.{Limit, IsRow}
-use Rattle.yq_rows.specs.Rows.{Row, print_row}
+use Rattle.yq_rows.specs.Rows.{Row}
 use Rattle.yq_rows.specs.View.{Slices, slices}
 use Rattle.yq_documents.specs.KeyReading.{node_fits}
-use Rattle.yq_walk.specs.Lines.{dash_line, row_lines}
-use Rattle.yq_lines.specs.Outline.{Mark, Bare, Key, Dash, Line}
 use Rattle.yq_documents.specs.Reading.{mark_is_fit, content_is_fit}
-use Rattle.yq_documents.specs.declared.front.Front.{Front}
 
 -- what a placed node is as a head, by its content (own)
 abbrev pub form_head : Placed → Content → Option tree.Node
@@ -74,50 +70,9 @@ head_at whole n head t =
 abbrev pub name_in : List ℕ → Option (List ℕ)
 name_in t = if first_is 38 t then Some (drop 1 t) else None
 
--- The lines of dashes so far, and the gap, the column and the dash, if it is one, of the mark behind them (own).
-pub record Begun : Type 0 where
-  pub lines : List Line
-  pub gap : List ℕ
-  pub column : ℕ
-  pub last : List ℕ
-
--- the lines of dashes behind others, from a column on, the first of them behind a gap (own)
-unfoldable pub dashes_at : List Line → List ℕ → ℕ → List ℕ → Begun
-dashes_at lines gap column [] = record { lines = lines; gap = gap; column = column; last = [] }
-dashes_at lines gap column (b ∷ bs) =
-    if b == 45 then (
-    if is_empty bs then record { lines = lines; gap = gap; column = column; last = b ∷ bs }
-    else dashes_at (lines ++ dash_line (comments.head_comment gap) column ∷ []) [] (suc column) bs)
-    else dashes_at lines gap (suc column) bs
-
--- what the code's front shows, behind lines (own)
-abbrev pub begun : List Line → Front → Begun
-begun lines f = record { lines = lines; gap = f.gap.now; column = f.column; last = f.last.now }
-
--- what a line begins with, by its key with what is behind that, and by its dash (own)
-abbrev pub mark_at : Slices → List ℕ → Mark
-mark_at s last = if is_empty s.colon then (if is_empty last then Bare else Dash) else Key (content_of s.key)
-
--- the line of a mark behind dashes, with its head (own)
-abbrev pub line_with : Slices → Begun → Option tree.Node → Line
-line_with s b head = record { column = b.column; mark = mark_at s b.last; anchor = name_in s.anchor; head = head; head_comment = comments.head_comment b.gap; line_comment = comments.line_comment s.tail }
-
--- the line of a mark behind dashes, by the text from its head on (own)
-abbrev pub line_at : List ℕ → Slices → Begun → List ℕ → Option Line
-line_at whole s b t = head_at whole s.parent s.head t >>= λ h. Some (line_with s b h)
-
 -- the text of a row from its head on, before a rest (own)
 abbrev pub from_head : Slices → List ℕ → List ℕ
 from_head s rest = s.head ++ (s.tail ++ (s.raw ++ rest))
-
--- The pieces are those of a row that is in front of a text (own).
-pub record HasRow (s : Slices) (t : List ℕ) : Type 0 where
-  pub row : Row
-  pub limit : Limit
-  pub rest : List ℕ
-  pub pieces : s ≡ slices row
-  pub text : t ≡ print_row row rest
-  pub valid : IsRow limit row rest
 
 -- The pieces are those of a row whose head, in which keys are fit, is in front of a text (own).
 pub record HasHead (s : Slices) (t : List ℕ) : Type 0 where
@@ -132,7 +87,3 @@ pub record HasHead (s : Slices) (t : List ℕ) : Type 0 where
 -- the keys in a row are fit (own)
 abbrev pub row_fits : Row → Bool
 row_fits r = mark_is_fit r.mark && content_is_fit r.content
-
--- the lines of a row behind others, and what stands behind the row, where its keys are fit (own)
-abbrev pub row_made : List Line → Row → List ℕ → Option (List Line × List ℕ)
-row_made lines r rest = if row_fits r then Some (lines ++ row_lines r, rest) else None

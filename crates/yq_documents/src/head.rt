@@ -1,5 +1,5 @@
 //! The heads of rows.
-ghost use Rattle.std.specs.Prelude.{◌≡◌, IfErr, IfOk, None, length, true};
+ghost use Rattle.std.specs.Prelude.{◌≡◌, IfErr, IfOk, None, length, option_map, true};
 ghost use Rattle.yq_scalar.specs.Answers.{Gives, IsOfText};
 ghost use Rattle.yq_scalar.specs.Quoted.{IsQuotedText};
 ghost use Rattle.yq_inline.specs.Scalars.{is_quoted, content_of as content_text};
@@ -14,12 +14,19 @@ ghost use Rattle.yq_lines.specs.View.{head_view, head_flow};
 use crate::flow_keys::keys_fault;
 use std::alloc::{AllocError, Global};
 use std::num::NonZeroU64;
-use yq_inline::pieces::{first_is, is_quoted};
+use yq_inline::pieces::{first_is, is_quoted, strip};
 use yq_inline::{Form, Inline, read_inline};
 use yq_lines::{Content, Head, content_of, plain_head};
 use yq_rows::Row;
 use yq_scalar::plain::holds_break;
 use yq_scalar::{Kind, Place, ReadError, ReadFault, content, read_block};
+
+/// The name of an anchor that is written with its `&`.
+pub fn anchor_name(anchor: &str) -> Option<&str>
+    ensures { option_map (λ s. s.now) result ≡ spec.name_in anchor.now }
+{
+    strip(b'&', anchor)
+}
 
 /// The head that a quoted scalar is: one on one line without escapes is lent.
 fn quoted_head(alloc: Global, head: &str) -> Result<Head<'_>, AllocError>
@@ -107,7 +114,7 @@ fn read_block_head<'t>(alloc: Global, parent: i64, text: &str) -> Result<Head<'t
 /// begins, where its keys are fit. A plain scalar on one line is lent, and a quoted one without escapes.
 /// The text ends where the whole one does.
 #[tactic(auto, unfolding(crate::specs::RowReading::head_at, crate::specs::FlowReading::head_flow_at))]
-pub(crate) fn read_head<'t>(
+pub fn read_head<'t>(
     alloc: Global,
     whole: &'t str,
     parent: i64,

@@ -1,22 +1,25 @@
-//! Documents as trees: rows read as lines, lines as documents, and the nodes of these.
+//! Documents as trees: the nodes of a text that was read, by its rows.
 #![tactic(auto)]
 
-mod checks;
 mod documents;
 mod fault;
-mod fit;
 mod flow_keys;
-mod front;
 mod head;
+mod made;
 mod nodes;
-mod part_lines;
+mod of_row;
 mod path;
-mod row_lines;
+mod read_text;
 
-pub use checks::{DocumentLines, check_parts};
-pub use documents::{document_lines, first_is_document};
-pub use head::{begins_block, row_head};
+pub use documents::first_is_document;
+pub use fault::fault_at;
+pub use head::{anchor_name, begins_block, read_head, row_head};
+pub use made::Made;
 pub use nodes::children::Children;
 pub use nodes::comments::{Comments, comment_text, is_comment, last_run};
+pub use nodes::flow::node_refers;
+pub use nodes::heads::{lent_text, told_key};
 pub use nodes::node::{Node, NodeKind};
+pub use of_row::made_at;
 pub use path::{Part, Path, Span};
+pub use read_text::{DocumentRows, ReadText};

@@ -3,7 +3,7 @@ use Rattle.std.proofs.Common.{◌≡◌, ◌⊎◌, inl, inr, ℕ, List, [], ◌
 use Rattle.std.proofs.lemmas.Bool.{false≢true, and_parts}
 use Rattle.yq_scalar.specs.Text.{front, is_break, is_empty, is_feed, is_line, is_return}
 use Rattle.yq_rows.proofs.EmptyTexts.{empty_is}
-use Rattle.yq_tree.specs.PrintedLines.{is_last_break, less_break, last_break}
+use Rattle.yq_places.specs.PrintedLines.{is_last_break, less_break, last_break}
 
 -- a break: LF or CR LF
 abbrev pub IsLfOrCrLf : List ℕ → Type 0

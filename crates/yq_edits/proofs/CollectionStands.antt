@@ -19,11 +19,11 @@ use Rattle.yq_rows.specs.View.{slices}
 use Rattle.yq_documents.specs.Documents.{document_parts}
 use Rattle.yq_walk.specs.Lines.{dash_line, head_of, lines_from, lines_of, mark_line, mark_of, row_lines}
 use Rattle.yq_documents.specs.Reading.{outline_of}
-use Rattle.yq_tree.specs.CollectionEnds.{CollectionEnd, is_broken}
-use Rattle.yq_tree.specs.Standings.{PlacedEntry, before_entry, behind_entry, is_alone}
-use Rattle.yq_tree.proofs.FlowToldLaws.{before_under}
-use Rattle.yq_tree.proofs.RowPathLaws.{found_lines}
-use Rattle.yq_tree.proofs.UnderExchange.{lines_append}
+use Rattle.yq_places.specs.CollectionEnds.{CollectionEnd, is_broken}
+use Rattle.yq_places.specs.Standings.{PlacedEntry, before_entry, behind_entry, is_alone}
+use Rattle.yq_places.proofs.FlowToldLaws.{before_under}
+use Rattle.yq_places.proofs.RowPathLaws.{found_lines}
+use Rattle.yq_places.proofs.UnderExchange.{lines_append}
 use Rattle.yq_walk.proofs.WalkLevels.{AreTelling, IsLineOf, IsTelling, line_in}
 use Rattle.yq_walk.proofs.WalkRows.{rows_telling}
 use Rattle.yq_change.specs.Changed.{put_document}

@@ -28,19 +28,19 @@ use Rattle.yq_rows.proofs.RowAgain.{row_starts}
 use Rattle.yq_rows.proofs.EmptyTexts.{empty_is}
 use Rattle.yq_rows.proofs.seams.SeamLaws.{rows_text-append}
 use Rattle.yq_rows.proofs.splices.ContentPlaces.{rows_around}
-use Rattle.yq_tree.specs.CommentPlaces.{end_before, line_text}
+use Rattle.yq_places.specs.CommentPlaces.{end_before, line_text}
 use Rattle.yq_walk.specs.Lines.{lines_from, lines_of}
-use Rattle.yq_tree.specs.PlacedRows.{PlacedPart, PlacedRow, placed_document, placed_row, row_of_path}
+use Rattle.yq_places.specs.PlacedRows.{PlacedPart, PlacedRow, placed_document, placed_row, row_of_path}
 use Rattle.yq_documents.specs.Reading.{read_at}
 use Rattle.yq_documents.specs.Ready.{begins_no_node}
 use Rattle.yq_documents.specs.Seats.{Seat, seat_of, document_row}
-use Rattle.yq_tree.specs.Standings.{PlacedEntry, before_entry, behind_entry, entry_at, placed_entry, under_count}
-use Rattle.yq_tree.proofs.CommentEndLaws.{row_line}
-use Rattle.yq_tree.proofs.CommentPieceLaws.{row_place}
-use Rattle.yq_tree.proofs.PlacedRowLaws.{IsAt, part_at}
-use Rattle.yq_tree.proofs.PrintedTexts.{map_some}
-use Rattle.yq_tree.proofs.ReadLaws.{text_takes}
-use Rattle.yq_tree.proofs.SeatedLaws.{steps_row}
+use Rattle.yq_places.specs.Standings.{PlacedEntry, before_entry, behind_entry, entry_at, placed_entry, under_count}
+use Rattle.yq_places.proofs.CommentEndLaws.{row_line}
+use Rattle.yq_places.proofs.CommentPieceLaws.{row_place}
+use Rattle.yq_places.proofs.PlacedRowLaws.{IsAt, part_at}
+use Rattle.yq_places.proofs.PrintedTexts.{map_some}
+use Rattle.yq_places.proofs.ReadLaws.{text_takes}
+use Rattle.yq_places.proofs.SeatedLaws.{steps_row}
 use Rattle.yq_change.specs.PlacedParts.{StandsAt}
 use Rattle.yq_change.proofs.PlacedPartLaws.{document_stands_at}
 

@@ -16,9 +16,9 @@ use Rattle.yq_rows.specs.Rows.{Content, Nothing, Inline, Block, dashes_text, mar
 use Rattle.yq_rows.specs.View.{Slices, content_cut}
 use Rattle.yq_rows.proofs.NodePieces.{BeginsAscii, before_ascii, behind_ascii}
 use Rattle.yq_rows.proofs.seams.ScalarSeams.{ends_return}
-use Rattle.yq_tree.specs.PrintedLines.{is_last_break, less_break, last_break}
-use Rattle.yq_tree.specs.RowPieces.{anchor_before, space_before}
-use Rattle.yq_tree.proofs.PrintedTexts.{less_is}
+use Rattle.yq_places.specs.PrintedLines.{is_last_break, less_break, last_break}
+use Rattle.yq_places.specs.RowPieces.{anchor_before, space_before}
+use Rattle.yq_places.proofs.PrintedTexts.{less_is}
 use Rattle.yq_change.specs.TextPieces.{IsPiece}
 use Rattle.yq_change.proofs.LineFrontLaws.{clean_cut, ends_more}
 use Rattle.yq_change.proofs.TextPieceLaws.{byte_cut}

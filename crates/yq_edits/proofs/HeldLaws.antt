@@ -7,14 +7,14 @@ use Rattle.yq_inline.specs.Nodes as inline
 use Rattle.yq_rows.specs.Exchange.{row_front}
 use Rattle.yq_rows.specs.Rows.{Content, Nothing, Inline, Block, Row, Cut, cut_text, print_row, rows_text}
 use Rattle.yq_rows.specs.View.{Slices, content_cut, slices}
-use Rattle.yq_tree.specs.CommentPlaces.{LineEnd, end_before, line_text}
-use Rattle.yq_tree.specs.PrintedLines.{last_break, less_break}
-use Rattle.yq_tree.specs.RowPieces.{anchor_before, space_before}
-use Rattle.yq_tree.proofs.PrintedTexts.{less_is}
-use Rattle.yq_tree.proofs.RunSpans.{rows_then}
+use Rattle.yq_places.specs.CommentPlaces.{LineEnd, end_before, line_text}
+use Rattle.yq_places.specs.PrintedLines.{last_break, less_break}
+use Rattle.yq_places.specs.RowPieces.{anchor_before, space_before}
+use Rattle.yq_places.proofs.PrintedTexts.{less_is}
+use Rattle.yq_places.proofs.RunSpans.{rows_then}
 use Rattle.yq_edits.proofs.CommentRowLaws.{end_parts, entry_is_row, entry_row, found_text, line_whole, row_found}
 use Rattle.yq_change.specs.StandingLaws.{held_text}
-use Rattle.yq_tree.specs.Standings.{PlacedEntry, before_entry, behind_entry, placed_entry, held}
+use Rattle.yq_places.specs.Standings.{PlacedEntry, before_entry, behind_entry, placed_entry, held}
 
 -- ---- the pieces of a row
 

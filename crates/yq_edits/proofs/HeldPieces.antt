@@ -10,20 +10,19 @@ use Rattle.yq_rows.specs.Grammar.{IsRow, IsTail, unlimited}
 use Rattle.yq_rows.specs.Rows.{Cut, cut_text, mark_text, parent_indent, rows_text}
 use Rattle.yq_rows.specs.View.{Slices, slices}
 use Rattle.yq_documents.specs.Reading.{read_at}
-use Rattle.yq_tree.specs.CommentPlaces.{LineEnd, end_before, line_text}
-use Rattle.yq_tree.specs.PrintedLines.{last_break, less_break}
-use Rattle.yq_tree.specs.RowPieces.{space_before}
-use Rattle.yq_tree.specs.Standings.{PlacedEntry, before_entry, behind_entry, held, placed_entry}
-use Rattle.yq_tree.proofs.CommentEndLaws.{row_line}
-use Rattle.yq_tree.proofs.CommentPieceLaws.{Ended}
-use Rattle.yq_tree.proofs.LineEndLaws.{line_tail, tail_is_end}
-use Rattle.yq_tree.proofs.RunSpans.{rows_then}
+use Rattle.yq_places.specs.CommentPlaces.{LineEnd, end_before, line_text}
+use Rattle.yq_places.specs.PrintedLines.{last_break, less_break}
+use Rattle.yq_places.specs.RowPieces.{space_before}
+use Rattle.yq_places.specs.Standings.{PlacedEntry, before_entry, behind_entry, held, placed_entry}
+use Rattle.yq_places.proofs.CommentEndLaws.{row_line}
+use Rattle.yq_places.proofs.CommentPieceLaws.{Ended}
+use Rattle.yq_places.proofs.LineEndLaws.{line_tail, tail_is_end}
+use Rattle.yq_places.proofs.RunSpans.{rows_then}
 use Rattle.yq_change.specs.StandingLaws.{HeldSpells, HoldsPieces, StandsThere}
 use Rattle.yq_change.specs.TextPieces.{IsPiece}
-use Rattle.yq_change.proofs.RemovalPieceLaws.{piece_back}
 use Rattle.yq_change.proofs.StandingMarks.{entry_there, row_there, rows_ended_there}
 use Rattle.yq_change.proofs.StandingRows.{rows_stand}
-use Rattle.yq_change.proofs.TextPieceLaws.{line_cut, text_is_piece}
+use Rattle.yq_change.proofs.TextPieceLaws.{line_cut, piece_back, text_is_piece}
 use Rattle.yq_edits.proofs.BreakLaws.{IsLfOrCrLf, break_is, last_is}
 use Rattle.yq_edits.proofs.CommentRowLaws.{entry_row}
 use Rattle.yq_edits.proofs.HeldCuts.{EndsIn, anchor_cut, anchor_ends, break_is_piece, dashes_end, ends_behind, last_of, less_piece, low_last, mark_ends, space_white}

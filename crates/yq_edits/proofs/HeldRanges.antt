@@ -10,10 +10,10 @@ use Rattle.yq_rows.specs.Grammar.{IsRow, IsTail, unlimited}
 use Rattle.yq_rows.specs.Rows.{Cut, cut_text, parent_indent, rows_text}
 use Rattle.yq_rows.specs.View.{slices}
 use Rattle.yq_documents.specs.Reading.{read_at}
-use Rattle.yq_tree.specs.CommentPlaces.{LineEnd, end_before}
-use Rattle.yq_tree.specs.PrintedLines.{last_break}
-use Rattle.yq_tree.specs.Standings.{Held, PlacedEntry, behind_entry, held, placed_entry}
-use Rattle.yq_tree.proofs.LineEndLaws.{line_tail}
+use Rattle.yq_places.specs.CommentPlaces.{LineEnd, end_before}
+use Rattle.yq_places.specs.PrintedLines.{last_break}
+use Rattle.yq_places.specs.Standings.{Held, PlacedEntry, behind_entry, held, placed_entry}
+use Rattle.yq_places.proofs.LineEndLaws.{line_tail}
 use Rattle.yq_change.specs.StandingLaws.{StandsThere}
 use Rattle.yq_change.proofs.StandingMarks.{row_there}
 use Rattle.yq_change.proofs.StandingRows.{rows_stand}

@@ -11,7 +11,7 @@ use Rattle.yq_rows.proofs.ItemLaws.{items_text-append}
 use Rattle.yq_rows.proofs.KeptLaws.{items_apart}
 use Rattle.yq_rows.proofs.NothingLaws.{some_behind}
 use Rattle.yq_rows.proofs.seams.MarkerSeams.{marker_line_is}
-use Rattle.yq_tree.proofs.CommentPieceLaws.{Ended}
+use Rattle.yq_places.proofs.CommentPieceLaws.{Ended}
 use Rattle.yq_change.proofs.EndedRowLaws.{row_ended}
 use Rattle.yq_edits.proofs.ItemsLocal.{item_apart}
 use Rattle.yq_edits.proofs.TouchLaws.{size_one}

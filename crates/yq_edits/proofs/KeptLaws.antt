@@ -18,7 +18,7 @@ use Rattle.yq_change.specs.Changed.{changed, IsChanged, put_document}
 use Rattle.yq_change.specs.Rooms.{is_block_root}
 use Rattle.yq_change.proofs.LeadLaws.{same_lead_goes}
 use Rattle.yq_meaning.specs.Operations.{replace}
-use Rattle.yq_tree.specs.NodesAt.{node_in, scalar_in}
+use Rattle.yq_places.specs.NodesAt.{node_in, scalar_in}
 use Rattle.yq_edits.specs.Replacing.{are_same, is_kept}
 use Rattle.yq_edits.specs.EditLaws.{EqualScalarsStay}
 use Rattle.yq_edits.specs.ReadsAfter.{ReadsAfter}

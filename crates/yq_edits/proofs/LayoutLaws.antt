@@ -11,7 +11,7 @@ use Rattle.yq_lines.specs.Outline.{Mark, Bare, Key, Dash, Line, level, rank}
 use Rattle.yq_rows.specs.Rows.{Part, Cut}
 use Rattle.yq_documents.specs.Documents.{document_parts}
 use Rattle.yq_walk.specs.Lines.{lines_of}
-use Rattle.yq_tree.specs.Steps.{is_key, is_kind, begins_under, first_step, steps_of_part}
+use Rattle.yq_places.specs.Steps.{is_key, is_kind, begins_under, first_step, steps_of_part}
 use Rattle.yq_block.specs.Alone.{alone}
 use Rattle.std.specs.Option.{is_none}
 use Rattle.yq_block.specs.BlockRows.{column_below, inline_of}

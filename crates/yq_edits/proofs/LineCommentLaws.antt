@@ -12,15 +12,15 @@ use Rattle.yq_rows.specs.Grammar.{IsTail, no_rows}
 use Rattle.yq_rows.specs.Rows.{Row, parent_indent, print_row, rows_text, Part, Cut, cut_text, part_text}
 use Rattle.yq_rows.specs.View.{slices}
 use Rattle.yq_rows.proofs.splices.SpliceTexts.{own_gap, own_end}
-use Rattle.yq_tree.specs.CommentPlaces.{LineEnd, end_before, line_text, end_of_line}
+use Rattle.yq_places.specs.CommentPlaces.{LineEnd, end_before, line_text, end_of_line}
 use Rattle.yq_documents.specs.Documents.{lead_of}
-use Rattle.yq_tree.specs.PlacedRows.{PlacedRow, placed_row}
+use Rattle.yq_places.specs.PlacedRows.{PlacedRow, placed_row}
 use Rattle.yq_documents.specs.Reading.{read_at, root_of}
-use Rattle.yq_tree.specs.RowPaths.{IsReadable}
+use Rattle.yq_places.specs.RowPaths.{IsReadable}
 use Rattle.yq_documents.specs.TreeEdits.{at_end, with_line_comment}
-use Rattle.yq_tree.proofs.LineEndLaws.{line_tail, end_of_tail, tail_is_end}
-use Rattle.yq_tree.specs.Standings.{Held, PlacedEntry, before_entry, behind_entry, held, placed_entry}
-use Rattle.yq_tree.proofs.RunSpans.{rows_then}
+use Rattle.yq_places.proofs.LineEndLaws.{line_tail, end_of_tail, tail_is_end}
+use Rattle.yq_places.specs.Standings.{Held, PlacedEntry, before_entry, behind_entry, held, placed_entry}
+use Rattle.yq_places.proofs.RunSpans.{rows_then}
 use Rattle.yq_change.specs.Appends.{inserted}
 use Rattle.yq_change.specs.Changed.{put_document}
 use Rattle.yq_change.specs.DocumentRows.{behind_document}

@@ -5,7 +5,7 @@ use Rattle.yq_scalar.specs.BlockRepair.{is_short}
 use Rattle.yq_scalar.specs.Lines.{is_blank}
 use Rattle.yq_scalar.specs.Text.{joined, lines_of}
 use Rattle.yq_scalar.proofs.LineLaws.{joined_lines}
-use Rattle.yq_tree.specs.RemovalPlaces.{Seam}
+use Rattle.yq_places.specs.RemovalPlaces.{Seam}
 use Rattle.yq_script.specs.Script.{Segment, keep}
 use Rattle.yq_edits.specs.Removing.{indented, blank_mended, comment_mended, lines_mended}
 

@@ -5,9 +5,9 @@ use Rattle.yq_scalar.specs.BlockWritten.{break_text}
 use Rattle.yq_scalar.specs.Paths.{Step}
 use Rattle.yq_scalar.specs.Text.{is_empty}
 use Rattle.yq_rows.specs.Rows.{Cut, behind_gap, cut_text, rows_text}
-use Rattle.yq_tree.specs.CommentPlaces.{LinesAbove, gap_above}
-use Rattle.yq_tree.specs.FirstBreak.{first_break}
-use Rattle.yq_tree.specs.Standings.{Held, PlacedEntry, before_entry, behind_entry, held, placed_entry}
+use Rattle.yq_places.specs.CommentPlaces.{LinesAbove, gap_above}
+use Rattle.yq_places.specs.FirstBreak.{first_break}
+use Rattle.yq_places.specs.Standings.{Held, PlacedEntry, before_entry, behind_entry, held, placed_entry}
 use Rattle.yq_meaning.specs.Meaning.{head_of}
 use Rattle.yq_script.specs.Script.{Segment, keep, put}
 

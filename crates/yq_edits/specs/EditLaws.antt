@@ -8,11 +8,11 @@ use Rattle.yq_scalar.specs.Tree.{Node}
 use Rattle.yq_inline.specs.Collections.{CollPieces}
 use Rattle.yq_rows.specs.Rows.{Cut, cut_text}
 use Rattle.yq_documents.specs.Reading.{documents, read_at}
-use Rattle.yq_tree.specs.FirstBreak.{first_break}
-use Rattle.yq_tree.specs.FlowNodes.{flow_collection}
-use Rattle.yq_tree.specs.NodesAt.{node_in}
-use Rattle.yq_tree.specs.RemovalPlaces.{has_others_at}
-use Rattle.yq_tree.specs.Standings.{FlowPart, PlacedEntry, Standing, flow_standing, last_step, placed_entry, standing_at}
+use Rattle.yq_places.specs.FirstBreak.{first_break}
+use Rattle.yq_places.specs.FlowNodes.{flow_collection}
+use Rattle.yq_places.specs.NodesAt.{node_in}
+use Rattle.yq_places.specs.RemovalPlaces.{has_others_at}
+use Rattle.yq_places.specs.Standings.{FlowPart, PlacedEntry, Standing, flow_standing, last_step, placed_entry, standing_at}
 use Rattle.yq_meaning.specs.Fits.{Fits}
 use Rattle.yq_meaning.specs.Operations.{Operation, replace, append, remove, line_comment, head_comment}
 use Rattle.yq_meaning.specs.Rooms.{room_of}

@@ -7,9 +7,9 @@ use Rattle.yq_scalar.specs.Paths.{Step}
 use Rattle.yq_scalar.specs.Text.{is_empty}
 use Rattle.yq_scalar.specs.Tree.{Node}
 use Rattle.yq_rows.specs.Rows.{Cut}
-use Rattle.yq_tree.specs.FirstPlaces.{first_removal}
-use Rattle.yq_tree.specs.RemovalPlaces.{removal_place}
-use Rattle.yq_tree.specs.Standings.{Held, Standing, alone, beside, under, compact, block, root, no_rows, standing_at}
+use Rattle.yq_places.specs.FirstPlaces.{first_removal}
+use Rattle.yq_places.specs.RemovalPlaces.{removal_place}
+use Rattle.yq_places.specs.Standings.{Held, Standing, alone, beside, under, compact, block, root, no_rows, standing_at}
 use Rattle.yq_block.specs.declared.layout.Layout.{Layout}
 use Rattle.yq_block.specs.Alone as single
 use Rattle.yq_block.specs.BlockText.{block_value}

@@ -3,7 +3,7 @@ use Rattle.std.specs.Prelude.{Option, Some, None, Bool, false}
 use Rattle.yq_scalar.specs.Answers.{◌>>=◌}
 use Rattle.yq_scalar.specs.Scalar.{ScalarText}
 use Rattle.yq_scalar.specs.Tree.{Node}
-use Rattle.yq_tree.specs.NodesAt.{scalar_in}
+use Rattle.yq_places.specs.NodesAt.{scalar_in}
 use Rattle.yq_edits.specs.Style.{is_same}
 
 -- whether there are two scalars, and they are equal (own)

@@ -5,7 +5,7 @@ ghost use Rattle.yq_lines.specs.Bodies.{lent};
 ghost use Rattle.yq_documents.specs.Located.{steps_of};
 ghost use Rattle.yq_documents.specs.Reading.{cut_of};
 ghost use Rattle.yq_text.specs.Halves.{whole};
-ghost use Rattle.yq_tree.specs.StandingTelling.{held_told};
+ghost use Rattle.yq_places.specs.StandingTelling.{held_told};
 ghost use Rattle.yq_edits.specs.EntryEdits as spec;
 ghost use Rattle.yq_edits.specs.Layouts as layouts;
 ghost use Rattle.yq_edits.specs.Answers.{Carries};
@@ -13,12 +13,13 @@ ghost use Rattle.yq_edits.specs.Answers.{Carries};
 use crate::layout::layout_for;
 use std::alloc::{AllocError, Global};
 use yq_block::{Layout, push_entry};
+use yq_documents::Path;
 use yq_inline::Value;
+use yq_places::{CutText, Held, Standing};
 use yq_scalar::block_written::break_text;
 use yq_scalar::push_spaces;
 use yq_script::{Segment, Segments};
 use yq_text::Halves;
-use yq_tree::{CutText, Held, Path, Standing};
 
 /// Adds the lines of an item or entry at a column, up to their last break.
 fn push_lines(

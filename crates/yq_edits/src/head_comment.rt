@@ -7,11 +7,12 @@ ghost use Rattle.yq_edits.specs.CommentEdits as spec;
 ghost use Rattle.yq_edits.specs.Answers.{Carries};
 
 use std::alloc::{AllocError, Global};
+use yq_documents::Path;
+use yq_places::CutText;
 use yq_scalar::block_written::break_text;
 use yq_scalar::push_spaces;
 use yq_script::{Segment, Segments};
 use yq_text::Halves;
-use yq_tree::{CutText, Path};
 
 /// Adds a line of a head comment, with its break.
 fn push_line(out: &mut String, column: usize, br: &str, text: &str) -> Result<(), AllocError>

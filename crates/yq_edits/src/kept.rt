@@ -1,16 +1,17 @@
 //! Whether a value is the scalar that stands at a path: such a Replace leaves the bytes alone.
 ghost use Rattle.std.specs.Prelude.{◌≡◌, IfOk, Some, is_some};
 ghost use Rattle.yq_inline.specs.Values as values;
-ghost use Rattle.yq_tree.specs.NodesAt.{node_in, scalar_in};
+ghost use Rattle.yq_places.specs.NodesAt.{node_in, scalar_in};
 ghost use Rattle.yq_documents.specs.Located.{steps_of};
 ghost use Rattle.yq_documents.specs.Reading.{cut_of};
 ghost use Rattle.yq_edits.specs.Replacing as spec;
 
 use crate::style::is_same;
 use std::alloc::{AllocError, Global};
+use yq_documents::Path;
 use yq_inline::Value;
+use yq_places::CutText;
 use yq_scalar::Kind;
-use yq_tree::{CutText, Path};
 
 /// Whether a value is a scalar.
 fn holds_scalar(value: &Value) -> bool

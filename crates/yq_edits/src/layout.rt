@@ -6,7 +6,7 @@ ghost use Rattle.yq_edits.specs.Layouts as spec;
 
 use yq_block::{Layout, is_filled};
 use yq_inline::Value;
-use yq_tree::CutText;
+use yq_places::CutText;
 
 /// How block style looks in document `doc`: with the text's first break, and that document's steps,
 /// in columns.

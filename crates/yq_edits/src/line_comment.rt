@@ -3,14 +3,15 @@ ghost use Rattle.std.specs.Prelude.{◌≡◌, IfOk, string_bytes};
 ghost use Rattle.yq_documents.specs.Located.{steps_of};
 ghost use Rattle.yq_documents.specs.Reading.{cut_of};
 ghost use Rattle.yq_script.specs.Segments.{segment_of};
-ghost use Rattle.yq_tree.specs.StandingTelling.{held_told};
+ghost use Rattle.yq_places.specs.StandingTelling.{held_told};
 ghost use Rattle.yq_edits.specs.CommentEdits as spec;
 ghost use Rattle.yq_edits.specs.Answers.{Carries};
 
 use std::alloc::{AllocError, Global};
+use yq_documents::Path;
+use yq_places::{CutText, Held};
 use yq_script::{Segment, Segments};
 use yq_text::Halves;
-use yq_tree::{CutText, Held, Path};
 
 /// The white space that ends a line: it goes where it stands before a comment that is taken away.
 fn white_put<'t>(alloc: Global, text: &str, held: &Held<'t>) -> Segment<'t>

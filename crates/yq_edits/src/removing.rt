@@ -3,14 +3,16 @@ ghost use Rattle.std.specs.Prelude.{◌≡◌, ◌++◌, IfOk, OnOk, option_map,
 ghost use Rattle.yq_scalar.specs.Text.{lines_of};
 ghost use Rattle.yq_documents.specs.Located.{steps_of};
 ghost use Rattle.yq_documents.specs.Reading.{cut_of};
-ghost use Rattle.yq_tree.specs.FirstTelling.{first_told};
-ghost use Rattle.yq_tree.specs.RemovalReading.{removal_told, seam_told};
+ghost use Rattle.yq_places.specs.FirstTelling.{first_told};
+ghost use Rattle.yq_places.specs.RemovalReading.{removal_told, seam_told};
 ghost use Rattle.yq_edits.specs.EntryEdits as entries;
 ghost use Rattle.yq_edits.specs.Removing as spec;
 ghost use Rattle.yq_edits.specs.RemovingFirst.{first_removed};
 ghost use Rattle.yq_edits.specs.Answers.{Carries};
 
 use std::alloc::{AllocError, Global};
+use yq_documents::Path;
+use yq_places::{CutText, FirstRemoval, Removal, Seam};
 use yq_scalar::block_lines::is_blank;
 use yq_scalar::block_repair::{is_outside, is_short};
 use yq_scalar::lines::split_line;
@@ -18,7 +20,6 @@ use yq_scalar::push_spaces;
 use yq_scalar::text::split_white;
 use yq_script::{Segment, Segments};
 use yq_text::Halves;
-use yq_tree::{CutText, FirstRemoval, Path, Removal, Seam};
 
 /// So many spaces.
 fn spaces(alloc: Global, count: usize) -> Result<String, AllocError>

@@ -6,8 +6,8 @@ ghost use Rattle.yq_scalar.specs.Tree.{Node as NodeOf};
 ghost use Rattle.yq_scalar.specs.Text.{is_feed};
 ghost use Rattle.yq_documents.specs.Located.{steps_of};
 ghost use Rattle.yq_documents.specs.Reading.{cut_of};
-ghost use Rattle.yq_tree.specs.NodesAt.{node_in};
-ghost use Rattle.yq_tree.specs.StandingTelling.{standing_told};
+ghost use Rattle.yq_places.specs.NodesAt.{node_in};
+ghost use Rattle.yq_places.specs.StandingTelling.{standing_told};
 ghost use Rattle.yq_block.specs.declared.layout.Layout.{Layout as LayoutOf};
 ghost use Rattle.yq_edits.specs.ReplaceEdits as spec;
 ghost use Rattle.yq_edits.specs.Answers.{Carries};
@@ -22,9 +22,10 @@ use held::{beside_put, dash_put, under_put};
 use lone::{first_put, lone_put, root_put};
 use std::alloc::{AllocError, Global};
 use yq_block::Layout;
+use yq_documents::Path;
 use yq_inline::Value;
+use yq_places::{CutText, Standing};
 use yq_script::Segments;
-use yq_tree::{CutText, Path, Standing};
 
 /// A value in the place of what stands there; `has_text` tells of a block scalar whether it has a
 /// text line.

@@ -2,7 +2,7 @@
 ghost use Rattle.std.specs.Prelude.{◌≡◌, ◌∷◌, ◌++◌, IfOk, OnOk, string_bytes};
 ghost use Rattle.yq_inline.specs.Values.{node_of};
 ghost use Rattle.yq_scalar.specs.BlockWritten.{break_text};
-ghost use Rattle.yq_tree.specs.StandingTelling.{mark_told};
+ghost use Rattle.yq_places.specs.StandingTelling.{mark_told};
 ghost use Rattle.yq_block.specs.BlockRows.{item_column};
 ghost use Rattle.yq_block.specs.BlockText.{block_value};
 ghost use Rattle.yq_edits.specs.WrittenValues as spec;
@@ -12,9 +12,9 @@ use std::alloc::{AllocError, Global};
 use yq_block::{Layout, indent_step, push_block};
 use yq_flow::write_inline;
 use yq_inline::{Value, style_of};
+use yq_places::Mark;
 use yq_scalar::block_written::break_text;
 use yq_scalar::{Place, push_spaces, write_scalar};
-use yq_tree::Mark;
 
 /// A value on one line, in the place of a text.
 ///

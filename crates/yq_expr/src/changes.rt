@@ -13,7 +13,7 @@ ghost use Rattle.yq_meaning.specs.Judgement.{Matches, Plans, and_then};
 ghost use Rattle.yq_meaning.specs.Meaning.{roots_of};
 ghost use Rattle.yq_planning.specs.PlaceView.{place_of, places_of, put_behind};
 ghost use Rattle.yq_meaning.specs.Places.{root_place};
-ghost use Rattle.yq_planning.specs.PlacesApart.{AreIn, IsIn};
+ghost use Rattle.yq_meaning.specs.PlacesApart.{AreIn, IsIn};
 ghost use Rattle.yq_meaning.specs.RightValues.{right_value as right_sum};
 ghost use Rattle.yq_meaning.specs.Rooms.{room_of};
 ghost use Rattle.yq_planning.specs.TreeScalars.{HasScalars, HaveScalars};

@@ -10,7 +10,7 @@ pub use matched::{Match, matches};
 pub use planning::plan;
 pub use yq_inline::Value;
 pub use yq_meaning::{MatchError, Op, PlanError, Refusal, copied_steps};
-pub use yq_planning::{
+pub use yq_plans::{
     changes_apart, one_program, places_apart, plan_fits, plan_means, plan_refused, plan_rooms,
     rest_follows, rooms_alike, rooms_ready,
 };

@@ -6,7 +6,7 @@ ghost use Rattle.yq_meaning.specs.Fits.{AllFit};
 ghost use Rattle.yq_meaning.specs.Judgement.{Plans, gives, refuses};
 ghost use Rattle.yq_meaning.specs.Meaning.{meaning};
 ghost use Rattle.yq_meaning.specs.Operations.{operations_of};
-ghost use Rattle.yq_planning.specs.Plans as plans;
+ghost use Rattle.yq_meaning.specs.Plans as plans;
 ghost use Rattle.yq_program.specs.Program as spec;
 ghost use Rattle.yq_meaning.specs.Rooms.{room_of};
 ghost use Rattle.yq_program.specs.View.{program_of, update_of};

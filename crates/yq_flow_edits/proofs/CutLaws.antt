@@ -5,7 +5,7 @@ use Rattle.yq_scalar.proofs.Bools.{guard_then}
 use Rattle.yq_rows.specs.Grammar.{IsCut}
 use Rattle.yq_rows.specs.Rows.{Cut, cut_text}
 use Rattle.yq_documents.specs.Reading.{read_at, cut_of}
-use Rattle.yq_tree.proofs.ReadLaws.{text_takes, cut_is}
+use Rattle.yq_places.proofs.ReadLaws.{text_takes, cut_is}
 
 -- what is read is cut so
 pub cut_read : (t : List ℕ) (c : Cut) → read_at t ≡ Some c → IsCut t c

@@ -22,13 +22,13 @@ use Rattle.yq_lines.proofs.Plug.{allows_from}
 use Rattle.yq_rows.specs.Exchange.{behind_row}
 use Rattle.yq_rows.specs.Rows.{Content, Nothing, Inline, Block, Row, Part, Cut, cut_text, mark_column}
 use Rattle.yq_documents.specs.Documents.{document_parts}
-use Rattle.yq_tree.specs.FlowNodes.{bare_line, content_flow, find_head, flow_collection, head_line, line_collection, part_collection}
+use Rattle.yq_places.specs.FlowNodes.{bare_line, content_flow, find_head, flow_collection, head_line, line_collection, part_collection}
 use Rattle.yq_walk.specs.Lines.{content_anchor, head_of, lines_of, mark_line}
 use Rattle.yq_documents.specs.Reading.{outline_of, read_at, root_of}
 use Rattle.yq_documents.specs.Seats.{document_row, Seat, seat}
-use Rattle.yq_tree.proofs.FlowPieces.{head_tree}
-use Rattle.yq_tree.proofs.FlowPlaceLaws.{TakesSteps, mark_seat}
-use Rattle.yq_tree.proofs.FoundLines.{middle}
+use Rattle.yq_places.proofs.FlowPieces.{head_tree}
+use Rattle.yq_places.proofs.FlowPlaceLaws.{TakesSteps, mark_seat}
+use Rattle.yq_places.proofs.FoundLines.{middle}
 use Rattle.yq_change.specs.LineRows.{IsSeat}
 use Rattle.yq_change.specs.Moved.{dash_lines}
 use Rattle.yq_change.proofs.FlowLineLaws.{head_takes, head_whole}

@@ -19,10 +19,10 @@ use Rattle.yq_lines.specs.Outline.{Mark, Bare, Key, Dash, Outline, end, row}
 use Rattle.yq_lines.specs.Places.{here, Found, find, find_row, bare_or, in_head, inside as within_line}
 use Rattle.yq_rows.specs.Rows.{Cut, cut_text}
 use Rattle.yq_rows.proofs.CharacterLaws.{all_text}
-use Rattle.yq_tree.specs.FlowNodes.{flow_collection, find_head, head_line, bare_line}
+use Rattle.yq_places.specs.FlowNodes.{flow_collection, find_head, head_line, bare_line}
 use Rattle.yq_documents.specs.Reading.{outline_of, read_at}
-use Rattle.yq_tree.specs.Standings.{FlowPart, flow_standing, last_step}
-use Rattle.yq_tree.proofs.FlowSpanLaws.{entry_spans}
+use Rattle.yq_places.specs.Standings.{FlowPart, flow_standing, last_step}
+use Rattle.yq_places.proofs.FlowSpanLaws.{entry_spans}
 use Rattle.yq_change.specs.DocumentRows.{IsDocumentPart}
 use Rattle.yq_change.specs.FlowRows.{coll_at, FlowAt, NodeStands}
 use Rattle.yq_change.specs.TextPieces.{IsPiece}

@@ -15,9 +15,9 @@ use Rattle.yq_inline.specs.Places.{Placed, placed, locate}
 use Rattle.yq_inline.specs.Written.{flow_of}
 use Rattle.yq_inline.proofs.PathLaws.{path_places}
 use Rattle.yq_rows.specs.Rows.{Cut, cut_text}
-use Rattle.yq_tree.specs.FlowTold.{behind_anchor, placed_collection}
-use Rattle.yq_tree.specs.Standings.{flow_standing, last_step}
-use Rattle.yq_tree.specs.declared.places.flow_node.FlowHead.{FlowHead}
+use Rattle.yq_places.specs.FlowTold.{behind_anchor, placed_collection}
+use Rattle.yq_places.specs.Standings.{flow_standing, last_step}
+use Rattle.yq_places.specs.declared.places.flow_node.FlowHead.{FlowHead}
 use Rattle.yq_script.specs.Script.{Segment}
 use Rattle.yq_edits.specs.FlowParts.{flow_put, flow_value}
 use Rattle.yq_edits.specs.WrittenValues.{value_text}

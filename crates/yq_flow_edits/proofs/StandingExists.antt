@@ -21,15 +21,15 @@ use Rattle.yq_documents.specs.Documents.{Document, document_parts}
 use Rattle.yq_walk.specs.Lines.{lines_of}
 use Rattle.yq_documents.specs.Reading.{documents, outline_of, read_at, root_of}
 use Rattle.yq_documents.specs.Seats.{seat, seat_of}
-use Rattle.yq_tree.specs.FlowNodes.{find_head}
-use Rattle.yq_tree.specs.NodesAt.{node_in}
-use Rattle.yq_tree.specs.PlacedRows.{PlacedPart, placed_document}
-use Rattle.yq_tree.specs.RemovalPlaces.{has_others_at, has_several}
-use Rattle.yq_tree.specs.Standings.{FlowPart, PlacedEntry, entry_at, flow_part, flow_standing, last_step, placed_entry, root_standing}
-use Rattle.yq_tree.proofs.FoundLines.{middle}
-use Rattle.yq_tree.proofs.PlacedRowLaws.{document_placed, part_of}
-use Rattle.yq_tree.proofs.RowPathLaws.{found_lines}
-use Rattle.yq_tree.proofs.SeatLineLaws.{seat_line}
+use Rattle.yq_places.specs.FlowNodes.{find_head}
+use Rattle.yq_places.specs.NodesAt.{node_in}
+use Rattle.yq_places.specs.PlacedRows.{PlacedPart, placed_document}
+use Rattle.yq_places.specs.RemovalPlaces.{has_others_at, has_several}
+use Rattle.yq_places.specs.Standings.{FlowPart, PlacedEntry, entry_at, flow_part, flow_standing, last_step, placed_entry, root_standing}
+use Rattle.yq_places.proofs.FoundLines.{middle}
+use Rattle.yq_places.proofs.PlacedRowLaws.{document_placed, part_of}
+use Rattle.yq_places.proofs.RowPathLaws.{found_lines}
+use Rattle.yq_places.proofs.SeatLineLaws.{seat_line}
 use Rattle.yq_change.specs.Siblings.{IsCollectionAt, IsEntryAt, NodeLines}
 use Rattle.yq_change.specs.StandingLaws.{EntriesStand, RootsStand}
 use Rattle.yq_change.proofs.EditedLaws.{lines_are_there}

@@ -12,10 +12,11 @@ ghost use Rattle.yq_flow_edits.specs.EditPlaces as spec;
 
 use crate::edit::{collection_in, edit_at};
 use std::alloc::{AllocError, Global};
+use yq_documents::Path;
 use yq_flow::{append_place, write_entry, write_inline};
 use yq_inline::{Form, Inline, Value};
+use yq_places::CutText;
 use yq_script::Segments;
-use yq_tree::{CutText, Path};
 
 /// Whether a node takes an entry of a key, or an item.
 fn takes(node: &Inline<'_>, key: Option<&str>) -> bool

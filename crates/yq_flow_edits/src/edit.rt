@@ -4,17 +4,17 @@ ghost use Rattle.yq_text.specs.Halves.{whole};
 ghost use Rattle.yq_inline.specs.Entries.{step_of};
 ghost use Rattle.yq_inline.specs.View.{view};
 ghost use Rattle.yq_flow.specs.FlowPlaces.{edit_view};
-ghost use Rattle.yq_tree.specs.FlowTold.{behind_anchor, collection_told};
-ghost use Rattle.yq_tree.specs.Standings as standings;
+ghost use Rattle.yq_places.specs.FlowTold.{behind_anchor, collection_told};
+ghost use Rattle.yq_places.specs.Standings as standings;
 ghost use Rattle.yq_edits.specs.Answers.{Carries};
 ghost use Rattle.yq_flow_edits.specs.EditPlaces as spec;
 
 use std::alloc::{AllocError, Global};
 use yq_flow::{EditPlace, behind};
-use yq_inline::Inline;
+use yq_inline::{Inline, Step};
+use yq_places::{FlowHead, collection_along};
 use yq_script::{Segment, Segments};
 use yq_text::Halves;
-use yq_tree::{FlowHead, Step, collection_along};
 
 /// The steps to the collection in which a path ends, and the last one.
 pub(crate) fn last_step(steps: &[Step]) -> Option<(&[Step], &Step)>

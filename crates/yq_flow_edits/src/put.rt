@@ -4,18 +4,19 @@ ghost use Rattle.yq_inline.specs.Values.{node_of};
 ghost use Rattle.yq_rows.specs.Rows.{cut_text};
 ghost use Rattle.yq_documents.specs.Located.{steps_of};
 ghost use Rattle.yq_documents.specs.Reading.{cut_of};
-ghost use Rattle.yq_tree.specs.Standings.{flow_standing, last_step};
+ghost use Rattle.yq_places.specs.Standings.{flow_standing, last_step};
 ghost use Rattle.yq_edits.specs.FlowParts.{flow_put};
 ghost use Rattle.yq_edits.specs.Answers.{Carries};
 
 use crate::edit::{bytes_at, collection_in, edit_at, last_step};
 use std::alloc::{AllocError, Global};
+use yq_documents::Path;
 use yq_edits::value_text;
 use yq_flow::replace_place;
 use yq_inline::Value;
+use yq_places::CutText;
 use yq_scalar::Place;
 use yq_script::Segments;
-use yq_tree::{CutText, Path};
 
 /// A value put in the place of the content of an item or entry of a flow collection, behind its
 /// anchor; `None` where the path leads to no part of a flow collection.

@@ -1,15 +1,16 @@
 //! Items and entries removed from flow collections.
 ghost use Rattle.yq_documents.specs.Located.{steps_of};
 ghost use Rattle.yq_documents.specs.Reading.{cut_of};
-ghost use Rattle.yq_tree.specs.Standings.{last_step};
+ghost use Rattle.yq_places.specs.Standings.{last_step};
 ghost use Rattle.yq_edits.specs.Answers.{Carries};
 ghost use Rattle.yq_edits.specs.Edits.{part_removed};
 
 use crate::edit::{collection_in, edit_at, last_step};
 use std::alloc::{AllocError, Global};
+use yq_documents::Path;
 use yq_flow::remove_place;
+use yq_places::CutText;
 use yq_script::Segments;
-use yq_tree::{CutText, Path};
 
 /// An item or entry removed from a flow collection, with the white space and comma that go with
 /// it; `None` where the path leads to no part of a flow collection, or to a sole one.

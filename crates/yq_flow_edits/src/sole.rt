@@ -3,15 +3,16 @@ ghost use Rattle.std.specs.Prelude.{◌≡◌, IfOk, option_map};
 ghost use Rattle.yq_inline.specs.Values as values;
 ghost use Rattle.yq_documents.specs.Located.{steps_of};
 ghost use Rattle.yq_documents.specs.Reading.{cut_of};
-ghost use Rattle.yq_tree.specs.NodesAt.{node_view};
-ghost use Rattle.yq_tree.specs.Standings as standings;
+ghost use Rattle.yq_places.specs.NodesAt.{node_view};
+ghost use Rattle.yq_places.specs.Standings as standings;
 ghost use Rattle.yq_flow_edits.specs.Emptying as spec;
 
 use crate::edit::last_step;
 use std::alloc::{AllocError, Global};
+use yq_documents::Path;
 use yq_inline::Value;
 use yq_meaning::copied_steps;
-use yq_tree::{CutText, NodeAt, Path};
+use yq_places::{CutText, NodeAt};
 
 /// An empty collection, and the place of the one that it takes.
 #[derive(Debug, Drop)]

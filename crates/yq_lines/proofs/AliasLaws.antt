@@ -1,6 +1,6 @@
 -- Aliases of a node stand in heads of its lines.
 use Rattle.std.proofs.Common.{◌≡◌, ℕ, zero, suc, ◌+◌, ltb, Bool, true, false, ◌||◌, cond, List, [], ◌∷◌, ◌++◌, drop, Option, Some, None, refl, sym, ap, ◌∙◌}
-use Rattle.std.specs.List.{list_any, slice_get}
+use Rattle.std.specs.List.{list_any}
 use Rattle.std.proofs.lemmas.Bool.{false≢true, or_parts}
 use Rattle.std.proofs.lemmas.List.Folds.{list_any-append}
 use Rattle.yq_scalar.specs.Tree.{Node, alias, scalar, list, map, Children, none, child}
@@ -12,7 +12,6 @@ use Rattle.yq_lines.specs.Names.{is_reference, head_names, line_names}
 use Rattle.yq_lines.specs.Outline.{Mark, Bare, Key, Dash, Line, level, Outline, end, row, flatten, first_anchor, anchored, head_or, collection, shaped, children}
 use Rattle.yq_lines.proofs.Decides.{flatten-group}
 use Rattle.yq_lines.proofs.NameLaws.{line_names-append}
-use Rattle.yq_lines.proofs.Parts.{drop_at}
 
 -- some of these names is an alias's
 abbrev refer : List Name → Bool
@@ -42,19 +41,6 @@ none_drop : (k : ℕ) (ls : List Line) → refer (line_names ls) ≡ false → r
 none_drop zero ls h = h
 none_drop (suc k) [] h = refl
 none_drop (suc k) (l ∷ ls) h = none_drop k ls (none_line l ls h).1
-
--- one line of several
-names_here : (ls : List Line) (i : ℕ) (l : Line) → slice_get ls i ≡ Some l → refer (line_names (drop i ls)) ≡ (refer (head_names l.head) || refer (line_names (drop (i + 1) ls)))
-names_here ls i l is =
-    ap (λ x. refer (line_names x)) (drop_at ls i l is)
-    ∙ (refer-anchor l.anchor (head_names l.head ++ line_names (drop (i + 1) ls)) ∙ refer-append (head_names l.head) (line_names (drop (i + 1) ls)))
-
-pub refer_here : (ls : List Line) (i : ℕ) (l : Line) (all : Bool) → slice_get ls i ≡ Some l → list_any is_reference (head_names l.head) ≡ true → list_any is_reference (line_names (drop i ls)) ≡ all → true ≡ all
-refer_here ls i l all is here so_far = sym (names_here ls i l is ∙ ap (λ b. b || refer (line_names (drop (i + 1) ls))) here) ∙ so_far
-
-pub refer_past : (ls : List Line) (i : ℕ) (l : Line) (all : Bool) → slice_get ls i ≡ Some l → list_any is_reference (head_names l.head) ≡ false → list_any is_reference (line_names (drop i ls)) ≡ all →
-    list_any is_reference (line_names (drop (i + 1) ls)) ≡ all
-refer_past ls i l all is here so_far = sym (names_here ls i l is ∙ ap (λ b. b || refer (line_names (drop (i + 1) ls))) here) ∙ so_far
 
 -- the node of items or entries without aliases
 none_collection : (m : Mark) (cs : Children) → refer (names_in cs) ≡ false → refer (names_of (collection m cs)) ≡ false

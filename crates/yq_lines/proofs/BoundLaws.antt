@@ -1,7 +1,6 @@
 -- Aliases and the anchors before them.
-use Rattle.std.proofs.Common.{◌≡◌, ℕ, ◌+◌, ◌<◌, List, ◌∷◌, length, drop, get_or, Option, Some, is_some, Bool, true, false, ◌||◌, ◌&&◌, cond, refl, sym, ap, ◌∙◌, bytes_eq}
+use Rattle.std.proofs.Common.{◌≡◌, ℕ, List, ◌∷◌, Option, Some, is_some, Bool, true, false, ◌||◌, ◌&&◌, cond, refl, sym, ap, ◌∙◌, bytes_eq}
 use Rattle.std.proofs.lemmas.Bool.{false≢true}
-use Rattle.std.proofs.lemmas.List.{drop_more}
 use Rattle.std.proofs.lemmas.Map.Text.{btree_map_updates_str}
 use Rattle.std.proofs.lemmas.Slice.Eq.{bytes_eq-Decides}
 use Rattle.std.specs.BTreeMap as tree
@@ -11,9 +10,7 @@ use Rattle.std.specs.List.{list_any}
 use Rattle.std.specs.Ordering.{nat_cmp}
 use denote.Bor.{Bor}
 use Rattle.yq_scalar.specs.Anchors.{Name, Anchors, Refers}
-use Rattle.yq_lines.specs.Names.{name_view, all_named}
 use Rattle.yq_lines.specs.LinesReading.{are_bound}
-use Rattle.yq_lines.specs.declared.names.Name as declared
 
 -- a name is among the keys
 abbrev pub has : {X : Type 0} → BTreeMap (Bor (List ℕ)) X → List ℕ → Bool
@@ -50,7 +47,3 @@ anchor_known m n a v names all h k = record {
 -- an alias of a known anchor
 pub alias_known : {X : Type 0} (m : BTreeMap (Bor (List ℕ)) X) (a : List ℕ) (names : List Name) (all : Bool) → true ≡ has m a → Known m (Refers a ∷ names) all → Known m names all
 alias_known m a names all h k = record { known = k.known; same = k.same; so_far = k.so_far ∙ ap (λ b. b && are_bound k.known names) (sym (k.same a) ∙ sym h) }
-
--- the name at a place, before those behind it
-pub named_at : (ns : List declared.Name) (i : ℕ) (d : declared.Name) (n : Name) → i < length ns → name_view (get_or ns i d) ≡ n → all_named (drop i ns) ≡ n ∷ all_named (drop (i + 1) ns)
-named_at ns i d n within is = ap all_named (drop_more ns i d within) ∙ ap (λ x. x ∷ all_named (drop (i + 1) ns)) is

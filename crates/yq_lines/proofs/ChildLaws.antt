@@ -1,13 +1,12 @@
 -- The items or entries of nodes.
-use Rattle.std.proofs.Common.{◌≡◌, ℕ, List, Option, Some, None, option_map, true, not, refl, sym, ap, ◌∙◌}
+use Rattle.std.proofs.Common.{◌≡◌, ℕ, ◌+◌, List, Option, Some, None, option_map, true, not, refl, sym, ap, ◌∙◌}
 use Rattle.std.specs.List.{slice_get}
 use Rattle.yq_scalar.specs.Tree.{Label, Node, alias, scalar, list, map, child, children_of}
 use Rattle.yq_inline.specs.Trees.{named}
 use Rattle.yq_lines.specs.Ends.{part, is_end, IsEndOf}
 use Rattle.yq_scalar.specs.Paths.{Step}
 use Rattle.yq_lines.specs.Labelled.{labelled_at}
-use Rattle.yq_lines.specs.Bodies.{lines_under}
-use Rattle.yq_lines.specs.Outline.{Line, Outline, anchored, label, children}
+use Rattle.yq_lines.specs.Outline.{Line, level, Outline, anchored, label, children}
 use Rattle.yq_lines.specs.Places.{Found, find_row, content}
 use Rattle.yq_lines.specs.Spots.{spot, seen}
 use Rattle.yq_lines.proofs.EndsLaws.{deeper_line, not_end}
@@ -28,7 +27,7 @@ inline_children (Some a) (list b cs) = refl
 inline_children (Some a) (map b cs) = refl
 
 pub first_child : (ls : List Line) (at floor next : ℕ) (l : Line) → slice_get ls at ≡ Some l → true ≡ not (is_end (part ls at floor)) → IsEndOf ls at next →
-    children (part ls at floor) ≡ child (label l) (content l (lines_under ls at l)) (children (part ls next floor))
+    children (part ls at floor) ≡ child (label l) (content l (part ls (at + 1) (level l))) (children (part ls next floor))
 first_child ls at floor next l is deep ends = ap children (row_parts ls at floor next l is (deeper_line ls at floor l is (not_end _ deep)) (ends.2 l is))
 
 -- where a step leads among lines, by the line that was found
@@ -40,6 +39,6 @@ child_spot s u start x e = row_labelled s u ∙ (same (find_row s u) ∙ ap (opt
     same (Some f) = refl
 
 pub child_found : (s : Step) (ls : List Line) (first floor at : ℕ) (l : Line) (x : Label) (n : Node) → slice_get ls at ≡ Some l → spot first (find_row s (part ls first floor)) ≡ seen ls (Some at) →
-    x ≡ label l → n ≡ content l (lines_under ls at l) → Some (x, n) ≡ labelled_at s (children (part ls first floor))
+    x ≡ label l → n ≡ content l (part ls (at + 1) (level l)) → Some (x, n) ≡ labelled_at s (children (part ls first floor))
 child_found s ls first floor at l x n is e told same =
-    rw (told, same) (sym (child_spot s (part ls first floor) first (Some (at, l, lines_under ls at l)) (e ∙ ap (option_map (λ m. (at, m, lines_under ls at m))) is)))
+    rw (told, same) (sym (child_spot s (part ls first floor) first (Some (at, l, part ls (at + 1) (level l))) (e ∙ ap (option_map (λ m. (at, m, part ls (at + 1) (level m)))) is)))

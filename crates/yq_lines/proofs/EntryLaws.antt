@@ -1,8 +1,8 @@
 -- What is asked of the lines of a collection, by their indexes.
-use Rattle.std.proofs.Common.{◌≡◌, ℕ, suc, ◌+◌, ◌<◌, ltb, List, [], Option, Some, None, is_some, is_none, Bool, true, false, not, ◌&&◌, cond, refl, sym, ap, ◌∙◌, arith, append-nil}
+use Rattle.std.proofs.Common.{◌≡◌, ℕ, suc, ◌+◌, ◌<◌, ltb, List, [], Some, is_some, Bool, true, false, not, ◌&&◌, cond, refl, sym, ap, ◌∙◌, arith, append-nil}
 use Rattle.std.proofs.lemmas.Bool.{ltb-true, le-leb, false≢true}
 use Rattle.std.specs.List.{slice_get}
-use Rattle.yq_lines.specs.Outline.{Mark, Bare, Key, Dash, Line, level, Outline, end, row}
+use Rattle.yq_lines.specs.Outline.{Bare, Line, level, Outline, end, row}
 use Rattle.yq_lines.specs.Group.{deeper, group, level_or}
 use Rattle.yq_lines.specs.Ends.{part, is_end, IsEndOf}
 use Rattle.yq_lines.specs.Sound.{is_sound, head_is_sound, line_is_sound, is_entry}
@@ -71,14 +71,3 @@ one_passes ls at floor next d n keys l is deep ends entries all so_far e =
 pub no_more : (d n : ℕ) (keys : List (List ℕ)) (o : Outline) → false ≡ not (is_end o) → asked d n keys o ≡ are_distinct keys
 no_more d n keys end e = rw (le-leb 0 d (omega arith), append-nil keys) refl
 no_more d n keys (row l u a) e = absurd (false≢true e)
-
--- a mark that begins no item or entry
-pub bare_mark : (m : Mark) → false ≡ is_entry m → m ≡ Bare
-bare_mark Bare e = refl
-bare_mark (Key k) e = absurd (false≢true e)
-bare_mark Dash e = absurd (false≢true e)
-
--- nothing was found
-pub nothing_found : {A : Type 0} (o : Option A) → ((x : A) → o ≡ Some x → ⊥) → true ≡ is_none o
-nothing_found None h = refl
-nothing_found (Some x) h = absurd (h x refl)

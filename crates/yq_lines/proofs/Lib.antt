@@ -1,6 +1,5 @@
 pub mod AliasLaws
 pub mod Allowing
-pub mod AnchorLaws
 pub mod BoundLaws
 pub mod ByRules
 pub mod ChildLaws

@@ -1,6 +1,5 @@
 -- The anchors and aliases of a node, as those of its lines.
-use Rattle.std.proofs.Common.{◌≡◌, ℕ, ◌+◌, List, [], ◌∷◌, ◌++◌, drop, Option, Some, None, true, refl, sym, ap, ◌∙◌, subst, append_assoc, append-nil}
-use Rattle.std.specs.List.{slice_get}
+use Rattle.std.proofs.Common.{◌≡◌, ℕ, ◌+◌, List, [], ◌∷◌, ◌++◌, Option, Some, None, true, refl, sym, ap, ◌∙◌, subst, append_assoc, append-nil}
 use Rattle.yq_scalar.specs.Tree.{Label, Node, alias, scalar, list, map, Children, child}
 use Rattle.yq_scalar.specs.Anchors.{Name, with_anchor, names_of, names_in, IsNoAlias}
 use Rattle.yq_lines.specs.LineAnchors.{MayTake, IsFree, HaveOneAnchorEach}
@@ -8,7 +7,6 @@ use Rattle.yq_lines.specs.Group.{group, level_or, is_fine}
 use Rattle.yq_lines.specs.Names.{head_names, line_names, IsUnnamed, MayBeNamed, HaveHeadsApart}
 use Rattle.yq_lines.specs.Outline.{Mark, Bare, Key, Dash, Line, Outline, end, row, flatten, IsOpen, IsWhole, IsEven, anchored, head_or, label, collection, children, value}
 use Rattle.yq_lines.proofs.Decides.{flatten-group, even_from}
-use Rattle.yq_lines.proofs.Parts.{drop_at}
 use Rattle.yq_lines.proofs.NodeLaws.{anchored_none}
 
 with-append : (a : Option (List ℕ)) (xs ys : List Name) → with_anchor a (xs ++ ys) ≡ with_anchor a xs ++ ys
@@ -120,15 +118,3 @@ names_lines ls fine each apart =
     let even = even_from n o fine in
     let same = flatten-group ls in
     names_value n o even ∙ (names_children n o even (subst HaveOneAnchorEach (sym same) each) (subst HaveHeadsApart (sym same) apart) ∙ ap line_names same)
-
--- the names of one more line
-pub names_more : (all before middle after : List Name) (ls : List Line) (i : ℕ) (l : Line) → slice_get ls i ≡ Some l → before ++ line_names (drop i ls) ≡ all →
-    middle ≡ before ++ with_anchor l.anchor [] → after ≡ middle ++ head_names l.head → after ++ line_names (drop (i + 1) ls) ≡ all
-names_more all before middle after ls i l is so_far anchor head =
-    let behind = line_names (drop (i + 1) ls) in
-    let hn = head_names l.head in
-    ap (λ x. x ++ behind) (head ∙ ap (λ x. x ++ hn) anchor)
-    ∙ (append_assoc (before ++ with_anchor l.anchor []) hn behind
-    ∙ (append_assoc before (with_anchor l.anchor []) (hn ++ behind)
-    ∙ (ap (λ x. before ++ x) (sym (with-append l.anchor [] (hn ++ behind)))
-    ∙ (ap (λ x. before ++ line_names x) (sym (drop_at ls i l is)) ∙ so_far))))

@@ -1,6 +1,5 @@
 -- The nodes that lines stand for.
 use Rattle.std.proofs.Common.{◌≡◌, ℕ, ◌+◌, ◌<◌, List, Option, Some, None, refl, sym, ap, ◌∙◌}
-use Rattle.std.proofs.lemmas.Option.{same_Some}
 use Rattle.std.specs.List.{slice_get}
 use Rattle.yq_scalar.specs.Tree.{Node, alias, scalar, list, map}
 use Rattle.yq_lines.specs.Ends.{part, rest}
@@ -17,9 +16,6 @@ anchored_twice None b (list c cs) = refl
 anchored_twice (Some a) b (list c cs) = refl
 anchored_twice None b (map c cs) = refl
 anchored_twice (Some a) b (map c cs) = refl
-
-pub one_line : (ls : List Line) (at : ℕ) (l m : Line) → slice_get ls at ≡ Some l → slice_get ls at ≡ Some m → l ≡ m
-one_line ls at l m a b = same_Some _ _ (sym a ∙ b)
 
 module _ (ls : List Line) (at floor : ℕ) (l : Line) (is : slice_get ls at ≡ Some l) (deep : floor < level l) where
   value_row : value (part ls at floor) ≡ collection l.mark (children (part ls at floor))

@@ -4,7 +4,7 @@ use Rattle.std.proofs.lemmas.Bool.{lt-ltb, le-ltb, cond-true, cond-false}
 use Rattle.std.proofs.lemmas.Option.{same_Some}
 use Rattle.std.specs.List.{slice_get}
 use Rattle.yq_lines.specs.Outline.{Line, level, end, row}
-use Rattle.yq_lines.specs.Group.{deeper, shallow, group}
+use Rattle.yq_lines.specs.Group.{deeper, group}
 use Rattle.yq_lines.specs.Ends.{part, rest}
 
 pub drop_at : {A : Type 0} (xs : List A) (i : ℕ) (x : A) → slice_get xs i ≡ Some x → drop i xs ≡ x ∷ drop (i + 1) xs
@@ -19,18 +19,9 @@ part_row ls i floor l is deep = ap (λ x. deeper floor (group x)) (drop_at ls i 
 pub part_stop : (ls : List Line) (i floor : ℕ) (l : Line) → slice_get ls i ≡ Some l → level l ≤ floor → part ls i floor ≡ end
 part_stop ls i floor l is low = ap (λ x. deeper floor (group x)) (drop_at ls i l is) ∙ cond-false _ _ _ (le-ltb floor (level l) low)
 
-pub rest_row : (ls : List Line) (i floor : ℕ) (l : Line) → slice_get ls i ≡ Some l → floor < level l →
-    rest ls i floor ≡ shallow floor (rest ls (i + 1) (level l))
-rest_row ls i floor l is deep = ap (λ x. shallow floor (group x)) (drop_at ls i l is) ∙ cond-true _ _ _ (lt-ltb floor (level l) deep)
-
 -- where the lines under line i end
 abbrev pub EndsAt : List Line → ℕ → Line → ℕ → Type 0
 EndsAt ls i l next = rest ls (i + 1) (level l) ≡ group (drop next ls)
-
--- one line that is deeper, and those under it, are passed by
-pub passed : (ls : List Line) (floor i next : ℕ) (l : Line) → slice_get ls i ≡ Some l → floor < level l → EndsAt ls i l next →
-    rest ls i floor ≡ rest ls next floor
-passed ls floor i next l is deep ends = rest_row ls i floor l is deep ∙ ap (shallow floor) ends
 
 pub row_parts : (ls : List Line) (i floor next : ℕ) (l : Line) → slice_get ls i ≡ Some l → floor < level l → EndsAt ls i l next →
     part ls i floor ≡ row l (part ls (i + 1) (level l)) (part ls next floor)

@@ -1,5 +1,5 @@
 -- Reading (own; a reader may skip it: the grammar is what is believed, and the clauses `found` and `only` tie the two): lines by their indexes, where those under each end, and where steps lead.
-use Rattle.std.specs.Prelude.{◌≡◌, ℕ, zero, suc, ◌+◌, ◌<◌, ◌≤◌, nat_lt, List, [], ◌∷◌, drop, length, slice_get, slice_index, Option, Some, None, option_map, option_and_then, Bool, true, false, if◌then◌else◌}
+use Rattle.std.specs.Prelude.{◌≡◌, ℕ, zero, suc, ◌+◌, ◌<◌, ◌≤◌, nat_lt, List, [], ◌∷◌, drop, length, slice_get, Option, Some, None, option_map, option_and_then, Bool, true, false, if◌then◌else◌}
 use Rattle.yq_scalar.specs.Paths.{Step}
 use Rattle.yq_lines.specs.Outline.{Line, level, Outline, end, row}
 use Rattle.yq_lines.specs.Group.{deeper, shallow, group}
@@ -22,10 +22,6 @@ is_end (row l u a) = false
 abbrev pub IsEndOf : List Line → ℕ → ℕ → Type 0
 IsEndOf ls i next =
     (i < next) × (next ≤ length ls) × ((l : Line) → slice_get ls i ≡ Some l → rest ls (i + 1) (level l) ≡ group (drop next ls))
-
--- a list tells of each line from line k on where the lines under it end
-abbrev pub AreEndsFrom : ℕ → List Line → List ℕ → Type 0
-AreEndsFrom k ls ends = (i : ℕ) → k ≤ i → i < length ls → IsEndOf ls i (slice_index ends i)
 
 -- how many lines in front are deeper than a level (8.2)
 abbrev pub deeper_count : ℕ → List Line → ℕ

@@ -1,9 +1,8 @@
 -- Reading (own; a reader may skip it: the grammar is what is believed, and the clauses `found` and `only` tie the two): the anchors and aliases of lines.
-use Rattle.std.specs.Prelude.{ℕ, Bool, true, false, List, [], ◌∷◌, ◌++◌, map, Option, Some, None, ⊤}
+use Rattle.std.specs.Prelude.{ℕ, Bool, true, false, List, [], ◌∷◌, ◌++◌, Option, Some, None, ⊤}
 use Rattle.yq_scalar.specs.Tree as tree
 use Rattle.yq_scalar.specs.Tree.{Node, alias, scalar, list}
 use Rattle.yq_scalar.specs.Anchors.{Name, Anchors, Refers, with_anchor, names_of, IsNoAlias}
-use Rattle.yq_lines.specs.declared.names.Name as declared
 use Rattle.yq_lines.specs.Outline.{Line}
 
 -- whether a name is that of an alias (7.1)
@@ -41,12 +40,3 @@ MayBeNamed (Some a) head = IsNoAlias head
 abbrev pub HaveHeadsApart : List Line → Type 0
 HaveHeadsApart [] = ⊤
 HaveHeadsApart (l ∷ ls) = (IsUnnamed l.head × MayBeNamed l.anchor l.head) × HaveHeadsApart ls
-
--- the name that one of the code shows
-abbrev pub name_view : declared.Name → Name
-name_view (declared.TheVariants.Anchors a) = Anchors a.now
-name_view (declared.TheVariants.Refers a byte) = Refers a.now
-
--- the names that those of the code show, in order
-abbrev pub all_named : List declared.Name → List Name
-all_named ns = map name_view ns

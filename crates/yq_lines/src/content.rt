@@ -16,7 +16,7 @@ use yq_scalar::plain::holds_break;
 use yq_scalar::{Kind, resolve};
 
 /// What stands between the quotes of a quoted scalar.
-fn between_quotes(piece: &str) -> &str
+pub fn between_quotes(piece: &str) -> &str
     requires { IsQuotedText piece.now }
     ensures { result.now ≡ take (length piece.now - 2) (drop 1 piece.now) }
 {

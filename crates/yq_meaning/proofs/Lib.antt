@@ -1,1 +1,4 @@
 pub mod PathLaws
+pub mod JudgementLaws
+pub mod GoodPlaces
+pub mod ChildPlaces

@@ -15,3 +15,5 @@ pub mod After
 pub mod Fits
 pub mod Rooms
 pub mod RoomsKept
+pub mod PlacesApart
+pub mod Plans

@@ -1,13 +1,9 @@
 pub mod ScalarValues
-pub mod RoomLaws
 pub mod PlaceLaws
 pub mod EachLaws
 pub mod CopyLaws
 pub mod TreeScalarLaws
 pub mod MatchLaws
-pub mod MatchTrees
-pub mod JudgementLaws
-pub mod updates
 pub mod SumLaws
 pub mod LimitLaws
 pub mod IndexLaws

@@ -24,7 +24,7 @@ use Rattle.yq_meaning.specs.declared.match_error.MatchError.{MatchError}
 use Rattle.yq_meaning.specs.declared.refusal.Refusal.{Refusal}
 use Rattle.yq_meaning.specs.declared.refusal.Refusal.TheVariants.{NotAMap, NotASequence}
 use Rattle.yq_planning.proofs.EachLaws.{fails_then, put_both}
-use Rattle.yq_planning.proofs.JudgementLaws.{then_gives, gives_same}
+use Rattle.yq_meaning.proofs.JudgementLaws.{then_gives, gives_same}
 
 -- ---- the scalars of places
 

@@ -14,7 +14,7 @@ use Rattle.yq_meaning.specs.Changes.{Addition, appends, overwrites, Change, repl
 use Rattle.yq_meaning.specs.Judgement.{gives, refuses}
 use Rattle.yq_meaning.specs.declared.refusal.Refusal.TheVariants.{AnchorInUse}
 use Rattle.yq_planning.specs.TakenNames.{is_used_anchor, overwrites_at, takes_at}
-use Rattle.yq_planning.proofs.updates.ChildPlaces.{node_further}
+use Rattle.yq_meaning.proofs.ChildPlaces.{node_further}
 
 -- ---- anchors of a node
 

@@ -2,9 +2,6 @@ pub use Rattle.yq_inline.specs.Values
 pub use Rattle.yq_scalar.specs.Tree
 pub mod TreeScalars
 pub mod PlaceView
-pub mod MatchTrees
-pub mod Plans
-pub mod PlacesApart
 pub mod EntryNumbers
 pub mod ChangeView
 pub mod Indexes

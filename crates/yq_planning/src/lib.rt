@@ -1,14 +1,9 @@
 //! What an update changes in trees: where its pipes lead, the changes there, and the operations that carry them out.
 #![tactic(auto)]
 
-mod laws;
 mod matching;
 mod updating;
 
-pub use laws::{
-    changes_apart, one_program, places_apart, plan_fits, plan_means, plan_refused, plan_rooms,
-    rest_follows, rooms_alike, rooms_ready,
-};
 pub use matching::copy::copy_at;
 pub use matching::pipe::find;
 pub use matching::place::{Missing, NodePath, NodeStep, Place};

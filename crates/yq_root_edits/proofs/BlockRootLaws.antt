@@ -16,12 +16,12 @@ use Rattle.yq_documents.specs.Documents.{begins_bare, has_begin}
 use Rattle.yq_walk.specs.Lines.{lines_of}
 use Rattle.yq_documents.specs.Reading.{read_at}
 use Rattle.yq_documents.specs.Ready.{begins_no_node}
-use Rattle.yq_tree.specs.PlacedRows.{PlacedPart, placed_document}
-use Rattle.yq_tree.specs.PrintedLines.{last_break, less_break}
-use Rattle.yq_tree.specs.Standings.{BlockRoot, is_alone}
-use Rattle.yq_tree.proofs.CommentPieceLaws.{Ended, gap_end}
-use Rattle.yq_tree.proofs.PrintedTexts.{less_is}
-use Rattle.yq_tree.proofs.RemovalLines.{LineSeam, LiesIn, lies_in, seam_join}
+use Rattle.yq_places.specs.PlacedRows.{PlacedPart, placed_document}
+use Rattle.yq_places.specs.PrintedLines.{last_break, less_break}
+use Rattle.yq_places.specs.Standings.{BlockRoot, is_alone}
+use Rattle.yq_places.proofs.CommentPieceLaws.{Ended, gap_end}
+use Rattle.yq_places.proofs.PrintedTexts.{less_is}
+use Rattle.yq_places.proofs.RemovalLines.{LineSeam, LiesIn, lies_in, seam_join}
 use Rattle.yq_change.specs.DocumentRows.{IsDocumentPart, part_number}
 use Rattle.yq_change.specs.PlacedParts.{StandsAt}
 use Rattle.yq_change.specs.TextPieces.{IsPiece}

@@ -12,10 +12,10 @@ use Rattle.yq_rows.specs.Rows.{Content, Row, behind_dashes, behind_indent, conte
 use Rattle.yq_rows.proofs.PlaceLaws.{content_then}
 use Rattle.yq_walk.specs.Lines.{lines_from, lines_of, mark_of}
 use Rattle.yq_documents.specs.Ready.{begins_no_node}
-use Rattle.yq_tree.specs.PrintedLines.{last_break}
-use Rattle.yq_tree.specs.Standings.{is_alone}
-use Rattle.yq_tree.proofs.CommentPieceLaws.{Ended}
-use Rattle.yq_tree.proofs.LastBreakLaws.{lf_last}
+use Rattle.yq_places.specs.PrintedLines.{last_break}
+use Rattle.yq_places.specs.Standings.{is_alone}
+use Rattle.yq_places.proofs.CommentPieceLaws.{Ended}
+use Rattle.yq_places.proofs.LastBreakLaws.{lf_last}
 use Rattle.yq_change.proofs.FirstBreakLaws.{IsOneBreak}
 use Rattle.yq_edits.proofs.BreakLaws.{last_is}
 

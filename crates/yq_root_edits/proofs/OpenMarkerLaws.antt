@@ -8,8 +8,8 @@ use Rattle.yq_rows.specs.Grammar.{IsPart, IsMarkerLine, AreParts, begins_documen
 use Rattle.yq_rows.specs.Rows.{Part, part_text, Cut, last, marked, cut_text}
 use Rattle.yq_rows.proofs.PlaceLaws.{part_then}
 use Rattle.yq_documents.specs.Documents.{begins_bare, has_begin, with_part, parts_from, document_parts}
-use Rattle.yq_tree.specs.PlacedRows.{PlacedPart, part_behind, placed_part, placed_document}
-use Rattle.yq_tree.proofs.PlacedPartLaws.{map_some}
+use Rattle.yq_places.specs.PlacedRows.{PlacedPart, part_behind, placed_part, placed_document}
+use Rattle.yq_places.proofs.PlacedPartLaws.{map_some}
 use Rattle.yq_change.specs.Changed.{put_document, put_from}
 use Rattle.yq_rows.specs.Items.{Item, end_item, rows_items, items_of}
 use Rattle.yq_change.proofs.DocumentItemLaws.{rows_before}

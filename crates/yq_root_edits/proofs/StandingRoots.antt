@@ -7,9 +7,9 @@ use Rattle.yq_scalar.specs.Text.{is_empty}
 use Rattle.yq_rows.specs.Rows as rows
 use Rattle.yq_rows.specs.Rows.{Content, Nothing, Inline, Row, print_row, rows_text, Cut}
 use Rattle.yq_rows.specs.View.{slices}
-use Rattle.yq_tree.specs.PlacedRows.{PlacedPart, placed_document}
-use Rattle.yq_tree.specs.Standings.{BlockRoot, NoRows, PlacedEntry, Standing, alone, beside, under, compact, block, root, no_rows, behind_mark, below, block_root, compact_in, entry_standing, held, is_alone, lone, before_entry, behind_entry, placed_entry, root_standing, standing_at}
-use Rattle.yq_tree.proofs.PlacedPartLaws.{map_some}
+use Rattle.yq_places.specs.PlacedRows.{PlacedPart, placed_document}
+use Rattle.yq_places.specs.Standings.{BlockRoot, NoRows, PlacedEntry, Standing, alone, beside, under, compact, block, root, no_rows, behind_mark, below, block_root, compact_in, entry_standing, held, is_alone, lone, before_entry, behind_entry, placed_entry, root_standing, standing_at}
+use Rattle.yq_places.proofs.PlacedPartLaws.{map_some}
 
 -- whether what stands somewhere is a root that is a block collection, or no rows
 abbrev is_root : Standing → Bool

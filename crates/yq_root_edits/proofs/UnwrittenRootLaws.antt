@@ -22,14 +22,14 @@ use Rattle.yq_rows.proofs.GapLaws.{some_more}
 use Rattle.yq_block.proofs.EndLaws.{break_tail}
 use Rattle.yq_block.proofs.LaidRows.{no_gap_here}
 use Rattle.yq_documents.specs.Documents.{begins_bare, has_begin, lead_of}
-use Rattle.yq_tree.specs.PlacedRows.{PlacedPart, part_behind, placed_part}
+use Rattle.yq_places.specs.PlacedRows.{PlacedPart, part_behind, placed_part}
 use Rattle.yq_documents.specs.Reading.{read_at}
 use Rattle.yq_documents.specs.Ready.{begins_no_node}
 use Rattle.yq_walk.specs.Lines.{lines_of}
-use Rattle.yq_tree.specs.Standings.{NoRows}
-use Rattle.yq_tree.proofs.CommentPieceLaws.{gap_end}
-use Rattle.yq_tree.proofs.PlacedPartLaws.{map_some}
-use Rattle.yq_tree.proofs.RemovalLines.{LineSeam, LiesIn, lies_in, seam_join}
+use Rattle.yq_places.specs.Standings.{NoRows}
+use Rattle.yq_places.proofs.CommentPieceLaws.{gap_end}
+use Rattle.yq_places.proofs.PlacedPartLaws.{map_some}
+use Rattle.yq_places.proofs.RemovalLines.{LineSeam, LiesIn, lies_in, seam_join}
 use Rattle.yq_change.specs.DocumentRows.{IsDocumentPart, number_from, part_number}
 use Rattle.yq_change.specs.PlacedParts.{StandsAt}
 use Rattle.yq_change.specs.Rooms.{is_block_root}

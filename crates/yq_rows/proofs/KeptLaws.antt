@@ -52,7 +52,7 @@ kept_row pre r t h u =
     let at : length whole - length (print_row r t) ≡ length pre = front_length whole pre (print_row r t) refl in
     let ends : Ends (print_row r t) whole = front_drop whole pre (print_row r t) refl in
     let spelled : print_row r t ≡ slices_text (slices r) t = sym (slices_are r t) in
-    let same = row_same whole (print_row r t) t (slices r) ends spelled in
+    let same = row_same whole (print_row r t) t (slices r) ends spelled h.parent in
     let stands = row_stands whole (print_row r t) t (slices r) ends (row_texts r t h u) spelled h in (
       subst (λ (n : ℕ). slices_in whole (offsets_of n (slices r)) ≡ slices r) at same,
       subst (λ (n : ℕ). Stands whole (offsets_of n (slices r))) at stands,

@@ -33,6 +33,8 @@ pub mod InlineLending
 pub mod MeasuredLending
 pub mod BlockLending
 pub mod RowLending
+pub mod KeyLines
+pub mod ParentTold
 pub mod PartLending
 pub mod RestLending
 pub mod Failing

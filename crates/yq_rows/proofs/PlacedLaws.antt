@@ -1,8 +1,8 @@
 -- Rows and ends of parts that are kept by their places alone, lent in their text again.
-use Rattle.std.proofs.Common.{◌≡◌, ℕ, ◌+◌, ◌≤◌, List, [], ◌∷◌, ◌++◌, length, drop, take, take_at, reverse, ◌<◌, ◌^◌, append-nil, refl, sym, ap, ◌∙◌, subst, arith}
-use Rattle.std.proofs.lemmas.List.{append_cancel_left, drop-drop, length-drop}
+use Rattle.std.proofs.Common.{◌≡◌, ℕ, ◌+◌, ◌≤◌, List, [], ◌∷◌, ◌++◌, length, take, take_at, reverse, ◌<◌, ◌^◌, append-nil, refl, sym, ap, ◌∙◌, subst, arith}
+use Rattle.std.proofs.lemmas.List.{append_cancel_left, length-take-le}
 use Rattle.std.proofs.lemmas.List.Elements.{All-head, All-map, All-tail, All-weaker}
-use Rattle.std.proofs.lemmas.Str.{IsCharBoundary-at_seam, IsCharBoundary-from_rest, IsUtf8-drop, IsUtf8-nil, IsUtf8-take}
+use Rattle.std.proofs.lemmas.Str.{IsCharBoundary-at_seam, IsUtf8-drop, IsUtf8-nil, IsUtf8-take}
 use Rattle.std.specs.List.{All}
 use Rattle.std.specs.Str.{IsCharBoundary, IsUtf8}
 use Rattle.yq_text.specs.Halves.{whole}
@@ -11,7 +11,7 @@ use Rattle.yq_rows.specs.Ends.{EndStands, EndsStand, bound_in, bounds_in, end_at
 use Rattle.yq_rows.specs.Grammar.{IsCut}
 use Rattle.yq_rows.specs.Items.{Item, row_item, end_item, items_of, items_text, rows_in_items, bounds_in_items, shown_items}
 use Rattle.yq_rows.specs.Kept.{HavePlaces, IsPlaced, TextsIn, ends_near, near, shown_in}
-use Rattle.yq_rows.specs.Offsets.{AreCuts, AreTexts, Stand, Stands, lengths, offsets_of, pieces_of, rows_in, slices_in}
+use Rattle.yq_rows.specs.Offsets.{AreTexts, Stand, Stands, offsets_of, parent_by, pieces_of, rows_in, slices_in}
 use Rattle.yq_rows.specs.Rows.{Row, Cut, print_row}
 use Rattle.yq_rows.specs.View.{Bound, Shown, shown, slices, slices_text}
 use Rattle.yq_rows.specs.declared.ends.EndPlace.{EndPlace}
@@ -23,6 +23,10 @@ use Rattle.yq_rows.proofs.KeptLaws.{items_apart, items_texts}
 use Rattle.yq_rows.proofs.NearLaws.{AreRead}
 use Rattle.yq_rows.proofs.ScanLaws.{one_cut}
 use Rattle.yq_rows.proofs.SliceLaws.{slices_are}
+
+-- the lengths of pieces that were cut again
+told_again : (column m n : ℕ) (dashes colon : List ℕ) → IsCharBoundary dashes m → IsCharBoundary colon n → parent_by (column + length (take m dashes)) (length (take n colon)) ≡ parent_by (column + m) n
+told_again column m n dashes colon h k = rw (length-take-le m dashes h.0, length-take-le n colon k.0) refl
 
 -- what stands in a text that is characters is characters
 pub row_texts_in : (t : List ℕ) (o : declared.Offsets) → IsUtf8 t → Stands t o → AreTexts (slices_in t o)
@@ -50,6 +54,7 @@ row_texts_in t o u h =
       head = IsUtf8-take _ o.head head h.1.1.1.1.1.1.1.1.1.0;
       tail = IsUtf8-take _ o.tail tail h.1.1.1.1.1.1.1.1.1.1.0;
       raw = IsUtf8-take _ o.raw raw h.1.1.1.1.1.1.1.1.1.1.1.0;
+      parent = sym (told_again o.column o.dashes o.colon _ _ h.1.1.1.0 h.1.1.1.1.1.0);
     }
 
 abbrev AreEndTexts : Bound → Type 0

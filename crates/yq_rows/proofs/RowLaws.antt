@@ -55,6 +55,7 @@ marked_takes gap column t x h =
 pub record RowCut (limit : Limit) (gap t : List ℕ) (r : Row) (rest : List ℕ) : Type 0 where
   pub gap_is : r.gap ≡ gap
   pub text : t ≡ behind_gap r rest
+  pub dashes : AreDashes r.dashes r.mark
   pub mark : IsMark r.mark r.content rest
   pub content : IsContent (parent_indent r) r.content rest
   pub row : IsGap gap t → IsRow limit r rest
@@ -83,6 +84,7 @@ row_takes limit gap t x h =
     record {
       gap_is = m.gap_is;
       text = behind;
+      dashes = m.dashes;
       mark = m.mark;
       content = m.content;
       row = λ gap_law. row_parts limit gap column indent.1 x.0 x.1 tests.0 (not-true _ tests.1) m (rw m.gap_is (subst (λ (s : List ℕ). IsGap gap s) behind gap_law));

@@ -8,7 +8,7 @@ use Rattle.yq_scalar.specs.Text.{cut, no_space, no_white, is_marker}
 use Rattle.yq_scalar.proofs.Bools.{bind_some}
 use Rattle.yq_inline.specs.Nodes.{begins_node}
 use Rattle.yq_rows.specs.Grammar.{Limit, unlimited, allows, limit_after, limit_behind, is_entry, no_rows, ends_part}
-use Rattle.yq_rows.specs.Lending.{begun, filled, filled_at, holds_plain, limit_by, Lent, lent, row_of, marked_lent, row_lent, rows_lent, inline_lent, block_lent}
+use Rattle.yq_rows.specs.Lending.{Begun, begun, filled, filled_at, holds_plain, limit_by, Lent, lent, row_of, marked_lent, row_lent, rows_lent, inline_lent, block_lent}
 use Rattle.yq_rows.specs.Reading.{Marks, marks_at, content_at, begins_block, tail_at, fits, marked_row_at, row_at, gap_len, cut_gap, all_rows, part_at}
 use Rattle.yq_rows.specs.Rows.{Content, Nothing, Inline, Block, Row, behind_columns, parent_of, dashes_text, Part}
 use Rattle.yq_rows.specs.View.{Slices, slices, slices_text, last_dash, key_of, colon_of}
@@ -86,11 +86,17 @@ marked_lending gap column m =
     go (Some x) = kept (fits m.1 x.0) x
     go None = refl
 
-pub row_lending : (limit : Limit) (gap t indent rest : List ℕ) → (indent, rest) ≡ cut no_space t → (allows limit (length indent) && not (eqb (length indent) 0 && is_marker rest)) ≡ true → row_lent limit gap t ≡ marked_lent gap (length indent) (begun (marks_at rest))
+row_lending : (limit : Limit) (gap t indent rest : List ℕ) → (indent, rest) ≡ cut no_space t → (allows limit (length indent) && not (eqb (length indent) 0 && is_marker rest)) ≡ true → row_lent limit gap t ≡ marked_lent gap (length indent) (begun (marks_at rest))
 unfolding row_at
 row_lending limit gap t indent rest e ok =
     rw (subst (λ (y : List ℕ × List ℕ). (allows limit (length y.0) && not (eqb (length y.0) 0 && is_marker y.1)) ≡ true) e ok)
     (ap (λ (y : List ℕ × List ℕ). marked_row_at gap (length y.0) (marks_at y.1) >>= λ x. Some (lent x)) (sym e) ∙ marked_lending gap (length indent) (marks_at rest))
+
+pub row_as : (limit : Limit) (gap t indent rest bytes : List ℕ) (stands : Bool) (b : Begun) (o : Option Lent) → (indent, rest) ≡ cut no_space t → bytes ≡ rest → stands ≡ (allows limit (length indent) && not (eqb (length indent) 0 && is_marker bytes)) → stands ≡ true →
+    b ≡ begun (marks_at rest) → marked_lent gap (length indent) b ≡ o → row_lent limit gap t ≡ o
+row_as limit gap t indent rest bytes stands b o e same may is marks read =
+    let ok = ap (λ (u : List ℕ). allows limit (length indent) && not (eqb (length indent) 0 && is_marker u)) (sym same) ∙ (sym may ∙ is) in
+    row_lending limit gap t indent rest e ok ∙ (ap (marked_lent gap (length indent)) (sym marks) ∙ read)
 
 -- rows behind others
 lent_front : (front : List Slices) (r : Row) (o : Option (Part × List ℕ)) → rows_lent front (with_front (r ∷ []) o) ≡ rows_lent (front ++ slices r ∷ []) o
@@ -122,7 +128,7 @@ pub rows_end : (front : List Slices) (limit : Limit) (gap t : List ℕ) → ends
 rows_end front limit gap t none = ap (rows_lent front) (rows_done limit gap t none) ∙ ap (λ (l : List Slices). Some (l, gap, t)) (append-nil front)
 
 -- a row that was read, with the gap before it, stands in front of what follows
-row_spelled : (limit : Limit) (gap t : List ℕ) (s : Slices) (l : Limit) (after : List ℕ) → row_lent limit gap t ≡ Some (s, l, after) → gap ++ t ≡ slices_text s after
+pub row_spelled : (limit : Limit) (gap t : List ℕ) (s : Slices) (l : Limit) (after : List ℕ) → row_lent limit gap t ≡ Some (s, l, after) → gap ++ t ≡ slices_text s after
 row_spelled limit gap t s l after h =
     let x = bind_some (row_at limit gap t) h in
     let is : lent x.0 ≡ (s, l, after) = same_Some _ _ x.2 in
@@ -134,7 +140,7 @@ row_spelled limit gap t s l after h =
 pub at_gap : (front : List Slices) (limit : Limit) (t g r : List ℕ) → (g, r) ≡ cut_gap t → rows_lent front (all_rows limit t) ≡ rows_lent front (rows_from limit g r)
 at_gap front limit t g r e = ap (rows_lent front) (rows_cut limit t) ∙ ap (λ (y : List ℕ × List ℕ). rows_lent front (rows_from limit y.0 y.1)) (sym e)
 
-gap_joined : (t g r : List ℕ) → (g, r) ≡ cut_gap t → t ≡ g ++ r
+pub gap_joined : (t g r : List ℕ) → (g, r) ≡ cut_gap t → t ≡ g ++ r
 gap_joined t g r e = subst (λ (y : List ℕ × List ℕ). t ≡ y.0 ++ y.1) (sym e) (sym (take-append-drop (gap_len t) t))
 
 cut_within : (t g r : List ℕ) → (g, r) ≡ cut_gap t → length r ≤ length t

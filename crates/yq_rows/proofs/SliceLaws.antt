@@ -35,7 +35,7 @@ slices_are r rest =
     ∙ mark_slices r.dashes r.mark (content_text r.content rest))
 
 -- how long a row is
-slices-length : (s : Slices) (rest : List ℕ) → length (slices_text s rest) ≡ row_length s + length rest
+pub slices-length : (s : Slices) (rest : List ℕ) → length (slices_text s rest) ≡ row_length s + length rest
 slices-length s rest =
     let spaces : length (replicate s.column 32) ≡ s.column = length-replicate {A = ℕ} s.column 32 in
     omega (

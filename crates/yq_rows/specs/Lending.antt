@@ -1,5 +1,5 @@
 -- What reading gives, as the code lends it (own; a reader may skip it).
-use Rattle.std.specs.Prelude.{ℕ, suc, ◌+◌, Bool, true, false, ◌||◌, ◌==◌, List, [], ◌++◌, length, map, take, drop, Option, Some, None, if◌then◌else◌, ℤ}
+use Rattle.std.specs.Prelude.{◌≡◌, ℕ, suc, ◌+◌, Bool, true, false, ◌||◌, ◌==◌, List, [], ◌++◌, length, map, take, drop, Option, Some, None, if◌then◌else◌, ℤ}
 use Rattle.yq_scalar.specs.Answers.{◌>>=◌}
 use Rattle.yq_scalar.specs.Piece.{deeper}
 use Rattle.yq_scalar.specs.Text.{upto, cut, front, unless, no_white}
@@ -123,6 +123,10 @@ row_of gap column b f = let n = parent_of b.mark (column + b.columns) in (
   f.rest,
 )
 
+-- the pieces of a row, as the code read them (own)
+abbrev pub read_slices : List ℕ → ℕ → Begin → Filling → Slices
+read_slices gap column b f = (row_of gap column (begin_view b) (filling_view f)).0
+
 -- a row behind its gap and indentation, whose marks were read (own)
 abbrev pub marked_lent : List ℕ → ℕ → Begun → Option Lent
 marked_lent gap column b =
@@ -135,6 +139,13 @@ lent x = (slices x.0, limit_after x.0, x.1)
 -- a row behind its gap, as the code lends it (own)
 abbrev pub row_lent : Limit → List ℕ → List ℕ → Option Lent
 row_lent limit gap t = row_at limit gap t >>= λ x. Some (lent x)
+
+-- These are the gap, the column, the marks and the content of a row that was read in front of a text (own).
+pub record IsLent (text gap : List ℕ) (column : ℕ) (b : Begin) (f : Filling) : Type 0 where
+  pub limit : Limit
+  pub behind : List ℕ
+  pub joined : text ≡ gap ++ behind
+  pub read : row_lent limit gap behind ≡ Some (row_of gap column (begin_view b) (filling_view f))
 
 -- rows, a gap, and what follows (own)
 abbrev pub PartLent : Type 0

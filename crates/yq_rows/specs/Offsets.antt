@@ -1,13 +1,19 @@
 -- Reading (own; a reader may skip it): the rows of a text, as the code keeps them: where they begin in it, and how long their pieces are.
-use Rattle.std.specs.Prelude.{◌≡◌, ℕ, ◌+◌, ◌-◌, List, [], ◌∷◌, length, map, take, drop}
+use Rattle.std.specs.Prelude.{◌≡◌, ℕ, zero, suc, ◌+◌, ◌-◌, ℤ, pos, List, [], ◌∷◌, length, map, take, drop}
 use Rattle.std.specs.List.{All}
 use Rattle.std.specs.Str.{IsUtf8, IsCharBoundary}
+use Rattle.yq_rows.specs.Rows.{before_column}
 use Rattle.yq_rows.specs.View.{Slices}
 use Rattle.yq_rows.specs.declared.offsets.Offsets as declared
 
 -- a text is the end of the whole one (own)
 abbrev pub Ends : List ℕ → List ℕ → Type 0
 Ends text whole = drop (length whole - length text) whole ≡ text
+
+-- the parent indentation of what stands behind a row's mark, by how many columns its indentation and its dashes take, and by how long its colon is (own)
+abbrev pub parent_by : ℕ → ℕ → ℤ
+parent_by columns zero = before_column columns
+parent_by columns (suc colon) = pos columns
 
 -- the pieces of a row, cut from the front of a text (own)
 unfoldable pub pieces_of : List ℕ → declared.Offsets → Slices
@@ -34,7 +40,7 @@ pieces_of gap o =
       head = take o.head head;
       tail = take o.tail tail;
       raw = take o.raw raw;
-      parent = o.parent;
+      parent = parent_by (o.column + o.dashes) o.colon;
     }
 
 -- the same where the row stands in the text (own)
@@ -62,7 +68,11 @@ Stands whole o = AreCuts whole (o.start ∷ lengths o)
 abbrev pub Stand : List ℕ → List declared.Offsets → Type 0
 Stand whole offsets = All (Stands whole) offsets
 
--- The pieces of a row are characters (own).
+-- the pieces of a row tell the parent indentation of what stands behind its mark (own)
+abbrev pub TellParent : Slices → Type 0
+TellParent s = s.parent ≡ parent_by (s.column + length s.dashes) (length s.colon)
+
+-- The pieces of a row are characters, and tell the parent indentation of what stands behind its mark (own).
 pub record AreTexts (s : Slices) : Type 0 where
   pub gap : IsUtf8 s.gap
   pub dashes : IsUtf8 s.dashes
@@ -74,6 +84,7 @@ pub record AreTexts (s : Slices) : Type 0 where
   pub head : IsUtf8 s.head
   pub tail : IsUtf8 s.tail
   pub raw : IsUtf8 s.raw
+  pub parent : TellParent s
 
 -- how long a row is (own)
 abbrev pub row_length : Slices → ℕ
@@ -95,7 +106,6 @@ offsets_of start s = record {
   head = length s.head;
   tail = length s.tail;
   raw = length s.raw;
-  parent = s.parent;
 }
 
 -- how many bytes of a row stand before its key (own)

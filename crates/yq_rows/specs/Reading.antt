@@ -1,5 +1,6 @@
 -- Reading (own; a reader may skip it: the grammar is what is believed, and the clauses `found` and `only` tie the two).
 use Rattle.std.specs.Prelude.{ℕ, zero, suc, ◌+◌, ℤ, Bool, true, false, ◌||◌, ◌&&◌, not, ◌==◌, nat_le, List, [], ◌∷◌, ◌++◌, length, take, drop, if◌then◌else◌, Option, Some, None}
+use Rattle.std.specs.List.{prefix_len}
 use Rattle.std.specs.Str.{chars}
 use Rattle.yq_scalar.specs.Answers.{◌>>=◌}
 use Rattle.yq_scalar.specs.BlockReading.{block_at}
@@ -51,6 +52,10 @@ key_at t = do
   key ← scalar_at false None t
   colon ← colon_at key.1
   if nat_le (length (chars key.0) + length (chars colon.0)) (key_limit + 1) then Some (key.0, colon.0, colon.1) else None
+
+-- a `:` stands in front of the end of the line (own)
+abbrev pub holds_colon : List ℕ → Bool
+holds_colon t = first_is 58 (drop (prefix_len (λ b. not (b == 58) && not (b == 10)) t) t)
 
 -- a dash in front: `-` before white space, a break or the end (YAML 1.2.2, section 8.2.1)
 abbrev pub is_dash : List ℕ → Bool

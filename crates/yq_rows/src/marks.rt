@@ -1,6 +1,7 @@
 //! Dashes and keys.
+ghost use Rattle.std.specs.List.{prefix_len};
 ghost use Rattle.std.specs.Option.{option_map};
-ghost use Rattle.std.specs.Prelude.{◌≡◌, ◌≤◌, ◌&&◌, ◌+◌, length, nat_le, not, None, if◌then◌else◌};
+ghost use Rattle.std.specs.Prelude.{◌≡◌, ◌≤◌, ◌==◌, ◌&&◌, ◌+◌, length, nat_le, not, None, if◌then◌else◌};
 ghost use Rattle.std.specs.Str.{chars};
 ghost use Rattle.yq_scalar.specs.Text.{is_empty};
 ghost use Rattle.yq_rows.specs.Grammar as grammar;
@@ -8,8 +9,10 @@ ghost use Rattle.yq_rows.specs.Grammar.{key_limit};
 ghost use Rattle.yq_rows.specs.Lending.{begin_view, begun, mark_view};
 ghost use Rattle.yq_rows.specs.Reading as spec;
 ghost use Rattle.yq_rows.specs.Rows as rows;
+ghost use Rattle.yq_rows.specs.View as view;
 
 use crate::words::read_front;
+use yq_inline::pieces::first_is;
 use yq_scalar::characters::char_count;
 use yq_scalar::text::{separates, split_spaces, split_white};
 
@@ -46,6 +49,18 @@ pub(crate) fn is_entry(mark: Mark<'_>) -> bool
     matches!(mark, Mark::Dash | Mark::Key(..))
 }
 
+/// The key of a mark, and what stands behind it up to its `:`; nothing where it has none.
+#[inline]
+pub(crate) fn key_of<'t>(mark: Mark<'t>) -> (&'t str, &'t str)
+    ensures key { result.0.now ≡ view.key_of (mark_view mark.entry) }
+    ensures colon { result.1.now ≡ view.colon_of (mark_view mark.entry) }
+{
+    match mark {
+        Mark::Bare | Mark::Dash => ("", ""),
+        Mark::Key(key, colon) => (key, colon),
+    }
+}
+
 /// The parent indentation of what stands behind a mark in a column: that column, or, without a key
 /// or dash, one less.
 pub(crate) fn parent_of(mark: Mark<'_>, column: usize) -> i64
@@ -59,8 +74,8 @@ pub(crate) fn parent_of(mark: Mark<'_>, column: usize) -> i64
 }
 
 /// One column less, from -1 on.
-fn before_column(column: usize) -> i64
-    requires { column ≤ 4294967295 }
+pub(crate) fn before_column(column: usize) -> i64
+    requires { column ≤ 8589934591 }
     ensures { result ≡ rows.before_column column }
 {
     if column == 0 { -1 } else { (column - 1) as i64 }
@@ -141,12 +156,31 @@ fn goes_on(spaces: &str, next: &str) -> bool
     !spaces.is_empty() && is_dash(next.as_bytes())
 }
 
-/// The key behind a dash and these spaces, what stands behind it up to its `:`, and what follows.
+/// How many bytes stand in front of the first `:` or LF.
+fn colon_len(text: &[u8]) -> usize
+    ensures value { result ≡ prefix_len (λ b. not (b == 58) && not (b == 10)) text.now }
+    ensures within { result ≤ length text.now }
+{
+    text.iter()
+        .take_while(|b| **b != b':' && **b != b'\n')
+        .count()
+}
+
+/// Whether a `:` stands in front of the end of the line.
+fn holds_colon(text: &[u8]) -> bool
+    ensures { result ≡ spec.holds_colon text.now }
+{
+    first_is(b':', text.split_at(colon_len(text)).1)
+}
+
+/// The key behind a dash and these spaces, what stands behind it up to its `:`, and what follows. No
+/// scalar is read where the line has no `:`.
+#[tactic(auto, using(crate::proofs::KeyLines::no_key_line))]
 fn key_behind<'t>(spaces: &str, next: &'t str) -> Option<(&'t str, &'t str, &'t str)>
     ensures { option_map (λ x. (x.0.now, x.1.now, x.2.now)) result
         ≡ (if is_empty spaces.now then None else spec.key_at next.now) }
 {
-    if spaces.is_empty() {
+    if spaces.is_empty() || !holds_colon(next.as_bytes()) {
         None
     } else {
         find_key(next)

@@ -1,38 +1,38 @@
 //! Rows, read one behind the other.
-ghost use Rattle.std.specs.Prelude.{◌≡◌, ◌≢◌, ◌<◌, ◌≤◌, ◌+◌, ◌-◌, ◌^◌, ◌==◌, ◌&&◌, ◌||◌, not, length, true, IfErr, IfOk};
+ghost use Rattle.std.specs.Prelude.{◌≡◌, ◌≢◌, ◌<◌, ◌≤◌, ◌+◌, ◌++◌, ◌-◌, ◌^◌, ◌==◌, ◌&&◌, ◌||◌, ℕ, List, not, length, true, IfErr, IfOk};
 ghost use Rattle.yq_scalar.specs.Answers.{Gives, IsOfText, Reads};
 ghost use Rattle.yq_scalar.specs.Text;
 ghost use Rattle.yq_scalar.specs.declared.fault.FaultKind.TheVariants.{NotUtf8};
 ghost use Rattle.yq_rows.specs.Grammar as grammar;
 ghost use Rattle.yq_rows.specs.Grammar.{unlimited, ends_part};
 ghost use Rattle.yq_rows.specs.Kept.{rows_placed};
-ghost use Rattle.yq_rows.specs.Lending.{begin_view, marked_lent, row_lent, rows_lent};
-ghost use Rattle.yq_rows.specs.Offsets.{Ends, Stand, rows_in};
+ghost use Rattle.yq_rows.specs.Lending.{begin_view, filling_view, marked_lent, row_lent, row_of, rows_lent};
+ghost use Rattle.yq_rows.specs.Offsets.{Ends, Stand, Stands, offsets_of, rows_in, slices_in};
 ghost use Rattle.yq_rows.specs.Reading as spec;
-ghost use Rattle.yq_rows.specs.View.{limit_view, view};
+ghost use Rattle.yq_rows.specs.View.{limit_view};
 
-use crate::content::{find_tail, read_content};
+use crate::content::{Filling, find_tail, read_content};
 use crate::fault::fault;
 use crate::gap::split_gap;
-use crate::marks::{Begin, Mark, is_entry, parent_of, read_begin};
+use crate::marks::{Begin, is_entry, parent_of, read_begin};
 use crate::naming::not_alone;
 use crate::offsets::{Offsets, offsets_of};
-use crate::row::{Limit, Row};
+use crate::row::Limit;
 use std::alloc::Global;
 use yq_scalar::text::{is_marker, split_spaces};
 use yq_scalar::{FaultKind, ReadError, ReadFault};
 
-/// The row whose gap, indentation and marks are read already, what it asks of the next one, and
-/// what follows.
+/// What stands behind the marks of a row that are read already, below a parent of this indentation.
+#[inline]
 fn read_marked<'t>(
     whole: &'t str,
-    gap: &'t str,
     column: usize,
-    begin: Begin<'t>,
-) -> Result<(Row<'t>, Limit, &'t str), ReadError>
-    requires short { length begin.rest.now ≤ length whole.now }
-    requires columns { column + begin.columns < 2 ^ 32 }
-    ensures read { Gives (λ x. (view x.0, limit_view x.1, x.2.now)) result (marked_lent gap.now column (begin_view begin.entry)) }
+    begin: &Begin<'t>,
+) -> Result<Filling<'t>, ReadError>
+    requires columns { column + begin.now.columns < 2 ^ 32 }
+    ensures read { (gap : List ℕ) →
+        Gives (λ f. row_of gap column (begin_view begin.now) (filling_view f)) result
+        (marked_lent gap column (begin_view begin.now)) }
     ensures fault { IfErr result IsOfText }
 {
     let parent = parent_of(begin.mark, column + begin.columns);
@@ -41,25 +41,7 @@ fn read_marked<'t>(
         let kind = not_alone(content.space, content.head);
         return Err(ReadError::Fault(fault(kind, whole, begin.rest)));
     }
-    let (key, colon) = match begin.mark {
-        Mark::Key(key, colon) => (key, colon),
-        Mark::Bare | Mark::Dash => ("", ""),
-    };
-    let row = Row {
-        gap,
-        column: column as u32,
-        dashes: begin.dashes,
-        key,
-        colon,
-        space: content.space,
-        anchor: content.anchor,
-        apart: content.apart,
-        head: content.head,
-        tail: content.tail,
-        raw: content.raw,
-        parent,
-    };
-    Ok((row, Limit::behind(parent, content.plain), content.rest))
+    Ok(content)
 }
 
 /// Whether a row may stand at a column before this text.
@@ -69,17 +51,26 @@ fn may_stand(limit: Limit, column: usize, text: &[u8]) -> bool
     limit.allows(column) && !(column == 0 && is_marker(text))
 }
 
-/// The row whose gap is read already, what it asks of the next one, and what follows.
+/// Where the row in front stands, whose gap is read already, what it asks of the next one, and what
+/// follows.
 #[tactic(auto, unfolding(crate::specs::Reading::row_at))]
+#[inline]
 fn read_row<'t>(
     whole: &'t str,
     limit: Limit,
+    at: &'t str,
     gap: &'t str,
     text: &'t str,
-) -> Result<(Row<'t>, Limit, &'t str), ReadError>
+) -> Result<(Offsets, Limit, &'t str), ReadError>
+    requires ends { Ends at.now whole.now }
+    requires cut { at.now ≡ gap.now ++ text.now }
     requires short { length text.now ≤ length whole.now }
     requires small { length whole.now < 2 ^ 32 }
-    ensures read { Gives (λ x. (view x.0, limit_view x.1, x.2.now)) result (row_lent (limit_view limit) gap.now text.now) }
+    ensures read { Gives (λ x. (slices_in whole.now x.0, limit_view x.1, x.2.now)) result
+        (row_lent (limit_view limit) gap.now text.now) }
+    ensures stands { IfOk result (λ x. Stands whole.now x.0) }
+    ensures place { IfOk result (λ x. x.0 ≡
+        offsets_of (length whole.now - length at.now) (slices_in whole.now x.0)) }
     ensures fault { IfErr result IsOfText }
 {
     let (indent, rest) = split_spaces(text);
@@ -87,7 +78,14 @@ fn read_row<'t>(
     if !may_stand(limit, column, rest.as_bytes()) {
         return Err(ReadError::Fault(fault(FaultKind::BadIndent, whole, text)));
     }
-    read_marked(whole, gap, column, read_begin(rest))
+    let begin = read_begin(rest);
+    let content = match read_marked(whole, column, &begin) {
+        Ok(content) => content,
+        Err(e) => return Err(e),
+    };
+    let place = offsets_of(whole, at, gap, column, &begin, &content);
+    let parent = parent_of(begin.mark, column + begin.columns);
+    Ok((place, Limit::behind(parent, content.plain), content.rest))
 }
 
 /// Whether no row follows: the end is in front, or a marker.
@@ -124,11 +122,11 @@ fn read_rows<'t>(
         if ends_part(rest.as_bytes()) {
             return Ok((rows, gap, rest));
         }
-        let (row, next, after) = match read_row(whole, limit, gap, rest) {
+        let (row, next, after) = match read_row(whole, limit, at, gap, rest) {
             Ok(found) => found,
             Err(e) => return Err(e),
         };
-        rows.push(offsets_of(whole, at, &row))?;
+        rows.push(row)?;
         limit = next;
         at = after;
     }

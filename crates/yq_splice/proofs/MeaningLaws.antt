@@ -3,17 +3,17 @@ use Rattle.std.proofs.Common.{◌≡◌, inl, inr, ℕ, List, [], ◌∷◌, Som
 use Rattle.yq_rows.specs.Rows.{Cut}
 use Rattle.yq_documents.specs.Reading.{read_at, documents}
 use Rattle.yq_lines.proofs.ShapeLaws.{shaped_by_lines, shaped_is_tree}
-use Rattle.yq_tree.proofs.ReadLaws.{read_takes}
-use Rattle.yq_tree.proofs.ReadyLaws.{read_ready}
-use Rattle.yq_planning.proofs.RoomLaws.{rooms_are_ready}
-use Rattle.yq_planning.proofs.updates.PlanMeans.{plan_means, plan_refused}
-use Rattle.yq_planning.proofs.updates.RoomsLast.{plan_follows}
+use Rattle.yq_places.proofs.ReadLaws.{read_takes}
+use Rattle.yq_places.proofs.ReadyLaws.{read_ready}
+use Rattle.yq_plans.proofs.RoomLaws.{rooms_are_ready}
+use Rattle.yq_plans.proofs.updates.PlanMeans.{plan_means, plan_refused}
+use Rattle.yq_plans.proofs.updates.RoomsLast.{plan_follows}
 use Rattle.yq_meaning.specs.After.{all_after}
 use Rattle.yq_meaning.specs.Judgement as judgement
 use Rattle.yq_meaning.specs.Meaning.{AreReady}
 use Rattle.yq_meaning.specs.Operations.{Operation}
 use Rattle.yq_meaning.specs.declared.refusal.Refusal.{Refusal}
-use Rattle.yq_planning.specs.Plans.{plan}
+use Rattle.yq_meaning.specs.Plans.{plan}
 use Rattle.yq_program.specs.Program.{Update, UpdatesHold}
 use Rattle.yq_meaning.specs.Rooms.{room_of}
 use Rattle.yq_flow_edits.proofs.CutLaws.{cut_same}

@@ -16,17 +16,17 @@ use Rattle.yq_walk.specs.Lines.{lines_of}
 use Rattle.yq_documents.specs.Pieces.{Piece}
 use Rattle.yq_documents.specs.Reading.{outline_of, read_at}
 use Rattle.yq_documents.specs.Seats.{Seat, seat, seat_of}
-use Rattle.yq_tree.specs.FirstPlaces.{first_entry, first_out, first_removal}
-use Rattle.yq_tree.specs.PathPieces.{BlockEntry, PrintedDocument, entry_piece, found_entry, piece_in, piece_in_entry, printed_document}
-use Rattle.yq_tree.specs.PlacedRows.{PlacedPart}
-use Rattle.yq_tree.specs.PrintedLines.{line_in}
-use Rattle.yq_tree.specs.RemovalPlaces.{OwnRows, in_three, own_rows, removal_place, row_count, rows_out}
-use Rattle.yq_tree.specs.Standings.{PlacedEntry, placed_entry}
-use Rattle.yq_tree.proofs.FoundEntries.{entry_there}
-use Rattle.yq_tree.proofs.FoundLines.{middle}
-use Rattle.yq_tree.proofs.PrintedLaws.{lines_are}
-use Rattle.yq_tree.proofs.RowPathLaws.{found_lines}
-use Rattle.yq_tree.proofs.SeatLineLaws.{seat_line}
+use Rattle.yq_places.specs.FirstPlaces.{first_entry, first_out, first_removal}
+use Rattle.yq_places.specs.PathPieces.{BlockEntry, PrintedDocument, entry_piece, found_entry, piece_in, piece_in_entry, printed_document}
+use Rattle.yq_places.specs.PlacedRows.{PlacedPart}
+use Rattle.yq_places.specs.PrintedLines.{line_in}
+use Rattle.yq_places.specs.RemovalPlaces.{OwnRows, in_three, own_rows, removal_place, row_count, rows_out}
+use Rattle.yq_places.specs.Standings.{PlacedEntry, placed_entry}
+use Rattle.yq_places.proofs.FoundEntries.{entry_there}
+use Rattle.yq_places.proofs.FoundLines.{middle}
+use Rattle.yq_places.proofs.PrintedLaws.{lines_are}
+use Rattle.yq_places.proofs.RowPathLaws.{found_lines}
+use Rattle.yq_places.proofs.SeatLineLaws.{seat_line}
 use Rattle.yq_change.specs.StandingLaws.{StandsThere}
 use Rattle.yq_change.proofs.StandingRows.{rows_stand}
 use Rattle.yq_script.specs.Script.{Segment}

@@ -1,13 +1,13 @@
 -- Operations that may follow one another are carried out on a text that reads.
 use Rattle.std.proofs.Common.{◌≡◌, inl, inr, ℕ, List, [], ◌∷◌, refl, subst}
 use Rattle.yq_documents.specs.Documents.{Document, Reads}
-use Rattle.yq_tree.proofs.ReadLaws.{one_reading}
+use Rattle.yq_places.proofs.ReadLaws.{one_reading}
 use Rattle.yq_meaning.specs.After.{after_op, all_after}
 use Rattle.yq_meaning.specs.Operations.{Operation}
 use Rattle.yq_meaning.specs.Rooms.{room_of}
 use Rattle.yq_meaning.specs.RoomsKept.{LeavesRooms}
 use Rattle.yq_meaning.specs.declared.refusal.Refusal.TheVariants.{TooLarge}
-use Rattle.yq_planning.proofs.updates.AlikeRooms.{rest_follow, rest_after}
+use Rattle.yq_plans.proofs.updates.AlikeRooms.{rest_follow, rest_after}
 use Rattle.yq_script.specs.Splice.{Splice}
 use Rattle.yq_splice.specs.Carried.{carried, carry_all}
 use Rattle.yq_splice.specs.Edit.{Edit, unreadable, refuses, gives, behind, and_then}

@@ -21,9 +21,9 @@ use Rattle.yq_rows.specs.declared.places.Places.{Places}
 use Rattle.yq_rows.proofs.PlacedLaws.{split_boundary}
 use Rattle.yq_documents.specs.Reading.{all_documents, documents, cut_of, read_at}
 use Rattle.yq_walk.specs.RowWalk.{AreKnown}
-use Rattle.yq_tree.specs.RowWalk.{HasCut, StayKnown}
+use Rattle.yq_places.specs.RowWalk.{HasCut, StayKnown}
 use Rattle.yq_walk.specs.declared.spot.KnownItems.{KnownItems}
-use Rattle.yq_tree.proofs.ReadLaws.{text_takes, read_takes}
+use Rattle.yq_places.proofs.ReadLaws.{text_takes, read_takes}
 use Rattle.yq_meaning.specs.Operations.{Operation}
 use Rattle.yq_script.specs.Changing.{IsChange}
 use Rattle.yq_script.specs.Script.{Segment, new_text, old_text}

@@ -12,12 +12,12 @@ use Rattle.yq_scalar.proofs.Bools.{bind_some}
 use Rattle.yq_flow.proofs.RemoveTexts.{either}
 use Rattle.yq_rows.specs.Rows.{Cut, cut_text}
 use Rattle.yq_documents.specs.Reading.{read_at}
-use Rattle.yq_tree.specs.FirstBreak.{first_break}
-use Rattle.yq_tree.specs.FlowNodes.{flow_collection}
-use Rattle.yq_tree.specs.NodesAt.{node_in}
-use Rattle.yq_tree.specs.RemovalPlaces.{has_others_at}
-use Rattle.yq_tree.specs.Standings.{FlowPart, PlacedEntry, Standing, flow_standing, last_step, placed_entry, standing_at}
-use Rattle.yq_tree.proofs.PrintedTexts.{map_some}
+use Rattle.yq_places.specs.FirstBreak.{first_break}
+use Rattle.yq_places.specs.FlowNodes.{flow_collection}
+use Rattle.yq_places.specs.NodesAt.{node_in}
+use Rattle.yq_places.specs.RemovalPlaces.{has_others_at}
+use Rattle.yq_places.specs.Standings.{FlowPart, PlacedEntry, Standing, flow_standing, last_step, placed_entry, standing_at}
+use Rattle.yq_places.proofs.PrintedTexts.{map_some}
 use Rattle.yq_meaning.specs.Operations.{replace, append, remove, line_comment, head_comment}
 use Rattle.yq_script.specs.Script.{Segment, keep}
 use Rattle.yq_edits.specs.CommentEdits.{head_comment_put, line_comment_put}

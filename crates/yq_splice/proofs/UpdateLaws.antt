@@ -8,11 +8,11 @@ use Rattle.yq_scalar.specs.declared.fault.ReadError.{ReadError}
 use Rattle.yq_scalar.specs.declared.fault.ReadError.TheVariants as reading
 use Rattle.yq_rows.specs.Rows.{Cut}
 use Rattle.yq_documents.specs.Reading.{documents, documents_of, cut_of, read_at}
-use Rattle.yq_tree.proofs.ExactReading.{parts_read}
+use Rattle.yq_places.proofs.ExactReading.{parts_read}
 use Rattle.yq_meaning.specs.Judgement as judgement
 use Rattle.yq_meaning.specs.Judgement.{Plans}
 use Rattle.yq_meaning.specs.Operations.{Operation}
-use Rattle.yq_planning.specs.Plans.{plan}
+use Rattle.yq_meaning.specs.Plans.{plan}
 use Rattle.yq_program.specs.Program.{Program, Update, assign, delete, comment, read, updates, update_at, update_count, UpdatesHold, LiteralsHold}
 use Rattle.yq_meaning.specs.Rooms.{room_of}
 use Rattle.yq_meaning.specs.declared.refusal.Refusal.{Refusal}

@@ -5,7 +5,7 @@ use Rattle.yq_documents.specs.Reading.{documents, read_at}
 use Rattle.yq_meaning.specs.Judgement.{Judgement}
 use Rattle.yq_meaning.specs.Judgement as judgement
 use Rattle.yq_meaning.specs.Operations.{Operation}
-use Rattle.yq_planning.specs.Plans.{plan}
+use Rattle.yq_meaning.specs.Plans.{plan}
 use Rattle.yq_program.specs.Program.{Program, Update, read, updates}
 use Rattle.yq_meaning.specs.Rooms.{room_of}
 use Rattle.yq_meaning.specs.declared.refusal.Refusal.TheVariants.{NotAnUpdate}

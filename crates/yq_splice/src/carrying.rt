@@ -3,7 +3,7 @@ ghost use Rattle.std.specs.Prelude.{◌≡◌, IfErr, IfOk, string_bytes};
 ghost use Rattle.yq_meaning.specs.Operations.{operation_of, operations_of};
 ghost use Rattle.yq_documents.specs.Reading.{cut_of};
 ghost use Rattle.yq_script.specs.Changing.{IsChange};
-ghost use Rattle.yq_tree.specs.RowWalk.{StayKnown};
+ghost use Rattle.yq_places.specs.RowWalk.{StayKnown};
 ghost use Rattle.yq_splice.specs.Answers.{Edits, Fails};
 ghost use Rattle.yq_splice.specs.Carried as spec;
 ghost use Rattle.yq_splice.specs.Edit.{behind};
@@ -17,9 +17,11 @@ use crate::operands::operand_holds;
 use crate::session::Session;
 use std::alloc::Global;
 use yq_expr::Op;
+use yq_places::CutText;
 use yq_rows::Places;
 use yq_script::{Changed, Edited, Splice, changes, exchange};
-use yq_tree::{CutText, KnownItems, read};
+use yq_tree::read;
+use yq_walk::KnownItems;
 
 /// The same text, where what stands on the way of an operation is known.
 fn on_the_way<'d, 't>(cut: &CutText<'d, 't>, op: &Op) -> CutText<'d, 't>

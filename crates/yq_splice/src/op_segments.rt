@@ -6,19 +6,20 @@ ghost use Rattle.yq_lines.specs.Bodies.{lent};
 ghost use Rattle.yq_rows.specs.Rows.{cut_text};
 ghost use Rattle.yq_documents.specs.Located.{steps_of};
 ghost use Rattle.yq_documents.specs.Reading.{cut_of};
-ghost use Rattle.yq_tree.specs.Standings.{last_step};
+ghost use Rattle.yq_places.specs.Standings.{last_step};
 ghost use Rattle.yq_meaning.specs.Operations.{operation_of};
 ghost use Rattle.yq_script.specs.Script.{keep};
 ghost use Rattle.yq_edits.specs.Edits as spec;
 ghost use Rattle.yq_edits.specs.Answers.{Carries};
 
 use std::alloc::{AllocError, Global};
+use yq_documents::Path;
 use yq_edits::{head_comment_at, is_kept, line_comment_at, more_at, one_removed, value_put_at};
 use yq_expr::Op;
 use yq_flow_edits::{append_in_flow, emptying, put_in_flow, remove_in_flow};
 use yq_inline::Value;
+use yq_places::CutText;
 use yq_script::{Segment, Segments};
-use yq_tree::{CutText, Path};
 
 /// A text of which all bytes stay.
 #[tactic(auto, using(crate::proofs::ChoiceLaws::whole_kept))]

@@ -6,7 +6,7 @@ ghost use Rattle.yq_rows.specs.Meter.{counted, line_count};
 ghost use Rattle.yq_scalar.specs.Answers.{Gives};
 ghost use Rattle.yq_script.specs.Changing.{IsChange};
 ghost use Rattle.yq_text.specs.Halves.{whole};
-ghost use Rattle.yq_tree.specs.RowWalk.{StayKnown};
+ghost use Rattle.yq_places.specs.RowWalk.{StayKnown};
 ghost use Rattle.yq_splice.specs.Answers.{Edits, Fails};
 ghost use Rattle.yq_splice.specs.Carried.{carried};
 ghost use Rattle.yq_splice.specs.Edit.{behind, gives};
@@ -21,12 +21,14 @@ use std::alloc::Global;
 use std::marker::Model;
 use std::mem;
 use yq_expr::Op;
+use yq_places::CutText;
 use yq_rows::{Meter, Places, count_lines};
 use yq_scalar::ReadError;
 use yq_script::{Changed, Edited, Splice};
 use yq_session::{Kept, follow};
 use yq_text::{Halves, SplitText};
-use yq_tree::{CutText, KnownItems, read};
+use yq_tree::read;
+use yq_walk::KnownItems;
 
 /// A text that reads, kept with where its rows stand, both on two sides of where it was changed last: so that
 /// operations are applied to it one after the other, each passes what stands between its place and the last

@@ -5,7 +5,7 @@ ghost use Rattle.yq_scalar.specs.declared.fault.FaultKind.TheVariants.{NotUtf8};
 ghost use Rattle.yq_scalar.specs.Answers.{Gives, IsOfText};
 ghost use Rattle.yq_rows.specs.Grammar.{IsCut};
 ghost use Rattle.yq_rows.specs.Rows.{Cut};
-ghost use Rattle.yq_tree.specs.Answers.{IsNotUtf8};
+ghost use Rattle.yq_places.specs.Answers.{IsNotUtf8};
 ghost use Rattle.yq_documents.specs.Documents.{Document, Reads};
 ghost use Rattle.yq_documents.specs.Reading as spec;
 ghost use Rattle.yq_documents.specs.Ready.{TextIsReady};
@@ -13,8 +13,8 @@ ghost use Rattle.yq_documents.specs.Ready.{TextIsReady};
 use crate::document::Documents;
 use std::alloc::Global;
 use std::num::NonZeroU64;
-use yq_documents::{check_parts, document_lines};
 use yq_lines::lines_shaped;
+use yq_reading::read_rows;
 use yq_rows::scan;
 use yq_scalar::{FaultKind, ReadError, ReadFault};
 
@@ -47,19 +47,10 @@ fn read_text(alloc: Global, text: &str) -> Result<Documents<'_>, ReadError>
         Ok(rows) => rows,
         Err(e) => return Err(e),
     };
-    let parts = match document_lines(alloc, text, &rows) {
-        Ok(parts) => parts,
-        Err(e) => return Err(e),
-    };
-    let documents = match check_parts(alloc, text, &rows, parts) {
-        Ok(documents) => documents,
-        Err(e) => return Err(e),
-    };
-    Ok(Documents {
-        text,
-        rows,
-        documents,
-    })
+    match read_rows(alloc, text, rows) {
+        Ok(read) => Ok(Documents { read }),
+        Err(e) => Err(e),
+    }
 }
 
 /// Reads bytes as documents.

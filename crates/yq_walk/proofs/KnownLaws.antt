@@ -9,10 +9,16 @@ use Rattle.yq_walk.specs.RowWalk.{line_level, level_count, AreDeep, ArePassed, I
 use Rattle.yq_walk.specs.declared.spot.KnownItem.{KnownItem}
 
 -- lists
-pub get_front : (xs ys : List Slices) (i : ℕ) (x : Slices) → slice_get xs i ≡ Some x → slice_get (xs ++ ys) i ≡ Some x
+pub get_front : {A : Type 0} (xs ys : List A) (i : ℕ) (x : A) → slice_get xs i ≡ Some x → slice_get (xs ++ ys) i ≡ Some x
 get_front [] ys i x e = absurd (cc)
 get_front (y ∷ xs) ys zero x e = e
 get_front (y ∷ xs) ys (suc i) x e = get_front xs ys i x e
+
+pub get_dropped : {A : Type 0} (xs : List A) (n i : ℕ) → slice_get (drop n xs) i ≡ slice_get xs (n + i)
+get_dropped [] zero i = refl
+get_dropped [] (suc n) i = refl
+get_dropped (x ∷ xs) zero i = ap (slice_get (x ∷ xs)) (omega arith)
+get_dropped (x ∷ xs) (suc n) i = let sum : suc (n + i) ≡ suc n + i = omega arith in get_dropped xs n i ∙ ap (slice_get (x ∷ xs)) sum
 
 pub get_before : (xs ys : List Slices) (i : ℕ) (x : Slices) → i < length xs → slice_get (xs ++ ys) i ≡ Some x → slice_get xs i ≡ Some x
 get_before [] ys i x h e = absurd (omega (arith, h))

@@ -1,6 +1,6 @@
 -- A walk to an item or entry goes on from one that is known.
-use Rattle.std.proofs.Common.{◌≡◌, ◌⊎◌, inl, inr, ℕ, zero, suc, ◌+◌, ◌-◌, ◌<◌, ◌≤◌, ltb, cond, Bool, true, false, not, ◌&&◌, List, [], ◌∷◌, length, take, drop, Option, Some, option_map, refl, sym, ap, ◌∙◌, subst, arith}
-use Rattle.std.proofs.lemmas.Bool.{cases_lt, cond-true, cond-false, lt-ltb, le-ltb, eq-eqb, ne_eqb}
+use Rattle.std.proofs.Common.{◌≡◌, ◌⊎◌, inl, inr, ℕ, zero, suc, ◌+◌, ◌-◌, ◌<◌, ◌≤◌, Bool, true, false, not, ◌&&◌, List, ◌∷◌, length, take, drop, Option, Some, option_map, refl, sym, ap, ◌∙◌, subst, arith}
+use Rattle.std.proofs.lemmas.Bool.{lt-ltb, ne_eqb}
 use Rattle.std.proofs.lemmas.List.{drop-drop, drop-take, take-take, length-take-le, length-drop}
 use Rattle.std.proofs.lemmas.Option.{same_Some, slice_get_within}
 use Rattle.std.specs.List.{slice_get}
@@ -18,71 +18,10 @@ use Rattle.yq_walk.specs.declared.spot.KnownItem.{KnownItem}
 use Rattle.yq_walk.specs.declared.spot.Spot.{Spot}
 use Rattle.yq_walk.specs.declared.spot.Stretch.{Stretch}
 use Rattle.yq_walk.proofs.EntryKeys.{keys_behind, other_key}
-use Rattle.yq_walk.proofs.KnownLaws.{one_there}
+use Rattle.yq_walk.proofs.KnownLaws.{get_dropped, one_there}
+use Rattle.yq_walk.proofs.Siblings.{Sibling, deeper_upto, get_taken, siblings}
 use Rattle.yq_walk.proofs.WalkRows.{under_more}
 use Rattle.yq_walk.proofs.WalkSpots.{Located, located, deeper_told, behind_told, spot_line}
-
-get_dropped : (ss : List Slices) (n i : ℕ) → slice_get (drop n ss) i ≡ slice_get ss (n + i)
-get_dropped [] zero i = refl
-get_dropped [] (suc n) i = refl
-get_dropped (x ∷ ss) zero i = ap (slice_get (x ∷ ss)) (omega arith)
-get_dropped (x ∷ ss) (suc n) i =
-    let sum : suc (n + i) ≡ suc n + i = omega arith in
-    get_dropped ss n i ∙ ap (slice_get (x ∷ ss)) sum
-
-get_taken : (ss : List Slices) (n i : ℕ) → i < n → slice_get (take n ss) i ≡ slice_get ss i
-get_taken [] zero i h = refl
-get_taken [] (suc n) i h = refl
-get_taken (x ∷ ss) zero i h = absurd (omega (arith, h))
-get_taken (x ∷ ss) (suc n) zero h = refl
-get_taken (x ∷ ss) (suc n) (suc i) h = get_taken ss n i (omega (arith, h))
-
--- rows are counted up to one that is not deeper
-deeper_upto : (n m : ℕ) (zs : List Slices) (y : Slices) → slice_get zs m ≡ Some y → line_level 0 y ≤ n → deeper_rows n zs ≡ deeper_rows n (take m zs)
-deeper_upto n zero [] y e low = refl
-deeper_upto n (suc m) [] y e low = refl
-deeper_upto n zero (z ∷ zs) y e low =
-    cond-false _ (suc (deeper_rows n zs)) 0 (le-ltb n (line_level 0 z) (omega (arith, low, ap (line_level 0) (same_Some _ _ e))))
-deeper_upto n (suc m) (z ∷ zs) y e low = ap (λ (k : ℕ). cond (ltb n (line_level 0 z)) (suc k) 0) (deeper_upto n m zs y e low)
-
--- Among rows, of which none begins less deep, the first one that begins as deep.
-record Sibling (n : ℕ) (ys : List Slices) : Type 0 where
-  pub before : ℕ
-  pub piece : Slices
-  pub is : deeper_rows n ys ≡ before
-  pub there : slice_get ys before ≡ Some piece
-  pub same : line_level 0 piece ≡ n
-  pub count : level_count n ys ≡ suc (level_count n (drop (suc before) ys))
-  pub deep : AreDeep n (drop (suc before) ys)
-
-siblings : (n : ℕ) (ys : List Slices) → AreDeep n ys → ((deeper_rows n ys ≡ length ys) × (level_count n ys ≡ 0)) ⊎ Sibling n ys
-siblings n [] h = inl (refl, refl)
-siblings n (y ∷ ys) h = go (cases_lt n (line_level 0 y)) (siblings n ys h.1)
-  where
-    go : (n < line_level 0 y) ⊎ (line_level 0 y ≤ n) → ((deeper_rows n ys ≡ length ys) × (level_count n ys ≡ 0)) ⊎ Sibling n ys → ((deeper_rows n (y ∷ ys) ≡ suc (length ys)) × (level_count n (y ∷ ys) ≡ 0)) ⊎ Sibling n (y ∷ ys)
-    go (inl less) found = later found
-      where
-        more : deeper_rows n (y ∷ ys) ≡ suc (deeper_rows n ys)
-        more = cond-true _ (suc (deeper_rows n ys)) 0 (lt-ltb n (line_level 0 y) less)
-
-        other : level_count n (y ∷ ys) ≡ level_count n ys
-        other = cond-false _ (suc (level_count n ys)) (level_count n ys) (ne_eqb (line_level 0 y) n (λ e. omega (arith, e, less)))
-
-        later : ((deeper_rows n ys ≡ length ys) × (level_count n ys ≡ 0)) ⊎ Sibling n ys → ((deeper_rows n (y ∷ ys) ≡ suc (length ys)) × (level_count n (y ∷ ys) ≡ 0)) ⊎ Sibling n (y ∷ ys)
-        later (inl x) = inl (more ∙ ap suc x.0, other ∙ x.1)
-        later (inr x) = inr (record { before = suc x.before; piece = x.piece; is = more ∙ ap suc x.is; there = x.there; same = x.same; count = other ∙ x.count; deep = x.deep })
-    go (inr low) found =
-        let same : line_level 0 y ≡ n = omega (arith, low, h.0) in
-        inr
-        (record {
-          before = 0;
-          piece = y;
-          is = cond-false _ (suc (deeper_rows n ys)) 0 (le-ltb n (line_level 0 y) low);
-          there = refl;
-          same = same;
-          count = cond-true _ (suc (level_count n ys)) (level_count n ys) (eq-eqb (line_level 0 y) n same);
-          deep = h.1;
-        })
 
 module _ (s : Shown) (d : Stretch) (h : HasRows s d) (floor row n : ℕ) (y : Slices) (within : row < d.end) (last : slice_get s.rows row ≡ Some y) (low : line_level 0 y ≤ n) (deeper : floor < n) where
   -- where a step leads

@@ -5,6 +5,7 @@ pub mod WalkRows
 pub mod WalkEnds
 pub mod WalkSpots
 pub mod KnownLaws
+pub mod Siblings
 pub mod KnownWalks
 pub mod CountLaws
 pub mod FirstLevels
@@ -13,5 +14,5 @@ pub mod RowLaws
 pub mod ReachLaws
 pub mod LineNames
 pub mod BesideLaws
-pub mod WalkKeys
+pub mod WalkMarks
 pub mod StopLaws

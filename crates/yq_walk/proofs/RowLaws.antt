@@ -4,9 +4,10 @@ use Rattle.std.proofs.lemmas.Bool.{false≢true}
 use Rattle.yq_scalar.specs.Piece.{deeper}
 use Rattle.yq_scalar.specs.Plain.{begins_plain}
 use Rattle.yq_scalar.specs.Quoted.{IsQuotedText}
-use Rattle.yq_scalar.specs.Text.{is_empty}
+use Rattle.yq_scalar.specs.Text.{is_empty, lines_of}
 use Rattle.yq_inline.specs.Scalars.{IsScalar, is_quoted}
 use Rattle.yq_inline.proofs.PieceLaws.{front_not, scalar_some}
+use Rattle.yq_lines.specs.Comments.{head_comment}
 use Rattle.yq_rows.specs.Grammar.{IsMark}
 use Rattle.yq_rows.specs.Rows as rows
 use Rattle.yq_rows.specs.Rows.{Content}
@@ -44,3 +45,8 @@ mark_quoted (rows.Key key colon) c rest h q = scalar_quoted None key (colon ++ r
 pub lines_count : (above : List (List ℕ)) (column : ℕ) (ns : List ℕ) (m : rows.Mark) (c : Content) → length (lines_from above column ns m c) ≡ suc (length ns)
 lines_count above column [] m c = refl
 lines_count above column (n ∷ ns) m c = ap suc (lines_count [] (suc (column + n)) ns m c)
+
+-- no comment stands in no text
+pub no_comments : head_comment [] ≡ []
+unfolding lines_of
+no_comments = refl

@@ -1,6 +1,6 @@
 -- Where lines end that are deeper than a level: behind one of them and those under it.
-use Rattle.std.proofs.Common.{◌≡◌, ◌⊎◌, inl, inr, ℕ, suc, ◌+◌, ◌<◌, ◌≤◌, List, [], ◌∷◌, length, drop, Some, refl, sym, ap, ◌∙◌, subst, arith}
-use Rattle.std.proofs.lemmas.Bool.{cases_lt, lt-ltb, le-ltb, cond-true, cond-false}
+use Rattle.std.proofs.Common.{◌≡◌, ℕ, suc, ◌+◌, ◌<◌, ltb, Bool, true, false, cond, List, [], ◌∷◌, length, drop, Some, refl, sym, ap, ◌∙◌, subst, arith}
+use Rattle.std.proofs.lemmas.Bool.{lt-ltb, ltb-true, cond-true}
 use Rattle.std.proofs.lemmas.List.{drop-drop}
 use Rattle.std.proofs.lemmas.Option.{slice_get_within}
 use Rattle.std.specs.List.{slice_get}
@@ -14,16 +14,15 @@ count_more n l ls h = cond-true _ (suc (deeper_count n ls)) 0 (lt-ltb n (level l
 
 -- lines that are deeper than a level are passed with those that are deeper than one above it
 passed : (n floor : ℕ) (ls : List Line) → floor < n → deeper_count floor ls ≡ deeper_count n ls + deeper_count floor (drop (deeper_count n ls) ls)
-passed n floor [] h = refl
-passed n floor (l ∷ ls) h = go (cases_lt n (level l))
+passed n floor [] h = omega arith
+passed n floor (l ∷ ls) h = go (ltb n (level l)) refl (passed n floor ls h)
   where
-    go : (n < level l) ⊎ (level l ≤ n) → deeper_count floor (l ∷ ls) ≡ deeper_count n (l ∷ ls) + deeper_count floor (drop (deeper_count n (l ∷ ls)) (l ∷ ls))
-    go (inl deep) =
-        count_more floor l ls (omega (arith, h, deep))
-        ∙ (ap suc (passed n floor ls h) ∙ sym (ap (λ (k : ℕ). k + deeper_count floor (drop k (l ∷ ls))) (count_more n l ls deep)))
-    go (inr low) =
-        let none : deeper_count n (l ∷ ls) ≡ 0 = cond-false _ (suc (deeper_count n ls)) 0 (le-ltb n (level l) low) in
-        sym (ap (λ (k : ℕ). k + deeper_count floor (drop k (l ∷ ls))) none)
+    go : (b : Bool) → ltb n (level l) ≡ b → deeper_count floor ls ≡ deeper_count n ls + deeper_count floor (drop (deeper_count n ls) ls) →
+        deeper_count floor (l ∷ ls) ≡ cond b (suc (deeper_count n ls)) 0 + deeper_count floor (drop (cond b (suc (deeper_count n ls)) 0) (l ∷ ls))
+    go true e again =
+        let here : deeper_count floor (l ∷ ls) ≡ suc (deeper_count floor ls) = count_more floor l ls (omega (arith, h, ltb-true n (level l) e)) in
+        omega (arith, here, again)
+    go false e again = omega arith
 
 pub stop_end : (ls : List Line) (at : ℕ) (l : Line) → slice_get ls at ≡ Some l → IsEndOf ls at ((at + 1) + deeper_count (level l) (drop (at + 1) ls))
 stop_end ls at l is =

@@ -1,31 +1,26 @@
 -- Lines of a document by their rows and by their numbers.
-use Rattle.std.proofs.Common.{◌≡◌, ◌⊎◌, inl, inr, ℕ, zero, suc, ◌+◌, ◌-◌, ◌<◌, ◌≤◌, ltb, eqb, Bool, true, false, not, ◌&&◌, List, [], ◌∷◌, length, map, take, drop, Option, Some, None, refl, sym, ap, ◌∙◌, subst, arith}
-use Rattle.std.proofs.lemmas.Bool.{cases_lt, eq-eqb, ne_eqb, false≢true}
+use Rattle.std.proofs.Common.{◌≡◌, ℕ, zero, suc, ◌+◌, ◌-◌, ◌<◌, ◌≤◌, ltb, true, false, not, List, [], ◌∷◌, length, map, take, drop, Option, Some, None, refl, sym, ap, ◌∙◌, subst, arith}
+use Rattle.std.proofs.lemmas.Bool.{false≢true}
 use Rattle.std.proofs.lemmas.List.{take_all}
 use Rattle.std.proofs.lemmas.Option.{same_Some}
 use Rattle.std.specs.List.{slice_get}
-use Rattle.std.specs.Prelude.{is_none, is_some}
-use Rattle.std.specs.Str.{bytes_eq}
-use Rattle.yq_inline.specs.Scalars.{content_of, is_quoted}
+use Rattle.std.specs.Prelude.{is_some}
 use Rattle.yq_lines.specs.Comments as comments
 use Rattle.yq_lines.specs.Ends.{IsEndOf, is_end, part}
-use Rattle.yq_lines.specs.Outline.{Mark, Bare, Key, Dash, Line, key_of, level, rank}
-use Rattle.yq_lines.specs.Spots.{is_bare, if_head}
-use Rattle.yq_scalar.specs.Paths.{Step, is_item, key_is}
-use Rattle.yq_scalar.specs.Quoted.{IsQuotedText}
-use Rattle.yq_scalar.specs.Text.{is_empty}
+use Rattle.yq_lines.specs.Outline.{Line, level}
+use Rattle.yq_lines.specs.Spots.{if_head}
+use Rattle.yq_scalar.specs.Paths.{Step}
 use Rattle.yq_scalar.specs.Tree.{Node}
 use Rattle.yq_lines.proofs.EndsLaws.{deeper_at}
-use Rattle.yq_rows.specs.Rows as rows
 use Rattle.yq_rows.specs.Rows.{Row}
 use Rattle.yq_rows.specs.View.{Slices, slices, Shown}
-use Rattle.yq_walk.specs.Lines.{mark_of, row_lines, lines_of}
+use Rattle.yq_walk.specs.Lines.{row_lines, lines_of}
 use Rattle.yq_walk.specs.Extents.{lines_before_mark}
-use Rattle.yq_walk.specs.RowWalk.{line_rank, line_level, deeper_rows, HasRows, IsSpot, IsLine, line_number, lines_stop}
+use Rattle.yq_walk.specs.RowWalk.{line_level, deeper_rows, HasRows, IsSpot, IsLine, line_number, lines_stop}
 use Rattle.yq_walk.specs.declared.spot.Spot.{Spot}
 use Rattle.yq_walk.specs.declared.spot.Stretch.{Stretch}
 use Rattle.yq_walk.proofs.WalkEnds.{line_of_row, lines_upto, ends_at, stops_at}
-use Rattle.yq_walk.proofs.WalkLevels.{IsTelling, AreTelling, IsLineOf, line_in, rank_is, level_is}
+use Rattle.yq_walk.proofs.WalkLevels.{IsTelling, AreTelling, IsLineOf, line_in, level_is}
 use Rattle.yq_walk.proofs.WalkRows.{rows_behind, rows_length, row_of, rows_telling}
 
 telling_at : (rs : List Row) (i : ℕ) (r : Row) → AreTelling rs → slice_get rs i ≡ Some r → IsTelling r
@@ -148,93 +143,6 @@ next_row s d h q e at last row none =
       ap (λ (k : ℕ). length (lines_of (take k h.rows))) next,
       lines_upto h.rows i 0 l.row l.there,
     )
-
--- what is told of a line's mark, by its rank
-bare_ranked : (m : Mark) → is_bare m ≡ eqb (rank m) 1
-bare_ranked Bare = refl
-bare_ranked (Key k) = refl
-bare_ranked Dash = refl
-
-item_ranked : (m : Mark) → is_item (key_of m) ≡ not (eqb (rank m) 2)
-item_ranked Bare = refl
-item_ranked (Key k) = refl
-item_ranked Dash = refl
-
-module _ (s : Shown) (d : Stretch) (h : HasRows s d) (q : Spot) (at : IsLine s d q) (l : Line) (is : slice_get (lines_of h.rows) (line_number d h.rows q) ≡ Some l) where
-  abbrev k : Located s d h q
-  k = located s d h q at
-
-  own : (located s d h q at).line ≡ l
-  own = same_Some _ _ (sym k.is ∙ is)
-
-  ranked : rank l.mark ≡ line_rank q.line (slices (located s d h q at).row)
-  ranked = ap (λ (y : Line). rank y.mark) (sym own) ∙ rank_is k.row q.line k.line k.telling k.within k.told
-
-  module _ (n : ℕ) (told : (x : Slices) → slice_get s.rows q.row ≡ Some x → n ≡ line_rank q.line x) where
-    same : n ≡ rank l.mark
-    same = told (slices k.row) k.pieces ∙ sym ranked
-
-    pub bare_told : eqb n 1 ≡ is_bare l.mark
-    bare_told = ap (λ (j : ℕ). eqb j 1) same ∙ sym (bare_ranked l.mark)
-
-    pub item_told : not (eqb n 2) ≡ is_item (key_of l.mark)
-    item_told = ap (λ (j : ℕ). not (eqb j 2)) same ∙ sym (item_ranked l.mark)
-
-    -- a line that begins with no key is no key's
-    pub other_told : (key : List ℕ) → (n ≡ 2 → ⊥) → false ≡ key_is key (key_of l.mark)
-    other_told key other = go l.mark same
-      where
-        go : (m : Mark) → n ≡ rank m → false ≡ key_is key (key_of m)
-        go Bare r = refl
-        go (Key j) r = absurd (other r)
-        go Dash r = refl
-
-    -- a line that begins with a key is that key's
-    pub key_told : (piece key : List ℕ) → ((x : Slices) → slice_get s.rows q.row ≡ Some x → piece ≡ x.key) → n ≡ 2 → bytes_eq (content_of piece) key ≡ key_is key (key_of l.mark)
-    key_told piece key written two = ap (λ (t : List ℕ). bytes_eq (content_of t) key) (written (slices k.row) k.pieces) ∙ go (cases_lt q.line (length k.row.dashes))
-      where
-        marked : (m : rows.Mark) → rank (mark_of m) ≡ 2 → bytes_eq (content_of (Rattle.yq_rows.specs.View.key_of m)) key ≡ key_is key (key_of (mark_of m))
-        marked rows.Bare r = absurd (omega (arith, r))
-        marked rows.Dash r = absurd (omega (arith, r))
-        marked (rows.Key j colon) r = refl
-
-        go : (q.line < length k.row.dashes) ⊎ (length k.row.dashes ≤ q.line) → bytes_eq (content_of (slices k.row).key) key ≡ key_is key (key_of l.mark)
-        go (inl less) =
-            let dash : l.mark ≡ Dash = ap (λ (y : Line). y.mark) (sym own) ∙ (k.told.dash less).0 in
-            absurd (omega (arith, ap rank dash, same, two))
-        go (inr past) =
-            let last : q.line ≡ length k.row.dashes = omega (arith, past, k.within) in
-            let mark : l.mark ≡ mark_of k.row.mark = ap (λ (y : Line). y.mark) (sym own) ∙ (k.told.mark last).0 in
-            marked k.row.mark (sym (ap rank mark) ∙ (sym same ∙ two)) ∙ ap (λ (m : Mark). key_is key (key_of m)) (sym mark)
-
-  pub head_told : (last : Bool) (x : Slices) → slice_get s.rows q.row ≡ Some x → last ≡ eqb q.line (lines_before_mark x) → (last && not (is_empty x.head)) ≡ is_some l.head
-  head_told last x there e = go (cases_lt q.line (length k.row.dashes))
-    where
-      pieces : slices k.row ≡ x
-      pieces = same_Some _ _ (sym k.pieces ∙ there)
-
-      counted : lines_before_mark x ≡ length k.row.dashes
-      counted = ap lines_before_mark (sym pieces) ∙ k.telling.counted
-
-      some : (o : Option Node) → not (is_none o) ≡ is_some o
-      some None = refl
-      some (Some n) = refl
-
-      go : (q.line < length k.row.dashes) ⊎ (length k.row.dashes ≤ q.line) → (last && not (is_empty x.head)) ≡ is_some l.head
-      go (inl less) =
-          let no : last ≡ false = e ∙ ne_eqb q.line (lines_before_mark x) (λ same. omega (arith, same, less, counted)) in
-          ap (λ b. b && not (is_empty x.head)) no ∙ sym (ap is_some (ap (λ (y : Line). y.head) (sym own) ∙ (k.told.dash less).1))
-      go (inr past) =
-          let same : q.line ≡ length k.row.dashes = omega (arith, past, k.within) in
-          let yes : last ≡ true = e ∙ eq-eqb q.line (lines_before_mark x) (omega (arith, same, counted)) in
-          let head : is_empty x.head ≡ is_none l.head = ap (λ (y : Slices). is_empty y.head) (sym pieces) ∙ (k.telling.head ∙ ap is_none (sym (k.told.mark same).1 ∙ ap (λ (y : Line). y.head) own)) in
-          ap (λ b. b && not (is_empty x.head)) yes ∙ (ap not head ∙ some l.head)
-
--- a quoted key is a quoted scalar
-pub quoted_told : (s : Shown) (d : Stretch) (h : HasRows s d) (q : Spot) → IsLine s d q → (piece : List ℕ) → ((x : Slices) → slice_get s.rows q.row ≡ Some x → piece ≡ x.key) → is_quoted piece ≡ true → IsQuotedText piece
-quoted_told s d h q at piece written =
-    let k = located s d h q at in
-    subst (λ (y : List ℕ). is_quoted y ≡ true → IsQuotedText y) (sym (written (slices k.row) k.pieces)) k.telling.quoted
 
 -- the first line of a document
 pub first_number : (d : Stretch) (rs : List Row) → 0 ≡ line_number d rs (record { row = d.first; line = 0 })

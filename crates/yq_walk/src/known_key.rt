@@ -1,5 +1,5 @@
 //! The entry of a key, looked for on both sides of an entry that is known.
-ghost use Rattle.std.specs.Prelude.{◌≡◌, ◌<◌, ◌≤◌, length, IfSome, Some};
+ghost use Rattle.std.specs.Prelude.{◌<◌, ◌≤◌, length, IfSome, Some};
 ghost use Rattle.yq_scalar.specs.Paths as steps;
 ghost use Rattle.yq_walk.specs.Extents.{IsShown};
 ghost use Rattle.yq_walk.specs.RowWalk.{AreKnown, Finds, HasDocument, HaveKeys, IsAmong, IsKnown, IsLine, IsSpot};

@@ -87,7 +87,7 @@ impl<'t> Node<'_, 't> {
     {
         match self.slot {
             Slot::Root => Comments::none(),
-            Slot::Line(line) => Comments::of(line.gap),
+            Slot::Line(written) => Comments::of(written.gap),
             Slot::Inline(_) => Comments::none(),
         }
     }
@@ -98,7 +98,7 @@ impl<'t> Node<'_, 't> {
     {
         match self.slot {
             Slot::Root => None,
-            Slot::Line(line) => comment_text(line.tail),
+            Slot::Line(written) => comment_text(written.tail),
             Slot::Inline(_) => None,
         }
     }

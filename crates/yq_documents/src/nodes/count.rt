@@ -4,19 +4,18 @@ ghost use Rattle.yq_scalar.specs.Tree.{children_of};
 ghost use Rattle.yq_documents.specs.Children.{lines_rest, rest_of};
 ghost use Rattle.yq_lines.specs.Counts as spec;
 ghost use Rattle.yq_documents.specs.Nodes.{node_of};
-ghost use Rattle.yq_lines.specs.View.{views};
 
-use crate::nodes::children::{Rest, next_line};
+use crate::nodes::children::{Rest, behind_first};
 use crate::nodes::node::Node;
-use yq_lines::{Lined, Under};
+use crate::nodes::under::Under;
 
 /// How many items or entries these lines begin.
-fn count_lines(document: &Lined<'_>, under: Under) -> usize
-    ensures { result ≡ spec.count (rest_of (views document.now) (lines_rest under)) }
+fn count_lines(under: Under<'_, '_>) -> usize
+    ensures { result ≡ spec.count (rest_of (lines_rest under.entry)) }
 {
     let mut rest = under;
     let mut count = 0;
-    'lines: while let Some((_, behind)) = next_line(document, rest) {
+    'lines: while let Some(behind) = behind_first(rest) {
         rest = behind;
         count += 1;
     }
@@ -30,7 +29,8 @@ impl Node<'_, '_> {
         ensures { result ≡ spec.count (children_of (node_of self.now)) }
     {
         match self.rest() {
-            Rest::Lines(under) => count_lines(self.document, under),
+            Rest::Nothing => 0,
+            Rest::Lines(under) => count_lines(under),
             Rest::Items(items) => items.len(),
             Rest::Entries(entries) => entries.len(),
         }

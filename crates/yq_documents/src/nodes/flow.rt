@@ -5,12 +5,15 @@ ghost use Rattle.yq_inline.specs.View.{entries_end, items_end, view};
 ghost use Rattle.yq_scalar.specs.Paths.{To, Nth};
 ghost use Rattle.yq_lines.specs.Labelled.{labelled_at};
 ghost use Rattle.yq_documents.specs.Nodes as spec;
+ghost use Rattle.std.specs.List.{list_any};
+ghost use Rattle.yq_scalar.specs.Anchors.{names_in, names_of};
+ghost use Rattle.yq_lines.specs.Names.{is_reference};
 ghost use Rattle.yq_lines.specs.Outline.{anchored};
+ghost use Rattle.yq_lines.specs.Outline as outline;
 ghost use Rattle.yq_lines.specs.Bodies.{lent};
 
 use crate::nodes::node::NodeKind;
 use yq_inline::{Form, Inline};
-use yq_lines::first_anchor;
 use yq_scalar::{Kind, Piece};
 
 /// What a node of a flow collection is.
@@ -38,6 +41,16 @@ pub(crate) fn inline_text<'d>(node: &'d Inline<'_>) -> &'d str
         Form::Scalar(scalar, _) => scalar.text(),
         Form::List(_) => "",
         Form::Map(_) => "",
+    }
+}
+
+/// The first of two anchors.
+pub(crate) fn first_anchor<'d>(first: Option<&'d str>, second: Option<&'d str>) -> Option<&'d str>
+    ensures { lent result ≡ outline.first_anchor (lent first.entry) (lent second.entry) }
+{
+    match first {
+        Some(name) => Some(name),
+        None => second,
     }
 }
 
@@ -80,4 +93,43 @@ pub(crate) fn entry_at<'d, 't>(
         }
     }
     None
+}
+
+/// Whether an alias stands in an inline node.
+#[cycle(refers)]
+pub fn node_refers(node: &Inline<'_>) -> bool
+    ensures { result ≡ list_any is_reference (names_of (placed_tree (view node.now))) }
+{
+    match &node.form {
+        Form::Empty | Form::Scalar(..) => false,
+        Form::Alias(_) => true,
+        Form::List(items) => items_refer(items),
+        Form::Map(entries) => entries_refer(entries),
+    }
+}
+
+/// The same of items.
+#[cycle(refers)]
+fn items_refer(items: &Vec<Inline<'_>>) -> bool
+    ensures { result ≡ list_any is_reference (names_in (parts_tree (items_end items.now.items))) }
+{
+    'each: for item in items {
+        if node_refers(item) {
+            return true;
+        }
+    }
+    false
+}
+
+/// The same of entries.
+#[cycle(refers)]
+fn entries_refer(entries: &Vec<(String, Piece, Inline<'_>)>) -> bool
+    ensures { result ≡ list_any is_reference (names_in (parts_tree (entries_end entries.now.items))) }
+{
+    'each: for entry in entries {
+        if node_refers(&entry.2) {
+            return true;
+        }
+    }
+    false
 }

@@ -1,22 +1,29 @@
 //! The nodes of documents.
 ghost use Rattle.std.specs.List.{list_any};
-ghost use Rattle.std.specs.Prelude.{◌≡◌, ◌<◌, false, length, slice_get, Some};
+ghost use Rattle.std.specs.Prelude.{◌≡◌, ◌<◌, false, length, Some};
 ghost use Rattle.yq_scalar.specs.Anchors.{names_of};
 ghost use Rattle.yq_lines.specs.Names.{is_reference};
 ghost use Rattle.yq_inline.specs.Trees.{inner, placed_tree};
 ghost use Rattle.yq_inline.specs.View as inline;
-ghost use Rattle.yq_lines.specs.Group.{group};
-ghost use Rattle.yq_documents.specs.Nodes as spec;
-ghost use Rattle.yq_lines.specs.Outline as outline;
-ghost use Rattle.yq_lines.specs.Outline.{anchored, label, value};
+ghost use Rattle.yq_lines.specs.Bodies.{lent};
+ghost use Rattle.yq_lines.specs.Outline.{label};
 ghost use Rattle.yq_lines.specs.Places.{content};
-ghost use Rattle.yq_lines.specs.View.{mark_view, views};
-ghost use Rattle.yq_lines.specs.Bodies.{lent, lines_under};
+ghost use Rattle.yq_documents.specs.Bodies.{body_node};
+ghost use Rattle.yq_documents.specs.Documents.{Document};
+ghost use Rattle.yq_documents.specs.Located.{document_at, unlabelled};
+ghost use Rattle.yq_documents.specs.Nodes as spec;
+ghost use Rattle.yq_documents.specs.Reading.{documents_of};
+ghost use Rattle.yq_documents.specs.Stretches.{IsLineIn, OfLineIn, lines_under};
 
-use crate::nodes::flow::{inline_anchor, inline_kind, inline_text};
+use crate::nodes::body::{Body, Named};
+use crate::nodes::flow::{inline_anchor, inline_kind, inline_text, node_refers};
+use crate::nodes::heads::line_written;
+use crate::nodes::node_lines::{line_node, lines_node};
+use crate::nodes::under::Under;
+use crate::read_text::ReadText;
 use yq_inline::Inline;
-use yq_lines::{Body, Line, Lined, Mark, Named, Under, body_refers, line_node, lines_node};
 use yq_scalar::Kind;
+use yq_walk::Spot;
 
 /// What a node is.
 #[derive(Clone, Copy, PartialEq, Eq, Debug)]
@@ -31,13 +38,24 @@ pub enum NodeKind {
     Map,
 }
 
+/// What is written about the entry or item of a line.
+#[derive(Clone, Copy, Debug)]
+pub(crate) struct Written<'d, 't> {
+    /// Its key, if it has one.
+    pub(crate) key: Option<&'d str>,
+    /// The gap before the line's row, where the line begins it.
+    pub(crate) gap: &'t str,
+    /// The tail of the line, where it ends its row's first line.
+    pub(crate) tail: &'t str,
+}
+
 /// Where a node stands.
 #[derive(Clone, Copy, Debug)]
 pub(crate) enum Slot<'d, 't> {
     /// It is the root of a document.
     Root,
-    /// In the entry or item of this line.
-    Line(&'d Line<'t>),
+    /// In the entry or item of a line.
+    Line(Written<'d, 't>),
     /// In a flow collection, behind this key, if it has one.
     Inline(Option<&'d str>),
 }
@@ -45,58 +63,65 @@ pub(crate) enum Slot<'d, 't> {
 /// A node, which lends what it says of its text.
 #[derive(Clone, Copy, Debug)]
 pub struct Node<'d, 't> {
-    pub(crate) document: &'d Lined<'t>,
     pub(crate) slot: Slot<'d, 't>,
     pub(crate) named: Named<'d, 't>,
 }
 
-/// The key of a line's entry; an item has none.
-fn line_key<'d>(line: &'d Line<'_>) -> Option<&'d str>
-    ensures { lent result ≡ outline.key_of (mark_view line.now.mark) }
+/// Whether an alias may stand in what a node is: none does, where none stands in the text's lines.
+fn body_refers(body: &Body<'_, '_>) -> bool
+    ensures { result ≡ false → list_any is_reference (names_of (body_node body.now)) ≡ false }
 {
-    match &line.mark {
-        Mark::Bare => None,
-        Mark::Dash => None,
-        Mark::Key(key) => Some(key.text()),
+    match body {
+        Body::Null => false,
+        Body::Scalar(..) => false,
+        Body::Map(under) => under.text.may_refer(),
+        Body::List(under) => under.text.may_refer(),
+        Body::Inline(node) => node_refers(node),
     }
 }
 
 impl<'d, 't> Node<'d, 't> {
-    /// The root of a document.
-    #[tactic(auto, using(yq_lines::proofs::LinesLaws::all_value))]
-    pub fn root(document: &'d Lined<'t>) -> Node<'d, 't>
-        ensures node { spec.node_of result ≡ value (group (views document.now)) }
-        ensures label { spec.label_of result ≡ spec.unlabelled }
+    /// The root of document `i` of a text, counted from 0.
+    pub fn root(text: &'d ReadText<'t>, i: usize) -> Node<'d, 't>
+        requires { i < length (documents_of text.now) }
+        ensures node { (d : Document) → document_at text.now i ≡ Some d → spec.node_of result ≡
+            d.root }
+        ensures label { spec.label_of result ≡ unlabelled }
     {
-        let all = Under { first: 0, floor: 0 };
+        let (_rows, stretch) = text.document_rows(i);
+        let first = Spot {
+            row: stretch.first,
+            line: 0,
+        };
+        let all = Under {
+            text,
+            document: i,
+            first,
+            floor: 0,
+        };
         Node {
-            document,
             slot: Slot::Root,
-            named: lines_node(document.lines(), None, all),
+            named: lines_node(all, None),
         }
     }
 
     /// The node of a line's entry or item.
-    pub(crate) fn of_line(document: &'d Lined<'t>, at: usize) -> Node<'d, 't>
-        requires { at < length (views document.now) }
-        ensures node { (l : outline.Line) → slice_get (views document.now) at ≡ Some l →
-            spec.node_of result ≡ content l (lines_under (views document.now) at l) }
-        ensures label { (l : outline.Line) → slice_get (views document.now) at ≡ Some l → spec.label_of result ≡ label l }
+    pub(crate) fn of_line(text: &'d ReadText<'t>, document: usize, at: Spot) -> Node<'d, 't>
+        requires there { document < length (documents_of text.now) }
+        requires line { IsLineIn text.now document at }
+        ensures node { OfLineIn text.now document at (λ l. spec.node_of result ≡
+            content l (lines_under text.now document at l)) }
+        ensures label { OfLineIn text.now document at (λ l. spec.label_of result ≡ label l) }
     {
         Node {
-            document,
-            slot: Slot::Line(&document.lines()[at]),
-            named: line_node(document.lines(), at),
+            slot: Slot::Line(line_written(text, document, at)),
+            named: line_node(text, document, at),
         }
     }
 
     /// A node of a flow collection, behind its key, if it has one.
     #[tactic(auto, using(yq_lines::proofs::NodeLaws::anchored_none))]
-    pub(crate) fn of_inline(
-        document: &'d Lined<'t>,
-        key: Option<&'d str>,
-        node: &'d Inline<'t>,
-    ) -> Node<'d, 't>
+    pub(crate) fn of_inline(key: Option<&'d str>, node: &'d Inline<'t>) -> Node<'d, 't>
         ensures node { spec.node_of result ≡ placed_tree (inline.view node.now) }
         ensures label { spec.label_of result ≡ inner (lent key.entry) }
     {
@@ -105,7 +130,6 @@ impl<'d, 't> Node<'d, 't> {
             body: Body::Inline(node),
         };
         Node {
-            document,
             slot: Slot::Inline(key),
             named,
         }
@@ -154,12 +178,13 @@ impl<'d, 't> Node<'d, 't> {
         }
     }
 
-    /// Whether an alias may stand in it: none does, where none stands in the document's lines.
+    /// Whether an alias may stand in it: none does, where none stands in the text's lines.
     #[tactic(auto, using(yq_lines::proofs::AliasLaws::none_anchored))]
     pub fn may_refer(&self) -> bool
-        ensures { result ≡ false → list_any is_reference (names_of (spec.node_of self.now)) ≡ false }
+        ensures { result ≡ false → list_any is_reference (names_of (spec.node_of self.now)) ≡
+            false }
     {
-        body_refers(self.document.lines(), &self.named.body)
+        body_refers(&self.named.body)
     }
 
     /// The key of its entry; an item and the root have none.
@@ -168,7 +193,7 @@ impl<'d, 't> Node<'d, 't> {
     {
         match self.slot {
             Slot::Root => None,
-            Slot::Line(line) => line_key(line),
+            Slot::Line(written) => written.key,
             Slot::Inline(key) => key,
         }
     }

@@ -3,8 +3,8 @@ ghost use Rattle.std.specs.Prelude.{◌≡◌, [], IfOk, true};
 ghost use Rattle.yq_inline.specs.Values.{node_of};
 ghost use Rattle.yq_scalar.specs.BlockWritten.{break_text};
 ghost use Rattle.yq_scalar.specs.Writable.{is_string};
-ghost use Rattle.yq_tree.specs.NodesAt.{scalar_in};
-ghost use Rattle.yq_tree.specs.StandingTelling.{held_told, mark_told};
+ghost use Rattle.yq_places.specs.NodesAt.{scalar_in};
+ghost use Rattle.yq_places.specs.StandingTelling.{held_told, mark_told};
 ghost use Rattle.yq_edits.specs.ReplaceEdits as spec;
 ghost use Rattle.yq_edits.specs.WrittenValues.{column_under, lines, lines_in, written_at};
 
@@ -13,10 +13,10 @@ use crate::written_value::{before_break, takes_compact, value_text};
 use std::alloc::{AllocError, Global};
 use yq_block::{Layout, is_filled};
 use yq_inline::Value;
+use yq_places::Held;
 use yq_scalar::{Kind, Place, Scalar, Style, can_write, write_block, write_scalar};
 use yq_script::{Segment, Segments};
 use yq_text::Halves;
-use yq_tree::Held;
 
 /// The break of the line of a key or dash, and that of the last line, where lines are below it.
 fn line_breaks<'t>(held: &Held<'t>) -> (&'t str, &'t str)

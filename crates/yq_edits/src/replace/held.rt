@@ -2,7 +2,7 @@
 ghost use Rattle.std.specs.Prelude.{◌≡◌, ℕ, List, [], IfOk, string_bytes};
 ghost use Rattle.yq_inline.specs.Values.{node_of};
 ghost use Rattle.yq_scalar.specs.BlockWritten.{break_text};
-ghost use Rattle.yq_tree.specs.StandingTelling.{compact_told, held_told, mark_told};
+ghost use Rattle.yq_places.specs.StandingTelling.{compact_told, held_told, mark_told};
 ghost use Rattle.yq_block.specs.BlockRows.{item_column};
 ghost use Rattle.yq_block.specs.BlockText.{block_value};
 ghost use Rattle.yq_edits.specs.ReplaceEdits as spec;
@@ -12,10 +12,10 @@ use crate::written_value::{behind_space, below_break, compact_text, takes_compac
 use std::alloc::{AllocError, Global};
 use yq_block::{Layout, is_filled};
 use yq_inline::Value;
+use yq_places::{Compact, Held};
 use yq_scalar::Place;
 use yq_script::{Segment, Segments};
 use yq_text::Halves;
-use yq_tree::{Compact, Held};
 
 /// A text as it is put in the place of another: behind a space, where none is there.
 pub(crate) fn apart(alloc: Global, old: &str, new: String) -> Result<String, AllocError>

@@ -3,7 +3,7 @@ ghost use Rattle.std.specs.Prelude.{◌≡◌, IfOk, string_bytes};
 ghost use Rattle.yq_text.specs.Halves.{whole};
 ghost use Rattle.yq_inline.specs.Values.{node_of};
 ghost use Rattle.yq_scalar.specs.BlockWritten.{break_text};
-ghost use Rattle.yq_tree.specs.StandingTelling.{lone_told, no_rows_told, root_told};
+ghost use Rattle.yq_places.specs.StandingTelling.{lone_told, no_rows_told, root_told};
 ghost use Rattle.yq_block.specs.BlockText.{block_value};
 ghost use Rattle.yq_edits.specs.ClosedTexts as closed;
 ghost use Rattle.yq_edits.specs.ReplaceEdits as spec;
@@ -13,11 +13,11 @@ use crate::written_value::value_text;
 use std::alloc::{AllocError, Global};
 use yq_block::{Layout, push_block};
 use yq_inline::Value;
+use yq_places::{BlockRoot, Lone, NoRows};
 use yq_scalar::Place;
 use yq_scalar::block_written::break_text;
 use yq_script::{Segment, Segments};
 use yq_text::Halves;
-use yq_tree::{BlockRoot, Lone, NoRows};
 
 /// A value in one line in the place of a node that is alone on its line.
 pub(crate) fn lone_put<'t>(

@@ -3,7 +3,7 @@ ghost use Rattle.std.specs.Prelude.{◌≡◌, ◌++◌, IfOk, OnOk, map, string
 ghost use Rattle.yq_documents.specs.Located.{steps_of};
 ghost use Rattle.yq_planning.specs.ChangeView.{addition_of, all_changed_of, changed_of};
 ghost use Rattle.yq_meaning.specs.Operations.{operation_of, operations_of};
-ghost use Rattle.yq_planning.specs.Plans as spec;
+ghost use Rattle.yq_meaning.specs.Plans as spec;
 
 use crate::updating::change::{Addition, Change, Changed};
 use std::alloc::{AllocError, Global};

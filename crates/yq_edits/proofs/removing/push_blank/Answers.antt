@@ -1,7 +1,7 @@
 use Rattle.std.proofs.Common.{◌≡◌, ◌++◌, List, sym, ap, ◌∙◌, subst}
 use Rattle.std.specs.Prelude.{OnOk}
 use Rattle.yq_scalar.specs.BlockRepair.{is_short}
-use Rattle.yq_tree.specs.RemovalReading.{seam_told}
+use Rattle.yq_places.specs.RemovalReading.{seam_told}
 use Rattle.yq_script.specs.Script.{Segment}
 use Rattle.yq_edits.proofs.PushedLaws.{long_blank}
 use Rattle.yq_edits.proofs.removing.push_blank.Goals as goal

@@ -2,7 +2,7 @@ use Rattle.std.proofs.Common.{rules, [], ◌∷◌, ◌++◌, sym, ap, ◌∙◌
 use Rattle.yq_scalar.specs.Lines.{is_blank}
 use Rattle.yq_scalar.proofs.BlockSteps.{at_cut, at_end}
 use Rattle.yq_script.specs.Script.{keep}
-use Rattle.yq_tree.specs.RemovalReading.{seam_told}
+use Rattle.yq_places.specs.RemovalReading.{seam_told}
 use Rattle.yq_edits.proofs.PushedLaws.{all_done, blank_done, comment_done}
 use Rattle.yq_edits.proofs.removing.push_lines.Goals as goal
 

@@ -4,7 +4,7 @@ use Rattle.std.specs.Prelude.{not}
 use Rattle.yq_scalar.specs.Text.{is_feed}
 use Rattle.yq_documents.specs.Located.{steps_of}
 use Rattle.yq_documents.specs.Reading.{cut_of}
-use Rattle.yq_tree.specs.NodesAt.{node_in, scalar_view}
+use Rattle.yq_places.specs.NodesAt.{node_in, scalar_view}
 use Rattle.yq_edits.proofs.ScalarAnswers.{no_text, text_told}
 use Rattle.yq_edits.proofs.replace.has_text.Goals as goal
 

@@ -2,7 +2,7 @@ use Rattle.std.proofs.Common.{option_map, sym, ap, ◌∙◌}
 use Rattle.yq_inline.specs.Values.{node_of}
 use Rattle.yq_documents.specs.Located.{steps_of}
 use Rattle.yq_documents.specs.Reading.{cut_of}
-use Rattle.yq_tree.specs.StandingTelling.{standing_told}
+use Rattle.yq_places.specs.StandingTelling.{standing_told}
 use Rattle.yq_edits.proofs.PlacedValueLaws.{placed_there}
 use Rattle.yq_edits.proofs.replace.value_put_at.Goals as goal
 

@@ -5,7 +5,7 @@ use Rattle.yq_planning.specs.ChangeView.{changed_of}
 use Rattle.yq_expr.specs.EffectView.{effect_at}
 use Rattle.yq_meaning.specs.Judgement.{Judgement, and_then}
 use Rattle.yq_planning.specs.PlaceView.{place_of}
-use Rattle.yq_planning.specs.PlacesApart.{AreIn}
+use Rattle.yq_meaning.specs.PlacesApart.{AreIn}
 use Rattle.yq_meaning.specs.Places.{Place}
 use Rattle.yq_meaning.specs.Rooms.{room_of}
 use Rattle.yq_planning.specs.TreeScalars.{HaveScalars}

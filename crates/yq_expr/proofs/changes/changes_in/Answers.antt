@@ -1,12 +1,12 @@
 use Rattle.std.proofs.Common.{List, map, sym, subst}
 use Rattle.yq_documents.specs.Nodes.{node_of}
 use Rattle.yq_planning.specs.PlaceView.{places_of}
-use Rattle.yq_planning.specs.PlacesApart.{AreIn}
+use Rattle.yq_meaning.specs.PlacesApart.{AreIn}
 use Rattle.yq_planning.specs.TreeScalars.{HaveScalars}
 use Rattle.yq_program.specs.View.{stage_of}
 use Rattle.yq_planning.specs.declared.matching.place.Place as declared
 use Rattle.yq_planning.proofs.MatchLaws.{places_have}
-use Rattle.yq_planning.proofs.updates.PipePlaces.{places_stand}
+use Rattle.yq_plans.proofs.updates.PipePlaces.{places_stand}
 use Rattle.yq_expr.proofs.changes.changes_in.Goals as goal
 
 pub changes_at-requires-clause-scalars : goal.changes_at-requires-clause-scalars

@@ -7,8 +7,8 @@ use Rattle.yq_flow.specs.FlowPlaces.{edit_view}
 use Rattle.yq_lines.specs.Bodies.{lent}
 use Rattle.yq_documents.specs.Located.{steps_of}
 use Rattle.yq_documents.specs.Reading.{cut_of}
-use Rattle.yq_tree.specs.FlowNodes.{flow_collection}
-use Rattle.yq_tree.specs.FlowTold.{TellsFlow}
+use Rattle.yq_places.specs.FlowNodes.{flow_collection}
+use Rattle.yq_places.specs.FlowTold.{TellsFlow}
 use Rattle.yq_edits.specs.Answers.{Carries}
 use Rattle.yq_flow_edits.specs.EditPlaces.{edit_segments, moved_on}
 use Rattle.yq_flow_edits.proofs.AppendAnswers.{more_apart, more_found}

@@ -6,7 +6,7 @@ use Rattle.yq_inline.specs.Values.{node_of}
 use Rattle.yq_inline.specs.View.{view}
 use Rattle.yq_flow.specs.FlowPlaces.{edit_view}
 use Rattle.yq_documents.specs.Located.{steps_of}
-use Rattle.yq_tree.specs.Standings.{last_step}
+use Rattle.yq_places.specs.Standings.{last_step}
 use Rattle.yq_edits.specs.Answers.{Carries}
 use Rattle.yq_edits.specs.WrittenValues.{value_text}
 use Rattle.yq_flow_edits.specs.EditPlaces.{edit_segments, moved_on}

@@ -1,13 +1,35 @@
-use Rattle.std.proofs.Common.{◌≡◌, true, length, eqb, not, ◌&&◌, List, ℕ, sym, ap, ◌∙◌}
-use Rattle.yq_scalar.specs.Text.{is_marker}
-use Rattle.yq_rows.specs.Grammar.{allows}
-use Rattle.yq_rows.specs.Lending.{marked_lent}
-use Rattle.yq_rows.specs.View.{limit_view}
-use Rattle.yq_rows.proofs.RowLending.{row_lending}
+use Rattle.std.proofs.Common.{◌≡◌, SFits, Some, ap, length, rules, sym, w64, ◌+◌, ◌∙◌}
+use Rattle.std.proofs.lemmas.Int.{to_z-of_z}
+use Rattle.yq_rows.specs.Grammar.{Limit}
+use Rattle.yq_rows.specs.Lending.{limit_by, mark_view, read_slices}
+use Rattle.yq_rows.specs.Offsets.{offsets_of}
+use Rattle.yq_rows.specs.Rows.{parent_of}
+use Rattle.yq_rows.specs.View.{Slices, limit_view}
+use Rattle.yq_rows.proofs.Failing.{fails_by}
+use Rattle.yq_rows.proofs.RowLending.{row_as}
 use Rattle.yq_rows.proofs.reading.read_row.Goals as goal
+
+pub returns-in-Err-clause-read : goal.returns-in-Err-clause-read
+returns-in-Err-clause-read c =
+    fails_by c.in-Err.e _ _ (c.in-Err.ensures.read c.args.gap.now)
+    (row_as (limit_view c.args.limit) c.args.gap.now c.args.text.now _ _ _ _ _ _ c.split_spaces.ensures c.as_bytes.ensures.value c.may_stand.ensures c.if-not-may_stand.false c.read_begin-begin.ensures.read)
+
+pub offsets_of-place-requires-clause-read : goal.offsets_of-place-requires-clause-read
+offsets_of-place-requires-clause-read c = record {
+  limit = limit_view c.args.limit;
+  behind = c.args.text.now;
+  joined = c.requires.cut;
+  read = row_as (limit_view c.args.limit) c.args.gap.now c.args.text.now _ _ _ _ _ _ c.split_spaces.ensures c.as_bytes.ensures.value c.may_stand.ensures c.if-not-may_stand.false c.read_begin-begin.ensures.read (c.in-Ok.ensures.read c.args.gap.now);
+}
 
 pub returns-clause-read : goal.returns-clause-read
 returns-clause-read c =
-    let column = length c.split_spaces.result.0.now in
-    let ok : (allows (limit_view c.args.limit) column && not (eqb column 0 && is_marker c.split_spaces.result.1.now)) ≡ true = ap (λ (t : List ℕ). allows (limit_view c.args.limit) column && not (eqb column 0 && is_marker t)) (sym c.as_bytes.ensures.value) ∙ (sym c.may_stand.ensures ∙ c.if-not-may_stand.false) in
-    rw (row_lending (limit_view c.args.limit) c.args.gap.now c.args.text.now c.split_spaces.result.0.now c.split_spaces.result.1.now c.split_spaces.ensures ok ∙ ap (marked_lent c.args.gap.now column) (sym c.read_begin.ensures.read)) c.read_marked.ensures.read
+    let parent = c.parent_of-parent.result in
+    let fits : SFits w64 parent = search rules in
+    let content = c.in-Ok.content in
+    let asked : limit_view c.behind.result ≡ limit_by (parent_of (mark_view c.read_begin-begin.result.mark) (length c.split_spaces.result.0.now + c.read_begin-begin.result.columns)) content.plain = (rw (to_z-of_z w64 parent fits) at c.behind.ensures) ∙ ap (λ n. limit_by n content.plain) c.parent_of-parent.ensures in
+    row_as (limit_view c.args.limit) c.args.gap.now c.args.text.now _ _ _ _ _ _ c.split_spaces.ensures c.as_bytes.ensures.value c.may_stand.ensures c.if-not-may_stand.false c.read_begin-begin.ensures.read (c.in-Ok.ensures.read c.args.gap.now)
+    ∙ (ap (λ (l : Limit). Some (read_slices c.args.gap.now (length c.split_spaces.result.0.now) c.read_begin-begin.result content, l, content.rest.now)) (sym asked) ∙ ap (λ (s : Slices). Some (s, limit_view c.behind.result, content.rest.now)) (sym c.offsets_of-place.ensures.same))
+
+pub returns-clause-place : goal.returns-clause-place
+returns-clause-place c = c.offsets_of-place.ensures.place ∙ ap (offsets_of _) (sym c.offsets_of-place.ensures.same)

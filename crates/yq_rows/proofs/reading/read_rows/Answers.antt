@@ -1,11 +1,11 @@
-use Rattle.std.proofs.Common.{◌≡◌, ◌-◌, length, true, false, rules, sym, subst, ap, ◌∙◌}
+use Rattle.std.proofs.Common.{◌≡◌, ◌-◌, length, true, false, refl, rules, sym, subst, ap, ◌∙◌}
 use Rattle.std.proofs.lemmas.List.Elements.{All-push}
-use Rattle.yq_rows.specs.Offsets.{Stand, Stands, rows_in}
-use Rattle.yq_rows.specs.View.{limit_view, view}
+use Rattle.yq_rows.specs.Offsets.{Stand, Stands, rows_in, slices_in}
+use Rattle.yq_rows.specs.View.{limit_view}
 use Rattle.yq_rows.proofs.Failing.{fails_by}
 use Rattle.yq_rows.proofs.NearLaws.{rows_placed_end, rows_placed_none, rows_placed_step}
 use Rattle.yq_rows.proofs.OffsetLaws.{ends_next, row_then, rows_push}
-use Rattle.yq_rows.proofs.RowLending.{at_gap, loop_smaller, loop_step, no_row, row_joined, rows_end}
+use Rattle.yq_rows.proofs.RowLending.{at_gap, gap_joined, loop_smaller, loop_step, no_row, row_joined, rows_end}
 use Rattle.yq_rows.proofs.reading.read_rows.Goals as goal
 use Rattle.yq_rows.specs.Grammar.{ends_part}
 
@@ -37,27 +37,26 @@ returns-in-Err-clause-placed c =
     fails_by c.in-Err.e _ _ c.in-Err.ensures.read (λ none.
     rows_placed_none c.rows.rows.items (length c.args.whole.now - length c.rows.at.now) (limit_view c.rows.limit) c.rows.at.now _ _ _ c.split_gap.ensures more none c.rows.invariant.placed)
 
-pub offsets_of-requires-clause-read : goal.offsets_of-requires-clause-read
-offsets_of-requires-clause-read c =
-    (c.in-Ok.found.2.now, row_joined (limit_view c.rows.limit) (limit_view c.in-Ok.found.1) c.rows.at.now _ _ (view c.in-Ok.found.0) c.in-Ok.found.2.now c.split_gap.ensures c.in-Ok.ensures.read)
+pub read_row-requires-clause-cut : goal.read_row-requires-clause-cut
+read_row-requires-clause-cut c = gap_joined c.rows.at.now _ _ c.split_gap.ensures
 
 pub rows-smaller : goal.rows-smaller
 rows-smaller c =
     let more : ends_part c.split_gap.result.1.now ≡ false = ap ends_part (sym c.as_bytes.ensures.value) ∙ (sym c.ends_part.ensures ∙ c.if-ends_part.false) in
-    loop_smaller (limit_view c.rows.limit) (limit_view c.in-Ok.found.1) c.rows.at.now _ _ (view c.in-Ok.found.0) c.in-Ok.found.2.now c.split_gap.ensures more c.in-Ok.ensures.read
+    loop_smaller (limit_view c.rows.limit) (limit_view c.in-Ok.found.1) c.rows.at.now _ _ (slices_in c.args.whole.now c.in-Ok.found.0) c.in-Ok.found.2.now c.split_gap.ensures more c.in-Ok.ensures.read
 
 pub rows-preserved : goal.rows-preserved
 rows-preserved c =
     let whole = c.args.whole.now in
-    let row = view c.in-Ok.found.0 in
+    let row = slices_in whole c.in-Ok.found.0 in
     let after = c.in-Ok.found.2.now in
     let more : ends_part c.split_gap.result.1.now ≡ false = ap ends_part (sym c.as_bytes.ensures.value) ∙ (sym c.ends_part.ensures ∙ c.if-ends_part.false) in
     let joined = row_joined (limit_view c.rows.limit) (limit_view c.in-Ok.found.1) c.rows.at.now _ _ row after c.split_gap.ensures c.in-Ok.ensures.read in
-    let pushed = rows_push whole c.rows.rows.items _ c.offsets_of.result row c.in_ok-push.ensures.items c.offsets_of.ensures.same in
+    let pushed = rows_push whole c.rows.rows.items _ c.in-Ok.found.0 row c.in_ok-push.ensures.items refl in
     record {
       text = search rules;
       ends = ends_next whole c.rows.at.now _ after c.rows.invariant.ends (joined ∙ row_then row after);
-      stand = subst (Stand whole) (sym c.in_ok-push.ensures.items) (All-push (Stands whole) c.rows.rows.items c.offsets_of.result c.rows.invariant.stand c.offsets_of.ensures.stands);
+      stand = subst (Stand whole) (sym c.in_ok-push.ensures.items) (All-push (Stands whole) c.rows.rows.items c.in-Ok.found.0 c.rows.invariant.stand c.in-Ok.ensures.stands);
       so_far = loop_step (rows_in whole c.rows.rows.items) _ (limit_view c.rows.limit) (limit_view c.in-Ok.found.1) c.rows.at.now _ _ row after _ c.split_gap.ensures more c.in-Ok.ensures.read pushed c.rows.invariant.so_far;
-      placed = rows_placed_step c.rows.rows.items _ c.offsets_of.result whole (limit_view c.rows.limit) (limit_view c.in-Ok.found.1) c.rows.at.now _ _ row after _ c.rows.invariant.ends c.split_gap.ensures more c.in-Ok.ensures.read c.in_ok-push.ensures.items c.offsets_of.ensures.place c.rows.invariant.placed;
+      placed = rows_placed_step c.rows.rows.items _ c.in-Ok.found.0 whole (limit_view c.rows.limit) (limit_view c.in-Ok.found.1) c.rows.at.now _ _ row after _ c.rows.invariant.ends c.split_gap.ensures more c.in-Ok.ensures.read c.in_ok-push.ensures.items c.in-Ok.ensures.place c.rows.invariant.placed;
     }

@@ -1,7 +1,7 @@
 use Rattle.std.proofs.Common.{List, ℕ, subst}
 use Rattle.yq_documents.specs.Reading.{cut_of}
 use Rattle.yq_meaning.specs.Operations.{operation_of}
-use Rattle.yq_tree.specs.RowWalk.{StayKnown}
+use Rattle.yq_places.specs.RowWalk.{StayKnown}
 use Rattle.yq_splice.proofs.SessionLaws.{segments_short}
 use Rattle.yq_splice.proofs.carrying.change_one.Goals as goal
 

@@ -2,7 +2,7 @@ use Rattle.std.proofs.Common.{Option, option_map, sym, ap, ◌∙◌, subst}
 use Rattle.yq_scalar.specs.Answers.{◌>>=◌}
 use Rattle.yq_documents.specs.Located.{steps_of}
 use Rattle.yq_documents.specs.Reading.{cut_of}
-use Rattle.yq_tree.specs.Standings.{last_step}
+use Rattle.yq_places.specs.Standings.{last_step}
 use Rattle.yq_edits.specs.Answers.{Carries}
 use Rattle.yq_edits.specs.Edits.{replaced}
 use Rattle.yq_flow_edits.specs.Emptying.{Emptied, emptied_view}

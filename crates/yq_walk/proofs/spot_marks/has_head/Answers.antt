@@ -1,7 +1,8 @@
 use Rattle.std.proofs.Common.{true, false, eqb, sym, ap, ◌∙◌}
 use Rattle.std.proofs.lemmas.Bool.{eq-eqb, ne_eqb}
 use Rattle.yq_rows.specs.View.{slices}
-use Rattle.yq_walk.proofs.WalkSpots.{head_told, located}
+use Rattle.yq_walk.proofs.WalkMarks.{head_told}
+use Rattle.yq_walk.proofs.WalkSpots.{located}
 use Rattle.yq_walk.proofs.spot_marks.has_head.Goals as goal
 
 pub returns-then-spot-lines_before_mark : goal.returns-then-spot-lines_before_mark

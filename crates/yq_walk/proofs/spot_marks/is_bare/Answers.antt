@@ -1,4 +1,4 @@
-use Rattle.yq_walk.proofs.WalkSpots.{bare_told}
+use Rattle.yq_walk.proofs.WalkMarks.{bare_told}
 use Rattle.yq_walk.proofs.spot_marks.is_bare.Goals as goal
 
 pub returns : goal.returns

@@ -2,7 +2,7 @@ use Rattle.std.proofs.Common.{sym, ap, ◌&&◌, ◌∙◌}
 use Rattle.std.proofs.lemmas.Bool.{eq-eqb}
 use Rattle.yq_lines.specs.Outline.{key_of}
 use Rattle.yq_scalar.specs.Paths.{is_item}
-use Rattle.yq_walk.proofs.WalkSpots.{item_told}
+use Rattle.yq_walk.proofs.WalkMarks.{item_told}
 use Rattle.yq_walk.proofs.spot_marks.is_item_at.Goals as goal
 
 pub returns-then-index-eq0 : goal.returns-then-index-eq0

@@ -1,5 +1,5 @@
 use Rattle.std.proofs.Common.{◌∙◌}
-use Rattle.yq_walk.proofs.WalkSpots.{key_told, other_told, quoted_told}
+use Rattle.yq_walk.proofs.WalkMarks.{key_told, other_told, quoted_told}
 use Rattle.yq_walk.proofs.spot_marks.is_key.Goals as goal
 
 pub returns-then-rank_at-ne2 : goal.returns-then-rank_at-ne2

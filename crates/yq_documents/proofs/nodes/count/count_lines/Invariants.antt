@@ -1,14 +1,13 @@
-use Rattle.std.proofs.Common.{◌≡◌, ◌+◌, ◌-◌, ◌≤◌, length}
-use Rattle.yq_documents.specs.Children.{lines_rest, rest_of}
+use Rattle.std.proofs.Common.{◌≡◌, ◌+◌, ◌≤◌}
+use Rattle.yq_documents.specs.Children.{lines_left, lines_rest, rest_of}
 use Rattle.yq_lines.specs.Counts as spec
-use Rattle.yq_lines.specs.View.{views}
 use Rattle.yq_documents.proofs.nodes.count.count_lines.Given as goal
 
--- what is counted, and what is left, are all; each that is counted has a line of its own
+-- what is counted, and what is left, are all; each that is counted has a row of its own
 abbrev pub invariant-lines : goal.invariant-lines
 invariant-lines l =
-    (l.count + spec.count (rest_of (views l.document) (lines_rest l.rest)) ≡ spec.count (rest_of (views l.document) (lines_rest l.fn.under)))
-    × (l.count ≤ l.rest.first)
+    (l.count + spec.count (rest_of (lines_rest l.rest)) ≡ spec.count (rest_of (lines_rest l.fn.under)))
+    × (l.count ≤ l.rest.first.row)
 
 abbrev pub decreases-lines : goal.decreases-lines
-decreases-lines l = length (views l.document) - l.rest.first
+decreases-lines l = lines_left l.rest

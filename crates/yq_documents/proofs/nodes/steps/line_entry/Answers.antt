@@ -1,26 +1,44 @@
-use Rattle.std.proofs.Common.{None, sym, arith}
+use Rattle.std.proofs.Common.{◌≡◌, None, Some, sym}
 use Rattle.yq_scalar.specs.Paths.{To}
 use Rattle.yq_lines.specs.Ends.{part}
-use Rattle.yq_documents.specs.Nodes.{label_of, node_of}
-use Rattle.yq_lines.specs.View.{views}
+use Rattle.yq_lines.specs.Places.{find_row}
+use Rattle.yq_lines.specs.Spots.{seen, spot}
 use Rattle.yq_lines.proofs.ChildLaws.{child_spot, child_found}
-use Rattle.yq_lines.proofs.EndsLaws.{has_line, views-length}
+use Rattle.yq_documents.specs.Nodes.{label_of, node_of}
+use Rattle.yq_documents.specs.Stretches.{document_lines, number_of}
+use Rattle.yq_documents.proofs.WalkedRows.{document_in, line_back, spot_here, told_document}
 use Rattle.yq_documents.proofs.nodes.steps.line_entry.Goals as goal
+
+pub document_rows-requires : goal.document_rows-requires
+document_rows-requires c = c.args.under.there
+
+pub find_key-requires-clause-shown : goal.find_key-requires-clause-shown
+find_key-requires-clause-shown c = c.document_rows.ensures.small
+
+pub find_key-requires-clause-document : goal.find_key-requires-clause-document
+find_key-requires-clause-document c = (document_in c.document_rows.ensures).0
+
+pub find_key-requires-clause-under : goal.find_key-requires-clause-under
+find_key-requires-clause-under c = spot_here c.document_rows.ensures c.args.under.spot
+
+pub of_line-requires-clause-there : goal.of_line-requires-clause-there
+of_line-requires-clause-there c = c.args.under.there
+
+pub of_line-requires-clause-line : goal.of_line-requires-clause-line
+of_line-requires-clause-line c = line_back c.document_rows.ensures c.in_ok-at.ensures.within
 
 pub returns-in_err-at : goal.returns-in_err-at
 returns-in_err-at c =
-    let ls = views c.args.document.now in
     let u = c.args.under in
-    let s = To c.args.key.now in
-    let found = rw c.lines.ensures at c.in_err-at.ensures.found in
-    rw c.from_residual.ensures (sym (child_spot s (part ls u.first u.floor) u.first None found))
+    let ls = document_lines u.document u.text.now in
+    let first = number_of u.document u.text.now u.first in
+    let found = told_document c.document_rows.ensures (λ ms num. spot (num u.first) (find_row (To c.args.key.now) (part ms (num u.first) u.floor)) ≡ None) c.in_err-at.ensures.found in
+    rw c.from_residual.ensures (sym (child_spot (To c.args.key.now) (part ls first u.floor) first None found))
 
 pub returns : goal.returns
 returns c =
-    let ls = views c.args.document.now in
     let u = c.args.under in
-    let s = To c.args.key.now in
-    let found = rw c.lines.ensures at c.in_ok-at.ensures.found in
-    let within = rw c.lines.ensures at c.in_ok-at.ensures.within in
-    let line = has_line ls c.in_ok-at.at (omega (arith, within, views-length c.args.document.now)) in
-    child_found s ls u.first u.floor c.in_ok-at.at line.0 (label_of c.of_line.result) (node_of c.of_line.result) line.1 found (c.of_line.ensures.label line.0 line.1) (c.of_line.ensures.node line.0 line.1)
+    let ls = document_lines u.document u.text.now in
+    let at = line_back c.document_rows.ensures c.in_ok-at.ensures.within in
+    let found = told_document c.document_rows.ensures (λ ms num. spot (num u.first) (find_row (To c.args.key.now) (part ms (num u.first) u.floor)) ≡ seen ms (Some (num c.in_ok-at.at))) c.in_ok-at.ensures.found in
+    child_found (To c.args.key.now) ls (number_of u.document u.text.now u.first) u.floor (number_of u.document u.text.now c.in_ok-at.at) at.line (label_of c.of_line.result) (node_of c.of_line.result) at.there found (c.of_line.ensures.label at.line at.there) (c.of_line.ensures.node at.line at.there)

@@ -1,7 +1,7 @@
 use Rattle.std.proofs.Common.{[], IfOk, ◌≡◌, sym, ap, ◌∙◌, subst}
 use Rattle.yq_inline.specs.Values.{node_of}
 use Rattle.yq_scalar.specs.BlockWritten.{break_text}
-use Rattle.yq_tree.specs.StandingTelling.{held_told, mark_told}
+use Rattle.yq_places.specs.StandingTelling.{held_told, mark_told}
 use Rattle.yq_edits.specs.ReplaceEdits.{block_put}
 use Rattle.yq_edits.specs.WrittenValues.{inline}
 use Rattle.yq_edits.proofs.PlacedValueLaws.{unfilled_at}

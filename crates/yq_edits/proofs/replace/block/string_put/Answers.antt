@@ -1,6 +1,6 @@
 use Rattle.std.proofs.Common.{IfOk, ◌≡◌, cond, sym, ◌∙◌, ap, subst}
 use Rattle.yq_scalar.specs.BlockWritten.{break_text}
-use Rattle.yq_tree.specs.StandingTelling.{held_told}
+use Rattle.yq_places.specs.StandingTelling.{held_told}
 use Rattle.yq_edits.specs.ReplaceEdits.{held_put, literal_put}
 use Rattle.yq_edits.specs.WrittenValues.{inline}
 use Rattle.yq_scalar.specs.Written.{double}

@@ -2,7 +2,7 @@ use Rattle.std.proofs.Common.{ℕ, List, IfOk, ◌≡◌, sym, ap, ◌∙◌, su
 use Rattle.yq_scalar.specs.declared.style.Place.TheVariants.{Block as InBlock}
 use Rattle.yq_inline.specs.Values.{node_of}
 use Rattle.yq_scalar.specs.BlockWritten.{break_text}
-use Rattle.yq_tree.specs.StandingTelling.{held_told, mark_told}
+use Rattle.yq_places.specs.StandingTelling.{held_told, mark_told}
 use Rattle.yq_edits.specs.ReplaceEdits.{held_put}
 use Rattle.yq_edits.specs.WrittenValues.{inline, value_text}
 use Rattle.yq_edits.proofs.PlacedValueLaws.{unfilled_at}

@@ -2,7 +2,7 @@ use Rattle.std.proofs.Common.{◌≡◌, ◌+◌, ◌++◌, length}
 use Rattle.std.specs.Vec.Iter.{into_iter_items, into_iter_len}
 use Rattle.yq_planning.specs.ChangeView.{all_changed_of}
 use Rattle.yq_meaning.specs.Operations.{operations_of}
-use Rattle.yq_planning.specs.Plans.{all_ops}
+use Rattle.yq_meaning.specs.Plans.{all_ops}
 use Rattle.yq_planning.proofs.updating.operations.operations.Given as goal
 
 abbrev pub invariant-documents : goal.invariant-documents

@@ -3,7 +3,7 @@ use Rattle.std.specs.Vec.Iter.{into_iter_items, into_iter_len}
 use Rattle.yq_documents.specs.Located.{steps_of}
 use Rattle.yq_planning.specs.ChangeView.{addition_of}
 use Rattle.yq_meaning.specs.Operations.{operations_of}
-use Rattle.yq_planning.specs.Plans.{add_op}
+use Rattle.yq_meaning.specs.Plans.{add_op}
 use Rattle.yq_planning.proofs.updating.operations.push_adds.Given as goal
 
 abbrev pub invariant-each : goal.invariant-each

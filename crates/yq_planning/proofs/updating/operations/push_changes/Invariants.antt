@@ -2,7 +2,7 @@ use Rattle.std.proofs.Common.{◌≡◌, ◌++◌, map, length}
 use Rattle.std.specs.Vec.Iter.{into_iter_items, into_iter_len}
 use Rattle.yq_planning.specs.ChangeView.{changed_of}
 use Rattle.yq_meaning.specs.Operations.{operations_of}
-use Rattle.yq_planning.specs.Plans.{ops_of}
+use Rattle.yq_meaning.specs.Plans.{ops_of}
 use Rattle.yq_planning.proofs.updating.operations.push_changes.Given as goal
 
 abbrev pub invariant-each : goal.invariant-each

@@ -1,4 +1,4 @@
-use Rattle.std.proofs.Common.{◌∷◌, [], ◌∙◌, ap, drop, sym, take}
+use Rattle.std.proofs.Common.{◌∷◌, [], ◌∙◌, ap, sym, take}
 use Rattle.yq_rows.specs.Offsets.{pieces_of}
 use Rattle.yq_rows.proofs.PieceCuts.{behind_sum, piece_cut}
 use Rattle.yq_rows.proofs.offsets.Offsets.dashes.Goals as goal

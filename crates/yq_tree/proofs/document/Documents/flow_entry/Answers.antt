@@ -1,16 +1,19 @@
-use Rattle.std.proofs.Common.{◌≡◌, true, List, Some, map, option_map, refl, sym, ap, ◌∙◌, subst, arith}
-use Rattle.std.proofs.lemmas.Option.{slice_get_read}
-use Rattle.yq_inline.specs.Entries.{step_of, entry_view}
-use Rattle.yq_documents.specs.Located.{steps_of}
-use Rattle.yq_documents.specs.Reading.{all_documents, cut_of}
-use Rattle.yq_lines.specs.View.{flows, views}
-use Rattle.yq_lines.specs.declared.line.Line.{Line}
+use Rattle.std.proofs.Common.{◌≡◌, eqb, List, ℕ, Option, true, map, option_map, sym, ap, ◌∙◌, subst}
+use Rattle.std.proofs.lemmas.List.{length-map}
+use Rattle.yq_inline.specs.Entries.{step_of}
+use Rattle.yq_inline.specs.Places.{Placed}
+use Rattle.yq_lines.specs.Ends.{reached}
+use Rattle.yq_rows.specs.Grammar.{IsCut}
 use Rattle.yq_rows.specs.View.{shown}
-use Rattle.yq_tree.specs.EntryReading.{flow_entry_at, flow_entry_of}
-use Rattle.yq_tree.specs.RowWalk.{HasLines, HeldAs, document_rows}
-use Rattle.yq_walk.specs.RowWalk.{stretch_told}
-use Rattle.yq_tree.proofs.HeldFlows.{held_in, held_lines, held_within}
-use Rattle.yq_tree.proofs.WalkDocuments.{no_place_found}
+use Rattle.yq_walk.specs.Lines.{lines_of}
+use Rattle.yq_documents.specs.Located.{steps_of}
+use Rattle.yq_documents.specs.Made.{told_flow}
+use Rattle.yq_documents.specs.Reading.{all_documents, cut_of}
+use Rattle.yq_places.specs.EntryReading.{flow_entry_at, flow_entry_of}
+use Rattle.yq_places.specs.RowWalk.{document_rows}
+use Rattle.yq_places.proofs.EntryPlaceLaws.{no_flow, no_flow_left}
+use Rattle.yq_tree.proofs.FlowEntries.{flow_found}
+use Rattle.yq_places.proofs.WalkDocuments.{found_document, no_place_found, place_found}
 use Rattle.yq_tree.proofs.document.Documents.flow_entry.Goals as goal
 
 pub returns-in_err-document : goal.returns-in_err-document
@@ -18,42 +21,35 @@ returns-in_err-document c =
     rw c.from_residual.ensures (no_place_found (cut_of c.cut-cut.result) c.args.path.now.doc (λ k cut rs. flow_entry_of k cut rs (steps_of c.args.path.now)) c.in_err-document.ensures.place
     ∙ ap (λ t. flow_entry_at c.args.path.now (cut_of t)) c.cut-cut.ensures)
 
-pub index-requires : goal.index-requires
-index-requires c =
-    let t = c.self.inside.text.now in
-    let same : c.cut-cut.result ≡ t = c.cut-cut.ensures ∙ sym c.self.view_is in
-    omega (
-      arith,
-      held_within t c.self.inside.rows (shown (cut_of t)) c.self.inside.documents.items c.args.path.now.doc c.in_ok-document.document c.self.invariant refl (c.in_ok-document.ensures.place ∙ ap (λ x. document_rows c.args.path.now.doc (cut_of x)) same)
-          (subst (λ x. all_documents (cut_of x) ≡ true) same c.in_ok-document.ensures.sound),
-    )
+pub reach-requires-clause-document : goal.reach-requires-clause-document
+reach-requires-clause-document c =
+    (found_document c.cut-cut.result c.rows.result.now (cut_of c.cut-cut.result) c.args.path.now.doc c.in_ok-document.document c.whole-whole.ensures.cut c.rows.ensures c.in_ok-document.ensures.place c.in_ok-document.ensures.sound).document
 
-pub flow_entry-requires-clause-lines : goal.flow_entry-requires-clause-lines
-flow_entry-requires-clause-lines c =
-    let t = c.self.inside.text.now in
-    let i = c.args.path.now.doc in
+-- where steps lead nowhere, or to a line, there is no part of a flow collection
+pub returns-in_err-at : goal.returns-in_err-at
+returns-in_err-at c =
+    let u : List ℕ = c.cut-cut.result in
     let d = c.in_ok-document.document in
-    let same : c.cut-cut.result ≡ t = c.cut-cut.ensures ∙ sym c.self.view_is in
-    let is : c.rows.result.now ≡ shown (cut_of t) = c.rows.ensures ∙ ap (λ x. shown (cut_of x)) same in
-    let e : Some (stretch_told d) ≡ document_rows i (cut_of t) = c.in_ok-document.ensures.place ∙ ap (λ x. document_rows i (cut_of x)) same in
-    let known : all_documents (cut_of t) ≡ true = subst (λ x. all_documents (cut_of x) ≡ true) same c.in_ok-document.ensures.sound in
-    let within = held_within t c.self.inside.rows c.rows.result.now c.self.inside.documents.items i d c.self.invariant is e known in
-    let there = slice_get_read c.self.inside.documents.items _ i c.index.result.now refl within c.index.ensures in
-    subst (λ (ls : List Line). HasLines c.rows.result.now d (views ls)) (sym c.lines-lines.ensures)
-    (held_lines t c.self.inside.rows c.rows.result.now c.self.inside.documents.items i d c.self.invariant is e known c.index.result.now there)
+    rw c.from_residual.ensures (place_found u c.rows.result.now (cut_of u) c.args.path.now.doc d _ (λ k cut rs. flow_entry_of k cut rs (steps_of c.args.path.now)) c.whole-whole.ensures.cut c.rows.ensures c.in_ok-document.ensures.place c.in_ok-document.ensures.sound
+    (λ k. no_flow d.first (cut_of u) k.document.stand.rows (steps_of c.args.path.now) (c.in_err-at.ensures.found k.document ∙ ap (λ xs. reached (map step_of xs) (lines_of k.document.stand.rows)) c.deref.ensures.value))
+    ∙ ap (λ t. flow_entry_at c.args.path.now (cut_of t)) c.cut-cut.ensures)
+
+pub returns-then-is_empty : goal.returns-then-is_empty
+returns-then-is_empty c =
+    let u : List ℕ = c.cut-cut.result in
+    let d = c.in_ok-document.document in
+    place_found u c.rows.result.now (cut_of u) c.args.path.now.doc d _ (λ k cut rs. flow_entry_of k cut rs (steps_of c.args.path.now)) c.whole-whole.ensures.cut c.rows.ensures c.in_ok-document.ensures.place c.in_ok-document.ensures.sound
+    (λ k. no_flow_left d.first (cut_of u) k.document.stand.rows (steps_of c.args.path.now) (map step_of c.in_ok-at.left.now) _ (c.in_ok-at.ensures.found k.document ∙ ap (λ xs. reached (map step_of xs) (lines_of k.document.stand.rows)) c.deref.ensures.value)
+    (c.if-is_empty.ensures ∙ sym (ap (λ n. eqb n 0) (length-map c.in_ok-at.left.now step_of))))
+    ∙ ap (λ t. flow_entry_at c.args.path.now (cut_of t)) c.cut-cut.ensures
 
 pub returns : goal.returns
 returns c =
-    let t = c.self.inside.text.now in
-    let i = c.args.path.now.doc in
-    let d = c.in_ok-document.document in
-    let same : c.cut-cut.result ≡ t = c.cut-cut.ensures ∙ sym c.self.view_is in
-    let is : c.rows.result.now ≡ shown (cut_of t) = c.rows.ensures ∙ ap (λ x. shown (cut_of x)) same in
-    let e : Some (stretch_told d) ≡ document_rows i (cut_of t) = c.in_ok-document.ensures.place ∙ ap (λ x. document_rows i (cut_of x)) same in
-    let known : all_documents (cut_of t) ≡ true = subst (λ x. all_documents (cut_of x) ≡ true) same c.in_ok-document.ensures.sound in
-    let within = held_within t c.self.inside.rows c.rows.result.now c.self.inside.documents.items i d c.self.invariant is e known in
-    let there = slice_get_read c.self.inside.documents.items _ i c.index.result.now refl within c.index.ensures in
-    held_in t c.self.inside.rows c.rows.result.now c.self.inside.documents.items i d c.self.invariant is e known c.index.result.now there _ (λ k cut rs. flow_entry_of k cut rs (steps_of c.args.path.now))
-    (subst (λ (ls : List Line). HeldAs c.rows.result.now d (views ls) (flows ls) (λ k cut rs. option_map entry_view c.flow_entry.result ≡ flow_entry_of k cut rs (steps_of c.args.path.now))) c.lines-lines.ensures
-    (λ k cut h own holds. c.flow_entry.ensures k cut h own holds ∙ ap (λ xs. flow_entry_of k cut h.stand.rows (map step_of xs)) c.deref.ensures.value))
-    ∙ ap (λ t. flow_entry_at c.args.path.now (cut_of t)) c.self.view_is
+    let v : List ℕ = c.self.inside.read in
+    let same : c.cut-cut.result ≡ v = c.cut-cut.ensures ∙ sym c.self.view_is in
+    let flow : Option Placed = told_flow (option_map (λ m. m.now) c.made.result) in
+    flow_found v c.rows.result.now c.args.path.now.doc c.in_ok-document.document c.in_ok-at.at (steps_of c.args.path.now) (map step_of c.in_ok-at.left.now) flow _ (subst (λ x. IsCut x (cut_of x)) same c.whole-whole.ensures.cut)
+    (c.rows.ensures ∙ ap (λ x. shown (cut_of x)) same) (c.in_ok-document.ensures.place ∙ ap (λ x. document_rows c.args.path.now.doc (cut_of x)) same) (subst (λ x. all_documents (cut_of x) ≡ true) same c.in_ok-document.ensures.sound) c.in_ok-at.ensures.within
+    (λ h. c.in_ok-at.ensures.found h ∙ ap (λ xs. reached (map step_of xs) (lines_of h.stand.rows)) c.deref.ensures.value) (λ r is. (c.made.ensures r is).flow) c.made_entry.ensures
+    (c.if-is_empty.ensures ∙ sym (ap (λ n. eqb n 0) (length-map c.in_ok-at.left.now step_of)))
+    ∙ ap (λ x. flow_entry_at c.args.path.now (cut_of x)) c.self.view_is

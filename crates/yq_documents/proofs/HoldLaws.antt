@@ -1,0 +1,71 @@
+-- What is kept of a text that reads as documents tells it.
+use Rattle.std.proofs.Common.{◌≡◌, ℕ, ◌<◌, ◌≤◌, List, length, Option, Some, option_map, Bool, true, false, sym, ap, ◌∙◌, subst, arith}
+use Rattle.std.proofs.lemmas.List.{length-map}
+use Rattle.std.proofs.lemmas.Option.{same_Some, slice_get-map, slice_get_within}
+use Rattle.std.specs.List.{list_any, slice_get}
+use Rattle.yq_lines.specs.Comments.{head_comment}
+use Rattle.yq_lines.specs.Names.{is_reference, line_names}
+use Rattle.yq_rows.specs.Grammar.{IsCut}
+use Rattle.yq_rows.specs.Rows.{Row, Part}
+use Rattle.yq_rows.specs.View.{rows_of, Shown, shown}
+use Rattle.yq_scalar.specs.Characters.{text_limit}
+use Rattle.yq_walk.specs.Extents.{IsShown}
+use Rattle.yq_walk.specs.declared.spot.Stretch.{Stretch}
+use Rattle.yq_documents.specs.Documents.{Document, document_parts}
+use Rattle.yq_documents.specs.Holding.{Holds}
+use Rattle.yq_documents.specs.Located.{document_at}
+use Rattle.yq_documents.specs.Made.{IsTold}
+use Rattle.yq_documents.specs.Reading.{all_documents, cut_of, document_of, documents_of}
+use Rattle.yq_documents.specs.Stretches.{HasText, document_lines, part_rows, stretch_of}
+use Rattle.yq_documents.specs.declared.made.Made.{Made}
+use Rattle.yq_documents.specs.declared.read_text.DocumentRows.{DocumentRows}
+use Rattle.yq_documents.proofs.PartRows.{has_part}
+
+same_stretch : (x y : Stretch) → x.first ≡ y.first → x.end ≡ y.end → x ≡ y
+same_stretch x y a b = λ i. record { first = a i; end = b i }
+
+module _ {t u : List ℕ} {s : Shown} {ds : List DocumentRows} {ms : List Made} {refers : Bool} (h : Holds t s ds ms refers) (e : t ≡ u) where
+  pub cut_held : IsCut u (cut_of u)
+  cut_held = subst (λ (x : List ℕ). IsCut x (cut_of x)) e h.cut
+
+  pub rows_held : s ≡ shown (cut_of u)
+  rows_held = h.rows ∙ ap (λ (x : List ℕ). shown (cut_of x)) e
+
+  pub sound_held : all_documents (cut_of u) ≡ true
+  sound_held = sym (ap (λ (x : List ℕ). all_documents (cut_of x)) e) ∙ h.sound
+
+  pub shown_held : IsShown s
+  shown_held = record { cut = cut_of t; is = h.rows; size = subst (λ (x : List ℕ). length x ≤ text_limit) h.cut.text h.cut.size }
+
+  pub count_held : length ds ≡ length (documents_of u)
+  count_held = h.count ∙ (sym (length-map (document_parts (cut_of t)) document_of) ∙ ap (λ (x : List ℕ). length (documents_of x)) e)
+
+  -- a document by its number
+  module _ (n : ℕ) (d : DocumentRows) (there : slice_get ds n ≡ Some d) where
+    part : (p : Part) × (slice_get (document_parts (cut_of t)) n ≡ Some p)
+    part = has_part (document_parts (cut_of t)) n (omega (arith, slice_get_within ds n d there, h.count))
+
+    pub lead_held : (x : Document) → document_at u n ≡ Some x → head_comment d.lead.now ≡ x.lead
+    lead_held x is =
+        let own : document_of part.0 ≡ x = same_Some _ _ (sym (slice_get-map document_of (document_parts (cut_of t)) n ∙ ap (option_map document_of) part.1) ∙ (ap (λ (y : List ℕ). document_at y n) e ∙ is)) in
+        (h.places n d part.0 there part.1).lead ∙ ap (λ (y : Document). y.lead) own
+
+    pub place_held : (x : Stretch) → x.first ≡ d.first → x.end ≡ d.end → n < length (documents_of u) → HasText u n s x
+    place_held x first end within =
+        let p = h.places n d part.0 there part.1 in
+        let rows : length (part_rows (slice_get (document_parts (cut_of t)) n)) ≡ length part.0.rows = ap (λ (o : Option Part). length (part_rows o)) part.1 in
+        let stop : x.end ≡ (stretch_of n t).end = omega (arith, end, p.end, p.first, rows) in
+        record {
+          cut = cut_held;
+          sound = sound_held;
+          rows = rows_held;
+          small = shown_held;
+          place = same_stretch x (stretch_of n t) (first ∙ p.first) stop ∙ ap (stretch_of n) e;
+          there = within;
+        }
+
+  pub told_held : (i : ℕ) (r : Row) → slice_get (rows_of (cut_of u)) i ≡ Some r → IsTold (length u) (cut_of u) ms i r
+  told_held = subst (λ (x : List ℕ). (i : ℕ) (r : Row) → slice_get (rows_of (cut_of x)) i ≡ Some r → IsTold (length x) (cut_of x) ms i r) e h.told
+
+  pub quiet_held : refers ≡ false → (n : ℕ) → list_any is_reference (line_names (document_lines n u)) ≡ false
+  quiet_held = subst (λ (x : List ℕ). refers ≡ false → (n : ℕ) → list_any is_reference (line_names (document_lines n x)) ≡ false) e h.quiet

@@ -1,0 +1,103 @@
+-- What is written in the lines of a document, by the pieces of their rows.
+use Rattle.std.proofs.Common.{◌≡◌, ◌⊎◌, inl, inr, ◌<◌, ◌≤◌, ◌-◌, ℕ, zero, suc, List, [], ◌∷◌, ◌++◌, length, Option, Some, None, true, false, refl, sym, ap, ◌∙◌, subst, arith}
+use Rattle.std.proofs.lemmas.Bool.{cases_lt, false≢true}
+use Rattle.std.proofs.lemmas.Option.{same_Some}
+use Rattle.std.specs.List.{slice_get}
+use Rattle.std.specs.Prelude.{is_some}
+use Rattle.yq_inline.specs.Scalars.{content_of, is_quoted}
+use Rattle.yq_lines.specs.Comments as comments
+use Rattle.yq_lines.specs.Outline.{Line, key_of}
+use Rattle.yq_rows.specs.Grammar.{AreRows, Limit, limit_after}
+use Rattle.yq_rows.specs.Rows.{Row, parent_indent, rows_text}
+use Rattle.yq_rows.specs.View.{Shown, Slices, slices}
+use Rattle.yq_scalar.specs.Quoted.{IsQuotedText}
+use Rattle.yq_scalar.specs.Text.{upto}
+use Rattle.yq_scalar.specs.Tree.{Node}
+use Rattle.yq_walk.specs.Extents.{lines_before_mark}
+use Rattle.yq_walk.specs.Lines.{head_of}
+use Rattle.yq_walk.specs.RowWalk.{line_rank}
+use Rattle.yq_walk.specs.declared.spot.Spot.{Spot}
+use Rattle.yq_walk.specs.declared.spot.Stretch.{Stretch}
+use Rattle.yq_walk.proofs.BesideLaws.{IsBeside, beside_in}
+use Rattle.yq_walk.proofs.RowLaws.{no_comments}
+use Rattle.yq_walk.proofs.WalkMarks.{key_here, key_none}
+use Rattle.yq_walk.proofs.WalkSpots.{Located}
+use Rattle.yq_documents.specs.RowReading.{name_in}
+use Rattle.yq_documents.specs.Stretches.{HasText, IsLineIn, document_lines, number_of}
+use Rattle.yq_documents.proofs.WalkedRows.{document_in, line_here, located_in, own_line, stands}
+use Rattle.yq_documents.proofs.RowLineLaws.{anchor_is, content_quoted, tail_is}
+
+-- of no text there is no comment
+no_line_comment : comments.line_comment [] ≡ None
+unfolding upto
+no_line_comment = refl
+
+-- a quoted head is a quoted scalar
+rows_quoted : (limit : Limit) (rs : List Row) (end rest : List ℕ) → AreRows limit rs end rest → (i : ℕ) (r : Row) → slice_get rs i ≡ Some r → is_quoted (slices r).head ≡ true → IsQuotedText (slices r).head
+rows_quoted limit [] end rest h i r e = absurd (cc)
+rows_quoted limit (x ∷ rs) end rest h zero r e =
+    let same : x ≡ r = same_Some _ _ e in
+    subst (λ (y : Row). is_quoted (slices y).head ≡ true → IsQuotedText (slices y).head) same (content_quoted (parent_indent x) x.content (rows_text rs (end ++ rest)) h.0.content)
+rows_quoted limit (x ∷ rs) end rest h (suc i) r e = rows_quoted (limit_after x) rs end rest h.1 i r e
+
+module _ {t : List ℕ} {n : ℕ} {s : Shown} {d : Stretch} (x : HasText t n s d) {q : Spot} (at : IsLineIn t n q) where
+  pub head_quoted : is_quoted (slices (located_in x at).row).head ≡ true → IsQuotedText (slices (located_in x at).row).head
+  head_quoted =
+      let h = stands x in
+      let k = located_in x at in
+      rows_quoted h.limit h.rows h.end h.rest h.valid (q.row - d.first) k.row k.there
+
+  module _ (l : Line) (e : slice_get (document_lines n t) (number_of n t q) ≡ Some l) where
+    abbrev k : Located s d (document_in x).0.stand q
+    k = located_in x at
+
+    own : (located_in x at).line ≡ l
+    own = own_line x at l e
+
+    beside : IsBeside (comments.head_comment (located_in x at).row.gap) (located_in x at).row.dashes (located_in x at).row.content q.line l
+    beside = beside_in (comments.head_comment k.row.gap) k.row.column k.row.dashes k.row.mark k.row.content q.line l k.within (k.in_row ∙ ap Some own)
+
+    -- what is above the line
+    pub gap_first : (piece : List ℕ) → ((y : Slices) → slice_get s.rows q.row ≡ Some y → piece ≡ y.gap) → q.line ≡ 0 → comments.head_comment piece ≡ l.head_comment
+    gap_first piece told none = ap comments.head_comment (told (slices k.row) k.pieces) ∙ sym (beside.first none)
+
+    pub gap_later : 0 < q.line → comments.head_comment [] ≡ l.head_comment
+    gap_later some = no_comments ∙ sym (beside.other some)
+
+    -- a key
+    module _ (r : ℕ) (told : (y : Slices) → slice_get s.rows q.row ≡ Some y → r ≡ line_rank q.line y) where
+      pub no_key : (r ≡ 2 → ⊥) → None ≡ key_of l.mark
+      no_key = key_none s d (stands x) q (line_here x at) l (k.is ∙ ap Some own) r told
+
+      pub own_key : r ≡ 2 → Some (content_of (slices (located_in x at).row).key) ≡ key_of l.mark
+      own_key = key_here s d (stands x) q (line_here x at) l (k.is ∙ ap Some own) r told
+
+    -- a head
+    pub head_some : true ≡ is_some l.head → head_of (located_in x at).row.content ≡ l.head
+    head_some some = go (cases_lt q.line (length k.row.dashes))
+      where
+        go : (q.line < length k.row.dashes) ⊎ (length k.row.dashes ≤ q.line) → head_of k.row.content ≡ l.head
+        go (inl less) = absurd (false≢true (sym (some ∙ ap is_some (ap (λ (y : Line). y.head) (sym own) ∙ (k.told.dash less).1))))
+        go (inr past) = sym (k.told.mark (omega (arith, past, k.within))).1 ∙ ap (λ (y : Line). y.head) own
+
+    -- an anchor and a tail
+    module _ (b : ℕ) (told : (y : Slices) → slice_get s.rows q.row ≡ Some y → b ≡ lines_before_mark y) where
+      counted : b ≡ length (located_in x at).row.dashes
+      counted = told (slices k.row) k.pieces ∙ k.telling.counted
+
+      pub anchor_before : q.line < b → None ≡ l.anchor
+      anchor_before less = sym (beside.dash (omega (arith, less, counted))).0
+
+      pub anchor_last : b ≤ q.line → (piece : List ℕ) → ((y : Slices) → slice_get s.rows q.row ≡ Some y → piece ≡ y.anchor) → name_in piece ≡ l.anchor
+      anchor_last past piece is = ap name_in (is (slices k.row) k.pieces) ∙ (anchor_is k.row.content ∙ sym (beside.mark (omega (arith, past, counted, k.within))).0)
+
+      pub tail_before : q.line < b → comments.line_comment [] ≡ l.line_comment
+      tail_before less = no_line_comment ∙ sym (beside.dash (omega (arith, less, counted))).1
+
+      pub tail_last : b ≤ q.line → (piece : List ℕ) → ((y : Slices) → slice_get s.rows q.row ≡ Some y → piece ≡ y.tail) → comments.line_comment piece ≡ l.line_comment
+      tail_last past piece is = ap comments.line_comment (is (slices k.row) k.pieces ∙ tail_is k.row.content) ∙ sym (beside.mark (omega (arith, past, counted, k.within))).1
+
+-- a head that isn't there
+pub head_none : (o : Option Node) → false ≡ is_some o → None ≡ o
+head_none None e = refl
+head_none (Some a) e = absurd (false≢true e)

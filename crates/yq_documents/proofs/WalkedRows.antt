@@ -1,0 +1,107 @@
+-- What walks over the rows of a text tell of the lines of a document.
+use Rattle.std.proofs.Common.{◌≡◌, ℕ, ◌+◌, ◌-◌, ◌<◌, List, length, Option, Some, None, option_map, refl, sym, ap, ◌∙◌, subst, arith}
+use Rattle.std.proofs.lemmas.List.{length-map}
+use Rattle.std.proofs.lemmas.Option.{same_Some, slice_get-map}
+use Rattle.std.specs.List.{slice_get}
+use Rattle.yq_lines.specs.Group.{group}
+use Rattle.yq_lines.specs.Outline.{Line, value}
+use Rattle.yq_rows.specs.Rows.{Row, Part, Cut}
+use Rattle.yq_rows.specs.View.{rows_of, Shown}
+use Rattle.yq_walk.specs.Lines.{lines_of}
+use Rattle.yq_walk.specs.RowWalk.{HasDocument, HasRows, IsLine, IsSpot, OfLine, line_number}
+use Rattle.yq_walk.specs.declared.spot.Spot.{Spot}
+use Rattle.yq_walk.specs.declared.spot.Stretch.{Stretch}
+use Rattle.yq_walk.proofs.KnownLaws.{get_dropped, get_front}
+use Rattle.yq_walk.proofs.WalkSpots.{Located, first_number, located}
+use Rattle.yq_documents.specs.Documents.{Document, document_parts}
+use Rattle.yq_documents.specs.Reading.{cut_of, document_of, documents_of}
+use Rattle.yq_documents.specs.Seats.{document_row}
+use Rattle.yq_documents.specs.Stretches.{HasText, IsLineIn, IsSpotIn, OfLineIn, document_lines, document_rows, number_of, part_rows}
+use Rattle.yq_documents.proofs.PartRows.{document_has, has_part, part_begins}
+
+pub document_in : {t : List ℕ} {n : ℕ} {s : Shown} {d : Stretch} → HasText t n s d → (h : HasDocument s d) × (h.stand.rows ≡ document_rows n t)
+document_in {t} {n} {s} {d} x =
+    let c : Cut = cut_of t in
+    let p = has_part (document_parts c) n (omega (arith, x.there, length-map (document_parts c) document_of)) in
+    let is : document_rows n t ≡ p.0.rows = ap part_rows p.1 in
+    let h = document_has t s c n p.0 d x.cut x.rows p.1 (ap (λ (e : Stretch). e.first) x.place) (ap (λ (e : Stretch). e.end) x.place ∙ ap (λ (rs : List Row). document_row n c + length rs) is) x.sound in
+    (h.0, h.1 ∙ sym is)
+
+module _ {t : List ℕ} {n : ℕ} {s : Shown} {d : Stretch} (x : HasText t n s d) where
+  -- what is told of the lines of the rows that were walked is so of those of the document
+  told_lines : (P : List Line → (Spot → ℕ) → Type 0) → P (lines_of (document_in x).0.stand.rows) (line_number d (document_in x).0.stand.rows) → P (document_lines n t) (number_of n t)
+  told_lines P p = subst (λ (y : List Row × Stretch). P (lines_of y.0) (line_number y.1 y.0)) (λ i. ((document_in x).1 i, x.place i)) p
+
+  pub told_rows : (P : List Line → (Spot → ℕ) → Type 0) → ((h : HasRows s d) → P (lines_of h.rows) (line_number d h.rows)) → P (document_lines n t) (number_of n t)
+  told_rows P f = told_lines P (f (document_in x).0.stand)
+
+  pub told_document : (P : List Line → (Spot → ℕ) → Type 0) → ((h : HasDocument s d) → P (lines_of h.stand.rows) (line_number d h.stand.rows)) → P (document_lines n t) (number_of n t)
+  told_document P f = told_lines P (f (document_in x).0)
+
+  pub of_line : (q : Spot) (said : Line → Type 0) → OfLine s d q said → OfLineIn t n q said
+  of_line q said = told_rows (λ ls num. (l : Line) → slice_get ls (num q) ≡ Some l → said l)
+
+  abbrev pub stands : HasRows s d
+  stands = (document_in x).0.stand
+
+  pub line_here : {q : Spot} → IsLineIn t n q → IsLine s d q
+  line_here {q} at = subst (λ (y : Shown × Stretch). IsLine y.0 y.1 q) (λ i. (sym x.rows i, sym x.place i)) at.place
+
+  pub spot_here : {q : Spot} → IsSpotIn t n q → IsSpot s d q
+  spot_here {q} at = subst (λ (y : Shown × Stretch). IsSpot y.0 y.1 q) (λ i. (sym x.rows i, sym x.place i)) at
+
+  pub spot_back : {q : Spot} → IsSpot s d q → IsSpotIn t n q
+  spot_back {q} at = subst (λ (y : Shown × Stretch). IsSpot y.0 y.1 q) (λ i. (x.rows i, x.place i)) at
+
+  -- a line with its row
+  abbrev pub located_in : {q : Spot} → IsLineIn t n q → Located s d (document_in x).0.stand q
+  located_in {q} at = located s d (document_in x).0.stand q (line_here at)
+
+  pub line_back : {q : Spot} → IsLine s d q → IsLineIn t n q
+  line_back {q} at =
+      let k = located s d (document_in x).0.stand q at in
+      record {
+        place = subst (λ (y : Shown × Stretch). IsLine y.0 y.1 q) (λ i. (x.rows i, x.place i)) at;
+        line = k.line;
+        there = told_lines (λ ls num. slice_get ls (num q) ≡ Some k.line) k.is;
+      }
+
+  -- the line of that number is that of the row
+  pub own_line : {q : Spot} (at : IsLineIn t n q) (l : Line) → slice_get (document_lines n t) (number_of n t q) ≡ Some l → (located_in at).line ≡ l
+  own_line {q} at l e =
+      let k = located_in at in
+      same_Some _ _ (sym (told_lines (λ ls num. slice_get ls (num q) ≡ Some k.line) k.is) ∙ e)
+
+  -- a row of the document is one of the text
+  pub row_in : {q : Spot} → IsLineIn t n q → q.row < length s.rows
+  row_in {q} at = omega (arith, (line_here at).upto, (document_in x).0.stand.within)
+
+  -- and that of its cut
+  pub row_there : {q : Spot} (at : IsLineIn t n q) → slice_get (rows_of (cut_of t)) q.row ≡ Some (located_in at).row
+  row_there {q} at =
+      let c : Cut = cut_of t in
+      let k = located_in at in
+      let p = has_part (document_parts c) n (omega (arith, x.there, length-map (document_parts c) document_of)) in
+      let is : document_rows n t ≡ p.0.rows = ap part_rows p.1 in
+      let b = part_begins c n p.0 p.1 in
+      let first : d.first ≡ document_row n c = ap (λ (e : Stretch). e.first) x.place in
+      let mine : slice_get p.0.rows (q.row - d.first) ≡ Some k.row = ap (λ (rs : List Row). slice_get rs (q.row - d.first)) (sym ((document_in x).1 ∙ is)) ∙ k.there in
+      let whole : document_row n c + (q.row - d.first) ≡ q.row = omega (arith, first, (line_here at).from) in
+      ap (slice_get (rows_of c)) (sym whole)
+      ∙ (sym (get_dropped (rows_of c) (document_row n c) (q.row - d.first))
+      ∙ (ap (λ (rs : List Row). slice_get rs (q.row - d.first)) b.1 ∙ get_front p.0.rows b.0 (q.row - d.first) k.row mine))
+
+  -- the first line of a document
+  pub first_spot : IsSpotIn t n (record { row = d.first; line = 0 })
+  first_spot = spot_back (record { from = omega arith; upto = (document_in x).0.stand.order; line = λ y e. omega arith; last = λ e. refl })
+
+  pub first_is : number_of n t (record { row = d.first; line = 0 }) ≡ 0
+  first_is = told_rows (λ ls num. num (record { row = d.first; line = 0 }) ≡ 0) (λ h. sym (first_number d h.rows))
+
+-- the root of a document
+part_root : (o : Option Part) (d : Document) → option_map document_of o ≡ Some d → value (group (lines_of (part_rows o))) ≡ d.root
+part_root None d e = absurd (cc)
+part_root (Some p) d e = ap (λ (y : Document). y.root) (same_Some _ _ e)
+
+pub root_is : (t : List ℕ) (n : ℕ) (d : Document) → slice_get (documents_of t) n ≡ Some d → value (group (document_lines n t)) ≡ d.root
+root_is t n d e = part_root (slice_get (document_parts (cut_of t)) n) d (sym (slice_get-map document_of (document_parts (cut_of t)) n) ∙ e)

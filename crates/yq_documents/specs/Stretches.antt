@@ -1,0 +1,67 @@
+-- Reading (own; a reader may skip it): the rows of documents among those of a text, and their lines by number.
+use Rattle.std.specs.Prelude.{◌≡◌, ◌<◌, ℕ, ◌+◌, ◌-◌, List, [], length, slice_get, true, Option, Some, None}
+use Rattle.yq_lines.specs.Ends.{part}
+use Rattle.yq_lines.specs.Outline.{Line, Outline, level}
+use Rattle.yq_rows.specs.Grammar.{IsCut}
+use Rattle.yq_rows.specs.Rows.{Row, Part}
+use Rattle.yq_rows.specs.View.{Shown, shown}
+use Rattle.yq_walk.specs.Extents.{IsShown}
+use Rattle.yq_walk.specs.Lines.{lines_of}
+use Rattle.yq_walk.specs.RowWalk.{IsLine, IsSpot, line_number}
+use Rattle.yq_walk.specs.declared.spot.Spot.{Spot}
+use Rattle.yq_walk.specs.declared.spot.Stretch.{Stretch}
+use Rattle.yq_documents.specs.Documents.{document_parts}
+use Rattle.yq_documents.specs.Reading.{all_documents, cut_of, documents_of}
+use Rattle.yq_documents.specs.Seats.{document_row}
+
+-- the rows of a part; where there is no part there are none (own)
+abbrev pub part_rows : Option Part → List Row
+part_rows None = []
+part_rows (Some p) = p.rows
+
+-- the rows of document n of a text (own)
+abbrev pub document_rows : ℕ → List ℕ → List Row
+document_rows n t = part_rows (slice_get (document_parts (cut_of t)) n)
+
+-- the lines of document n of a text (own)
+abbrev pub document_lines : ℕ → List ℕ → List Line
+document_lines n t = lines_of (document_rows n t)
+
+-- where the rows of document n stand among those of a text (own)
+abbrev pub stretch_of : ℕ → List ℕ → Stretch
+stretch_of n t = record { first = document_row n (cut_of t); end = document_row n (cut_of t) + length (document_rows n t) }
+
+-- the number of a line of document n of a text (own)
+abbrev pub number_of : ℕ → List ℕ → Spot → ℕ
+number_of n t q = line_number (stretch_of n t) (document_rows n t) q
+
+-- a line of document n of a text, or the end behind its rows (own)
+abbrev pub IsSpotIn : List ℕ → ℕ → Spot → Type 0
+IsSpotIn t n q = IsSpot (shown (cut_of t)) (stretch_of n t) q
+
+-- A line of document n of a text (own).
+pub record IsLineIn (t : List ℕ) (n : ℕ) (q : Spot) : Type 0 where
+  pub place : IsLine (shown (cut_of t)) (stretch_of n t) q
+  pub line : Line
+  pub there : slice_get (document_lines n t) (number_of n t q) ≡ Some line
+
+-- What is said of a line of document n of a text (own).
+abbrev pub OfLineIn : List ℕ → ℕ → Spot → (Line → Type 0) → Type 0
+OfLineIn t n q said = (l : Line) → slice_get (document_lines n t) (number_of n t q) ≡ Some l → said l
+
+-- how many lines of document n of a text stand from one on (own)
+abbrev pub count_from : List ℕ → ℕ → Spot → ℕ
+count_from t n q = length (document_lines n t) - number_of n t q
+
+-- the lines under line q of document n of a text, where it is this line (own)
+abbrev pub lines_under : List ℕ → ℕ → Spot → Line → Outline
+lines_under t n q l = part (document_lines n t) (number_of n t q + 1) (level l)
+
+-- The rows of a text that reads as documents, and which of them are those of document n (own).
+pub record HasText (t : List ℕ) (n : ℕ) (s : Shown) (d : Stretch) : Type 0 where
+  pub cut : IsCut t (cut_of t)
+  pub sound : all_documents (cut_of t) ≡ true
+  pub rows : s ≡ shown (cut_of t)
+  pub small : IsShown s
+  pub place : d ≡ stretch_of n t
+  pub there : n < length (documents_of t)

@@ -1,0 +1,109 @@
+-- Where the comments of a row stand, by its pieces.
+use Rattle.std.proofs.Common.{◌≡◌, ℕ, ◌+◌, ◌-◌, ◌<◌, ◌≤◌, eqb, List, [], ◌∷◌, ◌++◌, length, Option, Some, None, option_map, Bool, true, false, cond, refl, sym, ap, ◌∙◌, arith, length-append}
+use Rattle.std.proofs.lemmas.Option.{slice_get-map}
+use Rattle.std.specs.List.{slice_get}
+use Rattle.yq_scalar.specs.Text.{cut, front, ends_line, no_white, past_white, is_empty, joined, lines_of}
+use Rattle.yq_rows.specs.Exchange.{before_content, behind_row}
+use Rattle.yq_rows.specs.Rows.{Row, behind_gap, Cut}
+use Rattle.yq_rows.specs.View.{Slices, slices, rows_of, shown}
+use Rattle.yq_scalar.proofs.LineLaws.{joined_lines}
+use Rattle.yq_documents.specs.Pieces.{tail_comment, before_run, last_run, gap_comment, piece_span}
+use Rattle.yq_places.specs.CommentReading.{before_tail, line_comment_in, head_comment_in, tail_span, line_comment_span, gap_span, head_comment_span, before_row}
+use Rattle.yq_walk.specs.Extents.{row_start, front_length, head_place}
+use Rattle.yq_places.specs.SeatReading.{numbers}
+use Rattle.yq_documents.specs.Seats.{Seat}
+use Rattle.yq_walk.proofs.LengthLaws.{head_told}
+use Rattle.yq_documents.proofs.RunLaws.{run_split}
+use Rattle.yq_places.proofs.StartLaws.{start_told}
+
+-- the comment in a tail
+pair : (a b c d : ℕ) → a ≡ b → c ≡ d → ◌≡◌ {A = ℕ × ℕ} (a, c) (b, d)
+pair a b c d e f = λ i. (e i, f i)
+
+pub tail_told : (before tail behind : List ℕ) (start : ℕ) → start ≡ length before → tail_span start tail ≡ option_map piece_span (tail_comment before tail behind)
+tail_told before tail behind start e = go (front (λ b. eqb b 35) (past_white tail))
+  where
+    white : List ℕ
+    white = (cut no_white tail).0
+
+    long : ℕ
+    long = length (cut ends_line (past_white tail)).0
+
+    go : (b : Bool) → cond b (Some (start + length white, start + length white + long)) None ≡ option_map piece_span (cond b (Some (record { before = before ++ white; text = (cut ends_line (past_white tail)).0; behind = (cut ends_line (past_white tail)).1 ++ behind })) None)
+    go true = ap Some (pair _ _ _ _ (omega (arith, e, length-append before white)) (omega (arith, e, length-append before white)))
+    go false = refl
+
+-- where a row's tail begins
+before_length : (c : Cut) (i : ℕ) (r : Row) → slice_get (rows_of c) i ≡ Some r → row_start i (shown c) + front_length (slices r) + length (slices r).head ≡ length (before_tail i r c)
+before_length c i r is =
+    let s : Slices = slices r in
+    let there : slice_get (shown c).rows i ≡ Some s = slice_get-map slices (rows_of c) i ∙ ap (option_map slices) is in
+    let told = head_told (shown c) i (row_start i (shown c)) (front_length s) (length s.head) s there refl refl refl c refl r is in
+    let place : row_start i (shown c) + front_length s + length s.head ≡ (head_place i c r).1 = ap (λ (x : ℕ × ℕ). x.1) told in
+    omega (
+      arith,
+      place,
+      length-append (before_content i c) (s.space ++ (s.anchor ++ s.apart)),
+      length-append s.space (s.anchor ++ s.apart),
+      length-append s.anchor s.apart,
+      length-append (before_content i c) (s.space ++ (s.anchor ++ (s.apart ++ s.head))),
+      length-append s.space (s.anchor ++ (s.apart ++ s.head)),
+      length-append s.anchor (s.apart ++ s.head),
+      length-append s.apart s.head,
+    )
+
+pub line_told : (c : Cut) (i : ℕ) (s : Seat) (k : ℕ) → slice_get (rows_of c) i ≡ Some s.row → line_comment_span (row_start i (shown c)) (slices s.row) (numbers k s) ≡ option_map piece_span (line_comment_in i s c)
+line_told c i s k is = go (eqb s.line (length s.row.dashes))
+  where
+    x : Slices
+    x = slices s.row
+
+    go : (b : Bool) → cond b (tail_span (row_start i (shown c) + front_length x + length x.head) x.tail) None ≡ option_map piece_span (cond b (tail_comment (before_tail i s.row c) x.tail (x.raw ++ behind_row i c)) None)
+    go true = tail_told (before_tail i s.row c) x.tail (x.raw ++ behind_row i c) (row_start i (shown c) + front_length x + length x.head) (before_length c i s.row is)
+    go false = refl
+
+-- the run in a gap
+run_length : (gap : List ℕ) → length gap ≡ length (joined (before_run (lines_of gap))) + length (joined (last_run (lines_of gap)))
+run_length gap =
+    let ls : List (List ℕ) = lines_of gap in
+    ap length (sym (run_split ls ∙ joined_lines gap)) ∙ length-append (joined (before_run ls)) (joined (last_run ls))
+
+pub run_within : (gap run : List ℕ) → lines_of run ≡ last_run (lines_of gap) → length run ≤ length gap
+run_within gap run e = let same : run ≡ joined (last_run (lines_of gap)) = sym (joined_lines run) ∙ ap joined e in omega (arith, run_length gap, ap length same)
+
+run_is : (gap run : List ℕ) → lines_of run ≡ last_run (lines_of gap) → joined (last_run (lines_of gap)) ≡ run
+run_is gap run e = ap joined (sym e) ∙ joined_lines run
+
+-- where a run stands in a gap, by its length
+abbrev span_of : ℕ → List ℕ → List ℕ → Option (ℕ × ℕ)
+span_of start gap run = cond (is_empty run) None (Some (start + length gap - length run, start + length gap))
+
+pub no_run : (start : ℕ) (gap run : List ℕ) → lines_of run ≡ last_run (lines_of gap) → run ≡ [] → None ≡ gap_span start gap
+no_run start gap run e none = ap (span_of start gap) (sym (run_is gap run e ∙ none))
+
+some_span : (start : ℕ) (gap run : List ℕ) → 0 < length run → Some (start + length gap - length run, start + length gap) ≡ span_of start gap run
+some_span start gap [] some = absurd (omega (arith, some))
+some_span start gap (b ∷ run) some = refl
+
+pub some_run : (start : ℕ) (gap run : List ℕ) → lines_of run ≡ last_run (lines_of gap) → 0 < length run → Some (start + length gap - length run, start + length gap) ≡ gap_span start gap
+some_run start gap run e some = some_span start gap run some ∙ ap (span_of start gap) (sym (run_is gap run e))
+
+pub gap_told : (before gap behind : List ℕ) (start : ℕ) → start ≡ length before → gap_span start gap ≡ option_map piece_span (gap_comment before gap behind)
+gap_told before gap behind start e = go (is_empty (joined (last_run (lines_of gap))))
+  where
+    run : List ℕ
+    run = joined (last_run (lines_of gap))
+
+    other : List ℕ
+    other = joined (before_run (lines_of gap))
+
+    go : (b : Bool) → cond b None (Some (start + length gap - length run, start + length gap)) ≡ option_map piece_span (cond b None (Some (record { before = before ++ other; text = run; behind = behind })))
+    go true = refl
+    go false = ap Some (pair _ _ _ _ (omega (arith, e, run_length gap, length-append before other)) (omega (arith, e, run_length gap, length-append before other)))
+
+pub above_told : (c : Cut) (i : ℕ) (s : Seat) (k : ℕ) → slice_get (rows_of c) i ≡ Some s.row → head_comment_span (row_start i (shown c)) (slices s.row) (numbers k s) ≡ option_map piece_span (head_comment_in i s c)
+above_told c i s k is = go (eqb s.line 0)
+  where
+    go : (b : Bool) → cond b (gap_span (row_start i (shown c)) s.row.gap) None ≡ option_map piece_span (cond b (gap_comment (before_row i c) s.row.gap (behind_gap s.row (behind_row i c))) None)
+    go true = gap_told (before_row i c) s.row.gap (behind_gap s.row (behind_row i c)) (row_start i (shown c)) (start_told c i s.row is)
+    go false = refl

@@ -1,0 +1,193 @@
+-- What the code answers for a comment is the span of its piece.
+use Rattle.std.proofs.Common.{◌≡◌, ℕ, zero, suc, ◌+◌, eqb, List, [], ◌∷◌, ◌++◌, length, take, drop, map, Option, Some, None, option_map, option_and_then, Bool, true, false, cond, refl, sym, ap, ◌∙◌, subst, arith, length-append, replicate}
+use Rattle.std.proofs.lemmas.Bool.{eqb-true, eqb-false}
+use Rattle.std.proofs.lemmas.Option.{none-some, same_Some}
+use Rattle.std.specs.List.{slice_get}
+use Rattle.yq_scalar.specs.Answers.{◌>>=◌}
+use Rattle.yq_scalar.specs.Paths.{Step}
+use Rattle.yq_lines.specs.Ends.{found_line, line_of}
+use Rattle.yq_lines.specs.Group.{group}
+use Rattle.yq_lines.specs.Places.{lines_before, Found, find}
+use Rattle.yq_rows.specs.Exchange.{before_content, behind_row}
+use Rattle.yq_rows.specs.Grammar.{begins_document}
+use Rattle.yq_rows.specs.Rows.{Nothing, dashes_text, behind_gap, Row, Part, Cut, last, marked}
+use Rattle.yq_rows.specs.View.{content_cut, slices, rows_of}
+use Rattle.yq_documents.specs.declared.path.Part.TheVariants as parts
+use Rattle.yq_documents.specs.declared.path.Path.{Path}
+use Rattle.yq_places.specs.CommentReading.{before_row, before_tail, line_comment_in, head_comment_in}
+use Rattle.yq_documents.specs.Documents.{parts_from}
+use Rattle.yq_documents.specs.Located.{steps_of}
+use Rattle.yq_places.specs.PathPieces.{PrintedDocument, printed_part, printed_document, found_entry, piece_in_entry, piece_in, piece_at}
+use Rattle.yq_documents.specs.Pieces.{piece_span, tail_comment, content_comment, gap_comment}
+use Rattle.yq_places.specs.PrintedLines.{PrintedLine, line_front, print_lines, printed_lines, line_in}
+use Rattle.yq_documents.specs.Seats.{Seat, seat, seat_of, seat_at, document_row}
+use Rattle.yq_places.proofs.CommentHolds.{no_gap, no_comment}
+use Rattle.yq_places.proofs.CommentPlaceLaws.{tail_told, gap_told}
+use Rattle.yq_places.proofs.PieceHolds.{no_part}
+use Rattle.yq_places.proofs.PrintedLaws.{lines_are}
+use Rattle.yq_places.proofs.FoundEntries.{line_there, entry_is}
+use Rattle.yq_places.proofs.PrintedTexts.{map_some, lines_then}
+use Rattle.yq_places.proofs.RunSpans.{begin_is, content_size, seat_at as seat_there}
+use Rattle.yq_documents.proofs.PartRows.{part_begins}
+use Rattle.yq_places.proofs.SeatedLines.{row_begin, IsSeated, IsPlaced, document_placed}
+
+-- spans of comments, by how long the text before them is
+tail_same : (a b tail x y : List ℕ) → length a ≡ length b → option_map piece_span (tail_comment a tail x) ≡ option_map piece_span (tail_comment b tail y)
+tail_same a b tail x y e = sym (tail_told a tail x (length a) refl) ∙ tail_told b tail y (length a) e
+
+gap_same : (a b gap x y : List ℕ) → length a ≡ length b → option_map piece_span (gap_comment a gap x) ≡ option_map piece_span (gap_comment b gap y)
+gap_same a b gap x y e = sym (gap_told a gap x (length a) refl) ∙ gap_told b gap y (length a) e
+
+-- the lines of a document among those of a cut
+module _ (c : Cut) (p : Part) (more : List Row) (k : ℕ) (start end : List ℕ) (there : drop k (rows_of c) ≡ p.rows ++ more)
+    (placed : IsPlaced c k p (record { before = start; lines = printed_lines p.rows; behind = end })) where
+  abbrev document : PrintedDocument
+  document = record { before = start; lines = printed_lines p.rows; behind = end }
+
+  abbrev before : ℕ → List ℕ
+  before n = start ++ print_lines (take n (printed_lines p.rows)) []
+
+  beside_span : (n : ℕ) (l : PrintedLine) (rest : List ℕ) → slice_get (printed_lines p.rows) n ≡ Some l →
+      option_map piece_span (content_comment (before n ++ (line_front l ++ l.mark)) l.content rest) ≡ option_map piece_span (seat n p.rows >>= λ q. line_comment_in (k + q.before) q c)
+  beside_span n l rest el =
+      let a = seat_there c p more k document there placed refl n l el in
+      go a.0 a.1 a.2 a.3 (eqb a.0.line (length a.0.row.dashes)) refl ∙ sym (ap (λ (o : Option Seat). option_map piece_span (o >>= λ q. line_comment_in (k + q.before) q c)) a.1)
+    where
+      go : (q : Seat) → seat n p.rows ≡ Some q → (d : IsSeated p.rows n q) → d.line ≡ l → (b : Bool) → eqb q.line (length q.row.dashes) ≡ b →
+          option_map piece_span (content_comment (before n ++ (line_front l ++ l.mark)) l.content rest) ≡
+          option_map piece_span (cond (eqb q.line (length q.row.dashes)) (tail_comment (before_tail (k + q.before) q.row c) (slices q.row).tail ((slices q.row).raw ++ behind_row (k + q.before) c)) None)
+      go q is d line true e =
+          let at : q.line ≡ length q.row.dashes = eqb-true q.line (length q.row.dashes) e in
+          let x = content_cut q.row.content in
+          let content : l.content ≡ q.row.content = ap (λ (y : PrintedLine). y.content) (sym line) ∙ (d.last at).0 in
+          let front : List ℕ = before n ++ (line_front l ++ l.mark) in
+          let size : length (front ++ (x.0 ++ (x.1 ++ (x.2 ++ x.3)))) ≡ length (before_tail (k + q.before) q.row c) =
+          omega (
+            arith,
+            content_size c p more k document there placed refl n q d is at,
+            ap (λ (y : PrintedLine). length (line_front y)) line,
+            ap (λ (y : PrintedLine). length y.mark) line,
+            length-append (before n) (line_front l ++ l.mark),
+            length-append start (print_lines (take n (printed_lines p.rows)) []),
+            length-append (line_front l) l.mark,
+            length-append front (x.0 ++ (x.1 ++ (x.2 ++ x.3))),
+            length-append (before_content (k + q.before) c) (x.0 ++ (x.1 ++ (x.2 ++ x.3))),
+          ) in
+          ap (λ y. option_map piece_span (content_comment (before n ++ (line_front l ++ l.mark)) y rest)) content
+          ∙ (tail_same (front ++ (x.0 ++ (x.1 ++ (x.2 ++ x.3)))) (before_tail (k + q.before) q.row c) x.4 (x.5 ++ rest) (x.5 ++ behind_row (k + q.before) c) size
+          ∙ sym (ap (λ b. option_map piece_span (cond b (tail_comment (before_tail (k + q.before) q.row c) (slices q.row).tail ((slices q.row).raw ++ behind_row (k + q.before) c)) None)) e))
+      go q is d line false e =
+          let dash : l.content ≡ Nothing [] = ap (λ (y : PrintedLine). y.content) (sym line) ∙ d.dash (omega (arith, d.within, eqb-false q.line (length q.row.dashes) e)) in
+          ap (option_map piece_span) (no_comment (before n ++ (line_front l ++ l.mark)) l.content rest dash)
+          ∙ sym (ap (λ b. option_map piece_span (cond b (tail_comment (before_tail (k + q.before) q.row c) (slices q.row).tail ((slices q.row).raw ++ behind_row (k + q.before) c)) None)) e)
+
+  above_span : (n : ℕ) (l : PrintedLine) (rest : List ℕ) → slice_get (printed_lines p.rows) n ≡ Some l →
+      option_map piece_span (gap_comment (before n) l.gap rest) ≡ option_map piece_span (seat n p.rows >>= λ q. head_comment_in (k + q.before) q c)
+  above_span n l rest el =
+      let a = seat_there c p more k document there placed refl n l el in
+      go a.0 a.1 a.2 a.3 (eqb a.0.line 0) refl ∙ sym (ap (λ (o : Option Seat). option_map piece_span (o >>= λ q. head_comment_in (k + q.before) q c)) a.1)
+    where
+      go : (q : Seat) → seat n p.rows ≡ Some q → (d : IsSeated p.rows n q) → d.line ≡ l → (b : Bool) → eqb q.line 0 ≡ b →
+          option_map piece_span (gap_comment (before n) l.gap rest) ≡ option_map piece_span (cond (eqb q.line 0) (gap_comment (before_row (k + q.before) c) q.row.gap (behind_gap q.row (behind_row (k + q.before) c))) None)
+      go q is d line true e =
+          let at : q.line ≡ 0 = eqb-true q.line 0 e in
+          let gap : l.gap ≡ q.row.gap = ap (λ (y : PrintedLine). y.gap) (sym line) ∙ (d.first at).0 in
+          let size : length (before n) ≡ length (before_row (k + q.before) c) =
+          omega (
+            arith,
+            ap length (begin_is c p more k document there placed refl n q d),
+            ap (λ (y : PrintedLine). length (print_lines (take n (printed_lines p.rows)) (line_front y))) line,
+            length-append (before_row (k + q.before) c) (row_begin q),
+            length-append q.row.gap (replicate q.row.column 32 ++ dashes_text (take q.line q.row.dashes) []),
+            length-append (replicate q.row.column 32) (dashes_text (take q.line q.row.dashes) []),
+            ap (λ j. length (dashes_text (take j q.row.dashes) [])) at,
+            length-append start (print_lines (take n (printed_lines p.rows)) (line_front d.line)),
+            ap length (lines_then (take n (printed_lines p.rows)) [] (line_front d.line)),
+            length-append (print_lines (take n (printed_lines p.rows)) []) (line_front d.line),
+            length-append start (print_lines (take n (printed_lines p.rows)) []),
+            length-append d.line.gap d.line.spaces,
+            ap length (d.first at).0,
+            ap length (d.first at).1,
+          ) in
+          ap (λ y. option_map piece_span (gap_comment (before n) y rest)) gap
+          ∙ (gap_same (before n) (before_row (k + q.before) c) q.row.gap rest (behind_gap q.row (behind_row (k + q.before) c)) size
+          ∙ sym (ap (λ b. option_map piece_span (cond b (gap_comment (before_row (k + q.before) c) q.row.gap (behind_gap q.row (behind_row (k + q.before) c))) None)) e))
+      go q is d line false e =
+          let none : l.gap ≡ [] = ap (λ (y : PrintedLine). y.gap) (sym line) ∙ d.later (omega (arith, eqb-false q.line 0 e)) in
+          ap (option_map piece_span) (ap (λ y. gap_comment (before n) y rest) none ∙ no_gap (before n) rest)
+          ∙ sym (ap (λ b. option_map piece_span (cond b (gap_comment (before_row (k + q.before) c) q.row.gap (behind_gap q.row (behind_row (k + q.before) c))) None)) e)
+
+  pub beside_spans : (steps : List Step) → option_map piece_span (piece_in parts.LineComment steps document) ≡ option_map piece_span (seat_of steps p.rows >>= λ q. line_comment_in (k + q.before) q c)
+  beside_spans [] = refl
+  beside_spans (y ∷ ys) = go (find y ys (group (map line_in (printed_lines p.rows)))) refl ∙ ap (λ ls. option_map piece_span ((line_of (y ∷ ys) ls >>= λ n. seat n p.rows) >>= λ q. line_comment_in (k + q.before) q c)) (lines_are p.rows)
+    where
+      go : (o : Option (Found × List Step)) → find y ys (group (map line_in (printed_lines p.rows))) ≡ o →
+          option_map piece_span (o >>= λ f. found_entry document f.0 >>= piece_in_entry parts.LineComment f.1) ≡
+          option_map piece_span ((option_and_then (λ x. found_line x.0 x.1) o >>= λ n. seat n p.rows) >>= λ q. line_comment_in (k + q.before) q c)
+      go None is = refl
+      go (Some (f, [])) is =
+          let l = line_there document y ys [] f is in
+          ap (λ o. option_map piece_span (o >>= piece_in_entry parts.LineComment [])) (entry_is document f l.0 l.1) ∙ beside_span (length (lines_before f.place)) l.0 _ l.1
+      go (Some (f, t ∷ ts)) is =
+          let l = line_there document y ys (t ∷ ts) f is in
+          ap (λ o. option_map piece_span (o >>= piece_in_entry parts.LineComment (t ∷ ts))) (entry_is document f l.0 l.1)
+
+  pub above_spans : (steps : List Step) → option_map piece_span (piece_in parts.HeadComment steps document) ≡ option_map piece_span (seat_of steps p.rows >>= λ q. head_comment_in (k + q.before) q c)
+  above_spans [] = refl
+  above_spans (y ∷ ys) = go (find y ys (group (map line_in (printed_lines p.rows)))) refl ∙ ap (λ ls. option_map piece_span ((line_of (y ∷ ys) ls >>= λ n. seat n p.rows) >>= λ q. head_comment_in (k + q.before) q c)) (lines_are p.rows)
+    where
+      go : (o : Option (Found × List Step)) → find y ys (group (map line_in (printed_lines p.rows))) ≡ o →
+          option_map piece_span (o >>= λ f. found_entry document f.0 >>= piece_in_entry parts.HeadComment f.1) ≡
+          option_map piece_span ((option_and_then (λ x. found_line x.0 x.1) o >>= λ n. seat n p.rows) >>= λ q. head_comment_in (k + q.before) q c)
+      go None is = refl
+      go (Some (f, [])) is =
+          let l = line_there document y ys [] f is in
+          ap (λ o. option_map piece_span (o >>= piece_in_entry parts.HeadComment [])) (entry_is document f l.0 l.1) ∙ above_span (length (lines_before f.place)) l.0 _ l.1
+      go (Some (f, t ∷ ts)) is =
+          let l = line_there document y ys (t ∷ ts) f is in
+          ap (λ o. option_map piece_span (o >>= piece_in_entry parts.HeadComment (t ∷ ts))) (entry_is document f l.0 l.1)
+
+-- the lines of a document of any cut
+document_lines : (is : Bool) (n : ℕ) (c : Cut) (s : PrintedDocument) → printed_part is n c ≡ Some s → (p : Part) × (slice_get (parts_from is c) n ≡ Some p) × (s.lines ≡ printed_lines p.rows)
+document_lines true zero (last p) s e = (p, refl, ap (λ (x : PrintedDocument). x.lines) (sym (same_Some _ _ e)))
+document_lines true (suc n) (last p) s e = absurd (none-some _ e)
+document_lines false n (last p) s e = absurd (none-some _ e)
+document_lines true zero (marked p marker c) s e = (p, refl, ap (λ (x : PrintedDocument). x.lines) (sym (same_Some _ _ e)))
+document_lines true (suc n) (marked p marker c) s e =
+    let x = map_some (printed_part (begins_document marker) n c) e in
+    let q = document_lines (begins_document marker) n c x.0 x.1 in
+    (q.0, q.1, ap (λ (y : PrintedDocument). y.lines) (sym x.2) ∙ q.2)
+document_lines false n (marked p marker c) s e =
+    let x = map_some (printed_part (begins_document marker) n c) e in
+    let q = document_lines (begins_document marker) n c x.0 x.1 in
+    (q.0, q.1, ap (λ (y : PrintedDocument). y.lines) (sym x.2) ∙ q.2)
+
+-- Where the comments at a path stand, by their seats.
+pub record AreSpans (path : Path) (c : Cut) : Type 0 where
+  pub line : option_map piece_span (piece_at path parts.LineComment c) ≡ option_map piece_span (seat_at path c >>= λ q. line_comment_in (document_row path.doc c + q.before) q c)
+  pub head : option_map piece_span (piece_at path parts.HeadComment c) ≡ option_map piece_span (seat_at path c >>= λ q. head_comment_in (document_row path.doc c + q.before) q c)
+
+pub comment_spans : (path : Path) (c : Cut) → AreSpans path c
+comment_spans path c = record { line = beside (printed_document path.doc c) refl; head = above (printed_document path.doc c) refl }
+  where
+    beside : (o : Option PrintedDocument) → printed_document path.doc c ≡ o →
+        option_map piece_span (o >>= piece_in parts.LineComment (steps_of path)) ≡ option_map piece_span (seat_at path c >>= λ q. line_comment_in (document_row path.doc c + q.before) q c)
+    beside None is = sym (ap (λ (d : Option Part). option_map piece_span ((d >>= λ d. seat_of (steps_of path) d.rows) >>= λ q. line_comment_in (document_row path.doc c + q.before) q c)) (no_part _ path.doc c is))
+    beside (Some s) is =
+        let q = document_lines _ path.doc c s is in
+        let b = part_begins c path.doc q.0 q.1 in
+        let own : s ≡ record { before = s.before; lines = printed_lines q.0.rows; behind = s.behind } = (λ i. record { before = s.before; lines = q.2 i; behind = s.behind }) in
+        ap (λ x. option_map piece_span (piece_in parts.LineComment (steps_of path) x)) own
+        ∙ (beside_spans c q.0 b.0 (document_row path.doc c) s.before s.behind b.1 (subst (IsPlaced c (document_row path.doc c) q.0) own (document_placed _ path.doc c q.0 s q.1 is)) (steps_of path)
+        ∙ sym (ap (λ (d : Option Part). option_map piece_span ((d >>= λ d. seat_of (steps_of path) d.rows) >>= λ q. line_comment_in (document_row path.doc c + q.before) q c)) q.1))
+
+    above : (o : Option PrintedDocument) → printed_document path.doc c ≡ o →
+        option_map piece_span (o >>= piece_in parts.HeadComment (steps_of path)) ≡ option_map piece_span (seat_at path c >>= λ q. head_comment_in (document_row path.doc c + q.before) q c)
+    above None is = sym (ap (λ (d : Option Part). option_map piece_span ((d >>= λ d. seat_of (steps_of path) d.rows) >>= λ q. head_comment_in (document_row path.doc c + q.before) q c)) (no_part _ path.doc c is))
+    above (Some s) is =
+        let q = document_lines _ path.doc c s is in
+        let b = part_begins c path.doc q.0 q.1 in
+        let own : s ≡ record { before = s.before; lines = printed_lines q.0.rows; behind = s.behind } = (λ i. record { before = s.before; lines = q.2 i; behind = s.behind }) in
+        ap (λ x. option_map piece_span (piece_in parts.HeadComment (steps_of path) x)) own
+        ∙ (above_spans c q.0 b.0 (document_row path.doc c) s.before s.behind b.1 (subst (IsPlaced c (document_row path.doc c) q.0) own (document_placed _ path.doc c q.0 s q.1 is)) (steps_of path)
+        ∙ sym (ap (λ (d : Option Part). option_map piece_span ((d >>= λ d. seat_of (steps_of path) d.rows) >>= λ q. head_comment_in (document_row path.doc c + q.before) q c)) q.1))

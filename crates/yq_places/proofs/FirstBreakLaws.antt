@@ -1,0 +1,56 @@
+-- The first break of a text, by the break of its first line.
+use Rattle.std.proofs.Common.{◌≡◌, ℕ, suc, Bool, true, false, cond, ◌&&◌, ◌||◌, List, [], ◌∷◌, length, take, drop, refl, sym, ap, ◌∙◌}
+use Rattle.std.proofs.lemmas.Bool.{and_parts, eq-eqb, eqb-true, ne_eqb}
+use Rattle.std.proofs.Math.Dec.{eqb}
+use Rattle.yq_scalar.specs.Text.{cut, cut_line, ends_line, front, is_feed, is_return, line_len, upto}
+use Rattle.yq_scalar.specs.declared.block_written.Break.TheVariants.{Lf, CrLf}
+use Rattle.yq_places.specs.FirstBreak.{first_break}
+use Rattle.yq_places.specs.PrintedLines.{is_last_break, last_break, less_break}
+
+-- a line that ends behind a CR and an LF
+both_bytes : (b : ℕ) (bs : List ℕ) → is_return b ≡ true → front is_feed bs ≡ true → eqb (length (last_break (take (suc (line_len bs)) (b ∷ bs)))) 2 ≡ true
+unfolding line_len less_break
+both_bytes b [] r f = absurd (cc)
+both_bytes b (d ∷ bs) r f =
+    ap (λ c. eqb (length (last_break (take (suc (cond c 1 (suc (line_len bs)))) (b ∷ (d ∷ bs))))) 2) f
+    ∙ ((λ i. eqb (length (drop (length (cond (r i && f i) [] (b ∷ cond (is_feed d) [] (d ∷ [])))) (b ∷ (d ∷ [])))) 2))
+
+-- a byte before a line whose break it is no part of
+no_end : (b : ℕ) (l : List ℕ) → is_feed b ≡ false → (is_return b && front is_feed l) ≡ false → is_last_break (b ∷ l) ≡ false
+no_end b [] f r = f
+no_end b (d ∷ []) f r = r
+no_end b (d ∷ (e ∷ l)) f r = refl
+
+front_line : (bs : List ℕ) → front is_feed (take (line_len bs) bs) ≡ front is_feed bs
+unfolding line_len
+front_line [] = refl
+front_line (b ∷ bs) = go (is_feed b)
+  where
+    go : (c : Bool) → front is_feed (take (cond c 1 (suc (line_len bs))) (b ∷ bs)) ≡ is_feed b
+    go true = refl
+    go false = refl
+
+line_break : (t : List ℕ) → front is_return (cut ends_line t).1 ≡ eqb (length (last_break (cut_line t).0)) 2
+unfolding upto line_len less_break
+line_break [] = refl
+line_break (b ∷ bs) = go (is_feed b) (is_return b && front is_feed bs) refl refl (line_break bs)
+  where
+    go : (f r : Bool) → is_feed b ≡ f → (is_return b && front is_feed bs) ≡ r → front is_return (cut ends_line bs).1 ≡ eqb (length (last_break (cut_line bs).0)) 2 →
+        front is_return (drop (cond (f || r) 0 (suc (upto ends_line bs))) (b ∷ bs)) ≡ eqb (length (last_break (take (cond f 1 (suc (line_len bs))) (b ∷ bs)))) 2
+    go true r f e again = ap is_return (eqb-true b 10 f) ∙ sym (ap (λ c. eqb (length (drop (length (cond c [] (b ∷ []))) (b ∷ []))) 2) f)
+    go false true f e again = let both = and_parts (is_return b) (front is_feed bs) e in both.0 ∙ sym (both_bytes b bs both.0 both.1)
+    go false false f e again =
+        let l = take (line_len bs) bs in
+        again ∙ sym (ap (λ c. eqb (length (drop (length (cond c [] (b ∷ less_break l))) (b ∷ l))) 2) (no_end b l f (ap (λ x. is_return b && x) (front_line bs) ∙ e)))
+
+module _ (t line rest end : List ℕ) (size : ℕ) (is : (line, rest) ≡ cut_line t) (end_is : end ≡ last_break line) (size_is : size ≡ length end) where
+  told : first_break t ≡ cond (eqb size 2) CrLf Lf
+  told =
+      let own : line ≡ (cut_line t).0 = ap (λ (x : List ℕ × List ℕ). x.0) is in
+      ap (λ c. cond c CrLf Lf) (line_break t ∙ sym (ap (λ n. eqb n 2) (size_is ∙ ap length (end_is ∙ ap last_break own))))
+
+  pub return_told : size ≡ 2 → CrLf ≡ first_break t
+  return_told e = sym (told ∙ ap (λ c. cond c CrLf Lf) (eq-eqb size 2 e))
+
+  pub feed_told : (size ≡ 2 → ⊥) → Lf ≡ first_break t
+  feed_told e = sym (told ∙ ap (λ c. cond c CrLf Lf) (ne_eqb size 2 e))

@@ -1,0 +1,83 @@
+pub mod RootPlaceLaws
+pub mod CommentPlaceLaws
+pub mod CommentStandLaws
+pub mod Conditions
+pub mod DocumentLaws
+pub mod RowStarts
+pub mod EntryPlaceLaws
+pub mod FlowPlaceLaws
+pub mod HeadEnds
+pub mod StartLaws
+pub mod EntryPlacedLaws
+pub mod HeldLaws
+pub mod QuietLaws
+pub mod RemarkLaws
+pub mod ReadLaws
+pub mod ExactReading
+pub mod ReadyLaws
+pub mod GapRanges
+pub mod CommentPieceLaws
+pub mod CommentSpans
+pub mod CommentHolds
+pub mod FoundLines
+pub mod SeamLaws
+pub mod FinishLaws
+pub mod HeadSpanLaws
+pub mod FlowSpanLaws
+pub mod SeatLaws
+pub mod SeatLineLaws
+pub mod SpanLaws
+pub mod RowPathLaws
+pub mod SeatedLaws
+pub mod NextLaws
+pub mod WalkDocuments
+pub mod WalkLines
+pub mod WalkNodes
+pub mod WrittenLaws
+pub mod UnderExchange
+pub mod PrintedTexts
+pub mod PieceTexts
+pub mod PrintedLaws
+pub mod FoundEntries
+pub mod FlowPieces
+pub mod PieceSpelling
+pub mod SeatedLines
+pub mod RunSpans
+pub mod UnderCounts
+pub mod FlowSpans
+pub mod PieceSpans
+pub mod PieceHolds
+pub mod PieceExists
+pub mod PieceBegins
+pub mod PieceExamples
+pub mod LineEndLaws
+pub mod PlacedRowLaws
+pub mod CommentEndLaws
+pub mod PlacedPartLaws
+pub mod RemovalTexts
+pub mod RemovalLines
+pub mod RemovalPlaceLaws
+pub mod RemovalBounds
+pub mod RemovalTold
+pub mod FirstLaws
+pub mod FirstExamples
+pub mod StepLaws
+pub mod SeenLaws
+pub mod NodePlaceLaws
+pub mod RowHeads
+pub mod NodeAtLaws
+pub mod LastBreakLaws
+pub mod ContentEndLaws
+pub mod FlowToldLaws
+pub mod FlowNodeLaws
+pub mod DashLaws
+pub mod KnownFronts
+mod HalvesLaws
+mod FirstBreakLaws
+mod EntryNumbers
+mod LinesCutLaws
+mod EntryRowLaws
+mod HeldTexts
+mod StandingTold
+mod LoneLaws
+mod RootStandingLaws

@@ -1,0 +1,156 @@
+-- The rows of documents among those of a text.
+use Rattle.std.proofs.Common.{◌≡◌, ℕ, zero, suc, ◌+◌, ◌-◌, ◌<◌, ◌≤◌, eqb, List, [], ◌∷◌, ◌++◌, length, take, drop, Option, Some, None, option_map, Bool, true, false, cond, ◌&&◌, ◌||◌, not, refl, sym, ap, ◌∙◌, arith, length-append}
+use Rattle.std.proofs.lemmas.Bool.{eq-eqb, eqb-true, lt-ltb, le-ltb, cond-true, cond-false, false≢true}
+use Rattle.std.proofs.lemmas.Option.{same_Some}
+use Rattle.std.specs.List.{slice_get}
+use Rattle.yq_lines.specs.Comments as comments
+use Rattle.yq_scalar.specs.Answers.{◌>>=◌}
+use Rattle.yq_scalar.specs.Paths.{Step}
+use Rattle.yq_lines.specs.Ends.{line_of}
+use Rattle.yq_rows.specs.Grammar.{IsCut, begins_document}
+use Rattle.yq_rows.specs.Rows.{Row, Part, Cut, last, marked}
+use Rattle.yq_rows.specs.View.{Bound, bounds_from, rows_of, Shown, shown}
+use Rattle.yq_documents.specs.Documents.{parts_from, document_parts, begins_bare, has_begin}
+use Rattle.yq_walk.specs.Lines.{row_lines, lines_of}
+use Rattle.yq_documents.specs.PartReading.{some_begin, first_rows}
+use Rattle.yq_documents.proofs.BeginLaws.{document_is}
+use Rattle.yq_documents.proofs.PartRows.{document_has}
+use Rattle.yq_walk.proofs.RowLaws.{lines_count}
+use Rattle.yq_documents.specs.Seats.{behind_one, seat, seat_of, seat_at, rows_before, document_row}
+use Rattle.yq_documents.specs.declared.path.Path.{Path}
+use Rattle.yq_documents.specs.Located.{steps_of}
+use Rattle.yq_documents.specs.Reading.{all_documents}
+use Rattle.yq_walk.specs.RowWalk.{HasDocument, stretch_told}
+use Rattle.yq_places.specs.RowWalk.{InCut, begin_rows, document_rows}
+use Rattle.yq_places.specs.SeatReading.{Numbers, numbers}
+use Rattle.yq_walk.specs.declared.spot.Stretch.{Stretch}
+use Rattle.yq_documents.proofs.PartRows.{part_begins}
+
+-- part after part
+pub rows_here : (is : Bool) (n k : ℕ) (b : Bound) (bs rest : List Bound) → bs ≡ b ∷ rest → true ≡ (is && eqb n 0) → Some (k, b.rows) ≡ begin_rows is n k bs
+rows_here is n k b bs rest e found = go is n found ∙ sym (ap (begin_rows is n k) e)
+  where
+    go : (is : Bool) (n : ℕ) → true ≡ (is && eqb n 0) → Some (k, b.rows) ≡ begin_rows is n k (b ∷ rest)
+    go true zero f = refl
+    go true (suc n) f = absurd (omega (arith, eqb-true (suc n) 0 (sym f)))
+    go false n f = absurd (false≢true (sym f))
+
+pub rows_later : (is : Bool) (n k : ℕ) (b : Bound) (bs rest : List Bound) → bs ≡ b ∷ rest → false ≡ (is && eqb n 0) → begin_rows is n k bs ≡ begin_rows (begins_document b.marker) (cond is (n - 1) n) b.rows rest
+rows_later is n k b bs rest e other = ap (begin_rows is n k) e ∙ go is n other
+  where
+    go : (is : Bool) (n : ℕ) → false ≡ (is && eqb n 0) → begin_rows is n k (b ∷ rest) ≡ begin_rows (begins_document b.marker) (cond is (n - 1) n) b.rows rest
+    go true zero f = absurd (false≢true (f ∙ eq-eqb 0 0 refl))
+    go true (suc n) f = ap (λ (j : ℕ). begin_rows (begins_document b.marker) j b.rows rest) (omega arith)
+    go false n f = refl
+
+-- the rows of a document, by where the parts of a cut end
+abbrev pair : ℕ → Part → ℕ × ℕ
+pair k p = (k, k + length p.rows)
+
+abbrev Numbered : Bool → ℕ → ℕ → Cut → Option (ℕ × ℕ)
+Numbered is n k c = option_map (pair (k + rows_before is n c)) (slice_get (parts_from is c) n)
+
+moved : (j k m : ℕ) (o : Option Part) → option_map (pair (j + k + m)) o ≡ option_map (pair (j + (k + m))) o
+moved j k m o = ap (λ (x : ℕ). option_map (pair x) o) (omega arith)
+
+begun : (is : Bool) (n k : ℕ) (c : Cut) → begin_rows is n k (bounds_from k c) ≡ Numbered is n k c
+begun true zero k (last q) = let none : k ≡ k + 0 = omega arith in ap (λ (x : ℕ). Some (x, x + length q.rows)) none
+begun true (suc n) k (last q) = refl
+begun false n k (last q) = refl
+begun true zero k (marked q marker c) = let none : k ≡ k + 0 = omega arith in ap (λ (x : ℕ). Some (x, x + length q.rows)) none
+begun true (suc n) k (marked q marker c) = begun (begins_document marker) n (k + length q.rows) c ∙ moved k (length q.rows) (rows_before (begins_document marker) n c) (slice_get (parts_from (begins_document marker) c) n)
+begun false n k (marked q marker c) = begun (begins_document marker) n (k + length q.rows) c ∙ moved k (length q.rows) (rows_before (begins_document marker) n c) (slice_get (parts_from (begins_document marker) c) n)
+
+pub rows_told : (c : Cut) (s : Shown) (n : ℕ) → s ≡ shown c → begin_rows (first_rows s.bounds || not (some_begin s.bounds)) n 0 s.bounds ≡ document_rows n c
+rows_told c s n is =
+    let first : Bool = begins_bare c || not (has_begin c) in
+    ap (λ (b : Bool). begin_rows b n 0 s.bounds) (document_is c s is)
+    ∙ (ap (λ (x : Shown). begin_rows first n 0 x.bounds) is
+    ∙ (begun first n 0 c ∙ ap (λ (k : ℕ). option_map (pair k) (slice_get (document_parts c) n)) (omega arith)))
+
+-- the line of a number, by its row
+pub seat_number : (rs : List Row) (i k : ℕ) (r : Row) → slice_get rs i ≡ Some r → k ≤ length r.dashes → seat (length (lines_of (take i rs)) + k) rs ≡ Some (record { before = i; row = r; line = k })
+seat_number [] i k r e h = absurd (cc)
+seat_number (x ∷ rs) zero k r e h =
+    let same : x ≡ r = same_Some _ _ e in
+    let less : k ≤ length x.dashes = omega (arith, h, ap (λ (y : Row). length y.dashes) same) in
+    let none : 0 + k ≡ k = omega arith in
+    ap (λ (n : ℕ). seat n (x ∷ rs)) none
+    ∙ (cond-false _ (option_map behind_one (seat (k - suc (length x.dashes)) rs)) (Some (record { before = 0; row = x; line = k })) (le-ltb (length x.dashes) k less)
+    ∙ ap (λ (y : Row). Some (record { before = 0; row = y; line = k })) same)
+seat_number (x ∷ rs) (suc i) k r e h =
+    let a : ℕ = length (lines_of (take i rs)) in
+    let count : length (row_lines x) ≡ suc (length x.dashes) = lines_count (comments.head_comment x.gap) x.column x.dashes x.mark x.content in
+    let n : ℕ = length (row_lines x ++ lines_of (take i rs)) + k in
+    let past : length x.dashes < n = omega (arith, count, length-append (row_lines x) (lines_of (take i rs))) in
+    let left : n - suc (length x.dashes) ≡ a + k = omega (arith, count, length-append (row_lines x) (lines_of (take i rs))) in
+    cond-true _ (option_map behind_one (seat (n - suc (length x.dashes)) rs)) (Some (record { before = 0; row = x; line = n })) (lt-ltb (length x.dashes) n past)
+    ∙ (ap (λ (m : ℕ). option_map behind_one (seat m rs)) left ∙ ap (option_map behind_one) (seat_number rs i k r e h))
+
+-- A document that was found in a text with its cut.
+pub record Found (s : Shown) (c : Cut) (n : ℕ) (d : Stretch) : Type 0 where
+  pub part : Part
+  pub there : slice_get (document_parts c) n ≡ Some part
+  pub first : d.first ≡ document_row n c
+  pub document : HasDocument s d
+  pub rows : document.stand.rows ≡ part.rows
+
+pub found_document : (t : List ℕ) (s : Shown) (c : Cut) (n : ℕ) (d : Stretch) → IsCut t c → s ≡ shown c → Some (stretch_told d) ≡ document_rows n c → all_documents c ≡ true → Found s c n d
+found_document t s c n d cut is e known = go (slice_get (document_parts c) n) refl e
+  where
+    go : (o : Option Part) → slice_get (document_parts c) n ≡ o → Some (stretch_told d) ≡ option_map (λ p. (document_row n c, document_row n c + length p.rows)) o → Found s c n d
+    go None at e = absurd (cc)
+    go (Some p) at e =
+        let same : (d.first, d.end) ≡ (document_row n c, document_row n c + length p.rows) = same_Some _ _ e in
+        let x = document_has t s c n p d cut known is at (ap (λ (y : ℕ × ℕ). y.0) same) (ap (λ (y : ℕ × ℕ). y.1) same) in
+        record { part = p; there = at; first = ap (λ (y : ℕ × ℕ). y.0) same; document = x.0; rows = x.1 }
+
+-- its rows stand among those of the cut
+pub found_in_cut : (t : List ℕ) (s : Shown) (c : Cut) (n : ℕ) (d : Stretch) → IsCut t c → s ≡ shown c → (f : Found s c n d) → (k : InCut s d c) × (k.document.stand.rows ≡ f.part.rows)
+found_in_cut t s c n d cut is f =
+    let b = part_begins c n f.part f.there in (
+      record {
+        text = t;
+        cut = cut;
+        rows = is;
+        document = f.document;
+        more = b.0;
+        there = ap (λ (k : ℕ). drop k (rows_of c)) f.first ∙ (b.1 ∙ ap (λ (rs : List Row). rs ++ b.0) (sym f.rows));
+      },
+      f.rows,
+    )
+
+-- a place in a document that was found
+pub place_found : {A : Type 0} (t : List ℕ) (s : Shown) (c : Cut) (n : ℕ) (d : Stretch) (found : Option A) (place : ℕ → Cut → List Row → Option A) → IsCut t c → s ≡ shown c → Some (stretch_told d) ≡ document_rows n c → all_documents c ≡ true →
+    ((k : InCut s d c) → found ≡ place d.first c k.document.stand.rows) → found ≡ (slice_get (document_parts c) n >>= λ p. place (document_row n c) c p.rows)
+place_found t s c n d found place cut is e known told =
+    let f = found_document t s c n d cut is e known in
+    let k = found_in_cut t s c n d cut is f in
+    told k.0
+    ∙ ((λ i. place (f.first i) c (k.1 i))
+    ∙ sym (ap (λ (o : Option Part). o >>= λ p. place (document_row n c) c p.rows) f.there))
+
+pub no_place_found : {A : Type 0} (c : Cut) (n : ℕ) (place : ℕ → Cut → List Row → Option A) → None ≡ document_rows n c → None ≡ (slice_get (document_parts c) n >>= λ p. place (document_row n c) c p.rows)
+no_place_found {A = A} c n place e = go (slice_get (document_parts c) n) e
+  where
+    go : (o : Option Part) → ◌≡◌ {A = Option (ℕ × ℕ)} None (option_map (λ p. (document_row n c, document_row n c + length p.rows)) o) → None ≡ (o >>= λ p. place (document_row n c) c p.rows)
+    go None e = refl
+    go (Some p) e = absurd (cc)
+
+-- the line of a path in a document that was found
+pub seat_found : (s : Shown) (c : Cut) (path : Path) (d : Stretch) (steps : List Step) (found : Option Numbers) (f : Found s c path.doc d) → steps ≡ steps_of path → found ≡ option_map (numbers d.first) (seat_of steps f.document.stand.rows) →
+    found ≡ option_map (numbers (document_row path.doc c)) (seat_at path c)
+seat_found s c path d steps found f same e =
+    e
+    ∙ ((λ i. option_map (numbers (f.first i)) (seat_of (same i) (f.rows i)))
+    ∙ sym (ap (λ (o : Option Part). option_map (numbers (document_row path.doc c)) (o >>= λ d. seat_of (steps_of path) d.rows)) f.there))
+
+-- the line to which steps lead, by its row
+pub seat_reached : (rs : List Row) (steps : List Step) (first i k dashes row : ℕ) (r : Row) → slice_get rs i ≡ Some r → k ≤ length r.dashes → row ≡ first + i → dashes ≡ length r.dashes →
+    Some (length (lines_of (take i rs)) + k) ≡ line_of steps (lines_of rs) → Some (row, k, dashes) ≡ option_map (numbers first) (seat_of steps rs)
+seat_reached rs steps first i k dashes row r is h row_is count e =
+    (λ j. Some (row_is j, k, count j))
+    ∙ sym (ap (λ (o : Option ℕ). option_map (numbers first) (o >>= λ n. seat n rs)) (sym e) ∙ ap (option_map (numbers first)) (seat_number rs i k r is h))
+
+pub none_reached : (rs : List Row) (steps : List Step) (first : ℕ) → None ≡ line_of steps (lines_of rs) → None ≡ option_map (numbers first) (seat_of steps rs)
+none_reached rs steps first e = ap (λ (o : Option ℕ). option_map (numbers first) (o >>= λ n. seat n rs)) e

@@ -1,0 +1,58 @@
+-- Reading (own; a reader may skip it): the rows of documents among those of a cut, and items that stay known in other cuts.
+use Rattle.std.specs.Prelude.{◌≡◌, ℕ, zero, suc, Bool, true, false, ◌+◌, nat_eq, List, [], ◌∷◌, ◌++◌, length, drop, slice_get, Option, Some, None, option_map}
+use Rattle.yq_lines.specs.Ends.{is_end, part}
+use Rattle.yq_rows.specs.Grammar.{IsCut, begins_document}
+use Rattle.yq_rows.specs.Rows.{Row, Cut}
+use Rattle.yq_rows.specs.Touched.{TouchesOnly}
+use Rattle.yq_rows.specs.View.{rows_of, Bound, Shown, shown}
+use Rattle.yq_documents.specs.Documents.{document_parts}
+use Rattle.yq_walk.specs.Lines.{lines_of}
+use Rattle.yq_documents.specs.Reading.{all_documents, cut_of}
+use Rattle.yq_documents.specs.Seats.{document_row}
+use Rattle.yq_walk.specs.RowWalk.{IsKnown, AreKnown, HasDocument, line_number}
+use Rattle.yq_walk.specs.declared.spot.KnownItem.{KnownItem}
+use Rattle.yq_walk.specs.declared.spot.KnownItems.{KnownItems}
+use Rattle.yq_walk.specs.declared.spot.Spot.{Spot}
+use Rattle.yq_walk.specs.declared.spot.Stretch.{Stretch}
+
+-- An item stays known in each text in which the items of its cut stay that end in front of so many bytes.
+abbrev pub StaysKnown : ℕ → Cut → KnownItem → Type 0
+StaysKnown front c k = (new : Cut) (back : ℕ) → TouchesOnly front back c new → IsKnown (shown new).rows k
+
+-- The same of several items.
+abbrev pub StayKnown : ℕ → Cut → KnownItems → Type 0
+StayKnown front c ks = (new : Cut) (back : ℕ) → TouchesOnly front back c new → AreKnown (shown new).rows ks
+
+-- these numbers of document n, by where parts end: k rows stand before the first of them, of which it is known whether it is a document
+abbrev pub begin_rows : Bool → ℕ → ℕ → List Bound → Option (ℕ × ℕ)
+begin_rows is n k [] = None
+begin_rows true zero k (b ∷ bs) = Some (k, b.rows)
+begin_rows true (suc n) k (b ∷ bs) = begin_rows (begins_document b.marker) n b.rows bs
+begin_rows false n k (b ∷ bs) = begin_rows (begins_document b.marker) n b.rows bs
+
+-- these numbers of document n of a cut
+abbrev pub document_rows : ℕ → Cut → Option (ℕ × ℕ)
+document_rows n c = option_map (λ p. (document_row n c, document_row n c + length p.rows)) (slice_get (document_parts c) n)
+
+-- A text with its cut: these are the pieces of the cut, and its parts stand for documents.
+pub record HasCut (t : List ℕ) (s : Shown) : Type 0 where
+  pub cut : IsCut t (cut_of t)
+  pub rows : s ≡ shown (cut_of t)
+  pub sound : all_documents (cut_of t) ≡ true
+
+-- The rows of a document among those of a cut.
+pub record InCut (s : Shown) (d : Stretch) (c : Cut) : Type 0 where
+  pub text : List ℕ
+  pub cut : IsCut text c
+  pub rows : s ≡ shown c
+  pub document : HasDocument s d
+  pub more : List Row
+  pub there : drop d.first (rows_of c) ≡ document.stand.rows ++ more
+
+-- Lines from one on that are deeper than a level end before that number exactly where there are none of them.
+abbrev pub EndsAt : Stretch → List Row → Spot → ℕ → ℕ → Type 0
+EndsAt d rs under floor to = nat_eq (line_number d rs under) to ≡ is_end (part (lines_of rs) (line_number d rs under) floor)
+
+-- What is said of a document is so of its rows, with the numbers of its lines, in each cut in which these stand.
+abbrev pub InEach : Shown → Stretch → (ℕ → Cut → List Row → (Spot → ℕ) → Type 0) → Type 0
+InEach s d said = (c : Cut) (k : InCut s d c) → said d.first c k.document.stand.rows (line_number d k.document.stand.rows)

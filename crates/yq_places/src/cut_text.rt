@@ -1,0 +1,85 @@
+//! A text with its cut.
+ghost use Rattle.std.specs.Prelude.{◌≡◌, ℕ, List, Some, true};
+ghost use Rattle.std.specs.Str.{IsUtf8};
+ghost use Rattle.yq_text.specs.Halves.{whole};
+ghost use Rattle.yq_rows.specs.Grammar.{IsCut};
+ghost use Rattle.yq_rows.specs.View.{shown};
+ghost use Rattle.yq_documents.specs.Reading.{all_documents, cut_of, read_at};
+ghost use Rattle.yq_walk.specs.RowWalk.{AreKnown};
+ghost use Rattle.yq_places.specs.RowWalk.{HasCut};
+
+use crate::places::halves::is_text;
+use std::marker::Model;
+use yq_rows::Rows;
+use yq_text::Halves;
+use yq_walk::KnownItems;
+
+/// A text that reads as documents, with its cut. It is known by its text.
+#[derive(Debug, Drop)]
+pub struct CutText<'d, 't> {
+    pub(crate) text: Halves<'t>,
+    pub(crate) rows: &'d Rows<'t>,
+    pub(crate) known: KnownItems,
+}
+
+impl<'d, 't> Model for CutText<'d, 't> {
+    ghost Value = { List ℕ };
+
+    ghost view = { λ c. whole c.text };
+
+    ghost invariant = { λ c. HasCut (whole c.text) c.rows.now × AreKnown c.rows.now.rows c.known };
+}
+
+impl<'d, 't> CutText<'d, 't> {
+    /// A text with its cut, as `Documents::into_rows` gives it.
+    pub fn new(text: &'t str, rows: &'d Rows<'t>) -> CutText<'d, 't>
+        requires { HasCut text.now rows.now }
+        ensures { result ≡ text.now }
+    {
+        CutText::resumed(Halves::of(text), rows, KnownItems::none())
+    }
+
+    /// The same of a text in two halves, where items are known, as `known_in_front` gives them, from which
+    /// walks may go on.
+    pub fn resumed(text: Halves<'t>, rows: &'d Rows<'t>, known: KnownItems) -> CutText<'d, 't>
+        requires cut { HasCut (whole text) rows.now }
+        requires known { AreKnown rows.now.rows known }
+        ensures { result ≡ whole text.entry }
+    {
+        CutText { text, rows, known }
+    }
+
+    /// The text.
+    pub fn whole(&self) -> Halves<'t>
+        ensures text { whole result ≡ self.now }
+        ensures utf8 { IsUtf8 self.now }
+        ensures cut { IsCut self.now (cut_of self.now) }
+        ensures documents { all_documents (cut_of self.now) ≡ true }
+    {
+        is_text(self.text);
+        self.text
+    }
+
+    /// The text, of which the documents are read.
+    pub fn text(&self) -> Halves<'t>
+        ensures text { whole result ≡ self.now }
+        ensures utf8 { IsUtf8 self.now }
+        ensures read { read_at self.now ≡ Some (cut_of self.now) }
+    {
+        self.whole()
+    }
+
+    /// The rows of the text, and where its parts end.
+    pub fn rows(&self) -> &'d Rows<'t>
+        ensures { result.now ≡ shown (cut_of self.now) }
+    {
+        self.rows
+    }
+
+    /// The items that are known.
+    pub fn known(&self) -> KnownItems
+        ensures { AreKnown (shown (cut_of self.now)).rows result }
+    {
+        self.known
+    }
+}

@@ -1,0 +1,28 @@
+//! Where entries, contents and comments stand in a text; what stands at a path, in pieces; and what is
+//! taken out.
+
+pub mod comment_place;
+pub mod content_place;
+pub mod entry_place;
+pub mod entry_standing;
+pub mod first_break;
+pub mod first_removal;
+pub mod flow_node;
+pub mod halves;
+pub mod held;
+pub mod known_at;
+pub mod known_end;
+pub mod lines_above;
+pub mod lines_cut;
+pub mod node_at;
+pub mod node_place;
+pub mod placed_entry;
+pub mod removal_place;
+pub mod room;
+pub mod root_standing;
+pub mod row_head;
+pub mod row_place;
+pub mod standing;
+pub mod steps;
+pub mod stretch;
+pub mod written;

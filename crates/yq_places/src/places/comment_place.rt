@@ -1,0 +1,94 @@
+//! Where the comments of entries and items stand.
+ghost use Rattle.std.specs.Prelude.{◌≡◌, ◌<◌, ◌≤◌, ◌+◌, length, option_map, slice_get, Some};
+ghost use Rattle.yq_scalar.specs.Characters.{text_limit};
+ghost use Rattle.yq_rows.specs.View.{Slices};
+ghost use Rattle.yq_places.specs.CommentReading as spec;
+ghost use Rattle.yq_walk.specs.Extents as extents;
+ghost use Rattle.yq_documents.specs.Pieces.{piece_span, span};
+ghost use Rattle.yq_walk.specs.Extents.{IsShown};
+ghost use Rattle.yq_places.specs.PathPieces.{piece_at};
+ghost use Rattle.yq_documents.specs.Reading.{cut_of};
+ghost use Rattle.yq_places.specs.SeatReading.{told};
+ghost use Rattle.yq_documents.specs.declared.path.Part.TheVariants as parts;
+
+use crate::cut_text::CutText;
+use crate::places::stretch::Seat;
+use yq_documents::{Path, Span, is_comment, last_run};
+use yq_rows::Rows;
+use yq_scalar::lines::split_at_break;
+use yq_scalar::text::split_white;
+use yq_walk::{front_len, row_start};
+
+/// The place of the comment in a tail that begins at a place.
+fn tail_comment(start: usize, tail: &str) -> Option<Span>
+    requires { start + length tail.now ≤ text_limit }
+    ensures { option_map span result ≡ spec.tail_span start tail.now }
+{
+    if !is_comment(tail) {
+        return None;
+    }
+    let (white, comment) = split_white(tail);
+    let start = start + white.len();
+    let end = start + split_at_break(comment).0.len();
+    Some(Span { start, end })
+}
+
+/// The place of the line comment of a line.
+fn line_comment_in(rows: &Rows<'_>, seat: Seat) -> Option<Span>
+    requires within { seat.row < length rows.now.rows }
+    requires shown { IsShown rows.now }
+    ensures { (x : Slices) → slice_get rows.now.rows seat.row ≡ Some x → option_map span result ≡
+        spec.line_comment_span (extents.row_start seat.row rows.now) x (told seat) }
+{
+    if seat.line != seat.dashes {
+        return None;
+    }
+    let row = rows.row(seat.row);
+    let start = row_start(rows, seat.row) + front_len(&row) + row.head().len();
+    tail_comment(start, row.tail())
+}
+
+/// The place of the run of comments that ends a gap, where the gap begins at a place.
+fn gap_comment(start: usize, gap: &str) -> Option<Span>
+    requires { start + length gap.now ≤ text_limit }
+    ensures { option_map span result ≡ spec.gap_span start gap.now }
+{
+    let run = last_run(gap);
+    if run.is_empty() {
+        return None;
+    }
+    let end = start + gap.len();
+    let start = end - run.len();
+    Some(Span { start, end })
+}
+
+/// The place of the head comment of a line.
+fn head_comment_in(rows: &Rows<'_>, seat: Seat) -> Option<Span>
+    requires within { seat.row < length rows.now.rows }
+    requires shown { IsShown rows.now }
+    ensures { (x : Slices) → slice_get rows.now.rows seat.row ≡ Some x → option_map span result ≡
+        spec.head_comment_span (extents.row_start seat.row rows.now) x (told seat) }
+{
+    if seat.line != 0 {
+        return None;
+    }
+    gap_comment(row_start(rows, seat.row), rows.row(seat.row).gap())
+}
+
+impl<'t> CutText<'_, 't> {
+    /// The place of the comment behind the entry or item at a path, on the line of its key or dash.
+    pub fn line_comment_place(&self, path: &Path) -> Option<Span>
+        ensures { option_map span result ≡ option_map piece_span (piece_at path.now parts.LineComment (cut_of self.now)) }
+    {
+        let seat = self.seat(path)?;
+        line_comment_in(self.rows, seat)
+    }
+
+    /// The place of the run of comments above the entry or item at a path, with the breaks.
+    pub fn head_comment_place(&self, path: &Path) -> Option<Span>
+        ensures { option_map span result ≡ option_map piece_span (piece_at path.now parts.HeadComment (cut_of self.now)) }
+    {
+        let seat = self.seat(path)?;
+        head_comment_in(self.rows, seat)
+    }
+}

@@ -1,0 +1,188 @@
+//! The item on the way of a path from which a later walk may go on.
+ghost use Rattle.std.specs.Prelude.{◌≡◌, IfSome};
+ghost use Rattle.yq_rows.specs.Rows.{Cut};
+ghost use Rattle.yq_rows.specs.View.{shown};
+ghost use Rattle.yq_documents.specs.Reading.{cut_of};
+ghost use Rattle.yq_walk.specs.Extents.{IsShown};
+ghost use Rattle.yq_walk.specs.RowWalk.{AreKnown, HasDocument, IsKnown, IsLine};
+ghost use Rattle.yq_places.specs.RowWalk.{StayKnown, StaysKnown};
+
+use crate::cut_text::CutText;
+use crate::places::known_end::known_end;
+use yq_documents::Path;
+use yq_inline::Step;
+use yq_rows::Rows;
+use yq_walk::{
+    KnownItem, KnownItems, Next, Spot, Stretch, item_before, known_to, level_at, next, next_at,
+};
+
+/// Where what is under a line begins, or under the root, and how deep that line is.
+fn begin_under(rows: &Rows<'_>, document: Stretch, from: Option<Spot>) -> (Spot, usize)
+    requires shown { IsShown rows.now }
+    requires document { HasDocument rows.now document }
+    requires from { IfSome from (IsLine rows.now document) }
+{
+    match from {
+        Some(at) => (next(rows, document, at), level_at(rows, at)),
+        None => {
+            let first = Spot {
+                row: document.first,
+                line: 0,
+            };
+            (first, 0)
+        }
+    }
+}
+
+/// How many rows a walk passes that goes on from an item.
+fn rows_passed(item: KnownItem) -> usize {
+    item.row.saturating_sub(item.under.row)
+}
+
+/// Of items that are known and one more, the two that passed most rows.
+fn with_item(rows: &Rows<'_>, known: KnownItems, more: Option<KnownItem>) -> KnownItems
+    requires known { AreKnown rows.now.rows known }
+    requires more { IfSome more (IsKnown rows.now.rows) }
+    ensures { AreKnown rows.now.rows result }
+{
+    let _rows = rows;
+    let Some(item) = more else {
+        return known;
+    };
+    let Some(far) = known.far else {
+        return KnownItems {
+            far: more,
+            near: known.near,
+        };
+    };
+    if rows_passed(far) < rows_passed(item) {
+        return KnownItems {
+            far: more,
+            near: known.far,
+        };
+    }
+    match known.near {
+        Some(near) if rows_passed(item) <= rows_passed(near) => known,
+        _ => KnownItems {
+            far: known.far,
+            near: more,
+        },
+    }
+}
+
+/// The item or entry of a line under another one, or of the root, as one that is known, unless it
+/// begins in the row of the first one.
+fn known_by(
+    rows: &Rows<'_>,
+    document: Stretch,
+    known: KnownItems,
+    from: Option<Spot>,
+    at: Spot,
+) -> Option<KnownItem>
+    requires shown { IsShown rows.now }
+    requires document { HasDocument rows.now document }
+    requires known { AreKnown rows.now.rows known }
+    requires from { IfSome from (IsLine rows.now document) }
+    requires at { IsLine rows.now document at }
+    ensures known { IfSome result (IsKnown rows.now.rows) }
+{
+    let (under, floor) = begin_under(rows, document, from);
+    if under.row >= at.row {
+        return None;
+    }
+    known_to(rows, document, known, under, floor, at.row)
+}
+
+/// The items on the way of steps that passed most rows, as items that are known.
+fn known_along(rows: &Rows<'_>, document: Stretch, known: KnownItems, steps: &[Step]) -> KnownItems
+    requires shown { IsShown rows.now }
+    requires document { HasDocument rows.now document }
+    requires known { AreKnown rows.now.rows known }
+    ensures { AreKnown rows.now.rows result }
+{
+    let mut from = None;
+    let mut found = KnownItems::none();
+    let mut left = steps;
+    'steps: while let [step, others @ ..] = left {
+        let Some(Next::Line(at)) = next_at(rows, document, known, from, step) else {
+            return found;
+        };
+        found = with_item(rows, found, known_by(rows, document, known, from, at));
+        from = Some(at);
+        left = others;
+    }
+    found
+}
+
+/// A known item, or the one before it, if its row begins in front of so many bytes.
+fn begins_in_front(rows: &Rows<'_>, known: KnownItem, front: usize) -> Option<KnownItem>
+    requires known { IsKnown rows.now.rows known }
+    requires shown { IsShown rows.now }
+    ensures { IfSome result (λ k. (c : Cut) → rows.now ≡ shown c → StaysKnown front c k) }
+{
+    if known.row >= rows.len() {
+        return None;
+    }
+    if rows.start(known.row) < front {
+        return Some(known);
+    }
+    let before = item_before(rows, known)?;
+    if rows.start(before.row) < front {
+        Some(before)
+    } else {
+        None
+    }
+}
+
+/// The same of an item, if there is one.
+fn if_in_front(rows: &Rows<'_>, known: Option<KnownItem>, front: usize) -> Option<KnownItem>
+    requires known { IfSome known (IsKnown rows.now.rows) }
+    requires shown { IsShown rows.now }
+    ensures { IfSome result (λ k. (c : Cut) → rows.now ≡ shown c → StaysKnown front c k) }
+{
+    begins_in_front(rows, known?, front)
+}
+
+impl<'d, 't> CutText<'d, 't> {
+    /// The same text, where the items and entries on the way of a path are known that passed most rows:
+    /// walks along the path go on from there.
+    pub fn along(&self, path: &Path) -> CutText<'d, 't>
+        ensures { result ≡ self.now }
+    {
+        let text = self.whole();
+        let rows = self.rows();
+        let Some(document) = self.stretch(path.doc) else {
+            return CutText::resumed(text, rows, KnownItems::none());
+        };
+        let known = known_along(rows, document, self.known(), &path.steps);
+        CutText::resumed(text, rows, known)
+    }
+
+    /// The same text, where the end of the collection at a path is known as well.
+    pub fn to_end(&self, path: &Path) -> CutText<'d, 't>
+        ensures { result ≡ self.now }
+    {
+        let text = self.whole();
+        let rows = self.rows();
+        let known = self.known();
+        let Some(document) = self.stretch(path.doc) else {
+            return CutText::resumed(text, rows, known);
+        };
+        let end = known_end(rows, document, known, &path.steps);
+        CutText::resumed(text, rows, with_item(rows, known, end))
+    }
+
+    /// The items that are known, or those before them, as far as walks may go on from there in each text
+    /// that keeps so many bytes in front.
+    pub fn known_in_front(&self, front: usize) -> KnownItems
+        ensures { StayKnown front (cut_of self.now) result }
+    {
+        let _whole = self.whole();
+        let rows = self.rows();
+        let known = self.known();
+        KnownItems {
+            far: if_in_front(rows, known.far, front),
+            near: if_in_front(rows, known.near, front),
+        }
+    }
+}

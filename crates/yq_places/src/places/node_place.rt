@@ -1,0 +1,88 @@
+//! Where the nodes at paths are written among the lines of a document, row by row.
+ghost use Rattle.std.specs.Prelude.{◌≡◌, map, option_map, slice_get, IfSome, Some};
+ghost use Rattle.yq_inline.specs.Entries.{step_of};
+ghost use Rattle.yq_lines.specs.Outline.{Line};
+ghost use Rattle.yq_walk.specs.Lines.{lines_of};
+ghost use Rattle.yq_walk.specs.Extents.{IsShown};
+ghost use Rattle.yq_places.specs.NodeReading as spec;
+ghost use Rattle.yq_walk.specs.RowWalk.{AreKnown, HasDocument, HasRows, IsLine, line_number};
+
+use yq_inline::Step;
+use yq_rows::Rows;
+use yq_walk::{KnownItems, Spot, Stretch, begins_with_node, has_head, level_at, next, reach};
+
+/// Where a node is written.
+#[derive(Clone, Copy, Debug)]
+pub(crate) enum NodePlace {
+    /// In the head of a line.
+    Head(Spot),
+    /// On the lines from one on that are deeper than a level.
+    Lines(Spot, usize),
+}
+
+/// Where the node of a line is written: in its head, if it has one or steps go on there, else on the
+/// lines under it.
+fn line_place(rows: &Rows<'_>, document: Stretch, at: Spot, left: &[Step]) -> NodePlace
+    requires shown { IsShown rows.now }
+    requires document { HasRows rows.now document }
+    requires at { IsLine rows.now document at }
+    ensures within { spec.IsPlace rows.now document result }
+    ensures told { (h : HasRows rows.now document) (l : Line) → slice_get (lines_of h.rows) (line_number document h.rows at) ≡ Some l →
+        spec.place_told document h.rows result ≡ spec.line_place (line_number document h.rows at) (map step_of left.now) l }
+{
+    if !left.is_empty() {
+        return NodePlace::Head(at);
+    }
+    if has_head(rows, document, at) {
+        return NodePlace::Head(at);
+    }
+    NodePlace::Lines(next(rows, document, at), level_at(rows, at))
+}
+
+/// Where the node at a path is written, and the steps that go on there.
+pub(crate) fn node_place<'s>(
+    rows: &Rows<'_>,
+    document: Stretch,
+    known: KnownItems,
+    steps: &'s [Step],
+) -> Option<(NodePlace, &'s [Step])>
+    requires shown { IsShown rows.now }
+    requires document { HasDocument rows.now document }
+    requires known { AreKnown rows.now.rows known }
+    ensures within { IfSome result (λ x. spec.IsPlace rows.now document x.0) }
+    ensures found { (h : HasDocument rows.now document) →
+        option_map (spec.node_place_told document h.stand.rows) result ≡
+        spec.node_place (map step_of steps.now) (lines_of h.stand.rows) }
+{
+    if steps.is_empty() {
+        let first = Spot {
+            row: document.first,
+            line: 0,
+        };
+        return Some((NodePlace::Lines(first, 0), steps));
+    }
+    let (at, left) = reach(rows, document, known, steps)?;
+    Some((line_place(rows, document, at, left), left))
+}
+
+/// The line in whose head a node is written, if it is in one.
+pub(crate) fn place_line(rows: &Rows<'_>, document: Stretch, place: NodePlace) -> Option<Spot>
+    requires shown { IsShown rows.now }
+    requires document { HasRows rows.now document }
+    requires place { spec.IsPlace rows.now document place }
+    ensures within { IfSome result (IsLine rows.now document) }
+    ensures found { (h : HasRows rows.now document) →
+        option_map (line_number document h.rows) result ≡
+        spec.place_line (lines_of h.rows) (spec.place_told document h.rows place) }
+{
+    match place {
+        NodePlace::Head(at) => Some(at),
+        NodePlace::Lines(under, floor) => {
+            if begins_with_node(rows, document, under, floor) {
+                Some(under)
+            } else {
+                None
+            }
+        }
+    }
+}

@@ -1,0 +1,113 @@
+//! What stands at roots.
+ghost use Rattle.std.specs.Prelude.{◌≡◌, ◌<◌, [], ◌∷◌, length, option_map, IfSome};
+ghost use Rattle.yq_text.specs.Halves.{whole};
+ghost use Rattle.yq_documents.specs.Reading.{cut_of};
+ghost use Rattle.yq_places.specs.RootReading as reading;
+ghost use Rattle.yq_places.specs.Standings as spec;
+ghost use Rattle.yq_places.specs.StandingReading.{IsRootOf};
+ghost use Rattle.yq_places.specs.StandingTelling as telling;
+
+use crate::cut_text::CutText;
+use crate::places::entry_standing::{is_alone, lone_in};
+use crate::places::lines_cut::cut_lines;
+use crate::places::row_place::{line_start, row_stop};
+use crate::places::standing::{BlockRoot, NoRows, Standing};
+use crate::places::stretch::{is_sought, left_behind};
+use yq_documents::first_is_document;
+use yq_rows::{Rows, begins_document};
+use yq_text::Halves;
+use yq_walk::{Spot, Stretch};
+
+/// The root of a document as a block collection: from its first key or dash to its last line.
+fn block_root_in<'t>(rows: &Rows<'t>, text: Halves<'t>, document: Stretch) -> BlockRoot<'t>
+    requires { IsRootOf (whole text) rows.now document }
+    ensures { (h : IsRootOf (whole text.entry) rows.now document) →
+        telling.root_told result ≡ spec.block_root h.part h.row h.under }
+{
+    let spot = Spot {
+        row: document.first,
+        line: 0,
+    };
+    let column = rows.row(document.first).column();
+    let stop = row_stop(rows, document.end - 1);
+    let lower = cut_lines(text, line_start(rows, spot), stop);
+    BlockRoot {
+        column,
+        before: lower.before,
+        old: lower.lines,
+        last: lower.last,
+        behind: lower.behind,
+    }
+}
+
+/// What stands at the root of a document with rows.
+fn rows_standing<'t>(rows: &Rows<'t>, text: Halves<'t>, document: Stretch) -> Standing<'t>
+    requires { IsRootOf (whole text) rows.now document }
+    ensures { (h : IsRootOf (whole text.entry) rows.now document) →
+        telling.standing_told result ≡ spec.root_standing h.part (h.row ∷ h.under) }
+{
+    if is_alone(&rows.row(document.first)) {
+        Standing::Alone(lone_in(rows, text, document.first))
+    } else {
+        Standing::Root(block_root_in(rows, text, document))
+    }
+}
+
+/// The number of the part that is document `i`, both counted from 0, where `first` tells whether part 0
+/// is a document.
+fn part_number(rows: &Rows<'_>, first: bool, i: usize) -> Option<usize>
+    ensures value { result ≡ reading.part_number first i 0 rows.now.bounds }
+    ensures within { IfSome result (λ k. k < length rows.now.bounds) }
+{
+    let mut is_document = first;
+    let mut left = i;
+    'parts: for at in 0..rows.parts() {
+        let bound = rows.part(at);
+        if is_sought(is_document, left) {
+            return Some(at);
+        }
+        left = left_behind(is_document, left);
+        is_document = begins_document(bound.marker.as_bytes());
+    }
+    None
+}
+
+impl<'t> CutText<'_, 't> {
+    /// Where document `doc` ends, in bytes, if it has no rows.
+    pub(crate) fn unwritten_end(&self, doc: usize) -> Option<usize>
+        ensures { result ≡ reading.unwritten_at doc (cut_of self.now) }
+    {
+        let document = self.stretch(doc)?;
+        let _whole = self.whole();
+        let rows = self.rows();
+        if document.first != document.end {
+            return None;
+        }
+        let part = part_number(rows, first_is_document(rows), doc)?;
+        Some(rows.part_end(part))
+    }
+
+    /// The text of document `doc`, if it has no rows.
+    fn no_rows(&self, doc: usize) -> Option<NoRows<'t>>
+        ensures { option_map telling.no_rows_told result ≡ reading.unwritten_place doc (cut_of self.now) }
+    {
+        let whole = self.whole();
+        let end = self.unwritten_end(doc)?;
+        let (before, behind) = whole.split_at(end);
+        Some(NoRows { before, behind })
+    }
+
+    /// What stands at the root of document `doc`.
+    pub(crate) fn root_standing(&self, doc: usize) -> Option<Standing<'t>>
+        ensures { option_map telling.standing_told result ≡ spec.standing_at doc [] (cut_of self.now) }
+    {
+        match self.no_rows(doc) {
+            Some(place) => Some(Standing::NoRows(place)),
+            None => {
+                let document = self.stretch(doc)?;
+                let text = self.whole();
+                Some(rows_standing(self.rows(), text, document))
+            }
+        }
+    }
+}

@@ -1,0 +1,146 @@
+-- No change brings an alias that was not there.
+use Rattle.std.proofs.Common.{◌≡◌, ℕ, suc, ◌⊎◌, Bool, true, false, cond, List, [], ◌∷◌, map, Option, Some, None, refl, subst, inl, inr}
+use Rattle.std.proofs.lemmas.Option.{none-some, same_Some}
+use Rattle.yq_scalar.specs.Tree as tree
+use Rattle.yq_scalar.specs.Tree.{Label, Node, alias, scalar, list, Children, none, child}
+use Rattle.yq_scalar.specs.Paths.{Step, To, is_here, further, change_child, append_child, within}
+use Rattle.yq_meaning.specs.Changes.{Addition, appends, overwrites, Change, replaces, adds, sets_comment, Changed, value_in}
+use Rattle.yq_meaning.specs.Deeds.{Deed, becomes, line, head, goes, Deeds, step_to, under, done_at, child_by, inside, each_at_once, at_once, same_path, done_by}
+use Rattle.yq_meaning.specs.Meaning.{add_to, add_all, placed_deed, deed_of}
+use Rattle.yq_documents.specs.TreeEdits.{replaced, headed, led, new_label}
+use Rattle.yq_program.specs.declared.program.CommentPlace.TheVariants as comments
+use Rattle.yq_meaning.specs.Changes as changes
+use Rattle.yq_plans.proofs.updates.Mentions.{Mentions, AnyMentions, HasNoAlias, MentionsNoMore}
+
+-- what is done at a place brings no alias
+abbrev BringsNone : Deed → Type 0
+BringsNone (becomes g) = (m : Node) → MentionsNoMore (g m) m
+BringsNone (line text) = Unit {0}
+BringsNone (head texts) = Unit {0}
+BringsNone goes = Unit {0}
+
+abbrev pub BringNone : Deeds → Type 0
+BringNone f = (q : List Step) (x : Deed) → f q ≡ Some x → BringsNone x
+
+child_no_more : (a : List ℕ) (d : Option Deed) (label : Label) (m n : Node) (rest cs : Children) → (Mentions a m → Mentions a n) → (AnyMentions a rest → AnyMentions a cs) → AnyMentions a (child_by d label m rest) →
+    AnyMentions a (child label n cs)
+child_no_more a None label m n rest cs f g (inl h) = inl (f h)
+child_no_more a None label m n rest cs f g (inr h) = inr (g h)
+child_no_more a (Some (becomes k)) label m n rest cs f g (inl h) = inl (f h)
+child_no_more a (Some (becomes k)) label m n rest cs f g (inr h) = inr (g h)
+child_no_more a (Some (line text)) label m n rest cs f g (inl h) = inl (f h)
+child_no_more a (Some (line text)) label m n rest cs f g (inr h) = inr (g h)
+child_no_more a (Some (head texts)) label m n rest cs f g (inl h) = inl (f h)
+child_no_more a (Some (head texts)) label m n rest cs f g (inr h) = inr (g h)
+child_no_more a (Some goes) label m n rest cs f g h = inr (g h)
+
+done_no_more : (a : List ℕ) (d : Option Deed) → ((x : Deed) → d ≡ Some x → BringsNone x) → (n m : Node) → (Mentions a m → Mentions a n) → Mentions a (done_at d n m) → Mentions a n
+done_no_more a None b n m f h = f h
+done_no_more a (Some (becomes g)) b n m f h = b (becomes g) refl n a h
+done_no_more a (Some (line text)) b n m f h = h
+done_no_more a (Some (head texts)) b n m f h = h
+done_no_more a (Some goes) b n m f h = h
+
+mutual
+  inside_no_more : (a : List ℕ) (f : Deeds) → BringNone f → (n : Node) → Mentions a (inside f n) → Mentions a n
+  inside_no_more a f b (alias name) h = h
+  inside_no_more a f b (scalar anchor kind text) h = h
+  inside_no_more a f b (list anchor cs) h = each_no_more a f b 0 cs h
+  inside_no_more a f b (tree.map anchor cs) h = each_no_more a f b 0 cs h
+
+  each_no_more : (a : List ℕ) (f : Deeds) → BringNone f → (i : ℕ) (cs : Children) → AnyMentions a (each_at_once f i cs) → AnyMentions a cs
+  each_no_more a f b i none h = h
+  each_no_more a f b i (child label n cs) h =
+      child_no_more a (f (step_to i label ∷ [])) label (done_at (f (step_to i label ∷ [])) n (inside (under (step_to i label) f) n)) n (each_at_once f (suc i) cs) cs
+      (done_no_more a (f (step_to i label ∷ [])) (b (step_to i label ∷ [])) n (inside (under (step_to i label) f) n) (inside_no_more a (under (step_to i label) f) (λ q. b (step_to i label ∷ q)) n))
+      (each_no_more a f b (suc i) cs) h
+
+-- all that is done brings none
+pub at_once_no_more : (f : Deeds) → BringNone f → (n : Node) → MentionsNoMore (at_once f n) n
+at_once_no_more f b n a h = done_no_more a (f []) (b []) n (inside f n) (inside_no_more a f b n) h
+
+-- ---- changes
+
+replaced_mentions : (a : List ℕ) (v old : Node) → Mentions a (replaced v old) → Mentions a v
+replaced_mentions a (alias name) old h = h
+replaced_mentions a (scalar anchor kind text) old h = h
+replaced_mentions a (list anchor cs) old h = h
+replaced_mentions a (tree.map anchor cs) old h = h
+
+headed_mentions : (a : List ℕ) (texts : List (List ℕ)) (cs : Children) → AnyMentions a (headed texts cs) → AnyMentions a cs
+headed_mentions a texts none h = h
+headed_mentions a texts (child label n cs) h = h
+
+led_mentions : (a : List ℕ) (block : Bool) (lead : List (List ℕ)) (p : List Step) (v : Node) → Mentions a (led block lead p v) → Mentions a v
+led_mentions a true lead [] (alias name) h = h
+led_mentions a true lead [] (scalar anchor kind text) h = h
+led_mentions a true lead [] (list anchor cs) h = headed_mentions a lead cs h
+led_mentions a true lead [] (tree.map anchor cs) h = headed_mentions a lead cs h
+led_mentions a false lead [] v h = h
+led_mentions a block lead (s ∷ p) v h = h
+
+append_mentions : (a : List ℕ) (label : Label) (v : Node) (cs : Children) → AnyMentions a (append_child label v cs) → Mentions a v ⊎ AnyMentions a cs
+append_mentions a label v none (inl h) = inl h
+append_mentions a label v none (inr h) = inr h
+append_mentions a label v (child first n cs) (inl h) = inr (inl h)
+append_mentions a label v (child first n cs) (inr h) = elim (append_mentions a label v cs h) [ inl k ↦ inl k | inr k ↦ inr (inr k) ]
+
+change_mentions : (a : List ℕ) (s : Step) (v : Node) (cs : Children) → AnyMentions a (change_child s (replaced v) cs) → Mentions a v ⊎ AnyMentions a cs
+change_mentions a s v none h = inr h
+change_mentions a s v (child label n cs) h = go (is_here s label) (change_mentions a (further s) v cs) h
+  where
+    go : (b : Bool) → (AnyMentions a (change_child (further s) (replaced v) cs) → Mentions a v ⊎ AnyMentions a cs) →
+        AnyMentions a (cond b (child label (replaced v n) cs) (child label n (change_child (further s) (replaced v) cs))) → Mentions a v ⊎ AnyMentions a (child label n cs)
+    go true ih (inl e) = inl (replaced_mentions a v n e)
+    go true ih (inr e) = inr (inr e)
+    go false ih (inl e) = inr (inl e)
+    go false ih (inr e) = elim (ih e) [ inl k ↦ inl k | inr k ↦ inr (inr k) ]
+
+add_mentions : (a : List ℕ) (x : Addition) (cs : Children) → AnyMentions a (add_to x cs) → Mentions a (value_in x) ⊎ AnyMentions a cs
+add_mentions a (appends k v) cs h = append_mentions a (new_label k) v cs h
+add_mentions a (overwrites k v) cs h = change_mentions a (To k) v cs h
+
+added_mentions : (a : List ℕ) (x : Addition) (n : Node) → Mentions a (within (add_to x) n) → Mentions a (value_in x) ⊎ Mentions a n
+added_mentions a x (alias name) h = inr h
+added_mentions a x (scalar anchor kind text) h = inr h
+added_mentions a x (list anchor cs) h = add_mentions a x cs h
+added_mentions a x (tree.map anchor cs) h = add_mentions a x cs h
+
+-- values without aliases are added
+abbrev pub AddNone : List Addition → Type 0
+AddNone [] = Unit {0}
+AddNone (x ∷ xs) = HasNoAlias (value_in x) × AddNone xs
+
+pub one_no_more : (x : Addition) → HasNoAlias (value_in x) → (n : Node) → MentionsNoMore (within (add_to x) n) n
+one_no_more x free n a h = elim (added_mentions a x n h) [ inl e ↦ absurd (free a e) | inr e ↦ e ]
+
+pub all_no_more : (xs : List Addition) → AddNone xs → (n : Node) → MentionsNoMore (add_all xs n) n
+all_no_more [] free n a h = h
+all_no_more (x ∷ xs) free n a h = one_no_more x free.0 n a (all_no_more xs free.1 (within (add_to x) n) a h)
+
+-- a change writes no alias
+abbrev pub WritesNone : Change → Type 0
+WritesNone (replaces v) = HasNoAlias v
+WritesNone (adds xs) = AddNone xs
+WritesNone changes.removes = Unit {0}
+WritesNone (sets_comment place text) = Unit {0}
+
+abbrev pub AllWriteNone : List Changed → Type 0
+AllWriteNone [] = Unit {0}
+AllWriteNone (c ∷ cs) = WritesNone c.1 × AllWriteNone cs
+
+deed_brings : (block : Bool) (lead : List (List ℕ)) (c : Changed) → WritesNone c.1 → BringsNone (deed_of block lead c)
+deed_brings block lead (p, replaces v) w = λ m a h. absurd (w a (led_mentions a block lead p v (replaced_mentions a (led block lead p v) m h)))
+deed_brings block lead (p, adds xs) w = λ m. all_no_more xs w m
+deed_brings block lead (p, changes.removes) w = tt
+deed_brings block lead (p, sets_comment comments.Line text) w = tt
+deed_brings block lead (p, sets_comment comments.Head text) w = tt
+
+-- what a list of changes does brings none
+pub all_bring : (block : Bool) (lead : List (List ℕ)) (cs : List Changed) → AllWriteNone cs → BringNone (done_by (map (placed_deed block lead) cs))
+all_bring block lead [] w q x h = absurd (none-some _ h)
+all_bring block lead (c ∷ cs) w q x h = go (same_path c.0 q) (all_bring block lead cs w.1 q x) h
+  where
+    go : (b : Bool) → (done_by (map (placed_deed block lead) cs) q ≡ Some x → BringsNone x) → cond b (Some (deed_of block lead c)) (done_by (map (placed_deed block lead) cs) q) ≡ Some x → BringsNone x
+    go true rest e = subst BringsNone (same_Some _ _ e) (deed_brings block lead c w.0)
+    go false rest e = rest e

@@ -1,0 +1,223 @@
+-- What is allowed may be done.
+use Rattle.std.proofs.Common.{◌≡◌, ◌≢◌, ℕ, suc, Bool, true, false, cond, ◌||◌, List, [], ◌∷◌, ◌++◌, length, map, Option, Some, None, is_some, option_map, refl, sym, ap, subst, ◌∙◌}
+use Rattle.std.specs.Prelude.{ℤ}
+use Rattle.std.specs.List.{list_any}
+use Rattle.yq_scalar.specs.Tree as tree
+use Rattle.yq_scalar.specs.Tree.{Node, alias, scalar, list, Children, none, child}
+use Rattle.yq_scalar.specs.Paths as paths
+use Rattle.yq_scalar.specs.Paths.{To, key_is, child_at, node_at, change_child, append_child}
+use Rattle.yq_scalar.specs.Anchors.{names_of}
+use Rattle.yq_meaning.specs.Judgement.{Judgement, gives, and_then}
+use Rattle.yq_meaning.specs.Matching.{Found, find, key_step, index_step}
+use Rattle.yq_meaning.specs.Changes.{Addition, appends, overwrites, addition, additions, is_long, has_long_key, writes_long_key, value_in, is_deep, is_used_inside, overwrites_used}
+use Rattle.yq_meaning.specs.Conditions.{holds}
+use Rattle.yq_meaning.specs.Meaning.{add_to}
+use Rattle.yq_meaning.specs.Pipes.{kept, stage_on, pipe_on, places}
+use Rattle.yq_meaning.specs.Places.{Place, root_place, child_place, for_each, miss, found_place, all_steps, step_there, step_from, step_on, walk}
+use Rattle.yq_scalar.specs.Shapes.{IsNew, AreItems, AreEntries, IsTree, AreTrees}
+use Rattle.yq_documents.specs.TreeEdits.{replaced, new_label}
+use Rattle.yq_program.specs.Program.{Step, key, index, each, Condition, Stage, path, select}
+use Rattle.yq_meaning.proofs.JudgementLaws.{then_gives, gives_same}
+use Rattle.yq_meaning.proofs.ChildPlaces.{node_further}
+use Rattle.yq_meaning.proofs.PathLaws.{bytes_differ, bytes_same}
+use Rattle.yq_plans.proofs.updates.FitsAtTurn.{FitAdds}
+use Rattle.std.proofs.lemmas.Bool.{false≢true, cond-false, or_parts}
+use Rattle.std.proofs.lemmas.Option.{none-some}
+use mathlib.Core.List.{cons≢nil}
+
+-- ---- what is missing
+
+-- a node lacks what a step leads to, if it is a mapping
+abbrev Lacks : Step → Node → Type 0
+Lacks s (alias name) = Unit {0}
+Lacks s (scalar anchor kind text) = Unit {0}
+Lacks s (list anchor cs) = Unit {0}
+Lacks (key k) (tree.map anchor cs) = child_at (To k) cs ≡ None
+Lacks (index i) (tree.map anchor cs) = ⊥
+Lacks each (tree.map anchor cs) = ⊥
+
+abbrev pub IsMissed : List Step → Node → Type 0
+IsMissed [] n = Unit {0}
+IsMissed (m ∷ ms) n = Lacks m n
+
+abbrev pub AreMissed : List Place → Type 0
+AreMissed [] = Unit {0}
+AreMissed (p ∷ ps) = IsMissed p.missing p.node × AreMissed ps
+
+missed_join : (ps qs : List Place) → AreMissed ps → AreMissed qs → AreMissed (ps ++ qs)
+missed_join [] qs h k = k
+missed_join (p ∷ ps) qs h k = (h.0, missed_join ps qs h.1 k)
+
+abbrev Keeps : (Place → Judgement (List Place)) → Type 0
+Keeps f = (p : Place) (qs : List Place) → IsMissed p.missing p.node → f p ≡ gives qs → AreMissed qs
+
+each_missed : (f : Place → Judgement (List Place)) → Keeps f → (ps qs : List Place) → AreMissed ps → for_each f ps ≡ gives qs → AreMissed qs
+each_missed f so [] qs m h = subst AreMissed (gives_same h) tt
+each_missed f so (p ∷ ps) qs m h =
+    let one = then_gives (λ first. and_then (λ others. gives (first ++ others)) (for_each f ps)) (f p) qs h in
+    let two = then_gives (λ (others : List Place). gives (one.0 ++ others)) (for_each f ps) qs one.2 in
+    subst AreMissed (gives_same two.2) (missed_join one.0 two.0 (so p one.0 m.0 one.1) (each_missed f so ps two.0 m.1 two.1))
+
+children_missed : (p : Place) (xs : List (paths.Step × Node)) → AreMissed (map (child_place p) xs)
+children_missed p [] = tt
+children_missed p (x ∷ xs) = (tt, children_missed p xs)
+
+find_none : (s : paths.Step) (cs : Children) → find s cs ≡ None → child_at s cs ≡ None
+find_none s cs h = go (child_at s cs) h
+  where
+    go : (o : Option Node) → option_map {U = paths.Step × Node} (λ n. (s, n)) o ≡ None → o ≡ None
+    go None e = refl
+    go (Some n) e = absurd (none-some _ (sym e))
+
+key_lacks : (k : List ℕ) (n : Node) → key_step k n ≡ gives None → Lacks (key k) n
+key_lacks k (alias name) h = tt
+key_lacks k (scalar anchor kind text) h = tt
+key_lacks k (list anchor cs) h = tt
+key_lacks k (tree.map anchor cs) h = find_none (To k) cs (gives_same h)
+
+index_lacks : (i : ℤ) (n : Node) → index_step i n ≡ gives None → Lacks (index i) n
+index_lacks i (alias name) h = tt
+index_lacks i (scalar anchor kind text) h = tt
+index_lacks i (list anchor cs) h = tt
+index_lacks i (tree.map anchor cs) h = absurd (cc)
+
+-- one more step is missing
+more_missed : (missing : List Step) (s : Step) (n : Node) → IsMissed missing n → (missing ≡ [] → Lacks s n) → IsMissed (missing ++ s ∷ []) n
+more_missed [] s n h k = k refl
+more_missed (m ∷ ms) s n h k = h
+
+miss_missed : (s : Step) (p : Place) → IsMissed p.missing p.node → (p.missing ≡ [] → Lacks s p.node) → AreMissed (miss s p)
+miss_missed (key k) p h l = (more_missed p.missing (key k) p.node h l, tt)
+miss_missed (index i) p h l = (more_missed p.missing (index i) p.node h l, tt)
+miss_missed each p h l = tt
+
+there_missed : (s : Step) → Keeps (step_there s)
+there_missed (key k) p qs m h =
+    let x = then_gives (λ (x : Found). gives (found_place (key k) p x)) (key_step k p.node) qs h in subst AreMissed (gives_same x.2) (go x.0 x.1)
+  where
+    go : (x : Found) → key_step k p.node ≡ gives x → AreMissed (found_place (key k) p x)
+    go None e = miss_missed (key k) p m (λ there. key_lacks k p.node e)
+    go (Some y) e = (tt, tt)
+there_missed (index i) p qs m h =
+    let x = then_gives (λ (x : Found). gives (found_place (index i) p x)) (index_step i p.node) qs h in subst AreMissed (gives_same x.2) (go x.0 x.1)
+  where
+    go : (x : Found) → index_step i p.node ≡ gives x → AreMissed (found_place (index i) p x)
+    go None e = miss_missed (index i) p m (λ there. index_lacks i p.node e)
+    go (Some y) e = (tt, tt)
+there_missed each p qs m h =
+    let x = then_gives (λ (xs : List (paths.Step × Node)). gives (map (child_place p) xs)) (all_steps p.node) qs h in subst AreMissed (gives_same x.2) (children_missed p x.0)
+
+step_missed : (s : Step) → Keeps (step_on s)
+step_missed s p qs m h = go p.missing refl h
+  where
+    go : (missing : List Step) → p.missing ≡ missing → step_from missing s p ≡ gives qs → AreMissed qs
+    go [] is e = there_missed s p qs m e
+    go (x ∷ xs) is e = subst AreMissed (gives_same e) (miss_missed s p m (λ there. absurd (cons≢nil (sym is ∙ there))))
+
+select_missed : (doc : ℕ) (c : Condition) → Keeps (λ p. and_then (λ b. gives (kept p b)) (holds doc c p))
+select_missed doc c p qs m h = let x = then_gives (λ (b : Bool). gives (kept p b)) (holds doc c p) qs h in subst AreMissed (gives_same x.2) (go x.0)
+  where
+    go : (b : Bool) → AreMissed (kept p b)
+    go true = (m, tt)
+    go false = tt
+
+walk_missed : (ss : List Step) (ps qs : List Place) → AreMissed ps → walk ss ps ≡ gives qs → AreMissed qs
+walk_missed [] ps qs m h = subst AreMissed (gives_same h) m
+walk_missed (s ∷ ss) ps qs m h = let x = then_gives (walk ss) (for_each (step_on s) ps) qs h in walk_missed ss x.0 qs (each_missed (step_on s) (step_missed s) ps x.0 m x.1) x.2
+
+stage_missed : (doc : ℕ) (stage : Stage) (ps qs : List Place) → AreMissed ps → stage_on doc stage ps ≡ gives qs → AreMissed qs
+stage_missed doc (path steps) ps qs m h = walk_missed steps ps qs m h
+stage_missed doc (select c) ps qs m h = each_missed (λ p. and_then (λ b. gives (kept p b)) (holds doc c p)) (select_missed doc c) ps qs m h
+
+pipe_missed : (doc : ℕ) (stages : List Stage) (ps qs : List Place) → AreMissed ps → pipe_on doc stages ps ≡ gives qs → AreMissed qs
+pipe_missed doc [] ps qs m h = subst AreMissed (gives_same h) m
+pipe_missed doc (stage ∷ stages) ps qs m h =
+    let x = then_gives (pipe_on doc stages) (stage_on doc stage ps) qs h in pipe_missed doc stages x.0 qs (stage_missed doc stage ps x.0 m x.1) x.2
+
+-- of what is missing nothing is there
+pub places_missed : (doc : ℕ) (pipe : List Stage) (root : Node) (ps : List Place) → places doc pipe root ≡ gives ps → AreMissed ps
+places_missed doc pipe root ps h = pipe_missed doc pipe (root_place root ∷ []) ps (tt, tt) h
+
+-- ---- additions
+
+-- nothing refuses additions at a path of a root
+abbrev pub Unrefused : Node → List paths.Step → List Addition → Type 0
+Unrefused root p xs = (list_any writes_long_key xs ≡ false) × (list_any (λ x. is_deep (suc (length p)) (value_in x)) xs ≡ false) × (list_any (overwrites_used root p) xs ≡ false)
+
+unrefused_rest : (root : Node) (p : List paths.Step) (x : Addition) (xs : List Addition) → Unrefused root p (x ∷ xs) → Unrefused root p xs
+unrefused_rest root p x xs h = (
+  (or_parts (writes_long_key x) (list_any writes_long_key xs) h.0).1,
+  (or_parts (is_deep (suc (length p)) (value_in x)) (list_any (λ y. is_deep (suc (length p)) (value_in y)) xs) h.1).1,
+  (or_parts (overwrites_used root p x) (list_any (overwrites_used root p) xs) h.2).1,
+)
+
+-- items for a sequence
+items_fit : (root : Node) (p : List paths.Step) (a : Option (List ℕ)) (cs ds : Children) → AreItems ds → AreTrees ds → Unrefused root p (additions none ds) → FitAdds root p (list a cs) (additions none ds)
+items_fit root p a cs none items trees h = tt
+items_fit root p a cs (child label v ds) items trees h =
+    subst (λ (o : Option (List ℕ)). Unrefused root p (addition none o v ∷ additions none ds) → FitAdds root p (list a cs) (addition none o v ∷ additions none ds)) (sym items.0)
+    (λ k. ((refl, (trees.0, (k0 k).0, (k0 k).1), (a, cs, refl)), items_fit root p a (append_child (new_label None) v cs) ds items.1 trees.1 (unrefused_rest root p (appends None v) (additions none ds) k))) h
+  where
+    k0 : Unrefused root p (appends None v ∷ additions none ds) → (has_long_key v ≡ false) × (is_deep (suc (length p)) v ≡ false)
+    k0 k = ((or_parts (has_long_key v) (list_any writes_long_key (additions none ds)) k.0).0, (or_parts (is_deep (suc (length p)) v) (list_any (λ y. is_deep (suc (length p)) (value_in y)) (additions none ds)) k.1).0)
+
+pub list_fits : (root : Node) (p : List paths.Step) (a : Option (List ℕ)) (cs ds : Children) → AreItems ds → AreTrees ds → Unrefused root p (additions none ds) → FitAdds root p (list a cs) (additions none ds)
+list_fits root p a cs ds items trees h = items_fit root p a cs ds items trees h
+
+other_append : (j k : List ℕ) (v : Node) (es : Children) → j ≢ k → child_at (To k) (append_child (new_label (Some j)) v es) ≡ child_at (To k) es
+other_append j k v none d = cond-false (key_is k (Some j)) (Some v) None (bytes_differ j k d)
+other_append j k v (child label n es) d = ap (λ (o : Option Node). cond (key_is k label.key) (Some n) o) (other_append j k v es d)
+
+key_same : (j : List ℕ) (o : Option (List ℕ)) → key_is j o ≡ true → o ≡ Some j
+key_same j None h = absurd (false≢true h)
+key_same j (Some i) h = ap Some (bytes_same i j h)
+
+other_change : (j k : List ℕ) (f : Node → Node) (es : Children) → j ≢ k → child_at (To k) (change_child (To j) f es) ≡ child_at (To k) es
+other_change j k f none d = refl
+other_change j k f (child label n es) d = go (key_is j label.key) refl (other_change j k f es d)
+  where
+    go : (b : Bool) → key_is j label.key ≡ b → child_at (To k) (change_child (To j) f es) ≡ child_at (To k) es → child_at (To k) (cond b (child label (f n) es) (child label n (change_child (To j) f es))) ≡ child_at (To k) (child label n es)
+    go true is ih =
+        let other : key_is k label.key ≡ false = ap (key_is k) (key_same j label.key is) ∙ bytes_differ j k d in
+        cond-false (key_is k label.key) (Some (f n)) (child_at (To k) es) other ∙ sym (cond-false (key_is k label.key) (Some n) (child_at (To k) es) other)
+    go false is ih = ap (λ (o : Option Node). cond (key_is k label.key) (Some n) o) ih
+
+other_add : (cs : Children) (j k : List ℕ) (v : Node) (es : Children) → j ≢ k → child_at (To k) (add_to (addition cs (Some j) v) es) ≡ child_at (To k) es
+other_add cs j k v es d = go (is_some (child_at (To j) cs))
+  where
+    go : (b : Bool) → child_at (To k) (add_to (cond b (overwrites j v) (appends (Some j) v)) es) ≡ child_at (To k) es
+    go true = other_change j k (replaced v) es d
+    go false = other_append j k v es d
+
+module _ (root : Node) (p : List paths.Step) (a first : Option (List ℕ)) (cs : Children) (at : node_at p root ≡ Some (tree.map first cs)) where
+  entry_fits : (k : List ℕ) (v : Node) (es : Children) (xs : List Addition) → IsTree v → child_at (To k) es ≡ child_at (To k) cs → Unrefused root p (addition cs (Some k) v ∷ xs) →
+      FitAdds root p (tree.map a (add_to (addition cs (Some k) v) es)) xs → FitAdds root p (tree.map a es) (addition cs (Some k) v ∷ xs)
+  entry_fits k v es xs tree_is same free rest = go (child_at (To k) cs) refl free rest
+    where
+      go : (o : Option Node) → child_at (To k) cs ≡ o → Unrefused root p (cond (is_some o) (overwrites k v) (appends (Some k) v) ∷ xs) →
+          FitAdds root p (tree.map a (add_to (cond (is_some o) (overwrites k v) (appends (Some k) v)) es)) xs → FitAdds root p (tree.map a es) (cond (is_some o) (overwrites k v) (appends (Some k) v) ∷ xs)
+      go None is h r =
+          let long = or_parts (is_long (Some k)) (has_long_key v) (or_parts (is_long (Some k) || has_long_key v) (list_any writes_long_key xs) h.0).0 in
+          ((long.0, (tree_is, long.1, (or_parts (is_deep (suc (length p)) v) (list_any (λ y. is_deep (suc (length p)) (value_in y)) xs) h.1).0), (a, es, refl, same ∙ is)), r)
+      go (Some m) is h r =
+          let used : is_used_inside (names_of root) (node_at (p ++ To k ∷ []) root) ≡ false = (or_parts (overwrites_used root p (overwrites k v)) (list_any (overwrites_used root p) xs) h.2).0 in (
+            (
+              (tree_is, (or_parts (has_long_key v) (list_any writes_long_key xs) h.0).0, (or_parts (is_deep (suc (length p)) v) (list_any (λ y. is_deep (suc (length p)) (value_in y)) xs) h.1).0),
+              (m, same ∙ is, ap (is_used_inside (names_of root)) (sym (node_further p (To k) root (tree.map first cs) at ∙ is)) ∙ used),
+            ),
+            r,
+          )
+
+  -- entries for a mapping
+  pub entries_fit : (ds es : Children) → AreEntries ds → AreTrees ds → ((k : List ℕ) → (IsNew k ds → ⊥) → child_at (To k) es ≡ child_at (To k) cs) → Unrefused root p (additions cs ds) → FitAdds root p (tree.map a es) (additions cs ds)
+  entries_fit none es h trees same free = tt
+  entries_fit (child label v ds) es h trees same free =
+      let k : List ℕ = h.0.0 in
+      let is : label.key ≡ Some k = h.0.1 in
+      let here : child_at (To k) es ≡ child_at (To k) cs = same k (λ new. new.0 is) in
+      let at_k : Unrefused root p (addition cs (Some k) v ∷ additions cs ds) = subst (λ (o : Option (List ℕ)). Unrefused root p (addition cs o v ∷ additions cs ds)) is free in
+      subst (λ (o : Option (List ℕ)). FitAdds root p (tree.map a es) (addition cs o v ∷ additions cs ds)) (sym is)
+      (entry_fits k v es (additions cs ds) trees.0 here at_k
+      (entries_fit ds (add_to (addition cs (Some k) v) es) h.1 trees.1
+      (λ j not_new. other_add cs k j v es (λ e. not_new (subst (λ (c : List ℕ). IsNew c ds) e h.0.2)) ∙ same j (λ new. not_new new.1))
+      (unrefused_rest root p (addition cs (Some k) v) (additions cs ds) at_k)))

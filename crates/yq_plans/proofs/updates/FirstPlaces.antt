@@ -1,0 +1,188 @@
+-- Of the places to which a pipe leads, none but the first one is at the first item or entry of the root.
+use Rattle.std.proofs.Common.{◌≡◌, ◌≢◌, ℕ, ◌⊎◌, Bool, true, false, List, [], ◌∷◌, ◌++◌, map, Some, None, refl, sym, ap, subst, ◌∙◌, inl, inr}
+use Rattle.std.proofs.lemmas.Option.{same_Some}
+use mathlib.Core.List.{head-eq_of_cons-eq, tail-eq_of_cons-eq}
+use Rattle.yq_scalar.specs.Tree as tree
+use Rattle.yq_scalar.specs.Tree.{Label, Node, alias, scalar, list, Children, none, child, children_of}
+use Rattle.yq_scalar.specs.Paths as paths
+use Rattle.yq_scalar.specs.Paths.{node_at}
+use Rattle.yq_meaning.specs.declared.refusal.Refusal.TheVariants.{NotASequence}
+use Rattle.yq_meaning.specs.Judgement.{Judgement, gives, and_then}
+use Rattle.yq_meaning.specs.Matching.{Found, in_scalar, key_step, index_step}
+use Rattle.yq_program.specs.Program.{Step, key, index, each, Condition, Stage, path, select}
+use Rattle.yq_meaning.specs.Conditions.{holds}
+use Rattle.yq_meaning.specs.Deeds.{step_to}
+use Rattle.yq_meaning.specs.Pipes.{kept, select_on, stage_on, pipe_on, places}
+use Rattle.yq_meaning.specs.Places.{Place, root_place, child_place, for_each, miss, found_place, stepped, all_steps, step_there, step_from, step_on, in_turn, walk}
+use Rattle.yq_meaning.specs.PlacesApart.{IsBeforeAll, IsIn}
+use Rattle.yq_scalar.specs.PathOrder.{Before}
+use Rattle.yq_scalar.specs.Shapes.{AreItems, AreEntries, IsTree}
+use Rattle.yq_meaning.proofs.JudgementLaws.{then_gives, gives_same}
+use Rattle.yq_meaning.proofs.PathLaws.{parts_differ}
+use Rattle.yq_meaning.proofs.GoodPlaces.{LieIn, AreSound, LeadsSo, AreGood, each_good}
+use Rattle.yq_meaning.proofs.ChildPlaces.{StepsBefore, StepsApart, items_apart, entries_apart}
+use Rattle.yq_plans.proofs.updates.StepPlaces.{leads_step}
+use Rattle.yq_plans.proofs.updates.PipePlaces.{leads_select, stage_good}
+
+-- the step to the first item or entry of a root
+abbrev pub IsFirstStep : Node → paths.Step → Type 0
+IsFirstStep root s = (label : Label) × (n : Node) × (cs : Children) × (children_of root ≡ child label n cs) × (step_to 0 label ≡ s)
+
+-- none of these places is at the path of that one step
+abbrev pub NoPlaceAt : paths.Step → List Place → Type 0
+NoPlaceAt s [] = Unit {0}
+NoPlaceAt s (p ∷ ps) = (p.path ≢ s ∷ []) × NoPlaceAt s ps
+
+-- none but perhaps the first
+abbrev pub NoPlaceLater : paths.Step → List Place → Type 0
+NoPlaceLater s [] = Unit {0}
+NoPlaceLater s (p ∷ ps) = NoPlaceAt s ps
+
+no_later : (s : paths.Step) (ps : List Place) → NoPlaceAt s ps → NoPlaceLater s ps
+no_later s [] h = tt
+no_later s (p ∷ ps) h = h.1
+
+no_join : (s : paths.Step) (ps qs : List Place) → NoPlaceAt s ps → NoPlaceAt s qs → NoPlaceAt s (ps ++ qs)
+no_join s [] qs h k = k
+no_join s (p ∷ ps) qs h k = (h.0, no_join s ps qs h.1 k)
+
+later_join : (s : paths.Step) (ps qs : List Place) → NoPlaceLater s ps → NoPlaceAt s qs → NoPlaceLater s (ps ++ qs)
+later_join s [] qs h k = no_later s qs k
+later_join s (p ∷ ps) qs h k = no_join s ps qs h k
+
+no_nil : (p : List paths.Step) (t : paths.Step) → p ++ t ∷ [] ≡ [] → ⊥
+no_nil [] t e = cc
+no_nil (s ∷ p) t e = cc
+
+front_nil : (p r : List paths.Step) → p ++ r ≡ [] → p ≡ []
+front_nil [] r e = refl
+front_nil (s ∷ p) r e = absurd (cc)
+
+-- what lies below a place that isn't there, and isn't the root, isn't there
+lying_other : (s : paths.Step) (x p : List paths.Step) (r : List paths.Step) → Before x p → p ≢ s ∷ [] → p ++ r ≢ s ∷ []
+lying_other s [] p r b d e = b
+lying_other s (y ∷ x) [] r b d e = b
+lying_other s (y ∷ x) (t ∷ p) r b d e =
+    d (ap (λ (u : paths.Step). u ∷ p) (head-eq_of_cons-eq e) ∙ ap (λ (q : List paths.Step). s ∷ q) (front_nil p r (tail-eq_of_cons-eq e)))
+
+lying_none : (s : paths.Step) (x p : List paths.Step) (qs : List Place) → Before x p → p ≢ s ∷ [] → LieIn p qs → NoPlaceAt s qs
+lying_none s x p [] b d l = tt
+lying_none s x p (q ∷ qs) b d l = ((λ e. lying_other s x p l.0.0 b d (sym l.0.1 ∙ e)), lying_none s x p qs b d l.1)
+
+abbrev LeadsFirst : Node → paths.Step → (Place → Judgement (List Place)) → Type 0
+LeadsFirst root s f = (p : Place) (qs : List Place) → IsTree p.node → IsIn root p → f p ≡ gives qs → NoPlaceLater s qs
+
+each_at_none : (root : Node) (f : Place → Judgement (List Place)) → LeadsSo root f → (s : paths.Step) (x : List paths.Step) (ps qs : List Place) → IsBeforeAll x ps → AreSound root ps → NoPlaceAt s ps →
+    for_each f ps ≡ gives qs → NoPlaceAt s qs
+each_at_none root f so s x [] qs b t n h = subst (NoPlaceAt s) (gives_same h) tt
+each_at_none root f so s x (p ∷ ps) qs b t n h =
+    let one = then_gives (λ first. and_then (λ others. gives (first ++ others)) (for_each f ps)) (f p) qs h in
+    let two = then_gives (λ (others : List Place). gives (one.0 ++ others)) (for_each f ps) qs one.2 in
+    subst (NoPlaceAt s) (gives_same two.2)
+    (no_join s one.0 two.0 (lying_none s x p.path one.0 b.0 n.0 (so p one.0 t.0.0 t.0.1 one.1).inside) (each_at_none root f so s x ps two.0 b.1 t.1 n.1 two.1))
+
+each_first : (root : Node) (f : Place → Judgement (List Place)) → LeadsSo root f → (s : paths.Step) → LeadsFirst root s f → (ps qs : List Place) → AreGood root ps → NoPlaceLater s ps → for_each f ps ≡ gives qs → NoPlaceLater s qs
+each_first root f so s first [] qs good n h = subst (NoPlaceLater s) (gives_same h) tt
+each_first root f so s first (p ∷ ps) qs good n h =
+    let one = then_gives (λ first. and_then (λ others. gives (first ++ others)) (for_each f ps)) (f p) qs h in
+    let two = then_gives (λ (others : List Place). gives (one.0 ++ others)) (for_each f ps) qs one.2 in
+    subst (NoPlaceLater s) (gives_same two.2)
+    (later_join s one.0 two.0 (first p one.0 good.sound.0.0 good.sound.0.1 one.1) (each_at_none root f so s p.path ps two.0 good.apart.0 good.sound.1 n two.1))
+
+-- of the children of the root, the first one is first
+root_children : (s : paths.Step) (p : Place) (xs : List (paths.Step × Node)) → p.path ≡ [] → StepsBefore s xs → NoPlaceAt s (map (child_place p) xs)
+root_children s p [] is h = tt
+root_children s p (x ∷ xs) is h =
+    ((λ e. parts_differ s x.0 h.0 (head-eq_of_cons-eq (ap (λ (q : List paths.Step). q ++ x.0 ∷ []) (sym is) ∙ e))), root_children s p xs is h.1)
+
+-- of those of another node none is there
+other_children : (s t : paths.Step) (r : List paths.Step) (p : Place) (xs : List (paths.Step × Node)) → p.path ≡ t ∷ r → NoPlaceAt s (map (child_place p) xs)
+other_children s t r p [] is = tt
+other_children s t r p (x ∷ xs) is =
+    ((λ e. no_nil r x.0 (tail-eq_of_cons-eq (ap (λ (q : List paths.Step). q ++ x.0 ∷ []) (sym is) ∙ e))), other_children s t r p xs is)
+
+first_children : (root : Node) (s : paths.Step) → IsFirstStep root s → (p : Place) → IsIn root p → (cs : Children) → children_of p.node ≡ cs → AreItems cs ⊎ AreEntries cs → NoPlaceLater s (map (child_place p) (stepped 0 cs))
+first_children root s first p at none is kind = tt
+first_children root s first p at (child label n cs) is kind = go p.path refl
+  where
+    apart : AreItems (child label n cs) ⊎ AreEntries (child label n cs) → StepsApart (stepped 0 (child label n cs))
+    apart (inl h) = items_apart 0 (child label n cs) h
+    apart (inr h) = entries_apart 0 (child label n cs) h
+
+    label_same : (l k : Label) (m o : Node) (ds es : Children) → child l m ds ≡ child k o es → l ≡ k
+    label_same l k m o ds es e = cc
+
+    go : (x : List paths.Step) → p.path ≡ x → NoPlaceAt s (map (child_place p) (stepped 1 cs))
+    go [] top =
+        let root_is : root ≡ p.node = same_Some _ _ (ap (λ (x : List paths.Step). node_at x root) (sym top) ∙ at) in
+        let same : first.0 ≡ label = label_same first.0 label first.1 n first.2 cs (sym first.3 ∙ (ap children_of root_is ∙ is)) in
+        let step : step_to 0 label ≡ s = ap (step_to 0) (sym same) ∙ first.4 in
+        root_children s p (stepped 1 cs) top (subst (λ (t : paths.Step). StepsBefore t (stepped 1 cs)) step (apart kind).0)
+    go (t ∷ r) top = other_children s t r p (stepped 1 cs) top
+
+miss_later : (s : paths.Step) (step : Step) (p : Place) → NoPlaceLater s (miss step p)
+miss_later s (key k) p = tt
+miss_later s (index i) p = tt
+miss_later s each p = tt
+
+found_later : (s : paths.Step) (step : Step) (p : Place) (j : Judgement Found) (qs : List Place) → and_then (λ x. gives (found_place step p x)) j ≡ gives qs → NoPlaceLater s qs
+found_later s step p j qs h =
+    let x = then_gives (λ (x : Found). gives (found_place step p x)) j qs h in subst (NoPlaceLater s) (gives_same x.2) (go x.0)
+  where
+    go : (x : Found) → NoPlaceLater s (found_place step p x)
+    go None = miss_later s step p
+    go (Some y) = tt
+
+all_later : (root : Node) (s : paths.Step) → IsFirstStep root s → (p : Place) (n : Node) → p.node ≡ n → IsTree p.node → IsIn root p → (qs : List Place) → and_then (λ xs. gives (map (child_place p) xs))
+    (all_steps n) ≡ gives qs → NoPlaceLater s qs
+all_later root s first p (alias name) is tree at qs h = absurd (cc)
+all_later root s first p (scalar anchor kind text) is tree at qs h =
+    let x = then_gives (λ (xs : List (paths.Step × Node)). gives (map (child_place p) xs)) (all_steps (scalar anchor kind text)) qs h in
+    let y = then_gives (λ (nothing : Found). gives []) (in_scalar NotASequence kind) x.0 x.1 in
+    subst (NoPlaceLater s) (gives_same x.2) (subst (λ (xs : List (paths.Step × Node)). NoPlaceLater s (map (child_place p) xs)) (gives_same y.2) tt)
+all_later root s first p (list anchor cs) is tree at qs h =
+    subst (NoPlaceLater s) (gives_same h) (first_children root s first p at cs (ap children_of is) (inl (subst IsTree is tree).0))
+all_later root s first p (tree.map anchor cs) is tree at qs h =
+    subst (NoPlaceLater s) (gives_same h) (first_children root s first p at cs (ap children_of is) (inr (subst IsTree is tree).0))
+
+step_first : (root : Node) (s : paths.Step) → IsFirstStep root s → (step : Step) → LeadsFirst root s (step_on step)
+step_first root s first step p qs tree at h = go p.missing h
+  where
+    there : (step : Step) → step_there step p ≡ gives qs → NoPlaceLater s qs
+    there (key k) e = found_later s (key k) p (key_step k p.node) qs e
+    there (index i) e = found_later s (index i) p (index_step i p.node) qs e
+    there each e = all_later root s first p p.node refl tree at qs e
+
+    go : (missing : List Step) → step_from missing step p ≡ gives qs → NoPlaceLater s qs
+    go [] e = there step e
+    go (m ∷ ms) e = subst (NoPlaceLater s) (gives_same e) (miss_later s step p)
+
+select_first : (root : Node) (s : paths.Step) (doc : ℕ) (c : Condition) → LeadsFirst root s (select_on doc c)
+select_first root s doc c p qs tree at h =
+    let x = then_gives (λ (b : Bool). gives (kept p b)) (holds doc c p) qs h in subst (NoPlaceLater s) (gives_same x.2) (go x.0)
+  where
+    go : (b : Bool) → NoPlaceLater s (kept p b)
+    go true = tt
+    go false = tt
+
+walk_first : (root : Node) (s : paths.Step) → IsFirstStep root s → (ss : List Step) (ps qs : List Place) → AreGood root ps → NoPlaceLater s ps → walk ss ps ≡ gives qs → NoPlaceLater s qs
+walk_first root s first [] ps qs good n h = subst (NoPlaceLater s) (gives_same h) n
+walk_first root s first (t ∷ ss) ps qs good n h =
+    let x = then_gives (in_turn (λ u. for_each (step_on u)) ss) (for_each (step_on t) ps) qs h in
+    walk_first root s first ss x.0 qs (each_good root (step_on t) (leads_step root t) ps x.0 good x.1) (each_first root (step_on t) (leads_step root t) s (step_first root s first t) ps x.0 good n x.1) x.2
+
+stage_first : (root : Node) (s : paths.Step) → IsFirstStep root s → (doc : ℕ) (stage : Stage) (ps qs : List Place) → AreGood root ps → NoPlaceLater s ps → stage_on doc stage ps ≡ gives qs → NoPlaceLater s qs
+stage_first root s first doc (path steps) ps qs good n h = walk_first root s first steps ps qs good n h
+stage_first root s first doc (select c) ps qs good n h =
+    each_first root (select_on doc c) (leads_select root doc c) s (select_first root s doc c) ps qs good n h
+
+pipe_first : (root : Node) (s : paths.Step) → IsFirstStep root s → (doc : ℕ) (stages : List Stage) (ps qs : List Place) → AreGood root ps → NoPlaceLater s ps → pipe_on doc stages ps ≡ gives qs → NoPlaceLater s qs
+pipe_first root s first doc [] ps qs good n h = subst (NoPlaceLater s) (gives_same h) n
+pipe_first root s first doc (stage ∷ stages) ps qs good n h =
+    let x = then_gives (in_turn (stage_on doc) stages) (stage_on doc stage ps) qs h in
+    pipe_first root s first doc stages x.0 qs (stage_good root doc stage ps x.0 good x.1) (stage_first root s first doc stage ps x.0 good n x.1) x.2
+
+-- the first item or entry of the root comes first
+pub places_first : (doc : ℕ) (pipe : List Stage) (root : Node) (ps : List Place) (s : paths.Step) → IsTree root → IsFirstStep root s → places doc pipe root ≡ gives ps → NoPlaceLater s ps
+places_first doc pipe root ps s tree first h =
+    pipe_first root s first doc pipe (root_place root ∷ []) ps (record { apart = (tt, tt); sound = ((tree, refl), tt) }) tt h

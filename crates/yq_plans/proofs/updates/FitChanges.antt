@@ -1,0 +1,219 @@
+-- Each operation of a plan fits at its turn.
+use Rattle.std.proofs.Common.{◌≡◌, ℕ, suc, Bool, true, false, cond, ◌&&◌, ◌||◌, List, [], ◌∷◌, ◌++◌, length, Option, Some, None, is_some, refl, sym, ap, subst, ◌∙◌, inl, inr}
+use Rattle.std.proofs.lemmas.Bool.{and_parts, or_parts}
+use Rattle.std.specs.List.{list_any}
+use Rattle.yq_scalar.specs.Tree as tree
+use Rattle.yq_scalar.specs.Tree.{Node, alias, scalar, list, Children, none, child}
+use Rattle.yq_scalar.specs.Paths as paths
+use Rattle.yq_scalar.specs.Paths.{To, child_at, node_at}
+use Rattle.yq_scalar.specs.Anchors.{names_of}
+use Rattle.yq_program.specs.declared.program.CommentPlace.{CommentPlace}
+use Rattle.yq_program.specs.declared.program.Operator.TheVariants as operator
+use Rattle.yq_meaning.specs.declared.refusal.Refusal.TheVariants.{IndexOutOfRange, NoPlaceForComment, AnchorInUse, TooDeep, KeyTooLong}
+use Rattle.yq_meaning.specs.Judgement.{Judgement, gives, refuses, and_then}
+use Rattle.yq_meaning.specs.Changes.{appends, overwrites, Change, replaces, adds, sets_comment, Changed, Room, is_long, has_long_key, is_deep, nested, made, put_below, put_at, addition, additions, added, add_below, add_at}
+use Rattle.yq_meaning.specs.Changes.{remove_below, remove_at, is_there, comment_at, is_too_long, is_too_deep, is_used_inside, is_used_in, takes_used, allowed, all_allowed, at_each, with_value, changes_at, left_of, changes_in}
+use Rattle.yq_meaning.specs.Changes.{is_comment, has_comment, value_in}
+use Rattle.yq_plans.proofs.updates.Mentions.{HasNoAlias, IsPure}
+use Rattle.yq_meaning.specs.Pipes.{places}
+use Rattle.yq_meaning.specs.Places.{Place, root_place}
+use Rattle.yq_meaning.specs.PlacesApart.{IsIn}
+use Rattle.yq_meaning.specs.RightValues.{is_null, as_items, sum, right_value}
+use Rattle.yq_scalar.specs.Shapes.{IsTree}
+use Rattle.yq_program.specs.Program.{is_index, SumHolds, UpdatesHold, Step, key, index, each, Term, Update, assign, delete, comment}
+use Rattle.yq_plans.proofs.updates.Aliases.{AddNone, WritesNone, AllWriteNone}
+use Rattle.yq_plans.proofs.updates.AllowedChanges.{IsMissed, AreMissed, places_missed, list_fits, entries_fit}
+use Rattle.yq_plans.proofs.updates.FitsAtTurn.{FitAdds, MayChange, MayChangeAll}
+use Rattle.yq_meaning.proofs.JudgementLaws.{then_gives, gives_same}
+use Rattle.yq_meaning.proofs.GoodPlaces.{AreSound}
+use Rattle.yq_plans.proofs.updates.PipePlaces.{places_apart}
+use Rattle.yq_plans.proofs.updates.Pure.{HaveNoAlias}
+use Rattle.yq_plans.proofs.updates.SumValues.{items_items, items_free, sum_pure, right_pure}
+
+-- ---- what is allowed
+
+-- nothing refuses a change
+abbrev IsFree : Node → Changed → Type 0
+IsFree root c = (is_too_long c.1 ≡ false) × (is_too_deep (length c.0) c.1 ≡ false) × (takes_used root c.0 c.1 ≡ false)
+
+-- a change may be made, if nothing refuses it
+abbrev IfFree : Room → Node → Changed → Type 0
+IfFree room root c = WritesNone c.1 × (IsFree root c → MayChange room root c)
+
+abbrev EachIfFree : Room → Node → List Changed → Type 0
+EachIfFree room root [] = Unit {0}
+EachIfFree room root (c ∷ cs) = IfFree room root c × EachIfFree room root cs
+
+-- changes that may be made
+abbrev pub AreFit : Room → Node → List Changed → Type 0
+AreFit room root cs = MayChangeAll room root cs × AllWriteNone cs
+
+fit_join : (room : Room) (root : Node) (cs ds : List Changed) → AreFit room root cs → AreFit room root ds → AreFit room root (cs ++ ds)
+fit_join room root [] ds h k = k
+fit_join room root (c ∷ cs) ds h k = let rest = fit_join room root cs ds (h.0.1, h.1.1) k in ((h.0.0, rest.0), (h.1.0, rest.1))
+
+allowed_free : (root : Node) (c d : Changed) → allowed root c ≡ gives d → (c ≡ d) × IsFree root c
+allowed_free root c d h = go (is_too_long c.1) (is_too_deep (length c.0) c.1) (takes_used root c.0 c.1) refl refl refl h
+  where
+    go : (x y z : Bool) → is_too_long c.1 ≡ x → is_too_deep (length c.0) c.1 ≡ y → takes_used root c.0 c.1 ≡ z →
+        cond x (refuses KeyTooLong) (cond y (refuses TooDeep) (cond z (refuses AnchorInUse) (gives c))) ≡ gives d → (c ≡ d) × IsFree root c
+    go true y z i j k e = absurd (cc)
+    go false true z i j k e = absurd (cc)
+    go false false true i j k e = absurd (cc)
+    go false false false i j k e = (gives_same e, (i, j, k))
+
+all_free : (room : Room) (root : Node) (cs ds : List Changed) → EachIfFree room root cs → all_allowed root cs ≡ gives ds → AreFit room root ds
+all_free room root [] ds f h = subst (AreFit room root) (gives_same h) (tt, tt)
+all_free room root (c ∷ cs) ds f h =
+    let one = then_gives (λ first. and_then (λ others. gives (first ++ others)) (all_allowed root cs)) (and_then (λ d. gives (d ∷ [])) (allowed root c)) ds h in
+    let first = then_gives (λ (d : Changed). gives (d ∷ [])) (allowed root c) one.0 one.1 in
+    let two = then_gives (λ (others : List Changed). gives (one.0 ++ others)) (all_allowed root cs) ds one.2 in
+    let free = allowed_free root c first.0 first.1 in
+    let single : AreFit room root (c ∷ []) = ((f.0.1 free.1, tt), (f.0.0, tt)) in
+    subst (AreFit room root) (gives_same two.2)
+    (fit_join room root one.0 two.0 (subst (AreFit room root) (ap (λ (d : Changed). d ∷ []) free.0 ∙ gives_same first.2) single) (all_free room root cs two.0 f.1 two.1))
+
+-- what is changed at a place may be made
+abbrev SoFits : Room → Node → (Place → Judgement (List Changed)) → Type 0
+SoFits room root f = (p : Place) (cs : List Changed) → IsTree p.node → IsIn root p → IsMissed p.missing p.node → f p ≡ gives cs → EachIfFree room root cs
+
+each_fit : (room : Room) (root : Node) (f : Place → Judgement (List Changed)) → SoFits room root f → (ps : List Place) (cs : List Changed) → AreSound root ps → AreMissed ps → at_each root f ps ≡ gives cs → AreFit room root cs
+each_fit room root f so [] cs s m h = subst (AreFit room root) (gives_same h) (tt, tt)
+each_fit room root f so (p ∷ ps) cs s m h =
+    let one = then_gives (λ first. and_then (λ others. gives (first ++ others)) (at_each root f ps)) (and_then (all_allowed root) (f p)) cs h in
+    let two = then_gives (λ (others : List Changed). gives (one.0 ++ others)) (at_each root f ps) cs one.2 in
+    let made = then_gives (all_allowed root) (f p) one.0 one.1 in
+    subst (AreFit room root) (gives_same two.2)
+    (fit_join room root one.0 two.0 (all_free room root made.0 one.0 (so p made.0 s.0.0 s.0.1 m.0 made.1) made.2) (each_fit room root f so ps two.0 s.1 m.1 two.1))
+
+-- ---- at one place
+
+puts_fit : (room : Room) (root : Node) (p : Place) (v : Node) → IsIn root p → IsPure v → IfFree room root (p.path, replaces v)
+puts_fit room root p v at pure = (pure.1, λ f. ((pure.0, f.0, f.1), (p.node, at, ap (is_used_inside (names_of root)) (sym at) ∙ f.2)))
+
+nested_free : (ms : List Step) (v : Node) → HasNoAlias v → HasNoAlias (nested ms v)
+nested_free [] v free = free
+nested_free (key k ∷ ms) v free = λ a m. elim m [ inl e ↦ nested_free ms v free a e | inr e ↦ e ]
+nested_free (index i ∷ ms) v free = nested_free ms v free
+nested_free (each ∷ ms) v free = nested_free ms v free
+
+nested_tree : (ms : List Step) (v : Node) → IsTree v → IsTree (nested ms v)
+nested_tree [] v h = h
+nested_tree (key k ∷ ms) v h = (((k, refl, tt), tt), (nested_tree ms v h, tt))
+nested_tree (index i ∷ ms) v h = nested_tree ms v h
+nested_tree (each ∷ ms) v h = nested_tree ms v h
+
+nested_pure : (ms : List Step) (v : Node) → IsPure v → IsPure (nested ms v)
+nested_pure ms v h = (nested_tree ms v h.0, nested_free ms v h.1)
+
+made_fit : (room : Room) (root : Node) (p : Place) (v : Node) (m : Step) (ms : List Step) (n : Node) → p.node ≡ n → IsIn root p → IsMissed (m ∷ ms) n → IsPure v → IfFree room root (p.path, made n m ms v)
+made_fit room root p v m ms (alias name) is at miss pure = puts_fit room root p (nested (m ∷ ms) v) at (nested_pure (m ∷ ms) v pure)
+made_fit room root p v m ms (scalar anchor kind text) is at miss pure = puts_fit room root p (nested (m ∷ ms) v) at (nested_pure (m ∷ ms) v pure)
+made_fit room root p v m ms (list anchor cs) is at miss pure = puts_fit room root p (nested (m ∷ ms) v) at (nested_pure (m ∷ ms) v pure)
+made_fit room root p v (key k) ms (tree.map anchor cs) is at miss pure =
+    ((nested_free ms v pure.1, tt), λ f. (tree.map anchor cs, at ∙ ap Some is, (added_one f)))
+  where
+    added_one : IsFree root (p.path, adds (appends (Some k) (nested ms v) ∷ [])) → FitAdds root p.path (tree.map anchor cs) (appends (Some k) (nested ms v) ∷ [])
+    added_one f =
+        let long = or_parts (is_long (Some k)) (has_long_key (nested ms v)) (or_parts (is_long (Some k) || has_long_key (nested ms v)) false f.0).0 in
+        ((long.0, (nested_tree ms v pure.0, long.1, (or_parts (is_deep (suc (length p.path)) (nested ms v)) false f.1).0), (anchor, cs, refl, miss)), tt)
+made_fit room root p v (index i) ms (tree.map anchor cs) is at miss pure = absurd miss
+made_fit room root p v each ms (tree.map anchor cs) is at miss pure = absurd miss
+
+put_fits : (room : Room) (root : Node) (v : Node) → IsPure v → SoFits room root (λ p. put_at p v)
+put_fits room root v pure p cs tree at miss h =
+    let x = then_gives (λ (c : Change). gives ((p.path, c) ∷ [])) (put_below p.node p.missing v) cs h in
+    subst (EachIfFree room root) (gives_same x.2) (go p.missing miss x.0 x.1, tt)
+  where
+    go : (missing : List Step) → IsMissed missing p.node → (c : Change) → put_below p.node missing v ≡ gives c → IfFree room root (p.path, c)
+    go [] m c e = subst (λ (d : Change). IfFree room root (p.path, d)) (gives_same e) (puts_fit room root p v at pure)
+    go (y ∷ ys) m c e = by (list_any is_index (y ∷ ys)) e
+      where
+        by : (b : Bool) → cond b (refuses IndexOutOfRange) (gives (made p.node y ys v)) ≡ gives c → IfFree room root (p.path, c)
+        by true k = absurd (cc)
+        by false k = subst (λ (d : Change). IfFree room root (p.path, d)) (gives_same k) (made_fit room root p v y ys p.node refl at m pure)
+
+addition_value : (cs : Children) (o : Option (List ℕ)) (v : Node) → value_in (addition cs o v) ≡ v
+addition_value cs None v = refl
+addition_value cs (Some k) v = go (is_some (child_at (To k) cs))
+  where
+    go : (b : Bool) → value_in (cond b (overwrites k v) (appends (Some k) v)) ≡ v
+    go true = refl
+    go false = refl
+
+adds_none : (cs ds : Children) → HaveNoAlias ds → AddNone (additions cs ds)
+adds_none cs none free = tt
+adds_none cs (child label v ds) free = (subst HasNoAlias (sym (addition_value cs label.key v)) (λ a m. free a (inl m)), adds_none cs ds (λ a m. free a (inr m)))
+
+added_fit : (room : Room) (root : Node) (p : Place) (v : Node) (n : Node) → p.node ≡ n → IsIn root p → IsPure v → (c : Change) → added n v ≡ gives c → IfFree room root (p.path, c)
+added_fit room root p v (alias name) is at pure c h = absurd (cc)
+added_fit room root p v (scalar anchor kind text) is at pure c h =
+    let x = then_gives (λ (w : Node). gives (replaces w)) (sum (scalar None kind text) v) c h in
+    subst (λ (d : Change). IfFree room root (p.path, d)) (gives_same x.2) (puts_fit room root p x.0 at (sum_pure (scalar None kind text) v x.0 (tt, λ a m. m) pure x.1))
+added_fit room root p v (list anchor cs) is at pure c h =
+    subst (λ (d : Change). IfFree room root (p.path, d)) (gives_same h)
+    (adds_none none (as_items v) (items_free v pure).1, λ f. (list anchor cs, at ∙ ap Some is, list_fits root p.path anchor cs (as_items v) (items_items v pure) (items_free v pure).0 f))
+added_fit room root p (alias name) (tree.map anchor cs) is at pure c h = absurd (cc)
+added_fit room root p (scalar a k t) (tree.map anchor cs) is at pure c h = absurd (cc)
+added_fit room root p (list a ds) (tree.map anchor cs) is at pure c h = absurd (cc)
+added_fit room root p (tree.map a ds) (tree.map anchor cs) is at pure c h =
+    subst (λ (d : Change). IfFree room root (p.path, d)) (gives_same h)
+    (adds_none cs ds (λ b m. pure.1 b m), λ f. (tree.map anchor cs, at ∙ ap Some is, entries_fit root p.path anchor anchor cs (at ∙ ap Some is) ds cs pure.0.0 pure.0.1 (λ k not_new. refl) f))
+
+add_fits : (room : Room) (root : Node) (v : Node) → IsPure v → SoFits room root (λ p. add_at p v)
+add_fits room root v pure p cs tree at miss h = go (is_null v) h
+  where
+    below : (missing : List Step) → p.missing ≡ missing → add_below missing p v ≡ gives cs → EachIfFree room root cs
+    below [] is e =
+        let x = then_gives (λ (c : Change). gives ((p.path, c) ∷ [])) (added p.node v) cs e in
+        subst (EachIfFree room root) (gives_same x.2) (added_fit room root p v p.node refl at pure x.0 x.1, tt)
+    below (m ∷ ms) is e = put_fits room root v pure p cs tree at miss e
+
+    go : (b : Bool) → cond b (gives []) (add_below p.missing p v) ≡ gives cs → EachIfFree room root cs
+    go true e = subst (EachIfFree room root) (gives_same e) tt
+    go false e = below p.missing refl e
+
+remove_fits : (room : Room) (root : Node) → SoFits room root remove_at
+remove_fits room root p cs tree at miss h = go p.missing p.path refl h
+  where
+    go : (missing : List Step) (x : List paths.Step) → p.path ≡ x → remove_below missing x ≡ gives cs → EachIfFree room root cs
+    go (m ∷ ms) x is e = subst (EachIfFree room root) (gives_same e) tt
+    go [] [] is e = absurd (cc)
+    go [] (s ∷ x) is e =
+        let there : node_at (s ∷ x) root ≡ Some p.node = ap (λ (y : List paths.Step). node_at y root) (sym is) ∙ at in
+        subst (EachIfFree room root) (gives_same e) ((tt, λ f. (tt, (p.node, there, ap (is_used_in (names_of root)) (sym there) ∙ f.2))), tt)
+
+say_fits : (room : Room) (root : Node) (place : CommentPlace) (text : List ℕ) → is_comment place text ≡ true → SoFits room root (comment_at room place text)
+say_fits room root place text good p cs tree at miss h = go (is_there p.missing && room.has place p.path) refl h
+  where
+    go : (b : Bool) → (is_there p.missing && room.has place p.path) ≡ b → cond b (gives ((p.path, sets_comment place text) ∷ [])) (refuses NoPlaceForComment) ≡ gives cs → EachIfFree room root cs
+    go true is e = subst (EachIfFree room root) (gives_same e) ((tt, λ f. ((and_parts (is_there p.missing) (room.has place p.path) is).1, good, (p.node, at))), tt)
+    go false is e = absurd (cc)
+
+-- ---- of an update
+
+modify_fits : (room : Room) (root : Node) (doc : ℕ) (right : List Term) → SumHolds right → SoFits room root (λ p. and_then (put_at p) (right_value doc right p))
+modify_fits room root doc right free p cs tree at miss h =
+    let x = then_gives (put_at p) (right_value doc right p) cs h in put_fits room root x.0 (right_pure root doc p tree at right x.0 free x.1) p cs tree at miss x.2
+
+with_fit : (room : Room) (root : Node) (right : Judgement Node) (f : Place → Node → Judgement (List Changed)) → ((v : Node) → right ≡ gives v → SoFits room root (λ p. f p v)) →
+    (ps : List Place) (cs : List Changed) → AreSound root ps → AreMissed ps → with_value root right f ps ≡ gives cs → AreFit room root cs
+with_fit room root right f so [] cs s m h = subst (AreFit room root) (gives_same h) (tt, tt)
+with_fit room root right f so (p ∷ ps) cs s m h =
+    let x = then_gives (λ (v : Node). at_each root (λ q. f q v) (p ∷ ps)) right cs h in each_fit room root (λ q. f q x.0) (so x.0 x.1) (p ∷ ps) cs s m x.2
+
+changes_fit : (doc : ℕ) (room : Room) (root : Node) (u : Update) → IsTree root → UpdatesHold (u ∷ []) → has_comment u ≡ true → (ps : List Place) (cs : List Changed) → AreSound root ps → AreMissed ps →
+    changes_at doc room root u ps ≡ gives cs → AreFit room root cs
+changes_fit doc room root (assign left operator.Set right) tree pure good ps cs s m h =
+    with_fit room root (right_value doc right (root_place root)) put_at (λ v is. put_fits room root v (right_pure root doc (root_place root) tree refl right v pure.0 is)) ps cs s m h
+changes_fit doc room root (assign left operator.Modify right) tree pure good ps cs s m h = each_fit room root (λ p. and_then (put_at p) (right_value doc right p)) (modify_fits room root doc right pure.0) ps cs s m h
+changes_fit doc room root (assign left operator.Add right) tree pure good ps cs s m h =
+    with_fit room root (right_value doc right (root_place root)) add_at (λ v is. add_fits room root v (right_pure root doc (root_place root) tree refl right v pure.0 is)) ps cs s m h
+changes_fit doc room root (delete left) tree pure good ps cs s m h = each_fit room root remove_at (remove_fits room root) ps cs s m h
+changes_fit doc room root (comment left place text) tree pure good ps cs s m h = each_fit room root (comment_at room place text) (say_fits room root place text good) ps cs s m h
+
+-- what an update changes in a tree may be made there
+pub update_fit : (u : Update) (doc : ℕ) (room : Room) (root : Node) (cs : List Changed) → IsTree root → UpdatesHold (u ∷ []) → has_comment u ≡ true → changes_in u doc room root ≡ gives cs → AreFit room root cs
+update_fit u doc room root cs tree pure good h =
+    let x = then_gives (changes_at doc room root u) (places doc (left_of u) root) cs h in
+    changes_fit doc room root u tree pure good x.0 cs (places_apart doc (left_of u) root x.0 tree x.1).sound (places_missed doc (left_of u) root x.0 x.1) x.2

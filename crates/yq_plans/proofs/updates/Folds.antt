@@ -1,0 +1,266 @@
+-- Operations on a root, one after the other, make all changes at once.
+use Rattle.std.proofs.Common.{◌≡◌, ℕ, Bool, true, false, cond, List, [], ◌∷◌, ◌++◌, map, reverse, Some, refl, sym, ap, subst, ◌∙◌, inl, inr, append-nil, append_assoc}
+use Rattle.std.proofs.lemmas.List.{reverse-append, reverse-reverse}
+use Rattle.yq_scalar.specs.Tree.{Node}
+use Rattle.yq_scalar.specs.Paths.{Step}
+use Rattle.yq_meaning.specs.Changes.{Change, replaces, adds, sets_comment, Changed}
+use Rattle.yq_meaning.specs.Deeds.{Deed, becomes, line, head, goes, Deeds, at_once, same_step, same_path, and_at, done_by}
+use Rattle.yq_meaning.specs.Meaning.{placed_deed, deed_of}
+use Rattle.yq_meaning.specs.Operations.{Operation}
+use Rattle.yq_meaning.specs.Plans.{change_ops, ops_of, is_removal, ordered}
+use Rattle.yq_program.specs.Program.{Update, assign, delete, comment}
+use Rattle.yq_scalar.specs.PathOrder.{Before, Apart}
+use Rattle.yq_scalar.specs.Shapes.{IsTree}
+use Rattle.yq_meaning.specs.Changes as changes
+use Rattle.yq_program.specs.declared.program.CommentPlace.TheVariants as comments
+use Rattle.yq_plans.proofs.updates.AtOnce.{one_more}
+use Rattle.yq_meaning.proofs.PathLaws.{bytes_same, parts_not}
+use Rattle.yq_plans.proofs.updates.Spares.{idle, IsSpared, Spares, deeds_same}
+use Rattle.yq_plans.proofs.updates.OneAt.{roots_after, roots_join, change_after}
+use Rattle.std.proofs.lemmas.Bool.{false≢true, eqb-true, and_parts}
+use Rattle.yq_scalar.specs.Paths.{To, Nth}
+
+-- ---- which path is which
+
+step_same : (s t : Step) → same_step s t ≡ true → s ≡ t
+step_same (To k) (To j) h = ap To (bytes_same k j h)
+step_same (To k) (Nth n) h = absurd (false≢true h)
+step_same (Nth m) (To j) h = absurd (false≢true h)
+step_same (Nth m) (Nth n) h = ap Nth (eqb-true m n h)
+
+pub path_same : (p q : List Step) → same_path p q ≡ true → p ≡ q
+path_same [] [] h = refl
+path_same [] (t ∷ q) h = absurd (false≢true h)
+path_same (s ∷ p) [] h = absurd (false≢true h)
+path_same (s ∷ p) (t ∷ q) h =
+    let parts = and_parts (same_step s t) (same_path p q) h in
+    ap (λ (r : Step). r ∷ p) (step_same s t parts.0) ∙ ap (λ (r : List Step). t ∷ r) (path_same p q parts.1)
+
+before_irrefl : (p : List Step) → Before p p → ⊥
+before_irrefl [] h = h
+before_irrefl (s ∷ p) (inl h) = parts_not s h
+before_irrefl (s ∷ p) (inr h) = before_irrefl p h.1
+
+pub apart_irrefl : (p : List Step) → Apart p p → ⊥
+apart_irrefl p (inl h) = before_irrefl p h
+apart_irrefl p (inr h) = before_irrefl p h
+
+pub apart_sym : (p q : List Step) → Apart p q → Apart q p
+apart_sym p q (inl h) = inr h
+apart_sym p q (inr h) = inl h
+
+-- ---- changes whose paths are related
+
+-- a path is so related to that of each change
+abbrev pub ToEach : (List Step → List Step → Type 0) → List Step → List Changed → Type 0
+ToEach R p [] = Unit {0}
+ToEach R p (c ∷ cs) = R p c.0 × ToEach R p cs
+
+-- that of each change is so related to those of later ones
+abbrev pub InPairs : (List Step → List Step → Type 0) → List Changed → Type 0
+InPairs R [] = Unit {0}
+InPairs R (c ∷ cs) = ToEach R c.0 cs × InPairs R cs
+
+to_more : (R : List Step → List Step → Type 0) (p : List Step) (cs ds : List Changed) → ToEach R p cs → ToEach R p ds → ToEach R p (cs ++ ds)
+to_more R p [] ds h k = k
+to_more R p (c ∷ cs) ds h k = (h.0, to_more R p cs ds h.1 k)
+
+pub reverse-cons : {A : Type 0} (x : A) (xs : List A) → reverse (x ∷ xs) ≡ reverse xs ++ x ∷ []
+reverse-cons x xs = reverse-append (x ∷ []) xs
+
+to_reverse : (R : List Step → List Step → Type 0) (p : List Step) (cs : List Changed) → ToEach R p cs → ToEach R p (reverse cs)
+to_reverse R p [] h = tt
+to_reverse R p (c ∷ cs) h = subst (ToEach R p) (sym (reverse-cons c cs)) (to_more R p (reverse cs) (c ∷ []) (to_reverse R p cs h.1) (h.0, tt))
+
+pairs_last : (R : List Step → List Step → Type 0) (cs : List Changed) (c : Changed) → InPairs R cs → ((p : List Step) → R c.0 p → R p c.0) → ToEach R c.0 cs → InPairs R (cs ++ c ∷ [])
+pairs_last R [] c h flip k = (tt, tt)
+pairs_last R (d ∷ ds) c h flip k = (to_more R d.0 ds (c ∷ []) h.0 (flip d.0 k.0, tt), pairs_last R ds c h.1 flip k.1)
+
+pub pairs_reverse : (R : List Step → List Step → Type 0) → ((p q : List Step) → R p q → R q p) → (cs : List Changed) → InPairs R cs → InPairs R (reverse cs)
+pairs_reverse R flip [] h = tt
+pairs_reverse R flip (c ∷ cs) h = subst (InPairs R) (sym (reverse-cons c cs)) (pairs_last R (reverse cs) c (pairs_reverse R flip cs h.1) (flip c.0) (to_reverse R c.0 cs h.0))
+
+to_apart : (p : List Step) (cs : List Changed) → ToEach Before p cs → ToEach Apart p cs
+to_apart p [] h = tt
+to_apart p (c ∷ cs) h = (inl h.0, to_apart p cs h.1)
+
+pub pairs_apart : (cs : List Changed) → InPairs Before cs → InPairs Apart cs
+pairs_apart [] h = tt
+pairs_apart (c ∷ cs) h = (to_apart c.0 cs h.0, pairs_apart cs h.1)
+
+-- ---- what is kept
+
+-- each change is so
+abbrev pub AllAre : (Change → Type 0) → List Changed → Type 0
+AllAre P [] = Unit {0}
+AllAre P (c ∷ cs) = P c.1 × AllAre P cs
+
+-- nothing is removed
+abbrev pub IsKept : Change → Type 0
+IsKept (replaces v) = Unit {0}
+IsKept (adds xs) = Unit {0}
+IsKept changes.removes = ⊥
+IsKept (sets_comment place text) = Unit {0}
+
+abbrev pub AreKept : List Changed → Type 0
+AreKept cs = AllAre IsKept cs
+
+-- something is removed
+abbrev pub IsGone : Change → Type 0
+IsGone (replaces v) = ⊥
+IsGone (adds xs) = ⊥
+IsGone changes.removes = Unit {0}
+IsGone (sets_comment place text) = ⊥
+
+abbrev pub AreGone : List Changed → Type 0
+AreGone cs = AllAre IsGone cs
+
+-- nodes are exchanged, or get items or entries
+abbrev pub IsWritten : Change → Type 0
+IsWritten (replaces v) = Unit {0}
+IsWritten (adds xs) = Unit {0}
+IsWritten changes.removes = ⊥
+IsWritten (sets_comment place text) = ⊥
+
+-- a comment is set
+abbrev pub IsSaid : Change → Type 0
+IsSaid (replaces v) = ⊥
+IsSaid (adds xs) = ⊥
+IsSaid changes.removes = ⊥
+IsSaid (sets_comment place text) = Unit {0}
+
+written_kept : (c : Change) → IsWritten c → IsKept c
+written_kept (replaces v) h = tt
+written_kept (adds xs) h = tt
+written_kept changes.removes h = absurd h
+written_kept (sets_comment place text) h = tt
+
+said_kept : (c : Change) → IsSaid c → IsKept c
+said_kept (replaces v) h = tt
+said_kept (adds xs) h = tt
+said_kept changes.removes h = absurd h
+said_kept (sets_comment place text) h = tt
+
+all_weaker : (P Q : Change → Type 0) → ((c : Change) → P c → Q c) → (cs : List Changed) → AllAre P cs → AllAre Q cs
+all_weaker P Q so [] h = tt
+all_weaker P Q so (c ∷ cs) h = (so c.1 h.0, all_weaker P Q so cs h.1)
+
+-- each is of the kind of the update
+abbrev pub IsOf : Update → Change → Type 0
+IsOf (assign left operator right) = IsWritten
+IsOf (delete left) = IsGone
+IsOf (comment left place text) = IsSaid
+
+-- each is a removal, or none is
+abbrev pub MayFold : Bool → List Changed → Type 0
+MayFold true cs = AreGone cs
+MayFold false cs = AreKept cs
+
+pub of_may_fold : (u : Update) (cs : List Changed) → AllAre (IsOf u) cs → MayFold (is_removal u) cs
+of_may_fold (assign left operator right) cs h = all_weaker IsWritten IsKept written_kept cs h
+of_may_fold (delete left) cs h = h
+of_may_fold (comment left place text) cs h = all_weaker IsSaid IsKept said_kept cs h
+
+-- ---- what is done is the same in any order
+
+module _ (block : Bool) (lead : List (List ℕ)) where
+  abbrev pub deeds_of : List Changed → Deeds
+  deeds_of cs = done_by (map (placed_deed block lead) cs)
+
+  -- one done last is done as if it were the first, where it is apart from the others
+  done_last : (cs : List Changed) (c : Changed) → ToEach Apart c.0 cs → deeds_of (cs ++ c ∷ []) ≡ and_at c.0 (deed_of block lead c) (deeds_of cs)
+  done_last [] c h = refl
+  done_last (d ∷ ds) c h =
+      deeds_same (deeds_of ((d ∷ ds) ++ c ∷ [])) (and_at c.0 (deed_of block lead c) (deeds_of (d ∷ ds)))
+      (λ q. ap (λ (f : Deeds). and_at d.0 (deed_of block lead d) f q) (done_last ds c h.1) ∙ exchanged q)
+    where
+      exchanged : (q : List Step) → and_at d.0 (deed_of block lead d) (and_at c.0 (deed_of block lead c) (deeds_of ds)) q ≡ and_at c.0 (deed_of block lead c) (and_at d.0 (deed_of block lead d) (deeds_of ds)) q
+      exchanged q = go (same_path d.0 q) (same_path c.0 q) refl refl
+        where
+          go : (a b : Bool) → same_path d.0 q ≡ a → same_path c.0 q ≡ b → cond a (Some (deed_of block lead d)) (cond b (Some (deed_of block lead c)) (deeds_of ds q)) ≡ cond b (Some (deed_of block lead c))
+              (cond a (Some (deed_of block lead d)) (deeds_of ds q))
+          go true true x y = absurd (apart_irrefl c.0 (subst (Apart c.0) (path_same d.0 q x ∙ sym (path_same c.0 q y)) h.0))
+          go true false x y = refl
+          go false true x y = refl
+          go false false x y = refl
+
+  done_reverse : (cs : List Changed) → InPairs Apart cs → deeds_of (reverse cs) ≡ deeds_of cs
+  done_reverse [] h = refl
+  done_reverse (c ∷ cs) h =
+      ap deeds_of (reverse-cons c cs) ∙ (done_last (reverse cs) c (to_reverse Apart c.0 cs h.0) ∙ ap (and_at c.0 (deed_of block lead c)) (done_reverse cs h.1))
+
+  -- ---- one after the other
+
+  -- what is done later spares each
+  abbrev pub AreSpared : List Changed → Type 0
+  AreSpared [] = Unit {0}
+  AreSpared (c ∷ cs) = Spares (deeds_of cs) c.0 × AreSpared cs
+
+  spared_before : (x : Deed) (p q : List Step) → Before p q → IsSpared (Some x) p q
+  spared_before (becomes g) p q h = inl h
+  spared_before (line text) p q h = inl h
+  spared_before (head texts) p q h = inl h
+  spared_before goes p q h = h
+
+  spared_by : (p : List Step) (x : Deed) (r : List Step) (f : Deeds) → IsSpared (Some x) p r → Spares f p → Spares (and_at r x f) p
+  spared_by p x r f h k q = go (same_path r q) refl
+    where
+      go : (b : Bool) → same_path r q ≡ b → IsSpared (cond b (Some x) (f q)) p q
+      go true e = subst (IsSpared (Some x) p) (path_same r q e) h
+      go false e = k q
+
+  spares_later : (p : List Step) (cs : List Changed) → ToEach Before p cs → Spares (deeds_of cs) p
+  spares_later p [] h = λ q. tt
+  spares_later p (c ∷ cs) h = spared_by p (deed_of block lead c) c.0 (deeds_of cs) (spared_before (deed_of block lead c) p c.0 h.0) (spares_later p cs h.1)
+
+  pub spared_in_order : (cs : List Changed) → InPairs Before cs → AreSpared cs
+  spared_in_order [] h = tt
+  spared_in_order (c ∷ cs) h = (spares_later c.0 cs h.0, spared_in_order cs h.1)
+
+  pub ops_join : (doc : ℕ) (cs ds : List Changed) → ops_of doc (cs ++ ds) ≡ ops_of doc cs ++ ops_of doc ds
+  ops_join doc [] ds = refl
+  ops_join doc (c ∷ cs) ds = ap (λ ops. change_ops doc c ++ ops) (ops_join doc cs ds) ∙ sym (append_assoc (change_ops doc c) (ops_of doc cs) (ops_of doc ds))
+
+  -- those of changes from the last one to the first make all of them at once, where each is spared by what is done later
+  pub fold_back : (doc : ℕ) (n : Node) → IsTree n → (cs : List Changed) → AreSpared cs → roots_after block lead (ops_of doc (reverse cs)) n ≡ at_once (deeds_of cs) n
+  fold_back doc n tree [] h = sym (idle (deeds_of []) n (λ q. refl))
+  fold_back doc n tree (c ∷ cs) h =
+      ap (λ (xs : List Changed). roots_after block lead (ops_of doc xs) n) (reverse-cons c cs)
+      ∙ (ap (λ (ops : List Operation). roots_after block lead ops n) (ops_join doc (reverse cs) (c ∷ []))
+      ∙ (roots_join block lead (ops_of doc (reverse cs)) (ops_of doc (c ∷ [])) n
+      ∙ (ap (roots_after block lead (change_ops doc c ++ [])) (fold_back doc n tree cs h.1)
+      ∙ (ap (λ (ops : List Operation). roots_after block lead ops (at_once (deeds_of cs) n)) (append-nil (change_ops doc c))
+      ∙ (change_after block lead doc c (at_once (deeds_of cs) n)
+      ∙ sym (one_more c.0 (deed_of block lead c) (deeds_of cs) n tree h.0))))))
+
+  kept_more : (cs ds : List Changed) → AreKept cs → AreKept ds → AreKept (cs ++ ds)
+  kept_more [] ds h k = k
+  kept_more (c ∷ cs) ds h k = (h.0, kept_more cs ds h.1 k)
+
+  pub kept_reverse : (cs : List Changed) → AreKept cs → AreKept (reverse cs)
+  kept_reverse [] h = tt
+  kept_reverse (c ∷ cs) h = subst AreKept (sym (reverse-cons c cs)) (kept_more (reverse cs) (c ∷ []) (kept_reverse cs h.1) (h.0, tt))
+
+  spared_kept : (c : Changed) → IsKept c.1 → (p : List Step) → Apart p c.0 → IsSpared (Some (deed_of block lead c)) p c.0
+  spared_kept (path, replaces v) k p h = h
+  spared_kept (path, adds xs) k p h = h
+  spared_kept (path, changes.removes) k p h = absurd k
+  spared_kept (path, sets_comment comments.Line text) k p h = h
+  spared_kept (path, sets_comment comments.Head text) k p h = h
+
+  spares_kept : (p : List Step) (cs : List Changed) → AreKept cs → ToEach Apart p cs → Spares (deeds_of cs) p
+  spares_kept p [] k h = λ q. tt
+  spares_kept p (c ∷ cs) k h = spared_by p (deed_of block lead c) c.0 (deeds_of cs) (spared_kept c k.0 p h.0) (spares_kept p cs k.1 h.1)
+
+  pub spared_apart : (cs : List Changed) → AreKept cs → InPairs Apart cs → AreSpared cs
+  spared_apart [] k h = tt
+  spared_apart (c ∷ cs) k h = (spares_kept c.0 cs k.1 h.0, spared_apart cs k.1 h.1)
+
+  -- the operations of changes, one after the other, make all of them at once
+  pub folds : (doc : ℕ) (n : Node) → IsTree n → (removal : Bool) (cs : List Changed) → InPairs Before cs → MayFold removal cs → roots_after block lead (ops_of doc (ordered removal cs)) n ≡ at_once (deeds_of cs) n
+  folds doc n tree true cs h k = fold_back doc n tree cs (spared_in_order cs h)
+  folds doc n tree false cs h k =
+      let apart : InPairs Apart (reverse cs) = pairs_reverse Apart apart_sym cs (pairs_apart cs h) in
+      ap (λ (xs : List Changed). roots_after block lead (ops_of doc xs) n) (sym (reverse-reverse cs))
+      ∙ (fold_back doc n tree (reverse cs) (spared_apart (reverse cs) (kept_reverse cs k) apart)
+      ∙ ap (λ (f : Deeds). at_once f n) (done_reverse cs (pairs_apart cs h)))

@@ -1,0 +1,248 @@
+-- What an update changes stands in order.
+use Rattle.std.proofs.Common.{◌≡◌, ◌≢◌, ℕ, Bool, true, false, cond, ◌&&◌, List, [], ◌∷◌, ◌++◌, length, None, refl, sym, ap, subst, ◌∙◌}
+use Rattle.std.specs.List.{list_any}
+use Rattle.yq_scalar.specs.Tree as tree
+use Rattle.yq_scalar.specs.Tree.{Node, alias, scalar, list, Children, none, child, children_of}
+use Rattle.yq_scalar.specs.Paths as paths
+use Rattle.yq_program.specs.declared.program.CommentPlace.{CommentPlace}
+use Rattle.yq_program.specs.declared.program.Operator.TheVariants as operator
+use Rattle.yq_meaning.specs.declared.refusal.Refusal.TheVariants.{IndexOutOfRange, NoPlaceForComment, AnchorInUse, TooDeep, KeyTooLong}
+use Rattle.yq_meaning.specs.Judgement.{Judgement, gives, refuses, and_then}
+use Rattle.yq_program.specs.Program.{is_index, Step, Term, Update, assign, delete, comment}
+use Rattle.yq_meaning.specs.Changes.{Change, replaces, sets_comment, Changed, Room, made, put_below, put_at, added_entries, added, add_below, add_at, remove_below, remove_at, is_there, comment_at, is_too_long, is_too_deep}
+use Rattle.yq_meaning.specs.Changes.{takes_used, allowed, all_allowed, at_each, with_value, changes_at, left_of, changes_in}
+use Rattle.yq_meaning.specs.Deeds.{step_to}
+use Rattle.yq_meaning.specs.Pipes.{places}
+use Rattle.yq_meaning.specs.Places.{Place, root_place, for_each}
+use Rattle.yq_meaning.specs.PlacesApart.{IsBeforeAll, AreApart}
+use Rattle.yq_meaning.specs.Plans.{is_removal}
+use Rattle.yq_meaning.specs.RightValues.{is_null, sum, right_value}
+use Rattle.yq_scalar.specs.PathOrder.{Before}
+use Rattle.yq_scalar.specs.Shapes.{IsTree}
+use Rattle.yq_plans.proofs.updates.Folds.{ToEach, InPairs, AllAre, IsGone, IsWritten, IsSaid, IsOf, MayFold, of_may_fold}
+use Rattle.yq_plans.proofs.updates.RootLeads.{NoneAt, NoneLater, FirstIn, IsFirst}
+use Rattle.yq_meaning.proofs.JudgementLaws.{then_gives, gives_same}
+use Rattle.yq_plans.proofs.updates.FirstPlaces.{NoPlaceAt, NoPlaceLater, IsFirstStep, places_first}
+use Rattle.yq_plans.proofs.updates.PipePlaces.{places_apart}
+
+-- one change at most, at that path
+abbrev AtOne : List paths.Step → List Changed → Type 0
+AtOne p [] = Unit {0}
+AtOne p (c ∷ []) = c.0 ≡ p
+AtOne p (c ∷ (d ∷ ds)) = ⊥
+
+-- which is so
+abbrev FromPlace : (Change → Type 0) → Place → List Changed → Type 0
+FromPlace P p cs = AtOne p.path cs × AllAre P cs
+
+one_before : (x p : List paths.Step) (cs : List Changed) → Before x p → AtOne p cs → ToEach Before x cs
+one_before x p [] h k = tt
+one_before x p (c ∷ []) h k = (subst (Before x) (sym k) h, tt)
+one_before x p (c ∷ (d ∷ ds)) h k = absurd k
+
+to_join : (x : List paths.Step) (cs ds : List Changed) → ToEach Before x cs → ToEach Before x ds → ToEach Before x (cs ++ ds)
+to_join x [] ds h k = k
+to_join x (c ∷ cs) ds h k = (h.0, to_join x cs ds h.1 k)
+
+one_pairs : (p : List paths.Step) (cs ds : List Changed) → AtOne p cs → ToEach Before p ds → InPairs Before ds → InPairs Before (cs ++ ds)
+one_pairs p [] ds k h q = q
+one_pairs p (c ∷ []) ds k h q = (subst (λ (x : List paths.Step). ToEach Before x ds) (sym k) h, q)
+one_pairs p (c ∷ (d ∷ more)) ds k h q = absurd k
+
+all_join : (P : Change → Type 0) (cs ds : List Changed) → AllAre P cs → AllAre P ds → AllAre P (cs ++ ds)
+all_join P [] ds h k = k
+all_join P (c ∷ cs) ds h k = (h.0, all_join P cs ds h.1 k)
+
+-- ---- at several places
+
+-- what is allowed is the change itself
+allowed_same : (root : Node) (c d : Changed) → allowed root c ≡ gives d → c ≡ d
+allowed_same root c d h = go (is_too_long c.1) (is_too_deep (length c.0) c.1) (takes_used root c.0 c.1) h
+  where
+    go : (x y z : Bool) → cond x (refuses KeyTooLong) (cond y (refuses TooDeep) (cond z (refuses AnchorInUse) (gives c))) ≡ gives d → c ≡ d
+    go true y z e = absurd (cc)
+    go false true z e = absurd (cc)
+    go false false true e = absurd (cc)
+    go false false false e = gives_same e
+
+all_same : (root : Node) (cs ds : List Changed) → all_allowed root cs ≡ gives ds → cs ≡ ds
+all_same root [] ds h = gives_same h
+all_same root (c ∷ cs) ds h =
+    let one = then_gives (λ first. and_then (λ others. gives (first ++ others)) (all_allowed root cs)) (and_then (λ d. gives (d ∷ [])) (allowed root c)) ds h in
+    let first = then_gives (λ (d : Changed). gives (d ∷ [])) (allowed root c) one.0 one.1 in
+    let two = then_gives (λ (others : List Changed). gives (one.0 ++ others)) (all_allowed root cs) ds one.2 in
+    ap (λ (d : Changed). d ∷ cs) (allowed_same root c first.0 first.1)
+    ∙ (ap (λ (xs : List Changed). first.0 ∷ xs) (all_same root cs two.0 two.1)
+    ∙ (ap (λ (xs : List Changed). xs ++ two.0) (gives_same first.2) ∙ gives_same two.2))
+
+-- what is changed at each place is there
+abbrev IsSo : (Change → Type 0) → (Place → Judgement (List Changed)) → Type 0
+IsSo P f = (p : Place) (cs : List Changed) → f p ≡ gives cs → FromPlace P p cs
+
+each_so : (root : Node) (P : Change → Type 0) (f : Place → Judgement (List Changed)) → IsSo P f → IsSo P (λ p. and_then (all_allowed root) (f p))
+each_so root P f so p cs h =
+    let x = then_gives (all_allowed root) (f p) cs h in subst (FromPlace P p) (all_same root x.0 cs x.2) (so p x.0 x.1)
+
+each_before : (P : Change → Type 0) (f : Place → Judgement (List Changed)) → IsSo P f → (x : List paths.Step) (ps : List Place) (cs : List Changed) → IsBeforeAll x ps → for_each f ps ≡ gives cs → ToEach Before x cs
+each_before P f so x [] cs b h = subst (ToEach Before x) (gives_same h) tt
+each_before P f so x (p ∷ ps) cs b h =
+    let one = then_gives (λ first. and_then (λ others. gives (first ++ others)) (for_each f ps)) (f p) cs h in
+    let two = then_gives (λ (others : List Changed). gives (one.0 ++ others)) (for_each f ps) cs one.2 in
+    subst (ToEach Before x) (gives_same two.2) (to_join x one.0 two.0 (one_before x p.path one.0 b.0 (so p one.0 one.1).0) (each_before P f so x ps two.0 b.1 two.1))
+
+-- changes in order, each of which is so
+abbrev InOrder : (Change → Type 0) → List Changed → Type 0
+InOrder P cs = InPairs Before cs × AllAre P cs
+
+each_ordered : (P : Change → Type 0) (f : Place → Judgement (List Changed)) → IsSo P f → (ps : List Place) (cs : List Changed) → AreApart ps → for_each f ps ≡ gives cs → InOrder P cs
+each_ordered P f so [] cs a h = subst (InOrder P) (gives_same h) (tt, tt)
+each_ordered P f so (p ∷ ps) cs a h =
+    let one = then_gives (λ first. and_then (λ others. gives (first ++ others)) (for_each f ps)) (f p) cs h in
+    let two = then_gives (λ (others : List Changed). gives (one.0 ++ others)) (for_each f ps) cs one.2 in
+    let here = so p one.0 one.1 in
+    let rest = each_ordered P f so ps two.0 a.1 two.1 in
+    subst (InOrder P) (gives_same two.2) (one_pairs p.path one.0 two.0 here.0 (each_before P f so p.path ps two.0 a.0 two.1) rest.0, all_join P one.0 two.0 here.1 rest.1)
+
+at_ordered : (root : Node) (P : Change → Type 0) (f : Place → Judgement (List Changed)) → IsSo P f → (ps : List Place) (cs : List Changed) → AreApart ps → at_each root f ps ≡ gives cs → InOrder P cs
+at_ordered root P f so ps cs a h = each_ordered P (λ p. and_then (all_allowed root) (f p)) (each_so root P f so) ps cs a h
+
+-- ---- at one place
+
+single : (P : Change → Type 0) (p : Place) (c : Change) (cs : List Changed) → P c → gives ((p.path, c) ∷ []) ≡ gives cs → FromPlace P p cs
+single P p c cs k h = subst (FromPlace P p) (gives_same h) (refl, (k, tt))
+
+made_written : (n : Node) (m : Step) (ms : List Step) (v : Node) → IsWritten (made n m ms v)
+made_written (alias name) m ms v = tt
+made_written (scalar anchor kind text) m ms v = tt
+made_written (list anchor cs) m ms v = tt
+made_written (tree.map anchor cs) m ms v = tt
+
+put_written : (n : Node) (missing : List Step) (v : Node) (c : Change) → put_below n missing v ≡ gives c → IsWritten c
+put_written n [] v c h = subst IsWritten (gives_same h) tt
+put_written n (m ∷ ms) v c h = go (list_any is_index (m ∷ ms)) h
+  where
+    go : (b : Bool) → cond b (refuses IndexOutOfRange) (gives (made n m ms v)) ≡ gives c → IsWritten c
+    go true e = absurd (cc)
+    go false e = subst IsWritten (gives_same e) (made_written n m ms v)
+
+put_so : (v : Node) → IsSo IsWritten (λ p. put_at p v)
+put_so v p cs h =
+    let x = then_gives (λ (c : Change). gives ((p.path, c) ∷ [])) (put_below p.node p.missing v) cs h in
+    single IsWritten p x.0 cs (put_written p.node p.missing v x.0 x.1) x.2
+
+modify_so : (doc : ℕ) (right : List Term) → IsSo IsWritten (λ p. and_then (put_at p) (right_value doc right p))
+modify_so doc right p cs h = let x = then_gives (put_at p) (right_value doc right p) cs h in put_so x.0 p cs x.2
+
+entries_written : (cs : Children) (v : Node) (c : Change) → added_entries cs v ≡ gives c → IsWritten c
+entries_written cs (alias name) c h = absurd (cc)
+entries_written cs (scalar anchor kind text) c h = absurd (cc)
+entries_written cs (list anchor ds) c h = absurd (cc)
+entries_written cs (tree.map anchor ds) c h = subst IsWritten (gives_same h) tt
+
+added_written : (n v : Node) (c : Change) → added n v ≡ gives c → IsWritten c
+added_written (alias name) v c h = absurd (cc)
+added_written (scalar anchor kind text) v c h =
+    let x = then_gives (λ (w : Node). gives (replaces w)) (sum (scalar None kind text) v) c h in subst IsWritten (gives_same x.2) tt
+added_written (list anchor cs) v c h = subst IsWritten (gives_same h) tt
+added_written (tree.map anchor cs) v c h = entries_written cs v c h
+
+add_so : (v : Node) → IsSo IsWritten (λ p. add_at p v)
+add_so v p cs h = go (is_null v) h
+  where
+    below : (missing : List Step) → add_below missing p v ≡ gives cs → FromPlace IsWritten p cs
+    below [] e = let x = then_gives (λ (c : Change). gives ((p.path, c) ∷ [])) (added p.node v) cs e in single IsWritten p x.0 cs (added_written p.node v x.0 x.1) x.2
+    below (m ∷ ms) e = put_so v p cs e
+
+    go : (b : Bool) → cond b (gives []) (add_below p.missing p v) ≡ gives cs → FromPlace IsWritten p cs
+    go true e = subst (FromPlace IsWritten p) (gives_same e) (tt, tt)
+    go false e = below p.missing e
+
+remove_so : IsSo IsGone remove_at
+remove_so p cs h = go p.missing p.path refl h
+  where
+    go : (missing : List Step) (x : List paths.Step) → x ≡ p.path → remove_below missing x ≡ gives cs → FromPlace IsGone p cs
+    go (m ∷ ms) x is e = subst (FromPlace IsGone p) (gives_same e) (tt, tt)
+    go [] [] is e = absurd (cc)
+    go [] (s ∷ x) is e = subst (FromPlace IsGone p) (gives_same e) (is, (tt, tt))
+
+say_so : (room : Room) (place : CommentPlace) (text : List ℕ) → IsSo IsSaid (comment_at room place text)
+say_so room place text p cs h = go (is_there p.missing && room.has place p.path) h
+  where
+    go : (b : Bool) → cond b (gives ((p.path, sets_comment place text) ∷ [])) (refuses NoPlaceForComment) ≡ gives cs → FromPlace IsSaid p cs
+    go true e = single IsSaid p (sets_comment place text) cs tt e
+    go false e = absurd (cc)
+
+-- ---- of an update
+
+with_ordered : (root : Node) (right : Judgement Node) (f : Place → Node → Judgement (List Changed)) → ((v : Node) → IsSo IsWritten (λ p. f p v)) → (ps : List Place) (cs : List Changed) → AreApart ps →
+    with_value root right f ps ≡ gives cs → InOrder IsWritten cs
+with_ordered root right f so [] cs a h = subst (InOrder IsWritten) (gives_same h) (tt, tt)
+with_ordered root right f so (p ∷ ps) cs a h =
+    let x = then_gives (λ (v : Node). at_each root (λ q. f q v) (p ∷ ps)) right cs h in at_ordered root IsWritten (λ q. f q x.0) (so x.0) (p ∷ ps) cs a x.2
+
+changes_ordered : (doc : ℕ) (room : Room) (root : Node) (u : Update) (ps : List Place) (cs : List Changed) → AreApart ps → changes_at doc room root u ps ≡ gives cs → InOrder (IsOf u) cs
+changes_ordered doc room root (assign left operator.Set right) ps cs a h = with_ordered root (right_value doc right (root_place root)) put_at put_so ps cs a h
+changes_ordered doc room root (assign left operator.Modify right) ps cs a h = at_ordered root IsWritten (λ p. and_then (put_at p) (right_value doc right p)) (modify_so doc right) ps cs a h
+changes_ordered doc room root (assign left operator.Add right) ps cs a h = with_ordered root (right_value doc right (root_place root)) add_at add_so ps cs a h
+changes_ordered doc room root (delete left) ps cs a h = at_ordered root IsGone remove_at remove_so ps cs a h
+changes_ordered doc room root (comment left place text) ps cs a h = at_ordered root IsSaid (comment_at room place text) (say_so room place text) ps cs a h
+
+-- what an update changes in a tree stands in order, and is of its kind
+pub update_kind : (u : Update) (doc : ℕ) (room : Room) (root : Node) (cs : List Changed) → IsTree root → changes_in u doc room root ≡ gives cs → InOrder (IsOf u) cs
+update_kind u doc room root cs tree h =
+    let x = then_gives (changes_at doc room root u) (places doc (left_of u) root) cs h in
+    changes_ordered doc room root u x.0 cs (places_apart doc (left_of u) root x.0 tree x.1).apart x.2
+
+-- changes in order, which may be made
+abbrev pub AreOrdered : Bool → List Changed → Type 0
+AreOrdered removal cs = InPairs Before cs × MayFold removal cs
+
+-- what an update changes in a tree stands in order
+pub update_ordered : (u : Update) (doc : ℕ) (room : Room) (root : Node) (cs : List Changed) → IsTree root → changes_in u doc room root ≡ gives cs → AreOrdered (is_removal u) cs
+update_ordered u doc room root cs tree h = let k = update_kind u doc room root cs tree h in (k.0, of_may_fold u cs k.1)
+
+-- ---- what is first
+
+none_later : (s : paths.Step) (cs : List Changed) → NoneAt s cs → NoneLater s cs
+none_later s [] h = tt
+none_later s (c ∷ cs) h = h.1
+
+none_join : (s : paths.Step) (cs ds : List Changed) → NoneAt s cs → NoneAt s ds → NoneAt s (cs ++ ds)
+none_join s [] ds h k = k
+none_join s (c ∷ cs) ds h k = (h.0, none_join s cs ds h.1 k)
+
+one_none : (s : paths.Step) (p : List paths.Step) (cs : List Changed) → p ≢ s ∷ [] → AtOne p cs → NoneAt s cs
+one_none s p [] d h = tt
+one_none s p (c ∷ []) d h = ((λ e. d (sym h ∙ e)), tt)
+one_none s p (c ∷ (e ∷ es)) d h = absurd h
+
+one_later : (s : paths.Step) (p : List paths.Step) (cs ds : List Changed) → AtOne p cs → NoneAt s ds → NoneLater s (cs ++ ds)
+one_later s p [] ds h k = none_later s ds k
+one_later s p (c ∷ []) ds h k = k
+one_later s p (c ∷ (e ∷ es)) ds h k = absurd h
+
+each_none : (P : Change → Type 0) (f : Place → Judgement (List Changed)) → IsSo P f → (s : paths.Step) (ps : List Place) (cs : List Changed) → NoPlaceAt s ps → for_each f ps ≡ gives cs → NoneAt s cs
+each_none P f so s [] cs n h = subst (NoneAt s) (gives_same h) tt
+each_none P f so s (p ∷ ps) cs n h =
+    let one = then_gives (λ first. and_then (λ others. gives (first ++ others)) (for_each f ps)) (f p) cs h in
+    let two = then_gives (λ (others : List Changed). gives (one.0 ++ others)) (for_each f ps) cs one.2 in
+    subst (NoneAt s) (gives_same two.2) (none_join s one.0 two.0 (one_none s p.path one.0 n.0 (so p one.0 one.1).0) (each_none P f so s ps two.0 n.1 two.1))
+
+each_later : (P : Change → Type 0) (f : Place → Judgement (List Changed)) → IsSo P f → (s : paths.Step) (ps : List Place) (cs : List Changed) → NoPlaceLater s ps → for_each f ps ≡ gives cs → NoneLater s cs
+each_later P f so s [] cs n h = subst (NoneLater s) (gives_same h) tt
+each_later P f so s (p ∷ ps) cs n h =
+    let one = then_gives (λ first. and_then (λ others. gives (first ++ others)) (for_each f ps)) (f p) cs h in
+    let two = then_gives (λ (others : List Changed). gives (one.0 ++ others)) (for_each f ps) cs one.2 in
+    subst (NoneLater s) (gives_same two.2) (one_later s p.path one.0 two.0 (so p one.0 one.1).0 (each_none P f so s ps two.0 n two.1))
+
+-- of what is removed, the first item or entry of the root comes first
+pub removal_first : (u : Update) (doc : ℕ) (room : Room) (root : Node) (cs : List Changed) → is_removal u ≡ true → IsTree root → changes_in u doc room root ≡ gives cs → IsFirst root cs
+removal_first (assign left op right) doc room root cs is tree h = absurd (cc)
+removal_first (comment left place text) doc room root cs is tree h = absurd (cc)
+removal_first (delete left) doc room root cs is tree h =
+    let x = then_gives (λ ps. at_each root remove_at ps) (places doc left root) cs h in
+    go (children_of root) refl (λ s first. each_later IsGone (λ p. and_then (all_allowed root) (remove_at p)) (each_so root IsGone remove_at remove_so) s x.0 cs (places_first doc left root x.0 s tree first x.1) x.2)
+  where
+    go : (kids : Children) → children_of root ≡ kids → ((s : paths.Step) → IsFirstStep root s → NoneLater s cs) → IsFirst root cs
+    go none is later = subst (λ (k : Children). FirstIn k cs) (sym is) tt
+    go (child label n ds) is later = subst (λ (k : Children). FirstIn k cs) (sym is) (later (step_to 0 label) (label, n, ds, is, refl))

@@ -1,0 +1,282 @@
+-- Operations on a document, one after the other: the root, and the lead.
+use Rattle.std.proofs.Common.{◌≡◌, ◌≢◌, ℕ, ◌⊎◌, Bool, true, false, cond, List, [], ◌∷◌, ◌++◌, map, reverse, Option, Some, None, refl, sym, ap, subst, ◌∙◌, inl, inr, append-nil}
+use mathlib.Core.List.{nil≢cons}
+use Rattle.yq_scalar.specs.Tree as tree
+use Rattle.yq_scalar.specs.Tree.{Label, Node, alias, scalar, list, Children, none, child, children_of}
+use Rattle.yq_scalar.specs.Paths.{Step, To, is_here, further, change_child, relabel_child, append_child, within, change}
+use Rattle.yq_documents.specs.Documents.{Document}
+use Rattle.yq_program.specs.declared.program.CommentPlace.TheVariants as comments
+use Rattle.yq_meaning.specs.After.{root_after, done_to}
+use Rattle.yq_meaning.specs.Changes.{Addition, appends, overwrites, replaces, adds, sets_comment, Changed}
+use Rattle.yq_meaning.specs.Deeds.{Deed, Deeds, same_path, step_to, done_at, child_by, under, inside, each_at_once, at_once}
+use Rattle.yq_meaning.specs.Meaning.{head_of, line_of, deed_of, changed_at_once, IsLed}
+use Rattle.yq_meaning.specs.Operations.{Operation, replace, append, remove, line_comment, head_comment}
+use Rattle.yq_meaning.specs.Plans.{add_op, change_ops, ops_of, ordered}
+use Rattle.yq_scalar.specs.PathOrder.{Before}
+use Rattle.yq_scalar.specs.Shapes.{IsTree}
+use Rattle.yq_documents.specs.TreeEdits.{replaced, at_end, with_line_comment, with_head_comment, led, lead_by, with_tree, new_label}
+use Rattle.yq_meaning.specs.Changes as changes
+use Rattle.yq_plans.proofs.updates.AtOnce.{one_more}
+use Rattle.yq_plans.proofs.updates.Spares.{idle, spares_root}
+use Rattle.yq_plans.proofs.updates.Folds.{ToEach, InPairs, IsKept, AreKept, IsGone, MayFold, AreSpared, deeds_of, reverse-cons, path_same, AreGone, ops_join, folds, spared_in_order}
+use Rattle.yq_plans.proofs.updates.OneAt.{roots_after, change_after}
+
+-- what operations make of a document, one after the other
+abbrev pub document_after : Bool → List Operation → Document → Document
+document_after block [] d = d
+document_after block (op ∷ ops) d = document_after block ops (done_to block op d)
+
+pub document_join : (block : Bool) (ops others : List Operation) (d : Document) → document_after block (ops ++ others) d ≡ document_after block others (document_after block ops d)
+document_join block [] others d = refl
+document_join block (op ∷ ops) others d = document_join block ops others (done_to block op d)
+
+-- ---- where nothing is removed
+
+-- there are no items or entries
+abbrev IsNone : Children → Type 0
+IsNone none = Unit {0}
+IsNone (child label n cs) = ⊥
+
+-- an operation that leaves items or entries, if there are any, and asks for no lead
+abbrev pub Leaves : Operation → Type 0
+Leaves (replace doc path v) = (s : Step) × (p : List Step) × (path ≡ s ∷ p)
+Leaves (append doc path k v) = Unit {0}
+Leaves (remove doc path) = ⊥
+Leaves (line_comment doc path text) = Unit {0}
+Leaves (head_comment doc path text) = Unit {0}
+
+abbrev pub AllLeave : List Operation → Type 0
+AllLeave [] = Unit {0}
+AllLeave (op ∷ ops) = Leaves op × AllLeave ops
+
+within_leaves : (g : Children → Children) → ((cs : Children) → IsNone (g cs) → IsNone cs) → (n : Node) → IsNone (children_of (within g n)) → IsNone (children_of n)
+within_leaves g so (alias name) h = tt
+within_leaves g so (scalar anchor kind text) h = tt
+within_leaves g so (list anchor cs) h = so cs h
+within_leaves g so (tree.map anchor cs) h = so cs h
+
+change_leaves : (s : Step) (f : Node → Node) (cs : Children) → IsNone (change_child s f cs) → IsNone cs
+change_leaves s f none h = tt
+change_leaves s f (child label n cs) h = go (is_here s label) h
+  where
+    go : (b : Bool) → IsNone (cond b (child label (f n) cs) (child label n (change_child (further s) f cs))) → ⊥
+    go true e = e
+    go false e = e
+
+relabel_leaves : (s : Step) (f : Label → Label) (cs : Children) → IsNone (relabel_child s f cs) → IsNone cs
+relabel_leaves s f none h = tt
+relabel_leaves s f (child label n cs) h = go (is_here s label) h
+  where
+    go : (b : Bool) → IsNone (cond b (child (f label) n cs) (child label n (relabel_child (further s) f cs))) → ⊥
+    go true e = e
+    go false e = e
+
+append_leaves : (label : Label) (v : Node) (cs : Children) → IsNone (append_child label v cs) → IsNone cs
+append_leaves label v none h = tt
+append_leaves label v (child first n cs) h = h
+
+end_leaves : (g : Label → Label) (p : List Step) (n : Node) → IsNone (children_of (at_end (λ s. relabel_child s g) p n)) → IsNone (children_of n)
+end_leaves g [] n h = h
+end_leaves g (s ∷ []) n h = within_leaves (relabel_child s g) (relabel_leaves s g) n h
+end_leaves g (s ∷ (t ∷ p)) n h = within_leaves (change_child s (at_end (λ r. relabel_child r g) (t ∷ p))) (change_leaves s (at_end (λ r. relabel_child r g) (t ∷ p))) n h
+
+op_leaves : (block : Bool) (lead : List (List ℕ)) (op : Operation) → Leaves op → (n : Node) → IsNone (children_of (root_after block lead op n)) → IsNone (children_of n)
+op_leaves block lead (replace doc [] v) l n h = absurd (nil≢cons l.2)
+op_leaves block lead (replace doc (s ∷ p) v) l n h = within_leaves (change_child s (change p (replaced v))) (change_leaves s (change p (replaced v))) n h
+op_leaves block lead (append doc [] k v) l n h = within_leaves (append_child (new_label k) v) (append_leaves (new_label k) v) n h
+op_leaves block lead (append doc (s ∷ p) k v) l n h = within_leaves (change_child s (change p (within (append_child (new_label k) v)))) (change_leaves s (change p (within (append_child (new_label k) v)))) n h
+op_leaves block lead (remove doc path) l n h = absurd l
+op_leaves block lead (line_comment doc path text) l n h = end_leaves (with_line_comment (line_of text)) path n h
+op_leaves block lead (head_comment doc path text) l n h = end_leaves (with_head_comment (head_of text)) path n h
+
+ops_leave : (block : Bool) (lead : List (List ℕ)) (ops : List Operation) → AllLeave ops → (n : Node) → IsNone (children_of (roots_after block lead ops n)) → IsNone (children_of n)
+ops_leave block lead [] l n h = h
+ops_leave block lead (op ∷ ops) l n h = op_leaves block lead op l.0 n (ops_leave block lead ops l.1 (root_after block lead op n) h)
+
+led_under : (block : Bool) (lead other : List (List ℕ)) (p : List Step) (v : Node) → ((s : Step) × (q : List Step) × (p ≡ s ∷ q)) → led block lead p v ≡ led block other p v
+led_under block lead other [] v l = absurd (nil≢cons l.2)
+led_under block lead other (s ∷ p) v l = refl
+
+pub op_any_lead : (block : Bool) (lead other : List (List ℕ)) (op : Operation) → Leaves op → (n : Node) → root_after block lead op n ≡ root_after block other op n
+op_any_lead block lead other (replace doc path v) l n = ap (λ w. change path (replaced w) n) (led_under block lead other path v l)
+op_any_lead block lead other (append doc path k v) l n = refl
+op_any_lead block lead other (remove doc path) l n = refl
+op_any_lead block lead other (line_comment doc path text) l n = refl
+op_any_lead block lead other (head_comment doc path text) l n = refl
+
+ops_any_lead : (block : Bool) (lead other : List (List ℕ)) (ops : List Operation) → AllLeave ops → (n : Node) → roots_after block lead ops n ≡ roots_after block other ops n
+ops_any_lead block lead other [] l n = refl
+ops_any_lead block lead other (op ∷ ops) l n = ap (roots_after block lead ops) (op_any_lead block lead other op l.0 n) ∙ ops_any_lead block lead other ops l.1 (root_after block other op n)
+
+-- a lead by one tree and then by another
+lead_twice : (block : Bool) (cs ds : Children) (lead : List (List ℕ)) → (IsNone ds → IsNone cs) → lead_by block ds (lead_by block cs lead) ≡ lead_by block ds lead
+lead_twice true cs (child label n ds) lead so = refl
+lead_twice true none none lead so = refl
+lead_twice true (child label n cs) none lead so = absurd (so tt)
+lead_twice false cs ds lead so = refl
+
+leaving : (block : Bool) (ops : List Operation) → AllLeave ops → (d : Document) → IsLed block d → document_after block ops d ≡ with_tree block (roots_after block d.lead ops d.root) d
+leaving block [] l d is = ap (λ (lead : List (List ℕ)). record d { lead = lead }) (sym is)
+leaving block (op ∷ ops) l d is =
+    let root : Node = root_after block d.lead op d.root in
+    let lead : List (List ℕ) = lead_by block (children_of root) d.lead in
+    let all : Node = roots_after block lead ops root in
+    let same : all ≡ roots_after block d.lead ops root = ops_any_lead block lead d.lead ops l.1 root in
+    leaving block ops l.1 (with_tree block root d) (lead_twice block (children_of root) (children_of root) d.lead (λ h. h))
+    ∙ (ap (λ (t : List (List ℕ)). record d { lead = t; root = all }) (lead_twice block (children_of root) (children_of all) d.lead (λ h. ops_leave block lead ops l.1 root h))
+    ∙ ap (λ (n : Node). with_tree block n d) same)
+
+-- a change at the root is the only one, or each operation leaves items and entries
+abbrev pub PutsOrLeaves : ℕ → List Changed → Type 0
+PutsOrLeaves doc cs = ((v : Node) × (cs ≡ ([], replaces v) ∷ [])) ⊎ AllLeave (ops_of doc cs)
+
+leave_join : (ops others : List Operation) → AllLeave ops → AllLeave others → AllLeave (ops ++ others)
+leave_join [] others h k = k
+leave_join (op ∷ ops) others h k = (h.0, leave_join ops others h.1 k)
+
+path_end : (p : List Step) (s : Step) → (t : Step) × (q : List Step) × (p ++ s ∷ [] ≡ t ∷ q)
+path_end [] s = (s, [], refl)
+path_end (t ∷ p) s = (t, p ++ s ∷ [], refl)
+
+adds_leave : (doc : ℕ) (p : List Step) (xs : List Addition) → AllLeave (map (add_op doc p) xs)
+adds_leave doc p [] = tt
+adds_leave doc p (appends k v ∷ xs) = (tt, adds_leave doc p xs)
+adds_leave doc p (overwrites k v ∷ xs) = (path_end p (To k), adds_leave doc p xs)
+
+-- below the root each operation leaves them
+below_leaves : (doc : ℕ) (c : Changed) → ((s : Step) × (q : List Step) × (c.0 ≡ s ∷ q)) → IsKept c.1 → AllLeave (change_ops doc c)
+below_leaves doc (p, replaces v) b k = (b, tt)
+below_leaves doc (p, adds xs) b k = adds_leave doc p xs
+below_leaves doc (p, changes.removes) b k = absurd k
+below_leaves doc (p, sets_comment comments.Line text) b k = (tt, tt)
+below_leaves doc (p, sets_comment comments.Head text) b k = (tt, tt)
+
+first_below : (p q : List Step) → Before p q → (s : Step) × (r : List Step) × (p ≡ s ∷ r)
+first_below [] q h = absurd h
+first_below (s ∷ p) q h = (s, p, refl)
+
+second_below : (p q : List Step) → Before p q → (s : Step) × (r : List Step) × (q ≡ s ∷ r)
+second_below [] q h = absurd h
+second_below (t ∷ p) [] h = absurd h
+second_below (t ∷ p) (s ∷ q) h = (s, q, refl)
+
+all_below : (doc : ℕ) (p : List Step) (cs : List Changed) → ToEach Before p cs → AreKept cs → AllLeave (ops_of doc cs)
+all_below doc p [] h k = tt
+all_below doc p (c ∷ cs) h k = leave_join (change_ops doc c) (ops_of doc cs) (below_leaves doc c (second_below p c.0 h.0) k.0) (all_below doc p cs h.1 k.1)
+
+one_leaves : (doc : ℕ) (c : Changed) → IsKept c.1 → PutsOrLeaves doc (c ∷ [])
+one_leaves doc ([], replaces v) k = inl (v, refl)
+one_leaves doc (s ∷ p, replaces v) k = inr ((s, p, refl), tt)
+one_leaves doc (p, adds xs) k = inr (leave_join (map (add_op doc p) xs) [] (adds_leave doc p xs) tt)
+one_leaves doc (p, changes.removes) k = absurd k
+one_leaves doc (p, sets_comment comments.Line text) k = inr (tt, tt)
+one_leaves doc (p, sets_comment comments.Head text) k = inr (tt, tt)
+
+pub puts_or_leaves : (doc : ℕ) (cs : List Changed) → InPairs Before cs → AreKept cs → PutsOrLeaves doc cs
+puts_or_leaves doc [] h k = inr tt
+puts_or_leaves doc (c ∷ []) h k = one_leaves doc c k.0
+puts_or_leaves doc (c ∷ (d ∷ ds)) h k =
+    inr (leave_join (change_ops doc c) (ops_of doc (d ∷ ds)) (below_leaves doc c (first_below c.0 d.0 h.0.0) k.0) (all_below doc c.0 (d ∷ ds) h.0 k.1))
+
+kept_document : (block : Bool) (doc : ℕ) (cs : List Changed) (d : Document) → IsLed block d → InPairs Before cs → AreKept cs →
+    document_after block (ops_of doc cs) d ≡ with_tree block (roots_after block d.lead (ops_of doc cs) d.root) d
+kept_document block doc cs d is h k = elim (puts_or_leaves doc cs h k) [
+  | inl x ↦ subst (λ (xs : List Changed). document_after block (ops_of doc xs) d ≡ with_tree block (roots_after block d.lead (ops_of doc xs) d.root) d) (sym x.1) refl
+  | inr l ↦ leaving block (ops_of doc cs) l d is
+]
+
+-- ---- where entries or items are removed
+
+-- none of these is at the path of that one step
+abbrev pub NoneAt : Step → List Changed → Type 0
+NoneAt s [] = Unit {0}
+NoneAt s (c ∷ cs) = (c.0 ≢ s ∷ []) × NoneAt s cs
+
+-- none but perhaps the first
+abbrev pub NoneLater : Step → List Changed → Type 0
+NoneLater s [] = Unit {0}
+NoneLater s (c ∷ cs) = NoneAt s cs
+
+-- the first item or entry of a root is changed first
+abbrev pub FirstIn : Children → List Changed → Type 0
+FirstIn none cs = Unit {0}
+FirstIn (child label n ds) cs = NoneLater (step_to 0 label) cs
+
+abbrev pub IsFirst : Node → List Changed → Type 0
+IsFirst root cs = FirstIn (children_of root) cs
+
+-- nothing is done at the first item or entry
+abbrev FirstFree : Deeds → Children → Type 0
+FirstFree f none = Unit {0}
+FirstFree f (child label n cs) = f (step_to 0 label ∷ []) ≡ None
+
+-- the lead that one tree gives is that of another which has the same first item or entry
+lead_kept : (block : Bool) (f : Deeds) (lead : List (List ℕ)) (cs ds : Children) → FirstFree f cs → ds ≡ each_at_once f 0 cs → lead_by block ds lead ≡ lead_by block cs lead
+lead_kept block f lead none ds h is = ap (λ k. lead_by block k lead) is
+lead_kept block f lead (child label n cs) ds h is =
+    ap (λ k. lead_by block k lead) is
+    ∙ (ap (λ (d : Option Deed). lead_by block (child_by d label (done_at d n (inside (under (step_to 0 label) f) n)) (each_at_once f 1 cs)) lead) h ∙ same block)
+  where
+    same : (b : Bool) → lead_by b (child label (inside (under (step_to 0 label) f) n) (each_at_once f 1 cs)) lead ≡ lead_by b (child label n cs) lead
+    same true = refl
+    same false = refl
+
+root_kept : (block : Bool) (f : Deeds) (lead : List (List ℕ)) (root : Node) → f [] ≡ None → FirstFree f (children_of root) → lead_by block (children_of (at_once f root)) lead ≡ lead_by block (children_of root) lead
+root_kept block f lead root free h = ap (λ (d : Option Deed). lead_by block (children_of (done_at d root (inside f root))) lead) free ∙ go root h
+  where
+    go : (n : Node) → FirstFree f (children_of n) → lead_by block (children_of (inside f n)) lead ≡ lead_by block (children_of n) lead
+    go (alias name) h = refl
+    go (scalar anchor kind text) h = refl
+    go (list anchor cs) h = lead_kept block f lead cs (each_at_once f 0 cs) h refl
+    go (tree.map anchor cs) h = lead_kept block f lead cs (each_at_once f 0 cs) h refl
+
+module _ (block : Bool) (doc : ℕ) (d : Document) (is : IsLed block d) (tree : IsTree d.root) where
+  -- nothing is done at a path at which there is no change
+  not_done : (s : Step) (cs : List Changed) → NoneAt s cs → deeds_of block d.lead cs (s ∷ []) ≡ None
+  not_done s [] h = refl
+  not_done s (c ∷ cs) h = go (same_path c.0 (s ∷ [])) refl (not_done s cs h.1)
+    where
+      go : (b : Bool) → same_path c.0 (s ∷ []) ≡ b → deeds_of block d.lead cs (s ∷ []) ≡ None → cond b (Some (deed_of block d.lead c)) (deeds_of block d.lead cs (s ∷ [])) ≡ None
+      go true e rest = absurd (h.0 (path_same c.0 (s ∷ []) e))
+      go false e rest = rest
+
+  first_free : (kids : Children) (c : Changed) (cs : List Changed) → FirstIn kids (c ∷ cs) → FirstFree (deeds_of block d.lead cs) kids
+  first_free none c cs h = tt
+  first_free (child label n ds) c cs h = not_done (step_to 0 label) cs h
+
+  first_rest : (kids : Children) (c : Changed) (cs : List Changed) → FirstIn kids (c ∷ cs) → FirstIn kids cs
+  first_rest none c cs h = tt
+  first_rest (child label n ds) c [] h = tt
+  first_rest (child label n ds) c (e ∷ es) h = h.1
+
+  gone_ops : (c : Changed) (lead : List (List ℕ)) → IsGone c.1 → (n : Node) → document_after block (change_ops doc c)
+      (record { lead = lead; root = n }) ≡ record { lead = lead_by block (children_of (roots_after block lead (change_ops doc c) n)) lead; root = roots_after block lead (change_ops doc c) n }
+  gone_ops (p, replaces v) lead g n = absurd g
+  gone_ops (p, adds xs) lead g n = absurd g
+  gone_ops (p, changes.removes) lead g n = refl
+  gone_ops (p, sets_comment place text) lead g n = absurd g
+
+  removed_document : (cs : List Changed) → InPairs Before cs → AreGone cs → IsFirst d.root cs → document_after block (ops_of doc (reverse cs)) d ≡ changed_at_once block cs d
+  removed_document [] h g f =
+      ap (λ (lead : List (List ℕ)). record d { lead = lead }) (sym is) ∙ ap (λ (n : Node). with_tree block n d) (sym (idle (deeds_of block d.lead []) d.root (λ q. refl)))
+  removed_document (c ∷ cs) h g f =
+      let later : Deeds = deeds_of block d.lead cs in
+      let spared : AreSpared block d.lead (c ∷ cs) = spared_in_order block d.lead (c ∷ cs) h in
+      let root : Node = at_once later d.root in
+      let kept : lead_by block (children_of root) d.lead ≡ d.lead = root_kept block later d.lead d.root (spares_root later c.0 spared.0) (first_free (children_of d.root) c cs f) ∙ is in
+      let made : roots_after block d.lead (change_ops doc c) root ≡ at_once (deeds_of block d.lead (c ∷ cs)) d.root =
+      change_after block d.lead doc c root ∙ sym (one_more c.0 (deed_of block d.lead c) later d.root tree spared.0) in
+      ap (λ (xs : List Changed). document_after block (ops_of doc xs) d) (reverse-cons c cs)
+      ∙ (ap (λ (ops : List Operation). document_after block ops d) (ops_join block d.lead doc (reverse cs) (c ∷ []))
+      ∙ (document_join block (ops_of doc (reverse cs)) (change_ops doc c ++ []) d
+      ∙ (ap (document_after block (change_ops doc c ++ [])) (removed_document cs h.1 g.1 (first_rest (children_of d.root) c cs f))
+      ∙ (ap (λ (ops : List Operation). document_after block ops (with_tree block root d)) (append-nil (change_ops doc c))
+      ∙ (ap (λ (lead : List (List ℕ)). document_after block (change_ops doc c) (record { lead = lead; root = root })) kept
+      ∙ (gone_ops c d.lead g.0 root
+      ∙ ap (λ (n : Node). with_tree block n d) made))))))
+
+  -- the operations of changes, one after the other, make all of them in a document
+  pub document_folds : (removal : Bool) (cs : List Changed) → InPairs Before cs → MayFold removal cs → (removal ≡ true → IsFirst d.root cs) → document_after block (ops_of doc (ordered removal cs)) d ≡ changed_at_once block cs d
+  document_folds true cs h k f = removed_document cs h k (f refl)
+  document_folds false cs h k f =
+      kept_document block doc cs d is h k ∙ ap (λ (n : Node). with_tree block n d) (folds block d.lead doc d.root tree false cs h k)

@@ -1,0 +1,194 @@
+-- What the rows of a text spell is told by reading their heads again.
+use Rattle.std.proofs.Common.{◌≡◌, ℕ, ℤ, zero, suc, ◌+◌, ◌<◌, ◌≤◌, Bool, true, false, ◌&&◌, cond, not, codes, List, [], ◌∷◌, ◌++◌, length, drop, get_or, Option, Some, None, refl, sym, ap, ◌∙◌, subst, arith, append_assoc, length-append}
+use Rattle.std.proofs.Math.Seq.{drop-append_seam, get_or-append_seam}
+use Rattle.std.proofs.lemmas.Bool.{false≢true}
+use Rattle.std.proofs.lemmas.List.{length-map}
+use Rattle.std.proofs.lemmas.Option.{cond_some, slice_get-map}
+use Rattle.std.proofs.lemmas.Str.{IsCharBoundary-start}
+use Rattle.std.specs.List.{slice_get}
+use Rattle.std.specs.Prelude.{String, option_and_then, option_map, string_bytes}
+use Rattle.std.specs.declared.alloc.Global.{Global}
+use Rattle.std.specs.Str.{IsCharBoundary, IsUtf8}
+use Rattle.yq_scalar.specs.Answers.{Fails}
+use Rattle.yq_scalar.specs.Quoted.{IsQuotedText}
+use Rattle.yq_scalar.specs.Text.{is_empty}
+use Rattle.yq_scalar.specs.Tree as trees
+use Rattle.yq_scalar.specs.declared.fault.ReadError.{ReadError}
+use Rattle.yq_scalar.specs.declared.fault.ReadError.TheVariants as errors
+use Rattle.yq_inline.specs.Scalars.{content_of, is_quoted}
+use Rattle.yq_lines.specs.declared.line.Head.{Head}
+use Rattle.yq_lines.specs.View.{head_flow, head_view}
+use Rattle.yq_rows.specs.Exchange.{before_content, behind_row, rows_behind}
+use Rattle.yq_rows.specs.Grammar.{IsMark}
+use Rattle.yq_rows.specs.Rows as rows
+use Rattle.yq_rows.specs.Rows.{Row, Cut, content_text, parent_indent}
+use Rattle.yq_rows.specs.View.{Slices, colon_of, content_cut, key_of, slices, rows_of, Shown, shown}
+use Rattle.yq_rows.proofs.PlaceLaws.{RowIn, place, row_in}
+use Rattle.yq_rows.proofs.SliceLaws.{content_slices}
+use Rattle.yq_documents.specs.FlowReading.{head_flow_at, row_flow}
+use Rattle.yq_documents.specs.KeyReading.{EndsIn}
+use Rattle.yq_documents.specs.Made.{IsToldBy, lent_head, lent_text, made_or}
+use Rattle.yq_documents.specs.Reading.{content_is_fit, cut_of, mark_is_fit}
+use Rattle.yq_documents.specs.RowReading.{head_at, row_fits}
+use Rattle.yq_documents.specs.declared.made.Made.{Made}
+use Rattle.yq_walk.specs.Lines.{head_of}
+use Rattle.yq_documents.proofs.HeadLaws.{fitting, head_is, head_text}
+use Rattle.yq_documents.proofs.RowFlowLaws.{flow_is}
+use Rattle.yq_documents.proofs.RowLineLaws.{content_quoted}
+use Rattle.yq_walk.proofs.RowLaws.{colon_some, mark_quoted}
+use Rattle.yq_lines.proofs.OneLine.{kept}
+use Rattle.yq_reading.specs.Checking.{lends_head, lends_text}
+use Rattle.yq_reading.specs.Deciding.{Denies}
+use Rattle.yq_reading.specs.FitReading.{key_fits}
+use Rattle.yq_reading.specs.Making.{IsCutInto, IsHeadMade, IsKeyMade}
+use Rattle.yq_reading.proofs.LendLaws.{lends_key, lent_read}
+
+-- a key is fit that is no plain `<<`
+key_fit : (m : rows.Mark) → key_fits (key_of m) ≡ mark_is_fit m
+key_fit rows.Bare = refl
+key_fit rows.Dash = refl
+key_fit (rows.Key key colon) = refl
+
+-- where a head isn't read, its keys aren't fit
+pub unfit_told : (e : ReadError) (o : Option (Option trees.Node)) (fit : Bool) (head : Option trees.Node) → o ≡ fitting fit head → Fails e o → Denies e fit
+unfit_told errors.Memory o fit head is f = tt
+unfit_told (errors.Fault k) o true head is f = absurd (cc)
+unfit_told (errors.Fault k) o false head is f = refl
+
+pub fit_told : (o : Option (Option trees.Node)) (fit : Bool) (head x : Option trees.Node) → o ≡ fitting fit head → o ≡ Some x → fit ≡ true
+fit_told o fit head x is e = (cond_some fit _ _ (sym is ∙ e)).0
+
+-- a row without a colon has no key, which is fit and stands for itself
+no_key : (m : rows.Mark) (c : rows.Content) (rest : List ℕ) → IsMark m c rest → is_empty (colon_of m) ≡ true → (mark_is_fit m ≡ true) × (lent_text (key_of m) ≡ content_of (key_of m))
+no_key rows.Bare c rest h e = (refl, kept [] refl refl)
+no_key rows.Dash c rest h e = (refl, kept [] refl refl)
+no_key (rows.Key key colon) c rest h e = absurd (false≢true (sym (ap is_empty h.colon_is.spelled ∙ colon_some h.colon_is.white) ∙ e))
+
+-- no head is lent
+pub no_head : (h : List ℕ) → is_empty h ≡ true → lends_head h ≡ true
+no_head [] e = refl
+no_head (b ∷ bs) e = absurd (false≢true e)
+
+-- what is made of a row's key and of its head is made of the row
+pub told_by : (t : List ℕ) (i : ℕ) (r : Row) (key : Option (String Global)) (head : Option Head) (m : Option Made) → IsKeyMade key r → IsHeadMade t i head r →
+    option_and_then (λ x. option_map string_bytes x.key) m ≡ option_map string_bytes key → option_and_then (λ x. option_map head_view x.head) m ≡ option_map head_view head → option_and_then (λ x. option_and_then head_flow x.head) m ≡ option_and_then head_flow head → IsToldBy (length t) (cut_of t) m i r
+told_by t i r key head m spelled made k h f = record {
+  key = ap (λ o. made_or o (lent_text (slices r).key)) k ∙ spelled;
+  head = ap (λ o. made_or o (lent_head (slices r).head)) h ∙ made.head;
+  flow = f ∙ made.flow;
+}
+
+-- a row is there
+has_row : (rs : List Row) (i : ℕ) → i < length rs → (r : Row) × (slice_get rs i ≡ Some r)
+has_row [] i h = absurd (omega (arith, h))
+has_row (r ∷ rs) zero h = (r, refl)
+has_row (r ∷ rs) (suc i) h = has_row rs i (omega (arith, h))
+
+pub rows_count : (t : List ℕ) (s : Shown) → IsCutInto t s → length s.rows ≡ length (rows_of (cut_of t))
+rows_count t s k = ap (λ (y : Shown). length y.rows) k.rows ∙ length-map (rows_of (cut_of t)) slices
+
+pub row_at : (t : List ℕ) (s : Shown) → IsCutInto t s → (i : ℕ) → i < length s.rows → (r : Row) × (slice_get (rows_of (cut_of t)) i ≡ Some r)
+row_at t s k i h = has_row (rows_of (cut_of t)) i (omega (arith, h, rows_count t s k))
+
+regroup : (a b c d e : List ℕ) → a ++ (b ++ (c ++ (d ++ e))) ≡ (a ++ (b ++ (c ++ d))) ++ e
+regroup a b c d e = simp append_assoc refl
+
+-- a head that isn't lent is written, and begins with a whole character
+unlent_some : (h : List ℕ) → lends_head h ≡ false → is_empty h ≡ false
+unlent_some [] e = absurd (false≢true (sym e))
+unlent_some (b ∷ bs) e = refl
+
+whole_there : (t before h more : List ℕ) (n : ℕ) → t ≡ before ++ (h ++ more) → n ≡ length before → is_empty h ≡ false → IsUtf8 h → IsCharBoundary t n
+whole_there t before [] more n is at some u = absurd (false≢true (sym some))
+whole_there t before (b ∷ h) more n is at some u =
+    let first : 128 ≤ b → 192 ≤ b = (IsCharBoundary-start (b ∷ h) u).1 (omega arith) in
+    let there : get_or (before ++ (b ∷ (h ++ more))) (length before) 0 ≡ b = get_or-append_seam before b (h ++ more) 0 in
+    subst (λ (x : List ℕ). IsCharBoundary x n) (sym is)
+    (subst (IsCharBoundary (before ++ (b ∷ (h ++ more)))) (sym at) (omega (arith, length-append before (b ∷ (h ++ more))), λ _ high. omega (arith, there, first (omega (arith, there, high)))))
+
+-- a row of a text
+module _ (t : List ℕ) (s : Shown) (k : IsCutInto t s) (i : ℕ) (r : Row) (is : slice_get (rows_of (cut_of t)) i ≡ Some r) where
+  abbrev c : Cut
+  c = cut_of t
+
+  abbrev before : List ℕ
+  before = before_content i c ++ ((slices r).space ++ ((slices r).anchor ++ (slices r).apart))
+
+  abbrev behind : List ℕ
+  behind = head_text r.content (behind_row i c)
+
+  pub pieces_there : slice_get s.rows i ≡ Some (slices r)
+  pieces_there = ap (λ (y : Shown). slice_get y.rows i) k.rows ∙ (slice_get-map slices (rows_of c) i ∙ ap (option_map slices) is)
+
+  row_here : RowIn r (behind_row i c) (rows_behind i c)
+  row_here = row_in c i true r k.cut.parts is
+
+  pub head_quoted : (h : List ℕ) → h ≡ (slices r).head → is_quoted h ≡ true → IsQuotedText h
+  head_quoted h e = subst (λ (x : List ℕ). is_quoted x ≡ true → IsQuotedText x) (sym e) (content_quoted (parent_indent r) r.content (behind_row i c) row_here.row.content)
+
+  pub key_quoted : (h : List ℕ) → h ≡ (slices r).key → is_quoted h ≡ true → IsQuotedText h
+  key_quoted h e = subst (λ (x : List ℕ). is_quoted x ≡ true → IsQuotedText x) (sym e) (mark_quoted r.mark r.content (behind_row i c) row_here.row.mark)
+
+  pub keyless : is_empty (slices r).colon ≡ true → (mark_is_fit r.mark ≡ true) × IsKeyMade None r
+  keyless = no_key r.mark r.content (behind_row i c) row_here.row.mark
+
+  -- the key is written
+  module _ (key : List ℕ) (is_key : key ≡ (slices r).key) where
+    pub key_fits_is : key_fits key ≡ mark_is_fit r.mark
+    key_fits_is = ap key_fits is_key ∙ key_fit r.mark
+
+    pub key_lent : lends_text key ≡ true → IsKeyMade None r
+    key_lent lends = lends_key (slices r).key (key_quoted (slices r).key refl) (ap lends_text (sym is_key) ∙ lends)
+
+  pub text_there : t ≡ before ++ behind
+  text_there =
+      let x : Slices = slices r in
+      k.cut.text
+      ∙ (place c i r is
+      ∙ (ap (λ (y : List ℕ). before_content i c ++ y) (sym (content_slices r.content (behind_row i c))) ∙ regroup (before_content i c) x.space x.anchor x.apart behind))
+
+  read_again : head_at t (parent_indent r) (slices r).head behind ≡ fitting (content_is_fit r.content) (head_of r.content)
+  read_again = head_is t (parent_indent r) r.content (behind_row i c) (before, text_there) row_here.row.content
+
+  flow_again : head_flow_at t (parent_indent r) (slices r).head behind ≡ row_flow (length t) r (behind_row i c)
+  flow_again = flow_is t (parent_indent r) r.content (behind_row i c) (before, text_there) row_here.row.content
+
+  -- the head is lent
+  module _ (h : List ℕ) (head : h ≡ (slices r).head) (lends : lends_head h ≡ true) where
+    lent_so : (fitting (content_is_fit r.content) (head_of r.content) ≡ Some (lent_head (slices r).head)) × (None ≡ row_flow (length t) r (behind_row i c))
+    lent_so =
+        let l = lent_read t (parent_indent r) (slices r).head behind (head_quoted (slices r).head refl) (ap lends_head (sym head) ∙ lends) in
+        (sym read_again ∙ l.0, sym l.1 ∙ flow_again)
+
+    pub lent_fit : content_is_fit r.content ≡ true
+    lent_fit = (cond_some (content_is_fit r.content) _ _ lent_so.0).0
+
+    pub lent_made : IsHeadMade t i None r
+    lent_made = record { head = sym (cond_some (content_is_fit r.content) _ _ lent_so.0).1; flow = lent_so.1 }
+
+  pub place_whole : (h : List ℕ) (n : ℕ) → h ≡ (slices r).head → lends_head h ≡ false → IsUtf8 h → n ≡ length before → IsCharBoundary t n
+  place_whole h n e unlent u at =
+      let x : Slices = slices r in
+      let rest : List ℕ = x.tail ++ (x.raw ++ behind_row i c) in
+      whole_there t before h rest n (text_there ∙ ap (λ (y : List ℕ). before ++ (y ++ rest)) (sym e)) at (unlent_some h unlent) u
+
+  -- the head is read
+  module _ (text : List ℕ) (start : ℕ) (from : text ≡ drop start t) (place_is : start ≡ length before) where
+    from_there : text ≡ behind
+    from_there = from ∙ ((λ j. drop (place_is j) (text_there j)) ∙ drop-append_seam before behind)
+
+    pub text_ends : EndsIn t text
+    text_ends = (before, text_there ∙ ap (λ (x : List ℕ). before ++ x) (sym from_there))
+
+    module _ (p : ℤ) (h : List ℕ) (parent : p ≡ parent_indent r) (head : h ≡ (slices r).head) where
+      pub head_read : head_at t p h text ≡ fitting (content_is_fit r.content) (head_of r.content)
+      head_read = (λ j. head_at t (parent j) (head j) (from_there j)) ∙ read_again
+
+      flow_read : head_flow_at t p h text ≡ row_flow (length t) r (behind_row i c)
+      flow_read = (λ j. head_flow_at t (parent j) (head j) (from_there j)) ∙ flow_again
+
+      pub read_made : (x : Head) → head_at t p h text ≡ Some (head_view x) → head_flow x ≡ head_flow_at t p h text → IsHeadMade t i (Some x) r
+      read_made x view flow = record {
+        head = sym (cond_some (content_is_fit r.content) _ _ (sym head_read ∙ view)).1;
+        flow = flow ∙ flow_read;
+      }

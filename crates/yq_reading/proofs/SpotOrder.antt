@@ -1,0 +1,52 @@
+-- In which order lines stand by their rows.
+use Rattle.std.proofs.Common.{◌≡◌, ◌⊎◌, inl, inr, ℕ, suc, ◌+◌, ◌-◌, ◌<◌, ◌≤◌, true, length, take, Some, sym, ap, ◌∙◌, arith}
+use Rattle.std.proofs.lemmas.Bool.{cases_lt, false≢true}
+use Rattle.std.proofs.lemmas.Option.{same_Some}
+use Rattle.std.specs.List.{slice_get}
+use Rattle.std.specs.Prelude.{is_some}
+use Rattle.yq_lines.specs.Outline.{Line}
+use Rattle.yq_rows.specs.View.{slices, Shown}
+use Rattle.yq_walk.specs.Lines.{lines_of}
+use Rattle.yq_walk.specs.Extents.{lines_before_mark}
+use Rattle.yq_walk.specs.RowWalk.{HasRows, IsLine, IsSpot, line_number}
+use Rattle.yq_walk.specs.declared.spot.Spot.{Spot}
+use Rattle.yq_walk.specs.declared.spot.Stretch.{Stretch}
+use Rattle.yq_walk.proofs.WalkEnds.{lines_upto}
+use Rattle.yq_walk.proofs.WalkSpots.{located, spot_line}
+
+-- a later line is of no earlier row
+pub row_order : (s : Shown) (d : Stretch) (h : HasRows s d) (q e : Spot) → IsLine s d q → IsSpot s d e → line_number d h.rows q < line_number d h.rows e → q.row ≤ e.row
+row_order s d h q e at to less = go (cases_lt e.row q.row)
+  where
+    go : (e.row < q.row) ⊎ (q.row ≤ e.row) → q.row ≤ e.row
+    go (inl before) =
+        let k = located s d h e (spot_line s d e to (omega (arith, before, at.upto))) in
+        let i : ℕ = e.row - d.first in
+        let n : ℕ = (q.row - d.first) - suc i in
+        let same : q.row - d.first ≡ suc i + n = omega (arith, before, at.from, to.from) in
+        absurd (omega (arith, less, k.within, lines_upto h.rows i n k.row k.there, ap (λ (m : ℕ). length (lines_of (take m h.rows))) same))
+    go (inr after) = after
+
+-- a line behind the last one of a row is of a later row
+pub row_later : (s : Shown) (d : Stretch) (h : HasRows s d) (q e : Spot) (at : IsLine s d q) → IsSpot s d e → line_number d h.rows q < line_number d h.rows e → q.line ≡ length (located s d h q at).row.dashes → q.row < e.row
+row_later s d h q e at to less last = go (cases_lt q.row e.row)
+  where
+    go : (q.row < e.row) ⊎ (e.row ≤ q.row) → q.row < e.row
+    go (inl later) = later
+    go (inr other) =
+        let k = located s d h q at in
+        let same : q.row ≡ e.row = omega (arith, other, row_order s d h q e at to less) in
+        let counted : lines_before_mark (slices k.row) ≡ length k.row.dashes = k.telling.counted in
+        let there : slice_get s.rows e.row ≡ Some (slices k.row) = ap (slice_get s.rows) (sym same) ∙ k.pieces in
+        absurd (omega (arith, less, last, counted, to.line (slices k.row) there, ap (λ (m : ℕ). length (lines_of (take (m - d.first) h.rows))) same))
+
+-- a line with a head is the last one of its row
+pub head_last : (s : Shown) (d : Stretch) (h : HasRows s d) (q : Spot) (at : IsLine s d q) (l : Line) → slice_get (lines_of h.rows) (line_number d h.rows q) ≡ Some l → true ≡ is_some l.head → q.line ≡ length (located s d h q at).row.dashes
+head_last s d h q at l is some = go (cases_lt q.line (length (located s d h q at).row.dashes))
+  where
+    go : (q.line < length (located s d h q at).row.dashes) ⊎ (length (located s d h q at).row.dashes ≤ q.line) → q.line ≡ length (located s d h q at).row.dashes
+    go (inl less) =
+        let k = located s d h q at in
+        let own : k.line ≡ l = same_Some _ _ (sym k.is ∙ is) in
+        absurd (false≢true (ap is_some (sym (k.told.dash less).1 ∙ ap (λ (y : Line). y.head) own) ∙ sym some))
+    go (inr past) = omega (arith, past, (located s d h q at).within)

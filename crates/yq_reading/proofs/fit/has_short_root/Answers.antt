@@ -1,0 +1,12 @@
+use Rattle.std.proofs.Common.{not, ap, ◌∙◌, arith, sym}
+use Rattle.std.specs.List.{slice_get}
+use Rattle.yq_rows.specs.View.{view as row_view}
+use Rattle.yq_walk.proofs.WalkSpots.{has_row}
+use Rattle.yq_reading.proofs.FitLaws.{short_some, short_none}
+use Rattle.yq_reading.proofs.fit.has_short_root.Goals as goal
+
+pub returns-then-document : goal.returns-then-document
+returns-then-document c = λ h. short_none c.args.rows.now c.args.document c.if-document.true h
+
+pub returns : goal.returns
+returns c = λ h. ap not c.is_long.ensures ∙ short_some c.args.rows.now c.args.document (row_view c.row.result) c.row.ensures c.if-document.false h

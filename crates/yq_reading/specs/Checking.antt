@@ -1,0 +1,81 @@
+-- Reading (own; a reader may skip it): a document of a text whose rows are cut, with what is made of these.
+use Rattle.std.specs.Prelude.{◌≡◌, ℕ, ◌<◌, List, length, slice_get, Some, Bool, false, ◌&&◌, ◌||◌, ◌-◌, ◌==◌, not, take, drop, if◌then◌else◌}
+use Rattle.std.specs.List.{list_any}
+use Rattle.yq_scalar.specs.Plain.{holds_break}
+use Rattle.yq_inline.specs.Scalars.{is_quoted}
+use Rattle.yq_inline.specs.Nodes.{first_is}
+use Rattle.yq_lines.specs.Ends.{IsEndOf, is_end, part}
+use Rattle.yq_rows.specs.Grammar.{IsCut}
+use Rattle.yq_rows.specs.Rows.{Row, Cut}
+use Rattle.yq_rows.specs.View.{rows_of, Shown, shown}
+use Rattle.yq_walk.specs.Extents.{IsShown}
+use Rattle.yq_lines.specs.Outline.{Line}
+use Rattle.yq_walk.specs.Lines.{lines_of}
+use Rattle.yq_walk.specs.RowWalk.{HasRows, IsSpot, OfLines, line_number, lines_stop}
+use Rattle.yq_walk.specs.declared.spot.Spot.{Spot}
+use Rattle.yq_walk.specs.declared.spot.Stretch.{Stretch}
+use Rattle.yq_lines.specs.Names.{is_reference}
+use Rattle.yq_documents.specs.Made.{IsTold, Rise, told_flow}
+use Rattle.yq_reading.specs.Named.{flow_names}
+use Rattle.yq_documents.specs.RowReading.{begins_block}
+use Rattle.yq_documents.specs.declared.made.Made.{Made}
+use Rattle.yq_reading.specs.declared.checked.Checked.{Checked}
+
+-- a backslash in double quotes, or a quote in single ones, stands behind the first byte and before the last (own)
+abbrev pub holds_escape : List ℕ → Bool
+holds_escape t = if is_quoted t then list_any (λ b. b == (if first_is 34 t then 92 else 39)) (take (length t - 2) (drop 1 t)) else false
+
+-- the text lends what a key or scalar stands for: it is on one line, and has no escapes (own)
+abbrev pub lends_text : List ℕ → Bool
+lends_text t = not (holds_break t) && not (holds_escape t)
+
+-- an alias, a flow collection or a block scalar begins so (own)
+abbrev pub begins_tree : List ℕ → Bool
+begins_tree t = begins_block t || (first_is 42 t || (first_is 91 t || first_is 123 t))
+
+-- the text lends what a head spells (own)
+abbrev pub lends_head : List ℕ → Bool
+lends_head t = not (begins_tree t) && lends_text t
+
+-- The rows of a document are those of a cut, and it is told what is made of the rows of the cut (own).
+pub record IsReady (t : List ℕ) (s : Shown) (ms : List Made) (d : Stretch) : Type 0 where
+  pub cut : Cut
+  pub is_cut : IsCut t cut
+  pub rows : s ≡ shown cut
+  pub shown : IsShown s
+  pub document : HasRows s d
+  pub there : document.rows ≡ take (d.end - d.first) (drop d.first (rows_of cut))
+  pub rise : Rise 0 ms
+  pub told : (i : ℕ) (r : Row) → slice_get (rows_of cut) i ≡ Some r → IsTold (length t) cut ms i r
+
+-- an alias is in what is made of a row (own)
+abbrev pub made_refers : Made → Bool
+made_refers m = list_any is_reference (flow_names (told_flow (Some m)))
+
+-- an alias is in what is made of rows (own)
+abbrev pub some_refer : List Made → Bool
+some_refer ms = list_any made_refers ms
+
+-- The document that is checked is such a one (own).
+abbrev pub IsChecked : Checked → Type 0
+IsChecked x = IsReady x.text.now x.rows.now x.made.now x.document
+
+-- What is said of the lines of the document that is checked, with their numbers (own).
+abbrev pub OfChecked : Checked → (List Line → (Spot → ℕ) → Type 0) → Type 0
+OfChecked x said = (k : IsChecked x) → said (lines_of k.document.rows) (line_number x.document k.document.rows)
+
+-- What is said of one of them (own).
+abbrev pub OfCheckedLine : Checked → Spot → (List Line → (Spot → ℕ) → Line → Type 0) → Type 0
+OfCheckedLine x at said = OfChecked x (λ ls n. (l : Line) → slice_get ls (n at) ≡ Some l → said ls n l)
+
+-- The spot behind the lines from one on that are deeper than a level is given, where there is no fault (own).
+pub record GivesStop (s : Shown) (d : Stretch) (from : Spot) (floor : ℕ) (q : Spot) : Type 0 where
+  pub spot : IsSpot s d q
+  pub number : OfLines s d (λ ls n. n q ≡ lines_stop (n from) floor ls)
+  pub later : OfLines s d (λ ls n. is_end (part ls (n from) floor) ≡ false → from.row < q.row)
+
+-- The spot behind a line and those under it is given, where there is no fault (own).
+pub record GivesEnd (s : Shown) (d : Stretch) (at : Spot) (q : Spot) : Type 0 where
+  pub spot : IsSpot s d q
+  pub end : OfLines s d (λ ls n. IsEndOf ls (n at) (n q))
+  pub later : at.row < q.row

@@ -1,0 +1,25 @@
+-- Reading (own; a reader may skip it: the grammar is what is believed, and the clauses `found` and `only` tie the two): what is asked of rows, by their pieces.
+use Rattle.std.specs.Prelude.{Bool, ◌||◌, ◌&&◌, not, List, ℕ, codes}
+use Rattle.std.specs.Str.{bytes_eq}
+use Rattle.yq_scalar.specs.Plain.{holds_break}
+use Rattle.yq_scalar.specs.Text.{is_empty}
+use Rattle.yq_inline.specs.Nodes.{first_is}
+use Rattle.yq_inline.specs.Scalars.{is_quoted}
+use Rattle.yq_rows.specs.View.{Slices}
+use Rattle.yq_documents.specs.RowReading.{begins_block}
+
+-- a plain scalar, among heads (own)
+abbrev pub is_plain_head : List ℕ → Bool
+is_plain_head head = not (is_empty head) && (not (begins_block head) && not (is_quoted head || (first_is 42 head || (first_is 91 head || first_is 123 head))))
+
+-- a break is in an anchor, behind it or in its head (own)
+abbrev pub has_break : Slices → Bool
+has_break s = holds_break s.anchor || (holds_break s.apart || holds_break s.head)
+
+-- the row is a plain scalar of several lines alone (own)
+abbrev pub is_long : Slices → Bool
+is_long s = is_empty s.dashes && (is_empty s.colon && (is_plain_head s.head && has_break s))
+
+-- a key as it is written, if there is one, is no plain `<<` (own)
+abbrev pub key_fits : List ℕ → Bool
+key_fits key = not (bytes_eq key (codes "<<"))

@@ -1,0 +1,58 @@
+//! A document whose rows are checked.
+ghost use Rattle.std.specs.Prelude.{◌≡◌, ◌≢◌};
+ghost use Rattle.yq_scalar.specs.declared.fault.FaultKind.TheVariants.{NotUtf8};
+ghost use Rattle.yq_lines.specs.Bodies.{lent};
+ghost use Rattle.yq_lines.specs.Outline as outline;
+ghost use Rattle.yq_walk.specs.RowWalk.{IsLine, OfLine};
+ghost use Rattle.yq_reading.specs.Checking.{IsChecked};
+
+use yq_documents::{Made, fault_at, made_at, told_key};
+use yq_rows::Rows;
+use yq_scalar::{FaultKind, ReadFault};
+use yq_walk::{Spot, Stretch, level_at, rank_at};
+
+/// A document of a text whose rows are cut, with what is made of these.
+#[derive(Clone, Copy, Debug)]
+pub(crate) struct Checked<'a, 't> {
+    pub(crate) text: &'t str,
+    pub(crate) rows: &'a Rows<'t>,
+    pub(crate) made: &'a [Made<'t>],
+    pub(crate) document: Stretch,
+}
+
+/// A fault of the row of a line: it is told on the line of the text behind the row's gap.
+pub(crate) fn row_fault(x: Checked<'_, '_>, at: Spot, kind: FaultKind) -> ReadFault
+    requires kind { kind ≢ NotUtf8 }
+    ensures { result.kind ≢ NotUtf8 }
+{
+    let place = if at.row < x.rows.len() {
+        x.rows
+            .start(at.row)
+            .saturating_add(x.rows.gap(at.row).len())
+    } else {
+        x.text.len()
+    };
+    fault_at(kind, x.text, place)
+}
+
+/// How deep a line is.
+pub(crate) fn line_level(x: Checked<'_, '_>, at: Spot) -> usize
+    requires ready { IsChecked x }
+    requires line { IsLine x.rows.now x.document at }
+    ensures { OfLine x.entry.rows.now x.entry.document at (λ l. result ≡ outline.level l) }
+{
+    level_at(x.rows, at)
+}
+
+/// The key of a line, if it has one.
+pub(crate) fn line_key<'a>(x: Checked<'a, '_>, at: Spot) -> Option<&'a str>
+    requires ready { IsChecked x }
+    requires line { IsLine x.rows.now x.document at }
+    ensures { OfLine x.entry.rows.now x.entry.document at (λ l.
+        lent result ≡ outline.key_of l.mark) }
+{
+    if rank_at(x.rows, at) != 2 {
+        return None;
+    }
+    Some(told_key(made_at(x.made, at.row), x.rows.key(at.row)))
+}

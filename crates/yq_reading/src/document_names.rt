@@ -1,0 +1,37 @@
+//! The anchors and aliases of a document, in the order of the text.
+ghost use Rattle.std.specs.Prelude.{◌≡◌, ◌++◌, option_map, IfOk, OnOk};
+ghost use Rattle.yq_inline.specs.View.{view};
+ghost use Rattle.yq_lines.specs.Names.{line_names};
+ghost use Rattle.yq_reading.specs.Checking.{IsChecked, OfChecked};
+ghost use Rattle.yq_reading.specs.Named.{all_named, flow_names};
+
+use crate::checked::Checked;
+use crate::names::{Name, push_anchor, push_node};
+use crate::nested::made_flow;
+use std::alloc::{AllocError, Global};
+use yq_documents::{anchor_name, made_at};
+use yq_inline::Inline;
+
+/// Adds the names in an alias or flow collection, if there is one.
+fn push_flow<'t>(names: &mut Vec<Name<'t>>, flow: Option<&Inline<'t>>) -> Result<(), AllocError>
+    ensures { OnOk result (all_named names.new.items ≡ all_named names.old.items ++
+        flow_names (option_map (λ n. view n.now) flow.entry)) }
+{
+    match flow {
+        Some(node) => push_node(names, node),
+        None => Ok(()),
+    }
+}
+
+/// The anchors and aliases of a document, in the order of the text.
+pub(crate) fn names_of<'t>(alloc: Global, x: Checked<'_, 't>) -> Result<Vec<Name<'t>>, AllocError>
+    requires ready { IsChecked x }
+    ensures { IfOk result (λ ns. OfChecked x.entry (λ ls n. all_named ns.items ≡ line_names ls)) }
+{
+    let mut names = Vec::new(alloc);
+    'rows: for i in x.document.first..x.document.end {
+        push_anchor(&mut names, anchor_name(x.rows.anchor(i)))?;
+        push_flow(&mut names, made_flow(made_at(x.made, i)))?;
+    }
+    Ok(names)
+}

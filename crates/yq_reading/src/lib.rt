@@ -1,0 +1,19 @@
+//! Documents read by their rows: what rows spell is made where the text doesn't lend it, and what is asked of documents is checked.
+#![tactic(auto)]
+
+mod anchors;
+mod bound;
+mod checked;
+mod document;
+mod document_names;
+mod fit;
+mod inline_fault;
+mod keys;
+mod making;
+mod names;
+mod nested;
+mod parts;
+mod reading;
+mod sound;
+
+pub use reading::read_rows;

@@ -1,0 +1,181 @@
+//! What is asked of a document's lines, row by row.
+ghost use Rattle.std.specs.Prelude.{◌≡◌, ◌≢◌, ◌+◌, ◌++◌, ◌&&◌, [], false, is_some, map, IfErr, IfOk, OnOk, Some};
+ghost use Rattle.yq_scalar.specs.Answers.{IsOfText};
+ghost use Rattle.yq_scalar.specs.Keys.{with_key};
+ghost use Rattle.yq_scalar.specs.declared.fault.FaultKind.TheVariants.{NotUtf8};
+ghost use Rattle.yq_lines.specs.Ends.{part, is_end};
+ghost use Rattle.yq_lines.specs.Outline as outline;
+ghost use Rattle.yq_lines.specs.Sound as spec;
+ghost use Rattle.yq_walk.specs.RowWalk.{IsLine, IsSpot, OfLine, OfLines};
+ghost use Rattle.yq_reading.specs.Checking.{IsChecked, OfChecked, OfCheckedLine, GivesEnd, GivesStop};
+ghost use Rattle.yq_reading.specs.Deciding.{Decides};
+
+use crate::checked::{Checked, line_key, line_level, row_fault};
+use crate::keys::Keys;
+use crate::nested::head_fault;
+use std::alloc::{AllocError, Global};
+use std::collections::BTreeMap;
+use yq_scalar::{FaultKind, ReadError, are_distinct};
+use yq_walk::{Spot, behind, has_head, is_bare, is_deeper, next};
+
+/// Why a line can't stand where others of a collection at a level do: behind neither key nor dash in the
+/// column of the keys, where its key is missing, or in another column or collection.
+fn misplaced(level: usize, n: usize) -> FaultKind
+    ensures { result ≢ NotUtf8 }
+{
+    if level % 3 == 1 && level.saturating_add(1) == n {
+        FaultKind::BadKey
+    } else {
+        FaultKind::BadIndent
+    }
+}
+
+/// A node on a line of its own, deeper than a level: it is to be there, and to be alone. The spot behind
+/// it.
+fn check_bare(
+    alloc: Global,
+    x: Checked<'_, '_>,
+    at: Spot,
+    floor: usize,
+    depth: usize,
+) -> Result<Spot, ReadError>
+    requires ready { IsChecked x }
+    requires line { IsLine x.rows.now x.document at }
+    requires deep { OfLines x.rows.now x.document (λ ls n.
+        is_end (part ls (n at) floor) ≡ false) }
+    ensures sound { OfCheckedLine x.entry at (λ ls n l.
+        Decides result ((is_some l.head && is_end (part ls (n at + 1) floor)) &&
+        spec.head_is_sound depth l.head)) }
+    ensures behind { IfOk result (GivesStop x.entry.rows.now x.entry.document at floor) }
+    ensures fault { IfErr result IsOfText }
+{
+    if !has_head(x.rows, x.document, at) {
+        return Err(ReadError::Fault(row_fault(x, at, FaultKind::BadIndent)));
+    }
+    let after = next(x.rows, x.document, at);
+    if is_deeper(x.rows, x.document, after, floor) {
+        return Err(ReadError::Fault(row_fault(x, after, FaultKind::BadIndent)));
+    }
+    match head_fault(alloc, x, at, depth) {
+        Ok(()) => Ok(after),
+        Err(e) => Err(e),
+    }
+}
+
+/// Adds the key of a line, if it has one.
+fn push_key<'k>(keys: &mut Keys<'k>, x: Checked<'k, '_>, at: Spot) -> Result<(), AllocError>
+    requires ready { IsChecked x }
+    requires line { IsLine x.rows.now x.document at }
+    ensures { OfLine x.entry.rows.now x.entry.document at (λ l. OnOk result
+        (map (λ k. k.now) keys.new.items ≡
+        map (λ k. k.now) keys.old.items ++ with_key (outline.key_of l.mark) [])) }
+{
+    match line_key(x, at) {
+        Some(key) => {
+            keys.push(key)?;
+            Ok(())
+        }
+        None => Ok(()),
+    }
+}
+
+/// The first of the lines from a place on that are deeper than a level whose key an earlier one of them
+/// has; the place itself where there is none.
+fn repeated_line(
+    alloc: Global,
+    x: Checked<'_, '_>,
+    start: Spot,
+    floor: usize,
+) -> Result<Spot, AllocError>
+    requires ready { IsChecked x }
+    requires start { IsSpot x.rows.now x.document start }
+{
+    let mut known = BTreeMap::new(alloc);
+    let mut at = start;
+    'lines: while is_deeper(x.rows, x.document, at, floor) {
+        if let Some(key) = line_key(x, at) {
+            if known.insert(key, ())?.is_some() {
+                return Ok(at);
+            }
+        }
+        at = behind(x.rows, x.document, at);
+    }
+    Ok(start)
+}
+
+/// A line of a collection and the lines under it: it is to stand at the collection's level, to have no
+/// head where lines are under it, and a head that is sound. The spot behind them.
+#[cycle(sound)]
+fn check_line(
+    alloc: Global,
+    x: Checked<'_, '_>,
+    at: Spot,
+    n: usize,
+    depth: usize,
+) -> Result<Spot, ReadError>
+    requires ready { IsChecked x }
+    requires line { IsLine x.rows.now x.document at }
+    ensures sound { OfCheckedLine x.entry at (λ ls num l. Decides result
+        (spec.are_sound_under depth n l (part ls (num at + 1) (outline.level l)))) }
+    ensures behind { IfOk result (GivesEnd x.entry.rows.now x.entry.document at) }
+    ensures fault { IfErr result IsOfText }
+{
+    let level = line_level(x, at);
+    if level != n {
+        return Err(ReadError::Fault(row_fault(x, at, misplaced(level, n))));
+    }
+    let after = next(x.rows, x.document, at);
+    if !is_deeper(x.rows, x.document, after, n) {
+        return match head_fault(alloc, x, at, depth) {
+            Ok(()) => Ok(behind(x.rows, x.document, at)),
+            Err(e) => Err(e),
+        };
+    }
+    if has_head(x.rows, x.document, at) {
+        return Err(ReadError::Fault(row_fault(x, after, FaultKind::BadIndent)));
+    }
+    check_lines(alloc, x, after, n, depth)
+}
+
+/// The lines from a place on that are deeper than a level: they are to be the items or entries of one
+/// collection, in which at most so many are nested, or one node. The spot behind them.
+#[cycle(sound)]
+pub(crate) fn check_lines(
+    alloc: Global,
+    x: Checked<'_, '_>,
+    start: Spot,
+    floor: usize,
+    depth: usize,
+) -> Result<Spot, ReadError>
+    requires ready { IsChecked x }
+    requires start { IsSpot x.rows.now x.document start }
+    ensures sound { OfChecked x.entry (λ ls n. Decides result
+        (spec.is_sound depth (part ls (n start) floor))) }
+    ensures behind { IfOk result (GivesStop x.entry.rows.now x.entry.document start floor) }
+    ensures fault { IfErr result IsOfText }
+{
+    if !is_deeper(x.rows, x.document, start, floor) {
+        return Ok(start);
+    }
+    if is_bare(x.rows, x.document, start) {
+        return check_bare(alloc, x, start, floor, depth);
+    }
+    if depth == 0 {
+        return Err(ReadError::Fault(row_fault(x, start, FaultKind::TooDeep)));
+    }
+    let n = line_level(x, start);
+    let mut keys = Keys::new(alloc);
+    let mut at = start;
+    'lines: while is_deeper(x.rows, x.document, at, floor) {
+        push_key(&mut keys, x, at)?;
+        at = match check_line(alloc, x, at, n, depth - 1) {
+            Ok(after) => after,
+            Err(e) => return Err(e),
+        };
+    }
+    if !are_distinct(keys.as_mut_slice()) {
+        let line = repeated_line(alloc, x, start, floor)?;
+        return Err(ReadError::Fault(row_fault(x, line, FaultKind::DuplicateKey)));
+    }
+    Ok(at)
+}

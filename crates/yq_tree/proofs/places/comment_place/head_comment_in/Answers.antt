@@ -1,9 +1,0 @@
-use Rattle.std.proofs.Common.{length, ap, arith}
-use Rattle.yq_rows.specs.View.{view}
-use Rattle.yq_walk.proofs.LengthLaws.{row_fits, shown_small}
-use Rattle.yq_tree.proofs.places.comment_place.head_comment_in.Goals as goal
-
-pub gap_comment-requires : goal.gap_comment-requires
-gap_comment-requires c =
-    let f = row_fits c.args.rows.now c.args.seat.row (view c.row.result) c.row.ensures in
-    omega (arith, f, shown_small c.args.rows.now c.requires.shown, c.row_start.ensures, ap length c.gap.ensures)

@@ -1,0 +1,68 @@
+//! Where items and entries stand in flow collections, and their contents.
+ghost use Rattle.std.specs.Prelude.{◌≡◌, map, option_map};
+ghost use Rattle.yq_inline.specs.Entries.{content_place, entry_place, entry_view, step_of};
+ghost use Rattle.yq_lines.specs.View.{head_flow};
+ghost use Rattle.yq_documents.specs.Made.{told_flow};
+ghost use Rattle.yq_documents.specs.Pieces.{span};
+ghost use Rattle.yq_documents.specs.Reading.{cut_of};
+ghost use Rattle.yq_places.specs.EntryReading as spec;
+
+use crate::document::Documents;
+use yq_documents::{Made, Path, Span};
+use yq_inline::{Entry, Step};
+use yq_lines::Head;
+use yq_walk::reach;
+
+/// The item or entry to which steps lead in a head.
+fn head_entry<'d, 't>(head: &'d Head<'t>, steps: &[Step]) -> Option<Entry<'d, 't>>
+    ensures { option_map entry_view result ≡ spec.entry_within (map step_of steps.now) (head_flow head.now) }
+{
+    match head {
+        Head::Nothing => None,
+        Head::Scalar(..) => None,
+        Head::Inline(node) => node.entry(steps),
+    }
+}
+
+/// The place of an item or entry in a flow collection.
+pub(crate) fn entry_span(entry: &Entry<'_, '_>) -> Span
+    ensures { span result ≡ entry_place (entry_view entry.now) }
+{
+    let (start, end) = entry.place();
+    Span { start, end }
+}
+
+/// The place of the content of an item or entry in a flow collection.
+pub(crate) fn content_span(entry: &Entry<'_, '_>) -> Option<Span>
+    ensures { option_map span result ≡ content_place (entry_view entry.now).1 }
+{
+    let (start, end) = entry.node.content_place()?;
+    Some(Span { start, end })
+}
+
+/// The item or entry to which steps lead in what is made of a row.
+fn made_entry<'d, 't>(made: Option<&'d Made<'t>>, steps: &[Step]) -> Option<Entry<'d, 't>>
+    ensures { option_map entry_view result ≡
+        spec.entry_within (map step_of steps.now) (told_flow (option_map (λ m. m.now) made.entry)) }
+{
+    match &made?.head {
+        Some(head) => head_entry(head, steps),
+        None => None,
+    }
+}
+
+impl<'t> Documents<'t> {
+    /// The item or entry of a flow collection at a path, if it leads to one.
+    pub(crate) fn flow_entry(&self, path: &Path) -> Option<Entry<'_, 't>>
+        ensures { option_map entry_view result ≡ spec.flow_entry_at path.now (cut_of self.now) }
+    {
+        let cut = self.cut();
+        let _whole = cut.whole();
+        let document = cut.stretch(path.doc)?;
+        let (at, left) = reach(cut.rows(), document, cut.known(), &path.steps)?;
+        if left.is_empty() {
+            return None;
+        }
+        made_entry(self.read.made(at.row), left)
+    }
+}

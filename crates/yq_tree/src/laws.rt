@@ -1,5 +1,0 @@
-//! Laws on reading, paths and places, for the crates above.
-
-pub mod path_laws;
-pub mod piece_laws;
-pub mod reading_laws;
