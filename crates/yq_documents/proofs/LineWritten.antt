@@ -24,7 +24,7 @@ use Rattle.yq_walk.proofs.WalkMarks.{key_here, key_none}
 use Rattle.yq_walk.proofs.WalkSpots.{Located}
 use Rattle.yq_documents.specs.RowReading.{name_in}
 use Rattle.yq_documents.specs.Stretches.{HasText, IsLineIn, document_lines, number_of}
-use Rattle.yq_documents.proofs.WalkedRows.{document_in, line_here, located_in, own_line, stands}
+use Rattle.yq_documents.proofs.WalkedRows.{line_here, located_in, own_line, stands}
 use Rattle.yq_documents.proofs.RowLineLaws.{anchor_is, content_quoted, tail_is}
 
 -- of no text there is no comment
@@ -48,7 +48,7 @@ module _ {t : List ℕ} {n : ℕ} {s : Shown} {d : Stretch} (x : HasText t n s d
       rows_quoted h.limit h.rows h.end h.rest h.valid (q.row - d.first) k.row k.there
 
   module _ (l : Line) (e : slice_get (document_lines n t) (number_of n t q) ≡ Some l) where
-    abbrev k : Located s d (document_in x).0.stand q
+    abbrev k : Located s d (stands x) q
     k = located_in x at
 
     own : (located_in x at).line ≡ l

@@ -1,5 +1,5 @@
 -- What walks over the rows of a text tell of the lines of a document.
-use Rattle.std.proofs.Common.{◌≡◌, ℕ, ◌+◌, ◌-◌, ◌<◌, List, length, Option, Some, None, option_map, refl, sym, ap, ◌∙◌, subst, arith}
+use Rattle.std.proofs.Common.{◌≡◌, ℕ, ◌+◌, ◌-◌, ◌<◌, List, length, Option, Some, None, option_map, sym, ap, ◌∙◌, subst, arith}
 use Rattle.std.proofs.lemmas.List.{length-map}
 use Rattle.std.proofs.lemmas.Option.{same_Some, slice_get-map}
 use Rattle.std.specs.List.{slice_get}
@@ -28,12 +28,15 @@ document_in {t} {n} {s} {d} x =
     (h.0, h.1 ∙ sym is)
 
 module _ {t : List ℕ} {n : ℕ} {s : Shown} {d : Stretch} (x : HasText t n s d) where
+  abbrev pub stands : HasRows s d
+  stands = (document_in x).0.stand
+
   -- what is told of the lines of the rows that were walked is so of those of the document
-  told_lines : (P : List Line → (Spot → ℕ) → Type 0) → P (lines_of (document_in x).0.stand.rows) (line_number d (document_in x).0.stand.rows) → P (document_lines n t) (number_of n t)
+  told_lines : (P : List Line → (Spot → ℕ) → Type 0) → P (lines_of stands.rows) (line_number d stands.rows) → P (document_lines n t) (number_of n t)
   told_lines P p = subst (λ (y : List Row × Stretch). P (lines_of y.0) (line_number y.1 y.0)) (λ i. ((document_in x).1 i, x.place i)) p
 
   pub told_rows : (P : List Line → (Spot → ℕ) → Type 0) → ((h : HasRows s d) → P (lines_of h.rows) (line_number d h.rows)) → P (document_lines n t) (number_of n t)
-  told_rows P f = told_lines P (f (document_in x).0.stand)
+  told_rows P f = told_lines P (f stands)
 
   pub told_document : (P : List Line → (Spot → ℕ) → Type 0) → ((h : HasDocument s d) → P (lines_of h.stand.rows) (line_number d h.stand.rows)) → P (document_lines n t) (number_of n t)
   told_document P f = told_lines P (f (document_in x).0)
@@ -41,25 +44,19 @@ module _ {t : List ℕ} {n : ℕ} {s : Shown} {d : Stretch} (x : HasText t n s d
   pub of_line : (q : Spot) (said : Line → Type 0) → OfLine s d q said → OfLineIn t n q said
   of_line q said = told_rows (λ ls num. (l : Line) → slice_get ls (num q) ≡ Some l → said l)
 
-  abbrev pub stands : HasRows s d
-  stands = (document_in x).0.stand
-
   pub line_here : {q : Spot} → IsLineIn t n q → IsLine s d q
   line_here {q} at = subst (λ (y : Shown × Stretch). IsLine y.0 y.1 q) (λ i. (sym x.rows i, sym x.place i)) at.place
 
   pub spot_here : {q : Spot} → IsSpotIn t n q → IsSpot s d q
   spot_here {q} at = subst (λ (y : Shown × Stretch). IsSpot y.0 y.1 q) (λ i. (sym x.rows i, sym x.place i)) at
 
-  pub spot_back : {q : Spot} → IsSpot s d q → IsSpotIn t n q
-  spot_back {q} at = subst (λ (y : Shown × Stretch). IsSpot y.0 y.1 q) (λ i. (x.rows i, x.place i)) at
-
   -- a line with its row
-  abbrev pub located_in : {q : Spot} → IsLineIn t n q → Located s d (document_in x).0.stand q
-  located_in {q} at = located s d (document_in x).0.stand q (line_here at)
+  abbrev pub located_in : {q : Spot} → IsLineIn t n q → Located s d stands q
+  located_in {q} at = located s d stands q (line_here at)
 
   pub line_back : {q : Spot} → IsLine s d q → IsLineIn t n q
   line_back {q} at =
-      let k = located s d (document_in x).0.stand q at in
+      let k = located s d stands q at in
       record {
         place = subst (λ (y : Shown × Stretch). IsLine y.0 y.1 q) (λ i. (x.rows i, x.place i)) at;
         line = k.line;
@@ -74,7 +71,7 @@ module _ {t : List ℕ} {n : ℕ} {s : Shown} {d : Stretch} (x : HasText t n s d
 
   -- a row of the document is one of the text
   pub row_in : {q : Spot} → IsLineIn t n q → q.row < length s.rows
-  row_in {q} at = omega (arith, (line_here at).upto, (document_in x).0.stand.within)
+  row_in {q} at = omega (arith, (line_here at).upto, stands.within)
 
   -- and that of its cut
   pub row_there : {q : Spot} (at : IsLineIn t n q) → slice_get (rows_of (cut_of t)) q.row ≡ Some (located_in at).row
@@ -92,9 +89,6 @@ module _ {t : List ℕ} {n : ℕ} {s : Shown} {d : Stretch} (x : HasText t n s d
       ∙ (ap (λ (rs : List Row). slice_get rs (q.row - d.first)) b.1 ∙ get_front p.0.rows b.0 (q.row - d.first) k.row mine))
 
   -- the first line of a document
-  pub first_spot : IsSpotIn t n (record { row = d.first; line = 0 })
-  first_spot = spot_back (record { from = omega arith; upto = (document_in x).0.stand.order; line = λ y e. omega arith; last = λ e. refl })
-
   pub first_is : number_of n t (record { row = d.first; line = 0 }) ≡ 0
   first_is = told_rows (λ ls num. num (record { row = d.first; line = 0 }) ≡ 0) (λ h. sym (first_number d h.rows))
 

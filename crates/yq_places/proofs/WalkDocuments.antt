@@ -102,7 +102,7 @@ found_document t s c n d cut is e known = go (slice_get (document_parts c) n) re
     go None at e = absurd (cc)
     go (Some p) at e =
         let same : (d.first, d.end) ≡ (document_row n c, document_row n c + length p.rows) = same_Some _ _ e in
-        let x = document_has t s c n p d cut known is at (ap (λ (y : ℕ × ℕ). y.0) same) (ap (λ (y : ℕ × ℕ). y.1) same) in
+        let x = document_has t s c n p d cut is at (ap (λ (y : ℕ × ℕ). y.0) same) (ap (λ (y : ℕ × ℕ). y.1) same) known in
         record { part = p; there = at; first = ap (λ (y : ℕ × ℕ). y.0) same; document = x.0; rows = x.1 }
 
 -- its rows stand among those of the cut

@@ -1,8 +1,8 @@
 -- A text reads as documents where the keys of its rows are fit and its documents are sound.
-use Rattle.std.proofs.Common.{◌≡◌, ℕ, zero, suc, ◌+◌, ◌<◌, ◌≤◌, ◌-◌, Bool, true, false, ◌||◌, ◌&&◌, not, List, [], ◌∷◌, ◌++◌, length, take, drop, Option, Some, None, refl, sym, ap, ◌∙◌, subst, arith}
+use Rattle.std.proofs.Common.{◌≡◌, get_or, ℕ, zero, suc, ◌+◌, ◌<◌, ◌≤◌, ◌-◌, Bool, true, false, ◌||◌, ◌&&◌, not, List, [], ◌∷◌, ◌++◌, length, take, drop, Option, Some, None, refl, sym, ap, ◌∙◌, subst, arith}
 use Rattle.std.proofs.lemmas.Bool.{false≢true}
 use Rattle.std.proofs.lemmas.List.Folds.{list_all-append}
-use Rattle.std.proofs.lemmas.Option.{slice_get_within}
+use Rattle.std.proofs.lemmas.Option.{slice_get-get_or, slice_get_within}
 use Rattle.std.specs.List.{list_all, list_any, slice_get}
 use Rattle.yq_scalar.specs.Characters.{text_limit}
 use Rattle.yq_lines.specs.LinesReading.{lines_are_sound}
@@ -93,7 +93,7 @@ module _ (t : List ℕ) (s : Shown) (ms : List Made) (ds : List DocumentRows) (k
     placed : IsPlaced t n p d
     placed = a.each n d p there at
 
-    stand : (h : HasRows s x) × ((h.rows ≡ p.rows) × (h.rows ≡ take (x.end - x.first) (drop x.first (rows_of (cut_of t)))))
+    pub stand : (h : HasRows s x) × ((h.rows ≡ p.rows) × (h.rows ≡ take (x.end - x.first) (drop x.first (rows_of (cut_of t)))))
     stand = rows_stand t s (cut_of t) n p x k.cut k.rows at (first ∙ placed.first) (end ∙ (placed.end ∙ ap (λ j. j + length p.rows) placed.first))
 
     abbrev pub ready : IsReady t s ms x
@@ -113,6 +113,17 @@ module _ (t : List ℕ) (s : Shown) (ms : List Made) (ds : List DocumentRows) (k
 
     part_quiet : some_refer ms ≡ false → list_any is_reference (line_names (lines_of p.rows)) ≡ false
     part_quiet none = ap (λ (rs : List Row). list_any is_reference (line_names (lines_of rs))) (sym stand.1.0) ∙ ready_quiet t s ms x ready none
+
+  -- the document at an index
+  module _ (n : ℕ) (less : n < length ds) (e : DocumentRows) where
+    pub part_at : (p : Part) × (slice_get (document_parts (cut_of t)) n ≡ Some p)
+    part_at = has_part (document_parts (cut_of t)) n (omega (arith, less, a.count))
+
+    abbrev pub ready_at : IsReady t s ms (record { first = (get_or ds n e).first; end = (get_or ds n e).end })
+    ready_at = ready n (get_or ds n e) (record { first = (get_or ds n e).first; end = (get_or ds n e).end }) part_at.0 (slice_get-get_or ds n e less) part_at.1 refl refl
+
+    pub sound_at : (has_short_root ready_at.document.rows && lines_are_sound (lines_of ready_at.document.rows)) ≡ part_is_sound part_at.0
+    sound_at = ready_sound n (get_or ds n e) (record { first = (get_or ds n e).first; end = (get_or ds n e).end }) part_at.0 (slice_get-get_or ds n e less) part_at.1 refl refl
 
   -- a document is there
   has_document : (xs : List DocumentRows) (n : ℕ) → n < length xs → (d : DocumentRows) × (slice_get xs n ≡ Some d)

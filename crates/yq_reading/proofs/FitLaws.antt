@@ -1,5 +1,5 @@
 -- What is asked of rows, by their pieces.
-use Rattle.std.proofs.Common.{◌≡◌, ℕ, ℤ, ◌-◌, ◌<◌, ◌≤◌, Bool, true, false, cond, not, ◌||◌, ◌&&◌, eqb, List, [], ◌∷◌, ◌++◌, length, map, Some, refl, sym, ap, ◌∙◌, arith, append-nil}
+use Rattle.std.proofs.Common.{◌≡◌, ℕ, ℤ, ◌-◌, ◌<◌, ◌≤◌, Bool, true, false, cond, not, ◌||◌, ◌&&◌, eqb, List, [], ◌∷◌, ◌++◌, length, Some, refl, sym, ap, ◌∙◌, arith, append-nil}
 use Rattle.std.proofs.lemmas.Bool.{false≢true, cond_both}
 use Rattle.std.proofs.lemmas.List.Folds.{list_any-append}
 use Rattle.std.proofs.lemmas.Option.{same_Some}
@@ -25,11 +25,8 @@ use Rattle.yq_reading.specs.FitReading.{is_plain_head, is_long}
 use Rattle.yq_rows.specs.View.{Shown}
 use Rattle.yq_walk.specs.RowWalk.{HasRows}
 use Rattle.yq_walk.specs.declared.spot.Stretch.{Stretch}
+use Rattle.yq_walk.proofs.RowLaws.{colon_some}
 use Rattle.yq_walk.proofs.WalkRows.{row_of, rows_length}
-
-colon_some : (white : List ℕ) → is_empty (white ++ 58 ∷ []) ≡ false
-colon_some [] = refl
-colon_some (b ∷ bs) = refl
 
 or_none : (x : Bool) → not (x || false) ≡ not x
 or_none true = refl

@@ -14,7 +14,7 @@ use Rattle.yq_walk.specs.declared.spot.Stretch.{Stretch}
 use Rattle.yq_walk.proofs.StopLaws.{stop_step}
 use Rattle.yq_walk.proofs.WalkSpots.{located}
 use Rattle.yq_reading.specs.Checking.{GivesStop, GivesEnd}
-use Rattle.yq_reading.proofs.SpotOrder.{head_last, row_later, row_order}
+use Rattle.yq_reading.proofs.SpotOrder.{head_last, last_alone, row_later, row_order}
 use Rattle.yq_reading.proofs.StopLaws.{count_none, count_one}
 
 -- where none are deeper, the spot itself
@@ -39,23 +39,38 @@ gives_bare s d q e floor at to next some deep none = record {
       row_later s d h q e at to (omega (arith, next h)) (head_last s d h q at k.line k.is (some h k.line k.is));
 }
 
+-- where the lines end that are under a line
+end_behind : (s : Shown) (d : Stretch) (q e f : Spot) (floor : ℕ) → IsLine s d q → OfLines s d (λ ls n. n e ≡ n q + 1) → OfLine s d q (λ l. floor ≡ level l) → GivesStop s d e floor f → OfLines s d (λ ls n. IsEndOf ls (n q) (n f))
+end_behind s d q e f floor at next lev g h =
+    let k = located s d h q at in
+    let ls = lines_of h.rows in
+    let a : ℕ = line_number d h.rows q in
+    let b : ℕ = line_number d h.rows e in
+    let past : suc a ≡ b = omega (arith, next h) in
+    let same : level k.line ≡ floor = sym (lev h k.line k.is) in
+    let count : deeper_count (level k.line) (drop (suc a) ls) ≡ deeper_count floor (drop b ls) = λ i. deeper_count (same i) (drop (past i) ls) in
+    let stop : suc a + deeper_count (level k.line) (drop (suc a) ls) ≡ line_number d h.rows f = omega (arith, count, past, g.number h) in
+    subst (IsEndOf ls a) stop (end_counted ls a k.line k.is)
+
 -- behind a line and those under it, what is behind these
 pub gives_end : (s : Shown) (d : Stretch) (q e f : Spot) (floor : ℕ) → HasRows s d → IsLine s d q → IsSpot s d e → OfLines s d (λ ls n. n e ≡ n q + 1) → OfLine s d q (λ l. floor ≡ level l) →
     OfLines s d (λ ls n. is_end (part ls (n e) floor) ≡ false) → GivesStop s d e floor f → GivesEnd s d q f
 gives_end s d q e f floor rows at to next lev deep g = record {
   spot = g.spot;
-  end = λ h.
-      let k = located s d h q at in
-      let ls = lines_of h.rows in
-      let a : ℕ = line_number d h.rows q in
-      let b : ℕ = line_number d h.rows e in
-      let past : suc a ≡ b = omega (arith, next h) in
-      let same : level k.line ≡ floor = sym (lev h k.line k.is) in
-      let count : deeper_count (level k.line) (drop (suc a) ls) ≡ deeper_count floor (drop b ls) = λ i. deeper_count (same i) (drop (past i) ls) in
-      let stop : suc a + deeper_count (level k.line) (drop (suc a) ls) ≡ line_number d h.rows f = omega (arith, count, past, g.number h) in
-      subst (IsEndOf ls a) stop (end_counted ls a k.line k.is);
+  end = end_behind s d q e f floor at next lev g;
   later = omega (arith, row_order s d rows q e at to (omega (arith, next rows)), g.later rows (deep rows));
 }
+
+-- behind a line under which there are none, the next line
+pub gives_alone : (s : Shown) (d : Stretch) (q e : Spot) (floor : ℕ) → HasRows s d → IsLine s d q → IsSpot s d e → OfLines s d (λ ls n. n e ≡ n q + 1) → OfLine s d q (λ l. floor ≡ level l) →
+    OfLines s d (λ ls n. is_end (part ls (n e) floor) ≡ true) → GivesEnd s d q e
+gives_alone s d q e floor rows at to next lev none =
+    let ends = end_behind s d q e e floor at next lev (gives_none s d e floor to none) in
+    record {
+      spot = to;
+      end = ends;
+      later = row_later s d rows q e at to (omega (arith, next rows)) (last_alone s d rows q e at (next rows) (ends rows));
+    }
 
 -- behind all lines of a collection, where no more are deeper
 pub gives_all : (s : Shown) (d : Stretch) (q e : Spot) (floor : ℕ) → IsSpot s d e → OfLines s d (λ ls n. lines_stop (n q) floor ls ≡ lines_stop (n e) floor ls) → (e ≡ q) ⊎ (q.row < e.row) →

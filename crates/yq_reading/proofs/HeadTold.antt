@@ -81,7 +81,7 @@ flat_of d (Some heads.TheVariants.Nothing) h e = refl
 flat_of d (Some (heads.TheVariants.Scalar kind text)) h e = rw (le-leb 0 d (omega arith)) refl
 flat_of d (Some (heads.TheVariants.Inline node)) h e = absurd (cc)
 
-pub head_flat : (d : ℕ) (m : Option Made) (h : List ℕ) → told_flow m ≡ None → head_is_sound d (told_head m h) ≡ true
+head_flat : (d : ℕ) (m : Option Made) (h : List ℕ) → told_flow m ≡ None → head_is_sound d (told_head m h) ≡ true
 head_flat d None h e = lent_flat d h
 head_flat d (Some x) h e = flat_of d x.head h e
 
@@ -89,3 +89,11 @@ head_flat d (Some x) h e = flat_of d x.head h e
 pub headless : (d : ℕ) (o : Option Node) → false ≡ is_some o → head_is_sound d o ≡ true
 headless d None e = refl
 headless d (Some n) e = absurd (false≢true e)
+
+-- a line with no alias and no flow collection made of its row
+pub head_free : (t : List ℕ) (s : Shown) (ms : List Made) (d : Stretch) (k : IsReady t s ms d) (q : Spot) (at : IsLine s d q) (l : Line) → slice_get (lines_of k.document.rows) (line_number d k.document.rows q) ≡ Some l → (depth : ℕ) → told_flow (made_at q.row ms) ≡ None → head_is_sound depth l.head ≡ true
+head_free t s ms d k q at l is depth none = go (is_some l.head) refl
+  where
+    go : (b : Bool) → is_some l.head ≡ b → head_is_sound depth l.head ≡ true
+    go true e = ap (head_is_sound depth) (sym (head_line t s ms d k q at l is (sym e))) ∙ head_flat depth (made_at q.row ms) (slices (located s d k.document q at).row).head none
+    go false e = headless depth l.head (sym e)

@@ -27,7 +27,7 @@ any_take f (suc n) (b ∷ bs) e =
     let rest : list_any f (take n bs) ≡ false = any_take f n bs p.1 in
     (λ i. p.0 i || rest i)
 
-quoted_is : (t : List ℕ) → is_quoted t ≡ true → content_of t ≡ quoted_content t
+pub quoted_is : (t : List ℕ) → is_quoted t ≡ true → content_of t ≡ quoted_content t
 unfolding content_of
 quoted_is t q = rw q refl
 

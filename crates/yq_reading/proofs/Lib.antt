@@ -6,6 +6,7 @@ pub mod UnderLaws
 pub mod LineTold
 pub mod ReadyLaws
 pub mod GivesLaws
+pub mod ReachedLaws
 pub mod HeadTold
 pub mod FitLaws
 pub mod AnchorRows
@@ -14,6 +15,7 @@ pub mod NameRows
 pub mod QuietLaws
 pub mod HeadsApart
 pub mod LendLaws
+pub mod RowBegins
 pub mod RowsRead
 pub mod AllOf
 pub mod MadeRows

@@ -1,16 +1,16 @@
 -- What is made of rows, one behind the other.
-use Rattle.std.proofs.Common.{◌≡◌, ◌⊎◌, inl, inr, ℕ, zero, suc, ◌+◌, ◌<◌, ◌≤◌, eqb, Bool, true, false, ◌&&◌, cond, List, [], ◌∷◌, ◌++◌, length, drop, map, Option, Some, None, refl, sym, ap, ◌∙◌, subst, arith, append-nil}
+use Rattle.std.proofs.Common.{◌≡◌, ◌⊎◌, inl, inr, ℕ, suc, ◌+◌, ◌<◌, ◌≤◌, eqb, Bool, true, false, ◌&&◌, cond, List, [], ◌∷◌, ◌++◌, length, drop, Option, Some, None, refl, sym, ap, ◌∙◌, subst, arith, append-nil}
 use Rattle.std.proofs.lemmas.Bool.{cases_lt, cond-false, cond-true, eq-eqb, ne_eqb}
 use Rattle.std.proofs.lemmas.Option.{same_Some, slice_get_within}
 use Rattle.std.specs.List.{list_all, slice_get}
 use Rattle.std.specs.Prelude.{IfSome}
 use Rattle.yq_rows.specs.Rows.{Row}
-use Rattle.yq_rows.specs.View.{rows_of, Shown}
+use Rattle.yq_rows.specs.View.{rows_of}
 use Rattle.yq_documents.specs.Made.{IsTold, IsToldBy, Rise, made_at}
 use Rattle.yq_documents.specs.Reading.{content_is_fit, cut_of, have_fit_keys, mark_is_fit}
 use Rattle.yq_documents.specs.RowReading.{row_fits}
 use Rattle.yq_documents.specs.declared.made.Made.{Made}
-use Rattle.yq_reading.specs.Making.{AreMade, IsCutInto, OfRow, listed}
+use Rattle.yq_reading.specs.Making.{AreMade, OfRow, listed}
 use Rattle.yq_reading.proofs.AllOf.{all_done, all_step}
 
 -- what is made of rows from one on, before another one, is in their order

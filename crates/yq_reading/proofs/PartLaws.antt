@@ -1,6 +1,6 @@
 -- Where the documents of a text stand among its rows is told by where its parts end.
 use Rattle.std.proofs.Common.{◌≡◌, ℕ, zero, suc, ◌+◌, ◌≤◌, Bool, true, false, ◌||◌, not, ltb, List, [], ◌∷◌, ◌++◌, length, drop, map, Option, Some, refl, sym, ap, ◌∙◌, arith, append_assoc, append-nil, length-append}
-use Rattle.std.proofs.lemmas.Bool.{cond-false, cond-true, false≢true, le-ltb, lt-ltb}
+use Rattle.std.proofs.lemmas.Bool.{cond-false, cond-true, le-ltb, lt-ltb}
 use Rattle.std.proofs.lemmas.List.{drop_all, length-map}
 use Rattle.std.proofs.lemmas.Option.{same_Some, slice_get-map}
 use Rattle.std.specs.List.{slice_get}
@@ -11,7 +11,7 @@ use Rattle.yq_rows.specs.Grammar.{begins_document}
 use Rattle.yq_rows.specs.Rows.{Row, Part, Cut, last, marked}
 use Rattle.yq_rows.specs.Splices.{first_gap as gap_of}
 use Rattle.yq_rows.specs.View.{Bound, Slices, slices, bounds_from, rows_of, Shown}
-use Rattle.yq_documents.specs.Documents.{begins_bare, document_parts, has_begin, parts_from}
+use Rattle.yq_documents.specs.Documents.{begins_bare, has_begin, parts_from}
 use Rattle.yq_documents.specs.PartReading.{first_rows, some_begin}
 use Rattle.yq_documents.specs.Reading.{cut_of}
 use Rattle.yq_documents.specs.Seats.{rows_before}

@@ -1,7 +1,7 @@
 -- What the rows of a text spell is told by reading their heads again.
-use Rattle.std.proofs.Common.{◌≡◌, ℕ, ℤ, zero, suc, ◌+◌, ◌<◌, ◌≤◌, Bool, true, false, ◌&&◌, cond, not, codes, List, [], ◌∷◌, ◌++◌, length, drop, get_or, Option, Some, None, refl, sym, ap, ◌∙◌, subst, arith, append_assoc, length-append}
+use Rattle.std.proofs.Common.{◌≡◌, ℕ, ℤ, zero, suc, ◌+◌, ◌<◌, ◌≤◌, Bool, true, false, List, [], ◌∷◌, ◌++◌, length, drop, get_or, Option, Some, None, refl, sym, ap, ◌∙◌, subst, arith, append_assoc, length-append}
 use Rattle.std.proofs.Math.Seq.{drop-append_seam, get_or-append_seam}
-use Rattle.std.proofs.lemmas.Bool.{false≢true}
+use Rattle.std.proofs.lemmas.Bool.{cond-false, false≢true}
 use Rattle.std.proofs.lemmas.List.{length-map}
 use Rattle.std.proofs.lemmas.Option.{cond_some, slice_get-map}
 use Rattle.std.proofs.lemmas.Str.{IsCharBoundary-start}
@@ -21,15 +21,15 @@ use Rattle.yq_lines.specs.View.{head_flow, head_view}
 use Rattle.yq_rows.specs.Exchange.{before_content, behind_row, rows_behind}
 use Rattle.yq_rows.specs.Grammar.{IsMark}
 use Rattle.yq_rows.specs.Rows as rows
-use Rattle.yq_rows.specs.Rows.{Row, Cut, content_text, parent_indent}
-use Rattle.yq_rows.specs.View.{Slices, colon_of, content_cut, key_of, slices, rows_of, Shown, shown}
+use Rattle.yq_rows.specs.Rows.{Row, Cut, parent_indent}
+use Rattle.yq_rows.specs.View.{Slices, colon_of, key_of, slices, rows_of, Shown}
 use Rattle.yq_rows.proofs.PlaceLaws.{RowIn, place, row_in}
 use Rattle.yq_rows.proofs.SliceLaws.{content_slices}
 use Rattle.yq_documents.specs.FlowReading.{head_flow_at, row_flow}
 use Rattle.yq_documents.specs.KeyReading.{EndsIn}
 use Rattle.yq_documents.specs.Made.{IsToldBy, lent_head, lent_text, made_or}
 use Rattle.yq_documents.specs.Reading.{content_is_fit, cut_of, mark_is_fit}
-use Rattle.yq_documents.specs.RowReading.{head_at, row_fits}
+use Rattle.yq_documents.specs.RowReading.{head_at}
 use Rattle.yq_documents.specs.declared.made.Made.{Made}
 use Rattle.yq_walk.specs.Lines.{head_of}
 use Rattle.yq_documents.proofs.HeadLaws.{fitting, head_is, head_text}
@@ -41,6 +41,7 @@ use Rattle.yq_reading.specs.Checking.{lends_head, lends_text}
 use Rattle.yq_reading.specs.Deciding.{Denies}
 use Rattle.yq_reading.specs.FitReading.{key_fits}
 use Rattle.yq_reading.specs.Making.{IsCutInto, IsHeadMade, IsKeyMade}
+use Rattle.yq_reading.proofs.RowBegins.{mark_plain}
 use Rattle.yq_reading.proofs.LendLaws.{lends_key, lent_read}
 
 -- a key is fit that is no plain `<<`
@@ -136,6 +137,11 @@ module _ (t : List ℕ) (s : Shown) (k : IsCutInto t s) (i : ℕ) (r : Row) (is 
   module _ (key : List ℕ) (is_key : key ≡ (slices r).key) where
     pub key_fits_is : key_fits key ≡ mark_is_fit r.mark
     key_fits_is = ap key_fits is_key ∙ key_fit r.mark
+
+    pub key_unquoted : is_quoted key ≡ false → IsKeyMade None r
+    key_unquoted plain =
+        let own = ap is_quoted (sym is_key) ∙ plain in
+        cond-false (is_quoted (slices r).key) _ (slices r).key own ∙ mark_plain r.mark r.content (behind_row i c) row_here.row.mark own
 
     pub key_lent : lends_text key ≡ true → IsKeyMade None r
     key_lent lends = lends_key (slices r).key (key_quoted (slices r).key refl) (ap lends_text (sym is_key) ∙ lends)

@@ -1,18 +1,20 @@
 -- In which order lines stand by their rows.
-use Rattle.std.proofs.Common.{◌≡◌, ◌⊎◌, inl, inr, ℕ, suc, ◌+◌, ◌-◌, ◌<◌, ◌≤◌, true, length, take, Some, sym, ap, ◌∙◌, arith}
+use Rattle.std.proofs.Common.{◌≡◌, ◌⊎◌, inl, inr, ℕ, suc, ◌+◌, ◌-◌, ◌<◌, ◌≤◌, true, length, take, Some, sym, ap, ◌∙◌, arith, refl, drop}
 use Rattle.std.proofs.lemmas.Bool.{cases_lt, false≢true}
-use Rattle.std.proofs.lemmas.Option.{same_Some}
+use Rattle.std.proofs.lemmas.Option.{same_Some, slice_get_within}
 use Rattle.std.specs.List.{slice_get}
 use Rattle.std.specs.Prelude.{is_some}
+use Rattle.yq_lines.specs.Ends.{IsEndOf}
 use Rattle.yq_lines.specs.Outline.{Line}
+use Rattle.yq_lines.proofs.LineEnds.{end_told}
 use Rattle.yq_rows.specs.View.{slices, Shown}
 use Rattle.yq_walk.specs.Lines.{lines_of}
 use Rattle.yq_walk.specs.Extents.{lines_before_mark}
-use Rattle.yq_walk.specs.RowWalk.{HasRows, IsLine, IsSpot, line_number}
+use Rattle.yq_walk.specs.RowWalk.{HasRows, IsLine, IsSpot, deeper_rows, line_level, line_number}
 use Rattle.yq_walk.specs.declared.spot.Spot.{Spot}
 use Rattle.yq_walk.specs.declared.spot.Stretch.{Stretch}
 use Rattle.yq_walk.proofs.WalkEnds.{lines_upto}
-use Rattle.yq_walk.proofs.WalkSpots.{located, spot_line}
+use Rattle.yq_walk.proofs.WalkSpots.{behind_told, located, spot_line}
 
 -- a later line is of no earlier row
 pub row_order : (s : Shown) (d : Stretch) (h : HasRows s d) (q e : Spot) → IsLine s d q → IsSpot s d e → line_number d h.rows q < line_number d h.rows e → q.row ≤ e.row
@@ -50,3 +52,19 @@ head_last s d h q at l is some = go (cases_lt q.line (length (located s d h q at
         let own : k.line ≡ l = same_Some _ _ (sym k.is ∙ is) in
         absurd (false≢true (ap is_some (sym (k.told.dash less).1 ∙ ap (λ (y : Line). y.head) own) ∙ sym some))
     go (inr past) = omega (arith, past, (located s d h q at).within)
+
+-- a line under which there are none is the last one of its row
+pub last_alone : (s : Shown) (d : Stretch) (h : HasRows s d) (q e : Spot) (at : IsLine s d q) → line_number d h.rows e ≡ line_number d h.rows q + 1 → IsEndOf (lines_of h.rows) (line_number d h.rows q) (line_number d h.rows e) →
+    q.line ≡ length (located s d h q at).row.dashes
+last_alone s d h q e at next ends =
+    let k = located s d h q at in
+    let ls = lines_of h.rows in
+    let a : ℕ = line_number d h.rows q in
+    let n : ℕ = line_level q.line (slices k.row) in
+    let m : ℕ = deeper_rows n (take (d.end - (q.row + 1)) (drop (q.row + 1) s.rows)) in
+    let b : ℕ = line_number d h.rows (record { row = (q.row + 1) + m; line = 0 }) in
+    let told : IsEndOf ls a b = behind_told s d h q (record { row = (q.row + 1) + m; line = 0 }) n at (λ x there. ap (line_level q.line) (same_Some _ _ (sym k.pieces ∙ there))) refl refl in
+    let within : a < length ls = slice_get_within ls a k.line k.is in
+    let same : b ≡ line_number d h.rows e = end_told ls a b within told ∙ sym (end_told ls a (line_number d h.rows e) within ends) in
+    let upto : ((q.row + 1) + m) - d.first ≡ suc (q.row - d.first) + m = omega (arith, at.from) in
+    omega (arith, k.within, same, next, lines_upto h.rows (q.row - d.first) m k.row k.there, ap (λ (j : ℕ). length (lines_of (take j h.rows))) upto)

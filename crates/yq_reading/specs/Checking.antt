@@ -1,5 +1,5 @@
 -- Reading (own; a reader may skip it): a document of a text whose rows are cut, with what is made of these.
-use Rattle.std.specs.Prelude.{◌≡◌, ℕ, ◌<◌, List, length, slice_get, Some, Bool, false, ◌&&◌, ◌||◌, ◌-◌, ◌==◌, not, take, drop, if◌then◌else◌}
+use Rattle.std.specs.Prelude.{◌≡◌, ℕ, ◌<◌, nat_lt, List, length, slice_get, Some, Bool, false, ◌&&◌, ◌||◌, ◌-◌, ◌==◌, not, take, drop, if◌then◌else◌}
 use Rattle.std.specs.List.{list_any}
 use Rattle.yq_scalar.specs.Plain.{holds_break}
 use Rattle.yq_inline.specs.Scalars.{is_quoted}
@@ -9,9 +9,9 @@ use Rattle.yq_rows.specs.Grammar.{IsCut}
 use Rattle.yq_rows.specs.Rows.{Row, Cut}
 use Rattle.yq_rows.specs.View.{rows_of, Shown, shown}
 use Rattle.yq_walk.specs.Extents.{IsShown}
-use Rattle.yq_lines.specs.Outline.{Line}
+use Rattle.yq_lines.specs.Outline.{Line, level}
 use Rattle.yq_walk.specs.Lines.{lines_of}
-use Rattle.yq_walk.specs.RowWalk.{HasRows, IsSpot, OfLines, line_number, lines_stop}
+use Rattle.yq_walk.specs.RowWalk.{HasRows, IsSpot, OfLine, OfLines, line_number, lines_stop}
 use Rattle.yq_walk.specs.declared.spot.Spot.{Spot}
 use Rattle.yq_walk.specs.declared.spot.Stretch.{Stretch}
 use Rattle.yq_lines.specs.Names.{is_reference}
@@ -20,6 +20,7 @@ use Rattle.yq_reading.specs.Named.{flow_names}
 use Rattle.yq_documents.specs.RowReading.{begins_block}
 use Rattle.yq_documents.specs.declared.made.Made.{Made}
 use Rattle.yq_reading.specs.declared.checked.Checked.{Checked}
+use Rattle.yq_reading.specs.declared.reached.Reached.{Reached}
 
 -- a backslash in double quotes, or a quote in single ones, stands behind the first byte and before the last (own)
 abbrev pub holds_escape : List ℕ → Bool
@@ -79,3 +80,10 @@ pub record GivesEnd (s : Shown) (d : Stretch) (at : Spot) (q : Spot) : Type 0 wh
   pub spot : IsSpot s d q
   pub end : OfLines s d (λ ls n. IsEndOf ls (n at) (n q))
   pub later : at.row < q.row
+
+-- A line of a document, or the end behind its rows, with how deep it is; the end is at level 0 (own).
+pub record IsReached (s : Shown) (d : Stretch) (r : Reached) : Type 0 where
+  pub spot : IsSpot s d r.spot
+  pub some : 0 < r.level → r.spot.row < d.end
+  pub told : r.spot.row < d.end → OfLine s d r.spot (λ l. r.level ≡ level l)
+  pub deeper : (floor : ℕ) → OfLines s d (λ ls n. nat_lt floor r.level ≡ not (is_end (part ls (n r.spot) floor)))

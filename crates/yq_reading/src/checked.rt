@@ -1,15 +1,18 @@
 //! A document whose rows are checked.
-ghost use Rattle.std.specs.Prelude.{◌≡◌, ◌≢◌};
+ghost use Rattle.std.specs.Prelude.{◌≡◌, ◌≢◌, ◌<◌, Some, length, slice_get};
 ghost use Rattle.yq_scalar.specs.declared.fault.FaultKind.TheVariants.{NotUtf8};
+ghost use Rattle.yq_inline.specs.Scalars.{content_of};
 ghost use Rattle.yq_lines.specs.Bodies.{lent};
 ghost use Rattle.yq_lines.specs.Outline as outline;
+ghost use Rattle.yq_rows.specs.View.{Slices};
 ghost use Rattle.yq_walk.specs.RowWalk.{IsLine, OfLine};
 ghost use Rattle.yq_reading.specs.Checking.{IsChecked};
 
 use yq_documents::{Made, fault_at, made_at, told_key};
+use yq_inline::pieces::is_quoted;
 use yq_rows::Rows;
 use yq_scalar::{FaultKind, ReadFault};
-use yq_walk::{Spot, Stretch, level_at, rank_at};
+use yq_walk::{Spot, Stretch, rank_at};
 
 /// A document of a text whose rows are cut, with what is made of these.
 #[derive(Clone, Copy, Debug)]
@@ -35,13 +38,18 @@ pub(crate) fn row_fault(x: Checked<'_, '_>, at: Spot, kind: FaultKind) -> ReadFa
     fault_at(kind, x.text, place)
 }
 
-/// How deep a line is.
-pub(crate) fn line_level(x: Checked<'_, '_>, at: Spot) -> usize
+/// What the key of a row stands for.
+pub(crate) fn row_key<'a>(x: Checked<'a, '_>, row: usize) -> &'a str
     requires ready { IsChecked x }
-    requires line { IsLine x.rows.now x.document at }
-    ensures { OfLine x.entry.rows.now x.entry.document at (λ l. result ≡ outline.level l) }
+    requires within { row < length x.rows.now.rows }
+    ensures { (s : Slices) → slice_get x.entry.rows.now.rows row ≡ Some s →
+        result.now ≡ content_of s.key }
 {
-    level_at(x.rows, at)
+    let piece = x.rows.key(row);
+    if is_quoted(piece.as_bytes()) {
+        return told_key(made_at(x.made, row), piece);
+    }
+    piece
 }
 
 /// The key of a line, if it has one.
@@ -54,5 +62,5 @@ pub(crate) fn line_key<'a>(x: Checked<'a, '_>, at: Spot) -> Option<&'a str>
     if rank_at(x.rows, at) != 2 {
         return None;
     }
-    Some(told_key(made_at(x.made, at.row), x.rows.key(at.row)))
+    Some(row_key(x, at.row))
 }

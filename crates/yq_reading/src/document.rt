@@ -13,6 +13,7 @@ use crate::bound::unbound_alias;
 use crate::checked::{Checked, row_fault};
 use crate::document_names::names_of;
 use crate::fit::has_short_root;
+use crate::reached::with_level;
 use crate::sound::check_lines;
 use std::alloc::Global;
 use yq_documents::fault_at;
@@ -71,7 +72,7 @@ pub(crate) fn check_document(
     if !has_short_root(x.rows, x.document) {
         return Err(ReadError::Fault(row_fault(x, first, FaultKind::BadScalar)));
     }
-    match check_lines(alloc, x, first, 0, DEPTH_LIMIT) {
+    match check_lines(alloc, x, with_level(x, first), 0, DEPTH_LIMIT) {
         Ok(_) => check_names(alloc, x, refers),
         Err(e) => Err(e),
     }

@@ -7,9 +7,9 @@ ghost use Rattle.yq_reading.specs.Named.{all_named, flow_names};
 
 use crate::checked::Checked;
 use crate::names::{Name, push_anchor, push_node};
-use crate::nested::made_flow;
+use crate::nested::row_flow;
 use std::alloc::{AllocError, Global};
-use yq_documents::{anchor_name, made_at};
+use yq_documents::anchor_name;
 use yq_inline::Inline;
 
 /// Adds the names in an alias or flow collection, if there is one.
@@ -31,7 +31,7 @@ pub(crate) fn names_of<'t>(alloc: Global, x: Checked<'_, 't>) -> Result<Vec<Name
     let mut names = Vec::new(alloc);
     'rows: for i in x.document.first..x.document.end {
         push_anchor(&mut names, anchor_name(x.rows.anchor(i)))?;
-        push_flow(&mut names, made_flow(made_at(x.made, i)))?;
+        push_flow(&mut names, row_flow(x, i))?;
     }
     Ok(names)
 }

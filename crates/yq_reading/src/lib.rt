@@ -13,6 +13,7 @@ mod making;
 mod names;
 mod nested;
 mod parts;
+mod reached;
 mod reading;
 mod sound;
 

@@ -3,7 +3,7 @@ ghost use Rattle.std.specs.List.{list_any};
 ghost use Rattle.std.specs.Prelude.{◌≡◌, ◌<◌, ◌++◌, ◌==◌, if◌then◌else◌, length, option_and_then, option_map, string_bytes, true, IfErr, IfOk, IfSome};
 ghost use Rattle.yq_scalar.specs.Answers.{IsOfText};
 ghost use Rattle.yq_scalar.specs.Quoted.{IsQuotedText};
-ghost use Rattle.yq_inline.specs.Scalars.{content_of, is_quoted as is_in_quotes};
+ghost use Rattle.yq_inline.specs.Scalars.{is_quoted as is_in_quotes};
 ghost use Rattle.yq_lines.specs.View.{head_flow, head_view};
 ghost use Rattle.yq_rows.specs.View.{rows_of};
 ghost use Rattle.yq_documents.specs.Made.{IsToldBy};
@@ -20,7 +20,7 @@ use yq_documents::{Made, fault_at, lent_text, node_refers, read_head};
 use yq_inline::pieces::{first_is, is_quoted};
 use yq_lines::Head;
 use yq_rows::Rows;
-use yq_scalar::folding::{plain_content, quoted_content};
+use yq_scalar::folding::quoted_content;
 use yq_scalar::plain::holds_break;
 use yq_scalar::{FaultKind, ReadError};
 use yq_walk::head_place;
@@ -49,7 +49,7 @@ fn lends_text(piece: &str) -> bool
 }
 
 /// Whether an alias, a flow collection or a block scalar begins so.
-fn begins_tree(head: &[u8]) -> bool
+pub(crate) fn begins_tree(head: &[u8]) -> bool
     ensures { result ≡ spec.begins_tree head.now }
 {
     matches!(head, [b'|' | b'>' | b'*' | b'[' | b'{', ..])
@@ -61,19 +61,6 @@ fn lends_head(head: &str) -> bool
     ensures { result ≡ spec.lends_head head.now }
 {
     !begins_tree(head.as_bytes()) && lends_text(head)
-}
-
-/// The text that a key stands for.
-#[tactic(auto, unfolding(yq_inline::specs::Scalars::content_of))]
-fn key_text(alloc: Global, key: &str) -> Result<String, AllocError>
-    requires { is_in_quotes key.now ≡ true → IsQuotedText key.now }
-    ensures { IfOk result (λ s. string_bytes s ≡ content_of key.now) }
-{
-    if is_quoted(key.as_bytes()) {
-        quoted_content(alloc, key)
-    } else {
-        plain_content(alloc, key)
-    }
 }
 
 /// The text of row `i`'s key that its text doesn't lend, where the key is fit.
@@ -97,10 +84,13 @@ fn made_key<'t>(
         let place = rows.start(i).saturating_add(rows.gap(i).len());
         return Err(ReadError::Fault(fault_at(FaultKind::MergeKey, text, place)));
     }
+    if !is_quoted(key.as_bytes()) {
+        return Ok(None);
+    }
     if lends_text(key) {
         return Ok(None);
     }
-    Ok(Some(key_text(alloc, key)?))
+    Ok(Some(quoted_content(alloc, key)?))
 }
 
 /// The head of row `i` that its text doesn't lend, where its keys are fit.
@@ -135,9 +125,12 @@ fn made_head<'t>(
 /// What is made of row `i`, by what is made of its key and of its head, if anything is.
 fn made_row<'t>(i: usize, key: Option<String>, head: Option<Head<'t>>) -> Option<Made<'t>>
     ensures row { IfSome result (λ m. m.row ≡ i) }
-    ensures key { option_and_then (λ m. option_map string_bytes m.key) result ≡ option_map string_bytes key.entry }
-    ensures head { option_and_then (λ m. option_map head_view m.head) result ≡ option_map head_view head.entry }
-    ensures flow { option_and_then (λ m. option_and_then head_flow m.head) result ≡ option_and_then head_flow head.entry }
+    ensures key { option_and_then (λ m. option_map string_bytes m.key) result ≡
+        option_map string_bytes key }
+    ensures head { option_and_then (λ m. option_map head_view m.head) result ≡
+        option_map head_view head.entry }
+    ensures flow { option_and_then (λ m. option_and_then head_flow m.head) result ≡
+        option_and_then head_flow head.entry }
 {
     if key.is_none() && head.is_none() {
         return None;
@@ -145,7 +138,7 @@ fn made_row<'t>(i: usize, key: Option<String>, head: Option<Head<'t>>) -> Option
     Some(Made { row: i, key, head })
 }
 
-/// What is made of row `i`, where its keys are fit; nothing where its text lends all that it spells.
+/// What is made of row `i`, where its keys are fit; nothing where its text lends all it spells.
 fn made_of<'t>(
     alloc: Global,
     text: &'t str,
@@ -155,7 +148,8 @@ fn made_of<'t>(
     requires cut { IsCutInto text.now rows.now }
     requires within { i < length rows.now.rows }
     ensures fits { OfRow text.now i (λ r. Decides result (row_fits r)) }
-    ensures told { OfRow text.now i (λ r. IfOk result (λ m. IsToldBy (length text.now) (cut_of text.now) m i r)) }
+    ensures told { OfRow text.now i (λ r.
+        IfOk result (λ m. IsToldBy (length text.now) (cut_of text.now) m i r)) }
     ensures row { IfOk result (λ m. IfSome m (λ x. x.row ≡ i)) }
     ensures fault { IfErr result IsOfText }
 {
@@ -170,10 +164,7 @@ fn made_of<'t>(
 }
 
 /// Adds what is made of one more row, if anything is.
-fn push_made<'t>(
-    made: Vec<Made<'t>>,
-    row: Option<Made<'t>>,
-) -> Result<Vec<Made<'t>>, AllocError>
+fn push_made<'t>(made: Vec<Made<'t>>, row: Option<Made<'t>>) -> Result<Vec<Made<'t>>, AllocError>
     ensures { IfOk result (λ ms. ms.items ≡ made.entry.items ++ listed row.entry) }
 {
     let mut made = made;

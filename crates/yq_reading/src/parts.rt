@@ -8,7 +8,7 @@ use std::alloc::{AllocError, Global};
 use yq_documents::{DocumentRows, first_is_document};
 use yq_rows::{Bound, Rows, begins_document};
 
-/// The gap before the first row of a part, which is that row if it has one, or that behind its rows.
+/// The gap before the first row of a part, or that behind its rows where it has none.
 fn first_gap<'t>(rows: &Rows<'t>, from: usize, bound: Bound<'t>) -> &'t str
     ensures { result.now ≡ spec.first_gap rows.now.rows from (bound_view bound.entry) }
 {
@@ -26,8 +26,8 @@ fn push_document<'t>(
     from: usize,
     bound: Bound<'t>,
 ) -> Result<Vec<DocumentRows<'t>>, AllocError>
-    ensures { IfOk result (λ ds. spec.rows_told ds.items ≡
-        spec.rows_told documents.entry.items ++ spec.part_row rows.now.rows is_document from (bound_view bound.entry)) }
+    ensures { IfOk result (λ ds. spec.rows_told ds.items ≡ spec.rows_told documents.entry.items
+        ++ spec.part_row rows.now.rows is_document from (bound_view bound.entry)) }
 {
     let mut documents = documents;
     if is_document {

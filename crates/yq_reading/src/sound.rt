@@ -7,16 +7,17 @@ ghost use Rattle.yq_lines.specs.Ends.{part, is_end};
 ghost use Rattle.yq_lines.specs.Outline as outline;
 ghost use Rattle.yq_lines.specs.Sound as spec;
 ghost use Rattle.yq_walk.specs.RowWalk.{IsLine, IsSpot, OfLine, OfLines};
-ghost use Rattle.yq_reading.specs.Checking.{IsChecked, OfChecked, OfCheckedLine, GivesEnd, GivesStop};
+ghost use Rattle.yq_reading.specs.Checking.{IsChecked, IsReached, OfChecked, OfCheckedLine, GivesEnd, GivesStop};
 ghost use Rattle.yq_reading.specs.Deciding.{Decides};
 
-use crate::checked::{Checked, line_key, line_level, row_fault};
+use crate::checked::{Checked, line_key, row_fault};
 use crate::keys::Keys;
 use crate::nested::head_fault;
+use crate::reached::{Reached, is_bare, is_deeper, key_at, line_behind};
 use std::alloc::{AllocError, Global};
 use std::collections::BTreeMap;
 use yq_scalar::{FaultKind, ReadError, are_distinct};
-use yq_walk::{Spot, behind, has_head, is_bare, is_deeper, next};
+use yq_walk::{Spot, behind, has_head, is_deeper as is_line_deeper};
 
 /// Why a line can't stand where others of a collection at a level do: behind neither key nor dash in the
 /// column of the keys, where its key is missing, or in another column or collection.
@@ -38,7 +39,7 @@ fn check_bare(
     at: Spot,
     floor: usize,
     depth: usize,
-) -> Result<Spot, ReadError>
+) -> Result<Reached, ReadError>
     requires ready { IsChecked x }
     requires line { IsLine x.rows.now x.document at }
     requires deep { OfLines x.rows.now x.document (λ ls n.
@@ -46,15 +47,16 @@ fn check_bare(
     ensures sound { OfCheckedLine x.entry at (λ ls n l.
         Decides result ((is_some l.head && is_end (part ls (n at + 1) floor)) &&
         spec.head_is_sound depth l.head)) }
-    ensures behind { IfOk result (GivesStop x.entry.rows.now x.entry.document at floor) }
+    ensures reached { IfOk result (IsReached x.entry.rows.now x.entry.document) }
+    ensures behind { IfOk result (λ r. GivesStop x.entry.rows.now x.entry.document at floor r.spot) }
     ensures fault { IfErr result IsOfText }
 {
     if !has_head(x.rows, x.document, at) {
         return Err(ReadError::Fault(row_fault(x, at, FaultKind::BadIndent)));
     }
-    let after = next(x.rows, x.document, at);
-    if is_deeper(x.rows, x.document, after, floor) {
-        return Err(ReadError::Fault(row_fault(x, after, FaultKind::BadIndent)));
+    let after = line_behind(x, at);
+    if is_deeper(x, after, floor) {
+        return Err(ReadError::Fault(row_fault(x, after.spot, FaultKind::BadIndent)));
     }
     match head_fault(alloc, x, at, depth) {
         Ok(()) => Ok(after),
@@ -63,14 +65,15 @@ fn check_bare(
 }
 
 /// Adds the key of a line, if it has one.
-fn push_key<'k>(keys: &mut Keys<'k>, x: Checked<'k, '_>, at: Spot) -> Result<(), AllocError>
+fn push_key<'k>(keys: &mut Keys<'k>, x: Checked<'k, '_>, at: Reached) -> Result<(), AllocError>
     requires ready { IsChecked x }
-    requires line { IsLine x.rows.now x.document at }
-    ensures { OfLine x.entry.rows.now x.entry.document at (λ l. OnOk result
+    requires reached { IsReached x.rows.now x.document at }
+    requires line { IsLine x.rows.now x.document at.spot }
+    ensures { OfLine x.entry.rows.now x.entry.document at.spot (λ l. OnOk result
         (map (λ k. k.now) keys.new.items ≡
         map (λ k. k.now) keys.old.items ++ with_key (outline.key_of l.mark) [])) }
 {
-    match line_key(x, at) {
+    match key_at(x, at) {
         Some(key) => {
             keys.push(key)?;
             Ok(())
@@ -92,7 +95,7 @@ fn repeated_line(
 {
     let mut known = BTreeMap::new(alloc);
     let mut at = start;
-    'lines: while is_deeper(x.rows, x.document, at, floor) {
+    'lines: while is_line_deeper(x.rows, x.document, at, floor) {
         if let Some(key) = line_key(x, at) {
             if known.insert(key, ())?.is_some() {
                 return Ok(at);
@@ -109,30 +112,32 @@ fn repeated_line(
 fn check_line(
     alloc: Global,
     x: Checked<'_, '_>,
-    at: Spot,
+    at: Reached,
     n: usize,
     depth: usize,
-) -> Result<Spot, ReadError>
+) -> Result<Reached, ReadError>
     requires ready { IsChecked x }
-    requires line { IsLine x.rows.now x.document at }
-    ensures sound { OfCheckedLine x.entry at (λ ls num l. Decides result
-        (spec.are_sound_under depth n l (part ls (num at + 1) (outline.level l)))) }
-    ensures behind { IfOk result (GivesEnd x.entry.rows.now x.entry.document at) }
+    requires at { IsReached x.rows.now x.document at }
+    requires line { IsLine x.rows.now x.document at.spot }
+    ensures sound { OfCheckedLine x.entry at.spot (λ ls num l. Decides result
+        (spec.are_sound_under depth n l (part ls (num at.spot + 1) (outline.level l)))) }
+    ensures reached { IfOk result (IsReached x.entry.rows.now x.entry.document) }
+    ensures behind { IfOk result (λ r. GivesEnd x.entry.rows.now x.entry.document at.spot r.spot) }
     ensures fault { IfErr result IsOfText }
 {
-    let level = line_level(x, at);
+    let level = at.level;
     if level != n {
-        return Err(ReadError::Fault(row_fault(x, at, misplaced(level, n))));
+        return Err(ReadError::Fault(row_fault(x, at.spot, misplaced(level, n))));
     }
-    let after = next(x.rows, x.document, at);
-    if !is_deeper(x.rows, x.document, after, n) {
-        return match head_fault(alloc, x, at, depth) {
-            Ok(()) => Ok(behind(x.rows, x.document, at)),
+    let after = line_behind(x, at.spot);
+    if !is_deeper(x, after, n) {
+        return match head_fault(alloc, x, at.spot, depth) {
+            Ok(()) => Ok(after),
             Err(e) => Err(e),
         };
     }
-    if has_head(x.rows, x.document, at) {
-        return Err(ReadError::Fault(row_fault(x, after, FaultKind::BadIndent)));
+    if has_head(x.rows, x.document, at.spot) {
+        return Err(ReadError::Fault(row_fault(x, after.spot, FaultKind::BadIndent)));
     }
     check_lines(alloc, x, after, n, depth)
 }
@@ -143,38 +148,39 @@ fn check_line(
 pub(crate) fn check_lines(
     alloc: Global,
     x: Checked<'_, '_>,
-    start: Spot,
+    start: Reached,
     floor: usize,
     depth: usize,
-) -> Result<Spot, ReadError>
+) -> Result<Reached, ReadError>
     requires ready { IsChecked x }
-    requires start { IsSpot x.rows.now x.document start }
+    requires start { IsReached x.rows.now x.document start }
     ensures sound { OfChecked x.entry (λ ls n. Decides result
-        (spec.is_sound depth (part ls (n start) floor))) }
-    ensures behind { IfOk result (GivesStop x.entry.rows.now x.entry.document start floor) }
+        (spec.is_sound depth (part ls (n start.spot) floor))) }
+    ensures reached { IfOk result (IsReached x.entry.rows.now x.entry.document) }
+    ensures behind { IfOk result (λ r.
+        GivesStop x.entry.rows.now x.entry.document start.spot floor r.spot) }
     ensures fault { IfErr result IsOfText }
 {
-    if !is_deeper(x.rows, x.document, start, floor) {
+    if !is_deeper(x, start, floor) {
         return Ok(start);
     }
-    if is_bare(x.rows, x.document, start) {
-        return check_bare(alloc, x, start, floor, depth);
+    if is_bare(x, start) {
+        return check_bare(alloc, x, start.spot, floor, depth);
     }
     if depth == 0 {
-        return Err(ReadError::Fault(row_fault(x, start, FaultKind::TooDeep)));
+        return Err(ReadError::Fault(row_fault(x, start.spot, FaultKind::TooDeep)));
     }
-    let n = line_level(x, start);
     let mut keys = Keys::new(alloc);
     let mut at = start;
-    'lines: while is_deeper(x.rows, x.document, at, floor) {
+    'lines: while is_deeper(x, at, floor) {
         push_key(&mut keys, x, at)?;
-        at = match check_line(alloc, x, at, n, depth - 1) {
+        at = match check_line(alloc, x, at, start.level, depth - 1) {
             Ok(after) => after,
             Err(e) => return Err(e),
         };
     }
     if !are_distinct(keys.as_mut_slice()) {
-        let line = repeated_line(alloc, x, start, floor)?;
+        let line = repeated_line(alloc, x, start.spot, floor)?;
         return Err(ReadError::Fault(row_fault(x, line, FaultKind::DuplicateKey)));
     }
     Ok(at)

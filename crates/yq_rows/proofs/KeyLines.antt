@@ -41,7 +41,7 @@ plain_line : (p rest : List ℕ) → NoneIn (ends_plain false None) p rest → h
 plain_line [] rest h = refl
 plain_line (b ∷ p) rest h = rw (no_feed b (p ++ rest) h.0, plain_line p rest h.1) refl
 
-key_line : (p rest : List ℕ) → IsScalar false None p rest → holds_break p ≡ false
+pub key_line : (p rest : List ℕ) → IsScalar false None p rest → holds_break p ≡ false
 key_line p rest (inl h) = plain_line p rest h.inside
 key_line p rest (inr h) = not-true (holds_break p) h.1
 

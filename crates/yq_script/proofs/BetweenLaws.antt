@@ -23,6 +23,22 @@ last_given [] o w = refl
 last_given (keep u ∷ ss) o w = λ i. cond (last_gives ss o w i) [] (keep u ∷ last_given ss o w i)
 last_given (put p x ∷ ss) o w = ap (λ s. put p x ∷ s) (last_given ss o w)
 
+-- ---- what is kept behind it
+
+pub back_stays : (ss : List Segment) (t : List ℕ) → kept_back (ss ++ (keep t ∷ [])) ≡ kept_back ss ++ t
+back_stays [] t = append-nil t
+back_stays (keep u ∷ ss) t = (λ i. cond (last_kept ss t i) (u ++ back_stays ss t i) (back_stays ss t i)) ∙ go (are_kept ss)
+  where
+    go : (b : Bool) → cond b (u ++ (kept_back ss ++ t)) (kept_back ss ++ t) ≡ cond b (u ++ kept_back ss) (kept_back ss) ++ t
+    go true = sym (append_assoc u (kept_back ss) t)
+    go false = refl
+back_stays (put o w ∷ ss) t = back_stays ss t
+
+pub back_gives : (ss : List Segment) (o w : List ℕ) → kept_back (ss ++ (put o w ∷ [])) ≡ []
+back_gives [] o w = refl
+back_gives (keep u ∷ ss) o w = (λ i. cond (last_gives ss o w i) (u ++ back_gives ss o w i) (back_gives ss o w i))
+back_gives (put p x ∷ ss) o w = back_gives ss o w
+
 -- ---- the texts
 
 pub new_first : (ss : List Segment) → new_text ss ≡ kept_front ss ++ new_text (from_first ss)

@@ -1,5 +1,5 @@
 -- What segments keep in front and behind.
-use Rattle.std.proofs.Common.{◌≡◌, ℕ, Bool, true, false, cond, List, [], ◌∷◌, ◌++◌, refl, sym, ap, ◌∙◌, append_assoc, append-nil}
+use Rattle.std.proofs.Common.{◌≡◌, ℕ, ◌≤◌, Bool, true, false, cond, List, [], ◌∷◌, ◌++◌, length, refl, sym, ap, ◌∙◌, arith, append_assoc, append-nil, length-append}
 use Rattle.std.proofs.lemmas.Bool.{false≢true}
 use Rattle.yq_script.specs.Script.{Segment, keep, put, old_text, new_text, are_kept, kept_front, kept_back}
 
@@ -45,6 +45,9 @@ behind (put o w ∷ ss) =
       old_is = ap (λ u. o ++ u) h.old_is ∙ sym (append_assoc o h.old (kept_back ss));
       new_is = ap (λ u. w ++ u) h.new_is ∙ sym (append_assoc w h.new (kept_back ss));
     }
+
+pub back_within : (ss : List Segment) → length (kept_back ss) ≤ length (old_text ss)
+back_within ss = let h = behind ss in omega (arith, ap length h.old_is, length-append h.old (kept_back ss))
 
 -- The texts of segments of which one gives way stand between what is kept in front and what is kept behind.
 pub record IsBetween (ss : List Segment) : Type 0 where

@@ -1,7 +1,7 @@
 -- The segments so far and one more.
 use Rattle.std.proofs.Common.{◌≡◌, ℕ, ◌+◌, ◌<◌, List, [], ◌∷◌, ◌++◌, ◌-◌, ◌≤◌, length, take, get_or, refl, sym, ap, ◌∙◌, arith, append-nil}
 use Rattle.std.proofs.lemmas.List.{map-append, take_all, take_more}
-use Rattle.std.proofs.Common.{Bool, true, false, cond, subst, String, Global}
+use Rattle.std.proofs.Common.{subst, String, Global}
 use Rattle.std.proofs.lemmas.Str.{IsUtf8-append}
 use Rattle.std.specs.Str.{IsUtf8}
 use Rattle.std.specs.String.{string_bytes}
@@ -9,11 +9,11 @@ use Rattle.yq_text.specs.Halves.{whole}
 use Rattle.yq_text.specs.declared.halves.Halves.{Halves}
 use Rattle.yq_script.specs.Splice.{Splice}
 use Rattle.yq_script.specs.Exchanging.{gives}
-use Rattle.yq_script.specs.Script.{Segment, keep, are_kept, kept_front, kept_back, new_text, put_before, merged, splice_at, splices_at, changes_behind, to_last}
+use Rattle.yq_script.specs.Script.{Segment, keep, kept_front, kept_back, new_text, put_before, merged, splice_at, splices_at, changes_behind, to_last}
 use Rattle.yq_script.specs.Segments.{segment_of, segments_of}
 use Rattle.yq_script.specs.declared.segment.Segment.{Segment as Held}
 use Rattle.yq_script.specs.declared.segment.Segment.TheVariants as held
-use Rattle.yq_script.proofs.BetweenLaws.{last_given, last_stays}
+use Rattle.yq_script.proofs.BetweenLaws.{back_gives, back_stays, last_given, last_stays}
 
 -- the last exchange
 pub turn_last : (done all : List Splice) (n : ℕ) (o w : List ℕ) → all ≡ done ++ splice_at n o w → all ≡ done ++ splices_at n (put_before o w [])
@@ -50,6 +50,12 @@ module _ (xs : List Held) (x d : Held) (some : 1 ≤ length xs) (is : x ≡ get_
       let all : segments_of xs ≡ segments_of but_last ++ (segment_of (held.Put o w) ∷ []) = with_last ∙ ap (λ y. segments_of but_last ++ (segment_of y ∷ [])) puts in
       all ∙ sym (ap to_last all ∙ last_given (segments_of but_last) (whole o) (string_bytes w))
 
+  pub back_kept : (t : Halves) → x ≡ held.Keep t → kept_back (segments_of xs) ≡ kept_back (segments_of but_last) ++ whole t
+  back_kept t keeps = ap kept_back (with_last ∙ ap (λ y. segments_of but_last ++ (segment_of y ∷ [])) keeps) ∙ back_stays (segments_of but_last) (whole t)
+
+  pub back_put : (o : Halves) (w : String Global) → x ≡ held.Put o w → kept_back (segments_of xs) ≡ []
+  back_put o w puts = ap kept_back (with_last ∙ ap (λ y. segments_of but_last ++ (segment_of y ∷ [])) puts) ∙ back_gives (segments_of but_last) (whole o) (string_bytes w)
+
 -- a text behind another one
 pub texts_joined : (t u : List ℕ) → IsUtf8 t → IsUtf8 u → IsUtf8 (t ++ u)
 texts_joined = IsUtf8-append
@@ -57,11 +63,3 @@ texts_joined = IsUtf8-append
 -- what is kept in front with one more
 pub front_more : (ss us : List Segment) (t : List ℕ) → IsUtf8 t → IsUtf8 (kept_front us) → ss ≡ keep t ∷ us → IsUtf8 (kept_front ss)
 front_more ss us t text more is = subst (λ x. IsUtf8 (kept_front x)) (sym is) (IsUtf8-append t (kept_front us) text more)
-
--- and behind
-pub back_more : (ss us : List Segment) (t : List ℕ) → IsUtf8 t → IsUtf8 (kept_back us) → ss ≡ keep t ∷ us → IsUtf8 (kept_back ss)
-back_more ss us t text more is = subst (λ x. IsUtf8 (kept_back x)) (sym is) (go (are_kept us))
-  where
-    go : (b : Bool) → IsUtf8 (cond b (t ++ kept_back us) (kept_back us))
-    go true = IsUtf8-append t (kept_back us) text more
-    go false = more

@@ -65,12 +65,12 @@ fn kept_back(segments: &[Segment<'_>]) -> usize
 {
     let mut len = 0;
     let mut rest = segments;
-    'segments: while let [segment, after @ ..] = rest {
-        len = match segment {
-            Segment::Keep(text) => len + text_len(*text),
-            Segment::Put(_, _) => 0,
-        };
-        rest = after;
+    'segments: while let [before @ .., segment] = rest {
+        match segment {
+            Segment::Keep(text) => len += text_len(*text),
+            Segment::Put(_, _) => return len,
+        }
+        rest = before;
     }
     len
 }

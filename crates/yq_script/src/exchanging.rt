@@ -62,22 +62,42 @@ fn push_splice(
     Ok(())
 }
 
+/// Adds a text to another one, if it has bytes.
+fn push_text(text: &mut String, more: &str) -> Result<(), AllocError>
+    ensures { OnOk result (string_bytes text.new ≡ string_bytes text.old ++ more.now) }
+{
+    if more.is_empty() {
+        return Ok(());
+    }
+    text.push_str(more)?;
+    Ok(())
+}
+
+/// Adds bytes to others, if there are some.
+fn push_bytes(bytes: &mut Vec<u8>, more: &[u8]) -> Result<(), AllocError>
+    ensures { OnOk result (bytes.new.items ≡ bytes.old.items ++ more.now) }
+{
+    if more.is_empty() {
+        return Ok(());
+    }
+    bytes.extend_from_slice(more)?;
+    Ok(())
+}
+
 /// Adds what stays to a text.
 fn push_kept(text: &mut String, kept: Halves<'_>) -> Result<(), AllocError>
     ensures { OnOk result (string_bytes text.new ≡ string_bytes text.old ++ whole kept.entry) }
 {
-    text.push_str(kept.front)?;
-    text.push_str(kept.back)?;
-    Ok(())
+    push_text(text, kept.front)?;
+    push_text(text, kept.back)
 }
 
 /// Adds what gives way to bytes.
 fn push_gone(bytes: &mut Vec<u8>, gone: Halves<'_>) -> Result<(), AllocError>
     ensures { OnOk result (bytes.new.items ≡ bytes.old.items ++ whole gone.entry) }
 {
-    bytes.extend_from_slice(gone.front.as_bytes())?;
-    bytes.extend_from_slice(gone.back.as_bytes())?;
-    Ok(())
+    push_bytes(bytes, gone.front.as_bytes())?;
+    push_bytes(bytes, gone.back.as_bytes())
 }
 
 /// The new text of segments, which is about that long, and their splices behind so many bytes.
@@ -111,8 +131,8 @@ pub(crate) fn build(
             }
             Segment::Put(gone, come) => {
                 push_gone(&mut old, *gone)?;
-                new.extend_from_slice(come.as_bytes())?;
-                text.push_str(come)?;
+                push_bytes(&mut new, come.as_bytes())?;
+                push_text(&mut text, come)?;
             }
         }
         rest = after;

@@ -1,6 +1,5 @@
 -- What a change that was followed leaves.
 use Rattle.std.proofs.Common.{◌≡◌, ℕ, List, ◌++◌, reverse, refl, sym, ap, ◌∙◌, subst, append_assoc}
-use Rattle.std.specs.Str.{IsCharBoundary}
 use Rattle.yq_rows.specs.Grammar.{IsCut}
 use Rattle.yq_rows.specs.Items.{Item, items_of}
 use Rattle.yq_rows.specs.Kept.{ArePlaced, IsPlaced}
@@ -13,7 +12,7 @@ use Rattle.yq_session.specs.Reading.{ArePlacesRead}
 use Rattle.yq_session.specs.declared.kept.Kept.{Kept}
 use Rattle.yq_session.specs.declared.reading.Come.{Come}
 use Rattle.yq_session.specs.declared.sides.Touched.{Touched}
-use Rattle.yq_session.proofs.ItemPlaces.{BothSides, placed_in, places_of, split_edge}
+use Rattle.yq_session.proofs.ItemPlaces.{BothSides, placed_in, places_of}
 
 -- before a change: places that were moved
 pub placed_before : (t : List ℕ) (p : Places) (kept : Kept) (new : List ℕ) → Follows t p kept new → IsPlacedIn t p
@@ -71,10 +70,6 @@ new_sides : (t new : List ℕ) (kept : Kept) (p q : Places) (x : Touched) (come 
 unfolding gives_way
 new_sides t new kept p q x come d k read done is =
     (k.before ++ k.read.written, k.read.behind, append_assoc k.before k.read.written k.read.behind ∙ k.items d is, done (gives_way t new kept p x come k read))
-
-pub new_edge : (t u new : List ℕ) (kept : Kept) (p q : Places) (x : Touched) (come : Come) (d : Cut) → u ≡ t → (k : Change t new kept p x) → ArePlacesRead k.read.written come → Exchanged p x come q → IsCut (exchanged kept t new) d → IsCharBoundary (exchanged kept u new) q.split
-new_edge t u new kept p q x come d text k read done is =
-    subst (λ (l : List ℕ). IsCharBoundary (exchanged kept l new) q.split) (sym text) (split_edge (exchanged kept t new) d q is (new_sides t new kept p q x come d k read done is))
 
 pub new_places : (t u v new : List ℕ) (kept : Kept) (p q : Places) (x : Touched) (come : Come) (d : Cut) → u ≡ t → v ≡ exchanged kept u new → (k : Change t new kept p x) → ArePlacesRead k.read.written come → Exchanged p x come q → IsCut (exchanged kept t new) d → ArePlacesOf v q
 new_places t u v new kept p q x come d text made k read done is =

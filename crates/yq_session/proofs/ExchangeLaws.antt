@@ -1,6 +1,6 @@
 -- Rows and ends of parts of items between others that give way to those of other items, by their places.
-use Rattle.std.proofs.Common.{◌≡◌, ℕ, suc, ◌+◌, ◌-◌, ◌<◌, ◌≤◌, ◌^◌, List, [], ◌∷◌, ◌++◌, length, map, reverse, take, drop, drop_at, Some, slice_get, refl, sym, ap, ◌∙◌, subst, arith, append_assoc, append-nil, length-append, length-take}
-use Rattle.std.proofs.lemmas.List.{length-map, length-reverse, map_more, take_at}
+use Rattle.std.proofs.Common.{◌≡◌, ℕ, suc, ◌+◌, ◌-◌, ◌<◌, ◌≤◌, ◌^◌, true, eqb, List, [], ◌∷◌, ◌++◌, length, map, reverse, take, drop, drop_at, get_or, slice_set, Some, slice_get, refl, sym, ap, ◌∙◌, subst, arith, eqb-true, append_assoc, append-nil, length-append, length-take}
+use Rattle.std.proofs.lemmas.List.{drop_all, drop_more, length-map, length-reverse, map_more, set_split, take_at}
 use Rattle.std.proofs.lemmas.List.Elements.{All-weaker}
 use Rattle.std.proofs.lemmas.Option.{get_or_from_slice_get, slice_get_within}
 use Rattle.std.specs.List.{All}
@@ -192,3 +192,21 @@ exchanged p new x come next kept h kept_is rows_is bytes_is front_now behind_now
       texts = subst TextsIn (sym group) (texts_joined b (w ++ z) (texts_first b tail h.placed.texts) (texts_joined w z h.are_read.texts (texts_second h.touched z (texts_second b tail h.placed.texts))));
       small = subst (λ (l : List Item). text_length l < 2 ^ 32) (sym group) h.small;
     }
+
+none_found : (xs : List EndPlace) → eqb (length xs) 0 ≡ true → xs ≡ []
+none_found [] e = refl
+none_found (x ∷ xs) e = absurd (omega (arith, eqb-true (suc (length xs)) 0 e))
+
+-- the last end, moved in its place
+pub moved_last : (front old new : Side) (es found : List EndPlace) (x : EndPlace) → eqb (length found) 0 ≡ true → front.ends ≡ old.ends → old.ends + 1 ≡ length es → x ≡ get_or es old.ends x →
+    slice_set es old.ends (moved_from old new x) ≡ joined_ends front old new es found
+moved_last front old new es found x none same last own =
+    let n : ℕ = old.ends in
+    let less : n < length es = omega (arith, last) in
+    let rest : drop (n + 1) es ≡ [] = drop_all (n + 1) es (omega (arith, last)) in
+    let at : drop n es ≡ x ∷ [] = drop_more es n x less ∙ (λ i. sym own i ∷ rest i) in
+    let next : suc n ≡ n + 1 = omega arith in
+    set_split es n (moved_from old new x) less
+    ∙ (ap (λ (k : ℕ). take n es ++ moved_from old new x ∷ drop k es) next
+    ∙ (ap (λ (l : List EndPlace). take n es ++ moved_from old new x ∷ l) rest
+    ∙ (λ i. take (sym same i) es ++ (map (moved_from origin front) (sym (none_found found none) i) ++ map (moved_from old new) (sym at i)))))

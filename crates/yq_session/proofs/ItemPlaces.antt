@@ -2,9 +2,7 @@
 use Rattle.std.proofs.Common.{◌≡◌, ℕ, ◌+◌, ◌<◌, ◌≤◌, ◌^◌, List, [], ◌∷◌, ◌++◌, length, map, reverse, refl, sym, ap, ◌∙◌, subst, arith}
 use Rattle.std.proofs.lemmas.List.{reverse-append, reverse-reverse}
 use Rattle.std.proofs.lemmas.List.Elements.{All-cons, All-head, All-nil, All-push, All-tail}
-use Rattle.std.proofs.lemmas.Str.{IsCharBoundary-at_seam, IsUtf8-nil}
 use Rattle.std.specs.List.{All}
-use Rattle.std.specs.Str.{IsCharBoundary}
 use Rattle.yq_rows.specs.Grammar.{IsCut}
 use Rattle.yq_rows.specs.Items.{Item, row_item, end_item, items_of, items_text, shown_items}
 use Rattle.yq_rows.specs.Kept.{ArePlaced, IsPlaced, far, near, ends_near, placed_rows, turned, TextsIn}
@@ -14,7 +12,7 @@ use Rattle.yq_rows.specs.View.{Shown, shown, slices}
 use Rattle.yq_rows.specs.declared.offsets.Offsets as declared
 use Rattle.yq_rows.specs.declared.places.Places.{Places}
 use Rattle.yq_rows.proofs.ItemLaws.{items_of_text, items_shown, items_text-append}
-use Rattle.yq_rows.proofs.KeptLaws.{far_near, items_apart, items_texts, near_joined}
+use Rattle.yq_rows.proofs.KeptLaws.{far_near, items_apart, near_joined}
 use Rattle.yq_rows.proofs.PlacedLaws.{same_shown}
 use Rattle.yq_rows.proofs.ScanLaws.{one_cut}
 use Rattle.yq_session.specs.Following.{ArePlacesOf, IsPlacedIn}
@@ -148,16 +146,6 @@ still_at p q xs len long rows ends h = record {
 }
 
 -- ---- the split of a text
-
-texts_behind : (xs ys : List Item) → TextsIn (xs ++ ys) → TextsIn ys
-texts_behind [] ys h = h
-texts_behind (row_item r ∷ xs) ys h = texts_behind xs ys h.1
-texts_behind (end_item gap marker ∷ xs) ys h = texts_behind xs ys h.2
-
-pub split_edge : (t : List ℕ) (c : Cut) (p : Places) → IsCut t c → BothSides p (items_of c) → IsCharBoundary t p.split
-split_edge t c p cut s =
-    let text : t ≡ items_text s.0 [] ++ items_text s.1 [] = cut.text ∙ (sym (items_of_text c) ∙ (ap (λ (l : List Item). items_text l []) (sym s.2) ∙ text_split s.0 s.1)) in
-    subst (IsCharBoundary t) (sym s.3.split_is) (IsCharBoundary-at_seam t (items_text s.0 []) (items_text s.1 []) text (items_texts s.1 [] (texts_behind s.0 s.1 s.3.texts) IsUtf8-nil))
 
 long_by : (t : List ℕ) (c : Cut) (p : Places) → IsCut t c → (h : IsPlaced p (shown c)) → text_length (h.before ++ h.behind) ≡ length t
 long_by t c p cut h =

@@ -11,6 +11,16 @@ use crate::sides::{Side, Touched};
 use std::alloc::{AllocError, Global};
 use yq_rows::{EndPlace, Offsets, Places};
 
+/// The end of a part that stood behind one place, behind another.
+fn moved_end(end: EndPlace, from: Side, to: Side) -> EndPlace
+    requires { IsMovable from to end }
+    ensures { result ≡ moved_from from to end }
+{
+    let rows = end.rows.saturating_sub(from.rows) + to.rows;
+    let start = end.start().saturating_sub(from.bytes) + to.bytes;
+    end.moved(rows, start)
+}
+
 /// Adds ends of parts that stood behind one place, now behind another.
 fn push_moved(
     joined: &mut Vec<EndPlace>,
@@ -23,10 +33,7 @@ fn push_moved(
         joined.old.items ++ map (moved_from from to) ends.now) }
 {
     'ends: for i in 0..ends.len() {
-        let end = ends[i];
-        let rows = end.rows.saturating_sub(from.rows) + to.rows;
-        let start = end.start().saturating_sub(from.bytes) + to.bytes;
-        joined.push(end.moved(rows, start))?;
+        joined.push(moved_end(ends[i], from, to))?;
     }
     Ok(())
 }
@@ -56,6 +63,33 @@ fn join_ends(
     push_moved(&mut joined, found, origin, front)?;
     push_moved(&mut joined, &ends[old.ends..], old, new)?;
     Ok(joined)
+}
+
+/// Ends of parts give way to those that were found, and those behind are moved: the last one alone in
+/// its place, where none gives way and none was found.
+fn exchange_ends(
+    alloc: Global,
+    ends: &mut Vec<EndPlace>,
+    found: &[EndPlace],
+    front: Side,
+    old: Side,
+    new: Side,
+) -> Result<(), AllocError>
+    requires front { front.ends ≤ length ends.old.items }
+    requires old { old.ends ≤ length ends.old.items }
+    requires found { All (IsMovable origin front) found.now }
+    requires behind { All (IsMovable old new) (drop old.ends ends.old.items) }
+    ensures ok { OnOk result (ends.new.items ≡ joined_ends front old new ends.old.items found.now) }
+    ensures err { OnErr result (ends.new.items ≡ ends.old.items) }
+{
+    if found.is_empty() && front.ends == old.ends && old.ends + 1 == ends.len() {
+        let at = old.ends;
+        ends[at] = moved_end(ends[at], old, new);
+        return Ok(());
+    }
+    let joined = join_ends(alloc, ends.as_slice(), found, front, old, new)?;
+    *ends = joined;
+    Ok(())
 }
 
 /// Adds rows of a text of `len` bytes, before which so many more stand; there is room for them.
@@ -93,11 +127,10 @@ pub(crate) fn exchange(
         bytes: front.bytes + come.len,
     };
     let found = come.places.ends.as_slice();
-    let ends = join_ends(alloc, places.ends.as_slice(), found, front, old, new)?;
+    exchange_ends(alloc, &mut places.ends, found, front, old, new)?;
     places.front.truncate(front.rows);
     push_rows(&mut places.front, &come.places, come.read, front.bytes);
     places.behind.truncate(kept);
-    places.ends = ends;
     places.split = new.bytes;
     Ok(())
 }

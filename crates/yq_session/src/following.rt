@@ -13,20 +13,17 @@ use std::alloc::{AllocError, Global};
 use yq_rows::{Meter, Places};
 use yq_text::SplitText;
 
-/// Writes what comes into a text in the place of the bytes that aren't kept; there is room for it. The
-/// split is then at a place behind it.
-fn write(text: &mut SplitText, kept: Kept, new: &str, split: usize)
+/// Writes what comes into a text in the place of the bytes that aren't kept; there is room for it.
+fn write(text: &mut SplitText, kept: Kept, new: &str)
     requires within { kept.front + kept.back ≤ length (joined text.old) }
     requires front { IsCharBoundary (joined text.old) kept.front }
     requires back { IsCharBoundary (joined text.old) (length (joined text.old) - kept.back) }
     requires room { length new.now ≤ text.old.room }
-    requires split { IsCharBoundary (exchanged kept (joined text.old) new.now) split }
     ensures { joined text.new ≡ exchanged kept (joined text.old) new.now }
 {
     let gone = text.len() - kept.back - kept.front;
     text.move_split(kept.front);
     text.exchange(gone, new);
-    text.move_split(split);
 }
 
 /// Writes what comes into a text in the place of the bytes that a change doesn't keep, and places of its
@@ -57,6 +54,6 @@ pub fn follow(
     let come = read(alloc, region.as_str(), touched, meter)?;
     text.reserve(new.len())?;
     exchange(alloc, places, touched, &come)?;
-    write(text, kept, new, places.split);
+    write(text, kept, new);
     Ok(())
 }

@@ -1,4 +1,4 @@
-//! The split of a text and of its kept rows, moved to a place in the text.
+//! The split of the kept rows of a text, moved to a place in it.
 ghost use Rattle.std.specs.Prelude.{◌≡◌, ◌<◌, ◌≤◌, ◌^◌, OnOk, length, reverse};
 ghost use Rattle.std.specs.List.{All};
 ghost use Rattle.yq_text.specs.Split.{joined};
@@ -88,24 +88,18 @@ fn begin_of(behind: &[Offsets], len: usize) -> usize
     }
 }
 
-/// Moves the split of a text and of its rows: behind it stands the first row that begins at an offset or
+/// Moves the split of the rows of a text: behind it stands the first row that begins at an offset or
 /// behind it.
 ///
 /// # Errors
-/// Want of memory. The split is then somewhere between, at the same place of the text and of the rows.
-pub(crate) fn move_split(
-    text: &mut SplitText,
-    places: &mut Places,
-    at: usize,
-) -> Result<(), AllocError>
-    requires { IsPlacedIn (joined text.old) places.old }
-    ensures text { joined text.new ≡ joined text.old }
-    ensures placed { IsPlacedIn (joined text.old) places.new }
-    ensures ok { OnOk result (IsSplitAt at (length (joined text.old)) places.new) }
+/// Want of memory. The split is then somewhere between.
+pub(crate) fn move_split(text: &SplitText, places: &mut Places, at: usize) -> Result<(), AllocError>
+    requires { IsPlacedIn (joined text.now) places.old }
+    ensures placed { IsPlacedIn (joined text.now) places.new }
+    ensures ok { OnOk result (IsSplitAt at (length (joined text.now)) places.new) }
 {
     let len = text.len();
     let moved = move_rows(places, len, at);
     places.split = begin_of(places.behind.as_slice(), len);
-    text.move_split(places.split);
     moved
 }

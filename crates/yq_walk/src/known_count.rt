@@ -38,6 +38,7 @@ pub fn counted(index: usize, is_item: bool) -> Option<usize>
 }
 
 /// The item of a row behind one that is known.
+#[inline(always)]
 fn known_further(rows: &Rows<'_>, known: KnownItem, row: usize) -> Option<KnownItem>
     requires known { IsKnown rows.now.rows known }
     requires within { row < length rows.now.rows }
@@ -92,6 +93,7 @@ fn known_back(rows: &Rows<'_>, known: KnownItem, row: usize) -> Option<KnownItem
 
 /// The item of a row among the lines from one on that are deeper than a level, as one that is known.
 /// The rows are counted from the known item on or back to it, or from the first one on.
+#[inline(always)]
 pub fn known_to(
     rows: &Rows<'_>,
     document: Stretch,

@@ -7,6 +7,7 @@ use crate::spot::{KnownItem, KnownItems, Spot, Stretch, level_at};
 use yq_rows::Rows;
 
 /// Whether an item is known among the lines from one on that are deeper than a level.
+#[inline(always)]
 fn is_among(known: KnownItem, under: Spot, floor: usize) -> bool
     ensures under { IsTrue result → known.under ≡ under }
     ensures floor { IsTrue result → known.floor ≡ floor }
@@ -16,6 +17,7 @@ fn is_among(known: KnownItem, under: Spot, floor: usize) -> bool
 
 /// An item that is known, if it is one of the lines of a document from one on that are deeper than a
 /// level.
+#[inline(always)]
 fn if_among(
     rows: &Rows<'_>,
     document: Stretch,
@@ -35,6 +37,7 @@ fn if_among(
 }
 
 /// The item that is known among the lines of a document from one on that are deeper than a level.
+#[inline(always)]
 pub fn known_among(
     rows: &Rows<'_>,
     document: Stretch,
@@ -89,6 +92,7 @@ pub fn item_before(rows: &Rows<'_>, known: KnownItem) -> Option<KnownItem>
 }
 
 /// The item that is known, or one before it, if the way to an item from there is no longer.
+#[inline(always)]
 fn known_for(
     rows: &Rows<'_>,
     document: Stretch,
@@ -115,6 +119,7 @@ fn known_for(
 
 /// Where the walk to an item begins, among the lines from one on that are deeper than a level, and the
 /// index of the item from there on.
+#[inline(always)]
 pub fn walk_begin(
     rows: &Rows<'_>,
     document: Stretch,

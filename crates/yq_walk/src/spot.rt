@@ -99,6 +99,7 @@ fn level_behind(first: usize, dashes: &[u8], line: usize, has_colon: bool) -> us
 }
 
 /// How deep a line is.
+#[inline(always)]
 pub fn level_at(rows: &Rows<'_>, spot: Spot) -> usize
     requires within { spot.row < length rows.now.rows }
     requires shown { IsShown rows.now }
@@ -117,6 +118,7 @@ pub fn level_at(rows: &Rows<'_>, spot: Spot) -> usize
 }
 
 /// What a line begins with, as the order of marks in a column.
+#[inline(always)]
 pub fn rank_at(rows: &Rows<'_>, spot: Spot) -> usize
     requires within { spot.row < length rows.now.rows }
     requires shown { IsShown rows.now }
@@ -147,6 +149,7 @@ pub fn rows_under(rows: &Rows<'_>, from: usize, end: usize, level: usize) -> usi
 }
 
 /// Whether a line is there, and is deeper than a level.
+#[inline(always)]
 pub fn is_deeper(rows: &Rows<'_>, document: Stretch, spot: Spot, floor: usize) -> bool
     requires shown { IsShown rows.now }
     requires document { HasRows rows.now document }
@@ -181,6 +184,7 @@ pub fn behind(rows: &Rows<'_>, document: Stretch, spot: Spot) -> Spot
 }
 
 /// The line behind a line.
+#[inline(always)]
 pub fn next(rows: &Rows<'_>, document: Stretch, spot: Spot) -> Spot
     requires document { HasRows rows.now document }
     requires spot { IsLine rows.now document spot }

@@ -62,6 +62,7 @@ fn find_entry(
 
 /// The line of an item, by its index, among the lines of a document from one on that are deeper than a
 /// level.
+#[inline(always)]
 pub fn find_item(
     rows: &Rows<'_>,
     document: Stretch,
@@ -91,6 +92,7 @@ pub fn find_item(
 }
 
 /// The line to which a step leads among the lines of a document from one on that are deeper than a level.
+#[inline(always)]
 pub fn find_step(
     rows: &Rows<'_>,
     document: Stretch,

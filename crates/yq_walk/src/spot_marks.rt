@@ -12,6 +12,7 @@ use crate::written_key::is_written;
 use yq_rows::Rows;
 
 /// Whether a line is a node itself.
+#[inline(always)]
 pub fn is_bare(rows: &Rows<'_>, document: Stretch, spot: Spot) -> bool
     requires shown { IsShown rows.now }
     requires document { HasRows rows.now document }
@@ -22,6 +23,7 @@ pub fn is_bare(rows: &Rows<'_>, document: Stretch, spot: Spot) -> bool
 }
 
 /// Whether a line is the item of an index, counted from this line.
+#[inline(always)]
 pub fn is_item_at(rows: &Rows<'_>, document: Stretch, spot: Spot, index: usize) -> bool
     requires shown { IsShown rows.now }
     requires document { HasRows rows.now document }
@@ -47,6 +49,7 @@ pub fn is_key(rows: &Rows<'_>, document: Stretch, spot: Spot, key: &str) -> bool
 }
 
 /// Whether a line has a head.
+#[inline(always)]
 pub fn has_head(rows: &Rows<'_>, document: Stretch, spot: Spot) -> bool
     requires document { HasRows rows.now document }
     requires spot { IsLine rows.now document spot }

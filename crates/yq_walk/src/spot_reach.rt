@@ -24,6 +24,7 @@ pub enum Next {
 }
 
 /// Whether the first of the lines from one on that are deeper than a level is a node itself.
+#[inline(always)]
 pub fn begins_with_node(rows: &Rows<'_>, document: Stretch, under: Spot, floor: usize) -> bool
     requires shown { IsShown rows.now }
     requires document { HasRows rows.now document }
@@ -39,6 +40,7 @@ pub fn begins_with_node(rows: &Rows<'_>, document: Stretch, under: Spot, floor: 
 }
 
 /// Where a step leads among the lines from one on that are deeper than a level.
+#[inline(always)]
 fn next_in(
     rows: &Rows<'_>,
     document: Stretch,
@@ -65,6 +67,7 @@ fn next_in(
 }
 
 /// Where a step leads from a line.
+#[inline(always)]
 fn next_from(
     rows: &Rows<'_>,
     document: Stretch,
@@ -88,6 +91,7 @@ fn next_from(
 }
 
 /// Where a step leads from a line, or from the root.
+#[inline(always)]
 pub fn next_at(
     rows: &Rows<'_>,
     document: Stretch,
@@ -116,6 +120,7 @@ pub fn next_at(
 }
 
 /// The line of a document to which steps lead, and the steps that go on in its head.
+#[inline(always)]
 pub fn reach<'s>(
     rows: &Rows<'_>,
     document: Stretch,
@@ -144,6 +149,7 @@ pub fn reach<'s>(
 }
 
 /// The line of a document to which steps lead, where none go on in its head.
+#[inline(always)]
 pub fn line_at(
     rows: &Rows<'_>,
     document: Stretch,

@@ -17,6 +17,7 @@ use yq_walk::{
 };
 
 /// Where what is under a line begins, or under the root, and how deep that line is.
+#[inline(always)]
 fn begin_under(rows: &Rows<'_>, document: Stretch, from: Option<Spot>) -> (Spot, usize)
     requires shown { IsShown rows.now }
     requires document { HasDocument rows.now document }
@@ -35,11 +36,13 @@ fn begin_under(rows: &Rows<'_>, document: Stretch, from: Option<Spot>) -> (Spot,
 }
 
 /// How many rows a walk passes that goes on from an item.
+#[inline(always)]
 fn rows_passed(item: KnownItem) -> usize {
     item.row.saturating_sub(item.under.row)
 }
 
 /// Of items that are known and one more, the two that passed most rows.
+#[inline(always)]
 fn with_item(rows: &Rows<'_>, known: KnownItems, more: Option<KnownItem>) -> KnownItems
     requires known { AreKnown rows.now.rows known }
     requires more { IfSome more (IsKnown rows.now.rows) }
@@ -72,6 +75,7 @@ fn with_item(rows: &Rows<'_>, known: KnownItems, more: Option<KnownItem>) -> Kno
 
 /// The item or entry of a line under another one, or of the root, as one that is known, unless it
 /// begins in the row of the first one.
+#[inline(always)]
 fn known_by(
     rows: &Rows<'_>,
     document: Stretch,
@@ -94,6 +98,7 @@ fn known_by(
 }
 
 /// The items on the way of steps that passed most rows, as items that are known.
+#[inline(always)]
 fn known_along(rows: &Rows<'_>, document: Stretch, known: KnownItems, steps: &[Step]) -> KnownItems
     requires shown { IsShown rows.now }
     requires document { HasDocument rows.now document }
@@ -115,6 +120,7 @@ fn known_along(rows: &Rows<'_>, document: Stretch, known: KnownItems, steps: &[S
 }
 
 /// A known item, or the one before it, if its row begins in front of so many bytes.
+#[inline(always)]
 fn begins_in_front(rows: &Rows<'_>, known: KnownItem, front: usize) -> Option<KnownItem>
     requires known { IsKnown rows.now.rows known }
     requires shown { IsShown rows.now }
@@ -135,6 +141,7 @@ fn begins_in_front(rows: &Rows<'_>, known: KnownItem, front: usize) -> Option<Kn
 }
 
 /// The same of an item, if there is one.
+#[inline(always)]
 fn if_in_front(rows: &Rows<'_>, known: Option<KnownItem>, front: usize) -> Option<KnownItem>
     requires known { IfSome known (IsKnown rows.now.rows) }
     requires shown { IsShown rows.now }
@@ -146,6 +153,7 @@ fn if_in_front(rows: &Rows<'_>, known: Option<KnownItem>, front: usize) -> Optio
 impl<'d, 't> CutText<'d, 't> {
     /// The same text, where the items and entries on the way of a path are known that passed most rows:
     /// walks along the path go on from there.
+    #[inline(always)]
     pub fn along(&self, path: &Path) -> CutText<'d, 't>
         ensures { result ≡ self.now }
     {
@@ -174,6 +182,7 @@ impl<'d, 't> CutText<'d, 't> {
 
     /// The items that are known, or those before them, as far as walks may go on from there in each text
     /// that keeps so many bytes in front.
+    #[inline(always)]
     pub fn known_in_front(&self, front: usize) -> KnownItems
         ensures { StayKnown front (cut_of self.now) result }
     {

@@ -22,6 +22,7 @@ pub(crate) enum NodePlace {
 
 /// Where the node of a line is written: in its head, if it has one or steps go on there, else on the
 /// lines under it.
+#[inline(always)]
 fn line_place(rows: &Rows<'_>, document: Stretch, at: Spot, left: &[Step]) -> NodePlace
     requires shown { IsShown rows.now }
     requires document { HasRows rows.now document }
@@ -40,6 +41,7 @@ fn line_place(rows: &Rows<'_>, document: Stretch, at: Spot, left: &[Step]) -> No
 }
 
 /// Where the node at a path is written, and the steps that go on there.
+#[inline(always)]
 pub(crate) fn node_place<'s>(
     rows: &Rows<'_>,
     document: Stretch,
@@ -66,6 +68,7 @@ pub(crate) fn node_place<'s>(
 }
 
 /// The line in whose head a node is written, if it is in one.
+#[inline(always)]
 pub(crate) fn place_line(rows: &Rows<'_>, document: Stretch, place: NodePlace) -> Option<Spot>
     requires shown { IsShown rows.now }
     requires document { HasRows rows.now document }

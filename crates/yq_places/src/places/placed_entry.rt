@@ -28,6 +28,7 @@ pub(crate) struct PlacedEntry {
 }
 
 /// The rows of the item or entry to which steps lead in a document.
+#[inline(always)]
 fn entry_along(
     rows: &Rows<'_>,
     document: Stretch,
@@ -52,6 +53,7 @@ fn entry_along(
 
 impl<'t> CutText<'_, 't> {
     /// The rows of the item or entry at a path.
+    #[inline(always)]
     pub(crate) fn entry(&self, path: &Path) -> Option<PlacedEntry>
         ensures { option_map reading.told result ≡
             reading.numbers_at path.now.doc (steps_of path.now) (cut_of self.now) }

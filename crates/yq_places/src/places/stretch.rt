@@ -83,6 +83,7 @@ fn seat_along(rows: &Rows<'_>, document: Stretch, known: KnownItems, steps: &[St
 
 impl<'d, 't> CutText<'d, 't> {
     /// The rows of document `doc`, counted from 0, if there is one.
+    #[inline(always)]
     pub fn stretch(&self, doc: usize) -> Option<Stretch>
         ensures place { option_map stretch_told result ≡ spec.document_rows doc (cut_of self.now) }
         ensures sound { all_documents (cut_of self.now) ≡ true }

@@ -1,9 +1,8 @@
 use Rattle.std.proofs.Common.{Some, ap, ◌∙◌}
 use Rattle.yq_rows.specs.View.{slices}
-use Rattle.yq_walk.proofs.WalkMarks.{key_none, key_here, quoted_told}
+use Rattle.yq_walk.proofs.WalkMarks.{key_none, key_here}
 use Rattle.yq_walk.proofs.WalkSpots.{located}
-use Rattle.yq_documents.specs.Made.{told_key}
-use Rattle.yq_reading.proofs.ReadyLaws.{row_within, key_told}
+use Rattle.yq_reading.proofs.ReadyLaws.{row_within}
 use Rattle.yq_reading.proofs.checked.line_key.Goals as goal
 
 pub rank_at-requires-clause-within : goal.rank_at-requires-clause-within
@@ -15,18 +14,11 @@ rank_at-requires-clause-shown c = c.requires.ready.shown
 pub returns-then-rank_at-ne2 : goal.returns-then-rank_at-ne2
 returns-then-rank_at-ne2 c = λ h l is. key_none c.args.x.rows.now c.args.x.document h c.args.at c.requires.line l is c.rank_at.result c.rank_at.ensures c.if-rank_at-ne2.true
 
-pub key-requires : goal.key-requires
-key-requires c = row_within c.args.x.text.now c.args.x.rows.now c.args.x.made.now c.args.x.document c.args.at c.requires.ready c.requires.line
-
-pub told_key-requires : goal.told_key-requires
-told_key-requires c = quoted_told c.args.x.rows.now c.args.x.document c.requires.ready.document c.args.at c.requires.line c.key.result.now c.key.ensures
+pub row_key-requires-clause-within : goal.row_key-requires-clause-within
+row_key-requires-clause-within c = row_within c.args.x.text.now c.args.x.rows.now c.args.x.made.now c.args.x.document c.args.at c.requires.ready c.requires.line
 
 pub returns : goal.returns
 returns c = λ h l is.
     let s = c.args.x.rows.now in
     let k = located s c.args.x.document h c.args.at c.requires.line in
-    ap Some
-    (c.told_key.ensures
-    ∙ ((λ i. told_key (c.made_at.ensures i) (c.key.ensures (slices k.row) k.pieces i))
-    ∙ key_told c.args.x.text.now s c.args.x.made.now c.args.x.document c.requires.ready c.args.at.row (slices k.row) k.pieces))
-    ∙ key_here s c.args.x.document h c.args.at c.requires.line l is c.rank_at.result c.rank_at.ensures c.if-rank_at-ne2.false
+    ap Some (c.row_key.ensures (slices k.row) k.pieces) ∙ key_here s c.args.x.document h c.args.at c.requires.line l is c.rank_at.result c.rank_at.ensures c.if-rank_at-ne2.false

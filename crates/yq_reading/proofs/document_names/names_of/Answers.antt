@@ -5,7 +5,7 @@ use Rattle.yq_walk.specs.Lines.{lines_of}
 use Rattle.yq_walk.specs.RowWalk.{IsLine}
 use Rattle.yq_walk.proofs.WalkRows.{rows_length}
 use Rattle.yq_walk.proofs.WalkSpots.{located}
-use Rattle.yq_documents.specs.Made.{made_at, told_flow}
+use Rattle.yq_documents.specs.Made.{made_at}
 use Rattle.yq_documents.specs.RowReading.{name_in}
 use Rattle.yq_reading.specs.Named.{all_named, flow_names}
 use Rattle.yq_documents.proofs.RowLineLaws.{anchor_is}
@@ -23,6 +23,9 @@ rows-init c = λ k.
 pub anchor-requires : goal.anchor-requires
 anchor-requires c = omega (arith, c.rows-test.true, c.requires.ready.document.within)
 
+pub row_flow-requires-clause-within : goal.row_flow-requires-clause-within
+row_flow-requires-clause-within c = omega (arith, c.rows-test.true, c.requires.ready.document.within)
+
 pub rows-preserved : goal.rows-preserved
 rows-preserved c = λ k.
     let x = c.args.x in
@@ -31,10 +34,9 @@ rows-preserved c = λ k.
     let f = located x.rows.now d k.document (record { row = c.rows.i; line = 0 }) at in
     let name = c.anchor_name.ensures ∙ (ap name_in (c.anchor.ensures (slices f.row) f.pieces) ∙ anchor_is f.row.content) in
     let told = k.told c.rows.i f.row (row_of_cut x.text.now x.rows.now x.made.now d k (record { row = c.rows.i; line = 0 }) at) in
-    let head = c.made_flow.ensures ∙ ap told_flow c.made_at.ensures in
     let next : (c.rows.i - d.first) + 1 ≡ (c.rows.i + 1) - d.first = omega (arith, c.rows.auto.i) in
     names_turn (line_names (lines_of k.document.rows)) _ _ _ _ _ k.document.rows (c.rows.i - d.first) ((c.rows.i + 1) - d.first) f.row f.there next (c.rows.invariant k) c.in_ok-push_anchor.ensures name c.in_ok-push_flow.ensures
-    (ap flow_names head ∙ (sym (flow_named (made_at c.rows.i x.made.now) (slices f.row).head) ∙ ap head_names told.head))
+    (ap flow_names c.row_flow.ensures ∙ (sym (flow_named (made_at c.rows.i x.made.now) (slices f.row).head) ∙ ap head_names told.head))
 
 pub returns : goal.returns
 returns c = λ k. names_all (line_names (lines_of k.document.rows)) (all_named c.rows.names.items) k.document.rows (c.rows.i - c.args.x.document.first) (omega (arith, rows_length c.args.x.rows.now c.args.x.document k.document, c.rows-test.false)) (c.rows.invariant k)

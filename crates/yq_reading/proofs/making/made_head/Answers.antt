@@ -1,9 +1,9 @@
-use Rattle.std.proofs.Common.{◌≡◌, rules, ℕ, ℤ, refl, sym, ap, ◌∙◌, SFits, w64, to_z}
+use Rattle.std.proofs.Common.{rules, ℕ, refl, sym, ap, ◌∙◌, SFits, w64}
 use Rattle.std.proofs.lemmas.Bool.{not-false}
-use Rattle.std.proofs.lemmas.Int.{to_z-of_z}
 use Rattle.yq_scalar.specs.Text.{is_empty}
+use Rattle.std.proofs.lemmas.Int.{to_z-of_z}
 use Rattle.std.proofs.lemmas.Option.{same_Some}
-use Rattle.yq_rows.specs.View.{Slices, slices, view as row_view}
+use Rattle.yq_rows.specs.View.{Slices, slices}
 use Rattle.yq_documents.specs.Reading.{cut_of}
 use Rattle.yq_reading.proofs.RowsRead.{fit_told, head_quoted, head_read, lent_fit, lent_made, no_head, pieces_there, place_whole, read_made, row_at, text_ends, unfit_told}
 use Rattle.yq_reading.proofs.making.made_head.Goals as goal
@@ -65,8 +65,8 @@ returns-in-Ok-clause-fits c = λ r is.
     let pieces = pieces_there c.args.text.now c.args.rows.now k c.args.i r is in
     let head = c.head-head.ensures (slices r) pieces in
     let start = ap (λ (x : ℕ × ℕ). x.0) (c.head_place-start.ensures (cut_of c.args.text.now) k.rows r is) in
-    let f : SFits w64 c.row.result.parent = search rules in
-    let parent = ap (to_z w64) c.parent_indent-parent.ensures ∙ (to_z-of_z w64 c.row.result.parent f ∙ ap (λ (x : Slices). x.parent) (same_Some _ _ (sym c.row.ensures ∙ pieces))) in
+    let f : SFits w64 c.parent_indent-parent.result = search rules in
+    let parent = to_z-of_z w64 c.parent_indent-parent.result f ∙ (c.parent_indent-parent.ensures ∙ ap (λ (x : Slices). x.parent) (same_Some _ _ (sym c.row.ensures ∙ pieces))) in
     fit_told _ _ _ _ (head_read c.args.text.now c.args.rows.now k c.args.i r is c.split_at.result.1.now c.head_place-start.result.0 c.split_at.ensures.back start _ c.head-head.result.now parent head) c.in-Ok.ensures.view
 
 pub returns-in-Ok-clause-told : goal.returns-in-Ok-clause-told
@@ -75,8 +75,8 @@ returns-in-Ok-clause-told c = λ r is.
     let pieces = pieces_there c.args.text.now c.args.rows.now k c.args.i r is in
     let head = c.head-head.ensures (slices r) pieces in
     let start = ap (λ (x : ℕ × ℕ). x.0) (c.head_place-start.ensures (cut_of c.args.text.now) k.rows r is) in
-    let f : SFits w64 c.row.result.parent = search rules in
-    let parent = ap (to_z w64) c.parent_indent-parent.ensures ∙ (to_z-of_z w64 c.row.result.parent f ∙ ap (λ (x : Slices). x.parent) (same_Some _ _ (sym c.row.ensures ∙ pieces))) in
+    let f : SFits w64 c.parent_indent-parent.result = search rules in
+    let parent = to_z-of_z w64 c.parent_indent-parent.result f ∙ (c.parent_indent-parent.ensures ∙ ap (λ (x : Slices). x.parent) (same_Some _ _ (sym c.row.ensures ∙ pieces))) in
     read_made c.args.text.now c.args.rows.now k c.args.i r is c.split_at.result.1.now c.head_place-start.result.0 c.split_at.ensures.back start _ c.head-head.result.now parent head c.in-Ok.head c.in-Ok.ensures.view c.in-Ok.ensures.flow
 
 pub returns-in-Err-clause-fits : goal.returns-in-Err-clause-fits
@@ -85,6 +85,6 @@ returns-in-Err-clause-fits c = λ r is.
     let pieces = pieces_there c.args.text.now c.args.rows.now k c.args.i r is in
     let head = c.head-head.ensures (slices r) pieces in
     let start = ap (λ (x : ℕ × ℕ). x.0) (c.head_place-start.ensures (cut_of c.args.text.now) k.rows r is) in
-    let f : SFits w64 c.row.result.parent = search rules in
-    let parent = ap (to_z w64) c.parent_indent-parent.ensures ∙ (to_z-of_z w64 c.row.result.parent f ∙ ap (λ (x : Slices). x.parent) (same_Some _ _ (sym c.row.ensures ∙ pieces))) in
+    let f : SFits w64 c.parent_indent-parent.result = search rules in
+    let parent = to_z-of_z w64 c.parent_indent-parent.result f ∙ (c.parent_indent-parent.ensures ∙ ap (λ (x : Slices). x.parent) (same_Some _ _ (sym c.row.ensures ∙ pieces))) in
     unfit_told c.in-Err.e _ _ _ (head_read c.args.text.now c.args.rows.now k c.args.i r is c.split_at.result.1.now c.head_place-start.result.0 c.split_at.ensures.back start _ c.head-head.result.now parent head) c.in-Err.ensures.view

@@ -1,10 +1,10 @@
 use Rattle.std.proofs.Common.{sym, ap, ◌∙◌}
 use Rattle.std.proofs.lemmas.Bool.{not-false}
-use Rattle.std.specs.String.{string_bytes}
 use Rattle.yq_scalar.specs.Text.{is_empty}
-use Rattle.yq_inline.specs.Scalars.{content_of}
+use Rattle.yq_inline.specs.Scalars.{content_of, is_quoted}
 use Rattle.yq_rows.specs.View.{slices}
-use Rattle.yq_reading.proofs.RowsRead.{key_fits_is, key_lent, key_quoted, keyless, pieces_there, row_at}
+use Rattle.yq_reading.proofs.LendLaws.{quoted_is}
+use Rattle.yq_reading.proofs.RowsRead.{key_fits_is, key_lent, key_quoted, key_unquoted, keyless, pieces_there, row_at}
 use Rattle.yq_reading.proofs.making.made_key.Goals as goal
 
 pub returns-then-not-has_colon-clause-fits : goal.returns-then-not-has_colon-clause-fits
@@ -22,6 +22,18 @@ returns-then-not-key_fits-clause-fits c = λ r is.
     let k = c.requires.cut in
     let key = c.key-key.ensures (slices r) (pieces_there c.args.text.now c.args.rows.now k c.args.i r is) in
     sym (key_fits_is c.args.text.now c.args.rows.now k c.args.i r is c.key-key.result.now key) ∙ (sym c.key_fits.ensures ∙ c.if-not-key_fits.true)
+
+pub returns-then-not-is_quoted-clause-fits : goal.returns-then-not-is_quoted-clause-fits
+returns-then-not-is_quoted-clause-fits c = λ r is.
+    let k = c.requires.cut in
+    let key = c.key-key.ensures (slices r) (pieces_there c.args.text.now c.args.rows.now k c.args.i r is) in
+    sym (key_fits_is c.args.text.now c.args.rows.now k c.args.i r is c.key-key.result.now key) ∙ (sym c.key_fits.ensures ∙ c.if-not-key_fits.false)
+
+pub returns-then-not-is_quoted-clause-told : goal.returns-then-not-is_quoted-clause-told
+returns-then-not-is_quoted-clause-told c = λ r is.
+    let k = c.requires.cut in
+    let key = c.key-key.ensures (slices r) (pieces_there c.args.text.now c.args.rows.now k c.args.i r is) in
+    key_unquoted c.args.text.now c.args.rows.now k c.args.i r is c.key-key.result.now key (ap is_quoted (sym c.as_bytes.ensures.value) ∙ (sym c.is_quoted.ensures ∙ c.if-not-is_quoted.true))
 
 pub lends_text-requires : goal.lends_text-requires
 lends_text-requires c =
@@ -41,11 +53,11 @@ returns-then-lends_text-clause-told c = λ r is.
     let key = c.key-key.ensures (slices r) (pieces_there c.args.text.now c.args.rows.now k c.args.i r is) in
     key_lent c.args.text.now c.args.rows.now k c.args.i r is c.key-key.result.now key (sym c.lends_text.ensures ∙ c.if-lends_text.true)
 
-pub key_text-requires : goal.key_text-requires
-key_text-requires c =
+pub quoted_content-requires : goal.quoted_content-requires
+quoted_content-requires c =
     let k = c.requires.cut in
     let r = row_at c.args.text.now c.args.rows.now k c.args.i c.requires.within in
-    key_quoted c.args.text.now c.args.rows.now k c.args.i r.0 r.1 c.key-key.result.now (c.key-key.ensures (slices r.0) (pieces_there c.args.text.now c.args.rows.now k c.args.i r.0 r.1))
+    key_quoted c.args.text.now c.args.rows.now k c.args.i r.0 r.1 c.key-key.result.now (c.key-key.ensures (slices r.0) (pieces_there c.args.text.now c.args.rows.now k c.args.i r.0 r.1)) (ap is_quoted (sym c.as_bytes.ensures.value) ∙ (sym c.is_quoted.ensures ∙ c.if-not-is_quoted.false))
 
 pub returns-clause-fits : goal.returns-clause-fits
 returns-clause-fits c = λ r is.
@@ -56,4 +68,4 @@ returns-clause-fits c = λ r is.
 pub returns-clause-told : goal.returns-clause-told
 returns-clause-told c = λ r is.
     let key = c.key-key.ensures (slices r) (pieces_there c.args.text.now c.args.rows.now c.requires.cut c.args.i r is) in
-    c.in_ok-key_text.ensures ∙ ap content_of key
+    c.in_ok-quoted_content.ensures.exact ∙ (sym (quoted_is c.key-key.result.now (ap is_quoted (sym c.as_bytes.ensures.value) ∙ (sym c.is_quoted.ensures ∙ c.if-not-is_quoted.false))) ∙ ap content_of key)

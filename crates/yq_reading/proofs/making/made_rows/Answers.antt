@@ -1,4 +1,4 @@
-use Rattle.std.proofs.Common.{◌+◌, length, arith}
+use Rattle.std.proofs.Common.{arith}
 use Rattle.yq_rows.specs.View.{rows_of}
 use Rattle.yq_documents.specs.Reading.{cut_of, have_fit_keys}
 use Rattle.yq_documents.specs.RowReading.{row_fits}
@@ -13,20 +13,20 @@ rows-init c = record { within = omega arith; so_far = made_start c.args.text.now
 
 pub returns-in-Err-clause-fits : goal.returns-in-Err-clause-fits
 returns-in-Err-clause-fits c =
-    let r = row_at c.args.text.now c.args.rows.now c.requires c.rows.at (omega (arith, c.rows-test.true, c.rows-in-len.ensures)) in
+    let r = row_at c.args.text.now c.args.rows.now c.requires.cut c.rows.at (omega (arith, c.rows-test.true, c.len.ensures)) in
     denies_as c.in-Err.e (row_fits r.0) (have_fit_keys (rows_of (cut_of c.args.text.now))) (λ bad. all_fails row_fits (rows_of (cut_of c.args.text.now)) c.rows.at _ c.rows.invariant.so_far.fits r.0 r.1 bad) (c.in-Err.ensures.fits r.0 r.1)
 
 pub rows-preserved : goal.rows-preserved
 rows-preserved c =
-    let r = row_at c.args.text.now c.args.rows.now c.requires c.rows.at (omega (arith, c.rows-test.true, c.rows-in-len.ensures)) in
+    let r = row_at c.args.text.now c.args.rows.now c.requires.cut c.rows.at (omega (arith, c.rows-test.true, c.len.ensures)) in
     record {
-      within = omega (arith, c.rows-test.true, c.rows-in-len.ensures);
+      within = omega (arith, c.rows-test.true, c.len.ensures);
       so_far = row_turn c.args.text.now c.rows.at c.rows.made.items c.rows.invariant.so_far r.0 r.1 (c.in-Ok.ensures.fits r.0 r.1) c.in-Ok.row c.in_ok-made.made.items c.in-Ok.ensures.row c.in_ok-made.ensures (c.in-Ok.ensures.told r.0 r.1);
     }
 
 pub returns-clause-fits : goal.returns-clause-fits
-returns-clause-fits c = made_done c.args.text.now c.rows.at c.rows.made.items c.rows.invariant.so_far (omega (arith, c.rows-test.false, c.rows-in-len.ensures, rows_count c.args.text.now c.args.rows.now c.requires))
+returns-clause-fits c = made_done c.args.text.now c.rows.at c.rows.made.items c.rows.invariant.so_far (omega (arith, c.rows-test.false, c.len.ensures, rows_count c.args.text.now c.args.rows.now c.requires.cut))
 
 pub returns-clause-made : goal.returns-clause-made
 returns-clause-made c = rw c.shrink_to_fit.ensures.items
-    (are_made c.args.text.now c.rows.at c.rows.made.items c.rows.invariant.so_far (omega (arith, c.rows-test.false, c.rows-in-len.ensures, rows_count c.args.text.now c.args.rows.now c.requires)))
+    (are_made c.args.text.now c.rows.at c.rows.made.items c.rows.invariant.so_far (omega (arith, c.rows-test.false, c.len.ensures, rows_count c.args.text.now c.args.rows.now c.requires.cut)))

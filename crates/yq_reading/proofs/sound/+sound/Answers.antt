@@ -10,7 +10,7 @@ use Rattle.yq_walk.specs.Lines.{lines_of}
 use Rattle.yq_walk.specs.RowWalk.{line_number}
 use Rattle.yq_walk.proofs.WalkSpots.{located, spot_line}
 use Rattle.yq_reading.proofs.DecidingLaws.{decides_as, denies_as}
-use Rattle.yq_reading.proofs.GivesLaws.{gives_all, gives_end, gives_none, moved_on, stop_same}
+use Rattle.yq_reading.proofs.GivesLaws.{gives_all, gives_alone, gives_end, gives_none, moved_on, stop_same}
 use Rattle.yq_reading.proofs.UnderLaws.{alone_sound, bare_is, both_there, entry_is, none_sound, other_level, under_sound}
 use Rattle.std.proofs.lemmas.Result.{IfOk-weaker}
 use Rattle.yq_reading.proofs.sound.+sound.Goals as goal
@@ -18,38 +18,44 @@ use Rattle.yq_reading.proofs.sound.+sound.Goals as goal
 -- a line
 pub check_line-returns-then-level-n-clause-sound : goal.check_line-returns-then-level-n-clause-sound
 check_line-returns-then-level-n-clause-sound t c = λ r l is.
-    let h = r.document in other_level c.args.depth c.args.n l _ (λ same. c.if-level-n.true (c.line_level-level.ensures h l is ∙ same))
+    let h = r.document in other_level c.args.depth c.args.n l _ (λ same. c.if-level-n.true (c.requires.at.told c.requires.line.upto h l is ∙ same))
 
 pub check_line-returns-in-Err-clause-sound : goal.check_line-returns-in-Err-clause-sound
 check_line-returns-in-Err-clause-sound t c = λ r l is.
     let h = r.document in
-    let same = sym (c.line_level-level.ensures h l is) ∙ c.if-level-n.false in
-    let none = (λ i. is_end (part (lines_of h.rows) (sym (c.next-after.ensures.number h) i) (same i))) ∙ is_at_end _ (c.if-not-is_deeper.ensures.test h) in
+    let same = sym (c.requires.at.told c.requires.line.upto h l is) ∙ c.if-level-n.false in
+    let none = (λ i. is_end (part (lines_of h.rows) (sym (c.line_behind-after.ensures.number h) i) (same i))) ∙ is_at_end _ (c.if-not-is_deeper.ensures.test h) in
     denies_as c.in-Err.e _ _ (λ bad. alone_sound c.args.depth c.args.n l _ same none ∙ bad) (c.in-Err.ensures.sound r l is)
 
 pub check_line-returns-in-Ok-clause-sound : goal.check_line-returns-in-Ok-clause-sound
 check_line-returns-in-Ok-clause-sound t c = λ r l is.
     let h = r.document in
-    let same = sym (c.line_level-level.ensures h l is) ∙ c.if-level-n.false in
-    let none = (λ i. is_end (part (lines_of h.rows) (sym (c.next-after.ensures.number h) i) (same i))) ∙ is_at_end _ (c.if-not-is_deeper.ensures.test h) in
+    let same = sym (c.requires.at.told c.requires.line.upto h l is) ∙ c.if-level-n.false in
+    let none = (λ i. is_end (part (lines_of h.rows) (sym (c.line_behind-after.ensures.number h) i) (same i))) ∙ is_at_end _ (c.if-not-is_deeper.ensures.test h) in
     alone_sound c.args.depth c.args.n l _ same none ∙ c.in-Ok.ensures.sound r l is
 
+pub check_line-returns-in-Ok-clause-reached : goal.check_line-returns-in-Ok-clause-reached
+check_line-returns-in-Ok-clause-reached t c = c.line_behind-after.ensures.reached
+
 pub check_line-returns-in-Ok-clause-behind : goal.check_line-returns-in-Ok-clause-behind
-check_line-returns-in-Ok-clause-behind t c = record { spot = c.behind.ensures.spot; end = c.behind.ensures.end; later = c.behind.ensures.later }
+check_line-returns-in-Ok-clause-behind t c =
+    let x = c.args.x in
+    gives_alone x.rows.now x.document c.args.at.spot c.line_behind-after.result.spot c.args.n c.requires.ready.document c.requires.line c.line_behind-after.ensures.reached.spot c.line_behind-after.ensures.number
+    (λ h l is. sym c.if-level-n.false ∙ c.requires.at.told c.requires.line.upto h l is) (λ h. is_at_end _ (c.if-not-is_deeper.ensures.test h))
 
 pub check_line-returns-then-has_head-clause-sound : goal.check_line-returns-then-has_head-clause-sound
 check_line-returns-then-has_head-clause-sound t c = λ r l is.
     let h = r.document in
-    let same = sym (c.line_level-level.ensures h l is) ∙ c.if-level-n.false in
-    let some = (λ i. is_end (part (lines_of h.rows) (sym (c.next-after.ensures.number h) i) (same i))) ∙ not_end _ (c.if-not-is_deeper.ensures.test h) in
+    let same = sym (c.requires.at.told c.requires.line.upto h l is) ∙ c.if-level-n.false in
+    let some = (λ i. is_end (part (lines_of h.rows) (sym (c.line_behind-after.ensures.number h) i) (same i))) ∙ not_end _ (c.if-not-is_deeper.ensures.test h) in
     both_there c.args.depth c.args.n l _ (c.if-has_head.ensures h l is) some
 
 pub check_line-returns-clause-sound : goal.check_line-returns-clause-sound
 check_line-returns-clause-sound t c = λ r l is.
     let h = r.document in
-    let same = sym (c.line_level-level.ensures h l is) ∙ c.if-level-n.false in
+    let same = sym (c.requires.at.told c.requires.line.upto h l is) ∙ c.if-level-n.false in
     decides_as c.check_lines.result _ _
-    ((λ i. is_sound c.args.depth (part (lines_of h.rows) (c.next-after.ensures.number h i) (sym same i))) ∙ under_sound c.args.depth c.args.n l _ same (c.if-has_head.ensures h l is))
+    ((λ i. is_sound c.args.depth (part (lines_of h.rows) (c.line_behind-after.ensures.number h i) (sym same i))) ∙ under_sound c.args.depth c.args.n l _ same (c.if-has_head.ensures h l is))
     (c.check_lines.ensures.sound r)
 
 pub check_line-returns-clause-behind : goal.check_line-returns-clause-behind
@@ -57,8 +63,8 @@ check_line-returns-clause-behind t c =
     let x = c.args.x in
     IfOk-weaker c.check_lines.result _ _
     (λ q g.
-    gives_end x.rows.now x.document c.args.at c.next-after.result q c.args.n c.requires.ready.document c.requires.line c.next-after.ensures.spot c.next-after.ensures.number
-    (λ h l is. sym c.if-level-n.false ∙ c.line_level-level.ensures h l is) (λ h. not_end _ (c.if-not-is_deeper.ensures.test h)) g)
+    gives_end x.rows.now x.document c.args.at.spot c.line_behind-after.result.spot q.spot c.args.n c.requires.ready.document c.requires.line c.line_behind-after.ensures.reached.spot c.line_behind-after.ensures.number
+    (λ h l is. sym c.if-level-n.false ∙ c.requires.at.told c.requires.line.upto h l is) (λ h. not_end _ (c.if-not-is_deeper.ensures.test h)) g)
     c.check_lines.ensures.behind
 
 -- lines that are deeper than a level
@@ -68,13 +74,13 @@ check_lines-returns-then-not-is_deeper-clause-sound t c = λ r.
 
 pub check_lines-returns-then-not-is_deeper-clause-behind : goal.check_lines-returns-then-not-is_deeper-clause-behind
 check_lines-returns-then-not-is_deeper-clause-behind t c =
-    gives_none c.args.x.rows.now c.args.x.document c.args.start c.args.floor c.requires.start (λ h. is_at_end _ (c.if-not-is_deeper.ensures.test h))
+    gives_none c.args.x.rows.now c.args.x.document c.args.start.spot c.args.floor c.requires.start.spot (λ h. is_at_end _ (c.if-not-is_deeper.ensures.test h))
 
-pub check_lines-is_bare-requires-clause-spot : goal.check_lines-is_bare-requires-clause-spot
-check_lines-is_bare-requires-clause-spot t c = spot_line c.args.x.rows.now c.args.x.document c.args.start c.requires.start (c.if-not-is_deeper.ensures.some refl)
+pub check_lines-is_bare-requires-clause-line : goal.check_lines-is_bare-requires-clause-line
+check_lines-is_bare-requires-clause-line t c = spot_line c.args.x.rows.now c.args.x.document c.args.start.spot c.requires.start.spot (c.if-not-is_deeper.ensures.some refl)
 
 pub check_lines-check_bare-requires-clause-line : goal.check_lines-check_bare-requires-clause-line
-check_lines-check_bare-requires-clause-line t c = spot_line c.args.x.rows.now c.args.x.document c.args.start c.requires.start (c.if-not-is_deeper.ensures.some refl)
+check_lines-check_bare-requires-clause-line t c = spot_line c.args.x.rows.now c.args.x.document c.args.start.spot c.requires.start.spot (c.if-not-is_deeper.ensures.some refl)
 
 pub check_lines-check_bare-requires-clause-deep : goal.check_lines-check_bare-requires-clause-deep
 check_lines-check_bare-requires-clause-deep t c = λ h. not_end _ (c.if-not-is_deeper.ensures.test h)
@@ -82,67 +88,64 @@ check_lines-check_bare-requires-clause-deep t c = λ h. not_end _ (c.if-not-is_d
 pub check_lines-returns-then-is_bare-clause-sound : goal.check_lines-returns-then-is_bare-clause-sound
 check_lines-returns-then-is_bare-clause-sound t c = λ r.
     let h = r.document in
-    let k = located c.args.x.rows.now c.args.x.document h c.args.start (spot_line c.args.x.rows.now c.args.x.document c.args.start c.requires.start (c.if-not-is_deeper.ensures.some refl)) in
+    let k = located c.args.x.rows.now c.args.x.document h c.args.start.spot (spot_line c.args.x.rows.now c.args.x.document c.args.start.spot c.requires.start.spot (c.if-not-is_deeper.ensures.some refl)) in
     decides_as c.check_bare.result _ _
-    (sym (start_bare (lines_of h.rows) (line_number c.args.x.document h.rows c.args.start) c.args.floor c.args.depth k.line k.is (c.if-not-is_deeper.ensures.test h) (bare_is k.line.mark (c.if-is_bare.ensures h k.line k.is))))
+    (sym (start_bare (lines_of h.rows) (line_number c.args.x.document h.rows c.args.start.spot) c.args.floor c.args.depth k.line k.is (c.if-not-is_deeper.ensures.test h) (bare_is k.line.mark (c.if-is_bare.ensures h k.line k.is))))
     (c.check_bare.ensures.sound r k.line k.is)
 
 pub check_lines-returns-then-depth-eq0-clause-sound : goal.check_lines-returns-then-depth-eq0-clause-sound
 check_lines-returns-then-depth-eq0-clause-sound t c = λ r.
     let h = r.document in
-    let k = located c.args.x.rows.now c.args.x.document h c.args.start (spot_line c.args.x.rows.now c.args.x.document c.args.start c.requires.start (c.if-not-is_deeper.ensures.some refl)) in
-    start_deep (lines_of h.rows) (line_number c.args.x.document h.rows c.args.start) c.args.floor c.args.depth k.line k.is (c.if-not-is_deeper.ensures.test h) (entry_is k.line.mark (c.if-is_bare.ensures h k.line k.is)) c.if-depth-eq0.true
-
-pub check_lines-line_level-n-requires-clause-line : goal.check_lines-line_level-n-requires-clause-line
-check_lines-line_level-n-requires-clause-line t c = spot_line c.args.x.rows.now c.args.x.document c.args.start c.requires.start (c.if-not-is_deeper.ensures.some refl)
+    let k = located c.args.x.rows.now c.args.x.document h c.args.start.spot (spot_line c.args.x.rows.now c.args.x.document c.args.start.spot c.requires.start.spot (c.if-not-is_deeper.ensures.some refl)) in
+    start_deep (lines_of h.rows) (line_number c.args.x.document h.rows c.args.start.spot) c.args.floor c.args.depth k.line k.is (c.if-not-is_deeper.ensures.test h) (entry_is k.line.mark (c.if-is_bare.ensures h k.line k.is)) c.if-depth-eq0.true
 
 pub check_lines-lines-init : goal.check_lines-lines-init
 check_lines-lines-init t c =
-    let at = spot_line c.args.x.rows.now c.args.x.document c.args.start c.requires.start (c.if-not-is_deeper.ensures.some refl) in
+    let at = spot_line c.args.x.rows.now c.args.x.document c.args.start.spot c.requires.start.spot (c.if-not-is_deeper.ensures.some refl) in
     let rows = c.requires.ready.document in
-    let first = located c.args.x.rows.now c.args.x.document rows c.args.start at in
+    let first = located c.args.x.rows.now c.args.x.document rows c.args.start.spot at in
     record {
       at = c.requires.start;
       moved = inl refl;
       more = omega (arith, c.if-depth-eq0.false);
-      entries = subst IsEntryLevel (sym (c.line_level-n.ensures rows first.line first.is)) (entry_level first.line (entry_is first.line.mark (c.if-is_bare.ensures rows first.line first.is)));
+      entries = subst IsEntryLevel (sym (c.requires.start.told at.upto rows first.line first.is)) (entry_level first.line (entry_is first.line.mark (c.if-is_bare.ensures rows first.line first.is)));
       so_far = λ r.
           let h = r.document in
-          let k = located c.args.x.rows.now c.args.x.document h c.args.start at in
-          rw (c.line_level-n.ensures h k.line k.is, c.new-keys.ensures.items) (start_asked (lines_of h.rows) (line_number c.args.x.document h.rows c.args.start) c.args.floor c.args.depth k.line k.is (c.if-not-is_deeper.ensures.test h) (c.args.depth - 1) (entry_is k.line.mark (c.if-is_bare.ensures h k.line k.is)) (omega (arith, c.if-depth-eq0.false)));
+          let k = located c.args.x.rows.now c.args.x.document h c.args.start.spot at in
+          rw (c.requires.start.told at.upto h k.line k.is, c.new-keys.ensures.items) (start_asked (lines_of h.rows) (line_number c.args.x.document h.rows c.args.start.spot) c.args.floor c.args.depth k.line k.is (c.if-not-is_deeper.ensures.test h) (c.args.depth - 1) (entry_is k.line.mark (c.if-is_bare.ensures h k.line k.is)) (omega (arith, c.if-depth-eq0.false)));
       stop = λ h. refl;
     }
 
 pub check_lines-push_key-requires-clause-line : goal.check_lines-push_key-requires-clause-line
-check_lines-push_key-requires-clause-line t c = spot_line c.args.x.rows.now c.args.x.document c.lines.at c.lines.invariant.at (c.lines-test.ensures.some refl)
+check_lines-push_key-requires-clause-line t c = spot_line c.args.x.rows.now c.args.x.document c.lines.at.spot c.lines.invariant.at.spot (c.lines-test.ensures.some refl)
 
 pub check_lines-returns-in-Err-clause-sound : goal.check_lines-returns-in-Err-clause-sound
 check_lines-returns-in-Err-clause-sound t c = λ r.
     let h = r.document in
-    let k = located c.args.x.rows.now c.args.x.document h c.lines.at (spot_line c.args.x.rows.now c.args.x.document c.lines.at c.lines.invariant.at (c.lines-test.ensures.some refl)) in
+    let k = located c.args.x.rows.now c.args.x.document h c.lines.at.spot (spot_line c.args.x.rows.now c.args.x.document c.lines.at.spot c.lines.invariant.at.spot (c.lines-test.ensures.some refl)) in
     let num = line_number c.args.x.document h.rows in
-    let ends = end_counted (lines_of h.rows) (num c.lines.at) k.line k.is in
+    let ends = end_counted (lines_of h.rows) (num c.lines.at.spot) k.line k.is in
     denies_as c.in-Err.e _ _
     (λ bad.
-    sym (one_fails (lines_of h.rows) (num c.lines.at) c.args.floor _ (c.args.depth - 1) c.line_level-n.result (map (λ k. k.now) c.lines.keys.items) k.line k.is (c.lines-test.ensures.test h) ends c.lines.invariant.entries _ (c.lines.invariant.so_far r) (sym bad)))
+    sym (one_fails (lines_of h.rows) (num c.lines.at.spot) c.args.floor _ (c.args.depth - 1) c.args.start.level (map (λ k. k.now) c.lines.keys.items) k.line k.is (c.lines-test.ensures.test h) ends c.lines.invariant.entries _ (c.lines.invariant.so_far r) (sym bad)))
     (c.in-Err.ensures.sound r k.line k.is)
 
 pub check_lines-lines-preserved : goal.check_lines-lines-preserved
 check_lines-lines-preserved t c =
     let x = c.args.x in
-    let at = spot_line x.rows.now x.document c.lines.at c.lines.invariant.at (c.lines-test.ensures.some refl) in
+    let at = spot_line x.rows.now x.document c.lines.at.spot c.lines.invariant.at.spot (c.lines-test.ensures.some refl) in
     let g = c.in-Ok.ensures.behind in
     record {
-      at = g.spot;
-      moved = moved_on c.args.start c.lines.at c.in-Ok.after c.lines.invariant.moved g.later;
+      at = c.in-Ok.ensures.reached;
+      moved = moved_on c.args.start.spot c.lines.at.spot c.in-Ok.after.spot c.lines.invariant.moved g.later;
       more = c.lines.invariant.more;
       entries = c.lines.invariant.entries;
       so_far = λ r.
           let h = r.document in
-          let k = located x.rows.now x.document h c.lines.at at in
+          let k = located x.rows.now x.document h c.lines.at.spot at in
           let num = line_number x.document h.rows in
-          rw (c.in_ok-push_key.ensures h k.line k.is) (one_passes (lines_of h.rows) (num c.lines.at) c.args.floor (num c.in-Ok.after) (c.args.depth - 1) c.line_level-n.result (map (λ k. k.now) c.lines.keys.items) k.line k.is (c.lines-test.ensures.test h) (g.end h) c.lines.invariant.entries _ (c.lines.invariant.so_far r) (sym (c.in-Ok.ensures.sound r k.line k.is)));
-      stop = λ h. stop_same x.rows.now x.document h c.args.start c.lines.at c.in-Ok.after c.args.floor at (c.lines.invariant.stop h) (not_end _ (c.lines-test.ensures.test h)) g;
+          rw (c.in_ok-push_key.ensures h k.line k.is) (one_passes (lines_of h.rows) (num c.lines.at.spot) c.args.floor (num c.in-Ok.after.spot) (c.args.depth - 1) c.args.start.level (map (λ k. k.now) c.lines.keys.items) k.line k.is (c.lines-test.ensures.test h) (g.end h) c.lines.invariant.entries _ (c.lines.invariant.so_far r) (sym (c.in-Ok.ensures.sound r k.line k.is)));
+      stop = λ h. stop_same x.rows.now x.document h c.args.start.spot c.lines.at.spot c.in-Ok.after.spot c.args.floor at (c.lines.invariant.stop h) (not_end _ (c.lines-test.ensures.test h)) g;
     }
 
 pub check_lines-returns-then-not-are_distinct-clause-sound : goal.check_lines-returns-then-not-are_distinct-clause-sound
@@ -157,4 +160,10 @@ check_lines-returns-clause-sound t c = λ r.
 
 pub check_lines-returns-clause-behind : goal.check_lines-returns-clause-behind
 check_lines-returns-clause-behind t c =
-    gives_all c.args.x.rows.now c.args.x.document c.args.start c.lines.at c.args.floor c.lines.invariant.at c.lines.invariant.stop c.lines.invariant.moved (λ h. is_at_end _ (c.lines-test.ensures.test h))
+    gives_all c.args.x.rows.now c.args.x.document c.args.start.spot c.lines.at.spot c.args.floor c.lines.invariant.at.spot c.lines.invariant.stop c.lines.invariant.moved (λ h. is_at_end _ (c.lines-test.ensures.test h))
+
+pub check_lines-returns-clause-reached : goal.check_lines-returns-clause-reached
+check_lines-returns-clause-reached t c = c.lines.invariant.at
+
+pub check_lines-returns-then-not-is_deeper-clause-reached : goal.check_lines-returns-then-not-is_deeper-clause-reached
+check_lines-returns-then-not-is_deeper-clause-reached t c = c.requires.start

@@ -2,8 +2,8 @@ use Rattle.std.proofs.Common.{◌≡◌, ◌⊎◌, ◌+◌, ◌-◌, ◌*◌, �
 use Rattle.yq_lines.specs.Ends.{part}
 use Rattle.yq_lines.specs.Sound.{is_sound}
 use Rattle.yq_lines.proofs.SoundLaws.{asked, IsEntryLevel}
-use Rattle.yq_walk.specs.RowWalk.{IsSpot, OfLines, lines_stop}
-use Rattle.yq_reading.specs.Checking.{OfChecked}
+use Rattle.yq_walk.specs.RowWalk.{OfLines, lines_stop}
+use Rattle.yq_reading.specs.Checking.{IsReached, OfChecked}
 use Rattle.yq_reading.proofs.sound.+sound.Given as goal
 
 abbrev pub decreases-check_lines : goal.decreases-check_lines
@@ -13,15 +13,15 @@ abbrev pub decreases-check_line : goal.decreases-check_line
 decreases-check_line l = 2 * l.depth + 1
 
 abbrev pub decreases-check_lines-lines : goal.decreases-check_lines-lines
-decreases-check_lines-lines l = l.x.document.end - l.at.row
+decreases-check_lines-lines l = l.x.document.end - l.at.spot.row
 
 -- what is asked of all lines is what is asked from here on, and they end where those end
 abbrev pub invariant-check_lines-lines : goal.invariant-check_lines-lines
 invariant-check_lines-lines l = record {
-  at : IsSpot l.x.rows.now l.x.document l.at;
-  moved : (l.at ≡ l.start) ⊎ (l.start.row < l.at.row);
+  at : IsReached l.x.rows.now l.x.document l.at;
+  moved : (l.at.spot ≡ l.start.spot) ⊎ (l.start.spot.row < l.at.spot.row);
   more : 0 < l.depth;
-  entries : IsEntryLevel l.n;
-  so_far : OfChecked l.x (λ ls num. is_sound l.depth (part ls (num l.start) l.floor) ≡ asked (l.depth - 1) l.n (map (λ k. k.now) l.keys.items) (part ls (num l.at) l.floor));
-  stop : OfLines l.x.rows.now l.x.document (λ ls num. lines_stop (num l.start) l.floor ls ≡ lines_stop (num l.at) l.floor ls);
+  entries : IsEntryLevel l.start.level;
+  so_far : OfChecked l.x (λ ls num. is_sound l.depth (part ls (num l.start.spot) l.floor) ≡ asked (l.depth - 1) l.start.level (map (λ k. k.now) l.keys.items) (part ls (num l.at.spot) l.floor));
+  stop : OfLines l.x.rows.now l.x.document (λ ls num. lines_stop (num l.start.spot) l.floor ls ≡ lines_stop (num l.at.spot) l.floor ls);
 }

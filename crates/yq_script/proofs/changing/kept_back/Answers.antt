@@ -1,12 +1,52 @@
-use Rattle.std.proofs.Common.{◌-◌, length, take, drop, arith}
-use Rattle.std.proofs.lemmas.Grind.{common_steps}
+use Rattle.std.proofs.Common.{◌-◌, ap, arith, length, length-append, length-take-le, rules, subst, sym, take}
+use Rattle.std.proofs.lemmas.Str.{IsUtf8-append}
+use Rattle.std.specs.Str.{IsUtf8}
+use Rattle.yq_text.specs.Halves.{whole}
+use Rattle.yq_script.specs.Script.{kept_back}
 use Rattle.yq_script.specs.Segments.{segments_of}
-use Rattle.yq_script.proofs.TurnLaws.{back_more}
+use Rattle.yq_script.proofs.KeptSegments.{back_within}
+use Rattle.yq_script.proofs.TurnLaws.{back_kept, back_put}
 use Rattle.yq_script.proofs.changing.kept_back.Goals as goal
 
-pub segments-preserved-in-Keep : goal.segments-preserved-in-Keep
-segments-preserved-in-Keep c = record {
-  back = grind (arith, common_steps);
-  text = λ h. c.segments.invariant.text (back_more (segments_of c.segments.rest.now) (segments_of (take (length c.segments.rest.now - 1) (drop 1 c.segments.rest.now))) _ c.text_len.ensures.text h (grind (arith, common_steps)));
-  all = grind (arith, common_steps);
-}
+pub text_len-len-requires : goal.text_len-len-requires
+text_len-len-requires c =
+    let xs = c.segments.rest.now in
+    omega (
+      arith,
+      ap length (back_kept xs c.segment-item.result _ c.in-len1-up.len_at_least c.segment-item.is c.in-Keep.text c.in-Keep.is),
+      length-append (kept_back (segments_of (take (length xs - 1) xs))) (whole c.in-Keep.text),
+      c.segments.invariant.back,
+      back_within (segments_of c.args.segments.now),
+      c.requires,
+    )
+
+pub overflow_add-len : goal.overflow_add-len
+overflow_add-len c =
+    let xs = c.segments.rest.now in
+    omega (
+      arith,
+      ap length (back_kept xs c.segment-item.result _ c.in-len1-up.len_at_least c.segment-item.is c.in-Keep.text c.in-Keep.is),
+      length-append (kept_back (segments_of (take (length xs - 1) xs))) (whole c.in-Keep.text),
+      c.text_len-len.ensures.len,
+      c.segments.invariant.back,
+      back_within (segments_of c.args.segments.now),
+      c.requires,
+    )
+
+pub segments-preserved : goal.segments-preserved
+segments-preserved c =
+    let xs = c.segments.rest.now in
+    let kept = back_kept xs c.segment-item.result _ c.in-len1-up.len_at_least c.segment-item.is c.in-Keep.text c.in-Keep.is in
+    record {
+      back = omega (arith, ap length kept, length-append (kept_back (segments_of (take (length xs - 1) xs))) (whole c.in-Keep.text), c.text_len-len.ensures.len, c.segments.invariant.back);
+      text = λ h. c.segments.invariant.text (subst IsUtf8 (sym kept) (IsUtf8-append (kept_back (segments_of (take (length xs - 1) xs))) (whole c.in-Keep.text) h c.text_len-len.ensures.text));
+      within = omega (arith, c.in-len1-up.len_at_least, c.segments.invariant.within, length-take-le (length xs - 1) xs (omega arith));
+    }
+
+pub returns-in-Put : goal.returns-in-Put
+returns-in-Put c =
+    let none = back_put c.segments.rest.now c.segment-item.result _ c.in-len1-up.len_at_least c.segment-item.is c.in-Put.field-0 c.in-Put.field-1 c.in-Put.is in
+    record {
+      back = omega (arith, ap length none, c.segments.invariant.back);
+      text = c.segments.invariant.text (subst IsUtf8 (sym none) (search rules));
+    }

@@ -1,4 +1,4 @@
-use Rattle.std.proofs.Common.{◌+◌, ◌-◌, ◌<◌, ◌^◌, List, ◌++◌, length, map, take, drop, refl, ap, sym, subst, ◌∙◌, arith}
+use Rattle.std.proofs.Common.{◌+◌, ◌-◌, ◌<◌, ◌^◌, List, ◌++◌, map, take, refl, ap, sym, subst, ◌∙◌, arith}
 use Rattle.std.specs.List.{All}
 use Rattle.yq_rows.specs.Kept.{raised, placed_rows}
 use Rattle.yq_rows.specs.declared.offsets.Offsets as declared
@@ -17,26 +17,26 @@ overflow_add-new c = let n = numbers c.args.places.now c.args.touched c.args.com
 pub overflow_add-new-2 : goal.overflow_add-new-2
 overflow_add-new-2 c = let n = numbers c.args.places.now c.args.touched c.args.come.now c.requires in omega arith
 
-pub join_ends-requires-clause-front : goal.join_ends-requires-clause-front
-join_ends-requires-clause-front c = let n = numbers c.args.places.now c.args.touched c.args.come.now c.requires in omega (arith, n.front_ends, ap length c.as_slice.ensures.value)
+pub exchange_ends-requires-clause-front : goal.exchange_ends-requires-clause-front
+exchange_ends-requires-clause-front c = let n = numbers c.args.places.now c.args.touched c.args.come.now c.requires in n.front_ends
 
-pub join_ends-requires-clause-old : goal.join_ends-requires-clause-old
-join_ends-requires-clause-old c = let n = numbers c.args.places.now c.args.touched c.args.come.now c.requires in omega (arith, n.old_ends, ap length c.as_slice.ensures.value)
+pub exchange_ends-requires-clause-old : goal.exchange_ends-requires-clause-old
+exchange_ends-requires-clause-old c = let n = numbers c.args.places.now c.args.touched c.args.come.now c.requires in n.old_ends
 
-pub join_ends-requires-clause-found : goal.join_ends-requires-clause-found
-join_ends-requires-clause-found c =
+pub exchange_ends-requires-clause-found : goal.exchange_ends-requires-clause-found
+exchange_ends-requires-clause-found c =
     let h = c.requires in
     let n = numbers c.args.places.now c.args.touched c.args.come.now h in
     subst (All (IsMovable origin c.args.touched.front)) (sym (c.as_slice-found.ensures.value ∙ h.are_read.ends))
     (ends_movable origin c.args.touched.front h.written (omega (arith, c.in_ok-reserve.ensures.ok, c.reserve.ensures.len, c.len-rows.ensures, n.come_rows)) (omega (arith, h.are_read.long, n.bytes)))
 
-pub join_ends-requires-clause-behind : goal.join_ends-requires-clause-behind
-join_ends-requires-clause-behind c =
+pub exchange_ends-requires-clause-behind : goal.exchange_ends-requires-clause-behind
+exchange_ends-requires-clause-behind c =
     let h = c.requires in
     let x = c.args.touched in
     let n = numbers c.args.places.now x c.args.come.now h in
     let next : Side = record { rows = x.front.rows + c.len-rows.result; ends = 0; bytes = x.front.bytes + c.args.come.now.len } in
-    subst (All (IsMovable x.old next)) (sym (ap (drop x.old.ends) c.as_slice.ensures.value ∙ ends_behind c.args.places.now x c.args.come.now h))
+    subst (All (IsMovable x.old next)) (sym (ends_behind c.args.places.now x c.args.come.now h))
     (ends_movable x.old next h.behind (omega (arith, c.in_ok-reserve.ensures.ok, c.reserve.ensures.len, c.len.ensures, n.all_rows, c.len-rows.ensures)) (omega (arith, n.bytes)))
 
 pub push_rows-requires-clause-small : goal.push_rows-requires-clause-small
@@ -56,5 +56,5 @@ returns-clause-ok c h =
     let n = numbers p x come h in
     let next : Side = record { rows = x.front.rows + c.len-rows.result; ends = 0; bytes = x.front.bytes + come.len } in
     let front_now = c.push_rows.ensures ∙ ap (λ (l : List declared.Offsets). l ++ map (raised x.front.bytes) (placed_rows come.read come.places)) (c.truncate.ensures.items ∙ ap (take x.front.rows) c.reserve.ensures.items) in
-    let ends_now = c.in_ok-ends.ensures ∙ (λ i. joined_ends x.front x.old next (c.as_slice.ensures.value i) (c.as_slice-found.ensures.value i)) in
+    let ends_now = c.in_ok-exchange_ends.ensures.ok ∙ ap (joined_ends x.front x.old next p.ends.items) c.as_slice-found.ensures.value in
     exchanged p _ x come next (c.len.result - x.old.rows) h (omega (arith, c.len.ensures, n.all_rows)) (ap (λ m. x.front.rows + m) c.len-rows.ensures) refl front_now c.truncate-2.ensures.items ends_now refl

@@ -1,79 +1,68 @@
-use Rattle.std.proofs.Common.{◌∙◌, ◌++◌, List, ℕ, length, sym, ap, subst}
+use Rattle.std.proofs.Common.{◌∙◌, ◌++◌, List, ℕ, refl, sym, ap, subst}
 use Rattle.yq_text.specs.Split.{joined}
 use Rattle.yq_rows.specs.Grammar.{IsCut}
 use Rattle.yq_rows.specs.Meter.{counted, line_count}
 use Rattle.yq_session.specs.Exchanging.{Change}
 use Rattle.yq_session.specs.Following.{exchanged}
 use Rattle.yq_session.specs.Reading.{AreEdges, Comes, IsRead, read_part, region_text}
-use Rattle.yq_session.proofs.DoneLaws.{gives_way, moved_follows, new_edge, new_places, placed_before, same_places, still_placed}
+use Rattle.yq_session.proofs.DoneLaws.{gives_way, moved_follows, new_places, placed_before, same_places, still_placed}
 use Rattle.yq_session.proofs.following.follow.Goals as goal
 
 pub move_split-requires : goal.move_split-requires
 move_split-requires c = placed_before (joined c.args.text.now) c.args.places.now c.args.kept c.args.new.now c.requires
 
 pub returns-in_err-move_split-clause-placed : goal.returns-in_err-move_split-clause-placed
-returns-in_err-move_split-clause-placed c = still_placed (joined c.args.text.now) _ _ c.move_split.ensures.text c.move_split.ensures.placed
+returns-in_err-move_split-clause-placed c = still_placed (joined c.args.text.now) _ _ refl c.move_split.ensures.placed
 
 pub region-requires-clause-edges : goal.region-requires-clause-edges
 region-requires-clause-edges c =
     let t = joined c.args.text.now in
     let p = c.move_split.new.places in
-    let k : Change t c.args.new.now c.args.kept p c.find_touched-touched.result = c.find_touched-touched.ensures t c.args.new.now (c.len.ensures ∙ ap length c.move_split.ensures.text) (moved_follows t c.args.places.now p c.args.kept c.args.new.now c.requires c.move_split.ensures.placed) in
-    let whole = (λ i. c.halves.ensures.front i ++ c.halves.ensures.back i) ∙ c.move_split.ensures.text in
+    let k : Change t c.args.new.now c.args.kept p c.find_touched-touched.result = c.find_touched-touched.ensures t c.args.new.now c.len.ensures (moved_follows t c.args.places.now p c.args.kept c.args.new.now c.requires c.move_split.ensures.placed) in
+    let whole = (λ i. c.halves.ensures.front i ++ c.halves.ensures.back i) ∙ refl in
     subst (λ (u : List ℕ). AreEdges u c.find_touched-touched.result c.args.kept) (sym whole) k.edges
 
 pub returns-in_err-region-clause-placed : goal.returns-in_err-region-clause-placed
-returns-in_err-region-clause-placed c = still_placed (joined c.args.text.now) _ _ c.move_split.ensures.text c.move_split.ensures.placed
+returns-in_err-region-clause-placed c = still_placed (joined c.args.text.now) _ _ refl c.move_split.ensures.placed
 
 pub read-requires : goal.read-requires
 read-requires c =
     let t = joined c.args.text.now in
     let p = c.move_split.new.places in
     let x = c.find_touched-touched.result in
-    let k : Change t c.args.new.now c.args.kept p x = c.find_touched-touched.ensures t c.args.new.now (c.len.ensures ∙ ap length c.move_split.ensures.text) (moved_follows t c.args.places.now p c.args.kept c.args.new.now c.requires c.move_split.ensures.placed) in
-    let whole = (λ i. c.halves.ensures.front i ++ c.halves.ensures.back i) ∙ c.move_split.ensures.text in
+    let k : Change t c.args.new.now c.args.kept p x = c.find_touched-touched.ensures t c.args.new.now c.len.ensures (moved_follows t c.args.places.now p c.args.kept c.args.new.now c.requires c.move_split.ensures.placed) in
+    let whole = (λ i. c.halves.ensures.front i ++ c.halves.ensures.back i) ∙ refl in
     let part = c.as_str.ensures.value ∙ (c.in_ok-region.ensures ∙ ap (λ (u : List ℕ). region_text u x c.args.kept c.args.new.now) whole) in
     subst (λ (u : List ℕ). IsRead u x) (sym part) k.read
 
 pub returns-in_err-come-clause-placed : goal.returns-in_err-come-clause-placed
-returns-in_err-come-clause-placed c = still_placed (joined c.args.text.now) _ _ c.move_split.ensures.text c.move_split.ensures.placed
+returns-in_err-come-clause-placed c = still_placed (joined c.args.text.now) _ _ refl c.move_split.ensures.placed
 
 pub returns-in_err-reserve-clause-placed : goal.returns-in_err-reserve-clause-placed
-returns-in_err-reserve-clause-placed c = still_placed (joined c.args.text.now) _ _ ((λ i. c.reserve.ensures.front i ++ c.reserve.ensures.back i) ∙ c.move_split.ensures.text) c.move_split.ensures.placed
+returns-in_err-reserve-clause-placed c = still_placed (joined c.args.text.now) _ _ ((λ i. c.reserve.ensures.front i ++ c.reserve.ensures.back i) ∙ refl) c.move_split.ensures.placed
 
 pub exchange-requires : goal.exchange-requires
 exchange-requires c =
     let t = joined c.args.text.now in
     let p = c.move_split.new.places in
     let x = c.find_touched-touched.result in
-    let k : Change t c.args.new.now c.args.kept p x = c.find_touched-touched.ensures t c.args.new.now (c.len.ensures ∙ ap length c.move_split.ensures.text) (moved_follows t c.args.places.now p c.args.kept c.args.new.now c.requires c.move_split.ensures.placed) in
-    let whole = (λ i. c.halves.ensures.front i ++ c.halves.ensures.back i) ∙ c.move_split.ensures.text in
+    let k : Change t c.args.new.now c.args.kept p x = c.find_touched-touched.ensures t c.args.new.now c.len.ensures (moved_follows t c.args.places.now p c.args.kept c.args.new.now c.requires c.move_split.ensures.placed) in
+    let whole = (λ i. c.halves.ensures.front i ++ c.halves.ensures.back i) ∙ refl in
     let part = c.as_str.ensures.value ∙ (c.in_ok-region.ensures ∙ ap (λ (u : List ℕ). region_text u x c.args.kept c.args.new.now) whole) in
     gives_way t c.args.new.now c.args.kept p x c.in_ok-come.come k (subst (λ (u : List ℕ). Comes u x c.in_ok-come.come) part c.in_ok-come.ensures.come k.read)
 
 pub returns-in_err-exchange-clause-placed : goal.returns-in_err-exchange-clause-placed
-returns-in_err-exchange-clause-placed c = same_places (joined c.args.text.now) _ c.move_split.new.places _ ((λ i. c.reserve.ensures.front i ++ c.reserve.ensures.back i) ∙ c.move_split.ensures.text) c.move_split.ensures.placed c.in_err-exchange.ensures.err
-
-pub write-requires-clause-split : goal.write-requires-clause-split
-write-requires-clause-split c =
-    let t = joined c.args.text.now in
-    let p = c.move_split.new.places in
-    let x = c.find_touched-touched.result in
-    let k : Change t c.args.new.now c.args.kept p x = c.find_touched-touched.ensures t c.args.new.now (c.len.ensures ∙ ap length c.move_split.ensures.text) (moved_follows t c.args.places.now p c.args.kept c.args.new.now c.requires c.move_split.ensures.placed) in
-    let whole = (λ i. c.halves.ensures.front i ++ c.halves.ensures.back i) ∙ c.move_split.ensures.text in
-    let part = c.as_str.ensures.value ∙ (c.in_ok-region.ensures ∙ ap (λ (u : List ℕ). region_text u x c.args.kept c.args.new.now) whole) in
-    let same = (λ i. c.reserve.ensures.front i ++ c.reserve.ensures.back i) ∙ c.move_split.ensures.text in
-    new_edge t _ c.args.new.now c.args.kept p c.exchange.new.places x c.in_ok-come.come c.requires.new_cut same k (subst (λ (u : List ℕ). Comes u x c.in_ok-come.come) part c.in_ok-come.ensures.come k.read) c.in_ok-exchange.ensures.ok c.requires.new_is
+returns-in_err-exchange-clause-placed c = same_places (joined c.args.text.now) _ c.move_split.new.places _ ((λ i. c.reserve.ensures.front i ++ c.reserve.ensures.back i) ∙ refl) c.move_split.ensures.placed c.in_err-exchange.ensures.err
 
 pub returns-clause-placed : goal.returns-clause-placed
 returns-clause-placed c =
     let t = joined c.args.text.now in
     let p = c.move_split.new.places in
     let x = c.find_touched-touched.result in
-    let k : Change t c.args.new.now c.args.kept p x = c.find_touched-touched.ensures t c.args.new.now (c.len.ensures ∙ ap length c.move_split.ensures.text) (moved_follows t c.args.places.now p c.args.kept c.args.new.now c.requires c.move_split.ensures.placed) in
-    let whole = (λ i. c.halves.ensures.front i ++ c.halves.ensures.back i) ∙ c.move_split.ensures.text in
+    let k : Change t c.args.new.now c.args.kept p x = c.find_touched-touched.ensures t c.args.new.now c.len.ensures (moved_follows t c.args.places.now p c.args.kept c.args.new.now c.requires c.move_split.ensures.placed) in
+    let whole = (λ i. c.halves.ensures.front i ++ c.halves.ensures.back i) ∙ refl in
     let part = c.as_str.ensures.value ∙ (c.in_ok-region.ensures ∙ ap (λ (u : List ℕ). region_text u x c.args.kept c.args.new.now) whole) in
-    let same = (λ i. c.reserve.ensures.front i ++ c.reserve.ensures.back i) ∙ c.move_split.ensures.text in
+    let same = (λ i. c.reserve.ensures.front i ++ c.reserve.ensures.back i) ∙ refl in
     new_places t _ _ c.args.new.now c.args.kept p c.exchange.new.places x c.in_ok-come.come c.requires.new_cut same c.write.ensures k (subst (λ (u : List ℕ). Comes u x c.in_ok-come.come) part c.in_ok-come.ensures.come k.read) c.in_ok-exchange.ensures.ok c.requires.new_is
 
 pub returns-clause-counted : goal.returns-clause-counted
@@ -81,9 +70,9 @@ returns-clause-counted c old d was is h =
     let t = joined c.args.text.now in
     let p = c.move_split.new.places in
     let x = c.find_touched-touched.result in
-    let k : Change t c.args.new.now c.args.kept p x = c.find_touched-touched.ensures t c.args.new.now (c.len.ensures ∙ ap length c.move_split.ensures.text) (moved_follows t c.args.places.now p c.args.kept c.args.new.now c.requires c.move_split.ensures.placed) in
-    let whole = (λ i. c.halves.ensures.front i ++ c.halves.ensures.back i) ∙ c.move_split.ensures.text in
+    let k : Change t c.args.new.now c.args.kept p x = c.find_touched-touched.ensures t c.args.new.now c.len.ensures (moved_follows t c.args.places.now p c.args.kept c.args.new.now c.requires c.move_split.ensures.placed) in
+    let whole = (λ i. c.halves.ensures.front i ++ c.halves.ensures.back i) ∙ refl in
     let part = c.as_str.ensures.value ∙ (c.in_ok-region.ensures ∙ ap (λ (u : List ℕ). region_text u x c.args.kept c.args.new.now) whole) in
-    let same = (λ i. c.reserve.ensures.front i ++ c.reserve.ensures.back i) ∙ c.move_split.ensures.text in
+    let same = (λ i. c.reserve.ensures.front i ++ c.reserve.ensures.back i) ∙ refl in
     let made = c.write.ensures ∙ ap (λ (u : List ℕ). exchanged c.args.kept u c.args.new.now) same in
     c.in_ok-come.ensures.counted ∙ ap (λ (u : List ℕ). counted (line_count u) c.args.meter.now) (ap (λ (u : List ℕ). read_part u x.marked) part ∙ sym (k.once old d was (subst (λ (u : List ℕ). IsCut u d) made is) h))

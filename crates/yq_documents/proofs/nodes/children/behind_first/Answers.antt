@@ -1,4 +1,4 @@
-use Rattle.std.proofs.Common.{◌-◌, refl, arith}
+use Rattle.std.proofs.Common.{refl, arith}
 use Rattle.yq_lines.specs.Ends.{IsEndOf}
 use Rattle.yq_documents.specs.Stretches.{document_lines, number_of}
 use Rattle.yq_lines.proofs.ChildLaws.{first_child}

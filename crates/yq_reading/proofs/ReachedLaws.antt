@@ -1,0 +1,71 @@
+-- Lines of a document, each with how deep it is.
+use Rattle.std.proofs.Common.{◌≡◌, ℕ, ◌+◌, ◌*◌, ◌%◌, ◌≤◌, eqb, List, Option, Some, None, true, false, not, refl, sym, ap, ◌∙◌, arith}
+use Rattle.std.proofs.lemmas.Bool.{eq-eqb, eqb-true, false≢true, le-ltb, ne_eqb, not-false}
+use Rattle.std.proofs.lemmas.Option.{same_Some}
+use Rattle.std.specs.List.{slice_get}
+use Rattle.std.specs.Prelude.{is_some}
+use Rattle.yq_lines.specs.Outline.{Mark, Bare, Key, Dash, Line, key_of, level, rank}
+use Rattle.yq_lines.specs.Spots.{is_bare}
+use Rattle.yq_scalar.specs.Paths.{is_item}
+use Rattle.yq_inline.specs.Scalars.{content_of}
+use Rattle.yq_walk.specs.Lines.{lines_of}
+use Rattle.yq_rows.specs.View.{Slices, slices, Shown}
+use Rattle.yq_walk.specs.RowWalk.{HasRows, IsLine, IsSpot, line_level, line_number, line_rank}
+use Rattle.yq_walk.specs.declared.spot.Spot.{Spot}
+use Rattle.yq_walk.specs.declared.spot.Stretch.{Stretch}
+use Rattle.yq_walk.proofs.WalkMarks.{item_told, key_here}
+use Rattle.yq_walk.proofs.WalkSpots.{deeper_told, end_told, line_spot, located}
+use Rattle.yq_reading.specs.Checking.{IsReached}
+use Rattle.yq_reading.proofs.LineTold.{level_told}
+
+-- the end, and a line
+pub reached_end : (s : Shown) (d : Stretch) (q : Spot) → IsSpot s d q → d.end ≤ q.row → IsReached s d (record { spot = q; level = 0 })
+reached_end s d q at past = record {
+  spot = at;
+  some = λ p. absurd (omega (arith, p));
+  told = λ p. absurd (omega (arith, p, past));
+  deeper = λ floor h. le-ltb floor 0 (omega arith) ∙ end_told s d h q floor at past;
+}
+
+pub reached_line : (s : Shown) (d : Stretch) (q : Spot) → IsLine s d q → (n : ℕ) → ((x : Slices) → slice_get s.rows q.row ≡ Some x → n ≡ line_level q.line x) → IsReached s d (record { spot = q; level = n })
+reached_line s d q at n told = record {
+  spot = line_spot s d q at;
+  some = λ p. at.upto;
+  told = λ p. level_told s d q at n told;
+  deeper = λ floor h. deeper_told s d h q n floor at told;
+}
+
+-- what a line begins with is told by how deep it is
+bare_mark : (column n : ℕ) (m : Mark) → n ≡ 3 * column + rank m → eqb (n % 3) 1 ≡ is_bare m
+bare_mark column n Bare e = eq-eqb (n % 3) 1 (omega (arith, e))
+bare_mark column n (Key k) e = ne_eqb (n % 3) 1 (λ same. omega (arith, e, same))
+bare_mark column n Dash e = ne_eqb (n % 3) 1 (λ same. omega (arith, e, same))
+
+key_mark : (column n : ℕ) (m : Mark) → n ≡ 3 * column + rank m → eqb (n % 3) 2 ≡ is_some (key_of m)
+key_mark column n Bare e = ne_eqb (n % 3) 2 (λ same. omega (arith, e, same))
+key_mark column n (Key k) e = eq-eqb (n % 3) 2 (omega (arith, e))
+key_mark column n Dash e = ne_eqb (n % 3) 2 (λ same. omega (arith, e, same))
+
+pub bare_at : (n : ℕ) (l : Line) → n ≡ level l → eqb (n % 3) 1 ≡ is_bare l.mark
+unfolding level
+bare_at n l e = bare_mark l.column n l.mark e
+
+pub key_at : (n : ℕ) (l : Line) → n ≡ level l → eqb (n % 3) 2 ≡ is_some (key_of l.mark)
+unfolding level
+key_at n l e = key_mark l.column n l.mark e
+
+pub none_of : (o : Option (List ℕ)) → false ≡ is_some o → None ≡ o
+none_of None e = refl
+none_of (Some a) e = absurd (false≢true e)
+
+-- the key of a line that has one
+ranked : (n : ℕ) (o : Option (List ℕ)) → not (eqb n 2) ≡ is_item o → true ≡ is_some o → n ≡ 2
+ranked n None e some = absurd (false≢true (sym some))
+ranked n (Some a) e some = eqb-true n 2 (not-false (eqb n 2) e)
+
+pub key_some : (s : Shown) (d : Stretch) (h : HasRows s d) (q : Spot) (at : IsLine s d q) (l : Line) → slice_get (lines_of h.rows) (line_number d h.rows q) ≡ Some l → true ≡ is_some (key_of l.mark) → Some (content_of (slices (located s d h q at).row).key) ≡ key_of l.mark
+key_some s d h q at l is some =
+    let k = located s d h q at in
+    let n : ℕ = line_rank q.line (slices k.row) in
+    let told : (x : Slices) → slice_get s.rows q.row ≡ Some x → n ≡ line_rank q.line x = λ x e. ap (line_rank q.line) (same_Some _ _ (sym k.pieces ∙ e)) in
+    key_here s d h q at l is n told (ranked n (key_of l.mark) (item_told s d h q at l is n told) some)
