@@ -23,7 +23,7 @@ use Rattle.yq_edits.specs.FlowParts.{flow_put, flow_value}
 use Rattle.yq_edits.specs.WrittenValues.{value_text}
 use Rattle.yq_flow_edits.specs.EditPlaces.{edit_segments, moved_on}
 use Rattle.yq_flow_edits.proofs.FlowAnswers.{CollFound, EditFound, edit_found, entry_found, part_in, standing_is}
-use Rattle.yq_flow_edits.proofs.FlowHeads.{replace_found, replaced_within}
+use Rattle.yq_flow_edits.proofs.FlowHeads.{replace_found, replaced_within, whole_is}
 use Rattle.yq_flow_edits.proofs.FlowLonger.{entry_more}
 use Rattle.yq_flow_edits.proofs.FlowPutLaws.{bounds, e, m, there}
 use Rattle.yq_flow_edits.proofs.FlowStandings.{EntryAt}
@@ -100,11 +100,12 @@ module _ (c : Cut) (n : ℕ) (path init : List Step) (s : Step) (x : FlowHead) (
       let edit : FlowEdit = e c n path v f.read a in
       let alone : FlowEdit = replacing s y (m c n path v f.read a) own in
       let t = there c n path v f.read a in
+      let same = ap (λ (w : CollPieces). replacing s (entry_more f.told.behind y) (m c n path v f.read a) w) (whole_is (cut_text c) f.coll x f.told) in
       let stands = subst (λ (l : List ℕ). StandsBefore l (alone.old ++ alone.behind)) (sym f.told.node_is) (replaced_stands f.told.at [] f.told.stands s y at) in
       let place : replace_place (locate_entry (length row) y).1 ≡ place_edit (length row) alone =
       subst (λ (l : List ℕ). replace_place (locate (length l) y.node y.rest) ≡ place_edit (length l) alone) (sym f.told.node_is) (replace_found f.told.at f.told.stands s y (m c n path v f.read a) at) in
       let w =
-      edit_found c n init x q f edit alone t.before whole (place_edit (length row) alone) refl (replaced_within f.told.at f.told.stands s y (m c n path v f.read a) at)
+      edit_found c n init x q f edit alone t.before whole (place_edit (length row) alone) same (replaced_within f.told.at f.told.stands s y (m c n path v f.read a) at)
       (bounds c n path v f.read a) t.text refl all in
       subst (ContentFound c (option_map (flow_put (cut_text c) v) (flow_standing n c (last_step path))) x v whole) (sym place) (record {
         lies = w.lies;
