@@ -1,5 +1,6 @@
 -- What stays of a document in which a flow collection has other items or entries.
-use Rattle.std.proofs.Common.{◌≡◌, ℕ, Bool, true, false, cond, List, [], ◌∷◌, ◌++◌, map, Some, option_and_then, sym, ap, ◌∙◌, subst}
+use Rattle.std.proofs.Common.{◌≡◌, ◌⊎◌, inl, inr, ℕ, Bool, true, false, cond, List, [], ◌∷◌, ◌++◌, map, Some, None, option_and_then, option_map, sym, ap, ◌∙◌, subst}
+use Rattle.std.specs.Option.{option_or}
 use Rattle.std.proofs.lemmas.Bool.{cond_both}
 use Rattle.std.proofs.lemmas.Option.{none-some, same_Some}
 use Rattle.std.specs.Prelude.{is_some}
@@ -8,13 +9,14 @@ use Rattle.yq_inline.specs.Alike.{fresh}
 use Rattle.yq_inline.specs.Collections.{CollPieces, coll_along, put_at, change_item}
 use Rattle.yq_inline.specs.Entries.{EntryPieces, item_at}
 use Rattle.yq_flow.specs.FlowEdits.{FlowEdit}
-use Rattle.yq_inline.specs.Nodes.{Node, empty, alias, scalar, coll, anchored, Items, none, item, sep_text, items_text}
-use Rattle.yq_flow.specs.Removals.{drop_item, drop_last, ends_marked, gap_of, gap_to, has_next, is_several, removing_before, removing_end, removing_last, removing_sole, removing_to_comma, until_last, with_gap}
+use Rattle.yq_inline.specs.Nodes.{Key, Node, empty, alias, scalar, coll, anchored, Sep, last, comma, Items, none, item, key_text, sep_text, node_text, items_text}
+use Rattle.yq_flow.specs.Removals.{before_next, behind_item, comma_left, ends_marked, gap_of, last_gone, last_out, last_removed, removing_from}
+use Rattle.yq_flow.proofs.RemoveTexts.{either, made_of}
 use Rattle.yq_inline.specs.Trees.{inner, key_content}
 use Rattle.yq_rows.specs.Exchange.{with_content}
 use Rattle.yq_rows.specs.Rows.{Content, Inline, Row, Part}
 use Rattle.yq_rows.proofs.splices.SpliceTexts.{own_gap}
-use Rattle.yq_documents.specs.Documents.{ContentHasFitKeys, EachHasFitKeys, HasFitKeys, HaveFitKeys}
+use Rattle.yq_documents.specs.Documents.{ContentHasFitKeys, EachHasFitKeys, HasFitKey, HasFitKeys, HaveFitKeys}
 use Rattle.yq_walk.specs.Lines.{head_of}
 use Rattle.yq_change.specs.FlowKept.{with_items, FlowRooms, FlowKeys, LeftKeys}
 use Rattle.yq_change.specs.Rooms.{row_shape}
@@ -54,31 +56,43 @@ flow_keys t c k p steps f rest i w gap is old at fits =
     let row = (fit_parts i.front (i.row ∷ i.back) (subst HaveFitKeys at.rows_are known.document.keys)).1 in
     fit_at rest i.node _ w gap is at.along (subst ContentHasFitKeys at.content_is row.1) fits
 
-drop_fit : (k : ℕ) (rest : List ℕ) (s : Step) (g : List ℕ) (os : Items) → EachHasFitKeys os → EachHasFitKeys (drop_item k rest s g os).1
-drop_fit k rest s g none h = tt
-drop_fit k rest s g (item key n sep os) h = go (is_here s (inner (key_content key))) (drop_fit k rest (further s) (gap_of sep) os h.2)
+last_fit : (k : ℕ) (rest : List ℕ) (s : Step) (g : List ℕ) (key : Key) (n : Node) (sep : Sep) (os : Items) (e : FlowEdit) → last_out k rest s g key n sep os ≡ Some e → HasFitKey key → HasFitKeys n → EachHasFitKeys e.items
+last_fit k rest s g key n sep none e at a b = absurd (none-some _ at)
+last_fit k rest s g key n sep (item key2 n2 sep2 (item key3 n3 sep3 os)) e at a b = absurd (none-some _ at)
+last_fit k rest s g key n sep (item key2 n2 sep2 none) e at a b = go (is_here s (inner (key_content key2))) at
   where
-    more : List ℕ × Items
-    more = drop_item k rest (further s) (gap_of sep) os
+    commas : (sep2 : Sep) → EachHasFitKeys (comma_left k rest g key n sep key2 n2 sep2).items
+    commas (last q) = (a, b, tt)
+    commas (comma q h) = (a, b, tt)
 
-    go : (b : Bool) → EachHasFitKeys more.1 → EachHasFitKeys (cond {A = List ℕ × Items} b (gap_to g (items_text k os rest), os) (g, item key n (with_gap more.0 sep) more.1)).1
-    go true again = h.2
-    go false again = (h.0, h.1, again)
+    go : (c : Bool) → cond c (Some (last_removed k rest g key n sep key2 n2 sep2)) None ≡ Some e → EachHasFitKeys e.items
+    go true at =
+        subst (λ (x : FlowEdit). EachHasFitKeys x.items) (same_Some _ _ at)
+        (cond_both (ends_marked (fresh false g) (key_text key (node_text n []))) (comma_left k rest g key n sep key2 n2 sep2) (last_gone k rest g key n sep key2 n2 sep2) (λ (x : FlowEdit). EachHasFitKeys x.items) (λ _. commas sep2) (λ _. (a, b, tt)))
+    go false at = absurd (none-some _ at)
 
-last_fit : (b : Bool) (os : Items) → EachHasFitKeys os → EachHasFitKeys (drop_last b os)
-last_fit b none h = tt
-last_fit b (item key n sep none) h = tt
-last_fit b (item key n sep (item key2 n2 sep2 none)) h = (h.0, h.1, tt)
-last_fit b (item key n sep (item key2 n2 sep2 (item key3 n3 sep3 os))) h = (h.0, h.1, last_fit b (item key2 n2 sep2 (item key3 n3 sep3 os)) h.2)
+before_fit : (k : ℕ) (rest g : List ℕ) (key : Key) (n : Node) (sep : Sep) (os : Items) (e : FlowEdit) → before_next k rest g key n sep os ≡ Some e → EachHasFitKeys os → EachHasFitKeys e.items
+before_fit k rest g key n sep none e at h = absurd (none-some _ at)
+before_fit k rest g key n sep (item key2 n2 sep2 os) e at h = subst (λ (x : FlowEdit). EachHasFitKeys x.items) (same_Some _ _ at) h
+
+left_fit : (k : ℕ) (rest : List ℕ) (s : Step) (g : List ℕ) (os : Items) (e : FlowEdit) → removing_from k rest s g os ≡ Some e → EachHasFitKeys os → EachHasFitKeys e.items
+left_fit k rest s g none e at h = absurd (none-some _ at)
+left_fit k rest s g (item key n sep os) e at h = go (is_here s (inner (key_content key))) (λ x is. left_fit k rest (further s) (gap_of sep) os x is h.2) at
+  where
+    behind : ((x : FlowEdit) → removing_from k rest (further s) (gap_of sep) os ≡ Some x → EachHasFitKeys x.items) →
+        (last_out k rest (further s) g key n sep os ≡ Some e) ⊎ (option_map (behind_item g key n sep) (removing_from k rest (further s) (gap_of sep) os) ≡ Some e) → EachHasFitKeys e.items
+    behind again (inl at) = last_fit k rest (further s) g key n sep os e at h.0 h.1
+    behind again (inr at) =
+        let x = made_of (behind_item g key n sep) (removing_from k rest (further s) (gap_of sep) os) e at in
+        subst (λ (y : FlowEdit). EachHasFitKeys y.items) x.2 (h.0, h.1, again x.0 x.1)
+
+    go : (b : Bool) → ((x : FlowEdit) → removing_from k rest (further s) (gap_of sep) os ≡ Some x → EachHasFitKeys x.items) →
+        cond b (before_next k rest g key n sep os) (option_or (last_out k rest (further s) g key n sep os) (option_map (behind_item g key n sep) (removing_from k rest (further s) (gap_of sep) os))) ≡ Some e → EachHasFitKeys e.items
+    go true again at = before_fit k rest g key n sep os e at h.2
+    go false again at = behind again (either _ _ at)
 
 pub left_keys : LeftKeys
-left_keys s w h =
-    let fits : FlowEdit → Type 0 = λ e. EachHasFitKeys e.items in
-    let end' : fits (removing_end w) =
-    cond_both (ends_marked (fresh false w.gap) (until_last w.items)) (removing_to_comma w) (removing_last w) fits (λ _. last_fit true w.items h) (λ _. last_fit false w.items h) in
-    let some : fits (cond (has_next s w.items) (removing_before s w) (removing_end w)) =
-    cond_both (has_next s w.items) (removing_before s w) (removing_end w) fits (λ _. drop_fit w.close w.rest s w.gap w.items h) (λ _. end') in
-    cond_both (is_several w.items) (cond (has_next s w.items) (removing_before s w) (removing_end w)) (removing_sole w) fits (λ _. some) (λ _. tt)
+left_keys s w e at h = left_fit w.close w.rest s w.gap w.items e at h
 
 -- ---- rooms and leads
 

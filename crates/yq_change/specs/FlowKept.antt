@@ -1,8 +1,9 @@
 -- What stays of a document in which a flow collection has other items or entries (7.4; own).
-use Rattle.std.specs.Prelude.{◌≡◌, ℕ, List}
+use Rattle.std.specs.Prelude.{◌≡◌, ℕ, List, Some}
 use Rattle.yq_scalar.specs.Paths.{Step}
 use Rattle.yq_inline.specs.Collections.{CollPieces, put_at}
 use Rattle.yq_inline.specs.Nodes.{Items}
+use Rattle.yq_flow.specs.FlowEdits.{FlowEdit}
 use Rattle.yq_flow.specs.Removals.{removing}
 use Rattle.yq_lines.specs.Places.{Found}
 use Rattle.yq_rows.specs.Rows.{Part, Cut}
@@ -29,4 +30,4 @@ FlowKeys =
 
 -- Without one of the items or entries, the keys of the others are fit, if all were.
 abbrev pub LeftKeys : Type 0
-LeftKeys = (s : Step) (w : CollPieces) → EachHasFitKeys w.items → EachHasFitKeys (removing s w).items
+LeftKeys = (s : Step) (w : CollPieces) (e : FlowEdit) → removing s w ≡ Some e → EachHasFitKeys w.items → EachHasFitKeys e.items

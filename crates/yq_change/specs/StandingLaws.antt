@@ -1,7 +1,9 @@
 -- What is owed of the rows in which items and entries stand, and of what these hold (own).
-use Rattle.std.specs.Prelude.{◌≡◌, ◌⊎◌, ℕ, suc, ◌+◌, List, [], ◌∷◌, ◌++◌, length, slice_get, Some}
+use Rattle.std.specs.Prelude.{◌≡◌, ◌⊎◌, ℕ, suc, ◌+◌, List, [], ◌∷◌, ◌++◌, length, nat_lt, slice_get, Some}
 use Rattle.yq_scalar.specs.Paths.{Step}
 use Rattle.yq_scalar.specs.Tree.{Node}
+use Rattle.yq_inline.specs.Trees.{items_tree}
+use Rattle.yq_lines.specs.Counts.{count}
 use Rattle.yq_lines.specs.Outline.{flatten}
 use Rattle.yq_lines.specs.Places.{Found, find, lines_before}
 use Rattle.yq_rows.specs.Rows.{Cut, Part, cut_text, part_text}
@@ -9,6 +11,7 @@ use Rattle.yq_documents.specs.Documents.{document_parts}
 use Rattle.yq_walk.specs.Lines.{lines_of}
 use Rattle.yq_documents.specs.Reading.{outline_of, read_at}
 use Rattle.yq_places.specs.NodesAt.{node_in}
+use Rattle.yq_places.specs.RemovalPlaces.{has_others_at}
 use Rattle.yq_change.specs.Changed.{put_document}
 use Rattle.yq_change.specs.DocumentRows.{IsDocumentPart, behind_document}
 use Rattle.yq_change.specs.TextPieces.{IsPiece}
@@ -20,11 +23,11 @@ use Rattle.yq_places.specs.Standings.{PlacedEntry, FlowPart, Held, Standing, pla
 abbrev pub RootsStand : Type 0
 RootsStand = (n : ℕ) (c : Cut) (p : Part) → slice_get (document_parts c) n ≡ Some p → (s : Standing) × (standing_at n [] c ≡ Some s)
 
--- Where a node is below the root, there are the rows of an item or entry, or a part of a flow collection.
+-- Where a node is below the root, there are the rows of an item or entry, or a part of a flow collection, which tells whether it has others beside it.
 abbrev pub EntriesStand : Type 0
 EntriesStand =
     (n : ℕ) (s : Step) (ss : List Step) (c : Cut) (v : Node) → read_at (cut_text c) ≡ Some c → node_in n (s ∷ ss) c ≡ Some v →
-    ((e : PlacedEntry) × (placed_entry n (s ∷ ss) c ≡ Some e)) ⊎ ((x : FlowPart) × (flow_standing n c (last_step (s ∷ ss)) ≡ Some x))
+    ((e : PlacedEntry) × (placed_entry n (s ∷ ss) c ≡ Some e)) ⊎ ((x : FlowPart) × (flow_standing n c (last_step (s ∷ ss)) ≡ Some x) × (has_others_at n (s ∷ ss) c ≡ nat_lt 1 (count (items_tree x.collection.items))))
 
 -- ---- rows in their document
 

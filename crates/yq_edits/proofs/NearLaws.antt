@@ -21,6 +21,8 @@ use Rattle.yq_rows.specs.Rows.{Content, Nothing, Inline, Block, Cut, Row, cut_te
 use Rattle.yq_rows.specs.View.{slices}
 use Rattle.yq_documents.specs.Reading.{documents, read_at}
 use Rattle.yq_flow.specs.FlowEdits.{FlowEdit, appending}
+use Rattle.yq_flow.specs.Removals.{removing}
+use Rattle.yq_flow.proofs.RemoveTexts.{either}
 use Rattle.yq_places.specs.FirstPlaces.{first_removal}
 use Rattle.yq_places.specs.FlowNodes.{flow_collection}
 use Rattle.yq_places.specs.NodesAt.{node_in, scalar_in}
@@ -34,7 +36,7 @@ use Rattle.yq_meaning.specs.Rooms.{room_of}
 use Rattle.yq_script.specs.Script.{Segment, from_first, keep, new_text, put}
 use Rattle.yq_block.specs.declared.layout.Layout.{Layout}
 use Rattle.yq_edits.specs.CommentEdits.{above_rows, comment_put, comment_written, head_comment_put, head_comment_segments, line_comment_put}
-use Rattle.yq_edits.specs.Edits.{emptied, replaced, several_removed, sole_removed}
+use Rattle.yq_edits.specs.Edits.{emptied, part_removed, replaced, rows_or_sole, sole_removed}
 use Rattle.yq_edits.specs.EntryEdits.{more_put, one_removed}
 use Rattle.yq_edits.specs.FlowParts.{flow_more, flow_put, flow_removed, flow_segments, takes_key}
 use Rattle.yq_edits.specs.Layouts.{layout_of}
@@ -149,8 +151,8 @@ flow_near t e = (nothing_line, (nothing_line, tt))
 flow_put_near : (t : List ℕ) (v : Node) (x : FlowPart) → InLines (flow_put t v x)
 flow_put_near t v x = (nothing_line, (nothing_line, tt))
 
-flow_removed_near : (t : List ℕ) (x : FlowPart) → InLines (flow_removed t x)
-flow_removed_near t x = (nothing_line, (nothing_line, tt))
+flow_removed_near : (t : List ℕ) (s : Step) (w : CollPieces) (ss : List Segment) → flow_removed t s w ≡ Some ss → InLines ss
+flow_removed_near t s w ss is = let e = map_some (removing s w) is in subst InLines e.2 (flow_near t e.0)
 
 flow_more_near : (t : List ℕ) (key : Option (List ℕ)) (v : Node) (w : CollPieces) (ss : List Segment) → flow_more t key v w ≡ Some ss → InLines ss
 flow_more_near t key v w ss = go (appending (flow_key key) (flow_of v) w) (takes_key w.close key)
@@ -194,11 +196,6 @@ head_near br text e ss = go (eqb e.line 0)
 
 -- ---- the table
 
--- the first of two that is there
-either : {A : Type 0} {y : A} (a b : Option A) → option_or a b ≡ Some y → (a ≡ Some y) ⊎ (b ≡ Some y)
-either None b is = inr is
-either (Some x) b is = inl is
-
 replaced_near : (n : ℕ) (steps : List Step) (v : Node) (c : Cut) (ss : List Segment) → read_at (cut_text c) ≡ Some c → replaced n steps v c ≡ Some ss → InLines ss
 replaced_near n steps v c ss read is = go (is_kept (node_in n steps c) v) is
   where
@@ -223,9 +220,9 @@ module _ (n : ℕ) (steps : List Step) (c : Cut) (ss : List Segment) (read : rea
       subst IsNear x.2 (inr (rows_near n steps c x.0 read others x.1 fits (subst (λ (s : List Segment). length (new_text s) ≤ text_limit) (sym x.2) size)))
   one_near others (inr e) = let x = map_some (first_removal n steps c) e in subst IsNear x.2 (inl (nothing_line, (nothing_line, (nothing_line, (nothing_line, tt)))))
 
-  several_near : has_others_at n steps c ≡ true → (one_removed n steps c ≡ Some ss) ⊎ (option_map (flow_removed (cut_text c)) (flow_standing n c (last_step steps)) ≡ Some ss) → IsNear ss
-  several_near others (inl e) = one_near others (either _ _ e)
-  several_near others (inr e) = let x = map_some (flow_standing n c (last_step steps)) e in subst IsNear x.2 (inl (flow_removed_near (cut_text c) x.0))
+  part_near : (o : Option (List Step × Step)) → part_removed n c o ≡ Some ss → IsNear ss
+  part_near None e = absurd (none-some _ e)
+  part_near (Some x) e = let w = bind_some (flow_collection n x.0 c) e in inl (flow_removed_near (cut_text c) x.1 w.0 ss w.2)
 
   sole_near : (o : Option (List Step × Step)) → sole_removed n c o ≡ Some ss → IsNear ss
   sole_near None e = absurd (none-some _ e)
@@ -233,13 +230,17 @@ module _ (n : ℕ) (steps : List Step) (c : Cut) (ss : List Segment) (read : rea
       let v = bind_some {f = λ (u : Node). replaced n x.0 u c} (node_in n x.0 c >>= emptied) e in
       inl (replaced_near n x.0 v.0 c ss read v.2)
 
-  removed_near : (b : Bool) → has_others_at n steps c ≡ b → cond b (several_removed n steps c) (sole_removed n c (last_step steps)) ≡ Some ss → IsNear ss
-  removed_near true others is = several_near others (either _ _ is)
-  removed_near false others is = sole_near (last_step steps) is
+  rows_near_or_sole : (b : Bool) → has_others_at n steps c ≡ b → cond b (one_removed n steps c) (sole_removed n c (last_step steps)) ≡ Some ss → IsNear ss
+  rows_near_or_sole true others is = one_near others (either _ _ is)
+  rows_near_or_sole false others is = sole_near (last_step steps) is
+
+  removed_near : (part_removed n c (last_step steps) ≡ Some ss) ⊎ (rows_or_sole n steps c ≡ Some ss) → IsNear ss
+  removed_near (inl e) = part_near (last_step steps) e
+  removed_near (inr e) = rows_near_or_sole (has_others_at n steps c) refl e
 
 pub edits_are_near : EditsAreNear
 edits_are_near (replace n steps v) c ss read is operand fits size = inl (replaced_near n steps v c ss read is)
 edits_are_near (append n steps key v) c ss read is operand fits size = inl (appended_near n steps key v c ss (either _ _ is))
-edits_are_near (remove n steps) c ss read is operand fits size = removed_near n steps c ss read fits size (has_others_at n steps c) refl is
+edits_are_near (remove n steps) c ss read is operand fits size = removed_near n steps c ss read fits size (either _ _ is)
 edits_are_near (line_comment n steps text) c ss read is operand fits size = let e = bind_some (placed_entry n steps c) is in inl (line_near text e.0 ss e.2)
 edits_are_near (head_comment n steps text) c ss read is operand fits size = let e = bind_some (placed_entry n steps c) is in inl (head_near _ text e.0 ss e.2)

@@ -81,9 +81,9 @@ OneIsRemoved =
 -- Remove: one of several parts of a flow collection.
 abbrev pub FlowPartIsRemoved : Type 0
 FlowPartIsRemoved =
-    (n : ℕ) (steps : List Step) (c : Cut) (x : FlowPart) →
-    read_at (cut_text c) ≡ Some c → has_others_at n steps c ≡ true → flow_standing n c (last_step steps) ≡ Some x →
-    IsEdit (remove n steps) c (flow_removed (cut_text c) x)
+    (n : ℕ) (steps init : List Step) (s : Step) (c : Cut) (w : CollPieces) (ss : List Segment) →
+    read_at (cut_text c) ≡ Some c → last_step steps ≡ Some (init, s) → flow_collection n init c ≡ Some w →
+    flow_removed (cut_text c) s w ≡ Some ss → IsEdit (remove n steps) c ss
 
 -- A sole item or entry: what puts an empty collection in the place of its own removes it.
 abbrev pub SoleIsRemoved : Type 0

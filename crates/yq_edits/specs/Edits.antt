@@ -39,13 +39,18 @@ abbrev pub sole_removed : ℕ → Cut → Option (List Step × Step) → Option 
 sole_removed n c None = None
 sole_removed n c (Some x) = node_in n x.0 c >>= emptied >>= λ v. replaced n x.0 v c
 
--- one of several, of a block collection or of a flow collection
-abbrev pub several_removed : ℕ → List Step → Cut → Option (List Segment)
-several_removed n steps c = option_or (one_removed n steps c) (option_map (flow_removed (cut_text c)) (flow_standing n c (last_step steps)))
+-- one of several items or entries of a flow collection
+abbrev pub part_removed : ℕ → Cut → Option (List Step × Step) → Option (List Segment)
+part_removed n c None = None
+part_removed n c (Some x) = flow_collection n x.0 c >>= flow_removed (cut_text c) x.1
 
--- Remove: one of several, or a sole one
+-- outside these: one of several, or a sole one, which is removed so in flow too
+abbrev pub rows_or_sole : ℕ → List Step → Cut → Option (List Segment)
+rows_or_sole n steps c = if has_others_at n steps c then one_removed n steps c else sole_removed n c (last_step steps)
+
+-- Remove: one of several parts of a flow collection, or else by what stands beside it
 abbrev pub removed : ℕ → List Step → Cut → Option (List Segment)
-removed n steps c = if has_others_at n steps c then several_removed n steps c else sole_removed n c (last_step steps)
+removed n steps c = option_or (part_removed n c (last_step steps)) (rows_or_sole n steps c)
 
 -- each operation, by its kind
 abbrev pub edits : Operation → Cut → Option (List Segment)

@@ -1,5 +1,6 @@
 -- Edits in flow collections: what is exchanged, by the part of the collection (YAML 1.2.2, 7.4; own).
-use Rattle.std.specs.Prelude.{ℕ, ◌==◌, List, [], ◌∷◌, ◌++◌, Option, Some, None, is_some, Bool, not, if◌then◌else◌}
+use Rattle.std.specs.Prelude.{ℕ, ◌==◌, List, [], ◌∷◌, ◌++◌, Option, Some, None, is_some, option_map, Bool, not, if◌then◌else◌}
+use Rattle.yq_scalar.specs.Paths.{Step}
 use Rattle.yq_scalar.specs.Tree as tree
 use Rattle.yq_scalar.specs.Written.{written}
 use Rattle.yq_scalar.specs.declared.style.Place.TheVariants.{Flow as InFlow}
@@ -40,6 +41,6 @@ takes_key close key = if close == 125 then is_some key else not (is_some key)
 abbrev pub flow_more : List ℕ → Option (List ℕ) → tree.Node → CollPieces → Option (List Segment)
 flow_more t key v w = if takes_key w.close key then Some (flow_segments t (appending (flow_key key) (flow_of v) w)) else None
 
--- Remove: an item or entry with the comma and the white space that go with it (7.4)
-abbrev pub flow_removed : List ℕ → FlowPart → List Segment
-flow_removed t x = flow_segments t (removing x.step x.collection)
+-- Remove: an item or entry that isn't the sole one, with the comma and the white space that go with it (7.4)
+abbrev pub flow_removed : List ℕ → Step → CollPieces → Option (List Segment)
+flow_removed t s w = option_map (flow_segments t) (removing s w)

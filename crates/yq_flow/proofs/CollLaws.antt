@@ -1,5 +1,5 @@
 -- The collection of a node, exchanged for another one.
-use Rattle.std.proofs.Common.{◌≡◌, inl, inr, ℕ, zero, suc, ◌+◌, Bool, true, false, not, eqb, cond, List, [], ◌∷◌, ◌++◌, Option, Some, None, refl, sym, ap, ◌∙◌, subst, arith, append_assoc}
+use Rattle.std.proofs.Common.{◌≡◌, inl, inr, ℕ, zero, suc, ◌+◌, ◌≤◌, Bool, true, false, not, eqb, cond, List, [], ◌∷◌, ◌++◌, length, Option, Some, None, refl, sym, ap, ◌∙◌, subst, arith, append_assoc}
 use Rattle.std.proofs.lemmas.Bool.{false≢true, cond_both}
 use Rattle.std.proofs.lemmas.Option.{same_Some}
 use Rattle.yq_scalar.specs.Paths.{within}
@@ -28,6 +28,7 @@ pub record Stands (flow : Bool) (spaces : Option ℕ) (d : ℕ) (node : Node) (r
   pub before : List ℕ
   pub text : node_text node rest ≡ before ++ coll_text c.close c.gap c.items c.rest
   pub some : is_bare node ≡ false
+  pub longer : length rest ≤ length c.rest
   pub new : (g : List ℕ) (is : Items) → IsGap g (items_text c.close is c.rest) → AreItems inner_depth c.close is c.rest → IsNode flow spaces d (put g is) rest
   pub new_text : (g : List ℕ) (is : Items) → node_text (put g is) rest ≡ before ++ coll_text c.close g is c.rest
   pub new_some : (g : List ℕ) (is : Items) → is_bare (put g is) ≡ false
@@ -73,6 +74,7 @@ coll_stands flow spaces (suc d) (coll k g is) rest c x h = subst (λ (c : CollPi
   before = [];
   text = refl;
   some = refl;
+  longer = omega arith;
   new = λ g2 is2 gap are. (x.0, gap, are);
   new_text = λ g2 is2. refl;
   new_some = λ g2 is2. refl;
@@ -93,6 +95,7 @@ coll_stands flow spaces (suc d) (anchored n g (coll k q is)) rest c x h = subst 
   before = 38 ∷ (n ++ g);
   text = ap (λ l. 38 ∷ l) (sym (append_assoc n g (coll_text k q is rest)));
   some = refl;
+  longer = omega arith;
   new = λ g2 is2 gap are. (name_open n g k (q ++ items_text k is rest) (g2 ++ items_text k is2 rest) x.0, lead_open flow g k (q ++ items_text k is rest) (g2 ++ items_text k is2 rest) x.2 x.1, x.2, x.3, (x.4.0, gap, are));
   new_text = λ g2 is2. ap (λ l. 38 ∷ l) (sym (append_assoc n g (coll_text k g2 is2 rest)));
   new_some = λ g2 is2. refl;

@@ -10,6 +10,7 @@ use Rattle.yq_inline.specs.Collections.{CollPieces, coll_text, coll_in, coll_alo
 use Rattle.yq_inline.specs.Trees.{tree_of}
 use Rattle.yq_inline.proofs.AlikePieces.{gap_alike}
 use Rattle.yq_inline.proofs.PathLaws.{then_some, items_hold}
+use Rattle.yq_flow.proofs.ItemPlaces.{item_rest}
 use Rattle.yq_flow.proofs.ItemSwaps.{items_change, in_items, Swapped, InItems, items_swap}
 use Rattle.yq_flow.proofs.CollLaws.{coll_stands, Stands}
 
@@ -45,6 +46,7 @@ step_up flow spaces d node rest s ss y c outer at in_ o i = record {
   before = (o.before ++ (open_of outer.close ∷ outer.gap)) ++ (found.before ++ i.before);
   text = o.text ∙ wrap (items_text outer.close outer.items outer.rest) (coll_text c.close c.gap c.items c.rest) (found.was ∙ ap (λ l. found.before ++ l) i.text);
   some = o.some;
+  longer = omega (arith, o.longer, item_rest outer.close s outer.items outer.rest y at, i.longer);
   new = λ g is gap are. subst (λ (n : Node). IsNode flow spaces d n rest) (sym (same g is)) (o.new outer.gap (change_item s (put_at ss g is) outer.items) (gap_alike (Some true) outer.gap _ _ (swapped g is gap are).like o.gap) (swapped g is gap are).are);
   new_text = λ g is. ap (λ (n : Node). node_text n rest) (same g is) ∙ (o.new_text outer.gap (change_item s (put_at ss g is) outer.items) ∙ wrap _ (coll_text c.close g is c.rest) (found.is_now (put_at ss g is) ∙ ap (λ l. found.before ++ l) (i.new_text g is)));
   new_some = λ g is. subst (λ (n : Node). is_bare n ≡ false) (sym (same g is)) (o.new_some outer.gap (change_item s (put_at ss g is) outer.items));

@@ -1,19 +1,18 @@
 -- Edits of a collection inside an inline node: a node replaced, an item or entry appended.
-use Rattle.std.proofs.Common.{◌≡◌, ℕ, ◌-◌, Bool, true, false, not, List, [], ◌∷◌, ◌++◌, length, Some, refl, sym, ap, ◌∙◌, subst, arith, eq-eqb, cond}
-use Rattle.std.proofs.lemmas.Bool.{false≢true}
+use Rattle.std.proofs.Common.{◌≡◌, ℕ, ◌-◌, Bool, true, not, List, [], ◌∷◌, ◌++◌, length, Some, refl, sym, ap, ◌∙◌, subst, arith, eq-eqb}
 use Rattle.yq_scalar.specs.Paths.{Step, change_child, append_child, within, change}
 use Rattle.yq_scalar.specs.Piece.{further_spaces}
 use Rattle.yq_scalar.specs.Writable.{in_flow}
 use Rattle.yq_inline.specs.Gaps.{IsGap}
 use Rattle.yq_inline.specs.Inline.{depth_limit}
-use Rattle.yq_inline.specs.Nodes.{Key, last, Node, Items, none, item, key_text, node_text, items_text, open_of, AreItems}
+use Rattle.yq_inline.specs.Nodes.{Key, Node, Items, none, item, key_text, node_text, items_text, open_of, is_close, AreItems}
 use Rattle.yq_inline.specs.Collections.{coll_text, put_at, room_in, CollAt, item_in, IsCollAt}
-use Rattle.yq_flow.specs.FlowEdits.{Becomes, put_item, put_value, FitsNode, is_none, add_last, behind_last, FitsItem, replacing, appending, appending_first, appending_last, IsEdited, FlowEdit, behind_appended}
+use Rattle.yq_flow.specs.FlowEdits.{Becomes, put_item, put_value, FitsNode, behind_last, FitsItem, replacing, appending, IsEdited, FlowEdit, behind_appended}
 use Rattle.yq_inline.specs.Entries.{EntryPieces}
 use Rattle.yq_inline.specs.Trees.{inner, key_content, tree_of, items_tree}
 use Rattle.yq_flow.proofs.CollLaws.{Stands}
 use Rattle.yq_flow.proofs.ContextLaws.{path_stands}
-use Rattle.yq_flow.proofs.ItemLaws.{put_local, put_tree, put_before, becomes_same, add_local, add_tree, item_begins}
+use Rattle.yq_flow.proofs.ItemLaws.{put_local, put_before, becomes_same, add_local, item_begins}
 use Rattle.yq_flow.proofs.LocalLaws.{no_gap_before}
 use Rattle.yq_inline.proofs.WrittenLaws.{node_then, key_append}
 use Rattle.yq_scalar.specs.Tree as tree
@@ -55,50 +54,36 @@ replaced x s y m h found fits =
     let i = around_is x h in
     let f : FitsNode i.inner_depth m y.rest = subst (λ (e : ℕ). FitsNode e m y.rest) (room_is x i) fits in
     let l = put_local i.inner_depth c.close s m c.items c.rest y i.closes i.items found f in
-    edited x (replacing s y m x.coll) (change_child s (put_value (tree_of m))) i (l.front c.gap i.gap) l.are (put_tree i.inner_depth c.close s m c.items c.rest y i.closes i.items found f)
+    edited x (replacing s y m x.coll) (change_child s (put_value (tree_of m))) i (l.front c.gap i.gap) l.are l.tree
     (behind_gap c.close c.gap c.items (put_item s m c.items) c.rest _ _ y.rest l.text)
 
--- one more behind the last item or entry
-appended_last : (x : CollAt) (key : Key) (m : Node) → IsCollAt x → is_none x.coll.items ≡ false → FitsItem (room_in x) x.coll.close key m (behind_last x.coll.close x.coll.items x.coll.rest) →
-    IsEdited x (appending_last key m x.coll) (change x.steps (within (append_child (inner (key_content key)) (tree_of m))))
-appended_last x key m h some fits =
-    let c = x.coll in
-    let i = around_is x h in
-    let t : List ℕ = behind_last c.close c.items c.rest in
-    let f : FitsItem i.inner_depth c.close key m t = subst (λ (e : ℕ). FitsItem e c.close key m t) (room_is x i) fits in
-    let l = add_local i.inner_depth c.close key m c.items c.rest i.closes some i.items f in
-    edited x (appending_last key m c) (append_child (inner (key_content key)) (tree_of m)) i (l.front c.gap i.gap) l.are (add_tree key m c.items some) (behind_gap c.close c.gap c.items (add_last key m c.items) c.rest _ _ _ l.text)
+-- What is known of a collection with one more item or entry.
+record Added (d k : ℕ) (key : Key) (m : Node) (gap : List ℕ) (is : Items) (rest : List ℕ) (e : FlowEdit) : Type 0 where
+  front : IsGap e.gap (items_text k e.items rest)
+  are : AreItems d k e.items rest
+  tree : items_tree e.items ≡ append_child (inner (key_content key)) (tree_of m) (items_tree is)
+  text : Becomes (gap ++ items_text k is rest) (e.gap ++ items_text k e.items rest) e.old (e.lead ++ e.written) e.behind
 
-pub none_is : (is : Items) → is_none is ≡ true → is ≡ none
-none_is none h = refl
-none_is (item key n sep is) h = absurd (false≢true h)
-
--- the first item or entry
-appended_first : (x : CollAt) (key : Key) (m : Node) → IsCollAt x → is_none x.coll.items ≡ true → FitsItem (room_in x) x.coll.close key m (x.coll.gap ++ (x.coll.close ∷ x.coll.rest)) →
-    IsEdited x (appending_first key m x.coll) (change x.steps (within (append_child (inner (key_content key)) (tree_of m))))
+added : (d k : ℕ) (key : Key) (m : Node) (gap : List ℕ) (is : Items) (rest : List ℕ) → is_close k ≡ true → IsGap gap (items_text k is rest) → AreItems d k is rest → FitsItem d k key m (behind_last k gap is rest) →
+    Added d k key m gap is rest (appending key m (record { close = k; gap = gap; items = is; rest = rest }))
 unfolding items_text AreItems items_tree
-appended_first x key m h empty_ fits =
-    let c = x.coll in
-    let i = around_is x h in
-    let t : List ℕ = c.gap ++ (c.close ∷ c.rest) in
-    let f : FitsItem i.inner_depth c.close key m t = subst (λ (e : ℕ). FitsItem e c.close key m t) (room_is x i) fits in
-    let nothing = none_is c.items empty_ in
-    let gap : IsGap c.gap (c.close ∷ c.rest) = subst (λ (is : Items). IsGap c.gap (items_text c.close is c.rest)) nothing i.gap in
-    let by = item_begins i.inner_depth c.close key m t f.key_is f.some f.is in
-    edited x (appending_first key m c) (append_child (inner (key_content key)) (tree_of m)) i
-    (no_gap_before (key_text key (node_text m t)) by)
-    (f.key_is, f.some, f.is, (gap, eq-eqb c.close c.close refl), tt)
-    (subst (λ (is : Items). tree.child (inner (key_content key)) (tree_of m) tree.none ≡ append_child (inner (key_content key)) (tree_of m) (items_tree is)) (sym nothing) refl)
-    (opened c.close c.gap [] c.items (item key m (last c.gap) none) c.rest [] (key_text key (node_text m [])) t (record {
-      before = [];
-      was = subst (λ (is : Items). c.gap ++ items_text c.close is c.rest ≡ t) (sym nothing) refl;
-      is = ap (key_text key) (node_then m t) ∙ key_append key (node_text m []) t;
-    }))
+added d k key m gap none rest c front a f =
+    let t : List ℕ = gap ++ (k ∷ rest) in
+    record {
+      front = no_gap_before (key_text key (node_text m t)) (item_begins d k key m t f.key_is f.some f.is);
+      are = (f.key_is, f.some, f.is, (front, eq-eqb k k refl), tt);
+      tree = refl;
+      text = record { before = []; was = refl; is = ap (key_text key) (node_then m t) ∙ key_append key (node_text m []) t };
+    }
+added d k key m gap (item j n sep is) rest c front a f =
+    let l = add_local d k key m gap (item j n sep is) rest c refl a f in
+    record { front = l.front gap front; are = l.are; tree = l.tree; text = put_before gap _ _ [] (44 ∷ (32 ∷ key_text key (node_text m []))) (behind_last k gap (item j n sep is) rest) l.text }
 
 -- an item or entry more
 pub appended : (x : CollAt) (key : Key) (m : Node) → IsCollAt x → FitsItem (room_in x) x.coll.close key m (behind_appended x.coll) → IsEdited x (appending key m x.coll) (change x.steps (within (append_child (inner (key_content key)) (tree_of m))))
-appended x key m h fits = go (is_none x.coll.items) refl fits where
-  go : (b : Bool) → is_none x.coll.items ≡ b → FitsItem (room_in x) x.coll.close key m (cond b (x.coll.gap ++ (x.coll.close ∷ x.coll.rest)) (behind_last x.coll.close x.coll.items x.coll.rest)) →
-      IsEdited x (cond b (appending_first key m x.coll) (appending_last key m x.coll)) (change x.steps (within (append_child (inner (key_content key)) (tree_of m))))
-  go true e f = appended_first x key m h e f
-  go false e f = appended_last x key m h e f
+appended x key m h fits =
+    let c = x.coll in
+    let i = around_is x h in
+    let e = appending key m c in
+    let l = added i.inner_depth c.close key m c.gap c.items c.rest i.closes i.gap i.items (subst (λ (d : ℕ). FitsItem d c.close key m (behind_appended c)) (room_is x i) fits) in
+    edited x e (append_child (inner (key_content key)) (tree_of m)) i l.front l.are l.tree (opened c.close c.gap e.gap c.items e.items c.rest [] (e.lead ++ e.written) e.behind l.text)

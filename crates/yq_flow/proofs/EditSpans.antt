@@ -1,19 +1,24 @@
 -- The bytes of an edit of a flow collection go from one whole character to another.
-use Rattle.std.proofs.Common.{◌≡◌, ℕ, zero, suc, ◌<◌, Bool, true, false, cond, eqb-true, List, [], ◌∷◌, length, drop, Option, Some, None, refl, subst, arith}
-use Rattle.std.proofs.lemmas.Bool.{false≢true}
+use Rattle.std.proofs.Common.{◌≡◌, ◌⊎◌, inl, inr, ⊎_elim, ℕ, zero, suc, ◌-◌, ◌<◌, Bool, true, false, ◌&&◌, ◌||◌, eqb, cond, eqb-true, eq-eqb, List, [], ◌∷◌, ◌++◌, length, drop, Option, Some, None, option_map, refl, ap, ◌∙◌, subst, arith}
+use Rattle.std.proofs.lemmas.Bool.{false≢true, and_parts, or_cases}
 use Rattle.std.proofs.lemmas.Option.{none-some, same_Some}
 use Rattle.std.proofs.lemmas.Str.{IsCharBoundary-before_ascii}
+use Rattle.std.specs.Option.{option_or}
 use Rattle.std.specs.Prelude.{get_or}
 use Rattle.std.specs.Str.{IsCharBoundary}
 use Rattle.yq_scalar.specs.Paths.{Step, is_here, further}
+use Rattle.yq_scalar.specs.Text.{front, is_feed, is_space}
 use Rattle.yq_scalar.specs.declared.piece.Piece.{Piece}
-use Rattle.yq_flow.specs.declared.among.Among.{Among}
-use Rattle.yq_inline.specs.Entries.{end_of, entry_start}
-use Rattle.yq_flow.specs.FlowPlaces.{PlacedEdit, replace_place, first_start, among, marks_before, past_gap, remove_end, remove_from, remove_among, remove_part, remove_place}
-use Rattle.yq_inline.specs.Nodes.{first_is}
-use Rattle.yq_inline.specs.Places.{Placed, placed, nothing, name, text, sequence, mapping, Parts, end, part}
-use Rattle.yq_inline.specs.Spans.{HasKeySpan, HasSpans, PartsHaveSpans}
+use Rattle.yq_inline.specs.Alike.{EndsItem}
+use Rattle.yq_inline.specs.Entries.{end_of, entry_start, parts_in}
+use Rattle.yq_flow.specs.FlowPlaces.{PlacedEdit, first_start, marks_before, only_end, past_gap, remove_before, remove_end, remove_part, remove_place, replace_place}
+use Rattle.yq_inline.specs.Nodes.{first_is, is_close}
+use Rattle.yq_inline.specs.Places.{Placed, placed, Content, nothing, name, text, sequence, mapping, Parts, end, part}
+use Rattle.yq_inline.specs.Spans.{ContentHasSpans, HasKeySpan, HasSpans, PartsHaveSpans}
 use Rattle.yq_inline.specs.Trees.{inner, unplaced_key}
+use Rattle.yq_inline.proofs.EndLaws.{ends_by}
+use Rattle.yq_flow.proofs.RemovePlaces.{drop_end}
+use Rattle.yq_flow.proofs.RemoveTexts.{either}
 
 -- an edit begins and ends at whole characters
 abbrev pub EditIsSpan : List ℕ → PlacedEdit → Type 0
@@ -37,35 +42,25 @@ ascii_boundary t n k low h = let x = there t n h in IsCharBoundary-before_ascii 
     there (b ∷ t) zero h = (omega arith, eqb-true b k h)
     there (b ∷ t) (suc n) h = let x = there t n h in (omega (arith, x.0), x.1)
 
+-- where an item or entry ends
+space_low : (b : ℕ) (r : List ℕ) → is_space (b ∷ r) ≡ true → b < 128
+space_low b r h = ⊎_elim {0, 0, 0}
+    (λ w. ⊎_elim {0, 0, 0} (λ e. omega (arith, eqb-true b 32 e)) (λ e. omega (arith, eqb-true b 9 e)) (or_cases (eqb b 32) (eqb b 9) w))
+    (λ w. ⊎_elim {0, 0, 0} (λ e. omega (arith, eqb-true b 10 e)) (λ e. omega (arith, eqb-true b 13 (and_parts (eqb b 13) (front is_feed r) e).0)) (or_cases (eqb b 10) (eqb b 13 && front is_feed r) w))
+    (or_cases (eqb b 32 || eqb b 9) (eqb b 10 || (eqb b 13 && front is_feed r)) h)
+
+pub ends_bound : (k : ℕ) (t a u : List ℕ) → is_close k ≡ true → EndsItem k u → t ≡ a ++ u → IsCharBoundary t (length t - length u)
+ends_bound k t a u c ends is =
+    let x = ends_by (λ (l : List ℕ). (b : ℕ) × (r : List ℕ) × (l ≡ b ∷ r) × (b < 128)) k u c ends (λ r. (44, r, refl, omega arith)) (λ r. (93, r, refl, omega arith)) (λ r. (125, r, refl, omega arith)) (λ b r s. (b, r, refl, space_low b r s)) in
+    ascii_boundary t (length t - length u) x.0 x.3 (ap (first_is x.0) (drop_end t a u is ∙ x.2) ∙ eq-eqb x.0 x.0 refl)
+
 -- one that is taken out
-abbrev MayBound : List ℕ → Option ℕ → Type 0
-MayBound t None = Unit {0}
-MayBound t (Some n) = IsCharBoundary t n
-
-record AmongSpans (t : List ℕ) (a : Among) : Type 0 where
-  before : MayBound t a.before
-  start : IsCharBoundary t a.start
-  ends : IsCharBoundary t a.end
-  next : MayBound t a.next
-
 entry_begins : (t : List ℕ) (key : Option (List ℕ × Piece)) (n : Placed) → HasKeySpan t key → HasSpans t n → IsCharBoundary t (entry_start (key, n))
 entry_begins t None (placed a s c e f) k h = h.0.begins
 entry_begins t (Some key) n k h = k.begins
 
 node_ends : (t : List ℕ) (n : Placed) → HasSpans t n → IsCharBoundary t (end_of n)
 node_ends t (placed a s c e f) h = h.1.ends
-
-first_bound : (t : List ℕ) (ps : Parts) → PartsHaveSpans t ps → MayBound t (first_start ps)
-first_bound t end h = tt
-first_bound t (part key n ps) h = entry_begins t key n h.0 h.1
-
-among_spans : (t : List ℕ) (before : Option ℕ) (s : Step) (ps : Parts) (a : Among) → PartsHaveSpans t ps → MayBound t before → among before s ps ≡ Some a → AmongSpans t a
-among_spans t before s end a h b e = absurd (none-some _ e)
-among_spans t before s (part key n ps) a h b e = go (is_here s (inner (unplaced_key key))) (λ again. among_spans t (Some (end_of n)) (further s) ps a h.2 (node_ends t n h.1) again) e
-  where
-    go : (c : Bool) → (among (Some (end_of n)) (further s) ps ≡ Some a → AmongSpans t a) → cond c (Some (record { before = before; start = entry_start (key, n); end = end_of n; next = first_start ps })) (among (Some (end_of n)) (further s) ps) ≡ Some a → AmongSpans t a
-    go true again e = subst (AmongSpans t) (same_Some _ _ e) (record { before = b; start = entry_begins t key n h.0 h.1; ends = node_ends t n h.1; next = first_bound t ps h.2 })
-    go false again e = again e
 
 end_spans : (t : List ℕ) (from before e : ℕ) → IsCharBoundary t before → IsCharBoundary t e → EditIsSpan t (remove_end t from before e)
 end_spans t from before e b x = marked (marks_before t from before)
@@ -79,25 +74,38 @@ end_spans t from before e b x = marked (marks_before t from before)
     marked true = comma (first_is 44 (drop (past_gap t e) t)) refl
     marked false = (b, x)
 
-from_spans : (t : List ℕ) (sole : PlacedEdit) (from : ℕ) (a : Among) → EditIsSpan t sole → AmongSpans t a → EditIsSpan t (remove_from t sole from a.start a.end a.before a.next)
-from_spans t sole from a w h = go a.before h.before a.next h.next
-  where
-    go : (b : Option ℕ) → MayBound t b → (n : Option ℕ) → MayBound t n → EditIsSpan t (remove_from t sole from a.start a.end b n)
-    go b x (Some n) y = (h.start, y)
-    go None x None y = w
-    go (Some b) x None y = end_spans t from b a.end x h.ends
+before_spans : (t : List ℕ) (start : ℕ) (ps : Parts) (e : PlacedEdit) → IsCharBoundary t start → PartsHaveSpans t ps → option_map (remove_before t start) (first_start ps) ≡ Some e → EditIsSpan t e
+before_spans t start end e b h is = absurd (none-some _ is)
+before_spans t start (part key n ps) e b h is = subst (EditIsSpan t) (same_Some _ _ is) (b, entry_begins t key n h.0 h.1)
 
-part_spans : (t : List ℕ) (sole : PlacedEdit) (s : Step) (ps : Parts) (e : PlacedEdit) → EditIsSpan t sole → PartsHaveSpans t ps → remove_part t sole s ps ≡ Some e → EditIsSpan t e
-part_spans t sole s ps e w h is = go (among None s ps) refl (first_start ps) is
+only_spans : (t : List ℕ) (from before : ℕ) (s : Step) (ps : Parts) (e : PlacedEdit) → IsCharBoundary t before → PartsHaveSpans t ps → option_map (remove_end t from before) (only_end s ps) ≡ Some e → EditIsSpan t e
+only_spans t from before s end e b h is = absurd (none-some _ is)
+only_spans t from before s (part key n (part j m ps)) e b h is = absurd (none-some _ is)
+only_spans t from before s (part key n end) e b h is = go (is_here s (inner (unplaced_key key))) is
   where
-    go : (o : Option Among) → among None s ps ≡ o → (f : Option ℕ) → remove_among t sole o f ≡ Some e → EditIsSpan t e
-    go None at f is = absurd (none-some _ is)
-    go (Some a) at None is = absurd (none-some _ is)
-    go (Some a) at (Some from) is = subst (EditIsSpan t) (same_Some _ _ is) (from_spans t sole from a w (among_spans t None s ps a h tt at))
+    go : (c : Bool) → option_map (remove_end t from before) (cond c (Some (end_of n)) None) ≡ Some e → EditIsSpan t e
+    go true is = subst (EditIsSpan t) (same_Some _ _ is) (end_spans t from before (end_of n) b (node_ends t n h.1))
+    go false is = absurd (none-some _ is)
+
+part_spans : (t : List ℕ) (s : Step) (ps : Parts) (e : PlacedEdit) → PartsHaveSpans t ps → remove_part t s ps ≡ Some e → EditIsSpan t e
+part_spans t s end e h is = absurd (none-some _ is)
+part_spans t s (part key n ps) e h is = go (is_here s (inner (unplaced_key key))) (λ again. part_spans t (further s) ps e h.2 again) is
+  where
+    other : (remove_part t (further s) ps ≡ Some e → EditIsSpan t e) → (option_map (remove_end t (entry_start (key, n)) (end_of n)) (only_end (further s) ps) ≡ Some e) ⊎ (remove_part t (further s) ps ≡ Some e) → EditIsSpan t e
+    other again (inl is) = only_spans t (entry_start (key, n)) (end_of n) (further s) ps e (node_ends t n h.1) h.2 is
+    other again (inr is) = again is
+
+    go : (c : Bool) → (remove_part t (further s) ps ≡ Some e → EditIsSpan t e) →
+        cond c (option_map (remove_before t (entry_start (key, n))) (first_start ps)) (option_or (option_map (remove_end t (entry_start (key, n)) (end_of n)) (only_end (further s) ps)) (remove_part t (further s) ps)) ≡ Some e → EditIsSpan t e
+    go true again is = before_spans t (entry_start (key, n)) ps e (entry_begins t key n h.0 h.1) h.2 is
+    go false again is = other again (either _ _ is)
+
+content_spans : (t : List ℕ) (f : Content) → ContentHasSpans t f → PartsHaveSpans t (parts_in f)
+content_spans t nothing h = tt
+content_spans t (name n) h = tt
+content_spans t (text y piece) h = tt
+content_spans t (sequence parts) h = h
+content_spans t (mapping parts) h = h
 
 pub remove_spans : (t : List ℕ) (s : Step) (p : Placed) (e : PlacedEdit) → HasSpans t p → remove_place t s p ≡ Some e → EditIsSpan t e
-remove_spans t s (placed a b c x nothing) e h is = absurd (none-some _ is)
-remove_spans t s (placed a b c x (name n)) e h is = absurd (none-some _ is)
-remove_spans t s (placed a b c x (text y piece)) e h is = absurd (none-some _ is)
-remove_spans t s (placed a b c x (sequence parts)) e h is = part_spans t (record { start = c; end = x; lead = 91 ∷ (93 ∷ []) }) s parts e (h.0.ends, h.1.ends) h.2 is
-remove_spans t s (placed a b c x (mapping parts)) e h is = part_spans t (record { start = c; end = x; lead = 123 ∷ (125 ∷ []) }) s parts e (h.0.ends, h.1.ends) h.2 is
+remove_spans t s (placed a b c x f) e h is = part_spans t s (parts_in f) e (content_spans t f h.2) is

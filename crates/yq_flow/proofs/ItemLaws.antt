@@ -1,21 +1,24 @@
 -- An item replaced, and one added behind the last.
-use Rattle.std.proofs.Common.{◌≡◌, ⊎_elim, ℕ, Bool, true, false, not, ◌&&◌, ◌||◌, eqb, cond, List, [], ◌∷◌, ◌++◌, Some, None, refl, sym, ap, ◌∙◌, subst, arith, append_assoc, eqb-true}
+use Rattle.std.proofs.Common.{◌≡◌, ℕ, Bool, true, false, not, ◌&&◌, ◌||◌, eqb, cond, List, [], ◌∷◌, ◌++◌, Some, None, refl, sym, ap, ◌∙◌, subst, arith, append_assoc}
 use Rattle.std.proofs.Math.Bool.{and-false}
-use Rattle.std.proofs.lemmas.Bool.{false≢true, or_right, not-true, or_cases, or_parts}
+use Rattle.std.proofs.lemmas.Bool.{false≢true, or_right, not-true, or_parts}
 use Rattle.std.proofs.lemmas.Option.{same_Some}
 use Rattle.yq_scalar.specs.Paths.{Step, is_here, further, change_child, append_child}
+use Rattle.yq_scalar.specs.PlainText.{begins_marker}
 use Rattle.yq_scalar.specs.Text.{front, is_white, is_feed, is_return, is_space, is_marker, separates}
+use Rattle.yq_scalar.proofs.Bools.{at_byte}
 use Rattle.yq_inline.specs.Alike.{Alike, stop, EndsItem, fresh, KeepsApart}
 use Rattle.yq_inline.specs.Gaps.{IsGap}
 use Rattle.yq_inline.specs.Nodes.{Key, bare, keyed, Sep, last, comma, Node, Items, none, item, key_text, sep_text, node_text, items_text, first_is, begins_content, begins_node, is_close, IsKey, IsSep, is_bare, is_keyed, IsNode, AreItems}
 use Rattle.yq_inline.specs.Entries.{EntryPieces, item_at}
-use Rattle.yq_flow.specs.FlowEdits.{Becomes, content_node, space_for, put_content, put_item, put_value, FitsNode, is_none, add_last, behind_last, FitsItem}
+use Rattle.yq_flow.specs.FlowEdits.{Becomes, content_node, space_for, put_content, put_item, put_value, FitsNode, add_item, is_none, behind_last, FitsItem}
 use Rattle.yq_flow.specs.Removals.{is_marks, ends_marked, ends_return, IsApartFrom}
 use Rattle.yq_inline.specs.Scalars.{begins_scalar}
 use Rattle.yq_inline.specs.Trees.{inner, key_content, tree_of, items_tree}
-use Rattle.yq_inline.proofs.Alikes.{no_second, no_third, alike_append}
+use Rattle.yq_inline.proofs.Alikes.{no_first, no_second, no_third, alike_append}
 use Rattle.yq_inline.proofs.AlikePieces.{gap_alike}
 use Rattle.yq_flow.proofs.ItemSwaps.{item_cut}
+use Rattle.yq_inline.proofs.EndLaws.{ends_by}
 use Rattle.yq_inline.proofs.GapLaws.{none_gap}
 use Rattle.yq_inline.proofs.KeepLaws.{NotEmpty, some_text, gap_some, keeps_append, keeps_alike, some_begins}
 use Rattle.yq_inline.proofs.KeyKeeps.{key_keeps}
@@ -26,9 +29,10 @@ use Rattle.yq_inline.proofs.PieceLaws.{scalar_begins, scalar_some}
 use Rattle.yq_inline.proofs.WrittenLaws.{node_then, key_append}
 use Rattle.yq_scalar.specs.Tree as tree
 
--- Items of a collection give way to others: these stand before the same rest, a gap before the ones may stand before the others, and bytes of their
--- text give way to others.
-pub record Local (d k : ℕ) (is new : Items) (rest old fresh_ behind : List ℕ) : Type 0 where
+-- Items of a collection give way to others, with this tree: these stand before the same rest, a gap before the ones may stand before the others, and
+-- bytes of their text give way to others.
+pub record Local (d k : ℕ) (is new : Items) (cs : tree.Children) (rest old fresh_ behind : List ℕ) : Type 0 where
+  pub tree : items_tree new ≡ cs
   pub are : AreItems d k new rest
   pub front : Front (items_text k is rest) (items_text k new rest)
   pub text : Becomes (items_text k is rest) (items_text k new rest) old fresh_ behind
@@ -73,13 +77,13 @@ becomes_same t u x y old new behind a b h = record { before = h.before; was = a 
 pub comma_like : (b g h t u : List ℕ) → Alike (Some true) (b ++ (44 ∷ (g ++ t))) (b ++ (44 ∷ (h ++ u)))
 comma_like b g h t u = alike_append (Some true) b (44 ∷ (g ++ t)) (44 ∷ (h ++ u)) (stop refl)
 
-pub cons_local : (d k : ℕ) (key : Key) (n : Node) (sep : Sep) (is new : Items) (rest old fresh_ behind : List ℕ) → is_close k ≡ true → is_none is ≡ false → AreItems d k (item key n sep is) rest → Local d k is new rest old fresh_ behind →
-    Local d k (item key n sep is) (item key n sep new) rest old fresh_ behind
-unfolding items_text AreItems
-cons_local d k key n sep none new rest old fresh_ behind c some a l = absurd (false≢true (sym some))
-cons_local d k key n (last b) (item key2 n2 sep2 is) new rest old fresh_ behind c some a l =
+pub cons_local : (d k : ℕ) (key : Key) (n : Node) (sep : Sep) (is new : Items) (cs : tree.Children) (rest old fresh_ behind : List ℕ) → is_close k ≡ true → is_none is ≡ false → AreItems d k (item key n sep is) rest →
+    Local d k is new cs rest old fresh_ behind → Local d k (item key n sep is) (item key n sep new) (tree.child (inner (key_content key)) (tree_of n) cs) rest old fresh_ behind
+unfolding items_text AreItems items_tree
+cons_local d k key n sep none new cs rest old fresh_ behind c some a l = absurd (false≢true (sym some))
+cons_local d k key n (last b) (item key2 n2 sep2 is) new cs rest old fresh_ behind c some a l =
     absurd (false≢true (sym (item_front true (Some 0) d k key2 n2 (sep_text sep2 (items_text k is rest)) c a.4.1 a.4.0 a.4.2) ∙ a.3.1))
-cons_local d k key n (comma b g) (item key2 n2 sep2 is) new rest old fresh_ behind c some a l =
+cons_local d k key n (comma b g) (item key2 n2 sep2 is) new cs rest old fresh_ behind c some a l =
     let t : List ℕ = items_text k (item key2 n2 sep2 is) rest in
     let u : List ℕ = items_text k new rest in
     let like = comma_like b g g t u in
@@ -88,6 +92,7 @@ cons_local d k key n (comma b g) (item key2 n2 sep2 is) new rest old fresh_ behi
     let h = sep_ends k (comma b g) u sep_is in
     let stands = item_keeps d k false key n (b ++ (44 ∷ (g ++ t))) (b ++ (44 ∷ (g ++ u))) c e h (keeps_alike (Some true) false (key_text key (node_text n [])) _ _ like) a.0 a.2 in
     record {
+      tree = ap (tree.child (inner (key_content key)) (tree_of n)) l.tree;
       are = (stands.key_is, a.1, stands.node_is, sep_is, l.are);
       front = λ q x. gap_alike (Some true) q _ _ (key_text_alike key _ _ (node_text_alike (Some true) n (b ++ (44 ∷ (g ++ t))) (b ++ (44 ∷ (g ++ u))) like)) x;
       text = becomes_same _ _ _ _ old fresh_ behind (item_cut key n (comma b g) t) (item_cut key n (comma b g) u) (put_before (key_text key (node_text n (sep_text (comma b g) []))) t u old fresh_ behind l.text);
@@ -99,8 +104,8 @@ some_items k s (item key n sep is) rest y h = refl
 
 -- the node of an item replaced
 pub put_local : (d k : ℕ) (s : Step) (m : Node) (is : Items) (rest : List ℕ) (y : EntryPieces) → is_close k ≡ true → AreItems d k is rest → item_at k s is rest ≡ Some y → FitsNode d m y.rest →
-    Local d k is (put_item s m is) rest (node_text (content_node y.node) []) (space_for (content_node y.node) ++ node_text m []) y.rest
-unfolding items_text AreItems
+    Local d k is (put_item s m is) (change_child s (put_value (tree_of m)) (items_tree is)) rest (node_text (content_node y.node) []) (space_for (content_node y.node) ++ node_text m []) y.rest
+unfolding items_text AreItems items_tree
 put_local d k s m none rest y c a h f = cc
 put_local d k s m (item key n sep is) rest y c a h f = go (is_here s (inner (key_content key))) (put_local d k (further s) m is rest y c a.4) h where
   tail : List ℕ
@@ -109,38 +114,55 @@ put_local d k s m (item key n sep is) rest y c a h f = go (is_here s (inner (key
   here : EntryPieces
   here = record { key = key; node = n; rest = sep_text sep tail }
 
-  Result : Items → EntryPieces → Type 0
-  Result new z = Local d k (item key n sep is) new rest (node_text (content_node z.node) []) (space_for (content_node z.node) ++ node_text m []) z.rest
+  others : tree.Children
+  others = change_child (further s) (put_value (tree_of m)) (items_tree is)
 
-  go : (b : Bool) → (item_at k (further s) is rest ≡ Some y → FitsNode d m y.rest → Local d k is (put_item (further s) m is) rest (node_text (content_node y.node) []) (space_for (content_node y.node) ++ node_text m []) y.rest) →
-      cond b (Some here) (item_at k (further s) is rest) ≡ Some y → Result (cond b (item (put_content m key n).0 (put_content m key n).1 sep is) (item key n sep (put_item (further s) m is))) y
+  Result : Items → tree.Children → EntryPieces → Type 0
+  Result new cs z = Local d k (item key n sep is) new cs rest (node_text (content_node z.node) []) (space_for (content_node z.node) ++ node_text m []) z.rest
+
+  go : (b : Bool) → (item_at k (further s) is rest ≡ Some y → FitsNode d m y.rest → Local d k is (put_item (further s) m is) others rest (node_text (content_node y.node) []) (space_for (content_node y.node) ++ node_text m []) y.rest) →
+      cond b (Some here) (item_at k (further s) is rest) ≡ Some y →
+      Result (cond b (item (put_content m key n).0 (put_content m key n).1 sep is) (item key n sep (put_item (further s) m is)))
+      (cond b (tree.child (inner (key_content key)) (put_value (tree_of m) (tree_of n)) (items_tree is)) (tree.child (inner (key_content key)) (tree_of n) others)) y
   go true again e =
       let fits : FitsNode d m (sep_text sep tail) = subst (λ (z : EntryPieces). FitsNode d m z.rest) (sym (same_Some _ _ e)) f in
       let x = filled d k m key n (sep_text sep tail) c (sep_ends k sep tail a.3) fits a.0 a.1 a.2 in
-      subst (Result (item (put_content m key n).0 (put_content m key n).1 sep is)) (same_Some _ _ e) (record { are = (x.key_is, x.some, x.node_is, a.3, a.4); front = x.front; text = x.text })
-  go false again e = cons_local d k key n sep is (put_item (further s) m is) rest _ _ _ c (some_items k (further s) is rest y e) a (again e f)
-
-pub put_tree : (d k : ℕ) (s : Step) (m : Node) (is : Items) (rest : List ℕ) (y : EntryPieces) → is_close k ≡ true → AreItems d k is rest → item_at k s is rest ≡ Some y → FitsNode d m y.rest →
-    items_tree (put_item s m is) ≡ change_child s (put_value (tree_of m)) (items_tree is)
-unfolding items_text AreItems items_tree
-put_tree d k s m none rest y c a h f = cc
-put_tree d k s m (item key n sep is) rest y c a h f = go (is_here s (inner (key_content key))) (put_tree d k (further s) m is rest y c a.4) h where
-  tail : List ℕ
-  tail = items_text k is rest
-
-  go : (b : Bool) → (item_at k (further s) is rest ≡ Some y → FitsNode d m y.rest → items_tree (put_item (further s) m is) ≡ change_child (further s) (put_value (tree_of m)) (items_tree is)) →
-      cond b (Some (record { key = key; node = n; rest = sep_text sep tail })) (item_at k (further s) is rest) ≡ Some y →
-      items_tree (cond b (item (put_content m key n).0 (put_content m key n).1 sep is) (item key n sep (put_item (further s) m is))) ≡ cond b (tree.child (inner (key_content key)) (put_value (tree_of m) (tree_of n)) (items_tree is)) (tree.child (inner (key_content key)) (tree_of n) (change_child (further s) (put_value (tree_of m)) (items_tree is)))
-  go true again e =
-      let fits : FitsNode d m (sep_text sep tail) = subst (λ (z : EntryPieces). FitsNode d m z.rest) (sym (same_Some _ _ e)) f in
-      let x = filled d k m key n (sep_text sep tail) c (sep_ends k sep tail a.3) fits a.0 a.1 a.2 in
-      λ i. tree.child (inner (x.label i)) (x.tree i) (items_tree is)
-  go false again e = ap (tree.child (inner (key_content key)) (tree_of n)) (again e f)
+      subst (Result (item (put_content m key n).0 (put_content m key n).1 sep is) (tree.child (inner (key_content key)) (put_value (tree_of m) (tree_of n)) (items_tree is))) (same_Some _ _ e)
+      (record { tree = λ i. tree.child (inner (x.label i)) (x.tree i) (items_tree is); are = (x.key_is, x.some, x.node_is, a.3, a.4); front = x.front; text = x.text })
+  go false again e = cons_local d k key n sep is (put_item (further s) m is) others rest _ _ _ c (some_items k (further s) is rest y e) a (again e f)
 
 -- a text whose first byte is no `-` and no `.`
 pub record Unmarked (u : List ℕ) : Type 0 where
   pub dash : first_is 45 u ≡ false
   pub dot : first_is 46 u ≡ false
+
+-- a bracket or comma is neither a dash nor a dot
+pub ends_mark : (k : ℕ) (t : List ℕ) → is_close k ≡ true → EndsItem k t → Unmarked t
+ends_mark k t c e = ends_by Unmarked k t c e (λ r. record { dash = refl; dot = refl }) (λ r. record { dash = refl; dot = refl }) (λ r. record { dash = refl; dot = refl })
+    (λ b r s. record { dash = at_byte (λ x. is_space (x ∷ r)) b 45 s refl; dot = at_byte (λ x. is_space (x ∷ r)) b 46 s refl })
+
+-- no document marker is in front
+pub marker_append : (t rest : List ℕ) → begins_marker t ≡ false → Unmarked rest → is_marker (t ++ rest) ≡ false
+marker_append [] [] h m = refl
+marker_append [] (b ∷ rest) h m = no_first b rest m.dash m.dot
+marker_append (a ∷ []) [] h m = refl
+marker_append (a ∷ []) (b ∷ rest) h m = no_second a b rest m.dash m.dot
+marker_append (a ∷ b ∷ []) [] h m = refl
+marker_append (a ∷ b ∷ []) (c ∷ rest) h m = no_third a b c rest m.dash m.dot
+marker_append (a ∷ b ∷ c ∷ t) rest h m = rw h refl
+
+-- whether a marker is in front is told by a text before what begins with neither
+pub marks_own : (t rest : List ℕ) → Unmarked rest → begins_marker (t ++ rest) ≡ begins_marker t
+marks_own [] [] m = refl
+marks_own [] (a ∷ []) m = refl
+marks_own [] (a ∷ b ∷ []) m = refl
+marks_own [] (a ∷ b ∷ c ∷ rest) m = rw (m.dash, m.dot) refl
+marks_own (a ∷ []) [] m = refl
+marks_own (a ∷ []) (b ∷ []) m = refl
+marks_own (a ∷ []) (b ∷ c ∷ rest) m = rw (m.dash, m.dot, and-false (eqb a 45), and-false (eqb a 46)) refl
+marks_own (a ∷ b ∷ []) [] m = refl
+marks_own (a ∷ b ∷ []) (c ∷ rest) m = rw (m.dash, m.dot, and-false (eqb a 45 && eqb b 45), and-false (eqb a 46 && eqb b 46)) refl
+marks_own (a ∷ b ∷ c ∷ t) rest m = refl
 
 byte_on : (b : ℕ) (t u : List ℕ) → (is_return b && front is_feed u) ≡ false → is_space (b ∷ t) ≡ false → is_space (b ∷ u) ≡ false
 byte_on b t u r h = let x = or_parts (is_white b) (is_feed b || (is_return b && front is_feed t)) h in let y = or_parts (is_feed b) (is_return b && front is_feed t) x.1 in rw (x.0, y.0, r) refl
@@ -185,12 +207,6 @@ keeps_from line (b ∷ p) t u m a = (
 pub comma_apart : (line : Bool) (p u : List ℕ) → IsApartFrom line p (44 ∷ u)
 comma_apart line p u = record { unmarked = and-false (ends_marked line p); unbroken = and-false (ends_return p) }
 
-close_no_space : (k : ℕ) (r : List ℕ) → is_close k ≡ true → is_space (k ∷ r) ≡ false
-close_no_space k r c = ⊎_elim {0, 0, 0} (λ e. subst (λ (b : ℕ). is_space (b ∷ r) ≡ false) (sym (eqb-true k 93 e)) refl) (λ e. subst (λ (b : ℕ). is_space (b ∷ r) ≡ false) (sym (eqb-true k 125 e)) refl) (or_cases (eqb k 93) (eqb k 125) c)
-
-pub close_gap : (k : ℕ) (r : List ℕ) → is_close k ≡ true → IsGap [] (k ∷ r)
-close_gap k r c = none_gap (k ∷ r) (rw (close_no_space k r c) refl)
-
 -- the text of an item isn't empty
 pub item_some : (d k : ℕ) (key : Key) (n : Node) (t : List ℕ) → IsKey k key (node_text n t) → (is_keyed key || not (is_bare n)) ≡ true → IsNode true (Some 0) d n t → NotEmpty (key_text key (node_text n []))
 item_some d k bare n t h s x = some_text d n t (not-true (is_bare n) s) x
@@ -205,11 +221,11 @@ gap_before d k key n t u q h s x keeps gap =
     subst (IsGap q) (sym (cut u)) (gap_some q (key_text key (node_text n [])) t u (item_some d k key n t h s x) keeps (subst (IsGap q) (cut t) gap))
 
 -- one more behind the last
-pub add_local : (d k : ℕ) (key : Key) (m : Node) (is : Items) (rest : List ℕ) → is_close k ≡ true → is_none is ≡ false → AreItems d k is rest → FitsItem d k key m (behind_last k is rest) →
-    Local d k is (add_last key m is) rest [] (44 ∷ (32 ∷ key_text key (node_text m []))) (behind_last k is rest)
-unfolding items_text AreItems
-add_local d k key m none rest c some a f = absurd (false≢true (sym some))
-add_local d k key m (item j n sep none) rest c some a f =
+pub add_local : (d k : ℕ) (key : Key) (m : Node) (gap : List ℕ) (is : Items) (rest : List ℕ) → is_close k ≡ true → is_none is ≡ false → AreItems d k is rest → FitsItem d k key m (behind_last k gap is rest) →
+    Local d k is (add_item key m gap is) (append_child (inner (key_content key)) (tree_of m) (items_tree is)) rest [] (44 ∷ (32 ∷ key_text key (node_text m []))) (behind_last k gap is rest)
+unfolding items_text AreItems items_tree
+add_local d k key m gap none rest c some a f = absurd (false≢true (sym some))
+add_local d k key m gap (item j n sep none) rest c some a f =
     let t : List ℕ = sep_text sep (k ∷ rest) in
     let x : List ℕ = key_text key (node_text m t) in
     let u : List ℕ = 44 ∷ (32 ∷ x) in
@@ -220,6 +236,7 @@ add_local d k key m (item j n sep none) rest c some a f =
     let keeps : (f : Bool) → KeepsApart f (key_text j (node_text n [])) t u = λ f. keeps_from f (key_text j (node_text n [])) t u (record { dash = refl; dot = refl }) (comma_apart f (key_text j (node_text n [])) (32 ∷ x)) in
     let stands = item_keeps d k false j n t u c e h (keeps false) a.0 a.2 in
     record {
+      tree = refl;
       are = (stands.key_is, a.1, stands.node_is, sep_is, (f.key_is, f.some, f.is, a.3, tt));
       front = λ q y. gap_before d k j n t u q a.0 a.1 a.2 (keeps (fresh false q)) y;
       text = record {
@@ -228,11 +245,5 @@ add_local d k key m (item j n sep none) rest c some a f =
         is = ap (key_text j) (node_then n u) ∙ (key_append j (node_text n []) u ∙ ap (λ l. key_text j (node_text n []) ++ (44 ∷ (32 ∷ l))) (ap (key_text key) (node_then m t) ∙ key_append key (node_text m []) t));
       };
     }
-add_local d k key m (item j n sep (item j2 n2 sep2 is)) rest c some a f =
-    cons_local d k j n sep (item j2 n2 sep2 is) (add_last key m (item j2 n2 sep2 is)) rest [] _ _ c refl a (add_local d k key m (item j2 n2 sep2 is) rest c refl a.4 f)
-
-pub add_tree : (key : Key) (m : Node) (is : Items) → is_none is ≡ false → items_tree (add_last key m is) ≡ append_child (inner (key_content key)) (tree_of m) (items_tree is)
-unfolding items_tree
-add_tree key m none some = absurd (false≢true (sym some))
-add_tree key m (item j n sep none) some = refl
-add_tree key m (item j n sep (item j2 n2 sep2 is)) some = ap (tree.child (inner (key_content j)) (tree_of n)) (add_tree key m (item j2 n2 sep2 is) refl)
+add_local d k key m gap (item j n sep (item j2 n2 sep2 is)) rest c some a f =
+    cons_local d k j n sep (item j2 n2 sep2 is) (add_item key m gap (item j2 n2 sep2 is)) _ rest [] _ _ c refl a (add_local d k key m gap (item j2 n2 sep2 is) rest c refl a.4 f)

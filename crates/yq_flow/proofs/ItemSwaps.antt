@@ -11,7 +11,7 @@ use Rattle.yq_inline.proofs.AlikePieces.{gap_alike}
 use Rattle.yq_inline.proofs.KeepLaws.{keeps_alike, some_begins}
 use Rattle.yq_inline.proofs.KeyKeeps.{lead_gap, key_front, key_keeps}
 use Rattle.yq_inline.proofs.NodeKeeps.{node_keeps, sep_ends, sep_alike, sep_text_alike, key_text_alike, node_text_alike}
-use Rattle.yq_inline.proofs.WrittenLaws.{key_append, sep_append, node_append}
+use Rattle.yq_inline.proofs.WrittenLaws.{key_append, sep_append, node_append, node_then}
 use Rattle.yq_scalar.specs.Tree as tree
 
 -- an item before others that begin alike
@@ -71,6 +71,9 @@ items_swap d k s f (item key n sep is) rest y c a h w = go (is_here s (inner (ke
       let like = sep_text_alike sep tail new more.like in
       let kept = item_kept d k key n sep tail new c like (sep_alike k sep tail new more.like a.3) a.0 a.2 a.3 in
       record { are = (kept.key_is, a.1, kept.node_is, kept.sep_is, more.are); like = key_text_alike key (node_text n (sep_text sep tail)) (node_text n (sep_text sep new)) (node_text_alike (Some true) n (sep_text sep tail) (sep_text sep new) like) }
+
+pub text_cut : (key : Key) (n : Node) (t : List ℕ) → key_text key (node_text n t) ≡ key_text key (node_text n []) ++ t
+text_cut key n t = ap (key_text key) (node_then n t) ∙ key_append key (node_text n []) t
 
 pub item_cut : (key : Key) (n : Node) (sep : Sep) (t : List ℕ) → key_text key (node_text n (sep_text sep t)) ≡ key_text key (node_text n (sep_text sep [])) ++ t
 item_cut key n sep t = ap (λ l. key_text key (node_text n l)) (sep_append sep [] t) ∙ (ap (key_text key) (node_append n (sep_text sep []) t) ∙ key_append key (node_text n (sep_text sep [])) t)

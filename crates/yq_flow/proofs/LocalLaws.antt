@@ -1,5 +1,5 @@
 -- Items of one collection, edited.
-use Rattle.std.proofs.Common.{◌≡◌, inl, ℕ, true, false, not, ◌&&◌, ◌||◌, eqb, cond, List, [], ◌∷◌, ◌++◌, Option, Some, None, refl, sym, ap, ◌∙◌, subst, append_assoc}
+use Rattle.std.proofs.Common.{◌≡◌, inl, ℕ, true, false, not, ◌&&◌, ◌||◌, eqb, cond, List, [], ◌∷◌, ◌++◌, Option, Some, None, refl, sym, ap, ◌∙◌, subst, append_assoc, Bool}
 use Rattle.std.proofs.Math.Bool.{and-false, or-true}
 use Rattle.std.proofs.lemmas.Bool.{false≢true, or_from}
 use Rattle.yq_scalar.specs.Plain.{is_safe}
@@ -9,7 +9,7 @@ use Rattle.yq_inline.specs.declared.gap.Before.{Before}
 use Rattle.yq_inline.specs.declared.gap.Before.TheVariants.{Token, White, Break, Comment}
 use Rattle.yq_inline.specs.Alike.{Alike, colon, any_colon, EndsItem}
 use Rattle.yq_inline.specs.Gaps.{behind, is_break as at_break, stops, IsGap}
-use Rattle.yq_inline.specs.Nodes.{Key, bare, keyed, Node, empty, alias, scalar, coll, anchored, key_text, node_text, first_is, begins_content, begins_node, is_close, IsName, IsKey, is_bare, is_keyed, IsNode}
+use Rattle.yq_inline.specs.Nodes.{Key, bare, keyed, Node, empty, alias, scalar, coll, anchored, key_text, node_text, first_is, begins_content, begins_node, is_close, IsName, IsKey, is_bare, is_keyed, IsNode, takes_anchor}
 use Rattle.yq_flow.specs.FlowEdits.{Becomes, content_node, space_for, put_content, anchor_in, put_value, FitsNode}
 use Rattle.yq_inline.specs.Trees.{collection, with_name, named, key_content, tree_of, items_tree}
 use Rattle.yq_inline.proofs.Alikes.{no_first, alike_append}
@@ -68,15 +68,15 @@ refit k (keyed p b g) x y bx by m h =
     let gap = gap_new g x y bx by (unmarked_gap g y m) (lead_gap (begins_node true) g x bx bx h.4) in
     (key_front k p b g x y bx by gap h, λ q a. gap_alike None q _ _ (alike_append None p _ _ (alike_append None b (58 ∷ (g ++ x)) (58 ∷ (g ++ y)) any_colon)) a)
 
--- What is put in an item's place.
-pub record Filled (d k : ℕ) (m : Node) (key : Key) (n : Node) (rest : List ℕ) : Type 0 where
-  pub key_is : IsKey k (put_content m key n).0 (node_text (put_content m key n).1 rest)
-  pub some : (is_keyed (put_content m key n).0 || not (is_bare (put_content m key n).1)) ≡ true
-  pub node_is : IsNode true (Some 0) d (put_content m key n).1 rest
-  pub front : Front (key_text key (node_text n rest)) (key_text (put_content m key n).0 (node_text (put_content m key n).1 rest))
-  pub text : Becomes (key_text key (node_text n rest)) (key_text (put_content m key n).0 (node_text (put_content m key n).1 rest)) (node_text (content_node n) []) (space_for (content_node n) ++ node_text m []) rest
-  pub tree : tree_of (put_content m key n).1 ≡ put_value (tree_of m) (tree_of n)
-  pub label : key_content (put_content m key n).0 ≡ key_content key
+-- What is put in an item's place: another key and node.
+pub record Filled (d k : ℕ) (m : Node) (key : Key) (n : Node) (rest : List ℕ) (key2 : Key) (n2 : Node) : Type 0 where
+  pub key_is : IsKey k key2 (node_text n2 rest)
+  pub some : (is_keyed key2 || not (is_bare n2)) ≡ true
+  pub node_is : IsNode true (Some 0) d n2 rest
+  pub front : Front (key_text key (node_text n rest)) (key_text key2 (node_text n2 rest))
+  pub text : Becomes (key_text key (node_text n rest)) (key_text key2 (node_text n2 rest)) (node_text (content_node n) []) (space_for (content_node n) ++ node_text m []) rest
+  pub tree : tree_of n2 ≡ put_value (tree_of m) (tree_of n)
+  pub label : key_content key2 ≡ key_content key
 
 swap_text : (key : Key) (n m : Node) (rest : List ℕ) → Becomes (key_text key (node_text n rest)) (key_text key (node_text m rest)) (node_text n []) (node_text m []) rest
 swap_text key n m rest = record {
@@ -106,13 +106,38 @@ coll_no_anchor k cs = elim (eqb k 125) as (λ c. anchor_in (cond c (tree.map Non
 filled_by : (d k : ℕ) (m : Node) (key : Key) (n : Node) (rest : List ℕ) → is_bare n ≡ false → FitsNode d m rest → IsKey k key (node_text n rest) → IsNode true (Some 0) d n rest → IsKey k key (node_text m rest) × Front (key_text key (node_text n rest)) (key_text key (node_text m rest))
 filled_by d k m key n rest some f h x = refit k key (node_text n rest) (node_text m rest) (some_begins true (Some 0) d n rest some x) (some_begins true (Some 0) d m rest f.some f.is) f.unmarked h
 
+-- in the place of a node that is something, behind an anchor
+anchored_filled : (d k : ℕ) (m : Node) (key : Key) (n g : List ℕ) (node : Node) (rest : List ℕ) → is_bare node ≡ false → takes_anchor node ≡ true → tree_of (anchored n g m) ≡ put_value (tree_of m) (tree_of (anchored n g node)) → FitsNode d m rest →
+    IsKey k key (node_text (anchored n g node) rest) → IsNode true (Some 0) d (anchored n g node) rest → Filled d k m key (anchored n g node) rest key (anchored n g m)
+unfolding node_text IsNode
+anchored_filled d k m key n g node rest some takes tree f h x =
+    let old : List ℕ = node_text node rest in
+    let new : List ℕ = node_text m rest in
+    let y = refit k key (38 ∷ (n ++ (g ++ old))) (38 ∷ (n ++ (g ++ new))) refl refl (no_first 38 (n ++ (g ++ new)) refl refl) h in
+    let apart : not (is_empty g) ≡ true = subst (λ (b : Bool). (b || not (is_empty g)) ≡ true) some x.2 in
+    let begins = some_begins true (Some 0) d node rest some x.4 in
+    let gap = gap_new g old new begins (some_begins true (Some 0) d m rest f.some f.is) (unmarked_gap g new f.unmarked) (lead_gap (begins_content true) g old (taken_begins true (Some 0) d node rest some takes x.4) begins x.1) in
+    record {
+      key_is = y.0;
+      some = or-true (is_keyed key);
+      node_is = (name_again n g old new apart x.0, inl (gap, taken_begins true (Some 0) d m rest f.some f.takes f.is), rw f.some apart, f.takes, f.is);
+      front = y.1;
+      text = rw some (record {
+        before = key_text key [] ++ (38 ∷ (n ++ g));
+        was = ap (λ l. key_text key (38 ∷ (n ++ (g ++ l)))) (node_then node rest) ∙ anchor_text key n g [] (node_text node [] ++ rest);
+        is = ap (λ l. key_text key (38 ∷ (n ++ (g ++ l)))) (node_then m rest) ∙ anchor_text key n g [] (node_text m [] ++ rest);
+      });
+      tree = tree;
+      label = refl;
+    }
+
 -- in the place of nothing behind a `:`
 spaced : (k : ℕ) (p b x y : List ℕ) → is_close k ≡ true → begins_node true x ≡ false → begins_node true y ≡ true → is_safe true x ≡ false → IsKey k (keyed p b []) x → IsKey k (keyed p b (32 ∷ [])) y
 spaced k p b x y c bx by unsafe h =
     let like : Alike (Some true) (58 ∷ x) (58 ∷ (32 ∷ y)) = colon unsafe refl in
     (h.0, scalar_alike true None p (b ++ (58 ∷ x)) (b ++ (58 ∷ (32 ∷ y))) (alike_append (Some true) b (58 ∷ x) (58 ∷ (32 ∷ y)) like) h.1, gap_alike (Some true) b (58 ∷ x) (58 ∷ (32 ∷ y)) like h.2, or-true (is_quoted p), inl (space_before y by, by))
 
-pub filled : (d k : ℕ) (m : Node) (key : Key) (n : Node) (rest : List ℕ) → is_close k ≡ true → EndsItem k rest → FitsNode d m rest → IsKey k key (node_text n rest) → (is_keyed key || not (is_bare n)) ≡ true → IsNode true (Some 0) d n rest → Filled d k m key n rest
+pub filled : (d k : ℕ) (m : Node) (key : Key) (n : Node) (rest : List ℕ) → is_close k ≡ true → EndsItem k rest → FitsNode d m rest → IsKey k key (node_text n rest) → (is_keyed key || not (is_bare n)) ≡ true → IsNode true (Some 0) d n rest → Filled d k m key n rest (put_content m key n).0 (put_content m key n).1
 unfolding node_text IsNode tree_of
 filled d k m bare empty rest c e f h s x = absurd (false≢true s)
 filled d k m (keyed p b g) empty rest c e f h s x =
@@ -159,40 +184,6 @@ filled d k m key (anchored n g empty) rest c e f h s x =
     }
 filled d k m key (anchored n g (alias a)) rest c e f h s x = absurd (false≢true x.3)
 filled d k m key (anchored n g (anchored a q node)) rest c e f h s x = absurd (false≢true x.3)
-filled d k m key (anchored n g (scalar p)) rest c e f h s x =
-    let new : List ℕ = node_text m rest in
-    let bx : begins_content true (p ++ rest) ≡ true = taken_begins true (Some 0) d (scalar p) rest refl refl x.4 in
-    let y = refit k key (38 ∷ (n ++ (g ++ (p ++ rest)))) (38 ∷ (n ++ (g ++ new))) refl refl (no_first 38 (n ++ (g ++ new)) refl refl) h in
-    let gap = gap_new g (p ++ rest) new (some_begins true (Some 0) d (scalar p) rest refl x.4) (some_begins true (Some 0) d m rest f.some f.is) (unmarked_gap g new f.unmarked) (lead_gap (begins_content true) g (p ++ rest) bx (some_begins true (Some 0) d (scalar p) rest refl x.4) x.1) in
-    record {
-      key_is = y.0;
-      some = or-true (is_keyed key);
-      node_is = (name_again n g (p ++ rest) new x.2 x.0, inl (gap, taken_begins true (Some 0) d m rest f.some f.takes f.is), rw f.some x.2, f.takes, f.is);
-      front = y.1;
-      text = record {
-        before = key_text key [] ++ (38 ∷ (n ++ g));
-        was = ap (λ l. key_text key (38 ∷ (n ++ (g ++ l)))) (node_then (scalar p) rest) ∙ anchor_text key n g [] (node_text (scalar p) [] ++ rest);
-        is = ap (λ l. key_text key (38 ∷ (n ++ (g ++ l)))) (node_then m rest) ∙ anchor_text key n g [] (node_text m [] ++ rest);
-      };
-      tree = refl;
-      label = refl;
-    }
+filled d k m key (anchored n g (scalar p)) rest c e f h s x = anchored_filled d k m key n g (scalar p) rest refl refl refl f h x
 filled d k m key (anchored n g (coll j q is)) rest c e f h s x =
-    let new : List ℕ = node_text m rest in
-    let old : List ℕ = node_text (coll j q is) rest in
-    let bx : begins_content true old ≡ true = taken_begins true (Some 0) d (coll j q is) rest refl refl x.4 in
-    let y = refit k key (38 ∷ (n ++ (g ++ old))) (38 ∷ (n ++ (g ++ new))) refl refl (no_first 38 (n ++ (g ++ new)) refl refl) h in
-    let gap = gap_new g old new (some_begins true (Some 0) d (coll j q is) rest refl x.4) (some_begins true (Some 0) d m rest f.some f.is) (unmarked_gap g new f.unmarked) (lead_gap (begins_content true) g old bx (some_begins true (Some 0) d (coll j q is) rest refl x.4) x.1) in
-    record {
-      key_is = y.0;
-      some = or-true (is_keyed key);
-      node_is = (name_again n g old new x.2 x.0, inl (gap, taken_begins true (Some 0) d m rest f.some f.takes f.is), rw f.some x.2, f.takes, f.is);
-      front = y.1;
-      text = record {
-        before = key_text key [] ++ (38 ∷ (n ++ g));
-        was = ap (λ l. key_text key (38 ∷ (n ++ (g ++ l)))) (node_then (coll j q is) rest) ∙ anchor_text key n g [] (node_text (coll j q is) [] ++ rest);
-        is = ap (λ l. key_text key (38 ∷ (n ++ (g ++ l)))) (node_then m rest) ∙ anchor_text key n g [] (node_text m [] ++ rest);
-      };
-      tree = ap (λ (a : Option (List ℕ)). named a (tree_of m)) (sym (coll_anchor j n (items_tree is)));
-      label = refl;
-    }
+    anchored_filled d k m key n g (coll j q is) rest refl refl (ap (λ (a : Option (List ℕ)). named a (tree_of m)) (sym (coll_anchor j n (items_tree is)))) f h x

@@ -41,11 +41,11 @@ unfolding content_edit
 replace_placed flow spaces d total s y m c h = content_edited flow spaces d total y.node y.rest h
 
 -- one more item or entry
-last_placed : (total k : ℕ) (is : Items) (rest : List ℕ) → is_none is ≡ false → last_end (locate_items total k is rest) ≡ Some (total - length (behind_last k is rest))
+last_placed : (total k : ℕ) (gap : List ℕ) (is : Items) (rest : List ℕ) → is_none is ≡ false → last_end (locate_items total k is rest) ≡ Some (total - length (behind_last k gap is rest))
 unfolding locate_items items_text
-last_placed total k none rest some = absurd (false≢true (sym some))
-last_placed total k (item key n sep none) rest some = ap Some (end_placed total n (sep_text sep (k ∷ rest)))
-last_placed total k (item key n sep (item key2 n2 sep2 is)) rest some = last_placed total k (item key2 n2 sep2 is) rest refl
+last_placed total k gap none rest some = absurd (false≢true (sym some))
+last_placed total k gap (item key n sep none) rest some = ap Some (end_placed total n (sep_text sep (k ∷ rest)))
+last_placed total k gap (item key n sep (item key2 n2 sep2 is)) rest some = last_placed total k gap (item key2 n2 sep2 is) rest refl
 
 holder_append : (k c e : ℕ) (parts : Parts) → append_in c e (holder k parts) ≡ Some (append_at (min (c + 1) e) (last_end parts))
 holder_append k c e parts = elim (eqb k 125) as (λ b. append_in c e (cond b (mapping parts) (sequence parts)) ≡ Some (append_at (min (c + 1) e) (last_end parts))) [ true ↦ refl | false ↦ refl ]
@@ -81,4 +81,4 @@ append_placed total (coll k g none) rest c key m h at =
 append_placed total (coll k g (item key2 n2 sep2 is)) rest c key m h at =
     let inner_ : ℕ = min ((total - length (node_text (coll k g (item key2 n2 sep2 is)) rest)) + 1) (total - length rest) in
     subst (λ (x : CollPieces). append_place (locate total (coll k g (item key2 n2 sep2 is)) rest) ≡ Some (place_edit total (appending key m x))) (same_Some _ _ at)
-    (holder_append k _ _ _ ∙ ap (λ (o : Option ℕ). Some (append_at inner_ o)) (last_placed total k (item key2 n2 sep2 is) rest refl))
+    (holder_append k _ _ _ ∙ ap (λ (o : Option ℕ). Some (append_at inner_ o)) (last_placed total k g (item key2 n2 sep2 is) rest refl))

@@ -1,195 +1,251 @@
 -- What the code tells of an item or entry that is taken out is where the bytes of the edit stand.
-use Rattle.std.proofs.Common.{◌≡◌, ⊎_elim, ℕ, suc, zero, ◌+◌, ◌-◌, Bool, true, false, not, eqb, cond, List, [], ◌∷◌, ◌++◌, length, Option, Some, None, refl, sym, ap, ◌∙◌, subst, arith, append_assoc, length-append, eqb-true}
-use Rattle.std.proofs.lemmas.Bool.{false≢true, or_cases, not-true}
+use Rattle.std.proofs.Common.{◌≡◌, ⊎_elim, ℕ, suc, ◌+◌, ◌-◌, Bool, true, false, ◌&&◌, eqb, cond, List, [], ◌∷◌, ◌++◌, length, drop, Option, Some, None, option_map, refl, sym, ap, ◌∙◌, arith, append_assoc, length-append, eqb-true}
+use Rattle.std.proofs.Math.Seq.{drop-append_seam}
+use Rattle.std.proofs.lemmas.Bool.{false≢true, or_cases}
 use Rattle.std.proofs.lemmas.Option.{same_Some}
+use Rattle.std.specs.Option.{option_or}
 use Rattle.yq_scalar.specs.Paths.{Step, is_here, further}
+use Rattle.yq_scalar.specs.PlainText.{begins_marker}
 use Rattle.yq_scalar.specs.Text.{is_feed}
 use Rattle.yq_inline.specs.Alike.{fresh}
-use Rattle.yq_inline.specs.Collections.{CollPieces, coll_text, coll_in}
-use Rattle.yq_inline.specs.Entries.{EntryPieces, item_at, pieces_text}
-use Rattle.yq_flow.specs.FlowEdits.{is_none}
-use Rattle.yq_flow.specs.FlowPlaces.{first_start, PlacedEdit, place_edit, marks_before, remove_end, remove_from, remove_among, remove_part, remove_in, remove_place, behind_feed}
-use Rattle.yq_inline.specs.Nodes.{Node, empty, alias, scalar, coll, anchored, Items, none, item, sep_text, node_text, items_text, open_of, is_close, IsNode, AreItems}
-use Rattle.yq_inline.specs.Places.{Placed, placed, Parts, holder, with_anchor, locate, locate_items}
-use Rattle.yq_flow.specs.Removals.{has_next, items_behind, is_several, last_sep, last_text, until_last, ends_marked, comma_old, comma_new, comma_on, removing, removing_sole, removing_before, removing_last, removing_to_comma, removing_end}
+use Rattle.yq_inline.specs.Collections.{CollPieces, coll_in}
+use Rattle.yq_inline.specs.Entries.{entry_start, parts_in, parts_of}
+use Rattle.yq_inline.specs.Gaps.{IsGap}
+use Rattle.yq_inline.specs.declared.gap.Before.TheVariants.{Token}
+use Rattle.yq_inline.specs.Nodes.{Key, Sep, last, comma, Node, empty, alias, scalar, coll, anchored, Items, none, item, key_text, sep_text, node_text, items_text, first_is, open_of, is_close, IsNode, IsSep, AreItems}
+use Rattle.yq_inline.specs.Places.{Parts, Placed, placed, key_placed, holder, locate, locate_items, mapping, sequence, with_anchor}
+use Rattle.yq_inline.specs.Reading.{gap_len}
 use Rattle.yq_inline.specs.Trees.{inner, key_content}
-use Rattle.yq_flow.proofs.EditPaths.{dropped_text, last_rest}
-use Rattle.yq_flow.proofs.LastLaws.{last_is, comma_was}
+use Rattle.yq_inline.proofs.EditPlaces.{end_placed, entry_placed}
+use Rattle.yq_inline.proofs.GapLaws.{gap_append}
+use Rattle.yq_inline.proofs.NodeAgain.{item_front}
+use Rattle.yq_inline.proofs.NodeKeeps.{sep_ends}
+use Rattle.yq_inline.proofs.TreeLaws.{key_tree}
+use Rattle.yq_flow.specs.FlowEdits.{FlowEdit}
+use Rattle.yq_flow.specs.FlowPlaces.{PlacedEdit, behind_feed, first_start, marks_before, only_end, past_gap, place_edit, remove_before, remove_end, remove_part, remove_place, space_at}
+use Rattle.yq_flow.specs.Removals.{before_next, behind_item, comma_left, ends_marked, gap_of, last_gone, last_out, last_removed, removing, removing_from, space_to}
+use Rattle.yq_flow.proofs.CollLaws.{coll_stands}
+use Rattle.yq_flow.proofs.ItemLaws.{Unmarked, ends_mark, marks_own}
+use Rattle.yq_flow.proofs.ItemSwaps.{item_cut, text_cut}
 use Rattle.yq_flow.proofs.Marks.{line_behind, marks_are}
-use Rattle.yq_flow.proofs.PlacedAmong.{prior, begin_of, first_placed, among_placed, prior_last, until_text}
-use Rattle.yq_flow.proofs.PlacedRemovals.{space_placed, comma_part, comma_placed}
-use Rattle.yq_flow.proofs.RemoveLaws.{several_some}
-use Rattle.yq_inline.proofs.WrittenLaws.{items_append}
-use Rattle.yq_flow.proofs.ItemLaws.{some_items}
+use Rattle.yq_flow.proofs.RemoveTexts.{comma_new_bytes, comma_old_bytes, gone_bytes}
 
-open_feed : (k : ℕ) → is_feed (open_of k) ≡ false
-open_feed k = elim (eqb k 125) as (λ c. is_feed (cond c 123 91) ≡ false) [ true ↦ refl | false ↦ refl ]
+-- ---- up to the next one
 
--- from the end of the one before
-end_removed : (d k : ℕ) (g : List ℕ) (is : Items) (rest t w : List ℕ) → is_close k ≡ true → AreItems d k is rest → t ≡ w ++ (open_of k ∷ (g ++ items_text k is rest)) → is_several is ≡ true →
-    remove_end t (length t - length (items_text k is rest)) (length t - length (last_text is ++ sep_text (last_sep is) (k ∷ rest))) (length t - length (sep_text (last_sep is) (k ∷ rest)))
-    ≡ place_edit (length t) (removing_end (record { close = k; gap = g; items = is; rest = rest }))
+-- what a text ends in
+pub drop_end : (t v x : List ℕ) → t ≡ v ++ x → drop (length t - length x) t ≡ x
+drop_end t v x h =
+    let at : length t - length x ≡ length v = omega (arith, ap length h, length-append v x) in
+    ap (λ n. drop n t) at ∙ (ap (drop (length v)) h ∙ drop-append_seam v x)
+
+-- the space
+spaced_here : (t w : List ℕ) (b : ℕ) (g front own u : List ℕ) → is_feed b ≡ false → Unmarked u → t ≡ w ++ (b ∷ (g ++ (front ++ (own ++ u)))) → space_at t (length t - length (front ++ (own ++ u))) (length t - length (own ++ u)) ≡ space_to g own
+spaced_here t w b g front own u feed m is =
+    let tail : List ℕ = own ++ u in
+    let x : List ℕ = front ++ tail in
+    let at : length t - length x ≡ suc (length w + length g) = omega (arith, ap length is, length-append w (b ∷ (g ++ x)), length-append g x) in
+    let line : behind_feed t (length t - length x) ≡ fresh false g = ap (λ l. behind_feed l (length t - length x)) is ∙ (line_behind g w b x (length t - length x) at ∙ ap (λ f. fresh f g) feed) in
+    let whole : t ≡ (w ++ (b ∷ (g ++ front))) ++ tail = is ∙ (ap (λ l. w ++ (b ∷ l)) (sym (append_assoc g front tail)) ∙ sym (append_assoc w (b ∷ (g ++ front)) tail)) in
+    let next : begins_marker (drop (length t - length tail) t) ≡ begins_marker own = ap begins_marker (drop_end t (w ++ (b ∷ (g ++ front))) tail whole) ∙ marks_own own u m in
+    λ i. cond (line i && next i) (32 ∷ []) []
+
+next_placed : (d k : ℕ) (g : List ℕ) (key : Key) (n : Node) (sep : Sep) (is : Items) (rest t w : List ℕ) (b : ℕ) → is_close k ≡ true → AreItems d k is rest → is_feed b ≡ false → t ≡ w ++ (b ∷ (g ++ items_text k (item key n sep is) rest)) →
+    option_map (remove_before t (length t - length (items_text k (item key n sep is) rest))) (first_start (locate_items (length t) k is rest)) ≡ option_map (place_edit (length t)) (before_next k rest g key n sep is)
+unfolding items_text locate_items AreItems
+next_placed d k g key n sep none rest t w b c a feed text = refl
+next_placed d k g key n sep (item key2 n2 sep2 is) rest t w b c a feed text =
+    let u : List ℕ = sep_text sep2 (items_text k is rest) in
+    let y : List ℕ = key_text key2 (node_text n2 u) in
+    let own : List ℕ = key_text key2 (node_text n2 []) in
+    let front : List ℕ = key_text key (node_text n (sep_text sep [])) in
+    let cut : key_text key (node_text n (sep_text sep y)) ≡ front ++ y = item_cut key n sep y in
+    let own_cut : y ≡ own ++ u = text_cut key2 n2 u in
+    let start : entry_start (key_placed (length t) y key2, locate (length t) n2 u) ≡ length t - length y = entry_placed (length t) (record { key = key2; node = n2; rest = u }) in
+    let space : space_at t (length t - length (front ++ y)) (length t - length y) ≡ space_to g own =
+    (λ i. space_at t (length t - length (front ++ own_cut i)) (length t - length (own_cut i)))
+    ∙ spaced_here t w b g front own u feed (ends_mark k u c (sep_ends k sep2 (items_text k is rest) a.3)) (text ∙ ap (λ l. w ++ (b ∷ (g ++ l))) (cut ∙ ap (λ l. front ++ l) own_cut)) in
+    (λ i. Some (remove_before t (length t - length (cut i)) (start i))) ∙ ap (λ l. Some (record { start = length t - length (front ++ y); end = length t - length y; lead = l })) space
+
+-- ---- the last one
+
+-- the comma behind it
+comma_part : List ℕ → ℕ → ℕ → PlacedEdit
+comma_part t from e = cond (first_is 44 (drop (past_gap t e) t)) (record { start = from; end = past_gap t e; lead = [] }) (record { start = from; end = e; lead = 44 ∷ [] })
+
+past_placed : (t v q x : List ℕ) → IsGap q x → t ≡ v ++ (q ++ x) → (past_gap t (length t - length (q ++ x)) ≡ length t - length x) × (drop (length t - length x) t ≡ x)
+past_placed t v q x gap is =
+    let there = drop_end t v (q ++ x) is in
+    let len : gap_len Token (drop (length t - length (q ++ x)) t) ≡ length q = ap (gap_len Token) there ∙ (gap_append Token q x gap.inside gap.ends).0 in
+    let whole : t ≡ (v ++ q) ++ x = is ∙ sym (append_assoc v q x) in
+    (omega (arith, len, ap length is, length-append v (q ++ x), length-append q x), drop_end t (v ++ q) x whole)
+
+comma_placed : (k : ℕ) (rest g : List ℕ) (key : Key) (n : Node) (sep : Sep) (key2 : Key) (n2 : Node) (sep2 : Sep) (t v : List ℕ) → is_close k ≡ true → IsSep k sep2 (k ∷ rest) → t ≡ v ++ sep_text sep2 (k ∷ rest) →
+    comma_part t (length t - length (sep_text sep (key_text key2 (node_text n2 (sep_text sep2 (k ∷ rest)))))) (length t - length (sep_text sep2 (k ∷ rest))) ≡ place_edit (length t) (comma_left k rest g key n sep key2 n2 sep2)
 unfolding comma_part
-end_removed d k g is rest t w c a text some = ap (λ v. cond v (comma_part t at end_) (record { start = at; end = end_; lead = [] })) marks ∙ go (ends_marked (fresh false g) u) where
-  u : List ℕ
-  u = until_last is
+comma_placed k rest g key n sep key2 n2 (last q) t v c h is =
+    let from : List ℕ = sep_text sep (key_text key2 (node_text n2 (q ++ (k ∷ rest)))) in
+    let p = past_placed t v q (k ∷ rest) h.0 is in
+    let other : eqb k 44 ≡ false = ⊎_elim {0, 0, 0} (λ e. rw (eqb-true k 93 e) refl) (λ e. rw (eqb-true k 125 e) refl) (or_cases (eqb k 93) (eqb k 125) c) in
+    let no : first_is 44 (drop (past_gap t (length t - length (q ++ (k ∷ rest)))) t) ≡ false = ap (λ n. first_is 44 (drop n t)) p.0 ∙ (ap (first_is 44) p.1 ∙ other) in
+    ap (λ b. cond b (record { start = length t - length from; end = past_gap t (length t - length (q ++ (k ∷ rest))); lead = [] }) (record { start = length t - length from; end = length t - length (q ++ (k ∷ rest)); lead = 44 ∷ [] })) no
+    ∙ ap (λ l. record { start = length t - length l; end = length t - length (q ++ (k ∷ rest)); lead = 44 ∷ [] }) (sym (comma_new_bytes k rest sep key2 n2 q).was)
+comma_placed k rest g key n sep key2 n2 (comma q z) t v c h is =
+    let x : List ℕ = 44 ∷ (z ++ (k ∷ rest)) in
+    let from : List ℕ = sep_text sep (key_text key2 (node_text n2 (q ++ x))) in
+    let p = past_placed t v q x h.0 is in
+    let yes : first_is 44 (drop (past_gap t (length t - length (q ++ x))) t) ≡ true = ap (λ n. first_is 44 (drop n t)) p.0 ∙ ap (first_is 44) p.1 in
+    ap (λ b. cond b (record { start = length t - length from; end = past_gap t (length t - length (q ++ x)); lead = [] }) (record { start = length t - length from; end = length t - length (q ++ x); lead = 44 ∷ [] })) yes
+    ∙ (λ i. record { start = length t - length (sym (comma_old_bytes k rest sep key2 n2 q z).was i); end = p.0 i; lead = [] })
 
-  l : List ℕ
-  l = last_text is
+end_placed_at : (k : ℕ) (g : List ℕ) (key : Key) (n : Node) (sep : Sep) (key2 : Key) (n2 : Node) (sep2 : Sep) (rest t w : List ℕ) (b : ℕ) → is_close k ≡ true → IsSep k sep2 (k ∷ rest) → is_feed b ≡ false →
+    t ≡ w ++ (b ∷ (g ++ key_text key (node_text n (sep_text sep (key_text key2 (node_text n2 (sep_text sep2 (k ∷ rest)))))))) →
+    remove_end t (length t - length (key_text key (node_text n (sep_text sep (key_text key2 (node_text n2 (sep_text sep2 (k ∷ rest)))))))) (length t - length (sep_text sep (key_text key2 (node_text n2 (sep_text sep2 (k ∷ rest))))))
+    (length t - length (sep_text sep2 (k ∷ rest)))
+    ≡ place_edit (length t) (last_removed k rest g key n sep key2 n2 sep2)
+unfolding comma_part
+end_placed_at k g key n sep key2 n2 sep2 rest t w b c sep_is feed text = ap (λ v. cond v (comma_part t at end_) (record { start = at; end = end_; lead = [] })) marks ∙ go (ends_marked (fresh false g) own) where
+  own : List ℕ
+  own = key_text key (node_text n [])
 
   z : List ℕ
-  z = sep_text (last_sep is) (k ∷ rest)
+  z = sep_text sep2 (k ∷ rest)
 
-  x : List ℕ
-  x = items_text k is rest
+  u : List ℕ
+  u = sep_text sep (key_text key2 (node_text n2 (sep_text sep2 (k ∷ rest))))
+
+  y : List ℕ
+  y = key_text key (node_text n (sep_text sep (key_text key2 (node_text n2 (sep_text sep2 (k ∷ rest))))))
 
   from : ℕ
-  from = length t - length x
+  from = length t - length y
 
   at : ℕ
-  at = length t - length (l ++ z)
+  at = length t - length u
 
   end_ : ℕ
   end_ = length t - length z
 
-  cut : x ≡ u ++ (l ++ z)
-  cut = until_text k is rest some
-
   front : List ℕ
-  front = w ++ (open_of k ∷ g)
+  front = w ++ (b ∷ g)
 
-  whole : t ≡ front ++ (u ++ (l ++ z))
-  whole = text ∙ (sym (append_assoc w (open_of k ∷ g) x) ∙ ap (λ y. front ++ y) cut)
+  cut : y ≡ own ++ u
+  cut = text_cut key n u
+
+  whole : t ≡ front ++ (own ++ u)
+  whole = text ∙ (sym (append_assoc w (b ∷ g) y) ∙ ap (λ l. front ++ l) cut)
 
   first : from ≡ suc (length w + length g)
-  first = omega (arith, ap length text, length-append w (open_of k ∷ (g ++ x)), length-append g x)
+  first = omega (arith, ap length text, length-append w (b ∷ (g ++ y)), length-append g y)
 
   behind_front : from ≡ length front
-  behind_front = first ∙ omega (arith, length-append w (open_of k ∷ g))
+  behind_front = first ∙ omega (arith, length-append w (b ∷ g))
 
-  second : at ≡ from + length u
-  second = omega (arith, behind_front, ap length whole, length-append front (u ++ (l ++ z)), length-append u (l ++ z))
+  second : at ≡ from + length own
+  second = omega (arith, behind_front, ap length whole, length-append front (own ++ u), length-append own u)
 
   line : behind_feed t from ≡ fresh false g
-  line = ap (λ y. behind_feed y from) text ∙ (line_behind g w (open_of k) x from first ∙ ap (λ f. fresh f g) (open_feed k))
+  line = ap (λ l. behind_feed l from) text ∙ (line_behind g w b y from first ∙ ap (λ f. fresh f g) feed)
 
-  marks : marks_before t from at ≡ ends_marked (fresh false g) u
-  marks = marks_are u front (l ++ z) t from at whole behind_front second ∙ ap (λ f. ends_marked f u) line
+  marks : marks_before t from at ≡ ends_marked (fresh false g) own
+  marks = marks_are own front u t from at whole behind_front second ∙ ap (λ f. ends_marked f own) line
 
-  before_sep : t ≡ (front ++ (u ++ l)) ++ z
-  before_sep = whole ∙ (ap (λ y. front ++ y) (sym (append_assoc u l z)) ∙ sym (append_assoc front (u ++ l) z))
+  old : List ℕ
+  old = sep_text sep (key_text key2 (node_text n2 []))
 
-  old : l ++ z ≡ (l ++ comma_old (last_sep is)) ++ comma_on (last_sep is) (k ∷ rest)
-  old = ap (λ y. l ++ y) (comma_was (last_sep is) (k ∷ rest)) ∙ sym (append_assoc l (comma_old (last_sep is)) (comma_on (last_sep is) (k ∷ rest)))
+  was : old ++ z ≡ u
+  was = (gone_bytes k rest sep key2 n2 sep2).was
 
-  go : (v : Bool) → cond v (comma_part t at end_) (record { start = at; end = end_; lead = [] }) ≡ place_edit (length t) (cond v (removing_to_comma (record { close = k; gap = g; items = is; rest = rest })) (removing_last (record { close = k; gap = g; items = is; rest = rest })))
-  go true =
-      comma_placed k (last_sep is) rest t (front ++ (u ++ l)) at c (last_is d k is rest (several_some is some) a) before_sep
-      ∙ ap (λ y. record { start = length t - length y; end = length t - length (comma_on (last_sep is) (k ∷ rest)); lead = comma_new (last_sep is) }) old
-  go false = refl
+  before_sep : t ≡ ((front ++ own) ++ old) ++ z
+  before_sep = whole ∙ (sym (append_assoc front own u) ∙ (ap (λ l. (front ++ own) ++ l) (sym was) ∙ sym (append_assoc (front ++ own) old z)))
 
--- what stands behind the one at a step
-begin_some : (total k : ℕ) (is : Items) (rest : List ℕ) → is_none is ≡ false → begin_of total k is rest ≡ Some (total - length (items_text k is rest))
-begin_some total k none rest h = absurd (false≢true (sym h))
-begin_some total k (item key n sep is) rest h = refl
+  go : (v : Bool) → cond v (comma_part t at end_) (record { start = at; end = end_; lead = [] }) ≡ place_edit (length t) (cond v (comma_left k rest g key n sep key2 n2 sep2) (last_gone k rest g key n sep key2 n2 sep2))
+  go true = comma_placed k rest g key n sep key2 n2 sep2 t ((front ++ own) ++ old) c sep_is before_sep
+  go false = ap (λ l. record { start = length t - length l; end = end_; lead = [] }) (sym was)
 
-behind_some : (s : Step) (is : Items) → has_next s is ≡ true → is_none (items_behind s is) ≡ false
-behind_some s none h = absurd (false≢true h)
-behind_some s (item key n sep is) h = go (is_here s (inner (key_content key))) (behind_some (further s) is) h where
-  go : (c : Bool) → (has_next (further s) is ≡ true → is_none (items_behind (further s) is) ≡ false) → cond c (not (is_none is)) (has_next (further s) is) ≡ true → is_none (cond c is (items_behind (further s) is)) ≡ false
-  go true again e = not-true (is_none is) e
-  go false again e = again e
+last_placed : (d k : ℕ) (s : Step) (g : List ℕ) (key : Key) (n : Node) (sep : Sep) (is : Items) (rest t w : List ℕ) (b : ℕ) → is_close k ≡ true → AreItems d k is rest → is_feed b ≡ false → t ≡ w ++ (b ∷ (g ++ items_text k (item key n sep is) rest)) →
+    option_map (remove_end t (length t - length (items_text k (item key n sep is) rest)) (length t - length (sep_text sep (items_text k is rest)))) (only_end s (locate_items (length t) k is rest))
+    ≡ option_map (place_edit (length t)) (last_out k rest s g key n sep is)
+unfolding items_text locate_items AreItems
+last_placed d k s g key n sep none rest t w b c a feed text = refl
+last_placed d k s g key n sep (item key2 n2 sep2 (item key3 n3 sep3 is)) rest t w b c a feed text = refl
+last_placed d k s g key n sep (item key2 n2 sep2 none) rest t w b c a feed text =
+    let total : ℕ = length t in
+    let z : List ℕ = sep_text sep2 (k ∷ rest) in
+    let x : List ℕ = key_text key2 (node_text n2 z) in
+    let f : ℕ → PlacedEdit = λ e. remove_end t (total - length (key_text key (node_text n (sep_text sep x)))) (total - length (sep_text sep x)) e in
+    (λ i. option_map f (cond (is_here s (inner (key_tree total x key2 i))) (Some (end_placed total n2 z i)) None))
+    ∙ elim (is_here s (inner (key_content key2))) as (λ v. option_map f (cond v (Some (total - length z)) None) ≡ option_map (place_edit total) (cond v (Some (last_removed k rest g key n sep key2 n2 sep2)) None))
+    [ true ↦ ap Some (end_placed_at k g key n sep key2 n2 sep2 rest t w b c a.3 feed text) | false ↦ refl ]
 
-behind_none : (k : ℕ) (s : Step) (is : Items) (rest : List ℕ) (y : EntryPieces) → item_at k s is rest ≡ Some y → has_next s is ≡ false → items_behind s is ≡ none
-unfolding items_text
-behind_none k s none rest y h e = refl
-behind_none k s (item key n sep is) rest y h e = go (is_here s (inner (key_content key))) (behind_none k (further s) is rest y) h e where
-  nothing : (js : Items) → not (is_none js) ≡ false → js ≡ none
-  nothing none f = refl
-  nothing (item key2 n2 sep2 js) f = absurd (false≢true (sym f))
+-- ---- among items
 
-  go : (c : Bool) → (item_at k (further s) is rest ≡ Some y → has_next (further s) is ≡ false → items_behind (further s) is ≡ none) → cond c (Some (record { key = key; node = n; rest = sep_text sep (items_text k is rest) })) (item_at k (further s) is rest) ≡ Some y →
-      cond c (not (is_none is)) (has_next (further s) is) ≡ false → cond c is (items_behind (further s) is) ≡ none
-  go true again f v = nothing is v
-  go false again f v = again f v
+pub or_mapped : {A B : Type 0} (f : A → B) (x y : Option A) → option_or (option_map f x) (option_map f y) ≡ option_map f (option_or x y)
+or_mapped f None y = refl
+or_mapped f (Some a) y = refl
 
-sole_prior : (total k : ℕ) (s : Step) (is : Items) (rest : List ℕ) (y : EntryPieces) → item_at k s is rest ≡ Some y → is_several is ≡ false → (prior total k None s is rest ≡ None) × (items_behind s is ≡ none)
-unfolding items_text
-sole_prior total k s none rest y h one = cc
-sole_prior total k s (item key n sep none) rest y h one = go (is_here s (inner (key_content key))) h where
-  go : (c : Bool) → cond c (Some (record { key = key; node = n; rest = sep_text sep (items_text k none rest) })) None ≡ Some y → (cond c None (Some (total - length (sep_text sep (items_text k none rest)))) ≡ None) × (cond c none none ≡ none)
-  go true e = (refl, refl)
-  go false e = cc
-sole_prior total k s (item key n sep (item key2 n2 sep2 is)) rest y h one = absurd (false≢true (sym one))
+same_place : (total : ℕ) (g : List ℕ) (key : Key) (n : Node) (sep : Sep) (o : Option FlowEdit) → option_map (place_edit total) o ≡ option_map (place_edit total) (option_map (behind_item g key n sep) o)
+same_place total g key n sep None = refl
+same_place total g key n sep (Some e) = refl
 
--- an item or entry of a collection
-part_removed : (d k : ℕ) (g : List ℕ) (s : Step) (is : Items) (rest : List ℕ) (y : EntryPieces) (t w : List ℕ) → is_close k ≡ true → AreItems d k is rest → item_at k s is rest ≡ Some y → t ≡ w ++ (open_of k ∷ (g ++ items_text k is rest)) →
-    remove_part t (record { start = length t - length (coll_text k g is rest); end = length t - length rest; lead = open_of k ∷ (k ∷ []) }) s (locate_items (length t) k is rest) ≡ Some (place_edit (length t) (removing s (record { close = k; gap = g; items = is; rest = rest })))
-unfolding items_text
-part_removed d k g s is rest y t w c a found text = (λ i. remove_among t whole (among_placed total k None s is rest y found i) (first i)) ∙ ap Some (several (is_several is) refl) where
-  total : ℕ
-  total = length t
+-- behind an item stand a comma and the gap before the next one
+further_placed : (d k : ℕ) (s : Step) (g : List ℕ) (key : Key) (n : Node) (sep : Sep) (is : Items) (rest t w : List ℕ) (b : ℕ) → is_close k ≡ true → AreItems d k (item key n sep is) rest → t ≡ w ++ (b ∷ (g ++ items_text k (item key n sep is) rest)) →
+    ((p v : List ℕ) (e : ℕ) → is_feed e ≡ false → t ≡ v ++ (e ∷ (p ++ items_text k is rest)) → remove_part t s (locate_items (length t) k is rest) ≡ option_map (place_edit (length t)) (removing_from k rest s p is)) →
+    remove_part t s (locate_items (length t) k is rest) ≡ option_map (place_edit (length t)) (removing_from k rest s (gap_of sep) is)
+unfolding items_text locate_items AreItems
+further_placed d k s g key n sep none rest t w b c a text again = refl
+further_placed d k s g key n (last q) (item key2 n2 sep2 is) rest t w b c a text again =
+    absurd (false≢true (sym (item_front true (Some 0) d k key2 n2 (sep_text sep2 (items_text k is rest)) c a.4.1 a.4.0 a.4.2) ∙ a.3.1))
+further_placed d k s g key n (comma q p) (item key2 n2 sep2 is) rest t w b c a text again =
+    let tail : List ℕ = items_text k (item key2 n2 sep2 is) rest in
+    let front : List ℕ = key_text key (node_text n (q ++ [])) in
+    again p (w ++ (b ∷ (g ++ front))) 44 refl
+    (text
+    ∙ (ap (λ l. w ++ (b ∷ (g ++ l))) (item_cut key n (last q) (44 ∷ (p ++ tail)))
+    ∙ (ap (λ l. w ++ (b ∷ l)) (sym (append_assoc g front (44 ∷ (p ++ tail)))) ∙ sym (append_assoc w (b ∷ (g ++ front)) (44 ∷ (p ++ tail))))))
 
-  whole : PlacedEdit
-  whole = record { start = total - length (coll_text k g is rest); end = total - length rest; lead = open_of k ∷ (k ∷ []) }
+part_removed : (d k : ℕ) (s : Step) (g : List ℕ) (is : Items) (rest t w : List ℕ) (b : ℕ) → is_close k ≡ true → AreItems d k is rest → is_feed b ≡ false → t ≡ w ++ (b ∷ (g ++ items_text k is rest)) →
+    remove_part t s (locate_items (length t) k is rest) ≡ option_map (place_edit (length t)) (removing_from k rest s g is)
+unfolding items_text locate_items AreItems
+part_removed d k s g none rest t w b c a feed text = refl
+part_removed d k s g (item key n sep is) rest t w b c a feed text =
+    let total : ℕ = length t in
+    let behind : List ℕ = sep_text sep (items_text k is rest) in
+    let own : List ℕ = key_text key (node_text n behind) in
+    let parts : Parts = locate_items total k is rest in
+    let start : entry_start (key_placed total own key, locate total n behind) ≡ total - length own = entry_placed total (record { key = key; node = n; rest = behind }) in
+    let again = further_placed d k (further s) g key n sep is rest t w b c a text (λ p v e f x. part_removed d k (further s) p is rest t v e c a.4 f x) in
+    let others : option_or (option_map (remove_end t (total - length own) (total - length behind)) (only_end (further s) parts)) (remove_part t (further s) parts)
+    ≡ option_map (place_edit total) (option_or (last_out k rest (further s) g key n sep is) (option_map (behind_item g key n sep) (removing_from k rest (further s) (gap_of sep) is))) =
+    (λ i. option_or (last_placed d k (further s) g key n sep is rest t w b c a.4 feed text i) ((again ∙ same_place total g key n sep (removing_from k rest (further s) (gap_of sep) is)) i))
+    ∙ or_mapped (place_edit total) (last_out k rest (further s) g key n sep is) (option_map (behind_item g key n sep) (removing_from k rest (further s) (gap_of sep) is)) in
+    (λ i. cond (is_here s (inner (key_tree total own key i))) (option_map (remove_before t (start i)) (first_start parts)) (option_or (option_map (remove_end t (start i) (end_placed total n behind i)) (only_end (further s) parts)) (remove_part t (further s) parts)))
+    ∙ elim (is_here s (inner (key_content key)))
+    as (λ v. cond v (option_map (remove_before t (total - length own)) (first_start parts)) (option_or (option_map (remove_end t (total - length own) (total - length behind)) (only_end (further s) parts)) (remove_part t (further s) parts))
+    ≡ option_map (place_edit total) (cond v (before_next k rest g key n sep is) (option_or (last_out k rest (further s) g key n sep is) (option_map (behind_item g key n sep) (removing_from k rest (further s) (gap_of sep) is)))))
+    [ true ↦ next_placed d k g key n sep is rest t w b c a.4 feed text | false ↦ others ]
 
-  pieces : CollPieces
-  pieces = record { close = k; gap = g; items = is; rest = rest }
+-- ---- in a node
 
-  from : ℕ
-  from = total - length (items_text k is rest)
+holder_parts : (k : ℕ) (parts : Parts) → parts_in (holder k parts) ≡ parts
+holder_parts k parts = elim (eqb k 125) as (λ c. parts_in (cond c (mapping parts) (sequence parts)) ≡ parts) [ true ↦ refl | false ↦ refl ]
 
-  start : ℕ
-  start = total - length (pieces_text y)
+anchor_parts : (n : List ℕ) (start : ℕ) (p : Placed) → parts_of (with_anchor n start p) ≡ parts_of p
+anchor_parts n start (placed a s c e f) = refl
 
-  first : first_start (locate_items total k is rest) ≡ Some from
-  first = first_placed total k is rest ∙ begin_some total k is rest (some_items k s is rest y found)
+coll_parts : (total : ℕ) (node : Node) (rest : List ℕ) (c : CollPieces) → coll_in node rest ≡ Some c → parts_of (locate total node rest) ≡ locate_items total c.close c.items c.rest
+unfolding locate
+coll_parts total empty rest c at = cc
+coll_parts total (alias n) rest c at = cc
+coll_parts total (scalar p) rest c at = cc
+coll_parts total (coll k g is) rest c at = holder_parts k (locate_items total k is rest) ∙ ap (λ (z : CollPieces). locate_items total z.close z.items z.rest) (same_Some _ _ at)
+coll_parts total (anchored n g node) rest c at = anchor_parts n _ (locate total node rest) ∙ coll_parts total node rest c at
 
-  behind_next : has_next s is ≡ true → remove_from t whole from start (total - length y.rest) (prior total k None s is rest) (begin_of total k (items_behind s is) rest) ≡ place_edit total (removing_before s pieces)
-  behind_next more =
-      ap (λ (n : Option ℕ). remove_from t whole from start (total - length y.rest) (prior total k None s is rest) n) (begin_some total k (items_behind s is) rest (behind_some s is more))
-      ∙ (λ i. record { start = total - length (sym (dropped_text k s is rest y found) i); end = total - length (items_text k (items_behind s is) rest); lead = space_placed d k s is rest y t w (open_of k) g c (open_feed k) text a found more i })
+open_feed : (k : ℕ) → is_feed (open_of k) ≡ false
+open_feed k = elim (eqb k 125) as (λ c. is_feed (cond c 123 91) ≡ false) [ true ↦ refl | false ↦ refl ]
 
-  at_end : is_several is ≡ true → has_next s is ≡ false → remove_from t whole from start (total - length y.rest) (prior total k None s is rest) (begin_of total k (items_behind s is) rest) ≡ place_edit total (removing_end pieces)
-  at_end some last_one =
-      (λ i. remove_from t whole from start (total - length (last_rest k s is rest y found last_one i)) (prior_last total k None s is rest y found some last_one i) (begin_of total k (behind_none k s is rest y found last_one i) rest))
-      ∙ end_removed d k g is rest t w c a text some
-
-  alone : is_several is ≡ false → remove_from t whole from start (total - length y.rest) (prior total k None s is rest) (begin_of total k (items_behind s is) rest) ≡ place_edit total (removing_sole pieces)
-  alone one =
-      let p = sole_prior total k s is rest y found one in
-      (λ i. remove_from t whole from start (total - length y.rest) (p.0 i) (begin_of total k (p.1 i) rest))
-      ∙ ap (λ l. record { start = total - length (open_of k ∷ l); end = total - length rest; lead = open_of k ∷ (k ∷ []) }) (ap (λ l. g ++ l) (items_append k is [] rest) ∙ sym (append_assoc g (items_text k is []) rest))
-
-  next : (b : Bool) → has_next s is ≡ b → is_several is ≡ true → remove_from t whole from start (total - length y.rest) (prior total k None s is rest) (begin_of total k (items_behind s is) rest) ≡ place_edit total (cond b (removing_before s pieces) (removing_end pieces))
-  next true e some = behind_next e
-  next false e some = at_end some e
-
-  several : (b : Bool) → is_several is ≡ b → remove_from t whole from start (total - length y.rest) (prior total k None s is rest) (begin_of total k (items_behind s is) rest) ≡ place_edit total (cond b (cond (has_next s is) (removing_before s pieces) (removing_end pieces)) (removing_sole pieces))
-  several true e = next (has_next s is) refl e
-  several false e = alone e
-
--- in a node
-holder_remove : (t : List ℕ) (s : Step) (k a e : ℕ) (parts : Parts) → is_close k ≡ true → remove_in t s a e (holder k parts) ≡ remove_part t (record { start = a; end = e; lead = open_of k ∷ (k ∷ []) }) s parts
-holder_remove t s k a e parts h = ⊎_elim {0, 0, 0}
-    (λ x. subst (λ (j : ℕ). remove_in t s a e (holder j parts) ≡ remove_part t (record { start = a; end = e; lead = open_of j ∷ (j ∷ []) }) s parts) (sym (eqb-true k 93 x)) refl)
-    (λ x. subst (λ (j : ℕ). remove_in t s a e (holder j parts) ≡ remove_part t (record { start = a; end = e; lead = open_of j ∷ (j ∷ []) }) s parts) (sym (eqb-true k 125 x)) refl)
-    (or_cases (eqb k 93) (eqb k 125) h)
-
-remove_anchor : (t : List ℕ) (step : Step) (n : List ℕ) (start : ℕ) (p : Placed) → remove_place t step (with_anchor n start p) ≡ remove_place t step p
-remove_anchor t step n start (placed a s c e f) = refl
-
-pub remove_placed : (flow : Bool) (spaces : Option ℕ) (d : ℕ) (t w : List ℕ) (node : Node) (rest : List ℕ) (c : CollPieces) (s : Step) (y : EntryPieces) → IsNode flow spaces d node rest → coll_in node rest ≡ Some c → item_at c.close s c.items c.rest ≡ Some y → t ≡ w ++ node_text node rest →
-    remove_place t s (locate (length t) node rest) ≡ Some (place_edit (length t) (removing s c))
-unfolding locate node_text IsNode
-remove_placed flow spaces d t w empty rest c s y x at found text = cc
-remove_placed flow spaces d t w (alias n) rest c s y x at found text = cc
-remove_placed flow spaces d t w (scalar p) rest c s y x at found text = cc
-remove_placed flow spaces zero t w (coll k g is) rest c s y x at found text = absurd x.2
-remove_placed flow spaces (suc d) t w (coll k g is) rest c s y x at found text =
-    let here : item_at k s is rest ≡ Some y = subst (λ (z : CollPieces). item_at z.close s z.items z.rest ≡ Some y) (sym (same_Some _ _ at)) found in
-    subst (λ (z : CollPieces). remove_place t s (locate (length t) (coll k g is) rest) ≡ Some (place_edit (length t) (removing s z))) (same_Some _ _ at)
-    (holder_remove t s k _ _ (locate_items (length t) k is rest) x.0 ∙ part_removed d k g s is rest y t w x.0 x.2 here text)
-remove_placed flow spaces d t w (anchored n g node) rest c s y x at found text =
-    let inner_ : t ≡ (w ++ (38 ∷ (n ++ g))) ++ node_text node rest = text ∙ (ap (λ l. w ++ (38 ∷ l)) (sym (append_assoc n g (node_text node rest))) ∙ sym (append_assoc w (38 ∷ (n ++ g)) (node_text node rest))) in
-    remove_anchor t s n _ (locate (length t) node rest) ∙ remove_placed flow spaces d t (w ++ (38 ∷ (n ++ g))) node rest c s y x.4 at found inner_
+pub remove_placed : (flow : Bool) (spaces : Option ℕ) (d : ℕ) (t w : List ℕ) (node : Node) (rest : List ℕ) (c : CollPieces) (s : Step) → IsNode flow spaces d node rest → coll_in node rest ≡ Some c → t ≡ w ++ node_text node rest →
+    remove_place t s (locate (length t) node rest) ≡ option_map (place_edit (length t)) (removing s c)
+remove_placed flow spaces d t w node rest c s is at text =
+    let i = coll_stands flow spaces d node rest c is at in
+    let t_is : t ≡ (w ++ i.before) ++ (open_of c.close ∷ (c.gap ++ items_text c.close c.items c.rest)) = text ∙ (ap (λ l. w ++ l) i.text ∙ sym (append_assoc w i.before (open_of c.close ∷ (c.gap ++ items_text c.close c.items c.rest)))) in
+    ap (remove_part t s) (coll_parts (length t) node rest c at) ∙ part_removed i.inner_depth c.close s c.gap c.items c.rest t (w ++ i.before) (open_of c.close) i.closes i.items (open_feed c.close) t_is

@@ -1,21 +1,19 @@
 -- In a text with whole breaks no CR ends an item before an LF.
 use Rattle.std.proofs.Common.{◌≡◌, ◌⊎◌, inl, inr, ℕ, Bool, true, false, ◌&&◌, ◌||◌, eqb, cond, List, [], ◌∷◌, ◌++◌, Some, refl, sym, ap, ◌∙◌, subst, append_assoc, append-nil, eq-eqb}
+use Rattle.std.proofs.Math.Bool.{and-false}
 use Rattle.std.proofs.lemmas.Bool.{false≢true, not-false, or_right, and_parts, cases_Bool, or_parts}
 use Rattle.yq_scalar.specs.Characters.{pairs_returns}
 use Rattle.yq_scalar.specs.Quoted.{spell_lines}
 use Rattle.yq_scalar.specs.Text.{NoneIn, unless, front, is_white, is_feed, is_return}
 use Rattle.yq_scalar.proofs.Bools.{at_byte}
 use Rattle.yq_inline.specs.Alike.{EndsItem}
-use Rattle.yq_inline.specs.Nodes.{Key, bare, keyed, Node, empty, alias, scalar, coll, anchored, Items, none, item, key_text, sep_text, node_text, items_text, open_of, in_name, begins_content, begins_node, is_close, IsKey, IsLead, is_bare, IsNode, AreItems, first_is}
+use Rattle.yq_inline.specs.Nodes.{Key, bare, keyed, Node, empty, alias, scalar, coll, anchored, Items, none, item, key_text, sep_text, node_text, items_text, open_of, in_name, begins_content, begins_node, is_close, IsKey, IsLead, is_bare, IsNode, first_is}
 use Rattle.yq_inline.specs.Scalars.{IsScalar}
-use Rattle.yq_flow.specs.Removals.{is_several, ends_return, until_last}
+use Rattle.yq_flow.specs.Removals.{ends_return}
 use Rattle.yq_flow.proofs.ItemSwaps.{item_cut}
 use Rattle.yq_inline.proofs.EndLaws.{ends_node, stops_here, last_space, by_close}
-use Rattle.yq_flow.proofs.ItemLaws.{item_some}
 use Rattle.yq_inline.proofs.KeepLaws.{NotEmpty, some_text, bare_text}
 use Rattle.yq_inline.proofs.KeyKeeps.{lead_none}
-use Rattle.yq_inline.proofs.NodeKeeps.{sep_ends}
-use Rattle.yq_inline.proofs.WrittenLaws.{node_then, key_append}
 
 return_append : (x : List ℕ) (b : ℕ) (y : List ℕ) → ends_return (x ++ (b ∷ y)) ≡ ends_return (b ∷ y)
 return_append [] b y = refl
@@ -33,6 +31,10 @@ return_some x y s = subst (λ (l : List ℕ). ends_return (x ++ l) ≡ ends_retu
 -- no CR ends this text before an LF of that one
 abbrev pub Whole : List ℕ → List ℕ → Type 0
 Whole p t = (ends_return p && front is_feed t) ≡ false
+
+-- what doesn't begin with an LF may stand behind any text
+pub whole_front : (p t : List ℕ) → front is_feed t ≡ false → Whole p t
+whole_front p t h = ap (λ b. ends_return p && b) h ∙ and-false (ends_return p)
 
 pub whole_by : (p t : List ℕ) → ends_return p ≡ false → Whole p t
 whole_by p t h = rw h refl
@@ -119,28 +121,3 @@ pairs_end (b ∷ []) t h w = go (is_return b) h w where
   go true e f = absurd (false≢true (sym f ∙ (and_parts (front is_feed t) (pairs_returns t) e).0))
   go false e f = refl
 pairs_end (b ∷ c ∷ x) t h w = pairs_end (c ∷ x) t (pairs_behind (b ∷ []) (c ∷ (x ++ t)) h) w
-
--- the last item but one
-pub until_some : (d k : ℕ) (is : Items) (rest : List ℕ) → is_several is ≡ true → AreItems d k is rest → NotEmpty (until_last is)
-unfolding items_text AreItems
-until_some d k none rest some a = absurd (false≢true some)
-until_some d k (item key n sep none) rest some a = absurd (false≢true some)
-until_some d k (item key n sep (item key2 n2 sep2 none)) rest some a = item_some d k key n (sep_text sep (items_text k (item key2 n2 sep2 none) rest)) a.0 a.1 a.2
-until_some d k (item key n sep (item key2 n2 sep2 (item key3 n3 sep3 is))) rest some a =
-    let w = until_some d k (item key2 n2 sep2 (item key3 n3 sep3 is)) rest refl a.4 in
-    let x : List ℕ = key_text key (node_text n (sep_text sep [])) in
-    subst NotEmpty (sym (item_cut key n sep (until_last (item key2 n2 sep2 (item key3 n3 sep3 is))))) (subst (λ (l : List ℕ). NotEmpty (x ++ l)) (sym w.1.1) (append_some x w.0 w.1.0))
-
-pub until_return : (d k : ℕ) (is : Items) (rest : List ℕ) → is_close k ≡ true → is_several is ≡ true → AreItems d k is rest → pairs_returns (items_text k is rest) ≡ true → ends_return (until_last is) ≡ false
-unfolding items_text AreItems
-until_return d k none rest c some a h = absurd (false≢true some)
-until_return d k (item key n sep none) rest c some a h = absurd (false≢true some)
-until_return d k (item key n sep (item key2 n2 sep2 none)) rest c some a h =
-    let t : List ℕ = sep_text sep (items_text k (item key2 n2 sep2 none) rest) in
-    let cut : key_text key (node_text n t) ≡ key_text key (node_text n []) ++ t = ap (key_text key) (node_then n t) ∙ key_append key (node_text n []) t in
-    pairs_end (key_text key (node_text n [])) t (subst (λ (l : List ℕ). pairs_returns l ≡ true) cut h) (item_return k d key n t c (sep_ends k sep (items_text k (item key2 n2 sep2 none) rest) a.3) a.0 a.2)
-until_return d k (item key n sep (item key2 n2 sep2 (item key3 n3 sep3 is))) rest c some a h =
-    let tail : Items = item key2 n2 sep2 (item key3 n3 sep3 is) in
-    let x : List ℕ = key_text key (node_text n (sep_text sep [])) in
-    let inner_ : pairs_returns (items_text k tail rest) ≡ true = pairs_behind x (items_text k tail rest) (subst (λ (l : List ℕ). pairs_returns l ≡ true) (item_cut key n sep (items_text k tail rest)) h) in
-    ap ends_return (item_cut key n sep (until_last tail)) ∙ (return_some x (until_last tail) (until_some d k tail rest refl a.4) ∙ until_return d k (item key2 n2 sep2 (item key3 n3 sep3 is)) rest c refl a.4 inner_)

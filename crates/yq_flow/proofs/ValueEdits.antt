@@ -1,44 +1,28 @@
 -- Values put into a flow collection.
-use Rattle.std.proofs.Common.{◌≡◌, ℕ, ◌≤◌, Bool, true, false, eqb, cond, List, [], ◌∷◌, ◌++◌, Some, refl, sym, ap, ◌∙◌, subst, eq-eqb}
-use Rattle.std.proofs.lemmas.Bool.{false≢true, or_right}
-use Rattle.std.proofs.lemmas.Option.{same_Some}
+use Rattle.std.proofs.Common.{◌≡◌, ℕ, ◌≤◌, true, eqb, List, [], ◌∷◌, ◌++◌, Some, refl, ap, ◌∙◌, subst, eq-eqb}
+use Rattle.std.proofs.lemmas.Bool.{or_right}
 use Rattle.yq_scalar.specs.declared.style.Style.{Style}
 use Rattle.yq_scalar.specs.Keys.{depth}
-use Rattle.yq_scalar.specs.Paths.{Step, is_here, further, change_child, append_child, within, change}
+use Rattle.yq_scalar.specs.Paths.{Step, change_child, append_child, within, change}
 use Rattle.yq_scalar.specs.Scalar.{ScalarText}
 use Rattle.yq_scalar.specs.Writable.{can_write}
 use Rattle.yq_scalar.specs.Written.{written}
 use Rattle.yq_inline.specs.Alike.{EndsItem}
 use Rattle.yq_inline.specs.Gaps.{IsGap}
-use Rattle.yq_flow.specs.FlowEdits.{put_value, is_none, behind_last, replacing, appending, IsEdited, FlowEdit, behind_appended}
-use Rattle.yq_inline.specs.Entries.{EntryPieces, item_at}
-use Rattle.yq_inline.specs.Nodes.{Node, scalar, Items, none, item, sep_text, items_text, AreItems}
+use Rattle.yq_flow.specs.FlowEdits.{put_value, behind_last, replacing, appending, IsEdited, FlowEdit, behind_appended}
+use Rattle.yq_inline.specs.Entries.{EntryPieces}
+use Rattle.yq_inline.specs.Nodes.{Node, scalar, Items, none, item, items_text, AreItems}
 use Rattle.yq_inline.specs.Trees.{inner, scalar_node, key_content, tree_of}
 use Rattle.yq_flow.specs.Valued.{IsValid, IsLabel, IsValueTree}
 use Rattle.yq_inline.specs.Written.{flow_key, flow_of}
 use Rattle.yq_flow.proofs.EditLaws.{appended, replaced, Around, around_is}
-use Rattle.yq_inline.proofs.NodeKeeps.{sep_ends}
+use Rattle.yq_flow.proofs.ItemPlaces.{item_behind, last_behind}
 use Rattle.yq_flow.proofs.SpelledLaws.{written_tree}
 use Rattle.yq_flow.proofs.ValueFits.{value_fits, item_fits, fit_of, scalar_fits, scalar_same}
 use Rattle.yq_inline.specs.Collections.{room_in, CollAt, item_in, IsCollAt}
 use Rattle.yq_scalar.specs.declared.style.Place.TheVariants as places
 use Rattle.yq_scalar.specs.Tree as tree
 use Rattle.yq_scalar.specs.Written as scalars
-
--- what stands behind an item
-item_ends : (d k : ℕ) (s : Step) (is : Items) (rest : List ℕ) (y : EntryPieces) → AreItems d k is rest → item_at k s is rest ≡ Some y → EndsItem k y.rest
-unfolding items_text AreItems
-item_ends d k s none rest y a h = cc
-item_ends d k s (item key n sep is) rest y a h = go (is_here s (inner (key_content key))) (item_ends d k (further s) is rest y a.4) h where
-  go : (b : Bool) → (item_at k (further s) is rest ≡ Some y → EndsItem k y.rest) → cond b (Some (record { key = key; node = n; rest = sep_text sep (items_text k is rest) })) (item_at k (further s) is rest) ≡ Some y → EndsItem k y.rest
-  go true again e = subst (λ (z : EntryPieces). EndsItem k z.rest) (same_Some _ _ e) (sep_ends k sep (items_text k is rest) a.3)
-  go false again e = again e
-
-behind_ends : (d k : ℕ) (is : Items) (rest : List ℕ) → is_none is ≡ false → AreItems d k is rest → EndsItem k (behind_last k is rest)
-unfolding items_text AreItems
-behind_ends d k none rest some a = absurd (false≢true (sym some))
-behind_ends d k (item key n sep none) rest some a = sep_ends k sep (k ∷ rest) a.3
-behind_ends d k (item key n sep (item key2 n2 sep2 is)) rest some a = behind_ends d k (item key2 n2 sep2 is) rest refl a.4
 
 -- a change at the last of more steps
 pub change_last : (ss : List Step) (s : Step) (f : tree.Node → tree.Node) → change ss (within (change_child s f)) ≡ change (ss ++ (s ∷ [])) f
@@ -58,7 +42,7 @@ pub value_replaced : (x : CollAt) (s : Step) (y : EntryPieces) (v : tree.Node) �
 value_replaced x s y v h found is deep =
     let c = x.coll in
     let i = around_is x h in
-    let fits = value_fits c.close (room_in x) v y.rest i.closes (item_ends i.inner_depth c.close s c.items c.rest y i.items found) is deep in
+    let fits = value_fits c.close (room_in x) v y.rest i.closes (item_behind i.inner_depth c.close s c.items c.rest y i.items found).ends is deep in
     edited_same x (replacing s y (flow_of v) x.coll) _ _ (put_same x s (flow_of v) v (written_tree v is)) (replaced x s y (flow_of v) h found fits)
 
 -- a scalar in the place of a node, in a style that can write it
@@ -68,21 +52,17 @@ scalar_replaced x s y v style h found is i can =
     let c = x.coll in
     let j = around_is x h in
     let m : Node = scalar (written style v.text) in
-    let fits = scalar_fits c.close (room_in x) v style y.rest j.closes (item_ends j.inner_depth c.close s c.items c.rest y j.items found) is i can in
+    let fits = scalar_fits c.close (room_in x) v style y.rest j.closes (item_behind j.inner_depth c.close s c.items c.rest y j.items found).ends is i can in
     edited_same x (replacing s y m x.coll) _ _ (put_same x s m (scalar_node v) (scalar_same v style is i can)) (replaced x s y m h found fits)
 
--- the gap in an empty collection
-empty_ends : (k : ℕ) (g : List ℕ) (is : Items) (rest : List ℕ) → is_none is ≡ true → IsGap g (items_text k is rest) → EndsItem k (g ++ (k ∷ rest))
-unfolding items_text
-empty_ends k g none rest e h = record { gap = g; close = k; rest = rest; spelled = refl; is_gap = h; ends = or_right (eqb k 44) (eqb k k) (eq-eqb k k refl) }
-empty_ends k g (item key n sep is) rest e h = absurd (false≢true e)
-
 -- what stands behind an appended item ends one
-appended_ends : (x : CollAt) → (i : Around x) → EndsItem x.coll.close (behind_appended x.coll)
-appended_ends x i = go (is_none x.coll.items) refl where
-  go : (b : Bool) → is_none x.coll.items ≡ b → EndsItem x.coll.close (cond b (x.coll.gap ++ (x.coll.close ∷ x.coll.rest)) (behind_last x.coll.close x.coll.items x.coll.rest))
-  go true e = empty_ends x.coll.close x.coll.gap x.coll.items x.coll.rest e i.gap
-  go false e = behind_ends i.inner_depth x.coll.close x.coll.items x.coll.rest e i.items
+last_ends : (d k : ℕ) (gap : List ℕ) (is : Items) (rest : List ℕ) → IsGap gap (items_text k is rest) → AreItems d k is rest → EndsItem k (behind_last k gap is rest)
+unfolding items_text
+last_ends d k gap none rest h a = record { gap = gap; close = k; rest = rest; spelled = refl; is_gap = h; ends = or_right (eqb k 44) (eqb k k) (eq-eqb k k refl) }
+last_ends d k gap (item key n sep is) rest h a = let y = last_behind d k gap (item key n sep is) rest refl a in subst (EndsItem k) y.1 y.2.ends
+
+pub appended_ends : (x : CollAt) → (i : Around x) → EndsItem x.coll.close (behind_appended x.coll)
+appended_ends x i = last_ends i.inner_depth x.coll.close x.coll.gap x.coll.items x.coll.rest i.gap i.items
 
 -- a value as one more item or entry
 pub value_appended : (x : CollAt) (label : tree.Label) (v : tree.Node) → IsCollAt x → IsLabel (eqb x.coll.close 125) label → IsValueTree v → depth v ≤ room_in x → IsEdited x (appending (flow_key label.key) (flow_of v) x.coll) (change x.steps (within (append_child label v)))

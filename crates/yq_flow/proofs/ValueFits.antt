@@ -1,5 +1,5 @@
 -- What is written in flow style fits into a flow collection.
-use Rattle.std.proofs.Common.{◌≡◌, inl, inr, ⊎_elim, ℕ, ◌≤◌, Bool, true, false, not, eqb, cond, List, [], ◌∷◌, ◌++◌, Some, refl, sym, ap, subst, eqb-true}
+use Rattle.std.proofs.Common.{◌≡◌, inl, inr, ⊎_elim, ℕ, ◌≤◌, Bool, true, false, not, eqb, cond, List, ◌++◌, Some, refl, sym, ap, subst, eqb-true}
 use Rattle.std.proofs.lemmas.Bool.{or_right, or_cases, not-true, and_parts}
 use Rattle.std.specs.List.{list_all}
 use Rattle.std.specs.Str.{chars}
@@ -19,10 +19,9 @@ use Rattle.yq_inline.specs.Nodes.{scalar, node_text, is_close, is_bare, is_keyed
 use Rattle.yq_inline.specs.Trees.{scalar_node, tree_of}
 use Rattle.yq_flow.specs.Valued.{IsValid, IsLabel, IsValueTree}
 use Rattle.yq_inline.specs.Written.{scalar_text, flow_key, flow_of}
-use Rattle.yq_inline.proofs.Alikes.{no_first, no_second, no_third}
+use Rattle.yq_inline.proofs.Alikes.{no_first}
 use Rattle.yq_inline.proofs.EndLaws.{ends_plainly, ends_quote}
-use Rattle.yq_flow.proofs.ItemLaws.{Unmarked}
-use Rattle.yq_flow.proofs.LastLaws.{ends_mark}
+use Rattle.yq_flow.proofs.ItemLaws.{Unmarked, ends_mark, marker_append}
 use Rattle.yq_flow.proofs.SpelledLaws.{no_bare, node_begins, written_node, items_fit, entries_fit}
 use Rattle.yq_flow.proofs.SpelledScalars.{plain_anywhere}
 use Rattle.yq_flow.proofs.StyledScalars.{styled_spells}
@@ -31,16 +30,6 @@ use Rattle.yq_scalar.specs.declared.style.Style.TheVariants as styles
 use Rattle.yq_scalar.specs.Tree as tree
 use Rattle.yq_scalar.specs.Written as scalars
 use Rattle.yq_flow.proofs.SpelledLaws as spelled
-
--- no document marker is in front
-marker_append : (t rest : List ℕ) → begins_marker t ≡ false → Unmarked rest → is_marker (t ++ rest) ≡ false
-marker_append [] [] h m = refl
-marker_append [] (b ∷ rest) h m = no_first b rest m.dash m.dot
-marker_append (a ∷ []) [] h m = refl
-marker_append (a ∷ []) (b ∷ rest) h m = no_second a b rest m.dash m.dot
-marker_append (a ∷ b ∷ []) [] h m = refl
-marker_append (a ∷ b ∷ []) (c ∷ rest) h m = no_third a b c rest m.dash m.dot
-marker_append (a ∷ b ∷ c ∷ t) rest h m = rw h refl
 
 plain_unmarked : (t rest : List ℕ) → is_plain_text true t ≡ true → Unmarked rest → is_marker (t ++ rest) ≡ false
 plain_unmarked t rest h m = marker_append t rest (not-true (begins_marker t) (and_parts _ (not (begins_marker t)) h).1) m

@@ -105,17 +105,17 @@ abbrev pub is_none : Items → Bool
 is_none none = true
 is_none (item key n sep is) = false
 
--- the items with one more behind the last one, which a comma and a space follow (own)
-abbrev pub add_last : Key → Node → Items → Items
-add_last key m none = none
-add_last key m (item j n sep none) = item j n (comma [] (32 ∷ [])) (item key m sep none)
-add_last key m (item j n sep (item j2 n2 sep2 is)) = item j n sep (add_last key m (item j2 n2 sep2 is))
+-- the items with one more: behind the last one, which a comma and a space follow, or else the first one, before the gap (own)
+abbrev pub add_item : Key → Node → List ℕ → Items → Items
+add_item key m gap none = item key m (last gap) none
+add_item key m gap (item j n sep none) = item j n (comma [] (32 ∷ [])) (item key m sep none)
+add_item key m gap (item j n sep (item j2 n2 sep2 is)) = item j n sep (add_item key m gap (item j2 n2 sep2 is))
 
--- what stands behind the last item (own)
-abbrev pub behind_last : ℕ → Items → List ℕ → List ℕ
-behind_last k none rest = k ∷ rest
-behind_last k (item j n sep none) rest = sep_text sep (k ∷ rest)
-behind_last k (item j n sep (item j2 n2 sep2 is)) rest = behind_last k (item j2 n2 sep2 is) rest
+-- what stands behind the last item, or behind the opening bracket if there is none (own)
+abbrev pub behind_last : ℕ → List ℕ → Items → List ℕ → List ℕ
+behind_last k gap none rest = gap ++ (k ∷ rest)
+behind_last k gap (item j n sep none) rest = sep_text sep (k ∷ rest)
+behind_last k gap (item j n sep (item j2 n2 sep2 is)) rest = behind_last k gap (item j2 n2 sep2 is) rest
 
 -- an item or entry that may stand before a rest (YAML 1.2.2, section 7.4)
 pub record FitsItem (d k : ℕ) (key : Key) (m : Node) (rest : List ℕ) : Type 0 where
@@ -123,32 +123,17 @@ pub record FitsItem (d k : ℕ) (key : Key) (m : Node) (rest : List ℕ) : Type 
   pub some : (is_keyed key || not (is_bare m)) ≡ true
   pub is : IsNode true (Some 0) d m rest
 
--- one more item or entry behind the last one (own)
-abbrev pub appending_last : Key → Node → CollPieces → FlowEdit
-appending_last key m c = record {
-  gap = c.gap;
-  items = add_last key m c.items;
-  old = [];
-  lead = 44 ∷ (32 ∷ []);
-  written = key_text key (node_text m []);
-  behind = behind_last c.close c.items c.rest;
-}
-
--- the first item or entry, right behind the opening bracket (own)
-abbrev pub appending_first : Key → Node → CollPieces → FlowEdit
-appending_first key m c = record {
-  gap = [];
-  items = item key m (last c.gap) none;
-  old = [];
-  lead = [];
-  written = key_text key (node_text m []);
-  behind = c.gap ++ (c.close ∷ c.rest);
-}
-
--- one more item or entry (own)
-abbrev pub appending : Key → Node → CollPieces → FlowEdit
-appending key m c = if is_none c.items then appending_first key m c else appending_last key m c
-
--- what stands behind it (own)
+-- what stands behind one more item or entry (own)
 abbrev pub behind_appended : CollPieces → List ℕ
-behind_appended c = if is_none c.items then c.gap ++ (c.close ∷ c.rest) else behind_last c.close c.items c.rest
+behind_appended c = behind_last c.close c.gap c.items c.rest
+
+-- one more item or entry, behind the last one and a comma, or right behind the opening bracket (own)
+abbrev pub appending : Key → Node → CollPieces → FlowEdit
+appending key m c = record {
+  gap = if is_none c.items then [] else c.gap;
+  items = add_item key m c.gap c.items;
+  old = [];
+  lead = if is_none c.items then [] else 44 ∷ (32 ∷ []);
+  written = key_text key (node_text m []);
+  behind = behind_appended c;
+}

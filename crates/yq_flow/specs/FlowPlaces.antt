@@ -1,12 +1,12 @@
 -- Where the bytes of an edit of a flow collection stand in the text, by the places of the collection's parts.
-use Rattle.std.specs.Prelude.{ℕ, ◌+◌, ◌-◌, Bool, ◌&&◌, List, [], ◌∷◌, ◌++◌, drop, length, nat_le, nat_lt, Option, Some, None, min, if◌then◌else◌}
+use Rattle.std.specs.Option.{option_or}
+use Rattle.std.specs.Prelude.{ℕ, ◌+◌, ◌-◌, Bool, ◌&&◌, List, [], ◌∷◌, ◌++◌, drop, length, nat_le, nat_lt, Option, Some, None, option_map, min, if◌then◌else◌}
 use Rattle.yq_scalar.specs.Paths.{Step, is_here, further}
 use Rattle.yq_scalar.specs.PlainText.{begins_marker}
 use Rattle.yq_scalar.specs.Text.{is_feed, front}
-use Rattle.yq_flow.specs.declared.among.Among.{Among}
 use Rattle.yq_flow.specs.declared.flow_place.EditPlace.{EditPlace}
 use Rattle.yq_inline.specs.declared.gap.Before.TheVariants.{Token}
-use Rattle.yq_inline.specs.Entries.{content_place, end_of, entry_start}
+use Rattle.yq_inline.specs.Entries.{content_place, end_of, entry_start, parts_of}
 use Rattle.yq_flow.specs.FlowEdits.{FlowEdit}
 use Rattle.yq_inline.specs.Nodes.{first_is}
 use Rattle.yq_inline.specs.Places.{Placed, placed, Content, nothing, name, text, sequence, mapping, Parts, end, part}
@@ -64,13 +64,6 @@ abbrev pub first_start : Parts → Option ℕ
 first_start end = None
 first_start (part key n parts) = Some (entry_start (key, n))
 
--- the item or entry at a step between its neighbours; one that ends there may stand before the first one (own)
-abbrev pub among : Option ℕ → Step → Parts → Option Among
-among before s end = None
-among before s (part key n parts) =
-    if is_here s (inner (unplaced_key key)) then Some (record { before = before; start = entry_start (key, n); end = end_of n; next = first_start parts })
-    else among (Some (end_of n)) (further s) parts
-
 -- an LF stands before this place (own)
 abbrev pub behind_feed : List ℕ → ℕ → Bool
 behind_feed t at = nat_lt 0 at && front is_feed (drop (at - 1) t)
@@ -83,7 +76,8 @@ marks_before t from at = nat_le 3 (at - from) && (behind_feed t (at - 3) && begi
 abbrev pub past_gap : List ℕ → ℕ → ℕ
 past_gap t at = at + gap_len Token (drop at t)
 
--- From the end of one to that of the last one: a comma stays where the one before ends in `---` or `...` in column 0 (own).
+-- From the end of the item before, which begins at the first place, to that of the last one: a comma stays where the one before ends in `---` or
+-- `...` in column 0 (own).
 abbrev pub remove_end : List ℕ → ℕ → ℕ → ℕ → PlacedEdit
 remove_end t from before e =
     if marks_before t from before then (
@@ -96,30 +90,23 @@ remove_end t from before e =
 abbrev pub space_at : List ℕ → ℕ → ℕ → List ℕ
 space_at t s n = if behind_feed t s && begins_marker (drop n t) then 32 ∷ [] else []
 
--- Between neighbours: up to the next one, or from the end of the one before; a sole one goes with its whole collection (own).
-abbrev pub remove_from : List ℕ → PlacedEdit → ℕ → ℕ → ℕ → Option ℕ → Option ℕ → PlacedEdit
-remove_from t sole from s e before (Some n) = record { start = s; end = n; lead = space_at t s n }
-remove_from t sole from s e None None = sole
-remove_from t sole from s e (Some b) None = remove_end t from b e
+-- from one place up to the next item or entry (own)
+abbrev pub remove_before : List ℕ → ℕ → ℕ → PlacedEdit
+remove_before t s n = record { start = s; end = n; lead = space_at t s n }
 
--- what goes with an item or entry between its neighbours, if there is one, and a first one (own)
-abbrev pub remove_among : List ℕ → PlacedEdit → Option Among → Option ℕ → Option PlacedEdit
-remove_among t sole None from = None
-remove_among t sole (Some a) None = None
-remove_among t sole (Some a) (Some from) = Some (remove_from t sole from a.start a.end a.before a.next)
+-- where the item or entry at a step ends, if it is the only one (own)
+abbrev pub only_end : Step → Parts → Option ℕ
+only_end s end = None
+only_end s (part key n end) = if is_here s (inner (unplaced_key key)) then Some (end_of n) else None
+only_end s (part key n (part j m parts)) = None
 
--- what goes with the one at a step, among such parts (own)
-abbrev pub remove_part : List ℕ → PlacedEdit → Step → Parts → Option PlacedEdit
-remove_part t sole s parts = remove_among t sole (among None s parts) (first_start parts)
-
--- the same in a content from c to e (own)
-abbrev pub remove_in : List ℕ → Step → ℕ → ℕ → Content → Option PlacedEdit
-remove_in t s c e nothing = None
-remove_in t s c e (name n) = None
-remove_in t s c e (text v piece) = None
-remove_in t s c e (sequence parts) = remove_part t (record { start = c; end = e; lead = 91 ∷ (93 ∷ []) }) s parts
-remove_in t s c e (mapping parts) = remove_part t (record { start = c; end = e; lead = 123 ∷ (125 ∷ []) }) s parts
+-- what goes with the item or entry at a step, among such parts; nothing for a sole one (own)
+abbrev pub remove_part : List ℕ → Step → Parts → Option PlacedEdit
+remove_part t s end = None
+remove_part t s (part key n parts) =
+    if is_here s (inner (unplaced_key key)) then option_map (remove_before t (entry_start (key, n))) (first_start parts)
+    else option_or (option_map (remove_end t (entry_start (key, n)) (end_of n)) (only_end (further s) parts)) (remove_part t (further s) parts)
 
 -- what goes with the item or entry at a step of a collection in a text, and what takes its place (own)
 abbrev pub remove_place : List ℕ → Step → Placed → Option PlacedEdit
-remove_place t step (placed a s c e f) = remove_in t step c e f
+remove_place t s p = remove_part t s (parts_of p)

@@ -1,12 +1,13 @@
 -- Edits of a flow collection: an item or entry is taken out.
-use Rattle.std.specs.Prelude.{◌≡◌, ℕ, Bool, true, false, not, ◌||◌, ◌&&◌, ◌==◌, List, [], ◌∷◌, ◌++◌, if◌then◌else◌}
+use Rattle.std.specs.Option.{option_or}
+use Rattle.std.specs.Prelude.{◌≡◌, ℕ, Bool, false, ◌||◌, ◌&&◌, ◌==◌, List, [], ◌∷◌, ◌++◌, Option, Some, None, option_map, if◌then◌else◌}
 use Rattle.yq_scalar.specs.Paths.{Step, is_here, further}
 use Rattle.yq_scalar.specs.PlainText.{begins_marker}
 use Rattle.yq_scalar.specs.Text.{is_feed, is_return, front, separates}
 use Rattle.yq_inline.specs.Alike.{fresh}
-use Rattle.yq_inline.specs.Collections.{CollPieces, coll_text}
-use Rattle.yq_flow.specs.FlowEdits.{FlowEdit, is_none}
-use Rattle.yq_inline.specs.Nodes.{Sep, last, comma, Items, none, item, key_text, sep_text, node_text, items_text}
+use Rattle.yq_inline.specs.Collections.{CollPieces}
+use Rattle.yq_flow.specs.FlowEdits.{FlowEdit}
+use Rattle.yq_inline.specs.Nodes.{Key, Node, Sep, last, comma, Items, none, item, key_text, sep_text, node_text, items_text}
 use Rattle.yq_inline.specs.Trees.{inner, key_content}
 
 -- the text is `---` or `...` (YAML 1.2.2, sections 9.1.2 and 9.1.3)
@@ -40,7 +41,7 @@ gap_to g t = g ++ space_to g t
 
 -- what stands behind an item with another gap behind its comma (own)
 abbrev pub with_gap : List ℕ → Sep → Sep
-with_gap g (last b) = last b
+with_gap g (last b) = last (b ++ g)
 with_gap g (comma b h) = comma b g
 
 -- the gap behind an item's comma (own)
@@ -48,131 +49,58 @@ abbrev pub gap_of : Sep → List ℕ
 gap_of (last b) = []
 gap_of (comma b g) = g
 
--- the items behind a gap without the one at a step, which others follow, and the gap before them (own)
-abbrev pub drop_item : ℕ → List ℕ → Step → List ℕ → Items → List ℕ × Items
-drop_item k rest s g none = (g, none)
-drop_item k rest s g (item key n sep is) =
-    if is_here s (inner (key_content key)) then (gap_to g (items_text k is rest), is)
-    else (let x = drop_item k rest (further s) (gap_of sep) is in (g, item key n (with_gap x.0 sep) x.1))
+-- An edit of what stands behind an item is one of the items from that one on (own).
+abbrev pub behind_item : List ℕ → Key → Node → Sep → FlowEdit → FlowEdit
+behind_item g key n sep e = record { gap = g; items = item key n (with_gap e.gap sep) e.items; old = e.old; lead = e.lead; written = e.written; behind = e.behind }
 
--- a step leads to an item or entry that others follow (own)
-abbrev pub has_next : Step → Items → Bool
-has_next s none = false
-has_next s (item key n sep is) = if is_here s (inner (key_content key)) then not (is_none is) else has_next (further s) is
+-- an item behind a gap goes up to the next one; nothing, if none follows it (own)
+abbrev pub before_next : ℕ → List ℕ → List ℕ → Key → Node → Sep → Items → Option FlowEdit
+before_next k rest g key n sep none = None
+before_next k rest g key n sep (item key2 n2 sep2 is) =
+    let next = key_text key2 (node_text n2 []) in
+    Some (record {
+      gap = gap_to g next;
+      items = item key2 n2 sep2 is;
+      old = key_text key (node_text n (sep_text sep []));
+      lead = space_to g next;
+      written = [];
+      behind = items_text k (item key2 n2 sep2 is) rest;
+    })
 
--- the text of the item at a step with all that stands between it and the next one (own)
-abbrev pub removed_text : Step → Items → List ℕ
-removed_text s none = []
-removed_text s (item key n sep is) = if is_here s (inner (key_content key)) then key_text key (node_text n (sep_text sep [])) else removed_text (further s) is
+-- the text from the end of an item to that of the next one (own)
+abbrev pub next_text : Sep → Key → Node → List ℕ
+next_text sep key n = sep_text sep (key_text key (node_text n []))
 
--- a space, if one takes the place of the item at a step (own)
-abbrev pub removed_for : ℕ → List ℕ → Step → List ℕ → Items → List ℕ
-removed_for k rest s g none = []
-removed_for k rest s g (item key n sep is) =
-    if is_here s (inner (key_content key)) then space_to g (items_text k is rest) else removed_for k rest (further s) (gap_of sep) is
+-- the last item goes from the end of the one before to its own (own)
+abbrev pub last_gone : ℕ → List ℕ → List ℕ → Key → Node → Sep → Key → Node → Sep → FlowEdit
+last_gone k rest g key n sep key2 n2 sep2 =
+    record { gap = g; items = item key n sep2 none; old = next_text sep key2 n2; lead = []; written = []; behind = sep_text sep2 (k ∷ rest) }
 
--- the items behind the one at a step (own)
-abbrev pub items_behind : Step → Items → Items
-items_behind s none = none
-items_behind s (item key n sep is) = if is_here s (inner (key_content key)) then is else items_behind (further s) is
+-- the last item goes up to the comma behind it, or a comma comes in its place if there is none (own)
+abbrev pub comma_left : ℕ → List ℕ → List ℕ → Key → Node → Sep → Key → Node → Sep → FlowEdit
+comma_left k rest g key n sep key2 n2 (last b) =
+    record { gap = g; items = item key n (comma [] b) none; old = next_text sep key2 n2; lead = 44 ∷ []; written = []; behind = b ++ (k ∷ rest) }
+comma_left k rest g key n sep key2 n2 (comma b h) =
+    record { gap = g; items = item key n (comma [] h) none; old = next_text sep key2 n2 ++ b; lead = []; written = []; behind = 44 ∷ (h ++ (k ∷ rest)) }
 
--- two items or more (own)
-abbrev pub is_several : Items → Bool
-is_several none = false
-is_several (item key n sep is) = not (is_none is)
+-- The last one: a comma stays behind an item that ends in `---` or `...` in column 0, which would else become a document marker (own).
+abbrev pub last_removed : ℕ → List ℕ → List ℕ → Key → Node → Sep → Key → Node → Sep → FlowEdit
+last_removed k rest g key n sep key2 n2 sep2 =
+    if ends_marked (fresh false g) (key_text key (node_text n [])) then comma_left k rest g key n sep key2 n2 sep2 else last_gone k rest g key n sep key2 n2 sep2
 
--- what stands behind the last item, and a comma directly behind the one before it (own)
-abbrev pub with_comma : Sep → Sep
-with_comma (last b) = comma [] b
-with_comma (comma b g) = comma [] g
+-- the item that follows another one goes, if a step leads to it and it is the last one (own)
+abbrev pub last_out : ℕ → List ℕ → Step → List ℕ → Key → Node → Sep → Items → Option FlowEdit
+last_out k rest s g key n sep none = None
+last_out k rest s g key n sep (item key2 n2 sep2 none) = if is_here s (inner (key_content key2)) then Some (last_removed k rest g key n sep key2 n2 sep2) else None
+last_out k rest s g key n sep (item key2 n2 sep2 (item key3 n3 sep3 is)) = None
 
--- what is left behind the one before; true says that a comma stays (own)
-abbrev pub left_sep : Bool → Sep → Sep
-left_sep stays sep = if stays then with_comma sep else sep
+-- the item at a step is taken out of the items behind a gap; nothing for a sole one (own)
+abbrev pub removing_from : ℕ → List ℕ → Step → List ℕ → Items → Option FlowEdit
+removing_from k rest s g none = None
+removing_from k rest s g (item key n sep is) =
+    if is_here s (inner (key_content key)) then before_next k rest g key n sep is
+    else option_or (last_out k rest (further s) g key n sep is) (option_map (behind_item g key n sep) (removing_from k rest (further s) (gap_of sep) is))
 
--- what stands before the comma behind an item, if there is one (own)
-abbrev pub comma_old : Sep → List ℕ
-comma_old (last b) = []
-comma_old (comma b g) = b
-
--- a comma, if there is none (own)
-abbrev pub comma_new : Sep → List ℕ
-comma_new (last b) = 44 ∷ []
-comma_new (comma b g) = []
-
--- what stands behind an item, from its comma on if there is one (own)
-abbrev pub comma_on : Sep → List ℕ → List ℕ
-comma_on (last b) rest = b ++ rest
-comma_on (comma b g) rest = 44 ∷ (g ++ rest)
-
--- what stands behind the last item (own)
-abbrev pub last_sep : Items → Sep
-last_sep none = last []
-last_sep (item key n sep none) = sep
-last_sep (item key n sep (item key2 n2 sep2 is)) = last_sep (item key2 n2 sep2 is)
-
--- the items without the last one; true says that a comma stays directly behind the one before it (own)
-abbrev pub drop_last : Bool → Items → Items
-drop_last stays none = none
-drop_last stays (item key n sep none) = none
-drop_last stays (item key n sep (item key2 n2 sep2 none)) = item key n (left_sep stays sep2) none
-drop_last stays (item key n sep (item key2 n2 sep2 (item key3 n3 sep3 is))) = item key n sep (drop_last stays (item key2 n2 sep2 (item key3 n3 sep3 is)))
-
--- what stands behind the last item but one, up to the end of the last one (own)
-abbrev pub last_text : Items → List ℕ
-last_text none = []
-last_text (item key n sep none) = []
-last_text (item key n sep (item key2 n2 sep2 none)) = sep_text sep (key_text key2 (node_text n2 []))
-last_text (item key n sep (item key2 n2 sep2 (item key3 n3 sep3 is))) = last_text (item key2 n2 sep2 (item key3 n3 sep3 is))
-
--- the text of items up to the end of the last one but one (own)
-abbrev pub until_last : Items → List ℕ
-until_last none = []
-until_last (item key n sep none) = []
-until_last (item key n sep (item key2 n2 sep2 none)) = key_text key (node_text n [])
-until_last (item key n sep (item key2 n2 sep2 (item key3 n3 sep3 is))) = key_text key (node_text n (sep_text sep (until_last (item key2 n2 sep2 (item key3 n3 sep3 is)))))
-
--- the sole item or entry is taken out: the collection becomes `[]` or `{}` (own)
-abbrev pub removing_sole : CollPieces → FlowEdit
-removing_sole c = record { gap = []; items = none; old = coll_text c.close c.gap c.items []; lead = coll_text c.close [] none []; written = []; behind = c.rest }
-
--- one that others follow, up to the next one (own)
-abbrev pub removing_before : Step → CollPieces → FlowEdit
-removing_before s c = record {
-  gap = (drop_item c.close c.rest s c.gap c.items).0;
-  items = (drop_item c.close c.rest s c.gap c.items).1;
-  old = removed_text s c.items;
-  lead = removed_for c.close c.rest s c.gap c.items;
-  written = [];
-  behind = items_text c.close (items_behind s c.items) c.rest;
-}
-
--- the last of several, from the end of the one before to its own (own)
-abbrev pub removing_last : CollPieces → FlowEdit
-removing_last c = record {
-  gap = c.gap;
-  items = drop_last false c.items;
-  old = last_text c.items;
-  lead = [];
-  written = [];
-  behind = sep_text (last_sep c.items) (c.close ∷ c.rest);
-}
-
--- the last of several, up to the comma behind it, or with a comma in its place if there is none (own)
-abbrev pub removing_to_comma : CollPieces → FlowEdit
-removing_to_comma c = record {
-  gap = c.gap;
-  items = drop_last true c.items;
-  old = last_text c.items ++ comma_old (last_sep c.items);
-  lead = comma_new (last_sep c.items);
-  written = [];
-  behind = comma_on (last_sep c.items) (c.close ∷ c.rest);
-}
-
--- the last of several: a comma stays behind a `---` or `...` in column 0, which would else become a document marker (own)
-abbrev pub removing_end : CollPieces → FlowEdit
-removing_end c = if ends_marked (fresh false c.gap) (until_last c.items) then removing_to_comma c else removing_last c
-
--- the item or entry at a step is taken out (own)
-abbrev pub removing : Step → CollPieces → FlowEdit
-removing s c = if is_several c.items then (if has_next s c.items then removing_before s c else removing_end c) else removing_sole c
+-- the item or entry at a step of a collection is taken out, if it isn't the sole one (own)
+abbrev pub removing : Step → CollPieces → Option FlowEdit
+removing s c = removing_from c.close c.rest s c.gap c.items

@@ -1,14 +1,15 @@
 //! Inline nodes written, and flow collections edited.
 #![tactic(auto)]
 
-mod among;
 mod flow_laws;
 mod flow_place;
+mod removal;
 mod write;
 
 pub use flow_laws::{
-    appended_in_flow, edit_spans, flow_places, flow_spells, removed_in_flow, replaced_in_flow,
-    scalar_spells, scalar_spells_in_flow,
+    appended_in_flow, flow_spells, removed_in_flow, replaced_in_flow, scalar_spells,
+    scalar_spells_in_flow,
 };
-pub use flow_place::{EditPlace, append_place, remove_place, replace_place};
+pub use flow_place::{EditPlace, append_place, replace_place};
+pub use removal::{behind, remove_place};
 pub use write::{push_scalar, write_entry, write_inline};

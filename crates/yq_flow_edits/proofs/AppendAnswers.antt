@@ -16,11 +16,11 @@ use Rattle.yq_places.specs.FlowNodes.{flow_collection}
 use Rattle.yq_places.specs.FlowTold.{behind_anchor, placed_collection}
 use Rattle.yq_places.specs.declared.places.flow_node.FlowHead.{FlowHead}
 use Rattle.yq_edits.specs.FlowParts.{flow_more, flow_segments, takes_key}
-use Rattle.yq_flow_edits.specs.EditPlaces.{content_takes, edit_segments, moved_on, placed_takes}
+use Rattle.yq_flow_edits.specs.EditPlaces.{content_takes, moved_on, placed_takes}
 use Rattle.yq_flow_edits.proofs.FlowAnswers.{CollFound, EditFound, edit_found}
-use Rattle.yq_flow_edits.proofs.FlowAppendLaws.{bounds, there, written_is}
+use Rattle.yq_flow_edits.proofs.FlowAppendLaws.{bounds, there}
 use Rattle.yq_flow_edits.proofs.FlowHeads.{append_found, appended_within, whole_is}
-use Rattle.yq_flow_edits.proofs.FlowLonger.{SameEdit, appending_more}
+use Rattle.yq_flow_edits.proofs.FlowLonger.{appending_more}
 
 -- whether the collection takes it
 core_takes : (q : Placed) (key : Option (List ℕ)) → placed_takes (behind_anchor q) key ≡ placed_takes q key
@@ -64,9 +64,9 @@ module _ (c : Cut) (n : ℕ) (steps : List Step) (key : Option (List ℕ)) (v : 
   pub more_found : (whole : List ℕ) (p : PlacedEdit) → whole ≡ cut_text c → placed_takes q key ≡ true → Some p ≡ append_place q →
       EditFound (flow_collection n steps c >>= flow_more (cut_text c) key v) whole (moved_on x.before p) (key_text (flow_key key) (flow_text v))
   more_found whole p all takes is =
-      let same = subst (λ (y : CollPieces). SameEdit f.told.behind (edit y) (edit own)) (sym (whole_is (cut_text c) f.coll x f.told)) (appending_more (flow_key key) (flow_of v) f.told.behind own) in
+      let same = ap edit (whole_is (cut_text c) f.coll x f.told) ∙ appending_more (flow_key key) (flow_of v) f.told.behind own in
       let s = there c n steps key v f.coll f.read f.found in
       let w =
       edit_found c n steps x q f (edit f.coll) (edit own) s.before whole p same (appended_within f.told.at f.told.stands (flow_key key) (flow_of v)) (bounds c n steps key v f.coll f.read f.found) s.text
       (same_Some _ _ (is ∙ place_is)) all in
-      record { lies = w.lies; is = more_is true takes ∙ (w.is ∙ ap (λ (l : List ℕ). Some (edit_segments whole (moved_on x.before p) l)) (written_is (flow_key key) (flow_of v) f.coll)) }
+      record { lies = w.lies; is = more_is true takes ∙ w.is }

@@ -21,7 +21,7 @@ use Rattle.yq_edits.specs.FlowParts.{flow_segments}
 use Rattle.yq_flow_edits.specs.EditPlaces.{LiesIn, edit_segments, moved_on}
 use Rattle.yq_flow_edits.proofs.CutLaws.{text_read, text_small}
 use Rattle.yq_flow_edits.proofs.FlowHeads.{in_text, item_whole, told_there}
-use Rattle.yq_flow_edits.proofs.FlowLonger.{SameEdit, entry_more}
+use Rattle.yq_flow_edits.proofs.FlowLonger.{edit_more, entry_more}
 use Rattle.yq_flow_edits.proofs.FlowStandings.{EntryAt}
 
 -- ---- the last step
@@ -100,7 +100,7 @@ module _ (c : Cut) (n : ℕ) (steps : List Step) (x : FlowHead) (q : Placed) (f 
   t = cut_text c
 
   -- An edit that the text has as the row alone has its own.
-  pub edit_found : (e own : FlowEdit) (before whole : List ℕ) (p : PlacedEdit) → SameEdit f.told.behind e own → length (own.old ++ own.behind) ≤ length (node_text f.told.at.node f.told.at.rest) →
+  pub edit_found : (e own : FlowEdit) (before whole : List ℕ) (p : PlacedEdit) → e ≡ edit_more f.told.behind own → length (own.old ++ own.behind) ≤ length (node_text f.told.at.node f.told.at.rest) →
       HasBounds (cut_text c) e → cut_text c ≡ before ++ (e.old ++ e.behind) → p ≡ place_edit (length x.text.now) own → whole ≡ cut_text c → EditFound (Some (flow_segments (cut_text c) e)) whole (moved_on x.before p) e.written
   edit_found e own before whole p same within bounds text is all =
       let moved : place_edit (length t) e ≡ moved_on x.before p = in_text t f.coll x f.told e own same within ∙ ap (moved_on x.before) (sym is) in

@@ -1,28 +1,23 @@
 -- What the code finds in the head of a row, and what of that the text has.
-use Rattle.std.proofs.Common.{◌≡◌, ℕ, ◌+◌, ◌≤◌, Bool, true, false, cond, List, [], ◌∷◌, ◌++◌, length, Option, Some, None, option_and_then, option_map, refl, sym, ap, ◌∙◌, subst, arith, append_assoc, length-append}
+use Rattle.std.proofs.Common.{◌≡◌, ℕ, ◌+◌, ◌≤◌, true, List, [], ◌++◌, length, Option, Some, None, option_map, refl, sym, ap, ◌∙◌, subst, arith, length-append}
 use Rattle.std.proofs.lemmas.Option.{none-some, same_Some}
 use Rattle.yq_scalar.specs.Paths.{Step}
-use Rattle.yq_inline.specs.Collections.{CollAt, CollPieces, IsCollAt, coll_text}
-use Rattle.yq_inline.specs.Entries.{EntryPieces, entry_pieces_at, item_at, pieces_text}
-use Rattle.yq_inline.specs.Nodes.{bare, Key, Node, coll, open_of, node_text, items_text, IsNode, sep_text}
+use Rattle.yq_inline.specs.Collections.{CollAt, CollPieces, IsCollAt}
+use Rattle.yq_inline.specs.Entries.{EntryPieces, item_at}
+use Rattle.yq_inline.specs.Nodes.{Key, Node, coll, node_text, items_text, IsNode}
 use Rattle.yq_inline.specs.Places.{Placed, locate}
 use Rattle.yq_flow.specs.FlowEdits.{FlowEdit, appending, replacing}
 use Rattle.yq_flow.specs.FlowPlaces.{append_place, place_edit, remove_place, replace_place}
-use Rattle.yq_flow.specs.Removals.{comma_old, comma_on, ends_marked, has_next, is_several, last_sep, last_text, removing, removing_before, removing_end, removing_last, removing_sole, removing_to_comma, until_last}
-use Rattle.yq_inline.specs.Alike.{fresh}
+use Rattle.yq_flow.specs.Removals.{removing}
 use Rattle.yq_flow.proofs.EditLaws.{Around, around_is}
-use Rattle.yq_flow.proofs.EditPaths.{dropped_text}
-use Rattle.yq_flow.proofs.LastLaws.{comma_was}
-use Rattle.yq_flow.proofs.PlacedAmong.{until_text}
 use Rattle.yq_flow.proofs.PlacedEdits.{append_placed, replace_placed}
 use Rattle.yq_flow.proofs.RemovePlaces.{remove_placed}
-use Rattle.yq_inline.proofs.PathLaws.{items_hold, path_stands}
-use Rattle.yq_inline.proofs.WrittenLaws.{items_append}
+use Rattle.yq_flow.proofs.RemoveTexts.{removed_text}
+use Rattle.yq_inline.proofs.PathLaws.{items_hold}
 use Rattle.yq_places.specs.FlowTold.{IsTold, TellsFlow, behind_anchor, collection_told, placed_collection}
 use Rattle.yq_places.specs.declared.places.flow_node.FlowHead.{FlowHead}
 use Rattle.yq_flow_edits.specs.EditPlaces.{moved_on}
-use Rattle.yq_flow_edits.proofs.FlowAppendLaws.{all_behind}
-use Rattle.yq_flow_edits.proofs.FlowLonger.{SameEdit, entry_more, item_more, place_moved, with_more}
+use Rattle.yq_flow_edits.proofs.FlowLonger.{edit_more, entry_more, item_more, place_moved, with_more}
 use Rattle.yq_flow_edits.proofs.FlowWholeLaws.{StandsBefore, appended_stands, replaced_stands}
 
 -- ---- lengths
@@ -54,7 +49,7 @@ module _ (z : CollAt) (is : IsCollAt z) where
   valid = (around.closes, around.gap, around.items)
 
   pub appended_within : (key : Key) (m : Node) → length ((appending key m w).old ++ (appending key m w).behind) ≤ length t
-  appended_within key m = subst (λ (l : List ℕ). length l ≤ length t) (sym (all_behind key m w)) (stands_within t _ (appended_stands z [] is))
+  appended_within key m = stands_within t _ (appended_stands z [] is)
 
   pub replaced_within : (s : Step) (y : EntryPieces) (m : Node) → item_at w.close s w.items w.rest ≡ Some y → length ((replacing s y m w).old ++ (replacing s y m w).behind) ≤ length t
   replaced_within s y m at = stands_within t _ (replaced_stands z [] is s y at)
@@ -65,51 +60,13 @@ module _ (z : CollAt) (is : IsCollAt z) where
   pub replace_found : (s : Step) (y : EntryPieces) (m : Node) → item_at w.close s w.items w.rest ≡ Some y → replace_place (locate (length t) y.node y.rest) ≡ place_edit (length t) (replacing s y m w)
   replace_found s y m at = replace_placed true (Some 0) around.inner_depth (length t) s y m w (items_hold around.inner_depth w.close s w.items w.rest y around.items at)
 
-  pub remove_found : (s : Step) (y : EntryPieces) → item_at w.close s w.items w.rest ≡ Some y → remove_place t s (placed_collection (length t) w) ≡ Some (place_edit (length t) (removing s w))
-  remove_found s y at = remove_placed true (Some 0) _ t around.before (coll w.close w.gap w.items) w.rest w s y valid refl at whole
+  pub remove_found : (s : Step) → remove_place t s (placed_collection (length t) w) ≡ option_map (place_edit (length t)) (removing s w)
+  remove_found s = remove_placed true (Some 0) _ t around.before (coll w.close w.gap w.items) w.rest w s valid refl whole
 
-  -- all items or entries stand in it
-  items_within : length (items_text w.close w.items w.rest) + 1 ≤ length t
-  items_within = omega (arith, longer_behind t around.before _ around.text, length-append w.gap (items_text w.close w.items w.rest))
-
-  item_within : (s : Step) (y : EntryPieces) → item_at w.close s w.items w.rest ≡ Some y → length (pieces_text y) ≤ length t
-  item_within s y at =
-      let slot : EntryPieces = record { key = bare; node = coll w.close w.gap w.items; rest = w.rest } in
-      let h = path_stands (s ∷ []) slot y (ap (option_and_then (entry_pieces_at [])) at) in
-      omega (arith, longer_behind t around.before _ whole, longer_behind (pieces_text slot) h.before (pieces_text y) h.text)
-
-  last_within : is_several w.items ≡ true → length (last_text w.items ++ sep_text (last_sep w.items) (w.close ∷ w.rest)) ≤ length t
-  last_within some = omega (arith, items_within, longer_behind (items_text w.close w.items w.rest) (until_last w.items) _ (until_text w.close w.items w.rest some))
-
-  abbrev Within : FlowEdit → Type 0
-  Within e = length (e.old ++ e.behind) ≤ length t
-
-  pub removed_within : (s : Step) (y : EntryPieces) → item_at w.close s w.items w.rest ≡ Some y → length ((removing s w).old ++ (removing s w).behind) ≤ length t
-  removed_within s y at = several (is_several w.items) refl
-    where
-      sole : Within (removing_sole w)
-      sole =
-          let all : coll_text w.close w.gap w.items [] ++ w.rest ≡ coll_text w.close w.gap w.items w.rest =
-          ap (λ l. open_of w.close ∷ l) (append_assoc w.gap (items_text w.close w.items []) w.rest ∙ ap (λ l. w.gap ++ l) (sym (items_append w.close w.items [] w.rest))) in
-          omega (arith, ap length all, longer_behind t around.before _ around.text)
-
-      before : Within (removing_before s w)
-      before = omega (arith, item_within s y at, ap length (dropped_text w.close s w.items w.rest y at))
-
-      at_end : is_several w.items ≡ true → (b : Bool) → Within (cond b (removing_to_comma w) (removing_last w))
-      at_end some true =
-          let all : (last_text w.items ++ comma_old (last_sep w.items)) ++ comma_on (last_sep w.items) (w.close ∷ w.rest) ≡ last_text w.items ++ sep_text (last_sep w.items) (w.close ∷ w.rest) =
-          append_assoc (last_text w.items) (comma_old (last_sep w.items)) (comma_on (last_sep w.items) (w.close ∷ w.rest)) ∙ ap (λ l. last_text w.items ++ l) (sym (comma_was (last_sep w.items) (w.close ∷ w.rest))) in
-          omega (arith, ap length all, last_within some)
-      at_end some false = last_within some
-
-      next : is_several w.items ≡ true → (b : Bool) → Within (cond b (removing_before s w) (removing_end w))
-      next some true = before
-      next some false = at_end some (ends_marked (fresh false w.gap) (until_last w.items))
-
-      several : (b : Bool) → is_several w.items ≡ b → Within (cond b (cond (has_next s w.items) (removing_before s w) (removing_end w)) (removing_sole w))
-      several true some = next some (has_next s w.items)
-      several false some = sole
+  pub removed_within : (s : Step) (e : FlowEdit) → removing s w ≡ Some e → length (e.old ++ e.behind) ≤ length t
+  removed_within s e at =
+      let h = (removed_text w.close w.rest s w.gap w.items e at).text in
+      omega (arith, longer_behind (w.gap ++ items_text w.close w.items w.rest) h.before (e.old ++ e.behind) h.was, longer_behind t around.before _ around.text)
 
 -- ---- the collection in the text
 
@@ -128,10 +85,10 @@ module _ (t : List ℕ) (w : CollPieces) (x : FlowHead) (h : IsTold t w x) where
   told_is = h.found ∙ ap (λ v. Some (placed_collection (length row) v)) (sym h.coll_is)
 
   -- an edit in the text
-  pub in_text : (e f : FlowEdit) → SameEdit h.behind e f → length (f.old ++ f.behind) ≤ length (node_text h.at.node h.at.rest) → place_edit (length t) e ≡ moved_on x.before (place_edit (length row) f)
+  pub in_text : (e f : FlowEdit) → e ≡ edit_more h.behind f → length (f.old ++ f.behind) ≤ length (node_text h.at.node h.at.rest) → place_edit (length t) e ≡ moved_on x.before (place_edit (length row) f)
   in_text e f same within =
-      (λ i. place_edit (length (h.text i)) e)
-      ∙ (place_moved h.front row h.behind e f same (subst (λ (l : List ℕ). length (f.old ++ f.behind) ≤ length l) (sym h.node_is) within)
+      (λ i. place_edit (length (h.text i)) (same i))
+      ∙ (place_moved h.front row h.behind f (subst (λ (l : List ℕ). length (f.old ++ f.behind) ≤ length l) (sym h.node_is) within)
       ∙ ap (λ (n : ℕ). moved_on n (place_edit (length row) f)) (sym h.before))
 
   -- an item or entry in the row alone, and in the text

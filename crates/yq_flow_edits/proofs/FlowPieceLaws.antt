@@ -1,20 +1,13 @@
 -- The pieces of a text from which an item or entry of a flow collection is taken out.
-use Rattle.std.proofs.Common.{◌≡◌, ◌⊎◌, inl, inr, ℕ, ◌-◌, Bool, true, false, ◌&&◌, cond, eqb, eqb-true, List, [], ◌∷◌, ◌++◌, length, take, refl, sym, ap, ◌∙◌, subst, arith, append_assoc, length-append}
+use Rattle.std.proofs.Common.{◌≡◌, ◌⊎◌, inl, inr, ℕ, ◌-◌, Bool, true, false, ◌&&◌, cond, List, [], ◌∷◌, ◌++◌, length, take, refl, sym, ap, ◌∙◌, subst, arith, append_assoc, length-append}
 use Rattle.std.proofs.Math.Seq.{take-append_seam, drop-append_seam}
-use Rattle.std.proofs.lemmas.Bool.{cond_both, false≢true, or_cases, and_from, and_parts}
+use Rattle.std.proofs.lemmas.Bool.{false≢true, and_from, and_parts}
 use Rattle.std.proofs.lemmas.Str.{IsUtf8-drop, IsUtf8-take, IsUtf8-nil, IsUtf8-from_ascii}
 use Rattle.std.proofs.lemmas.Str.Ascii.{IsAscii-cons, IsAscii-nil}
 use Rattle.std.specs.Str.{chars, IsUtf8, IsCharBoundary}
 use Rattle.yq_scalar.specs.Characters.{pairs_returns}
-use Rattle.yq_scalar.specs.Paths.{Step, is_here, further}
-use Rattle.yq_scalar.specs.PlainText.{begins_marker}
 use Rattle.yq_scalar.specs.Text.{front, is_feed, is_return}
-use Rattle.yq_inline.specs.Alike.{fresh}
-use Rattle.yq_inline.specs.Collections.{CollPieces, coll_text}
 use Rattle.yq_flow.specs.FlowEdits.{FlowEdit}
-use Rattle.yq_inline.specs.Nodes.{Sep, last, comma, Items, none, item, items_text, is_close, open_of}
-use Rattle.yq_flow.specs.Removals.{comma_new, ends_marked, gap_of, has_next, is_several, last_sep, removed_for, removing, removing_before, removing_end, removing_last, removing_sole, removing_to_comma, space_to, until_last}
-use Rattle.yq_inline.specs.Trees.{inner, key_content}
 use Rattle.yq_flow.proofs.ReturnLaws.{Whole}
 use Rattle.yq_rows.proofs.CharacterLaws.{all_text, all_join, pairs_back}
 use Rattle.yq_change.specs.TextPieces.{IsPiece}
@@ -83,44 +76,7 @@ pub nothing_piece : IsPiece []
 unfolding chars pairs_returns
 nothing_piece = record { utf8 = IsUtf8-nil; characters = refl }
 
-list_piece : IsPiece (91 ∷ (93 ∷ []))
-unfolding chars pairs_returns
-list_piece = record { utf8 = IsUtf8-from_ascii (91 ∷ (93 ∷ [])) (IsAscii-cons 91 (93 ∷ []) (omega arith) (IsAscii-cons 93 [] (omega arith) IsAscii-nil)); characters = refl }
-
-map_piece : IsPiece (123 ∷ (125 ∷ []))
-unfolding chars pairs_returns
-map_piece = record { utf8 = IsUtf8-from_ascii (123 ∷ (125 ∷ [])) (IsAscii-cons 123 (125 ∷ []) (omega arith) (IsAscii-cons 125 [] (omega arith) IsAscii-nil)); characters = refl }
-
-empty_piece : (k : ℕ) → is_close k ≡ true → IsPiece (coll_text k [] none [])
-unfolding items_text
-empty_piece k c = go (or_cases (eqb k 93) (eqb k 125) c)
-  where
-    go : (eqb k 93 ≡ true) ⊎ (eqb k 125 ≡ true) → IsPiece (open_of k ∷ (k ∷ []))
-    go (inl e) = subst (λ (x : ℕ). IsPiece (open_of x ∷ (x ∷ []))) (sym (eqb-true k 93 e)) list_piece
-    go (inr e) = subst (λ (x : ℕ). IsPiece (open_of x ∷ (x ∷ []))) (sym (eqb-true k 125 e)) map_piece
-
-space_piece : (g t : List ℕ) → IsPiece (space_to g t)
-space_piece g t = cond_both (fresh false g && begins_marker t) (32 ∷ []) [] IsPiece (λ _. one_space) (λ _. nothing_piece)
-
-before_piece : (k : ℕ) (rest : List ℕ) (s : Step) (g : List ℕ) (is : Items) → IsPiece (removed_for k rest s g is)
-before_piece k rest s g none = nothing_piece
-before_piece k rest s g (item key n sep is) =
-    cond_both (is_here s (inner (key_content key))) (space_to g (items_text k is rest)) (removed_for k rest (further s) (gap_of sep) is) IsPiece (λ _. space_piece g (items_text k is rest)) (λ _. before_piece k rest (further s) (gap_of sep) is)
-
-comma_piece : (sep : Sep) → IsPiece (comma_new sep)
-comma_piece (last b) = ascii_piece 44 (inr refl)
-comma_piece (comma b g) = nothing_piece
-
-pub lead_piece : (s : Step) (w : CollPieces) → is_close w.close ≡ true → IsPiece (removing s w).lead
-lead_piece s w c =
-    let fits : FlowEdit → Type 0 = λ e. IsPiece e.lead in
-    let end' : fits (removing_end w) = cond_both (ends_marked (fresh false w.gap) (until_last w.items)) (removing_to_comma w) (removing_last w) fits (λ _. comma_piece (last_sep w.items)) (λ _. nothing_piece) in
-    let some : fits (cond (has_next s w.items) (removing_before s w) (removing_end w)) = cond_both (has_next s w.items) (removing_before s w) (removing_end w) fits (λ _. before_piece w.close w.rest s w.gap w.items) (λ _. end') in
-    cond_both (is_several w.items) (cond (has_next s w.items) (removing_before s w) (removing_end w)) (removing_sole w) fits (λ _. some) (λ _. empty_piece w.close c)
-
-pub removed_empty : (s : Step) (w : CollPieces) → (removing s w).written ≡ []
-removed_empty s w =
-    let none' : FlowEdit → Type 0 = λ e. e.written ≡ [] in
-    let end' : none' (removing_end w) = cond_both (ends_marked (fresh false w.gap) (until_last w.items)) (removing_to_comma w) (removing_last w) none' (λ _. refl) (λ _. refl) in
-    let some : none' (cond (has_next s w.items) (removing_before s w) (removing_end w)) = cond_both (has_next s w.items) (removing_before s w) (removing_end w) none' (λ _. refl) (λ _. end') in
-    cond_both (is_several w.items) (cond (has_next s w.items) (removing_before s w) (removing_end w)) (removing_sole w) none' (λ _. some) (λ _. refl)
+pub lead_piece : (l : List ℕ) → (l ≡ []) ⊎ ((l ≡ 32 ∷ []) ⊎ (l ≡ 44 ∷ [])) → IsPiece l
+lead_piece l (inl e) = subst IsPiece (sym e) nothing_piece
+lead_piece l (inr (inl e)) = subst IsPiece (sym e) one_space
+lead_piece l (inr (inr e)) = subst IsPiece (sym e) (ascii_piece 44 (inr refl))

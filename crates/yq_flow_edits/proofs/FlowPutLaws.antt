@@ -31,7 +31,7 @@ use Rattle.yq_documents.specs.Nodes.{anchor_of}
 use Rattle.yq_documents.specs.Reading.{documents, read_at, root_of}
 use Rattle.yq_documents.specs.TreeEdits.{replaced}
 use Rattle.yq_places.proofs.FlowPieces.{named_is, none_anchored}
-use Rattle.yq_change.specs.FlowRows.{behind_node, FlowAt}
+use Rattle.yq_change.specs.FlowRows.{FlowAt}
 use Rattle.yq_change.specs.Rooms.{is_block_root}
 use Rattle.yq_change.specs.SoundRoots.{IsSoundRoot}
 use Rattle.yq_change.specs.TextPieces.{IsPiece}
@@ -47,7 +47,7 @@ use Rattle.yq_places.specs.Standings.{FlowPart, last_step}
 use Rattle.yq_edits.specs.EditLaws.{CarriedOut, FlowValuesArePut, IsEdit}
 use Rattle.yq_edits.specs.FlowParts.{content_written, flow_put, flow_segments, flow_value}
 use Rattle.yq_edits.specs.Style.{style_in}
-use Rattle.yq_flow_edits.proofs.FlowRests.{along_rest, item_rest}
+use Rattle.yq_flow.proofs.ItemPlaces.{item_rest}
 use Rattle.yq_edits.proofs.FitLaws.{FitsReplace, fits_replace}
 use Rattle.yq_flow_edits.proofs.FlowPieceLaws.{edit_pieces, nothing_piece, one_space}
 use Rattle.yq_flow_edits.proofs.FlowSoundLaws.{last_is}
@@ -205,7 +205,7 @@ module _ (c : Cut) (doc : ℕ) (path : List Step) (v : tree.Node) (read : read_a
           pieces = (subst IsPiece (sym (before_is (cut_text c) there.before (e.old ++ e.behind) there.text)) parts.0, (space_there (content_node a.item.node), (written_piece (content_written a.item.node) v h, (parts.1, tt))));
           stays = omega (
             arith,
-            along_rest at.rest at.row.node (behind_node c doc at.part at.row) a.coll at.at.along,
+            (around_is x stands).longer,
             item_rest a.coll.close a.step a.coll.items a.coll.rest a.item a.at,
           );
         }) size

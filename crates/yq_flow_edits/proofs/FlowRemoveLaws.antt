@@ -1,10 +1,10 @@
 -- An item or entry taken out of a flow collection.
-use Rattle.std.proofs.Common.{arith, ◌≡◌, true, ℕ, ◌-◌, ◌≤◌, List, [], ◌∷◌, ◌++◌, length, map, Some, sym, ap, ◌∙◌, subst}
-use Rattle.std.specs.List.{slice_get}
+use Rattle.std.proofs.Common.{arith, ◌≡◌, true, ℕ, ◌-◌, ◌≤◌, List, ◌++◌, length, Some, option_map, sym, ap, ◌∙◌, subst}
+use Rattle.std.proofs.lemmas.Option.{same_Some}
 use Rattle.std.specs.Str.{IsCharBoundary}
 use Rattle.yq_scalar.specs.Characters.{pairs_returns, text_limit}
 use Rattle.yq_scalar.specs.Paths.{Step, change, remove_child, within}
-use Rattle.yq_inline.specs.Collections.{CollAt, IsCollAt}
+use Rattle.yq_inline.specs.Collections.{CollAt, CollPieces, IsCollAt}
 use Rattle.yq_flow.specs.FlowEdits.{FlowEdit, IsEdited}
 use Rattle.yq_flow.specs.FlowPlaces.{place_edit}
 use Rattle.yq_inline.specs.Nodes.{node_text}
@@ -12,9 +12,9 @@ use Rattle.yq_inline.specs.Places.{locate}
 use Rattle.yq_flow.specs.Removals.{removing}
 use Rattle.yq_flow.proofs.EditLaws.{around_is}
 use Rattle.yq_flow.proofs.EditSpans.{remove_spans}
-use Rattle.yq_flow.proofs.EditWholes.{removed_whole}
-use Rattle.yq_flow.proofs.RemoveLaws.{removed}
+use Rattle.yq_flow.proofs.RemoveLaws.{removed, removed_whole}
 use Rattle.yq_flow.proofs.RemovePlaces.{remove_placed}
+use Rattle.yq_flow.proofs.RemoveTexts.{RemovedText, made_of, removed_text}
 use Rattle.yq_flow.proofs.ReturnLaws.{pairs_behind}
 use Rattle.yq_rows.specs.Rows.{Cut, cut_text}
 use Rattle.yq_documents.specs.Documents.{Document, document_parts}
@@ -30,78 +30,71 @@ use Rattle.yq_meaning.specs.Fits.{Fits}
 use Rattle.yq_meaning.specs.Operations.{remove}
 use Rattle.yq_meaning.specs.Rooms.{room_of}
 use Rattle.yq_script.specs.Script.{new_text}
-use Rattle.yq_places.specs.Standings.{FlowPart}
+use Rattle.yq_places.specs.FlowNodes.{flow_collection}
+use Rattle.yq_places.specs.Standings.{last_step}
 use Rattle.yq_edits.specs.EditLaws.{CarriedOut, FlowPartIsRemoved, IsEdit}
-use Rattle.yq_edits.specs.FlowParts.{flow_removed, flow_segments}
-use Rattle.yq_flow_edits.proofs.FlowRests.{along_rest, removed_rest}
-use Rattle.yq_flow_edits.proofs.FlowPieceLaws.{edit_pieces, lead_piece, nothing_piece, removed_empty}
+use Rattle.yq_edits.specs.FlowParts.{flow_segments}
+use Rattle.yq_edits.proofs.DoneLaws.{nth_map}
+use Rattle.yq_flow_edits.proofs.FlowPieceLaws.{edit_pieces, lead_piece, nothing_piece}
 use Rattle.yq_flow_edits.proofs.FlowStandings as standing
-use Rattle.yq_flow_edits.proofs.FlowStandings.{EntryAt, entry_made}
 use Rattle.yq_flow_edits.proofs.FlowSoundLaws.{remove_root, remove_sound}
 use Rattle.yq_flow_edits.proofs.FlowEditLaws.{edited_at, before_is, FlowTexts, flow_made, flow_texts, segments_old}
 
--- the document of a number among documents
-nth_document : (k : ℕ) (p : Rattle.yq_rows.specs.Rows.Part) (ps : List Rattle.yq_rows.specs.Rows.Part) (d : Document) → slice_get ps k ≡ Some p → slice_get (map reading.document_of ps) k ≡ Some d → d ≡ reading.document_of p
-nth_document k p [] d a b = absurd (cc)
-nth_document Rattle.std.proofs.Common.zero p (q ∷ ps) d a b = let same : q ≡ p = cc in let is : reading.document_of q ≡ d = cc in sym is ∙ ap reading.document_of same
-nth_document (Rattle.std.proofs.Common.suc k) p (q ∷ ps) d a b = nth_document k p ps d a b
-
-module _ (c : Cut) (doc : ℕ) (path : List Step) (read : read_at (cut_text c) ≡ Some c) (a : EntryAt c doc path) where
-  abbrev pub at : FlowAt c doc a.init a.coll
-  at = standing.at c doc a.init a.coll read a.found
+module _ (c : Cut) (doc : ℕ) (path init : List Step) (s : Step) (w : CollPieces) (e : FlowEdit) (read : read_at (cut_text c) ≡ Some c) (last : last_step path ≡ Some (init, s)) (found : flow_collection doc init c ≡ Some w) (gone : removing s w ≡ Some e) where
+  abbrev at : FlowAt c doc init w
+  at = standing.at c doc init w read found
 
   abbrev x : CollAt
-  x = standing.x c doc a.init a.coll read a.found
+  x = standing.x c doc init w read found
 
   abbrev row_text : NodeStands c doc at.part at.row
-  row_text = standing.row_text c doc a.init a.coll read a.found
-
-  abbrev pub e : FlowEdit
-  e = removing a.step a.coll
+  row_text = standing.row_text c doc init w read found
 
   stands : IsCollAt x
-  stands = standing.stands c doc a.init a.coll read a.found
+  stands = standing.stands c doc init w read found
 
   pairs : pairs_returns (row_text.before ++ node_text x.node x.rest) ≡ true
-  pairs = standing.pairs c doc a.init a.coll read a.found
+  pairs = standing.pairs c doc init w read found
 
-  edited : IsEdited x e (change at.rest (within (remove_child a.step)))
-  edited = removed x a.step a.item stands a.at (pairs_behind row_text.before (node_text x.node x.rest) pairs)
+  edited : IsEdited x e (change at.rest (within (remove_child s)))
+  edited = removed x s e stands gone (pairs_behind row_text.before (node_text x.node x.rest) pairs)
 
-  pub texts : FlowTexts c (put_document doc (with_node at.part at.row (edited_at c doc a.init a.coll at e)) c) e (node_text at.row.node (behind_node c doc at.part at.row))
-  texts = flow_texts c doc a.init a.coll at e (remove_child a.step) edited
+  pub texts : FlowTexts c (put_document doc (with_node at.part at.row (edited_at c doc init w at e)) c) e (node_text at.row.node (behind_node c doc at.part at.row))
+  texts = flow_texts c doc init w at e (remove_child s) edited
 
   pub bounds : IsCharBoundary (cut_text c) (length (cut_text c) - length (e.old ++ e.behind)) × IsCharBoundary (cut_text c) (length (cut_text c) - length e.behind)
   bounds =
-      let cs = standing.placed c doc a.init a.coll read a.found in
-      remove_spans (cut_text c) a.step (locate (length (cut_text c)) cs.node cs.rest) (place_edit (length (cut_text c)) e) cs.spans
-      (remove_placed cs.valid.flow cs.valid.spaces cs.valid.depth (cut_text c) cs.before cs.node cs.rest a.coll a.step a.item cs.valid.is cs.is a.at cs.text)
+      let cs = standing.placed c doc init w read found in
+      remove_spans (cut_text c) s (locate (length (cut_text c)) cs.node cs.rest) (place_edit (length (cut_text c)) e) cs.spans
+      (remove_placed cs.valid.flow cs.valid.spaces cs.valid.depth (cut_text c) cs.before cs.node cs.rest w s cs.valid.is cs.is cs.text ∙ ap (option_map (place_edit (length (cut_text c)))) gone)
+
+  pub bytes : RemovedText w.close w.rest w.gap w.items e
+  bytes = removed_text w.close w.rest s w.gap w.items e gone
 
   removed_carried : Fits (room_of (cut_text c)) (remove doc path) (documents c) → length (new_text (flow_segments (cut_text c) e)) ≤ text_limit → CarriedOut (remove doc path) c (flow_segments (cut_text c) e)
   removed_carried fits size =
-      let old = standing.old c doc a.init a.coll read a.found in
-      let piece = standing.piece c doc a.init a.coll read a.found in
+      let old = standing.old c doc init w read found in
       let known = document_known (cut_text c) c doc at.part old in
-      let root : fits.0.root ≡ root_of at.part = ap (λ (d : Document). d.root) (nth_document doc at.part (document_parts c) fits.0 at.there fits.1) in
+      let root : fits.0.root ≡ root_of at.part = ap (λ (d : Document). d.root) (same_Some _ _ (sym fits.1 ∙ nth_map doc at.part reading.document_of (document_parts c) at.there)) in
       let n = subst (λ r. (n : Rattle.yq_scalar.specs.Tree.Node) × (Rattle.yq_scalar.specs.Paths.node_at path r ≡ Some n) × (Rattle.yq_meaning.specs.Changes.is_used_in (Rattle.yq_scalar.specs.Anchors.names_of r) (Some n) ≡ Rattle.std.proofs.Common.false)) root fits.2.1 in
       let sound : IsSoundRoot (root_of at.part) = record { unique = known.document.unique; nested = known.document.nested; bound = known.document.bound } in
-      let whole = removed_whole x a.step a.item row_text.before texts.before stands a.at pairs (sym row_text.old ∙ texts.old) in
-      let parts = edit_pieces (cut_text c) texts.before e piece texts.old bounds.0 bounds.1 whole in
-      flow_made (remove doc path) c a.init a.coll at e (remove_child a.step) read (record {
+      let whole = removed_whole x s e stands gone row_text.before texts.before pairs (sym row_text.old ∙ texts.old) in
+      let parts = edit_pieces (cut_text c) texts.before e (standing.piece c doc init w read found) texts.old bounds.0 bounds.1 whole in
+      flow_made (remove doc path) c init w at e (remove_child s) read (record {
         edited = edited;
-        keys = flow_keys (cut_text c) c doc at.part a.init at.line at.rest at.row a.coll e.gap e.items old at.at (left_keys a.step a.coll);
-        sound = remove_sound path a.init a.step (root_of at.part) n.0 sound a.last n.1 n.2;
-        root = remove_root path a.init a.step (root_of at.part) a.last;
+        keys = flow_keys (cut_text c) c doc at.part init at.line at.rest at.row w e.gap e.items old at.at (left_keys s w e gone);
+        sound = remove_sound path init s (root_of at.part) n.0 sound last n.1 n.2;
+        root = remove_root path init s (root_of at.part) last;
         pieces = (
           subst IsPiece (sym (before_is (cut_text c) texts.before (e.old ++ e.behind) texts.old)) parts.0,
-          (lead_piece a.step a.coll (around_is x stands).closes, (subst IsPiece (sym (removed_empty a.step a.coll)) nothing_piece, (parts.1, tt))),
+          (lead_piece e.lead bytes.lead, (subst IsPiece (sym bytes.none_written) nothing_piece, (parts.1, tt))),
         );
-        stays = omega (arith, along_rest at.rest at.row.node (behind_node c doc at.part at.row) a.coll at.at.along, removed_rest a.step a.coll);
+        stays = omega (arith, (around_is x stands).longer, bytes.longer);
       }) size
 
 -- Remove: an item or entry with the comma and the white space that go with it.
 pub flow_part_removed : FlowPartIsRemoved
-flow_part_removed n steps c y read others there =
-    let a = entry_made c n steps y there in
-    let w = texts c n steps read a.0 in
-    subst (λ (z : FlowPart). IsEdit (remove n steps) c (flow_removed (cut_text c) z)) a.1 (record { old = segments_old (cut_text c) w.before (e c n steps read a.0) w.old; carried = λ h fits size. removed_carried c n steps read a.0 fits size })
+flow_part_removed n steps init s c w ss read last found is =
+    let x = made_of (flow_segments (cut_text c)) (removing s w) ss is in
+    let t = texts c n steps init s w x.0 read last found x.1 in
+    subst (IsEdit (remove n steps) c) x.2 (record { old = segments_old (cut_text c) t.before x.0 t.old; carried = λ h fits size. removed_carried c n steps init s w x.0 read last found x.1 fits size })

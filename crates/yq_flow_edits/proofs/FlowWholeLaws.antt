@@ -1,63 +1,19 @@
 -- Where something is written in a flow collection, no CR stands before an LF.
 use Rattle.std.proofs.Common.{◌≡◌, ℕ, Bool, true, false, not, ◌&&◌, cond, eqb, List, [], ◌∷◌, ◌++◌, Some, refl, sym, ap, ◌∙◌, subst, append_assoc}
 use Rattle.std.proofs.lemmas.Bool.{false≢true}
-use Rattle.std.proofs.lemmas.Option.{same_Some}
-use Rattle.yq_scalar.specs.Paths.{Step, is_here, further}
+use Rattle.yq_scalar.specs.Paths.{Step}
 use Rattle.yq_scalar.specs.Text.{front, is_feed}
-use Rattle.yq_inline.specs.Alike.{EndsItem}
 use Rattle.yq_inline.specs.Collections.{CollAt, IsCollAt, item_in}
-use Rattle.yq_inline.specs.Entries.{EntryPieces, item_at, pieces_text}
-use Rattle.yq_flow.specs.FlowEdits.{FitsItem, behind_appended, behind_last, content_node, is_none}
-use Rattle.yq_inline.specs.Nodes.{bare, Node, empty, alias, scalar, coll, anchored, Items, none, item, key_text, sep_text, node_text, items_text, is_close, is_bare, AreItems, IsNode, open_of}
+use Rattle.yq_inline.specs.Entries.{EntryPieces, pieces_text}
+use Rattle.yq_flow.specs.FlowEdits.{behind_appended, behind_last, content_node}
+use Rattle.yq_inline.specs.Nodes.{bare, Node, empty, alias, scalar, coll, anchored, Items, none, item, key_text, node_text, items_text, AreItems, is_close, is_bare, IsNode, open_of}
 use Rattle.yq_flow.specs.Removals.{ends_return}
-use Rattle.yq_inline.specs.Trees.{inner, key_content}
-use Rattle.yq_flow.proofs.EditLaws.{Around, around_is, none_is}
-use Rattle.yq_flow.proofs.EditWholes.{whole_front}
+use Rattle.yq_flow.proofs.EditLaws.{Around, around_is}
 use Rattle.yq_flow.proofs.ItemLaws.{item_begins, item_some}
-use Rattle.yq_flow.proofs.ItemSwaps.{item_cut}
+use Rattle.yq_flow.proofs.ItemPlaces.{Behind, further_behind, item_behind, last_behind}
 use Rattle.yq_flow.proofs.LocalLaws.{node_no_feed}
-use Rattle.yq_inline.proofs.NodeKeeps.{sep_ends}
-use Rattle.yq_flow.proofs.ReturnLaws.{Whole, item_return, return_some, whole_by}
+use Rattle.yq_flow.proofs.ReturnLaws.{Whole, item_return, return_some, whole_by, whole_front}
 use Rattle.yq_inline.proofs.WrittenLaws.{key_append, node_then}
-
--- An item or entry stands behind a text, and what ends it behind that.
-record Behind (d k : ℕ) (t : List ℕ) (y : EntryPieces) : Type 0 where
-  before : List ℕ
-  text : t ≡ before ++ pieces_text y
-  fits : FitsItem d k y.key y.node y.rest
-  ends : EndsItem k y.rest
-
-further_behind : (d k : ℕ) (t u front : List ℕ) (y : EntryPieces) → t ≡ front ++ u → Behind d k u y → Behind d k t y
-further_behind d k t u front y is h = record { before = front ++ h.before; text = is ∙ (ap (λ (l : List ℕ). front ++ l) h.text ∙ sym (append_assoc front h.before (pieces_text y))); fits = h.fits; ends = h.ends }
-
-item_behind : (d k : ℕ) (s : Step) (is : Items) (rest : List ℕ) (y : EntryPieces) → AreItems d k is rest → item_at k s is rest ≡ Some y → Behind d k (items_text k is rest) y
-unfolding items_text AreItems
-item_behind d k s none rest y a e = absurd (cc)
-item_behind d k s (item key n sep is) rest y a e = go (is_here s (inner (key_content key))) (λ again. item_behind d k (further s) is rest y a.4 again) e
-  where
-    tail : List ℕ
-    tail = items_text k is rest
-
-    own : EntryPieces
-    own = record { key = key; node = n; rest = sep_text sep tail }
-
-    first : Behind d k (key_text key (node_text n (sep_text sep tail))) own
-    first = record { before = []; text = refl; fits = record { key_is = a.0; some = a.1; is = a.2 }; ends = sep_ends k sep tail a.3 }
-
-    go : (b : Bool) → (item_at k (further s) is rest ≡ Some y → Behind d k tail y) → cond b (Some own) (item_at k (further s) is rest) ≡ Some y → Behind d k (key_text key (node_text n (sep_text sep tail))) y
-    go true again e = subst (Behind d k (key_text key (node_text n (sep_text sep tail)))) (same_Some _ _ e) first
-    go false again e = further_behind d k (key_text key (node_text n (sep_text sep tail))) tail (key_text key (node_text n (sep_text sep []))) y (item_cut key n sep tail) (again e)
-
--- the last one
-last_behind : (d k : ℕ) (is : Items) (rest : List ℕ) → is_none is ≡ false → AreItems d k is rest → (y : EntryPieces) × (y.rest ≡ behind_last k is rest) × Behind d k (items_text k is rest) y
-unfolding items_text AreItems
-last_behind d k none rest some a = absurd (false≢true (sym some))
-last_behind d k (item key n sep none) rest some a =
-    (record { key = key; node = n; rest = sep_text sep (k ∷ rest) }, refl, record { before = []; text = refl; fits = record { key_is = a.0; some = a.1; is = a.2 }; ends = sep_ends k sep (k ∷ rest) a.3 })
-last_behind d k (item key n sep (item key2 n2 sep2 is)) rest some a =
-    let more = last_behind d k (item key2 n2 sep2 is) rest refl a.4 in
-    let tail : List ℕ = items_text k (item key2 n2 sep2 is) rest in
-    (more.0, more.1, further_behind d k (key_text key (node_text n (sep_text sep tail))) tail (key_text key (node_text n (sep_text sep []))) more.0 (item_cut key n sep tail) more.2)
 
 -- Behind a text stands another one, and no CR before an LF.
 pub record StandsBefore (t behind : List ℕ) : Type 0 where
@@ -109,13 +65,24 @@ bare_written (scalar p) e = absurd (false≢true e)
 bare_written (coll k gap is) e = absurd (false≢true e)
 bare_written (anchored m gap node) e = absurd (false≢true e)
 
-none_text : (k : ℕ) (rest : List ℕ) → items_text k none rest ≡ k ∷ rest
-unfolding items_text
-none_text k rest = refl
-
 open_return : (k : ℕ) → ends_return (open_of k ∷ []) ≡ false
 open_return k = elim (eqb k 125) as (λ c. ends_return (cond c 123 91 ∷ []) ≡ false) [ true ↦ refl | false ↦ refl ]
 
+-- what stands behind the last item or entry, or behind the opening bracket
+last_stands : (d k : ℕ) (a gap : List ℕ) (is : Items) (rest : List ℕ) → is_close k ≡ true → AreItems d k is rest → StandsBefore (a ++ (open_of k ∷ (gap ++ items_text k is rest))) (behind_last k gap is rest)
+unfolding items_text
+last_stands d k a gap none rest c h = record {
+  before = a ++ (open_of k ∷ []);
+  text = sym (append_assoc a (open_of k ∷ []) (gap ++ (k ∷ rest)));
+  whole = whole_by (a ++ (open_of k ∷ [])) (gap ++ (k ∷ rest)) (return_some a (open_of k ∷ []) (open_of k, ([], refl)) ∙ open_return k);
+}
+last_stands d k a gap (item key n sep is) rest c h =
+    let items : List ℕ = items_text k (item key n sep is) rest in
+    let t : List ℕ = a ++ (open_of k ∷ (gap ++ items)) in
+    let y = last_behind d k gap (item key n sep is) rest refl h in
+    subst (StandsBefore t) y.1 (rest_stands d k t y.0 c (further_behind d k t items (a ++ (open_of k ∷ gap)) y.0 (sym (append_assoc a (open_of k ∷ gap) items)) y.2))
+
+-- what stands from its content on
 content_stands : (d k : ℕ) (t : List ℕ) (y : EntryPieces) → is_close k ≡ true → Behind d k t y → StandsBefore t (node_text (content_node y.node) [] ++ y.rest)
 content_stands d k t y c h = go (is_bare (content_node y.node)) refl
   where
@@ -156,35 +123,10 @@ module _ (x : CollAt) (text : List ℕ) (h : IsCollAt x) where
   pub replaced_stands : (s : Step) (y : EntryPieces) → item_in s x ≡ Some y → StandsBefore t (node_text (content_node y.node) [] ++ y.rest)
   replaced_stands s y found = content_stands around.inner_depth x.coll.close t y around.closes (in_text y (item_behind around.inner_depth x.coll.close s x.coll.items x.coll.rest y around.items found))
 
-  -- in an empty collection, the bracket and what stands behind it
-  pub bracket_stands : is_none x.coll.items ≡ true → (front' : List ℕ) × (t ≡ front' ++ (open_of x.coll.close ∷ (x.coll.gap ++ (x.coll.close ∷ x.coll.rest))))
-  bracket_stands e =
-      let k : ℕ = x.coll.close in
-      let inside : items_text k x.coll.items x.coll.rest ≡ k ∷ x.coll.rest = ap (λ (j : Items). items_text k j x.coll.rest) (none_is x.coll.items e) ∙ none_text k x.coll.rest in (
-        text ++ around.before,
-        ap (λ (l : List ℕ). text ++ l) (around.text ∙ ap (λ (l : List ℕ). around.before ++ (open_of k ∷ (x.coll.gap ++ l))) inside) ∙ sym (append_assoc text around.before (open_of k ∷ (x.coll.gap ++ (k ∷ x.coll.rest)))),
-      )
-
-  first_stands : is_none x.coll.items ≡ true → StandsBefore t (x.coll.gap ++ (x.coll.close ∷ x.coll.rest))
-  first_stands e =
-      let k : ℕ = x.coll.close in
-      let behind : List ℕ = x.coll.gap ++ (k ∷ x.coll.rest) in
-      let b = bracket_stands e in
-      record {
-        before = b.0 ++ (open_of k ∷ []);
-        text = b.1 ∙ sym (append_assoc b.0 (open_of k ∷ []) behind);
-        whole = whole_by (b.0 ++ (open_of k ∷ [])) behind (return_some b.0 (open_of k ∷ []) (open_of k, ([], refl)) ∙ open_return k);
-      }
-
-  last_stands : is_none x.coll.items ≡ false → StandsBefore t (behind_last x.coll.close x.coll.items x.coll.rest)
-  last_stands e =
-      let y = last_behind around.inner_depth x.coll.close x.coll.items x.coll.rest e around.items in
-      subst (StandsBefore t) y.1 (rest_stands around.inner_depth x.coll.close t y.0 around.closes (in_text y.0 y.2))
-
   -- what stands behind one more item or entry
   pub appended_stands : StandsBefore t (behind_appended x.coll)
-  appended_stands = go (is_none x.coll.items) refl
-    where
-      go : (b : Bool) → is_none x.coll.items ≡ b → StandsBefore t (cond b (x.coll.gap ++ (x.coll.close ∷ x.coll.rest)) (behind_last x.coll.close x.coll.items x.coll.rest))
-      go true e = first_stands e
-      go false e = last_stands e
+  appended_stands =
+      let c = x.coll in
+      let all : t ≡ (text ++ around.before) ++ (open_of c.close ∷ (c.gap ++ items_text c.close c.items c.rest)) =
+      ap (λ (l : List ℕ). text ++ l) around.text ∙ sym (append_assoc text around.before (open_of c.close ∷ (c.gap ++ items_text c.close c.items c.rest))) in
+      subst (λ (l : List ℕ). StandsBefore l (behind_appended c)) (sym all) (last_stands around.inner_depth c.close (text ++ around.before) c.gap c.items c.rest around.closes around.items)

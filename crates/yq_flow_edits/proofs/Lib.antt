@@ -5,7 +5,6 @@ pub mod FlowSoundLaws
 pub mod FlowPieceLaws
 pub mod FlowStandings
 pub mod FlowWholeLaws
-pub mod FlowRests
 pub mod FlowPutLaws
 pub mod FlowAppendLaws
 pub mod FlowRemoveLaws

@@ -1,5 +1,5 @@
 -- What putting a value into a flow collection comes to, by what the code finds.
-use Rattle.std.proofs.Common.{◌≡◌, ℕ, ◌-◌, ◌≤◌, List, [], ◌∷◌, ◌++◌, length, take, drop, Option, Some, None, option_map, refl, sym, ap, ◌∙◌, subst, arith, append_assoc, append-nil, length-append}
+use Rattle.std.proofs.Common.{◌≡◌, ℕ, ◌-◌, List, [], ◌∷◌, ◌++◌, length, take, drop, Option, Some, None, option_map, refl, sym, ap, ◌∙◌, subst, arith, append_assoc, append-nil, length-append}
 use Rattle.std.proofs.Math.Seq.{take-append_seam, drop-append_seam}
 use Rattle.std.proofs.lemmas.Option.{none-some, same_Some}
 use Rattle.std.specs.Prelude.{option_and_then}
@@ -23,7 +23,7 @@ use Rattle.yq_edits.specs.FlowParts.{flow_put, flow_value}
 use Rattle.yq_edits.specs.WrittenValues.{value_text}
 use Rattle.yq_flow_edits.specs.EditPlaces.{edit_segments, moved_on}
 use Rattle.yq_flow_edits.proofs.FlowAnswers.{CollFound, EditFound, edit_found, entry_found, part_in, standing_is}
-use Rattle.yq_flow_edits.proofs.FlowHeads.{replace_found, replaced_within}
+use Rattle.yq_flow_edits.proofs.FlowHeads.{replace_found, replaced_within, whole_is}
 use Rattle.yq_flow_edits.proofs.FlowLonger.{entry_more}
 use Rattle.yq_flow_edits.proofs.FlowPutLaws.{bounds, e, m, there}
 use Rattle.yq_flow_edits.proofs.FlowStandings.{EntryAt}
@@ -66,10 +66,8 @@ value_is old (tree.map a cs) = refl
 -- ---- the answers
 
 -- The place of a content that the code finds is that of the segments that put a value there.
-pub record ContentFound (c : Cut) (o : Option (List Segment)) (x : FlowHead) (v : tree.Node) (whole : List ℕ) (p : PlacedEdit) : Type 0 where
-  pub order : p.start ≤ p.end
-  pub within : p.end ≤ length x.text.now
-  pub found : EditFound o whole (moved_on x.before p) (value_text InFlow (drop p.start (take p.end x.text.now)) v)
+abbrev pub ContentFound : Cut → Option (List Segment) → FlowHead → tree.Node → List ℕ → PlacedEdit → Type 0
+ContentFound c o x v whole p = EditFound o whole (moved_on x.before p) (value_text InFlow (drop p.start (take p.end x.text.now)) v)
 
 -- The part at the last step is found, or none is.
 module _ (c : Cut) (n : ℕ) (path init : List Step) (s : Step) (x : FlowHead) (q : Placed) (last : Some (init, s) ≡ last_step path) (f : CollFound c n init x q) (o : Option PlacedEntry) (is : o ≡ part_at s (parts_of q)) (v : tree.Node) where
@@ -102,21 +100,18 @@ module _ (c : Cut) (n : ℕ) (path init : List Step) (s : Step) (x : FlowHead) (
       let edit : FlowEdit = e c n path v f.read a in
       let alone : FlowEdit = replacing s y (m c n path v f.read a) own in
       let t = there c n path v f.read a in
+      let same = ap (λ (w : CollPieces). replacing s (entry_more f.told.behind y) (m c n path v f.read a) w) (whole_is (cut_text c) f.coll x f.told) in
       let stands = subst (λ (l : List ℕ). StandsBefore l (alone.old ++ alone.behind)) (sym f.told.node_is) (replaced_stands f.told.at [] f.told.stands s y at) in
       let place : replace_place (locate_entry (length row) y).1 ≡ place_edit (length row) alone =
       subst (λ (l : List ℕ). replace_place (locate (length l) y.node y.rest) ≡ place_edit (length l) alone) (sym f.told.node_is) (replace_found f.told.at f.told.stands s y (m c n path v f.read a) at) in
       let w =
-      edit_found c n init x q f edit alone t.before whole (place_edit (length row) alone) (record { old = refl; lead = refl; behind = refl }) (replaced_within f.told.at f.told.stands s y (m c n path v f.read a) at)
+      edit_found c n init x q f edit alone t.before whole (place_edit (length row) alone) same (replaced_within f.told.at f.told.stands s y (m c n path v f.read a) at)
       (bounds c n path v f.read a) t.text refl all in
       subst (ContentFound c (option_map (flow_put (cut_text c) v) (flow_standing n c (last_step path))) x v whole) (sym place) (record {
-        order = omega (arith, length-append alone.old alone.behind);
-        within = omega arith;
-        found = record {
-          lies = w.lies;
-          is =
-              put_by (Some y) at
-              ∙ (w.is ∙ ap (λ (l : List ℕ). Some (edit_segments whole (moved_on x.before (place_edit (length row) alone)) l)) (sym (ap (λ (l : List ℕ). value_text InFlow l v) (old_at row stands.before alone stands.text) ∙ value_is edit.old v)));
-        };
+        lies = w.lies;
+        is =
+            put_by (Some y) at
+            ∙ (w.is ∙ ap (λ (l : List ℕ). Some (edit_segments whole (moved_on x.before (place_edit (length row) alone)) l)) (sym (ap (λ (l : List ℕ). value_text InFlow l v) (old_at row stands.before alone stands.text) ∙ value_is edit.old v)));
       })
 
   pub content_found : (whole : List ℕ) (p : PlacedEntry) (r : PlacedEdit) → whole ≡ cut_text c → o ≡ Some p → r ≡ replace_place p.1 → ContentFound c (option_map (flow_put (cut_text c) v) (flow_standing n c (last_step path))) x v whole r

@@ -1,5 +1,5 @@
 -- Where a node is, something stands.
-use Rattle.std.proofs.Common.{◌≡◌, ◌⊎◌, inl, inr, ℕ, true, false, List, [], ◌∷◌, ◌++◌, length, Option, Some, None, option_map, option_and_then, refl, sym, ap, ◌∙◌}
+use Rattle.std.proofs.Common.{◌≡◌, ◌⊎◌, inl, inr, ltb, ℕ, true, false, List, [], ◌∷◌, ◌++◌, length, Option, Some, None, option_map, option_and_then, refl, sym, ap, ◌∙◌}
 use Rattle.std.proofs.lemmas.Option.{none-some, same_Some}
 use Rattle.std.specs.List.{slice_get}
 use Rattle.yq_scalar.specs.Answers.{◌>>=◌}
@@ -9,6 +9,8 @@ use Rattle.yq_scalar.specs.Tree.{Node, children_of}
 use Rattle.yq_scalar.proofs.Bools.{bind_some}
 use Rattle.yq_inline.specs.Collections.{CollPieces}
 use Rattle.yq_inline.specs.Entries.{EntryPieces, item_at}
+use Rattle.yq_inline.specs.Trees.{items_tree}
+use Rattle.yq_lines.specs.Counts.{count}
 use Rattle.yq_lines.specs.Ends.{found_line, line_of}
 use Rattle.yq_lines.specs.Outline.{Line, anchored, children, flatten, value}
 use Rattle.yq_lines.specs.Places.{Found, content, find, find_row, lines_after, lines_before}
@@ -20,7 +22,9 @@ use Rattle.yq_walk.specs.Lines.{lines_of}
 use Rattle.yq_documents.specs.Reading.{documents, outline_of, read_at, root_of}
 use Rattle.yq_documents.specs.Seats.{seat, seat_of}
 use Rattle.yq_places.specs.FlowNodes.{find_head}
+use Rattle.yq_places.specs.NodesAt.{node_in}
 use Rattle.yq_places.specs.PlacedRows.{PlacedPart, placed_document}
+use Rattle.yq_places.specs.RemovalPlaces.{has_others_at, has_several}
 use Rattle.yq_places.specs.Standings.{FlowPart, PlacedEntry, entry_at, flow_part, flow_standing, last_step, placed_entry, root_standing}
 use Rattle.yq_places.proofs.FoundLines.{middle}
 use Rattle.yq_places.proofs.PlacedRowLaws.{document_placed, part_of}
@@ -29,7 +33,7 @@ use Rattle.yq_places.proofs.SeatLineLaws.{seat_line}
 use Rattle.yq_change.specs.Siblings.{IsCollectionAt, IsEntryAt, NodeLines}
 use Rattle.yq_change.specs.StandingLaws.{EntriesStand, RootsStand}
 use Rattle.yq_change.proofs.EditedLaws.{lines_are_there}
-use Rattle.yq_change.proofs.RemovalChangeLaws.{children-value}
+use Rattle.yq_change.proofs.RemovalChangeLaws.{children-value, take_init}
 use Rattle.yq_flow_edits.proofs.CollectionCases.{collection_cases}
 use Rattle.yq_flow_edits.proofs.DocumentParts as parts
 use Rattle.yq_flow_edits.proofs.DocumentParts.{PartOf}
@@ -72,7 +76,7 @@ rows_there n s ss c p there f found =
 -- ---- a part of a flow collection
 
 abbrev HasPart : ℕ → List Step → Cut → Type 0
-HasPart n path c = (x : FlowPart) × (flow_standing n c (last_step path) ≡ Some x)
+HasPart n path c = (x : FlowPart) × (flow_standing n c (last_step path) ≡ Some x) × (has_others_at n path c ≡ ltb 1 (count (items_tree x.collection.items)))
 
 -- a node with an item or entry is a collection
 holds_child : (s : Step) (old n : Node) → child_at s (children_of old) ≡ Some n → (x : Held) × (held old ≡ Some x) × (children_of old ≡ x.1)
@@ -95,6 +99,7 @@ record NodeIn (c : Cut) (n : ℕ) (path : List Step) (v : Node) : Type 0 where
   last : last_step path ≡ Some (init, step)
   old : Node
   above : node_at init (root_of part) ≡ Some old
+  node : node_in n init c ≡ Some old
   child : child_at step (children_of old) ≡ Some v
 
 part_there : (c : Cut) (n : ℕ) (path : List Step) (v : Node) (h : NodeIn c n path v) (y : Found × List Step) → find_head h.init (outline_of h.part) ≡ Some y → HasPart n path c
@@ -105,7 +110,13 @@ part_there c n path v h y found =
     item_child w.0.close h.step w.0.items w.0.rest ∙ (ap (child_at h.step) (ap (λ (z : Held). z.1) w.2 ∙ sym x.2) ∙ h.child) in
     let item = entry_of (item_at w.0.close h.step w.0.items w.0.rest) v items in
     let g : EntryPieces → FlowPart = λ z. record { step = h.step; collection = w.0; part = z } in
-    (g item.0, ap (flow_standing n c) h.last ∙ (ap (λ (o : Option CollPieces). o >>= flow_part h.step) w.1 ∙ ap (option_map g) item.1))
+    let others : has_others_at n path c ≡ ltb 1 (count (children_of h.old)) =
+    ap (λ p. has_others_at n p c) (last_is path h.init h.step h.last)
+    ∙ ((λ i. has_several (slice_get (documents c) n >>= λ (d : Document). node_at (take_init h.init h.step i) d.root)) ∙ ap has_several h.node) in (
+      g item.0,
+      ap (flow_standing n c) h.last ∙ (ap (λ (o : Option CollPieces). o >>= flow_part h.step) w.1 ∙ ap (option_map g) item.1),
+      others ∙ ap (λ cs. ltb 1 (count cs)) (x.2 ∙ sym (ap (λ (z : Held). z.1) w.2)),
+    )
 
 -- ---- an item or entry of a block collection
 
@@ -123,19 +134,19 @@ entry_there c n path v h b at =
 -- ---- any node below the root
 
 -- a path that isn't the root's has a last step
-last_there : (t : Step) (ts : List Step) → (x : List Step × Step) × (last_step (t ∷ ts) ≡ Some x)
+pub last_there : (t : Step) (ts : List Step) → (x : List Step × Step) × (last_step (t ∷ ts) ≡ Some x)
 last_there t [] = (([], t), refl)
 last_there t (y ∷ ys) = let x = last_there y ys in ((t ∷ x.0.0, x.0.1), ap (option_map (λ (z : List Step × Step). (t ∷ z.0, z.1))) x.1)
 
 pub entries_stand : EntriesStand
-entries_stand n s ss c v read at = let d = bind_some (slice_get (documents c) n) at in by d.0 d.2 (parts.part_of c n d.0 d.1)
+entries_stand n s ss c v read at = let d = bind_some (slice_get (documents c) n) at in by d.0 d.1 d.2 (parts.part_of c n d.0 d.1)
   where
-    node : (d : Document) → node_at (s ∷ ss) d.root ≡ Some v → PartOf c n d → NodeIn c n (s ∷ ss) v
-    node d is p =
+    node : (d : Document) → slice_get (documents c) n ≡ Some d → node_at (s ∷ ss) d.root ≡ Some v → PartOf c n d → NodeIn c n (s ∷ ss) v
+    node d here is p =
         let l = last_there s ss in
         let there : node_at (l.0.0 ++ (l.0.1 ∷ [])) (root_of p.part) ≡ Some v = ap (λ (x : List Step). node_at x (root_of p.part)) (sym (last_is (s ∷ ss) l.0.0 l.0.1 l.1)) ∙ (ap (node_at (s ∷ ss)) (sym p.root) ∙ is) in
         let a = above_is l.0.0 l.0.1 (root_of p.part) v there in
-        record { read = read; part = p.part; there = p.there; init = l.0.0; step = l.0.1; last = l.1; old = a.0; above = a.1; child = a.2 }
+        record { read = read; part = p.part; there = p.there; init = l.0.0; step = l.0.1; last = l.1; old = a.0; above = a.1; node = ap (λ (o : Option Document). o >>= λ e. node_at l.0.0 e.root) here ∙ (ap (node_at l.0.0) p.root ∙ a.1); child = a.2 }
 
     cases : (h : NodeIn c n (s ∷ ss) v) → ((y : Found × List Step) × (find_head h.init (outline_of h.part) ≡ Some y)) ⊎ ((b : NodeLines) × IsCollectionAt h.init (outline_of h.part) b) → HasRows n s ss c ⊎ HasPart n (s ∷ ss) c
     cases h (inl y) = inr (part_there c n (s ∷ ss) v h y.0 y.1)
@@ -144,5 +155,5 @@ entries_stand n s ss c v read at = let d = bind_some (slice_get (documents c) n)
         let g = entry_line h.init h.step (outline_of h.part) b.0 f.0 f.1 in
         inl (rows_there n s ss c h.part h.there g.0 (ap (λ (x : List Step). found_at x (outline_of h.part)) (last_is (s ∷ ss) h.init h.step h.last) ∙ g.1))
 
-    by : (d : Document) → node_at (s ∷ ss) d.root ≡ Some v → PartOf c n d → HasRows n s ss c ⊎ HasPart n (s ∷ ss) c
-    by d is p = let h = node d is p in let x = holds_child h.step h.old v h.child in cases h (collection_cases h.init (outline_of h.part) x.0 (h.old, h.above, x.1))
+    by : (d : Document) → slice_get (documents c) n ≡ Some d → node_at (s ∷ ss) d.root ≡ Some v → PartOf c n d → HasRows n s ss c ⊎ HasPart n (s ∷ ss) c
+    by d here is p = let h = node d here is p in let x = holds_child h.step h.old v h.child in cases h (collection_cases h.init (outline_of h.part) x.0 (h.old, h.above, x.1))

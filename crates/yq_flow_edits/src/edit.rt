@@ -1,5 +1,5 @@
 //! Edits of flow collections, by their places in the text.
-ghost use Rattle.std.specs.Prelude.{◌≡◌, ◌≤◌, Some, drop, length, map, option_map, string_bytes, take};
+ghost use Rattle.std.specs.Prelude.{◌≡◌, Some, drop, map, option_map, string_bytes, take};
 ghost use Rattle.yq_text.specs.Halves.{whole};
 ghost use Rattle.yq_inline.specs.Entries.{step_of};
 ghost use Rattle.yq_inline.specs.View.{view};
@@ -10,7 +10,7 @@ ghost use Rattle.yq_edits.specs.Answers.{Carries};
 ghost use Rattle.yq_flow_edits.specs.EditPlaces as spec;
 
 use std::alloc::{AllocError, Global};
-use yq_flow::EditPlace;
+use yq_flow::{EditPlace, behind};
 use yq_inline::{Inline, Step};
 use yq_places::{FlowHead, collection_along};
 use yq_script::{Segment, Segments};
@@ -61,9 +61,12 @@ pub(crate) fn edit_at<'d>(
 
 /// What stands at the place of an edit.
 pub(crate) fn bytes_at(text: &str, place: EditPlace) -> &[u8]
-    requires order { place.start ≤ place.end }
-    requires end { place.end ≤ length text.now }
     ensures { result.now ≡ drop place.start (take place.end text.now) }
 {
-    &text.as_bytes()[place.start..place.end]
+    let bytes = text.as_bytes();
+    if place.end <= bytes.len() {
+        behind(bytes.split_at(place.end).0, place.start)
+    } else {
+        behind(bytes, place.start)
+    }
 }

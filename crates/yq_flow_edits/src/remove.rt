@@ -1,11 +1,9 @@
 //! Items and entries removed from flow collections.
-ghost use Rattle.std.specs.Prelude.{option_map};
-ghost use Rattle.yq_rows.specs.Rows.{cut_text};
 ghost use Rattle.yq_documents.specs.Located.{steps_of};
 ghost use Rattle.yq_documents.specs.Reading.{cut_of};
-ghost use Rattle.yq_places.specs.Standings.{flow_standing, last_step};
-ghost use Rattle.yq_edits.specs.FlowParts.{flow_removed};
+ghost use Rattle.yq_places.specs.Standings.{last_step};
 ghost use Rattle.yq_edits.specs.Answers.{Carries};
+ghost use Rattle.yq_edits.specs.Edits.{part_removed};
 
 use crate::edit::{collection_in, edit_at, last_step};
 use std::alloc::{AllocError, Global};
@@ -15,7 +13,7 @@ use yq_places::CutText;
 use yq_script::Segments;
 
 /// An item or entry removed from a flow collection, with the white space and comma that go with
-/// it; `None` where the path leads to no part of a flow collection.
+/// it; `None` where the path leads to no part of a flow collection, or to a sole one.
 ///
 /// # Errors
 /// [`AllocError`] where memory is refused.
@@ -24,8 +22,8 @@ pub fn remove_in_flow<'d>(
     cut: &CutText<'_, 'd>,
     path: &Path,
 ) -> Result<Option<Segments<'d>>, AllocError>
-    ensures { Carries result (option_map (flow_removed (cut_text (cut_of cut.now)))
-        (flow_standing path.now.doc (cut_of cut.now) (last_step (steps_of path.now)))) }
+    ensures { Carries result (part_removed path.now.doc (cut_of cut.now)
+        (last_step (steps_of path.now))) }
 {
     let Some((above, last)) = last_step(&path.steps) else {
         return Ok(None);

@@ -9,6 +9,7 @@ use Rattle.yq_scalar.specs.BlockWritten.{break_text}
 use Rattle.yq_scalar.specs.Paths.{Step}
 use Rattle.yq_scalar.specs.Tree.{Node}
 use Rattle.yq_scalar.proofs.Bools.{bind_some}
+use Rattle.yq_flow.proofs.RemoveTexts.{either}
 use Rattle.yq_rows.specs.Rows.{Cut, cut_text}
 use Rattle.yq_documents.specs.Reading.{read_at}
 use Rattle.yq_places.specs.FirstBreak.{first_break}
@@ -21,17 +22,12 @@ use Rattle.yq_meaning.specs.Operations.{replace, append, remove, line_comment, h
 use Rattle.yq_script.specs.Script.{Segment, keep}
 use Rattle.yq_edits.specs.CommentEdits.{head_comment_put, line_comment_put}
 use Rattle.yq_edits.specs.EditLaws.{AreEdits, EditsCarryOut, IsEdit}
-use Rattle.yq_edits.specs.Edits.{emptied, replaced, several_removed, sole_removed}
+use Rattle.yq_edits.specs.Edits.{emptied, part_removed, replaced, rows_or_sole, sole_removed}
 use Rattle.yq_edits.specs.EntryEdits.{more_put, one_removed}
-use Rattle.yq_edits.specs.FlowParts.{flow_more, flow_put, flow_removed}
+use Rattle.yq_edits.specs.FlowParts.{flow_more, flow_put}
 use Rattle.yq_edits.specs.Layouts.{layout_of}
 use Rattle.yq_edits.specs.ReplaceEdits.{has_text, value_put}
 use Rattle.yq_edits.specs.Replacing.{is_kept}
-
--- the first of two that is there
-either : {A : Type 0} {y : A} (a b : Option A) → option_or a b ≡ Some y → (a ≡ Some y) ⊎ (b ≡ Some y)
-either None b is = inr is
-either (Some x) b is = inl is
 
 module _ (laws : AreEdits) where
   replaced_is : (n : ℕ) (steps : List Step) (v : Node) (c : Cut) (ss : List Segment) → read_at (cut_text c) ≡ Some c → replaced n steps v c ≡ Some ss → IsEdit (replace n steps v) c ss
@@ -56,13 +52,13 @@ module _ (laws : AreEdits) where
   appended_is n steps key v c ss read (inl e) = let t = bind_some (standing_at n steps c) e in laws.more n steps key v c t.0 ss read t.1 t.2
   appended_is n steps key v c ss read (inr e) = let w = bind_some (flow_collection n steps c) e in laws.flow_more n steps key v c w.0 ss read w.1 w.2
 
+  part_is : (n : ℕ) (steps : List Step) (c : Cut) (ss : List Segment) → read_at (cut_text c) ≡ Some c → (o : Option (List Step × Step)) → last_step steps ≡ o → part_removed n c o ≡ Some ss → IsEdit (remove n steps) c ss
+  part_is n steps c ss read None last e = absurd (none-some _ e)
+  part_is n steps c ss read (Some x) last e = let w = bind_some (flow_collection n x.0 c) e in laws.flow_part n steps x.0 x.1 c w.0 ss read last w.1 w.2
+
   removed_is : (n : ℕ) (steps : List Step) (c : Cut) (ss : List Segment) → read_at (cut_text c) ≡ Some c → (b : Bool) → has_others_at n steps c ≡ b →
-      cond b (several_removed n steps c) (sole_removed n c (last_step steps)) ≡ Some ss → IsEdit (remove n steps) c ss
-  removed_is n steps c ss read true others is = several (either (one_removed n steps c) (option_map (flow_removed (cut_text c)) (flow_standing n c (last_step steps))) is)
-    where
-      several : (one_removed n steps c ≡ Some ss) ⊎ (option_map (flow_removed (cut_text c)) (flow_standing n c (last_step steps)) ≡ Some ss) → IsEdit (remove n steps) c ss
-      several (inl e) = laws.one n steps c ss read others e
-      several (inr e) = let x = map_some (flow_standing n c (last_step steps)) e in subst (IsEdit (remove n steps) c) x.2 (laws.flow_part n steps c x.0 read others x.1)
+      cond b (one_removed n steps c) (sole_removed n c (last_step steps)) ≡ Some ss → IsEdit (remove n steps) c ss
+  removed_is n steps c ss read true others is = laws.one n steps c ss read others is
   removed_is n steps c ss read false others is = sole (last_step steps) refl is
     where
       sole : (o : Option (List Step × Step)) → last_step steps ≡ o → sole_removed n c o ≡ Some ss → IsEdit (remove n steps) c ss
@@ -75,6 +71,10 @@ module _ (laws : AreEdits) where
   edits_carry_out (replace n steps v) c ss read is = replaced_is n steps v c ss read is
   edits_carry_out (append n steps key v) c ss read is =
       appended_is n steps key v c ss read (either (standing_at n steps c >>= more_put (layout_of n c) key v) (flow_collection n steps c >>= flow_more (cut_text c) key v) is)
-  edits_carry_out (remove n steps) c ss read is = removed_is n steps c ss read (has_others_at n steps c) refl is
+  edits_carry_out (remove n steps) c ss read is = by (either (part_removed n c (last_step steps)) (rows_or_sole n steps c) is)
+    where
+      by : (part_removed n c (last_step steps) ≡ Some ss) ⊎ (rows_or_sole n steps c ≡ Some ss) → IsEdit (remove n steps) c ss
+      by (inl e) = part_is n steps c ss read (last_step steps) refl e
+      by (inr e) = removed_is n steps c ss read (has_others_at n steps c) refl e
   edits_carry_out (line_comment n steps text) c ss read is = let e = bind_some (placed_entry n steps c) is in laws.line_comment n steps text c e.0 ss read e.1 e.2
   edits_carry_out (head_comment n steps text) c ss read is = let e = bind_some (placed_entry n steps c) is in laws.head_comment n steps text c e.0 ss read e.1 e.2

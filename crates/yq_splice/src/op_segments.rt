@@ -69,22 +69,6 @@ fn appended<'d>(
     append_in_flow(alloc, cut, path, key, value)
 }
 
-/// One of several items or entries taken out.
-#[tactic(auto, using(crate::proofs::ChoiceLaws::first_is, crate::proofs::ChoiceLaws::second_is))]
-fn several_removed<'d>(
-    alloc: Global,
-    cut: &CutText<'_, 'd>,
-    path: &Path,
-) -> Result<Option<Segments<'d>>, AllocError>
-    ensures { Carries result (spec.several_removed path.now.doc (steps_of path.now)
-        (cut_of cut.now)) }
-{
-    if let Some(segments) = one_removed(alloc, cut, path)? {
-        return Ok(Some(segments));
-    }
-    remove_in_flow(alloc, cut, path)
-}
-
 /// A sole item or entry taken out: an empty collection is put in the place of its own.
 fn sole_removed<'d>(
     alloc: Global,
@@ -100,8 +84,26 @@ fn sole_removed<'d>(
     replaced(alloc, cut, &empty.place, &empty.value)
 }
 
-/// An item or entry taken out.
+/// One of several items or entries of a block collection taken out, or a sole one of any.
 #[tactic(auto, using(crate::proofs::ChoiceLaws::chosen, crate::proofs::ChoiceLaws::not_chosen))]
+fn rows_or_sole<'d>(
+    alloc: Global,
+    cut: &CutText<'_, 'd>,
+    path: &Path,
+) -> Result<Option<Segments<'d>>, AllocError>
+    ensures { Carries result (spec.rows_or_sole path.now.doc (steps_of path.now)
+        (cut_of cut.now)) }
+{
+    let others = cut.has_others(alloc, path)?;
+    if others {
+        one_removed(alloc, cut, path)
+    } else {
+        sole_removed(alloc, cut, path)
+    }
+}
+
+/// An item or entry taken out.
+#[tactic(auto, using(crate::proofs::ChoiceLaws::first_is, crate::proofs::ChoiceLaws::second_is))]
 fn removed<'d>(
     alloc: Global,
     cut: &CutText<'_, 'd>,
@@ -109,12 +111,10 @@ fn removed<'d>(
 ) -> Result<Option<Segments<'d>>, AllocError>
     ensures { Carries result (spec.removed path.now.doc (steps_of path.now) (cut_of cut.now)) }
 {
-    let others = cut.has_others(alloc, path)?;
-    if others {
-        several_removed(alloc, cut, path)
-    } else {
-        sole_removed(alloc, cut, path)
+    if let Some(segments) = remove_in_flow(alloc, cut, path)? {
+        return Ok(Some(segments));
     }
+    rows_or_sole(alloc, cut, path)
 }
 
 /// What an operation exchanges, if what it names is there.

@@ -22,7 +22,7 @@ enum Edit {
 use Edit::{Entry, Item, Remove, Replace};
 
 /// The text, the path (a name is a key, and `#` with a digit an index), the edit, and the new text.
-static EDITS: [(&str, &[&str], Edit, &str); 52] = [
+static EDITS: [(&str, &[&str], Edit, &str); 49] = [
     ("[a, b]", &["#0"], Replace("1"), "[1, b]"),
     ("{a: }", &["a"], Replace("1"), "{a: 1 }"),
     ("{a:}", &["a"], Replace("1"), "{a: 1}"),
@@ -60,9 +60,6 @@ static EDITS: [(&str, &[&str], Edit, &str); 52] = [
     ("[&x []]", &["#0"], Item("1"), "[&x [1]]"),
     ("[a, b]", &["#0"], Remove, "[b]"),
     ("[a, b]", &["#1"], Remove, "[a]"),
-    ("[a]", &["#0"], Remove, "[]"),
-    ("[ a, # c\n]", &["#0"], Remove, "[]"),
-    ("&x { a: 1 }", &["a"], Remove, "&x {}"),
     ("[a, b, ]", &["#1"], Remove, "[a, ]"),
     ("[a, b # c\n]", &["#1"], Remove, "[a # c\n]"),
     ("[a # c\n, b]", &["#0"], Remove, "[b]"),
@@ -83,7 +80,10 @@ static EDITS: [(&str, &[&str], Edit, &str); 52] = [
 ];
 
 /// The text, and a path and an edit for which it has no place.
-static NOWHERE: [(&str, &[&str], Edit); 6] = [
+static NOWHERE: [(&str, &[&str], Edit); 9] = [
+    ("[a]", &["#0"], Remove),
+    ("[ a, # c\n]", &["#0"], Remove),
+    ("&x { a: 1 }", &["a"], Remove),
     ("[a]", &["#1"], Remove),
     ("[a]", &["a"], Remove),
     ("{a: 1}", &["b"], Remove),

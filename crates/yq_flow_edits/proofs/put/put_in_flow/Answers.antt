@@ -21,24 +21,6 @@ returns-in_default-part c =
     let f = coll_found c.args.cut.now c.args.path.now.doc (map step_of c.in-Some.above.now) _ c.in-Some-found.head q c.text-text.ensures.read c.in_ok-found.ensures c.in-Some-found.is c.in-Some-collection_in.ensures in
     content_missing _ _ (steps_of c.args.path.now) _ (step_of c.in-Some.last.now) c.in-Some-found.head q last f _ c.in_default-part.ensures (node_of c.args.value.now) refl
 
-pub bytes_at-requires-clause-order : goal.bytes_at-requires-clause-order
-bytes_at-requires-clause-order c =
-    let last = c.in-Some.ensures ∙ ap (λ ss. last_step (map step_of ss)) c.deref.ensures.value in
-    let q = view c.in-Some-collection_in.node.now in
-    let f = coll_found c.args.cut.now c.args.path.now.doc (map step_of c.in-Some.above.now) _ c.in-Some-found.head q c.text-text.ensures.read c.in_ok-found.ensures c.in-Some-found.is c.in-Some-collection_in.ensures in
-    let all = whole_text c.args.cut.now (whole c.text-text.result) c.text-text.ensures.read c.text-text.ensures.text in
-    let w = content_found _ _ (steps_of c.args.path.now) _ (step_of c.in-Some.last.now) c.in-Some-found.head q last f _ c.in-Some-part.ensures (node_of c.args.value.now) (whole c.text-text.result) (entry_view c.in-Some-part.entry) (edit_view c.replace_place-place.result) all refl c.replace_place-place.ensures in
-    w.order
-
-pub bytes_at-requires-clause-end : goal.bytes_at-requires-clause-end
-bytes_at-requires-clause-end c =
-    let last = c.in-Some.ensures ∙ ap (λ ss. last_step (map step_of ss)) c.deref.ensures.value in
-    let q = view c.in-Some-collection_in.node.now in
-    let f = coll_found c.args.cut.now c.args.path.now.doc (map step_of c.in-Some.above.now) _ c.in-Some-found.head q c.text-text.ensures.read c.in_ok-found.ensures c.in-Some-found.is c.in-Some-collection_in.ensures in
-    let all = whole_text c.args.cut.now (whole c.text-text.result) c.text-text.ensures.read c.text-text.ensures.text in
-    let w = content_found _ _ (steps_of c.args.path.now) _ (step_of c.in-Some.last.now) c.in-Some-found.head q last f _ c.in-Some-part.ensures (node_of c.args.value.now) (whole c.text-text.result) (entry_view c.in-Some-part.entry) (edit_view c.replace_place-place.result) all refl c.replace_place-place.ensures in
-    w.within
-
 pub edit_at-requires : goal.edit_at-requires
 edit_at-requires c =
     let last = c.in-Some.ensures ∙ ap (λ ss. last_step (map step_of ss)) c.deref.ensures.value in
@@ -46,7 +28,7 @@ edit_at-requires c =
     let f = coll_found c.args.cut.now c.args.path.now.doc (map step_of c.in-Some.above.now) _ c.in-Some-found.head q c.text-text.ensures.read c.in_ok-found.ensures c.in-Some-found.is c.in-Some-collection_in.ensures in
     let all = whole_text c.args.cut.now (whole c.text-text.result) c.text-text.ensures.read c.text-text.ensures.text in
     let w = content_found _ _ (steps_of c.args.path.now) _ (step_of c.in-Some.last.now) c.in-Some-found.head q last f _ c.in-Some-part.ensures (node_of c.args.value.now) (whole c.text-text.result) (entry_view c.in-Some-part.entry) (edit_view c.replace_place-place.result) all refl c.replace_place-place.ensures in
-    record { lies = w.found.lies }
+    record { lies = w.lies }
 
 pub returns : goal.returns
 returns c =
@@ -57,4 +39,4 @@ returns c =
     let w = content_found _ _ (steps_of c.args.path.now) _ (step_of c.in-Some.last.now) c.in-Some-found.head q last f _ c.in-Some-part.ensures (node_of c.args.value.now) (whole c.text-text.result) (entry_view c.in-Some-part.entry) (edit_view c.replace_place-place.result) all refl c.replace_place-place.ensures in
     let written = c.in_ok-new.ensures ∙ ap (λ (l : List ℕ). value_text InFlow l (node_of c.args.value.now)) c.bytes_at.ensures in
     let segments = ap (λ (l : List ℕ). Some (edit_segments (whole c.text-text.result) (moved_on c.in-Some-found.head.before (edit_view c.replace_place-place.result)) l)) (sym written) in
-    subst (Carries c.edit_at.result) (sym (w.found.is ∙ segments)) c.edit_at.ensures
+    subst (Carries c.edit_at.result) (sym (w.is ∙ segments)) c.edit_at.ensures
