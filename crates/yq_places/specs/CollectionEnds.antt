@@ -3,7 +3,8 @@ use Rattle.std.specs.Prelude.{ℕ, List, Bool, true}
 use Rattle.yq_scalar.specs.Text.{is_line}
 use Rattle.yq_rows.specs.Rows.{Content, Nothing, Inline, Block}
 
--- The end of a block collection in a text: the column of its items or entries, the text up to the end of its last line, with its break, whether that line has one, and the text behind.
+-- The end of a block collection in a text: the column of its items or entries, the text up to the end of its last line, with its break,
+-- whether that line has one, and the text behind.
 pub record CollectionEnd : Type 0 where
   pub column : ℕ
   pub before : List ℕ

@@ -32,4 +32,5 @@ told_above (Some x) = x.0.head_comment
 abbrev pub CommentsStand : Type 0
 CommentsStand =
     (t : List ℕ) (c : Cut) (p : Path) → read_at t ≡ Some c →
-    ((labelled_located p t >>= λ x. x.0.line_comment) ≡ option_map remark (piece_at p parts.LineComment c)) × (told_above (labelled_located p t) ≡ remarks (piece_at p parts.HeadComment c))
+    ((labelled_located p t >>= λ x. x.0.line_comment) ≡ option_map remark (piece_at p parts.LineComment c))
+    × (told_above (labelled_located p t) ≡ remarks (piece_at p parts.HeadComment c))

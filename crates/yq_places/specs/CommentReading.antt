@@ -20,7 +20,8 @@ before_tail i r c = let s = slices r in before_content i c ++ (s.space ++ (s.anc
 
 -- the line comment of a line of row i: the comment in the row's tail, where the line is that of the row's mark
 abbrev pub line_comment_in : ℕ → Seat → Cut → Option Piece
-line_comment_in i s c = if s.line == length s.row.dashes then tail_comment (before_tail i s.row c) (slices s.row).tail ((slices s.row).raw ++ behind_row i c) else None
+line_comment_in i s c =
+    if s.line == length s.row.dashes then tail_comment (before_tail i s.row c) (slices s.row).tail ((slices s.row).raw ++ behind_row i c) else None
 
 -- the head comment of a line of row i: the run that ends the row's gap, where the line is the first of the row
 abbrev pub head_comment_in : ℕ → Seat → Cut → Option Piece

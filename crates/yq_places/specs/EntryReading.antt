@@ -36,7 +36,8 @@ through_row i r c = before_tail i r c ++ ending (slices r)
 
 -- the place of lines of rows, before which k rows of a cut stand: from the beginning of one line to the end of another one's row, before its break
 abbrev pub lines_place : ℕ → Cut → List Row → ℕ → ℕ → Option (ℕ × ℕ)
-lines_place k c rs from to = seat from rs >>= λ a. seat to rs >>= λ b. Some (length (before_line (k + a.before) a.line a.row c), length (through_row (k + b.before) b.row c))
+lines_place k c rs from to =
+    seat from rs >>= λ a. seat to rs >>= λ b. Some (length (before_line (k + a.before) a.line a.row c), length (through_row (k + b.before) b.row c))
 
 -- the place of the entry or item of line n: from its key or dash to the end of its last line, before its break
 abbrev pub line_entry : ℕ → Cut → List Row → ℕ → Option (ℕ × ℕ)
@@ -56,7 +57,8 @@ head_extent i r c = ((head_place i c r).0, head_end (head_place i c r).1 r.conte
 abbrev pub line_head : ℕ → Cut → List Row → ℕ → Option (ℕ × ℕ)
 line_head k c rs n = seat n rs >>= λ s. Some (head_extent (k + s.before) s.row c)
 
--- the place of the node for which the lines from one up to another one stand: a node on a line of its own, or a block collection; without lines there is none (8.2)
+-- the place of the node for which the lines from one up to another one stand: a node on a line of its own, or a block collection; without
+-- lines there is none (8.2)
 abbrev pub lines_content : ℕ → Cut → List Row → ℕ → ℕ → Option (ℕ × ℕ)
 lines_content k c rs from to =
     if from == to then None
@@ -64,7 +66,8 @@ lines_content k c rs from to =
 
 -- the place of the node of line n: its head, or what the lines under it stand for (8.2)
 abbrev pub line_content : ℕ → Cut → List Row → ℕ → Option (ℕ × ℕ)
-line_content k c rs n = slice_get (lines_of rs) n >>= λ l. if is_some l.head then line_head k c rs n else lines_content k c rs (suc n) (lines_end n (lines_of rs))
+line_content k c rs n =
+    slice_get (lines_of rs) n >>= λ l. if is_some l.head then line_head k c rs n else lines_content k c rs (suc n) (lines_end n (lines_of rs))
 
 -- the inline node behind a row's mark, or nothing where there is none (7, 8.2)
 abbrev pub inline_node : Content → Node

@@ -64,4 +64,5 @@ ContentsExist =
 
 -- There is an entry or item exactly where the path isn't that of a root and the tree has a node there.
 abbrev pub EntriesExist : Type 0
-EntriesExist = (t : List ℕ) (c : Cut) (p : Path) → read_at t ≡ Some c → is_some (piece_at p parts.Entry c) ≡ (not (is_root p) && is_some (located p t))
+EntriesExist =
+    (t : List ℕ) (c : Cut) (p : Path) → read_at t ≡ Some c → is_some (piece_at p parts.Entry c) ≡ (not (is_root p) && is_some (located p t))

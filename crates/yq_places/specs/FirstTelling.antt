@@ -11,4 +11,11 @@ piece_of before text behind = record { before = before; text = text; behind = be
 
 -- what is taken out, as the code lends it (own)
 abbrev pub first_told : declared.FirstRemoval → FirstOut
-first_told r = record { before = whole r.before; space = whole r.space; entry = whole r.entry; break = whole r.line; indent = whole r.indent; behind = whole r.behind }
+first_told r = record {
+  before = whole r.before;
+  space = whole r.space;
+  entry = whole r.entry;
+  break = whole r.line;
+  indent = whole r.indent;
+  behind = whole r.behind;
+}

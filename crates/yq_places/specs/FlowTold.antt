@@ -37,7 +37,8 @@ collection_along steps p = placed_entry_at steps (None, p) >>= λ e. collection_
 abbrev pub collection_told : FlowHead → Option Placed
 collection_told x = collection_along (map step_of x.left.now) (view x.node.value)
 
--- The collection to which the steps lead is this one of a text: the node stands in a piece of that text, where it could stand alone, and has its places in this piece (7.4; own).
+-- The collection to which the steps lead is this one of a text: the node stands in a piece of that text, where it could stand alone, and
+-- has its places in this piece (7.4; own).
 pub record IsTold (t : List ℕ) (w : CollPieces) (x : FlowHead) : Type 0 where
   pub front : List ℕ
   pub behind : List ℕ

@@ -12,7 +12,8 @@ use Rattle.yq_rows.specs.Rows.{Cut}
 use Rattle.yq_documents.specs.Reading.{documents}
 use Rattle.yq_places.specs.declared.places.node_at.NodeAt as declared
 
--- What is told of a node: that it is an alias, which scalar it is, or that it is a sequence or a mapping, and whether that has several items or entries (3.2.1).
+-- What is told of a node: that it is an alias, which scalar it is, or that it is a sequence or a mapping, and whether that has several
+-- items or entries (3.2.1).
 pub data NodeAt : Type 0 where
   alias : NodeAt
   scalar : ScalarText → NodeAt

@@ -105,7 +105,12 @@ printed_document n c = printed_part (begins_bare c || not (has_begin c)) n c
 -- line n of a document, with the m lines behind it as those under it
 abbrev pub entry_with : PrintedDocument → ℕ → ℕ → Option BlockEntry
 entry_with s n m =
-    slice_get s.lines n >>= λ l. Some (record { before = s.before ++ print_lines (take n s.lines) []; line = l; under = take m (drop (suc n) s.lines); behind = print_lines (drop m (drop (suc n) s.lines)) s.behind })
+    slice_get s.lines n >>= λ l. Some (record {
+      before = s.before ++ print_lines (take n s.lines) [];
+      line = l;
+      under = take m (drop (suc n) s.lines);
+      behind = print_lines (drop m (drop (suc n) s.lines)) s.behind;
+    })
 
 -- a line that was found, with those under it
 abbrev pub found_entry : PrintedDocument → Found → Option BlockEntry

@@ -90,19 +90,22 @@ pub record IsFlowPiece (p : Piece) (n : Labelled) : Type 0 where
 -- The piece of an entry or item at a path spells the node there, with its key.
 abbrev pub EntriesSpell : Type 0
 EntriesSpell =
-    (t : List ℕ) (c : Cut) (p : Path) (s : PrintedDocument) (x : Piece) → read_at t ≡ Some c → printed_document p.doc c ≡ Some s → piece_at p Entry c ≡ Some x →
+    (t : List ℕ) (c : Cut) (p : Path) (s : PrintedDocument) (x : Piece) → read_at t ≡ Some c → printed_document p.doc c ≡ Some s →
+    piece_at p Entry c ≡ Some x →
     (n : Labelled) × (labelled_located p t ≡ Some n) × (IsEntryRun s x n ⊎ IsFlowPiece x n)
 
 -- The lines of document n are those of its rows, and with the text before and behind them they are the whole text.
 abbrev pub LinesStand : Type 0
 LinesStand =
     (t : List ℕ) (c : Cut) (n : ℕ) (s : PrintedDocument) → read_at t ≡ Some c → printed_document n c ≡ Some s →
-    (t ≡ s.before ++ print_lines s.lines s.behind) × ((d : Rows) × (slice_get (document_parts c) n ≡ Some d) × (s.lines ≡ printed_lines d.rows) × (map line_in s.lines ≡ lines_of d.rows))
+    (t ≡ s.before ++ print_lines s.lines s.behind)
+    × ((d : Rows) × (slice_get (document_parts c) n ≡ Some d) × (s.lines ≡ printed_lines d.rows) × (map line_in s.lines ≡ lines_of d.rows))
 
 -- The piece of a content at a path spells the node there.
 abbrev pub ContentsSpell : Type 0
 ContentsSpell =
-    (t : List ℕ) (c : Cut) (p : Path) (s : PrintedDocument) (x : Piece) → read_at t ≡ Some c → printed_document p.doc c ≡ Some s → piece_at p Content c ≡ Some x →
+    (t : List ℕ) (c : Cut) (p : Path) (s : PrintedDocument) (x : Piece) → read_at t ≡ Some c → printed_document p.doc c ≡ Some s →
+    piece_at p Content c ≡ Some x →
     (n : tree.Node) × (located p t ≡ Some n) × SpellsNode s x n
 
 -- The text holds each piece, from one whole character to another.
@@ -111,4 +114,6 @@ PiecesHold = (t : List ℕ) (c : Cut) (p : Path) (part : Part) (x : Piece) → r
 
 -- The content of an entry or item begins in that entry or item.
 abbrev pub ContentsBegin : Type 0
-ContentsBegin = (c : Cut) (p : Path) (e x : Piece) → piece_at p Entry c ≡ Some e → piece_at p Content c ≡ Some x → (front : List ℕ) × (x.before ≡ e.before ++ front)
+ContentsBegin =
+    (c : Cut) (p : Path) (e x : Piece) → piece_at p Entry c ≡ Some e → piece_at p Content c ≡ Some x →
+    (front : List ℕ) × (x.before ≡ e.before ++ front)

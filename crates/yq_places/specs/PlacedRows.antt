@@ -39,7 +39,12 @@ pub record PlacedRow : Type 0 where
 
 -- the row of a line in a document
 abbrev pub placed_row : PlacedPart → Seat → PlacedRow
-placed_row s x = record { before = s.before ++ rows_text (take x.before s.part.rows) []; row = x.row; line = x.line; behind = rows_text (drop (suc x.before) s.part.rows) (s.part.end ++ s.behind) }
+placed_row s x = record {
+  before = s.before ++ rows_text (take x.before s.part.rows) [];
+  row = x.row;
+  line = x.line;
+  behind = rows_text (drop (suc x.before) s.part.rows) (s.part.end ++ s.behind);
+}
 
 -- the row of the line of the entry or item to which steps lead in a document, if one has a line
 abbrev pub row_of_path : ℕ → List Step → Cut → Option PlacedRow

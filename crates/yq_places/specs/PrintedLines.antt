@@ -65,9 +65,11 @@ print_lines (l ∷ ls) rest = print_line l (print_lines ls rest)
 
 -- a line for each dash and one for the mark, from a column on, the first behind a gap and spaces (8.2)
 abbrev pub printed_from : List ℕ → List ℕ → ℕ → List ℕ → rows.Mark → Content → List PrintedLine
-printed_from gap spaces column [] m c = record { line = mark_line (comments.head_comment gap) column m c; gap = gap; spaces = spaces; mark = mark_text m []; content = c } ∷ []
+printed_from gap spaces column [] m c =
+    record { line = mark_line (comments.head_comment gap) column m c; gap = gap; spaces = spaces; mark = mark_text m []; content = c } ∷ []
 printed_from gap spaces column (n ∷ ns) m c =
-    record { line = dash_line (comments.head_comment gap) column; gap = gap; spaces = spaces; mark = 45 ∷ replicate n 32; content = Nothing [] } ∷ printed_from [] [] (suc (column + n)) ns m c
+    record { line = dash_line (comments.head_comment gap) column; gap = gap; spaces = spaces; mark = 45 ∷ replicate n 32; content = Nothing [] }
+    ∷ printed_from [] [] (suc (column + n)) ns m c
 
 -- the lines of a row, with their texts (8.2)
 abbrev pub printed_row : Row → List PrintedLine
@@ -99,4 +101,5 @@ run_piece before l ls behind = record { before = before ++ line_front l; text = 
 -- the node for which lines between two texts stand: one on a line of its own, or a block collection; without lines there is none (8.2)
 abbrev pub lines_piece : List ℕ → List PrintedLine → List ℕ → Option Piece
 lines_piece before [] behind = None
-lines_piece before (l ∷ ls) behind = if is_bare l.line.mark then head_piece (before ++ (line_front l ++ l.mark)) l.content (print_lines ls behind) else Some (run_piece before l ls behind)
+lines_piece before (l ∷ ls) behind =
+    if is_bare l.line.mark then head_piece (before ++ (line_front l ++ l.mark)) l.content (print_lines ls behind) else Some (run_piece before l ls behind)

@@ -38,7 +38,8 @@ own_rows steps rs =
     line_of steps (lines_of rs) >>= λ n. seat n rs >>= λ s.
     if s.line == 0 then Some (in_three s.before (row_count (lines_end n (lines_of rs) - n) (drop s.before rs)) rs) else None
 
--- What a gap that comes to stand behind a block scalar has to fit: whether the scalar keeps the empty lines at its end, how far its text is indented, and in which column the next row begins (8.1.1; own).
+-- What a gap that comes to stand behind a block scalar has to fit: whether the scalar keeps the empty lines at its end, how far its text is
+-- indented, and in which column the next row begins (8.1.1; own).
 pub record Seam : Type 0 where
   pub keeps : Bool
   pub indent : ℕ
@@ -47,9 +48,11 @@ pub record Seam : Type 0 where
 -- the seam behind a block scalar, if there is one, where no comment line stays behind it
 abbrev pub seam_behind : Option BlockText → (column : ℕ) → (kept : List ℕ) → Option Seam
 seam_behind None column kept = None
-seam_behind (Some b) column kept = if hold_comment (text_lines kept) then None else Some (record { keeps = keeps b.chomping; indent = b.indent.columns; column = column })
+seam_behind (Some b) column kept =
+    if hold_comment (text_lines kept) then None else Some (record { keeps = keeps b.chomping; indent = b.indent.columns; column = column })
 
--- What is taken out of a text: the text before it, the lines that go, the gap behind them, the text behind that, and the seam of the gap, if it comes to stand behind a block scalar.
+-- What is taken out of a text: the text before it, the lines that go, the gap behind them, the text behind that, and the seam of the gap,
+-- if it comes to stand behind a block scalar.
 pub record Removal : Type 0 where
   pub before : List ℕ
   pub gone : List ℕ

@@ -1,12 +1,10 @@
 -- Reading (own; a reader may skip it): the rows of documents among those of a cut, and items that stay known in other cuts.
-use Rattle.std.specs.Prelude.{◌≡◌, ℕ, zero, suc, Bool, true, false, ◌+◌, nat_eq, List, [], ◌∷◌, ◌++◌, length, drop, slice_get, Option, Some, None, option_map}
-use Rattle.yq_lines.specs.Ends.{is_end, part}
+use Rattle.std.specs.Prelude.{◌≡◌, ℕ, zero, suc, Bool, true, false, ◌+◌, List, [], ◌∷◌, ◌++◌, length, drop, slice_get, Option, Some, None, option_map}
 use Rattle.yq_rows.specs.Grammar.{IsCut, begins_document}
 use Rattle.yq_rows.specs.Rows.{Row, Cut}
 use Rattle.yq_rows.specs.Touched.{TouchesOnly}
 use Rattle.yq_rows.specs.View.{rows_of, Bound, Shown, shown}
 use Rattle.yq_documents.specs.Documents.{document_parts}
-use Rattle.yq_walk.specs.Lines.{lines_of}
 use Rattle.yq_documents.specs.Reading.{all_documents, cut_of}
 use Rattle.yq_documents.specs.Seats.{document_row}
 use Rattle.yq_walk.specs.RowWalk.{IsKnown, AreKnown, HasDocument, line_number}
@@ -48,10 +46,6 @@ pub record InCut (s : Shown) (d : Stretch) (c : Cut) : Type 0 where
   pub document : HasDocument s d
   pub more : List Row
   pub there : drop d.first (rows_of c) ≡ document.stand.rows ++ more
-
--- Lines from one on that are deeper than a level end before that number exactly where there are none of them.
-abbrev pub EndsAt : Stretch → List Row → Spot → ℕ → ℕ → Type 0
-EndsAt d rs under floor to = nat_eq (line_number d rs under) to ≡ is_end (part (lines_of rs) (line_number d rs under) floor)
 
 -- What is said of a document is so of its rows, with the numbers of its lines, in each cut in which these stand.
 abbrev pub InEach : Shown → Stretch → (ℕ → Cut → List Row → (Spot → ℕ) → Type 0) → Type 0

@@ -7,7 +7,7 @@ use Rattle.yq_scalar.specs.declared.fault.ReadError.TheVariants as errors
 use Rattle.yq_rows.specs.Grammar.{IsCut}
 use Rattle.yq_rows.specs.Rows.{Cut}
 use Rattle.yq_rows.proofs.ScanLaws.{scan_again}
-use Rattle.yq_documents.specs.Reading.{documents, all_documents, checked, text_at}
+use Rattle.yq_documents.specs.Reading.{all_documents, checked, text_at}
 use Rattle.yq_reading.specs.Deciding.{Denies}
 
 -- a text with parts that stand for no documents

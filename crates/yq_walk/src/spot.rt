@@ -64,19 +64,6 @@ impl KnownItems {
     }
 }
 
-/// What a line of a row begins with, as the order of marks in a column: 1 for a node itself, 2 for a key,
-/// 3 for a dash.
-fn line_rank(dashes: &[u8], line: usize, has_colon: bool) -> usize
-    ensures value { result ≡ (if nat_lt (extents.dash_at line dashes.now) (length dashes.now) then 3
-        else (if has_colon then 2 else 1)) }
-    ensures small { result ≤ 3 }
-{
-    if dash_at(dashes, line) < dashes.len() {
-        return 3;
-    }
-    if has_colon { 2 } else { 1 }
-}
-
 /// The column of a line of a row.
 pub fn line_column(row: &Row<'_>, line: usize) -> usize
     requires { (view row.now).column + length (view row.now).dashes ≤ text_limit }
@@ -86,16 +73,20 @@ pub fn line_column(row: &Row<'_>, line: usize) -> usize
     row.column() + dash_at(row.dashes().as_bytes(), line)
 }
 
-/// How deep a line of a row with dashes is, by how deep the row begins: three for each column, and by
-/// what the line begins with.
+/// How deep a line of a row with dashes is, by how deep the row begins: three for each column, and 3 for a
+/// dash, 2 for a key, or 1 for a node itself.
 fn level_behind(first: usize, dashes: &[u8], line: usize, has_colon: bool) -> usize
     requires { first + 3 * length dashes.now ≤ 3 * text_limit + 3 }
     ensures { result ≡ ((first + 3 * extents.dash_at line dashes.now) - 3) +
         (if nat_lt (extents.dash_at line dashes.now) (length dashes.now) then 3
         else (if has_colon then 2 else 1)) }
 {
-    let begin = (first + 3 * dash_at(dashes, line)).saturating_sub(3);
-    begin + line_rank(dashes, line, has_colon)
+    let at = dash_at(dashes, line);
+    let begin = (first + 3 * at).saturating_sub(3);
+    if at < dashes.len() {
+        return begin + 3;
+    }
+    if has_colon { begin + 2 } else { begin + 1 }
 }
 
 /// How deep a line is, told by its row's dashes.

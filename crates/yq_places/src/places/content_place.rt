@@ -3,7 +3,7 @@ ghost use Rattle.std.specs.Prelude.{◌≡◌, map, option_map};
 ghost use Rattle.yq_inline.specs.Entries.{step_of};
 ghost use Rattle.yq_places.specs.EntryReading as spec;
 ghost use Rattle.yq_walk.specs.Extents.{IsShown};
-ghost use Rattle.yq_walk.specs.RowWalk.{AreKnown, HasDocument, IsSpot, line_number, lines_stop};
+ghost use Rattle.yq_walk.specs.RowWalk.{AreKnown, HasDocument, IsSpot, lines_stop};
 ghost use Rattle.yq_places.specs.RowWalk.{InEach};
 ghost use Rattle.yq_walk.specs.Lines.{lines_of};
 ghost use Rattle.yq_documents.specs.Pieces.{span};

@@ -30,7 +30,7 @@ pub returns-in_err-at : goal.returns-in_err-at
 returns-in_err-at c =
     let u : List ℕ = c.cut-cut.result in
     let d = c.in_ok-document.document in
-    rw c.from_residual.ensures (place_found u c.rows.result.now (cut_of u) c.args.path.now.doc d _ (λ k cut rs. flow_entry_of k cut rs (steps_of c.args.path.now)) c.whole-whole.ensures.cut c.rows.ensures c.in_ok-document.ensures.place c.in_ok-document.ensures.sound
+    rw c.from_residual-in_err-at.ensures (place_found u c.rows.result.now (cut_of u) c.args.path.now.doc d _ (λ k cut rs. flow_entry_of k cut rs (steps_of c.args.path.now)) c.whole-whole.ensures.cut c.rows.ensures c.in_ok-document.ensures.place c.in_ok-document.ensures.sound
     (λ k. no_flow d.first (cut_of u) k.document.stand.rows (steps_of c.args.path.now) (c.in_err-at.ensures.found k.document ∙ ap (λ xs. reached (map step_of xs) (lines_of k.document.stand.rows)) c.deref.ensures.value))
     ∙ ap (λ t. flow_entry_at c.args.path.now (cut_of t)) c.cut-cut.ensures)
 
