@@ -6,8 +6,7 @@ use Rattle.std.proofs.lemmas.List.{length-map}
 use Rattle.std.proofs.lemmas.Option.{cond_some, slice_get-map}
 use Rattle.std.proofs.lemmas.Str.{IsCharBoundary-start}
 use Rattle.std.specs.List.{slice_get}
-use Rattle.std.specs.Prelude.{String, option_and_then, option_map, string_bytes}
-use Rattle.std.specs.declared.alloc.Global.{Global}
+use Rattle.std.specs.Prelude.{option_map}
 use Rattle.std.specs.Str.{IsCharBoundary, IsUtf8}
 use Rattle.yq_scalar.specs.Answers.{Fails}
 use Rattle.yq_scalar.specs.Quoted.{IsQuotedText}
@@ -27,10 +26,9 @@ use Rattle.yq_rows.proofs.PlaceLaws.{RowIn, place, row_in}
 use Rattle.yq_rows.proofs.SliceLaws.{content_slices}
 use Rattle.yq_documents.specs.FlowReading.{head_flow_at, row_flow}
 use Rattle.yq_documents.specs.KeyReading.{EndsIn}
-use Rattle.yq_documents.specs.Made.{IsToldBy, lent_head, lent_text, made_or}
+use Rattle.yq_documents.specs.Made.{lent_head, lent_text}
 use Rattle.yq_documents.specs.Reading.{content_is_fit, cut_of, mark_is_fit}
 use Rattle.yq_documents.specs.RowReading.{head_at}
-use Rattle.yq_documents.specs.declared.made.Made.{Made}
 use Rattle.yq_walk.specs.Lines.{head_of}
 use Rattle.yq_documents.proofs.HeadLaws.{fitting, head_is, head_text}
 use Rattle.yq_documents.proofs.RowFlowLaws.{flow_is}
@@ -69,15 +67,6 @@ no_key (rows.Key key colon) c rest h e = absurd (false≢true (sym (ap is_empty 
 pub no_head : (h : List ℕ) → is_empty h ≡ true → lends_head h ≡ true
 no_head [] e = refl
 no_head (b ∷ bs) e = absurd (false≢true e)
-
--- what is made of a row's key and of its head is made of the row
-pub told_by : (t : List ℕ) (i : ℕ) (r : Row) (key : Option (String Global)) (head : Option Head) (m : Option Made) → IsKeyMade key r → IsHeadMade t i head r →
-    option_and_then (λ x. option_map string_bytes x.key) m ≡ option_map string_bytes key → option_and_then (λ x. option_map head_view x.head) m ≡ option_map head_view head → option_and_then (λ x. option_and_then head_flow x.head) m ≡ option_and_then head_flow head → IsToldBy (length t) (cut_of t) m i r
-told_by t i r key head m spelled made k h f = record {
-  key = ap (λ o. made_or o (lent_text (slices r).key)) k ∙ spelled;
-  head = ap (λ o. made_or o (lent_head (slices r).head)) h ∙ made.head;
-  flow = f ∙ made.flow;
-}
 
 -- a row is there
 has_row : (rs : List Row) (i : ℕ) → i < length rs → (r : Row) × (slice_get rs i ≡ Some r)
