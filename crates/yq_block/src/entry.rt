@@ -21,7 +21,8 @@ fn push_item(
     column: usize,
     value: &Value,
 ) -> Result<(), AllocError>
-    ensures { OnOk result (string_bytes out.new ≡ string_bytes out.old ++ spec.block_item layout.now column (node_of value.now)) }
+    ensures { OnOk result (string_bytes out.new ≡ string_bytes out.old ++
+        spec.block_item layout.now column (node_of value.now)) }
 {
     let below = add(column, 2)?;
     out.push_str("- ")?;
@@ -37,7 +38,8 @@ fn push_pair(
     key: &str,
     value: &Value,
 ) -> Result<(), AllocError>
-    ensures { OnOk result (string_bytes out.new ≡ string_bytes out.old ++ spec.block_pair layout.now column (key.now, node_of value.now)) }
+    ensures { OnOk result (string_bytes out.new ≡ string_bytes out.old ++
+        spec.block_pair layout.now column (key.now, node_of value.now)) }
 {
     let below = add(column, indent_step(layout, value))?;
     push_front(alloc, out, layout, below, key, is_filled(value))?;

@@ -22,7 +22,8 @@ pub(crate) fn add(column: usize, step: usize) -> Result<usize, AllocError>
 
 /// Begins a line at a column.
 pub(crate) fn push_line(out: &mut String, layout: &Layout, column: usize) -> Result<(), AllocError>
-    ensures { OnOk result (string_bytes out.new ≡ string_bytes out.old ++ spec.line_front layout.now column) }
+    ensures { OnOk result (string_bytes out.new ≡ string_bytes out.old ++
+        spec.line_front layout.now column) }
 {
     out.push_str(break_text(layout.br))?;
     push_spaces(out, column)
@@ -30,7 +31,8 @@ pub(crate) fn push_line(out: &mut String, layout: &Layout, column: usize) -> Res
 
 /// Adds a key, plain if it can be, else double-quoted.
 fn push_key(alloc: Global, out: &mut String, key: &str) -> Result<(), AllocError>
-    ensures text { OnOk result (string_bytes out.new ≡ string_bytes out.old ++ rows.block_key key.now) }
+    ensures text { OnOk result (string_bytes out.new ≡ string_bytes out.old ++
+        rows.block_key key.now) }
     ensures valid { IfOk result (λ x. IsUtf8 key.now) }
 {
     let scalar = Scalar::string(String::from_str(alloc, key)?);
@@ -46,7 +48,8 @@ pub(crate) fn push_front(
     key: &str,
     filled: bool,
 ) -> Result<(), AllocError>
-    ensures text { OnOk result (string_bytes out.new ≡ string_bytes out.old ++ spec.block_front layout.now below key.now filled) }
+    ensures text { OnOk result (string_bytes out.new ≡ string_bytes out.old ++
+        spec.block_front layout.now below key.now filled) }
     ensures valid { IfOk result (λ x. IsUtf8 key.now) }
 {
     push_key(alloc, out, key)?;

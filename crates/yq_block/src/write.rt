@@ -52,7 +52,8 @@ pub fn push_block(
     value: &Value,
 ) -> Result<(), AllocError>
     // It is the text that the style defines.
-    ensures text { OnOk result (string_bytes out.new ≡ string_bytes out.old ++ block_value layout.now column (node_of value.now)) }
+    ensures text { OnOk result (string_bytes out.new ≡ string_bytes out.old ++
+        block_value layout.now column (node_of value.now)) }
     // It is of a value, of which the laws speak.
     ensures valid { IfOk result (λ x. IsValueTree (node_of value.now)) }
 {

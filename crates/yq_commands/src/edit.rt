@@ -31,7 +31,8 @@ fn record_of(
     new: &[u8],
 ) -> Result<Record, AllocError>
     requires lengths { lengths_done splices.items (length old.now) ≡ Some (length new.now) }
-    ensures { IfOk result (λ r. r ≡ edit_record expr.now splices.items (length old.now) (length new.now)) }
+    ensures { IfOk result (λ r. r ≡ edit_record expr.now splices.items (length old.now)
+        (length new.now)) }
 {
     let expr = String::from_str(alloc, expr)?;
     Ok(Record::new(expr, splices, old.len() as u64, new.len() as u64))
@@ -53,14 +54,21 @@ fn commit<D: Store>(
     requires lengths { lengths_done splices.items (length old.now) ≡ Some (length new.now) }
     requires leads { all_done splices.items old.now ≡ Some new.now }
     requires changes { new.now ≢ old.now }
-    ensures arrives { IsTrue D.keeps → file.now ≢ name.now → (h : History) → (p : spec.Program) → Rest (D.content store.old) file.now name.now journal.old old.now h →
+    ensures arrives { IsTrue D.keeps → file.now ≢ name.now → (h : History) → (p : spec.Program) →
+        Rest (D.content store.old) file.now name.now journal.old old.now h →
         edits p old.now ≡ edited new.now splices.items →
-        Arrives (D.content store.new) file.now name.now (update_cause (Ok p) (Some h)) (Some h) (update_next expr.now (Ok p) (Some h)) result }
-    ensures text { IsTrue D.keeps → file.now ≢ name.now → OnOk result (map.get (D.content store.new) file.now ≡ Some new.now) }
-    ensures effect { IsTrue D.keeps → file.now ≢ name.now → (p : spec.Program) → edits p old.now ≡ edited new.now splices.items →
-        Works (edit_effect expr.now (edits p old.now) old.now journal.old) file.now name.now (D.content store.old) (D.content store.new) result }
-    ensures kept { IsTrue D.keeps → IfErr result (λ e. is_outside e ≡ false → D.content store.new ≡ D.content store.old) }
-    ensures others { IsTrue D.keeps → OthersStay (D.content store.old) (D.content store.new) file.now name.now }
+        Arrives (D.content store.new) file.now name.now (update_cause (Ok p) (Some h)) (Some h)
+        (update_next expr.now (Ok p) (Some h)) result }
+    ensures text { IsTrue D.keeps → file.now ≢ name.now →
+        OnOk result (map.get (D.content store.new) file.now ≡ Some new.now) }
+    ensures effect { IsTrue D.keeps → file.now ≢ name.now → (p : spec.Program) →
+        edits p old.now ≡ edited new.now splices.items →
+        Works (edit_effect expr.now (edits p old.now) old.now journal.old) file.now name.now
+        (D.content store.old) (D.content store.new) result }
+    ensures kept { IsTrue D.keeps → IfErr result (λ e. is_outside e ≡ false →
+        D.content store.new ≡ D.content store.old) }
+    ensures others { IsTrue D.keeps → OthersStay (D.content store.old)
+        (D.content store.new) file.now name.now }
     ensures quiet { IfErr result (λ e. is_output e ≡ false) }
     ensures count { D.failures store.new ≡ counted result (D.failures store.old) }
 {
@@ -89,15 +97,22 @@ pub fn edit_from<D: Store>(
     text: &[u8],
 ) -> Result<(), Fault>
     requires at_rest { IsNone journal.old.pending }
-    ensures arrives { IsTrue D.keeps → file.now ≢ name.now → (h : History) → Rest (D.content store.old) file.now name.now journal.old text.now h →
-        Arrives (D.content store.new) file.now name.now (update_cause (Ok (program_of program.now)) (Some h)) (Some h)
+    ensures arrives { IsTrue D.keeps → file.now ≢ name.now → (h : History) →
+        Rest (D.content store.old) file.now name.now journal.old text.now h →
+        Arrives (D.content store.new) file.now name.now
+        (update_cause (Ok (program_of program.now)) (Some h)) (Some h)
         (update_next expr.now (Ok (program_of program.now)) (Some h)) result }
     ensures effect { IsTrue D.keeps → file.now ≢ name.now →
-        Works (edit_effect expr.now (edits (program_of program.now) text.now) text.now journal.old) file.now name.now (D.content store.old) (D.content store.new) result }
-    ensures edited { IsTrue D.keeps → file.now ≢ name.now → map.get (D.content store.old) file.now ≡ Some text.now →
-        OnOk result (HoldsEdited (program_of program.now) text.now (map.get (D.content store.new) file.now)) }
-    ensures kept { IsTrue D.keeps → IfErr result (λ e. is_outside e ≡ false → D.content store.new ≡ D.content store.old) }
-    ensures others { IsTrue D.keeps → OthersStay (D.content store.old) (D.content store.new) file.now name.now }
+        Works (edit_effect expr.now (edits (program_of program.now) text.now) text.now journal.old)
+        file.now name.now (D.content store.old) (D.content store.new) result }
+    ensures edited { IsTrue D.keeps → file.now ≢ name.now →
+        map.get (D.content store.old) file.now ≡ Some text.now →
+        OnOk result (HoldsEdited (program_of program.now) text.now
+        (map.get (D.content store.new) file.now)) }
+    ensures kept { IsTrue D.keeps → IfErr result (λ e. is_outside e ≡ false →
+        D.content store.new ≡ D.content store.old) }
+    ensures others { IsTrue D.keeps → OthersStay (D.content store.old)
+        (D.content store.new) file.now name.now }
     ensures quiet { IfErr result (λ e. is_output e ≡ false) }
     ensures count { D.failures store.new ≡ counted result (D.failures store.old) }
 {

@@ -43,11 +43,16 @@ pub fn given_text(bytes: &[u8]) -> Result<&str, Fault>
 /// Edits a text, which need be no UTF-8, by a program.
 #[tactic(auto, unfolding(crate::specs::Editing::edits), using(crate::proofs::EditingLaws::unread_refuses, crate::proofs::EditingLaws::edit_refuses))]
 pub fn edit_text(alloc: Global, program: &Program, text: &[u8]) -> Result<Edited, Fault>
-    ensures ok { IfOk result (λ e. edits (program_of program.now) text.now ≡ edited (string_bytes e.text) e.splices.items) }
-    ensures splices { IfOk result (λ e. all_done e.splices.items text.now ≡ Some (string_bytes e.text)) }
-    ensures lengths { IfOk result (λ e. lengths_done e.splices.items (length text.now) ≡ Some (length (string_bytes e.text))) }
-    ensures edited { IfOk result (λ e. IsTextEdited (program_of program.now) text.now (string_bytes e.text)) }
-    ensures err { IfErr result (λ e. e ≢ Fault.OutOfMemory → Refuses (edits (program_of program.now) text.now) e) }
+    ensures ok { IfOk result (λ e. edits (program_of program.now) text.now ≡
+        edited (string_bytes e.text) e.splices.items) }
+    ensures splices { IfOk result (λ e. all_done e.splices.items text.now ≡
+        Some (string_bytes e.text)) }
+    ensures lengths { IfOk result (λ e. lengths_done e.splices.items (length text.now) ≡
+        Some (length (string_bytes e.text))) }
+    ensures edited { IfOk result (λ e. IsTextEdited (program_of program.now) text.now
+        (string_bytes e.text)) }
+    ensures err { IfErr result (λ e. e ≢ Fault.OutOfMemory →
+        Refuses (edits (program_of program.now) text.now) e) }
     ensures inside { IfErr result (λ e. is_failure e ≡ false) }
     ensures quiet { IfErr result (λ e. is_output e ≡ false) }
 {

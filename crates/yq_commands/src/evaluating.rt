@@ -33,7 +33,8 @@ fn show_read(
     no_doc: bool,
 ) -> Result<Shown, Fault>
     requires { is_read (program_of program.now) ≡ true }
-    ensures ok { IfOk result (λ s. shows exit_status no_doc (program_of program.now) text.now ≡ Ok (shown_by s)) }
+    ensures ok { IfOk result (λ s. shows exit_status no_doc (program_of program.now) text.now ≡
+        Ok (shown_by s)) }
     ensures err { IfErr result (λ e. e ≢ Fault.OutOfMemory →
         IsFor (cause_in (shows exit_status no_doc (program_of program.now) text.now)) e) }
     ensures inside { IfErr result (λ e. is_failure e ≡ false) }
@@ -51,7 +52,8 @@ fn show_read(
 /// What an update shows of a text: the edited one.
 fn show_edit(alloc: Global, program: &Program, text: &[u8]) -> Result<Shown, Fault>
     requires { is_read (program_of program.now) ≡ false }
-    ensures edited { IfOk result (λ s. IsTextEdited (program_of program.now) text.now (string_bytes s.text)) }
+    ensures edited { IfOk result (λ s. IsTextEdited (program_of program.now) text.now
+        (string_bytes s.text)) }
     ensures ok { (exit_status no_doc : Bool) →
         IfOk result (λ s. shows exit_status no_doc (program_of program.now) text.now ≡
         Ok (shown_by s)) }
@@ -78,7 +80,8 @@ fn show(
 ) -> Result<Shown, Fault>
     ensures edited { is_read (program_of program.now) ≡ false →
         IfOk result (λ s. IsTextEdited (program_of program.now) text.now (string_bytes s.text)) }
-    ensures ok { IfOk result (λ s. shows exit_status no_doc (program_of program.now) text.now ≡ Ok (shown_by s)) }
+    ensures ok { IfOk result (λ s. shows exit_status no_doc (program_of program.now) text.now ≡
+        Ok (shown_by s)) }
     ensures err { IfErr result (λ e. e ≢ Fault.OutOfMemory →
         IsFor (cause_in (shows exit_status no_doc (program_of program.now) text.now)) e) }
     ensures inside { IfErr result (λ e. is_failure e ≡ false) }
@@ -101,12 +104,17 @@ fn evaluate_program<D: Store>(
     no_doc: bool,
     shown: &mut Shown,
 ) -> Result<(), Fault>
-    ensures arrives { IsTrue D.keeps → (name : List ℕ) → (h : Option History) → GoodIn (D.content store.old) file.now name h →
-        Arrives (D.content store.new) file.now name (cause_in (of_file (shows exit_status no_doc (program_of program.now)) h)) h h result }
-    ensures output { IsTrue D.keeps → (name : List ℕ) → (h : Option History) → GoodIn (D.content store.old) file.now name h →
-        OnOk result (shown_by shown.new ≡ shown_in (of_file (shows exit_status no_doc (program_of program.now)) h)) }
-    ensures edited { IsTrue D.keeps → is_read (program_of program.now) ≡ false → OnOk result ((text : List ℕ) ×
-        (map.get (D.content store.old) file.now ≡ Some text) × IsTextEdited (program_of program.now) text (string_bytes shown.new.text)) }
+    ensures arrives { IsTrue D.keeps → (name : List ℕ) → (h : Option History) →
+        GoodIn (D.content store.old) file.now name h →
+        Arrives (D.content store.new) file.now name
+        (cause_in (of_file (shows exit_status no_doc (program_of program.now)) h)) h h result }
+    ensures output { IsTrue D.keeps → (name : List ℕ) → (h : Option History) →
+        GoodIn (D.content store.old) file.now name h →
+        OnOk result (shown_by shown.new ≡ shown_in (of_file
+        (shows exit_status no_doc (program_of program.now)) h)) }
+    ensures edited { IsTrue D.keeps → is_read (program_of program.now) ≡ false →
+        OnOk result ((text : List ℕ) × (map.get (D.content store.old) file.now ≡ Some text) ×
+        IsTextEdited (program_of program.now) text (string_bytes shown.new.text)) }
     ensures same { IsTrue D.keeps → D.content store.new ≡ D.content store.old }
     ensures quiet { IfErr result (λ e. is_output e ≡ false) }
     ensures count { D.failures store.new ≡ counted result (D.failures store.old) }
@@ -127,10 +135,14 @@ pub fn evaluate<D: Store>(
     no_doc: bool,
     shown: &mut Shown,
 ) -> Result<(), Fault>
-    ensures arrives { IsTrue D.keeps → (name : List ℕ) → (h : Option History) → GoodIn (D.content store.old) file.now name h →
-        Arrives (D.content store.new) file.now name (cause_in (evaluated exit_status no_doc (program_in expr.now) h)) h h result }
-    ensures output { IsTrue D.keeps → (name : List ℕ) → (h : Option History) → GoodIn (D.content store.old) file.now name h →
-        OnOk result (shown_by shown.new ≡ shown_in (evaluated exit_status no_doc (program_in expr.now) h)) }
+    ensures arrives { IsTrue D.keeps → (name : List ℕ) → (h : Option History) →
+        GoodIn (D.content store.old) file.now name h →
+        Arrives (D.content store.new) file.now name
+        (cause_in (evaluated exit_status no_doc (program_in expr.now) h)) h h result }
+    ensures output { IsTrue D.keeps → (name : List ℕ) → (h : Option History) →
+        GoodIn (D.content store.old) file.now name h →
+        OnOk result (shown_by shown.new ≡ shown_in (evaluated exit_status no_doc
+        (program_in expr.now) h)) }
     ensures edited { IsTrue D.keeps →
         OnOk result (PrintsEdited expr.now (map.get (D.content store.old) file.now)
         (string_bytes shown.new.text)) }

@@ -31,15 +31,22 @@ fn update<D: Store>(
     name: &str,
     expr: &str,
 ) -> Result<(), Fault>
-    ensures arrives { IsTrue D.keeps → file.now ≢ name.now → (h : Option History) → GoodIn (D.content store.old) file.now name.now h →
-        Arrives (D.content store.new) file.now name.now (update_cause (program_in expr.now) h) h (update_next expr.now (program_in expr.now) h) result }
+    ensures arrives { IsTrue D.keeps → file.now ≢ name.now → (h : Option History) →
+        GoodIn (D.content store.old) file.now name.now h →
+        Arrives (D.content store.new) file.now name.now (update_cause (program_in expr.now) h) h
+        (update_next expr.now (program_in expr.now) h) result }
     ensures effect { IsTrue D.keeps → file.now ≢ name.now →
-        Works (update_effect expr.now (program_in expr.now) (map.get (D.content store.old) file.now) (map.get (D.content store.old) name.now)) file.now name.now (D.content store.old) (D.content store.new) result }
+        Works (update_effect expr.now (program_in expr.now) (map.get (D.content store.old) file.now)
+        (map.get (D.content store.old) name.now)) file.now name.now (D.content store.old)
+        (D.content store.new) result }
     ensures edited { IsTrue D.keeps → file.now ≢ name.now →
-        OnOk result (IsFileEdited expr.now (map.get (D.content store.old) file.now) (map.get (D.content store.new) file.now)) }
+        OnOk result (IsFileEdited expr.now (map.get (D.content store.old) file.now)
+        (map.get (D.content store.new) file.now)) }
     ensures unparsed { (f : Fault) → fault_of (program_in expr.now) ≡ Some f → IsUnparsed f result }
-    ensures kept { IsTrue D.keeps → IfErr result (λ e. is_outside e ≡ false → D.content store.new ≡ D.content store.old) }
-    ensures others { IsTrue D.keeps → OthersStay (D.content store.old) (D.content store.new) file.now name.now }
+    ensures kept { IsTrue D.keeps → IfErr result (λ e. is_outside e ≡ false →
+        D.content store.new ≡ D.content store.old) }
+    ensures others { IsTrue D.keeps → OthersStay (D.content store.old)
+        (D.content store.new) file.now name.now }
     ensures quiet { IfErr result (λ e. is_output e ≡ false) }
     ensures count { D.failures store.new ≡ counted result (D.failures store.old) }
 {
@@ -65,24 +72,32 @@ pub fn execute<D: Store>(
     shown: &mut Shown,
 ) -> Result<(), Fault>
     requires empty { shown_by shown.old ≡ nothing }
-    ensures arrives { IsTrue D.keeps → (file name : List ℕ) → file ≢ name → IsOn file name command.now →
-        (h : Option History) → GoodIn (D.content store.old) file name h →
-        Arrives (D.content store.new) file name (cause_of command.now h) h (next_of command.now h) result }
-    ensures effect { IsTrue D.keeps → (file name : List ℕ) → file ≢ name → IsOn file name command.now →
-        OfEffect command.now (map.get (D.content store.old) file) (map.get (D.content store.old) name) (λ x. Works x file name (D.content store.old) (D.content store.new) result) }
+    ensures arrives { IsTrue D.keeps → (file name : List ℕ) → file ≢ name →
+        IsOn file name command.now → (h : Option History) →
+        GoodIn (D.content store.old) file name h →
+        Arrives (D.content store.new) file name (cause_of command.now h) h (next_of command.now h)
+        result }
+    ensures effect { IsTrue D.keeps → (file name : List ℕ) → file ≢ name →
+        IsOn file name command.now →
+        OfEffect command.now (map.get (D.content store.old) file)
+        (map.get (D.content store.old) name)
+        (λ x. Works x file name (D.content store.old) (D.content store.new) result) }
     ensures output { IsTrue D.keeps → (file name : List ℕ) → IsOn file name command.now →
         (h : Option History) → GoodIn (D.content store.old) file name h →
         OnOk result (shown_by shown.new ≡ shown_of command.now h) }
     ensures listed { IsTrue D.keeps → (file name : List ℕ) → IsOn file name command.now →
-        OnOk result (IsListing command.now (map.get (D.content store.old) file) (map.get (D.content store.old) name) (string_bytes shown.new.text)) }
+        OnOk result (IsListing command.now (map.get (D.content store.old) file)
+        (map.get (D.content store.old) name) (string_bytes shown.new.text)) }
     ensures edited { IsTrue D.keeps →
         OnOk result (HasEdited command.now (D.content store.old) (D.content store.new)
         (string_bytes shown.new.text)) }
     ensures unparsed { (f : Fault) → expression_fault command.now ≡ Some f → IsUnparsed f result }
     ensures silent { prints command.now ≡ false → shown_by shown.new ≡ nothing }
     ensures matched { reads_journal command.now ≡ true → shown.new.is_match ≡ true }
-    ensures still { IsTrue D.keeps → prints command.now ≡ true → D.content store.new ≡ D.content store.old }
-    ensures kept { IsTrue D.keeps → IfErr result (λ e. is_outside e ≡ false → D.content store.new ≡ D.content store.old) }
+    ensures still { IsTrue D.keeps → prints command.now ≡ true →
+        D.content store.new ≡ D.content store.old }
+    ensures kept { IsTrue D.keeps → IfErr result (λ e. is_outside e ≡ false →
+        D.content store.new ≡ D.content store.old) }
     ensures others { IsTrue D.keeps → (q : List ℕ) → IsStranger q command.now →
         map.get (D.content store.new) q ≡ map.get (D.content store.old) q }
     ensures quiet { IfErr result (λ e. is_output e ≡ false) }

@@ -21,7 +21,8 @@ fn push_marker(
     last: Option<usize>,
     doc: usize,
 ) -> Result<(), AllocError>
-    ensures { OnOk result (string_bytes printed.new ≡ string_bytes printed.old ++ spec.marker_before no_doc last doc) }
+    ensures { OnOk result (string_bytes printed.new ≡ string_bytes printed.old ++
+        spec.marker_before no_doc last doc) }
 {
     match last {
         Some(last) if !no_doc && last != doc => printed.push_str("---\n"),
@@ -37,8 +38,9 @@ fn push_match(
     last: Option<usize>,
     found: &Match,
 ) -> Result<(), AllocError>
-    ensures { OnOk result (string_bytes printed.new ≡
-        (string_bytes printed.old ++ spec.marker_before no_doc last found.now.doc) ++ print_text (node_of found.now.value)) }
+    ensures { OnOk result (string_bytes printed.new ≡ (string_bytes printed.old ++
+        spec.marker_before no_doc last found.now.doc) ++
+        print_text (node_of found.now.value)) }
 {
     push_marker(printed, no_doc, last, found.doc)?;
     let text = print(alloc, &found.value)?;
@@ -47,7 +49,8 @@ fn push_match(
 
 /// Matches as they are printed.
 fn printed_matches(alloc: Global, no_doc: bool, matches: &[Match]) -> Result<String, AllocError>
-    ensures { IfOk result (λ s. string_bytes s ≡ spec.matches_behind no_doc None (matches_of matches.now)) }
+    ensures { IfOk result (λ s. string_bytes s ≡ spec.matches_behind no_doc None
+        (matches_of matches.now)) }
 {
     let mut printed = String::new(alloc);
     let mut last = None;
@@ -94,7 +97,8 @@ pub fn shown_matches(
     no_doc: bool,
     matches: &[Match],
 ) -> Result<Shown, AllocError>
-    ensures { IfOk result (λ s. shown_by s ≡ spec.shown_matches exit_status no_doc (matches_of matches.now)) }
+    ensures { IfOk result (λ s. shown_by s ≡ spec.shown_matches exit_status no_doc
+        (matches_of matches.now)) }
 {
     let text = printed_matches(alloc, no_doc, matches)?;
     let is_match = !(exit_status && have_no_match(matches));

@@ -124,7 +124,8 @@ pub fn read_head<'t>(
     requires quoted { is_quoted head.now ≡ true → IsQuotedText head.now }
     requires ends { EndsIn whole.now text.now }
     ensures view { Gives head_view result (spec.head_at whole.now parent head.now text.now) }
-    ensures flow { IfOk result (λ h. head_flow h ≡ flow.head_flow_at whole.now parent head.now text.now) }
+    ensures flow { IfOk result (λ h. head_flow h ≡ flow.head_flow_at whole.now parent head.now
+        text.now) }
     ensures fault { IfErr result IsOfText }
 {
     if head.is_empty() {
@@ -152,7 +153,8 @@ pub fn row_head<'t>(
 ) -> Result<Head<'t>, AllocError>
     requires ends { EndsIn whole.now text.now }
     requires row { spec.HasHead (row_view row.now) text.now }
-    ensures view { (h : spec.HasHead (row_view row.now) text.now) → IfOk result (λ x. head_view x ≡ head_of h.row.content) }
+    ensures view { (h : spec.HasHead (row_view row.now) text.now) →
+        IfOk result (λ x. head_view x ≡ head_of h.row.content) }
     ensures flow { (h : spec.HasHead (row_view row.now) text.now) →
         IfOk result (λ x. head_flow x ≡ flow.row_flow (length whole.now) h.row h.rest) }
 {

@@ -72,9 +72,9 @@ fn more_lines(
     column: usize,
     last: &str,
 ) -> Result<String, AllocError>
-    ensures { IfOk result (λ s. string_bytes s ≡
-        spec.more_lines (layouts.layout_of doc (cut_of cut.now)) (lent key.entry) (node_of value.now)
-        column last.now) }
+    ensures { IfOk result (λ s. string_bytes s ≡ spec.more_lines
+        (layouts.layout_of doc (cut_of cut.now)) (lent key.entry)
+        (node_of value.now) column last.now) }
 {
     let layout = layout_for(cut, doc, value);
     entry_text(alloc, &layout, key, value, column, last)

@@ -40,7 +40,9 @@ fn push_change(
 ) -> Result<(), MatchError>
     ensures { (root : TreeNode) → HasAliases (names_of root) aliases.now →
         IsIn root (place_of place.entry) →
-        Matches (λ _. map changed_of changes.new.items) result (put_behind (map changed_of changes.old.items) (spec.all_allowed root (placed_change (place_of place.entry) change))) }
+        Matches (λ _. map changed_of changes.new.items) result
+        (put_behind (map changed_of changes.old.items)
+        (spec.all_allowed root (placed_change (place_of place.entry) change))) }
 {
     let path = path_steps(alloc, place.path)?;
     allow(alloc, aliases, place.node, path.len(), &change)?;
@@ -84,7 +86,9 @@ fn at_each<'a, 't>(
     requires { HaveScalars (places_of places.now) }
     ensures { (root : TreeNode) → HasAliases (names_of root) aliases.now →
         AreIn root (places_of places.now) →
-        Matches (λ v. map changed_of v.items) result (spec.at_each root (effect_at doc (room_of documents.now doc) effect.entry) (places_of places.now)) }
+        Matches (λ v. map changed_of v.items) result
+        (spec.at_each root (effect_at doc (room_of documents.now doc) effect.entry)
+        (places_of places.now)) }
 {
     let mut changes = Vec::new(alloc);
     let mut cut = documents.cut();
@@ -106,7 +110,9 @@ fn changes_at<'a, 't>(
     requires root { HasScalars (node_of root) }
     requires scalars { HaveScalars (places_of places.now) }
     requires within { AreIn (node_of root) (places_of places.now) }
-    ensures { Matches (λ v. map changed_of v.items) result (spec.changes_at doc (room_of documents.now doc) (node_of root.entry) (update_of update.now) (places_of places.now)) }
+    ensures { Matches (λ v. map changed_of v.items) result
+        (spec.changes_at doc (room_of documents.now doc) (node_of root.entry)
+        (update_of update.now) (places_of places.now)) }
 {
     if places.is_empty() {
         return Ok(Vec::new(alloc));
@@ -187,7 +193,9 @@ fn assign<'a, 't>(
     requires within { AreIn (node_of root) (places_of places.now) }
     requires aliases { HasAliases (names_of (node_of root)) aliases.now }
     requires some { 0 < length places.now }
-    ensures { Matches (λ v. map changed_of v.items) result (spec.changes_at doc (room_of documents.now doc) (node_of root.entry) (update_of (Update.Assign assignment.now)) (places_of places.now)) }
+    ensures { Matches (λ v. map changed_of v.items) result
+        (spec.changes_at doc (room_of documents.now doc) (node_of root.entry)
+        (update_of (Update.Assign assignment.now)) (places_of places.now)) }
 {
     let right: &[Term] = &assignment.right;
     match assignment.operator {
@@ -225,7 +233,9 @@ fn changes_in(
 ) -> Result<Vec<Changed>, MatchError>
     requires scalars { HasScalars (node_of root) }
     requires tree { IsTree (node_of root) }
-    ensures { Matches (λ v. map changed_of v.items) result (spec.changes_in (update_of update.now) doc (room_of documents.now doc) (node_of root.entry)) }
+    ensures { Matches (λ v. map changed_of v.items) result
+        (spec.changes_in (update_of update.now) doc (room_of documents.now doc)
+        (node_of root.entry)) }
 {
     let bump = Bump::new(alloc);
     let places = find(alloc, &bump, doc, left(update), root)?;

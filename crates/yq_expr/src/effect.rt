@@ -36,7 +36,8 @@ pub(crate) enum Effect<'a, 'v> {
 
 /// A value that is added at a place.
 fn add(alloc: Global, place: Place<'_, '_>, value: &Value) -> Result<Option<Change>, MatchError>
-    ensures { Matches (placed (place_of place.entry)) result (spec.add_at (place_of place.entry) (node_of value.now)) }
+    ensures { Matches (placed (place_of place.entry)) result
+        (spec.add_at (place_of place.entry) (node_of value.now)) }
 {
     if is_null(value) {
         return Ok(None);
@@ -78,7 +79,8 @@ fn has_room(
     place: Place<'_, '_>,
 ) -> Result<bool, AllocError>
     ensures same { cut.new ≡ cut.old }
-    ensures room { IfOk result (λ b. b ≡ (room_of cut.old doc).has comment (place_of place.entry).path) }
+    ensures room { IfOk result (λ b. b ≡ (room_of cut.old doc).has comment
+        (place_of place.entry).path) }
 {
     let path = Path {
         doc,

@@ -38,7 +38,8 @@ fn push_match(
     matches: &mut Vec<Match>,
 ) -> Result<(), MatchError>
     requires { HasScalars (value_of (place_of place)) }
-    ensures { Matches (λ _. matches_of matches.new.items) result (put_behind (matches_of matches.old.items) (spec.match_at doc (place_of place.entry))) }
+    ensures { Matches (λ _. matches_of matches.new.items) result
+        (put_behind (matches_of matches.old.items) (spec.match_at doc (place_of place.entry))) }
 {
     let value = copy_at(alloc, place)?;
     matches.push(Match { doc, value })?;
@@ -53,7 +54,9 @@ fn push_copies(
     matches: &mut Vec<Match>,
 ) -> Result<(), MatchError>
     requires { HaveScalars (places_of places.now) }
-    ensures { Matches (λ _. matches_of matches.new.items) result (put_behind (matches_of matches.old.items) (for_each (spec.match_at doc) (places_of places.now))) }
+    ensures { Matches (λ _. matches_of matches.new.items) result
+        (put_behind (matches_of matches.old.items)
+        (for_each (spec.match_at doc) (places_of places.now))) }
 {
     'places: for place in places {
         push_match(alloc, doc, *place, matches)?;
@@ -71,7 +74,9 @@ fn push_document(
     matches: &mut Vec<Match>,
 ) -> Result<(), MatchError>
     requires { HasScalars (node_of root) }
-    ensures { Matches (λ _. matches_of matches.new.items) result (put_behind (matches_of matches.old.items) (spec.matches_in doc (map stage_of pipe.now) (node_of root.entry))) }
+    ensures { Matches (λ _. matches_of matches.new.items) result
+        (put_behind (matches_of matches.old.items)
+        (spec.matches_in doc (map stage_of pipe.now) (node_of root.entry))) }
 {
     let bump = Bump::new(alloc);
     let places = find(alloc, &bump, doc, pipe, root)?;
@@ -84,7 +89,8 @@ fn pipe_matches(
     pipe: &[Stage],
     documents: &Documents<'_>,
 ) -> Result<Vec<Match>, MatchError>
-    ensures { Matches (λ v. matches_of v.items) result (spec.matches (map stage_of pipe.now) (documents_of documents.now)) }
+    ensures { Matches (λ v. matches_of v.items) result
+        (spec.matches (map stage_of pipe.now) (documents_of documents.now)) }
 {
     let mut matches = Vec::new(alloc);
     'documents: for doc in 0..documents.count() {

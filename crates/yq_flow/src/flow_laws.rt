@@ -23,27 +23,43 @@ ghost use Rattle.yq_flow.specs.FlowValues.{SpellsInFlow};
 /// anchor.
 pub fn replaced_in_flow()
     // To any node that may be put there.
-    ensures node { (x : CollAt) (s : Step) (y : EntryPieces) (m : Node) → IsCollAt x → item_in s x ≡ Some y → FitsNode (room_in x) m y.rest → IsEdited x (replacing s y m x.coll) (change x.steps (within (change_child s (put_value (tree_of m))))) }
+    ensures node { (x : CollAt) (s : Step) (y : EntryPieces) (m : Node) → IsCollAt x →
+        item_in s x ≡ Some y → FitsNode (room_in x) m y.rest →
+        IsEdited x (replacing s y m x.coll)
+        (change x.steps (within (change_child s (put_value (tree_of m))))) }
     // To a value, as it is written in flow style.
-    ensures value { (x : CollAt) (s : Step) (y : EntryPieces) (v : tree.Node) → IsCollAt x → item_in s x ≡ Some y → IsValueTree v → depth v ≤ room_in x → IsEdited x (replacing s y (flow_of v) x.coll) (change (x.steps ++ (s ∷ [])) (put_value v)) }
+    ensures value { (x : CollAt) (s : Step) (y : EntryPieces) (v : tree.Node) → IsCollAt x →
+        item_in s x ≡ Some y → IsValueTree v → depth v ≤ room_in x →
+        IsEdited x (replacing s y (flow_of v) x.coll) (change (x.steps ++ (s ∷ [])) (put_value v)) }
     // To a scalar, in a style that can write it there.
-    ensures scalar { (x : CollAt) (s : Step) (y : EntryPieces) (v : ScalarText) (style : Style) → IsCollAt x → item_in s x ≡ Some y → IsValid v → scalars.IsInline style → can_write v style Flow ≡ true →
-        IsEdited x (replacing s y (scalar (scalars.written style v.text)) x.coll) (change (x.steps ++ (s ∷ [])) (put_value (scalar_node v))) }
+    ensures scalar { (x : CollAt) (s : Step) (y : EntryPieces) (v : ScalarText) (style : Style) →
+        IsCollAt x → item_in s x ≡ Some y → IsValid v → scalars.IsInline style →
+        can_write v style Flow ≡ true →
+        IsEdited x (replacing s y (scalar (scalars.written style v.text)) x.coll)
+        (change (x.steps ++ (s ∷ [])) (put_value (scalar_node v))) }
 {}
 
 /// A flow collection gets one more item or entry: behind the last one, or right behind the opening
 /// bracket.
 pub fn appended_in_flow()
     // Any item or entry that may stand there.
-    ensures item { (x : CollAt) (key : Key) (m : Node) → IsCollAt x → FitsItem (room_in x) x.coll.close key m (behind_appended x.coll) → IsEdited x (appending key m x.coll) (change x.steps (within (append_child (inner (key_content key)) (tree_of m)))) }
+    ensures item { (x : CollAt) (key : Key) (m : Node) → IsCollAt x →
+        FitsItem (room_in x) x.coll.close key m (behind_appended x.coll) →
+        IsEdited x (appending key m x.coll)
+        (change x.steps (within (append_child (inner (key_content key)) (tree_of m)))) }
     // A value, as it is written in flow style.
-    ensures value { (x : CollAt) (label : tree.Label) (v : tree.Node) → IsCollAt x → IsLabel (x.coll.close == 125) label → IsValueTree v → depth v ≤ room_in x → IsEdited x (appending (flow_key label.key) (flow_of v) x.coll) (change x.steps (within (append_child label v))) }
+    ensures value { (x : CollAt) (label : tree.Label) (v : tree.Node) → IsCollAt x →
+        IsLabel (x.coll.close == 125) label → IsValueTree v → depth v ≤ room_in x →
+        IsEdited x (appending (flow_key label.key) (flow_of v) x.coll)
+        (change x.steps (within (append_child label v))) }
 {}
 
 /// An item or entry that isn't the sole one is taken out of a flow collection, in a text in which an LF
 /// stands behind each CR.
 pub fn removed_in_flow()
-    ensures { (x : CollAt) (s : Step) (e : FlowEdit) → IsCollAt x → removing s x.coll ≡ Some e → pairs_returns (node_text x.node x.rest) ≡ true → IsEdited x e (change x.steps (within (remove_child s))) }
+    ensures { (x : CollAt) (s : Step) (e : FlowEdit) → IsCollAt x → removing s x.coll ≡ Some e →
+        pairs_returns (node_text x.node x.rest) ≡ true →
+        IsEdited x e (change x.steps (within (remove_child s))) }
 {}
 
 /// What is written in flow style spells the tree that is written.
@@ -54,11 +70,13 @@ pub fn flow_spells()
 /// What is written for a scalar outside flow collections, in a style that can write it on one line,
 /// spells it.
 pub fn scalar_spells()
-    ensures { (s : ScalarText) (style : Style) → IsValid s → scalars.IsInline style → can_write s style Block ≡ true → SpellsScalar s (scalars.written style s.text) }
+    ensures { (s : ScalarText) (style : Style) → IsValid s → scalars.IsInline style →
+        can_write s style Block ≡ true → SpellsScalar s (scalars.written style s.text) }
 {}
 
 /// What is written for a scalar in a flow collection, in a style that can write it there, spells it
 /// there.
 pub fn scalar_spells_in_flow()
-    ensures { (s : ScalarText) (style : Style) → IsValid s → scalars.IsInline style → can_write s style Flow ≡ true → SpellsInFlow s (scalars.written style s.text) }
+    ensures { (s : ScalarText) (style : Style) → IsValid s → scalars.IsInline style →
+        can_write s style Flow ≡ true → SpellsInFlow s (scalars.written style s.text) }
 {}

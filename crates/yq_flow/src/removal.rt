@@ -73,7 +73,8 @@ fn remove_end(text: &[u8], from: usize, before: usize, end: usize) -> EditPlace
 
 /// What goes with one that begins at a place, up to the next one if there is one.
 fn remove_before(text: &[u8], start: usize, next: Option<usize>) -> Option<EditPlace>
-    ensures { option_map spec.edit_view result ≡ option_map (spec.remove_before text.now start) next }
+    ensures { option_map spec.edit_view result ≡
+        option_map (spec.remove_before text.now start) next }
 {
     match next {
         Some(mark) if behind_feed(text, start) && begins_marker(behind(text, mark)) => {

@@ -30,7 +30,8 @@ pub fn push_scalar(
     scalar: &Scalar,
     place: Place,
 ) -> Result<(), AllocError>
-    ensures text { OnOk result (string_bytes out.new ≡ string_bytes out.old ++ spec.scalar_text scalar.now place) }
+    ensures text { OnOk result (string_bytes out.new ≡ string_bytes out.old ++
+        spec.scalar_text scalar.now place) }
     ensures valid { IfOk result (λ x. IsValid scalar.now) }
 {
     let text = scalar.text();
@@ -43,7 +44,8 @@ pub fn push_scalar(
 
 /// Adds a key with its `:` and a space.
 fn push_key(alloc: Global, out: &mut String, key: &str) -> Result<(), AllocError>
-    ensures text { OnOk result (string_bytes out.new ≡ string_bytes out.old ++ spec.key_front key.now) }
+    ensures text { OnOk result (string_bytes out.new ≡ string_bytes out.old ++
+        spec.key_front key.now) }
     ensures valid { IfOk result (λ x. IsUtf8 key.now) }
 {
     let scalar = Scalar::string(String::from_str(alloc, key)?);
@@ -55,7 +57,8 @@ fn push_key(alloc: Global, out: &mut String, key: &str) -> Result<(), AllocError
 #[cycle(write)]
 #[tactic(auto, unfolding(yq_inline::specs::Written::flow_of, yq_inline::specs::Nodes::node_text))]
 fn push_value(alloc: Global, out: &mut String, value: &Value) -> Result<(), AllocError>
-    ensures text { OnOk result (string_bytes out.new ≡ string_bytes out.old ++ spec.flow_text (node_of value.now)) }
+    ensures text { OnOk result (string_bytes out.new ≡ string_bytes out.old ++
+        spec.flow_text (node_of value.now)) }
     ensures valid { IfOk result (λ x. IsValueTree (node_of value.now)) }
 {
     match value {
@@ -76,7 +79,8 @@ fn push_value(alloc: Global, out: &mut String, value: &Value) -> Result<(), Allo
 /// Adds the items of a list.
 #[cycle(write)]
 fn push_items(alloc: Global, out: &mut String, items: &Vec<Value>) -> Result<(), AllocError>
-    ensures text { OnOk result (string_bytes out.new ≡ string_bytes out.old ++ spec.listed true (map (λ v. spec.flow_text (node_of v)) items.now.items)) }
+    ensures text { OnOk result (string_bytes out.new ≡ string_bytes out.old ++
+        spec.listed true (map (λ v. spec.flow_text (node_of v)) items.now.items)) }
     ensures valid { IfOk result (λ x. AreValueTrees false (items_of items.now.items)) }
 {
     let mut first = true;
@@ -98,7 +102,9 @@ fn push_entries(
     out: &mut String,
     entries: &Vec<(String, Value)>,
 ) -> Result<(), AllocError>
-    ensures text { OnOk result (string_bytes out.new ≡ string_bytes out.old ++ spec.listed true (map (λ e. spec.entry_text (string_bytes e.0, node_of e.1)) entries.now.items)) }
+    ensures text { OnOk result (string_bytes out.new ≡ string_bytes out.old ++
+        spec.listed true (map (λ e. spec.entry_text (string_bytes e.0, node_of e.1))
+        entries.now.items)) }
     ensures valid { IfOk result (λ x. AreValueTrees true (entries_of entries.now.items)) }
 {
     let mut first = true;

@@ -52,8 +52,8 @@ pub fn append_in_flow<'d>(
     key: Option<&str>,
     value: &Value,
 ) -> Result<Option<Segments<'d>>, AllocError>
-    ensures { Carries result (spec.appended_in_flow path.now.doc (steps_of path.now) (lent key.entry)
-        (node_of value.now) (cut_of cut.now)) }
+    ensures { Carries result (spec.appended_in_flow path.now.doc (steps_of path.now)
+        (lent key.entry) (node_of value.now) (cut_of cut.now)) }
 {
     let found = cut.flow_head(alloc, path.doc, &path.steps)?;
     let Some(head) = found else {

@@ -34,19 +34,30 @@ pub fn carry_out<D: Store>(
     requires at_rest { IsNone journal.old.pending }
     requires moves { moved_text journal.old.records journal.old.at step old.now ≡ Some new.now }
     requires changes { new.now ≢ old.now }
-    ensures ok { IsTrue D.keeps → file.now ≢ name.now → (h : History) → Rest (D.content store.old) file.now name.now journal.old old.now h →
+    ensures ok { IsTrue D.keeps → file.now ≢ name.now → (h : History) →
+        Rest (D.content store.old) file.now name.now journal.old old.now h →
         OnOk result (Stands (D.content store.new) file.now name.now (after_move h step new.now)) }
-    ensures err { IsTrue D.keeps → file.now ≢ name.now → (h : History) → Rest (D.content store.old) file.now name.now journal.old old.now h →
-        OnErr result (Stands (D.content store.new) file.now name.now h ⊎ Stands (D.content store.new) file.now name.now (after_move h step new.now)) }
-    ensures text { IsTrue D.keeps → file.now ≢ name.now → OnOk result (map.get (D.content store.new) file.now ≡ Some new.now) }
-    ensures moved { IsTrue D.keeps → OnOk result (IsJournal (map.get (D.content store.new) name.now) (moved journal.old step)) }
+    ensures err { IsTrue D.keeps → file.now ≢ name.now → (h : History) →
+        Rest (D.content store.old) file.now name.now journal.old old.now h →
+        OnErr result (Stands (D.content store.new) file.now name.now h ⊎ Stands
+        (D.content store.new) file.now name.now (after_move h step new.now)) }
+    ensures text { IsTrue D.keeps → file.now ≢ name.now →
+        OnOk result (map.get (D.content store.new) file.now ≡ Some new.now) }
+    ensures moved { IsTrue D.keeps → OnOk result (IsJournal (map.get (D.content store.new) name.now)
+        (moved journal.old step)) }
     ensures cut { IsTrue D.keeps → file.now ≢ name.now →
-        OnErr result (IsMoveCutShort journal.old step old.now new.now file.now name.now (D.content store.old) (D.content store.new)) }
-    ensures fault { IfErr result (λ e. is_outside e ≡ false → option_map of_fault (no_way journal.old.records journal.old.at step) ≡ Some e) }
-    ensures refused { (f : JournalFault) → no_way journal.old.records journal.old.at step ≡ Some f → result ≡ Err (of_fault f) }
-    ensures kept { IsTrue D.keeps → IfErr result (λ e. is_outside e ≡ false → D.content store.new ≡ D.content store.old) }
-    ensures barred { IsTrue D.keeps → no_way journal.old.records journal.old.at step ≢ None → D.content store.new ≡ D.content store.old }
-    ensures others { IsTrue D.keeps → OthersStay (D.content store.old) (D.content store.new) file.now name.now }
+        OnErr result (IsMoveCutShort journal.old step old.now new.now file.now name.now
+        (D.content store.old) (D.content store.new)) }
+    ensures fault { IfErr result (λ e. is_outside e ≡ false →
+        option_map of_fault (no_way journal.old.records journal.old.at step) ≡ Some e) }
+    ensures refused { (f : JournalFault) → no_way journal.old.records journal.old.at step ≡ Some f →
+        result ≡ Err (of_fault f) }
+    ensures kept { IsTrue D.keeps → IfErr result (λ e. is_outside e ≡ false →
+        D.content store.new ≡ D.content store.old) }
+    ensures barred { IsTrue D.keeps → no_way journal.old.records journal.old.at step ≢ None →
+        D.content store.new ≡ D.content store.old }
+    ensures others { IsTrue D.keeps → OthersStay (D.content store.old)
+        (D.content store.new) file.now name.now }
     ensures quiet { IfErr result (λ e. is_output e ≡ false) }
     ensures count { D.failures store.new ≡ counted result (D.failures store.old) }
 {
@@ -71,16 +82,23 @@ fn turn<D: Store>(
 ) -> Result<(), Fault>
     requires at_rest { IsNone journal.old.pending }
     requires way { way_fault journal.old.records journal.old.at (step_of walk) text.now ≡ None }
-    requires equal { moved_text journal.old.records journal.old.at (step_of walk) text.now ≡ Some text.now }
-    ensures ok { IsTrue D.keeps → (file : List ℕ) → file ≢ name.now → (h : History) → Rest (D.content store.old) file name.now journal.old text.now h →
-        OnOk result (Stands (D.content store.new) file name.now (after_move h (step_of walk) text.now)) }
-    ensures err { IsTrue D.keeps → (file : List ℕ) → file ≢ name.now → (h : History) → Rest (D.content store.old) file name.now journal.old text.now h →
-        OnErr result (Stands (D.content store.new) file name.now h ⊎ Stands (D.content store.new) file name.now (after_move h (step_of walk) text.now)) }
-    ensures moved { IsTrue D.keeps → OnOk result (IsJournal (map.get (D.content store.new) name.now) (moved journal.old (step_of walk))) }
+    requires equal { moved_text journal.old.records journal.old.at (step_of walk) text.now ≡
+        Some text.now }
+    ensures ok { IsTrue D.keeps → (file : List ℕ) → file ≢ name.now → (h : History) →
+        Rest (D.content store.old) file name.now journal.old text.now h →
+        OnOk result (Stands (D.content store.new) file name.now
+        (after_move h (step_of walk) text.now)) }
+    ensures err { IsTrue D.keeps → (file : List ℕ) → file ≢ name.now → (h : History) →
+        Rest (D.content store.old) file name.now journal.old text.now h →
+        OnErr result (Stands (D.content store.new) file name.now h ⊎ Stands (D.content store.new)
+        file name.now (after_move h (step_of walk) text.now)) }
+    ensures moved { IsTrue D.keeps → OnOk result (IsJournal (map.get (D.content store.new) name.now)
+        (moved journal.old (step_of walk))) }
     ensures cut { IsTrue D.keeps → OnErr result ((D.content store.new ≡ D.content store.old)
         ⊎ IsJournal (map.get (D.content store.new) name.now) (moved journal.old (step_of walk))) }
     ensures outside { IfErr result (λ e. IsTrue (is_outside e)) }
-    ensures others { IsTrue D.keeps → (q : List ℕ) → q ≢ name.now → map.get (D.content store.new) q ≡ map.get (D.content store.old) q }
+    ensures others { IsTrue D.keeps → (q : List ℕ) → q ≢ name.now →
+        map.get (D.content store.new) q ≡ map.get (D.content store.old) q }
     ensures quiet { IfErr result (λ e. is_output e ≡ false) }
     ensures count { D.failures store.new ≡ counted result (D.failures store.old) }
 {
@@ -99,12 +117,18 @@ fn walk_from<D: Store>(
     text: &[u8],
 ) -> Result<(), Fault>
     requires at_rest { IsNone journal.old.pending }
-    ensures arrives { IsTrue D.keeps → file.now ≢ name.now → (h : History) → Rest (D.content store.old) file.now name.now journal.old text.now h →
-        Arrives (D.content store.new) file.now name.now (walk_cause (step_of walk) (Some h)) (Some h) (walk_next (step_of walk) (Some h)) result }
-    ensures effect { IsTrue D.keeps → file.now ≢ name.now → map.get (D.content store.old) file.now ≡ Some text.now →
-        Works (walk_effect (step_of walk) text.now journal.old) file.now name.now (D.content store.old) (D.content store.new) result }
-    ensures kept { IsTrue D.keeps → IfErr result (λ e. is_outside e ≡ false → D.content store.new ≡ D.content store.old) }
-    ensures others { IsTrue D.keeps → OthersStay (D.content store.old) (D.content store.new) file.now name.now }
+    ensures arrives { IsTrue D.keeps → file.now ≢ name.now → (h : History) →
+        Rest (D.content store.old) file.now name.now journal.old text.now h →
+        Arrives (D.content store.new) file.now name.now (walk_cause (step_of walk) (Some h))
+        (Some h) (walk_next (step_of walk) (Some h)) result }
+    ensures effect { IsTrue D.keeps → file.now ≢ name.now →
+        map.get (D.content store.old) file.now ≡ Some text.now →
+        Works (walk_effect (step_of walk) text.now journal.old) file.now name.now
+        (D.content store.old) (D.content store.new) result }
+    ensures kept { IsTrue D.keeps → IfErr result (λ e. is_outside e ≡ false →
+        D.content store.new ≡ D.content store.old) }
+    ensures others { IsTrue D.keeps → OthersStay (D.content store.old)
+        (D.content store.new) file.now name.now }
     ensures quiet { IfErr result (λ e. is_output e ≡ false) }
     ensures count { D.failures store.new ≡ counted result (D.failures store.old) }
 {
@@ -124,13 +148,17 @@ pub fn walk_file<D: Store>(
     name: &str,
     walk: Walk,
 ) -> Result<(), Fault>
-    ensures arrives { IsTrue D.keeps → file.now ≢ name.now → (h : Option History) → GoodIn (D.content store.old) file.now name.now h →
-        Arrives (D.content store.new) file.now name.now (walk_cause (step_of walk) h) h (walk_next (step_of walk) h) result }
+    ensures arrives { IsTrue D.keeps → file.now ≢ name.now → (h : Option History) →
+        GoodIn (D.content store.old) file.now name.now h →
+        Arrives (D.content store.new) file.now name.now (walk_cause (step_of walk) h) h
+        (walk_next (step_of walk) h) result }
     ensures effect { IsTrue D.keeps → file.now ≢ name.now →
         Works (from_names (D.content store.old) file.now name.now (walk_effect (step_of walk)))
         file.now name.now (D.content store.old) (D.content store.new) result }
-    ensures kept { IsTrue D.keeps → IfErr result (λ e. is_outside e ≡ false → D.content store.new ≡ D.content store.old) }
-    ensures others { IsTrue D.keeps → OthersStay (D.content store.old) (D.content store.new) file.now name.now }
+    ensures kept { IsTrue D.keeps → IfErr result (λ e. is_outside e ≡ false →
+        D.content store.new ≡ D.content store.old) }
+    ensures others { IsTrue D.keeps → OthersStay (D.content store.old)
+        (D.content store.new) file.now name.now }
     ensures quiet { IfErr result (λ e. is_output e ≡ false) }
     ensures count { D.failures store.new ≡ counted result (D.failures store.old) }
 {

@@ -16,9 +16,11 @@ use yq_store::{FileReadError, Store};
 
 /// Reads a journal; one that isn't there is that of a file that was never edited.
 fn read_journal<D: Store>(alloc: Global, store: &mut D, name: &str) -> Result<Journal, Fault>
-    ensures ok { IsTrue D.keeps → IfOk result (λ j. journal_beside (map.get (D.content store.old) name.now) ≡ Some j) }
-    ensures err { IsTrue D.keeps → IfErr result (λ e.
-        ((e ≡ Fault.BadJournal) × (journal_beside (map.get (D.content store.old) name.now) ≡ None)) ⊎ IsTrue (is_outside e)) }
+    ensures ok { IsTrue D.keeps → IfOk result (λ j. journal_beside
+        (map.get (D.content store.old) name.now) ≡ Some j) }
+    ensures err { IsTrue D.keeps → IfErr result (λ e. ((e ≡ Fault.BadJournal) ×
+        (journal_beside (map.get (D.content store.old) name.now) ≡ None)) ⊎ IsTrue
+        (is_outside e)) }
     ensures same { IsTrue D.keeps → D.content store.new ≡ D.content store.old }
     ensures quiet { IfErr result (λ e. is_output e ≡ false) }
     ensures count { D.failures store.new ≡ counted result (D.failures store.old) }
@@ -37,11 +39,13 @@ pub fn write_journal<D: Store>(
     name: &str,
     journal: &Journal,
 ) -> Result<(), Fault>
-    ensures ok { IsTrue D.keeps → OnOk result (Writes (D.content store.old) (D.content store.new) name.now journal.now) }
+    ensures ok { IsTrue D.keeps → OnOk result (Writes (D.content store.old)
+        (D.content store.new) name.now journal.now) }
     ensures err { IsTrue D.keeps → OnErr result ((D.content store.new ≡ D.content store.old)
         ⊎ Writes (D.content store.old) (D.content store.new) name.now journal.now) }
     ensures outside { IfErr result (λ e. IsTrue (is_outside e)) }
-    ensures others { IsTrue D.keeps → (q : List ℕ) → q ≢ name.now → map.get (D.content store.new) q ≡ map.get (D.content store.old) q }
+    ensures others { IsTrue D.keeps → (q : List ℕ) → q ≢ name.now →
+        map.get (D.content store.new) q ≡ map.get (D.content store.old) q }
     ensures quiet { IfErr result (λ e. is_output e ≡ false) }
     ensures count { D.failures store.new ≡ counted result (D.failures store.old) }
 {
@@ -57,14 +61,17 @@ pub fn open_pair<D: Store>(
     file: &str,
     name: &str,
 ) -> Result<(Vec<u8>, Journal), Fault>
-    ensures opens { IsTrue D.keeps → (h : Option History) → GoodIn (D.content store.old) file.now name.now h →
+    ensures opens { IsTrue D.keeps → (h : Option History) →
+        GoodIn (D.content store.old) file.now name.now h →
         Opens (D.content store.new) file.now name.now h result }
     ensures found { IsTrue D.keeps → IfOk result (λ p. (go : List ℕ → State → Effect) →
         from_names (D.content store.old) file.now name.now go ≡ go p.0.items p.1) }
-    ensures missed { IsTrue D.keeps → IfErr result (λ e. is_outside e ≡ false → (go : List ℕ → State → Effect) →
+    ensures missed { IsTrue D.keeps → IfErr result (λ e. is_outside e ≡ false →
+        (go : List ℕ → State → Effect) →
         from_names (D.content store.old) file.now name.now go ≡ refuses (named e)) }
     ensures same { IsTrue D.keeps → D.content store.new ≡ D.content store.old }
-    ensures text { IsTrue D.keeps → IfOk result (λ p. map.get (D.content store.old) file.now ≡ Some p.0.items) }
+    ensures text { IsTrue D.keeps → IfOk result (λ p. map.get (D.content store.old) file.now ≡
+        Some p.0.items) }
     ensures at_rest { IfOk result (λ p. IsNone p.1.pending) }
     ensures quiet { IfErr result (λ e. is_output e ≡ false) }
     ensures count { D.failures store.new ≡ counted result (D.failures store.old) }

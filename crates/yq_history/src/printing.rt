@@ -35,7 +35,8 @@ fn state_word(is_done: bool) -> &'static str
 
 /// A number, two texts and a line feed.
 fn joined_line(alloc: Global, number: usize, state: &str, expr: &str) -> Result<String, AllocError>
-    ensures { IfOk result (λ s. string_bytes s ≡ ((decimal number ++ state.now) ++ expr.now) ++ 10 ∷ []) }
+    ensures { IfOk result (λ s. string_bytes s ≡ ((decimal number ++ state.now) ++ expr.now) ++
+        10 ∷ []) }
 {
     let mut line = number.to_string(alloc)?;
     line.push_str(state)?;
@@ -74,13 +75,16 @@ pub fn listing<D: Store>(
     shown: &mut Shown,
 ) -> Result<(), Fault>
     requires empty { shown_by shown.old ≡ nothing }
-    ensures arrives { IsTrue D.keeps → (h : Option History) → GoodIn (D.content store.old) file.now name.now h →
+    ensures arrives { IsTrue D.keeps → (h : Option History) →
+        GoodIn (D.content store.old) file.now name.now h →
         Arrives (D.content store.new) file.now name.now (listing_cause h) h h result }
-    ensures effect { IsTrue D.keeps → Works (from_names (D.content store.old) file.now name.now listing_effect)
-        file.now name.now (D.content store.old) (D.content store.new) result }
-    ensures lines { IsTrue D.keeps → OnOk result
-        (string_bytes shown.new.text ≡ printed_by (from_names (D.content store.old) file.now name.now listing_effect)) }
-    ensures output { IsTrue D.keeps → (h : Option History) → GoodIn (D.content store.old) file.now name.now h →
+    ensures effect { IsTrue D.keeps → Works (from_names (D.content store.old) file.now name.now
+        listing_effect) file.now name.now (D.content store.old)
+        (D.content store.new) result }
+    ensures lines { IsTrue D.keeps → OnOk result (string_bytes shown.new.text ≡
+        printed_by (from_names (D.content store.old) file.now name.now listing_effect)) }
+    ensures output { IsTrue D.keeps → (h : Option History) →
+        GoodIn (D.content store.old) file.now name.now h →
         OnOk result (shown_by shown.new ≡ shown_text (spec.listing_output h)) }
     ensures matched { shown.new.is_match ≡ true }
     ensures same { IsTrue D.keeps → D.content store.new ≡ D.content store.old }

@@ -24,14 +24,21 @@ fn squash_from<D: Store>(
     n: u64,
 ) -> Result<(), Fault>
     requires at_rest { IsNone journal.old.pending }
-    ensures arrives { IsTrue D.keeps → (file t : List ℕ) → file ≢ name.now → (h : History) → Rest (D.content store.old) file name.now journal.old t h →
-        Arrives (D.content store.new) file name.now (squash_cause n (Some h)) (Some h) (squash_next n (Some h)) result }
-    ensures effect { IsTrue D.keeps → (file t : List ℕ) → file ≢ name.now → map.get (D.content store.old) file ≡ Some t →
-        Works (squash_effect n t journal.old) file name.now (D.content store.old) (D.content store.new) result }
-    ensures refused { (f : JournalFault) → squash_fault journal.old n ≡ Some f → result ≡ Err (of_fault f) }
-    ensures kept { IsTrue D.keeps → IfErr result (λ e. is_outside e ≡ false → D.content store.new ≡ D.content store.old) }
+    ensures arrives { IsTrue D.keeps → (file t : List ℕ) → file ≢ name.now → (h : History) →
+        Rest (D.content store.old) file name.now journal.old t h →
+        Arrives (D.content store.new) file name.now (squash_cause n (Some h)) (Some h)
+        (squash_next n (Some h)) result }
+    ensures effect { IsTrue D.keeps → (file t : List ℕ) → file ≢ name.now →
+        map.get (D.content store.old) file ≡ Some t →
+        Works (squash_effect n t journal.old) file name.now (D.content store.old)
+        (D.content store.new) result }
+    ensures refused { (f : JournalFault) → squash_fault journal.old n ≡ Some f →
+        result ≡ Err (of_fault f) }
+    ensures kept { IsTrue D.keeps → IfErr result (λ e. is_outside e ≡ false →
+        D.content store.new ≡ D.content store.old) }
     ensures one { IsTrue D.keeps → n ≡ 1 → D.content store.new ≡ D.content store.old }
-    ensures others { IsTrue D.keeps → (q : List ℕ) → q ≢ name.now → map.get (D.content store.new) q ≡ map.get (D.content store.old) q }
+    ensures others { IsTrue D.keeps → (q : List ℕ) → q ≢ name.now →
+        map.get (D.content store.new) q ≡ map.get (D.content store.old) q }
     ensures quiet { IfErr result (λ e. is_output e ≡ false) }
     ensures count { D.failures store.new ≡ counted result (D.failures store.old) }
 {
@@ -50,13 +57,18 @@ pub fn squash<D: Store>(
     name: &str,
     n: u64,
 ) -> Result<(), Fault>
-    ensures arrives { IsTrue D.keeps → file.now ≢ name.now → (h : Option History) → GoodIn (D.content store.old) file.now name.now h →
-        Arrives (D.content store.new) file.now name.now (squash_cause n h) h (squash_next n h) result }
+    ensures arrives { IsTrue D.keeps → file.now ≢ name.now → (h : Option History) →
+        GoodIn (D.content store.old) file.now name.now h →
+        Arrives (D.content store.new) file.now name.now (squash_cause n h) h (squash_next n h)
+        result }
     ensures effect { IsTrue D.keeps → file.now ≢ name.now →
-        Works (from_names (D.content store.old) file.now name.now (squash_effect n)) file.now name.now (D.content store.old) (D.content store.new) result }
-    ensures kept { IsTrue D.keeps → IfErr result (λ e. is_outside e ≡ false → D.content store.new ≡ D.content store.old) }
+        Works (from_names (D.content store.old) file.now name.now (squash_effect n)) file.now
+        name.now (D.content store.old) (D.content store.new) result }
+    ensures kept { IsTrue D.keeps → IfErr result (λ e. is_outside e ≡ false →
+        D.content store.new ≡ D.content store.old) }
     ensures one { IsTrue D.keeps → n ≡ 1 → D.content store.new ≡ D.content store.old }
-    ensures others { IsTrue D.keeps → (q : List ℕ) → q ≢ name.now → map.get (D.content store.new) q ≡ map.get (D.content store.old) q }
+    ensures others { IsTrue D.keeps → (q : List ℕ) → q ≢ name.now →
+        map.get (D.content store.new) q ≡ map.get (D.content store.old) q }
     ensures quiet { IfErr result (λ e. is_output e ≡ false) }
     ensures count { D.failures store.new ≡ counted result (D.failures store.old) }
 {

@@ -28,7 +28,8 @@ impl Walk {
 
     /// Makes the move at once, and gives the text that it leads to.
     pub fn make(self, journal: &mut Journal, text: &[u8]) -> Result<Vec<u8>, JournalError>
-        ensures ok { IfOk result (λ v. moved_text journal.old.records journal.old.at (step_of self) text.now ≡ Some v.items) }
+        ensures ok { IfOk result (λ v. moved_text journal.old.records journal.old.at (step_of self)
+            text.now ≡ Some v.items) }
         ensures moved { OnOk result (journal.new ≡ moved journal.old (step_of self)) }
         ensures fault { IfErr result (λ e. Names e (move_fault journal.old (step_of self) text.now)) }
         ensures err { OnErr result (journal.new ≡ journal.old) }

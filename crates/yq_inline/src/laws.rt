@@ -10,25 +10,31 @@ ghost use Rattle.yq_inline.specs.Trees.{placed_tree, tree_of};
 
 /// What is read as an inline node is one, what is one is read, and a text begins with one at most.
 pub fn one_inline()
-    ensures takes { (place : Place) (n : ℤ) (depth at : ℕ) (text : List ℕ) (p : Placed) → inline_at place n depth at text ≡ Some p →
-        IsInlineAt place n depth at text p }
-    ensures again { (place : Place) (n : ℤ) (depth at : ℕ) (text : List ℕ) (p : Placed) → IsInlineAt place n depth at text p →
-        inline_at place n depth at text ≡ Some p }
-    ensures one { (place : Place) (n : ℤ) (depth : ℕ) (a b : Node) (rest other : List ℕ) → node_text a rest ≡ node_text b other →
-        IsInline place n depth a rest → IsInline place n depth b other → (a ≡ b) × (rest ≡ other) }
+    ensures takes { (place : Place) (n : ℤ) (depth at : ℕ) (text : List ℕ) (p : Placed) →
+        inline_at place n depth at text ≡ Some p → IsInlineAt place n depth at text p }
+    ensures again { (place : Place) (n : ℤ) (depth at : ℕ) (text : List ℕ) (p : Placed) →
+        IsInlineAt place n depth at text p → inline_at place n depth at text ≡ Some p }
+    ensures one { (place : Place) (n : ℤ) (depth : ℕ) (a b : Node) (rest other : List ℕ) →
+        node_text a rest ≡ node_text b other → IsInline place n depth a rest →
+        IsInline place n depth b other → (a ≡ b) × (rest ≡ other) }
 {}
 
 /// The tree of an inline node with its places is that of its pieces.
 pub fn one_tree()
-    ensures { (total : ℕ) (node : Node) (rest : List ℕ) → placed_tree (locate total node rest) ≡ tree_of node }
+    ensures { (total : ℕ) (node : Node) (rest : List ℕ) →
+        placed_tree (locate total node rest) ≡ tree_of node }
 {}
 
 /// Each item and entry to which a path leads stands in the text of the node where its places say, and
 /// its node is an inline node there, in which one collection less may be nested for each step.
 pub fn entry_places()
     ensures places { (total : ℕ) (steps : List Step) (x : EntryPieces) →
-        placed_entry_at steps (locate_entry total x) ≡ option_map (locate_entry total) (entry_pieces_at steps x) }
-    ensures text { (steps : List Step) (x y : EntryPieces) → entry_pieces_at steps x ≡ Some y → StandsIn (pieces_text x) y }
-    ensures node { (flow : Bool) (spaces : Option ℕ) (d : ℕ) (s : Step) (ss : List Step) (x y : EntryPieces) → IsNode flow spaces d x.node x.rest →
-        entry_pieces_at (s ∷ ss) x ≡ Some y → (e : ℕ) × (d ≡ length (s ∷ ss) + e) × IsNode true (Some 0) e y.node y.rest }
+        placed_entry_at steps (locate_entry total x) ≡
+        option_map (locate_entry total) (entry_pieces_at steps x) }
+    ensures text { (steps : List Step) (x y : EntryPieces) → entry_pieces_at steps x ≡ Some y →
+        StandsIn (pieces_text x) y }
+    ensures node { (flow : Bool) (spaces : Option ℕ) (d : ℕ) (s : Step) (ss : List Step)
+        (x y : EntryPieces) → IsNode flow spaces d x.node x.rest →
+        entry_pieces_at (s ∷ ss) x ≡ Some y →
+        (e : ℕ) × (d ≡ length (s ∷ ss) + e) × IsNode true (Some 0) e y.node y.rest }
 {}

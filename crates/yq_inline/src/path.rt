@@ -28,7 +28,8 @@ pub struct Entry<'n, 't> {
 
 /// The item of that index.
 fn item_at<'n, 't>(items: &'n Vec<Inline<'t>>, index: usize) -> Option<Entry<'n, 't>>
-    ensures { option_map spec.entry_view result ≡ spec.part_at (paths.Nth index) (items_end items.now.items) }
+    ensures { option_map spec.entry_view result ≡
+        spec.part_at (paths.Nth index) (items_end items.now.items) }
 {
     match items.get(index) {
         Some(node) => Some(Entry { key: None, node }),
@@ -41,7 +42,8 @@ fn entry_at<'n, 't>(
     entries: &'n Vec<(String, Piece, Inline<'t>)>,
     key: &str,
 ) -> Option<Entry<'n, 't>>
-    ensures { option_map spec.entry_view result ≡ spec.part_at (paths.To key.now) (entries_end entries.now.items) }
+    ensures { option_map spec.entry_view result ≡
+        spec.part_at (paths.To key.now) (entries_end entries.now.items) }
 {
     'each: for entry in entries {
         if entry.0.as_str() == key {
@@ -56,7 +58,8 @@ fn entry_at<'n, 't>(
 
 /// The item to which the step leads.
 fn item_of<'n, 't>(items: &'n Vec<Inline<'t>>, step: &Step) -> Option<Entry<'n, 't>>
-    ensures { option_map spec.entry_view result ≡ spec.part_at (spec.step_of step.now) (items_end items.now.items) }
+    ensures { option_map spec.entry_view result ≡
+        spec.part_at (spec.step_of step.now) (items_end items.now.items) }
 {
     match step {
         Step::Key(_) => None,
@@ -69,7 +72,8 @@ fn entry_of<'n, 't>(
     entries: &'n Vec<(String, Piece, Inline<'t>)>,
     step: &Step,
 ) -> Option<Entry<'n, 't>>
-    ensures { option_map spec.entry_view result ≡ spec.part_at (spec.step_of step.now) (entries_end entries.now.items) }
+    ensures { option_map spec.entry_view result ≡
+        spec.part_at (spec.step_of step.now) (entries_end entries.now.items) }
 {
     match step {
         Step::Key(key) => entry_at(entries, key.as_str()),
@@ -80,7 +84,8 @@ fn entry_of<'n, 't>(
 impl<'t> Inline<'t> {
     /// The item or entry to which a step leads.
     pub fn part(&self, step: &Step) -> Option<Entry<'_, 't>>
-        ensures { option_map spec.entry_view result ≡ spec.part_at (spec.step_of step.now) (spec.parts_of (view self.now)) }
+        ensures { option_map spec.entry_view result ≡
+            spec.part_at (spec.step_of step.now) (spec.parts_of (view self.now)) }
     {
         match &self.form {
             Form::List(items) => item_of(items, step),
@@ -91,7 +96,8 @@ impl<'t> Inline<'t> {
 
     /// The item or entry at a path from this node, which itself is the entry of the empty path.
     fn find(&self, steps: &[Step]) -> Option<Entry<'_, 't>>
-        ensures { option_map spec.entry_view result ≡ spec.placed_entry_at (map spec.step_of steps.now) (None, view self.now) }
+        ensures { option_map spec.entry_view result ≡
+            spec.placed_entry_at (map spec.step_of steps.now) (None, view self.now) }
     {
         let mut found = Entry {
             key: None,
@@ -107,9 +113,11 @@ impl<'t> Inline<'t> {
     #[tactic(auto, using(crate::proofs::PathLoops::by_tree))]
     pub fn entry(&self, steps: &[Step]) -> Option<Entry<'_, 't>>
         // It is the one to which the steps lead, with its places.
-        ensures exact { option_map spec.entry_view result ≡ spec.placed_entry_at (map spec.step_of steps.now) (None, view self.now) }
+        ensures exact { option_map spec.entry_view result ≡
+            spec.placed_entry_at (map spec.step_of steps.now) (None, view self.now) }
         // There is one exactly where the path exists in the node's tree, and its node is the one there.
-        ensures node { option_map (λ e. placed_tree (view e.node.now)) result ≡ paths.node_at (map spec.step_of steps.now) (placed_tree (view self.now)) }
+        ensures node { option_map (λ e. placed_tree (view e.node.now)) result ≡
+            paths.node_at (map spec.step_of steps.now) (placed_tree (view self.now)) }
     {
         self.find(steps)
     }

@@ -30,7 +30,8 @@ pub fn first_is(k: u8, text: &[u8]) -> bool
 pub fn strip(k: u8, text: &str) -> Option<&str>
     requires { k < 128 }
     ensures { MatchOption result (nodes.first_is k text.now ≡ false)
-        (λ r. (nodes.first_is k text.now ≡ true) × (r.now ≡ drop 1 text.now) × (length r.now < length text.now)) }
+        (λ r. (nodes.first_is k text.now ≡ true) × (r.now ≡ drop 1 text.now) ×
+        (length r.now < length text.now)) }
 {
     if first_is(k, text.as_bytes()) {
         Some(text.split_at(1).1)
@@ -175,7 +176,8 @@ pub(crate) fn read_lead<'t>(
     whole: &str,
     text: &'t str,
 ) -> Result<(&'t str, &'t str), ReadFault>
-    ensures read { Reads (λ x. (x.0.now, x.1.now)) result (spec.lead_at flow (nodes.begins_content flow) text.now) }
+    ensures read { Reads (λ x. (x.0.now, x.1.now)) result
+        (spec.lead_at flow (nodes.begins_content flow) text.now) }
     ensures shorter { IfOk result (λ x. length x.1.now ≤ length text.now) }
     ensures fault { IfErr result (λ f. f.kind ≢ NotUtf8) }
 {
@@ -190,7 +192,8 @@ pub(crate) fn read_lead<'t>(
 /// The gap behind a `:`, if a node begins behind it.
 #[tactic(auto, unfolding(crate::specs::Reading::lead_at))]
 fn read_value_lead<'t>(whole: &str, text: &'t str) -> Result<(&'t str, &'t str), ReadFault>
-    ensures read { Reads (λ x. (x.0.now, x.1.now)) result (spec.lead_at true (nodes.begins_node true) text.now) }
+    ensures read { Reads (λ x. (x.0.now, x.1.now)) result
+        (spec.lead_at true (nodes.begins_node true) text.now) }
     ensures shorter { IfOk result (λ x. length x.1.now ≤ length text.now) }
     ensures fault { IfErr result (λ f. f.kind ≢ NotUtf8) }
 {

@@ -68,7 +68,8 @@ pub fn read_inline<'t>(
     // What is read is an inline node that begins there, with the places of its parts.
     ensures found { IfOk result (λ node. spec.IsInlineAt place indent depth at text.now (view node)) }
     // Where one begins it is given, unless memory runs out.
-    ensures only { (p : Placed) → spec.IsInlineAt place indent depth at text.now p → Gives view result (Some p) }
+    ensures only { (p : Placed) → spec.IsInlineAt place indent depth at text.now p →
+        Gives view result (Some p) }
     // Its places lie in order, each at a character of the text or at its end.
     ensures spans { IfOk result (λ node. HasSpans text.now (view node)) }
     // Its parts lie inside it, one behind the other, each key before its value.

@@ -17,7 +17,8 @@ use yq_scalar::{FaultKind, Piece, ReadError};
 /// A node without an anchor between two rests of the whole text.
 fn placed_between<'t>(whole: &str, text: &str, rest: &str, form: Form<'t>) -> Inline<'t>
     requires { (length text.now ≤ length whole.now) × (length rest.now ≤ length whole.now) }
-    ensures { view result ≡ spec.placed_between (length whole.now) text.now rest.now (form_view form.entry) }
+    ensures { view result ≡ spec.placed_between (length whole.now) text.now rest.now
+        (form_view form.entry) }
 {
     let start = whole.len() - text.len();
     Inline {
@@ -61,7 +62,9 @@ fn put_anchor<'t>(
 ) -> Result<(Inline<'t>, &'t str), ReadError>
     requires { length text.now ≤ length whole.now }
     ensures shorter { IfOk result (λ x. x.1.now ≡ rest.now) }
-    ensures read { Gives (λ x. (view x.0, x.1.now)) result (seen.then_anchored (length whole.now) text.now name.now gap.now (view node.entry, rest.now)) }
+    ensures read { Gives (λ x. (view x.0, x.1.now)) result
+        (seen.then_anchored (length whole.now) text.now name.now gap.now
+        (view node.entry, rest.now)) }
     ensures fault { IfErr result IsOfText }
 {
     if !stands_behind(gap, &node) {
@@ -92,7 +95,8 @@ pub fn read_node<'t>(
 ) -> Result<(Inline<'t>, &'t str), ReadError>
     requires { length text.now ≤ length whole.now }
     ensures shorter { IfOk result (λ x. length x.1.now ≤ length text.now) }
-    ensures read { Gives (λ x. (view x.0, x.1.now)) result (seen.placed_node flow spaces (length whole.now) depth text.now) }
+    ensures read { Gives (λ x. (view x.0, x.1.now)) result
+        (seen.placed_node flow spaces (length whole.now) depth text.now) }
     ensures fault { IfErr result IsOfText }
 {
     let Some(behind) = strip(b'&', text) else {
@@ -119,7 +123,8 @@ fn read_content<'t>(
 ) -> Result<(Inline<'t>, &'t str), ReadError>
     requires { length text.now ≤ length whole.now }
     ensures shorter { IfOk result (λ x. length x.1.now ≤ length text.now) }
-    ensures read { Gives (λ x. (view x.0, x.1.now)) result (seen.placed_content flow spaces (length whole.now) depth text.now) }
+    ensures read { Gives (λ x. (view x.0, x.1.now)) result
+        (seen.placed_content flow spaces (length whole.now) depth text.now) }
     ensures fault { IfErr result IsOfText }
 {
     if let Some(behind) = strip(b'*', text) {
@@ -151,7 +156,8 @@ fn read_sequence<'t>(
 ) -> Result<(Form<'t>, &'t str), ReadError>
     requires { length text.now ≤ length whole.now }
     ensures shorter { IfOk result (λ x. length x.1.now ≤ length text.now) }
-    ensures read { Gives (λ x. (form_view x.0, x.1.now)) result (seen.placed_coll (length whole.now) depth 93 text.now) }
+    ensures read { Gives (λ x. (form_view x.0, x.1.now)) result
+        (seen.placed_coll (length whole.now) depth 93 text.now) }
     ensures fault { IfErr result IsOfText }
 {
     let (_, rest) = read_gap(whole, text)?;
@@ -172,7 +178,8 @@ fn read_mapping<'t>(
 ) -> Result<(Form<'t>, &'t str), ReadError>
     requires { length text.now ≤ length whole.now }
     ensures shorter { IfOk result (λ x. length x.1.now ≤ length text.now) }
-    ensures read { Gives (λ x. (form_view x.0, x.1.now)) result (seen.placed_coll (length whole.now) depth 125 text.now) }
+    ensures read { Gives (λ x. (form_view x.0, x.1.now)) result
+        (seen.placed_coll (length whole.now) depth 125 text.now) }
     ensures fault { IfErr result IsOfText }
 {
     let (_, rest) = read_gap(whole, text)?;
@@ -194,7 +201,8 @@ fn read_item<'t>(
 ) -> Result<(Inline<'t>, &'t str), ReadError>
     requires { length text.now ≤ length whole.now }
     ensures shorter { IfOk result (λ x. length x.1.now < length text.now) }
-    ensures read { Gives (λ x. (view x.0, x.1.now)) result (seen.placed_item (length whole.now) depth text.now) }
+    ensures read { Gives (λ x. (view x.0, x.1.now)) result
+        (seen.placed_item (length whole.now) depth text.now) }
     ensures fault { IfErr result IsOfText }
 {
     let (item, rest) = read_node(alloc, true, Some(0), whole, depth, text)?;
@@ -218,7 +226,8 @@ fn read_items<'t>(
 ) -> Result<(Vec<Inline<'t>>, &'t str), ReadError>
     requires { length text.now ≤ length whole.now }
     ensures shorter { IfOk result (λ x. length x.1.now ≤ length text.now) }
-    ensures read { Gives (λ x. (items_end x.0.items, x.1.now)) result (seen.placed_items (length whole.now) depth 93 text.now) }
+    ensures read { Gives (λ x. (items_end x.0.items, x.1.now)) result
+        (seen.placed_items (length whole.now) depth 93 text.now) }
     ensures fault { IfErr result IsOfText }
 {
     let mut items = Vec::new(alloc);
@@ -245,7 +254,8 @@ fn read_entry<'t>(
 ) -> Result<((String, Piece, Inline<'t>), &'t str), ReadError>
     requires { length text.now ≤ length whole.now }
     ensures shorter { IfOk result (λ x. length x.1.now < length text.now) }
-    ensures read { Gives (λ x. (((string_bytes x.0.0, x.0.1), view x.0.2), x.1.now)) result (seen.placed_entry (length whole.now) depth text.now) }
+    ensures read { Gives (λ x. (((string_bytes x.0.0, x.0.1), view x.0.2), x.1.now)) result
+        (seen.placed_entry (length whole.now) depth text.now) }
     ensures fault { IfErr result IsOfText }
 {
     let (key, piece, rest) = read_entry_key(alloc, whole, open, text)?;
@@ -266,7 +276,8 @@ fn read_entries<'t>(
 ) -> Result<(Vec<(String, Piece, Inline<'t>)>, &'t str), ReadError>
     requires { length text.now ≤ length whole.now }
     ensures shorter { IfOk result (λ x. length x.1.now ≤ length text.now) }
-    ensures read { Gives (λ x. (entries_end x.0.items, x.1.now)) result (seen.placed_items (length whole.now) depth 125 text.now) }
+    ensures read { Gives (λ x. (entries_end x.0.items, x.1.now)) result
+        (seen.placed_items (length whole.now) depth 125 text.now) }
     ensures fault { IfErr result IsOfText }
 {
     let mut entries = Vec::new(alloc);

@@ -63,7 +63,8 @@ pub(crate) fn read_text<'t>(
 ) -> Result<(Form<'t>, &'t str), ReadError>
     requires { length text.now ≤ length whole.now }
     ensures shorter { IfOk result (λ x. length x.1.now ≤ length text.now) }
-    ensures read { Gives (λ x. (form_view x.0, x.1.now)) result (seen.placed_text flow spaces (length whole.now) text.now) }
+    ensures read { Gives (λ x. (form_view x.0, x.1.now)) result
+        (seen.placed_text flow spaces (length whole.now) text.now) }
     ensures fault { IfErr result IsOfText }
 {
     let (piece, rest) = read_scalar(flow, spaces, whole, text)?;
@@ -86,7 +87,8 @@ pub(crate) fn read_entry_key<'t>(
 ) -> Result<(String, Piece, &'t str), ReadError>
     requires { length text.now ≤ length whole.now }
     ensures shorter { IfOk result (λ x. length x.2.now < length text.now) }
-    ensures read { Gives (λ x. ((string_bytes x.0, x.1), x.2.now)) result (seen.placed_key (length whole.now) text.now) }
+    ensures read { Gives (λ x. ((string_bytes x.0, x.1), x.2.now)) result
+        (seen.placed_key (length whole.now) text.now) }
     ensures fault { IfErr result IsOfText }
 {
     let (piece, rest) = read_key(whole, open, text)?;

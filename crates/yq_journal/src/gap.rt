@@ -31,7 +31,8 @@ fn turn(from: &mut Vec<u8>, to: &mut Vec<u8>, count: usize) -> Result<(), AllocE
     requires { count ≤ length from.old.items }
     ensures count { OnOk result (length from.new.items + count ≡ length from.old.items) }
     ensures turned { OnOk result (length to.new.items ≡ length to.old.items + count) }
-    ensures bytes { OnOk result (to.new.items ++ reverse from.new.items ≡ to.old.items ++ reverse from.old.items) }
+    ensures bytes { OnOk result (to.new.items ++ reverse from.new.items ≡
+        to.old.items ++ reverse from.old.items) }
 {
     'bytes: for _ in 0..count {
         if let Some(byte) = from.pop() {
@@ -62,7 +63,8 @@ impl<'t> Gap<'t> {
 
     /// Moves the cursor on by so many bytes, where they are there.
     fn forward(&mut self, count: usize) -> Result<bool, AllocError>
-        ensures moved { IfOk result (λ there. IsTrue there → (whole self.new ≡ whole self.old) × (length self.new.before ≡ length self.old.before + count)) }
+        ensures moved { IfOk result (λ there. IsTrue there → (whole self.new ≡ whole self.old) ×
+            (length self.new.before ≡ length self.old.before + count)) }
         ensures short { IfOk result (λ there. there ≡ false → length self.old.behind < count) }
     {
         let turned = count.min(self.back.len());
@@ -78,7 +80,8 @@ impl<'t> Gap<'t> {
 
     /// Moves the cursor to so many bytes from the text's start, where they are there.
     fn seek(&mut self, at: usize) -> Result<bool, AllocError>
-        ensures moved { IfOk result (λ there. IsTrue there → (whole self.new ≡ whole self.old) × (length self.new.before ≡ at)) }
+        ensures moved { IfOk result (λ there. IsTrue there → (whole self.new ≡ whole self.old) ×
+            (length self.new.before ≡ at)) }
         ensures short { IfOk result (λ there. there ≡ false → length (whole self.old) < at) }
     {
         let here = self.front.len();
@@ -91,7 +94,8 @@ impl<'t> Gap<'t> {
 
     /// Moves the cursor to so many bytes behind an offset, where they are there.
     fn reach(&mut self, at: usize, count: usize) -> Result<bool, AllocError>
-        ensures moved { IfOk result (λ there. IsTrue there → (whole self.new ≡ whole self.old) × (length self.new.before ≡ at + count)) }
+        ensures moved { IfOk result (λ there. IsTrue there → (whole self.new ≡ whole self.old) ×
+            (length self.new.before ≡ at + count)) }
         ensures short { IfOk result (λ there. there ≡ false → length (whole self.old) < at + count) }
     {
         if !self.seek(at)? {
@@ -102,7 +106,8 @@ impl<'t> Gap<'t> {
 
     /// Puts the new bytes in the place of the old ones, where these stand at the offset.
     fn exchange(&mut self, at: usize, old: &[u8], new: &[u8]) -> Result<bool, AllocError>
-        ensures { IfOk result (λ done. (if done then Some (whole self.new) else None) ≡ change_done (change at old.now new.now) (whole self.old)) }
+        ensures { IfOk result (λ done. (if done then Some (whole self.new) else None) ≡
+            change_done (change at old.now new.now) (whole self.old)) }
     {
         if !self.reach(at, old.len())? {
             return Ok(false);
@@ -154,7 +159,8 @@ pub(crate) fn unspliced(
     splices: &[Splice],
     text: &[u8],
 ) -> Result<Option<Vec<u8>>, AllocError>
-    ensures { IfOk result (λ o. option_map (λ v. v.items) o ≡ all_done (flipped splices.now) text.now) }
+    ensures { IfOk result (λ o. option_map (λ v. v.items) o ≡
+        all_done (flipped splices.now) text.now) }
 {
     let mut gap = Gap::new(alloc, text)?;
     let mut left = splices.len();

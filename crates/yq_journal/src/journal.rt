@@ -107,10 +107,12 @@ impl Journal {
     /// `NothingToUndo`, as `DoesNotStand`.
     pub fn undo(&mut self, text: &[u8]) -> Result<Vec<u8>, JournalError>
         ensures free { OnOk result (move_fault self.old Move.Undo text.now ≡ None) }
-        ensures ok { IfOk result (λ v. moved_text self.old.records self.old.at Move.Undo text.now ≡ Some v.items) }
+        ensures ok { IfOk result (λ v. moved_text self.old.records self.old.at Move.Undo text.now ≡
+            Some v.items) }
         ensures moved { OnOk result (self.new ≡ moved self.old Move.Undo) }
         ensures fault { IfErr result (λ e. Names e (move_fault self.old Move.Undo text.now)) }
-        ensures memory { IfErr result (λ e. e ≡ JournalError.Memory → IsNone self.old.pending × (no_way self.old.records self.old.at Move.Undo ≡ None)) }
+        ensures memory { IfErr result (λ e. e ≡ JournalError.Memory →
+            IsNone self.old.pending × (no_way self.old.records self.old.at Move.Undo ≡ None)) }
         ensures err { OnErr result (self.new ≡ self.old) }
     {
         if self.open.is_some() {
@@ -126,10 +128,12 @@ impl Journal {
     /// `NothingToRedo`, as `DoesNotStand`.
     pub fn redo(&mut self, text: &[u8]) -> Result<Vec<u8>, JournalError>
         ensures free { OnOk result (move_fault self.old Move.Redo text.now ≡ None) }
-        ensures ok { IfOk result (λ v. moved_text self.old.records self.old.at Move.Redo text.now ≡ Some v.items) }
+        ensures ok { IfOk result (λ v. moved_text self.old.records self.old.at Move.Redo text.now ≡
+            Some v.items) }
         ensures moved { OnOk result (self.new ≡ moved self.old Move.Redo) }
         ensures fault { IfErr result (λ e. Names e (move_fault self.old Move.Redo text.now)) }
-        ensures memory { IfErr result (λ e. e ≡ JournalError.Memory → IsNone self.old.pending × (no_way self.old.records self.old.at Move.Redo ≡ None)) }
+        ensures memory { IfErr result (λ e. e ≡ JournalError.Memory →
+            IsNone self.old.pending × (no_way self.old.records self.old.at Move.Redo ≡ None)) }
         ensures err { OnErr result (self.new ≡ self.old) }
     {
         if self.open.is_some() {
@@ -144,10 +148,13 @@ impl Journal {
     /// last: as `JournalFull`, as `NothingToUndo` or `NothingToRedo`, as
     /// `DoesNotStand`.
     pub fn target(&self, alloc: Global, step: &Move, text: &[u8]) -> Result<Vec<u8>, JournalError>
-        ensures ok { IfOk result (λ v. moved_text self.now.records self.now.at step.now text.now ≡ Some v.items) }
+        ensures ok { IfOk result (λ v. moved_text self.now.records self.now.at step.now text.now ≡
+            Some v.items) }
         ensures free { OnOk result (way_fault self.now.records self.now.at step.now text.now ≡ None) }
-        ensures err { IfErr result (λ e. Names e (way_fault self.now.records self.now.at step.now text.now)) }
-        ensures memory { IfErr result (λ e. e ≡ JournalError.Memory → no_way self.now.records self.now.at step.now ≡ None) }
+        ensures err { IfErr result (λ e. Names e (way_fault self.now.records self.now.at step.now
+            text.now)) }
+        ensures memory { IfErr result (λ e. e ≡ JournalError.Memory →
+            no_way self.now.records self.now.at step.now ≡ None) }
     {
         target(alloc, &self.records, self.at, step, text)
     }
@@ -161,7 +168,8 @@ impl Journal {
         ensures free { OnOk result (move_fault self.old step text.now ≡ None) }
         ensures ok { OnOk result (self.new ≡ opened self.old step text.now) }
         ensures fault { IfErr result (λ e. Names e.1 (move_fault self.old step text.now)) }
-        ensures memory { IfErr result (λ e. e.1 ≡ JournalError.Memory → IsNone self.old.pending × (no_way self.old.records self.old.at step ≡ None)) }
+        ensures memory { IfErr result (λ e. e.1 ≡ JournalError.Memory →
+            IsNone self.old.pending × (no_way self.old.records self.old.at step ≡ None)) }
         ensures err { IfErr result (λ e. (e.0 ≡ step) × (self.new ≡ self.old)) }
     {
         if self.open.is_some() {
@@ -186,7 +194,9 @@ impl Journal {
     pub fn settle(&mut self, text: &[u8]) -> Result<(), JournalError>
         ensures ok { OnOk result (settled self.old text.now ≡ Some self.new) }
         ensures at_rest { IsNone self.old.pending → IsOk result }
-        ensures fault { IfErr result (λ e. (e ≡ JournalError.Memory) ⊎ ((e ≡ JournalError.Fault JournalFault.Unsettled) × (settled self.old text.now ≡ None))) }
+        ensures fault { IfErr result (λ e. (e ≡ JournalError.Memory) ⊎
+            ((e ≡ JournalError.Fault JournalFault.Unsettled) ×
+            (settled self.old text.now ≡ None))) }
         ensures err { OnErr result (self.new ≡ self.old) }
     {
         let Some(held) = &self.open else {

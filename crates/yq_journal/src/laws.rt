@@ -11,14 +11,18 @@ ghost use Rattle.yq_journal.specs.declared.moves.Move.TheVariants.{Edit, Redo, U
 /// A move that stands makes of a journal and its history the ones after it,
 /// also where it leaves the text equal.
 pub fn moves_go_on()
-    ensures { (s : State) (h : History) (t u : List ℕ) (step : Move) → AtRest s t h → moved_text s.records s.at step t ≡ Some u → AtRest (moved s step) u (after_move h step u) }
+    ensures { (s : State) (h : History) (t u : List ℕ) (step : Move) → AtRest s t h →
+        moved_text s.records s.at step t ≡ Some u → AtRest (moved s step) u (after_move h step u) }
 {}
 
 /// With a move open that changes the text, the journal describes the history
 /// before it beside the old text, and the one after it beside the new text.
 pub fn open_moves_describe()
-    ensures before { (s : State) (h : History) (t u : List ℕ) (step : Move) → AtRest s t h → moved_text s.records s.at step t ≡ Some u → u ≢ t → Describes (opened s step t) t h }
-    ensures after { (s : State) (h : History) (t u : List ℕ) (step : Move) → AtRest s t h → moved_text s.records s.at step t ≡ Some u → u ≢ t → Describes (opened s step t) u (after_move h step u) }
+    ensures before { (s : State) (h : History) (t u : List ℕ) (step : Move) → AtRest s t h →
+        moved_text s.records s.at step t ≡ Some u → u ≢ t → Describes (opened s step t) t h }
+    ensures after { (s : State) (h : History) (t u : List ℕ) (step : Move) → AtRest s t h →
+        moved_text s.records s.at step t ≡ Some u → u ≢ t →
+        Describes (opened s step t) u (after_move h step u) }
 {}
 
 /// A journal that describes a history is settled beside its text, never
@@ -30,15 +34,20 @@ pub fn settling_rests()
 /// A move of a journal at rest is refused exactly where its history refuses
 /// it: an undo or a redo always stands where there is one.
 pub fn faults_are_of_history()
-    ensures undo { (s : State) (t : List ℕ) (h : History) → AtRest s t h → way_fault s.records s.at Undo t ≡ step_fault h Undo }
-    ensures redo { (s : State) (t : List ℕ) (h : History) → AtRest s t h → way_fault s.records s.at Redo t ≡ step_fault h Redo }
-    ensures edit { (s : State) (t u : List ℕ) (h : History) (r : Record) → AtRest s t h → done r t ≡ Some u → way_fault s.records s.at (Edit r) t ≡ step_fault h (Edit r) }
-    ensures squash { (s : State) (t : List ℕ) (h : History) (n : ℕ) → s.pending ≡ None → AtRest s t h → squash_fault s n ≡ squash_refusal h n }
+    ensures undo { (s : State) (t : List ℕ) (h : History) → AtRest s t h →
+        way_fault s.records s.at Undo t ≡ step_fault h Undo }
+    ensures redo { (s : State) (t : List ℕ) (h : History) → AtRest s t h →
+        way_fault s.records s.at Redo t ≡ step_fault h Redo }
+    ensures edit { (s : State) (t u : List ℕ) (h : History) (r : Record) → AtRest s t h →
+        done r t ≡ Some u → way_fault s.records s.at (Edit r) t ≡ step_fault h (Edit r) }
+    ensures squash { (s : State) (t : List ℕ) (h : History) (n : ℕ) → s.pending ≡ None →
+        AtRest s t h → squash_fault s n ≡ squash_refusal h n }
 {}
 
 /// Joining the last done records of a journal is a squash of its history; of
 /// one record, it leaves the history.
 pub fn squashes_go_on()
     ensures one { (h : History) → 1 ≤ h.at → h.at ≤ length h.later → after_squash h 1 ≡ h }
-    ensures rests { (s : State) (t : List ℕ) (h : History) (n : ℕ) → AtRest s t h → 1 ≤ n → n ≤ h.at → AtRest (squashed s n) t (after_squash h n) }
+    ensures rests { (s : State) (t : List ℕ) (h : History) (n : ℕ) → AtRest s t h → 1 ≤ n →
+        n ≤ h.at → AtRest (squashed s n) t (after_squash h n) }
 {}

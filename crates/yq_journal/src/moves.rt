@@ -30,7 +30,8 @@ pub(crate) fn lead(
     text: &[u8],
 ) -> Result<Vec<u8>, JournalError>
     ensures ok { IfOk result (λ v. moved_text records.now at step.now text.now ≡ Some v.items) }
-    ensures err { IfErr result (λ e. Names e (if_moves (moved_text records.now at step.now text.now))) }
+    ensures err { IfErr result (λ e. Names e (if_moves (moved_text records.now at step.now
+        text.now))) }
 {
     let fault = JournalError::Fault(JournalFault::DoesNotStand);
     match step {
@@ -74,7 +75,8 @@ pub(crate) fn target(
     ensures ok { IfOk result (λ v. moved_text records.now at step.now text.now ≡ Some v.items) }
     ensures free { OnOk result (way_fault records.now at step.now text.now ≡ None) }
     ensures err { IfErr result (λ e. Names e (way_fault records.now at step.now text.now)) }
-    ensures memory { IfErr result (λ e. e ≡ JournalError.Memory → no_way records.now at step.now ≡ None) }
+    ensures memory { IfErr result (λ e. e ≡ JournalError.Memory →
+        no_way records.now at step.now ≡ None) }
 {
     if let Some(fault) = obstacle(records, at, step) {
         return Err(JournalError::Fault(fault));
@@ -86,10 +88,13 @@ pub(crate) fn target(
 pub(crate) fn make(records: &mut Vec<Record>, at: &mut usize, step: Move) -> Result<(), Move>
     requires within { at.old ≤ length records.old.items }
     requires room { no_way records.old.items at.old step ≡ None }
-    ensures ok { OnOk result (state records.new.items at.new None ≡ moved (state records.old.items at.old None) step) }
-    ensures err { IfErr result (λ back. (back ≡ step) × (records.new.items ≡ records.old.items) × (at.new ≡ at.old)) }
+    ensures ok { OnOk result (state records.new.items at.new None ≡
+        moved (state records.old.items at.old None) step) }
+    ensures err { IfErr result (λ back. (back ≡ step) × (records.new.items ≡ records.old.items) ×
+        (at.new ≡ at.old)) }
     ensures within { at.new ≤ length records.new.items }
-    ensures limit { length records.old.items ≤ MAX_RECORDS → length records.new.items ≤ MAX_RECORDS }
+    ensures limit { length records.old.items ≤ MAX_RECORDS →
+        length records.new.items ≤ MAX_RECORDS }
 {
     match step {
         Move::Undo => *at -= 1,

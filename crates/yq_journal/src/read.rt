@@ -87,7 +87,8 @@ fn journal(alloc: Global, value: &Value) -> Result<Option<Journal>, AllocError>
 
 /// The value that a JSON text in UTF-8 is.
 fn value_of(alloc: Global, bytes: &[u8]) -> Result<Option<Value>, AllocError>
-    ensures { IfOk result (λ o. option_map view o ≡ (if is_utf8 bytes.now then read bytes.now else None)) }
+    ensures { IfOk result (λ o. option_map view o ≡ (if is_utf8 bytes.now then read bytes.now else
+        None)) }
 {
     match Value::from_slice(alloc, bytes) {
         Ok(value) => Ok(Some(value)),

@@ -31,7 +31,14 @@ impl Model for Record {
 
     ghost view = { λ r. record { expr = string_bytes r.expr; changes = r.splices.items; before_len = r.before_len; after_len = r.after_len; count = r.count } };
 
-    ghost invariant = { λ r. IsRecord (record { expr = string_bytes r.expr; changes = r.splices.items; before_len = r.before_len; after_len = r.after_len; count = r.count }) };
+    ghost invariant = { λ r. IsRecord (record {
+      expr = string_bytes r.expr;
+      changes =
+          r.splices.items;
+      before_len = r.before_len;
+      after_len = r.after_len;
+      count = r.count;
+    }) };
 }
 
 impl Record {
@@ -39,7 +46,14 @@ impl Record {
     /// length reached so far and the lengths end at `after_len`.
     pub fn new(expr: String, splices: Vec<Splice>, before_len: u64, after_len: u64) -> Record
         requires { lengths_done splices.items before_len ≡ Some after_len }
-        ensures { result ≡ record { expr = string_bytes expr; changes = splices.items; before_len = before_len; after_len = after_len; count = 1 } }
+        ensures { result ≡ record {
+          expr = string_bytes expr;
+          changes = splices.items;
+          before_len =
+              before_len;
+          after_len = after_len;
+          count = 1;
+        } }
     {
         Record {
             expr,

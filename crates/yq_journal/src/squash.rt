@@ -70,7 +70,8 @@ impl Parts {
     /// Joins the next record to them.
     fn join(&mut self, alloc: Global, next: &Record) -> Result<(), AllocError>
         ensures joined { OnOk result (self.new ≡ join self.old next.now) }
-        ensures valid { OnOk result (IsRecord self.old → self.old.after_len ≡ next.now.before_len → IsRecord self.new) }
+        ensures valid { OnOk result (IsRecord self.old → self.old.after_len ≡ next.now.before_len →
+            IsRecord self.new) }
     {
         self.expr.push_str(" | ")?;
         self.expr.push_str(&next.expr)?;
@@ -151,7 +152,8 @@ pub(crate) fn join_last(
 pub(crate) fn replace_run(records: &mut Vec<Record>, start: usize, end: usize, by: Record)
     requires run { start < end }
     requires within { end ≤ length records.old.items }
-    ensures { records.new.items ≡ take start records.old.items ++ (by ∷ drop end records.old.items) }
+    ensures { records.new.items ≡ take start records.old.items ++
+        (by ∷ drop end records.old.items) }
 {
     let behind = records.len() - end;
     records[start] = by;

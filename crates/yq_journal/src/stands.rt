@@ -12,7 +12,8 @@ use yq_script::Splice;
 /// it puts there.
 fn nth<'a>(splices: &'a [Splice], back: bool, k: usize) -> (usize, &'a [u8], &'a [u8])
     requires { k < length splices.now }
-    ensures { slice_get (turned back splices.entry.now) k ≡ Some (change result.0 result.1.now result.2.now) }
+    ensures { slice_get (turned back splices.entry.now) k ≡
+        Some (change result.0 result.1.now result.2.now) }
 {
     if back {
         let splice = &splices[splices.len() - 1 - k];
@@ -26,7 +27,8 @@ fn nth<'a>(splices: &'a [Splice], back: bool, k: usize) -> (usize, &'a [u8], &'a
 /// Where a byte came from over a splice: `None` where the splice put it there.
 fn origin(i: usize, start: usize, old_len: usize, new_len: usize) -> Option<usize>
     requires { start + new_len ≤ i → i - new_len + old_len ≤ usize.MAX }
-    ensures outside { IfSome result (λ j. ((i < start) × (j ≡ i)) ⊎ ((start + new_len ≤ i) × (j ≡ i - new_len + old_len))) }
+    ensures outside { IfSome result (λ j. ((i < start) × (j ≡ i)) ⊎
+        ((start + new_len ≤ i) × (j ≡ i - new_len + old_len))) }
     ensures inside { result ≡ None → (start ≤ i) × (i < start + new_len) }
 {
     if i < start {
@@ -49,8 +51,10 @@ fn byte_at(bytes: &[u8], i: usize) -> Option<u8>
 fn byte_after(splices: &[Splice], back: bool, count: usize, text: &[u8], at: usize) -> Option<u8>
     requires within { count ≤ length splices.now }
     requires lengths { lengths_done (turned back splices.now) (length text.now) ≢ None }
-    requires done { (b : List ℕ) × (all_done (take count (turned back splices.now)) text.now ≡ Some b) × (at < length b) }
-    ensures { (b : List ℕ) → all_done (take count (turned back splices.now)) text.now ≡ Some b → result ≡ slice_get b at }
+    requires done { (b : List ℕ) × (all_done (take count (turned back splices.now)) text.now ≡
+        Some b) × (at < length b) }
+    ensures { (b : List ℕ) → all_done (take count (turned back splices.now)) text.now ≡ Some b →
+        result ≡ slice_get b at }
 {
     let mut left = count;
     let mut i = at;
@@ -76,8 +80,10 @@ fn is_there(
 ) -> bool
     requires within { count ≤ length splices.now }
     requires lengths { lengths_done (turned back splices.now) (length text.now) ≢ None }
-    requires done { (b : List ℕ) × (all_done (take count (turned back splices.now)) text.now ≡ Some b) × (at + length old.now ≤ length b) × (length b < 2 ^ 64) }
-    ensures { (b : List ℕ) → all_done (take count (turned back splices.now)) text.now ≡ Some b → (IsTrue result ↔ (take (length old.now) (drop at b) ≡ old.now)) }
+    requires done { (b : List ℕ) × (all_done (take count (turned back splices.now)) text.now ≡
+        Some b) × (at + length old.now ≤ length b) × (length b < 2 ^ 64) }
+    ensures { (b : List ℕ) → all_done (take count (turned back splices.now)) text.now ≡ Some b →
+        (IsTrue result ↔ (take (length old.now) (drop at b) ≡ old.now)) }
 {
     'bytes: for j in 0..old.len() {
         if byte_after(splices, back, count, text, at + j) != Some(old[j]) {

@@ -23,8 +23,10 @@ fn splice_value(alloc: Global, splice: &Splice) -> Result<Value, AllocError>
 }
 
 fn splice_values(alloc: Global, splices: &[Splice]) -> Result<Vec<Value>, AllocError>
-    ensures written { IfOk result (λ vs. items_view vs.items ≡ spec.list_data spec.change_data splices.now) }
-    ensures reads_back { IfOk result (λ vs. spec.all_of spec.change_of (items_view vs.items) ≡ Some splices.now) }
+    ensures written { IfOk result (λ vs. items_view vs.items ≡
+        spec.list_data spec.change_data splices.now) }
+    ensures reads_back { IfOk result (λ vs. spec.all_of spec.change_of (items_view vs.items) ≡
+        Some splices.now) }
 {
     let mut values = Vec::with_capacity(alloc, splices.len())?;
     'splices: for splice in splices {
@@ -53,8 +55,10 @@ fn record_value(alloc: Global, patch: &Record) -> Result<Value, AllocError>
 }
 
 fn record_values(alloc: Global, records: &[Record]) -> Result<Vec<Value>, AllocError>
-    ensures written { IfOk result (λ vs. items_view vs.items ≡ spec.list_data spec.record_data records.now) }
-    ensures reads_back { IfOk result (λ vs. spec.all_of (spec.record_of true) (items_view vs.items) ≡ Some records.now) }
+    ensures written { IfOk result (λ vs. items_view vs.items ≡
+        spec.list_data spec.record_data records.now) }
+    ensures reads_back { IfOk result (λ vs. spec.all_of (spec.record_of true)
+        (items_view vs.items) ≡ Some records.now) }
 {
     let mut values = Vec::with_capacity(alloc, records.len())?;
     'records: for patch in records {
@@ -78,7 +82,8 @@ fn kind(step: &Move) -> &'static str
 #[tactic(auto, unfolding(crate::specs::Json::move_of))]
 fn move_value(alloc: Global, step: &Move) -> Result<Value, AllocError>
     ensures written { IfOk result (λ v. view v ≡ spec.move_data step.now) }
-    ensures reads_back { IfOk result (λ v. spec.move_of true (spec.kind_text step.now) (view v) ≡ Some step.now) }
+    ensures reads_back { IfOk result (λ v. spec.move_of true (spec.kind_text step.now) (view v) ≡
+        Some step.now) }
 {
     match step {
         Move::Edit(patch) => record_value(alloc, patch),
@@ -115,7 +120,8 @@ fn journal_object(
     pending: Value,
     records: Vec<Value>,
 ) -> Result<Value, AllocError>
-    ensures { IfOk result (λ v. view v ≡ spec.journal_object at (view pending) (items_view records.items)) }
+    ensures { IfOk result (λ v. view v ≡ spec.journal_object at (view pending)
+        (items_view records.items)) }
 {
     let records = Value::Array(records);
     json!(in alloc; {"at": at, "pending": pending, "records": records, "version": 2u64})

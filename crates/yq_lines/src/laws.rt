@@ -10,13 +10,16 @@ ghost use Rattle.yq_lines.specs.ShapedLines.{ShapedByLines, ShapedIsTree};
 
 /// Lines stand for one node at most.
 pub fn one_node()
-    ensures { (lines : List Line) (a b : Node) (m n : ℕ) → Stands lines a m → Stands lines b n → a ≡ b }
+    ensures { (lines : List Line) (a b : Node) (m n : ℕ) → Stands lines a m → Stands lines b n →
+        a ≡ b }
 {}
 
 /// What lines stand for is what the rules of block nodes give them (YAML 1.2.2, 8.2).
 pub fn rules()
-    ensures sound { (n : ℕ) (lines : List Line) (node : Node) → Stands lines node n → (l : Line) (ls : List Line) → lines ≡ l ∷ ls → IsNode n lines node }
-    ensures complete { (n : ℕ) (lines : List Line) (node : Node) → IsNode n lines node → Stands lines node n }
+    ensures sound { (n : ℕ) (lines : List Line) (node : Node) → Stands lines node n → (l : Line)
+        (ls : List Line) → lines ≡ l ∷ ls → IsNode n lines node }
+    ensures complete { (n : ℕ) (lines : List Line) (node : Node) → IsNode n lines node →
+        Stands lines node n }
 {}
 
 /// Lines stand for a node with items and keys where they belong, if what is written on them is such a
@@ -34,6 +37,8 @@ pub fn exchanged()
 /// The comment lines that end lines, in front of which others stand that end in none, are those of
 /// the lines alone; repair leaves them.
 pub fn heads_joined()
-    ensures behind { (ls ms : List (List ℕ)) → last_comments ls ≡ [] → last_comments (ls ++ ms) ≡ last_comments ms }
-    ensures repaired { (keep : Bool) (m column : ℕ) (ls : List (List ℕ)) → AreGap ls → last_comments (repair keep m column ls) ≡ last_comments ls }
+    ensures behind { (ls ms : List (List ℕ)) → last_comments ls ≡ [] →
+        last_comments (ls ++ ms) ≡ last_comments ms }
+    ensures repaired { (keep : Bool) (m column : ℕ) (ls : List (List ℕ)) → AreGap ls →
+        last_comments (repair keep m column ls) ≡ last_comments ls }
 {}

@@ -60,17 +60,26 @@ pub fn run_list<D: Store, W: Out>(
     out: &mut W,
     commands: &[Command],
 ) -> Result<Vec<Answer>, AllocError>
-    ensures run { IsTrue D.keeps → IfOk result (λ answers. (replies : List Reply) × (answers_in replies ≡ answers.items)
-        × (IsTrue W.tells → W.failures out.new ≡ W.failures out.old → W.failures out.new < 2 ^ 64 - 1 → W.taken out.new ≡ W.taken out.old ++ printed_in replies)
-        × Keeps (D.content store.old) commands.now replies (D.content store.new)
-        × ((file name : List ℕ) → file ≢ name → AllOnOrApart file name commands.now → (h : Option History) → GoodIn (D.content store.old) file name h →
-        (k : Option History) × Run file name h commands.now replies k × GoodIn (D.content store.new) file name k)) }
-    ensures exact { IsTrue D.keeps → D.failures store.new ≡ D.failures store.old → D.failures store.new < 2 ^ 64 - 1 →
-        W.failures out.new ≡ W.failures out.old → W.failures out.new < 2 ^ 64 - 1 →
-        IfOk result (λ answers. list_all has_memory answers.items ≡ true → (replies : List Reply) × (answers_in replies ≡ answers.items)
-        × (IsTrue W.tells → W.taken out.new ≡ W.taken out.old ++ printed_in replies)
-        × ((file name : List ℕ) → file ≢ name → AllOnOrApart file name commands.now → (h : Option History) → GoodIn (D.content store.old) file name h →
-        (k : Option History) × RunExactly file name h commands.now replies k × GoodIn (D.content store.new) file name k)) }
+    ensures run { IsTrue D.keeps → IfOk result (λ answers. (replies : List Reply) ×
+        (answers_in replies ≡ answers.items) ×
+        (IsTrue W.tells → W.failures out.new ≡ W.failures out.old →
+        W.failures out.new < 2 ^ 64 - 1 →
+        W.taken out.new ≡ W.taken out.old ++ printed_in replies) ×
+        Keeps (D.content store.old) commands.now replies (D.content store.new) ×
+        ((file name : List ℕ) → file ≢ name → AllOnOrApart file name commands.now →
+        (h : Option History) → GoodIn (D.content store.old) file name h →
+        (k : Option History) × Run file name h commands.now replies k ×
+        GoodIn (D.content store.new) file name k)) }
+    ensures exact { IsTrue D.keeps → D.failures store.new ≡ D.failures store.old →
+        D.failures store.new < 2 ^ 64 - 1 → W.failures out.new ≡ W.failures out.old →
+        W.failures out.new < 2 ^ 64 - 1 →
+        IfOk result (λ answers. list_all has_memory answers.items ≡ true →
+        (replies : List Reply) × (answers_in replies ≡ answers.items) ×
+        (IsTrue W.tells → W.taken out.new ≡ W.taken out.old ++ printed_in replies) ×
+        ((file name : List ℕ) → file ≢ name → AllOnOrApart file name commands.now →
+        (h : Option History) → GoodIn (D.content store.old) file name h →
+        (k : Option History) × RunExactly file name h commands.now replies k ×
+        GoodIn (D.content store.new) file name k)) }
     ensures others { IsTrue D.keeps → (q : List ℕ) → All (IsStranger q) commands.now →
         map.get (D.content store.new) q ≡ map.get (D.content store.old) q }
     ensures count { D.failures store.old < 2 ^ 64 →

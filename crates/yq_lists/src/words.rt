@@ -18,13 +18,17 @@ use yq_words::{Command, read_words};
 /// (`-h`, `--help`) is `Help`. The words are refused with `Usage` where `clap` refuses them, where FILE is `-`, where
 /// the journal has FILE's name, and where N isn't a number of 64 bits.
 pub fn command_of(alloc: Global, words: &[&str]) -> Result<Command, Fault>
-    ensures asked { IfOk result (spec.IsAsked (subcommand_of yq (spec.full_words (map (λ w. w.now) words.now)))) }
+    ensures asked { IfOk result (spec.IsAsked (subcommand_of yq
+        (spec.full_words (map (λ w. w.now) words.now)))) }
     // Words that clap doesn't take are no command, unless they ask for help.
-    ensures taken { IfOk result (λ c. c ≢ Help → takes yq (spec.full_words (map (λ w. w.now) words.now)) ≡ true) }
-    ensures help { takes yq (spec.full_words (map (λ w. w.now) words.now)) ≡ true → result ≢ Ok Help }
+    ensures taken { IfOk result (λ c. c ≢ Help → takes yq (spec.full_words
+        (map (λ w. w.now) words.now)) ≡ true) }
+    ensures help { takes yq (spec.full_words (map (λ w. w.now) words.now)) ≡ true →
+        result ≢ Ok Help }
     // Help is answered where `-h` or `--help` is a word and clap reads a call for help, and not else.
     ensures only { result ≡ Ok Help → spec.MayCallHelp (map (λ w. w.now) words.now) }
-    ensures called { spec.CallsHelp (map (λ w. w.now) words.now) → MatchResult result (λ c. c ≡ Help) (λ e. e ≡ Fault.OutOfMemory) }
+    ensures called { spec.CallsHelp (map (λ w. w.now) words.now) →
+        MatchResult result (λ c. c ≡ Help) (λ e. e ≡ Fault.OutOfMemory) }
     ensures err { IfErr result (λ fault. (e : WordsError) × (fault ≡ of_words e) ×
         spec.IsRefused (spec.full_words (map (λ w. w.now) words.now)) e) }
 {

@@ -41,7 +41,8 @@ pub fn places_apart()
 /// A change of one node leaves the node at a path that is apart as it is, and
 /// two such changes may be made in either order.
 pub fn changes_apart()
-    ensures kept { (p q : List TreeStep) (g : Node → Node) (n : Node) → IsTree n → Apart p q → node_at p (change q g n) ≡ node_at p n }
+    ensures kept { (p q : List TreeStep) (g : Node → Node) (n : Node) → IsTree n → Apart p q →
+        node_at p (change q g n) ≡ node_at p n }
     ensures commute { (p q : List TreeStep) (f g : Node → Node) (n : Node) → IsTree n → Apart p q →
         change p f (change q g n) ≡ change q g (change p f n) }
 {}

@@ -20,7 +20,8 @@ pub(crate) fn is_end(text: &str) -> bool
 /// What follows the mark or word, if it is in front.
 #[tactic(auto, using(crate::proofs::Lexing::tokens_next))]
 pub(crate) fn after<'t>(text: &'t str, symbol: &str) -> Option<&'t str>
-    ensures value { option_map (λ r. spec.tokens r.now) result ≡ spec.after symbol.now (spec.tokens text.now) }
+    ensures value { option_map (λ r. spec.tokens r.now) result ≡
+        spec.after symbol.now (spec.tokens text.now) }
     ensures shorter { IfSome result (λ r. length r.now < length text.now) }
 {
     match split_token(text) {
@@ -37,7 +38,8 @@ pub(crate) fn after<'t>(text: &'t str, symbol: &str) -> Option<&'t str>
 
 /// What follows the mark or word, which has to be in front.
 pub(crate) fn expect<'t>(text: &'t str, symbol: &str) -> Result<&'t str, ParseError>
-    ensures value { Gives (λ r. spec.tokens r.now) result (spec.after symbol.now (spec.tokens text.now)) }
+    ensures value { Gives (λ r. spec.tokens r.now) result
+        (spec.after symbol.now (spec.tokens text.now)) }
     ensures shorter { IfOk result (λ r. length r.now < length text.now) }
 {
     match after(text, symbol) {
@@ -49,7 +51,8 @@ pub(crate) fn expect<'t>(text: &'t str, symbol: &str) -> Result<&'t str, ParseEr
 /// The number in front, as it is written, and what follows it.
 #[tactic(auto, using(crate::proofs::Lexing::tokens_next))]
 pub(crate) fn number(text: &str) -> Option<(&str, &str)>
-    ensures value { option_map (with_tokens (λ s. s.now)) result ≡ spec.taken spec.as_number (spec.tokens text.now) }
+    ensures value { option_map (with_tokens (λ s. s.now)) result ≡
+        spec.taken spec.as_number (spec.tokens text.now) }
     ensures shorter { IsBefore text.now result }
 {
     match split_token(text) {
@@ -79,7 +82,8 @@ pub(crate) fn string(alloc: Global, text: &str) -> Result<(String, &str), ParseE
 /// The key of the named step in front and what follows it, if one is there.
 #[tactic(auto, using(crate::proofs::Lexing::tokens_next))]
 pub(crate) fn key(alloc: Global, text: &str) -> Result<Option<(String, &str)>, ParseError>
-    ensures value { Finds (option_map (with_tokens string_bytes)) result (spec.taken spec.as_step (spec.tokens text.now)) }
+    ensures value { Finds (option_map (with_tokens string_bytes)) result
+        (spec.taken spec.as_step (spec.tokens text.now)) }
     ensures shorter { IfOk result (λ o. IsBefore text.now o) }
 {
     match split_token(text) {

@@ -6,7 +6,8 @@ ghost use Rattle.yq_program.specs.Tokens.{AreTokens, Token};
 
 /// No text has two lists of tokens.
 pub fn one_token_list()
-    ensures { (text : List ℕ) (ts us : List Token) → AreTokens ts text → AreTokens us text → ts ≡ us }
+    ensures { (text : List ℕ) (ts us : List Token) → AreTokens ts text → AreTokens us text →
+        ts ≡ us }
 {}
 
 /// A text comes to one outcome, which is the program that it derives and that asks for no pattern, or else

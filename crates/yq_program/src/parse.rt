@@ -25,8 +25,10 @@ use std::alloc::Global;
 /// pattern.
 pub fn parse_expr(alloc: Global, text: &str) -> Result<Program, ParseError>
     ensures exact { Answers program_of result (spec.outcome text.now) }
-    ensures found { IfOk result (λ p. Derives text.now (program_of p) × (has_pattern (program_of p) ≡ false)) }
-    ensures only { (p : Outline) → Derives text.now p → has_pattern p ≡ false → Answers program_of result (parsed p) }
+    ensures found { IfOk result (λ p. Derives text.now (program_of p) ×
+        (has_pattern (program_of p) ≡ false)) }
+    ensures only { (p : Outline) → Derives text.now p → has_pattern p ≡ false →
+        Answers program_of result (parsed p) }
     ensures refused { IfErr result (λ e. IsRefused e text.now) }
 {
     parse(alloc, text)

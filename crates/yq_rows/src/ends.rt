@@ -93,8 +93,8 @@ pub(crate) fn end_of(whole: &str, rows: usize, end: &str, marker: &str, rest: &s
     ensures stands { spec.EndStands whole.now result }
     ensures same { spec.bound_in whole.now result ≡
         record { rows = rows; end = end.now; marker = marker.now } }
-    ensures place { result ≡
-        spec.end_at (length whole.now - length (end.now ++ (marker.now ++ rest.now))) rows end.now marker.now }
+    ensures place { result ≡ spec.end_at (length whole.now - length
+        (end.now ++ (marker.now ++ rest.now))) rows end.now marker.now }
 {
     EndPlace {
         rows,

@@ -46,7 +46,8 @@ fn read_marked<'t>(
 
 /// Whether a row may stand at a column before this text.
 fn may_stand(limit: Limit, column: usize, text: &[u8]) -> bool
-    ensures { result ≡ (grammar.allows (limit_view limit) column && not (column == 0 && Text.is_marker text.now)) }
+    ensures { result ≡ (grammar.allows (limit_view limit) column && not
+        (column == 0 && Text.is_marker text.now)) }
 {
     limit.allows(column) && !(column == 0 && is_marker(text))
 }
@@ -109,7 +110,8 @@ fn read_rows<'t>(
     ensures found { Gives (λ x. (rows_in whole.now x.0.items, x.1.now, x.2.now)) result
         (rows_lent (rows_in whole.now rows.items) (spec.all_rows unlimited text.now)) }
     ensures placed { Gives (λ x. x.0.items) result
-        (rows_placed rows.items (length whole.now - length text.now) (spec.all_rows unlimited text.now)) }
+        (rows_placed rows.items (length whole.now - length text.now)
+        (spec.all_rows unlimited text.now)) }
     ensures kept { IfOk result (λ x. Stand whole.now x.0.items) }
     ensures behind { IfOk result (λ x. Ends x.2.now whole.now) }
     ensures fault { IfErr result IsOfText }
@@ -165,7 +167,8 @@ pub(crate) fn read_part<'t>(
     ensures found { Gives (λ x. (rows_in whole.now x.0.items, x.1.now, x.2.now)) result
         (rows_lent (rows_in whole.now rows.items) (spec.part_at is_open text.now)) }
     ensures placed { Gives (λ x. x.0.items) result
-        (rows_placed rows.items (length whole.now - length text.now) (spec.part_at is_open text.now)) }
+        (rows_placed rows.items (length whole.now - length text.now)
+        (spec.part_at is_open text.now)) }
     ensures kept { IfOk result (λ x. Stand whole.now x.0.items) }
     ensures behind { IfOk result (λ x. Ends x.2.now whole.now) }
     ensures fault { IfErr result IsOfText }

@@ -57,7 +57,8 @@ fn begins_white(text: &[u8]) -> bool
 
 /// Adds what stands between a line and the one before it.
 fn push_joint(out: &mut String, before: Before, white: bool, empty: usize) -> Result<(), AllocError>
-    ensures { OnOk result (string_bytes out.new ≡ string_bytes out.old ++ spec.joint before white empty) }
+    ensures { OnOk result (string_bytes out.new ≡ string_bytes out.old ++
+        spec.joint before white empty) }
 {
     match before {
         Before::Nothing => push_breaks(out, empty),
@@ -82,7 +83,8 @@ fn push_ending(
     before: Before,
     empty: usize,
 ) -> Result<(), AllocError>
-    ensures { OnOk result (string_bytes out.new ≡ string_bytes out.old ++ spec.ending chomping before empty) }
+    ensures { OnOk result (string_bytes out.new ≡ string_bytes out.old ++
+        spec.ending chomping before empty) }
 {
     match (chomping, before) {
         (Chomping::Strip, _) | (Chomping::Clip, Before::Nothing) => Ok(()),
@@ -97,7 +99,8 @@ fn push_ending(
 
 /// Adds a line's text, and perhaps an LF.
 fn push_line(out: &mut String, text: &str, broken: bool) -> Result<(), AllocError>
-    ensures { OnOk result (string_bytes out.new ≡ string_bytes out.old ++ (text.now ++ spec.broken broken)) }
+    ensures { OnOk result (string_bytes out.new ≡ string_bytes out.old ++
+        (text.now ++ spec.broken broken)) }
 {
     out.push_str(text)?;
     if broken {
@@ -120,7 +123,8 @@ fn push_literal(
     indent: TextIndent,
     raw: &str,
 ) -> Result<(), AllocError>
-    ensures { OnOk result (string_bytes out.new ≡ string_bytes out.old ++ spec.literal strip indent (lines_of raw.now)) }
+    ensures { OnOk result (string_bytes out.new ≡ string_bytes out.old ++
+        spec.literal strip indent (lines_of raw.now)) }
 {
     let mut rest = raw;
     'each: while !rest.is_empty() {
@@ -149,7 +153,8 @@ fn push_folded(
     indent: TextIndent,
     raw: &str,
 ) -> Result<(), AllocError>
-    ensures { OnOk result (string_bytes out.new ≡ string_bytes out.old ++ spec.folded chomping indent Nothing 0 (lines_of raw.now)) }
+    ensures { OnOk result (string_bytes out.new ≡ string_bytes out.old ++
+        spec.folded chomping indent Nothing 0 (lines_of raw.now)) }
 {
     let mut before = Before::Nothing;
     let mut empty = 0usize;
@@ -186,7 +191,8 @@ fn content_of(
     indent: TextIndent,
     raw: &str,
 ) -> Result<String, AllocError>
-    ensures { IfOk result (λ s. string_bytes s ≡ spec.content_of style chomping indent (lines_of raw.now)) }
+    ensures { IfOk result (λ s. string_bytes s ≡ spec.content_of style chomping indent
+        (lines_of raw.now)) }
 {
     let mut out = String::with_capacity(alloc, raw.len())?;
     match style {
@@ -243,7 +249,8 @@ fn content_at(alloc: Global, text: &str, piece: &Piece) -> Result<String, AllocE
 pub(crate) fn block_content(alloc: Global, text: &str, piece: &Piece) -> Result<String, AllocError>
     requires { IsBlockScalar text.now piece.now }
     ensures exact { IfOk result (λ s. string_bytes s ≡ reading.piece_content text.now piece.now) }
-    ensures found { (n : ℤ) (p : IsBlockPiece n piece.now.start text.now piece.now) → IfOk result (λ s. string_bytes s ≡ spec.block_content p.block) }
+    ensures found { (n : ℤ) (p : IsBlockPiece n piece.now.start text.now piece.now) →
+        IfOk result (λ s. string_bytes s ≡ spec.block_content p.block) }
 {
     content_at(alloc, text, piece)
 }

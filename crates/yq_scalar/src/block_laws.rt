@@ -17,29 +17,39 @@ ghost use Rattle.yq_scalar.specs.declared.style.Style.TheVariants.{Literal};
 /// What is read is a block scalar in front of its rest, what is one is read, and a text begins with one
 /// block scalar at most.
 pub fn one_block()
-    ensures takes { (least : ℕ) (t : List ℕ) (x : BlockText × List ℕ) → block_at least t ≡ Some x → (t ≡ block_text x.0 x.1) × IsBlock least x.0 x.1 }
-    ensures again { (least : ℕ) (b : BlockText) (rest : List ℕ) → IsBlock least b rest → block_at least (block_text b rest) ≡ Some (b, rest) }
-    ensures one { (least : ℕ) (a b : BlockText) (rest other : List ℕ) → block_text a rest ≡ block_text b other → IsBlock least a rest →
-        IsBlock least b other → (a ≡ b) × (rest ≡ other) }
+    ensures takes { (least : ℕ) (t : List ℕ) (x : BlockText × List ℕ) → block_at least t ≡ Some x →
+        (t ≡ block_text x.0 x.1) × IsBlock least x.0 x.1 }
+    ensures again { (least : ℕ) (b : BlockText) (rest : List ℕ) → IsBlock least b rest →
+        block_at least (block_text b rest) ≡ Some (b, rest) }
+    ensures one { (least : ℕ) (a b : BlockText) (rest other : List ℕ) →
+        block_text a rest ≡ block_text b other → IsBlock least a rest → IsBlock least b other →
+        (a ≡ b) × (rest ≡ other) }
 {}
 
 /// What is written for a string that can be written literal is a block scalar, before whatever may
 /// stand behind one, and stands for the string.
 pub fn literal_spells()
-    ensures block { (least m : ℕ) (b : Break) (s : ScalarText) (tail rest : List ℕ) → IsUtf8 s.text → can_write s Literal Block ≡ true → least ≤ m →
-        is_tail tail ≡ true → ends_block false (record { columns = m; known = true }) (lines_of rest) ≡ true →
+    ensures block { (least m : ℕ) (b : Break) (s : ScalarText) (tail rest : List ℕ) →
+        IsUtf8 s.text → can_write s Literal Block ≡ true → least ≤ m → is_tail tail ≡ true →
+        ends_block false (record { columns = m; known = true }) (lines_of rest) ≡ true →
         IsBlock least (written_block s.text m (break_text b) tail) rest }
-    ensures content { (m : ℕ) (b : Break) (s : ScalarText) (tail : List ℕ) → IsUtf8 s.text → can_write s Literal Block ≡ true →
+    ensures content { (m : ℕ) (b : Break) (s : ScalarText) (tail : List ℕ) → IsUtf8 s.text →
+        can_write s Literal Block ≡ true →
         block_content (written_block s.text m (break_text b) tail) ≡ s.text }
 {}
 
 /// A repaired gap may stand behind a block scalar, before a less indented line or the end, and its
 /// comments are the same. The gap ends in a break, or the text with it.
 pub fn repaired()
-    ensures stands { (least column : ℕ) (b : BlockText) (old gap rest : List ℕ) → IsBlock least b old → AreGap (lines_of gap) →
-        ((closed (lines_of gap) ≡ true) ⊎ (rest ≡ [])) → is_behind b.indent (lines_of rest) ≡ true → column < b.indent.columns →
-        IsBlock least b (joined (repair (keeps b.chomping) b.indent.columns column (lines_of gap)) ++ rest) }
-    ensures ends { (keep : Bool) (indent : TextIndent) (column : ℕ) (gap rest : Lines) → AreGap gap → is_behind indent rest ≡ true → column < indent.columns →
+    ensures stands { (least column : ℕ) (b : BlockText) (old gap rest : List ℕ) →
+        IsBlock least b old → AreGap (lines_of gap) →
+        ((closed (lines_of gap) ≡ true) ⊎ (rest ≡ [])) → is_behind b.indent (lines_of rest) ≡ true →
+        column < b.indent.columns →
+        IsBlock least b (joined (repair (keeps b.chomping) b.indent.columns column
+        (lines_of gap)) ++ rest) }
+    ensures ends { (keep : Bool) (indent : TextIndent) (column : ℕ) (gap rest : Lines) →
+        AreGap gap → is_behind indent rest ≡ true → column < indent.columns →
         ends_block keep indent (repair keep indent.columns column gap ++ rest) ≡ true }
-    ensures comments { (keep : Bool) (indent column : ℕ) (gap : Lines) → AreGap gap → remarks (repair keep indent column gap) ≡ remarks gap }
+    ensures comments { (keep : Bool) (indent column : ℕ) (gap : Lines) → AreGap gap →
+        remarks (repair keep indent column gap) ≡ remarks gap }
 {}

@@ -38,7 +38,8 @@ fn repaired_blank(indent: usize, line: &str) -> &str
 
 /// Adds a blank line, unless the scalar keeps empty lines.
 fn push_blank(out: &mut String, keep: bool, indent: usize, line: &str) -> Result<(), AllocError>
-    ensures { OnOk result (string_bytes out.new ≡ string_bytes out.old ++ (if keep then [] else spec.repaired_blank indent line.now)) }
+    ensures { OnOk result (string_bytes out.new ≡ string_bytes out.old ++
+        (if keep then [] else spec.repaired_blank indent line.now)) }
 {
     if keep {
         return Ok(());
@@ -53,7 +54,8 @@ fn push_comment(
     column: usize,
     line: &str,
 ) -> Result<(), AllocError>
-    ensures { OnOk result (string_bytes out.new ≡ string_bytes out.old ++ spec.repaired_comment indent column line.now) }
+    ensures { OnOk result (string_bytes out.new ≡ string_bytes out.old ++
+        spec.repaired_comment indent column line.now) }
 {
     if is_outside(indent, line.as_bytes()) {
         return out.push_str(line);
@@ -70,7 +72,8 @@ fn push_gap(
     column: usize,
     gap: &str,
 ) -> Result<(), AllocError>
-    ensures { OnOk result (string_bytes out.new ≡ string_bytes out.old ++ joined (spec.repair keep indent column (lines_of gap.now))) }
+    ensures { OnOk result (string_bytes out.new ≡ string_bytes out.old ++
+        joined (spec.repair keep indent column (lines_of gap.now))) }
 {
     let mut rest = gap;
     'each: while !rest.is_empty() {
@@ -92,7 +95,8 @@ fn push_gap(
 ///
 /// Memory is taken once.
 pub fn repair(alloc: Global, scalar: &Piece, column: usize, gap: &str) -> Result<String, AllocError>
-    ensures exact { IfOk result (λ s. string_bytes s ≡ joined (spec.repair scalar.now.keep scalar.now.indent column (lines_of gap.now))) }
+    ensures exact { IfOk result (λ s. string_bytes s ≡ joined
+        (spec.repair scalar.now.keep scalar.now.indent column (lines_of gap.now))) }
 {
     let mut out = String::with_capacity(alloc, gap.len().saturating_add(column))?;
     push_gap(&mut out, scalar.keep, scalar.indent, column, gap)?;

@@ -142,7 +142,8 @@ fn break_len(text: &[u8]) -> usize
 /// The escape in front.
 fn fold_escape<'t>(text: &'t str) -> Item<'t>
     requires { spec.is_slash 34 text.now ≡ true }
-    ensures value { spec.content_on 34 0 spec.within [] text.now ≡ folded_text result.folded ++ spec.content_behind 34 result.joined result.rest.now }
+    ensures value { spec.content_on 34 0 spec.within [] text.now ≡
+        folded_text result.folded ++ spec.content_behind 34 result.joined result.rest.now }
     ensures shorter { length result.rest.now < length text.now }
 {
     let behind = text.split_at(1).1;
@@ -174,7 +175,8 @@ fn fold_escape<'t>(text: &'t str) -> Item<'t>
 /// The item in front, where no white space or break is.
 pub(crate) fn fold_item<'t>(quote: u8, text: &'t str) -> Item<'t>
     requires { is_space text.now ≡ false }
-    ensures value { spec.content_on quote 0 spec.within [] text.now ≡ folded_text result.folded ++ spec.content_behind quote result.joined result.rest.now }
+    ensures value { spec.content_on quote 0 spec.within [] text.now ≡
+        folded_text result.folded ++ spec.content_behind quote result.joined result.rest.now }
     ensures within { length result.rest.now ≤ length text.now }
     ensures shorter { 0 < length text.now → length result.rest.now < length text.now }
 {

@@ -69,7 +69,8 @@ fn fold(alloc: Global, quote: u8, text: &str) -> Result<String, AllocError>
 /// What a plain scalar of that text stands for: its lines, folded.
 pub fn plain_content(alloc: Global, text: &str) -> Result<String, AllocError>
     ensures exact { IfOk result (λ s. string_bytes s ≡ spec.plain_content text.now) }
-    ensures found { (ls : Lines) → IsPlainLines ls text.now → IfOk result (λ s. string_bytes s ≡ content ls) }
+    ensures found { (ls : Lines) → IsPlainLines ls text.now →
+        IfOk result (λ s. string_bytes s ≡ content ls) }
 {
     fold(alloc, 0, text)
 }
@@ -88,7 +89,8 @@ pub(crate) fn inside(piece: &str) -> (u8, &str)
 pub fn quoted_content(alloc: Global, piece: &str) -> Result<String, AllocError>
     requires { IsQuotedText piece.now }
     ensures exact { IfOk result (λ s. string_bytes s ≡ spec.quoted_content piece.now) }
-    ensures found { (quote : ℕ) (ls : Lines) (rest : List ℕ) → IsQuoted quote ls piece.now rest → IfOk result (λ s. string_bytes s ≡ content ls) }
+    ensures found { (quote : ℕ) (ls : Lines) (rest : List ℕ) → IsQuoted quote ls piece.now rest →
+        IfOk result (λ s. string_bytes s ≡ content ls) }
 {
     let (quote, inner) = inside(piece);
     fold(alloc, quote, inner)

@@ -22,10 +22,13 @@ use std::alloc::{AllocError, Global};
 pub fn content(alloc: Global, text: &str, piece: &Piece) -> Result<String, AllocError>
     requires { spec.IsGiven text.now piece.now }
     ensures exact { IfOk result (λ s. string_bytes s ≡ spec.piece_content text.now piece.now) }
-    ensures plain { (place : Place) (n : ℤ) (at : ℕ) (h : IsPlainPiece place n at text.now piece.now) (ls : Lines) → IsPlainLines ls h.scalar →
+    ensures plain { (place : Place) (n : ℤ) (at : ℕ)
+        (h : IsPlainPiece place n at text.now piece.now) (ls : Lines) → IsPlainLines ls h.scalar →
         IfOk result (λ s. string_bytes s ≡ content_of ls) }
-    ensures quoted { (at : ℕ) (h : IsQuotedPiece at text.now piece.now) → IfOk result (λ s. string_bytes s ≡ content_of h.ls) }
-    ensures block { (n : ℤ) (h : IsBlockPiece n piece.now.start text.now piece.now) → IfOk result (λ s. string_bytes s ≡ block.block_content h.block) }
+    ensures quoted { (at : ℕ) (h : IsQuotedPiece at text.now piece.now) →
+        IfOk result (λ s. string_bytes s ≡ content_of h.ls) }
+    ensures block { (n : ℤ) (h : IsBlockPiece n piece.now.start text.now piece.now) →
+        IfOk result (λ s. string_bytes s ≡ block.block_content h.block) }
 {
     content_at(alloc, text, piece)
 }

@@ -29,5 +29,6 @@ pub fn splice_exchanges()
 /// Splices lead from one text to another exactly where, swapped and in
 /// reverse, they lead back.
 pub fn splices_invert()
-    ensures { (ss : List Splice) (b c : List ℕ) → (all_done ss b ≡ Some c) ↔ (all_done (flipped ss) c ≡ Some b) }
+    ensures { (ss : List Splice) (b c : List ℕ) →
+        (all_done ss b ≡ Some c) ↔ (all_done (flipped ss) c ≡ Some b) }
 {}

@@ -46,7 +46,8 @@ pub fn follow(
     ensures text { joined text.new ≡
         (if is_ok result then exchanged kept (joined text.old) new.now else joined text.old) }
     ensures placed { ArePlacesOf (joined text.new) places.new }
-    ensures counted { OnOk result (CountsWritten (joined text.old) (joined text.new) kept meter.old meter.new) }
+    ensures counted { OnOk result (CountsWritten (joined text.old)
+        (joined text.new) kept meter.old meter.new) }
 {
     move_split(text, places, kept.front)?;
     let touched = find_touched(places, text.len(), kept);

@@ -42,9 +42,11 @@ pub(crate) fn change_one(
     cut: &CutText<'_, '_>,
     op: &Op,
 ) -> Result<(Changed, KnownItems), EditError>
-    ensures ok { IfOk result (λ x. IsChange (segments_by (operation_of op.now) (cut_of cut.now)) x.0) }
+    ensures ok { IfOk result (λ x. IsChange (segments_by (operation_of op.now) (cut_of cut.now))
+        x.0) }
     ensures known { IfOk result (λ x. StayKnown x.0.front (cut_of cut.now) x.1) }
-    ensures err { IfErr result (λ e. Fails e (spec.carry_one (operation_of op.now) (cut_of cut.now))) }
+    ensures err { IfErr result (λ e. Fails e (spec.carry_one (operation_of op.now)
+        (cut_of cut.now))) }
 {
     let cut = on_the_way(cut, op);
     let segments = op_segments(alloc, &cut, op)?;
@@ -79,7 +81,8 @@ fn carry(alloc: Global, text: &str, op: &Op) -> Result<Edited, EditError>
 pub fn apply_op(alloc: Global, text: &str, op: &Op) -> Result<Edited, EditError>
     requires { IsFitting (operation_of op.now) text.now }
     ensures exact { Edits result (spec.carried (operation_of op.now) text.now) }
-    ensures done { IfOk result (λ e. IsApplied (operation_of op.now) text.now (string_bytes e.text) e.splices.items) }
+    ensures done { IfOk result (λ e. IsApplied (operation_of op.now) text.now (string_bytes e.text)
+        e.splices.items) }
     ensures refused { IfErr result (λ e. IsRefused e (operation_of op.now) text.now) }
 {
     operand_holds(op);
@@ -97,7 +100,8 @@ pub(crate) fn carry_all(
 ) -> Result<Edited, EditError>
     requires places { HasPlaces (string_bytes text) places }
     requires serves { AreServed (operations_of ops.now) (string_bytes text) }
-    ensures { Edits result (behind splices.items (spec.carry_all (operations_of ops.now) (string_bytes text))) }
+    ensures { Edits result (behind splices.items (spec.carry_all (operations_of ops.now)
+        (string_bytes text))) }
 {
     let mut session = Session::of(alloc, text, places);
     let mut splices = splices;

@@ -51,7 +51,8 @@ fn update_each(alloc: Global, text: &str, program: &Program) -> Result<Edited, E
     requires { LiteralsHold (program_of program.now) }
     ensures ok { IfOk result (λ e. (us : List Update) → program_of program.now ≡ updates us →
         InOrder IsStep us text.now (string_bytes e.text) e.splices.items) }
-    ensures err { IfErr result (λ e. (us : List Update) → program_of program.now ≡ updates us → FailsEach e us text.now) }
+    ensures err { IfErr result (λ e. (us : List Update) → program_of program.now ≡ updates us →
+        FailsEach e us text.now) }
 {
     let mut done = unchanged(alloc, text)?;
     let count = program.updates();
@@ -80,7 +81,8 @@ fn no_updates(alloc: Global, text: &str, program: &Program) -> Result<Edited, Ed
 fn edit_text(alloc: Global, text: &str, program: &Program) -> Result<Edited, EditError>
     requires { LiteralsHold (program_of program.now) }
     ensures exact { Edits result (spec.edit_of (program_of program.now) text.now) }
-    ensures edited { IfOk result (λ e. IsEdited (program_of program.now) text.now (string_bytes e.text) e.splices.items) }
+    ensures edited { IfOk result (λ e. IsEdited (program_of program.now) text.now
+        (string_bytes e.text) e.splices.items) }
     ensures refused { IfErr result (λ e. EditRefused e (program_of program.now) text.now) }
 {
     if program.updates() == 0 {
@@ -103,7 +105,8 @@ pub fn edit(alloc: Global, text: &str, program: &Program) -> Result<Edited, Edit
     ensures exact { Edits result (spec.edit_of (program_of program.now) text.now) }
     // Each update exchanges segments of the text as it then stands, all else stays, and the text behind it
     // reads as what the update means.
-    ensures edited { IfOk result (λ e. IsEdited (program_of program.now) text.now (string_bytes e.text) e.splices.items) }
+    ensures edited { IfOk result (λ e. IsEdited (program_of program.now) text.now
+        (string_bytes e.text) e.splices.items) }
     // The splices lead from the old text to the new one.
     ensures splices { IfOk result (λ e. AreSplices e.splices.items text.now (string_bytes e.text)) }
     // The text has no reading, or the program or one of its updates is refused for what it means, or for

@@ -24,8 +24,10 @@ fn print_layout() -> Layout
 
 /// Adds a scalar's content, or a collection in block style.
 fn push_printed(alloc: Global, out: &mut String, value: &Value) -> Result<(), AllocError>
-    ensures text { OnOk result (string_bytes out.new ≡ string_bytes out.old ++ spec.printed_value (node_of value.now)) }
-    ensures valid { IfOk result (λ x. IsCollection (node_of value.now) → IsValueTree (node_of value.now)) }
+    ensures text { OnOk result (string_bytes out.new ≡ string_bytes out.old ++
+        spec.printed_value (node_of value.now)) }
+    ensures valid { IfOk result (λ x. IsCollection (node_of value.now) →
+        IsValueTree (node_of value.now)) }
 {
     match value {
         Value::Scalar(scalar) => out.push_str(scalar.text()),

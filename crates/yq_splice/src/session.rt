@@ -51,7 +51,8 @@ impl Model for Session {
 
     ghost view = { λ s. record { text = joined s.text; scanned = s.meter } };
 
-    ghost invariant = { λ s. HasPlaces (joined s.text) s.places × KnowsItems (joined s.text) s.known };
+    ghost invariant = { λ s. HasPlaces (joined s.text) s.places ×
+        KnowsItems (joined s.text) s.known };
 }
 
 impl Session {
@@ -97,7 +98,8 @@ impl Session {
     /// next one may go on.
     fn change(&mut self, op: &Op) -> Result<(Changed, KnownItems), EditError>
         ensures same { self.new ≡ self.old }
-        ensures ok { IfOk result (λ x. IsChange (segments_by (operation_of op.now) (cut_of self.old.text)) x.0) }
+        ensures ok { IfOk result (λ x. IsChange (segments_by (operation_of op.now)
+            (cut_of self.old.text)) x.0) }
         ensures known { IfOk result (λ x. StayKnown x.0.front (cut_of self.old.text) x.1) }
         ensures err { IfErr result (λ e. Fails e (carried (operation_of op.now) self.old.text)) }
     {
@@ -128,8 +130,8 @@ impl Session {
         ensures refused { IfErr result (λ e. IsRefused e (operation_of op.now) self.old.text) }
         // The lines of the rows and ends of parts that it wrote are counted, and no others; none, where no
         // splice comes.
-        ensures scanned { IfOk result (λ cs. Scans (operation_of op.now) self.old.text self.new.text cs.items
-            self.old.scanned self.new.scanned) }
+        ensures scanned { IfOk result (λ cs. Scans (operation_of op.now) self.old.text self.new.text
+            cs.items self.old.scanned self.new.scanned) }
         // What is refused leaves the session as it is.
         ensures kept { OnErr result (self.new ≡ self.old) }
     {

@@ -65,7 +65,8 @@ impl MemoryStore {
 
     /// The bytes of a file, without a call of the store.
     pub fn bytes(&self, name: &str) -> Option<&Vec<u8>>
-        ensures { option_map (λ v. v.now.items) result ≡ map.get (content_of self.now.log.items) name.now }
+        ensures { option_map (λ v. v.now.items) result ≡
+            map.get (content_of self.now.log.items) name.now }
     {
         find_bytes(&self.log, name)
     }

@@ -34,17 +34,22 @@ pub trait Store {
 
     /// The bytes of a file.
     fn read(&mut self, alloc: Global, name: &str) -> Result<Vec<u8>, FileReadError>
-        ensures found { IsTrue keeps → IfOk result (λ bytes. map.get (content self.old) name.now ≡ Some bytes.items) }
-        ensures absent { IsTrue keeps → IsErrOf result FileReadError.NotThere → map.get (content self.old) name.now ≡ None }
+        ensures found { IsTrue keeps → IfOk result (λ bytes. map.get (content self.old) name.now ≡
+            Some bytes.items) }
+        ensures absent { IsTrue keeps → IsErrOf result FileReadError.NotThere →
+            map.get (content self.old) name.now ≡ None }
         ensures same { IsTrue keeps → content self.new ≡ content self.old }
         ensures count { failures self.new ≡ after_read result (failures self.old) };
 
     /// Gives a name new bytes. A write that fails leaves the old bytes or the whole new ones.
     fn replace(&mut self, name: &str, bytes: &[u8]) -> Result<(), FileWriteError>
-        ensures written { IsTrue keeps → OnOk result (content self.new ≡ map.insert (content self.old) name.now bytes.now) }
-        ensures err { IsTrue keeps → OnErr result
-            ((content self.new ≡ content self.old) ⊎ (content self.new ≡ map.insert (content self.old) name.now bytes.now)) }
-        ensures memory { IsTrue keeps → IsErrOf result FileWriteError.OutOfMemory → content self.new ≡ content self.old }
-        ensures others { IsTrue keeps → (q : List ℕ) → q ≢ name.now → map.get (content self.new) q ≡ map.get (content self.old) q }
+        ensures written { IsTrue keeps → OnOk result (content self.new ≡
+            map.insert (content self.old) name.now bytes.now) }
+        ensures err { IsTrue keeps → OnErr result ((content self.new ≡ content self.old) ⊎
+            (content self.new ≡ map.insert (content self.old) name.now bytes.now)) }
+        ensures memory { IsTrue keeps → IsErrOf result FileWriteError.OutOfMemory →
+            content self.new ≡ content self.old }
+        ensures others { IsTrue keeps → (q : List ℕ) → q ≢ name.now →
+            map.get (content self.new) q ≡ map.get (content self.old) q }
         ensures count { failures self.new ≡ after_write result (failures self.old) };
 }

@@ -15,7 +15,8 @@ use yq_walk::reach;
 
 /// The item or entry to which steps lead in a head.
 fn head_entry<'d, 't>(head: &'d Head<'t>, steps: &[Step]) -> Option<Entry<'d, 't>>
-    ensures { option_map entry_view result ≡ spec.entry_within (map step_of steps.now) (head_flow head.now) }
+    ensures { option_map entry_view result ≡
+        spec.entry_within (map step_of steps.now) (head_flow head.now) }
 {
     match head {
         Head::Nothing => None,

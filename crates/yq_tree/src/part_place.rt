@@ -12,7 +12,8 @@ use yq_documents::{Part, Path, Span};
 impl Documents<'_> {
     /// The place of the entry or item at a path.
     fn entry_place(&self, path: &Path) -> Option<Span>
-        ensures { option_map span result ≡ option_map piece_span (piece_at path.now parts.Entry (cut_of self.now)) }
+        ensures { option_map span result ≡
+            option_map piece_span (piece_at path.now parts.Entry (cut_of self.now)) }
     {
         let _whole = self.whole();
         if let Some(place) = self.cut().entry_place(path) {
@@ -24,7 +25,8 @@ impl Documents<'_> {
 
     /// The place of the content of the node at a path.
     fn content_place(&self, path: &Path) -> Option<Span>
-        ensures { option_map span result ≡ option_map piece_span (piece_at path.now parts.Content (cut_of self.now)) }
+        ensures { option_map span result ≡
+            option_map piece_span (piece_at path.now parts.Content (cut_of self.now)) }
     {
         let _whole = self.whole();
         if let Some(place) = self.cut().content_place(path) {
@@ -44,7 +46,8 @@ impl Documents<'_> {
     /// comments above the row that the key or dash begins, with their breaks; `LineComment` goes from `#`
     /// to the line's end, before its break.
     pub fn extent(&self, path: &Path, part: Part) -> Option<Span>
-        ensures { option_map span result ≡ option_map piece_span (piece_at path.now part (cut_of self.now)) }
+        ensures { option_map span result ≡
+            option_map piece_span (piece_at path.now part (cut_of self.now)) }
     {
         match part {
             Part::Content => self.content_place(path),

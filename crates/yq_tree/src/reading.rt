@@ -59,7 +59,8 @@ pub fn read(alloc: Global, bytes: &[u8]) -> Result<Documents<'_>, ReadError>
     // The bytes read as the documents.
     ensures found { IfOk result (λ d. Reads bytes.now (spec.documents_of d)) }
     // Bytes that read as documents are read so, unless memory runs out.
-    ensures only { (docs : List Document) → Reads bytes.now docs → Gives spec.documents_of result (Some docs) }
+    ensures only { (docs : List Document) → Reads bytes.now docs →
+        Gives spec.documents_of result (Some docs) }
     // The fault that bytes are no text comes where they are none.
     ensures not_utf8 { IsNotUtf8 result ↔ (is_utf8 bytes.now ≡ false) }
     // The documents are known by the bytes, and their cut is what reading from left to right gives.
@@ -82,13 +83,16 @@ pub fn read(alloc: Global, bytes: &[u8]) -> Result<Documents<'_>, ReadError>
 
 /// No bytes have two readings.
 pub fn one_reading()
-    ensures { (bytes : List ℕ) (docs others : List Document) → Reads bytes docs → Reads bytes others → docs ≡ others }
+    ensures { (bytes : List ℕ) (docs others : List Document) → Reads bytes docs →
+        Reads bytes others → docs ≡ others }
 {}
 
 /// What reading from left to right gives is a text's cut, whose parts stand for documents.
 pub fn cut_read()
-    ensures taken { (t : List ℕ) (c : Cut) → spec.text_at t ≡ Some c → IsCut t c × (spec.all_documents c ≡ true) }
-    ensures given { (t : List ℕ) (c : Cut) → IsCut t c → spec.all_documents c ≡ true → spec.text_at t ≡ Some c }
+    ensures taken { (t : List ℕ) (c : Cut) → spec.text_at t ≡ Some c →
+        IsCut t c × (spec.all_documents c ≡ true) }
+    ensures given { (t : List ℕ) (c : Cut) → IsCut t c → spec.all_documents c ≡ true →
+        spec.text_at t ≡ Some c }
 {}
 
 /// Each document of bytes that read is a tree, with no more collections nested than may be, and has the

@@ -7,5 +7,6 @@ ghost use Rattle.yq_rows.specs.Rows.{Cut};
 /// Reading from left to right gives a cut exactly where the grammar reads the bytes as the documents of
 /// that cut, by that cut.
 pub fn exact_reading()
-    ensures { (bytes : List ℕ) (c : Cut) → (read_at bytes ≡ Some c) ↔ ((reads : Reads bytes (documents c)) × (reads.parts ≡ c)) }
+    ensures { (bytes : List ℕ) (c : Cut) →
+        (read_at bytes ≡ Some c) ↔ ((reads : Reads bytes (documents c)) × (reads.parts ≡ c)) }
 {}

@@ -49,7 +49,8 @@ fn with_arg<'a>(command: Command<'a>, arg: Arg<'a>) -> Result<Command<'a>, Alloc
 fn with_sub<'a>(command: Command<'a>, sub: Command<'a>) -> Result<Command<'a>, AllocError>
     requires local { (fields_of sub).has_globals ≡ false }
     requires all_local { (fields_of command).has_globals ≡ false }
-    ensures app { IfOk result (λ c. app_of c ≡ with_subcommand (app_of command.entry) (app_of sub.entry).top) }
+    ensures app { IfOk result (λ c. app_of c ≡ with_subcommand (app_of command.entry)
+        (app_of sub.entry).top) }
     ensures local { IfOk result (λ c. (fields_of c).has_globals ≡ false) }
 {
     command.subcommand(sub)
@@ -122,9 +123,11 @@ fn line<'a>(alloc: Global) -> Result<Command<'a>, AllocError>
 
 /// What `clap` finds in the words, of which the first is the program's name.
 pub fn matched<'a>(alloc: Global, words: &'a [&'a str]) -> Result<ArgMatches<'a>, Error>
-    ensures ok { IfOk result (λ m. subcommand_rows_of m ≡ subcommand_of spec.yq (map (λ w. w.now) words.entry.now)) }
+    ensures ok { IfOk result (λ m. subcommand_rows_of m ≡ subcommand_of spec.yq
+        (map (λ w. w.now) words.entry.now)) }
     ensures taken { IfOk result (λ m. takes spec.yq (map (λ w. w.now) words.entry.now) ≡ true) }
-    ensures passes { IfErr result (λ e. takes spec.yq (map (λ w. w.now) words.entry.now) ≡ true → kind_of e ≡ ErrorKind.OutOfMemory) }
+    ensures passes { IfErr result (λ e. takes spec.yq (map (λ w. w.now) words.entry.now) ≡ true →
+        kind_of e ≡ ErrorKind.OutOfMemory) }
     ensures kinds { FailsBy (fault_of spec.yq (map (λ w. w.now) words.entry.now)) result }
 {
     line(alloc)?.try_get_matches_from(words)

@@ -24,7 +24,8 @@ fn is_command_word(word: &str) -> bool
 
 /// The command's word, and the words behind it.
 pub(crate) fn split_command<'a, 'w>(words: &'w [&'a str]) -> (&'a str, &'w [&'a str])
-    ensures { result.0.now ∷ map (λ w. w.now) result.1.now ≡ spec.with_command (map (λ w. w.now) words.entry.now) }
+    ensures { result.0.now ∷ map (λ w. w.now) result.1.now ≡
+        spec.with_command (map (λ w. w.now) words.entry.now) }
 {
     match words.split_first() {
         Some((word, rest)) if is_command_word(word) => (word, rest),
@@ -35,7 +36,8 @@ pub(crate) fn split_command<'a, 'w>(words: &'w [&'a str]) -> (&'a str, &'w [&'a 
 
 /// The words as `clap` reads them.
 fn full_words<'a>(alloc: Global, words: &[&'a str]) -> Result<Vec<&'a str>, AllocError>
-    ensures { IfOk result (λ full. map (λ w. w.now) full.items ≡ spec.full_words (map (λ w. w.now) words.now)) }
+    ensures { IfOk result (λ full. map (λ w. w.now) full.items ≡
+        spec.full_words (map (λ w. w.now) words.now)) }
 {
     let (command, rest) = split_command(words);
     let mut full = Vec::with_capacity(alloc, rest.len())?;
@@ -70,7 +72,8 @@ fn asks_help(words: &[&str]) -> bool
 fn without_matches(kind: ErrorKind, asked: bool) -> Result<Command, WordsError>
     ensures ok { IfOk result (λ c. (c ≡ Help) × (kind ≡ ErrorKind.DisplayHelp) × (asked ≡ true)) }
     ensures err { IfErr result (λ e. ((e ≡ WordsError.OutOfMemory) × (kind ≡ ErrorKind.OutOfMemory))
-        ⊎ ((spec.is_usage e ≡ true) × (kind ≢ ErrorKind.OutOfMemory) × ((kind ≡ ErrorKind.DisplayHelp) → asked ≡ false))) }
+        ⊎ ((spec.is_usage e ≡ true) × (kind ≢ ErrorKind.OutOfMemory) ×
+        ((kind ≡ ErrorKind.DisplayHelp) → asked ≡ false))) }
 {
     match kind {
         ErrorKind::DisplayHelp if asked => Ok(Command::Help),
@@ -84,8 +87,11 @@ fn command_by(alloc: Global, full: &[&str], asked: bool) -> Result<Command, Word
     ensures asked { IfOk result (spec.IsAsked (subcommand_of yq (map (λ w. w.now) full.now))) }
     ensures taken { IfOk result (λ c. c ≢ Help → takes yq (map (λ w. w.now) full.now) ≡ true) }
     ensures help { takes yq (map (λ w. w.now) full.now) ≡ true → result ≢ Ok Help }
-    ensures only { result ≡ Ok Help → (asked ≡ true) × IsAmong ErrorKind.DisplayHelp (fault_of yq (map (λ w. w.now) full.now)) }
-    ensures called { asked ≡ true → fault_of yq (map (λ w. w.now) full.now) ≡ ErrorKind.DisplayHelp ∷ [] → MatchResult result (λ c. c ≡ Help) (λ e. e ≡ WordsError.OutOfMemory) }
+    ensures only { result ≡ Ok Help → (asked ≡ true) × IsAmong ErrorKind.DisplayHelp
+        (fault_of yq (map (λ w. w.now) full.now)) }
+    ensures called { asked ≡ true → fault_of yq (map (λ w. w.now) full.now) ≡
+        ErrorKind.DisplayHelp ∷ [] →
+        MatchResult result (λ c. c ≡ Help) (λ e. e ≡ WordsError.OutOfMemory) }
     ensures err { IfErr result (spec.IsUnread (map (λ w. w.now) full.now)) }
 {
     match matched(alloc, full) {
@@ -104,13 +110,17 @@ fn command_by(alloc: Global, full: &[&str], asked: bool) -> Result<Command, Word
 /// the journal has FILE's name, and where N isn't a number of 64 bits.
 #[tactic(auto, using(crate::proofs::WordsFound::refused_by_checks))]
 pub fn read_words(alloc: Global, words: &[&str]) -> Result<Command, WordsError>
-    ensures asked { IfOk result (spec.IsAsked (subcommand_of yq (spec.full_words (map (λ w. w.now) words.now)))) }
+    ensures asked { IfOk result (spec.IsAsked (subcommand_of yq
+        (spec.full_words (map (λ w. w.now) words.now)))) }
     // Words that clap doesn't take are no command, unless they ask for help.
-    ensures taken { IfOk result (λ c. c ≢ Help → takes yq (spec.full_words (map (λ w. w.now) words.now)) ≡ true) }
-    ensures help { takes yq (spec.full_words (map (λ w. w.now) words.now)) ≡ true → result ≢ Ok Help }
+    ensures taken { IfOk result (λ c. c ≢ Help → takes yq (spec.full_words
+        (map (λ w. w.now) words.now)) ≡ true) }
+    ensures help { takes yq (spec.full_words (map (λ w. w.now) words.now)) ≡ true →
+        result ≢ Ok Help }
     // Help is answered where `-h` or `--help` is a word and clap reads a call for help, and not else.
     ensures only { result ≡ Ok Help → spec.MayCallHelp (map (λ w. w.now) words.now) }
-    ensures called { spec.CallsHelp (map (λ w. w.now) words.now) → MatchResult result (λ c. c ≡ Help) (λ e. e ≡ WordsError.OutOfMemory) }
+    ensures called { spec.CallsHelp (map (λ w. w.now) words.now) →
+        MatchResult result (λ c. c ≡ Help) (λ e. e ≡ WordsError.OutOfMemory) }
     ensures err { IfErr result (spec.IsRefused (spec.full_words (map (λ w. w.now) words.now))) }
 {
     let full = full_words(alloc, words)?;

@@ -57,7 +57,8 @@ pub(crate) fn first_anchor<'d>(first: Option<&'d str>, second: Option<&'d str>) 
 /// The anchor of a node behind another anchor; an alias has none.
 #[tactic(auto, using(crate::proofs::KindLaws::anchor_scalar, crate::proofs::KindLaws::anchor_list, crate::proofs::KindLaws::anchor_map, crate::proofs::KindLaws::anchor_alias))]
 pub(crate) fn inline_anchor<'t>(before: Option<&'t str>, node: &Inline<'t>) -> Option<&'t str>
-    ensures { lent result ≡ spec.anchor_of (anchored (lent before.entry) (placed_tree (view node.now))) }
+    ensures { lent result ≡ spec.anchor_of (anchored (lent before.entry)
+        (placed_tree (view node.now))) }
 {
     match node.form {
         Form::Alias(_) => None,

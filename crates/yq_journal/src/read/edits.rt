@@ -89,7 +89,8 @@ fn count(value: &Value, counted: bool) -> Option<u64>
 
 /// The splices under a key.
 fn splices_at(alloc: Global, value: &Value, key: &str) -> Result<Option<Vec<Splice>>, AllocError>
-    ensures { IfOk result (λ o. option_map (λ v. v.items) o ≡ option_and_then spec.changes_of (get key.now (view value.now))) }
+    ensures { IfOk result (λ o. option_map (λ v. v.items) o ≡
+        option_and_then spec.changes_of (get key.now (view value.now))) }
 {
     match value.get(key) {
         Some(value) => splices(alloc, value),
@@ -144,7 +145,8 @@ pub(super) fn records(
     value: &Value,
     counted: bool,
 ) -> Result<Option<Vec<Record>>, AllocError>
-    ensures { IfOk result (λ o. option_map (λ v. v.items) o ≡ spec.records_of counted (view value.now)) }
+    ensures { IfOk result (λ o. option_map (λ v. v.items) o ≡
+        spec.records_of counted (view value.now)) }
 {
     let Some(values) = value.as_array() else {
         return Ok(None);

@@ -24,7 +24,8 @@ pub(super) fn text<'a>(value: &'a Value, key: &str) -> Option<&'a str>
 
 /// The bytes under a key, from padded standard base64.
 pub(super) fn bytes(alloc: Global, value: &Value, key: &str) -> Result<Option<Vec<u8>>, AllocError>
-    ensures { IfOk result (λ o. option_map (λ v. v.items) o ≡ spec.bytes_at key.now (view value.now)) }
+    ensures { IfOk result (λ o. option_map (λ v. v.items) o ≡
+        spec.bytes_at key.now (view value.now)) }
 {
     let Some(text) = text(value, key) else {
         return Ok(None);

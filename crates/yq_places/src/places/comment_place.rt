@@ -78,7 +78,8 @@ fn head_comment_in(rows: &Rows<'_>, seat: Seat) -> Option<Span>
 impl<'t> CutText<'_, 't> {
     /// The place of the comment behind the entry or item at a path, on the line of its key or dash.
     pub fn line_comment_place(&self, path: &Path) -> Option<Span>
-        ensures { option_map span result ≡ option_map piece_span (piece_at path.now parts.LineComment (cut_of self.now)) }
+        ensures { option_map span result ≡
+            option_map piece_span (piece_at path.now parts.LineComment (cut_of self.now)) }
     {
         let seat = self.seat(path)?;
         line_comment_in(self.rows, seat)
@@ -86,7 +87,8 @@ impl<'t> CutText<'_, 't> {
 
     /// The place of the run of comments above the entry or item at a path, with the breaks.
     pub fn head_comment_place(&self, path: &Path) -> Option<Span>
-        ensures { option_map span result ≡ option_map piece_span (piece_at path.now parts.HeadComment (cut_of self.now)) }
+        ensures { option_map span result ≡
+            option_map piece_span (piece_at path.now parts.HeadComment (cut_of self.now)) }
     {
         let seat = self.seat(path)?;
         head_comment_in(self.rows, seat)

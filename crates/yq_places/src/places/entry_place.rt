@@ -21,7 +21,8 @@ pub(crate) fn lines_place(rows: &Rows<'_>, document: Stretch, from: Spot, to: Sp
     requires document { HasDocument rows.now document }
     requires lines { AreLines rows.now document from to }
     requires some { from.row < to.row }
-    ensures { InEach rows.now document (λ first c rs n. Some (span result) ≡ spec.lines_place first c rs (n from) (n to - 1)) }
+    ensures { InEach rows.now document (λ first c rs n. Some (span result) ≡
+        spec.lines_place first c rs (n from) (n to - 1)) }
 {
     Span {
         start: line_start(rows, from),
@@ -34,7 +35,8 @@ fn line_entry(rows: &Rows<'_>, document: Stretch, at: Spot) -> Span
     requires shown { IsShown rows.now }
     requires document { HasDocument rows.now document }
     requires at { IsLine rows.now document at }
-    ensures { InEach rows.now document (λ first c rs n. Some (span result) ≡ spec.line_entry first c rs (n at)) }
+    ensures { InEach rows.now document (λ first c rs n. Some (span result) ≡
+        spec.line_entry first c rs (n at)) }
 {
     lines_place(rows, document, at, behind(rows, document, at))
 }

@@ -19,7 +19,8 @@ use yq_walk::{Spot, head_place, line_column};
 
 /// Whether a row is a node that is alone on its line.
 pub(crate) fn is_alone(row: &Row<'_>) -> bool
-    ensures { (r : RowOf) (rest : List ℕ) → slices r ≡ view row.now → IsMark r.mark r.content rest → result ≡ spec.is_alone r }
+    ensures { (r : RowOf) (rest : List ℕ) → slices r ≡ view row.now → IsMark r.mark r.content rest →
+        result ≡ spec.is_alone r }
 {
     row.dashes().is_empty() && row.colon().is_empty()
 }
@@ -27,8 +28,10 @@ pub(crate) fn is_alone(row: &Row<'_>) -> bool
 /// The node in row `i`, which is alone on its line.
 pub(crate) fn lone_in<'t>(rows: &Rows<'t>, text: Halves<'t>, i: usize) -> Lone<'t>
     requires { HasRows (whole text) rows.now i }
-    ensures { (e : spec.PlacedEntry) (end : ℕ) → AreRowsOf (whole text.entry) rows.now e i end → spec.is_alone e.row ≡ true →
-        telling.lone_told result ≡ spec.lone (spec.before_entry e) e.row (rows_text e.under (spec.behind_entry e)) }
+    ensures { (e : spec.PlacedEntry) (end : ℕ) → AreRowsOf (whole text.entry) rows.now e i end →
+        spec.is_alone e.row ≡ true →
+        telling.lone_told result ≡ spec.lone (spec.before_entry e) e.row
+        (rows_text e.under (spec.behind_entry e)) }
 {
     let row = rows.row(i);
     let head = row.head();
@@ -46,7 +49,8 @@ pub(crate) fn lone_in<'t>(rows: &Rows<'t>, text: Halves<'t>, i: usize) -> Lone<'
 fn compact_in<'t>(rows: &Rows<'t>, text: Halves<'t>, at: PlacedEntry) -> Compact<'t>
     requires entry { HasEntry (whole text) rows.now at }
     requires dash { at.line < at.dashes }
-    ensures { (e : spec.PlacedEntry) → IsEntry (whole text.entry) rows.now e at → telling.compact_told result ≡ spec.compact_in e }
+    ensures { (e : spec.PlacedEntry) → IsEntry (whole text.entry) rows.now e at →
+        telling.compact_told result ≡ spec.compact_in e }
 {
     let row = rows.row(at.row);
     let spot = Spot {

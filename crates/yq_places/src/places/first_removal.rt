@@ -31,7 +31,8 @@ pub struct FirstRemoval<'d> {
 
 /// What is taken out with an item or entry between two texts.
 fn first_out<'d>(before: Halves<'d>, own: Halves<'d>, behind: Halves<'d>) -> FirstRemoval<'d>
-    ensures { first_told result ≡ spec.first_out (piece_of (whole before.entry) (whole own.entry) (whole behind.entry)) }
+    ensures { first_told result ≡ spec.first_out (piece_of (whole before.entry) (whole own.entry)
+        (whole behind.entry)) }
 {
     let (line, next) = split_line(behind);
     if begins_gap(next) {
@@ -62,7 +63,8 @@ impl<'t> CutText<'_, 't> {
     /// to the end of the last line, before its break. None, where its line is the first one of a row, or
     /// it stands in flow.
     pub fn first_removal(&self, path: &Path) -> Option<FirstRemoval<'t>>
-        ensures { option_map first_told result ≡ spec.first_removal path.now.doc (steps_of path.now) (cut_of self.now) }
+        ensures { option_map first_told result ≡
+            spec.first_removal path.now.doc (steps_of path.now) (cut_of self.now) }
     {
         let whole = self.whole();
         let seat = self.seat(path)?;

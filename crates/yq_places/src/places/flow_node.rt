@@ -50,7 +50,8 @@ impl<'t> CutText<'_, 't> {
         doc: usize,
         steps: &'s [Step],
     ) -> Result<Option<FlowHead<'s, 't>>, AllocError>
-        ensures { IfOk result (spec.TellsFlow self.now (flow_collection doc (map step_of steps.now) (cut_of self.now))) }
+        ensures { IfOk result (spec.TellsFlow self.now (flow_collection doc (map step_of steps.now)
+            (cut_of self.now))) }
     {
         let _whole = self.whole();
         let rows = self.rows();

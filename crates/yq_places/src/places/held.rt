@@ -84,7 +84,8 @@ fn space_before<'t>(row: &Row<'t>) -> &'t str
 /// What the key or dash of rows holds.
 pub(crate) fn held_in<'t>(rows: &Rows<'t>, text: Halves<'t>, at: PlacedEntry) -> Held<'t>
     requires { HasEntry (whole text) rows.now at }
-    ensures { (e : spec.PlacedEntry) → IsEntry (whole text.entry) rows.now e at → telling.held_told result ≡ spec.held e }
+    ensures { (e : spec.PlacedEntry) → IsEntry (whole text.entry) rows.now e at →
+        telling.held_told result ≡ spec.held e }
 {
     let row = rows.row(at.row);
     let (_, end) = head_place(rows, at.row);

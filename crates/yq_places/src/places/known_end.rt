@@ -26,7 +26,8 @@ fn search_row(
     requires from { IsLine rows.now document from }
     ensures later { from.row < result }
     ensures within { result ≤ document.end }
-    ensures value { spec.rows_end rows.now document floor result ≡ spec.rows_end rows.now document floor (from.row + 1) }
+    ensures value { spec.rows_end rows.now document floor result ≡
+        spec.rows_end rows.now document floor (from.row + 1) }
 {
     match known_among(rows, document, known, from, floor) {
         Some(known) => known.row,

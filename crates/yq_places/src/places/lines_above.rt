@@ -27,7 +27,8 @@ pub struct LinesAbove<'d> {
 /// The lines above a row in a column, before which, from a place on, a gap stands.
 fn above<'d>(text: Halves<'d>, start: usize, gap: &'d str, column: usize) -> LinesAbove<'d>
     requires gap { GapStands (whole text) start gap.now }
-    ensures { (h : GapStands (whole text.entry) start gap.now) → above_told result ≡ spec.gap_above h.before gap.now column h.rest }
+    ensures { (h : GapStands (whole text.entry) start gap.now) →
+        above_told result ≡ spec.gap_above h.before gap.now column h.rest }
 {
     let run = last_run(gap);
     let end = start + gap.len();
@@ -45,7 +46,8 @@ impl<'t> CutText<'_, 't> {
     /// The lines above the entry or item at a path, where its head comment stands or would stand. The
     /// root has none, nor has what stands in flow, nor what begins behind a dash.
     pub fn lines_above(&self, path: &Path) -> Option<LinesAbove<'t>>
-        ensures { option_map above_told result ≡ spec.lines_above path.now.doc (steps_of path.now) (cut_of self.now) }
+        ensures { option_map above_told result ≡
+            spec.lines_above path.now.doc (steps_of path.now) (cut_of self.now) }
     {
         let whole = self.whole();
         let seat = self.seat(path)?;

@@ -47,7 +47,8 @@ fn last_break<'t>(end: Halves<'_>) -> &'t str
 /// Lines from a place on up to another one, in bytes.
 pub(crate) fn cut_lines<'t>(text: Halves<'t>, from: usize, stop: usize) -> LinesCut<'t>
     requires { reading.CutsLines (whole text) from stop }
-    ensures { (h : reading.CutsLines (whole text.entry) from stop) → reading.lines_told result ≡ reading.lines_of h }
+    ensures { (h : reading.CutsLines (whole text.entry) from stop) →
+        reading.lines_told result ≡ reading.lines_of h }
 {
     let (before, own, behind) = cut_at(text, from, stop);
     let (lines, last) = split_break(own);

@@ -40,7 +40,8 @@ pub enum NodeAt<'t> {
 impl<'t> NodeAt<'t> {
     /// The scalar that it is, if it is one.
     fn scalar(self) -> Option<(Kind, Content<'t>)>
-        ensures { option_map spec.scalar_view result ≡ spec.told_scalar (spec.node_view self.entry) }
+        ensures { option_map spec.scalar_view result ≡
+            spec.told_scalar (spec.node_view self.entry) }
     {
         match self {
             NodeAt::Scalar(kind, text) => Some((kind, text)),
@@ -61,7 +62,8 @@ impl<'t> NodeAt<'t> {
 
 /// What an inline node is.
 fn inline_node<'t>(alloc: Global, node: &Inline<'t>) -> Result<NodeAt<'t>, AllocError>
-    ensures { IfOk result (λ n. spec.node_view n ≡ spec.node_told (placed_tree (inline.view node.now))) }
+    ensures { IfOk result (λ n. spec.node_view n ≡ spec.node_told
+        (placed_tree (inline.view node.now))) }
 {
     match &node.form {
         Form::Empty => Ok(NodeAt::Scalar(Kind::Null, Content::Slice("null"))),
@@ -108,8 +110,10 @@ fn lines_node<'t>(rows: &Rows<'_>, document: Stretch, under: Spot, floor: usize)
     requires shown { IsShown rows.now }
     requires document { HasRows rows.now document }
     requires under { IsSpot rows.now document under }
-    ensures { (h : HasRows rows.now document) → begins_with_node (part (lines_of h.rows) (line_number document h.rows under) floor) ≡ false →
-        spec.node_view result ≡ spec.node_told (value (part (lines_of h.rows) (line_number document h.rows under) floor)) }
+    ensures { (h : HasRows rows.now document) →
+        begins_with_node (part (lines_of h.rows) (line_number document h.rows under) floor) ≡
+        false → spec.node_view result ≡ spec.node_told
+        (value (part (lines_of h.rows) (line_number document h.rows under) floor)) }
 {
     if !is_deeper(rows, document, under, floor) {
         return NodeAt::Scalar(Kind::Null, Content::Slice("null"));
@@ -128,8 +132,10 @@ fn block_node<'t>(rows: &Rows<'_>, document: Stretch, place: NodePlace) -> Optio
     requires shown { IsShown rows.now }
     requires document { HasRows rows.now document }
     requires place { reading.IsPlace rows.now document place }
-    ensures { (h : HasRows rows.now document) → reading.place_line (lines_of h.rows) (reading.place_told document h.rows place) ≡ None →
-        option_map spec.node_view result ≡ reading.told_of_lines (lines_of h.rows) (reading.place_told document h.rows place) }
+    ensures { (h : HasRows rows.now document) →
+        reading.place_line (lines_of h.rows) (reading.place_told document h.rows place) ≡ None →
+        option_map spec.node_view result ≡
+        reading.told_of_lines (lines_of h.rows) (reading.place_told document h.rows place) }
 {
     match place {
         NodePlace::Head(_) => None,
@@ -183,7 +189,8 @@ impl<'t> CutText<'_, 't> {
     /// Whether the collection in which a path ends has others beside the item or entry to which it
     /// leads.
     pub fn has_others(&self, alloc: Global, path: &Path) -> Result<bool, AllocError>
-        ensures { IfOk result (λ b. b ≡ has_others_at path.now.doc (steps_of path.now) (cut_of self.now)) }
+        ensures { IfOk result (λ b. b ≡ has_others_at path.now.doc (steps_of path.now)
+            (cut_of self.now)) }
     {
         let above = path.steps.len().saturating_sub(1);
         match self.node_at(alloc, path.doc, &path.steps[..above])? {

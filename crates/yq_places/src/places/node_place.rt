@@ -28,8 +28,10 @@ fn line_place(rows: &Rows<'_>, document: Stretch, at: Spot, left: &[Step]) -> No
     requires document { HasRows rows.now document }
     requires at { IsLine rows.now document at }
     ensures within { spec.IsPlace rows.now document result }
-    ensures told { (h : HasRows rows.now document) (l : Line) → slice_get (lines_of h.rows) (line_number document h.rows at) ≡ Some l →
-        spec.place_told document h.rows result ≡ spec.line_place (line_number document h.rows at) (map step_of left.now) l }
+    ensures told { (h : HasRows rows.now document) (l : Line) →
+        slice_get (lines_of h.rows) (line_number document h.rows at) ≡ Some l →
+        spec.place_told document h.rows result ≡
+        spec.line_place (line_number document h.rows at) (map step_of left.now) l }
 {
     if !left.is_empty() {
         return NodePlace::Head(at);

@@ -38,8 +38,10 @@ fn entry_along(
     requires shown { IsShown rows.now }
     requires document { HasDocument rows.now document }
     requires known { AreKnown rows.now.rows known }
-    ensures { (h : HasDocument rows.now document) → option_map reading.told result ≡
-        option_map (reading.seat_numbers document.first h.stand.rows) (seat_of (map step_of steps.now) h.stand.rows) }
+    ensures { (h : HasDocument rows.now document) →
+        option_map reading.told result ≡
+        option_map (reading.seat_numbers document.first h.stand.rows)
+        (seat_of (map step_of steps.now) h.stand.rows) }
 {
     let at = line_at(rows, document, known, steps)?;
     let level = level_at(rows, at);

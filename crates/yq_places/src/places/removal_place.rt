@@ -88,8 +88,10 @@ fn own_rows(
     requires shown { IsShown rows.now }
     requires document { HasDocument rows.now document }
     requires known { AreKnown rows.now.rows known }
-    ensures { (h : HasDocument rows.now document) → option_map (λ m. (m.0, m.1, m.2)) result ≡
-        option_map (reading.marks document.first) (spec.own_rows (map step_of steps.now) h.stand.rows) }
+    ensures { (h : HasDocument rows.now document) →
+        option_map (λ m. (m.0, m.1, m.2)) result ≡
+        option_map (reading.marks document.first)
+        (spec.own_rows (map step_of steps.now) h.stand.rows) }
 {
     let at = line_at(rows, document, known, steps)?;
     if at.line != 0 {
@@ -119,8 +121,9 @@ fn gap_before<'t>(rows: &Rows<'t>, i: usize) -> (&'t str, usize)
 fn block_before(rows: &Rows<'_>, first: usize, at: usize) -> Option<(bool, usize)>
     requires order { first ≤ at }
     requires within { at < length rows.now.rows }
-    ensures { (t : List ℕ) (c : Cut) → IsCut t c → rows.now ≡ shown c → (p : Part) (more : List RowOf) → drop first (rows_of c) ≡
-        p.rows ++ more → at - first ≤ length p.rows → option_map (λ b. (b.0, b.1)) result ≡
+    ensures { (t : List ℕ) (c : Cut) → IsCut t c → rows.now ≡ shown c → (p : Part)
+        (more : List RowOf) → drop first (rows_of c) ≡ p.rows ++ more → at - first ≤ length p.rows →
+        option_map (λ b. (b.0, b.1)) result ≡
         option_map block_numbers (last_block (take (at - first) p.rows)) }
 {
     if at == first {
@@ -176,7 +179,8 @@ impl<'t> CutText<'_, 't> {
     /// Where the rows of the item or entry at a path begin and end, behind where those of its document
     /// begin.
     fn own(&self, path: &Path) -> Option<(usize, usize, usize)>
-        ensures { option_map (λ m. (m.0, m.1, m.2)) result ≡ reading.marks_at path.now.doc (steps_of path.now) (cut_of self.now) }
+        ensures { option_map (λ m. (m.0, m.1, m.2)) result ≡
+            reading.marks_at path.now.doc (steps_of path.now) (cut_of self.now) }
     {
         let document = self.stretch(path.doc)?;
         let _whole = self.whole();
@@ -187,7 +191,8 @@ impl<'t> CutText<'_, 't> {
     /// it, and its rows, less the gap before the first one. None, where its line is not the first one of
     /// a row, as in flow, or behind another dash.
     pub fn removal(&self, path: &Path) -> Option<Removal<'t>>
-        ensures { option_map reading.removal_told result ≡ spec.removal_place path.now.doc (steps_of path.now) (cut_of self.now) }
+        ensures { option_map reading.removal_told result ≡
+            spec.removal_place path.now.doc (steps_of path.now) (cut_of self.now) }
     {
         let whole = self.whole();
         let marks = self.own(path)?;

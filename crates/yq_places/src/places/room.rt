@@ -9,7 +9,8 @@ use yq_documents::{Part, Path};
 
 /// Whether a line has room for a comment.
 fn line_has_room(seat: Seat, part: Part) -> bool
-    ensures { (k : ℕ) (s : spec.Seat) → told seat ≡ numbers k s → result ≡ spec.line_has_room part s }
+    ensures { (k : ℕ) (s : spec.Seat) → told seat ≡ numbers k s →
+        result ≡ spec.line_has_room part s }
 {
     match part {
         Part::Content => false,

@@ -89,7 +89,8 @@ impl<'t> CutText<'_, 't> {
 
     /// The text of document `doc`, if it has no rows.
     fn no_rows(&self, doc: usize) -> Option<NoRows<'t>>
-        ensures { option_map telling.no_rows_told result ≡ reading.unwritten_place doc (cut_of self.now) }
+        ensures { option_map telling.no_rows_told result ≡
+            reading.unwritten_place doc (cut_of self.now) }
     {
         let whole = self.whole();
         let end = self.unwritten_end(doc)?;
@@ -99,7 +100,8 @@ impl<'t> CutText<'_, 't> {
 
     /// What stands at the root of document `doc`.
     pub(crate) fn root_standing(&self, doc: usize) -> Option<Standing<'t>>
-        ensures { option_map telling.standing_told result ≡ spec.standing_at doc [] (cut_of self.now) }
+        ensures { option_map telling.standing_told result ≡
+            spec.standing_at doc [] (cut_of self.now) }
     {
         match self.no_rows(doc) {
             Some(place) => Some(Standing::NoRows(place)),

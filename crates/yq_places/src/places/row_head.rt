@@ -42,7 +42,8 @@ impl<'t> CutText<'_, 't> {
     /// The head of row `i`, in which keys are fit.
     pub(crate) fn row_head(&self, alloc: Global, i: usize) -> Result<RowHead<'t>, AllocError>
         requires within { i < length (rows_of (cut_of self.now)) }
-        requires fit { (r : RowOf) → slice_get (rows_of (cut_of self.now)) i ≡ Some r → content_is_fit r.content ≡ true }
+        requires fit { (r : RowOf) → slice_get (rows_of (cut_of self.now)) i ≡ Some r →
+            content_is_fit r.content ≡ true }
         ensures { (r : RowOf) → slice_get (rows_of (cut_of self.now)) i ≡ Some r →
             IfOk result (IsRowHead i r (cut_of self.now)) }
     {

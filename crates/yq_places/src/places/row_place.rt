@@ -32,7 +32,8 @@ pub(crate) fn line_start(rows: &Rows<'_>, spot: Spot) -> usize
 pub(crate) fn row_stop(rows: &Rows<'_>, i: usize) -> usize
     requires within { i < length rows.now.rows }
     requires shown { IsShown rows.now }
-    ensures { (x : Slices) → slice_get rows.now.rows i ≡ Some x → result ≡ extents.row_start i rows.now + row_length x }
+    ensures { (x : Slices) → slice_get rows.now.rows i ≡ Some x →
+        result ≡ extents.row_start i rows.now + row_length x }
 {
     row_start(rows, i) + row_len(&rows.row(i))
 }

@@ -34,7 +34,8 @@ fn begins_under(above: usize, level: usize, dashes: bool) -> bool
 fn first_step(rows: &Rows<'_>, document: Stretch, dashes: bool) -> usize
     requires shown { IsShown rows.now }
     requires document { HasRows rows.now document }
-    ensures { (h : HasRows rows.now document) → result ≡ spec.first_step (spec.is_kind dashes) (lines_of h.rows) }
+    ensures { (h : HasRows rows.now document) →
+        result ≡ spec.first_step (spec.is_kind dashes) (lines_of h.rows) }
 {
     let mut above = 0;
     'rows: for at in document.first..document.end {

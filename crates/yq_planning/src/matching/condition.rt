@@ -20,7 +20,8 @@ use yq_scalar::{Kind, Scalar, int_value, is_true_word};
 /// Whether two ints are the same: by their numbers, where both have one in 64
 /// bits, and else by their texts.
 fn same_int(one: &str, other: &str) -> bool
-    ensures { result ≡ spec.same_int (numbers.int_value one.now) (numbers.int_value other.now) one.now other.now }
+    ensures { result ≡ spec.same_int (numbers.int_value one.now)
+        (numbers.int_value other.now) one.now other.now }
 {
     match (int_value(one), int_value(other)) {
         (Some(m), Some(n)) => m == n,
@@ -53,7 +54,8 @@ fn same_scalar(kind: Kind, text: &str, scalar: &Scalar) -> bool
 
 /// Whether a node is that scalar.
 fn node_is(node: Node<'_, '_>, scalar: &Scalar) -> Result<bool, MatchError>
-    ensures { Matches (λ b. b) result (spec.is_scalar scalar.now.kind scalar.now.text (node_of node.entry)) }
+    ensures { Matches (λ b. b) result (spec.is_scalar scalar.now.kind scalar.now.text
+        (node_of node.entry)) }
 {
     match node.kind() {
         NodeKind::Alias => Err(MatchError::Refused(Refusal::ThroughAlias)),
@@ -64,7 +66,8 @@ fn node_is(node: Node<'_, '_>, scalar: &Scalar) -> Result<bool, MatchError>
 
 /// Whether the value at a place is that scalar: null where a step is missing.
 fn place_is(place: Place<'_, '_>, scalar: &Scalar) -> Result<bool, MatchError>
-    ensures { Matches (λ b. b) result (spec.is_scalar scalar.now.kind scalar.now.text (spec.value_of (place_of place.entry))) }
+    ensures { Matches (λ b. b) result (spec.is_scalar scalar.now.kind scalar.now.text
+        (spec.value_of (place_of place.entry))) }
 {
     match place.found() {
         Some(node) => node_is(node, scalar),
@@ -74,7 +77,8 @@ fn place_is(place: Place<'_, '_>, scalar: &Scalar) -> Result<bool, MatchError>
 
 /// Whether the value at the first of places is that scalar.
 fn first_is(places: &[Place<'_, '_>], scalar: &Scalar) -> Result<bool, MatchError>
-    ensures { Matches (λ b. b) result (spec.first_is scalar.now.kind scalar.now.text (places_of places.now)) }
+    ensures { Matches (λ b. b) result (spec.first_is scalar.now.kind scalar.now.text
+        (places_of places.now)) }
 {
     match places {
         [] => Ok(false),
@@ -90,7 +94,8 @@ fn value_is<'a, 't>(
     scalar: &Scalar,
     place: Place<'a, 't>,
 ) -> Result<bool, MatchError>
-    ensures { Matches (λ b. b) result (spec.operand_is 0 (value_at (map step_of steps.now)) scalar.now.kind scalar.now.text (place_of place.entry)) }
+    ensures { Matches (λ b. b) result (spec.operand_is 0 (value_at (map step_of steps.now))
+        scalar.now.kind scalar.now.text (place_of place.entry)) }
 {
     let mut start = Vec::with_capacity(alloc, 1)?;
     start.push(place)?;
@@ -107,7 +112,8 @@ fn operand_is<'a, 't>(
     scalar: &Scalar,
     place: Place<'a, 't>,
 ) -> Result<bool, MatchError>
-    ensures { Matches (λ b. b) result (spec.operand_is doc (operand_of operand.now) scalar.now.kind scalar.now.text (place_of place.entry)) }
+    ensures { Matches (λ b. b) result (spec.operand_is doc (operand_of operand.now) scalar.now.kind
+        scalar.now.text (place_of place.entry)) }
 {
     match operand {
         Operand::Path(steps) => value_is(alloc, bump, steps, scalar, place),
@@ -147,7 +153,8 @@ pub(crate) fn holds<'a, 't>(
     condition: &'a Condition,
     place: Place<'a, 't>,
 ) -> Result<bool, MatchError>
-    ensures { Matches (λ b. b) result (spec.holds doc (condition_of condition.now) (place_of place.entry)) }
+    ensures { Matches (λ b. b) result (spec.holds doc (condition_of condition.now)
+        (place_of place.entry)) }
 {
     match condition {
         Condition::Compare(comparison) => {

@@ -58,7 +58,8 @@ pub(crate) fn copy(alloc: Global, node: Node<'_, '_>) -> Result<Value, MatchErro
 #[cycle(copy)]
 fn item_copies(alloc: Global, node: Node<'_, '_>) -> Result<Vec<Value>, MatchError>
     requires { EachHasScalars (children_of (node_of node)) }
-    ensures { Matches (λ v. map value_node v.items) result (spec.item_copies (children_of (node_of node.entry))) }
+    ensures { Matches (λ v. map value_node v.items) result
+        (spec.item_copies (children_of (node_of node.entry))) }
 {
     let mut copies = Vec::new(alloc);
     let mut items = node.children();
@@ -72,7 +73,8 @@ fn item_copies(alloc: Global, node: Node<'_, '_>) -> Result<Vec<Value>, MatchErr
 #[cycle(copy)]
 fn entry_copies(alloc: Global, node: Node<'_, '_>) -> Result<Vec<(String, Value)>, MatchError>
     requires { EachHasScalars (children_of (node_of node)) }
-    ensures { Matches (λ v. map field_of v.items) result (spec.entry_copies (children_of (node_of node.entry))) }
+    ensures { Matches (λ v. map field_of v.items) result
+        (spec.entry_copies (children_of (node_of node.entry))) }
 {
     let mut copies = Vec::new(alloc);
     let mut entries = node.children();

@@ -24,7 +24,9 @@ fn push_kept<'a, 't>(
     place: Place<'a, 't>,
     places: &mut Vec<Place<'a, 't>>,
 ) -> Result<(), MatchError>
-    ensures { Matches (λ _. places_of places.new.items) result (put_behind (places_of places.old.items) (spec.select_on doc (condition_of condition.now) (place_of place.entry))) }
+    ensures { Matches (λ _. places_of places.new.items) result
+        (put_behind (places_of places.old.items)
+        (spec.select_on doc (condition_of condition.now) (place_of place.entry))) }
 {
     let bump = Bump::new(alloc);
     if holds(alloc, &bump, doc, condition, place)? {
@@ -40,7 +42,8 @@ fn select_each<'a, 't>(
     condition: &'a Condition,
     places: &[Place<'a, 't>],
 ) -> Result<Vec<Place<'a, 't>>, MatchError>
-    ensures { Matches (λ v. places_of v.items) result (for_each (spec.select_on doc (condition_of condition.now)) (places_of places.now)) }
+    ensures { Matches (λ v. places_of v.items) result
+        (for_each (spec.select_on doc (condition_of condition.now)) (places_of places.now)) }
 {
     let mut kept = Vec::new(alloc);
     'places: for place in places {
@@ -57,7 +60,8 @@ fn stage_on<'a, 't>(
     stage: &'a Stage,
     places: Vec<Place<'a, 't>>,
 ) -> Result<Vec<Place<'a, 't>>, MatchError>
-    ensures { Matches (λ v. places_of v.items) result (spec.stage_on doc (stage_of stage.now) (places_of places.entry.items)) }
+    ensures { Matches (λ v. places_of v.items) result
+        (spec.stage_on doc (stage_of stage.now) (places_of places.entry.items)) }
 {
     match stage {
         Stage::Path(steps) => walk(alloc, bump, steps, places),
@@ -73,7 +77,8 @@ pub(crate) fn pipe_on<'a, 't>(
     pipe: &'a [Stage],
     start: Vec<Place<'a, 't>>,
 ) -> Result<Vec<Place<'a, 't>>, MatchError>
-    ensures { Matches (λ v. places_of v.items) result (spec.pipe_on doc (map stage_of pipe.now) (places_of start.entry.items)) }
+    ensures { Matches (λ v. places_of v.items) result
+        (spec.pipe_on doc (map stage_of pipe.now) (places_of start.entry.items)) }
 {
     let mut places = start;
     'stages: for stage in pipe {
@@ -90,7 +95,8 @@ pub fn find<'a, 't>(
     pipe: &'a [Stage],
     root: Node<'a, 't>,
 ) -> Result<Vec<Place<'a, 't>>, MatchError>
-    ensures { Matches (λ v. places_of v.items) result (spec.places doc (map stage_of pipe.now) (node_of root.entry)) }
+    ensures { Matches (λ v. places_of v.items) result
+        (spec.places doc (map stage_of pipe.now) (node_of root.entry)) }
 {
     let mut start = Vec::with_capacity(alloc, 1)?;
     start.push(Place::of_root(root))?;

@@ -90,7 +90,8 @@ impl<'a, 't> Place<'a, 't> {
         step: NodeStep<'a>,
         node: Node<'a, 't>,
     ) -> Result<Place<'a, 't>, AllocError>
-        ensures { IfOk result (λ p. place_of p ≡ spec.child_place (place_of self.entry) (node_step_of step.entry, node_of node.entry)) }
+        ensures { IfOk result (λ p. place_of p ≡ spec.child_place (place_of self.entry)
+            (node_step_of step.entry, node_of node.entry)) }
     {
         let path = bump.try_alloc(self.path)?;
         Ok(Place::below(path, step, node))
@@ -98,7 +99,8 @@ impl<'a, 't> Place<'a, 't> {
 
     /// The place from which one more step is missing.
     pub(crate) fn further(self, bump: &'a Bump, step: &'a Step) -> Result<Place<'a, 't>, AllocError>
-        ensures { IfOk result (λ p. place_of p ≡ spec.further_place (step_of step.now) (place_of self.entry)) }
+        ensures { IfOk result (λ p. place_of p ≡ spec.further_place (step_of step.now)
+            (place_of self.entry)) }
     {
         let front = bump.try_alloc(self.missing)?;
         Ok(Place {

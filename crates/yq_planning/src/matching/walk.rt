@@ -26,7 +26,8 @@ fn push_missing<'a, 't>(
     place: Place<'a, 't>,
     places: &mut Vec<Place<'a, 't>>,
 ) -> Result<(), AllocError>
-    ensures { OnOk result (places_of places.new.items ≡ places_of places.old.items ++ spec.miss (step_of step.now) (place_of place.entry)) }
+    ensures { OnOk result (places_of places.new.items ≡ places_of places.old.items ++
+        spec.miss (step_of step.now) (place_of place.entry)) }
 {
     match step {
         Step::Key(_) | Step::Index(_) => {
@@ -99,7 +100,8 @@ fn push_all<'a, 't>(
     place: Place<'a, 't>,
     places: &mut Vec<Place<'a, 't>>,
 ) -> Result<(), MatchError>
-    ensures { Matches (λ _. places_of places.new.items) result (put_behind (places_of places.old.items) (spec.step_there each (place_of place.entry))) }
+    ensures { Matches (λ _. places_of places.new.items) result
+        (put_behind (places_of places.old.items) (spec.step_there each (place_of place.entry))) }
 {
     match place.node.kind() {
         NodeKind::Alias => Err(MatchError::Refused(Refusal::ThroughAlias)),
@@ -117,7 +119,9 @@ fn push_step<'a, 't>(
     place: Place<'a, 't>,
     places: &mut Vec<Place<'a, 't>>,
 ) -> Result<(), MatchError>
-    ensures { Matches (λ _. places_of places.new.items) result (put_behind (places_of places.old.items) (spec.step_on (step_of step.now) (place_of place.entry))) }
+    ensures { Matches (λ _. places_of places.new.items) result
+        (put_behind (places_of places.old.items)
+        (spec.step_on (step_of step.now) (place_of place.entry))) }
 {
     if let Missing::Further(..) = place.missing {
         return Ok(push_missing(bump, step, place, places)?);
@@ -142,7 +146,8 @@ fn step_each<'a, 't>(
     step: &'a Step,
     places: &[Place<'a, 't>],
 ) -> Result<Vec<Place<'a, 't>>, MatchError>
-    ensures { Matches (λ v. places_of v.items) result (spec.for_each (spec.step_on (step_of step.now)) (places_of places.now)) }
+    ensures { Matches (λ v. places_of v.items) result
+        (spec.for_each (spec.step_on (step_of step.now)) (places_of places.now)) }
 {
     let mut next = Vec::new(alloc);
     'places: for place in places {
@@ -158,7 +163,8 @@ pub(crate) fn walk<'a, 't>(
     steps: &'a [Step],
     start: Vec<Place<'a, 't>>,
 ) -> Result<Vec<Place<'a, 't>>, MatchError>
-    ensures { Matches (λ v. places_of v.items) result (spec.walk (map step_of steps.now) (places_of start.entry.items)) }
+    ensures { Matches (λ v. places_of v.items) result
+        (spec.walk (map step_of steps.now) (places_of start.entry.items)) }
 {
     let mut places = start;
     'steps: for step in steps {

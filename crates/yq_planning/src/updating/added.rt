@@ -22,7 +22,8 @@ use yq_scalar::Kind;
 /// A value that is added to a scalar.
 fn to_scalar(alloc: Global, kind: Kind, text: &str, value: &Value) -> Result<Change, MatchError>
     requires { values.is_null (value_node value.now) ≡ false }
-    ensures { Matches change_of result (spec.added (scalar None kind text.now) (value_node value.now)) }
+    ensures { Matches change_of result (spec.added (scalar None kind text.now)
+        (value_node value.now)) }
 {
     match (kind, value) {
         (Kind::Null, _) => Ok(Change::Replaces(copied(alloc, value)?)),
@@ -40,7 +41,8 @@ fn item(alloc: Global, value: &Value) -> Result<Addition, AllocError>
 
 /// The items of a list.
 fn items(alloc: Global, values: &Vec<Value>) -> Result<Vec<Addition>, AllocError>
-    ensures { IfOk result (λ v. map addition_of v.items ≡ spec.additions none (items_of values.now.items)) }
+    ensures { IfOk result (λ v. map addition_of v.items ≡
+        spec.additions none (items_of values.now.items)) }
 {
     let mut additions = Vec::new(alloc);
     'values: for value in values {
@@ -51,7 +53,8 @@ fn items(alloc: Global, values: &Vec<Value>) -> Result<Vec<Addition>, AllocError
 
 /// The items that a list gets from a value.
 fn to_list(alloc: Global, value: &Value) -> Result<Vec<Addition>, AllocError>
-    ensures { IfOk result (λ v. map addition_of v.items ≡ spec.additions none (values.as_items (value_node value.now))) }
+    ensures { IfOk result (λ v. map addition_of v.items ≡
+        spec.additions none (values.as_items (value_node value.now))) }
 {
     if let Value::List(values) = value {
         return items(alloc, values);
@@ -98,7 +101,8 @@ fn entries(
 
 /// The entries of a value for a mapping.
 fn to_map(alloc: Global, node: Node<'_, '_>, value: &Value) -> Result<Change, MatchError>
-    ensures { Matches change_of result (spec.added_entries (children_of (node_of node.entry)) (value_node value.now)) }
+    ensures { Matches change_of result (spec.added_entries (children_of (node_of node.entry))
+        (value_node value.now)) }
 {
     let Value::Map(others) = value else {
         return Err(MatchError::Refused(Refusal::KindMismatch));

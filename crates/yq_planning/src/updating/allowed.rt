@@ -87,7 +87,8 @@ pub fn allow(
 ) -> Result<(), MatchError>
     ensures { (root : TreeNode) (x : List TreeStep) → HasAliases (names_of root) aliases.now →
         node_at x root ≡ Some (node_of node.entry) → length x ≡ outer →
-        Matches (λ _. (x, change_of change.now)) result (spec.allowed root (x, change_of change.now)) }
+        Matches (λ _. (x, change_of change.now)) result
+        (spec.allowed root (x, change_of change.now)) }
 {
     if is_too_long(alloc, change)? {
         return Err(MatchError::Refused(Refusal::KeyTooLong));

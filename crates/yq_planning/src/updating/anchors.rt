@@ -60,7 +60,8 @@ pub fn aliases_of<'d>(alloc: Global, node: Node<'d, '_>) -> Result<Aliases<'d>, 
 
 /// Whether a node's own anchor is named by an alias.
 fn is_named(aliases: &Aliases<'_>, node: Node<'_, '_>) -> bool
-    ensures { (names : List Name) → HasAliases names aliases.now → result ≡ is_used_anchor names (anchor_of (node_of node.entry)) }
+    ensures { (names : List Name) → HasAliases names aliases.now →
+        result ≡ is_used_anchor names (anchor_of (node_of node.entry)) }
 {
     match node.anchor() {
         Some(name) => aliases.contains_key(name),
@@ -71,7 +72,8 @@ fn is_named(aliases: &Aliases<'_>, node: Node<'_, '_>) -> bool
 /// Whether some anchor in a node is named by an alias.
 #[cycle(used)]
 pub(crate) fn is_used_in(aliases: &Aliases<'_>, node: Node<'_, '_>) -> bool
-    ensures { (names : List Name) → HasAliases names aliases.now → result ≡ list_any (spec.is_used names) (names_of (node_of node.entry)) }
+    ensures { (names : List Name) → HasAliases names aliases.now →
+        result ≡ list_any (spec.is_used names) (names_of (node_of node.entry)) }
 {
     is_named(aliases, node) || is_used_inside(aliases, node)
 }

@@ -12,7 +12,8 @@ use yq_inline::Value;
 
 /// Whether a key or one in a value is too long.
 fn is_long_entry(alloc: Global, key: &str, value: &Value) -> Result<bool, AllocError>
-    ensures { IfOk result (λ b. b ≡ (spec.is_long (Some key.now) || spec.has_long_key (node_of value.now))) }
+    ensures { IfOk result (λ b. b ≡ (spec.is_long (Some key.now) || spec.has_long_key
+        (node_of value.now))) }
 {
     if is_long_key(alloc, key)? {
         return Ok(true);
@@ -33,7 +34,8 @@ fn writes_long_key(alloc: Global, addition: &Addition) -> Result<bool, AllocErro
 
 /// The same of some addition.
 fn some_writes_long_key(alloc: Global, additions: &[Addition]) -> Result<bool, AllocError>
-    ensures { IfOk result (λ b. b ≡ list_any (λ a. spec.writes_long_key (addition_of a)) additions.now) }
+    ensures { IfOk result (λ b. b ≡ list_any (λ a. spec.writes_long_key (addition_of a))
+        additions.now) }
 {
     'each: for addition in additions {
         if writes_long_key(alloc, addition)? {
@@ -68,7 +70,8 @@ fn adds_too_deep(outer: usize, addition: &Addition) -> bool
 
 /// The same of some addition.
 fn some_adds_too_deep(outer: usize, additions: &[Addition]) -> bool
-    ensures { result ≡ list_any (λ a. spec.is_deep (suc outer) (spec.value_in (addition_of a))) additions.now }
+    ensures { result ≡ list_any (λ a. spec.is_deep (suc outer) (spec.value_in (addition_of a)))
+        additions.now }
 {
     'each: for addition in additions {
         if adds_too_deep(outer, addition) {

@@ -44,7 +44,8 @@ pub(crate) fn index_of<'d, 't>(
 
 /// The value of the entry of a key.
 pub fn find<'d, 't>(index: &EntryIndex<'d, 't>, key: &str) -> Option<Node<'d, 't>>
-    ensures { (cs : Children) → IsIndex cs index.now → option_map node_of result ≡ child_at (To key.now) cs }
+    ensures { (cs : Children) → IsIndex cs index.now →
+        option_map node_of result ≡ child_at (To key.now) cs }
 {
     index.get(key).copied()
 }

@@ -18,7 +18,8 @@ pub(crate) fn keep_number(
     key: &str,
     number: usize,
 ) -> Result<(), AllocError>
-    ensures { OnOk result ((k : List ℕ) → get_by_text numbers.new k ≡ number_kept k (get_by_text numbers.old k) key.now number) }
+    ensures { OnOk result ((k : List ℕ) → get_by_text numbers.new k ≡
+        number_kept k (get_by_text numbers.old k) key.now number) }
 {
     if !numbers.contains_key(key) {
         let owned = String::from_str(alloc, key)?;

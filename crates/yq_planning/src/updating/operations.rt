@@ -14,7 +14,8 @@ use yq_program::CommentPlace;
 
 /// The operation of an addition at a path.
 fn add_op(alloc: Global, path: &Path, addition: Addition) -> Result<Op, AllocError>
-    ensures { IfOk result (λ op. operation_of op ≡ spec.add_op path.now.doc (steps_of path.now) (addition_of addition)) }
+    ensures { IfOk result (λ op. operation_of op ≡ spec.add_op path.now.doc (steps_of path.now)
+        (addition_of addition)) }
 {
     let doc = path.doc;
     let mut steps = copied_steps(alloc, &path.steps)?;
@@ -46,7 +47,8 @@ fn push_adds(
 
 /// The operation that sets a comment.
 fn comment_op(path: Path, place: CommentPlace, text: String) -> Op
-    ensures { operation_of result ≡ spec.comment_op path.doc (steps_of path) place (string_bytes text) }
+    ensures { operation_of result ≡ spec.comment_op path.doc (steps_of path) place
+        (string_bytes text) }
 {
     match place {
         CommentPlace::Line => Op::LineComment(path, text),
@@ -61,7 +63,8 @@ fn push_change(
     changed: Changed,
     ops: &mut Vec<Op>,
 ) -> Result<(), AllocError>
-    ensures { OnOk result (operations_of ops.new.items ≡ operations_of ops.old.items ++ spec.change_ops doc (changed_of changed)) }
+    ensures { OnOk result (operations_of ops.new.items ≡
+        operations_of ops.old.items ++ spec.change_ops doc (changed_of changed)) }
 {
     let path = Path {
         doc,
@@ -96,7 +99,8 @@ fn push_changes(
     changes: Vec<Changed>,
     ops: &mut Vec<Op>,
 ) -> Result<(), AllocError>
-    ensures { OnOk result (operations_of ops.new.items ≡ operations_of ops.old.items ++ spec.ops_of doc (map changed_of changes.items)) }
+    ensures { OnOk result (operations_of ops.new.items ≡
+        operations_of ops.old.items ++ spec.ops_of doc (map changed_of changes.items)) }
 {
     'each: for changed in changes {
         push_change(alloc, doc, changed, ops)?;
@@ -110,7 +114,8 @@ pub fn operations(
     removal: bool,
     changes: Vec<Vec<Changed>>,
 ) -> Result<Vec<Op>, AllocError>
-    ensures { IfOk result (λ v. operations_of v.items ≡ spec.all_ops removal 0 (all_changed_of changes.items)) }
+    ensures { IfOk result (λ v. operations_of v.items ≡ spec.all_ops removal 0
+        (all_changed_of changes.items)) }
 {
     let mut ops = Vec::new(alloc);
     let mut doc = 0;

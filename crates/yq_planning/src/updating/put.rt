@@ -31,7 +31,8 @@ fn has_index(steps: &[&Step]) -> bool
 
 /// The mapping of one entry.
 fn single(alloc: Global, key: &str, value: Value) -> Result<Value, AllocError>
-    ensures { IfOk result (λ v. value_node v ≡ tree.map None (tree.child (new_label (Some key.now)) (value_node value) tree.none)) }
+    ensures { IfOk result (λ v. value_node v ≡ tree.map None
+        (tree.child (new_label (Some key.now)) (value_node value) tree.none)) }
 {
     let key = String::from_str(alloc, key)?;
     let mut entries = Vec::with_capacity(alloc, 1)?;
@@ -41,7 +42,8 @@ fn single(alloc: Global, key: &str, value: Value) -> Result<Value, AllocError>
 
 /// A value under one key more.
 fn under(alloc: Global, step: &Step, value: Value) -> Result<Value, AllocError>
-    ensures { IfOk result (λ v. value_node v ≡ spec.nested (step_of step.now ∷ []) (value_node value)) }
+    ensures { IfOk result (λ v. value_node v ≡ spec.nested (step_of step.now ∷ [])
+        (value_node value)) }
 {
     match step {
         Step::Key(key) => single(alloc, key.as_str(), value),
@@ -51,7 +53,8 @@ fn under(alloc: Global, step: &Step, value: Value) -> Result<Value, AllocError>
 
 /// A value under keys, a mapping of one entry for each.
 fn nested(alloc: Global, steps: &[&Step], value: Value) -> Result<Value, AllocError>
-    ensures { IfOk result (λ v. value_node v ≡ spec.nested (map (λ s. step_of s.now) steps.now) (value_node value)) }
+    ensures { IfOk result (λ v. value_node v ≡ spec.nested (map (λ s. step_of s.now) steps.now)
+        (value_node value)) }
 {
     let mut nested = value;
     let mut rest = steps;
@@ -64,7 +67,8 @@ fn nested(alloc: Global, steps: &[&Step], value: Value) -> Result<Value, AllocEr
 
 /// One entry more, of a step's key.
 fn appended(alloc: Global, step: &Step, value: Value) -> Result<Change, AllocError>
-    ensures { IfOk result (λ c. change_of c ≡ spec.adds (spec.appends (spec.step_key (step_of step.now)) (value_node value) ∷ [])) }
+    ensures { IfOk result (λ c. change_of c ≡ spec.adds (spec.appends
+        (spec.step_key (step_of step.now)) (value_node value) ∷ [])) }
 {
     let key = match step {
         Step::Key(key) => Some(String::from_str(alloc, key.as_str())?),
@@ -103,7 +107,8 @@ fn put_below(
     missing: &[&Step],
     value: Value,
 ) -> Result<Change, MatchError>
-    ensures { Matches change_of result (spec.put_below (node_of node.entry) (map (λ s. step_of s.now) missing.now) (value_node value)) }
+    ensures { Matches change_of result (spec.put_below (node_of node.entry)
+        (map (λ s. step_of s.now) missing.now) (value_node value)) }
 {
     let [first, others @ ..] = missing else {
         return Ok(Change::Replaces(value));
@@ -116,7 +121,8 @@ fn put_below(
 
 /// What a value changes that is put at a place.
 pub fn put(alloc: Global, place: Place<'_, '_>, value: Value) -> Result<Change, MatchError>
-    ensures { Matches (placed_change (place_of place.entry)) result (spec.put_at (place_of place.entry) (value_node value)) }
+    ensures { Matches (placed_change (place_of place.entry)) result
+        (spec.put_at (place_of place.entry) (value_node value)) }
 {
     let missing = missing_steps(alloc, place.missing)?;
     put_below(alloc, place.node, &missing, value)

@@ -40,7 +40,8 @@ fn found_value<'a, 't>(
     place: Place<'a, 't>,
 ) -> Result<Value, MatchError>
     requires { HasScalars (place_of place).node }
-    ensures { Matches node_of result (and_then spec.only_copy (pipe_on doc (map stage_of pipe.now) (place_of place.entry ∷ []))) }
+    ensures { Matches node_of result (and_then spec.only_copy
+        (pipe_on doc (map stage_of pipe.now) (place_of place.entry ∷ []))) }
 {
     let bump = Bump::new(alloc);
     let mut start = Vec::with_capacity(alloc, 1)?;
@@ -74,7 +75,8 @@ fn with_term<'a, 't>(
     place: Place<'a, 't>,
 ) -> Result<Value, MatchError>
     requires { HasScalars (place_of place).node }
-    ensures { Matches node_of result (and_then (spec.sum (node_of total)) (spec.term_value doc (place_of place.entry) (term_of term.now))) }
+    ensures { Matches node_of result (and_then (spec.sum (node_of total))
+        (spec.term_value doc (place_of place.entry) (term_of term.now))) }
 {
     let value = term_value(alloc, doc, term, place)?;
     sum(alloc, total, value)
@@ -107,7 +109,8 @@ pub fn right_value<'a, 't>(
     place: Place<'a, 't>,
 ) -> Result<Value, MatchError>
     requires { HasScalars (place_of place).node }
-    ensures { Matches node_of result (spec.right_value doc (map term_of terms.now) (place_of place.entry)) }
+    ensures { Matches node_of result (spec.right_value doc (map term_of terms.now)
+        (place_of place.entry)) }
 {
     let [term, others @ ..] = terms else {
         return Ok(Value::Scalar(Scalar::null(alloc)?));

@@ -26,7 +26,8 @@ fn int(alloc: Global, number: i64) -> Result<Value, AllocError>
 
 /// The sum of two ints.
 fn int_sum(alloc: Global, one: &str, other: &str) -> Result<Value, MatchError>
-    ensures { Matches node_of result (spec.int_sum (numbers.int_value one.now) (numbers.int_value other.now)) }
+    ensures { Matches node_of result (spec.int_sum (numbers.int_value one.now)
+        (numbers.int_value other.now)) }
 {
     let (Some(m), Some(n)) = (int_value(one), int_value(other)) else {
         return Err(MatchError::Refused(Refusal::IntegerRange));
@@ -78,7 +79,8 @@ pub fn is_null(value: &Value) -> bool
 /// Puts what a list gets from a value behind its items: the items of a list,
 /// or the value as one item.
 fn push_items(items: &mut Vec<Value>, value: Value) -> Result<(), AllocError>
-    ensures { OnOk result (items_of items.new.items ≡ append_children (items_of items.old.items) (spec.as_items (node_of value))) }
+    ensures { OnOk result (items_of items.new.items ≡ append_children (items_of items.old.items)
+        (spec.as_items (node_of value))) }
 {
     match value {
         Value::List(others) => push_all(items, others),
@@ -89,7 +91,8 @@ fn push_items(items: &mut Vec<Value>, value: Value) -> Result<(), AllocError>
 
 /// Puts items behind others.
 fn push_all(items: &mut Vec<Value>, others: Vec<Value>) -> Result<(), AllocError>
-    ensures { OnOk result (items_of items.new.items ≡ append_children (items_of items.old.items) (items_of others.items)) }
+    ensures { OnOk result (items_of items.new.items ≡ append_children (items_of items.old.items)
+        (items_of others.items)) }
 {
     'each: for other in others {
         items.push(other)?;
@@ -130,7 +133,8 @@ fn put_entries(
     entries: &mut Vec<(String, Value)>,
     others: Vec<(String, Value)>,
 ) -> Result<(), AllocError>
-    ensures { OnOk result (entries_of entries.new.items ≡ spec.with_entries (entries_of entries.old.items) (entries_of others.items)) }
+    ensures { OnOk result (entries_of entries.new.items ≡
+        spec.with_entries (entries_of entries.old.items) (entries_of others.items)) }
 {
     let mut numbers = numbers_of(alloc, entries)?;
     'each: for (key, value) in others {
@@ -145,7 +149,8 @@ fn joined(
     entries: Vec<(String, Value)>,
     others: Vec<(String, Value)>,
 ) -> Result<Vec<(String, Value)>, AllocError>
-    ensures { IfOk result (λ v. entries_of v.items ≡ spec.with_entries (entries_of entries.items) (entries_of others.items)) }
+    ensures { IfOk result (λ v. entries_of v.items ≡ spec.with_entries (entries_of entries.items)
+        (entries_of others.items)) }
 {
     let mut all = entries;
     put_entries(alloc, &mut all, others)?;

@@ -48,7 +48,8 @@ pub(super) fn scalar(alloc: Global, text: &str) -> Result<(Scalar, &str), ParseE
 }
 
 fn keys<'v>(alloc: Global, fields: &'v Vec<(String, Value)>) -> Result<Vec<&'v str>, AllocError>
-    ensures { IfOk result (λ v. map (λ k. k.now) v.items ≡ map (λ e. string_bytes e.0) fields.now.items) }
+    ensures { IfOk result (λ v. map (λ k. k.now) v.items ≡
+        map (λ e. string_bytes e.0) fields.now.items) }
 {
     let mut keys = Vec::new(alloc);
     for field in fields {
@@ -101,7 +102,8 @@ pub(super) fn literal(alloc: Global, text: &str, depth: usize) -> Result<(Value,
 /// The items of a list, from behind its opening bracket.
 #[cycle(literal)]
 fn list(alloc: Global, text: &str, depth: usize) -> Result<(Vec<Value>, &str), ParseError>
-    ensures value { Reads (λ v. map node_of v.items) result (spec.listed_at (codes "]") (spec.literal_at depth) (tokens text.now)) }
+    ensures value { Reads (λ v. map node_of v.items) result (spec.listed_at (codes "]")
+        (spec.literal_at depth) (tokens text.now)) }
     ensures shorter { Shortens text.now result }
 {
     if let Some(rest) = after(text, "]") {
@@ -114,7 +116,8 @@ fn list(alloc: Global, text: &str, depth: usize) -> Result<(Vec<Value>, &str), P
 
 #[cycle(literal)]
 fn items(alloc: Global, text: &str, depth: usize) -> Result<(Vec<Value>, &str), ParseError>
-    ensures value { Reads (λ v. map node_of v.items) result (spec.parted_at (codes ",") (spec.literal_at depth) (tokens text.now)) }
+    ensures value { Reads (λ v. map node_of v.items) result
+        (spec.parted_at (codes ",") (spec.literal_at depth) (tokens text.now)) }
     ensures shorter { Shortens text.now result }
 {
     let (first, mut rest) = literal(alloc, text, depth)?;
@@ -134,7 +137,8 @@ fn items(alloc: Global, text: &str, depth: usize) -> Result<(Vec<Value>, &str), 
 /// A comma and an item, if a comma is in front.
 #[cycle(literal)]
 fn next_item(alloc: Global, text: &str, depth: usize) -> Result<Option<(Value, &str)>, ParseError>
-    ensures value { ReadsMaybe node_of result (spec.behind_at (codes ",") (spec.literal_at depth) (tokens text.now)) }
+    ensures value { ReadsMaybe node_of result
+        (spec.behind_at (codes ",") (spec.literal_at depth) (tokens text.now)) }
     ensures shorter { IfOk result (λ o. IsBefore text.now o) }
 {
     match after(text, ",") {
@@ -170,7 +174,8 @@ fn fields(
     text: &str,
     depth: usize,
 ) -> Result<(Vec<(String, Value)>, &str), ParseError>
-    ensures value { Reads (λ v. map field_of v.items) result (spec.parted_at (codes ",") (spec.field_at (spec.literal_at depth)) (tokens text.now)) }
+    ensures value { Reads (λ v. map field_of v.items) result
+        (spec.parted_at (codes ",") (spec.field_at (spec.literal_at depth)) (tokens text.now)) }
     ensures shorter { Shortens text.now result }
 {
     let (first, mut rest) = field(alloc, text, depth)?;
@@ -194,7 +199,8 @@ fn next_field(
     text: &str,
     depth: usize,
 ) -> Result<Option<((String, Value), &str)>, ParseError>
-    ensures value { ReadsMaybe field_of result (spec.behind_at (codes ",") (spec.field_at (spec.literal_at depth)) (tokens text.now)) }
+    ensures value { ReadsMaybe field_of result
+        (spec.behind_at (codes ",") (spec.field_at (spec.literal_at depth)) (tokens text.now)) }
     ensures shorter { IfOk result (λ o. IsBefore text.now o) }
 {
     match after(text, ",") {

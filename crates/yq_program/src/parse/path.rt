@@ -61,7 +61,8 @@ fn next_step(alloc: Global, text: &str) -> Result<Option<(Step, &str)>, ParseErr
 
 /// The steps in front, all of them.
 fn steps(alloc: Global, text: &str) -> Result<(Vec<Step>, &str), ParseError>
-    ensures value { Reads (λ v. map step_of v.items) result (spec.many spec.step_at (tokens text.now)) }
+    ensures value { Reads (λ v. map step_of v.items) result
+        (spec.many spec.step_at (tokens text.now)) }
     ensures within { IfOk result (λ x. length x.1.now ≤ length text.now) }
     ensures shorter { IfOk result (λ x. 0 < vec_len x.0 → length x.1.now < length text.now) }
 {

@@ -86,7 +86,8 @@ fn stage(alloc: Global, text: &str) -> Result<(Stage, &str), ParseError>
 
 /// `|` and a stage, if `|` is in front.
 fn next_stage(alloc: Global, text: &str) -> Result<Option<(Stage, &str)>, ParseError>
-    ensures value { ReadsMaybe stage_of result (spec.behind_at (codes "|") spec.stage_at (tokens text.now)) }
+    ensures value { ReadsMaybe stage_of result
+        (spec.behind_at (codes "|") spec.stage_at (tokens text.now)) }
     ensures shorter { IfOk result (λ o. IsBefore text.now o) }
 {
     match after(text, "|") {

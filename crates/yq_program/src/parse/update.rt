@@ -46,7 +46,8 @@ fn term(alloc: Global, text: &str) -> Result<(Term, &str), ParseError>
 
 /// `+` and a term, if `+` is in front.
 fn next_term(alloc: Global, text: &str) -> Result<Option<(Term, &str)>, ParseError>
-    ensures value { ReadsMaybe term_of result (spec.behind_at (codes "+") (spec.term_at literal_depth) (tokens text.now)) }
+    ensures value { ReadsMaybe term_of result
+        (spec.behind_at (codes "+") (spec.term_at literal_depth) (tokens text.now)) }
     ensures shorter { IfOk result (λ o. IsBefore text.now o) }
 {
     match after(text, "+") {
@@ -61,7 +62,8 @@ fn next_term(alloc: Global, text: &str) -> Result<Option<(Term, &str)>, ParseErr
 /// A sum: its terms.
 #[tactic(auto, unfolding(crate::specs::Parse::right_at))]
 fn right(alloc: Global, text: &str) -> Result<(Vec<Term>, &str), ParseError>
-    ensures value { Reads (λ v. map term_of v.items) result (spec.right_at literal_depth (tokens text.now)) }
+    ensures value { Reads (λ v. map term_of v.items) result
+        (spec.right_at literal_depth (tokens text.now)) }
     ensures shorter { Shortens text.now result }
 {
     let (first, mut rest) = term(alloc, text)?;
@@ -110,7 +112,8 @@ fn place(text: &str) -> Result<(CommentPlace, &str), ParseError>
 /// What is done with what `left` finds.
 #[tactic(auto, unfolding(crate::specs::Parse::action_at))]
 fn action(alloc: Global, left: Vec<Stage>, text: &str) -> Result<(Update, &str), ParseError>
-    ensures value { Reads update_of result (spec.action_at literal_depth (map stage_of left.items) (tokens text.now)) }
+    ensures value { Reads update_of result (spec.action_at literal_depth (map stage_of left.items)
+        (tokens text.now)) }
     ensures shorter { Shortens text.now result }
 {
     if let Some((operator, rest)) = operator(text) {
@@ -148,7 +151,8 @@ fn update(alloc: Global, text: &str) -> Result<(Update, &str), ParseError>
 
 /// `|` and an update, if `|` is in front.
 fn next_update(alloc: Global, text: &str) -> Result<Option<(Update, &str)>, ParseError>
-    ensures value { ReadsMaybe update_of result (spec.behind_at (codes "|") (spec.update_at literal_depth) (tokens text.now)) }
+    ensures value { ReadsMaybe update_of result
+        (spec.behind_at (codes "|") (spec.update_at literal_depth) (tokens text.now)) }
     ensures shorter { IfOk result (λ o. IsBefore text.now o) }
 {
     match after(text, "|") {
@@ -162,7 +166,8 @@ fn next_update(alloc: Global, text: &str) -> Result<Option<(Update, &str)>, Pars
 
 /// Updates, one after the other.
 pub(super) fn updates(alloc: Global, text: &str) -> Result<(Vec<Update>, &str), ParseError>
-    ensures value { Reads (λ v. map update_of v.items) result (spec.parted_at (codes "|") (spec.update_at literal_depth) (tokens text.now)) }
+    ensures value { Reads (λ v. map update_of v.items) result
+        (spec.parted_at (codes "|") (spec.update_at literal_depth) (tokens text.now)) }
     ensures shorter { Shortens text.now result }
 {
     let (first, mut rest) = update(alloc, text)?;

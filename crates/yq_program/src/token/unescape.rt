@@ -69,7 +69,8 @@ fn escape(b: u8) -> Option<&'static str>
 
 /// The character that an escape in front stands for, and what follows it.
 fn split_escape(text: &str) -> Option<(&'static str, &str)>
-    ensures value { option_map {U = List ℕ × List ℕ} (λ x. (x.0.now, x.1.now)) result ≡ spec.escape_front text.now }
+    ensures value { option_map {U = List ℕ × List ℕ} (λ x. (x.0.now, x.1.now)) result ≡
+        spec.escape_front text.now }
     ensures shorter { IfSome result (λ x. length x.1.now < length text.now) }
 {
     match text.as_bytes() {

@@ -9,16 +9,17 @@ ghost use Rattle.yq_rows.specs.Splices.{CutsItsText, replace_row};
 /// Rows behind the last one of a text without a final break: that one gets a break, and the rows
 /// stand behind it.
 pub fn rows_appended()
-    ensures { (front : List Row) (r : Row) (break : List ℕ) (new : List Row) (limit : Limit) (end : List ℕ) → AreRows limit (front ++ (r ∷ [])) [] [] →
-        TakesBreak r break → pairs_returns (print_row r []) ≡ true →
-        AreRows (limit_after r) new end [] →
+    ensures { (front : List Row) (r : Row) (break : List ℕ) (new : List Row) (limit : Limit)
+        (end : List ℕ) → AreRows limit (front ++ (r ∷ [])) [] [] → TakesBreak r break →
+        pairs_returns (print_row r []) ≡ true → AreRows (limit_after r) new end [] →
         AreRows limit (front ++ (closed_by break r ∷ new)) end [] }
 {}
 
 /// The same in a cut.
 pub fn end_appended()
-    ensures { (t : List ℕ) (c : Cut) (k : ℕ) (front : List Row) (r : Row) (break : List ℕ) (new : List Row) (gap : List ℕ) → IsCut t c →
-        IsLastRow k front r c → TakesBreak r break → AreRows (limit_after r) new gap [] →
+    ensures { (t : List ℕ) (c : Cut) (k : ℕ) (front : List Row) (r : Row) (break : List ℕ)
+        (new : List Row) (gap : List ℕ) → IsCut t c → IsLastRow k front r c → TakesBreak r break →
+        AreRows (limit_after r) new gap [] →
         CutsItsText (replace_row k front (closed_by break r ∷ new) gap c) }
 {}
 

@@ -44,8 +44,9 @@ pub fn row_joined()
 /// A row up to one of its dashes, with another content behind that; and a row behind whose dash
 /// stands a row in place of its content.
 pub fn row_dashed()
-    ensures cut { (limit : Limit) (r : Row) (dashes : List ℕ) (n : ℕ) (more : List ℕ) (new : Content) (t u : List ℕ) → IsRow limit r t →
-        DashFits r dashes n more new u → TakesPlace limit r t (dashed_row dashes new r) u }
+    ensures cut { (limit : Limit) (r : Row) (dashes : List ℕ) (n : ℕ) (more : List ℕ)
+        (new : Content) (t u : List ℕ) → IsRow limit r t → DashFits r dashes n more new u →
+        TakesPlace limit r t (dashed_row dashes new r) u }
     ensures compact { (limit other : Limit) (n : ℕ) (r q : Row) (t u : List ℕ) → IsRow limit r t →
         IsRow other q u → CompactFits n r q →
         TakesPlace limit r t (compact_row n r q) u }

@@ -34,22 +34,26 @@ pub fn rows_replaced()
 
 /// One row exchanged for another one that takes its place, behind which the next row may stand.
 pub fn row_replaced()
-    ensures { (t : List ℕ) (c : Cut) (k : ℕ) (front : List Row) (r : Row) (back : List Row) (new : Row) → IsCut t c → StandsBetween k front r back c →
-        TakesPlace (asked_at k (length front) c) r (rest_behind k back c) new (rest_behind k back c) → allows_first (limit_after new) back ≡ true →
+    ensures { (t : List ℕ) (c : Cut) (k : ℕ) (front : List Row) (r : Row) (back : List Row)
+        (new : Row) → IsCut t c → StandsBetween k front r back c →
+        TakesPlace (asked_at k (length front) c) r (rest_behind k back c) new
+        (rest_behind k back c) → allows_first (limit_after new) back ≡ true →
         CutsItsText (replace_row k front (new ∷ []) (first_gap back (nth_part k c).end) c) }
 {}
 
 /// One row exchanged for another one behind the same gap and at the same column: the rows in front
 /// ask no more of it.
 pub fn row_exchanged()
-    ensures { (t : List ℕ) (c : Cut) (k : ℕ) (front : List Row) (r : Row) (back : List Row) (new : Row) → IsCut t c → StandsBetween k front r back c →
+    ensures { (t : List ℕ) (c : Cut) (k : ℕ) (front : List Row) (r : Row) (back : List Row)
+        (new : Row) → IsCut t c → StandsBetween k front r back c →
         StandsFor (asked_at k (length front) c) r new back (rest_behind k back c) →
         CutsItsText (replace_row k front (new ∷ []) (first_gap back (nth_part k c).end) c) }
 {}
 
 /// A cut, of which a row has another tail that fits, is a cut where the new text may stand.
 pub fn tail_replaced()
-    ensures { (t : List ℕ) (c : Cut) (k : ℕ) (front : List Row) (r : Row) (back : List Row) (new : List ℕ) → IsCut t c → StandsBetween k front r back c →
+    ensures { (t : List ℕ) (c : Cut) (k : ℕ) (front : List Row) (r : Row) (back : List Row)
+        (new : List ℕ) → IsCut t c → StandsBetween k front r back c →
         TailFits (parent_indent r) new r.content (rest_behind k back c) →
         CutsItsText (replace_row k front (retail new r ∷ []) (first_gap back (nth_part k c).end) c) }
 {}

@@ -37,7 +37,8 @@ fn count_of(text: &str) -> Option<u64>
 
 /// The journal's name, where one is given, or by the file's.
 fn journal_name(alloc: Global, given: Option<&str>, file: &str) -> Result<String, AllocError>
-    ensures { IfOk result (λ name. string_bytes name ≡ spec.journal_name (option_map (λ s. s.now) given.entry) file.now) }
+    ensures { IfOk result (λ name. string_bytes name ≡ spec.journal_name
+        (option_map (λ s. s.now) given.entry) file.now) }
 {
     match given {
         Some(name) => String::from_str(alloc, name),
@@ -47,9 +48,12 @@ fn journal_name(alloc: Global, given: Option<&str>, file: &str) -> Result<String
 
 /// The names of the file and of its journal.
 fn names_of(alloc: Global, matches: &ArgMatches) -> Result<(String, String), WordsError>
-    ensures ok { IfOk result (λ names. spec.HasNames (rows_of (found_of matches.now)) (string_bytes names.0) (string_bytes names.1)) }
-    ensures err { IfErr result (λ e. (e ≡ WordsError.OutOfMemory) ⊎ ((spec.is_usage e ≡ true)
-        × (spec.names_fit (first_of (codes "file") (rows_of (found_of matches.now))) (first_of (codes "journal") (rows_of (found_of matches.now))) ≡ false))) }
+    ensures ok { IfOk result (λ names. spec.HasNames (rows_of (found_of matches.now))
+        (string_bytes names.0) (string_bytes names.1)) }
+    ensures err { IfErr result (λ e. (e ≡ WordsError.OutOfMemory) ⊎
+        ((spec.is_usage e ≡ true) ×
+        (spec.names_fit (first_of (codes "file") (rows_of (found_of matches.now)))
+        (first_of (codes "journal") (rows_of (found_of matches.now))) ≡ false))) }
 {
     let Some(file) = text_of(matches, "file") else {
         return Err(WordsError::Usage(UsageCause::Words));
