@@ -43,17 +43,26 @@ more_suc : (k : ℕ) (o : Option ℕ) → more (suc k) o ≡ more 1 (more k o)
 more_suc k None = refl
 more_suc k (Some m) = ap Some (omega arith)
 
-over_whites : (flow : Bool) (spaces : Option ℕ) (deep : Bool) (r : List ℕ) → across flow spaces deep r ≡ more (prefix_len is_white r) (across flow spaces deep (drop (prefix_len is_white r) r))
-over_whites flow spaces deep [] = sym (more_none (across flow spaces deep []))
-over_whites flow spaces deep (b ∷ bs) = elim (cases_Bool (is_white b)) [
+abbrev AreWhite : (ℕ → Bool) → Type 0
+AreWhite test = (b : ℕ) → test b ≡ true → is_white b ≡ true
+
+pub whites_white : AreWhite is_white
+whites_white b h = h
+
+pub spaces_white : AreWhite (λ b. eqb b 32)
+spaces_white b h = rw h refl
+
+over_run : (test : ℕ → Bool) (flow : Bool) (spaces : Option ℕ) (deep : Bool) (r : List ℕ) → AreWhite test → across flow spaces deep r ≡ more (prefix_len test r) (across flow spaces deep (drop (prefix_len test r) r))
+over_run test flow spaces deep [] white = sym (more_none (across flow spaces deep []))
+over_run test flow spaces deep (b ∷ bs) white = elim (cases_Bool (test b)) [
   | inl w ↦
-      let again = over_whites flow spaces deep bs in
-      let k = prefix_len is_white bs in
-      let same : suc k ≡ prefix_len is_white (b ∷ bs) = rw w (omega arith) in
+      let again = over_run test flow spaces deep bs white in
+      let k = prefix_len test bs in
+      let same : suc k ≡ prefix_len test (b ∷ bs) = rw w (omega arith) in
       subst (λ (n : ℕ). across flow spaces deep (b ∷ bs) ≡ more n (across flow spaces deep (drop n (b ∷ bs)))) same
-      (across_white flow spaces deep b bs w ∙ (ap (more 1) again ∙ sym (more_suc k (across flow spaces deep (drop k bs)))))
+      (across_white flow spaces deep b bs (white b w) ∙ (ap (more 1) again ∙ sym (more_suc k (across flow spaces deep (drop k bs)))))
   | inr w ↦
-      let same : 0 ≡ prefix_len is_white (b ∷ bs) = rw w refl in
+      let same : 0 ≡ prefix_len test (b ∷ bs) = rw w refl in
       subst (λ (n : ℕ). across flow spaces deep (b ∷ bs) ≡ more n (across flow spaces deep (drop n (b ∷ bs)))) same (sym (more_none (across flow spaces deep (b ∷ bs))))
 ]
 
@@ -62,11 +71,11 @@ whites_some [] le w = absurd (omega arith)
 whites_some (b ∷ bs) le w = rw w (omega arith)
 
 -- over a run of white space
-pub go_whites : (flow : Bool) (spaces : Option ℕ) (deep : Bool) (n k : ℕ) (r : List ℕ) (z : Option ℕ) → k ≡ prefix_len is_white r →
+pub go_run : (test : ℕ → Bool) (flow : Bool) (spaces : Option ℕ) (deep : Bool) (n k : ℕ) (r : List ℕ) (z : Option ℕ) → AreWhite test → k ≡ prefix_len test r →
     more n (across flow spaces deep r) ≡ z → more (n + k) (across flow spaces deep (drop k r)) ≡ z
-go_whites flow spaces deep n k r z is e =
+go_run test flow spaces deep n k r z white is e =
     subst (λ (j : ℕ). more (n + j) (across flow spaces deep (drop j r)) ≡ z) (sym is)
-    (more_more n (prefix_len is_white r) (across flow spaces deep (drop (prefix_len is_white r) r)) ∙ (ap (more n) (sym (over_whites flow spaces deep r)) ∙ e))
+    (more_more n (prefix_len test r) (across flow spaces deep (drop (prefix_len test r) r)) ∙ (ap (more n) (sym (over_run test flow spaces deep r white)) ∙ e))
 
 pub go_line : (flow : Bool) (spaces : Option ℕ) (deep next : Bool) (n : ℕ) (r : List ℕ) (z : Option ℕ) → 1 ≤ length r → is_white (get_or r 0 0) ≡ false → get_or r 0 0 ≡ 10 → next ≡ begins_deep spaces (rest_of r) →
     more n (across flow spaces deep r) ≡ z → more (n + 1) (across flow spaces next (rest_of r)) ≡ z

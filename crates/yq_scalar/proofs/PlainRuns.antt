@@ -38,3 +38,6 @@ run_over flow spaces (b ∷ bs) = elim (cases_Bool (is_inside b)) [
 -- over so many of them the scalar has no end
 pub plain_run : (flow : Bool) (spaces : Option ℕ) (t : List ℕ) (n : ℕ) → n ≡ prefix_len is_inside t → upto (ends_plain flow spaces) t ≡ n + upto (ends_plain flow spaces) (drop n t)
 plain_run flow spaces t n e = subst (λ (k : ℕ). upto (ends_plain flow spaces) t ≡ k + upto (ends_plain flow spaces) (drop k t)) (sym e) (run_over flow spaces t)
+
+pub run_behind : (flow : Bool) (spaces : Option ℕ) (r s : List ℕ) (n k z : ℕ) → k ≡ prefix_len is_inside r → s ≡ drop k r → n + upto (ends_plain flow spaces) r ≡ z → n + k + upto (ends_plain flow spaces) s ≡ z
+run_behind flow spaces r s n k z e back so_far = rw back (omega (arith, plain_run flow spaces r k e, so_far))

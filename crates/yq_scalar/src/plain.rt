@@ -1,6 +1,6 @@
 //! Plain scalars (YAML 1.2.2, section 7.3.3).
 ghost use Rattle.std.specs.List.{prefix_len};
-ghost use Rattle.std.specs.Prelude.{◌≡◌, ◌≤◌, length, true};
+ghost use Rattle.std.specs.Prelude.{◌≡◌, ◌==◌, ◌≤◌, length, true};
 ghost use Rattle.yq_scalar.specs.Plain as spec;
 ghost use Rattle.yq_scalar.specs.PlainReading as reading;
 ghost use Rattle.yq_scalar.specs.Text.{cut, upto};
@@ -55,13 +55,14 @@ fn ends_text(flow: bool, text: &[u8]) -> bool
     }
 }
 
-/// Whether a further line may begin so.
-fn begins_deep(spaces: Option<usize>, line: &[u8]) -> bool
+/// Whether a further line may begin so, which so many spaces begin.
+fn begins_deep(spaces: Option<usize>, indent: usize, line: &[u8]) -> bool
+    requires { indent ≡ prefix_len (λ b. b == 32) line.now }
     ensures { result ≡ spec.begins_deep spaces line.now }
 {
     match spaces {
         None => false,
-        Some(least) => least <= spaces_len(line) && !is_marker(line),
+        Some(least) => least <= indent && !is_marker(line),
     }
 }
 
@@ -79,9 +80,11 @@ fn across(flow: bool, spaces: Option<usize>, text: &[u8]) -> Option<usize>
             n += run;
             rest = rest.split_at(run).1;
         } else if *first == b'\n' {
-            deep = begins_deep(spaces, after);
+            let indent = spaces_len(after);
+            deep = begins_deep(spaces, indent, after);
             n += 1;
-            rest = after;
+            n += indent;
+            rest = after.split_at(indent).1;
         } else if is_break(rest) {
             n += 1;
             rest = after;
@@ -110,7 +113,7 @@ pub fn begins_plain(flow: bool, text: &[u8]) -> bool
 fn is_inside(b: u8) -> bool
     ensures { result ≡ reading.is_inside b }
 {
-    matches!(b, b'a'..=b'z')
+    matches!(b, b'a'..=b'z' | b'-'..=b'9')
         || !matches!(
             b,
             b' ' | b'\t' | b'\n' | b'\r' | b':' | b',' | b'[' | b']' | b'{' | b'}'
@@ -131,26 +134,27 @@ pub fn plain_len(flow: bool, spaces: Option<usize>, text: &[u8]) -> usize
 {
     let mut n = 0;
     let mut rest = text;
-    'each: while let [_, after @ ..] = rest {
+    'each: loop {
         let run = inside_len(rest);
-        if run > 0 {
-            n += run;
-            rest = rest.split_at(run).1;
-        } else if is_space(rest) {
-            if let Some(k) = across(flow, spaces, rest) {
+        n += run;
+        let next = rest.split_at(run).1;
+        let [_, after @ ..] = next else {
+            return n;
+        };
+        if is_space(next) {
+            if let Some(k) = across(flow, spaces, next) {
                 n += k;
-                rest = rest.split_at(k).1;
+                rest = next.split_at(k).1;
             } else {
                 return n;
             }
-        } else if ends_text(flow, rest) {
+        } else if ends_text(flow, next) {
             return n;
         } else {
             n += 1;
             rest = after;
         }
     }
-    n
 }
 
 /// The text cut where a plain scalar in front has to end. `flow` tells that it stands in a flow
