@@ -13,8 +13,8 @@ use Rattle.yq_documents.specs.Reading.{documents, read_at}
 use Rattle.yq_meaning.specs.Copies.{matches}
 use Rattle.yq_meaning.specs.Judgement.{Judgement, refuses}
 use Rattle.yq_meaning.specs.Judgement as judgement
-use Rattle.yq_meaning.specs.declared.match_error.MatchError.{MatchError}
-use Rattle.yq_meaning.specs.declared.match_error.MatchError.TheVariants as matching
+use Rattle.yq_meaning.specs.declared.expr_error.ExprError.{ExprError}
+use Rattle.yq_meaning.specs.declared.expr_error.ExprError.TheVariants as matching
 use Rattle.yq_program.specs.Program.{Program, Stage, is_read, read, updates}
 use Rattle.yq_journal.specs.History.{History, text_at}
 use Rattle.yq_history.specs.declared.fault.Fault.{Fault}
@@ -77,7 +77,7 @@ module _ (exit_status no_doc : Bool) (t : List ℕ) where
   reading_fails p r (reading.Fault f) is utf8 fails none text = unread_fails p r (Unreadable f) is fails (unread_text t f utf8 (λ no. true≢false (sym utf8 ∙ text no))) none
 
   -- documents on which matching is refused
-  pub matching_fails : (p : Program) (docs : List Document) {T : Type 0} (r : Result T Fault) (e : MatchError) → is_read p ≡ true →
+  pub matching_fails : (p : Program) (docs : List Document) {T : Type 0} (r : Result T Fault) (e : ExprError) → is_read p ≡ true →
       r ≡ Err (of_matching e) → option_map documents (read_at t) ≡ Some docs → ((pipe : List Stage) → p ≡ read pipe → judgement.Fails e (matches pipe docs)) → Told p r
   matching_fails p docs r matching.Memory is fails reads why = for_cause p (no_reading t) r OutOfMemory fails (λ memory. absurd (memory refl))
   matching_fails p docs r (matching.Refused x) is fails reads why =

@@ -1,8 +1,8 @@
 -- Faults of words and expressions as faults of a command (own).
 use Rattle.yq_program.specs.declared.error.ParseError.{ParseError}
 use Rattle.yq_program.specs.declared.error.ParseError.TheVariants as parse
-use Rattle.yq_meaning.specs.declared.match_error.MatchError.{MatchError}
-use Rattle.yq_meaning.specs.declared.match_error.MatchError.TheVariants as matching
+use Rattle.yq_meaning.specs.declared.expr_error.ExprError.{ExprError}
+use Rattle.yq_meaning.specs.declared.expr_error.ExprError.TheVariants as matching
 use Rattle.yq_meaning.specs.declared.refusal.Refusal.{Refusal}
 use Rattle.yq_meaning.specs.declared.refusal.Refusal.TheVariants as refusal
 use Rattle.yq_splice.specs.declared.edit_error.EditError.{EditError}
@@ -45,7 +45,7 @@ of_refusal refusal.NotAnUpdate = fault.NotAnUpdate
 of_refusal refusal.KeyTooLong = fault.KeyTooLong
 
 -- why nothing was matched
-abbrev pub of_matching : MatchError → Fault
+abbrev pub of_matching : ExprError → Fault
 of_matching (matching.Refused why) = of_refusal why
 of_matching matching.Memory = OutOfMemory
 

@@ -2,7 +2,7 @@
 ghost use Rattle.std.specs.Prelude.{◌≡◌};
 ghost use Rattle.yq_commands.specs.CommandFaults.{of_edit, of_matching, of_parse, of_refusal, of_words};
 
-use yq_expr::{MatchError, ParseError, Refusal};
+use yq_expr::{ExprError, ParseError, Refusal};
 use yq_history::Fault;
 use yq_splice::EditError;
 use yq_words::WordsError;
@@ -54,12 +54,12 @@ fn refusal_fault(refusal: Refusal) -> Fault
 }
 
 /// Why nothing is matched.
-pub fn match_fault(error: MatchError) -> Fault
+pub fn match_fault(error: ExprError) -> Fault
     ensures { result ≡ of_matching error }
 {
     match error {
-        MatchError::Refused(why) => refusal_fault(why),
-        MatchError::Memory => Fault::OutOfMemory,
+        ExprError::Refused(why) => refusal_fault(why),
+        ExprError::Memory => Fault::OutOfMemory,
     }
 }
 

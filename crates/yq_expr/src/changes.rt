@@ -9,7 +9,7 @@ ghost use Rattle.yq_meaning.specs.Changes as spec;
 ghost use Rattle.yq_planning.specs.ChangeView.{all_changed_of, changed_of, placed_change};
 ghost use Rattle.yq_expr.specs.EffectView.{effect_at};
 ghost use Rattle.yq_planning.specs.Indexes.{HasAliases};
-ghost use Rattle.yq_meaning.specs.Judgement.{Matches, Plans, and_then};
+ghost use Rattle.yq_meaning.specs.Judgement.{Judges, and_then};
 ghost use Rattle.yq_meaning.specs.Meaning.{roots_of};
 ghost use Rattle.yq_planning.specs.PlaceView.{place_of, places_of, put_behind};
 ghost use Rattle.yq_meaning.specs.Places.{root_place};
@@ -23,7 +23,7 @@ use crate::effect::{Effect, change_at};
 use bumpalo::Bump;
 use std::alloc::Global;
 use yq_documents::Node;
-use yq_meaning::{MatchError, PlanError, Refusal};
+use yq_meaning::{ExprError, Refusal};
 use yq_planning::{
     Aliases, Change, Changed, Place, aliases_of, allow, find, has_comment, path_steps, right_value,
 };
@@ -37,10 +37,10 @@ fn push_change(
     place: Place<'_, '_>,
     change: Change,
     changes: &mut Vec<Changed>,
-) -> Result<(), MatchError>
+) -> Result<(), ExprError>
     ensures { (root : TreeNode) → HasAliases (names_of root) aliases.now →
         IsIn root (place_of place.entry) →
-        Matches (λ _. map changed_of changes.new.items) result
+        Judges (λ _. map changed_of changes.new.items) result
         (put_behind (map changed_of changes.old.items)
         (spec.all_allowed root (placed_change (place_of place.entry) change))) }
 {
@@ -59,12 +59,12 @@ fn push_effect<'a, 't>(
     effect: Effect<'a, '_>,
     place: Place<'a, 't>,
     changes: &mut Vec<Changed>,
-) -> Result<(), MatchError>
+) -> Result<(), ExprError>
     requires { HasScalars (place_of place).node }
     ensures same { cut.new ≡ cut.old }
     ensures change { (root : TreeNode) → HasAliases (names_of root) aliases.now →
         IsIn root (place_of place.entry) →
-        Matches (λ _. map changed_of changes.new.items) result
+        Judges (λ _. map changed_of changes.new.items) result
         (put_behind (map changed_of changes.old.items) (and_then (spec.all_allowed root)
         (effect_at doc (room_of cut.old doc) effect.entry (place_of place.entry)))) }
 {
@@ -82,11 +82,11 @@ fn at_each<'a, 't>(
     aliases: &Aliases<'_>,
     effect: Effect<'a, '_>,
     places: &[Place<'a, 't>],
-) -> Result<Vec<Changed>, MatchError>
+) -> Result<Vec<Changed>, ExprError>
     requires { HaveScalars (places_of places.now) }
     ensures { (root : TreeNode) → HasAliases (names_of root) aliases.now →
         AreIn root (places_of places.now) →
-        Matches (λ v. map changed_of v.items) result
+        Judges (λ v. map changed_of v.items) result
         (spec.at_each root (effect_at doc (room_of documents.now doc) effect.entry)
         (places_of places.now)) }
 {
@@ -106,11 +106,11 @@ fn changes_at<'a, 't>(
     root: Node<'a, 't>,
     update: &'a Update,
     places: &[Place<'a, 't>],
-) -> Result<Vec<Changed>, MatchError>
+) -> Result<Vec<Changed>, ExprError>
     requires root { HasScalars (node_of root) }
     requires scalars { HaveScalars (places_of places.now) }
     requires within { AreIn (node_of root) (places_of places.now) }
-    ensures { Matches (λ v. map changed_of v.items) result
+    ensures { Judges (λ v. map changed_of v.items) result
         (spec.changes_at doc (room_of documents.now doc) (node_of root.entry)
         (update_of update.now) (places_of places.now)) }
 {
@@ -140,13 +140,13 @@ fn set_each<'a, 't>(
     aliases: &Aliases<'_>,
     right: &'a [Term],
     places: &[Place<'a, 't>],
-) -> Result<Vec<Changed>, MatchError>
+) -> Result<Vec<Changed>, ExprError>
     requires root { HasScalars (node_of root) }
     requires scalars { HaveScalars (places_of places.now) }
     requires within { AreIn (node_of root) (places_of places.now) }
     requires aliases { HasAliases (names_of (node_of root)) aliases.now }
     requires some { 0 < length places.now }
-    ensures { Matches (λ v. map changed_of v.items) result (spec.with_value (node_of root.entry)
+    ensures { Judges (λ v. map changed_of v.items) result (spec.with_value (node_of root.entry)
         (right_sum doc (map term_of right.now)
         (root_place (node_of root.entry))) spec.put_at (places_of places.now)) }
 {
@@ -164,13 +164,13 @@ fn add_each<'a, 't>(
     aliases: &Aliases<'_>,
     right: &'a [Term],
     places: &[Place<'a, 't>],
-) -> Result<Vec<Changed>, MatchError>
+) -> Result<Vec<Changed>, ExprError>
     requires root { HasScalars (node_of root) }
     requires scalars { HaveScalars (places_of places.now) }
     requires within { AreIn (node_of root) (places_of places.now) }
     requires aliases { HasAliases (names_of (node_of root)) aliases.now }
     requires some { 0 < length places.now }
-    ensures { Matches (λ v. map changed_of v.items) result (spec.with_value (node_of root.entry)
+    ensures { Judges (λ v. map changed_of v.items) result (spec.with_value (node_of root.entry)
         (right_sum doc (map term_of right.now)
         (root_place (node_of root.entry))) spec.add_at (places_of places.now)) }
 {
@@ -187,13 +187,13 @@ fn assign<'a, 't>(
     aliases: &Aliases<'_>,
     assignment: &'a Assignment,
     places: &[Place<'a, 't>],
-) -> Result<Vec<Changed>, MatchError>
+) -> Result<Vec<Changed>, ExprError>
     requires root { HasScalars (node_of root) }
     requires scalars { HaveScalars (places_of places.now) }
     requires within { AreIn (node_of root) (places_of places.now) }
     requires aliases { HasAliases (names_of (node_of root)) aliases.now }
     requires some { 0 < length places.now }
-    ensures { Matches (λ v. map changed_of v.items) result
+    ensures { Judges (λ v. map changed_of v.items) result
         (spec.changes_at doc (room_of documents.now doc) (node_of root.entry)
         (update_of (Update.Assign assignment.now)) (places_of places.now)) }
 {
@@ -230,10 +230,10 @@ fn changes_in(
     doc: usize,
     root: Node<'_, '_>,
     update: &Update,
-) -> Result<Vec<Changed>, MatchError>
+) -> Result<Vec<Changed>, ExprError>
     requires scalars { HasScalars (node_of root) }
     requires tree { IsTree (node_of root) }
-    ensures { Matches (λ v. map changed_of v.items) result
+    ensures { Judges (λ v. map changed_of v.items) result
         (spec.changes_in (update_of update.now) doc (room_of documents.now doc)
         (node_of root.entry)) }
 {
@@ -247,8 +247,8 @@ fn all_changes(
     alloc: Global,
     update: &Update,
     documents: &Documents<'_>,
-) -> Result<Vec<Vec<Changed>>, MatchError>
-    ensures { Matches (λ v. all_changed_of v.items) result (spec.changes_from (update_of update.now)
+) -> Result<Vec<Vec<Changed>>, ExprError>
+    ensures { Judges (λ v. all_changed_of v.items) result (spec.changes_from (update_of update.now)
         (room_of documents.now) 0 (roots_of (documents_of documents.now))) }
 {
     documents.are_ready();
@@ -264,16 +264,12 @@ pub(crate) fn changes(
     alloc: Global,
     update: &Update,
     documents: &Documents<'_>,
-) -> Result<Vec<Vec<Changed>>, PlanError>
-    ensures { Plans (λ v. all_changed_of v.items) result (spec.changes_of (update_of update.now)
+) -> Result<Vec<Vec<Changed>>, ExprError>
+    ensures { Judges (λ v. all_changed_of v.items) result (spec.changes_of (update_of update.now)
         (room_of documents.now) (roots_of (documents_of documents.now))) }
 {
     if !has_comment(update) {
-        return Err(PlanError::Refused(Refusal::BadCommentText));
+        return Err(ExprError::Refused(Refusal::BadCommentText));
     }
-    match all_changes(alloc, update, documents) {
-        Ok(changes) => Ok(changes),
-        Err(MatchError::Refused(why)) => Err(PlanError::Refused(why)),
-        Err(MatchError::Memory) => Err(PlanError::Memory),
-    }
+    all_changes(alloc, update, documents)
 }

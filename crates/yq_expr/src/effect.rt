@@ -2,7 +2,7 @@
 ghost use Rattle.std.specs.Prelude.{◌≡◌, IfOk, map};
 ghost use Rattle.yq_planning.specs.ChangeView.{placed};
 ghost use Rattle.yq_expr.specs.EffectView.{effect_at};
-ghost use Rattle.yq_meaning.specs.Judgement.{Matches};
+ghost use Rattle.yq_meaning.specs.Judgement.{Judges};
 ghost use Rattle.yq_planning.specs.PlaceView.{place_of};
 ghost use Rattle.yq_meaning.specs.Changes as spec;
 ghost use Rattle.yq_meaning.specs.Rooms.{comment_part, room_of};
@@ -12,7 +12,7 @@ ghost use Rattle.yq_inline.specs.Values.{node_of};
 use std::alloc::{AllocError, Global};
 use yq_documents::{Part, Path};
 use yq_inline::Value;
-use yq_meaning::{MatchError, Refusal};
+use yq_meaning::{ExprError, Refusal};
 use yq_planning::{
     Change, Missing, NodePath, Place, added, copied, is_null, path_steps, put, right_value,
 };
@@ -35,8 +35,8 @@ pub(crate) enum Effect<'a, 'v> {
 }
 
 /// A value that is added at a place.
-fn add(alloc: Global, place: Place<'_, '_>, value: &Value) -> Result<Option<Change>, MatchError>
-    ensures { Matches (placed (place_of place.entry)) result
+fn add(alloc: Global, place: Place<'_, '_>, value: &Value) -> Result<Option<Change>, ExprError>
+    ensures { Judges (placed (place_of place.entry)) result
         (spec.add_at (place_of place.entry) (node_of value.now)) }
 {
     if is_null(value) {
@@ -49,12 +49,12 @@ fn add(alloc: Global, place: Place<'_, '_>, value: &Value) -> Result<Option<Chan
 }
 
 /// What is removed at a place: what is missing is not, and a root can't be.
-fn remove(place: Place<'_, '_>) -> Result<Option<Change>, MatchError>
-    ensures { Matches (placed (place_of place.entry)) result (spec.remove_at (place_of place.entry)) }
+fn remove(place: Place<'_, '_>) -> Result<Option<Change>, ExprError>
+    ensures { Judges (placed (place_of place.entry)) result (spec.remove_at (place_of place.entry)) }
 {
     match (place.missing, place.path) {
         (Missing::Further(..), _) => Ok(None),
-        (Missing::Nothing, NodePath::Root) => Err(MatchError::Refused(Refusal::RootDelete)),
+        (Missing::Nothing, NodePath::Root) => Err(ExprError::Refused(Refusal::RootDelete)),
         (Missing::Nothing, NodePath::Below(..)) => Ok(Some(Change::Removes)),
     }
 }
@@ -98,16 +98,16 @@ fn set_comment(
     comment: CommentPlace,
     text: &str,
     place: Place<'_, '_>,
-) -> Result<Option<Change>, MatchError>
+) -> Result<Option<Change>, ExprError>
     ensures same { cut.new ≡ cut.old }
-    ensures change { Matches (placed (place_of place.entry)) result
+    ensures change { Judges (placed (place_of place.entry)) result
         (spec.comment_at (room_of cut.old doc) comment text.now (place_of place.entry)) }
 {
     if let Missing::Further(..) = place.missing {
-        return Err(MatchError::Refused(Refusal::NoPlaceForComment));
+        return Err(ExprError::Refused(Refusal::NoPlaceForComment));
     }
     if !has_room(alloc, cut, doc, comment, place)? {
-        return Err(MatchError::Refused(Refusal::NoPlaceForComment));
+        return Err(ExprError::Refused(Refusal::NoPlaceForComment));
     }
     let text = String::from_str(alloc, text)?;
     Ok(Some(Change::SetsComment(comment, text)))
@@ -120,10 +120,10 @@ pub(crate) fn change_at<'a, 't>(
     doc: usize,
     effect: Effect<'a, '_>,
     place: Place<'a, 't>,
-) -> Result<Option<Change>, MatchError>
+) -> Result<Option<Change>, ExprError>
     requires { HasScalars (place_of place).node }
     ensures same { cut.new ≡ cut.old }
-    ensures change { Matches (placed (place_of place.entry)) result
+    ensures change { Judges (placed (place_of place.entry)) result
         (effect_at doc (room_of cut.old doc) effect.entry (place_of place.entry)) }
 {
     match effect {

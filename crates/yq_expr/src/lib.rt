@@ -9,7 +9,7 @@ mod planning;
 pub use matched::{Match, matches};
 pub use planning::plan;
 pub use yq_inline::Value;
-pub use yq_meaning::{MatchError, Op, PlanError, Refusal, copied_steps};
+pub use yq_meaning::{ExprError, Op, Refusal, copied_steps};
 pub use yq_plans::{
     changes_apart, one_program, places_apart, plan_fits, plan_means, plan_refused, plan_rooms,
     rest_follows, rooms_alike, rooms_ready,

@@ -4,7 +4,7 @@ ghost use Rattle.yq_documents.specs.Nodes.{node_of};
 ghost use Rattle.yq_documents.specs.Reading.{documents_of};
 ghost use Rattle.yq_meaning.specs.Conditions.{value_of};
 ghost use Rattle.yq_meaning.specs.Copies as spec;
-ghost use Rattle.yq_meaning.specs.Judgement.{Matches};
+ghost use Rattle.yq_meaning.specs.Judgement.{Judges};
 ghost use Rattle.yq_plans.specs.MatchTrees.{AreMatches};
 ghost use Rattle.yq_expr.specs.MatchView.{matches_of};
 ghost use Rattle.yq_planning.specs.PlaceView.{place_of, places_of, put_behind};
@@ -17,7 +17,7 @@ use bumpalo::Bump;
 use std::alloc::Global;
 use yq_documents::Node;
 use yq_inline::Value;
-use yq_meaning::MatchError;
+use yq_meaning::ExprError;
 use yq_planning::{Place, copy_at, find};
 use yq_program::{Program, Stage, Syntax};
 use yq_tree::Documents;
@@ -36,9 +36,9 @@ fn push_match(
     doc: usize,
     place: Place<'_, '_>,
     matches: &mut Vec<Match>,
-) -> Result<(), MatchError>
+) -> Result<(), ExprError>
     requires { HasScalars (value_of (place_of place)) }
-    ensures { Matches (λ _. matches_of matches.new.items) result
+    ensures { Judges (λ _. matches_of matches.new.items) result
         (put_behind (matches_of matches.old.items) (spec.match_at doc (place_of place.entry))) }
 {
     let value = copy_at(alloc, place)?;
@@ -52,9 +52,9 @@ fn push_copies(
     doc: usize,
     places: &[Place<'_, '_>],
     matches: &mut Vec<Match>,
-) -> Result<(), MatchError>
+) -> Result<(), ExprError>
     requires { HaveScalars (places_of places.now) }
-    ensures { Matches (λ _. matches_of matches.new.items) result
+    ensures { Judges (λ _. matches_of matches.new.items) result
         (put_behind (matches_of matches.old.items)
         (for_each (spec.match_at doc) (places_of places.now))) }
 {
@@ -72,9 +72,9 @@ fn push_document(
     pipe: &[Stage],
     root: Node<'_, '_>,
     matches: &mut Vec<Match>,
-) -> Result<(), MatchError>
+) -> Result<(), ExprError>
     requires { HasScalars (node_of root) }
-    ensures { Matches (λ _. matches_of matches.new.items) result
+    ensures { Judges (λ _. matches_of matches.new.items) result
         (put_behind (matches_of matches.old.items)
         (spec.matches_in doc (map stage_of pipe.now) (node_of root.entry))) }
 {
@@ -88,8 +88,8 @@ fn pipe_matches(
     alloc: Global,
     pipe: &[Stage],
     documents: &Documents<'_>,
-) -> Result<Vec<Match>, MatchError>
-    ensures { Matches (λ v. matches_of v.items) result
+) -> Result<Vec<Match>, ExprError>
+    ensures { Judges (λ v. matches_of v.items) result
         (spec.matches (map stage_of pipe.now) (documents_of documents.now)) }
 {
     let mut matches = Vec::new(alloc);
@@ -104,11 +104,11 @@ pub fn matches(
     alloc: Global,
     program: &Program,
     documents: &Documents<'_>,
-) -> Result<Vec<Match>, MatchError>
+) -> Result<Vec<Match>, ExprError>
     requires { is_read (program_of program.now) ≡ true }
     // The copies of what the pipe finds, or the first refusal.
     ensures exact { (pipe : List PipeStage) → program_of program.now ≡ read pipe →
-        Matches (λ v. matches_of v.items) result (spec.matches pipe (documents_of documents.now)) }
+        Judges (λ v. matches_of v.items) result (spec.matches pipe (documents_of documents.now)) }
     // Each copy is a tree, in which the keys of a mapping differ, with no more collections nested than may be.
     ensures trees { IfOk result (λ v. AreMatches (matches_of v.items)) }
 {

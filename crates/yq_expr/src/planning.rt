@@ -3,7 +3,7 @@ ghost use Rattle.std.specs.Prelude.{◌≡◌, ◌<◌, ◌∷◌, ◌⊎◌, []
 ghost use Rattle.yq_documents.specs.Reading.{documents_of};
 ghost use Rattle.yq_meaning.specs.After.{all_after};
 ghost use Rattle.yq_meaning.specs.Fits.{AllFit};
-ghost use Rattle.yq_meaning.specs.Judgement.{Plans, gives, refuses};
+ghost use Rattle.yq_meaning.specs.Judgement.{Judges, gives, refuses};
 ghost use Rattle.yq_meaning.specs.Meaning.{meaning};
 ghost use Rattle.yq_meaning.specs.Operations.{operations_of};
 ghost use Rattle.yq_meaning.specs.Plans as plans;
@@ -13,7 +13,7 @@ ghost use Rattle.yq_program.specs.View.{program_of, update_of};
 
 use crate::changes::changes;
 use std::alloc::Global;
-use yq_meaning::{Op, PlanError, Refusal};
+use yq_meaning::{ExprError, Op, Refusal};
 use yq_planning::operations;
 use yq_program::{Program, Syntax, Update};
 use yq_tree::Documents;
@@ -29,8 +29,8 @@ fn plan_update(
     alloc: Global,
     update: &Update,
     documents: &Documents<'_>,
-) -> Result<Vec<Op>, PlanError>
-    ensures { Plans (λ v. operations_of v.items) result (plans.plan (update_of update.now)
+) -> Result<Vec<Op>, ExprError>
+    ensures { Judges (λ v. operations_of v.items) result (plans.plan (update_of update.now)
         (room_of documents.now) (documents_of documents.now)) }
 {
     let changes = changes(alloc, update, documents)?;
@@ -43,10 +43,10 @@ fn planned(
     program: &Program,
     nth: usize,
     documents: &Documents<'_>,
-) -> Result<Vec<Op>, PlanError>
+) -> Result<Vec<Op>, ExprError>
     requires { nth < spec.update_count (program_of program.now) }
     ensures { (u : spec.Update) → spec.update_at nth (program_of program.now) ≡ Some u →
-        Plans (λ v. operations_of v.items) result (plans.plan u (room_of documents.now)
+        Judges (λ v. operations_of v.items) result (plans.plan u (room_of documents.now)
         (documents_of documents.now)) }
 {
     match program.syntax() {
@@ -62,11 +62,11 @@ pub fn plan(
     program: &Program,
     nth: usize,
     documents: &Documents<'_>,
-) -> Result<Vec<Op>, PlanError>
+) -> Result<Vec<Op>, ExprError>
     requires { nth < spec.update_count (program_of program.now) }
     // The operations, or why there are none.
     ensures exact { (u : spec.Update) → spec.update_at nth (program_of program.now) ≡ Some u →
-        Plans (λ v. operations_of v.items) result (plans.plan u (room_of documents.now)
+        Judges (λ v. operations_of v.items) result (plans.plan u (room_of documents.now)
         (documents_of documents.now)) }
     // The operations, one after the other, make what the update means.
     ensures meaning { (u : spec.Update) → spec.update_at nth (program_of program.now) ≡ Some u →
@@ -80,13 +80,13 @@ pub fn plan(
     // A refusal is that of what the update means.
     ensures refused { (u : spec.Update) (why : Refusal) →
         spec.update_at nth (program_of program.now) ≡ Some u → result ≡
-        Err (PlanError.Refused why) →
+        Err (ExprError.Refused why) →
         meaning u (room_of documents.now) (documents_of documents.now) ≡ refuses why }
     // What the update means is refused only with that refusal.
     ensures refuses { (u : spec.Update) (why : Refusal) →
         spec.update_at nth (program_of program.now) ≡ Some u →
         meaning u (room_of documents.now) (documents_of documents.now) ≡ refuses why →
-        (result ≡ Err (PlanError.Refused why)) ⊎ (result ≡ Err PlanError.Memory) }
+        (result ≡ Err (ExprError.Refused why)) ⊎ (result ≡ Err ExprError.Memory) }
 {
     documents.are_ready();
     program.literals_hold();

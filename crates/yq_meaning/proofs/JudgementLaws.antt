@@ -1,6 +1,6 @@
 -- What comes of one step after another.
 use Rattle.std.proofs.Common.{◌≡◌, refl}
-use Rattle.yq_meaning.specs.Judgement.{Judgement, gives, refuses, and_then}
+use Rattle.yq_meaning.specs.Judgement.{Judgement, and_then, gives, refuses}
 
 -- what came of both steps came of the first one
 pub then_gives : {A B : Type 0} (f : A → Judgement B) (j : Judgement A) (y : B) → and_then f j ≡ gives y → (x : A) × (j ≡ gives x) × (f x ≡ gives y)

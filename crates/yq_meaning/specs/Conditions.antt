@@ -10,7 +10,7 @@ use Rattle.yq_scalar.specs.SchemaReading.{int_value, is_true_word}
 use Rattle.yq_scalar.specs.Tree.{Node, alias, scalar, list, map}
 use Rattle.yq_lines.specs.Outline.{null_node}
 use Rattle.yq_meaning.specs.declared.refusal.Refusal.TheVariants.{ThroughAlias}
-use Rattle.yq_meaning.specs.Judgement.{Judgement, gives, refuses, and_then}
+use Rattle.yq_meaning.specs.Judgement.{Judgement, and_then, gives, refuses}
 use Rattle.yq_meaning.specs.Places.{Place, walk}
 use Rattle.yq_program.specs.Program.{Step, Operand, value_at, document_index, Condition, compares, has}
 

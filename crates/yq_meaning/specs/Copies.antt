@@ -5,7 +5,7 @@ use Rattle.yq_inline.specs.Values.{items, entries}
 use Rattle.yq_documents.specs.Documents.{Document}
 use Rattle.yq_meaning.specs.declared.refusal.Refusal.TheVariants.{ThroughAlias}
 use Rattle.yq_meaning.specs.Conditions.{value_of}
-use Rattle.yq_meaning.specs.Judgement.{Judgement, gives, refuses, and_then}
+use Rattle.yq_meaning.specs.Judgement.{Judgement, and_then, gives, refuses}
 use Rattle.yq_meaning.specs.Pipes.{places}
 use Rattle.yq_meaning.specs.Places.{Place, for_each}
 use Rattle.yq_program.specs.Program.{Stage}

@@ -8,7 +8,7 @@ use Rattle.yq_scalar.specs.Tree.{Node, alias, scalar, list, map, Children}
 use Rattle.yq_lines.specs.Counts.{count}
 use Rattle.yq_meaning.specs.declared.refusal.Refusal.{Refusal}
 use Rattle.yq_meaning.specs.declared.refusal.Refusal.TheVariants.{NotAMap, NotASequence, IndexOutOfRange, ThroughAlias}
-use Rattle.yq_meaning.specs.Judgement.{Judgement, gives, refuses, and_then}
+use Rattle.yq_meaning.specs.Judgement.{Judgement, and_then, gives, refuses}
 
 -- the item or entry to which a step of the tree leads, with that step, or none (own)
 abbrev pub Found : Type 0

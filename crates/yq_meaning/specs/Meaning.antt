@@ -12,7 +12,7 @@ use Rattle.yq_meaning.specs.Changes as changes
 use Rattle.yq_meaning.specs.Changes.{Addition, appends, overwrites, replaces, adds, sets_comment, Changed, Room, changes_of}
 use Rattle.yq_meaning.specs.Deeds as deeds
 use Rattle.yq_meaning.specs.Deeds.{Deed, becomes, done_by, at_once}
-use Rattle.yq_meaning.specs.Judgement.{Judgement, gives, and_then}
+use Rattle.yq_meaning.specs.Judgement.{Judgement, and_then, gives}
 use Rattle.yq_program.specs.Program.{Update}
 
 -- items or entries with an addition (own)

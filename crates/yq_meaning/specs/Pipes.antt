@@ -2,7 +2,7 @@
 use Rattle.std.specs.Prelude.{ℕ, Bool, true, false, List, [], ◌∷◌}
 use Rattle.yq_scalar.specs.Tree.{Node}
 use Rattle.yq_meaning.specs.Conditions.{holds}
-use Rattle.yq_meaning.specs.Judgement.{Judgement, gives, and_then}
+use Rattle.yq_meaning.specs.Judgement.{Judgement, and_then, gives}
 use Rattle.yq_meaning.specs.Places.{Place, root_place, for_each, in_turn, walk}
 use Rattle.yq_program.specs.Program.{Condition, Stage, path, select}
 

@@ -5,7 +5,7 @@ use Rattle.yq_scalar.specs.Paths.{To, Nth}
 use Rattle.yq_scalar.specs.Tree as tree
 use Rattle.yq_scalar.specs.Tree.{Label, Node, alias, scalar, list, Children, none, child}
 use Rattle.yq_meaning.specs.declared.refusal.Refusal.TheVariants.{NotASequence, ThroughAlias}
-use Rattle.yq_meaning.specs.Judgement.{Judgement, gives, refuses, and_then}
+use Rattle.yq_meaning.specs.Judgement.{Judgement, and_then, gives, refuses}
 use Rattle.yq_meaning.specs.Matching.{Found, in_scalar, key_step, index_step}
 use Rattle.yq_program.specs.Program.{Step, key, index, each}
 

@@ -7,7 +7,7 @@ use Rattle.yq_program.specs.declared.program.CommentPlace.{CommentPlace}
 use Rattle.yq_program.specs.declared.program.CommentPlace.TheVariants as comments
 use Rattle.yq_meaning.specs.Changes as changes
 use Rattle.yq_meaning.specs.Changes.{Addition, appends, overwrites, replaces, adds, sets_comment, Changed, Room, changes_of}
-use Rattle.yq_meaning.specs.Judgement.{Judgement, gives, and_then}
+use Rattle.yq_meaning.specs.Judgement.{Judgement, and_then, gives}
 use Rattle.yq_meaning.specs.Meaning.{roots_of}
 use Rattle.yq_meaning.specs.Operations.{Operation, replace, append, remove, line_comment, head_comment}
 use Rattle.yq_program.specs.Program.{Update, assign, delete, comment}

@@ -8,7 +8,7 @@ use Rattle.yq_lines.specs.Counts.{count}
 use Rattle.yq_documents.specs.Nodes.{kind_of}
 use Rattle.yq_documents.specs.declared.nodes.node.NodeKind.TheVariants as kinds
 use Rattle.yq_meaning.specs.Copies.{and_others, keyed, copy, item_copies, entry_copies}
-use Rattle.yq_meaning.specs.Judgement.{Judgement, gives, refuses, and_then}
+use Rattle.yq_meaning.specs.Judgement.{Judgement, and_then, gives, refuses}
 use Rattle.yq_planning.specs.PlaceView.{put_behind}
 
 -- one more behind what is there

@@ -1,4 +1,4 @@
--- Matches of a pipe in documents: the nodes of its places, one document more.
+-- Judges of a pipe in documents: the nodes of its places, one document more.
 use Rattle.std.proofs.Common.{◌≡◌, ℕ, zero, suc, ◌+◌, ◌<◌, ◌≤◌, Bool, true, false, cond, List, [], ◌∷◌, ◌++◌, length, map, drop, Option, Some, None, option_map, refl, sym, ap, ◌∙◌, subst, add-one, append-nil, arith}
 use Rattle.std.proofs.lemmas.List.{drop_all}
 use Rattle.std.proofs.lemmas.Option.{same_Some}
@@ -13,14 +13,14 @@ use Rattle.yq_scalar.specs.Tree.{Node, alias, scalar, list, Children, none, chil
 use Rattle.yq_documents.specs.Documents.{Document}
 use Rattle.yq_meaning.specs.Conditions.{node_there, value_of, holds}
 use Rattle.yq_meaning.specs.Copies.{matches_in, matches_from}
-use Rattle.yq_meaning.specs.Judgement.{Judgement, gives, and_then, Fails}
+use Rattle.yq_meaning.specs.Judgement.{Fails, Judgement, and_then, gives}
 use Rattle.yq_meaning.specs.Matching.{Found, find, in_scalar, key_step, item_number, index_step}
 use Rattle.yq_meaning.specs.Pipes.{kept, select_on, stage_on, pipe_on, places}
 use Rattle.yq_planning.specs.PlaceView.{put_behind}
 use Rattle.yq_meaning.specs.Places.{Place, root_place, child_place, for_each, miss, found_place, stepped, all_steps, step_there, step_from, step_on, in_turn}
 use Rattle.yq_program.specs.Program.{Step, key, index, each, Stage, path, select}
 use Rattle.yq_planning.specs.TreeScalars.{HasScalars, EachHasScalars, HaveScalars}
-use Rattle.yq_meaning.specs.declared.match_error.MatchError.{MatchError}
+use Rattle.yq_meaning.specs.declared.expr_error.ExprError.{ExprError}
 use Rattle.yq_meaning.specs.declared.refusal.Refusal.{Refusal}
 use Rattle.yq_meaning.specs.declared.refusal.Refusal.TheVariants.{NotAMap, NotASequence}
 use Rattle.yq_planning.proofs.EachLaws.{fails_then, put_both}
@@ -175,7 +175,7 @@ pub document_more : (pipe : List Stage) (docs : List Document) (i : ℕ) (d : Do
 document_more pipe docs i d before after all at h so_far =
     ap (and_then (λ ys. put_behind ys (matches_from (i + 1) pipe (drop (i + 1) docs)))) (sym h) ∙ (sym (behind_document pipe docs i d before at) ∙ so_far)
 
-pub document_fails : (pipe : List Stage) (docs : List Document) (i : ℕ) (d : Document) (before : List (ℕ × Node)) (all : Judgement (List (ℕ × Node))) (e : MatchError) → drop i docs ≡ d ∷ drop (suc i) docs →
+pub document_fails : (pipe : List Stage) (docs : List Document) (i : ℕ) (d : Document) (before : List (ℕ × Node)) (all : Judgement (List (ℕ × Node))) (e : ExprError) → drop i docs ≡ d ∷ drop (suc i) docs →
     Fails e (put_behind before (matches_in i pipe d.root)) → put_behind before (matches_from i pipe (drop i docs)) ≡ all → Fails e all
 document_fails pipe docs i d before all e at h so_far =
     subst (Fails e) (sym (behind_document pipe docs i d before at) ∙ so_far)

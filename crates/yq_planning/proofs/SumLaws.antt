@@ -21,7 +21,7 @@ use Rattle.yq_scalar.specs.declared.kind.Kind.TheVariants as kinds
 use Rattle.yq_scalar.proofs.SchemaLaws.{resolve_again}
 use Rattle.yq_documents.specs.TreeEdits.{new_label}
 use Rattle.yq_planning.specs.EntryNumbers.{entry_number, number_kept}
-use Rattle.yq_meaning.specs.Judgement.{Judgement, gives, refuses, and_then}
+use Rattle.yq_meaning.specs.Judgement.{Judgement, and_then, gives, refuses}
 use Rattle.yq_meaning.specs.Places.{Place, in_turn}
 use Rattle.yq_program.specs.Program.{Term}
 use Rattle.yq_meaning.specs.RightValues.{as_items, with_entry, with_entries, value_sum, sum, term_value, sum_from, right_value}

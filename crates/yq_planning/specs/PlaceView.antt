@@ -12,7 +12,7 @@ use Rattle.yq_planning.specs.declared.matching.place.NodePath.TheOpen.{NodePath-
 use Rattle.yq_planning.specs.declared.matching.place.Missing.{Missing, fold-Missing}
 use Rattle.yq_planning.specs.declared.matching.place.Missing.TheOpen.{Missing-F}
 use Rattle.yq_planning.specs.declared.matching.place.Place as declared
-use Rattle.yq_meaning.specs.Judgement.{Judgement, gives, and_then}
+use Rattle.yq_meaning.specs.Judgement.{Judgement, and_then, gives}
 use Rattle.yq_meaning.specs.Matching.{Found}
 use Rattle.yq_meaning.specs.Places.{Place}
 use Rattle.yq_program.specs.Program.{Step}

@@ -1,4 +1,4 @@
--- Matches of documents that are ready: trees with no more collections nested than in these.
+-- Judges of documents that are ready: trees with no more collections nested than in these.
 use Rattle.std.proofs.Common.{◌≡◌, ◌≤◌, ℕ, suc, Bool, true, false, cond, List, [], ◌∷◌, ◌++◌, max, Option, Some, None, option_and_then, Result, Ok, Err, IfOk, slice_get, refl, subst, arith}
 use Rattle.std.proofs.lemmas.Option.{none-some, same_Some}
 use Rattle.yq_scalar.specs.Keys.{depth, deepest}
@@ -11,13 +11,13 @@ use Rattle.yq_inline.specs.Values.{items, entries}
 use Rattle.yq_documents.specs.Documents.{Document}
 use Rattle.yq_meaning.specs.Conditions.{node_there, value_of}
 use Rattle.yq_meaning.specs.Copies.{and_others, keyed, copy, item_copies, entry_copies, copy_at, match_at, matches_in, matches_from, matches}
-use Rattle.yq_meaning.specs.Judgement.{gives, and_then, Matches}
+use Rattle.yq_meaning.specs.Judgement.{Judges, and_then, gives}
 use Rattle.yq_plans.specs.MatchTrees.{IsMatch, AreMatches}
 use Rattle.yq_meaning.specs.Pipes.{places}
 use Rattle.yq_meaning.specs.Places.{Place, for_each}
 use Rattle.yq_meaning.specs.PlacesApart.{IsIn}
 use Rattle.yq_program.specs.Program.{Stage, Step}
-use Rattle.yq_meaning.specs.declared.match_error.MatchError.{MatchError}
+use Rattle.yq_meaning.specs.declared.expr_error.ExprError.{ExprError}
 use Rattle.yq_meaning.proofs.JudgementLaws.{then_gives, gives_same}
 use Rattle.yq_meaning.proofs.GoodPlaces.{AreSound}
 use Rattle.yq_plans.proofs.updates.PipePlaces.{places_apart}
@@ -128,7 +128,7 @@ from_matches doc pipe (d ∷ ds) ms ready h =
     (join x.0 y.0 (document_matches doc pipe d.root x.0 (ready 0 d refl) x.1) (from_matches (suc doc) pipe ds y.0 (λ i e is. ready (suc i) e is) y.1))
 
 -- the answer to a read
-pub answer_matches : {X : Type 0} (view : X → List (ℕ × Node)) (r : Result X MatchError) (pipe : List Stage) (docs : List Document) → MayMatch docs → Matches view r (matches pipe docs) → IfOk r (λ v. AreMatches (view v))
+pub answer_matches : {X : Type 0} (view : X → List (ℕ × Node)) (r : Result X ExprError) (pipe : List Stage) (docs : List Document) → MayMatch docs → Judges view r (matches pipe docs) → IfOk r (λ v. AreMatches (view v))
 unfolding matches
 answer_matches view (Ok v) pipe docs ready h = from_matches 0 pipe docs (view v) ready h
 answer_matches view (Err e) pipe docs ready h = tt

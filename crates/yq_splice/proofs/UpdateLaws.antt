@@ -10,14 +10,14 @@ use Rattle.yq_rows.specs.Rows.{Cut}
 use Rattle.yq_documents.specs.Reading.{documents, documents_of, cut_of, read_at}
 use Rattle.yq_places.proofs.ExactReading.{parts_read}
 use Rattle.yq_meaning.specs.Judgement as judgement
-use Rattle.yq_meaning.specs.Judgement.{Plans}
+use Rattle.yq_meaning.specs.Judgement.{Judges}
 use Rattle.yq_meaning.specs.Operations.{Operation}
 use Rattle.yq_meaning.specs.Plans.{plan}
 use Rattle.yq_program.specs.Program.{Program, Update, assign, delete, comment, read, updates, update_at, update_count, UpdatesHold, LiteralsHold}
 use Rattle.yq_meaning.specs.Rooms.{room_of}
 use Rattle.yq_meaning.specs.declared.refusal.Refusal.{Refusal}
-use Rattle.yq_meaning.specs.declared.plan_error.PlanError.{PlanError}
-use Rattle.yq_meaning.specs.declared.plan_error.PlanError.TheVariants as planning
+use Rattle.yq_meaning.specs.declared.expr_error.ExprError.{ExprError}
+use Rattle.yq_meaning.specs.declared.expr_error.ExprError.TheVariants as planning
 use Rattle.yq_script.specs.Splice.{Splice}
 use Rattle.yq_script.proofs.PlaceInList.{get_some}
 use Rattle.yq_script.specs.declared.edited.Edited.{Edited}
@@ -92,8 +92,8 @@ update_not_read u bytes t reading.Memory same utf8 h = update_refused_memory u t
 update_not_read u bytes t (reading.Fault fault) same utf8 h = let k = text_unread bytes t fault same utf8 h in update_unread u t fault k.0 k.1
 
 -- an update that is not planned, by the documents of a text
-pub update_unplanned : {X : Type 0} (view : X → List Operation) (u : Update) (t d : List ℕ) (p : PlanError) → read_at t ≡ Some (cut_of d) → d ≡ t →
-    Plans view (Err p) (plan u (room_of d) (documents_of d)) → FailsAt (of_planning p) u t
+pub update_unplanned : {X : Type 0} (view : X → List Operation) (u : Update) (t d : List ℕ) (p : ExprError) → read_at t ≡ Some (cut_of d) → d ≡ t →
+    Judges view (Err p) (plan u (room_of d) (documents_of d)) → FailsAt (of_planning p) u t
 update_unplanned view u t d (planning.Refused why) is same h = update_refused u t (cut_of d) why is (ap (λ (x : List ℕ). plan u (room_of x) (documents_of d)) (sym same) ∙ h)
 update_unplanned view u t d planning.Memory is same h = update_refused_memory u t
 

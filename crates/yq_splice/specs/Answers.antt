@@ -3,8 +3,8 @@ use Rattle.std.specs.Prelude.{◌≡◌, ◌≢◌, Result, Ok, Err, string_byte
 use Rattle.yq_scalar.specs.declared.fault.FaultKind.TheVariants.{NotUtf8}
 use Rattle.yq_scalar.specs.declared.fault.ReadError.{ReadError}
 use Rattle.yq_scalar.specs.declared.fault.ReadError.TheVariants as reading
-use Rattle.yq_meaning.specs.declared.plan_error.PlanError.{PlanError}
-use Rattle.yq_meaning.specs.declared.plan_error.PlanError.TheVariants as planning
+use Rattle.yq_meaning.specs.declared.expr_error.ExprError.{ExprError}
+use Rattle.yq_meaning.specs.declared.expr_error.ExprError.TheVariants as planning
 use Rattle.yq_script.specs.declared.edited.Edited.{Edited}
 use Rattle.yq_script.specs.declared.exchange_error.ExchangeError.{ExchangeError}
 use Rattle.yq_script.specs.declared.exchange_error.ExchangeError.TheVariants as exchanging
@@ -19,7 +19,7 @@ of_reading reading.Memory = error.Memory
 of_reading (reading.Fault fault) = error.Read fault
 
 -- the error of an edit whose update is not planned (own)
-abbrev pub of_planning : PlanError → EditError
+abbrev pub of_planning : ExprError → EditError
 of_planning (planning.Refused why) = error.Refused why
 of_planning planning.Memory = error.Memory
 

@@ -1,7 +1,7 @@
 //! Why a text is not edited.
 
 use std::alloc::AllocError;
-use yq_expr::{PlanError, Refusal};
+use yq_expr::{ExprError, Refusal};
 use yq_scalar::{ReadError, ReadFault};
 use yq_script::ExchangeError;
 
@@ -41,16 +41,16 @@ impl From<ReadError> for EditError {
     }
 }
 
-impl From<PlanError> for EditError {
+impl From<ExprError> for EditError {
     ghost use Rattle.std.specs.Prelude.{◌≡◌};
     ghost use Rattle.yq_splice.specs.Answers.{of_planning};
 
     ghost from_gives = { λ p e. e ≡ of_planning p };
 
-    fn from(error: PlanError) -> EditError {
+    fn from(error: ExprError) -> EditError {
         match error {
-            PlanError::Refused(why) => EditError::Refused(why),
-            PlanError::Memory => EditError::Memory,
+            ExprError::Refused(why) => EditError::Refused(why),
+            ExprError::Memory => EditError::Memory,
         }
     }
 }

@@ -4,7 +4,7 @@ use super::shown::value;
 use std::alloc::{AllocError, Global};
 use std::process::Abort;
 use std::test::Fail;
-use yq_expr::{Match, MatchError, Refusal, matches, parse_expr};
+use yq_expr::{ExprError, Match, Refusal, matches, parse_expr};
 use yq_tree::read;
 
 /// A text, a read, and its matches in order, each as its document, counted from
@@ -166,7 +166,7 @@ fn matched(
     alloc: Global,
     text: &str,
     expr: &str,
-) -> Result<Result<Vec<Match>, MatchError>, Fail> {
+) -> Result<Result<Vec<Match>, ExprError>, Fail> {
     let documents = read(alloc, text.as_bytes())?;
     let program = parse_expr(alloc, expr)?;
     assert!(rt; program.is_read(), "at {expr:?}");
@@ -186,7 +186,7 @@ fn reads_of_texts(rt: HostRuntime) -> Result<(), Fail> {
         let error = matched(&rt, alloc, text, expr)?.err();
         assert_eq!(rt;
             error,
-            Some(MatchError::Refused(*wanted)),
+            Some(ExprError::Refused(*wanted)),
             "{expr} on {text:?}"
         );
     }

@@ -3,7 +3,7 @@
 use std::alloc::Global;
 use std::process::Abort;
 use std::test::Fail;
-use yq_expr::{MatchError, ParseError, PlanError, matches, parse_expr, plan};
+use yq_expr::{ExprError, ParseError, matches, parse_expr, plan};
 use yq_text_calls::all_memory;
 use yq_tree::read;
 
@@ -62,7 +62,7 @@ fn plan_in_turn(
                 return Ok(turn);
             }
             Err(e) => {
-                assert_eq!(rt; e, PlanError::Memory);
+                assert_eq!(rt; e, ExprError::Memory);
                 let _ = held.pop();
             }
         }
@@ -95,7 +95,7 @@ fn of_matches(rt: HostRuntime) -> Result<(), Fail> {
                 return Ok(());
             }
             Err(e) => {
-                assert_eq!(rt; e, MatchError::Memory);
+                assert_eq!(rt; e, ExprError::Memory);
                 let _ = held.pop();
             }
         }

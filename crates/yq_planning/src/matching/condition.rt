@@ -3,7 +3,7 @@ ghost use Rattle.std.specs.Prelude.{◌≡◌, map};
 ghost use Rattle.yq_scalar.specs.SchemaReading as numbers;
 ghost use Rattle.yq_documents.specs.Nodes.{node_of};
 ghost use Rattle.yq_meaning.specs.Conditions as spec;
-ghost use Rattle.yq_meaning.specs.Judgement.{Matches};
+ghost use Rattle.yq_meaning.specs.Judgement.{Judges};
 ghost use Rattle.yq_planning.specs.PlaceView.{place_of, places_of};
 ghost use Rattle.yq_program.specs.Program.{value_at};
 ghost use Rattle.yq_program.specs.View.{condition_of, operand_of, step_of};
@@ -13,7 +13,7 @@ use crate::matching::walk::walk;
 use bumpalo::Bump;
 use std::alloc::Global;
 use yq_documents::{Node, NodeKind};
-use yq_meaning::{MatchError, Refusal};
+use yq_meaning::{ExprError, Refusal};
 use yq_program::{Condition, Operand, Step};
 use yq_scalar::{Kind, Scalar, int_value, is_true_word};
 
@@ -53,20 +53,20 @@ fn same_scalar(kind: Kind, text: &str, scalar: &Scalar) -> bool
 }
 
 /// Whether a node is that scalar.
-fn node_is(node: Node<'_, '_>, scalar: &Scalar) -> Result<bool, MatchError>
-    ensures { Matches (λ b. b) result (spec.is_scalar scalar.now.kind scalar.now.text
+fn node_is(node: Node<'_, '_>, scalar: &Scalar) -> Result<bool, ExprError>
+    ensures { Judges (λ b. b) result (spec.is_scalar scalar.now.kind scalar.now.text
         (node_of node.entry)) }
 {
     match node.kind() {
-        NodeKind::Alias => Err(MatchError::Refused(Refusal::ThroughAlias)),
+        NodeKind::Alias => Err(ExprError::Refused(Refusal::ThroughAlias)),
         NodeKind::Scalar(kind) => Ok(same_scalar(kind, node.text(), scalar)),
         NodeKind::List | NodeKind::Map => Ok(false),
     }
 }
 
 /// Whether the value at a place is that scalar: null where a step is missing.
-fn place_is(place: Place<'_, '_>, scalar: &Scalar) -> Result<bool, MatchError>
-    ensures { Matches (λ b. b) result (spec.is_scalar scalar.now.kind scalar.now.text
+fn place_is(place: Place<'_, '_>, scalar: &Scalar) -> Result<bool, ExprError>
+    ensures { Judges (λ b. b) result (spec.is_scalar scalar.now.kind scalar.now.text
         (spec.value_of (place_of place.entry))) }
 {
     match place.found() {
@@ -76,8 +76,8 @@ fn place_is(place: Place<'_, '_>, scalar: &Scalar) -> Result<bool, MatchError>
 }
 
 /// Whether the value at the first of places is that scalar.
-fn first_is(places: &[Place<'_, '_>], scalar: &Scalar) -> Result<bool, MatchError>
-    ensures { Matches (λ b. b) result (spec.first_is scalar.now.kind scalar.now.text
+fn first_is(places: &[Place<'_, '_>], scalar: &Scalar) -> Result<bool, ExprError>
+    ensures { Judges (λ b. b) result (spec.first_is scalar.now.kind scalar.now.text
         (places_of places.now)) }
 {
     match places {
@@ -93,8 +93,8 @@ fn value_is<'a, 't>(
     steps: &'a [Step],
     scalar: &Scalar,
     place: Place<'a, 't>,
-) -> Result<bool, MatchError>
-    ensures { Matches (λ b. b) result (spec.operand_is 0 (value_at (map step_of steps.now))
+) -> Result<bool, ExprError>
+    ensures { Judges (λ b. b) result (spec.operand_is 0 (value_at (map step_of steps.now))
         scalar.now.kind scalar.now.text (place_of place.entry)) }
 {
     let mut start = Vec::with_capacity(alloc, 1)?;
@@ -111,8 +111,8 @@ fn operand_is<'a, 't>(
     operand: &'a Operand,
     scalar: &Scalar,
     place: Place<'a, 't>,
-) -> Result<bool, MatchError>
-    ensures { Matches (λ b. b) result (spec.operand_is doc (operand_of operand.now) scalar.now.kind
+) -> Result<bool, ExprError>
+    ensures { Judges (λ b. b) result (spec.operand_is doc (operand_of operand.now) scalar.now.kind
         scalar.now.text (place_of place.entry)) }
 {
     match operand {
@@ -125,19 +125,19 @@ fn operand_is<'a, 't>(
 }
 
 /// Whether a node is a mapping with that key.
-fn node_has(node: Node<'_, '_>, key: &str) -> Result<bool, MatchError>
-    ensures { Matches (λ b. b) result (spec.has_key key.now (node_of node.entry)) }
+fn node_has(node: Node<'_, '_>, key: &str) -> Result<bool, ExprError>
+    ensures { Judges (λ b. b) result (spec.has_key key.now (node_of node.entry)) }
 {
     match node.kind() {
-        NodeKind::Alias => Err(MatchError::Refused(Refusal::ThroughAlias)),
+        NodeKind::Alias => Err(ExprError::Refused(Refusal::ThroughAlias)),
         NodeKind::Scalar(_) | NodeKind::List => Ok(false),
         NodeKind::Map => Ok(node.entry(key).is_some()),
     }
 }
 
 /// Whether the value at a place is a mapping with that key.
-fn place_has(place: Place<'_, '_>, key: &str) -> Result<bool, MatchError>
-    ensures { Matches (λ b. b) result (spec.has_key key.now (spec.value_of (place_of place.entry))) }
+fn place_has(place: Place<'_, '_>, key: &str) -> Result<bool, ExprError>
+    ensures { Judges (λ b. b) result (spec.has_key key.now (spec.value_of (place_of place.entry))) }
 {
     match place.found() {
         Some(node) => node_has(node, key),
@@ -152,8 +152,8 @@ pub(crate) fn holds<'a, 't>(
     doc: usize,
     condition: &'a Condition,
     place: Place<'a, 't>,
-) -> Result<bool, MatchError>
-    ensures { Matches (λ b. b) result (spec.holds doc (condition_of condition.now)
+) -> Result<bool, ExprError>
+    ensures { Judges (λ b. b) result (spec.holds doc (condition_of condition.now)
         (place_of place.entry)) }
 {
     match condition {

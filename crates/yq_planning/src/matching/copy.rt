@@ -5,7 +5,7 @@ ghost use Rattle.yq_scalar.specs.Scalar.{IsScalar};
 ghost use Rattle.yq_scalar.specs.Tree.{children_of};
 ghost use Rattle.yq_documents.specs.Nodes.{label_of, node_of};
 ghost use Rattle.yq_meaning.specs.Copies as spec;
-ghost use Rattle.yq_meaning.specs.Judgement.{Matches};
+ghost use Rattle.yq_meaning.specs.Judgement.{Judges};
 ghost use Rattle.yq_meaning.specs.Conditions.{value_of};
 ghost use Rattle.yq_planning.specs.PlaceView.{place_of};
 ghost use Rattle.yq_planning.specs.TreeScalars.{EachHasScalars, HasScalars};
@@ -14,7 +14,7 @@ use crate::matching::place::Place;
 use std::alloc::{AllocError, Global};
 use yq_documents::{Node, NodeKind};
 use yq_inline::Value;
-use yq_meaning::{MatchError, Refusal};
+use yq_meaning::{ExprError, Refusal};
 use yq_scalar::{Kind, Scalar};
 
 /// The scalar of that kind and text.
@@ -42,12 +42,12 @@ fn key_of(alloc: Global, entry: Node<'_, '_>) -> Result<String, AllocError>
 
 /// A copy of a node: it has no anchors and no comments.
 #[cycle(copy)]
-pub(crate) fn copy(alloc: Global, node: Node<'_, '_>) -> Result<Value, MatchError>
+pub(crate) fn copy(alloc: Global, node: Node<'_, '_>) -> Result<Value, ExprError>
     requires { HasScalars (node_of node) }
-    ensures { Matches value_node result (spec.copy (node_of node.entry)) }
+    ensures { Judges value_node result (spec.copy (node_of node.entry)) }
 {
     match node.kind() {
-        NodeKind::Alias => Err(MatchError::Refused(Refusal::ThroughAlias)),
+        NodeKind::Alias => Err(ExprError::Refused(Refusal::ThroughAlias)),
         NodeKind::Scalar(kind) => Ok(Value::Scalar(scalar_of(alloc, kind, node.text())?)),
         NodeKind::List => Ok(Value::List(item_copies(alloc, node)?)),
         NodeKind::Map => Ok(Value::Map(entry_copies(alloc, node)?)),
@@ -56,9 +56,9 @@ pub(crate) fn copy(alloc: Global, node: Node<'_, '_>) -> Result<Value, MatchErro
 
 /// Copies of a node's items.
 #[cycle(copy)]
-fn item_copies(alloc: Global, node: Node<'_, '_>) -> Result<Vec<Value>, MatchError>
+fn item_copies(alloc: Global, node: Node<'_, '_>) -> Result<Vec<Value>, ExprError>
     requires { EachHasScalars (children_of (node_of node)) }
-    ensures { Matches (λ v. map value_node v.items) result
+    ensures { Judges (λ v. map value_node v.items) result
         (spec.item_copies (children_of (node_of node.entry))) }
 {
     let mut copies = Vec::new(alloc);
@@ -71,9 +71,9 @@ fn item_copies(alloc: Global, node: Node<'_, '_>) -> Result<Vec<Value>, MatchErr
 
 /// Copies of a node's entries, with their keys.
 #[cycle(copy)]
-fn entry_copies(alloc: Global, node: Node<'_, '_>) -> Result<Vec<(String, Value)>, MatchError>
+fn entry_copies(alloc: Global, node: Node<'_, '_>) -> Result<Vec<(String, Value)>, ExprError>
     requires { EachHasScalars (children_of (node_of node)) }
-    ensures { Matches (λ v. map field_of v.items) result
+    ensures { Judges (λ v. map field_of v.items) result
         (spec.entry_copies (children_of (node_of node.entry))) }
 {
     let mut copies = Vec::new(alloc);
@@ -86,9 +86,9 @@ fn entry_copies(alloc: Global, node: Node<'_, '_>) -> Result<Vec<(String, Value)
 }
 
 /// A copy of the value at a place: null where a step is missing.
-pub fn copy_at(alloc: Global, place: Place<'_, '_>) -> Result<Value, MatchError>
+pub fn copy_at(alloc: Global, place: Place<'_, '_>) -> Result<Value, ExprError>
     requires { HasScalars (value_of (place_of place)) }
-    ensures { Matches value_node result (spec.copy_at (place_of place.entry)) }
+    ensures { Judges value_node result (spec.copy_at (place_of place.entry)) }
 {
     match place.found() {
         Some(node) => copy(alloc, node),

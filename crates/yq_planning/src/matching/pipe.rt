@@ -1,7 +1,7 @@
 //! Where a pipe leads: each stage acts on all places before the next one does.
 ghost use Rattle.std.specs.Prelude.{◌≡◌, map};
 ghost use Rattle.yq_documents.specs.Nodes.{node_of};
-ghost use Rattle.yq_meaning.specs.Judgement.{Matches};
+ghost use Rattle.yq_meaning.specs.Judgement.{Judges};
 ghost use Rattle.yq_meaning.specs.Pipes as spec;
 ghost use Rattle.yq_planning.specs.PlaceView.{place_of, places_of, put_behind};
 ghost use Rattle.yq_meaning.specs.Places.{for_each};
@@ -13,7 +13,7 @@ use crate::matching::walk::walk;
 use bumpalo::Bump;
 use std::alloc::Global;
 use yq_documents::Node;
-use yq_meaning::MatchError;
+use yq_meaning::ExprError;
 use yq_program::{Condition, Stage};
 
 /// Puts a place behind others if the condition holds there.
@@ -23,8 +23,8 @@ fn push_kept<'a, 't>(
     condition: &'a Condition,
     place: Place<'a, 't>,
     places: &mut Vec<Place<'a, 't>>,
-) -> Result<(), MatchError>
-    ensures { Matches (λ _. places_of places.new.items) result
+) -> Result<(), ExprError>
+    ensures { Judges (λ _. places_of places.new.items) result
         (put_behind (places_of places.old.items)
         (spec.select_on doc (condition_of condition.now) (place_of place.entry))) }
 {
@@ -41,8 +41,8 @@ fn select_each<'a, 't>(
     doc: usize,
     condition: &'a Condition,
     places: &[Place<'a, 't>],
-) -> Result<Vec<Place<'a, 't>>, MatchError>
-    ensures { Matches (λ v. places_of v.items) result
+) -> Result<Vec<Place<'a, 't>>, ExprError>
+    ensures { Judges (λ v. places_of v.items) result
         (for_each (spec.select_on doc (condition_of condition.now)) (places_of places.now)) }
 {
     let mut kept = Vec::new(alloc);
@@ -59,8 +59,8 @@ fn stage_on<'a, 't>(
     doc: usize,
     stage: &'a Stage,
     places: Vec<Place<'a, 't>>,
-) -> Result<Vec<Place<'a, 't>>, MatchError>
-    ensures { Matches (λ v. places_of v.items) result
+) -> Result<Vec<Place<'a, 't>>, ExprError>
+    ensures { Judges (λ v. places_of v.items) result
         (spec.stage_on doc (stage_of stage.now) (places_of places.entry.items)) }
 {
     match stage {
@@ -76,8 +76,8 @@ pub(crate) fn pipe_on<'a, 't>(
     doc: usize,
     pipe: &'a [Stage],
     start: Vec<Place<'a, 't>>,
-) -> Result<Vec<Place<'a, 't>>, MatchError>
-    ensures { Matches (λ v. places_of v.items) result
+) -> Result<Vec<Place<'a, 't>>, ExprError>
+    ensures { Judges (λ v. places_of v.items) result
         (spec.pipe_on doc (map stage_of pipe.now) (places_of start.entry.items)) }
 {
     let mut places = start;
@@ -94,8 +94,8 @@ pub fn find<'a, 't>(
     doc: usize,
     pipe: &'a [Stage],
     root: Node<'a, 't>,
-) -> Result<Vec<Place<'a, 't>>, MatchError>
-    ensures { Matches (λ v. places_of v.items) result
+) -> Result<Vec<Place<'a, 't>>, ExprError>
+    ensures { Judges (λ v. places_of v.items) result
         (spec.places doc (map stage_of pipe.now) (node_of root.entry)) }
 {
     let mut start = Vec::with_capacity(alloc, 1)?;

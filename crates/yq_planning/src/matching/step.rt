@@ -3,13 +3,13 @@ ghost use Rattle.std.specs.Prelude.{◌≡◌, option_map, Some};
 ghost use Rattle.yq_scalar.specs.Paths.{To, Nth};
 ghost use Rattle.yq_scalar.specs.Tree.{children_of};
 ghost use Rattle.yq_documents.specs.Nodes.{node_of};
-ghost use Rattle.yq_meaning.specs.Judgement.{Matches};
+ghost use Rattle.yq_meaning.specs.Judgement.{Judges};
 ghost use Rattle.yq_meaning.specs.Matching as spec;
 ghost use Rattle.yq_planning.specs.PlaceView.{found_of};
 
 use crate::matching::place::NodeStep;
 use yq_documents::{Node, NodeKind};
-use yq_meaning::{MatchError, Refusal};
+use yq_meaning::{ExprError, Refusal};
 use yq_scalar::Kind;
 
 /// The entry of a key, if there is one, with the step that leads to it.
@@ -24,20 +24,20 @@ fn entry<'a, 't>(node: Node<'a, 't>, key: &'a str) -> Option<(NodeStep<'a>, Node
 pub(crate) fn key_step<'a, 't>(
     node: Node<'a, 't>,
     key: &'a str,
-) -> Result<Option<(NodeStep<'a>, Node<'a, 't>)>, MatchError>
-    ensures { Matches found_of result (spec.key_step key.now (node_of node.entry)) }
+) -> Result<Option<(NodeStep<'a>, Node<'a, 't>)>, ExprError>
+    ensures { Judges found_of result (spec.key_step key.now (node_of node.entry)) }
 {
     match node.kind() {
-        NodeKind::Alias => Err(MatchError::Refused(Refusal::ThroughAlias)),
+        NodeKind::Alias => Err(ExprError::Refused(Refusal::ThroughAlias)),
         NodeKind::Scalar(Kind::Null) => Ok(None),
-        NodeKind::Scalar(_) | NodeKind::List => Err(MatchError::Refused(Refusal::NotAMap)),
+        NodeKind::Scalar(_) | NodeKind::List => Err(ExprError::Refused(Refusal::NotAMap)),
         NodeKind::Map => Ok(entry(node, key)),
     }
 }
 
 /// The number from 0 of the item of an index.
-fn item_number(node: Node<'_, '_>, index: i64) -> Result<usize, MatchError>
-    ensures { Matches (λ n. n) result (spec.item_number index (children_of (node_of node.entry))) }
+fn item_number(node: Node<'_, '_>, index: i64) -> Result<usize, ExprError>
+    ensures { Judges (λ n. n) result (spec.item_number index (children_of (node_of node.entry))) }
 {
     if index >= 0 {
         return Ok(index as usize);
@@ -45,7 +45,7 @@ fn item_number(node: Node<'_, '_>, index: i64) -> Result<usize, MatchError>
     let all = node.count();
     let back = index.unsigned_abs() as usize;
     if all < back {
-        return Err(MatchError::Refused(Refusal::IndexOutOfRange));
+        return Err(ExprError::Refused(Refusal::IndexOutOfRange));
     }
     Ok(all - back)
 }
@@ -54,8 +54,8 @@ fn item_number(node: Node<'_, '_>, index: i64) -> Result<usize, MatchError>
 fn item<'a, 't>(
     node: Node<'a, 't>,
     index: i64,
-) -> Result<Option<(NodeStep<'a>, Node<'a, 't>)>, MatchError>
-    ensures { Matches found_of result (spec.item index (children_of (node_of node.entry))) }
+) -> Result<Option<(NodeStep<'a>, Node<'a, 't>)>, ExprError>
+    ensures { Judges found_of result (spec.item index (children_of (node_of node.entry))) }
 {
     let number = item_number(node, index)?;
     let Some(item) = node.item(number) else {
@@ -68,13 +68,13 @@ fn item<'a, 't>(
 pub(crate) fn index_step<'a, 't>(
     node: Node<'a, 't>,
     index: i64,
-) -> Result<Option<(NodeStep<'a>, Node<'a, 't>)>, MatchError>
-    ensures { Matches found_of result (spec.index_step index (node_of node.entry)) }
+) -> Result<Option<(NodeStep<'a>, Node<'a, 't>)>, ExprError>
+    ensures { Judges found_of result (spec.index_step index (node_of node.entry)) }
 {
     match node.kind() {
-        NodeKind::Alias => Err(MatchError::Refused(Refusal::ThroughAlias)),
+        NodeKind::Alias => Err(ExprError::Refused(Refusal::ThroughAlias)),
         NodeKind::Scalar(Kind::Null) => Ok(None),
-        NodeKind::Scalar(_) | NodeKind::Map => Err(MatchError::Refused(Refusal::NotASequence)),
+        NodeKind::Scalar(_) | NodeKind::Map => Err(ExprError::Refused(Refusal::NotASequence)),
         NodeKind::List => item(node, index),
     }
 }

@@ -3,7 +3,7 @@
 ghost use Rattle.std.specs.Prelude.{◌≡◌, ◌++◌, map, IfOk, OnOk};
 ghost use Rattle.yq_scalar.specs.Tree.{children_of};
 ghost use Rattle.yq_documents.specs.Nodes.{label_of, node_of};
-ghost use Rattle.yq_meaning.specs.Judgement.{Matches};
+ghost use Rattle.yq_meaning.specs.Judgement.{Judges};
 ghost use Rattle.yq_planning.specs.PlaceView.{found_of, node_step_of, place_of, places_of, put_behind};
 ghost use Rattle.yq_meaning.specs.Places as spec;
 ghost use Rattle.yq_program.specs.Program.{each};
@@ -14,7 +14,7 @@ use crate::matching::step::{index_step, key_step};
 use bumpalo::Bump;
 use std::alloc::{AllocError, Global};
 use yq_documents::{Node, NodeKind};
-use yq_meaning::{MatchError, Refusal};
+use yq_meaning::{ExprError, Refusal};
 use yq_program::Step;
 use yq_scalar::Kind;
 
@@ -99,14 +99,14 @@ fn push_all<'a, 't>(
     bump: &'a Bump,
     place: Place<'a, 't>,
     places: &mut Vec<Place<'a, 't>>,
-) -> Result<(), MatchError>
-    ensures { Matches (λ _. places_of places.new.items) result
+) -> Result<(), ExprError>
+    ensures { Judges (λ _. places_of places.new.items) result
         (put_behind (places_of places.old.items) (spec.step_there each (place_of place.entry))) }
 {
     match place.node.kind() {
-        NodeKind::Alias => Err(MatchError::Refused(Refusal::ThroughAlias)),
+        NodeKind::Alias => Err(ExprError::Refused(Refusal::ThroughAlias)),
         NodeKind::Scalar(Kind::Null) => Ok(()),
-        NodeKind::Scalar(_) => Err(MatchError::Refused(Refusal::NotASequence)),
+        NodeKind::Scalar(_) => Err(ExprError::Refused(Refusal::NotASequence)),
         NodeKind::List | NodeKind::Map => Ok(push_children(bump, place, places)?),
     }
 }
@@ -118,8 +118,8 @@ fn push_step<'a, 't>(
     step: &'a Step,
     place: Place<'a, 't>,
     places: &mut Vec<Place<'a, 't>>,
-) -> Result<(), MatchError>
-    ensures { Matches (λ _. places_of places.new.items) result
+) -> Result<(), ExprError>
+    ensures { Judges (λ _. places_of places.new.items) result
         (put_behind (places_of places.old.items)
         (spec.step_on (step_of step.now) (place_of place.entry))) }
 {
@@ -145,8 +145,8 @@ fn step_each<'a, 't>(
     bump: &'a Bump,
     step: &'a Step,
     places: &[Place<'a, 't>],
-) -> Result<Vec<Place<'a, 't>>, MatchError>
-    ensures { Matches (λ v. places_of v.items) result
+) -> Result<Vec<Place<'a, 't>>, ExprError>
+    ensures { Judges (λ v. places_of v.items) result
         (spec.for_each (spec.step_on (step_of step.now)) (places_of places.now)) }
 {
     let mut next = Vec::new(alloc);
@@ -162,8 +162,8 @@ pub(crate) fn walk<'a, 't>(
     bump: &'a Bump,
     steps: &'a [Step],
     start: Vec<Place<'a, 't>>,
-) -> Result<Vec<Place<'a, 't>>, MatchError>
-    ensures { Matches (λ v. places_of v.items) result
+) -> Result<Vec<Place<'a, 't>>, ExprError>
+    ensures { Judges (λ v. places_of v.items) result
         (spec.walk (map step_of steps.now) (places_of start.entry.items)) }
 {
     let mut places = start;

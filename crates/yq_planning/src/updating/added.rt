@@ -6,7 +6,7 @@ ghost use Rattle.yq_documents.specs.Nodes.{node_of};
 ghost use Rattle.yq_meaning.specs.Changes as spec;
 ghost use Rattle.yq_planning.specs.ChangeView.{addition_of, change_of};
 ghost use Rattle.yq_planning.specs.Indexes.{IsIndex};
-ghost use Rattle.yq_meaning.specs.Judgement.{Matches};
+ghost use Rattle.yq_meaning.specs.Judgement.{Judges};
 ghost use Rattle.yq_meaning.specs.RightValues as values;
 
 use crate::updating::change::{Addition, Change};
@@ -16,19 +16,19 @@ use crate::updating::sum::scalar_sum;
 use std::alloc::{AllocError, Global};
 use yq_documents::{Node, NodeKind};
 use yq_inline::Value;
-use yq_meaning::{MatchError, Refusal};
+use yq_meaning::{ExprError, Refusal};
 use yq_scalar::Kind;
 
 /// A value that is added to a scalar.
-fn to_scalar(alloc: Global, kind: Kind, text: &str, value: &Value) -> Result<Change, MatchError>
+fn to_scalar(alloc: Global, kind: Kind, text: &str, value: &Value) -> Result<Change, ExprError>
     requires { values.is_null (value_node value.now) ≡ false }
-    ensures { Matches change_of result (spec.added (scalar None kind text.now)
+    ensures { Judges change_of result (spec.added (scalar None kind text.now)
         (value_node value.now)) }
 {
     match (kind, value) {
         (Kind::Null, _) => Ok(Change::Replaces(copied(alloc, value)?)),
         (_, Value::Scalar(other)) => Ok(Change::Replaces(scalar_sum(alloc, kind, text, other)?)),
-        (_, Value::List(_) | Value::Map(_)) => Err(MatchError::Refused(Refusal::KindMismatch)),
+        (_, Value::List(_) | Value::Map(_)) => Err(ExprError::Refused(Refusal::KindMismatch)),
     }
 }
 
@@ -100,24 +100,24 @@ fn entries(
 }
 
 /// The entries of a value for a mapping.
-fn to_map(alloc: Global, node: Node<'_, '_>, value: &Value) -> Result<Change, MatchError>
-    ensures { Matches change_of result (spec.added_entries (children_of (node_of node.entry))
+fn to_map(alloc: Global, node: Node<'_, '_>, value: &Value) -> Result<Change, ExprError>
+    ensures { Judges change_of result (spec.added_entries (children_of (node_of node.entry))
         (value_node value.now)) }
 {
     let Value::Map(others) = value else {
-        return Err(MatchError::Refused(Refusal::KindMismatch));
+        return Err(ExprError::Refused(Refusal::KindMismatch));
     };
     let index = index_of(alloc, node)?;
     Ok(Change::Adds(entries(alloc, &index, others)?))
 }
 
 /// What a value changes that is added to a node.
-pub fn added(alloc: Global, node: Node<'_, '_>, value: &Value) -> Result<Change, MatchError>
+pub fn added(alloc: Global, node: Node<'_, '_>, value: &Value) -> Result<Change, ExprError>
     requires { values.is_null (value_node value.now) ≡ false }
-    ensures { Matches change_of result (spec.added (node_of node.entry) (value_node value.now)) }
+    ensures { Judges change_of result (spec.added (node_of node.entry) (value_node value.now)) }
 {
     match node.kind() {
-        NodeKind::Alias => Err(MatchError::Refused(Refusal::ThroughAlias)),
+        NodeKind::Alias => Err(ExprError::Refused(Refusal::ThroughAlias)),
         NodeKind::Scalar(kind) => to_scalar(alloc, kind, node.text(), value),
         NodeKind::List => Ok(Change::Adds(to_list(alloc, value)?)),
         NodeKind::Map => to_map(alloc, node, value),

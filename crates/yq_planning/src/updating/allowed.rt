@@ -8,7 +8,7 @@ ghost use Rattle.yq_documents.specs.Nodes.{node_of};
 ghost use Rattle.yq_meaning.specs.Changes as spec;
 ghost use Rattle.yq_planning.specs.ChangeView.{addition_of, change_of};
 ghost use Rattle.yq_planning.specs.Indexes.{HasAliases, IsIndex};
-ghost use Rattle.yq_meaning.specs.Judgement.{Matches};
+ghost use Rattle.yq_meaning.specs.Judgement.{Judges};
 ghost use Rattle.yq_planning.specs.TakenNames.{takes_at, overwrites_at};
 
 use crate::updating::anchors::{Aliases, is_used_in, is_used_inside};
@@ -17,7 +17,7 @@ use crate::updating::change_limits::{is_too_deep, is_too_long};
 use crate::updating::entry_index::{EntryIndex, find, index_of};
 use std::alloc::{AllocError, Global};
 use yq_documents::Node;
-use yq_meaning::{MatchError, Refusal};
+use yq_meaning::{ExprError, Refusal};
 
 /// Whether what is overwritten by an addition to a mapping holds an anchor that
 /// an alias names.
@@ -84,20 +84,20 @@ pub fn allow(
     node: Node<'_, '_>,
     outer: usize,
     change: &Change,
-) -> Result<(), MatchError>
+) -> Result<(), ExprError>
     ensures { (root : TreeNode) (x : List TreeStep) → HasAliases (names_of root) aliases.now →
         node_at x root ≡ Some (node_of node.entry) → length x ≡ outer →
-        Matches (λ _. (x, change_of change.now)) result
+        Judges (λ _. (x, change_of change.now)) result
         (spec.allowed root (x, change_of change.now)) }
 {
     if is_too_long(alloc, change)? {
-        return Err(MatchError::Refused(Refusal::KeyTooLong));
+        return Err(ExprError::Refused(Refusal::KeyTooLong));
     }
     if is_too_deep(outer, change) {
-        return Err(MatchError::Refused(Refusal::TooDeep));
+        return Err(ExprError::Refused(Refusal::TooDeep));
     }
     if takes_used(alloc, aliases, node, change)? {
-        return Err(MatchError::Refused(Refusal::AnchorInUse));
+        return Err(ExprError::Refused(Refusal::AnchorInUse));
     }
     Ok(())
 }

@@ -8,7 +8,7 @@ ghost use Rattle.yq_documents.specs.TreeEdits.{new_label};
 ghost use Rattle.yq_meaning.specs.Changes as spec;
 ghost use Rattle.yq_planning.specs.ChangeView.{change_of};
 ghost use Rattle.yq_planning.specs.ChangeView.{placed_change};
-ghost use Rattle.yq_meaning.specs.Judgement.{Matches};
+ghost use Rattle.yq_meaning.specs.Judgement.{Judges};
 ghost use Rattle.yq_planning.specs.PlaceView.{place_of};
 ghost use Rattle.yq_program.specs.Program.{is_index};
 ghost use Rattle.yq_program.specs.View.{step_of};
@@ -19,7 +19,7 @@ use crate::updating::steps::missing_steps;
 use std::alloc::{AllocError, Global};
 use yq_documents::{Node, NodeKind};
 use yq_inline::Value;
-use yq_meaning::{MatchError, Refusal};
+use yq_meaning::{ExprError, Refusal};
 use yq_program::{Step, is_index};
 
 /// Whether some step is an index.
@@ -106,22 +106,22 @@ fn put_below(
     node: Node<'_, '_>,
     missing: &[&Step],
     value: Value,
-) -> Result<Change, MatchError>
-    ensures { Matches change_of result (spec.put_below (node_of node.entry)
+) -> Result<Change, ExprError>
+    ensures { Judges change_of result (spec.put_below (node_of node.entry)
         (map (λ s. step_of s.now) missing.now) (value_node value)) }
 {
     let [first, others @ ..] = missing else {
         return Ok(Change::Replaces(value));
     };
     if has_index(missing) {
-        return Err(MatchError::Refused(Refusal::IndexOutOfRange));
+        return Err(ExprError::Refused(Refusal::IndexOutOfRange));
     }
     Ok(made(alloc, node, first, others, value)?)
 }
 
 /// What a value changes that is put at a place.
-pub fn put(alloc: Global, place: Place<'_, '_>, value: Value) -> Result<Change, MatchError>
-    ensures { Matches (placed_change (place_of place.entry)) result
+pub fn put(alloc: Global, place: Place<'_, '_>, value: Value) -> Result<Change, ExprError>
+    ensures { Judges (placed_change (place_of place.entry)) result
         (spec.put_at (place_of place.entry) (value_node value)) }
 {
     let missing = missing_steps(alloc, place.missing)?;

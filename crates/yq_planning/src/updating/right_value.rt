@@ -1,7 +1,7 @@
 //! Right sides: sums of terms, from a place.
 ghost use Rattle.std.specs.Prelude.{◌≡◌, ◌∷◌, [], map};
 ghost use Rattle.yq_inline.specs.Values.{node_of};
-ghost use Rattle.yq_meaning.specs.Judgement.{Matches, and_then};
+ghost use Rattle.yq_meaning.specs.Judgement.{Judges, and_then};
 ghost use Rattle.yq_meaning.specs.Pipes.{pipe_on};
 ghost use Rattle.yq_planning.specs.PlaceView.{place_of, places_of};
 ghost use Rattle.yq_meaning.specs.Places.{in_turn};
@@ -17,18 +17,18 @@ use crate::updating::sum::sum;
 use bumpalo::Bump;
 use std::alloc::Global;
 use yq_inline::Value;
-use yq_meaning::{MatchError, Refusal};
+use yq_meaning::{ExprError, Refusal};
 use yq_program::{Stage, Term};
 use yq_scalar::Scalar;
 
 /// A copy of the value at the one place that there is.
-fn only(alloc: Global, places: &[Place<'_, '_>]) -> Result<Value, MatchError>
+fn only(alloc: Global, places: &[Place<'_, '_>]) -> Result<Value, ExprError>
     requires { HaveScalars (places_of places.now) }
-    ensures { Matches node_of result (spec.only_copy (places_of places.now)) }
+    ensures { Judges node_of result (spec.only_copy (places_of places.now)) }
 {
     match places {
         [place] => copy_at(alloc, *place),
-        _ => Err(MatchError::Refused(Refusal::NotOneValue)),
+        _ => Err(ExprError::Refused(Refusal::NotOneValue)),
     }
 }
 
@@ -38,9 +38,9 @@ fn found_value<'a, 't>(
     doc: usize,
     pipe: &'a [Stage],
     place: Place<'a, 't>,
-) -> Result<Value, MatchError>
+) -> Result<Value, ExprError>
     requires { HasScalars (place_of place).node }
-    ensures { Matches node_of result (and_then spec.only_copy
+    ensures { Judges node_of result (and_then spec.only_copy
         (pipe_on doc (map stage_of pipe.now) (place_of place.entry ∷ []))) }
 {
     let bump = Bump::new(alloc);
@@ -56,9 +56,9 @@ fn term_value<'a, 't>(
     doc: usize,
     term: &'a Term,
     place: Place<'a, 't>,
-) -> Result<Value, MatchError>
+) -> Result<Value, ExprError>
     requires { HasScalars (place_of place).node }
-    ensures { Matches node_of result (spec.term_value doc (place_of place.entry) (term_of term.now)) }
+    ensures { Judges node_of result (spec.term_value doc (place_of place.entry) (term_of term.now)) }
 {
     match term {
         Term::Literal(value) => Ok(copied(alloc, value)?),
@@ -73,9 +73,9 @@ fn with_term<'a, 't>(
     total: Value,
     term: &'a Term,
     place: Place<'a, 't>,
-) -> Result<Value, MatchError>
+) -> Result<Value, ExprError>
     requires { HasScalars (place_of place).node }
-    ensures { Matches node_of result (and_then (spec.sum (node_of total))
+    ensures { Judges node_of result (and_then (spec.sum (node_of total))
         (spec.term_value doc (place_of place.entry) (term_of term.now))) }
 {
     let value = term_value(alloc, doc, term, place)?;
@@ -89,9 +89,9 @@ fn with_terms<'a, 't>(
     first: Value,
     terms: &'a [Term],
     place: Place<'a, 't>,
-) -> Result<Value, MatchError>
+) -> Result<Value, ExprError>
     requires { HasScalars (place_of place).node }
-    ensures { Matches node_of result (in_turn (λ t v. and_then (spec.sum v)
+    ensures { Judges node_of result (in_turn (λ t v. and_then (spec.sum v)
         (spec.term_value doc (place_of place.entry) t)) (map term_of terms.now) (node_of first)) }
 {
     let mut total = first;
@@ -107,9 +107,9 @@ pub fn right_value<'a, 't>(
     doc: usize,
     terms: &'a [Term],
     place: Place<'a, 't>,
-) -> Result<Value, MatchError>
+) -> Result<Value, ExprError>
     requires { HasScalars (place_of place).node }
-    ensures { Matches node_of result (spec.right_value doc (map term_of terms.now)
+    ensures { Judges node_of result (spec.right_value doc (map term_of terms.now)
         (place_of place.entry)) }
 {
     let [term, others @ ..] = terms else {

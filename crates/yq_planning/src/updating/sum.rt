@@ -7,13 +7,13 @@ ghost use Rattle.yq_scalar.specs.Tree.{scalar};
 ghost use Rattle.yq_scalar.specs.declared.kind.Kind.TheVariants.{Int, Text};
 ghost use Rattle.yq_scalar.specs.Paths.{append_children};
 ghost use Rattle.yq_planning.specs.EntryNumbers.{AreNumbered};
-ghost use Rattle.yq_meaning.specs.Judgement.{Matches};
+ghost use Rattle.yq_meaning.specs.Judgement.{Judges};
 ghost use Rattle.yq_meaning.specs.RightValues as spec;
 
 use crate::updating::key_numbers::{KeyNumbers, keep_number, number_of, numbers_of};
 use std::alloc::{AllocError, Global};
 use yq_inline::Value;
-use yq_meaning::{MatchError, Refusal};
+use yq_meaning::{ExprError, Refusal};
 use yq_scalar::{Kind, Scalar, int_value};
 
 /// The int of a number.
@@ -25,16 +25,16 @@ fn int(alloc: Global, number: i64) -> Result<Value, AllocError>
 }
 
 /// The sum of two ints.
-fn int_sum(alloc: Global, one: &str, other: &str) -> Result<Value, MatchError>
-    ensures { Matches node_of result (spec.int_sum (numbers.int_value one.now)
+fn int_sum(alloc: Global, one: &str, other: &str) -> Result<Value, ExprError>
+    ensures { Judges node_of result (spec.int_sum (numbers.int_value one.now)
         (numbers.int_value other.now)) }
 {
     let (Some(m), Some(n)) = (int_value(one), int_value(other)) else {
-        return Err(MatchError::Refused(Refusal::IntegerRange));
+        return Err(ExprError::Refused(Refusal::IntegerRange));
     };
     match m.checked_add(n) {
         Some(total) => Ok(int(alloc, total)?),
-        None => Err(MatchError::Refused(Refusal::IntegerRange)),
+        None => Err(ExprError::Refused(Refusal::IntegerRange)),
     }
 }
 
@@ -53,16 +53,16 @@ pub(crate) fn scalar_sum(
     kind: Kind,
     text: &str,
     other: &Scalar,
-) -> Result<Value, MatchError>
-    ensures { Matches node_of result (spec.scalar_sum kind text.now other.now.kind other.now.text) }
+) -> Result<Value, ExprError>
+    ensures { Judges node_of result (spec.scalar_sum kind text.now other.now.kind other.now.text) }
 {
     match (kind, other.kind()) {
         (Kind::Int, Kind::Int) => int_sum(alloc, text, other.text()),
         (Kind::Text, Kind::Text) => Ok(text_sum(alloc, text, other.text())?),
         (Kind::Int, Kind::Float) | (Kind::Float, Kind::Int) | (Kind::Float, Kind::Float) => {
-            Err(MatchError::Refused(Refusal::FloatArithmetic))
+            Err(ExprError::Refused(Refusal::FloatArithmetic))
         }
-        _ => Err(MatchError::Refused(Refusal::KindMismatch)),
+        _ => Err(ExprError::Refused(Refusal::KindMismatch)),
     }
 }
 
@@ -158,8 +158,8 @@ fn joined(
 }
 
 /// The sum of two values, neither of which is null.
-fn value_sum(alloc: Global, one: Value, other: Value) -> Result<Value, MatchError>
-    ensures { Matches node_of result (spec.value_sum (node_of one) (node_of other)) }
+fn value_sum(alloc: Global, one: Value, other: Value) -> Result<Value, ExprError>
+    ensures { Judges node_of result (spec.value_sum (node_of one) (node_of other)) }
 {
     match (one, other) {
         (Value::Scalar(scalar), Value::Scalar(added)) => {
@@ -171,13 +171,13 @@ fn value_sum(alloc: Global, one: Value, other: Value) -> Result<Value, MatchErro
             Ok(Value::List(all))
         }
         (Value::Map(entries), Value::Map(added)) => Ok(Value::Map(joined(alloc, entries, added)?)),
-        _ => Err(MatchError::Refused(Refusal::KindMismatch)),
+        _ => Err(ExprError::Refused(Refusal::KindMismatch)),
     }
 }
 
 /// The sum of two values.
-pub(crate) fn sum(alloc: Global, one: Value, other: Value) -> Result<Value, MatchError>
-    ensures { Matches node_of result (spec.sum (node_of one) (node_of other)) }
+pub(crate) fn sum(alloc: Global, one: Value, other: Value) -> Result<Value, ExprError>
+    ensures { Judges node_of result (spec.sum (node_of one) (node_of other)) }
 {
     if is_null(&one) {
         return Ok(other);

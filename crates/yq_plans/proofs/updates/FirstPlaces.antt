@@ -7,7 +7,7 @@ use Rattle.yq_scalar.specs.Tree.{Label, Node, alias, scalar, list, Children, non
 use Rattle.yq_scalar.specs.Paths as paths
 use Rattle.yq_scalar.specs.Paths.{node_at}
 use Rattle.yq_meaning.specs.declared.refusal.Refusal.TheVariants.{NotASequence}
-use Rattle.yq_meaning.specs.Judgement.{Judgement, gives, and_then}
+use Rattle.yq_meaning.specs.Judgement.{Judgement, and_then, gives}
 use Rattle.yq_meaning.specs.Matching.{Found, in_scalar, key_step, index_step}
 use Rattle.yq_program.specs.Program.{Step, key, index, each, Condition, Stage, path, select}
 use Rattle.yq_meaning.specs.Conditions.{holds}

@@ -10,7 +10,7 @@ use Rattle.yq_scalar.specs.Anchors.{names_of}
 use Rattle.yq_program.specs.declared.program.CommentPlace.{CommentPlace}
 use Rattle.yq_program.specs.declared.program.Operator.TheVariants as operator
 use Rattle.yq_meaning.specs.declared.refusal.Refusal.TheVariants.{IndexOutOfRange, NoPlaceForComment, AnchorInUse, TooDeep, KeyTooLong}
-use Rattle.yq_meaning.specs.Judgement.{Judgement, gives, refuses, and_then}
+use Rattle.yq_meaning.specs.Judgement.{Judgement, and_then, gives, refuses}
 use Rattle.yq_meaning.specs.Changes.{appends, overwrites, Change, replaces, adds, sets_comment, Changed, Room, is_long, has_long_key, is_deep, nested, made, put_below, put_at, addition, additions, added, add_below, add_at}
 use Rattle.yq_meaning.specs.Changes.{remove_below, remove_at, is_there, comment_at, is_too_long, is_too_deep, is_used_inside, is_used_in, takes_used, allowed, all_allowed, at_each, with_value, changes_at, left_of, changes_in}
 use Rattle.yq_meaning.specs.Changes.{is_comment, has_comment, value_in}

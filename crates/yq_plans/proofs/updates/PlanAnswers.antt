@@ -2,13 +2,13 @@
 use Rattle.std.proofs.Common.{◌≡◌, ◌⊎◌, ℕ, zero, suc, List, [], ◌∷◌, Some, Result, Ok, Err, IfOk, refl, ap, subst, inl, inr}
 use Rattle.std.specs.List.{slice_get}
 use Rattle.yq_documents.specs.Documents.{Document}
-use Rattle.yq_meaning.specs.declared.plan_error.PlanError.{PlanError}
-use Rattle.yq_meaning.specs.declared.plan_error.PlanError.TheVariants as error
+use Rattle.yq_meaning.specs.declared.expr_error.ExprError.{ExprError}
+use Rattle.yq_meaning.specs.declared.expr_error.ExprError.TheVariants as error
 use Rattle.yq_meaning.specs.declared.refusal.Refusal.{Refusal}
 use Rattle.yq_meaning.specs.After.{all_after}
 use Rattle.yq_meaning.specs.Changes.{Room}
 use Rattle.yq_meaning.specs.Fits.{AllFit}
-use Rattle.yq_meaning.specs.Judgement.{gives, refuses, Plans}
+use Rattle.yq_meaning.specs.Judgement.{Judges, gives, refuses}
 use Rattle.yq_meaning.specs.Meaning.{AreReady, meaning}
 use Rattle.yq_meaning.specs.Operations.{Operation}
 use Rattle.yq_meaning.specs.Plans.{plan}
@@ -33,24 +33,24 @@ literals_hold (updates us) n u h at = update_holds us n u h at
 
 module _ {X : Type 0} (view : X → List Operation) (u : Update) (rooms : ℕ → Room) (docs : List Document) where
   -- the operations of an exact answer lead to what the update means
-  pub answer_means : (r : Result X PlanError) → AreReady rooms 0 docs → Plans view r (plan u rooms docs) → IfOk r (λ x. meaning u rooms docs ≡ gives (all_after rooms (view x) docs))
+  pub answer_means : (r : Result X ExprError) → AreReady rooms 0 docs → Judges view r (plan u rooms docs) → IfOk r (λ x. meaning u rooms docs ≡ gives (all_after rooms (view x) docs))
   answer_means (Ok x) ready exact = plan_means u rooms docs (view x) ready exact
   answer_means (Err e) ready exact = tt
 
   -- each of them fits at its turn
-  pub answer_fits : (r : Result X PlanError) → AreReady rooms 0 docs → UpdatesHold (u ∷ []) → Plans view r (plan u rooms docs) → IfOk r (λ x. AllFit rooms (view x) docs)
+  pub answer_fits : (r : Result X ExprError) → AreReady rooms 0 docs → UpdatesHold (u ∷ []) → Judges view r (plan u rooms docs) → IfOk r (λ x. AllFit rooms (view x) docs)
   answer_fits (Ok x) ready holds exact = plan_fits u rooms docs (view x) ready holds exact
   answer_fits (Err e) ready holds exact = tt
 
   -- its refusal is that of the update
-  pub answer_refused : (r : Result X PlanError) (why : Refusal) → Plans view r (plan u rooms docs) → r ≡ Err (error.Refused why) → meaning u rooms docs ≡ refuses why
-  answer_refused r why exact is = plan_refused u rooms docs why (subst (λ (q : Result X PlanError). Plans view q (plan u rooms docs)) is exact)
+  pub answer_refused : (r : Result X ExprError) (why : Refusal) → Judges view r (plan u rooms docs) → r ≡ Err (error.Refused why) → meaning u rooms docs ≡ refuses why
+  answer_refused r why exact is = plan_refused u rooms docs why (subst (λ (q : Result X ExprError). Judges view q (plan u rooms docs)) is exact)
 
   -- and where the update is refused, so is the answer, but for want of memory
-  pub answer_refuses : (r : Result X PlanError) (why : Refusal) → Plans view r (plan u rooms docs) → meaning u rooms docs ≡ refuses why → (r ≡ Err (error.Refused why)) ⊎ (r ≡ Err error.Memory)
+  pub answer_refuses : (r : Result X ExprError) (why : Refusal) → Judges view r (plan u rooms docs) → meaning u rooms docs ≡ refuses why → (r ≡ Err (error.Refused why)) ⊎ (r ≡ Err error.Memory)
   answer_refuses r why exact h = go r exact (meaning_refused u rooms docs why h)
     where
-      go : (r : Result X PlanError) → Plans view r (plan u rooms docs) → plan u rooms docs ≡ refuses why → (r ≡ Err (error.Refused why)) ⊎ (r ≡ Err error.Memory)
+      go : (r : Result X ExprError) → Judges view r (plan u rooms docs) → plan u rooms docs ≡ refuses why → (r ≡ Err (error.Refused why)) ⊎ (r ≡ Err error.Memory)
       go (Ok x) e is = absurd (cc)
       go (Err (error.Refused other)) e is = let same : other ≡ why = cc in inl (ap (λ (w : Refusal). Err (error.Refused w)) same)
       go (Err error.Memory) e is = inr refl

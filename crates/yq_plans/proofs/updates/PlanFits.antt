@@ -4,7 +4,7 @@ use Rattle.std.specs.List.{slice_get}
 use Rattle.yq_scalar.specs.Tree.{Node}
 use Rattle.yq_documents.specs.Documents.{Document}
 use Rattle.yq_meaning.specs.declared.refusal.Refusal.TheVariants.{BadCommentText}
-use Rattle.yq_meaning.specs.Judgement.{gives, refuses, and_then}
+use Rattle.yq_meaning.specs.Judgement.{and_then, gives, refuses}
 use Rattle.yq_meaning.specs.After.{root_after, done_to, after_op, all_after}
 use Rattle.yq_meaning.specs.Changes.{replaces, adds, sets_comment, Changed, Room, made, changes_in, has_comment, changes_from, changes_of}
 use Rattle.yq_meaning.specs.Fits.{FitsRoot, AllFit}

@@ -7,7 +7,7 @@ use Rattle.yq_scalar.specs.Paths as paths
 use Rattle.yq_program.specs.declared.program.CommentPlace.{CommentPlace}
 use Rattle.yq_program.specs.declared.program.Operator.TheVariants as operator
 use Rattle.yq_meaning.specs.declared.refusal.Refusal.TheVariants.{IndexOutOfRange, NoPlaceForComment, AnchorInUse, TooDeep, KeyTooLong}
-use Rattle.yq_meaning.specs.Judgement.{Judgement, gives, refuses, and_then}
+use Rattle.yq_meaning.specs.Judgement.{Judgement, and_then, gives, refuses}
 use Rattle.yq_program.specs.Program.{is_index, Step, Term, Update, assign, delete, comment}
 use Rattle.yq_meaning.specs.Changes.{Change, replaces, sets_comment, Changed, Room, made, put_below, put_at, added_entries, added, add_below, add_at, remove_below, remove_at, is_there, comment_at, is_too_long, is_too_deep}
 use Rattle.yq_meaning.specs.Changes.{takes_used, allowed, all_allowed, at_each, with_value, changes_at, left_of, changes_in}

@@ -11,7 +11,7 @@ use Rattle.yq_meaning.specs.After.{document_of, after_op}
 use Rattle.yq_meaning.specs.Changes as changes
 use Rattle.yq_meaning.specs.Changes.{Addition, appends, overwrites, replaces, adds, sets_comment, Changed, Room, changes_in, has_comment, changes_from, changes_of}
 use Rattle.yq_meaning.specs.Fits.{IsBelow, AllFit}
-use Rattle.yq_meaning.specs.Judgement.{gives, refuses, and_then}
+use Rattle.yq_meaning.specs.Judgement.{and_then, gives, refuses}
 use Rattle.yq_meaning.specs.Meaning.{roots_of, AreReady}
 use Rattle.yq_meaning.specs.Operations.{Operation, replace, append, remove, line_comment, head_comment}
 use Rattle.yq_meaning.specs.Plans.{add_op, ops_of, is_removal, ordered, all_ops, plan}

@@ -10,7 +10,7 @@ use Rattle.yq_scalar.specs.Paths as paths
 use Rattle.yq_scalar.specs.Paths.{To, Nth, child_at}
 use Rattle.yq_meaning.specs.declared.refusal.Refusal.{Refusal}
 use Rattle.yq_meaning.specs.declared.refusal.Refusal.TheVariants.{NotAMap, NotASequence}
-use Rattle.yq_meaning.specs.Judgement.{Judgement, gives, and_then}
+use Rattle.yq_meaning.specs.Judgement.{Judgement, and_then, gives}
 use Rattle.yq_meaning.specs.Matching.{Found, find, in_scalar, key_step, item_number, index_step}
 use Rattle.yq_program.specs.Program.{Step, key, index, each}
 use Rattle.yq_meaning.specs.Places.{Place, child_place, found_place, all_steps, step_there, step_from, step_on}

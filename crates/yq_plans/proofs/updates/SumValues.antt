@@ -12,7 +12,7 @@ use Rattle.yq_scalar.specs.Tree as tree
 use Rattle.yq_scalar.specs.Tree.{Label, Node, alias, scalar, list, Children, none, child}
 use Rattle.yq_scalar.specs.Paths.{To, key_is, child_at, change_child, append_child, append_children}
 use Rattle.yq_meaning.specs.declared.refusal.Refusal.TheVariants.{IntegerRange}
-use Rattle.yq_meaning.specs.Judgement.{gives, refuses, and_then}
+use Rattle.yq_meaning.specs.Judgement.{and_then, gives, refuses}
 use Rattle.yq_program.specs.Program.{SumHolds, Step, Term, literal, found}
 use Rattle.yq_meaning.specs.Conditions.{node_there, value_of}
 use Rattle.yq_meaning.specs.Copies.{copy_at}

@@ -3,7 +3,7 @@ use Rattle.std.specs.declared.alloc.Global.{Global}
 use Rattle.yq_documents.specs.Nodes.{node_of}
 use Rattle.yq_meaning.specs.Changes.{at_each, changes_at, comment_at}
 use Rattle.yq_planning.specs.ChangeView.{changed_of}
-use Rattle.yq_meaning.specs.Judgement.{Matches}
+use Rattle.yq_meaning.specs.Judgement.{Judges}
 use Rattle.yq_planning.specs.PlaceView.{places_of}
 use Rattle.yq_meaning.specs.Rooms.{room_of}
 use Rattle.yq_program.specs.View.{update_of}
@@ -16,7 +16,7 @@ returns c =
     let root = node_of c.args.root in
     let room = room_of c.args.documents.now c.args.doc in
     let ps = places_of c.args.places.now in
-    subst (Matches (λ (v : Vec Changed Global). map changed_of v.items) c.at_each-in-Comment.result)
+    subst (Judges (λ (v : Vec Changed Global). map changed_of v.items) c.at_each-in-Comment.result)
     (ap (λ (t : List ℕ). at_each root (comment_at room c.in-Comment.comment.place t) ps) c.as_str.ensures.value
     ∙ ap (λ (u : Update). changes_at c.args.doc room root (update_of u) ps) (sym c.in-Comment.is))
     (c.at_each-in-Comment.ensures root c.in_ok-aliases.ensures c.requires.within)

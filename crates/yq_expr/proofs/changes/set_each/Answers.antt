@@ -5,7 +5,7 @@ use Rattle.yq_inline.specs.Values.{node_of as value_node}
 use Rattle.yq_documents.specs.Nodes.{node_of}
 use Rattle.yq_meaning.specs.Changes.{put_at}
 use Rattle.yq_planning.specs.ChangeView.{changed_of}
-use Rattle.yq_meaning.specs.Judgement.{Fails, Matches}
+use Rattle.yq_meaning.specs.Judgement.{Fails, Judges}
 use Rattle.yq_planning.specs.PlaceView.{place_of, places_of}
 use Rattle.yq_meaning.specs.Places.{root_place}
 use Rattle.yq_meaning.specs.RightValues.{right_value}
@@ -28,7 +28,7 @@ pub returns : goal.returns
 returns c =
     let root = node_of c.args.root in
     let ts = map term_of c.args.right.now in
-    subst (Matches (λ (v : Vec Changed Global). map changed_of v.items) c.at_each.result)
+    subst (Judges (λ (v : Vec Changed Global). map changed_of v.items) c.at_each.result)
     (sym (value_there root (right_value c.args.doc ts (root_place root)) put_at (places_of c.args.places.now) (value_node c.in_ok-value.value) (some_places c.args.places.now c.requires.some)
     (sym (from_root c.args.doc root ts (place_of c.of_root.result) c.of_root.ensures) ∙ c.in_ok-value.ensures)))
     (c.at_each.ensures root c.requires.aliases c.requires.within)
