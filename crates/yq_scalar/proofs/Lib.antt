@@ -23,6 +23,7 @@ pub mod EscapeLaws
 pub mod CharLaws
 pub mod QuotedLaws
 pub mod QuotedRead
+pub mod QuotedRuns
 pub mod QuotedFound
 pub mod PieceLaws
 pub mod FoldLaws
@@ -33,6 +34,7 @@ pub mod PlainContentLaws
 pub mod WrittenLaws
 pub mod WrittenText
 pub mod RawLaws
+pub mod RunLaws
 pub mod SpaceLaws
 pub mod DetectedLaws
 pub mod HeaderLaws

@@ -1,31 +1,55 @@
--- Characters of one byte, and what a search for the next CR tells.
-use Rattle.std.proofs.Common.{◌≡◌, ◌&&◌, ℕ, zero, suc, ◌+◌, ◌<◌, Bool, true, false, eqb, List, [], ◌∷◌, length, drop, get_or, Some, None, refl, sym, ap, ◌∙◌, arith}
-use Rattle.std.proofs.lemmas.Bool.{lt-ltb, and_parts, and_from, false_from_ne_true}
+-- What bytes tell of characters, and what a search for the next CR tells.
+use Rattle.std.proofs.Common.{◌≡◌, ◌&&◌, ℕ, zero, suc, ◌+◌, ◌<◌, ◌≤◌, ◌/◌, Bool, true, false, eqb, List, [], ◌∷◌, length, drop, get_or, Some, None, refl, sym, ap, ◌∙◌, inl, inr, arith}
+use Rattle.std.proofs.lemmas.Bool.{lt-ltb, le-ltb, eqb-false, not-true, cases_lt, and_parts, and_from, false_from_ne_true}
+use Rattle.std.proofs.lemmas.List.Folds.{list_all-append}
+use Rattle.std.proofs.lemmas.Str.{scalars-chars, encodes-chars}
 use Rattle.std.specs.List.{list_all}
-use Rattle.std.specs.Str.{chars}
+use Rattle.std.specs.Str.{chars, IsUtf8}
+use lib.Utf8.{scalar, scalars, encode, encodes}
 use Rattle.memchr.specs.Find.{IsFirstByte, is_byte}
 use Rattle.yq_scalar.specs.Text.{is_feed, front}
-use Rattle.yq_scalar.specs.Characters.{is_ascii_char, is_text_char, pairs_returns}
+use Rattle.yq_scalar.specs.Characters.{is_text_byte, is_text_char, pairs_returns}
 
--- a byte of ASCII in front is a character
-chars_ascii : (b : ℕ) (bs : List ℕ) → b < 128 → chars (b ∷ bs) ≡ b ∷ chars bs
-unfolding chars
-chars_ascii b [] h = rw (lt-ltb b 128 h) refl
-chars_ascii b (c ∷ bs) h = rw (lt-ltb b 128 h) refl
+-- a byte that stands in characters of a text alone is no C1 control and begins none of U+F000 to U+FFFF
+lead_ascii : (c : ℕ) → c < 128 → is_text_byte c ≡ true → is_text_char c ≡ true
+lead_ascii c l h = grind arith
 
-ascii_below : (b : ℕ) → is_ascii_char b ≡ true → b < 128
-ascii_below b h = grind arith
+lead_two : (c : ℕ) → 128 ≤ c → c < 2048 → is_text_byte (192 + c / 64) ≡ true → is_text_char c ≡ true
+lead_two c l m h =
+    let above : 192 ≤ c = omega (arith, eqb-false (192 + c / 64) 194 (not-true _ (grind arith))) in
+    grind arith
 
-ascii_text : (b : ℕ) → is_ascii_char b ≡ true → is_text_char b ≡ true
-ascii_text b h = grind arith
+lead_three : (c : ℕ) → scalar c ≡ true → 2048 ≤ c → c < 65536 → is_text_byte (224 + c / 4096) ≡ true → is_text_char c ≡ true
+lead_three c s l m h =
+    let below : c < 61440 = omega (arith, eqb-false (224 + c / 4096) 239 (not-true _ (grind arith))) in
+    grind arith
+
+lead_four : (c : ℕ) → scalar c ≡ true → 65536 ≤ c → is_text_char c ≡ true
+lead_four c s l = grind arith
+
+char_text : (c : ℕ) → scalar c ≡ true → list_all is_text_byte (encode c) ≡ true → is_text_char c ≡ true
+unfolding encode
+char_text c s h = elim (cases_lt c 128) [
+  | inl a ↦ lead_ascii c a (and_parts (is_text_byte c) _ (rw (lt-ltb c 128 a) at h)).0
+  | inr a ↦ elim (cases_lt c 2048) [
+    | inl b ↦ lead_two c a b (and_parts (is_text_byte (192 + c / 64)) _ (rw (le-ltb c 128 a, lt-ltb c 2048 b) at h)).0
+    | inr b ↦ elim (cases_lt c 65536) [
+      | inl d ↦ lead_three c s b d (and_parts (is_text_byte (224 + c / 4096)) _ (rw (le-ltb c 128 a, le-ltb c 2048 b, lt-ltb c 65536 d) at h)).0
+      | inr d ↦ lead_four c s d
+    ]
+  ]
+]
+
+chars_text : (cs : List ℕ) → scalars cs ≡ true → list_all is_text_byte (encodes cs) ≡ true → list_all is_text_char cs ≡ true
+chars_text [] s h = refl
+chars_text (c ∷ cs) s h =
+    let p = and_parts (scalar c) (scalars cs) s in
+    let q = and_parts _ _ (sym (list_all-append is_text_byte (encode c) (encodes cs)) ∙ h) in
+    and_from _ _ (char_text c p.0 q.0) (chars_text cs p.1 q.1)
 
 -- such bytes alone are characters of a text
-pub ascii_chars : (t : List ℕ) → list_all is_ascii_char t ≡ true → list_all is_text_char (chars t) ≡ true
-unfolding chars
-ascii_chars [] h = refl
-ascii_chars (b ∷ bs) h =
-    let p = and_parts (is_ascii_char b) (list_all is_ascii_char bs) h in
-    rw (chars_ascii b bs (ascii_below b p.0)) (and_from _ _ (ascii_text b p.0) (ascii_chars bs p.1))
+pub text_bytes : (t : List ℕ) → IsUtf8 t → list_all is_text_byte t ≡ true → list_all is_text_char (chars t) ≡ true
+text_bytes t u h = chars_text (chars t) (scalars-chars t u) (ap (list_all is_text_byte) (encodes-chars t u) ∙ h)
 
 no_return : (t : List ℕ) → ((k : ℕ) → k < length t → eqb (get_or t k 0) 13 ≡ false) → pairs_returns t ≡ true
 unfolding pairs_returns

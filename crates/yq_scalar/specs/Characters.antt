@@ -18,9 +18,11 @@ is_mark c = c == 65279
 abbrev pub is_text_char : ℕ → Bool
 is_text_char c = is_printable c && not (is_mark c)
 
--- a byte that is a character of a text: tab, LF, CR or printable ASCII (YAML 1.2.2, section 5.1)
-abbrev pub is_ascii_char : ℕ → Bool
-is_ascii_char b = b == 9 || is_feed b || is_return b || (nat_le 32 b && nat_le b 126)
+-- a byte that stands in characters of a text alone: tab, LF, CR, printable ASCII, or one of more bytes, but for 194 and 239, which begin
+-- others too (own)
+abbrev pub is_text_byte : ℕ → Bool
+is_text_byte b =
+    b == 9 || is_feed b || is_return b || (nat_le 32 b && nat_le b 126) || (nat_le 128 b && not (b == 194) && not (b == 239))
 
 -- an LF follows each CR (own)
 unfoldable pub pairs_returns : List ℕ → Bool

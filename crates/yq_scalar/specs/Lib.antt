@@ -6,6 +6,7 @@ pub mod Numbers
 pub mod Paths
 pub mod Plain
 pub mod PlainReading
+pub mod Runs
 pub mod PlainText
 pub mod Scalar
 pub mod Schema

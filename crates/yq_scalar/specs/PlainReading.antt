@@ -1,8 +1,8 @@
 -- Reading (own; a reader may skip it: the grammar is what is believed, and the clauses `found` and `only` tie the two).
-use Rattle.std.specs.Prelude.{ℕ, Bool, ◌||◌, ◌&&◌, not, ◌==◌, Option, Some, None, List, [], ◌∷◌, if◌then◌else◌}
+use Rattle.std.specs.Prelude.{ℕ, Bool, ◌&&◌, not, ◌==◌, Option, Some, None, List, [], ◌∷◌, if◌then◌else◌}
 use Rattle.yq_scalar.specs.Answers.{more}
-use Rattle.yq_scalar.specs.Text.{is_white, is_feed, is_return, is_break}
-use Rattle.yq_scalar.specs.Plain.{is_flow_indicator, begins_deep, ends_text}
+use Rattle.yq_scalar.specs.Text.{is_white, is_feed, is_break}
+use Rattle.yq_scalar.specs.Plain.{begins_deep, ends_text}
 
 -- how far it is over white space and breaks to where a plain scalar goes on, if it does; deep tells whether it may on this line (own)
 unfoldable pub across : Bool → Option ℕ → Bool → List ℕ → Option ℕ
@@ -12,7 +12,3 @@ across flow spaces deep (b ∷ bs) =
     else (if is_feed b then more 1 (across flow spaces (begins_deep spaces bs) bs)
     else (if is_break (b ∷ bs) then more 1 (across flow spaces deep bs)
     else (if not (b == 35) && not (ends_text flow (b ∷ bs)) && deep then Some 0 else None)))
-
--- a byte at which no plain scalar ends, whatever follows it (own)
-abbrev pub is_inside : ℕ → Bool
-is_inside b = not (is_white b || is_feed b || is_return b || b == 58 || is_flow_indicator b)

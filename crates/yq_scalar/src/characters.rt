@@ -5,6 +5,7 @@ ghost use Rattle.std.specs.Str.{chars};
 ghost use Rattle.yq_scalar.specs.Characters as spec;
 ghost use Rattle.yq_scalar.specs.Text.{front, is_feed};
 
+use crate::runs::{Run, run_len};
 use memchr::memchr;
 
 /// How many bytes a text has at most.
@@ -27,22 +28,21 @@ pub fn has_text_chars(text: &str) -> bool
     text.chars().all(|c| is_text_char(c))
 }
 
-/// Whether the byte is a character that a text may hold.
-fn is_ascii_char(b: u8) -> bool
-    ensures { result ≡ spec.is_ascii_char b }
+/// Whether the byte stands in characters alone that a text may hold.
+pub(crate) fn is_text_byte(b: u8) -> bool
+    ensures { result ≡ spec.is_text_byte b }
 {
-    matches!(b, b'\t' | b'\n' | b'\r' | b' '..=b'~')
+    matches!(
+        b,
+        b'\t' | b'\n' | b'\r' | b' '..=b'~' | 128..=193 | 195..=238 | 240..=255
+    )
 }
 
-/// Whether each byte is such a character. No byte ends the loop, so that many are tested at a time.
-fn has_ascii_chars(text: &[u8]) -> bool
-    ensures { result ≡ list_all spec.is_ascii_char text.now }
+/// Whether each byte is such a one.
+fn has_text_bytes(text: &[u8]) -> bool
+    ensures { result ≡ list_all spec.is_text_byte text.now }
 {
-    let mut all = true;
-    'each: for b in text {
-        all = all & is_ascii_char(*b);
-    }
-    all
+    run_len(Run::Text, text) == text.len()
 }
 
 /// Whether an LF is in front.
@@ -69,11 +69,11 @@ pub fn pairs_returns(text: &[u8]) -> bool
 }
 
 /// Whether the characters are those of a text.
-#[tactic(auto, using(crate::proofs::TextChars::ascii_chars))]
+#[tactic(auto, using(crate::proofs::TextChars::text_bytes))]
 pub fn is_text(text: &str) -> bool
     ensures { result ≡ spec.is_text text.now }
 {
-    (has_ascii_chars(text.as_bytes()) || has_text_chars(text)) && pairs_returns(text.as_bytes())
+    (has_text_bytes(text.as_bytes()) || has_text_chars(text)) && pairs_returns(text.as_bytes())
 }
 
 /// How many characters a text has.

@@ -26,6 +26,7 @@ mod pushing;
 pub mod quoted;
 pub mod quoted_laws;
 mod quoted_piece;
+mod runs;
 pub mod same_content;
 mod scalar;
 mod schema;

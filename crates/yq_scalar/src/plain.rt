@@ -5,6 +5,7 @@ ghost use Rattle.yq_scalar.specs.Plain as spec;
 ghost use Rattle.yq_scalar.specs.PlainReading as reading;
 ghost use Rattle.yq_scalar.specs.Text.{cut, upto};
 
+use crate::runs::{Run, run_len};
 use crate::text::{is_break, is_marker, is_space, is_white, separates, spaces_len, whites_len};
 
 /// `,`, `[`, `]`, `{` or `}`.
@@ -98,6 +99,7 @@ fn across(flow: bool, spaces: Option<usize>, text: &[u8]) -> Option<usize>
 }
 
 /// Whether a plain scalar may begin in front.
+#[inline(always)]
 pub fn begins_plain(flow: bool, text: &[u8]) -> bool
     ensures { result ≡ spec.begins_plain flow text.now }
 {
@@ -109,25 +111,6 @@ pub fn begins_plain(flow: bool, text: &[u8]) -> bool
     }
 }
 
-/// Whether a plain scalar goes on at this byte, whatever follows it.
-fn is_inside(b: u8) -> bool
-    ensures { result ≡ reading.is_inside b }
-{
-    matches!(b, b'a'..=b'z' | b'-'..=b'9')
-        || !matches!(
-            b,
-            b' ' | b'\t' | b'\n' | b'\r' | b':' | b',' | b'[' | b']' | b'{' | b'}'
-        )
-}
-
-/// How many such bytes are in front.
-fn inside_len(text: &[u8]) -> usize
-    ensures value { result ≡ prefix_len reading.is_inside text.now }
-    ensures within { result ≤ length text.now }
-{
-    text.iter().take_while(|b| is_inside(**b)).count()
-}
-
 /// How far a plain scalar in front goes on, in bytes.
 pub fn plain_len(flow: bool, spaces: Option<usize>, text: &[u8]) -> usize
     ensures { result ≡ upto (spec.ends_plain flow spaces) text.now }
@@ -135,7 +118,7 @@ pub fn plain_len(flow: bool, spaces: Option<usize>, text: &[u8]) -> usize
     let mut n = 0;
     let mut rest = text;
     'each: loop {
-        let run = inside_len(rest);
+        let run = run_len(Run::Plain, rest);
         n += run;
         let next = rest.split_at(run).1;
         let [_, after @ ..] = next else {

@@ -8,6 +8,7 @@ ghost use Rattle.yq_scalar.specs.QuotedReading as spec;
 ghost use Rattle.yq_scalar.specs.declared.fault.FaultKind.TheVariants.{BadScalar};
 
 use crate::fault::FaultKind;
+use crate::runs::{Run, run_len};
 use crate::text::{is_break, is_marker};
 
 /// The value of a hexadecimal digit.
@@ -145,15 +146,20 @@ fn quoted_len(quote: u8, text: &[u8]) -> Option<usize>
 {
     let mut n = 0;
     let mut rest = text;
-    'each: while let [first, after @ ..] = rest {
-        if closes(quote, rest) {
+    'each: loop {
+        let run = run_len(Run::Quoted(quote), rest);
+        n += run;
+        let next = rest.split_at(run).1;
+        let [first, after @ ..] = next else {
+            return None;
+        };
+        if closes(quote, next) {
             return Some(n);
         }
         let k = behind(quote, *first, after)?;
         n += k + 1;
         rest = after.split_at(k).1;
     }
-    None
 }
 
 /// How long the quoted scalar in front is, with its quotes, in bytes.

@@ -4,6 +4,8 @@ ghost use Rattle.std.specs.Prelude.{◌≡◌, ◌==◌, ◌≤◌, length};
 ghost use Rattle.yq_scalar.specs.Text as spec;
 ghost use Rattle.yq_scalar.specs.Text.{cut};
 
+use crate::runs::{Run, run_len};
+
 /// A space or a tab.
 pub fn is_white(b: u8) -> bool
     ensures { result ≡ spec.is_white b }
@@ -49,26 +51,12 @@ pub fn is_marker(text: &[u8]) -> bool
     }
 }
 
-/// How many spaces are in front, counted one by one.
-fn each_space(text: &[u8]) -> usize
-    ensures value { result ≡ prefix_len (λ b. b == 32) text.now }
-    ensures within { result ≤ length text.now }
-{
-    text.iter().take_while(|b| **b == b' ').count()
-}
-
-/// How many spaces are in front; four are passed at a time.
+/// How many spaces are in front.
 pub fn spaces_len(text: &[u8]) -> usize
     ensures value { result ≡ prefix_len (λ b. b == 32) text.now }
     ensures within { result ≤ length text.now }
 {
-    let mut n = 0;
-    let mut rest = text;
-    'fours: while let [b' ', b' ', b' ', b' ', after @ ..] = rest {
-        n += 4;
-        rest = after;
-    }
-    n + each_space(rest)
+    run_len(Run::Spaces, text)
 }
 
 /// How many spaces and tabs are in front.
