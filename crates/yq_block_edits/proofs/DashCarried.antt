@@ -28,7 +28,6 @@ use Rattle.yq_change.specs.SoundRoots.{MayReplace}
 use Rattle.yq_change.specs.StandingLaws.{StandsThere}
 use Rattle.yq_change.specs.TextPieces.{IsPiece}
 use Rattle.yq_change.specs.Unders.{spaced}
-use Rattle.yq_change.proofs.RemovalPieceLaws.{spaces_piece}
 use Rattle.yq_change.proofs.TextPieceLaws.{pieces_joined}
 use Rattle.yq_block.specs.declared.layout.Layout.{Layout}
 use Rattle.yq_block.specs.BlockReading.{is_filled}
@@ -56,7 +55,7 @@ use Rattle.yq_edits.proofs.SegmentLaws.{segments_readable}
 use Rattle.yq_edits.proofs.ValueTexts.{IsWrittenFor, value_for}
 use Rattle.yq_block_edits.proofs.DashNodes.{dash_behind, dash_last_ends, dash_node, dash_pieces, dash_spelled, dash_unnamed, upto}
 use Rattle.yq_block_edits.proofs.DashValueLaws.{behind_first, behind_rows, behind_spelled, takes_behind}
-use Rattle.yq_block_edits.proofs.HeldLines.{block_piece}
+use Rattle.yq_block_edits.proofs.HeldLines.{block_piece, break_tail, lines_piece}
 use Rattle.yq_block_edits.proofs.MarkKinds.{filled_is}
 use Rattle.yq_block_edits.proofs.NodeCarriedLaws.{KeepsNode, node_carried}
 use Rattle.yq_block_edits.proofs.NodeLeads.{content_first, upto_long}
@@ -117,7 +116,7 @@ module _ (n : ℕ) (s : Step) (ss : List Step) (c : Cut) (e : PlacedEntry) (ther
 
   -- the end of the last line
   abbrev last_tail : IsTail last z
-  last_tail = record { white = []; comment = []; line = record { break = last; spelled = refl; blank = tt; remark = tt; ends = dash_last_ends n s ss c e there less }; apart = refl }
+  last_tail = break_tail last z (dash_last_ends n s ss c e there less)
 
   quiet : line_comment last ≡ None
   quiet = quiet_tail last z last_tail refl
@@ -188,11 +187,8 @@ module _ (n : ℕ) (s : Step) (ss : List Step) (c : Cut) (e : PlacedEntry) (ther
       abbrev below : List ℕ
       below = rows_text (node_rows l column last v) z
 
-      abbrev break_tail : IsTail br below
-      break_tail = record { white = []; comment = []; line = record { break = br; spelled = refl; blank = tt; remark = tt; ends = inl (break_is l.br) }; apart = refl }
-
       break_holds : IsHolding n s ss c h (Nothing br) below
-      break_holds = holding br below break_tail (quiet_tail br below break_tail refl)
+      break_holds = let tail = break_tail br below (inl (break_is l.br)) in holding br below tail (quiet_tail br below tail refl)
 
       abbrev under : List Row
       under = rows_under n s ss c h l (mapping_least n c) v filled f.near (Nothing br) last break_holds (end_is n s ss c h last last_tail) quiet
@@ -203,12 +199,9 @@ module _ (n : ℕ) (s : Step) (ss : List Step) (c : Cut) (e : PlacedEntry) (ther
           row_front-append (with_content (Nothing br) mark) (rows_text (node_rows l column last v) z)
           ∙ ap (λ r. row_front mark ++ r) (ap (λ r. br ++ r) (value_spelled v l column last z filled.filled filled.value) ∙ parts)
 
-      lines_piece : IsPiece (br ++ lines_in l column v)
-      lines_piece = pieces_joined br (lines_in l column v) (break_piece l.br) (pieces_joined (replicate column 32) (block_value l column v) (spaces_piece column) (block_piece l column v tree))
-
       under_carried : CarriedWith (br ++ lines_in l column v)
       under_carried =
-          carried_as under (takes_under n s ss c h l (mapping_least n c) v filled f.near (Nothing br) last break_holds (end_is n s ss c h last last_tail) quiet) (br ++ lines_in l column v) under_text (content_first (Nothing br) mark) lines_piece
+          carried_as under (takes_under n s ss c h l (mapping_least n c) v filled f.near (Nothing br) last break_holds (end_is n s ss c h last last_tail) quiet) (br ++ lines_in l column v) under_text (content_first (Nothing br) mark) (pieces_joined br (lines_in l column v) (break_piece l.br) (lines_piece l column v tree))
 
     pub dash_carried : length (new_text (dash_put (break_text l.br) (compact_in e) (written_at l (compact_in e).mark [] v))) ≤ text_limit → CarriedOut (replace n (s ∷ ss) v) c (dash_put (break_text l.br) (compact_in e) (written_at l (compact_in e).mark [] v))
     dash_carried = go (is_filled v) (takes_compact p.mark) refl

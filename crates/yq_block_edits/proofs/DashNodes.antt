@@ -5,7 +5,7 @@ use mathlib.Core.List.{tail-eq_of_cons-eq}
 use Rattle.yq_scalar.specs.Paths.{Step}
 use Rattle.yq_scalar.specs.Text.{is_empty}
 use Rattle.yq_scalar.proofs.BlockPieceLaws.{IsLf}
-use Rattle.yq_lines.specs.Outline.{Line, flatten}
+use Rattle.yq_lines.specs.Outline.{Line}
 use Rattle.yq_lines.specs.Places.{content}
 use Rattle.yq_rows.specs.Exchange.{row_front}
 use Rattle.yq_rows.specs.Gap.{IsBreak}
@@ -13,7 +13,6 @@ use Rattle.yq_rows.specs.Grammar.{AreDashes, is_entry}
 use Rattle.yq_rows.specs.Rows as rows
 use Rattle.yq_rows.specs.Rows.{Cut, Row, behind_dashes, cut_text, print_row, rows_text}
 use Rattle.yq_rows.proofs.PlaceLaws.{row_then}
-use Rattle.yq_walk.specs.Lines.{lines_of}
 use Rattle.yq_documents.specs.Nodes.{anchor_of}
 use Rattle.yq_documents.specs.Reading.{read_at}
 use Rattle.yq_places.specs.RowPieces.{past_dash, upto_dash}
@@ -35,6 +34,7 @@ use Rattle.yq_edits.proofs.HeldPieces.{suffix_lf}
 use Rattle.yq_block_edits.proofs.HeldRows.{last_ends, value_unnamed}
 use Rattle.yq_block_edits.proofs.NodeRowLaws.{NodeRows, line_is, parts, rest}
 use Rattle.yq_block_edits.proofs.RowLines.{entries_under}
+use Rattle.yq_block_edits.proofs.StandingNodes.{node_upto}
 
 -- dashes from one on
 dashes_from : (k : ℕ) (ns : List ℕ) → k < length ns → (n : ℕ) × (ms : List ℕ) × (drop k ns ≡ n ∷ ms)
@@ -73,23 +73,7 @@ module _ (n : ℕ) (s : Step) (ss : List Step) (c : Cut) (e : PlacedEntry) (ther
 
   -- the rows of the item
   abbrev pub dash_node : NodeRows n s ss c
-  dash_node = record {
-    p = there.part;
-    old = there.old;
-    found = there.found;
-    is = there.is;
-    front = e.front;
-    row = e.row;
-    under = e.under;
-    back = e.back;
-    rows_are = there.rows_are;
-    mark = upto_dash e.line e.row;
-    upto = upto;
-    number = ap (λ (k : ℕ). length (lines_of e.front) + k) dash_count ∙ there.number;
-    count = there.count ∙ ap (λ (k : ℕ). k + suc (length (flatten there.found.under))) (sym dash_count);
-    start = e.start;
-    put = there.put;
-  }
+  dash_node = node_upto n s ss c e there (upto_dash e.line e.row) upto dash_count
 
   pub dash_behind : behind_entry e ≡ rest n s ss c dash_node
   dash_behind = behind_there n s ss c e there

@@ -1,5 +1,5 @@
 -- A value on one line takes the place of what is written on the line of a key or dash, with another content of the row.
-use Rattle.std.proofs.Common.{◌≡◌, ℕ, ◌≤◌, false, true, cond, List, [], ◌∷◌, ◌++◌, length, refl, sym, ap, ◌∙◌, subst, append_assoc, append-nil}
+use Rattle.std.proofs.Common.{◌≡◌, ℕ, ◌≤◌, false, true, List, [], ◌∷◌, ◌++◌, length, refl, sym, ap, ◌∙◌, subst, append_assoc, append-nil}
 use Rattle.yq_scalar.specs.BlockWritten.{break_text}
 use Rattle.yq_scalar.specs.Characters.{text_limit}
 use Rattle.yq_scalar.specs.Paths.{Step}
@@ -20,7 +20,7 @@ use Rattle.yq_change.specs.StandingLaws.{StandsThere}
 use Rattle.yq_meaning.specs.Operations.{replace}
 use Rattle.yq_script.specs.Script.{Segment, new_text}
 use Rattle.yq_edits.specs.EditLaws.{CarriedOut}
-use Rattle.yq_edits.specs.ReplaceEdits.{held_put}
+use Rattle.yq_edits.specs.ReplaceEdits.{apart, held_put}
 use Rattle.yq_edits.specs.WrittenValues.{inline}
 use Rattle.yq_edits.proofs.FitLaws.{FitsReplace}
 use Rattle.yq_edits.proofs.ValueTexts.{IsWrittenFor}
@@ -49,10 +49,14 @@ module _ (n : ℕ) (s : Step) (ss : List Step) (c : Cut) (e : PlacedEntry) (ther
 
 -- ---- another one in its place
 
+apart_then : (old t u : List ℕ) → apart old (t ++ u) ≡ apart old t ++ u
+apart_then [] t u = refl
+apart_then (b ∷ old) t u = refl
+
 module _ (n : ℕ) (s : Step) (ss : List Step) (c : Cut) (e : PlacedEntry) (there : StandsThere n s ss c e) (last : e.line ≡ length e.row.dashes) (k : KnowsHeld n s ss c e there last)
     (br : Break) (v : Node) (f : FitsReplace n (s ∷ ss) v c there.part) (t : List ℕ) (for : IsWrittenFor v t) (x : Content) (is : IsContentFor n s ss c (mark_node n s ss c e there last) v x)
-    (spelled : (u : List ℕ) → e.start ++ (rows_text e.front [] ++ rows_text (with_content x e.row ∷ []) u) ≡ (held e).before ++ ((held e).space ++ node_text for.node (((held e).white ++ ((held e).comment ++ (held e).last)) ++ u)))
-    (some : is_empty (slices e.row).head ≡ false) where
+    (spelled : (u : List ℕ) → e.start ++ (rows_text e.front [] ++ rows_text (with_content x e.row ∷ []) u) ≡
+    (held e).before ++ ((held e).space ++ apart (held e).head (node_text for.node (((held e).white ++ ((held e).comment ++ (held e).last)) ++ u)))) where
   abbrev w : Held
   w = held e
 
@@ -73,10 +77,8 @@ module _ (n : ℕ) (s : Step) (ss : List Step) (c : Cut) (e : PlacedEntry) (ther
       let z : List ℕ = rest n s ss c (mark_node n s ss c e there last) in
       let ends : (w.white ++ (w.comment ++ w.last)) ++ w.behind ≡ w.white ++ (w.comment ++ (w.last ++ (w.behind ++ []))) = simp (append_assoc, append-nil) refl in
       spelled z
-      ∙ (ap (λ r. w.before ++ (w.space ++ r)) (node_then for.node (tail ++ z) ∙ ap (λ r. r ++ (tail ++ z)) for.text)
-      ∙ (ap (λ r. w.before ++ (w.space ++ (t ++ (tail ++ r)))) (sym (behind_is n s ss c e there last))
-      ∙ (ap (λ r. w.before ++ (w.space ++ (t ++ r))) ends
-      ∙ ap (λ b. w.before ++ (w.space ++ (cond b (32 ∷ t) t ++ (w.white ++ (w.comment ++ (w.last ++ (w.behind ++ []))))))) (sym some))))
+      ∙ (ap (λ r. w.before ++ (w.space ++ apart w.head r)) (node_then for.node (tail ++ z) ∙ ap (λ r. r ++ (tail ++ z)) for.text)
+      ∙ ap (λ r. w.before ++ (w.space ++ r)) (apart_then w.head t (tail ++ z) ∙ ap (λ r. apart w.head t ++ r) (ap (λ r. tail ++ r) (sym (behind_is n s ss c e there last)) ∙ ends)))
 
   abbrev lead : List ℕ
   lead = row_front e.row ++ (anchor_before (slices e.row) ++ space_before (slices e.row))
@@ -91,8 +93,8 @@ module _ (n : ℕ) (s : Step) (ss : List Step) (c : Cut) (e : PlacedEntry) (ther
     lead = lead;
     before_is = ap (λ y. w.before ++ y) (append-nil w.space) ∙ place_is;
     within = own_space_lead e.row;
-    begins = first_lead e.start front (print_row (with_content x e.row) []) (w.before ++ w.space) (node_text for.node (tail ++ [])) lead
-        (spelled [] ∙ sym (append_assoc w.before w.space (node_text for.node (tail ++ [])))) place_is;
+    begins = first_lead e.start front (print_row (with_content x e.row) []) (w.before ++ w.space) (apart w.head (node_text for.node (tail ++ []))) lead
+        (spelled [] ∙ sym (append_assoc w.before w.space (apart w.head (node_text for.node (tail ++ []))))) place_is;
   }
 
   pub head_carried : length (new_text us) ≤ text_limit → CarriedOut (replace n (s ∷ ss) v) c us

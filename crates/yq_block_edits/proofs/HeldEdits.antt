@@ -1,5 +1,6 @@
 -- A value put in the place of what a key or dash holds is an edit.
-use Rattle.std.proofs.Common.{◌≡◌, ℕ, ◌≤◌, Bool, true, false, cond, List, [], ◌∷◌, length, refl, sym, ◌∙◌}
+use Rattle.std.proofs.Common.{◌≡◌, ℕ, ◌≤◌, true, false, List, [], ◌∷◌, length, sym, ◌∙◌}
+use Rattle.std.proofs.lemmas.Bool.{cond_both}
 use Rattle.yq_scalar.specs.BlockWritten.{break_text}
 use Rattle.yq_scalar.specs.Characters.{text_limit}
 use Rattle.yq_scalar.specs.Paths.{Step}
@@ -50,28 +51,18 @@ module _ (n : ℕ) (s : Step) (ss : List Step) (c : Cut) (e : PlacedEntry) (ther
     on_line old = held_inline n s ss c e there last k l.br v f (value_text InBlock old v) (value_for old v tree f.deep f.long) block
 
     on_lines : is_filled v ≡ true → Carries (lines (lines_in l (column_under l w.mark v) v))
-    on_lines full = held_lines n s ss c e there last k v tree f full block
+    on_lines full = held_lines n s ss c e there last k v tree f full
 
     collection : is_filled v ≡ true → Carries (collection_at l w.mark v)
-    collection full = go (takes_compact w.mark) refl
-      where
-        go : (b : Bool) → takes_compact w.mark ≡ b → Carries (cond b (compact_text (block_value l (item_column w.mark.column) v)) (lines (lines_in l (column_under l w.mark v) v)))
-        go true free = held_compact n s ss c e there last k v tree f full free
-        go false other = on_lines full
+    collection full =
+        cond_both (takes_compact w.mark) (compact_text (block_value l (item_column w.mark.column) v)) (lines (lines_in l (column_under l w.mark v) v)) Carries
+        (λ free. held_compact n s ss c e there last k v tree f full free) (λ other. on_lines full)
 
     at_carried : Carries (written_at l w.mark w.head v)
-    at_carried = go (is_filled v) refl
-      where
-        go : (b : Bool) → is_filled v ≡ b → Carries (cond b (collection_at l w.mark v) (inline (value_text InBlock w.head v)))
-        go true full = collection full
-        go false other = on_line w.head
+    at_carried = cond_both (is_filled v) (collection_at l w.mark v) (inline (value_text InBlock w.head v)) Carries collection (λ other. on_line w.head)
 
     below_carried : Carries (written_below l w.mark v)
-    below_carried = go (is_filled v) refl
-      where
-        go : (b : Bool) → is_filled v ≡ b → Carries (cond b (lines (lines_in l (column_under l w.mark v) v)) (inline (value_text InBlock [] v)))
-        go true full = on_lines full
-        go false other = on_line []
+    below_carried = cond_both (is_filled v) (lines (lines_in l (column_under l w.mark v) v)) (inline (value_text InBlock [] v)) Carries on_lines (λ other. on_line [])
 
   edit_of : (y : Written) → (IsValueTree v → FitsReplace n (s ∷ ss) v c there.part → Carries y) → IsEdit op c (us y)
   edit_of y f = record { old = held_old (break_text l.br) w y ∙ sym k.spells; carried = λ tree fits. f tree (fits_replace n (s ∷ ss) v c there.part there.old.there tree fits) }

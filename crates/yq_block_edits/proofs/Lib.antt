@@ -13,7 +13,6 @@ pub mod ScalarPuts
 pub mod HeadPuts
 pub mod NodeValueLaws
 pub mod DashValueLaws
-pub mod KeptAnchors
 pub mod NodeCarriedLaws
 pub mod NodeLeads
 pub mod StandingNodes

@@ -1,5 +1,5 @@
 -- A value in the place of a node alone on its line.
-use Rattle.std.proofs.Common.{◌≡◌, ◌⊎◌, inl, inr, ℕ, ◌≤◌, not, ◌||◌, true, false, cond, List, [], ◌∷◌, ◌++◌, length, replicate, Some, refl, sym, ap, ◌∙◌, subst, append_assoc, append-nil}
+use Rattle.std.proofs.Common.{◌≡◌, ◌⊎◌, inl, inr, ℕ, ◌≤◌, not, ◌||◌, true, cond, List, [], ◌∷◌, ◌++◌, length, replicate, Some, refl, sym, ap, ◌∙◌, subst, append_assoc, append-nil}
 use Rattle.std.proofs.lemmas.Bool.{false≢true}
 use Rattle.yq_scalar.specs.Characters.{text_limit}
 use Rattle.yq_scalar.specs.Paths.{Step, change}
@@ -10,9 +10,8 @@ use Rattle.yq_inline.proofs.WrittenLaws.{node_then}
 use Rattle.yq_flow.specs.Valued.{IsValueTree}
 use Rattle.yq_rows.specs.Exchange.{asked_behind, row_front, with_content}
 use Rattle.yq_rows.specs.Grammar.{IsMark, IsRow, IsTail, may_be_alone, unlimited}
-use Rattle.yq_rows.specs.Rows.{Bare, Content, Nothing, Inline, Block, Row, behind_gap, dashes_text, mark_text, parent_indent, print_row, rows_text, Cut, cut_text, Part, part_text}
-use Rattle.yq_rows.specs.Seams.{is_block}
-use Rattle.yq_rows.specs.View.{content_cut, slices}
+use Rattle.yq_rows.specs.Rows.{Bare, Row, behind_gap, dashes_text, mark_text, parent_indent, print_row, rows_text, Cut, cut_text, Part, part_text}
+use Rattle.yq_rows.specs.View.{slices}
 use Rattle.yq_rows.proofs.CharacterLaws.{ends_after}
 use Rattle.yq_rows.proofs.NodePieces.{ends_behind}
 use Rattle.yq_rows.proofs.seams.SeamLaws.{rows_text-append}
@@ -59,12 +58,7 @@ use Rattle.yq_edits.proofs.SegmentLaws.{segments_readable}
 use Rattle.yq_edits.proofs.ValueTexts.{IsWrittenFor, value_for}
 use Rattle.yq_block_edits.proofs.LoneContents as contents
 use Rattle.yq_block_edits.proofs.LoneHeads.{EndsLow, IsLoneHead, before_head, lone_head}
-
--- what is no block scalar has no raw lines
-no_raw : (x : Content) → is_block x ≡ false → (content_cut x).5 ≡ []
-no_raw (Nothing tail) h = refl
-no_raw (Inline space node tail) h = refl
-no_raw (Block space anchor b) h = absurd (false≢true (sym h))
+use Rattle.yq_block_edits.proofs.MarkHeads.{no_raw}
 
 -- A row that is alone on its line, among the rows of a document, to whose content steps lead; the rows before it end in an LF.
 module _ (n : ℕ) (steps : List Step) (v : Node) (c : Cut) (read : read_at (cut_text c) ≡ Some c) (d : PlacedPart) (placed : placed_document n c ≡ Some d) (front : List Row) (r : Row) (back : List Row) (rows_are : d.part.rows ≡ front ++ (r ∷ back))

@@ -45,6 +45,8 @@ use Rattle.yq_edits.specs.EditLaws.{IsEdit}
 use Rattle.yq_edits.specs.ReplaceEdits.{lone_put}
 use Rattle.yq_change.proofs.StandingMarks.{under_it}
 use Rattle.yq_block_edits.proofs.LoneCarried.{lone_carried}
+use Rattle.yq_scalar.proofs.LineLaws.{is_empty_is}
+use Rattle.yq_lines.proofs.Plug.{headless}
 
 -- ---- a row alone
 
@@ -53,13 +55,9 @@ bare_mark rows.Bare h = refl
 bare_mark rows.Dash h = absurd (false≢true h)
 bare_mark (rows.Key key colon) h = absurd (false≢true h)
 
-no_text : (ns : List ℕ) → is_empty ns ≡ true → ns ≡ []
-no_text [] h = refl
-no_text (n ∷ ns) h = absurd (false≢true h)
-
 -- such a row has neither dashes nor a mark
 alone_row : (r : Row) → is_alone r ≡ true → (r.mark ≡ rows.Bare) × (r.dashes ≡ [])
-alone_row r h = let p = and_parts (is_empty r.dashes) (is_bare (mark_of r.mark)) h in (bare_mark r.mark p.1, no_text r.dashes p.0)
+alone_row r h = let p = and_parts (is_empty r.dashes) (is_bare (mark_of r.mark)) h in (bare_mark r.mark p.1, is_empty_is r.dashes p.0)
 
 -- it is one line
 alone_line : (r : Row) → is_alone r ≡ true → (l : Line) × (row_lines r ≡ l ∷ []) × (l.mark ≡ outline.Bare)
@@ -77,10 +75,6 @@ whole_bare outline.Bare (Some x) (row l u c) b e o w = absurd o
 whole_bare outline.Bare (Some x) end (row l u c) e o w = absurd w
 whole_bare (outline.Key k) h a b e o w = absurd (cc)
 whole_bare outline.Dash h a b e o w = absurd (cc)
-
-open_row : (o : Option Node) (l : Line) (u after : Outline) → IsOpen o (row l u after) → o ≡ None
-open_row None l u after h = refl
-open_row (Some k) l u after h = absurd h
 
 -- an outline of lines of which the first one is bare is of one line
 one_line : (m : ℕ) (o : Outline) (l : Line) (ls : List Line) → IsEven m o → l ∷ ls ≡ flatten o → l.mark ≡ outline.Bare → length (flatten o) ≡ 1
@@ -131,7 +125,7 @@ module _ (n : ℕ) (s : Step) (ss : List Step) (v : Node) (c : Cut) (read : read
     where
       go : (o : Outline) → one.0 ∷ lines_of rs ≡ flatten o → IsOpen there.found.line.head o → there.found.line.head ≡ None
       go end e h = absurd (let no : one.0 ∷ lines_of rs ≡ [] = e in cc)
-      go (row l u a) e h = open_row there.found.line.head l u a h
+      go (row l u a) e h = headless there.found.line.head l u a h
 
   leads : LeadsBelow d.part s ss front r
   leads = record {

@@ -11,16 +11,22 @@ use Rattle.yq_rows.specs.Seams.{is_block}
 use Rattle.yq_rows.specs.View.{content_cut}
 use Rattle.yq_change.proofs.CoreLaws.{put_core, empty_gap}
 
+-- what is no block scalar has no raw lines
+pub no_raw : (x : Content) → is_block x ≡ false → (content_cut x).5 ≡ []
+no_raw (Nothing tail) h = refl
+no_raw (Inline space node tail) h = refl
+no_raw (Block space anchor b) h = absurd (false≢true (sym h))
+
 -- where nothing is written there is no white space before it
-pub none_written : (n : ℤ) (x : Content) (rest : List ℕ) → IsContent n x rest → is_empty (content_cut x).3 ≡ true → (is_block x ≡ false) × (cond (is_empty (content_cut x).1) (content_cut x).0 (content_cut x).2 ≡ [])
+pub none_written : (n : ℤ) (x : Content) (rest : List ℕ) → IsContent n x rest → is_empty (content_cut x).3 ≡ true → cond (is_empty (content_cut x).1) (content_cut x).0 (content_cut x).2 ≡ []
 unfolding IsNode node_text
-none_written n (Nothing tail) rest h e = (refl, refl)
+none_written n (Nothing tail) rest h e = refl
 none_written n (Inline space inline.empty tail) rest h e = absurd (false≢true h.1.something)
 none_written n (Inline space (inline.alias m) tail) rest h e = absurd (false≢true e)
 none_written n (Inline space (inline.scalar []) tail) rest h e = absurd (omega (arith, scalar_some false _ [] (tail ++ rest) h.1.valid))
 none_written n (Inline space (inline.scalar (b ∷ p)) tail) rest h e = absurd (false≢true e)
 none_written n (Inline space (inline.coll k g is) tail) rest h e = absurd (false≢true e)
-none_written n (Inline space (inline.anchored m g inline.empty) tail) rest h e = (refl, empty_gap g (tail ++ rest) h.1.valid.1 h.1.valid.4.0)
+none_written n (Inline space (inline.anchored m g inline.empty) tail) rest h e = empty_gap g (tail ++ rest) h.1.valid.1 h.1.valid.4.0
 none_written n (Inline space (inline.anchored m g (inline.alias k)) tail) rest h e = absurd (false≢true e)
 none_written n (Inline space (inline.anchored m g (inline.scalar [])) tail) rest h e = absurd (omega (arith, scalar_some false _ [] (tail ++ rest) h.1.valid.4))
 none_written n (Inline space (inline.anchored m g (inline.scalar (b ∷ p))) tail) rest h e = absurd (false≢true e)

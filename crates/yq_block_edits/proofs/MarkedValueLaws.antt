@@ -1,6 +1,6 @@
 -- A value put at an item or entry, or in the place of a node alone on its line, is an edit, by what stands there.
-use Rattle.std.proofs.Common.{arith, ltb, ◌<◌, ◌≤◌, ◌≡◌, ℕ, Bool, true, false, cond, eqb, List, [], ◌∷◌, ◌++◌, length, Some, refl, ap, ◌∙◌, subst, eqb-true}
-use Rattle.std.proofs.lemmas.Bool.{eqb-false, false≢true, ltb-false, ltb-true}
+use Rattle.std.proofs.Common.{arith, ltb, ⊎_elim, ◌<◌, ◌≤◌, ◌≡◌, ℕ, true, false, eqb, List, [], ◌∷◌, ◌++◌, length, Some, refl, ap, ◌∙◌, subst, eqb-true}
+use Rattle.std.proofs.lemmas.Bool.{cases_Bool, cond_both, eqb-false, false≢true, ltb-false, ltb-true}
 use Rattle.yq_scalar.specs.BlockWritten.{break_text}
 use Rattle.yq_scalar.specs.Paths.{Step}
 use Rattle.yq_scalar.specs.Text.{is_empty}
@@ -32,11 +32,7 @@ use Rattle.yq_block_edits.proofs.ScalarPuts.{scalar_edit}
 
 -- of two numbers that differ the one that isn't more is less
 less : (a b : ℕ) → eqb a b ≡ false → a ≤ b → a < b
-less a b e h = go (ltb a b) refl
-  where
-    go : (x : Bool) → ltb a b ≡ x → a < b
-    go true t = ltb-true a b t
-    go false f = let most = ltb-false a b f in absurd (eqb-false a b e (omega (arith, h, most)))
+less a b e h = ⊎_elim {0, 0, 0} (λ t. ltb-true a b t) (λ f. let most = ltb-false a b f in absurd (eqb-false a b e (omega (arith, h, most)))) (cases_Bool (ltb a b))
 
 -- ---- by what stands there
 
@@ -53,32 +49,27 @@ module _ (n : ℕ) (s : Step) (ss : List Step) (v : Node) (c : Cut) (e : PlacedE
 
     under_it : is_empty (slices e.row).head ≡ true → is_block e.row.content ≡ false → (us : List Row) → e.under ≡ us → IsPut (below e us)
     under_it none block [] is = at_edit n s ss c e there last (known (ap first_alone is)) v block
-    under_it none block (r ∷ rs) is = go (is_alone r) refl
-      where
-        go : (b : Bool) → is_alone r ≡ b → IsPut (cond b (standings.alone (lone (before_entry e ++ print_row e.row []) r (rows_text rs (behind_entry e)))) (standings.under (held e) r.column))
-        go true alone = lone_edit n s ss v c e r rs read at last is alone
-        go false other = below_edit n s ss c e there last (known (ap first_alone is ∙ other)) v block
+    under_it none block (r ∷ rs) is =
+        cond_both (is_alone r) (standings.alone (lone (before_entry e ++ print_row e.row []) r (rows_text rs (behind_entry e)))) (standings.under (held e) r.column) IsPut
+        (λ alone. lone_edit n s ss v c e r rs read at last is alone) (λ other. below_edit n s ss c e there last (known (ap first_alone is ∙ other)) v block)
 
     by_content : (x : Content) → e.row.content ≡ x → IsPut (behind_mark e x)
     by_content (Nothing tail) is = under_it (ap (λ y. is_empty (content_cut y).3) is) (ap is_block is) e.under refl
-    by_content (Inline space node tail) is = go (is_empty (slices e.row).head) refl
-      where
-        go : (b : Bool) → is_empty (slices e.row).head ≡ b → IsPut (cond b (below e e.under) (standings.beside (held e)))
-        go true none = under_it none (ap is_block is) e.under refl
-        go false some = at_edit n s ss c e there last (known (ap first_alone (headless_there n s ss c e there last some))) v (ap is_block is)
+    by_content (Inline space node tail) is =
+        cond_both (is_empty (slices e.row).head) (below e e.under) (standings.beside (held e)) IsPut
+        (λ none. under_it none (ap is_block is) e.under refl) (λ some. at_edit n s ss c e there last (known (ap first_alone (headless_there n s ss c e there last some))) v (ap is_block is))
     by_content (Block space anchor b) is = scalar_edit n s ss c e there last (known (ap first_alone (headless_there n s ss c e there last (ap (λ y. is_empty (content_cut y).3) is)))) space anchor b is v
 
+  dash_put_there : e.line < length e.row.dashes → IsPut (standings.compact (compact_in e))
+  dash_put_there strict = record {
+    old = dash_old n s ss c e there strict read at (break_text (layout_of n c).br) (written_at (layout_of n c) (compact_in e).mark [] v);
+    carried = λ tree fits. dash_carried n s ss c e there strict read at v tree (fits_replace n (s ∷ ss) v c there.part there.old.there tree fits);
+  }
+
   entry_put : IsPut (entry_standing e)
-  entry_put = go (eqb e.line (length e.row.dashes)) refl
-    where
-      go : (b : Bool) → eqb e.line (length e.row.dashes) ≡ b → IsPut (cond b (behind_mark e e.row.content) (standings.compact (compact_in e)))
-      go true is = by_content (eqb-true e.line (length e.row.dashes) is) e.row.content refl
-      go false other =
-          let strict : e.line < length e.row.dashes = less e.line (length e.row.dashes) other (entry_within n s ss c e at) in
-          record {
-            old = dash_old n s ss c e there strict read at (break_text (layout_of n c).br) (written_at (layout_of n c) (compact_in e).mark [] v);
-            carried = λ tree fits. dash_carried n s ss c e there strict read at v tree (fits_replace n (s ∷ ss) v c there.part there.old.there tree fits);
-          }
+  entry_put =
+      cond_both (eqb e.line (length e.row.dashes)) (behind_mark e e.row.content) (standings.compact (compact_in e)) IsPut
+      (λ is. by_content (eqb-true e.line (length e.row.dashes) is) e.row.content refl) (λ other. dash_put_there (less e.line (length e.row.dashes) other (entry_within n s ss c e at)))
 
 pub marked_values : MarkedValuesArePut
 marked_values n (s ∷ ss) v c t read at marked kept =
@@ -90,9 +81,7 @@ marked_values n [] v c t read at marked kept =
   where
     by_rows : (d : PlacedPart) → placed_document n c ≡ Some d → (rs : List Row) → d.part.rows ≡ rs → is_marked (root_standing d rs) ≡ true → IsEdit (replace n [] v) c (value_put (has_text (node_in n [] c)) (layout_of n c) v (root_standing d rs))
     by_rows d placed [] is marked = absurd (false≢true marked)
-    by_rows d placed (r ∷ rs) is marked = go (is_alone r) refl marked
-      where
-        go : (b : Bool) → is_alone r ≡ b → is_marked (cond b (standings.alone (lone d.before r (rows_text rs (d.part.end ++ d.behind)))) (standings.root (standings.block_root d r rs))) ≡ true →
-            IsEdit (replace n [] v) c (value_put (has_text (node_in n [] c)) (layout_of n c) v (cond b (standings.alone (lone d.before r (rows_text rs (d.part.end ++ d.behind)))) (standings.root (standings.block_root d r rs))))
-        go true alone marked = lone_root_edit n v c d r rs read placed is alone
-        go false other marked = absurd (false≢true marked)
+    by_rows d placed (r ∷ rs) is marked =
+        cond_both (is_alone r) (standings.alone (lone d.before r (rows_text rs (d.part.end ++ d.behind)))) (standings.root (standings.block_root d r rs))
+        (λ (t : Standing). is_marked t ≡ true → IsEdit (replace n [] v) c (value_put (has_text (node_in n [] c)) (layout_of n c) v t))
+        (λ alone m. lone_root_edit n v c d r rs read placed is alone) (λ other m. absurd (false≢true m)) marked

@@ -60,13 +60,6 @@ module _ (doc : ℕ) (s : Step) (ss : List Step) (c : Cut) (h : NodeRows doc s s
   abbrev pub limit : Limit
   limit = asked_behind unlimited h.front
 
-  -- the line of the key or dash
-  abbrev pub line : Line
-  line = line_with h.mark h.mark.content
-
-  abbrev pub more : List Line
-  more = (lines_upto h.upto h.under).0
-
   pub known_lines : lines_of (h.row ∷ h.under) ≡ dashes_of h.mark ++ (line_with h.mark h.mark.content ∷ (lines_upto h.upto h.under).0)
   known_lines = (lines_upto h.upto h.under).1
 

@@ -66,36 +66,19 @@ mark_level (rows.Key key colon) n e = refl
 
 -- ---- nothing but an anchor behind a mark
 
-nothing_head : (x : Content) → holds_nothing x ≡ true → head_of x ≡ None
-nothing_head (Nothing tail) h = refl
-nothing_head (Inline space inline.empty tail) h = refl
-nothing_head (Inline space (inline.alias name) tail) h = absurd (false≢true h)
-nothing_head (Inline space (inline.scalar p) tail) h = absurd (false≢true h)
-nothing_head (Inline space (inline.coll close gap is) tail) h = absurd (false≢true h)
-nothing_head (Inline space (inline.anchored n gap inline.empty) tail) h = refl
-nothing_head (Inline space (inline.anchored n gap (inline.alias m)) tail) h = absurd (false≢true h)
-nothing_head (Inline space (inline.anchored n gap (inline.scalar p)) tail) h = absurd (false≢true h)
-nothing_head (Inline space (inline.anchored n gap (inline.coll close g is)) tail) h = absurd (false≢true h)
-nothing_head (Inline space (inline.anchored n gap (inline.anchored m g node)) tail) h = absurd (false≢true h)
-nothing_head (Block space anchor block) h = absurd (false≢true h)
-
-nothing_fit : (x : Content) → holds_nothing x ≡ true → ContentHasFitKeys x
-nothing_fit (Nothing tail) h = tt
-nothing_fit (Inline space inline.empty tail) h = tt
-nothing_fit (Inline space (inline.alias name) tail) h = tt
-nothing_fit (Inline space (inline.scalar p) tail) h = tt
-nothing_fit (Inline space (inline.coll close gap is) tail) h = absurd (false≢true h)
-nothing_fit (Inline space (inline.anchored n gap inline.empty) tail) h = tt
-nothing_fit (Inline space (inline.anchored n gap (inline.alias m)) tail) h = tt
-nothing_fit (Inline space (inline.anchored n gap (inline.scalar p)) tail) h = tt
-nothing_fit (Inline space (inline.anchored n gap (inline.coll close g is)) tail) h = absurd (false≢true h)
-nothing_fit (Inline space (inline.anchored n gap (inline.anchored m g node)) tail) h = absurd (false≢true h)
-nothing_fit (Block space anchor block) h = tt
-
-nothing_block : (x : Content) → holds_nothing x ≡ true → is_block x ≡ false
-nothing_block (Nothing tail) h = refl
-nothing_block (Inline space node tail) h = refl
-nothing_block (Block space anchor block) h = absurd (false≢true h)
+-- it has no head and no key that is too long, and is no block scalar
+nothing_is : (x : Content) → holds_nothing x ≡ true → (head_of x ≡ None) × ContentHasFitKeys x × (is_block x ≡ false)
+nothing_is (Nothing tail) h = (refl, tt, refl)
+nothing_is (Inline space inline.empty tail) h = (refl, tt, refl)
+nothing_is (Inline space (inline.alias name) tail) h = absurd (false≢true h)
+nothing_is (Inline space (inline.scalar p) tail) h = absurd (false≢true h)
+nothing_is (Inline space (inline.coll close gap is) tail) h = absurd (false≢true h)
+nothing_is (Inline space (inline.anchored n gap inline.empty) tail) h = (refl, tt, refl)
+nothing_is (Inline space (inline.anchored n gap (inline.alias m)) tail) h = absurd (false≢true h)
+nothing_is (Inline space (inline.anchored n gap (inline.scalar p)) tail) h = absurd (false≢true h)
+nothing_is (Inline space (inline.anchored n gap (inline.coll close g is)) tail) h = absurd (false≢true h)
+nothing_is (Inline space (inline.anchored n gap (inline.anchored m g node)) tail) h = absurd (false≢true h)
+nothing_is (Block space anchor block) h = absurd (false≢true h)
 
 -- white space stands before another node there, where it does before the old one
 core_apart : (core : inline.Node) (n : ℤ) (x : Content) (rest : List ℕ) → IsContent n x rest → separates (content_text x rest) ≡ true → separates (content_text (put_core core x) rest) ≡ true
@@ -176,12 +159,12 @@ module _ (doc : ℕ) (s : Step) (ss : List Step) (c : Cut) (h : NodeRows doc s s
           under = stands.outline;
           comment = held.comment;
           anchor = held.anchor;
-          open' = subst (λ o. IsOpen o stands.outline) (sym (nothing_head x held.holds)) tt;
-          value_is = ap (λ o. head_or o (value stands.outline)) (nothing_head x held.holds) ∙ stands.node_is;
+          open' = subst (λ o. IsOpen o stands.outline) (sym (nothing_is x held.holds).0) tt;
+          value_is = ap (λ o. head_or o (value stands.outline)) (nothing_is x held.holds).0 ∙ stands.node_is;
           even = stands.even;
           deep = deep;
           lines = gone_lines (with_content x h.mark) rs ∙ ap (λ ls. Rattle.yq_change.proofs.UnderLaws.dashes_of h.mark ++ (line_with h.mark x ∷ ls)) (sym stands.lines_are);
-          keys = (mark_fit doc s ss c h, nothing_fit x held.holds, keys_fit rs fit);
+          keys = (mark_fit doc s ss c h, (nothing_is x held.holds).1, keys_fit rs fit);
           anchors = subst (λ ls. HaveOneAnchorEach (line_with h.mark x ∷ ls)) (sym stands.lines_are) (laid_free (content_anchor x) below rs z laid, anchors_fit rs fit);
         }
 
@@ -202,8 +185,11 @@ module _ (doc : ℕ) (s : Step) (ss : List Step) (c : Cut) (h : NodeRows doc s s
     }
 
   module _ (v : Node) (node : inline.Node) (is : IsValueNode v node) (x : Content) (held : IsHolding x (rest doc s ss c h)) where
+    pub content_beside : IsContentFor doc s ss c h v (put_core node x)
+    content_beside = content_for v node is x (nothing_is x held.holds).2 held.stands held.apart held.comment held.anchor
+
     abbrev pub rows_beside : List Row
     rows_beside = with_content (put_core node x) h.mark ∷ []
 
     pub takes_beside : TakesNode doc s ss c h v rows_beside
-    takes_beside = takes_content doc s ss c h v (put_core node x) (content_for v node is x (nothing_block x held.holds) held.stands held.apart held.comment held.anchor)
+    takes_beside = takes_content doc s ss c h v (put_core node x) content_beside

@@ -1,5 +1,5 @@
 -- A block scalar gives way to a value on one line.
-use Rattle.std.proofs.Common.{◌≡◌, inl, ℕ, ◌≤◌, not, List, [], ◌∷◌, ◌++◌, length, Option, Some, None, false, true, refl, sym, ap, ◌∙◌, subst}
+use Rattle.std.proofs.Common.{◌≡◌, cond, inl, ℕ, ◌≤◌, not, List, [], ◌∷◌, ◌++◌, length, Option, Some, None, false, true, refl, sym, ap, ◌∙◌, subst}
 use Rattle.yq_scalar.specs.Block.{BlockText, block_text}
 use Rattle.yq_scalar.specs.BlockWritten.{break_text}
 use Rattle.yq_scalar.specs.Characters.{text_limit}
@@ -31,7 +31,7 @@ use Rattle.yq_change.proofs.ValueContentLaws.{more_some}
 use Rattle.yq_meaning.specs.Operations.{replace}
 use Rattle.yq_script.specs.Script.{new_text}
 use Rattle.yq_edits.specs.EditLaws.{CarriedOut}
-use Rattle.yq_edits.specs.ReplaceEdits.{held_put}
+use Rattle.yq_edits.specs.ReplaceEdits.{apart, held_put}
 use Rattle.yq_edits.specs.WrittenValues as written
 use Rattle.yq_edits.proofs.FitLaws.{FitsReplace}
 use Rattle.yq_edits.proofs.ValueTexts.{IsWrittenFor}
@@ -110,12 +110,14 @@ module _ (n : ℕ) (s : Step) (ss : List Step) (c : Cut) (e : PlacedEntry) (ther
         keys = core_keys for.node (carrier anchor) for.is.keys;
       }
 
-  spelled : (u : List ℕ) → e.start ++ (rows_text e.front [] ++ rows_text (with_content new e.row ∷ []) u) ≡ w.before ++ (w.space ++ node_text for.node (tail ++ u))
+  spelled : (u : List ℕ) → e.start ++ (rows_text e.front [] ++ rows_text (with_content new e.row ∷ []) u) ≡ w.before ++ (w.space ++ apart w.head (node_text for.node (tail ++ u)))
   spelled u =
       let b : List ℕ = rows_text e.front [] in
       ap (λ r. e.start ++ (b ++ r)) (row_front-append (with_content new e.row) u)
       ∙ (regroup e.start b (row_front e.row) (content_text new u)
-      ∙ (ap (λ r. ((e.start ++ b) ++ row_front e.row) ++ (space ++ r)) (named_text anchor for.node (tail ++ u)) ∙ sym (front_text n s ss c e there last k space anchor block content_is (node_text for.node (tail ++ u)))))
+      ∙ (ap (λ r. ((e.start ++ b) ++ row_front e.row) ++ (space ++ r)) (named_text anchor for.node (tail ++ u))
+      ∙ (sym (front_text n s ss c e there last k space anchor block content_is (node_text for.node (tail ++ u)))
+      ∙ ap (λ b. w.before ++ (w.space ++ cond b (32 ∷ node_text for.node (tail ++ u)) (node_text for.node (tail ++ u)))) (sym (headed n s ss c e there last k space anchor block content_is)))))
 
   pub scalar_inline : length (new_text (held_put (break_text br) w (written.inline t))) ≤ text_limit → CarriedOut (replace n (s ∷ ss) v) c (held_put (break_text br) w (written.inline t))
-  scalar_inline = head_carried n s ss c e there last k br v f t for new is_for spelled (headed n s ss c e there last k space anchor block content_is)
+  scalar_inline = head_carried n s ss c e there last k br v f t for new is_for spelled

@@ -1,5 +1,6 @@
 -- What is put in the place of a block scalar carries out the replacement.
 use Rattle.std.proofs.Common.{◌≡◌, ℕ, ◌≤◌, ◌&&◌, cond, List, [], ◌∷◌, length, Option, Some, None, Bool, true, false, refl, sym, ◌∙◌}
+use Rattle.std.proofs.lemmas.Bool.{cond_both}
 use Rattle.yq_scalar.specs.Block.{BlockText}
 use Rattle.yq_scalar.specs.BlockWritten.{break_text}
 use Rattle.yq_scalar.specs.Characters.{text_limit}
@@ -57,19 +58,13 @@ module _ (n : ℕ) (s : Step) (ss : List Step) (c : Cut) (e : PlacedEntry) (ther
   block_old (lines t) = raw_old n s ss c e there last k space anchor block content_is
 
   string_old : (x : ScalarText) → old_text (string_put br w block.indent.columns x) ≡ cut_text c
-  string_old x = go (can_write x styles.Literal places.Block)
-    where
-      go : (b : Bool) → old_text (cond b (literal_put br w block.indent.columns x.text) (held_put br w (inline (double x.text)))) ≡ cut_text c
-      go true = raw_old n s ss c e there last k space anchor block content_is
-      go false = held_old br w (inline (double x.text)) ∙ sym k.spells
+  string_old x =
+      cond_both (can_write x styles.Literal places.Block) (literal_put br w block.indent.columns x.text) (held_put br w (inline (double x.text))) (λ us. old_text us ≡ cut_text c)
+      (λ can. raw_old n s ss c e there last k space anchor block content_is) (λ other. held_old br w (inline (double x.text)) ∙ sym k.spells)
 
   scalar_old : (text : Bool) (y : Written) (o : Option ScalarText) → old_text (block_scalar_put text br w block.indent.columns y o) ≡ cut_text c
   scalar_old text y None = block_old y
-  scalar_old text y (Some x) = go (text && is_string x.kind)
-    where
-      go : (b : Bool) → old_text (cond b (string_put br w block.indent.columns x) (block_put br w y)) ≡ cut_text c
-      go true = string_old x
-      go false = block_old y
+  scalar_old text y (Some x) = cond_both (text && is_string x.kind) (string_put br w block.indent.columns x) (block_put br w y) (λ us. old_text us ≡ cut_text c) (λ string. string_old x) (λ other. block_old y)
 
   -- ---- a value
 
@@ -79,19 +74,16 @@ module _ (n : ℕ) (s : Step) (ss : List Step) (c : Cut) (e : PlacedEntry) (ther
 
   collection_done : (v : Node) (tree : IsValueTree v) (f : FitsReplace n (s ∷ ss) v c there.part) (b : Bool) → is_filled v ≡ b → Done v (block_put br w (cond b (collection_at l w.mark v) (inline (value_text places.Block [] v))))
   collection_done v tree f false full = scalar_inline n s ss c e there last k space anchor block content_is l.br v f (value_text places.Block [] v) (value_for [] v tree f.deep f.long)
-  collection_done v tree f true full = go (takes_compact w.mark) refl
-    where
-      go : (b : Bool) → takes_compact w.mark ≡ b → Done v (block_put br w (cond b (compact_text (block_value l (item_column w.mark.column) v)) (lines (lines_in l (column_under l w.mark v) v))))
-      go true free = held_compact n s ss c e there last k v tree f full free
-      go false free = raw_rows n s ss c e there last k space anchor block content_is v tree f full
+  collection_done v tree f true full =
+      cond_both (takes_compact w.mark) (compact_text (block_value l (item_column w.mark.column) v)) (lines (lines_in l (column_under l w.mark v) v)) (λ y. Done v (block_put br w y))
+      (λ free. held_compact n s ss c e there last k v tree f full free) (λ other. raw_rows n s ss c e there last k space anchor block content_is v tree f full)
 
   string_done : (a : Option (List ℕ)) (kind : Kind) (t : List ℕ) (value : IsValueTree (tree.scalar a kind t)) (f : FitsReplace n (s ∷ ss) (tree.scalar a kind t) c there.part) → has_text (node_in n (s ∷ ss) c) ≡ true → is_string kind ≡ true →
       Done (tree.scalar a kind t) (string_put br w block.indent.columns (record { kind = kind; text = t }))
-  string_done a kind t value f has string = go (can_write (record { kind = kind; text = t }) styles.Literal places.Block) refl
-    where
-      go : (b : Bool) → can_write (record { kind = kind; text = t }) styles.Literal places.Block ≡ b → Done (tree.scalar a kind t) (cond b (literal_put br w block.indent.columns t) (held_put br w (inline (double t))))
-      go true can = raw_literal n s ss c e there last k space anchor block content_is a kind t value f can has l.br
-      go false can = scalar_inline n s ss c e there last k space anchor block content_is l.br (tree.scalar a kind t) f (double t) (scalar_for a (record { kind = kind; text = t }) styles.Double value tt string)
+  string_done a kind t value f has string =
+      cond_both (can_write (record { kind = kind; text = t }) styles.Literal places.Block) (literal_put br w block.indent.columns t) (held_put br w (inline (double t))) (Done (tree.scalar a kind t))
+      (λ can. raw_literal n s ss c e there last k space anchor block content_is a kind t value f can has l.br)
+      (λ other. scalar_inline n s ss c e there last k space anchor block content_is l.br (tree.scalar a kind t) f (double t) (scalar_for a (record { kind = kind; text = t }) styles.Double value tt string))
 
   value_done : (v : Node) → IsValueTree v → FitsReplace n (s ∷ ss) v c there.part → Done v (block_scalar_put (has_text (node_in n (s ∷ ss) c)) br w block.indent.columns (written_at l w.mark [] v) (scalar_in v))
   value_done (tree.alias name) h f = absurd h

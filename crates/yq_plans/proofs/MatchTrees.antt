@@ -1,4 +1,4 @@
--- Judges of documents that are ready: trees with no more collections nested than in these.
+-- Matches of documents that are ready: trees with no more collections nested than in these.
 use Rattle.std.proofs.Common.{◌≡◌, ◌≤◌, ℕ, suc, Bool, true, false, cond, List, [], ◌∷◌, ◌++◌, max, Option, Some, None, option_and_then, Result, Ok, Err, IfOk, slice_get, refl, subst, arith}
 use Rattle.std.proofs.lemmas.Option.{none-some, same_Some}
 use Rattle.yq_scalar.specs.Keys.{depth, deepest}
@@ -11,7 +11,7 @@ use Rattle.yq_inline.specs.Values.{items, entries}
 use Rattle.yq_documents.specs.Documents.{Document}
 use Rattle.yq_meaning.specs.Conditions.{node_there, value_of}
 use Rattle.yq_meaning.specs.Copies.{and_others, keyed, copy, item_copies, entry_copies, copy_at, match_at, matches_in, matches_from, matches}
-use Rattle.yq_meaning.specs.Judgement.{Judges, and_then, gives}
+use Rattle.yq_meaning.specs.Judgement.{Judges, gives}
 use Rattle.yq_plans.specs.MatchTrees.{IsMatch, AreMatches}
 use Rattle.yq_meaning.specs.Pipes.{places}
 use Rattle.yq_meaning.specs.Places.{Place, for_each}
@@ -22,6 +22,7 @@ use Rattle.yq_meaning.proofs.JudgementLaws.{then_gives, gives_same}
 use Rattle.yq_meaning.proofs.GoodPlaces.{AreSound}
 use Rattle.yq_plans.proofs.updates.PipePlaces.{places_apart}
 use Rattle.yq_plans.proofs.updates.Pure.{copy_pure}
+use Rattle.yq_plans.proofs.updates.Each.{joined_gives}
 
 -- ---- how deep collections are nested below a node
 
@@ -104,9 +105,8 @@ place_matches doc root p ms is tree at h =
 each_matches : (doc : ℕ) (root : Node) (ps : List Place) (ms : List (ℕ × Node)) → IsMatch root → AreSound root ps → for_each (match_at doc) ps ≡ gives ms → AreMatches ms
 each_matches doc root [] ms is sound h = subst AreMatches (gives_same h) tt
 each_matches doc root (p ∷ ps) ms is sound h =
-    let x = then_gives (λ (first : List (ℕ × Node)). and_then (λ others. gives (first ++ others)) (for_each (match_at doc) ps)) (match_at doc p) ms h in
-    let y = then_gives (λ (others : List (ℕ × Node)). gives (x.0 ++ others)) (for_each (match_at doc) ps) ms x.2 in
-    subst AreMatches (gives_same y.2) (join x.0 y.0 (place_matches doc root p x.0 is sound.0.0 sound.0.1 x.1) (each_matches doc root ps y.0 is sound.1 y.1))
+    let w = joined_gives (match_at doc p) (for_each (match_at doc) ps) ms h in
+    subst AreMatches w.4 (join w.0 w.1 (place_matches doc root p w.0 is sound.0.0 sound.0.1 w.2) (each_matches doc root ps w.1 is sound.1 w.3))
 
 document_matches : (doc : ℕ) (pipe : List Stage) (root : Node) (ms : List (ℕ × Node)) → IsMatch root → matches_in doc pipe root ≡ gives ms → AreMatches ms
 document_matches doc pipe root ms is h =
@@ -122,10 +122,8 @@ MayMatch docs = (i : ℕ) (d : Document) → slice_get docs i ≡ Some d → IsM
 from_matches : (doc : ℕ) (pipe : List Stage) (docs : List Document) (ms : List (ℕ × Node)) → MayMatch docs → matches_from doc pipe docs ≡ gives ms → AreMatches ms
 from_matches doc pipe [] ms ready h = subst AreMatches (gives_same h) tt
 from_matches doc pipe (d ∷ ds) ms ready h =
-    let x = then_gives (λ (first : List (ℕ × Node)). and_then (λ others. gives (first ++ others)) (matches_from (suc doc) pipe ds)) (matches_in doc pipe d.root) ms h in
-    let y = then_gives (λ (others : List (ℕ × Node)). gives (x.0 ++ others)) (matches_from (suc doc) pipe ds) ms x.2 in
-    subst AreMatches (gives_same y.2)
-    (join x.0 y.0 (document_matches doc pipe d.root x.0 (ready 0 d refl) x.1) (from_matches (suc doc) pipe ds y.0 (λ i e is. ready (suc i) e is) y.1))
+    let w = joined_gives (matches_in doc pipe d.root) (matches_from (suc doc) pipe ds) ms h in
+    subst AreMatches w.4 (join w.0 w.1 (document_matches doc pipe d.root w.0 (ready 0 d refl) w.2) (from_matches (suc doc) pipe ds w.1 (λ i e is. ready (suc i) e is) w.3))
 
 -- the answer to a read
 pub answer_matches : {X : Type 0} (view : X → List (ℕ × Node)) (r : Result X ExprError) (pipe : List Stage) (docs : List Document) → MayMatch docs → Judges view r (matches pipe docs) → IfOk r (λ v. AreMatches (view v))

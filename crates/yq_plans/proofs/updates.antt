@@ -3,6 +3,7 @@ pub mod AlikeRooms
 pub mod AllowedChanges
 pub mod Apart
 pub mod AtOnce
+pub mod Each
 pub mod Examples
 pub mod FirstPlaces
 pub mod FitChanges

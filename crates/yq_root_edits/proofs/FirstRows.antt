@@ -18,6 +18,8 @@ use Rattle.yq_places.proofs.CommentPieceLaws.{Ended}
 use Rattle.yq_places.proofs.LastBreakLaws.{lf_last}
 use Rattle.yq_change.proofs.FirstBreakLaws.{IsOneBreak}
 use Rattle.yq_edits.proofs.BreakLaws.{last_is}
+use Rattle.yq_rows.proofs.NothingLaws.{some_behind}
+use Rattle.yq_rows.proofs.GapLaws.{some_more}
 
 no_line : is_line [] ≡ false
 unfolding is_line
@@ -26,10 +28,6 @@ no_line = refl
 pub some_length : (t : List ℕ) → is_empty t ≡ false → 0 < length t
 some_length [] h = absurd (false≢true (sym h))
 some_length (b ∷ t) h = omega arith
-
-some_behind : (a b : List ℕ) → is_empty b ≡ false → is_empty (a ++ b) ≡ false
-some_behind [] b h = h
-some_behind (x ∷ a) b h = refl
 
 -- a row that isn't a node alone on its line has a dash or a mark
 mark_some : (m : rows.Mark) (x : Content) (rest : List ℕ) → IsMark m x rest → is_bare (mark_of m) ≡ false → is_empty (mark_text m (content_text x [])) ≡ false
@@ -45,12 +43,8 @@ pub row_some : (r : Row) (rest t : List ℕ) → IsMark r.mark r.content rest �
 row_some r rest t h alone = go r.dashes refl
   where
     go : (ns : List ℕ) → r.dashes ≡ ns → is_empty (dashes_text ns (behind_dashes r t)) ≡ false
-    go [] is = ap is_empty (mark_then r.mark r.content t) ∙ some_before (mark_text r.mark (content_text r.content [])) t (mark_some r.mark r.content rest h (ap (λ ns. is_empty ns && is_bare (mark_of r.mark)) (sym is) ∙ alone))
+    go [] is = ap is_empty (mark_then r.mark r.content t) ∙ some_more (mark_text r.mark (content_text r.content [])) t (mark_some r.mark r.content rest h (ap (λ ns. is_empty ns && is_bare (mark_of r.mark)) (sym is) ∙ alone))
       where
-        some_before : (a b : List ℕ) → is_empty a ≡ false → is_empty (a ++ b) ≡ false
-        some_before [] b e = absurd (false≢true (sym e))
-        some_before (x ∷ a) b e = refl
-
         mark_then : (m : rows.Mark) (x : Content) (u : List ℕ) → mark_text m (content_text x u) ≡ mark_text m (content_text x []) ++ u
         mark_then rows.Bare x u = content_then x [] u
         mark_then rows.Dash x u = ap (λ y. 45 ∷ y) (content_then x [] u)

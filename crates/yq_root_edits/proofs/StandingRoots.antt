@@ -1,6 +1,6 @@
 -- Where a block collection stands that is a root, or no rows.
 use Rattle.std.proofs.Common.{◌≡◌, ℕ, List, [], ◌∷◌, ◌++◌, Some, Bool, true, false, cond, refl, sym, ap, ◌∙◌}
-use Rattle.std.proofs.lemmas.Bool.{false≢true}
+use Rattle.std.proofs.lemmas.Bool.{cond_both, false≢true}
 use Rattle.std.specs.Prelude.{◌==◌, length}
 use Rattle.yq_scalar.specs.Paths.{Step}
 use Rattle.yq_scalar.specs.Text.{is_empty}
@@ -24,27 +24,17 @@ is_root (no_rows w) = true
 -- nothing of that kind stands at an item or entry
 below_other : (e : PlacedEntry) (rs : List Row) → is_root (below e rs) ≡ false
 below_other e [] = refl
-below_other e (r ∷ rs) = go (is_alone r)
-  where
-    go : (b : Bool) → is_root (cond b (alone (lone (before_entry e ++ print_row e.row []) r (rows_text rs (behind_entry e)))) (under (held e) r.column)) ≡ false
-    go true = refl
-    go false = refl
+below_other e (r ∷ rs) =
+    cond_both (is_alone r) (alone (lone (before_entry e ++ print_row e.row []) r (rows_text rs (behind_entry e)))) (under (held e) r.column) (λ t. is_root t ≡ false) (λ bare. refl) (λ other. refl)
 
 behind_other : (e : PlacedEntry) (x : Content) → is_root (behind_mark e x) ≡ false
 behind_other e (Nothing tail) = below_other e e.under
-behind_other e (Inline space node tail) = go (is_empty (slices e.row).head)
-  where
-    go : (b : Bool) → is_root (cond b (below e e.under) (beside (held e))) ≡ false
-    go true = below_other e e.under
-    go false = refl
+behind_other e (Inline space node tail) = cond_both (is_empty (slices e.row).head) (below e e.under) (beside (held e)) (λ t. is_root t ≡ false) (λ none. below_other e e.under) (λ some. refl)
 behind_other e (rows.Block space anchor b) = refl
 
 entry_other : (e : PlacedEntry) → is_root (entry_standing e) ≡ false
-entry_other e = go (e.line == length e.row.dashes)
-  where
-    go : (b : Bool) → is_root (cond b (behind_mark e e.row.content) (compact (compact_in e))) ≡ false
-    go true = behind_other e e.row.content
-    go false = refl
+entry_other e =
+    cond_both (e.line == length e.row.dashes) (behind_mark e e.row.content) (compact (compact_in e)) (λ t. is_root t ≡ false) (λ last. behind_other e e.row.content) (λ other. refl)
 
 -- no steps lead to what is of that kind
 root_found : (n : ℕ) (steps : List Step) (c : Cut) (t : Standing) → standing_at n steps c ≡ Some t → is_root t ≡ true → (steps ≡ []) × (d : PlacedPart) × (placed_document n c ≡ Some d) × (root_standing d d.part.rows ≡ t)

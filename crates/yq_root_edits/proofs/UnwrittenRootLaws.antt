@@ -1,5 +1,6 @@
 -- Where the root of a document comes that has no rows: in general, and behind a text that ends in a break.
-use Rattle.std.proofs.Common.{◌≡◌, ◌⊎◌, inl, inr, ℕ, zero, suc, ◌≤◌, List, [], ◌∷◌, ◌++◌, length, Some, Bool, true, false, not, ◌||◌, refl, sym, ap, ◌∙◌, subst, arith, append_assoc, append-nil, ⊎_elim}
+use Rattle.std.proofs.Common.{◌≡◌, ◌⊎◌, inl, inr, ℕ, zero, suc, ◌≤◌, List, [], ◌∷◌, ◌++◌, length, Some, Bool, true, false, not, ◌||◌, refl, sym, ap, ◌∙◌, subst, arith, append_assoc, append-nil, ⊎_elim, length-append}
+use Rattle.std.proofs.lemmas.List.{nil_from_length}
 use Rattle.std.proofs.lemmas.Bool.{false≢true, or_right, and_parts, or_parts}
 use Rattle.std.proofs.lemmas.Option.{same_Some}
 use Rattle.yq_scalar.specs.BlockWritten.{break_text}
@@ -158,10 +159,6 @@ long_some (b ∷ m) h = refl
 
 -- ---- the root of a document without rows
 
-none_front : (a b : List ℕ) → a ++ b ≡ [] → a ≡ []
-none_front [] b e = refl
-none_front (x ∷ a) b e = absurd (let no : x ∷ (a ++ b) ≡ [] = e in cc)
-
 module _ (n : ℕ) (c : Cut) (w : NoRows) (read : read_at (cut_text c) ≡ Some c) (h : IsUnwrittenRoot n c w) where
   pub stands : StandsAt c n h.d
   stands = document_stands_at c n h.d h.placed
@@ -213,7 +210,7 @@ module _ (n : ℕ) (c : Cut) (w : NoRows) (read : read_at (cut_text c) ≡ Some 
       ends_closed : IsMarkerLine marker (h.d.part.end ++ h.d.behind) → h.d.part.end ++ h.d.behind ≡ [] → is_closed_text marker ≡ true
       ends_closed own none =
           let front = ends_in_marker (begins_bare c || not (has_begin c)) n c h.d [] h.placed in
-          let before : h.d.before ≡ h.d.before ++ h.d.part.end = sym (append-nil h.d.before) ∙ ap (λ x. h.d.before ++ x) (sym (none_front h.d.part.end h.d.behind none)) in
+          let before : h.d.before ≡ h.d.before ++ h.d.part.end = sym (append-nil h.d.before) ∙ ap (λ x. h.d.before ++ x) (sym (nil_from_length h.d.part.end (omega (arith, ap length none, length-append h.d.part.end h.d.behind)))) in
           sym (closed_behind front.0 marker (long_some marker own.long)) ∙ (ap is_closed_text (sym front.1 ∙ before) ∙ closed none)
 
       by_line : IsMarkerLine marker (h.d.part.end ++ h.d.behind) → is_after marker t ≡ true

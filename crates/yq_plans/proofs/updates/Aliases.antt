@@ -1,5 +1,6 @@
 -- No change brings an alias that was not there.
 use Rattle.std.proofs.Common.{◌≡◌, ℕ, suc, ◌⊎◌, Bool, true, false, cond, List, [], ◌∷◌, map, Option, Some, None, refl, subst, inl, inr}
+use Rattle.std.proofs.lemmas.Bool.{cond_both}
 use Rattle.std.proofs.lemmas.Option.{none-some, same_Some}
 use Rattle.yq_scalar.specs.Tree as tree
 use Rattle.yq_scalar.specs.Tree.{Label, Node, alias, scalar, list, Children, none, child}
@@ -11,6 +12,8 @@ use Rattle.yq_documents.specs.TreeEdits.{replaced, headed, led, new_label}
 use Rattle.yq_program.specs.declared.program.CommentPlace.TheVariants as comments
 use Rattle.yq_meaning.specs.Changes as changes
 use Rattle.yq_plans.proofs.updates.Mentions.{Mentions, AnyMentions, HasNoAlias, MentionsNoMore}
+use Rattle.yq_plans.proofs.updates.Each.{Each}
+use Rattle.yq_plans.proofs.updates.Spares.{child_kept_or_gone}
 
 -- what is done at a place brings no alias
 abbrev BringsNone : Deed → Type 0
@@ -24,15 +27,8 @@ BringNone f = (q : List Step) (x : Deed) → f q ≡ Some x → BringsNone x
 
 child_no_more : (a : List ℕ) (d : Option Deed) (label : Label) (m n : Node) (rest cs : Children) → (Mentions a m → Mentions a n) → (AnyMentions a rest → AnyMentions a cs) → AnyMentions a (child_by d label m rest) →
     AnyMentions a (child label n cs)
-child_no_more a None label m n rest cs f g (inl h) = inl (f h)
-child_no_more a None label m n rest cs f g (inr h) = inr (g h)
-child_no_more a (Some (becomes k)) label m n rest cs f g (inl h) = inl (f h)
-child_no_more a (Some (becomes k)) label m n rest cs f g (inr h) = inr (g h)
-child_no_more a (Some (line text)) label m n rest cs f g (inl h) = inl (f h)
-child_no_more a (Some (line text)) label m n rest cs f g (inr h) = inr (g h)
-child_no_more a (Some (head texts)) label m n rest cs f g (inl h) = inl (f h)
-child_no_more a (Some (head texts)) label m n rest cs f g (inr h) = inr (g h)
-child_no_more a (Some goes) label m n rest cs f g h = inr (g h)
+child_no_more a d label m n rest cs f g =
+    child_kept_or_gone (λ k. AnyMentions a (k rest) → AnyMentions a (child label n cs)) d label m (λ hd ld h. elim h [ inl e ↦ inl (f e) | inr e ↦ inr (g e) ]) (λ gone h. inr (g h))
 
 done_no_more : (a : List ℕ) (d : Option Deed) → ((x : Deed) → d ≡ Some x → BringsNone x) → (n m : Node) → (Mentions a m → Mentions a n) → Mentions a (done_at d n m) → Mentions a n
 done_no_more a None b n m f h = f h
@@ -108,8 +104,7 @@ added_mentions a x (tree.map anchor cs) h = add_mentions a x cs h
 
 -- values without aliases are added
 abbrev pub AddNone : List Addition → Type 0
-AddNone [] = Unit {0}
-AddNone (x ∷ xs) = HasNoAlias (value_in x) × AddNone xs
+AddNone xs = Each (λ (x : Addition). HasNoAlias (value_in x)) xs
 
 pub one_no_more : (x : Addition) → HasNoAlias (value_in x) → (n : Node) → MentionsNoMore (within (add_to x) n) n
 one_no_more x free n a h = elim (added_mentions a x n h) [ inl e ↦ absurd (free a e) | inr e ↦ e ]
@@ -126,8 +121,7 @@ WritesNone changes.removes = Unit {0}
 WritesNone (sets_comment place text) = Unit {0}
 
 abbrev pub AllWriteNone : List Changed → Type 0
-AllWriteNone [] = Unit {0}
-AllWriteNone (c ∷ cs) = WritesNone c.1 × AllWriteNone cs
+AllWriteNone cs = Each (λ (c : Changed). WritesNone c.1) cs
 
 deed_brings : (block : Bool) (lead : List (List ℕ)) (c : Changed) → WritesNone c.1 → BringsNone (deed_of block lead c)
 deed_brings block lead (p, replaces v) w = λ m a h. absurd (w a (led_mentions a block lead p v (replaced_mentions a (led block lead p v) m h)))
@@ -139,8 +133,6 @@ deed_brings block lead (p, sets_comment comments.Head text) w = tt
 -- what a list of changes does brings none
 pub all_bring : (block : Bool) (lead : List (List ℕ)) (cs : List Changed) → AllWriteNone cs → BringNone (done_by (map (placed_deed block lead) cs))
 all_bring block lead [] w q x h = absurd (none-some _ h)
-all_bring block lead (c ∷ cs) w q x h = go (same_path c.0 q) (all_bring block lead cs w.1 q x) h
-  where
-    go : (b : Bool) → (done_by (map (placed_deed block lead) cs) q ≡ Some x → BringsNone x) → cond b (Some (deed_of block lead c)) (done_by (map (placed_deed block lead) cs) q) ≡ Some x → BringsNone x
-    go true rest e = subst BringsNone (same_Some _ _ e) (deed_brings block lead c w.0)
-    go false rest e = rest e
+all_bring block lead (c ∷ cs) w q x h =
+    cond_both (same_path c.0 q) (Some (deed_of block lead c)) (done_by (map (placed_deed block lead) cs) q) (λ d. d ≡ Some x → BringsNone x)
+    (λ e same. subst BringsNone (same_Some _ _ same) (deed_brings block lead c w.0)) (λ e later. all_bring block lead cs w.1 q x later) h

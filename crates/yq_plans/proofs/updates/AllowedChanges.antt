@@ -7,16 +7,16 @@ use Rattle.yq_scalar.specs.Tree.{Node, alias, scalar, list, Children, none, chil
 use Rattle.yq_scalar.specs.Paths as paths
 use Rattle.yq_scalar.specs.Paths.{To, key_is, child_at, node_at, change_child, append_child}
 use Rattle.yq_scalar.specs.Anchors.{names_of}
-use Rattle.yq_meaning.specs.Judgement.{Judgement, and_then, gives}
+use Rattle.yq_meaning.specs.Judgement.{Judgement, gives}
 use Rattle.yq_meaning.specs.Matching.{Found, find, key_step, index_step}
 use Rattle.yq_meaning.specs.Changes.{Addition, appends, overwrites, addition, additions, is_long, has_long_key, writes_long_key, value_in, is_deep, is_used_inside, overwrites_used}
 use Rattle.yq_meaning.specs.Conditions.{holds}
 use Rattle.yq_meaning.specs.Meaning.{add_to}
-use Rattle.yq_meaning.specs.Pipes.{kept, stage_on, pipe_on, places}
-use Rattle.yq_meaning.specs.Places.{Place, root_place, child_place, for_each, miss, found_place, all_steps, step_there, step_from, step_on, walk}
+use Rattle.yq_meaning.specs.Pipes.{kept, places, select_on}
+use Rattle.yq_meaning.specs.Places.{Place, root_place, child_place, for_each, miss, found_place, all_steps, step_there, step_from, step_on}
 use Rattle.yq_scalar.specs.Shapes.{IsNew, AreItems, AreEntries, IsTree, AreTrees}
 use Rattle.yq_documents.specs.TreeEdits.{replaced, new_label}
-use Rattle.yq_program.specs.Program.{Step, key, index, each, Condition, Stage, path, select}
+use Rattle.yq_program.specs.Program.{Step, key, index, each, Condition, Stage}
 use Rattle.yq_meaning.proofs.JudgementLaws.{then_gives, gives_same}
 use Rattle.yq_meaning.proofs.ChildPlaces.{node_further}
 use Rattle.yq_meaning.proofs.PathLaws.{bytes_differ, bytes_same}
@@ -24,6 +24,8 @@ use Rattle.yq_plans.proofs.updates.FitsAtTurn.{FitAdds}
 use Rattle.std.proofs.lemmas.Bool.{false≢true, cond-false, or_parts}
 use Rattle.std.proofs.lemmas.Option.{none-some}
 use mathlib.Core.List.{cons≢nil}
+use Rattle.yq_plans.proofs.updates.Each.{Each, each_given}
+use Rattle.yq_plans.proofs.updates.PipePlaces.{pipe_keeps}
 
 -- ---- what is missing
 
@@ -41,22 +43,13 @@ IsMissed [] n = Unit {0}
 IsMissed (m ∷ ms) n = Lacks m n
 
 abbrev pub AreMissed : List Place → Type 0
-AreMissed [] = Unit {0}
-AreMissed (p ∷ ps) = IsMissed p.missing p.node × AreMissed ps
-
-missed_join : (ps qs : List Place) → AreMissed ps → AreMissed qs → AreMissed (ps ++ qs)
-missed_join [] qs h k = k
-missed_join (p ∷ ps) qs h k = (h.0, missed_join ps qs h.1 k)
+AreMissed ps = Each (λ (p : Place). IsMissed p.missing p.node) ps
 
 abbrev Keeps : (Place → Judgement (List Place)) → Type 0
 Keeps f = (p : Place) (qs : List Place) → IsMissed p.missing p.node → f p ≡ gives qs → AreMissed qs
 
 each_missed : (f : Place → Judgement (List Place)) → Keeps f → (ps qs : List Place) → AreMissed ps → for_each f ps ≡ gives qs → AreMissed qs
-each_missed f so [] qs m h = subst AreMissed (gives_same h) tt
-each_missed f so (p ∷ ps) qs m h =
-    let one = then_gives (λ first. and_then (λ others. gives (first ++ others)) (for_each f ps)) (f p) qs h in
-    let two = then_gives (λ (others : List Place). gives (one.0 ++ others)) (for_each f ps) qs one.2 in
-    subst AreMissed (gives_same two.2) (missed_join one.0 two.0 (so p one.0 m.0 one.1) (each_missed f so ps two.0 m.1 two.1))
+each_missed f so ps qs m h = each_given AreMissed (λ (p : Place). IsMissed p.missing p.node) f (λ p more miss. ((λ rs e. so p rs miss.0 e), miss.1)) ps qs m h
 
 children_missed : (p : Place) (xs : List (paths.Step × Node)) → AreMissed (map (child_place p) xs)
 children_missed p [] = tt
@@ -114,29 +107,17 @@ step_missed s p qs m h = go p.missing refl h
     go [] is e = there_missed s p qs m e
     go (x ∷ xs) is e = subst AreMissed (gives_same e) (miss_missed s p m (λ there. absurd (cons≢nil (sym is ∙ there))))
 
-select_missed : (doc : ℕ) (c : Condition) → Keeps (λ p. and_then (λ b. gives (kept p b)) (holds doc c p))
+select_missed : (doc : ℕ) (c : Condition) → Keeps (select_on doc c)
 select_missed doc c p qs m h = let x = then_gives (λ (b : Bool). gives (kept p b)) (holds doc c p) qs h in subst AreMissed (gives_same x.2) (go x.0)
   where
     go : (b : Bool) → AreMissed (kept p b)
     go true = (m, tt)
     go false = tt
 
-walk_missed : (ss : List Step) (ps qs : List Place) → AreMissed ps → walk ss ps ≡ gives qs → AreMissed qs
-walk_missed [] ps qs m h = subst AreMissed (gives_same h) m
-walk_missed (s ∷ ss) ps qs m h = let x = then_gives (walk ss) (for_each (step_on s) ps) qs h in walk_missed ss x.0 qs (each_missed (step_on s) (step_missed s) ps x.0 m x.1) x.2
-
-stage_missed : (doc : ℕ) (stage : Stage) (ps qs : List Place) → AreMissed ps → stage_on doc stage ps ≡ gives qs → AreMissed qs
-stage_missed doc (path steps) ps qs m h = walk_missed steps ps qs m h
-stage_missed doc (select c) ps qs m h = each_missed (λ p. and_then (λ b. gives (kept p b)) (holds doc c p)) (select_missed doc c) ps qs m h
-
-pipe_missed : (doc : ℕ) (stages : List Stage) (ps qs : List Place) → AreMissed ps → pipe_on doc stages ps ≡ gives qs → AreMissed qs
-pipe_missed doc [] ps qs m h = subst AreMissed (gives_same h) m
-pipe_missed doc (stage ∷ stages) ps qs m h =
-    let x = then_gives (pipe_on doc stages) (stage_on doc stage ps) qs h in pipe_missed doc stages x.0 qs (stage_missed doc stage ps x.0 m x.1) x.2
-
 -- of what is missing nothing is there
 pub places_missed : (doc : ℕ) (pipe : List Stage) (root : Node) (ps : List Place) → places doc pipe root ≡ gives ps → AreMissed ps
-places_missed doc pipe root ps h = pipe_missed doc pipe (root_place root ∷ []) ps (tt, tt) h
+places_missed doc pipe root ps h =
+    pipe_keeps doc AreMissed (λ s. each_missed (step_on s) (step_missed s)) (λ c. each_missed (select_on doc c) (select_missed doc c)) pipe (root_place root ∷ []) ps (tt, tt) h
 
 -- ---- additions
 
@@ -152,17 +133,14 @@ unrefused_rest root p x xs h = (
 )
 
 -- items for a sequence
-items_fit : (root : Node) (p : List paths.Step) (a : Option (List ℕ)) (cs ds : Children) → AreItems ds → AreTrees ds → Unrefused root p (additions none ds) → FitAdds root p (list a cs) (additions none ds)
-items_fit root p a cs none items trees h = tt
-items_fit root p a cs (child label v ds) items trees h =
+pub list_fits : (root : Node) (p : List paths.Step) (a : Option (List ℕ)) (cs ds : Children) → AreItems ds → AreTrees ds → Unrefused root p (additions none ds) → FitAdds root p (list a cs) (additions none ds)
+list_fits root p a cs none items trees h = tt
+list_fits root p a cs (child label v ds) items trees h =
     subst (λ (o : Option (List ℕ)). Unrefused root p (addition none o v ∷ additions none ds) → FitAdds root p (list a cs) (addition none o v ∷ additions none ds)) (sym items.0)
-    (λ k. ((refl, (trees.0, (k0 k).0, (k0 k).1), (a, cs, refl)), items_fit root p a (append_child (new_label None) v cs) ds items.1 trees.1 (unrefused_rest root p (appends None v) (additions none ds) k))) h
+    (λ k. ((refl, (trees.0, (k0 k).0, (k0 k).1), (a, cs, refl)), list_fits root p a (append_child (new_label None) v cs) ds items.1 trees.1 (unrefused_rest root p (appends None v) (additions none ds) k))) h
   where
     k0 : Unrefused root p (appends None v ∷ additions none ds) → (has_long_key v ≡ false) × (is_deep (suc (length p)) v ≡ false)
     k0 k = ((or_parts (has_long_key v) (list_any writes_long_key (additions none ds)) k.0).0, (or_parts (is_deep (suc (length p)) v) (list_any (λ y. is_deep (suc (length p)) (value_in y)) (additions none ds)) k.1).0)
-
-pub list_fits : (root : Node) (p : List paths.Step) (a : Option (List ℕ)) (cs ds : Children) → AreItems ds → AreTrees ds → Unrefused root p (additions none ds) → FitAdds root p (list a cs) (additions none ds)
-list_fits root p a cs ds items trees h = items_fit root p a cs ds items trees h
 
 other_append : (j k : List ℕ) (v : Node) (es : Children) → j ≢ k → child_at (To k) (append_child (new_label (Some j)) v es) ≡ child_at (To k) es
 other_append j k v none d = cond-false (key_is k (Some j)) (Some v) None (bytes_differ j k d)

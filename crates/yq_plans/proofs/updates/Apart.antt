@@ -1,18 +1,18 @@
 -- What is done at one place leaves the node of another as it is, and two such changes may be made in either order.
 use Rattle.std.proofs.Common.{◌≡◌, ◌≢◌, ℕ, zero, suc, ◌+◌, ◌<◌, ◌⊎◌, Bool, true, false, cond, List, [], ◌∷◌, Option, Some, None, option_map, option_and_then, refl, sym, ap, subst, ◌∙◌, inl, inr, arith}
-use Rattle.std.proofs.lemmas.Bool.{cases_Bool, cond-false, cond-true}
+use Rattle.std.proofs.lemmas.Bool.{cases_Bool, cond-false, cond-true, cond_both}
 use Rattle.std.specs.Str.{bytes_eq}
 use Rattle.yq_scalar.specs.Tree as tree
 use Rattle.yq_scalar.specs.Tree.{Label, Node, alias, scalar, list, Children, none, child, children_of}
 use Rattle.yq_scalar.specs.Paths.{Step, To, Nth, key_is, is_item, child_at, node_at, change}
-use Rattle.yq_meaning.specs.Deeds.{Deed, becomes, line, head, goes, Deeds, under, done_at, child_by, inside, each_at_once, at_once, same_path, and_at, done_by, one_at}
+use Rattle.yq_meaning.specs.Deeds.{Deed, becomes, goes, Deeds, under, done_at, child_by, inside, each_at_once, at_once, same_path, and_at, done_by, one_at}
 use Rattle.yq_meaning.specs.Places.{step_by}
 use Rattle.yq_scalar.specs.PathOrder.{Before, Apart}
 use Rattle.yq_scalar.specs.Shapes.{AreItems, AreEntries, IsTree}
 use Rattle.yq_plans.proofs.updates.AtOnce.{one_more}
 use Rattle.yq_meaning.proofs.ChildPlaces.{child_tree, children_tree}
 use Rattle.yq_meaning.proofs.PathLaws.{apart_root, bytes_refl, bytes_same}
-use Rattle.yq_plans.proofs.updates.Spares.{IsSpared, Spares, spares_root, spares_under, spares_behind, nothing, idle, child_done, deeds_same}
+use Rattle.yq_plans.proofs.updates.Spares.{IsSpared, Spares, spares_root, spares_under, spares_behind, nothing, idle, child_done, deeds_same, child_kept_or_gone}
 use Rattle.yq_plans.proofs.updates.Folds.{path_same, apart_irrefl, apart_sym}
 use Rattle.yq_plans.proofs.updates.OneAt.{one_becomes}
 
@@ -23,18 +23,12 @@ abbrev first_by : Option Deed → Option (List ℕ) → List (List ℕ) → Opti
 first_by d o hc lc m rest = child_by d (record { key = o; head_comment = hc; line_comment = lc }) m rest
 
 find_past_key : (k : List ℕ) (o : Option (List ℕ)) (hc : List (List ℕ)) (lc : Option (List ℕ)) → key_is k o ≡ false → (d : Option Deed) (m : Node) (rest : Children) → child_at (To k) (first_by d o hc lc m rest) ≡ child_at (To k) rest
-find_past_key k o hc lc e None m rest = cond-false (key_is k o) _ _ e
-find_past_key k o hc lc e (Some (becomes g)) m rest = cond-false (key_is k o) _ _ e
-find_past_key k o hc lc e (Some (line text)) m rest = cond-false (key_is k o) _ _ e
-find_past_key k o hc lc e (Some (head texts)) m rest = cond-false (key_is k o) _ _ e
-find_past_key k o hc lc e (Some goes) m rest = refl
+find_past_key k o hc lc e d m rest =
+    child_kept_or_gone (λ f. child_at (To k) (f rest) ≡ child_at (To k) rest) d (record { key = o; head_comment = hc; line_comment = lc }) m (λ hd ld. cond-false (key_is k o) _ _ e) (λ gone. refl)
 
 find_past_item : (r : ℕ) (d : Option Deed) → d ≢ Some goes → (label : Label) (m : Node) (rest : Children) → child_at (Nth (suc r)) (child_by d label m rest) ≡ child_at (Nth r) rest
-find_past_item r None stays label m rest = refl
-find_past_item r (Some (becomes g)) stays label m rest = refl
-find_past_item r (Some (line text)) stays label m rest = refl
-find_past_item r (Some (head texts)) stays label m rest = refl
-find_past_item r (Some goes) stays label m rest = absurd (stays refl)
+find_past_item r d stays label m rest =
+    child_kept_or_gone (λ f. child_at (Nth (suc r)) (f rest) ≡ child_at (Nth r) rest) d label m (λ hd ld. refl) (λ gone. absurd (stays gone))
 
 -- an item is no entry
 no_entry : (r : ℕ) (cs : Children) → AreEntries cs → child_at (Nth r) cs ≡ None
@@ -43,16 +37,11 @@ no_entry zero (child label n cs) h = ap (λ (o : Option (List ℕ)). cond (is_it
 no_entry (suc r) (child label n cs) h = no_entry r cs h.1
 
 find_past_entry : (r : ℕ) (k : List ℕ) (hc : List (List ℕ)) (lc : Option (List ℕ)) (d : Option Deed) (m : Node) (rest : Children) → ((j : ℕ) → child_at (Nth j) rest ≡ None) → child_at (Nth r) (first_by d (Some k) hc lc m rest) ≡ None
-find_past_entry zero k hc lc None m rest ih = ih 0
-find_past_entry zero k hc lc (Some (becomes g)) m rest ih = ih 0
-find_past_entry zero k hc lc (Some (line text)) m rest ih = ih 0
-find_past_entry zero k hc lc (Some (head texts)) m rest ih = ih 0
-find_past_entry zero k hc lc (Some goes) m rest ih = ih 0
-find_past_entry (suc r) k hc lc None m rest ih = ih r
-find_past_entry (suc r) k hc lc (Some (becomes g)) m rest ih = ih r
-find_past_entry (suc r) k hc lc (Some (line text)) m rest ih = ih r
-find_past_entry (suc r) k hc lc (Some (head texts)) m rest ih = ih r
-find_past_entry (suc r) k hc lc (Some goes) m rest ih = ih (suc r)
+find_past_entry r k hc lc d m rest ih = child_kept_or_gone (λ f. child_at (Nth r) (f rest) ≡ None) d (record { key = Some k; head_comment = hc; line_comment = lc }) m (kept r) (λ gone. ih r)
+  where
+    kept : (r : ℕ) (hd : List (List ℕ)) (ld : Option (List ℕ)) → child_at (Nth r) (child (record { key = Some k; head_comment = hd; line_comment = ld }) m rest) ≡ None
+    kept zero hd ld = ih 0
+    kept (suc r) hd ld = ih r
 
 no_entry_done : (f : Deeds) (i r : ℕ) (cs : Children) → AreEntries cs → child_at (Nth r) (each_at_once f i cs) ≡ None
 no_entry_done f i r none h = refl
@@ -140,11 +129,7 @@ abbrev alone : List Step → (Node → Node) → Deeds
 alone p g = and_at p (becomes g) (done_by [])
 
 spares_alone : (p q : List Step) (g : Node → Node) → Apart p q → Spares (alone q g) p
-spares_alone p q g h r = go (same_path q r) refl
-  where
-    go : (b : Bool) → same_path q r ≡ b → IsSpared (cond b (Some (becomes g)) None) p r
-    go true e = subst (Apart p) (path_same q r e) h
-    go false e = tt
+spares_alone p q g h r = cond_both (same_path q r) (Some (becomes g)) None (λ d. IsSpared d p r) (λ e. subst (Apart p) (path_same q r e) h) (λ e. tt)
 
 alone_is : (p : List Step) (g : Node → Node) (n : Node) → IsTree n → at_once (alone p g) n ≡ change p g n
 alone_is p g n tree =

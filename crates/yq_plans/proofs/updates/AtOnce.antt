@@ -10,7 +10,7 @@ use Rattle.yq_scalar.specs.PathOrder.{Before}
 use Rattle.yq_scalar.specs.Shapes.{IsNew, AreItems, AreEntries, IsTree, AreTrees}
 use Rattle.std.specs.Str.{bytes_eq}
 use Rattle.yq_meaning.proofs.PathLaws.{bytes_refl, bytes_same, bytes_other, to_nth, step_refl, step_other, apart_root}
-use Rattle.yq_plans.proofs.updates.Spares.{deeds_same, IsSpared, Spares, spares_under, nothing, spares_root, spares_behind, child_done, idle}
+use Rattle.yq_plans.proofs.updates.Spares.{deeds_same, IsSpared, Spares, spares_under, nothing, spares_root, spares_behind, child_done, idle, child_kept_or_gone}
 
 -- none of the steps to these is this one
 abbrev HasNone : Step → ℕ → Children → Type 0
@@ -34,33 +34,23 @@ at_rest s h d label m rest = at_child s h (child_by d label m rest) ≡ child_by
 -- a step to a key leads past others
 past_key : (k : List ℕ) (h : Label → Node → Children → Children) (o : Option (List ℕ)) (hc : List (List ℕ)) (lc : Option (List ℕ)) → key_is k o ≡ false → (d : Option Deed) (m : Node) (rest : Children) →
     at_rest (To k) h d (record { key = o; head_comment = hc; line_comment = lc }) m rest
-past_key k h o hc lc e None m rest = cond-false (key_is k o) _ _ e
-past_key k h o hc lc e (Some (becomes g)) m rest = cond-false (key_is k o) _ _ e
-past_key k h o hc lc e (Some (line text)) m rest = cond-false (key_is k o) _ _ e
-past_key k h o hc lc e (Some (head texts)) m rest = cond-false (key_is k o) _ _ e
-past_key k h o hc lc e (Some goes) m rest = refl
+past_key k h o hc lc e d m rest =
+    child_kept_or_gone (λ f. at_child (To k) h (f rest) ≡ f (at_child (To k) h rest)) d (record { key = o; head_comment = hc; line_comment = lc }) m (λ hd ld. cond-false (key_is k o) _ _ e) (λ gone. refl)
 
 -- a step to a later item leads past one that stays
 past_item : (r : ℕ) (h : Label → Node → Children → Children) (d : Option Deed) → d ≢ Some goes → (label : Label) (m : Node) (rest : Children) → at_rest (Nth (suc r)) h d label m rest
-past_item r h None stays label m rest = refl
-past_item r h (Some (becomes g)) stays label m rest = refl
-past_item r h (Some (line text)) stays label m rest = refl
-past_item r h (Some (head texts)) stays label m rest = refl
-past_item r h (Some goes) stays label m rest = absurd (stays refl)
+past_item r h d stays label m rest =
+    child_kept_or_gone (λ f. at_child (Nth (suc r)) h (f rest) ≡ f (at_child (Nth r) h rest)) d label m (λ hd ld. refl) (λ gone. absurd (stays gone))
 
 -- a step to an item leads past what has a key
 past_entry : (r : ℕ) (h : Label → Node → Children → Children) (k : List ℕ) (hc : List (List ℕ)) (lc : Option (List ℕ)) (d : Option Deed) (m : Node) (rest : Children) →
     ((j : ℕ) → at_child (Nth j) h rest ≡ rest) → at_child (Nth r) h (child_by d (record { key = Some k; head_comment = hc; line_comment = lc }) m rest) ≡ child_by d (record { key = Some k; head_comment = hc; line_comment = lc }) m rest
-past_entry zero h k hc lc None m rest ih = ap (child (record { key = Some k; head_comment = hc; line_comment = lc }) m) (ih 0)
-past_entry zero h k hc lc (Some (becomes g)) m rest ih = ap (child (record { key = Some k; head_comment = hc; line_comment = lc }) m) (ih 0)
-past_entry zero h k hc lc (Some (line text)) m rest ih = ap (child (record { key = Some k; head_comment = hc; line_comment = text }) m) (ih 0)
-past_entry zero h k hc lc (Some (head texts)) m rest ih = ap (child (record { key = Some k; head_comment = texts; line_comment = lc }) m) (ih 0)
-past_entry zero h k hc lc (Some goes) m rest ih = ih 0
-past_entry (suc r) h k hc lc None m rest ih = ap (child (record { key = Some k; head_comment = hc; line_comment = lc }) m) (ih r)
-past_entry (suc r) h k hc lc (Some (becomes g)) m rest ih = ap (child (record { key = Some k; head_comment = hc; line_comment = lc }) m) (ih r)
-past_entry (suc r) h k hc lc (Some (line text)) m rest ih = ap (child (record { key = Some k; head_comment = hc; line_comment = text }) m) (ih r)
-past_entry (suc r) h k hc lc (Some (head texts)) m rest ih = ap (child (record { key = Some k; head_comment = texts; line_comment = lc }) m) (ih r)
-past_entry (suc r) h k hc lc (Some goes) m rest ih = ih (suc r)
+past_entry r h k hc lc d m rest ih = child_kept_or_gone (λ f. at_child (Nth r) h (f rest) ≡ f rest) d (record { key = Some k; head_comment = hc; line_comment = lc }) m (kept r) (λ gone. ih r)
+  where
+    kept : (r : ℕ) (hd : List (List ℕ)) (ld : Option (List ℕ)) →
+        at_child (Nth r) h (child (record { key = Some k; head_comment = hd; line_comment = ld }) m rest) ≡ child (record { key = Some k; head_comment = hd; line_comment = ld }) m rest
+    kept zero hd ld = ap (child (record { key = Some k; head_comment = hd; line_comment = ld }) m) (ih 0)
+    kept (suc r) hd ld = ap (child (record { key = Some k; head_comment = hd; line_comment = ld }) m) (ih r)
 
 -- one thing more is done under a step
 record More (s : Step) (x : Deed) (p : List Step) (f g : Deeds) : Type 0 where

@@ -9,11 +9,11 @@ use Rattle.yq_scalar.specs.Paths.{node_at}
 use Rattle.yq_meaning.specs.declared.refusal.Refusal.TheVariants.{NotASequence}
 use Rattle.yq_meaning.specs.Judgement.{Judgement, and_then, gives}
 use Rattle.yq_meaning.specs.Matching.{Found, in_scalar, key_step, index_step}
-use Rattle.yq_program.specs.Program.{Step, key, index, each, Condition, Stage, path, select}
+use Rattle.yq_program.specs.Program.{Step, key, index, each, Condition, Stage}
 use Rattle.yq_meaning.specs.Conditions.{holds}
 use Rattle.yq_meaning.specs.Deeds.{step_to}
-use Rattle.yq_meaning.specs.Pipes.{kept, select_on, stage_on, pipe_on, places}
-use Rattle.yq_meaning.specs.Places.{Place, root_place, child_place, for_each, miss, found_place, stepped, all_steps, step_there, step_from, step_on, in_turn, walk}
+use Rattle.yq_meaning.specs.Pipes.{kept, select_on, places}
+use Rattle.yq_meaning.specs.Places.{Place, root_place, child_place, for_each, miss, found_place, stepped, all_steps, step_there, step_from, step_on}
 use Rattle.yq_meaning.specs.PlacesApart.{IsBeforeAll, IsIn}
 use Rattle.yq_scalar.specs.PathOrder.{Before}
 use Rattle.yq_scalar.specs.Shapes.{AreItems, AreEntries, IsTree}
@@ -22,7 +22,8 @@ use Rattle.yq_meaning.proofs.PathLaws.{parts_differ}
 use Rattle.yq_meaning.proofs.GoodPlaces.{LieIn, AreSound, LeadsSo, AreGood, each_good}
 use Rattle.yq_meaning.proofs.ChildPlaces.{StepsBefore, StepsApart, items_apart, entries_apart}
 use Rattle.yq_plans.proofs.updates.StepPlaces.{leads_step}
-use Rattle.yq_plans.proofs.updates.PipePlaces.{leads_select, stage_good}
+use Rattle.yq_plans.proofs.updates.PipePlaces.{leads_select, pipe_keeps}
+use Rattle.yq_plans.proofs.updates.Each.{Each, each_given, each_join, joined_gives}
 
 -- the step to the first item or entry of a root
 abbrev pub IsFirstStep : Node → paths.Step → Type 0
@@ -30,8 +31,7 @@ IsFirstStep root s = (label : Label) × (n : Node) × (cs : Children) × (childr
 
 -- none of these places is at the path of that one step
 abbrev pub NoPlaceAt : paths.Step → List Place → Type 0
-NoPlaceAt s [] = Unit {0}
-NoPlaceAt s (p ∷ ps) = (p.path ≢ s ∷ []) × NoPlaceAt s ps
+NoPlaceAt s ps = Each (λ (p : Place). p.path ≢ s ∷ []) ps
 
 -- none but perhaps the first
 abbrev pub NoPlaceLater : paths.Step → List Place → Type 0
@@ -42,13 +42,9 @@ no_later : (s : paths.Step) (ps : List Place) → NoPlaceAt s ps → NoPlaceLate
 no_later s [] h = tt
 no_later s (p ∷ ps) h = h.1
 
-no_join : (s : paths.Step) (ps qs : List Place) → NoPlaceAt s ps → NoPlaceAt s qs → NoPlaceAt s (ps ++ qs)
-no_join s [] qs h k = k
-no_join s (p ∷ ps) qs h k = (h.0, no_join s ps qs h.1 k)
-
 later_join : (s : paths.Step) (ps qs : List Place) → NoPlaceLater s ps → NoPlaceAt s qs → NoPlaceLater s (ps ++ qs)
 later_join s [] qs h k = no_later s qs k
-later_join s (p ∷ ps) qs h k = no_join s ps qs h k
+later_join s (p ∷ ps) qs h k = each_join (λ (r : Place). r.path ≢ s ∷ []) ps qs h k
 
 no_nil : (p : List paths.Step) (t : paths.Step) → p ++ t ∷ [] ≡ [] → ⊥
 no_nil [] t e = cc
@@ -74,20 +70,15 @@ LeadsFirst root s f = (p : Place) (qs : List Place) → IsTree p.node → IsIn r
 
 each_at_none : (root : Node) (f : Place → Judgement (List Place)) → LeadsSo root f → (s : paths.Step) (x : List paths.Step) (ps qs : List Place) → IsBeforeAll x ps → AreSound root ps → NoPlaceAt s ps →
     for_each f ps ≡ gives qs → NoPlaceAt s qs
-each_at_none root f so s x [] qs b t n h = subst (NoPlaceAt s) (gives_same h) tt
-each_at_none root f so s x (p ∷ ps) qs b t n h =
-    let one = then_gives (λ first. and_then (λ others. gives (first ++ others)) (for_each f ps)) (f p) qs h in
-    let two = then_gives (λ (others : List Place). gives (one.0 ++ others)) (for_each f ps) qs one.2 in
-    subst (NoPlaceAt s) (gives_same two.2)
-    (no_join s one.0 two.0 (lying_none s x p.path one.0 b.0 n.0 (so p one.0 t.0.0 t.0.1 one.1).inside) (each_at_none root f so s x ps two.0 b.1 t.1 n.1 two.1))
+each_at_none root f so s x ps qs b t n h =
+    each_given (λ rs. IsBeforeAll x rs × AreSound root rs × NoPlaceAt s rs) (λ (p : Place). p.path ≢ s ∷ []) f
+    (λ p more r. ((λ rs e. lying_none s x p.path rs r.0.0 r.2.0 (so p rs r.1.0.0 r.1.0.1 e).inside), (r.0.1, r.1.1, r.2.1))) ps qs (b, t, n) h
 
 each_first : (root : Node) (f : Place → Judgement (List Place)) → LeadsSo root f → (s : paths.Step) → LeadsFirst root s f → (ps qs : List Place) → AreGood root ps → NoPlaceLater s ps → for_each f ps ≡ gives qs → NoPlaceLater s qs
 each_first root f so s first [] qs good n h = subst (NoPlaceLater s) (gives_same h) tt
 each_first root f so s first (p ∷ ps) qs good n h =
-    let one = then_gives (λ first. and_then (λ others. gives (first ++ others)) (for_each f ps)) (f p) qs h in
-    let two = then_gives (λ (others : List Place). gives (one.0 ++ others)) (for_each f ps) qs one.2 in
-    subst (NoPlaceLater s) (gives_same two.2)
-    (later_join s one.0 two.0 (first p one.0 good.sound.0.0 good.sound.0.1 one.1) (each_at_none root f so s p.path ps two.0 good.apart.0 good.sound.1 n two.1))
+    let w = joined_gives (f p) (for_each f ps) qs h in
+    subst (NoPlaceLater s) w.4 (later_join s w.0 w.1 (first p w.0 good.sound.0.0 good.sound.0.1 w.2) (each_at_none root f so s p.path ps w.1 good.apart.0 good.sound.1 n w.3))
 
 -- of the children of the root, the first one is first
 root_children : (s : paths.Step) (p : Place) (xs : List (paths.Step × Node)) → p.path ≡ [] → StepsBefore s xs → NoPlaceAt s (map (child_place p) xs)
@@ -165,24 +156,10 @@ select_first root s doc c p qs tree at h =
     go true = tt
     go false = tt
 
-walk_first : (root : Node) (s : paths.Step) → IsFirstStep root s → (ss : List Step) (ps qs : List Place) → AreGood root ps → NoPlaceLater s ps → walk ss ps ≡ gives qs → NoPlaceLater s qs
-walk_first root s first [] ps qs good n h = subst (NoPlaceLater s) (gives_same h) n
-walk_first root s first (t ∷ ss) ps qs good n h =
-    let x = then_gives (in_turn (λ u. for_each (step_on u)) ss) (for_each (step_on t) ps) qs h in
-    walk_first root s first ss x.0 qs (each_good root (step_on t) (leads_step root t) ps x.0 good x.1) (each_first root (step_on t) (leads_step root t) s (step_first root s first t) ps x.0 good n x.1) x.2
-
-stage_first : (root : Node) (s : paths.Step) → IsFirstStep root s → (doc : ℕ) (stage : Stage) (ps qs : List Place) → AreGood root ps → NoPlaceLater s ps → stage_on doc stage ps ≡ gives qs → NoPlaceLater s qs
-stage_first root s first doc (path steps) ps qs good n h = walk_first root s first steps ps qs good n h
-stage_first root s first doc (select c) ps qs good n h =
-    each_first root (select_on doc c) (leads_select root doc c) s (select_first root s doc c) ps qs good n h
-
-pipe_first : (root : Node) (s : paths.Step) → IsFirstStep root s → (doc : ℕ) (stages : List Stage) (ps qs : List Place) → AreGood root ps → NoPlaceLater s ps → pipe_on doc stages ps ≡ gives qs → NoPlaceLater s qs
-pipe_first root s first doc [] ps qs good n h = subst (NoPlaceLater s) (gives_same h) n
-pipe_first root s first doc (stage ∷ stages) ps qs good n h =
-    let x = then_gives (in_turn (stage_on doc) stages) (stage_on doc stage ps) qs h in
-    pipe_first root s first doc stages x.0 qs (stage_good root doc stage ps x.0 good x.1) (stage_first root s first doc stage ps x.0 good n x.1) x.2
-
 -- the first item or entry of the root comes first
 pub places_first : (doc : ℕ) (pipe : List Stage) (root : Node) (ps : List Place) (s : paths.Step) → IsTree root → IsFirstStep root s → places doc pipe root ≡ gives ps → NoPlaceLater s ps
 places_first doc pipe root ps s tree first h =
-    pipe_first root s first doc pipe (root_place root ∷ []) ps (record { apart = (tt, tt); sound = ((tree, refl), tt) }) tt h
+    (pipe_keeps doc (λ qs. AreGood root qs × NoPlaceLater s qs)
+    (λ t from to g e. (each_good root (step_on t) (leads_step root t) from to g.0 e, each_first root (step_on t) (leads_step root t) s (step_first root s first t) from to g.0 g.1 e))
+    (λ c from to g e. (each_good root (select_on doc c) (leads_select root doc c) from to g.0 e, each_first root (select_on doc c) (leads_select root doc c) s (select_first root s doc c) from to g.0 g.1 e))
+    pipe (root_place root ∷ []) ps (record { apart = (tt, tt); sound = ((tree, refl), tt) }, tt) h).1

@@ -1,5 +1,5 @@
 -- Each operation of a plan fits at its turn.
-use Rattle.std.proofs.Common.{◌≡◌, ℕ, suc, Bool, true, false, cond, ◌&&◌, ◌||◌, List, [], ◌∷◌, ◌++◌, length, Option, Some, None, is_some, refl, sym, ap, subst, ◌∙◌, inl, inr}
+use Rattle.std.proofs.Common.{◌≡◌, ℕ, suc, Bool, true, false, cond, ◌&&◌, ◌||◌, List, [], ◌∷◌, length, Option, Some, None, is_some, refl, sym, ap, subst, ◌∙◌, inl, inr}
 use Rattle.std.proofs.lemmas.Bool.{and_parts, or_parts}
 use Rattle.std.specs.List.{list_any}
 use Rattle.yq_scalar.specs.Tree as tree
@@ -21,14 +21,15 @@ use Rattle.yq_meaning.specs.PlacesApart.{IsIn}
 use Rattle.yq_meaning.specs.RightValues.{is_null, as_items, sum, right_value}
 use Rattle.yq_scalar.specs.Shapes.{IsTree}
 use Rattle.yq_program.specs.Program.{is_index, SumHolds, UpdatesHold, Step, key, index, each, Term, Update, assign, delete, comment}
-use Rattle.yq_plans.proofs.updates.Aliases.{AddNone, WritesNone, AllWriteNone}
+use Rattle.yq_plans.proofs.updates.Aliases.{AddNone, WritesNone}
 use Rattle.yq_plans.proofs.updates.AllowedChanges.{IsMissed, AreMissed, places_missed, list_fits, entries_fit}
-use Rattle.yq_plans.proofs.updates.FitsAtTurn.{FitAdds, MayChange, MayChangeAll}
+use Rattle.yq_plans.proofs.updates.FitsAtTurn.{FitAdds, MayChange, AreFit}
 use Rattle.yq_meaning.proofs.JudgementLaws.{then_gives, gives_same}
 use Rattle.yq_meaning.proofs.GoodPlaces.{AreSound}
 use Rattle.yq_plans.proofs.updates.PipePlaces.{places_apart}
 use Rattle.yq_plans.proofs.updates.Pure.{HaveNoAlias}
 use Rattle.yq_plans.proofs.updates.SumValues.{items_items, items_free, sum_pure, right_pure}
+use Rattle.yq_plans.proofs.updates.Each.{Each, each_given}
 
 -- ---- what is allowed
 
@@ -41,16 +42,7 @@ abbrev IfFree : Room → Node → Changed → Type 0
 IfFree room root c = WritesNone c.1 × (IsFree root c → MayChange room root c)
 
 abbrev EachIfFree : Room → Node → List Changed → Type 0
-EachIfFree room root [] = Unit {0}
-EachIfFree room root (c ∷ cs) = IfFree room root c × EachIfFree room root cs
-
--- changes that may be made
-abbrev pub AreFit : Room → Node → List Changed → Type 0
-AreFit room root cs = MayChangeAll room root cs × AllWriteNone cs
-
-fit_join : (room : Room) (root : Node) (cs ds : List Changed) → AreFit room root cs → AreFit room root ds → AreFit room root (cs ++ ds)
-fit_join room root [] ds h k = k
-fit_join room root (c ∷ cs) ds h k = let rest = fit_join room root cs ds (h.0.1, h.1.1) k in ((h.0.0, rest.0), (h.1.0, rest.1))
+EachIfFree room root cs = Each (IfFree room root) cs
 
 allowed_free : (root : Node) (c d : Changed) → allowed root c ≡ gives d → (c ≡ d) × IsFree root c
 allowed_free root c d h = go (is_too_long c.1) (is_too_deep (length c.0) c.1) (takes_used root c.0 c.1) refl refl refl h
@@ -63,28 +55,26 @@ allowed_free root c d h = go (is_too_long c.1) (is_too_deep (length c.0) c.1) (t
     go false false false i j k e = (gives_same e, (i, j, k))
 
 all_free : (room : Room) (root : Node) (cs ds : List Changed) → EachIfFree room root cs → all_allowed root cs ≡ gives ds → AreFit room root ds
-all_free room root [] ds f h = subst (AreFit room root) (gives_same h) (tt, tt)
-all_free room root (c ∷ cs) ds f h =
-    let one = then_gives (λ first. and_then (λ others. gives (first ++ others)) (all_allowed root cs)) (and_then (λ d. gives (d ∷ [])) (allowed root c)) ds h in
-    let first = then_gives (λ (d : Changed). gives (d ∷ [])) (allowed root c) one.0 one.1 in
-    let two = then_gives (λ (others : List Changed). gives (one.0 ++ others)) (all_allowed root cs) ds one.2 in
-    let free = allowed_free root c first.0 first.1 in
-    let single : AreFit room root (c ∷ []) = ((f.0.1 free.1, tt), (f.0.0, tt)) in
-    subst (AreFit room root) (gives_same two.2)
-    (fit_join room root one.0 two.0 (subst (AreFit room root) (ap (λ (d : Changed). d ∷ []) free.0 ∙ gives_same first.2) single) (all_free room root cs two.0 f.1 two.1))
+all_free room root cs ds f h =
+    each_given (EachIfFree room root) (λ (c : Changed). MayChange room root c × WritesNone c.1) (λ c. and_then (λ d. gives (d ∷ [])) (allowed root c)) (λ c more free. (one c free.0, free.1)) cs ds f h
+  where
+    one : (c : Changed) → IfFree room root c → (es : List Changed) → and_then (λ d. gives (d ∷ [])) (allowed root c) ≡ gives es → AreFit room root es
+    one c free es h =
+        let first = then_gives (λ (d : Changed). gives (d ∷ [])) (allowed root c) es h in
+        let same = allowed_free root c first.0 first.1 in
+        subst (AreFit room root) (ap (λ (d : Changed). d ∷ []) same.0 ∙ gives_same first.2) ((free.1 same.1, free.0), tt)
 
 -- what is changed at a place may be made
 abbrev SoFits : Room → Node → (Place → Judgement (List Changed)) → Type 0
 SoFits room root f = (p : Place) (cs : List Changed) → IsTree p.node → IsIn root p → IsMissed p.missing p.node → f p ≡ gives cs → EachIfFree room root cs
 
 each_fit : (room : Room) (root : Node) (f : Place → Judgement (List Changed)) → SoFits room root f → (ps : List Place) (cs : List Changed) → AreSound root ps → AreMissed ps → at_each root f ps ≡ gives cs → AreFit room root cs
-each_fit room root f so [] cs s m h = subst (AreFit room root) (gives_same h) (tt, tt)
-each_fit room root f so (p ∷ ps) cs s m h =
-    let one = then_gives (λ first. and_then (λ others. gives (first ++ others)) (at_each root f ps)) (and_then (all_allowed root) (f p)) cs h in
-    let two = then_gives (λ (others : List Changed). gives (one.0 ++ others)) (at_each root f ps) cs one.2 in
-    let made = then_gives (all_allowed root) (f p) one.0 one.1 in
-    subst (AreFit room root) (gives_same two.2)
-    (fit_join room root one.0 two.0 (all_free room root made.0 one.0 (so p made.0 s.0.0 s.0.1 m.0 made.1) made.2) (each_fit room root f so ps two.0 s.1 m.1 two.1))
+each_fit room root f so ps cs s m h =
+    each_given (λ (qs : List Place). AreSound root qs × AreMissed qs) (λ (c : Changed). MayChange room root c × WritesNone c.1) (λ p. and_then (all_allowed root) (f p))
+    (λ p more both. (one p both.0.0.0 both.0.0.1 both.1.0, (both.0.1, both.1.1))) ps cs (s, m) h
+  where
+    one : (p : Place) → IsTree p.node → IsIn root p → IsMissed p.missing p.node → (ds : List Changed) → and_then (all_allowed root) (f p) ≡ gives ds → AreFit room root ds
+    one p tree at miss ds h = let made = then_gives (all_allowed root) (f p) ds h in all_free room root made.0 ds (so p made.0 tree at miss made.1) made.2
 
 -- ---- at one place
 
@@ -198,7 +188,7 @@ modify_fits room root doc right free p cs tree at miss h =
 
 with_fit : (room : Room) (root : Node) (right : Judgement Node) (f : Place → Node → Judgement (List Changed)) → ((v : Node) → right ≡ gives v → SoFits room root (λ p. f p v)) →
     (ps : List Place) (cs : List Changed) → AreSound root ps → AreMissed ps → with_value root right f ps ≡ gives cs → AreFit room root cs
-with_fit room root right f so [] cs s m h = subst (AreFit room root) (gives_same h) (tt, tt)
+with_fit room root right f so [] cs s m h = subst (AreFit room root) (gives_same h) tt
 with_fit room root right f so (p ∷ ps) cs s m h =
     let x = then_gives (λ (v : Node). at_each root (λ q. f q v) (p ∷ ps)) right cs h in each_fit room root (λ q. f q x.0) (so x.0 x.1) (p ∷ ps) cs s m x.2
 

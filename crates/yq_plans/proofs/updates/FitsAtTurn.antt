@@ -18,12 +18,13 @@ use Rattle.yq_meaning.specs.Plans.{add_op, change_ops, ops_of, ordered}
 use Rattle.yq_scalar.specs.PathOrder.{Before, Apart}
 use Rattle.yq_scalar.specs.Shapes.{IsTree}
 use Rattle.yq_meaning.specs.Changes as changes
-use Rattle.yq_plans.proofs.updates.Aliases.{AddNone, one_no_more, WritesNone, AllWriteNone, all_bring, at_once_no_more}
+use Rattle.yq_plans.proofs.updates.Aliases.{AddNone, one_no_more, WritesNone, all_bring, at_once_no_more}
 use Rattle.yq_plans.proofs.updates.Mentions.{MentionsNoMore, inside_less, in_less}
 use Rattle.yq_plans.proofs.updates.Apart.{node_spared}
-use Rattle.yq_plans.proofs.updates.Folds.{InPairs, MayFold, AreSpared, deeds_of, reverse-cons, ops_join, fold_back, spared_in_order, spared_apart, pairs_apart, pairs_reverse, apart_sym, kept_reverse}
+use Rattle.yq_plans.proofs.updates.Folds.{InPairs, MayFold, AreSpared, deeds_of, ops_join, fold_back, spared_in_order, spared_apart, pairs_apart, pairs_reverse, apart_sym, IsKept}
 use Rattle.yq_meaning.proofs.ChildPlaces.{node_further}
 use Rattle.yq_plans.proofs.updates.OneAt.{roots_after, add_after}
+use Rattle.yq_plans.proofs.updates.Each.{Each, each_reverse, each_weaker, reverse-cons}
 
 -- each operation fits a root at its turn
 abbrev pub AllFitRoot : Bool → List (List ℕ) → Room → List Operation → Node → Type 0
@@ -51,9 +52,9 @@ MayChange room root (p, adds xs) = (n : Node) × (node_at p root ≡ Some n) × 
 MayChange room root (p, changes.removes) = IsBelow p × ((n : Node) × (node_at p root ≡ Some n) × (is_used_in (names_of root) (Some n) ≡ false))
 MayChange room root (p, sets_comment place text) = MayComment room place p text root
 
-abbrev pub MayChangeAll : Room → Node → List Changed → Type 0
-MayChangeAll room root [] = Unit {0}
-MayChangeAll room root (c ∷ cs) = MayChange room root c × MayChangeAll room root cs
+-- changes that may be made, and write no alias
+abbrev pub AreFit : Room → Node → List Changed → Type 0
+AreFit room root cs = Each (λ (c : Changed). MayChange room root c × WritesNone c.1) cs
 
 child_changed : (s : Step) (f : Node → Node) (cs : Children) (n : Node) → child_at s cs ≡ Some n → child_at s (change_child s f cs) ≡ Some (f n)
 child_changed s f none n h = absurd (cc)
@@ -129,38 +130,22 @@ module _ (block : Bool) (lead : List (List ℕ)) (room : Room) (doc : ℕ) (root
   change_fits (p, sets_comment comments.Head text) r same less w h = ((h.0, h.1, (h.2.0, same ∙ h.2.1)), tt)
 
   -- those of changes from the last one to the first
-  fits_back : IsTree root → (cs : List Changed) → AreSpared block lead cs → AllWriteNone cs → MayChangeAll room root cs → AllFitRoot block lead room (ops_of doc (reverse cs)) root
-  fits_back tree [] s w h = tt
-  fits_back tree (c ∷ cs) s w h =
+  fits_back : IsTree root → (cs : List Changed) → AreSpared block lead cs → AreFit room root cs → AllFitRoot block lead room (ops_of doc (reverse cs)) root
+  fits_back tree [] s h = tt
+  fits_back tree (c ∷ cs) s h =
       let r : Node = at_once (deeds_of block lead cs) root in
       let one : AllFitRoot block lead room (change_ops doc c) r =
-      change_fits c r (node_spared c.0 (deeds_of block lead cs) root tree s.0) (at_once_no_more (deeds_of block lead cs) (all_bring block lead cs w.1) root) w.0 h.0 in
+      change_fits c r (node_spared c.0 (deeds_of block lead cs) root tree s.0) (at_once_no_more (deeds_of block lead cs) (all_bring block lead cs (each_weaker (λ (d : Changed). MayChange room root d × WritesNone d.1) (λ d. WritesNone d.1) (λ d m. m.1) cs h.1)) root) h.0.1 h.0.0 in
       subst (λ (xs : List Changed). AllFitRoot block lead room (ops_of doc xs) root) (sym (reverse-cons c cs))
       (subst (λ (ops : List Operation). AllFitRoot block lead room ops root) (sym (ops_join block lead doc (reverse cs) (c ∷ [])))
-      (fit_join block lead room (ops_of doc (reverse cs)) (change_ops doc c ++ []) root (fits_back tree cs s.1 w.1 h.1)
+      (fit_join block lead room (ops_of doc (reverse cs)) (change_ops doc c ++ []) root (fits_back tree cs s.1 h.1)
       (subst (λ (ops : List Operation). AllFitRoot block lead room ops (roots_after block lead (ops_of doc (reverse cs)) root)) (sym (append-nil (change_ops doc c)))
       (subst (AllFitRoot block lead room (change_ops doc c)) (sym (fold_back block lead doc root tree cs s.1)) one))))
 
-  writes_more : (cs ds : List Changed) → AllWriteNone cs → AllWriteNone ds → AllWriteNone (cs ++ ds)
-  writes_more [] ds h k = k
-  writes_more (c ∷ cs) ds h k = (h.0, writes_more cs ds h.1 k)
-
-  writes_reverse : (cs : List Changed) → AllWriteNone cs → AllWriteNone (reverse cs)
-  writes_reverse [] h = tt
-  writes_reverse (c ∷ cs) h = subst AllWriteNone (sym (reverse-cons c cs)) (writes_more (reverse cs) (c ∷ []) (writes_reverse cs h.1) (h.0, tt))
-
-  may_more : (cs ds : List Changed) → MayChangeAll room root cs → MayChangeAll room root ds → MayChangeAll room root (cs ++ ds)
-  may_more [] ds h k = k
-  may_more (c ∷ cs) ds h k = (h.0, may_more cs ds h.1 k)
-
-  may_reverse : (cs : List Changed) → MayChangeAll room root cs → MayChangeAll room root (reverse cs)
-  may_reverse [] h = tt
-  may_reverse (c ∷ cs) h = subst (MayChangeAll room root) (sym (reverse-cons c cs)) (may_more (reverse cs) (c ∷ []) (may_reverse cs h.1) (h.0, tt))
-
   -- each operation of changes that may be made fits at its turn
-  pub all_fit : IsTree root → (removal : Bool) (cs : List Changed) → InPairs Before cs → MayFold removal cs → AllWriteNone cs → MayChangeAll room root cs → AllFitRoot block lead room (ops_of doc (ordered removal cs)) root
-  all_fit tree true cs h k w m = fits_back tree cs (spared_in_order block lead cs h) w m
-  all_fit tree false cs h k w m =
+  pub all_fit : IsTree root → (removal : Bool) (cs : List Changed) → InPairs Before cs → MayFold removal cs → AreFit room root cs → AllFitRoot block lead room (ops_of doc (ordered removal cs)) root
+  all_fit tree true cs h k m = fits_back tree cs (spared_in_order block lead cs h) m
+  all_fit tree false cs h k m =
       let apart : InPairs Apart (reverse cs) = pairs_reverse Apart apart_sym cs (pairs_apart cs h) in
       subst (λ (xs : List Changed). AllFitRoot block lead room (ops_of doc xs) root) (reverse-reverse cs)
-      (fits_back tree (reverse cs) (spared_apart block lead (reverse cs) (kept_reverse block lead cs k) apart) (writes_reverse cs w) (may_reverse cs m))
+      (fits_back tree (reverse cs) (spared_apart block lead (reverse cs) (each_reverse (λ (c : Changed). IsKept c.1) cs k) apart) (each_reverse (λ (c : Changed). MayChange room root c × WritesNone c.1) cs m))

@@ -1,6 +1,6 @@
 -- Operations on a root, one after the other, make all changes at once.
 use Rattle.std.proofs.Common.{◌≡◌, ℕ, Bool, true, false, cond, List, [], ◌∷◌, ◌++◌, map, reverse, Some, refl, sym, ap, subst, ◌∙◌, inl, inr, append-nil, append_assoc}
-use Rattle.std.proofs.lemmas.List.{reverse-append, reverse-reverse}
+use Rattle.std.proofs.lemmas.List.{reverse-reverse}
 use Rattle.yq_scalar.specs.Tree.{Node}
 use Rattle.yq_scalar.specs.Paths.{Step}
 use Rattle.yq_meaning.specs.Changes.{Change, replaces, adds, sets_comment, Changed}
@@ -17,8 +17,9 @@ use Rattle.yq_plans.proofs.updates.AtOnce.{one_more}
 use Rattle.yq_meaning.proofs.PathLaws.{bytes_same, parts_not}
 use Rattle.yq_plans.proofs.updates.Spares.{idle, IsSpared, Spares, deeds_same}
 use Rattle.yq_plans.proofs.updates.OneAt.{roots_after, roots_join, change_after}
-use Rattle.std.proofs.lemmas.Bool.{false≢true, eqb-true, and_parts}
+use Rattle.std.proofs.lemmas.Bool.{false≢true, eqb-true, and_parts, cond_both}
 use Rattle.yq_scalar.specs.Paths.{To, Nth}
+use Rattle.yq_plans.proofs.updates.Each.{Each, each_join, each_reverse, each_weaker, reverse-cons}
 
 -- ---- which path is which
 
@@ -53,47 +54,30 @@ apart_sym p q (inr h) = inl h
 
 -- a path is so related to that of each change
 abbrev pub ToEach : (List Step → List Step → Type 0) → List Step → List Changed → Type 0
-ToEach R p [] = Unit {0}
-ToEach R p (c ∷ cs) = R p c.0 × ToEach R p cs
+ToEach R p cs = Each (λ (c : Changed). R p c.0) cs
 
 -- that of each change is so related to those of later ones
 abbrev pub InPairs : (List Step → List Step → Type 0) → List Changed → Type 0
 InPairs R [] = Unit {0}
 InPairs R (c ∷ cs) = ToEach R c.0 cs × InPairs R cs
 
-to_more : (R : List Step → List Step → Type 0) (p : List Step) (cs ds : List Changed) → ToEach R p cs → ToEach R p ds → ToEach R p (cs ++ ds)
-to_more R p [] ds h k = k
-to_more R p (c ∷ cs) ds h k = (h.0, to_more R p cs ds h.1 k)
-
-pub reverse-cons : {A : Type 0} (x : A) (xs : List A) → reverse (x ∷ xs) ≡ reverse xs ++ x ∷ []
-reverse-cons x xs = reverse-append (x ∷ []) xs
-
-to_reverse : (R : List Step → List Step → Type 0) (p : List Step) (cs : List Changed) → ToEach R p cs → ToEach R p (reverse cs)
-to_reverse R p [] h = tt
-to_reverse R p (c ∷ cs) h = subst (ToEach R p) (sym (reverse-cons c cs)) (to_more R p (reverse cs) (c ∷ []) (to_reverse R p cs h.1) (h.0, tt))
-
 pairs_last : (R : List Step → List Step → Type 0) (cs : List Changed) (c : Changed) → InPairs R cs → ((p : List Step) → R c.0 p → R p c.0) → ToEach R c.0 cs → InPairs R (cs ++ c ∷ [])
 pairs_last R [] c h flip k = (tt, tt)
-pairs_last R (d ∷ ds) c h flip k = (to_more R d.0 ds (c ∷ []) h.0 (flip d.0 k.0, tt), pairs_last R ds c h.1 flip k.1)
+pairs_last R (d ∷ ds) c h flip k = (each_join (λ (e : Changed). R d.0 e.0) ds (c ∷ []) h.0 (flip d.0 k.0, tt), pairs_last R ds c h.1 flip k.1)
 
 pub pairs_reverse : (R : List Step → List Step → Type 0) → ((p q : List Step) → R p q → R q p) → (cs : List Changed) → InPairs R cs → InPairs R (reverse cs)
 pairs_reverse R flip [] h = tt
-pairs_reverse R flip (c ∷ cs) h = subst (InPairs R) (sym (reverse-cons c cs)) (pairs_last R (reverse cs) c (pairs_reverse R flip cs h.1) (flip c.0) (to_reverse R c.0 cs h.0))
-
-to_apart : (p : List Step) (cs : List Changed) → ToEach Before p cs → ToEach Apart p cs
-to_apart p [] h = tt
-to_apart p (c ∷ cs) h = (inl h.0, to_apart p cs h.1)
+pairs_reverse R flip (c ∷ cs) h = subst (InPairs R) (sym (reverse-cons c cs)) (pairs_last R (reverse cs) c (pairs_reverse R flip cs h.1) (flip c.0) (each_reverse (λ (d : Changed). R c.0 d.0) cs h.0))
 
 pub pairs_apart : (cs : List Changed) → InPairs Before cs → InPairs Apart cs
 pairs_apart [] h = tt
-pairs_apart (c ∷ cs) h = (to_apart c.0 cs h.0, pairs_apart cs h.1)
+pairs_apart (c ∷ cs) h = (each_weaker (λ (d : Changed). Before c.0 d.0) (λ d. Apart c.0 d.0) (λ d b. inl b) cs h.0, pairs_apart cs h.1)
 
 -- ---- what is kept
 
 -- each change is so
 abbrev pub AllAre : (Change → Type 0) → List Changed → Type 0
-AllAre P [] = Unit {0}
-AllAre P (c ∷ cs) = P c.1 × AllAre P cs
+AllAre P cs = Each (λ (c : Changed). P c.1) cs
 
 -- nothing is removed
 abbrev pub IsKept : Change → Type 0
@@ -141,10 +125,6 @@ said_kept (adds xs) h = tt
 said_kept changes.removes h = absurd h
 said_kept (sets_comment place text) h = tt
 
-all_weaker : (P Q : Change → Type 0) → ((c : Change) → P c → Q c) → (cs : List Changed) → AllAre P cs → AllAre Q cs
-all_weaker P Q so [] h = tt
-all_weaker P Q so (c ∷ cs) h = (so c.1 h.0, all_weaker P Q so cs h.1)
-
 -- each is of the kind of the update
 abbrev pub IsOf : Update → Change → Type 0
 IsOf (assign left operator right) = IsWritten
@@ -157,9 +137,9 @@ MayFold true cs = AreGone cs
 MayFold false cs = AreKept cs
 
 pub of_may_fold : (u : Update) (cs : List Changed) → AllAre (IsOf u) cs → MayFold (is_removal u) cs
-of_may_fold (assign left operator right) cs h = all_weaker IsWritten IsKept written_kept cs h
+of_may_fold (assign left operator right) cs h = each_weaker (λ (c : Changed). IsWritten c.1) (λ c. IsKept c.1) (λ c w. written_kept c.1 w) cs h
 of_may_fold (delete left) cs h = h
-of_may_fold (comment left place text) cs h = all_weaker IsSaid IsKept said_kept cs h
+of_may_fold (comment left place text) cs h = each_weaker (λ (c : Changed). IsSaid c.1) (λ c. IsKept c.1) (λ c w. said_kept c.1 w) cs h
 
 -- ---- what is done is the same in any order
 
@@ -187,7 +167,7 @@ module _ (block : Bool) (lead : List (List ℕ)) where
   done_reverse : (cs : List Changed) → InPairs Apart cs → deeds_of (reverse cs) ≡ deeds_of cs
   done_reverse [] h = refl
   done_reverse (c ∷ cs) h =
-      ap deeds_of (reverse-cons c cs) ∙ (done_last (reverse cs) c (to_reverse Apart c.0 cs h.0) ∙ ap (and_at c.0 (deed_of block lead c)) (done_reverse cs h.1))
+      ap deeds_of (reverse-cons c cs) ∙ (done_last (reverse cs) c (each_reverse (λ (d : Changed). Apart c.0 d.0) cs h.0) ∙ ap (and_at c.0 (deed_of block lead c)) (done_reverse cs h.1))
 
   -- ---- one after the other
 
@@ -203,11 +183,7 @@ module _ (block : Bool) (lead : List (List ℕ)) where
   spared_before goes p q h = h
 
   spared_by : (p : List Step) (x : Deed) (r : List Step) (f : Deeds) → IsSpared (Some x) p r → Spares f p → Spares (and_at r x f) p
-  spared_by p x r f h k q = go (same_path r q) refl
-    where
-      go : (b : Bool) → same_path r q ≡ b → IsSpared (cond b (Some x) (f q)) p q
-      go true e = subst (IsSpared (Some x) p) (path_same r q e) h
-      go false e = k q
+  spared_by p x r f h k q = cond_both (same_path r q) (Some x) (f q) (λ d. IsSpared d p q) (λ e. subst (IsSpared (Some x) p) (path_same r q e) h) (λ e. k q)
 
   spares_later : (p : List Step) (cs : List Changed) → ToEach Before p cs → Spares (deeds_of cs) p
   spares_later p [] h = λ q. tt
@@ -233,14 +209,6 @@ module _ (block : Bool) (lead : List (List ℕ)) where
       ∙ (change_after block lead doc c (at_once (deeds_of cs) n)
       ∙ sym (one_more c.0 (deed_of block lead c) (deeds_of cs) n tree h.0))))))
 
-  kept_more : (cs ds : List Changed) → AreKept cs → AreKept ds → AreKept (cs ++ ds)
-  kept_more [] ds h k = k
-  kept_more (c ∷ cs) ds h k = (h.0, kept_more cs ds h.1 k)
-
-  pub kept_reverse : (cs : List Changed) → AreKept cs → AreKept (reverse cs)
-  kept_reverse [] h = tt
-  kept_reverse (c ∷ cs) h = subst AreKept (sym (reverse-cons c cs)) (kept_more (reverse cs) (c ∷ []) (kept_reverse cs h.1) (h.0, tt))
-
   spared_kept : (c : Changed) → IsKept c.1 → (p : List Step) → Apart p c.0 → IsSpared (Some (deed_of block lead c)) p c.0
   spared_kept (path, replaces v) k p h = h
   spared_kept (path, adds xs) k p h = h
@@ -262,5 +230,5 @@ module _ (block : Bool) (lead : List (List ℕ)) where
   folds doc n tree false cs h k =
       let apart : InPairs Apart (reverse cs) = pairs_reverse Apart apart_sym cs (pairs_apart cs h) in
       ap (λ (xs : List Changed). roots_after block lead (ops_of doc xs) n) (sym (reverse-reverse cs))
-      ∙ (fold_back doc n tree (reverse cs) (spared_apart (reverse cs) (kept_reverse cs k) apart)
+      ∙ (fold_back doc n tree (reverse cs) (spared_apart (reverse cs) (each_reverse (λ (c : Changed). IsKept c.1) cs k) apart)
       ∙ ap (λ (f : Deeds). at_once f n) (done_reverse cs (pairs_apart cs h)))

@@ -22,21 +22,24 @@ leads_select root doc c p qs tree at h =
     go true = leads_self root p p refl refl tree at
     go false = leads_none root p
 
-pub walk_good : (root : Node) (ss : List Step) (ps qs : List Place) → AreGood root ps → walk ss ps ≡ gives qs → AreGood root qs
-walk_good root [] ps qs good h = subst (AreGood root) (gives_same h) good
-walk_good root (s ∷ ss) ps qs good h =
-    let x = then_gives (in_turn (λ u. for_each (step_on u)) ss) (for_each (step_on s) ps) qs h in
-    walk_good root ss x.0 qs (each_good root (step_on s) (leads_step root s) ps x.0 good x.1) x.2
+-- what is so of places, and of those to which each step and each condition leads from such, is so of those to which a pipe leads
+pub pipe_keeps : (doc : ℕ) (R : List Place → Type 0) → ((s : Step) (ps qs : List Place) → R ps → for_each (step_on s) ps ≡ gives qs → R qs) →
+    ((c : Condition) (ps qs : List Place) → R ps → for_each (select_on doc c) ps ≡ gives qs → R qs) → (stages : List Stage) (ps qs : List Place) → R ps → pipe_on doc stages ps ≡ gives qs → R qs
+pipe_keeps doc R step chosen [] ps qs r h = subst R (gives_same h) r
+pipe_keeps doc R step chosen (stage ∷ stages) ps qs r h =
+    let x = then_gives (in_turn (stage_on doc) stages) (stage_on doc stage ps) qs h in pipe_keeps doc R step chosen stages x.0 qs (staged stage x.0 x.1) x.2
+  where
+    walked : (ss : List Step) (from to : List Place) → R from → walk ss from ≡ gives to → R to
+    walked [] from to f e = subst R (gives_same e) f
+    walked (s ∷ ss) from to f e =
+        let x = then_gives (in_turn (λ u. for_each (step_on u)) ss) (for_each (step_on s) from) to e in walked ss x.0 to (step s from x.0 f x.1) x.2
 
-pub stage_good : (root : Node) (doc : ℕ) (stage : Stage) (ps qs : List Place) → AreGood root ps → stage_on doc stage ps ≡ gives qs → AreGood root qs
-stage_good root doc (path steps) ps qs good h = walk_good root steps ps qs good h
-stage_good root doc (select c) ps qs good h = each_good root (select_on doc c) (leads_select root doc c) ps qs good h
+    staged : (stage : Stage) (to : List Place) → stage_on doc stage ps ≡ gives to → R to
+    staged (path steps) to e = walked steps ps to r e
+    staged (select c) to e = chosen c ps to r e
 
 pub pipe_good : (root : Node) (doc : ℕ) (stages : List Stage) (ps qs : List Place) → AreGood root ps → pipe_on doc stages ps ≡ gives qs → AreGood root qs
-pipe_good root doc [] ps qs good h = subst (AreGood root) (gives_same h) good
-pipe_good root doc (stage ∷ stages) ps qs good h =
-    let x = then_gives (in_turn (stage_on doc) stages) (stage_on doc stage ps) qs h in
-    pipe_good root doc stages x.0 qs (stage_good root doc stage ps x.0 good x.1) x.2
+pipe_good root doc = pipe_keeps doc (AreGood root) (λ s. each_good root (step_on s) (leads_step root s)) (λ c. each_good root (select_on doc c) (leads_select root doc c))
 
 -- the places to which a pipe leads in a tree: no two are the same, and none lies in another
 pub places_apart : (doc : ℕ) (pipe : List Stage) (root : Node) (ps : List Place) → IsTree root → places doc pipe root ≡ gives ps → AreGood root ps

@@ -14,13 +14,14 @@ use Rattle.yq_meaning.specs.Plans.{change_ops, ops_of, is_removal, ordered, all_
 use Rattle.yq_scalar.specs.PathOrder.{Before}
 use Rattle.yq_program.specs.Program.{UpdatesHold, Update}
 use Rattle.yq_meaning.specs.Changes as changes
-use Rattle.yq_plans.proofs.updates.FitsAtTurn.{AllFitRoot, all_fit}
-use Rattle.yq_plans.proofs.updates.Folds.{InPairs, IsGone, AreGone, MayFold, reverse-cons}
-use Rattle.yq_plans.proofs.updates.RootLeads.{document_after, document_folds, AllLeave, op_any_lead, PutsOrLeaves, puts_or_leaves}
+use Rattle.yq_plans.proofs.updates.FitsAtTurn.{AllFitRoot, all_fit, AreFit}
+use Rattle.yq_plans.proofs.updates.Folds.{InPairs, IsGone, AreGone, MayFold}
+use Rattle.yq_plans.proofs.updates.RootLeads.{document_after, document_folds, AllLeave, op_any_lead, PutsOrLeaves, puts_or_leaves, Leaves}
 use Rattle.yq_meaning.proofs.JudgementLaws.{then_gives, gives_same}
 use Rattle.yq_plans.proofs.updates.Planned.{AreOrdered, update_ordered, removal_first}
 use Rattle.yq_plans.proofs.updates.PlanMeans.{AreOf, ops_are_of, after_at, all_after_at}
-use Rattle.yq_plans.proofs.updates.FitChanges.{AreFit, update_fit}
+use Rattle.yq_plans.proofs.updates.FitChanges.{update_fit}
+use Rattle.yq_plans.proofs.updates.Each.{Each, each_op, each_reverse, each_weaker}
 
 -- each operation fits a document at its turn
 abbrev AllFitDocument : Bool → Room → List Operation → Document → Type 0
@@ -32,16 +33,10 @@ abbrev AnyLead : Bool → Operation → Type 0
 AnyLead block op = (lead other : List (List ℕ)) (n : Node) → root_after block lead op n ≡ root_after block other op n
 
 abbrev AllAnyLead : Bool → List Operation → Type 0
-AllAnyLead block [] = Unit {0}
-AllAnyLead block (op ∷ ops) = AnyLead block op × AllAnyLead block ops
-
-any_join : (block : Bool) (ops others : List Operation) → AllAnyLead block ops → AllAnyLead block others → AllAnyLead block (ops ++ others)
-any_join block [] others h k = k
-any_join block (op ∷ ops) others h k = (h.0, any_join block ops others h.1 k)
+AllAnyLead block ops = Each (AnyLead block) ops
 
 leave_any : (block : Bool) (ops : List Operation) → AllLeave ops → AllAnyLead block ops
-leave_any block [] l = tt
-leave_any block (op ∷ ops) l = ((λ lead other n. op_any_lead block lead other op l.0 n), leave_any block ops l.1)
+leave_any block ops l = each_weaker Leaves (AnyLead block) (λ op one lead other n. op_any_lead block lead other op one n) ops l
 
 gone_any : (block : Bool) (doc : ℕ) (c : Changed) → IsGone c.1 → AllAnyLead block (change_ops doc c)
 gone_any block doc (p, replaces v) g = absurd g
@@ -50,16 +45,7 @@ gone_any block doc (p, changes.removes) g = ((λ lead other n. refl), tt)
 gone_any block doc (p, sets_comment place text) g = absurd g
 
 all_gone_any : (block : Bool) (doc : ℕ) (cs : List Changed) → AreGone cs → AllAnyLead block (ops_of doc cs)
-all_gone_any block doc [] g = tt
-all_gone_any block doc (c ∷ cs) g = any_join block (change_ops doc c) (ops_of doc cs) (gone_any block doc c g.0) (all_gone_any block doc cs g.1)
-
-gone_more : (cs ds : List Changed) → AreGone cs → AreGone ds → AreGone (cs ++ ds)
-gone_more [] ds h k = k
-gone_more (c ∷ cs) ds h k = (h.0, gone_more cs ds h.1 k)
-
-pub gone_reverse : (cs : List Changed) → AreGone cs → AreGone (reverse cs)
-gone_reverse [] g = tt
-gone_reverse (c ∷ cs) g = subst AreGone (sym (reverse-cons c cs)) (gone_more (reverse cs) (c ∷ []) (gone_reverse cs g.1) (g.0, tt))
+all_gone_any block doc cs g = each_op doc (λ (c : Changed). IsGone c.1) (AnyLead block) (gone_any block doc) cs g
 
 any_fit : (block : Bool) (lead : List (List ℕ)) (room : Room) (ops : List Operation) (d : Document) → AllAnyLead block ops → AllFitRoot block lead room ops d.root → AllFitDocument block room ops d
 any_fit block lead room [] d l h = tt
@@ -68,7 +54,7 @@ any_fit block lead room (op ∷ ops) d l h =
 
 document_fits : (block : Bool) (room : Room) (doc : ℕ) (d : Document) (removal : Bool) (cs : List Changed) → InPairs Before cs → MayFold removal cs → AllFitRoot block d.lead room (ops_of doc (ordered removal cs)) d.root →
     AllFitDocument block room (ops_of doc (ordered removal cs)) d
-document_fits block room doc d true cs p k h = any_fit block d.lead room (ops_of doc (reverse cs)) d (all_gone_any block doc (reverse cs) (gone_reverse cs k)) h
+document_fits block room doc d true cs p k h = any_fit block d.lead room (ops_of doc (reverse cs)) d (all_gone_any block doc (reverse cs) (each_reverse (λ (c : Changed). IsGone c.1) cs k)) h
 document_fits block room doc d false cs p k h = go (puts_or_leaves doc cs p k) h
   where
     go : PutsOrLeaves doc cs → AllFitRoot block d.lead room (ops_of doc cs) d.root → AllFitDocument block room (ops_of doc cs) d
@@ -112,7 +98,7 @@ from_fits u rooms n (d ∷ ds) front css is ready pure good h =
     ∙ (ap (λ (m : ℕ). front ++ document_after (rooms m).block ops d ∷ ds) is ∙ (ap (λ (e : Document). front ++ e ∷ ds) made ∙ sym (append_assoc front (new ∷ []) ds))) in
     let longer : length (front ++ new ∷ []) ≡ suc n = length-append front (new ∷ []) ∙ (omega (arith, is)) in
     let here : AllFitDocument (rooms n).block (rooms n) ops d =
-    document_fits (rooms n).block (rooms n) n d (is_removal u) one.0 order.0 order.1 (all_fit (rooms n).block d.lead (rooms n) n d.root ready.0.0 (is_removal u) one.0 order.0 order.1 fit.1 fit.0) in
+    document_fits (rooms n).block (rooms n) n d (is_removal u) one.0 order.0 order.1 (all_fit (rooms n).block d.lead (rooms n) n d.root ready.0.0 (is_removal u) one.0 order.0 order.1 fit) in
     subst (λ (xs : List (List Changed)). AllFit rooms (all_ops (is_removal u) n xs) (front ++ d ∷ ds)) (gives_same two.2)
     (all_fit_join rooms ops (all_ops (is_removal u) (suc n) two.0) (front ++ d ∷ ds)
     (all_fit_at rooms ops front d ds are_of (subst (λ (m : ℕ). AllFitDocument (rooms m).block (rooms m) ops d) (sym is) here))

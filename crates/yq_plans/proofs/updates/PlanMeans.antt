@@ -17,16 +17,12 @@ use Rattle.yq_meaning.specs.Changes as changes
 use Rattle.yq_plans.proofs.updates.RootLeads.{document_after, document_folds}
 use Rattle.yq_meaning.proofs.JudgementLaws.{then_gives, gives_same}
 use Rattle.yq_plans.proofs.updates.Planned.{AreOrdered, update_ordered, removal_first}
+use Rattle.yq_plans.proofs.updates.Each.{Each, each_join}
 
 -- ---- operations on the document of a number
 
 abbrev pub AreOf : ℕ → List Operation → Type 0
-AreOf n [] = Unit {0}
-AreOf n (op ∷ ops) = (document_of op ≡ n) × AreOf n ops
-
-pub of_join : (n : ℕ) (ops others : List Operation) → AreOf n ops → AreOf n others → AreOf n (ops ++ others)
-of_join n [] others h k = k
-of_join n (op ∷ ops) others h k = (h.0, of_join n ops others h.1 k)
+AreOf n ops = Each (λ op. document_of op ≡ n) ops
 
 adds_of : (n : ℕ) (p : List paths.Step) (xs : List Addition) → AreOf n (map (add_op n p) xs)
 adds_of n p [] = tt
@@ -42,7 +38,7 @@ change_of n (p, sets_comment comments.Head text) = (refl, tt)
 
 pub ops_are_of : (n : ℕ) (cs : List Changed) → AreOf n (ops_of n cs)
 ops_are_of n [] = tt
-ops_are_of n (c ∷ cs) = of_join n (change_ops n c) (ops_of n cs) (change_of n c) (ops_are_of n cs)
+ops_are_of n (c ∷ cs) = each_join (λ op. document_of op ≡ n) (change_ops n c) (ops_of n cs) (change_of n c) (ops_are_of n cs)
 
 with_at : (f : Document → Document) (front : List Document) (d : Document) (ds : List Document) → change_nth (length front) f (front ++ d ∷ ds) ≡ front ++ f d ∷ ds
 with_at f [] d ds = refl

@@ -24,6 +24,7 @@ use Rattle.yq_plans.proofs.updates.RootLeads.{NoneAt, NoneLater, FirstIn, IsFirs
 use Rattle.yq_meaning.proofs.JudgementLaws.{then_gives, gives_same}
 use Rattle.yq_plans.proofs.updates.FirstPlaces.{NoPlaceAt, NoPlaceLater, IsFirstStep, places_first}
 use Rattle.yq_plans.proofs.updates.PipePlaces.{places_apart}
+use Rattle.yq_plans.proofs.updates.Each.{each_given, each_join, joined_gives}
 
 -- one change at most, at that path
 abbrev AtOne : List paths.Step → List Changed → Type 0
@@ -40,18 +41,10 @@ one_before x p [] h k = tt
 one_before x p (c ∷ []) h k = (subst (Before x) (sym k) h, tt)
 one_before x p (c ∷ (d ∷ ds)) h k = absurd k
 
-to_join : (x : List paths.Step) (cs ds : List Changed) → ToEach Before x cs → ToEach Before x ds → ToEach Before x (cs ++ ds)
-to_join x [] ds h k = k
-to_join x (c ∷ cs) ds h k = (h.0, to_join x cs ds h.1 k)
-
 one_pairs : (p : List paths.Step) (cs ds : List Changed) → AtOne p cs → ToEach Before p ds → InPairs Before ds → InPairs Before (cs ++ ds)
 one_pairs p [] ds k h q = q
 one_pairs p (c ∷ []) ds k h q = (subst (λ (x : List paths.Step). ToEach Before x ds) (sym k) h, q)
 one_pairs p (c ∷ (d ∷ more)) ds k h q = absurd k
-
-all_join : (P : Change → Type 0) (cs ds : List Changed) → AllAre P cs → AllAre P ds → AllAre P (cs ++ ds)
-all_join P [] ds h k = k
-all_join P (c ∷ cs) ds h k = (h.0, all_join P cs ds h.1 k)
 
 -- ---- at several places
 
@@ -68,12 +61,10 @@ allowed_same root c d h = go (is_too_long c.1) (is_too_deep (length c.0) c.1) (t
 all_same : (root : Node) (cs ds : List Changed) → all_allowed root cs ≡ gives ds → cs ≡ ds
 all_same root [] ds h = gives_same h
 all_same root (c ∷ cs) ds h =
-    let one = then_gives (λ first. and_then (λ others. gives (first ++ others)) (all_allowed root cs)) (and_then (λ d. gives (d ∷ [])) (allowed root c)) ds h in
-    let first = then_gives (λ (d : Changed). gives (d ∷ [])) (allowed root c) one.0 one.1 in
-    let two = then_gives (λ (others : List Changed). gives (one.0 ++ others)) (all_allowed root cs) ds one.2 in
+    let w = joined_gives (and_then (λ d. gives (d ∷ [])) (allowed root c)) (all_allowed root cs) ds h in
+    let first = then_gives (λ (d : Changed). gives (d ∷ [])) (allowed root c) w.0 w.2 in
     ap (λ (d : Changed). d ∷ cs) (allowed_same root c first.0 first.1)
-    ∙ (ap (λ (xs : List Changed). first.0 ∷ xs) (all_same root cs two.0 two.1)
-    ∙ (ap (λ (xs : List Changed). xs ++ two.0) (gives_same first.2) ∙ gives_same two.2))
+    ∙ (ap (λ (xs : List Changed). first.0 ∷ xs) (all_same root cs w.1 w.3) ∙ (ap (λ (xs : List Changed). xs ++ w.1) (gives_same first.2) ∙ w.4))
 
 -- what is changed at each place is there
 abbrev IsSo : (Change → Type 0) → (Place → Judgement (List Changed)) → Type 0
@@ -84,11 +75,7 @@ each_so root P f so p cs h =
     let x = then_gives (all_allowed root) (f p) cs h in subst (FromPlace P p) (all_same root x.0 cs x.2) (so p x.0 x.1)
 
 each_before : (P : Change → Type 0) (f : Place → Judgement (List Changed)) → IsSo P f → (x : List paths.Step) (ps : List Place) (cs : List Changed) → IsBeforeAll x ps → for_each f ps ≡ gives cs → ToEach Before x cs
-each_before P f so x [] cs b h = subst (ToEach Before x) (gives_same h) tt
-each_before P f so x (p ∷ ps) cs b h =
-    let one = then_gives (λ first. and_then (λ others. gives (first ++ others)) (for_each f ps)) (f p) cs h in
-    let two = then_gives (λ (others : List Changed). gives (one.0 ++ others)) (for_each f ps) cs one.2 in
-    subst (ToEach Before x) (gives_same two.2) (to_join x one.0 two.0 (one_before x p.path one.0 b.0 (so p one.0 one.1).0) (each_before P f so x ps two.0 b.1 two.1))
+each_before P f so x ps cs b h = each_given (IsBeforeAll x) (λ (c : Changed). Before x c.0) f (λ p more before. ((λ ds e. one_before x p.path ds before.0 (so p ds e).0), before.1)) ps cs b h
 
 -- changes in order, each of which is so
 abbrev InOrder : (Change → Type 0) → List Changed → Type 0
@@ -97,11 +84,10 @@ InOrder P cs = InPairs Before cs × AllAre P cs
 each_ordered : (P : Change → Type 0) (f : Place → Judgement (List Changed)) → IsSo P f → (ps : List Place) (cs : List Changed) → AreApart ps → for_each f ps ≡ gives cs → InOrder P cs
 each_ordered P f so [] cs a h = subst (InOrder P) (gives_same h) (tt, tt)
 each_ordered P f so (p ∷ ps) cs a h =
-    let one = then_gives (λ first. and_then (λ others. gives (first ++ others)) (for_each f ps)) (f p) cs h in
-    let two = then_gives (λ (others : List Changed). gives (one.0 ++ others)) (for_each f ps) cs one.2 in
-    let here = so p one.0 one.1 in
-    let rest = each_ordered P f so ps two.0 a.1 two.1 in
-    subst (InOrder P) (gives_same two.2) (one_pairs p.path one.0 two.0 here.0 (each_before P f so p.path ps two.0 a.0 two.1) rest.0, all_join P one.0 two.0 here.1 rest.1)
+    let w = joined_gives (f p) (for_each f ps) cs h in
+    let here = so p w.0 w.2 in
+    let rest = each_ordered P f so ps w.1 a.1 w.3 in
+    subst (InOrder P) w.4 (one_pairs p.path w.0 w.1 here.0 (each_before P f so p.path ps w.1 a.0 w.3) rest.0, each_join (λ (c : Changed). P c.1) w.0 w.1 here.1 rest.1)
 
 at_ordered : (root : Node) (P : Change → Type 0) (f : Place → Judgement (List Changed)) → IsSo P f → (ps : List Place) (cs : List Changed) → AreApart ps → at_each root f ps ≡ gives cs → InOrder P cs
 at_ordered root P f so ps cs a h = each_ordered P (λ p. and_then (all_allowed root) (f p)) (each_so root P f so) ps cs a h
@@ -207,10 +193,6 @@ none_later : (s : paths.Step) (cs : List Changed) → NoneAt s cs → NoneLater 
 none_later s [] h = tt
 none_later s (c ∷ cs) h = h.1
 
-none_join : (s : paths.Step) (cs ds : List Changed) → NoneAt s cs → NoneAt s ds → NoneAt s (cs ++ ds)
-none_join s [] ds h k = k
-none_join s (c ∷ cs) ds h k = (h.0, none_join s cs ds h.1 k)
-
 one_none : (s : paths.Step) (p : List paths.Step) (cs : List Changed) → p ≢ s ∷ [] → AtOne p cs → NoneAt s cs
 one_none s p [] d h = tt
 one_none s p (c ∷ []) d h = ((λ e. d (sym h ∙ e)), tt)
@@ -222,18 +204,12 @@ one_later s p (c ∷ []) ds h k = k
 one_later s p (c ∷ (e ∷ es)) ds h k = absurd h
 
 each_none : (P : Change → Type 0) (f : Place → Judgement (List Changed)) → IsSo P f → (s : paths.Step) (ps : List Place) (cs : List Changed) → NoPlaceAt s ps → for_each f ps ≡ gives cs → NoneAt s cs
-each_none P f so s [] cs n h = subst (NoneAt s) (gives_same h) tt
-each_none P f so s (p ∷ ps) cs n h =
-    let one = then_gives (λ first. and_then (λ others. gives (first ++ others)) (for_each f ps)) (f p) cs h in
-    let two = then_gives (λ (others : List Changed). gives (one.0 ++ others)) (for_each f ps) cs one.2 in
-    subst (NoneAt s) (gives_same two.2) (none_join s one.0 two.0 (one_none s p.path one.0 n.0 (so p one.0 one.1).0) (each_none P f so s ps two.0 n.1 two.1))
+each_none P f so s ps cs n h = each_given (NoPlaceAt s) (λ (c : Changed). c.0 ≢ s ∷ []) f (λ p more none. ((λ ds e. one_none s p.path ds none.0 (so p ds e).0), none.1)) ps cs n h
 
 each_later : (P : Change → Type 0) (f : Place → Judgement (List Changed)) → IsSo P f → (s : paths.Step) (ps : List Place) (cs : List Changed) → NoPlaceLater s ps → for_each f ps ≡ gives cs → NoneLater s cs
 each_later P f so s [] cs n h = subst (NoneLater s) (gives_same h) tt
 each_later P f so s (p ∷ ps) cs n h =
-    let one = then_gives (λ first. and_then (λ others. gives (first ++ others)) (for_each f ps)) (f p) cs h in
-    let two = then_gives (λ (others : List Changed). gives (one.0 ++ others)) (for_each f ps) cs one.2 in
-    subst (NoneLater s) (gives_same two.2) (one_later s p.path one.0 two.0 (so p one.0 one.1).0 (each_none P f so s ps two.0 n two.1))
+    let w = joined_gives (f p) (for_each f ps) cs h in subst (NoneLater s) w.4 (one_later s p.path w.0 w.1 (so p w.0 w.2).0 (each_none P f so s ps w.1 n w.3))
 
 -- of what is removed, the first item or entry of the root comes first
 pub removal_first : (u : Update) (doc : ℕ) (room : Room) (root : Node) (cs : List Changed) → is_removal u ≡ true → IsTree root → changes_in u doc room root ≡ gives cs → IsFirst root cs

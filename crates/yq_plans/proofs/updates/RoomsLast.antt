@@ -18,11 +18,12 @@ use Rattle.yq_meaning.specs.Plans.{add_op, ops_of, is_removal, ordered, all_ops,
 use Rattle.yq_program.specs.Program.{UpdatesHold, Update, assign, delete, comment}
 use Rattle.yq_meaning.specs.RoomsKept.{HasSome, KeepsBlock, KeepsBlockIn, NoneIn, BlockLasts, SetComments, SetNoComment, RoomsLast, MayFollow}
 use Rattle.yq_meaning.proofs.JudgementLaws.{then_gives, gives_same}
-use Rattle.yq_plans.proofs.updates.Folds.{InPairs, AllAre, AreGone, IsWritten, IsSaid, IsOf, MayFold, of_may_fold}
+use Rattle.yq_plans.proofs.updates.Folds.{InPairs, AllAre, AreGone, IsWritten, IsSaid, IsOf, MayFold, of_may_fold, IsGone}
 use Rattle.yq_plans.proofs.updates.Planned.{update_kind}
-use Rattle.yq_plans.proofs.updates.PlanFits.{gone_reverse, plan_fits}
+use Rattle.yq_plans.proofs.updates.PlanFits.{plan_fits}
 use Rattle.yq_plans.proofs.updates.PlanMeans.{AreOf, ops_are_of}
 use Rattle.yq_plans.proofs.updates.RootLeads.{Leaves, AllLeave, puts_or_leaves}
+use Rattle.yq_plans.proofs.updates.Each.{each_reverse}
 
 -- ---- by turns
 
@@ -109,7 +110,7 @@ turns_gone n ((p, changes.removes) ∷ ((q, sets_comment place text) ∷ cs)) ot
 turns_gone n ((p, sets_comment place text) ∷ cs) others g away t = absurd g.0
 
 document_turns : (removal : Bool) (n : ℕ) (cs : List Changed) (others : List Operation) → InPairs Before cs → MayFold removal cs → NoneIn n others → Turns others → Turns (ops_of n (ordered removal cs) ++ others)
-document_turns true n cs others order g away t = turns_gone n (reverse cs) others (gone_reverse cs g) away t
+document_turns true n cs others order g away t = turns_gone n (reverse cs) others (each_reverse (λ (c : Changed). IsGone c.1) cs g) away t
 document_turns false n cs others order k away t = elim (puts_or_leaves n cs order k) [
   | inl x ↦ subst (λ (xs : List Changed). Turns (ops_of n xs ++ others)) (sym x.1) (inr (inl away), t)
   | inr l ↦ turns_leave (ops_of n cs) others l t
@@ -165,7 +166,7 @@ say_none (comment left place text) = tt
 
 say_join : (u : Update) (n : ℕ) (cs : List Changed) (others : List Operation) → AllAre (IsOf u) cs → Say u others → Say u (ops_of n (ordered (is_removal u) cs) ++ others)
 say_join (assign left operator right) n cs others h k = no_join (ops_of n cs) others (written_no n cs h) k
-say_join (delete left) n cs others h k = no_join (ops_of n (reverse cs)) others (gone_no n (reverse cs) (gone_reverse cs h)) k
+say_join (delete left) n cs others h k = no_join (ops_of n (reverse cs)) others (gone_no n (reverse cs) (each_reverse (λ (c : Changed). IsGone c.1) cs h)) k
 say_join (comment left place text) n cs others h k = set_join (ops_of n cs) others (said_set n cs h) k
 
 say_alone : (u : Update) (ops : List Operation) → Say u ops → SetComments ops ⊎ SetNoComment ops

@@ -1,5 +1,6 @@
 -- Operations on a document, one after the other: the root, and the lead.
-use Rattle.std.proofs.Common.{◌≡◌, ◌≢◌, ℕ, ◌⊎◌, Bool, true, false, cond, List, [], ◌∷◌, ◌++◌, map, reverse, Option, Some, None, refl, sym, ap, subst, ◌∙◌, inl, inr, append-nil}
+use Rattle.std.proofs.Common.{◌≡◌, ◌≢◌, ℕ, ◌⊎◌, Bool, true, false, List, [], ◌∷◌, ◌++◌, map, reverse, Option, Some, None, refl, sym, ap, subst, ◌∙◌, inl, inr, append-nil}
+use Rattle.std.proofs.lemmas.Bool.{cond_both}
 use mathlib.Core.List.{nil≢cons}
 use Rattle.yq_scalar.specs.Tree as tree
 use Rattle.yq_scalar.specs.Tree.{Label, Node, alias, scalar, list, Children, none, child, children_of}
@@ -18,8 +19,9 @@ use Rattle.yq_documents.specs.TreeEdits.{replaced, at_end, with_line_comment, wi
 use Rattle.yq_meaning.specs.Changes as changes
 use Rattle.yq_plans.proofs.updates.AtOnce.{one_more}
 use Rattle.yq_plans.proofs.updates.Spares.{idle, spares_root}
-use Rattle.yq_plans.proofs.updates.Folds.{ToEach, InPairs, IsKept, AreKept, IsGone, MayFold, AreSpared, deeds_of, reverse-cons, path_same, AreGone, ops_join, folds, spared_in_order}
+use Rattle.yq_plans.proofs.updates.Folds.{ToEach, InPairs, IsKept, AreKept, IsGone, MayFold, AreSpared, deeds_of, path_same, AreGone, ops_join, folds, spared_in_order}
 use Rattle.yq_plans.proofs.updates.OneAt.{roots_after, change_after}
+use Rattle.yq_plans.proofs.updates.Each.{Each, each_join, reverse-cons}
 
 -- what operations make of a document, one after the other
 abbrev pub document_after : Bool → List Operation → Document → Document
@@ -46,8 +48,7 @@ Leaves (line_comment doc path text) = Unit {0}
 Leaves (head_comment doc path text) = Unit {0}
 
 abbrev pub AllLeave : List Operation → Type 0
-AllLeave [] = Unit {0}
-AllLeave (op ∷ ops) = Leaves op × AllLeave ops
+AllLeave ops = Each Leaves ops
 
 within_leaves : (g : Children → Children) → ((cs : Children) → IsNone (g cs) → IsNone cs) → (n : Node) → IsNone (children_of (within g n)) → IsNone (children_of n)
 within_leaves g so (alias name) h = tt
@@ -57,19 +58,11 @@ within_leaves g so (tree.map anchor cs) h = so cs h
 
 change_leaves : (s : Step) (f : Node → Node) (cs : Children) → IsNone (change_child s f cs) → IsNone cs
 change_leaves s f none h = tt
-change_leaves s f (child label n cs) h = go (is_here s label) h
-  where
-    go : (b : Bool) → IsNone (cond b (child label (f n) cs) (child label n (change_child (further s) f cs))) → ⊥
-    go true e = e
-    go false e = e
+change_leaves s f (child label n cs) h = cond_both (is_here s label) (child label (f n) cs) (child label n (change_child (further s) f cs)) (λ ds. IsNone ds → ⊥) (λ e k. k) (λ e k. k) h
 
 relabel_leaves : (s : Step) (f : Label → Label) (cs : Children) → IsNone (relabel_child s f cs) → IsNone cs
 relabel_leaves s f none h = tt
-relabel_leaves s f (child label n cs) h = go (is_here s label) h
-  where
-    go : (b : Bool) → IsNone (cond b (child (f label) n cs) (child label n (relabel_child (further s) f cs))) → ⊥
-    go true e = e
-    go false e = e
+relabel_leaves s f (child label n cs) h = cond_both (is_here s label) (child (f label) n cs) (child label n (relabel_child (further s) f cs)) (λ ds. IsNone ds → ⊥) (λ e k. k) (λ e k. k) h
 
 append_leaves : (label : Label) (v : Node) (cs : Children) → IsNone (append_child label v cs) → IsNone cs
 append_leaves label v none h = tt
@@ -130,10 +123,6 @@ leaving block (op ∷ ops) l d is =
 abbrev pub PutsOrLeaves : ℕ → List Changed → Type 0
 PutsOrLeaves doc cs = ((v : Node) × (cs ≡ ([], replaces v) ∷ [])) ⊎ AllLeave (ops_of doc cs)
 
-leave_join : (ops others : List Operation) → AllLeave ops → AllLeave others → AllLeave (ops ++ others)
-leave_join [] others h k = k
-leave_join (op ∷ ops) others h k = (h.0, leave_join ops others h.1 k)
-
 path_end : (p : List Step) (s : Step) → (t : Step) × (q : List Step) × (p ++ s ∷ [] ≡ t ∷ q)
 path_end [] s = (s, [], refl)
 path_end (t ∷ p) s = (t, p ++ s ∷ [], refl)
@@ -162,12 +151,12 @@ second_below (t ∷ p) (s ∷ q) h = (s, q, refl)
 
 all_below : (doc : ℕ) (p : List Step) (cs : List Changed) → ToEach Before p cs → AreKept cs → AllLeave (ops_of doc cs)
 all_below doc p [] h k = tt
-all_below doc p (c ∷ cs) h k = leave_join (change_ops doc c) (ops_of doc cs) (below_leaves doc c (second_below p c.0 h.0) k.0) (all_below doc p cs h.1 k.1)
+all_below doc p (c ∷ cs) h k = each_join Leaves (change_ops doc c) (ops_of doc cs) (below_leaves doc c (second_below p c.0 h.0) k.0) (all_below doc p cs h.1 k.1)
 
 one_leaves : (doc : ℕ) (c : Changed) → IsKept c.1 → PutsOrLeaves doc (c ∷ [])
 one_leaves doc ([], replaces v) k = inl (v, refl)
 one_leaves doc (s ∷ p, replaces v) k = inr ((s, p, refl), tt)
-one_leaves doc (p, adds xs) k = inr (leave_join (map (add_op doc p) xs) [] (adds_leave doc p xs) tt)
+one_leaves doc (p, adds xs) k = inr (each_join Leaves (map (add_op doc p) xs) [] (adds_leave doc p xs) tt)
 one_leaves doc (p, changes.removes) k = absurd k
 one_leaves doc (p, sets_comment comments.Line text) k = inr (tt, tt)
 one_leaves doc (p, sets_comment comments.Head text) k = inr (tt, tt)
@@ -176,7 +165,7 @@ pub puts_or_leaves : (doc : ℕ) (cs : List Changed) → InPairs Before cs → A
 puts_or_leaves doc [] h k = inr tt
 puts_or_leaves doc (c ∷ []) h k = one_leaves doc c k.0
 puts_or_leaves doc (c ∷ (d ∷ ds)) h k =
-    inr (leave_join (change_ops doc c) (ops_of doc (d ∷ ds)) (below_leaves doc c (first_below c.0 d.0 h.0.0) k.0) (all_below doc c.0 (d ∷ ds) h.0 k.1))
+    inr (each_join Leaves (change_ops doc c) (ops_of doc (d ∷ ds)) (below_leaves doc c (first_below c.0 d.0 h.0.0) k.0) (all_below doc c.0 (d ∷ ds) h.0 k.1))
 
 kept_document : (block : Bool) (doc : ℕ) (cs : List Changed) (d : Document) → IsLed block d → InPairs Before cs → AreKept cs →
     document_after block (ops_of doc cs) d ≡ with_tree block (roots_after block d.lead (ops_of doc cs) d.root) d
@@ -189,8 +178,7 @@ kept_document block doc cs d is h k = elim (puts_or_leaves doc cs h k) [
 
 -- none of these is at the path of that one step
 abbrev pub NoneAt : Step → List Changed → Type 0
-NoneAt s [] = Unit {0}
-NoneAt s (c ∷ cs) = (c.0 ≢ s ∷ []) × NoneAt s cs
+NoneAt s cs = Each (λ (c : Changed). c.0 ≢ s ∷ []) cs
 
 -- none but perhaps the first
 abbrev pub NoneLater : Step → List Changed → Type 0
@@ -234,11 +222,8 @@ module _ (block : Bool) (doc : ℕ) (d : Document) (is : IsLed block d) (tree : 
   -- nothing is done at a path at which there is no change
   not_done : (s : Step) (cs : List Changed) → NoneAt s cs → deeds_of block d.lead cs (s ∷ []) ≡ None
   not_done s [] h = refl
-  not_done s (c ∷ cs) h = go (same_path c.0 (s ∷ [])) refl (not_done s cs h.1)
-    where
-      go : (b : Bool) → same_path c.0 (s ∷ []) ≡ b → deeds_of block d.lead cs (s ∷ []) ≡ None → cond b (Some (deed_of block d.lead c)) (deeds_of block d.lead cs (s ∷ [])) ≡ None
-      go true e rest = absurd (h.0 (path_same c.0 (s ∷ []) e))
-      go false e rest = rest
+  not_done s (c ∷ cs) h =
+      cond_both (same_path c.0 (s ∷ [])) (Some (deed_of block d.lead c)) (deeds_of block d.lead cs (s ∷ [])) (λ x. x ≡ None) (λ e. absurd (h.0 (path_same c.0 (s ∷ []) e))) (λ e. not_done s cs h.1)
 
   first_free : (kids : Children) (c : Changed) (cs : List Changed) → FirstIn kids (c ∷ cs) → FirstFree (deeds_of block d.lead cs) kids
   first_free none c cs h = tt

@@ -10,6 +10,15 @@ use Rattle.yq_meaning.proofs.PathLaws.{before_not_in, before_under, apart_under,
 pub deeds_same : (f g : Deeds) → ((q : List Step) → f q ≡ g q) → f ≡ g
 deeds_same f g h = λ i q. h q i
 
+-- What is done at a child leaves a child with the same key in front of those behind it, or these alone: so is what is so of both.
+pub child_kept_or_gone : (P : (Children → Children) → Type 0) (d : Option Deed) (label : Label) (m : Node) →
+    ((hc : List (List ℕ)) (lc : Option (List ℕ)) → P (λ rest. child (record { key = label.key; head_comment = hc; line_comment = lc }) m rest)) → (d ≡ Some goes → P (λ rest. rest)) → P (λ rest. child_by d label m rest)
+child_kept_or_gone P None label m kept gone = kept label.head_comment label.line_comment
+child_kept_or_gone P (Some (becomes g)) label m kept gone = kept label.head_comment label.line_comment
+child_kept_or_gone P (Some (line text)) label m kept gone = kept label.head_comment text
+child_kept_or_gone P (Some (head texts)) label m kept gone = kept texts label.line_comment
+child_kept_or_gone P (Some goes) label m kept gone = gone refl
+
 -- what is done at a path leaves another one's place where it is
 abbrev pub IsSpared : Option Deed → List Step → List Step → Type 0
 IsSpared None p q = Unit {0}
