@@ -1,4 +1,5 @@
 pub mod DecidingLaws
+pub mod AheadLaws
 pub mod NamedLaws
 pub mod StopLaws
 pub mod SpotOrder

@@ -1,5 +1,6 @@
 -- Lines of a document, each with how deep it is.
 use Rattle.std.proofs.Common.{◌≡◌, ℕ, ◌+◌, ◌*◌, ◌%◌, ◌≤◌, eqb, List, Option, Some, None, true, false, not, refl, sym, ap, ◌∙◌, arith}
+use denote.Bor.{Bor}
 use Rattle.std.proofs.lemmas.Bool.{eq-eqb, eqb-true, false≢true, le-ltb, ne_eqb, not-false}
 use Rattle.std.proofs.lemmas.Option.{same_Some}
 use Rattle.std.specs.List.{slice_get}
@@ -15,24 +16,28 @@ use Rattle.yq_walk.specs.declared.spot.Spot.{Spot}
 use Rattle.yq_walk.specs.declared.spot.Stretch.{Stretch}
 use Rattle.yq_walk.proofs.WalkMarks.{item_told, key_here}
 use Rattle.yq_walk.proofs.WalkSpots.{deeper_told, end_told, line_spot, located}
+use Rattle.yq_documents.specs.declared.made.Made.{Made}
+use Rattle.yq_reading.specs.Ahead.{IsAhead}
 use Rattle.yq_reading.specs.Checking.{IsReached}
 use Rattle.yq_reading.proofs.LineTold.{level_told}
 
 -- the end, and a line
-pub reached_end : (s : Shown) (d : Stretch) (q : Spot) → IsSpot s d q → d.end ≤ q.row → IsReached s d (record { spot = q; level = 0 })
-reached_end s d q at past = record {
+pub reached_end : (ms : List Made) (s : Shown) (d : Stretch) (q : Spot) (left : Bor (List Made)) → IsAhead ms q.row left.now → IsSpot s d q → d.end ≤ q.row → IsReached ms s d (record { spot = q; level = 0; made = left })
+reached_end ms s d q left ahead at past = record {
   spot = at;
   some = λ p. absurd (omega (arith, p));
   told = λ p. absurd (omega (arith, p, past));
   deeper = λ floor h. le-ltb floor 0 (omega arith) ∙ end_told s d h q floor at past;
+  made = ahead;
 }
 
-pub reached_line : (s : Shown) (d : Stretch) (q : Spot) → IsLine s d q → (n : ℕ) → ((x : Slices) → slice_get s.rows q.row ≡ Some x → n ≡ line_level q.line x) → IsReached s d (record { spot = q; level = n })
-reached_line s d q at n told = record {
+pub reached_line : (ms : List Made) (s : Shown) (d : Stretch) (q : Spot) (left : Bor (List Made)) → IsAhead ms q.row left.now → IsLine s d q → (n : ℕ) → ((x : Slices) → slice_get s.rows q.row ≡ Some x → n ≡ line_level q.line x) → IsReached ms s d (record { spot = q; level = n; made = left })
+reached_line ms s d q left ahead at n told = record {
   spot = line_spot s d q at;
   some = λ p. at.upto;
   told = λ p. level_told s d q at n told;
   deeper = λ floor h. deeper_told s d h q n floor at told;
+  made = ahead;
 }
 
 -- what a line begins with is told by how deep it is

@@ -19,6 +19,7 @@ use Rattle.yq_documents.specs.Made.{IsTold, Rise, told_flow}
 use Rattle.yq_reading.specs.Named.{flow_names}
 use Rattle.yq_documents.specs.RowReading.{begins_block}
 use Rattle.yq_documents.specs.declared.made.Made.{Made}
+use Rattle.yq_reading.specs.Ahead.{IsAhead}
 use Rattle.yq_reading.specs.declared.checked.Checked.{Checked}
 use Rattle.yq_reading.specs.declared.reached.Reached.{Reached}
 
@@ -82,8 +83,9 @@ pub record GivesEnd (s : Shown) (d : Stretch) (at : Spot) (q : Spot) : Type 0 wh
   pub later : at.row < q.row
 
 -- A line of a document, or the end behind its rows, with how deep it is; the end is at level 0 (own).
-pub record IsReached (s : Shown) (d : Stretch) (r : Reached) : Type 0 where
+pub record IsReached (ms : List Made) (s : Shown) (d : Stretch) (r : Reached) : Type 0 where
   pub spot : IsSpot s d r.spot
   pub some : 0 < r.level → r.spot.row < d.end
   pub told : r.spot.row < d.end → OfLine s d r.spot (λ l. r.level ≡ level l)
   pub deeper : (floor : ℕ) → OfLines s d (λ ls n. nat_lt floor r.level ≡ not (is_end (part ls (n r.spot) floor)))
+  pub made : IsAhead ms r.spot.row r.made.now

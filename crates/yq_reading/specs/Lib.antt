@@ -2,6 +2,7 @@ pub use Rattle.yq_documents.specs.Documents
 pub use Rattle.yq_documents.specs.Reading
 pub mod FitReading
 pub mod Deciding
+pub mod Ahead
 pub mod Checking
 pub mod Named
 pub mod Making

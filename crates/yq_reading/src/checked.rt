@@ -6,9 +6,11 @@ ghost use Rattle.yq_lines.specs.Bodies.{lent};
 ghost use Rattle.yq_lines.specs.Outline as outline;
 ghost use Rattle.yq_rows.specs.View.{Slices};
 ghost use Rattle.yq_walk.specs.RowWalk.{IsLine, OfLine};
+ghost use Rattle.yq_reading.specs.Ahead.{IsAhead};
 ghost use Rattle.yq_reading.specs.Checking.{IsChecked};
 
-use yq_documents::{Made, fault_at, made_at, told_key};
+use crate::ahead::{ahead_from, made_here};
+use yq_documents::{Made, fault_at, told_key};
 use yq_inline::pieces::is_quoted;
 use yq_rows::Rows;
 use yq_scalar::{FaultKind, ReadFault};
@@ -38,16 +40,18 @@ pub(crate) fn row_fault(x: Checked<'_, '_>, at: Spot, kind: FaultKind) -> ReadFa
     fault_at(kind, x.text, place)
 }
 
-/// What the key of a row stands for.
-pub(crate) fn row_key<'a>(x: Checked<'a, '_>, row: usize) -> &'a str
+/// What the key of a row stands for, by what is made from the row on.
+#[inline(always)]
+pub(crate) fn row_key<'a, 't>(x: Checked<'a, 't>, row: usize, made: &'a [Made<'t>]) -> &'a str
     requires ready { IsChecked x }
     requires within { row < length x.rows.now.rows }
+    requires made { IsAhead x.made.now row made.now }
     ensures { (s : Slices) → slice_get x.entry.rows.now.rows row ≡ Some s →
         result.now ≡ content_of s.key }
 {
     let piece = x.rows.key(row);
     if is_quoted(piece.as_bytes()) {
-        return told_key(made_at(x.made, row), piece);
+        return told_key(made_here(made, row), piece);
     }
     piece
 }
@@ -62,5 +66,5 @@ pub(crate) fn line_key<'a>(x: Checked<'a, '_>, at: Spot) -> Option<&'a str>
     if rank_at(x.rows, at) != 2 {
         return None;
     }
-    Some(row_key(x, at.row))
+    Some(row_key(x, at.row, ahead_from(x.made, at.row)))
 }

@@ -8,6 +8,7 @@ ghost use Rattle.yq_documents.specs.Reading.{has_short_root};
 ghost use Rattle.yq_reading.specs.Checking.{IsChecked, OfChecked, some_refer};
 ghost use Rattle.yq_reading.specs.Deciding.{Decides};
 
+use crate::ahead::ahead_from;
 use crate::anchors::second_anchor;
 use crate::bound::unbound_alias;
 use crate::checked::{Checked, row_fault};
@@ -72,7 +73,8 @@ pub(crate) fn check_document(
     if !has_short_root(x.rows, x.document) {
         return Err(ReadError::Fault(row_fault(x, first, FaultKind::BadScalar)));
     }
-    match check_lines(alloc, x, with_level(x, first), 0, DEPTH_LIMIT) {
+    let start = with_level(x, first, ahead_from(x.made, first.row));
+    match check_lines(alloc, x, start, 0, DEPTH_LIMIT) {
         Ok(_) => check_names(alloc, x, refers),
         Err(e) => Err(e),
     }

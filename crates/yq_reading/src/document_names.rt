@@ -5,6 +5,7 @@ ghost use Rattle.yq_lines.specs.Names.{line_names};
 ghost use Rattle.yq_reading.specs.Checking.{IsChecked, OfChecked};
 ghost use Rattle.yq_reading.specs.Named.{all_named, flow_names};
 
+use crate::ahead::{ahead_from, ahead_of};
 use crate::checked::Checked;
 use crate::names::{Name, push_anchor, push_node};
 use crate::nested::row_flow;
@@ -29,9 +30,11 @@ pub(crate) fn names_of<'t>(alloc: Global, x: Checked<'_, 't>) -> Result<Vec<Name
     ensures { IfOk result (λ ns. OfChecked x.entry (λ ls n. all_named ns.items ≡ line_names ls)) }
 {
     let mut names = Vec::new(alloc);
+    let mut made = ahead_from(x.made, x.document.first);
     'rows: for i in x.document.first..x.document.end {
         push_anchor(&mut names, anchor_name(x.rows.anchor(i)))?;
-        push_flow(&mut names, row_flow(x, i))?;
+        made = ahead_of(made, i);
+        push_flow(&mut names, row_flow(made, i))?;
     }
     Ok(names)
 }

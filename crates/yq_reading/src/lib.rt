@@ -1,6 +1,7 @@
 //! Documents read by their rows: what rows spell is made where the text doesn't lend it, and what is asked of documents is checked.
 #![tactic(auto)]
 
+mod ahead;
 mod anchors;
 mod bound;
 mod checked;

@@ -49,7 +49,7 @@ fn lends_text(piece: &str) -> bool
 }
 
 /// Whether an alias, a flow collection or a block scalar begins so.
-pub(crate) fn begins_tree(head: &[u8]) -> bool
+fn begins_tree(head: &[u8]) -> bool
     ensures { result ≡ spec.begins_tree head.now }
 {
     matches!(head, [b'|' | b'>' | b'*' | b'[' | b'{', ..])

@@ -33,26 +33,28 @@ fn misplaced(level: usize, n: usize) -> FaultKind
 
 /// A node on a line of its own, deeper than a level: it is to be there, and to be alone. The spot behind
 /// it.
-fn check_bare(
+fn check_bare<'a, 't>(
     alloc: Global,
-    x: Checked<'_, '_>,
-    at: Spot,
+    x: Checked<'a, 't>,
+    at: Reached<'a, 't>,
     floor: usize,
     depth: usize,
-) -> Result<Reached, ReadError>
+) -> Result<Reached<'a, 't>, ReadError>
     requires ready { IsChecked x }
-    requires line { IsLine x.rows.now x.document at }
+    requires at { IsReached x.made.now x.rows.now x.document at }
+    requires line { IsLine x.rows.now x.document at.spot }
     requires deep { OfLines x.rows.now x.document (λ ls n.
-        is_end (part ls (n at) floor) ≡ false) }
-    ensures sound { OfCheckedLine x.entry at (λ ls n l.
-        Decides result ((is_some l.head && is_end (part ls (n at + 1) floor)) &&
+        is_end (part ls (n at.spot) floor) ≡ false) }
+    ensures sound { OfCheckedLine x.entry at.entry.spot (λ ls n l.
+        Decides result ((is_some l.head && is_end (part ls (n at.entry.spot + 1) floor)) &&
         spec.head_is_sound depth l.head)) }
-    ensures reached { IfOk result (IsReached x.entry.rows.now x.entry.document) }
-    ensures behind { IfOk result (λ r. GivesStop x.entry.rows.now x.entry.document at floor r.spot) }
+    ensures reached { IfOk result (IsReached x.entry.made.now x.entry.rows.now x.entry.document) }
+    ensures behind { IfOk result (λ r. GivesStop x.entry.rows.now x.entry.document at.entry.spot
+        floor r.spot) }
     ensures fault { IfErr result IsOfText }
 {
-    if !has_head(x.rows, x.document, at) {
-        return Err(ReadError::Fault(row_fault(x, at, FaultKind::BadIndent)));
+    if !has_head(x.rows, x.document, at.spot) {
+        return Err(ReadError::Fault(row_fault(x, at.spot, FaultKind::BadIndent)));
     }
     let after = line_behind(x, at);
     if is_deeper(x, after, floor) {
@@ -65,11 +67,16 @@ fn check_bare(
 }
 
 /// Adds the key of a line, if it has one.
-fn push_key<'k>(keys: &mut Keys<'k>, x: Checked<'k, '_>, at: Reached) -> Result<(), AllocError>
+#[inline(always)]
+fn push_key<'k, 't>(
+    keys: &mut Keys<'k>,
+    x: Checked<'k, 't>,
+    at: Reached<'k, 't>,
+) -> Result<(), AllocError>
     requires ready { IsChecked x }
-    requires reached { IsReached x.rows.now x.document at }
+    requires reached { IsReached x.made.now x.rows.now x.document at }
     requires line { IsLine x.rows.now x.document at.spot }
-    ensures { OfLine x.entry.rows.now x.entry.document at.spot (λ l. OnOk result
+    ensures { OfLine x.entry.rows.now x.entry.document at.entry.spot (λ l. OnOk result
         (map (λ k. k.now) keys.new.items ≡
         map (λ k. k.now) keys.old.items ++ with_key (outline.key_of l.mark) [])) }
 {
@@ -109,29 +116,30 @@ fn repeated_line(
 /// A line of a collection and the lines under it: it is to stand at the collection's level, to have no
 /// head where lines are under it, and a head that is sound. The spot behind them.
 #[cycle(sound)]
-fn check_line(
+fn check_line<'a, 't>(
     alloc: Global,
-    x: Checked<'_, '_>,
-    at: Reached,
+    x: Checked<'a, 't>,
+    at: Reached<'a, 't>,
     n: usize,
     depth: usize,
-) -> Result<Reached, ReadError>
+) -> Result<Reached<'a, 't>, ReadError>
     requires ready { IsChecked x }
-    requires at { IsReached x.rows.now x.document at }
+    requires at { IsReached x.made.now x.rows.now x.document at }
     requires line { IsLine x.rows.now x.document at.spot }
-    ensures sound { OfCheckedLine x.entry at.spot (λ ls num l. Decides result
-        (spec.are_sound_under depth n l (part ls (num at.spot + 1) (outline.level l)))) }
-    ensures reached { IfOk result (IsReached x.entry.rows.now x.entry.document) }
-    ensures behind { IfOk result (λ r. GivesEnd x.entry.rows.now x.entry.document at.spot r.spot) }
+    ensures sound { OfCheckedLine x.entry at.entry.spot (λ ls num l. Decides result
+        (spec.are_sound_under depth n l (part ls (num at.entry.spot + 1) (outline.level l)))) }
+    ensures reached { IfOk result (IsReached x.entry.made.now x.entry.rows.now x.entry.document) }
+    ensures behind { IfOk result (λ r.
+        GivesEnd x.entry.rows.now x.entry.document at.entry.spot r.spot) }
     ensures fault { IfErr result IsOfText }
 {
     let level = at.level;
     if level != n {
         return Err(ReadError::Fault(row_fault(x, at.spot, misplaced(level, n))));
     }
-    let after = line_behind(x, at.spot);
+    let after = line_behind(x, at);
     if !is_deeper(x, after, n) {
-        return match head_fault(alloc, x, at.spot, depth) {
+        return match head_fault(alloc, x, at, depth) {
             Ok(()) => Ok(after),
             Err(e) => Err(e),
         };
@@ -145,27 +153,27 @@ fn check_line(
 /// The lines from a place on that are deeper than a level: they are to be the items or entries of one
 /// collection, in which at most so many are nested, or one node. The spot behind them.
 #[cycle(sound)]
-pub(crate) fn check_lines(
+pub(crate) fn check_lines<'a, 't>(
     alloc: Global,
-    x: Checked<'_, '_>,
-    start: Reached,
+    x: Checked<'a, 't>,
+    start: Reached<'a, 't>,
     floor: usize,
     depth: usize,
-) -> Result<Reached, ReadError>
+) -> Result<Reached<'a, 't>, ReadError>
     requires ready { IsChecked x }
-    requires start { IsReached x.rows.now x.document start }
+    requires start { IsReached x.made.now x.rows.now x.document start }
     ensures sound { OfChecked x.entry (λ ls n. Decides result
-        (spec.is_sound depth (part ls (n start.spot) floor))) }
-    ensures reached { IfOk result (IsReached x.entry.rows.now x.entry.document) }
+        (spec.is_sound depth (part ls (n start.entry.spot) floor))) }
+    ensures reached { IfOk result (IsReached x.entry.made.now x.entry.rows.now x.entry.document) }
     ensures behind { IfOk result (λ r.
-        GivesStop x.entry.rows.now x.entry.document start.spot floor r.spot) }
+        GivesStop x.entry.rows.now x.entry.document start.entry.spot floor r.spot) }
     ensures fault { IfErr result IsOfText }
 {
     if !is_deeper(x, start, floor) {
         return Ok(start);
     }
     if is_bare(x, start) {
-        return check_bare(alloc, x, start.spot, floor, depth);
+        return check_bare(alloc, x, start, floor, depth);
     }
     if depth == 0 {
         return Err(ReadError::Fault(row_fault(x, start.spot, FaultKind::TooDeep)));

@@ -17,6 +17,12 @@ returns-then-rank_at-ne2 c = λ h l is. key_none c.args.x.rows.now c.args.x.docu
 pub row_key-requires-clause-within : goal.row_key-requires-clause-within
 row_key-requires-clause-within c = row_within c.args.x.text.now c.args.x.rows.now c.args.x.made.now c.args.x.document c.args.at c.requires.ready c.requires.line
 
+pub ahead_from-requires : goal.ahead_from-requires
+ahead_from-requires c = c.requires.ready.rise
+
+pub row_key-requires-clause-made : goal.row_key-requires-clause-made
+row_key-requires-clause-made c = c.ahead_from.ensures
+
 pub returns : goal.returns
 returns c = λ h l is.
     let s = c.args.x.rows.now in

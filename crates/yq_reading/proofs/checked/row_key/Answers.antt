@@ -16,7 +16,7 @@ told_key-requires c =
 pub returns-then-is_quoted : goal.returns-then-is_quoted
 returns-then-is_quoted c = λ s e.
     let x = c.args.x in
-    c.told_key.ensures ∙ ((λ i. told_key (c.made_at.ensures i) (c.key-piece.ensures s e i)) ∙ key_told x.text.now x.rows.now x.made.now x.document c.requires.ready c.args.row s e)
+    c.told_key.ensures ∙ ((λ i. told_key (c.made_here.ensures x.made.now c.requires.made i) (c.key-piece.ensures s e i)) ∙ key_told x.text.now x.rows.now x.made.now x.document c.requires.ready c.args.row s e)
 
 pub returns : goal.returns
 returns c = λ s e.

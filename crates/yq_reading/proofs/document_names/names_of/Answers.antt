@@ -15,28 +15,35 @@ use Rattle.yq_reading.proofs.ReadyLaws.{row_line}
 use Rattle.yq_reading.proofs.document_names.names_of.Goals as goal
 
 pub rows-init : goal.rows-init
-rows-init c = λ k.
-    let none : c.args.x.document.first - c.args.x.document.first ≡ 0 = omega arith in
-    ap (λ ns. all_named ns ++ line_names (lines_of (drop (c.args.x.document.first - c.args.x.document.first) k.document.rows))) c.new-names.ensures.items
-    ∙ ap (λ (j : ℕ). line_names (lines_of (drop j k.document.rows))) none
+rows-init c = record {
+  ahead = λ k. (c.args.x.document.first, omega arith, c.ahead_from-made.ensures);
+  names = λ k.
+      let none : c.args.x.document.first - c.args.x.document.first ≡ 0 = omega arith in
+      ap (λ ns. all_named ns ++ line_names (lines_of (drop (c.args.x.document.first - c.args.x.document.first) k.document.rows))) c.new-names.ensures.items
+      ∙ ap (λ (j : ℕ). line_names (lines_of (drop j k.document.rows))) none;
+}
 
 pub anchor-requires : goal.anchor-requires
 anchor-requires c = omega (arith, c.rows-test.true, c.requires.ready.document.within)
 
-pub row_flow-requires-clause-within : goal.row_flow-requires-clause-within
-row_flow-requires-clause-within c = omega (arith, c.rows-test.true, c.requires.ready.document.within)
+pub ahead_from-made-requires : goal.ahead_from-made-requires
+ahead_from-made-requires c = c.requires.ready.rise
 
 pub rows-preserved : goal.rows-preserved
-rows-preserved c = λ k.
-    let x = c.args.x in
-    let d = x.document in
-    let at : IsLine x.rows.now d (record { row = c.rows.i; line = 0 }) = row_line x.rows.now d c.rows.i c.rows.auto.i c.rows-test.true in
-    let f = located x.rows.now d k.document (record { row = c.rows.i; line = 0 }) at in
-    let name = c.anchor_name.ensures ∙ (ap name_in (c.anchor.ensures (slices f.row) f.pieces) ∙ anchor_is f.row.content) in
-    let told = k.told c.rows.i f.row (row_of_cut x.text.now x.rows.now x.made.now d k (record { row = c.rows.i; line = 0 }) at) in
-    let next : (c.rows.i - d.first) + 1 ≡ (c.rows.i + 1) - d.first = omega (arith, c.rows.auto.i) in
-    names_turn (line_names (lines_of k.document.rows)) _ _ _ _ _ k.document.rows (c.rows.i - d.first) ((c.rows.i + 1) - d.first) f.row f.there next (c.rows.invariant k) c.in_ok-push_anchor.ensures name c.in_ok-push_flow.ensures
-    (ap flow_names c.row_flow.ensures ∙ (sym (flow_named (made_at c.rows.i x.made.now) (slices f.row).head) ∙ ap head_names told.head))
+rows-preserved c = record {
+  ahead = λ k. let a = c.rows.invariant.ahead k in (c.rows.i, omega arith, c.ahead_of-made.ensures c.args.x.made.now a.0 a.1 a.2);
+  names = λ k.
+      let a = c.rows.invariant.ahead k in
+      let x = c.args.x in
+      let d = x.document in
+      let at : IsLine x.rows.now d (record { row = c.rows.i; line = 0 }) = row_line x.rows.now d c.rows.i c.rows.auto.i c.rows-test.true in
+      let f = located x.rows.now d k.document (record { row = c.rows.i; line = 0 }) at in
+      let name = c.anchor_name.ensures ∙ (ap name_in (c.anchor.ensures (slices f.row) f.pieces) ∙ anchor_is f.row.content) in
+      let told = k.told c.rows.i f.row (row_of_cut x.text.now x.rows.now x.made.now d k (record { row = c.rows.i; line = 0 }) at) in
+      let next : (c.rows.i - d.first) + 1 ≡ (c.rows.i + 1) - d.first = omega (arith, c.rows.auto.i) in
+      names_turn (line_names (lines_of k.document.rows)) _ _ _ _ _ k.document.rows (c.rows.i - d.first) ((c.rows.i + 1) - d.first) f.row f.there next (c.rows.invariant.names k) c.in_ok-push_anchor.ensures name c.in_ok-push_flow.ensures
+      (ap flow_names (c.row_flow.ensures x.made.now (c.ahead_of-made.ensures x.made.now a.0 a.1 a.2)) ∙ (sym (flow_named (made_at c.rows.i x.made.now) (slices f.row).head) ∙ ap head_names told.head));
+}
 
 pub returns : goal.returns
-returns c = λ k. names_all (line_names (lines_of k.document.rows)) (all_named c.rows.names.items) k.document.rows (c.rows.i - c.args.x.document.first) (omega (arith, rows_length c.args.x.rows.now c.args.x.document k.document, c.rows-test.false)) (c.rows.invariant k)
+returns c = λ k. names_all (line_names (lines_of k.document.rows)) (all_named c.rows.names.items) k.document.rows (c.rows.i - c.args.x.document.first) (omega (arith, rows_length c.args.x.rows.now c.args.x.document k.document, c.rows-test.false)) (c.rows.invariant.names k)

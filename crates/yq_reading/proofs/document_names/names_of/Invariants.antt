@@ -1,11 +1,14 @@
-use Rattle.std.proofs.Common.{◌≡◌, ◌-◌, ◌++◌, drop}
+use Rattle.std.proofs.Common.{◌≡◌, ℕ, ◌-◌, ◌≤◌, ◌++◌, drop}
 use Rattle.yq_lines.specs.Names.{line_names}
 use Rattle.yq_walk.specs.Lines.{lines_of}
+use Rattle.yq_reading.specs.Ahead.{IsAhead}
 use Rattle.yq_reading.specs.Checking.{IsChecked}
 use Rattle.yq_reading.specs.Named.{all_named}
 use Rattle.yq_reading.proofs.document_names.names_of.Given as goal
 
--- the names so far stand before those from here on
+-- the names so far stand before those from here on, and what is made of a row that is no later is at hand
 abbrev pub invariant-rows : goal.invariant-rows
-invariant-rows l = (k : IsChecked l.x) →
-    all_named l.names.items ++ line_names (lines_of (drop (l.i - l.x.document.first) k.document.rows)) ≡ line_names (lines_of k.document.rows)
+invariant-rows l = record {
+  ahead : (k : IsChecked l.x) → (n : ℕ) × (n ≤ l.i) × IsAhead l.x.made.now n l.made;
+  names : (k : IsChecked l.x) → all_named l.names.items ++ line_names (lines_of (drop (l.i - l.x.document.first) k.document.rows)) ≡ line_names (lines_of k.document.rows);
+}

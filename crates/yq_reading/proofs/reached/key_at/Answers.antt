@@ -12,6 +12,9 @@ returns-then-not-has_key c = λ h l is. none_of (key_of l.mark) (c.if-not-has_ke
 pub row_key-requires-clause-within : goal.row_key-requires-clause-within
 row_key-requires-clause-within c = let x = c.args.x in row_within x.text.now x.rows.now x.made.now x.document c.args.at.spot c.requires.ready c.requires.line
 
+pub row_key-requires-clause-made : goal.row_key-requires-clause-made
+row_key-requires-clause-made c = c.requires.reached.made
+
 pub returns : goal.returns
 returns c = λ h l is.
     let x = c.args.x in

@@ -4,7 +4,7 @@ use Rattle.yq_reading.proofs.ReadyLaws.{row_within}
 use Rattle.yq_reading.proofs.reached.with_level.Goals as goal
 
 pub returns-then-spot-x-clause-reached : goal.returns-then-spot-x-clause-reached
-returns-then-spot-x-clause-reached c = reached_end c.args.x.rows.now c.args.x.document c.args.spot c.requires.spot c.if-spot-x.true
+returns-then-spot-x-clause-reached c = reached_end c.args.x.made.now c.args.x.rows.now c.args.x.document c.args.spot c.args.made c.requires.made c.requires.spot c.if-spot-x.true
 
 pub level_at-requires-clause-within : goal.level_at-requires-clause-within
 level_at-requires-clause-within c =
@@ -17,4 +17,4 @@ level_at-requires-clause-shown c = c.requires.ready.shown
 pub returns-clause-reached : goal.returns-clause-reached
 returns-clause-reached c =
     let x = c.args.x in
-    reached_line x.rows.now x.document c.args.spot (spot_line x.rows.now x.document c.args.spot c.requires.spot c.if-spot-x.false) c.level_at.result c.level_at.ensures
+    reached_line x.made.now x.rows.now x.document c.args.spot c.args.made c.requires.made (spot_line x.rows.now x.document c.args.spot c.requires.spot c.if-spot-x.false) c.level_at.result c.level_at.ensures

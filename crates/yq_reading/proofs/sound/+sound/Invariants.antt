@@ -18,7 +18,7 @@ decreases-check_lines-lines l = l.x.document.end - l.at.spot.row
 -- what is asked of all lines is what is asked from here on, and they end where those end
 abbrev pub invariant-check_lines-lines : goal.invariant-check_lines-lines
 invariant-check_lines-lines l = record {
-  at : IsReached l.x.rows.now l.x.document l.at;
+  at : IsReached l.x.made.now l.x.rows.now l.x.document l.at;
   moved : (l.at.spot ≡ l.start.spot) ⊎ (l.start.spot.row < l.at.spot.row);
   more : 0 < l.depth;
   entries : IsEntryLevel l.start.level;
