@@ -50,6 +50,7 @@ fn next(before: Before, first: u8) -> Before
 
 /// How long the gap in front is, in bytes, and whether what follows begins a line.
 #[tactic(auto, unfolding(crate::specs::Reading::gap_len, crate::specs::Reading::gap_end))]
+#[inline(always)]
 pub fn gap_len(text: &[u8]) -> (usize, bool)
     ensures len { result.0 ≡ reading.gap_len token text.now }
     ensures within { result.0 ≤ length text.now }
