@@ -8,7 +8,7 @@ use Rattle.yq_rows.specs.RowStarts.{row_level}
 use Rattle.yq_rows.specs.Rows.{Mark, Bare, Dash, Key, Row, dashes_text}
 use Rattle.yq_rows.specs.View.{Slices, slices, last_dash, rows_of, Shown, shown}
 use Rattle.yq_walk.specs.Extents.{dash_at, IsShown}
-use Rattle.yq_walk.specs.RowWalk.{line_level}
+use Rattle.yq_walk.specs.RowWalk.{line_level, line_rank}
 
 -- a row without dashes, or one that begins with a dash
 bare_level : (s : Slices) → s.dashes ≡ [] → row_level s ≡ line_level 0 s
@@ -35,6 +35,32 @@ shown_level s i x h there =
     go : (o : Option Row) → option_map slices o ≡ Some x → row_level x ≡ line_level 0 x
     go None e = cc
     go (Some r) e = let same : slices r ≡ x = same_Some _ _ e in ap row_level (sym same) ∙ (first_level r ∙ ap (line_level 0) same)
+
+-- what the first line of a row begins with
+pub first_rank : (s : Shown) (i : ℕ) (x : Slices) → IsShown s → slice_get s.rows i ≡ Some x → (a b : Bool) → a ≡ not (is_empty x.dashes) → b ≡ not (is_empty x.colon) → cond a 3 (cond b 2 1) ≡ line_rank 0 x
+first_rank s i x h there a b dashes colon =
+    let level = shown_level s i x h there in
+    let r = ranks (is_empty x.dashes) (is_empty x.colon) in
+    let d = ranks (not (ltb (dash_at 0 x.dashes) (length x.dashes))) (is_empty x.colon) in
+    let same : cond (is_empty x.dashes) (cond (is_empty x.colon) 1 2) 3 ≡ line_rank 0 x = omega (arith, level, r.0, r.1, d.0, d.1, rank_is) in
+    (λ j. cond (dashes j) 3 (cond (colon j) 2 1)) ∙ (turned (is_empty x.dashes) (is_empty x.colon) ∙ same)
+  where
+    ranks : (d c : Bool) → (1 ≤ cond d (cond c 1 2) 3) × (cond d (cond c 1 2) 3 ≤ 3)
+    ranks true true = (omega arith, omega arith)
+    ranks true false = (omega arith, omega arith)
+    ranks false c = (omega arith, omega arith)
+
+    turned : (d c : Bool) → ◌≡◌ {A = ℕ} (cond (not d) 3 (cond (not c) 2 1)) (cond d (cond c 1 2) 3)
+    turned true true = refl
+    turned true false = refl
+    turned false c = refl
+
+    rank_is : cond (not (ltb (dash_at 0 x.dashes) (length x.dashes))) (cond (is_empty x.colon) 1 2) 3 ≡ line_rank 0 x
+    rank_is = go (ltb (dash_at 0 x.dashes) (length x.dashes))
+      where
+        go : (b : Bool) → ◌≡◌ {A = ℕ} (cond (not b) (cond (is_empty x.colon) 1 2) 3) (cond b 3 (cond (is_empty x.colon) 1 2))
+        go true = refl
+        go false = refl
 
 -- a row begins no deeper than its column's dash
 pub level_most : (x : Slices) → row_level x ≤ 3 * x.column + 3

@@ -15,4 +15,5 @@ pub mod ReachLaws
 pub mod LineNames
 pub mod BesideLaws
 pub mod WalkMarks
+pub mod QuotedKeys
 pub mod StopLaws

@@ -2,7 +2,7 @@
 use Rattle.std.proofs.Common.{◌≡◌, inl, inr, ℕ, ℤ, suc, ◌+◌, true, false, eqb, List, [], ◌∷◌, ◌++◌, length, Option, None, Some, refl, sym, ap, ◌∙◌, arith}
 use Rattle.std.proofs.lemmas.Bool.{false≢true}
 use Rattle.yq_scalar.specs.Piece.{deeper}
-use Rattle.yq_scalar.specs.Plain.{begins_plain}
+use Rattle.yq_scalar.specs.Plain.{begins_plain, holds_break}
 use Rattle.yq_scalar.specs.Quoted.{IsQuotedText}
 use Rattle.yq_scalar.specs.Text.{is_empty, lines_of}
 use Rattle.yq_inline.specs.Scalars.{IsScalar, is_quoted}
@@ -12,6 +12,7 @@ use Rattle.yq_rows.specs.Grammar.{IsMark}
 use Rattle.yq_rows.specs.Rows as rows
 use Rattle.yq_rows.specs.Rows.{Content}
 use Rattle.yq_rows.specs.View.{key_of}
+use Rattle.yq_rows.proofs.KeyLines.{key_line}
 use Rattle.yq_walk.specs.Lines.{lines_from}
 
 -- a colon is written, and a scalar
@@ -40,6 +41,12 @@ pub mark_quoted : (m : rows.Mark) (c : Content) (rest : List ℕ) → IsMark m c
 mark_quoted rows.Bare c rest h q = absurd (false≢true q)
 mark_quoted rows.Dash c rest h q = absurd (false≢true q)
 mark_quoted (rows.Key key colon) c rest h q = scalar_quoted None key (colon ++ rows.content_text c rest) h.scalar q
+
+-- a key has one line
+pub mark_line : (m : rows.Mark) (c : Content) (rest : List ℕ) → IsMark m c rest → holds_break (key_of m) ≡ false
+mark_line rows.Bare c rest h = refl
+mark_line rows.Dash c rest h = refl
+mark_line (rows.Key key colon) c rest h = key_line key (colon ++ rows.content_text c rest) h.scalar
 
 -- how many lines a row's dashes are
 pub lines_count : (above : List (List ℕ)) (column : ℕ) (ns : List ℕ) (m : rows.Mark) (c : Content) → length (lines_from above column ns m c) ≡ suc (length ns)

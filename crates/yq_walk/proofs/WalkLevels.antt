@@ -6,6 +6,7 @@ use Rattle.std.specs.List.{slice_get}
 use Rattle.std.specs.Prelude.{is_none}
 use Rattle.yq_inline.specs.Scalars.{is_quoted}
 use Rattle.yq_scalar.specs.Paths.{is_item}
+use Rattle.yq_scalar.specs.Plain.{holds_break}
 use Rattle.yq_scalar.specs.Quoted.{IsQuotedText}
 use Rattle.yq_scalar.specs.Text.{is_empty}
 use Rattle.yq_lines.specs.Outline.{Dash, Line, key_of, level, rank}
@@ -24,6 +25,7 @@ pub record IsTelling (r : Row) : Type 0 where
   pub colon : is_empty (colon_of r.mark) ≡ is_item (key_of (mark_of r.mark))
   pub head : is_empty (content_cut r.content).3 ≡ is_none (head_of r.content)
   pub quoted : is_quoted (slices r).key ≡ true → IsQuotedText (slices r).key
+  pub line : holds_break (slices r).key ≡ false
 
 -- the same of all rows
 abbrev pub AreTelling : List Row → Type 0

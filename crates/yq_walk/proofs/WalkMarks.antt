@@ -9,6 +9,7 @@ use Rattle.yq_inline.specs.Scalars.{content_of, is_quoted}
 use Rattle.yq_lines.specs.Outline.{Mark, Bare, Key, Dash, Line, key_of, rank}
 use Rattle.yq_lines.specs.Spots.{is_bare}
 use Rattle.yq_scalar.specs.Paths.{is_item, key_is}
+use Rattle.yq_scalar.specs.Plain.{holds_break}
 use Rattle.yq_scalar.specs.Quoted.{IsQuotedText}
 use Rattle.yq_scalar.specs.Text.{is_empty}
 use Rattle.yq_scalar.specs.Tree.{Node}
@@ -115,3 +116,9 @@ pub quoted_told : (s : Shown) (d : Stretch) (h : HasRows s d) (q : Spot) → IsL
 quoted_told s d h q at piece written =
     let k = located s d h q at in
     subst (λ (y : List ℕ). is_quoted y ≡ true → IsQuotedText y) (sym (written (slices k.row) k.pieces)) k.telling.quoted
+
+-- a key has one line
+pub line_told : (s : Shown) (d : Stretch) (h : HasRows s d) (q : Spot) → IsLine s d q → (piece : List ℕ) → ((x : Slices) → slice_get s.rows q.row ≡ Some x → piece ≡ x.key) → holds_break piece ≡ false
+line_told s d h q at piece written =
+    let k = located s d h q at in
+    ap holds_break (written (slices k.row) k.pieces) ∙ k.telling.line

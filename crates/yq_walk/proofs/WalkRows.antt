@@ -21,7 +21,7 @@ use Rattle.yq_walk.specs.Lines.{head_of, mark_of}
 use Rattle.yq_walk.specs.RowWalk.{line_level, deeper_rows, HasRows}
 use Rattle.yq_walk.specs.declared.spot.Stretch.{Stretch}
 use Rattle.yq_walk.proofs.CountLaws.{before_mark}
-use Rattle.yq_walk.proofs.RowLaws.{colon_some, mark_quoted, scalar_written}
+use Rattle.yq_walk.proofs.RowLaws.{colon_some, mark_line, mark_quoted, scalar_written}
 use Rattle.yq_walk.proofs.WalkLevels.{AreTelling}
 
 -- row by row, up to one that doesn't begin deeper
@@ -114,6 +114,7 @@ rows_telling limit (r ∷ rs) end rest h =
         colon = colon_told r.mark r.content t h.0.mark;
         head = head_told (parent_indent r) r.content t h.0.content;
         quoted = mark_quoted r.mark r.content t h.0.mark;
+        line = mark_line r.mark r.content t h.0.mark;
       },
       rows_telling (limit_after r) rs end rest h.1,
     )

@@ -21,4 +21,3 @@ pub use spot::{
 pub use spot_find::{find_item, find_key, find_step};
 pub use spot_marks::{has_head, is_bare, is_item_at, is_key};
 pub use spot_reach::{Next, begins_with_node, line_at, next_at, reach};
-pub use written_key::is_written;

@@ -119,6 +119,17 @@ pub fn level_at(rows: &Rows<'_>, spot: Spot) -> usize
     level_within(rows, spot)
 }
 
+/// What the first line of a row begins with, as the order of marks in a column.
+#[inline(always)]
+fn first_rank(has_dashes: bool, has_colon: bool) -> usize
+    ensures { result ≡ (if has_dashes then 3 else (if has_colon then 2 else 1)) }
+{
+    if has_dashes {
+        return 3;
+    }
+    if has_colon { 2 } else { 1 }
+}
+
 /// What a line begins with, as the order of marks in a column.
 #[inline(always)]
 pub fn rank_at(rows: &Rows<'_>, spot: Spot) -> usize
@@ -127,7 +138,10 @@ pub fn rank_at(rows: &Rows<'_>, spot: Spot) -> usize
     ensures { (x : Slices) → slice_get rows.now.rows spot.row ≡ Some x →
         result ≡ spec.line_rank spot.line x }
 {
-    match level_at(rows, spot) % 3 {
+    if spot.line == 0 {
+        return first_rank(rows.has_dashes(spot.row), rows.has_colon(spot.row));
+    }
+    match level_within(rows, spot) % 3 {
         0 => 3,
         rank => rank,
     }

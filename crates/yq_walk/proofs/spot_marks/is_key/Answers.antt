@@ -1,13 +1,16 @@
 use Rattle.std.proofs.Common.{◌∙◌}
-use Rattle.yq_walk.proofs.WalkMarks.{key_told, other_told, quoted_told}
+use Rattle.yq_walk.proofs.WalkMarks.{key_told, line_told, other_told, quoted_told}
 use Rattle.yq_walk.proofs.spot_marks.is_key.Goals as goal
 
 pub returns-then-rank_at-ne2 : goal.returns-then-rank_at-ne2
 returns-then-rank_at-ne2 c = λ h l is.
     other_told c.args.rows.now c.args.document h c.args.spot c.requires.spot l is c.rank_at.result c.rank_at.ensures c.args.key.now c.if-rank_at-ne2.true
 
-pub is_written-requires : goal.is_written-requires
-is_written-requires c = quoted_told c.args.rows.now c.args.document c.requires.document c.args.spot c.requires.spot c.key.result.now c.key.ensures
+pub is_written-requires-clause-line : goal.is_written-requires-clause-line
+is_written-requires-clause-line c = line_told c.args.rows.now c.args.document c.requires.document c.args.spot c.requires.spot c.key.result.now c.key.ensures
+
+pub is_written-requires-clause-quoted : goal.is_written-requires-clause-quoted
+is_written-requires-clause-quoted c = quoted_told c.args.rows.now c.args.document c.requires.document c.args.spot c.requires.spot c.key.result.now c.key.ensures
 
 pub returns : goal.returns
 returns c = λ h l is.
