@@ -1,11 +1,12 @@
 -- A text that reads is that of its cut.
-use Rattle.std.proofs.Common.{◌≡◌, ◌<◌, ◌^◌, ℕ, List, length, Some, arith, sym}
+use Rattle.std.proofs.Common.{◌≡◌, ◌<◌, ◌^◌, ℕ, List, [], ◌∷◌, length, Some, arith, sym, ap, ◌∙◌}
 use Rattle.std.specs.Str.{is_utf8}
 use Rattle.yq_scalar.proofs.Bools.{guard_then}
 use Rattle.yq_rows.specs.Grammar.{IsCut}
 use Rattle.yq_rows.specs.Rows.{Cut, cut_text}
 use Rattle.yq_documents.specs.Reading.{read_at, cut_of}
 use Rattle.yq_places.proofs.ReadLaws.{text_takes, cut_is}
+use Rattle.yq_script.specs.Script.{keep}
 
 -- what is read is cut so
 pub cut_read : (t : List ℕ) (c : Cut) → read_at t ≡ Some c → IsCut t c
@@ -20,3 +21,7 @@ cut_same t c h = cut_is t c (cut_read t c h)
 
 pub text_small : (t : List ℕ) (c : Cut) → read_at t ≡ Some c → length t < 2 ^ 64
 text_small t c h = omega (arith, (cut_read t c h).size)
+
+-- all bytes stay
+pub whole_kept : (t m : List ℕ) → read_at t ≡ Some (cut_of t) → m ≡ t → keep m ∷ [] ≡ keep (cut_text (cut_of t)) ∷ []
+whole_kept t m read same = ap (λ (x : List ℕ). keep x ∷ []) (same ∙ sym (text_read t (cut_of t) read))

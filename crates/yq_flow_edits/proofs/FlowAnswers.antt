@@ -44,7 +44,7 @@ steps_last f x (y ∷ xs) some is =
 -- ---- the bytes of an edit
 
 -- the pieces of a text at the place of an edit
-segments_at : (t before : List ℕ) (e : FlowEdit) → t ≡ before ++ (e.old ++ e.behind) → edit_segments t (place_edit (length t) e) e.written ≡ flow_segments t e
+pub segments_at : (t before : List ℕ) (e : FlowEdit) → t ≡ before ++ (e.old ++ e.behind) → edit_segments t (place_edit (length t) e) e.written ≡ flow_segments t e
 segments_at t before e is =
     let n : ℕ = length t - length (e.old ++ e.behind) in
     let m : ℕ = length t - length e.behind in
@@ -99,14 +99,21 @@ module _ (c : Cut) (n : ℕ) (steps : List Step) (x : FlowHead) (q : Placed) (f 
   abbrev t : List ℕ
   t = cut_text c
 
-  -- An edit that the text has as the row alone has its own.
+  -- An edit that the text has as the row alone has its own: its place,
+  pub edit_moved : (e own : FlowEdit) (p : PlacedEdit) → e ≡ edit_more f.told.behind own → length (own.old ++ own.behind) ≤ length (node_text f.told.at.node f.told.at.rest) → p ≡ place_edit (length x.text.now) own → moved_on x.before p ≡ place_edit (length t) e
+  edit_moved e own p same within is = ap (moved_on x.before) is ∙ sym (in_text t f.coll x f.told e own same within)
+
+  pub edit_lies : (e : FlowEdit) (p : PlacedEdit) → HasBounds (cut_text c) e → moved_on x.before p ≡ place_edit (length t) e → LiesIn t (moved_on x.before p)
+  edit_lies e p bounds moved = subst (LiesIn t) (sym moved) (record { small = text_small t c f.read; order = edit_order t e; start = bounds.0; end = bounds.1 })
+
+  -- and its segments.
   pub edit_found : (e own : FlowEdit) (before whole : List ℕ) (p : PlacedEdit) → e ≡ edit_more f.told.behind own → length (own.old ++ own.behind) ≤ length (node_text f.told.at.node f.told.at.rest) →
-      HasBounds (cut_text c) e → cut_text c ≡ before ++ (e.old ++ e.behind) → p ≡ place_edit (length x.text.now) own → whole ≡ cut_text c → EditFound (Some (flow_segments (cut_text c) e)) whole (moved_on x.before p) e.written
+      HasBounds (cut_text c) e → cut_text c ≡ before ++ (e.old ++ e.behind) → p ≡ place_edit (length x.text.now) own → whole ≡ cut_text c → EditFound (Some (flow_segments t e)) whole (moved_on x.before p) e.written
   edit_found e own before whole p same within bounds text is all =
-      let moved : place_edit (length t) e ≡ moved_on x.before p = in_text t f.coll x f.told e own same within ∙ ap (moved_on x.before) (sym is) in
+      let moved = edit_moved e own p same within is in
       subst (λ (u : List ℕ). EditFound (Some (flow_segments t e)) u (moved_on x.before p) e.written) (sym all) (record {
-        lies = subst (LiesIn t) moved (record { small = text_small t c f.read; order = edit_order t e; start = bounds.0; end = bounds.1 });
-        is = ap Some (sym (ap (λ (z : PlacedEdit). edit_segments t z e.written) (sym moved) ∙ segments_at t before e text));
+        lies = edit_lies e p bounds moved;
+        is = ap Some (sym (ap (λ (z : PlacedEdit). edit_segments t z e.written) moved ∙ segments_at t before e text));
       })
 
 -- ---- a part of it

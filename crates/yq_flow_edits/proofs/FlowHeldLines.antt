@@ -83,11 +83,11 @@ line_holds (s ∷ ss) o y x found h = go (find s ss o) (sym (path_node s ss o) �
 -- ---- the line is that of a row
 
 -- The row in which a line stands, whose anchor and head these are.
-record HeadRow (p : Part) (f : Found) : Type 0 where
-  seat_is : Seat
-  there : seat (length (lines_before f.place)) p.rows ≡ Some seat_is
-  anchor : content_anchor seat_is.row.content ≡ f.line.anchor
-  head : head_of seat_is.row.content ≡ f.line.head
+pub record HeadRow (p : Part) (f : Found) : Type 0 where
+  pub seat_is : Seat
+  pub there : seat (length (lines_before f.place)) p.rows ≡ Some seat_is
+  pub anchor : content_anchor seat_is.row.content ≡ f.line.anchor
+  pub head : head_of seat_is.row.content ≡ f.line.head
 
 -- the line of a row's mark, by how many lines stand before it
 row_line : (rs front : List Row) (r : Row) (back : List Row) (before tail : List Line) (l : Line) → rs ≡ front ++ (r ∷ back) → lines_of rs ≡ before ++ (l ∷ tail) →
@@ -100,7 +100,7 @@ row_line rs front r back before tail l rows lines size =
     length-append (lines_of front) dashes ∙ (ap (λ (j : ℕ). length (lines_of front) + j) (dashes_count (head_comment r.gap) r.column r.dashes) ∙ sym size) in
     head-eq_of_cons-eq (same_parts (lines_of front ++ dashes) (own ∷ []) (lines_of back) before (l ∷ []) tail olds count refl).1
 
-head_row : (n : ℕ) (p : Part) (steps : List Step) (f : Found) (rest : List Step) → IsEven n (outline_of p) → find_head steps (outline_of p) ≡ Some (f, rest) → HeadRow p f
+pub head_row : (n : ℕ) (p : Part) (steps : List Step) (f : Found) (rest : List Step) → IsEven n (outline_of p) → find_head steps (outline_of p) ≡ Some (f, rest) → HeadRow p f
 head_row n p steps f rest even found =
     let o : Outline = outline_of p in
     let k : ℕ = length (lines_before f.place) in
@@ -118,7 +118,7 @@ head_row n p steps f rest even found =
         record { seat_is = s; there = there; anchor = ap (λ (l : Line). l.anchor) same; head = ap (λ (l : Line). l.head) same }
 
 -- the line has a head
-head_there : (f : Found) → TakesSteps f.line → IsWhole f.line.mark f.line.head f.after → (h : tree.Node) × (f.line.head ≡ Some h)
+pub head_there : (f : Found) → TakesSteps f.line → IsWhole f.line.mark f.line.head f.after → (h : tree.Node) × (f.line.head ≡ Some h)
 head_there f (inl bare) whole = go f.line.mark f.line.head bare whole
   where
     go : (m : Mark) (o : Option tree.Node) → is_bare m ≡ true → IsWhole m o f.after → (h : tree.Node) × (o ≡ Some h)

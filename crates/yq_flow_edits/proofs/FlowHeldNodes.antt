@@ -48,7 +48,7 @@ abbrev kids : Option Held → Children
 kids None = tree.none
 kids (Some x) = x.1
 
-kids_held : (n : tree.Node) → children_of n ≡ kids (held n)
+pub kids_held : (n : tree.Node) → children_of n ≡ kids (held n)
 kids_held (tree.alias n) = refl
 kids_held (tree.scalar a kind text) = refl
 kids_held (tree.list a cs) = refl
@@ -90,7 +90,7 @@ item_child k s (item key n sep is) rest =
     as (λ b. option_map entry_tree (cond b (Some y) (item_at k (further s) is rest)) ≡ cond b (Some (tree_of n)) (child_at (further s) (items_tree is)))
     [ true ↦ refl | false ↦ item_child k (further s) is rest ]
 
-inside_child : (s : Step) (node : Node) (rest : List ℕ) → option_map entry_tree (inside s node rest) ≡ child_at s (kids (held (tree_of node)))
+pub inside_child : (s : Step) (node : Node) (rest : List ℕ) → option_map entry_tree (inside s node rest) ≡ child_at s (kids (held (tree_of node)))
 unfolding tree_of
 inside_child s empty rest = refl
 inside_child s (alias n) rest = refl

@@ -146,7 +146,7 @@ entry_made c doc path x e = go (last_step path) refl e
     go (Some y) is e = let w = bind_some (flow_collection doc y.0 c) e in here' y is w.0 w.1 (item_at w.0.close y.1 w.0.items w.0.rest) refl w.2
 
 -- the items or entries of a node are those of its collection
-coll_entry : (s : Step) (node : inline.Node) (rest : List ℕ) (w : CollPieces) → coll_in node rest ≡ Some w → inside s node rest ≡ item_at w.close s w.items w.rest
+pub coll_entry : (s : Step) (node : inline.Node) (rest : List ℕ) (w : CollPieces) → coll_in node rest ≡ Some w → inside s node rest ≡ item_at w.close s w.items w.rest
 coll_entry s inline.empty rest w e = absurd (cc)
 coll_entry s (inline.alias n) rest w e = absurd (cc)
 coll_entry s (inline.scalar p) rest w e = absurd (cc)

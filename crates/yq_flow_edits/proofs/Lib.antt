@@ -20,5 +20,7 @@ pub mod FlowHeldNodes
 pub mod FlowHeldLines
 pub mod CollectionCases
 pub mod EntryLines
+pub mod StepsOn
+pub mod FlowPartNodes
 pub mod StandingExists
 pub mod MoreExists

@@ -1,2 +1,3 @@
 pub mod EditPlaces
 pub mod Emptying
+pub mod PartPuts

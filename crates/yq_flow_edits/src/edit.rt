@@ -1,18 +1,21 @@
 //! Edits of flow collections, by their places in the text.
-ghost use Rattle.std.specs.Prelude.{◌≡◌, Some, drop, map, option_map, string_bytes, take};
+ghost use Rattle.std.specs.Prelude.{◌≡◌, ◌∷◌, IfOk, [], Some, drop, map, option_map, string_bytes, take};
 ghost use Rattle.yq_text.specs.Halves.{whole};
 ghost use Rattle.yq_inline.specs.Entries.{step_of};
 ghost use Rattle.yq_inline.specs.View.{view};
 ghost use Rattle.yq_flow.specs.FlowPlaces.{edit_view};
+ghost use Rattle.yq_rows.specs.Rows.{cut_text};
+ghost use Rattle.yq_documents.specs.Reading.{cut_of};
 ghost use Rattle.yq_places.specs.FlowTold.{behind_anchor, collection_told};
 ghost use Rattle.yq_places.specs.Standings as standings;
+ghost use Rattle.yq_script.specs.Script.{keep};
 ghost use Rattle.yq_edits.specs.Answers.{Carries};
 ghost use Rattle.yq_flow_edits.specs.EditPlaces as spec;
 
 use std::alloc::{AllocError, Global};
 use yq_flow::{EditPlace, behind};
 use yq_inline::{Inline, Step};
-use yq_places::{FlowHead, collection_along};
+use yq_places::{CutText, FlowHead, collection_along};
 use yq_script::{Segment, Segments};
 use yq_text::Halves;
 
@@ -32,6 +35,15 @@ pub(crate) fn collection_in<'h, 't>(head: &'h FlowHead<'_, 't>) -> Option<&'h In
     ensures { option_map (λ n. behind_anchor (view n.now)) result ≡ collection_told head.now }
 {
     collection_along(&head.node, head.left)
+}
+
+/// A text of which all bytes stay.
+#[tactic(auto, using(crate::proofs::CutLaws::whole_kept))]
+pub fn unchanged<'d>(alloc: Global, cut: &CutText<'_, 'd>) -> Result<Segments<'d>, AllocError>
+    ensures { IfOk result (λ ss. ss ≡ keep (cut_text (cut_of cut.now)) ∷ []) }
+{
+    let whole = vec![in alloc; Segment::Keep(cut.text())]?;
+    Ok(Segments::new(whole))
 }
 
 /// A text in which the bytes of an edit give way to what it leads with and to what is written; so

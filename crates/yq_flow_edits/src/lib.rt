@@ -10,6 +10,7 @@ mod remove;
 mod sole;
 
 pub use append::append_in_flow;
+pub use edit::unchanged;
 pub use put::put_in_flow;
 pub use remove::remove_in_flow;
 pub use sole::{EmptyPut, emptying};

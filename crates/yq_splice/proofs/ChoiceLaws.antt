@@ -1,11 +1,13 @@
--- What is answered by the first of two, or else by the second; and a text of which all bytes stay.
-use Rattle.std.proofs.Common.{◌≡◌, Bool, true, false, cond, ℕ, List, [], ◌∷◌, Option, Some, None, Result, refl, sym, ap, ◌∙◌, subst}
+-- What is answered by the first of two, or else by the second; and what a value is put in the place of.
+use Rattle.std.proofs.Common.{◌≡◌, Bool, true, false, cond, ℕ, List, [], ◌∷◌, Option, Some, None, option_map, Result, sym, ap, ◌∙◌, subst}
+use Rattle.std.proofs.lemmas.Option.{none-some}
 use Rattle.std.specs.Option.{option_or}
-use Rattle.yq_rows.specs.Rows.{cut_text}
-use Rattle.yq_documents.specs.Reading.{cut_of, read_at}
 use Rattle.yq_script.specs.Script.{Segment, keep}
+use Rattle.yq_scalar.specs.Tree.{Node}
+use Rattle.yq_places.specs.Standings.{FlowPart}
+use Rattle.yq_edits.specs.FlowParts.{flow_put}
+use Rattle.yq_flow_edits.specs.PartPuts.{part_put}
 use Rattle.yq_edits.specs.Answers.{Carries}
-use Rattle.yq_flow_edits.proofs.CutLaws.{text_read}
 
 -- the first one answers
 pub first_is : (ss : List Segment) (x y : Option (List Segment)) → x ≡ Some ss → option_or x y ≡ Some ss
@@ -22,6 +24,20 @@ chosen r b x y is h = subst (λ (c : Bool). Carries r (cond c x y)) (sym is) h
 pub not_chosen : {E : Type 0} (r : Result (Option (List Segment)) E) (b : Bool) (x y : Option (List Segment)) → b ≡ false → Carries r y → Carries r (cond b x y)
 not_chosen r b x y is h = subst (λ (c : Bool). Carries r (cond c x y)) (sym is) h
 
--- all bytes stay
-pub whole_kept : (t m : List ℕ) → read_at t ≡ Some (cut_of t) → m ≡ t → keep m ∷ [] ≡ keep (cut_text (cut_of t)) ∷ []
-whole_kept t m read same = ap (λ (x : List ℕ). keep x ∷ []) (same ∙ sym (text_read t (cut_of t) read))
+-- ---- a value, outside flow collections or in one
+
+-- something stands outside
+pub put_outside : {E : Type 0} (r : Result (Option (List Segment)) E) (k : List Segment) (b : Bool) (ss : List Segment) (block y : Option (List Segment)) → block ≡ Some ss → Carries r (cond b (Some k) (Some ss)) → Carries r (cond b (Some k) (option_or block y))
+put_outside r k b ss block y is h = subst (λ (z : Option (List Segment)). Carries r (cond b (Some k) z)) (sym (ap (λ (z : Option (List Segment)). option_or z y) is)) h
+
+-- a part of a flow collection is there
+pub put_inside : (t : List ℕ) (v : Node) (b : Bool) (block : Option (List Segment)) (x : Option FlowPart) (ss : List Segment) → block ≡ None → option_map (part_put t b v) x ≡ Some ss → cond b (Some (keep t ∷ [])) (option_or block (option_map (flow_put t v) x)) ≡ Some ss
+put_inside t v b block None ss is e = absurd (none-some _ e)
+put_inside t v true block (Some x) ss is e = e
+put_inside t v false block (Some x) ss is e = ap (λ (z : Option (List Segment)). option_or z (Some (flow_put t v x))) is ∙ e
+
+-- neither
+pub put_nowhere : {E : Type 0} (r : Result (Option (List Segment)) E) (t : List ℕ) (v : Node) (b : Bool) (block : Option (List Segment)) (x : Option FlowPart) → block ≡ None → option_map (part_put t b v) x ≡ None → Carries r (cond b (Some (keep t ∷ [])) None) →
+    Carries r (cond b (Some (keep t ∷ [])) (option_or block (option_map (flow_put t v) x)))
+put_nowhere r t v b block (Some x) is e h = absurd (none-some _ (sym e))
+put_nowhere r t v b block None is e h = subst (λ (z : Option (List Segment)). Carries r (cond b (Some (keep t ∷ [])) z)) (sym (ap (λ (z : Option (List Segment)). option_or z None) is)) h

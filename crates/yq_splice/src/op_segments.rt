@@ -1,37 +1,68 @@
 //! What an operation exchanges in a text, by its kind and by what stands at its place.
-ghost use Rattle.std.specs.Prelude.{◌≡◌, ◌∷◌, IfOk, [], Some};
-ghost use Rattle.yq_text.specs.Halves.{whole};
+ghost use Rattle.std.specs.Prelude.{◌≡◌, ◌∷◌, IfOk, [], Some, None, if◌then◌else◌};
 ghost use Rattle.yq_inline.specs.Values.{node_of};
 ghost use Rattle.yq_lines.specs.Bodies.{lent};
 ghost use Rattle.yq_rows.specs.Rows.{cut_text};
 ghost use Rattle.yq_documents.specs.Located.{steps_of};
 ghost use Rattle.yq_documents.specs.Reading.{cut_of};
+ghost use Rattle.yq_places.specs.NodesAt.{node_in};
 ghost use Rattle.yq_places.specs.Standings.{last_step};
 ghost use Rattle.yq_meaning.specs.Operations.{operation_of};
 ghost use Rattle.yq_script.specs.Script.{keep};
 ghost use Rattle.yq_edits.specs.Edits as spec;
 ghost use Rattle.yq_edits.specs.Answers.{Carries};
+ghost use Rattle.yq_edits.specs.Replacing.{is_kept as is_kept_there};
+ghost use Rattle.yq_edits.specs.ReplaceEdits.{value_put_at as value_put_there};
 
 use std::alloc::{AllocError, Global};
 use yq_documents::Path;
 use yq_edits::{head_comment_at, is_kept, line_comment_at, more_at, one_removed, value_put_at};
 use yq_expr::Op;
-use yq_flow_edits::{append_in_flow, emptying, put_in_flow, remove_in_flow};
+use yq_flow_edits::{append_in_flow, emptying, put_in_flow, remove_in_flow, unchanged};
 use yq_inline::Value;
 use yq_places::CutText;
-use yq_script::{Segment, Segments};
+use yq_script::Segments;
 
-/// A text of which all bytes stay.
-#[tactic(auto, using(crate::proofs::ChoiceLaws::whole_kept))]
-fn unchanged<'d>(alloc: Global, cut: &CutText<'_, 'd>) -> Result<Segments<'d>, AllocError>
-    ensures { IfOk result (λ ss. ss ≡ keep (cut_text (cut_of cut.now)) ∷ []) }
+/// Segments that put a value at a path, unless an equal scalar is there: then all bytes stay.
+#[tactic(auto, using(crate::proofs::ChoiceLaws::chosen, crate::proofs::ChoiceLaws::not_chosen))]
+fn unless_kept<'d>(
+    alloc: Global,
+    cut: &CutText<'_, 'd>,
+    path: &Path,
+    value: &Value,
+    segments: Option<Segments<'d>>,
+) -> Result<Option<Segments<'d>>, AllocError>
+    ensures { Carries result (if is_kept_there (node_in path.now.doc (steps_of path.now)
+        (cut_of cut.now)) (node_of value.now) then Some (keep (cut_text (cut_of cut.now)) ∷ [])
+        else segments.entry) }
 {
-    let whole = vec![in alloc; Segment::Keep(cut.text())]?;
-    Ok(Segments::new(whole))
+    let stays = is_kept(alloc, cut, path, value)?;
+    if stays {
+        return Ok(Some(unchanged(alloc, cut)?));
+    }
+    Ok(segments)
+}
+
+/// A value put in a flow collection, whose row's head is read once; where nothing stands at the path
+/// outside flow collections.
+fn replaced_inside<'d>(
+    alloc: Global,
+    cut: &CutText<'_, 'd>,
+    path: &Path,
+    value: &Value,
+) -> Result<Option<Segments<'d>>, AllocError>
+    ensures { value_put_there path.now.doc (steps_of path.now) (node_of value.now)
+        (cut_of cut.now) ≡ None → Carries result (spec.replaced path.now.doc (steps_of path.now)
+        (node_of value.now) (cut_of cut.now)) }
+{
+    let inside = put_in_flow(alloc, cut, path, value)?;
+    let Some(segments) = inside else {
+        return unless_kept(alloc, cut, path, value, None);
+    };
+    Ok(Some(segments))
 }
 
 /// A value put in the place of the node at a path; an equal scalar leaves the bytes alone.
-#[tactic(auto, using(crate::proofs::ChoiceLaws::first_is, crate::proofs::ChoiceLaws::second_is, crate::proofs::ChoiceLaws::chosen, crate::proofs::ChoiceLaws::not_chosen))]
 fn replaced<'d>(
     alloc: Global,
     cut: &CutText<'_, 'd>,
@@ -41,14 +72,11 @@ fn replaced<'d>(
     ensures { Carries result (spec.replaced path.now.doc (steps_of path.now) (node_of value.now)
         (cut_of cut.now)) }
 {
-    let stays = is_kept(alloc, cut, path, value)?;
-    if stays {
-        return Ok(Some(unchanged(alloc, cut)?));
-    }
-    if let Some(segments) = value_put_at(alloc, cut, path, value)? {
-        return Ok(Some(segments));
-    }
-    put_in_flow(alloc, cut, path, value)
+    let outside = value_put_at(alloc, cut, path, value)?;
+    let Some(segments) = outside else {
+        return replaced_inside(alloc, cut, path, value);
+    };
+    unless_kept(alloc, cut, path, value, Some(segments))
 }
 
 /// One more item or entry at the end of the collection at a path.
