@@ -72,7 +72,7 @@ module _ (n : ℕ) (s : Step) (ss : List Step) (c : Cut) (e : PlacedEntry) (ther
   abbrev under : ℕ
   under = column_below l (mark_column e.row) (mark_key e.row.mark) v
 
-  filled : IsFilledValue v
+  pub filled : IsFilledValue v
   filled = record { filled = filled_is v full; value = tree }
 
   column : column_under l w.mark v ≡ under
@@ -86,13 +86,13 @@ module _ (n : ℕ) (s : Step) (ss : List Step) (c : Cut) (e : PlacedEntry) (ther
     abbrev value_rows : List Row
     value_rows = node_rows l under final v
 
-    held_is : IsHolding n s ss c h left (rows_text value_rows z)
+    pub held_is : IsHolding n s ss c h left (rows_text value_rows z)
     held_is = holding n s ss c e there last k tail (rows_text value_rows z) (is (rows_text value_rows z)) same
 
-    final_ends : IsEnd (mark_column e.row) final z
+    pub final_ends : IsEnd (mark_column e.row) final z
     final_ends = end_is n s ss c h final (break_tail final z ends)
 
-    quiet : line_comment final ≡ None
+    pub quiet : line_comment final ≡ None
     quiet = quiet_tail final z (break_tail final z ends) refl
 
     abbrev pub rows_put : List Row

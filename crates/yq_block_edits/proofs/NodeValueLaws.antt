@@ -82,7 +82,7 @@ nothing_is (Block space anchor block) h = absurd (false≢true h)
 
 -- white space stands before another node there, where it does before the old one
 core_apart : (core : inline.Node) (n : ℤ) (x : Content) (rest : List ℕ) → IsContent n x rest → separates (content_text x rest) ≡ true → separates (content_text (put_core core x) rest) ≡ true
-core_apart core n (Nothing tail) rest h a = refl
+core_apart core n (Nothing tail) _ h a = refl
 core_apart core n (Inline space old tail) rest h a = space_apart space (node_text old (tail ++ rest)) (node_text (recore core old) (tail ++ rest)) h.0 a (inline_starts n old (tail ++ rest) h.1).joined
 core_apart core n (Block space anchor block) rest h a = a
 
