@@ -1,5 +1,5 @@
 -- Reading (own; a reader may skip it): the rows of documents among those of a cut, and items that stay known in other cuts.
-use Rattle.std.specs.Prelude.{◌≡◌, ℕ, zero, suc, Bool, true, false, ◌+◌, List, [], ◌∷◌, ◌++◌, length, drop, slice_get, Option, Some, None, option_map}
+use Rattle.std.specs.Prelude.{◌≡◌, ℕ, zero, suc, Bool, true, false, ◌+◌, List, [], ◌∷◌, ◌++◌, length, map, drop, slice_get, Option, Some, None, option_map}
 use Rattle.yq_rows.specs.Grammar.{IsCut, begins_document}
 use Rattle.yq_rows.specs.Rows.{Row, Cut}
 use Rattle.yq_rows.specs.Touched.{TouchesOnly}
@@ -7,11 +7,16 @@ use Rattle.yq_rows.specs.View.{rows_of, Bound, Shown, shown}
 use Rattle.yq_documents.specs.Documents.{document_parts}
 use Rattle.yq_documents.specs.Reading.{all_documents, cut_of}
 use Rattle.yq_documents.specs.Seats.{document_row}
-use Rattle.yq_walk.specs.RowWalk.{IsKnown, AreKnown, HasDocument, line_number}
+use Rattle.yq_inline.specs.Entries.{step_of}
+use Rattle.yq_lines.specs.Ends.{reached}
+use Rattle.yq_scalar.specs.Paths.{Step}
+use Rattle.yq_walk.specs.Lines.{lines_of}
+use Rattle.yq_walk.specs.RowWalk.{IsKnown, AreKnown, HasDocument, IsLine, line_number}
 use Rattle.yq_walk.specs.declared.spot.KnownItem.{KnownItem}
 use Rattle.yq_walk.specs.declared.spot.KnownItems.{KnownItems}
 use Rattle.yq_walk.specs.declared.spot.Spot.{Spot}
 use Rattle.yq_walk.specs.declared.spot.Stretch.{Stretch}
+use Rattle.yq_places.specs.declared.places.known_line.KnownLine.{KnownLine}
 
 -- An item stays known in each text in which the items of its cut stay that end in front of so many bytes.
 abbrev pub StaysKnown : ℕ → Cut → KnownItem → Type 0
@@ -20,6 +25,15 @@ StaysKnown front c k = (new : Cut) (back : ℕ) → TouchesOnly front back c new
 -- The same of several items.
 abbrev pub StayKnown : ℕ → Cut → KnownItems → Type 0
 StayKnown front c ks = (new : Cut) (back : ℕ) → TouchesOnly front back c new → AreKnown (shown new).rows ks
+
+-- The line of a document to which all of these steps lead.
+pub record IsLineAt (s : Shown) (d : Stretch) (steps : List Step) (q : Spot) : Type 0 where
+  pub line : IsLine s d q
+  pub leads : (h : HasDocument s d) → reached steps (lines_of h.stand.rows) ≡ Some (line_number d h.stand.rows q, [])
+
+-- It is known to which line the steps of a path lead.
+abbrev pub IsKnownLine : Shown → KnownLine → Type 0
+IsKnownLine s k = IsLineAt s k.document (map step_of k.steps.now) k.at
 
 -- these numbers of document n, by where parts end: k rows stand before the first of them, of which it is known whether it is a document
 abbrev pub begin_rows : Bool → ℕ → ℕ → List Bound → Option (ℕ × ℕ)

@@ -1,14 +1,15 @@
 //! A text with its cut.
-ghost use Rattle.std.specs.Prelude.{◌≡◌, ℕ, List, Some, true};
+ghost use Rattle.std.specs.Prelude.{◌≡◌, ℕ, IfSome, List, Some, true};
 ghost use Rattle.std.specs.Str.{IsUtf8};
 ghost use Rattle.yq_text.specs.Halves.{whole};
 ghost use Rattle.yq_rows.specs.Grammar.{IsCut};
 ghost use Rattle.yq_rows.specs.View.{shown};
 ghost use Rattle.yq_documents.specs.Reading.{all_documents, cut_of, read_at};
 ghost use Rattle.yq_walk.specs.RowWalk.{AreKnown};
-ghost use Rattle.yq_places.specs.RowWalk.{HasCut};
+ghost use Rattle.yq_places.specs.RowWalk.{HasCut, IsKnownLine};
 
 use crate::places::halves::is_text;
+use crate::places::known_line::KnownLine;
 use std::marker::Model;
 use yq_rows::Rows;
 use yq_text::Halves;
@@ -20,6 +21,7 @@ pub struct CutText<'d, 't> {
     pub(crate) text: Halves<'t>,
     pub(crate) rows: &'d Rows<'t>,
     pub(crate) known: KnownItems,
+    pub(crate) line: Option<KnownLine<'d>>,
 }
 
 impl<'d, 't> Model for CutText<'d, 't> {
@@ -27,7 +29,8 @@ impl<'d, 't> Model for CutText<'d, 't> {
 
     ghost view = { λ c. whole c.text };
 
-    ghost invariant = { λ c. HasCut (whole c.text) c.rows.now × AreKnown c.rows.now.rows c.known };
+    ghost invariant = { λ c. HasCut (whole c.text) c.rows.now × AreKnown c.rows.now.rows c.known ×
+        IfSome c.line (IsKnownLine c.rows.now) };
 }
 
 impl<'d, 't> CutText<'d, 't> {
@@ -46,7 +49,32 @@ impl<'d, 't> CutText<'d, 't> {
         requires known { AreKnown rows.now.rows known }
         ensures { result ≡ whole text.entry }
     {
-        CutText { text, rows, known }
+        CutText {
+            text,
+            rows,
+            known,
+            line: None,
+        }
+    }
+
+    /// The same, where the line of a path is known as well, if that is one.
+    pub(crate) fn with_line(
+        text: Halves<'t>,
+        rows: &'d Rows<'t>,
+        known: KnownItems,
+        line: Option<KnownLine<'d>>,
+    ) -> CutText<'d, 't>
+        requires cut { HasCut (whole text) rows.now }
+        requires known { AreKnown rows.now.rows known }
+        requires line { IfSome line (IsKnownLine rows.now) }
+        ensures { result ≡ whole text.entry }
+    {
+        CutText {
+            text,
+            rows,
+            known,
+            line,
+        }
     }
 
     /// The text.
@@ -74,6 +102,13 @@ impl<'d, 't> CutText<'d, 't> {
         ensures { result.now ≡ shown (cut_of self.now) }
     {
         self.rows
+    }
+
+    /// The line that is known.
+    pub(crate) fn line(&self) -> Option<KnownLine<'d>>
+        ensures { IfSome result (IsKnownLine (shown (cut_of self.now))) }
+    {
+        self.line
     }
 
     /// The items that are known.

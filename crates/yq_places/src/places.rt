@@ -12,6 +12,7 @@ pub mod halves;
 pub mod held;
 pub mod known_at;
 pub mod known_end;
+pub mod known_line;
 pub mod lines_above;
 pub mod lines_cut;
 pub mod node_at;

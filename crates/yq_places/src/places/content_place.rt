@@ -52,7 +52,7 @@ fn content_of(rows: &Rows<'_>, document: Stretch, known: KnownItems, steps: &[St
     ensures { InEach rows.now document (λ first c rs n. option_map span result ≡
         spec.line_content_of first c rs (map step_of steps.now)) }
 {
-    let (place, left) = node_place(rows, document, known, steps)?;
+    let (place, left) = node_place(rows, document, known, None, steps)?;
     if !left.is_empty() {
         return None;
     }

@@ -5,10 +5,11 @@ ghost use Rattle.yq_rows.specs.View.{shown};
 ghost use Rattle.yq_documents.specs.Reading.{cut_of};
 ghost use Rattle.yq_walk.specs.Extents.{IsShown};
 ghost use Rattle.yq_walk.specs.RowWalk.{AreKnown, HasDocument, IsKnown, IsLine};
-ghost use Rattle.yq_places.specs.RowWalk.{StayKnown, StaysKnown};
+ghost use Rattle.yq_places.specs.RowWalk.{IsKnownLine, StayKnown, StaysKnown};
 
 use crate::cut_text::CutText;
 use crate::places::known_end::known_end;
+use crate::places::known_line::KnownLine;
 use yq_documents::Path;
 use yq_inline::Step;
 use yq_rows::Rows;
@@ -97,26 +98,41 @@ fn known_by(
     known_to(rows, document, known, under, floor, at.row)
 }
 
-/// The items on the way of steps that passed most rows, as items that are known.
+/// The items on the way of steps that passed most rows, as items that are known, and the line to which
+/// the steps lead, if none goes on in the head of one.
 #[inline(always)]
-fn known_along(rows: &Rows<'_>, document: Stretch, known: KnownItems, steps: &[Step]) -> KnownItems
+fn known_along<'s>(
+    rows: &Rows<'_>,
+    document: Stretch,
+    known: KnownItems,
+    steps: &'s [Step],
+) -> (KnownItems, Option<KnownLine<'s>>)
     requires shown { IsShown rows.now }
     requires document { HasDocument rows.now document }
     requires known { AreKnown rows.now.rows known }
-    ensures { AreKnown rows.now.rows result }
+    ensures known { AreKnown rows.now.rows result.0 }
+    ensures line { IfSome result.1 (IsKnownLine rows.now) }
 {
     let mut from = None;
     let mut found = KnownItems::none();
     let mut left = steps;
     'steps: while let [step, others @ ..] = left {
         let Some(Next::Line(at)) = next_at(rows, document, known, from, step) else {
-            return found;
+            return (found, None);
         };
         found = with_item(rows, found, known_by(rows, document, known, from, at));
         from = Some(at);
         left = others;
     }
-    found
+    let Some(at) = from else {
+        return (found, None);
+    };
+    let line = KnownLine {
+        document,
+        steps,
+        at,
+    };
+    (found, Some(line))
 }
 
 /// A known item, or the one before it, if its row begins in front of so many bytes.
@@ -162,8 +178,23 @@ impl<'d, 't> CutText<'d, 't> {
         let Some(document) = self.stretch(path.doc) else {
             return CutText::resumed(text, rows, KnownItems::none());
         };
-        let known = known_along(rows, document, self.known(), &path.steps);
+        let (known, _) = known_along(rows, document, self.known(), &path.steps);
         CutText::resumed(text, rows, known)
+    }
+
+    /// The same, where the line to which the path leads is known as well, if none of its steps goes on in
+    /// the head of one.
+    #[inline(always)]
+    pub fn to_line(&self, path: &'d Path) -> CutText<'d, 't>
+        ensures { result ≡ self.now }
+    {
+        let text = self.whole();
+        let rows = self.rows();
+        let Some(document) = self.stretch(path.doc) else {
+            return CutText::resumed(text, rows, KnownItems::none());
+        };
+        let (known, line) = known_along(rows, document, self.known(), &path.steps);
+        CutText::with_line(text, rows, known, line)
     }
 
     /// The same text, where the end of the collection at a path is known as well.
@@ -177,7 +208,7 @@ impl<'d, 't> CutText<'d, 't> {
             return CutText::resumed(text, rows, known);
         };
         let end = known_end(rows, document, known, &path.steps);
-        CutText::resumed(text, rows, with_item(rows, known, end))
+        CutText::with_line(text, rows, with_item(rows, known, end), self.line())
     }
 
     /// The items that are known, or those before them, as far as walks may go on from there in each text

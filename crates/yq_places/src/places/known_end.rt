@@ -100,7 +100,7 @@ pub(crate) fn known_end(
     requires known { AreKnown rows.now.rows known }
     ensures { IfSome result (IsKnown rows.now.rows) }
 {
-    let (NodePlace::Lines(under, floor), _) = node_place(rows, document, known, steps)? else {
+    let (NodePlace::Lines(under, floor), _) = node_place(rows, document, known, None, steps)? else {
         return None;
     };
     if under.row >= document.end {

@@ -160,7 +160,8 @@ impl<'t> CutText<'_, 't> {
         let Some(document) = self.stretch(doc) else {
             return Ok(None);
         };
-        let Some((place, left)) = node_place(rows, document, self.known(), steps) else {
+        let Some((place, left)) = node_place(rows, document, self.known(), self.line(), steps)
+        else {
             return Ok(None);
         };
         let Some(at) = place_line(rows, document, place) else {

@@ -5,11 +5,13 @@ ghost use Rattle.yq_lines.specs.Outline.{Line};
 ghost use Rattle.yq_walk.specs.Lines.{lines_of};
 ghost use Rattle.yq_walk.specs.Extents.{IsShown};
 ghost use Rattle.yq_places.specs.NodeReading as spec;
+ghost use Rattle.yq_places.specs.RowWalk.{IsKnownLine};
 ghost use Rattle.yq_walk.specs.RowWalk.{AreKnown, HasDocument, HasRows, IsLine, line_number};
 
+use crate::places::known_line::{KnownLine, reach_by};
 use yq_inline::Step;
 use yq_rows::Rows;
-use yq_walk::{KnownItems, Spot, Stretch, begins_with_node, has_head, level_at, next, reach};
+use yq_walk::{KnownItems, Spot, Stretch, begins_with_node, has_head, level_at, next};
 
 /// Where a node is written.
 #[derive(Clone, Copy, Debug)]
@@ -48,11 +50,13 @@ pub(crate) fn node_place<'s>(
     rows: &Rows<'_>,
     document: Stretch,
     known: KnownItems,
+    line: Option<KnownLine<'_>>,
     steps: &'s [Step],
 ) -> Option<(NodePlace, &'s [Step])>
     requires shown { IsShown rows.now }
     requires document { HasDocument rows.now document }
     requires known { AreKnown rows.now.rows known }
+    requires line { IfSome line (IsKnownLine rows.now) }
     ensures within { IfSome result (λ x. spec.IsPlace rows.now document x.0) }
     ensures found { (h : HasDocument rows.now document) →
         option_map (spec.node_place_told document h.stand.rows) result ≡
@@ -65,7 +69,7 @@ pub(crate) fn node_place<'s>(
         };
         return Some((NodePlace::Lines(first, 0), steps));
     }
-    let (at, left) = reach(rows, document, known, steps)?;
+    let (at, left) = reach_by(rows, document, known, line, steps)?;
     Some((line_place(rows, document, at, left), left))
 }
 

@@ -1,18 +1,20 @@
 //! The rows of items and entries among those of a text.
-ghost use Rattle.std.specs.Prelude.{◌≡◌, map, option_map};
+ghost use Rattle.std.specs.Prelude.{◌≡◌, map, option_map, IfSome};
 ghost use Rattle.yq_inline.specs.Entries.{step_of};
 ghost use Rattle.yq_documents.specs.Located.{steps_of};
 ghost use Rattle.yq_documents.specs.Reading.{cut_of};
 ghost use Rattle.yq_documents.specs.Seats.{seat_of};
 ghost use Rattle.yq_walk.specs.Extents.{IsShown};
 ghost use Rattle.yq_walk.specs.RowWalk.{AreKnown, HasDocument};
+ghost use Rattle.yq_places.specs.RowWalk.{IsKnownLine};
 ghost use Rattle.yq_places.specs.StandingReading as reading;
 
 use crate::cut_text::CutText;
+use crate::places::known_line::{KnownLine, line_by};
 use yq_documents::Path;
 use yq_inline::Step;
 use yq_rows::Rows;
-use yq_walk::{KnownItems, Stretch, level_at, line_at, lines_before_mark, rows_under};
+use yq_walk::{KnownItems, Stretch, level_at, lines_before_mark, rows_under};
 
 /// The rows of an item or entry.
 #[derive(Clone, Copy, Debug)]
@@ -33,17 +35,19 @@ fn entry_along(
     rows: &Rows<'_>,
     document: Stretch,
     known: KnownItems,
+    line: Option<KnownLine<'_>>,
     steps: &[Step],
 ) -> Option<PlacedEntry>
     requires shown { IsShown rows.now }
     requires document { HasDocument rows.now document }
     requires known { AreKnown rows.now.rows known }
+    requires line { IfSome line (IsKnownLine rows.now) }
     ensures { (h : HasDocument rows.now document) →
         option_map reading.told result ≡
         option_map (reading.seat_numbers document.first h.stand.rows)
         (seat_of (map step_of steps.now) h.stand.rows) }
 {
-    let at = line_at(rows, document, known, steps)?;
+    let at = line_by(rows, document, known, line, steps)?;
     let level = level_at(rows, at);
     Some(PlacedEntry {
         row: at.row,
@@ -62,6 +66,12 @@ impl<'t> CutText<'_, 't> {
     {
         let document = self.stretch(path.doc)?;
         let _whole = self.whole();
-        entry_along(self.rows(), document, self.known(), &path.steps)
+        entry_along(
+            self.rows(),
+            document,
+            self.known(),
+            self.line(),
+            &path.steps,
+        )
     }
 }

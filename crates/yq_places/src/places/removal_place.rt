@@ -1,5 +1,5 @@
 //! What is taken out of a text with an item or entry of a block collection.
-ghost use Rattle.std.specs.Prelude.{◌≡◌, ◌<◌, ◌≤◌, ◌+◌, ◌-◌, ◌++◌, ℕ, List, Option, drop, take, length, map, option_map, Some};
+ghost use Rattle.std.specs.Prelude.{◌≡◌, ◌<◌, ◌≤◌, ◌+◌, ◌-◌, ◌++◌, ℕ, List, Option, drop, take, length, map, option_map, IfSome, Some};
 ghost use Rattle.yq_text.specs.Halves.{whole};
 ghost use Rattle.yq_inline.specs.Entries.{step_of};
 ghost use Rattle.yq_rows.specs.Grammar.{IsCut};
@@ -15,9 +15,11 @@ ghost use Rattle.yq_documents.specs.Reading.{cut_of};
 ghost use Rattle.yq_places.specs.PlacedRows.{PlacedPart};
 ghost use Rattle.yq_places.specs.RemovalPlaces as spec;
 ghost use Rattle.yq_places.specs.RemovalReading as reading;
+ghost use Rattle.yq_places.specs.RowWalk.{IsKnownLine};
 ghost use Rattle.yq_walk.specs.RowWalk.{AreKnown, HasDocument};
 
 use crate::cut_text::CutText;
+use crate::places::known_line::{KnownLine, line_by};
 use crate::places::row_place::row_stop;
 use yq_documents::{Path, last_run};
 use yq_inline::Step;
@@ -25,7 +27,7 @@ use yq_rows::Rows;
 use yq_scalar::block_lines::is_blank;
 use yq_scalar::lines::split_line;
 use yq_text::Halves;
-use yq_walk::{KnownItems, Stretch, behind, line_at, row_start};
+use yq_walk::{KnownItems, Stretch, behind, row_start};
 
 /// What a gap that comes to stand behind a block scalar asks.
 #[derive(Clone, Copy, Debug)]
@@ -83,17 +85,19 @@ fn own_rows(
     rows: &Rows<'_>,
     document: Stretch,
     known: KnownItems,
+    line: Option<KnownLine<'_>>,
     steps: &[Step],
 ) -> Option<(usize, usize, usize)>
     requires shown { IsShown rows.now }
     requires document { HasDocument rows.now document }
     requires known { AreKnown rows.now.rows known }
+    requires line { IfSome line (IsKnownLine rows.now) }
     ensures { (h : HasDocument rows.now document) →
         option_map (λ m. (m.0, m.1, m.2)) result ≡
         option_map (reading.marks document.first)
         (spec.own_rows (map step_of steps.now) h.stand.rows) }
 {
-    let at = line_at(rows, document, known, steps)?;
+    let at = line_by(rows, document, known, line, steps)?;
     if at.line != 0 {
         return None;
     }
@@ -184,7 +188,13 @@ impl<'t> CutText<'_, 't> {
     {
         let document = self.stretch(path.doc)?;
         let _whole = self.whole();
-        own_rows(self.rows(), document, self.known(), &path.steps)
+        own_rows(
+            self.rows(),
+            document,
+            self.known(),
+            self.line(),
+            &path.steps,
+        )
     }
 
     /// What is taken out of the text with the item or entry at a path: the lines of the comment above

@@ -1,0 +1,10 @@
+use Rattle.std.proofs.Common.{[], map, refl, sym}
+use Rattle.yq_inline.specs.Entries.{step_of}
+use Rattle.yq_lines.proofs.PathLines.{last_line}
+use Rattle.yq_walk.specs.Lines.{lines_of}
+use Rattle.yq_walk.specs.RowWalk.{line_number}
+use Rattle.yq_places.proofs.places.known_line.line_by.Goals as goal
+
+pub returns-in-Some-clause-found : goal.returns-in-Some-clause-found
+returns-in-Some-clause-found c = λ h.
+    last_line (map step_of c.args.steps.now) [] (lines_of h.stand.rows) (line_number c.args.document h.stand.rows c.in-Some.at) (sym (c.in-Some.ensures.leads h)) refl
