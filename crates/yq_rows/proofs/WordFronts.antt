@@ -1,9 +1,12 @@
 -- What a letter, a digit or an LF in front tells.
-use Rattle.std.proofs.Common.{◌≡◌, ℕ, true, false, eqb, eqb-true, Option, Some, List, [], ◌∷◌, take, drop, refl}
-use Rattle.std.proofs.lemmas.Bool.{false≢true}
-use Rattle.yq_scalar.specs.Text.{upto, cut, front, line_len}
+use Rattle.std.proofs.Common.{◌≡◌, ℕ, Bool, true, false, ◌||◌, ◌&&◌, not, eqb, eqb-true, Option, Some, List, [], ◌∷◌, take, drop, refl, sym, ap, ◌∙◌, inl, inr}
+use Rattle.std.proofs.lemmas.Bool.{false≢true, or_cases, and_right, cases_Bool}
+use Rattle.std.specs.List.{prefix_len}
+use Rattle.yq_scalar.specs.Lines.{is_hash}
+use Rattle.yq_scalar.specs.Text.{upto, cut, front, line_len, is_empty, ends_line, past_white}
 use Rattle.yq_scalar.specs.Plain.{begins_plain, ends_plain, plain_at}
 use Rattle.yq_scalar.proofs.Bools.{at_byte}
+use Rattle.yq_scalar.proofs.SpaceLaws.{prefix_drop, white_drop}
 use Rattle.yq_inline.specs.Nodes.{first_is}
 use Rattle.yq_inline.specs.Reading.{scalar_at}
 use Rattle.yq_inline.specs.Scalars.{is_quoted, begins_scalar}
@@ -70,6 +73,32 @@ pub dash_gap : (t : List ℕ) → first_is 45 t ≡ true → begins_gap t ≡ fa
 unfolding upto
 dash_gap [] h = refl
 dash_gap (b ∷ bs) h = rw (eqb-true b 45 h) refl
+
+-- a letter, a digit or a dash is in front (own)
+abbrev pub row_front : List ℕ → Bool
+row_front t = front is_word t || first_is 45 t
+
+pub row_gap : (t : List ℕ) → row_front t ≡ true → begins_gap t ≡ false
+row_gap t h = elim (or_cases (front is_word t) (first_is 45 t) h) [ inl w ↦ word_gap t w | inr d ↦ dash_gap t d ]
+
+-- past the spaces in front, and past the white space behind them
+past_behind : (t : List ℕ) → past_white (drop (prefix_len (λ b. eqb b 32) t) t) ≡ past_white t
+past_behind [] = refl
+past_behind (b ∷ l) = elim (cases_Bool (eqb b 32)) [
+  | inl e ↦ ap past_white (prefix_drop (λ x. eqb x 32) b l ∙ rw e refl) ∙ past_behind l ∙ sym (white_drop b l ∙ rw e refl)
+  | inr e ↦ ap past_white (prefix_drop (λ x. eqb x 32) b l ∙ rw e refl)
+]
+
+pub behind_spaces : (t u : List ℕ) (n : ℕ) → n ≡ prefix_len (λ b. eqb b 32) t → u ≡ drop n t → past_white t ≡ past_white u
+behind_spaces t u n e back = sym (ap past_white (back ∙ ap (λ k. drop k t) e) ∙ past_behind t)
+
+row_past : (t : List ℕ) → row_front t ≡ true → (ends_line (past_white t) || is_hash (past_white t)) ≡ false
+row_past [] h = absurd (false≢true h)
+row_past (b ∷ bs) h = row_gap (b ∷ bs) h
+
+pub indented_gap : (t u : List ℕ) (n : ℕ) → n ≡ prefix_len (λ b. eqb b 32) t → u ≡ drop n t → row_front u ≡ true → begins_gap t ≡ false
+indented_gap t u n e back h =
+    ap (λ w. not (is_empty t) && (ends_line w || is_hash w)) (behind_spaces t u n e back) ∙ and_right (not (is_empty t)) (ends_line (past_white u) || is_hash (past_white u)) (row_past u h)
 
 pub feed_tail : (t : List ℕ) → first_is 10 t ≡ true → tail_at t ≡ Some (take 1 t, drop 1 t)
 unfolding tail_at upto line_len

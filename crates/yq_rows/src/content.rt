@@ -228,6 +228,7 @@ fn scalar_fault(
 }
 
 /// A scalar without an anchor behind white space, and its tail. Only its end is found.
+#[inline(always)]
 fn read_scalar_content<'t>(
     whole: &str,
     mark: Mark<'t>,

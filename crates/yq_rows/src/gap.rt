@@ -1,12 +1,14 @@
 //! Blank lines and comment lines.
-ghost use Rattle.std.specs.Prelude.{◌≡◌};
+ghost use Rattle.std.specs.Prelude.{◌≡◌, ◌||◌};
 ghost use Rattle.yq_scalar.specs.Lines as lines;
+ghost use Rattle.yq_scalar.specs.Text.{front};
+ghost use Rattle.yq_inline.specs.Nodes as nodes;
 ghost use Rattle.yq_rows.specs.Reading as spec;
 
 use crate::words::begins_word;
 use yq_inline::pieces::first_is;
 use yq_scalar::lines::line_len;
-use yq_scalar::text::{ends_line, past_white};
+use yq_scalar::text::{ends_line, past_white, spaces_len};
 
 /// Whether a `#` is in front.
 pub(crate) fn is_hash(text: &[u8]) -> bool
@@ -15,21 +17,33 @@ pub(crate) fn is_hash(text: &[u8]) -> bool
     matches!(text, [b'#', ..])
 }
 
+/// Whether a letter, a digit or a dash is in front.
+fn begins_row(text: &[u8]) -> bool
+    ensures { result ≡ (front spec.is_word text.now || nodes.first_is 45 text.now) }
+{
+    begins_word(text) || first_is(b'-', text)
+}
+
 /// Whether a blank line or a comment line is in front (YAML 1.2.2, sections 6.4
 /// and 6.6).
-#[tactic(auto, using(crate::proofs::WordFronts::word_gap, crate::proofs::WordFronts::dash_gap))]
+#[tactic(auto, using(crate::proofs::WordFronts::row_gap, crate::proofs::WordFronts::indented_gap, crate::proofs::WordFronts::behind_spaces))]
 pub fn begins_gap(text: &[u8]) -> bool
     ensures { result ≡ spec.begins_gap text.now }
 {
-    if begins_word(text) || first_is(b'-', text) {
+    if begins_row(text) {
         return false;
     }
-    let next = past_white(text);
+    let behind = text.split_at(spaces_len(text)).1;
+    if begins_row(behind) {
+        return false;
+    }
+    let next = past_white(behind);
     !text.is_empty() && (ends_line(next) || is_hash(next))
 }
 
 /// How long the gap in front is, in bytes.
 #[tactic(auto, using(crate::proofs::GapLaws::gap_step, crate::proofs::GapLaws::gap_stop))]
+#[inline(always)]
 fn gap_len(text: &[u8]) -> usize
     ensures { result ≡ spec.gap_len text.now }
 {
@@ -41,6 +55,7 @@ fn gap_len(text: &[u8]) -> usize
 }
 
 /// The text cut behind the gap in front.
+#[inline(always)]
 pub(crate) fn split_gap(text: &str) -> (&str, &str)
     ensures { (result.0.now, result.1.now) ≡ spec.cut_gap text.now }
 {

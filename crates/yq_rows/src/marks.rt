@@ -118,6 +118,7 @@ fn has_key_room(key: &str, colon: &str) -> bool
 
 /// The key in front, what stands behind it up to its `:`, and what follows.
 #[tactic(auto, unfolding(crate::specs::Reading::key_at))]
+#[inline(always)]
 fn find_key(text: &str) -> Option<(&str, &str, &str)>
     ensures { option_map (λ x. (x.0.now, x.1.now, x.2.now)) result ≡ spec.key_at text.now }
 {
