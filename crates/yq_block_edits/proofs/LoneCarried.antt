@@ -1,5 +1,5 @@
 -- A value in the place of a node alone on its line.
-use Rattle.std.proofs.Common.{◌≡◌, ◌⊎◌, inl, inr, ℕ, ◌≤◌, not, ◌||◌, true, cond, List, [], ◌∷◌, ◌++◌, length, replicate, Some, refl, sym, ap, ◌∙◌, subst, append_assoc, append-nil}
+use Rattle.std.proofs.Common.{◌≡◌, ◌⊎◌, inl, inr, ℕ, ◌≤◌, not, ◌||◌, true, false, cond, List, [], ◌∷◌, ◌++◌, length, replicate, Some, refl, sym, ap, ◌∙◌, subst, append_assoc, append-nil}
 use Rattle.std.proofs.lemmas.Bool.{false≢true}
 use Rattle.yq_scalar.specs.Characters.{text_limit}
 use Rattle.yq_scalar.specs.Paths.{Step, change}
@@ -15,7 +15,7 @@ use Rattle.yq_rows.specs.View.{slices}
 use Rattle.yq_rows.proofs.CharacterLaws.{ends_after}
 use Rattle.yq_rows.proofs.NodePieces.{ends_behind}
 use Rattle.yq_rows.proofs.seams.SeamLaws.{rows_text-append}
-use Rattle.yq_documents.specs.Documents.{begins_bare, has_begin, lead_of}
+use Rattle.yq_documents.specs.Documents.{lead_of}
 use Rattle.yq_documents.specs.Reading.{documents, read_at, root_of}
 use Rattle.yq_documents.specs.TreeEdits.{replaced}
 use Rattle.yq_places.specs.CommentPlaces.{line_text}
@@ -116,7 +116,7 @@ module _ (n : ℕ) (steps : List Step) (v : Node) (c : Cut) (read : read_at (cut
   -- ---- its pieces
 
   lies : LiesIn d
-  lies = lies_in (begins_bare c || not (has_begin c)) true n c d (document_known (cut_text c) c n d.part old).cut.parts placed
+  lies = lies_in n c d (document_known (cut_text c) c n d.part old).cut.parts placed
 
   abbrev indent : List ℕ
   indent = (base ++ r.gap) ++ replicate r.column 32

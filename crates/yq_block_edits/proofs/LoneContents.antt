@@ -41,7 +41,8 @@ use Rattle.yq_places.proofs.RunSpans.{rows_then}
 use Rattle.yq_places.proofs.WrittenLaws.{may_follow}
 use Rattle.yq_change.specs.Changed.{IsChanged, put_document}
 use Rattle.yq_change.specs.Contents.{TakesContent, recontent}
-use Rattle.yq_change.specs.DocumentRows.{IsDocumentPart, behind_document, part_number}
+use Rattle.yq_change.specs.DocumentRows.{IsDocumentPart, behind_document}
+use Rattle.yq_documents.specs.PartNumbers.{part_number}
 use Rattle.yq_change.specs.InlineRows.{IsValueNode, LeadsToLone}
 use Rattle.yq_change.specs.Moved.{dash_lines}
 use Rattle.yq_change.specs.Rooms.{is_block_root}

@@ -25,7 +25,8 @@ use Rattle.yq_rows.proofs.splices.PartPlaces.{part_ends}
 use Rattle.yq_documents.specs.Documents.{ContentHasFitKeys}
 use Rattle.yq_walk.specs.Lines.{content_anchor, head_of, tail_of, lines_of, mark_of}
 use Rattle.yq_documents.specs.Nodes.{anchor_of}
-use Rattle.yq_change.specs.DocumentRows.{behind_document, part_number}
+use Rattle.yq_change.specs.DocumentRows.{behind_document}
+use Rattle.yq_documents.specs.PartNumbers.{part_number}
 use Rattle.yq_change.specs.InlineRows.{IsValueNode}
 use Rattle.yq_change.proofs.CoreLaws.{put_core, recore}
 use Rattle.yq_change.proofs.InlineReplaceLaws.{deeper_entry, tail_ends_plain}

@@ -36,7 +36,8 @@ use Rattle.yq_change.proofs.BlockChangeLaws.{entry_appended}
 use Rattle.yq_change.proofs.PlacedLaws.{same_parts}
 use Rattle.yq_change.specs.Appends.{inserted, BlockAppended}
 use Rattle.yq_change.specs.LineRows.{Begins, StandApart, AreDeep}
-use Rattle.yq_change.specs.DocumentRows.{behind_document, part_number, RowsFit}
+use Rattle.yq_change.specs.DocumentRows.{behind_document, RowsFit}
+use Rattle.yq_documents.specs.PartNumbers.{part_number}
 use Rattle.yq_change.proofs.ApartLaws.{apart_skip, apart_deep, deep_less, even_deep, lines_apart, block_some}
 use Rattle.yq_change.proofs.ColumnLaws.{block_is_deeper, next_allowed}
 use Rattle.yq_change.proofs.PartLaws.{part_numbered, document_known, document_spliced, is_put, short_stays}

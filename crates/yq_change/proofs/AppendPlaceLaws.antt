@@ -24,7 +24,8 @@ use Rattle.yq_walk.specs.Lines.{mark_line, lines_from, row_lines, lines_of}
 use Rattle.yq_documents.specs.Reading.{outline_of}
 use Rattle.yq_places.proofs.UnderExchange.{lines_append}
 use Rattle.yq_change.specs.CollectionPlaces.{BeginsAt, IsCollectionEnd}
-use Rattle.yq_change.specs.DocumentRows.{IsDocumentPart, behind_document, part_number}
+use Rattle.yq_change.specs.DocumentRows.{IsDocumentPart, behind_document}
+use Rattle.yq_documents.specs.PartNumbers.{part_number}
 use Rattle.yq_change.specs.LineRows.{Begins, AreDeep}
 use Rattle.yq_change.specs.Moved.{dash_lines}
 use Rattle.yq_change.specs.Siblings.{HasEntries, IsEntry}

@@ -9,6 +9,7 @@ use Rattle.yq_lines.specs.Comments.{head_comment}
 use Rattle.yq_rows.specs.Grammar.{no_rows, begins_document}
 use Rattle.yq_rows.specs.Rows.{Row, Part, Cut, last, marked, cut_text}
 use Rattle.yq_documents.specs.Documents.{Document, IsRoot, parts_from, has_begin, begins_bare, document_parts, lead_of}
+use Rattle.yq_documents.specs.PartNumbers.{number_from}
 use Rattle.yq_rows.specs.Splices.{first_gap}
 use Rattle.yq_walk.specs.Lines.{lines_from, lines_of}
 use Rattle.yq_lines.specs.Outline.{Line, Outline, end, row, flatten, value, null_node}
@@ -18,53 +19,22 @@ use Rattle.yq_places.proofs.DocumentLaws.{is_document_of}
 use Rattle.yq_places.proofs.ReadLaws.{text_takes, text_again}
 use Rattle.yq_scalar.proofs.Bools.{guard_then}
 use Rattle.yq_change.specs.Siblings.{StandsSomewhere}
-use Rattle.yq_change.specs.Changed.{put_from, put_document, KeepsRows, DocumentPut, changed, PartStands, DocumentChanged, first_comment, LeadIsFirst}
+use Rattle.yq_change.specs.Changed.{put_part, put_document, KeepsRows, DocumentPut, changed, PartStands, DocumentChanged, first_comment, LeadIsFirst}
 use Rattle.yq_documents.specs.TreeEdits.{change_nth}
 
 -- parts
-from_put : (is : Bool) (k : ℕ) (q : Part) (c : Cut) → parts_from is (put_from is k q c) ≡ change_nth k (λ x. q) (parts_from is c)
-from_put true zero q (last p) = refl
-from_put true (suc k) q (last p) = refl
-from_put false zero q (last p) = refl
-from_put false (suc k) q (last p) = refl
-from_put true zero q (marked p marker c) = refl
-from_put true (suc k) q (marked p marker c) = ap (λ x. p ∷ x) (from_put (begins_document marker) k q c)
-from_put false zero q (marked p marker c) = from_put (begins_document marker) zero q c
-from_put false (suc k) q (marked p marker c) = from_put (begins_document marker) (suc k) q c
+from_put : (is : Bool) (k : ℕ) (p q : Part) (c : Cut) → slice_get (parts_from is c) k ≡ Some p → parts_from is (put_part (number_from is k c) q c) ≡ change_nth k (λ x. q) (parts_from is c)
+from_put true zero p q (last x) e = refl
+from_put true (suc k) p q (last x) e = absurd (cc)
+from_put false k p q (last x) e = absurd (cc)
+from_put true zero p q (marked x marker c) e = refl
+from_put true (suc k) p q (marked x marker c) e = ap (λ ps. x ∷ ps) (from_put (begins_document marker) k p q c e)
+from_put false k p q (marked x marker c) e = from_put (begins_document marker) k p q c e
 
-begin_stays : (is : Bool) (k : ℕ) (q : Part) (c : Cut) → has_begin (put_from is k q c) ≡ has_begin c
-begin_stays true zero q (last p) = refl
-begin_stays true (suc k) q (last p) = refl
-begin_stays false k q (last p) = refl
-begin_stays true zero q (marked p marker c) = refl
-begin_stays true (suc k) q (marked p marker c) = ap (λ x. begins_document marker || x) (begin_stays (begins_document marker) k q c)
-begin_stays false k q (marked p marker c) = ap (λ x. begins_document marker || x) (begin_stays (begins_document marker) k q c)
-
--- the part before the first marker
-abbrev first_part : Cut → Part
-first_part (last p) = p
-first_part (marked p marker c) = p
-
-bare_is : (c : Cut) → begins_bare c ≡ not (no_rows (first_part c).rows)
-bare_is (last p) = refl
-bare_is (marked p marker c) = refl
-
--- the first part stays, or is document 0
-first_other : (k : ℕ) (q : Part) (c : Cut) → first_part (put_from false k q c) ≡ first_part c
-first_other k q (last p) = refl
-first_other k q (marked p marker c) = refl
-
-first_later : (k : ℕ) (q : Part) (c : Cut) → first_part (put_from true (suc k) q c) ≡ first_part c
-first_later k q (last p) = refl
-first_later k q (marked p marker c) = refl
-
-first_put : (q : Part) (c : Cut) → first_part (put_from true zero q c) ≡ q
-first_put q (last p) = refl
-first_put q (marked p marker c) = refl
-
-zero_part : (c : Cut) (p : Part) → slice_get (parts_from true c) 0 ≡ Some p → first_part c ≡ p
-zero_part (last x) p e = cc
-zero_part (marked x marker c) p e = cc
+begin_stays : (i : ℕ) (q : Part) (c : Cut) → has_begin (put_part i q c) ≡ has_begin c
+begin_stays i q (last p) = refl
+begin_stays zero q (marked p marker c) = refl
+begin_stays (suc i) q (marked p marker c) = ap (λ b. begins_document marker || b) (begin_stays i q c)
 
 -- whether the first part is a document stays
 kept : (b r s : Bool) → (not r || b) ≡ true → (s ≡ true → r ≡ true) → (not s || b) ≡ true
@@ -76,21 +46,20 @@ kept false r true e h = absurd (wrong r e (h refl))
     wrong true e f = cc
     wrong false e f = cc
 
-first_is : (is : Bool) (k : ℕ) (p q : Part) (c : Cut) → (not (no_rows (first_part c).rows) || not (has_begin c)) ≡ is → slice_get (parts_from is c) k ≡ Some p → KeepsRows p q →
-    (not (no_rows (first_part (put_from is k q c)).rows) || not (has_begin (put_from is k q c))) ≡ is
-first_is false k p q c e there keeps = (λ i. not (no_rows (first_other k q c i).rows) || not (begin_stays false k q c i)) ∙ e
-first_is true (suc k) p q c e there keeps = (λ i. not (no_rows (first_later k q c i).rows) || not (begin_stays true (suc k) q c i)) ∙ e
-first_is true zero p q c e there keeps =
-    (λ i. not (no_rows (first_put q c i).rows) || not (begin_stays true zero q c i))
-    ∙ kept (not (has_begin c)) (no_rows (first_part c).rows) (no_rows q.rows) e (λ h. ap (λ (x : Part). no_rows x.rows) (zero_part c p there) ∙ keeps h)
+first_is : (is : Bool) (k : ℕ) (p q : Part) (c : Cut) → (begins_bare c || not (has_begin c)) ≡ is → slice_get (parts_from is c) k ≡ Some p → KeepsRows p q →
+    (begins_bare (put_part (number_from is k c) q c) || not (has_begin (put_part (number_from is k c) q c))) ≡ is
+first_is true zero p q (last x) e there keeps = kept true (no_rows x.rows) (no_rows q.rows) e (λ h. ap (λ (y : Part). no_rows y.rows) (same_Some _ _ there) ∙ keeps h)
+first_is true (suc k) p q (last x) e there keeps = absurd (cc)
+first_is false k p q (last x) e there keeps = absurd (cc)
+first_is true zero p q (marked x marker c) e there keeps =
+    kept (not (has_begin (marked x marker c))) (no_rows x.rows) (no_rows q.rows) e (λ h. ap (λ (y : Part). no_rows y.rows) (same_Some _ _ there) ∙ keeps h)
+first_is true (suc k) p q (marked x marker c) e there keeps = ap (λ b. not (no_rows x.rows) || not (begins_document marker || b)) (begin_stays (number_from (begins_document marker) k c) q c) ∙ e
+first_is false k p q (marked x marker c) e there keeps = ap (λ b. not (no_rows x.rows) || not (begins_document marker || b)) (begin_stays (number_from (begins_document marker) k c) q c) ∙ e
 
 pub document_put : DocumentPut
 document_put c k p q there keeps =
     let is : Bool = begins_bare c || not (has_begin c) in
-    let new : Cut = put_from is k q c in
-    let before : (not (no_rows (first_part c).rows) || not (has_begin c)) ≡ is = ap (λ b. b || not (has_begin c)) (sym (bare_is c)) in
-    let stays : (begins_bare new || not (has_begin new)) ≡ is = ap (λ b. b || not (has_begin new)) (bare_is new) ∙ first_is is k p q c before there keeps in
-    ap (λ b. parts_from b new) stays ∙ from_put is k q c
+    ap (λ b. parts_from b (put_document k q c)) (first_is is k p q c refl there keeps) ∙ from_put is k p q c there
 
 -- the root of lines
 root_of_lines : (ls : List Line) (root : Node) → StandsSomewhere ls root → IsRoot ls root

@@ -34,7 +34,8 @@ use Rattle.yq_documents.specs.TreeEdits.{replaced}
 use Rattle.yq_change.specs.Changed.{IsChanged, put_document}
 use Rattle.yq_change.specs.Contents.{recontent, TakesContent, LowerContentReplaced, RootContentReplaced}
 use Rattle.yq_change.specs.Appends.{inserted}
-use Rattle.yq_change.specs.DocumentRows.{IsDocumentPart, behind_document, part_number}
+use Rattle.yq_change.specs.DocumentRows.{IsDocumentPart, behind_document}
+use Rattle.yq_documents.specs.PartNumbers.{part_number}
 use Rattle.yq_change.specs.Edited.{IsPut}
 use Rattle.yq_change.specs.Moved.{dash_lines}
 use Rattle.yq_change.specs.SoundRoots.{MayReplace}

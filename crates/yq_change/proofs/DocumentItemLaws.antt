@@ -1,15 +1,12 @@
 -- The items of a cut in which a document is exchanged.
-use Rattle.std.proofs.Common.{◌≡◌, ℕ, zero, suc, List, [], ◌∷◌, ◌++◌, Some, Bool, true, false, refl, sym, ap, ◌∙◌}
-use Rattle.std.proofs.lemmas.Option.{none-some, same_Some}
-use Rattle.std.specs.List.{slice_get}
-use Rattle.yq_rows.specs.Grammar.{begins_document}
+use Rattle.std.proofs.Common.{◌≡◌, ℕ, zero, suc, List, [], ◌∷◌, ◌++◌, refl, sym, ap, ◌∙◌}
 use Rattle.yq_rows.specs.Items.{Item, row_item, end_item, rows_items, items_of, items_text}
 use Rattle.yq_rows.specs.Rows.{Row, rows_text, Part, Cut, last, marked}
-use Rattle.yq_rows.specs.Splices.{behind_part}
+use Rattle.yq_rows.specs.Splices.{behind_part, nth_part}
 use Rattle.yq_rows.proofs.ItemLaws.{items_of_text}
-use Rattle.yq_documents.specs.Documents.{parts_from}
-use Rattle.yq_change.specs.Changed.{put_from}
-use Rattle.yq_change.specs.DocumentRows.{number_from}
+use Rattle.yq_change.specs.Changed.{put_part}
+use Rattle.yq_documents.specs.PartNumbers.{part_number}
+use Rattle.yq_documents.proofs.PartNumberLaws.{part_there}
 use Rattle.yq_change.specs.DocumentItems.{DocumentHasItems}
 
 -- ---- rows as items
@@ -28,31 +25,34 @@ rows_spell (r ∷ rs) is rest = ap (λ t. items_text (row_item r ∷ []) t) (row
 
 -- ---- a document among items
 
--- the same of a part that is a document or not
-record Has (is : Bool) (k : ℕ) (c : Cut) (p : Part) : Type 0 where
+-- the same of part i
+record Has (i : ℕ) (c : Cut) : Type 0 where
   above : List Item
   marker : List ℕ
   below : List Item
-  behind : behind_part (number_from is k c) c ≡ marker ++ items_text below []
-  old : items_of c ≡ above ++ rows_items p.rows (end_item p.end marker ∷ below)
-  put : (q : Part) → items_of (put_from is k q c) ≡ above ++ rows_items q.rows (end_item q.end marker ∷ below)
+  behind : behind_part i c ≡ marker ++ items_text below []
+  old : items_of c ≡ above ++ rows_items (nth_part i c).rows (end_item (nth_part i c).end marker ∷ below)
+  put : (q : Part) → items_of (put_part i q c) ≡ above ++ rows_items q.rows (end_item q.end marker ∷ below)
 
 -- items behind one more part
 later : (x : Part) (m : List ℕ) (above is all : List Item) → all ≡ above ++ is → rows_items x.rows (end_item x.end m ∷ all) ≡ rows_items x.rows (end_item x.end m ∷ above) ++ is
 later x m above is all e = ap (λ js. rows_items x.rows (end_item x.end m ∷ js)) e ∙ rows_before x.rows (end_item x.end m ∷ above) is
 
-has : (is : Bool) (k : ℕ) (c : Cut) (p : Part) → slice_get (parts_from is c) k ≡ Some p → Has is k c p
-has true zero (last x) p e = record { above = []; marker = []; below = []; behind = refl; old = ap (λ y. items_of (last y)) (same_Some _ _ e); put = λ q. refl }
-has true (suc k) (last x) p e = absurd (none-some _ e)
-has false k (last x) p e = absurd (none-some _ e)
-has true zero (marked x m c) p e =
-    record { above = []; marker = m; below = items_of c; behind = ap (λ t. m ++ t) (sym (items_of_text c)); old = ap (λ y. items_of (marked y m c)) (same_Some _ _ e); put = λ q. refl }
-has true (suc k) (marked x m c) p e =
-    let h = has (begins_document m) k c p e in
-    record { above = rows_items x.rows (end_item x.end m ∷ h.above); marker = h.marker; below = h.below; behind = h.behind; old = later x m h.above _ _ h.old; put = λ q. later x m h.above _ _ (h.put q) }
-has false k (marked x m c) p e =
-    let h = has (begins_document m) k c p e in
+has : (i : ℕ) (c : Cut) → Has i c
+has i (last x) = record { above = []; marker = []; below = []; behind = refl; old = refl; put = λ q. refl }
+has zero (marked x m c) = record { above = []; marker = m; below = items_of c; behind = ap (λ t. m ++ t) (sym (items_of_text c)); old = refl; put = λ q. refl }
+has (suc i) (marked x m c) =
+    let h = has i c in
     record { above = rows_items x.rows (end_item x.end m ∷ h.above); marker = h.marker; below = h.below; behind = h.behind; old = later x m h.above _ _ h.old; put = λ q. later x m h.above _ _ (h.put q) }
 
 pub document_has_items : DocumentHasItems
-document_has_items c k p e = let h = has _ k c p e in record { above = h.above; marker = h.marker; below = h.below; behind = h.behind; old = h.old; put = h.put }
+document_has_items c k p e =
+    let h = has (part_number k c) c in
+    record {
+      above = h.above;
+      marker = h.marker;
+      below = h.below;
+      behind = h.behind;
+      old = h.old ∙ ap (λ (x : Part). h.above ++ rows_items x.rows (end_item x.end h.marker ∷ h.below)) (part_there c k p e);
+      put = h.put;
+    }

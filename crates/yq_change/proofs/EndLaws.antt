@@ -46,7 +46,8 @@ use Rattle.yq_change.proofs.CollectionLaws.{appended}
 use Rattle.yq_change.proofs.BlockChangeLaws.{entry_appended}
 use Rattle.yq_change.proofs.PlacedLaws.{same_parts}
 use Rattle.yq_change.specs.Ends.{TakesRowsLast, closed_with, EndAppended}
-use Rattle.yq_change.specs.DocumentRows.{IsDocumentPart, behind_document, part_number}
+use Rattle.yq_change.specs.DocumentRows.{IsDocumentPart, behind_document}
+use Rattle.yq_documents.specs.PartNumbers.{part_number}
 use Rattle.yq_change.proofs.AppendLaws.{around}
 use Rattle.yq_change.proofs.LineLaws.{above_mark}
 use Rattle.yq_change.proofs.PartLaws.{part_numbered, rows_put, document_known, is_put, drop_front}

@@ -91,7 +91,7 @@ out_whole p = go (begins_gap (cut_line p.behind).1)
 pub piece_stands : (c : Cut) (k : ℕ) (steps : List Step) (x : FirstOut) (h : IsFirstOut c k steps x) → cut_text c ≡ piece_text h.piece
 piece_stands c k steps x h =
     let s = bind_some (printed_document k c) h.is in
-    sym (document_whole _ k c s.0 s.1) ∙ sym (piece_whole Entry steps s.0 h.piece s.2)
+    sym (document_whole k c s.0 s.1) ∙ sym (piece_whole Entry steps s.0 h.piece s.2)
 
 pub first_stands : FirstStands
 first_stands c k steps x e = let h = out_is c k steps x e in piece_stands c k steps x h ∙ (sym (out_whole h.piece) ∙ ap out_text h.out)

@@ -1,5 +1,5 @@
 -- The first item or entry of a compact collection taken out of a text.
-use Rattle.std.proofs.Common.{◌≡◌, ◌⊎◌, inl, inr, ℕ, ◌+◌, ◌<◌, ◌≤◌, Bool, true, false, cond, not, ◌||◌, List, [], ◌∷◌, ◌++◌, length, replicate, take, drop, Option, Some, None, refl, sym, ap, ◌∙◌, subst, arith, append_assoc}
+use Rattle.std.proofs.Common.{◌≡◌, ◌⊎◌, inl, inr, ℕ, ◌+◌, ◌<◌, ◌≤◌, Bool, true, false, cond, List, [], ◌∷◌, ◌++◌, length, replicate, take, drop, Option, Some, None, refl, sym, ap, ◌∙◌, subst, arith, append_assoc}
 use Rattle.std.proofs.Math.Seq.{take-append_seam}
 use Rattle.std.proofs.lemmas.List.{take-append-drop, length-append, length-take-le}
 use Rattle.std.proofs.lemmas.Str.{IsUtf8-take, is_utf8-from_IsUtf8}
@@ -21,7 +21,7 @@ use Rattle.yq_rows.proofs.PlaceLaws.{row_then}
 use Rattle.yq_rows.proofs.splices.SpliceTexts.{own_gap, own_end}
 use Rattle.yq_rows.specs.Reading.{begins_gap}
 use Rattle.yq_documents.specs.declared.path.Part.TheVariants.{Entry}
-use Rattle.yq_documents.specs.Documents.{begins_bare, has_begin, document_parts, lead_of}
+use Rattle.yq_documents.specs.Documents.{document_parts, lead_of}
 use Rattle.yq_places.specs.FirstPlaces.{less_spaces, end_spaces, FirstOut, first_out, first_removal}
 use Rattle.yq_walk.specs.Lines.{lines_from, lines_of}
 use Rattle.yq_places.specs.PathPieces.{PrintedDocument, piece_in}
@@ -124,8 +124,8 @@ module _ (c : Cut) (k : ℕ) (y : Step) (ys ss : List Step) (s : Step) (x : Firs
   fr : FirstRows p w.h w.f q
   fr = first_rows p m ss s w.h w.f q known.even w.entry (subst (λ (j : ℕ). seat j p.rows ≡ Some q) w.number e.seat_is) e.later go.0
 
-  a : IsAround (begins_bare c || not (has_begin c)) k c p
-  a = around (begins_bare c || not (has_begin c)) k c p e.there
+  a : IsAround k c p
+  a = around k c p e.there
 
   fine : is_fine (group (lines_of p.rows)) ≡ true
   unfolding read_at

@@ -1,5 +1,5 @@
 -- From paths to the rows in which flow collections stand, and the text outside them.
-use Rattle.std.proofs.Common.{◌≡◌, ℕ, zero, suc, ◌+◌, ◌-◌, ◌<◌, Bool, true, false, ◌||◌, List, [], ◌∷◌, ◌++◌, length, Some, refl, sym, ap, ◌∙◌, subst, arith, append_assoc, length-append}
+use Rattle.std.proofs.Common.{◌≡◌, ℕ, zero, suc, ◌+◌, ◌-◌, ◌<◌, List, [], ◌∷◌, ◌++◌, length, Some, refl, sym, ap, ◌∙◌, subst, arith, append_assoc, length-append}
 use Rattle.std.proofs.lemmas.Bool.{lt-ltb, le-ltb, cond-true, cond-false}
 use Rattle.std.proofs.lemmas.Option.{none-some, same_Some}
 use Rattle.std.specs.List.{slice_get}
@@ -13,22 +13,23 @@ use Rattle.yq_lines.specs.Places.{lines_before, lines_after, Found}
 use Rattle.yq_lines.proofs.Decides.{flatten-group}
 use Rattle.yq_lines.proofs.PlaceLaws.{placed}
 use Rattle.yq_rows.specs.Exchange.{before_content, behind_at, behind_row, exchange, with_content, with_content_at}
-use Rattle.yq_rows.specs.Grammar.{begins_document}
 use Rattle.yq_rows.specs.Rows.{Content, Nothing, Inline, Block, Row, content_text, rows_text, Part, Cut, last, marked, cut_text}
-use Rattle.yq_rows.specs.Splices.{behind_part}
+use Rattle.yq_rows.specs.Splices.{behind_part, nth_part}
 use Rattle.yq_rows.specs.View.{rows_of}
 use Rattle.yq_rows.proofs.PlaceLaws.{place, new_place}
 use Rattle.yq_rows.proofs.splices.SpliceTexts.{own_gap, own_end}
-use Rattle.yq_documents.specs.Documents.{begins_bare, document_parts, has_begin, parts_from}
+use Rattle.yq_documents.specs.Documents.{document_parts}
 use Rattle.yq_places.specs.FlowNodes.{content_flow, find_head}
 use Rattle.yq_walk.specs.Lines.{lines_of}
 use Rattle.yq_documents.specs.Reading.{outline_of}
-use Rattle.yq_documents.specs.Seats.{Seat, seat, rows_before, document_row}
+use Rattle.yq_documents.specs.Seats.{Seat, seat, document_row}
 use Rattle.yq_places.proofs.FlowPlaceLaws.{mark_seat}
 use Rattle.yq_places.proofs.FoundLines.{middle}
 use Rattle.yq_change.specs.Appends.{inserted}
-use Rattle.yq_change.specs.Changed.{put_from}
-use Rattle.yq_change.specs.DocumentRows.{behind_document, number_from}
+use Rattle.yq_change.specs.Changed.{put_part}
+use Rattle.yq_change.specs.DocumentRows.{behind_document}
+use Rattle.yq_documents.specs.PartNumbers.{part_number, rows_to}
+use Rattle.yq_documents.proofs.PartNumberLaws.{part_there}
 use Rattle.yq_change.specs.FlowRows.{InlineRow, FlowFound, RowTexts}
 use Rattle.yq_change.proofs.FlowLineLaws.{head_takes, head_whole}
 use Rattle.yq_change.proofs.LineLaws.{seat_splits}
@@ -57,10 +58,10 @@ more_there (x ∷ xs) ys a b = let same : (length (x ∷ xs) + a) + b ≡ suc ((
 
 -- ---- the same row of a document, counted through all rows
 
-pub record InCut (is : Bool) (k : ℕ) (c : Cut) (p : Part) (front : List Row) (r : Row) (back : List Row) : Type 0 where
-  pub there : slice_get (rows_of c) (rows_before is k c + length front) ≡ Some r
-  pub behind : behind_row (rows_before is k c + length front) c ≡ rows_text back (p.end ++ behind_part (number_from is k c) c)
-  pub exchanged : (x : Content) → exchange (rows_before is k c + length front) x c ≡ put_from is k (inserted front (with_content x r ∷ []) back p) c
+pub record InCut (i : ℕ) (c : Cut) (p : Part) (front : List Row) (r : Row) (back : List Row) : Type 0 where
+  pub there : slice_get (rows_of c) (rows_to i c + length front) ≡ Some r
+  pub behind : behind_row (rows_to i c + length front) c ≡ rows_text back (p.end ++ behind_part i c)
+  pub exchanged : (x : Content) → exchange (rows_to i c + length front) x c ≡ put_part i (inserted front (with_content x r ∷ []) back p) c
 
 part_content : (front : List Row) (r : Row) (back : List Row) (end : List ℕ) (x : Content) →
     record { rows = with_content_at (length front) x (front ++ (r ∷ back)); end = end } ≡ inserted front (with_content x r ∷ []) back (record { rows = front ++ (r ∷ back); end = end })
@@ -69,8 +70,8 @@ part_content front r back end x = λ i. record {
   end = sym (own_end back end) i;
 }
 
-last_row : (front : List Row) (r : Row) (back : List Row) (end : List ℕ) → InCut true zero (last (record { rows = front ++ (r ∷ back); end = end })) (record { rows = front ++ (r ∷ back); end = end }) front r back
-last_row front r back end =
+last_row : (i : ℕ) (front : List Row) (r : Row) (back : List Row) (end : List ℕ) → InCut i (last (record { rows = front ++ (r ∷ back); end = end })) (record { rows = front ++ (r ∷ back); end = end }) front r back
+last_row i front r back end =
     let j : 0 + length front ≡ length front = omega arith in
     record {
       there = ap (slice_get (front ++ (r ∷ back))) j ∙ (ap (λ (rs : List Row). slice_get rs (length front)) (sym (Rattle.std.proofs.Common.append-nil (front ++ (r ∷ back)))) ∙ row_there front r back []);
@@ -79,7 +80,7 @@ last_row front r back end =
     }
 
 first_row : (front : List Row) (r : Row) (back : List Row) (end marker : List ℕ) (c : Cut) →
-    InCut true zero (marked (record { rows = front ++ (r ∷ back); end = end }) marker c) (record { rows = front ++ (r ∷ back); end = end }) front r back
+    InCut zero (marked (record { rows = front ++ (r ∷ back); end = end }) marker c) (record { rows = front ++ (r ∷ back); end = end }) front r back
 first_row front r back end marker c =
     let j : 0 + length front ≡ length front = omega arith in
     let p : Part = record { rows = front ++ (r ∷ back); end = end } in
@@ -90,42 +91,27 @@ first_row front r back end marker c =
       exchanged = λ x. ap (λ n. exchange n x (marked p marker c)) j ∙ (cond-true _ _ _ less ∙ ap (λ (q : Part). marked q marker c) (part_content front r back end x));
     }
 
-later_row : (is : Bool) (k : ℕ) (q : Part) (marker : List ℕ) (c : Cut) (p : Part) (front : List Row) (r : Row) (back : List Row) → InCut (begins_document marker) k c p front r back →
-    (slice_get (rows_of (marked q marker c)) ((length q.rows + rows_before (begins_document marker) k c) + length front) ≡ Some r)
-    × (behind_row ((length q.rows + rows_before (begins_document marker) k c) + length front) (marked q marker c) ≡ rows_text back (p.end ++ behind_part (number_from (begins_document marker) k c) c))
-    × ((x : Content) → exchange ((length q.rows + rows_before (begins_document marker) k c) + length front) x (marked q marker c) ≡ marked q marker (put_from (begins_document marker) k (inserted front (with_content x r ∷ []) back p) c))
-later_row is k q marker c p front r back h =
-    let a : ℕ = rows_before (begins_document marker) k c in
+in_cut : (i : ℕ) (c : Cut) (front : List Row) (r : Row) (back : List Row) (end : List ℕ) → record { rows = front ++ (r ∷ back); end = end } ≡ nth_part i c →
+    InCut i c (record { rows = front ++ (r ∷ back); end = end }) front r back
+in_cut i (last q) front r back end same = subst (λ (x : Part). InCut i (last x) (record { rows = front ++ (r ∷ back); end = end }) front r back) same (last_row i front r back end)
+in_cut zero (marked q marker c) front r back end same =
+    subst (λ (x : Part). InCut zero (marked x marker c) (record { rows = front ++ (r ∷ back); end = end }) front r back) same (first_row front r back end marker c)
+in_cut (suc i) (marked q marker c) front r back end e =
+    let h = in_cut i c front r back end e in
+    let a : ℕ = rows_to i c in
     let b : ℕ = length front in
     let past = le-ltb ((length q.rows + a) + b) (length q.rows) (omega arith) in
-    let same : ((length q.rows + a) + b) - length q.rows ≡ a + b = omega arith in (
-      more_there q.rows (rows_of c) a b ∙ h.there,
-      cond-false _ _ _ past ∙ (ap (λ n. behind_row n c) same ∙ h.behind),
-      λ x. cond-false _ _ _ past ∙ ap (marked q marker) (ap (λ n. exchange n x c) same ∙ h.exchanged x),
-    )
+    let same : ((length q.rows + a) + b) - length q.rows ≡ a + b = omega arith in
+    record {
+      there = more_there q.rows (rows_of c) a b ∙ h.there;
+      behind = cond-false _ _ _ past ∙ (ap (λ n. behind_row n c) same ∙ h.behind);
+      exchanged = λ x. cond-false _ _ _ past ∙ ap (marked q marker) (ap (λ n. exchange n x c) same ∙ h.exchanged x);
+    }
 
-in_cut : (is : Bool) (k : ℕ) (c : Cut) (front : List Row) (r : Row) (back : List Row) (end : List ℕ) → slice_get (parts_from is c) k ≡ Some (record { rows = front ++ (r ∷ back); end = end }) →
-    InCut is k c (record { rows = front ++ (r ∷ back); end = end }) front r back
-in_cut true zero (last q) front r back end e =
-    let same : record { rows = front ++ (r ∷ back); end = end } ≡ q = cc in
-    subst (λ (x : Part). InCut true zero (last x) (record { rows = front ++ (r ∷ back); end = end }) front r back) same (last_row front r back end)
-in_cut true (suc k) (last q) front r back end e = absurd (cc)
-in_cut false k (last q) front r back end e = absurd (cc)
-in_cut true zero (marked q marker c) front r back end e =
-    let same : record { rows = front ++ (r ∷ back); end = end } ≡ q = cc in
-    subst (λ (x : Part). InCut true zero (marked x marker c) (record { rows = front ++ (r ∷ back); end = end }) front r back) same (first_row front r back end marker c)
-in_cut true (suc k) (marked q marker c) front r back end e =
-    let h = later_row true k q marker c _ front r back (in_cut (begins_document marker) k c front r back end e) in
-    record { there = h.0; behind = h.1; exchanged = h.2 }
-in_cut false k (marked q marker c) front r back end e =
-    let h = later_row false k q marker c _ front r back (in_cut (begins_document marker) k c front r back end e) in
-    record { there = h.0; behind = h.1; exchanged = h.2 }
-
-pub row_in_cut : (c : Cut) (k : ℕ) (p : Part) (front : List Row) (r : Row) (back : List Row) → slice_get (document_parts c) k ≡ Some p → p.rows ≡ front ++ (r ∷ back) → InCut (begins_bare c || Rattle.std.specs.Prelude.not (has_begin c)) k c p front r back
+pub row_in_cut : (c : Cut) (k : ℕ) (p : Part) (front : List Row) (r : Row) (back : List Row) → slice_get (document_parts c) k ≡ Some p → p.rows ≡ front ++ (r ∷ back) → InCut (part_number k c) c p front r back
 row_in_cut c k p front r back there rows =
     let same : record { rows = front ++ (r ∷ back); end = p.end } ≡ p = ap (λ (rs : List Row). record { rows = rs; end = p.end }) (sym rows) in
-    subst (λ (x : Part). InCut (begins_bare c || Rattle.std.specs.Prelude.not (has_begin c)) k c x front r back) same
-    (in_cut (begins_bare c || Rattle.std.specs.Prelude.not (has_begin c)) k c front r back p.end (there ∙ ap Some (sym same)))
+    subst (λ (x : Part). InCut (part_number k c) c x front r back) same (in_cut (part_number k c) c front r back p.end (same ∙ sym (part_there c k p there)))
 
 -- ---- texts
 

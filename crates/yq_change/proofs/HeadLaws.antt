@@ -41,7 +41,8 @@ use Rattle.yq_change.specs.Siblings.{put_lines}
 use Rattle.yq_change.proofs.BlockChangeLaws.{entry_relabelled}
 use Rattle.yq_change.specs.Heads.{IsRun, with_run, rerun, HeadCommented}
 use Rattle.yq_change.specs.LineRows.{StandApart, AreClosed}
-use Rattle.yq_change.specs.DocumentRows.{behind_document, part_number, RowsFit}
+use Rattle.yq_change.specs.DocumentRows.{behind_document, RowsFit}
+use Rattle.yq_documents.specs.PartNumbers.{part_number}
 use Rattle.yq_change.proofs.ApartLaws.{even_closed}
 use Rattle.yq_change.proofs.AppendLaws.{block_seam}
 use Rattle.yq_change.proofs.ColumnLaws.{apart_first, block_is_deeper, last_closed}

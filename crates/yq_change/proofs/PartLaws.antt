@@ -22,30 +22,20 @@ use Rattle.yq_rows.proofs.splices.SpliceCases.{open_part}
 use Rattle.yq_places.proofs.DocumentLaws.{document_is}
 use Rattle.yq_places.proofs.ReadLaws.{text_takes}
 use Rattle.yq_places.proofs.RowPathLaws.{document_fine}
-use Rattle.yq_change.specs.Changed.{put_from, put_document}
+use Rattle.yq_change.specs.Changed.{put_part, put_document}
 use Rattle.yq_change.specs.Edited.{IsPut}
-use Rattle.yq_change.specs.DocumentRows.{IsDocumentPart, behind_document, number_from, part_number, PartNumbered, RowsPut, DocumentKnown, RowsFit, DocumentSpliced}
+use Rattle.yq_change.specs.DocumentRows.{IsDocumentPart, behind_document, PartNumbered, RowsPut, DocumentKnown, RowsFit, DocumentSpliced}
+use Rattle.yq_documents.specs.PartNumbers.{number_from, part_number}
+use Rattle.yq_documents.proofs.PartNumberLaws.{part_there}
 
--- a part by its number
-number_is : (is : Bool) (k : ℕ) (c : Cut) (p : Part) → slice_get (parts_from is c) k ≡ Some p → nth_part (number_from is k c) c ≡ p
-number_is true zero (last x) p e = same_Some _ _ e
-number_is true (suc k) (last x) p e = absurd (cc)
-number_is false k (last x) p e = absurd (cc)
-number_is true zero (marked x marker c) p e = same_Some _ _ e
-number_is true (suc k) (marked x marker c) p e = number_is (begins_document marker) k c p e
-number_is false k (marked x marker c) p e = number_is (begins_document marker) k c p e
-
-number_put : (is : Bool) (k : ℕ) (c : Cut) (p : Part) (i j : ℕ) (new : List Row) (gap : List ℕ) → slice_get (parts_from is c) k ≡ Some p →
-    splice (number_from is k c) i j new gap c ≡ put_from is k (splice_part i j new gap p) c
-number_put true zero (last x) p i j new gap e = ap (λ (y : Part). last (splice_part i j new gap y)) (same_Some _ _ e)
-number_put true (suc k) (last x) p i j new gap e = absurd (cc)
-number_put false k (last x) p i j new gap e = absurd (cc)
-number_put true zero (marked x marker c) p i j new gap e = ap (λ (y : Part). marked (splice_part i j new gap y) marker c) (same_Some _ _ e)
-number_put true (suc k) (marked x marker c) p i j new gap e = ap (marked x marker) (number_put (begins_document marker) k c p i j new gap e)
-number_put false k (marked x marker c) p i j new gap e = ap (marked x marker) (number_put (begins_document marker) k c p i j new gap e)
+splice_put : (m i j : ℕ) (new : List Row) (gap : List ℕ) (c : Cut) → splice m i j new gap c ≡ put_part m (splice_part i j new gap (nth_part m c)) c
+splice_put m i j new gap (last p) = refl
+splice_put zero i j new gap (marked p marker c) = refl
+splice_put (suc m) i j new gap (marked p marker c) = ap (marked p marker) (splice_put m i j new gap c)
 
 pub part_numbered : PartNumbered
-part_numbered c k p e = let is : Bool = begins_bare c || not (has_begin c) in (number_is is k c p e, λ i j new gap. number_put is k c p i j new gap e)
+part_numbered c k p e =
+    (part_there c k p e, λ i j new gap. splice_put (part_number k c) i j new gap c ∙ ap (λ (x : Part). put_document k (splice_part i j new gap x) c) (part_there c k p e))
 
 -- rows behind others
 pub drop_both : (front gone back : List Row) → drop (length front + length gone) (front ++ (gone ++ back)) ≡ back

@@ -31,7 +31,8 @@ use Rattle.yq_documents.specs.TreeEdits.{with_line_comment}
 use Rattle.yq_places.proofs.WrittenLaws.{free_first}
 use Rattle.yq_change.specs.Appends.{inserted}
 use Rattle.yq_change.specs.Changed.{IsChanged, put_document}
-use Rattle.yq_change.specs.DocumentRows.{IsDocumentPart, behind_document, part_number}
+use Rattle.yq_change.specs.DocumentRows.{IsDocumentPart, behind_document}
+use Rattle.yq_documents.specs.PartNumbers.{part_number}
 use Rattle.yq_change.specs.PathTails.{with_line_tail, IsLineTail, tailed, PathTailPut}
 use Rattle.yq_change.specs.RowComments.{TakesRow, with_header_tail}
 use Rattle.yq_change.proofs.PartLaws.{document_known, drop_front, part_rows}

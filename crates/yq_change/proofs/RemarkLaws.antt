@@ -28,7 +28,8 @@ use Rattle.yq_change.proofs.EditedLaws.{led_as}
 use Rattle.yq_change.proofs.BlockChangeLaws.{entry_relabelled}
 use Rattle.yq_change.proofs.PlacedLaws.{same_parts}
 use Rattle.yq_change.specs.LineRows.{line_number}
-use Rattle.yq_change.specs.DocumentRows.{IsDocumentPart, Known, behind_document, part_number}
+use Rattle.yq_change.specs.DocumentRows.{IsDocumentPart, Known, behind_document}
+use Rattle.yq_documents.specs.PartNumbers.{part_number}
 use Rattle.yq_change.specs.Remarks.{retailed, LineCommented}
 use Rattle.yq_change.proofs.LineLaws.{above_mark, mark_behind, dashes_count}
 use Rattle.yq_change.proofs.PartLaws.{part_numbered, rows_put, document_known, is_put}

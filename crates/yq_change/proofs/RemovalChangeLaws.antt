@@ -1,5 +1,5 @@
 -- An item or entry taken out of a text.
-use Rattle.std.proofs.Common.{◌≡◌, ℕ, ◌-◌, ◌<◌, ◌≤◌, Bool, true, false, not, ◌||◌, cond, List, [], ◌∷◌, ◌++◌, length, take, Option, Some, None, option_map, option_and_then, refl, sym, ap, ◌∙◌, subst, arith, length-append}
+use Rattle.std.proofs.Common.{◌≡◌, ℕ, ◌-◌, ◌<◌, ◌≤◌, Bool, true, false, cond, List, [], ◌∷◌, ◌++◌, length, take, Option, Some, None, option_map, option_and_then, refl, sym, ap, ◌∙◌, subst, arith, length-append}
 use Rattle.std.proofs.Math.Seq.{take-append_seam}
 use Rattle.std.proofs.lemmas.Bool.{false≢true, ltb-true}
 use Rattle.std.proofs.lemmas.Option.{none-some, same_Some}
@@ -21,7 +21,7 @@ use Rattle.yq_lines.proofs.ChildLaws.{anchored_children}
 use Rattle.yq_rows.specs.Grammar.{no_rows}
 use Rattle.yq_rows.specs.Rows.{Row, rows_text, Part, part_text, Cut, cut_text}
 use Rattle.yq_rows.specs.Splices.{first_gap, behind_first}
-use Rattle.yq_documents.specs.Documents.{begins_bare, has_begin, lead_of}
+use Rattle.yq_documents.specs.Documents.{lead_of}
 use Rattle.yq_walk.specs.Lines.{lines_of}
 use Rattle.yq_documents.specs.Reading.{outline_of, read_at, root_of}
 use Rattle.yq_documents.specs.Ready.{begins_no_node}
@@ -243,7 +243,7 @@ new_readable c k d own r rs read is first rows =
     let cut = (text_takes (cut_text c) c (guard_then _ read).1).0 in
     let x = rows_out d own in
     let same : record { front = own.front; own = r ∷ rs; back = own.back } ≡ own = (λ i. record { front = own.front; own = sym first i; back = own.back }) in
-    let h = pieces_left (begins_bare c || not (has_begin c)) true k c d own.front r rs own.back cut.parts is rows (text_is_piece c read) in
+    let h = pieces_left k c d own.front r rs own.back cut.parts is rows (text_is_piece c read) in
     let before : IsPiece x.before = subst (λ (o : OwnRows). IsPiece (rows_out d o).before) same h.before_is in
     pieces_joined x.before (mended x.seam x.gap ++ x.behind) before (pieces_joined (mended x.seam x.gap) x.behind (mended_piece x.seam x.gap x.behind h.gap_stands h.gap_is) h.behind_is)
 

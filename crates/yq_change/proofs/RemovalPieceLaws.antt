@@ -17,7 +17,7 @@ use Rattle.yq_rows.specs.Grammar.{AreParts}
 use Rattle.yq_rows.specs.Rows.{Row, rows_text, Cut, cut_text}
 use Rattle.yq_rows.specs.Splices.{behind_first, first_gap}
 use Rattle.yq_rows.proofs.seams.GapFronts.{gap_lines}
-use Rattle.yq_places.specs.PlacedRows.{PlacedPart, placed_part}
+use Rattle.yq_places.specs.PlacedRows.{PlacedPart, placed_document}
 use Rattle.yq_places.specs.RemovalPlaces.{Seam, kept_gap, rows_out}
 use Rattle.yq_places.proofs.CommentPieceLaws.{Ended, gap_end}
 use Rattle.yq_places.proofs.PlacedPartLaws.{part_stands}
@@ -46,12 +46,12 @@ pub record PiecesLeft (before gap behind : List ℕ) : Type 0 where
   pub behind_is : IsPiece behind
   pub gap_stands : IsGap gap behind
 
-pub pieces_left : (is started : Bool) (k : ℕ) (c : Cut) (d : PlacedPart) (front : List Row) (r : Row) (rs back : List Row) → AreParts started c → placed_part is k c ≡ Some d → d.part.rows ≡ front ++ ((r ∷ rs) ++ back) → IsPiece (cut_text c) →
+pub pieces_left : (k : ℕ) (c : Cut) (d : PlacedPart) (front : List Row) (r : Row) (rs back : List Row) → AreParts true c → placed_document k c ≡ Some d → d.part.rows ≡ front ++ ((r ∷ rs) ++ back) → IsPiece (cut_text c) →
     PiecesLeft (d.before ++ rows_text front (kept_gap (r ∷ rs) d.part.end)) (first_gap back d.part.end) (behind_first back d.part.end d.behind)
-pieces_left is started k c d front r rs back parts e rows piece =
+pieces_left k c d front r rs back parts e rows piece =
     let x = rows_out d (record { front = front; own = r ∷ rs; back = back }) in
-    let h = are_lines d front r rs back (lies_in is started k c d parts e) rows in
-    let text : cut_text c ≡ x.before ++ (x.gone ++ (x.gap ++ x.behind)) = (part_stands is k c d e).text ∙ old_text d (record { front = front; own = r ∷ rs; back = back }) rows refl in
+    let h = are_lines d front r rs back (lies_in k c d parts e) rows in
+    let text : cut_text c ≡ x.before ++ (x.gone ++ (x.gap ++ x.behind)) = (part_stands k c d e).text ∙ old_text d (record { front = front; own = r ∷ rs; back = back }) rows refl in
     let first = seam_pieces x.before (x.gone ++ (x.gap ++ x.behind)) (line_seam x.before (x.gone ++ (x.gap ++ x.behind)) h.before) (subst IsPiece text piece) in
     let second = seam_pieces x.gone (x.gap ++ x.behind) (inr h.gone) first.1 in
     let third = seam_pieces x.gap x.behind (gap_end x.gap x.behind h.gap) second.1 in

@@ -42,7 +42,8 @@ use Rattle.yq_change.proofs.BlockChangeLaws.{entry_removed}
 use Rattle.yq_change.proofs.PlacedLaws.{entry_placed, same_parts}
 use Rattle.yq_change.proofs.SiblingLaws.{entries, even_right, flatten-append, next, rest_entries}
 use Rattle.yq_change.specs.LineRows.{lines_behind, Begins, AreClosed}
-use Rattle.yq_change.specs.DocumentRows.{IsDocumentPart, behind_document, part_number}
+use Rattle.yq_change.specs.DocumentRows.{IsDocumentPart, behind_document}
+use Rattle.yq_documents.specs.PartNumbers.{part_number}
 use Rattle.yq_change.specs.Removes.{left_gap, without}
 use Rattle.yq_change.proofs.ApartLaws.{entries_apart, even_closed, block_some}
 use Rattle.yq_change.proofs.AppendLaws.{rows_with}

@@ -10,7 +10,8 @@ use Rattle.yq_rows.proofs.splices.PartPlaces.{part_after}
 use Rattle.yq_rows.proofs.splices.SpliceLaws.{spliced}
 use Rattle.yq_documents.specs.Documents.{HaveFitKeys, HasShortRoot}
 use Rattle.yq_walk.specs.Lines.{lines_of}
-use Rattle.yq_change.specs.DocumentRows.{RowsFit, part_number}
+use Rattle.yq_change.specs.DocumentRows.{RowsFit}
+use Rattle.yq_documents.specs.PartNumbers.{part_number}
 use Rattle.yq_change.specs.Replaces.{DocumentRooted, RootRowsReplaced, rooted}
 use Rattle.yq_change.proofs.BlockChangeLaws.{root_replaced}
 use Rattle.yq_change.proofs.PartLaws.{document_known, document_started, fits, is_put, part_numbered, rows_put}

@@ -1,33 +1,31 @@
 -- Texts in which one document has other rows, and what they read as (own).
-use Rattle.std.specs.Prelude.{◌≡◌, ℕ, zero, suc, ◌≤◌, List, [], ◌∷◌, slice_get, Some, Bool, true, false, not, ◌||◌}
+use Rattle.std.specs.Prelude.{◌≡◌, ℕ, zero, suc, ◌≤◌, List, [], ◌∷◌, slice_get, Some, true}
 use Rattle.std.specs.Str.{is_utf8}
 use Rattle.yq_scalar.specs.Keys.{HasUniqueKeys, depth}
 use Rattle.yq_scalar.specs.Tree.{Node}
 use Rattle.yq_inline.specs.Inline.{depth_limit}
 use Rattle.yq_lines.specs.Comments.{head_comment}
-use Rattle.yq_rows.specs.Grammar.{IsCut, no_rows, begins_document}
+use Rattle.yq_rows.specs.Grammar.{IsCut, no_rows}
 use Rattle.yq_rows.specs.Rows.{Part, Cut, last, marked, cut_text}
 use Rattle.yq_scalar.specs.Anchors.{names_of, AreBound}
 use Rattle.yq_lines.specs.LineAnchors.{HaveOneAnchorEach}
-use Rattle.yq_documents.specs.Documents.{Document, HaveFitKeys, HasShortRoot, IsDocument, begins_bare, document_parts, has_begin, lead_of}
+use Rattle.yq_documents.specs.Documents.{Document, HaveFitKeys, HasShortRoot, IsDocument, document_parts, lead_of}
+use Rattle.yq_documents.specs.PartNumbers.{part_number}
 use Rattle.yq_walk.specs.Lines.{lines_of}
 use Rattle.yq_lines.specs.Outline.{Line}
 use Rattle.yq_documents.specs.Reading.{documents, read_at, root_of}
 use Rattle.yq_change.specs.Siblings.{StandsSomewhere}
 use Rattle.yq_documents.specs.TreeEdits.{change_nth}
 
--- a cut in which document k has another part, by whether the first part is a document
-abbrev pub put_from : Bool → ℕ → Part → Cut → Cut
-put_from true zero q (last p) = last q
-put_from true (suc k) q (last p) = last p
-put_from false k q (last p) = last p
-put_from true zero q (marked p marker c) = marked q marker c
-put_from true (suc k) q (marked p marker c) = marked p marker (put_from (begins_document marker) k q c)
-put_from false k q (marked p marker c) = marked p marker (put_from (begins_document marker) k q c)
+-- a cut with another part i, or another last one
+abbrev pub put_part : ℕ → Part → Cut → Cut
+put_part i q (last p) = last q
+put_part zero q (marked p marker c) = marked q marker c
+put_part (suc i) q (marked p marker c) = marked p marker (put_part i q c)
 
 -- a cut in which document k has another part
 abbrev pub put_document : ℕ → Part → Cut → Cut
-put_document k q c = put_from (begins_bare c || not (has_begin c)) k q c
+put_document k q c = put_part (part_number k c) q c
 
 -- a part has rows where another one has
 abbrev pub KeepsRows : Part → Part → Type 0

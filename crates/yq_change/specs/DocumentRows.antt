@@ -1,11 +1,12 @@
 -- Rows of one document exchanged in a cut (own).
-use Rattle.std.specs.Prelude.{◌≡◌, ℕ, zero, suc, ◌+◌, Bool, true, false, ◌||◌, not, List, ◌++◌, length, slice_get, Some}
+use Rattle.std.specs.Prelude.{◌≡◌, ℕ, ◌+◌, true, false, List, ◌++◌, length, slice_get, Some}
 use Rattle.yq_rows.specs.Exchange.{allows_first, asked_behind}
-use Rattle.yq_rows.specs.Grammar.{unlimited, AreRows, IsCut, no_rows, begins_document}
-use Rattle.yq_rows.specs.Rows.{Row, rows_text, Part, Cut, last, marked, cut_text}
+use Rattle.yq_rows.specs.Grammar.{unlimited, AreRows, IsCut, no_rows}
+use Rattle.yq_rows.specs.Rows.{Row, rows_text, Part, Cut, cut_text}
 use Rattle.yq_rows.specs.Splices.{with_first_gap, end_gap, behind_first, splice_part, splice, nth_part, behind_part}
 use Rattle.yq_rows.specs.Seams.{are_seamed}
-use Rattle.yq_documents.specs.Documents.{IsDocument, begins_bare, document_parts, has_begin}
+use Rattle.yq_documents.specs.Documents.{IsDocument, document_parts}
+use Rattle.yq_documents.specs.PartNumbers.{part_number}
 use Rattle.yq_lines.specs.Group.{level_or}
 use Rattle.yq_lines.specs.Outline.{IsEven}
 use Rattle.yq_documents.specs.Reading.{document_of, outline_of, read_at}
@@ -16,17 +17,6 @@ use Rattle.yq_change.specs.Changed.{put_document}
 pub record IsDocumentPart (t : List ℕ) (c : Cut) (k : ℕ) (p : Part) : Type 0 where
   pub read : read_at t ≡ Some c
   pub there : slice_get (document_parts c) k ≡ Some p
-
--- the number of document k among the parts, by whether the first part is a document
-abbrev pub number_from : Bool → ℕ → Cut → ℕ
-number_from is k (last p) = zero
-number_from true zero (marked p marker c) = zero
-number_from true (suc k) (marked p marker c) = suc (number_from (begins_document marker) k c)
-number_from false k (marked p marker c) = suc (number_from (begins_document marker) k c)
-
--- the number of document k among the parts
-abbrev pub part_number : ℕ → Cut → ℕ
-part_number k c = number_from (begins_bare c || not (has_begin c)) k c
 
 -- the text behind document k
 abbrev pub behind_document : ℕ → Cut → List ℕ

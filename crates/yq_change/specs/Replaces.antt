@@ -21,7 +21,8 @@ use Rattle.yq_change.specs.Appends.{inserted}
 use Rattle.yq_change.specs.BlockChanges.{AreCounted, MovesUp, RootFits, StaysEmpty}
 use Rattle.yq_change.specs.Changed.{IsChanged, put_document}
 use Rattle.yq_change.specs.Conditions.{AreSpared}
-use Rattle.yq_change.specs.DocumentRows.{IsDocumentPart, behind_document, part_number, put_rows}
+use Rattle.yq_change.specs.DocumentRows.{IsDocumentPart, behind_document, put_rows}
+use Rattle.yq_documents.specs.PartNumbers.{part_number}
 use Rattle.yq_change.specs.Edited.{LineFits}
 use Rattle.yq_change.specs.Moved.{moved_up, emptied}
 use Rattle.yq_change.specs.Siblings.{HasEntries, IsEntryAt, NodeLines}

@@ -14,5 +14,6 @@ pub mod RowFlowLaws
 pub mod RowLineLaws
 pub mod RunLaws
 pub mod WalkLaws
+pub mod PartNumberLaws
 pub mod PartRows
 pub mod WalkedRows

@@ -1,57 +1,30 @@
 -- The rows of a document among those of a text.
-use Rattle.std.proofs.Common.{◌≡◌, ℕ, zero, suc, ◌+◌, ◌-◌, ◌<◌, ◌≤◌, List, [], ◌∷◌, ◌++◌, length, map, take, drop, Some, Bool, true, false, ◌||◌, not, refl, sym, ap, ◌∙◌, subst, arith, append-nil, length-append}
-use Rattle.std.proofs.Math.Seq.{drop-append-add}
+use Rattle.std.proofs.Common.{◌≡◌, ℕ, zero, suc, ◌+◌, ◌-◌, ◌<◌, ◌≤◌, List, [], ◌∷◌, ◌++◌, length, map, take, drop, Some, true, refl, sym, ap, ◌∙◌, subst, arith, length-append}
 use Rattle.std.proofs.lemmas.Bool.{and_parts}
 use Rattle.std.proofs.lemmas.List.{drop-map, length-map, length-drop, take_at, map-append}
-use Rattle.std.proofs.lemmas.Option.{same_Some}
 use Rattle.std.specs.List.{list_all, slice_get}
 use Rattle.yq_inline.specs.Inline.{depth_limit}
 use Rattle.yq_lines.specs.Group.{group}
 use Rattle.yq_lines.specs.LinesReading.{have_one_anchor_each, are_bound}
 use Rattle.yq_lines.specs.Sound.{is_sound}
-use Rattle.yq_rows.specs.Grammar.{IsCut, unlimited, AreRows, AreParts, begins_document}
-use Rattle.yq_rows.specs.Rows.{Row, Part, Cut, last, marked, cut_text}
+use Rattle.yq_rows.specs.Grammar.{IsCut, unlimited, AreRows}
+use Rattle.yq_rows.specs.Rows.{Row, Part, Cut}
+use Rattle.yq_rows.specs.Splices.{nth_part, behind_part}
 use Rattle.yq_rows.specs.View.{slices, rows_of, Shown, shown}
+use Rattle.yq_rows.proofs.splices.PartPlaces.{part_in}
 use Rattle.yq_scalar.specs.Anchors.{names_of}
 use Rattle.yq_walk.specs.Lines.{lines_of}
 use Rattle.yq_walk.specs.RowWalk.{HasDocument, HasRows}
 use Rattle.yq_walk.specs.declared.spot.Stretch.{Stretch}
-use Rattle.yq_documents.specs.Documents.{parts_from, document_parts, begins_bare, has_begin}
+use Rattle.yq_documents.specs.Documents.{document_parts}
 use Rattle.yq_documents.specs.Reading.{all_documents, is_document, have_fit_keys, has_short_root, root_of}
-use Rattle.yq_documents.specs.Seats.{rows_before, document_row}
+use Rattle.yq_documents.specs.PartNumbers.{part_number}
+use Rattle.yq_documents.specs.Seats.{document_row}
+use Rattle.yq_documents.proofs.PartNumberLaws.{part_there, rows_there, rows_within}
 
 -- a document's rows stand among those of a cut, behind so many others
-pub begins : (is : Bool) (n : ℕ) (c : Cut) (p : Part) → slice_get (parts_from is c) n ≡ Some p → (more : List Row) × (drop (rows_before is n c) (rows_of c) ≡ p.rows ++ more)
-begins true zero (last q) p e = let same : q ≡ p = cc in ([], ap (λ (x : Part). x.rows) same ∙ sym (append-nil p.rows))
-begins true (suc n) (last q) p e = absurd (cc)
-begins false n (last q) p e = absurd (cc)
-begins true zero (marked q marker c) p e = let same : q ≡ p = cc in (rows_of c, ap (λ (x : Part). x.rows ++ rows_of c) same)
-begins true (suc n) (marked q marker c) p e =
-    let again = begins (begins_document marker) n c p e in
-    (again.0, drop-append-add q.rows (rows_of c) (rows_before (begins_document marker) n c) ∙ again.1)
-begins false n (marked q marker c) p e =
-    let again = begins (begins_document marker) n c p e in
-    (again.0, drop-append-add q.rows (rows_of c) (rows_before (begins_document marker) n c) ∙ again.1)
-
 pub part_begins : (c : Cut) (n : ℕ) (p : Part) → slice_get (document_parts c) n ≡ Some p → (more : List Row) × (drop (document_row n c) (rows_of c) ≡ p.rows ++ more)
-part_begins c n p at = begins (begins_bare c || not (has_begin c)) n c p at
-
--- the rows of a part are rows
-part_stands : (started is : Bool) (n : ℕ) (c : Cut) (p : Part) → AreParts started c → slice_get (parts_from is c) n ≡ Some p → (rest : List ℕ) × AreRows unlimited p.rows p.end rest
-part_stands started true zero (last q) p h e = ([], subst (λ (x : Part). AreRows unlimited x.rows x.end []) (same_Some _ _ e) h.rows)
-part_stands started true (suc n) (last q) p h e = absurd (cc)
-part_stands started false n (last q) p h e = absurd (cc)
-part_stands started true zero (marked q marker c) p h e = (marker ++ cut_text c, subst (λ (x : Part). AreRows unlimited x.rows x.end (marker ++ cut_text c)) (same_Some _ _ e) h.0.rows)
-part_stands started true (suc n) (marked q marker c) p h e = part_stands (begins_document marker) (begins_document marker) n c p h.2 e
-part_stands started false n (marked q marker c) p h e = part_stands (begins_document marker) (begins_document marker) n c p h.2 e
-
--- no more rows stand before a document than there are
-before_within : (is : Bool) (n : ℕ) (c : Cut) → rows_before is n c ≤ length (rows_of c)
-before_within true zero c = omega arith
-before_within true (suc n) (last q) = omega arith
-before_within false n (last q) = omega arith
-before_within true (suc n) (marked q marker c) = omega (arith, before_within (begins_document marker) n c, length-append q.rows (rows_of c))
-before_within false n (marked q marker c) = omega (arith, before_within (begins_document marker) n c, length-append q.rows (rows_of c))
+part_begins c n p at = let b = rows_there (part_number n c) c in (b.0, b.1 ∙ ap (λ (x : Part). x.rows ++ b.0) (part_there c n p at))
 
 -- a document's lines are sound
 sound_part : (p : Part) → is_document p ≡ true → is_sound depth_limit (group (lines_of p.rows)) ≡ true
@@ -77,7 +50,8 @@ pub rows_stand : (t : List ℕ) (s : Shown) (c : Cut) (n : ℕ) (p : Part) (d : 
     (h : HasRows s d) × ((h.rows ≡ p.rows) × (h.rows ≡ take (d.end - d.first) (drop d.first (rows_of c))))
 rows_stand t s c n p d cut is at first end =
     let b = part_begins c n p at in
-    let v = part_stands true (begins_bare c || not (has_begin c)) n c p cut.parts at in
+    let valid : AreRows unlimited p.rows p.end (behind_part (part_number n c) c) =
+    subst (λ (x : Part). AreRows unlimited x.rows x.end (behind_part (part_number n c) c)) (part_there c n p at) (part_in c (part_number n c) true cut.parts).rows in
     let k : ℕ = document_row n c in
     let size : d.end - d.first ≡ length p.rows = omega (arith, first, end) in
     let here : drop d.first (rows_of c) ≡ p.rows ++ b.0 = ap (λ (j : ℕ). drop j (rows_of c)) first ∙ b.1 in
@@ -87,16 +61,16 @@ rows_stand t s c n p d cut is at first end =
     (λ i. take (size i) (there i)) ∙ take_at (map slices p.rows) (map slices b.0) (length p.rows) (length-map p.rows slices) in
     let long : length s.rows - d.first ≡ length p.rows + length b.0 = sym (length-drop d.first s.rows) ∙ (ap length there ∙ (length-append (map slices p.rows) (map slices b.0) ∙ (λ i. length-map p.rows slices i + length-map b.0 slices i))) in
     let all : length s.rows ≡ length (rows_of c) = ap (λ (x : Shown). length x.rows) is ∙ length-map (rows_of c) slices in
-    let upto : k ≤ length (rows_of c) = before_within (begins_bare c || not (has_begin c)) n c in (
+    let upto : k + length (nth_part (part_number n c) c).rows ≤ length (rows_of c) = rows_within (part_number n c) c in (
       record {
         rows = p.rows;
         limit = unlimited;
         end = p.end;
-        rest = v.0;
+        rest = behind_part (part_number n c) c;
         order = omega (arith, first, end);
         within = omega (arith, first, end, long, all, upto);
         pieces = pieces;
-        valid = v.1;
+        valid = valid;
       },
       (refl, sym ((λ i. take (size i) (here i)) ∙ take_at p.rows b.0 (length p.rows) refl)),
     )

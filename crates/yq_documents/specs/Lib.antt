@@ -19,6 +19,7 @@ pub use Rattle.yq_lines.specs.ShapedLines
 pub mod Seats
 pub mod Children
 pub mod Documents
+pub mod PartNumbers
 pub mod Reading
 pub mod Ready
 pub mod Located

@@ -1,5 +1,5 @@
 -- Reading (own; a reader may skip it: the grammar is what is believed, and the clauses `found` and `only` tie the two): the lines of the rows of a part.
-use Rattle.std.specs.Prelude.{◌==◌, Bool, false, ◌||◌, not, List, [], ◌∷◌, ◌&&◌}
+use Rattle.std.specs.Prelude.{ℕ, zero, suc, ◌+◌, ◌==◌, Bool, true, false, ◌||◌, not, List, [], ◌∷◌, ◌&&◌, Option, Some, None}
 use Rattle.std.specs.List.{list_all}
 use Rattle.yq_rows.specs.Grammar.{begins_document}
 use Rattle.yq_rows.specs.Rows.{Part}
@@ -19,6 +19,13 @@ some_begin (b ∷ bs) = begins_document b.marker || some_begin bs
 abbrev pub first_rows : List Bound → Bool
 first_rows [] = false
 first_rows (b ∷ bs) = not (b.rows == 0)
+
+-- the number of the part that is document n, behind k parts, by whether the next one is a document (own)
+abbrev pub number_in : Bool → ℕ → ℕ → List Bound → Option ℕ
+number_in is n k [] = None
+number_in true zero k (b ∷ bs) = Some k
+number_in true (suc n) k (b ∷ bs) = number_in (begins_document b.marker) n (k + 1) bs
+number_in false n k (b ∷ bs) = number_in (begins_document b.marker) n (k + 1) bs
 
 -- the rows of parts are fit (own)
 abbrev pub all_fit : List Part → Bool

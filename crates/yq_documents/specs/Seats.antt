@@ -1,13 +1,13 @@
 -- Which line of which row a line is, and where a text has room for comments (own).
-use Rattle.std.specs.Prelude.{ℕ, zero, suc, ◌+◌, ◌-◌, nat_lt, ◌==◌, Bool, true, false, ◌||◌, not, List, [], ◌∷◌, length, slice_get, Option, Some, None, option_map, if◌then◌else◌}
+use Rattle.std.specs.Prelude.{ℕ, suc, ◌-◌, nat_lt, ◌==◌, Bool, false, List, [], ◌∷◌, length, slice_get, Option, Some, None, option_map, if◌then◌else◌}
 use Rattle.yq_scalar.specs.Answers.{◌>>=◌}
 use Rattle.yq_scalar.specs.Paths.{Step}
-use Rattle.yq_rows.specs.Grammar.{begins_document}
-use Rattle.yq_rows.specs.Rows.{Row, Cut, last, marked}
+use Rattle.yq_rows.specs.Rows.{Row, Cut}
 use Rattle.yq_documents.specs.declared.path.Part.{Part}
 use Rattle.yq_documents.specs.declared.path.Part.TheVariants.{Content, Entry, HeadComment, LineComment}
 use Rattle.yq_documents.specs.declared.path.Path.{Path}
-use Rattle.yq_documents.specs.Documents.{document_parts, begins_bare, has_begin}
+use Rattle.yq_documents.specs.Documents.{document_parts}
+use Rattle.yq_documents.specs.PartNumbers.{part_number, rows_to}
 use Rattle.yq_walk.specs.Lines.{lines_of}
 use Rattle.yq_documents.specs.Located.{steps_of}
 use Rattle.yq_documents.specs.Reading.{cut_of}
@@ -52,14 +52,6 @@ seat_has_room part (Some s) = line_has_room part s
 abbrev pub has_room : Path → Part → List ℕ → Bool
 has_room p part t = seat_has_room part (seat_at p (cut_of t))
 
--- how many rows stand before document n, where it is known of the first part whether it is one (own)
-abbrev pub rows_before : Bool → ℕ → Cut → ℕ
-rows_before true zero c = 0
-rows_before true (suc n) (last p) = 0
-rows_before true (suc n) (marked p marker c) = length p.rows + rows_before (begins_document marker) n c
-rows_before false n (last p) = 0
-rows_before false n (marked p marker c) = length p.rows + rows_before (begins_document marker) n c
-
 -- how many rows stand before document n of a cut (own)
 abbrev pub document_row : ℕ → Cut → ℕ
-document_row n c = rows_before (begins_bare c || not (has_begin c)) n c
+document_row n c = rows_to (part_number n c) c

@@ -11,7 +11,7 @@ mod of_row;
 mod path;
 mod read_text;
 
-pub use documents::first_is_document;
+pub use documents::{document_part, first_is_document, rows_to};
 pub use fault::fault_at;
 pub use head::{anchor_name, begins_block, read_head, row_head};
 pub use made::Made;

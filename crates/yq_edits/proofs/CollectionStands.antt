@@ -168,7 +168,7 @@ module _ (n : ℕ) (s : Step) (ss : List Step) (c : Cut) (e : PlacedEntry) (ther
         start = e.start;
         before_is = append_assoc e.start (rows_text e.front []) (print_row e.row (rows_text e.under [])) ∙ ap (λ t. e.start ++ t) (sym (rows_front e.front (e.row ∷ e.under) []));
         behind_is = λ i. rows_text e.back (there.end_is i ++ there.behind_is i);
-        old_text = sym (ap cut_text (put_own _ n c p there.old.there)) ∙ there.put p;
+        old_text = sym (ap cut_text (put_own n c p there.old.there)) ∙ there.put p;
         new_text = there.put;
       }
 
@@ -195,7 +195,7 @@ root_ends n c part start r rs broken at are_rows alone put last =
       start = start;
       before_is = refl;
       behind_is = refl;
-      old_text = sym (ap cut_text (put_own _ n c part at)) ∙ put part;
+      old_text = sym (ap cut_text (put_own n c part at)) ∙ put part;
       new_text = put;
     }
   where

@@ -65,7 +65,7 @@ row_found n steps c w e =
     let s = bind_some (placed_document n c) e in
     let x = map_some (seat_of steps s.0.part.rows) s.2 in
     let row = steps_row (line_of steps (lines_of s.0.part.rows)) s.0.part.rows x.0 x.1 in
-    let at = part_at _ n c s.0 s.1 x.0.before x.0.row row in
+    let at = part_at n c s.0 s.1 x.0.before x.0.row row in
     record {
       s = s.0;
       x = x.0;

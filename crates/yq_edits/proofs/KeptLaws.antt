@@ -62,7 +62,7 @@ kept_reads : (doc : ℕ) (steps : List Step) (v : Node) (c : Cut) (p : Part) →
     are_same (scalar_in n) (scalar_in v) ≡ true → ReadsAfter (replace doc steps v) c (cut_text c)
 kept_reads doc steps v c p read at n h there e =
     let own : change steps (replaced v) (root_of p) ≡ root_of p = change_own steps (replaced v) (root_of p) n there (same_node n v h e) in
-    let same : put_document doc p c ≡ c = put_own _ doc c p at in
+    let same : put_document doc p c ≡ c = put_own doc c p at in
     let stays : changed (lead_of p) (change steps (replaced v)) (reading.document_of p) ≡ reading.document_of p = (λ i. record { lead = lead_of p; root = own i }) in
     let kept : IsChanged c (put_document doc p c) doc (lead_of p) (change steps (replaced v)) = record {
       read = subst (λ x. read_at (cut_text x) ≡ Some x) (sym same) read;

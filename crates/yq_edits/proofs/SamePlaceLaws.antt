@@ -1,24 +1,26 @@
 -- A document of which one node is exchanged for itself is the same.
-use Rattle.std.proofs.Common.{◌≡◌, ℕ, zero, suc, cond, List, [], ◌∷◌, Option, Some, Bool, true, false, refl, sym, ap, subst}
+use Rattle.std.proofs.Common.{◌≡◌, ℕ, zero, suc, cond, List, [], ◌∷◌, Option, Some, Bool, true, false, refl, sym, ap, ◌∙◌, subst}
 use Rattle.std.proofs.lemmas.Option.{same_Some}
 use Rattle.std.specs.List.{slice_get}
 use Rattle.std.specs.Prelude.{option_and_then}
 use Rattle.yq_scalar.specs.Paths.{Step, is_here, further, child_at, change_child, change, node_at}
 use Rattle.yq_scalar.specs.Tree.{Node, alias, scalar, list, map, Children, none, child}
-use Rattle.yq_rows.specs.Grammar.{begins_document}
 use Rattle.yq_rows.specs.Rows.{Part, Cut, last, marked}
-use Rattle.yq_documents.specs.Documents.{parts_from}
+use Rattle.yq_rows.specs.Splices.{nth_part}
+use Rattle.yq_documents.specs.Documents.{document_parts}
+use Rattle.yq_documents.specs.PartNumbers.{part_number}
+use Rattle.yq_documents.proofs.PartNumberLaws.{part_there}
 use Rattle.yq_documents.specs.TreeEdits.{change_nth}
-use Rattle.yq_change.specs.Changed.{put_from}
+use Rattle.yq_change.specs.Changed.{put_part, put_document}
 
 -- one that is put in its own place
-pub put_own : (is : Bool) (k : ℕ) (c : Cut) (p : Part) → slice_get (parts_from is c) k ≡ Some p → put_from is k p c ≡ c
-put_own true zero (last q) p e = ap last (sym (same_Some _ _ e))
-put_own true (suc k) (last q) p e = absurd (cc)
-put_own false k (last q) p e = absurd (cc)
-put_own true zero (marked q marker c) p e = ap (λ (x : Part). marked x marker c) (sym (same_Some _ _ e))
-put_own true (suc k) (marked q marker c) p e = ap (marked q marker) (put_own (begins_document marker) k c p e)
-put_own false k (marked q marker c) p e = ap (marked q marker) (put_own (begins_document marker) k c p e)
+part_own : (i : ℕ) (c : Cut) → put_part i (nth_part i c) c ≡ c
+part_own i (last q) = refl
+part_own zero (marked q marker c) = refl
+part_own (suc i) (marked q marker c) = ap (marked q marker) (part_own i c)
+
+pub put_own : (k : ℕ) (c : Cut) (p : Part) → slice_get (document_parts c) k ≡ Some p → put_document k p c ≡ c
+put_own k c p e = ap (λ (x : Part). put_document k x c) (sym (part_there c k p e)) ∙ part_own (part_number k c) c
 
 -- an element of a list
 pub nth_own : {A : Type 0} (k : ℕ) (x : A) (f : A → A) (xs : List A) → slice_get xs k ≡ Some x → f x ≡ x → change_nth k f xs ≡ xs

@@ -1,5 +1,5 @@
 -- An edit of a flow collection carries out an operation, where it makes of the document what that does.
-use Rattle.std.proofs.Common.{inl, not, ◌||◌, ◌+◌, [], ◌∷◌, refl, ◌≡◌, ℕ, ◌-◌, ◌≤◌, List, ◌++◌, length, take, Some, sym, ap, ◌∙◌, subst, arith, append_assoc, append-nil, length-append}
+use Rattle.std.proofs.Common.{inl, ◌+◌, [], ◌∷◌, refl, ◌≡◌, ℕ, ◌-◌, ◌≤◌, List, ◌++◌, length, take, Some, sym, ap, ◌∙◌, subst, arith, append_assoc, append-nil, length-append}
 use Rattle.std.proofs.Math.Seq.{take-append_seam}
 use Rattle.yq_scalar.specs.Characters.{text_limit}
 use Rattle.yq_scalar.specs.Paths.{Step, change, within}
@@ -13,7 +13,7 @@ use Rattle.yq_rows.specs.Rows.{Inline, content_text, print_row, rows_text, Part,
 use Rattle.yq_rows.proofs.PlaceLaws.{row_front-append}
 use Rattle.yq_rows.proofs.seams.SeamLaws.{rows_text-append}
 use Rattle.yq_rows.proofs.splices.SpliceTexts.{own_gap, own_end}
-use Rattle.yq_documents.specs.Documents.{HasFitKeys, begins_bare, has_begin, lead_of}
+use Rattle.yq_documents.specs.Documents.{HasFitKeys, lead_of}
 use Rattle.yq_documents.specs.Reading.{read_at, root_of}
 use Rattle.yq_places.specs.RowPaths.{IsReadable}
 use Rattle.yq_change.specs.Changed.{put_document}
@@ -87,7 +87,7 @@ segments_new t u before e was is =
     (λ i. before_is t before (e.old ++ e.behind) was i ++ (e.lead ++ (e.written ++ append-nil e.behind i))) ∙ (ap (λ (l : List ℕ). before ++ l) (sym (append_assoc e.lead e.written e.behind)) ∙ sym is)
 
 -- the row in the text
-row_there : (c : Cut) (k : ℕ) (steps : List Step) (w : CollPieces) (at : FlowAt c k steps w) (a : IsAround (begins_bare c || not (has_begin c)) k c at.part) →
+row_there : (c : Cut) (k : ℕ) (steps : List Step) (w : CollPieces) (at : FlowAt c k steps w) (a : IsAround k c at.part) →
     cut_text c ≡ (a.start ++ rows_text at.row.front []) ++ ((row_front at.row.row ++ at.row.space) ++ node_text at.row.node (behind_node c k at.part at.row))
 row_there c k steps w at a =
     let z : List ℕ = at.part.end ++ behind_document k c in
@@ -104,7 +104,7 @@ flow_local : (c : Cut) (k : ℕ) (steps : List Step) (w : CollPieces) (at : Flow
 flow_local c k steps w at e m t stays new =
     let i = at.row in
     let p : Part = at.part in
-    let a = around (begins_bare c || not (has_begin c)) k c p at.there in
+    let a = around k c p at.there in
     let s = row_texts c k p i at.there at.at.rows_are at.at.content_is in
     let f : List ℕ = a.start ++ rows_text i.front [] in
     let before : kept_front (flow_segments (cut_text c) e) ≡ t.before = append-nil _ ∙ before_is (cut_text c) t.before (e.old ++ e.behind) t.old in

@@ -1,7 +1,6 @@
 -- What the code answers for a comment is the span of its piece.
-use Rattle.std.proofs.Common.{◌≡◌, ℕ, zero, suc, ◌+◌, eqb, List, [], ◌∷◌, ◌++◌, length, take, drop, map, Option, Some, None, option_map, option_and_then, Bool, true, false, cond, refl, sym, ap, ◌∙◌, subst, arith, length-append, replicate}
+use Rattle.std.proofs.Common.{◌≡◌, ℕ, ◌+◌, eqb, List, [], ◌∷◌, ◌++◌, length, take, drop, map, Option, Some, None, option_map, option_and_then, Bool, true, false, cond, refl, sym, ap, ◌∙◌, subst, arith, length-append, replicate}
 use Rattle.std.proofs.lemmas.Bool.{eqb-true, eqb-false}
-use Rattle.std.proofs.lemmas.Option.{none-some, same_Some}
 use Rattle.std.specs.List.{slice_get}
 use Rattle.yq_scalar.specs.Answers.{◌>>=◌}
 use Rattle.yq_scalar.specs.Paths.{Step}
@@ -9,21 +8,22 @@ use Rattle.yq_lines.specs.Ends.{found_line, line_of}
 use Rattle.yq_lines.specs.Group.{group}
 use Rattle.yq_lines.specs.Places.{lines_before, Found, find}
 use Rattle.yq_rows.specs.Exchange.{before_content, behind_row}
-use Rattle.yq_rows.specs.Grammar.{begins_document}
-use Rattle.yq_rows.specs.Rows.{Nothing, dashes_text, behind_gap, Row, Part, Cut, last, marked}
+use Rattle.yq_rows.specs.Rows.{Nothing, dashes_text, behind_gap, Row, Part, Cut}
 use Rattle.yq_rows.specs.View.{content_cut, slices, rows_of}
 use Rattle.yq_documents.specs.declared.path.Part.TheVariants as parts
 use Rattle.yq_documents.specs.declared.path.Path.{Path}
 use Rattle.yq_places.specs.CommentReading.{before_row, before_tail, line_comment_in, head_comment_in}
-use Rattle.yq_documents.specs.Documents.{parts_from}
+use Rattle.yq_documents.specs.Documents.{document_parts}
 use Rattle.yq_documents.specs.Located.{steps_of}
-use Rattle.yq_places.specs.PathPieces.{PrintedDocument, printed_part, printed_document, found_entry, piece_in_entry, piece_in, piece_at}
+use Rattle.yq_places.specs.PathPieces.{PrintedDocument, printed_document, found_entry, piece_in_entry, piece_in, piece_at}
 use Rattle.yq_documents.specs.Pieces.{piece_span, tail_comment, content_comment, gap_comment}
 use Rattle.yq_places.specs.PrintedLines.{PrintedLine, line_front, print_lines, printed_lines, line_in}
 use Rattle.yq_documents.specs.Seats.{Seat, seat, seat_of, seat_at, document_row}
 use Rattle.yq_places.proofs.CommentHolds.{no_gap, no_comment}
 use Rattle.yq_places.proofs.CommentPlaceLaws.{tail_told, gap_told}
 use Rattle.yq_places.proofs.PieceHolds.{no_part}
+use Rattle.yq_places.specs.PlacedRows.{placed_document}
+use Rattle.yq_places.proofs.PlacedPartLaws.{part_stands}
 use Rattle.yq_places.proofs.PrintedLaws.{lines_are}
 use Rattle.yq_places.proofs.FoundEntries.{line_there, entry_is}
 use Rattle.yq_places.proofs.PrintedTexts.{map_some, lines_then}
@@ -148,19 +148,10 @@ module _ (c : Cut) (p : Part) (more : List Row) (k : ℕ) (start end : List ℕ)
           ap (λ o. option_map piece_span (o >>= piece_in_entry parts.HeadComment (t ∷ ts))) (entry_is document f l.0 l.1)
 
 -- the lines of a document of any cut
-document_lines : (is : Bool) (n : ℕ) (c : Cut) (s : PrintedDocument) → printed_part is n c ≡ Some s → (p : Part) × (slice_get (parts_from is c) n ≡ Some p) × (s.lines ≡ printed_lines p.rows)
-document_lines true zero (last p) s e = (p, refl, ap (λ (x : PrintedDocument). x.lines) (sym (same_Some _ _ e)))
-document_lines true (suc n) (last p) s e = absurd (none-some _ e)
-document_lines false n (last p) s e = absurd (none-some _ e)
-document_lines true zero (marked p marker c) s e = (p, refl, ap (λ (x : PrintedDocument). x.lines) (sym (same_Some _ _ e)))
-document_lines true (suc n) (marked p marker c) s e =
-    let x = map_some (printed_part (begins_document marker) n c) e in
-    let q = document_lines (begins_document marker) n c x.0 x.1 in
-    (q.0, q.1, ap (λ (y : PrintedDocument). y.lines) (sym x.2) ∙ q.2)
-document_lines false n (marked p marker c) s e =
-    let x = map_some (printed_part (begins_document marker) n c) e in
-    let q = document_lines (begins_document marker) n c x.0 x.1 in
-    (q.0, q.1, ap (λ (y : PrintedDocument). y.lines) (sym x.2) ∙ q.2)
+document_lines : (n : ℕ) (c : Cut) (s : PrintedDocument) → printed_document n c ≡ Some s → (p : Part) × (slice_get (document_parts c) n ≡ Some p) × (s.lines ≡ printed_lines p.rows)
+document_lines n c s e =
+    let d = map_some (placed_document n c) e in
+    (d.0.part, (part_stands n c d.0 d.1).there, ap (λ (y : PrintedDocument). y.lines) (sym d.2))
 
 -- Where the comments at a path stand, by their seats.
 pub record AreSpans (path : Path) (c : Cut) : Type 0 where
@@ -172,22 +163,22 @@ comment_spans path c = record { line = beside (printed_document path.doc c) refl
   where
     beside : (o : Option PrintedDocument) → printed_document path.doc c ≡ o →
         option_map piece_span (o >>= piece_in parts.LineComment (steps_of path)) ≡ option_map piece_span (seat_at path c >>= λ q. line_comment_in (document_row path.doc c + q.before) q c)
-    beside None is = sym (ap (λ (d : Option Part). option_map piece_span ((d >>= λ d. seat_of (steps_of path) d.rows) >>= λ q. line_comment_in (document_row path.doc c + q.before) q c)) (no_part _ path.doc c is))
+    beside None is = sym (ap (λ (d : Option Part). option_map piece_span ((d >>= λ d. seat_of (steps_of path) d.rows) >>= λ q. line_comment_in (document_row path.doc c + q.before) q c)) (no_part path.doc c is))
     beside (Some s) is =
-        let q = document_lines _ path.doc c s is in
+        let q = document_lines path.doc c s is in
         let b = part_begins c path.doc q.0 q.1 in
         let own : s ≡ record { before = s.before; lines = printed_lines q.0.rows; behind = s.behind } = (λ i. record { before = s.before; lines = q.2 i; behind = s.behind }) in
         ap (λ x. option_map piece_span (piece_in parts.LineComment (steps_of path) x)) own
-        ∙ (beside_spans c q.0 b.0 (document_row path.doc c) s.before s.behind b.1 (subst (IsPlaced c (document_row path.doc c) q.0) own (document_placed _ path.doc c q.0 s q.1 is)) (steps_of path)
+        ∙ (beside_spans c q.0 b.0 (document_row path.doc c) s.before s.behind b.1 (subst (IsPlaced c (document_row path.doc c) q.0) own (document_placed path.doc c q.0 s q.1 is)) (steps_of path)
         ∙ sym (ap (λ (d : Option Part). option_map piece_span ((d >>= λ d. seat_of (steps_of path) d.rows) >>= λ q. line_comment_in (document_row path.doc c + q.before) q c)) q.1))
 
     above : (o : Option PrintedDocument) → printed_document path.doc c ≡ o →
         option_map piece_span (o >>= piece_in parts.HeadComment (steps_of path)) ≡ option_map piece_span (seat_at path c >>= λ q. head_comment_in (document_row path.doc c + q.before) q c)
-    above None is = sym (ap (λ (d : Option Part). option_map piece_span ((d >>= λ d. seat_of (steps_of path) d.rows) >>= λ q. head_comment_in (document_row path.doc c + q.before) q c)) (no_part _ path.doc c is))
+    above None is = sym (ap (λ (d : Option Part). option_map piece_span ((d >>= λ d. seat_of (steps_of path) d.rows) >>= λ q. head_comment_in (document_row path.doc c + q.before) q c)) (no_part path.doc c is))
     above (Some s) is =
-        let q = document_lines _ path.doc c s is in
+        let q = document_lines path.doc c s is in
         let b = part_begins c path.doc q.0 q.1 in
         let own : s ≡ record { before = s.before; lines = printed_lines q.0.rows; behind = s.behind } = (λ i. record { before = s.before; lines = q.2 i; behind = s.behind }) in
         ap (λ x. option_map piece_span (piece_in parts.HeadComment (steps_of path) x)) own
-        ∙ (above_spans c q.0 b.0 (document_row path.doc c) s.before s.behind b.1 (subst (IsPlaced c (document_row path.doc c) q.0) own (document_placed _ path.doc c q.0 s q.1 is)) (steps_of path)
+        ∙ (above_spans c q.0 b.0 (document_row path.doc c) s.before s.behind b.1 (subst (IsPlaced c (document_row path.doc c) q.0) own (document_placed path.doc c q.0 s q.1 is)) (steps_of path)
         ∙ sym (ap (λ (d : Option Part). option_map piece_span ((d >>= λ d. seat_of (steps_of path) d.rows) >>= λ q. head_comment_in (document_row path.doc c + q.before) q c)) q.1))

@@ -103,9 +103,9 @@ text_agrees t c path read o is = subst (λ l. Agree l (o >>= piece_in parts.Line
     go : (o : Option PrintedDocument) → printed_document path.doc c ≡ o →
         Agree (option_and_then (λ d. labelled_from (steps_of path) (unlabelled, d.root)) (option_map document_of (slice_get (document_parts c) path.doc)))
         (o >>= piece_in parts.LineComment (steps_of path)) (o >>= piece_in parts.HeadComment (steps_of path))
-    go None is = subst (λ d. Agree (option_and_then (λ d. labelled_from (steps_of path) (unlabelled, d.root)) (option_map document_of d)) None None) (sym (no_part _ path.doc c is)) no_one
+    go None is = subst (λ d. Agree (option_and_then (λ d. labelled_from (steps_of path) (unlabelled, d.root)) (option_map document_of d)) None None) (sym (no_part path.doc c is)) no_one
     go (Some s) is =
-        let q = document_is _ true path.doc c s text.0.parts is in
+        let q = document_is path.doc c s text.0.parts is in
         let lines : map line_in s.lines ≡ lines_of q.0.rows = ap (map line_in) q.2.lines ∙ lines_are q.0.rows in
         let fine = subst (λ ls. is_fine (group ls) ≡ true) (sym lines) (document_fine q.0 (each (document_parts c) text.1 path.doc q.0 q.1)) in
         subst (λ d. Agree (option_and_then (λ d. labelled_from (steps_of path) (unlabelled, d.root)) (option_map document_of d)) (piece_in parts.LineComment (steps_of path) s) (piece_in parts.HeadComment (steps_of path) s)) (sym q.1)

@@ -1,5 +1,5 @@
 -- The rows of items and entries, as the code counts them.
-use Rattle.std.proofs.Common.{◌≡◌, ℕ, suc, ◌+◌, ◌-◌, ◌≤◌, ltb, Bool, true, false, cond, List, [], ◌∷◌, ◌++◌, length, map, take, drop, Option, Some, None, option_map, ◌||◌, not, refl, sym, ap, ◌∙◌, arith, length-take-le}
+use Rattle.std.proofs.Common.{◌≡◌, ℕ, suc, ◌+◌, ◌-◌, ◌≤◌, ltb, Bool, true, false, cond, List, [], ◌∷◌, ◌++◌, length, map, take, drop, Option, Some, None, option_map, refl, sym, ap, ◌∙◌, arith, length-take-le}
 use Rattle.std.proofs.lemmas.List.{length-map, take-append-drop}
 use Rattle.yq_lines.proofs.Parts.{drop_at}
 use Rattle.std.proofs.lemmas.Option.{slice_get_within, none-some}
@@ -11,7 +11,7 @@ use Rattle.yq_rows.specs.Grammar.{IsCut}
 use Rattle.yq_rows.specs.Rows.{Row, Part, Cut}
 use Rattle.yq_rows.specs.View.{Slices, slices, Shown, shown}
 use Rattle.yq_lines.specs.Ends.{line_of}
-use Rattle.yq_documents.specs.Documents.{begins_bare, has_begin, document_parts}
+use Rattle.yq_documents.specs.Documents.{document_parts}
 use Rattle.yq_walk.specs.Lines.{lines_of}
 use Rattle.yq_documents.specs.Reading.{cut_of}
 use Rattle.yq_documents.specs.Seats.{Seat, document_row, seat, seat_of}
@@ -24,8 +24,7 @@ use Rattle.yq_places.specs.declared.places.placed_entry.PlacedEntry as declared
 use Rattle.yq_walk.specs.declared.spot.Spot.{Spot}
 use Rattle.yq_walk.specs.declared.spot.Stretch.{Stretch}
 use Rattle.yq_places.proofs.EntryPlaceLaws.{seat_is}
-use Rattle.yq_places.proofs.PlacedPartLaws.{map_some, part_stands}
-use Rattle.yq_places.proofs.RemovalTold.{placed_is}
+use Rattle.yq_places.proofs.PlacedPartLaws.{map_some, part_stands, placed_is}
 use Rattle.yq_places.proofs.SeatedLaws.{steps_row}
 use Rattle.yq_places.proofs.WalkDocuments.{seat_number}
 use Rattle.yq_walk.proofs.WalkRows.{rows_behind}
@@ -75,7 +74,7 @@ entry_found t s n steps m cut is e =
     let k : ℕ = document_row n c in
     let p = bind_some (slice_get (document_parts c) n) (sym e) in
     let x = map_some (seat_numbers k p.0.rows) (seat_of steps p.0.rows) (told m) p.2 in
-    let d = placed_is (begins_bare c || not (has_begin c)) n c p.0 p.1 in
+    let d = placed_is n c p.0 p.1 in
     let rs : List Row = d.0.part.rows in
     let q : Seat = x.0 in
     let seated : seat_of steps rs ≡ Some q = ap (λ (y : Part). seat_of steps y.rows) d.2 ∙ x.1 in
@@ -127,4 +126,4 @@ no_entry n steps c e = go (placed_document n c) refl
 
     go : (o : Option PlacedPart) → placed_document n c ≡ o → (o >>= λ y. option_map (entry_at y) (seat_of steps y.part.rows)) ≡ None
     go None is = refl
-    go (Some d) is = at_seat d (seat_of steps d.part.rows) (part_stands (begins_bare c || not (has_begin c)) n c d is).there refl
+    go (Some d) is = at_seat d (seat_of steps d.part.rows) (part_stands n c d is).there refl

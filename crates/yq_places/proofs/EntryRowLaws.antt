@@ -1,5 +1,5 @@
 -- Rows that stand in a text, with those in front of them and behind: where they begin and end there.
-use Rattle.std.proofs.Common.{◌≡◌, inr, ℕ, suc, ◌+◌, ◌-◌, ◌<◌, ◌≤◌, List, [], ◌∷◌, ◌++◌, length, length-append, take, drop, Some, option_map, true, ◌||◌, not, refl, sym, ap, ◌∙◌, subst, arith, append_assoc}
+use Rattle.std.proofs.Common.{◌≡◌, inr, ℕ, suc, ◌+◌, ◌-◌, ◌<◌, ◌≤◌, List, [], ◌∷◌, ◌++◌, length, length-append, take, drop, Some, option_map, true, refl, sym, ap, ◌∙◌, subst, arith, append_assoc}
 use Rattle.std.proofs.Math.Seq.{take-append_seam}
 use Rattle.std.proofs.lemmas.Option.{slice_get-map, slice_get_within}
 use Rattle.std.specs.List.{slice_get}
@@ -13,7 +13,6 @@ use Rattle.yq_rows.specs.View.{Slices, slices, rows_of, Shown, shown}
 use Rattle.yq_rows.proofs.PlaceLaws.{RowIn, row_in}
 use Rattle.yq_rows.proofs.seams.SeamLaws.{rows_text-append}
 use Rattle.yq_rows.proofs.splices.SpliceTexts.{first_text}
-use Rattle.yq_documents.specs.Documents.{begins_bare, has_begin}
 use Rattle.yq_documents.specs.Reading.{cut_of}
 use Rattle.yq_documents.specs.Seats.{document_row}
 use Rattle.yq_places.specs.CommentPlaces.{line_text}
@@ -48,7 +47,7 @@ module _ (t : List ℕ) (s : Shown) (e : PlacedEntry) (row end : ℕ) (h : AreRo
   first_at =
       let j : ℕ = length e.front in
       let there : slice_get h.part.part.rows j ≡ Some e.row = ap (λ (z : List Row). slice_get z j) h.rows_are ∙ slice_seam e.front e.row (e.under ++ e.back) in
-      let at = part_at (begins_bare c || not (has_begin c)) h.document c h.part h.placed j e.row there in
+      let at = part_at h.document c h.part h.placed j e.row there in
       let front : take j h.part.part.rows ≡ e.front = ap (take j) h.rows_are ∙ take-append_seam e.front (e.row ∷ (e.under ++ e.back)) in
       let rest : drop (suc j) h.part.part.rows ≡ e.under ++ e.back = ap (drop (suc j)) h.rows_are ∙ drop_seam e.front e.row (e.under ++ e.back) in
       let before : h.part.before ++ rows_text (take j h.part.part.rows) [] ≡ before_entry e = (λ i. sym h.start_is i ++ rows_text (front i) []) in
@@ -122,7 +121,7 @@ module _ (t : List ℕ) (s : Shown) (e : PlacedEntry) (row end : ℕ) (h : AreRo
 
   stop_seam : LineSeam through (behind_entry e)
   stop_seam =
-      let lies = lies_in (begins_bare c || not (has_begin c)) true h.document c h.part h.cut.parts h.placed in
+      let lies = lies_in h.document c h.part h.cut.parts h.placed in
       let rows : List Row = e.front ++ (e.row ∷ e.under) in
       let whole : h.part.part.rows ≡ rows ++ e.back = h.rows_are ∙ sym (append_assoc e.front (e.row ∷ e.under) e.back) in
       let inner : LineSeam (rows_text rows []) (behind_entry e) =

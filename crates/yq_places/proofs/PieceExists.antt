@@ -209,7 +209,7 @@ document_read : (t : List ℕ) (c : Cut) (p : Path) (s : PrintedDocument) → re
 unfolding read_at
 document_read t c p s read is =
     let cut = text_takes t c (guard_then (is_utf8 t) read).1 in
-    let q = document_is _ true p.doc c s cut.0.parts is in
+    let q = document_is p.doc c s cut.0.parts is in
     let lines : map line_in s.lines ≡ lines_of q.0.rows = ap (map line_in) q.2.lines ∙ lines_are q.0.rows in
     record {
       told = q.2.told;
@@ -225,7 +225,7 @@ unfolding read_at
 no_document t c p read is =
     let cut = text_takes t c (guard_then (is_utf8 t) read).1 in
     ap (option_and_then (λ d. node_at (steps_of p) d.root))
-    (ap (λ (k : Cut). slice_get (map document_of (document_parts k)) p.doc) (cut_is t c cut.0) ∙ (slice_get-map document_of (document_parts c) p.doc ∙ ap (option_map document_of) (no_part _ p.doc c is)))
+    (ap (λ (k : Cut). slice_get (map document_of (document_parts k)) p.doc) (cut_is t c cut.0) ∙ (slice_get-map document_of (document_parts c) p.doc ∙ ap (option_map document_of) (no_part p.doc c is)))
 
 pub contents_exist : ContentsExist
 contents_exist t c p read = go (printed_document p.doc c) refl

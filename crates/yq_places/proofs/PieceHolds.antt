@@ -1,5 +1,5 @@
 -- What the code answers is the span of a piece, and the text holds each.
-use Rattle.std.proofs.Common.{◌≡◌, ◌⊎◌, inl, inr, ℕ, zero, suc, ◌+◌, ◌-◌, List, ◌++◌, length, take, drop, map, Option, Some, None, option_map, Bool, true, false, refl, sym, ap, ◌∙◌, subst, arith}
+use Rattle.std.proofs.Common.{◌≡◌, ◌⊎◌, inl, inr, ℕ, ◌+◌, ◌-◌, List, ◌++◌, length, take, drop, map, Option, Some, None, option_map, true, refl, sym, ap, ◌∙◌, subst, arith}
 use Rattle.std.proofs.Math.Seq.{take-append_seam, drop-append_seam}
 use Rattle.std.proofs.lemmas.Str.{IsUtf8-take, IsUtf8-between, IsUtf8-from_is_utf8}
 use Rattle.std.specs.List.{slice_get}
@@ -8,12 +8,13 @@ use Rattle.yq_scalar.specs.Answers.{◌>>=◌}
 use Rattle.yq_scalar.proofs.Bools.{bind_some, guard_then}
 use Rattle.yq_inline.specs.Spans.{IsSpan}
 use Rattle.yq_rows.specs.Exchange.{HasPieces}
-use Rattle.yq_rows.specs.Grammar.{begins_document, IsCut}
-use Rattle.yq_rows.specs.Rows.{Part, part_text, Cut, last, marked, cut_text}
+use Rattle.yq_rows.specs.Grammar.{IsCut}
+use Rattle.yq_rows.specs.Rows.{Part, Cut, cut_text}
 use Rattle.yq_documents.specs.declared.path.Part.{Part as WhichPart}
 use Rattle.yq_documents.specs.declared.path.Part.TheVariants as parts
 use Rattle.yq_documents.specs.declared.path.Path.{Path}
-use Rattle.yq_documents.specs.Documents.{document_parts, parts_from}
+use Rattle.yq_documents.specs.Documents.{document_parts}
+use Rattle.yq_documents.specs.PartNumbers.{part_number}
 use Rattle.yq_places.specs.EntryReading.{content_of, content_at, entry_of, entry_at}
 use Rattle.yq_lines.specs.Group.{group, is_fine}
 use Rattle.yq_documents.specs.Located.{steps_of}
@@ -27,7 +28,8 @@ use Rattle.yq_places.proofs.ReadLaws.{text_takes}
 use Rattle.yq_places.proofs.RowPathLaws.{document_fine}
 use Rattle.yq_documents.proofs.PartRows.{part_begins}
 use Rattle.yq_places.specs.PrintedLines.{printed_lines, line_in}
-use Rattle.yq_places.specs.PathPieces.{PrintedDocument, behind_text, printed_part, printed_document, piece_in, piece_at}
+use Rattle.yq_places.specs.PathPieces.{PrintedDocument, printed_part, printed_document, piece_in, piece_at}
+use Rattle.yq_places.specs.PlacedRows.{placed_at, placed_document}
 use Rattle.yq_places.specs.PieceLaws.{PiecesHold}
 use Rattle.yq_places.proofs.PieceTexts.{document_text, document_whole, whole_text}
 use Rattle.yq_places.proofs.PrintedLaws.{ArePrinted, lines_are, document_is}
@@ -39,13 +41,8 @@ none_map f None e = refl
 none_map f (Some x) e = cc
 
 -- no lines, no document
-pub no_part : (is : Bool) (n : ℕ) (c : Cut) → printed_part is n c ≡ None → slice_get (parts_from is c) n ≡ None
-no_part true zero (last p) e = cc
-no_part true (suc n) (last p) e = refl
-no_part false n (last p) e = refl
-no_part true zero (marked p marker c) e = cc
-no_part true (suc n) (marked p marker c) e = no_part (begins_document marker) n c (none_map (behind_text (part_text p marker)) (printed_part (begins_document marker) n c) e)
-no_part false n (marked p marker c) e = no_part (begins_document marker) n c (none_map (behind_text (part_text p marker)) (printed_part (begins_document marker) n c) e)
+pub no_part : (n : ℕ) (c : Cut) → printed_document n c ≡ None → slice_get (document_parts c) n ≡ None
+no_part n c e = none_map (λ p. placed_at (part_number n c) c) _ (none_map printed_part (placed_document n c) e)
 
 -- what the code answers is the span of the piece
 pub spans_are : (t : List ℕ) (c : Cut) (path : Path) → IsCut t c → all_documents c ≡ true →
@@ -55,20 +52,20 @@ spans_are t c path cut sound = go (printed_document path.doc c) refl
     go : (o : Option PrintedDocument) → printed_document path.doc c ≡ o →
         (option_map piece_span (o >>= piece_in parts.Content (steps_of path)) ≡ content_at path c) × (option_map piece_span (o >>= piece_in parts.Entry (steps_of path)) ≡ entry_at path c)
     go None is =
-        let none_there = no_part _ path.doc c is in (
+        let none_there = no_part path.doc c is in (
           sym (ap (λ (d : Option Part). d >>= λ d. content_of (document_row path.doc c) c d.rows (steps_of path)) none_there),
           sym (ap (λ (d : Option Part). d >>= λ d. entry_of (document_row path.doc c) c d.rows (steps_of path)) none_there),
         )
     go (Some s) is =
-        let q = document_is _ true path.doc c s cut.parts is in
+        let q = document_is path.doc c s cut.parts is in
         let p : Part = q.0 in
         let k : ℕ = document_row path.doc c in
         let b = part_begins c path.doc p q.1 in
         let fine : is_fine (group (map line_in (printed_lines p.rows))) ≡ true = subst (λ ls. is_fine (group ls) ≡ true) (sym (lines_are p.rows)) (document_fine p (each (document_parts c) sound path.doc p q.1)) in
         let own : s ≡ record { before = s.before; lines = printed_lines p.rows; behind = s.behind } = (λ i. record { before = s.before; lines = q.2.lines i; behind = s.behind }) in
-        let placed : IsPlaced c k p (record { before = s.before; lines = printed_lines p.rows; behind = s.behind }) = subst (IsPlaced c k p) own (document_placed _ path.doc c p s q.1 is) in
+        let placed : IsPlaced c k p (record { before = s.before; lines = printed_lines p.rows; behind = s.behind }) = subst (IsPlaced c k p) own (document_placed path.doc c p s q.1 is) in
         let told : ArePrinted (printed_lines p.rows) s.behind = subst (λ ls. ArePrinted ls s.behind) q.2.lines q.2.told in
-        let text : document_text (record { before = s.before; lines = printed_lines p.rows; behind = s.behind }) ≡ cut_text c = subst (λ x. document_text x ≡ cut_text c) own (document_whole _ path.doc c s is) in (
+        let text : document_text (record { before = s.before; lines = printed_lines p.rows; behind = s.behind }) ≡ cut_text c = subst (λ x. document_text x ≡ cut_text c) own (document_whole path.doc c s is) in (
           ap (λ x. option_map piece_span (piece_in parts.Content (steps_of path) x)) own
               ∙ (contents_span c p b.0 k s.before s.behind b.1 placed told text fine (steps_of path)
               ∙ sym (ap (λ (d : Option Part). d >>= λ d. content_of (document_row path.doc c) c d.rows (steps_of path)) q.1)),
@@ -110,8 +107,8 @@ pieces_hold t c path part x read found = go part found
 
     comment : (s : PrintedDocument) → printed_document path.doc c ≡ Some s → (piece_in parts.LineComment (steps_of path) s ≡ Some x) ⊎ (piece_in parts.HeadComment (steps_of path) s ≡ Some x) → HoldsPiece t x
     comment s is e =
-        let whole = document_whole _ path.doc c s is ∙ sym text in
-        subst (λ q. HoldsPiece q x) whole (comments_hold (steps_of path) s x (subst IsUtf8 (sym whole) u) (document_is _ true path.doc c s takes.0.parts is).2.told e)
+        let whole = document_whole path.doc c s is ∙ sym text in
+        subst (λ q. HoldsPiece q x) whole (comments_hold (steps_of path) s x (subst IsUtf8 (sym whole) u) (document_is path.doc c s takes.0.parts is).2.told e)
 
     go : (part : WhichPart) → piece_at path part c ≡ Some x → HoldsPiece t x
     go parts.Content e =

@@ -213,7 +213,7 @@ unfolding read_at
 by_part part t c p s x read there is =
     let cut = text_takes t c (guard_then (is_utf8 t) read).1 in
     let found : piece_in part (steps_of p) s ≡ Some x = ap (λ o. o >>= piece_in part (steps_of p)) (sym there) ∙ is in
-    let q = document_is _ true p.doc c s cut.0.parts there in
+    let q = document_is p.doc c s cut.0.parts there in
     let lines : map line_in s.lines ≡ lines_of q.0.rows = ap (map line_in) q.2.lines ∙ lines_are q.0.rows in
     let fine = subst (λ ls. is_fine (group ls) ≡ true) (sym lines) (document_fine q.0 (each (document_parts c) cut.1 p.doc q.0 q.1)) in
     let tree : labelled_located p t ≡ labelled_from (steps_of p) (unlabelled, value (group (lines_of q.0.rows))) =
@@ -239,5 +239,5 @@ pub lines_stand : LinesStand
 unfolding read_at
 lines_stand t c n s read there =
     let cut = text_takes t c (guard_then (is_utf8 t) read).1 in
-    let q = document_is _ true n c s cut.0.parts there in
-    (cut.0.text ∙ sym (document_whole _ n c s there), (q.0, q.1, q.2.lines, ap (map line_in) q.2.lines ∙ lines_are q.0.rows))
+    let q = document_is n c s cut.0.parts there in
+    (cut.0.text ∙ sym (document_whole n c s there), (q.0, q.1, q.2.lines, ap (map line_in) q.2.lines ∙ lines_are q.0.rows))

@@ -1,5 +1,5 @@
 -- Pieces with what stands before and behind them are the text.
-use Rattle.std.proofs.Common.{◌≡◌, ℕ, zero, suc, eqb, List, [], ◌∷◌, ◌++◌, length, take, drop, map, Some, None, is_some, option_map, Bool, true, false, cond, refl, sym, ap, ◌∙◌, append_assoc}
+use Rattle.std.proofs.Common.{◌≡◌, ℕ, suc, eqb, List, [], ◌∷◌, ◌++◌, length, take, drop, map, Some, None, is_some, Bool, true, false, cond, refl, sym, ap, ◌∙◌, append_assoc}
 use Rattle.std.proofs.lemmas.List.{take-append-drop}
 use Rattle.std.proofs.lemmas.Option.{none-some, same_Some}
 use Rattle.std.specs.List.{slice_get}
@@ -13,10 +13,8 @@ use Rattle.yq_inline.specs.Nodes.{Node, empty, alias, scalar, coll, anchored, It
 use Rattle.yq_inline.specs.Trees.{inner, key_content}
 use Rattle.yq_inline.proofs.WrittenLaws.{key_append, sep_append, node_append, node_then}
 use Rattle.yq_inline.proofs.PathLaws.{then_some}
-use Rattle.yq_rows.specs.Grammar.{begins_document}
-use Rattle.yq_rows.specs.Rows.{Content, Nothing, Inline, Block, content_text, Part, part_text, Cut, last, marked, cut_text}
+use Rattle.yq_rows.specs.Rows.{Content, Nothing, Inline, Block, content_text, Part, Cut, cut_text}
 use Rattle.yq_rows.specs.View.{content_cut}
-use Rattle.yq_rows.proofs.PlaceLaws.{part_then}
 use Rattle.yq_rows.proofs.SliceLaws.{content_slices}
 use Rattle.yq_documents.specs.declared.path.Part.{Part as WhichPart}
 use Rattle.yq_documents.specs.declared.path.Part.TheVariants as parts
@@ -31,7 +29,9 @@ use Rattle.yq_lines.specs.Spots.{is_bare}
 use Rattle.yq_places.proofs.ReadLaws.{text_takes}
 use Rattle.yq_documents.specs.Pieces.{Piece, node_piece, head_piece, tail_comment, content_comment, last_run, before_run, gap_comment}
 use Rattle.yq_documents.proofs.RunLaws.{run_split}
-use Rattle.yq_places.specs.PathPieces.{BlockEntry, content_piece, FlowEntry, flow_in, flow_under, flow_at, content_inline, line_inline, flow_piece, flow_content, PrintedDocument, behind_text, printed_part, printed_document, entry_with, found_entry, piece_in_entry, piece_in}
+use Rattle.yq_places.specs.PathPieces.{BlockEntry, content_piece, FlowEntry, flow_in, flow_under, flow_at, content_inline, line_inline, flow_piece, flow_content, PrintedDocument, printed_document, entry_with, found_entry, piece_in_entry, piece_in}
+use Rattle.yq_places.specs.PlacedRows.{placed_document}
+use Rattle.yq_places.proofs.PlacedPartLaws.{part_stands}
 use Rattle.yq_places.proofs.PrintedTexts.{line_then, lines_then, lines_append, run_is, map_some, line_split, rows_are}
 
 -- a piece with the text before and behind it
@@ -235,23 +235,14 @@ piece_whole parts.LineComment [] s x is = absurd (none-some _ is)
 piece_whole part (y ∷ ys) s x is = steps_whole part y ys s x is
 
 -- a document
-behind_whole : (p : Part) (marker : List ℕ) (n : ℕ) (c : Cut) (s : PrintedDocument) → ((x : PrintedDocument) → printed_part (begins_document marker) n c ≡ Some x → document_text x ≡ cut_text c) →
-    option_map (behind_text (part_text p marker)) (printed_part (begins_document marker) n c) ≡ Some s → document_text s ≡ part_text p (marker ++ cut_text c)
-behind_whole p marker n c s again e =
-    let x = map_some (printed_part (begins_document marker) n c) e in
-    ap document_text (sym x.2)
-    ∙ (append_assoc (part_text p marker) x.0.before (print_lines x.0.lines x.0.behind) ∙ (ap (λ l. part_text p marker ++ l) (again x.0 x.1) ∙ sym (part_then p marker (cut_text c))))
-
-pub document_whole : (is : Bool) (n : ℕ) (c : Cut) (s : PrintedDocument) → printed_part is n c ≡ Some s → document_text s ≡ cut_text c
-document_whole true zero (last p) s e = ap document_text (sym (same_Some _ _ e)) ∙ rows_are p.rows (p.end ++ [])
-document_whole true (suc n) (last p) s e = absurd (none-some _ e)
-document_whole false n (last p) s e = absurd (none-some _ e)
-document_whole true zero (marked p marker c) s e = ap document_text (sym (same_Some _ _ e)) ∙ rows_are p.rows (p.end ++ (marker ++ cut_text c))
-document_whole true (suc n) (marked p marker c) s e = behind_whole p marker n c s (λ x h. document_whole (begins_document marker) n c x h) e
-document_whole false n (marked p marker c) s e = behind_whole p marker n c s (λ x h. document_whole (begins_document marker) n c x h) e
+pub document_whole : (n : ℕ) (c : Cut) (s : PrintedDocument) → printed_document n c ≡ Some s → document_text s ≡ cut_text c
+document_whole n c s e =
+    let d = map_some (placed_document n c) e in
+    let p : Part = d.0.part in
+    ap document_text (sym d.2) ∙ (ap (λ x. d.0.before ++ x) (rows_are p.rows (p.end ++ d.0.behind)) ∙ sym (part_stands n c d.0 d.1).text)
 
 pub whole_text : (t : List ℕ) (c : Cut) (p : Path) (part : WhichPart) (x : Piece) → read_at t ≡ Some c → (printed_document p.doc c >>= piece_in part (steps_of p)) ≡ Some x → t ≡ piece_text x
 unfolding read_at
 whole_text t c p part x read found =
     let s = bind_some (printed_document p.doc c) found in
-    (text_takes t c (guard_then (is_utf8 t) read).1).0.text ∙ sym (piece_whole part (steps_of p) s.0 x s.2 ∙ document_whole _ p.doc c s.0 s.1)
+    (text_takes t c (guard_then (is_utf8 t) read).1).0.text ∙ sym (piece_whole part (steps_of p) s.0 x s.2 ∙ document_whole p.doc c s.0 s.1)

@@ -1,21 +1,22 @@
 -- What is told of lines with their texts, and the lines of a document.
-use Rattle.std.proofs.Common.{◌≡◌, ◌⊎◌, inl, inr, ℕ, zero, suc, ◌+◌, List, [], ◌∷◌, ◌++◌, map, Option, Some, None, Bool, true, false, refl, sym, ap, ◌∙◌, subst, replicate, ℤ}
-use Rattle.std.proofs.lemmas.Option.{none-some, same_Some}
+use Rattle.std.proofs.Common.{◌≡◌, ◌⊎◌, inl, inr, ℕ, suc, ◌+◌, List, [], ◌∷◌, ◌++◌, map, Option, Some, None, Bool, true, refl, sym, ap, ◌∙◌, subst, replicate, ℤ}
 use Rattle.std.specs.List.{slice_get}
 use Rattle.yq_scalar.specs.Block.{IsBlock}
 use Rattle.yq_scalar.specs.Text.{upto}
 use Rattle.yq_inline.specs.Nodes.{Node, IsNode}
 use Rattle.yq_lines.specs.Comments as comments
-use Rattle.yq_rows.specs.Grammar.{Limit, unlimited, limit_after, IsContent, AreRows, AreParts, begins_document}
+use Rattle.yq_rows.specs.Grammar.{Limit, unlimited, limit_after, IsContent, AreRows, AreParts}
 use Rattle.yq_rows.specs.Rows as rows
 use Rattle.yq_rows.specs.View.{content_cut}
-use Rattle.yq_rows.specs.Rows.{Content, Nothing, Inline, Block, content_text, mark_text, dashes_text, behind_gap, Row, rows_text, Part, Cut, last, marked, cut_text}
-use Rattle.yq_documents.specs.Documents.{parts_from}
+use Rattle.yq_rows.specs.Rows.{Content, Nothing, Inline, Block, content_text, mark_text, dashes_text, behind_gap, Row, rows_text, Part, Cut}
+use Rattle.yq_documents.specs.Documents.{document_parts}
 use Rattle.yq_walk.specs.Lines.{head_of, tail_of, dash_line, lines_from, lines_of}
 use Rattle.yq_walk.proofs.RowLaws.{no_comments}
 use Rattle.yq_places.specs.PrintedLines.{behind_front, PrintedLine, print_lines, printed_from, printed_row, printed_lines, line_in}
-use Rattle.yq_places.specs.PathPieces.{PrintedDocument, printed_part}
+use Rattle.yq_places.specs.PathPieces.{PrintedDocument, printed_document}
+use Rattle.yq_places.specs.PlacedRows.{placed_document}
 use Rattle.yq_places.proofs.CommentPieceLaws.{Ended, content_end, gap_end}
+use Rattle.yq_places.proofs.PlacedPartLaws.{part_rows, part_stands}
 use Rattle.yq_places.proofs.PrintedTexts.{alone, from_is, map_some, lines_append, rows_are}
 
 -- an inline node is valid where it stands
@@ -96,17 +97,8 @@ pub record IsPrintedDocument (p : Part) (s : PrintedDocument) : Type 0 where
   pub lines : s.lines ≡ printed_lines p.rows
   pub told : ArePrinted s.lines s.behind
 
-pub document_is : (is started : Bool) (n : ℕ) (c : Cut) (s : PrintedDocument) → AreParts started c → printed_part is n c ≡ Some s → (p : Part) × (slice_get (parts_from is c) n ≡ Some p) × IsPrintedDocument p s
-document_is true started zero (last p) s h e = (p, refl, subst (IsPrintedDocument p) (same_Some _ _ e) (record { lines = refl; told = rows_printed unlimited p.rows p.end [] h.rows }))
-document_is true started (suc n) (last p) s h e = absurd (none-some _ e)
-document_is false started n (last p) s h e = absurd (none-some _ e)
-document_is true started zero (marked p marker c) s h e =
-    (p, refl, subst (IsPrintedDocument p) (same_Some _ _ e) (record { lines = refl; told = rows_printed unlimited p.rows p.end (marker ++ cut_text c) h.0.rows }))
-document_is true started (suc n) (marked p marker c) s h e =
-    let x = map_some (printed_part (begins_document marker) n c) e in
-    let q = document_is (begins_document marker) (begins_document marker) n c x.0 h.2 x.1 in
-    (q.0, q.1, subst (IsPrintedDocument q.0) x.2 (record { lines = q.2.lines; told = q.2.told }))
-document_is false started n (marked p marker c) s h e =
-    let x = map_some (printed_part (begins_document marker) n c) e in
-    let q = document_is (begins_document marker) (begins_document marker) n c x.0 h.2 x.1 in
-    (q.0, q.1, subst (IsPrintedDocument q.0) x.2 (record { lines = q.2.lines; told = q.2.told }))
+pub document_is : (n : ℕ) (c : Cut) (s : PrintedDocument) → AreParts true c → printed_document n c ≡ Some s → (p : Part) × (slice_get (document_parts c) n ≡ Some p) × IsPrintedDocument p s
+document_is n c s h e =
+    let d = map_some (placed_document n c) e in
+    let p : Part = d.0.part in
+    (p, (part_stands n c d.0 d.1).there, subst (IsPrintedDocument p) d.2 (record { lines = refl; told = rows_printed unlimited p.rows p.end d.0.behind (part_rows n c d.0 h d.1) }))

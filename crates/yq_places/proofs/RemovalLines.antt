@@ -3,7 +3,6 @@ use Rattle.std.proofs.Common.{◌≡◌, ◌⊎◌, inl, inr, ℕ, zero, suc, �
 use Rattle.std.proofs.Math.Seq.{drop-append_seam}
 use Rattle.std.proofs.lemmas.Bool.{and_parts}
 use Rattle.std.proofs.lemmas.List.{take-append-drop}
-use Rattle.std.proofs.lemmas.Option.{same_Some}
 use Rattle.yq_scalar.specs.Block.{Lines}
 use Rattle.yq_scalar.specs.Text.{is_empty, is_line, joined, lines_of as text_lines}
 use Rattle.yq_scalar.proofs.BlockPieceLaws.{IsLf, line_lf, append_lf, raw_lf}
@@ -21,11 +20,12 @@ use Rattle.yq_rows.proofs.seams.FrontSeams.{behind_row_some, rows_some}
 use Rattle.yq_rows.proofs.seams.SeamLaws.{rows_drop, rows_text-append}
 use Rattle.yq_rows.proofs.splices.SpliceTexts.{first_is, first_text}
 use Rattle.yq_rows.proofs.EmptyTexts.{none_is}
+use Rattle.yq_documents.specs.PartNumbers.{part_number}
 use Rattle.yq_documents.specs.Pieces.{before_run, last_run}
-use Rattle.yq_places.specs.PlacedRows.{PlacedPart, part_behind, placed_part}
+use Rattle.yq_places.specs.PlacedRows.{PlacedPart, placed_at, placed_document}
 use Rattle.yq_places.specs.RemovalPlaces.{comment_above, rows_out}
 use Rattle.yq_places.proofs.CommentPieceLaws.{Ended, gap_end, tail_end}
-use Rattle.yq_places.proofs.PlacedPartLaws.{map_some, part_stands}
+use Rattle.yq_places.proofs.PlacedPartLaws.{part_stands, text_at}
 use Rattle.yq_places.proofs.RemovalTexts.{run_parts, texts_then}
 
 -- Between two lines of a text: nothing is in front, an LF, or nothing is behind.
@@ -117,23 +117,19 @@ marker_seam p marker rest (inl lf) =
     let whole : IsLf marker = subst IsLf (take-append-drop 3 marker) (append_lf (take 3 marker) (drop 3 marker) lf) in
     inr (inl (subst IsLf (sym (part_then p [] marker)) (append_lf (part_text p []) marker whole)))
 
-lies_behind : (p : Part) (marker : List ℕ) (c : Cut) (d : PlacedPart) → Ended (drop 3 marker) (cut_text c) → cut_text c ≡ d.before ++ part_text d.part d.behind → LiesIn d → LiesIn (part_behind (part_text p marker) d)
-lies_behind p marker c d h text lies = record {
-  seam = seam_join (part_text p marker) d.before (part_text d.part d.behind) (subst (LineSeam (part_text p marker)) text (marker_seam p marker (cut_text c) h)) lies.seam;
-  rows = lies.rows;
-}
+lies_at : (i : ℕ) (started : Bool) (c : Cut) → AreParts started c → LiesIn (placed_at i c)
+lies_at i started (last p) h = record { seam = inl refl; rows = h.rows }
+lies_at zero started (marked p marker c) h = record { seam = inl refl; rows = h.0.rows }
+lies_at (suc i) started (marked p marker c) h =
+    let lies = lies_at i (begins_document marker) c h.2 in
+    let d : PlacedPart = placed_at i c in
+    record {
+      seam = seam_join (part_text p marker) d.before (part_text d.part d.behind) (subst (LineSeam (part_text p marker)) (text_at i c) (marker_seam p marker (cut_text c) (tail_end (drop 3 marker) (cut_text c) h.1.tail))) lies.seam;
+      rows = lies.rows;
+    }
 
-pub lies_in : (is started : Bool) (k : ℕ) (c : Cut) (d : PlacedPart) → AreParts started c → placed_part is k c ≡ Some d → LiesIn d
-lies_in true started zero (last p) d h e = subst LiesIn (same_Some _ _ e) (record { seam = inl refl; rows = h.rows })
-lies_in true started (suc k) (last p) d h e = absurd (cc)
-lies_in false started k (last p) d h e = absurd (cc)
-lies_in true started zero (marked p marker c) d h e = subst LiesIn (same_Some _ _ e) (record { seam = inl refl; rows = h.0.rows })
-lies_in true started (suc k) (marked p marker c) d h e =
-    let x = map_some (part_behind (part_text p marker)) (placed_part (begins_document marker) k c) d e in
-    subst LiesIn x.2 (lies_behind p marker c x.0 (tail_end (drop 3 marker) (cut_text c) h.1.tail) (part_stands (begins_document marker) k c x.0 x.1).text (lies_in (begins_document marker) (begins_document marker) k c x.0 h.2 x.1))
-lies_in false started k (marked p marker c) d h e =
-    let x = map_some (part_behind (part_text p marker)) (placed_part (begins_document marker) k c) d e in
-    subst LiesIn x.2 (lies_behind p marker c x.0 (tail_end (drop 3 marker) (cut_text c) h.1.tail) (part_stands (begins_document marker) k c x.0 x.1).text (lies_in (begins_document marker) (begins_document marker) k c x.0 h.2 x.1))
+pub lies_in : (k : ℕ) (c : Cut) (d : PlacedPart) → AreParts true c → placed_document k c ≡ Some d → LiesIn d
+lies_in k c d h e = subst LiesIn (part_stands k c d e).is (lies_at (part_number k c) true c h)
 
 -- ---- what is taken out
 

@@ -1,5 +1,5 @@
 -- What is taken out of a text with rows of a document, as the code counts it.
-use Rattle.std.proofs.Common.{◌≡◌, inl, inr, ℕ, zero, suc, ◌+◌, ◌-◌, ◌<◌, ◌≤◌, List, [], ◌∷◌, ◌++◌, length, length-append, take, drop, Option, Some, None, option_map, Bool, true, false, not, ◌||◌, refl, sym, ap, ◌∙◌, subst, arith, append_assoc}
+use Rattle.std.proofs.Common.{◌≡◌, inl, inr, ℕ, zero, suc, ◌+◌, ◌-◌, ◌<◌, ◌≤◌, List, [], ◌∷◌, ◌++◌, length, length-append, take, drop, Option, Some, None, option_map, refl, sym, ap, ◌∙◌, subst, arith, append_assoc}
 use Rattle.std.proofs.Math.Seq.{drop-append_seam, take-append_seam}
 use Rattle.std.proofs.lemmas.Bool.{false≢true}
 use Rattle.std.proofs.lemmas.Option.{slice_get_within, slice_get-map, none-some, same_Some}
@@ -11,27 +11,27 @@ use Rattle.yq_scalar.specs.Paths.{Step}
 use Rattle.yq_scalar.specs.Text.{joined, lines_of as text_lines}
 use Rattle.yq_scalar.proofs.BlockPieceLaws.{cut_lf}
 use Rattle.yq_scalar.proofs.Bools.{bind_some}
-use Rattle.yq_rows.specs.Grammar.{begins_document, IsCut, no_rows}
+use Rattle.yq_rows.specs.Grammar.{IsCut, no_rows}
 use Rattle.yq_rows.specs.Offsets.{row_length}
 use Rattle.yq_rows.specs.Removal.{next_column}
-use Rattle.yq_rows.specs.Rows.{Row, rows_text, Part, part_text, Cut, last, marked, cut_text}
+use Rattle.yq_rows.specs.Rows.{Row, rows_text, Part, Cut}
 use Rattle.yq_rows.specs.Splices.{first_gap}
 use Rattle.yq_rows.specs.View.{Slices, slices, rows_of, Shown, shown}
 use Rattle.yq_rows.proofs.NodePieces.{BeginsAscii, before_ascii}
 use Rattle.yq_rows.proofs.seams.SeamLaws.{rows_text-append}
 use Rattle.yq_rows.proofs.splices.SpliceTexts.{first_text}
-use Rattle.yq_documents.specs.Documents.{begins_bare, has_begin, parts_from, document_parts}
+use Rattle.yq_documents.specs.Documents.{document_parts}
 use Rattle.yq_walk.specs.Extents.{row_start}
 use Rattle.yq_documents.specs.Pieces.{before_run}
 use Rattle.yq_documents.specs.Reading.{cut_of}
-use Rattle.yq_places.specs.PlacedRows.{PlacedPart, part_behind, placed_part, placed_document}
+use Rattle.yq_places.specs.PlacedRows.{PlacedPart, placed_document}
 use Rattle.yq_places.specs.RemovalPlaces.{OwnRows, own_rows, Removal, kept_gap, rows_out, removal_place}
 use Rattle.yq_places.specs.RemovalReading.{Marks, marks, marks_at, gap_at, IsOwn}
 use Rattle.yq_documents.specs.Seats.{document_row}
 use Rattle.yq_places.proofs.CommentPieceLaws.{gap_end}
 use Rattle.yq_rows.proofs.SliceLaws.{print-length}
-use Rattle.yq_places.proofs.PlacedPartLaws.{map_some, part_stands}
-use Rattle.yq_places.proofs.RemovalBounds.{gap_behind, last_row, text_before}
+use Rattle.yq_places.proofs.PlacedPartLaws.{map_some, part_stands, placed_is, text_before}
+use Rattle.yq_places.proofs.RemovalBounds.{gap_behind, last_row}
 use Rattle.yq_places.proofs.RemovalLines.{LineSeam, are_lines, lies_in, line_seam}
 use Rattle.yq_places.proofs.RemovalPlaceLaws.{own_stands}
 use Rattle.yq_places.proofs.RemovalTexts.{old_text, texts_then}
@@ -97,7 +97,7 @@ told_first t s d front r rs back m h =
     let own : List Row = r ∷ rs in
     let x : OwnRows = record { front = front; own = own; back = back } in
     let out : Removal = rows_out d x in
-    let st = part_stands (begins_bare c || not (has_begin c)) n c d h.placed in
+    let st = part_stands n c d h.placed in
     let begin = part_begins c n d.part st.there in
     let first_is : m.0 ≡ k = ap (λ (y : Marks). y.0) h.marks_are in
     let at_is : m.1 ≡ k + length front = ap (λ (y : Marks). y.1) h.marks_are in
@@ -114,18 +114,18 @@ told_first t s d front r rs back m h =
     let at_row : slice_get s.rows m.1 ≡ Some (slices r) = ap (slice_get s.rows) at_is ∙ pieces (length front) r own_row in
     let last_row_is : slice_get s.rows (m.2 - 1) ≡ Some (slices final.0) = ap (slice_get s.rows) last_is ∙ pieces (length front + length own - 1) final.0 final.1 in
     let text : t ≡ out.before ++ (out.gone ++ (out.gap ++ out.behind)) = h.cut.text ∙ (st.text ∙ old_text d x h.rows_are refl) in
-    let lines = are_lines d front r rs back (lies_in (begins_bare c || not (has_begin c)) true n c d h.cut.parts h.placed) h.rows_are in
+    let lines = are_lines d front r rs back (lies_in n c d h.cut.parts h.placed) h.rows_are in
     let kept : List ℕ = kept_gap own d.part.end in
     let front_text : rows_text front kept ≡ rows_text front [] ++ kept = texts_then front [] kept in
     let starts : row_start m.1 s ≡ length (d.before ++ rows_text front []) =
     (λ i. row_start (at_is i) (h.shown_is i))
     ∙ (start_told c (k + length front) r (there (length front) r own_row)
-    ∙ (ap length (text_before (begins_bare c || not (has_begin c)) n c d h.placed (length front) (omega (arith, total)))
+    ∙ (ap length (text_before n c d h.placed (length front) (omega (arith, total)))
     ∙ ap (λ (z : List Row). length (d.before ++ rows_text z [])) (ap (take (length front)) h.rows_are ∙ take-append_seam front (own ++ back)))) in
     let before_last : row_start (m.2 - 1) s ≡ length (d.before ++ rows_text (take (length front + length own - 1) d.part.rows) []) =
     (λ i. row_start (last_is i) (h.shown_is i))
     ∙ (start_told c (k + (length front + length own - 1)) final.0 (there (length front + length own - 1) final.0 final.1)
-    ∙ ap length (text_before (begins_bare c || not (has_begin c)) n c d h.placed (length front + length own - 1) (omega (arith, total)))) in
+    ∙ ap length (text_before n c d h.placed (length front + length own - 1) (omega (arith, total)))) in
     let count : suc (length front + length own - 1) ≡ length front + length own = omega arith in
     let through : length (rows_text (front ++ own) []) ≡ length (rows_text (take (length front + length own - 1) d.part.rows) []) + row_length (slices final.0) =
     ap (λ (z : List Row). length (rows_text z [])) (sym (take_both front own back) ∙ (λ i. take (sym count i) (sym h.rows_are i))) ∙ rows_more d.part.rows (length front + length own - 1) final.0 final.1 in
@@ -257,22 +257,12 @@ pub record TakenAt (t : List ℕ) (s : Shown) (n : ℕ) (steps : List Step) (m :
   pub is : IsOwn t s part rows m
   pub place : removal_place n steps (cut_of t) ≡ Some (rows_out part rows)
 
-pub placed_is : (is : Bool) (n : ℕ) (c : Cut) (p : Part) → slice_get (parts_from is c) n ≡ Some p → (d : PlacedPart) × (placed_part is n c ≡ Some d) × (d.part ≡ p)
-placed_is true zero (last q) p e = (record { before = []; part = q; behind = [] }, refl, same_Some _ _ e)
-placed_is true (suc n) (last q) p e = absurd (cc)
-placed_is false n (last q) p e = absurd (cc)
-placed_is true zero (marked q marker c) p e = (record { before = []; part = q; behind = marker ++ cut_text c }, refl, same_Some _ _ e)
-placed_is true (suc n) (marked q marker c) p e =
-    let x = placed_is (begins_document marker) n c p e in (part_behind (part_text q marker) x.0, ap (option_map (part_behind (part_text q marker))) x.1, x.2)
-placed_is false n (marked q marker c) p e =
-    let x = placed_is (begins_document marker) n c p e in (part_behind (part_text q marker) x.0, ap (option_map (part_behind (part_text q marker))) x.1, x.2)
-
 pub taken_at : (t : List ℕ) (s : Shown) (n : ℕ) (steps : List Step) (m : Marks) → IsCut t (cut_of t) → s ≡ shown (cut_of t) → Some m ≡ marks_at n steps (cut_of t) → TakenAt t s n steps m
 taken_at t s n steps m cut is e =
     let c : Cut = cut_of t in
     let p = bind_some (slice_get (document_parts c) n) (sym e) in
     let x = map_some (marks (document_row n c)) (own_rows steps p.0.rows) m p.2 in
-    let d = placed_is (begins_bare c || not (has_begin c)) n c p.0 p.1 in
+    let d = placed_is n c p.0 p.1 in
     let own : own_rows steps d.0.part.rows ≡ Some x.0 = ap (λ (q : Part). own_rows steps q.rows) d.2 ∙ x.1 in
     let stand = own_stands steps d.0.part.rows x.0 own in
     record {
@@ -293,4 +283,4 @@ none_taken n steps c e = go (placed_document n c) refl
 
     go : (o : Option PlacedPart) → placed_document n c ≡ o → None ≡ (o >>= λ d. option_map (rows_out d) (own_rows steps d.part.rows))
     go None is = refl
-    go (Some d) is = rows d (own_rows steps d.part.rows) refl (part_stands (begins_bare c || not (has_begin c)) n c d is).there
+    go (Some d) is = rows d (own_rows steps d.part.rows) refl (part_stands n c d is).there

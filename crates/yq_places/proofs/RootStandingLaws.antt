@@ -1,5 +1,5 @@
 -- What stands at roots, by the rows that the code has found.
-use Rattle.std.proofs.Common.{◌≡◌, ℕ, ◌+◌, ◌-◌, true, false, cond, List, [], ◌∷◌, ◌++◌, length, replicate, Option, Some, None, option_map, not, ◌||◌, refl, sym, ap, ◌∙◌, subst, arith, append_assoc, append-nil}
+use Rattle.std.proofs.Common.{◌≡◌, ℕ, ◌+◌, ◌-◌, true, false, cond, List, [], ◌∷◌, ◌++◌, length, replicate, Option, Some, None, option_map, refl, sym, ap, ◌∙◌, subst, arith, append_assoc, append-nil}
 use Rattle.std.proofs.lemmas.Bool.{cond-false, cond-true}
 use Rattle.std.proofs.lemmas.Option.{none-some, same_Some}
 use Rattle.std.specs.List.{slice_get}
@@ -9,7 +9,6 @@ use Rattle.yq_rows.specs.Grammar.{IsCut, no_rows as has_none}
 use Rattle.yq_rows.specs.Offsets.{row_length}
 use Rattle.yq_rows.specs.Rows.{Part, Row, behind_indent, print_row, rows_text, Cut, cut_text}
 use Rattle.yq_rows.specs.View.{Slices, slices, Shown, shown}
-use Rattle.yq_documents.specs.Documents.{begins_bare, has_begin}
 use Rattle.yq_documents.specs.Reading.{cut_of}
 use Rattle.yq_documents.specs.Seats.{document_row}
 use Rattle.yq_places.specs.EntryReading.{before_line, line_begin}
@@ -22,8 +21,8 @@ use Rattle.yq_places.specs.Standings.{NoRows, PlacedEntry, alone, before_entry, 
 use Rattle.yq_places.specs.StandingReading.{IsRootOf, root_entry}
 use Rattle.yq_walk.specs.declared.spot.Stretch.{Stretch}
 use Rattle.yq_places.proofs.EntryRowLaws.{cut_in_two, first_at, pieces_at, stop_boundary, stop_is}
+use Rattle.yq_places.proofs.PlacedPartLaws.{placed_is}
 use Rattle.yq_places.proofs.PlacedRowLaws.{document_placed, part_of}
-use Rattle.yq_places.proofs.RemovalTold.{placed_is}
 use Rattle.yq_places.proofs.RowStarts.{line_begins}
 use Rattle.yq_places.proofs.SeamLaws.{line_boundary}
 use Rattle.yq_places.proofs.WalkDocuments.{Found}
@@ -72,7 +71,7 @@ pub record FoundRoot (t : List ℕ) (s : Shown) (n : ℕ) (d : Stretch) : Type 0
 pub root_found : (t : List ℕ) (s : Shown) (n : ℕ) (d : Stretch) → IsCut t (cut_of t) → s ≡ shown (cut_of t) → Found s (cut_of t) n d → None ≡ unwritten_place n (cut_of t) → FoundRoot t s n d
 root_found t s n d cut is f none =
     let c : Cut = cut_of t in
-    let p = placed_is (begins_bare c || not (has_begin c)) n c f.part f.there in
+    let p = placed_is n c f.part f.there in
     go p.0 p.1 (ap (λ (q : Part). q.rows) p.2) p.0.part.rows refl
   where
     go : (x : PlacedPart) → placed_document n (cut_of t) ≡ Some x → x.part.rows ≡ f.part.rows → (rs : List Row) → x.part.rows ≡ rs → FoundRoot t s n d

@@ -1,23 +1,23 @@
 -- The lines of rows with their texts, by the seats of lines.
-use Rattle.std.proofs.Common.{◌≡◌, ◌⊎◌, inl, inr, ℕ, zero, suc, ◌+◌, ◌-◌, ◌<◌, ◌≤◌, ltb, List, [], ◌∷◌, ◌++◌, length, take, Some, None, Bool, true, false, refl, sym, ap, ◌∙◌, subst, arith, append_assoc, append-nil, replicate}
+use Rattle.std.proofs.Common.{◌≡◌, ◌⊎◌, inl, inr, ℕ, zero, suc, ◌+◌, ◌-◌, ◌<◌, ◌≤◌, List, [], ◌∷◌, ◌++◌, length, take, Some, None, refl, sym, ap, ◌∙◌, subst, arith, append_assoc, append-nil, replicate}
 use Rattle.std.proofs.Math.Seq.{take-append-add}
 use Rattle.std.proofs.lemmas.Bool.{cases_lt, lt-ltb, le-ltb, cond-true, cond-false}
 use Rattle.std.proofs.lemmas.List.{take-append-le}
 use Rattle.std.proofs.lemmas.Option.{none-some, same_Some}
 use Rattle.std.specs.List.{slice_get}
 use Rattle.yq_lines.specs.Comments.{head_comment}
-use Rattle.yq_rows.specs.Grammar.{begins_document}
 use Rattle.yq_rows.specs.Rows as rows
-use Rattle.yq_rows.specs.Rows.{Content, Nothing, Row, dashes_text, mark_text, rows_text, print_row, Part, part_text, Cut, last, marked, cut_text}
-use Rattle.yq_rows.proofs.PlaceLaws.{part_then}
-use Rattle.yq_documents.specs.Documents.{parts_from}
+use Rattle.yq_rows.specs.Rows.{Content, Nothing, Row, dashes_text, mark_text, rows_text, print_row, Part, Cut}
+use Rattle.yq_documents.specs.Documents.{document_parts}
 use Rattle.yq_walk.specs.Lines.{mark_of, dash_line}
 use Rattle.yq_lines.specs.Outline.{level}
 use Rattle.yq_places.specs.CommentReading.{before_row}
-use Rattle.yq_documents.specs.Seats.{Seat, behind_one, seat, rows_before}
+use Rattle.yq_documents.specs.Seats.{Seat, behind_one, seat, document_row}
+use Rattle.yq_places.specs.PlacedRows.{placed_document}
+use Rattle.yq_places.proofs.PlacedPartLaws.{part_stands, text_before}
 use Rattle.yq_lines.proofs.Values.{rank_small}
 use Rattle.yq_places.specs.PrintedLines.{PrintedLine, line_front, print_lines, printed_from, printed_row, printed_lines}
-use Rattle.yq_places.specs.PathPieces.{PrintedDocument, printed_part}
+use Rattle.yq_places.specs.PathPieces.{PrintedDocument, printed_document}
 use Rattle.yq_places.proofs.PrintedTexts.{map_some, lines_append, row_is}
 
 -- Line n of those of a row.
@@ -154,33 +154,8 @@ seated (r ∷ rs) n q e = go (cases_lt (length r.dashes) n) (λ p h. seated rs (
 pub record IsPlaced (c : Cut) (k : ℕ) (p : Part) (s : PrintedDocument) : Type 0 where
   pub row : (i : ℕ) → i < length p.rows → before_row (k + i) c ≡ s.before ++ rows_text (take i p.rows) []
 
-later : (q : Part) (marker : List ℕ) (c : Cut) (k : ℕ) (p : Part) (s : PrintedDocument) → IsPlaced c k p s → IsPlaced (marked q marker c) (length q.rows + k) p (record s { before = part_text q marker ++ s.before })
-later q marker c k p s h = record {
-  row = λ i less.
-      let past : ltb ((length q.rows + k) + i) (length q.rows) ≡ false = le-ltb ((length q.rows + k) + i) (length q.rows) (omega arith) in
-      let left : ((length q.rows + k) + i) - length q.rows ≡ k + i = omega arith in
-      cond-false _ _ _ past
-      ∙ (ap (λ j. part_text q (marker ++ before_row j c)) left
-      ∙ (ap (λ l. part_text q (marker ++ l)) (h.row i less)
-      ∙ (part_then q marker (s.before ++ rows_text (take i p.rows) []) ∙ sym (append_assoc (part_text q marker) s.before (rows_text (take i p.rows) [])))));
-}
-
-pub document_placed : (is : Bool) (n : ℕ) (c : Cut) (p : Part) (s : PrintedDocument) → slice_get (parts_from is c) n ≡ Some p → printed_part is n c ≡ Some s → IsPlaced c (rows_before is n c) p s
-document_placed true zero (last q) p s at e =
-    let part : q ≡ p = same_Some _ _ at in
-    subst (λ x. IsPlaced (last q) 0 x s) part (subst (IsPlaced (last q) 0 q) (same_Some _ _ e) (record { row = λ i less. let j : 0 + i ≡ i = omega arith in ap (λ x. rows_text (take x q.rows) []) j }))
-document_placed true (suc n) (last q) p s at e = absurd (none-some _ e)
-document_placed false n (last q) p s at e = absurd (none-some _ e)
-document_placed true zero (marked q marker c) p s at e =
-    let part : q ≡ p = same_Some _ _ at in
-    subst (λ x. IsPlaced (marked q marker c) 0 x s) part (subst (IsPlaced (marked q marker c) 0 q) (same_Some _ _ e) (record {
-      row = λ i less.
-          let j : 0 + i ≡ i = omega arith in
-          ap (λ x. before_row x (marked q marker c)) j ∙ cond-true _ _ _ (lt-ltb i (length q.rows) less);
-    }))
-document_placed true (suc n) (marked q marker c) p s at e =
-    let x = map_some (printed_part (begins_document marker) n c) e in
-    subst (IsPlaced (marked q marker c) (length q.rows + rows_before (begins_document marker) n c) p) x.2 (later q marker c (rows_before (begins_document marker) n c) p x.0 (document_placed (begins_document marker) n c p x.0 at x.1))
-document_placed false n (marked q marker c) p s at e =
-    let x = map_some (printed_part (begins_document marker) n c) e in
-    subst (IsPlaced (marked q marker c) (length q.rows + rows_before (begins_document marker) n c) p) x.2 (later q marker c (rows_before (begins_document marker) n c) p x.0 (document_placed (begins_document marker) n c p x.0 at x.1))
+pub document_placed : (n : ℕ) (c : Cut) (p : Part) (s : PrintedDocument) → slice_get (document_parts c) n ≡ Some p → printed_document n c ≡ Some s → IsPlaced c (document_row n c) p s
+document_placed n c p s at e =
+    let d = map_some (placed_document n c) e in
+    let same : d.0.part ≡ p = same_Some _ _ (sym (part_stands n c d.0 d.1).there ∙ at) in
+    record { row = λ i less. text_before n c d.0 d.1 i (omega (arith, less, ap (λ (x : Part). length x.rows) same)) ∙ (λ j. (d.2 j).before ++ rows_text (take i (same j).rows) []) }

@@ -1,72 +1,44 @@
 -- The rows of documents among those of a text.
-use Rattle.std.proofs.Common.{◌≡◌, ℕ, zero, suc, ◌+◌, ◌-◌, ◌<◌, ◌≤◌, eqb, List, [], ◌∷◌, ◌++◌, length, take, drop, Option, Some, None, option_map, Bool, true, false, cond, ◌&&◌, ◌||◌, not, refl, sym, ap, ◌∙◌, arith, length-append}
-use Rattle.std.proofs.lemmas.Bool.{eq-eqb, eqb-true, lt-ltb, le-ltb, cond-true, cond-false, false≢true}
+use Rattle.std.proofs.Common.{◌≡◌, ℕ, zero, suc, ◌+◌, ◌-◌, ◌<◌, ◌≤◌, List, [], ◌∷◌, ◌++◌, length, take, drop, Option, Some, None, option_map, true, cond, refl, sym, ap, ◌∙◌, arith, length-append}
+use Rattle.std.proofs.lemmas.Bool.{lt-ltb, le-ltb, cond-true, cond-false}
 use Rattle.std.proofs.lemmas.Option.{same_Some}
 use Rattle.std.specs.List.{slice_get}
 use Rattle.yq_lines.specs.Comments as comments
 use Rattle.yq_scalar.specs.Answers.{◌>>=◌}
 use Rattle.yq_scalar.specs.Paths.{Step}
 use Rattle.yq_lines.specs.Ends.{line_of}
-use Rattle.yq_rows.specs.Grammar.{IsCut, begins_document}
-use Rattle.yq_rows.specs.Rows.{Row, Part, Cut, last, marked}
-use Rattle.yq_rows.specs.View.{Bound, bounds_from, rows_of, Shown, shown}
-use Rattle.yq_documents.specs.Documents.{parts_from, document_parts, begins_bare, has_begin}
+use Rattle.yq_rows.specs.Grammar.{IsCut}
+use Rattle.yq_rows.specs.Rows.{Row, Part, Cut}
+use Rattle.yq_rows.specs.Splices.{nth_part}
+use Rattle.yq_rows.specs.View.{Bound, rows_of, Shown, shown}
+use Rattle.yq_documents.specs.Documents.{document_parts}
 use Rattle.yq_walk.specs.Lines.{row_lines, lines_of}
-use Rattle.yq_documents.specs.PartReading.{some_begin, first_rows}
-use Rattle.yq_documents.proofs.BeginLaws.{document_is}
 use Rattle.yq_documents.proofs.PartRows.{document_has}
 use Rattle.yq_walk.proofs.RowLaws.{lines_count}
-use Rattle.yq_documents.specs.Seats.{behind_one, seat, seat_of, seat_at, rows_before, document_row}
+use Rattle.yq_documents.specs.Seats.{behind_one, seat, seat_of, seat_at, document_row}
+use Rattle.yq_documents.specs.PartNumbers.{document_part, rows_to}
+use Rattle.yq_documents.proofs.PartNumberLaws.{part_there, document_found, document_missing, end_told}
 use Rattle.yq_documents.specs.declared.path.Path.{Path}
 use Rattle.yq_documents.specs.Located.{steps_of}
 use Rattle.yq_documents.specs.Reading.{all_documents}
 use Rattle.yq_walk.specs.RowWalk.{HasDocument, stretch_told}
-use Rattle.yq_places.specs.RowWalk.{InCut, begin_rows, document_rows}
+use Rattle.yq_places.specs.RowWalk.{InCut, document_rows}
 use Rattle.yq_places.specs.SeatReading.{Numbers, numbers}
 use Rattle.yq_walk.specs.declared.spot.Stretch.{Stretch}
 use Rattle.yq_documents.proofs.PartRows.{part_begins}
 
--- part after part
-pub rows_here : (is : Bool) (n k : ℕ) (b : Bound) (bs rest : List Bound) → bs ≡ b ∷ rest → true ≡ (is && eqb n 0) → Some (k, b.rows) ≡ begin_rows is n k bs
-rows_here is n k b bs rest e found = go is n found ∙ sym (ap (begin_rows is n k) e)
-  where
-    go : (is : Bool) (n : ℕ) → true ≡ (is && eqb n 0) → Some (k, b.rows) ≡ begin_rows is n k (b ∷ rest)
-    go true zero f = refl
-    go true (suc n) f = absurd (omega (arith, eqb-true (suc n) 0 (sym f)))
-    go false n f = absurd (false≢true (sym f))
+-- the rows of a document, by the number of its part
+pub rows_told : (c : Cut) (s : Shown) (n k first : ℕ) (b : Bound) → s ≡ shown c → Some k ≡ document_part n c → first ≡ rows_to k c → slice_get s.bounds k ≡ Some b → Some (first, b.rows) ≡ document_rows n c
+rows_told c s n k first b is number from bound =
+    let d = document_found c n k number in
+    let end : b.rows ≡ document_row n c + length d.0.rows =
+    end_told k 0 c b (ap (λ (x : Shown). slice_get x.bounds k) (sym is) ∙ bound)
+    ∙ omega (arith, ap (λ j. rows_to j c + length (nth_part j c).rows) d.2, ap (λ (p : Part). length p.rows) (part_there c n d.0 d.1)) in
+    (λ i. Some ((from ∙ ap (λ j. rows_to j c) d.2) i, end i))
+    ∙ sym (ap (option_map (λ (p : Part). (document_row n c, document_row n c + length p.rows))) d.1)
 
-pub rows_later : (is : Bool) (n k : ℕ) (b : Bound) (bs rest : List Bound) → bs ≡ b ∷ rest → false ≡ (is && eqb n 0) → begin_rows is n k bs ≡ begin_rows (begins_document b.marker) (cond is (n - 1) n) b.rows rest
-rows_later is n k b bs rest e other = ap (begin_rows is n k) e ∙ go is n other
-  where
-    go : (is : Bool) (n : ℕ) → false ≡ (is && eqb n 0) → begin_rows is n k (b ∷ rest) ≡ begin_rows (begins_document b.marker) (cond is (n - 1) n) b.rows rest
-    go true zero f = absurd (false≢true (f ∙ eq-eqb 0 0 refl))
-    go true (suc n) f = ap (λ (j : ℕ). begin_rows (begins_document b.marker) j b.rows rest) (omega arith)
-    go false n f = refl
-
--- the rows of a document, by where the parts of a cut end
-abbrev pair : ℕ → Part → ℕ × ℕ
-pair k p = (k, k + length p.rows)
-
-abbrev Numbered : Bool → ℕ → ℕ → Cut → Option (ℕ × ℕ)
-Numbered is n k c = option_map (pair (k + rows_before is n c)) (slice_get (parts_from is c) n)
-
-moved : (j k m : ℕ) (o : Option Part) → option_map (pair (j + k + m)) o ≡ option_map (pair (j + (k + m))) o
-moved j k m o = ap (λ (x : ℕ). option_map (pair x) o) (omega arith)
-
-begun : (is : Bool) (n k : ℕ) (c : Cut) → begin_rows is n k (bounds_from k c) ≡ Numbered is n k c
-begun true zero k (last q) = let none : k ≡ k + 0 = omega arith in ap (λ (x : ℕ). Some (x, x + length q.rows)) none
-begun true (suc n) k (last q) = refl
-begun false n k (last q) = refl
-begun true zero k (marked q marker c) = let none : k ≡ k + 0 = omega arith in ap (λ (x : ℕ). Some (x, x + length q.rows)) none
-begun true (suc n) k (marked q marker c) = begun (begins_document marker) n (k + length q.rows) c ∙ moved k (length q.rows) (rows_before (begins_document marker) n c) (slice_get (parts_from (begins_document marker) c) n)
-begun false n k (marked q marker c) = begun (begins_document marker) n (k + length q.rows) c ∙ moved k (length q.rows) (rows_before (begins_document marker) n c) (slice_get (parts_from (begins_document marker) c) n)
-
-pub rows_told : (c : Cut) (s : Shown) (n : ℕ) → s ≡ shown c → begin_rows (first_rows s.bounds || not (some_begin s.bounds)) n 0 s.bounds ≡ document_rows n c
-rows_told c s n is =
-    let first : Bool = begins_bare c || not (has_begin c) in
-    ap (λ (b : Bool). begin_rows b n 0 s.bounds) (document_is c s is)
-    ∙ (ap (λ (x : Shown). begin_rows first n 0 x.bounds) is
-    ∙ (begun first n 0 c ∙ ap (λ (k : ℕ). option_map (pair k) (slice_get (document_parts c) n)) (omega arith)))
+pub no_rows_told : (c : Cut) (n : ℕ) → None ≡ document_part n c → None ≡ document_rows n c
+no_rows_told c n e = sym (ap (option_map (λ (p : Part). (document_row n c, document_row n c + length p.rows))) (document_missing c n e))
 
 -- the line of a number, by its row
 pub seat_number : (rs : List Row) (i k : ℕ) (r : Row) → slice_get rs i ≡ Some r → k ≤ length r.dashes → seat (length (lines_of (take i rs)) + k) rs ≡ Some (record { before = i; row = r; line = k })

@@ -1,20 +1,19 @@
 -- The pieces of a text where nodes, entries, items and comments at paths stand (YAML 1.2.2, 7.4 and 8; own).
-use Rattle.std.specs.Prelude.{ℕ, zero, suc, ◌||◌, not, List, [], ◌∷◌, ◌++◌, length, take, drop, map, slice_get, Option, Some, None, is_some, option_map, option_and_then, Bool, true, false, if◌then◌else◌}
+use Rattle.std.specs.Prelude.{ℕ, suc, List, [], ◌∷◌, ◌++◌, length, take, drop, map, slice_get, Option, Some, None, is_some, option_map, option_and_then, if◌then◌else◌}
 use Rattle.yq_scalar.specs.Answers.{◌>>=◌}
 use Rattle.yq_scalar.specs.Paths.{Step, is_here, further}
 use Rattle.yq_inline.specs.Nodes.{Key, bare, Node, empty, alias, scalar, coll, anchored, Items, none, item, key_text, sep_text, open_of, node_text, items_text}
 use Rattle.yq_inline.specs.Trees.{inner, key_content}
-use Rattle.yq_rows.specs.Grammar.{begins_document}
-use Rattle.yq_rows.specs.Rows.{Content, Nothing, Inline, Block, part_text, Cut, last, marked, cut_text}
+use Rattle.yq_rows.specs.Rows.{Content, Nothing, Inline, Block, Cut}
 use Rattle.yq_documents.specs.declared.path.Part.{Part}
 use Rattle.yq_documents.specs.declared.path.Path.{Path}
-use Rattle.yq_documents.specs.Documents.{begins_bare, has_begin}
 use Rattle.yq_lines.specs.Group.{group}
 use Rattle.yq_documents.specs.Located.{steps_of}
 use Rattle.yq_lines.specs.Outline.{flatten}
 use Rattle.yq_lines.specs.Places.{lines_before, Found, find}
 use Rattle.yq_documents.specs.declared.path.Part.TheVariants as parts
 use Rattle.yq_documents.specs.Pieces.{Piece, node_piece, head_piece, content_comment, gap_comment}
+use Rattle.yq_places.specs.PlacedRows.{PlacedPart, placed_document}
 use Rattle.yq_places.specs.PrintedLines.{PrintedLine, line_front, behind_front, print_line, print_lines, printed_lines, line_in, run_piece, lines_piece}
 
 -- A line and those under it, with the text before and behind them.
@@ -85,22 +84,13 @@ pub record PrintedDocument : Type 0 where
   pub lines : List PrintedLine
   pub behind : List ℕ
 
--- the same behind more text
-abbrev pub behind_text : List ℕ → PrintedDocument → PrintedDocument
-behind_text t s = record s { before = t ++ s.before }
-
--- document n, where it is known of the first part whether it is one (9.1)
-abbrev pub printed_part : Bool → ℕ → Cut → Option PrintedDocument
-printed_part true zero (last p) = Some (record { before = []; lines = printed_lines p.rows; behind = p.end ++ [] })
-printed_part true (suc n) (last p) = None
-printed_part false n (last p) = None
-printed_part true zero (marked p marker c) = Some (record { before = []; lines = printed_lines p.rows; behind = p.end ++ (marker ++ cut_text c) })
-printed_part true (suc n) (marked p marker c) = option_map (behind_text (part_text p marker)) (printed_part (begins_document marker) n c)
-printed_part false n (marked p marker c) = option_map (behind_text (part_text p marker)) (printed_part (begins_document marker) n c)
+-- the lines of a part in its place
+abbrev pub printed_part : PlacedPart → PrintedDocument
+printed_part s = record { before = s.before; lines = printed_lines s.part.rows; behind = s.part.end ++ s.behind }
 
 -- document n of a cut (9.1)
 abbrev pub printed_document : ℕ → Cut → Option PrintedDocument
-printed_document n c = printed_part (begins_bare c || not (has_begin c)) n c
+printed_document n c = option_map printed_part (placed_document n c)
 
 -- line n of a document, with the m lines behind it as those under it
 abbrev pub entry_with : PrintedDocument → ℕ → ℕ → Option BlockEntry

@@ -1,10 +1,11 @@
 -- A document's rows in the text of a cut, and the row of the line to which a path leads (YAML 1.2.2, 9.1; own).
-use Rattle.std.specs.Prelude.{ℕ, zero, suc, ◌||◌, not, List, [], ◌++◌, take, drop, Option, Some, None, option_map, Bool, true, false}
+use Rattle.std.specs.Prelude.{ℕ, zero, suc, List, [], ◌++◌, take, drop, slice_get, Option, option_map}
 use Rattle.yq_scalar.specs.Answers.{◌>>=◌}
 use Rattle.yq_scalar.specs.Paths.{Step}
-use Rattle.yq_rows.specs.Grammar.{begins_document}
-use Rattle.yq_rows.specs.Rows.{Row, rows_text, Part, part_text, Cut, last, marked, cut_text}
-use Rattle.yq_documents.specs.Documents.{begins_bare, has_begin}
+use Rattle.yq_rows.specs.Rows.{Row, rows_text, Part, part_text, Cut, last, marked}
+use Rattle.yq_rows.specs.Splices.{nth_part, behind_part}
+use Rattle.yq_documents.specs.Documents.{document_parts}
+use Rattle.yq_documents.specs.PartNumbers.{part_number}
 use Rattle.yq_documents.specs.Seats.{Seat, seat_of}
 
 -- The part of a cut that is a document, with the text before and behind it (9.1; own).
@@ -13,22 +14,19 @@ pub record PlacedPart : Type 0 where
   pub part : Part
   pub behind : List ℕ
 
--- the same part behind more text
-abbrev pub part_behind : List ℕ → PlacedPart → PlacedPart
-part_behind t s = record s { before = t ++ s.before }
+-- the text before part i of a cut, or before the last one (own)
+abbrev pub before_part : ℕ → Cut → List ℕ
+before_part i (last p) = []
+before_part zero (marked p marker c) = []
+before_part (suc i) (marked p marker c) = part_text p marker ++ before_part i c
 
--- document n, where it is known of the first part whether it is one (9.1)
-abbrev pub placed_part : Bool → ℕ → Cut → Option PlacedPart
-placed_part true zero (last p) = Some (record { before = []; part = p; behind = [] })
-placed_part true (suc n) (last p) = None
-placed_part false n (last p) = None
-placed_part true zero (marked p marker c) = Some (record { before = []; part = p; behind = marker ++ cut_text c })
-placed_part true (suc n) (marked p marker c) = option_map (part_behind (part_text p marker)) (placed_part (begins_document marker) n c)
-placed_part false n (marked p marker c) = option_map (part_behind (part_text p marker)) (placed_part (begins_document marker) n c)
+-- part i in its place, or the last one (own)
+abbrev pub placed_at : ℕ → Cut → PlacedPart
+placed_at i c = record { before = before_part i c; part = nth_part i c; behind = behind_part i c }
 
 -- document n of a cut (9.1)
 abbrev pub placed_document : ℕ → Cut → Option PlacedPart
-placed_document n c = placed_part (begins_bare c || not (has_begin c)) n c
+placed_document n c = option_map (λ p. placed_at (part_number n c) c) (slice_get (document_parts c) n)
 
 -- A row with a line of it, with the text before the row and behind it.
 pub record PlacedRow : Type 0 where

@@ -1,9 +1,9 @@
 -- Reading (own; a reader may skip it): the rows of documents among those of a cut, and items that stay known in other cuts.
-use Rattle.std.specs.Prelude.{◌≡◌, ℕ, zero, suc, Bool, true, false, ◌+◌, List, [], ◌∷◌, ◌++◌, length, map, drop, slice_get, Option, Some, None, option_map}
-use Rattle.yq_rows.specs.Grammar.{IsCut, begins_document}
+use Rattle.std.specs.Prelude.{◌≡◌, ℕ, true, ◌+◌, List, [], ◌++◌, length, map, drop, slice_get, Option, Some, option_map}
+use Rattle.yq_rows.specs.Grammar.{IsCut}
 use Rattle.yq_rows.specs.Rows.{Row, Cut}
 use Rattle.yq_rows.specs.Touched.{TouchesOnly}
-use Rattle.yq_rows.specs.View.{rows_of, Bound, Shown, shown}
+use Rattle.yq_rows.specs.View.{rows_of, Shown, shown}
 use Rattle.yq_documents.specs.Documents.{document_parts}
 use Rattle.yq_documents.specs.Reading.{all_documents, cut_of}
 use Rattle.yq_documents.specs.Seats.{document_row}
@@ -35,14 +35,7 @@ pub record IsLineAt (s : Shown) (d : Stretch) (steps : List Step) (q : Spot) : T
 abbrev pub IsKnownLine : Shown → KnownLine → Type 0
 IsKnownLine s k = IsLineAt s k.document (map step_of k.steps.now) k.at
 
--- these numbers of document n, by where parts end: k rows stand before the first of them, of which it is known whether it is a document
-abbrev pub begin_rows : Bool → ℕ → ℕ → List Bound → Option (ℕ × ℕ)
-begin_rows is n k [] = None
-begin_rows true zero k (b ∷ bs) = Some (k, b.rows)
-begin_rows true (suc n) k (b ∷ bs) = begin_rows (begins_document b.marker) n b.rows bs
-begin_rows false n k (b ∷ bs) = begin_rows (begins_document b.marker) n b.rows bs
-
--- these numbers of document n of a cut
+-- how many rows stand before document n of a cut, and up to its end
 abbrev pub document_rows : ℕ → Cut → Option (ℕ × ℕ)
 document_rows n c = option_map (λ p. (document_row n c, document_row n c + length p.rows)) (slice_get (document_parts c) n)
 

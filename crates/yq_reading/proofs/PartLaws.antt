@@ -14,7 +14,7 @@ use Rattle.yq_rows.specs.View.{Bound, Slices, slices, bounds_from, rows_of, Show
 use Rattle.yq_documents.specs.Documents.{begins_bare, has_begin, parts_from}
 use Rattle.yq_documents.specs.PartReading.{first_rows, some_begin}
 use Rattle.yq_documents.specs.Reading.{cut_of}
-use Rattle.yq_documents.specs.Seats.{rows_before}
+use Rattle.yq_documents.specs.PartNumbers.{number_from, rows_to}
 use Rattle.yq_documents.specs.declared.read_text.DocumentRows.{DocumentRows}
 use Rattle.yq_documents.proofs.BeginLaws.{document_is}
 use Rattle.yq_reading.specs.Making.{IsCutInto}
@@ -34,7 +34,7 @@ gap_there all xs (r ∷ rs) more end marker is =
 
 -- where a document stands, and the gap that its lead ends
 abbrev Told : ℕ → Bool → ℕ → Cut → Part → ℕ × ℕ × List ℕ
-Told k is n c p = (k + rows_before is n c, k + rows_before is n c + length p.rows, gap_of p.rows p.end)
+Told k is n c p = (k + rows_to (number_from is n c) c, k + rows_to (number_from is n c) c + length p.rows, gap_of p.rows p.end)
 
 abbrev Tells : List Row → ℕ → Bool → ℕ → Cut → Part → Type 0
 Tells all k is n c p = slice_get (all_rows (map slices all) is k (bounds_from k c)) n ≡ Some (Told k is n c p)
@@ -59,10 +59,10 @@ told_at all xs k false n (last q) p at is e = absurd (cc)
 told_at all xs k true zero (marked q marker c) p at is e = ap (λ x. Some x) (told_here all xs q p k (rows_of c) marker (same_Some _ _ e) at is)
 told_at all xs k true (suc n) (marked q marker c) p at is e =
     told_at all (xs ++ q.rows) (k + length q.rows) (begins_document marker) n c p (omega (arith, at, length-append xs q.rows)) (is ∙ sym (append_assoc xs q.rows (rows_of c))) e
-    ∙ told_sum k (length q.rows) (rows_before (begins_document marker) n c) p
+    ∙ told_sum k (length q.rows) (rows_to (number_from (begins_document marker) n c) c) p
 told_at all xs k false n (marked q marker c) p at is e =
     told_at all (xs ++ q.rows) (k + length q.rows) (begins_document marker) n c p (omega (arith, at, length-append xs q.rows)) (is ∙ sym (append_assoc xs q.rows (rows_of c))) e
-    ∙ told_sum k (length q.rows) (rows_before (begins_document marker) n c) p
+    ∙ told_sum k (length q.rows) (rows_to (number_from (begins_document marker) n c) c) p
 
 -- how many documents there are
 told_count : (ss : List Slices) (is : Bool) (k : ℕ) (c : Cut) → length (all_rows ss is k (bounds_from k c)) ≡ length (parts_from is c)
@@ -75,7 +75,7 @@ pub are_placed : (t : List ℕ) (s : Shown) (ds : List DocumentRows) → IsCutIn
 are_placed t s ds k e =
     let c : Cut = cut_of t in
     let is : Bool = begins_bare c || not (has_begin c) in
-    let start : (n : ℕ) → 0 + rows_before is n c ≡ rows_before is n c = λ n. omega arith in
+    let start : (n : ℕ) → 0 + rows_to (number_from is n c) c ≡ rows_to (number_from is n c) c = λ n. omega arith in
     let told : rows_told ds ≡ all_rows (map slices (rows_of c)) is 0 (bounds_from 0 c) = e ∙ (λ i. all_rows (k.rows i).rows (document_is c s k.rows i) 0 (k.rows i).bounds) in
     record {
       count = sym (length-map ds row_told) ∙ (ap length told ∙ told_count (map slices (rows_of c)) is 0 c);

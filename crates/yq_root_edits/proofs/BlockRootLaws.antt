@@ -1,5 +1,5 @@
 -- Where the block collection stands that is the root of a document.
-use Rattle.std.proofs.Common.{◌≡◌, ◌⊎◌, inl, inr, ℕ, List, [], ◌∷◌, ◌++◌, replicate, Some, None, true, false, not, ◌||◌, refl, sym, ap, ◌∙◌, subst, append_assoc, append-nil}
+use Rattle.std.proofs.Common.{◌≡◌, ◌⊎◌, inl, inr, ℕ, List, [], ◌∷◌, ◌++◌, replicate, Some, None, true, false, refl, sym, ap, ◌∙◌, subst, append_assoc, append-nil}
 use Rattle.std.proofs.lemmas.Bool.{false≢true}
 use Rattle.yq_scalar.specs.declared.block_written.Break.TheVariants as breaks
 use Rattle.yq_scalar.specs.Text.{separates}
@@ -12,7 +12,6 @@ use Rattle.yq_rows.specs.Splices.{first_gap}
 use Rattle.yq_rows.proofs.NothingLaws.{gap_other}
 use Rattle.yq_rows.proofs.seams.FrontSeams.{behind_row_some}
 use Rattle.yq_rows.proofs.splices.PartPlaces.{part_ends}
-use Rattle.yq_documents.specs.Documents.{begins_bare, has_begin}
 use Rattle.yq_walk.specs.Lines.{lines_of}
 use Rattle.yq_documents.specs.Reading.{read_at}
 use Rattle.yq_documents.specs.Ready.{begins_no_node}
@@ -22,7 +21,8 @@ use Rattle.yq_places.specs.Standings.{BlockRoot, is_alone}
 use Rattle.yq_places.proofs.CommentPieceLaws.{Ended, gap_end}
 use Rattle.yq_places.proofs.PrintedTexts.{less_is}
 use Rattle.yq_places.proofs.RemovalLines.{LineSeam, LiesIn, lies_in, seam_join}
-use Rattle.yq_change.specs.DocumentRows.{IsDocumentPart, part_number}
+use Rattle.yq_change.specs.DocumentRows.{IsDocumentPart}
+use Rattle.yq_documents.specs.PartNumbers.{part_number}
 use Rattle.yq_change.specs.PlacedParts.{StandsAt}
 use Rattle.yq_change.specs.TextPieces.{IsPiece}
 use Rattle.yq_change.proofs.AppendPlaceLaws.{rows_behind}
@@ -117,7 +117,7 @@ block_root_at n c w read h = subst (IsBlockRoot n c) h.is (record {
     cut = (document_known (cut_text c) c n h.d.part (record { read = read; there = stands.there })).cut
 
     lies : LiesIn h.d
-    lies = lies_in (begins_bare c || not (has_begin c)) true n c h.d cut.parts h.placed
+    lies = lies_in n c h.d cut.parts h.placed
 
     are : AreRows unlimited (h.row ∷ h.others) h.d.part.end h.d.behind
     are = subst (λ xs. AreRows unlimited xs h.d.part.end h.d.behind) h.rows_are lies.rows
@@ -143,7 +143,7 @@ module _ (n : ℕ) (c : Cut) (w : BlockRoot) (read : read_at (cut_text c) ≡ So
   cut = (document_known (cut_text c) c n h.d.part there).cut
 
   lies : LiesIn h.d
-  lies = lies_in (begins_bare c || not (has_begin c)) true n c h.d cut.parts h.placed
+  lies = lies_in n c h.d cut.parts h.placed
 
   abbrev more : List ℕ
   more = h.d.part.end ++ h.d.behind

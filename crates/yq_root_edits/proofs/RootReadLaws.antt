@@ -31,7 +31,8 @@ use Rattle.yq_block.specs.BlockText.{block_value}
 use Rattle.yq_block.specs.BlockValues.{HasNearKeys}
 use Rattle.yq_change.specs.Changed.{changed as part_changed, IsChanged, KeepsRows, put_document}
 use Rattle.yq_change.specs.Conditions.{AreSpared}
-use Rattle.yq_change.specs.DocumentRows.{IsDocumentPart, behind_document, part_number}
+use Rattle.yq_change.specs.DocumentRows.{IsDocumentPart, behind_document}
+use Rattle.yq_documents.specs.PartNumbers.{part_number}
 use Rattle.yq_change.specs.PlacedParts.{StandsAt}
 use Rattle.yq_change.specs.Replaces.{TakesRoot, rooted}
 use Rattle.yq_change.specs.Rooms.{is_block_root, LeadGoes}

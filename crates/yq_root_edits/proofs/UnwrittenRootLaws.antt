@@ -2,7 +2,6 @@
 use Rattle.std.proofs.Common.{◌≡◌, ◌⊎◌, inl, inr, ℕ, zero, suc, ◌≤◌, List, [], ◌∷◌, ◌++◌, length, Some, Bool, true, false, not, ◌||◌, refl, sym, ap, ◌∙◌, subst, arith, append_assoc, append-nil, ⊎_elim, length-append}
 use Rattle.std.proofs.lemmas.List.{nil_from_length}
 use Rattle.std.proofs.lemmas.Bool.{false≢true, or_right, and_parts, or_parts}
-use Rattle.std.proofs.lemmas.Option.{same_Some}
 use Rattle.yq_scalar.specs.BlockWritten.{break_text}
 use Rattle.yq_scalar.specs.Text.{is_empty, is_feed, is_break, is_line, ends_line, separates, NoneIn, joined}
 use Rattle.yq_scalar.specs.declared.block_written.Break.{Break}
@@ -10,7 +9,7 @@ use Rattle.yq_scalar.specs.declared.block_written.Break.TheVariants as breaks
 use Rattle.yq_lines.specs.Comments.{head_comment}
 use Rattle.yq_rows.specs.Gap.{IsLineEnd, IsGapLine, AreGapLines, IsGap}
 use Rattle.yq_rows.specs.Grammar.{IsCut, IsMarkerLine, IsTail, unlimited, AreRows, AreParts, begins_document, ends_part}
-use Rattle.yq_rows.specs.Rows.{rows_text, Part, part_text, Cut, last, marked, cut_text}
+use Rattle.yq_rows.specs.Rows.{rows_text, part_text, Cut, last, marked, cut_text}
 use Rattle.yq_rows.specs.SpliceFits.{is_after}
 use Rattle.yq_rows.specs.Splices.{behind_part, first_gap, marker_before, nth_part}
 use Rattle.yq_rows.proofs.LineEnds.{white_none, comment_none}
@@ -22,16 +21,17 @@ use Rattle.yq_rows.proofs.splices.PartPlaces.{part_ends}
 use Rattle.yq_rows.proofs.GapLaws.{some_more}
 use Rattle.yq_block.proofs.EndLaws.{break_tail}
 use Rattle.yq_block.proofs.LaidRows.{no_gap_here}
-use Rattle.yq_documents.specs.Documents.{begins_bare, has_begin, lead_of}
-use Rattle.yq_places.specs.PlacedRows.{PlacedPart, part_behind, placed_part}
+use Rattle.yq_documents.specs.Documents.{lead_of}
+use Rattle.yq_places.specs.PlacedRows.{PlacedPart, before_part, placed_document}
 use Rattle.yq_documents.specs.Reading.{read_at}
 use Rattle.yq_documents.specs.Ready.{begins_no_node}
 use Rattle.yq_walk.specs.Lines.{lines_of}
 use Rattle.yq_places.specs.Standings.{NoRows}
 use Rattle.yq_places.proofs.CommentPieceLaws.{gap_end}
-use Rattle.yq_places.proofs.PlacedPartLaws.{map_some}
+use Rattle.yq_places.proofs.PlacedPartLaws.{part_stands}
 use Rattle.yq_places.proofs.RemovalLines.{LineSeam, LiesIn, lies_in, seam_join}
-use Rattle.yq_change.specs.DocumentRows.{IsDocumentPart, number_from, part_number}
+use Rattle.yq_change.specs.DocumentRows.{IsDocumentPart}
+use Rattle.yq_documents.specs.PartNumbers.{part_number}
 use Rattle.yq_change.specs.PlacedParts.{StandsAt}
 use Rattle.yq_change.specs.Rooms.{is_block_root}
 use Rattle.yq_change.specs.TextPieces.{IsPiece}
@@ -103,29 +103,20 @@ marker_at (marked p marker c) (suc k) started h = inr (go c k marker (begins_doc
     go (marked p marker c) (suc k) before started h line = go c k marker (begins_document marker) h.2 h.1
 
 -- the text before a document ends in it
-ends_later : (p : Part) (marker before : List ℕ) (x d : PlacedPart) (m : List ℕ) → part_behind (part_text p marker) x ≡ d → (pre : List ℕ) × (marker ++ x.before ≡ pre ++ m) → (pre : List ℕ) × (before ++ d.before ≡ pre ++ m)
-ends_later p marker before x d m is w = (
-  (before ++ part_text p []) ++ w.0,
-  ap (λ (y : PlacedPart). before ++ y.before) (sym is)
-      ∙ (ap (λ t. before ++ (t ++ x.before)) (part_then p [] marker)
-      ∙ (ap (λ t. before ++ t) (append_assoc (part_text p []) marker x.before)
-      ∙ (sym (append_assoc before (part_text p []) (marker ++ x.before)) ∙ (ap (λ t. (before ++ part_text p []) ++ t) w.1 ∙ sym (append_assoc (before ++ part_text p []) w.0 m))))),
-)
+ends_at_marker : (i : ℕ) (c : Cut) (before : List ℕ) → (pre : List ℕ) × (before ++ before_part i c ≡ pre ++ marker_before before i c)
+ends_at_marker i (last p) before = ([], append-nil before)
+ends_at_marker zero (marked p marker c) before = ([], append-nil before)
+ends_at_marker (suc i) (marked p marker c) before =
+    let w = ends_at_marker i c marker in (
+      (before ++ part_text p []) ++ w.0,
+      ap (λ t. before ++ (t ++ before_part i c)) (part_then p [] marker)
+          ∙ (ap (λ t. before ++ t) (append_assoc (part_text p []) marker (before_part i c))
+          ∙ (sym (append_assoc before (part_text p []) (marker ++ before_part i c))
+          ∙ (ap (λ t. (before ++ part_text p []) ++ t) w.1 ∙ sym (append_assoc (before ++ part_text p []) w.0 (marker_before marker i c))))),
+    )
 
-nothing_before : (before : List ℕ) (d : PlacedPart) → d.before ≡ [] → (pre : List ℕ) × (before ++ d.before ≡ pre ++ before)
-nothing_before before d e = ([], ap (λ t. before ++ t) e ∙ append-nil before)
-
-ends_in_marker : (is : Bool) (n : ℕ) (c : Cut) (d : PlacedPart) (before : List ℕ) → placed_part is n c ≡ Some d → (pre : List ℕ) × (before ++ d.before ≡ pre ++ marker_before before (number_from is n c) c)
-ends_in_marker true zero (last p) d before e = nothing_before before d (ap (λ (x : PlacedPart). x.before) (sym (same_Some _ _ e)))
-ends_in_marker true (suc n) (last p) d before e = absurd (cc)
-ends_in_marker false n (last p) d before e = absurd (cc)
-ends_in_marker true zero (marked p marker c) d before e = nothing_before before d (ap (λ (x : PlacedPart). x.before) (sym (same_Some _ _ e)))
-ends_in_marker true (suc n) (marked p marker c) d before e =
-    let x = map_some (part_behind (part_text p marker)) (placed_part (begins_document marker) n c) d e in
-    ends_later p marker before x.0 d _ x.2 (ends_in_marker (begins_document marker) n c x.0 marker x.1)
-ends_in_marker false n (marked p marker c) d before e =
-    let x = map_some (part_behind (part_text p marker)) (placed_part (begins_document marker) n c) d e in
-    ends_later p marker before x.0 d _ x.2 (ends_in_marker (begins_document marker) n c x.0 marker x.1)
+ends_in_marker : (n : ℕ) (c : Cut) (d : PlacedPart) → placed_document n c ≡ Some d → (pre : List ℕ) × (d.before ≡ pre ++ marker_before [] (part_number n c) c)
+ends_in_marker n c d e = let w = ends_at_marker (part_number n c) c [] in (w.0, ap (λ (y : PlacedPart). y.before) (sym (part_stands n c d e).is) ∙ w.1)
 
 -- a marker's line that ends in a break
 open_tail : (a b c : ℕ) (p : List ℕ) (t : IsTail p []) → is_feed c ≡ false → is_closed_text (a ∷ (b ∷ (c ∷ p))) ≡ true → t.line.break ≡ [] → ⊥
@@ -170,7 +161,7 @@ module _ (n : ℕ) (c : Cut) (w : NoRows) (read : read_at (cut_text c) ≡ Some 
   cut = (document_known (cut_text c) c n h.d.part there).cut
 
   lies : LiesIn h.d
-  lies = lies_in (begins_bare c || not (has_begin c)) true n c h.d cut.parts h.placed
+  lies = lies_in n c h.d cut.parts h.placed
 
   pub gap_is : IsGap h.d.part.end h.d.behind
   gap_is = subst (λ xs. AreRows unlimited xs h.d.part.end h.d.behind) h.rows_are lies.rows
@@ -209,7 +200,7 @@ module _ (n : ℕ) (c : Cut) (w : NoRows) (read : read_at (cut_text c) ≡ Some 
     where
       ends_closed : IsMarkerLine marker (h.d.part.end ++ h.d.behind) → h.d.part.end ++ h.d.behind ≡ [] → is_closed_text marker ≡ true
       ends_closed own none =
-          let front = ends_in_marker (begins_bare c || not (has_begin c)) n c h.d [] h.placed in
+          let front = ends_in_marker n c h.d h.placed in
           let before : h.d.before ≡ h.d.before ++ h.d.part.end = sym (append-nil h.d.before) ∙ ap (λ x. h.d.before ++ x) (sym (nil_from_length h.d.part.end (omega (arith, ap length none, length-append h.d.part.end h.d.behind)))) in
           sym (closed_behind front.0 marker (long_some marker own.long)) ∙ (ap is_closed_text (sym front.1 ∙ before) ∙ closed none)
 

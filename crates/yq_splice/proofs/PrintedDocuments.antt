@@ -1,8 +1,8 @@
 -- The lines of a document of a cut that has a reading.
-use Rattle.std.proofs.Common.{◌≡◌, ℕ, Some, true, not, ◌||◌, refl}
+use Rattle.std.proofs.Common.{◌≡◌, ℕ, Some, refl}
 use Rattle.std.specs.List.{slice_get}
 use Rattle.yq_rows.specs.Rows.{Part, Cut, cut_text}
-use Rattle.yq_documents.specs.Documents.{begins_bare, document_parts, has_begin}
+use Rattle.yq_documents.specs.Documents.{document_parts}
 use Rattle.yq_places.specs.PathPieces.{PrintedDocument, printed_document}
 use Rattle.yq_documents.specs.Reading.{read_at}
 use Rattle.yq_places.proofs.PrintedLaws.{IsPrintedDocument, document_is}
@@ -17,7 +17,7 @@ pub record IsPrintedAt (c : Cut) (doc : ℕ) (p : Part) : Type 0 where
 
 pub printed_at : (c : Cut) (doc : ℕ) (p : Part) → read_at (cut_text c) ≡ Some c → slice_get (document_parts c) doc ≡ Some p → IsPrintedAt c doc p
 printed_at c doc p read there =
-    let s = around (begins_bare c || not (has_begin c)) doc c p there in
+    let s = around doc c p there in
     let known = document_known (cut_text c) c doc p (record { read = read; there = there }) in
-    let q = document_is (begins_bare c || not (has_begin c)) true doc c _ known.cut.parts s.printed in
+    let q = document_is doc c _ known.cut.parts s.printed in
     record { document = _; is = s.printed; printed = record { lines = refl; told = q.2.told } }

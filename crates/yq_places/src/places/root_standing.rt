@@ -1,5 +1,5 @@
 //! What stands at roots.
-ghost use Rattle.std.specs.Prelude.{◌≡◌, ◌<◌, [], ◌∷◌, length, option_map, IfSome};
+ghost use Rattle.std.specs.Prelude.{◌≡◌, ◌<◌, [], ◌∷◌, option_map};
 ghost use Rattle.yq_text.specs.Halves.{whole};
 ghost use Rattle.yq_documents.specs.Reading.{cut_of};
 ghost use Rattle.yq_places.specs.RootReading as reading;
@@ -12,9 +12,8 @@ use crate::places::entry_standing::{is_alone, lone_in};
 use crate::places::lines_cut::cut_lines;
 use crate::places::row_place::{line_start, row_stop};
 use crate::places::standing::{BlockRoot, NoRows, Standing};
-use crate::places::stretch::{is_sought, left_behind};
-use yq_documents::first_is_document;
-use yq_rows::{Rows, begins_document};
+use yq_documents::{document_part, rows_to};
+use yq_rows::Rows;
 use yq_text::Halves;
 use yq_walk::{Spot, Stretch};
 
@@ -53,37 +52,16 @@ fn rows_standing<'t>(rows: &Rows<'t>, text: Halves<'t>, document: Stretch) -> St
     }
 }
 
-/// The number of the part that is document `i`, both counted from 0, where `first` tells whether part 0
-/// is a document.
-fn part_number(rows: &Rows<'_>, first: bool, i: usize) -> Option<usize>
-    ensures value { result ≡ reading.part_number first i 0 rows.now.bounds }
-    ensures within { IfSome result (λ k. k < length rows.now.bounds) }
-{
-    let mut is_document = first;
-    let mut left = i;
-    'parts: for at in 0..rows.parts() {
-        let bound = rows.part(at);
-        if is_sought(is_document, left) {
-            return Some(at);
-        }
-        left = left_behind(is_document, left);
-        is_document = begins_document(bound.marker.as_bytes());
-    }
-    None
-}
-
 impl<'t> CutText<'_, 't> {
     /// Where document `doc` ends, in bytes, if it has no rows.
     pub(crate) fn unwritten_end(&self, doc: usize) -> Option<usize>
         ensures { result ≡ reading.unwritten_at doc (cut_of self.now) }
     {
-        let document = self.stretch(doc)?;
-        let _whole = self.whole();
         let rows = self.rows();
-        if document.first != document.end {
+        let part = document_part(rows, doc)?;
+        if rows_to(rows, part) != rows.part(part).rows {
             return None;
         }
-        let part = part_number(rows, first_is_document(rows), doc)?;
         Some(rows.part_end(part))
     }
 

@@ -1,5 +1,5 @@
 //! The rows of documents among those of a text, and lines of them at paths.
-ghost use Rattle.std.specs.Prelude.{◌≡◌, ◌&&◌, ◌==◌, ◌-◌, map, option_map, if◌then◌else◌, true};
+ghost use Rattle.std.specs.Prelude.{◌≡◌, ◌-◌, map, option_map, true};
 ghost use Rattle.yq_inline.specs.Entries.{step_of};
 ghost use Rattle.yq_documents.specs.Reading.{all_documents, cut_of};
 ghost use Rattle.yq_documents.specs.Seats.{document_row, seat_at, seat_of};
@@ -9,9 +9,9 @@ ghost use Rattle.yq_walk.specs.RowWalk.{AreKnown, HasDocument, stretch_told};
 ghost use Rattle.yq_places.specs.SeatReading.{numbers, told};
 
 use crate::cut_text::CutText;
-use yq_documents::{Path, first_is_document};
+use yq_documents::{Path, document_part, rows_to};
 use yq_inline::Step;
-use yq_rows::{Rows, begins_document};
+use yq_rows::Rows;
 use yq_walk::{KnownItems, Stretch, line_at, lines_before_mark};
 
 /// A line of a row.
@@ -23,46 +23,6 @@ pub(crate) struct Seat {
     pub(crate) line: usize,
     /// How many lines of the row stand before that of its mark.
     pub(crate) dashes: usize,
-}
-
-/// Whether a part is the document before which so many are left.
-pub(crate) fn is_sought(is_document: bool, left: usize) -> bool
-    ensures { result ≡ (is_document && (left == 0)) }
-{
-    is_document && left == 0
-}
-
-/// How many documents are left before the sought one behind a part.
-pub(crate) fn left_behind(is_document: bool, left: usize) -> usize
-    ensures { result ≡ (if is_document then left - 1 else left) }
-{
-    if is_document {
-        left.saturating_sub(1)
-    } else {
-        left
-    }
-}
-
-/// The rows of document `i`, where it is known of the first part whether it is one.
-fn begin_rows(rows: &Rows<'_>, first: bool, i: usize) -> Option<Stretch>
-    ensures { option_map stretch_told result ≡ spec.begin_rows first i 0 rows.now.bounds }
-{
-    let mut is_document = first;
-    let mut left = i;
-    let mut from = 0;
-    'parts: for at in 0..rows.parts() {
-        let bound = rows.part(at);
-        if is_sought(is_document, left) {
-            return Some(Stretch {
-                first: from,
-                end: bound.rows,
-            });
-        }
-        left = left_behind(is_document, left);
-        is_document = begins_document(bound.marker.as_bytes());
-        from = bound.rows;
-    }
-    None
 }
 
 /// The line of the entry or item to which steps lead in a document, if one of a row is.
@@ -90,7 +50,11 @@ impl<'d, 't> CutText<'d, 't> {
     {
         let _whole = self.whole();
         let rows = self.rows();
-        begin_rows(rows, first_is_document(rows), doc)
+        let part = document_part(rows, doc)?;
+        Some(Stretch {
+            first: rows_to(rows, part),
+            end: rows.part(part).rows,
+        })
     }
 
     /// The line of the entry or item at a path, if one of a row is.

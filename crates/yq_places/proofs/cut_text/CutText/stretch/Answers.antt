@@ -1,10 +1,12 @@
-use Rattle.std.proofs.Common.{ap, ◌∙◌}
+use Rattle.yq_rows.specs.View.{bound_view}
 use Rattle.yq_documents.specs.Reading.{cut_of}
-use Rattle.yq_places.specs.RowWalk.{begin_rows}
-use Rattle.yq_places.proofs.WalkDocuments.{rows_told}
+use Rattle.yq_places.proofs.WalkDocuments.{rows_told, no_rows_told}
 use Rattle.yq_places.proofs.cut_text.CutText.stretch.Goals as goal
+
+pub returns-in_err-part-clause-place : goal.returns-in_err-part-clause-place
+returns-in_err-part-clause-place c = rw c.from_residual.ensures (no_rows_told (cut_of c.args.self.now) c.args.doc (c.in_err-part.ensures.value (cut_of c.args.self.now) c.rows-rows.ensures))
 
 pub returns-clause-place : goal.returns-clause-place
 returns-clause-place c =
-    c.begin_rows.ensures
-    ∙ (ap (λ b. begin_rows b c.args.doc 0 c.rows-rows.result.now.bounds) c.first_is_document.ensures ∙ rows_told (cut_of c.args.self.now) c.rows-rows.result.now c.args.doc c.rows-rows.ensures)
+    let cut = cut_of c.args.self.now in
+    rows_told cut c.rows-rows.result.now c.args.doc c.in_ok-part.part c.rows_to.result (bound_view c.part.result) c.rows-rows.ensures (c.in_ok-part.ensures.value cut c.rows-rows.ensures) (c.rows_to.ensures cut c.rows-rows.ensures) c.part.ensures
