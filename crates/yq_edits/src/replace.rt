@@ -18,10 +18,10 @@ mod lone;
 
 use crate::layout::layout_for;
 use block::block_scalar_put;
-use held::{beside_put, dash_put, under_put};
+use held::{beside_put, dash_put, text_put, under_put};
 use lone::{first_put, lone_put, root_put};
 use std::alloc::{AllocError, Global};
-use yq_block::Layout;
+use yq_block::{Layout, is_filled};
 use yq_documents::Path;
 use yq_inline::Value;
 use yq_places::{CutText, Standing};
@@ -100,6 +100,7 @@ fn text_there(
 ///
 /// # Errors
 /// [`AllocError`] where memory is refused.
+#[tactic(auto, using(crate::proofs::PlacedValueLaws::placed_there))]
 pub fn value_put_at<'t>(
     alloc: Global,
     cut: &CutText<'_, 't>,
@@ -112,6 +113,11 @@ pub fn value_put_at<'t>(
     let Some(standing) = cut.standing(path) else {
         return Ok(None);
     };
+    if let Standing::Beside(held) = &standing
+        && !is_filled(value)
+    {
+        return Ok(Some(text_put(alloc, held, value)?));
+    }
     let layout = layout_for(cut, path.doc, value);
     let text = text_there(alloc, cut, path, &standing)?;
     Ok(Some(value_put(alloc, text, &layout, value, &standing)?))

@@ -1,10 +1,12 @@
 //! A value in the place of what a key or dash holds, or of a compact collection.
-ghost use Rattle.std.specs.Prelude.{◌≡◌, ℕ, List, [], IfOk, string_bytes};
+ghost use Rattle.std.specs.Prelude.{◌≡◌, ℕ, List, [], false, IfOk, string_bytes};
 ghost use Rattle.yq_inline.specs.Values.{node_of};
 ghost use Rattle.yq_scalar.specs.BlockWritten.{break_text};
 ghost use Rattle.yq_places.specs.StandingTelling.{compact_told, held_told, mark_told};
+ghost use Rattle.yq_block.specs.BlockReading.{is_filled as filled};
 ghost use Rattle.yq_block.specs.BlockRows.{item_column};
 ghost use Rattle.yq_block.specs.BlockText.{block_value};
+ghost use Rattle.yq_block.specs.declared.layout.Layout.{Layout as LayoutOf};
 ghost use Rattle.yq_edits.specs.ReplaceEdits as spec;
 ghost use Rattle.yq_edits.specs.WrittenValues as written;
 
@@ -112,6 +114,22 @@ fn put_lines<'t>(
     Ok(Segments::new(segments))
 }
 
+/// A value without items and entries on one line in the place of an inline node, or of nothing. It looks
+/// the same in each document.
+pub(crate) fn text_put<'t>(
+    alloc: Global,
+    held: &Held<'t>,
+    value: &Value,
+) -> Result<Segments<'t>, AllocError>
+    requires { filled (node_of value.now) ≡ false }
+    ensures { (l : LayoutOf) → IfOk result (λ ss. ss ≡
+        spec.held_put (break_text l.br) (held_told held.now) (written.written_at
+        l (mark_told held.now.mark) held.now.head.now (node_of value.now))) }
+{
+    let text = value_text(alloc, Place::Block, held.head.as_bytes(), value)?;
+    put_inline(alloc, held, text)
+}
+
 /// A value in the place of an inline node, or of nothing.
 pub(crate) fn beside_put<'t>(
     alloc: Global,
@@ -124,8 +142,7 @@ pub(crate) fn beside_put<'t>(
         layout.now (mark_told held.now.mark) held.now.head.now (node_of value.now))) }
 {
     if !is_filled(value) {
-        let text = value_text(alloc, Place::Block, held.head.as_bytes(), value)?;
-        return put_inline(alloc, held, text);
+        return text_put(alloc, held, value);
     }
     if takes_compact(held.mark) {
         put_compact(alloc, layout, held, value)

@@ -13,7 +13,7 @@ use yq_program::Step;
 pub fn path_steps(alloc: Global, path: NodePath<'_>) -> Result<Vec<yq_inline::Step>, AllocError>
     ensures { IfOk result (λ v. map tree_step v.items ≡ path_of path.entry) }
 {
-    let mut steps = Vec::new(alloc);
+    let mut steps = Vec::with_capacity(alloc, 1)?;
     let mut rest = path;
     'steps: loop {
         match rest {
