@@ -13,11 +13,10 @@ ghost use Rattle.yq_edits.specs.Answers.{Carries};
 use std::alloc::{AllocError, Global};
 use yq_documents::Path;
 use yq_places::{CutText, FirstRemoval, Removal, Seam};
-use yq_scalar::block_lines::is_blank;
 use yq_scalar::block_repair::{is_outside, is_short};
 use yq_scalar::lines::split_line;
 use yq_scalar::push_spaces;
-use yq_scalar::text::split_white;
+use yq_scalar::text::{is_blank, split_white};
 use yq_script::{Segment, Segments};
 use yq_text::Halves;
 

@@ -3,8 +3,7 @@ ghost use Rattle.std.specs.Prelude.{◌≢◌};
 ghost use Rattle.yq_scalar.specs.declared.fault.FaultKind.TheVariants.{NotUtf8};
 
 use std::num::NonZeroU64;
-use yq_scalar::block_lines::behind_spaces;
-use yq_scalar::text::spaces_len;
+use yq_scalar::text::{behind_spaces, spaces_len};
 use yq_scalar::{FaultKind, ReadFault};
 
 /// A fault that begins where this rest of the whole text does.

@@ -3,10 +3,9 @@ ghost use Rattle.std.specs.Prelude.{◌≢◌};
 ghost use Rattle.yq_scalar.specs.declared.fault.FaultKind.TheVariants.{NotUtf8};
 
 use std::num::NonZeroU64;
-use yq_scalar::block_lines::{behind_spaces, is_blank};
 use yq_scalar::characters::{TEXT_LIMIT, is_text_char};
 use yq_scalar::lines::line_len;
-use yq_scalar::text::spaces_len;
+use yq_scalar::text::{behind_spaces, is_blank, spaces_len};
 use yq_scalar::{FaultKind, ReadFault};
 
 /// A fault behind so many line breaks.

@@ -4,11 +4,10 @@ ghost use Rattle.yq_scalar.specs.Answers.{Reads};
 ghost use Rattle.yq_scalar.specs.Block as spec;
 ghost use Rattle.yq_scalar.specs.BlockReading as reading;
 
-use crate::block_lines::is_blank;
 use crate::fault::FaultKind;
 use crate::lines::{is_line, line_len};
 use crate::style::Style;
-use crate::text::{is_white, past_white};
+use crate::text::{is_blank, is_white, past_white};
 
 /// How the breaks of a block scalar are read.
 #[derive(Clone, Copy, Debug, PartialEq, Eq)]

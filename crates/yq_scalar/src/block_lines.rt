@@ -3,32 +3,17 @@ ghost use Rattle.std.specs.Prelude.{◌≡◌, true, IfErr};
 ghost use Rattle.yq_scalar.specs.Answers.{Reads};
 ghost use Rattle.yq_scalar.specs.Block as spec;
 ghost use Rattle.yq_scalar.specs.BlockReading as reading;
-ghost use Rattle.yq_scalar.specs.Lines as lines_spec;
 ghost use Rattle.yq_scalar.specs.Text.{lines_of};
 
 use crate::fault::FaultKind;
 use crate::lines::{is_line, line_len};
-use crate::text::{ends_line, past_white, spaces_len};
+use crate::text::{behind_spaces, ends_line, is_blank, spaces_len};
 
 /// The indentation of a block scalar's text, in columns, and whether a digit or a text line gives it.
 #[derive(Clone, Copy, Debug, PartialEq, Eq)]
 pub struct TextIndent {
     pub columns: usize,
     pub known: bool,
-}
-
-/// What stands behind the spaces in front.
-pub fn behind_spaces(line: &[u8]) -> &[u8]
-    ensures { result.now ≡ lines_spec.behind_spaces line.now }
-{
-    line.split_at(spaces_len(line)).1
-}
-
-/// A line of white space alone.
-pub fn is_blank(line: &[u8]) -> bool
-    ensures { result ≡ lines_spec.is_blank line.now }
-{
-    ends_line(past_white(line))
 }
 
 /// A line of spaces alone, no more than the indentation has.

@@ -4,11 +4,10 @@ ghost use Rattle.std.specs.String.{string_bytes};
 ghost use Rattle.yq_scalar.specs.BlockRepair as spec;
 ghost use Rattle.yq_scalar.specs.Text.{joined, lines_of};
 
-use crate::block_lines::{behind_spaces, is_blank};
 use crate::lines::split_line;
 use crate::piece::Piece;
 use crate::pushing::push_spaces;
-use crate::text::{ends_line, spaces_len, split_white};
+use crate::text::{behind_spaces, ends_line, is_blank, spaces_len, split_white};
 use std::alloc::{AllocError, Global};
 
 /// A line of spaces alone, so many at most.

@@ -2,7 +2,7 @@
 ghost use Rattle.std.specs.Prelude.{◌≡◌};
 ghost use Rattle.yq_scalar.specs.Piece as spec;
 
-use crate::style::Style;
+use crate::style::{Place, Style};
 
 /// Where a scalar stands in a text, and how it is written, by offsets in bytes. A block scalar has its
 /// header from `start` to `head_end` and its raw lines from `raw_start` to `end`; `indent` is the
@@ -31,5 +31,18 @@ pub fn inline_piece(style: Style, start: usize, end: usize) -> Piece
         end,
         indent: 0,
         keep: false,
+    }
+}
+
+/// With how many spaces a further line of a plain scalar begins at least, below the indentation of its
+/// parent.
+pub fn further_spaces(place: Place, indent: i64) -> Option<usize>
+    ensures { result ≡ spec.further_spaces place indent }
+{
+    match place {
+        Place::Block if indent < 0 => Some(0),
+        Place::Block => Some(indent as usize + 1),
+        Place::Flow => Some(0),
+        Place::BlockKey | Place::FlowKey => None,
     }
 }

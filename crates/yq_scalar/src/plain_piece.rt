@@ -8,23 +8,10 @@ ghost use Rattle.yq_scalar.specs.declared.fault.FaultKind.TheVariants.{BadScalar
 ghost use Rattle.yq_scalar.specs.declared.piece.Piece.{Piece};
 
 use crate::fault::FaultKind;
-use crate::piece::{Piece, inline_piece};
+use crate::piece::{Piece, further_spaces, inline_piece};
 use crate::plain::{begins_plain, split_plain};
 use crate::style::{Place, Style};
 use crate::writable::in_flow;
-
-/// With how many spaces a further line of a plain scalar begins at least, below the indentation of its
-/// parent.
-pub fn further_spaces(place: Place, indent: i64) -> Option<usize>
-    ensures { result ≡ spec.further_spaces place indent }
-{
-    match place {
-        Place::Block if indent < 0 => Some(0),
-        Place::Block => Some(indent as usize + 1),
-        Place::Flow => Some(0),
-        Place::BlockKey | Place::FlowKey => None,
-    }
-}
 
 /// The plain scalar that begins at an offset, in bytes, of a text, going on as far as it may. `indent`
 /// is the indentation of its parent, in columns, and -1 below no parent.

@@ -1,6 +1,7 @@
 //! What stands in front of a text.
 ghost use Rattle.std.specs.List.{prefix_len};
 ghost use Rattle.std.specs.Prelude.{◌≡◌, ◌==◌, ◌≤◌, length};
+ghost use Rattle.yq_scalar.specs.Lines as lines_spec;
 ghost use Rattle.yq_scalar.specs.Text as spec;
 ghost use Rattle.yq_scalar.specs.Text.{cut};
 
@@ -89,4 +90,18 @@ pub fn split_white(text: &str) -> (&str, &str)
     ensures { (result.0.now, result.1.now) ≡ cut spec.no_white text.now }
 {
     text.split_at(whites_len(text.as_bytes()))
+}
+
+/// What stands behind the spaces in front.
+pub fn behind_spaces(line: &[u8]) -> &[u8]
+    ensures { result.now ≡ lines_spec.behind_spaces line.now }
+{
+    line.split_at(spaces_len(line)).1
+}
+
+/// A line of white space alone.
+pub fn is_blank(line: &[u8]) -> bool
+    ensures { result ≡ lines_spec.is_blank line.now }
+{
+    ends_line(past_white(line))
 }
