@@ -11,7 +11,7 @@ use yq_store::DiskStore;
 use yq_words::{Command, UsageCause, first_name, purpose_of, usage_text};
 
 /// The program's words, less its own name.
-fn given_words(rt: &HostRuntime) -> Result<Vec<String>, Fault> {
+fn owned_words(rt: &HostRuntime) -> Result<Vec<String>, Fault> {
     match std::env::args(rt) {
         Ok(args) => Ok(args.skip(1).collect(rt.alloc())?),
         Err(e) if e.kind() == ErrorKind::OutOfMemory => Err(Fault::OutOfMemory),
@@ -20,9 +20,9 @@ fn given_words(rt: &HostRuntime) -> Result<Vec<String>, Fault> {
 }
 
 /// The words as slices.
-fn as_slices<'w>(rt: &HostRuntime, given: &'w [String]) -> Result<Vec<&'w str>, AllocError> {
-    let mut words = Vec::with_capacity(rt.alloc(), given.len())?;
-    for word in given {
+fn as_slices<'w>(rt: &HostRuntime, owned: &'w [String]) -> Result<Vec<&'w str>, AllocError> {
+    let mut words = Vec::with_capacity(rt.alloc(), owned.len())?;
+    for word in owned {
         words.push(word.as_str())?;
     }
     Ok(words)
@@ -30,15 +30,15 @@ fn as_slices<'w>(rt: &HostRuntime, given: &'w [String]) -> Result<Vec<&'w str>, 
 
 /// The command that the words ask for.
 fn asked_command(rt: &HostRuntime) -> Result<Command, Fault> {
-    let given = given_words(rt)?;
-    let words = as_slices(rt, &given)?;
+    let owned = owned_words(rt)?;
+    let words = as_slices(rt, &owned)?;
     command_of(rt.alloc(), &words)
 }
 
 /// What is told behind the line of a refusal of the program's words.
 pub fn usage_lines(rt: &HostRuntime, cause: UsageCause) -> Result<String, Fault> {
-    let given = given_words(rt).unwrap_or(Vec::new(rt.alloc()));
-    let words = as_slices(rt, &given)?;
+    let owned = owned_words(rt).unwrap_or(Vec::new(rt.alloc()));
+    let words = as_slices(rt, &owned)?;
     let is_file = metadata(rt, Path::new(first_name(&words))).is_ok();
     Ok(usage_text(rt.alloc(), cause, &words, is_file)?)
 }
@@ -47,7 +47,7 @@ pub fn usage_lines(rt: &HostRuntime, cause: UsageCause) -> Result<String, Fault>
 fn answer_to(rt: &HostRuntime) -> Result<Answer, Fault> {
     let commands = [asked_command(rt)?];
     let (file, purpose) = purpose_of(&commands[0]);
-    let mut store = DiskStore::new(rt, file, purpose).telling(rt.stderr().is_terminal());
+    let mut store = DiskStore::new(rt, file, purpose).reporting(rt.stderr().is_terminal());
     let mut out = StandardOut::new(rt);
     let answers = run_list(rt.alloc(), &mut store, &mut out, &commands)?;
     match answers.first() {

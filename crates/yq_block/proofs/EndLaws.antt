@@ -15,8 +15,8 @@ use Rattle.yq_block.specs.BlockValues.{IsEnd}
 -- a break
 pub break_tail : (br : Break) (rest : List ℕ) → IsTail (break_text br) rest
 unfolding is_line
-break_tail breaks.Lf rest = record { white = []; comment = []; line = record { break = break_text breaks.Lf; spelled = refl; blank = tt; remark = tt; ends = inl refl }; apart = refl }
-break_tail breaks.CrLf rest = record { white = []; comment = []; line = record { break = break_text breaks.CrLf; spelled = refl; blank = tt; remark = tt; ends = inl refl }; apart = refl }
+break_tail breaks.Lf rest = record { white = []; comment = []; line = record { break = break_text breaks.Lf; spelled = refl; blank = tt; as_comment = tt; ends = inl refl }; apart = refl }
+break_tail breaks.CrLf rest = record { white = []; comment = []; line = record { break = break_text breaks.CrLf; spelled = refl; blank = tt; as_comment = tt; ends = inl refl }; apart = refl }
 
 pub break_ends : (br : Break) (d : ℕ) (rest : List ℕ) → AtLine d rest → ends_plain false (Some d) (break_text br ++ rest) ≡ true
 break_ends br d rest at = let tail = break_tail br rest in tail_ends d tail.white tail.comment (break_text br) rest tail.line tail.apart at

@@ -6,7 +6,7 @@ use Rattle.yq_rows.specs.Gap.{IsGap}
 use Rattle.yq_rows.specs.Grammar.{IsContent, is_entry, IsRow, Limit, unlimited, allows, limit_after, limit_behind, AreRows}
 use Rattle.yq_rows.specs.Rows.{dashes_text, behind_dashes, behind_gap, Row, behind_columns, parent_of, parent_indent, rows_text}
 use Rattle.yq_inline.proofs.Alikes.{sep_first}
-use Rattle.yq_rows.proofs.PlainEnds.{AtLine, row_line}
+use Rattle.yq_rows.proofs.PlainEnds.{AtLine, row_at_line}
 use Rattle.yq_rows.proofs.seams.SeamLaws.{rows_text-append}
 use Rattle.yq_block.specs.BlockRows.{item_column, behind_dash}
 
@@ -58,7 +58,7 @@ pub laid_line : (column : ℕ) (rs : List Row) (rest : List ℕ) → AreLaid col
 laid_line column [] rest h = absurd h
 laid_line column (r ∷ rs) rest h =
     let behind : List ℕ = rows_text rs rest in
-    subst (λ (gap : List ℕ). AtLine (suc column) (gap ++ behind_gap r behind)) (sym h.gap) (row_line (suc column) unlimited r behind (h.laid unlimited refl).0 (omega (arith, h.at)))
+    subst (λ (gap : List ℕ). AtLine (suc column) (gap ++ behind_gap r behind)) (sym h.gap) (row_at_line (suc column) unlimited r behind (h.laid unlimited refl).0 (omega (arith, h.at)))
 
 -- rows of which the first one stands behind a dash
 pub laid_behind : (column : ℕ) (rs : List Row) (rest : List ℕ) → AreLaid (item_column column) rs rest → AreLaid column (behind_dash column rs) rest

@@ -28,10 +28,10 @@ pub no_head : head_comment [] ≡ []
 unfolding text_lines
 no_head = refl
 
-pub break_quiet : (br : Break) → line_comment (break_text br) ≡ None
+pub break_uncommented : (br : Break) → line_comment (break_text br) ≡ None
 unfolding upto
-break_quiet breaks.Lf = refl
-break_quiet breaks.CrLf = refl
+break_uncommented breaks.Lf = refl
+break_uncommented breaks.CrLf = refl
 
 -- rows that begin at a column
 abbrev pub BeginAt : ℕ → List Row → Type 0
@@ -105,27 +105,27 @@ under_dash column (tree.list a cs) b = omega arith
 under_dash column (tree.map a cs) b = omega arith
 
 key_label : (k : List ℕ) (column : ℕ) (c : rows.Content) → IsUtf8 k → line_comment (Rattle.yq_walk.specs.Lines.tail_of c) ≡ None → label (mark_line (head_comment []) column (rows.Key (block_key k) (58 ∷ [])) c) ≡ inner (Some k)
-key_label k column c u quiet = λ i. record { key = Some (key_content_is k u i); head_comment = no_head i; line_comment = quiet i }
+key_label k column c u uncommented = λ i. record { key = Some (key_content_is k u i); head_comment = no_head i; line_comment = uncommented i }
 
 dash_label : (column : ℕ) (c : rows.Content) → line_comment (Rattle.yq_walk.specs.Lines.tail_of c) ≡ None → label (mark_line (head_comment []) column rows.Dash c) ≡ inner None
-dash_label column c quiet = λ i. record { key = None; head_comment = no_head i; line_comment = quiet i }
+dash_label column c uncommented = λ i. record { key = None; head_comment = no_head i; line_comment = uncommented i }
 
-entry_lines : (l : Layout) (column : ℕ) (end : List ℕ) (keyed : Bool) (told : tree.Label) (n : tree.Node) (node : Option inline.Node) (below : List Row) (after : List Line) (cs : Children) → 1 ≤ l.mapping →
-    IsLabel keyed told → Heads n node → line_comment end ≡ None →
-    (IsFilled n → BeginAt (column_below l column told.key n) below × IsNode (level_at (column_below l column told.key n) n) (lines_of below) n) →
-    AreEntries (keyed_level keyed column) after cs → AreEntries (keyed_level keyed column) (lines_of (entry_rows l column end told.key node below) ++ after) (tree.child told n cs)
+entry_lines : (l : Layout) (column : ℕ) (end : List ℕ) (keyed : Bool) (own_label : tree.Label) (n : tree.Node) (node : Option inline.Node) (below : List Row) (after : List Line) (cs : Children) → 1 ≤ l.mapping →
+    IsLabel keyed own_label → Heads n node → line_comment end ≡ None →
+    (IsFilled n → BeginAt (column_below l column own_label.key n) below × IsNode (level_at (column_below l column own_label.key n) n) (lines_of below) n) →
+    AreEntries (keyed_level keyed column) after cs → AreEntries (keyed_level keyed column) (lines_of (entry_rows l column end own_label.key node below) ++ after) (tree.child own_label n cs)
 unfolding level
-entry_lines l column end true told n (Some node) below after cs step is h quiet held rest =
+entry_lines l column end true own_label n (Some node) below after cs step is h uncommented held rest =
     subst (λ (x : tree.Label). AreEntries (keyed_level true column) (lines_of (entry_rows l column end x.key (Some node) below) ++ after) (tree.child x n cs)) (sym is.1)
-    (one_more _ _ [] after n _ cs (omega arith) (λ e. cc) (headed h.same) rest (key_label is.0 column (Inline (32 ∷ []) node end) is.2 quiet) h.unnamed)
-entry_lines l column end true told n None below after cs step is h quiet held rest =
+    (one_more _ _ [] after n _ cs (omega arith) (λ e. cc) (headed h.same) rest (key_label is.0 column (Inline (32 ∷ []) node end) is.2 uncommented) h.unnamed)
+entry_lines l column end true own_label n None below after cs step is h uncommented held rest =
     let under : IsNode (level_at (column + indent_step l n) n) (lines_of below) n = subst (λ (x : tree.Label). IsNode (level_at (column_below l column x.key n) n) (lines_of below) n) is.1 (held h).1 in
     subst (λ (x : tree.Label). AreEntries (keyed_level true column) (lines_of (entry_rows l column end x.key None below) ++ after) (tree.child x n cs)) (sym is.1)
-    (one_more _ _ (lines_of below) after n _ cs (omega arith) (λ e. cc) (deeper_lines refl (under_key l column n step h) under) rest (key_label is.0 column (Nothing (break_text l.br)) is.2 (break_quiet l.br)) refl)
-entry_lines l column end false told n (Some node) below after cs step is h quiet held rest =
+    (one_more _ _ (lines_of below) after n _ cs (omega arith) (λ e. cc) (deeper_lines refl (under_key l column n step h) under) rest (key_label is.0 column (Nothing (break_text l.br)) is.2 (break_uncommented l.br)) refl)
+entry_lines l column end false own_label n (Some node) below after cs step is h uncommented held rest =
     subst (λ (x : tree.Label). AreEntries (keyed_level false column) (lines_of (entry_rows l column end x.key (Some node) below) ++ after) (tree.child x n cs)) (sym is)
-    (one_more _ _ [] after n _ cs (omega arith) (λ e. cc) (headed h.same) rest (dash_label column (Inline (32 ∷ []) node end) quiet) h.unnamed)
-entry_lines l column end false told n None below after cs step is h quiet held rest =
+    (one_more _ _ [] after n _ cs (omega arith) (λ e. cc) (headed h.same) rest (dash_label column (Inline (32 ∷ []) node end) uncommented) h.unnamed)
+entry_lines l column end false own_label n None below after cs step is h uncommented held rest =
     let at : ℕ = item_column column in
     let begun : BeginAt at below = subst (λ (x : tree.Label). BeginAt (column_below l column x.key n) below) is (held h).0 in
     let under : IsNode (level_at at n) (lines_of below) n = subst (λ (x : tree.Label). IsNode (level_at (column_below l column x.key n) n) (lines_of below) n) is (held h).1 in
@@ -134,9 +134,9 @@ entry_lines l column end false told n None below after cs step is h quiet held r
     (one_more _ (dash_line [] column) (lines_of below) after n _ cs (omega arith) (λ e. cc) (deeper_lines refl (under_dash column n h) under) rest refl refl))
 
 -- all of them
-end_quiet : (l : Layout) (end : List ℕ) (cs : Children) → line_comment end ≡ None → line_comment (end_before l end cs) ≡ None
-end_quiet l end tree.none h = h
-end_quiet l end (tree.child label n cs) h = break_quiet l.br
+end_uncommented : (l : Layout) (end : List ℕ) (cs : Children) → line_comment end ≡ None → line_comment (end_before l end cs) ≡ None
+end_uncommented l end tree.none h = h
+end_uncommented l end (tree.child label n cs) h = break_uncommented l.br
 
 is_key : (m : Mark) (c column : ℕ) → 3 * c + rank m ≡ 3 * column + 2 → (k : List ℕ) × (m ≡ Key k)
 is_key Bare c column h = absurd (omega (arith, h))
@@ -162,26 +162,26 @@ mutual
   unfolding node_rows children_rows
 
   pub node_stands : (n : tree.Node) (l : Layout) (column : ℕ) (end : List ℕ) → 1 ≤ l.mapping → IsFilled n → IsValueTree n → line_comment end ≡ None → IsNode (level_at column n) (lines_of (node_rows l column end n)) n
-  node_stands (tree.alias name) l column end step b h quiet = absurd b
-  node_stands (tree.scalar a kind t) l column end step b h quiet = absurd b
-  node_stands (tree.list a tree.none) l column end step b h quiet = absurd b
-  node_stands (tree.list a (tree.child label n cs)) l column end step b h quiet =
-      rw h.0 (as_list column refl tt (children_stand (tree.child label n cs) l column end false step h.1 quiet))
-  node_stands (tree.map a tree.none) l column end step b h quiet = absurd b
-  node_stands (tree.map a (tree.child label n cs)) l column end step b h quiet =
-      rw h.0 (as_map column refl tt (children_stand (tree.child label n cs) l column end true step h.1 quiet))
+  node_stands (tree.alias name) l column end step b h uncommented = absurd b
+  node_stands (tree.scalar a kind t) l column end step b h uncommented = absurd b
+  node_stands (tree.list a tree.none) l column end step b h uncommented = absurd b
+  node_stands (tree.list a (tree.child label n cs)) l column end step b h uncommented =
+      rw h.0 (as_list column refl tt (children_stand (tree.child label n cs) l column end false step h.1 uncommented))
+  node_stands (tree.map a tree.none) l column end step b h uncommented = absurd b
+  node_stands (tree.map a (tree.child label n cs)) l column end step b h uncommented =
+      rw h.0 (as_map column refl tt (children_stand (tree.child label n cs) l column end true step h.1 uncommented))
 
   children_stand : (cs : Children) (l : Layout) (column : ℕ) (end : List ℕ) (keyed : Bool) → 1 ≤ l.mapping → AreValueTrees keyed cs → line_comment end ≡ None → AreEntries (keyed_level keyed column) (lines_of (children_rows l column end cs)) cs
-  children_stand tree.none l column end keyed step h quiet = no_more
-  children_stand (tree.child label n cs) l column end keyed step h quiet =
+  children_stand tree.none l column end keyed step h uncommented = no_more
+  children_stand (tree.child label n cs) l column end keyed step h uncommented =
       let below : ℕ = column_below l column label.key n in
       let last : List ℕ = end_before l end cs in
-      let still = end_quiet l end cs quiet in
+      let still = end_uncommented l end cs uncommented in
       let here : List Row = entry_rows l column last label.key (inline_of n) (node_rows l below last n) in
       subst (λ (ls : List Line). AreEntries (keyed_level keyed column) ls (tree.child label n cs)) (sym (lines_append here (children_rows l column end cs)))
       (entry_lines l column last keyed label n (inline_of n) (node_rows l below last n) (lines_of (children_rows l column end cs)) cs step h.0 (heads n h.1) still
       (λ b. (node_begun n l below last b h.1, node_stands n l below last step b h.1 still))
-      (children_stand cs l column end keyed step h.2 quiet))
+      (children_stand cs l column end keyed step h.2 uncommented))
 
 pub lines_deeper : (v : tree.Node) (l : Layout) (column : ℕ) (key : Option (List ℕ)) → 1 ≤ l.mapping → IsFilled v → entry_level key column < level_at (column_below l column key v) v
 lines_deeper v l column (Some k) step b = under_key l column v step b

@@ -65,8 +65,8 @@ map_is l column (e ∷ es) = let at : ℕ = column + indent_step l e.1 in λ i. 
 map_node : (v : Vec Entry Global) → node_of (values.Map v) ≡ tree.map None (entries (map field_of v.items))
 map_node v =
     let pair : String Global × tree.Node → List ℕ × tree.Node = λ e. (string_bytes e.0, e.1) in
-    let seen : Entry → String Global × tree.Node = λ e. (e.0, node_of e.1) in
-    node_map v ∙ ap (λ es. tree.map None (entries es)) (map_twice seen pair v.items)
+    let as_pair : Entry → String Global × tree.Node = λ e. (e.0, node_of e.1) in
+    node_map v ∙ ap (λ es. tree.map None (entries es)) (map_twice as_pair pair v.items)
 
 pub list_value : (l : Layout) (column : ℕ) (v : Vec Value Global) → block_value l column (node_of (values.List v)) ≡ block_list l column (map node_of v.items)
 list_value l column v = ap (block_value l column) (node_list v) ∙ list_is l column (map node_of v.items)
@@ -86,14 +86,14 @@ map_block : (es : List (List ℕ × tree.Node)) → is_filled (tree.map None (en
 map_block [] = refl
 map_block (e ∷ es) = sym (is_some e es)
 
-pub list_told : (v : Vec Value Global) (empty : Bool) → empty ≡ eqb (vec_len v) 0 → not empty ≡ is_filled (node_of (values.List v))
-list_told v empty h =
+pub list_agrees : (v : Vec Value Global) (empty : Bool) → empty ≡ eqb (vec_len v) 0 → not empty ≡ is_filled (node_of (values.List v))
+list_agrees v empty h =
     ap not h
     ∙ (ap (λ (n : ℕ). not (eqb n 0)) (v.ok.0 ∙ sym (length-map v.items node_of))
     ∙ (sym (list_block (map node_of v.items)) ∙ ap is_filled (sym (node_list v))))
 
-pub map_told : (v : Vec Entry Global) (empty : Bool) → empty ≡ eqb (vec_len v) 0 → not empty ≡ is_filled (node_of (values.Map v))
-map_told v empty h =
+pub map_agrees : (v : Vec Entry Global) (empty : Bool) → empty ≡ eqb (vec_len v) 0 → not empty ≡ is_filled (node_of (values.Map v))
+map_agrees v empty h =
     ap not h
     ∙ (ap (λ (n : ℕ). not (eqb n 0)) (v.ok.0 ∙ sym (length-map v.items field_of))
     ∙ (sym (map_block (map field_of v.items)) ∙ ap is_filled (sym (map_node v))))

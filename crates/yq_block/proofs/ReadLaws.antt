@@ -31,7 +31,7 @@ use Rattle.yq_block.proofs.CharacterLaws.{IsUtf8Text, break_sound, value_sound, 
 use Rattle.yq_block.proofs.EndLaws.{break_ends, break_tail, line_ends}
 use Rattle.yq_block.proofs.FitLaws.{RowsAreFit, all_bound, anchors_fit, keys_fit, node_fit}
 use Rattle.yq_block.proofs.LaidRows.{AreLaid, laid_rows, no_gap_here}
-use Rattle.yq_block.proofs.LineLaws.{break_quiet, unanchored, no_head, node_stands}
+use Rattle.yq_block.proofs.LineLaws.{break_uncommented, unanchored, no_head, node_stands}
 use Rattle.yq_block.proofs.RowLaws.{node_laid}
 use Rattle.yq_block.proofs.ScalarLaws.{heads}
 use Rattle.yq_block.proofs.TextLaws.{node_spelled}
@@ -97,7 +97,7 @@ block_all v l step b h near =
     record {
       laid = laid_rows 0 _ [] unlimited laid refl;
       spelled = node_spelled v l 0 end [] b h ∙ ap (λ (t : List ℕ). block_node l 0 v ++ t) (append-nil end);
-      root = root_of (node_stands v l 0 end step b h (break_quiet l.br));
+      root = root_of (node_stands v l 0 end step b h (break_uncommented l.br));
       fit = node_fit v l 0 end h;
       gap = first_gap_none 0 _ laid;
       short = laid_short 0 _ laid;

@@ -2,7 +2,7 @@
 ghost use Rattle.std.specs.Prelude.{◌≡◌, ◌++◌, IfOk, OnOk, string_bytes};
 ghost use Rattle.yq_flow.specs.Valued.{IsValueTree};
 ghost use Rattle.yq_inline.specs.Values.{node_of};
-ghost use Rattle.yq_lines.specs.Bodies.{lent};
+ghost use Rattle.yq_lines.specs.Bodies.{borrowed};
 ghost use Rattle.yq_block.specs.Alone.{alone};
 ghost use Rattle.yq_block.specs.BlockReading as spec;
 ghost use Rattle.yq_block.specs.BlockText.{block_value};
@@ -58,7 +58,7 @@ pub fn push_entry(
     value: &Value,
 ) -> Result<(), AllocError>
     ensures { OnOk result (string_bytes out.new ≡
-        string_bytes out.old ++ block_value layout.now column (alone (lent key.entry)
+        string_bytes out.old ++ block_value layout.now column (alone (borrowed key.entry)
         (node_of value.now))) }
 {
     match key {

@@ -14,7 +14,7 @@ use yq_inline::Value;
 use yq_scalar::Place;
 
 /// Whether a value is a collection with an item or entry, which is written in rows.
-#[tactic(auto, using(crate::proofs::ListLaws::list_told, crate::proofs::ListLaws::map_told))]
+#[tactic(auto, using(crate::proofs::ListLaws::list_agrees, crate::proofs::ListLaws::map_agrees))]
 pub fn is_filled(value: &Value) -> bool
     ensures { result ≡ spec.is_filled (node_of value.now) }
 {

@@ -20,7 +20,7 @@ use Rattle.yq_rows.proofs.PlaceLaws.{row_front-append}
 use Rattle.yq_documents.specs.Reading.{outline_of, read_at, root_of}
 use Rattle.yq_places.specs.RowPieces.{upto_dash}
 use Rattle.yq_places.specs.PrintedLines.{last_break, less_break}
-use Rattle.yq_places.specs.Standings.{Compact, PlacedEntry, compact_in, dash_text, placed_entry}
+use Rattle.yq_places.specs.Standings.{Compact, RowsOfEntry, compact_in, dash_text, rows_of_entry}
 use Rattle.yq_places.proofs.PrintedTexts.{less_is}
 use Rattle.yq_change.specs.Appends.{inserted}
 use Rattle.yq_change.specs.Changed.{put_document}
@@ -41,10 +41,10 @@ use Rattle.yq_edits.specs.Done.{ArePieces}
 use Rattle.yq_edits.specs.EditLaws.{CarriedOut}
 use Rattle.yq_edits.specs.Layouts.{layout_of}
 use Rattle.yq_edits.specs.Local.{InFirst}
-use Rattle.yq_edits.specs.ReplaceEdits.{dash_put}
+use Rattle.yq_edits.specs.ReplaceEdits.{compact_put}
 use Rattle.yq_edits.specs.WrittenValues.{Written, compact_text, inline, lines, lines_in, takes_compact, value_text, written_at}
 use Rattle.yq_edits.proofs.BreakLaws.{last_is}
-use Rattle.yq_edits.proofs.BrokenTails.{quiet_tail}
+use Rattle.yq_edits.proofs.BrokenTails.{uncommented_tail}
 use Rattle.yq_edits.proofs.CommentPieceLaws.{break_piece, byte_then}
 use Rattle.yq_edits.proofs.CommentReadLaws.{break_is}
 use Rattle.yq_edits.proofs.FitLaws.{FitsReplace}
@@ -64,7 +64,7 @@ use Rattle.yq_block_edits.proofs.RowLines.{no_comment}
 use Rattle.yq_block_edits.proofs.NodeTaken.{TakesNode, q_text}
 use Rattle.yq_block_edits.proofs.NodeValueLaws.{IsHolding, end_is, rows_beside, rows_under, takes_beside, takes_under}
 
-module _ (n : ℕ) (s : Step) (ss : List Step) (c : Cut) (e : PlacedEntry) (there : StandsThere n s ss c e) (less : e.line < length e.row.dashes) (read : read_at (cut_text c) ≡ Some c) (at : placed_entry n (s ∷ ss) c ≡ Some e) where
+module _ (n : ℕ) (s : Step) (ss : List Step) (c : Cut) (e : RowsOfEntry) (there : StandsThere n s ss c e) (less : e.line < length e.row.dashes) (read : read_at (cut_text c) ≡ Some c) (at : rows_of_entry n (s ∷ ss) c ≡ Some e) where
   abbrev h : NodeRows n s ss c
   h = dash_node n s ss c e there less
 
@@ -92,7 +92,7 @@ module _ (n : ℕ) (s : Step) (ss : List Step) (c : Cut) (e : PlacedEntry) (ther
       let parts : p.before ++ (less_break (dash_text e) ++ (last ++ (p.behind ++ []))) ≡ p.before ++ ((less_break (dash_text e) ++ last) ++ p.behind) = simp (append_assoc, append-nil) refl in
       parts ∙ (ap (λ o. p.before ++ (o ++ p.behind)) (less_is (dash_text e)) ∙ sym (dash_spelled n s ss c e there less read at))
 
-  pub dash_old : (br : List ℕ) (w : Written) → old_text (dash_put br (compact_in e) w) ≡ cut_text c
+  pub dash_old : (br : List ℕ) (w : Written) → old_text (compact_put br (compact_in e) w) ≡ cut_text c
   dash_old br (inline t) = old_there (32 ∷ t)
   dash_old br (compact_text t) = old_there (32 ∷ t)
   dash_old br (lines t) = old_there (br ++ t)
@@ -118,8 +118,8 @@ module _ (n : ℕ) (s : Step) (ss : List Step) (c : Cut) (e : PlacedEntry) (ther
   abbrev last_tail : IsTail last z
   last_tail = break_tail last z (dash_last_ends n s ss c e there less)
 
-  quiet : line_comment last ≡ None
-  quiet = quiet_tail last z last_tail refl
+  uncommented : line_comment last ≡ None
+  uncommented = uncommented_tail last z last_tail refl
 
   -- what may stand behind the dash: the end of its line, without a comment
   holding : (t more : List ℕ) → IsTail t more → line_comment t ≡ None → IsHolding n s ss c h (Nothing t) more
@@ -149,7 +149,7 @@ module _ (n : ℕ) (s : Step) (ss : List Step) (c : Cut) (e : PlacedEntry) (ther
 
     module _ (text : List ℕ) (for : IsWrittenFor v text) where
       abbrev beside : List Row
-      beside = rows_beside n s ss c h v for.node for.is (Nothing last) (holding last z last_tail quiet)
+      beside = rows_beside n s ss c h v for.node for.is (Nothing last) (holding last z last_tail uncommented)
 
       beside_text : rows_text beside z ≡ row_front mark ++ ((32 ∷ text) ++ (last ++ z))
       beside_text =
@@ -158,7 +158,7 @@ module _ (n : ℕ) (s : Step) (ss : List Step) (c : Cut) (e : PlacedEntry) (ther
 
       beside_carried : CarriedWith (32 ∷ text)
       beside_carried =
-          carried_as beside (takes_beside n s ss c h v for.node for.is (Nothing last) (holding last z last_tail quiet)) (32 ∷ text) beside_text (content_first (spaced for.node last) mark) (byte_then 32 text refl for.piece)
+          carried_as beside (takes_beside n s ss c h v for.node for.is (Nothing last) (holding last z last_tail uncommented)) (32 ∷ text) beside_text (content_first (spaced for.node last) mark) (byte_then 32 text refl for.piece)
 
     -- ---- in rows
 
@@ -171,13 +171,13 @@ module _ (n : ℕ) (s : Step) (ss : List Step) (c : Cut) (e : PlacedEntry) (ther
 
       -- the first one on the line of the dash
       abbrev behind : List Row
-      behind = behind_rows n s ss c h l (mapping_least n c) v filled f.near last refl (end_is n s ss c h last last_tail) quiet no_comment (dash_unnamed n s ss c e there less)
+      behind = behind_rows n s ss c h l (mapping_least n c) v filled f.near last refl (end_is n s ss c h last last_tail) uncommented no_comment (dash_unnamed n s ss c e there less)
 
       behind_carried : CarriedWith (32 ∷ block_value l column v)
       behind_carried =
-          carried_as behind (takes_behind n s ss c h l (mapping_least n c) v filled f.near last refl (end_is n s ss c h last last_tail) quiet no_comment (dash_unnamed n s ss c e there less)) (32 ∷ block_value l column v)
-          (behind_spelled n s ss c h l (mapping_least n c) v filled f.near last refl (end_is n s ss c h last last_tail) quiet no_comment (dash_unnamed n s ss c e there less))
-          (behind_first n s ss c h l (mapping_least n c) v filled f.near last refl (end_is n s ss c h last last_tail) quiet no_comment (dash_unnamed n s ss c e there less))
+          carried_as behind (takes_behind n s ss c h l (mapping_least n c) v filled f.near last refl (end_is n s ss c h last last_tail) uncommented no_comment (dash_unnamed n s ss c e there less)) (32 ∷ block_value l column v)
+          (behind_spelled n s ss c h l (mapping_least n c) v filled f.near last refl (end_is n s ss c h last last_tail) uncommented no_comment (dash_unnamed n s ss c e there less))
+          (behind_first n s ss c h l (mapping_least n c) v filled f.near last refl (end_is n s ss c h last last_tail) uncommented no_comment (dash_unnamed n s ss c e there less))
           (byte_then 32 (block_value l column v) refl (block_piece l column v tree))
 
       -- all on lines under it
@@ -188,10 +188,10 @@ module _ (n : ℕ) (s : Step) (ss : List Step) (c : Cut) (e : PlacedEntry) (ther
       below = rows_text (node_rows l column last v) z
 
       break_holds : IsHolding n s ss c h (Nothing br) below
-      break_holds = let tail = break_tail br below (inl (break_is l.br)) in holding br below tail (quiet_tail br below tail refl)
+      break_holds = let tail = break_tail br below (inl (break_is l.br)) in holding br below tail (uncommented_tail br below tail refl)
 
       abbrev under : List Row
-      under = rows_under n s ss c h l (mapping_least n c) v filled f.near (Nothing br) last break_holds (end_is n s ss c h last last_tail) quiet
+      under = rows_under n s ss c h l (mapping_least n c) v filled f.near (Nothing br) last break_holds (end_is n s ss c h last last_tail) uncommented
 
       under_text : rows_text under z ≡ row_front mark ++ ((br ++ lines_in l column v) ++ (last ++ z))
       under_text =
@@ -201,14 +201,14 @@ module _ (n : ℕ) (s : Step) (ss : List Step) (c : Cut) (e : PlacedEntry) (ther
 
       under_carried : CarriedWith (br ++ lines_in l column v)
       under_carried =
-          carried_as under (takes_under n s ss c h l (mapping_least n c) v filled f.near (Nothing br) last break_holds (end_is n s ss c h last last_tail) quiet) (br ++ lines_in l column v) under_text (content_first (Nothing br) mark) (pieces_joined br (lines_in l column v) (break_piece l.br) (lines_piece l column v tree))
+          carried_as under (takes_under n s ss c h l (mapping_least n c) v filled f.near (Nothing br) last break_holds (end_is n s ss c h last last_tail) uncommented) (br ++ lines_in l column v) under_text (content_first (Nothing br) mark) (pieces_joined br (lines_in l column v) (break_piece l.br) (lines_piece l column v tree))
 
-    pub dash_carried : length (new_text (dash_put (break_text l.br) (compact_in e) (written_at l (compact_in e).mark [] v))) ≤ text_limit → CarriedOut (replace n (s ∷ ss) v) c (dash_put (break_text l.br) (compact_in e) (written_at l (compact_in e).mark [] v))
+    pub dash_carried : length (new_text (compact_put (break_text l.br) (compact_in e) (written_at l (compact_in e).mark [] v))) ≤ text_limit → CarriedOut (replace n (s ∷ ss) v) c (compact_put (break_text l.br) (compact_in e) (written_at l (compact_in e).mark [] v))
     dash_carried = go (is_filled v) (takes_compact p.mark) refl
       where
         go : (b d : Bool) → is_filled v ≡ b →
-            length (new_text (dash_put (break_text l.br) p (cond b (cond d (compact_text (block_value l (item_column p.mark.column) v)) (lines (lines_in l (item_column p.mark.column) v))) (inline (value_text InBlock [] v))))) ≤ text_limit →
-            CarriedOut op c (dash_put (break_text l.br) p (cond b (cond d (compact_text (block_value l (item_column p.mark.column) v)) (lines (lines_in l (item_column p.mark.column) v))) (inline (value_text InBlock [] v))))
+            length (new_text (compact_put (break_text l.br) p (cond b (cond d (compact_text (block_value l (item_column p.mark.column) v)) (lines (lines_in l (item_column p.mark.column) v))) (inline (value_text InBlock [] v))))) ≤ text_limit →
+            CarriedOut op c (compact_put (break_text l.br) p (cond b (cond d (compact_text (block_value l (item_column p.mark.column) v)) (lines (lines_in l (item_column p.mark.column) v))) (inline (value_text InBlock [] v))))
         go true true full = behind_carried full
         go true false full = under_carried full
         go false d full = beside_carried (value_text InBlock [] v) (value_for [] v tree f.deep f.long)

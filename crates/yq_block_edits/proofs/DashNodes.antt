@@ -17,7 +17,7 @@ use Rattle.yq_documents.specs.Nodes.{anchor_of}
 use Rattle.yq_documents.specs.Reading.{read_at}
 use Rattle.yq_places.specs.RowPieces.{past_dash, upto_dash}
 use Rattle.yq_places.specs.PrintedLines.{last_break}
-use Rattle.yq_places.specs.Standings.{PlacedEntry, before_entry, behind_entry, dash_text, placed_entry}
+use Rattle.yq_places.specs.Standings.{RowsOfEntry, before_entry, behind_entry, dash_text, rows_of_entry}
 use Rattle.yq_places.proofs.CommentPieceLaws.{Ended}
 use Rattle.yq_places.proofs.DashLaws.{front_is, row_cut}
 use Rattle.yq_places.proofs.RunSpans.{rows_then}
@@ -51,7 +51,7 @@ spaces_some : (n : ℕ) (t : List ℕ) → 1 ≤ n → is_empty (replicate n 32 
 spaces_some zero t h = absurd (omega (arith, h))
 spaces_some (suc n) t h = refl
 
-module _ (n : ℕ) (s : Step) (ss : List Step) (c : Cut) (e : PlacedEntry) (there : StandsThere n s ss c e) (less : e.line < length e.row.dashes) where
+module _ (n : ℕ) (s : Step) (ss : List Step) (c : Cut) (e : RowsOfEntry) (there : StandsThere n s ss c e) (less : e.line < length e.row.dashes) where
   -- the dash
   pub dash : (k : ℕ) × (ms : List ℕ) × (drop e.line e.row.dashes ≡ k ∷ ms)
   dash = dashes_from e.line e.row.dashes less
@@ -120,7 +120,7 @@ module _ (n : ℕ) (s : Step) (ss : List Step) (c : Cut) (e : PlacedEntry) (ther
       let r : List ℕ = e.row.gap ++ (replicate e.row.column 32 ++ rows.dashes_text (take e.line e.row.dashes) []) in
       (before_entry e ++ r, ap (λ l. before_entry e ++ l) (front_is e.line e.row) ∙ sym (append_assoc (before_entry e) r (45 ∷ [])))
 
-  module _ (read : read_at (cut_text c) ≡ Some c) (at : placed_entry n (s ∷ ss) c ≡ Some e) where
+  module _ (read : read_at (cut_text c) ≡ Some c) (at : rows_of_entry n (s ∷ ss) c ≡ Some e) where
     pub dash_spelled : cut_text c ≡ (before_entry e ++ row_front (upto_dash e.line e.row)) ++ (dash_text e ++ behind_entry e)
     dash_spelled =
         cut_spelled n (s ∷ ss) c e at

@@ -39,7 +39,7 @@ no_comment = refl
 
 -- in the place of what stands behind the dash, which has neither an anchor nor a comment: before an end of the line without a comment
 module _ (doc : ℕ) (s : Step) (ss : List Step) (c : Cut) (h : NodeRows doc s ss c) (l : Layout) (step : 1 ≤ l.mapping) (v : Node) (filled : IsFilledValue v) (near_keys : HasNearKeys v) (last : List ℕ) (dash : h.mark.mark ≡ rows.Dash)
-    (ends : IsEnd (mark_column h.mark) last (rest doc s ss c h)) (quiet : line_comment last ≡ None) (none : line_comment (tail_of h.mark.content) ≡ None) (unnamed : anchor_of (content h.found.line h.found.under) ≡ None) where
+    (ends : IsEnd (mark_column h.mark) last (rest doc s ss c h)) (uncommented : line_comment last ≡ None) (none : line_comment (tail_of h.mark.content) ≡ None) (unnamed : anchor_of (content h.found.line h.found.under) ≡ None) where
   abbrev below : ℕ
   below = item_column (mark_column h.mark)
 
@@ -61,7 +61,7 @@ module _ (doc : ℕ) (s : Step) (ss : List Step) (c : Cut) (h : NodeRows doc s s
       (deeper_laid v l (mark_column h.mark) below last z (omega arith) (record { rows = filled; near = near_keys; ends = ends }))
 
   stands : Stands (lines_of rs) v (level_at below v)
-  stands = rules_give (level_at below v) (lines_of rs) v (node_stands v l below last step filled.filled filled.value quiet)
+  stands = rules_give (level_at below v) (lines_of rs) v (node_stands v l below last step filled.filled filled.value uncommented)
 
   dash_level : level (line_with h.mark (Nothing [])) ≡ entry_level None (mark_column h.mark)
   unfolding level

@@ -14,7 +14,7 @@ use Rattle.yq_rows.specs.Rows.{Content, Row, content_text, parent_indent, print_
 use Rattle.yq_rows.specs.View.{slices}
 use Rattle.yq_rows.proofs.NodeExchange.{mark_apart}
 use Rattle.yq_places.specs.RowPieces.{anchor_before, space_before}
-use Rattle.yq_places.specs.Standings.{Held, PlacedEntry, held}
+use Rattle.yq_places.specs.Standings.{Held, RowsOfEntry, held}
 use Rattle.yq_change.specs.DocumentRows.{behind_document}
 use Rattle.yq_change.specs.StandingLaws.{StandsThere}
 use Rattle.yq_meaning.specs.Operations.{replace}
@@ -34,7 +34,7 @@ use Rattle.yq_block_edits.proofs.StandingNodes.{behind_is, mark_node}
 
 -- ---- the row of a head
 
-module _ (n : ℕ) (s : Step) (ss : List Step) (c : Cut) (e : PlacedEntry) (there : StandsThere n s ss c e) (last : e.line ≡ length e.row.dashes) (k : KnowsHeld n s ss c e there last) (some : is_empty (slices e.row).head ≡ false) where
+module _ (n : ℕ) (s : Step) (ss : List Step) (c : Cut) (e : RowsOfEntry) (there : StandsThere n s ss c e) (last : e.line ≡ length e.row.dashes) (k : KnowsHeld n s ss c e there last) (some : is_empty (slices e.row).head ≡ false) where
   -- no rows are under it
   rest_is : rows_text (e.under ++ e.back) (there.part.end ++ behind_document n c) ≡ rest n s ss c (mark_node n s ss c e there last)
   rest_is = ap (λ (us : List Row). rows_text (us ++ e.back) (there.part.end ++ behind_document n c)) (k.headless some)
@@ -53,7 +53,7 @@ apart_then : (old t u : List ℕ) → apart old (t ++ u) ≡ apart old t ++ u
 apart_then [] t u = refl
 apart_then (b ∷ old) t u = refl
 
-module _ (n : ℕ) (s : Step) (ss : List Step) (c : Cut) (e : PlacedEntry) (there : StandsThere n s ss c e) (last : e.line ≡ length e.row.dashes) (k : KnowsHeld n s ss c e there last)
+module _ (n : ℕ) (s : Step) (ss : List Step) (c : Cut) (e : RowsOfEntry) (there : StandsThere n s ss c e) (last : e.line ≡ length e.row.dashes) (k : KnowsHeld n s ss c e there last)
     (br : Break) (v : Node) (f : FitsReplace n (s ∷ ss) v c there.part) (t : List ℕ) (for : IsWrittenFor v t) (x : Content) (is : IsContentFor n s ss c (mark_node n s ss c e there last) v x)
     (spelled : (u : List ℕ) → e.start ++ (rows_text e.front [] ++ rows_text (with_content x e.row ∷ []) u) ≡
     (held e).before ++ ((held e).space ++ apart (held e).head (node_text for.node (((held e).white ++ ((held e).comment ++ (held e).last)) ++ u)))) where

@@ -11,7 +11,7 @@ use Rattle.yq_lines.proofs.Finding.{FoundNode, path_node}
 use Rattle.yq_rows.specs.Items.{rows_items}
 use Rattle.yq_rows.specs.Rows.{Row, print_row, rows_text, Cut, cut_text}
 use Rattle.yq_documents.specs.Reading.{outline_of, root_of}
-use Rattle.yq_places.specs.Standings.{Held, PlacedEntry, behind_entry, held}
+use Rattle.yq_places.specs.Standings.{Held, RowsOfEntry, behind_entry, held}
 use Rattle.yq_change.specs.SoundRoots.{MayReplace}
 use Rattle.yq_change.specs.StandingLaws.{StandsThere, held_text}
 use Rattle.yq_change.specs.TextPieces.{IsPiece}
@@ -60,7 +60,7 @@ text_of (inline t) = t
 text_of (compact_text t) = t
 text_of (lines t) = t
 
-module _ (n : ℕ) (s : Step) (ss : List Step) (c : Cut) (e : PlacedEntry) (there : StandsThere n s ss c e) (last : e.line ≡ length e.row.dashes) (k : KnowsHeld n s ss c e there last) where
+module _ (n : ℕ) (s : Step) (ss : List Step) (c : Cut) (e : RowsOfEntry) (there : StandsThere n s ss c e) (last : e.line ≡ length e.row.dashes) (k : KnowsHeld n s ss c e there last) where
   abbrev h : Held
   h = held e
 

@@ -17,7 +17,7 @@ use Rattle.yq_walk.specs.Lines.{tail_of}
 use Rattle.yq_documents.specs.Nodes.{anchor_of}
 use Rattle.yq_documents.proofs.RowLineLaws.{tail_is}
 use Rattle.yq_places.specs.RowPieces.{anchor_before}
-use Rattle.yq_places.specs.Standings.{Held, PlacedEntry, held}
+use Rattle.yq_places.specs.Standings.{Held, RowsOfEntry, held}
 use Rattle.yq_change.specs.StandingLaws.{StandsThere}
 use Rattle.yq_change.proofs.StandingMarks.{entry_there}
 use Rattle.yq_block.specs.declared.layout.Layout.{Layout}
@@ -44,7 +44,7 @@ use Rattle.yq_block_edits.proofs.NodeRowLaws.{NodeRows, rest, rows_there}
 use Rattle.yq_block_edits.proofs.NodeValueLaws.{end_is}
 use Rattle.yq_block_edits.proofs.StandingNodes.{behind_is, mark_node}
 
-module _ (n : ℕ) (s : Step) (ss : List Step) (c : Cut) (e : PlacedEntry) (there : StandsThere n s ss c e) (last : e.line ≡ length e.row.dashes) (k : KnowsHeld n s ss c e there last)
+module _ (n : ℕ) (s : Step) (ss : List Step) (c : Cut) (e : RowsOfEntry) (there : StandsThere n s ss c e) (last : e.line ≡ length e.row.dashes) (k : KnowsHeld n s ss c e there last)
     (v : Node) (tree : IsValueTree v) (f : FitsReplace n (s ∷ ss) v c there.part) (full : is_filled v ≡ true) (free : takes_compact (held e).mark ≡ true) where
   abbrev l : Layout
   l = layout_of n c
@@ -81,7 +81,7 @@ module _ (n : ℕ) (s : Step) (ss : List Step) (c : Cut) (e : PlacedEntry) (ther
   dash = dash_is e.row.mark e.row.content _ (entry_there n s ss c e there last) (rows_there n s ss c h).0.mark parts.0
 
   no_comment : line_comment (slices e.row).tail ≡ None
-  no_comment = k.quiet (not-false (is_empty w.comment) notes.1)
+  no_comment = k.uncommented (not-false (is_empty w.comment) notes.1)
 
   none : line_comment (tail_of e.row.content) ≡ None
   none = ap line_comment (sym (tail_is e.row.content)) ∙ no_comment
@@ -95,11 +95,11 @@ module _ (n : ℕ) (s : Step) (ss : List Step) (c : Cut) (e : PlacedEntry) (ther
   ends : IsEnd (mark_column e.row) (w.white ++ (w.comment ++ w.last)) z
   ends = end_is n s ss c h (w.white ++ (w.comment ++ w.last)) k.ended
 
-  quiet : line_comment (w.white ++ (w.comment ++ w.last)) ≡ None
-  quiet = k.ended_comment ∙ no_comment
+  uncommented : line_comment (w.white ++ (w.comment ++ w.last)) ≡ None
+  uncommented = k.ended_comment ∙ no_comment
 
   abbrev new : List Row
-  new = behind_rows n s ss c h l (mapping_least n c) v filled f.near tail dash ends quiet none no_name
+  new = behind_rows n s ss c h l (mapping_least n c) v filled f.near tail dash ends uncommented none no_name
 
   nothing_before : anchor_before (slices e.row) ≡ []
   nothing_before = ap (λ b. cond b [] ((slices e.row).space ++ (slices e.row).anchor)) bare
@@ -114,18 +114,18 @@ module _ (n : ℕ) (s : Step) (ss : List Step) (c : Cut) (e : PlacedEntry) (ther
       let d : List ℕ = row_front e.row in
       let x : List ℕ = block_value l column v in
       let parts : a ++ (b ++ (d ++ (32 ∷ (x ++ ((w.white ++ (w.comment ++ w.last)) ++ w.behind))))) ≡ ((a ++ b) ++ d) ++ ((32 ∷ x) ++ (w.white ++ (w.comment ++ (w.last ++ (w.behind ++ []))))) = simp (append_assoc, append-nil) refl in
-      ap (λ u. a ++ (b ++ u)) (behind_spelled n s ss c h l (mapping_least n c) v filled f.near tail dash ends quiet none no_name)
+      ap (λ u. a ++ (b ++ u)) (behind_spelled n s ss c h l (mapping_least n c) v filled f.near tail dash ends uncommented none no_name)
       ∙ (ap (λ u. a ++ (b ++ (d ++ (32 ∷ (x ++ (tail ++ u)))))) (sym (behind_is n s ss c e there last))
       ∙ (parts ∙ ap (λ u. u ++ ((32 ∷ x) ++ (w.white ++ (w.comment ++ (w.last ++ (w.behind ++ [])))))) (sym before_is)))
 
   spells : Spells n s ss c e there last k v us new
   spells = record {
-    takes = takes_behind n s ss c h l (mapping_least n c) v filled f.near tail dash ends quiet none no_name;
+    takes = takes_behind n s ss c h l (mapping_least n c) v filled f.near tail dash ends uncommented none no_name;
     text = text;
     lead = row_front e.row;
     before_is = append-nil w.before ∙ before_is;
     within = upto_long h.upto;
-    begins = behind_first n s ss c h l (mapping_least n c) v filled f.near tail dash ends quiet none no_name;
+    begins = behind_first n s ss c h l (mapping_least n c) v filled f.near tail dash ends uncommented none no_name;
   }
 
   pub held_compact : length (new_text us) ≤ text_limit → CarriedOut (replace n (s ∷ ss) v) c us

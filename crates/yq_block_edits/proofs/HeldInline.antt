@@ -17,7 +17,7 @@ use Rattle.yq_rows.specs.View.{slices}
 use Rattle.yq_rows.proofs.PlaceLaws.{row_front-append}
 use Rattle.yq_places.specs.CommentPlaces.{LineEnd, end_before}
 use Rattle.yq_places.specs.PrintedLines.{last_break}
-use Rattle.yq_places.specs.Standings.{Held, PlacedEntry, before_entry, held}
+use Rattle.yq_places.specs.Standings.{Held, RowsOfEntry, before_entry, held}
 use Rattle.yq_change.specs.StandingLaws.{StandsThere}
 use Rattle.yq_change.proofs.CoreLaws.{put_core}
 use Rattle.yq_meaning.specs.Operations.{replace}
@@ -38,7 +38,7 @@ use Rattle.yq_block_edits.proofs.NodeRowLaws.{NodeRows, rest, rows_there}
 use Rattle.yq_block_edits.proofs.NodeValueLaws.{IsHolding, content_beside, content_for}
 use Rattle.yq_block_edits.proofs.StandingNodes.{mark_node}
 
-module _ (n : ℕ) (s : Step) (ss : List Step) (c : Cut) (e : PlacedEntry) (there : StandsThere n s ss c e) (last : e.line ≡ length e.row.dashes) (k : KnowsHeld n s ss c e there last)
+module _ (n : ℕ) (s : Step) (ss : List Step) (c : Cut) (e : RowsOfEntry) (there : StandsThere n s ss c e) (last : e.line ≡ length e.row.dashes) (k : KnowsHeld n s ss c e there last)
     (br : Break) (v : Node) (f : FitsReplace n (s ∷ ss) v c there.part) (t : List ℕ) (for : IsWrittenFor v t) where
   abbrev w : Held
   w = held e

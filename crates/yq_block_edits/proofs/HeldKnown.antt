@@ -12,7 +12,7 @@ use Rattle.yq_rows.specs.Rows.{Row, Cut, cut_text}
 use Rattle.yq_rows.specs.View.{slices}
 use Rattle.yq_walk.specs.Lines.{content_anchor}
 use Rattle.yq_documents.specs.Nodes.{anchor_of}
-use Rattle.yq_places.specs.Standings.{PlacedEntry, held, is_alone}
+use Rattle.yq_places.specs.Standings.{RowsOfEntry, held, is_alone}
 use Rattle.yq_change.specs.TextPieces.{IsPiece}
 use Rattle.yq_change.specs.StandingLaws.{HoldsPieces, StandsThere, held_text}
 use Rattle.yq_block_edits.proofs.NodeRowLaws.{rest}
@@ -23,7 +23,7 @@ abbrev pub first_alone : List Row → Bool
 first_alone [] = false
 first_alone (r ∷ rs) = is_alone r
 
-module _ (n : ℕ) (s : Step) (ss : List Step) (c : Cut) (e : PlacedEntry) (there : StandsThere n s ss c e) (last : e.line ≡ length e.row.dashes) where
+module _ (n : ℕ) (s : Step) (ss : List Step) (c : Cut) (e : RowsOfEntry) (there : StandsThere n s ss c e) (last : e.line ≡ length e.row.dashes) where
   -- What is known of what the key or dash of rows holds, under which no node stands alone: the pieces spell the text; each is a piece of a text; the last line ends before the rows behind; with another break behind it the white space and the comment are a tail with that comment, and so with the last break; where a head is written, no rows are under it; and the anchor of the node is that of the row.
   pub record KnowsHeld : Type 0 where
     pub spells : cut_text c ≡ held_text (held e)
@@ -35,6 +35,6 @@ module _ (n : ℕ) (s : Step) (ss : List Step) (c : Cut) (e : PlacedEntry) (ther
     pub broken_comment : (br : Break) → line_comment ((held e).white ++ ((held e).comment ++ break_text br)) ≡ line_comment (slices e.row).tail
     pub ended : IsTail ((held e).white ++ ((held e).comment ++ (held e).last)) (rest n s ss c (mark_node n s ss c e there last))
     pub ended_comment : line_comment ((held e).white ++ ((held e).comment ++ (held e).last)) ≡ line_comment (slices e.row).tail
-    pub quiet : is_empty (held e).comment ≡ true → line_comment (slices e.row).tail ≡ None
+    pub uncommented : is_empty (held e).comment ≡ true → line_comment (slices e.row).tail ≡ None
     pub headless : is_empty (slices e.row).head ≡ false → e.under ≡ []
     pub named : anchor_of (content there.found.line there.found.under) ≡ content_anchor e.row.content

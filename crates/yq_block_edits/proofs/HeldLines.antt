@@ -12,7 +12,7 @@ use Rattle.yq_rows.specs.Grammar.{IsTail}
 use Rattle.yq_rows.specs.Rows.{Content, Row, mark_column, print_row, rows_text, Cut}
 use Rattle.yq_rows.specs.View.{slices}
 use Rattle.yq_places.specs.RowPieces.{anchor_before}
-use Rattle.yq_places.specs.Standings.{Held, PlacedEntry, held}
+use Rattle.yq_places.specs.Standings.{Held, RowsOfEntry, held}
 use Rattle.yq_change.specs.StandingLaws.{StandsThere}
 use Rattle.yq_change.specs.TextPieces.{IsPiece}
 use Rattle.yq_change.proofs.RemovalPieceLaws.{spaces_piece}
@@ -31,7 +31,7 @@ use Rattle.yq_edits.specs.EditLaws.{CarriedOut}
 use Rattle.yq_edits.specs.Layouts.{layout_of}
 use Rattle.yq_edits.specs.ReplaceEdits.{held_put}
 use Rattle.yq_edits.specs.WrittenValues.{column_under, lines, lines_in}
-use Rattle.yq_edits.proofs.BrokenTails.{quiet_tail}
+use Rattle.yq_edits.proofs.BrokenTails.{uncommented_tail}
 use Rattle.yq_edits.proofs.FitLaws.{FitsReplace}
 use Rattle.yq_edits.proofs.LayoutLaws.{mapping_least}
 use Rattle.yq_block_edits.proofs.HeldCarried.{Spells, held_carried}
@@ -53,9 +53,9 @@ lines_piece l column v tree = pieces_joined (replicate column 32) (block_value l
 
 -- a break alone ends a line
 abbrev pub break_tail : (b more : List ℕ) → IsBreak b more → IsTail b more
-break_tail b more ends = record { white = []; comment = []; line = record { break = b; spelled = refl; blank = tt; remark = tt; ends = ends }; apart = refl }
+break_tail b more ends = record { white = []; comment = []; line = record { break = b; spelled = refl; blank = tt; as_comment = tt; ends = ends }; apart = refl }
 
-module _ (n : ℕ) (s : Step) (ss : List Step) (c : Cut) (e : PlacedEntry) (there : StandsThere n s ss c e) (last : e.line ≡ length e.row.dashes) (k : KnowsHeld n s ss c e there last)
+module _ (n : ℕ) (s : Step) (ss : List Step) (c : Cut) (e : RowsOfEntry) (there : StandsThere n s ss c e) (last : e.line ≡ length e.row.dashes) (k : KnowsHeld n s ss c e there last)
     (v : Node) (tree : IsValueTree v) (f : FitsReplace n (s ∷ ss) v c there.part) (full : is_filled v ≡ true) where
   abbrev l : Layout
   l = layout_of n c
@@ -92,11 +92,11 @@ module _ (n : ℕ) (s : Step) (ss : List Step) (c : Cut) (e : PlacedEntry) (ther
     pub final_ends : IsEnd (mark_column e.row) final z
     final_ends = end_is n s ss c h final (break_tail final z ends)
 
-    pub quiet : line_comment final ≡ None
-    quiet = quiet_tail final z (break_tail final z ends) refl
+    pub uncommented : line_comment final ≡ None
+    uncommented = uncommented_tail final z (break_tail final z ends) refl
 
     abbrev pub rows_put : List Row
-    rows_put = rows_under n s ss c h l (mapping_least n c) v filled f.near left final held_is final_ends quiet
+    rows_put = rows_under n s ss c h l (mapping_least n c) v filled f.near left final held_is final_ends uncommented
 
     text : e.start ++ (rows_text e.front [] ++ rows_text rows_put z) ≡ w.before ++ (tail ++ (lines_in l (column_under l w.mark v) v ++ (final ++ w.behind)))
     text =
@@ -109,7 +109,7 @@ module _ (n : ℕ) (s : Step) (ss : List Step) (c : Cut) (e : PlacedEntry) (ther
 
     pub rows_spell : (us : List Segment) → kept_front us ≡ w.before → w.before ++ (tail ++ (lines_in l (column_under l w.mark v) v ++ (final ++ w.behind))) ≡ new_text us → Spells n s ss c e there last k v us rows_put
     rows_spell us kept new = record {
-      takes = takes_under n s ss c h l (mapping_least n c) v filled f.near left final held_is final_ends quiet;
+      takes = takes_under n s ss c h l (mapping_least n c) v filled f.near left final held_is final_ends uncommented;
       text = text ∙ new;
       lead = row_front e.row ++ anchor_before (slices e.row);
       before_is = kept ∙ before_is;

@@ -25,7 +25,7 @@ use Rattle.yq_documents.specs.Nodes.{anchor_of}
 use Rattle.yq_documents.specs.Reading.{outline_of, read_at}
 use Rattle.yq_places.specs.CommentPlaces.{LineEnd, end_before, line_text}
 use Rattle.yq_places.specs.PrintedLines.{last_break}
-use Rattle.yq_places.specs.Standings.{PlacedEntry, before_entry, behind_entry, held, placed_entry}
+use Rattle.yq_places.specs.Standings.{RowsOfEntry, before_entry, behind_entry, held, rows_of_entry}
 use Rattle.yq_places.proofs.CommentPieceLaws.{Ended}
 use Rattle.yq_places.proofs.LastBreakLaws.{lf_last}
 use Rattle.yq_places.proofs.LineEndLaws.{line_tail}
@@ -41,11 +41,11 @@ use Rattle.yq_change.proofs.StandingMarks.{even_there, row_there, under_it}
 use Rattle.yq_change.proofs.TextPieceLaws.{piece_back, text_is_piece}
 use Rattle.yq_change.proofs.UnderLaws.{line_is, under_is}
 use Rattle.yq_edits.proofs.BreakLaws.{IsLfOrCrLf, last_is}
-use Rattle.yq_edits.proofs.BrokenTails.{other_comment, other_tail, quiet_tail}
+use Rattle.yq_edits.proofs.BrokenTails.{other_comment, other_tail, uncommented_tail}
 use Rattle.yq_edits.proofs.CommentReadLaws.{break_is}
 use Rattle.yq_edits.proofs.CommentRowLaws.{entry_row, line_whole}
 use Rattle.yq_edits.proofs.HeldLaws.{cut_spelled}
-use Rattle.yq_edits.proofs.HeldPieces.{below_ended, end_told, held_spells}
+use Rattle.yq_edits.proofs.HeldPieces.{below_ended, end_agrees, held_spells}
 use Rattle.yq_edits.proofs.TailPieces.{white_piece}
 use Rattle.yq_block_edits.proofs.HeldKnown.{KnowsHeld, first_alone}
 use Rattle.yq_block_edits.proofs.NodeRowLaws.{rest}
@@ -119,7 +119,7 @@ entries_first : (rs : List Row) → first_alone rs ≡ false → (l : Line) (u a
 entries_first [] beside l u after e = absurd (let no : [] ≡ l ∷ (flatten u ++ flatten after) = e in cc)
 entries_first (r ∷ rs) beside l u after e = go r.dashes r.mark (Rattle.yq_lines.specs.Comments.head_comment r.gap) beside e
   where
-    go : (ns : List ℕ) (m : rows.Mark) (above : List (List ℕ)) → (is_empty ns && Rattle.yq_lines.specs.Spots.is_bare (mark_of m)) ≡ false → Rattle.yq_walk.specs.Lines.lines_from above r.column ns m r.content ++ lines_of rs ≡ l ∷ (flatten u ++ flatten after) →
+    go : (ns : List ℕ) (m : rows.Mark) (above : List (List ℕ)) → (is_empty ns && Rattle.yq_lines.specs.Positions.is_bare (mark_of m)) ≡ false → Rattle.yq_walk.specs.Lines.lines_from above r.column ns m r.content ++ lines_of rs ≡ l ∷ (flatten u ++ flatten after) →
         siblings.IsEntry l.mark
     go [] rows.Bare above beside e = absurd (false≢true (sym beside))
     go [] rows.Dash above beside e = subst (λ (k : Line). siblings.IsEntry k.mark) (head-eq_of_cons-eq e) tt
@@ -128,7 +128,7 @@ entries_first (r ∷ rs) beside l u after e = go r.dashes r.mark (Rattle.yq_line
 
 -- ---- the rows
 
-module _ (n : ℕ) (s : Step) (ss : List Step) (c : Cut) (e : PlacedEntry) (there : StandsThere n s ss c e) (last : e.line ≡ length e.row.dashes) where
+module _ (n : ℕ) (s : Step) (ss : List Step) (c : Cut) (e : RowsOfEntry) (there : StandsThere n s ss c e) (last : e.line ≡ length e.row.dashes) where
   abbrev sl : Slices
   sl = slices e.row
 
@@ -145,7 +145,7 @@ module _ (n : ℕ) (s : Step) (ss : List Step) (c : Cut) (e : PlacedEntry) (ther
   mark_tail = line_tail (parent_indent e.row) e.row.content (rows_text e.under (behind_entry e)) row.content
 
   pub mark_end : end_before [] (slices e.row).tail ≡ record { before = []; white = mark_tail.white; comment = mark_tail.comment; behind = mark_tail.line.break }
-  mark_end = end_told (slices e.row).tail _ mark_tail
+  mark_end = end_agrees (slices e.row).tail _ mark_tail
 
   more_is : more ≡ below ++ behind_entry e
   more_is = ap (λ t. sl.raw ++ t) (rows_then e.under (behind_entry e)) ∙ sym (append_assoc sl.raw (rows_text e.under []) (behind_entry e))
@@ -187,7 +187,7 @@ module _ (n : ℕ) (s : Step) (ss : List Step) (c : Cut) (e : PlacedEntry) (ther
           (λ i. anchor_of (anchored there.found.line.anchor (head_or (none i) (value (is i)))))
           ∙ (value_unnamed (outline.row l u after) entries there.found.line.anchor ∙ ap (λ (k : Line). k.anchor) (sym line_there))
 
-  module _ (read : read_at (cut_text c) ≡ Some c) (at : placed_entry n (s ∷ ss) c ≡ Some e) where
+  module _ (read : read_at (cut_text c) ≡ Some c) (at : rows_of_entry n (s ∷ ss) c ≡ Some e) where
     pairs : pairs_returns ((slices e.row).tail ++ ((slices e.row).raw ++ rows_text e.under (behind_entry e))) ≡ true
     pairs =
         let text : cut_text c ≡ (before_entry e ++ line_text e.row) ++ (sl.tail ++ more) = cut_spelled n (s ∷ ss) c e at ∙ line_whole (entry_row e) in
@@ -219,7 +219,7 @@ module _ (n : ℕ) (s : Step) (ss : List Step) (c : Cut) (e : PlacedEntry) (ther
           broken_comment = λ br. same (break_text br) [] (inl (break_is br));
           ended = other (held e).last _ last_there;
           ended_comment = same (held e).last _ last_there;
-          quiet = λ none. quiet_tail sl.tail more mark_tail (ap (λ (x : LineEnd). is_empty x.comment) (sym mark_end) ∙ none);
+          uncommented = λ none. uncommented_tail sl.tail more mark_tail (ap (λ (x : LineEnd). is_empty x.comment) (sym mark_end) ∙ none);
           headless = headless_there;
           named = named_there beside;
         }

@@ -12,7 +12,7 @@ use Rattle.yq_rows.proofs.NodeExchange.{mark_apart}
 use Rattle.yq_rows.proofs.PlaceLaws.{row_front-append}
 use Rattle.yq_walk.specs.Lines.{content_anchor}
 use Rattle.yq_documents.proofs.RowLineLaws.{tail_is}
-use Rattle.yq_places.specs.Standings.{PlacedEntry, before_entry, held}
+use Rattle.yq_places.specs.Standings.{RowsOfEntry, before_entry, held}
 use Rattle.yq_change.specs.DocumentRows.{behind_document}
 use Rattle.yq_change.specs.StandingLaws.{StandsThere}
 use Rattle.yq_change.proofs.CoreLaws.{put_core}
@@ -26,7 +26,7 @@ use Rattle.yq_block_edits.proofs.StandingNodes.{mark_node}
 pub regroup : (a b d r : List ℕ) → a ++ (b ++ (d ++ r)) ≡ ((a ++ b) ++ d) ++ r
 regroup a b d r = simp append_assoc refl
 
-module _ (n : ℕ) (s : Step) (ss : List Step) (c : Cut) (e : PlacedEntry) (there : StandsThere n s ss c e) (last : e.line ≡ length e.row.dashes) (k : KnowsHeld n s ss c e there last) where
+module _ (n : ℕ) (s : Step) (ss : List Step) (c : Cut) (e : RowsOfEntry) (there : StandsThere n s ss c e) (last : e.line ≡ length e.row.dashes) (k : KnowsHeld n s ss c e there last) where
   abbrev lead : List ℕ
   lead = before_entry e ++ row_front e.row
 

@@ -121,13 +121,13 @@ loose true f (l ∷ ls) h = go (is_empty_line f l) h
 
 -- ---- pieces
 
-text_quiet : (t : List ℕ) → IsText t → Each no_return t
-text_quiet [] h = tt
-text_quiet (b ∷ t) h = (ap not h.1, text_quiet t h.2)
+text_no_return : (t : List ℕ) → IsText t → Each no_return t
+text_no_return [] h = tt
+text_no_return (b ∷ t) h = (ap not h.1, text_no_return t h.2)
 
-whole_quiet : (t : List ℕ) → NoCr t → Each no_return t
-whole_quiet [] h = tt
-whole_quiet (b ∷ t) h = (ap not h.0, whole_quiet t h.1)
+whole_no_return : (t : List ℕ) → NoCr t → Each no_return t
+whole_no_return [] h = tt
+whole_no_return (b ∷ t) h = (ap not h.0, whole_no_return t h.1)
 
 literal_is_text : (c : ℕ) → is_literal_char c ≡ true → is_text_char c ≡ true
 literal_is_text c h = go (is_plain_char c) refl (eqb c 9) refl (is_feed c) refl h
@@ -142,7 +142,7 @@ string_piece : (s : ScalarText) → IsUtf8 s.text → can_write s styles.Literal
 string_piece s u can =
     let t : List ℕ = s.text in
     let text : is_literal_text t ≡ true = (and_parts (is_string s.kind && true) (is_literal_text t) can).1 in
-    text_piece is_literal_char t u literal_is_text (and_parts _ (list_all is_literal_char (chars t)) text).1 (whole_quiet t (literal_can t u text).plain)
+    text_piece is_literal_char t u literal_is_text (and_parts _ (list_all is_literal_char (chars t)) text).1 (whole_no_return t (literal_can t u text).plain)
 
 indented_piece : (m : ℕ) (t : List ℕ) → IsPiece t → IsPiece (indented m t)
 indented_piece m [] h = nothing
@@ -161,7 +161,7 @@ written_piece m br (l ∷ ls) are good h =
     go join true e more =
         let own : l ≡ line_text l ++ 10 ∷ [] = good.0.1 ∙ ap (λ b. line_text l ++ broken b) e in
         let cut = line_cut (line_text l) (joined ls) (subst IsPiece (ap (λ x. x ++ joined ls) own) h) in
-        join (front_piece (line_text l) cut.0 (text_quiet (line_text l) good.0.0)) cut.1
+        join (front_piece (line_text l) cut.0 (text_no_return (line_text l) good.0.0)) cut.1
     go join false e (inl more) = absurd (false≢true (sym e ∙ more))
     go join false e (inr none) =
         let own : l ≡ line_text l = good.0.1 ∙ (ap (λ b. line_text l ++ broken b) e ∙ append-nil (line_text l)) in

@@ -22,7 +22,7 @@ use Rattle.yq_places.specs.CommentPlaces.{line_text}
 use Rattle.yq_places.specs.PlacedRows.{PlacedPart, PlacedRow, placed_document}
 use Rattle.yq_places.specs.RowPaths.{IsReadable}
 use Rattle.yq_places.specs.Standings.{Lone, lone}
-use Rattle.yq_places.proofs.CommentEndLaws.{row_line}
+use Rattle.yq_places.proofs.CommentEndLaws.{row_text_parts}
 use Rattle.yq_places.proofs.CommentPieceLaws.{gap_end}
 use Rattle.yq_places.proofs.LineEndLaws.{line_tail}
 use Rattle.yq_places.proofs.RemovalLines.{LiesIn, LineSeam, lies_in, seam_join}
@@ -52,7 +52,7 @@ use Rattle.yq_edits.specs.WrittenValues.{value_text}
 use Rattle.yq_edits.proofs.DoneLaws.{document_done}
 use Rattle.yq_edits.proofs.FitLaws.{FitsReplace, fits_replace}
 use Rattle.yq_edits.proofs.KeptLaws.{led_same}
-use Rattle.yq_edits.proofs.TailPieces.{HasPieces, pieces}
+use Rattle.yq_edits.proofs.TailPieces.{HasTailPieces, pieces}
 use Rattle.yq_edits.proofs.LocalLaws.{cut_known, row_local}
 use Rattle.yq_edits.proofs.SegmentLaws.{segments_readable}
 use Rattle.yq_edits.proofs.ValueTexts.{IsWrittenFor, value_for}
@@ -108,7 +108,7 @@ module _ (n : ℕ) (steps : List Step) (v : Node) (c : Cut) (read : read_at (cut
   whole =
       let s = slices r in
       let parts : base ++ ((row_front r ++ (s.space ++ (s.anchor ++ (s.apart ++ s.head)))) ++ (s.tail ++ z)) ≡ (base ++ (row_front r ++ (s.space ++ (s.anchor ++ s.apart)))) ++ (s.head ++ (s.tail ++ z)) = simp append_assoc refl in
-      text ∙ (ap (λ u. base ++ u) (row_line r z) ∙ (ap (λ u. base ++ (line_text r ++ (s.tail ++ (u ++ z)))) raw ∙ parts))
+      text ∙ (ap (λ u. base ++ u) (row_text_parts r z) ∙ (ap (λ u. base ++ (line_text r ++ (s.tail ++ (u ++ z)))) raw ∙ parts))
 
   old_is : old_text us ≡ cut_text c
   old_is = ap (λ u. w.before ++ (w.head ++ u)) (append-nil w.behind) ∙ sym whole
@@ -154,7 +154,7 @@ module _ (n : ℕ) (steps : List Step) (v : Node) (c : Cut) (read : read_at (cut
   behind_piece : IsPiece w.behind
   behind_piece =
       let at : PlacedRow = record { before = base; row = r; line = 0; behind = z } in
-      let k : HasPieces at (slices r).tail ((slices r).raw ++ z) tail = pieces at (asked_behind unlimited front) row (subst IsPiece text (text_is_piece c read)) tail in
+      let k : HasTailPieces at (slices r).tail ((slices r).raw ++ z) tail = pieces at (asked_behind unlimited front) row (subst IsPiece text (text_is_piece c read)) tail in
       let parts : (tail.white ++ tail.comment) ++ (tail.line.break ++ ((slices r).raw ++ z)) ≡ (tail.white ++ (tail.comment ++ tail.line.break)) ++ ((slices r).raw ++ z) = simp append_assoc refl in
       subst IsPiece (parts ∙ (ap (λ u. u ++ ((slices r).raw ++ z)) (sym tail.line.spelled) ∙ ap (λ u. (slices r).tail ++ (u ++ z)) raw))
       (pieces_joined (tail.white ++ tail.comment) (tail.line.break ++ ((slices r).raw ++ z)) k.line k.behind)
@@ -217,7 +217,7 @@ module _ (n : ℕ) (steps : List Step) (v : Node) (c : Cut) (read : read_at (cut
               root = ap (λ m. change steps (replaced m) (root_of p)) (sym (led_same (is_block_root p) (lead_of p) steps v (contents.rooted c n p old front r back rows_are mark no_dashes steps leads v x.node x.is)));
               lead_goes = same_lead_goes p q lead block;
               block = λ keeps. block;
-              seats = λ sets. absurd sets;
+              equal_room = λ sets. absurd sets;
             }));
         local = inl (cut_known us c (put_document n q c) changed.read same local);
       }

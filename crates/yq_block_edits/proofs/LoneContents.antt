@@ -13,7 +13,7 @@ use Rattle.yq_inline.specs.Nodes.{node_text}
 use Rattle.yq_lines.specs.Comments.{head_comment}
 use Rattle.yq_lines.specs.Group.{group, is_fine}
 use Rattle.yq_lines.specs.Outline.{Line}
-use Rattle.yq_lines.specs.Places.{Found, content}
+use Rattle.yq_lines.specs.Places.{FoundLine, content}
 use Rattle.yq_lines.specs.Sound.{is_entry}
 use Rattle.yq_lines.proofs.Finding.{FoundNode, path_node}
 use Rattle.yq_rows.specs.Exchange.{allows_first, asked_behind, row_front, with_content}
@@ -53,7 +53,7 @@ use Rattle.yq_change.proofs.InlineReplaceLaws.{next_stands, own_rows, tail_ends_
 use Rattle.yq_change.proofs.LineLaws.{above_mark}
 use Rattle.yq_change.proofs.MarkFirst.{no_node_first}
 use Rattle.yq_change.proofs.PartLaws.{document_known}
-use Rattle.yq_change.proofs.RemarkLaws.{last_lines}
+use Rattle.yq_change.proofs.CommentPutLaws.{last_lines}
 use Rattle.yq_change.proofs.RowCommentLaws.{lead_content}
 use Rattle.yq_change.proofs.ValueContentLaws.{content_alone, content_head, content_is, content_keys, content_named, content_short, content_tail, content_unmarked}
 use Rattle.yq_block_edits.proofs.LoneHeads.{IsLoneHead, before_head, lone_head}
@@ -151,7 +151,7 @@ module _ (c : Cut) (n : ℕ) (p : Part) (old : IsDocumentPart (cut_text c) c n p
       go : (ss : List Step) → LeadsToLone p ss front r → (m : Node) → node_at ss (root_of p) ≡ Some m → MayReplace v m (root_of p) (length ss) → IsChanged c (put_document n q c) n (lead_of p) (change ss (replaced v))
       go [] h m at may = root_content_replaced (cut_text c) c n p front back r v new (takes readable) h.count h.mark (subst (λ x. MayReplace v x (root_of p) 0) (sym (same_Some _ _ at)) may)
       go (s ∷ ss) h m at may =
-          let f : Found = h.found in
+          let f : FoundLine = h.found in
           let own : node_at (s ∷ ss) (root_of p) ≡ Some (content f.line f.under) = path_node s ss (outline_of p) ∙ ap FoundNode h.is in
           lower_content_replaced (cut_text c) c n p front back r v new s ss f (takes readable) h.is h.open' h.count h.mark h.number (subst (λ x. MayReplace v x (root_of p) (length (s ∷ ss))) (same_Some _ _ (sym at ∙ own)) may)
 

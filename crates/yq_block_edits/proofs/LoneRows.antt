@@ -13,7 +13,7 @@ use Rattle.yq_lines.specs.Group.{level_or}
 use Rattle.yq_lines.specs.Outline as outline
 use Rattle.yq_lines.specs.Outline.{Line, Outline, end, row, flatten, IsEven, IsOpen, IsWhole}
 use Rattle.yq_lines.specs.Places.{find}
-use Rattle.yq_lines.specs.Spots.{is_bare}
+use Rattle.yq_lines.specs.Positions.{is_bare}
 use Rattle.yq_lines.proofs.Decides.{flatten-group}
 use Rattle.yq_rows.specs.Grammar.{AreRows, unlimited}
 use Rattle.yq_rows.specs.Rows as rows
@@ -21,9 +21,9 @@ use Rattle.yq_rows.specs.Rows.{Row, rows_text, print_row, Part, Cut, cut_text}
 use Rattle.yq_rows.proofs.seams.SeamLaws.{rows_text-append}
 use Rattle.yq_walk.specs.Lines.{lines_from, lines_of, mark_line, mark_of, row_lines}
 use Rattle.yq_documents.specs.Reading.{outline_of, read_at}
-use Rattle.yq_documents.specs.Seats.{Seat, seat_of}
+use Rattle.yq_documents.specs.LinesInRows.{RowLine, row_line_of}
 use Rattle.yq_places.specs.PlacedRows.{PlacedPart, placed_document}
-use Rattle.yq_places.specs.Standings.{PlacedEntry, before_entry, behind_entry, entry_at, is_alone, lone, placed_entry}
+use Rattle.yq_places.specs.Standings.{RowsOfEntry, before_entry, behind_entry, entry_rows_at, is_alone, lone, rows_of_entry}
 use Rattle.yq_places.proofs.CommentPieceLaws.{Ended}
 use Rattle.yq_places.proofs.PrintedTexts.{map_some}
 use Rattle.yq_places.proofs.RemovalLines.{LineSeam}
@@ -85,16 +85,16 @@ one_line m (row x u a) l ls even e bare =
 
 -- ---- under a key or dash
 
-module _ (n : ℕ) (s : Step) (ss : List Step) (v : Node) (c : Cut) (read : read_at (cut_text c) ≡ Some c) (d : PlacedPart) (placed : placed_document n c ≡ Some d) (x : Seat) (seated : seat_of (s ∷ ss) d.part.rows ≡ Some x) (r : Row) (rs : List Row)
-    (last : (entry_at d x).line ≡ length (entry_at d x).row.dashes) (under : (entry_at d x).under ≡ r ∷ rs) (alone : is_alone r ≡ true) where
-  abbrev e : PlacedEntry
-  e = entry_at d x
+module _ (n : ℕ) (s : Step) (ss : List Step) (v : Node) (c : Cut) (read : read_at (cut_text c) ≡ Some c) (d : PlacedPart) (placed : placed_document n c ≡ Some d) (x : RowLine) (printed_line : row_line_of (s ∷ ss) d.part.rows ≡ Some x) (r : Row) (rs : List Row)
+    (last : (entry_rows_at d x).line ≡ length (entry_rows_at d x).row.dashes) (under : (entry_rows_at d x).under ≡ r ∷ rs) (alone : is_alone r ≡ true) where
+  abbrev e : RowsOfEntry
+  e = entry_rows_at d x
 
   abbrev front : List Row
   front = e.front ++ (e.row ∷ [])
 
-  at : placed_entry n (s ∷ ss) c ≡ Some e
-  at = ap (λ (o : Option PlacedPart). o >>= λ q. option_map (entry_at q) (seat_of (s ∷ ss) q.part.rows)) placed ∙ ap (option_map (entry_at d)) seated
+  at : rows_of_entry n (s ∷ ss) c ≡ Some e
+  at = ap (λ (o : Option PlacedPart). o >>= λ q. option_map (entry_rows_at q) (row_line_of (s ∷ ss) q.part.rows)) placed ∙ ap (option_map (entry_rows_at d)) printed_line
 
   there : StandsThere n s ss c e
   there = rows_stand n s ss c e read at
@@ -171,12 +171,12 @@ module _ (n : ℕ) (s : Step) (ss : List Step) (v : Node) (c : Cut) (read : read
       (subst (λ (z : List ℕ). IsEdit (replace n (s ∷ ss) v) c (lone_put (lone (d.before ++ rows_text front []) r z) v)) behind_is
       (lone_carried n (s ∷ ss) v c read d placed front r (rs ++ e.back) rows_are (alone_row r alone).0 (alone_row r alone).1 leads ended))
 
-pub lone_edit : (n : ℕ) (s : Step) (ss : List Step) (v : Node) (c : Cut) (e : PlacedEntry) (r : Row) (rs : List Row) → read_at (cut_text c) ≡ Some c → placed_entry n (s ∷ ss) c ≡ Some e → e.line ≡ length e.row.dashes →
+pub lone_edit : (n : ℕ) (s : Step) (ss : List Step) (v : Node) (c : Cut) (e : RowsOfEntry) (r : Row) (rs : List Row) → read_at (cut_text c) ≡ Some c → rows_of_entry n (s ∷ ss) c ≡ Some e → e.line ≡ length e.row.dashes →
     e.under ≡ r ∷ rs → is_alone r ≡ true → IsEdit (replace n (s ∷ ss) v) c (lone_put (lone (before_entry e ++ print_row e.row []) r (rows_text rs (behind_entry e))) v)
 lone_edit n s ss v c e r rs read at last under alone =
     let d = bind_some (placed_document n c) at in
-    let x = map_some (seat_of (s ∷ ss) d.0.part.rows) d.2 in
-    subst (λ (y : PlacedEntry). y.line ≡ length y.row.dashes → y.under ≡ r ∷ rs → IsEdit (replace n (s ∷ ss) v) c (lone_put (lone (before_entry y ++ print_row y.row []) r (rows_text rs (behind_entry y))) v)) x.2
+    let x = map_some (row_line_of (s ∷ ss) d.0.part.rows) d.2 in
+    subst (λ (y : RowsOfEntry). y.line ≡ length y.row.dashes → y.under ≡ r ∷ rs → IsEdit (replace n (s ∷ ss) v) c (lone_put (lone (before_entry y ++ print_row y.row []) r (rows_text rs (behind_entry y))) v)) x.2
     (λ own below. edit_there n s ss v c read d.0 d.1 x.0 x.1 r rs own below alone) last under
 
 -- ---- a root

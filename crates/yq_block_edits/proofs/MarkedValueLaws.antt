@@ -12,7 +12,7 @@ use Rattle.yq_documents.specs.Reading.{read_at}
 use Rattle.yq_places.specs.NodesAt.{node_in}
 use Rattle.yq_places.specs.PlacedRows.{PlacedPart, placed_document}
 use Rattle.yq_places.specs.Standings as standings
-use Rattle.yq_places.specs.Standings.{PlacedEntry, Standing, before_entry, behind_entry, behind_mark, below, compact_in, entry_standing, held, is_alone, lone, placed_entry, root_standing}
+use Rattle.yq_places.specs.Standings.{RowsOfEntry, Standing, before_entry, behind_entry, behind_mark, below, compact_in, entry_standing, held, is_alone, lone, rows_of_entry, root_standing}
 use Rattle.yq_places.proofs.PrintedTexts.{map_some}
 use Rattle.yq_change.specs.StandingLaws.{StandsThere}
 use Rattle.yq_change.proofs.StandingRows.{entry_within, rows_stand}
@@ -36,7 +36,7 @@ less a b e h = ⊎_elim {0, 0, 0} (λ t. ltb-true a b t) (λ f. let most = ltb-f
 
 -- ---- by what stands there
 
-module _ (n : ℕ) (s : Step) (ss : List Step) (v : Node) (c : Cut) (e : PlacedEntry) (read : read_at (cut_text c) ≡ Some c) (at : placed_entry n (s ∷ ss) c ≡ Some e) where
+module _ (n : ℕ) (s : Step) (ss : List Step) (v : Node) (c : Cut) (e : RowsOfEntry) (read : read_at (cut_text c) ≡ Some c) (at : rows_of_entry n (s ∷ ss) c ≡ Some e) where
   there : StandsThere n s ss c e
   there = rows_stand n s ss c e read at
 
@@ -73,7 +73,7 @@ module _ (n : ℕ) (s : Step) (ss : List Step) (v : Node) (c : Cut) (e : PlacedE
 
 pub marked_values : MarkedValuesArePut
 marked_values n (s ∷ ss) v c t read at marked kept =
-    let e = map_some (placed_entry n (s ∷ ss) c) at in
+    let e = map_some (rows_of_entry n (s ∷ ss) c) at in
     subst (λ (t : Standing). IsEdit (replace n (s ∷ ss) v) c (value_put (has_text (node_in n (s ∷ ss) c)) (layout_of n c) v t)) e.2 (entry_put n s ss v c e.0 read e.1)
 marked_values n [] v c t read at marked kept =
     let d = map_some (placed_document n c) at in

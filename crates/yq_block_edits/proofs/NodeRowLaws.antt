@@ -8,7 +8,7 @@ use Rattle.yq_lines.specs.Comments.{head_comment}
 use Rattle.yq_lines.specs.Group.{group, is_fine, level_or}
 use Rattle.yq_lines.specs.Outline as outline
 use Rattle.yq_lines.specs.Outline.{Line, level, flatten, IsEven}
-use Rattle.yq_lines.specs.Places.{lines_before, lines_after, Found, find}
+use Rattle.yq_lines.specs.Places.{lines_before, lines_after, FoundLine, find}
 use Rattle.yq_lines.proofs.Decides.{flatten-group}
 use Rattle.yq_rows.specs.Exchange.{allows_first, asked_behind}
 use Rattle.yq_rows.specs.Grammar.{Limit, unlimited, limit_after, AreRows, is_entry}
@@ -39,7 +39,7 @@ use Rattle.yq_block_edits.proofs.RowLines.{lines_upto}
 pub record NodeRows (doc : ℕ) (s : Step) (ss : List Step) (c : Cut) : Type 0 where
   pub p : Part
   pub old : IsDocumentPart (cut_text c) c doc p
-  pub found : Found
+  pub found : FoundLine
   pub is : find s ss (outline_of p) ≡ Some (found, [])
   pub front : List Row
   pub row : Row

@@ -162,5 +162,5 @@ module _ (doc : ℕ) (s : Step) (ss : List Step) (c : Cut) (h : NodeRows doc s s
         root = ap (λ m. change (s ∷ ss) (replaced m) (root_of h.p)) (sym (led_below (is_block_root h.p) (lead_of h.p) s ss v));
         lead_goes = same_lead_goes h.p q same_lead same_block;
         block = λ keeps. same_block;
-        seats = λ sets. absurd sets;
+        equal_room = λ sets. absurd sets;
       })

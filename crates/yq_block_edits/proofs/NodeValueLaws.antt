@@ -111,7 +111,7 @@ module _ (doc : ℕ) (s : Step) (ss : List Step) (c : Cut) (h : NodeRows doc s s
   -- ---- under it
 
   module _ (l : Layout) (step : 1 ≤ l.mapping) (v : Node) (filled : IsFilledValue v) (near_keys : HasNearKeys v) (x : Content) (last : List ℕ)
-      (held : IsHolding x (rows_text (node_rows l (column_below l (mark_column h.mark) (mark_key h.mark.mark) v) last v) (rest doc s ss c h))) (ends : IsEnd (mark_column h.mark) last (rest doc s ss c h)) (quiet : line_comment last ≡ None) where
+      (held : IsHolding x (rows_text (node_rows l (column_below l (mark_column h.mark) (mark_key h.mark.mark) v) last v) (rest doc s ss c h))) (ends : IsEnd (mark_column h.mark) last (rest doc s ss c h)) (uncommented : line_comment last ≡ None) where
     abbrev pub below : ℕ
     below = column_below l (mark_column h.mark) (mark_key h.mark.mark) v
 
@@ -138,7 +138,7 @@ module _ (doc : ℕ) (s : Step) (ss : List Step) (c : Cut) (h : NodeRows doc s s
     }
 
     stands : Stands (lines_of rs) v (level_at below v)
-    stands = rules_give (level_at below v) (lines_of rs) v (node_stands v l below last step filled.filled filled.value quiet)
+    stands = rules_give (level_at below v) (lines_of rs) v (node_stands v l below last step filled.filled filled.value uncommented)
 
     deep : outline.level (line_with h.mark x) < level_at below v
     unfolding level

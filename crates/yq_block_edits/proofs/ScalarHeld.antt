@@ -17,7 +17,7 @@ use Rattle.yq_documents.specs.Nodes.{anchor_of}
 use Rattle.yq_places.specs.CommentPlaces.{LineEnd, end_before}
 use Rattle.yq_places.specs.PrintedLines.{last_break, less_break}
 use Rattle.yq_places.specs.RowPieces.{anchor_before, space_before}
-use Rattle.yq_places.specs.Standings.{PlacedEntry, before_entry, held}
+use Rattle.yq_places.specs.Standings.{RowsOfEntry, before_entry, held}
 use Rattle.yq_change.specs.StandingLaws.{StandsThere}
 use Rattle.yq_change.specs.TextPieces.{IsPiece}
 use Rattle.yq_edits.specs.ReplaceEdits.{line_break, raw_last}
@@ -42,7 +42,7 @@ unfolding is_line
 has_break tail more line h = go h.line.ends
   where
     same : is_line tail ≡ is_line h.line.break
-    same = ap is_line (h.line.spelled ∙ sym (append_assoc h.white h.comment h.line.break)) ∙ text_line (h.white ++ h.comment) h.line.break (white_none h.white h.comment h.line.break h.line.blank (comment_none h.comment h.line.break h.line.remark))
+    same = ap is_line (h.line.spelled ∙ sym (append_assoc h.white h.comment h.line.break)) ∙ text_line (h.white ++ h.comment) h.line.break (white_none h.white h.comment h.line.break h.line.blank (comment_none h.comment h.line.break h.line.as_comment))
 
     go : IsBreak h.line.break more → IsLfOrCrLf h.line.break
     go (inl k) = break_is h.line.break k
@@ -82,7 +82,7 @@ front_with base space (Some a) block r u = joined_front base space a u
 
 -- ---- a key or dash
 
-module _ (n : ℕ) (s : Step) (ss : List Step) (c : Cut) (e : PlacedEntry) (there : StandsThere n s ss c e) (last : e.line ≡ length e.row.dashes) (knows : KnowsHeld n s ss c e there last)
+module _ (n : ℕ) (s : Step) (ss : List Step) (c : Cut) (e : RowsOfEntry) (there : StandsThere n s ss c e) (last : e.line ≡ length e.row.dashes) (knows : KnowsHeld n s ss c e there last)
     (space : List ℕ) (anchor : Option Anchor) (block : BlockText) (content_is : e.row.content ≡ Block space anchor block) where
   abbrev z : List ℕ
   z = rest n s ss c (mark_node n s ss c e there last)

@@ -33,7 +33,7 @@ use Rattle.yq_walk.specs.Lines.{head_of, tail_of}
 use Rattle.yq_lines.specs.Comments.{line_comment}
 use Rattle.yq_places.specs.NodesAt.{node_in, scalar_in}
 use Rattle.yq_places.specs.RowPieces.{anchor_before, space_before}
-use Rattle.yq_places.specs.Standings.{Held, PlacedEntry, held}
+use Rattle.yq_places.specs.Standings.{Held, RowsOfEntry, held}
 use Rattle.yq_change.specs.StandingLaws.{StandsThere}
 use Rattle.yq_change.proofs.PathTailLaws.{anchor_other}
 use Rattle.yq_meaning.specs.Operations.{replace}
@@ -58,7 +58,7 @@ string_is a kind t h can =
     let string : is_string kind ≡ true = (and_parts (is_string kind) true (and_parts (is_string kind && true) (is_literal_text t) can).0).0 in
     λ i. tree.scalar (h.0 i) (string_kind kind string i) t
 
-module _ (n : ℕ) (s : Step) (ss : List Step) (c : Cut) (e : PlacedEntry) (there : StandsThere n s ss c e) (last : e.line ≡ length e.row.dashes) (k : KnowsHeld n s ss c e there last)
+module _ (n : ℕ) (s : Step) (ss : List Step) (c : Cut) (e : RowsOfEntry) (there : StandsThere n s ss c e) (last : e.line ≡ length e.row.dashes) (k : KnowsHeld n s ss c e there last)
     (space : List ℕ) (anchor : Option Anchor) (block : BlockText) (content_is : e.row.content ≡ Block space anchor block) where
   abbrev w : Held
   w = held e

@@ -17,7 +17,7 @@ use Rattle.yq_flow.specs.Valued.{IsValueTree}
 use Rattle.yq_rows.specs.Rows.{Anchor, Block, Cut, cut_text}
 use Rattle.yq_places.specs.NodesAt.{node_in, scalar_in}
 use Rattle.yq_places.specs.Standings as standings
-use Rattle.yq_places.specs.Standings.{Held, PlacedEntry, held}
+use Rattle.yq_places.specs.Standings.{Held, RowsOfEntry, held}
 use Rattle.yq_change.specs.StandingLaws.{StandsThere}
 use Rattle.yq_block.specs.declared.layout.Layout.{Layout}
 use Rattle.yq_block.specs.BlockReading.{is_filled}
@@ -39,7 +39,7 @@ use Rattle.yq_block_edits.proofs.ScalarInline.{scalar_inline}
 use Rattle.yq_block_edits.proofs.ScalarLiterals.{raw_literal}
 use Rattle.yq_block_edits.proofs.ScalarRows.{raw_rows}
 
-module _ (n : ℕ) (s : Step) (ss : List Step) (c : Cut) (e : PlacedEntry) (there : StandsThere n s ss c e) (last : e.line ≡ length e.row.dashes) (k : KnowsHeld n s ss c e there last)
+module _ (n : ℕ) (s : Step) (ss : List Step) (c : Cut) (e : RowsOfEntry) (there : StandsThere n s ss c e) (last : e.line ≡ length e.row.dashes) (k : KnowsHeld n s ss c e there last)
     (space : List ℕ) (anchor : Option Anchor) (block : BlockText) (content_is : e.row.content ≡ Block space anchor block) where
   abbrev w : Held
   w = held e

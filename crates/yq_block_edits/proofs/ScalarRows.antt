@@ -10,7 +10,7 @@ use Rattle.yq_lines.specs.Comments.{line_comment}
 use Rattle.yq_rows.specs.Grammar.{IsTail}
 use Rattle.yq_rows.specs.Rows.{Anchor, Block, Cut}
 use Rattle.yq_rows.specs.View.{slices}
-use Rattle.yq_places.specs.Standings.{Held, PlacedEntry, held}
+use Rattle.yq_places.specs.Standings.{Held, RowsOfEntry, held}
 use Rattle.yq_places.proofs.LineEndLaws.{header_tail}
 use Rattle.yq_change.specs.StandingLaws.{StandsThere}
 use Rattle.yq_change.proofs.TextPieceLaws.{pieces_joined}
@@ -30,7 +30,7 @@ use Rattle.yq_block_edits.proofs.HeldKnown.{KnowsHeld}
 use Rattle.yq_block_edits.proofs.HeldLines.{lines_piece, rows_put, rows_spell}
 use Rattle.yq_block_edits.proofs.ScalarHeld.{header_line, line_piece, raw_old, tail_is, valid}
 
-module _ (n : ℕ) (s : Step) (ss : List Step) (c : Cut) (e : PlacedEntry) (there : StandsThere n s ss c e) (last : e.line ≡ length e.row.dashes) (k : KnowsHeld n s ss c e there last)
+module _ (n : ℕ) (s : Step) (ss : List Step) (c : Cut) (e : RowsOfEntry) (there : StandsThere n s ss c e) (last : e.line ≡ length e.row.dashes) (k : KnowsHeld n s ss c e there last)
     (space : List ℕ) (anchor : Option Anchor) (block : BlockText) (content_is : e.row.content ≡ Block space anchor block)
     (v : Node) (tree : IsValueTree v) (f : FitsReplace n (s ∷ ss) v c there.part) (full : is_filled v ≡ true) where
   abbrev l : Layout

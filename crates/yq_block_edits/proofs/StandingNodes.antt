@@ -4,13 +4,13 @@ use Rattle.yq_scalar.specs.Paths.{Step}
 use Rattle.yq_lines.specs.Outline.{flatten}
 use Rattle.yq_rows.specs.Rows.{Cut, Row}
 use Rattle.yq_walk.specs.Lines.{lines_of}
-use Rattle.yq_places.specs.Standings.{PlacedEntry, behind_entry}
+use Rattle.yq_places.specs.Standings.{RowsOfEntry, behind_entry}
 use Rattle.yq_change.specs.StandingLaws.{StandsThere}
 use Rattle.yq_change.proofs.StandingMarks.{behind_there, entry_there}
 use Rattle.yq_block.specs.BlockPlaces.{IsUpto, at_mark}
 use Rattle.yq_block_edits.proofs.NodeRowLaws.{NodeRows, rest}
 
-module _ (n : ℕ) (s : Step) (ss : List Step) (c : Cut) (e : PlacedEntry) (there : StandsThere n s ss c e) where
+module _ (n : ℕ) (s : Step) (ss : List Step) (c : Cut) (e : RowsOfEntry) (there : StandsThere n s ss c e) where
   -- up to the key or dash of the line
   abbrev pub node_upto : (mark : Row) → IsUpto mark e.row → length mark.dashes ≡ e.line → NodeRows n s ss c
   node_upto mark upto line = record {

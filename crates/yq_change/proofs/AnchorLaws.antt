@@ -6,12 +6,12 @@ use Rattle.yq_rows.specs.Rows.{Row}
 use Rattle.yq_lines.specs.LineAnchors.{MayTake, IsFree, HaveOneAnchorEach}
 use Rattle.yq_documents.specs.Documents.{HaveFitKeys}
 use Rattle.yq_lines.specs.Outline.{Mark, Bare, Key, Dash, Line, level, Outline, end, row, flatten}
-use Rattle.yq_lines.specs.Places.{Place, here, below, beside, lines_before, lines_after, Found}
+use Rattle.yq_lines.specs.Places.{Context, here, below, beside, lines_before, lines_after, FoundLine}
 use Rattle.yq_lines.proofs.Allowing as allowing
 use Rattle.yq_lines.proofs.Allowing.{Allows, IsCollection}
 use Rattle.yq_lines.proofs.Plug.{headless_entry}
 use Rattle.yq_lines.proofs.NameLaws.{each_front, each_back}
-use Rattle.yq_places.proofs.FlowToldLaws.{before_under}
+use Rattle.yq_places.proofs.FlowViewLaws.{before_under}
 use Rattle.yq_change.specs.Conditions.{last_anchor, BeginsEntry, AnchorsStay, LinesAmong}
 use Rattle.yq_change.specs.Siblings.{IsEntry, NodeLines, under_line}
 use Rattle.yq_change.proofs.NodeLineLaws.{after_under, Under, lines_found, under_even}
@@ -59,7 +59,7 @@ pub both_anew : (xs ys : List Line) → BeginsEntry xs → BeginsEntry ys → Be
 both_anew [] ys h k = k
 both_anew (l ∷ xs) ys h k = h
 
-pub after_anew : (n m : ℕ) (p : Place) → Allows n p m → BeginsEntry (lines_after p)
+pub after_anew : (n m : ℕ) (p : Context) → Allows n p m → BeginsEntry (lines_after p)
 after_anew n m here h = tt
 after_anew n m (below l p a) h = both_anew (lines_after p) (flatten a) (after_anew h.3.0 m p h.3.2) (collection_anew a (next n l a h.2 h.0 h.4))
 after_anew n m (beside l u p) h = after_anew n m p h.4
@@ -75,7 +75,7 @@ lines_among n o (s ∷ ss) h even e = found (lines_found s ss o h e)
   where
     found : Under s ss o h → BeginsEntry (lines_after h.place) × (last_anchor (lines_before h.place) ≡ h.anchor)
     found w =
-        let f : Found = w.found in
+        let f : FoundLine = w.found in
         let old = under_even n o s ss f even w.is in
         let entry : allowing.IsEntry f.line.mark = headless_entry f.line.mark f.line.head f.after w.open' (old.1).2 in
         let after : BeginsEntry (flatten f.after) = collection_anew f.after (next (level f.line) f.line f.after entry refl (old.1).4) in

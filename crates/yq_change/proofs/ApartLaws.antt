@@ -14,7 +14,7 @@ use Rattle.yq_walk.specs.Lines.{mark_line, lines_from, row_lines, lines_of}
 use Rattle.yq_lines.specs.Outline.{Line, level, Outline, flatten, IsOpen, IsEven, label}
 use Rattle.yq_lines.specs.Outline.{end}
 use Rattle.yq_lines.specs.Outline.{row}
-use Rattle.yq_lines.specs.Places.{Place, here, below, beside, lines_before, lines_after, Found, next_to, find_row}
+use Rattle.yq_lines.specs.Places.{Context, here, below, beside, lines_before, lines_after, FoundLine, next_to, find_row}
 use Rattle.yq_lines.proofs.Allowing.{Allows}
 use Rattle.yq_lines.proofs.PlaceLaws.{at}
 use Rattle.yq_lines.proofs.Values.{If, rank_small}
@@ -60,7 +60,7 @@ apart_deep n (l ∷ []) z d h = begins_less n (level l) z d.0 h
 apart_deep n (l ∷ (k ∷ b)) z d h = apart_deep n (k ∷ b) z d.1 h
 
 -- lines behind a place
-pub after_begins : (n m : ℕ) (p : Place) → Allows n p m → Begins m (lines_after p)
+pub after_begins : (n m : ℕ) (p : Context) → Allows n p m → Begins m (lines_after p)
 after_begins n m here a = tt
 after_begins n m (below l p after) a =
     let lt = a.3.1 in
@@ -95,7 +95,7 @@ lines_apart n o steps h even e block =
     )
 
 -- An item or entry among its siblings.
-pub record Stood (n : ℕ) (f : Found) : Type 0 where
+pub record Stood (n : ℕ) (f : FoundLine) : Type 0 where
   pub before : AreDeep n (lines_before f.place)
   pub after : lines_after f.place ≡ []
   pub even : IsEven n (row f.line f.under f.after)
@@ -104,7 +104,7 @@ pub row_stood : (s : Step) (n : ℕ) (o : Outline) → IsEven n o → If (find_r
 row_stood s n end e = tt
 row_stood s n (row k v a) e = go (is_here s (label k)) (find_row (further s) a) (row_stood (further s) n a e.4)
   where
-    go : (b : Bool) (r : Option Found) → If r (Stood n) → If (cond b (Some (record { place = here; line = k; under = v; after = a })) (option_map (next_to k v) r)) (Stood n)
+    go : (b : Bool) (r : Option FoundLine) → If r (Stood n) → If (cond b (Some (record { place = here; line = k; under = v; after = a })) (option_map (next_to k v) r)) (Stood n)
     go true r h = record { before = tt; after = refl; even = e }
     go false None h = tt
     go false (Some f) h = record {

@@ -5,7 +5,7 @@ use Rattle.yq_scalar.specs.Tree.{Label, child}
 use Rattle.yq_lines.specs.Group.{level_or}
 use Rattle.yq_lines.specs.Laws.{with_lines}
 use Rattle.yq_lines.specs.Outline.{Line, level, Outline, end, row, flatten, IsOpen, IsEven, anchored, head_or, label, children, value}
-use Rattle.yq_lines.specs.Places.{here, plug, Found, next_to, find_row, content}
+use Rattle.yq_lines.specs.Places.{here, plug, FoundLine, next_to, find_row, content}
 use Rattle.yq_lines.proofs.Allowing as allowing
 use Rattle.yq_lines.proofs.PlaceLaws.{at}
 use Rattle.yq_lines.proofs.Plug.{entry_whole}
@@ -22,11 +22,11 @@ collection_replaced n o u steps h g even there block new kids =
     lines_replaced n m o u steps h (within g) even there.place_is (record { deep = deep.0; even = new; node_is = ap (anchored h.anchor) same ∙ anchored-within h.anchor g (value h.lines) })
 
 -- an entry's collection
-pub collection_of : {steps : List Step} {s : Step} {o : Outline} {h : NodeLines} {f : Found} → IsEntryAt steps s o h f → IsCollectionAt steps o h
+pub collection_of : {steps : List Step} {s : Step} {o : Outline} {h : NodeLines} {f : FoundLine} → IsEntryAt steps s o h f → IsCollectionAt steps o h
 collection_of x = record { place_is = x.place_is; block = x.block }
 
 -- the items or entries before one, itself, and those behind it
-pub record Splits (s : Step) (o : Outline) (f : Found) : Type 0 where
+pub record Splits (s : Step) (o : Outline) (f : FoundLine) : Type 0 where
   pub front : Outline
   pub whole : append_outline front (row f.line f.under f.after) ≡ o
   pub plugs : (x : Outline) → plug f.place x ≡ append_outline front x
@@ -38,7 +38,7 @@ pub row_splits : (s : Step) (o : Outline) → If (find_row s o) (Splits s o)
 row_splits s end = tt
 row_splits s (row k v a) = go (is_here s (label k)) refl (find_row (further s) a) (row_splits (further s) a)
   where
-    go : (b : Bool) → is_here s (label k) ≡ b → (r : Option Found) → If r (Splits (further s) a) →
+    go : (b : Bool) → is_here s (label k) ≡ b → (r : Option FoundLine) → If r (Splits (further s) a) →
         If (cond b (Some (record { place = here; line = k; under = v; after = a })) (option_map (next_to k v) r)) (Splits s (row k v a))
     go true e r h = record {
       front = end;
@@ -58,7 +58,7 @@ row_splits s (row k v a) = go (is_here s (label k)) refl (find_row (further s) a
       relabelled = λ g. rw e (ap (child (label k) (content k v)) (h.relabelled g));
     }
 
-pub some_at : (s : Step) (o : Outline) (f : Found) → find_row s o ≡ Some f → Splits s o f
+pub some_at : (s : Step) (o : Outline) (f : FoundLine) → find_row s o ≡ Some f → Splits s o f
 some_at s o f e = at (Splits s o) (find_row s o) f e (row_splits s o)
 
 pub removed : Removed

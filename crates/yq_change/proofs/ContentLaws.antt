@@ -17,7 +17,7 @@ use Rattle.yq_lines.specs.Group.{group, level_or}
 use Rattle.yq_lines.specs.Laws.{with_lines}
 use Rattle.yq_lines.specs.Outline as outline
 use Rattle.yq_lines.specs.Outline.{Mark, Line, level, Outline, end, row, flatten, IsOpen, IsWhole, IsEven, first_anchor, anchored, head_or, null_node, value}
-use Rattle.yq_lines.specs.Places.{lines_before, lines_after, Found, find, content}
+use Rattle.yq_lines.specs.Places.{lines_before, lines_after, FoundLine, find, content}
 use Rattle.yq_rows.specs.Exchange.{asked_behind, with_content}
 use Rattle.yq_rows.specs.Grammar.{unlimited, IsContent, IsCut, no_rows}
 use Rattle.yq_rows.specs.Rows as rows
@@ -47,7 +47,7 @@ use Rattle.yq_change.proofs.LineLaws.{above_mark, dashes_count}
 use Rattle.yq_change.proofs.NodeLineLaws.{low_level, under_even}
 use Rattle.yq_change.proofs.PartLaws.{document_known, is_put, part_numbered, part_rows, rows_put, take_front}
 use Rattle.yq_change.proofs.PlacedLaws.{same_parts, whole_line}
-use Rattle.yq_change.proofs.RemarkLaws.{last_lines}
+use Rattle.yq_change.proofs.CommentPutLaws.{last_lines}
 use Rattle.yq_change.proofs.ReplaceLaws.{rows_before_some}
 use Rattle.yq_change.proofs.RowCommentLaws.{rows_behind, lead_content}
 use Rattle.yq_lines.proofs.Decides.{flatten-group}
@@ -166,11 +166,11 @@ row_cut : (t : List ℕ) (c : Cut) (k : ℕ) (p : Part) (front back : List Row) 
 row_cut t c k p front back r s old cut rows stands new =
     let j = part_number k c in
     let is : nth_part j c ≡ p = (part_numbered c k p old.there).0 in
-    let made : splice j (length front) (length front + 1) (s ∷ []) (first_gap back p.end) c ≡ put_document k (inserted front (s ∷ []) back p) c =
+    let whole_is : splice j (length front) (length front + 1) (s ∷ []) (first_gap back p.end) c ≡ put_document k (inserted front (s ∷ []) back p) c =
     rows_put c k p front (r ∷ []) back (s ∷ []) (first_gap back p.end) old.there rows in
     let one : length front + 1 ≡ suc (length front) = omega arith in
     let same : splice j (length front) (suc (length front)) (s ∷ []) (first_gap back (nth_part j c).end) c ≡ put_document k (inserted front (s ∷ []) back p) c =
-    (λ i. splice j (length front) (sym one i) (s ∷ []) (first_gap back (is i).end) c) ∙ made in
+    (λ i. splice j (length front) (sym one i) (s ∷ []) (first_gap back (is i).end) c) ∙ whole_is in
     let asked : asked_behind unlimited front ≡ asked_at j (length front) c =
     ap (asked_behind unlimited) (sym (take_front p front (r ∷ back) rows)) ∙ ap (λ (x : Part). asked_behind unlimited (take (length front) x.rows)) (sym is) in
     let there : StandsFor (asked_at j (length front) c) r s back (rest_behind j back c) =
@@ -229,7 +229,7 @@ module _ (t : List ℕ) (c : Cut) (k : ℕ) (p : Part) (front : List Row) (r : R
   spelled_new = (λ i. anchored (h.anchor_is i) (head_or (h.head_is i) null_node))
 
   -- alone on the line under a key or dash
-  pub lower_is : (s : Step) (ss : List Step) (f : Found) → find s ss (outline_of p) ≡ Some (f, []) → f.line.head ≡ None → length (flatten f.under) ≡ 1 → r.mark ≡ rows.Bare → length (lines_of front) + length r.dashes ≡ suc (length (lines_before f.place)) →
+  pub lower_is : (s : Step) (ss : List Step) (f : FoundLine) → find s ss (outline_of p) ≡ Some (f, []) → f.line.head ≡ None → length (flatten f.under) ≡ 1 → r.mark ≡ rows.Bare → length (lines_of front) + length r.dashes ≡ suc (length (lines_before f.place)) →
       MayReplace v (content f.line f.under) (root_of p) (length (s ∷ ss)) → IsChanged c (put_document k q c) k (lead_of p) (change (s ∷ ss) (replaced v))
   lower_is s ss f found open' count mark number may =
       let size : length a ≡ length (lines_before f.place ++ (f.line ∷ [])) =

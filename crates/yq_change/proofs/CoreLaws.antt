@@ -4,7 +4,7 @@ use Rattle.std.proofs.lemmas.Bool.{cond_both, false≢true, or_right}
 use Rattle.yq_scalar.specs.Text.{is_empty, no_white, unless, NoneIn}
 use Rattle.yq_inline.specs.Nodes.{Node, empty, alias, scalar, coll, anchored, node_text, items_text, open_of, first_is, in_name, begins_content, takes_anchor, is_bare, IsName, IsLead, IsNode}
 use Rattle.yq_inline.specs.Trees.{node_anchor, node_head}
-use Rattle.yq_inline.specs.Scalars.{IsScalar, begins_scalar}
+use Rattle.yq_inline.specs.Scalars.{IsScalarAt, begins_scalar}
 use Rattle.yq_inline.proofs.PieceLaws.{scalar_begins}
 use Rattle.yq_rows.specs.Grammar.{is_more}
 use Rattle.yq_rows.specs.Rows.{Content, Nothing, Inline, Block}
@@ -67,7 +67,7 @@ core_more core (anchored n g node) h b = ap not (core_bare core node b)
 -- ---- it is a node
 
 -- a node that is no anchor begins as content, and may stand behind an anchor, if it is no alias
-scalar_content_begins : (spaces : Option ℕ) (p rest : List ℕ) → IsScalar false spaces p rest → begins_content false (p ++ rest) ≡ true
+scalar_content_begins : (spaces : Option ℕ) (p rest : List ℕ) → IsScalarAt false spaces p rest → begins_content false (p ++ rest) ≡ true
 scalar_content_begins spaces p rest h =
     let t = p ++ rest in or_right (first_is 42 t) _ (or_right (first_is 91 t) _ (or_right (first_is 123 t) (begins_scalar false t) (scalar_begins false spaces p rest h)))
 

@@ -14,7 +14,7 @@ use Rattle.yq_lines.specs.Group.{level_or}
 use Rattle.yq_lines.specs.Laws.{with_lines}
 use Rattle.yq_walk.specs.Lines.{lines_of}
 use Rattle.yq_lines.specs.Outline.{Mark, Bare, Key, Dash, Line, level, Outline, end, row, flatten, IsWhole, IsEven, anchored, head_or, label, collection, children, value}
-use Rattle.yq_lines.specs.Places.{lines_before, lines_after, plug, Found, find, content}
+use Rattle.yq_lines.specs.Places.{lines_before, lines_after, plug, FoundLine, find, content}
 use Rattle.yq_documents.specs.Reading.{is_document, outline_of, read_at, root_of}
 use Rattle.yq_lines.proofs.Allowing as allowing
 use Rattle.yq_lines.proofs.Allowing.{Allows}
@@ -82,7 +82,7 @@ lines_are_there (s ∷ ss) o h e = found (lines_found s ss o h e)
   where
     found : Under s ss o h → node_at (s ∷ ss) (value o) ≡ Some (anchored h.anchor (value h.lines))
     found w =
-        let f : Found = w.found in
+        let f : FoundLine = w.found in
         let there : node_at (s ∷ ss) (value o) ≡ Some (content f.line f.under) = path_node s ss o ∙ ap FoundNode w.is in
         let same : content f.line f.under ≡ anchored f.line.anchor (value f.under) = ap (λ x. anchored f.line.anchor (head_or x (value f.under))) w.open' in
         subst (λ (x : NodeLines). node_at (s ∷ ss) (value o) ≡ Some (anchored x.anchor (value x.lines))) w.place_is (there ∙ ap Some same)
@@ -101,7 +101,7 @@ pub led_as : (c : Cut) (new : Cut) (k : ℕ) (a b : List (List ℕ)) (f : Node �
 led_as c new k a b f e h = subst (λ x. IsChanged c new k x f) e h
 
 -- what follows a line that was found begins with an entry
-following : (n : ℕ) (f : Found) → Allows n f.place (level f.line) → IsEven (level f.line) (row f.line f.under f.after) → BeginsEntry (flatten f.after ++ lines_after f.place)
+following : (n : ℕ) (f : FoundLine) → Allows n f.place (level f.line) → IsEven (level f.line) (row f.line f.under f.after) → BeginsEntry (flatten f.after ++ lines_after f.place)
 following n f allows even = both_anew (flatten f.after) (lines_after f.place) (behind f.line.mark f.line.head refl f.after even.2 even.4) (after_anew n (level f.line) f.place allows)
   where
     behind : (m : Mark) (h : Option Node) → f.line.mark ≡ m → (o : Outline) → IsWhole m h o → IsEven (level f.line) o → BeginsEntry (flatten o)
@@ -170,7 +170,7 @@ lines_appended t c k p q steps h m l v put there fits each lines sound =
         lead_from p q (lines_before h.place) i i ((flatten u ++ flatten a) ++ lines_after h.place) (((flatten u ++ flatten a) ++ (l ∷ flatten v)) ++ lines_after h.place) was new refl
 
 -- the items or entries behind one begin anew
-behind_split : (s : Step) (o : Outline) (f : Found) → Splits s o f → HasEntries o → IsEven (level_or 0 o) o → BeginsEntry (flatten f.after) × allowing.IsEntry f.line.mark
+behind_split : (s : Step) (o : Outline) (f : FoundLine) → Splits s o f → HasEntries o → IsEven (level_or 0 o) o → BeginsEntry (flatten f.after) × allowing.IsEntry f.line.mark
 behind_split s o f w block even =
     let n : ℕ = level_or 0 o in
     let whole : IsEven n (append_outline w.front (row f.line f.under f.after)) = subst (IsEven n) (sym w.whole) even in

@@ -51,24 +51,24 @@ use Rattle.yq_documents.specs.PartNumbers.{part_number}
 use Rattle.yq_change.proofs.AppendLaws.{around}
 use Rattle.yq_change.proofs.LineLaws.{above_mark}
 use Rattle.yq_change.proofs.PartLaws.{part_numbered, rows_put, document_known, is_put, drop_front}
-use Rattle.yq_change.proofs.RemarkLaws.{fit_retail, short_retail, last_lines}
+use Rattle.yq_change.proofs.CommentPutLaws.{fit_retail, short_retail, last_lines}
 
 -- the comment of a line's end
-abbrev pub told : List ℕ → Option (List ℕ)
-told [] = None
-told (b ∷ cs) = Some (less_space cs)
+abbrev pub after_hash : List ℕ → Option (List ℕ)
+after_hash [] = None
+after_hash (b ∷ cs) = Some (less_space cs)
 
 break_ends : (break : List ℕ) → IsBreak break [] → ends_line break ≡ true
 break_ends break e = ap ends_line (sym (append-nil break)) ∙ (behind_comment [] break [] tt e).2
 
-pub comment_is : (white comment break : List ℕ) → IsWhite white → IsComment comment break → IsBreak break [] → comment_text (white ++ (comment ++ break)) ≡ told comment
+pub comment_is : (white comment break : List ℕ) → IsWhite white → IsComment comment break → IsBreak break [] → comment_text (white ++ (comment ++ break)) ≡ after_hash comment
 comment_is white comment break w c e =
     let parts = behind_comment comment break [] c e in
     let first : no_white (comment ++ break) ≡ true = ap (λ (x : List ℕ). no_white (comment ++ x)) (sym (append-nil break)) ∙ parts.0 in
     let past : past_white (white ++ (comment ++ break)) ≡ comment ++ break = ap (λ (y : List ℕ × List ℕ). y.1) (white_again white (comment ++ break) w first) in
     ap (λ (x : List ℕ). cond (is_hash x) (Some (less_space (cut ends_line (drop 1 x)).0)) None) past ∙ go comment c
   where
-    go : (comment : List ℕ) → IsComment comment break → cond (is_hash (comment ++ break)) (Some (less_space (cut ends_line (drop 1 (comment ++ break))).0)) None ≡ told comment
+    go : (comment : List ℕ) → IsComment comment break → cond (is_hash (comment ++ break)) (Some (less_space (cut ends_line (drop 1 (comment ++ break))).0)) None ≡ after_hash comment
     go [] c = cond-false _ _ _ (end_no_hash break (break_ends break e))
     go (b ∷ cs) c =
         let whole = cut-append ends_line cs break c.1 (break_ends break e) in
@@ -82,10 +82,10 @@ comment_stays tail break b bare pairs h = ⊎_elim {0, 0, 0}
     (λ e.
     let is : tail ≡ h.white ++ h.comment = h.line.spelled ∙ (ap (λ l. h.white ++ (h.comment ++ l)) e.0 ∙ ap (λ l. h.white ++ l) (append-nil h.comment)) in
     let none : ends_return h.comment ≡ false = no_end_return h.comment (pairs_back h.white h.comment (ap pairs_returns (sym is) ∙ pairs)) in
-    let remark : IsComment h.comment [] = subst (IsComment h.comment) e.0 h.line.remark in
+    let as_comment : IsComment h.comment [] = subst (IsComment h.comment) e.0 h.line.as_comment in
     ap comment_text (ap (λ l. l ++ break) is ∙ append_assoc h.white h.comment break)
-    ∙ (comment_is h.white h.comment break h.line.blank (comment_closed h.comment break remark none) (inl b)
-    ∙ sym (ap comment_text (is ∙ ap (λ l. h.white ++ l) (sym (append-nil h.comment))) ∙ comment_is h.white h.comment [] h.line.blank remark (inr (refl, refl)))))
+    ∙ (comment_is h.white h.comment break h.line.blank (comment_closed h.comment break as_comment none) (inl b)
+    ∙ sym (ap comment_text (is ∙ ap (λ l. h.white ++ l) (sym (append-nil h.comment))) ∙ comment_is h.white h.comment [] h.line.blank as_comment (inr (refl, refl)))))
     h.line.ends
 
 -- the line of a row that gets a break

@@ -7,7 +7,7 @@ use Rattle.yq_rows.specs.Grammar.{IsCut}
 use Rattle.yq_rows.proofs.ScanLaws.{scan_takes}
 use Rattle.yq_walk.specs.Lines.{mark_line}
 use Rattle.yq_lines.specs.Places.{content, here, below, find_row}
-use Rattle.yq_documents.specs.Reading.{all_documents, outline_of, read_at, text_at}
+use Rattle.yq_documents.specs.Reading.{all_documents, outline_of, read_at, checked_at}
 use Rattle.yq_places.proofs.ReadLaws.{text_again}
 use Rattle.yq_scalar.specs.Paths.{append_child, change, within, To, Nth}
 use Rattle.yq_change.specs.Changed.{IsChanged, put_document}
@@ -91,8 +91,8 @@ a_row = plain_row [] 0 (1 ∷ []) (codes "a") (codes "x")
 abbrev b_row : Row
 b_row = plain_row [] 2 [] (codes "b") (codes "y")
 
-abbrev told_row : Row
-told_row = plain_row (codes "  # c\n") 2 [] (codes "b") (codes "y")
+abbrev agrees_row : Row
+agrees_row = plain_row (codes "  # c\n") 2 [] (codes "b") (codes "y")
 
 before : rows_text (a_row ∷ (b_row ∷ [])) [] ≡ codes "- a: x\n  b: y\n"
 unfolding inline.node_text
@@ -102,7 +102,7 @@ behind : rows_text (moved_up a_row (1 ∷ []) b_row ∷ []) [] ≡ codes "- b: y
 unfolding inline.node_text
 behind = refl
 
-below_comment : rows_text (emptied a_row [] (10 ∷ []) ∷ (told_row ∷ [])) [] ≡ codes "-\n  # c\n  b: y\n"
+below_comment : rows_text (emptied a_row [] (10 ∷ []) ∷ (agrees_row ∷ [])) [] ≡ codes "-\n  # c\n  b: y\n"
 unfolding inline.node_text
 below_comment = refl
 
@@ -142,11 +142,11 @@ twice : AreDistinct (codes "a" ∷ (codes "a" ∷ [])) → ⊥
 twice h = false≢true (is_distinct (codes "a" ∷ (codes "a" ∷ [])) h)
 
 -- the comment above b, which a row behind a dash doesn't have
-told_above : head_comment told_row.gap ≡ codes "c" ∷ []
+head_comment_of : head_comment agrees_row.gap ≡ codes "c" ∷ []
 unfolding text.lines_of text.upto
-told_above = refl
+head_comment_of = refl
 
-none_above : head_comment (moved_up a_row (1 ∷ []) told_row).gap ≡ []
+none_above : head_comment (moved_up a_row (1 ∷ []) agrees_row).gap ≡ []
 unfolding text.lines_of text.upto
 none_above = refl
 
@@ -198,7 +198,7 @@ y_bytes = refl
 
 pub read_old : read_at (codes "a: x\n") ≡ Some (last old_part)
 unfolding read_at
-read_old = cond-true (strings.is_utf8 (codes "a: x\n")) (text_at (codes "a: x\n")) None old_bytes ∙ text_again (codes "a: x\n") (last old_part) (scan_takes (codes "a: x\n") (last old_part) scanned_old) is_old
+read_old = cond-true (strings.is_utf8 (codes "a: x\n")) (checked_at (codes "a: x\n")) None old_bytes ∙ text_again (codes "a: x\n") (last old_part) (scan_takes (codes "a: x\n") (last old_part) scanned_old) is_old
 
 pub new_cut : IsCut (cut_text (last new_part)) (last new_part)
 unfolding inline.node_text

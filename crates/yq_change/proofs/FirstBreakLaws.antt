@@ -116,13 +116,13 @@ unfolding is_line
 break_tail b rest (inl e) = subst (λ (x : List ℕ). IsTail x rest) (sym e) (record {
   white = [];
   comment = [];
-  line = record { break = 10 ∷ []; spelled = refl; blank = tt; remark = tt; ends = inl refl };
+  line = record { break = 10 ∷ []; spelled = refl; blank = tt; as_comment = tt; ends = inl refl };
   apart = refl;
 })
 break_tail b rest (inr e) = subst (λ (x : List ℕ). IsTail x rest) (sym e) (record {
   white = [];
   comment = [];
-  line = record { break = 13 ∷ (10 ∷ []); spelled = refl; blank = tt; remark = tt; ends = inl refl };
+  line = record { break = 13 ∷ (10 ∷ []); spelled = refl; blank = tt; as_comment = tt; ends = inl refl };
   apart = refl;
 })
 

@@ -4,7 +4,7 @@ use Rattle.yq_scalar.specs.Paths.{Step, change, remove_child, within}
 use Rattle.yq_scalar.specs.Text.{cut, no_space}
 use Rattle.yq_scalar.specs.Anchors.{names_of}
 use Rattle.yq_lines.specs.Comments.{head_comment}
-use Rattle.yq_lines.specs.Places.{plug, Found, content}
+use Rattle.yq_lines.specs.Places.{plug, FoundLine, content}
 use Rattle.yq_rows.specs.Grammar.{IsRow, Limit, unlimited, AreRows}
 use Rattle.yq_rows.specs.Reading.{cut_gap, begins_gap}
 use Rattle.yq_rows.specs.Rows.{Row, behind_columns, behind_dashes, behind_gap, behind_indent, dashes_text, print_row, rows_text, Part, part_text, Cut, cut_text}
@@ -113,7 +113,7 @@ no_gap limit b u h none =
 
 -- ---- what the text reads as
 
-module _ (t : List ℕ) (c : Cut) (k : ℕ) (p : Part) (ss : List Step) (s : Step) (h : NodeLines) (f : Found) (old : IsDocumentPart t c k p) (entry : IsEntryAt ss s (outline_of p) h f)
+module _ (t : List ℕ) (c : Cut) (k : ℕ) (p : Part) (ss : List Step) (s : Step) (h : NodeLines) (f : FoundLine) (old : IsDocumentPart t c k p) (entry : IsEntryAt ss s (outline_of p) h f)
     (left : HasEntries (plug f.place f.after))
     (spared : AreSpared (names_of (content f.line f.under)) [] (names_of (root_of p))) (front gone back : List Row) (r : Row) where
   are : AreRows unlimited p.rows p.end (behind_document k c)

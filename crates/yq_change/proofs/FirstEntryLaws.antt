@@ -6,7 +6,7 @@ use Rattle.yq_scalar.specs.Paths.{Step}
 use Rattle.yq_lines.specs.Comments.{head_comment}
 use Rattle.yq_lines.specs.Group.{level_or}
 use Rattle.yq_lines.specs.Outline.{Line, level, Outline, end, row, flatten, IsEven}
-use Rattle.yq_lines.specs.Places.{Place, here, below, beside, plug, lines_before, lines_after, Found, find_row}
+use Rattle.yq_lines.specs.Places.{Context, here, below, beside, plug, lines_before, lines_after, FoundLine, find_row}
 use Rattle.yq_lines.proofs.PlaceLaws.{at}
 use Rattle.yq_lines.proofs.Values.{rank_small}
 use Rattle.yq_rows.specs.Grammar.{AreDashes, is_entry}
@@ -14,15 +14,15 @@ use Rattle.yq_rows.specs.Rows as rows
 use Rattle.yq_rows.specs.Rows.{Content, Row, behind_columns, Part}
 use Rattle.yq_walk.specs.Lines.{dash_line, mark_line, lines_from, row_lines, lines_of}
 use Rattle.yq_documents.specs.Reading.{outline_of}
-use Rattle.yq_documents.specs.Seats.{Seat, seat}
+use Rattle.yq_documents.specs.LinesInRows.{RowLine, row_line}
 use Rattle.yq_walk.proofs.RowLaws.{no_comments}
 use Rattle.yq_places.proofs.UnderExchange.{lines_append}
-use Rattle.yq_change.specs.LineRows.{Begins, StandApart, InRows, IsSeat, line_number, lines_behind}
+use Rattle.yq_change.specs.LineRows.{Begins, StandApart, InRows, IsRowLine, line_number, lines_behind}
 use Rattle.yq_change.specs.Moved.{dash_lines}
 use Rattle.yq_change.specs.Siblings.{IsEntry, HasEntries, IsEntryAt, NodeLines}
 use Rattle.yq_change.proofs.ApartLaws.{Stood, row_stood, entries_apart, first_level, row_begins}
 use Rattle.yq_change.proofs.ColumnLaws.{apart_later}
-use Rattle.yq_change.proofs.LineLaws.{dashes_count, seat_splits}
+use Rattle.yq_change.proofs.LineLaws.{dashes_count, row_line_splits}
 use Rattle.yq_change.proofs.NodeLineLaws.{lines_even}
 use Rattle.yq_change.proofs.OwnRowLaws.{lines_are}
 use Rattle.yq_change.proofs.PlacedLaws.{same_parts}
@@ -78,13 +78,13 @@ same_column l k e = omega (arith, e, rank_small l.mark, rank_small k.mark)
 
 -- ---- the first of several
 
-plug_first : (p : Place) (o : Outline) → lines_before p ≡ [] → plug p o ≡ o
+plug_first : (p : Context) (o : Outline) → lines_before p ≡ [] → plug p o ≡ o
 plug_first here o e = refl
 plug_first (below l p after) o e = absurd (cc)
 plug_first (beside l u p) o e = absurd (cc)
 
 -- The line behind an item or entry, where that is the next one's.
-record NextLine (f : Found) : Type 0 where
+record NextLine (f : FoundLine) : Type 0 where
   pub line : Line
   pub under : Outline
   pub after : Outline
@@ -92,7 +92,7 @@ record NextLine (f : Found) : Type 0 where
   pub level_is : level line ≡ level f.line
   pub entry : IsEntry line.mark
 
-next_line : (m : ℕ) (f : Found) → IsEven m (row f.line f.under f.after) → HasEntries f.after → NextLine f
+next_line : (m : ℕ) (f : FoundLine) → IsEven m (row f.line f.under f.after) → HasEntries f.after → NextLine f
 next_line m f even some = go f.after refl even.4 some
   where
     go : (o : Outline) → f.after ≡ o → IsEven m o → HasEntries o → NextLine f
@@ -100,7 +100,7 @@ next_line m f even some = go f.after refl even.4 some
     go (row l u a) e h b = record { line = l; under = u; after = a; is = e; level_is = h.0 ∙ sym even.0; entry = b }
 
 -- The rows of the first item or entry of a compact collection: behind the dashes ns of a row the rest of it and more rows, and then the row of the next one, in the same column.
-pub record FirstRows (p : Part) (h : NodeLines) (f : Found) (q : Seat) : Type 0 where
+pub record FirstRows (p : Part) (h : NodeLines) (f : FoundLine) (q : RowLine) : Type 0 where
   pub front : List Row
   pub gone : List Row
   pub next : Row
@@ -113,8 +113,8 @@ pub record FirstRows (p : Part) (h : NodeLines) (f : Found) (q : Seat) : Type 0 
   pub column : next.column ≡ behind_columns q.row.column (take q.line q.row.dashes)
   pub entry : AreDashes next.dashes next.mark → is_entry next.mark ≡ true
 
-module _ (p : Part) (m : ℕ) (ss : List Step) (s : Step) (h : NodeLines) (f : Found) (q : Seat) (even : IsEven m (outline_of p)) (entry : IsEntryAt ss s (outline_of p) h f)
-    (is : seat (line_number h f) p.rows ≡ Some q) (later : 0 < q.line) (left : HasEntries (plug f.place f.after)) where
+module _ (p : Part) (m : ℕ) (ss : List Step) (s : Step) (h : NodeLines) (f : FoundLine) (q : RowLine) (even : IsEven m (outline_of p)) (entry : IsEntryAt ss s (outline_of p) h f)
+    (is : row_line (line_number h f) p.rows ≡ Some q) (later : 0 < q.line) (left : HasEntries (plug f.place f.after)) where
   abbrev r : Row
   r = q.row
 
@@ -130,8 +130,8 @@ module _ (p : Part) (m : ℕ) (ss : List Step) (s : Step) (h : NodeLines) (f : F
   abbrev e : List Line
   e = f.line ∷ flatten f.under
 
-  w : IsSeat (line_number h f) p.rows q
-  w = seat_splits (line_number h f) p.rows q is
+  w : IsRowLine (line_number h f) p.rows q
+  w = row_line_splits (line_number h f) p.rows q is
 
   ns_size : length ns ≡ q.line
   ns_size = length-take-le q.line r.dashes w.less

@@ -16,8 +16,8 @@ use Rattle.yq_documents.specs.Documents.{document_parts}
 use Rattle.yq_places.specs.FirstPlaces.{less_spaces, end_spaces, FirstOut, first_out, first_entry, first_removal}
 use Rattle.yq_walk.specs.Lines.{lines_of}
 use Rattle.yq_places.specs.PathPieces.{printed_document, piece_in}
-use Rattle.yq_documents.specs.Pieces.{Piece}
-use Rattle.yq_documents.specs.Seats.{Seat, seat, seat_of}
+use Rattle.yq_documents.specs.Pieces.{TextPiece}
+use Rattle.yq_documents.specs.LinesInRows.{RowLine, row_line, row_line_of}
 use Rattle.yq_places.proofs.FirstLaws.{spaces_parts}
 use Rattle.yq_places.proofs.PieceTexts.{piece_text, document_whole, piece_whole}
 use Rattle.yq_places.proofs.PrintedTexts.{map_some}
@@ -27,15 +27,15 @@ use Rattle.yq_change.specs.RemovalChanges.{FirstStands}
 
 -- What is taken out, by the line of the item or entry and its piece.
 pub record IsFirstOut (c : Cut) (k : ℕ) (steps : List Step) (x : FirstOut) : Type 0 where
-  pub piece : Piece
+  pub piece : TextPiece
   pub out : first_out piece ≡ x
   pub part : Part
   pub there : slice_get (document_parts c) k ≡ Some part
   pub number : ℕ
   pub line : line_of steps (lines_of part.rows) ≡ Some number
-  pub seat : Seat
-  pub seat_is : Rattle.yq_documents.specs.Seats.seat number part.rows ≡ Some seat
-  pub later : 0 < seat.line
+  pub row_line : RowLine
+  pub row_line_is : Rattle.yq_documents.specs.LinesInRows.row_line number part.rows ≡ Some row_line
+  pub later : 0 < row_line.line
   pub is : (printed_document k c >>= piece_in Entry steps) ≡ Some piece
 
 some_line : (n : ℕ) → (n ≡ 0 → ⊥) → 0 < n
@@ -45,7 +45,7 @@ some_line (suc n) h = omega arith
 pub out_is : (c : Cut) (k : ℕ) (steps : List Step) (x : FirstOut) → first_removal k steps c ≡ Some x → IsFirstOut c k steps x
 out_is c k steps x e =
     let p = map_some (first_entry k steps c) e in
-    let q = bind_some (slice_get (document_parts c) k >>= λ d. seat_of steps d.rows) p.1 in
+    let q = bind_some (slice_get (document_parts c) k >>= λ d. row_line_of steps d.rows) p.1 in
     let g = not_then (eqb q.0.line 0) q.2 in
     let d = bind_some (slice_get (document_parts c) k) q.1 in
     let n = bind_some (line_of steps (lines_of d.0.rows)) d.2 in
@@ -56,8 +56,8 @@ out_is c k steps x e =
       there = d.1;
       number = n.0;
       line = n.1;
-      seat = q.0;
-      seat_is = n.2;
+      row_line = q.0;
+      row_line_is = n.2;
       later = some_line q.0.line (eqb-false q.0.line 0 g.0);
       is = g.1;
     }
@@ -66,7 +66,7 @@ out_is c k steps x e =
 abbrev out_text : FirstOut → List ℕ
 out_text x = x.before ++ (x.space ++ (x.entry ++ (x.break ++ (x.indent ++ x.behind))))
 
-out_whole : (p : Piece) → out_text (first_out p) ≡ piece_text p
+out_whole : (p : TextPiece) → out_text (first_out p) ≡ piece_text p
 out_whole p = go (begins_gap (cut_line p.behind).1)
   where
     line : (cut_line p.behind).0 ++ (cut_line p.behind).1 ≡ p.behind

@@ -27,7 +27,7 @@ use Rattle.yq_walk.specs.Lines.{lines_from, lines_of}
 use Rattle.yq_places.specs.PathPieces.{PrintedDocument, piece_in}
 use Rattle.yq_documents.specs.Reading.{outline_of, read_at, root_of}
 use Rattle.yq_places.specs.RowPaths.{IsReadable}
-use Rattle.yq_documents.specs.Seats.{Seat, seat}
+use Rattle.yq_documents.specs.LinesInRows.{RowLine, row_line}
 use Rattle.yq_documents.proofs.PartRows.{each}
 use Rattle.yq_places.proofs.ReadLaws.{text_takes}
 use Rattle.yq_places.proofs.RowPathLaws.{document_fine}
@@ -91,8 +91,8 @@ module _ (c : Cut) (k : ℕ) (y : Step) (ys ss : List Step) (s : Step) (x : Firs
   abbrev p : Part
   p = e.part
 
-  abbrev q : Seat
-  q = e.seat
+  abbrev q : RowLine
+  q = e.row_line
 
   abbrev r : Row
   r = q.row
@@ -122,7 +122,7 @@ module _ (c : Cut) (k : ℕ) (y : Step) (ys ss : List Step) (s : Step) (x : Firs
   go = may_go t c k p ss s w.h w.f old w.entry may
 
   fr : FirstRows p w.h w.f q
-  fr = first_rows p m ss s w.h w.f q known.even w.entry (subst (λ (j : ℕ). seat j p.rows ≡ Some q) w.number e.seat_is) e.later go.0
+  fr = first_rows p m ss s w.h w.f q known.even w.entry (subst (λ (j : ℕ). row_line j p.rows ≡ Some q) w.number e.row_line_is) e.later go.0
 
   a : IsAround k c p
   a = around k c p e.there
@@ -142,7 +142,7 @@ module _ (c : Cut) (k : ℕ) (y : Step) (ys ss : List Step) (s : Step) (x : Firs
 
   ft : FirstText a.start z q fr.front (fr.next ∷ fr.back) e.piece
   ft =
-      first_text p a.start rest w.h w.f q fr e.later e.number w.number e.seat_is (lines_counted p m ss s w.h w.f known.even w.entry e.number w.number) fine are y ys e.piece e.line
+      first_text p a.start rest w.h w.f q fr e.later e.number w.number e.row_line_is (lines_counted p m ss s w.h w.f known.even w.entry e.number w.number) fine are y ys e.piece e.line
       (ap (λ (o : Option PrintedDocument). o >>= piece_in Entry (y ∷ ys)) (sym a.printed) ∙ e.is)
 
   ns_some : 0 < length ns

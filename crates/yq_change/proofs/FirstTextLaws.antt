@@ -11,7 +11,7 @@ use Rattle.yq_lines.specs.Comments.{head_comment}
 use Rattle.yq_lines.specs.Ends.{found_line, line_of, lines_end}
 use Rattle.yq_lines.specs.Group.{group, is_fine}
 use Rattle.yq_lines.specs.Outline.{flatten}
-use Rattle.yq_lines.specs.Places.{lines_before, Found, find}
+use Rattle.yq_lines.specs.Places.{lines_before, FoundLine, find}
 use Rattle.yq_rows.specs.Grammar.{unlimited, AreRows, limit_after}
 use Rattle.yq_rows.specs.Exchange.{asked_behind}
 use Rattle.yq_rows.specs.Rows as rows
@@ -20,13 +20,13 @@ use Rattle.yq_rows.proofs.seams.FrontSeams.{rows_some}
 use Rattle.yq_documents.specs.declared.path.Part.TheVariants.{Entry}
 use Rattle.yq_walk.specs.Lines.{dash_line, lines_from, lines_of}
 use Rattle.yq_places.specs.PathPieces.{BlockEntry, found_entry, piece_in, piece_in_entry}
-use Rattle.yq_documents.specs.Pieces.{Piece}
+use Rattle.yq_documents.specs.Pieces.{TextPiece}
 use Rattle.yq_places.specs.PrintedLines.{PrintedLine, line_front, print_lines, printed_from, printed_lines, printed_row, line_in, run_piece}
-use Rattle.yq_documents.specs.Seats.{Seat, seat}
+use Rattle.yq_documents.specs.LinesInRows.{RowLine, row_line}
 use Rattle.yq_places.proofs.FoundEntries.{lines_count}
 use Rattle.yq_places.proofs.PrintedLaws.{lines_are}
 use Rattle.yq_places.proofs.PrintedTexts.{lines_then, rows_are}
-use Rattle.yq_places.proofs.SeatedLines.{row_begin, seated, row_count}
+use Rattle.yq_places.proofs.PrintedRowLines.{row_begin, printed_line, row_count}
 use Rattle.yq_places.proofs.UnderCounts.{end_is}
 use Rattle.yq_change.specs.LineRows.{line_number}
 use Rattle.yq_change.specs.Siblings.{NodeLines}
@@ -87,14 +87,14 @@ parts_at a (x ∷ b) c ls n m l is before size there =
 -- ---- the piece of an item or entry
 
 -- The piece of the first item or entry of a compact collection, by the rows around it.
-pub record FirstText (start z : List ℕ) (q : Seat) (front : List Row) (back : List Row) (x : Piece) : Type 0 where
+pub record FirstText (start z : List ℕ) (q : RowLine) (front : List Row) (back : List Row) (x : TextPiece) : Type 0 where
   pub before : x.before ≡ start ++ rows_text front (row_begin q)
   pub break : List ℕ
   pub one : IsOneBreak break
   pub behind : x.behind ≡ break ++ rows_text back z
 
-module _ (p : Part) (start rest : List ℕ) (h : NodeLines) (f : Found) (q : Seat) (fr : FirstRows p h f q) (later : 0 < q.line) (n : ℕ) (number : n ≡ line_number h f)
-    (seat_is : seat n p.rows ≡ Some q) (size : lines_end n (lines_of p.rows) - n ≡ length (f.line ∷ flatten f.under)) (fine : is_fine (group (lines_of p.rows)) ≡ true)
+module _ (p : Part) (start rest : List ℕ) (h : NodeLines) (f : FoundLine) (q : RowLine) (fr : FirstRows p h f q) (later : 0 < q.line) (n : ℕ) (number : n ≡ line_number h f)
+    (row_line_is : row_line n p.rows ≡ Some q) (size : lines_end n (lines_of p.rows) - n ≡ length (f.line ∷ flatten f.under)) (fine : is_fine (group (lines_of p.rows)) ≡ true)
     (are : AreRows unlimited p.rows p.end rest) where
   abbrev ls : List PrintedLine
   ls = printed_lines p.rows
@@ -170,7 +170,7 @@ module _ (p : Part) (start rest : List ℕ) (h : NodeLines) (f : Found) (q : Sea
   entry_at k m l = record { before = start ++ print_lines (take k ls) []; line = l; under = take m (drop (suc k) ls); behind = print_lines (drop m (drop (suc k) ls)) z }
 
   -- a line that was found
-  text_found : (y : Step) (ys : List Step) (g : Found) (l : PrintedLine) → find y ys (group (lines_of p.rows)) ≡ Some (g, []) → length (lines_before g.place) ≡ n → slice_get ls n ≡ Some l →
+  text_found : (y : Step) (ys : List Step) (g : FoundLine) (l : PrintedLine) → find y ys (group (lines_of p.rows)) ≡ Some (g, []) → length (lines_before g.place) ≡ n → slice_get ls n ≡ Some l →
       FirstText start z q fr.front back (run_piece (start ++ print_lines (take n ls) []) l (take (length (flatten g.under)) (drop (suc n) ls))
       (print_lines (drop (length (flatten g.under)) (drop (suc n) ls)) z))
   text_found y ys g l found at there =
@@ -179,7 +179,7 @@ module _ (p : Part) (start rest : List ℕ) (h : NodeLines) (f : Found) (q : Sea
       let ends_at : lines_end n (lines_of p.rows) ≡ suc n + m = subst (λ (k : ℕ). lines_end k (lines_of p.rows) ≡ suc k + m) at ends in
       let count : suc m ≡ length own = omega (arith, size, ends_at, own_count) in
       let parts = parts_at above own (printed_lines back) ls n m l parts_are above_count count there in
-      let d = seated p.rows n q seat_is in
+      let d = printed_line p.rows n q row_line_is in
       let same : d.line ≡ l = same_Some _ _ (sym d.there ∙ there) in
       record {
         before =
@@ -192,7 +192,7 @@ module _ (p : Part) (start rest : List ℕ) (h : NodeLines) (f : Found) (q : Sea
         behind = (λ i. lines_break (parts.0 i) ++ print_lines (parts.1 i) z) ∙ ap (λ (t : List ℕ). lines_break own ++ t) (rows_are back z);
       }
 
-  pub first_text : (y : Step) (ys : List Step) (x : Piece) → line_of (y ∷ ys) (lines_of p.rows) ≡ Some n →
+  pub first_text : (y : Step) (ys : List Step) (x : TextPiece) → line_of (y ∷ ys) (lines_of p.rows) ≡ Some n →
       piece_in Entry (y ∷ ys) (record { before = start; lines = printed_lines p.rows; behind = p.end ++ rest }) ≡ Some x →
       FirstText start (p.end ++ rest) q fr.front (fr.next ∷ fr.back) x
   first_text y ys x line piece =
@@ -200,7 +200,7 @@ module _ (p : Part) (start rest : List ℕ) (h : NodeLines) (f : Found) (q : Sea
       let found : find y ys (group (lines_of p.rows)) ≡ Some a.0 = ap (λ us. find y ys (group us)) (sym (lines_are p.rows)) ∙ a.1 in
       go a.0.0 a.0.1 found (sym (ap (option_and_then (λ x. found_line x.0 x.1)) found) ∙ line) a.2
     where
-      last : (g : Found) → find y ys (group (lines_of p.rows)) ≡ Some (g, []) → length (lines_before g.place) ≡ n → (k : ℕ) → length (lines_before g.place) ≡ k →
+      last : (g : FoundLine) → find y ys (group (lines_of p.rows)) ≡ Some (g, []) → length (lines_before g.place) ≡ n → (k : ℕ) → length (lines_before g.place) ≡ k →
           (slice_get ls k >>= λ l. piece_in_entry Entry [] (entry_at k (length (flatten g.under)) l)) ≡ Some x →
           FirstText start z q fr.front back x
       last g found at k is e =
@@ -211,7 +211,7 @@ module _ (p : Part) (start rest : List ℕ) (h : NodeLines) (f : Found) (q : Sea
           (print_lines (drop (length (flatten g.under)) (drop (suc j) ls)) z)) (sym same) ∙ same_Some _ _ l.2)
           (text_found y ys g l.0 found at (ap (slice_get ls) (sym same) ∙ l.1))
 
-      go : (g : Found) (more : List Step) → find y ys (group (lines_of p.rows)) ≡ Some (g, more) → found_line g more ≡ Some n →
+      go : (g : FoundLine) (more : List Step) → find y ys (group (lines_of p.rows)) ≡ Some (g, more) → found_line g more ≡ Some n →
           (found_entry (record { before = start; lines = ls; behind = z }) g >>= piece_in_entry Entry more) ≡ Some x → FirstText start z q fr.front back x
       go g [] found at e =
           let b = bind_some (found_entry (record { before = start; lines = ls; behind = z }) g) e in

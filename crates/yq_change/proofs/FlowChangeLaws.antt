@@ -11,7 +11,7 @@ use Rattle.yq_lines.specs.Group.{level_or}
 use Rattle.yq_lines.specs.Laws.{with_lines}
 use Rattle.yq_walk.specs.Lines.{lines_of}
 use Rattle.yq_lines.specs.Outline.{Mark, Bare, Key, Dash, Line, level, Outline, end, row, flatten, IsOpen, IsWhole, IsEven, anchored, head_or, value}
-use Rattle.yq_lines.specs.Places.{lines_before, plug, Found, find, content}
+use Rattle.yq_lines.specs.Places.{lines_before, plug, FoundLine, find, content}
 use Rattle.yq_documents.specs.Reading.{outline_of, root_of}
 use Rattle.yq_lines.proofs.Finding.{IsFoundIn, path_whole}
 use Rattle.yq_lines.proofs.PlaceLaws.{at}
@@ -58,7 +58,7 @@ still_whole (Key k) h n v o e w = tt
 still_whole Dash h n v o e w = tt
 
 -- a line with another head
-pub changed_head : (t : List ℕ) (c : Cut) (k : ℕ) (p q : Part) (s : Step) (ss rest : List Step) (f : Found) (n m : Node) (g : Node → Node) → IsPut t c k p q →
+pub changed_head : (t : List ℕ) (c : Cut) (k : ℕ) (p q : Part) (s : Step) (ss rest : List Step) (f : FoundLine) (n m : Node) (g : Node → Node) → IsPut t c k p q →
     find s ss (outline_of p) ≡ Some (f, rest) → f.line.head ≡ Some n → NoNewAlias n m → anchored f.line.anchor m ≡ change rest g (anchored f.line.anchor n) →
     lines_of q.rows ≡ with_lines f (with_head m f.line ∷ []) →
     IsSoundRoot (change (s ∷ ss) g (root_of p)) → IsChanged c (put_document k q c) k (lead_of p) (change (s ∷ ss) g)

@@ -11,7 +11,7 @@ use Rattle.yq_inline.specs.Entries.{EntryPieces, item_at}
 use Rattle.yq_flow.specs.FlowEdits.{FlowEdit}
 use Rattle.yq_inline.specs.Nodes.{Key, Node, empty, alias, scalar, coll, anchored, Sep, last, comma, Items, none, item, key_text, sep_text, node_text, items_text}
 use Rattle.yq_flow.specs.Removals.{before_next, behind_item, comma_left, ends_marked, gap_of, last_gone, last_out, last_removed, removing_from}
-use Rattle.yq_flow.proofs.RemoveTexts.{either, made_of}
+use Rattle.yq_flow.proofs.RemoveTexts.{either, option_some}
 use Rattle.yq_inline.specs.Trees.{inner, key_content}
 use Rattle.yq_rows.specs.Exchange.{with_content}
 use Rattle.yq_rows.specs.Rows.{Content, Inline, Row, Part}
@@ -24,7 +24,7 @@ use Rattle.yq_change.proofs.AnchorLaws.{fit_parts}
 use Rattle.yq_change.proofs.FlowRowLaws.{node_holds}
 use Rattle.yq_change.proofs.PartLaws.{document_known}
 use Rattle.yq_change.proofs.RowCommentLaws.{lead_content}
-use Rattle.yq_change.proofs.ShapeLaws.{shape_tells}
+use Rattle.yq_change.proofs.ShapeLaws.{shapes_are_alike}
 
 -- ---- keys
 
@@ -83,7 +83,7 @@ left_fit k rest s g (item key n sep os) e at h = go (is_here s (inner (key_conte
         (last_out k rest (further s) g key n sep os ≡ Some e) ⊎ (option_map (behind_item g key n sep) (removing_from k rest (further s) (gap_of sep) os) ≡ Some e) → EachHasFitKeys e.items
     behind again (inl at) = last_fit k rest (further s) g key n sep os e at h.0 h.1
     behind again (inr at) =
-        let x = made_of (behind_item g key n sep) (removing_from k rest (further s) (gap_of sep) os) e at in
+        let x = option_some (behind_item g key n sep) (removing_from k rest (further s) (gap_of sep) os) e at in
         subst (λ (y : FlowEdit). EachHasFitKeys y.items) x.2 (h.0, h.1, again x.0 x.1)
 
     go : (b : Bool) → ((x : FlowEdit) → removing_from k rest (further s) (gap_of sep) os ≡ Some x → EachHasFitKeys x.items) →
@@ -109,5 +109,5 @@ flow_rooms c k p steps f rest i w gap is at =
     let headed : is_some (head_of b.content) ≡ is_some (head_of i.row.content) =
     ap is_some holds.head.1 ∙ (sym (ap is_some holds.old_head.1) ∙ sym (ap (λ (x : Content). is_some (head_of x)) at.content_is)) in
     let shape : row_shape b ≡ row_shape i.row = λ j. record { column = i.row.column; dashes = i.row.dashes; mark = i.row.mark; headed = headed j } in
-    let tells = shape_tells p q (ap (map row_shape) there ∙ (one_other i.front b i.row i.back shape ∙ sym (ap (map row_shape) at.rows_are))) in
-    (tells.0, tells.1, lead_content i.front i.row (Inline i.space (put_at rest gap is i.node) i.tail) i.back p q at.rows_are there)
+    let reports = shapes_are_alike p q (ap (map row_shape) there ∙ (one_other i.front b i.row i.back shape ∙ sym (ap (map row_shape) at.rows_are))) in
+    (reports.0, reports.1, lead_content i.front i.row (Inline i.space (put_at rest gap is i.node) i.tail) i.back p q at.rows_are there)

@@ -9,8 +9,8 @@ use Rattle.yq_lines.specs.LineAnchors.{IsFree, HaveOneAnchorEach}
 use Rattle.yq_lines.specs.Group.{level_or}
 use Rattle.yq_lines.specs.Laws.{with_lines}
 use Rattle.yq_lines.specs.Outline.{Mark, Bare, Key, Dash, Line, level, Outline, end, row, flatten, IsWhole, IsEven, anchored, head_or, label, collection, value}
-use Rattle.yq_lines.specs.Places.{here, below, compose, lines_before, lines_after, plug, Found, find, in_head, inside, content}
-use Rattle.yq_lines.specs.Spots.{is_bare}
+use Rattle.yq_lines.specs.Places.{here, below, compose, lines_before, lines_after, plug, FoundLine, find, in_head, inside, content}
+use Rattle.yq_lines.specs.Positions.{is_bare}
 use Rattle.yq_lines.proofs.Finding.{IsFoundIn, path_whole}
 use Rattle.yq_lines.proofs.PlaceLaws.{at, placed}
 use Rattle.yq_lines.proofs.Plug.{plug-compose}
@@ -34,7 +34,7 @@ use Rattle.yq_change.proofs.NodeLineLaws.{low_level, under_even}
 use Rattle.yq_change.proofs.ContentLaws.{free_alone}
 
 -- The line is that of an item or entry, or steps go on in its head.
-record InEntry (steps : List Step) (o : Outline) (f : Found) (rest : List Step) : Type 0 where
+record InEntry (steps : List Step) (o : Outline) (f : FoundLine) (rest : List Step) : Type 0 where
   first : Step
   others : List Step
   steps_are : steps ≡ first ∷ others
@@ -42,7 +42,7 @@ record InEntry (steps : List Step) (o : Outline) (f : Found) (rest : List Step) 
   takes : TakesSteps f.line
 
 -- The line is that of a node itself, to which the steps lead.
-record OnLine (steps : List Step) (o : Outline) (f : Found) (rest : List Step) : Type 0 where
+record OnLine (steps : List Step) (o : Outline) (f : FoundLine) (rest : List Step) : Type 0 where
   lines : NodeLines
   is : lines_at steps o ≡ Some lines
   left : rest ≡ []
@@ -52,16 +52,16 @@ record OnLine (steps : List Step) (o : Outline) (f : Found) (rest : List Step) :
   bare : f.line.mark ≡ Bare
   whole : plug f.place (row f.line f.under f.after) ≡ o
 
-abbrev Cases : List Step → Outline → Found → List Step → Type 0
+abbrev Cases : List Step → Outline → FoundLine → List Step → Type 0
 Cases steps o f rest = InEntry steps o f rest ⊎ OnLine steps o f rest
 
-root_line : (n : ℕ) (l : Line) (u a : Outline) (f : Found) (rest : List Step) → IsEven n (row l u a) → find_head [] (row l u a) ≡ Some (f, rest) → Cases [] (row l u a) f rest
+root_line : (n : ℕ) (l : Line) (u a : Outline) (f : FoundLine) (rest : List Step) → IsEven n (row l u a) → find_head [] (row l u a) ≡ Some (f, rest) → Cases [] (row l u a) f rest
 root_line n l u a f rest even e = go l.mark refl e
   where
-    go : (m : Mark) → l.mark ≡ m → option_map {U = Found × List Step} (λ g. (g, [])) (Rattle.std.proofs.Common.cond (is_bare m) (Some (record { place = here; line = l; under = u; after = a })) None) ≡ Some (f, rest) → Cases [] (row l u a) f rest
+    go : (m : Mark) → l.mark ≡ m → option_map {U = FoundLine × List Step} (λ g. (g, [])) (Rattle.std.proofs.Common.cond (is_bare m) (Some (record { place = here; line = l; under = u; after = a })) None) ≡ Some (f, rest) → Cases [] (row l u a) f rest
     go (Key k) is e = absurd (none-some _ e)
     go Dash is e = absurd (none-some _ e)
-    go Bare is e = inr (subst (λ (x : Found × List Step). OnLine [] (row l u a) x.0 x.1) (same_Some _ _ e) (record {
+    go Bare is e = inr (subst (λ (x : FoundLine × List Step). OnLine [] (row l u a) x.0 x.1) (same_Some _ _ e) (record {
       lines = record { place = here; above = 0; anchor = None; lines = row l u a };
       is = refl;
       left = refl;
@@ -72,15 +72,15 @@ root_line n l u a f rest even e = go l.mark refl e
       whole = refl;
     }))
 
-under_line_is : (n : ℕ) (o : Outline) (s : Step) (ss : List Step) (g : Found) (f : Found) (rest : List Step) → IsEven n o → find s ss o ≡ Some (g, []) → g.line.head ≡ None → (u : Outline) → g.under ≡ u →
-    option_map {U = Found × List Step} (λ y. (inside g y, [])) (bare_line u) ≡ Some (f, rest) → Cases (s ∷ ss) o f rest
+under_line_is : (n : ℕ) (o : Outline) (s : Step) (ss : List Step) (g : FoundLine) (f : FoundLine) (rest : List Step) → IsEven n o → find s ss o ≡ Some (g, []) → g.line.head ≡ None → (u : Outline) → g.under ≡ u →
+    option_map {U = FoundLine × List Step} (λ y. (inside g y, [])) (bare_line u) ≡ Some (f, rest) → Cases (s ∷ ss) o f rest
 under_line_is n o s ss g f rest even is open' end under e = absurd (none-some _ e)
 under_line_is n o s ss g f rest even is open' (row l v a) under e = go l.mark refl e
   where
-    go : (m : Mark) → l.mark ≡ m → option_map {U = Found × List Step} (λ y. (inside g y, [])) (Rattle.std.proofs.Common.cond (is_bare m) (Some (record { place = here; line = l; under = v; after = a })) None) ≡ Some (f, rest) → Cases (s ∷ ss) o f rest
+    go : (m : Mark) → l.mark ≡ m → option_map {U = FoundLine × List Step} (λ y. (inside g y, [])) (Rattle.std.proofs.Common.cond (is_bare m) (Some (record { place = here; line = l; under = v; after = a })) None) ≡ Some (f, rest) → Cases (s ∷ ss) o f rest
     go (Key k) mark e = absurd (none-some _ e)
     go Dash mark e = absurd (none-some _ e)
-    go Bare mark e = inr (subst (λ (x : Found × List Step). OnLine (s ∷ ss) o x.0 x.1) (same_Some _ _ e) (record {
+    go Bare mark e = inr (subst (λ (x : FoundLine × List Step). OnLine (s ∷ ss) o x.0 x.1) (same_Some _ _ e) (record {
       lines = under_line g;
       is = ap (option_and_then (λ x. lines_below x.0.line.head x.1 x.0)) is ∙ ap (λ h. lines_below h [] g) open';
       left = refl;
@@ -92,28 +92,28 @@ under_line_is n o s ss g f rest even is open' (row l v a) under e = go l.mark re
       whole = plug-compose g.place (below g.line here g.after) (row l v a) ∙ (ap (λ (y : Outline). plug g.place (row g.line y g.after)) (sym under) ∙ at (IsFoundIn o) (find s ss o) (g, []) is (path_whole s ss o));
     }))
 
-head_cases : (n : ℕ) (o : Outline) (steps : List Step) (f : Found) (rest : List Step) → IsEven n o → find_head steps o ≡ Some (f, rest) → Cases steps o f rest
+head_cases : (n : ℕ) (o : Outline) (steps : List Step) (f : FoundLine) (rest : List Step) → IsEven n o → find_head steps o ≡ Some (f, rest) → Cases steps o f rest
 head_cases n end [] f rest even e = absurd (none-some _ e)
 head_cases n (row l u a) [] f rest even e = root_line n l u a f rest even e
 head_cases n o (s ∷ ss) f rest even e = go (find s ss o) refl e
   where
-    entry : (g : Found) (left : List Step) → find s ss o ≡ Some (g, left) → TakesSteps g.line → ◌≡◌ {A = Option (Found × List Step)} (Some (g, left)) (Some (f, rest)) → Cases (s ∷ ss) o f rest
-    entry g left is takes e = inl (subst (λ (x : Found × List Step). InEntry (s ∷ ss) o x.0 x.1) (same_Some _ _ e) (record { first = s; others = ss; steps_are = refl; found = is; takes = takes }))
+    entry : (g : FoundLine) (left : List Step) → find s ss o ≡ Some (g, left) → TakesSteps g.line → ◌≡◌ {A = Option (FoundLine × List Step)} (Some (g, left)) (Some (f, rest)) → Cases (s ∷ ss) o f rest
+    entry g left is takes e = inl (subst (λ (x : FoundLine × List Step). InEntry (s ∷ ss) o x.0 x.1) (same_Some _ _ e) (record { first = s; others = ss; steps_are = refl; found = is; takes = takes }))
 
-    own : (g : Found) → find s ss o ≡ Some (g, []) → (h : Option Node) → g.line.head ≡ h → in_head h (Some (g, [])) (option_map {U = Found × List Step} (λ y. (inside g y, [])) (bare_line g.under)) ≡ Some (f, rest) → Cases (s ∷ ss) o f rest
+    own : (g : FoundLine) → find s ss o ≡ Some (g, []) → (h : Option Node) → g.line.head ≡ h → in_head h (Some (g, [])) (option_map {U = FoundLine × List Step} (λ y. (inside g y, [])) (bare_line g.under)) ≡ Some (f, rest) → Cases (s ∷ ss) o f rest
     own g is (Some m) head e = entry g [] is (inr (ap is_some head)) e
     own g is None head e = under_line_is n o s ss g f rest even is head g.under refl e
 
-    line : (g : Found) (left : List Step) → find s ss o ≡ Some (g, left) → head_line g left ≡ Some (f, rest) → Cases (s ∷ ss) o f rest
+    line : (g : FoundLine) (left : List Step) → find s ss o ≡ Some (g, left) → head_line g left ≡ Some (f, rest) → Cases (s ∷ ss) o f rest
     line g [] is e = own g is g.line.head refl e
     line g (t ∷ ts) is e = entry g (t ∷ ts) is (at Takes (find s ss o) (g, t ∷ ts) is (takes_left s ss o)) e
 
-    go : (r : Option (Found × List Step)) → find s ss o ≡ r → (r >>= λ x. head_line x.0 x.1) ≡ Some (f, rest) → Cases (s ∷ ss) o f rest
+    go : (r : Option (FoundLine × List Step)) → find s ss o ≡ r → (r >>= λ x. head_line x.0 x.1) ≡ Some (f, rest) → Cases (s ∷ ss) o f rest
     go None is e = absurd (none-some _ e)
     go (Some x) is e = line x.0 x.1 is e
 
 -- the line stands in the outline
-pub head_whole : (n : ℕ) (o : Outline) (steps : List Step) (f : Found) (rest : List Step) → IsEven n o → find_head steps o ≡ Some (f, rest) → plug f.place (row f.line f.under f.after) ≡ o
+pub head_whole : (n : ℕ) (o : Outline) (steps : List Step) (f : FoundLine) (rest : List Step) → IsEven n o → find_head steps o ≡ Some (f, rest) → plug f.place (row f.line f.under f.after) ≡ o
 head_whole n o steps f rest even e = go (head_cases n o steps f rest even e)
   where
     go : Cases steps o f rest → plug f.place (row f.line f.under f.after) ≡ o
@@ -121,7 +121,7 @@ head_whole n o steps f rest even e = go (head_cases n o steps f rest even e)
     go (inr c) = c.whole
 
 -- steps may go on in its head
-pub head_takes : (n : ℕ) (o : Outline) (steps : List Step) (f : Found) (rest : List Step) → IsEven n o → find_head steps o ≡ Some (f, rest) → TakesSteps f.line
+pub head_takes : (n : ℕ) (o : Outline) (steps : List Step) (f : FoundLine) (rest : List Step) → IsEven n o → find_head steps o ≡ Some (f, rest) → TakesSteps f.line
 head_takes n o steps f rest even e = go (head_cases n o steps f rest even e)
   where
     go : Cases steps o f rest → TakesSteps f.line
@@ -145,7 +145,7 @@ bare_value : (x : Line) → x.mark ≡ Bare → value (row x end end) ≡ conten
 bare_value x e = ap (λ y. collection y (child (label x) (content x end) none)) e
 
 -- a node itself with another head
-line_changed : (t : List ℕ) (c : Cut) (k : ℕ) (p q : Part) (steps rest : List Step) (f : Found) (n m : Node) (h : Children → Children) → IsPut t c k p q → OnLine steps (outline_of p) f rest →
+line_changed : (t : List ℕ) (c : Cut) (k : ℕ) (p q : Part) (steps rest : List Step) (f : FoundLine) (n m : Node) (h : Children → Children) → IsPut t c k p q → OnLine steps (outline_of p) f rest →
     f.line.head ≡ Some n → NoNewAlias n m → anchored f.line.anchor m ≡ change rest (within h) (anchored f.line.anchor n) → lines_of q.rows ≡ with_lines f (with_head m f.line ∷ []) →
     IsSoundRoot (change steps (within h) (root_of p)) → IsChanged c (put_document k q c) k (lead_of p) (change steps (within h))
 unfolding level
@@ -160,7 +160,7 @@ line_changed t c k p q steps rest f n m h put on head new is lines sound =
     let after : f.after ≡ end = bare_after l.mark l.head f.after on.bare old.2 in
     let node : value a.lines ≡ anchored l.anchor n =
     ap value on.outline ∙ ((λ i. value (row l (under i) (after i))) ∙ (bare_value l on.bare ∙ ap (λ x. anchored l.anchor (head_or x (value end))) head)) in
-    let made : value (row other end end) ≡ within h (anchored l.anchor n) = bare_value other on.bare ∙ (is ∙ ap (λ x. change x (within h) (anchored l.anchor n)) on.left) in
+    let whole_is : value (row other end end) ≡ within h (anchored l.anchor n) = bare_value other on.bare ∙ (is ∙ ap (λ x. change x (within h) (anchored l.anchor n)) on.left) in
     let news : lines_of q.rows ≡ put_lines a (other ∷ []) = lines ∙ on.put after (other ∷ []) in
     let olds : lines_of p.rows ≡ put_lines a (l ∷ []) =
     sym w.lines ∙ (ap flatten (sym on.whole) ∙ (placed f l f.under ∙ (ap (λ (u : Outline). with_lines f (l ∷ flatten u)) under ∙ on.put after (l ∷ [])))) in
@@ -172,12 +172,12 @@ line_changed t c k p q steps rest f n m h put on head new is lines sound =
     (record {
       deep = on.even.1;
       even = (old.0, tt, whole_end l.mark m, (suc on.even.0, omega arith, tt), tt);
-      node_is = ap (anchored a.anchor) made ∙ (anchored-within a.anchor h (anchored l.anchor n) ∙ ap (λ x. within h (anchored a.anchor x)) (sym node));
+      node_is = ap (anchored a.anchor) whole_is ∙ (anchored-within a.anchor h (anchored l.anchor n) ∙ ap (λ x. within h (anchored a.anchor x)) (sym node));
     })
     (record { each = (free_alone l.anchor, tt); free = subst (λ b. IsFree b (other ∷ [])) among.1 free }) news sound)
 
 -- the line at a path with another head
-pub flow_line_changed : (t : List ℕ) (c : Cut) (k : ℕ) (p q : Part) (steps rest : List Step) (f : Found) (n m : Node) (h : Children → Children) → IsPut t c k p q →
+pub flow_line_changed : (t : List ℕ) (c : Cut) (k : ℕ) (p q : Part) (steps rest : List Step) (f : FoundLine) (n m : Node) (h : Children → Children) → IsPut t c k p q →
     find_head steps (outline_of p) ≡ Some (f, rest) → f.line.head ≡ Some n → NoNewAlias n m → anchored f.line.anchor m ≡ change rest (within h) (anchored f.line.anchor n) →
     lines_of q.rows ≡ with_lines f (with_head m f.line ∷ []) → IsSoundRoot (change steps (within h) (root_of p)) → IsChanged c (put_document k q c) k (lead_of p) (change steps (within h))
 flow_line_changed t c k p q steps rest f n m h put found head new is lines sound =

@@ -9,7 +9,7 @@ use Rattle.yq_inline.specs.Collections.{CollPieces, coll_along}
 use Rattle.yq_inline.specs.Nodes.{Node, node_text}
 use Rattle.yq_lines.specs.Group.{level_or}
 use Rattle.yq_lines.specs.Outline.{Line, Outline, flatten}
-use Rattle.yq_lines.specs.Places.{lines_before, lines_after, Found}
+use Rattle.yq_lines.specs.Places.{lines_before, lines_after, FoundLine}
 use Rattle.yq_lines.proofs.Decides.{flatten-group}
 use Rattle.yq_lines.proofs.PlaceLaws.{placed}
 use Rattle.yq_rows.specs.Exchange.{before_content, behind_at, behind_row, exchange, with_content, with_content_at}
@@ -22,8 +22,8 @@ use Rattle.yq_documents.specs.Documents.{document_parts}
 use Rattle.yq_places.specs.FlowNodes.{content_flow, find_head}
 use Rattle.yq_walk.specs.Lines.{lines_of}
 use Rattle.yq_documents.specs.Reading.{outline_of}
-use Rattle.yq_documents.specs.Seats.{Seat, seat, document_row}
-use Rattle.yq_places.proofs.FlowPlaceLaws.{mark_seat}
+use Rattle.yq_documents.specs.LinesInRows.{RowLine, row_line, document_row}
+use Rattle.yq_places.proofs.FlowPlaceLaws.{mark_row_line}
 use Rattle.yq_places.proofs.FoundLines.{middle}
 use Rattle.yq_change.specs.Appends.{inserted}
 use Rattle.yq_change.specs.Changed.{put_part}
@@ -32,7 +32,7 @@ use Rattle.yq_documents.specs.PartNumbers.{part_number, rows_to}
 use Rattle.yq_documents.proofs.PartNumberLaws.{part_there}
 use Rattle.yq_change.specs.FlowRows.{InlineRow, FlowFound, RowTexts}
 use Rattle.yq_change.proofs.FlowLineLaws.{head_takes, head_whole}
-use Rattle.yq_change.proofs.LineLaws.{seat_splits}
+use Rattle.yq_change.proofs.LineLaws.{row_line_splits}
 use Rattle.yq_change.proofs.PartLaws.{document_known}
 
 -- ---- a row among rows
@@ -150,18 +150,18 @@ flow_found t c k steps w read e =
     let known = document_known t c k p (record { read = read; there = d.1 }) in
     let o : Outline = outline_of p in
     let x = bind_some (find_head steps o) d.2 in
-    let f : Found = x.0.0 in
+    let f : FoundLine = x.0.0 in
     let rest : List Step = x.0.1 in
     let n : ℕ = length (lines_before f.place) in
-    let s = bind_some (seat n p.rows) x.2 in
-    let a = seat_splits n p.rows s.0 s.1 in
+    let s = bind_some (row_line n p.rows) x.2 in
+    let a = row_line_splits n p.rows s.0 s.1 in
     let y = in_content rest s.0.row.content (behind_row (document_row k c + s.0.before) c) w s.2 in
     let i : InlineRow = record { front = a.front; row = s.0.row; back = a.back; space = y.space; node = y.node; tail = y.tail } in
     let h = row_in_cut c k p a.front s.0.row a.back d.1 a.rows_are in
     let lines : lines_of p.rows ≡ lines_before f.place ++ (f.line ∷ (flatten f.under ++ (flatten f.after ++ lines_after f.place))) =
     sym (flatten-group (lines_of p.rows)) ∙ (ap flatten (sym (head_whole (level_or 0 o) o steps f rest known.even x.1)) ∙ placed f f.line f.under) in
-    let m = mark_seat p.rows n f.line (ap (λ (ls : List Line). slice_get ls n) lines ∙ middle (lines_before f.place) _ f.line) (head_takes (level_or 0 o) o steps f rest known.even x.1) in
-    let mark : s.0.line ≡ length s.0.row.dashes = subst (λ (z : Seat). z.line ≡ length z.row.dashes) (same_Some _ _ (sym m.1 ∙ s.1)) m.2 in
+    let m = mark_row_line p.rows n f.line (ap (λ (ls : List Line). slice_get ls n) lines ∙ middle (lines_before f.place) _ f.line) (head_takes (level_or 0 o) o steps f rest known.even x.1) in
+    let mark : s.0.line ≡ length s.0.row.dashes = subst (λ (z : RowLine). z.line ≡ length z.row.dashes) (same_Some _ _ (sym m.1 ∙ s.1)) m.2 in
     let same : behind_row (document_row k c + s.0.before) c ≡ rows_text a.back (p.end ++ behind_document k c) = ap (λ (z : ℕ). behind_row (document_row k c + z) c) (sym a.before) ∙ h.behind in
     record {
       part = p;

@@ -20,7 +20,7 @@ use Rattle.yq_lines.specs.Group.{level_or}
 use Rattle.yq_lines.specs.Laws.{with_lines}
 use Rattle.yq_lines.specs.Outline as outlines
 use Rattle.yq_lines.specs.Outline.{Line, Outline, end, flatten}
-use Rattle.yq_lines.specs.Places.{lines_before, lines_after, Found}
+use Rattle.yq_lines.specs.Places.{lines_before, lines_after, FoundLine}
 use Rattle.yq_lines.proofs.Decides.{flatten-group}
 use Rattle.yq_lines.proofs.PlaceLaws.{placed}
 use Rattle.yq_lines.proofs.Plug.{allows_from}
@@ -52,7 +52,7 @@ use Rattle.yq_change.proofs.FlowLineLaws.{head_whole, flow_line_changed}
 use Rattle.yq_change.proofs.LineLaws.{above_mark, dashes_count}
 use Rattle.yq_change.proofs.PartLaws.{document_known, drop_front, take_front, is_put, part_rows}
 use Rattle.yq_change.proofs.PlacedLaws.{same_parts}
-use Rattle.yq_change.proofs.RemarkLaws.{last_lines}
+use Rattle.yq_change.proofs.CommentPutLaws.{last_lines}
 use Rattle.yq_change.proofs.ReplaceLaws.{document_replaced}
 use Rattle.yq_change.proofs.RowCommentLaws.{row_replaces}
 
@@ -166,11 +166,11 @@ short_node rows.Dash space tail m e = refl
 short_node (rows.Key key colon) space tail m e = refl
 
 -- The line of the row's mark is the one at the path, and the document's lines with another line there.
-record LineIs (p : Part) (f : Found) (i : InlineRow) : Type 0 where
+record LineIs (p : Part) (f : FoundLine) (i : InlineRow) : Type 0 where
   is : mark_line (above_mark (head_comment i.row.gap) i.row.dashes) (mark_column i.row) i.row.mark (Inline i.space i.node i.tail) ≡ f.line
   put : (m : Node) → lines_of (with_node p i m).rows ≡ with_lines f (mark_line (above_mark (head_comment i.row.gap) i.row.dashes) (mark_column i.row) i.row.mark (Inline i.space m i.tail) ∷ [])
 
-line_is : (t : List ℕ) (c : Cut) (k : ℕ) (p : Part) (steps : List Step) (f : Found) (rest : List Step) (i : InlineRow) (w : CollPieces) (n : tree.Node) → Known t c p → IsFlowAt c k p steps f rest i w → node_head i.node ≡ Some n → LineIs p f i
+line_is : (t : List ℕ) (c : Cut) (k : ℕ) (p : Part) (steps : List Step) (f : FoundLine) (rest : List Step) (i : InlineRow) (w : CollPieces) (n : tree.Node) → Known t c p → IsFlowAt c k p steps f rest i w → node_head i.node ≡ Some n → LineIs p f i
 line_is t c k p steps f rest i w n known at head =
     let r : Row = i.row in
     let o : Outline = outline_of p in
@@ -219,9 +219,9 @@ flow_edited t c k p steps f rest i w e h old at edited keys sound text =
     let line = line_is t c k p steps f rest i w n.0 known at n.1 in
     let above : List (List ℕ) = above_mark (head_comment r.gap) r.dashes in
     let l : Line = mark_line above (mark_column r) r.mark (Inline i.space m i.tail) in
-    let made : l ≡ with_head d.0 f.line = (λ j. record l { anchor = holds.anchor j; head = d.1 j }) ∙ ap (with_head d.0) line.is in
+    let whole_is : l ≡ with_head d.0 f.line = (λ j. record l { anchor = holds.anchor j; head = d.1 j }) ∙ ap (with_head d.0) line.is in
     let anchor : node_anchor i.node ≡ f.line.anchor = ap (λ (y : Line). y.anchor) line.is in
     let tree : outlines.anchored f.line.anchor d.0 ≡ change rest (within h) (outlines.anchored f.line.anchor n.0) =
     subst (λ (a : Option (List ℕ)). outlines.anchored a d.0 ≡ change rest (within h) (outlines.anchored a n.0)) anchor
     (ap (λ (a : Option (List ℕ)). outlines.anchored a d.0) (sym holds.anchor) ∙ (sym (anchor_head m d.0 d.1) ∙ (edited.tree ∙ ap (change rest (within h)) (anchor_head i.node n.0 n.1)))) in
-    flow_line_changed t c k p q steps rest f n.0 d.0 h put at.found (sym (ap (λ (y : Line). y.head) line.is) ∙ n.1) (λ _. d.2) tree (line.put m ∙ ap (λ (y : Line). with_lines f (y ∷ [])) made) sound
+    flow_line_changed t c k p q steps rest f n.0 d.0 h put at.found (sym (ap (λ (y : Line). y.head) line.is) ∙ n.1) (λ _. d.2) tree (line.put m ∙ ap (λ (y : Line). with_lines f (y ∷ [])) whole_is) sound

@@ -13,7 +13,7 @@ use Rattle.yq_inline.proofs.WrittenLaws.{key_append}
 use Rattle.yq_rows.specs.Exchange.{behind_row}
 use Rattle.yq_rows.specs.Rows.{Cut, cut_text}
 use Rattle.yq_documents.specs.Reading.{read_at}
-use Rattle.yq_documents.specs.Seats.{document_row}
+use Rattle.yq_documents.specs.LinesInRows.{document_row}
 use Rattle.yq_places.proofs.FlowSpanLaws.{entry_spans}
 use Rattle.yq_places.proofs.HeadSpanLaws.{node_spans}
 use Rattle.yq_change.specs.FlowRows.{behind_node, FlowAt}

@@ -49,7 +49,7 @@ use Rattle.yq_change.proofs.ColumnLaws.{apart_first, block_is_deeper, last_close
 use Rattle.yq_places.proofs.RemovalTexts.{run_parts}
 use Rattle.yq_change.proofs.GapLaws.{none_before}
 use Rattle.yq_change.proofs.PartLaws.{part_numbered, document_known, document_spliced, is_put, take_front, drop_front}
-use Rattle.yq_change.proofs.RemarkLaws.{one_line}
+use Rattle.yq_change.proofs.CommentPutLaws.{one_line}
 use Rattle.yq_documents.specs.TreeEdits.{with_head_comment}
 use Rattle.yq_places.proofs.RemovalLines.{front_some}
 use Rattle.yq_places.proofs.UnderExchange.{lines_append}
@@ -130,11 +130,11 @@ run_seam front back r run last rest l old limit own is column apart = go (last_b
         let split : text_lines (r.gap ++ x) ≡ ks ++ text_lines y = ap text_lines gap_is ∙ lines_before ks y y y_some kept in
         let ended : ends_block (keeps b.chomping) b.indent (ks ++ text_lines y) ≡ true = ap (ends_block (keeps b.chomping) b.indent) (sym split) ∙ was in
         let text : text_lines (with_run r run ++ x) ≡ ks ++ text_lines (run ++ x) = ap text_lines (append_assoc (joined ks) run x) ∙ lines_before ks y (run ++ x) y_some kept in
-        let made : ends_block (keeps b.chomping) b.indent (ks ++ text_lines (run ++ x)) ≡ true = ⊎_elim {0, 0, 0}
+        let whole_is : ends_block (keeps b.chomping) b.indent (ks ++ text_lines (run ++ x)) ≡ true = ⊎_elim {0, 0, 0}
         (λ h. ends_comment (keeps b.chomping) b.indent ks (text_lines y) (text_lines (run ++ x)) h ended)
         (λ h. ends_blank (keeps b.chomping) b.indent ks (text_lines y) (text_lines (run ++ x)) h ended (ends_behind (keeps b.chomping) b.indent (text_lines (run ++ x)) (new b less)))
         (cases_Bool (hold_comment ks)) in
-        block_seam front b (with_run r run ++ x) e (ap (ends_block (keeps b.chomping) b.indent) text ∙ made)
+        block_seam front b (with_run r run ++ x) e (ap (ends_block (keeps b.chomping) b.indent) text ∙ whole_is)
 
 -- the first line of a row, and those behind it
 abbrev first_line : List (List ℕ) → Row → List ℕ → Line
@@ -162,9 +162,9 @@ same_anchor : (a b : List (List ℕ)) (r : Row) (ns : List ℕ) → (first_line 
 same_anchor a b r [] = refl
 same_anchor a b r (n ∷ ns) = refl
 
-told : (a b : List (List ℕ)) (r : Row) (ns : List ℕ) → label (first_line a r ns) ≡ with_head_comment a (label (first_line b r ns))
-told a b r [] = refl
-told a b r (n ∷ ns) = refl
+same_label : (a b : List (List ℕ)) (r : Row) (ns : List ℕ) → label (first_line a r ns) ≡ with_head_comment a (label (first_line b r ns))
+same_label a b r [] = refl
+same_label a b r (n ∷ ns) = refl
 
 in_column : (a : List (List ℕ)) (r : Row) (ns : List ℕ) → (first_line a r ns).column ≡ r.column
 in_column a r [] = refl
@@ -219,7 +219,7 @@ head_commented t c k p steps s h f front back r run old at takes size text =
     let l = first_line (head_comment gap) r r.dashes in
     let one = one_line t c p steps s h f (lines_of front) a z known at olds size in
     let lines : lines_of q.rows ≡ put_lines h (with_lines f (l ∷ flatten f.under)) = row_after front r back gap ∙ sym (one.put l) in
-    let texts : label l ≡ with_head_comment (head_comment run) (label f.line) = told (head_comment gap) (head_comment r.gap) r r.dashes ∙ (λ i. with_head_comment (head i) (label (one.is i))) in
+    let texts : label l ≡ with_head_comment (head_comment run) (label f.line) = same_label (head_comment gap) (head_comment r.gap) r r.dashes ∙ (λ i. with_head_comment (head i) (label (one.is i))) in
     entry_relabelled t c k p q steps h s f (with_head_comment (head_comment run)) l put at (record {
       level_is = same_level (head_comment gap) (head_comment r.gap) r r.dashes ∙ ap level one.is;
       head_is = same_head (head_comment gap) (head_comment r.gap) r r.dashes ∙ ap (λ (v : Line). v.head) one.is;

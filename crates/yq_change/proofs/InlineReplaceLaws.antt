@@ -6,7 +6,7 @@ use Rattle.yq_scalar.specs.Piece.{deeper}
 use Rattle.yq_scalar.specs.Plain.{ends_plain}
 use Rattle.yq_lines.specs.Group.{group, level_or, is_fine}
 use Rattle.yq_lines.specs.Outline.{Line, level, rank, Outline, end, row, flatten, IsEven}
-use Rattle.yq_lines.specs.Places.{lines_before, lines_after, Found}
+use Rattle.yq_lines.specs.Places.{lines_before, lines_after, FoundLine}
 use Rattle.yq_lines.specs.Comments.{head_comment}
 use Rattle.yq_lines.proofs.Decides.{flatten-group}
 use Rattle.yq_rows.specs.Exchange.{allows_first, asked_behind}
@@ -29,7 +29,7 @@ use Rattle.yq_change.proofs.LineLaws.{above_mark, dashes_count, row_count}
 use Rattle.yq_change.proofs.NodeLineLaws.{under_even}
 use Rattle.yq_change.proofs.PartLaws.{document_known, part_rows, take_front, drop_front}
 use Rattle.yq_change.proofs.PlacedLaws.{same_parts, whole_line}
-use Rattle.yq_change.proofs.RemarkLaws.{last_lines}
+use Rattle.yq_change.proofs.CommentPutLaws.{last_lines}
 
 -- the rows from one on
 pub own_rows : (t : List ℕ) (c : Cut) (k : ℕ) (p : Part) (front : List Row) (r : Row) (back : List Row) → IsDocumentPart t c k p → p.rows ≡ front ++ (r ∷ back) →
@@ -75,7 +75,7 @@ module _ (p : Part) (front : List Row) (r : Row) (back : List Row) (rows_are : p
   -- alone on the line under it
   lower_back : (s : Step) (ss : List Step) (h : LeadsBelow p s ss front r) → (lines_of back ≡ flatten h.found.after ++ lines_after h.found.place) × (level h.found.line < level x)
   lower_back s ss h =
-      let f : Found = h.found in
+      let f : FoundLine = h.found in
       let rest : List Line = flatten f.after ++ lines_after f.place in
       let whole : lines_of p.rows ≡ (lines_before f.place ++ (f.line ∷ [])) ++ (flatten f.under ++ rest) =
       sym (flatten-group (lines_of p.rows)) ∙ (whole_line (outline_of p) s ss [] f h.is ∙ sym (append_assoc (lines_before f.place) (f.line ∷ []) (flatten f.under ++ rest))) in

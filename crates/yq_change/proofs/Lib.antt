@@ -16,7 +16,7 @@ pub mod AfterLaws
 pub mod FlowChangeLaws
 pub mod PartLaws
 pub mod LineLaws
-pub mod RemarkLaws
+pub mod CommentPutLaws
 pub mod ApartLaws
 pub mod ColumnLaws
 pub mod AppendLaws

@@ -6,11 +6,11 @@ use Rattle.yq_rows.specs.Rows as rows
 use Rattle.yq_rows.specs.Rows.{Content, Row, behind_columns}
 use Rattle.yq_walk.specs.Lines.{mark_line, dash_line, lines_from, row_lines, lines_of}
 use Rattle.yq_lines.specs.Outline.{Line}
-use Rattle.yq_documents.specs.Seats.{Seat, seat, behind_one}
+use Rattle.yq_documents.specs.LinesInRows.{RowLine, row_line, behind_one}
 use Rattle.yq_lines.proofs.PlaceLaws.{at}
 use Rattle.yq_lines.proofs.Values.{If}
 use Rattle.yq_change.specs.Moved.{dash_lines}
-use Rattle.yq_change.specs.LineRows.{IsSeat, SeatSplits}
+use Rattle.yq_change.specs.LineRows.{IsRowLine, RowLineSplits}
 
 -- the comments above the line of a mark behind dashes
 abbrev pub above_mark : List (List ℕ) → List ℕ → List (List ℕ)
@@ -34,13 +34,13 @@ row_count r = go (head_comment r.gap) r.column r.dashes
     go above column [] = refl
     go above column (n ∷ ns) = ap suc (go [] (suc (column + n)) ns)
 
--- seats
-seats : (rs : List Row) (n : ℕ) → If (seat n rs) (IsSeat n rs)
-seats [] n = tt
-seats (r ∷ rs) n = go (ltb (length r.dashes) n) refl (seat (n - suc (length r.dashes)) rs) (seats rs (n - suc (length r.dashes)))
+-- row lines
+equal_room : (rs : List Row) (n : ℕ) → If (row_line n rs) (IsRowLine n rs)
+equal_room [] n = tt
+equal_room (r ∷ rs) n = go (ltb (length r.dashes) n) refl (row_line (n - suc (length r.dashes)) rs) (equal_room rs (n - suc (length r.dashes)))
   where
-    go : (b : Bool) → ltb (length r.dashes) n ≡ b → (o : Option Seat) → If o (IsSeat (n - suc (length r.dashes)) rs) →
-        If (cond b (option_map behind_one o) (Some (record { before = 0; row = r; line = n }))) (IsSeat n (r ∷ rs))
+    go : (b : Bool) → ltb (length r.dashes) n ≡ b → (o : Option RowLine) → If o (IsRowLine (n - suc (length r.dashes)) rs) →
+        If (cond b (option_map behind_one o) (Some (record { before = 0; row = r; line = n }))) (IsRowLine n (r ∷ rs))
     go true e None h = tt
     go true e (Some x) h = record {
       front = r ∷ h.front;
@@ -52,5 +52,5 @@ seats (r ∷ rs) n = go (ltb (length r.dashes) n) refl (seat (n - suc (length r.
     }
     go false e o h = record { front = []; back = rs; rows_are = refl; before = refl; lines = omega arith; less = omega (arith, ltb-false (length r.dashes) n e) }
 
-pub seat_splits : SeatSplits
-seat_splits n rs x e = at (IsSeat n rs) (seat n rs) x e (seats rs n)
+pub row_line_splits : RowLineSplits
+row_line_splits n rs x e = at (IsRowLine n rs) (row_line n rs) x e (equal_room rs n)

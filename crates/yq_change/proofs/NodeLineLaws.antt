@@ -6,31 +6,31 @@ use Rattle.yq_scalar.specs.Tree.{Node}
 use Rattle.yq_lines.specs.Group.{level_or}
 use Rattle.yq_lines.specs.Laws.{with_lines}
 use Rattle.yq_lines.specs.Outline.{Line, level, Outline, end, row, flatten, IsEven, anchored, value, Stands}
-use Rattle.yq_lines.specs.Places.{Place, here, below, beside, plug, lines_before, lines_after, compose, Found, find, content}
+use Rattle.yq_lines.specs.Places.{Context, here, below, beside, plug, lines_before, lines_after, compose, FoundLine, find, content}
 use Rattle.yq_lines.proofs.Allowing.{Allows}
 use Rattle.yq_lines.proofs.Finding.{IsFoundIn, path_whole}
 use Rattle.yq_lines.proofs.PlaceLaws.{at, exchanged}
 use Rattle.yq_lines.proofs.Plug.{allows_from, closed}
 use Rattle.yq_lines.proofs.Values.{rank_small}
 use Rattle.yq_lines.proofs.NodeLaws.{anchored_none}
-use Rattle.yq_places.proofs.FlowToldLaws.{before_under}
+use Rattle.yq_places.proofs.FlowViewLaws.{before_under}
 use Rattle.yq_change.specs.Siblings.{HasEntries, NodeLines, under_line, lines_below, lines_at, put_lines, StandsSomewhere, LinesReplaced}
 
 -- the lines behind a place in what is under a line
-pub after_under : (p : Place) (l : Line) (a : Outline) → lines_after (compose p (below l here a)) ≡ flatten a ++ lines_after p
+pub after_under : (p : Context) (l : Line) (a : Outline) → lines_after (compose p (below l here a)) ≡ flatten a ++ lines_after p
 after_under here l a = sym (append-nil (flatten a))
 after_under (below k p b) l a = ap (λ x. x ++ flatten b) (after_under p l a) ∙ append_assoc (flatten a) (lines_after p) (flatten b)
 after_under (beside k v p) l a = after_under p l a
 
 -- the lines of an outline with others under a line
-pub put_under : (f : Found) (ls : List Line) → put_lines (under_line f) ls ≡ with_lines f (f.line ∷ ls)
+pub put_under : (f : FoundLine) (ls : List Line) → put_lines (under_line f) ls ≡ with_lines f (f.line ∷ ls)
 put_under f ls =
     (λ i. before_under f.place f.line f.after i ++ (ls ++ after_under f.place f.line f.after i))
     ∙ append_assoc (lines_before f.place) (f.line ∷ []) (ls ++ (flatten f.after ++ lines_after f.place))
 
 -- A node's lines were found under a line.
 pub record Under (s : Step) (ss : List Step) (o : Outline) (h : NodeLines) : Type 0 where
-  pub found : Found
+  pub found : FoundLine
   pub is : find s ss o ≡ Some (found, [])
   pub open' : found.line.head ≡ None
   pub place_is : under_line found ≡ h
@@ -38,17 +38,17 @@ pub record Under (s : Step) (ss : List Step) (o : Outline) (h : NodeLines) : Typ
 pub lines_found : (s : Step) (ss : List Step) (o : Outline) (h : NodeLines) → lines_at (s ∷ ss) o ≡ Some h → Under s ss o h
 lines_found s ss o h e = go (find s ss o) refl e
   where
-    head : (f : Found) (rest : List Step) → find s ss o ≡ Some (f, rest) → (n : Option Node) → f.line.head ≡ n → lines_below n rest f ≡ Some h → Under s ss o h
+    head : (f : FoundLine) (rest : List Step) → find s ss o ≡ Some (f, rest) → (n : Option Node) → f.line.head ≡ n → lines_below n rest f ≡ Some h → Under s ss o h
     head f [] is None e h = record { found = f; is = is; open' = e; place_is = same_Some _ _ h }
     head f (t ∷ ts) is None e h = absurd (none-some _ h)
     head f rest is (Some n) e h = absurd (none-some _ h)
 
-    go : (r : Option (Found × List Step)) → find s ss o ≡ r → Rattle.std.specs.Prelude.option_and_then (λ x. lines_below x.0.line.head x.1 x.0) r ≡ Some h → Under s ss o h
+    go : (r : Option (FoundLine × List Step)) → find s ss o ≡ r → Rattle.std.specs.Prelude.option_and_then (λ x. lines_below x.0.line.head x.1 x.0) r ≡ Some h → Under s ss o h
     go None is e = absurd (none-some _ e)
     go (Some x) is e = head x.0 x.1 is x.0.line.head refl e
 
 -- the line of a node found at a path, and what is under it
-pub under_even : (n : ℕ) (o : Outline) (s : Step) (ss : List Step) (f : Found) → IsEven n o → find s ss o ≡ Some (f, []) →
+pub under_even : (n : ℕ) (o : Outline) (s : Step) (ss : List Step) (f : FoundLine) → IsEven n o → find s ss o ≡ Some (f, []) →
     Allows n f.place (level f.line) × IsEven (level f.line) (row f.line f.under f.after)
 under_even n o s ss f even found =
     let is : plug f.place (row f.line f.under f.after) ≡ o = at (IsFoundIn o) (find s ss o) (f, []) found (path_whole s ss o) in
@@ -78,7 +78,7 @@ lines_even n o [] h even e block = (deep h block (ap (λ (x : NodeLines). x.abov
     level_even n (row l u a) b e = subst (λ k. IsEven k (row l u a)) (sym e.0) e
 lines_even n o (s ∷ ss) h even e block = found (lines_found s ss o h e)
   where
-    go : (f : Found) (o : Outline) (m : ℕ) → HasEntries o → level f.line < m → IsEven m o → (level f.line < level_or 0 o) × IsEven (level_or 0 o) o
+    go : (f : FoundLine) (o : Outline) (m : ℕ) → HasEntries o → level f.line < m → IsEven m o → (level f.line < level_or 0 o) × IsEven (level_or 0 o) o
     go f end m b lt e = absurd b
     go f (row l u a) m b lt e = (omega (arith, lt, e.0), subst (λ k. IsEven k (row l u a)) (sym e.0) e)
 
@@ -107,7 +107,7 @@ lines_replaced n m o u (s ∷ ss) h g even e fit = found (lines_found s ss o h e
   where
     found : Under s ss o h → (flatten o ≡ put_lines h (flatten h.lines)) × StandsSomewhere (put_lines h (flatten u)) (change (s ∷ ss) g (value o))
     found w =
-        let f : Found = w.found in
+        let f : FoundLine = w.found in
         let old = under_even n o s ss f even w.is in
         let deep' : level f.line < m = subst (λ (x : NodeLines). x.above < m) (sym w.place_is) fit.deep in
         let is' : anchored f.line.anchor (value u) ≡ g (anchored f.line.anchor (value f.under)) =

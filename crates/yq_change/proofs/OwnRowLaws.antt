@@ -10,16 +10,16 @@ use Rattle.yq_lines.specs.Ends.{deeper_count, line_of, lines_end}
 use Rattle.yq_lines.specs.Group.{level_or}
 use Rattle.yq_lines.specs.Outline.{Line, level, flatten, IsEven}
 use Rattle.yq_lines.specs.Outline.{row}
-use Rattle.yq_lines.specs.Places.{lines_before, lines_after, Found}
+use Rattle.yq_lines.specs.Places.{lines_before, lines_after, FoundLine}
 use Rattle.yq_lines.proofs.Decides.{flatten-group}
 use Rattle.yq_rows.specs.Rows.{Row, Part}
 use Rattle.yq_walk.specs.Lines.{row_lines, lines_of}
 use Rattle.yq_documents.specs.Reading.{outline_of}
 use Rattle.yq_places.specs.RemovalPlaces.{OwnRows, row_count, in_three}
-use Rattle.yq_documents.specs.Seats.{Seat, seat}
+use Rattle.yq_documents.specs.LinesInRows.{RowLine, row_line}
 use Rattle.yq_walk.proofs.RowLaws.{lines_count}
 use Rattle.yq_places.proofs.UnderCounts.{count_under}
-use Rattle.yq_change.specs.EntryRows.{HasRows}
+use Rattle.yq_change.specs.EntryRows.{HasWholeRows}
 use Rattle.yq_change.specs.LineRows.{Begins, lines_behind}
 use Rattle.yq_change.specs.RemovalChanges.{OwnRowsStand}
 use Rattle.yq_change.specs.Siblings.{IsEntryAt, NodeLines, append_outline}
@@ -28,7 +28,7 @@ use Rattle.yq_change.proofs.CollectionLaws.{relabelled, some_at}
 use Rattle.yq_change.proofs.NodeLineLaws.{lines_even}
 use Rattle.yq_change.proofs.PartLaws.{document_known}
 use Rattle.yq_change.proofs.PathLaws.{path_is_entry}
-use Rattle.yq_change.proofs.RemarkLaws.{around}
+use Rattle.yq_change.proofs.CommentPutLaws.{around}
 use Rattle.yq_change.proofs.RowsLaws.{entry_rows}
 use Rattle.yq_change.proofs.SiblingLaws.{even_right}
 
@@ -56,7 +56,7 @@ begins_none n [] h = refl
 begins_none n (l ∷ ls) h = cond-false (ltb n (level l)) (suc (deeper_count n ls)) 0 (le-ltb n (level l) h)
 
 -- the lines of an item or entry among those of a part
-pub lines_are : (p : Part) (n : ℕ) (steps : List Step) (s : Step) (h : NodeLines) (f : Found) → IsEven n (outline_of p) → IsEntryAt steps s (outline_of p) h f →
+pub lines_are : (p : Part) (n : ℕ) (steps : List Step) (s : Step) (h : NodeLines) (f : FoundLine) → IsEven n (outline_of p) → IsEntryAt steps s (outline_of p) h f →
     lines_of p.rows ≡ (lines_before h.place ++ lines_before f.place) ++ (f.line ∷ (flatten f.under ++ lines_behind h f))
 lines_are p n steps s h f even at =
     sym (flatten-group (lines_of p.rows))
@@ -64,7 +64,7 @@ lines_are p n steps s h f even at =
     ∙ around (lines_before h.place) (lines_before f.place) (f.line ∷ flatten f.under) (flatten f.after ++ lines_after f.place) (lines_after h.place))
 
 -- how many there are
-pub lines_counted : (p : Part) (n : ℕ) (steps : List Step) (s : Step) (h : NodeLines) (f : Found) → IsEven n (outline_of p) → IsEntryAt steps s (outline_of p) h f →
+pub lines_counted : (p : Part) (n : ℕ) (steps : List Step) (s : Step) (h : NodeLines) (f : FoundLine) → IsEven n (outline_of p) → IsEntryAt steps s (outline_of p) h f →
     (k : ℕ) → k ≡ length (lines_before h.place) + length (lines_before f.place) → lines_end k (lines_of p.rows) - k ≡ length (f.line ∷ flatten f.under)
 lines_counted p n steps s h f even at k number =
     let b : List Line = lines_before h.place ++ lines_before f.place in
@@ -97,15 +97,15 @@ own_rows_stand t c k p steps s x old is =
     let m = level_or 0 (outline_of p) in
     let line = bind_some (line_of (steps ++ (s ∷ [])) ls) is in
     let n : ℕ = line.0 in
-    let at = bind_some (seat n p.rows) line.2 in
-    let q : Seat = at.0 in
+    let at = bind_some (row_line n p.rows) line.2 in
+    let q : RowLine = at.0 in
     let guard = cond_some (eqb q.line 0) _ _ at.2 in
     let first : q.line ≡ 0 = eqb-true q.line 0 guard.0 in
     let w = path_is_entry p m steps s n known.even line.1 in
-    let r = entry_rows p m steps s w.h w.f q known.even w.entry (subst (λ (j : ℕ). seat j p.rows ≡ Some q) w.number at.1) first in
+    let r = entry_rows p m steps s w.h w.f q known.even w.entry (subst (λ (j : ℕ). row_line j p.rows ≡ Some q) w.number at.1) first in
     let lines : lines_end n ls - n ≡ length (lines_of r.gone) = lines_counted p m steps s w.h w.f known.even w.entry n w.number ∙ sym r.has.count in
     let behind : drop q.before p.rows ≡ r.gone ++ r.back = (λ j. drop (sym r.number j) (r.has.rows_are j)) ∙ drop-append_seam r.front (r.gone ++ r.back) in
     let count : row_count (lines_end n ls - n) (drop q.before p.rows) ≡ length r.gone = (λ j. row_count (lines j) (behind j)) ∙ count_rows r.gone r.back in
     let same : record { front = r.front; own = r.gone; back = r.back } ≡ x =
     sym (three_are r.front r.gone r.back p.rows q.before (row_count (lines_end n ls - n) (drop q.before p.rows)) r.has.rows_are r.number (sym count)) ∙ guard.1 in
-    record { h = w.h; f = w.f; entry = w.entry; rows = subst (λ (y : OwnRows). HasRows p w.h w.f y.front y.own y.back) same r.has }
+    record { h = w.h; f = w.f; entry = w.entry; rows = subst (λ (y : OwnRows). HasWholeRows p w.h w.f y.front y.own y.back) same r.has }

@@ -11,33 +11,33 @@ use Rattle.yq_walk.specs.Lines.{lines_of}
 use Rattle.yq_lines.specs.Outline.{Mark, Bare, Key, Dash, Line, Outline, flatten, IsEven}
 use Rattle.yq_lines.specs.Outline.{end}
 use Rattle.yq_lines.specs.Outline.{row}
-use Rattle.yq_lines.specs.Places.{Place, here, below, beside, compose, lines_before, Found, find_row, inside, bare_or, in_head, find}
+use Rattle.yq_lines.specs.Places.{Context, here, below, beside, compose, lines_before, FoundLine, find_row, inside, bare_or, in_head, find}
 use Rattle.yq_documents.specs.Reading.{outline_of}
 use Rattle.yq_lines.specs.Ends.{found_line, line_of}
-use Rattle.yq_documents.specs.Seats.{Seat, seat}
+use Rattle.yq_documents.specs.LinesInRows.{RowLine, row_line}
 use Rattle.yq_lines.proofs.Values.{If}
-use Rattle.yq_places.proofs.FlowToldLaws.{before_under}
+use Rattle.yq_places.proofs.FlowViewLaws.{before_under}
 use Rattle.yq_change.specs.Siblings.{IsEntry, HasEntries, NodeLines, lines_at, lines_below, under_line}
 use Rattle.yq_change.proofs.NodeLineLaws.{Under, lines_found}
 use Rattle.yq_change.specs.PathRows.{IsEntryLine, PathIsEntry, PathLineCommented, PathHeadCommented}
 use Rattle.yq_change.proofs.ApartLaws.{Stood, row_stood}
 use Rattle.yq_change.proofs.HeadLaws.{head_commented}
-use Rattle.yq_change.proofs.LineLaws.{seat_splits}
+use Rattle.yq_change.proofs.LineLaws.{row_line_splits}
 use Rattle.yq_change.proofs.PartLaws.{document_known}
-use Rattle.yq_change.proofs.RemarkLaws.{line_commented}
+use Rattle.yq_change.proofs.CommentPutLaws.{line_commented}
 
 -- the line to which steps lead; the root has none
-abbrev found_at : List Step → Outline → Option (Found × List Step)
+abbrev found_at : List Step → Outline → Option (FoundLine × List Step)
 found_at [] o = None
 found_at (s ∷ ss) o = find s ss o
 
-before_inside : (p q : Place) (l : Line) (a : Outline) → lines_before (compose p (below l q a)) ≡ lines_before p ++ (l ∷ lines_before q)
+before_inside : (p q : Context) (l : Line) (a : Outline) → lines_before (compose p (below l q a)) ≡ lines_before p ++ (l ∷ lines_before q)
 before_inside here q l a = refl
 before_inside (below k p b) q l a = ap (λ (x : List Line). k ∷ x) (before_inside p q l a)
 before_inside (beside k v p) q l a = ap (λ (x : List Line). k ∷ x) (ap (λ (x : List Line). flatten v ++ x) (before_inside p q l a) ∙ sym (append_assoc (flatten v) (lines_before p) (l ∷ lines_before q)))
 
 -- a step into what is under a line that was found
-step_found : (t v : Step) (vs : List Step) (o : Outline) (f g : Found) (rest : List Step) → HasEntries o → find_row t o ≡ Some f → f.line.head ≡ None → find v vs f.under ≡ Some (g, rest) →
+step_found : (t v : Step) (vs : List Step) (o : Outline) (f g : FoundLine) (rest : List Step) → HasEntries o → find_row t o ≡ Some f → f.line.head ≡ None → find v vs f.under ≡ Some (g, rest) →
     find t (v ∷ vs) o ≡ Some (inside f g, rest)
 step_found t v vs end f g rest b e n h = absurd b
 step_found t v vs (row l u a) f g rest b e n h = go l.mark b
@@ -53,7 +53,7 @@ step_found t v vs (row l u a) f g rest b e n h = go l.mark b
     go (Key k) b = deep
     go Dash b = deep
 
-step_lines : (t : Step) (ts : List Step) (o : Outline) (f : Found) (h : NodeLines) → HasEntries o → find_row t o ≡ Some f → f.line.head ≡ None → lines_at ts f.under ≡ Some h →
+step_lines : (t : Step) (ts : List Step) (o : Outline) (f : FoundLine) (h : NodeLines) → HasEntries o → find_row t o ≡ Some f → f.line.head ≡ None → lines_at ts f.under ≡ Some h →
     (g : NodeLines) × (lines_at (t ∷ ts) o ≡ Some g) × (g.lines ≡ h.lines) × (length (lines_before g.place) ≡ suc (length (lines_before f.place) + length (lines_before h.place)))
 step_lines t [] end f h b e n is = absurd b
 step_lines t [] (row l u a) f h b e n is = (
@@ -90,18 +90,18 @@ step_lines t (v ∷ vs) o f h b e n is = found (lines_found v vs f.under h is)
               omega (arith, a, b, c, d, e, g, k)),
         )
 
-abbrev Sits : List Step → Step → Outline → (Found × List Step) → Type 0
+abbrev Sits : List Step → Step → Outline → (FoundLine × List Step) → Type 0
 Sits steps s o x = x.1 ≡ [] → IsEntryLine steps s o (length (lines_before x.0.place))
 
 path_sits : (steps : List Step) (s : Step) (n : ℕ) (o : Outline) → IsEven n o → If (found_at (steps ++ (s ∷ [])) o) (Sits steps s o)
 path_sits [] s n end even = tt
 path_sits [] s n (row l u a) even = go l.mark refl (find_row s (row l u a)) refl
   where
-    found : IsEntry l.mark → (r : Option Found) → find_row s (row l u a) ≡ r → If (option_map (λ f. (f, [])) r) (Sits [] s (row l u a))
+    found : IsEntry l.mark → (r : Option FoundLine) → find_row s (row l u a) ≡ r → If (option_map (λ f. (f, [])) r) (Sits [] s (row l u a))
     found b None e = tt
     found b (Some f) e = λ none. record { h = record { place = here; above = 0; anchor = None; lines = row l u a }; f = f; entry = record { place_is = refl; block = b; found = e }; number = omega arith }
 
-    go : (m : Mark) → l.mark ≡ m → (r : Option Found) → find_row s (row l u a) ≡ r →
+    go : (m : Mark) → l.mark ≡ m → (r : Option FoundLine) → find_row s (row l u a) ≡ r →
         If (bare_or m (Some (record { place = here; line = l; under = u; after = a }, s ∷ [])) (option_map (λ f. (f, [])) r)) (Sits [] s (row l u a))
     go Bare e r is = λ none. absurd (cons≢nil none)
     go (Key k) e r is = found (subst IsEntry (sym e) tt) r is
@@ -120,7 +120,7 @@ path_sits (t ∷ ts) s n o even = split (ts ++ (s ∷ [])) refl o even (λ m u e
     split (v ∷ vs) e end even ih = tt
     split (v ∷ vs) e (row l u a) even ih = go l.mark refl (find_row t (row l u a)) refl
       where
-        here_is : HasEntries (row l u a) → (f : Found) → find_row t (row l u a) ≡ Some f → f.line.head ≡ None → (r : Option (Found × List Step)) → If r (Sits ts s f.under) →
+        here_is : HasEntries (row l u a) → (f : FoundLine) → find_row t (row l u a) ≡ Some f → f.line.head ≡ None → (r : Option (FoundLine × List Step)) → If r (Sits ts s f.under) →
             If (option_map (λ x. (inside f x.0, x.1)) r) (Sits (t ∷ ts) s (row l u a))
         here_is b f is head None h = tt
         here_is b f is head (Some x) h = λ end.
@@ -134,25 +134,25 @@ path_sits (t ∷ ts) s n o even = split (ts ++ (s ∷ [])) refl o even (λ m u e
                   (f.line ∷ lines_before x.0.place) in omega (arith, count, place, c, d));
             }
 
-        head_is : HasEntries (row l u a) → (f : Found) → find_row t (row l u a) ≡ Some f → (h : Option Node) → f.line.head ≡ h → If (find v vs f.under) (Sits ts s f.under) →
+        head_is : HasEntries (row l u a) → (f : FoundLine) → find_row t (row l u a) ≡ Some f → (h : Option Node) → f.line.head ≡ h → If (find v vs f.under) (Sits ts s f.under) →
             If (in_head h (Some (f, v ∷ vs)) (option_map (λ x. (inside f x.0, x.1)) (find v vs f.under))) (Sits (t ∷ ts) s (row l u a))
         head_is b f is None head h = here_is b f is head (find v vs f.under) h
         head_is b f is (Some x) head h = λ end. absurd (cons≢nil end)
 
-        row_is : HasEntries (row l u a) → (r : Option Found) → find_row t (row l u a) ≡ r → If r (Stood n) →
+        row_is : HasEntries (row l u a) → (r : Option FoundLine) → find_row t (row l u a) ≡ r → If r (Stood n) →
             If (option_and_then (λ f. in_head f.line.head (Some (f, v ∷ vs)) (option_map (λ x. (inside f x.0, x.1)) (find v vs f.under))) r) (Sits (t ∷ ts) s (row l u a))
         row_is b None is h = tt
         row_is b (Some f) is h = head_is b f is f.line.head refl (subst (λ (xs : List Step). If (found_at xs f.under) (Sits ts s f.under)) e (ih h.even.3.0 f.under h.even.3.2))
 
-        go : (m : Mark) → l.mark ≡ m → (r : Option Found) → find_row t (row l u a) ≡ r →
+        go : (m : Mark) → l.mark ≡ m → (r : Option FoundLine) → find_row t (row l u a) ≡ r →
             If (bare_or m (Some (record { place = here; line = l; under = u; after = a }, t ∷ (v ∷ vs)))
             (option_and_then (λ f. in_head f.line.head (Some (f, v ∷ vs)) (option_map (λ x. (inside f x.0, x.1)) (find v vs f.under))) r)) (Sits (t ∷ ts) s (row l u a))
         go Bare m r is = λ end. absurd (cons≢nil end)
-        go (Key k) m r is = row_is (subst IsEntry (sym m) tt) r is (subst (λ (x : Option Found). If x (Stood n)) is (row_stood t n (row l u a) even))
-        go Dash m r is = row_is (subst IsEntry (sym m) tt) r is (subst (λ (x : Option Found). If x (Stood n)) is (row_stood t n (row l u a) even))
+        go (Key k) m r is = row_is (subst IsEntry (sym m) tt) r is (subst (λ (x : Option FoundLine). If x (Stood n)) is (row_stood t n (row l u a) even))
+        go Dash m r is = row_is (subst IsEntry (sym m) tt) r is (subst (λ (x : Option FoundLine). If x (Stood n)) is (row_stood t n (row l u a) even))
 
 -- the line by its number
-line_at : (steps : List Step) (s : Step) (o : Outline) (r : Option (Found × List Step)) (n : ℕ) → If r (Sits steps s o) → option_and_then (λ x. found_line x.0 x.1) r ≡ Some n → IsEntryLine steps s o n
+line_at : (steps : List Step) (s : Step) (o : Outline) (r : Option (FoundLine × List Step)) (n : ℕ) → If r (Sits steps s o) → option_and_then (λ x. found_line x.0 x.1) r ≡ Some n → IsEntryLine steps s o n
 line_at steps s o None n h e = absurd (none-some _ e)
 line_at steps s o (Some x) n h e = go x.1 refl e
   where
@@ -167,10 +167,10 @@ line_found (s ∷ ss) rows = refl
 pub path_is_entry : PathIsEntry
 path_is_entry p m steps s n even e = line_at steps s (outline_of p) (found_at (steps ++ (s ∷ [])) (outline_of p)) n (path_sits steps s m (outline_of p) even) (sym (line_found (steps ++ (s ∷ [])) p.rows) ∙ e)
 
--- the seat of a path
-pub seat_line : (rows : List Row) (o : Option ℕ) (x : Seat) → (o >>= λ n. seat n rows) ≡ Some x → (n : ℕ) × (o ≡ Some n) × (seat n rows ≡ Some x)
-seat_line rows None x e = absurd (none-some _ e)
-seat_line rows (Some n) x e = (n, refl, e)
+-- the row line of a path
+pub row_line_found : (rows : List Row) (o : Option ℕ) (x : RowLine) → (o >>= λ n. row_line n rows) ≡ Some x → (n : ℕ) × (o ≡ Some n) × (row_line n rows ≡ Some x)
+row_line_found rows None x e = absurd (none-some _ e)
+row_line_found rows (Some n) x e = (n, refl, e)
 
 same_rows : (front other : List Row) (a b : List Row) → front ++ a ≡ other ++ b → length front ≡ length other → front ≡ other
 same_rows [] [] a b e n = refl
@@ -178,23 +178,23 @@ same_rows [] (y ∷ other) a b e n = absurd (omega (arith, n))
 same_rows (x ∷ front) [] a b e n = absurd (omega (arith, n))
 same_rows (x ∷ front) (y ∷ other) a b e n = let r = same_rows front other a b (tail-eq_of_cons-eq e) (omega (arith, n)) in λ i. head-eq_of_cons-eq e i ∷ r i
 
-pub seat_number : (rows front back : List Row) (n : ℕ) (x : Seat) → seat n rows ≡ Some x → rows ≡ front ++ (x.row ∷ back) → length front ≡ x.before → n ≡ length (lines_of front) + x.line
-seat_number rows front back n x e is before =
-    let w = seat_splits n rows x e in
+pub row_line_number : (rows front back : List Row) (n : ℕ) (x : RowLine) → row_line n rows ≡ Some x → rows ≡ front ++ (x.row ∷ back) → length front ≡ x.before → n ≡ length (lines_of front) + x.line
+row_line_number rows front back n x e is before =
+    let w = row_line_splits n rows x e in
     let same : w.front ≡ front = same_rows w.front front (x.row ∷ w.back) (x.row ∷ back) (sym w.rows_are ∙ is) (w.before ∙ sym before) in
     w.lines ∙ ap (λ (rs : List Row). length (lines_of rs) + x.line) same
 
 pub path_line_commented : PathLineCommented
-path_line_commented t c k p steps s x front back tail old seat_is last takes before text =
-    let l = seat_line p.rows (line_of (steps ++ (s ∷ [])) (lines_of p.rows)) x seat_is in
+path_line_commented t c k p steps s x front back tail old row_line_is last takes before text =
+    let l = row_line_found p.rows (line_of (steps ++ (s ∷ [])) (lines_of p.rows)) x row_line_is in
     let w = path_is_entry p (level_or 0 (outline_of p)) steps s l.0 (document_known t c k p old).even l.1 in
-    let number = seat_number p.rows front back l.0 x l.2 takes.rows_are before in
+    let number = row_line_number p.rows front back l.0 x l.2 takes.rows_are before in
     line_commented t c k p steps s w.h w.f front back x.row tail old w.entry takes (ap (λ (n : ℕ). length (lines_of front) + n) (sym last) ∙ (sym number ∙ w.number)) text
 
 pub path_head_commented : PathHeadCommented
-path_head_commented t c k p steps s x front back run old seat_is first takes before text =
-    let l = seat_line p.rows (line_of (steps ++ (s ∷ [])) (lines_of p.rows)) x seat_is in
+path_head_commented t c k p steps s x front back run old row_line_is first takes before text =
+    let l = row_line_found p.rows (line_of (steps ++ (s ∷ [])) (lines_of p.rows)) x row_line_is in
     let w = path_is_entry p (level_or 0 (outline_of p)) steps s l.0 (document_known t c k p old).even l.1 in
-    let number = seat_number p.rows front back l.0 x l.2 takes.rows_are before in
+    let number = row_line_number p.rows front back l.0 x l.2 takes.rows_are before in
     let count = w.number in
     head_commented t c k p steps s w.h w.f front back x.row run old w.entry takes (omega (arith, number, first, count)) text

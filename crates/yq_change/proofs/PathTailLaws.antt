@@ -26,7 +26,7 @@ use Rattle.yq_documents.specs.Documents.{lead_of}
 use Rattle.yq_walk.specs.Lines.{lines_of}
 use Rattle.yq_documents.specs.Reading.{outline_of}
 use Rattle.yq_places.specs.RowPaths.{IsReadable}
-use Rattle.yq_documents.specs.Seats.{Seat, seat_of}
+use Rattle.yq_documents.specs.LinesInRows.{RowLine, row_line_of}
 use Rattle.yq_documents.specs.TreeEdits.{with_line_comment}
 use Rattle.yq_places.proofs.WrittenLaws.{free_first}
 use Rattle.yq_change.specs.Appends.{inserted}
@@ -36,7 +36,7 @@ use Rattle.yq_documents.specs.PartNumbers.{part_number}
 use Rattle.yq_change.specs.PathTails.{with_line_tail, IsLineTail, tailed, PathTailPut}
 use Rattle.yq_change.specs.RowComments.{TakesRow, with_header_tail}
 use Rattle.yq_change.proofs.PartLaws.{document_known, drop_front, part_rows}
-use Rattle.yq_change.proofs.PathLaws.{path_is_entry, path_line_commented, seat_line, seat_number}
+use Rattle.yq_change.proofs.PathLaws.{path_is_entry, path_line_commented, row_line_found, row_line_number}
 use Rattle.yq_change.proofs.RowCommentLaws.{block_commented}
 
 -- a row of a document
@@ -98,7 +98,7 @@ Commented c k p steps s front back tail new =
     IsReadable (cut_text (put_document k (inserted front (new ∷ []) back p) c)) →
     IsChanged c (put_document k (inserted front (new ∷ []) back p) c) k (lead_of p) (change steps (within (relabel_child s (with_line_comment (line_comment tail)))))
 
-module _ (t : List ℕ) (c : Cut) (k : ℕ) (p : Part) (steps : List Step) (s : Step) (x : Seat) (front back : List Row) (tail : List ℕ) (old : IsDocumentPart t c k p) (seat_is : seat_of (steps ++ (s ∷ [])) p.rows ≡ Some x)
+module _ (t : List ℕ) (c : Cut) (k : ℕ) (p : Part) (steps : List Step) (s : Step) (x : RowLine) (front back : List Row) (tail : List ℕ) (old : IsDocumentPart t c k p) (row_line_is : row_line_of (steps ++ (s ∷ [])) p.rows ≡ Some x)
     (last : x.line ≡ length x.row.dashes) (there : p.rows ≡ front ++ (x.row ∷ back)) (before : length front ≡ x.before) where
   rest : List ℕ
   rest = rows_text back (p.end ++ behind_document k c)
@@ -107,13 +107,13 @@ module _ (t : List ℕ) (c : Cut) (k : ℕ) (p : Part) (steps : List Step) (s : 
   behind_tail inline h =
       let all = row_stands t c k p front back x.row old there in
       let ends : ends_part (behind_document k c) ≡ true = part_ends c (part_number k c) true (document_known t c k p old).cut.parts in
-      path_line_commented t c k p steps s x front back tail old seat_is last (record { rows_are = there; inline = inline; fits = fits_by (parent_indent x.row) x.row.content tail back p.end (behind_document k c) inline h all.1 ends }) before
+      path_line_commented t c k p steps s x front back tail old row_line_is last (record { rows_are = there; inline = inline; fits = fits_by (parent_indent x.row) x.row.content tail back p.end (behind_document k c) inline h all.1 ends }) before
 
   in_header : (space : List ℕ) (anchor : Option rows.Anchor) (block : BlockText) → x.row.content ≡ Block space anchor block → Rattle.yq_scalar.specs.Block.is_tail tail ≡ true → Commented c k p steps s front back tail (with_content (with_header_tail tail space anchor block) x.row)
   in_header space anchor block is h text =
-      let l = seat_line p.rows (line_of (steps ++ (s ∷ [])) (lines_of p.rows)) x seat_is in
+      let l = row_line_found p.rows (line_of (steps ++ (s ∷ [])) (lines_of p.rows)) x row_line_is in
       let w = path_is_entry p (level_or 0 (outline_of p)) steps s l.0 (document_known t c k p old).even l.1 in
-      let number = seat_number p.rows front back l.0 x l.2 there before in
+      let number = row_line_number p.rows front back l.0 x l.2 there before in
       let all = row_stands t c k p front back x.row old there in
       block_commented t c k p steps s w.h w.f front back x.row space anchor block tail old w.entry is (header_takes p front back x.row space anchor block tail (behind_document k c) is there h all.0)
       (ap (λ (n : ℕ). length (lines_of front) + n) (sym last) ∙ (sym number ∙ w.number)) text
@@ -127,4 +127,4 @@ module _ (t : List ℕ) (c : Cut) (k : ℕ) (p : Part) (steps : List Step) (s : 
   tail_put h = by_content x.row.content refl h
 
 pub path_tail_put : PathTailPut
-path_tail_put t c k p steps s x front back tail old seat_is last takes before text = tail_put t c k p steps s x front back tail old seat_is last takes.rows_are before takes.fits text
+path_tail_put t c k p steps s x front back tail old row_line_is last takes before text = tail_put t c k p steps s x front back tail old row_line_is last takes.rows_are before takes.fits text

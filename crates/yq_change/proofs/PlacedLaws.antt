@@ -8,7 +8,7 @@ use Rattle.yq_scalar.specs.Tree.{Node}
 use Rattle.yq_lines.specs.Laws.{with_lines}
 use Rattle.yq_walk.specs.Lines.{lines_of}
 use Rattle.yq_lines.specs.Outline.{Mark, Bare, Key, Dash, Line, Outline, end, row, flatten, IsEven, label}
-use Rattle.yq_lines.specs.Places.{here, lines_before, lines_after, Found, next_to, find_row, inside, bare_or, in_head, find}
+use Rattle.yq_lines.specs.Places.{here, lines_before, lines_after, FoundLine, next_to, find_row, inside, bare_or, in_head, find}
 use Rattle.yq_documents.specs.Reading.{outline_of}
 use Rattle.yq_lines.proofs.Allowing as allowing
 use Rattle.yq_lines.proofs.Allowing.{IsCollection}
@@ -37,7 +37,7 @@ pub rows_in_parts : RowsInParts
 rows_in_parts before come after = lines_append before (come ++ after) ∙ ap (λ x. lines_of before ++ x) (lines_append come after)
 
 -- the lines of an outline, around a line that was found
-pub whole_line : (o : Outline) (s : Step) (ss rest : List Step) (f : Found) → find s ss o ≡ Some (f, rest) → flatten o ≡ with_lines f (f.line ∷ flatten f.under)
+pub whole_line : (o : Outline) (s : Step) (ss rest : List Step) (f : FoundLine) → find s ss o ≡ Some (f, rest) → flatten o ≡ with_lines f (f.line ∷ flatten f.under)
 whole_line o s ss rest f e = ap flatten (sym (at (IsFoundIn o) (find s ss o) (f, rest) e (path_whole s ss o))) ∙ placed f f.line f.under
 
 pub line_placed : LinePlaced
@@ -76,7 +76,7 @@ row_entry : (n : ℕ) (s : Step) (o : Outline) → IsCollection o → IsEven n o
 row_entry n s end c e = tt
 row_entry n s (row k v a) c e = go (is_here s (label k)) (find_row (further s) a) (row_entry n (further s) a (next n k a c e.0 e.4) e.4)
   where
-    go : (b : Bool) (r : Option Found) → If r (λ f. allowing.IsEntry f.line.mark × ((m : ℕ) × IsEven m f.under)) →
+    go : (b : Bool) (r : Option FoundLine) → If r (λ f. allowing.IsEntry f.line.mark × ((m : ℕ) × IsEven m f.under)) →
         If (cond b (Some (record { place = here; line = k; under = v; after = a })) (option_map (next_to k v) r)) (λ f. allowing.IsEntry f.line.mark × ((m : ℕ) × IsEven m f.under))
     go true r h = (c, (e.3.0, e.3.2))
     go false None h = tt
@@ -87,35 +87,35 @@ abbrev Ends : List Step → Line → Type 0
 Ends [] l = allowing.IsEntry l.mark
 Ends (s ∷ ss) l = Unit {0}
 
-abbrev Ending : (Found × List Step) → Type 0
+abbrev Ending : (FoundLine × List Step) → Type 0
 Ending x = Ends x.1 x.0.line
 
 path_entry : (n : ℕ) (s : Step) (ss : List Step) (o : Outline) → IsEven n o → If (find s ss o) Ending
 path_entry n s ss end e = tt
 path_entry n s [] (row k v a) e = go k.mark refl (find_row s (row k v a)) (λ c. row_entry n s (row k v a) c e)
   where
-    found : (r : Option Found) → If r (λ f. allowing.IsEntry f.line.mark × ((m : ℕ) × IsEven m f.under)) → If (option_map (λ f. (f, [])) r) Ending
+    found : (r : Option FoundLine) → If r (λ f. allowing.IsEntry f.line.mark × ((m : ℕ) × IsEven m f.under)) → If (option_map (λ f. (f, [])) r) Ending
     found None h = tt
     found (Some f) h = h.0
 
-    go : (m : Mark) → k.mark ≡ m → (r : Option Found) → (IsCollection (row k v a) → If r (λ f. allowing.IsEntry f.line.mark × ((m : ℕ) × IsEven m f.under))) →
+    go : (m : Mark) → k.mark ≡ m → (r : Option FoundLine) → (IsCollection (row k v a) → If r (λ f. allowing.IsEntry f.line.mark × ((m : ℕ) × IsEven m f.under))) →
         If (bare_or m (Some (record { place = here; line = k; under = v; after = a }, s ∷ [])) (option_map (λ f. (f, [])) r)) Ending
     go Bare e r h = tt
     go (Key j) e r h = found r (h (subst allowing.IsEntry (sym e) tt))
     go Dash e r h = found r (h (subst allowing.IsEntry (sym e) tt))
 path_entry n s (t ∷ ts) (row k v a) e = go (λ m u f. path_entry m t ts u f) k.mark refl (find_row s (row k v a)) (λ c. row_entry n s (row k v a) c e)
   where
-    deep : (f : Found) (h : Option Node) (q : Option (Found × List Step)) → If q Ending → If (in_head h (Some (f, t ∷ ts)) (option_map (λ x. (inside f x.0, x.1)) q)) Ending
+    deep : (f : FoundLine) (h : Option Node) (q : Option (FoundLine × List Step)) → If q Ending → If (in_head h (Some (f, t ∷ ts)) (option_map (λ x. (inside f x.0, x.1)) q)) Ending
     deep f (Some n) q h = tt
     deep f None None h = tt
     deep f None (Some x) h = h
 
-    found : ((m : ℕ) (u : Outline) → IsEven m u → If (find t ts u) Ending) → (r : Option Found) → If r (λ f. allowing.IsEntry f.line.mark × ((m : ℕ) × IsEven m f.under)) →
+    found : ((m : ℕ) (u : Outline) → IsEven m u → If (find t ts u) Ending) → (r : Option FoundLine) → If r (λ f. allowing.IsEntry f.line.mark × ((m : ℕ) × IsEven m f.under)) →
         If (option_and_then (λ f. in_head f.line.head (Some (f, t ∷ ts)) (option_map (λ x. (inside f x.0, x.1)) (find t ts f.under))) r) Ending
     found ih None h = tt
     found ih (Some f) h = deep f f.line.head (find t ts f.under) (ih h.1.0 f.under h.1.1)
 
-    go : ((m : ℕ) (u : Outline) → IsEven m u → If (find t ts u) Ending) → (m : Mark) → k.mark ≡ m → (r : Option Found) →
+    go : ((m : ℕ) (u : Outline) → IsEven m u → If (find t ts u) Ending) → (m : Mark) → k.mark ≡ m → (r : Option FoundLine) →
         (IsCollection (row k v a) → If r (λ f. allowing.IsEntry f.line.mark × ((m : ℕ) × IsEven m f.under))) →
         If (bare_or m (Some (record { place = here; line = k; under = v; after = a }, s ∷ (t ∷ ts)))
         (option_and_then (λ f. in_head f.line.head (Some (f, t ∷ ts)) (option_map (λ x. (inside f x.0, x.1)) (find t ts f.under))) r)) Ending

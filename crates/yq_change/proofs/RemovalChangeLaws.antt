@@ -13,7 +13,7 @@ use Rattle.yq_lines.specs.Counts.{count}
 use Rattle.yq_lines.specs.Group.{group, level_or}
 use Rattle.yq_lines.specs.Laws.{with_lines}
 use Rattle.yq_lines.specs.Outline.{Mark, Bare, Key, Dash, Line, level, Outline, end, row, flatten, IsEven, head_or, label, collection, children, value}
-use Rattle.yq_lines.specs.Places.{Place, here, below, beside, plug, lines_before, lines_after, Found, next_to, find_row, find, content}
+use Rattle.yq_lines.specs.Places.{Context, here, below, beside, plug, lines_before, lines_after, FoundLine, next_to, find_row, find, content}
 use Rattle.yq_lines.specs.Sound.{is_entry}
 use Rattle.yq_lines.proofs.Finding.{IsFoundIn, path_node, path_whole, row_child}
 use Rattle.yq_lines.proofs.PlaceLaws.{at}
@@ -96,16 +96,16 @@ collection_node (t ∷ ts) o h e b = found (lines_found t ts o h e)
   where
     found : Under t ts o h → HasChildren (t ∷ ts) (value o) (children h.lines)
     found w =
-        let f : Found = w.found in
+        let f : FoundLine = w.found in
         let same : f.under ≡ h.lines = ap (λ (x : NodeLines). x.lines) w.place_is in
         record {
           node = content f.line f.under;
-          there = path_node t ts o ∙ ap (λ r. option_and_then (λ (x : Found × List Step). node_at x.1 (content x.0.line x.0.under)) r) w.is;
+          there = path_node t ts o ∙ ap (λ r. option_and_then (λ (x : FoundLine × List Step). node_at x.1 (content x.0.line x.0.under)) r) w.is;
           children_are = anchored_children f.line.anchor (head_or f.line.head (value f.under))
               ∙ (ap (λ n. children_of (head_or n (value f.under))) w.open' ∙ (children-value f.under (subst HasEntries (sym same) b) ∙ ap children same));
         }
 
-entry_node : (ss : List Step) (s : Step) (o : Outline) (h : NodeLines) (f : Found) → IsEntryAt ss s o h f → node_at (ss ++ (s ∷ [])) (value o) ≡ Some (content f.line f.under)
+entry_node : (ss : List Step) (s : Step) (o : Outline) (h : NodeLines) (f : FoundLine) → IsEntryAt ss s o h f → node_at (ss ++ (s ∷ [])) (value o) ≡ Some (content f.line f.under)
 entry_node ss s o h f at =
     let x = collection_node ss o h at.place_is at.block in
     node_behind ss s (value o)
@@ -119,18 +119,18 @@ left_after : (n : ℕ) (l : Line) (o : Outline) → IsEntry l.mark → level l �
 left_after n l end b e h some = absurd (omega (arith, some))
 left_after n l (row k v a) b e h some = entry_out k.mark (next n l (row k v a) (entry_in l.mark b) e h)
 
-left_entries : (s : Step) (o : Outline) (n : ℕ) (f : Found) → HasEntries o → IsEven n o → find_row s o ≡ Some f → 1 < count (children o) → HasEntries (plug f.place f.after)
+left_entries : (s : Step) (o : Outline) (n : ℕ) (f : FoundLine) → HasEntries o → IsEven n o → find_row s o ≡ Some f → 1 < count (children o) → HasEntries (plug f.place f.after)
 left_entries s end n f b h e some = absurd b
 left_entries s (row l u a) n f b h e some = go (is_here s (label l)) e
   where
     some_left : 0 < count (children a)
     some_left = omega (arith, some)
 
-    beside_entry : (g : Found) → next_to l u g ≡ f → HasEntries (plug f.place f.after)
-    beside_entry g is = subst (λ (x : Found). HasEntries (plug x.place x.after)) is b
+    beside_entry : (g : FoundLine) → next_to l u g ≡ f → HasEntries (plug f.place f.after)
+    beside_entry g is = subst (λ (x : FoundLine). HasEntries (plug x.place x.after)) is b
 
     go : (c : Bool) → cond c (Some (record { place = here; line = l; under = u; after = a })) (option_map (next_to l u) (find_row (further s) a)) ≡ Some f → HasEntries (plug f.place f.after)
-    go true e = subst (λ (x : Found). HasEntries (plug x.place x.after)) (same_Some _ _ e) (left_after n l a b h.0 h.4 some_left)
+    go true e = subst (λ (x : FoundLine). HasEntries (plug x.place x.after)) (same_Some _ _ e) (left_after n l a b h.0 h.4 some_left)
     go false e = let x = map_some (next_to l u) (find_row (further s) a) f e in beside_entry x.0 x.2
 
 -- ---- first lines
@@ -157,7 +157,7 @@ first_flatten : (o : Outline) (ls : List Line) → HasEntries o → FirstEntry (
 first_flatten end ls h = absurd h
 first_flatten (row l u a) ls h = h
 
-place_first : (p : Place) (o : Outline) (ls : List Line) → HasEntries (plug p o) → (HasEntries o → FirstEntry ls) → FirstEntry (lines_before p ++ ls)
+place_first : (p : Context) (o : Outline) (ls : List Line) → HasEntries (plug p o) → (HasEntries o → FirstEntry ls) → FirstEntry (lines_before p ++ ls)
 place_first here o ls h own = own h
 place_first (below l p a) o ls h own = h
 place_first (beside l u p) o ls h own = h
@@ -167,7 +167,7 @@ root_entries [] o h e b = subst HasEntries (sym (ap (λ (x : NodeLines). x.lines
 root_entries (t ∷ ts) o h e b = let w = lines_found t ts o h e in found_entries t ts o w.found w.is
 
 -- the lines that are left begin with an entry
-left_first : (ss : List Step) (s : Step) (o : Outline) (h : NodeLines) (f : Found) → IsEntryAt ss s o h f → HasEntries (plug f.place f.after) → FirstEntry (put_lines h (with_lines f []))
+left_first : (ss : List Step) (s : Step) (o : Outline) (h : NodeLines) (f : FoundLine) → IsEntryAt ss s o h f → HasEntries (plug f.place f.after) → FirstEntry (put_lines h (with_lines f []))
 left_first [] s o h f at left =
     let is : record { place = here; above = 0; anchor = None; lines = o } ≡ h = same_Some _ _ at.place_is in
     let w = some_at s h.lines f at.found in
@@ -177,7 +177,7 @@ left_first (t ∷ ts) s o h f at left = found (lines_found t ts o h at.place_is)
   where
     found : Under t ts o h → FirstEntry (put_lines h (with_lines f []))
     found w =
-        let g : Found = w.found in
+        let g : FoundLine = w.found in
         let whole : plug g.place (row g.line g.under g.after) ≡ o = Rattle.yq_lines.proofs.PlaceLaws.at (IsFoundIn o) (find t ts o) (g, []) w.is (path_whole t ts o) in
         let ls : List Line = (g.line ∷ with_lines f []) ++ (flatten g.after ++ lines_after g.place) in
         let first : FirstEntry (lines_before g.place ++ ls) =
@@ -248,7 +248,7 @@ new_readable c k d own r rs read is first rows =
     pieces_joined x.before (mended x.seam x.gap ++ x.behind) before (pieces_joined (mended x.seam x.gap) x.behind (mended_piece x.seam x.gap x.behind h.gap_stands h.gap_is) h.behind_is)
 
 -- what is asked of an item or entry that may be taken out
-pub may_go : (t : List ℕ) (c : Cut) (k : ℕ) (p : Part) (ss : List Step) (s : Step) (h : NodeLines) (f : Found) → IsDocumentPart t c k p → IsEntryAt ss s (outline_of p) h f → MayTakeOut c k (ss ++ (s ∷ [])) →
+pub may_go : (t : List ℕ) (c : Cut) (k : ℕ) (p : Part) (ss : List Step) (s : Step) (h : NodeLines) (f : FoundLine) → IsDocumentPart t c k p → IsEntryAt ss s (outline_of p) h f → MayTakeOut c k (ss ++ (s ∷ [])) →
     HasEntries (plug f.place f.after) × AreSpared (names_of (content f.line f.under)) [] (names_of (root_of p))
 may_go t c k p ss s h f old entry may =
     let o : Outline = outline_of p in

@@ -27,13 +27,13 @@ use Rattle.yq_lines.specs.Laws.{with_lines}
 use Rattle.yq_walk.specs.Lines.{row_lines, lines_of}
 use Rattle.yq_lines.specs.Outline.{Line, level, Outline, flatten}
 use Rattle.yq_lines.specs.Outline.{row}
-use Rattle.yq_lines.specs.Places.{lines_before, lines_after, plug, Found, content}
+use Rattle.yq_lines.specs.Places.{lines_before, lines_after, plug, FoundLine, content}
 use Rattle.yq_documents.specs.Reading.{outline_of, root_of}
 use Rattle.yq_places.specs.RowPaths.{IsReadable}
 use Rattle.yq_places.proofs.UnderExchange.{lines_append}
 use Rattle.yq_change.specs.Changed.{IsChanged, put_document}
 use Rattle.yq_change.specs.Conditions.{AreSpared, BeginsEntry}
-use Rattle.yq_change.specs.EntryRows.{HasRows}
+use Rattle.yq_change.specs.EntryRows.{HasWholeRows}
 use Rattle.yq_change.specs.Siblings.{IsEntryAt, HasEntries, NodeLines, put_lines}
 use Rattle.yq_change.proofs.AnchorLaws.{both_anew, collection_anew, fit_parts, fit_from, lines_among}
 use Rattle.yq_change.proofs.CollectionLaws.{Splits, some_at}
@@ -78,7 +78,7 @@ short_left [] gone [] gap limit last rest h is b = tt
 short_left [] gone (r ∷ back) gap limit last rest h is b = entry_short r (lines_of back) is.0.dashes b
 
 -- the lines behind an item or entry begin with an entry
-behind_entry : (n : ℕ) (o : Outline) (steps : List Step) (s : Step) (h : NodeLines) (f : Found) → Rattle.yq_lines.specs.Outline.IsEven n o → IsEntryAt steps s o h f → BeginsEntry (lines_behind h f)
+behind_entry : (n : ℕ) (o : Outline) (steps : List Step) (s : Step) (h : NodeLines) (f : FoundLine) → Rattle.yq_lines.specs.Outline.IsEven n o → IsEntryAt steps s o h f → BeginsEntry (lines_behind h f)
 behind_entry n o steps s h f even e =
     let w = some_at s h.lines f e.found in
     let deep = lines_even n o steps h even e.place_is e.block in
@@ -93,7 +93,7 @@ behind_entry n o steps s h f even e =
     both_anew (flatten f.after ++ lines_after f.place) (lines_after h.place) (both_anew (flatten f.after) (lines_after f.place) after (subst BeginsEntry (sym stood.after) tt)) (lines_among n o steps h even e.place_is).0
 
 -- what is left has lines
-left_lines : (s : Step) (h : NodeLines) (f : Found) → Splits s h.lines f → HasEntries (plug f.place f.after) → with_lines f [] ≡ [] → ⊥
+left_lines : (s : Step) (h : NodeLines) (f : FoundLine) → Splits s h.lines f → HasEntries (plug f.place f.after) → with_lines f [] ≡ [] → ⊥
 left_lines s h f w left e = block_some (plug f.place f.after) left (ap flatten (w.plugs f.after) ∙ (flatten-append w.front f.after ∙ (sym (w.lines []) ∙ e)))
 
 rows_inside : (rs : List Row) (a x b : List Line) → lines_of rs ≡ a ++ (x ++ b) → (x ≡ [] → ⊥) → no_rows rs ≡ false
@@ -149,8 +149,8 @@ removed_cut t c k p front gone back old cut rows some next less text =
     (ap (λ (x : Cut). is_text (cut_text x)) same ∙ text.characters) (subst (λ (x : Cut). length (cut_text x) ≤ text_limit) (sym same) text.size))
 
 -- One of several items or entries taken out, and the lines that are left.
-pub block_gone : (t : List ℕ) (c : Cut) (k : ℕ) (p : Part) (steps : List Step) (s : Step) (h : NodeLines) (f : Found) (front gone back : List Row) → IsDocumentPart t c k p →
-    IsEntryAt steps s (outline_of p) h f → HasEntries (plug f.place f.after) → HasRows p h f front gone back →
+pub block_gone : (t : List ℕ) (c : Cut) (k : ℕ) (p : Part) (steps : List Step) (s : Step) (h : NodeLines) (f : FoundLine) (front gone back : List Row) → IsDocumentPart t c k p →
+    IsEntryAt steps s (outline_of p) h f → HasEntries (plug f.place f.after) → HasWholeRows p h f front gone back →
     AreSpared (names_of (content f.line f.under)) [] (names_of (root_of p)) → IsReadable (cut_text (put_document k (without front gone back p) c)) →
     IsChanged c (put_document k (without front gone back p) c) k (lead_of (without front gone back p)) (change steps (within (remove_child s))) ×
     (lines_of (without front gone back p).rows ≡ put_lines h (with_lines f []))
@@ -169,7 +169,7 @@ block_gone t c k p steps s h f front gone back old at left has spared text =
     entry_placed (level_or 0 o) p steps h s f (lines_of front) (lines_of gone) (lines_of back) known.even at (record { parts_are = old_lines; before_are = has.number; size_is = has.count }) in
     let whole : lines_of front ++ (lines_of gone ++ lines_of back) ≡ b ++ (e ++ lines_behind h f) =
     sym (place.1 (lines_of gone)) ∙ (ap (λ (x : List Line). put_lines h (with_lines f x)) place.0
-    ∙ Rattle.yq_change.proofs.RemarkLaws.around (lines_before h.place) (lines_before f.place) e (flatten f.after ++ lines_after f.place) (lines_after h.place)) in
+    ∙ Rattle.yq_change.proofs.CommentPutLaws.around (lines_before h.place) (lines_before f.place) e (flatten f.after ++ lines_after f.place) (lines_after h.place)) in
     let parts = same_parts (lines_of front) (lines_of gone) (lines_of back) b e (lines_behind h f) whole (has.number ∙ sym (length-append (lines_before h.place) (lines_before f.place))) has.count in
     let some : no_rows gone ≡ false = rows_with gone [] e place.0 (λ none. cc) in
     let part : AreRows unlimited (front ++ (gone ++ back)) p.end rest =

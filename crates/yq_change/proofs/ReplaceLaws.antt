@@ -7,7 +7,7 @@ use Rattle.yq_scalar.specs.Paths.{Step}
 use Rattle.yq_lines.specs.Group.{level_or}
 use Rattle.yq_lines.specs.Laws.{with_lines}
 use Rattle.yq_lines.specs.Outline.{Mark, Bare, Key, Dash, Line, Outline, end, row, flatten}
-use Rattle.yq_lines.specs.Places.{here, Found, bare_or, find}
+use Rattle.yq_lines.specs.Places.{here, FoundLine, bare_or, find}
 use Rattle.yq_lines.proofs.Decides.{flatten-group}
 use Rattle.yq_lines.proofs.Values.{same_rank, same_entry}
 use Rattle.yq_rows.specs.Exchange.{asked_behind}
@@ -54,20 +54,20 @@ document_replaced t c k p front gone back new gap old r text =
     document_spliced t c k p front gone back new gap old known.cut r.rows_are (ap no_rows r.rows_are ∙ rows_before_some front (gone ++ back) (rows_behind_some gone back r.some)) fits text
 
 -- a path that ends at a line leads into a collection
-no_more : (x y : Found × List Step) (s : Step) (ss : List Step) → x.1 ≡ s ∷ ss → y.1 ≡ [] → Some x ≡ Some y → ⊥
-no_more x y s ss a b e = cons≢nil (sym a ∙ (ap (λ (z : Found × List Step). z.1) (same_Some _ _ e) ∙ b))
+no_more : (x y : FoundLine × List Step) (s : Step) (ss : List Step) → x.1 ≡ s ∷ ss → y.1 ≡ [] → Some x ≡ Some y → ⊥
+no_more x y s ss a b e = cons≢nil (sym a ∙ (ap (λ (z : FoundLine × List Step). z.1) (same_Some _ _ e) ∙ b))
 
-pub found_entries : (s : Step) (ss : List Step) (o : Outline) (f : Found) → find s ss o ≡ Some (f, []) → HasEntries o
+pub found_entries : (s : Step) (ss : List Step) (o : Outline) (f : FoundLine) → find s ss o ≡ Some (f, []) → HasEntries o
 found_entries s ss end f e = cc
 found_entries s [] (row l under after) f e = go l.mark _ e
   where
-    go : (m : Mark) (r : Option (Found × List Step)) → bare_or m (Some (record { place = here; line = l; under = under; after = after }, s ∷ [])) r ≡ Some (f, []) → IsEntry m
+    go : (m : Mark) (r : Option (FoundLine × List Step)) → bare_or m (Some (record { place = here; line = l; under = under; after = after }, s ∷ [])) r ≡ Some (f, []) → IsEntry m
     go Bare r e = absurd (no_more (record { place = here; line = l; under = under; after = after }, s ∷ []) (f, []) s [] refl refl e)
     go (Key k) r e = tt
     go Dash r e = tt
 found_entries s (t ∷ ts) (row l under after) f e = go l.mark _ e
   where
-    go : (m : Mark) (r : Option (Found × List Step)) → bare_or m (Some (record { place = here; line = l; under = under; after = after }, s ∷ (t ∷ ts))) r ≡ Some (f, []) → IsEntry m
+    go : (m : Mark) (r : Option (FoundLine × List Step)) → bare_or m (Some (record { place = here; line = l; under = under; after = after }, s ∷ (t ∷ ts))) r ≡ Some (f, []) → IsEntry m
     go Bare r e = absurd (no_more (record { place = here; line = l; under = under; after = after }, s ∷ (t ∷ ts)) (f, []) s (t ∷ ts) refl refl e)
     go (Key k) r e = tt
     go Dash r e = tt

@@ -29,7 +29,7 @@ use Rattle.yq_change.proofs.EditedLaws.{led_as}
 use Rattle.yq_change.proofs.FirstRowLaws.{short_first}
 use Rattle.yq_change.proofs.LineLaws.{above_mark, dashes_count}
 use Rattle.yq_change.proofs.PartLaws.{document_known, drop_front, is_put, part_rows}
-use Rattle.yq_change.proofs.RemarkLaws.{last_lines, one_line}
+use Rattle.yq_change.proofs.CommentPutLaws.{last_lines, one_line}
 use Rattle.yq_change.proofs.ReplaceLaws.{document_replaced, rows_before_some}
 
 -- rows behind rows

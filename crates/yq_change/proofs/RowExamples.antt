@@ -18,7 +18,7 @@ use Rattle.yq_change.specs.Changed.{IsChanged, put_document}
 use Rattle.yq_change.specs.DocumentRows.{IsDocumentPart}
 use Rattle.yq_change.specs.Siblings.{NodeLines}
 use Rattle.yq_change.proofs.AppendLaws.{block_appended}
-use Rattle.yq_lines.specs.Places.{Found, find}
+use Rattle.yq_lines.specs.Places.{FoundLine, find}
 use Rattle.yq_lines.specs.Outline.{Line}
 use Rattle.yq_scalar.specs.Paths.{To}
 use Rattle.yq_inline.specs.Alike.{Alike, after, byte}
@@ -67,7 +67,7 @@ y_cut = scan_takes (codes "a: y\n") (last y_part) scanned_y
 abbrev line_in : Row → Line
 line_in r = mark_line [] 0 r.mark r.content
 
-abbrev x_found : Found
+abbrev x_found : FoundLine
 x_found = record { place = here; line = line_in a_entry; under = end; after = end }
 
 readable_y : IsReadable (cut_text (put_document 0 (inserted [] (y_entry ∷ []) [] old_part) (last old_part)))

@@ -12,12 +12,12 @@ use Rattle.yq_change.specs.LineRows.{lines_behind}
 use Rattle.yq_change.specs.EntryRows.{EntryRows}
 use Rattle.yq_change.proofs.ApartLaws.{entries_apart, row_begins}
 use Rattle.yq_change.proofs.ColumnLaws.{apart_later}
-use Rattle.yq_change.proofs.LineLaws.{seat_splits}
-use Rattle.yq_change.proofs.RemarkLaws.{around}
+use Rattle.yq_change.proofs.LineLaws.{row_line_splits}
+use Rattle.yq_change.proofs.CommentPutLaws.{around}
 
 pub entry_rows : EntryRows
 entry_rows p n steps s h f x even at is first =
-    let w = seat_splits _ p.rows x is in
+    let w = row_line_splits _ p.rows x is in
     let e : List Line = f.line ∷ flatten f.under in
     let b : List Line = lines_before h.place ++ lines_before f.place in
     let olds = (relabelled n (outline_of p) steps h s f (λ y. y) f.line even at (record { level_is = refl; head_is = refl; anchor_is = refl; label_is = refl })).0 in

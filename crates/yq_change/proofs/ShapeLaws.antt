@@ -9,14 +9,14 @@ use Rattle.yq_lines.specs.Comments.{head_comment}
 use Rattle.yq_lines.specs.Ends.{found_line, line_of}
 use Rattle.yq_lines.specs.Group.{deeper, shallow, lead, group}
 use Rattle.yq_lines.specs.Outline.{Mark, Bare, Key, Dash, Line, level, Outline, end, row, flatten, label, null_node}
-use Rattle.yq_lines.specs.Places.{Place, here, below, beside, lines_before, compose, Found, next_to, find_row, inside, bare_or, in_head, find}
+use Rattle.yq_lines.specs.Places.{Context, here, below, beside, lines_before, compose, FoundLine, next_to, find_row, inside, bare_or, in_head, find}
 use Rattle.yq_rows.specs.Rows as rows
 use Rattle.yq_rows.specs.Rows.{Row, Content, Part}
 use Rattle.yq_documents.specs.declared.path.Part as places
 use Rattle.yq_walk.specs.Lines.{head_of, mark_of, lines_from, row_lines, lines_of}
 use Rattle.yq_documents.specs.Ready.{begins_no_node}
-use Rattle.yq_documents.specs.Seats.{Seat, behind_one, seat, seat_has_room}
-use Rattle.yq_change.specs.Rooms.{RowShape, row_shape, SameSeats, ShapeTells}
+use Rattle.yq_documents.specs.LinesInRows.{RowLine, behind_one, row_line, row_line_has_room}
+use Rattle.yq_change.specs.Rooms.{RowShape, row_shape, EqualRoom, ShapesAgree}
 
 -- ---- lines without what is told behind their marks but that there is a head
 
@@ -27,15 +27,15 @@ abbrev strip_outline : Outline → Outline
 strip_outline end = end
 strip_outline (row l u a) = row (stripped l) (strip_outline u) (strip_outline a)
 
-abbrev strip_place : Place → Place
+abbrev strip_place : Context → Context
 strip_place here = here
 strip_place (below l p a) = below (stripped l) (strip_place p) (strip_outline a)
 strip_place (beside l u p) = beside (stripped l) (strip_outline u) (strip_place p)
 
-abbrev strip_found : Found → Found
+abbrev strip_found : FoundLine → FoundLine
 strip_found f = record { place = strip_place f.place; line = stripped f.line; under = strip_outline f.under; after = strip_outline f.after }
 
-abbrev strip_pair : Found × List Step → Found × List Step
+abbrev strip_pair : FoundLine × List Step → FoundLine × List Step
 strip_pair x = (strip_found x.0, x.1)
 
 same_level : (l : Line) → level (stripped l) ≡ level l
@@ -67,12 +67,12 @@ flatten_strip : (o : Outline) → flatten (strip_outline o) ≡ map stripped (fl
 flatten_strip end = refl
 flatten_strip (row l u a) = ap (λ ls. stripped l ∷ ls) ((λ i. flatten_strip u i ++ flatten_strip a i) ∙ sym (map-append stripped (flatten u) (flatten a)))
 
-before_strip : (p : Place) → lines_before (strip_place p) ≡ map stripped (lines_before p)
+before_strip : (p : Context) → lines_before (strip_place p) ≡ map stripped (lines_before p)
 before_strip here = refl
 before_strip (below l p a) = ap (λ ls. stripped l ∷ ls) (before_strip p)
 before_strip (beside l u p) = ap (λ ls. stripped l ∷ ls) ((λ i. flatten_strip u i ++ before_strip p i) ∙ sym (map-append stripped (flatten u) (lines_before p)))
 
-compose_strip : (p q : Place) → compose (strip_place p) (strip_place q) ≡ strip_place (compose p q)
+compose_strip : (p q : Context) → compose (strip_place p) (strip_place q) ≡ strip_place (compose p q)
 compose_strip here q = refl
 compose_strip (below l p a) q = ap (λ x. below (stripped l) x (strip_outline a)) (compose_strip p q)
 compose_strip (beside l u p) q = ap (λ x. beside (stripped l) (strip_outline u) x) (compose_strip p q)
@@ -84,7 +84,7 @@ here_strip (To k) l = refl
 here_strip (Nth zero) l = refl
 here_strip (Nth (suc n)) l = refl
 
-row_found : (b : Bool) (l : Line) (u a : Outline) (o : Option Found) →
+row_found : (b : Bool) (l : Line) (u a : Outline) (o : Option FoundLine) →
     cond b (Some (strip_found (record { place = here; line = l; under = u; after = a }))) (option_map (next_to (stripped l) (strip_outline u)) (option_map strip_found o))
     ≡ option_map strip_found (cond b (Some (record { place = here; line = l; under = u; after = a })) (option_map (next_to l u) o))
 row_found true l u a o = refl
@@ -97,32 +97,32 @@ find_row_strip s (row l u a) =
     (λ i. cond (here_strip s l i) (Some (strip_found (record { place = here; line = l; under = u; after = a }))) (option_map (next_to (stripped l) (strip_outline u)) (find_row_strip (further s) a i)))
     ∙ row_found (is_here s (label l)) l u a (find_row (further s) a)
 
-bare_strip : (m : Mark) (x y : Option (Found × List Step)) → bare_or m (option_map strip_pair x) (option_map strip_pair y) ≡ option_map strip_pair (bare_or m x y)
+bare_strip : (m : Mark) (x y : Option (FoundLine × List Step)) → bare_or m (option_map strip_pair x) (option_map strip_pair y) ≡ option_map strip_pair (bare_or m x y)
 bare_strip Bare x y = refl
 bare_strip (Key k) x y = refl
 bare_strip Dash x y = refl
 
 -- the same below a line that was found
-abbrev deeper_found : Found → Found × List Step → Found × List Step
+abbrev deeper_found : FoundLine → FoundLine × List Step → FoundLine × List Step
 deeper_found f x = (inside f x.0, x.1)
 
-abbrev go_on : Step → List Step → Found → Option (Found × List Step)
+abbrev go_on : Step → List Step → FoundLine → Option (FoundLine × List Step)
 go_on t ts f = in_head f.line.head (Some (f, t ∷ ts)) (option_map (deeper_found f) (find t ts f.under))
 
-inside_strip : (f : Found) (o : Option (Found × List Step)) → option_map (deeper_found (strip_found f)) (option_map strip_pair o) ≡ option_map strip_pair (option_map (deeper_found f) o)
+inside_strip : (f : FoundLine) (o : Option (FoundLine × List Step)) → option_map (deeper_found (strip_found f)) (option_map strip_pair o) ≡ option_map strip_pair (option_map (deeper_found f) o)
 inside_strip f None = refl
 inside_strip f (Some x) =
     λ i. Some (record { place = compose_strip f.place (below f.line x.0.place f.after) i; line = stripped x.0.line; under = strip_outline x.0.under; after = strip_outline x.0.after }, x.1)
 
-head_strip : (h : Option Node) (x y : Option (Found × List Step)) → in_head (option_map (λ n. null_node) h) (option_map strip_pair x) (option_map strip_pair y) ≡ option_map strip_pair (in_head h x y)
+head_strip : (h : Option Node) (x y : Option (FoundLine × List Step)) → in_head (option_map (λ n. null_node) h) (option_map strip_pair x) (option_map strip_pair y) ≡ option_map strip_pair (in_head h x y)
 head_strip None x y = refl
 head_strip (Some n) x y = refl
 
-none_left : (o : Option Found) → option_map (λ f. (f, [])) (option_map strip_found o) ≡ option_map strip_pair (option_map (λ f. (f, [])) o)
+none_left : (o : Option FoundLine) → option_map (λ f. (f, [])) (option_map strip_found o) ≡ option_map strip_pair (option_map (λ f. (f, [])) o)
 none_left None = refl
 none_left (Some f) = refl
 
-on_strip : (t : Step) (ts : List Step) → ((o : Outline) → find t ts (strip_outline o) ≡ option_map strip_pair (find t ts o)) → (o : Option Found) →
+on_strip : (t : Step) (ts : List Step) → ((o : Outline) → find t ts (strip_outline o) ≡ option_map strip_pair (find t ts o)) → (o : Option FoundLine) →
     option_and_then (go_on t ts) (option_map strip_found o) ≡ option_map strip_pair (option_and_then (go_on t ts) o)
 on_strip t ts ih None = refl
 on_strip t ts ih (Some f) =
@@ -140,7 +140,7 @@ find_strip s (t ∷ ts) (row l u a) =
     (ap (option_and_then (go_on t ts)) (find_row_strip s (row l u a)) ∙ on_strip t ts (λ o. find_strip t ts o) (find_row s (row l u a)))
     ∙ bare_strip l.mark (Some (record { place = here; line = l; under = u; after = a }, s ∷ (t ∷ ts))) (option_and_then (go_on t ts) (find_row s (row l u a)))
 
-found_strip : (o : Option (Found × List Step)) → option_and_then (λ x. found_line x.0 x.1) (option_map strip_pair o) ≡ option_and_then (λ x. found_line x.0 x.1) o
+found_strip : (o : Option (FoundLine × List Step)) → option_and_then (λ x. found_line x.0 x.1) (option_map strip_pair o) ≡ option_and_then (λ x. found_line x.0 x.1) o
 found_strip None = refl
 found_strip (Some x) = go x.1
   where
@@ -197,47 +197,47 @@ abbrev have_room : places.Part → Option (ℕ × ℕ) → Bool
 have_room part None = false
 have_room part (Some x) = numbers_have_room part x
 
-abbrev shape_seat : ℕ → List RowShape → Option (ℕ × ℕ)
-shape_seat n [] = None
-shape_seat n (s ∷ ss) = cond (nat_lt (length s.dashes) n) (shape_seat (n - suc (length s.dashes)) ss) (Some (n, length s.dashes))
+abbrev shape_row_line : ℕ → List RowShape → Option (ℕ × ℕ)
+shape_row_line n [] = None
+shape_row_line n (s ∷ ss) = cond (nat_lt (length s.dashes) n) (shape_row_line (n - suc (length s.dashes)) ss) (Some (n, length s.dashes))
 
-abbrev numbers_of : Option Seat → Option (ℕ × ℕ)
+abbrev numbers_of : Option RowLine → Option (ℕ × ℕ)
 numbers_of None = None
 numbers_of (Some s) = Some (s.line, length s.row.dashes)
 
-seat_numbers : (n : ℕ) (rs : List Row) → numbers_of (seat n rs) ≡ shape_seat n (map row_shape rs)
-seat_numbers n [] = refl
-seat_numbers n (r ∷ rs) = go (nat_lt (length r.dashes) n) (seat (n - suc (length r.dashes)) rs) (seat_numbers (n - suc (length r.dashes)) rs)
+row_line_numbers : (n : ℕ) (rs : List Row) → numbers_of (row_line n rs) ≡ shape_row_line n (map row_shape rs)
+row_line_numbers n [] = refl
+row_line_numbers n (r ∷ rs) = go (nat_lt (length r.dashes) n) (row_line (n - suc (length r.dashes)) rs) (row_line_numbers (n - suc (length r.dashes)) rs)
   where
-    go : (b : Bool) (o : Option Seat) {x : Option (ℕ × ℕ)} → numbers_of o ≡ x → numbers_of (cond b (option_map behind_one o) (Some (record { before = 0; row = r; line = n }))) ≡ cond b x (Some (n, length r.dashes))
+    go : (b : Bool) (o : Option RowLine) {x : Option (ℕ × ℕ)} → numbers_of o ≡ x → numbers_of (cond b (option_map behind_one o) (Some (record { before = 0; row = r; line = n }))) ≡ cond b x (Some (n, length r.dashes))
     go true None e = e
     go true (Some s) e = e
     go false o e = refl
 
-room_numbers : (part : places.Part) (o : Option Seat) → seat_has_room part o ≡ have_room part (numbers_of o)
+room_numbers : (part : places.Part) (o : Option RowLine) → row_line_has_room part o ≡ have_room part (numbers_of o)
 room_numbers part None = refl
 room_numbers places.TheVariants.Content (Some s) = refl
 room_numbers places.TheVariants.Entry (Some s) = refl
 room_numbers places.TheVariants.HeadComment (Some s) = refl
 room_numbers places.TheVariants.LineComment (Some s) = refl
 
-same_room : (part : places.Part) (n : ℕ) (rs ss : List Row) → map row_shape ss ≡ map row_shape rs → seat_has_room part (seat n ss) ≡ seat_has_room part (seat n rs)
+same_room : (part : places.Part) (n : ℕ) (rs ss : List Row) → map row_shape ss ≡ map row_shape rs → row_line_has_room part (row_line n ss) ≡ row_line_has_room part (row_line n rs)
 same_room part n rs ss h =
-    room_numbers part (seat n ss) ∙ (ap (have_room part) (seat_numbers n ss ∙ (ap (shape_seat n) h ∙ sym (seat_numbers n rs))) ∙ sym (room_numbers part (seat n rs)))
+    room_numbers part (row_line n ss) ∙ (ap (have_room part) (row_line_numbers n ss ∙ (ap (shape_row_line n) h ∙ sym (row_line_numbers n rs))) ∙ sym (room_numbers part (row_line n rs)))
 
-line_room : (part : places.Part) (o : Option ℕ) (rs ss : List Row) → map row_shape ss ≡ map row_shape rs → seat_has_room part (o >>= λ n. seat n ss) ≡ seat_has_room part (o >>= λ n. seat n rs)
+line_room : (part : places.Part) (o : Option ℕ) (rs ss : List Row) → map row_shape ss ≡ map row_shape rs → row_line_has_room part (o >>= λ n. row_line n ss) ≡ row_line_has_room part (o >>= λ n. row_line n rs)
 line_room part None rs ss h = refl
 line_room part (Some n) rs ss h = same_room part n rs ss h
 
-same_seats : (p q : Part) → map row_shape q.rows ≡ map row_shape p.rows → SameSeats p q
-same_seats p q h part steps = ap (λ o. seat_has_room part (o >>= λ n. seat n q.rows)) (line_by_shape p q h steps) ∙ line_room part (line_of steps (lines_of p.rows)) p.rows q.rows h
+equal_rooms : (p q : Part) → map row_shape q.rows ≡ map row_shape p.rows → EqualRoom p q
+equal_rooms p q h part steps = ap (λ o. row_line_has_room part (o >>= λ n. row_line n q.rows)) (line_by_shape p q h steps) ∙ line_room part (line_of steps (lines_of p.rows)) p.rows q.rows h
 
 begins_strip : (ls : List Line) → begins_no_node (map stripped ls) ≡ begins_no_node ls
 begins_strip [] = refl
 begins_strip (l ∷ ls) = refl
 
-pub shape_tells : ShapeTells
-shape_tells p q h = (
-  same_seats p q h,
+pub shapes_are_alike : ShapesAgree
+shapes_are_alike p q h = (
+  equal_rooms p q h,
   sym (begins_strip (lines_of q.rows)) ∙ (ap begins_no_node (rows_strip q.rows ∙ (ap shapes_lines h ∙ sym (rows_strip p.rows))) ∙ begins_strip (lines_of p.rows)),
 )

@@ -11,7 +11,7 @@ use Rattle.yq_rows.proofs.PlaceLaws.{row_then}
 use Rattle.yq_rows.proofs.seams.SeamLaws.{rows_text-append}
 use Rattle.yq_walk.specs.Lines.{lines_of, row_lines}
 use Rattle.yq_documents.specs.Reading.{outline_of}
-use Rattle.yq_places.specs.Standings.{PlacedEntry, behind_entry}
+use Rattle.yq_places.specs.Standings.{RowsOfEntry, behind_entry}
 use Rattle.yq_places.proofs.CommentPieceLaws.{Ended}
 use Rattle.yq_change.specs.DocumentRows.{behind_document}
 use Rattle.yq_change.specs.StandingLaws.{StandsThere}
@@ -31,7 +31,7 @@ under_ended limit r (q ∷ qs) back gap rest h = go (under_ended (limit_after r)
     go (inl lf) = inl (subst IsLf (sym (row_then r [] (rows_text (q ∷ qs) []))) (append_lf (print_row r []) (rows_text (q ∷ qs) []) lf))
     go (inr none) = inr none
 
-module _ (n : ℕ) (s : Step) (ss : List Step) (c : Cut) (e : PlacedEntry) (t : StandsThere n s ss c e) where
+module _ (n : ℕ) (s : Step) (ss : List Step) (c : Cut) (e : RowsOfEntry) (t : StandsThere n s ss c e) where
   -- the text behind them
   pub behind_there : behind_entry e ≡ rows_text e.back (t.part.end ++ behind_document n c)
   behind_there = λ i. rows_text e.back (t.end_is i ++ t.behind_is i)

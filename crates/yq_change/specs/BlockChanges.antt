@@ -11,7 +11,7 @@ use Rattle.yq_documents.specs.Documents.{lead_of}
 use Rattle.yq_lines.specs.Laws.{with_lines}
 use Rattle.yq_walk.specs.Lines.{lines_from, lines_of}
 use Rattle.yq_lines.specs.Outline.{Line, Outline, flatten, IsEven, label, children, value}
-use Rattle.yq_lines.specs.Places.{lines_before, plug, Found, find, content}
+use Rattle.yq_lines.specs.Places.{lines_before, plug, FoundLine, find, content}
 use Rattle.yq_documents.specs.Reading.{outline_of, root_of}
 use Rattle.yq_change.specs.Changed.{IsChanged, put_document}
 use Rattle.yq_change.specs.Conditions.{AreSpared}
@@ -31,7 +31,7 @@ pub record RootFits (m : ℕ) (u : Outline) (root : Node) : Type 0 where
 -- A node below the root is replaced: its line and those under it give way to others that stand for the value behind the old anchor.
 abbrev pub NodeReplaced : Type 0
 NodeReplaced =
-    (t : List ℕ) (c : Cut) (k : ℕ) (p q : Part) (s : Step) (ss : List Step) (f : Found) (v : Node) (m : ℕ) (l : Line) (u : Outline) → IsPut t c k p q →
+    (t : List ℕ) (c : Cut) (k : ℕ) (p q : Part) (s : Step) (ss : List Step) (f : FoundLine) (v : Node) (m : ℕ) (l : Line) (u : Outline) → IsPut t c k p q →
     find s ss (outline_of p) ≡ Some (f, []) → LineFits [] f (replaced v) m l u → HaveOneAnchorEach (l ∷ flatten u) → lines_of q.rows ≡ with_lines f (l ∷ flatten u) →
     MayReplace v (content f.line f.under) (root_of p) (length (s ∷ ss)) → IsChanged c (put_document k q c) k (lead_of p) (change (s ∷ ss) (replaced v))
 
@@ -52,14 +52,14 @@ EntryAppended =
 -- One of several items or entries of a block collection is removed.
 abbrev pub EntryRemoved : Type 0
 EntryRemoved =
-    (t : List ℕ) (c : Cut) (k : ℕ) (p q : Part) (steps : List Step) (h : NodeLines) (s : Step) (f : Found) → IsPut t c k p q →
+    (t : List ℕ) (c : Cut) (k : ℕ) (p q : Part) (steps : List Step) (h : NodeLines) (s : Step) (f : FoundLine) → IsPut t c k p q →
     IsEntryAt steps s (outline_of p) h f → HasEntries (plug f.place f.after) → lines_of q.rows ≡ put_lines h (with_lines f []) →
     AreSpared (names_of (content f.line f.under)) [] (names_of (root_of p)) → IsChanged c (put_document k q c) k (lead_of q) (change steps (within (remove_child s)))
 
 -- An item or entry of a block collection gets another line comment or head comment.
 abbrev pub EntryRelabelled : Type 0
 EntryRelabelled =
-    (t : List ℕ) (c : Cut) (k : ℕ) (p q : Part) (steps : List Step) (h : NodeLines) (s : Step) (f : Found) (g : Label → Label) (l : Line) → IsPut t c k p q →
+    (t : List ℕ) (c : Cut) (k : ℕ) (p q : Part) (steps : List Step) (h : NodeLines) (s : Step) (f : FoundLine) (g : Label → Label) (l : Line) → IsPut t c k p q →
     IsEntryAt steps s (outline_of p) h f → IsRelabelled g f.line l → ((x : Label) → (g x).key ≡ x.key) → lines_of q.rows ≡ put_lines h (with_lines f (l ∷ flatten f.under)) →
     IsChanged c (put_document k q c) k (lead_of q) (change steps (within (relabel_child s g)))
 
@@ -70,14 +70,14 @@ pub record MovesUp (r b : Row) (n : ℕ) (ns es : List ℕ) : Type 0 where
   pub bare : head_comment b.gap ≡ []
 
 -- So many lines stand before an item or entry, and so many are its own.
-pub record AreCounted (h : NodeLines) (f : Found) (before size : ℕ) : Type 0 where
+pub record AreCounted (h : NodeLines) (f : FoundLine) (before size : ℕ) : Type 0 where
   pub before_are : before ≡ length (lines_before h.place) + length (lines_before f.place)
   pub size_is : size ≡ length (f.line ∷ flatten f.under)
 
 -- The first item or entry of a compact collection is removed: the next one's row stands behind the dash.
 abbrev pub FirstRemoved : Type 0
 FirstRemoved =
-    (t : List ℕ) (c : Cut) (k : ℕ) (p q : Part) (steps : List Step) (h : NodeLines) (s : Step) (f : Found) (before gone behind : List Row) (r b : Row) (n : ℕ) (ns es : List ℕ) → IsPut t c k p q →
+    (t : List ℕ) (c : Cut) (k : ℕ) (p q : Part) (steps : List Step) (h : NodeLines) (s : Step) (f : FoundLine) (before gone behind : List Row) (r b : Row) (n : ℕ) (ns es : List ℕ) → IsPut t c k p q →
     IsEntryAt steps s (outline_of p) h f → HasEntries (plug f.place f.after) → p.rows ≡ before ++ (r ∷ (gone ++ (b ∷ behind))) → q.rows ≡ before ++ (moved_up r (n ∷ ns) b ∷ behind) →
     MovesUp r b n ns es → AreCounted h f (length (lines_of before) + length (n ∷ ns)) (length (lines_from [] b.column es r.mark r.content ++ lines_of gone)) →
     AreSpared (names_of (content f.line f.under)) [] (names_of (root_of p)) → IsChanged c (put_document k q c) k (lead_of q) (change steps (within (remove_child s)))
@@ -90,7 +90,7 @@ pub record StaysEmpty (r : Row) (n : ℕ) (ns es tail : List ℕ) : Type 0 where
 -- The first item or entry of a compact collection is removed: the next one's row keeps its place below the dash.
 abbrev pub FirstDropped : Type 0
 FirstDropped =
-    (t : List ℕ) (c : Cut) (k : ℕ) (p q : Part) (steps : List Step) (h : NodeLines) (s : Step) (f : Found) (before gone behind : List Row) (r : Row) (n : ℕ) (ns es tail : List ℕ) → IsPut t c k p q →
+    (t : List ℕ) (c : Cut) (k : ℕ) (p q : Part) (steps : List Step) (h : NodeLines) (s : Step) (f : FoundLine) (before gone behind : List Row) (r : Row) (n : ℕ) (ns es tail : List ℕ) → IsPut t c k p q →
     IsEntryAt steps s (outline_of p) h f → HasEntries (plug f.place f.after) → p.rows ≡ before ++ (r ∷ (gone ++ behind)) → q.rows ≡ before ++ (emptied r ns tail ∷ behind) → StaysEmpty r n ns es tail →
     AreCounted h f (length (lines_of before) + length (ns ++ (n ∷ []))) (length (lines_from [] (behind_columns r.column (ns ++ (n ∷ []))) es r.mark r.content ++ lines_of gone)) →
     AreSpared (names_of (content f.line f.under)) [] (names_of (root_of p)) → IsChanged c (put_document k q c) k (lead_of q) (change steps (within (remove_child s)))

@@ -4,7 +4,7 @@ use Rattle.yq_scalar.specs.Paths.{Step, change}
 use Rattle.yq_scalar.specs.Tree.{Node}
 use Rattle.yq_lines.specs.Comments.{line_comment}
 use Rattle.yq_lines.specs.Outline.{end, flatten}
-use Rattle.yq_lines.specs.Places.{lines_before, Found, find, content}
+use Rattle.yq_lines.specs.Places.{lines_before, FoundLine, find, content}
 use Rattle.yq_rows.specs.Exchange.{asked_behind, with_content}
 use Rattle.yq_rows.specs.Grammar.{unlimited}
 use Rattle.yq_rows.specs.Rows.{Bare, Content, Row, rows_text, Part, Cut, cut_text}
@@ -38,7 +38,7 @@ pub record TakesContent (t : List ℕ) (c : Cut) (k : ℕ) (p : Part) (front : L
 -- A node that is alone on the line under its key or dash is replaced.
 abbrev pub LowerContentReplaced : Type 0
 LowerContentReplaced =
-    (t : List ℕ) (c : Cut) (k : ℕ) (p : Part) (front back : List Row) (r : Row) (v : Node) (new : Content) (s : Step) (ss : List Step) (f : Found) → TakesContent t c k p front r back v new →
+    (t : List ℕ) (c : Cut) (k : ℕ) (p : Part) (front back : List Row) (r : Row) (v : Node) (new : Content) (s : Step) (ss : List Step) (f : FoundLine) → TakesContent t c k p front r back v new →
     find s ss (outline_of p) ≡ Some (f, []) → f.line.head ≡ None → length (flatten f.under) ≡ 1 → r.mark ≡ Bare → length (lines_of front) + length r.dashes ≡ suc (length (lines_before f.place)) →
     MayReplace v (content f.line f.under) (root_of p) (length (s ∷ ss)) → IsChanged c (put_document k (recontent front r back new p) c) k (lead_of p) (change (s ∷ ss) (replaced v))
 

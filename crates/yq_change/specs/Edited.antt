@@ -11,7 +11,7 @@ use Rattle.yq_lines.specs.Group.{level_or}
 use Rattle.yq_lines.specs.Laws.{with_lines}
 use Rattle.yq_walk.specs.Lines.{lines_of}
 use Rattle.yq_lines.specs.Outline.{Line, level, Outline, end, row, flatten, IsOpen, IsWhole, IsEven, anchored, label, value}
-use Rattle.yq_lines.specs.Places.{lines_before, plug, Found, find, content}
+use Rattle.yq_lines.specs.Places.{lines_before, plug, FoundLine, find, content}
 use Rattle.yq_documents.specs.Reading.{outline_of, read_at, root_of}
 use Rattle.yq_change.specs.Changed.{IsChanged, KeepsRows, put_document}
 use Rattle.yq_change.specs.Conditions.{last_anchor}
@@ -42,7 +42,7 @@ abbrev pub LinesAreThere : Type 0
 LinesAreThere = (steps : List Step) (o : Outline) (h : NodeLines) → lines_at steps o ≡ Some h → node_at steps (value o) ≡ Some (anchored h.anchor (value h.lines))
 
 -- A line, with an outline under it, may stand in the place of one that was found, where the node to which steps lead in its head is changed by a function.
-pub record LineFits (rest : List Step) (f : Found) (g : Node → Node) (m : ℕ) (l : Line) (u : Outline) : Type 0 where
+pub record LineFits (rest : List Step) (f : FoundLine) (g : Node → Node) (m : ℕ) (l : Line) (u : Outline) : Type 0 where
   pub label_is : label l ≡ label f.line
   pub level_is : level l ≡ level f.line
   pub headless : IsOpen l.head u
@@ -58,7 +58,7 @@ pub record AnchorsFit (a : Option (List ℕ)) (ls : List Line) : Type 0 where
 -- A line at a path and those under it are exchanged: a node is replaced, or something in the flow collection that the line's head is.
 abbrev pub LineExchanged : Type 0
 LineExchanged =
-    (t : List ℕ) (c : Cut) (k : ℕ) (p q : Part) (s : Step) (ss rest : List Step) (f : Found) (g : Node → Node) (m : ℕ) (l : Line) (u : Outline) → IsPut t c k p q →
+    (t : List ℕ) (c : Cut) (k : ℕ) (p q : Part) (s : Step) (ss rest : List Step) (f : FoundLine) (g : Node → Node) (m : ℕ) (l : Line) (u : Outline) → IsPut t c k p q →
     find s ss (outline_of p) ≡ Some (f, rest) → LineFits rest f g m l u → IsWhole l.mark l.head f.after → AnchorsFit (last_anchor (lines_before f.place)) (l ∷ flatten u) →
     lines_of q.rows ≡ with_lines f (l ∷ flatten u) → IsSoundRoot (change (s ∷ ss) g (root_of p)) → IsChanged c (put_document k q c) k (lead_of p) (change (s ∷ ss) g)
 
@@ -80,14 +80,14 @@ LinesAppended =
 -- The lines of one of several items or entries of the collection at a path are taken out.
 abbrev pub LinesRemoved : Type 0
 LinesRemoved =
-    (t : List ℕ) (c : Cut) (k : ℕ) (p q : Part) (steps : List Step) (h : NodeLines) (s : Step) (f : Found) → IsPut t c k p q →
+    (t : List ℕ) (c : Cut) (k : ℕ) (p q : Part) (steps : List Step) (h : NodeLines) (s : Step) (f : FoundLine) → IsPut t c k p q →
     IsEntryAt steps s (outline_of p) h f → HasEntries (plug f.place f.after) → lines_of q.rows ≡ put_lines h (with_lines f []) →
     IsSoundRoot (change steps (within (remove_child s)) (root_of p)) → IsChanged c (put_document k q c) k (lead_of q) (change steps (within (remove_child s)))
 
 -- The line of an item or entry of the collection at a path gets other comments.
 abbrev pub LineRelabelled : Type 0
 LineRelabelled =
-    (t : List ℕ) (c : Cut) (k : ℕ) (p q : Part) (steps : List Step) (h : NodeLines) (s : Step) (f : Found) (g : Label → Label) (l : Line) → IsPut t c k p q →
+    (t : List ℕ) (c : Cut) (k : ℕ) (p q : Part) (steps : List Step) (h : NodeLines) (s : Step) (f : FoundLine) (g : Label → Label) (l : Line) → IsPut t c k p q →
     IsEntryAt steps s (outline_of p) h f → IsRelabelled g f.line l → lines_of q.rows ≡ put_lines h (with_lines f (l ∷ flatten f.under)) →
     IsSoundRoot (change steps (within (relabel_child s g)) (root_of p)) → IsChanged c (put_document k q c) k (lead_of q) (change steps (within (relabel_child s g)))
 

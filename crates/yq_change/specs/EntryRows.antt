@@ -4,27 +4,27 @@ use Rattle.yq_scalar.specs.Paths.{Step}
 use Rattle.yq_rows.specs.Rows.{Row, Part}
 use Rattle.yq_walk.specs.Lines.{lines_of}
 use Rattle.yq_lines.specs.Outline.{flatten, IsEven}
-use Rattle.yq_lines.specs.Places.{Found}
+use Rattle.yq_lines.specs.Places.{FoundLine}
 use Rattle.yq_documents.specs.Reading.{outline_of}
-use Rattle.yq_documents.specs.Seats.{Seat, seat}
+use Rattle.yq_documents.specs.LinesInRows.{RowLine, row_line}
 use Rattle.yq_change.specs.Siblings.{IsEntryAt, NodeLines}
 use Rattle.yq_change.specs.LineRows.{line_number}
 
 -- The rows of an item or entry that has whole rows are those between others in front and others behind.
-pub record HasRows (p : Part) (h : NodeLines) (f : Found) (front gone back : List Row) : Type 0 where
+pub record HasWholeRows (p : Part) (h : NodeLines) (f : FoundLine) (front gone back : List Row) : Type 0 where
   pub rows_are : p.rows ≡ front ++ (gone ++ back)
   pub number : length (lines_of front) ≡ line_number h f
   pub count : length (lines_of gone) ≡ length (f.line ∷ flatten f.under)
 
 -- An item or entry has such rows, and so many rows stand before them.
-pub record RowsFrom (p : Part) (h : NodeLines) (f : Found) (before : ℕ) : Type 0 where
+pub record RowsFrom (p : Part) (h : NodeLines) (f : FoundLine) (before : ℕ) : Type 0 where
   pub front : List Row
   pub gone : List Row
   pub back : List Row
   pub number : length front ≡ before
-  pub has : HasRows p h f front gone back
+  pub has : HasWholeRows p h f front gone back
 
 -- An item or entry whose line is the first of its row has rows of its own.
 abbrev pub EntryRows : Type 0
-EntryRows = (p : Part) (n : ℕ) (steps : List Step) (s : Step) (h : NodeLines) (f : Found) (x : Seat) → IsEven n (outline_of p) → IsEntryAt steps s (outline_of p) h f →
-    seat (line_number h f) p.rows ≡ Some x → x.line ≡ 0 → RowsFrom p h f x.before
+EntryRows = (p : Part) (n : ℕ) (steps : List Step) (s : Step) (h : NodeLines) (f : FoundLine) (x : RowLine) → IsEven n (outline_of p) → IsEntryAt steps s (outline_of p) h f →
+    row_line (line_number h f) p.rows ≡ Some x → x.line ≡ 0 → RowsFrom p h f x.before

@@ -4,9 +4,9 @@ use Rattle.yq_scalar.specs.Paths.{Step, change, within}
 use Rattle.yq_scalar.specs.Tree.{Children}
 use Rattle.yq_scalar.specs.declared.style.Place.TheVariants as places
 use Rattle.yq_inline.specs.Collections.{CollAt, CollPieces, IsCollAt, coll_along}
-use Rattle.yq_flow.specs.FlowEdits.{FlowEdit, IsEdited, edited_node}
+use Rattle.yq_flow.specs.FlowEdits.{FlowEdit, IsFlowEdited, edited_node}
 use Rattle.yq_inline.specs.Nodes.{Node, node_text}
-use Rattle.yq_lines.specs.Places.{lines_before, Found}
+use Rattle.yq_lines.specs.Places.{lines_before, FoundLine}
 use Rattle.yq_rows.specs.Exchange.{with_content}
 use Rattle.yq_rows.specs.Rows.{Inline, Row, parent_indent, rows_text, Part, Cut, cut_text}
 use Rattle.yq_documents.specs.Documents.{HasFitKeys, document_parts, lead_of}
@@ -41,7 +41,7 @@ abbrev pub with_node : Part → InlineRow → Node → Part
 with_node p i m = inserted i.front (with_content (Inline i.space m i.tail) i.row ∷ []) i.back p
 
 -- A path of a document leads to a collection in the inline node of a row, by these steps in the node.
-pub record IsFlowAt (c : Cut) (k : ℕ) (p : Part) (steps : List Step) (f : Found) (rest : List Step) (i : InlineRow) (w : CollPieces) : Type 0 where
+pub record IsFlowAt (c : Cut) (k : ℕ) (p : Part) (steps : List Step) (f : FoundLine) (rest : List Step) (i : InlineRow) (w : CollPieces) : Type 0 where
   pub found : find_head steps (outline_of p) ≡ Some (f, rest)
   pub rows_are : p.rows ≡ i.front ++ (i.row ∷ i.back)
   pub content_is : i.row.content ≡ Inline i.space i.node i.tail
@@ -51,14 +51,14 @@ pub record IsFlowAt (c : Cut) (k : ℕ) (p : Part) (steps : List Step) (f : Foun
 -- A collection to which a path leads stands in the inline node of its row.
 abbrev pub FlowStands : Type 0
 FlowStands =
-    (t : List ℕ) (c : Cut) (k : ℕ) (p : Part) (steps : List Step) (f : Found) (rest : List Step) (i : InlineRow) (w : CollPieces) → IsDocumentPart t c k p → IsFlowAt c k p steps f rest i w →
+    (t : List ℕ) (c : Cut) (k : ℕ) (p : Part) (steps : List Step) (f : FoundLine) (rest : List Step) (i : InlineRow) (w : CollPieces) → IsDocumentPart t c k p → IsFlowAt c k p steps f rest i w →
     IsCollAt (coll_at c k p i rest w)
 
 -- An edit of the text of a flow collection changes its items or entries in the document.
 abbrev pub FlowEdited : Type 0
 FlowEdited =
-    (t : List ℕ) (c : Cut) (k : ℕ) (p : Part) (steps : List Step) (f : Found) (rest : List Step) (i : InlineRow) (w : CollPieces) (e : FlowEdit) (h : Children → Children) →
-    IsDocumentPart t c k p → IsFlowAt c k p steps f rest i w → IsEdited (coll_at c k p i rest w) e (change rest (within h)) → HasFitKeys (edited_node (coll_at c k p i rest w) e) →
+    (t : List ℕ) (c : Cut) (k : ℕ) (p : Part) (steps : List Step) (f : FoundLine) (rest : List Step) (i : InlineRow) (w : CollPieces) (e : FlowEdit) (h : Children → Children) →
+    IsDocumentPart t c k p → IsFlowAt c k p steps f rest i w → IsFlowEdited (coll_at c k p i rest w) e (change rest (within h)) → HasFitKeys (edited_node (coll_at c k p i rest w) e) →
     IsSoundRoot (change steps (within h) (root_of p)) → IsReadable (cut_text (put_document k (with_node p i (edited_node (coll_at c k p i rest w) e)) c)) →
     IsChanged c (put_document k (with_node p i (edited_node (coll_at c k p i rest w) e)) c) k (lead_of p) (change steps (within h))
 
@@ -66,7 +66,7 @@ FlowEdited =
 pub record FlowAt (c : Cut) (k : ℕ) (steps : List Step) (w : CollPieces) : Type 0 where
   pub part : Part
   pub there : slice_get (document_parts c) k ≡ Some part
-  pub line : Found
+  pub line : FoundLine
   pub rest : List Step
   pub row : InlineRow
   pub at : IsFlowAt c k part steps line rest row w

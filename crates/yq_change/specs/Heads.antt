@@ -8,7 +8,7 @@ use Rattle.yq_rows.specs.Rows.{Row, behind_gap, rows_text, Part, Cut, cut_text}
 use Rattle.yq_documents.specs.Pieces.{before_run}
 use Rattle.yq_documents.specs.Documents.{lead_of}
 use Rattle.yq_walk.specs.Lines.{lines_of}
-use Rattle.yq_lines.specs.Places.{Found}
+use Rattle.yq_lines.specs.Places.{FoundLine}
 use Rattle.yq_documents.specs.Reading.{outline_of}
 use Rattle.yq_places.specs.RowPaths.{IsReadable}
 use Rattle.yq_change.specs.Changed.{IsChanged, put_document}
@@ -38,7 +38,7 @@ pub record TakesRun (p : Part) (front : List Row) (r : Row) (back : List Row) (r
 -- The head comment of an item or entry is set, where its line is the first of its row.
 abbrev pub HeadCommented : Type 0
 HeadCommented =
-    (t : List ℕ) (c : Cut) (k : ℕ) (p : Part) (steps : List Step) (s : Step) (h : NodeLines) (f : Found) (front back : List Row) (r : Row) (run : List ℕ) → IsDocumentPart t c k p →
+    (t : List ℕ) (c : Cut) (k : ℕ) (p : Part) (steps : List Step) (s : Step) (h : NodeLines) (f : FoundLine) (front back : List Row) (r : Row) (run : List ℕ) → IsDocumentPart t c k p →
     IsEntryAt steps s (outline_of p) h f → TakesRun p front r back run (behind_document k c) → length (lines_of front) ≡ line_number h f →
     IsReadable (cut_text (put_document k (rerun front r back run p) c)) →
     IsChanged c (put_document k (rerun front r back run p) c) k (lead_of (rerun front r back run p)) (change steps (within (relabel_child s (with_head_comment (head_comment run)))))

@@ -10,7 +10,7 @@ pub mod After
 pub mod FlowChanges
 pub mod DocumentRows
 pub mod LineRows
-pub mod Remarks
+pub mod LineComments
 pub mod Columns
 pub mod Appends
 pub mod Removes

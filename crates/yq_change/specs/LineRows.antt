@@ -4,16 +4,16 @@ use Rattle.yq_scalar.specs.Paths.{Step}
 use Rattle.yq_rows.specs.Rows.{Row}
 use Rattle.yq_walk.specs.Lines.{lines_of}
 use Rattle.yq_lines.specs.Outline.{Line, level, Outline, flatten, IsEven}
-use Rattle.yq_lines.specs.Places.{lines_before, lines_after, Found}
-use Rattle.yq_documents.specs.Seats.{Seat, seat}
+use Rattle.yq_lines.specs.Places.{lines_before, lines_after, FoundLine}
+use Rattle.yq_documents.specs.LinesInRows.{RowLine, row_line}
 use Rattle.yq_change.specs.Siblings.{HasEntries, NodeLines, lines_at, IsEntryAt}
 
 -- how many lines stand before an item or entry
-abbrev pub line_number : NodeLines → Found → ℕ
+abbrev pub line_number : NodeLines → FoundLine → ℕ
 line_number h f = length (lines_before h.place) + length (lines_before f.place)
 
--- A seat is the row of line n among rows, and the number of that line in it.
-pub record IsSeat (n : ℕ) (rs : List Row) (x : Seat) : Type 0 where
+-- A row line is the row of line n among rows, and the number of that line in it.
+pub record IsRowLine (n : ℕ) (rs : List Row) (x : RowLine) : Type 0 where
   pub front : List Row
   pub back : List Row
   pub rows_are : rs ≡ front ++ (x.row ∷ back)
@@ -21,9 +21,9 @@ pub record IsSeat (n : ℕ) (rs : List Row) (x : Seat) : Type 0 where
   pub lines : n ≡ length (lines_of front) + x.line
   pub less : x.line ≤ length x.row.dashes
 
--- A line's seat is its row and its number in it.
-abbrev pub SeatSplits : Type 0
-SeatSplits = (n : ℕ) (rs : List Row) (x : Seat) → seat n rs ≡ Some x → IsSeat n rs x
+-- A line's row line is its row and its number in it.
+abbrev pub RowLineSplits : Type 0
+RowLineSplits = (n : ℕ) (rs : List Row) (x : RowLine) → row_line n rs ≡ Some x → IsRowLine n rs x
 
 -- the first of lines, if there is one, is no deeper than a level (8.2)
 abbrev pub Begins : ℕ → List Line → Type 0
@@ -55,18 +55,18 @@ LinesApart =
     StandApart (lines_before h.place ++ flatten h.lines) (lines_after h.place) × Begins h.above (lines_after h.place)
 
 -- the lines behind those of an item or entry
-abbrev pub lines_behind : NodeLines → Found → List Line
+abbrev pub lines_behind : NodeLines → FoundLine → List Line
 lines_behind h f = (flatten f.after ++ lines_after f.place) ++ lines_after h.place
 
 -- An item or entry, but for the first one, begins no deeper than the line before it, and what is behind it is no deeper than its last line and its own one.
-pub record EntryApart (h : NodeLines) (f : Found) : Type 0 where
+pub record EntryApart (h : NodeLines) (f : FoundLine) : Type 0 where
   pub begin : (lines_before f.place ≡ [] → ⊥) → StandApart (lines_before h.place ++ lines_before f.place) ((f.line ∷ flatten f.under) ++ lines_behind h f)
   pub end : StandApart ((lines_before h.place ++ lines_before f.place) ++ (f.line ∷ flatten f.under)) (lines_behind h f)
   pub next : Begins (level f.line) (lines_behind h f)
 
 -- Behind the lines of an item or entry a row begins, and so it does where they begin, but for the first one; the line behind them is no deeper.
 abbrev pub EntriesApart : Type 0
-EntriesApart = (n : ℕ) (o : Outline) (steps : List Step) (s : Step) (h : NodeLines) (f : Found) → IsEven n o → IsEntryAt steps s o h f → EntryApart h f
+EntriesApart = (n : ℕ) (o : Outline) (steps : List Step) (s : Step) (h : NodeLines) (f : FoundLine) → IsEven n o → IsEntryAt steps s o h f → EntryApart h f
 
 -- each of these lines is at least as deep as a level (8.2)
 abbrev pub AreDeep : ℕ → List Line → Type 0

@@ -6,24 +6,24 @@ use Rattle.yq_rows.specs.Rows.{Row, Part, Cut, cut_text}
 use Rattle.yq_documents.specs.Documents.{lead_of}
 use Rattle.yq_walk.specs.Lines.{lines_of}
 use Rattle.yq_lines.specs.Outline.{Outline, IsEven}
-use Rattle.yq_lines.specs.Places.{Found}
+use Rattle.yq_lines.specs.Places.{FoundLine}
 use Rattle.yq_documents.specs.Reading.{outline_of}
 use Rattle.yq_places.specs.RowPaths.{IsReadable}
 use Rattle.yq_lines.specs.Ends.{line_of}
-use Rattle.yq_documents.specs.Seats.{Seat, seat_of}
+use Rattle.yq_documents.specs.LinesInRows.{RowLine, row_line_of}
 use Rattle.yq_change.specs.Changed.{IsChanged, put_document}
 use Rattle.yq_change.specs.Siblings.{IsEntryAt, NodeLines}
 use Rattle.yq_change.specs.Heads.{rerun, TakesRun}
 use Rattle.yq_change.specs.LineRows.{line_number}
 use Rattle.yq_change.specs.DocumentRows.{IsDocumentPart, behind_document}
-use Rattle.yq_change.specs.Remarks.{retailed, TakesTail}
+use Rattle.yq_change.specs.LineComments.{retailed, TakesTail}
 use Rattle.yq_documents.specs.TreeEdits.{with_head_comment, with_line_comment}
 use Rattle.yq_change.specs.EntryRows.{RowsFrom}
 
 -- Line n is that of an item or entry of the block collection at a path.
 pub record IsEntryLine (steps : List Step) (s : Step) (o : Outline) (n : ℕ) : Type 0 where
   pub h : NodeLines
-  pub f : Found
+  pub f : FoundLine
   pub entry : IsEntryAt steps s o h f
   pub number : n ≡ line_number h f
 
@@ -34,22 +34,22 @@ PathIsEntry = (p : Part) (m : ℕ) (steps : List Step) (s : Step) (n : ℕ) → 
 -- An item or entry to which a path leads has rows of its own, before which so many stand.
 pub record PathEntry (p : Part) (steps : List Step) (s : Step) (before : ℕ) : Type 0 where
   pub h : NodeLines
-  pub f : Found
+  pub f : FoundLine
   pub entry : IsEntryAt steps s (outline_of p) h f
   pub rows : RowsFrom p h f before
 
 -- The line comment at a path is set, where the path's line is the last of its row.
 abbrev pub PathLineCommented : Type 0
 PathLineCommented =
-    (t : List ℕ) (c : Cut) (k : ℕ) (p : Part) (steps : List Step) (s : Step) (x : Seat) (front back : List Row) (tail : List ℕ) → IsDocumentPart t c k p →
-    seat_of (steps ++ (s ∷ [])) p.rows ≡ Some x → x.line ≡ length x.row.dashes → TakesTail p front x.row back tail (behind_document k c) → length front ≡ x.before →
+    (t : List ℕ) (c : Cut) (k : ℕ) (p : Part) (steps : List Step) (s : Step) (x : RowLine) (front back : List Row) (tail : List ℕ) → IsDocumentPart t c k p →
+    row_line_of (steps ++ (s ∷ [])) p.rows ≡ Some x → x.line ≡ length x.row.dashes → TakesTail p front x.row back tail (behind_document k c) → length front ≡ x.before →
     IsReadable (cut_text (put_document k (retailed front x.row back tail p) c)) →
     IsChanged c (put_document k (retailed front x.row back tail p) c) k (lead_of p) (change steps (within (relabel_child s (with_line_comment (line_comment tail)))))
 
 -- The head comment at a path is set, where the path's line is the first of its row.
 abbrev pub PathHeadCommented : Type 0
 PathHeadCommented =
-    (t : List ℕ) (c : Cut) (k : ℕ) (p : Part) (steps : List Step) (s : Step) (x : Seat) (front back : List Row) (run : List ℕ) → IsDocumentPart t c k p →
-    seat_of (steps ++ (s ∷ [])) p.rows ≡ Some x → x.line ≡ 0 → TakesRun p front x.row back run (behind_document k c) → length front ≡ x.before →
+    (t : List ℕ) (c : Cut) (k : ℕ) (p : Part) (steps : List Step) (s : Step) (x : RowLine) (front back : List Row) (run : List ℕ) → IsDocumentPart t c k p →
+    row_line_of (steps ++ (s ∷ [])) p.rows ≡ Some x → x.line ≡ 0 → TakesRun p front x.row back run (behind_document k c) → length front ≡ x.before →
     IsReadable (cut_text (put_document k (rerun front x.row back run p) c)) →
     IsChanged c (put_document k (rerun front x.row back run p) c) k (lead_of (rerun front x.row back run p)) (change steps (within (relabel_child s (with_head_comment (head_comment run)))))

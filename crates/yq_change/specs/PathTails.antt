@@ -8,7 +8,7 @@ use Rattle.yq_rows.specs.Grammar.{IsTail}
 use Rattle.yq_rows.specs.Rows.{Content, Nothing, Inline, Block, Row, rows_text, Part, Cut, cut_text}
 use Rattle.yq_documents.specs.Documents.{lead_of}
 use Rattle.yq_places.specs.RowPaths.{IsReadable}
-use Rattle.yq_documents.specs.Seats.{Seat, seat_of}
+use Rattle.yq_documents.specs.LinesInRows.{RowLine, row_line_of}
 use Rattle.yq_documents.specs.TreeEdits.{with_line_comment}
 use Rattle.yq_change.specs.Appends.{inserted}
 use Rattle.yq_change.specs.Changed.{IsChanged, put_document}
@@ -38,7 +38,7 @@ pub record TakesLineTail (p : Part) (front : List Row) (r : Row) (back : List Ro
 -- The line comment at a path is set, where the path's line is the last of its row.
 abbrev pub PathTailPut : Type 0
 PathTailPut =
-    (t : List ℕ) (c : Cut) (k : ℕ) (p : Part) (steps : List Step) (s : Step) (x : Seat) (front back : List Row) (tail : List ℕ) → IsDocumentPart t c k p →
-    seat_of (steps ++ (s ∷ [])) p.rows ≡ Some x → x.line ≡ length x.row.dashes → TakesLineTail p front x.row back tail (behind_document k c) → length front ≡ x.before →
+    (t : List ℕ) (c : Cut) (k : ℕ) (p : Part) (steps : List Step) (s : Step) (x : RowLine) (front back : List Row) (tail : List ℕ) → IsDocumentPart t c k p →
+    row_line_of (steps ++ (s ∷ [])) p.rows ≡ Some x → x.line ≡ length x.row.dashes → TakesLineTail p front x.row back tail (behind_document k c) → length front ≡ x.before →
     IsReadable (cut_text (put_document k (inserted front (tailed tail x.row ∷ []) back p) c)) →
     IsChanged c (put_document k (inserted front (tailed tail x.row ∷ []) back p) c) k (lead_of p) (change steps (within (relabel_child s (with_line_comment (line_comment tail)))))

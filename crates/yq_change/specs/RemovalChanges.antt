@@ -5,7 +5,7 @@ use Rattle.yq_scalar.specs.Paths.{Step, node_at, remove_child}
 use Rattle.yq_scalar.specs.Text.{joined, lines_of as text_lines}
 use Rattle.yq_scalar.specs.Tree.{Node}
 use Rattle.yq_scalar.specs.Anchors.{names_of}
-use Rattle.yq_lines.specs.Places.{Found}
+use Rattle.yq_lines.specs.Places.{FoundLine}
 use Rattle.yq_rows.specs.Rows.{Part, Cut, cut_text}
 use Rattle.yq_documents.specs.Documents.{document_parts, lead_of}
 use Rattle.yq_places.specs.FirstPlaces.{FirstOut, first_removal}
@@ -15,16 +15,16 @@ use Rattle.yq_documents.specs.TreeEdits.{at_end}
 use Rattle.yq_change.specs.Changed.{IsChanged, KeepsRows, put_document}
 use Rattle.yq_change.specs.Conditions.{AreSpared}
 use Rattle.yq_change.specs.DocumentRows.{IsDocumentPart}
-use Rattle.yq_change.specs.EntryRows.{HasRows}
+use Rattle.yq_change.specs.EntryRows.{HasWholeRows}
 use Rattle.yq_change.specs.Rooms.{is_block_root}
 use Rattle.yq_change.specs.Siblings.{HasEntries, IsEntryAt, NodeLines}
 
 -- An item or entry to which a path leads has these rows as its own.
 pub record HasOwnRows (p : Part) (steps : List Step) (s : Step) (x : OwnRows) : Type 0 where
   pub h : NodeLines
-  pub f : Found
+  pub f : FoundLine
   pub entry : IsEntryAt steps s (outline_of p) h f
-  pub rows : HasRows p h f x.front x.own x.back
+  pub rows : HasWholeRows p h f x.front x.own x.back
 
 -- The rows that are found for an item or entry are its own.
 abbrev pub OwnRowsStand : Type 0

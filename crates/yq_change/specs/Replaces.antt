@@ -5,7 +5,7 @@ use Rattle.yq_scalar.specs.Tree.{Node}
 use Rattle.yq_scalar.specs.Anchors.{names_of}
 use Rattle.yq_lines.specs.LineAnchors.{HaveOneAnchorEach}
 use Rattle.yq_lines.specs.Outline.{Line, Outline, flatten}
-use Rattle.yq_lines.specs.Places.{lines_before, plug, Found, find, content}
+use Rattle.yq_lines.specs.Places.{lines_before, plug, FoundLine, find, content}
 use Rattle.yq_inline.specs.Alike.{Alike}
 use Rattle.yq_rows.specs.Exchange.{allows_first, asked_behind}
 use Rattle.yq_rows.specs.Grammar.{unlimited, AreRows, IsCut, no_rows}
@@ -44,7 +44,7 @@ DocumentReplaced =
     IsCut (cut_text (put_document k (put_rows front new back gap p) c)) (put_document k (put_rows front new back gap p) c)
 
 -- Behind the lines x of dashes, which stay, the lines y of a node give way to a line and those under it.
-pub record TakesLines (f : Found) (front gone new : List Row) (x y : List Line) (l : Line) (u : Outline) : Type 0 where
+pub record TakesLines (f : FoundLine) (front gone new : List Row) (x y : List Line) (l : Line) (u : Outline) : Type 0 where
   pub before_are : length (lines_of front) + length x ≡ length (lines_before f.place)
   pub old_lines : lines_of gone ≡ x ++ y
   pub size_is : length y ≡ length (f.line ∷ flatten f.under)
@@ -55,7 +55,7 @@ pub record TakesLines (f : Found) (front gone new : List Row) (x y : List Line) 
 -- The node of an item or entry at a path is replaced: what is written inline or in rows, by either of these.
 abbrev pub NodeRowsReplaced : Type 0
 NodeRowsReplaced =
-    (t : List ℕ) (c : Cut) (k : ℕ) (p : Part) (s : Step) (ss : List Step) (f : Found) (v : Node) (front gone new back : List Row) (x y : List Line) (m : ℕ) (l : Line) (u : Outline) →
+    (t : List ℕ) (c : Cut) (k : ℕ) (p : Part) (s : Step) (ss : List Step) (f : FoundLine) (v : Node) (front gone new back : List Row) (x y : List Line) (m : ℕ) (l : Line) (u : Outline) →
     IsDocumentPart t c k p → find s ss (outline_of p) ≡ Some (f, []) → RowsReplace front gone new back (first_gap back p.end) p (behind_document k c) →
     TakesLines f front gone new x y l u → LineFits [] f (replaced v) m l u → MayReplace v (content f.line f.under) (root_of p) (length (s ∷ ss)) →
     IsReadable (cut_text (put_document k (inserted front new back p) c)) → IsChanged c (put_document k (inserted front new back p) c) k (lead_of p) (change (s ∷ ss) (replaced v))
@@ -88,7 +88,7 @@ RootRowsReplaced =
 -- The first item or entry of a compact collection is removed: the next one's row b stands behind the dash.
 abbrev pub FirstRowMoved : Type 0
 FirstRowMoved =
-    (t : List ℕ) (c : Cut) (k : ℕ) (p : Part) (steps : List Step) (s : Step) (h : NodeLines) (f : Found) (front gone back : List Row) (r b : Row) (n : ℕ) (ns es : List ℕ) → IsDocumentPart t c k p →
+    (t : List ℕ) (c : Cut) (k : ℕ) (p : Part) (steps : List Step) (s : Step) (h : NodeLines) (f : FoundLine) (front gone back : List Row) (r b : Row) (n : ℕ) (ns es : List ℕ) → IsDocumentPart t c k p →
     IsEntryAt steps s (outline_of p) h f → HasEntries (plug f.place f.after) →
     RowsReplace front (r ∷ (gone ++ (b ∷ []))) (moved_up r (n ∷ ns) b ∷ []) back (first_gap back p.end) p (behind_document k c) → MovesUp r b n ns es →
     AreCounted h f (length (lines_of front) + length (n ∷ ns)) (length (lines_from [] b.column es r.mark r.content ++ lines_of gone)) →
@@ -98,7 +98,7 @@ FirstRowMoved =
 -- The same where nothing but a tail stays behind the dash, and the next one's row keeps its place below it.
 abbrev pub FirstRowDropped : Type 0
 FirstRowDropped =
-    (t : List ℕ) (c : Cut) (k : ℕ) (p : Part) (steps : List Step) (s : Step) (h : NodeLines) (f : Found) (front gone back : List Row) (r : Row) (n : ℕ) (ns es tail : List ℕ) → IsDocumentPart t c k p →
+    (t : List ℕ) (c : Cut) (k : ℕ) (p : Part) (steps : List Step) (s : Step) (h : NodeLines) (f : FoundLine) (front gone back : List Row) (r : Row) (n : ℕ) (ns es tail : List ℕ) → IsDocumentPart t c k p →
     IsEntryAt steps s (outline_of p) h f → HasEntries (plug f.place f.after) → RowsReplace front (r ∷ gone) (emptied r ns tail ∷ []) back (first_gap back p.end) p (behind_document k c) →
     StaysEmpty r n ns es tail →
     AreCounted h f (length (lines_of front) + length (ns ++ (n ∷ []))) (length (lines_from [] (behind_columns r.column (ns ++ (n ∷ []))) es r.mark r.content ++ lines_of gone)) →

@@ -8,7 +8,7 @@ use Rattle.yq_documents.specs.Documents.{lead_of}
 use Rattle.yq_walk.specs.Lines.{head_of, lines_of}
 use Rattle.yq_documents.specs.Reading.{outline_of, root_of}
 use Rattle.yq_documents.specs.Ready.{begins_no_node}
-use Rattle.yq_documents.specs.Seats.{seat_of, seat_has_room}
+use Rattle.yq_documents.specs.LinesInRows.{row_line_of, row_line_has_room}
 use Rattle.yq_documents.specs.TreeEdits.{lead_by}
 use Rattle.yq_change.specs.Siblings.{HasEntries}
 
@@ -33,8 +33,8 @@ abbrev pub KeptLeadGoes : Type 0
 KeptLeadGoes = (p q : Part) → lead_of q ≡ lead_of p → (is_block_root p ≡ true → children_of (root_of q) ≡ none) → LeadGoes p q
 
 -- two parts have room for comments at the same paths
-abbrev pub SameSeats : Part → Part → Type 0
-SameSeats p q = (part : places.Part) (steps : List Step) → seat_has_room part (seat_of steps q.rows) ≡ seat_has_room part (seat_of steps p.rows)
+abbrev pub EqualRoom : Part → Part → Type 0
+EqualRoom p q = (part : places.Part) (steps : List Step) → row_line_has_room part (row_line_of steps q.rows) ≡ row_line_has_room part (row_line_of steps p.rows)
 
 -- What is told of a row beside its gap and its content: its column, its dashes, its mark, and whether it has a head.
 pub record RowShape : Type 0 where
@@ -48,5 +48,5 @@ abbrev pub row_shape : Row → RowShape
 row_shape r = record { column = r.column; dashes = r.dashes; mark = r.mark; headed = is_some (head_of r.content) }
 
 -- Rows of the same shapes have room for the same comments, and their roots are both block or both none.
-abbrev pub ShapeTells : Type 0
-ShapeTells = (p q : Part) → map row_shape q.rows ≡ map row_shape p.rows → SameSeats p q × (is_block_root q ≡ is_block_root p)
+abbrev pub ShapesAgree : Type 0
+ShapesAgree = (p q : Part) → map row_shape q.rows ≡ map row_shape p.rows → EqualRoom p q × (is_block_root q ≡ is_block_root p)

@@ -3,7 +3,7 @@ use Rattle.std.specs.Prelude.{◌≡◌, ℕ, ◌+◌, List, [], ◌∷◌, ◌+
 use Rattle.yq_scalar.specs.Block.{BlockText}
 use Rattle.yq_scalar.specs.Paths.{Step, change, relabel_child, within}
 use Rattle.yq_lines.specs.Comments.{line_comment}
-use Rattle.yq_lines.specs.Places.{Found}
+use Rattle.yq_lines.specs.Places.{FoundLine}
 use Rattle.yq_rows.specs.Exchange.{allows_first, asked_behind, with_content}
 use Rattle.yq_rows.specs.Grammar.{unlimited, limit_after}
 use Rattle.yq_rows.specs.Rows as rows
@@ -44,7 +44,7 @@ pub record SpellsAlike (mark : rows.Mark) (old new : Content) : Type 0 where
 -- The line comment of an item or entry is set, where its line is the last of its row: the row gets a content that spells the same.
 abbrev pub ContentCommented : Type 0
 ContentCommented =
-    (t : List ℕ) (c : Cut) (k : ℕ) (p : Part) (steps : List Step) (s : Step) (h : NodeLines) (f : Found) (front back : List Row) (r : Row) (new : Content) → IsDocumentPart t c k p →
+    (t : List ℕ) (c : Cut) (k : ℕ) (p : Part) (steps : List Step) (s : Step) (h : NodeLines) (f : FoundLine) (front back : List Row) (r : Row) (new : Content) → IsDocumentPart t c k p →
     IsEntryAt steps s (outline_of p) h f → TakesRow p front r (with_content new r) back (behind_document k c) → SpellsAlike r.mark r.content new →
     length (lines_of front) + length r.dashes ≡ line_number h f → IsReadable (cut_text (put_document k (inserted front (with_content new r ∷ []) back p) c)) →
     IsChanged c (put_document k (inserted front (with_content new r ∷ []) back p) c) k (lead_of p) (change steps (within (relabel_child s (with_line_comment (line_comment (tail_of new))))))
@@ -56,7 +56,7 @@ with_header_tail tail space anchor block = Block space anchor (record block { ta
 -- The line comment of a block scalar is set: its header gets another tail.
 abbrev pub BlockCommented : Type 0
 BlockCommented =
-    (t : List ℕ) (c : Cut) (k : ℕ) (p : Part) (steps : List Step) (s : Step) (h : NodeLines) (f : Found) (front back : List Row) (r : Row) (space : List ℕ) (anchor : Option rows.Anchor) (block : BlockText)
+    (t : List ℕ) (c : Cut) (k : ℕ) (p : Part) (steps : List Step) (s : Step) (h : NodeLines) (f : FoundLine) (front back : List Row) (r : Row) (space : List ℕ) (anchor : Option rows.Anchor) (block : BlockText)
     (tail : List ℕ) → IsDocumentPart t c k p → IsEntryAt steps s (outline_of p) h f → r.content ≡ Block space anchor block →
     TakesRow p front r (with_content (with_header_tail tail space anchor block) r) back (behind_document k c) →
     length (lines_of front) + length r.dashes ≡ line_number h f →

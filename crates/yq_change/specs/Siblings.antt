@@ -5,7 +5,7 @@ use Rattle.yq_scalar.specs.Tree.{Label, Node, Children}
 use Rattle.yq_lines.specs.Group.{level_or}
 use Rattle.yq_lines.specs.Laws.{with_lines}
 use Rattle.yq_lines.specs.Outline.{Mark, Bare, Key, Dash, Line, level, Outline, end, row, flatten, IsOpen, IsEven, anchored, label, children, value, Stands}
-use Rattle.yq_lines.specs.Places.{Place, here, below, plug, lines_before, lines_after, compose, Found, find_row, find, content}
+use Rattle.yq_lines.specs.Places.{Context, here, below, plug, lines_before, lines_after, compose, FoundLine, find_row, find, content}
 
 -- an outline with another one behind it
 abbrev pub append_outline : Outline → Outline → Outline
@@ -25,17 +25,17 @@ HasEntries (row l under after) = IsEntry l.mark
 
 -- The lines of a node: their place in an outline, the level that they are deeper than, the anchor in the line above, and their outline.
 pub record NodeLines : Type 0 where
-  pub place : Place
+  pub place : Context
   pub above : ℕ
   pub anchor : Option (List ℕ)
   pub lines : Outline
 
 -- the lines under a line that was found
-abbrev pub under_line : Found → NodeLines
+abbrev pub under_line : FoundLine → NodeLines
 under_line f = record { place = compose f.place (below f.line here f.after); above = level f.line; anchor = f.line.anchor; lines = f.under }
 
 -- the same where that line has no head and no steps are left
-abbrev pub lines_below : Option Node → List Step → Found → Option NodeLines
+abbrev pub lines_below : Option Node → List Step → FoundLine → Option NodeLines
 lines_below None [] f = Some (under_line f)
 lines_below None (s ∷ ss) f = None
 lines_below (Some n) ss f = None
@@ -59,7 +59,7 @@ pub record IsCollectionAt (steps : List Step) (o : Outline) (h : NodeLines) : Ty
   pub block : HasEntries h.lines
 
 -- An item or entry of the block collection at a path, to which a step leads (8.2).
-pub record IsEntryAt (steps : List Step) (s : Step) (o : Outline) (h : NodeLines) (f : Found) : Type 0 where
+pub record IsEntryAt (steps : List Step) (s : Step) (o : Outline) (h : NodeLines) (f : FoundLine) : Type 0 where
   pub place_is : lines_at steps o ≡ Some h
   pub block : HasEntries h.lines
   pub found : find_row s h.lines ≡ Some f
@@ -106,13 +106,13 @@ Appended =
 -- Without the lines of one of several items or entries of the collection at a path, lines stand for the tree without that one.
 abbrev pub Removed : Type 0
 Removed =
-    (n : ℕ) (o : Outline) (steps : List Step) (h : NodeLines) (s : Step) (f : Found) → IsEven n o → IsEntryAt steps s o h f → HasEntries (plug f.place f.after) →
+    (n : ℕ) (o : Outline) (steps : List Step) (h : NodeLines) (s : Step) (f : FoundLine) → IsEven n o → IsEntryAt steps s o h f → HasEntries (plug f.place f.after) →
     (flatten o ≡ put_lines h (with_lines f (f.line ∷ flatten f.under))) ×
     StandsSomewhere (put_lines h (with_lines f [])) (change steps (within (remove_child s)) (value o))
 
 -- With another head comment or line comment of an item or entry of the collection at a path, lines stand for the tree with that one.
 abbrev pub Relabelled : Type 0
 Relabelled =
-    (n : ℕ) (o : Outline) (steps : List Step) (h : NodeLines) (s : Step) (f : Found) (g : Label → Label) (l : Line) → IsEven n o → IsEntryAt steps s o h f → IsRelabelled g f.line l →
+    (n : ℕ) (o : Outline) (steps : List Step) (h : NodeLines) (s : Step) (f : FoundLine) (g : Label → Label) (l : Line) → IsEven n o → IsEntryAt steps s o h f → IsRelabelled g f.line l →
     (flatten o ≡ put_lines h (with_lines f (f.line ∷ flatten f.under))) ×
     StandsSomewhere (put_lines h (with_lines f (l ∷ flatten f.under))) (change steps (within (relabel_child s g)) (value o))

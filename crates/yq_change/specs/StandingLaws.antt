@@ -5,7 +5,7 @@ use Rattle.yq_scalar.specs.Tree.{Node}
 use Rattle.yq_inline.specs.Trees.{items_tree}
 use Rattle.yq_lines.specs.Counts.{count}
 use Rattle.yq_lines.specs.Outline.{flatten}
-use Rattle.yq_lines.specs.Places.{Found, find, lines_before}
+use Rattle.yq_lines.specs.Places.{FoundLine, find, lines_before}
 use Rattle.yq_rows.specs.Rows.{Cut, Part, cut_text, part_text}
 use Rattle.yq_documents.specs.Documents.{document_parts}
 use Rattle.yq_walk.specs.Lines.{lines_of}
@@ -15,7 +15,7 @@ use Rattle.yq_places.specs.RemovalPlaces.{has_others_at}
 use Rattle.yq_change.specs.Changed.{put_document}
 use Rattle.yq_change.specs.DocumentRows.{IsDocumentPart, behind_document}
 use Rattle.yq_change.specs.TextPieces.{IsPiece}
-use Rattle.yq_places.specs.Standings.{PlacedEntry, FlowPart, Held, Standing, placed_entry, flow_standing, held, last_step, standing_at}
+use Rattle.yq_places.specs.Standings.{RowsOfEntry, FlowPart, Held, Standing, rows_of_entry, flow_standing, held, last_step, standing_at}
 
 -- ---- there is something
 
@@ -27,15 +27,15 @@ RootsStand = (n : ℕ) (c : Cut) (p : Part) → slice_get (document_parts c) n �
 abbrev pub EntriesStand : Type 0
 EntriesStand =
     (n : ℕ) (s : Step) (ss : List Step) (c : Cut) (v : Node) → read_at (cut_text c) ≡ Some c → node_in n (s ∷ ss) c ≡ Some v →
-    ((e : PlacedEntry) × (placed_entry n (s ∷ ss) c ≡ Some e)) ⊎ ((x : FlowPart) × (flow_standing n c (last_step (s ∷ ss)) ≡ Some x) × (has_others_at n (s ∷ ss) c ≡ nat_lt 1 (count (items_tree x.collection.items))))
+    ((e : RowsOfEntry) × (rows_of_entry n (s ∷ ss) c ≡ Some e)) ⊎ ((x : FlowPart) × (flow_standing n c (last_step (s ∷ ss)) ≡ Some x) × (has_others_at n (s ∷ ss) c ≡ nat_lt 1 (count (items_tree x.collection.items))))
 
 -- ---- rows in their document
 
 -- The rows of an item or entry are those of the line to which steps lead in document n, with the lines under it.
-pub record StandsThere (n : ℕ) (s : Step) (ss : List Step) (c : Cut) (e : PlacedEntry) : Type 0 where
+pub record StandsThere (n : ℕ) (s : Step) (ss : List Step) (c : Cut) (e : RowsOfEntry) : Type 0 where
   pub part : Part
   pub old : IsDocumentPart (cut_text c) c n part
-  pub found : Found
+  pub found : FoundLine
   pub is : find s ss (outline_of part) ≡ Some (found, [])
   pub rows_are : part.rows ≡ e.front ++ (e.row ∷ (e.under ++ e.back))
   pub end_is : e.end ≡ part.end
@@ -47,7 +47,7 @@ pub record StandsThere (n : ℕ) (s : Step) (ss : List Step) (c : Cut) (e : Plac
 -- Rows that are found stand so.
 abbrev pub RowsStand : Type 0
 RowsStand =
-    (n : ℕ) (s : Step) (ss : List Step) (c : Cut) (e : PlacedEntry) → read_at (cut_text c) ≡ Some c → placed_entry n (s ∷ ss) c ≡ Some e →
+    (n : ℕ) (s : Step) (ss : List Step) (c : Cut) (e : RowsOfEntry) → read_at (cut_text c) ≡ Some c → rows_of_entry n (s ∷ ss) c ≡ Some e →
     StandsThere n s ss c e
 
 -- ---- what a key or dash holds
@@ -70,6 +70,6 @@ pub record HoldsPieces (h : Held) : Type 0 where
 -- The pieces of what the key or dash of rows holds spell the text, where its line is the last one of its row.
 abbrev pub HeldSpells : Type 0
 HeldSpells =
-    (n : ℕ) (s : Step) (ss : List Step) (c : Cut) (e : PlacedEntry) → read_at (cut_text c) ≡ Some c → placed_entry n (s ∷ ss) c ≡ Some e →
+    (n : ℕ) (s : Step) (ss : List Step) (c : Cut) (e : RowsOfEntry) → read_at (cut_text c) ≡ Some c → rows_of_entry n (s ∷ ss) c ≡ Some e →
     e.line ≡ length e.row.dashes →
     (cut_text c ≡ held_text (held e)) × HoldsPieces (held e)

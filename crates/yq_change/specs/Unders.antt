@@ -3,14 +3,14 @@ use Rattle.std.specs.Prelude.{◌≡◌, ℕ, ◌+◌, List, [], ◌∷◌, ◌+
 use Rattle.yq_scalar.specs.Paths.{Step}
 use Rattle.yq_inline.specs.Nodes as inline
 use Rattle.yq_lines.specs.Outline.{flatten}
-use Rattle.yq_lines.specs.Places.{lines_before, Found, find}
+use Rattle.yq_lines.specs.Places.{lines_before, FoundLine, find}
 use Rattle.yq_rows.specs.Rows.{Content, Inline, Row, Part}
 use Rattle.yq_walk.specs.Lines.{lines_of}
 use Rattle.yq_documents.specs.Reading.{outline_of}
 
 -- Steps lead to an item or entry whose line is that of a row's mark, with these rows under it, between others in front and others behind.
 pub record HasUnder (p : Part) (s : Step) (ss : List Step) (front : List Row) (r : Row) (under back : List Row) : Type 0 where
-  pub found : Found
+  pub found : FoundLine
   pub is : find s ss (outline_of p) ≡ Some (found, [])
   pub rows_are : p.rows ≡ front ++ (r ∷ (under ++ back))
   pub number : length (lines_of front) + length r.dashes ≡ length (lines_before found.place)

@@ -5,7 +5,7 @@ ghost use Rattle.yq_change.specs.Ends.{EndAppended};
 ghost use Rattle.yq_change.specs.Heads.{HeadCommented};
 ghost use Rattle.yq_change.specs.Contents.{LowerContentReplaced, RootContentReplaced};
 ghost use Rattle.yq_change.specs.DocumentRows.{DocumentKnown, DocumentSpliced, PartNumbered, RowsPut};
-ghost use Rattle.yq_change.specs.Remarks.{LineCommented};
+ghost use Rattle.yq_change.specs.LineComments.{LineCommented};
 ghost use Rattle.yq_change.specs.PathRows.{PathHeadCommented, PathIsEntry, PathLineCommented};
 ghost use Rattle.yq_change.specs.PathTails.{PathTailPut};
 ghost use Rattle.yq_change.specs.PlacedParts.{DocumentStandsAt};
@@ -15,7 +15,7 @@ ghost use Rattle.yq_change.specs.FlowKept.{FlowKeys, FlowRooms, LeftKeys};
 ghost use Rattle.yq_change.specs.FlowRows.{FlowEdited, FlowFound, FlowStands, RowTexts};
 ghost use Rattle.yq_change.specs.Replaces.{DocumentReplaced, DocumentRooted, FirstRowDropped, FirstRowMoved, NodeRowsReplaced, RootRowsReplaced};
 ghost use Rattle.yq_change.specs.LineFronts.{CleanCut, LineEndsClean};
-ghost use Rattle.yq_change.specs.LineRows.{EntriesApart, EvenClosed, LinesApart, RowBegins, SeatSplits};
+ghost use Rattle.yq_change.specs.LineRows.{EntriesApart, EvenClosed, LinesApart, RowBegins, RowLineSplits};
 
 /// Rows of a document exchanged, by the document's number among the parts.
 pub fn rows_put()
@@ -27,7 +27,7 @@ pub fn rows_put()
 
 /// Lines by their rows.
 pub fn lines_in_rows()
-    ensures seats { SeatSplits }
+    ensures equal_room { RowLineSplits }
     ensures begins { RowBegins }
     ensures lines { LinesApart }
     ensures entries { EntriesApart }

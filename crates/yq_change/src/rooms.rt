@@ -1,6 +1,6 @@
 //! Laws on leads, on the room for comments, and on pieces of texts.
 ghost use Rattle.yq_change.specs.DocumentItems.{DocumentHasItems};
-ghost use Rattle.yq_change.specs.Rooms.{BlockLeadGoes, KeptLeadGoes, SameLeadGoes, ShapeTells};
+ghost use Rattle.yq_change.specs.Rooms.{BlockLeadGoes, KeptLeadGoes, SameLeadGoes, ShapesAgree};
 ghost use Rattle.yq_change.specs.TextPieces.{ByteCut, LineCut, PiecesJoined, TextIsPiece};
 
 /// The lead of a part goes with its root.
@@ -11,8 +11,8 @@ pub fn lead_goes()
 {}
 
 /// Rows of the same shapes leave the room for comments as it was.
-pub fn shapes_tell()
-    ensures { ShapeTells }
+pub fn shapes_agree()
+    ensures { ShapesAgree }
 {}
 
 /// Pieces of a text can be joined, and a text cut into pieces.

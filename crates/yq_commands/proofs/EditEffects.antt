@@ -11,9 +11,9 @@ use Rattle.yq_journal.specs.Refusals.{most_records, no_way}
 use Rattle.yq_journal.specs.State.{State, moved, moved_text, opened}
 use Rattle.yq_history.specs.declared.fault.Fault.{Fault}
 use Rattle.yq_history.specs.declared.fault.Fault.TheVariants as fault
-use Rattle.yq_store.specs.Content.{Content}
-use Rattle.yq_commands.specs.CommandEffects.{edit_effect, edit_leaves, update_effect}
-use Rattle.yq_history.specs.Effects.{Effect, refuses, writes_nothing, from_pair, goes_to, walk_effect, Works}
+use Rattle.yq_store.specs.FileMap.{FileMap}
+use Rattle.yq_commands.specs.CommandEffects.{edit_effect, edit_writes, update_effect}
+use Rattle.yq_history.specs.Effects.{Effect, refuses, writes_nothing, from_pair, goes_to, move_effect, Works}
 use Rattle.yq_commands.specs.Editing.{EditOutcome, unreadable, refused, edited, Refuses, program_in, edits}
 use Rattle.yq_commands.specs.Edits.{edit_record}
 use Rattle.yq_history.specs.Faults.{is_outside}
@@ -25,26 +25,26 @@ use Rattle.yq_history.proofs.MoveLaws.{IsMove, bytes_differ}
 inside_memory : {P : Type 0} (e : Fault) → is_outside e ≡ false → (e ≢ fault.OutOfMemory → P) → P
 inside_memory e out why = why (λ memory. let bad : false ≡ true = sym out ∙ ap is_outside memory in cc)
 
-module _ (f j : List ℕ) (c : Content) (expr : List ℕ) (s : State) (t : List ℕ) where
-  tells_why : (T : Type 0) (o : EditOutcome) (e : Fault) → Refuses o e → Works (edit_effect expr o t s) f j c c {T = T} (Err e)
-  tells_why T (unreadable old) e why = (elim (is_outside e) as (λ b. MatchBool b (Unit {0}) (Refuses (unreadable old) e)) [ true ↦ tt | false ↦ why ], refl)
-  tells_why T (refused x) e why = works_refused T (refuses (named x)) f j c e (ap (λ y. refuses (named y)) (sym why))
-  tells_why T (edited u cs) e why = absurd why
+module _ (f j : List ℕ) (c : FileMap) (expr : List ℕ) (s : State) (t : List ℕ) where
+  reports_why : (T : Type 0) (o : EditOutcome) (e : Fault) → Refuses o e → Works (edit_effect expr o t s) f j c c {T = T} (Err e)
+  reports_why T (unreadable old) e why = (elim (is_outside e) as (λ b. MatchBool b (Unit {0}) (Refuses (unreadable old) e)) [ true ↦ tt | false ↦ why ], refl)
+  reports_why T (refused x) e why = works_refused T (refuses (named x)) f j c e (ap (λ y. refuses (named y)) (sym why))
+  reports_why T (edited u cs) e why = absurd why
 
   -- the edit was refused
-  pub edit_not_made : (o : EditOutcome) {T : Type 0} (r : Result T Fault) (e : Fault) → r ≡ Err e → (e ≢ fault.OutOfMemory → Refuses o e) → Works (edit_effect expr o t s) f j c c r
-  edit_not_made o {T = T} r e is why =
+  pub edit_fails : (o : EditOutcome) {T : Type 0} (r : Result T Fault) (e : Fault) → r ≡ Err e → (e ≢ fault.OutOfMemory → Refuses o e) → Works (edit_effect expr o t s) f j c c r
+  edit_fails o {T = T} r e is why =
       subst (Works (edit_effect expr o t s) f j c c) (sym is)
       (elim (is_outside e) as (λ b. is_outside e ≡ b → Works (edit_effect expr o t s) f j c c {T = T} (Err e)) [
         | true ↦ λ out. works_outside T (edit_effect expr o t s) f j c e out
-        | false ↦ λ out. tells_why T o e (inside_memory e out why)
+        | false ↦ λ out. reports_why T o e (inside_memory e out why)
       ] refl)
 
   -- the effect of an edit to another text, by whether the texts are equal and the journal has no room
   abbrev by_tests : List ℕ → List Splice → Bool → Bool → Effect
   by_tests u cs equal full =
       if equal then writes_nothing []
-      else if full then refuses (named fault.JournalFull) else edit_leaves (edit_record expr cs (length t) (length u)) t u s
+      else if full then refuses (named fault.JournalFull) else edit_writes (edit_record expr cs (length t) (length u)) t u s
 
   -- the edited text is the old one: nothing is written
   pub edit_equal_works : (o : EditOutcome) (u : List ℕ) (cs : List Splice) {T : Type 0} (v : T) → o ≡ edited u cs → u ≡ t → Works (edit_effect expr o t s) f j c c {T = T} (Ok v)
@@ -57,20 +57,20 @@ module _ (f j : List ℕ) (c : Content) (expr : List ℕ) (s : State) (t : List 
   module _ (u : List ℕ) (cs : List Splice) (edit : Record) (is_edit : edit ≡ edit_record expr cs (length t) (length u)) where
     by_room : (full : Bool) → by_tests u cs false full ≡ goes_to (if full then Some journal.JournalFull else None) (Some u) (opened s (move.Edit edit) t) (moved s (move.Edit edit))
     by_room true = refl
-    by_room false = ap (λ r. edit_leaves r t u s) (sym is_edit)
+    by_room false = ap (λ r. edit_writes r t u s) (sym is_edit)
 
-    edit_moves : (o : EditOutcome) → o ≡ edited u cs → u ≢ t → moved_text s.records s.at (move.Edit edit) t ≡ Some u → edit_effect expr o t s ≡ walk_effect (move.Edit edit) t s
+    edit_moves : (o : EditOutcome) → o ≡ edited u cs → u ≢ t → moved_text s.records s.at (move.Edit edit) t ≡ Some u → edit_effect expr o t s ≡ move_effect (move.Edit edit) t s
     edit_moves o is changes leads =
         ap (λ x. edit_effect expr x t s) is
         ∙ ap (λ b. by_tests u cs b (nat_le most_records s.at)) (bytes_differ u t changes)
         ∙ by_room (nat_le most_records s.at)
         ∙ ap (λ m. goes_to (no_way s.records s.at (move.Edit edit)) m (opened s (move.Edit edit) t) (moved s (move.Edit edit))) (sym leads)
 
-    pub edit_works : (o : EditOutcome) (d : Content) {T : Type 0} (r : Result T Fault) → o ≡ edited u cs → u ≢ t → IsMove c d f j s t u (move.Edit edit) r → Works (edit_effect expr o t s) f j c d r
+    pub edit_works : (o : EditOutcome) (d : FileMap) {T : Type 0} (r : Result T Fault) → o ≡ edited u cs → u ≢ t → IsMove c d f j s t u (move.Edit edit) r → Works (edit_effect expr o t s) f j c d r
     edit_works o d r is changes m = subst (λ x. Works x f j c d r) (sym (edit_moves o is changes m.leads)) (works_carried f j c d s t u (move.Edit edit) r m)
 
 -- an expression that has no program
-pub not_parsed : (f j : List ℕ) (c : Content) (expr : List ℕ) (file journal : Option (List ℕ)) {T : Type 0} (r : Result T Fault) (e : Fault) →
+pub not_parsed : (f j : List ℕ) (c : FileMap) (expr : List ℕ) (file journal : Option (List ℕ)) {T : Type 0} (r : Result T Fault) (e : Fault) →
     r ≡ Err e → (e ≢ fault.OutOfMemory → program_in expr ≡ Err e) → Works (update_effect expr (program_in expr) file journal) f j c c r
 not_parsed f j c expr file journal {T = T} r e is why =
     subst (Works (update_effect expr (program_in expr) file journal) f j c c) (sym is)
@@ -80,6 +80,6 @@ not_parsed f j c expr file journal {T = T} r e is why =
     ] refl)
 
 -- one that has
-pub parsed_works : (f j : List ℕ) (c d : Content) (expr : List ℕ) (p : Program) (file journal : Option (List ℕ)) {T : Type 0} (r : Result T Fault) →
+pub parsed_works : (f j : List ℕ) (c d : FileMap) (expr : List ℕ) (p : Program) (file journal : Option (List ℕ)) {T : Type 0} (r : Result T Fault) →
     program_in expr ≡ Ok p → Works (from_pair file journal (λ t s. edit_effect expr (edits p t) t s)) f j c d r → Works (update_effect expr (program_in expr) file journal) f j c d r
 parsed_works f j c d expr p file journal r is works = subst (λ x. Works (update_effect expr x file journal) f j c d r) (sym is) works

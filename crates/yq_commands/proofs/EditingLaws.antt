@@ -3,11 +3,11 @@ use Rattle.std.proofs.Common.{◌≡◌, ◌≢◌, ℕ, List, true, false, if�
 use Rattle.std.specs.Str.{is_utf8}
 use Rattle.yq_scalar.specs.declared.ReadFault.{ReadFault}
 use Rattle.yq_scalar.specs.declared.fault.FaultKind.TheVariants.{NotUtf8}
-use Rattle.yq_documents.specs.Reading.{read_at, text_at}
+use Rattle.yq_documents.specs.Reading.{read_at, checked_at}
 use Rattle.yq_program.specs.Program.{Program}
 use Rattle.yq_splice.specs.Carried.{edit_of, program_done}
 use Rattle.yq_splice.specs.Edit.{by_reading}
-use Rattle.yq_splice.specs.Answers.{Fails}
+use Rattle.yq_splice.specs.Answers.{EditFails}
 use Rattle.yq_splice.specs.declared.edit_error.EditError.{EditError}
 use Rattle.yq_splice.specs.declared.edit_error.EditError.TheVariants as error
 use Rattle.yq_history.specs.declared.fault.Fault.{Fault}
@@ -19,7 +19,7 @@ use Rattle.yq_commands.specs.CommandFaults.{of_edit, of_refusal}
 -- bytes that are no UTF-8
 pub not_read : (t : List ℕ) → is_utf8 t ≡ false → read_at t ≡ None
 unfolding read_at
-not_read t is = ap (λ b. if b then text_at t else None) is
+not_read t is = ap (λ b. if b then checked_at t else None) is
 
 -- nothing is made of them
 unread : (p : Program) (t : List ℕ) → read_at t ≡ None → edits p t ≡ unreadable t
@@ -27,20 +27,20 @@ unfolding edits edit_of
 unread p t is = ap (λ o. outcome_of t (by_reading (λ c. program_done p t) o)) is
 
 pub unread_refuses : (p : Program) (t : List ℕ) (e : Fault) → read_at t ≡ None → IsUnreadable t e → Refuses (edits p t) e
-unread_refuses p t e none tells = subst (λ o. Refuses o e) (sym (unread p t none)) tells
+unread_refuses p t e none reports = subst (λ o. Refuses o e) (sym (unread p t none)) reports
 
 -- ---- whether a fault tells that they are no UTF-8
 
 -- of other bytes it tells that
-pub no_utf8_told : (t : List ℕ) (f : ReadFault) → is_utf8 t ≡ false → f.kind ≡ NotUtf8 → IsUnreadable t (Unreadable f)
-no_utf8_told t f other kind = (λ is. other, λ is. kind)
+pub no_utf8_fault : (t : List ℕ) (f : ReadFault) → is_utf8 t ≡ false → f.kind ≡ NotUtf8 → IsUnreadable t (Unreadable f)
+no_utf8_fault t f other kind = (λ is. other, λ is. kind)
 
 -- and of UTF-8 it doesn't
 pub unread_text : (t : List ℕ) (f : ReadFault) → is_utf8 t ≡ true → f.kind ≢ NotUtf8 → IsUnreadable t (Unreadable f)
 unread_text t f utf8 other = (λ is. absurd (other is), λ no. absurd (true≢false (sym utf8 ∙ no)))
 
 -- why a program is refused on a text
-pub edit_refuses : (p : Program) (s t : List ℕ) (e : EditError) → s ≡ t → is_utf8 t ≡ true → Fails e (edit_of p s) → of_edit e ≢ OutOfMemory → Refuses (edits p t) (of_edit e)
+pub edit_refuses : (p : Program) (s t : List ℕ) (e : EditError) → s ≡ t → is_utf8 t ≡ true → EditFails e (edit_of p s) → of_edit e ≢ OutOfMemory → Refuses (edits p t) (of_edit e)
 unfolding edits
 edit_refuses p s t (error.Read f) same utf8 fails other = subst (λ o. Refuses (outcome_of t o) (Unreadable f)) (sym (ap (edit_of p) (sym same) ∙ fails.0)) (unread_text t f utf8 fails.1)
 edit_refuses p s t (error.Refused why) same utf8 fails other = subst (λ o. Refuses (outcome_of t o) (of_refusal why)) (sym (ap (edit_of p) (sym same) ∙ fails)) refl

@@ -21,46 +21,46 @@ pub parsed_free : {T : Type 0} (r : Result T Fault) (expr : List ℕ) (p : Progr
 parsed_free r expr p is f fault = absurd (none-some f (sym (ap fault_of is) ∙ fault))
 
 -- one that is none is refused for it
-pub unparsed_told : {T : Type 0} (r : Result T Fault) (expr : List ℕ) (e : Fault) → r ≡ Err e → (e ≢ OutOfMemory → program_in expr ≡ Err e) →
+pub unparsed_fault : {T : Type 0} (r : Result T Fault) (expr : List ℕ) (e : Fault) → r ≡ Err e → (e ≢ OutOfMemory → program_in expr ≡ Err e) →
     (f : Fault) → fault_of (program_in expr) ≡ Some f → IsUnparsed f r
-unparsed_told r expr e is why f fault =
+unparsed_fault r expr e is why f fault =
     subst (IsUnparsed f) (sym is) (λ other. same_Some e f (sym (ap fault_of (why other)) ∙ fault))
 
 -- ---- an accepted edit
 
 -- where an error is another one, what was given is the same
-pub given_still : {T D E : Type 0} (Q : T → Type 0) (R : E → Type 0) (r : Result T E) (s : Result T D) → MatchResult r (λ x. s ≡ Ok x) R → is_ok s ≡ is_ok r → IfOk r Q → IfOk s Q
-given_still Q R (Ok x) s is same given = subst (λ y. IfOk y Q) (sym is) given
-given_still Q R (Err e) (Ok x) is same given = absurd (true≢false same)
-given_still Q R (Err e) (Err d) is same given = tt
+pub still_holds : {T D E : Type 0} (Q : T → Type 0) (R : E → Type 0) (r : Result T E) (s : Result T D) → MatchResult r (λ x. s ≡ Ok x) R → is_ok s ≡ is_ok r → IfOk r Q → IfOk s Q
+still_holds Q R (Ok x) s is same holds = subst (λ y. IfOk y Q) (sym is) holds
+still_holds Q R (Err e) (Ok x) is same holds = absurd (true≢false same)
+still_holds Q R (Err e) (Err d) is same holds = tt
 
 -- of a text, by the contract of the edit
-pub text_made : (r : Result Edited EditError) (p : Program) (s t : List ℕ) → s ≡ t → Edits r (edit_of p s) →
+pub text_comes : (r : Result Edited EditError) (p : Program) (s t : List ℕ) → s ≡ t → Edits r (edit_of p s) →
     IfOk r (λ e. IsEdited p s (string_bytes e.text) e.splices.items) → IfOk r (λ e. IsTextEdited p t (string_bytes e.text))
-text_made (Ok e) p s t same exact edited =
+text_comes (Ok e) p s t same exact edited =
     subst (λ x. IsTextEdited p x (string_bytes e.text)) same (record { splices = e.splices.items; exact = exact; edited = edited })
-text_made (Err e) p s t same exact edited = tt
+text_comes (Err e) p s t same exact edited = tt
 
 pub text_same : (p : Program) (t u v : List ℕ) → IsTextEdited p t u → v ≡ u → IsTextEdited p t v
-text_same p t u v made same = subst (IsTextEdited p t) (sym same) made
+text_same p t u v edited_to same = subst (IsTextEdited p t) (sym same) edited_to
 
 -- it is there
-pub holds_made : (p : Program) (t u v : List ℕ) (new : Option (List ℕ)) → IsTextEdited p t u → v ≡ u → new ≡ Some v → HoldsEdited p t new
-holds_made p t u v new made same is = (u, is ∙ ap Some same, made)
+pub holds_comes : (p : Program) (t u v : List ℕ) (new : Option (List ℕ)) → IsTextEdited p t u → v ≡ u → new ≡ Some v → HoldsEdited p t new
+holds_comes p t u v new edited_to same is = (u, is ∙ ap Some same, edited_to)
 
 -- of a file
-pub file_made : {T : Type 0} (r : Result T Fault) (expr : List ℕ) (p : Program) (t : List ℕ) (old new : Option (List ℕ)) → program_in expr ≡ Ok p → old ≡ Some t →
+pub file_comes : {T : Type 0} (r : Result T Fault) (expr : List ℕ) (p : Program) (t : List ℕ) (old new : Option (List ℕ)) → program_in expr ≡ Ok p → old ≡ Some t →
     OnOk r (HoldsEdited p t new) → OnOk r (IsFileEdited expr old new)
-file_made (Ok v) expr p t old new is there made = record { program = p; parsed = is; text = t; old_is = there; new_is = made }
-file_made (Err e) expr p t old new is there made = tt
+file_comes (Ok v) expr p t old new is there edited_to = record { program = p; parsed = is; text = t; old_is = there; new_is = edited_to }
+file_comes (Err e) expr p t old new is there edited_to = tt
 
 same_program : (p q : Program) → ◌≡◌ {A = Result Program Fault} (Ok p) (Ok q) → p ≡ q
 same_program p q e = cc
 
 -- and of one that is printed
-pub printed_made : {T : Type 0} (r : Result T Fault) (expr : List ℕ) (p : Program) (old : Option (List ℕ)) (printed : List ℕ) → program_in expr ≡ Ok p →
+pub printed_comes : {T : Type 0} (r : Result T Fault) (expr : List ℕ) (p : Program) (old : Option (List ℕ)) (printed : List ℕ) → program_in expr ≡ Ok p →
     (is_read p ≡ false → OnOk r ((t : List ℕ) × (old ≡ Some t) × IsTextEdited p t printed)) → OnOk r (PrintsEdited expr old printed)
-printed_made (Ok v) expr p old printed is made = λ us again.
-    let x = made (ap is_read (same_program p (updates us) (sym is ∙ again))) in
+printed_comes (Ok v) expr p old printed is edited_to = λ us again.
+    let x = edited_to (ap is_read (same_program p (updates us) (sym is ∙ again))) in
     record { program = p; parsed = is; text = x.0; old_is = x.1; new_is = (printed, refl, x.2) }
-printed_made (Err e) expr p old printed is made = tt
+printed_comes (Err e) expr p old printed is edited_to = tt

@@ -3,7 +3,7 @@ use Rattle.std.proofs.Common.{◌≡◌, ◌≢◌, inl, true, false, Bool, ℕ,
 use Rattle.std.proofs.lemmas.Option.{same_Some}
 use Rattle.std.specs.FinMap.{get}
 use Rattle.std.specs.Str.{is_utf8}
-use Rattle.yq_scalar.specs.Answers.{Fails}
+use Rattle.yq_scalar.specs.Answers.{ReadFails}
 use Rattle.yq_scalar.specs.Tree.{Node}
 use Rattle.yq_scalar.specs.declared.fault.ReadError.{ReadError}
 use Rattle.yq_scalar.specs.declared.fault.ReadError.TheVariants as reading
@@ -20,22 +20,22 @@ use Rattle.yq_journal.specs.History.{History, text_at}
 use Rattle.yq_history.specs.declared.fault.Fault.{Fault}
 use Rattle.yq_history.specs.declared.fault.Fault.TheVariants.{OutOfMemory, Unreadable}
 use Rattle.yq_history.specs.Causes.{Cause, IsFor, named, no_reading, IsUnreadable}
-use Rattle.yq_store.specs.Content.{Content}
+use Rattle.yq_store.specs.FileMap.{FileMap}
 use Rattle.yq_commands.specs.Editing.{EditOutcome, unreadable, refused, edited, Refuses, edits}
 use Rattle.yq_commands.specs.CommandFaults.{of_refusal, of_matching}
-use Rattle.yq_commands.specs.Evaluation.{of_file, show_edit, show_found, show_read, shows, cause_in, shown_in}
+use Rattle.yq_commands.specs.Evaluation.{of_file, show_edit, show_found, show_read, shows, cause_in, report_in}
 use Rattle.yq_history.specs.Faults.{is_outside, of_reading}
 use Rattle.yq_history.specs.Pair.{Arrives, GoodIn}
-use Rattle.yq_history.specs.Shown.{Shown}
+use Rattle.yq_history.specs.Report.{Report}
 use Rattle.yq_commands.proofs.EditingLaws.{unread_text}
-use Rattle.yq_history.proofs.MoveLaws.{cut, told}
+use Rattle.yq_history.proofs.MoveLaws.{cut, is_refused}
 use Rattle.yq_history.proofs.PairLaws.{good_text, same_pair}
 
 -- the fault of an edit tells why its text isn't shown
-pub tells_edit : (o : EditOutcome) (x : Fault) → Refuses o x → IsFor (cause_in (show_edit o)) x
-tells_edit (unreadable old) x is = is
-tells_edit (refused f) x is = is
-tells_edit (edited u changes) x is = absurd is
+pub reports_edit : (o : EditOutcome) (x : Fault) → Refuses o x → IsFor (cause_in (show_edit o)) x
+reports_edit (unreadable old) x is = is
+reports_edit (refused f) x is = is
+reports_edit (edited u changes) x is = absurd is
 
 -- ---- of a text
 
@@ -59,26 +59,26 @@ module _ (exit_status no_doc : Bool) (t : List ℕ) where
       x.2 ∙ ap (show_found exit_status no_doc) (matched x.0 x.1)
 
   -- the fault that is told, where a program is refused on the text
-  abbrev pub Told : Program → {T : Type 0} → Result T Fault → Type 0
-  Told p r = IfErr r (λ x. x ≢ OutOfMemory → IsFor (cause_in (shows exit_status no_doc p t)) x)
+  abbrev pub HasFault : Program → {T : Type 0} → Result T Fault → Type 0
+  HasFault p r = IfErr r (λ x. x ≢ OutOfMemory → IsFor (cause_in (shows exit_status no_doc p t)) x)
 
   -- it is the one for a cause
-  for_cause : (p : Program) (why : Cause) {T : Type 0} (r : Result T Fault) (x : Fault) → r ≡ Err x → (x ≢ OutOfMemory → (shows exit_status no_doc p t ≡ Err why) × IsFor (Some why) x) → Told p r
-  for_cause p why r x is tells = subst (Told p) (sym is) (λ memory. let k = tells memory in subst (λ o. IsFor (cause_in o) x) (sym k.0) k.1)
+  for_cause : (p : Program) (why : Cause) {T : Type 0} (r : Result T Fault) (x : Fault) → r ≡ Err x → (x ≢ OutOfMemory → (shows exit_status no_doc p t ≡ Err why) × IsFor (Some why) x) → HasFault p r
+  for_cause p why r x is known = subst (HasFault p) (sym is) (λ memory. let k = known memory in subst (λ o. IsFor (cause_in o) x) (sym k.0) k.1)
 
   -- a text without a reading
-  pub unread_fails : (p : Program) {T : Type 0} (r : Result T Fault) (x : Fault) → is_read p ≡ true → r ≡ Err x → IsUnreadable t x → read_at t ≡ None → Told p r
+  pub unread_fails : (p : Program) {T : Type 0} (r : Result T Fault) (x : Fault) → is_read p ≡ true → r ≡ Err x → IsUnreadable t x → read_at t ≡ None → HasFault p r
   unread_fails p r x is fails unread none = for_cause p (no_reading t) r x fails (λ memory. (unread_shows p is none, unread))
 
   -- a text that isn't read
   pub reading_fails : (p : Program) {T : Type 0} (r : Result T Fault) (e : ReadError) → is_read p ≡ true → is_utf8 t ≡ true →
-      r ≡ Err (of_reading e) → Fails e (read_at t) → (IsNotUtf8 {X = List ℕ} (Err e) → is_utf8 t ≡ false) → Told p r
+      r ≡ Err (of_reading e) → ReadFails e (read_at t) → (IsNotUtf8 {X = List ℕ} (Err e) → is_utf8 t ≡ false) → HasFault p r
   reading_fails p r reading.Memory is utf8 fails none text = for_cause p (no_reading t) r OutOfMemory fails (λ memory. absurd (memory refl))
   reading_fails p r (reading.Fault f) is utf8 fails none text = unread_fails p r (Unreadable f) is fails (unread_text t f utf8 (λ no. true≢false (sym utf8 ∙ text no))) none
 
   -- documents on which matching is refused
   pub matching_fails : (p : Program) (docs : List Document) {T : Type 0} (r : Result T Fault) (e : ExprError) → is_read p ≡ true →
-      r ≡ Err (of_matching e) → option_map documents (read_at t) ≡ Some docs → ((pipe : List Stage) → p ≡ read pipe → judgement.Fails e (matches pipe docs)) → Told p r
+      r ≡ Err (of_matching e) → option_map documents (read_at t) ≡ Some docs → ((pipe : List Stage) → p ≡ read pipe → judgement.MatchFails e (matches pipe docs)) → HasFault p r
   matching_fails p docs r matching.Memory is fails reads why = for_cause p (no_reading t) r OutOfMemory fails (λ memory. absurd (memory refl))
   matching_fails p docs r (matching.Refused x) is fails reads why =
       for_cause p (named (of_refusal x)) r (of_refusal x) fails (λ memory. (found_shows p docs (refuses x) is reads why, refl))
@@ -90,12 +90,12 @@ module _ (exit_status no_doc : Bool) (t : List ℕ) where
   edit_shows (updates us) is = refl
 
   -- an update that is refused
-  pub edit_fails : (p : Program) {T : Type 0} (r : Result T Fault) (x : Fault) → is_read p ≡ false → r ≡ Err x → (x ≢ OutOfMemory → Refuses (edits p t) x) → Told p r
-  edit_fails p r x is fails why = subst (Told p) (sym fails) (λ memory. subst (λ o. IsFor (cause_in o) x) (sym (edit_shows p is)) (tells_edit (edits p t) x (why memory)))
+  pub edit_fails : (p : Program) {T : Type 0} (r : Result T Fault) (x : Fault) → is_read p ≡ false → r ≡ Err x → (x ≢ OutOfMemory → Refuses (edits p t) x) → HasFault p r
+  edit_fails p r x is fails why = subst (HasFault p) (sym fails) (λ memory. subst (λ o. IsFor (cause_in o) x) (sym (edit_shows p is)) (reports_edit (edits p t) x (why memory)))
 
 -- ---- of a file
 
-module _ (c e : Content) (f j : List ℕ) (of_text : List ℕ → Result Shown Cause) (t : List ℕ) (same : e ≡ c) (file_is : get c f ≡ Some t) where
+module _ (c e : FileMap) (f j : List ℕ) (of_text : List ℕ → Result Report Cause) (t : List ℕ) (same : e ≡ c) (file_is : get c f ≡ Some t) where
   -- a file that is there has a history, of which it is the text at the cursor
   there : (h : Option History) → GoodIn c f j h → (x : History) × (h ≡ Some x) × (text_at x ≡ t)
   there None good = let no : None ≡ Some t = sym good ∙ file_is in cc
@@ -112,13 +112,13 @@ module _ (c e : Content) (f j : List ℕ) (of_text : List ℕ → Result Shown C
     pub show_refused : {T : Type 0} (r : Result T Fault) (x : Fault) → r ≡ Err x → (x ≢ OutOfMemory → IsFor (cause_in (of_text t)) x) → Arrives e f j (cause_in (of_file of_text h)) h h r
     show_refused r x is why = elim (is_outside x) as (λ b. is_outside x ≡ b → Arrives e f j (cause_in (of_file of_text h)) h h r) [
       | true ↦ λ out. cut e f j (cause_in (of_file of_text h)) h h r x is out (inl still_good)
-      | false ↦ λ out. told e f j (cause_in (of_file of_text h)) h h r x is out
+      | false ↦ λ out. is_refused e f j (cause_in (of_file of_text h)) h h r x is out
           (subst (λ o. IsFor (cause_in o) x) (sym file_shows) (why (λ memory. true≢false (sym (ap is_outside memory) ∙ out)))) still_good
     ] refl
 
     -- it was carried out on it
-    pub show_done : {T : Type 0} (v : T) (s : Shown) → of_text t ≡ Ok s → Arrives e f j (cause_in (of_file of_text h)) h h {T = T} (Ok v)
+    pub show_done : {T : Type 0} (v : T) (s : Report) → of_text t ≡ Ok s → Arrives e f j (cause_in (of_file of_text h)) h h {T = T} (Ok v)
     show_done v s is = (ap cause_in (file_shows ∙ is), still_good)
 
-    pub shown_is : (s : Shown) → of_text t ≡ Ok s → s ≡ shown_in (of_file of_text h)
-    shown_is s is = sym (ap shown_in (file_shows ∙ is))
+    pub report_is : (s : Report) → of_text t ≡ Ok s → s ≡ report_in (of_file of_text h)
+    report_is s is = sym (ap report_in (file_shows ∙ is))

@@ -13,12 +13,12 @@ use Rattle.yq_history.specs.declared.fault.Fault.{Fault}
 use Rattle.yq_history.specs.declared.fault.Fault.TheVariants.{JournalFull, OutOfMemory}
 use Rattle.yq_commands.specs.Editing.{EditOutcome, unreadable, refused, edited, program_in, edits}
 use Rattle.yq_commands.specs.Edits.{edit_record}
-use Rattle.yq_history.specs.Effects.{Effect, refuses, writes_nothing, leaves, from_pair, walk_effect, squash_effect, listing_effect, printed_by}
+use Rattle.yq_history.specs.Effects.{Effect, refuses, writes_nothing, writes_both, from_pair, move_effect, squash_effect, listing_effect, printed_by}
 use Rattle.yq_history.specs.Causes.{named, no_reading}
 
 -- what the edit of a record does from one text to another
-abbrev pub edit_leaves : Record → List ℕ → List ℕ → State → Effect
-edit_leaves edit t u s = leaves u (opened s (move.Edit edit) t) (moved s (move.Edit edit))
+abbrev pub edit_writes : Record → List ℕ → List ℕ → State → Effect
+edit_writes edit t u s = writes_both u (opened s (move.Edit edit) t) (moved s (move.Edit edit))
 
 -- what an edit does to them, by what it comes to: a record of one edit goes into the journal
 abbrev pub edit_effect : List ℕ → EditOutcome → List ℕ → State → Effect
@@ -27,7 +27,7 @@ edit_effect expr (refused f) t s = refuses (named f)
 edit_effect expr (edited u changes) t s =
     if bytes_eq u t then writes_nothing []
     else if nat_le most_records s.at then refuses (named JournalFull)
-    else edit_leaves (edit_record expr changes (length t) (length u)) t u s
+    else edit_writes (edit_record expr changes (length t) (length u)) t u s
 
 -- the same, by its expression
 abbrev pub update_effect : List ℕ → Result Program Fault → Option (List ℕ) → Option (List ℕ) → Effect
@@ -37,8 +37,8 @@ update_effect expr (Ok p) file journal = from_pair file journal (λ t s. edit_ef
 -- something holds of what a command does, by the bytes of its file and its journal; of what prints a file alone, and of help, nothing is said
 abbrev pub OfEffect : Command → Option (List ℕ) → Option (List ℕ) → (Effect → Type 0) → Type 0
 OfEffect (Eval expr f j true exit_status no_doc) file journal holds = holds (update_effect (string_bytes expr) (program_in (string_bytes expr)) file journal)
-OfEffect (Undo f j) file journal holds = holds (from_pair file journal (walk_effect move.Undo))
-OfEffect (Redo f j) file journal holds = holds (from_pair file journal (walk_effect move.Redo))
+OfEffect (Undo f j) file journal holds = holds (from_pair file journal (move_effect move.Undo))
+OfEffect (Redo f j) file journal holds = holds (from_pair file journal (move_effect move.Redo))
 OfEffect (Lists f j) file journal holds = holds (from_pair file journal listing_effect)
 OfEffect (Squash n f j) file journal holds = holds (from_pair file journal (squash_effect n))
 OfEffect _ file journal holds = Unit {0}

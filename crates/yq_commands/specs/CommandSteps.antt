@@ -13,7 +13,7 @@ use Rattle.yq_history.specs.declared.fault.Fault.TheVariants.{NotThere, JournalF
 use Rattle.yq_history.specs.Causes.{Cause, named, no_reading}
 use Rattle.yq_commands.specs.Editing.{EditOutcome, unreadable, refused, edited, program_in, edits}
 use Rattle.yq_commands.specs.Evaluation.{evaluated, cause_in}
-use Rattle.yq_history.specs.Steps.{walk_cause, walk_next, squash_cause, squash_next, listing_cause}
+use Rattle.yq_history.specs.Steps.{move_cause, move_next, squash_cause, squash_next, listing_cause}
 
 -- an edit to another text wants room in the journal
 abbrev pub room_cause : History → List ℕ → Option Cause
@@ -51,8 +51,8 @@ update_next expr (Ok p) (Some h) = Some (edit_next h expr (edits p (text_at h)))
 abbrev pub cause_of : Command → Option History → Option Cause
 cause_of (Eval expr file journal true exit_status no_doc) h = update_cause (program_in (string_bytes expr)) h
 cause_of (Eval expr file journal false exit_status no_doc) h = cause_in (evaluated exit_status no_doc (program_in (string_bytes expr)) h)
-cause_of (Undo file journal) h = walk_cause move.Undo h
-cause_of (Redo file journal) h = walk_cause move.Redo h
+cause_of (Undo file journal) h = move_cause move.Undo h
+cause_of (Redo file journal) h = move_cause move.Redo h
 cause_of (Lists file journal) h = listing_cause h
 cause_of (Squash n file journal) h = squash_cause n h
 cause_of Help h = None
@@ -60,7 +60,7 @@ cause_of Help h = None
 -- the history after a command
 abbrev pub next_of : Command → Option History → Option History
 next_of (Eval expr file journal true exit_status no_doc) h = update_next (string_bytes expr) (program_in (string_bytes expr)) h
-next_of (Undo file journal) h = walk_next move.Undo h
-next_of (Redo file journal) h = walk_next move.Redo h
+next_of (Undo file journal) h = move_next move.Undo h
+next_of (Redo file journal) h = move_next move.Redo h
 next_of (Squash n file journal) h = squash_next n h
 next_of _ h = h

@@ -12,46 +12,46 @@ use Rattle.yq_history.specs.declared.fault.Fault.TheVariants.{NotThere}
 use Rattle.yq_history.specs.Causes.{Cause, named, no_reading}
 use Rattle.yq_commands.specs.Editing.{EditOutcome, unreadable, refused, edited, edits}
 use Rattle.yq_commands.specs.CommandFaults.{of_refusal}
-use Rattle.yq_commands.specs.Reads.{shown_matches}
-use Rattle.yq_history.specs.Shown.{Shown, text, nothing}
+use Rattle.yq_commands.specs.Reads.{report_matches}
+use Rattle.yq_history.specs.Report.{Report, text, nothing}
 
 -- of an edit the new text is shown
-abbrev pub show_edit : EditOutcome → Result Shown Cause
+abbrev pub show_edit : EditOutcome → Result Report Cause
 show_edit (unreadable old) = Err (no_reading old)
 show_edit (refused f) = Err (named f)
 show_edit (edited t changes) = Ok (text t)
 
 -- of a read its matches are shown, by what matching comes to
-abbrev pub show_found : Bool → Bool → Judgement (List (ℕ × Node)) → Result Shown Cause
-show_found exit_status no_doc (gives ms) = Ok (shown_matches exit_status no_doc ms)
+abbrev pub show_found : Bool → Bool → Judgement (List (ℕ × Node)) → Result Report Cause
+show_found exit_status no_doc (gives ms) = Ok (report_matches exit_status no_doc ms)
 show_found exit_status no_doc (refuses why) = Err (named (of_refusal why))
 
 -- the same, by the documents, if the text reads as documents
-abbrev pub show_read : Bool → Bool → List Stage → List ℕ → Option (List Document) → Result Shown Cause
+abbrev pub show_read : Bool → Bool → List Stage → List ℕ → Option (List Document) → Result Report Cause
 show_read exit_status no_doc pipe t None = Err (no_reading t)
 show_read exit_status no_doc pipe t (Some docs) = show_found exit_status no_doc (matches pipe docs)
 
 -- what a program shows of a text, or why it shows nothing
-unfoldable pub shows : Bool → Bool → Program → List ℕ → Result Shown Cause
+unfoldable pub shows : Bool → Bool → Program → List ℕ → Result Report Cause
 shows exit_status no_doc (read pipe) t = show_read exit_status no_doc pipe t (option_map documents (read_at t))
 shows exit_status no_doc (updates us) t = show_edit (edits (updates us) t)
 
 -- what is shown of a file, by what is shown of its text
-abbrev pub of_file : (List ℕ → Result Shown Cause) → Option History → Result Shown Cause
+abbrev pub of_file : (List ℕ → Result Report Cause) → Option History → Result Report Cause
 of_file of_text None = Err (named NotThere)
 of_file of_text (Some h) = of_text (text_at h)
 
 -- the same, by what an expression is
-abbrev pub evaluated : Bool → Bool → Result Program Fault → Option History → Result Shown Cause
+abbrev pub evaluated : Bool → Bool → Result Program Fault → Option History → Result Report Cause
 evaluated exit_status no_doc (Err f) h = Err (named f)
 evaluated exit_status no_doc (Ok p) h = of_file (shows exit_status no_doc p) h
 
 -- why nothing is shown
-abbrev pub cause_in : Result Shown Cause → Option Cause
+abbrev pub cause_in : Result Report Cause → Option Cause
 cause_in (Ok s) = None
 cause_in (Err x) = Some x
 
 -- what is shown, where there is no cause for a refusal
-abbrev pub shown_in : Result Shown Cause → Shown
-shown_in (Ok s) = s
-shown_in (Err x) = nothing
+abbrev pub report_in : Result Report Cause → Report
+report_in (Ok s) = s
+report_in (Err x) = nothing

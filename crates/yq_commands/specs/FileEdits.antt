@@ -7,7 +7,7 @@ use Rattle.yq_script.specs.Splice.{Splice}
 use Rattle.yq_splice.specs.Carried.{edit_of}
 use Rattle.yq_splice.specs.Edit.{gives}
 use Rattle.yq_splice.specs.Theorems.{IsEdited}
-use Rattle.yq_store.specs.Content.{Content}
+use Rattle.yq_store.specs.FileMap.{FileMap}
 use Rattle.yq_words.specs.declared.command.Command.{Command}
 use Rattle.yq_words.specs.declared.command.Command.TheVariants.{Eval}
 use Rattle.yq_commands.specs.Editing.{program_in}
@@ -20,7 +20,7 @@ pub record IsTextEdited (p : Program) (t new : List ℕ) : Type 0 where
 
 -- the text is there that a program makes of another one
 abbrev pub HoldsEdited : Program → List ℕ → Option (List ℕ) → Type 0
-HoldsEdited p t new = (made : List ℕ) × (new ≡ Some made) × IsTextEdited p t made
+HoldsEdited p t new = (edited_to : List ℕ) × (new ≡ Some edited_to) × IsTextEdited p t edited_to
 
 -- A text is there, and the one that the program of an expression makes of it.
 pub record IsFileEdited (expr : List ℕ) (old new : Option (List ℕ)) : Type 0 where
@@ -36,7 +36,7 @@ PrintsEdited expr old printed =
     (us : List Update) → program_in expr ≡ Ok (updates us) → IsFileEdited expr old (Some printed)
 
 -- the edited text: an edit in place leaves it in the file, any other update prints it; nothing is said of other commands
-abbrev pub HasEdited : Command → Content → Content → List ℕ → Type 0
+abbrev pub HasEdited : Command → FileMap → FileMap → List ℕ → Type 0
 HasEdited (Eval expr f j true exit_status no_doc) old new printed =
     string_bytes f ≢ string_bytes j → IsFileEdited (string_bytes expr) (get old (string_bytes f)) (get new (string_bytes f))
 HasEdited (Eval expr f j false exit_status no_doc) old new printed =

@@ -7,19 +7,19 @@ use Rattle.yq_words.specs.declared.command.Command.TheVariants.{Eval, Undo, Redo
 use Rattle.yq_commands.specs.declared.answer.Answer.{Answer}
 use Rattle.yq_commands.specs.declared.answer.Answer.TheVariants.{Done, NoMatch}
 use Rattle.yq_commands.specs.Editing.{program_in}
-use Rattle.yq_commands.specs.Evaluation.{evaluated, shown_in}
+use Rattle.yq_commands.specs.Evaluation.{evaluated, report_in}
 use Rattle.yq_history.specs.Listing.{listing_output}
-use Rattle.yq_history.specs.Shown.{Shown, text, nothing}
+use Rattle.yq_history.specs.Report.{Report, text, nothing}
 
 -- what a command shows where it is carried out; of help nothing is said
-abbrev pub shown_of : Command → Option History → Shown
-shown_of (Eval expr file journal true exit_status no_doc) h = nothing
-shown_of (Eval expr file journal false exit_status no_doc) h = shown_in (evaluated exit_status no_doc (program_in (string_bytes expr)) h)
-shown_of (Undo file journal) h = nothing
-shown_of (Redo file journal) h = nothing
-shown_of (Lists file journal) h = text (listing_output h)
-shown_of (Squash n file journal) h = nothing
-shown_of Help h = nothing
+abbrev pub report_of : Command → Option History → Report
+report_of (Eval expr file journal true exit_status no_doc) h = nothing
+report_of (Eval expr file journal false exit_status no_doc) h = report_in (evaluated exit_status no_doc (program_in (string_bytes expr)) h)
+report_of (Undo file journal) h = nothing
+report_of (Redo file journal) h = nothing
+report_of (Lists file journal) h = text (listing_output h)
+report_of (Squash n file journal) h = nothing
+report_of Help h = nothing
 
 -- the command reads the journal of its file
 abbrev pub reads_journal : Command → Bool

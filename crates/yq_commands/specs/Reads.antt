@@ -5,7 +5,7 @@ use Rattle.yq_scalar.specs.declared.kind.Kind.TheVariants as kinds
 use Rattle.yq_scalar.specs.Tree.{Node, alias, scalar, list, map}
 use Rattle.yq_scalar.specs.SchemaReading.{is_true_word}
 use Rattle.yq_splice.specs.Print.{print_text}
-use Rattle.yq_history.specs.Shown.{Shown}
+use Rattle.yq_history.specs.Report.{Report}
 
 -- what stands before a match, by the document of the one before it: the line `---`, where that is another document
 abbrev pub marker_before : Bool → Option ℕ → ℕ → List ℕ
@@ -38,5 +38,5 @@ have_no_match [] = true
 have_no_match (m ∷ ms) = is_no_match m.1 && have_no_match ms
 
 -- what is shown of matches: with `-e` there is to be one other than null and false
-abbrev pub shown_matches : Bool → Bool → List (ℕ × Node) → Shown
-shown_matches exit_status no_doc ms = record { printed = matches_behind no_doc None ms; is_match = not (exit_status && have_no_match ms) }
+abbrev pub report_matches : Bool → Bool → List (ℕ × Node) → Report
+report_matches exit_status no_doc ms = record { printed = matches_behind no_doc None ms; is_match = not (exit_status && have_no_match ms) }

@@ -11,7 +11,7 @@ ghost use Rattle.yq_commands.specs.CommandEffects.{edit_effect};
 ghost use Rattle.yq_commands.specs.FileEdits.{HoldsEdited};
 ghost use Rattle.yq_history.specs.Effects.{Works};
 ghost use Rattle.yq_history.specs.Faults.{is_outside, is_output, counted};
-ghost use Rattle.yq_history.specs.Pair.{Arrives, OthersStay, Rest};
+ghost use Rattle.yq_history.specs.Pair.{Arrives, OthersStay, PairAtRest};
 ghost use Rattle.yq_commands.specs.CommandSteps.{update_cause, update_next};
 
 use crate::editing::edit_text;
@@ -43,33 +43,33 @@ fn commit<D: Store>(
     alloc: Global,
     store: &mut D,
     file: &str,
-    name: &str,
-    journal: &mut Journal,
+    journal: &str,
+    state: &mut Journal,
     expr: &str,
     splices: Vec<Splice>,
     old: &[u8],
     new: &[u8],
 ) -> Result<(), Fault>
-    requires at_rest { IsNone journal.old.pending }
+    requires at_rest { IsNone state.old.pending }
     requires lengths { lengths_done splices.items (length old.now) ≡ Some (length new.now) }
     requires leads { all_done splices.items old.now ≡ Some new.now }
     requires changes { new.now ≢ old.now }
-    ensures arrives { IsTrue D.keeps → file.now ≢ name.now → (h : History) → (p : spec.Program) →
-        Rest (D.content store.old) file.now name.now journal.old old.now h →
+    ensures arrives { IsTrue D.keeps → file.now ≢ journal.now → (h : History) → (p : spec.Program) →
+        PairAtRest (D.content store.old) file.now journal.now state.old old.now h →
         edits p old.now ≡ edited new.now splices.items →
-        Arrives (D.content store.new) file.now name.now (update_cause (Ok p) (Some h)) (Some h)
+        Arrives (D.content store.new) file.now journal.now (update_cause (Ok p) (Some h)) (Some h)
         (update_next expr.now (Ok p) (Some h)) result }
-    ensures text { IsTrue D.keeps → file.now ≢ name.now →
+    ensures text { IsTrue D.keeps → file.now ≢ journal.now →
         OnOk result (map.get (D.content store.new) file.now ≡ Some new.now) }
-    ensures effect { IsTrue D.keeps → file.now ≢ name.now → (p : spec.Program) →
+    ensures effect { IsTrue D.keeps → file.now ≢ journal.now → (p : spec.Program) →
         edits p old.now ≡ edited new.now splices.items →
-        Works (edit_effect expr.now (edits p old.now) old.now journal.old) file.now name.now
+        Works (edit_effect expr.now (edits p old.now) old.now state.old) file.now journal.now
         (D.content store.old) (D.content store.new) result }
     ensures kept { IsTrue D.keeps → IfErr result (λ e. is_outside e ≡ false →
         D.content store.new ≡ D.content store.old) }
     ensures others { IsTrue D.keeps → OthersStay (D.content store.old)
-        (D.content store.new) file.now name.now }
-    ensures quiet { IfErr result (λ e. is_output e ≡ false) }
+        (D.content store.new) file.now journal.now }
+    ensures no_output { IfErr result (λ e. is_output e ≡ false) }
     ensures count { D.failures store.new ≡ counted result (D.failures store.old) }
 {
     let edit = record_of(alloc, expr, splices, old, new)?;
@@ -77,8 +77,8 @@ fn commit<D: Store>(
         alloc,
         store,
         file,
-        name,
         journal,
+        state,
         Move::Edit(edit),
         old,
         new,
@@ -90,39 +90,39 @@ pub fn edit_from<D: Store>(
     alloc: Global,
     store: &mut D,
     file: &str,
-    name: &str,
-    journal: &mut Journal,
+    journal: &str,
+    state: &mut Journal,
     program: &Program,
     expr: &str,
     text: &[u8],
 ) -> Result<(), Fault>
-    requires at_rest { IsNone journal.old.pending }
-    ensures arrives { IsTrue D.keeps → file.now ≢ name.now → (h : History) →
-        Rest (D.content store.old) file.now name.now journal.old text.now h →
-        Arrives (D.content store.new) file.now name.now
+    requires at_rest { IsNone state.old.pending }
+    ensures arrives { IsTrue D.keeps → file.now ≢ journal.now → (h : History) →
+        PairAtRest (D.content store.old) file.now journal.now state.old text.now h →
+        Arrives (D.content store.new) file.now journal.now
         (update_cause (Ok (program_of program.now)) (Some h)) (Some h)
         (update_next expr.now (Ok (program_of program.now)) (Some h)) result }
-    ensures effect { IsTrue D.keeps → file.now ≢ name.now →
-        Works (edit_effect expr.now (edits (program_of program.now) text.now) text.now journal.old)
-        file.now name.now (D.content store.old) (D.content store.new) result }
-    ensures edited { IsTrue D.keeps → file.now ≢ name.now →
+    ensures effect { IsTrue D.keeps → file.now ≢ journal.now →
+        Works (edit_effect expr.now (edits (program_of program.now) text.now) text.now state.old)
+        file.now journal.now (D.content store.old) (D.content store.new) result }
+    ensures edited { IsTrue D.keeps → file.now ≢ journal.now →
         map.get (D.content store.old) file.now ≡ Some text.now →
         OnOk result (HoldsEdited (program_of program.now) text.now
         (map.get (D.content store.new) file.now)) }
     ensures kept { IsTrue D.keeps → IfErr result (λ e. is_outside e ≡ false →
         D.content store.new ≡ D.content store.old) }
     ensures others { IsTrue D.keeps → OthersStay (D.content store.old)
-        (D.content store.new) file.now name.now }
-    ensures quiet { IfErr result (λ e. is_output e ≡ false) }
+        (D.content store.new) file.now journal.now }
+    ensures no_output { IfErr result (λ e. is_output e ≡ false) }
     ensures count { D.failures store.new ≡ counted result (D.failures store.old) }
 {
     let Edited {
-        text: made,
+        text: edited_to,
         splices,
     } = edit_text(alloc, program, text)?;
-    let new = made.as_bytes();
+    let new = edited_to.as_bytes();
     if new == text {
         return Ok(());
     }
-    commit(alloc, store, file, name, journal, expr, splices, text, new)
+    commit(alloc, store, file, journal, state, expr, splices, text, new)
 }

@@ -23,19 +23,19 @@ pub fn parse(alloc: Global, expr: &str) -> Result<Program, Fault>
     ensures ok { IfOk result (λ p. program_in expr.now ≡ Ok (program_of p)) }
     ensures err { IfErr result (λ e. e ≢ Fault.OutOfMemory → program_in expr.now ≡ Err e) }
     ensures inside { IfErr result (λ e. is_failure e ≡ false) }
-    ensures quiet { IfErr result (λ e. is_output e ≡ false) }
+    ensures no_output { IfErr result (λ e. is_output e ≡ false) }
 {
     parse_expr(alloc, expr).map_err(parse_fault)
 }
 
 /// The text of a file's bytes, which are refused where they are no UTF-8, however many they are.
-pub fn given_text(bytes: &[u8]) -> Result<&str, Fault>
+pub fn utf8_text(bytes: &[u8]) -> Result<&str, Fault>
     ensures ok { IfOk result (λ s. s.now ≡ bytes.now) }
     ensures utf8 { IfOk result (λ s. is_utf8 bytes.now ≡ true) }
     ensures err { IfErr result (IsUnreadable bytes.now) }
     ensures none { OnErr result (read_at bytes.now ≡ None) }
     ensures inside { IfErr result (λ e. is_failure e ≡ false) }
-    ensures quiet { IfErr result (λ e. is_output e ≡ false) }
+    ensures no_output { IfErr result (λ e. is_output e ≡ false) }
 {
     Ok(text_of(bytes)?)
 }
@@ -54,8 +54,8 @@ pub fn edit_text(alloc: Global, program: &Program, text: &[u8]) -> Result<Edited
     ensures err { IfErr result (λ e. e ≢ Fault.OutOfMemory →
         Refuses (edits (program_of program.now) text.now) e) }
     ensures inside { IfErr result (λ e. is_failure e ≡ false) }
-    ensures quiet { IfErr result (λ e. is_output e ≡ false) }
+    ensures no_output { IfErr result (λ e. is_output e ≡ false) }
 {
-    let text = given_text(text)?;
+    let text = utf8_text(text)?;
     edit(alloc, text, program).map_err(edit_fault)
 }

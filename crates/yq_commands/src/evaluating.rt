@@ -8,18 +8,18 @@ ghost use Rattle.yq_journal.specs.History.{History};
 ghost use Rattle.yq_history.specs.Causes.{IsFor};
 ghost use Rattle.yq_commands.specs.CommandEffects.{IsUnparsed, fault_of};
 ghost use Rattle.yq_commands.specs.Editing.{program_in};
-ghost use Rattle.yq_commands.specs.Evaluation.{cause_in, evaluated, of_file, shown_in, shows};
+ghost use Rattle.yq_commands.specs.Evaluation.{cause_in, evaluated, of_file, report_in, shows};
 ghost use Rattle.yq_commands.specs.FileEdits.{IsTextEdited, PrintsEdited};
 ghost use Rattle.yq_history.specs.Faults.{is_failure, is_output, counted};
 ghost use Rattle.yq_history.specs.Pair.{Arrives, GoodIn};
-ghost use Rattle.yq_history.specs.Shown.{shown_by};
+ghost use Rattle.yq_history.specs.Report.{report_by};
 
-use crate::editing::{edit_text, given_text, parse};
+use crate::editing::{edit_text, parse, utf8_text};
 use crate::faults::match_fault;
-use crate::reads::shown_matches;
+use crate::reads::report_matches;
 use std::alloc::Global;
 use yq_expr::{Program, matches};
-use yq_history::{Fault, Shown};
+use yq_history::{Fault, Report};
 use yq_splice::Edited;
 use yq_store::Store;
 use yq_tree::read;
@@ -31,40 +31,40 @@ fn show_read(
     text: &[u8],
     exit_status: bool,
     no_doc: bool,
-) -> Result<Shown, Fault>
+) -> Result<Report, Fault>
     requires { is_read (program_of program.now) ≡ true }
     ensures ok { IfOk result (λ s. shows exit_status no_doc (program_of program.now) text.now ≡
-        Ok (shown_by s)) }
+        Ok (report_by s)) }
     ensures err { IfErr result (λ e. e ≢ Fault.OutOfMemory →
         IsFor (cause_in (shows exit_status no_doc (program_of program.now) text.now)) e) }
     ensures inside { IfErr result (λ e. is_failure e ≡ false) }
-    ensures quiet { IfErr result (λ e. is_output e ≡ false) }
+    ensures no_output { IfErr result (λ e. is_output e ≡ false) }
 {
-    let text = given_text(text)?;
+    let text = utf8_text(text)?;
     let documents = read(alloc, text.as_bytes())?;
     let found = match matches(alloc, program, &documents) {
         Ok(found) => found,
         Err(error) => return Err(match_fault(error)),
     };
-    Ok(shown_matches(alloc, exit_status, no_doc, &found)?)
+    Ok(report_matches(alloc, exit_status, no_doc, &found)?)
 }
 
 /// What an update shows of a text: the edited one.
-fn show_edit(alloc: Global, program: &Program, text: &[u8]) -> Result<Shown, Fault>
+fn show_edit(alloc: Global, program: &Program, text: &[u8]) -> Result<Report, Fault>
     requires { is_read (program_of program.now) ≡ false }
     ensures edited { IfOk result (λ s. IsTextEdited (program_of program.now) text.now
         (string_bytes s.text)) }
     ensures ok { (exit_status no_doc : Bool) →
         IfOk result (λ s. shows exit_status no_doc (program_of program.now) text.now ≡
-        Ok (shown_by s)) }
+        Ok (report_by s)) }
     ensures err { (exit_status no_doc : Bool) →
         IfErr result (λ e. e ≢ Fault.OutOfMemory →
         IsFor (cause_in (shows exit_status no_doc (program_of program.now) text.now)) e) }
     ensures inside { IfErr result (λ e. is_failure e ≡ false) }
-    ensures quiet { IfErr result (λ e. is_output e ≡ false) }
+    ensures no_output { IfErr result (λ e. is_output e ≡ false) }
 {
     let Edited { text, .. } = edit_text(alloc, program, text)?;
-    Ok(Shown {
+    Ok(Report {
         text,
         is_match: true,
     })
@@ -77,15 +77,15 @@ fn show(
     text: &[u8],
     exit_status: bool,
     no_doc: bool,
-) -> Result<Shown, Fault>
+) -> Result<Report, Fault>
     ensures edited { is_read (program_of program.now) ≡ false →
         IfOk result (λ s. IsTextEdited (program_of program.now) text.now (string_bytes s.text)) }
     ensures ok { IfOk result (λ s. shows exit_status no_doc (program_of program.now) text.now ≡
-        Ok (shown_by s)) }
+        Ok (report_by s)) }
     ensures err { IfErr result (λ e. e ≢ Fault.OutOfMemory →
         IsFor (cause_in (shows exit_status no_doc (program_of program.now) text.now)) e) }
     ensures inside { IfErr result (λ e. is_failure e ≡ false) }
-    ensures quiet { IfErr result (λ e. is_output e ≡ false) }
+    ensures no_output { IfErr result (λ e. is_output e ≡ false) }
 {
     if program.is_read() {
         show_read(alloc, program, text, exit_status, no_doc)
@@ -102,25 +102,25 @@ fn evaluate_program<D: Store>(
     program: &Program,
     exit_status: bool,
     no_doc: bool,
-    shown: &mut Shown,
+    report: &mut Report,
 ) -> Result<(), Fault>
-    ensures arrives { IsTrue D.keeps → (name : List ℕ) → (h : Option History) →
-        GoodIn (D.content store.old) file.now name h →
-        Arrives (D.content store.new) file.now name
+    ensures arrives { IsTrue D.keeps → (journal : List ℕ) → (h : Option History) →
+        GoodIn (D.content store.old) file.now journal h →
+        Arrives (D.content store.new) file.now journal
         (cause_in (of_file (shows exit_status no_doc (program_of program.now)) h)) h h result }
-    ensures output { IsTrue D.keeps → (name : List ℕ) → (h : Option History) →
-        GoodIn (D.content store.old) file.now name h →
-        OnOk result (shown_by shown.new ≡ shown_in (of_file
+    ensures output { IsTrue D.keeps → (journal : List ℕ) → (h : Option History) →
+        GoodIn (D.content store.old) file.now journal h →
+        OnOk result (report_by report.new ≡ report_in (of_file
         (shows exit_status no_doc (program_of program.now)) h)) }
     ensures edited { IsTrue D.keeps → is_read (program_of program.now) ≡ false →
         OnOk result ((text : List ℕ) × (map.get (D.content store.old) file.now ≡ Some text) ×
-        IsTextEdited (program_of program.now) text (string_bytes shown.new.text)) }
+        IsTextEdited (program_of program.now) text (string_bytes report.new.text)) }
     ensures same { IsTrue D.keeps → D.content store.new ≡ D.content store.old }
-    ensures quiet { IfErr result (λ e. is_output e ≡ false) }
+    ensures no_output { IfErr result (λ e. is_output e ≡ false) }
     ensures count { D.failures store.new ≡ counted result (D.failures store.old) }
 {
     let text = store.read(alloc, file)?;
-    *shown = show(alloc, program, &text, exit_status, no_doc)?;
+    *report = show(alloc, program, &text, exit_status, no_doc)?;
     Ok(())
 }
 
@@ -133,24 +133,24 @@ pub fn evaluate<D: Store>(
     expr: &str,
     exit_status: bool,
     no_doc: bool,
-    shown: &mut Shown,
+    report: &mut Report,
 ) -> Result<(), Fault>
-    ensures arrives { IsTrue D.keeps → (name : List ℕ) → (h : Option History) →
-        GoodIn (D.content store.old) file.now name h →
-        Arrives (D.content store.new) file.now name
+    ensures arrives { IsTrue D.keeps → (journal : List ℕ) → (h : Option History) →
+        GoodIn (D.content store.old) file.now journal h →
+        Arrives (D.content store.new) file.now journal
         (cause_in (evaluated exit_status no_doc (program_in expr.now) h)) h h result }
-    ensures output { IsTrue D.keeps → (name : List ℕ) → (h : Option History) →
-        GoodIn (D.content store.old) file.now name h →
-        OnOk result (shown_by shown.new ≡ shown_in (evaluated exit_status no_doc
+    ensures output { IsTrue D.keeps → (journal : List ℕ) → (h : Option History) →
+        GoodIn (D.content store.old) file.now journal h →
+        OnOk result (report_by report.new ≡ report_in (evaluated exit_status no_doc
         (program_in expr.now) h)) }
     ensures edited { IsTrue D.keeps →
         OnOk result (PrintsEdited expr.now (map.get (D.content store.old) file.now)
-        (string_bytes shown.new.text)) }
+        (string_bytes report.new.text)) }
     ensures unparsed { (f : Fault) → fault_of (program_in expr.now) ≡ Some f → IsUnparsed f result }
     ensures same { IsTrue D.keeps → D.content store.new ≡ D.content store.old }
-    ensures quiet { IfErr result (λ e. is_output e ≡ false) }
+    ensures no_output { IfErr result (λ e. is_output e ≡ false) }
     ensures count { D.failures store.new ≡ counted result (D.failures store.old) }
 {
     let program = parse(alloc, expr)?;
-    evaluate_program(alloc, store, file, &program, exit_status, no_doc, shown)
+    evaluate_program(alloc, store, file, &program, exit_status, no_doc, report)
 }

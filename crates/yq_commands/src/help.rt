@@ -1,9 +1,9 @@
 //! Help.
 ghost use Rattle.std.specs.Prelude.{◌≡◌, IfErr};
-ghost use Rattle.yq_history.specs.Shown.{nothing, shown_by};
+ghost use Rattle.yq_history.specs.Report.{nothing, report_by};
 
 use std::alloc::Global;
-use yq_history::{Fault, Shown};
+use yq_history::{Fault, Report};
 
 /// The ways to call the program.
 pub const USAGE: &str = "\
@@ -36,18 +36,18 @@ Examples:
   yq undo config.yaml
 
 Values:           \"text\" 8080 0.5 true null [1, \"b\"] {\"key\": 1} .other.path
-Selected places:  yq -i '(.jobs[] | select(.name == \"ship\") | .when) = \"tag\"' ci.yaml
+Selected places:  yq -i '(.jobs[] | select(.journal == \"ship\") | .when) = \"tag\"' ci.yaml
 Codes (E1, Y9):   man yq, DIAGNOSTICS
 Version:          0.1.0
 ";
 
 /// Shows the help.
-pub fn help(alloc: Global, shown: &mut Shown) -> Result<(), Fault>
-    requires empty { shown_by shown.old ≡ nothing }
+pub fn help(alloc: Global, report: &mut Report) -> Result<(), Fault>
+    requires empty { report_by report.old ≡ nothing }
     ensures memory { IfErr result (λ e. e ≡ Fault.OutOfMemory) }
 {
     let mut text = String::from_str(alloc, USAGE)?;
     text.push_str(DETAILS)?;
-    shown.text = text;
+    report.text = text;
     Ok(())
 }

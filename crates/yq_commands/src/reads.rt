@@ -6,11 +6,11 @@ ghost use Rattle.yq_inline.specs.Values.{node_of};
 ghost use Rattle.yq_expr.specs.MatchView.{matches_of};
 ghost use Rattle.yq_splice.specs.Print.{print_text};
 ghost use Rattle.yq_commands.specs.Reads as spec;
-ghost use Rattle.yq_history.specs.Shown.{shown_by};
+ghost use Rattle.yq_history.specs.Report.{report_by};
 
 use std::alloc::{AllocError, Global};
 use yq_expr::{Match, Value};
-use yq_history::Shown;
+use yq_history::Report;
 use yq_scalar::{Kind, is_true_word};
 use yq_splice::print;
 
@@ -91,16 +91,16 @@ fn have_no_match(matches: &[Match]) -> bool
 
 /// What is shown of matches.
 #[tactic(auto, using(crate::proofs::ReadLaws::none_each))]
-pub fn shown_matches(
+pub fn report_matches(
     alloc: Global,
     exit_status: bool,
     no_doc: bool,
     matches: &[Match],
-) -> Result<Shown, AllocError>
-    ensures { IfOk result (λ s. shown_by s ≡ spec.shown_matches exit_status no_doc
+) -> Result<Report, AllocError>
+    ensures { IfOk result (λ s. report_by s ≡ spec.report_matches exit_status no_doc
         (matches_of matches.now)) }
 {
     let text = printed_matches(alloc, no_doc, matches)?;
     let is_match = !(exit_status && have_no_match(matches));
-    Ok(Shown { text, is_match })
+    Ok(Report { text, is_match })
 }

@@ -1,12 +1,12 @@
 //! The calls of yq_tree.
 
+mod as_text;
 mod documents;
 mod examples;
 mod nodes;
 mod prefixes;
 mod refused_memory;
 mod room;
-mod shown;
 mod spans;
 mod standings;
 

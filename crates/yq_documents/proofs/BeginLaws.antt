@@ -5,7 +5,7 @@ use Rattle.std.specs.List.{slice_get}
 use Rattle.yq_lines.proofs.Parts.{drop_at}
 use Rattle.yq_rows.specs.Grammar.{begins_document, no_rows}
 use Rattle.yq_rows.specs.Rows.{Row, Cut, last, marked}
-use Rattle.yq_rows.specs.View.{Bound, bounds_from, bounds_of, Shown, shown}
+use Rattle.yq_rows.specs.View.{Bound, bounds_from, bounds_of, RowsView, rows_view}
 use Rattle.yq_documents.specs.Documents.{has_begin, begins_bare}
 use Rattle.yq_documents.specs.PartReading.{some_begin, first_rows}
 
@@ -29,5 +29,5 @@ first_is : (c : Cut) → first_rows (bounds_of c) ≡ begins_bare c
 first_is (last p) = bare_is p.rows
 first_is (marked p marker c) = bare_is p.rows
 
-pub document_is : (c : Cut) (s : Shown) → s ≡ shown c → (first_rows s.bounds || not (some_begin s.bounds)) ≡ (begins_bare c || not (has_begin c))
-document_is c s e = ap (λ (x : Shown). first_rows x.bounds || not (some_begin x.bounds)) e ∙ (λ i. first_is c i || not (begin_is 0 c i))
+pub document_is : (c : Cut) (s : RowsView) → s ≡ rows_view c → (first_rows s.bounds || not (some_begin s.bounds)) ≡ (begins_bare c || not (has_begin c))
+document_is c s e = ap (λ (x : RowsView). first_rows x.bounds || not (some_begin x.bounds)) e ∙ (λ i. first_is c i || not (begin_is 0 c i))

@@ -18,7 +18,7 @@ use Rattle.yq_scalar.proofs.BlockLaws.{block_again}
 use Rattle.yq_inline.specs.Inline.{depth_limit, IsInlineAt}
 use Rattle.yq_inline.specs.Nodes.{Node, empty, alias, scalar, coll, anchored, node_text, items_text, is_bare, IsNode}
 use Rattle.yq_inline.specs.Places.{placed, mapping, sequence, Parts, holder, locate, locate_items}
-use Rattle.yq_inline.specs.Scalars.{IsScalar, is_quoted, begins_scalar, content_of, scalar_of}
+use Rattle.yq_inline.specs.Scalars.{IsScalarAt, is_quoted, begins_scalar, content_of, scalar_of}
 use Rattle.yq_inline.specs.Trees.{scalar_node, placed_tree, tree_of, node_head}
 use Rattle.yq_inline.proofs.NodeAgain.{is_anchored, takes_unanchored}
 use Rattle.yq_inline.proofs.InlineLaws.{inline_again}
@@ -31,7 +31,7 @@ use Rattle.yq_rows.specs.View.{anchor_cut, content_cut}
 use Rattle.yq_documents.specs.KeyReading.{EndsIn}
 use Rattle.yq_walk.specs.Lines.{head_of}
 use Rattle.yq_documents.specs.Reading.{has_fit_keys, content_is_fit}
-use Rattle.yq_documents.specs.RowReading.{placed_head, is_short_plain, begins_block, string_head, block_head_at, fit_head, node_head_at, head_at}
+use Rattle.yq_documents.specs.RowReading.{placed_head, is_short_plain, is_block_head, string_head, block_head_at, fit_head, node_head_at, head_at}
 use Rattle.yq_documents.proofs.FlowKeyLaws.{keys_there}
 use Rattle.yq_lines.proofs.OneLine.{one_line}
 
@@ -73,19 +73,19 @@ node_again whole n node rest a some ends h =
     ∙ (λ i. fitting (keys_there whole node rest ends i) (placed_head_is (length whole) node rest a i))
 
 -- which head a text is
-by_node : (whole : List ℕ) (n : ℤ) (head t : List ℕ) → is_empty head ≡ false → begins_block head ≡ false → is_quoted head ≡ false → is_short_plain head ≡ false → head_at whole n head t ≡ node_head_at whole n t
+by_node : (whole : List ℕ) (n : ℤ) (head t : List ℕ) → is_empty head ≡ false → is_block_head head ≡ false → is_quoted head ≡ false → is_short_plain head ≡ false → head_at whole n head t ≡ node_head_at whole n t
 unfolding head_at
 by_node whole n head t some block quoted short = rw (some, block, short, quoted) refl
 
-by_plain : (whole : List ℕ) (n : ℤ) (head t : List ℕ) → is_empty head ≡ false → begins_block head ≡ false → is_quoted head ≡ false → is_short_plain head ≡ true → head_at whole n head t ≡ Some (Some (scalar_node (plain_of head)))
+by_plain : (whole : List ℕ) (n : ℤ) (head t : List ℕ) → is_empty head ≡ false → is_block_head head ≡ false → is_quoted head ≡ false → is_short_plain head ≡ true → head_at whole n head t ≡ Some (Some (scalar_node (plain_of head)))
 unfolding head_at
 by_plain whole n head t some block quoted short = rw (some, block, short, quoted) refl
 
-by_quotes : (whole : List ℕ) (n : ℤ) (head t : List ℕ) → is_empty head ≡ false → begins_block head ≡ false → is_quoted head ≡ true → head_at whole n head t ≡ Some (string_head (content_of head))
+by_quotes : (whole : List ℕ) (n : ℤ) (head t : List ℕ) → is_empty head ≡ false → is_block_head head ≡ false → is_quoted head ≡ true → head_at whole n head t ≡ Some (string_head (content_of head))
 unfolding head_at
 by_quotes whole n head t some block quoted = rw (some, block, quoted) refl
 
-by_block : (whole : List ℕ) (n : ℤ) (head t : List ℕ) → is_empty head ≡ false → begins_block head ≡ true → head_at whole n head t ≡ block_head_at n t
+by_block : (whole : List ℕ) (n : ℤ) (head t : List ℕ) → is_empty head ≡ false → is_block_head head ≡ true → head_at whole n head t ≡ block_head_at n t
 unfolding head_at
 by_block whole n head t some block = rw (some, block) refl
 
@@ -104,7 +104,7 @@ string_is : (p : List ℕ) → is_quoted p ≡ true → string_head (content_of 
 unfolding scalar_of content_of
 string_is p q = rw q refl
 
-pub scalar_some_is : (n : ℤ) (p rest : List ℕ) → IsScalar false (Some (deeper n)) p rest → (is_empty p ≡ false) × (begins_block p ≡ false)
+pub scalar_some_is : (n : ℤ) (p rest : List ℕ) → IsScalarAt false (Some (deeper n)) p rest → (is_empty p ≡ false) × (is_block_head p ≡ false)
 scalar_some_is n [] rest h = absurd (omega (arith, scalar_some false (Some (deeper n)) [] rest h))
 scalar_some_is n (b ∷ bs) rest h =
     let begins = scalar_begins false (Some (deeper n)) (b ∷ bs) rest h in
@@ -126,7 +126,7 @@ scalar_is whole n p rest ends h =
 
 -- the head of a node without an anchor
 abbrev pub Opens : ℕ → Type 0
-Opens b = (t : List ℕ) → (begins_block (b ∷ t) ≡ false) × ((is_quoted (b ∷ t) ≡ false) × (is_short_plain (b ∷ t) ≡ false))
+Opens b = (t : List ℕ) → (is_block_head (b ∷ t) ≡ false) × ((is_quoted (b ∷ t) ≡ false) × (is_short_plain (b ∷ t) ≡ false))
 
 pub opens : (k : ℕ) → Opens (cond (eqb k 125) 123 91)
 opens k = cond_both (eqb k 125) 123 91 Opens (λ _ t. (refl, (refl, refl))) (λ _ t. (refl, (refl, refl)))
@@ -157,7 +157,7 @@ node_is whole n (coll k g is) rest ends h = written_is whole n (coll k g is) res
 node_is whole n (anchored name g node) rest ends h = written_is whole n node rest (takes_unanchored node h.3) ends h.4
 
 -- a block scalar's
-pub block_marks : (style : BlockStyle) (t : List ℕ) → begins_block (mark_of style ∷ t) ≡ true
+pub block_marks : (style : BlockStyle) (t : List ℕ) → is_block_head (mark_of style ∷ t) ≡ true
 block_marks styles.Literal t = refl
 block_marks styles.Folded t = refl
 

@@ -7,35 +7,35 @@ use Rattle.yq_lines.specs.Comments.{head_comment}
 use Rattle.yq_lines.specs.Names.{is_reference, line_names}
 use Rattle.yq_rows.specs.Grammar.{IsCut}
 use Rattle.yq_rows.specs.Rows.{Row, Part}
-use Rattle.yq_rows.specs.View.{rows_of, Shown, shown}
+use Rattle.yq_rows.specs.View.{rows_of, RowsView, rows_view}
 use Rattle.yq_scalar.specs.Characters.{text_limit}
-use Rattle.yq_walk.specs.Extents.{IsShown}
-use Rattle.yq_walk.specs.declared.spot.Stretch.{Stretch}
+use Rattle.yq_walk.specs.Extents.{IsRowsView}
+use Rattle.yq_walk.specs.declared.position.Stretch.{Stretch}
 use Rattle.yq_documents.specs.Documents.{Document, document_parts}
 use Rattle.yq_documents.specs.Holding.{Holds}
 use Rattle.yq_documents.specs.Located.{document_at}
-use Rattle.yq_documents.specs.Made.{IsTold}
+use Rattle.yq_documents.specs.Decoded.{IsDecoded}
 use Rattle.yq_documents.specs.Reading.{all_documents, cut_of, document_of, documents_of}
 use Rattle.yq_documents.specs.Stretches.{HasText, document_lines, part_rows, stretch_of}
-use Rattle.yq_documents.specs.declared.made.Made.{Made}
+use Rattle.yq_documents.specs.declared.decoded.Decoded.{Decoded}
 use Rattle.yq_documents.specs.declared.read_text.DocumentRows.{DocumentRows}
 use Rattle.yq_documents.proofs.PartRows.{has_part}
 
 same_stretch : (x y : Stretch) → x.first ≡ y.first → x.end ≡ y.end → x ≡ y
 same_stretch x y a b = λ i. record { first = a i; end = b i }
 
-module _ {t u : List ℕ} {s : Shown} {ds : List DocumentRows} {ms : List Made} {refers : Bool} (h : Holds t s ds ms refers) (e : t ≡ u) where
+module _ {t u : List ℕ} {s : RowsView} {ds : List DocumentRows} {ms : List Decoded} {refers : Bool} (h : Holds t s ds ms refers) (e : t ≡ u) where
   pub cut_held : IsCut u (cut_of u)
   cut_held = subst (λ (x : List ℕ). IsCut x (cut_of x)) e h.cut
 
-  pub rows_held : s ≡ shown (cut_of u)
-  rows_held = h.rows ∙ ap (λ (x : List ℕ). shown (cut_of x)) e
+  pub rows_held : s ≡ rows_view (cut_of u)
+  rows_held = h.rows ∙ ap (λ (x : List ℕ). rows_view (cut_of x)) e
 
   pub sound_held : all_documents (cut_of u) ≡ true
   sound_held = sym (ap (λ (x : List ℕ). all_documents (cut_of x)) e) ∙ h.sound
 
-  pub shown_held : IsShown s
-  shown_held = record { cut = cut_of t; is = h.rows; size = subst (λ (x : List ℕ). length x ≤ text_limit) h.cut.text h.cut.size }
+  pub view_held : IsRowsView s
+  view_held = record { cut = cut_of t; is = h.rows; size = subst (λ (x : List ℕ). length x ≤ text_limit) h.cut.text h.cut.size }
 
   pub count_held : length ds ≡ length (documents_of u)
   count_held = h.count ∙ (sym (length-map (document_parts (cut_of t)) document_of) ∙ ap (λ (x : List ℕ). length (documents_of x)) e)
@@ -59,13 +59,13 @@ module _ {t u : List ℕ} {s : Shown} {ds : List DocumentRows} {ms : List Made} 
           cut = cut_held;
           sound = sound_held;
           rows = rows_held;
-          small = shown_held;
+          small = view_held;
           place = same_stretch x (stretch_of n t) (first ∙ p.first) stop ∙ ap (stretch_of n) e;
           there = within;
         }
 
-  pub told_held : (i : ℕ) (r : Row) → slice_get (rows_of (cut_of u)) i ≡ Some r → IsTold (length u) (cut_of u) ms i r
-  told_held = subst (λ (x : List ℕ). (i : ℕ) (r : Row) → slice_get (rows_of (cut_of x)) i ≡ Some r → IsTold (length x) (cut_of x) ms i r) e h.told
+  pub agrees_held : (i : ℕ) (r : Row) → slice_get (rows_of (cut_of u)) i ≡ Some r → IsDecoded (length u) (cut_of u) ms i r
+  agrees_held = subst (λ (x : List ℕ). (i : ℕ) (r : Row) → slice_get (rows_of (cut_of x)) i ≡ Some r → IsDecoded (length x) (cut_of x) ms i r) e h.agrees
 
-  pub quiet_held : refers ≡ false → (n : ℕ) → list_any is_reference (line_names (document_lines n u)) ≡ false
-  quiet_held = subst (λ (x : List ℕ). refers ≡ false → (n : ℕ) → list_any is_reference (line_names (document_lines n x)) ≡ false) e h.quiet
+  pub alias_free_held : refers ≡ false → (n : ℕ) → list_any is_reference (line_names (document_lines n u)) ≡ false
+  alias_free_held = subst (λ (x : List ℕ). refers ≡ false → (n : ℕ) → list_any is_reference (line_names (document_lines n x)) ≡ false) e h.alias_free

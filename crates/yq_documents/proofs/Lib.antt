@@ -8,7 +8,7 @@ pub mod HeadLaws
 pub mod HoldLaws
 pub mod KindLaws
 pub mod LineWritten
-pub mod MadeLaws
+pub mod DecodedLaws
 pub mod NodeLines
 pub mod RowFlowLaws
 pub mod RowLineLaws

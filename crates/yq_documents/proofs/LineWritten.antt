@@ -9,19 +9,19 @@ use Rattle.yq_lines.specs.Comments as comments
 use Rattle.yq_lines.specs.Outline.{Line, key_of}
 use Rattle.yq_rows.specs.Grammar.{AreRows, Limit, limit_after}
 use Rattle.yq_rows.specs.Rows.{Row, parent_indent, rows_text}
-use Rattle.yq_rows.specs.View.{Shown, Slices, slices}
+use Rattle.yq_rows.specs.View.{RowsView, Slices, slices}
 use Rattle.yq_scalar.specs.Quoted.{IsQuotedText}
 use Rattle.yq_scalar.specs.Text.{upto}
 use Rattle.yq_scalar.specs.Tree.{Node}
 use Rattle.yq_walk.specs.Extents.{lines_before_mark}
 use Rattle.yq_walk.specs.Lines.{head_of}
 use Rattle.yq_walk.specs.RowWalk.{line_rank}
-use Rattle.yq_walk.specs.declared.spot.Spot.{Spot}
-use Rattle.yq_walk.specs.declared.spot.Stretch.{Stretch}
+use Rattle.yq_walk.specs.declared.position.Position.{Position}
+use Rattle.yq_walk.specs.declared.position.Stretch.{Stretch}
 use Rattle.yq_walk.proofs.BesideLaws.{IsBeside, beside_in}
 use Rattle.yq_walk.proofs.RowLaws.{no_comments}
 use Rattle.yq_walk.proofs.WalkMarks.{key_here, key_none}
-use Rattle.yq_walk.proofs.WalkSpots.{Located}
+use Rattle.yq_walk.proofs.WalkPositions.{Located}
 use Rattle.yq_documents.specs.RowReading.{name_in}
 use Rattle.yq_documents.specs.Stretches.{HasText, IsLineIn, document_lines, number_of}
 use Rattle.yq_documents.proofs.WalkedRows.{line_here, located_in, own_line, stands}
@@ -40,7 +40,7 @@ rows_quoted limit (x ∷ rs) end rest h zero r e =
     subst (λ (y : Row). is_quoted (slices y).head ≡ true → IsQuotedText (slices y).head) same (content_quoted (parent_indent x) x.content (rows_text rs (end ++ rest)) h.0.content)
 rows_quoted limit (x ∷ rs) end rest h (suc i) r e = rows_quoted (limit_after x) rs end rest h.1 i r e
 
-module _ {t : List ℕ} {n : ℕ} {s : Shown} {d : Stretch} (x : HasText t n s d) {q : Spot} (at : IsLineIn t n q) where
+module _ {t : List ℕ} {n : ℕ} {s : RowsView} {d : Stretch} (x : HasText t n s d) {q : Position} (at : IsLineIn t n q) where
   pub head_quoted : is_quoted (slices (located_in x at).row).head ≡ true → IsQuotedText (slices (located_in x at).row).head
   head_quoted =
       let h = stands x in
@@ -59,31 +59,31 @@ module _ {t : List ℕ} {n : ℕ} {s : Shown} {d : Stretch} (x : HasText t n s d
 
     -- what is above the line
     pub gap_first : (piece : List ℕ) → ((y : Slices) → slice_get s.rows q.row ≡ Some y → piece ≡ y.gap) → q.line ≡ 0 → comments.head_comment piece ≡ l.head_comment
-    gap_first piece told none = ap comments.head_comment (told (slices k.row) k.pieces) ∙ sym (beside.first none)
+    gap_first piece agrees none = ap comments.head_comment (agrees (slices k.row) k.pieces) ∙ sym (beside.first none)
 
     pub gap_later : 0 < q.line → comments.head_comment [] ≡ l.head_comment
     gap_later some = no_comments ∙ sym (beside.other some)
 
     -- a key
-    module _ (r : ℕ) (told : (y : Slices) → slice_get s.rows q.row ≡ Some y → r ≡ line_rank q.line y) where
+    module _ (r : ℕ) (agrees : (y : Slices) → slice_get s.rows q.row ≡ Some y → r ≡ line_rank q.line y) where
       pub no_key : (r ≡ 2 → ⊥) → None ≡ key_of l.mark
-      no_key = key_none s d (stands x) q (line_here x at) l (k.is ∙ ap Some own) r told
+      no_key = key_none s d (stands x) q (line_here x at) l (k.is ∙ ap Some own) r agrees
 
       pub own_key : r ≡ 2 → Some (content_of (slices (located_in x at).row).key) ≡ key_of l.mark
-      own_key = key_here s d (stands x) q (line_here x at) l (k.is ∙ ap Some own) r told
+      own_key = key_here s d (stands x) q (line_here x at) l (k.is ∙ ap Some own) r agrees
 
     -- a head
     pub head_some : true ≡ is_some l.head → head_of (located_in x at).row.content ≡ l.head
     head_some some = go (cases_lt q.line (length k.row.dashes))
       where
         go : (q.line < length k.row.dashes) ⊎ (length k.row.dashes ≤ q.line) → head_of k.row.content ≡ l.head
-        go (inl less) = absurd (false≢true (sym (some ∙ ap is_some (ap (λ (y : Line). y.head) (sym own) ∙ (k.told.dash less).1))))
-        go (inr past) = sym (k.told.mark (omega (arith, past, k.within))).1 ∙ ap (λ (y : Line). y.head) own
+        go (inl less) = absurd (false≢true (sym (some ∙ ap is_some (ap (λ (y : Line). y.head) (sym own) ∙ (k.agrees.dash less).1))))
+        go (inr past) = sym (k.agrees.mark (omega (arith, past, k.within))).1 ∙ ap (λ (y : Line). y.head) own
 
     -- an anchor and a tail
-    module _ (b : ℕ) (told : (y : Slices) → slice_get s.rows q.row ≡ Some y → b ≡ lines_before_mark y) where
+    module _ (b : ℕ) (agrees : (y : Slices) → slice_get s.rows q.row ≡ Some y → b ≡ lines_before_mark y) where
       counted : b ≡ length (located_in x at).row.dashes
-      counted = told (slices k.row) k.pieces ∙ k.telling.counted
+      counted = agrees (slices k.row) k.pieces ∙ k.row_agrees.counted
 
       pub anchor_before : q.line < b → None ≡ l.anchor
       anchor_before less = sym (beside.dash (omega (arith, less, counted))).0

@@ -5,7 +5,7 @@ use Rattle.yq_scalar.specs.Paths.{is_item}
 use Rattle.yq_scalar.specs.Tree.{none}
 use Rattle.yq_lines.specs.Ends.{is_end}
 use Rattle.yq_lines.specs.Outline.{Mark, Bare, Key, Dash, Outline, end, row, children, key_of, null_node, value}
-use Rattle.yq_lines.specs.Spots.{is_bare}
+use Rattle.yq_lines.specs.Positions.{is_bare}
 
 -- where there are no lines there are no items and entries, and a null
 pub no_children : (o : Outline) → false ≡ not (is_end o) → children o ≡ none

@@ -7,7 +7,7 @@ use Rattle.std.specs.List.{slice_get}
 use Rattle.yq_rows.specs.Grammar.{begins_document}
 use Rattle.yq_rows.specs.Rows.{Row, Part, Cut, last, marked}
 use Rattle.yq_rows.specs.Splices.{nth_part}
-use Rattle.yq_rows.specs.View.{Bound, bounds_from, rows_of, Shown, shown}
+use Rattle.yq_rows.specs.View.{Bound, bounds_from, rows_of, RowsView, rows_view}
 use Rattle.yq_documents.specs.Documents.{parts_from, document_parts, begins_bare, has_begin}
 use Rattle.yq_documents.specs.PartNumbers.{number_from, part_number, document_part, rows_to}
 use Rattle.yq_documents.specs.PartReading.{some_begin, first_rows, number_in}
@@ -55,7 +55,7 @@ number_told true zero k m (marked q marker c) = ap Some (omega arith)
 number_told true (suc n) k m (marked q marker c) = number_told (begins_document marker) n (k + 1) (m + length q.rows) c ∙ ap (λ (j : ℕ). if_there j (slice_get (parts_from (begins_document marker) c) n)) (omega arith)
 number_told false n k m (marked q marker c) = number_told (begins_document marker) n (k + 1) (m + length q.rows) c ∙ ap (λ (j : ℕ). if_there j (slice_get (parts_from (begins_document marker) c) n)) (omega arith)
 
-pub document_told : (c : Cut) (s : Shown) (n : ℕ) → s ≡ shown c → number_in (first_rows s.bounds || not (some_begin s.bounds)) n 0 s.bounds ≡ document_part n c
+pub document_told : (c : Cut) (s : RowsView) (n : ℕ) → s ≡ rows_view c → number_in (first_rows s.bounds || not (some_begin s.bounds)) n 0 s.bounds ≡ document_part n c
 document_told c s n is =
     (λ i. number_in (document_is c s is i) n 0 (is i).bounds)
     ∙ (number_told (begins_bare c || not (has_begin c)) n 0 0 c ∙ ap (λ (j : ℕ). if_there j (slice_get (document_parts c) n)) (omega arith))
@@ -89,11 +89,11 @@ rows_within zero (marked p marker c) = omega (arith, length-append p.rows (rows_
 rows_within (suc i) (marked p marker c) = omega (arith, rows_within i c, length-append p.rows (rows_of c))
 
 -- the end of part i, and the beginning of the next one, by its bound
-pub end_told : (i n : ℕ) (c : Cut) (b : Bound) → slice_get (bounds_from n c) i ≡ Some b → b.rows ≡ n + (rows_to i c + length (nth_part i c).rows)
-end_told zero n (last p) b e = ap (λ (x : Bound). x.rows) (sym (same_Some _ _ e)) ∙ omega arith
-end_told (suc i) n (last p) b e = absurd (cc)
-end_told zero n (marked p marker c) b e = ap (λ (x : Bound). x.rows) (sym (same_Some _ _ e)) ∙ omega arith
-end_told (suc i) n (marked p marker c) b e = end_told i (n + length p.rows) c b e ∙ omega arith
+pub end_agrees : (i n : ℕ) (c : Cut) (b : Bound) → slice_get (bounds_from n c) i ≡ Some b → b.rows ≡ n + (rows_to i c + length (nth_part i c).rows)
+end_agrees zero n (last p) b e = ap (λ (x : Bound). x.rows) (sym (same_Some _ _ e)) ∙ omega arith
+end_agrees (suc i) n (last p) b e = absurd (cc)
+end_agrees zero n (marked p marker c) b e = ap (λ (x : Bound). x.rows) (sym (same_Some _ _ e)) ∙ omega arith
+end_agrees (suc i) n (marked p marker c) b e = end_agrees i (n + length p.rows) c b e ∙ omega arith
 
 pub none_before : (c : Cut) → rows_to 0 c ≡ 0
 none_before (last p) = refl
@@ -104,8 +104,8 @@ next_told i n (last p) b e h = absurd (omega (arith, h))
 next_told zero n (marked p marker c) b e h = ap (λ (x : Bound). x.rows) (sym (same_Some _ _ e)) ∙ omega (arith, none_before c)
 next_told (suc i) n (marked p marker c) b e h = next_told i (n + length p.rows) c b e (omega (arith, h)) ∙ omega arith
 
-pub start_told : (s : Shown) (c : Cut) (i : ℕ) (b : Bound) → s ≡ shown c → (i ≡ 0 → ⊥) → i < length s.bounds → slice_get s.bounds (i - 1) ≡ Some b → b.rows ≡ rows_to i c
-start_told s c i b is some within at =
+pub start_agrees : (s : RowsView) (c : Cut) (i : ℕ) (b : Bound) → s ≡ rows_view c → (i ≡ 0 → ⊥) → i < length s.bounds → slice_get s.bounds (i - 1) ≡ Some b → b.rows ≡ rows_to i c
+start_agrees s c i b is some within at =
     let before : suc (i - 1) ≡ i = omega (arith, some) in
-    next_told (i - 1) 0 c b (ap (λ (x : Shown). slice_get x.bounds (i - 1)) (sym is) ∙ at) (omega (arith, before, within, ap (λ (x : Shown). length x.bounds) is))
+    next_told (i - 1) 0 c b (ap (λ (x : RowsView). slice_get x.bounds (i - 1)) (sym is) ∙ at) (omega (arith, before, within, ap (λ (x : RowsView). length x.bounds) is))
     ∙ omega (arith, ap (λ j. rows_to j c) before)

@@ -10,16 +10,16 @@ use Rattle.yq_lines.specs.Sound.{is_sound}
 use Rattle.yq_rows.specs.Grammar.{IsCut, unlimited, AreRows}
 use Rattle.yq_rows.specs.Rows.{Row, Part, Cut}
 use Rattle.yq_rows.specs.Splices.{nth_part, behind_part}
-use Rattle.yq_rows.specs.View.{slices, rows_of, Shown, shown}
+use Rattle.yq_rows.specs.View.{slices, rows_of, RowsView, rows_view}
 use Rattle.yq_rows.proofs.splices.PartPlaces.{part_in}
 use Rattle.yq_scalar.specs.Anchors.{names_of}
 use Rattle.yq_walk.specs.Lines.{lines_of}
 use Rattle.yq_walk.specs.RowWalk.{HasDocument, HasRows}
-use Rattle.yq_walk.specs.declared.spot.Stretch.{Stretch}
+use Rattle.yq_walk.specs.declared.position.Stretch.{Stretch}
 use Rattle.yq_documents.specs.Documents.{document_parts}
 use Rattle.yq_documents.specs.Reading.{all_documents, is_document, have_fit_keys, has_short_root, root_of}
 use Rattle.yq_documents.specs.PartNumbers.{part_number}
-use Rattle.yq_documents.specs.Seats.{document_row}
+use Rattle.yq_documents.specs.LinesInRows.{document_row}
 use Rattle.yq_documents.proofs.PartNumberLaws.{part_there, rows_there, rows_within}
 
 -- a document's rows stand among those of a cut, behind so many others
@@ -46,7 +46,7 @@ has_part (x ∷ ps) zero h = (x, refl)
 has_part (x ∷ ps) (suc i) h = has_part ps i (omega (arith, h))
 
 -- the rows of a document stand among those of its cut
-pub rows_stand : (t : List ℕ) (s : Shown) (c : Cut) (n : ℕ) (p : Part) (d : Stretch) → IsCut t c → s ≡ shown c → slice_get (document_parts c) n ≡ Some p → d.first ≡ document_row n c → d.end ≡ document_row n c + length p.rows →
+pub rows_stand : (t : List ℕ) (s : RowsView) (c : Cut) (n : ℕ) (p : Part) (d : Stretch) → IsCut t c → s ≡ rows_view c → slice_get (document_parts c) n ≡ Some p → d.first ≡ document_row n c → d.end ≡ document_row n c + length p.rows →
     (h : HasRows s d) × ((h.rows ≡ p.rows) × (h.rows ≡ take (d.end - d.first) (drop d.first (rows_of c))))
 rows_stand t s c n p d cut is at first end =
     let b = part_begins c n p at in
@@ -60,7 +60,7 @@ rows_stand t s c n p d cut is at first end =
     let pieces : take (d.end - d.first) (drop d.first s.rows) ≡ map slices p.rows =
     (λ i. take (size i) (there i)) ∙ take_at (map slices p.rows) (map slices b.0) (length p.rows) (length-map p.rows slices) in
     let long : length s.rows - d.first ≡ length p.rows + length b.0 = sym (length-drop d.first s.rows) ∙ (ap length there ∙ (length-append (map slices p.rows) (map slices b.0) ∙ (λ i. length-map p.rows slices i + length-map b.0 slices i))) in
-    let all : length s.rows ≡ length (rows_of c) = ap (λ (x : Shown). length x.rows) is ∙ length-map (rows_of c) slices in
+    let all : length s.rows ≡ length (rows_of c) = ap (λ (x : RowsView). length x.rows) is ∙ length-map (rows_of c) slices in
     let upto : k + length (nth_part (part_number n c) c).rows ≤ length (rows_of c) = rows_within (part_number n c) c in (
       record {
         rows = p.rows;
@@ -76,7 +76,7 @@ rows_stand t s c n p d cut is at first end =
     )
 
 -- the document of a text with its cut
-pub document_has : (t : List ℕ) (s : Shown) (c : Cut) (n : ℕ) (p : Part) (d : Stretch) → IsCut t c → s ≡ shown c → slice_get (document_parts c) n ≡ Some p → d.first ≡ document_row n c → d.end ≡ document_row n c + length p.rows → all_documents c ≡ true →
+pub document_has : (t : List ℕ) (s : RowsView) (c : Cut) (n : ℕ) (p : Part) (d : Stretch) → IsCut t c → s ≡ rows_view c → slice_get (document_parts c) n ≡ Some p → d.first ≡ document_row n c → d.end ≡ document_row n c + length p.rows → all_documents c ≡ true →
     (h : HasDocument s d) × (h.stand.rows ≡ p.rows)
 document_has t s c n p d cut is at first end walk =
     let h = rows_stand t s c n p d cut is at first end in

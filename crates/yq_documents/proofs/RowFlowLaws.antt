@@ -19,7 +19,7 @@ use Rattle.yq_rows.specs.View.{Slices, anchor_cut, content_cut}
 use Rattle.yq_documents.specs.FlowReading.{kept, node_flow_at, head_flow_at, core, content_core, row_flow}
 use Rattle.yq_documents.specs.KeyReading.{EndsIn}
 use Rattle.yq_walk.specs.Lines.{tail_of}
-use Rattle.yq_documents.specs.RowReading.{is_short_plain, begins_block, HasHead}
+use Rattle.yq_documents.specs.RowReading.{is_short_plain, is_block_head, HasHead}
 use Rattle.yq_documents.proofs.HeadLaws.{ends_drop, head_text, opens, block_marks, scalar_some_is}
 
 -- an inline node that is read
@@ -37,19 +37,19 @@ node_again whole n node rest some ends h =
     ap (λ o. o >>= kept) (inline_again places.Block n 0 at whole p is)
 
 -- which head a text is
-by_node : (whole : List ℕ) (n : ℤ) (head t : List ℕ) → is_empty head ≡ false → begins_block head ≡ false → is_quoted head ≡ false → is_short_plain head ≡ false → head_flow_at whole n head t ≡ node_flow_at whole n t
+by_node : (whole : List ℕ) (n : ℤ) (head t : List ℕ) → is_empty head ≡ false → is_block_head head ≡ false → is_quoted head ≡ false → is_short_plain head ≡ false → head_flow_at whole n head t ≡ node_flow_at whole n t
 unfolding head_flow_at
 by_node whole n head t some block quoted short = rw (some, block, short, quoted) refl
 
-by_plain : (whole : List ℕ) (n : ℤ) (head t : List ℕ) → is_empty head ≡ false → begins_block head ≡ false → is_quoted head ≡ false → is_short_plain head ≡ true → head_flow_at whole n head t ≡ None
+by_plain : (whole : List ℕ) (n : ℤ) (head t : List ℕ) → is_empty head ≡ false → is_block_head head ≡ false → is_quoted head ≡ false → is_short_plain head ≡ true → head_flow_at whole n head t ≡ None
 unfolding head_flow_at
 by_plain whole n head t some block quoted short = rw (some, block, short, quoted) refl
 
-by_quotes : (whole : List ℕ) (n : ℤ) (head t : List ℕ) → is_empty head ≡ false → begins_block head ≡ false → is_quoted head ≡ true → head_flow_at whole n head t ≡ None
+by_quotes : (whole : List ℕ) (n : ℤ) (head t : List ℕ) → is_empty head ≡ false → is_block_head head ≡ false → is_quoted head ≡ true → head_flow_at whole n head t ≡ None
 unfolding head_flow_at
 by_quotes whole n head t some block quoted = rw (some, block, quoted) refl
 
-by_block : (whole : List ℕ) (n : ℤ) (head t : List ℕ) → is_empty head ≡ false → begins_block head ≡ true → head_flow_at whole n head t ≡ None
+by_block : (whole : List ℕ) (n : ℤ) (head t : List ℕ) → is_empty head ≡ false → is_block_head head ≡ true → head_flow_at whole n head t ≡ None
 unfolding head_flow_at
 by_block whole n head t some block = rw (some, block) refl
 

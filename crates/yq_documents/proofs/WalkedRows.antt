@@ -6,20 +6,20 @@ use Rattle.std.specs.List.{slice_get}
 use Rattle.yq_lines.specs.Group.{group}
 use Rattle.yq_lines.specs.Outline.{Line, value}
 use Rattle.yq_rows.specs.Rows.{Row, Part, Cut}
-use Rattle.yq_rows.specs.View.{rows_of, Shown}
+use Rattle.yq_rows.specs.View.{rows_of, RowsView}
 use Rattle.yq_walk.specs.Lines.{lines_of}
-use Rattle.yq_walk.specs.RowWalk.{HasDocument, HasRows, IsLine, IsSpot, OfLine, line_number}
-use Rattle.yq_walk.specs.declared.spot.Spot.{Spot}
-use Rattle.yq_walk.specs.declared.spot.Stretch.{Stretch}
+use Rattle.yq_walk.specs.RowWalk.{HasDocument, HasRows, IsLine, IsPosition, OfLine, line_number}
+use Rattle.yq_walk.specs.declared.position.Position.{Position}
+use Rattle.yq_walk.specs.declared.position.Stretch.{Stretch}
 use Rattle.yq_walk.proofs.KnownLaws.{get_dropped, get_front}
-use Rattle.yq_walk.proofs.WalkSpots.{Located, first_number, located}
+use Rattle.yq_walk.proofs.WalkPositions.{Located, first_number, located}
 use Rattle.yq_documents.specs.Documents.{Document, document_parts}
 use Rattle.yq_documents.specs.Reading.{cut_of, document_of, documents_of}
-use Rattle.yq_documents.specs.Seats.{document_row}
-use Rattle.yq_documents.specs.Stretches.{HasText, IsLineIn, IsSpotIn, OfLineIn, document_lines, document_rows, number_of, part_rows}
+use Rattle.yq_documents.specs.LinesInRows.{document_row}
+use Rattle.yq_documents.specs.Stretches.{HasText, IsLineIn, IsPositionIn, OfLineIn, document_lines, document_rows, number_of, part_rows}
 use Rattle.yq_documents.proofs.PartRows.{document_has, has_part, part_begins}
 
-pub document_in : {t : List ℕ} {n : ℕ} {s : Shown} {d : Stretch} → HasText t n s d → (h : HasDocument s d) × (h.stand.rows ≡ document_rows n t)
+pub document_in : {t : List ℕ} {n : ℕ} {s : RowsView} {d : Stretch} → HasText t n s d → (h : HasDocument s d) × (h.stand.rows ≡ document_rows n t)
 document_in {t} {n} {s} {d} x =
     let c : Cut = cut_of t in
     let p = has_part (document_parts c) n (omega (arith, x.there, length-map (document_parts c) document_of)) in
@@ -27,54 +27,54 @@ document_in {t} {n} {s} {d} x =
     let h = document_has t s c n p.0 d x.cut x.rows p.1 (ap (λ (e : Stretch). e.first) x.place) (ap (λ (e : Stretch). e.end) x.place ∙ ap (λ (rs : List Row). document_row n c + length rs) is) x.sound in
     (h.0, h.1 ∙ sym is)
 
-module _ {t : List ℕ} {n : ℕ} {s : Shown} {d : Stretch} (x : HasText t n s d) where
+module _ {t : List ℕ} {n : ℕ} {s : RowsView} {d : Stretch} (x : HasText t n s d) where
   abbrev pub stands : HasRows s d
   stands = (document_in x).0.stand
 
   -- what is told of the lines of the rows that were walked is so of those of the document
-  told_lines : (P : List Line → (Spot → ℕ) → Type 0) → P (lines_of stands.rows) (line_number d stands.rows) → P (document_lines n t) (number_of n t)
-  told_lines P p = subst (λ (y : List Row × Stretch). P (lines_of y.0) (line_number y.1 y.0)) (λ i. ((document_in x).1 i, x.place i)) p
+  agrees_lines : (P : List Line → (Position → ℕ) → Type 0) → P (lines_of stands.rows) (line_number d stands.rows) → P (document_lines n t) (number_of n t)
+  agrees_lines P p = subst (λ (y : List Row × Stretch). P (lines_of y.0) (line_number y.1 y.0)) (λ i. ((document_in x).1 i, x.place i)) p
 
-  pub told_rows : (P : List Line → (Spot → ℕ) → Type 0) → ((h : HasRows s d) → P (lines_of h.rows) (line_number d h.rows)) → P (document_lines n t) (number_of n t)
-  told_rows P f = told_lines P (f stands)
+  pub agrees_rows : (P : List Line → (Position → ℕ) → Type 0) → ((h : HasRows s d) → P (lines_of h.rows) (line_number d h.rows)) → P (document_lines n t) (number_of n t)
+  agrees_rows P f = agrees_lines P (f stands)
 
-  pub told_document : (P : List Line → (Spot → ℕ) → Type 0) → ((h : HasDocument s d) → P (lines_of h.stand.rows) (line_number d h.stand.rows)) → P (document_lines n t) (number_of n t)
-  told_document P f = told_lines P (f (document_in x).0)
+  pub agrees_document : (P : List Line → (Position → ℕ) → Type 0) → ((h : HasDocument s d) → P (lines_of h.stand.rows) (line_number d h.stand.rows)) → P (document_lines n t) (number_of n t)
+  agrees_document P f = agrees_lines P (f (document_in x).0)
 
-  pub of_line : (q : Spot) (said : Line → Type 0) → OfLine s d q said → OfLineIn t n q said
-  of_line q said = told_rows (λ ls num. (l : Line) → slice_get ls (num q) ≡ Some l → said l)
+  pub of_line : (q : Position) (said : Line → Type 0) → OfLine s d q said → OfLineIn t n q said
+  of_line q said = agrees_rows (λ ls num. (l : Line) → slice_get ls (num q) ≡ Some l → said l)
 
-  pub line_here : {q : Spot} → IsLineIn t n q → IsLine s d q
-  line_here {q} at = subst (λ (y : Shown × Stretch). IsLine y.0 y.1 q) (λ i. (sym x.rows i, sym x.place i)) at.place
+  pub line_here : {q : Position} → IsLineIn t n q → IsLine s d q
+  line_here {q} at = subst (λ (y : RowsView × Stretch). IsLine y.0 y.1 q) (λ i. (sym x.rows i, sym x.place i)) at.place
 
-  pub spot_here : {q : Spot} → IsSpotIn t n q → IsSpot s d q
-  spot_here {q} at = subst (λ (y : Shown × Stretch). IsSpot y.0 y.1 q) (λ i. (sym x.rows i, sym x.place i)) at
+  pub position_here : {q : Position} → IsPositionIn t n q → IsPosition s d q
+  position_here {q} at = subst (λ (y : RowsView × Stretch). IsPosition y.0 y.1 q) (λ i. (sym x.rows i, sym x.place i)) at
 
   -- a line with its row
-  abbrev pub located_in : {q : Spot} → IsLineIn t n q → Located s d stands q
+  abbrev pub located_in : {q : Position} → IsLineIn t n q → Located s d stands q
   located_in {q} at = located s d stands q (line_here at)
 
-  pub line_back : {q : Spot} → IsLine s d q → IsLineIn t n q
+  pub line_back : {q : Position} → IsLine s d q → IsLineIn t n q
   line_back {q} at =
       let k = located s d stands q at in
       record {
-        place = subst (λ (y : Shown × Stretch). IsLine y.0 y.1 q) (λ i. (x.rows i, x.place i)) at;
+        place = subst (λ (y : RowsView × Stretch). IsLine y.0 y.1 q) (λ i. (x.rows i, x.place i)) at;
         line = k.line;
-        there = told_lines (λ ls num. slice_get ls (num q) ≡ Some k.line) k.is;
+        there = agrees_lines (λ ls num. slice_get ls (num q) ≡ Some k.line) k.is;
       }
 
   -- the line of that number is that of the row
-  pub own_line : {q : Spot} (at : IsLineIn t n q) (l : Line) → slice_get (document_lines n t) (number_of n t q) ≡ Some l → (located_in at).line ≡ l
+  pub own_line : {q : Position} (at : IsLineIn t n q) (l : Line) → slice_get (document_lines n t) (number_of n t q) ≡ Some l → (located_in at).line ≡ l
   own_line {q} at l e =
       let k = located_in at in
-      same_Some _ _ (sym (told_lines (λ ls num. slice_get ls (num q) ≡ Some k.line) k.is) ∙ e)
+      same_Some _ _ (sym (agrees_lines (λ ls num. slice_get ls (num q) ≡ Some k.line) k.is) ∙ e)
 
   -- a row of the document is one of the text
-  pub row_in : {q : Spot} → IsLineIn t n q → q.row < length s.rows
+  pub row_in : {q : Position} → IsLineIn t n q → q.row < length s.rows
   row_in {q} at = omega (arith, (line_here at).upto, stands.within)
 
   -- and that of its cut
-  pub row_there : {q : Spot} (at : IsLineIn t n q) → slice_get (rows_of (cut_of t)) q.row ≡ Some (located_in at).row
+  pub row_there : {q : Position} (at : IsLineIn t n q) → slice_get (rows_of (cut_of t)) q.row ≡ Some (located_in at).row
   row_there {q} at =
       let c : Cut = cut_of t in
       let k = located_in at in
@@ -90,7 +90,7 @@ module _ {t : List ℕ} {n : ℕ} {s : Shown} {d : Stretch} (x : HasText t n s d
 
   -- the first line of a document
   pub first_is : number_of n t (record { row = d.first; line = 0 }) ≡ 0
-  first_is = told_rows (λ ls num. num (record { row = d.first; line = 0 }) ≡ 0) (λ h. sym (first_number d h.rows))
+  first_is = agrees_rows (λ ls num. num (record { row = d.first; line = 0 }) ≡ 0) (λ h. sym (first_number d h.rows))
 
 -- the root of a document
 part_root : (o : Option Part) (d : Document) → option_map document_of o ≡ Some d → value (group (lines_of (part_rows o))) ≡ d.root

@@ -3,7 +3,7 @@ use Rattle.std.specs.Prelude.{None}
 use Rattle.yq_scalar.specs.Tree.{Node, scalar, list, map}
 use Rattle.yq_inline.specs.Trees.{placed_tree}
 use Rattle.yq_inline.specs.View as inline
-use Rattle.yq_lines.specs.Bodies.{lent}
+use Rattle.yq_lines.specs.Bodies.{borrowed}
 use Rattle.yq_lines.specs.Ends.{part}
 use Rattle.yq_lines.specs.Outline.{Outline, anchored, null_node, children}
 use Rattle.yq_documents.specs.Stretches.{document_lines, number_of}
@@ -25,4 +25,4 @@ body_node (bodies.TheVariants.Inline node) = placed_tree (inline.view node.now)
 
 -- the same with that anchor (own)
 abbrev pub named_node : Named → Node
-named_node n = anchored (lent n.anchor) (body_node n.body)
+named_node n = anchored (borrowed n.anchor) (body_node n.body)

@@ -10,7 +10,7 @@ use Rattle.yq_inline.specs.Scalars.{is_quoted}
 use Rattle.yq_rows.specs.Rows as rows
 use Rattle.yq_rows.specs.Rows.{Row}
 use Rattle.yq_walk.specs.Lines.{tail_of}
-use Rattle.yq_documents.specs.RowReading.{begins_block, is_short_plain}
+use Rattle.yq_documents.specs.RowReading.{is_block_head, is_short_plain}
 
 -- a node by its content, if it is an alias or a flow collection (own)
 abbrev pub kept_by : Placed → Content → Option Placed
@@ -32,7 +32,7 @@ node_flow_at whole n t = inline_at places.Block n 0 (length whole - length t) wh
 unfoldable pub head_flow_at : List ℕ → ℤ → List ℕ → List ℕ → Option Placed
 head_flow_at whole n head t =
     if is_empty head then None
-    else (if begins_block head then None
+    else (if is_block_head head then None
     else (if is_quoted head then None
     else (if is_short_plain head then None
     else node_flow_at whole n t)))

@@ -16,7 +16,7 @@ pub use Rattle.yq_lines.specs.Counts
 pub use Rattle.yq_lines.specs.Comments
 pub use Rattle.yq_lines.specs.Laws
 pub use Rattle.yq_lines.specs.ShapedLines
-pub mod Seats
+pub mod LinesInRows
 pub mod Children
 pub mod Documents
 pub mod PartNumbers
@@ -30,7 +30,7 @@ pub mod FlowReading
 pub mod Nodes
 pub mod Bodies
 pub mod Stretches
-pub mod Made
+pub mod Decoded
 pub mod Holding
 pub mod Pieces
 pub mod Texts

@@ -9,7 +9,7 @@ use Rattle.yq_documents.specs.declared.nodes.node.NodeKind.{NodeKind}
 use Rattle.yq_documents.specs.declared.nodes.node.NodeKind.TheVariants as kinds
 use Rattle.yq_documents.specs.declared.nodes.node.Slot as slots
 use Rattle.yq_documents.specs.declared.nodes.node.Written.{Written}
-use Rattle.yq_lines.specs.Bodies.{lent}
+use Rattle.yq_lines.specs.Bodies.{borrowed}
 use Rattle.yq_lines.specs.Comments as comments
 use Rattle.yq_lines.specs.Labelled.{Labelled}
 
@@ -19,13 +19,13 @@ node_of n = named_node n.named
 
 -- what is told of the entry or item of a line (own)
 abbrev pub written_label : Written → Label
-written_label w = record { key = lent w.key; head_comment = comments.head_comment w.gap.now; line_comment = comments.line_comment w.tail.now }
+written_label w = record { key = borrowed w.key; head_comment = comments.head_comment w.gap.now; line_comment = comments.line_comment w.tail.now }
 
 -- what is told of what stands in such a place (own)
 abbrev pub slot_label : slots.Slot → Label
 slot_label slots.TheVariants.Root = unlabelled
 slot_label (slots.TheVariants.Line w) = written_label w
-slot_label (slots.TheVariants.Inline key) = inner (lent key)
+slot_label (slots.TheVariants.Inline key) = inner (borrowed key)
 
 -- what is told of the entry or item of a node of the code (own)
 abbrev pub label_of : declared.Node → Label

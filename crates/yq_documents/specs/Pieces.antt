@@ -10,13 +10,13 @@ use Rattle.yq_documents.specs.declared.path.Span.{Span}
 use Rattle.yq_lines.specs.Comments.{are_comments}
 
 -- A piece of a text: the text before it, its own, and the text behind it (own).
-pub record Piece : Type 0 where
+pub record TextPiece : Type 0 where
   pub before : List ℕ
   pub text : List ℕ
   pub behind : List ℕ
 
 -- where a piece begins and ends, in bytes (own)
-abbrev pub piece_span : Piece → ℕ × ℕ
+abbrev pub piece_span : TextPiece → ℕ × ℕ
 piece_span p = (length p.before, length p.before + length p.text)
 
 -- where a place that the code tells begins and ends, in bytes (own)
@@ -24,11 +24,11 @@ abbrev pub span : Span → ℕ × ℕ
 span s = (s.start, s.end)
 
 -- A text holds a piece, from one whole character to another (own).
-abbrev pub HoldsPiece : List ℕ → Piece → Type 0
+abbrev pub HoldsPiece : List ℕ → TextPiece → Type 0
 HoldsPiece t p = HasPieces t p.before p.text p.behind
 
 -- an inline node between two texts, without its anchor; where nothing but an anchor is written there is none (7.2)
-abbrev pub node_piece : List ℕ → Node → List ℕ → Option Piece
+abbrev pub node_piece : List ℕ → Node → List ℕ → Option TextPiece
 node_piece before empty behind = None
 node_piece before (alias name) behind = Some (record { before = before; text = node_text (alias name) []; behind = behind })
 node_piece before (scalar p) behind = Some (record { before = before; text = node_text (scalar p) []; behind = behind })
@@ -36,19 +36,19 @@ node_piece before (coll close gap items) behind = Some (record { before = before
 node_piece before (anchored name gap node) behind = node_piece (before ++ 38 ∷ (name ++ gap)) node behind
 
 -- what is written behind a mark, without an anchor: an inline node (7), or a block scalar from its header to its last raw line (8.1)
-abbrev pub head_piece : List ℕ → Content → List ℕ → Option Piece
+abbrev pub head_piece : List ℕ → Content → List ℕ → Option TextPiece
 head_piece before (Nothing tail) behind = None
 head_piece before (Inline space node tail) behind = node_piece (before ++ space) node (tail ++ behind)
 head_piece before (Block space anchor block) behind = Some (record { before = before ++ (space ++ anchor_text anchor []); text = block_text block []; behind = behind })
 
 -- the comment in a tail between two texts: from its `#` to the end of the line, before its break (6.6)
-abbrev pub tail_comment : List ℕ → List ℕ → List ℕ → Option Piece
+abbrev pub tail_comment : List ℕ → List ℕ → List ℕ → Option TextPiece
 tail_comment before tail behind =
     let line = cut ends_line (past_white tail) in
     if front (λ b. b == 35) (past_white tail) then Some (record { before = before ++ (cut no_white tail).0; text = line.0; behind = line.1 ++ behind }) else None
 
 -- the comment in the tail of a content between two texts (6.6)
-abbrev pub content_comment : List ℕ → Content → List ℕ → Option Piece
+abbrev pub content_comment : List ℕ → Content → List ℕ → Option TextPiece
 content_comment before c behind = let x = content_cut c in tail_comment (before ++ (x.0 ++ (x.1 ++ (x.2 ++ x.3)))) x.4 (x.5 ++ behind)
 
 -- the run of comment lines, of any indentation, that ends lines (6.6; own)
@@ -62,7 +62,7 @@ before_run [] = []
 before_run (l ∷ ls) = if are_comments (l ∷ ls) then [] else l ∷ before_run ls
 
 -- the run that ends a gap between two texts, if there is one: its lines with their breaks (6.6)
-abbrev pub gap_comment : List ℕ → List ℕ → List ℕ → Option Piece
+abbrev pub gap_comment : List ℕ → List ℕ → List ℕ → Option TextPiece
 gap_comment before gap behind =
     let run = joined (last_run (lines_of gap)) in
     if is_empty run then None else Some (record { before = before ++ joined (before_run (lines_of gap)); text = run; behind = behind })

@@ -93,12 +93,12 @@ abbrev pub checked : Cut → Option Cut
 checked c = if all_documents c then Some c else None
 
 -- a text, cut into parts that stand for documents
-unfoldable pub text_at : List ℕ → Option Cut
-text_at text = scan_at text >>= checked
+unfoldable pub checked_at : List ℕ → Option Cut
+checked_at text = scan_at text >>= checked
 
 -- bytes, which are UTF-8, cut into parts that stand for documents
 unfoldable pub read_at : List ℕ → Option Cut
-read_at bytes = if is_utf8 bytes then text_at bytes else None
+read_at bytes = if is_utf8 bytes then checked_at bytes else None
 
 -- a cut, or the cut of the empty text where there is none
 abbrev pub cut_or : Option Cut → Cut

@@ -38,8 +38,8 @@ abbrev pub is_short_plain : List ℕ → Bool
 is_short_plain head = not (is_quoted head || (first_is 42 head || (first_is 91 head || first_is 123 head))) && not (holds_break head)
 
 -- the mark of a block scalar is in front (own)
-abbrev pub begins_block : List ℕ → Bool
-begins_block head = front (λ b. b == 124 || b == 62) head
+abbrev pub is_block_head : List ℕ → Bool
+is_block_head head = front (λ b. b == 124 || b == 62) head
 
 -- a string, as a head (own)
 abbrev pub string_head : List ℕ → Option tree.Node
@@ -61,7 +61,7 @@ node_head_at whole n t = inline_at places.Block n 0 (length whole - length t) wh
 unfoldable pub head_at : List ℕ → ℤ → List ℕ → List ℕ → Option (Option tree.Node)
 head_at whole n head t =
     if is_empty head then Some None
-    else (if begins_block head then block_head_at n t
+    else (if is_block_head head then block_head_at n t
     else (if is_quoted head then Some (string_head (content_of head))
     else (if is_short_plain head then Some (Some (scalar_node (plain_of head)))
     else node_head_at whole n t)))

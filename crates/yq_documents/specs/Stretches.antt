@@ -4,15 +4,15 @@ use Rattle.yq_lines.specs.Ends.{part}
 use Rattle.yq_lines.specs.Outline.{Line, Outline, level}
 use Rattle.yq_rows.specs.Grammar.{IsCut}
 use Rattle.yq_rows.specs.Rows.{Row, Part}
-use Rattle.yq_rows.specs.View.{Shown, shown}
-use Rattle.yq_walk.specs.Extents.{IsShown}
+use Rattle.yq_rows.specs.View.{RowsView, rows_view}
+use Rattle.yq_walk.specs.Extents.{IsRowsView}
 use Rattle.yq_walk.specs.Lines.{lines_of}
-use Rattle.yq_walk.specs.RowWalk.{IsLine, IsSpot, line_number}
-use Rattle.yq_walk.specs.declared.spot.Spot.{Spot}
-use Rattle.yq_walk.specs.declared.spot.Stretch.{Stretch}
+use Rattle.yq_walk.specs.RowWalk.{IsLine, IsPosition, line_number}
+use Rattle.yq_walk.specs.declared.position.Position.{Position}
+use Rattle.yq_walk.specs.declared.position.Stretch.{Stretch}
 use Rattle.yq_documents.specs.Documents.{document_parts}
 use Rattle.yq_documents.specs.Reading.{all_documents, cut_of, documents_of}
-use Rattle.yq_documents.specs.Seats.{document_row}
+use Rattle.yq_documents.specs.LinesInRows.{document_row}
 
 -- the rows of a part; where there is no part there are none (own)
 abbrev pub part_rows : Option Part → List Row
@@ -32,36 +32,36 @@ abbrev pub stretch_of : ℕ → List ℕ → Stretch
 stretch_of n t = record { first = document_row n (cut_of t); end = document_row n (cut_of t) + length (document_rows n t) }
 
 -- the number of a line of document n of a text (own)
-abbrev pub number_of : ℕ → List ℕ → Spot → ℕ
+abbrev pub number_of : ℕ → List ℕ → Position → ℕ
 number_of n t q = line_number (stretch_of n t) (document_rows n t) q
 
 -- a line of document n of a text, or the end behind its rows (own)
-abbrev pub IsSpotIn : List ℕ → ℕ → Spot → Type 0
-IsSpotIn t n q = IsSpot (shown (cut_of t)) (stretch_of n t) q
+abbrev pub IsPositionIn : List ℕ → ℕ → Position → Type 0
+IsPositionIn t n q = IsPosition (rows_view (cut_of t)) (stretch_of n t) q
 
 -- A line of document n of a text (own).
-pub record IsLineIn (t : List ℕ) (n : ℕ) (q : Spot) : Type 0 where
-  pub place : IsLine (shown (cut_of t)) (stretch_of n t) q
+pub record IsLineIn (t : List ℕ) (n : ℕ) (q : Position) : Type 0 where
+  pub place : IsLine (rows_view (cut_of t)) (stretch_of n t) q
   pub line : Line
   pub there : slice_get (document_lines n t) (number_of n t q) ≡ Some line
 
 -- What is said of a line of document n of a text (own).
-abbrev pub OfLineIn : List ℕ → ℕ → Spot → (Line → Type 0) → Type 0
+abbrev pub OfLineIn : List ℕ → ℕ → Position → (Line → Type 0) → Type 0
 OfLineIn t n q said = (l : Line) → slice_get (document_lines n t) (number_of n t q) ≡ Some l → said l
 
 -- how many lines of document n of a text stand from one on (own)
-abbrev pub count_from : List ℕ → ℕ → Spot → ℕ
+abbrev pub count_from : List ℕ → ℕ → Position → ℕ
 count_from t n q = length (document_lines n t) - number_of n t q
 
 -- the lines under line q of document n of a text, where it is this line (own)
-abbrev pub lines_under : List ℕ → ℕ → Spot → Line → Outline
+abbrev pub lines_under : List ℕ → ℕ → Position → Line → Outline
 lines_under t n q l = part (document_lines n t) (number_of n t q + 1) (level l)
 
 -- The rows of a text that reads as documents, and which of them are those of document n (own).
-pub record HasText (t : List ℕ) (n : ℕ) (s : Shown) (d : Stretch) : Type 0 where
+pub record HasText (t : List ℕ) (n : ℕ) (s : RowsView) (d : Stretch) : Type 0 where
   pub cut : IsCut t (cut_of t)
   pub sound : all_documents (cut_of t) ≡ true
-  pub rows : s ≡ shown (cut_of t)
-  pub small : IsShown s
+  pub rows : s ≡ rows_view (cut_of t)
+  pub small : IsRowsView s
   pub place : d ≡ stretch_of n t
   pub there : n < length (documents_of t)

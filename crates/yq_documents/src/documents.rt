@@ -1,7 +1,7 @@
 //! Which parts of a text are documents.
 ghost use Rattle.std.specs.Prelude.{◌≡◌, ◌<◌, ◌==◌, ◌-◌, ◌||◌, ◌&&◌, not, length, IfSome, if◌then◌else◌};
 ghost use Rattle.yq_rows.specs.Rows.{Cut};
-ghost use Rattle.yq_rows.specs.View.{shown};
+ghost use Rattle.yq_rows.specs.View.{rows_view};
 ghost use Rattle.yq_documents.specs.PartNumbers as numbers;
 ghost use Rattle.yq_documents.specs.PartReading as spec;
 
@@ -76,7 +76,7 @@ fn number_in(rows: &Rows<'_>, first: bool, i: usize) -> Option<usize>
 
 /// The number of the part that is document `i`, both counted from 0.
 pub fn document_part(rows: &Rows<'_>, i: usize) -> Option<usize>
-    ensures value { (c : Cut) → rows.now ≡ shown c → result ≡ numbers.document_part i c }
+    ensures value { (c : Cut) → rows.now ≡ rows_view c → result ≡ numbers.document_part i c }
     ensures within { IfSome result (λ k. k < length rows.now.bounds) }
 {
     number_in(rows, first_is_document(rows), i)
@@ -85,7 +85,7 @@ pub fn document_part(rows: &Rows<'_>, i: usize) -> Option<usize>
 /// How many rows stand before part `i`.
 pub fn rows_to(rows: &Rows<'_>, i: usize) -> usize
     requires { i < length rows.now.bounds }
-    ensures { (c : Cut) → rows.now ≡ shown c → result ≡ numbers.rows_to i c }
+    ensures { (c : Cut) → rows.now ≡ rows_view c → result ≡ numbers.rows_to i c }
 {
     if i == 0 {
         return 0;

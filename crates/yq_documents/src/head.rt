@@ -28,7 +28,7 @@ pub fn anchor_name(anchor: &str) -> Option<&str>
     strip(b'&', anchor)
 }
 
-/// The head that a quoted scalar is: one on one line without escapes is lent.
+/// The head that a quoted scalar is: one on one line without escapes is borrowed.
 fn quoted_head(alloc: Global, head: &str) -> Result<Head<'_>, AllocError>
     requires { is_quoted head.now ≡ true → IsQuotedText head.now }
     ensures view { IfOk result (λ h. head_view h ≡ spec.string_head (content_text head.now)) }
@@ -49,8 +49,8 @@ fn is_short_plain(head: &str) -> bool
 }
 
 /// Whether a head is the header of a block scalar.
-pub fn begins_block(head: &[u8]) -> bool
-    ensures { result ≡ spec.begins_block head.now }
+pub fn is_block_head(head: &[u8]) -> bool
+    ensures { result ≡ spec.is_block_head head.now }
 {
     matches!(head, [b'|' | b'>', ..])
 }
@@ -111,7 +111,7 @@ fn read_block_head<'t>(alloc: Global, parent: i64, text: &str) -> Result<Head<'t
 }
 
 /// The head of a row below a parent of this indentation, that is written so and with which the text
-/// begins, where its keys are fit. A plain scalar on one line is lent, and a quoted one without escapes.
+/// begins, where its keys are fit. A plain scalar on one line is borrowed, and a quoted one without escapes.
 /// The text ends where the whole one does.
 #[tactic(auto, unfolding(crate::specs::RowReading::head_at, crate::specs::FlowReading::head_flow_at))]
 pub fn read_head<'t>(
@@ -131,7 +131,7 @@ pub fn read_head<'t>(
     if head.is_empty() {
         return Ok(Head::Nothing);
     }
-    if begins_block(head.as_bytes()) {
+    if is_block_head(head.as_bytes()) {
         return read_block_head(alloc, parent, text);
     }
     if is_quoted(head.as_bytes()) {

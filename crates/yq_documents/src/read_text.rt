@@ -4,18 +4,18 @@ ghost use Rattle.std.specs.List.{list_any};
 ghost use Rattle.yq_lines.specs.Names.{is_reference, line_names};
 ghost use Rattle.yq_rows.specs.Grammar.{IsCut};
 ghost use Rattle.yq_rows.specs.Rows.{Row as RowOf};
-ghost use Rattle.yq_rows.specs.View.{rows_of, shown};
-ghost use Rattle.yq_walk.specs.Extents.{IsShown};
+ghost use Rattle.yq_rows.specs.View.{rows_of, rows_view};
+ghost use Rattle.yq_walk.specs.Extents.{IsRowsView};
 ghost use Rattle.yq_documents.specs.Documents.{Document};
-ghost use Rattle.yq_documents.specs.Made.{IsToldBy};
+ghost use Rattle.yq_documents.specs.Decoded.{IsDecodedBy};
 ghost use Rattle.yq_documents.specs.Located.{document_at};
 ghost use Rattle.yq_documents.specs.Reading.{all_documents, cut_of, documents_of};
 ghost use Rattle.yq_documents.specs.Stretches.{HasText, document_lines};
 ghost use Rattle.yq_documents.specs.Texts.{texts_left};
 
-use crate::made::Made;
+use crate::decoded::Decoded;
 use crate::nodes::comments::Comments;
-use crate::of_row::made_at;
+use crate::of_row::decoded_at;
 use std::marker::Model;
 use yq_rows::Rows;
 use yq_walk::Stretch;
@@ -35,7 +35,7 @@ pub struct ReadText<'t> {
     text: &'t str,
     rows: Rows<'t>,
     documents: Vec<DocumentRows<'t>>,
-    made: Vec<Made<'t>>,
+    decoded: Vec<Decoded<'t>>,
     /// Whether an alias may stand in it.
     refers: bool,
 }
@@ -49,7 +49,7 @@ impl<'t> Model for ReadText<'t> {
 
     ghost view = { λ r. r.text.now };
 
-    ghost invariant = { λ r. Holds r.text.now r.rows r.documents.items r.made.items r.refers };
+    ghost invariant = { λ r. Holds r.text.now r.rows r.documents.items r.decoded.items r.refers };
 }
 
 impl<'t> ReadText<'t> {
@@ -60,17 +60,17 @@ impl<'t> ReadText<'t> {
         text: &'t str,
         rows: Rows<'t>,
         documents: Vec<DocumentRows<'t>>,
-        made: Vec<Made<'t>>,
+        decoded: Vec<Decoded<'t>>,
         refers: bool,
     ) -> ReadText<'t>
-        requires { Holds text.now rows documents.items made.items refers }
+        requires { Holds text.now rows documents.items decoded.items refers }
         ensures { result ≡ text.now }
     {
         ReadText {
             text,
             rows,
             documents,
-            made,
+            decoded,
             refers,
         }
     }
@@ -100,16 +100,16 @@ impl<'t> ReadText<'t> {
     /// The rows of the text, and where its parts end.
     pub fn rows(&self) -> &Rows<'t>
         ensures cut { IsCut self.now (cut_of self.now) }
-        ensures rows { result.now ≡ shown (cut_of self.now) }
+        ensures rows { result.now ≡ rows_view (cut_of self.now) }
         ensures sound { all_documents (cut_of self.now) ≡ true }
-        ensures shown { IsShown result.now }
+        ensures rows_view { IsRowsView result.now }
     {
         &self.rows
     }
 
     /// The rows without what else is kept.
     pub fn into_rows(self) -> Rows<'t>
-        ensures { result ≡ shown (cut_of self.entry) }
+        ensures { result ≡ rows_view (cut_of self.entry) }
     {
         self.rows
     }
@@ -128,11 +128,11 @@ impl<'t> ReadText<'t> {
     }
 
     /// What is made of row `i`, counted from 0, if anything is.
-    pub fn made(&self, i: usize) -> Option<&Made<'t>>
+    pub fn decoded(&self, i: usize) -> Option<&Decoded<'t>>
         ensures { (r : RowOf) → slice_get (rows_of (cut_of self.now)) i ≡ Some r →
-            IsToldBy (length self.now) (cut_of self.now) (option_map (λ m. m.now) result) i r }
+            IsDecodedBy (length self.now) (cut_of self.now) (option_map (λ m. m.now) result) i r }
     {
-        made_at(self.made.as_slice(), i)
+        decoded_at(self.decoded.as_slice(), i)
     }
 
     /// Whether an alias may stand in it.

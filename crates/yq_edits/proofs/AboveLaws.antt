@@ -5,11 +5,11 @@ use Rattle.yq_scalar.specs.Paths.{Step}
 use Rattle.yq_rows.specs.Rows.{Cut}
 use Rattle.yq_places.specs.CommentPlaces.{LinesAbove, above_row, lines_above}
 use Rattle.yq_places.specs.PlacedRows.{PlacedRow}
-use Rattle.yq_places.specs.Standings.{PlacedEntry, placed_entry}
+use Rattle.yq_places.specs.Standings.{RowsOfEntry, rows_of_entry}
 use Rattle.yq_edits.specs.CommentEdits.{above_rows, head_comment_put, head_comment_segments}
 use Rattle.yq_edits.proofs.CommentRowLaws.{entry_row, rows_same}
 
-head_same : (br text : List ℕ) (o : Option PlacedEntry) → (o >>= head_comment_put br text) ≡ option_map (head_comment_segments br text) (option_map entry_row o >>= λ w. cond (eqb w.line 0) (Some (above_row w)) None)
+head_same : (br text : List ℕ) (o : Option RowsOfEntry) → (o >>= head_comment_put br text) ≡ option_map (head_comment_segments br text) (option_map entry_row o >>= λ w. cond (eqb w.line 0) (Some (above_row w)) None)
 head_same br text None = refl
 head_same br text (Some e) = go (eqb e.line 0)
   where
@@ -17,6 +17,6 @@ head_same br text (Some e) = go (eqb e.line 0)
     go true = refl
     go false = refl
 
-pub head_there : (n : ℕ) (steps : List Step) (c : Cut) (br text : List ℕ) (o : Option LinesAbove) → o ≡ lines_above n steps c → option_map (head_comment_segments br text) o ≡ (placed_entry n steps c >>= head_comment_put br text)
+pub head_there : (n : ℕ) (steps : List Step) (c : Cut) (br text : List ℕ) (o : Option LinesAbove) → o ≡ lines_above n steps c → option_map (head_comment_segments br text) o ≡ (rows_of_entry n steps c >>= head_comment_put br text)
 head_there n steps c br text o is =
-    ap (option_map (head_comment_segments br text)) (is ∙ ap (λ (o : Option PlacedRow). o >>= λ w. cond (eqb w.line 0) (Some (above_row w)) None) (rows_same n steps c)) ∙ sym (head_same br text (placed_entry n steps c))
+    ap (option_map (head_comment_segments br text)) (is ∙ ap (λ (o : Option PlacedRow). o >>= λ w. cond (eqb w.line 0) (Some (above_row w)) None) (rows_same n steps c)) ∙ sym (head_same br text (rows_of_entry n steps c))

@@ -43,7 +43,7 @@ use Rattle.yq_block.specs.BlockValues.{IsEnd}
 use Rattle.yq_change.specs.Ends.{TakesRowsLast, closed_with}
 use Rattle.yq_change.proofs.EndLaws.{end_of_text_appended}
 use Rattle.yq_change.proofs.UnbrokenLaws.{EndsText, ends_text, closed_row, closed_text, closed_root, closed_lead, some_closed}
-use Rattle.yq_edits.proofs.AppendEntryLaws.{none_quiet}
+use Rattle.yq_edits.proofs.AppendEntryLaws.{none_uncommented}
 use Rattle.yq_edits.proofs.AppendPlaces.{IsAppendPlace, put_segments, old_is, p, there, e, allows_there, kept_pieces, IsAsked, entry, written, new_rows_are, entry_piece, filled, finished}
 use Rattle.yq_block.proofs.LaidRows.{no_gap_here}
 use Rattle.yq_lines.specs.Places.{lines_before}
@@ -55,7 +55,7 @@ one_break breaks.CrLf = refl
 
 -- nothing may stand behind rows
 pub nothing_tail : IsTail [] []
-nothing_tail = record { white = []; comment = []; line = record { break = []; spelled = refl; blank = tt; remark = tt; ends = inr (refl, refl) }; apart = refl }
+nothing_tail = record { white = []; comment = []; line = record { break = []; spelled = refl; blank = tt; as_comment = tt; ends = inr (refl, refl) }; apart = refl }
 
 nothing_ends : (column : ℕ) → IsEnd column [] ([] ++ [])
 nothing_ends column = record { tail = nothing_tail; plain = refl }
@@ -131,10 +131,10 @@ module _ (doc : ℕ) (steps : List Step) (key : Option (List ℕ)) (v : Node) (c
   pub end_both : length (new_text (put_segments x (break_text l.br ++ lines))) ≤ text_limit →
       ReadsAfter (append doc steps key v) c (new_text (put_segments x (break_text l.br ++ lines))) × IsLocalTo (put_segments x (break_text l.br ++ lines)) c
   end_both size =
-      let w = entry doc steps key v c x read at g [] none_quiet in
+      let w = entry doc steps key v c x read at g [] none_uncommented in
       let changed =
       end_of_text_appended (cut_text c) c doc part steps place.h place.others new place.last (break_text l.br) w.deep.0 w.line w.under (there doc steps c x read at) place.collection count
-      (written doc steps key v c x read at g [] none_quiet) takes (readable size) in
+      (written doc steps key v c x read at g [] none_uncommented) takes (readable size) in
       let ss : List Segment = put_segments x (break_text l.br ++ lines) in
       let local : IsLocal ss c (put_document doc q c) =
       rows_local ss c doc q (record {
@@ -158,7 +158,7 @@ module _ (doc : ℕ) (steps : List Step) (key : Option (List ℕ)) (v : Node) (c
         new_is = sym new_is;
       }) (omega arith) longer (omega arith) (last_nothing (rows_items (closed_by (break_text l.br) place.last ∷ new) [])) in (
         subst (ReadsAfter (append doc steps key v) c) new_is
-            (finished doc steps key v c x read at g q [] none_quiet changed (closed_lead part place.others new place.last (break_text l.br) ends.rows_are) (closed_root part place.others new place.last (break_text l.br) ends.rows_are)
+            (finished doc steps key v c x read at g q [] none_uncommented changed (closed_lead part place.others new place.last (break_text l.br) ends.rows_are) (closed_root part place.others new place.last (break_text l.br) ends.rows_are)
             (some_closed place.others new place.last (break_text l.br))),
         cut_known ss c (put_document doc q c) changed.read new_is local,
       )

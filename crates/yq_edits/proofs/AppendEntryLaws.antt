@@ -76,16 +76,16 @@ map_same cs ds e = cc
 abbrev IsOne : Option (List ℕ) → Node → Line → Outline → Outline → Type 0
 IsOne k v l u a = (label l ≡ new_label k) × (content l u ≡ v) × (a ≡ end)
 
-made : (k : Option (List ℕ)) (v : Node) (l : Line) (u a : Outline) → child (label l) (content l u) (children a) ≡ child (new_label k) v none → IsOne k v l u a
-made k v l u a e = let x = children_same (label l) (new_label k) (content l u) v (children a) none e in (x.0, x.1, no_more a x.2)
+is_child : (k : Option (List ℕ)) (v : Node) (l : Line) (u a : Outline) → child (label l) (content l u) (children a) ≡ child (new_label k) v none → IsOne k v l u a
+is_child k v l u a e = let x = children_same (label l) (new_label k) (content l u) v (children a) none e in (x.0, x.1, no_more a x.2)
 
 -- its mark, by its level
 is_one : (k : Option (List ℕ)) (v : Node) (column : ℕ) (l : Line) (u a : Outline) (m : Mark) → l.mark ≡ m → 3 * l.column + rank m ≡ entry_level k column → collection m (child (label l) (content l u) (children a)) ≡ alone k v → IsOne k v l u a
 is_one None v column l u a Bare is lev e = absurd (omega (arith, lev))
 is_one None v column l u a (Key j) is lev e = absurd (omega (arith, lev))
-is_one None v column l u a Dash is lev e = made None v l u a (list_same _ _ e)
+is_one None v column l u a Dash is lev e = is_child None v l u a (list_same _ _ e)
 is_one (Some k) v column l u a Bare is lev e = absurd (omega (arith, lev))
-is_one (Some k) v column l u a (Key j) is lev e = made (Some k) v l u a (map_same _ _ e)
+is_one (Some k) v column l u a (Key j) is lev e = is_child (Some k) v l u a (map_same _ _ e)
 is_one (Some k) v column l u a Dash is lev e = absurd (omega (arith, lev))
 
 -- the outline of a collection of one item or entry
@@ -107,15 +107,15 @@ one_row key v column (row l u a) rs even lines same =
     }
 
 -- nothing is no comment
-pub none_quiet : line_comment [] ≡ None
+pub none_uncommented : line_comment [] ≡ None
 unfolding upto
-none_quiet = refl
+none_uncommented = refl
 
 pub entry_of : (key : Option (List ℕ)) (v : Node) (l : Layout) (column : ℕ) (last : List ℕ) → line_comment last ≡ None → 1 ≤ l.mapping → KeyIsUtf8 key → IsValueTree v → IsEntryOf key v column (node_rows l column last (alone key v))
-entry_of key v l column last quiet step u h =
+entry_of key v l column last uncommented step u h =
     let w = alone_value key v u h in
     let rs : List Row = node_rows l column last (alone key v) in
-    let s : Stands (lines_of rs) (alone key v) (level_at column (alone key v)) = rules_give (level_at column (alone key v)) (lines_of rs) (alone key v) (node_stands (alone key v) l column last step w.filled w.value quiet) in
+    let s : Stands (lines_of rs) (alone key v) (level_at column (alone key v)) = rules_give (level_at column (alone key v)) (lines_of rs) (alone key v) (node_stands (alone key v) l column last step w.filled w.value uncommented) in
     one_row key v column s.outline rs (subst (λ n. IsEven n s.outline) (alone_level key v column) s.even) s.lines_are s.node_is
 
 -- its keys and anchors
@@ -145,9 +145,9 @@ mutual
 
   each_bare : (l : Layout) (column : ℕ) (last : List ℕ) (cs : Children) → first_gap (children_rows l column last cs) [] ≡ []
   each_bare l column last tree.none = refl
-  each_bare l column last (tree.child told n cs) =
-      first_bare (entry_rows l column (end_before l last cs) told.key (inline_of n) (node_rows l (column_below l column told.key n) (end_before l last cs) n)) (children_rows l column last cs)
-      (by told.key (inline_of n) (node_rows l (column_below l column told.key n) (end_before l last cs) n) (rows_bare l (column_below l column told.key n) (end_before l last cs) n)) (λ e. each_bare l column last cs)
+  each_bare l column last (tree.child own_label n cs) =
+      first_bare (entry_rows l column (end_before l last cs) own_label.key (inline_of n) (node_rows l (column_below l column own_label.key n) (end_before l last cs) n)) (children_rows l column last cs)
+      (by own_label.key (inline_of n) (node_rows l (column_below l column own_label.key n) (end_before l last cs) n) (rows_bare l (column_below l column own_label.key n) (end_before l last cs) n)) (λ e. each_bare l column last cs)
     where
       by : (key : Option (List ℕ)) (node : Option inline.Node) (rs : List Row) → first_gap rs [] ≡ [] → first_gap (entry_rows l column (end_before l last cs) key node rs) [] ≡ []
       by (Some k) (Some node) rs e = refl

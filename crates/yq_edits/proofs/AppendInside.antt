@@ -35,7 +35,7 @@ use Rattle.yq_change.specs.Rooms.{is_block_root}
 use Rattle.yq_change.proofs.AppendLaws.{block_appended}
 use Rattle.yq_change.proofs.EndedRowLaws.{rows_then}
 use Rattle.yq_change.proofs.TextPieceLaws.{pieces_joined}
-use Rattle.yq_block.proofs.LineLaws.{break_quiet}
+use Rattle.yq_block.proofs.LineLaws.{break_uncommented}
 use Rattle.yq_meaning.specs.Operations.{append}
 use Rattle.yq_script.specs.Script.{Segment, new_text}
 use Rattle.yq_rows.specs.Items.{rows_items}
@@ -153,11 +153,11 @@ module _ (doc : ℕ) (steps : List Step) (key : Option (List ℕ)) (v : Node) (c
   pub inside_both : x.broken ≡ true → length (new_text (put_segments x (lines ++ break_text l.br))) ≤ text_limit →
       ReadsAfter (append doc steps key v) c (new_text (put_segments x (lines ++ break_text l.br))) × IsLocalTo (put_segments x (lines ++ break_text l.br)) c
   inside_both broken size =
-      let quiet = break_quiet l.br in
-      let w = entry doc steps key v c x read at g (break_text l.br) quiet in
+      let uncommented = break_uncommented l.br in
+      let w = entry doc steps key v c x read at g (break_text l.br) uncommented in
       let changed =
       block_appended (cut_text c) c doc part steps place.h place.front place.back new w.deep.0 w.line w.under (there doc steps c x read at) place.collection place.count
-      (written doc steps key v c x read at g (break_text l.br) quiet) (takes broken) (readable size) in
+      (written doc steps key v c x read at g (break_text l.br) uncommented) (takes broken) (readable size) in
       let ss : List Segment = put_segments x (lines ++ break_text l.br) in
       let before_is : x.before ≡ (place.start ++ rows_text place.front []) ++ [] = place.before_is ∙ sym (append-nil (place.start ++ rows_text place.front [])) in
       let local : IsLocal ss c (put_document doc q c) =
@@ -182,6 +182,6 @@ module _ (doc : ℕ) (steps : List Step) (key : Option (List ℕ)) (v : Node) (c
         new_is = sym new_is;
       }) refl (first_nothing (rows_items new [])) refl (last_nothing (rows_items new [])) in (
         subst (ReadsAfter (append doc steps key v) c) new_is
-            (finished doc steps key v c x read at g q (break_text l.br) quiet changed same_lead same_block (ap no_rows q_split ∙ some_rows place.others place.last (new ++ place.back))),
+            (finished doc steps key v c x read at g q (break_text l.br) uncommented changed same_lead same_block (ap no_rows q_split ∙ some_rows place.others place.last (new ++ place.back))),
         cut_known ss c (put_document doc q c) changed.read new_is local,
       )

@@ -140,15 +140,15 @@ module _ (doc : ℕ) (steps : List Step) (key : Option (List ℕ)) (v : Node) (c
 
   -- the rows of the item or entry, the last of which has this end
   pub entry : (last : List ℕ) → said last ≡ None → IsEntryOf key v x.column (node_rows l x.column last (alone key v))
-  entry last quiet = entry_of key v l x.column last quiet (steps_least (slice_get (document_parts c) doc)) g.key_utf8 g.value_tree
+  entry last uncommented = entry_of key v l x.column last uncommented (steps_least (slice_get (document_parts c) doc)) g.key_utf8 g.value_tree
 
   known_taker : IsTaker key place.h.lines x.column
   known_taker =
       taker key g.node place.h.anchor place.h.lines x.column g.takes (same_Some _ _ (sym g.node_is ∙ lines_are_there steps (outline_of part) place.h place.collection.place_is)) place.collection.block place.first
 
-  pub written : (last : List ℕ) (quiet : said last ≡ None) → IsWritten place.h (node_rows l x.column last (alone key v)) (entry last quiet).deep.0 (entry last quiet).line (entry last quiet).under (length steps)
-  written last quiet =
-      let w = entry last quiet in
+  pub written : (last : List ℕ) (uncommented : said last ≡ None) → IsWritten place.h (node_rows l x.column last (alone key v)) (entry last uncommented).deep.0 (entry last uncommented).line (entry last uncommented).under (length steps)
+  written last uncommented =
+      let w = entry last uncommented in
       record {
         lines = w.lines;
         bare = entry_bare key v l x.column last;
@@ -165,11 +165,11 @@ module _ (doc : ℕ) (steps : List Step) (key : Option (List ℕ)) (v : Node) (c
       (alone_writable key v x.column last (gap ++ rest) g.key_utf8 g.value_tree (key_near key g.key_utf8 g.short) (near_keys v g.value_tree g.near) ends) allowed h
 
   -- a part with such rows, in which the first row stays, is what the operation asks
-  pub finished : (q : Part) (last : List ℕ) (quiet : said last ≡ None) →
-      IsChanged c (put_document doc q c) doc (lead_of part) (change steps (within (append_child (label (entry last quiet).line) (content (entry last quiet).line (entry last quiet).under)))) →
+  pub finished : (q : Part) (last : List ℕ) (uncommented : said last ≡ None) →
+      IsChanged c (put_document doc q c) doc (lead_of part) (change steps (within (append_child (label (entry last uncommented).line) (content (entry last uncommented).line (entry last uncommented).under)))) →
       lead_of q ≡ lead_of part → is_block_root q ≡ is_block_root part → no_rows q.rows ≡ false → ReadsAfter (append doc steps key v) c (cut_text (put_document doc q c))
-  finished q last quiet changed lead block some =
-      let w = entry last quiet in
+  finished q last uncommented changed lead block some =
+      let w = entry last uncommented in
       document_done (append doc steps key v) c part q (lead_of part) (change steps (within (append_child (label w.line) (content w.line w.under))))
       (record {
         read = read;
@@ -179,5 +179,5 @@ module _ (doc : ℕ) (steps : List Step) (key : Option (List ℕ)) (v : Node) (c
         root = λ i. change steps (within (append_child (w.label_is i) (w.node_is i))) (root_of part);
         lead_goes = same_lead_goes part q lead block;
         block = λ keeps. block;
-        seats = λ sets. absurd sets;
+        equal_room = λ sets. absurd sets;
       })

@@ -8,7 +8,7 @@ use Rattle.yq_rows.specs.Gap.{IsBreak, IsComment}
 use Rattle.yq_rows.specs.Grammar.{IsTail}
 use Rattle.yq_rows.proofs.CharacterLaws.{pairs_back}
 use Rattle.yq_rows.proofs.seams.ScalarSeams.{ends_return}
-use Rattle.yq_change.proofs.EndLaws.{told, comment_is}
+use Rattle.yq_change.proofs.EndLaws.{after_hash, comment_is}
 
 -- what stands in front of a break ends in no CR
 front_clean : (c rest : List ℕ) → pairs_returns (c ++ rest) ≡ true → NoneIn ends_line c rest → ends_return c ≡ false
@@ -47,21 +47,21 @@ module _ (tail more : List ℕ) (h : IsTail tail more) (pairs : pairs_returns (t
   split : tail ++ more ≡ h.white ++ (h.comment ++ (h.line.break ++ more))
   split = ap (λ x. x ++ more) h.line.spelled ∙ (append_assoc h.white (h.comment ++ h.line.break) more ∙ ap (λ x. h.white ++ x) (append_assoc h.comment h.line.break more))
 
-  remark : IsComment h.comment break
-  remark = comment_other h.comment h.line.break more break (pairs_back h.white (h.comment ++ (h.line.break ++ more)) (ap pairs_returns (sym split) ∙ pairs)) h.line.remark h.line.ends
+  as_comment : IsComment h.comment break
+  as_comment = comment_other h.comment h.line.break more break (pairs_back h.white (h.comment ++ (h.line.break ++ more)) (ap pairs_returns (sym split) ∙ pairs)) h.line.as_comment h.line.ends
 
   pub other_tail : IsTail (h.white ++ (h.comment ++ break)) behind
-  other_tail = record { white = h.white; comment = h.comment; line = record { break = break; spelled = refl; blank = h.line.blank; remark = remark; ends = ends }; apart = h.apart }
+  other_tail = record { white = h.white; comment = h.comment; line = record { break = break; spelled = refl; blank = h.line.blank; as_comment = as_comment; ends = ends }; apart = h.apart }
 
   -- it has the same comment
   pub other_comment : line_comment (h.white ++ (h.comment ++ break)) ≡ line_comment tail
   other_comment =
-      comment_is h.white h.comment break h.line.blank remark (alone break behind ends)
-      ∙ (sym (comment_is h.white h.comment h.line.break h.line.blank h.line.remark (alone h.line.break more h.line.ends)) ∙ ap line_comment (sym h.line.spelled))
+      comment_is h.white h.comment break h.line.blank as_comment (alone break behind ends)
+      ∙ (sym (comment_is h.white h.comment h.line.break h.line.blank h.line.as_comment (alone h.line.break more h.line.ends)) ∙ ap line_comment (sym h.line.spelled))
 
 -- a tail without a comment has none
-pub quiet_tail : (tail rest : List ℕ) (h : IsTail tail rest) → is_empty h.comment ≡ true → line_comment tail ≡ Rattle.std.proofs.Common.None
-quiet_tail tail rest h e = ap line_comment h.line.spelled ∙ (comment_is h.white h.comment h.line.break h.line.blank h.line.remark (alone h.line.ends) ∙ ap told (none h.comment e))
+pub uncommented_tail : (tail rest : List ℕ) (h : IsTail tail rest) → is_empty h.comment ≡ true → line_comment tail ≡ Rattle.std.proofs.Common.None
+uncommented_tail tail rest h e = ap line_comment h.line.spelled ∙ (comment_is h.white h.comment h.line.break h.line.blank h.line.as_comment (alone h.line.ends) ∙ ap after_hash (none h.comment e))
   where
     alone : IsBreak h.line.break rest → IsBreak h.line.break []
     alone (inl e) = inl e

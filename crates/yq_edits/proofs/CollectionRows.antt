@@ -6,12 +6,12 @@ use Rattle.std.specs.List.{slice_get}
 use Rattle.yq_scalar.specs.Text.{is_empty}
 use Rattle.yq_lines.specs.Outline.{Line}
 use Rattle.yq_lines.specs.Outline as outlines
-use Rattle.yq_lines.specs.Spots.{is_bare}
+use Rattle.yq_lines.specs.Positions.{is_bare}
 use Rattle.yq_rows.specs.Grammar.{AreRows, unlimited}
 use Rattle.yq_rows.specs.Rows.{Row, behind_columns, dashes_text, print_row, rows_text}
 use Rattle.yq_places.specs.CollectionEnds.{is_broken}
 use Rattle.yq_places.specs.PrintedLines.{last_break}
-use Rattle.yq_walk.proofs.WalkLevels.{AreTelling, IsTelling}
+use Rattle.yq_walk.proofs.WalkLevels.{RowsAgree, RowAgrees}
 use Rattle.yq_change.specs.Siblings.{IsEntry}
 use Rattle.yq_change.proofs.EndedRowLaws.{row_there, rows_then}
 use Rattle.yq_rows.proofs.seams.SeamLaws.{rows_text-append}
@@ -39,9 +39,9 @@ last_row r (q ∷ rs) = let h = last_row q rs in record { others = r ∷ h.other
 pub behind_front : (front : List Row) (r : Row) (rs : List Row) → EndIn (front ++ (r ∷ rs))
 behind_front front r rs = let h = last_row r rs in record { others = front ++ h.others; last = h.last; is = ap (λ x. front ++ x) h.is ∙ sym (append_assoc front h.others (h.last ∷ [])) }
 
-pub telling_in : (a b : List Row) (r : Row) → AreTelling (a ++ (r ∷ b)) → IsTelling r
-telling_in [] b r h = h.0
-telling_in (x ∷ a) b r h = telling_in a b r h.1
+pub row_agrees_in : (a b : List Row) (r : Row) → RowsAgree (a ++ (r ∷ b)) → RowAgrees r
+row_agrees_in [] b r h = h.0
+row_agrees_in (x ∷ a) b r h = row_agrees_in a b r h.1
 
 pub columns_are : (column : ℕ) (ns : List ℕ) → behind_columns column ns ≡ column + length (dashes_text ns [])
 columns_are column [] = omega arith

@@ -9,8 +9,8 @@ use Rattle.yq_scalar.specs.Text.{is_empty}
 use Rattle.yq_scalar.specs.Tree.{Node}
 use Rattle.yq_lines.specs.Comments.{head_comment}
 use Rattle.yq_lines.specs.Outline.{Line, Outline, end, row, flatten}
-use Rattle.yq_lines.specs.Places.{Found, here, lines_after, lines_before}
-use Rattle.yq_lines.specs.Spots.{is_bare}
+use Rattle.yq_lines.specs.Places.{FoundLine, here, lines_after, lines_before}
+use Rattle.yq_lines.specs.Positions.{is_bare}
 use Rattle.yq_lines.proofs.Decides.{flatten-group}
 use Rattle.yq_rows.specs.Grammar.{AreDashes, AreRows, IsRow, Limit, is_entry, unlimited}
 use Rattle.yq_rows.specs.Rows as rows
@@ -20,12 +20,12 @@ use Rattle.yq_documents.specs.Documents.{document_parts}
 use Rattle.yq_walk.specs.Lines.{dash_line, head_of, lines_from, lines_of, mark_line, mark_of, row_lines}
 use Rattle.yq_documents.specs.Reading.{outline_of}
 use Rattle.yq_places.specs.CollectionEnds.{CollectionEnd, is_broken}
-use Rattle.yq_places.specs.Standings.{PlacedEntry, before_entry, behind_entry, is_alone}
-use Rattle.yq_places.proofs.FlowToldLaws.{before_under}
+use Rattle.yq_places.specs.Standings.{RowsOfEntry, before_entry, behind_entry, is_alone}
+use Rattle.yq_places.proofs.FlowViewLaws.{before_under}
 use Rattle.yq_places.proofs.RowPathLaws.{found_lines}
 use Rattle.yq_places.proofs.UnderExchange.{lines_append}
-use Rattle.yq_walk.proofs.WalkLevels.{AreTelling, IsLineOf, IsTelling, line_in}
-use Rattle.yq_walk.proofs.WalkRows.{rows_telling}
+use Rattle.yq_walk.proofs.WalkLevels.{RowsAgree, IsLineOf, RowAgrees, line_in}
+use Rattle.yq_walk.proofs.WalkRows.{rows_agree}
 use Rattle.yq_change.specs.Changed.{put_document}
 use Rattle.yq_change.specs.CollectionPlaces.{BeginsAt, IsCollectionEnd}
 use Rattle.yq_change.specs.DocumentRows.{behind_document}
@@ -34,17 +34,17 @@ use Rattle.yq_change.specs.StandingLaws.{StandsThere}
 use Rattle.yq_change.proofs.EndedRowLaws.{row_there}
 use Rattle.yq_change.proofs.LineLaws.{row_count}
 use Rattle.yq_change.proofs.PartLaws.{document_known, part_rows}
-use Rattle.yq_edits.proofs.CollectionRows.{get_behind, get_front, behind_front, telling_in, columns_are, no_bare}
+use Rattle.yq_edits.proofs.CollectionRows.{get_behind, get_front, behind_front, row_agrees_in, columns_are, no_bare}
 use Rattle.yq_edits.proofs.CommentRowLaws.{rows_front}
 use Rattle.yq_edits.proofs.SamePlaceLaws.{put_own}
 
 -- ---- under a line
 
-module _ (n : ℕ) (s : Step) (ss : List Step) (c : Cut) (e : PlacedEntry) (there : StandsThere n s ss c e) where
+module _ (n : ℕ) (s : Step) (ss : List Step) (c : Cut) (e : RowsOfEntry) (there : StandsThere n s ss c e) where
   abbrev p : Part
   p = there.part
 
-  abbrev f : Found
+  abbrev f : FoundLine
   f = there.found
 
   abbrev behind : List Line
@@ -53,8 +53,8 @@ module _ (n : ℕ) (s : Step) (ss : List Step) (c : Cut) (e : PlacedEntry) (ther
   pub are : AreRows unlimited p.rows p.end (behind_document n c)
   are = part_rows (cut_text c) c n p there.old (document_known (cut_text c) c n p there.old).cut
 
-  telling : IsTelling e.row
-  telling = telling_in e.front (e.under ++ e.back) e.row (subst AreTelling there.rows_are (rows_telling unlimited p.rows p.end (behind_document n c) are))
+  row_agrees : RowAgrees e.row
+  row_agrees = row_agrees_in e.front (e.under ++ e.back) e.row (subst RowsAgree there.rows_are (rows_agree unlimited p.rows p.end (behind_document n c) are))
 
   -- the lines from that one on
   lines_there : (i : ℕ) → slice_get (row_lines e.row ++ (lines_of e.under ++ lines_of e.back)) (e.line + i) ≡ slice_get (f.line ∷ (flatten f.under ++ behind)) i
@@ -74,7 +74,7 @@ module _ (n : ℕ) (s : Step) (ss : List Step) (c : Cut) (e : PlacedEntry) (ther
       let at : slice_get (row_lines e.row ++ (lines_of e.under ++ lines_of e.back)) e.line ≡ Some l.0 = get_front (row_lines e.row) (lines_of e.under ++ lines_of e.back) e.line l.0 l.1 in
       let plain : e.line + 0 ≡ e.line = omega arith in
       let same : l.0 ≡ f.line = same_Some _ _ (sym at ∙ (ap (slice_get (row_lines e.row ++ (lines_of e.under ++ lines_of e.back))) (sym plain) ∙ lines_there 0)) in
-      ap (λ (x : Line). x.head) (sym same) ∙ ((l.2.mark last).1 ∙ no_head (head_of e.row.content) (sym telling.head ∙ none))
+      ap (λ (x : Line). x.head) (sym same) ∙ ((l.2.mark last).1 ∙ no_head (head_of e.row.content) (sym row_agrees.head ∙ none))
     where
       no_head : (o : Option Node) → is_none o ≡ true → o ≡ None
       no_head None h = refl

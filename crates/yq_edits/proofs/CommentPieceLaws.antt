@@ -13,7 +13,7 @@ use Rattle.yq_scalar.specs.declared.block_written.Break.{Break}
 use Rattle.yq_scalar.specs.declared.block_written.Break.TheVariants.{Lf, CrLf}
 use Rattle.yq_scalar.proofs.Bools.{not_byte}
 use Rattle.yq_scalar.proofs.Bytes.{Each, each_byte}
-use Rattle.yq_scalar.proofs.WrittenText.{no_break, is_shown, IsLine, line_is_text}
+use Rattle.yq_scalar.proofs.WrittenText.{no_break, is_line_ascii, IsLine, line_is_text}
 use Rattle.yq_rows.proofs.NodePieces.{before_ascii}
 use Rattle.yq_rows.proofs.seams.ScalarSeams.{ends_return}
 use Rattle.yq_change.specs.TextPieces.{IsPiece}
@@ -23,7 +23,7 @@ use Rattle.yq_meaning.specs.Changes.{is_comment}
 use Rattle.yq_program.specs.declared.program.CommentPlace.TheVariants as comments
 use Rattle.yq_change.proofs.RemovalPieceLaws.{spaces_piece}
 use Rattle.yq_meaning.specs.Meaning.{head_of, onto_first, parted}
-use Rattle.yq_edits.specs.CommentEdits.{head_line, head_lines}
+use Rattle.yq_edits.specs.CommentEdits.{comment_line, head_lines}
 
 -- ---- single bytes
 
@@ -34,7 +34,7 @@ nothing_text = refl
 pub nothing : IsPiece []
 nothing = record { utf8 = IsUtf8-nil; characters = nothing_text }
 
-low_line : (b : ℕ) → is_shown b ≡ true → IsLine (b ∷ []) × IsUtf8 (b ∷ [])
+low_line : (b : ℕ) → is_line_ascii b ≡ true → IsLine (b ∷ []) × IsUtf8 (b ∷ [])
 low_line b h =
     let p = and_parts (Rattle.std.proofs.Common.ltb b 128 && is_text_char b) (no_break b) h in
     let r = and_parts (Rattle.std.proofs.Common.ltb b 128) (is_text_char b) p.0 in
@@ -43,11 +43,11 @@ low_line b h =
     let valid : scalars (b ∷ []) ≡ true = rw (low_scalar b (omega (arith, low))) refl in
     (record { chars = b ∷ []; spelled = spelled; valid = valid; text = rw r.1 refl; bytes = (p.1, tt) }, (b ∷ [], (valid, spelled)))
 
-shown_piece : (b : ℕ) → is_shown b ≡ true → IsPiece (b ∷ [])
-shown_piece b h = let x = low_line b h in record { utf8 = x.1; characters = line_is_text (b ∷ []) x.0 }
+ascii_piece : (b : ℕ) → is_line_ascii b ≡ true → IsPiece (b ∷ [])
+ascii_piece b h = let x = low_line b h in record { utf8 = x.1; characters = line_is_text (b ∷ []) x.0 }
 
-pub byte_then : (b : ℕ) (t : List ℕ) → is_shown b ≡ true → IsPiece t → IsPiece (b ∷ t)
-byte_then b t h k = pieces_joined (b ∷ []) t (shown_piece b h) k
+pub byte_then : (b : ℕ) (t : List ℕ) → is_line_ascii b ≡ true → IsPiece t → IsPiece (b ∷ t)
+byte_then b t h k = pieces_joined (b ∷ []) t (ascii_piece b h) k
 
 break_chars : (br : Break) → (encodes (break_text br) ≡ break_text br) × (scalars (break_text br) ≡ true) × (list_all is_text_char (break_text br) ≡ true) × (pairs_returns (break_text br) ≡ true)
 unfolding pairs_returns
@@ -178,28 +178,28 @@ parts_of (suc n) t small h e = go (lines t) (λ b less k f. parts_of n b less k 
 -- ---- the parts of a text, as it is cut at each LF
 
 -- a text without LF, by its bytes
-quiet_by : (t : List ℕ) → ((i : ℕ) → i < length t → get_or t i 0 ≢ 10) → Each (λ b. not (is_feed b)) t
-quiet_by [] h = tt
-quiet_by (b ∷ t) h = (go (cases_Bool (is_feed b)), quiet_by t (λ i less. h (suc i) (omega (arith, less))))
+no_breaks_by : (t : List ℕ) → ((i : ℕ) → i < length t → get_or t i 0 ≢ 10) → Each (λ b. not (is_feed b)) t
+no_breaks_by [] h = tt
+no_breaks_by (b ∷ t) h = (go (cases_Bool (is_feed b)), no_breaks_by t (λ i less. h (suc i) (omega (arith, less))))
   where
     go : (is_feed b ≡ true) ⊎ (is_feed b ≡ false) → not (is_feed b) ≡ true
     go (inl e) = absurd (h 0 (omega arith) (Rattle.std.proofs.Common.eqb-true b 10 e))
     go (inr e) = ap not e
 
 -- a line more of a head comment
-pub turn_more : (column : ℕ) (br out outs text rest line after : List ℕ) → rest ≡ line ++ 10 ∷ after → ((i : ℕ) → i < length line → get_or line i 0 ≢ 10) →
-    out ++ head_lines column br (parted rest) ≡ head_lines column br (parted text) → outs ≡ out ++ head_line column br line → outs ++ head_lines column br (parted after) ≡ head_lines column br (parted text)
-turn_more column br out outs text rest line after is none before pushed =
+pub loop_more : (column : ℕ) (br out outs text rest line after : List ℕ) → rest ≡ line ++ 10 ∷ after → ((i : ℕ) → i < length line → get_or line i 0 ≢ 10) →
+    out ++ head_lines column br (parted rest) ≡ head_lines column br (parted text) → outs ≡ out ++ comment_line column br line → outs ++ head_lines column br (parted after) ≡ head_lines column br (parted text)
+loop_more column br out outs text rest line after is none before pushed =
     ap (λ o. o ++ head_lines column br (parted after)) pushed
-    ∙ (append_assoc out (head_line column br line) (head_lines column br (parted after))
-    ∙ (ap (λ ts. out ++ head_lines column br ts) (sym (ap parted is ∙ more_parts line after (quiet_by line none))) ∙ before))
+    ∙ (append_assoc out (comment_line column br line) (head_lines column br (parted after))
+    ∙ (ap (λ ts. out ++ head_lines column br ts) (sym (ap parted is ∙ more_parts line after (no_breaks_by line none))) ∙ before))
 
 -- the last one
-pub turn_done : (column : ℕ) (br out outs text rest : List ℕ) → ((i : ℕ) → i < length rest → get_or rest i 0 ≢ 10) →
-    out ++ head_lines column br (parted rest) ≡ head_lines column br (parted text) → outs ≡ out ++ head_line column br rest → 0 < length text → outs ≡ head_lines column br (head_of text)
-turn_done column br out outs text rest none before pushed some =
+pub loop_done : (column : ℕ) (br out outs text rest : List ℕ) → ((i : ℕ) → i < length rest → get_or rest i 0 ≢ 10) →
+    out ++ head_lines column br (parted rest) ≡ head_lines column br (parted text) → outs ≡ out ++ comment_line column br rest → 0 < length text → outs ≡ head_lines column br (head_of text)
+loop_done column br out outs text rest none before pushed some =
     pushed
-    ∙ (ap (λ l. out ++ l) (sym (append-nil (head_line column br rest)) ∙ ap (head_lines column br) (sym (one_part rest (quiet_by rest none))))
+    ∙ (ap (λ l. out ++ l) (sym (append-nil (comment_line column br rest)) ∙ ap (head_lines column br) (sym (one_part rest (no_breaks_by rest none))))
     ∙ (before ∙ ap (head_lines column br) (whole text some)))
   where
     whole : (t : List ℕ) → 0 < length t → parted t ≡ head_of t
@@ -216,9 +216,9 @@ text_after : (t : List ℕ) → IsPiece t → IsPiece (cond (is_empty t) [] (32 
 text_after [] h = nothing
 text_after (b ∷ t) h = byte_then 32 (b ∷ t) refl h
 
-pub line_piece : (column : ℕ) (br : Break) (t : List ℕ) → IsPiece t → IsPiece (head_line column (break_text br) t)
+pub line_piece : (column : ℕ) (br : Break) (t : List ℕ) → IsPiece t → IsPiece (comment_line column (break_text br) t)
 line_piece column br t h = pieces_joined (replicate column 32) _ (spaces_piece column) (byte_then 35 _ refl (pieces_joined (cond (is_empty t) [] (32 ∷ t)) (break_text br) (text_after t h) (break_piece br)))
 
 pub lines_piece : (column : ℕ) (br : Break) (ts : List (List ℕ)) → AreParts ts → IsPiece (head_lines column (break_text br) ts)
 lines_piece column br [] h = nothing
-lines_piece column br (t ∷ ts) h = pieces_joined (head_line column (break_text br) t) _ (line_piece column br t h.1) (lines_piece column br ts h.2)
+lines_piece column br (t ∷ ts) h = pieces_joined (comment_line column (break_text br) t) _ (line_piece column br t h.1) (lines_piece column br ts h.2)

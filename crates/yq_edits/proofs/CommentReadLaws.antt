@@ -14,15 +14,15 @@ use Rattle.yq_lines.specs.Comments.{less_space, comment_text, are_comments, with
 use Rattle.yq_rows.specs.Gap.{IsWhite, IsGap, IsGapLine, AreGapLines}
 use Rattle.yq_rows.proofs.LineEnds.{text_line, white_again, white_none}
 use Rattle.yq_rows.proofs.RowAgain.{white_spaces}
-use Rattle.yq_edits.specs.CommentEdits.{head_line, head_lines}
+use Rattle.yq_edits.specs.CommentEdits.{comment_line, head_lines}
 use Rattle.yq_edits.proofs.CommentPieceLaws.{AreParts}
 
 -- a text without breaks, before more
-pub quiet_none : (t rest : List ℕ) → Each no_break t → NoneIn ends_line t rest
-quiet_none [] rest h = tt
-quiet_none (b ∷ t) rest h =
+pub no_breaks_none : (t rest : List ℕ) → Each no_break t → NoneIn ends_line t rest
+no_breaks_none [] rest h = tt
+no_breaks_none (b ∷ t) rest h =
     let x = and_parts (not (is_feed b)) (not (is_return b)) h.0 in
-    (rw (not-true (is_feed b) x.0, not-true (is_return b) x.1) refl, quiet_none t rest h.1)
+    (rw (not-true (is_feed b) x.0, not-true (is_return b) x.1) refl, no_breaks_none t rest h.1)
 
 -- the comment behind white space
 no_white_there : (r : List ℕ) → past_white (35 ∷ r) ≡ 35 ∷ r
@@ -48,7 +48,7 @@ behind_hash t = cond (is_empty t) [] (32 ∷ t)
 
 hash_none : (t rest : List ℕ) → Each no_break t → NoneIn ends_line (behind_hash t) rest
 hash_none [] rest h = tt
-hash_none (b ∷ t) rest h = (refl, quiet_none (b ∷ t) rest h)
+hash_none (b ∷ t) rest h = (refl, no_breaks_none (b ∷ t) rest h)
 
 less_is : (t : List ℕ) → less_space (behind_hash t) ≡ t
 less_is [] = refl
@@ -64,7 +64,7 @@ break_is Lf = refl
 break_is CrLf = refl
 
 -- a line of a head comment
-line_is : (column : ℕ) (br : Break) (t : List ℕ) → Each no_break t → is_line (head_line column (break_text br) t) ≡ true
+line_is : (column : ℕ) (br : Break) (t : List ℕ) → Each no_break t → is_line (comment_line column (break_text br) t) ≡ true
 line_is column br t h =
     let white : List ℕ = replicate column 32 in
     let comment : List ℕ = 35 ∷ behind_hash t in
@@ -72,16 +72,16 @@ line_is column br t h =
     ap is_line (sym (append_assoc white comment (break_text br)))
     ∙ (text_line (white ++ comment) (break_text br) (white_none white comment (break_text br) (white_spaces column) none) ∙ (and_parts (is_break (break_text br)) (is_line (break_text br)) (break_is br)).1)
 
-line_tells : (column : ℕ) (br : Break) (t : List ℕ) → Each no_break t → comment_text (head_line column (break_text br) t) ≡ Some t
-line_tells column br t h =
+line_agrees_with : (column : ℕ) (br : Break) (t : List ℕ) → Each no_break t → comment_text (comment_line column (break_text br) t) ≡ Some t
+line_agrees_with column br t h =
     comment_behind (replicate column 32) (break_text br) (behind_hash t) (white_spaces column)
     ∙ (comment_is (behind_hash t) (break_text br) (hash_none t (break_text br) h) (ap ends_line (sym (append-nil (break_text br))) ∙ break_ends br []) ∙ ap Some (less_is t))
 
-line_begins : (column : ℕ) (br : Break) (t : List ℕ) → front (λ b. eqb b 35) (past_white (head_line column (break_text br) t)) ≡ true
+line_begins : (column : ℕ) (br : Break) (t : List ℕ) → front (λ b. eqb b 35) (past_white (comment_line column (break_text br) t)) ≡ true
 line_begins column br t = ap (λ (x : List ℕ × List ℕ). front (λ b. eqb b 35) x.1) (white_again (replicate column 32) (35 ∷ (behind_hash t ++ break_text br)) (white_spaces column) refl)
 
-lines_are : (column : ℕ) (br : Break) (t : List ℕ) (ts : List (List ℕ)) → Each no_break t → lines_of (head_lines column (break_text br) (t ∷ ts)) ≡ head_line column (break_text br) t ∷ lines_of (head_lines column (break_text br) ts)
-lines_are column br t ts h = lines_again (head_line column (break_text br) t) (head_lines column (break_text br) ts) (line_is column br t h)
+lines_are : (column : ℕ) (br : Break) (t : List ℕ) (ts : List (List ℕ)) → Each no_break t → lines_of (head_lines column (break_text br) (t ∷ ts)) ≡ comment_line column (break_text br) t ∷ lines_of (head_lines column (break_text br) ts)
+lines_are column br t ts h = lines_again (comment_line column (break_text br) t) (head_lines column (break_text br) ts) (line_is column br t h)
 
 no_lines : lines_of [] ≡ []
 unfolding lines_of
@@ -91,32 +91,32 @@ all_comments : (column : ℕ) (br : Break) (ts : List (List ℕ)) → AreParts t
 all_comments column br [] h = ap are_comments no_lines
 all_comments column br (t ∷ ts) h = ap are_comments (lines_are column br t ts h.0) ∙ rw (line_begins column br t, all_comments column br ts h.2) refl
 
-pub lines_tell : (column : ℕ) (br : Break) (ts : List (List ℕ)) → AreParts ts → head_texts (head_lines column (break_text br) ts) ≡ ts
-lines_tell column br [] h = ap last_comments no_lines
-lines_tell column br (t ∷ ts) h =
-    let all : are_comments (head_line column (break_text br) t ∷ lines_of (head_lines column (break_text br) ts)) ≡ true = sym (ap are_comments (lines_are column br t ts h.0)) ∙ all_comments column br (t ∷ ts) h in
+pub lines_agree : (column : ℕ) (br : Break) (ts : List (List ℕ)) → AreParts ts → head_texts (head_lines column (break_text br) ts) ≡ ts
+lines_agree column br [] h = ap last_comments no_lines
+lines_agree column br (t ∷ ts) h =
+    let all : are_comments (comment_line column (break_text br) t ∷ lines_of (head_lines column (break_text br) ts)) ≡ true = sym (ap are_comments (lines_are column br t ts h.0)) ∙ all_comments column br (t ∷ ts) h in
     ap last_comments (lines_are column br t ts h.0)
-    ∙ (ap (λ b. cond b (with_text (comment_text (head_line column (break_text br) t)) (last_comments (lines_of (head_lines column (break_text br) ts)))) (last_comments (lines_of (head_lines column (break_text br) ts)))) all
-    ∙ (ap (λ c. with_text c (last_comments (lines_of (head_lines column (break_text br) ts)))) (line_tells column br t h.0) ∙ ap (λ l. t ∷ l) (lines_tell column br ts h.2)))
+    ∙ (ap (λ b. cond b (with_text (comment_text (comment_line column (break_text br) t)) (last_comments (lines_of (head_lines column (break_text br) ts)))) (last_comments (lines_of (head_lines column (break_text br) ts)))) all
+    ∙ (ap (λ c. with_text c (last_comments (lines_of (head_lines column (break_text br) ts)))) (line_agrees_with column br t h.0) ∙ ap (λ l. t ∷ l) (lines_agree column br ts h.2)))
 
 -- such lines are a gap
 abbrev all_lines : ℕ → List ℕ → List (List ℕ) → List (List ℕ)
 all_lines column br [] = []
-all_lines column br (t ∷ ts) = head_line column br t ∷ all_lines column br ts
+all_lines column br (t ∷ ts) = comment_line column br t ∷ all_lines column br ts
 
 lines_joined : (column : ℕ) (br : List ℕ) (ts : List (List ℕ)) → head_lines column br ts ≡ joined (all_lines column br ts)
 lines_joined column br [] = refl
-lines_joined column br (t ∷ ts) = ap (λ l. head_line column br t ++ l) (lines_joined column br ts)
+lines_joined column br (t ∷ ts) = ap (λ l. comment_line column br t ++ l) (lines_joined column br ts)
 
 some_line : (column : ℕ) (t : List ℕ) → is_empty (replicate column 32 ++ (35 ∷ t)) ≡ false
 some_line zero t = refl
 some_line (suc column) t = refl
 
-gap_line : (column : ℕ) (br : Break) (t rest : List ℕ) → Each no_break t → IsGapLine (head_line column (break_text br) t) rest
+gap_line : (column : ℕ) (br : Break) (t rest : List ℕ) → Each no_break t → IsGapLine (comment_line column (break_text br) t) rest
 gap_line column br t rest h = record {
   white = replicate column 32;
   comment = 35 ∷ behind_hash t;
-  line = record { break = break_text br; spelled = refl; blank = white_spaces column; remark = (refl, hash_none t (break_text br) h); ends = inl (break_is br) };
+  line = record { break = break_text br; spelled = refl; blank = white_spaces column; as_comment = (refl, hash_none t (break_text br) h); ends = inl (break_is br) };
   some = some_line column (behind_hash t ++ break_text br);
 }
 

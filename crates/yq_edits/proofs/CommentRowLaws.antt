@@ -12,7 +12,7 @@ use Rattle.yq_scalar.specs.Lines.{is_hash}
 use Rattle.yq_scalar.proofs.Bools.{bind_some, guard_then}
 use Rattle.yq_scalar.proofs.Upto.{cut_takes}
 use Rattle.yq_lines.specs.Ends.{found_line, line_of}
-use Rattle.yq_lines.specs.Places.{Found, bare_or}
+use Rattle.yq_lines.specs.Places.{FoundLine, bare_or}
 use Rattle.yq_lines.specs.Sound.{is_entry}
 use Rattle.yq_lines.specs.Outline.{Mark, Bare, Key, Dash, Line}
 use Rattle.yq_rows.specs.Exchange.{row_front}
@@ -33,14 +33,14 @@ use Rattle.yq_walk.specs.Lines.{lines_from, lines_of}
 use Rattle.yq_places.specs.PlacedRows.{PlacedPart, PlacedRow, placed_document, placed_row, row_of_path}
 use Rattle.yq_documents.specs.Reading.{read_at}
 use Rattle.yq_documents.specs.Ready.{begins_no_node}
-use Rattle.yq_documents.specs.Seats.{Seat, seat_of, document_row}
-use Rattle.yq_places.specs.Standings.{PlacedEntry, before_entry, behind_entry, entry_at, placed_entry, under_count}
-use Rattle.yq_places.proofs.CommentEndLaws.{row_line}
+use Rattle.yq_documents.specs.LinesInRows.{RowLine, row_line_of, document_row}
+use Rattle.yq_places.specs.Standings.{RowsOfEntry, before_entry, behind_entry, entry_rows_at, rows_of_entry, under_count}
+use Rattle.yq_places.proofs.CommentEndLaws.{row_text_parts}
 use Rattle.yq_places.proofs.CommentPieceLaws.{row_place}
 use Rattle.yq_places.proofs.PlacedRowLaws.{IsAt, part_at}
 use Rattle.yq_places.proofs.PrintedTexts.{map_some}
 use Rattle.yq_places.proofs.ReadLaws.{text_takes}
-use Rattle.yq_places.proofs.SeatedLaws.{steps_row}
+use Rattle.yq_places.proofs.RowLineSpans.{steps_row}
 use Rattle.yq_change.specs.PlacedParts.{StandsAt}
 use Rattle.yq_change.proofs.PlacedPartLaws.{document_stands_at}
 
@@ -49,28 +49,28 @@ rows_front [] rs rest = refl
 rows_front (r ∷ front) rs rest = ap (print_row r) (rows_front front rs rest) ∙ row_then r (rows_text front []) (rows_text rs rest)
 
 -- What is known of a row that was found.
-pub record IsFound (n : ℕ) (steps : List Step) (c : Cut) (w : PlacedRow) : Type 0 where
+pub record IsRowFound (n : ℕ) (steps : List Step) (c : Cut) (w : PlacedRow) : Type 0 where
   pub s : PlacedPart
-  pub x : Seat
+  pub x : RowLine
   pub document : placed_document n c ≡ Some s
-  pub seat_is : seat_of steps s.part.rows ≡ Some x
+  pub row_line_is : row_line_of steps s.part.rows ≡ Some x
   pub row : slice_get s.part.rows x.before ≡ Some x.row
   pub is : placed_row s x ≡ w
   pub stands : StandsAt c n s
   pub at : IsAt c (document_row n c + x.before) w.before w.row w.behind
   pub rows_are : s.part.rows ≡ take x.before s.part.rows ++ (x.row ∷ drop (suc x.before) s.part.rows)
 
-pub row_found : (n : ℕ) (steps : List Step) (c : Cut) (w : PlacedRow) → row_of_path n steps c ≡ Some w → IsFound n steps c w
+pub row_found : (n : ℕ) (steps : List Step) (c : Cut) (w : PlacedRow) → row_of_path n steps c ≡ Some w → IsRowFound n steps c w
 row_found n steps c w e =
     let s = bind_some (placed_document n c) e in
-    let x = map_some (seat_of steps s.0.part.rows) s.2 in
+    let x = map_some (row_line_of steps s.0.part.rows) s.2 in
     let row = steps_row (line_of steps (lines_of s.0.part.rows)) s.0.part.rows x.0 x.1 in
     let at = part_at n c s.0 s.1 x.0.before x.0.row row in
     record {
       s = s.0;
       x = x.0;
       document = s.1;
-      seat_is = x.1;
+      row_line_is = x.1;
       row = row;
       is = x.2;
       stands = document_stands_at c n s.0 s.1;
@@ -79,27 +79,27 @@ row_found n steps c w e =
     }
 
 -- the row of an item or entry
-abbrev pub entry_row : PlacedEntry → PlacedRow
+abbrev pub entry_row : RowsOfEntry → PlacedRow
 entry_row e = record { before = before_entry e; row = e.row; line = e.line; behind = rows_text e.under (behind_entry e) }
 
 -- a row of a path is that of its item or entry
-pub rows_same : (n : ℕ) (steps : List Step) (c : Cut) → row_of_path n steps c ≡ option_map entry_row (placed_entry n steps c)
+pub rows_same : (n : ℕ) (steps : List Step) (c : Cut) → row_of_path n steps c ≡ option_map entry_row (rows_of_entry n steps c)
 rows_same n steps c = go (placed_document n c)
   where
-    seated : (d : PlacedPart) (o : Option Seat) → option_map (placed_row d) o ≡ option_map entry_row (option_map (entry_at d) o)
-    seated d None = refl
-    seated d (Some x) =
+    printed_line : (d : PlacedPart) (o : Option RowLine) → option_map (placed_row d) o ≡ option_map entry_row (option_map (entry_rows_at d) o)
+    printed_line d None = refl
+    printed_line d (Some x) =
         let rs : List Row = drop (suc x.before) d.part.rows in
         let k : ℕ = under_count x rs in
         let end : List ℕ = d.part.end ++ d.behind in
         let split : rows_text rs end ≡ rows_text (take k rs) (rows_text (drop k rs) end) = ap (λ (xs : List Row). rows_text xs end) (sym (take-append-drop k rs)) ∙ rows_text-append (take k rs) (drop k rs) end in
         ap (λ t. Some (record { before = d.before ++ rows_text (take x.before d.part.rows) []; row = x.row; line = x.line; behind = t })) split
 
-    go : (o : Option PlacedPart) → (o >>= λ d. option_map (placed_row d) (seat_of steps d.part.rows)) ≡ option_map entry_row (o >>= λ d. option_map (entry_at d) (seat_of steps d.part.rows))
+    go : (o : Option PlacedPart) → (o >>= λ d. option_map (placed_row d) (row_line_of steps d.part.rows)) ≡ option_map entry_row (o >>= λ d. option_map (entry_rows_at d) (row_line_of steps d.part.rows))
     go None = refl
-    go (Some d) = seated d (seat_of steps d.part.rows)
+    go (Some d) = printed_line d (row_line_of steps d.part.rows)
 
-pub entry_is_row : (n : ℕ) (steps : List Step) (c : Cut) (e : PlacedEntry) → placed_entry n steps c ≡ Some e → row_of_path n steps c ≡ Some (entry_row e)
+pub entry_is_row : (n : ℕ) (steps : List Step) (c : Cut) (e : RowsOfEntry) → rows_of_entry n steps c ≡ Some e → row_of_path n steps c ≡ Some (entry_row e)
 entry_is_row n steps c e is = rows_same n steps c ∙ ap (option_map entry_row) is
 
 -- the text of the cut, by that row
@@ -120,7 +120,7 @@ found_row c i w cut at = let x = row_in c i true w.row cut.parts at.there in rec
 
 -- the text up to the end of the line, and behind
 pub line_whole : (w : PlacedRow) → w.before ++ print_row w.row w.behind ≡ (w.before ++ line_text w.row) ++ ((slices w.row).tail ++ ((slices w.row).raw ++ w.behind))
-line_whole w = ap (λ l. w.before ++ l) (row_line w.row w.behind) ∙ sym (append_assoc w.before (line_text w.row) ((slices w.row).tail ++ ((slices w.row).raw ++ w.behind)))
+line_whole w = ap (λ l. w.before ++ l) (row_text_parts w.row w.behind) ∙ sym (append_assoc w.before (line_text w.row) ((slices w.row).tail ++ ((slices w.row).raw ++ w.behind)))
 
 -- a rest is the end of its line and what is behind
 pub end_parts : (before rest : List ℕ) → rest ≡ (end_before before rest).white ++ ((end_before before rest).comment ++ (end_before before rest).behind)
@@ -149,7 +149,7 @@ line_some limit r rest h tail = go (cases_Bool (is_empty (line_text r)))
         let rest_none : replicate r.column 32 ++ dashes_text r.dashes (mark_text r.mark []) ≡ [] = sym (ap (λ g. g ++ (replicate r.column 32 ++ dashes_text r.dashes (mark_text r.mark []))) gap) ∙ first in
         let spaces : replicate r.column 32 ≡ [] = left_none (replicate r.column 32) (dashes_text r.dashes (mark_text r.mark [])) rest_none in
         let whole : behind_indent r rest ≡ (slices r).tail ++ ((slices r).raw ++ rest) =
-        sym (λ i. gap i ++ (spaces i ++ behind_indent r rest)) ∙ (row_line r rest ∙ ap (λ l. l ++ ((slices r).tail ++ ((slices r).raw ++ rest))) e) in
+        sym (λ i. gap i ++ (spaces i ++ behind_indent r rest)) ∙ (row_text_parts r rest ∙ ap (λ l. l ++ ((slices r).tail ++ ((slices r).raw ++ rest))) e) in
         subst Starts whole (row_starts limit r rest h)
 
     go : (is_empty (line_text r) ≡ true) ⊎ (is_empty (line_text r) ≡ false) → is_empty (line_text r) ≡ false
@@ -163,11 +163,11 @@ split_last : (s : Step) (ss : List Step) → (init : List Step) × (l : Step) ×
 split_last s [] = ([], s, refl)
 split_last s (t ∷ ts) = let x = split_last t ts in (s ∷ x.0, x.1, ap (λ l. s ∷ l) x.2)
 
-pub some_steps : (steps : List Step) (rs : List Row) (x : Seat) → seat_of steps rs ≡ Some x → (init : List Step) × (l : Step) × (steps ≡ init ++ l ∷ [])
+pub some_steps : (steps : List Step) (rs : List Row) (x : RowLine) → row_line_of steps rs ≡ Some x → (init : List Step) × (l : Step) × (steps ≡ init ++ l ∷ [])
 some_steps [] rs x e = absurd (none-some _ e)
 some_steps (s ∷ ss) rs x e = split_last s ss
 
-bare_none : (m : Mark) → m ≡ Bare → (f : Found) (s : Step) (ss : List Step) (y : Option (Found × List Step)) → option_and_then (λ x. found_line x.0 x.1) (bare_or m (Some (f, s ∷ ss)) y) ≡ None
+bare_none : (m : Mark) → m ≡ Bare → (f : FoundLine) (s : Step) (ss : List Step) (y : Option (FoundLine × List Step)) → option_and_then (λ x. found_line x.0 x.1) (bare_or m (Some (f, s ∷ ss)) y) ≡ None
 bare_none m is f s ss y = ap (λ k. option_and_then (λ x. found_line x.0 x.1) (bare_or k (Some (f, s ∷ ss)) y)) is
 
 bare_line : (s : Step) (ss : List Step) (l : Line) (ls : List Line) → l.mark ≡ Bare → line_of (s ∷ ss) (l ∷ ls) ≡ None
@@ -184,8 +184,8 @@ line_is_block [] ls n e = absurd (none-some _ e)
 line_is_block (s ∷ ss) [] n e = refl
 line_is_block (s ∷ ss) (l ∷ ls) n e = no_bare s ss l ls l.mark refl n e
 
-pub seat_is_block : (steps : List Step) (rs : List Row) (x : Seat) → seat_of steps rs ≡ Some x → begins_no_node (lines_of rs) ≡ true
-seat_is_block steps rs x e = let n = bind_some (line_of steps (lines_of rs)) e in line_is_block steps (lines_of rs) n.0 n.1
+pub row_line_is_block : (steps : List Step) (rs : List Row) (x : RowLine) → row_line_of steps rs ≡ Some x → begins_no_node (lines_of rs) ≡ true
+row_line_is_block steps rs x e = let n = bind_some (line_of steps (lines_of rs)) e in line_is_block steps (lines_of rs) n.0 n.1
 
 -- rows have lines
 row_some : (above : List (List ℕ)) (column : ℕ) (ns : List ℕ) (m : rows.Mark) (c : rows.Content) (more : List Line) → lines_from above column ns m c ++ more ≡ [] → ⊥

@@ -10,7 +10,7 @@ use Rattle.yq_documents.specs.Documents.{Document, document_parts, lead_of}
 use Rattle.yq_documents.specs.Reading as reading
 use Rattle.yq_documents.specs.Reading.{documents, read_at, cut_of, root_of}
 use Rattle.yq_documents.specs.Ready.{part_is_block}
-use Rattle.yq_documents.specs.Seats.{seat_of, seat_has_room}
+use Rattle.yq_documents.specs.LinesInRows.{row_line_of, row_line_has_room}
 use Rattle.yq_documents.specs.TreeEdits.{change_nth, lead_by}
 use Rattle.yq_places.proofs.ReadLaws.{text_takes, cut_is}
 use Rattle.yq_change.specs.Changed.{changed, put_document}
@@ -63,7 +63,7 @@ part_in t i = slice_get (document_parts (cut_of t)) i
 room_by_part : (t u : List ℕ) (i : ℕ) → part_in u i ≡ part_in t i → SameRoom (room_of t i) (room_of u i)
 room_by_part t u i h = record {
   block = ap part_is_block h;
-  has = λ place steps. ap (λ o. seat_has_room (comment_part place) (o >>= λ p. seat_of steps p.rows)) h;
+  has = λ place steps. ap (λ o. row_line_has_room (comment_part place) (o >>= λ p. row_line_of steps p.rows)) h;
 }
 
 keeps_block : (op : Operation) (root : Node) → SetsComment op → KeepsBlock op root
@@ -135,8 +135,8 @@ module _ (op : Operation) (c : Cut) (p q : Part) (lead : List (List ℕ)) (f : N
     comments = λ sets. record {
       block = block_stays (keeps_block op (root_of q) sets);
       has = λ place steps.
-          ap (λ o. seat_has_room (comment_part place) (o >>= λ x. seat_of steps x.rows)) new_part
-          ∙ (h.seats sets (comment_part place) steps ∙ ap (λ o. seat_has_room (comment_part place) (o >>= λ x. seat_of steps x.rows)) (sym old_part));
+          ap (λ o. row_line_has_room (comment_part place) (o >>= λ x. row_line_of steps x.rows)) new_part
+          ∙ (h.equal_room sets (comment_part place) steps ∙ ap (λ o. row_line_has_room (comment_part place) (o >>= λ x. row_line_of steps x.rows)) (sym old_part));
     };
     block = λ d at keeps.
         let is : reading.document_of q ≡ d = same_Some _ _ (sym (nth_map k q reading.document_of (document_parts (cut_of u)) new_part) ∙ at) in

@@ -23,7 +23,7 @@ use Rattle.yq_rows.proofs.SliceLaws.{content_slices}
 use Rattle.yq_rows.proofs.seams.ScalarSeams.{last_no_space}
 use Rattle.yq_places.specs.CollectionEnds.{is_broken}
 use Rattle.yq_walk.specs.Lines.{mark_of}
-use Rattle.yq_lines.specs.Spots.{is_bare}
+use Rattle.yq_lines.specs.Positions.{is_bare}
 use Rattle.yq_places.specs.Standings.{is_alone}
 use Rattle.yq_places.specs.PrintedLines.{end_break, last_break, less_break}
 use Rattle.yq_places.proofs.ContentEndLaws.{Ends, content_ends, tail_ends}

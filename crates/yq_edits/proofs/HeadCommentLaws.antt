@@ -30,9 +30,9 @@ use Rattle.yq_documents.specs.Pieces.{before_run, last_run}
 use Rattle.yq_places.specs.PlacedRows.{PlacedRow, placed_row}
 use Rattle.yq_documents.specs.Reading.{read_at, root_of}
 use Rattle.yq_places.specs.RowPaths.{IsReadable}
-use Rattle.yq_documents.specs.Seats.{seat_of}
+use Rattle.yq_documents.specs.LinesInRows.{row_line_of}
 use Rattle.yq_documents.specs.TreeEdits.{at_end, with_head_comment}
-use Rattle.yq_places.specs.Standings.{PlacedEntry, placed_entry}
+use Rattle.yq_places.specs.Standings.{RowsOfEntry, rows_of_entry}
 use Rattle.yq_places.proofs.CommentEndLaws.{gap_split, run_ascii}
 use Rattle.yq_places.proofs.PlacedRowLaws.{IsAt}
 use Rattle.yq_places.proofs.SeamLaws.{IsSeam, seam_boundary, seam_then, gap_seam, row_seam}
@@ -47,7 +47,7 @@ use Rattle.yq_change.proofs.LeadLaws.{block_entries, block_lead_goes}
 use Rattle.yq_change.proofs.LineFrontLaws.{clean_cut}
 use Rattle.yq_change.proofs.PathLaws.{path_head_commented}
 use Rattle.yq_change.proofs.ReplaceLaws.{rows_before_some}
-use Rattle.yq_change.proofs.ShapeLaws.{shape_tells}
+use Rattle.yq_change.proofs.ShapeLaws.{shapes_are_alike}
 use Rattle.yq_change.proofs.TextPieceLaws.{text_is_piece}
 use Rattle.yq_meaning.specs.Changes.{is_comment}
 use Rattle.yq_meaning.specs.Meaning.{head_of}
@@ -63,8 +63,8 @@ use Rattle.yq_edits.specs.Local.{IsLocal, IsLocalTo}
 use Rattle.yq_edits.proofs.LocalLaws.{cut_known, row_local}
 use Rattle.yq_edits.specs.ReadsAfter.{ReadsAfter}
 use Rattle.yq_edits.proofs.CommentPieceLaws.{AreParts, head_parts, lines_piece}
-use Rattle.yq_edits.proofs.CommentReadLaws.{lines_tell, lines_gap, lines_stand}
-use Rattle.yq_edits.proofs.CommentRowLaws.{entry_is_row, entry_row, rows_front, IsFound, row_found, found_text, found_row, cut_is, some_steps, seat_is_block, lines_some}
+use Rattle.yq_edits.proofs.CommentReadLaws.{lines_agree, lines_gap, lines_stand}
+use Rattle.yq_edits.proofs.CommentRowLaws.{entry_is_row, entry_row, rows_front, IsRowFound, row_found, found_text, found_row, cut_is, some_steps, row_line_is_block, lines_some}
 use Rattle.yq_edits.proofs.DoneLaws.{document_done}
 use Rattle.yq_edits.proofs.SegmentLaws.{segments_readable}
 
@@ -73,11 +73,11 @@ use Rattle.yq_edits.proofs.SegmentLaws.{segments_readable}
 -- What is known of the lines above a row that was found.
 record IsAbove (doc : ℕ) (steps : List Step) (c : Cut) (e : LinesAbove) : Type 0 where
   w : PlacedRow
-  found : IsFound doc steps c w
+  found : IsRowFound doc steps c w
   first : w.line ≡ 0
   is : above_row w ≡ e
 
-above : (doc : ℕ) (steps : List Step) (c : Cut) (e : PlacedEntry) → placed_entry doc steps c ≡ Some e → e.line ≡ 0 → IsAbove doc steps c (above_rows e)
+above : (doc : ℕ) (steps : List Step) (c : Cut) (e : RowsOfEntry) → rows_of_entry doc steps c ≡ Some e → e.line ≡ 0 → IsAbove doc steps c (above_rows e)
 above doc steps c e is first = record { w = entry_row e; found = row_found doc steps c (entry_row e) (entry_is_row doc steps c e is); first = first; is = refl }
 
 gap_text : (w : PlacedRow) → w.before ++ print_row w.row w.behind ≡ (w.before ++ joined (before_run (lines_of w.row.gap))) ++ (joined (last_run (lines_of w.row.gap)) ++ behind_gap w.row w.behind)
@@ -120,11 +120,11 @@ row_no_feed zero t s = starts_no_feed t s
 row_no_feed (suc n) t s = refl
 
 -- What is known of the pieces of the text above a row.
-record HasPieces (w : PlacedRow) : Type 0 where
+record HasGapPieces (w : PlacedRow) : Type 0 where
   before : IsPiece (w.before ++ joined (before_run (lines_of w.row.gap)))
   behind : IsPiece (behind_gap w.row w.behind)
 
-pieces : (c : Cut) (i : ℕ) (w : PlacedRow) → IsCut (cut_text c) c → IsPiece (cut_text c) → IsAt c i w.before w.row w.behind → HasPieces w
+pieces : (c : Cut) (i : ℕ) (w : PlacedRow) → IsCut (cut_text c) c → IsPiece (cut_text c) → IsAt c i w.before w.row w.behind → HasGapPieces w
 pieces c i w cut text at =
     let k : List ℕ = joined (before_run (lines_of w.row.gap)) in
     let u : List ℕ = joined (last_run (lines_of w.row.gap)) in
@@ -160,7 +160,7 @@ both : (doc : ℕ) (steps : List Step) (text : List ℕ) (br : Break) (c : Cut) 
     length (new_text (head_comment_segments (break_text br) text e)) ≤ text_limit → ReadsAfter (head_comment doc steps text) c (new_text (head_comment_segments (break_text br) text e)) × IsLocalTo (head_comment_segments (break_text br) text e) c
 both doc steps text br c e read a utf8 fit size =
     let w : PlacedRow = a.w in
-    let f : IsFound doc steps c w = a.found in
+    let f : IsRowFound doc steps c w = a.found in
     let p : Part = f.s.part in
     let i : ℕ = f.x.before in
     let front_rows : List Row = take i p.rows in
@@ -178,19 +178,19 @@ both doc steps text br c e read a utf8 fit size =
     ∙ (regroup f.s.before (rows_text front_rows []) (joined (before_run (lines_of r.gap))) run (behind_gap r own.behind)
     ∙ (ap (λ (x : LinesAbove). x.before ++ (head_lines x.column (break_text br) (head_of text) ++ x.behind)) above_is
     ∙ sym (segments_new (break_text br) text e)))) in
-    let k : HasPieces own = subst HasPieces (sym f.is) (pieces c _ w (cut_is c read) (text_is_piece c read) f.at) in
+    let k : HasGapPieces own = subst HasGapPieces (sym f.is) (pieces c _ w (cut_is c read) (text_is_piece c read) f.at) in
     let readable : IsReadable (new_text (head_comment_segments (break_text br) text e)) =
     segments_readable (head_comment_segments (break_text br) text e)
     (subst IsPiece (ap (λ (x : LinesAbove). x.before) above_is) k.before, (lines_piece e.column br (head_of text) parts, (subst IsPiece (ap (λ (x : LinesAbove). x.behind) above_is) k.behind, tt))) size in
-    let steps_are = some_steps steps p.rows f.x f.seat_is in
+    let steps_are = some_steps steps p.rows f.x f.row_line_is in
     let rest : List ℕ = behind_gap r (rows_text back (p.end ++ behind_document doc c)) in
     let changed = path_head_commented (cut_text c) c doc p steps_are.0 steps_are.1 f.x front_rows back run (record { read = read; there = f.stands.there })
-    (ap (λ (s : List Step). seat_of s p.rows) (sym steps_are.2) ∙ f.seat_is)
+    (ap (λ (s : List Step). row_line_of s p.rows) (sym steps_are.2) ∙ f.row_line_is)
     (ap (λ (x : PlacedRow). x.line) f.is ∙ a.first)
     (record { rows_are = f.rows_are; run_is = record { gap = lines_gap r.column br (head_of text) rest parts; stands = lines_stand r.column (break_text br) (head_of text) } })
     (count_front p.rows i r f.row) (subst IsReadable (sym text_then) readable) in
-    let shapes = shape_tells p q (shapes_same front_rows r back (with_run r run) p q f.rows_are refl) in
-    let block : is_block_root p ≡ true = seat_is_block steps p.rows f.x f.seat_is in
+    let shapes = shapes_are_alike p q (shapes_same front_rows r back (with_run r run) p q f.rows_are refl) in
+    let block : is_block_root p ≡ true = row_line_is_block steps p.rows f.x f.row_line_is in
     let kept : List ℕ = joined (before_run (lines_of r.gap)) in
     let ss : List Segment = head_comment_segments (break_text br) text e in
     let before_is : e.before ≡ (f.s.before ++ rows_text front_rows []) ++ kept = sym (ap (λ (x : LinesAbove). x.before) above_is) in
@@ -224,11 +224,11 @@ both doc steps text br c e read a utf8 fit size =
             there = f.stands.there;
             rows = λ none. absurd (false≢true (sym (rows_before_some front_rows (with_row_gap (with_run r run) r ∷ back) refl) ∙ none));
             changed = changed;
-            root = ap (λ o. change steps_are.0 (within (relabel_child steps_are.1 (with_head_comment o))) (root_of p)) (lines_tell r.column br (head_of text) parts)
+            root = ap (λ o. change steps_are.0 (within (relabel_child steps_are.1 (with_head_comment o))) (root_of p)) (lines_agree r.column br (head_of text) parts)
                 ∙ (sym (end_is_change (λ s. relabel_child s (with_head_comment (head_of text))) steps_are.0 steps_are.1 (root_of p)) ∙ ap (λ (s : List Step). at_end (λ s. relabel_child s (with_head_comment (head_of text))) s (root_of p)) (sym steps_are.2));
             lead_goes = block_lead_goes p q block (has_entries front_rows (with_row_gap (with_run r run) r) back q refl (shapes.1 ∙ block));
             block = λ x. shapes.1;
-            seats = λ x. shapes.0;
+            equal_room = λ x. shapes.0;
           })),
       cut_known ss c new changed.read text_then local,
     )

@@ -127,10 +127,10 @@ low_last (rows.Key key colon) = (omega arith, refl)
 
 -- a text cut behind such a byte
 pub last_cut : (b : ℕ) (x t : List ℕ) → b < 128 → is_return b ≡ false → IsPiece ((x ++ b ∷ []) ++ t) → IsPiece (x ++ b ∷ []) × IsPiece t
-last_cut b x t low quiet h =
+last_cut b x t low uncommented h =
     let front : IsUtf8 (x ++ b ∷ []) =
     subst IsUtf8 (take-append_seam (x ++ b ∷ []) t) (IsUtf8-take ((x ++ b ∷ []) ++ t) (length (x ++ b ∷ [])) h.utf8 (behind_ascii (x ++ b ∷ []) t h.utf8 (record { front = x; last = b; is = refl; ascii = low }))) in
-    clean_cut (x ++ b ∷ []) t h front (λ f. ends_more x (b ∷ []) refl ∙ quiet)
+    clean_cut (x ++ b ∷ []) t h front (λ f. ends_more x (b ∷ []) refl ∙ uncommented)
 
 front_utf8 : (a b : List ℕ) → IsPiece (a ++ b) → BeginsAscii b → IsUtf8 a
 front_utf8 a b h k = subst IsUtf8 (take-append_seam a b) (IsUtf8-take (a ++ b) (length a) h.utf8 (before_ascii a b k))

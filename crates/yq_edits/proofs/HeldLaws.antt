@@ -14,7 +14,7 @@ use Rattle.yq_places.proofs.PrintedTexts.{less_is}
 use Rattle.yq_places.proofs.RunSpans.{rows_then}
 use Rattle.yq_edits.proofs.CommentRowLaws.{end_parts, entry_is_row, entry_row, found_text, line_whole, row_found}
 use Rattle.yq_change.specs.StandingLaws.{held_text}
-use Rattle.yq_places.specs.Standings.{PlacedEntry, before_entry, behind_entry, placed_entry, held}
+use Rattle.yq_places.specs.Standings.{RowsOfEntry, before_entry, behind_entry, rows_of_entry, held}
 
 -- ---- the pieces of a row
 
@@ -62,7 +62,7 @@ below_is (b ∷ below) t behind =
 
 -- ---- an item or entry
 
-module _ (e : PlacedEntry) where
+module _ (e : RowsOfEntry) where
   abbrev s : Slices
   s = slices e.row
 
@@ -97,8 +97,8 @@ module _ (e : PlacedEntry) where
 
 -- ---- the text of a cut
 
-pub cut_spelled : (n : ℕ) (steps : List Step) (c : Cut) (e : PlacedEntry) → placed_entry n steps c ≡ Some e → cut_text c ≡ before_entry e ++ print_row e.row (rows_text e.under (behind_entry e))
+pub cut_spelled : (n : ℕ) (steps : List Step) (c : Cut) (e : RowsOfEntry) → rows_of_entry n steps c ≡ Some e → cut_text c ≡ before_entry e ++ print_row e.row (rows_text e.under (behind_entry e))
 cut_spelled n steps c e is = found_text c _ (entry_row e) (row_found n steps c (entry_row e) (entry_is_row n steps c e is)).at
 
-pub held_there : (n : ℕ) (steps : List Step) (c : Cut) (e : PlacedEntry) → placed_entry n steps c ≡ Some e → cut_text c ≡ held_text (held e)
+pub held_there : (n : ℕ) (steps : List Step) (c : Cut) (e : RowsOfEntry) → rows_of_entry n steps c ≡ Some e → cut_text c ≡ held_text (held e)
 held_there n steps c e is = cut_spelled n steps c e is ∙ held_spelled e

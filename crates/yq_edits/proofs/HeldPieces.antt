@@ -13,8 +13,8 @@ use Rattle.yq_documents.specs.Reading.{read_at}
 use Rattle.yq_places.specs.CommentPlaces.{LineEnd, end_before, line_text}
 use Rattle.yq_places.specs.PrintedLines.{last_break, less_break}
 use Rattle.yq_places.specs.RowPieces.{space_before}
-use Rattle.yq_places.specs.Standings.{PlacedEntry, before_entry, behind_entry, held, placed_entry}
-use Rattle.yq_places.proofs.CommentEndLaws.{row_line}
+use Rattle.yq_places.specs.Standings.{RowsOfEntry, before_entry, behind_entry, held, rows_of_entry}
+use Rattle.yq_places.proofs.CommentEndLaws.{row_text_parts}
 use Rattle.yq_places.proofs.CommentPieceLaws.{Ended}
 use Rattle.yq_places.proofs.LineEndLaws.{line_tail, tail_is_end}
 use Rattle.yq_places.proofs.RunSpans.{rows_then}
@@ -27,12 +27,12 @@ use Rattle.yq_edits.proofs.BreakLaws.{IsLfOrCrLf, break_is, last_is}
 use Rattle.yq_edits.proofs.CommentRowLaws.{entry_row}
 use Rattle.yq_edits.proofs.HeldCuts.{EndsIn, anchor_cut, anchor_ends, break_is_piece, dashes_end, ends_behind, last_of, less_piece, low_last, mark_ends, space_white}
 use Rattle.yq_edits.proofs.HeldLaws.{cut_spelled, front_is, held_there}
-use Rattle.yq_edits.proofs.TailPieces.{HasPieces, pieces, white_piece}
+use Rattle.yq_edits.proofs.TailPieces.{HasTailPieces, pieces, white_piece}
 
 -- the end of a line, as it is cut without what is behind
-pub end_told : (tail more : List ℕ) (h : IsTail tail more) → end_before [] tail ≡ record { before = []; white = h.white; comment = h.comment; behind = h.line.break }
-end_told tail more h =
-    let alone : IsTail tail [] = record { white = h.white; comment = h.comment; line = record { break = h.line.break; spelled = h.line.spelled; blank = h.line.blank; remark = h.line.remark; ends = ends h.line.ends }; apart = h.apart } in
+pub end_agrees : (tail more : List ℕ) (h : IsTail tail more) → end_before [] tail ≡ record { before = []; white = h.white; comment = h.comment; behind = h.line.break }
+end_agrees tail more h =
+    let alone : IsTail tail [] = record { white = h.white; comment = h.comment; line = record { break = h.line.break; spelled = h.line.spelled; blank = h.line.blank; as_comment = h.line.as_comment; ends = ends h.line.ends }; apart = h.apart } in
     ap (end_before []) (sym (append-nil tail)) ∙ (tail_is_end [] tail [] alone ∙ ap (λ t. record { before = []; white = h.white; comment = h.comment; behind = t }) (append-nil h.line.break))
   where
     ends : IsBreak h.line.break more → IsBreak h.line.break []
@@ -78,18 +78,18 @@ below_pieces break (x ∷ xs) behind b all ends =
     cut (inr none) = (subst IsPiece (ap (λ t. (x ∷ xs) ++ t) none ∙ append-nil (x ∷ xs)) all, subst IsPiece (sym none) Rattle.yq_edits.proofs.CommentPieceLaws.nothing)
 
 -- what is below the line of a key or dash ends in a break, or nothing is behind
-pub below_ended : (n : ℕ) (s : Step) (ss : List Step) (c : Cut) (e : PlacedEntry) → StandsThere n s ss c e → is_empty ((slices e.row).raw ++ rows_text e.under []) ≡ false →
+pub below_ended : (n : ℕ) (s : Step) (ss : List Step) (c : Cut) (e : RowsOfEntry) → StandsThere n s ss c e → is_empty ((slices e.row).raw ++ rows_text e.under []) ≡ false →
     Ended ((slices e.row).raw ++ rows_text e.under []) (behind_entry e)
 below_ended n s ss c e there some = go (rows_ended_there n s ss c e there)
   where
     text : rows_text (e.row ∷ e.under) [] ≡ (line_text e.row ++ (slices e.row).tail) ++ ((slices e.row).raw ++ rows_text e.under [])
-    text = row_line e.row (rows_text e.under []) ∙ sym (append_assoc (line_text e.row) (slices e.row).tail ((slices e.row).raw ++ rows_text e.under []))
+    text = row_text_parts e.row (rows_text e.under []) ∙ sym (append_assoc (line_text e.row) (slices e.row).tail ((slices e.row).raw ++ rows_text e.under []))
 
     go : Ended (rows_text (e.row ∷ e.under) []) (behind_entry e) → Ended ((slices e.row).raw ++ rows_text e.under []) (behind_entry e)
     go (inl lf) = inl (suffix_lf (line_text e.row ++ (slices e.row).tail) ((slices e.row).raw ++ rows_text e.under []) (subst IsLf text lf) some)
     go (inr none) = inr none
 
-module _ (n : ℕ) (s : Step) (ss : List Step) (c : Cut) (e : PlacedEntry) (read : read_at (cut_text c) ≡ Some c) (at : placed_entry n (s ∷ ss) c ≡ Some e) where
+module _ (n : ℕ) (s : Step) (ss : List Step) (c : Cut) (e : RowsOfEntry) (read : read_at (cut_text c) ≡ Some c) (at : rows_of_entry n (s ∷ ss) c ≡ Some e) where
   there : StandsThere n s ss c e
   there = rows_stand n s ss c e read at
 
@@ -105,7 +105,7 @@ module _ (n : ℕ) (s : Step) (ss : List Step) (c : Cut) (e : PlacedEntry) (read
   tail : IsTail (slices e.row).tail ((slices e.row).raw ++ rows_text e.under (behind_entry e))
   tail = line_tail (parent_indent e.row) e.row.content (rows_text e.under (behind_entry e)) row.content
 
-  k : HasPieces (entry_row e) (slices e.row).tail ((slices e.row).raw ++ rows_text e.under (behind_entry e)) tail
+  k : HasTailPieces (entry_row e) (slices e.row).tail ((slices e.row).raw ++ rows_text e.under (behind_entry e)) tail
   k = pieces (entry_row e) (asked_behind unlimited e.front) row (subst IsPiece (cut_spelled n (s ∷ ss) c e at) (text_is_piece c read)) tail
 
   below_there : BelowPieces tail.line.break below (behind_entry e)
@@ -123,7 +123,7 @@ module _ (n : ℕ) (s : Step) (ss : List Step) (c : Cut) (e : PlacedEntry) (read
       ends_behind (last_of m) (before_entry e) (row_front e.row) (ends_behind (last_of m) e.row.gap _ (ends_behind (last_of m) (replicate e.row.column 32) _ (dashes_end (last_of m) e.row.dashes (mark_text m []) (mark_ends m e.row.content _ (entry_there n s ss c e there last) row.mark)))) in
       let front = anchor_cut (last_of m) base sl ends (low_last m) (λ some. anchor_ends (parent_indent e.row) e.row.content _ some row.content) (subst IsPiece (front_is (before_entry e) e.row) k.before) in
       let space : IsPiece (space_before sl) = white_piece (space_before sl) (space_white (parent_indent e.row) e.row.content _ row.content) in
-      let end : end_before [] sl.tail ≡ record { before = []; white = tail.white; comment = tail.comment; behind = tail.line.break } = end_told sl.tail _ tail in
+      let end : end_before [] sl.tail ≡ record { before = []; white = tail.white; comment = tail.comment; behind = tail.line.break } = end_agrees sl.tail _ tail in
       let lines : BelowPieces (end_before [] sl.tail).behind below (behind_entry e) = subst (λ (x : LineEnd). BelowPieces x.behind below (behind_entry e)) (sym end) below_there in
       record {
         before = front.0;

@@ -12,7 +12,7 @@ use Rattle.yq_rows.specs.View.{slices}
 use Rattle.yq_documents.specs.Reading.{read_at}
 use Rattle.yq_places.specs.CommentPlaces.{LineEnd, end_before}
 use Rattle.yq_places.specs.PrintedLines.{last_break}
-use Rattle.yq_places.specs.Standings.{Held, PlacedEntry, behind_entry, held, placed_entry}
+use Rattle.yq_places.specs.Standings.{Held, RowsOfEntry, behind_entry, held, rows_of_entry}
 use Rattle.yq_places.proofs.LineEndLaws.{line_tail}
 use Rattle.yq_change.specs.StandingLaws.{StandsThere}
 use Rattle.yq_change.proofs.StandingMarks.{row_there}
@@ -20,7 +20,7 @@ use Rattle.yq_change.proofs.StandingRows.{rows_stand}
 use Rattle.yq_edits.specs.ReplaceEdits.{line_break}
 use Rattle.yq_edits.specs.TouchedRanges.{is_one_line}
 use Rattle.yq_edits.proofs.BreakLaws.{IsLfOrCrLf, last_is}
-use Rattle.yq_edits.proofs.HeldPieces.{break_cases, end_told}
+use Rattle.yq_edits.proofs.HeldPieces.{break_cases, end_agrees}
 
 -- ---- a part of a line
 
@@ -36,9 +36,9 @@ line_before : (p rest t : List ℕ) → NoneIn ends_line p rest → is_one_line 
 line_before [] rest t none h = h
 line_before (b ∷ p) rest t none h = byte_before b (p ++ t) (or_parts (is_feed b) (is_return b && front is_feed (p ++ rest)) none.0).0 (line_before p rest t none.1 h)
 
-remark_before : (comment break t : List ℕ) → IsComment comment break → is_one_line t ≡ true → is_one_line (comment ++ t) ≡ true
-remark_before [] break t remark h = h
-remark_before (b ∷ bs) break t remark h = byte_before b (bs ++ t) (ap is_feed remark.0) (line_before bs break t remark.1 h)
+comment_before : (comment break t : List ℕ) → IsComment comment break → is_one_line t ≡ true → is_one_line (comment ++ t) ≡ true
+comment_before [] break t as_comment h = h
+comment_before (b ∷ bs) break t as_comment h = byte_before b (bs ++ t) (ap is_feed as_comment.0) (line_before bs break t as_comment.1 h)
 
 pub nothing_line : is_one_line [] ≡ true
 unfolding is_one_line
@@ -58,7 +58,7 @@ pub record IsInLine (h : Held) : Type 0 where
   pub broken : is_one_line ((h.white ++ h.comment) ++ line_break h) ≡ true
 
 in_line : (white comment b : List ℕ) → IsWhite white → (break : List ℕ) → IsComment comment break → is_one_line b ≡ true → is_one_line ((white ++ comment) ++ b) ≡ true
-in_line white comment b blank break remark h = ap is_one_line (append_assoc white comment b) ∙ white_before white (comment ++ b) blank (remark_before comment break b remark h)
+in_line white comment b blank break as_comment h = ap is_one_line (append_assoc white comment b) ∙ white_before white (comment ++ b) blank (comment_before comment break b as_comment h)
 
 -- the break of its line
 break_there : (x : Bool) (b l : List ℕ) → is_one_line b ≡ true → is_one_line l ≡ true → is_one_line (cond (is_empty (cond x [] b)) (cond x b l) (cond x [] b)) ≡ true
@@ -69,18 +69,18 @@ break_there false b l h k = go (is_empty b)
     go true = k
     go false = h
 
-pub held_in_line : (n : ℕ) (s : Step) (ss : List Step) (c : Cut) (e : PlacedEntry) → read_at (cut_text c) ≡ Some c → placed_entry n (s ∷ ss) c ≡ Some e → IsInLine (held e)
+pub held_in_line : (n : ℕ) (s : Step) (ss : List Step) (c : Cut) (e : RowsOfEntry) → read_at (cut_text c) ≡ Some c → rows_of_entry n (s ∷ ss) c ≡ Some e → IsInLine (held e)
 held_in_line n s ss c e read at =
     let there : StandsThere n s ss c e = rows_stand n s ss c e read at in
     let row : IsRow (asked_behind unlimited e.front) e.row (rows_text e.under (behind_entry e)) = row_there n s ss c e there in
     let tail : IsTail (slices e.row).tail ((slices e.row).raw ++ rows_text e.under (behind_entry e)) = line_tail (parent_indent e.row) e.row.content (rows_text e.under (behind_entry e)) row.content in
-    let told : end_before [] (slices e.row).tail ≡ record { before = []; white = tail.white; comment = tail.comment; behind = tail.line.break } = end_told (slices e.row).tail _ tail in
+    let agrees : end_before [] (slices e.row).tail ≡ record { before = []; white = tail.white; comment = tail.comment; behind = tail.line.break } = end_agrees (slices e.row).tail _ tail in
     let below : List ℕ = (slices e.row).raw ++ rows_text e.under [] in
     let last : List ℕ = last_break below in
     let own : is_one_line tail.line.break ≡ true = break_line tail.line.break (break_cases tail.line.break _ tail.line.ends) in
     let at_end : is_one_line last ≡ true = break_line last (last_is below) in
     record {
-      ends = subst (λ (x : LineEnd). is_one_line (x.white ++ x.comment) ≡ true) (sym told) (white_before tail.white tail.comment tail.line.blank (ap is_one_line (sym (append-nil tail.comment)) ∙ remark_before tail.comment tail.line.break [] tail.line.remark nothing_line));
-      broken = subst (λ (x : LineEnd). is_one_line ((x.white ++ x.comment) ++ cond (is_empty (cond (is_empty below) [] x.behind)) (cond (is_empty below) x.behind last) (cond (is_empty below) [] x.behind)) ≡ true) (sym told)
-          (in_line tail.white tail.comment _ tail.line.blank tail.line.break tail.line.remark (break_there (is_empty below) tail.line.break last own at_end));
+      ends = subst (λ (x : LineEnd). is_one_line (x.white ++ x.comment) ≡ true) (sym agrees) (white_before tail.white tail.comment tail.line.blank (ap is_one_line (sym (append-nil tail.comment)) ∙ comment_before tail.comment tail.line.break [] tail.line.as_comment nothing_line));
+      broken = subst (λ (x : LineEnd). is_one_line ((x.white ++ x.comment) ++ cond (is_empty (cond (is_empty below) [] x.behind)) (cond (is_empty below) x.behind last) (cond (is_empty below) [] x.behind)) ≡ true) (sym agrees)
+          (in_line tail.white tail.comment _ tail.line.blank tail.line.break tail.line.as_comment (break_there (is_empty below) tail.line.break last own at_end));
     }

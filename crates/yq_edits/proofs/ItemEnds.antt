@@ -5,7 +5,7 @@ use Rattle.std.proofs.lemmas.Bool.{false≢true, ltb-false}
 use Rattle.std.proofs.lemmas.List.{length-append}
 use Rattle.yq_scalar.specs.Text.{is_empty}
 use Rattle.yq_scalar.proofs.BlockPieceLaws.{IsLf, append_lf, line_lf}
-use Rattle.yq_rows.specs.Items.{Item, row_item, end_item, items_text, Asked, asked_by, IsPartEnd, IsItem, AreItems}
+use Rattle.yq_rows.specs.Items.{Item, row_item, end_item, items_text, Asked, asked_by, IsPartEnd, IsItem, AreRowItems}
 use Rattle.yq_rows.specs.Touched.{item_text, in_back, in_front}
 use Rattle.yq_rows.proofs.ItemLaws.{items_text-append}
 use Rattle.yq_rows.proofs.KeptLaws.{items_apart}
@@ -31,7 +31,7 @@ item_ended asked (end_item gap marker) xs h some = go h.1
     go (inr none) = absurd (false≢true (sym some ∙ ap (λ (l : List Item). is_empty (items_text l [])) none.1))
 
 -- several of them
-pub items_ended : (asked : Asked) (xs ys : List Item) → AreItems asked (xs ++ ys) [] → is_empty (items_text ys []) ≡ false → (xs ≡ []) ⊎ IsLf (items_text xs [])
+pub items_ended : (asked : Asked) (xs ys : List Item) → AreRowItems asked (xs ++ ys) [] → is_empty (items_text ys []) ≡ false → (xs ≡ []) ⊎ IsLf (items_text xs [])
 items_ended asked [] ys h some = inl refl
 items_ended asked (x ∷ xs) ys h some = inr (subst IsLf (sym (item_apart x xs [])) (go (items_ended (asked_by asked x) xs ys h.1 some)))
   where

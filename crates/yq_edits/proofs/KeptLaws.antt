@@ -77,7 +77,7 @@ kept_reads doc steps v c p read at n h there e =
       root = ap (λ m. change steps (replaced m) (root_of p)) (sym (led_scalar (scalar_in n) (is_block_root p) (lead_of p) steps v e));
       lead_goes = same_lead_goes p p refl refl;
       block = λ keeps. refl;
-      seats = λ sets. absurd sets;
+      equal_room = λ sets. absurd sets;
     }))
 
 -- what keeps the whole text

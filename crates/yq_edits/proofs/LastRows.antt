@@ -7,7 +7,7 @@ use Rattle.yq_scalar.specs.Text.{is_empty}
 use Rattle.yq_scalar.proofs.BlockPieceLaws.{IsLf}
 use Rattle.yq_scalar.proofs.Bools.{guard_then}
 use Rattle.yq_rows.specs.Grammar.{Limit, limit_after, IsRow}
-use Rattle.yq_rows.specs.Items.{Item, row_item, rows_items, items_of, items_text, Asked, nothing_asked, asked_by, asked_of, AreItems}
+use Rattle.yq_rows.specs.Items.{Item, row_item, rows_items, items_of, items_text, Asked, nothing_asked, asked_by, asked_of, AreRowItems}
 use Rattle.yq_rows.specs.Rows.{Row, print_row, behind_gap, rows_text, Part, Cut, cut_text}
 use Rattle.yq_rows.specs.Splices.{with_row_gap}
 use Rattle.yq_rows.proofs.ItemLaws.{items_joined, parts_are_items}
@@ -44,14 +44,14 @@ first_own : (r : Row) (rs : List Row) → length (print_row r []) ≤ length (ro
 first_own r rs = omega (arith, ap length (row_then r [] (rows_text rs [])), length-append (print_row r []) (rows_text rs []))
 
 -- a row in front of another one ends in a line feed
-row_feed : (asked : Asked) (r s : Row) (is : List Item) (rest : List ℕ) → AreItems asked (row_item r ∷ (row_item s ∷ is)) rest → IsLf (print_row r [])
+row_feed : (asked : Asked) (r s : Row) (is : List Item) (rest : List ℕ) → AreRowItems asked (row_item r ∷ (row_item s ∷ is)) rest → IsLf (print_row r [])
 row_feed asked r s is rest h = go (row_ended asked.limit r (print_row s (items_text is rest)) h.0.1)
   where
     go : Ended (print_row r []) (print_row s (items_text is rest)) → IsLf (print_row r [])
     go (inl lf) = lf
     go (inr none) = absurd (false≢true (sym (row_some (limit_after r) s (items_text is rest) h.1.0.1) ∙ ap is_empty none))
 
-last_line : (rs : List Row) (asked : Asked) (is : List Item) (rest t trail : List ℕ) → AreItems asked (rows_items rs is) rest → rows_text rs [] ≡ t ++ trail → is_one_line trail ≡ true → InLast trail (rows_items rs [])
+last_line : (rs : List Row) (asked : Asked) (is : List Item) (rest t trail : List ℕ) → AreRowItems asked (rows_items rs is) rest → rows_text rs [] ≡ t ++ trail → is_one_line trail ≡ true → InLast trail (rows_items rs [])
 last_line [] asked is rest t trail h e one = left_none t trail (sym e)
 last_line (r ∷ []) asked is rest t trail h e one = last_within (print_row r []) t trail e
 last_line (r ∷ (s ∷ more)) asked is rest t trail h e one = go (λ u k. last_line (s ∷ more) (asked_by asked (row_item r)) is rest u trail h.1 k one) (leb (length trail) (length (rows_text (s ∷ more) []))) refl
@@ -80,7 +80,7 @@ cut_line : (c : Cut) (front : List Item) (rs : List Row) (back : List Item) (lea
 unfolding read_at
 cut_line c front rs back lead trail read are inside one =
     let parts = (text_takes (cut_text c) c (guard_then _ read).1).0.parts in
-    let all : AreItems nothing_asked (front ++ rows_items rs back) [] = subst (λ is. AreItems nothing_asked is []) (are ∙ ap (λ is. front ++ is) (sym (rows_before rs [] back))) (parts_are_items c true parts) in
+    let all : AreRowItems nothing_asked (front ++ rows_items rs back) [] = subst (λ is. AreRowItems nothing_asked is []) (are ∙ ap (λ is. front ++ is) (sym (rows_before rs [] back))) (parts_are_items c true parts) in
     let text : rows_text rs [] ≡ (lead ++ inside.middle) ++ trail = sym (rows_spell rs [] []) ∙ (inside.text ∙ sym (append_assoc lead inside.middle trail)) in
     last_line rs (asked_of nothing_asked front) back [] (lead ++ inside.middle) trail (items_joined front (rows_items rs back) nothing_asked [] all) text one
 

@@ -19,7 +19,7 @@ use Rattle.yq_documents.specs.Reading.{read_at, root_of}
 use Rattle.yq_places.specs.RowPaths.{IsReadable}
 use Rattle.yq_documents.specs.TreeEdits.{at_end, with_line_comment}
 use Rattle.yq_places.proofs.LineEndLaws.{line_tail, end_of_tail, tail_is_end}
-use Rattle.yq_places.specs.Standings.{Held, PlacedEntry, before_entry, behind_entry, held, placed_entry}
+use Rattle.yq_places.specs.Standings.{Held, RowsOfEntry, before_entry, behind_entry, held, rows_of_entry}
 use Rattle.yq_places.proofs.RunSpans.{rows_then}
 use Rattle.yq_change.specs.Appends.{inserted}
 use Rattle.yq_change.specs.Changed.{put_document}
@@ -30,7 +30,7 @@ use Rattle.yq_change.proofs.AfterLaws.{end_is_change}
 use Rattle.yq_change.proofs.LeadLaws.{same_lead_goes}
 use Rattle.yq_change.proofs.PathTailLaws.{path_tail_put}
 use Rattle.yq_change.proofs.ReplaceLaws.{rows_before_some}
-use Rattle.yq_change.proofs.ShapeLaws.{shape_tells}
+use Rattle.yq_change.proofs.ShapeLaws.{shapes_are_alike}
 use Rattle.yq_change.proofs.TextPieceLaws.{text_is_piece}
 use Rattle.yq_meaning.specs.Changes.{is_comment}
 use Rattle.yq_meaning.specs.Meaning.{line_of}
@@ -43,7 +43,7 @@ use Rattle.yq_edits.specs.EditLaws.{CarriedOut, IsEdit, LineCommentIsPut}
 use Rattle.yq_edits.specs.Local.{IsLocal}
 use Rattle.yq_edits.specs.ReadsAfter.{ReadsAfter}
 use Rattle.yq_edits.proofs.CommentPieceLaws.{nothing, byte_then, line_text_is}
-use Rattle.yq_edits.proofs.CommentRowLaws.{entry_is_row, entry_row, rows_front, IsFound, row_found, found_text, found_row, cut_is, HasRow, line_whole, end_parts, some_steps}
+use Rattle.yq_edits.proofs.CommentRowLaws.{entry_is_row, entry_row, rows_front, IsRowFound, row_found, found_text, found_row, cut_is, HasRow, line_whole, end_parts, some_steps}
 use Rattle.yq_edits.proofs.DoneLaws.{document_done}
 use Rattle.yq_edits.proofs.HeldLaws.{below_is, front_is}
 use Rattle.yq_edits.proofs.LineTails.{written, new_white, new_comment, tail_then, blank, new_comment_is, line_tail_is, row_then_text, lead_same, shapes_same}
@@ -54,9 +54,9 @@ use Rattle.yq_edits.proofs.TailPieces.{white_piece, pieces}
 -- ---- the place
 
 -- What is known of the end of a line that was found.
-record IsPlace (doc : ℕ) (steps : List Step) (c : Cut) (e : LineEnd) : Type 0 where
+record IsEndOfLine (doc : ℕ) (steps : List Step) (c : Cut) (e : LineEnd) : Type 0 where
   w : PlacedRow
-  found : IsFound doc steps c w
+  found : IsRowFound doc steps c w
   last : w.line ≡ length w.row.dashes
   is : end_of_line w ≡ e
 
@@ -68,13 +68,13 @@ ends h = record { before = h.before ++ (h.space ++ h.head); white = h.white; com
 ends_same : (tail more : List ℕ) → IsTail tail more → end_before [] (tail ++ more) ≡ (record { before = []; white = (end_before [] tail).white; comment = (end_before [] tail).comment; behind = (end_before [] tail).behind ++ more })
 ends_same tail more h =
     let last : IsBreak h.line.break [] = ⊎_elim {0, 0, 0} (λ e. inl e) (λ e. inr (e.0, refl)) h.line.ends in
-    let alone : IsTail tail [] = record { white = h.white; comment = h.comment; line = record { break = h.line.break; spelled = h.line.spelled; blank = h.line.blank; remark = h.line.remark; ends = last }; apart = h.apart } in
+    let alone : IsTail tail [] = record { white = h.white; comment = h.comment; line = record { break = h.line.break; spelled = h.line.spelled; blank = h.line.blank; as_comment = h.line.as_comment; ends = last }; apart = h.apart } in
     let own : end_before [] tail ≡ record { before = []; white = h.white; comment = h.comment; behind = h.line.break } =
     ap (end_before []) (sym (append-nil tail)) ∙ (tail_is_end [] tail [] alone ∙ ap (λ t. record { before = []; white = h.white; comment = h.comment; behind = t }) (append-nil h.line.break)) in
     tail_is_end [] tail more h ∙ sym (ap (λ (x : LineEnd). record { before = []; white = x.white; comment = x.comment; behind = x.behind ++ more }) own)
 
 -- what a key or dash holds tells the end of its line
-ends_are : (n : ℕ) (steps : List Step) (c : Cut) (e : PlacedEntry) → read_at (cut_text c) ≡ Some c → IsFound n steps c (entry_row e) → end_of_line (entry_row e) ≡ ends (held e)
+ends_are : (n : ℕ) (steps : List Step) (c : Cut) (e : RowsOfEntry) → read_at (cut_text c) ≡ Some c → IsRowFound n steps c (entry_row e) → end_of_line (entry_row e) ≡ ends (held e)
 ends_are n steps c e read f =
     let r : Row = e.row in
     let below : List ℕ = (slices r).raw ++ rows_text e.under [] in
@@ -87,12 +87,12 @@ ends_are n steps c e read f =
     ap (λ (x : LineEnd). record { before = before_entry e ++ line_text r; white = x.white; comment = x.comment; behind = x.behind }) (ends_same (slices r).tail ((slices r).raw ++ behind) h)
     ∙ (λ i. record { before = front_is (before_entry e) r i; white = t.white; comment = t.comment; behind = line i })
 
-place : (n : ℕ) (steps : List Step) (c : Cut) (e : PlacedEntry) → read_at (cut_text c) ≡ Some c → placed_entry n steps c ≡ Some e → e.line ≡ length e.row.dashes → IsPlace n steps c (ends (held e))
+place : (n : ℕ) (steps : List Step) (c : Cut) (e : RowsOfEntry) → read_at (cut_text c) ≡ Some c → rows_of_entry n steps c ≡ Some e → e.line ≡ length e.row.dashes → IsEndOfLine n steps c (ends (held e))
 place n steps c e read is last =
     let f = row_found n steps c (entry_row e) (entry_is_row n steps c e is) in record { w = entry_row e; found = f; last = last; is = ends_are n steps c e read f }
 
 -- the text of the cut by its parts there
-place_text : (doc : ℕ) (steps : List Step) (c : Cut) (e : LineEnd) → IsPlace doc steps c e → cut_text c ≡ e.before ++ (e.white ++ (e.comment ++ e.behind))
+place_text : (doc : ℕ) (steps : List Step) (c : Cut) (e : LineEnd) → IsEndOfLine doc steps c e → cut_text c ≡ e.before ++ (e.white ++ (e.comment ++ e.behind))
 place_text doc steps c e p =
     let w : PlacedRow = p.w in
     let rest : List ℕ = (slices w.row).tail ++ ((slices w.row).raw ++ w.behind) in
@@ -143,13 +143,13 @@ comment_piece text t = go (is_empty text)
 
 -- ---- the law
 
-both : (doc : ℕ) (steps : List Step) (text : List ℕ) (c : Cut) (hd : Held) → read_at (cut_text c) ≡ Some c → IsPlace doc steps c (ends hd) → IsUtf8 text → is_comment comments.Line text ≡ true →
+both : (doc : ℕ) (steps : List Step) (text : List ℕ) (c : Cut) (hd : Held) → read_at (cut_text c) ≡ Some c → IsEndOfLine doc steps c (ends hd) → IsUtf8 text → is_comment comments.Line text ≡ true →
     length (new_text (comment_put text hd)) ≤ text_limit → CarriedOut (line_comment doc steps text) c (comment_put text hd)
 both doc steps text c hd read a utf8 fit size =
     let e : LineEnd = ends hd in
     let ss : List Segment = comment_put text hd in
     let w : PlacedRow = a.w in
-    let f : IsFound doc steps c w = a.found in
+    let f : IsRowFound doc steps c w = a.found in
     let p : Part = f.s.part in
     let i : ℕ = f.x.before in
     let front_rows : List Row = take i p.rows in
@@ -157,10 +157,10 @@ both doc steps text c hd read a utf8 fit size =
     let r : Row = f.x.row in
     let rest : List ℕ = rows_text back (p.end ++ f.s.behind) in
     let own : PlacedRow = placed_row f.s f.x in
-    let quiet = line_text_is text utf8 fit in
+    let no_breaks = line_text_is text utf8 fit in
     let has : HasRow own = subst HasRow (sym f.is) (found_row c _ w (cut_is c read) f.at) in
     let h : IsTail (slices r).tail ((slices r).raw ++ rest) = line_tail (parent_indent r) r.content rest has.row.content in
-    let tail : List ℕ = tail_then text (slices r).tail ((slices r).raw ++ rest) h quiet.0 in
+    let tail : List ℕ = tail_then text (slices r).tail ((slices r).raw ++ rest) h no_breaks.0 in
     let q : Part = inserted front_rows (tailed tail r ∷ []) back p in
     let new : Cut = put_document doc q c in
     let rows_now : q.rows ≡ front_rows ++ (tailed tail r ∷ back) = ap (λ (b : List Row). front_rows ++ (tailed tail r ∷ b)) (own_gap back p.end) in
@@ -177,19 +177,19 @@ both doc steps text c hd read a utf8 fit size =
     let whole : IsPiece (own.before ++ print_row own.row own.behind) = subst IsPiece (found_text c _ w f.at ∙ sym (ap (λ (x : PlacedRow). x.before ++ print_row x.row x.behind) f.is)) (text_is_piece c read) in
     let k = pieces own has.limit has.row whole h in
     let white : IsPiece (new_white text hd.white hd.comment) =
-    subst (λ (x : LineEnd). IsPiece (new_white text x.white x.comment)) end_is (white_piece (new_white text h.white h.comment) (blank text (slices r).tail ((slices r).raw ++ rest) h quiet.0)) in
+    subst (λ (x : LineEnd). IsPiece (new_white text x.white x.comment)) end_is (white_piece (new_white text h.white h.comment) (blank text (slices r).tail ((slices r).raw ++ rest) h no_breaks.0)) in
     let pieces : List Segment = keep e.before ∷ (keep (new_white text hd.white hd.comment) ∷ (keep (new_comment text) ∷ (keep e.behind ∷ []))) in
     let pieces_are : new_text pieces ≡ new_text ss = ap (λ l. e.before ++ (new_white text hd.white hd.comment ++ (new_comment text ++ l))) (append-nil e.behind) ∙ sym (segments_new text hd) in
     let readable : IsReadable (new_text ss) =
     subst IsReadable pieces_are (segments_readable pieces
-    (subst IsPiece (ap (λ (x : LineEnd). x.before) end_is) k.before, (white, (comment_piece text quiet.1, (subst IsPiece (ap (λ (x : LineEnd). x.behind) end_is) k.behind, tt)))) (subst (λ t. length t ≤ text_limit) (sym pieces_are) size)) in
-    let steps_are = some_steps steps p.rows f.x f.seat_is in
-    let fits : IsLineTail tail r.content (rows_text back (p.end ++ behind_document doc c)) = subst (λ u. IsLineTail tail r.content (rows_text back (p.end ++ u))) (sym f.stands.behind) (line_tail_is (parent_indent r) text r.content rest h has.row.content quiet.0) in
+    (subst IsPiece (ap (λ (x : LineEnd). x.before) end_is) k.before, (white, (comment_piece text no_breaks.1, (subst IsPiece (ap (λ (x : LineEnd). x.behind) end_is) k.behind, tt)))) (subst (λ t. length t ≤ text_limit) (sym pieces_are) size)) in
+    let steps_are = some_steps steps p.rows f.x f.row_line_is in
+    let fits : IsLineTail tail r.content (rows_text back (p.end ++ behind_document doc c)) = subst (λ u. IsLineTail tail r.content (rows_text back (p.end ++ u))) (sym f.stands.behind) (line_tail_is (parent_indent r) text r.content rest h has.row.content no_breaks.0) in
     let changed = path_tail_put (cut_text c) c doc p steps_are.0 steps_are.1 f.x front_rows back tail (record { read = read; there = f.stands.there })
-    (ap (λ (s : List Step). Rattle.yq_documents.specs.Seats.seat_of s p.rows) (sym steps_are.2) ∙ f.seat_is)
+    (ap (λ (s : List Step). Rattle.yq_documents.specs.LinesInRows.row_line_of s p.rows) (sym steps_are.2) ∙ f.row_line_is)
     (ap (λ (x : PlacedRow). x.line) f.is ∙ (a.last ∙ sym (ap (λ (x : PlacedRow). length x.row.dashes) f.is)))
     (record { rows_are = f.rows_are; fits = fits }) (count_front p.rows i r f.row) (subst IsReadable (sym text_then) readable) in
-    let shapes = shape_tells p q (shapes_same front_rows r back tail p q f.rows_are rows_now) in
+    let shapes = shapes_are_alike p q (shapes_same front_rows r back tail p q f.rows_are rows_now) in
     let trail : List ℕ = h.line.break ++ (slices r).raw in
     let put_is : IsCommentPut hd (white_kept text hd) ss = comment_segments text hd in
     let before_is : e.before ≡ (f.s.before ++ rows_text front_rows []) ++ line_text r = sym (ap (λ (x : LineEnd). x.before) end_is) in
@@ -223,11 +223,11 @@ both doc steps text c hd read a utf8 fit size =
             there = f.stands.there;
             rows = λ none. absurd (false≢true (sym (rows_before_some front_rows (tailed tail r ∷ back) refl) ∙ (sym (ap no_rows rows_now) ∙ none)));
             changed = changed;
-            root = ap (λ o. change steps_are.0 (within (relabel_child steps_are.1 (with_line_comment o))) (root_of p)) (new_comment_is text (slices r).tail ((slices r).raw ++ rest) h quiet.0)
+            root = ap (λ o. change steps_are.0 (within (relabel_child steps_are.1 (with_line_comment o))) (root_of p)) (new_comment_is text (slices r).tail ((slices r).raw ++ rest) h no_breaks.0)
                 ∙ (sym (end_is_change (λ s. relabel_child s (with_line_comment (line_of text))) steps_are.0 steps_are.1 (root_of p)) ∙ ap (λ (s : List Step). at_end (λ s. relabel_child s (with_line_comment (line_of text))) s (root_of p)) (sym steps_are.2));
             lead_goes = same_lead_goes p q (lead_same front_rows r back tail p q f.rows_are rows_now) shapes.1;
             block = λ x. shapes.1;
-            seats = λ x. shapes.0;
+            equal_room = λ x. shapes.0;
           }));
       local = inl (cut_known ss c new changed.read text_then local);
     }
@@ -241,7 +241,7 @@ both doc steps text c hd read a utf8 fit size =
 pub line_comment_is_put : LineCommentIsPut
 line_comment_is_put n steps text c e ss read is so =
     let g = guard_then (eqb e.line (length e.row.dashes)) so in
-    let a : IsPlace n steps c (ends (held e)) = place n steps c e read is (eqb-true e.line (length e.row.dashes) g.0) in
+    let a : IsEndOfLine n steps c (ends (held e)) = place n steps c e read is (eqb-true e.line (length e.row.dashes) g.0) in
     subst (IsEdit (line_comment n steps text) c) (same_Some _ _ g.1) (record {
       old = (comment_segments text (held e)).old ∙ sym (place_text n steps c (ends (held e)) a);
       carried = λ operand fits size. both n steps text c (held e) read a operand fits.2.1 size;

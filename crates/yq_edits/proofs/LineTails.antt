@@ -15,11 +15,11 @@ use Rattle.yq_rows.specs.View.{content_cut, slices}
 use Rattle.yq_rows.proofs.LineEnds.{white_none, text_line, white_again, behind_comment}
 use Rattle.yq_places.specs.CommentPlaces.{line_text}
 use Rattle.yq_documents.specs.Documents.{lead_of}
-use Rattle.yq_places.proofs.CommentEndLaws.{row_line}
+use Rattle.yq_places.proofs.CommentEndLaws.{row_text_parts}
 use Rattle.yq_change.specs.PathTails.{with_line_tail, IsLineTail, tailed}
 use Rattle.yq_change.specs.Rooms.{row_shape}
 use Rattle.yq_meaning.specs.Meaning.{line_of}
-use Rattle.yq_edits.proofs.CommentReadLaws.{quiet_none, comment_behind, comment_is}
+use Rattle.yq_edits.proofs.CommentReadLaws.{no_breaks_none, comment_behind, comment_is}
 
 -- ---- what stands there then
 
@@ -43,7 +43,7 @@ some_more : (w : List ℕ) → is_empty (w ++ 32 ∷ []) ≡ false
 some_more [] = refl
 some_more (b ∷ w) = refl
 
-module _ (text tail more : List ℕ) (h : IsTail tail more) (quiet : Rattle.yq_scalar.proofs.Bytes.Each Rattle.yq_scalar.proofs.WrittenText.no_break text) where
+module _ (text tail more : List ℕ) (h : IsTail tail more) (no_breaks : Rattle.yq_scalar.proofs.Bytes.Each Rattle.yq_scalar.proofs.WrittenText.no_break text) where
   abbrev white : List ℕ
   white = new_white text h.white h.comment
 
@@ -59,12 +59,12 @@ module _ (text tail more : List ℕ) (h : IsTail tail more) (quiet : Rattle.yq_s
       go false true = white_more h.white h.line.blank
       go false false = h.line.blank
 
-  remark : IsComment (new_comment text) h.line.break
-  remark = go (is_empty text)
+  as_comment : IsComment (new_comment text) h.line.break
+  as_comment = go (is_empty text)
     where
       go : (a : Bool) → IsComment (cond a [] (written text)) h.line.break
       go true = tt
-      go false = (refl, (refl, quiet_none text h.line.break quiet))
+      go false = (refl, (refl, no_breaks_none text h.line.break no_breaks))
 
   apart : (is_empty (new_comment text) || not (is_empty (new_white text h.white h.comment))) ≡ true
   apart = go (is_empty text) (is_empty h.comment) h.apart
@@ -75,7 +75,7 @@ module _ (text tail more : List ℕ) (h : IsTail tail more) (quiet : Rattle.yq_s
       go false false e = e
 
   new_tail : IsTail tail_then more
-  new_tail = record { white = new_white text h.white h.comment; comment = new_comment text; line = record { break = h.line.break; spelled = refl; blank = blank; remark = remark; ends = h.line.ends }; apart = apart }
+  new_tail = record { white = new_white text h.white h.comment; comment = new_comment text; line = record { break = h.line.break; spelled = refl; blank = blank; as_comment = as_comment; ends = h.line.ends }; apart = apart }
 
   -- its comment is the text
   alone : IsBreak h.line.break more → IsBreak h.line.break []
@@ -109,7 +109,7 @@ module _ (text tail more : List ℕ) (h : IsTail tail more) (quiet : Rattle.yq_s
           let front_end : ends_line h.line.break ≡ true = ap ends_line (sym (append-nil h.line.break)) ∙ parts.2 in
           ap (λ t. comment_in (new_white text h.white h.comment ++ (new_comment t ++ h.line.break))) e
           ∙ (comment_behind (new_white text h.white h.comment) h.line.break (32 ∷ (b ∷ u)) blank
-          ∙ comment_is (32 ∷ (b ∷ u)) h.line.break (refl, quiet_none (b ∷ u) h.line.break (subst (Rattle.yq_scalar.proofs.Bytes.Each Rattle.yq_scalar.proofs.WrittenText.no_break) e quiet)) front_end)
+          ∙ comment_is (32 ∷ (b ∷ u)) h.line.break (refl, no_breaks_none (b ∷ u) h.line.break (subst (Rattle.yq_scalar.proofs.Bytes.Each Rattle.yq_scalar.proofs.WrittenText.no_break) e no_breaks)) front_end)
 
   -- it may end a header
   hash_front : (c : List ℕ) → IsComment c h.line.break → is_empty c ≡ false → is_hash (c ++ h.line.break) ≡ true
@@ -124,11 +124,11 @@ module _ (text tail more : List ℕ) (h : IsTail tail more) (quiet : Rattle.yq_s
   in_header line =
       let break_line : is_line h.line.break ≡ true =
       sym (ap is_line (h.line.spelled ∙ sym (append_assoc h.white h.comment h.line.break))
-      ∙ text_line (h.white ++ h.comment) h.line.break (white_none h.white h.comment h.line.break h.line.blank (Rattle.yq_rows.proofs.LineEnds.comment_none h.comment h.line.break h.line.remark))) ∙ line in
+      ∙ text_line (h.white ++ h.comment) h.line.break (white_none h.white h.comment h.line.break h.line.blank (Rattle.yq_rows.proofs.LineEnds.comment_none h.comment h.line.break h.line.as_comment))) ∙ line in
       let new_line : is_line tail_then ≡ true =
       ap is_line (sym (append_assoc (new_white text h.white h.comment) (new_comment text) h.line.break))
-      ∙ (text_line (new_white text h.white h.comment ++ new_comment text) h.line.break (white_none (new_white text h.white h.comment) (new_comment text) h.line.break blank (Rattle.yq_rows.proofs.LineEnds.comment_none (new_comment text) h.line.break remark)) ∙ break_line) in
-      let parts = behind_comment (new_comment text) h.line.break [] remark (alone h.line.ends) in
+      ∙ (text_line (new_white text h.white h.comment ++ new_comment text) h.line.break (white_none (new_white text h.white h.comment) (new_comment text) h.line.break blank (Rattle.yq_rows.proofs.LineEnds.comment_none (new_comment text) h.line.break as_comment)) ∙ break_line) in
+      let parts = behind_comment (new_comment text) h.line.break [] as_comment (alone h.line.ends) in
       let no_front : no_white (new_comment text ++ h.line.break) ≡ true = ap (λ x. no_white (new_comment text ++ x)) (sym (append-nil h.line.break)) ∙ parts.0 in
       let past : past_white tail_then ≡ new_comment text ++ h.line.break = ap (λ (x : List ℕ × List ℕ). x.1) (white_again (new_white text h.white h.comment) (new_comment text ++ h.line.break) blank no_front) in
       let ends : ends_line (new_comment text ++ h.line.break) ≡ is_empty (new_comment text) = ap (λ x. ends_line (new_comment text ++ x)) (sym (append-nil h.line.break)) ∙ parts.2 in
@@ -136,16 +136,16 @@ module _ (text tail more : List ℕ) (h : IsTail tail more) (quiet : Rattle.yq_s
       (λ (e : is_empty (new_comment text) ≡ true). let k : is_blank tail_then ≡ true = ap ends_line past ∙ (ends ∙ e) in rw (new_line, k) refl)
       (λ (e : is_empty (new_comment text) ≡ false).
       let some : is_empty (new_white text h.white h.comment) ≡ false = not-true (is_empty (new_white text h.white h.comment)) (ap (λ x. x || not (is_empty (new_white text h.white h.comment))) (sym e) ∙ apart) in
-      let k : (front is_white tail_then && is_hash (past_white tail_then)) ≡ true = rw (white_front (new_white text h.white h.comment) (new_comment text ++ h.line.break) blank some) (ap is_hash past ∙ hash_front (new_comment text) remark e) in
+      let k : (front is_white tail_then && is_hash (past_white tail_then)) ≡ true = rw (white_front (new_white text h.white h.comment) (new_comment text ++ h.line.break) blank some) (ap is_hash past ∙ hash_front (new_comment text) as_comment e) in
       rw (new_line, k) (Rattle.std.proofs.lemmas.Bool.or_right (is_blank tail_then) true refl))
       (cases_Bool (is_empty (new_comment text)))
 
 -- a content with that end of its line
-pub line_tail_is : (n : Rattle.std.proofs.Common.ℤ) (text : List ℕ) (c : Content) (rest : List ℕ) (h : IsTail (content_cut c).4 ((content_cut c).5 ++ rest)) → IsContent n c rest → (quiet : Rattle.yq_scalar.proofs.Bytes.Each Rattle.yq_scalar.proofs.WrittenText.no_break text) →
-    IsLineTail (tail_then text (content_cut c).4 ((content_cut c).5 ++ rest) h quiet) c rest
-line_tail_is n text (Nothing tail) rest h k quiet = new_tail text tail rest h quiet
-line_tail_is n text (Inline space node tail) rest h k quiet = new_tail text tail rest h quiet
-line_tail_is n text (Block space anchor block) rest h k quiet = in_header text block.tail _ h quiet (and_parts (is_line block.tail) _ k.2.tail).0
+pub line_tail_is : (n : Rattle.std.proofs.Common.ℤ) (text : List ℕ) (c : Content) (rest : List ℕ) (h : IsTail (content_cut c).4 ((content_cut c).5 ++ rest)) → IsContent n c rest → (no_breaks : Rattle.yq_scalar.proofs.Bytes.Each Rattle.yq_scalar.proofs.WrittenText.no_break text) →
+    IsLineTail (tail_then text (content_cut c).4 ((content_cut c).5 ++ rest) h no_breaks) c rest
+line_tail_is n text (Nothing tail) rest h k no_breaks = new_tail text tail rest h no_breaks
+line_tail_is n text (Inline space node tail) rest h k no_breaks = new_tail text tail rest h no_breaks
+line_tail_is n text (Block space anchor block) rest h k no_breaks = in_header text block.tail _ h no_breaks (and_parts (is_line block.tail) _ k.2.tail).0
 
 -- ---- the row and the part then
 
@@ -165,7 +165,7 @@ row_line_same r tail = go r.content refl
 pub row_then_text : (r : Row) (tail rest : List ℕ) → print_row (tailed tail r) rest ≡ line_text r ++ (tail ++ ((slices r).raw ++ rest))
 row_then_text r tail rest =
     let x = row_tail r.content tail in
-    row_line (tailed tail r) rest ∙ (λ i. row_line_same r tail i ++ (x.0 i ++ (x.1 i ++ rest)))
+    row_text_parts (tailed tail r) rest ∙ (λ i. row_line_same r tail i ++ (x.0 i ++ (x.1 i ++ rest)))
 
 shape_same : (r : Row) (tail : List ℕ) → row_shape (tailed tail r) ≡ row_shape r
 shape_same r tail = ap (λ (h : Bool). record { column = r.column; dashes = r.dashes; mark = r.mark; headed = h }) (go r.content)

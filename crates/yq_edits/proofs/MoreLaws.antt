@@ -18,8 +18,8 @@ use Rattle.yq_places.specs.CommentPlaces.{line_text}
 use Rattle.yq_places.specs.RowPieces.{past_dash, upto_dash}
 use Rattle.yq_places.specs.PlacedRows.{PlacedPart, placed_document}
 use Rattle.yq_places.specs.PrintedLines.{last_break}
-use Rattle.yq_places.specs.Standings.{BlockRoot, Compact, Held, PlacedEntry, alone, beside, compact, root, under, before_entry, behind_entry, behind_mark, below, block_root, compact_in, dash_text, entry_standing, held, is_alone, lone, placed_entry, root_standing}
-use Rattle.yq_places.proofs.CommentEndLaws.{row_line}
+use Rattle.yq_places.specs.Standings.{BlockRoot, Compact, Held, RowsOfEntry, alone, beside, compact, root, under, before_entry, behind_entry, behind_mark, below, block_root, compact_in, dash_text, entry_standing, held, is_alone, lone, rows_of_entry, root_standing}
+use Rattle.yq_places.proofs.CommentEndLaws.{row_text_parts}
 use Rattle.yq_places.proofs.DashLaws.{line_within, row_cut}
 use Rattle.yq_places.proofs.PrintedTexts.{less_is, map_some}
 use Rattle.yq_change.specs.CollectionPlaces.{IsCollectionEnd}
@@ -31,7 +31,7 @@ use Rattle.yq_change.proofs.PartLaws.{document_known, part_rows}
 use Rattle.yq_change.proofs.PlacedPartLaws.{document_stands_at}
 use Rattle.yq_change.proofs.StandingRows.{rows_stand}
 use Rattle.yq_edits.specs.EditLaws.{IsEdit, MoreIsPut}
-use Rattle.yq_edits.specs.EntryEdits.{behind_held, behind_lines, more_lines, more_put}
+use Rattle.yq_edits.specs.EntryEdits.{behind_held, behind_lines, more_lines, block_more}
 use Rattle.yq_edits.specs.Layouts.{layout_of}
 use Rattle.yq_edits.proofs.AppendPlaces.{IsAppendPlace}
 use Rattle.yq_edits.proofs.CollectionRows.{EndIn, behind_front, text_broken}
@@ -41,7 +41,7 @@ use Rattle.yq_edits.proofs.FinalBreaks.{entry_some, mark_some}
 use Rattle.yq_edits.proofs.HeldLaws.{held_spelled}
 use Rattle.yq_edits.proofs.MorePuts.{IsPutAt, edit_at, held_put_at, lines_put_at}
 
-module _ (n : ℕ) (s : Step) (ss : List Step) (key : Option (List ℕ)) (v : Node) (c : Cut) (e : PlacedEntry) (read : read_at (cut_text c) ≡ Some c) (is_there : placed_entry n (s ∷ ss) c ≡ Some e) where
+module _ (n : ℕ) (s : Step) (ss : List Step) (key : Option (List ℕ)) (v : Node) (c : Cut) (e : RowsOfEntry) (read : read_at (cut_text c) ≡ Some c) (is_there : rows_of_entry n (s ∷ ss) c ≡ Some e) where
   there : StandsThere n s ss c e
   there = rows_stand n s ss c e read is_there
 
@@ -69,10 +69,10 @@ module _ (n : ℕ) (s : Step) (ss : List Step) (key : Option (List ℕ)) (v : No
       let last_is : (held e).last ≡ last_break below_text = cond-false _ _ _ some in
       let text : rows_text (e.front ++ (e.row ∷ e.under)) [] ≡ (rows_text e.front [] ++ (line_text e.row ++ (slices e.row).tail)) ++ below_text =
       rows_front e.front (e.row ∷ e.under) []
-      ∙ (ap (λ t. rows_text e.front [] ++ t) (row_line e.row (rows_text e.under []) ∙ sym (append_assoc (line_text e.row) (slices e.row).tail below_text)) ∙ sym (append_assoc (rows_text e.front []) (line_text e.row ++ (slices e.row).tail) below_text)) in
+      ∙ (ap (λ t. rows_text e.front [] ++ t) (row_text_parts e.row (rows_text e.under []) ∙ sym (append_assoc (line_text e.row) (slices e.row).tail below_text)) ∙ sym (append_assoc (rows_text e.front []) (line_text e.row ++ (slices e.row).tail) below_text)) in
       let broken : not (is_empty (held e).last) ≡ is_broken rows.last.content = ap (λ t. not (is_empty t)) last_is ∙ broken_by _ below_text text some in
       let end = ends_there n s ss c e there r.column (not (is_empty (held e).last)) (headless_mark n s ss c e there last none) (begins_under n s ss c e there r rs last is single) broken in
-      let bare : PlacedEntry = record { start = e.start; front = e.front; row = e.row; line = e.line; under = e.under; back = []; end = []; behind = [] } in
+      let bare : RowsOfEntry = record { start = e.start; front = e.front; row = e.row; line = e.line; under = e.under; back = []; end = []; behind = [] } in
       let h : Held = held e in
       let spelled : h.before ++ (h.space ++ (h.head ++ (h.white ++ (h.comment ++ (h.break ++ (h.lines ++ h.last)))))) ≡ before_entry e ++ print_row e.row (rows_text e.under []) =
       ap (λ t. h.before ++ (h.space ++ (h.head ++ (h.white ++ (h.comment ++ (h.break ++ (h.lines ++ t))))))) (sym (append-nil h.last)) ∙ sym (held_spelled bare) in
@@ -122,39 +122,39 @@ module _ (n : ℕ) (s : Step) (ss : List Step) (key : Option (List ℕ)) (v : No
       go (inl h) = h
       go (inr h) = absurd (other (omega (arith, h, most)))
 
-  entry_edit : (us : List Segment) → more_put (layout_of n c) key v (entry_standing e) ≡ Some us → IsEdit (append n (s ∷ ss) key v) c us
+  entry_edit : (us : List Segment) → block_more (layout_of n c) key v (entry_standing e) ≡ Some us → IsEdit (append n (s ∷ ss) key v) c us
   entry_edit us is = go (eqb e.line (length e.row.dashes)) refl is
     where
-      under_by : (rs : List Row) → e.under ≡ rs → e.line ≡ length e.row.dashes → is_empty (slices e.row).head ≡ true → more_put (layout_of n c) key v (below e rs) ≡ Some us → IsEdit (append n (s ∷ ss) key v) c us
+      under_by : (rs : List Row) → e.under ≡ rs → e.line ≡ length e.row.dashes → is_empty (slices e.row).head ≡ true → block_more (layout_of n c) key v (below e rs) ≡ Some us → IsEdit (append n (s ∷ ss) key v) c us
       under_by [] at last none h = absurd (none-some _ h)
       under_by (r ∷ rs) at last none h = by (is_alone r) refl h
         where
-          by : (b : Bool) → is_alone r ≡ b → more_put (layout_of n c) key v (cond b (alone (lone (before_entry e ++ print_row e.row []) r (rows_text rs (behind_entry e)))) (under (held e) r.column)) ≡ Some us → IsEdit (append n (s ∷ ss) key v) c us
+          by : (b : Bool) → is_alone r ≡ b → block_more (layout_of n c) key v (cond b (alone (lone (before_entry e ++ print_row e.row []) r (rows_text rs (behind_entry e)))) (under (held e) r.column)) ≡ Some us → IsEdit (append n (s ∷ ss) key v) c us
           by true a h = absurd (none-some _ h)
           by false a h = subst (IsEdit (append n (s ∷ ss) key v) c) (same_Some _ _ h) (under_edit r rs last none at a)
 
-      mark_by : (x : Content) → e.row.content ≡ x → e.line ≡ length e.row.dashes → more_put (layout_of n c) key v (behind_mark e x) ≡ Some us → IsEdit (append n (s ∷ ss) key v) c us
+      mark_by : (x : Content) → e.row.content ≡ x → e.line ≡ length e.row.dashes → block_more (layout_of n c) key v (behind_mark e x) ≡ Some us → IsEdit (append n (s ∷ ss) key v) c us
       mark_by (Nothing tail) at last h = under_by e.under refl last (ap (λ (y : Content). is_empty (content_cut y).3) at) h
       mark_by (Inline space node tail) at last h = by (is_empty (slices e.row).head) refl h
         where
-          by : (b : Bool) → is_empty (slices e.row).head ≡ b → more_put (layout_of n c) key v (cond b (below e e.under) (beside (held e))) ≡ Some us → IsEdit (append n (s ∷ ss) key v) c us
+          by : (b : Bool) → is_empty (slices e.row).head ≡ b → block_more (layout_of n c) key v (cond b (below e e.under) (beside (held e))) ≡ Some us → IsEdit (append n (s ∷ ss) key v) c us
           by true a h = under_by e.under refl last a h
           by false a h = absurd (none-some _ h)
       mark_by (Block space anchor b) at last h = absurd (none-some _ h)
 
-      go : (b : Bool) → eqb e.line (length e.row.dashes) ≡ b → more_put (layout_of n c) key v (cond b (behind_mark e e.row.content) (compact (compact_in e))) ≡ Some us → IsEdit (append n (s ∷ ss) key v) c us
+      go : (b : Bool) → eqb e.line (length e.row.dashes) ≡ b → block_more (layout_of n c) key v (cond b (behind_mark e e.row.content) (compact (compact_in e))) ≡ Some us → IsEdit (append n (s ∷ ss) key v) c us
       go true b h = mark_by e.row.content refl (eqb-true e.line (length e.row.dashes) b) h
       go false b h =
           subst (IsEdit (append n (s ∷ ss) key v) c) (same_Some _ _ h) (compact_edit (within (eqb-false e.line (length e.row.dashes) b)))
 
 -- a root
-root_edit : (n : ℕ) (key : Option (List ℕ)) (v : Node) (c : Cut) (d : PlacedPart) (us : List Segment) → read_at (cut_text c) ≡ Some c → placed_document n c ≡ Some d → more_put (layout_of n c) key v (root_standing d d.part.rows) ≡ Some us → IsEdit (append n [] key v) c us
+root_edit : (n : ℕ) (key : Option (List ℕ)) (v : Node) (c : Cut) (d : PlacedPart) (us : List Segment) → read_at (cut_text c) ≡ Some c → placed_document n c ≡ Some d → block_more (layout_of n c) key v (root_standing d d.part.rows) ≡ Some us → IsEdit (append n [] key v) c us
 root_edit n key v c d us read at is = go d.part.rows refl is
   where
     stands : StandsAt c n d
     stands = document_stands_at c n d at
 
-    go : (rs : List Row) → d.part.rows ≡ rs → more_put (layout_of n c) key v (root_standing d rs) ≡ Some us → IsEdit (append n [] key v) c us
+    go : (rs : List Row) → d.part.rows ≡ rs → block_more (layout_of n c) key v (root_standing d rs) ≡ Some us → IsEdit (append n [] key v) c us
     go [] are_rows h = absurd (none-some _ h)
     go (r ∷ rs) are_rows h = by (is_alone r) refl h
       where
@@ -179,14 +179,14 @@ root_edit n key v c d us read at is = go d.part.rows refl is
             (subst (λ (z : List ℕ). IsPutAt (record { column = r.column; before = x.before; broken = x.broken; behind = d.part.end ++ z }) (more_lines (layout_of n c) key v r.column w.last) (behind_lines w.before w.old w.last (more_lines (layout_of n c) key v r.column w.last) w.behind)) (sym stands.behind)
             (lines_put_at w.before w.old w.last w.behind r.column _ _ _ spelled))
 
-        by : (b : Bool) → is_alone r ≡ b → more_put (layout_of n c) key v (cond b (alone (lone d.before r (rows_text rs (d.part.end ++ d.behind)))) (root (block_root d r rs))) ≡ Some us → IsEdit (append n [] key v) c us
+        by : (b : Bool) → is_alone r ≡ b → block_more (layout_of n c) key v (cond b (alone (lone d.before r (rows_text rs (d.part.end ++ d.behind)))) (root (block_root d r rs))) ≡ Some us → IsEdit (append n [] key v) c us
         by true a h = absurd (none-some _ h)
         by false a h = subst (IsEdit (append n [] key v) c) (same_Some _ _ h) (edit a)
 
 pub more_is_put : MoreIsPut
 more_is_put n [] key v c t us read at is =
     let d = map_some (placed_document n c) at in
-    root_edit n key v c d.0 us read d.1 (ap (more_put (layout_of n c) key v) d.2 ∙ is)
+    root_edit n key v c d.0 us read d.1 (ap (block_more (layout_of n c) key v) d.2 ∙ is)
 more_is_put n (s ∷ ss) key v c t us read at is =
-    let e = map_some (placed_entry n (s ∷ ss) c) at in
-    entry_edit n s ss key v c e.0 read e.1 us (ap (more_put (layout_of n c) key v) e.2 ∙ is)
+    let e = map_some (rows_of_entry n (s ∷ ss) c) at in
+    entry_edit n s ss key v c e.0 read e.1 us (ap (block_more (layout_of n c) key v) e.2 ∙ is)

@@ -12,8 +12,8 @@ use Rattle.yq_block.specs.declared.layout.Layout.{Layout}
 use Rattle.yq_script.specs.Script.{Segment, keep, put}
 use Rattle.yq_edits.specs.ClosedTexts.{is_closed_text, lines_put_behind}
 use Rattle.yq_edits.specs.Layouts.{LooksLike, layout_of}
-use Rattle.yq_edits.specs.ReplaceEdits.{dash_put, has_text, held_put, block_scalar_put, value_put}
-use Rattle.yq_edits.specs.WrittenValues.{collection_at, column_under, inline, lines, lines_in, value_text, written_at, written_below}
+use Rattle.yq_edits.specs.ReplaceEdits.{compact_put, has_text, held_put, block_scalar_put, value_put}
+use Rattle.yq_edits.specs.WrittenValues.{collection_at, column_under, inline, lines, lines_in, value_text, written_at, written_under}
 use Rattle.yq_edits.proofs.LayoutLaws.{value_like}
 
 -- ---- a value that isn't a collection with items or entries
@@ -22,7 +22,7 @@ module _ (l : Layout) (m : Mark) (v : Node) (none : is_filled v ≡ false) where
   pub unfilled_at : (old : List ℕ) → written_at l m old v ≡ inline (value_text InBlock old v)
   unfilled_at old = ap (λ b. cond b (collection_at l m v) (inline (value_text InBlock old v))) none
 
-  pub unfilled_below : written_below l m v ≡ inline (value_text InBlock [] v)
+  pub unfilled_below : written_under l m v ≡ inline (value_text InBlock [] v)
   unfilled_below = ap (λ b. cond b (lines (lines_in l (column_under l m v) v)) (inline (value_text InBlock [] v))) none
 
 -- ---- layouts
@@ -36,11 +36,11 @@ module _ (v : Node) (l k : Layout) (h : LooksLike v l k) where
       go true is = ap (λ (j : Layout). written_at j m old v) (h.1 is)
       go false is = unfilled_at l m v is old ∙ sym (unfilled_at k m v is old)
 
-  below_like : (m : Mark) → written_below l m v ≡ written_below k m v
+  below_like : (m : Mark) → written_under l m v ≡ written_under k m v
   below_like m = go (is_filled v) refl
     where
-      go : (b : Bool) → is_filled v ≡ b → written_below l m v ≡ written_below k m v
-      go true is = ap (λ (j : Layout). written_below j m v) (h.1 is)
+      go : (b : Bool) → is_filled v ≡ b → written_under l m v ≡ written_under k m v
+      go true is = ap (λ (j : Layout). written_under j m v) (h.1 is)
       go false is = unfilled_below l m v is ∙ sym (unfilled_below k m v is)
 
   -- what is put by one look is what is put by another one that is like it
@@ -48,7 +48,7 @@ module _ (v : Node) (l k : Layout) (h : LooksLike v l k) where
   put_like text (alone w) = refl
   put_like text (beside held) = λ i. held_put (break_text (h.0 i)) held (at_like held.mark held.head i)
   put_like text (under held column) = λ i. held_put (break_text (h.0 i)) held (below_like held.mark i)
-  put_like text (compact p) = λ i. dash_put (break_text (h.0 i)) p (at_like p.mark [] i)
+  put_like text (compact p) = λ i. compact_put (break_text (h.0 i)) p (at_like p.mark [] i)
   put_like text (block held indent) = λ i. block_scalar_put text (break_text (h.0 i)) held indent (at_like held.mark [] i) (scalar_in v)
   put_like text (root w) = λ i. keep w.before ∷ (put w.old (value_like v l k w.column h i) ∷ (keep w.last ∷ (keep w.behind ∷ [])))
   put_like text (no_rows w) = λ i. keep w.before ∷ (put [] (lines_put_behind (is_closed_text w.before) (break_text (h.0 i)) (value_like v l k 0 h i)) ∷ (keep w.behind ∷ []))

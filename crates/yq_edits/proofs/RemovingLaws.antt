@@ -139,14 +139,14 @@ taken_reads doc steps c t read out =
       root = refl;
       lead_goes = block_lead_goes out.old out.new out.old_block out.new_entries;
       block = λ k. out.new_block ∙ sym out.old_block;
-      seats = λ k. absurd k;
+      equal_room = λ k. absurd k;
     } in
     subst (ReadsAfter (remove doc steps) c) out.text (document_done (remove doc steps) c out.old out.new (lead_of out.new) (at_end remove_child steps) done)
 
 -- ---- the items that go
 
-shown_gap : (rs : List Row) (end : List ℕ) (first : Row) (others : List Row) → rs ≡ first ∷ others → length (kept_gap rs end) ≤ length (print_row first [])
-shown_gap rs end first others e =
+gap_no_longer : (rs : List Row) (end : List ℕ) (first : Row) (others : List Row) → rs ≡ first ∷ others → length (kept_gap rs end) ≤ length (print_row first [])
+gap_no_longer rs end first others e =
     let parts : joined (before_run (lines_of first.gap)) ++ joined (last_run (lines_of first.gap)) ≡ first.gap = run_split (lines_of first.gap) ∙ joined_lines first.gap in
     let kept : length (kept_gap rs end) ≡ length (joined (before_run (lines_of first.gap))) = ap (λ (xs : List Row). length (kept_gap xs end)) e in
     omega (arith, kept, length-append (joined (before_run (lines_of first.gap))) (joined (last_run (lines_of first.gap))), ap length parts, length-append first.gap (behind_gap first []))
@@ -179,7 +179,7 @@ module _ (doc : ℕ) (steps : List Step) (c : Cut) (x : Removal) (old : old_text
         end' = u;
         before_is = append-nil x.before ∙ (a.before_is ∙ at_row a.start a.front kept);
         behind_is = back_last (gap_mended x.seam x.gap) x.behind ∙ ap (λ t. u ++ t) a.behind_is;
-        begins = shown_gap own p.end a.first a.others refl;
+        begins = gap_no_longer own p.end a.first a.others refl;
         ends = last_within (first_gap a.back p.end) m.old u (sym a.gap_is ∙ (sym (gap_old x.seam x.gap) ∙ m.old_is));
         puts = refl;
         old_is = old;

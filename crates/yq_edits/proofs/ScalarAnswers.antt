@@ -13,9 +13,9 @@ pub no_text : (o : Option Node) → None ≡ option_and_then scalar_in o → fal
 no_text None e = refl
 no_text (Some n) e = ap holds_text e
 
-pub text_told : (o : Option Node) (s : ScalarText) (b : Bool) → Some s ≡ option_and_then scalar_in o → b ≡ holds_text (Some s) → b ≡ has_text o
-text_told None s b e holds = absurd (cc)
-text_told (Some n) s b e holds = holds ∙ ap holds_text e
+pub has_text_agrees : (o : Option Node) (s : ScalarText) (b : Bool) → Some s ≡ option_and_then scalar_in o → b ≡ holds_text (Some s) → b ≡ has_text o
+has_text_agrees None s b e holds = absurd (cc)
+has_text_agrees (Some n) s b e holds = holds ∙ ap holds_text e
 
 -- whether a value is equal to it
 other_scalar : (o : Option ScalarText) → false ≡ are_same o None
@@ -33,6 +33,6 @@ pub not_kept : (o : Option Node) (v : Node) → None ≡ option_and_then scalar_
 not_kept None v e = refl
 not_kept (Some n) v e = ap (λ x. are_same x (scalar_in v)) e
 
-pub kept_told : (o : Option Node) (v : Node) (s : ScalarText) (b : Bool) → Some s ≡ option_and_then scalar_in o → b ≡ are_same (Some s) (scalar_in v) → b ≡ is_kept o v
-kept_told None v s b e same = absurd (cc)
-kept_told (Some n) v s b e same = same ∙ ap (λ x. are_same x (scalar_in v)) e
+pub kept_agrees : (o : Option Node) (v : Node) (s : ScalarText) (b : Bool) → Some s ≡ option_and_then scalar_in o → b ≡ are_same (Some s) (scalar_in v) → b ≡ is_kept o v
+kept_agrees None v s b e same = absurd (cc)
+kept_agrees (Some n) v s b e same = same ∙ ap (λ x. are_same x (scalar_in v)) e

@@ -4,7 +4,7 @@ use Rattle.yq_scalar.specs.PlainText.{is_plain_text}
 use Rattle.yq_scalar.specs.Scalar.{ScalarText}
 use Rattle.yq_scalar.specs.SchemaReading.{resolve}
 use Rattle.yq_scalar.specs.Writable.{in_flow, is_string, can_write_plain, can_write}
-use Rattle.yq_scalar.specs.Written.{IsInline}
+use Rattle.yq_scalar.specs.Written.{IsOneLine}
 use Rattle.yq_scalar.specs.declared.style.Place.{Place}
 use Rattle.yq_scalar.specs.declared.style.Style.{Style}
 use Rattle.yq_scalar.specs.declared.style.Style.TheVariants.{Plain, Double}
@@ -26,10 +26,10 @@ style_writes place s old = go (can_write s old place) refl (can_write s Plain pl
     go false e true f = f
     go false e false f = double_writes place s f
 
-pub style_inline : (place : Place) (s : ScalarText) (old : Style) → IsInline old → IsInline (style_in place s old)
+pub style_inline : (place : Place) (s : ScalarText) (old : Style) → IsOneLine old → IsOneLine (style_in place s old)
 style_inline place s old h = go (can_write s old place) (can_write s Plain place)
   where
-    go : (a b : Bool) → IsInline (cond a old (cond b Plain Double))
+    go : (a b : Bool) → IsOneLine (cond a old (cond b Plain Double))
     go true b = h
     go false true = tt
     go false false = tt

@@ -6,7 +6,7 @@ use Rattle.std.proofs.lemmas.Str.{IsUtf8-take}
 use Rattle.std.specs.Str.{IsUtf8}
 use Rattle.yq_scalar.specs.Characters.{pairs_returns}
 use Rattle.yq_scalar.specs.Text.{front, is_feed, is_return, ends_line, NoneIn}
-use Rattle.yq_scalar.proofs.WrittenText.{is_shown}
+use Rattle.yq_scalar.proofs.WrittenText.{is_line_ascii}
 use Rattle.yq_rows.specs.Gap.{IsWhite}
 use Rattle.yq_rows.specs.Grammar.{IsTail, IsRow, Limit}
 use Rattle.yq_rows.specs.Rows.{print_row}
@@ -33,10 +33,10 @@ none_clean (b ∷ (d ∷ c)) rest h f = none_clean (d ∷ c) rest h.1 f
 
 pub white_piece : (w : List ℕ) → IsWhite w → IsPiece w
 white_piece [] h = nothing
-white_piece (b ∷ w) h = ⊎_elim {0, 0, 0} (λ (e : eqb b 32 ≡ true). byte_then b w (ap is_shown (eqb-true b 32 e)) (white_piece w h.1)) (λ e. byte_then b w (ap is_shown (eqb-true b 9 e)) (white_piece w h.1)) (or_cases (eqb b 32) (eqb b 9) h.0)
+white_piece (b ∷ w) h = ⊎_elim {0, 0, 0} (λ (e : eqb b 32 ≡ true). byte_then b w (ap is_line_ascii (eqb-true b 32 e)) (white_piece w h.1)) (λ e. byte_then b w (ap is_line_ascii (eqb-true b 9 e)) (white_piece w h.1)) (or_cases (eqb b 32) (eqb b 9) h.0)
 
 -- What is known of the pieces of the text at the end of a line.
-pub record HasPieces (w : PlacedRow) (tail more : List ℕ) (h : IsTail tail more) : Type 0 where
+pub record HasTailPieces (w : PlacedRow) (tail more : List ℕ) (h : IsTail tail more) : Type 0 where
   pub before : IsPiece (w.before ++ line_text w.row)
   pub white : IsPiece h.white
   pub line : IsPiece (h.white ++ h.comment)
@@ -45,7 +45,7 @@ pub record HasPieces (w : PlacedRow) (tail more : List ℕ) (h : IsTail tail mor
 front_utf8 : (a b : List ℕ) → IsPiece (a ++ b) → Rattle.yq_rows.proofs.NodePieces.BeginsAscii b → IsUtf8 a
 front_utf8 a b h k = subst IsUtf8 (take-append_seam a b) (IsUtf8-take (a ++ b) (length a) h.utf8 (before_ascii a b k))
 
-pub pieces : (w : PlacedRow) (limit : Limit) → IsRow limit w.row w.behind → IsPiece (w.before ++ print_row w.row w.behind) → (h : IsTail (slices w.row).tail ((slices w.row).raw ++ w.behind)) → HasPieces w (slices w.row).tail ((slices w.row).raw ++ w.behind) h
+pub pieces : (w : PlacedRow) (limit : Limit) → IsRow limit w.row w.behind → IsPiece (w.before ++ print_row w.row w.behind) → (h : IsTail (slices w.row).tail ((slices w.row).raw ++ w.behind)) → HasTailPieces w (slices w.row).tail ((slices w.row).raw ++ w.behind) h
 pieces w limit row whole h =
     let tail : List ℕ = (slices w.row).tail in
     let more : List ℕ = (slices w.row).raw ++ w.behind in
@@ -59,7 +59,7 @@ pieces w limit row whole h =
     let split : tail ++ more ≡ line ++ behind =
     ap (λ l. l ++ more) (h.line.spelled ∙ sym (append_assoc h.white h.comment h.line.break)) ∙ append_assoc line h.line.break more in
     let rest : IsPiece (line ++ behind) = subst IsPiece split first.1 in
-    let ends : IsTail h.line.break more = record { white = []; comment = []; line = record { break = h.line.break; spelled = refl; blank = tt; remark = tt; ends = h.line.ends }; apart = refl } in
-    let none : NoneIn ends_line line behind = white_none h.white h.comment behind h.line.blank (Rattle.yq_places.proofs.LineEndLaws.comment_more h.comment h.line.break more h.line.remark h.line.ends) in
+    let ends : IsTail h.line.break more = record { white = []; comment = []; line = record { break = h.line.break; spelled = refl; blank = tt; as_comment = tt; ends = h.line.ends }; apart = refl } in
+    let none : NoneIn ends_line line behind = white_none h.white h.comment behind h.line.blank (Rattle.yq_places.proofs.LineEndLaws.comment_more h.comment h.line.break more h.line.as_comment h.line.ends) in
     let second = clean_cut line behind rest (front_utf8 line behind rest (tail_ascii h.line.break more ends)) (λ f. none_clean line behind none f) in
     record { before = first.0; white = white_piece h.white h.line.blank; line = second.0; behind = second.1 }

@@ -7,7 +7,7 @@ use Rattle.yq_scalar.specs.Text.{is_empty}
 use Rattle.yq_scalar.proofs.BlockPieceLaws.{IsLf}
 use Rattle.yq_scalar.proofs.Bools.{guard_then}
 use Rattle.yq_rows.specs.Grammar.{IsCut}
-use Rattle.yq_rows.specs.Items.{Item, AreItems, items_of, items_text, nothing_asked}
+use Rattle.yq_rows.specs.Items.{Item, AreRowItems, items_of, items_text, nothing_asked}
 use Rattle.yq_rows.specs.Rows.{Cut}
 use Rattle.yq_rows.specs.Touched.{in_back, in_front, item_text}
 use Rattle.yq_rows.proofs.ItemLaws.{items_of_text, items_text-append, parts_are_items}
@@ -15,7 +15,7 @@ use Rattle.yq_rows.proofs.KeptLaws.{items_apart}
 use Rattle.yq_documents.specs.Reading.{read_at}
 use Rattle.yq_places.proofs.ReadLaws.{text_takes}
 use Rattle.yq_script.specs.Script.{Segment, are_kept, kept_back, kept_front, new_text}
-use Rattle.yq_edits.specs.TouchedRanges.{AreTouched, IsNear, IsTouched, LiesInOne, NearAreTouched, written_ranges}
+use Rattle.yq_edits.specs.TouchedRanges.{AreTouched, IsLocalEdit, IsTouched, LiesInOne, NearAreTouched, put_ranges}
 use Rattle.yq_edits.proofs.ItemEnds.{back_stop, front_stop, items_ended}
 use Rattle.yq_edits.proofs.RangeLaws.{at_first, at_last, from_front}
 use Rattle.yq_edits.proofs.TouchLaws.{size_joined, size_one}
@@ -41,11 +41,11 @@ apart (x ∷ done) (y ∷ front) w own ws back e = go (apart done front w own ws
     go (inl k) = inl (omega (arith, k, size_one x done, size_one y front, ap (λ (i : Item). length (item_text i)) same))
     go (inr k) = inr k
 
-module _ (ss : List Segment) (new : Cut) (near : IsNear ss) (kept : are_kept ss ≡ false) (read : read_at (new_text ss) ≡ Some new) where
+module _ (ss : List Segment) (new : Cut) (near : IsLocalEdit ss) (kept : are_kept ss ≡ false) (read : read_at (new_text ss) ≡ Some new) where
   cut : IsCut (new_text ss) new
   cut = text_cut (new_text ss) new read
 
-  items : AreItems nothing_asked (items_of new) []
+  items : AreRowItems nothing_asked (items_of new) []
   items = parts_are_items new true cut.parts
 
   text : items_text (items_of new) [] ≡ new_text ss
@@ -53,7 +53,7 @@ module _ (ss : List Segment) (new : Cut) (near : IsNear ss) (kept : are_kept ss 
 
   -- an item between those in front and others
   item_touched : (done : List Item) (w : Item) (ws : List Item) → items_of new ≡ done ++ (w ∷ ws) → length (kept_front ss) ≤ length (items_text done []) + length (item_text w) → length (kept_back ss) ≤ length (items_text (w ∷ ws) []) →
-      IsTouched (length (items_text done [])) (length (items_text done []) + length (item_text w)) (written_ranges ss)
+      IsTouched (length (items_text done [])) (length (items_text done []) + length (item_text w)) (put_ranges ss)
   item_touched done w ws are front back = by_near near
     where
       before : List ℕ
@@ -69,7 +69,7 @@ module _ (ss : List Segment) (new : Cut) (near : IsNear ss) (kept : are_kept ss 
       size = ap length whole ∙ length-append before behind
 
       ended : is_empty behind ≡ false → (before ≡ []) ⊎ IsLf before
-      ended some = go (items_ended nothing_asked done (w ∷ ws) (subst (λ (l : List Item). AreItems nothing_asked l []) are items) some)
+      ended some = go (items_ended nothing_asked done (w ∷ ws) (subst (λ (l : List Item). AreRowItems nothing_asked l []) are items) some)
         where
           go : (done ≡ []) ⊎ IsLf before → (before ≡ []) ⊎ IsLf before
           go (inl none) = inl (ap (λ (l : List Item). items_text l []) none)
@@ -82,30 +82,30 @@ module _ (ss : List Segment) (new : Cut) (near : IsNear ss) (kept : are_kept ss 
           go (inl k) = inl (omega (arith, k, one.begins))
           go (inr k) = inr (omega (arith, k, one.ends))
 
-      by_side : (length before ≤ length (kept_front ss)) ⊎ (length behind ≤ length (kept_back ss)) → IsTouched (length before) (length before + length (item_text w)) (written_ranges ss)
+      by_side : (length before ≤ length (kept_front ss)) ⊎ (length behind ≤ length (kept_back ss)) → IsTouched (length before) (length before + length (item_text w)) (put_ranges ss)
       by_side (inl k) = at_first 0 (length before) (length before + length (item_text w)) ss kept (omega (arith, k)) (omega (arith, front))
       by_side (inr k) = at_last 0 (length before) (length before + length (item_text w)) ss kept (omega (arith, size, back)) (omega (arith, size, k)) (omega arith)
 
-      by_near : IsNear ss → IsTouched (length before) (length before + length (item_text w)) (written_ranges ss)
+      by_near : IsLocalEdit ss → IsTouched (length before) (length before + length (item_text w)) (put_ranges ss)
       by_near (inl lines) =
           from_front before behind (length before + length (item_text w)) ended (omega arith) [] ss whole lines kept (omega (arith, front)) back (omega (arith, size_one w ws))
       by_near (inr one) = by_side (side (one new read))
 
   -- items behind what is kept in front
   later_touched : (back : List Item) → back ≡ in_back (length (kept_back ss)) (items_of new) → (done ws : List Item) → items_of new ≡ done ++ (ws ++ back) → length (kept_front ss) ≤ length (items_text done []) →
-      AreTouched (length (items_text done [])) ws (written_ranges ss)
+      AreTouched (length (items_text done [])) ws (put_ranges ss)
   later_touched back behind done [] are front = tt
   later_touched back behind done (w ∷ ws) are front =
       let n : length (items_text (done ++ (w ∷ [])) []) ≡ length (items_text done []) + length (item_text w) = omega (arith, size_joined done (w ∷ []), size_one w []) in
       let back_long : length (kept_back ss) ≤ length (items_text (w ∷ (ws ++ back)) []) =
       subst (λ (b : List Item). length (kept_back ss) ≤ length (items_text (w ∷ (ws ++ b)) [])) (sym behind) (back_stop (length (kept_back ss)) (items_of new) done w ws (are ∙ ap (λ (b : List Item). done ++ (w ∷ (ws ++ b))) behind)) in (
         item_touched done w (ws ++ back) are (omega (arith, front)) back_long,
-        subst (λ (k : ℕ). AreTouched k ws (written_ranges ss)) n (later_touched back behind (done ++ (w ∷ [])) ws (are ∙ sym (append_assoc done (w ∷ []) (ws ++ back))) (omega (arith, n, front))),
+        subst (λ (k : ℕ). AreTouched k ws (put_ranges ss)) n (later_touched back behind (done ++ (w ∷ [])) ws (are ∙ sym (append_assoc done (w ∷ []) (ws ++ back))) (omega (arith, n, front))),
       )
 
   -- all of them
   all_touched : (front back : List Item) → front ≡ in_front (length (kept_front ss)) (items_of new) → back ≡ in_back (length (kept_back ss)) (items_of new) → (ws : List Item) → items_of new ≡ front ++ (ws ++ back) →
-      AreTouched (length (items_text front [])) ws (written_ranges ss)
+      AreTouched (length (items_text front [])) ws (put_ranges ss)
   all_touched front back before behind [] are = tt
   all_touched front back before behind (w ∷ ws) are =
       let n : length (items_text (front ++ (w ∷ [])) []) ≡ length (items_text front []) + length (item_text w) = omega (arith, size_joined front (w ∷ []), size_one w []) in
@@ -115,7 +115,7 @@ module _ (ss : List Segment) (new : Cut) (near : IsNear ss) (kept : are_kept ss 
       let back_long : length (kept_back ss) ≤ length (items_text (w ∷ (ws ++ back)) []) =
       subst (λ (b : List Item). length (kept_back ss) ≤ length (items_text (w ∷ (ws ++ b)) [])) (sym behind) (back_stop (length (kept_back ss)) (items_of new) front w ws (are ∙ ap (λ (b : List Item). front ++ (w ∷ (ws ++ b))) behind)) in (
         item_touched front w (ws ++ back) are front_long back_long,
-        subst (λ (k : ℕ). AreTouched k ws (written_ranges ss)) n (later_touched back behind (front ++ (w ∷ [])) ws (are ∙ sym (append_assoc front (w ∷ []) (ws ++ back))) (omega (arith, n, front_long))),
+        subst (λ (k : ℕ). AreTouched k ws (put_ranges ss)) n (later_touched back behind (front ++ (w ∷ [])) ws (are ∙ sym (append_assoc front (w ∷ []) (ws ++ back))) (omega (arith, n, front_long))),
       )
 
 pub near_touched : NearAreTouched

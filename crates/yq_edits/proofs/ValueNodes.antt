@@ -14,7 +14,7 @@ use Rattle.yq_scalar.specs.Text.{is_marker, separates}
 use Rattle.yq_scalar.specs.Tree as tree
 use Rattle.yq_scalar.specs.Tree.{Children}
 use Rattle.yq_scalar.specs.Writable.{can_write, can_write_plain}
-use Rattle.yq_scalar.specs.Written.{written, double, IsInline}
+use Rattle.yq_scalar.specs.Written.{written, double, IsOneLine}
 use Rattle.yq_scalar.specs.declared.kind.Kind.{Kind}
 use Rattle.yq_scalar.specs.declared.style.Place.TheVariants as places
 use Rattle.yq_scalar.specs.declared.style.Style.{Style}
@@ -52,14 +52,14 @@ marker_behind (a ∷ b ∷ []) [] h s = refl
 marker_behind (a ∷ b ∷ []) (c ∷ rest) h s = no_third a b c rest (first_other 45 c rest (λ bs. refl) s) (first_other 46 c rest (λ bs. refl) s)
 marker_behind (a ∷ b ∷ c ∷ t) rest h s = rw h refl
 
-style_unmarked : (s : ScalarText) (style : Style) (rest : List ℕ) → IsValid s → IsInline style → can_write s style places.Block ≡ true → separates rest ≡ true → is_marker (written style s.text ++ rest) ≡ false
+style_unmarked : (s : ScalarText) (style : Style) (rest : List ℕ) → IsValid s → IsOneLine style → can_write s style places.Block ≡ true → separates rest ≡ true → is_marker (written style s.text ++ rest) ≡ false
 style_unmarked s styles.Plain rest v i h sep = marker_behind s.text rest (not-true (begins_marker s.text) (and_parts _ (not (begins_marker s.text)) (writable_text s.kind s.text false v.kind h)).1) sep
 style_unmarked s styles.Single rest v i h sep = no_first 39 _ refl refl
 style_unmarked s styles.Double rest v i h sep = no_first 34 _ refl refl
 style_unmarked s styles.Literal rest v i h sep = absurd i
 style_unmarked s styles.Folded rest v i h sep = absurd i
 
-pub scalar_is : (a : Option (List ℕ)) (kind : Kind) (t : List ℕ) (style : Style) → IsValueTree (tree.scalar a kind t) → IsInline style → can_write (record { kind = kind; text = t }) style places.Block ≡ true →
+pub scalar_is : (a : Option (List ℕ)) (kind : Kind) (t : List ℕ) (style : Style) → IsValueTree (tree.scalar a kind t) → IsOneLine style → can_write (record { kind = kind; text = t }) style places.Block ≡ true →
     IsValueNode (tree.scalar a kind t) (inline.scalar (written style t)) × IsPiece (written style t)
 unfolding IsNode node_text tree_of
 scalar_is a kind t style h i can =

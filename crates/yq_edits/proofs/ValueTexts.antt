@@ -6,7 +6,7 @@ use Rattle.yq_scalar.specs.Text.{front}
 use Rattle.yq_scalar.specs.Tree as tree
 use Rattle.yq_scalar.specs.Tree.{Node}
 use Rattle.yq_scalar.specs.Writable.{can_write}
-use Rattle.yq_scalar.specs.Written.{written, IsInline}
+use Rattle.yq_scalar.specs.Written.{written, IsOneLine}
 use Rattle.yq_scalar.specs.declared.style.Place.TheVariants.{Block}
 use Rattle.yq_scalar.specs.declared.style.Style.{Style}
 use Rattle.yq_scalar.specs.declared.style.Style.TheVariants as styles
@@ -31,15 +31,15 @@ pub record IsWrittenFor (v : Node) (t : List ℕ) : Type 0 where
   pub text : node_text node [] ≡ t
   pub piece : IsPiece t
 
-pub style_line : (p : List ℕ) → IsInline (style_of p)
+pub style_line : (p : List ℕ) → IsOneLine (style_of p)
 style_line p = go (front (λ b. eqb b 39) p) (front (λ b. eqb b 34) p)
   where
-    go : (a b : Bool) → IsInline (cond a styles.Single (cond b styles.Double styles.Plain))
+    go : (a b : Bool) → IsOneLine (cond a styles.Single (cond b styles.Double styles.Plain))
     go true b = tt
     go false true = tt
     go false false = tt
 
-pub scalar_for : (a : Option (List ℕ)) (s : ScalarText) (style : Style) → IsValueTree (tree.scalar a s.kind s.text) → IsInline style → can_write s style Block ≡ true → IsWrittenFor (tree.scalar a s.kind s.text) (written style s.text)
+pub scalar_for : (a : Option (List ℕ)) (s : ScalarText) (style : Style) → IsValueTree (tree.scalar a s.kind s.text) → IsOneLine style → can_write s style Block ≡ true → IsWrittenFor (tree.scalar a s.kind s.text) (written style s.text)
 unfolding node_text
 scalar_for a s style h i can =
     let w = scalar_is a s.kind s.text style h i can in

@@ -3,5 +3,5 @@ use Rattle.std.specs.Prelude.{◌≡◌, List, Option, Result, IfOk}
 use Rattle.yq_script.specs.Script.{Segment}
 
 -- the answer is these segments, or that there are none, unless memory ran out (own)
-abbrev pub Carries : {E : Type 0} → Result (Option (List Segment)) E → Option (List Segment) → Type 0
-Carries result exchanged = IfOk result (λ ss. exchanged ≡ ss)
+abbrev pub GivesSegments : {E : Type 0} → Result (Option (List Segment)) E → Option (List Segment) → Type 0
+GivesSegments result exchanged = IfOk result (λ ss. exchanged ≡ ss)

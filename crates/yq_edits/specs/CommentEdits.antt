@@ -7,7 +7,7 @@ use Rattle.yq_scalar.specs.Text.{is_empty}
 use Rattle.yq_rows.specs.Rows.{Cut, behind_gap, cut_text, rows_text}
 use Rattle.yq_places.specs.CommentPlaces.{LinesAbove, gap_above}
 use Rattle.yq_places.specs.FirstBreak.{first_break}
-use Rattle.yq_places.specs.Standings.{Held, PlacedEntry, before_entry, behind_entry, held, placed_entry}
+use Rattle.yq_places.specs.Standings.{Held, RowsOfEntry, before_entry, behind_entry, held, rows_of_entry}
 use Rattle.yq_meaning.specs.Meaning.{head_of}
 use Rattle.yq_script.specs.Script.{Segment, keep, put}
 
@@ -26,36 +26,36 @@ comment_put text h =
     (keep h.break ∷ (keep h.lines ∷ (keep h.last ∷ (keep h.behind ∷ []))))))))
 
 -- LineComment: in the tail of a row, for the item or entry of its last mark (6.6)
-abbrev pub line_comment_put : List ℕ → PlacedEntry → Option (List Segment)
+abbrev pub line_comment_put : List ℕ → RowsOfEntry → Option (List Segment)
 line_comment_put text e = if e.line == length e.row.dashes then Some (comment_put text (held e)) else None
 
 -- the lines above rows: the gap of the first one, and the comment that ends it (6.6)
-abbrev pub above_rows : PlacedEntry → LinesAbove
+abbrev pub above_rows : RowsOfEntry → LinesAbove
 above_rows e = gap_above (before_entry e) e.row.gap e.row.column (behind_gap e.row (rows_text e.under (behind_entry e)))
 
 -- a line of a head comment: `#` in a column, and, where the text isn't empty, a space and the text; with a break (6.6)
-abbrev pub head_line : ℕ → List ℕ → List ℕ → List ℕ
-head_line column br text = replicate column 32 ++ (35 ∷ ((if is_empty text then [] else 32 ∷ text) ++ br))
+abbrev pub comment_line : ℕ → List ℕ → List ℕ → List ℕ
+comment_line column br text = replicate column 32 ++ (35 ∷ ((if is_empty text then [] else 32 ∷ text) ++ br))
 
 -- a line for each of these texts (own)
 abbrev pub head_lines : ℕ → List ℕ → List (List ℕ) → List ℕ
 head_lines column br [] = []
-head_lines column br (text ∷ texts) = head_line column br text ++ head_lines column br texts
+head_lines column br (text ∷ texts) = comment_line column br text ++ head_lines column br texts
 
 -- the segments of a text in which other lines stand for the comment above a row (own)
 abbrev pub head_comment_segments : List ℕ → List ℕ → LinesAbove → List Segment
 head_comment_segments br text w = keep w.before ∷ (put w.run (head_lines w.column br (head_of text)) ∷ (keep w.behind ∷ []))
 
 -- HeadComment: above the row that a key or dash begins (6.6)
-abbrev pub head_comment_put : List ℕ → List ℕ → PlacedEntry → Option (List Segment)
+abbrev pub head_comment_put : List ℕ → List ℕ → RowsOfEntry → Option (List Segment)
 head_comment_put br text e = if e.line == 0 then Some (head_comment_segments br text (above_rows e)) else None
 
 -- ---- where steps lead in document n
 
 -- LineComment
 abbrev pub line_comment_at : ℕ → List Step → Cut → List ℕ → Option (List Segment)
-line_comment_at n steps c text = placed_entry n steps c >>= line_comment_put text
+line_comment_at n steps c text = rows_of_entry n steps c >>= line_comment_put text
 
 -- HeadComment, with the first break of the text
 abbrev pub head_comment_at : ℕ → List Step → Cut → List ℕ → Option (List Segment)
-head_comment_at n steps c text = placed_entry n steps c >>= head_comment_put (break_text (first_break (cut_text c))) text
+head_comment_at n steps c text = rows_of_entry n steps c >>= head_comment_put (break_text (first_break (cut_text c))) text

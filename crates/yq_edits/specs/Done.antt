@@ -7,7 +7,7 @@ use Rattle.yq_documents.specs.Documents.{document_parts, lead_of}
 use Rattle.yq_documents.specs.Reading.{read_at, root_of}
 use Rattle.yq_places.specs.RowPaths.{IsReadable}
 use Rattle.yq_change.specs.Changed.{IsChanged, KeepsRows, put_document}
-use Rattle.yq_change.specs.Rooms.{is_block_root, LeadGoes, SameSeats}
+use Rattle.yq_change.specs.Rooms.{is_block_root, LeadGoes, EqualRoom}
 use Rattle.yq_change.specs.TextPieces.{IsPiece}
 use Rattle.yq_meaning.specs.After.{document_of, root_after}
 use Rattle.yq_meaning.specs.Operations.{Operation}
@@ -24,7 +24,7 @@ pub record IsDone (op : Operation) (c : Cut) (p q : Part) (lead : List (List ℕ
   pub root : f (root_of p) ≡ root_after (is_block_root p) (lead_of p) op (root_of p)
   pub lead_goes : LeadGoes p q
   pub block : KeepsBlock op (root_of q) → is_block_root q ≡ is_block_root p
-  pub seats : SetsComment op → SameSeats p q
+  pub equal_room : SetsComment op → EqualRoom p q
 
 -- A text whose document is so done reads as the documents after the operation (own).
 abbrev pub DocumentDone : Type 0

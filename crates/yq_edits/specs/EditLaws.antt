@@ -12,14 +12,14 @@ use Rattle.yq_places.specs.FirstBreak.{first_break}
 use Rattle.yq_places.specs.FlowNodes.{flow_collection}
 use Rattle.yq_places.specs.NodesAt.{node_in}
 use Rattle.yq_places.specs.RemovalPlaces.{has_others_at}
-use Rattle.yq_places.specs.Standings.{FlowPart, PlacedEntry, Standing, flow_standing, last_step, placed_entry, standing_at}
+use Rattle.yq_places.specs.Standings.{FlowPart, RowsOfEntry, Standing, flow_standing, last_step, rows_of_entry, standing_at}
 use Rattle.yq_meaning.specs.Fits.{Fits}
 use Rattle.yq_meaning.specs.Operations.{Operation, replace, append, remove, line_comment, head_comment}
 use Rattle.yq_meaning.specs.Rooms.{room_of}
 use Rattle.yq_script.specs.Script.{Segment, AllStay, keep, new_text, old_text}
 use Rattle.yq_edits.specs.CommentEdits.{head_comment_put, line_comment_put}
 use Rattle.yq_edits.specs.Edits.{appended, edits, emptied}
-use Rattle.yq_edits.specs.EntryEdits.{more_put, one_removed}
+use Rattle.yq_edits.specs.EntryEdits.{block_more, one_removed}
 use Rattle.yq_edits.specs.FlowParts.{flow_more, flow_put, flow_removed}
 use Rattle.yq_edits.specs.Layouts.{layout_of}
 use Rattle.yq_edits.specs.Local.{IsLocalTo}
@@ -63,7 +63,7 @@ abbrev pub MoreIsPut : Type 0
 MoreIsPut =
     (n : ℕ) (steps : List Step) (key : Option (List ℕ)) (v : Node) (c : Cut) (t : Standing) (ss : List Segment) →
     read_at (cut_text c) ≡ Some c → standing_at n steps c ≡ Some t →
-    more_put (layout_of n c) key v t ≡ Some ss → IsEdit (append n steps key v) c ss
+    block_more (layout_of n c) key v t ≡ Some ss → IsEdit (append n steps key v) c ss
 
 -- Append: one more part at the end of a flow collection.
 abbrev pub FlowMoreIsPut : Type 0
@@ -95,15 +95,15 @@ SoleIsRemoved =
 -- LineComment.
 abbrev pub LineCommentIsPut : Type 0
 LineCommentIsPut =
-    (n : ℕ) (steps : List Step) (text : List ℕ) (c : Cut) (e : PlacedEntry) (ss : List Segment) →
-    read_at (cut_text c) ≡ Some c → placed_entry n steps c ≡ Some e → line_comment_put text e ≡ Some ss →
+    (n : ℕ) (steps : List Step) (text : List ℕ) (c : Cut) (e : RowsOfEntry) (ss : List Segment) →
+    read_at (cut_text c) ≡ Some c → rows_of_entry n steps c ≡ Some e → line_comment_put text e ≡ Some ss →
     IsEdit (line_comment n steps text) c ss
 
 -- HeadComment.
 abbrev pub HeadCommentIsPut : Type 0
 HeadCommentIsPut =
-    (n : ℕ) (steps : List Step) (text : List ℕ) (c : Cut) (e : PlacedEntry) (ss : List Segment) →
-    read_at (cut_text c) ≡ Some c → placed_entry n steps c ≡ Some e →
+    (n : ℕ) (steps : List Step) (text : List ℕ) (c : Cut) (e : RowsOfEntry) (ss : List Segment) →
+    read_at (cut_text c) ≡ Some c → rows_of_entry n steps c ≡ Some e →
     head_comment_put (break_text (first_break (cut_text c))) text e ≡ Some ss → IsEdit (head_comment n steps text) c ss
 
 -- Each operation: what it exchanges carries it out.
@@ -117,7 +117,7 @@ FittingHasEdit =
     read_at (cut_text c) ≡ Some c → HasOperand op → Fits (room_of (cut_text c)) op (documents c) → (ss : List Segment) × (edits op c ≡ Some ss)
 
 -- The laws of each kind of edit together.
-pub record AreEdits : Type 0 where
+pub record KindsCarryOut : Type 0 where
   pub values : ValuesArePut
   pub flow_values : FlowValuesArePut
   pub equal : EqualScalarsStay
@@ -130,8 +130,8 @@ pub record AreEdits : Type 0 where
   pub head_comment : HeadCommentIsPut
 
 -- A node that takes an item or entry is a block collection that gets one more, or a flow collection that does.
-abbrev pub TakersHaveEdit : Type 0
-TakersHaveEdit =
+abbrev pub AppendHasEdit : Type 0
+AppendHasEdit =
     (n : ℕ) (steps : List Step) (key : Option (List ℕ)) (v : Node) (c : Cut) →
     read_at (cut_text c) ≡ Some c → Fits (room_of (cut_text c)) (append n steps key v) (documents c) →
     (ss : List Segment) × (appended n steps key v c ≡ Some ss)

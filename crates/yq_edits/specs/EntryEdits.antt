@@ -40,18 +40,18 @@ abbrev pub behind_lines : (before old last new behind : List ℕ) → List Segme
 behind_lines before old last new behind = keep before ∷ (keep old ∷ (keep last ∷ (put [] new ∷ (keep behind ∷ []))))
 
 -- one more item or entry at the end of what stands there, if that is a block collection (8.2)
-abbrev pub more_put : Layout → Option (List ℕ) → Node → Standing → Option (List Segment)
-more_put l key v (alone w) = None
-more_put l key v (beside h) = None
-more_put l key v (under h column) = Some (behind_held h (more_lines l key v column h.last))
-more_put l key v (compact p) = Some (behind_lines p.before p.old p.last (more_lines l key v p.column p.last) p.behind)
-more_put l key v (block h indent) = None
-more_put l key v (root w) = Some (behind_lines w.before w.old w.last (more_lines l key v w.column w.last) w.behind)
-more_put l key v (no_rows w) = None
+abbrev pub block_more : Layout → Option (List ℕ) → Node → Standing → Option (List Segment)
+block_more l key v (alone w) = None
+block_more l key v (beside h) = None
+block_more l key v (under h column) = Some (behind_held h (more_lines l key v column h.last))
+block_more l key v (compact p) = Some (behind_lines p.before p.old p.last (more_lines l key v p.column p.last) p.behind)
+block_more l key v (block h indent) = None
+block_more l key v (root w) = Some (behind_lines w.before w.old w.last (more_lines l key v w.column w.last) w.behind)
+block_more l key v (no_rows w) = None
 
 -- the same where steps lead in document n
 abbrev pub more_at : ℕ → List Step → Cut → Option (List ℕ) → Node → Option (List Segment)
-more_at n steps c key v = standing_at n steps c >>= more_put (layout_of n c) key v
+more_at n steps c key v = standing_at n steps c >>= block_more (layout_of n c) key v
 
 -- ---- Remove
 

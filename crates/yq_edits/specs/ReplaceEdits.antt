@@ -20,7 +20,7 @@ use Rattle.yq_block.specs.BlockText.{block_value}
 use Rattle.yq_script.specs.Script.{Segment, keep, put}
 use Rattle.yq_edits.specs.ClosedTexts.{is_closed_text, lines_put_behind}
 use Rattle.yq_edits.specs.Layouts.{layout_of}
-use Rattle.yq_edits.specs.WrittenValues.{Written, inline, compact_text, lines, value_text, written_at, written_below}
+use Rattle.yq_edits.specs.WrittenValues.{Written, inline, compact_text, lines, value_text, written_at, written_under}
 
 -- ---- behind a key or dash
 
@@ -84,10 +84,10 @@ abbrev pub behind_dash : Compact → List ℕ → List Segment
 behind_dash p t = keep p.before ∷ (put p.old t ∷ (keep p.last ∷ (keep p.behind ∷ [])))
 
 -- a value there: behind a space, or a break and the lines (8.2.1)
-abbrev pub dash_put : List ℕ → Compact → Written → List Segment
-dash_put br p (inline t) = behind_dash p (32 ∷ t)
-dash_put br p (compact_text t) = behind_dash p (32 ∷ t)
-dash_put br p (lines t) = behind_dash p (br ++ t)
+abbrev pub compact_put : List ℕ → Compact → Written → List Segment
+compact_put br p (inline t) = behind_dash p (32 ∷ t)
+compact_put br p (compact_text t) = behind_dash p (32 ∷ t)
+compact_put br p (lines t) = behind_dash p (br ++ t)
 
 -- a value in one line in the place of a lone node; a collection is in flow style (7)
 abbrev pub lone_put : Lone → Node → List Segment
@@ -98,8 +98,8 @@ abbrev pub root_put : Layout → Node → BlockRoot → List Segment
 root_put l v w = keep w.before ∷ (put w.old (block_value l w.column v) ∷ (keep w.last ∷ (keep w.behind ∷ [])))
 
 -- the same on lines of its own behind the gap of a document without rows (9.1)
-abbrev pub first_put : Layout → Node → NoRows → List Segment
-first_put l v w = keep w.before ∷ (put [] (lines_put_behind (is_closed_text w.before) (break_text l.br) (block_value l 0 v)) ∷ (keep w.behind ∷ []))
+abbrev pub no_rows_put : Layout → Node → NoRows → List Segment
+no_rows_put l v w = keep w.before ∷ (put [] (lines_put_behind (is_closed_text w.before) (break_text l.br) (block_value l 0 v)) ∷ (keep w.behind ∷ []))
 
 -- ---- the table
 
@@ -107,11 +107,11 @@ first_put l v w = keep w.before ∷ (put [] (lines_put_behind (is_closed_text w.
 abbrev pub value_put : (has_text : Bool) → Layout → Node → Standing → List Segment
 value_put has_text l v (alone w) = lone_put w v
 value_put has_text l v (beside h) = held_put (break_text l.br) h (written_at l h.mark h.head v)
-value_put has_text l v (under h column) = held_put (break_text l.br) h (written_below l h.mark v)
-value_put has_text l v (compact p) = dash_put (break_text l.br) p (written_at l p.mark [] v)
+value_put has_text l v (under h column) = held_put (break_text l.br) h (written_under l h.mark v)
+value_put has_text l v (compact p) = compact_put (break_text l.br) p (written_at l p.mark [] v)
 value_put has_text l v (block h indent) = block_scalar_put has_text (break_text l.br) h indent (written_at l h.mark [] v) (scalar_in v)
 value_put has_text l v (root w) = root_put l v w
-value_put has_text l v (no_rows w) = first_put l v w
+value_put has_text l v (no_rows w) = no_rows_put l v w
 
 -- whether there is a scalar, and it holds more than line breaks: a block scalar that does has a text line (8.1)
 abbrev pub holds_text : Option ScalarText → Bool

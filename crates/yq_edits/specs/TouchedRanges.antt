@@ -16,8 +16,8 @@ use Rattle.yq_edits.specs.Operands.{HasOperand}
 -- ---- touched items
 
 -- the ranges of what segments put, in the text that they make (own)
-abbrev pub written_ranges : List Segment → List Extent
-written_ranges ss = extents 0 (swapped_segments ss)
+abbrev pub put_ranges : List Segment → List Extent
+put_ranges ss = extents 0 (swapped_segments ss)
 
 -- one of these ranges touches what stands between two offsets: it lies in it, or at its edge (own)
 abbrev pub IsTouched : (from to : ℕ) → List Extent → Type 0
@@ -30,8 +30,8 @@ AreTouched from [] es = ⊤
 AreTouched from (i ∷ is) es = IsTouched from (from + length (item_text i)) es × AreTouched (from + length (item_text i)) is es
 
 -- each item that is written, behind those in front of an offset, is touched by a range of what segments put (own)
-abbrev pub WrittenAreTouched : (ss : List Segment) (front back : ℕ) (c new : Cut) → TouchesOnly front back c new → Type 0
-WrittenAreTouched ss front back c new t = AreTouched (length (items_text (in_front front (items_of c)) [])) t.written (written_ranges ss)
+abbrev pub PutAreTouched : (ss : List Segment) (front back : ℕ) (c new : Cut) → TouchesOnly front back c new → Type 0
+PutAreTouched ss front back c new t = AreTouched (length (items_text (in_front front (items_of c)) [])) t.written (put_ranges ss)
 
 -- ---- what segments keep between two that they exchange
 
@@ -56,20 +56,20 @@ pub record LiesInOne (ss : List Segment) (new : Cut) : Type 0 where
   pub ends : length (items_text back []) ≤ length (kept_back ss)
 
 -- what segments put is near: they keep no more than a part of one line between two that they exchange, or all comes to lie in one item (own)
-abbrev pub IsNear : List Segment → Type 0
-IsNear ss = AreInLines [] (from_first ss) ⊎ ((new : Cut) → read_at (new_text ss) ≡ Some new → LiesInOne ss new)
+abbrev pub IsLocalEdit : List Segment → Type 0
+IsLocalEdit ss = AreInLines [] (from_first ss) ⊎ ((new : Cut) → read_at (new_text ss) ≡ Some new → LiesInOne ss new)
 
 -- ---- laws
 
 -- Where what segments put is near, each item that they write is touched.
 abbrev pub NearAreTouched : Type 0
 NearAreTouched =
-    (ss : List Segment) (c new : Cut) → IsNear ss → are_kept ss ≡ false → read_at (new_text ss) ≡ Some new →
+    (ss : List Segment) (c new : Cut) → IsLocalEdit ss → are_kept ss ≡ false → read_at (new_text ss) ≡ Some new →
     (front back : ℕ) → front ≡ length (kept_front ss) → back ≡ length (kept_back ss) → (t : TouchesOnly front back c new) →
-    WrittenAreTouched ss front back c new t
+    PutAreTouched ss front back c new t
 
 -- What each operation puts is near.
 abbrev pub EditsAreNear : Type 0
 EditsAreNear =
     (op : Operation) (c : Cut) (ss : List Segment) → read_at (cut_text c) ≡ Some c → edits op c ≡ Some ss →
-    HasOperand op → Fits (room_of (cut_text c)) op (documents c) → length (new_text ss) ≤ text_limit → IsNear ss
+    HasOperand op → Fits (room_of (cut_text c)) op (documents c) → length (new_text ss) ≤ text_limit → IsLocalEdit ss

@@ -47,5 +47,5 @@ abbrev pub written_at : Layout → Mark → List ℕ → Node → Written
 written_at l m old v = if is_filled v then collection_at l m v else inline (value_text InBlock old v)
 
 -- the same in the place of lines under a key or dash: a collection comes below in any case
-abbrev pub written_below : Layout → Mark → Node → Written
-written_below l m v = if is_filled v then lines (lines_in l (column_under l m v) v) else inline (value_text InBlock [] v)
+abbrev pub written_under : Layout → Mark → Node → Written
+written_under l m v = if is_filled v then lines (lines_in l (column_under l m v) v) else inline (value_text InBlock [] v)

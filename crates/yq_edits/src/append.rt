@@ -1,14 +1,14 @@
 //! Append: one more item or entry at the end of a block collection.
 ghost use Rattle.std.specs.Prelude.{◌≡◌, ◌++◌, IfOk, OnOk, string_bytes};
 ghost use Rattle.yq_inline.specs.Values.{node_of};
-ghost use Rattle.yq_lines.specs.Bodies.{lent};
+ghost use Rattle.yq_lines.specs.Bodies.{borrowed};
 ghost use Rattle.yq_documents.specs.Located.{steps_of};
 ghost use Rattle.yq_documents.specs.Reading.{cut_of};
 ghost use Rattle.yq_text.specs.Halves.{whole};
-ghost use Rattle.yq_places.specs.StandingTelling.{held_told};
+ghost use Rattle.yq_places.specs.StandingViews.{held_view};
 ghost use Rattle.yq_edits.specs.EntryEdits as spec;
 ghost use Rattle.yq_edits.specs.Layouts as layouts;
-ghost use Rattle.yq_edits.specs.Answers.{Carries};
+ghost use Rattle.yq_edits.specs.Answers.{GivesSegments};
 
 use crate::layout::layout_for;
 use std::alloc::{AllocError, Global};
@@ -31,7 +31,7 @@ fn push_lines(
     value: &Value,
 ) -> Result<(), AllocError>
     ensures { OnOk result (string_bytes out.new ≡
-        string_bytes out.old ++ spec.entry_lines layout.now column (lent key.entry)
+        string_bytes out.old ++ spec.entry_lines layout.now column (borrowed key.entry)
         (node_of value.now)) }
 {
     push_spaces(out, column)?;
@@ -49,7 +49,7 @@ fn entry_text(
     last: &str,
 ) -> Result<String, AllocError>
     ensures { IfOk result (λ s. string_bytes s ≡
-        spec.more_lines layout.now (lent key.entry) (node_of value.now) column last.now) }
+        spec.more_lines layout.now (borrowed key.entry) (node_of value.now) column last.now) }
 {
     let mut out = String::new(alloc);
     if last.is_empty() {
@@ -73,7 +73,7 @@ fn more_lines(
     last: &str,
 ) -> Result<String, AllocError>
     ensures { IfOk result (λ s. string_bytes s ≡ spec.more_lines
-        (layouts.layout_of doc (cut_of cut.now)) (lent key.entry)
+        (layouts.layout_of doc (cut_of cut.now)) (borrowed key.entry)
         (node_of value.now) column last.now) }
 {
     let layout = layout_for(cut, doc, value);
@@ -82,7 +82,7 @@ fn more_lines(
 
 /// Lines put behind those under a key or dash.
 fn behind_held<'t>(alloc: Global, held: &Held<'t>, new: String) -> Result<Segments<'t>, AllocError>
-    ensures { IfOk result (λ ss. ss ≡ spec.behind_held (held_told held.now) (string_bytes new)) }
+    ensures { IfOk result (λ ss. ss ≡ spec.behind_held (held_view held.now) (string_bytes new)) }
 {
     let segments = vec![in alloc;
         Segment::Keep(held.before),
@@ -134,8 +134,8 @@ pub fn more_at<'t>(
     key: Option<&str>,
     value: &Value,
 ) -> Result<Option<Segments<'t>>, AllocError>
-    ensures { Carries result (spec.more_at path.now.doc (steps_of path.now) (cut_of cut.now)
-        (lent key.entry) (node_of value.now)) }
+    ensures { GivesSegments result (spec.more_at path.now.doc (steps_of path.now) (cut_of cut.now)
+        (borrowed key.entry) (node_of value.now)) }
 {
     let doc = path.doc;
     match cut.standing(path) {

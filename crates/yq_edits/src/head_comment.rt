@@ -4,7 +4,7 @@ ghost use Rattle.yq_meaning.specs.Meaning.{head_of};
 ghost use Rattle.yq_documents.specs.Located.{steps_of};
 ghost use Rattle.yq_documents.specs.Reading.{cut_of};
 ghost use Rattle.yq_edits.specs.CommentEdits as spec;
-ghost use Rattle.yq_edits.specs.Answers.{Carries};
+ghost use Rattle.yq_edits.specs.Answers.{GivesSegments};
 
 use std::alloc::{AllocError, Global};
 use yq_documents::Path;
@@ -17,7 +17,7 @@ use yq_text::Halves;
 /// Adds a line of a head comment, with its break.
 fn push_line(out: &mut String, column: usize, br: &str, text: &str) -> Result<(), AllocError>
     ensures { OnOk result (string_bytes out.new ≡
-        string_bytes out.old ++ spec.head_line column br.now text.now) }
+        string_bytes out.old ++ spec.comment_line column br.now text.now) }
 {
     push_spaces(out, column)?;
     out.push('#')?;
@@ -57,7 +57,7 @@ pub fn head_comment_at<'t>(
     path: &Path,
     text: &str,
 ) -> Result<Option<Segments<'t>>, AllocError>
-    ensures { Carries result (spec.head_comment_at path.now.doc (steps_of path.now) (cut_of cut.now)
+    ensures { GivesSegments result (spec.head_comment_at path.now.doc (steps_of path.now) (cut_of cut.now)
         text.now) }
 {
     let Some(above) = cut.lines_above(path) else {

@@ -3,9 +3,9 @@ ghost use Rattle.std.specs.Prelude.{◌≡◌, IfOk, string_bytes};
 ghost use Rattle.yq_documents.specs.Located.{steps_of};
 ghost use Rattle.yq_documents.specs.Reading.{cut_of};
 ghost use Rattle.yq_script.specs.Segments.{segment_of};
-ghost use Rattle.yq_places.specs.StandingTelling.{held_told};
+ghost use Rattle.yq_places.specs.StandingViews.{held_view};
 ghost use Rattle.yq_edits.specs.CommentEdits as spec;
-ghost use Rattle.yq_edits.specs.Answers.{Carries};
+ghost use Rattle.yq_edits.specs.Answers.{GivesSegments};
 
 use std::alloc::{AllocError, Global};
 use yq_documents::Path;
@@ -15,7 +15,7 @@ use yq_text::Halves;
 
 /// The white space that ends a line: it goes where it stands before a comment that is taken away.
 fn white_put<'t>(alloc: Global, text: &str, held: &Held<'t>) -> Segment<'t>
-    ensures { segment_of result ≡ spec.white_put text.now (held_told held.now) }
+    ensures { segment_of result ≡ spec.white_put text.now (held_view held.now) }
 {
     if text.is_empty() && !held.comment.is_empty() {
         Segment::Put(Halves::of(held.white), String::new(alloc))
@@ -42,7 +42,7 @@ fn comment_written(alloc: Global, text: &str, old: &str) -> Result<String, Alloc
 
 /// A line comment in the place of that on the line of a key or dash, or of none.
 fn comment_put<'t>(alloc: Global, text: &str, held: &Held<'t>) -> Result<Segments<'t>, AllocError>
-    ensures { IfOk result (λ ss. ss ≡ spec.comment_put text.now (held_told held.now)) }
+    ensures { IfOk result (λ ss. ss ≡ spec.comment_put text.now (held_view held.now)) }
 {
     let new = comment_written(alloc, text, held.comment)?;
     let segments = vec![in alloc;
@@ -70,7 +70,7 @@ pub fn line_comment_at<'t>(
     path: &Path,
     text: &str,
 ) -> Result<Option<Segments<'t>>, AllocError>
-    ensures { Carries result (spec.line_comment_at path.now.doc (steps_of path.now) (cut_of cut.now)
+    ensures { GivesSegments result (spec.line_comment_at path.now.doc (steps_of path.now) (cut_of cut.now)
         text.now) }
 {
     let Some(held) = cut.held(path) else {

@@ -3,12 +3,12 @@ ghost use Rattle.std.specs.Prelude.{◌≡◌, ◌++◌, IfOk, OnOk, option_map,
 ghost use Rattle.yq_scalar.specs.Text.{lines_of};
 ghost use Rattle.yq_documents.specs.Located.{steps_of};
 ghost use Rattle.yq_documents.specs.Reading.{cut_of};
-ghost use Rattle.yq_places.specs.FirstTelling.{first_told};
-ghost use Rattle.yq_places.specs.RemovalReading.{removal_told, seam_told};
+ghost use Rattle.yq_places.specs.FirstViews.{first_view};
+ghost use Rattle.yq_places.specs.RemovalReading.{removal_view, seam_view};
 ghost use Rattle.yq_edits.specs.EntryEdits as entries;
 ghost use Rattle.yq_edits.specs.Removing as spec;
 ghost use Rattle.yq_edits.specs.RemovingFirst.{first_removed};
-ghost use Rattle.yq_edits.specs.Answers.{Carries};
+ghost use Rattle.yq_edits.specs.Answers.{GivesSegments};
 
 use std::alloc::{AllocError, Global};
 use yq_documents::Path;
@@ -53,7 +53,7 @@ fn push_blank<'t>(
     line: &'t str,
 ) -> Result<(), AllocError>
     ensures { OnOk result (segments.new ≡
-        segments.old ++ spec.blank_mended (seam_told seam) line.now) }
+        segments.old ++ spec.blank_mended (seam_view seam) line.now) }
 {
     if seam.keeps {
         segments.push(Segment::Put(Halves::of(line), String::new(alloc)))?;
@@ -74,7 +74,7 @@ fn push_comment<'t>(
     line: &'t str,
 ) -> Result<(), AllocError>
     ensures { OnOk result (segments.new ≡
-        segments.old ++ spec.comment_mended (seam_told seam) line.now) }
+        segments.old ++ spec.comment_mended (seam_view seam) line.now) }
 {
     if is_outside(seam.indent, line.as_bytes()) {
         segments.push(Segment::Keep(Halves::of(line)))?;
@@ -91,7 +91,7 @@ fn push_lines<'t>(
     gap: &'t str,
 ) -> Result<(), AllocError>
     ensures { OnOk result (segments.new ≡
-        segments.old ++ spec.lines_mended (seam_told seam) (lines_of gap.now)) }
+        segments.old ++ spec.lines_mended (seam_view seam) (lines_of gap.now)) }
 {
     let mut rest = gap;
     'lines: while !rest.is_empty() {
@@ -115,7 +115,7 @@ fn push_gap<'t>(
     gap: &'t str,
 ) -> Result<(), AllocError>
     ensures { OnOk result (segments.new ≡
-        segments.old ++ spec.gap_mended (option_map seam_told seam) gap.now) }
+        segments.old ++ spec.gap_mended (option_map seam_view seam) gap.now) }
 {
     match seam {
         Some(seam) => push_lines(alloc, segments, seam, gap),
@@ -128,7 +128,7 @@ fn push_gap<'t>(
 
 /// The segments in which the rows of an item or entry go, and the gap behind them is mended.
 fn take_out<'d>(alloc: Global, removal: &Removal<'d>) -> Result<Segments<'d>, AllocError>
-    ensures { IfOk result (λ ss. ss ≡ spec.rows_removed (removal_told removal.now)) }
+    ensures { IfOk result (λ ss. ss ≡ spec.rows_removed (removal_view removal.now)) }
 {
     let mut segments = Segments::new(Vec::new(alloc));
     segments.push(Segment::Keep(removal.before))?;
@@ -140,7 +140,7 @@ fn take_out<'d>(alloc: Global, removal: &Removal<'d>) -> Result<Segments<'d>, Al
 
 /// The segments in which the first item or entry of a compact collection goes.
 fn take_first<'d>(alloc: Global, removal: &FirstRemoval<'d>) -> Result<Segments<'d>, AllocError>
-    ensures { IfOk result (λ ss. ss ≡ first_removed (first_told removal.now)) }
+    ensures { IfOk result (λ ss. ss ≡ first_removed (first_view removal.now)) }
 {
     let segments = vec![in alloc;
         Segment::Keep(removal.before),
@@ -163,7 +163,7 @@ pub fn one_removed<'d>(
     cut: &CutText<'_, 'd>,
     path: &Path,
 ) -> Result<Option<Segments<'d>>, AllocError>
-    ensures { Carries result (entries.one_removed path.now.doc (steps_of path.now)
+    ensures { GivesSegments result (entries.one_removed path.now.doc (steps_of path.now)
         (cut_of cut.now)) }
 {
     if let Some(removal) = cut.removal(path) {

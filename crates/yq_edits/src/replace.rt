@@ -7,10 +7,10 @@ ghost use Rattle.yq_scalar.specs.Text.{is_feed};
 ghost use Rattle.yq_documents.specs.Located.{steps_of};
 ghost use Rattle.yq_documents.specs.Reading.{cut_of};
 ghost use Rattle.yq_places.specs.NodesAt.{node_in};
-ghost use Rattle.yq_places.specs.StandingTelling.{standing_told};
+ghost use Rattle.yq_places.specs.StandingViews.{standing_view};
 ghost use Rattle.yq_block.specs.declared.layout.Layout.{Layout as LayoutOf};
 ghost use Rattle.yq_edits.specs.ReplaceEdits as spec;
-ghost use Rattle.yq_edits.specs.Answers.{Carries};
+ghost use Rattle.yq_edits.specs.Answers.{GivesSegments};
 
 mod block;
 mod held;
@@ -18,8 +18,8 @@ mod lone;
 
 use crate::layout::layout_for;
 use block::block_scalar_put;
-use held::{beside_put, dash_put, text_put, under_put};
-use lone::{first_put, lone_put, root_put};
+use held::{beside_put, compact_put, text_put, under_put};
+use lone::{lone_put, no_rows_put, root_put};
 use std::alloc::{AllocError, Global};
 use yq_block::{Layout, is_filled};
 use yq_documents::Path;
@@ -37,18 +37,18 @@ fn value_put<'t>(
     standing: &Standing<'t>,
 ) -> Result<Segments<'t>, AllocError>
     ensures { IfOk result (λ ss. ss ≡
-        spec.value_put has_text layout.now (node_of value.now) (standing_told standing.now)) }
+        spec.value_put has_text layout.now (node_of value.now) (standing_view standing.now)) }
 {
     match standing {
         Standing::Alone(lone) => lone_put(alloc, lone, value),
         Standing::Beside(held) => beside_put(alloc, layout, held, value),
         Standing::Under(held, _) => under_put(alloc, layout, held, value),
-        Standing::Compact(compact) => dash_put(alloc, layout, compact, value),
+        Standing::Compact(compact) => compact_put(alloc, layout, compact, value),
         Standing::Block(held, indent) => {
             block_scalar_put(alloc, has_text, layout, held, *indent, value)
         }
         Standing::Root(root) => root_put(alloc, layout, root, value),
-        Standing::NoRows(place) => first_put(alloc, layout, place, value),
+        Standing::NoRows(place) => no_rows_put(alloc, layout, place, value),
     }
 }
 
@@ -80,9 +80,9 @@ fn text_there(
     standing: &Standing<'_>,
 ) -> Result<bool, AllocError>
     ensures { IfOk result (λ b. (l : LayoutOf) (v : NodeOf) →
-        spec.value_put b l v (standing_told standing.now) ≡
+        spec.value_put b l v (standing_view standing.now) ≡
         spec.value_put (spec.has_text (node_in path.now.doc (steps_of path.now) (cut_of cut.now)))
-        l v (standing_told standing.now)) }
+        l v (standing_view standing.now)) }
 {
     match standing {
         Standing::Block(_, _) => has_text(alloc, cut, path),
@@ -107,7 +107,7 @@ pub fn value_put_at<'t>(
     path: &Path,
     value: &Value,
 ) -> Result<Option<Segments<'t>>, AllocError>
-    ensures { Carries result (spec.value_put_at path.now.doc (steps_of path.now) (node_of value.now)
+    ensures { GivesSegments result (spec.value_put_at path.now.doc (steps_of path.now) (node_of value.now)
         (cut_of cut.now)) }
 {
     let Some(standing) = cut.standing(path) else {

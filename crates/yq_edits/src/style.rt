@@ -1,7 +1,7 @@
 //! How a scalar is written in the place of another one.
 ghost use Rattle.std.specs.Prelude.{◌≡◌, true};
 ghost use Rattle.yq_scalar.specs.Writable as writable;
-ghost use Rattle.yq_scalar.specs.Written.{IsInline};
+ghost use Rattle.yq_scalar.specs.Written.{IsOneLine};
 ghost use Rattle.yq_flow.specs.Valued.{IsValid};
 ghost use Rattle.yq_edits.specs.Style as spec;
 
@@ -19,10 +19,10 @@ pub(crate) fn is_same(kind: Kind, text: &str, scalar: &Scalar) -> bool
 /// The style in which a scalar is written in the place of one in the style `old`: in that if it can
 /// be written so, else plain, else in double quotes.
 pub fn style_in(place: Place, scalar: &Scalar, old: Style) -> Style
-    requires { IsInline old }
+    requires { IsOneLine old }
     ensures value { result ≡ spec.style_in place scalar.now old }
     ensures can { writable.can_write scalar.now result place ≡ true }
-    ensures inline { IsInline result }
+    ensures inline { IsOneLine result }
 {
     if can_write(scalar, old, place) {
         old

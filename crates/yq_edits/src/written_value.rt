@@ -2,7 +2,7 @@
 ghost use Rattle.std.specs.Prelude.{◌≡◌, ◌∷◌, ◌++◌, IfOk, OnOk, string_bytes};
 ghost use Rattle.yq_inline.specs.Values.{node_of};
 ghost use Rattle.yq_scalar.specs.BlockWritten.{break_text};
-ghost use Rattle.yq_places.specs.StandingTelling.{mark_told};
+ghost use Rattle.yq_places.specs.StandingViews.{held_mark_view};
 ghost use Rattle.yq_block.specs.BlockRows.{item_column};
 ghost use Rattle.yq_block.specs.BlockText.{block_value};
 ghost use Rattle.yq_edits.specs.WrittenValues as spec;
@@ -48,7 +48,7 @@ pub(crate) fn behind_space(alloc: Global, text: &str) -> Result<String, AllocErr
 
 /// Whether a collection may begin on the line of a key or dash.
 pub(crate) fn takes_compact(mark: Mark) -> bool
-    ensures { result ≡ spec.takes_compact (mark_told mark) }
+    ensures { result ≡ spec.takes_compact (held_mark_view mark) }
 {
     !(mark.keyed || mark.noted)
 }
@@ -72,7 +72,7 @@ fn behind_dash(column: usize) -> Result<usize, AllocError>
 /// [`AllocError`] where it is past `usize`, for which there is no memory.
 fn column_under(layout: &Layout, mark: Mark, value: &Value) -> Result<usize, AllocError>
     ensures { IfOk result (λ n. n ≡
-        spec.column_under layout.now (mark_told mark) (node_of value.now)) }
+        spec.column_under layout.now (held_mark_view mark) (node_of value.now)) }
 {
     if !mark.keyed {
         return behind_dash(mark.column);
@@ -101,7 +101,7 @@ pub(crate) fn compact_text(
 }
 
 /// Adds a collection on lines below a key or dash, up to the last break.
-fn push_below(
+fn push_lines_under(
     alloc: Global,
     out: &mut String,
     layout: &Layout,
@@ -110,7 +110,7 @@ fn push_below(
 ) -> Result<(), AllocError>
     ensures { OnOk result (string_bytes out.new ≡ string_bytes out.old ++
         spec.lines_in layout.now
-        (spec.column_under layout.now (mark_told mark) (node_of value.now))
+        (spec.column_under layout.now (held_mark_view mark) (node_of value.now))
         (node_of value.now)) }
 {
     let column = column_under(layout, mark, value)?;
@@ -119,7 +119,7 @@ fn push_below(
 }
 
 /// A break, and a collection on lines below a key or dash.
-pub(crate) fn below_break(
+pub(crate) fn break_and_lines(
     alloc: Global,
     layout: &Layout,
     mark: Mark,
@@ -127,17 +127,17 @@ pub(crate) fn below_break(
 ) -> Result<String, AllocError>
     ensures { IfOk result (λ s. string_bytes s ≡ break_text layout.now.br ++
         spec.lines_in layout.now
-        (spec.column_under layout.now (mark_told mark) (node_of value.now))
+        (spec.column_under layout.now (held_mark_view mark) (node_of value.now))
         (node_of value.now)) }
 {
     let mut text = String::new(alloc);
     text.push_str(break_text(layout.br))?;
-    push_below(alloc, &mut text, layout, mark, value)?;
+    push_lines_under(alloc, &mut text, layout, mark, value)?;
     Ok(text)
 }
 
 /// A collection on lines below a key or dash, and a break.
-pub(crate) fn before_break(
+pub(crate) fn lines_and_break(
     alloc: Global,
     layout: &Layout,
     mark: Mark,
@@ -145,11 +145,11 @@ pub(crate) fn before_break(
 ) -> Result<String, AllocError>
     ensures { IfOk result (λ s. string_bytes s ≡
         spec.lines_in layout.now
-        (spec.column_under layout.now (mark_told mark) (node_of value.now))
+        (spec.column_under layout.now (held_mark_view mark) (node_of value.now))
         (node_of value.now) ++ break_text layout.now.br) }
 {
     let mut text = String::new(alloc);
-    push_below(alloc, &mut text, layout, mark, value)?;
+    push_lines_under(alloc, &mut text, layout, mark, value)?;
     text.push_str(break_text(layout.br))?;
     Ok(text)
 }

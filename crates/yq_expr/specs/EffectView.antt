@@ -1,7 +1,7 @@
 -- What an update does at each place, as the code has it.
 use Rattle.std.specs.Prelude.{ℕ, List, map}
 use Rattle.yq_inline.specs.Values.{node_of}
-use Rattle.yq_expr.specs.declared.effect.Effect as effect
+use Rattle.yq_expr.specs.declared.effect.Action as effect
 use Rattle.yq_meaning.specs.Changes.{Room, Changed, put_at, add_at, remove_at, comment_at}
 use Rattle.yq_meaning.specs.Judgement.{Judgement, and_then}
 use Rattle.yq_meaning.specs.Places.{Place}
@@ -9,7 +9,7 @@ use Rattle.yq_meaning.specs.RightValues.{right_value}
 use Rattle.yq_program.specs.View.{term_of}
 
 -- what is changed at a place of the document of that number, which has such room (own)
-abbrev pub effect_at : ℕ → Room → effect.Effect → Place → Judgement (List Changed)
+abbrev pub effect_at : ℕ → Room → effect.Action → Place → Judgement (List Changed)
 effect_at doc room (effect.TheVariants.Put v) p = put_at p (node_of v.now)
 effect_at doc room (effect.TheVariants.Modify terms) p = and_then (put_at p) (right_value doc (map term_of terms.now) p)
 effect_at doc room (effect.TheVariants.Add v) p = add_at p (node_of v.now)

@@ -19,7 +19,7 @@ ghost use Rattle.yq_meaning.specs.Rooms.{room_of};
 ghost use Rattle.yq_planning.specs.TreeScalars.{HasScalars, HaveScalars};
 ghost use Rattle.yq_program.specs.View.{stage_of, term_of, update_of};
 
-use crate::effect::{Effect, change_at};
+use crate::effect::{Action, change_at};
 use bumpalo::Bump;
 use std::alloc::Global;
 use yq_documents::Node;
@@ -56,7 +56,7 @@ fn push_effect<'a, 't>(
     cut: &mut CutText<'_, '_>,
     doc: usize,
     aliases: &Aliases<'_>,
-    effect: Effect<'a, '_>,
+    effect: Action<'a, '_>,
     place: Place<'a, 't>,
     changes: &mut Vec<Changed>,
 ) -> Result<(), ExprError>
@@ -80,7 +80,7 @@ fn at_each<'a, 't>(
     documents: &Documents<'_>,
     doc: usize,
     aliases: &Aliases<'_>,
-    effect: Effect<'a, '_>,
+    effect: Action<'a, '_>,
     places: &[Place<'a, 't>],
 ) -> Result<Vec<Changed>, ExprError>
     requires { HaveScalars (places_of places.now) }
@@ -122,9 +122,9 @@ fn changes_at<'a, 't>(
         Update::Assign(assignment) => assign(
             alloc, documents, doc, root, &aliases, assignment, places,
         ),
-        Update::Delete(_) => at_each(alloc, documents, doc, &aliases, Effect::Remove, places),
+        Update::Delete(_) => at_each(alloc, documents, doc, &aliases, Action::Remove, places),
         Update::Comment(comment) => {
-            let effect = Effect::SetComment(comment.place, comment.text.as_str());
+            let effect = Action::SetComment(comment.place, comment.text.as_str());
             at_each(alloc, documents, doc, &aliases, effect, places)
         }
     }
@@ -151,7 +151,7 @@ fn set_each<'a, 't>(
         (root_place (node_of root.entry))) spec.put_at (places_of places.now)) }
 {
     let value = right_value(alloc, doc, right, Place::of_root(root))?;
-    at_each(alloc, documents, doc, aliases, Effect::Put(&value), places)
+    at_each(alloc, documents, doc, aliases, Action::Put(&value), places)
 }
 
 /// What a right side changes that is added at each of places of document
@@ -175,7 +175,7 @@ fn add_each<'a, 't>(
         (root_place (node_of root.entry))) spec.add_at (places_of places.now)) }
 {
     let value = right_value(alloc, doc, right, Place::of_root(root))?;
-    at_each(alloc, documents, doc, aliases, Effect::Add(&value), places)
+    at_each(alloc, documents, doc, aliases, Action::Add(&value), places)
 }
 
 /// What an assignment changes at places of document `doc`, which has that root.
@@ -206,7 +206,7 @@ fn assign<'a, 't>(
             documents,
             doc,
             aliases,
-            Effect::Modify(right),
+            Action::Modify(right),
             places,
         ),
     }

@@ -21,7 +21,7 @@ use yq_tree::CutText;
 
 /// What an update does at each place.
 #[derive(Clone, Copy)]
-pub(crate) enum Effect<'a, 'v> {
+pub(crate) enum Action<'a, 'v> {
     /// A value is put there.
     Put(&'v Value),
     /// The sum of terms, which are found from there, is put there.
@@ -118,7 +118,7 @@ pub(crate) fn change_at<'a, 't>(
     alloc: Global,
     cut: &mut CutText<'_, '_>,
     doc: usize,
-    effect: Effect<'a, '_>,
+    effect: Action<'a, '_>,
     place: Place<'a, 't>,
 ) -> Result<Option<Change>, ExprError>
     requires { HasScalars (place_of place).node }
@@ -127,13 +127,13 @@ pub(crate) fn change_at<'a, 't>(
         (effect_at doc (room_of cut.old doc) effect.entry (place_of place.entry)) }
 {
     match effect {
-        Effect::Put(value) => Ok(Some(put(alloc, place, copied(alloc, value)?)?)),
-        Effect::Modify(terms) => {
+        Action::Put(value) => Ok(Some(put(alloc, place, copied(alloc, value)?)?)),
+        Action::Modify(terms) => {
             let value = right_value(alloc, doc, terms, place)?;
             Ok(Some(put(alloc, place, value)?))
         }
-        Effect::Add(value) => add(alloc, place, value),
-        Effect::Remove => remove(place),
-        Effect::SetComment(comment, text) => { set_comment(alloc, cut, doc, comment, text, place) }
+        Action::Add(value) => add(alloc, place, value),
+        Action::Remove => remove(place),
+        Action::SetComment(comment, text) => { set_comment(alloc, cut, doc, comment, text, place) }
     }
 }

@@ -5,7 +5,7 @@ use Rattle.std.proofs.lemmas.Option.{same_Some}
 use Rattle.yq_scalar.specs.Paths.{within}
 use Rattle.yq_scalar.specs.Text.{is_empty, is_white}
 use Rattle.yq_inline.specs.Alike.{is_stop, Alike, stop}
-use Rattle.yq_inline.specs.Gaps.{IsGap}
+use Rattle.yq_inline.specs.Gaps.{IsInlineGap}
 use Rattle.yq_inline.specs.Nodes.{Node, empty, alias, scalar, coll, anchored, Items, node_text, items_text, open_of, begins_content, is_close, IsApart, IsLead, IsName, is_bare, IsNode, AreItems}
 use Rattle.yq_inline.specs.Collections.{CollPieces, coll_text, coll_in, put_coll}
 use Rattle.yq_inline.specs.Trees.{collection, with_name, tree_of, items_tree}
@@ -23,13 +23,13 @@ pub record Stands (flow : Bool) (spaces : Option ℕ) (d : ℕ) (node : Node) (r
   pub inner_depth : ℕ
   pub depths : d ≡ suc (deep + inner_depth)
   pub closes : is_close c.close ≡ true
-  pub gap : IsGap c.gap (items_text c.close c.items c.rest)
+  pub gap : IsInlineGap c.gap (items_text c.close c.items c.rest)
   pub items : AreItems inner_depth c.close c.items c.rest
   pub before : List ℕ
   pub text : node_text node rest ≡ before ++ coll_text c.close c.gap c.items c.rest
   pub some : is_bare node ≡ false
   pub longer : length rest ≤ length c.rest
-  pub new : (g : List ℕ) (is : Items) → IsGap g (items_text c.close is c.rest) → AreItems inner_depth c.close is c.rest → IsNode flow spaces d (put g is) rest
+  pub new : (g : List ℕ) (is : Items) → IsInlineGap g (items_text c.close is c.rest) → AreItems inner_depth c.close is c.rest → IsNode flow spaces d (put g is) rest
   pub new_text : (g : List ℕ) (is : Items) → node_text (put g is) rest ≡ before ++ coll_text c.close g is c.rest
   pub new_some : (g : List ℕ) (is : Items) → is_bare (put g is) ≡ false
   pub like : (g : List ℕ) (is : Items) → Alike (Some true) (node_text node rest) (node_text (put g is) rest)

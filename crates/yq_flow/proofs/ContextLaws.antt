@@ -3,7 +3,7 @@ use Rattle.std.proofs.Common.{◌≡◌, ℕ, Bool, true, false, List, [], ◌�
 use Rattle.std.proofs.lemmas.Option.{same_Some}
 use Rattle.yq_scalar.specs.Paths.{Step, change_child, within, change}
 use Rattle.yq_inline.specs.Alike.{Alike}
-use Rattle.yq_inline.specs.Gaps.{IsGap}
+use Rattle.yq_inline.specs.Gaps.{IsInlineGap}
 use Rattle.yq_inline.specs.Nodes.{Node, empty, alias, scalar, coll, anchored, Items, node_text, items_text, open_of, is_bare, IsNode, AreItems}
 use Rattle.yq_inline.specs.Entries.{EntryPieces, item_at, inside}
 use Rattle.yq_inline.specs.Collections.{CollPieces, coll_text, coll_in, coll_along, put_coll, within_items, change_item, put_at}
@@ -59,7 +59,7 @@ step_up flow spaces d node rest s ss y c outer at in_ o i = record {
   same : (g : List ℕ) (is : Items) → within_items (change_item s (put_at ss g is)) node ≡ put_coll outer.gap (change_item s (put_at ss g is) outer.items) node
   same g is = within_put (change_item s (put_at ss g is)) node rest outer in_
 
-  swapped : (g : List ℕ) (is : Items) → IsGap g (items_text c.close is c.rest) → AreItems i.inner_depth c.close is c.rest → Swapped o.inner_depth outer.close outer.items (change_item s (put_at ss g is) outer.items) outer.rest y (put_at ss g is y.node)
+  swapped : (g : List ℕ) (is : Items) → IsInlineGap g (items_text c.close is c.rest) → AreItems i.inner_depth c.close is c.rest → Swapped o.inner_depth outer.close outer.items (change_item s (put_at ss g is) outer.items) outer.rest y (put_at ss g is y.node)
   swapped g is gap are = items_swap o.inner_depth outer.close s (put_at ss g is) outer.items outer.rest y o.closes o.items at (record { is = i.new g is gap are; like = i.like g is; old_some = i.some; new_some = i.new_some g is })
 
   wrap : (t x : List ℕ) → t ≡ found.before ++ (i.before ++ x) → o.before ++ (open_of outer.close ∷ (outer.gap ++ t)) ≡ ((o.before ++ (open_of outer.close ∷ outer.gap)) ++ (found.before ++ i.before)) ++ x

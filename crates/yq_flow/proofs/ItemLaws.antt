@@ -8,8 +8,8 @@ use Rattle.yq_scalar.specs.PlainText.{begins_marker}
 use Rattle.yq_scalar.specs.Text.{front, is_white, is_feed, is_return, is_space, is_marker, separates}
 use Rattle.yq_scalar.proofs.Bools.{at_byte}
 use Rattle.yq_inline.specs.Alike.{Alike, stop, EndsItem, fresh, KeepsApart}
-use Rattle.yq_inline.specs.Gaps.{IsGap}
-use Rattle.yq_inline.specs.Nodes.{Key, bare, keyed, Sep, last, comma, Node, Items, none, item, key_text, sep_text, node_text, items_text, first_is, begins_content, begins_node, is_close, IsKey, IsSep, is_bare, is_keyed, IsNode, AreItems}
+use Rattle.yq_inline.specs.Gaps.{IsInlineGap}
+use Rattle.yq_inline.specs.Nodes.{Key, bare, keyed, Sep, last, comma, Node, Items, none, item, key_text, sep_text, node_text, items_text, first_is, begins_content, begins_node, is_close, IsInlineKey, IsSep, is_bare, is_keyed, IsNode, AreItems}
 use Rattle.yq_inline.specs.Entries.{EntryPieces, item_at}
 use Rattle.yq_flow.specs.FlowEdits.{Becomes, content_node, space_for, put_content, put_item, put_value, FitsNode, add_item, is_none, behind_last, FitsItem}
 use Rattle.yq_flow.specs.Removals.{is_marks, ends_marked, ends_return, IsApartFrom}
@@ -39,7 +39,7 @@ pub record Local (d k : ℕ) (is new : Items) (cs : tree.Children) (rest old fre
 
 -- an item before another text behind its node
 pub record ItemStands (d k : ℕ) (key : Key) (n : Node) (u : List ℕ) : Type 0 where
-  pub key_is : IsKey k key (node_text n u)
+  pub key_is : IsInlineKey k key (node_text n u)
   pub node_is : IsNode true (Some 0) d n u
 
 keeps_node : (f : Bool) (key : Key) (n : Node) (t u : List ℕ) → KeepsApart f (key_text key (node_text n [])) t u → (g : Bool) × KeepsApart g (node_text n []) t u
@@ -49,14 +49,14 @@ keeps_node f (keyed p b g) n t u h =
     let q = keeps_append b (fresh f p) (58 ∷ (g ++ node_text n [])) t u a in
     (fresh false g, keeps_append g false (node_text n []) t u q.2)
 
-pub item_keeps : (d k : ℕ) (f : Bool) (key : Key) (n : Node) (t u : List ℕ) → is_close k ≡ true → EndsItem k t → EndsItem k u → KeepsApart f (key_text key (node_text n [])) t u → IsKey k key (node_text n t) → IsNode true (Some 0) d n t → ItemStands d k key n u
+pub item_keeps : (d k : ℕ) (f : Bool) (key : Key) (n : Node) (t u : List ℕ) → is_close k ≡ true → EndsItem k t → EndsItem k u → KeepsApart f (key_text key (node_text n [])) t u → IsInlineKey k key (node_text n t) → IsNode true (Some 0) d n t → ItemStands d k key n u
 item_keeps d k f key n t u c e h keeps x y =
     let inner_ = keeps_node f key n t u keeps in
     let node = node_keeps k n d inner_.0 t u c e h inner_.1 y in
     record { key_is = key_keeps k d f key n t u c e h keeps y node x; node_is = node }
 
 -- an item's text begins as a node
-pub item_begins : (d k : ℕ) (key : Key) (n : Node) (r : List ℕ) → IsKey k key (node_text n r) → (is_keyed key || not (is_bare n)) ≡ true → IsNode true (Some 0) d n r → begins_node true (key_text key (node_text n r)) ≡ true
+pub item_begins : (d k : ℕ) (key : Key) (n : Node) (r : List ℕ) → IsInlineKey k key (node_text n r) → (is_keyed key || not (is_bare n)) ≡ true → IsNode true (Some 0) d n r → begins_node true (key_text key (node_text n r)) ≡ true
 item_begins d k bare n r h s x = some_begins true (Some 0) d n r (not-true (is_bare n) s) x
 item_begins d k (keyed p b g) n r h s x =
     let t : List ℕ = p ++ (b ++ (58 ∷ (g ++ node_text n r))) in
@@ -208,17 +208,17 @@ pub comma_apart : (line : Bool) (p u : List ℕ) → IsApartFrom line p (44 ∷ 
 comma_apart line p u = record { unmarked = and-false (ends_marked line p); unbroken = and-false (ends_return p) }
 
 -- the text of an item isn't empty
-pub item_some : (d k : ℕ) (key : Key) (n : Node) (t : List ℕ) → IsKey k key (node_text n t) → (is_keyed key || not (is_bare n)) ≡ true → IsNode true (Some 0) d n t → NotEmpty (key_text key (node_text n []))
+pub item_some : (d k : ℕ) (key : Key) (n : Node) (t : List ℕ) → IsInlineKey k key (node_text n t) → (is_keyed key || not (is_bare n)) ≡ true → IsNode true (Some 0) d n t → NotEmpty (key_text key (node_text n []))
 item_some d k bare n t h s x = some_text d n t (not-true (is_bare n) s) x
 item_some d k (keyed [] b g) n t h s x = absurd (omega (arith, scalar_some true None [] (b ++ (58 ∷ (g ++ node_text n t))) h.1))
 item_some d k (keyed (a ∷ p) b g) n t h s x = (a, (p ++ (b ++ (58 ∷ (g ++ node_text n []))), refl))
 
 -- a gap before an item
-pub gap_before : (d k : ℕ) (key : Key) (n : Node) (t u q : List ℕ) → IsKey k key (node_text n t) → (is_keyed key || not (is_bare n)) ≡ true → IsNode true (Some 0) d n t → KeepsApart (fresh false q) (key_text key (node_text n [])) t u →
-    IsGap q (key_text key (node_text n t)) → IsGap q (key_text key (node_text n u))
+pub gap_before : (d k : ℕ) (key : Key) (n : Node) (t u q : List ℕ) → IsInlineKey k key (node_text n t) → (is_keyed key || not (is_bare n)) ≡ true → IsNode true (Some 0) d n t → KeepsApart (fresh false q) (key_text key (node_text n [])) t u →
+    IsInlineGap q (key_text key (node_text n t)) → IsInlineGap q (key_text key (node_text n u))
 gap_before d k key n t u q h s x keeps gap =
     let cut : (z : List ℕ) → key_text key (node_text n z) ≡ key_text key (node_text n []) ++ z = λ z. ap (key_text key) (node_then n z) ∙ key_append key (node_text n []) z in
-    subst (IsGap q) (sym (cut u)) (gap_some q (key_text key (node_text n [])) t u (item_some d k key n t h s x) keeps (subst (IsGap q) (cut t) gap))
+    subst (IsInlineGap q) (sym (cut u)) (gap_some q (key_text key (node_text n [])) t u (item_some d k key n t h s x) keeps (subst (IsInlineGap q) (cut t) gap))
 
 -- one more behind the last
 pub add_local : (d k : ℕ) (key : Key) (m : Node) (gap : List ℕ) (is : Items) (rest : List ℕ) → is_close k ≡ true → is_none is ≡ false → AreItems d k is rest → FitsItem d k key m (behind_last k gap is rest) →

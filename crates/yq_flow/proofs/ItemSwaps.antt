@@ -3,7 +3,7 @@ use Rattle.std.proofs.Common.{◌≡◌, ℕ, Bool, true, false, not, ◌||◌, 
 use Rattle.std.proofs.lemmas.Option.{same_Some}
 use Rattle.yq_scalar.specs.Paths.{Step, is_here, further, change_child}
 use Rattle.yq_inline.specs.Alike.{Alike}
-use Rattle.yq_inline.specs.Nodes.{Key, bare, keyed, Sep, Node, Items, none, item, key_text, sep_text, node_text, items_text, begins_node, is_close, IsKey, IsSep, is_bare, is_keyed, IsNode, AreItems}
+use Rattle.yq_inline.specs.Nodes.{Key, bare, keyed, Sep, Node, Items, none, item, key_text, sep_text, node_text, items_text, begins_node, is_close, IsInlineKey, IsSep, is_bare, is_keyed, IsNode, AreItems}
 use Rattle.yq_inline.specs.Entries.{EntryPieces, item_at}
 use Rattle.yq_inline.specs.Collections.{change_item}
 use Rattle.yq_inline.specs.Trees.{inner, key_content, tree_of, items_tree}
@@ -16,11 +16,11 @@ use Rattle.yq_scalar.specs.Tree as tree
 
 -- an item before others that begin alike
 pub record ItemBefore (d k : ℕ) (key : Key) (n : Node) (s : Sep) (u : List ℕ) : Type 0 where
-  pub key_is : IsKey k key (node_text n (sep_text s u))
+  pub key_is : IsInlineKey k key (node_text n (sep_text s u))
   pub node_is : IsNode true (Some 0) d n (sep_text s u)
   pub sep_is : IsSep k s u
 
-pub item_kept : (d k : ℕ) (key : Key) (n : Node) (s : Sep) (t u : List ℕ) → is_close k ≡ true → Alike (Some true) (sep_text s t) (sep_text s u) → IsSep k s u → IsKey k key (node_text n (sep_text s t)) → IsNode true (Some 0) d n (sep_text s t) → IsSep k s t → ItemBefore d k key n s u
+pub item_kept : (d k : ℕ) (key : Key) (n : Node) (s : Sep) (t u : List ℕ) → is_close k ≡ true → Alike (Some true) (sep_text s t) (sep_text s u) → IsSep k s u → IsInlineKey k key (node_text n (sep_text s t)) → IsNode true (Some 0) d n (sep_text s t) → IsSep k s t → ItemBefore d k key n s u
 item_kept d k key n s t u c like sep x y z =
     let old : List ℕ = sep_text s t in
     let new : List ℕ = sep_text s u in
@@ -40,7 +40,7 @@ pub record Swapped (d k : ℕ) (is new : Items) (rest : List ℕ) (y : EntryPiec
   pub are : AreItems d k new rest
   pub like : Alike (Some true) (items_text k is rest) (items_text k new rest)
 
-key_like : (k d : ℕ) (key : Key) (n m : Node) (r : List ℕ) → IsNode true (Some 0) d n r → Swaps d n m r → IsKey k key (node_text n r) → IsKey k key (node_text m r)
+key_like : (k d : ℕ) (key : Key) (n m : Node) (r : List ℕ) → IsNode true (Some 0) d n r → Swaps d n m r → IsInlineKey k key (node_text n r) → IsInlineKey k key (node_text m r)
 key_like k d bare n m r x s h = h
 key_like k d (keyed p b g) n m r x s h =
     let bx = some_begins true (Some 0) d n r s.old_some x in

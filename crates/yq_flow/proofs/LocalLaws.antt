@@ -8,8 +8,8 @@ use Rattle.yq_scalar.specs.Text.{front, is_feed, is_marker, is_empty}
 use Rattle.yq_inline.specs.declared.gap.Before.{Before}
 use Rattle.yq_inline.specs.declared.gap.Before.TheVariants.{Token, White, Break, Comment}
 use Rattle.yq_inline.specs.Alike.{Alike, colon, any_colon, EndsItem}
-use Rattle.yq_inline.specs.Gaps.{behind, is_break as at_break, stops, IsGap}
-use Rattle.yq_inline.specs.Nodes.{Key, bare, keyed, Node, empty, alias, scalar, coll, anchored, key_text, node_text, first_is, begins_content, begins_node, is_close, IsName, IsKey, is_bare, is_keyed, IsNode, takes_anchor}
+use Rattle.yq_inline.specs.Gaps.{behind, is_break as at_break, stops, IsInlineGap}
+use Rattle.yq_inline.specs.Nodes.{Key, bare, keyed, Node, empty, alias, scalar, coll, anchored, key_text, node_text, first_is, begins_content, begins_node, is_close, IsName, IsInlineKey, is_bare, is_keyed, IsNode, takes_anchor}
 use Rattle.yq_flow.specs.FlowEdits.{Becomes, content_node, space_for, put_content, anchor_in, put_value, FitsNode}
 use Rattle.yq_inline.specs.Trees.{collection, with_name, named, key_content, tree_of, items_tree}
 use Rattle.yq_inline.proofs.Alikes.{no_first, alike_append}
@@ -35,20 +35,20 @@ node_stops White (a ∷ x) (b ∷ y) bx by h = rw (node_no_space b y by, front_n
 node_stops Break (a ∷ x) (b ∷ y) bx by h = rw (node_no_space b y by, front_not (begins_node true) 35 (λ cs. refl) (b ∷ y) by) refl
 node_stops Comment (a ∷ x) (b ∷ y) bx by h = absurd (false≢true h)
 
-pub gap_new : (g x y : List ℕ) → begins_node true x ≡ true → begins_node true y ≡ true → (at_break (behind Token g) && is_marker y) ≡ false → IsGap g x → IsGap g y
+pub gap_new : (g x y : List ℕ) → begins_node true x ≡ true → begins_node true y ≡ true → (at_break (behind Token g) && is_marker y) ≡ false → IsInlineGap g x → IsInlineGap g y
 gap_new g x y bx by m h = record {
   inside = go_front Token g x y (node_no_feed x bx ∙ sym (node_no_feed y by)) h.inside;
   ends = node_stops (behind Token g) x y bx by h.ends;
   unmarked = m;
 }
 
-pub space_before : (y : List ℕ) → begins_node true y ≡ true → IsGap (32 ∷ []) y
+pub space_before : (y : List ℕ) → begins_node true y ≡ true → IsInlineGap (32 ∷ []) y
 space_before y by = record { inside = (refl, tt); ends = go y by; unmarked = refl } where
   go : (y : List ℕ) → begins_node true y ≡ true → stops White y ≡ true
   go [] h = refl
   go (b ∷ y) h = rw (node_no_space b y h, front_not (begins_node true) 35 (λ cs. refl) (b ∷ y) h) refl
 
-pub no_gap_before : (y : List ℕ) → begins_node true y ≡ true → IsGap [] y
+pub no_gap_before : (y : List ℕ) → begins_node true y ≡ true → IsInlineGap [] y
 no_gap_before y by = none_gap y (go y by) where
   go : (y : List ℕ) → begins_node true y ≡ true → stops Token y ≡ true
   go [] h = refl
@@ -59,10 +59,10 @@ unmarked_gap g y m = rw m (and-false (at_break (behind Token g)))
 
 -- What becomes of a gap before a text.
 abbrev pub Front : List ℕ → List ℕ → Type 0
-Front x y = (g : List ℕ) → IsGap g x → IsGap g y
+Front x y = (g : List ℕ) → IsInlineGap g x → IsInlineGap g y
 
 -- another node behind the same key
-refit : (k : ℕ) (key : Key) (x y : List ℕ) → begins_node true x ≡ true → begins_node true y ≡ true → is_marker y ≡ false → IsKey k key x → IsKey k key y × Front (key_text key x) (key_text key y)
+refit : (k : ℕ) (key : Key) (x y : List ℕ) → begins_node true x ≡ true → begins_node true y ≡ true → is_marker y ≡ false → IsInlineKey k key x → IsInlineKey k key y × Front (key_text key x) (key_text key y)
 refit k bare x y bx by m h = (h, λ g a. gap_new g x y bx by (unmarked_gap g y m) a)
 refit k (keyed p b g) x y bx by m h =
     let gap = gap_new g x y bx by (unmarked_gap g y m) (lead_gap (begins_node true) g x bx bx h.4) in
@@ -70,7 +70,7 @@ refit k (keyed p b g) x y bx by m h =
 
 -- What is put in an item's place: another key and node.
 pub record Filled (d k : ℕ) (m : Node) (key : Key) (n : Node) (rest : List ℕ) (key2 : Key) (n2 : Node) : Type 0 where
-  pub key_is : IsKey k key2 (node_text n2 rest)
+  pub key_is : IsInlineKey k key2 (node_text n2 rest)
   pub some : (is_keyed key2 || not (is_bare n2)) ≡ true
   pub node_is : IsNode true (Some 0) d n2 rest
   pub front : Front (key_text key (node_text n rest)) (key_text key2 (node_text n2 rest))
@@ -103,12 +103,12 @@ coll_no_anchor : (k : ℕ) (cs : tree.Children) → anchor_in (collection k cs) 
 coll_no_anchor k cs = elim (eqb k 125) as (λ c. anchor_in (cond c (tree.map None cs) (tree.list None cs)) ≡ None) [ true ↦ refl | false ↦ refl ]
 
 -- in the place of a node that is something, without an anchor
-filled_by : (d k : ℕ) (m : Node) (key : Key) (n : Node) (rest : List ℕ) → is_bare n ≡ false → FitsNode d m rest → IsKey k key (node_text n rest) → IsNode true (Some 0) d n rest → IsKey k key (node_text m rest) × Front (key_text key (node_text n rest)) (key_text key (node_text m rest))
+filled_by : (d k : ℕ) (m : Node) (key : Key) (n : Node) (rest : List ℕ) → is_bare n ≡ false → FitsNode d m rest → IsInlineKey k key (node_text n rest) → IsNode true (Some 0) d n rest → IsInlineKey k key (node_text m rest) × Front (key_text key (node_text n rest)) (key_text key (node_text m rest))
 filled_by d k m key n rest some f h x = refit k key (node_text n rest) (node_text m rest) (some_begins true (Some 0) d n rest some x) (some_begins true (Some 0) d m rest f.some f.is) f.unmarked h
 
 -- in the place of a node that is something, behind an anchor
 anchored_filled : (d k : ℕ) (m : Node) (key : Key) (n g : List ℕ) (node : Node) (rest : List ℕ) → is_bare node ≡ false → takes_anchor node ≡ true → tree_of (anchored n g m) ≡ put_value (tree_of m) (tree_of (anchored n g node)) → FitsNode d m rest →
-    IsKey k key (node_text (anchored n g node) rest) → IsNode true (Some 0) d (anchored n g node) rest → Filled d k m key (anchored n g node) rest key (anchored n g m)
+    IsInlineKey k key (node_text (anchored n g node) rest) → IsNode true (Some 0) d (anchored n g node) rest → Filled d k m key (anchored n g node) rest key (anchored n g m)
 unfolding node_text IsNode
 anchored_filled d k m key n g node rest some takes tree f h x =
     let old : List ℕ = node_text node rest in
@@ -132,18 +132,18 @@ anchored_filled d k m key n g node rest some takes tree f h x =
     }
 
 -- in the place of nothing behind a `:`
-spaced : (k : ℕ) (p b x y : List ℕ) → is_close k ≡ true → begins_node true x ≡ false → begins_node true y ≡ true → is_safe true x ≡ false → IsKey k (keyed p b []) x → IsKey k (keyed p b (32 ∷ [])) y
+spaced : (k : ℕ) (p b x y : List ℕ) → is_close k ≡ true → begins_node true x ≡ false → begins_node true y ≡ true → is_safe true x ≡ false → IsInlineKey k (keyed p b []) x → IsInlineKey k (keyed p b (32 ∷ [])) y
 spaced k p b x y c bx by unsafe h =
     let like : Alike (Some true) (58 ∷ x) (58 ∷ (32 ∷ y)) = colon unsafe refl in
     (h.0, scalar_alike true None p (b ++ (58 ∷ x)) (b ++ (58 ∷ (32 ∷ y))) (alike_append (Some true) b (58 ∷ x) (58 ∷ (32 ∷ y)) like) h.1, gap_alike (Some true) b (58 ∷ x) (58 ∷ (32 ∷ y)) like h.2, or-true (is_quoted p), inl (space_before y by, by))
 
-pub filled : (d k : ℕ) (m : Node) (key : Key) (n : Node) (rest : List ℕ) → is_close k ≡ true → EndsItem k rest → FitsNode d m rest → IsKey k key (node_text n rest) → (is_keyed key || not (is_bare n)) ≡ true → IsNode true (Some 0) d n rest → Filled d k m key n rest (put_content m key n).0 (put_content m key n).1
+pub filled : (d k : ℕ) (m : Node) (key : Key) (n : Node) (rest : List ℕ) → is_close k ≡ true → EndsItem k rest → FitsNode d m rest → IsInlineKey k key (node_text n rest) → (is_keyed key || not (is_bare n)) ≡ true → IsNode true (Some 0) d n rest → Filled d k m key n rest (put_content m key n).0 (put_content m key n).1
 unfolding node_text IsNode tree_of
 filled d k m bare empty rest c e f h s x = absurd (false≢true s)
 filled d k m (keyed p b g) empty rest c e f h s x =
     let bx : begins_node true rest ≡ false = or_from (first_is 38 rest) (begins_content true rest) x.1 x.0 in
     let nothing : g ≡ [] = lead_none (begins_node true) g rest bx h.4 in
-    let old : IsKey k (keyed p b []) rest = subst (λ (l : List ℕ). IsKey k (keyed p b l) rest) nothing h in
+    let old : IsInlineKey k (keyed p b []) rest = subst (λ (l : List ℕ). IsInlineKey k (keyed p b l) rest) nothing h in
     let was : p ++ (b ++ (58 ∷ (g ++ rest))) ≡ (p ++ (b ++ (58 ∷ []))) ++ rest = rw nothing (ap (λ l. p ++ l) (sym (append_assoc b (58 ∷ []) rest)) ∙ sym (append_assoc p (b ++ (58 ∷ [])) rest)) in
     record {
       key_is = spaced k p b rest (node_text m rest) c bx (some_begins true (Some 0) d m rest f.some f.is) (ends_safe k rest c e) old;

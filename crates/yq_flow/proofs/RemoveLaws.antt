@@ -12,7 +12,7 @@ use Rattle.yq_inline.specs.declared.gap.Before.{Before}
 use Rattle.yq_inline.specs.declared.gap.Before.TheVariants.{Token, White, Break, Comment}
 use Rattle.yq_inline.specs.Alike.{stop, fresh}
 use Rattle.yq_inline.specs.Collections.{CollAt, IsCollAt}
-use Rattle.yq_inline.specs.Gaps.{goes, next, behind, is_break as at_break, AllGo, IsGap}
+use Rattle.yq_inline.specs.Gaps.{goes, next, behind, is_break as at_break, AllGo, IsInlineGap}
 use Rattle.yq_inline.specs.Nodes.{Key, Sep, last, comma, Node, Items, none, item, key_text, sep_text, node_text, items_text, open_of, begins_node, is_close, IsSep, AreItems}
 use Rattle.yq_inline.specs.Trees.{inner, key_content, tree_of, items_tree}
 use Rattle.yq_inline.proofs.AlikePieces.{gap_alike}
@@ -20,13 +20,13 @@ use Rattle.yq_inline.proofs.GapLaws.{none_gap}
 use Rattle.yq_inline.proofs.KeepLaws.{behind_fresh, keeps_alike, go_front}
 use Rattle.yq_inline.proofs.NodeAgain.{item_front}
 use Rattle.yq_inline.proofs.NodeKeeps.{sep_ends, key_text_alike, node_text_alike}
-use Rattle.yq_flow.specs.FlowEdits.{FlowEdit, IsEdited}
+use Rattle.yq_flow.specs.FlowEdits.{FlowEdit, IsFlowEdited}
 use Rattle.yq_flow.specs.Removals.{IsApartFrom, before_next, behind_item, comma_left, ends_marked, ends_return, gap_of, gap_to, last_gone, last_out, last_removed, removing, removing_from}
 use Rattle.yq_flow.proofs.EditLaws.{edited, around_is, opened}
 use Rattle.yq_flow.proofs.ItemLaws.{item_begins, item_keeps, item_some, comma_apart, comma_like, ends_mark, gap_before, keeps_from, marker_append, Unmarked}
 use Rattle.yq_flow.proofs.ItemSwaps.{item_cut, text_cut}
 use Rattle.yq_flow.proofs.LocalLaws.{gap_new, node_no_feed, node_stops}
-use Rattle.yq_flow.proofs.RemoveTexts.{LastBytes, behind_cut, comma_new_bytes, comma_old_bytes, either, gone_bytes, made_of, removed_text, sep_front}
+use Rattle.yq_flow.proofs.RemoveTexts.{LastBytes, behind_cut, comma_new_bytes, comma_old_bytes, either, gone_bytes, option_some, removed_text, sep_front}
 use Rattle.yq_flow.proofs.ReturnLaws.{Whole, item_return, pairs_behind, pairs_end, return_some, whole_by, whole_front}
 use Rattle.yq_scalar.specs.Tree as tree
 
@@ -46,7 +46,7 @@ break_is White h = absurd (false≢true h)
 break_is Break h = refl
 break_is Comment h = absurd (false≢true h)
 
-gap_moves : (g x own u : List ℕ) → begins_node true x ≡ true → begins_node true (own ++ u) ≡ true → Unmarked u → IsGap g x → IsGap (gap_to g own) (own ++ u)
+gap_moves : (g x own u : List ℕ) → begins_node true x ≡ true → begins_node true (own ++ u) ≡ true → Unmarked u → IsInlineGap g x → IsInlineGap (gap_to g own) (own ++ u)
 gap_moves g x own u bx by m h = go (fresh false g && begins_marker own) refl where
   y : List ℕ
   y = own ++ u
@@ -54,8 +54,8 @@ gap_moves g x own u bx by m h = go (fresh false g && begins_marker own) refl whe
   at : at_break (behind Token g) ≡ fresh false g
   at = behind_fresh Token g
 
-  go : (c : Bool) → (fresh false g && begins_marker own) ≡ c → IsGap (g ++ cond c (32 ∷ []) []) y
-  go false e = subst (λ (l : List ℕ). IsGap l y) (sym (append-nil g)) (gap_new g x y bx by (rw at (unmarked (fresh false g) e)) h) where
+  go : (c : Bool) → (fresh false g && begins_marker own) ≡ c → IsInlineGap (g ++ cond c (32 ∷ []) []) y
+  go false e = subst (λ (l : List ℕ). IsInlineGap l y) (sym (append-nil g)) (gap_new g x y bx by (rw at (unmarked (fresh false g) e)) h) where
     unmarked : (f : Bool) → (f && begins_marker own) ≡ false → (f && is_marker (own ++ u)) ≡ false
     unmarked true q = marker_append own u q m
     unmarked false q = refl
@@ -73,12 +73,12 @@ gap_moves g x own u bx by m h = go (fresh false g && begins_marker own) refl whe
 -- What is left of items behind a gap without the one at a step; and where its bytes go no CR stands before an LF.
 record Left (d k : ℕ) (s : Step) (g : List ℕ) (is : Items) (rest : List ℕ) (e : FlowEdit) : Type 0 where
   are : AreItems d k e.items rest
-  gap : IsGap e.gap (items_text k e.items rest)
+  gap : IsInlineGap e.gap (items_text k e.items rest)
   tree : items_tree e.items ≡ remove_child s (items_tree is)
   whole : (x b : List ℕ) → x ++ (g ++ items_text k is rest) ≡ b ++ (e.old ++ e.behind) → Whole b (e.old ++ e.behind)
 
 -- up to the next one
-before_left : (d k : ℕ) (s : Step) (g : List ℕ) (key : Key) (n : Node) (sep : Sep) (is : Items) (rest : List ℕ) (e : FlowEdit) → is_close k ≡ true → is_here s (inner (key_content key)) ≡ true → IsGap g (items_text k (item key n sep is) rest) →
+before_left : (d k : ℕ) (s : Step) (g : List ℕ) (key : Key) (n : Node) (sep : Sep) (is : Items) (rest : List ℕ) (e : FlowEdit) → is_close k ≡ true → is_here s (inner (key_content key)) ≡ true → IsInlineGap g (items_text k (item key n sep is) rest) →
     AreItems d k (item key n sep is) rest → before_next k rest g key n sep is ≡ Some e → Left d k s g (item key n sep is) rest e
 unfolding items_text AreItems items_tree
 before_left d k s g key n sep none rest e c here gap a at = absurd (none-some _ at)
@@ -92,14 +92,14 @@ before_left d k s g key n sep (item key2 n2 sep2 is) rest e c here gap a at =
     let moved = gap_moves g (key_text key (node_text n (sep_text sep y))) own u bx by (ends_mark k u c (sep_ends k sep2 (items_text k is rest) a.4.3)) gap in
     subst (Left d k s g (item key n sep (item key2 n2 sep2 is)) rest) (same_Some _ _ at) (record {
       are = a.4;
-      gap = subst (IsGap (gap_to g own)) (sym cut) moved;
+      gap = subst (IsInlineGap (gap_to g own)) (sym cut) moved;
       tree = rw here refl;
       whole = λ x b same. whole_front b (key_text key (node_text n (sep_text sep [])) ++ y) (ap (front is_feed) (sym (item_cut key n sep y)) ∙ node_no_feed (key_text key (node_text n (sep_text sep y))) bx);
     })
 
 -- the item behind another one, where that has another separator
 last_left : (d k : ℕ) (s : Step) (g : List ℕ) (key : Key) (n : Node) (sep : Sep) (key2 : Key) (n2 : Node) (sep2 left : Sep) (rest old lead behind_ : List ℕ) → is_close k ≡ true →
-    is_here s (inner (key_content key)) ≡ false → is_here (further s) (inner (key_content key2)) ≡ true → IsGap g (items_text k (item key n sep (item key2 n2 sep2 none)) rest) → AreItems d k (item key n sep (item key2 n2 sep2 none)) rest →
+    is_here s (inner (key_content key)) ≡ false → is_here (further s) (inner (key_content key2)) ≡ true → IsInlineGap g (items_text k (item key n sep (item key2 n2 sep2 none)) rest) → AreItems d k (item key n sep (item key2 n2 sep2 none)) rest →
     ends_return (key_text key (node_text n [])) ≡ false → IsSep k left (k ∷ rest) → IsApartFrom (fresh false g) (key_text key (node_text n [])) (sep_text left (k ∷ rest)) → LastBytes k rest sep key2 n2 sep2 left old lead behind_ →
     Left d k s g (item key n sep (item key2 n2 sep2 none)) rest (record { gap = g; items = item key n left none; old = old; lead = lead; written = []; behind = behind_ })
 unfolding items_text AreItems items_tree
@@ -123,7 +123,7 @@ last_left d k s g key n sep key2 n2 sep2 left rest old lead behind_ c here there
     }
 
 last_of : (d k : ℕ) (s : Step) (g : List ℕ) (key : Key) (n : Node) (sep : Sep) (is : Items) (rest : List ℕ) (e : FlowEdit) → is_close k ≡ true → is_here s (inner (key_content key)) ≡ false → ends_return (key_text key (node_text n [])) ≡ false →
-    IsGap g (items_text k (item key n sep is) rest) → AreItems d k (item key n sep is) rest → last_out k rest (further s) g key n sep is ≡ Some e → Left d k s g (item key n sep is) rest e
+    IsInlineGap g (items_text k (item key n sep is) rest) → AreItems d k (item key n sep is) rest → last_out k rest (further s) g key n sep is ≡ Some e → Left d k s g (item key n sep is) rest e
 unfolding items_text AreItems
 last_of d k s g key n sep none rest e c here ends gap a at = absurd (none-some _ at)
 last_of d k s g key n sep (item key2 n2 sep2 (item key3 n3 sep3 is)) rest e c here ends gap a at = absurd (none-some _ at)
@@ -131,10 +131,10 @@ last_of d k s g key n sep (item key2 n2 sep2 none) rest e c here ends gap a at =
   own : List ℕ
   own = key_text key (node_text n [])
 
-  comma_is : (h : List ℕ) → IsGap h (k ∷ rest) → IsSep k (comma [] h) (k ∷ rest)
+  comma_is : (h : List ℕ) → IsInlineGap h (k ∷ rest) → IsSep k (comma [] h) (k ∷ rest)
   comma_is h gap = (none_gap (44 ∷ (h ++ (k ∷ rest))) refl, gap)
 
-  marked : (there : is_here (further s) (inner (key_content key2)) ≡ true) (sep2 : Sep) → IsSep k sep2 (k ∷ rest) → IsGap g (items_text k (item key n sep (item key2 n2 sep2 none)) rest) → AreItems d k (item key n sep (item key2 n2 sep2 none)) rest →
+  marked : (there : is_here (further s) (inner (key_content key2)) ≡ true) (sep2 : Sep) → IsSep k sep2 (k ∷ rest) → IsInlineGap g (items_text k (item key n sep (item key2 n2 sep2 none)) rest) → AreItems d k (item key n sep (item key2 n2 sep2 none)) rest →
       Left d k s g (item key n sep (item key2 n2 sep2 none)) rest (comma_left k rest g key n sep key2 n2 sep2)
   marked there (last b) h gap a = last_left d k s g key n sep key2 n2 (last b) (comma [] b) rest _ _ _ c here there gap a ends (comma_is b h.0) (comma_apart (fresh false g) own (b ++ (k ∷ rest))) (comma_new_bytes k rest sep key2 n2 b)
   marked there (comma b q) h gap a = last_left d k s g key n sep key2 n2 (comma b q) (comma [] q) rest _ _ _ c here there gap a ends (comma_is q h.1) (comma_apart (fresh false g) own (q ++ (k ∷ rest))) (comma_old_bytes k rest sep key2 n2 b q)
@@ -149,7 +149,7 @@ last_of d k s g key n sep (item key2 n2 sep2 none) rest e c here ends gap a at =
 
 -- one of the items behind another one
 behind_left : (d k : ℕ) (s : Step) (g : List ℕ) (key : Key) (n : Node) (sep : Sep) (is : Items) (rest : List ℕ) (e : FlowEdit) → is_close k ≡ true → is_here s (inner (key_content key)) ≡ false →
-    IsGap g (items_text k (item key n sep is) rest) → AreItems d k (item key n sep is) rest → removing_from k rest (further s) (gap_of sep) is ≡ Some e → (IsGap (gap_of sep) (items_text k is rest) → Left d k (further s) (gap_of sep) is rest e) →
+    IsInlineGap g (items_text k (item key n sep is) rest) → AreItems d k (item key n sep is) rest → removing_from k rest (further s) (gap_of sep) is ≡ Some e → (IsInlineGap (gap_of sep) (items_text k is rest) → Left d k (further s) (gap_of sep) is rest e) →
     Left d k s g (item key n sep is) rest (behind_item g key n sep e)
 unfolding items_text AreItems items_tree
 behind_left d k s g key n sep none rest e c here gap a at l = absurd (none-some _ at)
@@ -171,7 +171,7 @@ behind_left d k s g key n (comma b q) (item key2 n2 sep2 is) rest e c here gap a
       whole = λ z w same. x.whole (z ++ f) w (append_assoc z f (q ++ t) ∙ (ap (λ l. z ++ l) (sym (behind_cut g key n (comma b q) t)) ∙ same));
     }
 
-left : (d k : ℕ) (s : Step) (g : List ℕ) (is : Items) (rest : List ℕ) (e : FlowEdit) → is_close k ≡ true → pairs_returns (items_text k is rest) ≡ true → IsGap g (items_text k is rest) → AreItems d k is rest → removing_from k rest s g is ≡ Some e →
+left : (d k : ℕ) (s : Step) (g : List ℕ) (is : Items) (rest : List ℕ) (e : FlowEdit) → is_close k ≡ true → pairs_returns (items_text k is rest) ≡ true → IsInlineGap g (items_text k is rest) → AreItems d k is rest → removing_from k rest s g is ≡ Some e →
     Left d k s g is rest e
 unfolding items_text AreItems
 left d k s g none rest e c pairs gap a at = absurd (none-some _ at)
@@ -185,14 +185,14 @@ left d k s g (item key n sep is) rest e c pairs gap a at = go (is_here s (inner 
   further_pairs : pairs_returns t ≡ true
   further_pairs = pairs_behind (key_text key (node_text n (sep_text sep []))) t (subst (λ (l : List ℕ). pairs_returns l ≡ true) (item_cut key n sep t) pairs)
 
-  other : is_here s (inner (key_content key)) ≡ false → ((x : FlowEdit) → pairs_returns (items_text k is rest) ≡ true → IsGap (gap_of sep) (items_text k is rest) → removing_from k rest (further s) (gap_of sep) is ≡ Some x → Left d k (further s) (gap_of sep) is rest x) →
+  other : is_here s (inner (key_content key)) ≡ false → ((x : FlowEdit) → pairs_returns (items_text k is rest) ≡ true → IsInlineGap (gap_of sep) (items_text k is rest) → removing_from k rest (further s) (gap_of sep) is ≡ Some x → Left d k (further s) (gap_of sep) is rest x) →
       (last_out k rest (further s) g key n sep is ≡ Some e) ⊎ (option_map (behind_item g key n sep) (removing_from k rest (further s) (gap_of sep) is) ≡ Some e) → Left d k s g (item key n sep is) rest e
   other here again (inl at) = last_of d k s g key n sep is rest e c here ends gap a at
   other here again (inr at) =
-      let x = made_of (behind_item g key n sep) (removing_from k rest (further s) (gap_of sep) is) e at in
+      let x = option_some (behind_item g key n sep) (removing_from k rest (further s) (gap_of sep) is) e at in
       subst (Left d k s g (item key n sep is) rest) x.2 (behind_left d k s g key n sep is rest x.0 c here gap a x.1 (λ q. again x.0 further_pairs q x.1))
 
-  go : (b : Bool) → is_here s (inner (key_content key)) ≡ b → ((x : FlowEdit) → pairs_returns (items_text k is rest) ≡ true → IsGap (gap_of sep) (items_text k is rest) → removing_from k rest (further s) (gap_of sep) is ≡ Some x → Left d k (further s) (gap_of sep) is rest x) →
+  go : (b : Bool) → is_here s (inner (key_content key)) ≡ b → ((x : FlowEdit) → pairs_returns (items_text k is rest) ≡ true → IsInlineGap (gap_of sep) (items_text k is rest) → removing_from k rest (further s) (gap_of sep) is ≡ Some x → Left d k (further s) (gap_of sep) is rest x) →
       cond b (before_next k rest g key n sep is) (option_or (last_out k rest (further s) g key n sep is) (option_map (behind_item g key n sep) (removing_from k rest (further s) (gap_of sep) is))) ≡ Some e → Left d k s g (item key n sep is) rest e
   go true here again at = before_left d k s g key n sep is rest e c here gap a at
   go false here again at = other here again (either _ _ at)
@@ -215,7 +215,7 @@ module _ (x : CollAt) (s : Step) (e : FlowEdit) (h : IsCollAt x) (at : removing 
       left i.inner_depth c.close s c.gap c.items c.rest e i.closes inside i.gap i.items at
 
   -- an item or entry taken out
-  pub removed : pairs_returns (node_text x.node x.rest) ≡ true → IsEdited x e (change x.steps (within (remove_child s)))
+  pub removed : pairs_returns (node_text x.node x.rest) ≡ true → IsFlowEdited x e (change x.steps (within (remove_child s)))
   removed pairs =
       let c = x.coll in
       let l = left_in [] pairs in

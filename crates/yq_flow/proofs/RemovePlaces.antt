@@ -10,7 +10,7 @@ use Rattle.yq_scalar.specs.Text.{is_feed}
 use Rattle.yq_inline.specs.Alike.{fresh}
 use Rattle.yq_inline.specs.Collections.{CollPieces, coll_in}
 use Rattle.yq_inline.specs.Entries.{entry_start, parts_in, parts_of}
-use Rattle.yq_inline.specs.Gaps.{IsGap}
+use Rattle.yq_inline.specs.Gaps.{IsInlineGap}
 use Rattle.yq_inline.specs.declared.gap.Before.TheVariants.{Token}
 use Rattle.yq_inline.specs.Nodes.{Key, Sep, last, comma, Node, empty, alias, scalar, coll, anchored, Items, none, item, key_text, sep_text, node_text, items_text, first_is, open_of, is_close, IsNode, IsSep, AreItems}
 use Rattle.yq_inline.specs.Places.{Parts, Placed, placed, key_placed, holder, locate, locate_items, mapping, sequence, with_anchor}
@@ -72,7 +72,7 @@ next_placed d k g key n sep (item key2 n2 sep2 is) rest t w b c a feed text =
 comma_part : List ℕ → ℕ → ℕ → PlacedEdit
 comma_part t from e = cond (first_is 44 (drop (past_gap t e) t)) (record { start = from; end = past_gap t e; lead = [] }) (record { start = from; end = e; lead = 44 ∷ [] })
 
-past_placed : (t v q x : List ℕ) → IsGap q x → t ≡ v ++ (q ++ x) → (past_gap t (length t - length (q ++ x)) ≡ length t - length x) × (drop (length t - length x) t ≡ x)
+past_placed : (t v q x : List ℕ) → IsInlineGap q x → t ≡ v ++ (q ++ x) → (past_gap t (length t - length (q ++ x)) ≡ length t - length x) × (drop (length t - length x) t ≡ x)
 past_placed t v q x gap is =
     let there = drop_end t v (q ++ x) is in
     let len : gap_len Token (drop (length t - length (q ++ x)) t) ≡ length q = ap (gap_len Token) there ∙ (gap_append Token q x gap.inside gap.ends).0 in

@@ -21,9 +21,9 @@ pub either : {A : Type 0} {y : A} (a b : Option A) → option_or a b ≡ Some y 
 either None b is = inr is
 either (Some x) b is = inl is
 
-pub made_of : {A B : Type 0} (f : A → B) (o : Option A) (y : B) → option_map f o ≡ Some y → (x : A) × (o ≡ Some x) × (f x ≡ y)
-made_of f None y e = absurd (none-some _ e)
-made_of f (Some x) y e = (x, refl, same_Some _ _ e)
+pub option_some : {A B : Type 0} (f : A → B) (o : Option A) (y : B) → option_map f o ≡ Some y → (x : A) × (o ≡ Some x) × (f x ≡ y)
+option_some f None y e = absurd (none-some _ e)
+option_some f (Some x) y e = (x, refl, same_Some _ _ e)
 
 -- ---- what stands behind an item
 
@@ -163,7 +163,7 @@ removed_text k rest s g (item key n sep is) e at = go (is_here s (inner (key_con
         (last_out k rest (further s) g key n sep is ≡ Some e) ⊎ (option_map (behind_item g key n sep) (removing_from k rest (further s) (gap_of sep) is) ≡ Some e) → RemovedText k rest g (item key n sep is) e
     behind again (inl at) = last_text k rest (further s) g key n sep is e at
     behind again (inr at) =
-        let x = made_of (behind_item g key n sep) (removing_from k rest (further s) (gap_of sep) is) e at in
+        let x = option_some (behind_item g key n sep) (removing_from k rest (further s) (gap_of sep) is) e at in
         subst (RemovedText k rest g (item key n sep is)) x.2 (behind_text k rest g key n sep is x.0 (again x.0 x.1))
 
     go : (b : Bool) → ((x : FlowEdit) → removing_from k rest (further s) (gap_of sep) is ≡ Some x → RemovedText k rest (gap_of sep) is x) →

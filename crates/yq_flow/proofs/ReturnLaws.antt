@@ -7,8 +7,8 @@ use Rattle.yq_scalar.specs.Quoted.{spell_lines}
 use Rattle.yq_scalar.specs.Text.{NoneIn, unless, front, is_white, is_feed, is_return}
 use Rattle.yq_scalar.proofs.Bools.{at_byte}
 use Rattle.yq_inline.specs.Alike.{EndsItem}
-use Rattle.yq_inline.specs.Nodes.{Key, bare, keyed, Node, empty, alias, scalar, coll, anchored, Items, none, item, key_text, sep_text, node_text, items_text, open_of, in_name, begins_content, begins_node, is_close, IsKey, IsLead, is_bare, IsNode, first_is}
-use Rattle.yq_inline.specs.Scalars.{IsScalar}
+use Rattle.yq_inline.specs.Nodes.{Key, bare, keyed, Node, empty, alias, scalar, coll, anchored, Items, none, item, key_text, sep_text, node_text, items_text, open_of, in_name, begins_content, begins_node, is_close, IsInlineKey, IsLead, is_bare, IsNode, first_is}
+use Rattle.yq_inline.specs.Scalars.{IsScalarAt}
 use Rattle.yq_flow.specs.Removals.{ends_return}
 use Rattle.yq_flow.proofs.ItemSwaps.{item_cut}
 use Rattle.yq_inline.proofs.EndLaws.{ends_node, stops_here, last_space, by_close}
@@ -60,7 +60,7 @@ quote_return : (q : ℕ) → (q ≡ 34) ⊎ (q ≡ 39) → is_return q ≡ false
 quote_return q (inl e) = rw e refl
 quote_return q (inr e) = rw e refl
 
-scalar_return : (k : ℕ) (p t : List ℕ) → is_close k ≡ true → EndsItem k t → IsScalar true (Some 0) p t → Whole p t
+scalar_return : (k : ℕ) (p t : List ℕ) → is_close k ≡ true → EndsItem k t → IsScalarAt true (Some 0) p t → Whole p t
 scalar_return k p t c e (inl h) = plain_return k p t c e h.inside
 scalar_return k p t c e (inr h) =
     let q = h.0.1.1 in
@@ -93,7 +93,7 @@ node_return k (anchored n g node) d t c e h = elim (cases_Bool (is_bare node)) [
       subst (λ (b : Bool). (b && front is_feed t) ≡ false) (sym same) (node_return k node d t c e h.4))
 ]
 
-pub item_return : (k d : ℕ) (key : Key) (n : Node) (t : List ℕ) → is_close k ≡ true → EndsItem k t → IsKey k key (node_text n t) → IsNode true (Some 0) d n t → Whole (key_text key (node_text n [])) t
+pub item_return : (k d : ℕ) (key : Key) (n : Node) (t : List ℕ) → is_close k ≡ true → EndsItem k t → IsInlineKey k key (node_text n t) → IsNode true (Some 0) d n t → Whole (key_text key (node_text n [])) t
 item_return k d bare n t c e x h = node_return k n d t c e h
 item_return k d (keyed p b g) n t c e x h = elim (cases_Bool (is_bare n)) [
   | inl z ↦ (let nothing : g ≡ [] = lead_none (begins_node true) g t (ends_node k t c e) (subst (λ (l : List ℕ). IsLead true (begins_node true) g l) (bare_text n t z) x.4) in

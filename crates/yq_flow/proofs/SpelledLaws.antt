@@ -12,10 +12,10 @@ use Rattle.yq_scalar.specs.Text.{is_space}
 use Rattle.yq_scalar.specs.Tree as tree
 use Rattle.yq_scalar.specs.Writable.{can_write_plain, in_flow}
 use Rattle.yq_inline.specs.declared.gap.Before.TheVariants.{Token, White}
-use Rattle.yq_inline.specs.Gaps.{IsGap, stops}
+use Rattle.yq_inline.specs.Gaps.{IsInlineGap, stops}
 use Rattle.yq_inline.specs.Inline.{depth_limit}
-use Rattle.yq_inline.specs.Nodes.{key_text, sep_text, node_text, items_text, first_is, begins_content, is_bare, is_keyed, IsKey, IsSep, IsNode, AreItems}
-use Rattle.yq_inline.specs.Scalars.{is_quoted, begins_scalar, IsScalar}
+use Rattle.yq_inline.specs.Nodes.{key_text, sep_text, node_text, items_text, first_is, begins_content, is_bare, is_keyed, IsInlineKey, IsSep, IsNode, AreItems}
+use Rattle.yq_inline.specs.Scalars.{is_quoted, begins_scalar, IsScalarAt}
 use Rattle.yq_inline.specs.Trees.{inner, scalar_node, key_content, tree_of, items_tree}
 use Rattle.yq_flow.specs.Valued.{IsValid, IsLabel, IsValueTree, AreValueTrees, Spells}
 use Rattle.yq_inline.specs.Written.{scalar_text, flow_key, flow_sep, flow_of, flow_items, flow_text}
@@ -50,10 +50,10 @@ no_white_gap [] h = refl
 no_white_gap (b ∷ t) h = rw (no_gap (b ∷ t) h, front_not (begins_content true) 35 (λ bs. refl) (b ∷ t) h) refl
 
 -- a space before a content is a gap
-space_gap : (t : List ℕ) → begins_content true t ≡ true → IsGap (32 ∷ []) t
+space_gap : (t : List ℕ) → begins_content true t ≡ true → IsInlineGap (32 ∷ []) t
 space_gap t h = record { inside = (refl, tt); ends = no_white_gap t h; unmarked = refl }
 
-content_gap : (t : List ℕ) → begins_content true t ≡ true → IsGap [] t
+content_gap : (t : List ℕ) → begins_content true t ≡ true → IsInlineGap [] t
 content_gap t h = none_gap t (no_token_gap t (no_gap t h))
 
 scalar_content : (t : List ℕ) → begins_scalar true t ≡ true → begins_content true t ≡ true
@@ -75,7 +75,7 @@ string_valid k u = record { kind = tt; utf8 = u }
 
 -- what the labels of items or entries with this closing bracket give
 pub record Fits (k : ℕ) (keyed : Bool) : Type 0 where
-  pub key : (label : tree.Label) → IsLabel keyed label → (t : List ℕ) → begins_content true t ≡ true → IsKey k (flow_key label.key) t × (begins_content true (key_text (flow_key label.key) t) ≡ true)
+  pub key : (label : tree.Label) → IsLabel keyed label → (t : List ℕ) → begins_content true t ≡ true → IsInlineKey k (flow_key label.key) t × (begins_content true (key_text (flow_key label.key) t) ≡ true)
   pub same : (label : tree.Label) → IsLabel keyed label → inner (key_content (flow_key label.key)) ≡ label
   pub ends : (l : List ℕ) → ends_plain true (Some 0) (k ∷ l) ≡ true
   pub apart : (l : List ℕ) → is_space (k ∷ l) ≡ false
@@ -88,11 +88,11 @@ items_fit = record {
   apart = λ l. refl;
 }
 
-entry_key : (k : List ℕ) → IsUtf8 k → (t : List ℕ) → begins_content true t ≡ true → IsKey 125 (flow_key (Some k)) t × (begins_content true (key_text (flow_key (Some k)) t) ≡ true)
+entry_key : (k : List ℕ) → IsUtf8 k → (t : List ℕ) → begins_content true t ≡ true → IsInlineKey 125 (flow_key (Some k)) t × (begins_content true (key_text (flow_key (Some k)) t) ≡ true)
 entry_key k u t h =
     let w = flow_key_text (string_of k) (string_valid k u) in
     let p : List ℕ = scalar_text (string_of k) places.FlowKey in
-    let is : IsScalar true None p (58 ∷ 32 ∷ t) = w.piece true None (58 ∷ 32 ∷ t) refl in
+    let is : IsScalarAt true None p (58 ∷ 32 ∷ t) = w.piece true None (58 ∷ 32 ∷ t) refl in
     ((refl, is, none_gap (58 ∷ 32 ∷ t) refl, or_right (is_quoted p) true refl, inl (space_gap t h, or_right (first_is 38 t) (begins_content true t) h)), scalar_content (p ++ 58 ∷ 32 ∷ t) (scalar_begins true None p (58 ∷ 32 ∷ t) is))
 
 entry_same : (k : List ℕ) → IsUtf8 k → inner (key_content (flow_key (Some k))) ≡ inner (Some k)
@@ -134,7 +134,7 @@ unfolding items_text flow_items
 items_begin k keyed fits label n cs rest h =
     (fits.key label h.0 (node_text (flow_of n) (sep_text (flow_sep cs) (items_text k (flow_items cs) rest))) (node_begins n (sep_text (flow_sep cs) (items_text k (flow_items cs) rest)) h.1 (sep_ends k keyed fits cs rest))).1
 
-items_gap : (k : ℕ) (keyed : Bool) → Fits k keyed → (cs : tree.Children) (rest : List ℕ) → AreValueTrees keyed cs → IsGap [] (items_text k (flow_items cs) rest)
+items_gap : (k : ℕ) (keyed : Bool) → Fits k keyed → (cs : tree.Children) (rest : List ℕ) → AreValueTrees keyed cs → IsInlineGap [] (items_text k (flow_items cs) rest)
 unfolding items_text flow_items
 items_gap k keyed fits tree.none rest h = none_gap (k ∷ rest) (no_token_gap (k ∷ rest) (fits.apart rest))
 items_gap k keyed fits (tree.child label n cs) rest h = content_gap _ (items_begin k keyed fits label n cs rest h)

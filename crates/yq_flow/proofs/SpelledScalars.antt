@@ -19,7 +19,7 @@ use Rattle.yq_scalar.proofs.PlainSpells.{plain_line, plain_opens, writable_text,
 use Rattle.yq_scalar.proofs.PlainWritten.{plain_text_parts}
 use Rattle.yq_scalar.proofs.WrittenLaws.{double_spells}
 use Rattle.yq_scalar.proofs.WrittenText.{line_holds, double_is_line}
-use Rattle.yq_inline.specs.Scalars.{is_quoted, has_its_lines, IsScalar, content_of, scalar_of}
+use Rattle.yq_inline.specs.Scalars.{is_quoted, has_its_lines, IsScalarAt, content_of, scalar_of}
 use Rattle.yq_flow.specs.Valued.{IsValid}
 
 -- the content of one line is the line
@@ -106,7 +106,7 @@ quoted_string s h = ap (λ (k : Kind). record { kind = k; text = s.text }) (sym 
 pub record IsWritten (s : ScalarText) (p : List ℕ) : Type 0 where
   pub scalar : scalar_of p ≡ s
   pub content : content_of p ≡ s.text
-  pub piece : (flow : Bool) (spaces : Option ℕ) (rest : List ℕ) → ends_plain flow spaces rest ≡ true → IsScalar flow spaces p rest
+  pub piece : (flow : Bool) (spaces : Option ℕ) (rest : List ℕ) → ends_plain flow spaces rest ≡ true → IsScalarAt flow spaces p rest
 
 pub written_by : (s : ScalarText) (plain : Bool) → can_write_plain s true ≡ plain → IsValid s → IsWritten s (written (cond plain styles.Plain styles.Double) s.text)
 unfolding scalar_of content_of

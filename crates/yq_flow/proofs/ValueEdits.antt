@@ -8,8 +8,8 @@ use Rattle.yq_scalar.specs.Scalar.{ScalarText}
 use Rattle.yq_scalar.specs.Writable.{can_write}
 use Rattle.yq_scalar.specs.Written.{written}
 use Rattle.yq_inline.specs.Alike.{EndsItem}
-use Rattle.yq_inline.specs.Gaps.{IsGap}
-use Rattle.yq_flow.specs.FlowEdits.{put_value, behind_last, replacing, appending, IsEdited, FlowEdit, behind_appended}
+use Rattle.yq_inline.specs.Gaps.{IsInlineGap}
+use Rattle.yq_flow.specs.FlowEdits.{put_value, behind_last, replacing, appending, IsFlowEdited, FlowEdit, behind_appended}
 use Rattle.yq_inline.specs.Entries.{EntryPieces}
 use Rattle.yq_inline.specs.Nodes.{Node, scalar, Items, none, item, items_text, AreItems}
 use Rattle.yq_inline.specs.Trees.{inner, scalar_node, key_content, tree_of}
@@ -30,7 +30,7 @@ change_last [] s f = refl
 change_last (r ∷ ss) s f = ap (λ (g : tree.Node → tree.Node). λ n. within (change_child r g) n) (change_last ss s f)
 
 -- an edit that leads to the same tree in other words
-edited_same : (x : CollAt) (e : FlowEdit) (f g : tree.Node → tree.Node) → f ≡ g → IsEdited x e f → IsEdited x e g
+edited_same : (x : CollAt) (e : FlowEdit) (f g : tree.Node → tree.Node) → f ≡ g → IsFlowEdited x e f → IsFlowEdited x e g
 edited_same x e f g same h = record { inline = h.inline; text = h.text; tree = h.tree ∙ ap (λ (k : tree.Node → tree.Node). k (tree_of x.node)) same }
 
 -- a node that stands for a tree, in the place of another one
@@ -38,7 +38,7 @@ put_same : (x : CollAt) (s : Step) (m : Node) (v : tree.Node) → tree_of m ≡ 
 put_same x s m v e = ap (λ (w : tree.Node). change x.steps (within (change_child s (put_value w)))) e ∙ change_last x.steps s (put_value v)
 
 -- a value in the place of a node
-pub value_replaced : (x : CollAt) (s : Step) (y : EntryPieces) (v : tree.Node) → IsCollAt x → item_in s x ≡ Some y → IsValueTree v → depth v ≤ room_in x → IsEdited x (replacing s y (flow_of v) x.coll) (change (x.steps ++ (s ∷ [])) (put_value v))
+pub value_replaced : (x : CollAt) (s : Step) (y : EntryPieces) (v : tree.Node) → IsCollAt x → item_in s x ≡ Some y → IsValueTree v → depth v ≤ room_in x → IsFlowEdited x (replacing s y (flow_of v) x.coll) (change (x.steps ++ (s ∷ [])) (put_value v))
 value_replaced x s y v h found is deep =
     let c = x.coll in
     let i = around_is x h in
@@ -46,8 +46,8 @@ value_replaced x s y v h found is deep =
     edited_same x (replacing s y (flow_of v) x.coll) _ _ (put_same x s (flow_of v) v (written_tree v is)) (replaced x s y (flow_of v) h found fits)
 
 -- a scalar in the place of a node, in a style that can write it
-pub scalar_replaced : (x : CollAt) (s : Step) (y : EntryPieces) (v : ScalarText) (style : Style) → IsCollAt x → item_in s x ≡ Some y → IsValid v → scalars.IsInline style → can_write v style places.Flow ≡ true →
-    IsEdited x (replacing s y (scalar (written style v.text)) x.coll) (change (x.steps ++ (s ∷ [])) (put_value (scalar_node v)))
+pub scalar_replaced : (x : CollAt) (s : Step) (y : EntryPieces) (v : ScalarText) (style : Style) → IsCollAt x → item_in s x ≡ Some y → IsValid v → scalars.IsOneLine style → can_write v style places.Flow ≡ true →
+    IsFlowEdited x (replacing s y (scalar (written style v.text)) x.coll) (change (x.steps ++ (s ∷ [])) (put_value (scalar_node v)))
 scalar_replaced x s y v style h found is i can =
     let c = x.coll in
     let j = around_is x h in
@@ -56,7 +56,7 @@ scalar_replaced x s y v style h found is i can =
     edited_same x (replacing s y m x.coll) _ _ (put_same x s m (scalar_node v) (scalar_same v style is i can)) (replaced x s y m h found fits)
 
 -- what stands behind an appended item ends one
-last_ends : (d k : ℕ) (gap : List ℕ) (is : Items) (rest : List ℕ) → IsGap gap (items_text k is rest) → AreItems d k is rest → EndsItem k (behind_last k gap is rest)
+last_ends : (d k : ℕ) (gap : List ℕ) (is : Items) (rest : List ℕ) → IsInlineGap gap (items_text k is rest) → AreItems d k is rest → EndsItem k (behind_last k gap is rest)
 unfolding items_text
 last_ends d k gap none rest h a = record { gap = gap; close = k; rest = rest; spelled = refl; is_gap = h; ends = or_right (eqb k 44) (eqb k k) (eq-eqb k k refl) }
 last_ends d k gap (item key n sep is) rest h a = let y = last_behind d k gap (item key n sep is) rest refl a in subst (EndsItem k) y.1 y.2.ends
@@ -65,7 +65,7 @@ pub appended_ends : (x : CollAt) → (i : Around x) → EndsItem x.coll.close (b
 appended_ends x i = last_ends i.inner_depth x.coll.close x.coll.gap x.coll.items x.coll.rest i.gap i.items
 
 -- a value as one more item or entry
-pub value_appended : (x : CollAt) (label : tree.Label) (v : tree.Node) → IsCollAt x → IsLabel (eqb x.coll.close 125) label → IsValueTree v → depth v ≤ room_in x → IsEdited x (appending (flow_key label.key) (flow_of v) x.coll) (change x.steps (within (append_child label v)))
+pub value_appended : (x : CollAt) (label : tree.Label) (v : tree.Node) → IsCollAt x → IsLabel (eqb x.coll.close 125) label → IsValueTree v → depth v ≤ room_in x → IsFlowEdited x (appending (flow_key label.key) (flow_of v) x.coll) (change x.steps (within (append_child label v)))
 value_appended x label v h is value deep =
     let i = around_is x h in
     let fits = item_fits x.coll.close (room_in x) label v (behind_appended x.coll) i.closes (appended_ends x i) is value deep in

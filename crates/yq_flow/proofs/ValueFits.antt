@@ -66,7 +66,7 @@ value_fits k e v rest c ends h deep = record {
 }
 
 -- a scalar in a style of one line
-pub scalar_fits : (k e : ℕ) (s : ScalarText) (style : Style) (rest : List ℕ) → is_close k ≡ true → EndsItem k rest → IsValid s → scalars.IsInline style → can_write s style places.Flow ≡ true → FitsNode e (scalar (written style s.text)) rest
+pub scalar_fits : (k e : ℕ) (s : ScalarText) (style : Style) (rest : List ℕ) → is_close k ≡ true → EndsItem k rest → IsValid s → scalars.IsOneLine style → can_write s style places.Flow ≡ true → FitsNode e (scalar (written style s.text)) rest
 unfolding IsNode node_text
 scalar_fits k e s styles.Plain rest c ends v i h = record {
   is = inl (writable_piece s true (Some 0) rest v.utf8 v.kind h (ends_plainly (Some 0) k rest c ends));
@@ -84,14 +84,14 @@ scalar_fits k e s styles.Double rest c ends v i h =
 scalar_fits k e s styles.Literal rest c ends v i h = absurd i
 scalar_fits k e s styles.Folded rest c ends v i h = absurd i
 
-pub scalar_block : (s : ScalarText) (style : Style) → scalars.IsInline style → can_write s style places.Flow ≡ true → can_write s style places.Block ≡ true
+pub scalar_block : (s : ScalarText) (style : Style) → scalars.IsOneLine style → can_write s style places.Flow ≡ true → can_write s style places.Block ≡ true
 scalar_block s styles.Plain i h = plain_anywhere s false h
 scalar_block s styles.Single i h = h
 scalar_block s styles.Double i h = h
 scalar_block s styles.Literal i h = absurd i
 scalar_block s styles.Folded i h = absurd i
 
-pub scalar_same : (s : ScalarText) (style : Style) → IsValid s → scalars.IsInline style → can_write s style places.Flow ≡ true → tree_of (scalar (written style s.text)) ≡ scalar_node s
+pub scalar_same : (s : ScalarText) (style : Style) → IsValid s → scalars.IsOneLine style → can_write s style places.Flow ≡ true → tree_of (scalar (written style s.text)) ≡ scalar_node s
 unfolding tree_of
 scalar_same s style v i h = ap scalar_node (styled_spells s style v i (scalar_block s style i h)).same
 

@@ -18,9 +18,9 @@ list_valid v h = subst IsValueTree (sym (node_list v)) (refl, h)
 
 pub map_valid : (v : Vec Entry Global) → AreValueTrees true (entries_of v.items) → IsValueTree (node_of (values.Map v))
 map_valid v h =
-    let seen : Entry → String Global × tree.Node = λ e. (e.0, node_of e.1) in
+    let as_pair : Entry → String Global × tree.Node = λ e. (e.0, node_of e.1) in
     let pair : String Global × tree.Node → List ℕ × tree.Node = λ e. (string_bytes e.0, e.1) in
-    let fields : map pair (map seen v.items) ≡ map field_of v.items = map_twice seen pair v.items in
+    let fields : map pair (map as_pair v.items) ≡ map field_of v.items = map_twice as_pair pair v.items in
     subst IsValueTree (sym (node_map v)) (refl, rw fields h)
 
 pub if_ok : {A E P : Type 0} (r : Result A E) → P → IfOk r (λ x. P)

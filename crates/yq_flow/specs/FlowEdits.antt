@@ -6,7 +6,7 @@ use Rattle.yq_scalar.specs.Tree as tree
 use Rattle.yq_inline.specs.Collections.{CollPieces, CollAt, put_at}
 use Rattle.yq_inline.specs.Entries.{EntryPieces}
 use Rattle.yq_inline.specs.Inline.{IsInline}
-use Rattle.yq_inline.specs.Nodes.{Key, bare, keyed, last, comma, Node, empty, alias, scalar, coll, anchored, Items, none, item, key_text, sep_text, node_text, is_bare, takes_anchor, is_keyed, IsKey, IsNode}
+use Rattle.yq_inline.specs.Nodes.{Key, bare, keyed, last, comma, Node, empty, alias, scalar, coll, anchored, Items, none, item, key_text, sep_text, node_text, is_bare, takes_anchor, is_keyed, IsInlineKey, IsNode}
 use Rattle.yq_inline.specs.Trees.{inner, named, key_content, tree_of}
 
 -- In a text the bytes `old` give way to `new`; behind them stands `behind` (own).
@@ -31,7 +31,7 @@ edited_node x e = put_at x.steps e.gap e.items x.node
 
 -- What the edit of a collection leads to: the edited node stands in the old one's place before the same rest, its text differs in the bytes of the
 -- edit alone, and its tree is the changed one (own).
-pub record IsEdited (x : CollAt) (e : FlowEdit) (changed : tree.Node → tree.Node) : Type 0 where
+pub record IsFlowEdited (x : CollAt) (e : FlowEdit) (changed : tree.Node → tree.Node) : Type 0 where
   pub inline : IsInline x.place x.indent x.around (edited_node x e) x.rest
   pub text : Becomes (node_text x.node x.rest) (node_text (edited_node x e) x.rest) e.old (e.lead ++ e.written) e.behind
   pub tree : tree_of (edited_node x e) ≡ changed (tree_of x.node)
@@ -119,7 +119,7 @@ behind_last k gap (item j n sep (item j2 n2 sep2 is)) rest = behind_last k gap (
 
 -- an item or entry that may stand before a rest (YAML 1.2.2, section 7.4)
 pub record FitsItem (d k : ℕ) (key : Key) (m : Node) (rest : List ℕ) : Type 0 where
-  pub key_is : IsKey k key (node_text m rest)
+  pub key_is : IsInlineKey k key (node_text m rest)
   pub some : (is_keyed key || not (is_bare m)) ≡ true
   pub is : IsNode true (Some 0) d m rest
 

@@ -52,4 +52,4 @@ pub record SpellsScalar (s : ScalarText) (p : List ℕ) : Type 0 where
   pub utf8 : IsUtf8 p
   pub text : is_text p ≡ true
   pub line : holds_break p ≡ false
-  pub stands : (spaces : Option ℕ) (rest : List ℕ) → ends_plain false spaces rest ≡ true → scalars.IsScalar false spaces p rest
+  pub stands : (spaces : Option ℕ) (rest : List ℕ) → ends_plain false spaces rest ≡ true → scalars.IsScalarAt false spaces p rest

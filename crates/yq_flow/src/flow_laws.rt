@@ -11,7 +11,7 @@ ghost use Rattle.yq_scalar.specs.declared.style.Place.TheVariants.{Flow, Block};
 ghost use Rattle.yq_scalar.specs.declared.style.Style.{Style};
 ghost use Rattle.yq_inline.specs.Collections.{CollAt, IsCollAt, item_in, room_in};
 ghost use Rattle.yq_inline.specs.Entries.{EntryPieces};
-ghost use Rattle.yq_flow.specs.FlowEdits.{FitsItem, FitsNode, FlowEdit, IsEdited, appending, behind_appended, put_value, replacing};
+ghost use Rattle.yq_flow.specs.FlowEdits.{FitsItem, FitsNode, FlowEdit, IsFlowEdited, appending, behind_appended, put_value, replacing};
 ghost use Rattle.yq_inline.specs.Nodes.{Key, Node, node_text, scalar};
 ghost use Rattle.yq_flow.specs.Removals.{removing};
 ghost use Rattle.yq_inline.specs.Trees.{inner, key_content, scalar_node, tree_of};
@@ -25,17 +25,17 @@ pub fn replaced_in_flow()
     // To any node that may be put there.
     ensures node { (x : CollAt) (s : Step) (y : EntryPieces) (m : Node) → IsCollAt x →
         item_in s x ≡ Some y → FitsNode (room_in x) m y.rest →
-        IsEdited x (replacing s y m x.coll)
+        IsFlowEdited x (replacing s y m x.coll)
         (change x.steps (within (change_child s (put_value (tree_of m))))) }
     // To a value, as it is written in flow style.
     ensures value { (x : CollAt) (s : Step) (y : EntryPieces) (v : tree.Node) → IsCollAt x →
         item_in s x ≡ Some y → IsValueTree v → depth v ≤ room_in x →
-        IsEdited x (replacing s y (flow_of v) x.coll) (change (x.steps ++ (s ∷ [])) (put_value v)) }
+        IsFlowEdited x (replacing s y (flow_of v) x.coll) (change (x.steps ++ (s ∷ [])) (put_value v)) }
     // To a scalar, in a style that can write it there.
     ensures scalar { (x : CollAt) (s : Step) (y : EntryPieces) (v : ScalarText) (style : Style) →
-        IsCollAt x → item_in s x ≡ Some y → IsValid v → scalars.IsInline style →
+        IsCollAt x → item_in s x ≡ Some y → IsValid v → scalars.IsOneLine style →
         can_write v style Flow ≡ true →
-        IsEdited x (replacing s y (scalar (scalars.written style v.text)) x.coll)
+        IsFlowEdited x (replacing s y (scalar (scalars.written style v.text)) x.coll)
         (change (x.steps ++ (s ∷ [])) (put_value (scalar_node v))) }
 {}
 
@@ -45,12 +45,12 @@ pub fn appended_in_flow()
     // Any item or entry that may stand there.
     ensures item { (x : CollAt) (key : Key) (m : Node) → IsCollAt x →
         FitsItem (room_in x) x.coll.close key m (behind_appended x.coll) →
-        IsEdited x (appending key m x.coll)
+        IsFlowEdited x (appending key m x.coll)
         (change x.steps (within (append_child (inner (key_content key)) (tree_of m)))) }
     // A value, as it is written in flow style.
     ensures value { (x : CollAt) (label : tree.Label) (v : tree.Node) → IsCollAt x →
         IsLabel (x.coll.close == 125) label → IsValueTree v → depth v ≤ room_in x →
-        IsEdited x (appending (flow_key label.key) (flow_of v) x.coll)
+        IsFlowEdited x (appending (flow_key label.key) (flow_of v) x.coll)
         (change x.steps (within (append_child label v))) }
 {}
 
@@ -59,7 +59,7 @@ pub fn appended_in_flow()
 pub fn removed_in_flow()
     ensures { (x : CollAt) (s : Step) (e : FlowEdit) → IsCollAt x → removing s x.coll ≡ Some e →
         pairs_returns (node_text x.node x.rest) ≡ true →
-        IsEdited x e (change x.steps (within (remove_child s))) }
+        IsFlowEdited x e (change x.steps (within (remove_child s))) }
 {}
 
 /// What is written in flow style spells the tree that is written.
@@ -70,13 +70,13 @@ pub fn flow_spells()
 /// What is written for a scalar outside flow collections, in a style that can write it on one line,
 /// spells it.
 pub fn scalar_spells()
-    ensures { (s : ScalarText) (style : Style) → IsValid s → scalars.IsInline style →
+    ensures { (s : ScalarText) (style : Style) → IsValid s → scalars.IsOneLine style →
         can_write s style Block ≡ true → SpellsScalar s (scalars.written style s.text) }
 {}
 
 /// What is written for a scalar in a flow collection, in a style that can write it there, spells it
 /// there.
 pub fn scalar_spells_in_flow()
-    ensures { (s : ScalarText) (style : Style) → IsValid s → scalars.IsInline style →
+    ensures { (s : ScalarText) (style : Style) → IsValid s → scalars.IsOneLine style →
         can_write s style Flow ≡ true → SpellsInFlow s (scalars.written style s.text) }
 {}

@@ -13,7 +13,7 @@ use Rattle.yq_inline.specs.Places.{Placed, placed, sequence, mapping, Parts, loc
 use Rattle.yq_inline.specs.Written.{flow_key, flow_of, flow_text}
 use Rattle.yq_rows.specs.Rows.{Cut, cut_text}
 use Rattle.yq_places.specs.FlowNodes.{flow_collection}
-use Rattle.yq_places.specs.FlowTold.{behind_anchor, placed_collection}
+use Rattle.yq_places.specs.FlowViews.{behind_anchor, placed_collection}
 use Rattle.yq_places.specs.declared.places.flow_node.FlowHead.{FlowHead}
 use Rattle.yq_edits.specs.FlowParts.{flow_more, flow_segments, takes_key}
 use Rattle.yq_flow_edits.specs.EditPlaces.{content_takes, moved_on, placed_takes}
@@ -40,7 +40,7 @@ core_append (placed a b c e f) = refl
 
 module _ (c : Cut) (n : ℕ) (steps : List Step) (key : Option (List ℕ)) (v : Node) (x : FlowHead) (q : Placed) (f : CollFound c n steps x q) where
   abbrev own : CollPieces
-  own = f.told.at.coll
+  own = f.agrees.at.coll
 
   abbrev edit : CollPieces → FlowEdit
   edit = appending (flow_key key) (flow_of v)
@@ -49,7 +49,7 @@ module _ (c : Cut) (n : ℕ) (steps : List Step) (key : Option (List ℕ)) (v : 
   more_is b takes =
       let own_takes : placed_takes q key ≡ takes_key f.coll.close key =
       sym (core_takes q key)
-      ∙ (ap (λ (y : Placed). placed_takes y key) f.node ∙ (takes_is (length x.text.now) own key ∙ ap (λ (y : CollPieces). takes_key y.close key) (sym (whole_is (cut_text c) f.coll x f.told)))) in
+      ∙ (ap (λ (y : Placed). placed_takes y key) f.node ∙ (takes_is (length x.text.now) own key ∙ ap (λ (y : CollPieces). takes_key y.close key) (sym (whole_is (cut_text c) f.coll x f.agrees)))) in
       ap (λ (y : Option CollPieces). y >>= flow_more (cut_text c) key v) f.found ∙ ap (λ (k : Bool). cond k (Some (flow_segments (cut_text c) (edit f.coll))) None) (sym own_takes ∙ takes)
 
   pub more_apart : placed_takes q key ≡ false → (flow_collection n steps c >>= flow_more (cut_text c) key v) ≡ None
@@ -59,14 +59,14 @@ module _ (c : Cut) (n : ℕ) (steps : List Step) (key : Option (List ℕ)) (v : 
   place_is =
       sym (core_append q)
       ∙ (ap append_place f.node
-      ∙ subst (λ (l : List ℕ). append_place (placed_collection (length l) own) ≡ Some (place_edit (length l) (edit own))) (sym f.told.node_is) (append_found f.told.at f.told.stands (flow_key key) (flow_of v)))
+      ∙ subst (λ (l : List ℕ). append_place (placed_collection (length l) own) ≡ Some (place_edit (length l) (edit own))) (sym f.agrees.node_is) (append_found f.agrees.at f.agrees.stands (flow_key key) (flow_of v)))
 
   pub more_found : (whole : List ℕ) (p : PlacedEdit) → whole ≡ cut_text c → placed_takes q key ≡ true → Some p ≡ append_place q →
       EditFound (flow_collection n steps c >>= flow_more (cut_text c) key v) whole (moved_on x.before p) (key_text (flow_key key) (flow_text v))
   more_found whole p all takes is =
-      let same = ap edit (whole_is (cut_text c) f.coll x f.told) ∙ appending_more (flow_key key) (flow_of v) f.told.behind own in
+      let same = ap edit (whole_is (cut_text c) f.coll x f.agrees) ∙ appending_more (flow_key key) (flow_of v) f.agrees.behind own in
       let s = there c n steps key v f.coll f.read f.found in
       let w =
-      edit_found c n steps x q f (edit f.coll) (edit own) s.before whole p same (appended_within f.told.at f.told.stands (flow_key key) (flow_of v)) (bounds c n steps key v f.coll f.read f.found) s.text
+      edit_found c n steps x q f (edit f.coll) (edit own) s.before whole p same (appended_within f.agrees.at f.agrees.stands (flow_key key) (flow_of v)) (bounds c n steps key v f.coll f.read f.found) s.text
       (same_Some _ _ (is ∙ place_is)) all in
       record { lies = w.lies; is = more_is true takes ∙ w.is }

@@ -13,14 +13,14 @@ use Rattle.yq_flow.specs.FlowPlaces.{PlacedEdit, place_edit}
 use Rattle.yq_rows.specs.Rows.{Cut, cut_text}
 use Rattle.yq_documents.specs.Reading.{cut_of, read_at}
 use Rattle.yq_places.specs.FlowNodes.{flow_collection}
-use Rattle.yq_places.specs.FlowTold.{IsTold, TellsFlow, behind_anchor, collection_told, placed_collection}
+use Rattle.yq_places.specs.FlowViews.{IsHeadOf, FlowAgrees, behind_anchor, collection_view, placed_collection}
 use Rattle.yq_places.specs.Standings.{FlowPart, flow_part, flow_standing, last_step}
 use Rattle.yq_places.specs.declared.places.flow_node.FlowHead.{FlowHead}
 use Rattle.yq_script.specs.Script.{Segment, keep, put}
 use Rattle.yq_edits.specs.FlowParts.{flow_segments}
 use Rattle.yq_flow_edits.specs.EditPlaces.{LiesIn, edit_segments, moved_on}
 use Rattle.yq_flow_edits.proofs.CutLaws.{text_read, text_small}
-use Rattle.yq_flow_edits.proofs.FlowHeads.{in_text, item_whole, told_there}
+use Rattle.yq_flow_edits.proofs.FlowHeads.{in_text, item_whole, agrees_there}
 use Rattle.yq_flow_edits.proofs.FlowLonger.{edit_more, entry_more}
 use Rattle.yq_flow_edits.proofs.FlowStandings.{EntryAt}
 
@@ -29,17 +29,17 @@ use Rattle.yq_flow_edits.proofs.FlowStandings.{EntryAt}
 abbrev Last : Type 0
 Last = List Step × Step
 
-last_told : {A : Type 0} (f : A → Step) (x d : A) (xs : List A) → last_step (map f (x ∷ xs)) ≡ Some (map f (take (length xs) (x ∷ xs)), f (slice_index_or (x ∷ xs) (length xs) d))
-last_told f x d [] = refl
-last_told f x d (y ∷ xs) = ap (option_map {T = Last} {U = Last} (λ (z : Last). (f x ∷ z.0, z.1))) (last_told f y d xs)
+last_agrees : {A : Type 0} (f : A → Step) (x d : A) (xs : List A) → last_step (map f (x ∷ xs)) ≡ Some (map f (take (length xs) (x ∷ xs)), f (slice_index_or (x ∷ xs) (length xs) d))
+last_agrees f x d [] = refl
+last_agrees f x d (y ∷ xs) = ap (option_map {T = Last} {U = Last} (λ (z : Last). (f x ∷ z.0, z.1))) (last_agrees f y d xs)
 
 pub steps_last : {A : Type 0} (f : A → Step) (x : A) (xs : List A) → 1 ≤ length xs → x ≡ slice_index_or xs (length xs - 1) x → ◌≡◌ {A = Option Last} (Some (map f (take (length xs - 1) xs), f x)) (last_step (map f xs))
 steps_last f x [] some is = absurd (omega (arith, some))
 steps_last f x (y ∷ xs) some is =
     let less : length (y ∷ xs) - 1 ≡ length xs = omega arith in
     let at : x ≡ slice_index_or (y ∷ xs) (length xs) x = is ∙ ap (λ n. slice_index_or (y ∷ xs) n x) less in
-    let told : ◌≡◌ {A = Option Last} (Some (map f (take (length (y ∷ xs) - 1) (y ∷ xs)), f x)) (Some (map f (take (length xs) (y ∷ xs)), f (slice_index_or (y ∷ xs) (length xs) x))) = λ i. Some (map f (take (less i) (y ∷ xs)), f (at i)) in
-    told ∙ sym (last_told f y x xs)
+    let agrees : ◌≡◌ {A = Option Last} (Some (map f (take (length (y ∷ xs) - 1) (y ∷ xs)), f x)) (Some (map f (take (length xs) (y ∷ xs)), f (slice_index_or (y ∷ xs) (length xs) x))) = λ i. Some (map f (take (less i) (y ∷ xs)), f (at i)) in
+    agrees ∙ sym (last_agrees f y x xs)
 
 -- ---- the bytes of an edit
 
@@ -66,19 +66,19 @@ pub record CollFound (c : Cut) (n : ℕ) (steps : List Step) (x : FlowHead) (q :
   pub read : read_at (cut_text c) ≡ Some c
   pub coll : CollPieces
   pub found : flow_collection n steps c ≡ Some coll
-  pub told : IsTold (cut_text c) coll x
-  pub node : behind_anchor q ≡ placed_collection (length x.text.now) told.at.coll
+  pub agrees : IsHeadOf (cut_text c) coll x
+  pub node : behind_anchor q ≡ placed_collection (length x.text.now) agrees.at.coll
 
 -- by what it tells
-pub coll_found : (t : List ℕ) (n : ℕ) (steps : List Step) (o : Option FlowHead) (x : FlowHead) (q : Placed) → read_at t ≡ Some (cut_of t) → TellsFlow t (flow_collection n steps (cut_of t)) o → o ≡ Some x → Some (behind_anchor q) ≡ collection_told x →
+pub coll_found : (t : List ℕ) (n : ℕ) (steps : List Step) (o : Option FlowHead) (x : FlowHead) (q : Placed) → read_at t ≡ Some (cut_of t) → FlowAgrees t (flow_collection n steps (cut_of t)) o → o ≡ Some x → Some (behind_anchor q) ≡ collection_view x →
     CollFound (cut_of t) n steps x q
-coll_found t n steps o x q read told is node = go (cut_of t) read (subst (TellsFlow t (flow_collection n steps (cut_of t))) is told)
+coll_found t n steps o x q read agrees is node = go (cut_of t) read (subst (FlowAgrees t (flow_collection n steps (cut_of t))) is agrees)
   where
-    go : (c : Cut) → read_at t ≡ Some c → TellsFlow t (flow_collection n steps c) (Some x) → CollFound c n steps x q
-    go c read told =
+    go : (c : Cut) → read_at t ≡ Some c → FlowAgrees t (flow_collection n steps c) (Some x) → CollFound c n steps x q
+    go c read agrees =
         let same = sym (text_read t c read) in
-        let w = told_there (cut_text c) (flow_collection n steps c) x q (subst (λ (u : List ℕ). TellsFlow u (flow_collection n steps c) (Some x)) same told) node in
-        record { read = subst (λ (u : List ℕ). read_at u ≡ Some c) same read; coll = w.0; found = w.1; told = w.2; node = w.3 }
+        let w = agrees_there (cut_text c) (flow_collection n steps c) x q (subst (λ (u : List ℕ). FlowAgrees u (flow_collection n steps c) (Some x)) same agrees) node in
+        record { read = subst (λ (u : List ℕ). read_at u ≡ Some c) same read; coll = w.0; found = w.1; agrees = w.2; node = w.3 }
 
 -- the text of the cut that is read
 pub whole_text : (t whole : List ℕ) → read_at t ≡ Some (cut_of t) → whole ≡ t → whole ≡ cut_text (cut_of t)
@@ -100,14 +100,14 @@ module _ (c : Cut) (n : ℕ) (steps : List Step) (x : FlowHead) (q : Placed) (f 
   t = cut_text c
 
   -- An edit that the text has as the row alone has its own: its place,
-  pub edit_moved : (e own : FlowEdit) (p : PlacedEdit) → e ≡ edit_more f.told.behind own → length (own.old ++ own.behind) ≤ length (node_text f.told.at.node f.told.at.rest) → p ≡ place_edit (length x.text.now) own → moved_on x.before p ≡ place_edit (length t) e
-  edit_moved e own p same within is = ap (moved_on x.before) is ∙ sym (in_text t f.coll x f.told e own same within)
+  pub edit_moved : (e own : FlowEdit) (p : PlacedEdit) → e ≡ edit_more f.agrees.behind own → length (own.old ++ own.behind) ≤ length (node_text f.agrees.at.node f.agrees.at.rest) → p ≡ place_edit (length x.text.now) own → moved_on x.before p ≡ place_edit (length t) e
+  edit_moved e own p same within is = ap (moved_on x.before) is ∙ sym (in_text t f.coll x f.agrees e own same within)
 
   pub edit_lies : (e : FlowEdit) (p : PlacedEdit) → HasBounds (cut_text c) e → moved_on x.before p ≡ place_edit (length t) e → LiesIn t (moved_on x.before p)
   edit_lies e p bounds moved = subst (LiesIn t) (sym moved) (record { small = text_small t c f.read; order = edit_order t e; start = bounds.0; end = bounds.1 })
 
   -- and its segments.
-  pub edit_found : (e own : FlowEdit) (before whole : List ℕ) (p : PlacedEdit) → e ≡ edit_more f.told.behind own → length (own.old ++ own.behind) ≤ length (node_text f.told.at.node f.told.at.rest) →
+  pub edit_found : (e own : FlowEdit) (before whole : List ℕ) (p : PlacedEdit) → e ≡ edit_more f.agrees.behind own → length (own.old ++ own.behind) ≤ length (node_text f.agrees.at.node f.agrees.at.rest) →
       HasBounds (cut_text c) e → cut_text c ≡ before ++ (e.old ++ e.behind) → p ≡ place_edit (length x.text.now) own → whole ≡ cut_text c → EditFound (Some (flow_segments t e)) whole (moved_on x.before p) e.written
   edit_found e own before whole p same within bounds text is all =
       let moved = edit_moved e own p same within is in
@@ -124,13 +124,13 @@ part_in s w y = record { step = s; collection = w; part = y }
 -- The collection in which a path ends is found.
 module _ (c : Cut) (n : ℕ) (path init : List Step) (s : Step) (x : FlowHead) (q : Placed) (last : Some (init, s) ≡ last_step path) (f : CollFound c n init x q) where
   abbrev own : CollPieces
-  own = f.told.at.coll
+  own = f.agrees.at.coll
 
   -- what stands at the path, by the row alone
-  pub standing_is : flow_standing n c (last_step path) ≡ option_map (part_in s f.coll) (option_map (entry_more f.told.behind) (item_at own.close s own.items own.rest))
+  pub standing_is : flow_standing n c (last_step path) ≡ option_map (part_in s f.coll) (option_map (entry_more f.agrees.behind) (item_at own.close s own.items own.rest))
   standing_is =
       ap (flow_standing n c) (sym last)
-      ∙ (ap (λ (o : Option CollPieces). o >>= flow_part s) f.found ∙ ap (option_map (part_in s f.coll)) (item_whole (cut_text c) f.coll x f.told s))
+      ∙ (ap (λ (o : Option CollPieces). o >>= flow_part s) f.found ∙ ap (option_map (part_in s f.coll)) (item_whole (cut_text c) f.coll x f.agrees s))
 
   abbrev pub entry_found : (y : EntryPieces) → item_at own.close s own.items own.rest ≡ Some y → EntryAt c n path
   entry_found y at = record {
@@ -139,6 +139,6 @@ module _ (c : Cut) (n : ℕ) (path init : List Step) (s : Step) (x : FlowHead) (
     last = sym last;
     coll = f.coll;
     found = f.found;
-    item = entry_more f.told.behind y;
-    at = item_whole (cut_text c) f.coll x f.told s ∙ ap (option_map (entry_more f.told.behind)) at;
+    item = entry_more f.agrees.behind y;
+    at = item_whole (cut_text c) f.coll x f.agrees s ∙ ap (option_map (entry_more f.agrees.behind)) at;
   }

@@ -41,7 +41,7 @@ use Rattle.yq_edits.proofs.DoneLaws.{nth_map}
 use Rattle.yq_edits.proofs.FitLaws.{new_key, new_value, tree_unique}
 use Rattle.yq_flow_edits.proofs.FlowPieceLaws.{edit_pieces, nothing_piece}
 use Rattle.yq_flow_edits.proofs.FlowStandings as standing
-use Rattle.yq_flow_edits.proofs.FlowEditLaws.{before_is, flow_made, segments_old}
+use Rattle.yq_flow_edits.proofs.FlowEditLaws.{before_is, flow_carried, segments_old}
 use Rattle.yq_flow_edits.proofs.FlowWholeLaws.{StandsBefore, appended_stands}
 use Rattle.yq_edits.proofs.FlowWritten.{flow_fits, key_fits}
 use Rattle.yq_edits.proofs.ValueNodes.{comma_piece, flow_piece, key_piece}
@@ -107,7 +107,7 @@ module _ (c : Cut) (doc : ℕ) (steps : List Step) (key : Option (List ℕ)) (v 
       let room : depth v ≤ room_in x = omega (arith, standing.fewer c doc steps w read found, new.nested) in
       let p = standing.piece c doc steps w read found in
       let parts = edit_pieces (cut_text c) there.before e p there.text bounds.0 bounds.1 there.whole in
-      flow_made (append doc steps key v) c steps w at e (append_child (new_label key) v) read (record {
+      flow_carried (append doc steps key v) c steps w at e (append_child (new_label key) v) read (record {
         edited = value_appended x (new_label key) v stands (label_is w.close key u takes) h room;
         keys = flow_keys (cut_text c) c doc at.part steps at.line at.rest at.row w e.gap e.items (standing.old c doc steps w read found) at.at (add_fit (flow_key key) (flow_of v) w.gap w.items (key_fits key fits.2.0) (flow_fits v fits.2.1.1));
         sound = append_keeps steps (root_of at.part) fits.2.2.0 v (new_label key) old node new (key_new key fits.2.2.0 fits.2.2.2);

@@ -5,7 +5,7 @@ use Rattle.yq_scalar.specs.Characters.{text_limit}
 use Rattle.yq_scalar.specs.Paths.{Step, change, within}
 use Rattle.yq_scalar.specs.Tree.{Children}
 use Rattle.yq_inline.specs.Collections.{CollPieces}
-use Rattle.yq_flow.specs.FlowEdits.{FlowEdit, IsEdited, edited_node}
+use Rattle.yq_flow.specs.FlowEdits.{FlowEdit, IsFlowEdited, edited_node}
 use Rattle.yq_inline.specs.Nodes.{Node}
 use Rattle.yq_inline.specs.Nodes.{node_text}
 use Rattle.yq_rows.specs.Exchange.{row_front, with_content}
@@ -45,8 +45,8 @@ abbrev pub edited_at : (c : Cut) (k : ℕ) (steps : List Step) (w : CollPieces) 
 edited_at c k steps w at e = edited_node (coll_at c k at.part at.row at.rest w) e
 
 -- An edit of the flow collection at a path makes of a document what an operation does.
-pub record FlowMade (op : Operation) (c : Cut) (steps : List Step) (w : CollPieces) (at : FlowAt c (document_of op) steps w) (e : FlowEdit) (h : Children → Children) : Type 0 where
-  pub edited : IsEdited (coll_at c (document_of op) at.part at.row at.rest w) e (change at.rest (within h))
+pub record FlowCarried (op : Operation) (c : Cut) (steps : List Step) (w : CollPieces) (at : FlowAt c (document_of op) steps w) (e : FlowEdit) (h : Children → Children) : Type 0 where
+  pub edited : IsFlowEdited (coll_at c (document_of op) at.part at.row at.rest w) e (change at.rest (within h))
   pub keys : HasFitKeys (edited_at c (document_of op) steps w at e)
   pub sound : IsSoundRoot (change steps (within h) (root_of at.part))
   pub root : change steps (within h) (root_of at.part) ≡ root_after (is_block_root at.part) (lead_of at.part) op (root_of at.part)
@@ -66,7 +66,7 @@ pub record FlowTexts (c new : Cut) (e : FlowEdit) (node : List ℕ) : Type 0 whe
   pub is : cut_text new ≡ before ++ ((e.lead ++ e.written) ++ e.behind)
   pub inside : length (cut_text c) ≤ length before + length node
 
-pub flow_texts : (c : Cut) (k : ℕ) (steps : List Step) (w : CollPieces) (at : FlowAt c k steps w) (e : FlowEdit) (h : Children → Children) → IsEdited (coll_at c k at.part at.row at.rest w) e (change at.rest (within h)) →
+pub flow_texts : (c : Cut) (k : ℕ) (steps : List Step) (w : CollPieces) (at : FlowAt c k steps w) (e : FlowEdit) (h : Children → Children) → IsFlowEdited (coll_at c k at.part at.row at.rest w) e (change at.rest (within h)) →
     FlowTexts c (put_document k (with_node at.part at.row (edited_at c k steps w at e)) c) e (node_text at.row.node (behind_node c k at.part at.row))
 flow_texts c k steps w at e h edited =
     let s = row_texts c k at.part at.row at.there at.at.rows_are at.at.content_is in
@@ -121,17 +121,17 @@ flow_local c k steps w at e m t stays new =
       length-append (row_front i.row ++ i.space) (node_text i.node (behind_node c k p i)),
     )) (omega (arith, stays, ap length behind, length-append i.tail (rows_text i.back (p.end ++ behind_document k c))))
 
-pub flow_made : (op : Operation) (c : Cut) (steps : List Step) (w : CollPieces) (at : FlowAt c (document_of op) steps w) (e : FlowEdit) (h : Children → Children) → read_at (cut_text c) ≡ Some c → FlowMade op c steps w at e h →
+pub flow_carried : (op : Operation) (c : Cut) (steps : List Step) (w : CollPieces) (at : FlowAt c (document_of op) steps w) (e : FlowEdit) (h : Children → Children) → read_at (cut_text c) ≡ Some c → FlowCarried op c steps w at e h →
     length (new_text (flow_segments (cut_text c) e)) ≤ text_limit → CarriedOut op c (flow_segments (cut_text c) e)
-flow_made op c steps w at e h read made size =
+flow_carried op c steps w at e h read done size =
     let k : ℕ = document_of op in
     let p : Part = at.part in
     let q : Part = with_node p at.row (edited_at c k steps w at e) in
     let new : Cut = put_document k q c in
-    let texts = flow_texts c k steps w at e h made.edited in
+    let texts = flow_texts c k steps w at e h done.edited in
     let is : new_text (flow_segments (cut_text c) e) ≡ cut_text new = segments_new (cut_text c) (cut_text new) texts.before e texts.old texts.is in
-    let readable : IsReadable (cut_text new) = subst IsReadable is (segments_readable (flow_segments (cut_text c) e) made.pieces size) in
-    let changed = flow_edited (cut_text c) c k p steps at.line at.rest at.row w e h (record { read = read; there = at.there }) at.at made.edited made.keys made.sound readable in
+    let readable : IsReadable (cut_text new) = subst IsReadable is (segments_readable (flow_segments (cut_text c) e) done.pieces size) in
+    let changed = flow_edited (cut_text c) c k p steps at.line at.rest at.row w e h (record { read = read; there = at.there }) at.at done.edited done.keys done.sound readable in
     let kept = flow_rooms c k p steps at.line at.rest at.row w e.gap e.items at.at in
     record {
       reads = subst (ReadsAfter op c) (sym is) (document_done op c p q (lead_of p) (change steps (within h)) (record {
@@ -139,10 +139,10 @@ flow_made op c steps w at e h read made size =
         there = at.there;
         rows = λ none. absurd (false≢true (sym (front_some at.row.front _ _) ∙ none));
         changed = changed;
-        root = made.root;
+        root = done.root;
         lead_goes = same_lead_goes p q kept.2 kept.1;
         block = λ _. kept.1;
-        seats = λ _. kept.0;
+        equal_room = λ _. kept.0;
       }));
-      local = inl (cut_known (flow_segments (cut_text c) e) c new changed.read (sym is) (flow_local c k steps w at e (edited_at c k steps w at e) texts made.stays is));
+      local = inl (cut_known (flow_segments (cut_text c) e) c new changed.read (sym is) (flow_local c k steps w at e (edited_at c k steps w at e) texts done.stays is));
     }

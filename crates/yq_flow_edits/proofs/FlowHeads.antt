@@ -14,7 +14,7 @@ use Rattle.yq_flow.proofs.PlacedEdits.{append_placed, replace_placed}
 use Rattle.yq_flow.proofs.RemovePlaces.{remove_placed}
 use Rattle.yq_flow.proofs.RemoveTexts.{removed_text}
 use Rattle.yq_inline.proofs.PathLaws.{items_hold}
-use Rattle.yq_places.specs.FlowTold.{IsTold, TellsFlow, behind_anchor, collection_told, placed_collection}
+use Rattle.yq_places.specs.FlowViews.{IsHeadOf, FlowAgrees, behind_anchor, collection_view, placed_collection}
 use Rattle.yq_places.specs.declared.places.flow_node.FlowHead.{FlowHead}
 use Rattle.yq_flow_edits.specs.EditPlaces.{moved_on}
 use Rattle.yq_flow_edits.proofs.FlowLonger.{edit_more, entry_more, item_more, place_moved, with_more}
@@ -71,7 +71,7 @@ module _ (z : CollAt) (is : IsCollAt z) where
 -- ---- the collection in the text
 
 -- Its place in the text of an edit that has one in the row alone.
-module _ (t : List ℕ) (w : CollPieces) (x : FlowHead) (h : IsTold t w x) where
+module _ (t : List ℕ) (w : CollPieces) (x : FlowHead) (h : IsHeadOf t w x) where
   abbrev pub row : List ℕ
   row = x.text.now
 
@@ -81,8 +81,8 @@ module _ (t : List ℕ) (w : CollPieces) (x : FlowHead) (h : IsTold t w x) where
   pub whole_is : w ≡ with_more h.behind own
   whole_is = (λ i. record { close = w.close; gap = w.gap; items = w.items; rest = h.rest_is i }) ∙ ap (with_more h.behind) (sym h.coll_is)
 
-  told_is : collection_told x ≡ Some (placed_collection (length row) own)
-  told_is = h.found ∙ ap (λ v. Some (placed_collection (length row) v)) (sym h.coll_is)
+  agrees_is : collection_view x ≡ Some (placed_collection (length row) own)
+  agrees_is = h.found ∙ ap (λ v. Some (placed_collection (length row) v)) (sym h.coll_is)
 
   -- an edit in the text
   pub in_text : (e f : FlowEdit) → e ≡ edit_more h.behind f → length (f.old ++ f.behind) ≤ length (node_text h.at.node h.at.rest) → place_edit (length t) e ≡ moved_on x.before (place_edit (length row) f)
@@ -96,7 +96,7 @@ module _ (t : List ℕ) (w : CollPieces) (x : FlowHead) (h : IsTold t w x) where
   item_whole s = ap (λ (v : CollPieces). item_at v.close s v.items v.rest) whole_is ∙ item_more own.close s own.items own.rest h.behind
 
 -- what the code tells with a node is a collection of the text
-pub told_there : (t : List ℕ) (o : Option CollPieces) (x : FlowHead) (q : Placed) → TellsFlow t o (Some x) → Some (behind_anchor q) ≡ collection_told x →
-    (w : CollPieces) × (o ≡ Some w) × (h : IsTold t w x) × (behind_anchor q ≡ placed_collection (length x.text.now) h.at.coll)
-told_there t None x q told node = absurd (none-some _ (sym (node ∙ told)))
-told_there t (Some w) x q told node = (w, refl, told, same_Some _ _ (node ∙ told_is t w x told))
+pub agrees_there : (t : List ℕ) (o : Option CollPieces) (x : FlowHead) (q : Placed) → FlowAgrees t o (Some x) → Some (behind_anchor q) ≡ collection_view x →
+    (w : CollPieces) × (o ≡ Some w) × (h : IsHeadOf t w x) × (behind_anchor q ≡ placed_collection (length x.text.now) h.at.coll)
+agrees_there t None x q agrees node = absurd (none-some _ (sym (node ∙ agrees)))
+agrees_there t (Some w) x q agrees node = (w, refl, agrees, same_Some _ _ (node ∙ agrees_is t w x agrees))

@@ -14,18 +14,18 @@ use Rattle.yq_lines.specs.Outline as outlines
 -- ---- what a collection holds
 
 -- whether it is a mapping, and its items or entries
-abbrev pub Held : Type 0
-Held = Bool × Children
+abbrev pub FlowContent : Type 0
+FlowContent = Bool × Children
 
 -- what a node holds, if it is a collection
-abbrev pub held : tree.Node → Option Held
+abbrev pub held : tree.Node → Option FlowContent
 held (tree.alias n) = None
 held (tree.scalar a kind text) = None
 held (tree.list a cs) = Some (false, cs)
 held (tree.map a cs) = Some (true, cs)
 
 -- what a flow collection holds
-abbrev pub coll_held : CollPieces → Held
+abbrev pub coll_held : CollPieces → FlowContent
 coll_held w = (eqb w.close 125, items_tree w.items)
 
 -- an anchor changes nothing of it
@@ -44,7 +44,7 @@ held_named n (tree.map a cs) = refl
 held_coll : (k : ℕ) (cs : Children) → held (collection k cs) ≡ Some (eqb k 125, cs)
 held_coll k cs = elim (eqb k 125) as (λ b. held (cond b (tree.map None cs) (tree.list None cs)) ≡ Some (b, cs)) [ true ↦ refl | false ↦ refl ]
 
-abbrev kids : Option Held → Children
+abbrev kids : Option FlowContent → Children
 kids None = tree.none
 kids (Some x) = x.1
 
@@ -57,11 +57,11 @@ kids_held (tree.map a cs) = refl
 -- ---- a collection at a path
 
 -- Steps lead from a node to a collection that holds these.
-abbrev pub HeldAt : List Step → tree.Node → Held → Type 0
+abbrev pub HeldAt : List Step → tree.Node → FlowContent → Type 0
 HeldAt ss root x = (n : tree.Node) × (node_at ss root ≡ Some n) × (held n ≡ Some x)
 
 -- the same from another node that holds the same
-pub same_held : (ss : List Step) (a b : tree.Node) (x : Held) → held a ≡ held b → HeldAt ss a x → HeldAt ss b x
+pub same_held : (ss : List Step) (a b : tree.Node) (x : FlowContent) → held a ≡ held b → HeldAt ss a x → HeldAt ss b x
 same_held [] a b x same h = (b, refl, sym same ∙ (ap held (same_Some _ _ h.1) ∙ h.2))
 same_held (s ∷ ss) a b x same h =
     let cs : children_of b ≡ children_of a = kids_held b ∙ (ap kids (sym same) ∙ sym (kids_held a)) in
@@ -69,7 +69,7 @@ same_held (s ∷ ss) a b x same h =
 
 -- ---- in an inline node
 
-coll_here : (node : Node) (rest : List ℕ) (x : Held) → held (tree_of node) ≡ Some x → (w : CollPieces) × (coll_in node rest ≡ Some w) × (coll_held w ≡ x)
+coll_here : (node : Node) (rest : List ℕ) (x : FlowContent) → held (tree_of node) ≡ Some x → (w : CollPieces) × (coll_in node rest ≡ Some w) × (coll_held w ≡ x)
 unfolding tree_of
 coll_here empty rest x e = absurd (none-some _ e)
 coll_here (alias n) rest x e = absurd (none-some _ e)
@@ -99,11 +99,11 @@ inside_child s (coll k gap is) rest = item_child k s is rest ∙ ap (λ o. child
 inside_child s (anchored n gap node) rest = inside_child s node rest ∙ ap (λ o. child_at s (kids o)) (sym (held_named n (tree_of node)))
 
 -- Steps lead from a node before a rest to a flow collection that holds these.
-abbrev pub CollThere : List Step → Node → List ℕ → Held → Type 0
+abbrev pub CollThere : List Step → Node → List ℕ → FlowContent → Type 0
 CollThere ss node rest x = (w : CollPieces) × (coll_along ss node rest ≡ Some w) × (coll_held w ≡ x)
 
 -- Where steps lead to a collection in its tree they lead to one in the node.
-pub coll_there : (ss : List Step) (node : Node) (rest : List ℕ) (x : Held) → HeldAt ss (tree_of node) x → CollThere ss node rest x
+pub coll_there : (ss : List Step) (node : Node) (rest : List ℕ) (x : FlowContent) → HeldAt ss (tree_of node) x → CollThere ss node rest x
 coll_there [] node rest x h = coll_here node rest x (ap held (same_Some _ _ h.1) ∙ h.2)
 coll_there (s ∷ ss) node rest x h =
     let child : option_map entry_tree (inside s node rest) ≡ child_at s (children_of (tree_of node)) = inside_child s node rest ∙ ap (child_at s) (sym (kids_held (tree_of node))) in

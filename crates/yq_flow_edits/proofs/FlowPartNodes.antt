@@ -22,7 +22,7 @@ use Rattle.yq_rows.specs.Exchange.{behind_row}
 use Rattle.yq_rows.specs.Rows.{Content, Nothing, Inline, Block, Part, Cut, cut_text}
 use Rattle.yq_documents.specs.Documents.{Document, document_parts}
 use Rattle.yq_documents.specs.Reading.{document_of, outline_of, read_at}
-use Rattle.yq_documents.specs.Seats.{Seat, document_row, seat, seat_of}
+use Rattle.yq_documents.specs.LinesInRows.{RowLine, document_row, row_line, row_line_of}
 use Rattle.yq_walk.specs.Lines.{content_anchor, head_of}
 use Rattle.yq_places.specs.FlowNodes.{content_flow, find_head}
 use Rattle.yq_places.specs.NodesAt.{node_in}
@@ -83,16 +83,16 @@ record LineAt (c : Cut) (n : ℕ) (steps : List Step) (w : CollPieces) : Type 0 
   there : slice_get (document_parts c) n ≡ Some part
   line : Found × List Step
   found : find_head steps (outline_of part) ≡ Some line
-  seat_is : Seat
-  seated : seat (length (lines_before line.0.place)) part.rows ≡ Some seat_is
-  flow : content_flow line.1 seat_is.row.content (behind_row (document_row n c + seat_is.before) c) ≡ Some w
+  row_line_is : RowLine
+  printed_line : row_line (length (lines_before line.0.place)) part.rows ≡ Some row_line_is
+  flow : content_flow line.1 row_line_is.row.content (behind_row (document_row n c + row_line_is.before) c) ≡ Some w
 
 line_at : (c : Cut) (n : ℕ) (steps : List Step) (w : CollPieces) → Rattle.yq_places.specs.FlowNodes.flow_collection n steps c ≡ Some w → LineAt c n steps w
 line_at c n steps w e =
     let d = bind_some (slice_get (document_parts c) n) e in
     let x = bind_some (find_head steps (outline_of d.0)) d.2 in
-    let s = bind_some (seat (length (lines_before x.0.0.place)) d.0.rows) x.2 in
-    record { part = d.0; there = d.1; line = x.0; found = x.1; seat_is = s.0; seated = s.1; flow = s.2 }
+    let s = bind_some (row_line (length (lines_before x.0.0.place)) d.0.rows) x.2 in
+    record { part = d.0; there = d.1; line = x.0; found = x.1; row_line_is = s.0; printed_line = s.1; flow = s.2 }
 
 -- the node at a path is the one that its line stands for
 node_found : (steps : List Step) (s : Step) (o : Outline) → node_at (steps ++ (s ∷ [])) (value o) ≡ FoundNode (found_at (steps ++ (s ∷ [])) o)
@@ -108,30 +108,30 @@ line_node c n steps s w h read =
     let r = head_row m h.part steps f h.line.1 known.even h.found in
     let even : IsEven (level f.line) (row f.line f.under f.after) = (allows_from m f.place f.line f.under f.after (subst (IsEven m) (sym (head_whole m o steps f h.line.1 known.even h.found)) known.even)).1 in
     let head = head_there f (head_takes m o steps f h.line.1 known.even h.found) even.2 in
-    let same : r.seat_is ≡ h.seat_is = same_Some _ _ (sym r.there ∙ h.seated) in
-    let flow : content_flow h.line.1 r.seat_is.row.content (behind_row (document_row n c + h.seat_is.before) c) ≡ Some w = ap (λ (z : Seat). content_flow h.line.1 z.row.content (behind_row (document_row n c + h.seat_is.before) c)) same ∙ h.flow in
+    let same : r.row_line_is ≡ h.row_line_is = same_Some _ _ (sym r.there ∙ h.printed_line) in
+    let flow : content_flow h.line.1 r.row_line_is.row.content (behind_row (document_row n c + h.row_line_is.before) c) ≡ Some w = ap (λ (z : RowLine). content_flow h.line.1 z.row.content (behind_row (document_row n c + h.row_line_is.before) c)) same ∙ h.flow in
     node_found steps s o
     ∙ (ap FoundNode (head_on steps s o h.line h.found)
     ∙ ((λ i. node_at (h.line.1 ++ (s ∷ [])) (anchored (sym r.anchor i) (head_or (head.1 i) (value f.under))))
-    ∙ content_node r.seat_is.row.content head.0 h.line.1 s _ w (r.head ∙ head.1) flow))
+    ∙ content_node r.row_line_is.row.content head.0 h.line.1 s _ w (r.head ∙ head.1) flow))
 
 -- ---- nothing outside flow collections
 
-none_seat : (path : List Step) (s : Step) (p : Part) (y : Found × List Step) → found_at path (outline_of p) ≡ Some (y.0, y.1 ++ (s ∷ [])) → seat_of path p.rows ≡ None
+none_seat : (path : List Step) (s : Step) (p : Part) (y : Found × List Step) → found_at path (outline_of p) ≡ Some (y.0, y.1 ++ (s ∷ [])) → row_line_of path p.rows ≡ None
 none_seat [] s p y e = refl
-none_seat (t ∷ ts) s p y e = ap (λ (o : Option (Found × List Step)). option_and_then (λ x. found_line x.0 x.1) o >>= λ n. seat n p.rows) e ∙ go y.1
+none_seat (t ∷ ts) s p y e = ap (λ (o : Option (Found × List Step)). option_and_then (λ x. found_line x.0 x.1) o >>= λ n. row_line n p.rows) e ∙ go y.1
   where
-    go : (ss : List Step) → (found_line y.0 (ss ++ (s ∷ [])) >>= λ n. seat n p.rows) ≡ None
+    go : (ss : List Step) → (found_line y.0 (ss ++ (s ∷ [])) >>= λ n. row_line n p.rows) ≡ None
     go [] = refl
     go (u ∷ ss) = refl
 
-none_standing : (n : ℕ) (path : List Step) (c : Cut) (x : List Step × Step) → last_step path ≡ Some x → ((d : PlacedPart) → placed_document n c ≡ Some d → seat_of path d.part.rows ≡ None) → standing_at n path c ≡ None
+none_standing : (n : ℕ) (path : List Step) (c : Cut) (x : List Step × Step) → last_step path ≡ Some x → ((d : PlacedPart) → placed_document n c ≡ Some d → row_line_of path d.part.rows ≡ None) → standing_at n path c ≡ None
 none_standing n [] c x last h = absurd (none-some _ last)
 none_standing n (t ∷ ts) c x last h = go (placed_document n c) h
   where
-    go : (o : Option PlacedPart) → ((d : PlacedPart) → o ≡ Some d → seat_of (t ∷ ts) d.part.rows ≡ None) → option_map entry_standing (o >>= λ d. option_map (entry_at d) (seat_of (t ∷ ts) d.part.rows)) ≡ None
+    go : (o : Option PlacedPart) → ((d : PlacedPart) → o ≡ Some d → row_line_of (t ∷ ts) d.part.rows ≡ None) → option_map entry_standing (o >>= λ d. option_map (entry_at d) (row_line_of (t ∷ ts) d.part.rows)) ≡ None
     go None h = refl
-    go (Some d) h = ap (λ (s : Option Seat). option_map entry_standing (option_map (entry_at d) s)) (h d refl)
+    go (Some d) h = ap (λ (s : Option RowLine). option_map entry_standing (option_map (entry_at d) s)) (h d refl)
 
 -- ---- at a path
 

@@ -11,7 +11,7 @@ use Rattle.yq_scalar.specs.Tree as tree
 use Rattle.yq_scalar.specs.declared.style.Place.TheVariants.{Flow}
 use Rattle.yq_inline.specs.Collections.{CollAt, IsCollAt, item_in, room_in}
 use Rattle.yq_inline.specs.Entries.{EntryPieces}
-use Rattle.yq_flow.specs.FlowEdits.{FlowEdit, IsEdited, anchor_in, content_node, put_content, put_item, put_value, replacing, space_for, spaced_key}
+use Rattle.yq_flow.specs.FlowEdits.{FlowEdit, IsFlowEdited, anchor_in, content_node, put_content, put_item, put_value, replacing, space_for, spaced_key}
 use Rattle.yq_inline.specs.Nodes as inline
 use Rattle.yq_inline.specs.Nodes.{Key, bare, keyed, Items, none, item, is_bare, node_text}
 use Rattle.yq_inline.specs.Places.{locate}
@@ -52,8 +52,8 @@ use Rattle.yq_edits.proofs.FitLaws.{FitsReplace, fits_replace}
 use Rattle.yq_flow_edits.proofs.FlowPieceLaws.{edit_pieces, nothing_piece, one_space}
 use Rattle.yq_flow_edits.proofs.FlowSoundLaws.{last_is}
 use Rattle.yq_flow_edits.proofs.FlowStandings as standing
-use Rattle.yq_flow_edits.proofs.FlowStandings.{EntryAt, entry_made, entry_placed}
-use Rattle.yq_flow_edits.proofs.FlowEditLaws.{before_is, flow_made, segments_old}
+use Rattle.yq_flow_edits.proofs.FlowStandings.{EntryAt, entry_found, entry_placed}
+use Rattle.yq_flow_edits.proofs.FlowEditLaws.{before_is, flow_carried, segments_old}
 use Rattle.yq_flow_edits.proofs.FlowWholeLaws.{StandsBefore, replaced_stands}
 use Rattle.yq_edits.proofs.FlowWritten.{flow_fits}
 use Rattle.yq_edits.proofs.KeptLaws.{led_same}
@@ -67,13 +67,13 @@ abbrev style_there : List ℕ → ScalarText → Rattle.yq_scalar.specs.declared
 style_there old s = style_in Flow s (style_of old)
 
 value_edited : (x : CollAt) (s : Step) (y : EntryPieces) (old : List ℕ) (v : tree.Node) → IsCollAt x → item_in s x ≡ Some y → IsValueTree v → depth v ≤ room_in x →
-    IsEdited x (replacing s y (flow_value old v) x.coll) (change (x.steps ++ (s ∷ [])) (put_value v))
+    IsFlowEdited x (replacing s y (flow_value old v) x.coll) (change (x.steps ++ (s ∷ [])) (put_value v))
 value_edited x s y old (tree.alias name) h at v deep = absurd v
 value_edited x s y old (tree.scalar a kind t) h at v deep =
     let z : ScalarText = record { kind = kind; text = t } in
     let e = replacing s y (flow_value old (tree.scalar a kind t)) x.coll in
     let named : scalar_node z ≡ tree.scalar a kind t = ap (λ (b : Option (List ℕ)). tree.scalar b kind t) (sym v.0) in
-    subst (λ (n : tree.Node). IsEdited x e (change (x.steps ++ (s ∷ [])) (put_value n))) named
+    subst (λ (n : tree.Node). IsFlowEdited x e (change (x.steps ++ (s ∷ [])) (put_value n))) named
     (scalar_replaced x s y z (style_there old z) h at v.1 (style_inline Flow z (style_of old) (style_line old)) (style_writes Flow z (style_of old)))
 value_edited x s y old (tree.list a cs) h at v deep = value_replaced x s y (tree.list a cs) h at v deep
 value_edited x s y old (tree.map a cs) h at v deep = value_replaced x s y (tree.map a cs) h at v deep
@@ -170,34 +170,34 @@ module _ (c : Cut) (doc : ℕ) (path : List Step) (v : tree.Node) (read : read_a
 
   -- a value of which the operation fits
   module _ (h : IsValueTree v) (fits : Fits (room_of (cut_text c)) (replace doc path v) (documents c)) where
-    given : FitsReplace doc path v c at.part
-    given = fits_replace doc path v c at.part at.there h fits
+    fitting : FitsReplace doc path v c at.part
+    fitting = fits_replace doc path v c at.part at.there h fits
 
     room : depth v ≤ room_in x
     room =
         let size : length path ≡ length a.init + 1 = ap length (last_is path a.init a.step a.last) ∙ length-append a.init (a.step ∷ []) in
-        omega (arith, standing.fewer c doc a.init a.coll read a.found, given.may.value_is.nested, size)
+        omega (arith, standing.fewer c doc a.init a.coll read a.found, fitting.may.value_is.nested, size)
 
-    edited : IsEdited x e (change at.rest (within (change_child a.step (replaced v))))
+    edited : IsFlowEdited x e (change at.rest (within (change_child a.step (replaced v))))
     edited =
         let same : change (at.rest ++ (a.step ∷ [])) (put_value v) ≡ change at.rest (within (change_child a.step (replaced v))) =
         ap (change (at.rest ++ (a.step ∷ []))) (λ i n. put_is v n i) ∙ sym (change_last at.rest a.step (replaced v)) in
-        subst (IsEdited x e) same (value_edited x a.step a.item (content_written a.item.node) v stands a.at h room)
+        subst (IsFlowEdited x e) same (value_edited x a.step a.item (content_written a.item.node) v stands a.at h room)
 
     sound : IsSoundRoot (change a.init (within (change_child a.step (replaced v))) (root_of at.part))
     sound =
         let known = document_known (cut_text c) c doc at.part (standing.old c doc a.init a.coll read a.found) in
         let old : IsSoundRoot (root_of at.part) = record { unique = known.document.unique; nested = known.document.nested; bound = known.document.bound } in
         subst (λ (f : tree.Node → tree.Node). IsSoundRoot (f (root_of at.part))) (sym (step_change path a.init a.step (replaced v) a.last))
-        (replace_keeps path (root_of at.part) given.node v old given.there given.may)
+        (replace_keeps path (root_of at.part) fitting.node v old fitting.there fitting.may)
 
     pub replaced_carried : length (new_text (flow_segments (cut_text c) e)) ≤ text_limit → CarriedOut (replace doc path v) c (flow_segments (cut_text c) e)
     replaced_carried size =
         let p = standing.piece c doc a.init a.coll read a.found in
         let parts = edit_pieces (cut_text c) there.before e p there.text bounds.0 bounds.1 there.whole in
-        flow_made (replace doc path v) c a.init a.coll at e (change_child a.step (replaced v)) read (record {
+        flow_carried (replace doc path v) c a.init a.coll at e (change_child a.step (replaced v)) read (record {
           edited = edited;
-          keys = flow_keys (cut_text c) c doc at.part a.init at.line at.rest at.row a.coll e.gap e.items (standing.old c doc a.init a.coll read a.found) at.at (put_fit a.step m a.coll.items (value_keys (content_written a.item.node) v given.long));
+          keys = flow_keys (cut_text c) c doc at.part a.init at.line at.rest at.row a.coll e.gap e.items (standing.old c doc a.init a.coll read a.found) at.at (put_fit a.step m a.coll.items (value_keys (content_written a.item.node) v fitting.long));
           sound = sound;
           root =
               ap (λ (f : tree.Node → tree.Node). f (root_of at.part)) (step_change path a.init a.step (replaced v) a.last)
@@ -213,6 +213,6 @@ module _ (c : Cut) (doc : ℕ) (path : List Step) (v : tree.Node) (read : read_a
 -- Replace: a value put in the place of a content of a flow collection.
 pub flow_values_put : FlowValuesArePut
 flow_values_put n steps v c y read there_is new =
-    let a = entry_made c n steps y there_is in
+    let a = entry_found c n steps y there_is in
     let w = there c n steps v read a.0 in
     subst (λ (z : FlowPart). IsEdit (replace n steps v) c (flow_put (cut_text c) v z)) a.1 (record { old = segments_old (cut_text c) w.before (e c n steps v read a.0) w.text; carried = λ h fits size. replaced_carried c n steps v read a.0 h fits size })

@@ -5,7 +5,7 @@ use Rattle.std.specs.Str.{IsCharBoundary}
 use Rattle.yq_scalar.specs.Characters.{pairs_returns, text_limit}
 use Rattle.yq_scalar.specs.Paths.{Step, change, remove_child, within}
 use Rattle.yq_inline.specs.Collections.{CollAt, CollPieces, IsCollAt}
-use Rattle.yq_flow.specs.FlowEdits.{FlowEdit, IsEdited}
+use Rattle.yq_flow.specs.FlowEdits.{FlowEdit, IsFlowEdited}
 use Rattle.yq_flow.specs.FlowPlaces.{place_edit}
 use Rattle.yq_inline.specs.Nodes.{node_text}
 use Rattle.yq_inline.specs.Places.{locate}
@@ -14,7 +14,7 @@ use Rattle.yq_flow.proofs.EditLaws.{around_is}
 use Rattle.yq_flow.proofs.EditSpans.{remove_spans}
 use Rattle.yq_flow.proofs.RemoveLaws.{removed, removed_whole}
 use Rattle.yq_flow.proofs.RemovePlaces.{remove_placed}
-use Rattle.yq_flow.proofs.RemoveTexts.{RemovedText, made_of, removed_text}
+use Rattle.yq_flow.proofs.RemoveTexts.{RemovedText, option_some, removed_text}
 use Rattle.yq_flow.proofs.ReturnLaws.{pairs_behind}
 use Rattle.yq_rows.specs.Rows.{Cut, cut_text}
 use Rattle.yq_documents.specs.Documents.{Document, document_parts}
@@ -38,7 +38,7 @@ use Rattle.yq_edits.proofs.DoneLaws.{nth_map}
 use Rattle.yq_flow_edits.proofs.FlowPieceLaws.{edit_pieces, lead_piece, nothing_piece}
 use Rattle.yq_flow_edits.proofs.FlowStandings as standing
 use Rattle.yq_flow_edits.proofs.FlowSoundLaws.{remove_root, remove_sound}
-use Rattle.yq_flow_edits.proofs.FlowEditLaws.{edited_at, before_is, FlowTexts, flow_made, flow_texts, segments_old}
+use Rattle.yq_flow_edits.proofs.FlowEditLaws.{edited_at, before_is, FlowTexts, flow_carried, flow_texts, segments_old}
 
 module _ (c : Cut) (doc : ℕ) (path init : List Step) (s : Step) (w : CollPieces) (e : FlowEdit) (read : read_at (cut_text c) ≡ Some c) (last : last_step path ≡ Some (init, s)) (found : flow_collection doc init c ≡ Some w) (gone : removing s w ≡ Some e) where
   abbrev at : FlowAt c doc init w
@@ -56,7 +56,7 @@ module _ (c : Cut) (doc : ℕ) (path init : List Step) (s : Step) (w : CollPiece
   pairs : pairs_returns (row_text.before ++ node_text x.node x.rest) ≡ true
   pairs = standing.pairs c doc init w read found
 
-  edited : IsEdited x e (change at.rest (within (remove_child s)))
+  edited : IsFlowEdited x e (change at.rest (within (remove_child s)))
   edited = removed x s e stands gone (pairs_behind row_text.before (node_text x.node x.rest) pairs)
 
   pub texts : FlowTexts c (put_document doc (with_node at.part at.row (edited_at c doc init w at e)) c) e (node_text at.row.node (behind_node c doc at.part at.row))
@@ -80,7 +80,7 @@ module _ (c : Cut) (doc : ℕ) (path init : List Step) (s : Step) (w : CollPiece
       let sound : IsSoundRoot (root_of at.part) = record { unique = known.document.unique; nested = known.document.nested; bound = known.document.bound } in
       let whole = removed_whole x s e stands gone row_text.before texts.before pairs (sym row_text.old ∙ texts.old) in
       let parts = edit_pieces (cut_text c) texts.before e (standing.piece c doc init w read found) texts.old bounds.0 bounds.1 whole in
-      flow_made (remove doc path) c init w at e (remove_child s) read (record {
+      flow_carried (remove doc path) c init w at e (remove_child s) read (record {
         edited = edited;
         keys = flow_keys (cut_text c) c doc at.part init at.line at.rest at.row w e.gap e.items old at.at (left_keys s w e gone);
         sound = remove_sound path init s (root_of at.part) n.0 sound last n.1 n.2;
@@ -95,6 +95,6 @@ module _ (c : Cut) (doc : ℕ) (path init : List Step) (s : Step) (w : CollPiece
 -- Remove: an item or entry with the comma and the white space that go with it.
 pub flow_part_removed : FlowPartIsRemoved
 flow_part_removed n steps init s c w ss read last found is =
-    let x = made_of (flow_segments (cut_text c)) (removing s w) ss is in
+    let x = option_some (flow_segments (cut_text c)) (removing s w) ss is in
     let t = texts c n steps init s w x.0 read last found x.1 in
     subst (IsEdit (remove n steps) c) x.2 (record { old = segments_old (cut_text c) t.before x.0 t.old; carried = λ h fits size. removed_carried c n steps init s w x.0 read last found x.1 fits size })

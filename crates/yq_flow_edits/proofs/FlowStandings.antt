@@ -16,7 +16,7 @@ use Rattle.yq_inline.specs.Places.{locate}
 use Rattle.yq_inline.specs.Spans.{HasSpans}
 use Rattle.yq_inline.proofs.PathLaws.{path_places}
 use Rattle.yq_lines.specs.Outline.{Mark, Bare, Key, Dash, Outline, end, row}
-use Rattle.yq_lines.specs.Places.{here, Found, find, find_row, bare_or, in_head, inside as within_line}
+use Rattle.yq_lines.specs.Places.{here, FoundLine, find, find_row, bare_or, in_head, inside as within_line}
 use Rattle.yq_rows.specs.Rows.{Cut, cut_text}
 use Rattle.yq_rows.proofs.CharacterLaws.{all_text}
 use Rattle.yq_places.specs.FlowNodes.{flow_collection, find_head, head_line, bare_line}
@@ -34,7 +34,7 @@ use Rattle.yq_change.proofs.TextPieceLaws.{text_is_piece}
 -- ---- the steps that go on in a head
 
 abbrev Reached : Type 0
-Reached = Found × List Step
+Reached = FoundLine × List Step
 
 -- they are no more than all
 abbrev Fewer : ℕ → Option Reached → Type 0
@@ -46,7 +46,7 @@ one_fewer n y h x e = subst (λ (z : Reached). length z.1 ≤ n) (same_Some _ _ 
 none_fewer : (n : ℕ) → Fewer n None
 none_fewer n x e = absurd (none-some _ e)
 
-none_left : (n : ℕ) (g : Found → Found) (o : Option Found) → Fewer n (option_map {U = Reached} (λ f. (g f, [])) o)
+none_left : (n : ℕ) (g : FoundLine → FoundLine) (o : Option FoundLine) → Fewer n (option_map {U = Reached} (λ f. (g f, [])) o)
 none_left n g None = none_fewer n
 none_left n g (Some f) = one_fewer n (g f, []) (omega arith)
 
@@ -69,16 +69,16 @@ find_fewer s (t ∷ ts) (row l under after) =
     n : ℕ
     n = length (s ∷ (t ∷ ts))
 
-    inner_fewer : (f : Found) (o : Option Reached) → Fewer (length (t ∷ ts)) o → Fewer n (option_map {U = Reached} (λ x. (within_line f x.0, x.1)) o)
+    inner_fewer : (f : FoundLine) (o : Option Reached) → Fewer (length (t ∷ ts)) o → Fewer n (option_map {U = Reached} (λ x. (within_line f x.0, x.1)) o)
     inner_fewer f None h = none_fewer n
     inner_fewer f (Some x) h = one_fewer n (within_line f x.0, x.1) (omega (arith, h x refl))
 
-    go : (r : Option Found) → ((u : Outline) → Fewer (length (t ∷ ts)) (find t ts u)) →
+    go : (r : Option FoundLine) → ((u : Outline) → Fewer (length (t ∷ ts)) (find t ts u)) →
         Fewer n (option_and_then (λ f. in_head f.line.head (Some (f, t ∷ ts)) (option_map {U = Reached} (λ x. (within_line f x.0, x.1)) (find t ts f.under))) r)
     go None again = none_fewer n
     go (Some f) again = by_head n f.line.head _ _ (one_fewer n (f, t ∷ ts) (omega arith)) (inner_fewer f (find t ts f.under) (again f.under))
 
-head_fewer : (n : ℕ) (f : Found) (left : List Step) → length left ≤ n → Fewer n (head_line f left)
+head_fewer : (n : ℕ) (f : FoundLine) (left : List Step) → length left ≤ n → Fewer n (head_line f left)
 head_fewer n f [] h = by_head n f.line.head _ _ (one_fewer n (f, []) h) (none_left n (λ g. within_line f g) (bare_line f.under))
 head_fewer n f (t ∷ ts) h = one_fewer n (f, t ∷ ts) h
 
@@ -133,8 +133,8 @@ pub record EntryAt (c : Cut) (doc : ℕ) (path : List Step) : Type 0 where
   pub at : item_at coll.close step coll.items coll.rest ≡ Some item
 
 -- The part of a collection in which a path ends is such an item or entry.
-pub entry_made : (c : Cut) (doc : ℕ) (path : List Step) (x : FlowPart) → flow_standing doc c (last_step path) ≡ Some x → (a : EntryAt c doc path) × (record { step = a.step; collection = a.coll; part = a.item } ≡ x)
-entry_made c doc path x e = go (last_step path) refl e
+pub entry_found : (c : Cut) (doc : ℕ) (path : List Step) (x : FlowPart) → flow_standing doc c (last_step path) ≡ Some x → (a : EntryAt c doc path) × (record { step = a.step; collection = a.coll; part = a.item } ≡ x)
+entry_found c doc path x e = go (last_step path) refl e
   where
     here' : (y : List Step × Step) → last_step path ≡ Some y → (w : CollPieces) → flow_collection doc y.0 c ≡ Some w → (o : Option EntryPieces) → item_at w.close y.1 w.items w.rest ≡ o →
         option_map {U = FlowPart} (λ z. record { step = y.1; collection = w; part = z }) o ≡ Some x → (a : EntryAt c doc path) × (record { step = a.step; collection = a.coll; part = a.item } ≡ x)

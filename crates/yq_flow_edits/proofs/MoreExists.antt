@@ -16,8 +16,8 @@ use Rattle.yq_inline.specs.Trees.{node_head}
 use Rattle.yq_lines.specs.Comments.{head_comment}
 use Rattle.yq_lines.specs.Outline as outlines
 use Rattle.yq_lines.specs.Outline.{Line, Outline, flatten}
-use Rattle.yq_lines.specs.Places.{Found, find}
-use Rattle.yq_lines.specs.Spots.{is_bare}
+use Rattle.yq_lines.specs.Places.{FoundLine, find}
+use Rattle.yq_lines.specs.Positions.{is_bare}
 use Rattle.yq_lines.proofs.Decides.{flatten-group}
 use Rattle.yq_rows.specs.Exchange.{asked_behind}
 use Rattle.yq_rows.specs.Grammar.{IsContent, IsRow, Limit, unlimited}
@@ -28,7 +28,7 @@ use Rattle.yq_walk.specs.Lines.{head_of, lines_from, lines_of, mark_of}
 use Rattle.yq_documents.specs.Reading.{outline_of, read_at, root_of}
 use Rattle.yq_places.specs.FlowNodes.{find_head, flow_collection}
 use Rattle.yq_places.specs.PlacedRows.{PlacedPart}
-use Rattle.yq_places.specs.Standings.{PlacedEntry, Standing, behind_entry, behind_mark, below, beside, entry_standing, held, is_alone, root_standing, standing_at}
+use Rattle.yq_places.specs.Standings.{RowsOfEntry, Standing, behind_entry, behind_mark, below, beside, entry_standing, held, is_alone, root_standing, standing_at}
 use Rattle.yq_change.specs.Siblings.{HasEntries, IsCollectionAt, IsEntry, NodeLines}
 use Rattle.yq_change.specs.StandingLaws.{StandsThere}
 use Rattle.yq_change.proofs.NodeLineLaws.{lines_found}
@@ -38,15 +38,15 @@ use Rattle.yq_change.proofs.UnderLaws.{line_is, under_is}
 use Rattle.yq_meaning.specs.Fits.{Takes}
 use Rattle.yq_block.specs.declared.layout.Layout.{Layout}
 use Rattle.yq_script.specs.Script.{Segment}
-use Rattle.yq_edits.specs.EditLaws.{TakersHaveEdit}
-use Rattle.yq_edits.specs.EntryEdits.{more_put}
+use Rattle.yq_edits.specs.EditLaws.{AppendHasEdit}
+use Rattle.yq_edits.specs.EntryEdits.{block_more}
 use Rattle.yq_edits.specs.Edits.{appended}
 use Rattle.yq_edits.specs.FlowParts.{flow_more, takes_key}
 use Rattle.yq_edits.specs.Layouts.{layout_of}
 use Rattle.yq_flow_edits.proofs.CollectionCases.{collection_cases}
 use Rattle.yq_flow_edits.proofs.DocumentParts.{part_of}
 use Rattle.yq_flow_edits.proofs.FlowHeldLines.{flow_there}
-use Rattle.yq_flow_edits.proofs.FlowHeldNodes.{Held as Holds, held as held_in}
+use Rattle.yq_flow_edits.proofs.FlowHeldNodes.{FlowContent as Holds, held as held_in}
 use Rattle.yq_flow_edits.proofs.StandingExists.{placed_there, rows_there}
 
 -- ---- lines of items or entries
@@ -79,7 +79,7 @@ not_alone r rs o block lines = go r.dashes refl
 
 -- more is put where something stands
 abbrev IsPut : Layout → Option (List ℕ) → tree.Node → Standing → Type 0
-IsPut l key v s = (ss : List Segment) × (more_put l key v s ≡ Some ss)
+IsPut l key v s = (ss : List Segment) × (block_more l key v s ≡ Some ss)
 
 -- nothing but an anchor is written of a node without a head
 head_bare : (flow : Bool) (spaces : Option ℕ) (d : ℕ) (node : Node) (rest : List ℕ) → IsNode flow spaces d node rest → node_head node ≡ None → (anchor_cut node).2 ≡ []
@@ -98,16 +98,16 @@ head_bare flow spaces d (anchored n g node) rest h e = bare node h.3 e
     bare (anchored n g node) t e = absurd (false≢true t)
 
 module _ (l : Layout) (key : Option (List ℕ)) (v : tree.Node) where
-  below_put : (e : PlacedEntry) (us : List Row) (o : Outline) → HasEntries o → lines_of us ≡ flatten o → IsPut l key v (below e us)
+  below_put : (e : RowsOfEntry) (us : List Row) (o : Outline) → HasEntries o → lines_of us ≡ flatten o → IsPut l key v (below e us)
   below_put e [] o block lines = absurd (none_there o block lines)
-  below_put e (r ∷ rs) o block lines = (_, ap (more_put l key v) (cond-false _ _ _ (not_alone r rs o block lines)))
+  below_put e (r ∷ rs) o block lines = (_, ap (block_more l key v) (cond-false _ _ _ (not_alone r rs o block lines)))
 
   root_put : (d : PlacedPart) (rs : List Row) (o : Outline) → HasEntries o → lines_of rs ≡ flatten o → IsPut l key v (root_standing d rs)
   root_put d [] o block lines = absurd (none_there o block lines)
-  root_put d (r ∷ rs) o block lines = (_, ap (more_put l key v) (cond-false _ _ _ (not_alone r rs o block lines)))
+  root_put d (r ∷ rs) o block lines = (_, ap (block_more l key v) (cond-false _ _ _ (not_alone r rs o block lines)))
 
   -- behind a mark, where no head is written
-  mark_put : (e : PlacedEntry) (limit : Limit) (rest : List ℕ) (o : Outline) → IsRow limit e.row rest → head_of e.row.content ≡ None → HasEntries o → lines_of e.under ≡ flatten o → IsPut l key v (behind_mark e e.row.content)
+  mark_put : (e : RowsOfEntry) (limit : Limit) (rest : List ℕ) (o : Outline) → IsRow limit e.row rest → head_of e.row.content ≡ None → HasEntries o → lines_of e.under ≡ flatten o → IsPut l key v (behind_mark e e.row.content)
   mark_put e limit rest o is head block lines = go e.row.content refl
     where
       go : (y : Content) → e.row.content ≡ y → IsPut l key v (behind_mark e y)
@@ -116,40 +116,40 @@ module _ (l : Layout) (key : Option (List ℕ)) (v : tree.Node) where
           let valid = (subst (λ (y : Content). IsContent (parent_indent e.row) y rest) same is.content).1.valid in
           let none : (slices e.row).head ≡ [] = ap (λ (y : Content). (content_cut y).3) same ∙ head_bare _ _ _ node _ valid (sym (ap head_of same) ∙ head) in
           let w = below_put e e.under o block lines in
-          (w.0, ap (λ (t : List ℕ). more_put l key v (cond (is_empty t) (below e e.under) (beside (held e)))) none ∙ w.1)
+          (w.0, ap (λ (t : List ℕ). block_more l key v (cond (is_empty t) (below e e.under) (beside (held e)))) none ∙ w.1)
       go (Block space anchor b) same = absurd (none-some _ (sym (sym (ap head_of same) ∙ head)))
 
-  entry_put : (n : ℕ) (s : Step) (ss : List Step) (c : Cut) (e : PlacedEntry) (t : StandsThere n s ss c e) → t.found.line.head ≡ None → HasEntries t.found.under → IsPut l key v (entry_standing e)
+  entry_put : (n : ℕ) (s : Step) (ss : List Step) (c : Cut) (e : RowsOfEntry) (t : StandsThere n s ss c e) → t.found.line.head ≡ None → HasEntries t.found.under → IsPut l key v (entry_standing e)
   entry_put n s ss c e t head block = go (eqb e.line (length e.row.dashes)) refl
     where
       go : (b : Bool) → eqb e.line (length e.row.dashes) ≡ b → IsPut l key v (entry_standing e)
-      go false is = (_, ap (more_put l key v) (cond-false _ _ _ is))
+      go false is = (_, ap (block_more l key v) (cond-false _ _ _ is))
       go true is =
           let last = eqb-true e.line (length e.row.dashes) is in
           let u = under_it n s ss c e t last in
           let even = even_there n s ss c e t last in
           let own : head_of e.row.content ≡ None = ap (λ (z : Line). z.head) (line_is t.part s ss e.front e.row e.under e.back u even) ∙ head in
           let w = mark_put e (asked_behind unlimited e.front) (rows_text e.under (behind_entry e)) t.found.under (row_there n s ss c e t) own block (under_is t.part s ss e.front e.row e.under e.back u even) in
-          (w.0, ap (more_put l key v) (cond-true _ _ _ is) ∙ w.1)
+          (w.0, ap (block_more l key v) (cond-true _ _ _ is) ∙ w.1)
 
   -- the block collection at a path
   block_put : (n : ℕ) (steps : List Step) (c : Cut) (p : Part) (h : NodeLines) → read_at (cut_text c) ≡ Some c → slice_get (document_parts c) n ≡ Some p → IsCollectionAt steps (outline_of p) h →
-      (ss : List Segment) × ((standing_at n steps c >>= more_put l key v) ≡ Some ss)
+      (ss : List Segment) × ((standing_at n steps c >>= block_more l key v) ≡ Some ss)
   block_put n [] c p h read there at =
       let d = placed_there c n p there in
       let own : outline_of p ≡ h.lines = ap (λ (z : NodeLines). z.lines) (same_Some _ _ at.place_is) in
       let lines : lines_of d.0.part.rows ≡ flatten h.lines = ap (λ (q : Part). lines_of q.rows) d.2 ∙ (sym (flatten-group (lines_of p.rows)) ∙ ap flatten own) in
       let w = root_put d.0 d.0.part.rows h.lines at.block lines in
-      (w.0, ap (λ (o : Option PlacedPart). option_map (λ (d : PlacedPart). root_standing d d.part.rows) o >>= more_put l key v) d.1 ∙ w.1)
+      (w.0, ap (λ (o : Option PlacedPart). option_map (λ (d : PlacedPart). root_standing d d.part.rows) o >>= block_more l key v) d.1 ∙ w.1)
   block_put n (s ∷ ss) c p h read there at =
       let u = lines_found s ss (outline_of p) h at.place_is in
       let e = rows_there n s ss c p there u.found u.is in
       let t = rows_stand n s ss c e.0 read e.1 in
       let part : t.part ≡ p = same_Some _ _ (sym t.old.there ∙ there) in
-      let found : t.found ≡ u.found = ap (λ (z : Found × List Step). z.0) (same_Some _ _ (sym t.is ∙ (ap (λ (q : Part). find s ss (outline_of q)) part ∙ u.is))) in
-      let block : HasEntries t.found.under = subst (λ (f : Found). HasEntries f.under) (sym found) (subst HasEntries (sym (ap (λ (z : NodeLines). z.lines) u.place_is)) at.block) in
-      let w = entry_put n s ss c e.0 t (ap (λ (f : Found). f.line.head) found ∙ u.open') block in
-      (w.0, ap (λ (o : Option PlacedEntry). option_map entry_standing o >>= more_put l key v) e.1 ∙ w.1)
+      let found : t.found ≡ u.found = ap (λ (z : FoundLine × List Step). z.0) (same_Some _ _ (sym t.is ∙ (ap (λ (q : Part). find s ss (outline_of q)) part ∙ u.is))) in
+      let block : HasEntries t.found.under = subst (λ (f : FoundLine). HasEntries f.under) (sym found) (subst HasEntries (sym (ap (λ (z : NodeLines). z.lines) u.place_is)) at.block) in
+      let w = entry_put n s ss c e.0 t (ap (λ (f : FoundLine). f.line.head) found ∙ u.open') block in
+      (w.0, ap (λ (o : Option RowsOfEntry). option_map entry_standing o >>= block_more l key v) e.1 ∙ w.1)
 
 -- ---- in a flow collection
 
@@ -167,7 +167,7 @@ or_second : (a b : Option (List Segment)) (ss : List Segment) → b ≡ Some ss 
 or_second None b ss e = (ss, e)
 or_second (Some us) b ss e = (us, refl)
 
-pub takers_have_edit : TakersHaveEdit
+pub takers_have_edit : AppendHasEdit
 takers_have_edit n steps key v c read fits =
     let p = part_of c n fits.0 fits.1 in
     let at : node_at steps (root_of p.part) ≡ Some fits.2.2.0 = ap (node_at steps) (sym p.root) ∙ fits.2.2.1 in
@@ -175,11 +175,11 @@ takers_have_edit n steps key v c read fits =
     go p.part p.there at x.0 x.1 x.2 (collection_cases steps (outline_of p.part) x.0 (fits.2.2.0, at, x.1))
   where
     go : (p : Part) → slice_get (document_parts c) n ≡ Some p → node_at steps (root_of p) ≡ Some fits.2.2.0 → (x : Holds) → held_in fits.2.2.0 ≡ Some x → x.0 ≡ is_some key →
-        ((y : Found × List Step) × (find_head steps (outline_of p) ≡ Some y)) ⊎ ((h : NodeLines) × IsCollectionAt steps (outline_of p) h) → (ss : List Segment) × (appended n steps key v c ≡ Some ss)
+        ((y : FoundLine × List Step) × (find_head steps (outline_of p) ≡ Some y)) ⊎ ((h : NodeLines) × IsCollectionAt steps (outline_of p) h) → (ss : List Segment) × (appended n steps key v c ≡ Some ss)
     go p there at x holds takes (inl y) =
         let w = flow_there c n steps x (record { read = read; part = p; there = there; line = y.0.0; rest = y.0.1; found = y.1; at = (fits.2.2.0, at, holds) }) in
         let own : takes_key w.0.close key ≡ true = bracket_takes key w.0 (ap (λ (z : Holds). z.0) w.2 ∙ takes) in
-        or_second (standing_at n steps c >>= more_put (layout_of n c) key v) (flow_collection n steps c >>= flow_more (cut_text c) key v) _ (ap (λ (o : Option CollPieces). o >>= flow_more (cut_text c) key v) w.1 ∙ cond-true _ _ _ own)
+        or_second (standing_at n steps c >>= block_more (layout_of n c) key v) (flow_collection n steps c >>= flow_more (cut_text c) key v) _ (ap (λ (o : Option CollPieces). o >>= flow_more (cut_text c) key v) w.1 ∙ cond-true _ _ _ own)
     go p there at x holds takes (inr b) =
         let w = block_put (layout_of n c) key v n steps c p b.0 read there b.1 in
         (w.0, ap (λ (o : Option (List Segment)). option_or o (flow_collection n steps c >>= flow_more (cut_text c) key v)) w.1)

@@ -20,7 +20,7 @@ use Rattle.yq_inline.specs.Written.{flow_of}
 use Rattle.yq_inline.proofs.PathLaws.{path_places}
 use Rattle.yq_inline.proofs.TreeLaws.{node_tree}
 use Rattle.yq_rows.specs.Rows.{Cut, cut_text}
-use Rattle.yq_places.specs.FlowTold.{TellsFlow, behind_anchor, collection_told, placed_collection}
+use Rattle.yq_places.specs.FlowViews.{FlowAgrees, behind_anchor, collection_view, placed_collection}
 use Rattle.yq_places.specs.NodesAt.{node_in}
 use Rattle.yq_places.specs.Standings.{FlowPart, flow_standing, last_step}
 use Rattle.yq_places.specs.declared.places.flow_node.FlowHead.{FlowHead}
@@ -78,16 +78,16 @@ value_is old (tree.map a cs) = refl
 -- The part at the last step is found, or none is.
 module _ (c : Cut) (n : ℕ) (path init : List Step) (s : Step) (x : FlowHead) (q : Placed) (last : Some (init, s) ≡ last_step path) (f : CollFound c n init x q) (o : Option PlacedEntry) (is : o ≡ part_at s (parts_of q)) where
   abbrev own : CollPieces
-  own = f.told.at.coll
+  own = f.agrees.at.coll
 
   abbrev row : List ℕ
   row = x.text.now
 
   abbrev part_of : EntryPieces → FlowPart
-  part_of y = part_in s f.coll (entry_more f.told.behind y)
+  part_of y = part_in s f.coll (entry_more f.agrees.behind y)
 
-  stands : (y : Option EntryPieces) → item_at own.close s own.items own.rest ≡ y → flow_standing n c (last_step path) ≡ option_map (part_in s f.coll) (option_map (entry_more f.told.behind) y)
-  stands y at = standing_is c n path init s x q last f ∙ ap (λ (z : Option EntryPieces). option_map (part_in s f.coll) (option_map (entry_more f.told.behind) z)) at
+  stands : (y : Option EntryPieces) → item_at own.close s own.items own.rest ≡ y → flow_standing n c (last_step path) ≡ option_map (part_in s f.coll) (option_map (entry_more f.agrees.behind) y)
+  stands y at = standing_is c n path init s x q last f ∙ ap (λ (z : Option EntryPieces). option_map (part_in s f.coll) (option_map (entry_more f.agrees.behind) z)) at
 
   part_is : o ≡ option_map (locate_entry (length row)) (item_at own.close s own.items own.rest)
   part_is = is ∙ (ap (part_at s) (sym (core_parts q) ∙ ap parts_of f.node) ∙ part_placed (length row) s own)
@@ -144,26 +144,26 @@ module _ (c : Cut) (n : ℕ) (path init : List Step) (s : Step) (x : FlowHead) (
       own_place =
           place
           ∙ (ap (λ (e : PlacedEntry). replace_place e.1) (part_found p some).placed_is
-          ∙ subst (λ (l : List ℕ). replace_place (locate (length l) y.node y.rest) ≡ place_edit (length l) alone) (sym f.told.node_is) (replace_found f.told.at f.told.stands s y new (part_found p some).at))
+          ∙ subst (λ (l : List ℕ). replace_place (locate (length l) y.node y.rest) ≡ place_edit (length l) alone) (sym f.agrees.node_is) (replace_found f.agrees.at f.agrees.stands s y new (part_found p some).at))
 
       pub place_found : IsPlaceOf (cut_text c) v z x r
       place_found =
-          let same : edit ≡ edit_more f.told.behind alone = ap (λ (w : CollPieces). replacing s (entry_more f.told.behind y) new w) (whole_is (cut_text c) f.coll x f.told) in
-          let moved = edit_moved c n init x q f edit alone (edit_view r) same (replaced_within f.told.at f.told.stands s y new (part_found p some).at) own_place in
+          let same : edit ≡ edit_more f.agrees.behind alone = ap (λ (w : CollPieces). replacing s (entry_more f.agrees.behind y) new w) (whole_is (cut_text c) f.coll x f.agrees) in
+          let moved = edit_moved c n init x q f edit alone (edit_view r) same (replaced_within f.agrees.at f.agrees.stands s y new (part_found p some).at) own_place in
           let t = there c n path v f.read a in
           record { lies = edit_lies c n init x q f edit (edit_view r) (bounds c n path v f.read a) moved; place_is = moved; before = t.before; text = t.text }
 
       pub text_found : value_text InFlow (drop r.start (take r.end row)) v ≡ (put_edit v z).written
       text_found =
-          let stood = subst (λ (l : List ℕ). StandsBefore l (alone.old ++ alone.behind)) (sym f.told.node_is) (replaced_stands f.told.at [] f.told.stands s y (part_found p some).at) in
+          let stood = subst (λ (l : List ℕ). StandsBefore l (alone.old ++ alone.behind)) (sym f.agrees.node_is) (replaced_stands f.agrees.at [] f.agrees.stands s y (part_found p some).at) in
           (λ i. value_text InFlow (drop (own_place i).start (take (own_place i).end row)) v)
           ∙ (ap (λ (l : List ℕ). value_text InFlow l v) (old_at row stood.before alone stood.text) ∙ value_is edit.old v)
 
 -- ---- no collection
 
-pub no_collection : (t : List ℕ) (o : Option CollPieces) (x : FlowHead) → TellsFlow t o (Some x) → None ≡ collection_told x → o ≡ None
-no_collection t None x told none = refl
-no_collection t (Some w) x told none = absurd (none-some _ (none ∙ told.found))
+pub no_collection : (t : List ℕ) (o : Option CollPieces) (x : FlowHead) → FlowAgrees t o (Some x) → None ≡ collection_view x → o ≡ None
+no_collection t None x agrees none = refl
+no_collection t (Some w) x agrees none = absurd (none-some _ (none ∙ agrees.found))
 
 -- ---- the segments
 

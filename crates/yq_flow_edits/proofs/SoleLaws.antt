@@ -237,6 +237,6 @@ sole_removed n steps init s v c ss read last others empty edit =
             node_is = fits_it.2.1.1;
             unused = fits_it.2.1.2;
           } in
-          let made = edit.carried h.empty.value (fits n init s v c h) size in
-          record { reads = read_so n init s v c h (new_text ss) made.reads; local = made.local };
+          let done = edit.carried h.empty.value (fits n init s v c h) size in
+          record { reads = read_so n init s v c h (new_text ss) done.reads; local = done.local };
     })

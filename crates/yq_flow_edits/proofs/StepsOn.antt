@@ -7,7 +7,7 @@ use Rattle.yq_scalar.specs.Paths.{Step}
 use Rattle.yq_scalar.specs.Tree.{Node}
 use Rattle.yq_lines.specs.Outline.{Mark, Bare, Key, Dash, Line, Outline, end, row}
 use Rattle.yq_lines.specs.Places.{Place, here, below, beside, compose, Found, bare_or, find, find_row, in_head, inside}
-use Rattle.yq_lines.specs.Spots.{is_bare}
+use Rattle.yq_lines.specs.Positions.{is_bare}
 use Rattle.yq_places.specs.FlowNodes.{bare_line, find_head, head_line}
 use Rattle.yq_places.proofs.PlacedPartLaws.{map_some}
 use Rattle.yq_flow_edits.proofs.EntryLines.{found_at}

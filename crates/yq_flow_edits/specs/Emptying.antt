@@ -12,11 +12,11 @@ use Rattle.yq_edits.specs.Edits.{emptied, replaced, sole_removed}
 use Rattle.yq_flow_edits.specs.declared.sole.EmptyPut.{EmptyPut}
 
 -- the empty collection of the kind of a collection, by what is told of that
-abbrev pub told_emptied : NodeAt → Option Node
-told_emptied nodes.alias = None
-told_emptied (nodes.scalar s) = None
-told_emptied (nodes.list several) = Some (list None none)
-told_emptied (nodes.map several) = Some (map None none)
+abbrev pub emptied_summary : NodeAt → Option Node
+emptied_summary nodes.alias = None
+emptied_summary (nodes.scalar s) = None
+emptied_summary (nodes.list several) = Some (list None none)
+emptied_summary (nodes.map several) = Some (map None none)
 
 -- An empty collection that is put where steps lead in a document.
 pub record Emptied : Type 0 where

@@ -9,7 +9,7 @@ use Rattle.yq_flow.specs.declared.flow_place.EditPlace.{EditPlace}
 use Rattle.yq_rows.specs.Rows.{Cut, cut_text}
 use Rattle.yq_documents.specs.Reading.{cut_of}
 use Rattle.yq_places.specs.FlowNodes.{flow_collection}
-use Rattle.yq_places.specs.FlowTold.{TellsFlow}
+use Rattle.yq_places.specs.FlowViews.{FlowAgrees}
 use Rattle.yq_places.specs.NodesAt.{node_in}
 use Rattle.yq_places.specs.Standings.{FlowPart, flow_standing, last_step}
 use Rattle.yq_places.specs.declared.places.flow_node.FlowHead.{FlowHead}
@@ -34,7 +34,7 @@ put_edit v x = replacing x.step x.part (flow_value (content_written x.part.node)
 -- the head of a row is that in which the code looks for the collection in which a path ends
 abbrev pub IsHeadOf : ℕ → Option (List Step × Step) → List ℕ → FlowHead → Type 0
 IsHeadOf n None t x = Unit {0}
-IsHeadOf n (Some y) t x = TellsFlow t (flow_collection n y.0 (cut_of t)) (Some x)
+IsHeadOf n (Some y) t x = FlowAgrees t (flow_collection n y.0 (cut_of t)) (Some x)
 
 -- A place behind the bytes in front of a head is that of the edit that puts a value at a part.
 pub record IsPlaceOf (t : List ℕ) (v : Node) (z : FlowPart) (x : FlowHead) (place : EditPlace) : Type 0 where

@@ -4,10 +4,10 @@ ghost use Rattle.yq_inline.specs.Nodes.{key_text};
 ghost use Rattle.yq_inline.specs.Values.{node_of};
 ghost use Rattle.yq_inline.specs.View.{view};
 ghost use Rattle.yq_inline.specs.Written.{flow_key, flow_text};
-ghost use Rattle.yq_lines.specs.Bodies.{lent};
+ghost use Rattle.yq_lines.specs.Bodies.{borrowed};
 ghost use Rattle.yq_documents.specs.Located.{steps_of};
 ghost use Rattle.yq_documents.specs.Reading.{cut_of};
-ghost use Rattle.yq_edits.specs.Answers.{Carries};
+ghost use Rattle.yq_edits.specs.Answers.{GivesSegments};
 ghost use Rattle.yq_flow_edits.specs.EditPlaces as spec;
 
 use crate::edit::{collection_in, edit_at};
@@ -20,7 +20,7 @@ use yq_script::Segments;
 
 /// Whether a node takes an entry of a key, or an item.
 fn takes(node: &Inline<'_>, key: Option<&str>) -> bool
-    ensures { result ≡ spec.placed_takes (view node.now) (lent key.entry) }
+    ensures { result ≡ spec.placed_takes (view node.now) (borrowed key.entry) }
 {
     match &node.form {
         Form::List(_) => key.is_none(),
@@ -32,7 +32,7 @@ fn takes(node: &Inline<'_>, key: Option<&str>) -> bool
 /// An item or entry as it is written in flow.
 fn entry_text(alloc: Global, key: Option<&str>, value: &Value) -> Result<String, AllocError>
     ensures { IfOk result (λ s. string_bytes s ≡
-        key_text (flow_key (lent key.entry)) (flow_text (node_of value.now))) }
+        key_text (flow_key (borrowed key.entry)) (flow_text (node_of value.now))) }
 {
     match key {
         Some(key) => write_entry(alloc, key, value),
@@ -52,8 +52,8 @@ pub fn append_in_flow<'d>(
     key: Option<&str>,
     value: &Value,
 ) -> Result<Option<Segments<'d>>, AllocError>
-    ensures { Carries result (spec.appended_in_flow path.now.doc (steps_of path.now)
-        (lent key.entry) (node_of value.now) (cut_of cut.now)) }
+    ensures { GivesSegments result (spec.appended_in_flow path.now.doc (steps_of path.now)
+        (borrowed key.entry) (node_of value.now) (cut_of cut.now)) }
 {
     let found = cut.flow_head(alloc, path.doc, &path.steps)?;
     let Some(head) = found else {

@@ -6,10 +6,10 @@ ghost use Rattle.yq_inline.specs.View.{view};
 ghost use Rattle.yq_flow.specs.FlowPlaces.{edit_view};
 ghost use Rattle.yq_rows.specs.Rows.{cut_text};
 ghost use Rattle.yq_documents.specs.Reading.{cut_of};
-ghost use Rattle.yq_places.specs.FlowTold.{behind_anchor, collection_told};
+ghost use Rattle.yq_places.specs.FlowViews.{behind_anchor, collection_view};
 ghost use Rattle.yq_places.specs.Standings as standings;
 ghost use Rattle.yq_script.specs.Script.{keep};
-ghost use Rattle.yq_edits.specs.Answers.{Carries};
+ghost use Rattle.yq_edits.specs.Answers.{GivesSegments};
 ghost use Rattle.yq_flow_edits.specs.EditPlaces as spec;
 
 use std::alloc::{AllocError, Global};
@@ -32,7 +32,7 @@ pub(crate) fn last_step(steps: &[Step]) -> Option<(&[Step], &Step)>
 
 /// The collection to which steps lead on in the head of a line.
 pub(crate) fn collection_in<'h, 't>(head: &'h FlowHead<'_, 't>) -> Option<&'h Inline<'t>>
-    ensures { option_map (λ n. behind_anchor (view n.now)) result ≡ collection_told head.now }
+    ensures { option_map (λ n. behind_anchor (view n.now)) result ≡ collection_view head.now }
 {
     collection_along(&head.node, head.left)
 }
@@ -56,7 +56,7 @@ pub(crate) fn edit_at<'d>(
     written: String,
 ) -> Result<Option<Segments<'d>>, AllocError>
     requires lies { spec.LiesIn (whole text) (spec.moved_on before (edit_view place)) }
-    ensures { Carries result (Some (spec.edit_segments (whole text.entry)
+    ensures { GivesSegments result (Some (spec.edit_segments (whole text.entry)
         (spec.moved_on before (edit_view place)) (string_bytes written))) }
 {
     let (front, behind) = text.split_at(before + place.end);

@@ -2,7 +2,7 @@
 ghost use Rattle.yq_change.specs.StandingLaws.{EntriesStand, RootsStand};
 ghost use Rattle.yq_flow_edits.specs.Emptying.{SoleByEmptying};
 ghost use Rattle.yq_edits.specs.EditLaws.{FlowMoreIsPut, FlowPartIsRemoved, FlowValuesArePut};
-ghost use Rattle.yq_edits.specs.EditLaws.{SoleIsRemoved, TakersHaveEdit};
+ghost use Rattle.yq_edits.specs.EditLaws.{SoleIsRemoved, AppendHasEdit};
 
 /// What is exchanged in a flow collection carries out the operation.
 pub fn flow_edits_carry_out()
@@ -25,5 +25,5 @@ pub fn nodes_stand()
 
 /// A collection that takes one more item or entry has a place for it.
 pub fn appends_have_edit()
-    ensures { TakersHaveEdit }
+    ensures { AppendHasEdit }
 {}

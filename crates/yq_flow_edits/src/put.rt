@@ -7,7 +7,7 @@ ghost use Rattle.yq_documents.specs.Located.{steps_of};
 ghost use Rattle.yq_documents.specs.Reading.{cut_of};
 ghost use Rattle.yq_places.specs.NodesAt.{scalar_in};
 ghost use Rattle.yq_places.specs.Standings as standings;
-ghost use Rattle.yq_edits.specs.Answers.{Carries};
+ghost use Rattle.yq_edits.specs.Answers.{GivesSegments};
 ghost use Rattle.yq_edits.specs.Replacing.{are_same, is_kept};
 ghost use Rattle.yq_flow_edits.specs.PartPuts as spec;
 
@@ -107,7 +107,7 @@ pub fn put_in_flow<'d>(
     path: &Path,
     value: &Value,
 ) -> Result<Option<Segments<'d>>, AllocError>
-    ensures { Carries result (spec.part_replaced path.now.doc (steps_of path.now)
+    ensures { GivesSegments result (spec.part_replaced path.now.doc (steps_of path.now)
         (node_of value.now) (cut_of cut.now)) }
 {
     let Some((above, _)) = last_step(&path.steps) else {

@@ -2,7 +2,7 @@
 ghost use Rattle.yq_documents.specs.Located.{steps_of};
 ghost use Rattle.yq_documents.specs.Reading.{cut_of};
 ghost use Rattle.yq_places.specs.Standings.{last_step};
-ghost use Rattle.yq_edits.specs.Answers.{Carries};
+ghost use Rattle.yq_edits.specs.Answers.{GivesSegments};
 ghost use Rattle.yq_edits.specs.Edits.{part_removed};
 
 use crate::edit::{collection_in, edit_at, last_step};
@@ -22,7 +22,7 @@ pub fn remove_in_flow<'d>(
     cut: &CutText<'_, 'd>,
     path: &Path,
 ) -> Result<Option<Segments<'d>>, AllocError>
-    ensures { Carries result (part_removed path.now.doc (cut_of cut.now)
+    ensures { GivesSegments result (part_removed path.now.doc (cut_of cut.now)
         (last_step (steps_of path.now))) }
 {
     let Some((above, last)) = last_step(&path.steps) else {

@@ -10,19 +10,19 @@ use Rattle.yq_journal.specs.declared.fault.JournalFault.TheVariants as journal
 use Rattle.yq_journal.specs.declared.moves.Move.{Move}
 use Rattle.yq_journal.specs.Good.{journal_beside}
 use Rattle.yq_journal.specs.Record.{Record}
-use Rattle.yq_journal.specs.Refusals.{Names, Tells, no_way, if_moves, way_fault, squash_fault}
+use Rattle.yq_journal.specs.Refusals.{ErrorIs, Reports, no_way, if_moves, way_fault, squash_fault}
 use Rattle.yq_journal.specs.State.{State, moved, moved_text, opened, settled, squashed}
 use Rattle.yq_history.specs.declared.fault.Fault.{Fault}
 use Rattle.yq_history.specs.declared.fault.Fault.TheVariants as fault
 use Rattle.yq_store.specs.declared.store.FileReadError.{FileReadError}
 use Rattle.yq_store.specs.declared.store.FileReadError.TheVariants as read
-use Rattle.yq_history.specs.declared.walk.Walk.{Walk}
-use Rattle.yq_store.specs.Content.{Content}
-use Rattle.yq_history.specs.Effects.{Effect, refuses, writes_nothing, leaves, from_pair, from_journal, from_settled, leads_to, goes_to, walk_effect, joins_to, squash_effect, IsCutShort, Works}
+use Rattle.yq_history.specs.declared.direction.Direction.{Direction}
+use Rattle.yq_store.specs.FileMap.{FileMap}
+use Rattle.yq_history.specs.Effects.{Effect, refuses, writes_nothing, writes_both, from_pair, from_journal, from_settled, leads_to, goes_to, move_effect, joins_to, squash_effect, IsCutShort, Works}
 use Rattle.yq_history.specs.Faults.{is_outside, of_fault, of_journal, of_read}
 use Rattle.yq_history.specs.Pair.{IsJournal}
 use Rattle.yq_history.specs.Causes.{IsFor, named}
-use Rattle.yq_history.specs.Walks.{step_of}
+use Rattle.yq_history.specs.Directions.{step_of}
 use Rattle.yq_history.proofs.MoveLaws.{IsMove, either, fault_outside, no_way_free, on_err_map}
 use Rattle.yq_history.proofs.CutLaws.{cut_unwritten, cut_settled}
 
@@ -31,35 +31,35 @@ on_ok (Ok v) p = p
 on_ok (Err e) p = tt
 
 -- cut short by the store or by want of memory, with nothing written
-pub works_outside : (T : Type 0) (x : Effect) (f j : List ℕ) (c : Content) (e : Fault) → is_outside e ≡ true → Works x f j c c {T = T} (Err e)
+pub works_outside : (T : Type 0) (x : Effect) (f j : List ℕ) (c : FileMap) (e : Fault) → is_outside e ≡ true → Works x f j c c {T = T} (Err e)
 works_outside T (refuses x) f j c e out = (subst (λ b. MatchBool b (Unit {0}) (IsFor (Some x) e)) (sym out) tt, refl)
 works_outside T (writes_nothing o) f j c e out = (out, refl)
-works_outside T (leaves u started s) f j c e out = (out, inl (refl, inl refl))
+works_outside T (writes_both u started s) f j c e out = (out, inl (refl, inl refl))
 
 -- refused for its cause
-pub works_refused : (T : Type 0) (x : Effect) (f j : List ℕ) (c : Content) (e : Fault) → x ≡ refuses (named e) → Works x f j c c {T = T} (Err e)
+pub works_refused : (T : Type 0) (x : Effect) (f j : List ℕ) (c : FileMap) (e : Fault) → x ≡ refuses (named e) → Works x f j c c {T = T} (Err e)
 works_refused T x f j c e is =
     subst (λ y. Works y f j c c {T = T} (Err e)) (sym is)
     (elim (is_outside e) as (λ b. MatchBool b (Unit {0}) (e ≡ e)) [ true ↦ tt | false ↦ refl ], refl)
 
 -- What is known where an effect came about or was cut short.
-pub record IsLeft {T : Type 0} (u : List ℕ) (started z : State) (f j : List ℕ) (c d : Content) (r : Result T Fault) : Type 0 where
+pub record IsLeft {T : Type 0} (u : List ℕ) (started z : State) (f j : List ℕ) (c d : FileMap) (r : Result T Fault) : Type 0 where
   pub text : OnOk r (get d f ≡ Some u)
   pub journal : OnOk r (IsJournal (get d j) z)
   pub outside : IfErr r (λ e. IsTrue (is_outside e))
   pub cut : OnErr r (IsCutShort u started z f j c d)
 
-left : (u : List ℕ) (started z : State) (f j : List ℕ) (c d : Content) {T : Type 0} (r : Result T Fault) → IsLeft u started z f j c d r → Works (leaves u started z) f j c d r
+left : (u : List ℕ) (started z : State) (f j : List ℕ) (c d : FileMap) {T : Type 0} (r : Result T Fault) → IsLeft u started z f j c d r → Works (writes_both u started z) f j c d r
 left u started z f j c d (Ok v) k = (k.text, k.journal)
 left u started z f j c d (Err e) k = (k.outside, k.cut)
 
 -- carried out, or cut short
-pub works_leaves : (x : Effect) (u : List ℕ) (started z : State) (f j : List ℕ) (c d : Content) {T : Type 0} (r : Result T Fault) →
-    x ≡ leaves u started z → IsLeft u started z f j c d r → Works x f j c d r
-works_leaves x u started z f j c d r is k = subst (λ y. Works y f j c d r) (sym is) (left u started z f j c d r k)
+pub works_writes : (x : Effect) (u : List ℕ) (started z : State) (f j : List ℕ) (c d : FileMap) {T : Type 0} (r : Result T Fault) →
+    x ≡ writes_both u started z → IsLeft u started z f j c d r → Works x f j c d r
+works_writes x u started z f j c d r is k = subst (λ y. Works y f j c d r) (sym is) (left u started z f j c d r k)
 
 -- the journal alone was written, or nothing was
-journal_left : (f j : List ℕ) (c d : Content) (t : List ℕ) (started z : State) {T : Type 0} (r : Result T Fault) → get c f ≡ Some t → get d f ≡ get c f →
+journal_left : (f j : List ℕ) (c d : FileMap) (t : List ℕ) (started z : State) {T : Type 0} (r : Result T Fault) → get c f ≡ Some t → get d f ≡ get c f →
     OnOk r (IsJournal (get d j) z) → OnErr r ((d ≡ c) ⊎ IsJournal (get d j) z) → IfErr r (λ e. IsTrue (is_outside e)) → IsLeft t started z f j c d r
 journal_left f j c d t started z r there same journal cut out = record {
   text = on_ok r (same ∙ there);
@@ -72,7 +72,7 @@ journal_left f j c d t started z r there same journal cut out = record {
 
 -- a move that stands leads to its text
 pub way_free : (records : List Record) (at : ℕ) (step : Move) (t u : List ℕ) (started z : State) →
-    way_fault records at step t ≡ None → moved_text records at step t ≡ Some u → goes_to (no_way records at step) (moved_text records at step t) started z ≡ leaves u started z
+    way_fault records at step t ≡ None → moved_text records at step t ≡ Some u → goes_to (no_way records at step) (moved_text records at step t) started z ≡ writes_both u started z
 way_free records at step t u started z free is =
     ap (λ o. goes_to o (moved_text records at step t) started z) (no_way_free records at step t free) ∙ ap (λ o. leads_to o started z) is
 
@@ -87,30 +87,30 @@ way_barred records at step t started z y is = elim (no_way records at step) as (
   | Some x ↦ λ e. ap (λ x. refuses (named (of_fault x))) (same_Some x y e)
 ] is
 
-named_walk : (T : Type 0) (f j : List ℕ) (c : Content) (s : State) (t : List ℕ) (step : Move) (x : JournalError) → Names x (way_fault s.records s.at step t) → Works (walk_effect step t s) f j c c {T = T} (Err (of_journal x))
-named_walk T f j c s t step error.Memory names = works_outside T (walk_effect step t s) f j c fault.OutOfMemory refl
-named_walk T f j c s t step (error.Fault y) names = works_refused T (walk_effect step t s) f j c (of_fault y) (way_barred s.records s.at step t (opened s step t) (moved s step) y names)
+named_move : (T : Type 0) (f j : List ℕ) (c : FileMap) (s : State) (t : List ℕ) (step : Move) (x : JournalError) → ErrorIs x (way_fault s.records s.at step t) → Works (move_effect step t s) f j c c {T = T} (Err (of_journal x))
+named_move T f j c s t step error.Memory names = works_outside T (move_effect step t s) f j c fault.OutOfMemory refl
+named_move T f j c s t step (error.Fault y) names = works_refused T (move_effect step t s) f j c (of_fault y) (way_barred s.records s.at step t (opened s step t) (moved s step) y names)
 
 -- an undo or a redo that the journal refused
-pub walk_refused : (f j : List ℕ) (c : Content) (s : State) (t : List ℕ) (w : Walk) (step : Move) {T : Type 0} (r : Result T Fault) (e : Fault) (x : JournalError) →
-    step ≡ step_of w → r ≡ Err e → e ≡ of_journal x → Names x (way_fault s.records s.at step t) → Works (walk_effect (step_of w) t s) f j c c r
-walk_refused f j c s t w step {T = T} r e x is err of names =
-    subst (Works (walk_effect (step_of w) t s) f j c c) (sym (err ∙ ap Err of))
-    (named_walk T f j c s t (step_of w) x (subst (λ y. Names x (way_fault s.records s.at y t)) is names))
+pub move_refused : (f j : List ℕ) (c : FileMap) (s : State) (t : List ℕ) (w : Direction) (step : Move) {T : Type 0} (r : Result T Fault) (e : Fault) (x : JournalError) →
+    step ≡ step_of w → r ≡ Err e → e ≡ of_journal x → ErrorIs x (way_fault s.records s.at step t) → Works (move_effect (step_of w) t s) f j c c r
+move_refused f j c s t w step {T = T} r e x is err of names =
+    subst (Works (move_effect (step_of w) t s) f j c c) (sym (err ∙ ap Err of))
+    (named_move T f j c s t (step_of w) x (subst (λ y. ErrorIs x (way_fault s.records s.at y t)) is names))
 
 -- one that leaves the text equal: the journal alone was written
-pub walk_equal : (f j : List ℕ) (c d : Content) (s : State) (t : List ℕ) (step : Move) {T : Type 0} (r : Result T Fault) →
-    get c f ≡ Some t → get d f ≡ get c f → walk_effect step t s ≡ leaves t (opened s step t) (moved s step) →
-    OnOk r (IsJournal (get d j) (moved s step)) → OnErr r ((d ≡ c) ⊎ IsJournal (get d j) (moved s step)) → IfErr r (λ e. IsTrue (is_outside e)) → Works (walk_effect step t s) f j c d r
-walk_equal f j c d s t step r there same is journal cut out =
-    works_leaves (walk_effect step t s) t (opened s step t) (moved s step) f j c d r is
+pub move_equal : (f j : List ℕ) (c d : FileMap) (s : State) (t : List ℕ) (step : Move) {T : Type 0} (r : Result T Fault) →
+    get c f ≡ Some t → get d f ≡ get c f → move_effect step t s ≡ writes_both t (opened s step t) (moved s step) →
+    OnOk r (IsJournal (get d j) (moved s step)) → OnErr r ((d ≡ c) ⊎ IsJournal (get d j) (moved s step)) → IfErr r (λ e. IsTrue (is_outside e)) → Works (move_effect step t s) f j c d r
+move_equal f j c d s t step r there same is journal cut out =
+    works_writes (move_effect step t s) t (opened s step t) (moved s step) f j c d r is
     (journal_left f j c d t (opened s step t) (moved s step) r there same journal cut out)
 
 -- a move in three writes
-pub works_carried : (f j : List ℕ) (c d : Content) (s : State) (t u : List ℕ) (step : Move) {T : Type 0} (r : Result T Fault) → IsMove c d f j s t u step r → Works (walk_effect step t s) f j c d r
+pub works_carried : (f j : List ℕ) (c d : FileMap) (s : State) (t u : List ℕ) (step : Move) {T : Type 0} (r : Result T Fault) → IsMove c d f j s t u step r → Works (move_effect step t s) f j c d r
 works_carried f j c d s t u step {T = T} r m =
     elim (no_way s.records s.at step) as (λ o. no_way s.records s.at step ≡ o → Works (goes_to o (moved_text s.records s.at step t) (opened s step t) (moved s step)) f j c d r) [
-      | None ↦ λ is. works_leaves (leads_to (moved_text s.records s.at step t) (opened s step t) (moved s step)) u (opened s step t) (moved s step) f j c d r
+      | None ↦ λ is. works_writes (leads_to (moved_text s.records s.at step t) (opened s step t) (moved s step)) u (opened s step t) (moved s step) f j c d r
           (ap (λ o. leads_to o (opened s step t) (moved s step)) m.leads)
           (record { text = m.text; journal = m.beside; outside = fault_outside r (no_way s.records s.at step) is m.fault; cut = m.cut })
       | Some y ↦ λ is.
@@ -119,9 +119,9 @@ works_carried f j c d s t u step {T = T} r m =
     ] refl
 
 -- an undo or a redo in three writes
-pub walk_other : (f j : List ℕ) (c d : Content) (s : State) (t u : List ℕ) (w : Walk) (step : Move) {T : Type 0} (r : Result T Fault) →
-    step ≡ step_of w → IsMove c d f j s t u step r → Works (walk_effect (step_of w) t s) f j c d r
-walk_other f j c d s t u w step r is m = subst (λ x. Works (walk_effect x t s) f j c d r) is (works_carried f j c d s t u step r m)
+pub move_other : (f j : List ℕ) (c d : FileMap) (s : State) (t u : List ℕ) (w : Direction) (step : Move) {T : Type 0} (r : Result T Fault) →
+    step ≡ step_of w → IsMove c d f j s t u step r → Works (move_effect (step_of w) t s) f j c d r
+move_other f j c d s t u w step r is m = subst (λ x. Works (move_effect x t s) f j c d r) is (works_carried f j c d s t u step r m)
 
 -- ---- reading a pair
 
@@ -161,7 +161,7 @@ module _ (file beside : Option (List ℕ)) where
 -- ---- commands
 
 -- a pair that was not read
-pub not_opened : (file journal : Option (List ℕ)) (go : List ℕ → State → Effect) (f j : List ℕ) (c d : Content) {T : Type 0} (r : Result T Fault) (e : Fault) →
+pub not_opened : (file journal : Option (List ℕ)) (go : List ℕ → State → Effect) (f j : List ℕ) (c d : FileMap) {T : Type 0} (r : Result T Fault) (e : Fault) →
     r ≡ Err e → d ≡ c → Refused file journal e → Works (from_pair file journal go) f j c d r
 not_opened file journal go f j c d {T = T} r e is same why =
     subst (Works (from_pair file journal go) f j c d) (sym is)
@@ -172,38 +172,38 @@ not_opened file journal go f j c d {T = T} r e is same why =
     ] refl))
 
 -- one that was, by what it came to
-pub from_opened : (file journal : Option (List ℕ)) (go : List ℕ → State → Effect) (f j : List ℕ) (c m d : Content) (t : List ℕ) (s : State) {T : Type 0} (r : Result T Fault) →
+pub from_opened : (file journal : Option (List ℕ)) (go : List ℕ → State → Effect) (f j : List ℕ) (c m d : FileMap) (t : List ℕ) (s : State) {T : Type 0} (r : Result T Fault) →
     m ≡ c → from_pair file journal go ≡ go t s → Works (go t s) f j m d r → Works (from_pair file journal go) f j c d r
 from_opened file journal go f j c m d t s r same is works =
     subst (λ x. Works x f j c d r) (sym is) (subst (λ x. Works (go t s) f j x d r) same works)
 
 -- ---- squashes
 
-module _ (f j : List ℕ) (c : Content) (s : State) (t : List ℕ) (n : ℕ) where
-  joined_by : (T : Type 0) (x : JournalError) → Tells x (squash_fault s n) → Works (squash_effect n t s) f j c c {T = T} (Err (of_journal x))
-  joined_by T error.Memory tells = works_outside T (squash_effect n t s) f j c fault.OutOfMemory refl
-  joined_by T (error.Fault y) tells = works_refused T (squash_effect n t s) f j c (of_fault y) (ap (λ o. joins_to o n t (squashed s n)) tells)
+module _ (f j : List ℕ) (c : FileMap) (s : State) (t : List ℕ) (n : ℕ) where
+  joined_by : (T : Type 0) (x : JournalError) → Reports x (squash_fault s n) → Works (squash_effect n t s) f j c c {T = T} (Err (of_journal x))
+  joined_by T error.Memory reports = works_outside T (squash_effect n t s) f j c fault.OutOfMemory refl
+  joined_by T (error.Fault y) reports = works_refused T (squash_effect n t s) f j c (of_fault y) (ap (λ o. joins_to o n t (squashed s n)) reports)
 
   -- the journal refused it
-  pub squash_not_done : {T : Type 0} (r : Result T Fault) (e : Fault) (x : JournalError) → r ≡ Err e → e ≡ of_journal x → Tells x (squash_fault s n) → Works (squash_effect n t s) f j c c r
-  squash_not_done {T = T} r e x is of tells = subst (Works (squash_effect n t s) f j c c) (sym (is ∙ ap Err of)) (joined_by T x tells)
+  pub squash_not_done : {T : Type 0} (r : Result T Fault) (e : Fault) (x : JournalError) → r ≡ Err e → e ≡ of_journal x → Reports x (squash_fault s n) → Works (squash_effect n t s) f j c c r
+  squash_not_done {T = T} r e x is of reports = subst (Works (squash_effect n t s) f j c c) (sym (is ∙ ap Err of)) (joined_by T x reports)
 
-  by_count : (b : Bool) → (n == 1) ≡ b → squash_fault s n ≡ None → squash_effect n t s ≡ (if b then writes_nothing [] else leaves t (squashed s n) (squashed s n))
-  by_count b is free = ap (λ o. joins_to o n t (squashed s n)) free ∙ ap (λ x. if x then writes_nothing [] else leaves t (squashed s n) (squashed s n)) is
+  by_count : (b : Bool) → (n == 1) ≡ b → squash_fault s n ≡ None → squash_effect n t s ≡ (if b then writes_nothing [] else writes_both t (squashed s n) (squashed s n))
+  by_count b is free = ap (λ o. joins_to o n t (squashed s n)) free ∙ ap (λ x. if x then writes_nothing [] else writes_both t (squashed s n) (squashed s n)) is
 
   -- of one edit nothing is written
   pub squash_one_works : {T : Type 0} (v : T) → (n == 1) ≡ true → squash_fault s n ≡ None → Works (squash_effect n t s) f j c c {T = T} (Ok v)
   squash_one_works {T = T} v one free = subst (λ x. Works x f j c c {T = T} (Ok v)) (sym (by_count true one free)) refl
 
   -- of others the journal alone
-  pub squash_works : (d : Content) {T : Type 0} (r : Result T Fault) → (n == 1) ≡ false → squash_fault s n ≡ None → get c f ≡ Some t → get d f ≡ get c f →
+  pub squash_works : (d : FileMap) {T : Type 0} (r : Result T Fault) → (n == 1) ≡ false → squash_fault s n ≡ None → get c f ≡ Some t → get d f ≡ get c f →
       OnOk r (IsJournal (get d j) (squashed s n)) → OnErr r ((d ≡ c) ⊎ IsJournal (get d j) (squashed s n)) → IfErr r (λ e. IsTrue (is_outside e)) → Works (squash_effect n t s) f j c d r
   squash_works d r some free there same journal cut out =
-      works_leaves (squash_effect n t s) t (squashed s n) (squashed s n) f j c d r (by_count false some free)
+      works_writes (squash_effect n t s) t (squashed s n) (squashed s n) f j c d r (by_count false some free)
       (journal_left f j c d t (squashed s n) (squashed s n) r there same journal cut out)
 
 -- ---- listings
 
 -- memory was refused, and nothing was written
-pub listing_cut : (f j : List ℕ) (c : Content) (o : List ℕ) {T : Type 0} (r : Result T Fault) (e : Fault) → r ≡ Err e → is_outside e ≡ true → Works (writes_nothing o) f j c c r
+pub listing_cut : (f j : List ℕ) (c : FileMap) (o : List ℕ) {T : Type 0} (r : Result T Fault) (e : Fault) → r ≡ Err e → is_outside e ≡ true → Works (writes_nothing o) f j c c r
 listing_cut f j c o {T = T} r e is out = subst (Works (writes_nothing o) f j c c) (sym is) (works_outside T (writes_nothing o) f j c e out)

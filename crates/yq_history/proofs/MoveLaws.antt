@@ -15,19 +15,19 @@ use Rattle.yq_journal.specs.Good.{AtRest, Describes, after_move, journal_beside,
 use Rattle.yq_journal.specs.Json.{journal_text}
 use Rattle.yq_journal.specs.Record.{Record}
 use Rattle.yq_journal.specs.History.{History}
-use Rattle.yq_journal.specs.Refusals.{Names, no_way, if_moves, way_fault}
+use Rattle.yq_journal.specs.Refusals.{ErrorIs, no_way, if_moves, way_fault}
 use Rattle.yq_journal.specs.State.{State, closed, is_text, moved, moved_text, opened, settled}
 use Rattle.yq_journal.proofs.GoodLaws.{describes, open_before, open_after, settled_rests, undo_fault, redo_fault}
 use Rattle.yq_journal.proofs.HistoryLaws.{move_moves}
 use Rattle.yq_history.specs.declared.fault.Fault.{Fault}
 use Rattle.yq_history.specs.Causes.{Cause, IsFor, named}
-use Rattle.yq_store.specs.Content.{Content, get_written, get_other}
+use Rattle.yq_store.specs.FileMap.{FileMap, get_written, get_other}
 use Rattle.yq_history.specs.Effects.{IsCutShort}
 use Rattle.yq_history.specs.Faults.{is_outside, of_fault, of_journal}
-use Rattle.yq_history.specs.Pair.{Arrives, GoodIn, IsJournal, Rest, Stands, Writes}
-use Rattle.yq_history.specs.Steps.{walk_cause, walk_next, unless_fault}
-use Rattle.yq_history.specs.Walks.{step_of}
-use Rattle.yq_history.specs.declared.walk.Walk.{Walk}
+use Rattle.yq_history.specs.Pair.{Arrives, GoodIn, IsJournal, PairAtRest, PairStands, Writes}
+use Rattle.yq_history.specs.Steps.{move_cause, move_next, unless_fault}
+use Rattle.yq_history.specs.Directions.{step_of}
+use Rattle.yq_history.specs.declared.direction.Direction.{Direction}
 
 moved_closed : (s : State) (step : Move) → (moved s step).pending ≡ None
 moved_closed s (Edit r) = refl
@@ -39,14 +39,14 @@ none_of None h = refl
 none_of (Some x) h = cc
 
 -- what was written is the journal's text, which is read back
-pub journal_written : (c e : Content) (j : List ℕ) (s : State) → Writes c e j s → IsJournal (get e j) s
+pub journal_written : (c e : FileMap) (j : List ℕ) (s : State) → Writes c e j s → IsJournal (get e j) s
 journal_written c e j s w =
     let there : get e j ≡ Some (journal_text s) = ap (λ m. get m j) w.written ∙ get_written c j (journal_text s) in
     record { text = there; reads = ap journal_beside there ∙ w.reads }
 
 module _ (f j : List ℕ) (apart : f ≢ j) where
   -- a journal written beside a text
-  pub wrote_journal : (c e : Content) (t : List ℕ) (s : State) (h : History) → get c f ≡ Some t → Writes c e j s → Describes s t h → Stands e f j h
+  pub wrote_journal : (c e : FileMap) (t : List ℕ) (s : State) (h : History) → get c f ≡ Some t → Writes c e j s → Describes s t h → PairStands e f j h
   wrote_journal c e t s h is w k = record {
     text = t;
     state = s;
@@ -56,7 +56,7 @@ module _ (f j : List ℕ) (apart : f ≢ j) where
   }
 
   -- and then a text beside it
-  wrote_text : (c e g : Content) (u : List ℕ) (s : State) (h : History) → Writes c e j s → g ≡ insert e f u → Describes s u h → Stands g f j h
+  wrote_text : (c e g : FileMap) (u : List ℕ) (s : State) (h : History) → Writes c e j s → g ≡ insert e f u → Describes s u h → PairStands g f j h
   wrote_text c e g u s h w is k = record {
     text = u;
     state = s;
@@ -70,23 +70,23 @@ module _ (f j : List ℕ) (apart : f ≢ j) where
     describes = k;
   }
 
-  module _ (c e : Content) (s : State) (t u : List ℕ) (h : History) (step : Move) (k : Rest c f j s t h) (m : moved_text s.records s.at step t ≡ Some u) where
+  module _ (c e : FileMap) (s : State) (t u : List ℕ) (h : History) (step : Move) (k : PairAtRest c f j s t h) (m : moved_text s.records s.at step t ≡ Some u) where
     -- a move that leaves the text equal: the settled journal
-    pub turned : (z : State) → u ≡ t → z ≡ moved s step → Writes c e j z → Stands e f j (after_move h step u)
+    pub turned : (z : State) → u ≡ t → z ≡ moved s step → Writes c e j z → PairStands e f j (after_move h step u)
     turned z same is w = wrote_journal c e u (moved s step) (after_move h step u) (subst (λ x. get c f ≡ Some x) (sym same) k.file_is) (subst (Writes c e j) is w)
         (describes (moved s step) u (after_move h step u) (moved_closed s step) (move_moves s h t u step k.at_rest m))
 
     -- the first write: the journal with the move open
-    pub first_write : (z : State) → u ≢ t → z ≡ opened s step t → Writes c e j z → Stands e f j h
+    pub first_write : (z : State) → u ≢ t → z ≡ opened s step t → Writes c e j z → PairStands e f j h
     first_write z changes is w = wrote_journal c e t (opened s step t) h k.file_is (subst (Writes c e j) is w) (open_before s h t u step k.at_rest m changes)
 
     -- the second: the file
-    pub second_write : (z : State) (g : Content) → u ≢ t → z ≡ opened s step t → Writes c e j z → g ≡ insert e f u → Stands g f j (after_move h step u)
+    pub second_write : (z : State) (g : FileMap) → u ≢ t → z ≡ opened s step t → Writes c e j z → g ≡ insert e f u → PairStands g f j (after_move h step u)
     second_write z g changes is w put =
         wrote_text c e g u (opened s step t) (after_move h step u) (subst (Writes c e j) is w) put (open_after s h t u step k.at_rest m changes)
 
     -- the third: the journal settled
-    pub third_write : (y z : State) (g l : Content) → u ≢ t → y ≡ opened s step t → g ≡ insert e f u → settled y u ≡ Some z → Writes g l j z → Stands l f j (after_move h step u)
+    pub third_write : (y z : State) (g l : FileMap) → u ≢ t → y ≡ opened s step t → g ≡ insert e f u → settled y u ≡ Some z → Writes g l j z → PairStands l f j (after_move h step u)
     third_write y z g l changes is put settles w =
         let rests = settled_rests (opened s step t) z u (after_move h step u) (open_after s h t u step k.at_rest m changes) (sym (ap (λ x. settled x u) is) ∙ settles) in
         wrote_journal g l u z (after_move h step u) (ap (λ x. get x f) put ∙ get_written e f u) w (describes z u (after_move h step u) rests.1 rests.0)
@@ -116,7 +116,7 @@ fault_inside journal.Unsettled = refl
 fault_inside journal.JournalFull = refl
 fault_inside journal.BadCount = refl
 
-module _ (c : Content) (f j : List ℕ) (cause : Option Cause) (h k : Option History) where
+module _ (c : FileMap) (f j : List ℕ) (cause : Option Cause) (h k : Option History) where
   -- cut short by the store or by want of memory
   pub cut : {T : Type 0} (r : Result T Fault) (e : Fault) → r ≡ Err e → is_outside e ≡ true → GoodIn c f j h ⊎ GoodIn c f j k → Arrives c f j cause h k r
   cut r e is out goods =
@@ -124,28 +124,28 @@ module _ (c : Content) (f j : List ℕ) (cause : Option Cause) (h k : Option His
       (subst (λ b. MatchBool b (GoodIn c f j h ⊎ GoodIn c f j k) (IsFor cause e × GoodIn c f j h)) (sym out) goods)
 
   -- refused
-  pub told : {T : Type 0} (r : Result T Fault) (e : Fault) → r ≡ Err e → is_outside e ≡ false → IsFor cause e → GoodIn c f j h → Arrives c f j cause h k r
-  told r e is out tells good =
+  pub is_refused : {T : Type 0} (r : Result T Fault) (e : Fault) → r ≡ Err e → is_outside e ≡ false → IsFor cause e → GoodIn c f j h → Arrives c f j cause h k r
+  is_refused r e is out reports good =
       subst (Arrives c f j cause h k) (sym is)
-      (subst (λ b. MatchBool b (GoodIn c f j h ⊎ GoodIn c f j k) (IsFor cause e × GoodIn c f j h)) (sym out) (tells, good))
+      (subst (λ b. MatchBool b (GoodIn c f j h ⊎ GoodIn c f j k) (IsFor cause e × GoodIn c f j h)) (sym out) (reports, good))
 
   -- carried out, or cut short
   pub ends : {T : Type 0} (r : Result T Fault) → cause ≡ None → OnOk r (GoodIn c f j k) → OnErr r (GoodIn c f j h ⊎ GoodIn c f j k) → IfErr r (λ e. IsTrue (is_outside e)) → Arrives c f j cause h k r
   ends (Ok v) none ok err out = (none, ok)
   ends {T = T} (Err e) none ok err out = cut {T = T} (Err e) e refl out err
 
-pub same_content : (c e : Content) (f j : List ℕ) (h : History) → e ≡ c → Stands c f j h → Stands e f j h
-same_content c e f j h is k = subst (λ m. Stands m f j h) (sym is) k
+pub same_content : (c e : FileMap) (f j : List ℕ) (h : History) → e ≡ c → PairStands c f j h → PairStands e f j h
+same_content c e f j h is k = subst (λ m. PairStands m f j h) (sym is) k
 
 -- an undo or a redo goes on with the history, whatever its text
-pub same_walk : (h : History) (w : Walk) (u : List ℕ) → after_move h (step_of w) u ≡ after_move h (step_of w) []
-same_walk h Walk.Undo u = refl
-same_walk h Walk.Redo u = refl
+pub same_move : (h : History) (w : Direction) (u : List ℕ) → after_move h (step_of w) u ≡ after_move h (step_of w) []
+same_move h Direction.Undo u = refl
+same_move h Direction.Redo u = refl
 
 -- the journal refuses it where the history does
-pub walk_fault : (s : State) (t : List ℕ) (h : History) (w : Walk) → AtRest s t h → way_fault s.records s.at (step_of w) t ≡ step_fault h (step_of w)
-walk_fault s t h Walk.Undo k = undo_fault s t h k
-walk_fault s t h Walk.Redo k = redo_fault s t h k
+pub move_fault_of : (s : State) (t : List ℕ) (h : History) (w : Direction) → AtRest s t h → way_fault s.records s.at (step_of w) t ≡ step_fault h (step_of w)
+move_fault_of s t h Direction.Undo k = undo_fault s t h k
+move_fault_of s t h Direction.Redo k = redo_fault s t h k
 
 outside_if : (e : Fault) → (is_outside e ≡ false → ⊥) → is_outside e ≡ true
 outside_if e h = elim (is_outside e) as (λ b. is_outside e ≡ b → b ≡ true) [ true ↦ λ _. refl | false ↦ λ is. absurd (h is) ] refl
@@ -162,10 +162,10 @@ no_way_free records at step t free = elim (no_way records at step) as (λ o. opt
 ] free
 
 -- what is known behind a move of a pair from one text to another, by its contract: it was carried out from any history, or cut short; or the journal had no way for it
-pub record IsMove {T : Type 0} (c d : Content) (f j : List ℕ) (s : State) (t u : List ℕ) (step : Move) (r : Result T Fault) : Type 0 where
+pub record IsMove {T : Type 0} (c d : FileMap) (f j : List ℕ) (s : State) (t u : List ℕ) (step : Move) (r : Result T Fault) : Type 0 where
   pub leads : moved_text s.records s.at step t ≡ Some u
-  pub ok : (h : History) → Rest c f j s t h → OnOk r (Stands d f j (after_move h step u))
-  pub err : (h : History) → Rest c f j s t h → OnErr r (Stands d f j h ⊎ Stands d f j (after_move h step u))
+  pub ok : (h : History) → PairAtRest c f j s t h → OnOk r (PairStands d f j (after_move h step u))
+  pub err : (h : History) → PairAtRest c f j s t h → OnErr r (PairStands d f j h ⊎ PairStands d f j (after_move h step u))
   pub text : OnOk r (get d f ≡ Some u)
   pub beside : OnOk r (IsJournal (get d j) (moved s step))
   pub cut : OnErr r (IsCutShort u (opened s step t) (moved s step) f j c d)
@@ -174,49 +174,49 @@ pub record IsMove {T : Type 0} (c d : Content) (f j : List ℕ) (s : State) (t u
   pub barred : no_way s.records s.at step ≢ None → d ≡ c
 
 -- an undo or a redo of a pair
-module _ (f j : List ℕ) (h : History) (w : Walk) where
+module _ (f j : List ℕ) (h : History) (w : Direction) where
   -- the pair behind it
-  abbrev pub Walked : {T : Type 0} → Content → Result T Fault → Type 0
-  Walked d r = Arrives d f j (walk_cause (step_of w) (Some h)) (Some h) (walk_next (step_of w) (Some h)) r
+  abbrev pub MoveDone : {T : Type 0} → FileMap → Result T Fault → Type 0
+  MoveDone d r = Arrives d f j (move_cause (step_of w) (Some h)) (Some h) (move_next (step_of w) (Some h)) r
 
   -- it was carried out, or cut short
-  walk_ends : {T : Type 0} (d : Content) (r : Result T Fault) (u : List ℕ) → step_fault h (step_of w) ≡ None →
-      OnOk r (Stands d f j (after_move h (step_of w) u)) →
-      OnErr r (Stands d f j h ⊎ Stands d f j (after_move h (step_of w) u)) →
-      IfErr r (λ e. IsTrue (is_outside e)) → Walked d r
-  walk_ends d r u free ok err out =
-      subst (λ x. Arrives d f j (walk_cause (step_of w) (Some h)) (Some h) (Some x) r)
-      (same_walk h w u ∙ ap (λ o. unless_fault o h (after_move h (step_of w) [])) (sym free))
-      (ends d f j (walk_cause (step_of w) (Some h)) (Some h) (Some (after_move h (step_of w) u)) r (ap (option_map (λ y. named (of_fault y))) free) ok err out)
+  move_ends : {T : Type 0} (d : FileMap) (r : Result T Fault) (u : List ℕ) → step_fault h (step_of w) ≡ None →
+      OnOk r (PairStands d f j (after_move h (step_of w) u)) →
+      OnErr r (PairStands d f j h ⊎ PairStands d f j (after_move h (step_of w) u)) →
+      IfErr r (λ e. IsTrue (is_outside e)) → MoveDone d r
+  move_ends d r u free ok err out =
+      subst (λ x. Arrives d f j (move_cause (step_of w) (Some h)) (Some h) (Some x) r)
+      (same_move h w u ∙ ap (λ o. unless_fault o h (after_move h (step_of w) [])) (sym free))
+      (ends d f j (move_cause (step_of w) (Some h)) (Some h) (Some (after_move h (step_of w) u)) r (ap (option_map (λ y. named (of_fault y))) free) ok err out)
 
   -- the journal refused it
-  walk_told : {T : Type 0} (c : Content) (r : Result T Fault) (x : JournalError) → r ≡ Err (of_journal x) → Names x (step_fault h (step_of w)) → Stands c f j h → Walked c r
-  walk_told c r error.Memory is names good = cut c f j (walk_cause (step_of w) (Some h)) (Some h) (walk_next (step_of w) (Some h)) r (of_journal error.Memory) is refl (inl good)
-  walk_told c r (error.Fault y) is names good =
-      told c f j (walk_cause (step_of w) (Some h)) (Some h) (walk_next (step_of w) (Some h)) r (of_fault y) is (fault_inside y)
+  move_fails : {T : Type 0} (c : FileMap) (r : Result T Fault) (x : JournalError) → r ≡ Err (of_journal x) → ErrorIs x (step_fault h (step_of w)) → PairStands c f j h → MoveDone c r
+  move_fails c r error.Memory is names good = cut c f j (move_cause (step_of w) (Some h)) (Some h) (move_next (step_of w) (Some h)) r (of_journal error.Memory) is refl (inl good)
+  move_fails c r (error.Fault y) is names good =
+      is_refused c f j (move_cause (step_of w) (Some h)) (Some h) (move_next (step_of w) (Some h)) r (of_fault y) is (fault_inside y)
       (subst (λ o. IsFor (option_map (λ z. named (of_fault z)) o) (of_fault y)) (sym names) refl) good
 
   -- from a pair at rest, by the journal's answer
-  module _ (c d : Content) (s : State) (t : List ℕ) (step : Move) (is : step ≡ step_of w) (k : Rest c f j s t h) where
-    free_walk : way_fault s.records s.at step t ≡ None → step_fault h (step_of w) ≡ None
-    free_walk free = sym (walk_fault s t h w k.at_rest) ∙ ap (λ x. way_fault s.records s.at x t) (sym is) ∙ free
+  module _ (c d : FileMap) (s : State) (t : List ℕ) (step : Move) (is : step ≡ step_of w) (k : PairAtRest c f j s t h) where
+    free_move : way_fault s.records s.at step t ≡ None → step_fault h (step_of w) ≡ None
+    free_move free = sym (move_fault_of s t h w k.at_rest) ∙ ap (λ x. way_fault s.records s.at x t) (sym is) ∙ free
 
-    pub refused_walk : {T : Type 0} (r : Result T Fault) (e : Fault) (x : JournalError) → r ≡ Err e → e ≡ of_journal x → Names x (way_fault s.records s.at step t) → Walked c r
-    refused_walk r e x err of names =
-        walk_told c r x (err ∙ ap Err of)
-        (subst (Names x) (ap (λ y. way_fault s.records s.at y t) is ∙ walk_fault s t h w k.at_rest) names) k.stands
+    pub refused_move : {T : Type 0} (r : Result T Fault) (e : Fault) (x : JournalError) → r ≡ Err e → e ≡ of_journal x → ErrorIs x (way_fault s.records s.at step t) → MoveDone c r
+    refused_move r e x err of names =
+        move_fails c r x (err ∙ ap Err of)
+        (subst (ErrorIs x) (ap (λ y. way_fault s.records s.at y t) is ∙ move_fault_of s t h w k.at_rest) names) k.stands
 
-    pub equal_walk : {T : Type 0} (r : Result T Fault) → way_fault s.records s.at step t ≡ None →
-        OnOk r (Stands d f j (after_move h (step_of w) t)) →
-        OnErr r (Stands d f j h ⊎ Stands d f j (after_move h (step_of w) t)) →
-        IfErr r (λ e. IsTrue (is_outside e)) → Walked d r
-    equal_walk r free ok err out = walk_ends d r t (free_walk free) ok err out
+    pub equal_move : {T : Type 0} (r : Result T Fault) → way_fault s.records s.at step t ≡ None →
+        OnOk r (PairStands d f j (after_move h (step_of w) t)) →
+        OnErr r (PairStands d f j h ⊎ PairStands d f j (after_move h (step_of w) t)) →
+        IfErr r (λ e. IsTrue (is_outside e)) → MoveDone d r
+    equal_move r free ok err out = move_ends d r t (free_move free) ok err out
 
-    pub other_walk : {T : Type 0} (r : Result T Fault) (u : List ℕ) (again : Move) → again ≡ step_of w → way_fault s.records s.at step t ≡ None → IsMove c d f j s t u again r → Walked d r
-    other_walk r u again same free m =
-        walk_ends d r u (free_walk free)
-        (subst (λ x. OnOk r (Stands d f j (after_move h x u))) same (m.ok h k))
-        (subst (λ x. OnErr r (Stands d f j h ⊎ Stands d f j (after_move h x u))) same (m.err h k))
+    pub other_move : {T : Type 0} (r : Result T Fault) (u : List ℕ) (again : Move) → again ≡ step_of w → way_fault s.records s.at step t ≡ None → IsMove c d f j s t u again r → MoveDone d r
+    other_move r u again same free m =
+        move_ends d r u (free_move free)
+        (subst (λ x. OnOk r (PairStands d f j (after_move h x u))) same (m.ok h k))
+        (subst (λ x. OnErr r (PairStands d f j h ⊎ PairStands d f j (after_move h x u))) same (m.err h k))
         (fault_outside r (no_way s.records s.at again) (ap (no_way s.records s.at) (same ∙ sym is) ∙ no_way_free s.records s.at step t free) m.fault)
 
 bytes_same : (t : List ℕ) → bytes_eq t t ≡ true
@@ -236,7 +236,7 @@ settles_moved s t u step m d =
     ∙ ap (λ b. if b then Some (moved s step) else None) (bytes_same u)
 
 -- the journal that a move leaves
-pub moved_journal : (j : List ℕ) (s : State) (t u : List ℕ) (step : Move) (y z : State) (g l : Content) →
+pub moved_journal : (j : List ℕ) (s : State) (t u : List ℕ) (step : Move) (y z : State) (g l : FileMap) →
     moved_text s.records s.at step t ≡ Some u → u ≢ t → y ≡ opened s step t → settled y u ≡ Some z → Writes g l j z → IsJournal (get l j) (moved s step)
 moved_journal j s t u step y z g l m changes is settles w =
     subst (IsJournal (get l j)) (same_Some z (moved s step) (sym settles ∙ ap (λ x. settled x u) is ∙ settles_moved s t u step m changes)) (journal_written g l j z w)

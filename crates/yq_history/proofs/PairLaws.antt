@@ -7,26 +7,26 @@ use Rattle.yq_journal.specs.Good.{Describes, journal_beside}
 use Rattle.yq_journal.specs.History.{History, text_at}
 use Rattle.yq_journal.specs.State.{State, settled}
 use Rattle.yq_journal.proofs.GoodLaws.{settles, settled_rests}
-use Rattle.yq_store.specs.Content.{Content}
-use Rattle.yq_history.specs.Pair.{GoodIn, Opens, Rest}
+use Rattle.yq_store.specs.FileMap.{FileMap}
+use Rattle.yq_history.specs.Pair.{GoodIn, Opens, PairAtRest}
 
 -- the file of a good pair is the text at the cursor
-pub good_text : (c : Content) (f j : List ℕ) (m : Option History) → GoodIn c f j m → get c f ≡ option_map text_at m
+pub good_text : (c : FileMap) (f j : List ℕ) (m : Option History) → GoodIn c f j m → get c f ≡ option_map text_at m
 good_text c f j None good = good
 good_text c f j (Some h) k = k.file_is ∙ ap Some (settles k.state k.text h k.describes).at_rest.text
 
 -- a pair in a store that holds the same
-pub same_pair : (c e : Content) (f j : List ℕ) (h : Option History) → e ≡ c → GoodIn c f j h → GoodIn e f j h
+pub same_pair : (c e : FileMap) (f j : List ℕ) (h : Option History) → e ≡ c → GoodIn c f j h → GoodIn e f j h
 same_pair c e f j h is good = subst (λ m. GoodIn m f j h) (sym is) good
 
-module _ (c : Content) (f j : List ℕ) (t : List ℕ) (s : State) (file_is : get c f ≡ Some t) (journal_is : journal_beside (get c j) ≡ Some s) where
+module _ (c : FileMap) (f j : List ℕ) (t : List ℕ) (s : State) (file_is : get c f ≡ Some t) (journal_is : journal_beside (get c j) ≡ Some s) where
   -- what is read of a good pair describes its history
   pub reads : (h : History) → GoodIn c f j (Some h) → Describes s t h
   reads h k = subst (λ x. Describes x t h) (same_Some k.state s (sym k.journal_is ∙ journal_is))
       (subst (λ x. Describes k.state x h) (same_Some k.text t (sym k.file_is ∙ file_is)) k.describes)
 
   -- and can be settled
-  pub settled_pair : (r : State) (h : History) → settled s t ≡ Some r → GoodIn c f j (Some h) → Rest c f j r t h
+  pub settled_pair : (r : State) (h : History) → settled s t ≡ Some r → GoodIn c f j (Some h) → PairAtRest c f j r t h
   settled_pair r h is good = record {
     file_is = file_is;
     at_rest = (settled_rests s r t h (reads h good) is).0;
@@ -37,8 +37,8 @@ module _ (c : Content) (f j : List ℕ) (t : List ℕ) (s : State) (file_is : ge
   never_unsettled h good none = none-some (settles s t h (reads h good)).rest (sym none ∙ (settles s t h (reads h good)).is)
 
 -- a pair that was read and settled
-pub opens : (c e : Content) (f j : List ℕ) (v : Vec ℕ Global) (s r : State) (h : Option History) →
+pub opens : (c e : FileMap) (f j : List ℕ) (v : Vec ℕ Global) (s r : State) (h : Option History) →
     e ≡ c → get c f ≡ Some v.items → journal_beside (get c j) ≡ Some s → settled s v.items ≡ Some r → GoodIn c f j h → Opens e f j h (Ok (v, r))
 opens c e f j v s r None is file journal rest good = none-some v.items (sym good ∙ file)
 opens c e f j v s r (Some h) is file journal rest good =
-    subst (λ m. Rest m f j r v.items h) (sym is) (settled_pair c f j v.items s file journal r h rest good)
+    subst (λ m. PairAtRest m f j r v.items h) (sym is) (settled_pair c f j v.items s file journal r h rest good)

@@ -9,7 +9,7 @@ use Rattle.yq_journal.specs.Good.{Leads, AtRest}
 use Rattle.yq_journal.specs.History.{History, Revision}
 use Rattle.yq_journal.specs.Record.{Record}
 use Rattle.yq_journal.specs.State.{State}
-use Rattle.yq_store.specs.Content.{Content}
+use Rattle.yq_store.specs.FileMap.{FileMap}
 use Rattle.yq_history.specs.Pair.{Opens}
 use Rattle.yq_history.specs.Listing.{edit_line, lines_behind, history_lines, listing_output}
 
@@ -46,9 +46,9 @@ same_exprs t (r ∷ rs) [] l = absurd l
 
 -- the lines of a journal at rest are those of its history
 pub listed : (s : State) (t : List ℕ) (h : History) → AtRest s t h → lines_behind 0 s.at (map (λ (r : Record). r.expr) s.records) ≡ history_lines h
-listed s t h k = ap₂ (λ at exprs. lines_behind 0 at exprs) k.tells.cursor (same_exprs h.first s.records h.later k.tells.leads)
+listed s t h k = ap₂ (λ at exprs. lines_behind 0 at exprs) k.reports.cursor (same_exprs h.first s.records h.later k.reports.leads)
 
 -- and so are those of a pair that was read and settled
-pub listed_output : (c : Content) (f j : List ℕ) (h : Option History) (v : Vec ℕ Global) (s : State) → Opens c f j h (Ok (v, s)) → lines_behind 0 s.at (map (λ (r : Record). r.expr) s.records) ≡ listing_output h
+pub listed_output : (c : FileMap) (f j : List ℕ) (h : Option History) (v : Vec ℕ Global) (s : State) → Opens c f j h (Ok (v, s)) → lines_behind 0 s.at (map (λ (r : Record). r.expr) s.records) ≡ listing_output h
 listed_output c f j None v s opens = absurd opens
 listed_output c f j (Some x) v s opens = listed s v.items x opens.at_rest

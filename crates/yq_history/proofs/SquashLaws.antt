@@ -7,17 +7,17 @@ use Rattle.yq_journal.specs.declared.fault.JournalError.TheVariants as error
 use Rattle.yq_journal.specs.declared.fault.JournalFault.TheVariants as journal
 use Rattle.yq_journal.specs.Good.{squash_refusal}
 use Rattle.yq_journal.specs.History.{History, after_squash}
-use Rattle.yq_journal.specs.Refusals.{Tells, squash_fault}
+use Rattle.yq_journal.specs.Refusals.{Reports, squash_fault}
 use Rattle.yq_journal.specs.State.{State, squashed}
 use Rattle.yq_journal.proofs.GoodLaws.{describes}
 use Rattle.yq_journal.proofs.SquashLaws.{squash_fault_of, squash_one, squash_rests}
 use Rattle.yq_history.specs.declared.fault.Fault.{Fault}
 use Rattle.yq_history.specs.Causes.{IsFor, named}
-use Rattle.yq_store.specs.Content.{Content}
+use Rattle.yq_store.specs.FileMap.{FileMap}
 use Rattle.yq_history.specs.Faults.{is_outside, of_fault, of_journal}
-use Rattle.yq_history.specs.Pair.{Arrives, GoodIn, Opens, Rest, Stands, Writes}
+use Rattle.yq_history.specs.Pair.{Arrives, GoodIn, Opens, PairAtRest, PairStands, Writes}
 use Rattle.yq_history.specs.Steps.{squash_cause, squash_next, unless_fault}
-use Rattle.yq_history.proofs.MoveLaws.{cut, told, ends, either, fault_inside, on_ok_map, on_err_map, same_content, wrote_journal}
+use Rattle.yq_history.proofs.MoveLaws.{cut, is_refused, ends, either, fault_inside, on_ok_map, on_err_map, same_content, wrote_journal}
 
 passed : (b : Bool) → (if b then None else Some journal.BadCount) ≡ None → b ≡ true
 passed true e = refl
@@ -29,16 +29,16 @@ within h n free =
     let is : (nat_le 1 n && nat_le n h.at) ≡ true = passed (nat_le 1 n && nat_le n h.at) free in
     (grind (arith, nat_tests, is), grind (arith, nat_tests, is))
 
-module _ (c : Content) (f j : List ℕ) (h : History) (n : ℕ) (s : State) (t : List ℕ) (rest : s.pending ≡ None) (k : Rest c f j s t h) where
+module _ (c : FileMap) (f j : List ℕ) (h : History) (n : ℕ) (s : State) (t : List ℕ) (rest : s.pending ≡ None) (k : PairAtRest c f j s t h) where
   same_fault : squash_fault s n ≡ squash_refusal h n
   same_fault = squash_fault_of s t h n rest k.at_rest
 
   -- the journal refused it
-  pub squash_refused : {T : Type 0} (r : Result T Fault) (e : Fault) (x : JournalError) → r ≡ Err e → e ≡ of_journal x → Tells x (squash_fault s n) → Arrives c f j (squash_cause n (Some h)) (Some h) (squash_next n (Some h)) r
-  squash_refused r e error.Memory is of tells = cut c f j (squash_cause n (Some h)) (Some h) (squash_next n (Some h)) r e is (ap is_outside of) (inl k.stands)
-  squash_refused r e (error.Fault y) is of tells =
-      told c f j (squash_cause n (Some h)) (Some h) (squash_next n (Some h)) r e is (ap is_outside of ∙ fault_inside y)
-      (subst (λ o. IsFor (option_map (λ z. named (of_fault z)) o) e) (sym (sym same_fault ∙ tells)) of) k.stands
+  pub squash_refused : {T : Type 0} (r : Result T Fault) (e : Fault) (x : JournalError) → r ≡ Err e → e ≡ of_journal x → Reports x (squash_fault s n) → Arrives c f j (squash_cause n (Some h)) (Some h) (squash_next n (Some h)) r
+  squash_refused r e error.Memory is of reports = cut c f j (squash_cause n (Some h)) (Some h) (squash_next n (Some h)) r e is (ap is_outside of) (inl k.stands)
+  squash_refused r e (error.Fault y) is of reports =
+      is_refused c f j (squash_cause n (Some h)) (Some h) (squash_next n (Some h)) r e is (ap is_outside of ∙ fault_inside y)
+      (subst (λ o. IsFor (option_map (λ z. named (of_fault z)) o) e) (sym (sym same_fault ∙ reports)) of) k.stands
 
   free_squash : squash_fault s n ≡ None → squash_refusal h n ≡ None
   free_squash free = sym same_fault ∙ free
@@ -50,14 +50,14 @@ module _ (c : Content) (f j : List ℕ) (h : History) (n : ℕ) (s : State) (t :
   next_is free = ap (λ o. Some (unless_fault o h (after_squash h n))) (free_squash free)
 
   -- of one edit nothing is written
-  pub squash_of_one : {T : Type 0} (v : T) (d : Content) → n ≡ 1 → d ≡ c → squash_fault s n ≡ None → Arrives d f j (squash_cause n (Some h)) (Some h) (squash_next n (Some h)) {T = T} (Ok v)
+  pub squash_of_one : {T : Type 0} (v : T) (d : FileMap) → n ≡ 1 → d ≡ c → squash_fault s n ≡ None → Arrives d f j (squash_cause n (Some h)) (Some h) (squash_next n (Some h)) {T = T} (Ok v)
   squash_of_one v d one same free =
       let some : 1 ≤ h.at = omega (arith, one, (within h n (free_squash free)).1) in
-      let stays : after_squash h n ≡ h = ap (after_squash h) one ∙ squash_one h some k.at_rest.tells.within in
+      let stays : after_squash h n ≡ h = ap (after_squash h) one ∙ squash_one h some k.at_rest.reports.within in
       (no_cause free, subst (λ x. GoodIn d f j x) (sym (next_is free ∙ ap Some stays)) (same_content c d f j h same k.stands))
 
-  module _ (apart : f ≢ j) (d : Content) (z : State) (is : z ≡ squashed s n) (free : squash_fault s n ≡ None) where
-    wrote : Writes c d j z → Stands d f j (after_squash h n)
+  module _ (apart : f ≢ j) (d : FileMap) (z : State) (is : z ≡ squashed s n) (free : squash_fault s n ≡ None) where
+    wrote : Writes c d j z → PairStands d f j (after_squash h n)
     wrote w =
         let fits = within h n (free_squash free) in
         wrote_journal f j apart c d t (squashed s n) (after_squash h n) k.file_is (subst (Writes c d j) is w)
@@ -73,8 +73,8 @@ module _ (c : Content) (f j : List ℕ) (h : History) (n : ℕ) (s : State) (t :
         (on_err_map r err (λ x. either x (λ same. inl (same_content c d f j h same k.stands)) (λ w. inr (wrote w)))) out)
 
 -- a pair that was read and settled, and then squashed
-pub squash_opened : (c d : Content) (f j : List ℕ) (n : ℕ) (h : Option History) (v : Vec ℕ Global) (s : State) {T : Type 0} (r : Result T Fault) →
+pub squash_opened : (c d : FileMap) (f j : List ℕ) (n : ℕ) (h : Option History) (v : Vec ℕ Global) (s : State) {T : Type 0} (r : Result T Fault) →
     Opens c f j h (Ok (v, s)) →
-    ((t : List ℕ) (x : History) → Rest c f j s t x → Arrives d f j (squash_cause n (Some x)) (Some x) (squash_next n (Some x)) r) → Arrives d f j (squash_cause n h) h (squash_next n h) r
+    ((t : List ℕ) (x : History) → PairAtRest c f j s t x → Arrives d f j (squash_cause n (Some x)) (Some x) (squash_next n (Some x)) r) → Arrives d f j (squash_cause n h) h (squash_next n h) r
 squash_opened c d f j n None v s r opens k = absurd opens
 squash_opened c d f j n (Some x) v s r opens k = k v.items x opens

@@ -8,7 +8,7 @@ use Rattle.yq_journal.specs.Refusals.{no_way, squash_fault}
 use Rattle.yq_journal.specs.State.{State, moved, moved_text, opened, settled, squashed}
 use Rattle.yq_history.specs.declared.fault.Fault.{Fault}
 use Rattle.yq_history.specs.declared.fault.Fault.TheVariants.{NotThere, DoesNotStand, BadJournal, Unsettled}
-use Rattle.yq_store.specs.Content.{Content}
+use Rattle.yq_store.specs.FileMap.{FileMap}
 use Rattle.yq_history.specs.Pair.{IsJournal}
 use Rattle.yq_history.specs.Faults.{is_outside, of_fault}
 use Rattle.yq_history.specs.Listing.{record_lines}
@@ -19,7 +19,7 @@ use Rattle.yq_history.specs.Causes.{Cause, IsFor, named}
 pub data Effect : Type 0 where
   refuses : Cause → Effect
   writes_nothing : List ℕ → Effect
-  leaves : List ℕ → State → State → Effect
+  writes_both : List ℕ → State → State → Effect
 
 -- what goes on from a text and its journal, settled beside it; J5 where it can't be settled
 abbrev pub from_settled : Option State → List ℕ → (List ℕ → State → Effect) → Effect
@@ -37,13 +37,13 @@ from_pair None journal go = refuses (named NotThere)
 from_pair (Some t) journal go = from_journal (journal_beside journal) t go
 
 -- the same, from what a store holds by the names of both
-abbrev pub from_names : Content → List ℕ → List ℕ → (List ℕ → State → Effect) → Effect
-from_names c file name go = from_pair (get c file) (get c name) go
+abbrev pub from_names : FileMap → List ℕ → List ℕ → (List ℕ → State → Effect) → Effect
+from_names c file journal go = from_pair (get c file) (get c journal) go
 
 -- what a move does, by the text to which it leads, the journal in which it is open, and that behind it; J3 where it leads nowhere
 abbrev pub leads_to : Option (List ℕ) → State → State → Effect
 leads_to None started s = refuses (named DoesNotStand)
-leads_to (Some u) started s = leaves u started s
+leads_to (Some u) started s = writes_both u started s
 
 -- the same, where there may be no way for it: J1, J2 or J6 come first
 abbrev pub goes_to : Option JournalFault → Option (List ℕ) → State → State → Effect
@@ -51,13 +51,13 @@ goes_to (Some f) u started s = refuses (named (of_fault f))
 goes_to None u started s = leads_to u started s
 
 -- what an undo or a redo does to a text and its settled journal
-abbrev pub walk_effect : Move → List ℕ → State → Effect
-walk_effect step t s = goes_to (no_way s.records s.at step) (moved_text s.records s.at step t) (opened s step t) (moved s step)
+abbrev pub move_effect : Move → List ℕ → State → Effect
+move_effect step t s = goes_to (no_way s.records s.at step) (moved_text s.records s.at step t) (opened s step t) (moved s step)
 
 -- what a squash does, by its fault: the file stays, no move is opened, and one edit stays as it is
 abbrev pub joins_to : Option JournalFault → ℕ → List ℕ → State → Effect
 joins_to (Some f) n t s = refuses (named (of_fault f))
-joins_to None n t s = if n == 1 then writes_nothing [] else leaves t s s
+joins_to None n t s = if n == 1 then writes_nothing [] else writes_both t s s
 
 -- what a squash of the last n edits does to a text and its settled journal
 abbrev pub squash_effect : ℕ → List ℕ → State → Effect
@@ -74,20 +74,20 @@ printed_by _ = []
 
 -- what a command leaves that was cut short: the file as it was, and the journal so too or with the move open; or the new text in the file,
 -- and beside it the journal with the move open, or the one behind it
-abbrev pub IsCutShort : List ℕ → State → State → List ℕ → List ℕ → Content → Content → Type 0
-IsCutShort u started s file name old new =
-    ((get new file ≡ get old file) × ((get new name ≡ get old name) ⊎ IsJournal (get new name) started))
-    ⊎ ((get new file ≡ Some u) × (IsJournal (get new name) started ⊎ IsJournal (get new name) s))
+abbrev pub IsCutShort : List ℕ → State → State → List ℕ → List ℕ → FileMap → FileMap → Type 0
+IsCutShort u started s file journal old new =
+    ((get new file ≡ get old file) × ((get new journal ≡ get old journal) ⊎ IsJournal (get new journal) started))
+    ⊎ ((get new file ≡ Some u) × (IsJournal (get new journal) started ⊎ IsJournal (get new journal) s))
 
 -- the same of a move that leads from one text to another, by the journal in which it is opened
-abbrev pub IsMoveCutShort : State → Move → List ℕ → List ℕ → List ℕ → List ℕ → Content → Content → Type 0
-IsMoveCutShort s step t u file name old new = IsCutShort u (opened s step t) (moved s step) file name old new
+abbrev pub IsMoveCutShort : State → Move → List ℕ → List ℕ → List ℕ → List ℕ → FileMap → FileMap → Type 0
+IsMoveCutShort s step t u file journal old new = IsCutShort u (opened s step t) (moved s step) file journal old new
 
 -- the effect came about; where a call of the store failed or memory was refused, what writes nothing wrote nothing, and all else was cut short
-abbrev pub Works : Effect → List ℕ → List ℕ → Content → Content → {T : Type 0} → Result T Fault → Type 0
-Works (refuses x) file name old new (Ok v) = ⊥
-Works (refuses x) file name old new (Err e) = MatchBool (is_outside e) (Unit {0}) (IsFor (Some x) e) × (new ≡ old)
-Works (writes_nothing o) file name old new (Ok v) = new ≡ old
-Works (writes_nothing o) file name old new (Err e) = IsTrue (is_outside e) × (new ≡ old)
-Works (leaves u started s) file name old new (Ok v) = (get new file ≡ Some u) × IsJournal (get new name) s
-Works (leaves u started s) file name old new (Err e) = IsTrue (is_outside e) × IsCutShort u started s file name old new
+abbrev pub Works : Effect → List ℕ → List ℕ → FileMap → FileMap → {T : Type 0} → Result T Fault → Type 0
+Works (refuses x) file journal old new (Ok v) = ⊥
+Works (refuses x) file journal old new (Err e) = MatchBool (is_outside e) (Unit {0}) (IsFor (Some x) e) × (new ≡ old)
+Works (writes_nothing o) file journal old new (Ok v) = new ≡ old
+Works (writes_nothing o) file journal old new (Err e) = IsTrue (is_outside e) × (new ≡ old)
+Works (writes_both u started s) file journal old new (Ok v) = (get new file ≡ Some u) × IsJournal (get new journal) s
+Works (writes_both u started s) file journal old new (Err e) = IsTrue (is_outside e) × IsCutShort u started s file journal old new

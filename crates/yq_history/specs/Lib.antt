@@ -3,6 +3,6 @@ pub mod Effects
 pub mod Faults
 pub mod Listing
 pub mod Pair
-pub mod Shown
+pub mod Report
 pub mod Steps
-pub mod Walks
+pub mod Directions

@@ -2,23 +2,23 @@
 use Rattle.std.specs.Prelude.{◌≡◌, ◌≢◌, ◌⊎◌, ℕ, List, Option, Some, None, Result, Ok, Err, MatchBool, IsTrue, Vec}
 use Rattle.std.specs.FinMap.{get, insert}
 use Rattle.std.specs.declared.alloc.Global.{Global}
-use Rattle.yq_journal.specs.Good.{Good, Holds, AtRest, journal_beside}
+use Rattle.yq_journal.specs.Good.{Good, PairHolds, AtRest, journal_beside}
 use Rattle.yq_journal.specs.History.{History}
 use Rattle.yq_journal.specs.Json.{journal_in, journal_text}
 use Rattle.yq_journal.specs.State.{State}
 use Rattle.yq_history.specs.declared.fault.Fault.{Fault}
 use Rattle.yq_history.specs.declared.fault.Fault.TheVariants.{NotThere}
-use Rattle.yq_store.specs.Content.{Content}
+use Rattle.yq_store.specs.FileMap.{FileMap}
 use Rattle.yq_history.specs.Causes.{Cause, IsFor}
 use Rattle.yq_history.specs.Faults.{is_outside}
 
 -- a file and its journal are good for a history
-abbrev pub GoodIn : Content → List ℕ → List ℕ → Option History → Type 0
-GoodIn content file name h = Good (get content file) (get content name) h
+abbrev pub GoodIn : FileMap → List ℕ → List ℕ → Option History → Type 0
+GoodIn content file journal h = Good (get content file) (get content journal) h
 
 -- and for one that is there
-abbrev pub Stands : Content → List ℕ → List ℕ → History → Type 0
-Stands content file name h = Holds (get content file) (get content name) h
+abbrev pub PairStands : FileMap → List ℕ → List ℕ → History → Type 0
+PairStands content file journal h = PairHolds (get content file) (get content journal) h
 
 -- what a name holds is the journal's text, which reads as that journal
 pub record IsJournal (held : Option (List ℕ)) (s : State) : Type 0 where
@@ -26,30 +26,30 @@ pub record IsJournal (held : Option (List ℕ)) (s : State) : Type 0 where
   pub reads : journal_beside held ≡ Some s
 
 -- the text of a journal was written to a name
-pub record Writes (old new : Content) (name : List ℕ) (s : State) : Type 0 where
+pub record Writes (old new : FileMap) (journal : List ℕ) (s : State) : Type 0 where
   pub reads : journal_in (journal_text s) ≡ Some s
-  pub written : new ≡ insert old name (journal_text s)
+  pub written : new ≡ insert old journal (journal_text s)
 
 -- the file is this text, beside which this journal is at rest, and the pair is good for the history
-pub record Rest (content : Content) (file name : List ℕ) (s : State) (t : List ℕ) (h : History) : Type 0 where
+pub record PairAtRest (content : FileMap) (file journal : List ℕ) (s : State) (t : List ℕ) (h : History) : Type 0 where
   pub file_is : get content file ≡ Some t
   pub at_rest : AtRest s t h
-  pub stands : Stands content file name h
+  pub stands : PairStands content file journal h
 
 -- a text and its journal, read and settled: an error only where there is no file, or from outside
-abbrev pub Opens : Content → List ℕ → List ℕ → Option History → Result (Vec ℕ Global × State) Fault → Type 0
-Opens content file name None (Ok p) = ⊥
-Opens content file name None (Err e) = (e ≡ NotThere) ⊎ IsTrue (is_outside e)
-Opens content file name (Some h) (Ok p) = Rest content file name p.1 p.0.items h
-Opens content file name (Some h) (Err e) = IsTrue (is_outside e)
+abbrev pub Opens : FileMap → List ℕ → List ℕ → Option History → Result (Vec ℕ Global × State) Fault → Type 0
+Opens content file journal None (Ok p) = ⊥
+Opens content file journal None (Err e) = (e ≡ NotThere) ⊎ IsTrue (is_outside e)
+Opens content file journal (Some h) (Ok p) = PairAtRest content file journal p.1 p.0.items h
+Opens content file journal (Some h) (Err e) = IsTrue (is_outside e)
 
 -- a pair after an attempt at going from one history to another: it is good for the second; or it is refused for the cause and good for the first;
 -- or, where a call of the store failed or memory was refused, it is good for either
-abbrev pub Arrives : Content → List ℕ → List ℕ → Option Cause → Option History → Option History → {T : Type 0} → Result T Fault → Type 0
-Arrives content file name cause h k (Ok v) = (cause ≡ None) × GoodIn content file name k
-Arrives content file name cause h k (Err e) =
-    MatchBool (is_outside e) (GoodIn content file name h ⊎ GoodIn content file name k) (IsFor cause e × GoodIn content file name h)
+abbrev pub Arrives : FileMap → List ℕ → List ℕ → Option Cause → Option History → Option History → {T : Type 0} → Result T Fault → Type 0
+Arrives content file journal cause h k (Ok v) = (cause ≡ None) × GoodIn content file journal k
+Arrives content file journal cause h k (Err e) =
+    MatchBool (is_outside e) (GoodIn content file journal h ⊎ GoodIn content file journal k) (IsFor cause e × GoodIn content file journal h)
 
 -- the store's other names hold what they held
-abbrev pub OthersStay : Content → Content → List ℕ → List ℕ → Type 0
-OthersStay old new file name = (q : List ℕ) → q ≢ file → q ≢ name → get new q ≡ get old q
+abbrev pub OthersStay : FileMap → FileMap → List ℕ → List ℕ → Type 0
+OthersStay old new file journal = (q : List ℕ) → q ≢ file → q ≢ journal → get new q ≡ get old q

@@ -14,14 +14,14 @@ unless_fault None h k = k
 unless_fault (Some f) h k = h
 
 -- why an undo or a redo is refused
-abbrev pub walk_cause : Move → Option History → Option Cause
-walk_cause step None = Some (named NotThere)
-walk_cause step (Some h) = option_map (λ f. named (of_fault f)) (step_fault h step)
+abbrev pub move_cause : Move → Option History → Option Cause
+move_cause step None = Some (named NotThere)
+move_cause step (Some h) = option_map (λ f. named (of_fault f)) (step_fault h step)
 
 -- the history after it
-abbrev pub walk_next : Move → Option History → Option History
-walk_next step None = None
-walk_next step (Some h) = Some (unless_fault (step_fault h step) h (after_move h step []))
+abbrev pub move_next : Move → Option History → Option History
+move_next step None = None
+move_next step (Some h) = Some (unless_fault (step_fault h step) h (after_move h step []))
 
 -- why a squash is refused
 abbrev pub squash_cause : ℕ → Option History → Option Cause

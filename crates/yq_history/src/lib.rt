@@ -2,18 +2,18 @@
 #![tactic(auto)]
 
 mod causes;
+mod direction;
 mod fault;
 mod moves;
 mod pair;
 mod printing;
-mod shown;
+mod report;
 mod squashing;
-mod walk;
 
+pub use direction::Direction;
 pub use fault::Fault;
-pub use moves::{carry_out, walk_file};
+pub use moves::{carry_out, move_file};
 pub use pair::open_pair;
 pub use printing::listing;
-pub use shown::Shown;
+pub use report::Report;
 pub use squashing::squash;
-pub use walk::Walk;

@@ -15,17 +15,17 @@ use yq_journal::Journal;
 use yq_store::{FileReadError, Store};
 
 /// Reads a journal; one that isn't there is that of a file that was never edited.
-fn read_journal<D: Store>(alloc: Global, store: &mut D, name: &str) -> Result<Journal, Fault>
+fn read_journal<D: Store>(alloc: Global, store: &mut D, journal: &str) -> Result<Journal, Fault>
     ensures ok { IsTrue D.keeps → IfOk result (λ j. journal_beside
-        (map.get (D.content store.old) name.now) ≡ Some j) }
+        (map.get (D.content store.old) journal.now) ≡ Some j) }
     ensures err { IsTrue D.keeps → IfErr result (λ e. ((e ≡ Fault.BadJournal) ×
-        (journal_beside (map.get (D.content store.old) name.now) ≡ None)) ⊎ IsTrue
+        (journal_beside (map.get (D.content store.old) journal.now) ≡ None)) ⊎ IsTrue
         (is_outside e)) }
     ensures same { IsTrue D.keeps → D.content store.new ≡ D.content store.old }
-    ensures quiet { IfErr result (λ e. is_output e ≡ false) }
+    ensures no_output { IfErr result (λ e. is_output e ≡ false) }
     ensures count { D.failures store.new ≡ counted result (D.failures store.old) }
 {
-    match store.read(alloc, name) {
+    match store.read(alloc, journal) {
         Ok(bytes) => Ok(Journal::from_json(alloc, &bytes)?),
         Err(FileReadError::NotThere) => Ok(Journal::new(alloc)),
         Err(error) => Err(Fault::from(error)),
@@ -36,21 +36,21 @@ fn read_journal<D: Store>(alloc: Global, store: &mut D, name: &str) -> Result<Jo
 pub fn write_journal<D: Store>(
     alloc: Global,
     store: &mut D,
-    name: &str,
-    journal: &Journal,
+    journal: &str,
+    state: &Journal,
 ) -> Result<(), Fault>
     ensures ok { IsTrue D.keeps → OnOk result (Writes (D.content store.old)
-        (D.content store.new) name.now journal.now) }
+        (D.content store.new) journal.now state.now) }
     ensures err { IsTrue D.keeps → OnErr result ((D.content store.new ≡ D.content store.old)
-        ⊎ Writes (D.content store.old) (D.content store.new) name.now journal.now) }
+        ⊎ Writes (D.content store.old) (D.content store.new) journal.now state.now) }
     ensures outside { IfErr result (λ e. IsTrue (is_outside e)) }
-    ensures others { IsTrue D.keeps → (q : List ℕ) → q ≢ name.now →
+    ensures others { IsTrue D.keeps → (q : List ℕ) → q ≢ journal.now →
         map.get (D.content store.new) q ≡ map.get (D.content store.old) q }
-    ensures quiet { IfErr result (λ e. is_output e ≡ false) }
+    ensures no_output { IfErr result (λ e. is_output e ≡ false) }
     ensures count { D.failures store.new ≡ counted result (D.failures store.old) }
 {
-    let bytes = journal.to_json(alloc)?;
-    store.replace(name, &bytes)?;
+    let bytes = state.to_json(alloc)?;
+    store.replace(journal, &bytes)?;
     Ok(())
 }
 
@@ -59,25 +59,25 @@ pub fn open_pair<D: Store>(
     alloc: Global,
     store: &mut D,
     file: &str,
-    name: &str,
+    journal: &str,
 ) -> Result<(Vec<u8>, Journal), Fault>
     ensures opens { IsTrue D.keeps → (h : Option History) →
-        GoodIn (D.content store.old) file.now name.now h →
-        Opens (D.content store.new) file.now name.now h result }
+        GoodIn (D.content store.old) file.now journal.now h →
+        Opens (D.content store.new) file.now journal.now h result }
     ensures found { IsTrue D.keeps → IfOk result (λ p. (go : List ℕ → State → Effect) →
-        from_names (D.content store.old) file.now name.now go ≡ go p.0.items p.1) }
+        from_names (D.content store.old) file.now journal.now go ≡ go p.0.items p.1) }
     ensures missed { IsTrue D.keeps → IfErr result (λ e. is_outside e ≡ false →
         (go : List ℕ → State → Effect) →
-        from_names (D.content store.old) file.now name.now go ≡ refuses (named e)) }
+        from_names (D.content store.old) file.now journal.now go ≡ refuses (named e)) }
     ensures same { IsTrue D.keeps → D.content store.new ≡ D.content store.old }
     ensures text { IsTrue D.keeps → IfOk result (λ p. map.get (D.content store.old) file.now ≡
         Some p.0.items) }
     ensures at_rest { IfOk result (λ p. IsNone p.1.pending) }
-    ensures quiet { IfErr result (λ e. is_output e ≡ false) }
+    ensures no_output { IfErr result (λ e. is_output e ≡ false) }
     ensures count { D.failures store.new ≡ counted result (D.failures store.old) }
 {
     let text = store.read(alloc, file)?;
-    let mut journal = read_journal(alloc, store, name)?;
-    journal.settle(&text)?;
-    Ok((text, journal))
+    let mut state = read_journal(alloc, store, journal)?;
+    state.settle(&text)?;
+    Ok((text, state))
 }

@@ -7,12 +7,12 @@ ghost use Rattle.yq_history.specs.Effects.{Works, from_names, listing_effect, pr
 ghost use Rattle.yq_history.specs.Faults.{is_output, counted};
 ghost use Rattle.yq_history.specs.Pair.{Arrives, GoodIn};
 ghost use Rattle.yq_history.specs.Listing as spec;
-ghost use Rattle.yq_history.specs.Shown.{nothing, shown_by, text as shown_text};
+ghost use Rattle.yq_history.specs.Report.{nothing, report_by, text as report_text};
 ghost use Rattle.yq_history.specs.Steps.{listing_cause};
 
 use crate::fault::Fault;
 use crate::pair::open_pair;
-use crate::shown::Shown;
+use crate::report::Report;
 use serde_json::Value;
 use std::alloc::{AllocError, Global};
 use yq_journal::Journal;
@@ -55,12 +55,12 @@ fn edit_line(alloc: Global, number: usize, is_done: bool, expr: &str) -> Result<
 }
 
 /// A line for each record, oldest first.
-fn lines_of(alloc: Global, journal: &Journal) -> Result<String, AllocError>
-    ensures { IfOk result (λ s. string_bytes s ≡ spec.record_lines journal.now) }
+fn lines_of(alloc: Global, state: &Journal) -> Result<String, AllocError>
+    ensures { IfOk result (λ s. string_bytes s ≡ spec.record_lines state.now) }
 {
     let mut lines = String::new(alloc);
-    'records: for i in 0..journal.len() {
-        let line = edit_line(alloc, i + 1, i < journal.at(), &journal.record(i).expr)?;
+    'records: for i in 0..state.len() {
+        let line = edit_line(alloc, i + 1, i < state.at(), &state.record(i).expr)?;
         lines.push_str(&line)?;
     }
     Ok(lines)
@@ -71,27 +71,27 @@ pub fn listing<D: Store>(
     alloc: Global,
     store: &mut D,
     file: &str,
-    name: &str,
-    shown: &mut Shown,
+    journal: &str,
+    report: &mut Report,
 ) -> Result<(), Fault>
-    requires empty { shown_by shown.old ≡ nothing }
+    requires empty { report_by report.old ≡ nothing }
     ensures arrives { IsTrue D.keeps → (h : Option History) →
-        GoodIn (D.content store.old) file.now name.now h →
-        Arrives (D.content store.new) file.now name.now (listing_cause h) h h result }
-    ensures effect { IsTrue D.keeps → Works (from_names (D.content store.old) file.now name.now
-        listing_effect) file.now name.now (D.content store.old)
+        GoodIn (D.content store.old) file.now journal.now h →
+        Arrives (D.content store.new) file.now journal.now (listing_cause h) h h result }
+    ensures effect { IsTrue D.keeps → Works (from_names (D.content store.old) file.now journal.now
+        listing_effect) file.now journal.now (D.content store.old)
         (D.content store.new) result }
-    ensures lines { IsTrue D.keeps → OnOk result (string_bytes shown.new.text ≡
-        printed_by (from_names (D.content store.old) file.now name.now listing_effect)) }
+    ensures lines { IsTrue D.keeps → OnOk result (string_bytes report.new.text ≡
+        printed_by (from_names (D.content store.old) file.now journal.now listing_effect)) }
     ensures output { IsTrue D.keeps → (h : Option History) →
-        GoodIn (D.content store.old) file.now name.now h →
-        OnOk result (shown_by shown.new ≡ shown_text (spec.listing_output h)) }
-    ensures matched { shown.new.is_match ≡ true }
+        GoodIn (D.content store.old) file.now journal.now h →
+        OnOk result (report_by report.new ≡ report_text (spec.listing_output h)) }
+    ensures matched { report.new.is_match ≡ true }
     ensures same { IsTrue D.keeps → D.content store.new ≡ D.content store.old }
-    ensures quiet { IfErr result (λ e. is_output e ≡ false) }
+    ensures no_output { IfErr result (λ e. is_output e ≡ false) }
     ensures count { D.failures store.new ≡ counted result (D.failures store.old) }
 {
-    let (_text, journal) = open_pair(alloc, store, file, name)?;
-    shown.text = lines_of(alloc, &journal)?;
+    let (_text, state) = open_pair(alloc, store, file, journal)?;
+    report.text = lines_of(alloc, &state)?;
     Ok(())
 }

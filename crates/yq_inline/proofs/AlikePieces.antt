@@ -5,10 +5,10 @@ use Rattle.yq_scalar.specs.Quoted.{Char, itself, doubled, escape, code, spell_ch
 use Rattle.yq_scalar.specs.Text.{NoneIn, front, unless, is_break}
 use Rattle.yq_inline.specs.declared.gap.Before.{Before}
 use Rattle.yq_inline.specs.declared.gap.Before.TheVariants.{Token, White, Break, Comment}
-use Rattle.yq_inline.specs.Gaps.{goes, next, behind, is_break as at_break, AllGo, stops, IsGap}
+use Rattle.yq_inline.specs.Gaps.{goes, next, behind, is_break as at_break, AllGo, stops, IsInlineGap}
 use Rattle.yq_inline.specs.Nodes.{in_name, IsName}
 use Rattle.yq_inline.specs.Alike.{is_stop, Alike, stop, colon, any_colon, byte, after}
-use Rattle.yq_inline.specs.Scalars.{IsScalar}
+use Rattle.yq_inline.specs.Scalars.{IsScalarAt}
 use Rattle.yq_inline.proofs.Alikes.{alike_append, alike_front, alike_unless, stop_break, alike_break, alike_space, alike_marker, plain_alike}
 
 -- quoted scalars
@@ -55,7 +55,7 @@ quoted_alike f q ls p t u h g = record {
 }
 
 -- scalars, names and gaps
-pub scalar_alike : (flow : Bool) (spaces : Option ℕ) (p t u : List ℕ) → Alike (Some flow) t u → IsScalar flow spaces p t → IsScalar flow spaces p u
+pub scalar_alike : (flow : Bool) (spaces : Option ℕ) (p t u : List ℕ) → Alike (Some flow) t u → IsScalarAt flow spaces p t → IsScalarAt flow spaces p u
 scalar_alike flow spaces p t u h (inl g) = inl (plain_alike flow spaces p t u h g)
 scalar_alike flow spaces p t u h (inr g) = inr ((g.0.0, (g.0.1.0, quoted_alike (Some flow) g.0.0 g.0.1.0 p t u h g.0.1.1)), g.1)
 
@@ -92,7 +92,7 @@ stops_alike _ before _ _ (any_colon {t} {u}) = byte_stops before 58 t u refl
 stops_alike _ before _ _ (byte {f} {b} {t} {u} v w x y) = byte_stops before b t u (alike_break f (b ∷ t) (b ∷ u) (byte {f = f} v w x y))
 stops_alike _ before _ _ (after {f} {b} {t} {u} h) = ap not (goes_alike f before b t u h)
 
-pub gap_alike : (f : Option Bool) (p t u : List ℕ) → Alike f t u → IsGap p t → IsGap p u
+pub gap_alike : (f : Option Bool) (p t u : List ℕ) → Alike f t u → IsInlineGap p t → IsInlineGap p u
 gap_alike f p t u h g = record {
   inside = all_go_alike f Token p t u h g.inside;
   ends = sym (stops_alike f (behind Token p) t u h) ∙ g.ends;

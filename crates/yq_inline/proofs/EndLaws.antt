@@ -9,9 +9,9 @@ use Rattle.yq_scalar.proofs.Bools.{at_byte}
 use Rattle.yq_inline.specs.declared.gap.Before.{Before}
 use Rattle.yq_inline.specs.declared.gap.Before.TheVariants.{Token, White, Break, Comment}
 use Rattle.yq_inline.specs.Alike.{EndsItem, fresh, KeepsApart}
-use Rattle.yq_inline.specs.Gaps.{goes, next, is_comment, AllGo, IsGap}
+use Rattle.yq_inline.specs.Gaps.{goes, next, is_comment, AllGo, IsInlineGap}
 use Rattle.yq_inline.specs.Nodes.{in_name, begins_node, is_close}
-use Rattle.yq_inline.specs.Scalars.{IsScalar}
+use Rattle.yq_inline.specs.Scalars.{IsScalarAt}
 use Rattle.yq_inline.proofs.Alikes.{no_first}
 use Rattle.yq_inline.proofs.AlikePieces.{quoted_any}
 use Rattle.yq_inline.proofs.PieceLaws.{front_not, scalar_some}
@@ -29,7 +29,7 @@ by_close P k c h e p q r = ⊎_elim {0, 0, 0}
 -- what is in front of that which stands behind an item
 pub ends_by : (P : List ℕ → Type 0) (k : ℕ) (t : List ℕ) → is_close k ≡ true → EndsItem k t → ((r : List ℕ) → P (44 ∷ r)) → ((r : List ℕ) → P (93 ∷ r)) → ((r : List ℕ) → P (125 ∷ r)) → ((b : ℕ) (r : List ℕ) → is_space (b ∷ r) ≡ true → P (b ∷ r)) → P t
 ends_by P k t h e p q r s = go e.gap e.spelled e.is_gap where
-  go : (g : List ℕ) → t ≡ g ++ (e.close ∷ e.rest) → IsGap g (e.close ∷ e.rest) → P t
+  go : (g : List ℕ) → t ≡ g ++ (e.close ∷ e.rest) → IsInlineGap g (e.close ∷ e.rest) → P t
   go [] is gap = subst P (sym is) (by_close (λ c. P (c ∷ e.rest)) k e.close h e.ends (p e.rest) (q e.rest) (r e.rest))
   go (b ∷ g) is gap = subst P (sym is) (s b (g ++ (e.close ∷ e.rest)) gap.inside.0)
 
@@ -231,6 +231,6 @@ plain_keeps k f (b ∷ p) t u h e d keeps g = record {
 }
 
 -- a scalar before what stands behind an item is one before another such text
-pub scalar_keeps : (k : ℕ) (f : Bool) (p t u : List ℕ) → is_close k ≡ true → EndsItem k t → EndsItem k u → KeepsApart f p t u → IsScalar true (Some 0) p t → IsScalar true (Some 0) p u
+pub scalar_keeps : (k : ℕ) (f : Bool) (p t u : List ℕ) → is_close k ≡ true → EndsItem k t → EndsItem k u → KeepsApart f p t u → IsScalarAt true (Some 0) p t → IsScalarAt true (Some 0) p u
 scalar_keeps k f p t u h e d keeps (inl g) = inl (plain_keeps k f p t u h e d keeps g)
 scalar_keeps k f p t u h e d keeps (inr g) = inr ((g.0.0, (g.0.1.0, quoted_any g.0.0 g.0.1.0 p t u (ends_quote k u h d) g.0.1.1)), g.1)

@@ -7,7 +7,7 @@ use Rattle.std.proofs.lemmas.Option.{same_Some}
 use Rattle.yq_scalar.specs.Text.{is_marker}
 use Rattle.yq_inline.specs.declared.gap.Before.{Before}
 use Rattle.yq_inline.specs.declared.gap.Before.TheVariants.{Token}
-use Rattle.yq_inline.specs.Gaps.{goes, next, behind, is_break, AllGo, stops, IsGap}
+use Rattle.yq_inline.specs.Gaps.{goes, next, behind, is_break, AllGo, stops, IsInlineGap}
 use Rattle.yq_inline.specs.Reading.{gap_len, gap_end, gap_at}
 use Rattle.yq_inline.proofs.Binds.{not_then}
 
@@ -22,13 +22,13 @@ gap_cut s (b ∷ bs) = let again = gap_cut (next s b) bs in
     (λ h. ((rw (take-append-drop (gap_len (next s b) bs) bs) h, again.0), again.1, rw h again.2))
     (λ h. (tt, rw h refl, rw h refl))
 
-pub gap_takes : (t : List ℕ) (x : List ℕ × List ℕ) → gap_at t ≡ Some x → (t ≡ x.0 ++ x.1) × IsGap x.0 x.1
+pub gap_takes : (t : List ℕ) (x : List ℕ × List ℕ) → gap_at t ≡ Some x → (t ≡ x.0 ++ x.1) × IsInlineGap x.0 x.1
 unfolding gap_at
 gap_takes t x h =
     let n = gap_len Token t in
     let c = gap_cut Token t in
     let g = not_then (is_break (gap_end Token t) && is_marker (drop n t)) h in
-    subst (λ (y : List ℕ × List ℕ). (t ≡ y.0 ++ y.1) × IsGap y.0 y.1) (same_Some _ _ g.1)
+    subst (λ (y : List ℕ × List ℕ). (t ≡ y.0 ++ y.1) × IsInlineGap y.0 y.1) (same_Some _ _ g.1)
     (sym (take-append-drop n t), record { inside = c.0; ends = c.1; unmarked = subst (λ (s : Before). (is_break s && is_marker (drop n t)) ≡ false) c.2 g.0 })
 
 pub gap_append : (s : Before) (p rest : List ℕ) → AllGo s p rest → stops (behind s p) rest ≡ true → (gap_len s (p ++ rest) ≡ length p) × (gap_end s (p ++ rest) ≡ behind s p)
@@ -37,12 +37,12 @@ gap_append s [] [] h e = (refl, refl)
 gap_append s [] (b ∷ rest) h e = let g = not-true (goes s b rest) e in (rw g refl, rw g refl)
 gap_append s (b ∷ p) rest h e = let again = gap_append (next s b) p rest h.1 e in (rw h.0 (ap suc again.0), rw h.0 again.1)
 
-pub gap_again : (p rest : List ℕ) → IsGap p rest → gap_at (p ++ rest) ≡ Some (p, rest)
+pub gap_again : (p rest : List ℕ) → IsInlineGap p rest → gap_at (p ++ rest) ≡ Some (p, rest)
 unfolding gap_at
 gap_again p rest h =
     let g = gap_append Token p rest h.inside h.ends in
     rw (g.0, g.1) (rw (drop-append_seam, take-append_seam) (rw h.unmarked refl))
 
 -- no gap
-pub none_gap : (rest : List ℕ) → stops Token rest ≡ true → IsGap [] rest
+pub none_gap : (rest : List ℕ) → stops Token rest ≡ true → IsInlineGap [] rest
 none_gap rest h = record { inside = tt; ends = h; unmarked = refl }

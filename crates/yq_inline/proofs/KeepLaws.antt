@@ -6,9 +6,9 @@ use Rattle.yq_scalar.specs.Text.{front, is_feed, is_space, is_marker}
 use Rattle.yq_inline.specs.declared.gap.Before.{Before}
 use Rattle.yq_inline.specs.declared.gap.Before.TheVariants.{Token, White, Break, Comment}
 use Rattle.yq_inline.specs.Alike.{Alike, after, fresh, KeepsApart}
-use Rattle.yq_inline.specs.Gaps.{goes, next, behind, is_comment, is_break as at_break, AllGo, stops, IsGap}
+use Rattle.yq_inline.specs.Gaps.{goes, next, behind, is_comment, is_break as at_break, AllGo, stops, IsInlineGap}
 use Rattle.yq_inline.specs.Nodes.{Node, empty, alias, scalar, coll, anchored, node_text, items_text, open_of, first_is, begins_content, begins_node, is_bare, takes_anchor, IsNode}
-use Rattle.yq_inline.specs.Scalars.{begins_scalar, IsScalar}
+use Rattle.yq_inline.specs.Scalars.{begins_scalar, IsScalarAt}
 use Rattle.yq_inline.proofs.Alikes.{alike_append, alike_space, alike_marker}
 use Rattle.yq_inline.proofs.PieceLaws.{scalar_begins, scalar_some}
 use Rattle.yq_inline.proofs.WrittenLaws.{node_then}
@@ -54,7 +54,7 @@ stops_keeps White b x y k h = let q = or_parts (is_space (b ∷ x)) (eqb b 35) (
 stops_keeps Break b x y k h = let q = or_parts (is_space (b ∷ x)) (eqb b 35) (not-true (is_space (b ∷ x) || eqb b 35) h) in rw (k q.0, q.1) refl
 stops_keeps Comment b x y k h = absurd (false≢true h)
 
-pub gap_keeps : (g : List ℕ) (b : ℕ) (p t u : List ℕ) → KeepsApart (fresh false g) (b ∷ p) t u → IsGap g (b ∷ (p ++ t)) → IsGap g (b ∷ (p ++ u))
+pub gap_keeps : (g : List ℕ) (b : ℕ) (p t u : List ℕ) → KeepsApart (fresh false g) (b ∷ p) t u → IsInlineGap g (b ∷ (p ++ t)) → IsInlineGap g (b ∷ (p ++ u))
 gap_keeps g b p t u keeps h = record {
   inside = go_front Token g (b ∷ (p ++ t)) (b ∷ (p ++ u)) refl h.inside;
   ends = stops_keeps (behind Token g) b (p ++ t) (p ++ u) keeps.0 h.ends;
@@ -65,7 +65,7 @@ gap_keeps g b p t u keeps h = record {
 }
 
 -- a node that is something
-content_begins : (flow : Bool) (spaces : Option ℕ) (p rest : List ℕ) → IsScalar flow spaces p rest → begins_content flow (p ++ rest) ≡ true
+content_begins : (flow : Bool) (spaces : Option ℕ) (p rest : List ℕ) → IsScalarAt flow spaces p rest → begins_content flow (p ++ rest) ≡ true
 content_begins flow spaces p rest h =
     let t : List ℕ = p ++ rest in
     or_right (first_is 42 t) _ (or_right (first_is 91 t) _ (or_right (first_is 123 t) (begins_scalar flow t) (scalar_begins flow spaces p rest h)))
@@ -108,12 +108,12 @@ some_text d (coll k g is) rest e h = (open_of k, (g ++ items_text k is [], refl)
 some_text d (anchored n g node) rest e h = (38, (n ++ (g ++ node_text node []), refl))
 
 -- a gap before a text that isn't empty
-pub gap_some : (g x t u : List ℕ) → NotEmpty x → KeepsApart (fresh false g) x t u → IsGap g (x ++ t) → IsGap g (x ++ u)
+pub gap_some : (g x t u : List ℕ) → NotEmpty x → KeepsApart (fresh false g) x t u → IsInlineGap g (x ++ t) → IsInlineGap g (x ++ u)
 gap_some g x t u s keeps h =
     let k : KeepsApart (fresh false g) (s.0 ∷ s.1.0) t u = subst (λ (l : List ℕ). KeepsApart (fresh false g) l t u) s.1.1 keeps in
-    let old : IsGap g (s.0 ∷ (s.1.0 ++ t)) = subst (λ (l : List ℕ). IsGap g (l ++ t)) s.1.1 h in
-    subst (λ (l : List ℕ). IsGap g (l ++ u)) (sym s.1.1) (gap_keeps g s.0 s.1.0 t u k old)
+    let old : IsInlineGap g (s.0 ∷ (s.1.0 ++ t)) = subst (λ (l : List ℕ). IsInlineGap g (l ++ t)) s.1.1 h in
+    subst (λ (l : List ℕ). IsInlineGap g (l ++ u)) (sym s.1.1) (gap_keeps g s.0 s.1.0 t u k old)
 
-pub gap_node : (g : List ℕ) (d : ℕ) (n : Node) (t u : List ℕ) → is_bare n ≡ false → IsNode true (Some 0) d n t → KeepsApart (fresh false g) (node_text n []) t u → IsGap g (node_text n t) → IsGap g (node_text n u)
+pub gap_node : (g : List ℕ) (d : ℕ) (n : Node) (t u : List ℕ) → is_bare n ≡ false → IsNode true (Some 0) d n t → KeepsApart (fresh false g) (node_text n []) t u → IsInlineGap g (node_text n t) → IsInlineGap g (node_text n u)
 gap_node g d n t u some h keeps gap =
-    subst (λ (l : List ℕ). IsGap g l) (sym (node_then n u)) (gap_some g (node_text n []) t u (some_text d n t some h) keeps (subst (λ (l : List ℕ). IsGap g l) (node_then n t) gap))
+    subst (λ (l : List ℕ). IsInlineGap g l) (sym (node_then n u)) (gap_some g (node_text n []) t u (some_text d n t some h) keeps (subst (λ (l : List ℕ). IsInlineGap g l) (node_then n t) gap))

@@ -10,7 +10,7 @@ use Rattle.yq_scalar.specs.declared.style.Style.TheVariants as styles
 use Rattle.yq_inline.specs.Measured.{kind_of_style, measure, measured, past, is_bare, may_follow}
 use Rattle.yq_inline.specs.Nodes.{Node, first_is, begins_content, coll, Items}
 use Rattle.yq_inline.specs.Places.{Placed, placed, Content, nothing, name, text, sequence, mapping, Parts, part, with_anchor, placed_between, bare_placed, holder, key_here, locate_items}
-use Rattle.yq_inline.specs.PlacedReading.{content_in, placed_node, placed_items, placed_content, placed_coll, placed_item, placed_entry, seen_key, past_sep, stands_behind, then_anchored}
+use Rattle.yq_inline.specs.PlacedReading.{content_in, placed_node, placed_items, placed_content, placed_coll, placed_item, placed_entry, split_key, past_sep, stands_behind, then_anchored}
 use Rattle.yq_inline.specs.Reading.{gap_at, scalar_at, name_at, lead_at, coll_at, content_at, kids_of, all_items}
 use Rattle.yq_inline.specs.Scalars.{style_of, begins_scalar}
 use Rattle.yq_inline.specs.declared.measuring.NodeKind.{NodeKind}
@@ -256,20 +256,20 @@ past_value : (key : List ℕ × Piece) (o : Option (Placed × List ℕ)) → pas
 past_value key None = refl
 past_value key (Some x) = past_entry key x.0 (past_sep 125 x.1)
 
-entry_is : (d : ℕ) (t k u : List ℕ) → seen_key t ≡ Some (k, u) → past (placed_entry 0 d t) ≡ (past (placed_node true (Some 0) 0 d u) >>= past_sep 125)
+entry_is : (d : ℕ) (t k u : List ℕ) → split_key t ≡ Some (k, u) → past (placed_entry 0 d t) ≡ (past (placed_node true (Some 0) 0 d u) >>= past_sep 125)
 entry_is d t k u h = rw h (past_value (key_here 0 t k) (placed_node true (Some 0) 0 d u))
 
 past_measured : (o : Option (Placed × List ℕ)) → past o ≡ past (measured o)
 past_measured None = refl
 past_measured (Some x) = refl
 
-pub entry_no_key : (d : ℕ) (t : List ℕ) → seen_key t ≡ None → past (placed_entry 0 d t) ≡ None
+pub entry_no_key : (d : ℕ) (t : List ℕ) → split_key t ≡ None → past (placed_entry 0 d t) ≡ None
 entry_no_key d t h = rw h refl
 
-pub entry_none : (d : ℕ) (t k u : List ℕ) → seen_key t ≡ Some (k, u) → measured (placed_node true (Some 0) 0 d u) ≡ None → past (placed_entry 0 d t) ≡ None
+pub entry_none : (d : ℕ) (t k u : List ℕ) → split_key t ≡ Some (k, u) → measured (placed_node true (Some 0) 0 d u) ≡ None → past (placed_entry 0 d t) ≡ None
 entry_none d t k u h e = entry_is d t k u h ∙ ap (λ o. o >>= past_sep 125) (past_measured (placed_node true (Some 0) 0 d u) ∙ ap past e)
 
-pub entry_some : (d : ℕ) (t k u r : List ℕ) (a : Bool) (kind : NodeKind) → seen_key t ≡ Some (k, u) → measured (placed_node true (Some 0) 0 d u) ≡ Some ((a, kind), r) → past (placed_entry 0 d t) ≡ past_sep 125 r
+pub entry_some : (d : ℕ) (t k u r : List ℕ) (a : Bool) (kind : NodeKind) → split_key t ≡ Some (k, u) → measured (placed_node true (Some 0) 0 d u) ≡ Some ((a, kind), r) → past (placed_entry 0 d t) ≡ past_sep 125 r
 entry_some d t k u r a kind h e = entry_is d t k u h ∙ ap (λ o. o >>= past_sep 125) (past_measured (placed_node true (Some 0) 0 d u) ∙ ap past e)
 
 entries_are : (d : ℕ) (t : List ℕ) → first_is 125 t ≡ false → past (placed_items 0 d 125 t) ≡ (past (placed_entry 0 d t) >>= λ r. past (placed_items 0 d 125 r))

@@ -3,9 +3,9 @@ use Rattle.std.proofs.Common.{◌≡◌, ℕ, zero, suc, ◌≤◌, ◌<◌, Boo
 use Rattle.std.proofs.lemmas.Bool.{false≢true, cond_both, not-true, or_cases}
 use Rattle.yq_scalar.specs.Text.{is_empty}
 use Rattle.yq_scalar.specs.Answers.{◌>>=◌}
-use Rattle.yq_inline.specs.Gaps.{IsGap}
-use Rattle.yq_inline.specs.Scalars.{IsScalar, begins_scalar}
-use Rattle.yq_inline.specs.Nodes.{first_is, Key, bare, keyed, Sep, last, comma, Node, empty, alias, scalar, coll, anchored, Items, none, item, key_text, sep_text, node_text, items_text, begins_content, IsLead, IsName, IsKey, is_keyed, is_bare, takes_anchor, IsNode, AreItems, is_close, open_of}
+use Rattle.yq_inline.specs.Gaps.{IsInlineGap}
+use Rattle.yq_inline.specs.Scalars.{IsScalarAt, begins_scalar}
+use Rattle.yq_inline.specs.Nodes.{first_is, Key, bare, keyed, Sep, last, comma, Node, empty, alias, scalar, coll, anchored, Items, none, item, key_text, sep_text, node_text, items_text, begins_content, IsLead, IsName, IsInlineKey, is_keyed, is_bare, takes_anchor, IsNode, AreItems, is_close, open_of}
 use Rattle.yq_inline.specs.Reading.{sep_at, Kids, coll_at, content_at, node_at, deeper, items_at}
 use Rattle.yq_inline.proofs.GapLaws.{gap_again}
 use Rattle.yq_inline.proofs.PieceLaws.{scalar_begins, scalar_again, name_again, lead_again, key_again, sep_again, front_not, scalar_some}
@@ -32,7 +32,7 @@ alias_content : (flow : Bool) (spaces : Option ℕ) (kids : Kids) (n rest : List
 unfolding content_at
 alias_content flow spaces kids n rest h = rw (name_again n rest h) refl
 
-scalar_content : (flow : Bool) (spaces : Option ℕ) (kids : Kids) (p rest : List ℕ) → IsScalar flow spaces p rest → content_at flow spaces kids (p ++ rest) ≡ Some (scalar p, rest)
+scalar_content : (flow : Bool) (spaces : Option ℕ) (kids : Kids) (p rest : List ℕ) → IsScalarAt flow spaces p rest → content_at flow spaces kids (p ++ rest) ≡ Some (scalar p, rest)
 unfolding content_at
 scalar_content flow spaces kids p rest h =
     let t = p ++ rest in
@@ -40,15 +40,15 @@ scalar_content flow spaces kids p rest h =
     rw (letter_front flow 42 t (λ bs. refl) b, letter_front flow 91 t (λ bs. refl) b, letter_front flow 123 t (λ bs. refl) b)
     (rw b (rw (scalar_again flow spaces p rest h) refl))
 
-coll_content : (flow : Bool) (spaces : Option ℕ) (kids : Kids) (k : ℕ) (g : List ℕ) (is : Items) (rest : List ℕ) → is_close k ≡ true → IsGap g (items_text k is rest) → kids k (items_text k is rest) ≡ Some (is, rest) →
+coll_content : (flow : Bool) (spaces : Option ℕ) (kids : Kids) (k : ℕ) (g : List ℕ) (is : Items) (rest : List ℕ) → is_close k ≡ true → IsInlineGap g (items_text k is rest) → kids k (items_text k is rest) ≡ Some (is, rest) →
     content_at flow spaces kids (open_of k ∷ (g ++ items_text k is rest)) ≡ Some (coll k g is, rest)
 unfolding content_at coll_at
 coll_content flow spaces kids k g is rest close gap h = ⊎_elim {0, 0, 0}
     (λ e. let same : k ≡ 93 = eqb-true k 93 e in
-    subst (λ (c : ℕ). (kids c (items_text c is rest) ≡ Some (is, rest)) → IsGap g (items_text c is rest) → content_at flow spaces kids (open_of c ∷ (g ++ items_text c is rest)) ≡ Some (coll c g is, rest))
+    subst (λ (c : ℕ). (kids c (items_text c is rest) ≡ Some (is, rest)) → IsInlineGap g (items_text c is rest) → content_at flow spaces kids (open_of c ∷ (g ++ items_text c is rest)) ≡ Some (coll c g is, rest))
     (sym same) (λ h gap. rw (gap_again g (items_text 93 is rest) gap) (rw h refl)) h gap)
     (λ e. let same : k ≡ 125 = eqb-true k 125 e in
-    subst (λ (c : ℕ). (kids c (items_text c is rest) ≡ Some (is, rest)) → IsGap g (items_text c is rest) → content_at flow spaces kids (open_of c ∷ (g ++ items_text c is rest)) ≡ Some (coll c g is, rest))
+    subst (λ (c : ℕ). (kids c (items_text c is rest) ≡ Some (is, rest)) → IsInlineGap g (items_text c is rest) → content_at flow spaces kids (open_of c ∷ (g ++ items_text c is rest)) ≡ Some (coll c g is, rest))
     (sym same) (λ h gap. rw (gap_again g (items_text 125 is rest) gap) (rw h refl)) h gap)
     (or_cases (eqb k 93) (eqb k 125) close)
 
@@ -120,11 +120,11 @@ node_front flow spaces d k (scalar p) rest c e h = letter_front flow k (p ++ res
 node_front flow spaces d k (coll j g is) rest c e h = open_close j k c
 node_front flow spaces d k (anchored n g node) rest c e h = (close_letter k c).3
 
-pub item_front : (flow : Bool) (spaces : Option ℕ) (d k : ℕ) (key : Key) (node : Node) (rest : List ℕ) → is_close k ≡ true → (is_keyed key || not (is_bare node)) ≡ true → IsKey k key (node_text node rest) → IsNode flow spaces d node rest → first_is k (key_text key (node_text node rest)) ≡ false
+pub item_front : (flow : Bool) (spaces : Option ℕ) (d k : ℕ) (key : Key) (node : Node) (rest : List ℕ) → is_close k ≡ true → (is_keyed key || not (is_bare node)) ≡ true → IsInlineKey k key (node_text node rest) → IsNode flow spaces d node rest → first_is k (key_text key (node_text node rest)) ≡ false
 item_front flow spaces d k bare node rest c e a h = node_front flow spaces d k node rest c (not-true (is_bare node) e) h
 item_front flow spaces d k (keyed t b g) node rest c e a h = letter_front true k (t ++ (b ++ (58 ∷ (g ++ node_text node rest)))) ((close_letter k c).0 true) (scalar_begins true None t (b ++ (58 ∷ (g ++ node_text node rest))) a.1)
 
-pub key_in_again : (k : ℕ) (key : Key) (rest : List ℕ) → IsKey k key rest → key_in k (key_text key rest) ≡ Some (key, rest)
+pub key_in_again : (k : ℕ) (key : Key) (rest : List ℕ) → IsInlineKey k key rest → key_in k (key_text key rest) ≡ Some (key, rest)
 key_in_again k bare rest h = rw h refl
 key_in_again k (keyed t b g) rest h = rw h.0 (key_again (keyed t b g) rest refl (refl, h.1, h.2, h.3, h.4))
 

@@ -4,7 +4,7 @@ use Rattle.std.proofs.lemmas.Bool.{or_cases, or_right, not-false, cases_Bool, or
 use Rattle.yq_scalar.specs.Text.{NoneIn, unless, is_empty, is_feed}
 use Rattle.yq_scalar.proofs.Bools.{at_byte}
 use Rattle.yq_inline.specs.Alike.{Alike, stop, after, EndsItem, fresh, KeepsApart}
-use Rattle.yq_inline.specs.Gaps.{IsGap}
+use Rattle.yq_inline.specs.Gaps.{IsInlineGap}
 use Rattle.yq_inline.specs.Nodes.{Key, bare, keyed, Sep, last, comma, Node, empty, alias, scalar, coll, anchored, Items, none, item, key_text, sep_text, node_text, items_text, first_is, in_name, begins_content, is_close, IsLead, IsName, IsSep, is_bare, takes_anchor, IsNode, AreItems}
 use Rattle.yq_inline.proofs.Alikes.{alike_append, alike_first}
 use Rattle.yq_inline.proofs.AlikePieces.{gap_alike, name_by}
@@ -18,7 +18,7 @@ use Rattle.yq_inline.proofs.KeepLaws.{keeps_alike, keeps_append, bare_text, take
 pub sep_ends : (k : ℕ) (s : Sep) (r : List ℕ) → IsSep k s r → EndsItem k (sep_text s r)
 sep_ends k (last b) r h =
     let is = front_is k r h.1 in
-    record { gap = b; close = k; rest = drop 1 r; spelled = ap (λ l. b ++ l) is; is_gap = subst (IsGap b) is h.0; ends = or_right (eqb k 44) (eqb k k) (eq-eqb k k refl) }
+    record { gap = b; close = k; rest = drop 1 r; spelled = ap (λ l. b ++ l) is; is_gap = subst (IsInlineGap b) is h.0; ends = or_right (eqb k 44) (eqb k k) (eq-eqb k k refl) }
 sep_ends k (comma b g) r h = record { gap = b; close = 44; rest = g ++ r; spelled = refl; is_gap = h.0; ends = refl }
 
 pub sep_alike : (k : ℕ) (s : Sep) (t u : List ℕ) → Alike (Some true) t u → IsSep k s t → IsSep k s u

@@ -4,8 +4,8 @@ use Rattle.std.proofs.lemmas.Bool.{false≢true, and_parts}
 use Rattle.std.proofs.lemmas.Option.{cond_some, same_Some}
 use Rattle.yq_scalar.specs.Text.{unless, is_empty}
 use Rattle.yq_scalar.proofs.Bools.{bind_some, chosen, guard_then}
-use Rattle.yq_inline.specs.Gaps.{IsGap}
-use Rattle.yq_inline.specs.Nodes.{first_is, in_name, open_of, is_close, Key, bare, Node, Items, key_text, sep_text, node_text, items_text, begins_content, IsLead, IsName, IsKey, IsSep, is_keyed, is_bare, takes_anchor, Deeper, IsNode, AreItems}
+use Rattle.yq_inline.specs.Gaps.{IsInlineGap}
+use Rattle.yq_inline.specs.Nodes.{first_is, in_name, open_of, is_close, Key, bare, Node, Items, key_text, sep_text, node_text, items_text, begins_content, IsLead, IsName, IsInlineKey, IsSep, is_keyed, is_bare, takes_anchor, Deeper, IsNode, AreItems}
 use Rattle.yq_inline.specs.Reading.{gap_at, scalar_at, name_at, lead_at, key_at, sep_at, Kids, coll_at, content_at, node_at, deeper, items_at}
 use Rattle.yq_inline.proofs.GapLaws.{gap_takes}
 use Rattle.yq_inline.proofs.PieceLaws.{scalar_takes, name_takes, lead_takes, key_takes, sep_takes, front_is, front_not}
@@ -28,7 +28,7 @@ coll_takes flow spaces kids d k t s x take_kids close is h =
     let b = take_kids k gap.0.1 items.0 items.1 in
     let closes : is_close k ≡ true = ⊎_elim {0, 0, 0} (λ e. rw e refl) (λ e. rw e refl) close in
     subst (Nodal flow spaces d s) (same_Some _ _ items.2)
-    (is ∙ ap (λ l. open_of k ∷ l) (a.0 ∙ ap (λ l. gap.0.0 ++ l) b.0), (closes, subst (IsGap gap.0.0) b.0 a.1, b.1))
+    (is ∙ ap (λ l. open_of k ∷ l) (a.0 ∙ ap (λ l. gap.0.0 ++ l) b.0), (closes, subst (IsInlineGap gap.0.0) b.0 a.1, b.1))
 
 pub content_takes : (flow : Bool) (spaces : Option ℕ) (kids : Kids) (d : ℕ) (t : List ℕ) (x : Node × List ℕ) → KidsTake kids d → first_is 38 t ≡ false → content_at flow spaces kids t ≡ Some x → Nodal flow spaces d t x
 unfolding content_at node_text IsNode
@@ -89,10 +89,10 @@ node_takes flow spaces kids d t x take_kids h = ⊎_elim {0, 0, 0}
 abbrev pub key_in : ℕ → List ℕ → Option (Key × List ℕ)
 key_in k t = cond (eqb k 125) (key_at t) (Some (bare, t))
 
-pub key_in_takes : (k : ℕ) (t : List ℕ) (x : Key × List ℕ) → key_in k t ≡ Some x → (t ≡ key_text x.0 x.1) × IsKey k x.0 x.1
+pub key_in_takes : (k : ℕ) (t : List ℕ) (x : Key × List ℕ) → key_in k t ≡ Some x → (t ≡ key_text x.0 x.1) × IsInlineKey k x.0 x.1
 key_in_takes k t x h = ⊎_elim {0, 0, 0}
     (λ e. let same : k ≡ 125 = eqb-true k 125 e.0 in rw same (key_takes t x e.1))
-    (λ e. subst (λ (y : Key × List ℕ). (t ≡ key_text y.0 y.1) × IsKey k y.0 y.1) (same_Some _ _ e.1) (refl, e.0))
+    (λ e. subst (λ (y : Key × List ℕ). (t ≡ key_text y.0 y.1) × IsInlineKey k y.0 y.1) (same_Some _ _ e.1) (refl, e.0))
     (chosen (eqb k 125) h)
 
 pub kids_take : (n d : ℕ) → ((e k : ℕ) (t : List ℕ) (y : Items × List ℕ) → items_at n e k t ≡ Some y → Inside e k t y) → KidsTake (λ j r. deeper d (λ e. items_at n e j r)) d
@@ -119,6 +119,6 @@ items_takes (suc n) d k t x h = ⊎_elim {0, 0, 0}
     let inner : key.0.1 ≡ node_text node.0.0 (sep_text sep.0.0 (items_text k rest.0.0 rest.0.1)) = b.0 ∙ ap (node_text node.0.0) behind in
     subst (Inside d k t) (same_Some _ _ rest.2) (
       a.0 ∙ ap (key_text key.0.0) inner,
-      (subst (IsKey k key.0.0) inner a.1, some.0, subst (IsNode true (Some 0) d node.0.0) behind b.1, subst (IsSep k sep.0.0) r.0 c.1, r.1),
+      (subst (IsInlineKey k key.0.0) inner a.1, some.0, subst (IsNode true (Some 0) d node.0.0) behind b.1, subst (IsSep k sep.0.0) r.0 c.1, r.1),
     ))
     (chosen (first_is k t) h)

@@ -11,9 +11,9 @@ use Rattle.yq_scalar.proofs.Boundaries.{boundary_unless, white_ascii}
 use Rattle.yq_scalar.proofs.PlainLaws.{boundary_plain}
 use Rattle.yq_scalar.proofs.Upto.{upto-append, upto_unless}
 use Rattle.yq_inline.specs.declared.gap.Before.TheVariants.{Token}
-use Rattle.yq_inline.specs.Gaps.{IsGap}
-use Rattle.yq_inline.specs.Nodes.{Key, bare, keyed, Sep, last, comma, Node, empty, alias, scalar, coll, anchored, Items, none, item, key_text, sep_text, node_text, items_text, in_name, begins_content, begins_node, is_close, open_of, IsApart, IsLead, IsName, IsKey, IsSep, IsNode, AreItems}
-use Rattle.yq_inline.specs.Scalars.{IsScalar}
+use Rattle.yq_inline.specs.Gaps.{IsInlineGap}
+use Rattle.yq_inline.specs.Nodes.{Key, bare, keyed, Sep, last, comma, Node, empty, alias, scalar, coll, anchored, Items, none, item, key_text, sep_text, node_text, items_text, in_name, begins_content, begins_node, is_close, open_of, IsApart, IsLead, IsName, IsInlineKey, IsSep, IsNode, AreItems}
+use Rattle.yq_inline.specs.Scalars.{IsScalarAt}
 use Rattle.yq_inline.proofs.Bounds.{boundary_gap, boundary_name}
 use Rattle.yq_inline.proofs.GapLaws.{gap_append}
 
@@ -32,7 +32,7 @@ ends_ascii xs b r low u =
     let there : length xs + 1 ≡ length (xs ++ b ∷ []) = omega (arith, length-append xs (b ∷ [])) in
     past (xs ++ b ∷ []) r u (subst (λ (n : ℕ). IsCharBoundary t n) there (IsCharBoundary-after_ascii t (length xs) u lt (omega (arith, at, low))))
 
-pub gap_past : (g r : List ℕ) → IsGap g r → IsUtf8 (g ++ r) → IsUtf8 r
+pub gap_past : (g r : List ℕ) → IsInlineGap g r → IsUtf8 (g ++ r) → IsUtf8 r
 gap_past g r h u = past g r u (boundary_gap (g ++ r) (length g) (sym (gap_append Token g r h.inside h.ends).0) u)
 
 pub name_past : (n r : List ℕ) → IsName n r → IsUtf8 (n ++ r) → IsUtf8 r
@@ -45,7 +45,7 @@ quote_low : (q : ℕ) → (q ≡ 34) ⊎ (q ≡ 39) → q < 128
 quote_low q (inl e) = omega (arith, e)
 quote_low q (inr e) = omega (arith, e)
 
-pub scalar_past : (flow : Bool) (spaces : Option ℕ) (p r : List ℕ) → IsScalar flow spaces p r → IsUtf8 (p ++ r) → IsUtf8 r
+pub scalar_past : (flow : Bool) (spaces : Option ℕ) (p r : List ℕ) → IsScalarAt flow spaces p r → IsUtf8 (p ++ r) → IsUtf8 r
 scalar_past flow spaces p r (inl h) u = plain_past flow spaces p r h u
 scalar_past flow spaces p r (inr h) u =
     let q = h.0.1.1 in
@@ -61,7 +61,7 @@ pub lead_past : (flow : Bool) (begins : List ℕ → Bool) (g r : List ℕ) → 
 lead_past flow begins g r (inl h) u = apart_past flow g r h.0 u
 lead_past flow begins g r (inr h) u = subst (λ (l : List ℕ). IsUtf8 (l ++ r)) h.0 u
 
-pub key_past : (k : ℕ) (key : Key) (r : List ℕ) → IsKey k key r → IsUtf8 (key_text key r) → IsUtf8 r
+pub key_past : (k : ℕ) (key : Key) (r : List ℕ) → IsInlineKey k key r → IsUtf8 (key_text key r) → IsUtf8 r
 key_past k bare r h u = u
 key_past k (keyed t b g) r h u =
     let behind = scalar_past true None t (b ++ (58 ∷ (g ++ r))) h.1 u in

@@ -13,10 +13,10 @@ use Rattle.yq_scalar.proofs.PlainLaws.{plain_takes, plain_again}
 use Rattle.yq_scalar.proofs.QuotedFound.{quoted_takes, quoted_again}
 use Rattle.yq_scalar.proofs.Upto.{upto_ends, none_in_cut, cut-append, cut_takes}
 use Rattle.yq_scalar.proofs.QuotedLaws.{of_quotes}
-use Rattle.yq_inline.specs.Gaps.{IsGap}
-use Rattle.yq_inline.specs.Nodes.{Key, bare, keyed, Sep, last, comma, key_text, sep_text, first_is, in_name, begins_node, IsApart, IsLead, IsName, ends_key, IsKey, IsSep, is_keyed}
+use Rattle.yq_inline.specs.Gaps.{IsInlineGap}
+use Rattle.yq_inline.specs.Nodes.{Key, bare, keyed, Sep, last, comma, key_text, sep_text, first_is, in_name, begins_node, IsApart, IsLead, IsName, ends_key, IsInlineKey, IsSep, is_keyed}
 use Rattle.yq_inline.specs.Reading.{gap_at, scalar_at, with_its_lines, name_at, apart_at, lead_at, colon_at, key_at, sep_at, sep_behind}
-use Rattle.yq_inline.specs.Scalars.{is_quoted, has_its_lines, IsScalar, begins_scalar}
+use Rattle.yq_inline.specs.Scalars.{is_quoted, has_its_lines, IsScalarAt, begins_scalar}
 use Rattle.yq_inline.proofs.Binds.{not_then}
 use Rattle.yq_inline.proofs.GapLaws.{gap_takes, gap_again}
 
@@ -52,25 +52,25 @@ plain_no_end flow spaces [] h = absurd (false≢true h)
 plain_no_end flow spaces (b ∷ bs) h = rw (no_space flow b bs h) (goes_on flow b bs h)
 
 -- scalars
-pub scalar_begins : (flow : Bool) (spaces : Option ℕ) (p rest : List ℕ) → IsScalar flow spaces p rest → begins_scalar flow (p ++ rest) ≡ true
+pub scalar_begins : (flow : Bool) (spaces : Option ℕ) (p rest : List ℕ) → IsScalarAt flow spaces p rest → begins_scalar flow (p ++ rest) ≡ true
 scalar_begins flow spaces p rest (inl h) = rw h.begins (elim (is_quoted (p ++ rest)) as (λ b. (b || true) ≡ true) [ true ↦ refl | false ↦ refl ])
 scalar_begins flow spaces p rest (inr h) =
     let q = h.0.1.1 in
     rw q.spelled (of_quotes (λ x. (is_quote x || begins_plain flow (x ∷ ((spell_lines h.0.1.0 ++ (x ∷ [])) ++ rest))) ≡ true) h.0.0 q.quotes refl refl)
 
-pub scalar_some : (flow : Bool) (spaces : Option ℕ) (p rest : List ℕ) → IsScalar flow spaces p rest → 0 < length p
+pub scalar_some : (flow : Bool) (spaces : Option ℕ) (p rest : List ℕ) → IsScalarAt flow spaces p rest → 0 < length p
 scalar_some flow spaces (b ∷ p) rest h = omega arith
 scalar_some flow spaces [] rest (inl h) = absurd (false≢true (sym (plain_no_end flow spaces rest h.begins) ∙ h.ends))
 scalar_some flow spaces [] rest (inr h) = absurd (let e : [] ≡ h.0.0 ∷ (spell_lines h.0.1.0 ++ h.0.0 ∷ []) = h.0.1.1.spelled in cc)
 
-quoted_takes_here : (flow : Bool) (spaces : Option ℕ) (t : List ℕ) (x : List ℕ × List ℕ) → (quoted_at t >>= with_its_lines spaces) ≡ Some x → (t ≡ x.0 ++ x.1) × IsScalar flow spaces x.0 x.1
+quoted_takes_here : (flow : Bool) (spaces : Option ℕ) (t : List ℕ) (x : List ℕ × List ℕ) → (quoted_at t >>= with_its_lines spaces) ≡ Some x → (t ≡ x.0 ++ x.1) × IsScalarAt flow spaces x.0 x.1
 quoted_takes_here flow spaces t x h =
     let y = bind_some (quoted_at t) h in
     let g = cond_some (has_its_lines spaces y.0.0) _ _ y.2 in
     let f = quoted_takes t y.0 y.1 in
-    subst (λ (z : List ℕ × List ℕ). (t ≡ z.0 ++ z.1) × IsScalar flow spaces z.0 z.1) g.1 (f.cut, inr ((f.quote, (f.ls, f.is)), g.0))
+    subst (λ (z : List ℕ × List ℕ). (t ≡ z.0 ++ z.1) × IsScalarAt flow spaces z.0 z.1) g.1 (f.cut, inr ((f.quote, (f.ls, f.is)), g.0))
 
-pub scalar_takes : (flow : Bool) (spaces : Option ℕ) (t : List ℕ) (x : List ℕ × List ℕ) → scalar_at flow spaces t ≡ Some x → (t ≡ x.0 ++ x.1) × IsScalar flow spaces x.0 x.1
+pub scalar_takes : (flow : Bool) (spaces : Option ℕ) (t : List ℕ) (x : List ℕ × List ℕ) → scalar_at flow spaces t ≡ Some x → (t ≡ x.0 ++ x.1) × IsScalarAt flow spaces x.0 x.1
 unfolding scalar_at
 scalar_takes flow spaces t x h = ⊎_elim {0, 0, 0}
     (λ e. quoted_takes_here flow spaces t x e.1)
@@ -83,7 +83,7 @@ plain_no_quote flow (b ∷ t) h =
     let isnt : (k : ℕ) → ((cs : List ℕ) → begins_plain flow (k ∷ cs) ≡ false) → eqb b k ≡ false = λ k never. front_not (begins_plain flow) k never (b ∷ t) h in
     rw (isnt 34 (λ cs. refl), isnt 39 (λ cs. refl)) refl
 
-pub scalar_again : (flow : Bool) (spaces : Option ℕ) (p rest : List ℕ) → IsScalar flow spaces p rest → scalar_at flow spaces (p ++ rest) ≡ Some (p, rest)
+pub scalar_again : (flow : Bool) (spaces : Option ℕ) (p rest : List ℕ) → IsScalarAt flow spaces p rest → scalar_at flow spaces (p ++ rest) ≡ Some (p, rest)
 unfolding scalar_at
 scalar_again flow spaces p rest (inl h) = rw (plain_no_quote flow (p ++ rest) h.begins) (plain_again flow spaces p rest h)
 scalar_again flow spaces p rest (inr h) =
@@ -159,7 +159,7 @@ unfolding colon_at
 colon_again p r h = rw h refl
 
 -- keys
-pub key_takes : (t : List ℕ) (x : Key × List ℕ) → key_at t ≡ Some x → (t ≡ key_text x.0 x.1) × IsKey 125 x.0 x.1
+pub key_takes : (t : List ℕ) (x : Key × List ℕ) → key_at t ≡ Some x → (t ≡ key_text x.0 x.1) × IsInlineKey 125 x.0 x.1
 unfolding key_at
 key_takes t x h =
     let key = bind_some (scalar_at true None t) h in
@@ -172,10 +172,10 @@ key_takes t x h =
     let d = lead_takes true (begins_node true) rest.0 gap.0 gap.1 in
     let behind : before.0.1 ≡ 58 ∷ (gap.0.0 ++ gap.0.1) = c.0 ∙ ap (λ l. 58 ∷ l) d.0 in
     let all : key.0.1 ≡ before.0.0 ++ (58 ∷ (gap.0.0 ++ gap.0.1)) = b.0 ∙ ap (λ l. before.0.0 ++ l) behind in
-    subst (λ (y : Key × List ℕ). (t ≡ key_text y.0 y.1) × IsKey 125 y.0 y.1) (same_Some _ _ gap.2)
-    (a.0 ∙ ap (λ l. key.0.0 ++ l) all, (refl, subst (IsScalar true None key.0.0) all a.1, subst (IsGap before.0.0) behind b.1, subst (λ (r : List ℕ). ends_key key.0.0 r ≡ true) d.0 c.1, d.1))
+    subst (λ (y : Key × List ℕ). (t ≡ key_text y.0 y.1) × IsInlineKey 125 y.0 y.1) (same_Some _ _ gap.2)
+    (a.0 ∙ ap (λ l. key.0.0 ++ l) all, (refl, subst (IsScalarAt true None key.0.0) all a.1, subst (IsInlineGap before.0.0) behind b.1, subst (λ (r : List ℕ). ends_key key.0.0 r ≡ true) d.0 c.1, d.1))
 
-pub key_again : (key : Key) (rest : List ℕ) → is_keyed key ≡ true → IsKey 125 key rest → key_at (key_text key rest) ≡ Some (key, rest)
+pub key_again : (key : Key) (rest : List ℕ) → is_keyed key ≡ true → IsInlineKey 125 key rest → key_at (key_text key rest) ≡ Some (key, rest)
 unfolding key_at
 key_again bare rest e h = absurd (false≢true e)
 key_again (keyed t b g) rest e h =
@@ -185,14 +185,14 @@ key_again (keyed t b g) rest e h =
 abbrev Sepd : ℕ → List ℕ → Sep × List ℕ → Type 0
 Sepd k t y = (t ≡ sep_text y.0 y.1) × IsSep k y.0 y.1
 
-sep_by : (k : ℕ) (t : List ℕ) (g : List ℕ × List ℕ) (x : Sep × List ℕ) → t ≡ g.0 ++ g.1 → IsGap g.0 g.1 → sep_behind k g.0 g.1 ≡ Some x → Sepd k t x
+sep_by : (k : ℕ) (t : List ℕ) (g : List ℕ × List ℕ) (x : Sep × List ℕ) → t ≡ g.0 ++ g.1 → IsInlineGap g.0 g.1 → sep_behind k g.0 g.1 ≡ Some x → Sepd k t x
 unfolding sep_behind
 sep_by k t g x is gap h = ⊎_elim {0, 0, 0}
     (λ e.
     let b = bind_some (gap_at (drop 1 g.1)) e.1 in
     let c = gap_takes (drop 1 g.1) b.0 b.1 in
     let front : g.1 ≡ 44 ∷ (b.0.0 ++ b.0.1) = front_is 44 g.1 e.0 ∙ ap (λ l. 44 ∷ l) c.0 in
-    subst (Sepd k t) (same_Some _ _ b.2) (is ∙ ap (λ l. g.0 ++ l) front, (subst (IsGap g.0) front gap, c.1)))
+    subst (Sepd k t) (same_Some _ _ b.2) (is ∙ ap (λ l. g.0 ++ l) front, (subst (IsInlineGap g.0) front gap, c.1)))
     (λ e. let f = cond_some (first_is k g.1) _ _ e.1 in subst (Sepd k t) f.1 (is, (gap, f.0)))
     (chosen (first_is 44 g.1) h)
 

@@ -9,7 +9,7 @@ use Rattle.yq_scalar.specs.Answers.{Gives}
 use Rattle.yq_scalar.specs.Piece.{further_spaces}
 use Rattle.yq_scalar.specs.Writable.{in_flow}
 use Rattle.yq_inline.specs.Inline.{depth_limit, IsInlineAt, inline_at}
-use Rattle.yq_inline.specs.Nodes.{Key, bare, keyed, Sep, Node, empty, alias, scalar, coll, anchored, Items, none, item, key_text, sep_text, node_text, items_text, is_close, open_of, begins_content, IsKey, IsSep, IsNode, AreItems}
+use Rattle.yq_inline.specs.Nodes.{Key, bare, keyed, Sep, Node, empty, alias, scalar, coll, anchored, Items, none, item, key_text, sep_text, node_text, items_text, is_close, open_of, begins_content, IsInlineKey, IsSep, IsNode, AreItems}
 use Rattle.yq_inline.specs.Places.{Placed, placed, sequence, mapping, Parts, holder, key_placed, locate, locate_items, with_anchor}
 use Rattle.yq_inline.specs.Spans.{IsSpan, HasKeySpan, HasSpans, ContentHasSpans, PartsHaveSpans}
 use Rattle.yq_inline.proofs.InlineLaws.{inline_takes}
@@ -68,7 +68,7 @@ content_from total (anchored n g node) rest =
 content_ends : (t : List ℕ) (p : Placed) → HasSpans t p → IsCharBoundary t (content_of p)
 content_ends t (placed a s c e f) h = h.0.ends
 
-key_spans : (t : List ℕ) (k : ℕ) (key : Key) (r : List ℕ) → IsKey k key r → IsLeft t (key_text key r) → HasKeySpan t (key_placed (length t) (key_text key r) key)
+key_spans : (t : List ℕ) (k : ℕ) (key : Key) (r : List ℕ) → IsInlineKey k key r → IsLeft t (key_text key r) → HasKeySpan t (key_placed (length t) (key_text key r) key)
 key_spans t k bare r h x = tt
 key_spans t k (keyed p b g) r h x =
     let more : List ℕ = b ++ (58 ∷ (g ++ r)) in
@@ -76,7 +76,7 @@ key_spans t k (keyed p b g) r h x =
     let there : length t - length (p ++ more) + length p ≡ length t - length more = omega (arith, length-append p more, left_within t (p ++ more) x) in
     subst (λ (n : ℕ). IsSpan t (length t - length (p ++ more)) n) (sym there) (span t (p ++ more) more x behind (omega (arith, length-append p more)))
 
-past_key : (t : List ℕ) (k : ℕ) (key : Key) (r : List ℕ) → IsKey k key r → IsLeft t (key_text key r) → IsLeft t r
+past_key : (t : List ℕ) (k : ℕ) (key : Key) (r : List ℕ) → IsInlineKey k key r → IsLeft t (key_text key r) → IsLeft t r
 past_key t k key r h x = less t (key_text key r) (key_text key []) r (key_append key [] r) x (key_past k key r h x.utf8)
 
 past_sep : (t : List ℕ) (k : ℕ) (s : Sep) (r : List ℕ) → IsSep k s r → IsLeft t (sep_text s r) → IsLeft t r

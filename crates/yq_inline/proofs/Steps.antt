@@ -5,9 +5,9 @@ use Rattle.std.proofs.lemmas.Option.{same_Some}
 use Rattle.yq_scalar.specs.declared.fault.ReadError.{ReadError}
 use Rattle.yq_scalar.specs.declared.fault.ReadError.TheVariants as errors
 use Rattle.yq_scalar.specs.declared.piece.Piece.{Piece}
-use Rattle.yq_scalar.specs.Answers.{◌>>=◌, Fails, Gives}
+use Rattle.yq_scalar.specs.Answers.{◌>>=◌, ReadFails, Gives}
 use Rattle.yq_scalar.specs.Text.{is_empty}
-use Rattle.yq_inline.specs.Nodes.{first_is, Key, bare, keyed, Node, empty, alias, scalar, coll, anchored, Items, item, key_text, sep_text, node_text, items_text, begins_content, is_keyed, is_bare, takes_anchor, IsKey}
+use Rattle.yq_inline.specs.Nodes.{first_is, Key, bare, keyed, Node, empty, alias, scalar, coll, anchored, Items, item, key_text, sep_text, node_text, items_text, begins_content, is_keyed, is_bare, takes_anchor, IsInlineKey}
 use Rattle.yq_inline.specs.Places.{Placed, placed, mapping, sequence, Parts, end, part, key_placed, key_here, locate, locate_items, placed_between, with_anchor, bare_in, bare_placed, holder}
 use Rattle.yq_inline.specs.PlacedReading.{piece_of, content_in, placed_node, placed_items, placed_content, placed_key, past_sep, placed_item, placed_entry, takes_in, takes_placed, then_anchored}
 use Rattle.yq_inline.specs.Reading.{gap_at, scalar_at, name_at, lead_at, key_at, sep_at, Kids, coll_at, content_at, node_at, all_items, kids_of, all_node}
@@ -63,7 +63,7 @@ items_text_is d k t x h = (items_takes (suc (length t)) d k t x h).0
 
 key_keyed : (t : List ℕ) (x : Key × List ℕ) → key_at t ≡ Some x → is_keyed x.0 ≡ true
 key_keyed t x h = go x.0 x.1 (key_takes t x h).1 where
-  go : (key : Key) (rest : List ℕ) → IsKey 125 key rest → is_keyed key ≡ true
+  go : (key : Key) (rest : List ℕ) → IsInlineKey 125 key rest → is_keyed key ≡ true
   go bare rest h = absurd (false≢true (sym h))
   go (keyed a b g) rest h = refl
 
@@ -124,13 +124,13 @@ keyed_place total t (keyed p b g) h = refl
 
 key_bind : {A : Type 0} (total : ℕ) (t : List ℕ) (f : (List ℕ × Piece) × List ℕ → Option A) → (placed_key total t >>= f) ≡ (key_at t >>= λ key. f (key_here total t (piece_of key.0), key.1))
 key_bind total t f = go (key_at t) where
-  seen : Key × List ℕ → Option (List ℕ × List ℕ)
-  seen x = Some (piece_of x.0, x.1)
+  key_pieces : Key × List ℕ → Option (List ℕ × List ℕ)
+  key_pieces x = Some (piece_of x.0, x.1)
 
   here : List ℕ × List ℕ → Option ((List ℕ × Piece) × List ℕ)
   here x = Some (key_here total t x.0, x.1)
 
-  go : (o : Option (Key × List ℕ)) → (((o >>= seen) >>= here) >>= f) ≡ (o >>= λ key. f (key_here total t (piece_of key.0), key.1))
+  go : (o : Option (Key × List ℕ)) → (((o >>= key_pieces) >>= here) >>= f) ≡ (o >>= λ key. f (key_here total t (piece_of key.0), key.1))
   go (Some x) = refl
   go None = refl
 
@@ -250,12 +250,12 @@ pub node_no_lead : (flow : Bool) (spaces : Option ℕ) (total d : ℕ) (t n r : 
 unfolding node_at
 node_no_lead flow spaces total d t n r amp name lead = rw amp (rw name (rw lead refl))
 
-pub node_fails : (e : ReadError) (flow : Bool) (spaces : Option ℕ) (total d : ℕ) (t n r g s : List ℕ) → first_is 38 t ≡ true → name_at (drop 1 t) ≡ Some (n, r) → lead_at flow (begins_content flow) r ≡ Some (g, s) → Fails e (placed_content flow spaces total d s) → Fails e (placed_node flow spaces total d t)
+pub node_fails : (e : ReadError) (flow : Bool) (spaces : Option ℕ) (total d : ℕ) (t n r g s : List ℕ) → first_is 38 t ≡ true → name_at (drop 1 t) ≡ Some (n, r) → lead_at flow (begins_content flow) r ≡ Some (g, s) → ReadFails e (placed_content flow spaces total d s) → ReadFails e (placed_node flow spaces total d t)
 node_fails errors.Memory flow spaces total d t n r g s amp name lead h = tt
 node_fails (errors.Fault f) flow spaces total d t n r g s amp name lead h = node_anchored flow spaces total d t n r g s amp name lead ∙ rw h refl
 
 pub node_gives : {X : Type 0} (v : X → Placed × List ℕ) (o : Result X ReadError) (flow : Bool) (spaces : Option ℕ) (total d : ℕ) (t n r g s : List ℕ) (x : Placed × List ℕ) → first_is 38 t ≡ true → name_at (drop 1 t) ≡ Some (n, r) → lead_at flow (begins_content flow) r ≡ Some (g, s) →
     placed_content flow spaces total d s ≡ Some x → Gives v o (then_anchored total t n g x) → Gives v o (placed_node flow spaces total d t)
-node_gives v o flow spaces total d t n r g s x amp name lead h given =
+node_gives v o flow spaces total d t n r g s x amp name lead h answer =
     let is : placed_node flow spaces total d t ≡ then_anchored total t n g x = node_anchored flow spaces total d t n r g s amp name lead ∙ rw h refl in
-    subst (Gives v o) (sym is) given
+    subst (Gives v o) (sym is) answer

@@ -145,9 +145,9 @@ list_value xs = list_text (map node_of xs) ∙ ap (λ (l : List (List ℕ)). 91 
 pub map_value : (es : List Entry) → flow_text (tree.map None (entries (map (λ (e : String Global × tree.Node). (string_bytes e.0, e.1)) (map (λ (e : Entry). (e.0, node_of e.1)) es)))) ≡ 123 ∷ (listed true (map (λ (e : Entry). entry_text (string_bytes e.0, node_of e.1)) es) ++ 125 ∷ [])
 map_value es =
     let pair : String Global × tree.Node → List ℕ × tree.Node = λ e. (string_bytes e.0, e.1) in
-    let seen : Entry → String Global × tree.Node = λ e. (e.0, node_of e.1) in
-    map_text (map pair (map seen es))
-    ∙ ap (λ (l : List (List ℕ)). 123 ∷ (listed true l ++ 125 ∷ [])) (map_twice pair entry_text (map seen es) ∙ map_twice seen (λ e. entry_text (pair e)) es)
+    let as_pair : Entry → String Global × tree.Node = λ e. (e.0, node_of e.1) in
+    map_text (map pair (map as_pair es))
+    ∙ ap (λ (l : List (List ℕ)). 123 ∷ (listed true l ++ 125 ∷ [])) (map_twice pair entry_text (map as_pair es) ∙ map_twice as_pair (λ e. entry_text (pair e)) es)
 
 -- a list's node, and a mapping's
 pub node_list : (v : Vec Value Global) → node_of (values.List v) ≡ tree.list None (items (map node_of v.items))

@@ -3,7 +3,7 @@ use Rattle.std.specs.Prelude.{◌≡◌, ℕ, Bool, true, false, ◌||◌, ◌==
 use Rattle.yq_scalar.specs.Plain.{is_flow_indicator, is_safe}
 use Rattle.yq_scalar.specs.QuotedReading.{is_quote}
 use Rattle.yq_scalar.specs.Text.{is_feed, is_space, is_marker, separates}
-use Rattle.yq_inline.specs.Gaps.{IsGap}
+use Rattle.yq_inline.specs.Gaps.{IsInlineGap}
 
 -- behind this byte nobody looks: an indicator of flow, a quote, `&` or `*` (own)
 abbrev pub is_stop : ℕ → Bool
@@ -25,7 +25,7 @@ pub record EndsItem (k : ℕ) (t : List ℕ) : Type 0 where
   pub close : ℕ
   pub rest : List ℕ
   pub spelled : t ≡ gap ++ (close ∷ rest)
-  pub is_gap : IsGap gap (close ∷ rest)
+  pub is_gap : IsInlineGap gap (close ∷ rest)
   pub ends : (close == 44 || close == k) ≡ true
 
 -- whether a line begins behind this text, by whether one begins before it (own)

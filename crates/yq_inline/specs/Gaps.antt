@@ -46,7 +46,7 @@ stops before [] = true
 stops before (b ∷ bs) = not (goes before b bs)
 
 -- A gap behind a token, as long as it may be; what follows it is no document marker in column 0 (YAML 1.2.2, sections 6.7 and 9.1.2).
-pub record IsGap (p rest : List ℕ) : Type 0 where
+pub record IsInlineGap (p rest : List ℕ) : Type 0 where
   pub inside : AllGo Token p rest
   pub ends : stops (behind Token p) rest ≡ true
   pub unmarked : (is_break (behind Token p) && is_marker rest) ≡ false

@@ -2,8 +2,8 @@
 use Rattle.std.specs.Prelude.{◌≡◌, ◌⊎◌, ℕ, zero, suc, Bool, true, false, ◌||◌, not, ◌==◌, List, [], ◌∷◌, ◌++◌, Option, Some, None, if◌then◌else◌}
 use Rattle.yq_scalar.specs.Text.{is_empty, is_white, is_feed, is_return, NoneIn, unless, no_white, separates}
 use Rattle.yq_scalar.specs.Plain.{is_flow_indicator}
-use Rattle.yq_inline.specs.Gaps.{IsGap}
-use Rattle.yq_inline.specs.Scalars.{IsScalar, is_quoted, begins_scalar}
+use Rattle.yq_inline.specs.Gaps.{IsInlineGap}
+use Rattle.yq_inline.specs.Scalars.{IsScalarAt, is_quoted, begins_scalar}
 
 -- what stands before the node of an item: nothing, or a key with the gaps round its `:` (YAML 1.2.2, section 7.4.2)
 pub data Key : Type 0 where
@@ -87,7 +87,7 @@ begins_node flow t = first_is 38 t || begins_content flow t
 
 -- what may stand between an anchor and its node: in a flow collection a gap, else white space on the line (YAML 1.2.2, section 6.9.2; own)
 abbrev pub IsApart : Bool → List ℕ → List ℕ → Type 0
-IsApart true p rest = IsGap p rest
+IsApart true p rest = IsInlineGap p rest
 IsApart false p rest = NoneIn no_white p rest × (no_white rest ≡ true)
 
 -- Behind an anchor or a `:` this stands if something begins behind it; else nothing stands there (own).
@@ -101,19 +101,19 @@ abbrev pub ends_key : List ℕ → List ℕ → Bool
 ends_key p rest = is_quoted p || (separates rest || (first_is 44 rest || first_is 125 rest))
 
 -- An entry of a mapping has a key of one line, an item of a sequence none (YAML 1.2.2, section 7.4.2).
-abbrev pub IsKey : ℕ → Key → List ℕ → Type 0
-IsKey k bare rest = (k == 125) ≡ false
-IsKey k (keyed t b g) rest =
+abbrev pub IsInlineKey : ℕ → Key → List ℕ → Type 0
+IsInlineKey k bare rest = (k == 125) ≡ false
+IsInlineKey k (keyed t b g) rest =
     ((k == 125) ≡ true)
-    × IsScalar true None t (b ++ (58 ∷ (g ++ rest)))
-    × IsGap b (58 ∷ (g ++ rest))
+    × IsScalarAt true None t (b ++ (58 ∷ (g ++ rest)))
+    × IsInlineGap b (58 ∷ (g ++ rest))
     × (ends_key t (g ++ rest) ≡ true)
     × IsLead true (begins_node true) g rest
 
 -- Behind the last item stands the closing bracket; a comma may stand before it (YAML 1.2.2, section 7.4).
 abbrev pub IsSep : ℕ → Sep → List ℕ → Type 0
-IsSep k (last b) rest = IsGap b rest × (first_is k rest ≡ true)
-IsSep k (comma b g) rest = IsGap b (44 ∷ (g ++ rest)) × IsGap g rest
+IsSep k (last b) rest = IsInlineGap b rest × (first_is k rest ≡ true)
+IsSep k (comma b g) rest = IsInlineGap b (44 ∷ (g ++ rest)) × IsInlineGap g rest
 
 -- nothing, not even an anchor (YAML 1.2.2, section 7.2)
 abbrev pub is_bare : Node → Bool
@@ -147,8 +147,8 @@ unfoldable mutual
   pub IsNode : Bool → Option ℕ → ℕ → Node → List ℕ → Type 0
   IsNode flow spaces d empty rest = (begins_content flow rest ≡ false) × (first_is 38 rest ≡ false)
   IsNode flow spaces d (alias n) rest = IsName n rest
-  IsNode flow spaces d (scalar p) rest = IsScalar flow spaces p rest
-  IsNode flow spaces d (coll k g is) rest = (is_close k ≡ true) × IsGap g (items_text k is rest) × Deeper d (λ e. AreItems e k is rest)
+  IsNode flow spaces d (scalar p) rest = IsScalarAt flow spaces p rest
+  IsNode flow spaces d (coll k g is) rest = (is_close k ≡ true) × IsInlineGap g (items_text k is rest) × Deeper d (λ e. AreItems e k is rest)
   IsNode flow spaces d (anchored n g node) rest =
       IsName n (g ++ node_text node rest)
       × IsLead flow (begins_content flow) g (node_text node rest)
@@ -160,7 +160,7 @@ unfoldable mutual
   pub AreItems : ℕ → ℕ → Items → List ℕ → Type 0
   AreItems d k none rest = Unit {0}
   AreItems d k (item key n s is) rest =
-      IsKey k key (node_text n (sep_text s (items_text k is rest)))
+      IsInlineKey k key (node_text n (sep_text s (items_text k is rest)))
       × ((is_keyed key || not (is_bare n)) ≡ true)
       × IsNode true (Some 0) d n (sep_text s (items_text k is rest))
       × IsSep k s (items_text k is rest)

@@ -29,8 +29,8 @@ piece_of bare = []
 piece_of (keyed p b g) = p
 
 -- the key in front as it is written, and what follows its `:` (own)
-abbrev pub seen_key : List ℕ → Option (List ℕ × List ℕ)
-seen_key t = key_at t >>= λ x. Some (piece_of x.0, x.1)
+abbrev pub split_key : List ℕ → Option (List ℕ × List ℕ)
+split_key t = key_at t >>= λ x. Some (piece_of x.0, x.1)
 
 -- the scalar in front with its piece, and what follows it (own)
 abbrev pub placed_text : Bool → Option ℕ → ℕ → List ℕ → Option (Content × List ℕ)
@@ -38,7 +38,7 @@ placed_text flow spaces total t = scalar_at flow spaces t >>= λ x. Some (scalar
 
 -- the key in front with its content and piece, and what follows its `:` (own)
 abbrev pub placed_key : ℕ → List ℕ → Option ((List ℕ × Piece) × List ℕ)
-placed_key total t = seen_key t >>= λ x. Some (key_here total t x.0, x.1)
+placed_key total t = split_key t >>= λ x. Some (key_here total t x.0, x.1)
 
 -- the node without an anchor in front, and what follows it (own)
 abbrev pub placed_content : Bool → Option ℕ → ℕ → ℕ → List ℕ → Option (Placed × List ℕ)

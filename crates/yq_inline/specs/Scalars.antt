@@ -23,8 +23,8 @@ has_its_lines None p = not (holds_break p)
 has_its_lines (Some n) p = true
 
 -- A scalar before a rest, in a flow collection or not, whose further lines begin with so many spaces at least (YAML 1.2.2, section 7.3).
-abbrev pub IsScalar : Bool → Option ℕ → List ℕ → List ℕ → Type 0
-IsScalar flow spaces p rest = IsPlain flow spaces p rest ⊎ (IsInQuotes p rest × (has_its_lines spaces p ≡ true))
+abbrev pub IsScalarAt : Bool → Option ℕ → List ℕ → List ℕ → Type 0
+IsScalarAt flow spaces p rest = IsPlain flow spaces p rest ⊎ (IsInQuotes p rest × (has_its_lines spaces p ≡ true))
 
 -- a scalar may begin here (YAML 1.2.2, section 7.3)
 abbrev pub begins_scalar : Bool → List ℕ → Bool

@@ -4,7 +4,7 @@ ghost use Rattle.yq_scalar.specs.Answers.{Reads};
 ghost use Rattle.yq_scalar.specs.declared.fault.FaultKind.TheVariants.{NotUtf8};
 ghost use Rattle.yq_inline.specs.Measured as spec;
 ghost use Rattle.yq_inline.specs.Measured.{measured, measured_view, past};
-ghost use Rattle.yq_inline.specs.PlacedReading as seen;
+ghost use Rattle.yq_inline.specs.PlacedReading as reading;
 ghost use Rattle.yq_inline.specs.Scalars.{style_of as style_at};
 
 use crate::fault::{fault, flow_fault};
@@ -86,7 +86,7 @@ pub fn measure_node<'t>(
 ) -> Result<Measured<'t>, ReadFault>
     ensures shorter { IfOk result (λ m. length m.rest.now ≤ length text.now) }
     ensures read { Reads measured_view result
-        (measured (seen.placed_node flow spaces 0 depth text.now)) }
+        (measured (reading.placed_node flow spaces 0 depth text.now)) }
     ensures fault { IfErr result (λ f. f.kind ≢ NotUtf8) }
 {
     let Some(behind) = strip(b'&', text) else {
@@ -117,7 +117,7 @@ fn measure_content<'t>(
 ) -> Result<Measured<'t>, ReadFault>
     ensures shorter { IfOk result (λ m. length m.rest.now ≤ length text.now) }
     ensures read { Reads measured_view result
-        (measured (seen.placed_content flow spaces 0 depth text.now)) }
+        (measured (reading.placed_content flow spaces 0 depth text.now)) }
     ensures fault { IfErr result (λ f. f.kind ≢ NotUtf8) }
 {
     if let Some(behind) = strip(b'*', text) {
@@ -144,7 +144,7 @@ fn measure_content<'t>(
 #[tactic(auto, using(crate::proofs::MeasureSteps::coll_no_gap, crate::proofs::MeasureSteps::coll_too_deep, crate::proofs::MeasureSteps::coll_items))]
 fn measure_sequence<'t>(whole: &str, depth: usize, text: &'t str) -> Result<&'t str, ReadFault>
     ensures shorter { IfOk result (λ r. length r.now ≤ length text.now) }
-    ensures read { Reads (λ r. r.now) result (past (seen.placed_coll 0 depth 93 text.now)) }
+    ensures read { Reads (λ r. r.now) result (past (reading.placed_coll 0 depth 93 text.now)) }
     ensures fault { IfErr result (λ f. f.kind ≢ NotUtf8) }
 {
     let (_, rest) = read_gap(whole, text)?;
@@ -159,7 +159,7 @@ fn measure_sequence<'t>(whole: &str, depth: usize, text: &'t str) -> Result<&'t 
 #[tactic(auto, using(crate::proofs::MeasureSteps::coll_no_gap, crate::proofs::MeasureSteps::coll_too_deep, crate::proofs::MeasureSteps::coll_items))]
 fn measure_mapping<'t>(whole: &str, depth: usize, text: &'t str) -> Result<&'t str, ReadFault>
     ensures shorter { IfOk result (λ r. length r.now ≤ length text.now) }
-    ensures read { Reads (λ r. r.now) result (past (seen.placed_coll 0 depth 125 text.now)) }
+    ensures read { Reads (λ r. r.now) result (past (reading.placed_coll 0 depth 125 text.now)) }
     ensures fault { IfErr result (λ f. f.kind ≢ NotUtf8) }
 {
     let (_, rest) = read_gap(whole, text)?;
@@ -179,7 +179,7 @@ fn measure_item<'t>(
     text: &'t str,
 ) -> Result<&'t str, ReadFault>
     ensures shorter { IfOk result (λ r. length r.now < length text.now) }
-    ensures read { Reads (λ r. r.now) result (past (seen.placed_item 0 depth text.now)) }
+    ensures read { Reads (λ r. r.now) result (past (reading.placed_item 0 depth text.now)) }
     ensures fault { IfErr result (λ f. f.kind ≢ NotUtf8) }
 {
     let item = measure_node(true, Some(0), whole, depth, text)?;
@@ -201,7 +201,7 @@ fn measure_items<'t>(
     text: &'t str,
 ) -> Result<&'t str, ReadFault>
     ensures shorter { IfOk result (λ r. length r.now ≤ length text.now) }
-    ensures read { Reads (λ r. r.now) result (past (seen.placed_items 0 depth 93 text.now)) }
+    ensures read { Reads (λ r. r.now) result (past (reading.placed_items 0 depth 93 text.now)) }
     ensures fault { IfErr result (λ f. f.kind ≢ NotUtf8) }
 {
     let mut rest = text;
@@ -223,7 +223,7 @@ fn measure_entry<'t>(
     text: &'t str,
 ) -> Result<&'t str, ReadFault>
     ensures shorter { IfOk result (λ r. length r.now < length text.now) }
-    ensures read { Reads (λ r. r.now) result (past (seen.placed_entry 0 depth text.now)) }
+    ensures read { Reads (λ r. r.now) result (past (reading.placed_entry 0 depth text.now)) }
     ensures fault { IfErr result (λ f. f.kind ≢ NotUtf8) }
 {
     let (_, rest) = read_key(whole, open, text)?;
@@ -242,7 +242,7 @@ fn measure_entries<'t>(
     text: &'t str,
 ) -> Result<&'t str, ReadFault>
     ensures shorter { IfOk result (λ r. length r.now ≤ length text.now) }
-    ensures read { Reads (λ r. r.now) result (past (seen.placed_items 0 depth 125 text.now)) }
+    ensures read { Reads (λ r. r.now) result (past (reading.placed_items 0 depth 125 text.now)) }
     ensures fault { IfErr result (λ f. f.kind ≢ NotUtf8) }
 {
     let mut rest = text;

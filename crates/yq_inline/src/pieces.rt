@@ -4,7 +4,7 @@ ghost use Rattle.yq_scalar.specs.Answers.{Reads};
 ghost use Rattle.yq_scalar.specs.Quoted.{IsQuotedText};
 ghost use Rattle.yq_scalar.specs.declared.fault.FaultKind.TheVariants.{NotUtf8};
 ghost use Rattle.yq_inline.specs.Nodes as nodes;
-ghost use Rattle.yq_inline.specs.PlacedReading as seen;
+ghost use Rattle.yq_inline.specs.PlacedReading as reading;
 ghost use Rattle.yq_inline.specs.Reading as spec;
 ghost use Rattle.yq_inline.specs.Scalars as scalars;
 ghost use Rattle.std.specs.List.{prefix_len};
@@ -234,7 +234,7 @@ pub(crate) fn read_sep<'t>(
     open: &str,
     text: &'t str,
 ) -> Result<&'t str, ReadFault>
-    ensures read { Reads (λ x. x.now) result (seen.past_sep close text.now) }
+    ensures read { Reads (λ x. x.now) result (reading.past_sep close text.now) }
     ensures shorter { IfOk result (λ x. length x.now ≤ length text.now) }
     ensures fault { IfErr result (λ f. f.kind ≢ NotUtf8) }
 {
@@ -259,7 +259,7 @@ pub(crate) fn read_key<'t>(
     open: &str,
     text: &'t str,
 ) -> Result<(&'t str, &'t str), ReadFault>
-    ensures read { Reads (λ x. (x.0.now, x.1.now)) result (seen.seen_key text.now) }
+    ensures read { Reads (λ x. (x.0.now, x.1.now)) result (reading.split_key text.now) }
     ensures quoted { IfOk result (λ x. scalars.is_quoted x.0.now ≡ true → IsQuotedText x.0.now) }
     ensures shorter { IfOk result (λ x. length x.1.now < length text.now) }
     ensures fault { IfErr result (λ f. f.kind ≢ NotUtf8) }

@@ -3,7 +3,7 @@ ghost use Rattle.std.specs.Prelude.{◌≡◌, ◌<◌, ◌≤◌, IfErr, IfOk, 
 ghost use Rattle.std.specs.String.{string_bytes};
 ghost use Rattle.yq_scalar.specs.Answers.{Gives, IsOfText};
 ghost use Rattle.yq_inline.specs.Places as spec;
-ghost use Rattle.yq_inline.specs.PlacedReading as seen;
+ghost use Rattle.yq_inline.specs.PlacedReading as reading;
 ghost use Rattle.yq_inline.specs.View.{entries_end, form_view, items_end, view};
 
 use crate::fault::{fault, flow_fault};
@@ -39,14 +39,14 @@ pub(crate) fn is_bare(node: &Inline<'_>) -> bool
 
 /// Whether an anchor may stand before the node.
 fn takes_anchor(node: &Inline<'_>) -> bool
-    ensures { result ≡ seen.takes_placed (view node.now) }
+    ensures { result ≡ reading.takes_placed (view node.now) }
 {
     node.anchor.is_none() && !matches!(node.form, Form::Alias(_))
 }
 
 /// Whether the node may stand behind an anchor and this gap.
 fn stands_behind(gap: &str, node: &Inline<'_>) -> bool
-    ensures { result ≡ seen.stands_behind gap.now (view node.now) }
+    ensures { result ≡ reading.stands_behind gap.now (view node.now) }
 {
     (is_bare(node) || !gap.is_empty()) && takes_anchor(node)
 }
@@ -63,7 +63,7 @@ fn put_anchor<'t>(
     requires { length text.now ≤ length whole.now }
     ensures shorter { IfOk result (λ x. x.1.now ≡ rest.now) }
     ensures read { Gives (λ x. (view x.0, x.1.now)) result
-        (seen.then_anchored (length whole.now) text.now name.now gap.now
+        (reading.then_anchored (length whole.now) text.now name.now gap.now
         (view node.entry, rest.now)) }
     ensures fault { IfErr result IsOfText }
 {
@@ -96,7 +96,7 @@ pub fn read_node<'t>(
     requires { length text.now ≤ length whole.now }
     ensures shorter { IfOk result (λ x. length x.1.now ≤ length text.now) }
     ensures read { Gives (λ x. (view x.0, x.1.now)) result
-        (seen.placed_node flow spaces (length whole.now) depth text.now) }
+        (reading.placed_node flow spaces (length whole.now) depth text.now) }
     ensures fault { IfErr result IsOfText }
 {
     let Some(behind) = strip(b'&', text) else {
@@ -124,7 +124,7 @@ fn read_content<'t>(
     requires { length text.now ≤ length whole.now }
     ensures shorter { IfOk result (λ x. length x.1.now ≤ length text.now) }
     ensures read { Gives (λ x. (view x.0, x.1.now)) result
-        (seen.placed_content flow spaces (length whole.now) depth text.now) }
+        (reading.placed_content flow spaces (length whole.now) depth text.now) }
     ensures fault { IfErr result IsOfText }
 {
     if let Some(behind) = strip(b'*', text) {
@@ -157,7 +157,7 @@ fn read_sequence<'t>(
     requires { length text.now ≤ length whole.now }
     ensures shorter { IfOk result (λ x. length x.1.now ≤ length text.now) }
     ensures read { Gives (λ x. (form_view x.0, x.1.now)) result
-        (seen.placed_coll (length whole.now) depth 93 text.now) }
+        (reading.placed_coll (length whole.now) depth 93 text.now) }
     ensures fault { IfErr result IsOfText }
 {
     let (_, rest) = read_gap(whole, text)?;
@@ -179,7 +179,7 @@ fn read_mapping<'t>(
     requires { length text.now ≤ length whole.now }
     ensures shorter { IfOk result (λ x. length x.1.now ≤ length text.now) }
     ensures read { Gives (λ x. (form_view x.0, x.1.now)) result
-        (seen.placed_coll (length whole.now) depth 125 text.now) }
+        (reading.placed_coll (length whole.now) depth 125 text.now) }
     ensures fault { IfErr result IsOfText }
 {
     let (_, rest) = read_gap(whole, text)?;
@@ -202,7 +202,7 @@ fn read_item<'t>(
     requires { length text.now ≤ length whole.now }
     ensures shorter { IfOk result (λ x. length x.1.now < length text.now) }
     ensures read { Gives (λ x. (view x.0, x.1.now)) result
-        (seen.placed_item (length whole.now) depth text.now) }
+        (reading.placed_item (length whole.now) depth text.now) }
     ensures fault { IfErr result IsOfText }
 {
     let (item, rest) = read_node(alloc, true, Some(0), whole, depth, text)?;
@@ -227,7 +227,7 @@ fn read_items<'t>(
     requires { length text.now ≤ length whole.now }
     ensures shorter { IfOk result (λ x. length x.1.now ≤ length text.now) }
     ensures read { Gives (λ x. (items_end x.0.items, x.1.now)) result
-        (seen.placed_items (length whole.now) depth 93 text.now) }
+        (reading.placed_items (length whole.now) depth 93 text.now) }
     ensures fault { IfErr result IsOfText }
 {
     let mut items = Vec::new(alloc);
@@ -255,7 +255,7 @@ fn read_entry<'t>(
     requires { length text.now ≤ length whole.now }
     ensures shorter { IfOk result (λ x. length x.1.now < length text.now) }
     ensures read { Gives (λ x. (((string_bytes x.0.0, x.0.1), view x.0.2), x.1.now)) result
-        (seen.placed_entry (length whole.now) depth text.now) }
+        (reading.placed_entry (length whole.now) depth text.now) }
     ensures fault { IfErr result IsOfText }
 {
     let (key, piece, rest) = read_entry_key(alloc, whole, open, text)?;
@@ -277,7 +277,7 @@ fn read_entries<'t>(
     requires { length text.now ≤ length whole.now }
     ensures shorter { IfOk result (λ x. length x.1.now ≤ length text.now) }
     ensures read { Gives (λ x. (entries_end x.0.items, x.1.now)) result
-        (seen.placed_items (length whole.now) depth 125 text.now) }
+        (reading.placed_items (length whole.now) depth 125 text.now) }
     ensures fault { IfErr result IsOfText }
 {
     let mut entries = Vec::new(alloc);

@@ -2,8 +2,8 @@
 ghost use Rattle.std.specs.Prelude.{◌≡◌, ◌<◌, ◌≤◌, IfErr, IfOk, length, string_bytes, true};
 ghost use Rattle.yq_scalar.specs.Answers.{Gives, IsOfText};
 ghost use Rattle.yq_scalar.specs.Quoted.{IsQuotedText};
-ghost use Rattle.yq_scalar.specs.Written.{IsInline};
-ghost use Rattle.yq_inline.specs.PlacedReading as seen;
+ghost use Rattle.yq_scalar.specs.Written.{IsOneLine};
+ghost use Rattle.yq_inline.specs.PlacedReading as reading;
 ghost use Rattle.yq_inline.specs.Scalars as scalars;
 ghost use Rattle.yq_inline.specs.View.{form_view};
 
@@ -17,7 +17,7 @@ use yq_scalar::{Piece, ReadError, Scalar, Style};
 /// The style of a plain or quoted scalar, as it is written (YAML 1.2.2, 7.3).
 pub fn style_of(piece: &[u8]) -> Style
     ensures value { result ≡ scalars.style_of piece.now }
-    ensures inline { IsInline result }
+    ensures inline { IsOneLine result }
 {
     match piece {
         [b'\'', ..] => Style::Single,
@@ -64,7 +64,7 @@ pub(crate) fn read_text<'t>(
     requires { length text.now ≤ length whole.now }
     ensures shorter { IfOk result (λ x. length x.1.now ≤ length text.now) }
     ensures read { Gives (λ x. (form_view x.0, x.1.now)) result
-        (seen.placed_text flow spaces (length whole.now) text.now) }
+        (reading.placed_text flow spaces (length whole.now) text.now) }
     ensures fault { IfErr result IsOfText }
 {
     let (piece, rest) = read_scalar(flow, spaces, whole, text)?;
@@ -88,7 +88,7 @@ pub(crate) fn read_entry_key<'t>(
     requires { length text.now ≤ length whole.now }
     ensures shorter { IfOk result (λ x. length x.2.now < length text.now) }
     ensures read { Gives (λ x. ((string_bytes x.0, x.1), x.2.now)) result
-        (seen.placed_key (length whole.now) text.now) }
+        (reading.placed_key (length whole.now) text.now) }
     ensures fault { IfErr result IsOfText }
 {
     let (piece, rest) = read_key(whole, open, text)?;

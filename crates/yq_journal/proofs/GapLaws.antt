@@ -7,7 +7,7 @@ use Rattle.std.proofs.lemmas.List.{reverse-append, reverse-reverse, take-append-
 use Prim.Native.Nat.{zero}
 use Rattle.yq_script.specs.Splice.{Splice, Exchanges, change_done}
 use Rattle.yq_script.proofs.SpliceLaws.{done-from_exchanges, exchanges-from_done}
-use Rattle.yq_journal.specs.Gap.{change}
+use Rattle.yq_journal.specs.GapBuffer.{change}
 
 over_rest : (front rest : List ℕ) (n : ℕ) → (front ++ take n rest) ++ drop n rest ≡ front ++ rest
 over_rest front rest n = append_assoc front (take n rest) (drop n rest) ∙ ap (λ x. front ++ x) (take-append-drop n rest)

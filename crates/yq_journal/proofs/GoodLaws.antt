@@ -40,7 +40,7 @@ describes s t h none k = subst (λ o. DescribesPending s o t h) (sym none) k
 pub open_before : (s : State) (h : History) (t u : List ℕ) (step : Move) → AtRest s t h → moved_text s.records s.at step t ≡ Some u → u ≢ t → Describes (opened s step t) t h
 open_before s h t u step k m d = record {
   before = h;
-  tells = record { leads = k.tells.leads; cursor = k.tells.cursor; within = k.tells.within };
+  reports = record { leads = k.reports.leads; cursor = k.reports.cursor; within = k.reports.within };
   from = k.text;
   to = u;
   moves = m;
@@ -52,7 +52,7 @@ open_before s h t u step k m d = record {
 pub open_after : (s : State) (h : History) (t u : List ℕ) (step : Move) → AtRest s t h → moved_text s.records s.at step t ≡ Some u → u ≢ t → Describes (opened s step t) u (after_move h step u)
 open_after s h t u step k m d = record {
   before = h;
-  tells = record { leads = k.tells.leads; cursor = k.tells.cursor; within = k.tells.within };
+  reports = record { leads = k.reports.leads; cursor = k.reports.cursor; within = k.reports.within };
   from = k.text;
   to = u;
   moves = m;
@@ -70,7 +70,7 @@ settles_before s p t h k is same = record {
   rest = closed s;
   is = ap (λ b. if b then Some (closed s) else if is_text (moved_text s.records s.at p.step p.from) t then Some (moved s p.step) else None) (ap (bytes_eq p.from) is ∙ bytes_same p.from);
   at_rest = subst (λ g. AtRest (closed s) t g) (sym same) (record {
-    tells = record { leads = k.tells.leads; cursor = k.tells.cursor; within = k.tells.within };
+    reports = record { leads = k.reports.leads; cursor = k.reports.cursor; within = k.reports.within };
     text = is ∙ k.from;
   });
   closed = refl;
@@ -85,7 +85,7 @@ settles_after s p t h k is same = record {
       ∙ ap (λ o. if is_text o t then Some (moved s p.step) else None) k.moves
       ∙ ap (λ b. if b then Some (moved s p.step) else None) (ap (bytes_eq k.to) is ∙ bytes_same k.to);
   at_rest = subst (λ g. AtRest (moved s p.step) t g) (sym same) (subst (λ u. AtRest (moved s p.step) u (after_move k.before p.step k.to)) (sym is)
-      (move_moves s k.before p.from k.to p.step (record { tells = k.tells; text = k.from }) k.moves));
+      (move_moves s k.before p.from k.to p.step (record { reports = k.reports; text = k.from }) k.moves));
   closed = moved_closed s p.step;
 }
 
@@ -119,10 +119,10 @@ not_zero n h = grind (arith, nat_tests)
 -- what describes a history can be undone down to its first text
 undo_stands : (s : State) (h : History) (t : List ℕ) → AtRest s t h → 0 < s.at → moved_text s.records s.at Undo t ≡ Some (text_behind h.first h.later (s.at - 1))
 undo_stands s h t k pos =
-    let place : suc (s.at - 1) ≡ h.at = omega (arith, k.tells.cursor) in
-    let found = get_at s.records (s.at - 1) (omega (arith, k.tells.within, k.tells.cursor, same_length h.first s.records h.later k.tells.leads)) in
+    let place : suc (s.at - 1) ≡ h.at = omega (arith, k.reports.cursor) in
+    let found = get_at s.records (s.at - 1) (omega (arith, k.reports.within, k.reports.cursor, same_length h.first s.records h.later k.reports.leads)) in
     let leads : done found.0 (text_behind h.first h.later (s.at - 1)) ≡ Some t =
-    leads_at h.first s.records h.later (s.at - 1) found.0 k.tells.leads found.1 ∙ ap (λ n. Some (text_behind h.first h.later n)) place ∙ ap Some (sym k.text) in
+    leads_at h.first s.records h.later (s.at - 1) found.0 k.reports.leads found.1 ∙ ap (λ n. Some (text_behind h.first h.later n)) place ∙ ap Some (sym k.text) in
     ap (λ b. if b then None else option_and_then (λ r. undone r t) (slice_get s.records (s.at - 1))) (not_zero s.at pos)
     ∙ ap (option_and_then (λ r. undone r t)) found.1
     ∙ undone_after_done found.0 (text_behind h.first h.later (s.at - 1)) t leads
@@ -132,16 +132,16 @@ redo_stands : (s : State) (h : History) (t : List ℕ) → AtRest s t h → s.at
 redo_stands s h t k fits =
     let found = get_at s.records s.at fits in
     ap (option_and_then (λ r. done r t)) found.1
-    ∙ ap (done found.0) (k.text ∙ ap (text_behind h.first h.later) (sym k.tells.cursor))
-    ∙ leads_at h.first s.records h.later s.at found.0 k.tells.leads found.1
+    ∙ ap (done found.0) (k.text ∙ ap (text_behind h.first h.later) (sym k.reports.cursor))
+    ∙ leads_at h.first s.records h.later s.at found.0 k.reports.leads found.1
 
 -- whether a move has a way is the history's to say
 pub way_of : (s : State) (t : List ℕ) (h : History) (step : Move) → AtRest s t h → no_way s.records s.at step ≡ step_fault h step
-way_of s t h (Edit r) k = ap (λ n. if nat_le most_records n then Some fault.JournalFull else None) k.tells.cursor
-way_of s t h Undo k = ap (λ n. if n == 0 then Some fault.NothingToUndo else None) k.tells.cursor
+way_of s t h (Edit r) k = ap (λ n. if nat_le most_records n then Some fault.JournalFull else None) k.reports.cursor
+way_of s t h Undo k = ap (λ n. if n == 0 then Some fault.NothingToUndo else None) k.reports.cursor
 way_of s t h Redo k =
-    ap (λ n. if nat_le (length s.records) n then Some fault.NothingToRedo else None) k.tells.cursor
-    ∙ ap (λ n. if nat_le n h.at then Some fault.NothingToRedo else None) (same_length h.first s.records h.later k.tells.leads)
+    ap (λ n. if nat_le (length s.records) n then Some fault.NothingToRedo else None) k.reports.cursor
+    ∙ ap (λ n. if nat_le n h.at then Some fault.NothingToRedo else None) (same_length h.first s.records h.later k.reports.leads)
 
 -- an undo of a journal at rest stands wherever the history has one
 pub undo_fault : (s : State) (t : List ℕ) (h : History) → AtRest s t h → way_fault s.records s.at Undo t ≡ step_fault h Undo

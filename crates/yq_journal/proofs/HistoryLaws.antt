@@ -48,41 +48,41 @@ positive n e = grind (arith, nat_tests)
 
 edit_moves : (s : State) (h : History) (t u : List ℕ) (r : Record) → AtRest s t h → done r t ≡ Some u → AtRest (moved s (Edit r)) u (after_edit h r.expr u)
 edit_moves s h t u r k d = record {
-  tells = record {
-    leads = subst (λ n. Leads h.first (take n s.records ++ r ∷ []) (take h.at h.later ++ record { expr = r.expr; text = u } ∷ [])) (sym k.tells.cursor)
-        (leads_on h.first u s.records h.later h.at r k.tells.leads k.tells.within (ap (done r) (sym k.text) ∙ d));
-    cursor = ap (λ n. n + 1) k.tells.cursor;
-    within = let fits : h.at ≤ length h.later = k.tells.within in grind (arith, common_steps);
+  reports = record {
+    leads = subst (λ n. Leads h.first (take n s.records ++ r ∷ []) (take h.at h.later ++ record { expr = r.expr; text = u } ∷ [])) (sym k.reports.cursor)
+        (leads_on h.first u s.records h.later h.at r k.reports.leads k.reports.within (ap (done r) (sym k.text) ∙ d));
+    cursor = ap (λ n. n + 1) k.reports.cursor;
+    within = let fits : h.at ≤ length h.later = k.reports.within in grind (arith, common_steps);
   };
-  text = sym (text_after h.first (record { expr = r.expr; text = u }) h.later h.at k.tells.within);
+  text = sym (text_after h.first (record { expr = r.expr; text = u }) h.later h.at k.reports.within);
 }
 
 undo_moves : (s : State) (h : History) (t u : List ℕ) (r : Record) → AtRest s t h → 0 < s.at → slice_get s.records (s.at - 1) ≡ Some r → undone r t ≡ Some u → AtRest (moved s Undo) u (after_undo h)
 undo_moves s h t u r k pos is d =
-    let place : suc (s.at - 1) ≡ h.at = omega (arith, k.tells.cursor) in
+    let place : suc (s.at - 1) ≡ h.at = omega (arith, k.reports.cursor) in
     let leads : done r (text_behind h.first h.later (s.at - 1)) ≡ Some t =
-    leads_at h.first s.records h.later (s.at - 1) r k.tells.leads is ∙ ap (λ n. Some (text_behind h.first h.later n)) place ∙ ap Some (sym k.text) in
+    leads_at h.first s.records h.later (s.at - 1) r k.reports.leads is ∙ ap (λ n. Some (text_behind h.first h.later n)) place ∙ ap Some (sym k.text) in
     let back : undone r t ≡ Some (text_behind h.first h.later (s.at - 1)) = undone_after_done r (text_behind h.first h.later (s.at - 1)) t leads in
     record {
-      tells = record {
-        leads = k.tells.leads;
-        cursor = ap (λ n. n - 1) k.tells.cursor;
-        within = omega (arith, k.tells.within);
+      reports = record {
+        leads = k.reports.leads;
+        cursor = ap (λ n. n - 1) k.reports.cursor;
+        within = omega (arith, k.reports.within);
       };
-      text = same_Some u (text_at (after_undo h)) (sym d ∙ back ∙ ap (λ n. Some (text_behind h.first h.later (n - 1))) k.tells.cursor);
+      text = same_Some u (text_at (after_undo h)) (sym d ∙ back ∙ ap (λ n. Some (text_behind h.first h.later (n - 1))) k.reports.cursor);
     }
 
 redo_moves : (s : State) (h : History) (t u : List ℕ) (r : Record) → AtRest s t h → slice_get s.records s.at ≡ Some r → done r t ≡ Some u → AtRest (moved s Redo) u (after_redo h)
 redo_moves s h t u r k is d =
     let leads : done r t ≡ Some (text_behind h.first h.later (suc s.at)) =
-    ap (done r) (k.text ∙ ap (text_behind h.first h.later) (sym k.tells.cursor)) ∙ leads_at h.first s.records h.later s.at r k.tells.leads is in
+    ap (done r) (k.text ∙ ap (text_behind h.first h.later) (sym k.reports.cursor)) ∙ leads_at h.first s.records h.later s.at r k.reports.leads is in
     record {
-      tells = record {
-        leads = k.tells.leads;
-        cursor = ap (λ n. n + 1) k.tells.cursor;
-        within = omega (arith, k.tells.cursor, slice_get_within s.records s.at r is, same_length h.first s.records h.later k.tells.leads);
+      reports = record {
+        leads = k.reports.leads;
+        cursor = ap (λ n. n + 1) k.reports.cursor;
+        within = omega (arith, k.reports.cursor, slice_get_within s.records s.at r is, same_length h.first s.records h.later k.reports.leads);
       };
-      text = same_Some u (text_at (after_redo h)) (sym d ∙ leads ∙ ap (λ n. Some (text_behind h.first h.later n)) (sym (add-one s.at) ∙ ap (λ n. n + 1) k.tells.cursor));
+      text = same_Some u (text_at (after_redo h)) (sym d ∙ leads ∙ ap (λ n. Some (text_behind h.first h.later n)) (sym (add-one s.at) ∙ ap (λ n. n + 1) k.reports.cursor));
     }
 
 -- where a move stands, the journal and its history go on together

@@ -14,7 +14,7 @@ use Rattle.yq_journal.specs.declared.fault.JournalError.{JournalError}
 use Rattle.yq_journal.specs.declared.fault.JournalError.TheVariants as error
 use Rattle.yq_journal.specs.declared.fault.JournalFault.{JournalFault}
 use Rattle.yq_journal.specs.declared.fault.JournalFault.TheVariants.{BadCount}
-use Rattle.yq_journal.specs.Refusals.{Tells, count_fault}
+use Rattle.yq_journal.specs.Refusals.{Reports, count_fault}
 use Rattle.yq_journal.specs.State.{last_done}
 use Rattle.yq_journal.specs.Record.{Record, IsRecord, join, joined, meet}
 
@@ -71,5 +71,5 @@ split_first (q ∷ rs) r some is =
     ap (λ x. x ∷ rs) (sym is) ∙ ap (λ l. r ∷ l) (sym (take_all (length rs) rs (omega arith)) ∙ ap (λ n. take n rs) (sym one))
 
 -- want of memory is told where there is no fault
-pub tells_memory : {T : Type 0} (r : Result T JournalError) (e : JournalError) (o : Option JournalFault) → r ≡ Err e → e ≡ error.Memory → o ≡ None → IfErr r (λ x. Tells x o)
-tells_memory r e o is memory none = subst (λ x. IfErr x (λ y. Tells y o)) (sym (is ∙ ap Err memory)) none
+pub reports_memory : {T : Type 0} (r : Result T JournalError) (e : JournalError) (o : Option JournalFault) → r ≡ Err e → e ≡ error.Memory → o ≡ None → IfErr r (λ x. Reports x o)
+reports_memory r e o is memory none = subst (λ x. IfErr x (λ y. Reports y o)) (sym (is ∙ ap Err memory)) none

@@ -79,19 +79,19 @@ all_of_push f (v ∷ vs) d xs x e is =
     ] e
 
 -- one more value of a list that is written
-pub record Pushed {A B : Type 0} (seen : A → Data) (data_of : B → Data) (f : Data → Option B) (vs ws : List A) (xs : List B) (i : ℕ) : Type 0 where
-  pub written : map seen ws ≡ map data_of (take (i + 1) xs)
-  pub reads_back : all_of f (items_of (map seen ws)) ≡ Some (take (i + 1) xs)
+pub record Pushed {A B : Type 0} (to_data : A → Data) (data_of : B → Data) (f : Data → Option B) (vs ws : List A) (xs : List B) (i : ℕ) : Type 0 where
+  pub written : map to_data ws ≡ map data_of (take (i + 1) xs)
+  pub reads_back : all_of f (items_of (map to_data ws)) ≡ Some (take (i + 1) xs)
 
-pub pushed : {A B : Type 0} (seen : A → Data) (data_of : B → Data) (f : Data → Option B) (vs ws : List A) (v : A) (xs : List B) (i : ℕ) (x : B)
-    → i < length xs → x ≡ get_or xs i x → ws ≡ vs ++ v ∷ [] → seen v ≡ data_of x → f (seen v) ≡ Some x
-    → map seen vs ≡ map data_of (take i xs) → all_of f (items_of (map seen vs)) ≡ Some (take i xs) → Pushed seen data_of f vs ws xs i
-pushed seen data_of f vs ws v xs i x within is more datum reads written reads_back =
+pub pushed : {A B : Type 0} (to_data : A → Data) (data_of : B → Data) (f : Data → Option B) (vs ws : List A) (v : A) (xs : List B) (i : ℕ) (x : B)
+    → i < length xs → x ≡ get_or xs i x → ws ≡ vs ++ v ∷ [] → to_data v ≡ data_of x → f (to_data v) ≡ Some x
+    → map to_data vs ≡ map data_of (take i xs) → all_of f (items_of (map to_data vs)) ≡ Some (take i xs) → Pushed to_data data_of f vs ws xs i
+pushed to_data data_of f vs ws v xs i x within is more datum reads written reads_back =
     let one : take (i + 1) xs ≡ take i xs ++ x ∷ [] = take_more xs i x within ∙ ap (λ y. take i xs ++ y ∷ []) (sym is) in
-    let seen_more : map seen ws ≡ map seen vs ++ seen v ∷ [] = ap (map seen) more ∙ map-append seen vs (v ∷ []) in
+    let data_more : map to_data ws ≡ map to_data vs ++ to_data v ∷ [] = ap (map to_data) more ∙ map-append to_data vs (v ∷ []) in
     record {
-      written = seen_more ∙ ap₂ (λ l y. l ++ y ∷ []) written datum ∙ sym (ap (map data_of) one ∙ map-append data_of (take i xs) (x ∷ []));
-      reads_back = ap (λ l. all_of f (items_of l)) seen_more ∙ all_of_push f (map seen vs) (seen v) (take i xs) x reads_back reads ∙ ap Some (sym one);
+      written = data_more ∙ ap₂ (λ l y. l ++ y ∷ []) written datum ∙ sym (ap (map data_of) one ∙ map-append data_of (take i xs) (x ∷ []));
+      reads_back = ap (λ l. all_of f (items_of l)) data_more ∙ all_of_push f (map to_data vs) (to_data v) (take i xs) x reads_back reads ∙ ap Some (sym one);
     }
 
 is_some-none : {A : Type 0} (o : Option A) → o ≡ None → not (is_some o) ≡ true

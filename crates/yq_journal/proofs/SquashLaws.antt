@@ -112,15 +112,15 @@ leads_meet t (r ∷ q ∷ rs) (e ∷ []) l = absurd l.2
 -- the done records from a place on lead from the text there to the one at the cursor
 last_leads : (s : State) (t : List ℕ) (h : History) (n : ℕ) → AtRest s t h → Leads (text_end h.first (take (h.at - n) (take h.at h.later))) (last_done s.records s.at n) (drop (h.at - n) (take h.at h.later))
 last_leads s t h n k =
-    subst (λ a. Leads (text_end h.first (take (h.at - n) (take h.at h.later))) (drop (a - n) (take a s.records)) (drop (h.at - n) (take h.at h.later))) (sym k.tells.cursor)
-    (leads_drop h.first (take h.at s.records) (take h.at h.later) (h.at - n) (leads_take h.first s.records h.later h.at k.tells.leads))
+    subst (λ a. Leads (text_end h.first (take (h.at - n) (take h.at h.later))) (drop (a - n) (take a s.records)) (drop (h.at - n) (take h.at h.later))) (sym k.reports.cursor)
+    (leads_drop h.first (take h.at s.records) (take h.at h.later) (h.at - n) (leads_take h.first s.records h.later h.at k.reports.leads))
 
 -- whether a squash is refused is the history's to say
 pub squash_fault_of : (s : State) (t : List ℕ) (h : History) (n : ℕ) → s.pending ≡ None → AtRest s t h → squash_fault s n ≡ squash_refusal h n
 squash_fault_of s t h n none k =
     let meets : meet (last_done s.records s.at n) ≡ true = leads_meet _ _ _ (last_leads s t h n k) in
     let way : (nat_le 1 n && nat_le n s.at && meet (last_done s.records s.at n)) ≡ (nat_le 1 n && nat_le n h.at) =
-    ap (λ b. nat_le 1 n && nat_le n s.at && b) meets ∙ and-true (nat_le 1 n && nat_le n s.at) ∙ ap (λ a. nat_le 1 n && nat_le n a) k.tells.cursor in
+    ap (λ b. nat_le 1 n && nat_le n s.at && b) meets ∙ and-true (nat_le 1 n && nat_le n s.at) ∙ ap (λ a. nat_le 1 n && nat_le n a) k.reports.cursor in
     ap (λ o. if is_some o then Some Unsettled else if nat_le 1 n && nat_le n s.at && meet (last_done s.records s.at n) then None else Some BadCount) none
     ∙ ap (λ b. if b then None else Some BadCount) way
 
@@ -162,24 +162,24 @@ squash_leads s t h n k =
     ∙ ap (text_end h.first) (take-append-drop (h.at - n) inner) in
     let tail : Leads (text_end (text_end h.first (take (h.at - n) h.later)) (latest_of (drop (h.at - n) inner))) (drop s.at s.records) (drop h.at h.later) =
     subst (λ u. Leads u (drop s.at s.records) (drop h.at h.later)) (sym end)
-    (subst (λ a. Leads (text_end h.first inner) (drop a s.records) (drop h.at h.later)) (sym k.tells.cursor) (leads_drop h.first s.records h.later h.at k.tells.leads)) in
-    subst (λ a. Leads h.first (take (a - n) s.records ++ (joined_of (last_done s.records s.at n) ++ drop s.at s.records)) (take (h.at - n) h.later ++ (latest_of (drop (h.at - n) inner) ++ drop h.at h.later))) (sym k.tells.cursor)
+    (subst (λ a. Leads (text_end h.first inner) (drop a s.records) (drop h.at h.later)) (sym k.reports.cursor) (leads_drop h.first s.records h.later h.at k.reports.leads)) in
+    subst (λ a. Leads h.first (take (a - n) s.records ++ (joined_of (last_done s.records s.at n) ++ drop s.at s.records)) (take (h.at - n) h.later ++ (latest_of (drop (h.at - n) inner) ++ drop h.at h.later))) (sym k.reports.cursor)
     (leads_append h.first (take (h.at - n) s.records) (joined_of (last_done s.records s.at n) ++ drop s.at s.records) (take (h.at - n) h.later) (latest_of (drop (h.at - n) inner) ++ drop h.at h.later)
-    (leads_take h.first s.records h.later (h.at - n) k.tells.leads)
+    (leads_take h.first s.records h.later (h.at - n) k.reports.leads)
     (leads_append _ (joined_of (last_done s.records s.at n)) (drop s.at s.records) (latest_of (drop (h.at - n) inner)) (drop h.at h.later) run tail))
 
 -- a journal whose last records were joined is at rest with the squashed history
 pub squash_rests : (s : State) (t : List ℕ) (h : History) (n : ℕ) → AtRest s t h → 1 ≤ n → n ≤ h.at → AtRest (squashed s n) t (after_squash h n)
 unfolding squashed_front
 squash_rests s t h n k some fits =
-    let within : h.at ≤ length h.later = k.tells.within in
+    let within : h.at ≤ length h.later = k.reports.within in
     let long = length-squashed_front h n some fits within in
     let whole : squashed_front h n ++ drop h.at h.later ≡ (after_squash h n).later =
     append_assoc (take (h.at - n) h.later) (latest_of (drop (h.at - n) (take h.at h.later))) (drop h.at h.later) in
     record {
-      tells = record {
+      reports = record {
         leads = squash_leads s t h n k;
-        cursor = ap (λ a. a - n + 1) k.tells.cursor;
+        cursor = ap (λ a. a - n + 1) k.reports.cursor;
         within = omega (arith, long, ap length whole, length-append (squashed_front h n) (drop h.at h.later));
       };
       text = k.text ∙ sym (text_end-squashed_front h n within) ∙ sym (text_behind-length h.first (squashed_front h n) (drop h.at h.later))

@@ -18,7 +18,7 @@ Leads t [] (e ∷ es) = ⊥
 Leads t (r ∷ rs) [] = ⊥
 
 -- a journal's records lead through a history, and both have one cursor (own)
-pub record TellsHistory (s : State) (h : History) : Type 0 where
+pub record LeadsAsHistory (s : State) (h : History) : Type 0 where
   pub leads : Leads h.first s.records h.later
   pub cursor : s.at ≡ h.at
   pub within : h.at ≤ length h.later
@@ -31,13 +31,13 @@ after_move h Redo u = after_redo h
 
 -- no open move: the text is that at the cursor (own)
 pub record AtRest (s : State) (t : List ℕ) (h : History) : Type 0 where
-  pub tells : TellsHistory s h
+  pub reports : LeadsAsHistory s h
   pub text : t ≡ text_at h
 
 -- an open move: the journal tells the history before it and keeps the text at its cursor, which the move changes; the text is that one, or the one to which the move leads, with the history after it (own)
 pub record Underway (s : State) (p : Pending) (t : List ℕ) (h : History) : Type 0 where
   pub before : History
-  pub tells : TellsHistory s before
+  pub reports : LeadsAsHistory s before
   pub from : p.from ≡ text_at before
   pub to : List ℕ
   pub moves : moved_text s.records s.at p.step p.from ≡ Some to
@@ -76,7 +76,7 @@ journal_beside None = Some empty_state
 journal_beside (Some bytes) = journal_in bytes
 
 -- a file is there, and its journal beside it describes the history (own)
-pub record Holds (file journal : Option (List ℕ)) (h : History) : Type 0 where
+pub record PairHolds (file journal : Option (List ℕ)) (h : History) : Type 0 where
   pub text : List ℕ
   pub state : State
   pub file_is : file ≡ Some text
@@ -86,4 +86,4 @@ pub record Holds (file journal : Option (List ℕ)) (h : History) : Type 0 where
 -- a file and its journal are good for a history; for none, the file isn't there (own)
 abbrev pub Good : Option (List ℕ) → Option (List ℕ) → Option History → Type 0
 Good file journal None = file ≡ None
-Good file journal (Some h) = Holds file journal h
+Good file journal (Some h) = PairHolds file journal h

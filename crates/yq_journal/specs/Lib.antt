@@ -1,4 +1,4 @@
-pub mod Gap
+pub mod GapBuffer
 pub mod Good
 pub mod History
 pub mod Json

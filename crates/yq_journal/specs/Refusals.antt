@@ -11,14 +11,14 @@ use Rattle.yq_journal.specs.Record.{Record, meet}
 use Rattle.yq_journal.specs.State.{State, moved_text, last_done}
 
 -- an error names the fault; want of memory says nothing (own)
-abbrev pub Names : JournalError → Option JournalFault → Type 0
-Names error.Memory fault = Unit {0}
-Names (error.Fault f) fault = fault ≡ Some f
+abbrev pub ErrorIs : JournalError → Option JournalFault → Type 0
+ErrorIs error.Memory fault = Unit {0}
+ErrorIs (error.Fault f) fault = fault ≡ Some f
 
 -- an error names the fault; want of memory is told only where there is none (own)
-abbrev pub Tells : JournalError → Option JournalFault → Type 0
-Tells error.Memory fault = fault ≡ None
-Tells (error.Fault f) fault = fault ≡ Some f
+abbrev pub Reports : JournalError → Option JournalFault → Type 0
+Reports error.Memory fault = fault ≡ None
+Reports (error.Fault f) fault = fault ≡ Some f
 
 -- how many records a journal may hold (own)
 abbrev pub most_records : ℕ

@@ -1,6 +1,6 @@
 //! A text with a gap at a cursor, where splices are done in turn.
 ghost use Rattle.std.specs.Prelude.{◌≡◌, ◌↔◌, ◌+◌, ◌<◌, ◌≤◌, [], ◌++◌, false, None, Some, IsTrue, IfOk, OnOk, length, drop, option_map, reverse, if◌then◌else◌};
-ghost use Rattle.yq_journal.specs.Gap.{change, whole};
+ghost use Rattle.yq_journal.specs.GapBuffer.{change, whole};
 ghost use Rattle.yq_script.specs.Splice.{all_done, change_done, flipped};
 
 use std::alloc::{AllocError, Global};
@@ -11,23 +11,23 @@ use yq_script::Splice;
 /// were moved back over it, last first, and the rest, which no splice has
 /// reached yet.
 #[derive(Drop)]
-struct Gap<'t> {
+struct GapBuffer<'t> {
     front: Vec<u8>,
     back: Vec<u8>,
     rest: &'t [u8],
 }
 
-impl<'t> Model for Gap<'t> {
+impl<'t> Model for GapBuffer<'t> {
     ghost use Rattle.std.specs.Prelude.{◌++◌, reverse};
-    ghost use Rattle.yq_journal.specs.Gap.{Cut};
+    ghost use Rattle.yq_journal.specs.GapBuffer.{GapView};
 
-    ghost Value = { Cut };
+    ghost Value = { GapView };
 
     ghost view = { λ g. record { before = g.front.items; behind = reverse g.back.items ++ g.rest.now } };
 }
 
 /// Moves the last `count` bytes of one list to the end of the other, last first.
-fn turn(from: &mut Vec<u8>, to: &mut Vec<u8>, count: usize) -> Result<(), AllocError>
+fn shift(from: &mut Vec<u8>, to: &mut Vec<u8>, count: usize) -> Result<(), AllocError>
     requires { count ≤ length from.old.items }
     ensures count { OnOk result (length from.new.items + count ≡ length from.old.items) }
     ensures turned { OnOk result (length to.new.items ≡ length to.old.items + count) }
@@ -50,11 +50,11 @@ fn is_tail(bytes: &[u8], at: usize, tail: &[u8]) -> bool
     &bytes[at..] == tail
 }
 
-impl<'t> Gap<'t> {
-    fn new(alloc: Global, text: &'t [u8]) -> Result<Gap<'t>, AllocError>
+impl<'t> GapBuffer<'t> {
+    fn new(alloc: Global, text: &'t [u8]) -> Result<GapBuffer<'t>, AllocError>
         ensures { IfOk result (λ g. (g.before ≡ []) × (g.behind ≡ text.entry.now)) }
     {
-        Ok(Gap {
+        Ok(GapBuffer {
             front: Vec::with_capacity(alloc, text.len())?,
             back: Vec::new(alloc),
             rest: text,
@@ -68,7 +68,7 @@ impl<'t> Gap<'t> {
         ensures short { IfOk result (λ there. there ≡ false → length self.old.behind < count) }
     {
         let turned = count.min(self.back.len());
-        turn(&mut self.back, &mut self.front, turned)?;
+        shift(&mut self.back, &mut self.front, turned)?;
         let left = count - turned;
         if left > self.rest.len() {
             return Ok(false);
@@ -88,7 +88,7 @@ impl<'t> Gap<'t> {
         if here <= at {
             return self.forward(at - here);
         }
-        turn(&mut self.front, &mut self.back, here - at)?;
+        shift(&mut self.front, &mut self.back, here - at)?;
         Ok(true)
     }
 
@@ -124,13 +124,13 @@ impl<'t> Gap<'t> {
     fn into_text(self) -> Result<Vec<u8>, AllocError>
         ensures { IfOk result (λ text. text.items ≡ whole self.entry) }
     {
-        let Gap {
+        let GapBuffer {
             mut front,
             mut back,
             rest,
         } = self;
         let count = back.len();
-        turn(&mut back, &mut front, count)?;
+        shift(&mut back, &mut front, count)?;
         front.extend_from_slice(rest)?;
         Ok(front)
     }
@@ -144,7 +144,7 @@ pub(crate) fn spliced(
 ) -> Result<Option<Vec<u8>>, AllocError>
     ensures { IfOk result (λ o. option_map (λ v. v.items) o ≡ all_done splices.now text.now) }
 {
-    let mut gap = Gap::new(alloc, text)?;
+    let mut gap = GapBuffer::new(alloc, text)?;
     'splices: for splice in splices {
         if !gap.exchange(splice.at as usize, &splice.old, &splice.new)? {
             return Ok(None);
@@ -162,7 +162,7 @@ pub(crate) fn unspliced(
     ensures { IfOk result (λ o. option_map (λ v. v.items) o ≡
         all_done (flipped splices.now) text.now) }
 {
-    let mut gap = Gap::new(alloc, text)?;
+    let mut gap = GapBuffer::new(alloc, text)?;
     let mut left = splices.len();
     'splices: while left > 0 {
         left -= 1;

@@ -1,6 +1,6 @@
 //! The journal: records, a cursor, and perhaps an open move.
 ghost use Rattle.std.specs.Prelude.{◌≡◌, ◌≢◌, ◌⊎◌, ◌<◌, None, Some, IfOk, IfErr, OnOk, OnErr, IsNone, IsOk, length, slice_get};
-ghost use Rattle.yq_journal.specs.Refusals.{Names, Tells, move_fault, no_way, push_fault, squash_fault, way_fault};
+ghost use Rattle.yq_journal.specs.Refusals.{ErrorIs, Reports, move_fault, no_way, push_fault, squash_fault, way_fault};
 ghost use Rattle.yq_journal.specs.State.{empty_state, moved, moved_text, opened, settled, squashed};
 
 use crate::fault::{JournalError, JournalFault};
@@ -87,7 +87,7 @@ impl Journal {
     pub fn push(&mut self, added: Record) -> Result<(), (Record, JournalError)>
         ensures free { OnOk result (push_fault self.old added ≡ None) }
         ensures ok { OnOk result (self.new ≡ moved self.old (Move.Edit added)) }
-        ensures fault { IfErr result (λ e. Tells e.1 (push_fault self.old added)) }
+        ensures fault { IfErr result (λ e. Reports e.1 (push_fault self.old added)) }
         ensures err { IfErr result (λ e. (e.0 ≡ added) × (self.new ≡ self.old)) }
     {
         if self.open.is_some() {
@@ -110,7 +110,7 @@ impl Journal {
         ensures ok { IfOk result (λ v. moved_text self.old.records self.old.at Move.Undo text.now ≡
             Some v.items) }
         ensures moved { OnOk result (self.new ≡ moved self.old Move.Undo) }
-        ensures fault { IfErr result (λ e. Names e (move_fault self.old Move.Undo text.now)) }
+        ensures fault { IfErr result (λ e. ErrorIs e (move_fault self.old Move.Undo text.now)) }
         ensures memory { IfErr result (λ e. e ≡ JournalError.Memory →
             IsNone self.old.pending × (no_way self.old.records self.old.at Move.Undo ≡ None)) }
         ensures err { OnErr result (self.new ≡ self.old) }
@@ -118,9 +118,9 @@ impl Journal {
         if self.open.is_some() {
             return Err(JournalError::Fault(JournalFault::Unsettled));
         }
-        let made = target(self.alloc, &self.records, self.at, &Move::Undo, text)?;
+        let patched = target(self.alloc, &self.records, self.at, &Move::Undo, text)?;
         self.at -= 1;
-        Ok(made)
+        Ok(patched)
     }
 
     /// Moves the cursor on over a record and gives the text after it.
@@ -131,7 +131,7 @@ impl Journal {
         ensures ok { IfOk result (λ v. moved_text self.old.records self.old.at Move.Redo text.now ≡
             Some v.items) }
         ensures moved { OnOk result (self.new ≡ moved self.old Move.Redo) }
-        ensures fault { IfErr result (λ e. Names e (move_fault self.old Move.Redo text.now)) }
+        ensures fault { IfErr result (λ e. ErrorIs e (move_fault self.old Move.Redo text.now)) }
         ensures memory { IfErr result (λ e. e ≡ JournalError.Memory →
             IsNone self.old.pending × (no_way self.old.records self.old.at Move.Redo ≡ None)) }
         ensures err { OnErr result (self.new ≡ self.old) }
@@ -139,9 +139,9 @@ impl Journal {
         if self.open.is_some() {
             return Err(JournalError::Fault(JournalFault::Unsettled));
         }
-        let made = target(self.alloc, &self.records, self.at, &Move::Redo, text)?;
+        let patched = target(self.alloc, &self.records, self.at, &Move::Redo, text)?;
         self.at += 1;
-        Ok(made)
+        Ok(patched)
     }
 
     /// The text that a move leads to, where no move is open. Refused, first to
@@ -151,7 +151,7 @@ impl Journal {
         ensures ok { IfOk result (λ v. moved_text self.now.records self.now.at step.now text.now ≡
             Some v.items) }
         ensures free { OnOk result (way_fault self.now.records self.now.at step.now text.now ≡ None) }
-        ensures err { IfErr result (λ e. Names e (way_fault self.now.records self.now.at step.now
+        ensures err { IfErr result (λ e. ErrorIs e (way_fault self.now.records self.now.at step.now
             text.now)) }
         ensures memory { IfErr result (λ e. e ≡ JournalError.Memory →
             no_way self.now.records self.now.at step.now ≡ None) }
@@ -167,7 +167,7 @@ impl Journal {
         requires { moved_text self.old.records self.old.at step text.now ≢ Some text.now }
         ensures free { OnOk result (move_fault self.old step text.now ≡ None) }
         ensures ok { OnOk result (self.new ≡ opened self.old step text.now) }
-        ensures fault { IfErr result (λ e. Names e.1 (move_fault self.old step text.now)) }
+        ensures fault { IfErr result (λ e. ErrorIs e.1 (move_fault self.old step text.now)) }
         ensures memory { IfErr result (λ e. e.1 ≡ JournalError.Memory →
             IsNone self.old.pending × (no_way self.old.records self.old.at step ≡ None)) }
         ensures err { IfErr result (λ e. (e.0 ≡ step) × (self.new ≡ self.old)) }
@@ -207,7 +207,7 @@ impl Journal {
             return Ok(());
         }
         match lead(self.alloc, &self.records, self.at, &held.step, &held.from) {
-            Ok(made) if made.as_slice() == text => (),
+            Ok(patched) if patched.as_slice() == text => (),
             Err(JournalError::Memory) => return Err(JournalError::Memory),
             _ => return Err(JournalError::Fault(JournalFault::Unsettled)),
         }
@@ -228,7 +228,7 @@ impl Journal {
     pub fn squash(&mut self, n: u64) -> Result<(), JournalError>
         ensures free { OnOk result (squash_fault self.old n ≡ None) }
         ensures ok { OnOk result (self.new ≡ squashed self.old n) }
-        ensures fault { IfErr result (λ e. Tells e (squash_fault self.old n)) }
+        ensures fault { IfErr result (λ e. Reports e (squash_fault self.old n)) }
         ensures err { OnErr result (self.new ≡ self.old) }
     {
         if self.open.is_some() {

@@ -1,6 +1,6 @@
 //! Moves over the records of a journal.
 ghost use Rattle.std.specs.Prelude.{◌≡◌, ◌≤◌, None, Some, OnOk, IfOk, IfErr, length};
-ghost use Rattle.yq_journal.specs.Refusals.{Names, if_moves, no_way, way_fault};
+ghost use Rattle.yq_journal.specs.Refusals.{ErrorIs, if_moves, no_way, way_fault};
 ghost use Rattle.yq_journal.specs.State.{moved, moved_text, state};
 
 use crate::fault::{JournalError, JournalFault};
@@ -30,7 +30,7 @@ pub(crate) fn lead(
     text: &[u8],
 ) -> Result<Vec<u8>, JournalError>
     ensures ok { IfOk result (λ v. moved_text records.now at step.now text.now ≡ Some v.items) }
-    ensures err { IfErr result (λ e. Names e (if_moves (moved_text records.now at step.now
+    ensures err { IfErr result (λ e. ErrorIs e (if_moves (moved_text records.now at step.now
         text.now))) }
 {
     let fault = JournalError::Fault(JournalFault::DoesNotStand);
@@ -74,7 +74,7 @@ pub(crate) fn target(
 ) -> Result<Vec<u8>, JournalError>
     ensures ok { IfOk result (λ v. moved_text records.now at step.now text.now ≡ Some v.items) }
     ensures free { OnOk result (way_fault records.now at step.now text.now ≡ None) }
-    ensures err { IfErr result (λ e. Names e (way_fault records.now at step.now text.now)) }
+    ensures err { IfErr result (λ e. ErrorIs e (way_fault records.now at step.now text.now)) }
     ensures memory { IfErr result (λ e. e ≡ JournalError.Memory →
         no_way records.now at step.now ≡ None) }
 {

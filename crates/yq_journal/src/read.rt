@@ -4,7 +4,7 @@ ghost use Rattle.std.specs.Str.{is_utf8};
 ghost use Rattle.serde_json.specs.Read.{read};
 ghost use Rattle.serde_json.specs.View.{view};
 ghost use Rattle.yq_journal.specs.Json as spec;
-ghost use Rattle.yq_journal.specs.Refusals.{Names, if_journal};
+ghost use Rattle.yq_journal.specs.Refusals.{ErrorIs, if_journal};
 ghost use Rattle.yq_journal.specs.State.{state};
 
 pub(crate) mod edits;
@@ -102,7 +102,7 @@ impl Journal {
     /// exactly where they are none.
     pub fn from_json(alloc: Global, bytes: &[u8]) -> Result<Journal, JournalError>
         ensures ok { IfOk result (λ j. spec.journal_in bytes.now ≡ Some j) }
-        ensures err { IfErr result (λ e. Names e (if_journal (spec.journal_in bytes.now))) }
+        ensures err { IfErr result (λ e. ErrorIs e (if_journal (spec.journal_in bytes.now))) }
     {
         let fault = JournalError::Fault(JournalFault::BadJournal);
         let Some(value) = value_of(alloc, bytes)? else {

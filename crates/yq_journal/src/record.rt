@@ -3,7 +3,7 @@ ghost use Rattle.std.specs.Prelude.{◌≡◌, ◌↔◌, ℕ, List, Some, IfOk,
 ghost use Rattle.std.specs.String.{string_bytes};
 ghost use Rattle.yq_script.specs.Splice.{lengths_done};
 ghost use Rattle.yq_journal.specs.Record.{Record, done, undone};
-ghost use Rattle.yq_journal.specs.Refusals.{Names, if_moves};
+ghost use Rattle.yq_journal.specs.Refusals.{ErrorIs, if_moves};
 
 use crate::fault::{JournalError, JournalFault};
 use crate::gap::{spliced, unspliced};
@@ -69,13 +69,13 @@ impl Record {
 /// exactly where its record doesn't stand before it.
 pub fn redo_record(alloc: Global, patch: &Record, text: &[u8]) -> Result<Vec<u8>, JournalError>
     ensures ok { IfOk result (λ v. done patch.now text.now ≡ Some v.items) }
-    ensures err { IfErr result (λ e. Names e (if_moves (done patch.now text.now))) }
+    ensures err { IfErr result (λ e. ErrorIs e (if_moves (done patch.now text.now))) }
 {
     if text.len() as u64 != patch.before_len {
         return Err(JournalError::Fault(JournalFault::DoesNotStand));
     }
     match spliced(alloc, &patch.splices, text)? {
-        Some(made) if made.len() as u64 == patch.after_len => Ok(made),
+        Some(patched) if patched.len() as u64 == patch.after_len => Ok(patched),
         _ => Err(JournalError::Fault(JournalFault::DoesNotStand)),
     }
 }
@@ -84,13 +84,13 @@ pub fn redo_record(alloc: Global, patch: &Record, text: &[u8]) -> Result<Vec<u8>
 /// exactly where its record doesn't stand after it.
 pub fn undo_record(alloc: Global, patch: &Record, text: &[u8]) -> Result<Vec<u8>, JournalError>
     ensures ok { IfOk result (λ v. undone patch.now text.now ≡ Some v.items) }
-    ensures err { IfErr result (λ e. Names e (if_moves (undone patch.now text.now))) }
+    ensures err { IfErr result (λ e. ErrorIs e (if_moves (undone patch.now text.now))) }
 {
     if text.len() as u64 != patch.after_len {
         return Err(JournalError::Fault(JournalFault::DoesNotStand));
     }
     match unspliced(alloc, &patch.splices, text)? {
-        Some(made) if made.len() as u64 == patch.before_len => Ok(made),
+        Some(patched) if patched.len() as u64 == patch.before_len => Ok(patched),
         _ => Err(JournalError::Fault(JournalFault::DoesNotStand)),
     }
 }

@@ -1,7 +1,7 @@
 //! Several records joined into one.
 ghost use Rattle.std.specs.Prelude.{◌≡◌, true, ◌<◌, ◌≤◌, ◌∷◌, ◌++◌, [], IfErr, IfOk, None, OnOk, drop, length, take};
 ghost use Rattle.yq_journal.specs.Record.{IsRecord, join, joined, meet};
-ghost use Rattle.yq_journal.specs.Refusals.{Tells, count_fault};
+ghost use Rattle.yq_journal.specs.Refusals.{Reports, count_fault};
 ghost use Rattle.yq_journal.specs.State.{joined_of, last_done};
 
 use crate::fault::{JournalError, JournalFault};
@@ -132,7 +132,7 @@ pub(crate) fn join_last(
     requires { at ≤ length records.now }
     ensures free { OnOk result (count_fault records.now at n ≡ None) }
     ensures ok { IfOk result (λ r. joined_of (last_done records.now at n) ≡ r ∷ []) }
-    ensures err { IfErr result (λ e. Tells e (count_fault records.now at n)) }
+    ensures err { IfErr result (λ e. Reports e (count_fault records.now at n)) }
 {
     let fault = JournalError::Fault(JournalFault::BadCount);
     if n == 0 || n > at as u64 {

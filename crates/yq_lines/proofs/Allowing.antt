@@ -1,7 +1,7 @@
 -- What a place in an outline allows.
 use Rattle.std.proofs.Common.{◌≡◌, ℕ, ◌<◌, None}
 use Rattle.yq_lines.specs.Outline.{Mark, Bare, Key, Dash, level, Outline, end, row, IsOpen, IsEven}
-use Rattle.yq_lines.specs.Places.{Place, here, below, beside}
+use Rattle.yq_lines.specs.Places.{Context, here, below, beside}
 
 -- a key or a dash
 abbrev pub IsEntry : Mark → Type 0
@@ -15,7 +15,7 @@ IsCollection end = Unit {0}
 IsCollection (row l under a) = IsEntry l.mark
 
 -- a place in an outline of level n allows lines at level m
-abbrev pub Allows : ℕ → Place → ℕ → Type 0
+abbrev pub Allows : ℕ → Context → ℕ → Type 0
 Allows n here m = n ≡ m
 Allows n (below l p after) m =
     (level l ≡ n) × (l.head ≡ None) × IsEntry l.mark × ((k : ℕ) × (n < k) × Allows k p m) × IsEven n after

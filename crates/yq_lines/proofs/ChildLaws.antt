@@ -7,8 +7,8 @@ use Rattle.yq_lines.specs.Ends.{part, is_end, IsEndOf}
 use Rattle.yq_scalar.specs.Paths.{Step}
 use Rattle.yq_lines.specs.Labelled.{labelled_at}
 use Rattle.yq_lines.specs.Outline.{Line, level, Outline, anchored, label, children}
-use Rattle.yq_lines.specs.Places.{Found, find_row, content}
-use Rattle.yq_lines.specs.Spots.{spot, seen}
+use Rattle.yq_lines.specs.Places.{FoundLine, find_row, content}
+use Rattle.yq_lines.specs.Positions.{position, line_here}
 use Rattle.yq_lines.proofs.EndsLaws.{deeper_line, not_end}
 use Rattle.yq_lines.proofs.Finding.{entry_of, row_labelled}
 use Rattle.yq_lines.proofs.Parts.{row_parts}
@@ -31,14 +31,14 @@ pub first_child : (ls : List Line) (at floor next : ℕ) (l : Line) → slice_ge
 first_child ls at floor next l is deep ends = ap children (row_parts ls at floor next l is (deeper_line ls at floor l is (not_end _ deep)) (ends.2 l is))
 
 -- where a step leads among lines, by the line that was found
-pub child_spot : (s : Step) (u : Outline) (start : ℕ) (x : Option (ℕ × Line × Outline)) → spot start (find_row s u) ≡ x → labelled_at s (children u) ≡ option_map (λ y. entry_of y.1 y.2) x
-child_spot s u start x e = row_labelled s u ∙ (same (find_row s u) ∙ ap (option_map (λ y. entry_of y.1 y.2)) e)
+pub child_position : (s : Step) (u : Outline) (start : ℕ) (x : Option (ℕ × Line × Outline)) → position start (find_row s u) ≡ x → labelled_at s (children u) ≡ option_map (λ y. entry_of y.1 y.2) x
+child_position s u start x e = row_labelled s u ∙ (same (find_row s u) ∙ ap (option_map (λ y. entry_of y.1 y.2)) e)
   where
-    same : (r : Option Found) → option_map (λ f. entry_of f.line f.under) r ≡ option_map (λ y. entry_of y.1 y.2) (spot start r)
+    same : (r : Option FoundLine) → option_map (λ f. entry_of f.line f.under) r ≡ option_map (λ y. entry_of y.1 y.2) (position start r)
     same None = refl
     same (Some f) = refl
 
-pub child_found : (s : Step) (ls : List Line) (first floor at : ℕ) (l : Line) (x : Label) (n : Node) → slice_get ls at ≡ Some l → spot first (find_row s (part ls first floor)) ≡ seen ls (Some at) →
+pub child_found : (s : Step) (ls : List Line) (first floor at : ℕ) (l : Line) (x : Label) (n : Node) → slice_get ls at ≡ Some l → position first (find_row s (part ls first floor)) ≡ line_here ls (Some at) →
     x ≡ label l → n ≡ content l (part ls (at + 1) (level l)) → Some (x, n) ≡ labelled_at s (children (part ls first floor))
-child_found s ls first floor at l x n is e told same =
-    rw (told, same) (sym (child_spot s (part ls first floor) first (Some (at, l, part ls (at + 1) (level l))) (e ∙ ap (option_map (λ m. (at, m, part ls (at + 1) (level m)))) is)))
+child_found s ls first floor at l x n is e agrees same =
+    rw (agrees, same) (sym (child_position s (part ls first floor) first (Some (at, l, part ls (at + 1) (level l))) (e ∙ ap (option_map (λ m. (at, m, part ls (at + 1) (level m)))) is)))

@@ -3,7 +3,7 @@ use Rattle.std.proofs.Common.{◌≡◌, ℕ, List, [], ◌∷◌, Option, Some,
 use Rattle.yq_scalar.specs.Tree.{Node, alias, scalar, list, map, Children, children_of}
 use Rattle.yq_lines.specs.Outline.{Mark, Bare, Key, Dash, Line, Outline, end, row, anchored, head_or, label, collection, children, value}
 use Rattle.yq_scalar.specs.Paths.{Step, is_here, further, child_at, node_at}
-use Rattle.yq_lines.specs.Places.{here, below, plug, Found, next_to, find_row, inside, bare_or, in_head, find, content}
+use Rattle.yq_lines.specs.Places.{here, below, plug, FoundLine, next_to, find_row, inside, bare_or, in_head, find, content}
 use Rattle.yq_lines.specs.Labelled.{Labelled, labelled_at}
 use Rattle.yq_lines.proofs.Allowing.{IsEntry}
 use Rattle.yq_lines.proofs.LabelledLaws.{labelled_child}
@@ -14,7 +14,7 @@ pub row_whole : (s : Step) (o : Outline) → If (find_row s o) (λ f. plug f.pla
 row_whole s end = tt
 row_whole s (row k v a) = go (is_here s (label k)) (find_row (further s) a) (row_whole (further s) a)
   where
-    go : (b : Bool) (r : Option Found) → If r (λ f. plug f.place (row f.line f.under f.after) ≡ a) →
+    go : (b : Bool) (r : Option FoundLine) → If r (λ f. plug f.place (row f.line f.under f.after) ≡ a) →
         If (cond b (Some (record { place = here; line = k; under = v; after = a })) (option_map (next_to k v) r)) (λ f. plug f.place (row f.line f.under f.after) ≡ row k v a)
     go true r h = refl
     go false None h = tt
@@ -29,7 +29,7 @@ pub row_labelled : (s : Step) (o : Outline) → labelled_at s (children o) ≡ o
 row_labelled s end = refl
 row_labelled s (row k v a) = go (is_here s (label k)) (find_row (further s) a) (row_labelled (further s) a)
   where
-    go : (b : Bool) (r : Option Found) → labelled_at (further s) (children a) ≡ option_map (λ f. entry_of f.line f.under) r →
+    go : (b : Bool) (r : Option FoundLine) → labelled_at (further s) (children a) ≡ option_map (λ f. entry_of f.line f.under) r →
         cond b (Some (entry_of k v)) (labelled_at (further s) (children a)) ≡ option_map (λ f. entry_of f.line f.under) (cond b (Some (record { place = here; line = k; under = v; after = a })) (option_map (next_to k v) r))
     go true r h = refl
     go false None h = h
@@ -39,7 +39,7 @@ row_labelled s (row k v a) = go (is_here s (label k)) (find_row (further s) a) (
 pub row_child : (s : Step) (o : Outline) → child_at s (children o) ≡ option_map (λ f. content f.line f.under) (find_row s o)
 row_child s o = sym (labelled_child s (children o)) ∙ (ap (option_map (λ x. x.1)) (row_labelled s o) ∙ same (find_row s o))
   where
-    same : (r : Option Found) → option_map (λ x. x.1) (option_map (λ f. entry_of f.line f.under) r) ≡ option_map (λ f. content f.line f.under) r
+    same : (r : Option FoundLine) → option_map (λ x. x.1) (option_map (λ f. entry_of f.line f.under) r) ≡ option_map (λ f. content f.line f.under) r
     same None = refl
     same (Some f) = refl
 
@@ -49,7 +49,7 @@ node-anchored a s ss (scalar b k t) = refl
 node-anchored a s ss (list b cs) = refl
 node-anchored a s ss (map b cs) = refl
 
-abbrev pub FoundNode : Option (Found × List Step) → Option Node
+abbrev pub FoundNode : Option (FoundLine × List Step) → Option Node
 FoundNode r = option_and_then (λ x. node_at x.1 (content x.0.line x.0.under)) r
 
 pub children-collection : (m : Mark) (cs : Children) → IsEntry m → children_of (collection m cs) ≡ cs
@@ -62,7 +62,7 @@ pub path_node : (s : Step) (ss : List Step) (o : Outline) → node_at (s ∷ ss)
 path_node s ss end = refl
 path_node s [] (row k v a) = go k.mark refl
   where
-    found : (r : Option Found) → option_and_then (node_at []) (option_map (λ f. content f.line f.under) r) ≡ FoundNode (option_map (λ f. (f, [])) r)
+    found : (r : Option FoundLine) → option_and_then (node_at []) (option_map (λ f. content f.line f.under) r) ≡ FoundNode (option_map (λ f. (f, [])) r)
     found None = refl
     found (Some f) = refl
 
@@ -75,16 +75,16 @@ path_node s [] (row k v a) = go k.mark refl
     go Dash e = entry Dash tt
 path_node s (t ∷ ts) (row k v a) = go (λ u. path_node t ts u) k.mark
   where
-    deep : (f : Found) (q : Option (Found × List Step)) → FoundNode (option_map (λ x. (inside f x.0, x.1)) q) ≡ FoundNode q
+    deep : (f : FoundLine) (q : Option (FoundLine × List Step)) → FoundNode (option_map (λ x. (inside f x.0, x.1)) q) ≡ FoundNode q
     deep f None = refl
     deep f (Some x) = refl
 
-    head : ((u : Outline) → node_at (t ∷ ts) (value u) ≡ FoundNode (find t ts u)) → (f : Found) (h : Option Node) →
+    head : ((u : Outline) → node_at (t ∷ ts) (value u) ≡ FoundNode (find t ts u)) → (f : FoundLine) (h : Option Node) →
         node_at (t ∷ ts) (anchored f.line.anchor (head_or h (value f.under))) ≡ FoundNode (in_head h (Some (record { place = f.place; line = record f.line { head = h }; under = f.under; after = f.after }, t ∷ ts)) (option_map (λ x. (inside f x.0, x.1)) (find t ts f.under)))
     head ih f None = node-anchored f.line.anchor t ts (value f.under) ∙ (ih f.under ∙ sym (deep f (find t ts f.under)))
     head ih f (Some n) = refl
 
-    found : ((u : Outline) → node_at (t ∷ ts) (value u) ≡ FoundNode (find t ts u)) → (r : Option Found) →
+    found : ((u : Outline) → node_at (t ∷ ts) (value u) ≡ FoundNode (find t ts u)) → (r : Option FoundLine) →
         option_and_then (node_at (t ∷ ts)) (option_map (λ f. content f.line f.under) r) ≡
         FoundNode (option_and_then (λ f. in_head f.line.head (Some (f, t ∷ ts)) (option_map (λ x. (inside f x.0, x.1)) (find t ts f.under))) r)
     found ih None = refl
@@ -101,14 +101,14 @@ path_node s (t ∷ ts) (row k v a) = go (λ u. path_node t ts u) k.mark
     go ih (Key j) = entry ih (Key j) tt
     go ih Dash = entry ih Dash tt
 
-abbrev pub IsFoundIn : Outline → (Found × List Step) → Type 0
+abbrev pub IsFoundIn : Outline → (FoundLine × List Step) → Type 0
 IsFoundIn o x = plug x.0.place (row x.0.line x.0.under x.0.after) ≡ o
 
 pub path_whole : (s : Step) (ss : List Step) (o : Outline) → If (find s ss o) (IsFoundIn o)
 path_whole s ss end = tt
 path_whole s [] (row k v a) = go k.mark (find_row s (row k v a)) (row_whole s (row k v a))
   where
-    go : (m : Mark) (r : Option Found) → If r (λ f. plug f.place (row f.line f.under f.after) ≡ row k v a) →
+    go : (m : Mark) (r : Option FoundLine) → If r (λ f. plug f.place (row f.line f.under f.after) ≡ row k v a) →
         If (bare_or m (Some (record { place = here; line = k; under = v; after = a }, s ∷ [])) (option_map (λ f. (f, [])) r)) (IsFoundIn (row k v a))
     go Bare r h = refl
     go (Key j) None h = tt
@@ -117,18 +117,18 @@ path_whole s [] (row k v a) = go k.mark (find_row s (row k v a)) (row_whole s (r
     go Dash (Some f) h = h
 path_whole s (t ∷ ts) (row k v a) = go (λ u. path_whole t ts u) k.mark (find_row s (row k v a)) (row_whole s (row k v a))
   where
-    deep : (f : Found) (h : Option Node) → plug f.place (row f.line f.under f.after) ≡ row k v a → (q : Option (Found × List Step)) → If q (IsFoundIn f.under) →
+    deep : (f : FoundLine) (h : Option Node) → plug f.place (row f.line f.under f.after) ≡ row k v a → (q : Option (FoundLine × List Step)) → If q (IsFoundIn f.under) →
         If (in_head h (Some (f, t ∷ ts)) (option_map (λ x. (inside f x.0, x.1)) q)) (IsFoundIn (row k v a))
     deep f (Some n) e q h = e
     deep f None e None h = tt
     deep f None e (Some x) h = plug-compose f.place (below f.line x.0.place f.after) (row x.0.line x.0.under x.0.after) ∙ (ap (λ u. plug f.place (row f.line u f.after)) h ∙ e)
 
-    found : ((u : Outline) → If (find t ts u) (IsFoundIn u)) → (r : Option Found) → If r (λ f. plug f.place (row f.line f.under f.after) ≡ row k v a) →
+    found : ((u : Outline) → If (find t ts u) (IsFoundIn u)) → (r : Option FoundLine) → If r (λ f. plug f.place (row f.line f.under f.after) ≡ row k v a) →
         If (option_and_then (λ f. in_head f.line.head (Some (f, t ∷ ts)) (option_map (λ x. (inside f x.0, x.1)) (find t ts f.under))) r) (IsFoundIn (row k v a))
     found ih None h = tt
     found ih (Some f) h = deep f f.line.head h (find t ts f.under) (ih f.under)
 
-    go : ((u : Outline) → If (find t ts u) (IsFoundIn u)) → (m : Mark) → (r : Option Found) → If r (λ f. plug f.place (row f.line f.under f.after) ≡ row k v a) →
+    go : ((u : Outline) → If (find t ts u) (IsFoundIn u)) → (m : Mark) → (r : Option FoundLine) → If r (λ f. plug f.place (row f.line f.under f.after) ≡ row k v a) →
         If (bare_or m (Some (record { place = here; line = k; under = v; after = a }, s ∷ (t ∷ ts)))
         (option_and_then (λ f. in_head f.line.head (Some (f, t ∷ ts)) (option_map (λ x. (inside f x.0, x.1)) (find t ts f.under))) r)) (IsFoundIn (row k v a))
     go ih Bare r h = refl

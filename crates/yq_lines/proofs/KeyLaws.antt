@@ -34,9 +34,9 @@ is_distinct (k ∷ ks) h =
     and_from (not (list_any (bytes_eq k) ks)) (are_distinct ks) (ap not fresh) (is_distinct ks (λ i j d lt within. h (suc i) (suc j) d (omega arith) (omega arith)))
 
 -- what a test of keys tells
-pub distinct_told : (ks : List (List ℕ)) (b : Bool) → IsTrue b ↔ AreDistinct ks → are_distinct ks ≡ b
-distinct_told ks true h = is_distinct ks (h.0 refl)
-distinct_told ks false h = false_from_ne_true (are_distinct ks) (λ e. false≢true (h.1 (distinct_is ks e)))
+pub distinct_agrees : (ks : List (List ℕ)) (b : Bool) → IsTrue b ↔ AreDistinct ks → are_distinct ks ≡ b
+distinct_agrees ks true h = is_distinct ks (h.0 refl)
+distinct_agrees ks false h = false_from_ne_true (are_distinct ks) (λ e. false≢true (h.1 (distinct_is ks e)))
 
 mutual
   pub unique_is : (n : Node) → has_unique_keys n ≡ true → HasUniqueKeys n

@@ -4,7 +4,7 @@ use Rattle.yq_scalar.specs.Tree.{Node, alias, scalar, list, map, children_of}
 use Rattle.yq_scalar.specs.Paths.{Step}
 use Rattle.yq_lines.specs.Labelled.{Labelled, labelled_at, labelled_from}
 use Rattle.yq_lines.specs.Outline.{Mark, Bare, Key, Dash, Outline, end, row, anchored, head_or, collection, children, value}
-use Rattle.yq_lines.specs.Places.{here, Found, find_row, inside, bare_or, in_head, find}
+use Rattle.yq_lines.specs.Places.{here, FoundLine, find_row, inside, bare_or, in_head, find}
 use Rattle.yq_lines.proofs.Allowing.{IsEntry}
 use Rattle.yq_lines.proofs.Finding.{entry_of, row_labelled, children-collection}
 use Rattle.yq_lines.proofs.Values.{If}
@@ -19,7 +19,7 @@ reach-anchored a s ss (scalar b k t) = refl
 reach-anchored a s ss (list b cs) = refl
 reach-anchored a s ss (map b cs) = refl
 
-abbrev pub FoundEntry : Option (Found × List Step) → Option Labelled
+abbrev pub FoundEntry : Option (FoundLine × List Step) → Option Labelled
 FoundEntry r = option_and_then (λ x. labelled_from x.1 (entry_of x.0.line x.0.under)) r
 
 -- the entry or item at a path is that of its line
@@ -27,7 +27,7 @@ pub path_entry : (s : Step) (ss : List Step) (o : Outline) → reach s ss (value
 path_entry s ss end = refl
 path_entry s [] (row k v a) = go k.mark
   where
-    found : (r : Option Found) → option_and_then (labelled_from []) (option_map (λ f. entry_of f.line f.under) r) ≡ FoundEntry (option_map (λ f. (f, [])) r)
+    found : (r : Option FoundLine) → option_and_then (labelled_from []) (option_map (λ f. entry_of f.line f.under) r) ≡ FoundEntry (option_map (λ f. (f, [])) r)
     found None = refl
     found (Some f) = refl
 
@@ -42,16 +42,16 @@ path_entry s [] (row k v a) = go k.mark
     go Dash = entry Dash tt
 path_entry s (t ∷ ts) (row k v a) = go (λ u. path_entry t ts u) k.mark
   where
-    deep : (f : Found) (q : Option (Found × List Step)) → FoundEntry (option_map (λ x. (inside f x.0, x.1)) q) ≡ FoundEntry q
+    deep : (f : FoundLine) (q : Option (FoundLine × List Step)) → FoundEntry (option_map (λ x. (inside f x.0, x.1)) q) ≡ FoundEntry q
     deep f None = refl
     deep f (Some x) = refl
 
-    head : ((u : Outline) → reach t ts (value u) ≡ FoundEntry (find t ts u)) → (f : Found) (h : Option Node) →
+    head : ((u : Outline) → reach t ts (value u) ≡ FoundEntry (find t ts u)) → (f : FoundLine) (h : Option Node) →
         reach t ts (anchored f.line.anchor (head_or h (value f.under))) ≡ FoundEntry (in_head h (Some (record { place = f.place; line = record f.line { head = h }; under = f.under; after = f.after }, t ∷ ts)) (option_map (λ x. (inside f x.0, x.1)) (find t ts f.under)))
     head ih f None = reach-anchored f.line.anchor t ts (value f.under) ∙ (ih f.under ∙ sym (deep f (find t ts f.under)))
     head ih f (Some n) = refl
 
-    found : ((u : Outline) → reach t ts (value u) ≡ FoundEntry (find t ts u)) → (r : Option Found) →
+    found : ((u : Outline) → reach t ts (value u) ≡ FoundEntry (find t ts u)) → (r : Option FoundLine) →
         option_and_then (labelled_from (t ∷ ts)) (option_map (λ f. entry_of f.line f.under) r) ≡
         FoundEntry (option_and_then (λ f. in_head f.line.head (Some (f, t ∷ ts)) (option_map (λ x. (inside f x.0, x.1)) (find t ts f.under))) r)
     found ih None = refl
@@ -93,7 +93,7 @@ rest_head s [] (row k v a) = go k.mark refl (find_row s (row k v a))
     bare (Key j) e = absurd (cc)
     bare Dash e = absurd (cc)
 
-    go : (m : Mark) → k.mark ≡ m → (r : Option Found) → If (bare_or m (Some (record { place = here; line = k; under = v; after = a }, s ∷ [])) (option_map (λ f. (f, [])) r)) (λ x. HasHead x.1 x.0.line.mark x.0.line.head)
+    go : (m : Mark) → k.mark ≡ m → (r : Option FoundLine) → If (bare_or m (Some (record { place = here; line = k; under = v; after = a }, s ∷ [])) (option_map (λ f. (f, [])) r)) (λ x. HasHead x.1 x.0.line.mark x.0.line.head)
     go Bare e r = bare k.mark e
     go (Key j) e None = tt
     go (Key j) e (Some f) = tt
@@ -106,18 +106,18 @@ rest_head s (t ∷ ts) (row k v a) = go (λ u. rest_head t ts u) k.mark refl (fi
     bare (Key j) e = absurd (cc)
     bare Dash e = absurd (cc)
 
-    deep : (f : Found) (h : Option Node) → f.line.head ≡ h → (q : Option (Found × List Step)) → If q (λ x. HasHead x.1 x.0.line.mark x.0.line.head) →
+    deep : (f : FoundLine) (h : Option Node) → f.line.head ≡ h → (q : Option (FoundLine × List Step)) → If q (λ x. HasHead x.1 x.0.line.mark x.0.line.head) →
         If (in_head h (Some (f, t ∷ ts)) (option_map (λ x. (inside f x.0, x.1)) q)) (λ x. HasHead x.1 x.0.line.mark x.0.line.head)
     deep f (Some n) e q h = subst (HasHead (t ∷ ts) f.line.mark) (sym e) (with_head t ts f.line.mark n)
     deep f None e None h = tt
     deep f None e (Some x) h = h
 
-    found : ((u : Outline) → If (find t ts u) (λ x. HasHead x.1 x.0.line.mark x.0.line.head)) → (r : Option Found) →
+    found : ((u : Outline) → If (find t ts u) (λ x. HasHead x.1 x.0.line.mark x.0.line.head)) → (r : Option FoundLine) →
         If (option_and_then (λ f. in_head f.line.head (Some (f, t ∷ ts)) (option_map (λ x. (inside f x.0, x.1)) (find t ts f.under))) r) (λ x. HasHead x.1 x.0.line.mark x.0.line.head)
     found ih None = tt
     found ih (Some f) = deep f f.line.head refl (find t ts f.under) (ih f.under)
 
-    go : ((u : Outline) → If (find t ts u) (λ x. HasHead x.1 x.0.line.mark x.0.line.head)) → (m : Mark) → k.mark ≡ m → (r : Option Found) →
+    go : ((u : Outline) → If (find t ts u) (λ x. HasHead x.1 x.0.line.mark x.0.line.head)) → (m : Mark) → k.mark ≡ m → (r : Option FoundLine) →
         If (bare_or m (Some (record { place = here; line = k; under = v; after = a }, s ∷ (t ∷ ts)))
         (option_and_then (λ f. in_head f.line.head (Some (f, t ∷ ts)) (option_map (λ x. (inside f x.0, x.1)) (find t ts f.under))) r)) (λ x. HasHead x.1 x.0.line.mark x.0.line.head)
     go ih Bare e r = bare k.mark e

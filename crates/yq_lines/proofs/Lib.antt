@@ -25,6 +25,6 @@ pub mod Plug
 pub mod ShapeLaws
 pub mod SizeLaws
 pub mod SoundLaws
-pub mod SpotLaws
+pub mod PositionLaws
 pub mod Unique
 pub mod Values

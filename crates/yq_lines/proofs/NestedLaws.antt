@@ -11,7 +11,7 @@ use Rattle.yq_inline.specs.declared.inline.Inline.{Inline}
 use Rattle.yq_inline.specs.Trees.{parts_tree}
 use Rattle.yq_inline.specs.View.{entries_end}
 use Rattle.yq_lines.specs.Sound.{are_sound}
-use Rattle.yq_lines.proofs.KeyLaws.{distinct_told}
+use Rattle.yq_lines.proofs.KeyLaws.{distinct_agrees}
 
 abbrev pub Field : Type 0
 Field = String Global × Piece × Inline
@@ -19,7 +19,7 @@ Field = String Global × Piece × Inline
 -- behind the last entry the keys are left to ask of
 pub entries_left : (d i : ℕ) (es : List Field) (keys : List (List ℕ)) (b all : Bool) → length es ≤ i →
     all ≡ (are_sound d (parts_tree (entries_end (drop i es))) && are_distinct (keys ++ keys_of (parts_tree (entries_end (drop i es))))) → IsTrue b ↔ AreDistinct keys → b ≡ all
-entries_left d i es keys b all past is told =
+entries_left d i es keys b all past is agrees =
     sym (is
     ∙ (ap (λ (x : List Field). are_sound d (parts_tree (entries_end x)) && are_distinct (keys ++ keys_of (parts_tree (entries_end x)))) (drop_all i es past)
-    ∙ (ap (λ x. (x && true) && are_distinct (keys ++ [])) (le-leb 0 d (omega arith)) ∙ (ap are_distinct (append-nil keys) ∙ distinct_told keys b told))))
+    ∙ (ap (λ x. (x && true) && are_distinct (keys ++ [])) (le-leb 0 d (omega arith)) ∙ (ap are_distinct (append-nil keys) ∙ distinct_agrees keys b agrees))))

@@ -58,9 +58,9 @@ keeps quote (inr e) = subst (λ q. Keeps q (λ b. eqb b (sign q))) (sym e) keeps
 in_quotes : (quote : ℕ) → (quote ≡ 34) ⊎ (quote ≡ 39) → (t : List ℕ) → holds_break t ≡ false → list_any (λ b. eqb b (cond (eqb quote 34) 92 39)) t ≡ false → content_on quote 0 within [] t ≡ t
 in_quotes quote quotes t h g = unfolds quote (λ b. eqb b (sign quote)) (keeps quote quotes) [] t h g
 
-pub lent_quoted : (piece inner bytes : List ℕ) → IsQuotedText piece → bytes ≡ piece → inner ≡ take (length piece - 2) (drop 1 piece) → holds_break inner ≡ false →
+pub borrowed_quoted : (piece inner bytes : List ℕ) → IsQuotedText piece → bytes ≡ piece → inner ≡ take (length piece - 2) (drop 1 piece) → holds_break inner ≡ false →
     list_any (λ b. eqb b (cond (eqb (slice_index bytes 0) 34) 92 39)) inner ≡ false → inner ≡ quoted_content piece
-lent_quoted piece inner bytes q same is broken escaped =
+borrowed_quoted piece inner bytes q same is broken escaped =
     let quote : slice_index piece 0 ≡ q.0 = ap (λ (l : List ℕ). slice_index l 0) q.1.1.1.spelled in
     let quotes : (slice_index piece 0 ≡ 34) ⊎ (slice_index piece 0 ≡ 39) = subst (λ (k : ℕ). (k ≡ 34) ⊎ (k ≡ 39)) (sym quote) q.1.1.1.quotes in
     let none = subst (λ (l : List ℕ). list_any (λ b. eqb b (cond (eqb (slice_index l 0) 34) 92 39)) inner ≡ false) same escaped in

@@ -1,8 +1,8 @@
 -- The law of places, from those of plugging.
 use Rattle.std.proofs.Common.{◌≡◌, ◌<◌, ◌∷◌, ◌++◌, Option, Some, sym, ap, ◌∙◌, subst, append_assoc}
 use Rattle.yq_lines.specs.Outline.{Line, level, Outline, row, flatten, IsEven}
-use Rattle.yq_lines.specs.Places.{plug, lines_before, lines_after, Found, find}
-use Rattle.yq_lines.specs.Laws.{with_lines, Exchanged}
+use Rattle.yq_lines.specs.Places.{plug, lines_before, lines_after, FoundLine, find}
+use Rattle.yq_lines.specs.Laws.{with_lines, NodeExchanged}
 use Rattle.yq_lines.proofs.Allowing.{Allows}
 use Rattle.yq_lines.proofs.Plug.{flatten-plug, plug-even, allows_from}
 use Rattle.yq_lines.proofs.Values.{If, PathChanges, path_value}
@@ -12,10 +12,10 @@ pub at : {A : Type 0} (P : A → Type 0) (r : Option A) (x : A) → r ≡ Some x
 at {A} P r x e h = let Q : Option A → Type 0 = λ r. If r P in subst Q e h
 
 -- the lines of an outline with others in a place
-pub placed : (f : Found) (l : Line) (u : Outline) → flatten (plug f.place (row l u f.after)) ≡ with_lines f (l ∷ flatten u)
+pub placed : (f : FoundLine) (l : Line) (u : Outline) → flatten (plug f.place (row l u f.after)) ≡ with_lines f (l ∷ flatten u)
 placed f l u = flatten-plug f.place (row l u f.after) ∙ ap (λ x. lines_before f.place ++ (l ∷ x)) (append_assoc (flatten u) (flatten f.after) (lines_after f.place))
 
-pub exchanged : Exchanged
+pub exchanged : NodeExchanged
 exchanged n o s ss rest f even found g m l u same lev open' whole deep under new =
     let is : plug f.place (row f.line f.under f.after) ≡ o = at (IsFoundIn o) (find s ss o) (f, rest) found (path_whole s ss o) in
     let old : Allows n f.place (level f.line) × IsEven (level f.line) (row f.line f.under f.after) =

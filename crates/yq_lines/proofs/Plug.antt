@@ -3,10 +3,10 @@ use Rattle.std.proofs.Common.{◌≡◌, ℕ, ◌∷◌, ◌++◌, Option, Some,
 use Rattle.std.proofs.lemmas.Option.{none-some}
 use Rattle.yq_scalar.specs.Tree.{Node}
 use Rattle.yq_lines.specs.Outline.{Mark, Bare, Key, Dash, Line, level, Outline, end, row, flatten, IsOpen, IsWhole, IsEven}
-use Rattle.yq_lines.specs.Places.{Place, here, below, beside, plug, lines_before, lines_after, compose}
+use Rattle.yq_lines.specs.Places.{Context, here, below, beside, plug, lines_before, lines_after, compose}
 use Rattle.yq_lines.proofs.Allowing.{IsEntry, Allows}
 
-pub flatten-plug : (p : Place) (o : Outline) → flatten (plug p o) ≡ lines_before p ++ (flatten o ++ lines_after p)
+pub flatten-plug : (p : Context) (o : Outline) → flatten (plug p o) ≡ lines_before p ++ (flatten o ++ lines_after p)
 flatten-plug here o = sym (append-nil (flatten o))
 flatten-plug (below l p a) o =
     ap (λ x. l ∷ x) (ap (λ x. x ++ flatten a) (flatten-plug p o)
@@ -14,7 +14,7 @@ flatten-plug (below l p a) o =
 flatten-plug (beside l u p) o =
     ap (λ x. l ∷ x) (ap (λ x. flatten u ++ x) (flatten-plug p o) ∙ sym (append_assoc (flatten u) (lines_before p) (flatten o ++ lines_after p)))
 
-pub plug-compose : (p q : Place) (o : Outline) → plug (compose p q) o ≡ plug p (plug q o)
+pub plug-compose : (p q : Context) (o : Outline) → plug (compose p q) o ≡ plug p (plug q o)
 plug-compose here q o = refl
 plug-compose (below l p a) q o = ap (λ x. row l x a) (plug-compose p q o)
 plug-compose (beside l u p) q o = ap (row l u) (plug-compose p q o)
@@ -30,7 +30,7 @@ entry_whole (Key k) h o e = tt
 entry_whole Dash h o e = tt
 
 -- what stands in a place at the level that it allows makes an even outline
-pub plug-even : (n m : ℕ) (p : Place) (o : Outline) → Allows n p m → IsEven m o → IsEven n (plug p o)
+pub plug-even : (n m : ℕ) (p : Context) (o : Outline) → Allows n p m → IsEven m o → IsEven n (plug p o)
 plug-even n m here o h e = subst (λ k. IsEven k o) (sym h) e
 plug-even n m (below l p a) o h e =
     (h.0, closed l.head (plug p o) h.1, entry_whole l.mark l.head a h.2, (h.3.0, h.3.1, plug-even h.3.0 m p o h.3.2 e), h.4)
@@ -38,7 +38,7 @@ plug-even n m (beside l u p) o h e =
     (h.0, h.1, entry_whole l.mark l.head (plug p o) h.2, h.3, plug-even n m p o h.4 e)
 
 -- nothing in a place is the end of an outline
-never_end : (P : Outline → Type 0) (p : Place) (l : Line) (u a : Outline) → ((k : Line) (v b : Outline) → P (row k v b)) → P (plug p (row l u a))
+never_end : (P : Outline → Type 0) (p : Context) (l : Line) (u a : Outline) → ((k : Line) (v b : Outline) → P (row k v b)) → P (plug p (row l u a))
 never_end P here l u a f = f l u a
 never_end P (below k p b) l u a f = f k (plug p (row l u a)) b
 never_end P (beside k v p) l u a f = f k v (plug p (row l u a))
@@ -60,7 +60,7 @@ followed_entry Bare None k v b w = w
 followed_entry Bare (Some n) k v b w = w
 
 -- a place that holds a line allows its level, and what is there is even
-pub allows_from : (n : ℕ) (p : Place) (l : Line) (u a : Outline) → IsEven n (plug p (row l u a)) → Allows n p (level l) × IsEven (level l) (row l u a)
+pub allows_from : (n : ℕ) (p : Context) (l : Line) (u a : Outline) → IsEven n (plug p (row l u a)) → Allows n p (level l) × IsEven (level l) (row l u a)
 allows_from n here l u a e = (sym e.0, subst (λ k. IsEven k (row l u a)) (sym e.0) e)
 allows_from n (below k p b) l u a e =
     let deep = allows_from e.3.0 p l u a e.3.2 in

@@ -3,7 +3,7 @@ use Rattle.std.proofs.Common.{◌≡◌, ℕ, ◌≤◌, List, [], ◌∷◌, Op
 use Rattle.yq_scalar.specs.Tree.{Node, alias, scalar, list, map, Children, child}
 use Rattle.yq_lines.specs.Outline.{Mark, Bare, Key, Dash, rank, Line, level, Outline, end, row, anchored, label, collection, shaped, children, value}
 use Rattle.yq_scalar.specs.Paths.{Step, is_here, further, change_child, within, change}
-use Rattle.yq_lines.specs.Places.{here, below, plug, Found, next_to, find_row, inside, bare_or, in_head, find, content}
+use Rattle.yq_lines.specs.Places.{here, below, plug, FoundLine, next_to, find_row, inside, bare_or, in_head, find, content}
 use Rattle.yq_lines.proofs.Allowing.{IsEntry, IsCollection}
 use Rattle.yq_lines.proofs.Plug.{plug-compose}
 
@@ -47,7 +47,7 @@ row_change : (s : Step) (h : Node → Node) (o : Outline) →
 row_change s h end = tt
 row_change s h (row k v a) = go (is_here s (label k)) (find_row (further s) a) (row_change (further s) h a)
   where
-    go : (b : Bool) (r : Option Found) →
+    go : (b : Bool) (r : Option FoundLine) →
         If r (λ f. (l : Line) (u : Outline) → label l ≡ label f.line → content l u ≡ h (content f.line f.under) →
         children (plug f.place (row l u f.after)) ≡ change_child (further s) h (children a)) →
         If (cond b (Some (record { place = here; line = k; under = v; after = a })) (option_map (next_to k v) r)) (λ f. (l : Line) (u : Outline) → label l ≡ label f.line → content l u ≡ h (content f.line f.under) →
@@ -61,7 +61,7 @@ pub row_shape : (s : Step) (o : Outline) →
 row_shape s end = tt
 row_shape s (row k v a) = go (is_here s (label k)) (find_row (further s) a)
   where
-    go : (b : Bool) (r : Option Found) →
+    go : (b : Bool) (r : Option FoundLine) →
         If (cond b (Some (record { place = here; line = k; under = v; after = a })) (option_map (next_to k v) r))
         (λ f. (l : Line) (u : Outline) (cs : Children) → level l ≡ level f.line → shaped (plug f.place (row l u f.after)) cs ≡ shaped (row k v a) cs)
     go true r = λ l u cs e. same_collection l.mark k.mark cs (same_rank l k e)
@@ -77,7 +77,7 @@ pub within-shaped : (o : Outline) (g : Children → Children) (cs : Children) �
 within-shaped end g cs e = refl
 within-shaped (row l u a) g cs e = within-collection l.mark g cs e
 
-abbrev pub RowChanges : Step → Outline → Found → Type 0
+abbrev pub RowChanges : Step → Outline → FoundLine → Type 0
 RowChanges s o f =
     (h : Node → Node) (l : Line) (u : Outline) → label l ≡ label f.line → level l ≡ level f.line → content l u ≡ h (content f.line f.under) →
     value (plug f.place (row l u f.after)) ≡ within (change_child s h) (value o)
@@ -86,7 +86,7 @@ RowChanges s o f =
 pub row_value : (s : Step) (o : Outline) → IsCollection o → If (find_row s o) (RowChanges s o)
 row_value s o c = go (find_row s o) (λ h. row_change s h o) (row_shape s o)
   where
-    go : (r : Option Found) →
+    go : (r : Option FoundLine) →
         ((h : Node → Node) → If r (λ f. (l : Line) (u : Outline) → label l ≡ label f.line → content l u ≡ h (content f.line f.under) →
         children (plug f.place (row l u f.after)) ≡ change_child s h (children o))) →
         If r (λ f. (l : Line) (u : Outline) (cs : Children) → level l ≡ level f.line → shaped (plug f.place (row l u f.after)) cs ≡ shaped o cs) →
@@ -100,7 +100,7 @@ anchored-within a g (scalar b k t) = refl
 anchored-within a g (list b cs) = refl
 anchored-within a g (map b cs) = refl
 
-abbrev pub PathChanges : Step → List Step → Outline → (Found × List Step) → Type 0
+abbrev pub PathChanges : Step → List Step → Outline → (FoundLine × List Step) → Type 0
 PathChanges s ss o x =
     (g : Node → Node) (l : Line) (u : Outline) → label l ≡ label x.0.line → level l ≡ level x.0.line → content l u ≡ change x.1 g (content x.0.line x.0.under) →
     value (plug x.0.place (row l u x.0.after)) ≡ change (s ∷ ss) g (value o)
@@ -111,13 +111,13 @@ bare_value s ss k v a e g l u same lev new =
     same_collection l.mark Bare (child (label l) (content l u) (children a)) m ∙ (new ∙ sym (ap (λ m. change (s ∷ ss) g (collection m (children (row k v a)))) e))
 
 -- the step into what is under a line
-deep_value : (s t : Step) (ts : List Step) (o : Outline) (f : Found) (h : Option Node) → f.line.head ≡ h → RowChanges s o f →
+deep_value : (s t : Step) (ts : List Step) (o : Outline) (f : FoundLine) (h : Option Node) → f.line.head ≡ h → RowChanges s o f →
     If (find t ts f.under) (PathChanges t ts f.under) →
     If (in_head h (Some (f, t ∷ ts)) (option_map (λ x. (inside f x.0, x.1)) (find t ts f.under))) (PathChanges s (t ∷ ts) o)
 deep_value s t ts o f (Some n) e r ih = λ g l u same lev new. r (change (t ∷ ts) g) l u same lev new
 deep_value s t ts o f None e r ih = go (find t ts f.under) ih
   where
-    go : (q : Option (Found × List Step)) → If q (PathChanges t ts f.under) → If (option_map (λ x. (inside f x.0, x.1)) q) (PathChanges s (t ∷ ts) o)
+    go : (q : Option (FoundLine × List Step)) → If q (PathChanges t ts f.under) → If (option_map (λ x. (inside f x.0, x.1)) q) (PathChanges s (t ∷ ts) o)
     go None h = tt
     go (Some x) h = λ g l u same lev new.
         let below_value : value (plug x.0.place (row l u x.0.after)) ≡ change (t ∷ ts) g (value f.under) = h g l u same lev new in
@@ -129,23 +129,23 @@ pub path_value : (s : Step) (ss : List Step) (o : Outline) → If (find s ss o) 
 path_value s ss end = tt
 path_value s [] (row k v a) = go k.mark refl (find_row s (row k v a)) (row_value s (row k v a))
   where
-    found : (r : Option Found) → If r (RowChanges s (row k v a)) → If (option_map (λ f. (f, [])) r) (PathChanges s [] (row k v a))
+    found : (r : Option FoundLine) → If r (RowChanges s (row k v a)) → If (option_map (λ f. (f, [])) r) (PathChanges s [] (row k v a))
     found None h = tt
     found (Some f) h = λ g l u same lev new. h g l u same lev new
 
-    go : (m : Mark) → k.mark ≡ m → (r : Option Found) → (IsCollection (row k v a) → If r (RowChanges s (row k v a))) →
+    go : (m : Mark) → k.mark ≡ m → (r : Option FoundLine) → (IsCollection (row k v a) → If r (RowChanges s (row k v a))) →
         If (bare_or m (Some (record { place = here; line = k; under = v; after = a }, s ∷ [])) (option_map (λ f. (f, [])) r)) (PathChanges s [] (row k v a))
     go Bare e r h = bare_value s [] k v a e
     go (Key j) e r h = found r (h (subst IsEntry (sym e) tt))
     go Dash e r h = found r (h (subst IsEntry (sym e) tt))
 path_value s (t ∷ ts) (row k v a) = go (λ u. path_value t ts u) k.mark refl (find_row s (row k v a)) (row_value s (row k v a))
   where
-    found : ((u : Outline) → If (find t ts u) (PathChanges t ts u)) → (r : Option Found) → If r (RowChanges s (row k v a)) →
+    found : ((u : Outline) → If (find t ts u) (PathChanges t ts u)) → (r : Option FoundLine) → If r (RowChanges s (row k v a)) →
         If (option_and_then (λ f. in_head f.line.head (Some (f, t ∷ ts)) (option_map (λ x. (inside f x.0, x.1)) (find t ts f.under))) r) (PathChanges s (t ∷ ts) (row k v a))
     found ih None h = tt
     found ih (Some f) h = deep_value s t ts (row k v a) f f.line.head refl h (ih f.under)
 
-    go : ((u : Outline) → If (find t ts u) (PathChanges t ts u)) → (m : Mark) → k.mark ≡ m → (r : Option Found) → (IsCollection (row k v a) → If r (RowChanges s (row k v a))) →
+    go : ((u : Outline) → If (find t ts u) (PathChanges t ts u)) → (m : Mark) → k.mark ≡ m → (r : Option FoundLine) → (IsCollection (row k v a) → If r (RowChanges s (row k v a))) →
         If (bare_or m (Some (record { place = here; line = k; under = v; after = a }, s ∷ (t ∷ ts)))
         (option_and_then (λ f. in_head f.line.head (Some (f, t ∷ ts)) (option_map (λ x. (inside f x.0, x.1)) (find t ts f.under))) r)) (PathChanges s (t ∷ ts) (row k v a))
     go ih Bare e r h = bare_value s (t ∷ ts) k v a e

@@ -3,7 +3,7 @@ use Rattle.std.specs.Prelude.{◌≡◌, ℕ, zero, suc, ◌+◌, ◌<◌, ◌�
 use Rattle.yq_scalar.specs.Paths.{Step}
 use Rattle.yq_lines.specs.Outline.{Line, level, Outline, end, row}
 use Rattle.yq_lines.specs.Group.{deeper, shallow, group}
-use Rattle.yq_lines.specs.Places.{lines_before, Found, find}
+use Rattle.yq_lines.specs.Places.{lines_before, FoundLine, find}
 
 -- from a line on, the first lines that are deeper than a level, as an outline
 abbrev pub part : List Line → ℕ → ℕ → Outline
@@ -35,7 +35,7 @@ lines_end zero (l ∷ ls) = suc (deeper_count (level l) ls)
 lines_end (suc n) (l ∷ ls) = suc (lines_end n ls)
 
 -- the index of a line that was found, where no steps go on in its head
-abbrev pub found_line : Found → List Step → Option ℕ
+abbrev pub found_line : FoundLine → List Step → Option ℕ
 found_line f [] = Some (length (lines_before f.place))
 found_line f (s ∷ ss) = None
 

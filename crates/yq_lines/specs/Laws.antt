@@ -3,16 +3,16 @@ use Rattle.std.specs.Prelude.{◌≡◌, ℕ, ◌<◌, List, ◌∷◌, ◌++◌
 use Rattle.yq_scalar.specs.Tree.{Node}
 use Rattle.yq_lines.specs.Outline.{Line, level, Outline, flatten, IsOpen, IsWhole, IsEven, label, value, Stands}
 use Rattle.yq_scalar.specs.Paths.{Step, change}
-use Rattle.yq_lines.specs.Places.{lines_before, lines_after, Found, find, content}
+use Rattle.yq_lines.specs.Places.{lines_before, lines_after, FoundLine, find, content}
 
 -- the lines of an outline with these in the place of the line at a path and of those under it
-abbrev pub with_lines : Found → List Line → List Line
+abbrev pub with_lines : FoundLine → List Line → List Line
 with_lines f ls = lines_before f.place ++ (ls ++ (flatten f.after ++ lines_after f.place))
 
 -- Where the line of a node and the lines under it give way to others, at the same level, the lines stand for the tree with that node exchanged.
-abbrev pub Exchanged : Type 0
-Exchanged =
-    (n : ℕ) (o : Outline) (s : Step) (ss rest : List Step) (f : Found) → IsEven n o → find s ss o ≡ Some (f, rest) →
+abbrev pub NodeExchanged : Type 0
+NodeExchanged =
+    (n : ℕ) (o : Outline) (s : Step) (ss rest : List Step) (f : FoundLine) → IsEven n o → find s ss o ≡ Some (f, rest) →
     (g : Node → Node) (m : ℕ) (l : Line) (u : Outline) → label l ≡ label f.line → level l ≡ level f.line →
     IsOpen l.head u → IsWhole l.mark l.head f.after → level l < m → IsEven m u → content l u ≡ change rest g (content f.line f.under) →
     (flatten o ≡ with_lines f (f.line ∷ flatten f.under)) × Stands (with_lines f (l ∷ flatten u)) (change (s ∷ ss) g (value o)) n

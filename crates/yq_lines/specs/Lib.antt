@@ -17,7 +17,7 @@ pub mod Places
 pub mod Laws
 pub mod ShapedLines
 pub mod Labelled
-pub mod Spots
+pub mod Positions
 pub mod Comments
 pub mod View
 pub mod Bodies

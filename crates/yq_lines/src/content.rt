@@ -32,7 +32,7 @@ fn holds_escape(quote: u8, inner: &str) -> bool
     inner.as_bytes().iter().any(|b| *b == sign)
 }
 
-/// The text that a quoted scalar stands for: one on one line without escapes is lent.
+/// The text that a quoted scalar stands for: one on one line without escapes is borrowed.
 fn quoted_text<'t>(alloc: Global, piece: &'t str) -> Result<Content<'t>, AllocError>
     requires { IsQuotedText piece.now }
     ensures { IfOk result (λ c. content_view c ≡ reading.quoted_content piece.now) }
@@ -45,7 +45,7 @@ fn quoted_text<'t>(alloc: Global, piece: &'t str) -> Result<Content<'t>, AllocEr
     Ok(Content::Slice(inner))
 }
 
-/// The text that a key or a scalar, as it is written, stands for: one on one line without escapes is lent.
+/// The text that a key or a scalar, as it is written, stands for: one on one line without escapes is borrowed.
 #[tactic(auto, unfolding(yq_inline::specs::Scalars::content_of), using(crate::proofs::OneLine::one_line))]
 pub fn content_of<'t>(alloc: Global, piece: &'t str) -> Result<Content<'t>, AllocError>
     requires { scalars.is_quoted piece.now ≡ true → IsQuotedText piece.now }

@@ -5,7 +5,7 @@ ghost use Rattle.yq_scalar.specs.Tree.{Node};
 ghost use Rattle.yq_lines.specs.Comments.{last_comments};
 ghost use Rattle.yq_lines.specs.Outline.{Line, Stands};
 ghost use Rattle.yq_lines.specs.Grammar.{IsNode};
-ghost use Rattle.yq_lines.specs.Laws.{Exchanged};
+ghost use Rattle.yq_lines.specs.Laws.{NodeExchanged};
 ghost use Rattle.yq_lines.specs.ShapedLines.{ShapedByLines, ShapedIsTree};
 
 /// Lines stand for one node at most.
@@ -31,7 +31,7 @@ pub fn lines_shaped()
 
 /// Lines exchanged at a path change the node at that path alone.
 pub fn exchanged()
-    ensures { Exchanged }
+    ensures { NodeExchanged }
 {}
 
 /// The comment lines that end lines, in front of which others stand that end in none, are those of

@@ -3,7 +3,7 @@
 mod digits;
 
 use crate::failing::digits::{Asked, Digits};
-use crate::steps::{FILE, NOTHING_TO_UNDO, Step, holds, runs, store_with};
+use crate::steps::{CommandRow, FILE, NOTHING_TO_UNDO, holds, runs, store_with};
 use crate::wanted::Wanted::{Done, Refused};
 use crate::wanted::{Wanted, Why};
 use std::alloc::Global;
@@ -39,11 +39,11 @@ static CALLS: [Failing; 10] = [
 ];
 
 /// The history behind the failed edit, its undo, and the history behind that.
-fn steps_behind(answer: Wanted, is_made: bool) -> [Step; 4] {
+fn steps_behind(answer: Wanted, is_written: bool) -> [CommandRow; 4] {
     let edit: &'static [&'static str] = &["-i", ".port = 9090", "f"];
     let history: &'static [&'static str] = &["history", "f"];
     let undo: &'static [&'static str] = &["undo", "f"];
-    if is_made {
+    if is_written {
         [
             (edit, answer, "", EDITED),
             (history, Done, "1 done \".port = 9090\"\n", EDITED),
@@ -63,10 +63,10 @@ fn steps_behind(answer: Wanted, is_made: bool) -> [Step; 4] {
 #[test]
 fn each_call_of_an_edit(rt: HostRuntime) -> Result<(), Fail> {
     let alloc = rt.alloc();
-    'calls: for (call, left, answer, is_made) in &CALLS {
+    'calls: for (call, left, answer, is_written) in &CALLS {
         let mut store = store_with(alloc, PORT)?;
         store.fail_at(*call, *left);
-        runs(&rt, alloc, &mut store, &steps_behind(*answer, *is_made))?;
+        runs(&rt, alloc, &mut store, &steps_behind(*answer, *is_written))?;
         assert_eq!(rt; store.failures(), 1);
     }
     Ok(())

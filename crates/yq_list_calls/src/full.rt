@@ -1,6 +1,6 @@
 //! A list over a journal of as many records as one may have.
 
-use crate::steps::{JOURNAL, NOTHING_TO_UNDO, Step, runs, store_with};
+use crate::steps::{CommandRow, JOURNAL, NOTHING_TO_UNDO, runs, store_with};
 use crate::wanted::Wanted::{Done, Refused};
 use crate::wanted::{Wanted, Why};
 use std::test::Fail;
@@ -18,7 +18,7 @@ const JOURNAL_FULL: Wanted = Refused(Why::JournalFull);
 
 /// No edit is recorded beside 4,096 others, but one that changes nothing is made; there is room for one behind an
 /// undo, and for more behind a squash.
-static LIST: [Step; 10] = [
+static LIST: [CommandRow; 10] = [
     (&["-i", ".n = 2", "f"], JOURNAL_FULL, "", "n: 1\n"),
     (&["-i", ".n = 1", "f"], Done, "", "n: 1\n"),
     (&["undo", "f"], Done, "", "n: 1\n"),

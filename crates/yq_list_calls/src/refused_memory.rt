@@ -29,7 +29,7 @@ const SQUASHED: &str =
 "#;
 
 /// More stores than growths are refused.
-const TURNS: usize = 512;
+const MAX_GROWTHS: usize = 512;
 
 /// What the list prints.
 const PRINTED: &str = "1\n1 undone \".n = 2 | .n = 3\"\n";
@@ -53,7 +53,7 @@ fn first_refused(rt: &impl Abort, answers: &[Answer]) -> Option<Fault> {
 
 /// Runs the list over each of the stores, with memory for one growth more each time, until all is carried out:
 /// how often nothing was run, a command was refused first, and an output failed first.
-fn in_turn(
+fn refused_list(
     rt: &impl Abort,
     alloc: Global,
     stores: &mut [MemoryStore],
@@ -93,10 +93,10 @@ fn each_growth_of_a_list(rt: HostRuntime) -> Result<(), Fail> {
         commands.push(command_of(alloc, words)?)?;
     }
     let mut stores = Vec::new(alloc);
-    'stores: for _ in 0..TURNS {
+    'stores: for _ in 0..MAX_GROWTHS {
         stores.push(store_with(alloc, "n: 1\n")?)?;
     }
-    let [lists, refused, outputs] = in_turn(&rt, alloc, &mut stores, &commands)?;
+    let [lists, refused, outputs] = refused_list(&rt, alloc, &mut stores, &commands)?;
     assert!(rt; lists > 0 && refused > 0, "{lists}, {refused}, {outputs}");
     Ok(())
 }

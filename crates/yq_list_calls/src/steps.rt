@@ -19,10 +19,10 @@ pub const NOTHING_TO_REDO: Wanted = Wanted::Refused(Why::NothingToRedo);
 pub const DOES_NOT_STAND: Wanted = Wanted::Refused(Why::DoesNotStand);
 
 /// A command: its words, the answer to it, what it prints, and the text that the file then holds.
-pub type Step = (&'static [&'static str], Wanted, &'static str, &'static str);
+pub type CommandRow = (&'static [&'static str], Wanted, &'static str, &'static str);
 
 /// A list behind which the journal holds this text, if one is given.
-pub type List = (&'static [Step], &'static str);
+pub type List = (&'static [CommandRow], &'static str);
 
 /// A store with a file.
 pub fn store_with(alloc: Global, text: &str) -> Result<MemoryStore, Fail> {
@@ -44,7 +44,7 @@ pub fn runs(
     rt: &impl Abort,
     alloc: Global,
     store: &mut MemoryStore,
-    steps: &[Step],
+    steps: &[CommandRow],
 ) -> Result<(), Fail> {
     let mut commands = Vec::new(alloc);
     let mut answers = Vec::new(alloc);
@@ -66,7 +66,12 @@ pub fn runs(
 
 /// Runs each beginning of a list, over a store with a file of this text: so each command of the list is
 /// once the last one, behind which the file is seen.
-pub fn runs_begun(rt: &impl Abort, alloc: Global, first: &str, steps: &[Step]) -> Result<(), Fail> {
+pub fn runs_begun(
+    rt: &impl Abort,
+    alloc: Global,
+    first: &str,
+    steps: &[CommandRow],
+) -> Result<(), Fail> {
     'counts: for count in 0..=steps.len() {
         if let Some((begun, _)) = steps.split_at_checked(count) {
             let mut store = store_with(alloc, first)?;

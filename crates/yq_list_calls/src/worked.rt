@@ -4,11 +4,11 @@ mod edits;
 mod journals;
 mod squashes;
 
-use crate::steps::{Step, runs_begun};
+use crate::steps::{CommandRow, runs_begun};
 use std::test::Fail;
 
 /// A text, and a list over the file that holds it.
-type Row = (&'static str, &'static [Step]);
+type Row = (&'static str, &'static [CommandRow]);
 
 /// Each command of a list is answered, prints and leaves the file as is told of it, whatever stands before it
 /// in the list, and a refused one ends no list. So a `run_list` that answers want of memory to each command but
@@ -17,7 +17,7 @@ type Row = (&'static str, &'static [Step]);
 fn lists(rt: HostRuntime) -> Result<(), Fail> {
     let rows: [Row; 8] = [
         ("n: 1\n", &edits::MOVED),
-        ("a: false\nb: [1]\n", &edits::SHOWN),
+        ("a: false\nb: [1]\n", &edits::EVALS),
         ("a: \"x\"\n", &edits::EQUAL),
         ("a: 1\n---\na: 2\n", &edits::TWO_DOCUMENTS),
         ("name: web\r\nport: 8080 # p\r\n", &edits::CR_LF),

@@ -18,19 +18,19 @@ use Rattle.yq_words.specs.declared.command.Command.TheVariants.{Eval, Undo, Redo
 use Rattle.yq_history.specs.declared.fault.Fault.{Fault}
 use Rattle.yq_history.specs.declared.fault.Fault.TheVariants as fault
 use Rattle.yq_history.specs.Causes.{Cause, IsFor, named}
-use Rattle.yq_store.specs.Content.{Content}
+use Rattle.yq_store.specs.FileMap.{FileMap}
 use Rattle.yq_commands.specs.Editing.{EditOutcome, unreadable, refused, edited, edits, program_in}
 use Rattle.yq_history.specs.Faults.{is_failure, is_outside, is_output, of_fault}
-use Rattle.yq_lists.specs.Lists.{Reply, answers_in, Told, IsRefused, IsCarriedOut, Steps, Goes, Run, IsReply, GoesExactly, RunExactly, tells_failure, tells_output, count_told, failures_in, output_failures_in, is_memory, has_memory}
+use Rattle.yq_lists.specs.Lists.{Reply, answers_in, IsAnswer, CommandRefused, IsCarriedOut, Steps, Goes, Run, IsReply, GoesExactly, RunExactly, reports_failure, reports_output, count_passing, failures_in, output_failures_in, is_memory, has_memory}
 use Rattle.yq_history.specs.Pair.{GoodIn, Arrives}
-use Rattle.yq_commands.specs.Prints.{shown_of, answer_by}
-use Rattle.yq_history.specs.Shown.{Shown}
+use Rattle.yq_commands.specs.Prints.{report_of, answer_by}
+use Rattle.yq_history.specs.Report.{Report}
 use Rattle.yq_commands.specs.CommandSteps.{cause_of, next_of, edit_cause, edit_next, update_cause, update_next}
-use Rattle.yq_history.specs.Steps.{unless_fault, walk_cause, walk_next, squash_cause, squash_next}
+use Rattle.yq_history.specs.Steps.{unless_fault, move_cause, move_next, squash_cause, squash_next}
 use Rattle.yq_lists.proofs.ReplyLaws.{reply}
 
 -- a command that prints leaves its history
-printing_stays : (c : Command) (h : Option History) → (shown_of c h).printed ≢ [] → next_of c h ≡ h
+printing_stays : (c : Command) (h : Option History) → (report_of c h).printed ≢ [] → next_of c h ≡ h
 printing_stays (Eval expr file journal true s d) h some = absurd (some refl)
 printing_stays (Eval expr file journal false s d) h some = refl
 printing_stays (Undo file journal) h some = absurd (some refl)
@@ -39,49 +39,49 @@ printing_stays (Lists file journal) h some = refl
 printing_stays (Squash n file journal) h some = absurd (some refl)
 printing_stays Help h some = refl
 
-module _ (c : Command) (h k : Option History) (x : Fault) (quiet : is_output x ≡ false) where
-  by_output : MatchBool (is_outside x) ((k ≡ h) ⊎ (k ≡ next_of c h)) (IsFor (cause_of c h) x × (k ≡ h)) → IsRefused c h x k
-  by_output p = subst (λ b. MatchBool b ((cause_of c h ≡ None) × (k ≡ h)) (MatchBool (is_outside x) ((k ≡ h) ⊎ (k ≡ next_of c h)) (IsFor (cause_of c h) x × (k ≡ h)))) (sym quiet) p
+module _ (c : Command) (h k : Option History) (x : Fault) (no_output : is_output x ≡ false) where
+  by_output : MatchBool (is_outside x) ((k ≡ h) ⊎ (k ≡ next_of c h)) (IsFor (cause_of c h) x × (k ≡ h)) → CommandRefused c h x k
+  by_output p = subst (λ b. MatchBool b ((cause_of c h ≡ None) × (k ≡ h)) (MatchBool (is_outside x) ((k ≡ h) ⊎ (k ≡ next_of c h)) (IsFor (cause_of c h) x × (k ≡ h)))) (sym no_output) p
 
-  outside_refused : is_outside x ≡ true → (k ≡ h) ⊎ (k ≡ next_of c h) → IsRefused c h x k
+  outside_refused : is_outside x ≡ true → (k ≡ h) ⊎ (k ≡ next_of c h) → CommandRefused c h x k
   outside_refused out p = by_output (subst (λ b. MatchBool b ((k ≡ h) ⊎ (k ≡ next_of c h)) (IsFor (cause_of c h) x × (k ≡ h))) (sym out) p)
 
-  inside_refused : is_outside x ≡ false → IsFor (cause_of c h) x × (k ≡ h) → IsRefused c h x k
+  inside_refused : is_outside x ≡ false → IsFor (cause_of c h) x × (k ≡ h) → CommandRefused c h x k
   inside_refused out p = by_output (subst (λ b. MatchBool b ((k ≡ h) ⊎ (k ≡ next_of c h)) (IsFor (cause_of c h) x × (k ≡ h))) (sym out) p)
 
-module _ (e : Content) (f j : List ℕ) (c : Command) (h : Option History) where
+module _ (e : FileMap) (f j : List ℕ) (c : Command) (h : Option History) where
   refused_step : (x : Fault) (b : Bool) → is_output x ≡ false → is_outside x ≡ b →
-      MatchBool b (GoodIn e f j h ⊎ GoodIn e f j (next_of c h)) (IsFor (cause_of c h) x × GoodIn e f j h) → (k : Option History) × IsRefused c h x k × GoodIn e f j k
-  refused_step x true quiet out (inl g) = (h, outside_refused c h h x quiet out (inl refl), g)
-  refused_step x true quiet out (inr g) = (next_of c h, outside_refused c h (next_of c h) x quiet out (inr refl), g)
-  refused_step x false quiet out p = (h, inside_refused c h h x quiet out (p.0, refl), p.1)
+      MatchBool b (GoodIn e f j h ⊎ GoodIn e f j (next_of c h)) (IsFor (cause_of c h) x × GoodIn e f j h) → (k : Option History) × CommandRefused c h x k × GoodIn e f j k
+  refused_step x true no_output out (inl g) = (h, outside_refused c h h x no_output out (inl refl), g)
+  refused_step x true no_output out (inr g) = (next_of c h, outside_refused c h (next_of c h) x no_output out (inr refl), g)
+  refused_step x false no_output out p = (h, inside_refused c h h x no_output out (p.0, refl), p.1)
 
   carried_out : (m : Bool) (o : List ℕ) (k : Option History) → IsCarriedOut c h m o k → Steps c h (reply (answer_by m) o).answer (reply (answer_by m) o).printed k
   carried_out true o k is = is
   carried_out false o k is = is
 
   -- a command that arrives is a step
-  pub arrived : {T : Type 0} (r : Result T Fault) (a : Answer) (s : Shown) →
-      Told r a s → OnOk r (s ≡ shown_of c h) → IfErr r (λ x. is_output x ≡ false) → Arrives e f j (cause_of c h) h (next_of c h) r →
+  pub arrived : {T : Type 0} (r : Result T Fault) (a : Answer) (s : Report) →
+      IsAnswer r a s → OnOk r (s ≡ report_of c h) → IfErr r (λ x. is_output x ≡ false) → Arrives e f j (cause_of c h) h (next_of c h) r →
       (k : Option History) × Steps c h (reply a s.printed).answer (reply a s.printed).printed k × GoodIn e f j k
-  arrived (Ok v) a s (inl is) shows quiet p = (
+  arrived (Ok v) a s (inl is) shows no_output p = (
     next_of c h,
     subst (λ y. Steps c h (reply y s.printed).answer (reply y s.printed).printed (next_of c h)) (sym is)
-        (carried_out s.is_match s.printed (next_of c h) (p.0, ap (λ (x : Shown). x.is_match) shows, ap (λ (x : Shown). x.printed) shows, refl)),
+        (carried_out s.is_match s.printed (next_of c h) (p.0, ap (λ (x : Report). x.is_match) shows, ap (λ (x : Report). x.printed) shows, refl)),
     p.1,
   )
-  arrived (Ok v) a s (inr is) shows quiet p =
-      let stays : next_of c h ≡ h = printing_stays c h (λ none. is.1 (ap (λ (x : Shown). x.printed) shows ∙ none)) in
+  arrived (Ok v) a s (inr is) shows no_output p =
+      let stays : next_of c h ≡ h = printing_stays c h (λ none. is.1 (ap (λ (x : Report). x.printed) shows ∙ none)) in
       (h, subst (λ y. Steps c h (reply y s.printed).answer (reply y s.printed).printed h) (sym is.0) (refl, (p.0, refl)), subst (GoodIn e f j) stays p.1)
-  arrived (Err x) a s is shows quiet p =
-      let k = refused_step x (is_outside x) quiet refl p in
+  arrived (Err x) a s is shows no_output p =
+      let k = refused_step x (is_outside x) no_output refl p in
       (k.0, subst (λ y. Steps c h (reply y s.printed).answer (reply y s.printed).printed k.0) (sym is) (refl, k.1), k.2)
 
 -- ---- what a refused command leaves
 
-walk_stays : (step : Move) (h : Option History) (x : Cause) → walk_cause step h ≡ Some x → walk_next step h ≡ h
-walk_stays step None x is = refl
-walk_stays step (Some h) x is = ap Some (elim (step_fault h step) as (λ o. option_map (λ y. named (of_fault y)) o ≡ Some x → unless_fault o h (after_move h step []) ≡ h) [
+move_stays : (step : Move) (h : Option History) (x : Cause) → move_cause step h ≡ Some x → move_next step h ≡ h
+move_stays step None x is = refl
+move_stays step (Some h) x is = ap Some (elim (step_fault h step) as (λ o. option_map (λ y. named (of_fault y)) o ≡ Some x → unless_fault o h (after_move h step []) ≡ h) [
   | None ↦ λ e. absurd (none-some x e)
   | Some y ↦ λ e. refl
 ] is)
@@ -112,8 +112,8 @@ update_stays expr (Ok p) (Some h) x is = ap Some (edit_stays h expr (edits p (te
 pub stays : (c : Command) (h : Option History) (x : Cause) → cause_of c h ≡ Some x → next_of c h ≡ h
 stays (Eval expr file journal true s d) h x is = update_stays (string_bytes expr) (program_in (string_bytes expr)) h x is
 stays (Eval expr file journal false s d) h x is = refl
-stays (Undo file journal) h x is = walk_stays move.Undo h x is
-stays (Redo file journal) h x is = walk_stays move.Redo h x is
+stays (Undo file journal) h x is = move_stays move.Undo h x is
+stays (Redo file journal) h x is = move_stays move.Redo h x is
 stays (Lists file journal) h x is = refl
 stays (Squash n file journal) h x is = squash_stays n h x is
 stays Help h x is = refl
@@ -133,23 +133,23 @@ pub not_true : (b : Bool) → not b ≡ true → b ≡ false
 not_true true e = cc
 not_true false e = refl
 
-for_some : (o : Option Cause) (e : Fault) (s : Shown) (r : Reply) → r.answer ≡ Refused e → r.printed ≡ [] → IsFor o e → IsReply o s r × ((x : Cause) × (o ≡ Some x))
+for_some : (o : Option Cause) (e : Fault) (s : Report) (r : Reply) → r.answer ≡ Refused e → r.printed ≡ [] → IsFor o e → IsReply o s r × ((x : Cause) × (o ≡ Some x))
 for_some None e s r is none f = absurd f
 for_some (Some x) e s r is none f = (((e, is, f), none), (x, refl))
 
-inside_step : (c : Command) (h k : Option History) (e : Fault) → is_outside e ≡ false → is_output e ≡ false → IsRefused c h e k → IsFor (cause_of c h) e × (k ≡ h)
-inside_step c h k e out quiet s =
+inside_step : (c : Command) (h k : Option History) (e : Fault) → is_outside e ≡ false → is_output e ≡ false → CommandRefused c h e k → IsFor (cause_of c h) e × (k ≡ h)
+inside_step c h k e out no_output s =
     subst (λ b. MatchBool b ((k ≡ h) ⊎ (k ≡ next_of c h)) (IsFor (cause_of c h) e × (k ≡ h))) out
-    (subst (λ b. MatchBool b ((cause_of c h ≡ None) × (k ≡ h)) (MatchBool (is_outside e) ((k ≡ h) ⊎ (k ≡ next_of c h)) (IsFor (cause_of c h) e × (k ≡ h)))) quiet s)
+    (subst (λ b. MatchBool b ((cause_of c h ≡ None) × (k ≡ h)) (MatchBool (is_outside e) ((k ≡ h) ⊎ (k ≡ next_of c h)) (IsFor (cause_of c h) e × (k ≡ h)))) no_output s)
 
-exact_step : (c : Command) (h k : Option History) (r : Reply) (a : Answer) → r.answer ≡ a → Steps c h a r.printed k → is_inside a ≡ true → IsReply (cause_of c h) (shown_of c h) r × (k ≡ next_of c h)
-exact_step c h k r Done is s i = (subst (λ o. IsReply o (shown_of c h) r) (sym s.0) (is ∙ ap answer_by s.1, s.2), s.3)
-exact_step c h k r NoMatch is s i = (subst (λ o. IsReply o (shown_of c h) r) (sym s.0) (is ∙ ap answer_by s.1, s.2), s.3)
+exact_step : (c : Command) (h k : Option History) (r : Reply) (a : Answer) → r.answer ≡ a → Steps c h a r.printed k → is_inside a ≡ true → IsReply (cause_of c h) (report_of c h) r × (k ≡ next_of c h)
+exact_step c h k r Done is s i = (subst (λ o. IsReply o (report_of c h) r) (sym s.0) (is ∙ ap answer_by s.1, s.2), s.3)
+exact_step c h k r NoMatch is s i = (subst (λ o. IsReply o (report_of c h) r) (sym s.0) (is ∙ ap answer_by s.1, s.2), s.3)
 exact_step c h k r (Refused e) is s i =
     let out = not_true (is_outside e) (and_parts (not (is_outside e)) (not (is_output e)) i).0 in
-    let quiet = not_true (is_output e) (and_parts (not (is_outside e)) (not (is_output e)) i).1 in
-    let p = inside_step c h k e out quiet s.1 in
-    let q = for_some (cause_of c h) e (shown_of c h) r is s.0 p.0 in
+    let no_output = not_true (is_output e) (and_parts (not (is_outside e)) (not (is_output e)) i).1 in
+    let p = inside_step c h k e out no_output s.1 in
+    let q = for_some (cause_of c h) e (report_of c h) r is s.0 p.0 in
     (q.0, p.1 ∙ sym (stays c h q.1.0 q.1.1))
 
 exact_goes : (f j : List ℕ) (c : Command) (h k : Option History) (r : Reply) → Goes f j c h r k → is_inside r.answer ≡ true → GoesExactly f j c h r k
@@ -169,22 +169,22 @@ outside_parts fault.WriteFailed p q = p
 outside_parts fault.OutOfMemory p q = q
 outside_parts _ p q = refl
 
-inside_one : (a : Answer) → tells_failure a ≡ false → tells_output a ≡ false → has_memory a ≡ true → is_inside a ≡ true
+inside_one : (a : Answer) → reports_failure a ≡ false → reports_output a ≡ false → has_memory a ≡ true → is_inside a ≡ true
 inside_one Done p o q = refl
 inside_one NoMatch p o q = refl
 inside_one (Refused e) p o q = both (not (is_outside e)) (not (is_output e)) (ap not (outside_parts e p (not_true (is_memory e) q))) (ap not o)
 
-none_first : (told : Answer → Bool) (a : Answer) (rs : List Answer) → count_told told (a ∷ rs) ≡ 0 → (told a ≡ false) × (count_told told rs ≡ 0)
-none_first told a rs none = elim (told a) as (λ b. told a ≡ b → (if b then count_told told rs + 1 else count_told told rs) ≡ 0 → (told a ≡ false) × (count_told told rs ≡ 0)) [
+none_first : (passes : Answer → Bool) (a : Answer) (rs : List Answer) → count_passing passes (a ∷ rs) ≡ 0 → (passes a ≡ false) × (count_passing passes rs ≡ 0)
+none_first passes a rs none = elim (passes a) as (λ b. passes a ≡ b → (if b then count_passing passes rs + 1 else count_passing passes rs) ≡ 0 → (passes a ≡ false) × (count_passing passes rs ≡ 0)) [
   | true ↦ λ is e. absurd (omega (arith, e))
   | false ↦ λ is e. (is, e)
 ] refl none
 
 -- where no answer tells of a failure or of want of memory, all come from inside
 pub all_inside : (rs : List Answer) → failures_in rs ≡ 0 → output_failures_in rs ≡ 0 → list_all has_memory rs ≡ true → list_all is_inside rs ≡ true
-all_inside [] none quiet m = refl
-all_inside (a ∷ rs) none quiet m =
-    let p = none_first tells_failure a rs none in
-    let q = none_first tells_output a rs quiet in
+all_inside [] none no_output m = refl
+all_inside (a ∷ rs) none no_output m =
+    let p = none_first reports_failure a rs none in
+    let q = none_first reports_output a rs no_output in
     both (is_inside a) (list_all is_inside rs) (inside_one a p.0 q.0 (and_parts (has_memory a) (list_all has_memory rs) m).0)
     (all_inside rs p.1 q.1 (and_parts (has_memory a) (list_all has_memory rs) m).1)

@@ -8,24 +8,24 @@ use Rattle.yq_words.specs.declared.command.Command.{Command}
 use Rattle.yq_history.specs.declared.fault.Fault.{Fault}
 use Rattle.yq_history.specs.declared.fault.Fault.TheVariants.{OutFailed, OutOfMemory}
 use Rattle.yq_history.specs.Causes.{Cause, IsFor}
-use Rattle.yq_commands.specs.CommandNames.{IsOn, IsStranger}
-use Rattle.yq_store.specs.Content.{Content}
+use Rattle.yq_commands.specs.CommandNames.{IsOn, IsNotNamed}
+use Rattle.yq_store.specs.FileMap.{FileMap}
 use Rattle.yq_commands.specs.CommandEffects.{OfEffect, expression_fault}
 use Rattle.yq_commands.specs.FileEdits.{HasEdited}
 use Rattle.yq_history.specs.Effects.{Effect, Works, printed_by}
 use Rattle.yq_history.specs.Faults.{is_failure, is_outside, is_output}
 use Rattle.yq_history.specs.Pair.{GoodIn}
-use Rattle.yq_commands.specs.Prints.{shown_of, prints, answer_by}
-use Rattle.yq_history.specs.Shown.{Shown}
+use Rattle.yq_commands.specs.Prints.{report_of, prints, answer_by}
+use Rattle.yq_history.specs.Report.{Report}
 use Rattle.yq_commands.specs.CommandSteps.{cause_of, next_of}
 
 -- the command shares no name with the file and the journal; or it isn't on them, and prints and writes no name
-abbrev pub IsApart : List ℕ → List ℕ → Command → Type 0
-IsApart file name c = (IsStranger file c × IsStranger name c) ⊎ ((IsOn file name c → ⊥) × (prints c ≡ true))
+abbrev pub IsUnrelated : List ℕ → List ℕ → Command → Type 0
+IsUnrelated file journal c = (IsNotNamed file c × IsNotNamed journal c) ⊎ ((IsOn file journal c → ⊥) × (prints c ≡ true))
 
 -- each command is on the pair, or apart from it
 abbrev pub AllOnOrApart : List ℕ → List ℕ → List Command → Type 0
-AllOnOrApart file name cs = All (λ c. IsOn file name c ⊎ IsApart file name c) cs
+AllOnOrApart file journal cs = All (λ c. IsOn file journal c ⊎ IsUnrelated file journal c) cs
 
 -- what a command comes to: its answer, and the bytes that it printed
 pub record Reply : Type 0 where
@@ -41,54 +41,54 @@ abbrev pub printed_in : List Reply → List ℕ
 printed_in rs = flat_map (λ (r : Reply). r.printed) rs
 
 -- the answer to what a command came to that shows this: it was carried out, or its output failed, or it was refused
-abbrev pub Told : {T : Type 0} → Result T Fault → Answer → Shown → Type 0
-Told r a s = MatchResult r (λ _. (a ≡ answer_by s.is_match) ⊎ ((a ≡ Refused OutFailed) × (s.printed ≢ []))) (λ x. a ≡ Refused x)
+abbrev pub IsAnswer : {T : Type 0} → Result T Fault → Answer → Report → Type 0
+IsAnswer r a s = MatchResult r (λ _. (a ≡ answer_by s.is_match) ⊎ ((a ≡ Refused OutFailed) × (s.printed ≢ []))) (λ x. a ≡ Refused x)
 
 -- a command was refused: its output failed, and the history stays; or, where a call of the store failed or memory was refused, it was carried out or not;
 -- or it was refused for its cause, and the history stays
-abbrev pub IsRefused : Command → Option History → Fault → Option History → Type 0
-IsRefused c h e k =
+abbrev pub CommandRefused : Command → Option History → Fault → Option History → Type 0
+CommandRefused c h e k =
     MatchBool (is_output e) ((cause_of c h ≡ None) × (k ≡ h))
     (MatchBool (is_outside e) ((k ≡ h) ⊎ (k ≡ next_of c h)) (IsFor (cause_of c h) e × (k ≡ h)))
 
 -- a command was carried out: what it was asked for is there or not, and it printed these bytes
 abbrev pub IsCarriedOut : Command → Option History → Bool → List ℕ → Option History → Type 0
-IsCarriedOut c h is_match o k = (cause_of c h ≡ None) × (is_match ≡ (shown_of c h).is_match) × (o ≡ (shown_of c h).printed) × (k ≡ next_of c h)
+IsCarriedOut c h is_match o k = (cause_of c h ≡ None) × (is_match ≡ (report_of c h).is_match) × (o ≡ (report_of c h).printed) × (k ≡ next_of c h)
 
 -- from a history, a command gives this answer, prints these bytes, and goes on to another history: it is carried out, or it is refused and prints nothing
 abbrev pub Steps : Command → Option History → Answer → List ℕ → Option History → Type 0
 Steps c h Done o k = IsCarriedOut c h true o k
 Steps c h NoMatch o k = IsCarriedOut c h false o k
-Steps c h (Refused e) o k = (o ≡ []) × IsRefused c h e k
+Steps c h (Refused e) o k = (o ≡ []) × CommandRefused c h e k
 
 -- a command on the pair steps its history, and one apart from it leaves it
 abbrev pub Goes : List ℕ → List ℕ → Command → Option History → Reply → Option History → Type 0
-Goes file name c h r k = (IsOn file name c × Steps c h r.answer r.printed k) ⊎ (IsApart file name c × (k ≡ h))
+Goes file journal c h r k = (IsOn file journal c × Steps c h r.answer r.printed k) ⊎ (IsUnrelated file journal c × (k ≡ h))
 
 -- one command after another
 abbrev pub Run : List ℕ → List ℕ → Option History → List Command → List Reply → Option History → Type 0
-Run file name h [] [] k = k ≡ h
-Run file name h (c ∷ cs) (r ∷ rs) k = (m : Option History) × Goes file name c h r m × Run file name m cs rs k
-Run file name h [] (r ∷ rs) k = ⊥
-Run file name h (c ∷ cs) [] k = ⊥
+Run file journal h [] [] k = k ≡ h
+Run file journal h (c ∷ cs) (r ∷ rs) k = (m : Option History) × Goes file journal c h r m × Run file journal m cs rs k
+Run file journal h [] (r ∷ rs) k = ⊥
+Run file journal h (c ∷ cs) [] k = ⊥
 
 -- ---- where nothing failed from outside
 
 -- the reply that a cause calls for: what is shown where there is none, and else a refusal that prints nothing
-abbrev pub IsReply : Option Cause → Shown → Reply → Type 0
-IsReply None shown r = (r.answer ≡ answer_by shown.is_match) × (r.printed ≡ shown.printed)
-IsReply (Some x) shown r = ((e : Fault) × (r.answer ≡ Refused e) × IsFor (Some x) e) × (r.printed ≡ [])
+abbrev pub IsReply : Option Cause → Report → Reply → Type 0
+IsReply None report r = (r.answer ≡ answer_by report.is_match) × (r.printed ≡ report.printed)
+IsReply (Some x) report r = ((e : Fault) × (r.answer ≡ Refused e) × IsFor (Some x) e) × (r.printed ≡ [])
 
 -- a command on the pair has the reply that its cause calls for, and steps its history; one apart leaves it
 abbrev pub GoesExactly : List ℕ → List ℕ → Command → Option History → Reply → Option History → Type 0
-GoesExactly file name c h r k = (IsOn file name c × IsReply (cause_of c h) (shown_of c h) r × (k ≡ next_of c h)) ⊎ (IsApart file name c × (k ≡ h))
+GoesExactly file journal c h r k = (IsOn file journal c × IsReply (cause_of c h) (report_of c h) r × (k ≡ next_of c h)) ⊎ (IsUnrelated file journal c × (k ≡ h))
 
 -- one command after another
 abbrev pub RunExactly : List ℕ → List ℕ → Option History → List Command → List Reply → Option History → Type 0
-RunExactly file name h [] [] k = k ≡ h
-RunExactly file name h (c ∷ cs) (r ∷ rs) k = (m : Option History) × GoesExactly file name c h r m × RunExactly file name m cs rs k
-RunExactly file name h [] (r ∷ rs) k = ⊥
-RunExactly file name h (c ∷ cs) [] k = ⊥
+RunExactly file journal h [] [] k = k ≡ h
+RunExactly file journal h (c ∷ cs) (r ∷ rs) k = (m : Option History) × GoesExactly file journal c h r m × RunExactly file journal m cs rs k
+RunExactly file journal h [] (r ∷ rs) k = ⊥
+RunExactly file journal h (c ∷ cs) [] k = ⊥
 
 -- ---- what the store's names hold between two commands
 
@@ -99,41 +99,41 @@ is_kept _ = false
 
 -- what a command's answer and the bytes that it printed tell of an effect: it came about and printed its bytes; or it was refused and printed nothing;
 -- that the output failed tells nothing, and that there is no match is never told
-abbrev pub TellsEffect : Effect → List ℕ → List ℕ → Content → Content → Answer → List ℕ → Type 0
-TellsEffect x file name old new Done o = Works x file name old new {T = Unit {0}} (Ok tt) × (o ≡ printed_by x)
-TellsEffect x file name old new NoMatch o = ⊥
-TellsEffect x file name old new (Refused e) o = MatchBool (is_output e) (Unit {0}) (Works x file name old new {T = Unit {0}} (Err e)) × (o ≡ [])
+abbrev pub ReportsEffect : Effect → List ℕ → List ℕ → FileMap → FileMap → Answer → List ℕ → Type 0
+ReportsEffect x file journal old new Done o = Works x file journal old new {T = Unit {0}} (Ok tt) × (o ≡ printed_by x)
+ReportsEffect x file journal old new NoMatch o = ⊥
+ReportsEffect x file journal old new (Refused e) o = MatchBool (is_output e) (Unit {0}) (Works x file journal old new {T = Unit {0}} (Err e)) × (o ≡ [])
 
 -- the reply, and what the file and the journal then hold, are those of the command's effect on what they held, be they good for a history or not
-abbrev pub HasEffect : Command → Reply → Content → Content → Type 0
+abbrev pub HasEffect : Command → Reply → FileMap → FileMap → Type 0
 HasEffect c r old new =
-    (file name : List ℕ) → file ≢ name → IsOn file name c → OfEffect c (get old file) (get old name) (λ x. TellsEffect x file name old new r.answer r.printed)
+    (file journal : List ℕ) → file ≢ journal → IsOn file journal c → OfEffect c (get old file) (get old journal) (λ x. ReportsEffect x file journal old new r.answer r.printed)
 
 -- from every history for which a pair is good it goes on to one for which the pair is good then
-abbrev pub StepsHistory : Command → Reply → Content → Content → Type 0
+abbrev pub StepsHistory : Command → Reply → FileMap → FileMap → Type 0
 StepsHistory c r old new =
-    (file name : List ℕ) → file ≢ name → IsOn file name c ⊎ IsApart file name c → (h : Option History) → GoodIn old file name h →
-    (k : Option History) × Goes file name c h r k × GoodIn new file name k
+    (file journal : List ℕ) → file ≢ journal → IsOn file journal c ⊎ IsUnrelated file journal c → (h : Option History) → GoodIn old file journal h →
+    (k : Option History) × Goes file journal c h r k × GoodIn new file journal k
 
 -- a command is refused for that fault, or for want of memory
-abbrev pub TellsUnparsed : Fault → Answer → Type 0
-TellsUnparsed f (Refused e) = e ≢ OutOfMemory → e ≡ f
-TellsUnparsed f _ = ⊥
+abbrev pub ReportsUnparsed : Fault → Answer → Type 0
+ReportsUnparsed f (Refused e) = e ≢ OutOfMemory → e ≡ f
+ReportsUnparsed f _ = ⊥
 
 -- A command that prints, or is refused so, leaves every name; any other leaves the names that it doesn't name; it has its effect, and steps histories.
 -- What was accepted of an expression with updates has edited the file's text; an expression that is no program is refused before all else.
-pub record Leaves (c : Command) (r : Reply) (old new : Content) : Type 0 where
+pub record RunsTo (c : Command) (r : Reply) (old new : FileMap) : Type 0 where
   pub all : (prints c || is_kept r.answer) ≡ true → new ≡ old
-  pub others : (q : List ℕ) → IsStranger q c → get new q ≡ get old q
+  pub others : (q : List ℕ) → IsNotNamed q c → get new q ≡ get old q
   pub effect : HasEffect c r old new
   pub steps : StepsHistory c r old new
   pub edited : r.answer ≡ Done → HasEdited c old new r.printed
-  pub unparsed : (f : Fault) → expression_fault c ≡ Some f → TellsUnparsed f r.answer
+  pub unparsed : (f : Fault) → expression_fault c ≡ Some f → ReportsUnparsed f r.answer
 
 -- one command after another
-abbrev pub Keeps : Content → List Command → List Reply → Content → Type 0
+abbrev pub Keeps : FileMap → List Command → List Reply → FileMap → Type 0
 Keeps old [] [] new = new ≡ old
-Keeps old (c ∷ cs) (r ∷ rs) new = (m : Content) × Leaves c r old m × Keeps m cs rs new
+Keeps old (c ∷ cs) (r ∷ rs) new = (m : FileMap) × RunsTo c r old m × Keeps m cs rs new
 Keeps old [] (r ∷ rs) new = ⊥
 Keeps old (c ∷ cs) [] new = ⊥
 
@@ -145,27 +145,27 @@ is_memory OutOfMemory = true
 is_memory _ = false
 
 -- the answer tells of a call of the store that failed
-abbrev pub tells_failure : Answer → Bool
-tells_failure (Refused e) = is_failure e
-tells_failure _ = false
+abbrev pub reports_failure : Answer → Bool
+reports_failure (Refused e) = is_failure e
+reports_failure _ = false
 
 -- the answer tells that the output failed
-abbrev pub tells_output : Answer → Bool
-tells_output (Refused e) = is_output e
-tells_output _ = false
+abbrev pub reports_output : Answer → Bool
+reports_output (Refused e) = is_output e
+reports_output _ = false
 
 -- how many answers tell it
-abbrev pub count_told : (Answer → Bool) → List Answer → ℕ
-count_told told [] = 0
-count_told told (a ∷ as') = if told a then count_told told as' + 1 else count_told told as'
+abbrev pub count_passing : (Answer → Bool) → List Answer → ℕ
+count_passing passes [] = 0
+count_passing passes (a ∷ as') = if passes a then count_passing passes as' + 1 else count_passing passes as'
 
 -- how many tell of a call of the store that failed
 abbrev pub failures_in : List Answer → ℕ
-failures_in as' = count_told tells_failure as'
+failures_in as' = count_passing reports_failure as'
 
 -- how many tell that the output failed
 abbrev pub output_failures_in : List Answer → ℕ
-output_failures_in as' = count_told tells_output as'
+output_failures_in as' = count_passing reports_output as'
 
 -- the answer doesn't tell of want of memory
 abbrev pub has_memory : Answer → Bool

@@ -12,7 +12,7 @@ pub struct PutError;
 /// What takes the program's output.
 pub trait Out {
     /// Whether it tells what it was given. What is said of its bytes holds only then.
-    ghost tells: { Bool };
+    ghost observable: { Bool };
 
     /// The bytes put so far.
     ghost taken: { Self → List ℕ };
@@ -22,6 +22,6 @@ pub trait Out {
 
     /// Puts bytes behind those put so far. After a failure nothing is known of them.
     fn put(&mut self, bytes: &[u8]) -> Result<(), PutError>
-        ensures appended { IsTrue tells → OnOk result (taken self.new ≡ taken self.old ++ bytes.now) }
+        ensures appended { IsTrue observable → OnOk result (taken self.new ≡ taken self.old ++ bytes.now) }
         ensures count { failures self.new ≡ after_put result (failures self.old) };
 }

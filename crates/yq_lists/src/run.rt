@@ -5,16 +5,16 @@ ghost use Rattle.std.specs.FinMap as map;
 ghost use Rattle.std.specs.String.{string_bytes};
 ghost use Rattle.yq_journal.specs.History.{History};
 ghost use Rattle.yq_store.specs.Count.{one_more};
-ghost use Rattle.yq_commands.specs.CommandNames.{IsStranger};
-ghost use Rattle.yq_lists.specs.Lists.{AllOnOrApart, Keeps, Run, RunExactly, Told, Reply, answers_in, printed_in, has_memory, failures_in, output_failures_in, tells_output};
+ghost use Rattle.yq_commands.specs.CommandNames.{IsNotNamed};
+ghost use Rattle.yq_lists.specs.Lists.{AllOnOrApart, Keeps, Run, RunExactly, IsAnswer, Reply, answers_in, printed_in, has_memory, failures_in, output_failures_in, reports_output};
 ghost use Rattle.yq_history.specs.Pair.{GoodIn};
 ghost use Rattle.yq_commands.specs.Prints as spec;
-ghost use Rattle.yq_history.specs.Shown.{shown_by};
+ghost use Rattle.yq_history.specs.Report.{report_by};
 
 use crate::output::Out;
 use std::alloc::{AllocError, Global};
 use yq_commands::{Answer, execute};
-use yq_history::{Fault, Shown};
+use yq_history::{Fault, Report};
 use yq_store::Store;
 use yq_words::Command;
 
@@ -30,24 +30,24 @@ fn answer_by(is_match: bool) -> Answer
 }
 
 /// The answer to a command that came to this: where it was carried out, what it prints is put.
-fn answer_of<W: Out>(out: &mut W, done: Result<(), Fault>, shown: &Shown) -> Answer
-    ensures told { Told done result (shown_by shown.now) }
-    ensures taken { IsTrue W.tells →
-        MatchResult done (λ _. tells_output result ≡ false → W.taken out.new ≡
-        W.taken out.old ++ string_bytes shown.now.text) (λ _. W.taken out.new ≡ W.taken out.old) }
+fn answer_of<W: Out>(out: &mut W, done: Result<(), Fault>, report: &Report) -> Answer
+    ensures answered { IsAnswer done result (report_by report.now) }
+    ensures taken { IsTrue W.observable →
+        MatchResult done (λ _. reports_output result ≡ false → W.taken out.new ≡
+        W.taken out.old ++ string_bytes report.now.text) (λ _. W.taken out.new ≡ W.taken out.old) }
     ensures count { MatchResult done (λ _. W.failures out.new ≡
-        (if tells_output result then one_more (W.failures out.old) else W.failures out.old))
+        (if reports_output result then one_more (W.failures out.old) else W.failures out.old))
         (λ _. W.failures out.new ≡ W.failures out.old) }
 {
     if let Err(fault) = done {
         return Answer::Refused(fault);
     }
-    let printed = shown.text.as_bytes();
+    let printed = report.text.as_bytes();
     if printed.is_empty() {
-        return answer_by(shown.is_match);
+        return answer_by(report.is_match);
     }
     match out.put(printed) {
-        Ok(()) => answer_by(shown.is_match),
+        Ok(()) => answer_by(report.is_match),
         Err(_) => Answer::Refused(Fault::OutFailed),
     }
 }
@@ -62,25 +62,25 @@ pub fn run_list<D: Store, W: Out>(
 ) -> Result<Vec<Answer>, AllocError>
     ensures run { IsTrue D.keeps → IfOk result (λ answers. (replies : List Reply) ×
         (answers_in replies ≡ answers.items) ×
-        (IsTrue W.tells → W.failures out.new ≡ W.failures out.old →
+        (IsTrue W.observable → W.failures out.new ≡ W.failures out.old →
         W.failures out.new < 2 ^ 64 - 1 →
         W.taken out.new ≡ W.taken out.old ++ printed_in replies) ×
         Keeps (D.content store.old) commands.now replies (D.content store.new) ×
-        ((file name : List ℕ) → file ≢ name → AllOnOrApart file name commands.now →
-        (h : Option History) → GoodIn (D.content store.old) file name h →
-        (k : Option History) × Run file name h commands.now replies k ×
-        GoodIn (D.content store.new) file name k)) }
+        ((file journal : List ℕ) → file ≢ journal → AllOnOrApart file journal commands.now →
+        (h : Option History) → GoodIn (D.content store.old) file journal h →
+        (k : Option History) × Run file journal h commands.now replies k ×
+        GoodIn (D.content store.new) file journal k)) }
     ensures exact { IsTrue D.keeps → D.failures store.new ≡ D.failures store.old →
         D.failures store.new < 2 ^ 64 - 1 → W.failures out.new ≡ W.failures out.old →
         W.failures out.new < 2 ^ 64 - 1 →
         IfOk result (λ answers. list_all has_memory answers.items ≡ true →
         (replies : List Reply) × (answers_in replies ≡ answers.items) ×
-        (IsTrue W.tells → W.taken out.new ≡ W.taken out.old ++ printed_in replies) ×
-        ((file name : List ℕ) → file ≢ name → AllOnOrApart file name commands.now →
-        (h : Option History) → GoodIn (D.content store.old) file name h →
-        (k : Option History) × RunExactly file name h commands.now replies k ×
-        GoodIn (D.content store.new) file name k)) }
-    ensures others { IsTrue D.keeps → (q : List ℕ) → All (IsStranger q) commands.now →
+        (IsTrue W.observable → W.taken out.new ≡ W.taken out.old ++ printed_in replies) ×
+        ((file journal : List ℕ) → file ≢ journal → AllOnOrApart file journal commands.now →
+        (h : Option History) → GoodIn (D.content store.old) file journal h →
+        (k : Option History) × RunExactly file journal h commands.now replies k ×
+        GoodIn (D.content store.new) file journal k)) }
+    ensures others { IsTrue D.keeps → (q : List ℕ) → All (IsNotNamed q) commands.now →
         map.get (D.content store.new) q ≡ map.get (D.content store.old) q }
     ensures count { D.failures store.old < 2 ^ 64 →
         IfOk result (λ answers. D.failures store.new ≡
@@ -93,9 +93,9 @@ pub fn run_list<D: Store, W: Out>(
 {
     let mut answers = Vec::with_capacity(alloc, commands.len())?;
     'commands: for command in commands {
-        let mut shown = Shown::nothing(alloc);
-        let done = execute(alloc, store, command, &mut shown);
-        let answer = answer_of(out, done, &shown);
+        let mut report = Report::nothing(alloc);
+        let done = execute(alloc, store, command, &mut report);
+        let answer = answer_of(out, done, &report);
         answers.push(answer).unwrap();
     }
     Ok(answers)

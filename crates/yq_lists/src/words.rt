@@ -30,7 +30,7 @@ pub fn command_of(alloc: Global, words: &[&str]) -> Result<Command, Fault>
     ensures called { spec.CallsHelp (map (λ w. w.now) words.now) →
         MatchResult result (λ c. c ≡ Help) (λ e. e ≡ Fault.OutOfMemory) }
     ensures err { IfErr result (λ fault. (e : WordsError) × (fault ≡ of_words e) ×
-        spec.IsRefused (spec.full_words (map (λ w. w.now) words.now)) e) }
+        spec.WordsRefused (spec.full_words (map (λ w. w.now) words.now)) e) }
 {
     match read_words(alloc, words) {
         Ok(command) => Ok(command),

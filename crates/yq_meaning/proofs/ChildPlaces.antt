@@ -9,24 +9,24 @@ use Rattle.yq_scalar.specs.Paths.{To, Nth, key_is, is_item, is_here, further, ch
 use Rattle.yq_program.specs.Program.{Step, key, index, each}
 use Rattle.yq_meaning.specs.Places.{step_by, Place, child_place, miss, stepped}
 use Rattle.yq_meaning.specs.PlacesApart.{IsBeforeAll, AreApart, IsIn}
-use Rattle.yq_scalar.specs.PathOrder.{Parts}
+use Rattle.yq_scalar.specs.PathOrder.{Diverge}
 use Rattle.yq_scalar.specs.Shapes.{IsNew, AreItems, AreEntries, IsTree, AreTrees}
 use Rattle.yq_meaning.proofs.PathLaws.{bytes_refl, bytes_differ, before_in}
-use Rattle.yq_meaning.proofs.GoodPlaces.{LieIn, AreSound, Leads}
+use Rattle.yq_meaning.proofs.GoodPlaces.{LieIn, AreSound, LeadsInto}
 
 -- no place
-pub leads_none : (root : Node) (p : Place) → Leads root p []
+pub leads_none : (root : Node) (p : Place) → LeadsInto root p []
 leads_none root p = record { inside = tt; apart = tt; sound = tt }
 
 -- the place itself, but for what is missing
-pub leads_self : (root : Node) (p q : Place) → q.path ≡ p.path → q.node ≡ p.node → IsTree p.node → IsIn root p → Leads root p (q ∷ [])
+pub leads_self : (root : Node) (p q : Place) → q.path ≡ p.path → q.node ≡ p.node → IsTree p.node → IsIn root p → LeadsInto root p (q ∷ [])
 leads_self root p q same node tree at = record {
   inside = ((([], same ∙ sym (append-nil p.path)), tt));
   apart = (tt, tt);
   sound = ((subst IsTree (sym node) tree, ap (λ (x : List paths.Step). node_at x root) same ∙ (at ∙ ap Some (sym node))), tt);
 }
 
-pub leads_missing : (root : Node) (p : Place) (s : Step) → IsTree p.node → IsIn root p → Leads root p (miss s p)
+pub leads_missing : (root : Node) (p : Place) (s : Step) → IsTree p.node → IsIn root p → LeadsInto root p (miss s p)
 leads_missing root p (key k) tree at = leads_self root p (record p { missing = p.missing ++ key k ∷ [] }) refl refl tree at
 leads_missing root p (index i) tree at = leads_self root p (record p { missing = p.missing ++ index i ∷ [] }) refl refl tree at
 leads_missing root p each tree at = leads_none root p
@@ -59,7 +59,7 @@ children_tree (list anchor cs) tree = tree.1
 children_tree (tree.map anchor cs) tree = tree.1
 
 -- a child
-pub leads_child : (root : Node) (p : Place) (s : paths.Step) (n : Node) → IsTree p.node → IsIn root p → child_at s (children_of p.node) ≡ Some n → Leads root p (child_place p (s, n) ∷ [])
+pub leads_child : (root : Node) (p : Place) (s : paths.Step) (n : Node) → IsTree p.node → IsIn root p → child_at s (children_of p.node) ≡ Some n → LeadsInto root p (child_place p (s, n) ∷ [])
 leads_child root p s n tree at is = record {
   inside = (((s ∷ []), refl), tt);
   apart = (tt, tt);
@@ -101,7 +101,7 @@ items_at Q i (child label n cs) h q =
 -- a step stands before those to others
 abbrev pub StepsBefore : paths.Step → List (paths.Step × Node) → Type 0
 StepsBefore s [] = Unit {0}
-StepsBefore s (x ∷ xs) = Parts s x.0 × StepsBefore s xs
+StepsBefore s (x ∷ xs) = Diverge s x.0 × StepsBefore s xs
 
 abbrev pub StepsApart : List (paths.Step × Node) → Type 0
 StepsApart [] = Unit {0}
@@ -110,7 +110,7 @@ StepsApart (x ∷ xs) = StepsBefore x.0 xs × StepsApart xs
 entry_before : (k : List ℕ) (i : ℕ) (cs : Children) → IsNew k cs → AreEntries cs → StepsBefore (To k) (stepped i cs)
 entry_before k i none new h = tt
 entry_before k i (child label n cs) new h =
-    (subst (λ (o : Option (List ℕ)). Parts (To k) (step_by i o)) (sym h.0.1) (λ e. new.0 (h.0.1 ∙ ap Some (sym e))), entry_before k (suc i) cs new.1 h.1)
+    (subst (λ (o : Option (List ℕ)). Diverge (To k) (step_by i o)) (sym h.0.1) (λ e. new.0 (h.0.1 ∙ ap Some (sym e))), entry_before k (suc i) cs new.1 h.1)
 
 pub entries_apart : (i : ℕ) (cs : Children) → AreEntries cs → StepsApart (stepped i cs)
 entries_apart i none h = tt
@@ -119,7 +119,7 @@ entries_apart i (child label n cs) h =
 
 item_before : (m i : ℕ) (cs : Children) → m < i → AreItems cs → StepsBefore (Nth m) (stepped i cs)
 item_before m i none lt h = tt
-item_before m i (child label n cs) lt h = (subst (λ (o : Option (List ℕ)). Parts (Nth m) (step_by i o)) (sym h.0) lt, item_before m (suc i) cs (omega arith) h.1)
+item_before m i (child label n cs) lt h = (subst (λ (o : Option (List ℕ)). Diverge (Nth m) (step_by i o)) (sym h.0) lt, item_before m (suc i) cs (omega arith) h.1)
 
 pub items_apart : (i : ℕ) (cs : Children) → AreItems cs → StepsApart (stepped i cs)
 items_apart i none h = tt
@@ -142,7 +142,7 @@ children_sound : (root : Node) (p : Place) → IsTree p.node → IsIn root p →
 children_sound root p tree at [] h = tt
 children_sound root p tree at (x ∷ xs) h = ((leads_child root p x.0 x.1 tree at h.0).sound.0, children_sound root p tree at xs h.1)
 
-pub leads_children : (root : Node) (p : Place) (cs : Children) → IsTree p.node → IsIn root p → children_of p.node ≡ cs → AreItems cs ⊎ AreEntries cs → Leads root p (map (child_place p) (stepped 0 cs))
+pub leads_children : (root : Node) (p : Place) (cs : Children) → IsTree p.node → IsIn root p → children_of p.node ≡ cs → AreItems cs ⊎ AreEntries cs → LeadsInto root p (map (child_place p) (stepped 0 cs))
 leads_children root p cs tree at is kind = record {
   inside = children_inside p (stepped 0 cs);
   apart = children_apart p (stepped 0 cs) (apart kind);

@@ -46,14 +46,14 @@ apart_join p (x ∷ xs) qs l b h k =
     (before_join x.path xs qs h.0 (lying_before x.path p qs l.0.0 l.0.1 b), apart_join p xs qs l.1 b h.1 k)
 
 -- places into which something leads from one place
-pub record Leads (root : Node) (p : Place) (qs : List Place) : Type 0 where
+pub record LeadsInto (root : Node) (p : Place) (qs : List Place) : Type 0 where
   pub inside : LieIn p.path qs
   pub apart : AreApart qs
   pub sound : AreSound root qs
 
 -- what leads from each place so leads so from all
 abbrev pub LeadsSo : Node → (Place → Judgement (List Place)) → Type 0
-LeadsSo root f = (p : Place) (qs : List Place) → IsTree p.node → IsIn root p → f p ≡ gives qs → Leads root p qs
+LeadsSo root f = (p : Place) (qs : List Place) → IsTree p.node → IsIn root p → f p ≡ gives qs → LeadsInto root p qs
 
 -- places that are apart, with trees of a root
 pub record AreGood (root : Node) (ps : List Place) : Type 0 where

@@ -1,8 +1,8 @@
 -- Steps and paths that are the same, and those that part.
 use Rattle.std.proofs.Common.{◌≡◌, ◌≢◌, ℕ, true, false, List, [], ◌∷◌, ◌++◌, refl, sym, ap, subst, ◌∙◌, inl, inr, arith, append-nil}
 use Rattle.yq_scalar.specs.Paths.{To, Nth, Step}
-use Rattle.yq_meaning.specs.Deeds.{same_step}
-use Rattle.yq_scalar.specs.PathOrder.{Parts, Before, Apart}
+use Rattle.yq_meaning.specs.NodeEdits.{same_step}
+use Rattle.yq_scalar.specs.PathOrder.{Diverge, Before, Apart}
 use Rattle.std.proofs.lemmas.Bool.{ne_eqb, eq-eqb, false_from_ne_true, false≢true}
 use Rattle.std.specs.Str.{bytes_eq}
 use Rattle.std.proofs.lemmas.Slice.Eq.{bytes_eq-Decides}
@@ -32,7 +32,7 @@ step_other (To k) (Nth n) d = refl
 step_other (Nth m) (To j) d = refl
 step_other (Nth m) (Nth n) d = ne_eqb m n (λ e. d (ap Nth e))
 
-pub parts_not : (s : Step) → Parts s s → ⊥
+pub parts_not : (s : Step) → Diverge s s → ⊥
 parts_not (To k) h = h refl
 parts_not (Nth n) h = absurd (omega arith)
 
@@ -73,7 +73,7 @@ pub before_in : (p a b : List Step) → Before a b → Before (p ++ a) (p ++ b)
 before_in [] a b h = h
 before_in (s ∷ p) a b h = inr (refl, before_in p a b h)
 
-pub parts_differ : (s t : Step) → Parts s t → t ≢ s
+pub parts_differ : (s t : Step) → Diverge s t → t ≢ s
 parts_differ (To k) (To j) d e = d (let same : j ≡ k = cc in sym same)
 parts_differ (To k) (Nth n) d e = cc
 parts_differ (Nth m) (To j) d e = cc

@@ -62,14 +62,14 @@ step_key (index i) = None
 step_key each = None
 
 -- a value under missing keys below a node: a mapping gets an entry more, and a null gives way to a mapping (own)
-abbrev pub made : Node → Step → List Step → Node → Change
-made (tree.map anchor cs) m ms v = adds (appends (step_key m) (nested ms v) ∷ [])
-made n m ms v = replaces (nested (m ∷ ms) v)
+abbrev pub created : Node → Step → List Step → Node → Change
+created (tree.map anchor cs) m ms v = adds (appends (step_key m) (nested ms v) ∷ [])
+created n m ms v = replaces (nested (m ∷ ms) v)
 
 -- a value at a place: no item can be made (own)
 abbrev pub put_below : Node → List Step → Node → Judgement Change
 put_below n [] v = gives (replaces v)
-put_below n (m ∷ ms) v = if list_any is_index (m ∷ ms) then refuses IndexOutOfRange else gives (made n m ms v)
+put_below n (m ∷ ms) v = if list_any is_index (m ∷ ms) then refuses IndexOutOfRange else gives (created n m ms v)
 
 -- the same with the path (own)
 abbrev pub put_at : Place → Node → Judgement (List Changed)

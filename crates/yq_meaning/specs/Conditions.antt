@@ -11,7 +11,7 @@ use Rattle.yq_scalar.specs.Tree.{Node, alias, scalar, list, map}
 use Rattle.yq_lines.specs.Outline.{null_node}
 use Rattle.yq_meaning.specs.declared.refusal.Refusal.TheVariants.{ThroughAlias}
 use Rattle.yq_meaning.specs.Judgement.{Judgement, and_then, gives, refuses}
-use Rattle.yq_meaning.specs.Places.{Place, walk}
+use Rattle.yq_meaning.specs.Places.{Place, traverse}
 use Rattle.yq_program.specs.Program.{Step, Operand, value_at, document_index, Condition, compares, has}
 
 -- whether two bools are the same (own)
@@ -57,7 +57,7 @@ first_is kind text (p ∷ ps) = is_scalar kind text (value_of p)
 
 -- whether what is compared is that scalar, at a place in the document of that number (own)
 abbrev pub operand_is : ℕ → Operand → Kind → List ℕ → Place → Judgement Bool
-operand_is doc (value_at steps) kind text p = and_then (first_is kind text) (walk steps (p ∷ []))
+operand_is doc (value_at steps) kind text p = and_then (first_is kind text) (traverse steps (p ∷ []))
 operand_is doc document_index kind text p = gives (same_scalar kinds.Int (decimal doc) kind text)
 
 -- whether a node is a mapping with that key (own)

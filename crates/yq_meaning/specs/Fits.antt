@@ -14,8 +14,8 @@ use Rattle.yq_meaning.specs.Changes.{Room, is_long, has_long_key, is_deep, is_us
 use Rattle.yq_meaning.specs.Operations.{Operation, replace, append, remove, line_comment, head_comment}
 
 -- a value may be written below so many collections: it is a tree, whose keys differ in each mapping, its keys are short enough, and it isn't too deep (own)
-abbrev pub IsWritable : ℕ → Node → Type 0
-IsWritable n v = IsTree v × (has_long_key v ≡ false) × (is_deep n v ≡ false)
+abbrev pub IsWritableAt : ℕ → Node → Type 0
+IsWritableAt n v = IsTree v × (has_long_key v ≡ false) × (is_deep n v ≡ false)
 
 -- a collection may get an item, or an entry of a key that it hasn't (own)
 abbrev pub Takes : Option (List ℕ) → Node → Type 0
@@ -33,8 +33,8 @@ MayComment room place path text root = (room.has place path ≡ true) × (is_com
 
 -- an operation fits a root, in a document whose text has such room (own)
 abbrev pub FitsRoot : Room → Operation → Node → Type 0
-FitsRoot room (replace doc path v) root = IsWritable (length path) v × ((n : Node) × (node_at path root ≡ Some n) × (is_used_inside (names_of root) (Some n) ≡ false))
-FitsRoot room (append doc path k v) root = (is_long k ≡ false) × IsWritable (suc (length path)) v × ((n : Node) × (node_at path root ≡ Some n) × Takes k n)
+FitsRoot room (replace doc path v) root = IsWritableAt (length path) v × ((n : Node) × (node_at path root ≡ Some n) × (is_used_inside (names_of root) (Some n) ≡ false))
+FitsRoot room (append doc path k v) root = (is_long k ≡ false) × IsWritableAt (suc (length path)) v × ((n : Node) × (node_at path root ≡ Some n) × Takes k n)
 FitsRoot room (remove doc path) root = IsBelow path × ((n : Node) × (node_at path root ≡ Some n) × (is_used_in (names_of root) (Some n) ≡ false))
 FitsRoot room (line_comment doc path text) root = MayComment room comments.Line path text root
 FitsRoot room (head_comment doc path text) root = MayComment room comments.Head path text root

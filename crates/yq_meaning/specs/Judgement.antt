@@ -15,11 +15,11 @@ and_then f (gives x) = f x
 and_then f (refuses why) = refuses why
 
 -- what an error says of what comes of something: the refusal; want of memory says nothing (own)
-abbrev pub Fails : {Y : Type 0} → ExprError → Judgement Y → Type 0
-Fails (errors.Refused why) outcome = outcome ≡ refuses why
-Fails errors.Memory outcome = Unit {0}
+abbrev pub MatchFails : {Y : Type 0} → ExprError → Judgement Y → Type 0
+MatchFails (errors.Refused why) outcome = outcome ≡ refuses why
+MatchFails errors.Memory outcome = Unit {0}
 
 -- what matching or planning answers, as it is seen: what comes of something, or why nothing does (own)
 abbrev pub Judges : {X Y : Type 0} → (X → Y) → Result X ExprError → Judgement Y → Type 0
 Judges view (Ok x) outcome = outcome ≡ gives (view x)
-Judges view (Err e) outcome = Fails e outcome
+Judges view (Err e) outcome = MatchFails e outcome

@@ -9,7 +9,7 @@ pub mod Pipes
 pub mod Copies
 pub mod RightValues
 pub mod Changes
-pub mod Deeds
+pub mod NodeEdits
 pub mod Meaning
 pub mod After
 pub mod Fits

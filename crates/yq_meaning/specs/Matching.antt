@@ -11,15 +11,15 @@ use Rattle.yq_meaning.specs.declared.refusal.Refusal.TheVariants.{NotAMap, NotAS
 use Rattle.yq_meaning.specs.Judgement.{Judgement, and_then, gives, refuses}
 
 -- the item or entry to which a step of the tree leads, with that step, or none (own)
-abbrev pub Found : Type 0
-Found = Option (paths.Step × Node)
+abbrev pub ChildFound : Type 0
+ChildFound = Option (paths.Step × Node)
 
 -- what a step of the tree leads to (own)
-abbrev pub find : paths.Step → Children → Found
+abbrev pub find : paths.Step → Children → ChildFound
 find s cs = option_map (λ n. (s, n)) (child_at s cs)
 
 -- where a step leads from a scalar: to none in a null; any other scalar refuses (own)
-abbrev pub in_scalar : Refusal → Kind → Judgement Found
+abbrev pub in_scalar : Refusal → Kind → Judgement ChildFound
 in_scalar why kinds.Null = gives None
 in_scalar why kinds.Bool = refuses why
 in_scalar why kinds.Int = refuses why
@@ -27,7 +27,7 @@ in_scalar why kinds.Float = refuses why
 in_scalar why kinds.Text = refuses why
 
 -- where a key step leads from a node: in a mapping to the entry of that key (own)
-abbrev pub key_step : List ℕ → Node → Judgement Found
+abbrev pub key_step : List ℕ → Node → Judgement ChildFound
 key_step k (alias name) = refuses ThroughAlias
 key_step k (scalar anchor kind text) = in_scalar NotAMap kind
 key_step k (list anchor cs) = refuses NotAMap
@@ -43,11 +43,11 @@ item_number (pos n) cs = gives n
 item_number (negsuc n) cs = before_last n (count cs)
 
 -- the item of an index, if there is one (own)
-abbrev pub item : ℤ → Children → Judgement Found
+abbrev pub item : ℤ → Children → Judgement ChildFound
 item i cs = and_then (λ n. gives (find (Nth n) cs)) (item_number i cs)
 
 -- where an index step leads from a node: in a sequence to the item of that index (own)
-abbrev pub index_step : ℤ → Node → Judgement Found
+abbrev pub index_step : ℤ → Node → Judgement ChildFound
 index_step i (alias name) = refuses ThroughAlias
 index_step i (scalar anchor kind text) = in_scalar NotASequence kind
 index_step i (list anchor cs) = item i cs

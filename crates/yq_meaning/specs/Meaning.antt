@@ -10,8 +10,8 @@ use Rattle.yq_program.specs.declared.program.CommentPlace.{CommentPlace}
 use Rattle.yq_program.specs.declared.program.CommentPlace.TheVariants as comments
 use Rattle.yq_meaning.specs.Changes as changes
 use Rattle.yq_meaning.specs.Changes.{Addition, appends, overwrites, replaces, adds, sets_comment, Changed, Room, changes_of}
-use Rattle.yq_meaning.specs.Deeds as deeds
-use Rattle.yq_meaning.specs.Deeds.{Deed, becomes, done_by, at_once}
+use Rattle.yq_meaning.specs.NodeEdits as node_edits
+use Rattle.yq_meaning.specs.NodeEdits.{NodeEdit, becomes, done_by, at_once}
 use Rattle.yq_meaning.specs.Judgement.{Judgement, and_then, gives}
 use Rattle.yq_program.specs.Program.{Update}
 
@@ -46,24 +46,24 @@ line_of [] = None
 line_of (c ∷ cs) = Some (c ∷ cs)
 
 -- a comment that is set (own)
-abbrev pub comment_deed : CommentPlace → List ℕ → Deed
-comment_deed comments.Line text = deeds.line (line_of text)
-comment_deed comments.Head text = deeds.head (head_of text)
+abbrev pub comment_edit : CommentPlace → List ℕ → NodeEdit
+comment_edit comments.Line text = node_edits.line (line_of text)
+comment_edit comments.Head text = node_edits.head (head_of text)
 
 -- what a change does at its place, where a document has such a lead (own)
-abbrev pub deed_of : Bool → List (List ℕ) → Changed → Deed
-deed_of block lead (path, replaces v) = becomes (replaced (led block lead path v))
-deed_of block lead (path, adds xs) = becomes (add_all xs)
-deed_of block lead (path, changes.removes) = deeds.goes
-deed_of block lead (path, sets_comment place text) = comment_deed place text
+abbrev pub node_edit_of : Bool → List (List ℕ) → Changed → NodeEdit
+node_edit_of block lead (path, replaces v) = becomes (replaced (led block lead path v))
+node_edit_of block lead (path, adds xs) = becomes (add_all xs)
+node_edit_of block lead (path, changes.removes) = node_edits.goes
+node_edit_of block lead (path, sets_comment place text) = comment_edit place text
 
 -- the same with its path (own)
-abbrev pub placed_deed : Bool → List (List ℕ) → Changed → List paths.Step × Deed
-placed_deed block lead c = (c.0, deed_of block lead c)
+abbrev pub placed_edit : Bool → List (List ℕ) → Changed → List paths.Step × NodeEdit
+placed_edit block lead c = (c.0, node_edit_of block lead c)
 
 -- a document with all changes made at once (own)
 abbrev pub changed_at_once : Bool → List Changed → Document → Document
-changed_at_once block cs d = with_tree block (at_once (done_by (map (placed_deed block d.lead) cs)) d.root) d
+changed_at_once block cs d = with_tree block (at_once (done_by (map (placed_edit block d.lead) cs)) d.root) d
 
 -- the same of each of documents, from the one of that number on (own)
 abbrev pub all_changed : (ℕ → Room) → ℕ → List (List Changed) → List Document → List Document

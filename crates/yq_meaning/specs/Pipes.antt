@@ -3,7 +3,7 @@ use Rattle.std.specs.Prelude.{ℕ, Bool, true, false, List, [], ◌∷◌}
 use Rattle.yq_scalar.specs.Tree.{Node}
 use Rattle.yq_meaning.specs.Conditions.{holds}
 use Rattle.yq_meaning.specs.Judgement.{Judgement, and_then, gives}
-use Rattle.yq_meaning.specs.Places.{Place, root_place, for_each, in_turn, walk}
+use Rattle.yq_meaning.specs.Places.{Place, root_place, for_each, chained, traverse}
 use Rattle.yq_program.specs.Program.{Condition, Stage, path, select}
 
 -- a place, if it is kept (own)
@@ -17,12 +17,12 @@ select_on doc c p = and_then (λ b. gives (kept p b)) (holds doc c p)
 
 -- where a stage leads from places (own)
 abbrev pub stage_on : ℕ → Stage → List Place → Judgement (List Place)
-stage_on doc (path steps) ps = walk steps ps
+stage_on doc (path steps) ps = traverse steps ps
 stage_on doc (select c) ps = for_each (select_on doc c) ps
 
 -- where a pipe leads from places: each stage acts on all of them before the next one does (own)
 abbrev pub pipe_on : ℕ → List Stage → List Place → Judgement (List Place)
-pipe_on doc pipe ps = in_turn (stage_on doc) pipe ps
+pipe_on doc pipe ps = chained (stage_on doc) pipe ps
 
 -- where a pipe leads in the document of that number, with that root (own)
 abbrev pub places : ℕ → List Stage → Node → Judgement (List Place)

@@ -6,7 +6,7 @@ use Rattle.yq_scalar.specs.Tree as tree
 use Rattle.yq_scalar.specs.Tree.{Label, Node, alias, scalar, list, Children, none, child}
 use Rattle.yq_meaning.specs.declared.refusal.Refusal.TheVariants.{NotASequence, ThroughAlias}
 use Rattle.yq_meaning.specs.Judgement.{Judgement, and_then, gives, refuses}
-use Rattle.yq_meaning.specs.Matching.{Found, in_scalar, key_step, index_step}
+use Rattle.yq_meaning.specs.Matching.{ChildFound, in_scalar, key_step, index_step}
 use Rattle.yq_program.specs.Program.{Step, key, index, each}
 
 -- a place to which steps lead: the path to the last node on the way, that node, and the steps that are missing from there (own)
@@ -39,7 +39,7 @@ miss (index i) p = further_place (index i) p ∷ []
 miss each p = []
 
 -- the place of what was found, or that from which the step is missing (own)
-abbrev pub found_place : Step → Place → Found → List Place
+abbrev pub found_place : Step → Place → ChildFound → List Place
 found_place s p None = miss s p
 found_place s p (Some x) = child_place p x ∷ []
 
@@ -76,10 +76,10 @@ abbrev pub step_on : Step → Place → Judgement (List Place)
 step_on s p = step_from p.missing s p
 
 -- what comes of something when several act on it in turn, each on what the one before gave (own)
-abbrev pub in_turn : {S A : Type 0} → (S → A → Judgement A) → List S → A → Judgement A
-in_turn f [] a = gives a
-in_turn f (s ∷ ss) a = and_then (in_turn f ss) (f s a)
+abbrev pub chained : {S A : Type 0} → (S → A → Judgement A) → List S → A → Judgement A
+chained f [] a = gives a
+chained f (s ∷ ss) a = and_then (chained f ss) (f s a)
 
 -- where steps lead from places: each acts on all of them, in order, before the next one does (own)
-abbrev pub walk : List Step → List Place → Judgement (List Place)
-walk steps ps = in_turn (λ s. for_each (step_on s)) steps ps
+abbrev pub traverse : List Step → List Place → Judgement (List Place)
+traverse steps ps = chained (λ s. for_each (step_on s)) steps ps

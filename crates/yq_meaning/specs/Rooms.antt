@@ -7,7 +7,7 @@ use Rattle.yq_documents.specs.declared.path.Part.TheVariants.{HeadComment, LineC
 use Rattle.yq_documents.specs.Documents.{document_parts}
 use Rattle.yq_documents.specs.Reading.{cut_of, documents_of}
 use Rattle.yq_documents.specs.Ready.{root_is_block, TextIsReady}
-use Rattle.yq_documents.specs.Seats.{seat_of, seat_has_room}
+use Rattle.yq_documents.specs.LinesInRows.{row_line_of, row_line_has_room}
 use Rattle.yq_program.specs.declared.program.CommentPlace.{CommentPlace}
 use Rattle.yq_program.specs.declared.program.CommentPlace.TheVariants as comments
 use Rattle.yq_meaning.specs.Changes.{Room}
@@ -20,7 +20,7 @@ comment_part comments.Head = HeadComment
 
 -- whether a text has room for a comment of what steps lead to in document i (own)
 abbrev pub has_room_in : List ℕ → ℕ → CommentPlace → List Step → Bool
-has_room_in t i place steps = seat_has_room (comment_part place) (slice_get (document_parts (cut_of t)) i >>= λ p. seat_of steps p.rows)
+has_room_in t i place steps = row_line_has_room (comment_part place) (slice_get (document_parts (cut_of t)) i >>= λ p. row_line_of steps p.rows)
 
 -- what a text has room for in document i (own)
 abbrev pub room_of : List ℕ → ℕ → Room

@@ -37,14 +37,14 @@ SetsComment (head_comment doc path text) = ⊤
 -- ---- the operations of a plan
 
 -- none of these operations is of the document of that number (own)
-abbrev pub NoneIn : ℕ → List Operation → Type 0
-NoneIn n [] = ⊤
-NoneIn n (op ∷ ops) = (document_of op ≢ n) × NoneIn n ops
+abbrev pub NoneOn : ℕ → List Operation → Type 0
+NoneOn n [] = ⊤
+NoneOn n (op ∷ ops) = (document_of op ≢ n) × NoneOn n ops
 
 -- each operation leaves it as it was whether its document's root is block, or is the last one of its document (own)
 abbrev pub BlockLasts : (ℕ → Room) → List Operation → List Document → Type 0
 BlockLasts rooms [] docs = ⊤
-BlockLasts rooms (op ∷ ops) docs = (KeepsBlockIn op (after_op rooms op docs) ⊎ NoneIn (document_of op) ops) × BlockLasts rooms ops (after_op rooms op docs)
+BlockLasts rooms (op ∷ ops) docs = (KeepsBlockIn op (after_op rooms op docs) ⊎ NoneOn (document_of op) ops) × BlockLasts rooms ops (after_op rooms op docs)
 
 -- each operation sets a comment (own)
 abbrev pub SetComments : List Operation → Type 0

@@ -11,48 +11,48 @@ use Rattle.yq_scalar.proofs.LineLaws.{joined_lines}
 use Rattle.yq_rows.specs.Exchange.{row_front}
 use Rattle.yq_rows.specs.Gap.{IsGap}
 use Rattle.yq_rows.specs.Rows.{Row, behind_gap, print_row, Cut}
-use Rattle.yq_rows.specs.View.{Slices, slices, rows_of, Shown}
+use Rattle.yq_rows.specs.View.{Slices, slices, rows_of, RowsView}
 use Rattle.yq_rows.proofs.NodePieces.{BeginsAscii, before_ascii}
 use Rattle.yq_rows.proofs.PlaceLaws.{row_front-append, row_in}
 use Rattle.yq_rows.proofs.SliceLaws.{content_slices}
 use Rattle.yq_documents.specs.declared.path.Path.{Path}
 use Rattle.yq_places.specs.CommentPlaces.{LinesAbove, line_text, gap_above, above_row, lines_above}
-use Rattle.yq_places.specs.CommentTelling.{GapStands}
+use Rattle.yq_places.specs.CommentViews.{GapStands}
 use Rattle.yq_walk.specs.Extents.{row_start}
 use Rattle.yq_documents.specs.Located.{steps_of}
 use Rattle.yq_documents.specs.Pieces.{before_run, last_run}
 use Rattle.yq_places.specs.PlacedRows.{PlacedRow}
 use Rattle.yq_documents.specs.Reading.{cut_of}
-use Rattle.yq_places.specs.SeatReading.{Numbers, numbers}
-use Rattle.yq_documents.specs.Seats.{seat_at, document_row}
+use Rattle.yq_places.specs.RowLineReading.{Numbers, numbers}
+use Rattle.yq_documents.specs.LinesInRows.{row_line_at, document_row}
 use Rattle.yq_places.specs.RowWalk.{HasCut}
 use Rattle.yq_places.proofs.CommentPieceLaws.{row_place, run_begins}
-use Rattle.yq_places.proofs.PlacedRowLaws.{seat_placed, no_seat_placed}
+use Rattle.yq_places.proofs.PlacedRowLaws.{row_line_placed, no_row_line_placed}
 use Rattle.yq_documents.proofs.RunLaws.{run_split}
 use Rattle.yq_places.proofs.SeamLaws.{IsSeam, seam_boundary, seam_then, gap_seam, row_seam}
-use Rattle.yq_places.proofs.StartLaws.{start_told}
+use Rattle.yq_places.proofs.StartLaws.{start_agrees}
 
 -- a row up to the end of the line of its mark, and behind that
-pub row_line : (r : Row) (rest : List ℕ) → print_row r rest ≡ line_text r ++ ((slices r).tail ++ ((slices r).raw ++ rest))
-row_line r rest =
+pub row_text_parts : (r : Row) (rest : List ℕ) → print_row r rest ≡ line_text r ++ ((slices r).tail ++ ((slices r).raw ++ rest))
+row_text_parts r rest =
     let s : Slices = slices r in
     row_front-append r rest ∙ (ap (λ l. row_front r ++ l) (sym (content_slices r.content rest))
     ∙ (let parts : row_front r ++ (s.space ++ (s.anchor ++ (s.apart ++ (s.head ++ (s.tail ++ (s.raw ++ rest)))))) ≡ line_text r ++ (s.tail ++ (s.raw ++ rest)) = simp append_assoc refl in parts))
 
-pub no_lines_above : (path : Path) (c : Cut) (k : ℕ) → None ≡ option_map (numbers k) (seat_at path c) → None ≡ lines_above path.doc (steps_of path) c
-no_lines_above path c k e = sym (ap (λ (o : Option PlacedRow). o >>= λ w. cond (eqb w.line 0) (Some (above_row w)) None) (no_seat_placed path c k e))
+pub no_lines_above : (path : Path) (c : Cut) (k : ℕ) → None ≡ option_map (numbers k) (row_line_at path c) → None ≡ lines_above path.doc (steps_of path) c
+no_lines_above path c k e = sym (ap (λ (o : Option PlacedRow). o >>= λ w. cond (eqb w.line 0) (Some (above_row w)) None) (no_row_line_placed path c k e))
 
 -- another line of a row
-module _ (path : Path) (c : Cut) (n : Numbers) (seat_is : Some n ≡ option_map (numbers (document_row path.doc c)) (seat_at path c)) where
-  abbrev seated : PlacedRow
-  seated = (seat_placed path c n seat_is).0
+module _ (path : Path) (c : Cut) (n : Numbers) (row_line_is : Some n ≡ option_map (numbers (document_row path.doc c)) (row_line_at path c)) where
+  abbrev printed_line : PlacedRow
+  printed_line = (row_line_placed path c n row_line_is).0
 
   pub other_lines_above : (n.1 ≡ 0 → ⊥) → None ≡ lines_above path.doc (steps_of path) c
   other_lines_above differ =
-      sym (ap (λ (o : Option PlacedRow). o >>= λ w. cond (eqb w.line 0) (Some (above_row w)) None) (seat_placed path c n seat_is).1.is ∙ go (eqb seated.line 0) refl)
+      sym (ap (λ (o : Option PlacedRow). o >>= λ w. cond (eqb w.line 0) (Some (above_row w)) None) (row_line_placed path c n row_line_is).1.is ∙ go (eqb printed_line.line 0) refl)
     where
-      go : (b : Bool) → eqb seated.line 0 ≡ b → cond b (Some (above_row seated)) None ≡ None
-      go true e = let is = (seat_placed path c n seat_is).1 in absurd (differ (is.line ∙ eqb-true seated.line 0 e))
+      go : (b : Bool) → eqb printed_line.line 0 ≡ b → cond b (Some (above_row printed_line)) None ≡ None
+      go true e = let is = (row_line_placed path c n row_line_is).1 in absurd (differ (is.line ∙ eqb-true printed_line.line 0 e))
       go false e = refl
 
 -- a run begins in ASCII, or is empty
@@ -109,22 +109,22 @@ module _ (t : List ℕ) (start : ℕ) (gap run : List ℕ) (h : GapStands t star
       λ i. record { before = (first ∙ ap (λ x. x ++ kept) ends) i; run = run_is i; column = column; behind = rest i }
 
 -- the row of a line that the code tells, in a text that is held
-module _ (t : List ℕ) (x : Shown) (held : HasCut t x) (path : Path) (n : Numbers) (seat_is : Some n ≡ option_map (numbers (document_row path.doc (cut_of t))) (seat_at path (cut_of t))) where
+module _ (t : List ℕ) (x : RowsView) (held : HasCut t x) (path : Path) (n : Numbers) (row_line_is : Some n ≡ option_map (numbers (document_row path.doc (cut_of t))) (row_line_at path (cut_of t))) where
   abbrev w : PlacedRow
-  w = (seat_placed path (cut_of t) n seat_is).0
+  w = (row_line_placed path (cut_of t) n row_line_is).0
 
   whole : t ≡ w.before ++ print_row w.row w.behind
   whole =
-      let at = (seat_placed path (cut_of t) n seat_is).1.at in
+      let at = (row_line_placed path (cut_of t) n row_line_is).1.at in
       held.cut.text ∙ (row_place (cut_of t) n.0 w.row at.there ∙ (λ i. at.before_is i ++ print_row w.row (at.behind_is i)))
 
   -- the lines above
   pub gap_stands : (start : ℕ) (gap text : List ℕ) → start ≡ row_start n.0 x → ((y : Slices) → slice_get x.rows n.0 ≡ Some y → gap ≡ y.gap) → text ≡ t → IsUtf8 t → (h : GapStands text start gap) × (h.before ≡ w.before) × (h.rest ≡ behind_gap w.row w.behind) × (gap ≡ w.row.gap)
   gap_stands start gap text begins has e u =
-      let at = (seat_placed path (cut_of t) n seat_is).1.at in
-      let shown_row : slice_get x.rows n.0 ≡ Some (slices w.row) = ap (λ (y : Shown). slice_get y.rows n.0) held.rows ∙ (slice_get-map slices (rows_of (cut_of t)) n.0 ∙ ap (option_map slices) at.there) in
-      let gap_is : gap ≡ w.row.gap = has (slices w.row) shown_row in
-      let start_is : start ≡ length w.before = begins ∙ (ap (row_start n.0) held.rows ∙ (start_told (cut_of t) n.0 w.row at.there ∙ ap length at.before_is)) in
+      let at = (row_line_placed path (cut_of t) n row_line_is).1.at in
+      let view_row : slice_get x.rows n.0 ≡ Some (slices w.row) = ap (λ (y : RowsView). slice_get y.rows n.0) held.rows ∙ (slice_get-map slices (rows_of (cut_of t)) n.0 ∙ ap (option_map slices) at.there) in
+      let gap_is : gap ≡ w.row.gap = has (slices w.row) view_row in
+      let start_is : start ≡ length w.before = begins ∙ (ap (row_start n.0) held.rows ∙ (start_agrees (cut_of t) n.0 w.row at.there ∙ ap length at.before_is)) in
       let rest : List ℕ = behind_gap w.row w.behind in
       let row = (row_in (cut_of t) n.0 true w.row held.cut.parts at.there).row in
       let front : IsSeam w.before (w.row.gap ++ rest) = subst (λ (q : List ℕ × List ℕ). IsSeam q.0 (print_row w.row q.1)) (λ i. (at.before_is i, at.behind_is i)) (row_seam (cut_of t) n.0 true w.row held.cut.parts at.there) in
@@ -147,11 +147,11 @@ module _ (t : List ℕ) (x : Shown) (held : HasCut t x) (path : Path) (n : Numbe
 
   pub lines_above_is : (start : ℕ) (gap text : List ℕ) (column : ℕ) (above : LinesAbove) (begins : start ≡ row_start n.0 x) (has : (y : Slices) → slice_get x.rows n.0 ≡ Some y → gap ≡ y.gap) (e : text ≡ t) (u : IsUtf8 t) →
       ((y : Slices) → slice_get x.rows n.0 ≡ Some y → column ≡ y.column) → n.1 ≡ 0 → ((h : GapStands text start gap) → above ≡ gap_above h.before gap column h.rest) → Some above ≡ lines_above path.doc (steps_of path) (cut_of t)
-  lines_above_is start gap text column above begins has e u columns first told =
-      let k = (seat_placed path (cut_of t) n seat_is).1 in
+  lines_above_is start gap text column above begins has e u columns first agrees =
+      let k = (row_line_placed path (cut_of t) n row_line_is).1 in
       let g = gap_stands start gap text begins has e u in
-      let shown_row : slice_get x.rows n.0 ≡ Some (slices w.row) = ap (λ (y : Shown). slice_get y.rows n.0) held.rows ∙ (slice_get-map slices (rows_of (cut_of t)) n.0 ∙ ap (option_map slices) k.at.there) in
-      let column_is : column ≡ w.row.column = columns (slices w.row) shown_row in
+      let view_row : slice_get x.rows n.0 ≡ Some (slices w.row) = ap (λ (y : RowsView). slice_get y.rows n.0) held.rows ∙ (slice_get-map slices (rows_of (cut_of t)) n.0 ∙ ap (option_map slices) k.at.there) in
+      let column_is : column ≡ w.row.column = columns (slices w.row) view_row in
       let test : eqb w.line 0 ≡ true = eq-eqb w.line 0 (sym k.line ∙ first) in
-      ap Some (told g.0 ∙ (λ i. gap_above (g.1 i) (g.3 i) (column_is i) (g.2 i)))
+      ap Some (agrees g.0 ∙ (λ i. gap_above (g.1 i) (g.3 i) (column_is i) (g.2 i)))
       ∙ sym (ap (λ (o : Option PlacedRow). o >>= λ w. cond (eqb w.line 0) (Some (above_row w)) None) k.is ∙ ap (λ b. cond b (Some (above_row w)) None) test)

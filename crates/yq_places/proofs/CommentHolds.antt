@@ -7,12 +7,12 @@ use Rattle.yq_scalar.specs.Text.{upto, lines_of}
 use Rattle.yq_scalar.proofs.Bools.{bind_some}
 use Rattle.yq_lines.specs.Group.{group}
 use Rattle.yq_lines.specs.Outline.{flatten}
-use Rattle.yq_lines.specs.Places.{lines_before, Found, find}
+use Rattle.yq_lines.specs.Places.{lines_before, FoundLine, find}
 use Rattle.yq_rows.specs.Rows.{Content, Nothing, content_text}
 use Rattle.yq_rows.specs.View.{content_cut}
 use Rattle.yq_documents.specs.declared.path.Part.TheVariants as parts
 use Rattle.yq_places.specs.PathPieces.{BlockEntry, PrintedDocument, found_entry, piece_in_entry, piece_in}
-use Rattle.yq_documents.specs.Pieces.{Piece, HoldsPiece, tail_comment, content_comment, gap_comment}
+use Rattle.yq_documents.specs.Pieces.{TextPiece, HoldsPiece, tail_comment, content_comment, gap_comment}
 use Rattle.yq_places.specs.PrintedLines.{line_front, behind_front, print_lines, line_in}
 use Rattle.yq_places.proofs.CommentPieceLaws.{Ended, tail_piece, gap_piece}
 use Rattle.yq_places.proofs.PrintedLaws.{IsPrinted, ArePrinted}
@@ -30,7 +30,7 @@ no_gap before behind = refl
 pub no_comment : (before : List ℕ) (c : Content) (behind : List ℕ) → c ≡ Nothing [] → content_comment before c behind ≡ None
 no_comment before c behind e = ap (λ x. content_comment before x behind) e ∙ no_tail (before ++ []) ([] ++ behind)
 
-content_holds : (before : List ℕ) (c : Content) (behind : List ℕ) (x : Piece) (t : List ℕ) → before ++ content_text c behind ≡ t → IsUtf8 t →
+content_holds : (before : List ℕ) (c : Content) (behind : List ℕ) (x : TextPiece) (t : List ℕ) → before ++ content_text c behind ≡ t → IsUtf8 t →
     (c ≡ Nothing []) ⊎ Ended (content_cut c).4 ((content_cut c).5 ++ behind) → content_comment before c behind ≡ Some x → HoldsPiece t x
 content_holds before c behind x t text u (inl none) is = absurd (none-some _ (sym (no_comment before c behind none) ∙ is))
 content_holds before c behind x t text u (inr ended) is =
@@ -38,29 +38,29 @@ content_holds before c behind x t text u (inr ended) is =
     let whole = tail_text before c behind ∙ text in
     subst (λ q. HoldsPiece q x) whole (tail_piece (before ++ (s.0 ++ (s.1 ++ (s.2 ++ s.3)))) s.4 (s.5 ++ behind) x (subst IsUtf8 (sym whole) u) ended is)
 
-entry_holds : (e : BlockEntry) (x : Piece) → IsUtf8 (entry_text e) → IsPrinted e.line (print_lines e.under e.behind) →
+entry_holds : (e : BlockEntry) (x : TextPiece) → IsUtf8 (entry_text e) → IsPrinted e.line (print_lines e.under e.behind) →
     (piece_in_entry parts.LineComment [] e ≡ Some x) ⊎ (piece_in_entry parts.HeadComment [] e ≡ Some x) → HoldsPiece (entry_text e) x
-entry_holds e x u told (inl is) =
-    content_holds (e.before ++ (line_front e.line ++ e.line.mark)) e.line.content (print_lines e.under e.behind) x (entry_text e) (simp append_assoc refl) u told.tail is
-entry_holds e x u told (inr is) =
+entry_holds e x u as_printed (inl is) =
+    content_holds (e.before ++ (line_front e.line ++ e.line.mark)) e.line.content (print_lines e.under e.behind) x (entry_text e) (simp append_assoc refl) u as_printed.tail is
+entry_holds e x u as_printed (inr is) =
     let rest = e.line.spaces ++ behind_front e.line (print_lines e.under e.behind) in
     let whole : e.before ++ (e.line.gap ++ (e.line.spaces ++ behind_front e.line (print_lines e.under e.behind))) ≡ entry_text e =
     ap (λ l. e.before ++ l) (sym (append_assoc e.line.gap e.line.spaces (behind_front e.line (print_lines e.under e.behind)))) in
-    subst (λ q. HoldsPiece q x) whole (gap_piece e.before e.line.gap rest x (subst IsUtf8 (sym whole) u) told.gap is)
+    subst (λ q. HoldsPiece q x) whole (gap_piece e.before e.line.gap rest x (subst IsUtf8 (sym whole) u) as_printed.gap is)
 
-pub comments_hold : (steps : List Step) (s : PrintedDocument) (x : Piece) → IsUtf8 (document_text s) → ArePrinted s.lines s.behind →
+pub comments_hold : (steps : List Step) (s : PrintedDocument) (x : TextPiece) → IsUtf8 (document_text s) → ArePrinted s.lines s.behind →
     (piece_in parts.LineComment steps s ≡ Some x) ⊎ (piece_in parts.HeadComment steps s ≡ Some x) → HoldsPiece (document_text s) x
-comments_hold [] s x u told (inl is) = absurd (none-some _ is)
-comments_hold [] s x u told (inr is) = absurd (none-some _ is)
-comments_hold (y ∷ ys) s x u told is = go is
+comments_hold [] s x u as_printed (inl is) = absurd (none-some _ is)
+comments_hold [] s x u as_printed (inr is) = absurd (none-some _ is)
+comments_hold (y ∷ ys) s x u as_printed is = go is
   where
-    found : (f : Found) (rest : List Step) (e : BlockEntry) → find y ys (group (map line_in s.lines)) ≡ Some (f, rest) → found_entry s f ≡ Some e →
+    found : (f : FoundLine) (rest : List Step) (e : BlockEntry) → find y ys (group (map line_in s.lines)) ≡ Some (f, rest) → found_entry s f ≡ Some e →
         (piece_in_entry parts.LineComment rest e ≡ Some x) ⊎ (piece_in_entry parts.HeadComment rest e ≡ Some x) → HoldsPiece (document_text s) x
     found f (t ∷ ts) e at there (inl is) = absurd (none-some _ is)
     found f (t ∷ ts) e at there (inr is) = absurd (none-some _ is)
     found f [] e at there is =
         let whole = entry_whole s (length (lines_before f.place)) (length (flatten f.under)) e there in
-        subst (λ q. HoldsPiece q x) whole (entry_holds e x (subst IsUtf8 (sym whole) u) (entry_found s y ys [] f e at told there).told.0 is)
+        subst (λ q. HoldsPiece q x) whole (entry_holds e x (subst IsUtf8 (sym whole) u) (entry_found s y ys [] f e at as_printed there).as_printed.0 is)
 
     go : (piece_in parts.LineComment (y ∷ ys) s ≡ Some x) ⊎ (piece_in parts.HeadComment (y ∷ ys) s ≡ Some x) → HoldsPiece (document_text s) x
     go (inl is) =

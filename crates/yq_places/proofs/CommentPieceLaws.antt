@@ -22,7 +22,7 @@ use Rattle.yq_rows.proofs.ExchangeLaws.{slice_front, slice_back}
 use Rattle.yq_rows.proofs.NodePieces.{BeginsAscii, before_ascii}
 use Rattle.yq_rows.proofs.PlaceLaws.{place, row_then, part_then}
 use Rattle.yq_rows.proofs.SliceLaws.{content_slices}
-use Rattle.yq_documents.specs.Pieces.{last_run, before_run, tail_comment, gap_comment, Piece, HoldsPiece}
+use Rattle.yq_documents.specs.Pieces.{last_run, before_run, tail_comment, gap_comment, TextPiece, HoldsPiece}
 use Rattle.yq_places.specs.CommentReading.{before_row, before_tail}
 use Rattle.yq_documents.proofs.RunLaws.{run_split}
 
@@ -135,7 +135,7 @@ mark_piece before white tail more b bs u ended text mark =
     subst (λ x. HoldsPiece x (record { before = before ++ white; text = (cut ends_line (b ∷ bs)).0; behind = (cut ends_line (b ∷ bs)).1 ++ more })) (sym whole)
     (comment_piece before white (b ∷ bs) more (subst IsUtf8 whole u) small (cut_end white (b ∷ bs) tail more text (omega arith) ended))
 
-pub tail_piece : (before tail more : List ℕ) (q : Piece) → IsUtf8 (before ++ (tail ++ more)) → Ended tail more → tail_comment before tail more ≡ Some q → HoldsPiece (before ++ (tail ++ more)) q
+pub tail_piece : (before tail more : List ℕ) (q : TextPiece) → IsUtf8 (before ++ (tail ++ more)) → Ended tail more → tail_comment before tail more ≡ Some q → HoldsPiece (before ++ (tail ++ more)) q
 tail_piece before tail more q u ended is = go (past_white tail) refl is
   where
     test : (c : Bool) (b : ℕ) (bs : List ℕ) → past_white tail ≡ b ∷ bs → eqb b 35 ≡ c → cond c (Some (record { before = before ++ (cut no_white tail).0; text = (cut ends_line (b ∷ bs)).0; behind = (cut ends_line (b ∷ bs)).1 ++ more })) None ≡ Some q → HoldsPiece (before ++ (tail ++ more)) q
@@ -196,7 +196,7 @@ some_bytes [] h = absurd (false≢true (sym h))
 some_bytes (b ∷ t) h = omega arith
 
 -- the run in a gap, as a piece of the text
-pub gap_piece : (before gap rest : List ℕ) (q : Piece) → IsUtf8 (before ++ (gap ++ rest)) → (gap ≡ []) ⊎ Ended gap rest → gap_comment before gap rest ≡ Some q → HoldsPiece (before ++ (gap ++ rest)) q
+pub gap_piece : (before gap rest : List ℕ) (q : TextPiece) → IsUtf8 (before ++ (gap ++ rest)) → (gap ≡ []) ⊎ Ended gap rest → gap_comment before gap rest ≡ Some q → HoldsPiece (before ++ (gap ++ rest)) q
 gap_piece before gap rest q u ended is = go (is_empty (joined (last_run (lines_of gap)))) refl is
   where
     whole : before ++ (gap ++ rest) ≡ (before ++ joined (before_run (lines_of gap))) ++ (joined (last_run (lines_of gap)) ++ rest)

@@ -5,23 +5,23 @@ use Rattle.std.specs.List.{slice_get}
 use Rattle.yq_scalar.specs.Text.{cut, front, ends_line, no_white, past_white, is_empty, joined, lines_of}
 use Rattle.yq_rows.specs.Exchange.{before_content, behind_row}
 use Rattle.yq_rows.specs.Rows.{Row, behind_gap, Cut}
-use Rattle.yq_rows.specs.View.{Slices, slices, rows_of, shown}
+use Rattle.yq_rows.specs.View.{Slices, slices, rows_of, rows_view}
 use Rattle.yq_scalar.proofs.LineLaws.{joined_lines}
 use Rattle.yq_documents.specs.Pieces.{tail_comment, before_run, last_run, gap_comment, piece_span}
 use Rattle.yq_places.specs.CommentReading.{before_tail, line_comment_in, head_comment_in, tail_span, line_comment_span, gap_span, head_comment_span, before_row}
 use Rattle.yq_walk.specs.Extents.{row_start, front_length, head_place}
-use Rattle.yq_places.specs.SeatReading.{numbers}
-use Rattle.yq_documents.specs.Seats.{Seat}
-use Rattle.yq_walk.proofs.LengthLaws.{head_told}
+use Rattle.yq_places.specs.RowLineReading.{numbers}
+use Rattle.yq_documents.specs.LinesInRows.{RowLine}
+use Rattle.yq_walk.proofs.LengthLaws.{head_agrees}
 use Rattle.yq_documents.proofs.RunLaws.{run_split}
-use Rattle.yq_places.proofs.StartLaws.{start_told}
+use Rattle.yq_places.proofs.StartLaws.{start_agrees}
 
 -- the comment in a tail
 pair : (a b c d : ℕ) → a ≡ b → c ≡ d → ◌≡◌ {A = ℕ × ℕ} (a, c) (b, d)
 pair a b c d e f = λ i. (e i, f i)
 
-pub tail_told : (before tail behind : List ℕ) (start : ℕ) → start ≡ length before → tail_span start tail ≡ option_map piece_span (tail_comment before tail behind)
-tail_told before tail behind start e = go (front (λ b. eqb b 35) (past_white tail))
+pub tail_view : (before tail behind : List ℕ) (start : ℕ) → start ≡ length before → tail_span start tail ≡ option_map piece_span (tail_comment before tail behind)
+tail_view before tail behind start e = go (front (λ b. eqb b 35) (past_white tail))
   where
     white : List ℕ
     white = (cut no_white tail).0
@@ -34,12 +34,12 @@ tail_told before tail behind start e = go (front (λ b. eqb b 35) (past_white ta
     go false = refl
 
 -- where a row's tail begins
-before_length : (c : Cut) (i : ℕ) (r : Row) → slice_get (rows_of c) i ≡ Some r → row_start i (shown c) + front_length (slices r) + length (slices r).head ≡ length (before_tail i r c)
+before_length : (c : Cut) (i : ℕ) (r : Row) → slice_get (rows_of c) i ≡ Some r → row_start i (rows_view c) + front_length (slices r) + length (slices r).head ≡ length (before_tail i r c)
 before_length c i r is =
     let s : Slices = slices r in
-    let there : slice_get (shown c).rows i ≡ Some s = slice_get-map slices (rows_of c) i ∙ ap (option_map slices) is in
-    let told = head_told (shown c) i (row_start i (shown c)) (front_length s) (length s.head) s there refl refl refl c refl r is in
-    let place : row_start i (shown c) + front_length s + length s.head ≡ (head_place i c r).1 = ap (λ (x : ℕ × ℕ). x.1) told in
+    let there : slice_get (rows_view c).rows i ≡ Some s = slice_get-map slices (rows_of c) i ∙ ap (option_map slices) is in
+    let agrees = head_agrees (rows_view c) i (row_start i (rows_view c)) (front_length s) (length s.head) s there refl refl refl c refl r is in
+    let place : row_start i (rows_view c) + front_length s + length s.head ≡ (head_place i c r).1 = ap (λ (x : ℕ × ℕ). x.1) agrees in
     omega (
       arith,
       place,
@@ -52,14 +52,14 @@ before_length c i r is =
       length-append s.apart s.head,
     )
 
-pub line_told : (c : Cut) (i : ℕ) (s : Seat) (k : ℕ) → slice_get (rows_of c) i ≡ Some s.row → line_comment_span (row_start i (shown c)) (slices s.row) (numbers k s) ≡ option_map piece_span (line_comment_in i s c)
-line_told c i s k is = go (eqb s.line (length s.row.dashes))
+pub beside_agrees : (c : Cut) (i : ℕ) (s : RowLine) (k : ℕ) → slice_get (rows_of c) i ≡ Some s.row → line_comment_span (row_start i (rows_view c)) (slices s.row) (numbers k s) ≡ option_map piece_span (line_comment_in i s c)
+beside_agrees c i s k is = go (eqb s.line (length s.row.dashes))
   where
     x : Slices
     x = slices s.row
 
-    go : (b : Bool) → cond b (tail_span (row_start i (shown c) + front_length x + length x.head) x.tail) None ≡ option_map piece_span (cond b (tail_comment (before_tail i s.row c) x.tail (x.raw ++ behind_row i c)) None)
-    go true = tail_told (before_tail i s.row c) x.tail (x.raw ++ behind_row i c) (row_start i (shown c) + front_length x + length x.head) (before_length c i s.row is)
+    go : (b : Bool) → cond b (tail_span (row_start i (rows_view c) + front_length x + length x.head) x.tail) None ≡ option_map piece_span (cond b (tail_comment (before_tail i s.row c) x.tail (x.raw ++ behind_row i c)) None)
+    go true = tail_view (before_tail i s.row c) x.tail (x.raw ++ behind_row i c) (row_start i (rows_view c) + front_length x + length x.head) (before_length c i s.row is)
     go false = refl
 
 -- the run in a gap
@@ -88,8 +88,8 @@ some_span start gap (b ∷ run) some = refl
 pub some_run : (start : ℕ) (gap run : List ℕ) → lines_of run ≡ last_run (lines_of gap) → 0 < length run → Some (start + length gap - length run, start + length gap) ≡ gap_span start gap
 some_run start gap run e some = some_span start gap run some ∙ ap (span_of start gap) (sym (run_is gap run e))
 
-pub gap_told : (before gap behind : List ℕ) (start : ℕ) → start ≡ length before → gap_span start gap ≡ option_map piece_span (gap_comment before gap behind)
-gap_told before gap behind start e = go (is_empty (joined (last_run (lines_of gap))))
+pub gap_agrees : (before gap behind : List ℕ) (start : ℕ) → start ≡ length before → gap_span start gap ≡ option_map piece_span (gap_comment before gap behind)
+gap_agrees before gap behind start e = go (is_empty (joined (last_run (lines_of gap))))
   where
     run : List ℕ
     run = joined (last_run (lines_of gap))
@@ -101,9 +101,9 @@ gap_told before gap behind start e = go (is_empty (joined (last_run (lines_of ga
     go true = refl
     go false = ap Some (pair _ _ _ _ (omega (arith, e, run_length gap, length-append before other)) (omega (arith, e, run_length gap, length-append before other)))
 
-pub above_told : (c : Cut) (i : ℕ) (s : Seat) (k : ℕ) → slice_get (rows_of c) i ≡ Some s.row → head_comment_span (row_start i (shown c)) (slices s.row) (numbers k s) ≡ option_map piece_span (head_comment_in i s c)
-above_told c i s k is = go (eqb s.line 0)
+pub above_view : (c : Cut) (i : ℕ) (s : RowLine) (k : ℕ) → slice_get (rows_of c) i ≡ Some s.row → head_comment_span (row_start i (rows_view c)) (slices s.row) (numbers k s) ≡ option_map piece_span (head_comment_in i s c)
+above_view c i s k is = go (eqb s.line 0)
   where
-    go : (b : Bool) → cond b (gap_span (row_start i (shown c)) s.row.gap) None ≡ option_map piece_span (cond b (gap_comment (before_row i c) s.row.gap (behind_gap s.row (behind_row i c))) None)
-    go true = gap_told (before_row i c) s.row.gap (behind_gap s.row (behind_row i c)) (row_start i (shown c)) (start_told c i s.row is)
+    go : (b : Bool) → cond b (gap_span (row_start i (rows_view c)) s.row.gap) None ≡ option_map piece_span (cond b (gap_comment (before_row i c) s.row.gap (behind_gap s.row (behind_row i c))) None)
+    go true = gap_agrees (before_row i c) s.row.gap (behind_gap s.row (behind_row i c)) (row_start i (rows_view c)) (start_agrees c i s.row is)
     go false = refl

@@ -12,7 +12,7 @@ use Rattle.yq_rows.specs.Rows.{Content, Cut}
 use Rattle.yq_rows.specs.View.{content_cut}
 use Rattle.yq_documents.specs.declared.path.Part.TheVariants as parts
 use Rattle.yq_documents.specs.declared.path.Path.{Path}
-use Rattle.yq_places.specs.CommentLaws.{remark, remarks, told_above, CommentsStand}
+use Rattle.yq_places.specs.CommentLaws.{comment_of, comments_of, head_comment_of, CommentsStand}
 use Rattle.yq_documents.specs.Documents.{document_parts}
 use Rattle.yq_lines.specs.Group.{group, is_fine}
 use Rattle.yq_lines.specs.Labelled.{Labelled, labelled_from}
@@ -20,8 +20,8 @@ use Rattle.yq_walk.specs.Lines.{tail_of, lines_of}
 use Rattle.yq_documents.specs.Located.{steps_of, labelled_located, unlabelled}
 use Rattle.yq_lines.specs.Outline.{Line, anchored, head_or, value}
 use Rattle.yq_places.specs.PathPieces.{BlockEntry, PrintedDocument, printed_document, found_entry, piece_in_entry, piece_in}
-use Rattle.yq_documents.specs.Pieces.{Piece, content_comment}
-use Rattle.yq_lines.specs.Places.{Found, find}
+use Rattle.yq_documents.specs.Pieces.{TextPiece, content_comment}
+use Rattle.yq_lines.specs.Places.{FoundLine, find}
 use Rattle.yq_places.specs.PrintedLines.{line_front, behind_front, print_lines, line_in}
 use Rattle.yq_documents.specs.Reading.{all_documents, document_of, read_at}
 use Rattle.yq_lines.proofs.Finding.{entry_of}
@@ -33,20 +33,20 @@ use Rattle.yq_places.proofs.FlowPieces.{head_there}
 use Rattle.yq_places.proofs.PieceHolds.{no_part}
 use Rattle.yq_places.proofs.PrintedLaws.{ArePrinted, lines_are, document_is}
 use Rattle.yq_places.proofs.FoundEntries.{IsFound, entry_there, entry_found}
-use Rattle.yq_places.proofs.QuietLaws.{HasNone, Quiet, quiet_content, quiet_reach}
+use Rattle.yq_places.proofs.UncommentedLaws.{HasNone, Uncommented, uncommented_content, uncommented_reach}
 use Rattle.yq_places.proofs.ReadLaws.{cut_is, text_takes}
-use Rattle.yq_places.proofs.RemarkLaws.{tail_told, gap_told}
+use Rattle.yq_places.proofs.CommentTextLaws.{tail_view, gap_agrees}
 use Rattle.yq_places.proofs.RowPathLaws.{document_fine}
 
-content_told : (before : List ℕ) (c : Content) (behind : List ℕ) → comments.line_comment (tail_of c) ≡ option_map remark (content_comment before c behind)
-content_told before c behind =
+content_agrees : (before : List ℕ) (c : Content) (behind : List ℕ) → comments.line_comment (tail_of c) ≡ option_map comment_of (content_comment before c behind)
+content_agrees before c behind =
     let x = content_cut c in
-    ap comments.line_comment (sym (tail_is c)) ∙ sym (tail_told (before ++ (x.0 ++ (x.1 ++ (x.2 ++ x.3)))) x.4 (x.5 ++ behind))
+    ap comments.line_comment (sym (tail_is c)) ∙ sym (tail_view (before ++ (x.0 ++ (x.1 ++ (x.2 ++ x.3)))) x.4 (x.5 ++ behind))
 
 -- What is told of an entry or item, and the pieces of its comments.
-record Agree (o : Option Labelled) (beside over : Option Piece) : Type 0 where
-  pub line : (o >>= λ x. x.0.line_comment) ≡ option_map remark beside
-  pub above : told_above o ≡ remarks over
+record Agree (o : Option Labelled) (beside over : Option TextPiece) : Type 0 where
+  pub line : (o >>= λ x. x.0.line_comment) ≡ option_map comment_of beside
+  pub above : head_comment_of o ≡ comments_of over
 
 no_one : Agree None None None
 no_one = record { line = refl; above = refl }
@@ -55,37 +55,37 @@ inside : (o : Option Labelled) → If o (λ y. HasNone y.0) → Agree o None Non
 inside None h = no_one
 inside (Some x) h = record { line = h.1; above = h.0 }
 
-entry_agrees : (s : PrintedDocument) (e : BlockEntry) (f : Found) → IsFound s e f → Agree (Some (entry_of f.line f.under)) (piece_in_entry parts.LineComment [] e) (piece_in_entry parts.HeadComment [] e)
+entry_agrees : (s : PrintedDocument) (e : BlockEntry) (f : FoundLine) → IsFound s e f → Agree (Some (entry_of f.line f.under)) (piece_in_entry parts.LineComment [] e) (piece_in_entry parts.HeadComment [] e)
 entry_agrees s e f h = record {
-  line = ap (λ (l : Line). l.line_comment) (sym h.line) ∙ (h.told.0.beside ∙ content_told (e.before ++ (line_front e.line ++ e.line.mark)) e.line.content (print_lines e.under e.behind));
-  above = ap (λ (l : Line). l.head_comment) (sym h.line) ∙ (h.told.0.above ∙ sym (gap_told e.before e.line.gap (e.line.spaces ++ behind_front e.line (print_lines e.under e.behind))));
+  line = ap (λ (l : Line). l.line_comment) (sym h.line) ∙ (h.as_printed.0.beside ∙ content_agrees (e.before ++ (line_front e.line ++ e.line.mark)) e.line.content (print_lines e.under e.behind));
+  above = ap (λ (l : Line). l.head_comment) (sym h.line) ∙ (h.as_printed.0.above ∙ sym (gap_agrees e.before e.line.gap (e.line.spaces ++ behind_front e.line (print_lines e.under e.behind))));
 }
 
 steps_agree : (s : PrintedDocument) (y : Step) (ys : List Step) → ArePrinted s.lines s.behind → is_fine (group (map line_in s.lines)) ≡ true →
     Agree (labelled_from (y ∷ ys) (unlabelled, value (group (map line_in s.lines)))) (piece_in parts.LineComment (y ∷ ys) s) (piece_in parts.HeadComment (y ∷ ys) s)
-steps_agree s y ys told fine =
+steps_agree s y ys as_printed fine =
     subst (λ o. Agree o (piece_in parts.LineComment (y ∷ ys) s) (piece_in parts.HeadComment (y ∷ ys) s)) (sym (path_entry y ys (group (map line_in s.lines)))) (go (find y ys (group (map line_in s.lines))) refl)
   where
-    found : (f : Found) (rest : List Step) (e : BlockEntry) → find y ys (group (map line_in s.lines)) ≡ Some (f, rest) → IsFound s e f →
+    found : (f : FoundLine) (rest : List Step) (e : BlockEntry) → find y ys (group (map line_in s.lines)) ≡ Some (f, rest) → IsFound s e f →
         Agree (labelled_from rest (entry_of f.line f.under)) (piece_in_entry parts.LineComment rest e) (piece_in_entry parts.HeadComment rest e)
     found f [] e is h = entry_agrees s e f h
     found f (t ∷ ts) e is h =
         let head = head_there (map line_in s.lines) y ys t ts f is fine in
-        let quiet : Quiet head.0 = subst (λ x. If x Quiet) (sym h.told.0.head ∙ (ap (λ (l : Line). l.head) h.line ∙ head.1)) (quiet_content e.line.content) in
+        let uncommented : Uncommented head.0 = subst (λ x. If x Uncommented) (sym h.as_printed.0.head ∙ (ap (λ (l : Line). l.head) h.line ∙ head.1)) (uncommented_content e.line.content) in
         inside (reach t ts (anchored f.line.anchor (head_or f.line.head (value f.under))))
-        (subst (λ x. If (reach t ts (anchored f.line.anchor (head_or x (value f.under)))) (λ y. HasNone y.0)) (sym head.1) (quiet_reach f.line.anchor t ts head.0 quiet))
+        (subst (λ x. If (reach t ts (anchored f.line.anchor (head_or x (value f.under)))) (λ y. HasNone y.0)) (sym head.1) (uncommented_reach f.line.anchor t ts head.0 uncommented))
 
-    go : (r : Option (Found × List Step)) → find y ys (group (map line_in s.lines)) ≡ r →
+    go : (r : Option (FoundLine × List Step)) → find y ys (group (map line_in s.lines)) ≡ r →
         Agree (FoundEntry r) (r >>= λ f. found_entry s f.0 >>= piece_in_entry parts.LineComment f.1) (r >>= λ f. found_entry s f.0 >>= piece_in_entry parts.HeadComment f.1)
     go None is = no_one
     go (Some x) is =
         let e = entry_there s y ys x.1 x.0 is in
-        subst (λ o. Agree (FoundEntry (Some x)) (o >>= piece_in_entry parts.LineComment x.1) (o >>= piece_in_entry parts.HeadComment x.1)) (sym e.1) (found x.0 x.1 e.0 is (entry_found s y ys x.1 x.0 e.0 is told e.1))
+        subst (λ o. Agree (FoundEntry (Some x)) (o >>= piece_in_entry parts.LineComment x.1) (o >>= piece_in_entry parts.HeadComment x.1)) (sym e.1) (found x.0 x.1 e.0 is (entry_found s y ys x.1 x.0 e.0 is as_printed e.1))
 
 document_agrees : (steps : List Step) (s : PrintedDocument) → ArePrinted s.lines s.behind → is_fine (group (map line_in s.lines)) ≡ true →
     Agree (labelled_from steps (unlabelled, value (group (map line_in s.lines)))) (piece_in parts.LineComment steps s) (piece_in parts.HeadComment steps s)
-document_agrees [] s told fine = record { line = refl; above = refl }
-document_agrees (y ∷ ys) s told fine = steps_agree s y ys told fine
+document_agrees [] s as_printed fine = record { line = refl; above = refl }
+document_agrees (y ∷ ys) s as_printed fine = steps_agree s y ys as_printed fine
 
 text_agrees : (t : List ℕ) (c : Cut) (path : Path) → read_at t ≡ Some c → (o : Option PrintedDocument) → printed_document path.doc c ≡ o →
     Agree (labelled_located path t) (o >>= piece_in parts.LineComment (steps_of path)) (o >>= piece_in parts.HeadComment (steps_of path))
@@ -110,7 +110,7 @@ text_agrees t c path read o is = subst (λ l. Agree l (o >>= piece_in parts.Line
         let fine = subst (λ ls. is_fine (group ls) ≡ true) (sym lines) (document_fine q.0 (each (document_parts c) text.1 path.doc q.0 q.1)) in
         subst (λ d. Agree (option_and_then (λ d. labelled_from (steps_of path) (unlabelled, d.root)) (option_map document_of d)) (piece_in parts.LineComment (steps_of path) s) (piece_in parts.HeadComment (steps_of path) s)) (sym q.1)
         (subst (λ ls. Agree (labelled_from (steps_of path) (unlabelled, value (group ls))) (piece_in parts.LineComment (steps_of path) s) (piece_in parts.HeadComment (steps_of path) s)) lines
-        (document_agrees (steps_of path) s q.2.told fine))
+        (document_agrees (steps_of path) s q.2.as_printed fine))
 
 pub comments_stand : CommentsStand
 comments_stand t c path read = let h = text_agrees t c path read (printed_document path.doc c) refl in (h.line, h.above)

@@ -47,7 +47,7 @@ tail_ends tail rest h = go h.line.ends
         inl (line, line_last tail line)
     go (inr e) =
         let text : tail ≡ h.white ++ h.comment = h.line.spelled ∙ (ap (λ l. h.white ++ (h.comment ++ l)) e.0 ∙ ap (λ l. h.white ++ l) (append-nil h.comment)) in
-        let none : HasNoFeed tail = subst HasNoFeed (sym text) (both_no_feed h.white h.comment (white_no_feed h.white h.line.blank) (comment_no_feed h.comment (subst (IsComment h.comment) e.0 h.line.remark))) in
+        let none : HasNoFeed tail = subst HasNoFeed (sym text) (both_no_feed h.white h.comment (white_no_feed h.white h.line.blank) (comment_no_feed h.comment (subst (IsComment h.comment) e.0 h.line.as_comment))) in
         inr (same ∙ (ap is_line e.0 ∙ no_line), no_last tail none, e.1)
 
 pub content_ends : (n : ℤ) (c : Content) (rest : List ℕ) → IsContent n c rest → Ends (is_broken c) (end_break c) rest

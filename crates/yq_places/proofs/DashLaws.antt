@@ -9,8 +9,8 @@ use Rattle.yq_rows.proofs.PlaceLaws.{dashes_then}
 use Rattle.yq_places.specs.RowPieces.{past_dash, upto_dash}
 use Rattle.yq_walk.specs.Lines.{lines_of}
 use Rattle.yq_places.specs.PlacedRows.{PlacedRow, placed_document, row_of_path}
-use Rattle.yq_documents.specs.Seats.{seat_of}
-use Rattle.yq_places.proofs.EntryPlaceLaws.{seat_is}
+use Rattle.yq_documents.specs.LinesInRows.{row_line_of}
+use Rattle.yq_places.proofs.EntryPlaceLaws.{row_line_is}
 use Rattle.yq_places.proofs.PrintedTexts.{map_some}
 use Rattle.yq_places.proofs.SeamLaws.{dashes_split}
 
@@ -40,6 +40,6 @@ row_cut k r t h =
 pub line_within : (n : ℕ) (steps : List Step) (c : Cut) (w : PlacedRow) → row_of_path n steps c ≡ Some w → w.line ≤ length w.row.dashes
 line_within n steps c w e =
     let s = bind_some (placed_document n c) e in
-    let x = map_some (seat_of steps s.0.part.rows) s.2 in
+    let x = map_some (row_line_of steps s.0.part.rows) s.2 in
     let l = bind_some (line_of steps (lines_of s.0.part.rows)) x.1 in
-    subst (λ (q : PlacedRow). q.line ≤ length q.row.dashes) x.2 (seat_is l.0 s.0.part.rows x.0 l.2).1
+    subst (λ (q : PlacedRow). q.line ≤ length q.row.dashes) x.2 (row_line_is l.0 s.0.part.rows x.0 l.2).1

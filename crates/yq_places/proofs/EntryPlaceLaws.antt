@@ -17,50 +17,50 @@ use Rattle.yq_documents.specs.Located.{steps_of}
 use Rattle.yq_places.specs.EntryReading.{line_entry, line_content, entry_from, content_from, entry_of, content_of, entry_at, content_at, entry_within}
 use Rattle.yq_places.specs.EntryReading.{line_entry_of, line_content_of, flow_entry_from, flow_entry_of, line_entry_at, line_content_at, flow_entry_at}
 use Rattle.yq_lines.specs.Group.{group}
-use Rattle.yq_lines.specs.Places.{lines_before, Found, find}
+use Rattle.yq_lines.specs.Places.{lines_before, FoundLine, find}
 use Rattle.yq_walk.specs.Lines.{lines_of}
-use Rattle.yq_places.specs.SeatReading.{Numbers, numbers}
-use Rattle.yq_documents.specs.Seats.{Seat, behind_one, seat, seat_of, seat_at, document_row}
+use Rattle.yq_places.specs.RowLineReading.{Numbers, numbers}
+use Rattle.yq_documents.specs.LinesInRows.{RowLine, behind_one, row_line, row_line_of, row_line_at, document_row}
 use Rattle.yq_lines.specs.Ends.{found_line, reached}
-use Rattle.yq_places.proofs.FlowPlaceLaws.{flow_told}
+use Rattle.yq_places.proofs.FlowPlaceLaws.{flow_agrees}
 use Rattle.yq_lines.proofs.Values.{If}
 use Rattle.yq_walk.proofs.KnownLaws.{get_dropped, get_front}
 
 -- a line is one of its row, and that is one of the rows
-abbrev pub IsSeated : List Row → Seat → Type 0
-IsSeated rs s = (slice_get rs s.before ≡ Some s.row) × (s.line ≤ length s.row.dashes)
+abbrev pub IsLineInRow : List Row → RowLine → Type 0
+IsLineInRow rs s = (slice_get rs s.before ≡ Some s.row) × (s.line ≤ length s.row.dashes)
 
-seated : (n : ℕ) (rs : List Row) → If (seat n rs) (IsSeated rs)
-seated n [] = tt
-seated n (r ∷ rs) = go (ltb (length r.dashes) n) refl (seat (n - suc (length r.dashes)) rs) (seated (n - suc (length r.dashes)) rs)
+line_in_row : (n : ℕ) (rs : List Row) → If (row_line n rs) (IsLineInRow rs)
+line_in_row n [] = tt
+line_in_row n (r ∷ rs) = go (ltb (length r.dashes) n) refl (row_line (n - suc (length r.dashes)) rs) (line_in_row (n - suc (length r.dashes)) rs)
   where
-    go : (b : Bool) → ltb (length r.dashes) n ≡ b → (o : Option Seat) → If o (IsSeated rs) → If (cond b (option_map behind_one o) (Some (record { before = 0; row = r; line = n }))) (IsSeated (r ∷ rs))
+    go : (b : Bool) → ltb (length r.dashes) n ≡ b → (o : Option RowLine) → If o (IsLineInRow rs) → If (cond b (option_map behind_one o) (Some (record { before = 0; row = r; line = n }))) (IsLineInRow (r ∷ rs))
     go true e None h = tt
     go true e (Some s) h = h
     go false e o h = (refl, ltb-false (length r.dashes) n e)
 
-pub seat_is : (n : ℕ) (rs : List Row) (s : Seat) → seat n rs ≡ Some s → IsSeated rs s
-seat_is n rs s e = go (seat n rs) (seated n rs) e
+pub row_line_is : (n : ℕ) (rs : List Row) (s : RowLine) → row_line n rs ≡ Some s → IsLineInRow rs s
+row_line_is n rs s e = go (row_line n rs) (line_in_row n rs) e
   where
-    go : (o : Option Seat) → If o (IsSeated rs) → o ≡ Some s → IsSeated rs s
+    go : (o : Option RowLine) → If o (IsLineInRow rs) → o ≡ Some s → IsLineInRow rs s
     go None h e = absurd (cc)
-    go (Some q) h e = subst (IsSeated rs) (same_Some _ _ e) h
+    go (Some q) h e = subst (IsLineInRow rs) (same_Some _ _ e) h
 
 -- the row of a line of rows that stand among those of a cut
-pub row_there : (c : Cut) (rs more : List Row) (first n : ℕ) (s : Seat) → drop first (rows_of c) ≡ rs ++ more → seat n rs ≡ Some s → slice_get (rows_of c) (first + s.before) ≡ Some s.row
+pub row_there : (c : Cut) (rs more : List Row) (first n : ℕ) (s : RowLine) → drop first (rows_of c) ≡ rs ++ more → row_line n rs ≡ Some s → slice_get (rows_of c) (first + s.before) ≡ Some s.row
 row_there c rs more first n s there e =
-    sym (get_dropped (rows_of c) first s.before) ∙ (ap (λ (xs : List Row). slice_get xs s.before) there ∙ get_front rs more s.before s.row (seat_is n rs s e).0)
+    sym (get_dropped (rows_of c) first s.before) ∙ (ap (λ (xs : List Row). slice_get xs s.before) there ∙ get_front rs more s.before s.row (row_line_is n rs s e).0)
 
 -- a place in a text
-abbrev pub Place : Type 0
-Place = Option (ℕ × ℕ)
+abbrev pub TextSpan : Type 0
+TextSpan = Option (ℕ × ℕ)
 
 -- where steps go on in the head of a line
-pub flow_left : (k : ℕ) (c : Cut) (rs : List Row) (steps left : List Step) (n : ℕ) (q : Seat) (flow : Option Placed) (found : Option PlacedEntry) → seat n rs ≡ Some q →
+pub flow_left : (k : ℕ) (c : Cut) (rs : List Row) (steps left : List Step) (n : ℕ) (q : RowLine) (flow : Option Placed) (found : Option PlacedEntry) → row_line n rs ≡ Some q →
     flow ≡ row_flow (length (cut_text c)) q.row (behind_row (k + q.before) c) → found ≡ entry_within left flow → Some (n, left) ≡ reached steps (lines_of rs) → false ≡ eqb (length left) 0 → found ≡ flow_entry_of k c rs steps
-flow_left k c rs steps [] n q flow found is own told e some = absurd (false≢true (some ∙ eq-eqb 0 0 refl))
-flow_left k c rs steps (t ∷ ts) n q flow found is own told e some =
-    told ∙ (ap (entry_within (t ∷ ts)) own ∙ (flow_told k c rs n t ts q is ∙ ap (λ (o : Option (ℕ × List Step)). o >>= λ x. flow_entry_from k c rs x.0 x.1) e))
+flow_left k c rs steps [] n q flow found is own agrees e some = absurd (false≢true (some ∙ eq-eqb 0 0 refl))
+flow_left k c rs steps (t ∷ ts) n q flow found is own agrees e some =
+    agrees ∙ (ap (entry_within (t ∷ ts)) own ∙ (flow_agrees k c rs n t ts q is ∙ ap (λ (o : Option (ℕ × List Step)). o >>= λ x. flow_entry_from k c rs x.0 x.1) e))
 
 pub no_flow_left : (k : ℕ) (c : Cut) (rs : List Row) (steps left : List Step) (n : ℕ) → Some (n, left) ≡ reached steps (lines_of rs) → true ≡ eqb (length left) 0 → None ≡ flow_entry_of k c rs steps
 no_flow_left k c rs steps [] n e none = ap (λ (o : Option (ℕ × List Step)). o >>= λ x. flow_entry_from k c rs x.0 x.1) e
@@ -70,24 +70,24 @@ pub no_flow : (k : ℕ) (c : Cut) (rs : List Row) (steps : List Step) → None �
 no_flow k c rs steps e = ap (λ (o : Option (ℕ × List Step)). o >>= λ x. flow_entry_from k c rs x.0 x.1) e
 
 -- the place of what stands in a line, or in flow
-abbrev pub or_flow : Place → Place → Place
+abbrev pub or_flow : TextSpan → TextSpan → TextSpan
 or_flow None y = y
 or_flow (Some x) y = Some x
 
-or_none : (x : Place) → x ≡ or_flow x None
+or_none : (x : TextSpan) → x ≡ or_flow x None
 or_none None = refl
 or_none (Some x) = refl
 
 -- where a path leads among lines, by the number of the line
-abbrev pub by_line : Option (Found × List Step) → Option (ℕ × List Step)
+abbrev pub by_line : Option (FoundLine × List Step) → Option (ℕ × List Step)
 by_line o = option_map (λ x. (length (lines_before x.0.place), x.1)) o
 
 entry_parts : (k : ℕ) (c : Cut) (rs : List Row) (steps : List Step) → entry_of k c rs steps ≡ or_flow (line_entry_of k c rs steps) (option_map entry_place (flow_entry_of k c rs steps))
 entry_parts k c rs [] = refl
 entry_parts k c rs (s ∷ ss) = go (find s ss (group (lines_of rs)))
   where
-    go : (o : Option (Found × List Step)) → (by_line o >>= λ x. entry_from k c rs x.0 x.1) ≡
-        or_flow (option_and_then (λ (x : Found × List Step). found_line x.0 x.1) o >>= line_entry k c rs) (option_map entry_place (by_line o >>= λ x. flow_entry_from k c rs x.0 x.1))
+    go : (o : Option (FoundLine × List Step)) → (by_line o >>= λ x. entry_from k c rs x.0 x.1) ≡
+        or_flow (option_and_then (λ (x : FoundLine × List Step). found_line x.0 x.1) o >>= line_entry k c rs) (option_map entry_place (by_line o >>= λ x. flow_entry_from k c rs x.0 x.1))
     go None = refl
     go (Some (f, [])) = or_none _
     go (Some (f, t ∷ ts)) = refl
@@ -96,8 +96,8 @@ content_parts : (k : ℕ) (c : Cut) (rs : List Row) (steps : List Step) → cont
 content_parts k c rs [] = or_none _
 content_parts k c rs (s ∷ ss) = go (find s ss (group (lines_of rs)))
   where
-    go : (o : Option (Found × List Step)) → (by_line o >>= λ x. content_from k c rs x.0 x.1) ≡
-        or_flow (option_and_then (λ (x : Found × List Step). found_line x.0 x.1) o >>= line_content k c rs)
+    go : (o : Option (FoundLine × List Step)) → (by_line o >>= λ x. content_from k c rs x.0 x.1) ≡
+        or_flow (option_and_then (λ (x : FoundLine × List Step). found_line x.0 x.1) o >>= line_content k c rs)
         (option_and_then (λ (e : PlacedEntry). content_place e.1) (by_line o >>= λ x. flow_entry_from k c rs x.0 x.1))
     go None = refl
     go (Some (f, [])) = or_none _
@@ -124,22 +124,22 @@ content_either p c = go (slice_get (document_parts c) p.doc)
     go (Some d) = content_parts k c d.rows (steps_of p)
 
 -- the place of the entry or item of a line at a path
-line_entry_is : (k : ℕ) (c : Cut) (rs : List Row) (steps : List Step) (first : ℕ) (x : Numbers) → Some x ≡ option_map (numbers first) (seat_of steps rs) → line_entry_of k c rs steps ≡ entry_of k c rs steps
+line_entry_is : (k : ℕ) (c : Cut) (rs : List Row) (steps : List Step) (first : ℕ) (x : Numbers) → Some x ≡ option_map (numbers first) (row_line_of steps rs) → line_entry_of k c rs steps ≡ entry_of k c rs steps
 line_entry_is k c rs [] first x e = absurd (cc)
 line_entry_is k c rs (s ∷ ss) first x e = go (find s ss (group (lines_of rs))) e
   where
-    go : (o : Option (Found × List Step)) → Some x ≡ option_map (numbers first) (option_and_then (λ (x : Found × List Step). found_line x.0 x.1) o >>= λ n. seat n rs) →
-        (option_and_then (λ (x : Found × List Step). found_line x.0 x.1) o >>= line_entry k c rs) ≡ (by_line o >>= λ x. entry_from k c rs x.0 x.1)
+    go : (o : Option (FoundLine × List Step)) → Some x ≡ option_map (numbers first) (option_and_then (λ (x : FoundLine × List Step). found_line x.0 x.1) o >>= λ n. row_line n rs) →
+        (option_and_then (λ (x : FoundLine × List Step). found_line x.0 x.1) o >>= line_entry k c rs) ≡ (by_line o >>= λ x. entry_from k c rs x.0 x.1)
     go None e = refl
     go (Some (f, [])) e = refl
     go (Some (f, t ∷ ts)) e = absurd (cc)
 
-pub seat_entry : (p : Path) (c : Cut) (first : ℕ) (x : Numbers) → Some x ≡ option_map (numbers first) (seat_at p c) → line_entry_at p c ≡ entry_at p c
-seat_entry p c first x e = go (slice_get (document_parts c) p.doc) e
+pub row_line_entry : (p : Path) (c : Cut) (first : ℕ) (x : Numbers) → Some x ≡ option_map (numbers first) (row_line_at p c) → line_entry_at p c ≡ entry_at p c
+row_line_entry p c first x e = go (slice_get (document_parts c) p.doc) e
   where
     k : ℕ
     k = document_row p.doc c
 
-    go : (o : Option Part) → Some x ≡ option_map (numbers first) (o >>= λ d. seat_of (steps_of p) d.rows) → (o >>= λ d. line_entry_of k c d.rows (steps_of p)) ≡ (o >>= λ d. entry_of k c d.rows (steps_of p))
+    go : (o : Option Part) → Some x ≡ option_map (numbers first) (o >>= λ d. row_line_of (steps_of p) d.rows) → (o >>= λ d. line_entry_of k c d.rows (steps_of p)) ≡ (o >>= λ d. entry_of k c d.rows (steps_of p))
     go None e = refl
     go (Some d) e = line_entry_is k c d.rows (steps_of p) first x e

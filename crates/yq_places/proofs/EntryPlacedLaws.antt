@@ -19,8 +19,8 @@ use Rattle.yq_places.specs.EntryReading.{lines_place, line_entry, line_head, lin
 use Rattle.yq_walk.specs.Lines.{row_lines, lines_of}
 use Rattle.yq_documents.specs.Located.{steps_of}
 use Rattle.yq_lines.specs.Ends.{reached, lines_end}
-use Rattle.yq_documents.specs.Seats.{Seat, behind_one, seat, document_row}
-use Rattle.yq_lines.specs.Spots.{is_bare}
+use Rattle.yq_documents.specs.LinesInRows.{RowLine, behind_one, row_line, document_row}
+use Rattle.yq_lines.specs.Positions.{is_bare}
 use Rattle.yq_places.proofs.EntryPlaceLaws.{row_there}
 use Rattle.yq_places.proofs.FinishLaws.{row_boundary, lines_order}
 use Rattle.yq_places.proofs.FlowSpanLaws.{AreSpans, flow_spans}
@@ -30,34 +30,34 @@ use Rattle.yq_walk.proofs.RowLaws.{lines_count}
 use Rattle.yq_places.proofs.SeamLaws.{line_boundary}
 use Rattle.yq_documents.proofs.PartRows.{part_begins}
 
--- a line that has a seat is there, and lines have theirs in order
-seat_within : (rs : List Row) (n : ℕ) (s : Seat) → seat n rs ≡ Some s → n < length (lines_of rs)
-seat_within [] n s e = absurd (none-some _ e)
-seat_within (r ∷ rs) n s e = go (ltb (length r.dashes) n) refl (seat (n - suc (length r.dashes)) rs) (λ q at. seat_within rs (n - suc (length r.dashes)) q at) refl e
+-- a line that has a row line is there, and lines have theirs in order
+row_line_within : (rs : List Row) (n : ℕ) (s : RowLine) → row_line n rs ≡ Some s → n < length (lines_of rs)
+row_line_within [] n s e = absurd (none-some _ e)
+row_line_within (r ∷ rs) n s e = go (ltb (length r.dashes) n) refl (row_line (n - suc (length r.dashes)) rs) (λ q at. row_line_within rs (n - suc (length r.dashes)) q at) refl e
   where
     count : length (row_lines r) ≡ suc (length r.dashes)
     count = lines_count (comments.head_comment r.gap) r.column r.dashes r.mark r.content
 
-    go : (b : Bool) → ltb (length r.dashes) n ≡ b → (o : Option Seat) → ((q : Seat) → seat (n - suc (length r.dashes)) rs ≡ Some q → n - suc (length r.dashes) < length (lines_of rs)) → seat (n - suc (length r.dashes)) rs ≡ o →
+    go : (b : Bool) → ltb (length r.dashes) n ≡ b → (o : Option RowLine) → ((q : RowLine) → row_line (n - suc (length r.dashes)) rs ≡ Some q → n - suc (length r.dashes) < length (lines_of rs)) → row_line (n - suc (length r.dashes)) rs ≡ o →
         cond b (option_map behind_one o) (Some (record { before = 0; row = r; line = n })) ≡ Some s → n < length (row_lines r ++ lines_of rs)
     go true t None again at e = absurd (none-some _ e)
     go true t (Some q) again at e = omega (arith, again q at, ltb-true (length r.dashes) n t, count, length-append (row_lines r) (lines_of rs))
     go false t o again at e = omega (arith, ltb-false (length r.dashes) n t, count, length-append (row_lines r) (lines_of rs))
 
-seats_order : (rs : List Row) (from to : ℕ) (s q : Seat) → from ≤ to → seat from rs ≡ Some s → seat to rs ≡ Some q → s.before ≤ q.before
-seats_order [] from to s q h e f = absurd (none-some _ e)
-seats_order (r ∷ rs) from to s q h e f =
-    go (ltb (length r.dashes) from) refl (ltb (length r.dashes) to) refl (seat (from - suc (length r.dashes)) rs) refl (seat (to - suc (length r.dashes)) rs) refl
-    (λ x y less a b. seats_order rs (from - suc (length r.dashes)) (to - suc (length r.dashes)) x y less a b) e f
+row_lines_order : (rs : List Row) (from to : ℕ) (s q : RowLine) → from ≤ to → row_line from rs ≡ Some s → row_line to rs ≡ Some q → s.before ≤ q.before
+row_lines_order [] from to s q h e f = absurd (none-some _ e)
+row_lines_order (r ∷ rs) from to s q h e f =
+    go (ltb (length r.dashes) from) refl (ltb (length r.dashes) to) refl (row_line (from - suc (length r.dashes)) rs) refl (row_line (to - suc (length r.dashes)) rs) refl
+    (λ x y less a b. row_lines_order rs (from - suc (length r.dashes)) (to - suc (length r.dashes)) x y less a b) e f
   where
-    go : (a : Bool) → ltb (length r.dashes) from ≡ a → (b : Bool) → ltb (length r.dashes) to ≡ b → (o : Option Seat) → seat (from - suc (length r.dashes)) rs ≡ o → (p : Option Seat) → seat (to - suc (length r.dashes)) rs ≡ p →
-        ((x y : Seat) → from - suc (length r.dashes) ≤ to - suc (length r.dashes) → seat (from - suc (length r.dashes)) rs ≡ Some x → seat (to - suc (length r.dashes)) rs ≡ Some y → x.before ≤ y.before) →
+    go : (a : Bool) → ltb (length r.dashes) from ≡ a → (b : Bool) → ltb (length r.dashes) to ≡ b → (o : Option RowLine) → row_line (from - suc (length r.dashes)) rs ≡ o → (p : Option RowLine) → row_line (to - suc (length r.dashes)) rs ≡ p →
+        ((x y : RowLine) → from - suc (length r.dashes) ≤ to - suc (length r.dashes) → row_line (from - suc (length r.dashes)) rs ≡ Some x → row_line (to - suc (length r.dashes)) rs ≡ Some y → x.before ≤ y.before) →
         cond a (option_map behind_one o) (Some (record { before = 0; row = r; line = from })) ≡ Some s → cond b (option_map behind_one p) (Some (record { before = 0; row = r; line = to })) ≡ Some q → s.before ≤ q.before
-    go false ta b tb o oe p pe again e f = omega (arith, ap (λ (x : Seat). x.before) (same_Some _ _ e))
+    go false ta b tb o oe p pe again e f = omega (arith, ap (λ (x : RowLine). x.before) (same_Some _ _ e))
     go true ta false tb o oe p pe again e f = absurd (omega (arith, h, ltb-true (length r.dashes) from ta, ltb-false (length r.dashes) to tb))
     go true ta true tb None oe p pe again e f = absurd (none-some _ e)
     go true ta true tb (Some x) oe None pe again e f = absurd (none-some _ f)
-    go true ta true tb (Some x) oe (Some y) pe again e f = omega (arith, again x y (omega (arith, h)) oe pe, ap (λ (z : Seat). z.before) (same_Some _ _ e), ap (λ (z : Seat). z.before) (same_Some _ _ f))
+    go true ta true tb (Some x) oe (Some y) pe again e f = omega (arith, again x y (omega (arith, h)) oe pe, ap (λ (z : RowLine). z.before) (same_Some _ _ e), ap (λ (z : RowLine). z.before) (same_Some _ _ f))
 
 -- the places among the rows of a document
 module _ (c : Cut) (rs more : List Row) (k : ℕ) (u : IsUtf8 (cut_text c)) (cut : IsCut (cut_text c) c) (there : drop k (rows_of c) ≡ rs ++ more) where
@@ -66,25 +66,25 @@ module _ (c : Cut) (rs more : List Row) (k : ℕ) (u : IsUtf8 (cut_text c)) (cut
 
   lines_span : (from to : ℕ) (x : ℕ × ℕ) → from ≤ to → lines_place k c rs from to ≡ Some x → Spans x
   lines_span from to x less e =
-      let a = bind_some (seat from rs) e in
-      let b = bind_some (seat to rs) a.2 in
+      let a = bind_some (row_line from rs) e in
+      let b = bind_some (row_line to rs) a.2 in
       let row = row_there c rs more k from a.0 there a.1 in
       let other = row_there c rs more k to b.0 there b.1 in
       subst Spans (same_Some _ _ b.2) (record {
-        ordered = lines_order c (k + a.0.before) (k + b.0.before) a.0.line a.0.row b.0.row (omega (arith, seats_order rs from to a.0 b.0 less a.1 b.1)) row other;
+        ordered = lines_order c (k + a.0.before) (k + b.0.before) a.0.line a.0.row b.0.row (omega (arith, row_lines_order rs from to a.0 b.0 less a.1 b.1)) row other;
         begins = line_boundary c (k + a.0.before) a.0.line a.0.row u cut.parts row;
         ends = row_boundary c (k + b.0.before) b.0.row cut.parts other;
       })
 
   line_span : (n : ℕ) (x : ℕ × ℕ) → line_entry k c rs n ≡ Some x → Spans x
   line_span n x e =
-      let a = bind_some (seat n rs) e in
-      let ends = end_within (lines_of rs) n (seat_within rs n a.0 a.1) in
+      let a = bind_some (row_line n rs) e in
+      let ends = end_within (lines_of rs) n (row_line_within rs n a.0 a.1) in
       lines_span n (lines_end n (lines_of rs) - 1) x (omega (arith, ends.0)) e
 
   head_spans : (n : ℕ) (x : ℕ × ℕ) → line_head k c rs n ≡ Some x → Spans x
   head_spans n x e =
-      let a = bind_some (seat n rs) e in
+      let a = bind_some (row_line n rs) e in
       subst Spans (same_Some _ _ a.2) (head_span c (k + a.0.before) a.0.row u cut (row_there c rs more k n a.0 there a.1))
 
   lines_spans : (from to : ℕ) (x : ℕ × ℕ) → from ≤ to → lines_content k c rs from to ≡ Some x → Spans x
@@ -106,7 +106,7 @@ module _ (c : Cut) (rs more : List Row) (k : ℕ) (u : IsUtf8 (cut_text c)) (cut
       go false less e = lines_spans (suc n) (lines_end n (lines_of rs)) x (omega (arith, less)) e
 
   in_flow : (n : ℕ) (s : Step) (ss : List Step) (e : PlacedEntry) → flow_entry k c rs n (s ∷ ss) ≡ Some e → AreSpans (cut_text c) e
-  in_flow n s ss e is = let a = bind_some (seat n rs) is in flow_spans c (k + a.0.before) a.0.row u cut (row_there c rs more k n a.0 there a.1) s ss e a.2
+  in_flow n s ss e is = let a = bind_some (row_line n rs) is in flow_spans c (k + a.0.before) a.0.row u cut (row_there c rs more k n a.0 there a.1) s ss e a.2
 
   entry_span : (n : ℕ) (left : List Step) (x : ℕ × ℕ) → entry_from k c rs n left ≡ Some x → Spans x
   entry_span n [] x e = line_span n x e

@@ -9,25 +9,25 @@ use Rattle.yq_rows.specs.Exchange.{before_content, behind_row, row_front, rows_b
 use Rattle.yq_rows.specs.Grammar.{AreRows, unlimited}
 use Rattle.yq_rows.specs.Offsets.{row_length}
 use Rattle.yq_rows.specs.Rows.{Row, parent_indent, print_row, rows_text, part_text, Cut}
-use Rattle.yq_rows.specs.View.{Slices, slices, rows_of, Shown, shown}
+use Rattle.yq_rows.specs.View.{Slices, slices, rows_of, RowsView, rows_view}
 use Rattle.yq_rows.proofs.PlaceLaws.{RowIn, row_in}
 use Rattle.yq_rows.proofs.seams.SeamLaws.{rows_text-append}
 use Rattle.yq_rows.proofs.splices.SpliceTexts.{first_text}
 use Rattle.yq_documents.specs.Reading.{cut_of}
-use Rattle.yq_documents.specs.Seats.{document_row}
+use Rattle.yq_documents.specs.LinesInRows.{document_row}
 use Rattle.yq_places.specs.CommentPlaces.{line_text}
 use Rattle.yq_places.specs.CommentReading.{before_row}
-use Rattle.yq_walk.specs.Extents.{IsShown, head_place, row_start}
+use Rattle.yq_walk.specs.Extents.{IsRowsView, head_place, row_start}
 use Rattle.yq_places.specs.RemovalPlaces.{OwnRows, rows_out}
-use Rattle.yq_places.specs.Standings.{PlacedEntry, before_entry, behind_entry}
+use Rattle.yq_places.specs.Standings.{RowsOfEntry, before_entry, behind_entry}
 use Rattle.yq_places.specs.StandingReading.{AreRowsOf}
-use Rattle.yq_places.proofs.CommentEndLaws.{row_line}
+use Rattle.yq_places.proofs.CommentEndLaws.{row_text_parts}
 use Rattle.yq_places.proofs.CommentPieceLaws.{Ended, content_end, row_place}
-use Rattle.yq_walk.proofs.LengthLaws.{row_fits, shown_small}
+use Rattle.yq_walk.proofs.LengthLaws.{row_fits, view_small}
 use Rattle.yq_places.proofs.PlacedRowLaws.{IsAt, part_at}
 use Rattle.yq_places.proofs.RemovalLines.{LineSeam, lies_in, rows_seam, seam_join}
 use Rattle.yq_places.proofs.RemovalTexts.{texts_then}
-use Rattle.yq_places.proofs.RemovalTold.{OutTold, line_boundary, out_told, slice_seam}
+use Rattle.yq_places.proofs.RemovalViewLaws.{OutAgrees, line_boundary, out_agrees, slice_seam}
 use Rattle.yq_places.proofs.SeamLaws.{ended_after}
 use Rattle.yq_places.proofs.StartLaws.{front_in}
 
@@ -35,7 +35,7 @@ drop_seam : (front : List Row) (r : Row) (rest : List Row) → drop (suc (length
 drop_seam [] r rest = refl
 drop_seam (x ∷ front) r rest = drop_seam front r rest
 
-module _ (t : List ℕ) (s : Shown) (e : PlacedEntry) (row end : ℕ) (h : AreRowsOf t s e row end) where
+module _ (t : List ℕ) (s : RowsView) (e : RowsOfEntry) (row end : ℕ) (h : AreRowsOf t s e row end) where
   abbrev c : Cut
   c = cut_of t
 
@@ -60,16 +60,16 @@ module _ (t : List ℕ) (s : Shown) (e : PlacedEntry) (row end : ℕ) (h : AreRo
       }
 
   pub pieces_at : slice_get s.rows row ≡ Some (slices e.row)
-  pieces_at = ap (λ (y : Shown). slice_get y.rows row) h.shown_is ∙ (slice_get-map slices (rows_of c) row ∙ ap (option_map slices) first_at.there)
+  pieces_at = ap (λ (y : RowsView). slice_get y.rows row) h.rows_view_is ∙ (slice_get-map slices (rows_of c) row ∙ ap (option_map slices) first_at.there)
 
   pub row_within : row < length s.rows
   row_within = slice_get_within s.rows row (slices e.row) pieces_at
 
-  is_shown : IsShown s
-  is_shown = record { cut = c; is = h.shown_is; size = omega (arith, ap length h.cut.text, h.cut.size) }
+  is_view : IsRowsView s
+  is_view = record { cut = c; is = h.rows_view_is; size = omega (arith, ap length h.cut.text, h.cut.size) }
 
   pub column_fits : (y : Slices) → slice_get s.rows row ≡ Some y → y.column + length y.dashes ≤ text_limit
-  column_fits y there = omega (arith, row_fits s row y there, shown_small s is_shown)
+  column_fits y there = omega (arith, row_fits s row y there, view_small s is_view)
 
   pub text : t ≡ before_entry e ++ print_row e.row (rows_text e.under (behind_entry e))
   text = h.cut.text ∙ (row_place c row e.row first_at.there ∙ (λ i. first_at.before_is i ++ print_row e.row (first_at.behind_is i)))
@@ -85,10 +85,10 @@ module _ (t : List ℕ) (s : Shown) (e : PlacedEntry) (row end : ℕ) (h : AreRo
       ∙ (ap (λ (x : List ℕ). before_entry e ++ x) (texts_then (e.row ∷ e.under) [] (behind_entry e))
       ∙ sym (append_assoc (before_entry e) (print_row e.row (rows_text e.under [])) (behind_entry e)))
 
-  own : OutTold t s h.part (record { front = e.front; own = e.row ∷ e.under; back = e.back }) (document_row h.document (cut_of t)) row end
-  own = out_told t s h.part (record { front = e.front; own = e.row ∷ e.under; back = e.back }) (document_row h.document c, row, end) (record {
+  own : OutAgrees t s h.part (record { front = e.front; own = e.row ∷ e.under; back = e.back }) (document_row h.document (cut_of t)) row end
+  own = out_agrees t s h.part (record { front = e.front; own = e.row ∷ e.under; back = e.back }) (document_row h.document c, row, end) (record {
     cut = h.cut;
-    shown_is = h.shown_is;
+    rows_view_is = h.rows_view_is;
     document = h.document;
     placed = h.placed;
     rows_are = h.rows_are;
@@ -103,13 +103,13 @@ module _ (t : List ℕ) (s : Shown) (e : PlacedEntry) (row end : ℕ) (h : AreRo
   last_within = own.last_within
 
   pub stop_is : (stop : ℕ) → ((x : Slices) → slice_get s.rows (end - 1) ≡ Some x → stop ≡ row_start (end - 1) s + row_length x) → stop ≡ length through
-  stop_is stop told =
+  stop_is stop agrees =
       let x : OwnRows = record { front = e.front; own = e.row ∷ e.under; back = e.back } in
       let out = rows_out h.part x in
       let rest : behind_entry e ≡ out.gap ++ out.behind = (λ i. rows_text e.back (h.end_is i ++ h.behind_is i)) ∙ first_text e.back h.part.part.end h.part.behind in
       omega (
         arith,
-        told own.final own.final_is,
+        agrees own.final own.final_is,
         own.stop,
         ap length own.text,
         ap length cut_in_two,
@@ -139,10 +139,10 @@ module _ (t : List ℕ) (s : Shown) (e : PlacedEntry) (row end : ℕ) (h : AreRo
 
   -- ---- the line of the first row's mark
 
-  pub head_ends : (place : ℕ × ℕ) → ((c : Cut) → s ≡ shown c → (r : Row) → slice_get (rows_of c) row ≡ Some r → place ≡ head_place row c r) → place.1 ≡ length (before_entry e ++ line_text e.row)
-  head_ends place told =
+  pub head_ends : (place : ℕ × ℕ) → ((c : Cut) → s ≡ rows_view c → (r : Row) → slice_get (rows_of c) row ≡ Some r → place ≡ head_place row c r) → place.1 ≡ length (before_entry e ++ line_text e.row)
+  head_ends place agrees =
       let x : Slices = slices e.row in
-      let at : place.1 ≡ (head_place row c e.row).1 = ap (λ (p : ℕ × ℕ). p.1) (told c h.shown_is e.row first_at.there) in
+      let at : place.1 ≡ (head_place row c e.row).1 = ap (λ (p : ℕ × ℕ). p.1) (agrees c h.rows_view_is e.row first_at.there) in
       omega (
         arith,
         at,
@@ -171,13 +171,13 @@ module _ (t : List ℕ) (s : Shown) (e : PlacedEntry) (row end : ℕ) (h : AreRo
       let parts : before_entry e ++ (line_text e.row ++ (x.tail ++ (x.raw ++ (rows_text e.under [] ++ behind_entry e)))) ≡ line ++ (lower ++ behind_entry e) = simp append_assoc refl in
       text
       ∙ (ap (λ (u : List ℕ). before_entry e ++ print_row e.row u) (texts_then e.under [] (behind_entry e))
-      ∙ (ap (λ (u : List ℕ). before_entry e ++ u) (row_line e.row (rows_text e.under [] ++ behind_entry e)) ∙ parts))
+      ∙ (ap (λ (u : List ℕ). before_entry e ++ u) (row_text_parts e.row (rows_text e.under [] ++ behind_entry e)) ∙ parts))
 
   pub through_is : through ≡ line ++ lower
   through_is =
       let x : Slices = slices e.row in
       let parts : before_entry e ++ (line_text e.row ++ (x.tail ++ (x.raw ++ rows_text e.under []))) ≡ line ++ lower = simp append_assoc refl in
-      ap (λ (u : List ℕ). before_entry e ++ u) (row_line e.row (rows_text e.under [])) ∙ parts
+      ap (λ (u : List ℕ). before_entry e ++ u) (row_text_parts e.row (rows_text e.under [])) ∙ parts
 
   pub line_boundary_at : IsUtf8 t → IsCharBoundary t (length line)
   line_boundary_at u =

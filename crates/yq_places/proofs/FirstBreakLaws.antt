@@ -44,13 +44,13 @@ line_break (b ∷ bs) = go (is_feed b) (is_return b && front is_feed bs) refl re
         again ∙ sym (ap (λ c. eqb (length (drop (length (cond c [] (b ∷ less_break l))) (b ∷ l))) 2) (no_end b l f (ap (λ x. is_return b && x) (front_line bs) ∙ e)))
 
 module _ (t line rest end : List ℕ) (size : ℕ) (is : (line, rest) ≡ cut_line t) (end_is : end ≡ last_break line) (size_is : size ≡ length end) where
-  told : first_break t ≡ cond (eqb size 2) CrLf Lf
-  told =
+  agrees : first_break t ≡ cond (eqb size 2) CrLf Lf
+  agrees =
       let own : line ≡ (cut_line t).0 = ap (λ (x : List ℕ × List ℕ). x.0) is in
       ap (λ c. cond c CrLf Lf) (line_break t ∙ sym (ap (λ n. eqb n 2) (size_is ∙ ap length (end_is ∙ ap last_break own))))
 
-  pub return_told : size ≡ 2 → CrLf ≡ first_break t
-  return_told e = sym (told ∙ ap (λ c. cond c CrLf Lf) (eq-eqb size 2 e))
+  pub return_agrees : size ≡ 2 → CrLf ≡ first_break t
+  return_agrees e = sym (agrees ∙ ap (λ c. cond c CrLf Lf) (eq-eqb size 2 e))
 
-  pub feed_told : (size ≡ 2 → ⊥) → Lf ≡ first_break t
-  feed_told e = sym (told ∙ ap (λ c. cond c CrLf Lf) (ne_eqb size 2 e))
+  pub feed_agrees : (size ≡ 2 → ⊥) → Lf ≡ first_break t
+  feed_agrees e = sym (agrees ∙ ap (λ c. cond c CrLf Lf) (ne_eqb size 2 e))

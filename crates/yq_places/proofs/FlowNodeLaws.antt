@@ -17,30 +17,30 @@ use Rattle.yq_rows.specs.Exchange.{behind_row}
 use Rattle.yq_rows.specs.Grammar.{IsContent, IsCut}
 use Rattle.yq_rows.specs.Rows as rows
 use Rattle.yq_rows.specs.Rows.{Content, Nothing, Inline, Row, Part, Cut, parent_indent}
-use Rattle.yq_rows.specs.View.{Shown, anchor_cut, content_cut, shown, slices}
+use Rattle.yq_rows.specs.View.{RowsView, anchor_cut, content_cut, rows_view, slices}
 use Rattle.yq_rows.proofs.PlaceLaws.{row_in}
 use Rattle.yq_lines.specs.Outline.{Line}
-use Rattle.yq_lines.specs.Places.{lines_before, Found}
+use Rattle.yq_lines.specs.Places.{lines_before, FoundLine}
 use Rattle.yq_documents.specs.Documents.{document_parts}
 use Rattle.yq_documents.specs.FlowReading.{kept, core, content_core, row_flow}
 use Rattle.yq_walk.specs.Lines.{tail_of, lines_of}
 use Rattle.yq_documents.specs.Reading.{outline_of}
 use Rattle.yq_documents.specs.RowReading.{from_head}
-use Rattle.yq_documents.specs.Seats.{Seat, document_row}
+use Rattle.yq_documents.specs.LinesInRows.{RowLine, document_row}
 use Rattle.yq_places.specs.FlowNodes.{content_flow, find_head, flow_collection, line_collection, part_collection}
-use Rattle.yq_places.specs.FlowTold as told
-use Rattle.yq_places.specs.FlowTold.{TellsFlow, placed_collection, collection_along}
+use Rattle.yq_places.specs.FlowViews as views
+use Rattle.yq_places.specs.FlowViews.{FlowAgrees, placed_collection, collection_along}
 use Rattle.yq_places.specs.NodeReading.{NodePlace, with_steps, node_place, place_line, head_at}
 use Rattle.yq_places.specs.RowWalk.{InCut}
 use Rattle.yq_walk.specs.RowWalk.{IsLine, line_number}
 use Rattle.yq_places.specs.declared.places.flow_node.FlowHead.{FlowHead}
-use Rattle.yq_walk.specs.declared.spot.Spot.{Spot}
-use Rattle.yq_walk.specs.declared.spot.Stretch.{Stretch}
-use Rattle.yq_places.proofs.FlowToldLaws.{collection_placed, head_found, numbered}
+use Rattle.yq_walk.specs.declared.position.Position.{Position}
+use Rattle.yq_walk.specs.declared.position.Stretch.{Stretch}
+use Rattle.yq_places.proofs.FlowViewLaws.{collection_placed, head_found, numbered}
 use Rattle.yq_places.proofs.WalkDocuments as documents
 use Rattle.yq_places.proofs.WalkDocuments.{found_in_cut}
 use Rattle.yq_places.proofs.RowHeads.{row_alone}
-use Rattle.yq_places.proofs.WalkNodes.{row_is, row_in_cut, seat_is, before_is}
+use Rattle.yq_places.proofs.WalkNodes.{row_is, row_in_cut, row_line_is, before_is}
 
 -- ---- the head of a row
 
@@ -140,11 +140,11 @@ pub no_collection : (k : ℕ) (c : Cut) (rs : List Row) (steps : List Step) → 
 no_collection k c rs steps e = ap (λ (o : Option (ℕ × List Step)). o >>= λ x. line_collection k c rs x.0 x.1) e
 
 -- the collection in the head of a line, by its row
-line_told : (s : Shown) (d : Stretch) (c : Cut) (k : InCut s d c) (q : Spot) (at : IsLine s d q) (steps left : List Step) → head_at steps (lines_of k.document.stand.rows) ≡ Some (line_number d k.document.stand.rows q, left) →
+beside_agrees : (s : RowsView) (d : Stretch) (c : Cut) (k : InCut s d c) (q : Position) (at : IsLine s d q) (steps left : List Step) → head_at steps (lines_of k.document.stand.rows) ≡ Some (line_number d k.document.stand.rows q, left) →
     rows_collection d.first c k.document.stand.rows steps ≡ content_flow left (row_is s d c k q at).content (behind_row q.row c)
-line_told s d c k q at steps left e =
+beside_agrees s d c k q at steps left e =
     ap (λ (o : Option (ℕ × List Step)). o >>= λ x. line_collection d.first c k.document.stand.rows x.0 x.1) e
-    ∙ (ap (λ (o : Option Seat). o >>= λ x. content_flow left x.row.content (behind_row (d.first + x.before) c)) (seat_is s d c k q at)
+    ∙ (ap (λ (o : Option RowLine). o >>= λ x. content_flow left x.row.content (behind_row (d.first + x.before) c)) (row_line_is s d c k q at)
     ∙ ap (λ (i : ℕ). content_flow left (row_is s d c k q at).content (behind_row i c)) (before_is s d c k q at))
 
 -- the line in whose head it is
@@ -158,7 +158,7 @@ no_head_at ls steps e = ap (λ (x : Option (NodePlace × List Step)). x >>= λ y
 part_collection_is : (k : ℕ) (c : Cut) (p : Part) (steps : List Step) → rows_collection k c p.rows steps ≡ part_collection k c steps p
 part_collection_is k c p steps = ap (λ (o : Option (ℕ × List Step)). o >>= λ x. line_collection k c p.rows x.0 x.1) (sym (head_found (lines_of p.rows) steps)) ∙ go (find_head steps (outline_of p))
   where
-    go : (o : Option (Found × List Step)) → (option_map numbered o >>= λ x. line_collection k c p.rows x.0 x.1) ≡ (o >>= λ x. line_collection k c p.rows (length (lines_before x.0.place)) x.1)
+    go : (o : Option (FoundLine × List Step)) → (option_map numbered o >>= λ x. line_collection k c p.rows x.0 x.1) ≡ (o >>= λ x. line_collection k c p.rows (length (lines_before x.0.place)) x.1)
     go None = refl
     go (Some x) = refl
 
@@ -170,8 +170,8 @@ collection_is c n steps = go (slice_get (document_parts c) n)
     go None = refl
     go (Some p) = part_collection_is (document_row n c) c p steps
 
-pub no_flow_told : (t : List ℕ) (all : Option CollPieces) → None ≡ all → TellsFlow t all None
-no_flow_told t all e = subst (λ (o : Option CollPieces). TellsFlow t o None) e tt
+pub no_flow_agrees : (t : List ℕ) (all : Option CollPieces) → None ≡ all → FlowAgrees t all None
+no_flow_agrees t all e = subst (λ (o : Option CollPieces). FlowAgrees t o None) e tt
 
 -- ---- a collection in a row alone
 
@@ -232,7 +232,7 @@ content_coll n (rows.Block space anchor block) ss w h e = absurd (cc)
 
 -- ---- the head that the code has read
 
-module _ (t : List ℕ) (s : Shown) (c : Cut) (n : ℕ) (d : Stretch) (cut : IsCut t c) (is : s ≡ shown c) (f : documents.Found s c n d) (q : Spot) (at : IsLine s d q) (steps left : List Step)
+module _ (t : List ℕ) (s : RowsView) (c : Cut) (n : ℕ) (d : Stretch) (cut : IsCut t c) (is : s ≡ rows_view c) (f : documents.Found s c n d) (q : Position) (at : IsLine s d q) (steps left : List Step)
     (leads : head_at steps (lines_of (found_in_cut t s c n d cut is f).0.document.stand.rows) ≡ Some (line_number d (found_in_cut t s c n d cut is f).0.document.stand.rows q, left)) where
   abbrev k : InCut s d c
   k = (found_in_cut t s c n d cut is f).0
@@ -248,22 +248,22 @@ module _ (t : List ℕ) (s : Shown) (c : Cut) (n : ℕ) (d : Stretch) (cut : IsC
       sym (collection_is c n steps)
       ∙ (ap (λ (o : Option Part). o >>= λ p. rows_collection (document_row n c) c p.rows steps) f.there
       ∙ ((λ i. rows_collection (sym f.first i) c (sym (found_in_cut t s c n d cut is f).1 i) steps)
-      ∙ (line_told s d c k q at steps left leads ∙ content_more left row.content (behind_row q.row c))))
+      ∙ (beside_agrees s d c k q at steps left leads ∙ content_more left row.content (behind_row q.row c))))
 
-  pub other_head : (total : ℕ) → None ≡ row_flow total row [] → TellsFlow t (flow_collection n steps c) None
-  other_head total e = no_flow_told t (flow_collection n steps c) (go alone (ap (λ (o : Option Placed). o >>= collection_along left) e ∙ row_along total row [] left) ∙ sym all_is)
+  pub other_head : (total : ℕ) → None ≡ row_flow total row [] → FlowAgrees t (flow_collection n steps c) None
+  other_head total e = no_flow_agrees t (flow_collection n steps c) (go alone (ap (λ (o : Option Placed). o >>= collection_along left) e ∙ row_along total row [] left) ∙ sym all_is)
     where
       go : (o : Option CollPieces) → None ≡ option_map (placed_collection total) o → None ≡ option_map (with_more (behind_row q.row c)) o
       go None e = refl
       go (Some w) e = absurd (cc)
 
-  pub head_tells : (x : FlowHead) → left ≡ map step_of x.left.now → t ≡ take x.before t ++ (x.text.now ++ behind_row q.row c) → x.before ≡ length (take x.before t) → x.text.now ≡ from_head (slices row) [] →
-      Some (view x.node.value) ≡ row_flow (length x.text.now) row [] → TellsFlow t (flow_collection n steps c) (Some x)
-  head_tells x own stands begins ends e =
-      subst (λ (o : Option CollPieces). TellsFlow t o (Some x)) (sym all_is)
+  pub head_agrees_at : (x : FlowHead) → left ≡ map step_of x.left.now → t ≡ take x.before t ++ (x.text.now ++ behind_row q.row c) → x.before ≡ length (take x.before t) → x.text.now ≡ from_head (slices row) [] →
+      Some (view x.node.value) ≡ row_flow (length x.text.now) row [] → FlowAgrees t (flow_collection n steps c) (Some x)
+  head_agrees_at x own stands begins ends e =
+      subst (λ (o : Option CollPieces). FlowAgrees t o (Some x)) (sym all_is)
       (go alone refl (ap (λ (ss : List Step). collection_along ss (view x.node.value)) (sym own) ∙ (ap (λ (o : Option Placed). o >>= collection_along left) e ∙ row_along (length x.text.now) row [] left)))
     where
-      go : (o : Option CollPieces) → alone ≡ o → told.collection_told x ≡ option_map (placed_collection (length x.text.now)) o → TellsFlow t (option_map (with_more (behind_row q.row c)) o) (Some x)
+      go : (o : Option CollPieces) → alone ≡ o → views.collection_view x ≡ option_map (placed_collection (length x.text.now)) o → FlowAgrees t (option_map (with_more (behind_row q.row c)) o) (Some x)
       go None there e = e
       go (Some w) there e =
           let valid = row_in c q.row true row cut.parts (row_in_cut s d c k q at) in

@@ -23,7 +23,7 @@ use Rattle.yq_walk.specs.Lines.{head_of}
 use Rattle.yq_inline.specs.Trees.{node_head}
 use Rattle.yq_lines.specs.Outline as outlines
 use Rattle.yq_lines.specs.Outline.{Mark, Line, level, Outline, end, row, flatten, IsEven, first_anchor, head_or, value}
-use Rattle.yq_lines.specs.Places.{Found, find}
+use Rattle.yq_lines.specs.Places.{FoundLine, find}
 use Rattle.yq_places.specs.PrintedLines.{line_front, print_lines}
 use Rattle.yq_places.specs.PathPieces.{BlockEntry, FlowEntry, flow_in, flow_under, flow_at, content_inline, line_inline, PrintedDocument}
 use Rattle.yq_places.proofs.PrintedLaws.{IsValid, IsWritten}
@@ -147,7 +147,7 @@ reach_anchored a s ss (tree.scalar b k t) = refl
 reach_anchored a s ss (tree.list b cs) = refl
 reach_anchored a s ss (tree.map b cs) = refl
 
-head_labels : (t : Step) (ts : List Step) (before : List ℕ) (c : Content) (rest : List ℕ) (f : Found) (h : tree.Node) → f.line.head ≡ Some h → head_of c ≡ Some h →
+head_labels : (t : Step) (ts : List Step) (before : List ℕ) (c : Content) (rest : List ℕ) (f : FoundLine) (h : tree.Node) → f.line.head ≡ Some h → head_of c ≡ Some h →
     labelled_from (t ∷ ts) (entry_of f.line f.under) ≡ option_map flow_label (content_inline before c rest >>= flow_at (t ∷ ts))
 head_labels t ts before (Nothing tail) rest f h head e = absurd (none-some _ e)
 head_labels t ts before (Block space anchor block) rest f h head e =
@@ -159,18 +159,18 @@ head_labels t ts before (Inline space node tail) rest f h head e =
     ∙ (sym (reach_anchored a.0 t ts h)
     ∙ (ap (reach t ts) (sym a.1) ∙ at_labels (t ∷ ts) (record { before = before ++ space; key = bare; node = node; behind = tail ++ rest }))))
 
-pub line_labels : (s : PrintedDocument) (t : Step) (ts : List Step) (e : BlockEntry) (f : Found) (h : tree.Node) → IsFound s e f → f.line.head ≡ Some h →
+pub line_labels : (s : PrintedDocument) (t : Step) (ts : List Step) (e : BlockEntry) (f : FoundLine) (h : tree.Node) → IsFound s e f → f.line.head ≡ Some h →
     labelled_from (t ∷ ts) (entry_of f.line f.under) ≡ option_map flow_label (line_inline e >>= flow_at (t ∷ ts))
 line_labels s t ts e f h found head =
-    head_labels t ts (e.before ++ (line_front e.line ++ e.line.mark)) e.line.content (print_lines e.under e.behind) f h head (sym found.told.0.head ∙ (ap (λ (l : Line). l.head) found.line ∙ head))
+    head_labels t ts (e.before ++ (line_front e.line ++ e.line.mark)) e.line.content (print_lines e.under e.behind) f h head (sym found.as_printed.0.head ∙ (ap (λ (l : Line). l.head) found.line ∙ head))
 
 -- steps go on in the head of a line that was found
-pub head_there : (ls : List Line) (y : Step) (ys : List Step) (t : Step) (ts : List Step) (f : Found) → find y ys (group ls) ≡ Some (f, t ∷ ts) → is_fine (group ls) ≡ true → (h : tree.Node) × (f.line.head ≡ Some h)
+pub head_there : (ls : List Line) (y : Step) (ys : List Step) (t : Step) (ts : List Step) (f : FoundLine) → find y ys (group ls) ≡ Some (f, t ∷ ts) → is_fine (group ls) ≡ true → (h : tree.Node) × (f.line.head ≡ Some h)
 head_there ls y ys t ts f is fine =
     some_head t ts f.line.mark f.line.head f.after (at (λ x. HasHead x.1 x.0.line.mark x.0.line.head) (find y ys (group ls)) (f, t ∷ ts) is (rest_head y ys (group ls))) (found_place ls y ys (t ∷ ts) f is fine).1.2
 
 -- An item in a line's head is at its path, and is valid.
-pub record IsItemAt (ss : List Step) (f : Found) (y : FlowEntry) : Type 0 where
+pub record IsItemAt (ss : List Step) (f : FoundLine) (y : FlowEntry) : Type 0 where
   pub labelled : labelled_from ss (entry_of f.line f.under) ≡ Some (flow_label y)
   pub valid : (depth : ℕ) × IsNode true (Some 0) depth y.node y.behind
 
@@ -181,9 +181,9 @@ content_valid t ts before (Block space anchor block) rest x y e at w = absurd (n
 content_valid t ts before (Inline space node tail) rest x y e at w =
     item_valid t ts (record { before = before ++ space; key = bare; node = node; behind = tail ++ rest }) y (ap (flow_at (t ∷ ts)) (same_Some _ _ e) ∙ at) w
 
-pub head_item_at : (s : PrintedDocument) (t : Step) (ts : List Step) (e : BlockEntry) (f : Found) (h : tree.Node) (x y : FlowEntry) → IsFound s e f → f.line.head ≡ Some h → line_inline e ≡ Some x →
+pub head_item_at : (s : PrintedDocument) (t : Step) (ts : List Step) (e : BlockEntry) (f : FoundLine) (h : tree.Node) (x y : FlowEntry) → IsFound s e f → f.line.head ≡ Some h → line_inline e ≡ Some x →
     flow_at (t ∷ ts) x ≡ Some y → IsItemAt (t ∷ ts) f y
 head_item_at s t ts e f h x y found head is at = record {
   labelled = line_labels s t ts e f h found head ∙ ap (option_map flow_label) (ap (λ o. o >>= flow_at (t ∷ ts)) is ∙ at);
-  valid = content_valid t ts (e.before ++ (line_front e.line ++ e.line.mark)) e.line.content (print_lines e.under e.behind) x y is at found.told.0.written;
+  valid = content_valid t ts (e.before ++ (line_front e.line ++ e.line.mark)) e.line.content (print_lines e.under e.behind) x y is at found.as_printed.0.written;
 }

@@ -16,10 +16,10 @@ use Rattle.yq_places.specs.EntryReading.{entry_within}
 use Rattle.yq_documents.specs.FlowReading.{kept, core, content_core, row_flow}
 use Rattle.yq_walk.specs.Lines.{tail_of, lines_of}
 use Rattle.yq_lines.specs.Outline.{Mark, Bare, Key, Dash, Line, Outline, end, row}
-use Rattle.yq_lines.specs.Places.{here, Found, find_row, inside, bare_or, in_head, find}
-use Rattle.yq_documents.specs.Seats.{Seat, seat}
-use Rattle.yq_lines.specs.Spots.{is_bare}
-use Rattle.yq_places.proofs.SeatLineLaws.{Tells, seat_line}
+use Rattle.yq_lines.specs.Places.{here, FoundLine, find_row, inside, bare_or, in_head, find}
+use Rattle.yq_documents.specs.LinesInRows.{RowLine, row_line}
+use Rattle.yq_lines.specs.Positions.{is_bare}
+use Rattle.yq_places.proofs.DashLineLaws.{OnDashLine, row_line_found}
 use Rattle.yq_lines.proofs.Values.{If}
 
 -- a line in whose head steps may go on: a node itself, or a line that has a head
@@ -31,7 +31,7 @@ abbrev pub TakesLeft : Line → List Step → Type 0
 TakesLeft l [] = Unit {0}
 TakesLeft l (s ∷ ss) = TakesSteps l
 
-abbrev pub Takes : Found × List Step → Type 0
+abbrev pub Takes : FoundLine × List Step → Type 0
 Takes x = TakesLeft x.0.line x.1
 
 -- where a path leads, the steps that are left go on in the line's head
@@ -39,7 +39,7 @@ pub takes_left : (s : Step) (ss : List Step) (o : Outline) → If (find s ss o) 
 takes_left s ss end = tt
 takes_left s [] (row k v a) = go k.mark refl (find_row s (row k v a))
   where
-    go : (m : Mark) → k.mark ≡ m → (r : Option Found) → If (bare_or m (Some (record { place = here; line = k; under = v; after = a }, s ∷ [])) (option_map (λ f. (f, [])) r)) Takes
+    go : (m : Mark) → k.mark ≡ m → (r : Option FoundLine) → If (bare_or m (Some (record { place = here; line = k; under = v; after = a }, s ∷ [])) (option_map (λ f. (f, [])) r)) Takes
     go Bare e r = inl (ap is_bare e)
     go (Key j) e None = tt
     go (Key j) e (Some f) = tt
@@ -47,16 +47,16 @@ takes_left s [] (row k v a) = go k.mark refl (find_row s (row k v a))
     go Dash e (Some f) = tt
 takes_left s (t ∷ ts) (row k v a) = go (λ u. takes_left t ts u) k.mark refl (find_row s (row k v a))
   where
-    deep : (f : Found) (h : Option tree.Node) → f.line.head ≡ h → (q : Option (Found × List Step)) → If q Takes → If (in_head h (Some (f, t ∷ ts)) (option_map (λ x. (inside f x.0, x.1)) q)) Takes
+    deep : (f : FoundLine) (h : Option tree.Node) → f.line.head ≡ h → (q : Option (FoundLine × List Step)) → If q Takes → If (in_head h (Some (f, t ∷ ts)) (option_map (λ x. (inside f x.0, x.1)) q)) Takes
     deep f (Some n) e q h = inr (ap is_some e)
     deep f None e None h = tt
     deep f None e (Some x) h = h
 
-    found : ((u : Outline) → If (find t ts u) Takes) → (r : Option Found) → If (option_and_then (λ f. in_head f.line.head (Some (f, t ∷ ts)) (option_map (λ x. (inside f x.0, x.1)) (find t ts f.under))) r) Takes
+    found : ((u : Outline) → If (find t ts u) Takes) → (r : Option FoundLine) → If (option_and_then (λ f. in_head f.line.head (Some (f, t ∷ ts)) (option_map (λ x. (inside f x.0, x.1)) (find t ts f.under))) r) Takes
     found ih None = tt
     found ih (Some f) = deep f f.line.head refl (find t ts f.under) (ih f.under)
 
-    go : ((u : Outline) → If (find t ts u) Takes) → (m : Mark) → k.mark ≡ m → (r : Option Found) →
+    go : ((u : Outline) → If (find t ts u) Takes) → (m : Mark) → k.mark ≡ m → (r : Option FoundLine) →
         If (bare_or m (Some (record { place = here; line = k; under = v; after = a }, s ∷ (t ∷ ts)))
         (option_and_then (λ f. in_head f.line.head (Some (f, t ∷ ts)) (option_map (λ x. (inside f x.0, x.1)) (find t ts f.under))) r)) Takes
     go ih Bare e r = inl (ap is_bare e)
@@ -64,19 +64,19 @@ takes_left s (t ∷ ts) (row k v a) = go (λ u. takes_left t ts u) k.mark refl (
     go ih Dash e r = found ih r
 
 -- line n of rows is that of the mark of its row
-abbrev pub MarkSeat : List Row → ℕ → Type 0
-MarkSeat rs n = (q : Seat) × (seat n rs ≡ Some q) × (q.line ≡ length q.row.dashes)
+abbrev pub MarkRowLine : List Row → ℕ → Type 0
+MarkRowLine rs n = (q : RowLine) × (row_line n rs ≡ Some q) × (q.line ≡ length q.row.dashes)
 
 dash_takes_none : (l : Line) → (l.mark ≡ Dash) × (l.head ≡ None) → TakesSteps l → ⊥
 dash_takes_none l e (inl bare) = false≢true (sym (ap is_bare e.0) ∙ bare)
 dash_takes_none l e (inr head) = false≢true (sym (ap is_some e.1) ∙ head)
 
-pub mark_seat : (rs : List Row) (n : ℕ) (l : Line) → slice_get (lines_of rs) n ≡ Some l → TakesSteps l → MarkSeat rs n
-mark_seat rs n l e takes = let q = seat_line rs n l e in (q.0, q.1, go q.0 q.2 (cases_lt q.0.line (length q.0.row.dashes)))
+pub mark_row_line : (rs : List Row) (n : ℕ) (l : Line) → slice_get (lines_of rs) n ≡ Some l → TakesSteps l → MarkRowLine rs n
+mark_row_line rs n l e takes = let q = row_line_found rs n l e in (q.0, q.1, go q.0 q.2 (cases_lt q.0.line (length q.0.row.dashes)))
   where
-    go : (s : Seat) → Tells s l → (s.line < length s.row.dashes) ⊎ (length s.row.dashes ≤ s.line) → s.line ≡ length s.row.dashes
-    go s told (inl less) = absurd (dash_takes_none l (told.dash less) takes)
-    go s told (inr more) = omega (arith, more, told.within)
+    go : (s : RowLine) → OnDashLine s l → (s.line < length s.row.dashes) ⊎ (length s.row.dashes ≤ s.line) → s.line ≡ length s.row.dashes
+    go s agrees (inl less) = absurd (dash_takes_none l (agrees.dash less) takes)
+    go s agrees (inr more) = omega (arith, more, agrees.within)
 
 -- the items and entries of a node are those behind its anchor
 core_parts : (total : ℕ) (node : Node) (rest : List ℕ) → parts_of (locate total (core node) rest) ≡ parts_of (locate total node rest)
@@ -110,8 +110,8 @@ row_entry total r rest t ts =
     ∙ ap (λ (ps : Parts). option_and_then (placed_entry_at ts) (part_at t ps)) (core_parts total (inline_node r.content) (tail_of r.content ++ rest)))
 
 -- what is told of a row's alias or flow collection tells where steps lead in it
-pub flow_told : (k : ℕ) (c : Cut) (rs : List Row) (n : ℕ) (t : Step) (ts : List Step) (q : Seat) → seat n rs ≡ Some q →
+pub flow_agrees : (k : ℕ) (c : Cut) (rs : List Row) (n : ℕ) (t : Step) (ts : List Step) (q : RowLine) → row_line n rs ≡ Some q →
     entry_within (t ∷ ts) (row_flow (length (cut_text c)) q.row (behind_row (k + q.before) c)) ≡ flow_entry k c rs n (t ∷ ts)
-flow_told k c rs n t ts q is =
+flow_agrees k c rs n t ts q is =
     row_entry (length (cut_text c)) q.row (behind_row (k + q.before) c) t ts
-    ∙ sym (ap (λ (o : Option Seat). o >>= λ s. placed_entry_at (t ∷ ts) (None, placed_inline (k + s.before) s.row c)) is)
+    ∙ sym (ap (λ (o : Option RowLine). o >>= λ s. placed_entry_at (t ∷ ts) (None, placed_inline (k + s.before) s.row c)) is)

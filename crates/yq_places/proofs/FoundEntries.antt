@@ -9,7 +9,7 @@ use Rattle.yq_scalar.specs.Paths.{Step}
 use Rattle.yq_scalar.proofs.Bools.{bind_some}
 use Rattle.yq_lines.specs.Group.{group}
 use Rattle.yq_lines.specs.Outline.{Line, flatten}
-use Rattle.yq_lines.specs.Places.{lines_before, lines_after, Found, find}
+use Rattle.yq_lines.specs.Places.{lines_before, lines_after, FoundLine, find}
 use Rattle.yq_places.proofs.FoundLines.{middle}
 use Rattle.yq_places.proofs.RowPathLaws.{found_lines}
 use Rattle.yq_places.specs.PrintedLines.{PrintedLine, print_lines, line_in}
@@ -26,18 +26,18 @@ pub record IsIn (s : PrintedDocument) (before : List ℕ) (ls : List PrintedLine
   pub stop : behind ≡ print_lines below s.behind
 
 -- An entry of a document is that of the line which was found.
-pub record IsFound (s : PrintedDocument) (e : BlockEntry) (f : Found) : Type 0 where
+pub record IsFound (s : PrintedDocument) (e : BlockEntry) (f : FoundLine) : Type 0 where
   pub inside : IsIn s e.before (e.line ∷ e.under) e.behind
   pub line : e.line.line ≡ f.line
   pub lines : map line_in e.under ≡ flatten f.under
-  pub told : ArePrinted (e.line ∷ e.under) e.behind
+  pub as_printed : ArePrinted (e.line ∷ e.under) e.behind
 
 pub drop_line : (xs ys : List Line) (l : Line) → drop (suc (length xs)) (xs ++ (l ∷ ys)) ≡ ys
 drop_line [] ys l = refl
 drop_line (x ∷ xs) ys l = drop_line xs ys l
 
-pub entry_found : (s : PrintedDocument) (y : Step) (ys rest : List Step) (f : Found) (e : BlockEntry) → find y ys (group (map line_in s.lines)) ≡ Some (f, rest) → ArePrinted s.lines s.behind → found_entry s f ≡ Some e → IsFound s e f
-entry_found s y ys rest f e is told at =
+pub entry_found : (s : PrintedDocument) (y : Step) (ys rest : List Step) (f : FoundLine) (e : BlockEntry) → find y ys (group (map line_in s.lines)) ≡ Some (f, rest) → ArePrinted s.lines s.behind → found_entry s f ≡ Some e → IsFound s e f
+entry_found s y ys rest f e is as_printed at =
     let n : ℕ = length (lines_before f.place) in
     let m : ℕ = length (flatten f.under) in
     let l = bind_some (slice_get s.lines n) at in
@@ -49,12 +49,12 @@ entry_found s y ys rest f e is told at =
     sym (take-map line_in m more)
     ∙ (ap (take m) (sym (drop-map line_in (suc n) s.lines) ∙ (ap (drop (suc n)) found ∙ drop_line (lines_before f.place) (flatten f.under ++ back) f.line)) ∙ take-append_seam (flatten f.under) back) in
     let split : s.lines ≡ take n s.lines ++ (l.0 ∷ (take m more ++ drop m more)) = line_split s.lines n l.0 l.1 ∙ ap (λ x. take n s.lines ++ (l.0 ∷ x)) (sym (take-append-drop m more)) in
-    let all = (printed_split (take n s.lines) (l.0 ∷ (take m more ++ drop m more)) s.behind (subst (λ x. ArePrinted x s.behind) split told)).1 in
+    let all = (printed_split (take n s.lines) (l.0 ∷ (take m more ++ drop m more)) s.behind (subst (λ x. ArePrinted x s.behind) split as_printed)).1 in
     subst (λ (z : BlockEntry). IsFound s z f) (same_Some _ _ l.2) (record {
       inside = record { above = take n s.lines; below = drop m more; lines = split; start = refl; stop = refl };
       line = same_Some _ _ there;
       lines = under;
-      told = (printed_split (l.0 ∷ take m more) (drop m more) s.behind all).0;
+      as_printed = (printed_split (l.0 ∷ take m more) (drop m more) s.behind all).0;
     })
 
 -- a line that was found is there
@@ -67,20 +67,20 @@ within_some [] n h = absurd (omega (arith, h))
 within_some (x ∷ xs) zero h = (x, refl)
 within_some (x ∷ xs) (suc n) h = within_some xs n (omega (arith, h))
 
-pub line_there : (s : PrintedDocument) (y : Step) (ys rest : List Step) (f : Found) → find y ys (group (map line_in s.lines)) ≡ Some (f, rest) → (l : PrintedLine) × (slice_get s.lines (length (lines_before f.place)) ≡ Some l)
+pub line_there : (s : PrintedDocument) (y : Step) (ys rest : List Step) (f : FoundLine) → find y ys (group (map line_in s.lines)) ≡ Some (f, rest) → (l : PrintedLine) × (slice_get s.lines (length (lines_before f.place)) ≡ Some l)
 line_there s y ys rest f is =
     let found : map line_in s.lines ≡ lines_before f.place ++ (f.line ∷ (flatten f.under ++ (flatten f.after ++ lines_after f.place))) = found_lines (map line_in s.lines) y ys rest f is in
     within_some s.lines (length (lines_before f.place)) (omega (arith, lines_count s.lines, ap length found, length-append (lines_before f.place) (f.line ∷ (flatten f.under ++ (flatten f.after ++ lines_after f.place)))))
 
 -- the entry of a line
-abbrev pub entry_on : PrintedDocument → Found → PrintedLine → BlockEntry
+abbrev pub entry_on : PrintedDocument → FoundLine → PrintedLine → BlockEntry
 entry_on s f l =
     let n = length (lines_before f.place) in
     let m = length (flatten f.under) in
     record { before = s.before ++ print_lines (take n s.lines) []; line = l; under = take m (drop (suc n) s.lines); behind = print_lines (drop m (drop (suc n) s.lines)) s.behind }
 
-pub entry_is : (s : PrintedDocument) (f : Found) (l : PrintedLine) → slice_get s.lines (length (lines_before f.place)) ≡ Some l → found_entry s f ≡ Some (entry_on s f l)
+pub entry_is : (s : PrintedDocument) (f : FoundLine) (l : PrintedLine) → slice_get s.lines (length (lines_before f.place)) ≡ Some l → found_entry s f ≡ Some (entry_on s f l)
 entry_is s f l e = ap (λ (o : Option PrintedLine). o >>= λ x. Some (entry_on s f x)) e
 
-pub entry_there : (s : PrintedDocument) (y : Step) (ys rest : List Step) (f : Found) → find y ys (group (map line_in s.lines)) ≡ Some (f, rest) → (e : BlockEntry) × (found_entry s f ≡ Some e)
+pub entry_there : (s : PrintedDocument) (y : Step) (ys rest : List Step) (f : FoundLine) → find y ys (group (map line_in s.lines)) ≡ Some (f, rest) → (e : BlockEntry) × (found_entry s f ≡ Some e)
 entry_there s y ys rest f is = let l = line_there s y ys rest f is in (entry_on s f l.0, entry_is s f l.0 l.1)

@@ -8,24 +8,24 @@ use Rattle.yq_scalar.specs.Piece.{deeper}
 use Rattle.yq_scalar.specs.Text.{joined}
 use Rattle.yq_inline.specs.Inline.{depth_limit}
 use Rattle.yq_inline.specs.Nodes.{Node, empty, alias, scalar, coll, anchored, node_text, items_text, takes_anchor, IsNode}
-use Rattle.yq_inline.specs.Scalars.{IsScalar, begins_scalar}
+use Rattle.yq_inline.specs.Scalars.{IsScalarAt, begins_scalar}
 use Rattle.yq_inline.proofs.PieceLaws.{front_not, scalar_begins}
 use Rattle.yq_rows.specs.Exchange.{behind_row}
 use Rattle.yq_rows.specs.Grammar.{IsContent, IsCut}
 use Rattle.yq_rows.specs.Rows.{Content, Nothing, Inline, Block, Row, parent_indent, Cut}
-use Rattle.yq_rows.specs.View.{Slices, slices, anchor_cut, content_cut, rows_of, Shown, shown}
+use Rattle.yq_rows.specs.View.{Slices, slices, anchor_cut, content_cut, rows_of, RowsView, rows_view}
 use Rattle.yq_rows.proofs.PlaceLaws.{row_in}
 use Rattle.yq_places.specs.EntryReading.{ending, head_end, head_extent, through_row}
 use Rattle.yq_places.specs.EntryReading.{head_finish}
-use Rattle.yq_walk.specs.Extents.{row_start, front_length, head_place, IsShown}
-use Rattle.yq_documents.specs.RowReading.{begins_block}
+use Rattle.yq_walk.specs.Extents.{row_start, front_length, head_place, IsRowsView}
+use Rattle.yq_documents.specs.RowReading.{is_block_head}
 use Rattle.yq_documents.proofs.HeadLaws.{block_marks}
-use Rattle.yq_walk.proofs.LengthLaws.{row_fits, shown_small}
+use Rattle.yq_walk.proofs.LengthLaws.{row_fits, view_small}
 use Rattle.yq_places.proofs.RowStarts.{head_is, row_ends}
 use Rattle.yq_places.proofs.SpanLaws.{get_row}
 
 -- no inline node begins as a block scalar does
-scalar_begins_none : (n : ℤ) (p rest : List ℕ) → IsScalar false (Some (deeper n)) p rest → begins_block p ≡ false
+scalar_begins_none : (n : ℤ) (p rest : List ℕ) → IsScalarAt false (Some (deeper n)) p rest → is_block_head p ≡ false
 scalar_begins_none n [] rest h = refl
 scalar_begins_none n (b ∷ bs) rest h =
     let begins = scalar_begins false (Some (deeper n)) (b ∷ bs) rest h in
@@ -34,28 +34,28 @@ scalar_begins_none n (b ∷ bs) rest h =
     rw (bar, more) refl
 
 abbrev Opens : ℕ → Type 0
-Opens b = (t : List ℕ) → begins_block (b ∷ t) ≡ false
+Opens b = (t : List ℕ) → is_block_head (b ∷ t) ≡ false
 
 opens : (k : ℕ) → Opens (cond (eqb k 125) 123 91)
 opens k = cond_both (eqb k 125) 123 91 Opens (λ _ t. refl) (λ _ t. refl)
 
-behind_anchor : (n : ℤ) (node : Node) (rest : List ℕ) → takes_anchor node ≡ true → IsNode false (Some (deeper n)) depth_limit node rest → begins_block (node_text node []) ≡ false
+behind_anchor : (n : ℤ) (node : Node) (rest : List ℕ) → takes_anchor node ≡ true → IsNode false (Some (deeper n)) depth_limit node rest → is_block_head (node_text node []) ≡ false
 unfolding node_text IsNode
 behind_anchor n empty rest a h = refl
 behind_anchor n (alias m) rest a h = refl
-behind_anchor n (scalar p) rest a h = ap begins_block (append-nil p) ∙ scalar_begins_none n p rest h
+behind_anchor n (scalar p) rest a h = ap is_block_head (append-nil p) ∙ scalar_begins_none n p rest h
 behind_anchor n (coll k g is) rest a h = opens k (g ++ items_text k is [])
 behind_anchor n (anchored m g node) rest a h = absurd (false≢true a)
 
-pub node_begins : (n : ℤ) (node : Node) (rest : List ℕ) → IsNode false (Some (deeper n)) depth_limit node rest → begins_block (anchor_cut node).2 ≡ false
+pub node_begins : (n : ℤ) (node : Node) (rest : List ℕ) → IsNode false (Some (deeper n)) depth_limit node rest → is_block_head (anchor_cut node).2 ≡ false
 unfolding node_text IsNode
 node_begins n empty rest h = refl
 node_begins n (alias m) rest h = refl
-node_begins n (scalar p) rest h = ap begins_block (append-nil p) ∙ scalar_begins_none n p rest h
+node_begins n (scalar p) rest h = ap is_block_head (append-nil p) ∙ scalar_begins_none n p rest h
 node_begins n (coll k g is) rest h = opens k (g ++ items_text k is [])
 node_begins n (anchored m g node) rest h = behind_anchor n node rest h.3 h.4
 
-content_ends : (n : ℤ) (end : ℕ) (x : Content) (rest : List ℕ) → IsContent n x rest → cond (begins_block (content_cut x).3) (end + length (content_cut x).4 + length (content_cut x).5) end ≡ head_end end x
+content_ends : (n : ℤ) (end : ℕ) (x : Content) (rest : List ℕ) → IsContent n x rest → cond (is_block_head (content_cut x).3) (end + length (content_cut x).4 + length (content_cut x).5) end ≡ head_end end x
 content_ends n end (Nothing tail) rest h = refl
 content_ends n end (Inline space node tail) rest h = cond-false _ _ _ (node_begins n node (tail ++ rest) h.1.valid)
 content_ends n end (Block space anchor block) rest h = ap (λ (b : Bool). cond b (end + length block.tail + length (joined block.raw)) end) (block_marks block.style block.indicators)
@@ -64,25 +64,25 @@ head_ends : (t : List ℕ) (c : Cut) (i : ℕ) (r : Row) (end : ℕ) → IsCut t
 head_ends t c i r end cut is = content_ends (parent_indent r) end r.content (behind_row i c) (row_in c i true r cut.parts is).row.content
 
 -- what stands behind a head is within the text
-pub head_fits : (s : Shown) (i : ℕ) (x : Slices) (place : ℕ × ℕ) → IsShown s → slice_get s.rows i ≡ Some x → ((c : Cut) → s ≡ shown c → (r : Row) → slice_get (rows_of c) i ≡ Some r → place ≡ head_place i c r) →
+pub head_fits : (s : RowsView) (i : ℕ) (x : Slices) (place : ℕ × ℕ) → IsRowsView s → slice_get s.rows i ≡ Some x → ((c : Cut) → s ≡ rows_view c → (r : Row) → slice_get (rows_of c) i ≡ Some r → place ≡ head_place i c r) →
     place.1 + (length x.tail + length x.raw) ≤ text_limit
 head_fits s i x place h there at =
-    let got = get_row (rows_of h.cut) i x (sym (slice_get-map slices (rows_of h.cut) i) ∙ (sym (ap (λ (y : Shown). slice_get y.rows i) h.is) ∙ there)) in
-    let end : place.1 ≡ row_start i (shown h.cut) + front_length (slices got.0) + length (slices got.0).head = ap (λ (p : ℕ × ℕ). p.1) (at h.cut h.is got.0 got.1 ∙ head_is h.cut i got.0 got.1) in
-    omega (arith, end, ap (row_start i) h.is, ap front_length got.2, ap (λ (y : Slices). length y.head) got.2, row_fits s i x there, shown_small s h)
+    let got = get_row (rows_of h.cut) i x (sym (slice_get-map slices (rows_of h.cut) i) ∙ (sym (ap (λ (y : RowsView). slice_get y.rows i) h.is) ∙ there)) in
+    let end : place.1 ≡ row_start i (rows_view h.cut) + front_length (slices got.0) + length (slices got.0).head = ap (λ (p : ℕ × ℕ). p.1) (at h.cut h.is got.0 got.1 ∙ head_is h.cut i got.0 got.1) in
+    omega (arith, end, ap (row_start i) h.is, ap front_length got.2, ap (λ (y : Slices). length y.head) got.2, row_fits s i x there, view_small s h)
 
 -- the place of what the head of a row spells
-pub head_told : (t : List ℕ) (c : Cut) (s : Shown) (i : ℕ) (x : Slices) (r : Row) (place : ℕ × ℕ) (end : ℕ) → IsCut t c → s ≡ shown c → slice_get s.rows i ≡ Some x → slice_get (rows_of c) i ≡ Some r → place ≡ head_place i c r → end ≡ head_finish place.1 x →
+pub head_agrees : (t : List ℕ) (c : Cut) (s : RowsView) (i : ℕ) (x : Slices) (r : Row) (place : ℕ × ℕ) (end : ℕ) → IsCut t c → s ≡ rows_view c → slice_get s.rows i ≡ Some x → slice_get (rows_of c) i ≡ Some r → place ≡ head_place i c r → end ≡ head_finish place.1 x →
     ◌≡◌ {A = ℕ × ℕ} (place.0, end) (head_extent i r c)
-head_told t c s i x r place end cut is there row at e =
-    let pieces : slice_get s.rows i ≡ Some (slices r) = ap (λ (y : Shown). slice_get y.rows i) is ∙ (slice_get-map slices (rows_of c) i ∙ ap (option_map slices) row) in
+head_agrees t c s i x r place end cut is there row at e =
+    let pieces : slice_get s.rows i ≡ Some (slices r) = ap (λ (y : RowsView). slice_get y.rows i) is ∙ (slice_get-map slices (rows_of c) i ∙ ap (option_map slices) row) in
     let same : x ≡ slices r = same_Some _ _ (sym there ∙ pieces) in
     let finish : end ≡ head_end (head_place i c r).1 r.content = e ∙ ((λ j. head_finish (at j).1 (same j)) ∙ head_ends t c i r (head_place i c r).1 cut row) in
     λ j. ((at j).0, finish j)
 
 -- the end of a row
-pub end_told : (c : Cut) (s : Shown) (i : ℕ) (x : Slices) (r : Row) (place : ℕ × ℕ) (n : ℕ) → s ≡ shown c → slice_get s.rows i ≡ Some x → slice_get (rows_of c) i ≡ Some r → place ≡ head_place i c r → n ≡ length (ending x) → place.1 + n ≡ length (through_row i r c)
-end_told c s i x r place n is there row at e =
-    let pieces : slice_get s.rows i ≡ Some (slices r) = ap (λ (y : Shown). slice_get y.rows i) is ∙ (slice_get-map slices (rows_of c) i ∙ ap (option_map slices) row) in
+pub end_agrees : (c : Cut) (s : RowsView) (i : ℕ) (x : Slices) (r : Row) (place : ℕ × ℕ) (n : ℕ) → s ≡ rows_view c → slice_get s.rows i ≡ Some x → slice_get (rows_of c) i ≡ Some r → place ≡ head_place i c r → n ≡ length (ending x) → place.1 + n ≡ length (through_row i r c)
+end_agrees c s i x r place n is there row at e =
+    let pieces : slice_get s.rows i ≡ Some (slices r) = ap (λ (y : RowsView). slice_get y.rows i) is ∙ (slice_get-map slices (rows_of c) i ∙ ap (option_map slices) row) in
     let same : x ≡ slices r = same_Some _ _ (sym there ∙ pieces) in
     omega (arith, ap (λ (p : ℕ × ℕ). p.1) at, e, ap (λ (y : Slices). length (ending y)) same, row_ends c i r row)

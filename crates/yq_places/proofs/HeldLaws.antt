@@ -2,13 +2,13 @@
 use Rattle.std.proofs.Common.{◌≡◌, ◌≤◌, ℕ, List, length, true, sym, subst}
 use Rattle.yq_scalar.specs.Characters.{text_limit}
 use Rattle.yq_rows.specs.Grammar.{IsCut}
-use Rattle.yq_rows.specs.View.{Shown, shown}
-use Rattle.yq_walk.specs.Extents.{IsShown}
+use Rattle.yq_rows.specs.View.{RowsView, rows_view}
+use Rattle.yq_walk.specs.Extents.{IsRowsView}
 use Rattle.yq_places.specs.RowWalk.{HasCut}
 use Rattle.yq_documents.specs.Reading.{all_documents, cut_of}
 
-pub cut_shown : (t : List ℕ) (s : Shown) → HasCut t s → IsShown s
-cut_shown t s h = record { cut = cut_of t; is = h.rows; size = subst (λ (x : List ℕ). length x ≤ text_limit) h.cut.text h.cut.size }
+pub cut_view : (t : List ℕ) (s : RowsView) → HasCut t s → IsRowsView s
+cut_view t s h = record { cut = cut_of t; is = h.rows; size = subst (λ (x : List ℕ). length x ≤ text_limit) h.cut.text h.cut.size }
 
-pub cut_told : (t u : List ℕ) (s : Shown) → t ≡ u → IsCut u (cut_of u) → s ≡ shown (cut_of u) → all_documents (cut_of u) ≡ true → HasCut t s
-cut_told t u s e cut rows sound = subst (λ (x : List ℕ). HasCut x s) (sym e) (record { cut = cut; rows = rows; sound = sound })
+pub cut_agrees : (t u : List ℕ) (s : RowsView) → t ≡ u → IsCut u (cut_of u) → s ≡ rows_view (cut_of u) → all_documents (cut_of u) ≡ true → HasCut t s
+cut_agrees t u s e cut rows sound = subst (λ (x : List ℕ). HasCut x s) (sym e) (record { cut = cut; rows = rows; sound = sound })

@@ -12,14 +12,14 @@ use Rattle.yq_inline.specs.Nodes.{empty, alias, scalar, coll, anchored}
 use Rattle.yq_rows.specs.Exchange.{row_front}
 use Rattle.yq_rows.specs.Offsets.{row_length}
 use Rattle.yq_rows.specs.Rows.{Content, Nothing, Inline, Block, Row, behind_columns, dashes_text, mark_column, print_row, rows_text, Cut}
-use Rattle.yq_rows.specs.View.{Slices, slices, content_cut, last_dash, rows_of, Shown, shown}
+use Rattle.yq_rows.specs.View.{Slices, slices, content_cut, last_dash, rows_of, RowsView, rows_view}
 use Rattle.yq_places.specs.CommentPlaces.{LineEnd, end_before, line_text}
 use Rattle.yq_walk.specs.Extents.{head_place, row_start}
 use Rattle.yq_places.specs.LineReading.{CutsLines, LinesIn, lines_between, lines_of}
 use Rattle.yq_places.specs.PrintedLines.{last_break}
 use Rattle.yq_walk.specs.RowWalk.{line_column}
 use Rattle.yq_places.specs.RowPieces.{anchor_before, space_before}
-use Rattle.yq_places.specs.Standings.{Held, PlacedEntry, before_entry, behind_entry, held}
+use Rattle.yq_places.specs.Standings.{Held, RowsOfEntry, before_entry, behind_entry, held}
 use Rattle.yq_places.specs.StandingReading.{AreRowsOf}
 use Rattle.yq_places.proofs.EntryRowLaws.{head_ends, line_boundary_at, line_cut, pieces_at, stop_boundary, stop_is, through_is}
 use Rattle.yq_walk.proofs.ToDashes.{last_is, to_dash}
@@ -60,8 +60,8 @@ line_is r =
     let s : Slices = slices r in
     ap (λ (x : List ℕ). row_front r ++ x) (head_front r.content s s.head refl refl refl) ∙ sym (append_assoc (row_front r) (anchor_before s) (space_before s ++ s.head))
 
-module _ (t : List ℕ) (s : Shown) (e : PlacedEntry) (row end : ℕ) (h : AreRowsOf t s e row end) (u : IsUtf8 t) (place : ℕ × ℕ) (told : (c : Cut) → s ≡ shown c → (r : Row) → slice_get (rows_of c) row ≡ Some r → place ≡ head_place row c r)
-    (y : Slices) (there : slice_get s.rows row ≡ Some y) (stop : ℕ) (stop_told : (x : Slices) → slice_get s.rows (end - 1) ≡ Some x → stop ≡ row_start (end - 1) s + row_length x) where
+module _ (t : List ℕ) (s : RowsView) (e : RowsOfEntry) (row end : ℕ) (h : AreRowsOf t s e row end) (u : IsUtf8 t) (place : ℕ × ℕ) (agrees : (c : Cut) → s ≡ rows_view c → (r : Row) → slice_get (rows_of c) row ≡ Some r → place ≡ head_place row c r)
+    (y : Slices) (there : slice_get s.rows row ≡ Some y) (stop : ℕ) (stop_agrees : (x : Slices) → slice_get s.rows (end - 1) ≡ Some x → stop ≡ row_start (end - 1) s + row_length x) where
   same : slices e.row ≡ y
   same = same_Some _ _ (sym (pieces_at t s e row end h) ∙ there)
 
@@ -76,13 +76,13 @@ module _ (t : List ℕ) (s : Shown) (e : PlacedEntry) (row end : ℕ) (h : AreRo
       ap (λ (z : List ℕ). (before_entry e ++ z) ++ x.tail) (line_is e.row) ∙ parts
 
   from_is : place.1 + length y.tail ≡ length ((before_entry e ++ line_text e.row) ++ (slices e.row).tail)
-  from_is = omega (arith, head_ends t s e row end h place told, ap (λ (z : Slices). length z.tail) same, length-append (before_entry e ++ line_text e.row) (slices e.row).tail)
+  from_is = omega (arith, head_ends t s e row end h place agrees, ap (λ (z : Slices). length z.tail) same, length-append (before_entry e ++ line_text e.row) (slices e.row).tail)
 
   pub lower_cut : (text : List ℕ) → text ≡ t → (tail : List ℕ) → tail ≡ y.tail → CutsLines text (place.1 + length tail) stop
   lower_cut text is tail tail_is =
       let l : List ℕ = (before_entry e ++ line_text e.row) ++ (slices e.row).tail in
       let from : place.1 + length tail ≡ length l = omega (arith, from_is, ap length tail_is) in
-      let stops : stop ≡ length (before_entry e ++ print_row e.row (rows_text e.under [])) = stop_is t s e row end h stop stop_told in
+      let stops : stop ≡ length (before_entry e ++ print_row e.row (rows_text e.under [])) = stop_is t s e row end h stop stop_agrees in
       record {
         before = l;
         own = (slices e.row).raw ++ rows_text e.under [];
@@ -110,7 +110,7 @@ module _ (t : List ℕ) (s : Shown) (e : PlacedEntry) (row end : ℕ) (h : AreRo
       let x : Slices = slices e.row in
       omega (
         arith,
-        head_ends t s e row end h place told,
+        head_ends t s e row end h place agrees,
         ap length a,
         ap length b,
         ap (λ (z : Slices). length (space_before z)) same,
@@ -129,7 +129,7 @@ module _ (t : List ℕ) (s : Shown) (e : PlacedEntry) (row end : ℕ) (h : AreRo
       let x : Slices = slices e.row in
       omega (
         arith,
-        head_ends t s e row end h place told,
+        head_ends t s e row end h place agrees,
         ap length a,
         ap length b,
         ap (λ (z : Slices). length (space_before z)) same,

@@ -4,19 +4,19 @@ use Rattle.std.proofs.lemmas.List.{take-append-le}
 use Rattle.std.proofs.lemmas.Option.{same_Some}
 use Rattle.std.specs.List.{slice_get, sum_by}
 use Rattle.std.specs.Prelude.{IfSome}
-use Rattle.yq_rows.specs.Items.{Item, row_item, end_item, items_of, rows_in_items, bounds_in_items, shown_items}
+use Rattle.yq_rows.specs.Items.{Item, row_item, end_item, items_of, rows_in_items, bounds_in_items, view_of_items}
 use Rattle.yq_rows.specs.Kept.{near}
 use Rattle.yq_rows.specs.Rows.{Cut}
 use Rattle.yq_rows.specs.Offsets.{row_length}
 use Rattle.yq_rows.specs.RowStarts.{passed_length, row_start}
 use Rattle.yq_rows.specs.Touched.{TouchesOnly, item_text, in_front}
-use Rattle.yq_rows.specs.View.{Slices, slices, Shown, shown}
+use Rattle.yq_rows.specs.View.{Slices, slices, RowsView, rows_view}
 use Rattle.yq_rows.specs.declared.offsets.Offsets as declared
-use Rattle.yq_rows.proofs.ItemLaws.{items_shown}
+use Rattle.yq_rows.proofs.ItemLaws.{items_view_is}
 use Rattle.yq_rows.proofs.NearLaws.{near_at}
 use Rattle.yq_walk.specs.RowWalk.{ArePassed, IsKnown}
 use Rattle.yq_places.specs.RowWalk.{StaysKnown}
-use Rattle.yq_walk.specs.declared.spot.KnownItem.{KnownItem}
+use Rattle.yq_walk.specs.declared.position.KnownItem.{KnownItem}
 use Rattle.yq_walk.proofs.KnownLaws.{one_there}
 
 begins_behind : (xs : List Item) (m i : ℕ) (o : declared.Offsets) → slice_get (near m xs) i ≡ Some o → m ≤ o.start
@@ -52,9 +52,9 @@ rows_joined (row_item r ∷ xs) ys = ap (λ (l : List Slices). slices r ∷ l) (
 rows_joined (end_item gap marker ∷ xs) ys = rows_joined xs ys
 
 -- the first rows of a cut whose items begin with others
-first_rows : (c : Cut) (front rest : List Item) (i : ℕ) → items_of c ≡ front ++ rest → i ≤ length (rows_in_items front) → take i (shown c).rows ≡ take i (rows_in_items front)
+first_rows : (c : Cut) (front rest : List Item) (i : ℕ) → items_of c ≡ front ++ rest → i ≤ length (rows_in_items front) → take i (rows_view c).rows ≡ take i (rows_in_items front)
 first_rows c front rest i are within =
-    ap (λ (x : Shown). take i x.rows) (sym (items_shown c))
+    ap (λ (x : RowsView). take i x.rows) (sym (items_view_is c))
     ∙ (ap (λ (xs : List Item). take i (rows_in_items xs)) are
     ∙ (ap (take i) (rows_joined front rest) ∙ take-append-le i (rows_in_items front) (rows_in_items rest) within))
 
@@ -62,25 +62,25 @@ first_rows c front rest i are within =
 none_before : (i : ℕ) → 0 + i ≡ i
 none_before i = omega arith
 
-begins_at : (xs : List Item) (i : ℕ) → 0 + (sum_by row_length (take i (rows_in_items xs)) + sum_by (passed_length (0 + i)) (bounds_in_items 0 xs)) ≡ row_start i (shown_items xs)
+begins_at : (xs : List Item) (i : ℕ) → 0 + (sum_by row_length (take i (rows_in_items xs)) + sum_by (passed_length (0 + i)) (bounds_in_items 0 xs)) ≡ row_start i (view_of_items xs)
 begins_at xs i = omega (arith, ap (λ (j : ℕ). sum_by (passed_length j) (bounds_in_items 0 xs)) (none_before i))
 
-pub stays_known : (c : Cut) (k : KnownItem) (front : ℕ) → IsKnown (shown c).rows k → k.row < length (shown c).rows → row_start k.row (shown c) < front → StaysKnown front c k
+pub stays_known : (c : Cut) (k : KnownItem) (front : ℕ) → IsKnown (rows_view c).rows k → k.row < length (rows_view c).rows → row_start k.row (rows_view c) < front → StaysKnown front c k
 stays_known c k front known within before new back touched =
-    let r = one_there (shown c).rows k.row within in
-    let there : slice_get (rows_in_items (items_of c)) k.row ≡ Some r.0 = ap (λ (x : Shown). slice_get x.rows k.row) (items_shown c) ∙ r.1 in
+    let r = one_there (rows_view c).rows k.row within in
+    let there : slice_get (rows_in_items (items_of c)) k.row ≡ Some r.0 = ap (λ (x : RowsView). slice_get x.rows k.row) (items_view_is c) ∙ r.1 in
     let n = near_at (items_of c) 0 0 k.row r.0 there in
-    let start : 0 + (sum_by row_length (take k.row (rows_in_items (items_of c))) + sum_by (passed_length (0 + k.row)) (bounds_in_items 0 (items_of c))) ≡ row_start k.row (shown c) = begins_at (items_of c) k.row ∙ ap (row_start k.row) (items_shown c) in
+    let start : 0 + (sum_by row_length (take k.row (rows_in_items (items_of c))) + sum_by (passed_length (0 + k.row)) (bounds_in_items 0 (items_of c))) ≡ row_start k.row (rows_view c) = begins_at (items_of c) k.row ∙ ap (row_start k.row) (items_view_is c) in
     let first : k.row ≤ length (rows_in_items (in_front front (items_of c))) = rows_in_front (items_of c) 0 front k.row _ n (omega (arith, before, start)) in
     let old = first_rows c (in_front front (items_of c)) _ k.row touched.old_are first in
     let now = first_rows new (in_front front (items_of c)) _ k.row touched.new_are first in
     subst (λ (xs : List Slices). ArePassed xs k) (old ∙ sym now) known
 
-pub shown_stays : (s : Shown) (k : KnownItem) (front : ℕ) → IsKnown s.rows k → k.row < length s.rows → row_start k.row s < front → (c : Cut) → s ≡ shown c → StaysKnown front c k
-shown_stays s k front known within before c is =
-    stays_known c k front (subst (λ (x : Shown). IsKnown x.rows k) is known) (subst (λ (x : Shown). k.row < length x.rows) is within) (subst (λ (x : Shown). row_start k.row x < front) is before)
+pub view_stays : (s : RowsView) (k : KnownItem) (front : ℕ) → IsKnown s.rows k → k.row < length s.rows → row_start k.row s < front → (c : Cut) → s ≡ rows_view c → StaysKnown front c k
+view_stays s k front known within before c is =
+    stays_known c k front (subst (λ (x : RowsView). IsKnown x.rows k) is known) (subst (λ (x : RowsView). k.row < length x.rows) is within) (subst (λ (x : RowsView). row_start k.row x < front) is before)
 
 -- an item, if there is one, stays known in a text that keeps what is in front
-pub one_stays : (front back : ℕ) (s : Shown) (c new : Cut) (k : Option KnownItem) → s ≡ shown c → IfSome k (λ x. (a : Cut) → s ≡ shown a → StaysKnown front a x) → TouchesOnly front back c new → IfSome k (IsKnown (shown new).rows)
+pub one_stays : (front back : ℕ) (s : RowsView) (c new : Cut) (k : Option KnownItem) → s ≡ rows_view c → IfSome k (λ x. (a : Cut) → s ≡ rows_view a → StaysKnown front a x) → TouchesOnly front back c new → IfSome k (IsKnown (rows_view new).rows)
 one_stays front back s c new None is h touched = h
 one_stays front back s c new (Some k) is h touched = h c is new back touched

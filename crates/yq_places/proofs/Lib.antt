@@ -10,8 +10,8 @@ pub mod HeadEnds
 pub mod StartLaws
 pub mod EntryPlacedLaws
 pub mod HeldLaws
-pub mod QuietLaws
-pub mod RemarkLaws
+pub mod UncommentedLaws
+pub mod CommentTextLaws
 pub mod ReadLaws
 pub mod ExactReading
 pub mod ReadyLaws
@@ -24,11 +24,11 @@ pub mod SeamLaws
 pub mod FinishLaws
 pub mod HeadSpanLaws
 pub mod FlowSpanLaws
-pub mod SeatLaws
-pub mod SeatLineLaws
+pub mod LineRoomLaws
+pub mod DashLineLaws
 pub mod SpanLaws
 pub mod RowPathLaws
-pub mod SeatedLaws
+pub mod RowLineSpans
 pub mod NextLaws
 pub mod WalkDocuments
 pub mod WalkLines
@@ -41,7 +41,7 @@ pub mod PrintedLaws
 pub mod FoundEntries
 pub mod FlowPieces
 pub mod PieceSpelling
-pub mod SeatedLines
+pub mod PrintedRowLines
 pub mod RunSpans
 pub mod UnderCounts
 pub mod FlowSpans
@@ -58,17 +58,17 @@ pub mod RemovalTexts
 pub mod RemovalLines
 pub mod RemovalPlaceLaws
 pub mod RemovalBounds
-pub mod RemovalTold
+pub mod RemovalViewLaws
 pub mod FirstLaws
 pub mod FirstExamples
 pub mod StepLaws
-pub mod SeenLaws
+pub mod FoundLaws
 pub mod NodePlaceLaws
 pub mod RowHeads
 pub mod NodeAtLaws
 pub mod LastBreakLaws
 pub mod ContentEndLaws
-pub mod FlowToldLaws
+pub mod FlowViewLaws
 pub mod FlowNodeLaws
 pub mod DashLaws
 pub mod KnownFronts
@@ -78,6 +78,6 @@ mod EntryNumbers
 mod LinesCutLaws
 mod EntryRowLaws
 mod HeldTexts
-mod StandingTold
+mod StandingViewLaws
 mod LoneLaws
 mod RootStandingLaws

@@ -39,9 +39,9 @@ pub tail_is_end : (before tail more : List ℕ) (h : IsTail tail more) → end_b
 tail_is_end before tail more h =
     let rest : List ℕ = h.line.break ++ more in
     let whole : tail ++ more ≡ h.white ++ (h.comment ++ rest) = ap (λ x. x ++ more) h.line.spelled ∙ (append_assoc h.white (h.comment ++ h.line.break) more ∙ ap (λ x. h.white ++ x) (append_assoc h.comment h.line.break more)) in
-    let white : text.cut no_white (h.white ++ (h.comment ++ rest)) ≡ (h.white, h.comment ++ rest) = white_again h.white (h.comment ++ rest) h.line.blank (behind_comment h.comment h.line.break more h.line.remark h.line.ends).0 in
+    let white : text.cut no_white (h.white ++ (h.comment ++ rest)) ≡ (h.white, h.comment ++ rest) = white_again h.white (h.comment ++ rest) h.line.blank (behind_comment h.comment h.line.break more h.line.as_comment h.line.ends).0 in
     let break : ends_line rest ≡ true = (behind_comment [] h.line.break more tt h.line.ends).2 in
-    let line : text.cut ends_line (h.comment ++ rest) ≡ (h.comment, rest) = cut-append ends_line h.comment rest (comment_more h.comment h.line.break more h.line.remark h.line.ends) break in
+    let line : text.cut ends_line (h.comment ++ rest) ≡ (h.comment, rest) = cut-append ends_line h.comment rest (comment_more h.comment h.line.break more h.line.as_comment h.line.ends) break in
     ap (end_before before) whole
     ∙ (ap (λ (x : List ℕ × List ℕ). let l = text.cut ends_line x.1 in record { before = before; white = x.0; comment = l.0; behind = l.1 }) white
     ∙ ap (λ (l : List ℕ × List ℕ). record { before = before; white = h.white; comment = l.0; behind = l.1 }) line)
@@ -77,22 +77,22 @@ header_tail tail more h =
     record {
       white = white;
       comment = [];
-      line = record { break = p; spelled = whole; blank = blank; remark = tt; ends = inl (line_some p e line) };
+      line = record { break = p; spelled = whole; blank = blank; as_comment = tt; ends = inl (line_some p e line) };
       apart = refl;
     })
     (λ (e : (front is_white tail && is_hash (past_white tail)) ≡ true).
     let both = and_parts (front is_white tail) (is_hash p) e in
     let comment : List ℕ = (text.cut ends_line p).0 in
     let break : List ℕ = (text.cut ends_line p).1 in
-    let remark = hash_comment p both.1 in
+    let as_comment = hash_comment p both.1 in
     let spelled : tail ≡ white ++ (comment ++ break) = whole ∙ ap (λ x. white ++ x) (cut_takes ends_line p) in
     let line : is_line break ≡ true =
     sym (ap is_line (spelled ∙ sym (append_assoc white comment break)) ∙ text_line (white ++ comment) break (white_none white comment break blank (none_in_cut ends_line p))) ∙ parts.0 in
     record {
       white = white;
       comment = comment;
-      line = record { break = break; spelled = spelled; blank = blank; remark = remark.0; ends = inl (line_some break (upto_ends ends_line p refl) line) };
-      apart = rw (white_some tail both.0) (rw remark.1 refl);
+      line = record { break = break; spelled = spelled; blank = blank; as_comment = as_comment.0; ends = inl (line_some break (upto_ends ends_line p refl) line) };
+      apart = rw (white_some tail both.0) (rw as_comment.1 refl);
     })
     (or_cases (is_blank tail) (front is_white tail && is_hash (past_white tail)) parts.1)
 

@@ -8,13 +8,13 @@ use Rattle.std.specs.List.{slice_get}
 use Rattle.std.specs.Str.{IsUtf8, IsCharBoundary}
 use Rattle.yq_scalar.specs.Characters.{text_limit}
 use Rattle.yq_scalar.specs.Text.{is_empty}
-use Rattle.yq_lines.specs.Spots.{is_bare}
+use Rattle.yq_lines.specs.Positions.{is_bare}
 use Rattle.yq_rows.specs.Exchange.{row_front}
 use Rattle.yq_rows.specs.Grammar.{IsMark}
 use Rattle.yq_rows.specs.Offsets.{row_length}
 use Rattle.yq_rows.specs.Rows as rows
 use Rattle.yq_rows.specs.Rows.{Content, Nothing, Inline, Block, Row, dashes_text, parent_indent, print_row, rows_text, Cut}
-use Rattle.yq_rows.specs.View.{Slices, slices, content_cut, rows_of, Shown, shown}
+use Rattle.yq_rows.specs.View.{Slices, slices, content_cut, rows_of, RowsView, rows_view}
 use Rattle.yq_rows.proofs.NodePieces.{before_ascii, behind_ascii, tail_ascii}
 use Rattle.yq_walk.specs.Lines.{mark_of}
 use Rattle.yq_documents.specs.Reading.{cut_of}
@@ -23,9 +23,9 @@ use Rattle.yq_places.specs.RowPieces.{upto_dash}
 use Rattle.yq_places.specs.EntryReading.{line_begin}
 use Rattle.yq_walk.specs.Extents.{head_place, row_start}
 use Rattle.yq_places.specs.LineReading.{CutsLines, LinesIn, lines_between, lines_of}
-use Rattle.yq_places.specs.Standings.{Lone, PlacedEntry, before_entry, behind_entry, dash_text, is_alone, lone}
+use Rattle.yq_places.specs.Standings.{Lone, RowsOfEntry, before_entry, behind_entry, dash_text, is_alone, lone}
 use Rattle.yq_places.specs.StandingReading.{AreRowsOf}
-use Rattle.yq_places.proofs.CommentEndLaws.{row_line}
+use Rattle.yq_places.proofs.CommentEndLaws.{row_text_parts}
 use Rattle.yq_places.proofs.DashLaws.{front_is, row_cut}
 use Rattle.yq_places.proofs.EntryRowLaws.{cut_in_two, first_at, head_ends, pieces_at, row_valid, stop_boundary, stop_is, text}
 use Rattle.yq_places.proofs.LineEndLaws.{line_tail}
@@ -40,7 +40,7 @@ raw_none (rows.Key key colon) x rest h bare = absurd (false≢true bare)
 
 -- ---- a node alone on its line
 
-module _ (t : List ℕ) (s : Shown) (e : PlacedEntry) (row end : ℕ) (h : AreRowsOf t s e row end) (place : ℕ × ℕ) (told : (c : Cut) → s ≡ shown c → (r : Row) → slice_get (rows_of c) row ≡ Some r → place ≡ head_place row c r)
+module _ (t : List ℕ) (s : RowsView) (e : RowsOfEntry) (row end : ℕ) (h : AreRowsOf t s e row end) (place : ℕ × ℕ) (agrees : (c : Cut) → s ≡ rows_view c → (r : Row) → slice_get (rows_of c) row ≡ Some r → place ≡ head_place row c r)
     (y : Slices) (there : slice_get s.rows row ≡ Some y) where
   same : slices e.row ≡ y
   same = same_Some _ _ (sym (pieces_at t s e row end h) ∙ there)
@@ -57,15 +57,15 @@ module _ (t : List ℕ) (s : Shown) (e : PlacedEntry) (row end : ℕ) (h : AreRo
   whole : t ≡ (before ++ (slices e.row).head) ++ behind
   whole =
       text t s e row end h
-      ∙ (ap (λ (u : List ℕ). before_entry e ++ u) (row_line e.row (rows_text e.under (behind_entry e)))
+      ∙ (ap (λ (u : List ℕ). before_entry e ++ u) (row_text_parts e.row (rows_text e.under (behind_entry e)))
       ∙ (sym (append_assoc (before_entry e) (line_text e.row) behind) ∙ ap (λ (u : List ℕ). u ++ behind) line))
 
   stop : place.1 ≡ length (before ++ (slices e.row).head)
-  stop = head_ends t s e row end h place told ∙ ap length line
+  stop = head_ends t s e row end h place agrees ∙ ap length line
 
   start : place.0 ≡ length before
   start =
-      let at : place ≡ head_place row (cut_of t) e.row = told (cut_of t) h.shown_is e.row (first_at t s e row end h).there in
+      let at : place ≡ head_place row (cut_of t) e.row = agrees (cut_of t) h.rows_view_is e.row (first_at t s e row end h).there in
       omega (arith, stop, ap (λ (p : ℕ × ℕ). p.0) at, ap (λ (p : ℕ × ℕ). p.1) at, length-append before (slices e.row).head)
 
   pub end_boundary : (u : List ℕ) → u ≡ t → IsCharBoundary u place.1
@@ -96,8 +96,8 @@ module _ (t : List ℕ) (s : Shown) (e : PlacedEntry) (row end : ℕ) (h : AreRo
 
 -- ---- a collection behind a dash
 
-module _ (t : List ℕ) (s : Shown) (e : PlacedEntry) (row end : ℕ) (h : AreRowsOf t s e row end) (u : IsUtf8 t) (line : ℕ) (line_is : line ≡ e.line) (less : e.line < length e.row.dashes) (y : Slices) (there : slice_get s.rows row ≡ Some y) (start stop : ℕ)
-    (start_told : (x : Slices) → slice_get s.rows row ≡ Some x → start ≡ line_begin (row_start row s) x line) (stop_told : (x : Slices) → slice_get s.rows (end - 1) ≡ Some x → stop ≡ row_start (end - 1) s + row_length x) where
+module _ (t : List ℕ) (s : RowsView) (e : RowsOfEntry) (row end : ℕ) (h : AreRowsOf t s e row end) (u : IsUtf8 t) (line : ℕ) (line_is : line ≡ e.line) (less : e.line < length e.row.dashes) (y : Slices) (there : slice_get s.rows row ≡ Some y) (start stop : ℕ)
+    (start_agrees : (x : Slices) → slice_get s.rows row ≡ Some x → start ≡ line_begin (row_start row s) x line) (stop_agrees : (x : Slices) → slice_get s.rows (end - 1) ≡ Some x → stop ≡ row_start (end - 1) s + row_length x) where
   abbrev front : List ℕ
   front = before_entry e ++ row_front (upto_dash e.line e.row)
 
@@ -119,7 +119,7 @@ module _ (t : List ℕ) (s : Shown) (e : PlacedEntry) (row end : ℕ) (h : AreRo
       let at = first_at t s e row end h in
       let own : List ℕ = e.row.gap ++ (replicate e.row.column 32 ++ dashes_text (take e.line e.row.dashes) []) in
       let begins : start ≡ length (before_entry e ++ own) =
-      start_told (slices e.row) (pieces_at t s e row end h) ∙ ((λ i. line_begin (row_start row (h.shown_is i)) (slices e.row) (line_is i)) ∙ (line_begins c row e.line e.row at.there (omega (arith, less)) ∙ ap (λ (z : List ℕ). length (z ++ own)) at.before_is)) in
+      start_agrees (slices e.row) (pieces_at t s e row end h) ∙ ((λ i. line_begin (row_start row (h.rows_view_is i)) (slices e.row) (line_is i)) ∙ (line_begins c row e.line e.row at.there (omega (arith, less)) ∙ ap (λ (z : List ℕ). length (z ++ own)) at.before_is)) in
       omega (arith, begins, ap length dash_is, length-append upto (45 ∷ []))
 
   pub dash_fits : start + 1 ≤ text_limit
@@ -127,7 +127,7 @@ module _ (t : List ℕ) (s : Shown) (e : PlacedEntry) (row end : ℕ) (h : AreRo
 
   pub dash_cut : (v : List ℕ) → v ≡ t → CutsLines v (start + 1) stop
   dash_cut v is =
-      let stops : stop ≡ length (before_entry e ++ print_row e.row (rows_text e.under [])) = stop_is t s e row end h stop stop_told in
+      let stops : stop ≡ length (before_entry e ++ print_row e.row (rows_text e.under [])) = stop_is t s e row end h stop stop_agrees in
       record {
         before = front;
         own = dash_text e;

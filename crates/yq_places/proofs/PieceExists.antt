@@ -19,9 +19,9 @@ use Rattle.yq_inline.specs.Trees.{tree_of, with_name, node_head}
 use Rattle.yq_documents.specs.Located.{steps_of, located}
 use Rattle.yq_lines.specs.Outline as outlines
 use Rattle.yq_lines.specs.Outline.{Mark, Line, Outline, end, row, flatten, IsEven, IsWhole, head_or, value}
-use Rattle.yq_lines.specs.Places.{Found, find, content}
+use Rattle.yq_lines.specs.Places.{FoundLine, find, content}
 use Rattle.yq_documents.specs.Reading.{document_of, read_at}
-use Rattle.yq_lines.specs.Spots.{is_bare}
+use Rattle.yq_lines.specs.Positions.{is_bare}
 use Rattle.yq_documents.proofs.PartRows.{each}
 use Rattle.yq_lines.proofs.Decides.{flatten-group, even_from}
 use Rattle.yq_lines.specs.Labelled.{labelled_from}
@@ -59,9 +59,9 @@ whole_head (outlines.Key k) h a t w = cc
 whole_head outlines.Dash h a t w = cc
 
 block_some : (before : List ℕ) (ls : List PrintedLine) (rest : List ℕ) (o : Outline) (m : ℕ) → ArePrinted ls rest → map line_in ls ≡ flatten o → IsEven m o → is_some (lines_piece before ls rest) ≡ some_lines ls
-block_some before [] rest o m told lines even = refl
-block_some before (l ∷ ls) rest end m told lines even = cc
-block_some before (l ∷ ls) rest (row k u a) m told lines even = go (is_bare l.line.mark) refl
+block_some before [] rest o m as_printed lines even = refl
+block_some before (l ∷ ls) rest end m as_printed lines even = cc
+block_some before (l ∷ ls) rest (row k u a) m as_printed lines even = go (is_bare l.line.mark) refl
   where
     first : l.line ≡ k
     first = cc
@@ -69,17 +69,17 @@ block_some before (l ∷ ls) rest (row k u a) m told lines even = go (is_bare l.
     go : (b : Bool) → is_bare l.line.mark ≡ b → is_some (cond b (head_piece (before ++ (line_front l ++ l.mark)) l.content (print_lines ls rest)) (Some (run_piece before l ls rest))) ≡ true
     go true t =
         head_some (before ++ (line_front l ++ l.mark)) l.content (print_lines ls rest)
-        ∙ (ap is_some (sym told.0.head ∙ ap (λ (x : Line). x.head) first) ∙ whole_head k.mark k.head a (ap (λ (x : Line). is_bare x.mark) (sym first) ∙ t) even.2)
+        ∙ (ap is_some (sym as_printed.0.head ∙ ap (λ (x : Line). x.head) first) ∙ whole_head k.mark k.head a (ap (λ (x : Line). is_bare x.mark) (sym first) ∙ t) even.2)
     go false t = refl
 
-content_some : (s : PrintedDocument) (e : BlockEntry) (f : Found) (m : ℕ) → IsFound s e f → IsEven m f.under → is_some (content_piece e) ≡ (is_some e.line.line.head || some_lines e.under)
+content_some : (s : PrintedDocument) (e : BlockEntry) (f : FoundLine) (m : ℕ) → IsFound s e f → IsEven m f.under → is_some (content_piece e) ≡ (is_some e.line.line.head || some_lines e.under)
 content_some s e f m h even = go e.line.line.head refl
   where
     go : (o : Option tree.Node) → e.line.line.head ≡ o →
         is_some (cond (is_some o) (head_piece (e.before ++ (line_front e.line ++ e.line.mark)) e.line.content (print_lines e.under e.behind)) (lines_piece (e.before ++ print_line e.line []) e.under e.behind)) ≡
         (is_some o || some_lines e.under)
-    go (Some x) head = head_some (e.before ++ (line_front e.line ++ e.line.mark)) e.line.content (print_lines e.under e.behind) ∙ ap is_some (sym h.told.0.head ∙ head)
-    go None head = block_some (e.before ++ print_line e.line []) e.under e.behind f.under m h.told.1 h.lines even
+    go (Some x) head = head_some (e.before ++ (line_front e.line ++ e.line.mark)) e.line.content (print_lines e.under e.behind) ∙ ap is_some (sym h.as_printed.0.head ∙ head)
+    go None head = block_some (e.before ++ print_line e.line []) e.under e.behind f.under m h.as_printed.1 h.lines even
 
 item_some : (ss : List Step) (o : Option FlowEntry) → is_some (o >>= λ x. flow_at ss x >>= flow_content) ≡ or_false (o >>= λ x. option_map flow_written (flow_at ss x))
 item_some ss None = refl
@@ -89,24 +89,24 @@ item_some ss (Some x) = go (flow_at ss x)
     go None = refl
     go (Some y) = node_some _ y.node y.behind
 
-entry_some : (s : PrintedDocument) (ss : List Step) (e : BlockEntry) (f : Found) (m : ℕ) → IsFound s e f → IsEven m f.under → is_some (piece_in_entry parts.Content ss e) ≡ entry_written ss e
+entry_some : (s : PrintedDocument) (ss : List Step) (e : BlockEntry) (f : FoundLine) (m : ℕ) → IsFound s e f → IsEven m f.under → is_some (piece_in_entry parts.Content ss e) ≡ entry_written ss e
 entry_some s [] e f m h even = content_some s e f m h even
 entry_some s (t ∷ ts) e f m h even = item_some (t ∷ ts) (line_inline e)
 
 document_some : (steps : List Step) (s : PrintedDocument) → ArePrinted s.lines s.behind → is_fine (group (map line_in s.lines)) ≡ true → is_some (piece_in parts.Content steps s) ≡ document_written steps s
-document_some [] s told fine =
-    block_some s.before s.lines s.behind (group (map line_in s.lines)) (level_or 0 (group (map line_in s.lines))) told (sym (flatten-group (map line_in s.lines)))
+document_some [] s as_printed fine =
+    block_some s.before s.lines s.behind (group (map line_in s.lines)) (level_or 0 (group (map line_in s.lines))) as_printed (sym (flatten-group (map line_in s.lines)))
     (even_from (level_or 0 (group (map line_in s.lines))) (group (map line_in s.lines)) fine)
-document_some (y ∷ ys) s told fine = go (find y ys (group (map line_in s.lines))) refl
+document_some (y ∷ ys) s as_printed fine = go (find y ys (group (map line_in s.lines))) refl
   where
-    entry : (f : Found) (rest : List Step) → find y ys (group (map line_in s.lines)) ≡ Some (f, rest) → (o : Option BlockEntry) → found_entry s f ≡ o →
+    entry : (f : FoundLine) (rest : List Step) → find y ys (group (map line_in s.lines)) ≡ Some (f, rest) → (o : Option BlockEntry) → found_entry s f ≡ o →
         is_some (o >>= piece_in_entry parts.Content rest) ≡ or_false (option_map (entry_written rest) o)
     entry f rest is None at = refl
     entry f rest is (Some e) at =
         let even = (found_place (map line_in s.lines) y ys rest f is fine).1.3 in
-        entry_some s rest e f even.0 (entry_found s y ys rest f e is told at) even.2
+        entry_some s rest e f even.0 (entry_found s y ys rest f e is as_printed at) even.2
 
-    go : (o : Option (Found × List Step)) → find y ys (group (map line_in s.lines)) ≡ o →
+    go : (o : Option (FoundLine × List Step)) → find y ys (group (map line_in s.lines)) ≡ o →
         is_some (o >>= λ f. found_entry s f.0 >>= piece_in_entry parts.Content f.1) ≡ or_false (o >>= λ f. option_map (entry_written f.1) (found_entry s f.0))
     go None is = refl
     go (Some f) is = entry f.0 f.1 is (found_entry s f.0) refl
@@ -116,7 +116,7 @@ some_map f None = refl
 some_map f (Some x) = refl
 
 -- an item or entry is in flow exactly where the node is
-line_agrees : (s : PrintedDocument) (t : Step) (ts : List Step) (e : BlockEntry) (f : Found) (h : tree.Node) → IsFound s e f → f.line.head ≡ Some h →
+line_agrees : (s : PrintedDocument) (t : Step) (ts : List Step) (e : BlockEntry) (f : FoundLine) (h : tree.Node) → IsFound s e f → f.line.head ≡ Some h →
     is_some (line_inline e >>= flow_at (t ∷ ts)) ≡ is_some (node_at (t ∷ ts) (content f.line f.under))
 line_agrees s t ts e f h found head =
     sym (some_map flow_label (line_inline e >>= flow_at (t ∷ ts)))
@@ -128,7 +128,7 @@ then_map : {A B C : Type 0} (f : A → Option B) (g : B → C) (o : Option A) �
 then_map f g None = refl
 then_map f g (Some x) = some_map g (f x)
 
-entry_agrees : (s : PrintedDocument) (y : Step) (ys rest : List Step) (f : Found) (e : BlockEntry) → find y ys (group (map line_in s.lines)) ≡ Some (f, rest) → is_fine (group (map line_in s.lines)) ≡ true → IsFound s e f →
+entry_agrees : (s : PrintedDocument) (y : Step) (ys rest : List Step) (f : FoundLine) (e : BlockEntry) → find y ys (group (map line_in s.lines)) ≡ Some (f, rest) → is_fine (group (map line_in s.lines)) ≡ true → IsFound s e f →
     is_some (piece_in_entry parts.Entry rest e) ≡ is_some (node_at rest (content f.line f.under))
 entry_agrees s y ys [] f e is fine found = refl
 entry_agrees s y ys (t ∷ ts) f e is fine found =
@@ -137,13 +137,13 @@ entry_agrees s y ys (t ∷ ts) f e is fine found =
 
 steps_agree : (s : PrintedDocument) (y : Step) (ys : List Step) → ArePrinted s.lines s.behind → is_fine (group (map line_in s.lines)) ≡ true →
     is_some (piece_in parts.Entry (y ∷ ys) s) ≡ is_some (node_at (y ∷ ys) (value (group (map line_in s.lines))))
-steps_agree s y ys told fine = go (find y ys (group (map line_in s.lines))) refl ∙ ap is_some (sym (path_node y ys (group (map line_in s.lines))))
+steps_agree s y ys as_printed fine = go (find y ys (group (map line_in s.lines))) refl ∙ ap is_some (sym (path_node y ys (group (map line_in s.lines))))
   where
-    go : (o : Option (Found × List Step)) → find y ys (group (map line_in s.lines)) ≡ o → is_some (o >>= λ f. found_entry s f.0 >>= piece_in_entry parts.Entry f.1) ≡ is_some (FoundNode o)
+    go : (o : Option (FoundLine × List Step)) → find y ys (group (map line_in s.lines)) ≡ o → is_some (o >>= λ f. found_entry s f.0 >>= piece_in_entry parts.Entry f.1) ≡ is_some (FoundNode o)
     go None is = refl
     go (Some f) is =
         let e = entry_there s y ys f.1 f.0 is in
-        ap (λ o. is_some (o >>= piece_in_entry parts.Entry f.1)) e.1 ∙ entry_agrees s y ys f.1 f.0 e.0 is fine (entry_found s y ys f.1 f.0 e.0 is told e.1)
+        ap (λ o. is_some (o >>= piece_in_entry parts.Entry f.1)) e.1 ∙ entry_agrees s y ys f.1 f.0 e.0 is fine (entry_found s y ys f.1 f.0 e.0 is as_printed e.1)
 
 -- a node for which nothing but an anchor is written
 headless : (node : Node) → node_head node ≡ None → IsNull (tree_of node)
@@ -167,7 +167,7 @@ no_head : (h : Option tree.Node) → is_some h ≡ false → h ≡ None
 no_head None e = refl
 no_head (Some n) e = cc
 
-in_null : (s : PrintedDocument) (t : Step) (ts : List Step) (e : BlockEntry) (f : Found) (h n : tree.Node) (o : Option FlowEntry) → IsFound s e f → f.line.head ≡ Some h → line_inline e ≡ o → is_some (o >>= flow_at (t ∷ ts)) ≡ true →
+in_null : (s : PrintedDocument) (t : Step) (ts : List Step) (e : BlockEntry) (f : FoundLine) (h n : tree.Node) (o : Option FlowEntry) → IsFound s e f → f.line.head ≡ Some h → line_inline e ≡ o → is_some (o >>= flow_at (t ∷ ts)) ≡ true →
     node_at (t ∷ ts) (content f.line f.under) ≡ Some n → or_false (o >>= λ x. option_map flow_written (flow_at (t ∷ ts) x)) ≡ false → IsNull n
 in_null s t ts e f h n None found head is some at none = cc
 in_null s t ts e f h n (Some x) found head is some at none = go (flow_at (t ∷ ts) x) refl some none
@@ -178,7 +178,7 @@ in_null s t ts e f h n (Some x) found head is some at none = go (flow_at (t ∷ 
         let labelled = (head_item_at s t ts e f h x w found head is there).labelled in
         subst IsNull (same_Some _ _ (ap (option_map (λ x. x.1)) (sym labelled) ∙ (labelled_path (t ∷ ts) (entry_of f.line f.under) ∙ at))) (headless w.node (no_head (node_head w.node) none))
 
-entry_null : (s : PrintedDocument) (y : Step) (ys rest : List Step) (f : Found) (e : BlockEntry) (n : tree.Node) → find y ys (group (map line_in s.lines)) ≡ Some (f, rest) → is_fine (group (map line_in s.lines)) ≡ true → IsFound s e f →
+entry_null : (s : PrintedDocument) (y : Step) (ys rest : List Step) (f : FoundLine) (e : BlockEntry) (n : tree.Node) → find y ys (group (map line_in s.lines)) ≡ Some (f, rest) → is_fine (group (map line_in s.lines)) ≡ true → IsFound s e f →
     node_at rest (content f.line f.under) ≡ Some n → entry_written rest e ≡ false → IsNull n
 entry_null s y ys [] f e n is fine found at none =
     let k = or_parts (is_some e.line.line.head) (some_lines e.under) none in
@@ -190,18 +190,18 @@ entry_null s y ys (t ∷ ts) f e n is fine found at none =
 
 document_null : (steps : List Step) (s : PrintedDocument) (n : tree.Node) → ArePrinted s.lines s.behind → is_fine (group (map line_in s.lines)) ≡ true →
     node_at steps (value (group (map line_in s.lines))) ≡ Some n → document_written steps s ≡ false → IsNull n
-document_null [] s n told fine at none = (None, sym (same_Some _ _ at) ∙ ap value (no_lines (group (map line_in s.lines)) s.lines (sym (flatten-group (map line_in s.lines))) none))
-document_null (y ∷ ys) s n told fine at none = go (find y ys (group (map line_in s.lines))) refl (sym (path_node y ys (group (map line_in s.lines))) ∙ at) none
+document_null [] s n as_printed fine at none = (None, sym (same_Some _ _ at) ∙ ap value (no_lines (group (map line_in s.lines)) s.lines (sym (flatten-group (map line_in s.lines))) none))
+document_null (y ∷ ys) s n as_printed fine at none = go (find y ys (group (map line_in s.lines))) refl (sym (path_node y ys (group (map line_in s.lines))) ∙ at) none
   where
-    go : (o : Option (Found × List Step)) → find y ys (group (map line_in s.lines)) ≡ o → FoundNode o ≡ Some n → or_false (o >>= λ f. option_map (entry_written f.1) (found_entry s f.0)) ≡ false → IsNull n
+    go : (o : Option (FoundLine × List Step)) → find y ys (group (map line_in s.lines)) ≡ o → FoundNode o ≡ Some n → or_false (o >>= λ f. option_map (entry_written f.1) (found_entry s f.0)) ≡ false → IsNull n
     go None is at none = absurd (none-some _ at)
     go (Some f) is at none =
         let e = entry_there s y ys f.1 f.0 is in
-        entry_null s y ys f.1 f.0 e.0 n is fine (entry_found s y ys f.1 f.0 e.0 is told e.1) at (sym (ap (λ (o : Option BlockEntry). or_false (option_map (entry_written f.1) o)) e.1) ∙ none)
+        entry_null s y ys f.1 f.0 e.0 n is fine (entry_found s y ys f.1 f.0 e.0 is as_printed e.1) at (sym (ap (λ (o : Option BlockEntry). or_false (option_map (entry_written f.1) o)) e.1) ∙ none)
 
 -- A document of a text: its lines, which are told by their texts and are even, and the node at a path, which is in its root.
 record IsRead (t : List ℕ) (p : Path) (s : PrintedDocument) : Type 0 where
-  pub told : ArePrinted s.lines s.behind
+  pub as_printed : ArePrinted s.lines s.behind
   pub fine : is_fine (group (map line_in s.lines)) ≡ true
   pub node : located p t ≡ node_at (steps_of p) (value (group (map line_in s.lines)))
 
@@ -212,7 +212,7 @@ document_read t c p s read is =
     let q = document_is p.doc c s cut.0.parts is in
     let lines : map line_in s.lines ≡ lines_of q.0.rows = ap (map line_in) q.2.lines ∙ lines_are q.0.rows in
     record {
-      told = q.2.told;
+      as_printed = q.2.as_printed;
       fine = subst (λ ls. is_fine (group ls) ≡ true) (sym lines) (document_fine q.0 (each (document_parts c) cut.1 p.doc q.0 q.1));
       node =
           ap (option_and_then (λ d. node_at (steps_of p) d.root))
@@ -234,7 +234,7 @@ contents_exist t c p read = go (printed_document p.doc c) refl
         (is_some (o >>= piece_in parts.Content (steps_of p)) ≡ or_false (option_map (document_written (steps_of p)) o)) ×
         ((n : tree.Node) → located p t ≡ Some n → or_false (option_map (document_written (steps_of p)) o) ≡ false → IsNull n)
     go None is = (refl, λ n at none. absurd (none-some _ (sym (no_document t c p read is) ∙ at)))
-    go (Some s) is = let r = document_read t c p s read is in (document_some (steps_of p) s r.told r.fine, λ n at none. document_null (steps_of p) s n r.told r.fine (sym r.node ∙ at) none)
+    go (Some s) is = let r = document_read t c p s read is in (document_some (steps_of p) s r.as_printed r.fine, λ n at none. document_null (steps_of p) s n r.as_printed r.fine (sym r.node ∙ at) none)
 
 pub entries_exist : EntriesExist
 entries_exist t c p read = go (printed_document p.doc c) refl (steps_of p) refl
@@ -245,7 +245,7 @@ entries_exist t c p read = go (printed_document p.doc c) refl (steps_of p) refl
 
     by : (s : PrintedDocument) → IsRead t p s → (steps : List Step) → steps_of p ≡ steps → is_some (piece_in parts.Entry steps s) ≡ (not (are_none steps) && is_some (located p t))
     by s r [] is = refl
-    by s r (y ∷ ys) is = steps_agree s y ys r.told r.fine ∙ ap is_some (sym (r.node ∙ ap (λ ss. node_at ss (value (group (map line_in s.lines)))) is))
+    by s r (y ∷ ys) is = steps_agree s y ys r.as_printed r.fine ∙ ap is_some (sym (r.node ∙ ap (λ ss. node_at ss (value (group (map line_in s.lines)))) is))
 
     go : (o : Option PrintedDocument) → printed_document p.doc c ≡ o → (steps : List Step) → steps_of p ≡ steps → is_some (o >>= piece_in parts.Entry steps) ≡ (not (are_none steps) && is_some (located p t))
     go None is steps e = none_root steps ∙ ap (λ x. not (are_none steps) && is_some x) (sym (no_document t c p read is))

@@ -20,7 +20,7 @@ use Rattle.yq_lines.specs.Group.{group, is_fine}
 use Rattle.yq_documents.specs.Located.{steps_of}
 use Rattle.yq_documents.specs.Pieces.{piece_span, HoldsPiece}
 use Rattle.yq_documents.specs.Reading.{all_documents, read_at}
-use Rattle.yq_documents.specs.Seats.{document_row}
+use Rattle.yq_documents.specs.LinesInRows.{document_row}
 use Rattle.yq_documents.proofs.PartRows.{each}
 use Rattle.yq_places.proofs.EntryPlacedLaws.{entries_placed}
 use Rattle.yq_places.proofs.CommentHolds.{comments_hold}
@@ -33,7 +33,7 @@ use Rattle.yq_places.specs.PlacedRows.{placed_at, placed_document}
 use Rattle.yq_places.specs.PieceLaws.{PiecesHold}
 use Rattle.yq_places.proofs.PieceTexts.{document_text, document_whole, whole_text}
 use Rattle.yq_places.proofs.PrintedLaws.{ArePrinted, lines_are, document_is}
-use Rattle.yq_places.proofs.SeatedLines.{IsPlaced, document_placed}
+use Rattle.yq_places.proofs.PrintedRowLines.{IsPlaced, document_placed}
 use Rattle.yq_places.proofs.PieceSpans.{contents_span, entries_span}
 
 none_map : {A B : Type 0} (f : A → B) (o : Option A) → option_map f o ≡ None → o ≡ None
@@ -64,13 +64,13 @@ spans_are t c path cut sound = go (printed_document path.doc c) refl
         let fine : is_fine (group (map line_in (printed_lines p.rows))) ≡ true = subst (λ ls. is_fine (group ls) ≡ true) (sym (lines_are p.rows)) (document_fine p (each (document_parts c) sound path.doc p q.1)) in
         let own : s ≡ record { before = s.before; lines = printed_lines p.rows; behind = s.behind } = (λ i. record { before = s.before; lines = q.2.lines i; behind = s.behind }) in
         let placed : IsPlaced c k p (record { before = s.before; lines = printed_lines p.rows; behind = s.behind }) = subst (IsPlaced c k p) own (document_placed path.doc c p s q.1 is) in
-        let told : ArePrinted (printed_lines p.rows) s.behind = subst (λ ls. ArePrinted ls s.behind) q.2.lines q.2.told in
+        let as_printed : ArePrinted (printed_lines p.rows) s.behind = subst (λ ls. ArePrinted ls s.behind) q.2.lines q.2.as_printed in
         let text : document_text (record { before = s.before; lines = printed_lines p.rows; behind = s.behind }) ≡ cut_text c = subst (λ x. document_text x ≡ cut_text c) own (document_whole path.doc c s is) in (
           ap (λ x. option_map piece_span (piece_in parts.Content (steps_of path) x)) own
-              ∙ (contents_span c p b.0 k s.before s.behind b.1 placed told text fine (steps_of path)
+              ∙ (contents_span c p b.0 k s.before s.behind b.1 placed as_printed text fine (steps_of path)
               ∙ sym (ap (λ (d : Option Part). d >>= λ d. content_of (document_row path.doc c) c d.rows (steps_of path)) q.1)),
           ap (λ x. option_map piece_span (piece_in parts.Entry (steps_of path) x)) own
-              ∙ (entries_span c p b.0 k s.before s.behind b.1 placed told text fine (steps_of path)
+              ∙ (entries_span c p b.0 k s.before s.behind b.1 placed as_printed text fine (steps_of path)
               ∙ sym (ap (λ (d : Option Part). d >>= λ d. entry_of (document_row path.doc c) c d.rows (steps_of path)) q.1)),
         )
 
@@ -108,7 +108,7 @@ pieces_hold t c path part x read found = go part found
     comment : (s : PrintedDocument) → printed_document path.doc c ≡ Some s → (piece_in parts.LineComment (steps_of path) s ≡ Some x) ⊎ (piece_in parts.HeadComment (steps_of path) s ≡ Some x) → HoldsPiece t x
     comment s is e =
         let whole = document_whole path.doc c s is ∙ sym text in
-        subst (λ q. HoldsPiece q x) whole (comments_hold (steps_of path) s x (subst IsUtf8 (sym whole) u) (document_is path.doc c s takes.0.parts is).2.told e)
+        subst (λ q. HoldsPiece q x) whole (comments_hold (steps_of path) s x (subst IsUtf8 (sym whole) u) (document_is path.doc c s takes.0.parts is).2.as_printed e)
 
     go : (part : WhichPart) → piece_at path part c ≡ Some x → HoldsPiece t x
     go parts.Content e =

@@ -25,10 +25,10 @@ use Rattle.yq_lines.specs.Group.{group, level_or, is_fine}
 use Rattle.yq_walk.specs.Lines.{head_of, tail_of, lines_of}
 use Rattle.yq_lines.specs.Outline as outlines
 use Rattle.yq_lines.specs.Outline.{Line, level, Outline, end, row, flatten, IsEven, IsWhole}
-use Rattle.yq_lines.specs.Places.{lines_before, lines_after, Found, find}
+use Rattle.yq_lines.specs.Places.{lines_before, lines_after, FoundLine, find}
 use Rattle.yq_lines.specs.Ends.{reached}
-use Rattle.yq_documents.specs.Seats.{Seat, seat}
-use Rattle.yq_lines.specs.Spots.{is_bare}
+use Rattle.yq_documents.specs.LinesInRows.{RowLine, row_line}
+use Rattle.yq_lines.specs.Positions.{is_bare}
 use Rattle.yq_lines.proofs.Decides.{flatten-group, even_from}
 use Rattle.yq_places.proofs.EntryPlaceLaws.{by_line, row_there}
 use Rattle.yq_places.proofs.RowPathLaws.{found_lines, found_place}
@@ -40,8 +40,8 @@ use Rattle.yq_places.proofs.PieceTexts.{entry_text, item_text, entry_whole, at_w
 use Rattle.yq_places.proofs.PrintedLaws.{IsPrinted, ArePrinted, lines_are}
 use Rattle.yq_places.proofs.FoundEntries.{lines_count, within_some, IsFound, entry_found, line_there, entry_is}
 use Rattle.yq_places.proofs.FlowPieces.{pieces, at_pieces, head_there}
-use Rattle.yq_places.proofs.SeatedLines.{IsSeated, IsPlaced}
-use Rattle.yq_places.proofs.RunSpans.{get_some, content_size, seat_at, run_span, head_span}
+use Rattle.yq_places.proofs.PrintedRowLines.{IsPrintedLine, IsPlaced}
+use Rattle.yq_places.proofs.RunSpans.{get_some, content_size, row_line_at, run_span, head_span}
 use Rattle.yq_places.proofs.UnderCounts.{count_stops, count_holds, end_is}
 use Rattle.yq_places.proofs.FlowSpans.{item_place, value_place}
 use Rattle.yq_places.proofs.PieceSpelling.{bare_is}
@@ -67,7 +67,7 @@ bare_head e l us (row x u a) even lines t =
 
 -- the lines of a document among those of a cut
 module _ (c : Cut) (p : Part) (more : List Row) (k : ℕ) (before behind : List ℕ) (there : drop k (rows_of c) ≡ p.rows ++ more) (placed_in : IsPlaced c k p (record { before = before; lines = printed_lines p.rows; behind = behind }))
-    (told : ArePrinted (printed_lines p.rows) behind) (text : before ++ print_lines (printed_lines p.rows) behind ≡ cut_text c) (fine : is_fine (group (map line_in (printed_lines p.rows))) ≡ true) where
+    (as_printed : ArePrinted (printed_lines p.rows) behind) (text : before ++ print_lines (printed_lines p.rows) behind ≡ cut_text c) (fine : is_fine (group (map line_in (printed_lines p.rows))) ≡ true) where
   abbrev document : PrintedDocument
   document = record { before = before; lines = printed_lines p.rows; behind = behind }
 
@@ -76,12 +76,12 @@ module _ (c : Cut) (p : Part) (more : List Row) (k : ℕ) (before behind : List 
 
   -- the last line of a node is the last of its row
   pub last_line : (n : ℕ) (l : PrintedLine) → slice_get (printed_lines p.rows) n ≡ Some l → ((x : PrintedLine) → slice_get (printed_lines p.rows) (suc n) ≡ Some x → level x.line ≤ level l.line) →
-      (b : Seat) × (seat n p.rows ≡ Some b) × (b.line ≡ length b.row.dashes)
+      (b : RowLine) × (row_line n p.rows ≡ Some b) × (b.line ≡ length b.row.dashes)
   last_line n l e none_deeper =
-      let q = seat_at c p more k document there placed_in refl n l e in
+      let q = row_line_at c p more k document there placed_in refl n l e in
       (q.0, q.1, go q.0 q.2 q.3 (cases_lt q.0.line (length q.0.row.dashes)))
     where
-      go : (q : Seat) (d : IsSeated p.rows n q) → d.line ≡ l → (q.line < length q.row.dashes) ⊎ (length q.row.dashes ≤ q.line) → q.line ≡ length q.row.dashes
+      go : (q : RowLine) (d : IsPrintedLine p.rows n q) → d.line ≡ l → (q.line < length q.row.dashes) ⊎ (length q.row.dashes ≤ q.line) → q.line ≡ length q.row.dashes
       go q d is (inl less) = let x = d.deeper less in absurd (omega (arith, none_deeper x.0 x.1, x.2, ap (λ (y : PrintedLine). level y.line) is))
       go q d is (inr most) = omega (arith, most, d.within)
 
@@ -90,13 +90,13 @@ module _ (c : Cut) (p : Part) (more : List Row) (k : ℕ) (before behind : List 
       ArePrinted (take m (drop from (printed_lines p.rows))) rest →
       ((j : ℕ) → m ≡ suc j → (l x : PrintedLine) → slice_get (printed_lines p.rows) (from + j) ≡ Some l → slice_get (printed_lines p.rows) (suc (from + j)) ≡ Some x → level x.line ≤ level l.line) →
       option_map piece_span (lines_piece (before ++ print_lines (take from (printed_lines p.rows)) []) (take m (drop from (printed_lines p.rows))) rest) ≡ lines_content k c p.rows from (from + m)
-  block_span from zero o e rest within even lines told_in last = sym (cond-true _ _ _ (eq-eqb from (from + 0) (omega arith)))
-  block_span from (suc j) o e rest within even lines told_in last =
+  block_span from zero o e rest within even lines agrees_in last = sym (cond-true _ _ _ (eq-eqb from (from + 0) (omega arith)))
+  block_span from (suc j) o e rest within even lines agrees_in last =
       let l = within_some (printed_lines p.rows) from (omega (arith, within)) in
       let us : List PrintedLine = take j (drop (suc from) (printed_lines p.rows)) in
       let split : take (suc j) (drop from (printed_lines p.rows)) ≡ l.0 ∷ us = ap (take (suc j)) (get_some (printed_lines p.rows) from l.0 l.1) in
       ap (λ x. option_map piece_span (lines_piece (before ++ print_lines (take from (printed_lines p.rows)) []) x rest)) split
-      ∙ (go l.0 l.1 o even (ap (map line_in) (sym split) ∙ lines) (subst (λ x. ArePrinted x rest) split told_in) (is_bare l.0.line.mark) refl
+      ∙ (go l.0 l.1 o even (ap (map line_in) (sym split) ∙ lines) (subst (λ x. ArePrinted x rest) split agrees_in) (is_bare l.0.line.mark) refl
       ∙ sym (cond-false _ _ _ (apart (eqb from (from + suc j)) refl) ∙ ap (λ (x : Option Line). x >>= λ y. cond (is_bare y.mark) (line_head k c p.rows from) (lines_place k c p.rows from (from + suc j - 1))) (line_at from l.0 l.1)))
     where
       apart : (b : Bool) → eqb from (from + suc j) ≡ b → b ≡ false
@@ -108,10 +108,10 @@ module _ (c : Cut) (p : Part) (more : List Row) (k : ℕ) (before behind : List 
           option_map piece_span (cond b (head_piece ((before ++ print_lines (take from (printed_lines p.rows)) []) ++ (line_front l ++ l.mark)) l.content (print_lines (take j (drop (suc from) (printed_lines p.rows))) rest))
           (Some (run_piece (before ++ print_lines (take from (printed_lines p.rows)) []) l (take j (drop (suc from) (printed_lines p.rows))) rest))) ≡
           cond b (line_head k c p.rows from) (lines_place k c p.rows from (from + suc j - 1))
-      go l el o even lines told_in true t =
+      go l el o even lines agrees_in true t =
           let h = bare_head e l (take j (drop (suc from) (printed_lines p.rows))) o even lines t in
-          head_span c p more k document there placed_in refl from l h.0 (print_lines (take j (drop (suc from) (printed_lines p.rows))) rest) el h.1 told_in.0
-      go l el o even lines told_in false t =
+          head_span c p more k document there placed_in refl from l h.0 (print_lines (take j (drop (suc from) (printed_lines p.rows))) rest) el h.1 agrees_in.0
+      go l el o even lines agrees_in false t =
           let z = within_some (printed_lines p.rows) (from + j) (omega (arith, within)) in
           let b = last_line (from + j) z.0 z.1 (λ x ex. last j refl z.0 x z.1 ex) in
           let to : from + j ≡ from + suc j - 1 = omega arith in
@@ -139,7 +139,7 @@ module _ (c : Cut) (p : Part) (more : List Row) (k : ℕ) (before behind : List 
           omega (arith, count_holds (level l.line) (drop (suc n) (map line_in (printed_lines p.rows))) j z.line (omega (arith, is, count)) (line j z (ap (slice_get (printed_lines p.rows)) there_is ∙ ez)))
 
   -- An entry of the document, by the number of its line and how many are under it.
-  pub record IsEntryAt (f : Found) (n m : ℕ) (l : PrintedLine) (e : BlockEntry) : Type 0 where
+  pub record IsEntryAt (f : FoundLine) (n m : ℕ) (l : PrintedLine) (e : BlockEntry) : Type 0 where
     pub line : slice_get (printed_lines p.rows) n ≡ Some l
     pub line_is : l.line ≡ f.line
     pub before_is : e.before ≡ before ++ print_lines (take n (printed_lines p.rows)) []
@@ -152,7 +152,7 @@ module _ (c : Cut) (p : Part) (more : List Row) (k : ℕ) (before behind : List 
     pub even : (d : ℕ) × IsEven d f.under
     pub all : entry_text e ≡ cut_text c
 
-  pub entry_at_line : (y : Step) (ys rest : List Step) (f : Found) → find y ys (group (map line_in (printed_lines p.rows))) ≡ Some (f, rest) →
+  pub entry_at_line : (y : Step) (ys rest : List Step) (f : FoundLine) → find y ys (group (map line_in (printed_lines p.rows))) ≡ Some (f, rest) →
       (e : BlockEntry) × (found_entry document f ≡ Some e) × (l : PrintedLine) × IsEntryAt f (length (lines_before f.place)) (length (flatten f.under)) l e
   entry_at_line y ys rest f is =
       let n : ℕ = length (lines_before f.place) in
@@ -169,7 +169,7 @@ module _ (c : Cut) (p : Part) (more : List Row) (k : ℕ) (before behind : List 
       ) in
       let l = line_there document y ys rest f is in
       let there_is = entry_is document f l.0 l.1 in
-      let found = entry_found document y ys rest f _ is told there_is in
+      let found = entry_found document y ys rest f _ is as_printed there_is in
       let ends = end_is (map line_in (printed_lines p.rows)) y ys rest f is fine in
       let even = (found_place (map line_in (printed_lines p.rows)) y ys rest f is fine).1.3 in (
         _,
@@ -190,7 +190,7 @@ module _ (c : Cut) (p : Part) (more : List Row) (k : ℕ) (before behind : List 
         },
       )
 
-  entry_span : (f : Found) (n m : ℕ) (l : PrintedLine) (e : BlockEntry) → IsEntryAt f n m l e → Some (piece_span (entry_piece e)) ≡ line_entry k c p.rows n
+  entry_span : (f : FoundLine) (n m : ℕ) (l : PrintedLine) (e : BlockEntry) → IsEntryAt f n m l e → Some (piece_span (entry_piece e)) ≡ line_entry k c p.rows n
   entry_span f n m l e h =
       let z = within_some (printed_lines p.rows) (n + m) (omega (arith, h.fits)) in
       let b = last_line (n + m) z.0 z.1 (λ x ex. last_under n m l z.0 x h.line h.count z.1 ex) in
@@ -198,7 +198,7 @@ module _ (c : Cut) (p : Part) (more : List Row) (k : ℕ) (before behind : List 
       (λ i. Some (piece_span (run_piece (h.before_is i) (h.line_in_it i) (h.under_is i) e.behind)))
       ∙ (run_span c p more k document there placed_in refl n m l z.0 e.behind b.0 h.line z.1 b.1 b.2 ∙ ap (lines_place k c p.rows n) to)
 
-  content_span : (f : Found) (n m : ℕ) (l : PrintedLine) (e : BlockEntry) → IsEntryAt f n m l e → option_map piece_span (content_piece e) ≡ line_content k c p.rows n
+  content_span : (f : FoundLine) (n m : ℕ) (l : PrintedLine) (e : BlockEntry) → IsEntryAt f n m l e → option_map piece_span (content_piece e) ≡ line_content k c p.rows n
   content_span f n m l e h =
       go l.line.head refl
       ∙ sym (ap (λ (o : Option Line). o >>= λ x. cond (is_some x.head) (line_head k c p.rows n) (lines_content k c p.rows (suc n) (lines_end n (lines_of p.rows)))) (line_at n l h.line))
@@ -210,7 +210,7 @@ module _ (c : Cut) (p : Part) (more : List Row) (k : ℕ) (before behind : List 
       go (Some x) head =
           ap (option_map piece_span) (cond-true _ _ _ (ap is_some (head_is ∙ head)))
           ∙ ((λ i. option_map piece_span (head_piece (h.before_is i ++ (line_front (h.line_in_it i) ++ (h.line_in_it i).mark)) (h.line_in_it i).content (print_lines e.under e.behind)))
-          ∙ (head_span c p more k document there placed_in refl n l x (print_lines e.under e.behind) h.line head (subst (λ w. IsPrinted w (print_lines e.under e.behind)) h.line_in_it h.found.told.0)
+          ∙ (head_span c p more k document there placed_in refl n l x (print_lines e.under e.behind) h.line head (subst (λ w. IsPrinted w (print_lines e.under e.behind)) h.line_in_it h.found.as_printed.0)
           ∙ sym (cond-true _ _ _ (ap is_some head))))
       go None head =
           let start : (before ++ print_lines (take n (printed_lines p.rows)) []) ++ print_line l [] ≡ before ++ print_lines (take (suc n) (printed_lines p.rows)) [] =
@@ -219,7 +219,7 @@ module _ (c : Cut) (p : Part) (more : List Row) (k : ℕ) (before behind : List 
           ap (option_map piece_span) (cond-false _ _ _ (ap is_some (head_is ∙ head)))
           ∙ ((λ i. option_map piece_span (lines_piece (h.before_is i ++ print_line (h.line_in_it i) []) (h.under_is i) e.behind))
           ∙ (ap (λ x. option_map piece_span (lines_piece x (take m (drop (suc n) (printed_lines p.rows))) e.behind)) start
-          ∙ (block_span (suc n) m f.under h.even.0 e.behind h.fits h.even.1 (ap (map line_in) (sym h.under_is) ∙ h.found.lines) (subst (λ x. ArePrinted x e.behind) h.under_is h.found.told.1)
+          ∙ (block_span (suc n) m f.under h.even.0 e.behind h.fits h.even.1 (ap (map line_in) (sym h.under_is) ∙ h.found.lines) (subst (λ x. ArePrinted x e.behind) h.under_is h.found.as_printed.1)
           (λ j is w x ew ex.
           let here_is : suc n + j ≡ n + m = omega (arith, is) in
           let next_is : suc (suc n + j) ≡ suc (n + m) = omega (arith, is) in
@@ -252,24 +252,24 @@ module _ (c : Cut) (p : Part) (more : List Row) (k : ℕ) (before behind : List 
       let r = items_agree (flow_at (t ∷ ts) z) (λ w at_w. ap length (own_text ∙ sym (at_whole (t ∷ ts) z w at_w))) in
       (sym r.0 ∙ ap (option_map entry_place) (sym places_are), sym r.1 ∙ ap (option_and_then (λ (w : PlacedEntry). content_place w.1)) (sym places_are))
 
-  flow_span : (f : Found) (n m : ℕ) (l : PrintedLine) (e : BlockEntry) (t : Step) (ts : List Step) → IsEntryAt f n m l e → (h : tree.Node) → f.line.head ≡ Some h →
+  flow_span : (f : FoundLine) (n m : ℕ) (l : PrintedLine) (e : BlockEntry) (t : Step) (ts : List Step) → IsEntryAt f n m l e → (h : tree.Node) → f.line.head ≡ Some h →
       (option_map piece_span (line_inline e >>= λ x. option_map flow_piece (flow_at (t ∷ ts) x)) ≡ option_map entry_place (flow_entry k c p.rows n (t ∷ ts))) ×
       (option_map piece_span (line_inline e >>= λ x. flow_at (t ∷ ts) x >>= flow_content) ≡ option_and_then (λ (x : PlacedEntry). content_place x.1) (flow_entry k c p.rows n (t ∷ ts)))
   flow_span f n m l e t ts h x head =
-      let q = seat_at c p more k document there placed_in refl n l h.line in
-      let seat_is : flow_entry k c p.rows n (t ∷ ts) ≡ placed_entry_at (t ∷ ts) (None, placed_inline (k + q.0.before) q.0.row c) =
-      ap (λ (o : Option Seat). o >>= λ z. placed_entry_at (t ∷ ts) (None, placed_inline (k + z.before) z.row c)) q.1 in
+      let q = row_line_at c p more k document there placed_in refl n l h.line in
+      let row_line_is : flow_entry k c p.rows n (t ∷ ts) ≡ placed_entry_at (t ∷ ts) (None, placed_inline (k + q.0.before) q.0.row c) =
+      ap (λ (o : Option RowLine). o >>= λ z. placed_entry_at (t ∷ ts) (None, placed_inline (k + z.before) z.row c)) q.1 in
       let r = go q.0 q.1 q.2 q.3 (mark_last q.0 q.2 q.3 (cases_lt q.0.line (length q.0.row.dashes))) q.0.row.content refl in
-      (r.0 ∙ ap (option_map entry_place) (sym seat_is), r.1 ∙ ap (option_and_then (λ (z : PlacedEntry). content_place z.1)) (sym seat_is))
+      (r.0 ∙ ap (option_map entry_place) (sym row_line_is), r.1 ∙ ap (option_and_then (λ (z : PlacedEntry). content_place z.1)) (sym row_line_is))
     where
       line_head_is : l.line.head ≡ Some x
       line_head_is = ap (λ (w : Line). w.head) h.line_is ∙ head
 
-      mark_last : (q : Seat) (d : IsSeated p.rows n q) → d.line ≡ l → (q.line < length q.row.dashes) ⊎ (length q.row.dashes ≤ q.line) → q.line ≡ length q.row.dashes
+      mark_last : (q : RowLine) (d : IsPrintedLine p.rows n q) → d.line ≡ l → (q.line < length q.row.dashes) ⊎ (length q.row.dashes ≤ q.line) → q.line ≡ length q.row.dashes
       mark_last q d is (inl less) = absurd (none-some _ (sym (d.deeper less).3 ∙ (ap (λ (w : PrintedLine). w.line.head) is ∙ line_head_is)))
       mark_last q d is (inr most) = omega (arith, most, d.within)
 
-      go : (q : Seat) → seat n p.rows ≡ Some q → (d : IsSeated p.rows n q) → d.line ≡ l → q.line ≡ length q.row.dashes → (y : Content) → q.row.content ≡ y →
+      go : (q : RowLine) → row_line n p.rows ≡ Some q → (d : IsPrintedLine p.rows n q) → d.line ≡ l → q.line ≡ length q.row.dashes → (y : Content) → q.row.content ≡ y →
           (option_map piece_span (line_inline e >>= λ w. option_map flow_piece (flow_at (t ∷ ts) w)) ≡ option_map entry_place (placed_entry_at (t ∷ ts) (None, placed_inline (k + q.before) q.row c))) ×
           (option_map piece_span (line_inline e >>= λ w. flow_at (t ∷ ts) w >>= flow_content) ≡ option_and_then (λ (z : PlacedEntry). content_place z.1) (placed_entry_at (t ∷ ts) (None, placed_inline (k + q.before) q.row c)))
       go q is d line_is last y content =
@@ -309,10 +309,10 @@ module _ (c : Cut) (p : Part) (more : List Row) (k : ℕ) (before behind : List 
           )
         where
           own_head : head_of e.line.content ≡ Some x
-          own_head = sym h.found.told.0.head ∙ (ap (λ (w : PrintedLine). w.line.head) h.line_in_it ∙ line_head_is)
+          own_head = sym h.found.as_printed.0.head ∙ (ap (λ (w : PrintedLine). w.line.head) h.line_in_it ∙ line_head_is)
 
   -- the parts of the node to which steps lead
-  content_from_span : (y : Step) (ys rest : List Step) (f : Found) → find y ys (group (map line_in (printed_lines p.rows))) ≡ Some (f, rest) →
+  content_from_span : (y : Step) (ys rest : List Step) (f : FoundLine) → find y ys (group (map line_in (printed_lines p.rows))) ≡ Some (f, rest) →
       option_map piece_span (found_entry document f >>= piece_in_entry parts.Content rest) ≡ content_from k c p.rows (length (lines_before f.place)) rest
   content_from_span y ys [] f is =
       let e = entry_at_line y ys [] f is in
@@ -322,7 +322,7 @@ module _ (c : Cut) (p : Part) (more : List Row) (k : ℕ) (before behind : List 
       let h = head_there (map line_in (printed_lines p.rows)) y ys t ts f is fine in
       ap (λ o. option_map piece_span (o >>= piece_in_entry parts.Content (t ∷ ts))) e.1 ∙ (flow_span f (length (lines_before f.place)) (length (flatten f.under)) e.2 e.0 t ts e.3 h.0 h.1).1
 
-  entry_from_span : (y : Step) (ys rest : List Step) (f : Found) → find y ys (group (map line_in (printed_lines p.rows))) ≡ Some (f, rest) →
+  entry_from_span : (y : Step) (ys rest : List Step) (f : FoundLine) → find y ys (group (map line_in (printed_lines p.rows))) ≡ Some (f, rest) →
       option_map piece_span (found_entry document f >>= piece_in_entry parts.Entry rest) ≡ entry_from k c p.rows (length (lines_before f.place)) rest
   entry_from_span y ys [] f is =
       let e = entry_at_line y ys [] f is in
@@ -341,7 +341,7 @@ module _ (c : Cut) (p : Part) (more : List Row) (k : ℕ) (before behind : List 
       ∙ (ap (λ x. option_map piece_span (lines_piece (before ++ []) x behind)) (sym whole_list)
       ∙ (block_span 0 (length (printed_lines p.rows)) (group (map line_in (printed_lines p.rows))) (level_or 0 (group (map line_in (printed_lines p.rows)))) behind (omega arith)
       (even_from (level_or 0 (group (map line_in (printed_lines p.rows)))) (group (map line_in (printed_lines p.rows))) fine)
-      (ap (map line_in) whole_list ∙ sym (flatten-group (map line_in (printed_lines p.rows)))) (subst (λ x. ArePrinted x behind) (sym whole_list) told)
+      (ap (map line_in) whole_list ∙ sym (flatten-group (map line_in (printed_lines p.rows)))) (subst (λ x. ArePrinted x behind) (sym whole_list) as_printed)
       (λ j is l x el ex. absurd (omega (arith, is, slice_get_within (printed_lines p.rows) (suc (0 + j)) x ex)))
       ∙ ap (lines_content k c p.rows 0) (sym size)))
     where
@@ -350,7 +350,7 @@ module _ (c : Cut) (p : Part) (more : List Row) (k : ℕ) (before behind : List 
       take_whole (x ∷ xs) = ap (λ l. x ∷ l) (take_whole xs)
   contents_span (y ∷ ys) = go (find y ys (group (map line_in (printed_lines p.rows)))) refl ∙ ap (λ ls. reached (y ∷ ys) ls >>= λ x. content_from k c p.rows x.0 x.1) (lines_are p.rows)
     where
-      go : (o : Option (Found × List Step)) → find y ys (group (map line_in (printed_lines p.rows))) ≡ o →
+      go : (o : Option (FoundLine × List Step)) → find y ys (group (map line_in (printed_lines p.rows))) ≡ o →
           option_map piece_span (o >>= λ f. found_entry document f.0 >>= piece_in_entry parts.Content f.1) ≡ (by_line o >>= λ x. content_from k c p.rows x.0 x.1)
       go None is = refl
       go (Some f) is = content_from_span y ys f.1 f.0 is
@@ -359,7 +359,7 @@ module _ (c : Cut) (p : Part) (more : List Row) (k : ℕ) (before behind : List 
   entries_span [] = refl
   entries_span (y ∷ ys) = go (find y ys (group (map line_in (printed_lines p.rows)))) refl ∙ ap (λ ls. reached (y ∷ ys) ls >>= λ x. entry_from k c p.rows x.0 x.1) (lines_are p.rows)
     where
-      go : (o : Option (Found × List Step)) → find y ys (group (map line_in (printed_lines p.rows))) ≡ o →
+      go : (o : Option (FoundLine × List Step)) → find y ys (group (map line_in (printed_lines p.rows))) ≡ o →
           option_map piece_span (o >>= λ f. found_entry document f.0 >>= piece_in_entry parts.Entry f.1) ≡ (by_line o >>= λ x. entry_from k c p.rows x.0 x.1)
       go None is = refl
       go (Some f) is = entry_from_span y ys f.1 f.0 is

@@ -26,16 +26,16 @@ use Rattle.yq_lines.proofs.LabelPaths.{FoundEntry, path_entry}
 use Rattle.yq_documents.specs.Located.{steps_of, document_at, labelled_located, located, unlabelled}
 use Rattle.yq_lines.specs.Outline as outlines
 use Rattle.yq_lines.specs.Outline.{Mark, Line, level, Outline, end, row, flatten, IsEven, first_anchor, head_or, value, label}
-use Rattle.yq_lines.specs.Places.{lines_before, lines_after, Found, find}
+use Rattle.yq_lines.specs.Places.{lines_before, lines_after, FoundLine, find}
 use Rattle.yq_lines.specs.Places as places
 use Rattle.yq_documents.specs.Reading.{document_of, read_at}
-use Rattle.yq_lines.specs.Spots.{is_bare}
+use Rattle.yq_lines.specs.Positions.{is_bare}
 use Rattle.yq_documents.proofs.PartRows.{each}
 use Rattle.yq_lines.proofs.Decides.{flatten-group, even_from}
 use Rattle.yq_lines.proofs.Finding.{entry_of}
 use Rattle.yq_places.proofs.ReadLaws.{cut_is, text_takes}
 use Rattle.yq_places.proofs.RowPathLaws.{found_place, document_fine}
-use Rattle.yq_documents.specs.Pieces.{Piece, node_piece, head_piece}
+use Rattle.yq_documents.specs.Pieces.{TextPiece, node_piece, head_piece}
 use Rattle.yq_places.specs.PrintedLines.{line_front, PrintedLine, print_line, print_lines, line_in, run_piece, lines_piece}
 use Rattle.yq_places.specs.PathPieces.{BlockEntry, content_piece, FlowEntry, flow_at, line_inline, flow_content, PrintedDocument, printed_document, found_entry, piece_in_entry, piece_in}
 use Rattle.yq_places.specs.PieceLaws.{IsInlinePiece, IsRun, SpellsTree, SpellsNode, IsEntryRun, IsFlowPiece, ContentsSpell, EntriesSpell, LinesStand}
@@ -46,47 +46,47 @@ use Rattle.yq_places.proofs.FoundEntries.{IsIn, IsFound, entry_found}
 use Rattle.yq_places.proofs.FlowPieces.{none_anchored, twice, head_tree, head_item_at, head_there}
 
 -- an inline node
-pub node_spells : (before : List ℕ) (node : Node) (behind : List ℕ) (x : Piece) → node_piece before node behind ≡ Some x → IsValid node behind →
+pub node_spells : (before : List ℕ) (node : Node) (behind : List ℕ) (x : TextPiece) → node_piece before node behind ≡ Some x → IsValid node behind →
     (h : tree.Node) × (node_head node ≡ Some h) × IsInlinePiece x h
 unfolding IsNode
 node_spells before empty behind x e v = absurd (none-some _ e)
-node_spells before (alias name) behind x e v = (_, refl, record { node = alias name; unnamed = refl; text = ap (λ (p : Piece). p.text) (sym (same_Some _ _ e)); valid = subst (λ (p : Piece). IsValid (alias name) p.behind) (same_Some _ _ e) v; tree = refl })
-node_spells before (scalar p) behind x e v = (_, refl, record { node = scalar p; unnamed = refl; text = ap (λ (p : Piece). p.text) (sym (same_Some _ _ e)); valid = subst (λ (q : Piece). IsValid (scalar p) q.behind) (same_Some _ _ e) v; tree = refl })
+node_spells before (alias name) behind x e v = (_, refl, record { node = alias name; unnamed = refl; text = ap (λ (p : TextPiece). p.text) (sym (same_Some _ _ e)); valid = subst (λ (p : TextPiece). IsValid (alias name) p.behind) (same_Some _ _ e) v; tree = refl })
+node_spells before (scalar p) behind x e v = (_, refl, record { node = scalar p; unnamed = refl; text = ap (λ (p : TextPiece). p.text) (sym (same_Some _ _ e)); valid = subst (λ (q : TextPiece). IsValid (scalar p) q.behind) (same_Some _ _ e) v; tree = refl })
 node_spells before (coll close gap items) behind x e v =
-    (_, refl, record { node = coll close gap items; unnamed = refl; text = ap (λ (p : Piece). p.text) (sym (same_Some _ _ e)); valid = subst (λ (p : Piece). IsValid (coll close gap items) p.behind) (same_Some _ _ e) v; tree = refl })
+    (_, refl, record { node = coll close gap items; unnamed = refl; text = ap (λ (p : TextPiece). p.text) (sym (same_Some _ _ e)); valid = subst (λ (p : TextPiece). IsValid (coll close gap items) p.behind) (same_Some _ _ e) v; tree = refl })
 node_spells before (anchored name gap node) behind x e v = node_spells (before ++ 38 ∷ (name ++ gap)) node behind x e (v.0, v.1, v.2, v.3.4)
 
 -- what is written behind a mark
-pub head_spells : (s : PrintedDocument) (before : List ℕ) (c : Content) (behind : List ℕ) (x : Piece) → head_piece before c behind ≡ Some x → IsWritten c behind → (h : tree.Node) × (head_of c ≡ Some h) × SpellsTree s x h
+pub head_spells : (s : PrintedDocument) (before : List ℕ) (c : Content) (behind : List ℕ) (x : TextPiece) → head_piece before c behind ≡ Some x → IsWritten c behind → (h : tree.Node) × (head_of c ≡ Some h) × SpellsTree s x h
 head_spells s before (Nothing tail) behind x e w = absurd (none-some _ e)
 head_spells s before (Inline space node tail) behind x e w = let k = node_spells (before ++ space) node (tail ++ behind) x e w in (k.0, k.1, inl k.2)
 head_spells s before (Block space anchor block) behind x e w =
-    (_, refl, inr (inl (record { block = block; text = ap (λ (p : Piece). p.text) (sym (same_Some _ _ e)); valid = subst (λ (p : Piece). (least : ℕ) × IsBlock least block p.behind) (same_Some _ _ e) w; tree = refl })))
+    (_, refl, inr (inl (record { block = block; text = ap (λ (p : TextPiece). p.text) (sym (same_Some _ _ e)); valid = subst (λ (p : TextPiece). (least : ℕ) × IsBlock least block p.behind) (same_Some _ _ e) w; tree = refl })))
 
-pub behind_anchor : (s : PrintedDocument) (a : Option (List ℕ)) (x : Piece) (n : tree.Node) → SpellsNode s x n → SpellsNode s x (outlines.anchored a n)
+pub behind_anchor : (s : PrintedDocument) (a : Option (List ℕ)) (x : TextPiece) (n : tree.Node) → SpellsNode s x n → SpellsNode s x (outlines.anchored a n)
 behind_anchor s a x n h = record { anchor = first_anchor a h.anchor; tree = h.tree; node = ap (outlines.anchored a) h.node ∙ twice a h.anchor h.tree; spelled = h.spelled }
 
 -- the node of a line's head
-pub line_spells : (s : PrintedDocument) (before : List ℕ) (l : PrintedLine) (rest : List ℕ) (x : Piece) → IsPrinted l rest → head_piece before l.content rest ≡ Some x → (n : tree.Node) →
+pub line_spells : (s : PrintedDocument) (before : List ℕ) (l : PrintedLine) (rest : List ℕ) (x : TextPiece) → IsPrinted l rest → head_piece before l.content rest ≡ Some x → (n : tree.Node) →
     SpellsNode s x (outlines.anchored l.line.anchor (head_or l.line.head n))
-line_spells s before l rest x told e n =
-    let k = head_spells s before l.content rest x e told.written in
-    record { anchor = l.line.anchor; tree = k.0; node = ap (λ h. outlines.anchored l.line.anchor (head_or h n)) (told.head ∙ k.1); spelled = k.2 }
+line_spells s before l rest x as_printed e n =
+    let k = head_spells s before l.content rest x e as_printed.written in
+    record { anchor = l.line.anchor; tree = k.0; node = ap (λ h. outlines.anchored l.line.anchor (head_or h n)) (as_printed.head ∙ k.1); spelled = k.2 }
 
 pub bare_is : (m : Mark) → is_bare m ≡ true → m ≡ outlines.Bare
 bare_is outlines.Bare e = refl
 bare_is (outlines.Key k) e = cc
 bare_is outlines.Dash e = cc
 
-run_of : (s : PrintedDocument) (before : List ℕ) (l : PrintedLine) (ls : List PrintedLine) (behind : List ℕ) (x : Piece) → IsIn s before (l ∷ ls) behind → run_piece before l ls behind ≡ x → IsRun s l ls x
+run_of : (s : PrintedDocument) (before : List ℕ) (l : PrintedLine) (ls : List PrintedLine) (behind : List ℕ) (x : TextPiece) → IsIn s before (l ∷ ls) behind → run_piece before l ls behind ≡ x → IsRun s l ls x
 run_of s before l ls behind x h e = record { above = h.above; below = h.below; lines = h.lines; piece = sym e ∙ (λ i. run_piece (h.start i) l ls (h.stop i)) }
 
 -- the node for which lines stand
-pub block_spells : (s : PrintedDocument) (before : List ℕ) (ls : List PrintedLine) (behind : List ℕ) (x : Piece) (o : Outline) (m : ℕ) → IsIn s before ls behind → lines_piece before ls behind ≡ Some x →
+pub block_spells : (s : PrintedDocument) (before : List ℕ) (ls : List PrintedLine) (behind : List ℕ) (x : TextPiece) (o : Outline) (m : ℕ) → IsIn s before ls behind → lines_piece before ls behind ≡ Some x →
     ArePrinted ls behind → map line_in ls ≡ flatten o → IsEven m o → SpellsNode s x (value o)
-block_spells s before [] behind x o m inside e told lines even = absurd (none-some _ e)
-block_spells s before (l ∷ ls) behind x end m inside e told lines even = cc
-block_spells s before (l ∷ ls) behind x (row k u a) m inside e told lines even = go (is_bare l.line.mark) refl e
+block_spells s before [] behind x o m inside e as_printed lines even = absurd (none-some _ e)
+block_spells s before (l ∷ ls) behind x end m inside e as_printed lines even = cc
+block_spells s before (l ∷ ls) behind x (row k u a) m inside e as_printed lines even = go (is_bare l.line.mark) refl e
   where
     first : l.line ≡ k
     first = cc
@@ -96,7 +96,7 @@ block_spells s before (l ∷ ls) behind x (row k u a) m inside e told lines even
         let mark : k.mark ≡ outlines.Bare = ap (λ (j : Line). j.mark) (sym first) ∙ bare_is l.line.mark t in
         let node : value (row k u a) ≡ outlines.anchored k.anchor (head_or k.head (value u)) = ap (λ j. outlines.collection j (outlines.children (row k u a))) mark in
         subst (SpellsNode s x) (ap (λ (j : Line). outlines.anchored j.anchor (head_or j.head (value u))) first ∙ sym node)
-        (line_spells s (before ++ (line_front l ++ l.mark)) l (print_lines ls behind) x told.0 e (value u))
+        (line_spells s (before ++ (line_front l ++ l.mark)) l (print_lines ls behind) x as_printed.0 e (value u))
     go false t e = record {
       anchor = None;
       tree = value (row k u a);
@@ -116,40 +116,40 @@ under_in s e h = record {
 }
 
 -- the content of a line
-pub content_spells : (s : PrintedDocument) (e : BlockEntry) (f : Found) (x : Piece) (m : ℕ) → IsFound s e f → IsEven m f.under → content_piece e ≡ Some x → SpellsNode s x (places.content f.line f.under)
+pub content_spells : (s : PrintedDocument) (e : BlockEntry) (f : FoundLine) (x : TextPiece) (m : ℕ) → IsFound s e f → IsEven m f.under → content_piece e ≡ Some x → SpellsNode s x (places.content f.line f.under)
 content_spells s e f x m h even is = go e.line.line.head refl is
   where
     go : (o : Option tree.Node) → e.line.line.head ≡ o → cond (is_some o) (head_piece (e.before ++ (line_front e.line ++ e.line.mark)) e.line.content (print_lines e.under e.behind)) (lines_piece (e.before ++ print_line e.line []) e.under e.behind) ≡ Some x →
         SpellsNode s x (places.content f.line f.under)
     go (Some k) head is =
-        subst (SpellsNode s x) (ap (λ (j : Line). places.content j f.under) h.line) (line_spells s (e.before ++ (line_front e.line ++ e.line.mark)) e.line (print_lines e.under e.behind) x h.told.0 is (value f.under))
+        subst (SpellsNode s x) (ap (λ (j : Line). places.content j f.under) h.line) (line_spells s (e.before ++ (line_front e.line ++ e.line.mark)) e.line (print_lines e.under e.behind) x h.as_printed.0 is (value f.under))
     go None head is =
         subst (SpellsNode s x) (ap (λ j. outlines.anchored f.line.anchor (head_or j (value f.under))) (sym head ∙ ap (λ (j : Line). j.head) h.line))
-        (behind_anchor s f.line.anchor x (value f.under) (block_spells s (e.before ++ print_line e.line []) e.under e.behind x f.under m (under_in s e h.inside) is h.told.1 h.lines even))
+        (behind_anchor s f.line.anchor x (value f.under) (block_spells s (e.before ++ print_line e.line []) e.under e.behind x f.under m (under_in s e h.inside) is h.as_printed.1 h.lines even))
 
-pub value_spells : (s : PrintedDocument) (x : FlowEntry) (p : Piece) → flow_content x ≡ Some p → IsValid x.node x.behind → SpellsNode s p (tree_of x.node)
+pub value_spells : (s : PrintedDocument) (x : FlowEntry) (p : TextPiece) → flow_content x ≡ Some p → IsValid x.node x.behind → SpellsNode s p (tree_of x.node)
 value_spells s x p e v =
     let k = node_spells (x.before ++ key_text x.key []) x.node x.behind p e v in
     let a = head_tree x.node k.0 k.1 in
     record { anchor = a.0; tree = k.0; node = a.1; spelled = inl k.2 }
 
 -- what a part says of a node with its label
-abbrev pub Says : PrintedDocument → WhichPart → Piece → Labelled → Type 0
+abbrev pub Says : PrintedDocument → WhichPart → TextPiece → Labelled → Type 0
 Says s parts.Content x n = SpellsNode s x n.1
 Says s parts.Entry x n = IsEntryRun s x n ⊎ IsFlowPiece x n
 Says s parts.HeadComment x n = Unit {0}
 Says s parts.LineComment x n = Unit {0}
 
 -- there is one of which that is said
-abbrev pub Spelled : PrintedDocument → WhichPart → Piece → Option Labelled → Type 0
+abbrev pub Spelled : PrintedDocument → WhichPart → TextPiece → Option Labelled → Type 0
 Spelled s part x o = (n : Labelled) × (o ≡ Some n) × Says s part x n
 
 -- steps go on only in a head
-abbrev HasHead : List Step → Found → Type 0
+abbrev HasHead : List Step → FoundLine → Type 0
 HasHead [] f = Unit {0}
 HasHead (t ∷ ts) f = (h : tree.Node) × (f.line.head ≡ Some h)
 
-pub part_spells : (s : PrintedDocument) (part : WhichPart) (ss : List Step) (e : BlockEntry) (f : Found) (x : Piece) → IsFound s e f → HasHead ss f → ((m : ℕ) × (level f.line < m) × IsEven m f.under) → piece_in_entry part ss e ≡ Some x →
+pub part_spells : (s : PrintedDocument) (part : WhichPart) (ss : List Step) (e : BlockEntry) (f : FoundLine) (x : TextPiece) → IsFound s e f → HasHead ss f → ((m : ℕ) × (level f.line < m) × IsEven m f.under) → piece_in_entry part ss e ≡ Some x →
     Spelled s part x (labelled_from ss (entry_of f.line f.under))
 part_spells s parts.Content [] e f x h head even is = (_, refl, content_spells s e f x even.0 h even.2 is)
 part_spells s parts.Content (t ∷ ts) e f x h head even is =
@@ -175,39 +175,39 @@ part_spells s parts.Entry (t ∷ ts) e f x h head even is =
     let k = bind_some (line_inline e) is in
     let y = map_some (flow_at (t ∷ ts) k.0) k.2 in
     let at = head_item_at s t ts e f head.0 k.0 y.0 h head.1 k.1 y.1 in
-    let valid = subst (λ (p : Piece). IsNode true (Some 0) at.valid.0 y.0.node p.behind) y.2 at.valid.1 in
-    (_, at.labelled, inr (record { key = y.0.key; node = y.0.node; text = ap (λ (p : Piece). p.text) (sym y.2); valid = (at.valid.0, valid); label = refl; tree = refl }))
+    let valid = subst (λ (p : TextPiece). IsNode true (Some 0) at.valid.0 y.0.node p.behind) y.2 at.valid.1 in
+    (_, at.labelled, inr (record { key = y.0.key; node = y.0.node; text = ap (λ (p : TextPiece). p.text) (sym y.2); valid = (at.valid.0, valid); label = refl; tree = refl }))
 part_spells s parts.HeadComment [] e f x h head even is = (_, refl, tt)
 part_spells s parts.HeadComment (t ∷ ts) e f x h head even is = absurd (none-some _ is)
 part_spells s parts.LineComment [] e f x h head even is = (_, refl, tt)
 part_spells s parts.LineComment (t ∷ ts) e f x h head even is = absurd (none-some _ is)
 
 -- a document
-steps_spell : (part : WhichPart) (y : Step) (ys : List Step) (s : PrintedDocument) (x : Piece) → ArePrinted s.lines s.behind → is_fine (group (map line_in s.lines)) ≡ true →
+steps_spell : (part : WhichPart) (y : Step) (ys : List Step) (s : PrintedDocument) (x : TextPiece) → ArePrinted s.lines s.behind → is_fine (group (map line_in s.lines)) ≡ true →
     (find y ys (group (map line_in s.lines)) >>= λ f. found_entry s f.0 >>= piece_in_entry part f.1) ≡ Some x → Spelled s part x (labelled_from (y ∷ ys) (unlabelled, value (group (map line_in s.lines))))
-steps_spell part y ys s x told fine is =
+steps_spell part y ys s x as_printed fine is =
     let f = bind_some (find y ys (group (map line_in s.lines))) is in
     let e = bind_some (found_entry s f.0.0) f.2 in
     let even = (found_place (map line_in s.lines) y ys f.0.1 f.0.0 f.1 fine).1.3 in
     subst (Spelled s part x) (sym (path_entry y ys (group (map line_in s.lines)) ∙ ap FoundEntry f.1))
-    (part_spells s part f.0.1 e.0 f.0.0 x (entry_found s y ys f.0.1 f.0.0 e.0 f.1 told e.1) (head f.0.1 f.1) (even.0, even.1, even.2) e.2)
+    (part_spells s part f.0.1 e.0 f.0.0 x (entry_found s y ys f.0.1 f.0.0 e.0 f.1 as_printed e.1) (head f.0.1 f.1) (even.0, even.1, even.2) e.2)
   where
-    head : (rest : List Step) {f : Found} → find y ys (group (map line_in s.lines)) ≡ Some (f, rest) → HasHead rest f
+    head : (rest : List Step) {f : FoundLine} → find y ys (group (map line_in s.lines)) ≡ Some (f, rest) → HasHead rest f
     head [] is = tt
     head (t ∷ ts) {f} is = head_there (map line_in s.lines) y ys t ts f is fine
 
-pub document_spells : (part : WhichPart) (ss : List Step) (s : PrintedDocument) (x : Piece) → ArePrinted s.lines s.behind → is_fine (group (map line_in s.lines)) ≡ true → piece_in part ss s ≡ Some x →
+pub document_spells : (part : WhichPart) (ss : List Step) (s : PrintedDocument) (x : TextPiece) → ArePrinted s.lines s.behind → is_fine (group (map line_in s.lines)) ≡ true → piece_in part ss s ≡ Some x →
     Spelled s part x (labelled_from ss (unlabelled, value (group (map line_in s.lines))))
-document_spells parts.Content [] s x told fine is =
+document_spells parts.Content [] s x as_printed fine is =
     let whole : IsIn s s.before s.lines s.behind = record { above = []; below = []; lines = sym (append-nil s.lines); start = sym (append-nil s.before); stop = refl } in
     let even = even_from (level_or 0 (group (map line_in s.lines))) (group (map line_in s.lines)) fine in
-    (_, refl, block_spells s s.before s.lines s.behind x (group (map line_in s.lines)) _ whole is told (sym (flatten-group (map line_in s.lines))) even)
-document_spells parts.Entry [] s x told fine is = absurd (none-some _ is)
-document_spells parts.HeadComment [] s x told fine is = absurd (none-some _ is)
-document_spells parts.LineComment [] s x told fine is = absurd (none-some _ is)
-document_spells part (y ∷ ys) s x told fine is = steps_spell part y ys s x told fine is
+    (_, refl, block_spells s s.before s.lines s.behind x (group (map line_in s.lines)) _ whole is as_printed (sym (flatten-group (map line_in s.lines))) even)
+document_spells parts.Entry [] s x as_printed fine is = absurd (none-some _ is)
+document_spells parts.HeadComment [] s x as_printed fine is = absurd (none-some _ is)
+document_spells parts.LineComment [] s x as_printed fine is = absurd (none-some _ is)
+document_spells part (y ∷ ys) s x as_printed fine is = steps_spell part y ys s x as_printed fine is
 
-by_part : (part : WhichPart) (t : List ℕ) (c : Cut) (p : Path) (s : PrintedDocument) (x : Piece) → read_at t ≡ Some c → printed_document p.doc c ≡ Some s → (printed_document p.doc c >>= piece_in part (steps_of p)) ≡ Some x →
+by_part : (part : WhichPart) (t : List ℕ) (c : Cut) (p : Path) (s : PrintedDocument) (x : TextPiece) → read_at t ≡ Some c → printed_document p.doc c ≡ Some s → (printed_document p.doc c >>= piece_in part (steps_of p)) ≡ Some x →
     Spelled s part x (labelled_located p t)
 unfolding read_at
 by_part part t c p s x read there is =
@@ -219,7 +219,7 @@ by_part part t c p s x read there is =
     let tree : labelled_located p t ≡ labelled_from (steps_of p) (unlabelled, value (group (lines_of q.0.rows))) =
     ap (option_and_then (λ d. labelled_from (steps_of p) (unlabelled, d.root)))
     (ap (λ (k : Cut). slice_get (map document_of (document_parts k)) p.doc) (cut_is t c cut.0) ∙ (slice_get-map document_of (document_parts c) p.doc ∙ ap (option_map document_of) q.1)) in
-    subst (Spelled s part x) (ap (λ ls. labelled_from (steps_of p) (unlabelled, value (group ls))) lines ∙ sym tree) (document_spells part (steps_of p) s x q.2.told fine found)
+    subst (Spelled s part x) (ap (λ ls. labelled_from (steps_of p) (unlabelled, value (group ls))) lines ∙ sym tree) (document_spells part (steps_of p) s x q.2.as_printed fine found)
 
 -- a node at a path is there with its label
 located_is : (p : Path) (t : List ℕ) → option_map (λ x. x.1) (labelled_located p t) ≡ located p t

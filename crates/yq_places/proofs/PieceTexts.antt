@@ -25,9 +25,9 @@ use Rattle.yq_documents.specs.Located.{steps_of}
 use Rattle.yq_lines.specs.Outline.{flatten}
 use Rattle.yq_lines.specs.Places.{lines_before, find}
 use Rattle.yq_documents.specs.Reading.{read_at}
-use Rattle.yq_lines.specs.Spots.{is_bare}
+use Rattle.yq_lines.specs.Positions.{is_bare}
 use Rattle.yq_places.proofs.ReadLaws.{text_takes}
-use Rattle.yq_documents.specs.Pieces.{Piece, node_piece, head_piece, tail_comment, content_comment, last_run, before_run, gap_comment}
+use Rattle.yq_documents.specs.Pieces.{TextPiece, node_piece, head_piece, tail_comment, content_comment, last_run, before_run, gap_comment}
 use Rattle.yq_documents.proofs.RunLaws.{run_split}
 use Rattle.yq_places.specs.PathPieces.{BlockEntry, content_piece, FlowEntry, flow_in, flow_under, flow_at, content_inline, line_inline, flow_piece, flow_content, PrintedDocument, printed_document, entry_with, found_entry, piece_in_entry, piece_in}
 use Rattle.yq_places.specs.PlacedRows.{placed_document}
@@ -35,11 +35,11 @@ use Rattle.yq_places.proofs.PlacedPartLaws.{part_stands}
 use Rattle.yq_places.proofs.PrintedTexts.{line_then, lines_then, lines_append, run_is, map_some, line_split, rows_are}
 
 -- a piece with the text before and behind it
-abbrev pub piece_text : Piece → List ℕ
+abbrev pub piece_text : TextPiece → List ℕ
 piece_text p = p.before ++ (p.text ++ p.behind)
 
 -- a node
-pub node_whole : (before : List ℕ) (node : Node) (behind : List ℕ) (x : Piece) → node_piece before node behind ≡ Some x → piece_text x ≡ before ++ node_text node behind
+pub node_whole : (before : List ℕ) (node : Node) (behind : List ℕ) (x : TextPiece) → node_piece before node behind ≡ Some x → piece_text x ≡ before ++ node_text node behind
 unfolding node_text
 node_whole before empty behind x e = absurd (none-some _ e)
 node_whole before (alias name) behind x e = ap piece_text (sym (same_Some _ _ e)) ∙ ap (λ l. before ++ l) (sym (node_then (alias name) behind))
@@ -49,7 +49,7 @@ node_whole before (anchored name gap node) behind x e =
     node_whole (before ++ 38 ∷ (name ++ gap)) node behind x e
     ∙ (append_assoc before (38 ∷ (name ++ gap)) (node_text node behind) ∙ ap (λ l. before ++ (38 ∷ l)) (append_assoc name gap (node_text node behind)))
 
-pub head_whole : (before : List ℕ) (c : Content) (behind : List ℕ) (x : Piece) → head_piece before c behind ≡ Some x → piece_text x ≡ before ++ content_text c behind
+pub head_whole : (before : List ℕ) (c : Content) (behind : List ℕ) (x : TextPiece) → head_piece before c behind ≡ Some x → piece_text x ≡ before ++ content_text c behind
 head_whole before (Nothing tail) behind x e = absurd (none-some _ e)
 head_whole before (Inline space node tail) behind x e = node_whole (before ++ space) node (tail ++ behind) x e ∙ append_assoc before space (node_text node (tail ++ behind))
 head_whole before (Block space None block) behind x e = ap piece_text (sym (same_Some _ _ e)) ∙ simp append_assoc refl
@@ -59,11 +59,11 @@ head_whole before (Block space (Some a) block) behind x e = ap piece_text (sym (
 pub run_whole : (before : List ℕ) (l : PrintedLine) (ls : List PrintedLine) (behind : List ℕ) → piece_text (run_piece before l ls behind) ≡ before ++ print_lines (l ∷ ls) behind
 run_whole before l ls behind = append_assoc before (line_front l) (run_text l ls ++ (run_break l ls ++ behind)) ∙ ap (λ x. before ++ (line_front l ++ x)) (run_is l ls behind)
 
-mark_whole : (before : List ℕ) (l : PrintedLine) (ls : List PrintedLine) (behind : List ℕ) (x : Piece) → head_piece (before ++ (line_front l ++ l.mark)) l.content (print_lines ls behind) ≡ Some x →
+mark_whole : (before : List ℕ) (l : PrintedLine) (ls : List PrintedLine) (behind : List ℕ) (x : TextPiece) → head_piece (before ++ (line_front l ++ l.mark)) l.content (print_lines ls behind) ≡ Some x →
     piece_text x ≡ before ++ print_lines (l ∷ ls) behind
 mark_whole before l ls behind x e = head_whole (before ++ (line_front l ++ l.mark)) l.content (print_lines ls behind) x e ∙ simp append_assoc refl
 
-pub block_whole : (before : List ℕ) (ls : List PrintedLine) (behind : List ℕ) (x : Piece) → lines_piece before ls behind ≡ Some x → piece_text x ≡ before ++ print_lines ls behind
+pub block_whole : (before : List ℕ) (ls : List PrintedLine) (behind : List ℕ) (x : TextPiece) → lines_piece before ls behind ≡ Some x → piece_text x ≡ before ++ print_lines ls behind
 block_whole before [] behind x e = absurd (none-some _ e)
 block_whole before (l ∷ ls) behind x e = go (is_bare l.line.mark) e
   where
@@ -75,7 +75,7 @@ block_whole before (l ∷ ls) behind x e = go (is_bare l.line.mark) e
 abbrev pub entry_text : BlockEntry → List ℕ
 entry_text e = e.before ++ print_lines (e.line ∷ e.under) e.behind
 
-pub content_whole : (e : BlockEntry) (x : Piece) → content_piece e ≡ Some x → piece_text x ≡ entry_text e
+pub content_whole : (e : BlockEntry) (x : TextPiece) → content_piece e ≡ Some x → piece_text x ≡ entry_text e
 content_whole e x is = go (is_some e.line.line.head) is
   where
     go : (b : Bool) → cond b (head_piece (e.before ++ (line_front e.line ++ e.line.mark)) e.line.content (print_lines e.under e.behind)) (lines_piece (e.before ++ print_line e.line []) e.under e.behind) ≡ Some x → piece_text x ≡ entry_text e
@@ -94,7 +94,7 @@ item_is x = ap (λ l. x.before ++ l) (sym (ap (key_text x.key) (node_then x.node
 key_before : (x : FlowEntry) → (x.before ++ key_text x.key []) ++ node_text x.node x.behind ≡ item_text x
 key_before x = append_assoc x.before (key_text x.key []) (node_text x.node x.behind) ∙ ap (λ l. x.before ++ l) (sym (key_append x.key [] (node_text x.node x.behind)))
 
-value_whole : (x : FlowEntry) (p : Piece) → flow_content x ≡ Some p → piece_text p ≡ item_text x
+value_whole : (x : FlowEntry) (p : TextPiece) → flow_content x ≡ Some p → piece_text p ≡ item_text x
 value_whole x p e = node_whole (x.before ++ key_text x.key []) x.node x.behind p e ∙ key_before x
 
 items_whole : (k : ℕ) (s : Step) (before : List ℕ) (is : Items) (behind : List ℕ) (x : FlowEntry) → flow_in k s before is behind ≡ Some x → item_text x ≡ before ++ items_text k is behind
@@ -143,7 +143,7 @@ in_line_whole : (e : BlockEntry) (x : FlowEntry) → line_inline e ≡ Some x �
 in_line_whole e x is = head_item_whole (e.before ++ (line_front e.line ++ e.line.mark)) e.line.content (print_lines e.under e.behind) x is ∙ simp append_assoc refl
 
 -- comments
-tail_whole : (before tail behind : List ℕ) (x : Piece) → tail_comment before tail behind ≡ Some x → piece_text x ≡ before ++ (tail ++ behind)
+tail_whole : (before tail behind : List ℕ) (x : TextPiece) → tail_comment before tail behind ≡ Some x → piece_text x ≡ before ++ (tail ++ behind)
 tail_whole before tail behind x e = go (front (λ b. eqb b 35) (past_white tail)) e
   where
     whole : (before ++ (cut no_white tail).0) ++ ((cut ends_line (past_white tail)).0 ++ ((cut ends_line (past_white tail)).1 ++ behind)) ≡ before ++ (tail ++ behind)
@@ -168,12 +168,12 @@ tail_text before c behind =
     flat : (a b c d z : List ℕ) → (a ++ (b ++ (c ++ d))) ++ z ≡ a ++ (b ++ (c ++ (d ++ z)))
     flat a b c d z = simp append_assoc refl
 
-comment_whole : (before : List ℕ) (c : Content) (behind : List ℕ) (x : Piece) → content_comment before c behind ≡ Some x → piece_text x ≡ before ++ content_text c behind
+comment_whole : (before : List ℕ) (c : Content) (behind : List ℕ) (x : TextPiece) → content_comment before c behind ≡ Some x → piece_text x ≡ before ++ content_text c behind
 comment_whole before c behind x e =
     let s = content_cut c in
     tail_whole (before ++ (s.0 ++ (s.1 ++ (s.2 ++ s.3)))) s.4 (s.5 ++ behind) x e ∙ tail_text before c behind
 
-gap_whole : (before gap behind : List ℕ) (x : Piece) → gap_comment before gap behind ≡ Some x → piece_text x ≡ before ++ (gap ++ behind)
+gap_whole : (before gap behind : List ℕ) (x : TextPiece) → gap_comment before gap behind ≡ Some x → piece_text x ≡ before ++ (gap ++ behind)
 gap_whole before gap behind x e = go (is_empty (joined (last_run (lines_of gap)))) e
   where
     go : (b : Bool) → cond b None (Some (record { before = before ++ joined (before_run (lines_of gap)); text = joined (last_run (lines_of gap)); behind = behind })) ≡ Some x → piece_text x ≡ before ++ (gap ++ behind)
@@ -184,7 +184,7 @@ gap_whole before gap behind x e = go (is_empty (joined (last_run (lines_of gap))
         ∙ ap (λ l. before ++ l) (sym (append_assoc (joined (before_run (lines_of gap))) (joined (last_run (lines_of gap))) behind) ∙ ap (λ l. l ++ behind) (run_split (lines_of gap) ∙ joined_lines gap)))
 
 -- the part of an entry
-pub entry_piece_whole : (part : WhichPart) (ss : List Step) (e : BlockEntry) (x : Piece) → piece_in_entry part ss e ≡ Some x → piece_text x ≡ entry_text e
+pub entry_piece_whole : (part : WhichPart) (ss : List Step) (e : BlockEntry) (x : TextPiece) → piece_in_entry part ss e ≡ Some x → piece_text x ≡ entry_text e
 entry_piece_whole parts.Content [] e x is = content_whole e x is
 entry_piece_whole parts.Content (s ∷ ss) e x is =
     let h = bind_some (line_inline e) is in
@@ -221,13 +221,13 @@ entry_whole s n m e is =
     ap entry_text (sym (same_Some _ _ l.2))
     ∙ (append_assoc s.before (print_lines front []) (print_line l.0 (print_lines (take m more) (print_lines (drop m more) s.behind))) ∙ ap (λ x. s.before ++ x) (sym lines))
 
-steps_whole : (part : WhichPart) (y : Step) (ys : List Step) (s : PrintedDocument) (x : Piece) → (find y ys (group (map line_in s.lines)) >>= λ f. found_entry s f.0 >>= piece_in_entry part f.1) ≡ Some x → piece_text x ≡ document_text s
+steps_whole : (part : WhichPart) (y : Step) (ys : List Step) (s : PrintedDocument) (x : TextPiece) → (find y ys (group (map line_in s.lines)) >>= λ f. found_entry s f.0 >>= piece_in_entry part f.1) ≡ Some x → piece_text x ≡ document_text s
 steps_whole part y ys s x is =
     let f = bind_some (find y ys (group (map line_in s.lines))) is in
     let e = bind_some (found_entry s f.0.0) f.2 in
     entry_piece_whole part f.0.1 e.0 x e.2 ∙ entry_whole s (length (lines_before f.0.0.place)) (length (flatten f.0.0.under)) e.0 e.1
 
-pub piece_whole : (part : WhichPart) (ss : List Step) (s : PrintedDocument) (x : Piece) → piece_in part ss s ≡ Some x → piece_text x ≡ document_text s
+pub piece_whole : (part : WhichPart) (ss : List Step) (s : PrintedDocument) (x : TextPiece) → piece_in part ss s ≡ Some x → piece_text x ≡ document_text s
 piece_whole parts.Content [] s x is = block_whole s.before s.lines s.behind x is
 piece_whole parts.Entry [] s x is = absurd (none-some _ is)
 piece_whole parts.HeadComment [] s x is = absurd (none-some _ is)
@@ -241,7 +241,7 @@ document_whole n c s e =
     let p : Part = d.0.part in
     ap document_text (sym d.2) ∙ (ap (λ x. d.0.before ++ x) (rows_are p.rows (p.end ++ d.0.behind)) ∙ sym (part_stands n c d.0 d.1).text)
 
-pub whole_text : (t : List ℕ) (c : Cut) (p : Path) (part : WhichPart) (x : Piece) → read_at t ≡ Some c → (printed_document p.doc c >>= piece_in part (steps_of p)) ≡ Some x → t ≡ piece_text x
+pub whole_text : (t : List ℕ) (c : Cut) (p : Path) (part : WhichPart) (x : TextPiece) → read_at t ≡ Some c → (printed_document p.doc c >>= piece_in part (steps_of p)) ≡ Some x → t ≡ piece_text x
 unfolding read_at
 whole_text t c p part x read found =
     let s = bind_some (printed_document p.doc c) found in

@@ -10,7 +10,7 @@ use Rattle.yq_rows.proofs.PlaceLaws.{part_then}
 use Rattle.yq_rows.proofs.splices.PartPlaces.{part_in}
 use Rattle.yq_documents.specs.Documents.{document_parts}
 use Rattle.yq_documents.specs.PartNumbers.{part_number, rows_to}
-use Rattle.yq_documents.specs.Seats.{document_row}
+use Rattle.yq_documents.specs.LinesInRows.{document_row}
 use Rattle.yq_documents.proofs.PartNumberLaws.{part_there}
 use Rattle.yq_places.specs.CommentReading.{before_row}
 use Rattle.yq_places.specs.PlacedRows.{PlacedPart, before_part, placed_at, placed_document}

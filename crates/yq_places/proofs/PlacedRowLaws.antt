@@ -15,13 +15,13 @@ use Rattle.yq_documents.specs.Documents.{document_parts}
 use Rattle.yq_walk.specs.Lines.{lines_of}
 use Rattle.yq_documents.specs.Located.{steps_of}
 use Rattle.yq_places.specs.PlacedRows.{PlacedPart, PlacedRow, placed_at, placed_document, placed_row, row_of_path}
-use Rattle.yq_places.specs.SeatReading.{Numbers, numbers}
-use Rattle.yq_documents.specs.Seats.{Seat, seat_of, seat_at, document_row}
+use Rattle.yq_places.specs.RowLineReading.{Numbers, numbers}
+use Rattle.yq_documents.specs.LinesInRows.{RowLine, row_line_of, row_line_at, document_row}
 use Rattle.yq_documents.specs.PartNumbers.{part_number, rows_to}
 use Rattle.yq_documents.proofs.PartNumberLaws.{part_there}
 use Rattle.yq_places.proofs.PlacedPartLaws.{part_stands, row_before}
 use Rattle.yq_walk.proofs.KnownLaws.{get_front}
-use Rattle.yq_places.proofs.SeatedLaws.{steps_row}
+use Rattle.yq_places.proofs.RowLineSpans.{steps_row}
 
 -- A row of a cut stands behind others, between these texts.
 pub record IsAt (c : Cut) (i : ℕ) (before : List ℕ) (r : Row) (behind : List ℕ) : Type 0 where
@@ -78,42 +78,42 @@ document_placed n c = go (slice_get (document_parts c) n) refl
     go (Some p) e = ap (λ (x : Part). Some x) (sym (part_there c n p e))
 
 -- The line that the code tells is one of a row that stands there.
-pub record IsSeatOf (path : Path) (c : Cut) (n : Numbers) (w : PlacedRow) : Type 0 where
+pub record IsRowLineOf (path : Path) (c : Cut) (n : Numbers) (w : PlacedRow) : Type 0 where
   pub is : row_of_path path.doc (steps_of path) c ≡ Some w
   pub line : n.1 ≡ w.line
   pub dashes : n.2 ≡ length w.row.dashes
   pub at : IsAt c n.0 w.before w.row w.behind
 
-pub seat_placed : (path : Path) (c : Cut) (n : Numbers) → Some n ≡ option_map (numbers (document_row path.doc c)) (seat_at path c) → (w : PlacedRow) × IsSeatOf path c n w
-seat_placed path c n e = go (placed_document path.doc c) refl (e ∙ ap (λ (o : Option Part). option_map (numbers (document_row path.doc c)) (o >>= λ d. seat_of (steps_of path) d.rows)) (document_placed path.doc c))
+pub row_line_placed : (path : Path) (c : Cut) (n : Numbers) → Some n ≡ option_map (numbers (document_row path.doc c)) (row_line_at path c) → (w : PlacedRow) × IsRowLineOf path c n w
+row_line_placed path c n e = go (placed_document path.doc c) refl (e ∙ ap (λ (o : Option Part). option_map (numbers (document_row path.doc c)) (o >>= λ d. row_line_of (steps_of path) d.rows)) (document_placed path.doc c))
   where
-    at_seat : (s : PlacedPart) → placed_document path.doc c ≡ Some s → (o : Option Seat) → seat_of (steps_of path) s.part.rows ≡ o → Some n ≡ option_map (numbers (document_row path.doc c)) o → (w : PlacedRow) × IsSeatOf path c n w
-    at_seat s there None is e = absurd (none-some _ (sym e))
-    at_seat s there (Some x) is e =
+    at_row_line : (s : PlacedPart) → placed_document path.doc c ≡ Some s → (o : Option RowLine) → row_line_of (steps_of path) s.part.rows ≡ o → Some n ≡ option_map (numbers (document_row path.doc c)) o → (w : PlacedRow) × IsRowLineOf path c n w
+    at_row_line s there None is e = absurd (none-some _ (sym e))
+    at_row_line s there (Some x) is e =
         let found : n ≡ numbers (document_row path.doc c) x = same_Some _ _ e in
         let row = steps_row (line_of (steps_of path) (lines_of s.part.rows)) s.part.rows x is in
         let at = part_at path.doc c s there x.before x.row row in
         let w : PlacedRow = placed_row s x in (
           w,
           record {
-            is = ap (λ (o : Option PlacedPart). o >>= λ s. option_map (placed_row s) (seat_of (steps_of path) s.part.rows)) there ∙ ap (option_map (placed_row s)) is;
+            is = ap (λ (o : Option PlacedPart). o >>= λ s. option_map (placed_row s) (row_line_of (steps_of path) s.part.rows)) there ∙ ap (option_map (placed_row s)) is;
             line = ap (λ (y : Numbers). y.1) found;
             dashes = ap (λ (y : Numbers). y.2) found;
             at = subst (λ i. IsAt c i w.before w.row w.behind) (sym (ap (λ (y : Numbers). y.0) found)) at;
           },
         )
 
-    go : (o : Option PlacedPart) → placed_document path.doc c ≡ o → Some n ≡ option_map (numbers (document_row path.doc c)) (part_of o >>= λ d. seat_of (steps_of path) d.rows) → (w : PlacedRow) × IsSeatOf path c n w
+    go : (o : Option PlacedPart) → placed_document path.doc c ≡ o → Some n ≡ option_map (numbers (document_row path.doc c)) (part_of o >>= λ d. row_line_of (steps_of path) d.rows) → (w : PlacedRow) × IsRowLineOf path c n w
     go None is e = absurd (none-some _ (sym e))
-    go (Some s) is e = at_seat s is (seat_of (steps_of path) s.part.rows) refl e
+    go (Some s) is e = at_row_line s is (row_line_of (steps_of path) s.part.rows) refl e
 
-pub no_seat_placed : (path : Path) (c : Cut) (k : ℕ) → None ≡ option_map (numbers k) (seat_at path c) → row_of_path path.doc (steps_of path) c ≡ None
-no_seat_placed path c k e = go (placed_document path.doc c) refl (e ∙ ap (λ (o : Option Part). option_map (numbers k) (o >>= λ d. seat_of (steps_of path) d.rows)) (document_placed path.doc c))
+pub no_row_line_placed : (path : Path) (c : Cut) (k : ℕ) → None ≡ option_map (numbers k) (row_line_at path c) → row_of_path path.doc (steps_of path) c ≡ None
+no_row_line_placed path c k e = go (placed_document path.doc c) refl (e ∙ ap (λ (o : Option Part). option_map (numbers k) (o >>= λ d. row_line_of (steps_of path) d.rows)) (document_placed path.doc c))
   where
-    at_seat : (s : PlacedPart) (o : Option Seat) → seat_of (steps_of path) s.part.rows ≡ o → None ≡ option_map (numbers k) o → option_map (placed_row s) (seat_of (steps_of path) s.part.rows) ≡ None
-    at_seat s None is e = ap (option_map (placed_row s)) is
-    at_seat s (Some x) is e = absurd (none-some _ e)
+    at_row_line : (s : PlacedPart) (o : Option RowLine) → row_line_of (steps_of path) s.part.rows ≡ o → None ≡ option_map (numbers k) o → option_map (placed_row s) (row_line_of (steps_of path) s.part.rows) ≡ None
+    at_row_line s None is e = ap (option_map (placed_row s)) is
+    at_row_line s (Some x) is e = absurd (none-some _ e)
 
-    go : (o : Option PlacedPart) → placed_document path.doc c ≡ o → None ≡ option_map (numbers k) (part_of o >>= λ d. seat_of (steps_of path) d.rows) → row_of_path path.doc (steps_of path) c ≡ None
-    go None is e = ap (λ (o : Option PlacedPart). o >>= λ s. option_map (placed_row s) (seat_of (steps_of path) s.part.rows)) is
-    go (Some s) is e = ap (λ (o : Option PlacedPart). o >>= λ s. option_map (placed_row s) (seat_of (steps_of path) s.part.rows)) is ∙ at_seat s (seat_of (steps_of path) s.part.rows) refl e
+    go : (o : Option PlacedPart) → placed_document path.doc c ≡ o → None ≡ option_map (numbers k) (part_of o >>= λ d. row_line_of (steps_of path) d.rows) → row_of_path path.doc (steps_of path) c ≡ None
+    go None is e = ap (λ (o : Option PlacedPart). o >>= λ s. option_map (placed_row s) (row_line_of (steps_of path) s.part.rows)) is
+    go (Some s) is e = ap (λ (o : Option PlacedPart). o >>= λ s. option_map (placed_row s) (row_line_of (steps_of path) s.part.rows)) is ∙ at_row_line s (row_line_of (steps_of path) s.part.rows) refl e

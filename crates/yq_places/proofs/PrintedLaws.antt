@@ -95,10 +95,10 @@ lines_are (r ∷ rs) = map_append (printed_row r) (printed_lines rs) ∙ (λ i. 
 -- Lines are those of a document.
 pub record IsPrintedDocument (p : Part) (s : PrintedDocument) : Type 0 where
   pub lines : s.lines ≡ printed_lines p.rows
-  pub told : ArePrinted s.lines s.behind
+  pub as_printed : ArePrinted s.lines s.behind
 
 pub document_is : (n : ℕ) (c : Cut) (s : PrintedDocument) → AreParts true c → printed_document n c ≡ Some s → (p : Part) × (slice_get (document_parts c) n ≡ Some p) × IsPrintedDocument p s
 document_is n c s h e =
     let d = map_some (placed_document n c) e in
     let p : Part = d.0.part in
-    (p, (part_stands n c d.0 d.1).there, subst (IsPrintedDocument p) d.2 (record { lines = refl; told = rows_printed unlimited p.rows p.end d.0.behind (part_rows n c d.0 h d.1) }))
+    (p, (part_stands n c d.0 d.1).there, subst (IsPrintedDocument p) d.2 (record { lines = refl; as_printed = rows_printed unlimited p.rows p.end d.0.behind (part_rows n c d.0 h d.1) }))

@@ -3,29 +3,29 @@ use Rattle.std.proofs.Common.{◌≡◌, ℕ, List, true, Option, Some, None, re
 use Rattle.std.proofs.lemmas.Bool.{cond-true}
 use Rattle.std.proofs.lemmas.Option.{cond_some, none-some, same_Some}
 use Rattle.std.specs.Str.{is_utf8}
-use Rattle.yq_scalar.specs.Answers.{◌>>=◌, Fails}
+use Rattle.yq_scalar.specs.Answers.{◌>>=◌, ReadFails}
 use Rattle.yq_scalar.specs.declared.fault.ReadError.{ReadError}
 use Rattle.yq_scalar.specs.declared.fault.ReadError.TheVariants as errors
 use Rattle.yq_scalar.proofs.Bools.{bind_some, guard_then}
 use Rattle.yq_rows.specs.Grammar.{IsCut}
-use Rattle.yq_rows.specs.Lending.{shown_read}
+use Rattle.yq_rows.specs.Slicing.{read_view}
 use Rattle.yq_rows.specs.Reading.{scan_at}
 use Rattle.yq_rows.specs.Rows.{Cut}
 use Rattle.yq_rows.proofs.ScanLaws.{scan_takes, scan_again}
 use Rattle.yq_documents.specs.Documents.{Document, document_parts, Reads}
-use Rattle.yq_documents.specs.Reading.{documents, all_documents, checked, text_at, read_at, cut_or, cut_of}
+use Rattle.yq_documents.specs.Reading.{documents, all_documents, checked, checked_at, read_at, cut_or, cut_of}
 use Rattle.yq_places.proofs.DocumentLaws.{documents_take, documents_again}
 
 -- a text and its cut, whose parts stand for documents
-pub text_takes : (t : List ℕ) (c : Cut) → text_at t ≡ Some c → IsCut t c × (all_documents c ≡ true)
-unfolding text_at
+pub text_takes : (t : List ℕ) (c : Cut) → checked_at t ≡ Some c → IsCut t c × (all_documents c ≡ true)
+unfolding checked_at
 text_takes t c e =
     let q = bind_some (scan_at t) e in
     let g = cond_some (all_documents q.0) _ _ q.2 in
     (subst (IsCut t) g.1 (scan_takes t q.0 q.1), ap all_documents (sym g.1) ∙ g.0)
 
-pub text_again : (t : List ℕ) (c : Cut) → IsCut t c → all_documents c ≡ true → text_at t ≡ Some c
-unfolding text_at
+pub text_again : (t : List ℕ) (c : Cut) → IsCut t c → all_documents c ≡ true → checked_at t ≡ Some c
+unfolding checked_at
 text_again t c h e = ap (λ o. o >>= checked) (scan_again t c h) ∙ cond-true _ _ _ e
 
 -- the cut of a text that has one
@@ -34,16 +34,16 @@ unfolding cut_of
 cut_is t c h = ap cut_or (scan_again t c h)
 
 -- a text that is read has its own cut
-pub text_read : (t : List ℕ) (c : Cut) → IsCut t c → all_documents c ≡ true → text_at t ≡ Some (cut_of t)
+pub text_read : (t : List ℕ) (c : Cut) → IsCut t c → all_documents c ≡ true → checked_at t ≡ Some (cut_of t)
 text_read t c h e = text_again t c h e ∙ ap Some (sym (cut_is t c h))
 
 -- a text without a cut
-not_cut : (o : Option Cut) → shown_read o ≡ None → (o >>= checked) ≡ None
+not_cut : (o : Option Cut) → read_view o ≡ None → (o >>= checked) ≡ None
 not_cut (Some c) h = cc
 not_cut None h = refl
 
-pub scan_fails : (t : List ℕ) (e : ReadError) → Fails e (shown_read (scan_at t)) → Fails e (text_at t)
-unfolding text_at
+pub scan_fails : (t : List ℕ) (e : ReadError) → ReadFails e (read_view (scan_at t)) → ReadFails e (checked_at t)
+unfolding checked_at
 scan_fails t errors.Memory h = tt
 scan_fails t (errors.Fault f) h = not_cut (scan_at t) h
 
@@ -67,9 +67,9 @@ one_reading bytes docs others h k =
     sym a.2 ∙ (ap documents (same_Some _ _ (sym a.1 ∙ b.1)) ∙ b.2)
 
 -- bytes read as the text that they are
-pub read_as_text : (bytes text : List ℕ) (read : Option Cut) → (is_utf8 bytes ≡ true) × (text ≡ bytes) → text_at text ≡ read → read_at bytes ≡ read
+pub read_as_text : (bytes text : List ℕ) (read : Option Cut) → (is_utf8 bytes ≡ true) × (text ≡ bytes) → checked_at text ≡ read → read_at bytes ≡ read
 unfolding read_at
-read_as_text bytes text read is e = cond-true _ _ _ is.0 ∙ (ap text_at (sym is.1) ∙ e)
+read_as_text bytes text read is e = cond-true _ _ _ is.0 ∙ (ap checked_at (sym is.1) ∙ e)
 
 pub only_by : (bytes : List ℕ) (c : Cut) → read_at bytes ≡ Some c → (docs : List Document) → Reads bytes docs → Some docs ≡ Some (documents c)
 only_by bytes c e docs h = let a = read_again bytes docs h in ap Some (sym a.2 ∙ ap documents (same_Some _ _ (sym a.1 ∙ e)))

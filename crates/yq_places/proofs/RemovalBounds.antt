@@ -6,10 +6,10 @@ use Rattle.std.specs.List.{slice_get}
 use Rattle.yq_rows.specs.Removal.{block_of, last_block, next_column}
 use Rattle.yq_rows.specs.Rows.{Row, Part, Cut, last, marked}
 use Rattle.yq_rows.specs.Splices.{first_gap, nth_part}
-use Rattle.yq_rows.specs.View.{slices, rows_of, Bound, bounds_from, bounds_of, bounds_at, shown}
+use Rattle.yq_rows.specs.View.{slices, rows_of, Bound, bounds_from, bounds_of, bounds_at, rows_view}
 use Rattle.yq_places.specs.PlacedRows.{PlacedPart, placed_document}
 use Rattle.yq_places.specs.RemovalReading.{gap_at, gap_and_column}
-use Rattle.yq_documents.specs.Seats.{document_row}
+use Rattle.yq_documents.specs.LinesInRows.{document_row}
 use Rattle.yq_documents.specs.PartNumbers.{part_number, rows_to}
 use Rattle.yq_places.proofs.PlacedPartLaws.{part_stands}
 
@@ -52,7 +52,7 @@ ends_at (suc m) k (marked p marker c) j i some at =
 -- the gap before the rows of a document behind some, and its column
 pub gap_behind : (n : ℕ) (c : Cut) (d : PlacedPart) (some back : List Row) → placed_document n c ≡ Some d → d.part.rows ≡ some ++ back → 0 < length some →
     ((r : Row) (rs : List Row) → back ≡ r ∷ rs → slice_get (rows_of c) (document_row n c + length some) ≡ Some r) →
-    gap_at (document_row n c + length some) (shown c) ≡ (first_gap back d.part.end, next_column back)
+    gap_at (document_row n c + length some) (rows_view c) ≡ (first_gap back d.part.end, next_column back)
 gap_behind n c d some back e rows more there = go back refl (subst (λ (y : PlacedPart). EndsAt 0 i c y.part (length some)) (part_stands n c d e).is (ends_at (part_number n c) 0 c (length some) i more (omega arith)))
   where
     i : ℕ
@@ -62,10 +62,10 @@ gap_behind n c d some back e rows more there = go back refl (subst (λ (y : Plac
     size bs is = ap length (rows ∙ ap (λ (x : List Row). some ++ x) is) ∙ length-append some bs
 
     go : (bs : List Row) → back ≡ bs → EndsAt 0 (document_row n c + length some) c d.part (length some) →
-        gap_and_column (bounds_at (document_row n c + length some) (bounds_of c)) (slice_get (shown c).rows (document_row n c + length some)) ≡ (first_gap back d.part.end, next_column back)
+        gap_and_column (bounds_at (document_row n c + length some) (bounds_of c)) (slice_get (rows_view c).rows (document_row n c + length some)) ≡ (first_gap back d.part.end, next_column back)
     go [] is h =
         let x = h.behind (omega (arith, size [] is)) in
-        ap (λ bs. gap_and_column bs (slice_get (shown c).rows (document_row n c + length some))) x.2
+        ap (λ bs. gap_and_column bs (slice_get (rows_view c).rows (document_row n c + length some))) x.2
         ∙ ((λ j. (x.3 j, 0)) ∙ (λ j. (first_gap (sym is j) d.part.end, next_column (sym is j))))
     go (r ∷ rs) is h =
         let none_there = h.inside (omega (arith, size (r ∷ rs) is)) in

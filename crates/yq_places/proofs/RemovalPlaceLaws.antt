@@ -24,12 +24,12 @@ use Rattle.yq_documents.specs.Pieces.{before_run, last_run}
 use Rattle.yq_places.specs.RemovalPlaces.{OwnRows, row_count, in_three, own_rows}
 use Rattle.yq_places.specs.RemovalReading.{marks}
 use Rattle.yq_walk.specs.RowWalk.{line_number}
-use Rattle.yq_walk.specs.declared.spot.Spot.{Spot}
-use Rattle.yq_walk.specs.declared.spot.Stretch.{Stretch}
-use Rattle.yq_documents.specs.Seats.{Seat, behind_one, seat}
+use Rattle.yq_walk.specs.declared.position.Position.{Position}
+use Rattle.yq_walk.specs.declared.position.Stretch.{Stretch}
+use Rattle.yq_documents.specs.LinesInRows.{RowLine, behind_one, row_line}
 use Rattle.yq_places.proofs.PlacedPartLaws.{map_some}
 use Rattle.yq_places.proofs.RemovalTexts.{gap_parts}
-use Rattle.yq_places.proofs.WalkDocuments.{seat_number}
+use Rattle.yq_places.proofs.WalkDocuments.{row_line_number}
 
 -- ---- a gap cut before its comment
 
@@ -66,20 +66,20 @@ more_lines : (r : Row) (rs : List Row) → length (lines_of (r ∷ rs)) ≡ suc 
 more_lines r rs = omega (arith, length-append (row_lines r) (lines_of rs), from_count (head_comment r.gap) r.column r.dashes r.mark r.content)
 
 -- A line's row is among the rows, and so many lines stand from it on.
-abbrev SeatIn : ℕ → List Row → Seat → Type 0
-SeatIn n rs s = (s.before < length rs) × (n + length (lines_of (drop s.before rs)) ≡ length (lines_of rs) + s.line)
+abbrev RowLineIn : ℕ → List Row → RowLine → Type 0
+RowLineIn n rs s = (s.before < length rs) × (n + length (lines_of (drop s.before rs)) ≡ length (lines_of rs) + s.line)
 
-seat_in : (n : ℕ) (rs : List Row) (s : Seat) → seat n rs ≡ Some s → SeatIn n rs s
-seat_in n [] s e = absurd (cc)
-seat_in n (r ∷ rs) s e = go (ltb (length r.dashes) n) refl e (λ q h. seat_in (n - suc (length r.dashes)) rs q h)
+row_line_in : (n : ℕ) (rs : List Row) (s : RowLine) → row_line n rs ≡ Some s → RowLineIn n rs s
+row_line_in n [] s e = absurd (cc)
+row_line_in n (r ∷ rs) s e = go (ltb (length r.dashes) n) refl e (λ q h. row_line_in (n - suc (length r.dashes)) rs q h)
   where
-    go : (b : Bool) → ltb (length r.dashes) n ≡ b → cond b (option_map behind_one (seat (n - suc (length r.dashes)) rs)) (Some (record { before = 0; row = r; line = n })) ≡ Some s →
-        ((q : Seat) → seat (n - suc (length r.dashes)) rs ≡ Some q → SeatIn (n - suc (length r.dashes)) rs q) → SeatIn n (r ∷ rs) s
-    go false less e again = subst (SeatIn n (r ∷ rs)) (same_Some _ _ e) (omega arith, omega arith)
+    go : (b : Bool) → ltb (length r.dashes) n ≡ b → cond b (option_map behind_one (row_line (n - suc (length r.dashes)) rs)) (Some (record { before = 0; row = r; line = n })) ≡ Some s →
+        ((q : RowLine) → row_line (n - suc (length r.dashes)) rs ≡ Some q → RowLineIn (n - suc (length r.dashes)) rs q) → RowLineIn n (r ∷ rs) s
+    go false less e again = subst (RowLineIn n (r ∷ rs)) (same_Some _ _ e) (omega arith, omega arith)
     go true less e again =
-        let x = map_some behind_one (seat (n - suc (length r.dashes)) rs) s e in
+        let x = map_some behind_one (row_line (n - suc (length r.dashes)) rs) s e in
         let h = again x.0 x.1 in
-        subst (SeatIn n (r ∷ rs)) x.2 (omega (arith, h.0), omega (arith, h.1, more_lines r rs, ltb-true (length r.dashes) n less))
+        subst (RowLineIn n (r ∷ rs)) x.2 (omega (arith, h.0), omega (arith, h.1, more_lines r rs, ltb-true (length r.dashes) n less))
 
 end_past : (n : ℕ) (ls : List Line) → n < length ls → n < lines_end n ls
 end_past n [] h = absurd (omega (arith, h))
@@ -122,15 +122,15 @@ lines_between (suc i) (suc e) (r ∷ rs) h =
 -- ---- the rows of an item or entry
 
 -- A line of a path is that of an own row.
-pub record OwnLine (steps : List Step) (rs : List Row) (n : ℕ) (q : Seat) : Type 0 where
+pub record OwnLine (steps : List Step) (rs : List Row) (n : ℕ) (q : RowLine) : Type 0 where
   pub line : line_of steps (lines_of rs) ≡ Some n
-  pub row : seat n rs ≡ Some q
+  pub row : row_line n rs ≡ Some q
   pub first : q.line ≡ 0
 
-own_is : (steps : List Step) (rs : List Row) (n : ℕ) (q : Seat) → OwnLine steps rs n q → own_rows steps rs ≡ Some (in_three q.before (row_count (lines_end n (lines_of rs) - n) (drop q.before rs)) rs)
+own_is : (steps : List Step) (rs : List Row) (n : ℕ) (q : RowLine) → OwnLine steps rs n q → own_rows steps rs ≡ Some (in_three q.before (row_count (lines_end n (lines_of rs) - n) (drop q.before rs)) rs)
 own_is steps rs n q h =
-    ap (λ o. o >>= λ n. seat n rs >>= λ s. cond (eqb s.line 0) (Some (in_three s.before (row_count (lines_end n (lines_of rs) - n) (drop s.before rs)) rs)) None) h.line
-    ∙ (ap (λ o. o >>= λ (s : Seat). cond (eqb s.line 0) (Some (in_three s.before (row_count (lines_end n (lines_of rs) - n) (drop s.before rs)) rs)) None) h.row
+    ap (λ o. o >>= λ n. row_line n rs >>= λ s. cond (eqb s.line 0) (Some (in_three s.before (row_count (lines_end n (lines_of rs) - n) (drop s.before rs)) rs)) None) h.line
+    ∙ (ap (λ o. o >>= λ (s : RowLine). cond (eqb s.line 0) (Some (in_three s.before (row_count (lines_end n (lines_of rs) - n) (drop s.before rs)) rs)) None) h.row
     ∙ cond-true (eqb q.line 0) _ None (eq-eqb q.line 0 h.first))
 
 -- what is own is the rows, and there are some
@@ -143,10 +143,10 @@ some_own zero rs h e = absurd (omega (arith, h))
 some_own (suc k) [] h e = absurd (omega (arith, e))
 some_own (suc k) (r ∷ rs) h e = refl
 
-own_line : (steps : List Step) (rs : List Row) (x : OwnRows) → own_rows steps rs ≡ Some x → (n : ℕ) × (q : Seat) × OwnLine steps rs n q
+own_line : (steps : List Step) (rs : List Row) (x : OwnRows) → own_rows steps rs ≡ Some x → (n : ℕ) × (q : RowLine) × OwnLine steps rs n q
 own_line steps rs x e =
     let n = bind_some (line_of steps (lines_of rs)) e in
-    let q = bind_some (seat n.0 rs) n.2 in
+    let q = bind_some (row_line n.0 rs) n.2 in
     let g = cond_some (eqb q.0.line 0) _ _ q.2 in
     (n.0, q.0, record { line = n.1; row = q.1; first = eqb-true q.0.line 0 g.0 })
 
@@ -154,8 +154,8 @@ pub own_stands : (steps : List Step) (rs : List Row) (x : OwnRows) → own_rows 
 own_stands steps rs x e =
     let l = own_line steps rs x e in
     let n : ℕ = l.0 in
-    let q : Seat = l.1 in
-    let at = seat_in n rs q l.2.row in
+    let q : RowLine = l.1 in
+    let at = row_line_in n rs q l.2.row in
     let left : length (drop q.before rs) ≡ length rs - q.before = length-drop q.before rs in
     let lines : 0 < length (lines_of (drop q.before rs)) = some_lines (drop q.before rs) (omega (arith, left, at.0)) in
     let past = end_past n (lines_of rs) (omega (arith, at.1, l.2.first, lines)) in
@@ -165,14 +165,14 @@ own_stands steps rs x e =
     })
 
 -- what the code counts
-pub own_told : (d : Stretch) (rs : List Row) (steps : List Step) (q e : Spot) (r : Row) → Some (line_number d rs q) ≡ line_of steps (lines_of rs) → slice_get rs (q.row - d.first) ≡ Some r → d.first ≤ q.row → q.line ≡ 0 → e.line ≡ 0 → q.row < e.row →
+pub own_agrees : (d : Stretch) (rs : List Row) (steps : List Step) (q e : Position) (r : Row) → Some (line_number d rs q) ≡ line_of steps (lines_of rs) → slice_get rs (q.row - d.first) ≡ Some r → d.first ≤ q.row → q.line ≡ 0 → e.line ≡ 0 → q.row < e.row →
     e.row - d.first ≤ length rs → line_number d rs e ≡ lines_end (line_number d rs q) (lines_of rs) → Some (d.first, q.row, e.row) ≡ option_map (marks d.first) (own_rows steps rs)
-own_told d rs steps q e r line there from none last less within end =
+own_agrees d rs steps q e r line there from none last less within end =
     let i : ℕ = q.row - d.first in
     let j : ℕ = e.row - d.first in
     let n : ℕ = line_number d rs q in
     let k : ℕ = lines_end n (lines_of rs) - n in
-    let h : OwnLine steps rs n (record { before = i; row = r; line = q.line }) = record { line = sym line; row = seat_number rs i q.line r there (omega (arith, none)); first = none } in
+    let h : OwnLine steps rs n (record { before = i; row = r; line = q.line }) = record { line = sym line; row = row_line_number rs i q.line r there (omega (arith, none)); first = none } in
     let left : length (drop i rs) ≡ length rs - i = length-drop i rs in
     let size : k ≡ length (lines_of (take (j - i) (drop i rs))) = omega (arith, end, none, last, lines_between i j rs (omega (arith, less))) in
     let count : row_count k (drop i rs) ≡ j - i = ap (λ (m : ℕ). row_count m (drop i rs)) size ∙ count_rows (j - i) (drop i rs) (omega (arith, left, within)) in
@@ -185,13 +185,13 @@ own_told d rs steps q e r line there from none last less within end =
 -- no line, or none that begins a row
 pub no_own : (first : ℕ) (rs : List Row) (steps : List Step) → None ≡ line_of steps (lines_of rs) → None ≡ option_map (marks first) (own_rows steps rs)
 no_own first rs steps e =
-    ap (λ (o : Option ℕ). option_map (marks first) (o >>= λ n. seat n rs >>= λ s. cond (eqb s.line 0) (Some (in_three s.before (row_count (lines_end n (lines_of rs) - n) (drop s.before rs)) rs)) None)) e
+    ap (λ (o : Option ℕ). option_map (marks first) (o >>= λ n. row_line n rs >>= λ s. cond (eqb s.line 0) (Some (in_three s.before (row_count (lines_end n (lines_of rs) - n) (drop s.before rs)) rs)) None)) e
 
-pub not_own : (first n : ℕ) (rs : List Row) (steps : List Step) (q : Seat) → Some n ≡ line_of steps (lines_of rs) → seat n rs ≡ Some q → (q.line ≡ 0 → ⊥) → None ≡ option_map (marks first) (own_rows steps rs)
+pub not_own : (first n : ℕ) (rs : List Row) (steps : List Step) (q : RowLine) → Some n ≡ line_of steps (lines_of rs) → row_line n rs ≡ Some q → (q.line ≡ 0 → ⊥) → None ≡ option_map (marks first) (own_rows steps rs)
 not_own first n rs steps q line is some =
     ap (option_map (marks first)) (sym (cond-false (eqb q.line 0) (Some (in_three q.before (row_count (lines_end n (lines_of rs) - n) (drop q.before rs)) rs)) None (ne_eqb q.line 0 some)))
-    ∙ (ap (λ (o : Option Seat). option_map (marks first) (o >>= λ s. cond (eqb s.line 0) (Some (in_three s.before (row_count (lines_end n (lines_of rs) - n) (drop s.before rs)) rs)) None)) (sym is)
-    ∙ ap (λ (o : Option ℕ). option_map (marks first) (o >>= λ n. seat n rs >>= λ s. cond (eqb s.line 0) (Some (in_three s.before (row_count (lines_end n (lines_of rs) - n) (drop s.before rs)) rs)) None)) line)
+    ∙ (ap (λ (o : Option RowLine). option_map (marks first) (o >>= λ s. cond (eqb s.line 0) (Some (in_three s.before (row_count (lines_end n (lines_of rs) - n) (drop s.before rs)) rs)) None)) (sym is)
+    ∙ ap (λ (o : Option ℕ). option_map (marks first) (o >>= λ n. row_line n rs >>= λ s. cond (eqb s.line 0) (Some (in_three s.before (row_count (lines_end n (lines_of rs) - n) (drop s.before rs)) rs)) None)) line)
 
 -- ---- the loops
 

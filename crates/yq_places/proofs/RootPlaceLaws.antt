@@ -13,20 +13,20 @@ use Rattle.yq_rows.specs.Grammar.{unlimited, AreRows, IsCut, no_rows}
 use Rattle.yq_rows.specs.Offsets.{row_length}
 use Rattle.yq_rows.specs.Rows.{Row, rows_text, Part, part_text, Cut, last, marked}
 use Rattle.yq_rows.specs.Splices.{nth_part}
-use Rattle.yq_rows.specs.View.{Slices, slices, Bound, bounds_from, bounds_of, rows_of, Shown, shown}
+use Rattle.yq_rows.specs.View.{Slices, slices, Bound, bounds_from, bounds_of, rows_of, RowsView, rows_view}
 use Rattle.yq_walk.specs.Extents.{bound_length}
 use Rattle.yq_documents.specs.PartNumbers.{part_number, document_part, rows_to}
-use Rattle.yq_documents.proofs.PartNumberLaws.{document_found, document_missing, end_told}
+use Rattle.yq_documents.proofs.PartNumberLaws.{document_found, document_missing, end_agrees}
 use Rattle.yq_places.specs.PlacedRows.{before_part, placed_at, placed_document}
 use Rattle.yq_documents.specs.Reading.{cut_of}
 use Rattle.yq_rows.specs.RowStarts.{part_end}
-use Rattle.yq_places.specs.RootReading.{if_unwritten, unwritten_place, unwritten_at}
+use Rattle.yq_places.specs.RootReading.{if_rowless, rowless_place, rowless_at}
 use Rattle.yq_places.specs.Standings.{NoRows}
 use Rattle.yq_places.proofs.CommentPieceLaws.{gap_end}
 use Rattle.yq_walk.proofs.LengthLaws.{part-length}
 use Rattle.yq_places.proofs.PlacedPartLaws.{map_some, part_stands}
 use Rattle.yq_places.proofs.RemovalLines.{LineSeam, lies_in, seam_join}
-use Rattle.yq_places.proofs.RemovalTold.{line_boundary}
+use Rattle.yq_places.proofs.RemovalViewLaws.{line_boundary}
 
 -- ---- the sums of the code
 
@@ -68,8 +68,8 @@ ends_at (suc i) n (marked p marker c) b e =
     omega (arith, rows, sum_by-cons bound_length first (take i bs), ends_at i (n + length p.rows) c b e, part-length p marker, text)
 
 -- a bound by its number
-pub told_bound : (s : Shown) (k : ℕ) → k < length s.bounds → (b : Bound) × (slice_get s.bounds k ≡ Some b)
-told_bound s k within = go s.bounds k within
+pub agrees_bound : (s : RowsView) (k : ℕ) → k < length s.bounds → (b : Bound) × (slice_get s.bounds k ≡ Some b)
+agrees_bound s k within = go s.bounds k within
   where
     go : (bs : List Bound) (k : ℕ) → k < length bs → (b : Bound) × (slice_get bs k ≡ Some b)
     go [] k h = absurd (omega (arith, h))
@@ -78,31 +78,31 @@ told_bound s k within = go s.bounds k within
 
 -- ---- documents that were found
 
-pub no_end : (c : Cut) (i : ℕ) → None ≡ document_part i c → None ≡ unwritten_at i c
+pub no_end : (c : Cut) (i : ℕ) → None ≡ document_part i c → None ≡ rowless_at i c
 no_end c i e =
-    sym (ap (λ (o : Option Part). option_map (λ (x : NoRows). length x.before) (option_map (λ (p : Part). placed_at (part_number i c) c) o >>= if_unwritten)) (document_missing c i e))
+    sym (ap (λ (o : Option Part). option_map (λ (x : NoRows). length x.before) (option_map (λ (p : Part). placed_at (part_number i c) c) o >>= if_rowless)) (document_missing c i e))
 
 -- where a document ends, by the bound of its part
-module _ (s : Shown) (c : Cut) (i k first : ℕ) (b : Bound) (is : s ≡ shown c) (number : Some k ≡ document_part i c) (from : first ≡ rows_to k c) (bound : slice_get s.bounds k ≡ Some b) where
+module _ (s : RowsView) (c : Cut) (i k first : ℕ) (b : Bound) (is : s ≡ rows_view c) (number : Some k ≡ document_part i c) (from : first ≡ rows_to k c) (bound : slice_get s.bounds k ≡ Some b) where
   at : slice_get (bounds_of c) k ≡ Some b
-  at = ap (λ (x : Shown). slice_get x.bounds k) (sym is) ∙ bound
+  at = ap (λ (x : RowsView). slice_get x.bounds k) (sym is) ∙ bound
 
   size : b.rows ≡ rows_to k c + length (nth_part k c).rows
-  size = end_told k 0 c b at ∙ omega arith
+  size = end_agrees k 0 c b at ∙ omega arith
 
-  placed : unwritten_place i c ≡ if_unwritten (placed_at k c)
+  placed : rowless_place i c ≡ if_rowless (placed_at k c)
   placed =
       let d = document_found c i k number in
-      ap (λ (o : Option Part). option_map (λ (p : Part). placed_at (part_number i c) c) o >>= if_unwritten) d.1 ∙ ap (λ j. if_unwritten (placed_at j c)) (sym d.2)
+      ap (λ (o : Option Part). option_map (λ (p : Part). placed_at (part_number i c) c) o >>= if_rowless) d.1 ∙ ap (λ j. if_rowless (placed_at j c)) (sym d.2)
 
-  pub written_none : (first ≡ b.rows → ⊥) → None ≡ unwritten_at i c
+  pub written_none : (first ≡ b.rows → ⊥) → None ≡ rowless_at i c
   written_none some = sym (ap (option_map (λ (x : NoRows). length x.before)) (placed ∙ cond-false _ _ _ (go (nth_part k c).rows refl)))
     where
       go : (rs : List Row) → (nth_part k c).rows ≡ rs → no_rows rs ≡ false
       go [] none = absurd (some (omega (arith, from, size, ap length none)))
       go (r ∷ rs) none = refl
 
-  pub end_there : first ≡ b.rows → Some (part_end k b s) ≡ unwritten_at i c
+  pub end_there : first ≡ b.rows → Some (part_end k b s) ≡ rowless_at i c
   end_there none =
       let rows : (nth_part k c).rows ≡ [] = nil_from_length (nth_part k c).rows (omega (arith, none, from, size)) in
       let lengths : part_end k b s ≡ length (before_part k c ++ part_text (nth_part k c) []) =
@@ -118,7 +118,7 @@ record IsUnwritten (t : List ℕ) (w : NoRows) : Type 0 where
   pub text : t ≡ w.before ++ w.behind
   pub seam : LineSeam w.before w.behind
 
-unwritten_is : (t : List ℕ) (i : ℕ) (w : NoRows) → IsCut t (cut_of t) → unwritten_place i (cut_of t) ≡ Some w → IsUnwritten t w
+unwritten_is : (t : List ℕ) (i : ℕ) (w : NoRows) → IsCut t (cut_of t) → rowless_place i (cut_of t) ≡ Some w → IsUnwritten t w
 unwritten_is t i w cut e =
     let c : Cut = cut_of t in
     let d = bind_some (placed_document i c) e in
@@ -137,16 +137,16 @@ unwritten_is t i w cut e =
     none_left [] e = refl
     none_left (r ∷ rs) e = absurd (false≢true e)
 
-pub unwritten_boundary : (t : List ℕ) (i end : ℕ) → IsCut t (cut_of t) → IsUtf8 t → Some end ≡ unwritten_at i (cut_of t) → IsCharBoundary t end
+pub unwritten_boundary : (t : List ℕ) (i end : ℕ) → IsCut t (cut_of t) → IsUtf8 t → Some end ≡ rowless_at i (cut_of t) → IsCharBoundary t end
 unwritten_boundary t i end cut u e =
-    let w = map_some (λ (x : NoRows). length x.before) (unwritten_place i (cut_of t)) end (sym e) in
+    let w = map_some (λ (x : NoRows). length x.before) (rowless_place i (cut_of t)) end (sym e) in
     let x = unwritten_is t i w.0 cut w.1 in
     subst (λ (y : List ℕ). IsCharBoundary y end) (sym x.text) (subst (IsCharBoundary (w.0.before ++ w.0.behind)) w.2 (line_boundary w.0.before w.0.behind x.seam (subst IsUtf8 x.text u)))
 
-pub unwritten_told : (t : List ℕ) (i end : ℕ) (before behind : List ℕ) → IsCut t (cut_of t) → Some end ≡ unwritten_at i (cut_of t) → before ≡ take end t → behind ≡ drop end t →
-    Some (record { before = before; behind = behind }) ≡ unwritten_place i (cut_of t)
-unwritten_told t i end before behind cut e first second =
-    let w = map_some (λ (x : NoRows). length x.before) (unwritten_place i (cut_of t)) end (sym e) in
+pub rowless_agrees : (t : List ℕ) (i end : ℕ) (before behind : List ℕ) → IsCut t (cut_of t) → Some end ≡ rowless_at i (cut_of t) → before ≡ take end t → behind ≡ drop end t →
+    Some (record { before = before; behind = behind }) ≡ rowless_place i (cut_of t)
+rowless_agrees t i end before behind cut e first second =
+    let w = map_some (λ (x : NoRows). length x.before) (rowless_place i (cut_of t)) end (sym e) in
     let x = unwritten_is t i w.0 cut w.1 in
     let a : before ≡ w.0.before = first ∙ ((λ j. take (sym w.2 j) (x.text j)) ∙ take-append_seam w.0.before w.0.behind) in
     let b : behind ≡ w.0.behind = second ∙ ((λ j. drop (sym w.2 j) (x.text j)) ∙ drop-append_seam w.0.before w.0.behind) in

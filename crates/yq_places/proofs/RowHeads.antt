@@ -14,7 +14,7 @@ use Rattle.yq_rows.specs.Exchange.{before_content, behind_row}
 use Rattle.yq_rows.specs.Grammar.{IsCut, IsRow, Limit}
 use Rattle.yq_rows.specs.Rows.{Content, Nothing, Inline, Block, Row, Cut, cut_text, parent_indent}
 use Rattle.yq_rows.specs.Seams.{is_closed, is_seam}
-use Rattle.yq_rows.specs.View.{Slices, slices, rows_of, Shown, shown}
+use Rattle.yq_rows.specs.View.{Slices, slices, rows_of, RowsView, rows_view}
 use Rattle.yq_rows.proofs.ItemCuts.{no_gap}
 use Rattle.yq_rows.proofs.PlaceLaws.{row_in}
 use Rattle.yq_rows.proofs.seams.SeamLaws.{row_seam, plain_before}
@@ -24,17 +24,17 @@ use Rattle.yq_documents.specs.RowReading.{HasHead, from_head}
 use Rattle.yq_walk.specs.Extents.{head_place}
 use Rattle.yq_places.specs.RowWalk.{InCut}
 use Rattle.yq_walk.specs.RowWalk.{IsLine}
-use Rattle.yq_walk.specs.declared.spot.Spot.{Spot}
-use Rattle.yq_walk.specs.declared.spot.Stretch.{Stretch}
+use Rattle.yq_walk.specs.declared.position.Position.{Position}
+use Rattle.yq_walk.specs.declared.position.Stretch.{Stretch}
 use Rattle.yq_documents.proofs.PartRows.{each}
 use Rattle.yq_places.proofs.HeadSpanLaws.{head_span, head_text}
 use Rattle.yq_places.proofs.WalkDocuments.{Found}
 use Rattle.yq_places.proofs.WalkNodes.{row_is as row_at, row_in_cut}
-use Rattle.yq_walk.proofs.WalkSpots.{located}
+use Rattle.yq_walk.proofs.WalkPositions.{located}
 
 -- the pieces of a row that is shown
-pub slices_are : (c : Cut) (s : Shown) (i : ℕ) (x : Slices) (r : Row) → s ≡ shown c → slice_get s.rows i ≡ Some x → slice_get (rows_of c) i ≡ Some r → x ≡ slices r
-slices_are c s i x r is there row = same_Some _ _ (sym there ∙ (ap (λ (y : Shown). slice_get y.rows i) is ∙ (slice_get-map slices (rows_of c) i ∙ ap (option_map slices) row)))
+pub slices_are : (c : Cut) (s : RowsView) (i : ℕ) (x : Slices) (r : Row) → s ≡ rows_view c → slice_get s.rows i ≡ Some x → slice_get (rows_of c) i ≡ Some r → x ≡ slices r
+slices_are c s i x r is there row = same_Some _ _ (sym there ∙ (ap (λ (y : RowsView). slice_get y.rows i) is ∙ (slice_get-map slices (rows_of c) i ∙ ap (option_map slices) row)))
 
 -- the keys in a row of a document are fit
 fit_in : (rs : List Row) (i : ℕ) (r : Row) → have_fit_keys rs ≡ true → slice_get rs i ≡ Some r → content_is_fit r.content ≡ true
@@ -46,14 +46,14 @@ fit_in (x ∷ rs) (suc i) r h e =
     let all = and_parts (mark_is_fit x.mark) (content_is_fit x.content && have_fit_keys rs) h in
     fit_in rs i r (and_parts (content_is_fit x.content) (have_fit_keys rs) all.1).1 e
 
-pub line_fit : (s : Shown) (c : Cut) (n : ℕ) (d : Stretch) (f : Found s c n d) (k : InCut s d c) (q : Spot) → k.document.stand.rows ≡ f.part.rows → all_documents c ≡ true → IsLine s d q →
+pub line_fit : (s : RowsView) (c : Cut) (n : ℕ) (d : Stretch) (f : Found s c n d) (k : InCut s d c) (q : Position) → k.document.stand.rows ≡ f.part.rows → all_documents c ≡ true → IsLine s d q →
     (r : Row) → slice_get (rows_of c) q.row ≡ Some r → content_is_fit r.content ≡ true
 line_fit s c n d f k q rows sound at r is =
     let fit : have_fit_keys k.document.stand.rows ≡ true = ap have_fit_keys rows ∙ (and_parts (have_fit_keys f.part.rows) _ (each (document_parts c) sound n f.part f.there)).0 in
     let same : row_at s d c k q at ≡ r = same_Some _ _ (sym (row_in_cut s d c k q at) ∙ is) in
     fit_in k.document.stand.rows (q.row - d.first) r fit ((located s d k.document.stand q at).there ∙ ap Some same)
 
-pub line_within : (s : Shown) (d : Stretch) (c : Cut) (k : InCut s d c) (q : Spot) → IsLine s d q → q.row < length (rows_of c)
+pub line_within : (s : RowsView) (d : Stretch) (c : Cut) (k : InCut s d c) (q : Position) → IsLine s d q → q.row < length (rows_of c)
 line_within s d c k q at = slice_get_within (rows_of c) q.row (row_at s d c k q at) (row_in_cut s d c k q at)
 
 -- a row at the end of a text

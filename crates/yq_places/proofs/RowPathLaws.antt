@@ -8,7 +8,7 @@ use Rattle.yq_lines.specs.Group.{group, level_or, is_fine}
 use Rattle.yq_lines.specs.Laws.{with_lines}
 use Rattle.yq_walk.specs.Lines.{lines_of}
 use Rattle.yq_lines.specs.Outline.{Line, level, Outline, row, flatten, IsEven}
-use Rattle.yq_lines.specs.Places.{plug, Found, find}
+use Rattle.yq_lines.specs.Places.{plug, FoundLine, find}
 use Rattle.yq_documents.specs.Reading.{outline_of, root_of, have_fit_keys, has_short_root, is_document}
 use Rattle.yq_lines.specs.LinesReading.{have_one_anchor_each, are_bound}
 use Rattle.yq_lines.proofs.Allowing.{Allows}
@@ -18,13 +18,13 @@ use Rattle.yq_lines.proofs.PlaceLaws.{at, placed}
 use Rattle.yq_lines.proofs.Plug.{allows_from}
 
 -- the lines with the one that was found
-pub found_lines : (ls : List Line) (s : Step) (ss rest : List Step) (f : Found) → find s ss (group ls) ≡ Some (f, rest) → ls ≡ with_lines f (f.line ∷ flatten f.under)
+pub found_lines : (ls : List Line) (s : Step) (ss rest : List Step) (f : FoundLine) → find s ss (group ls) ≡ Some (f, rest) → ls ≡ with_lines f (f.line ∷ flatten f.under)
 found_lines ls s ss rest f is =
     let whole : plug f.place (row f.line f.under f.after) ≡ group ls = at (IsFoundIn (group ls)) (find s ss (group ls)) (f, rest) is (path_whole s ss (group ls)) in
     sym (flatten-group ls) ∙ (ap flatten (sym whole) ∙ placed f f.line f.under)
 
 -- what is found stands in an even outline
-pub found_place : (ls : List Line) (s : Step) (ss rest : List Step) (f : Found) → find s ss (group ls) ≡ Some (f, rest) → is_fine (group ls) ≡ true →
+pub found_place : (ls : List Line) (s : Step) (ss rest : List Step) (f : FoundLine) → find s ss (group ls) ≡ Some (f, rest) → is_fine (group ls) ≡ true →
     Allows (level_or 0 (group ls)) f.place (level f.line) × IsEven (level f.line) (row f.line f.under f.after)
 found_place ls s ss rest f is fine =
     let o : Outline = group ls in

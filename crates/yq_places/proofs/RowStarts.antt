@@ -6,28 +6,28 @@ use Rattle.std.proofs.lemmas.Option.{slice_get-map}
 use Rattle.std.specs.List.{slice_get}
 use Rattle.yq_rows.specs.Exchange.{before_content}
 use Rattle.yq_rows.specs.Rows.{Row, dashes_text, Cut}
-use Rattle.yq_rows.specs.View.{Slices, slices, last_dash, rows_of, shown}
+use Rattle.yq_rows.specs.View.{Slices, slices, last_dash, rows_of, rows_view}
 use Rattle.yq_places.specs.CommentReading.{before_tail, before_row}
 use Rattle.yq_places.specs.EntryReading.{before_line, ending, through_row, line_begin}
 use Rattle.yq_walk.specs.Extents.{row_start, front_length, head_place}
-use Rattle.yq_walk.proofs.LengthLaws.{head_told}
-use Rattle.yq_places.proofs.StartLaws.{start_told}
+use Rattle.yq_walk.proofs.LengthLaws.{head_agrees}
+use Rattle.yq_places.proofs.StartLaws.{start_agrees}
 
 -- where the head of a row stands, by where the row begins
-pub head_is : (c : Cut) (i : ℕ) (r : Row) → slice_get (rows_of c) i ≡ Some r → head_place i c r ≡ (row_start i (shown c) + front_length (slices r), row_start i (shown c) + front_length (slices r) + length (slices r).head)
+pub head_is : (c : Cut) (i : ℕ) (r : Row) → slice_get (rows_of c) i ≡ Some r → head_place i c r ≡ (row_start i (rows_view c) + front_length (slices r), row_start i (rows_view c) + front_length (slices r) + length (slices r).head)
 head_is c i r is =
     let s : Slices = slices r in
-    let there : slice_get (shown c).rows i ≡ Some s = slice_get-map slices (rows_of c) i ∙ ap (option_map slices) is in
-    sym (head_told (shown c) i (row_start i (shown c)) (front_length s) (length s.head) s there refl refl refl c refl r is)
+    let there : slice_get (rows_view c).rows i ≡ Some s = slice_get-map slices (rows_of c) i ∙ ap (option_map slices) is in
+    sym (head_agrees (rows_view c) i (row_start i (rows_view c)) (front_length s) (length s.head) s there refl refl refl c refl r is)
 
 -- where a line of a row begins
-pub line_begins : (c : Cut) (i k : ℕ) (r : Row) → slice_get (rows_of c) i ≡ Some r → k ≤ length r.dashes → line_begin (row_start i (shown c)) (slices r) k ≡ length (before_line i k r c)
+pub line_begins : (c : Cut) (i k : ℕ) (r : Row) → slice_get (rows_of c) i ≡ Some r → k ≤ length r.dashes → line_begin (row_start i (rows_view c)) (slices r) k ≡ length (before_line i k r c)
 line_begins c i k r is within =
     let spaces : length (replicate r.column 32) ≡ r.column = length-replicate {A = ℕ} r.column 32 in
     omega (
       arith,
       spaces,
-      start_told c i r is,
+      start_agrees c i r is,
       to_dash k r.dashes (last_dash r.mark) within (last_is r.mark),
       length-append (before_row i c) (r.gap ++ (replicate r.column 32 ++ dashes_text (take k r.dashes) [])),
       length-append r.gap (replicate r.column 32 ++ dashes_text (take k r.dashes) []),

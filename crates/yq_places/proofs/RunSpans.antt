@@ -18,25 +18,25 @@ use Rattle.yq_places.specs.EntryReading.{before_line, through_row, lines_place, 
 use Rattle.yq_walk.specs.Lines.{head_of, lines_of}
 use Rattle.yq_inline.specs.Trees.{node_head}
 use Rattle.yq_places.specs.CommentReading.{before_row}
-use Rattle.yq_documents.specs.Seats.{Seat, seat}
+use Rattle.yq_documents.specs.LinesInRows.{RowLine, row_line}
 use Rattle.yq_places.proofs.EntryPlaceLaws.{row_there}
-use Rattle.yq_places.proofs.SeatLineLaws.{seat_line}
+use Rattle.yq_places.proofs.DashLineLaws.{row_line_found}
 use Rattle.yq_places.proofs.StartLaws.{front_in}
-use Rattle.yq_documents.specs.Pieces.{Piece, piece_span, node_piece, head_piece}
+use Rattle.yq_documents.specs.Pieces.{TextPiece, piece_span, node_piece, head_piece}
 use Rattle.yq_places.specs.PrintedLines.{line_front, less_last, less_end, PrintedLine, print_line, print_lines, printed_lines, line_in, run_text, run_piece}
 use Rattle.yq_places.specs.PathPieces.{PrintedDocument}
 use Rattle.yq_places.proofs.PrintedTexts.{lines_then, lines_append}
 use Rattle.yq_places.proofs.PrintedLaws.{IsValid, IsWritten, IsPrinted, lines_are}
-use Rattle.yq_places.proofs.SeatedLines.{row_begin, IsSeated, seated, IsPlaced}
+use Rattle.yq_places.proofs.PrintedRowLines.{row_begin, IsPrintedLine, printed_line, IsPlaced}
 
 -- an anchor with the white space behind it, and what is behind that
 abbrev front_of : Node → List ℕ
 front_of node = (anchor_cut node).0 ++ (anchor_cut node).1
 
-abbrev Spans : ℕ → ℕ → Option Piece → Type 0
-Spans from to o = (x : Piece) × (o ≡ Some x) × (length x.before ≡ from) × (length x.before + length x.text ≡ to)
+abbrev Spans : ℕ → ℕ → Option TextPiece → Type 0
+Spans from to o = (x : TextPiece) × (o ≡ Some x) × (length x.before ≡ from) × (length x.before + length x.text ≡ to)
 
-pub spans_is : (from to : ℕ) (o : Option Piece) → Spans from to o → option_map piece_span o ≡ Some (from, to)
+pub spans_is : (from to : ℕ) (o : Option TextPiece) → Spans from to o → option_map piece_span o ≡ Some (from, to)
 spans_is from to o h = ap (option_map piece_span) h.1 ∙ (λ i. Some (h.2 i, h.3 i))
 
 core_size : (before : List ℕ) (node : Node) (rest : List ℕ) (h : tree.Node) → takes_anchor node ≡ true → node_head node ≡ Some h → Spans (length before) (length before + length (node_text node [])) (node_piece before node rest)
@@ -109,8 +109,8 @@ take_all [] (suc k) e = absurd (omega (arith, e))
 take_all (n ∷ ns) zero e = absurd (omega (arith, e))
 take_all (n ∷ ns) (suc k) e = ap (λ l. n ∷ l) (take_all ns k (omega (arith, e)))
 
--- a row's front, where the line in a seat is the last of its row
-pub front_is : (q : Seat) → q.line ≡ length q.row.dashes → row_front q.row ≡ row_begin q ++ mark_text q.row.mark []
+-- a row's front, where the line in a row line is the last of its row
+pub front_is : (q : RowLine) → q.line ≡ length q.row.dashes → row_front q.row ≡ row_begin q ++ mark_text q.row.mark []
 front_is q e =
     let dashes : dashes_text q.row.dashes (mark_text q.row.mark []) ≡ dashes_text (take q.line q.row.dashes) [] ++ mark_text q.row.mark [] =
     dashes_then q.row.dashes (mark_text q.row.mark [])
@@ -137,14 +137,14 @@ run_last (suc m) l z (k ∷ more) e = ap (print_line l) (run_last m k z more e)
 -- the lines of a document among those of a cut
 module _ (c : Cut) (p : Part) (more : List Row) (k : ℕ) (s : PrintedDocument) (there : drop k (rows_of c) ≡ p.rows ++ more) (placed : IsPlaced c k p s) (lines : s.lines ≡ printed_lines p.rows) where
   -- the text before a line
-  pub begin_is : (n : ℕ) (q : Seat) (d : IsSeated p.rows n q) → before_line (k + q.before) q.line q.row c ≡ s.before ++ print_lines (take n (printed_lines p.rows)) (line_front d.line)
+  pub begin_is : (n : ℕ) (q : RowLine) (d : IsPrintedLine p.rows n q) → before_line (k + q.before) q.line q.row c ≡ s.before ++ print_lines (take n (printed_lines p.rows)) (line_front d.line)
   begin_is n q d =
       ap (λ x. x ++ row_begin q) (placed.row q.before (slice_get_within p.rows q.before q.row d.row))
       ∙ (append_assoc s.before (rows_text (take q.before p.rows) []) (row_begin q)
       ∙ ap (λ x. s.before ++ x) (sym (rows_then (take q.before p.rows) (row_begin q)) ∙ sym d.start))
 
   -- how long the text before a line's content is
-  pub content_size : (n : ℕ) (q : Seat) (d : IsSeated p.rows n q) → seat n p.rows ≡ Some q → q.line ≡ length q.row.dashes →
+  pub content_size : (n : ℕ) (q : RowLine) (d : IsPrintedLine p.rows n q) → row_line n p.rows ≡ Some q → q.line ≡ length q.row.dashes →
       length (before_content (k + q.before) c) ≡ length s.before + (length (print_lines (take n (printed_lines p.rows)) []) + (length (line_front d.line) + length d.line.mark))
   content_size n q d is e =
       let front = front_in (k + q.before) c q.row (row_there c p.rows more k n q there is) in
@@ -163,7 +163,7 @@ module _ (c : Cut) (p : Part) (more : List Row) (k : ℕ) (s : PrintedDocument) 
       )
 
   -- where a row ends
-  end_size : (n : ℕ) (q : Seat) (d : IsSeated p.rows n q) → seat n p.rows ≡ Some q → q.line ≡ length q.row.dashes →
+  end_size : (n : ℕ) (q : RowLine) (d : IsPrintedLine p.rows n q) → row_line n p.rows ≡ Some q → q.line ≡ length q.row.dashes →
       length (through_row (k + q.before) q.row c) ≡ length s.before + length (print_lines (take n (printed_lines p.rows)) (line_less d.line))
   end_size n q d is e =
       let x = content_cut q.row.content in
@@ -187,20 +187,20 @@ module _ (c : Cut) (p : Part) (more : List Row) (k : ℕ) (s : PrintedDocument) 
         length-append d.line.mark (less_end d.line.content),
       )
 
-  -- a line that is there is in its seat
-  pub seat_at : (n : ℕ) (l : PrintedLine) → slice_get (printed_lines p.rows) n ≡ Some l → (q : Seat) × (seat n p.rows ≡ Some q) × (d : IsSeated p.rows n q) × (d.line ≡ l)
-  seat_at n l e =
+  -- a line that is there is in its row line
+  pub row_line_at : (n : ℕ) (l : PrintedLine) → slice_get (printed_lines p.rows) n ≡ Some l → (q : RowLine) × (row_line n p.rows ≡ Some q) × (d : IsPrintedLine p.rows n q) × (d.line ≡ l)
+  row_line_at n l e =
       let line : slice_get (lines_of p.rows) n ≡ Some l.line = ap (λ x. slice_get x n) (sym (lines_are p.rows)) ∙ (slice_get-map line_in (printed_lines p.rows) n ∙ ap (option_map line_in) e) in
-      let q = seat_line p.rows n l.line line in
-      let d = seated p.rows n q.0 q.1 in
+      let q = row_line_found p.rows n l.line line in
+      let d = printed_line p.rows n q.0 q.1 in
       (q.0, q.1, d, same_Some _ _ (sym d.there ∙ e))
 
   -- a run of lines, of which the last is the last of its row
-  pub run_span : (n m : ℕ) (l z : PrintedLine) (behind : List ℕ) (b : Seat) → slice_get (printed_lines p.rows) n ≡ Some l → slice_get (printed_lines p.rows) (n + m) ≡ Some z → seat (n + m) p.rows ≡ Some b → b.line ≡ length b.row.dashes →
+  pub run_span : (n m : ℕ) (l z : PrintedLine) (behind : List ℕ) (b : RowLine) → slice_get (printed_lines p.rows) n ≡ Some l → slice_get (printed_lines p.rows) (n + m) ≡ Some z → row_line (n + m) p.rows ≡ Some b → b.line ≡ length b.row.dashes →
       Some (piece_span (run_piece (s.before ++ print_lines (take n (printed_lines p.rows)) []) l (take m (drop (suc n) (printed_lines p.rows))) behind)) ≡ lines_place k c p.rows n (n + m)
   run_span n m l z behind b el ez is e =
-      let a = seat_at n l el in
-      let d = seated p.rows (n + m) b is in
+      let a = row_line_at n l el in
+      let d = printed_line p.rows (n + m) b is in
       let last : d.line ≡ z = same_Some _ _ (sym d.there ∙ ez) in
       let rest : List PrintedLine = drop (suc n) (printed_lines p.rows) in
       let from : drop n (printed_lines p.rows) ≡ l ∷ rest = get_some (printed_lines p.rows) n l el in
@@ -224,15 +224,15 @@ module _ (c : Cut) (p : Part) (more : List Row) (k : ℕ) (s : PrintedDocument) 
         length-append (s.before ++ print_lines (take n (printed_lines p.rows)) []) (line_front l),
         length-append s.before (print_lines (take n (printed_lines p.rows)) []),
       ) in
-      sym (ap (λ (o : Option Seat). o >>= λ x. seat (n + m) p.rows >>= λ y. Some (length (before_line (k + x.before) x.line x.row c), length (through_row (k + y.before) y.row c))) a.1
-      ∙ (ap (λ (o : Option Seat). o >>= λ y. Some (length (before_line (k + a.0.before) a.0.line a.0.row c), length (through_row (k + y.before) y.row c))) is
+      sym (ap (λ (o : Option RowLine). o >>= λ x. row_line (n + m) p.rows >>= λ y. Some (length (before_line (k + x.before) x.line x.row c), length (through_row (k + y.before) y.row c))) a.1
+      ∙ (ap (λ (o : Option RowLine). o >>= λ y. Some (length (before_line (k + a.0.before) a.0.line a.0.row c), length (through_row (k + y.before) y.row c))) is
       ∙ (λ i. Some (start i, stop i))))
 
   -- the head of a line
   pub head_span : (n : ℕ) (l : PrintedLine) (h : tree.Node) (rest : List ℕ) → slice_get (printed_lines p.rows) n ≡ Some l → l.line.head ≡ Some h → IsPrinted l rest →
       option_map piece_span (head_piece ((s.before ++ print_lines (take n (printed_lines p.rows)) []) ++ (line_front l ++ l.mark)) l.content rest) ≡ line_head k c p.rows n
-  head_span n l h rest el head told =
-      let a = seat_at n l el in
+  head_span n l h rest el head as_printed =
+      let a = row_line_at n l el in
       let at : a.0.line ≡ length a.0.row.dashes = mark_line a.0 a.2 a.3 (cases_lt a.0.line (length a.0.row.dashes)) in
       let x = content_cut a.0.row.content in
       let content : l.content ≡ a.0.row.content = ap (λ (y : PrintedLine). y.content) (sym a.3) ∙ (a.2.last at).0 in
@@ -249,10 +249,10 @@ module _ (c : Cut) (p : Part) (more : List Row) (k : ℕ) (s : PrintedDocument) 
       ) in
       let start : length before + length (head_front l.content) ≡ length (before_content (k + a.0.before) c ++ (x.0 ++ (x.1 ++ x.2))) =
       omega (arith, size, ap (λ y. length (head_front y)) content, length-append (before_content (k + a.0.before) c) (x.0 ++ (x.1 ++ x.2))) in
-      spans_is _ _ (head_piece before l.content rest) (head_size before l.content rest h told.written (sym told.head ∙ head))
+      spans_is _ _ (head_piece before l.content rest) (head_size before l.content rest h as_printed.written (sym as_printed.head ∙ head))
       ∙ ((λ i. Some (start i, head_end (start i + length (content_cut (content i)).3) (content i)))
-      ∙ sym (ap (λ (o : Option Seat). o >>= λ y. Some (head_extent (k + y.before) y.row c)) a.1))
+      ∙ sym (ap (λ (o : Option RowLine). o >>= λ y. Some (head_extent (k + y.before) y.row c)) a.1))
     where
-      mark_line : (q : Seat) (d : IsSeated p.rows n q) → d.line ≡ l → (q.line < length q.row.dashes) ⊎ (length q.row.dashes ≤ q.line) → q.line ≡ length q.row.dashes
+      mark_line : (q : RowLine) (d : IsPrintedLine p.rows n q) → d.line ≡ l → (q.line < length q.row.dashes) ⊎ (length q.row.dashes ≤ q.line) → q.line ≡ length q.row.dashes
       mark_line q d e (inl less) = absurd (none-some _ (sym (d.deeper less).3 ∙ (ap (λ (y : PrintedLine). y.line.head) e ∙ head)))
       mark_line q d e (inr more) = omega (arith, more, d.within)

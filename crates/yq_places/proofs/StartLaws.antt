@@ -5,11 +5,11 @@ use Rattle.std.proofs.lemmas.Option.{slice_get-map}
 use Rattle.std.specs.List.{slice_get}
 use Rattle.yq_rows.specs.Exchange.{row_front, before_at, before_content}
 use Rattle.yq_rows.specs.Rows.{Row, rows_text, part_text, Cut, last, marked}
-use Rattle.yq_rows.specs.View.{Slices, slices, rows_of, shown}
+use Rattle.yq_rows.specs.View.{Slices, slices, rows_of, rows_view}
 use Rattle.yq_rows.proofs.ExchangeLaws.{slice_front, slice_back}
 use Rattle.yq_walk.specs.Extents.{row_start, front_length, head_place}
 use Rattle.yq_places.specs.CommentReading.{before_row}
-use Rattle.yq_walk.proofs.LengthLaws.{part-length, front-length, head_told}
+use Rattle.yq_walk.proofs.LengthLaws.{part-length, front-length, head_agrees}
 use Rattle.yq_rows.proofs.SliceLaws.{print-length}
 
 -- the text before a row's content is that before the row, and the row's front
@@ -43,12 +43,12 @@ front_in i (marked p marker c) r is = go (cases_lt i (length p.rows)) (λ there.
         )
 
 -- where a row begins is how long the text before it is
-pub start_told : (c : Cut) (i : ℕ) (r : Row) → slice_get (rows_of c) i ≡ Some r → row_start i (shown c) ≡ length (before_row i c)
-start_told c i r is =
+pub start_agrees : (c : Cut) (i : ℕ) (r : Row) → slice_get (rows_of c) i ≡ Some r → row_start i (rows_view c) ≡ length (before_row i c)
+start_agrees c i r is =
     let s : Slices = slices r in
-    let there : slice_get (shown c).rows i ≡ Some s = slice_get-map slices (rows_of c) i ∙ ap (option_map slices) is in
-    let told = head_told (shown c) i (row_start i (shown c)) (front_length s) (length s.head) s there refl refl refl c refl r is in
-    let place : row_start i (shown c) + front_length s ≡ (head_place i c r).0 = ap (λ (x : ℕ × ℕ). x.0) told in
+    let there : slice_get (rows_view c).rows i ≡ Some s = slice_get-map slices (rows_of c) i ∙ ap (option_map slices) is in
+    let agrees = head_agrees (rows_view c) i (row_start i (rows_view c)) (front_length s) (length s.head) s there refl refl refl c refl r is in
+    let place : row_start i (rows_view c) + front_length s ≡ (head_place i c r).0 = ap (λ (x : ℕ × ℕ). x.0) agrees in
     omega (
       arith,
       place,

@@ -7,18 +7,18 @@ use Rattle.yq_lines.specs.Comments as comments
 use Rattle.yq_lines.specs.Outline.{Mark, Bare, Key, Dash, Line, level, rank}
 use Rattle.yq_rows.specs.Rows as rows
 use Rattle.yq_rows.specs.Rows.{Content, Row, Cut}
-use Rattle.yq_rows.specs.View.{Slices, slices, Shown}
+use Rattle.yq_rows.specs.View.{Slices, slices, RowsView}
 use Rattle.yq_walk.specs.Lines.{dash_line, lines_from, row_lines, lines_of}
 use Rattle.yq_walk.specs.Extents.{lines_before_mark}
 use Rattle.yq_walk.specs.RowWalk.{HasRows, line_level}
 use Rattle.yq_places.specs.StepReading.{begins_under}
 use Rattle.yq_places.specs.Steps as spec
 use Rattle.yq_places.specs.Steps.{Steps, steps_in, steps_of_part, document_steps, is_key, is_kind, first_step}
-use Rattle.yq_walk.specs.declared.spot.Stretch.{Stretch}
+use Rattle.yq_walk.specs.declared.position.Stretch.{Stretch}
 use Rattle.yq_lines.proofs.Parts.{drop_at}
 use Rattle.yq_places.proofs.WalkDocuments.{Found}
-use Rattle.yq_walk.proofs.WalkLevels.{IsTelling, line_in, level_is}
-use Rattle.yq_walk.proofs.WalkSpots.{Located, located}
+use Rattle.yq_walk.proofs.WalkLevels.{RowAgrees, line_in, level_is}
+use Rattle.yq_walk.proofs.WalkPositions.{Located, located}
 
 -- the step of the first collection that begins under a key, in lines behind one of a level
 abbrev pub step_behind : (dashes : Bool) → ℕ → List Line → ℕ
@@ -26,27 +26,27 @@ step_behind dashes a [] = 2
 step_behind dashes a (l ∷ ls) = cond (begins_under dashes a (level l)) ((level l - a) / 3) (step_behind dashes (level l) ls)
 
 -- the mark of a line by its level
-key_told : (m : Mark) (column : ℕ) → is_key m ≡ eqb ((3 * column + rank m) % 3) 2
-key_told Bare column = sym (ne_eqb _ 2 (λ e. omega (arith, e)))
-key_told (Key k) column = sym (eq-eqb _ 2 (omega arith))
-key_told Dash column = sym (ne_eqb _ 2 (λ e. omega (arith, e)))
+key_agrees : (m : Mark) (column : ℕ) → is_key m ≡ eqb ((3 * column + rank m) % 3) 2
+key_agrees Bare column = sym (ne_eqb _ 2 (λ e. omega (arith, e)))
+key_agrees (Key k) column = sym (eq-eqb _ 2 (omega arith))
+key_agrees Dash column = sym (ne_eqb _ 2 (λ e. omega (arith, e)))
 
-kind_told : (dashes : Bool) (m : Mark) (column : ℕ) → is_kind dashes m ≡ eqb ((3 * column + rank m) % 3) (cond dashes 0 2)
-kind_told true Bare column = sym (ne_eqb _ 0 (λ e. omega (arith, e)))
-kind_told true (Key k) column = sym (ne_eqb _ 0 (λ e. omega (arith, e)))
-kind_told true Dash column = sym (eq-eqb _ 0 (omega arith))
-kind_told false Bare column = sym (ne_eqb _ 2 (λ e. omega (arith, e)))
-kind_told false (Key k) column = sym (eq-eqb _ 2 (omega arith))
-kind_told false Dash column = sym (ne_eqb _ 2 (λ e. omega (arith, e)))
+kind_agrees : (dashes : Bool) (m : Mark) (column : ℕ) → is_kind dashes m ≡ eqb ((3 * column + rank m) % 3) (cond dashes 0 2)
+kind_agrees true Bare column = sym (ne_eqb _ 0 (λ e. omega (arith, e)))
+kind_agrees true (Key k) column = sym (ne_eqb _ 0 (λ e. omega (arith, e)))
+kind_agrees true Dash column = sym (eq-eqb _ 0 (omega arith))
+kind_agrees false Bare column = sym (ne_eqb _ 2 (λ e. omega (arith, e)))
+kind_agrees false (Key k) column = sym (eq-eqb _ 2 (omega arith))
+kind_agrees false Dash column = sym (ne_eqb _ 2 (λ e. omega (arith, e)))
 
-begins_told : (dashes : Bool) (l m : Line) → spec.begins_under (is_kind dashes) l m ≡ begins_under dashes (level l) (level m)
+begins_agrees : (dashes : Bool) (l m : Line) → spec.begins_under (is_kind dashes) l m ≡ begins_under dashes (level l) (level m)
 unfolding level
-begins_told dashes l m = λ i. key_told l.mark l.column i && (kind_told dashes m.mark m.column i && ltb (level l) (level m))
+begins_agrees dashes l m = λ i. key_agrees l.mark l.column i && (kind_agrees dashes m.mark m.column i && ltb (level l) (level m))
 
 -- by how many columns a collection is deeper than its key
-columns_told : (dashes : Bool) (l m : Line) → spec.begins_under (is_kind dashes) l m ≡ true → (level m - level l) / 3 ≡ m.column - l.column
+columns_agrees : (dashes : Bool) (l m : Line) → spec.begins_under (is_kind dashes) l m ≡ true → (level m - level l) / 3 ≡ m.column - l.column
 unfolding level
-columns_told dashes l m h = go dashes l.mark m.mark h
+columns_agrees dashes l m h = go dashes l.mark m.mark h
   where
     go : (dashes : Bool) (k n : Mark) → (is_key k && (is_kind dashes n && ltb (3 * l.column + rank k) (3 * m.column + rank n))) ≡ true → ((3 * m.column + rank n) - (3 * l.column + rank k)) / 3 ≡ m.column - l.column
     go dashes Bare n h = absurd (cc)
@@ -57,19 +57,19 @@ columns_told dashes l m h = go dashes l.mark m.mark h
     go true (Key k) Dash h = omega (arith, ltb-true _ _ h)
     go false (Key k) Dash h = absurd (cc)
 
-step_told : (dashes : Bool) (l : Line) (ls : List Line) → first_step (is_kind dashes) (l ∷ ls) ≡ step_behind dashes (level l) ls
-step_told dashes l [] = refl
-step_told dashes l (m ∷ ms) = go (cases_Bool (spec.begins_under (is_kind dashes) l m)) (step_told dashes m ms)
+step_agrees : (dashes : Bool) (l : Line) (ls : List Line) → first_step (is_kind dashes) (l ∷ ls) ≡ step_behind dashes (level l) ls
+step_agrees dashes l [] = refl
+step_agrees dashes l (m ∷ ms) = go (cases_Bool (spec.begins_under (is_kind dashes) l m)) (step_agrees dashes m ms)
   where
     go : (spec.begins_under (is_kind dashes) l m ≡ true) ⊎ (spec.begins_under (is_kind dashes) l m ≡ false) → first_step (is_kind dashes) (m ∷ ms) ≡ step_behind dashes (level m) ms → first_step (is_kind dashes) (l ∷ (m ∷ ms)) ≡ step_behind dashes (level l) (m ∷ ms)
-    go (inl begins) again = λ i. cond (begins_told dashes l m i) (sym (columns_told dashes l m begins) i) (again i)
+    go (inl begins) again = λ i. cond (begins_agrees dashes l m i) (sym (columns_agrees dashes l m begins) i) (again i)
     go (inr other) again =
         ap (λ b. cond b (m.column - l.column) (first_step (is_kind dashes) (m ∷ ms))) other
-        ∙ (again ∙ ap (λ b. cond b ((level m - level l) / 3) (step_behind dashes (level m) ms)) (sym other ∙ begins_told dashes l m))
+        ∙ (again ∙ ap (λ b. cond b ((level m - level l) / 3) (step_behind dashes (level m) ms)) (sym other ∙ begins_agrees dashes l m))
 
-pub steps_told : (dashes : Bool) (ls : List Line) → step_behind dashes 0 ls ≡ first_step (is_kind dashes) ls
-steps_told dashes [] = refl
-steps_told dashes (l ∷ ls) = sym (step_told dashes l ls)
+pub steps_agrees : (dashes : Bool) (ls : List Line) → step_behind dashes 0 ls ≡ first_step (is_kind dashes) ls
+steps_agrees dashes [] = refl
+steps_agrees dashes (l ∷ ls) = sym (step_agrees dashes l ls)
 
 -- no collection stands under a dash and not on its line
 under_dash : (dashes : Bool) (above : List (List ℕ)) (column n : ℕ) → begins_under dashes (level (dash_line above column)) n ≡ false
@@ -88,7 +88,7 @@ lines_step dashes a above column (n ∷ ns) m c f l ys first last =
     λ i. cond (begins_under dashes a (level (same_Some _ _ first i))) ((level (same_Some _ _ first i) - a) / 3) (rest i)
 
 -- the lines of a row: only its first one can begin a collection under a key
-pub row_step : (dashes : Bool) (a n k : ℕ) (r : Row) (ys : List Line) → IsTelling r → n ≡ line_level 0 (slices r) → k ≡ line_level (length r.dashes) (slices r) →
+pub row_step : (dashes : Bool) (a n k : ℕ) (r : Row) (ys : List Line) → RowAgrees r → n ≡ line_level 0 (slices r) → k ≡ line_level (length r.dashes) (slices r) →
     step_behind dashes a (row_lines r ++ ys) ≡ cond (begins_under dashes a n) ((n - a) / 3) (step_behind dashes k ys)
 row_step dashes a n k r ys t first last =
     let above : List (List ℕ) = comments.head_comment r.gap in
@@ -99,7 +99,7 @@ row_step dashes a n k r ys t first last =
     lines_step dashes a above r.column r.dashes r.mark r.content f.0 l.0 ys f.1 l.1 ∙ (λ i. cond (begins_under dashes a (begins i)) ((begins i - a) / 3) (step_behind dashes (ends i) ys))
 
 -- the lines from a row of a document on
-module _ (s : Shown) (d : Stretch) (h : HasRows s d) (dashes : Bool) (i above first : ℕ) (from : d.first ≤ i) (upto : i < d.end) (told : (x : Slices) → slice_get s.rows i ≡ Some x → first ≡ line_level 0 x) where
+module _ (s : RowsView) (d : Stretch) (h : HasRows s d) (dashes : Bool) (i above first : ℕ) (from : d.first ≤ i) (upto : i < d.end) (agrees : (x : Slices) → slice_get s.rows i ≡ Some x → first ≡ line_level 0 x) where
   abbrev at : Located s d h (record { row = i; line = 0 })
   at = located s d h (record { row = i; line = 0 }) (record { from = from; upto = upto; line = λ x e. omega arith })
 
@@ -108,7 +108,7 @@ module _ (s : Shown) (d : Stretch) (h : HasRows s d) (dashes : Bool) (i above fi
   row_here n last =
       let next : (i - d.first) + 1 ≡ (i + 1) - d.first = omega (arith, from) in
       ap (λ (rs : List Row). step_behind dashes above (lines_of rs)) (drop_at h.rows (i - d.first) at.row at.there ∙ ap (λ (k : ℕ). at.row ∷ drop k h.rows) next)
-      ∙ row_step dashes above first n at.row (lines_of (drop ((i + 1) - d.first) h.rows)) at.telling (told (slices at.row) at.pieces) last
+      ∙ row_step dashes above first n at.row (lines_of (drop ((i + 1) - d.first) h.rows)) at.row_agrees (agrees (slices at.row) at.pieces) last
 
   pub step_here : begins_under dashes above first ≡ true → (first - above) / 3 ≡ step_behind dashes above (lines_of (drop (i - d.first) h.rows))
   step_here begins =
@@ -117,11 +117,11 @@ module _ (s : Shown) (d : Stretch) (h : HasRows s d) (dashes : Bool) (i above fi
 
   pub step_on : (line n : ℕ) → begins_under dashes above first ≡ false → ((x : Slices) → slice_get s.rows i ≡ Some x → line ≡ lines_before_mark x) → ((x : Slices) → slice_get s.rows i ≡ Some x → n ≡ line_level line x) →
       step_behind dashes n (lines_of (drop ((i + 1) - d.first) h.rows)) ≡ step_behind dashes above (lines_of (drop (i - d.first) h.rows))
-  step_on line n other counted level_told =
-      let last : line ≡ length at.row.dashes = counted (slices at.row) at.pieces ∙ at.telling.counted in
-      sym (row_here n (level_told (slices at.row) at.pieces ∙ ap (λ (k : ℕ). line_level k (slices at.row)) last)
+  step_on line n other counted level_agrees =
+      let last : line ≡ length at.row.dashes = counted (slices at.row) at.pieces ∙ at.row_agrees.counted in
+      sym (row_here n (level_agrees (slices at.row) at.pieces ∙ ap (λ (k : ℕ). line_level k (slices at.row)) last)
       ∙ ap (λ b. cond b ((first - above) / 3) (step_behind dashes n (lines_of (drop ((i + 1) - d.first) h.rows)))) other)
 
 -- the steps of a document that was found, and of one that isn't there
-pub steps_found : (s : Shown) (c : Cut) (n : ℕ) (d : Stretch) (f : Found s c n d) → steps_in (lines_of f.document.stand.rows) ≡ document_steps n c
+pub steps_found : (s : RowsView) (c : Cut) (n : ℕ) (d : Stretch) (f : Found s c n d) → steps_in (lines_of f.document.stand.rows) ≡ document_steps n c
 steps_found s c n d f = ap (λ (rs : List Row). steps_in (lines_of rs)) f.rows ∙ ap steps_of_part (sym f.there)

@@ -7,7 +7,7 @@ use Rattle.yq_scalar.specs.Paths.{Step}
 use Rattle.yq_lines.specs.Ends.{deeper_count, lines_end}
 use Rattle.yq_lines.specs.Group.{group, level_or, is_fine}
 use Rattle.yq_lines.specs.Outline.{Line, level, Outline, end, row, flatten, IsEven}
-use Rattle.yq_lines.specs.Places.{Place, here, below, beside, lines_before, lines_after, Found, find}
+use Rattle.yq_lines.specs.Places.{Context, here, below, beside, lines_before, lines_after, FoundLine, find}
 use Rattle.yq_lines.proofs.Allowing.{Allows}
 use Rattle.yq_lines.proofs.LineEnds.{end_behind}
 use Rattle.yq_places.proofs.RowPathLaws.{found_lines, found_place}
@@ -43,12 +43,12 @@ pub shallow_even : (m n : ℕ) (o : Outline) → IsEven n o → n ≤ m → Shal
 shallow_even m n end h less = tt
 shallow_even m n (row l u a) h less = omega (arith, h.0, less)
 
-pub allows_less : (n : ℕ) (p : Place) (m : ℕ) → Allows n p m → n ≤ m
+pub allows_less : (n : ℕ) (p : Context) (m : ℕ) → Allows n p m → n ≤ m
 allows_less n here m h = omega (arith, h)
 allows_less n (below l p after) m h = omega (arith, h.3.1, allows_less h.3.0 p m h.3.2)
 allows_less n (beside l under p) m h = allows_less n p m h.4
 
-pub shallow_after : (n : ℕ) (p : Place) (m : ℕ) → Allows n p m → Shallow m (lines_after p)
+pub shallow_after : (n : ℕ) (p : Context) (m : ℕ) → Allows n p m → Shallow m (lines_after p)
 shallow_after n here m h = tt
 shallow_after n (below l p after) m h = shallow_append m (lines_after p) (flatten after) (shallow_after h.3.0 p m h.3.2) (shallow_even m n after h.4 (omega (arith, h.3.1, allows_less h.3.0 p m h.3.2)))
 shallow_after n (beside l under p) m h = shallow_after n p m h.4
@@ -67,7 +67,7 @@ count_under n m (row l u a) more less h =
     ∙ omega (arith, length-append (flatten u) (flatten a)))
 
 -- where the lines under a line that was found end
-pub end_is : (ls : List Line) (y : Step) (ys rest : List Step) (f : Found) → find y ys (group ls) ≡ Some (f, rest) → is_fine (group ls) ≡ true →
+pub end_is : (ls : List Line) (y : Step) (ys rest : List Step) (f : FoundLine) → find y ys (group ls) ≡ Some (f, rest) → is_fine (group ls) ≡ true →
     (deeper_count (level f.line) (drop (suc (length (lines_before f.place))) ls) ≡ length (flatten f.under)) × (lines_end (length (lines_before f.place)) ls ≡ suc (length (lines_before f.place)) + length (flatten f.under))
 end_is ls y ys rest f is fine =
     let back : List Line = flatten f.after ++ lines_after f.place in

@@ -14,15 +14,15 @@ use Rattle.yq_lines.proofs.LineEnds.{end_line}
 use Rattle.yq_lines.proofs.LinesLaws.{above}
 use Rattle.yq_lines.proofs.Parts.{drop_at, part_row, part_stop}
 use Rattle.yq_rows.specs.Rows.{Row, Cut}
-use Rattle.yq_rows.specs.View.{rows_of, Shown}
-use Rattle.yq_documents.specs.Seats.{Seat, seat}
+use Rattle.yq_rows.specs.View.{rows_of, RowsView}
+use Rattle.yq_documents.specs.LinesInRows.{RowLine, row_line}
 use Rattle.yq_places.specs.RowWalk.{InCut}
 use Rattle.yq_walk.specs.RowWalk.{IsLine, line_number, lines_stop}
-use Rattle.yq_walk.specs.declared.spot.Spot.{Spot}
-use Rattle.yq_walk.specs.declared.spot.Stretch.{Stretch}
+use Rattle.yq_walk.specs.declared.position.Position.{Position}
+use Rattle.yq_walk.specs.declared.position.Stretch.{Stretch}
 use Rattle.yq_places.proofs.EntryPlaceLaws.{row_there}
-use Rattle.yq_places.proofs.WalkDocuments.{seat_number}
-use Rattle.yq_walk.proofs.WalkSpots.{located}
+use Rattle.yq_places.proofs.WalkDocuments.{row_line_number}
+use Rattle.yq_walk.proofs.WalkPositions.{located}
 
 -- lines that are deeper than a level end where they begin exactly where there are none
 pub stops_here : (ls : List Line) (n floor : ℕ) → eqb n (lines_stop n floor ls) ≡ is_end (part ls n floor)
@@ -71,22 +71,22 @@ no_steps [] e = refl
 no_steps (s ∷ ss) e = absurd (omega (arith, eqb-true (length (s ∷ ss)) 0 (sym e)))
 
 -- the row of a line among those of a cut
-module _ (s : Shown) (d : Stretch) (c : Cut) (k : InCut s d c) (q : Spot) (at : IsLine s d q) where
+module _ (s : RowsView) (d : Stretch) (c : Cut) (k : InCut s d c) (q : Position) (at : IsLine s d q) where
   abbrev pub row_is : Row
   row_is = (located s d k.document.stand q at).row
 
-  pub seat_is : seat (line_number d k.document.stand.rows q) k.document.stand.rows ≡ Some (record { before = q.row - d.first; row = row_is; line = q.line })
-  seat_is = let l = located s d k.document.stand q at in seat_number k.document.stand.rows (q.row - d.first) q.line l.row l.there l.within
+  pub row_line_is : row_line (line_number d k.document.stand.rows q) k.document.stand.rows ≡ Some (record { before = q.row - d.first; row = row_is; line = q.line })
+  row_line_is = let l = located s d k.document.stand q at in row_line_number k.document.stand.rows (q.row - d.first) q.line l.row l.there l.within
 
   pub before_is : d.first + (q.row - d.first) ≡ q.row
   before_is = omega (arith, at.from)
 
   pub row_in_cut : slice_get (rows_of c) q.row ≡ Some row_is
-  row_in_cut = ap (slice_get (rows_of c)) (sym before_is) ∙ row_there c k.document.stand.rows k.more d.first (line_number d k.document.stand.rows q) (record { before = q.row - d.first; row = row_is; line = q.line }) k.there seat_is
+  row_in_cut = ap (slice_get (rows_of c)) (sym before_is) ∙ row_there c k.document.stand.rows k.more d.first (line_number d k.document.stand.rows q) (record { before = q.row - d.first; row = row_is; line = q.line }) k.there row_line_is
 
   -- what is said of that row is said of the line's
-  pub row_told : {A : Type 0} (said : ℕ → Row → Option A) (found : Option A) → ((r : Row) → slice_get (rows_of c) q.row ≡ Some r → found ≡ said q.row r) →
-      found ≡ (seat (line_number d k.document.stand.rows q) k.document.stand.rows >>= λ s. said (d.first + s.before) s.row)
-  row_told {A = A} said found told =
-      told row_is row_in_cut
-      ∙ ((λ i. said (sym before_is i) row_is) ∙ sym (ap (λ (o : Option Seat). o >>= λ s. said (d.first + s.before) s.row) seat_is))
+  pub row_known : {A : Type 0} (said : ℕ → Row → Option A) (found : Option A) → ((r : Row) → slice_get (rows_of c) q.row ≡ Some r → found ≡ said q.row r) →
+      found ≡ (row_line (line_number d k.document.stand.rows q) k.document.stand.rows >>= λ s. said (d.first + s.before) s.row)
+  row_known {A = A} said found agrees =
+      agrees row_is row_in_cut
+      ∙ ((λ i. said (sym before_is i) row_is) ∙ sym (ap (λ (o : Option RowLine). o >>= λ s. said (d.first + s.before) s.row) row_line_is))

@@ -10,27 +10,27 @@ use Rattle.yq_lines.specs.Labelled.{Labelled}
 use Rattle.yq_documents.specs.Reading.{read_at}
 use Rattle.yq_documents.specs.Texts.{texts}
 use Rattle.yq_documents.specs.declared.path.Part.TheVariants as parts
-use Rattle.yq_documents.specs.Pieces.{Piece}
+use Rattle.yq_documents.specs.Pieces.{TextPiece}
 use Rattle.yq_places.specs.PathPieces.{piece_at}
 use Rattle.yq_documents.specs.declared.path.Part.TheVariants as parts
 
 -- the text of the comment in a piece: what follows its `#`, less one leading space
-abbrev pub remark : Piece → List ℕ
-remark p = less_space (drop 1 p.text)
+abbrev pub comment_of : TextPiece → List ℕ
+comment_of p = less_space (drop 1 p.text)
 
 -- the texts of the comment lines in a piece; none where there is no piece
-abbrev pub remarks : Option Piece → List (List ℕ)
-remarks None = []
-remarks (Some p) = texts (lines_of p.text)
+abbrev pub comments_of : Option TextPiece → List (List ℕ)
+comments_of None = []
+comments_of (Some p) = texts (lines_of p.text)
 
 -- the head comment that is told of an entry or item; none where there is none
-abbrev pub told_above : Option Labelled → List (List ℕ)
-told_above None = []
-told_above (Some x) = x.0.head_comment
+abbrev pub head_comment_of : Option Labelled → List (List ℕ)
+head_comment_of None = []
+head_comment_of (Some x) = x.0.head_comment
 
 -- The comments that the tree has at a path are those that stand at their places, and it has none where there is no place.
 abbrev pub CommentsStand : Type 0
 CommentsStand =
     (t : List ℕ) (c : Cut) (p : Path) → read_at t ≡ Some c →
-    ((labelled_located p t >>= λ x. x.0.line_comment) ≡ option_map remark (piece_at p parts.LineComment c))
-    × (told_above (labelled_located p t) ≡ remarks (piece_at p parts.HeadComment c))
+    ((labelled_located p t >>= λ x. x.0.line_comment) ≡ option_map comment_of (piece_at p parts.LineComment c))
+    × (head_comment_of (labelled_located p t) ≡ comments_of (piece_at p parts.HeadComment c))

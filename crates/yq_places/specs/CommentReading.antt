@@ -3,11 +3,11 @@ use Rattle.std.specs.Prelude.{ℕ, ◌+◌, ◌-◌, ◌==◌, List, length, Opt
 use Rattle.yq_scalar.specs.Text.{cut, front, ends_line, is_empty, joined, lines_of, no_white, past_white}
 use Rattle.yq_rows.specs.View.{Slices, slices}
 use Rattle.yq_walk.specs.Extents.{front_length}
-use Rattle.yq_places.specs.SeatReading.{Numbers}
+use Rattle.yq_places.specs.RowLineReading.{Numbers}
 use Rattle.yq_rows.specs.Exchange.{before_content, behind_row}
 use Rattle.yq_rows.specs.Rows.{Row, Cut, rows_text, part_text, last, marked, behind_gap}
-use Rattle.yq_documents.specs.Seats.{Seat}
-use Rattle.yq_documents.specs.Pieces.{Piece, tail_comment, last_run, gap_comment}
+use Rattle.yq_documents.specs.LinesInRows.{RowLine}
+use Rattle.yq_documents.specs.Pieces.{TextPiece, tail_comment, last_run, gap_comment}
 
 -- the text of a cut before row i
 abbrev pub before_row : ℕ → Cut → List ℕ
@@ -19,12 +19,12 @@ abbrev pub before_tail : ℕ → Row → Cut → List ℕ
 before_tail i r c = let s = slices r in before_content i c ++ (s.space ++ (s.anchor ++ (s.apart ++ s.head)))
 
 -- the line comment of a line of row i: the comment in the row's tail, where the line is that of the row's mark
-abbrev pub line_comment_in : ℕ → Seat → Cut → Option Piece
+abbrev pub line_comment_in : ℕ → RowLine → Cut → Option TextPiece
 line_comment_in i s c =
     if s.line == length s.row.dashes then tail_comment (before_tail i s.row c) (slices s.row).tail ((slices s.row).raw ++ behind_row i c) else None
 
 -- the head comment of a line of row i: the run that ends the row's gap, where the line is the first of the row
-abbrev pub head_comment_in : ℕ → Seat → Cut → Option Piece
+abbrev pub head_comment_in : ℕ → RowLine → Cut → Option TextPiece
 head_comment_in i s c = if s.line == 0 then gap_comment (before_row i c) s.row.gap (behind_gap s.row (behind_row i c)) else None
 
 -- where the comment in a tail stands, by where the tail begins

@@ -17,9 +17,9 @@ use Rattle.yq_walk.specs.Extents.{head_place}
 use Rattle.yq_walk.specs.Lines.{tail_of, lines_of}
 use Rattle.yq_documents.specs.Located.{steps_of}
 use Rattle.yq_lines.specs.Ends.{line_of, reached, lines_end}
-use Rattle.yq_documents.specs.Seats.{seat, document_row}
-use Rattle.yq_lines.specs.Spots.{is_bare}
-use Rattle.yq_documents.specs.RowReading.{begins_block}
+use Rattle.yq_documents.specs.LinesInRows.{row_line, document_row}
+use Rattle.yq_lines.specs.Positions.{is_bare}
+use Rattle.yq_documents.specs.RowReading.{is_block_head}
 use Rattle.yq_places.specs.PrintedLines.{less_break}
 
 -- the text of a cut before line k of row i: before its dash, its key or the node itself (8.2.1, 8.2.2)
@@ -37,7 +37,7 @@ through_row i r c = before_tail i r c ++ ending (slices r)
 -- the place of lines of rows, before which k rows of a cut stand: from the beginning of one line to the end of another one's row, before its break
 abbrev pub lines_place : ℕ → Cut → List Row → ℕ → ℕ → Option (ℕ × ℕ)
 lines_place k c rs from to =
-    seat from rs >>= λ a. seat to rs >>= λ b. Some (length (before_line (k + a.before) a.line a.row c), length (through_row (k + b.before) b.row c))
+    row_line from rs >>= λ a. row_line to rs >>= λ b. Some (length (before_line (k + a.before) a.line a.row c), length (through_row (k + b.before) b.row c))
 
 -- the place of the entry or item of line n: from its key or dash to the end of its last line, before its break
 abbrev pub line_entry : ℕ → Cut → List Row → ℕ → Option (ℕ × ℕ)
@@ -55,7 +55,7 @@ head_extent i r c = ((head_place i c r).0, head_end (head_place i c r).1 r.conte
 
 -- the same of the head of line n of rows, before which k rows of a cut stand
 abbrev pub line_head : ℕ → Cut → List Row → ℕ → Option (ℕ × ℕ)
-line_head k c rs n = seat n rs >>= λ s. Some (head_extent (k + s.before) s.row c)
+line_head k c rs n = row_line n rs >>= λ s. Some (head_extent (k + s.before) s.row c)
 
 -- the place of the node for which the lines from one up to another one stand: a node on a line of its own, or a block collection; without
 -- lines there is none (8.2)
@@ -81,7 +81,7 @@ placed_inline i r c = locate (length (cut_text c)) (inline_node r.content) (tail
 
 -- the item or entry to which steps lead in the head of line n of rows, before which k rows of a cut stand (7.4)
 abbrev pub flow_entry : ℕ → Cut → List Row → ℕ → List Step → Option PlacedEntry
-flow_entry k c rs n steps = seat n rs >>= λ s. placed_entry_at steps (None, placed_inline (k + s.before) s.row c)
+flow_entry k c rs n steps = row_line n rs >>= λ s. placed_entry_at steps (None, placed_inline (k + s.before) s.row c)
 
 -- the place of the entry or item of line n, or where steps are left, of the one to which they lead in the line's head
 abbrev pub entry_from : ℕ → Cut → List Row → ℕ → List Step → Option (ℕ × ℕ)
@@ -146,7 +146,7 @@ line_begin start s k = start + length s.gap + s.column + dash_at k s.dashes
 
 -- where what a head spells ends, by where it ends on its first line
 abbrev pub head_finish : ℕ → Slices → ℕ
-head_finish end s = if begins_block s.head then end + length s.tail + length s.raw else end
+head_finish end s = if is_block_head s.head then end + length s.tail + length s.raw else end
 
 -- the item or entry to which steps lead in an alias or flow collection, if there is one
 abbrev pub entry_within : List Step → Option Placed → Option PlacedEntry

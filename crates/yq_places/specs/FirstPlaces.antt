@@ -8,8 +8,8 @@ use Rattle.yq_rows.specs.Reading.{begins_gap}
 use Rattle.yq_documents.specs.declared.path.Part.TheVariants.{Entry}
 use Rattle.yq_documents.specs.Documents.{document_parts}
 use Rattle.yq_places.specs.PathPieces.{printed_document, piece_in}
-use Rattle.yq_documents.specs.Pieces.{Piece}
-use Rattle.yq_documents.specs.Seats.{Seat, seat_of}
+use Rattle.yq_documents.specs.Pieces.{TextPiece}
+use Rattle.yq_documents.specs.LinesInRows.{RowLine, row_line_of}
 
 -- whether each byte is a space (5.5)
 abbrev pub are_spaces : List ℕ → Bool
@@ -26,13 +26,13 @@ abbrev pub end_spaces : List ℕ → List ℕ
 end_spaces t = drop (length (less_spaces t)) t
 
 -- the line of the item or entry to which steps lead in document n (8.2)
-abbrev pub line_seat : ℕ → List Step → Cut → Option Seat
-line_seat n steps c = slice_get (document_parts c) n >>= λ p. seat_of steps p.rows
+abbrev pub line_row_line : ℕ → List Step → Cut → Option RowLine
+line_row_line n steps c = slice_get (document_parts c) n >>= λ p. row_line_of steps p.rows
 
 -- the item or entry to which steps lead in document n, where its line isn't the first one of its row: behind a dash stands the first one of
 -- a compact collection (8.2.1)
-abbrev pub first_entry : ℕ → List Step → Cut → Option Piece
-first_entry n steps c = line_seat n steps c >>= λ s. if s.line == 0 then None else (printed_document n c >>= piece_in Entry steps)
+abbrev pub first_entry : ℕ → List Step → Cut → Option TextPiece
+first_entry n steps c = line_row_line n steps c >>= λ s. if s.line == 0 then None else (printed_document n c >>= piece_in Entry steps)
 
 -- What is taken out with the first item or entry of a compact collection, between the text before and the text behind: spaces, the item or
 -- entry, its break and the next one's spaces, of which all but the second may be nothing (8.2.1; own).
@@ -46,7 +46,7 @@ pub record FirstOut : Type 0 where
 
 -- what is taken out with such an item or entry: where a gap is behind its last line, what stands behind the dash up to the end of that line,
 -- before its break; else all up to the next one (8.2.1; own)
-abbrev pub first_out : Piece → FirstOut
+abbrev pub first_out : TextPiece → FirstOut
 first_out p =
     let line = cut_line p.behind in
     let next = cut no_space line.1 in

@@ -6,24 +6,24 @@ use Rattle.yq_inline.specs.Collections.{CollPieces, coll_along}
 use Rattle.yq_rows.specs.Exchange.{behind_row}
 use Rattle.yq_rows.specs.Rows.{Content, Nothing, Inline, Block, Row, Part, Cut}
 use Rattle.yq_lines.specs.Outline.{Outline, end, row}
-use Rattle.yq_lines.specs.Places.{here, lines_before, Found, find, in_head, inside}
-use Rattle.yq_lines.specs.Spots.{is_bare}
+use Rattle.yq_lines.specs.Places.{here, lines_before, FoundLine, find, in_head, inside}
+use Rattle.yq_lines.specs.Positions.{is_bare}
 use Rattle.yq_documents.specs.Documents.{document_parts}
 use Rattle.yq_documents.specs.Reading.{outline_of}
-use Rattle.yq_documents.specs.Seats.{seat, document_row}
+use Rattle.yq_documents.specs.LinesInRows.{row_line, document_row}
 
 -- the first line, if it is a node itself (8.2)
-abbrev pub bare_line : Outline → Option Found
+abbrev pub bare_line : Outline → Option FoundLine
 bare_line end = None
 bare_line (row l under after) = if is_bare l.mark then Some (record { place = here; line = l; under = under; after = after }) else None
 
 -- the line in whose head the node of an entry stands: its own, or the one under it that is a node itself; where steps go on in the head, its own (8.2)
-abbrev pub head_line : Found → List Step → Option (Found × List Step)
+abbrev pub head_line : FoundLine → List Step → Option (FoundLine × List Step)
 head_line f [] = in_head f.line.head (Some (f, [])) (option_map (λ g. (inside f g, [])) (bare_line f.under))
 head_line f (s ∷ ss) = Some (f, s ∷ ss)
 
 -- the line in whose head the node at a path stands, and the steps that go on in the head
-abbrev pub find_head : List Step → Outline → Option (Found × List Step)
+abbrev pub find_head : List Step → Outline → Option (FoundLine × List Step)
 find_head [] o = option_map (λ f. (f, [])) (bare_line o)
 find_head (s ∷ ss) o = find s ss o >>= λ x. head_line x.0 x.1
 
@@ -35,7 +35,7 @@ content_flow steps (Block space anchor block) rest = None
 
 -- the same in the head of line n of rows, before which k rows of a cut stand (7.4)
 abbrev pub line_collection : ℕ → Cut → List Row → ℕ → List Step → Option CollPieces
-line_collection k c rs n steps = seat n rs >>= λ s. content_flow steps s.row.content (behind_row (k + s.before) c)
+line_collection k c rs n steps = row_line n rs >>= λ s. content_flow steps s.row.content (behind_row (k + s.before) c)
 
 -- the same at a path of a document, before which k rows stand (7.4)
 abbrev pub part_collection : ℕ → Cut → List Step → Part → Option CollPieces

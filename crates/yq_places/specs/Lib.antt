@@ -17,7 +17,7 @@ pub use Rattle.yq_lines.specs.Counts
 pub use Rattle.yq_lines.specs.Comments
 pub use Rattle.yq_lines.specs.Laws
 pub use Rattle.yq_lines.specs.ShapedLines
-pub mod SeatReading
+pub mod RowLineReading
 pub mod Answers
 pub mod CommentLaws
 pub mod CommentReading
@@ -29,7 +29,7 @@ pub mod PieceLaws
 pub mod Existence
 pub mod RemovalPlaces
 pub mod FirstPlaces
-pub mod FirstTelling
+pub mod FirstViews
 pub mod RemovalReading
 pub mod CollectionEnds
 pub mod Steps
@@ -39,14 +39,14 @@ pub mod RowPieces
 pub mod RootReading
 pub mod RowWalk
 pub mod CommentPlaces
-pub mod CommentTelling
+pub mod CommentViews
 pub mod FirstBreak
 pub mod FlowNodes
 pub mod NodesAt
 pub mod NodeReading
-pub mod FlowTold
+pub mod FlowViews
 pub mod HeadReading
 pub mod Standings
-pub mod StandingTelling
+pub mod StandingViews
 pub mod LineReading
 pub mod StandingReading

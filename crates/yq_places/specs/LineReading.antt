@@ -40,9 +40,9 @@ abbrev pub lines_of : {t : List ℕ} {from stop : ℕ} → CutsLines t from stop
 lines_of h = lines_between h.before h.own h.behind
 
 -- lines that the code lends
-abbrev pub lines_told : declared_lines.LinesCut → LinesIn
-lines_told x = record { before = whole x.before; none = x.none; lines = whole x.lines; last = x.last.now; behind = whole x.behind }
+abbrev pub lines_view : declared_lines.LinesCut → LinesIn
+lines_view x = record { before = whole x.before; none = x.none; lines = whole x.lines; last = x.last.now; behind = whole x.behind }
 
 -- the end of a line that the code lends
-abbrev pub tail_told : declared_tail.TailCut → LineEnd
-tail_told x = record { before = []; white = x.white.now; comment = x.comment.now; behind = x.line_break.now }
+abbrev pub tail_view : declared_tail.TailCut → LineEnd
+tail_view x = record { before = []; white = x.white.now; comment = x.comment.now; behind = x.line_break.now }

@@ -8,13 +8,13 @@ use Rattle.yq_scalar.specs.Paths.{Step, node_at}
 use Rattle.yq_scalar.specs.Tree as tree
 use Rattle.yq_lines.specs.Ends.{part, reached}
 use Rattle.yq_lines.specs.Outline.{Line, level, value}
-use Rattle.yq_lines.specs.Spots.{begins_with_node}
+use Rattle.yq_lines.specs.Positions.{begins_with_node}
 use Rattle.yq_rows.specs.Rows.{Row}
-use Rattle.yq_rows.specs.View.{Shown}
-use Rattle.yq_places.specs.NodesAt.{NodeAt, node_told}
-use Rattle.yq_walk.specs.RowWalk.{IsLine, IsSpot, line_number, lines_stop}
+use Rattle.yq_rows.specs.View.{RowsView}
+use Rattle.yq_places.specs.NodesAt.{NodeAt, node_summary}
+use Rattle.yq_walk.specs.RowWalk.{IsLine, IsPosition, line_number, lines_stop}
 use Rattle.yq_places.specs.declared.places.node_place.NodePlace as declared
-use Rattle.yq_walk.specs.declared.spot.Stretch.{Stretch}
+use Rattle.yq_walk.specs.declared.position.Stretch.{Stretch}
 
 -- Where a node is written: in the head of a line, or on the lines from one on that are deeper than a level (8.2).
 pub data NodePlace : Type 0 where
@@ -55,31 +55,31 @@ abbrev pub head_at : List Step → List Line → Option (ℕ × List Step)
 head_at steps ls = node_place steps ls >>= λ x. with_steps x.1 (place_line ls x.0)
 
 -- where a place of the code is, with lines by their numbers
-abbrev pub place_told : Stretch → List Row → declared.NodePlace → NodePlace
-place_told d rs (declared.TheVariants.Head q) = at_head (line_number d rs q)
-place_told d rs (declared.TheVariants.Lines q floor) = at_lines (line_number d rs q) floor
+abbrev pub place_view : Stretch → List Row → declared.NodePlace → NodePlace
+place_view d rs (declared.TheVariants.Head q) = at_head (line_number d rs q)
+place_view d rs (declared.TheVariants.Lines q floor) = at_lines (line_number d rs q) floor
 
 -- the same with the steps that go on there
-abbrev pub node_place_told : Stretch → List Row → declared.NodePlace × Bor (List steps.Step) → NodePlace × List Step
-node_place_told d rs x = (place_told d rs x.0, map step_of x.1.now)
+abbrev pub node_place_view : Stretch → List Row → declared.NodePlace × Bor (List steps.Step) → NodePlace × List Step
+node_place_view d rs x = (place_view d rs x.0, map step_of x.1.now)
 
 -- A place is that of lines of a document.
-abbrev pub IsPlace : Shown → Stretch → declared.NodePlace → Type 0
+abbrev pub IsPlace : RowsView → Stretch → declared.NodePlace → Type 0
 IsPlace s d (declared.TheVariants.Head q) = IsLine s d q
-IsPlace s d (declared.TheVariants.Lines q floor) = IsSpot s d q
+IsPlace s d (declared.TheVariants.Lines q floor) = IsPosition s d q
 
 -- what is told of the node to which steps lead in a head, if there is one
-abbrev pub told_in_head : List Step → Option tree.Node → Option NodeAt
-told_in_head ss head = head >>= λ n. option_map node_told (node_at ss n)
+abbrev pub summary_in_head : List Step → Option tree.Node → Option NodeAt
+summary_in_head ss head = head >>= λ n. option_map node_summary (node_at ss n)
 
 -- what is told of the node in the head of a line
-abbrev pub told_in_line : List Line → List Step → ℕ → Option NodeAt
-told_in_line ls ss n = slice_get ls n >>= λ l. told_in_head ss l.head
+abbrev pub summary_in_line : List Line → List Step → ℕ → Option NodeAt
+summary_in_line ls ss n = slice_get ls n >>= λ l. summary_in_head ss l.head
 
 -- what is told of the node for which an outline stands whose first line is no node itself
-abbrev pub told_of_lines : List Line → NodePlace → Option NodeAt
-told_of_lines ls (at_head n) = None
-told_of_lines ls (at_lines n floor) = Some (node_told (value (part ls n floor)))
+abbrev pub summary_of_lines : List Line → NodePlace → Option NodeAt
+summary_of_lines ls (at_head n) = None
+summary_of_lines ls (at_lines n floor) = Some (node_summary (value (part ls n floor)))
 
 -- the first of two answers, if there is one
 abbrev pub line_or : {A : Type 0} → Option ℕ → (ℕ → Option A) → Option A → Option A
@@ -88,4 +88,4 @@ line_or (Some n) f x = f n
 
 -- what is told of the node that is written there, where steps go on
 abbrev pub place_node : List Line → NodePlace → List Step → Option NodeAt
-place_node ls p ss = line_or (place_line ls p) (told_in_line ls ss) (told_of_lines ls p)
+place_node ls p ss = line_or (place_line ls p) (summary_in_line ls ss) (summary_of_lines ls p)

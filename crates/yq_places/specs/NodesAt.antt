@@ -21,11 +21,11 @@ pub data NodeAt : Type 0 where
   map : (several : Bool) → NodeAt
 
 -- what is told of a node (3.2.1)
-abbrev pub node_told : tree.Node → NodeAt
-node_told (tree.alias name) = alias
-node_told (tree.scalar anchor kind text) = scalar (record { kind = kind; text = text })
-node_told (tree.list anchor cs) = list (nat_lt 1 (count cs))
-node_told (tree.map anchor cs) = map (nat_lt 1 (count cs))
+abbrev pub node_summary : tree.Node → NodeAt
+node_summary (tree.alias name) = alias
+node_summary (tree.scalar anchor kind text) = scalar (record { kind = kind; text = text })
+node_summary (tree.list anchor cs) = list (nat_lt 1 (count cs))
+node_summary (tree.map anchor cs) = map (nat_lt 1 (count cs))
 
 -- the scalar that a node is (3.2.1)
 abbrev pub scalar_in : tree.Node → Option ScalarText
@@ -46,18 +46,18 @@ node_view (declared.TheVariants.List several) = list several
 node_view (declared.TheVariants.Map several) = map several
 
 -- it has several items or entries
-abbrev pub told_several : NodeAt → Bool
-told_several alias = false
-told_several (scalar s) = false
-told_several (list several) = several
-told_several (map several) = several
+abbrev pub summary_several : NodeAt → Bool
+summary_several alias = false
+summary_several (scalar s) = false
+summary_several (list several) = several
+summary_several (map several) = several
 
 -- the scalar of which that is told
-abbrev pub told_scalar : NodeAt → Option ScalarText
-told_scalar alias = None
-told_scalar (scalar s) = Some s
-told_scalar (list several) = None
-told_scalar (map several) = None
+abbrev pub summary_scalar : NodeAt → Option ScalarText
+summary_scalar alias = None
+summary_scalar (scalar s) = Some s
+summary_scalar (list several) = None
+summary_scalar (map several) = None
 
 -- a scalar of the code
 abbrev pub scalar_view : Kind × Content → ScalarText

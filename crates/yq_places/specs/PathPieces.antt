@@ -10,9 +10,9 @@ use Rattle.yq_documents.specs.declared.path.Path.{Path}
 use Rattle.yq_lines.specs.Group.{group}
 use Rattle.yq_documents.specs.Located.{steps_of}
 use Rattle.yq_lines.specs.Outline.{flatten}
-use Rattle.yq_lines.specs.Places.{lines_before, Found, find}
+use Rattle.yq_lines.specs.Places.{lines_before, FoundLine, find}
 use Rattle.yq_documents.specs.declared.path.Part.TheVariants as parts
-use Rattle.yq_documents.specs.Pieces.{Piece, node_piece, head_piece, content_comment, gap_comment}
+use Rattle.yq_documents.specs.Pieces.{TextPiece, node_piece, head_piece, content_comment, gap_comment}
 use Rattle.yq_places.specs.PlacedRows.{PlacedPart, placed_document}
 use Rattle.yq_places.specs.PrintedLines.{PrintedLine, line_front, behind_front, print_line, print_lines, printed_lines, line_in, run_piece, lines_piece}
 
@@ -24,11 +24,11 @@ pub record BlockEntry : Type 0 where
   pub behind : List ℕ
 
 -- the piece of an entry or item: from its key or dash to the end of its last line
-abbrev pub entry_piece : BlockEntry → Piece
+abbrev pub entry_piece : BlockEntry → TextPiece
 entry_piece e = run_piece e.before e.line e.under e.behind
 
 -- the piece of an entry's or item's node: what is written behind its mark, or else that for which the lines under it stand
-abbrev pub content_piece : BlockEntry → Option Piece
+abbrev pub content_piece : BlockEntry → Option TextPiece
 content_piece e =
     if is_some e.line.line.head then head_piece (e.before ++ (line_front e.line ++ e.line.mark)) e.line.content (print_lines e.under e.behind)
     else lines_piece (e.before ++ print_line e.line []) e.under e.behind
@@ -71,11 +71,11 @@ abbrev pub line_inline : BlockEntry → Option FlowEntry
 line_inline e = content_inline (e.before ++ (line_front e.line ++ e.line.mark)) e.line.content (print_lines e.under e.behind)
 
 -- the piece of an item or entry of a flow collection, with its key
-abbrev pub flow_piece : FlowEntry → Piece
+abbrev pub flow_piece : FlowEntry → TextPiece
 flow_piece x = record { before = x.before; text = key_text x.key (node_text x.node []); behind = x.behind }
 
 -- the piece of the node of an item or entry of a flow collection, without its anchor
-abbrev pub flow_content : FlowEntry → Option Piece
+abbrev pub flow_content : FlowEntry → Option TextPiece
 flow_content x = node_piece (x.before ++ key_text x.key []) x.node x.behind
 
 -- The lines of a document, with the text before and behind them.
@@ -103,11 +103,11 @@ entry_with s n m =
     })
 
 -- a line that was found, with those under it
-abbrev pub found_entry : PrintedDocument → Found → Option BlockEntry
+abbrev pub found_entry : PrintedDocument → FoundLine → Option BlockEntry
 found_entry s f = entry_with s (length (lines_before f.place)) (length (flatten f.under))
 
 -- the piece of a part of an entry, or of the item or entry to which the steps that are left lead in its line; comments are those of the line
-abbrev pub piece_in_entry : Part → List Step → BlockEntry → Option Piece
+abbrev pub piece_in_entry : Part → List Step → BlockEntry → Option TextPiece
 piece_in_entry parts.Content [] e = content_piece e
 piece_in_entry parts.Content (s ∷ ss) e = line_inline e >>= λ x. flow_at (s ∷ ss) x >>= flow_content
 piece_in_entry parts.Entry [] e = Some (entry_piece e)
@@ -118,7 +118,7 @@ piece_in_entry parts.LineComment [] e = content_comment (e.before ++ (line_front
 piece_in_entry parts.LineComment (s ∷ ss) e = None
 
 -- the piece of a part of the node to which steps lead in a document; a root has a content alone
-abbrev pub piece_in : Part → List Step → PrintedDocument → Option Piece
+abbrev pub piece_in : Part → List Step → PrintedDocument → Option TextPiece
 piece_in parts.Content [] s = lines_piece s.before s.lines s.behind
 piece_in parts.Entry [] s = None
 piece_in parts.HeadComment [] s = None
@@ -126,5 +126,5 @@ piece_in parts.LineComment [] s = None
 piece_in part (x ∷ xs) s = find x xs (group (map line_in s.lines)) >>= λ f. found_entry s f.0 >>= piece_in_entry part f.1
 
 -- the piece of a part of the node at a path, if it has that part
-abbrev pub piece_at : Path → Part → Cut → Option Piece
+abbrev pub piece_at : Path → Part → Cut → Option TextPiece
 piece_at p part c = printed_document p.doc c >>= piece_in part (steps_of p)

@@ -18,13 +18,13 @@ use Rattle.yq_lines.specs.Labelled.{Labelled}
 use Rattle.yq_lines.specs.Outline.{level, Outline, flatten, IsEven, anchored, value, label}
 use Rattle.yq_lines.specs.Places.{content}
 use Rattle.yq_documents.specs.Reading.{read_at}
-use Rattle.yq_lines.specs.Spots.{is_bare}
-use Rattle.yq_documents.specs.Pieces.{Piece, HoldsPiece}
+use Rattle.yq_lines.specs.Positions.{is_bare}
+use Rattle.yq_documents.specs.Pieces.{TextPiece, HoldsPiece}
 use Rattle.yq_places.specs.PrintedLines.{PrintedLine, print_lines, printed_lines, line_in, run_piece}
 use Rattle.yq_places.specs.PathPieces.{PrintedDocument, printed_document, piece_at}
 
 -- A piece is an inline node without an anchor, which stands for a tree (7).
-pub record IsInlinePiece (p : Piece) (n : tree.Node) : Type 0 where
+pub record IsInlinePiece (p : TextPiece) (n : tree.Node) : Type 0 where
   pub node : Node
   pub unnamed : node_anchor node ≡ None
   pub text : p.text ≡ node_text node []
@@ -32,21 +32,21 @@ pub record IsInlinePiece (p : Piece) (n : tree.Node) : Type 0 where
   pub tree : n ≡ tree_of node
 
 -- A piece is a block scalar, from its header to its last raw line (8.1).
-pub record IsScalarPiece (p : Piece) (n : tree.Node) : Type 0 where
+pub record IsScalarPiece (p : TextPiece) (n : tree.Node) : Type 0 where
   pub block : BlockText
   pub text : p.text ≡ block_text block []
   pub valid : (least : ℕ) × IsBlock least block p.behind
   pub tree : n ≡ tree.scalar None Text (block_content block)
 
 -- A piece is that of a run of lines of a document, which stands behind others and before others.
-pub record IsRun (s : PrintedDocument) (first : PrintedLine) (others : List PrintedLine) (p : Piece) : Type 0 where
+pub record IsRun (s : PrintedDocument) (first : PrintedLine) (others : List PrintedLine) (p : TextPiece) : Type 0 where
   pub above : List PrintedLine
   pub below : List PrintedLine
   pub lines : s.lines ≡ above ++ (first ∷ (others ++ below))
   pub piece : p ≡ run_piece (s.before ++ print_lines above []) first others (print_lines below s.behind)
 
 -- A piece is a run of lines of a document that begins with a key or dash, and these lines stand for a tree (8.2).
-pub record IsRunPiece (s : PrintedDocument) (p : Piece) (n : tree.Node) : Type 0 where
+pub record IsRunPiece (s : PrintedDocument) (p : TextPiece) (n : tree.Node) : Type 0 where
   pub first : PrintedLine
   pub others : List PrintedLine
   pub run : IsRun s first others p
@@ -57,18 +57,18 @@ pub record IsRunPiece (s : PrintedDocument) (p : Piece) (n : tree.Node) : Type 0
   pub tree : n ≡ value outline
 
 -- A piece spells a tree: as an inline node, a block scalar or a block collection.
-abbrev pub SpellsTree : PrintedDocument → Piece → tree.Node → Type 0
+abbrev pub SpellsTree : PrintedDocument → TextPiece → tree.Node → Type 0
 SpellsTree s p n = IsInlinePiece p n ⊎ (IsScalarPiece p n ⊎ IsRunPiece s p n)
 
 -- A piece spells a node but for its anchor.
-pub record SpellsNode (s : PrintedDocument) (p : Piece) (n : tree.Node) : Type 0 where
+pub record SpellsNode (s : PrintedDocument) (p : TextPiece) (n : tree.Node) : Type 0 where
   pub anchor : Option (List ℕ)
   pub tree : tree.Node
   pub node : n ≡ anchored anchor tree
   pub spelled : SpellsTree s p tree
 
 -- A piece is an entry or item, which is a node with its label: its line, which begins with its key or dash, and the lines under it (8.2).
-pub record IsEntryRun (s : PrintedDocument) (p : Piece) (n : Labelled) : Type 0 where
+pub record IsEntryRun (s : PrintedDocument) (p : TextPiece) (n : Labelled) : Type 0 where
   pub first : PrintedLine
   pub others : List PrintedLine
   pub run : IsRun s first others p
@@ -79,7 +79,7 @@ pub record IsEntryRun (s : PrintedDocument) (p : Piece) (n : Labelled) : Type 0 
   pub tree : n.1 ≡ content first.line under
 
 -- A piece is an item of a flow collection with its node, or an entry with its key (7.4).
-pub record IsFlowPiece (p : Piece) (n : Labelled) : Type 0 where
+pub record IsFlowPiece (p : TextPiece) (n : Labelled) : Type 0 where
   pub key : Key
   pub node : Node
   pub text : p.text ≡ key_text key (node_text node [])
@@ -90,7 +90,7 @@ pub record IsFlowPiece (p : Piece) (n : Labelled) : Type 0 where
 -- The piece of an entry or item at a path spells the node there, with its key.
 abbrev pub EntriesSpell : Type 0
 EntriesSpell =
-    (t : List ℕ) (c : Cut) (p : Path) (s : PrintedDocument) (x : Piece) → read_at t ≡ Some c → printed_document p.doc c ≡ Some s →
+    (t : List ℕ) (c : Cut) (p : Path) (s : PrintedDocument) (x : TextPiece) → read_at t ≡ Some c → printed_document p.doc c ≡ Some s →
     piece_at p Entry c ≡ Some x →
     (n : Labelled) × (labelled_located p t ≡ Some n) × (IsEntryRun s x n ⊎ IsFlowPiece x n)
 
@@ -104,16 +104,16 @@ LinesStand =
 -- The piece of a content at a path spells the node there.
 abbrev pub ContentsSpell : Type 0
 ContentsSpell =
-    (t : List ℕ) (c : Cut) (p : Path) (s : PrintedDocument) (x : Piece) → read_at t ≡ Some c → printed_document p.doc c ≡ Some s →
+    (t : List ℕ) (c : Cut) (p : Path) (s : PrintedDocument) (x : TextPiece) → read_at t ≡ Some c → printed_document p.doc c ≡ Some s →
     piece_at p Content c ≡ Some x →
     (n : tree.Node) × (located p t ≡ Some n) × SpellsNode s x n
 
 -- The text holds each piece, from one whole character to another.
 abbrev pub PiecesHold : Type 0
-PiecesHold = (t : List ℕ) (c : Cut) (p : Path) (part : Part) (x : Piece) → read_at t ≡ Some c → piece_at p part c ≡ Some x → HoldsPiece t x
+PiecesHold = (t : List ℕ) (c : Cut) (p : Path) (part : Part) (x : TextPiece) → read_at t ≡ Some c → piece_at p part c ≡ Some x → HoldsPiece t x
 
 -- The content of an entry or item begins in that entry or item.
 abbrev pub ContentsBegin : Type 0
 ContentsBegin =
-    (c : Cut) (p : Path) (e x : Piece) → piece_at p Entry c ≡ Some e → piece_at p Content c ≡ Some x →
+    (c : Cut) (p : Path) (e x : TextPiece) → piece_at p Entry c ≡ Some e → piece_at p Content c ≡ Some x →
     (front : List ℕ) × (x.before ≡ e.before ++ front)

@@ -6,7 +6,7 @@ use Rattle.yq_rows.specs.Rows.{Row, rows_text, Part, part_text, Cut, last, marke
 use Rattle.yq_rows.specs.Splices.{nth_part, behind_part}
 use Rattle.yq_documents.specs.Documents.{document_parts}
 use Rattle.yq_documents.specs.PartNumbers.{part_number}
-use Rattle.yq_documents.specs.Seats.{Seat, seat_of}
+use Rattle.yq_documents.specs.LinesInRows.{RowLine, row_line_of}
 
 -- The part of a cut that is a document, with the text before and behind it (9.1; own).
 pub record PlacedPart : Type 0 where
@@ -36,7 +36,7 @@ pub record PlacedRow : Type 0 where
   pub behind : List ℕ
 
 -- the row of a line in a document
-abbrev pub placed_row : PlacedPart → Seat → PlacedRow
+abbrev pub placed_row : PlacedPart → RowLine → PlacedRow
 placed_row s x = record {
   before = s.before ++ rows_text (take x.before s.part.rows) [];
   row = x.row;
@@ -46,4 +46,4 @@ placed_row s x = record {
 
 -- the row of the line of the entry or item to which steps lead in a document, if one has a line
 abbrev pub row_of_path : ℕ → List Step → Cut → Option PlacedRow
-row_of_path n steps c = placed_document n c >>= λ s. option_map (placed_row s) (seat_of steps s.part.rows)
+row_of_path n steps c = placed_document n c >>= λ s. option_map (placed_row s) (row_line_of steps s.part.rows)

@@ -5,10 +5,10 @@ use Rattle.yq_rows.specs.Rows.{Content, Nothing, mark_text, content_text, Row, l
 use Rattle.yq_rows.specs.View.{content_cut}
 use Rattle.yq_walk.specs.Lines.{mark_line, dash_line}
 use Rattle.yq_lines.specs.Outline.{Line}
-use Rattle.yq_lines.specs.Spots.{is_bare}
+use Rattle.yq_lines.specs.Positions.{is_bare}
 use Rattle.yq_lines.specs.Comments as comments
 use Rattle.yq_rows.specs.Rows as rows
-use Rattle.yq_documents.specs.Pieces.{Piece, head_piece}
+use Rattle.yq_documents.specs.Pieces.{TextPiece, head_piece}
 
 -- a break, and nothing behind it (5.4)
 abbrev pub is_last_break : List ℕ → Bool
@@ -95,11 +95,11 @@ run_break l [] = end_break l.content
 run_break l (k ∷ ks) = run_break k ks
 
 -- a run of lines between two texts, as a piece
-abbrev pub run_piece : List ℕ → PrintedLine → List PrintedLine → List ℕ → Piece
+abbrev pub run_piece : List ℕ → PrintedLine → List PrintedLine → List ℕ → TextPiece
 run_piece before l ls behind = record { before = before ++ line_front l; text = run_text l ls; behind = run_break l ls ++ behind }
 
 -- the node for which lines between two texts stand: one on a line of its own, or a block collection; without lines there is none (8.2)
-abbrev pub lines_piece : List ℕ → List PrintedLine → List ℕ → Option Piece
+abbrev pub lines_piece : List ℕ → List PrintedLine → List ℕ → Option TextPiece
 lines_piece before [] behind = None
 lines_piece before (l ∷ ls) behind =
     if is_bare l.line.mark then head_piece (before ++ (line_front l ++ l.mark)) l.content (print_lines ls behind) else Some (run_piece before l ls behind)

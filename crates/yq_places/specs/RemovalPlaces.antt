@@ -14,7 +14,7 @@ use Rattle.yq_walk.specs.Lines.{lines_of}
 use Rattle.yq_documents.specs.Pieces.{before_run, last_run}
 use Rattle.yq_places.specs.PlacedRows.{PlacedPart, placed_document}
 use Rattle.yq_documents.specs.Reading.{documents}
-use Rattle.yq_documents.specs.Seats.{seat}
+use Rattle.yq_documents.specs.LinesInRows.{row_line}
 
 -- The rows of an item or entry, between those in front of it and those behind it (8.2).
 pub record OwnRows : Type 0 where
@@ -35,7 +35,7 @@ in_three i n rs = record { front = take i rs; own = take n (drop i rs); back = d
 -- the rows of the item or entry to which steps lead, where its line is the first one of a row; their last one has the last line under its own
 abbrev pub own_rows : List Step → List Row → Option OwnRows
 own_rows steps rs =
-    line_of steps (lines_of rs) >>= λ n. seat n rs >>= λ s.
+    line_of steps (lines_of rs) >>= λ n. row_line n rs >>= λ s.
     if s.line == 0 then Some (in_three s.before (row_count (lines_end n (lines_of rs) - n) (drop s.before rs)) rs) else None
 
 -- What a gap that comes to stand behind a block scalar has to fit: whether the scalar keeps the empty lines at its end, how far its text is

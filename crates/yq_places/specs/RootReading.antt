@@ -7,13 +7,13 @@ use Rattle.yq_places.specs.PlacedRows.{PlacedPart, placed_document}
 use Rattle.yq_places.specs.Standings.{NoRows}
 
 -- a document in its text, if it has no rows
-abbrev pub if_unwritten : PlacedPart → Option NoRows
-if_unwritten d = if no_rows d.part.rows then Some (record { before = d.before ++ d.part.end; behind = d.behind }) else None
+abbrev pub if_rowless : PlacedPart → Option NoRows
+if_rowless d = if no_rows d.part.rows then Some (record { before = d.before ++ d.part.end; behind = d.behind }) else None
 
 -- document n in its text, if it has no rows
-abbrev pub unwritten_place : ℕ → Cut → Option NoRows
-unwritten_place n c = placed_document n c >>= if_unwritten
+abbrev pub rowless_place : ℕ → Cut → Option NoRows
+rowless_place n c = placed_document n c >>= if_rowless
 
 -- where its gap ends, in bytes
-abbrev pub unwritten_at : ℕ → Cut → Option ℕ
-unwritten_at n c = option_map (λ (w : NoRows). length w.before) (unwritten_place n c)
+abbrev pub rowless_at : ℕ → Cut → Option ℕ
+rowless_at n c = option_map (λ (w : NoRows). length w.before) (rowless_place n c)

@@ -5,12 +5,12 @@ use Rattle.yq_scalar.specs.Paths.{Step}
 use Rattle.yq_scalar.specs.Text.{is_empty}
 use Rattle.yq_inline.specs.Collections.{CollPieces}
 use Rattle.yq_inline.specs.Entries.{EntryPieces, item_at}
-use Rattle.yq_lines.specs.Spots.{is_bare}
+use Rattle.yq_lines.specs.Positions.{is_bare}
 use Rattle.yq_rows.specs.Exchange.{row_front}
 use Rattle.yq_rows.specs.Rows.{Content, Nothing, Inline, Block, Cut, Row, behind_columns, behind_dashes, behind_indent, mark_column, print_row, rows_text}
 use Rattle.yq_rows.specs.View.{Slices, slices}
 use Rattle.yq_walk.specs.Lines.{mark_of}
-use Rattle.yq_documents.specs.Seats.{Seat, seat_of}
+use Rattle.yq_documents.specs.LinesInRows.{RowLine, row_line_of}
 use Rattle.yq_places.specs.CommentPlaces.{LineEnd, end_before}
 use Rattle.yq_places.specs.FlowNodes.{flow_collection}
 use Rattle.yq_places.specs.PlacedRows.{PlacedPart, placed_document}
@@ -22,8 +22,8 @@ use Rattle.yq_walk.specs.RowWalk.{deeper_rows, line_level}
 
 -- The rows of an item or entry in a text: the text before its document, and the document's rows in front of them; the first one of them,
 -- and how many of its lines stand before that of the key or dash; those under it; the further rows of the document; its end gap;
--- and the text behind the document (8.2). A line is a key, a dash or a node alone; a seat is the row in which it stands; slices are a row's pieces.
-pub record PlacedEntry : Type 0 where
+-- and the text behind the document (8.2). A line is a key, a dash or a node alone; a row line is the row in which it stands; slices are a row's pieces.
+pub record RowsOfEntry : Type 0 where
   pub start : List ℕ
   pub front : List Row
   pub row : Row
@@ -34,12 +34,12 @@ pub record PlacedEntry : Type 0 where
   pub behind : List ℕ
 
 -- how many of the rows behind a line's own are under it: they begin deeper (8.2)
-abbrev pub under_count : Seat → List Row → ℕ
+abbrev pub under_count : RowLine → List Row → ℕ
 under_count s rs = deeper_rows (line_level s.line (slices s.row)) (map slices rs)
 
 -- the rows of the item or entry of a line, with the first n of the rows behind it under it
-abbrev pub entry_with : PlacedPart → Seat → ℕ → PlacedEntry
-entry_with d s n = record {
+abbrev pub entry_rows_with : PlacedPart → RowLine → ℕ → RowsOfEntry
+entry_rows_with d s n = record {
   start = d.before;
   front = take s.before d.part.rows;
   row = s.row;
@@ -51,19 +51,19 @@ entry_with d s n = record {
 }
 
 -- the rows of the item or entry of a line: under it are those that begin deeper (8.2)
-abbrev pub entry_at : PlacedPart → Seat → PlacedEntry
-entry_at d s = entry_with d s (under_count s (drop (suc s.before) d.part.rows))
+abbrev pub entry_rows_at : PlacedPart → RowLine → RowsOfEntry
+entry_rows_at d s = entry_rows_with d s (under_count s (drop (suc s.before) d.part.rows))
 
 -- the rows of the item or entry to which steps lead in document n
-abbrev pub placed_entry : ℕ → List Step → Cut → Option PlacedEntry
-placed_entry n steps c = placed_document n c >>= λ d. option_map (entry_at d) (seat_of steps d.part.rows)
+abbrev pub rows_of_entry : ℕ → List Step → Cut → Option RowsOfEntry
+rows_of_entry n steps c = placed_document n c >>= λ d. option_map (entry_rows_at d) (row_line_of steps d.part.rows)
 
 -- the text in front of the rows of an item or entry
-abbrev pub before_entry : PlacedEntry → List ℕ
+abbrev pub before_entry : RowsOfEntry → List ℕ
 before_entry e = e.start ++ rows_text e.front []
 
 -- the text behind the rows of an item or entry
-abbrev pub behind_entry : PlacedEntry → List ℕ
+abbrev pub behind_entry : RowsOfEntry → List ℕ
 behind_entry e = rows_text e.back (e.end ++ e.behind)
 
 -- ---- what stands there, in pieces
@@ -141,7 +141,7 @@ abbrev pub mark_in : Row → Slices → LineEnd → Mark
 mark_in r s t = record { column = mark_column r; keyed = not (is_empty s.colon); noted = not (is_empty s.anchor) || not (is_empty t.comment) }
 
 -- what a key or dash holds, by the pieces of its row, the end of its line, and the lines below that
-abbrev pub held_by : PlacedEntry → Slices → LineEnd → List ℕ → Held
+abbrev pub held_by : RowsOfEntry → Slices → LineEnd → List ℕ → Held
 held_by e s t below = record {
   mark = mark_in e.row s t;
   before = (before_entry e ++ row_front e.row) ++ anchor_before s;
@@ -156,7 +156,7 @@ held_by e s t below = record {
 }
 
 -- what the key or dash of rows holds: the lines below its line are those of a block scalar, or the rows under it
-abbrev pub held : PlacedEntry → Held
+abbrev pub held : RowsOfEntry → Held
 held e = let s = slices e.row in held_by e s (end_before [] s.tail) (s.raw ++ rows_text e.under [])
 
 -- the node in a row that is alone on its line, between two texts
@@ -169,23 +169,23 @@ abbrev pub is_alone : Row → Bool
 is_alone r = is_empty r.dashes && is_bare (mark_of r.mark)
 
 -- what stands behind a key or dash behind which no node is written: nothing, a node on the line under it, or a block collection (8.2)
-abbrev pub below : PlacedEntry → List Row → Standing
+abbrev pub below : RowsOfEntry → List Row → Standing
 below e [] = beside (held e)
 below e (r ∷ rs) =
     if is_alone r then alone (lone (before_entry e ++ print_row e.row []) r (rows_text rs (behind_entry e))) else under (held e) r.column
 
 -- what stands behind the mark of a row, by its content
-abbrev pub behind_mark : PlacedEntry → Content → Standing
+abbrev pub behind_mark : RowsOfEntry → Content → Standing
 behind_mark e (Nothing tail) = below e e.under
 behind_mark e (Inline space node tail) = if is_empty (slices e.row).head then below e e.under else beside (held e)
 behind_mark e (Block space anchor b) = block (held e) b.indent.columns
 
 -- the text from behind a dash to the end of the rows of its item
-abbrev pub dash_text : PlacedEntry → List ℕ
+abbrev pub dash_text : RowsOfEntry → List ℕ
 dash_text e = past_dash (drop e.line e.row.dashes) (behind_dashes e.row (rows_text e.under []))
 
 -- the collection that begins on the line of a dash (8.2.1)
-abbrev pub compact_in : PlacedEntry → Compact
+abbrev pub compact_in : RowsOfEntry → Compact
 compact_in e = record {
   mark = record {
     column = behind_columns e.row.column (take e.line e.row.dashes);
@@ -200,7 +200,7 @@ compact_in e = record {
 }
 
 -- what stands at an item or entry, by its rows: a line that is not the last one of its row is that of a dash with a compact collection (8.2.1)
-abbrev pub entry_standing : PlacedEntry → Standing
+abbrev pub entry_standing : RowsOfEntry → Standing
 entry_standing e = if e.line == length e.row.dashes then behind_mark e e.row.content else compact (compact_in e)
 
 -- a root that is a block collection, by the rows of its document
@@ -223,7 +223,7 @@ root_standing d (r ∷ rs) = if is_alone r then alone (lone d.before r (rows_tex
 -- what stands in document n where steps lead, outside flow collections
 abbrev pub standing_at : ℕ → List Step → Cut → Option Standing
 standing_at n [] c = option_map (λ (d : PlacedPart). root_standing d d.part.rows) (placed_document n c)
-standing_at n (s ∷ ss) c = option_map entry_standing (placed_entry n (s ∷ ss) c)
+standing_at n (s ∷ ss) c = option_map entry_standing (rows_of_entry n (s ∷ ss) c)
 
 -- ---- in flow collections
 

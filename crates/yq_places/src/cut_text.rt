@@ -3,7 +3,7 @@ ghost use Rattle.std.specs.Prelude.{◌≡◌, ℕ, IfSome, List, Some, true};
 ghost use Rattle.std.specs.Str.{IsUtf8};
 ghost use Rattle.yq_text.specs.Halves.{whole};
 ghost use Rattle.yq_rows.specs.Grammar.{IsCut};
-ghost use Rattle.yq_rows.specs.View.{shown};
+ghost use Rattle.yq_rows.specs.View.{rows_view};
 ghost use Rattle.yq_documents.specs.Reading.{all_documents, cut_of, read_at};
 ghost use Rattle.yq_walk.specs.RowWalk.{AreKnown};
 ghost use Rattle.yq_places.specs.RowWalk.{HasCut, IsKnownLine};
@@ -99,21 +99,21 @@ impl<'d, 't> CutText<'d, 't> {
 
     /// The rows of the text, and where its parts end.
     pub fn rows(&self) -> &'d Rows<'t>
-        ensures { result.now ≡ shown (cut_of self.now) }
+        ensures { result.now ≡ rows_view (cut_of self.now) }
     {
         self.rows
     }
 
     /// The line that is known.
     pub(crate) fn line(&self) -> Option<KnownLine<'d>>
-        ensures { IfSome result (IsKnownLine (shown (cut_of self.now))) }
+        ensures { IfSome result (IsKnownLine (rows_view (cut_of self.now))) }
     {
         self.line
     }
 
     /// The items that are known.
     pub fn known(&self) -> KnownItems
-        ensures { AreKnown (shown (cut_of self.now)).rows result }
+        ensures { AreKnown (rows_view (cut_of self.now)).rows result }
     {
         self.known
     }

@@ -4,7 +4,7 @@ use Rattle.std.proofs.lemmas.List.{drop_all}
 use Rattle.yq_scalar.specs.Tree.{Node}
 use Rattle.yq_documents.specs.Documents.{Document}
 use Rattle.yq_meaning.specs.Changes.{Room, Changed, put_at, at_each, with_value, changes_at, changes_in, changes_from}
-use Rattle.yq_meaning.specs.Judgement.{Fails, Judgement, and_then, gives, refuses}
+use Rattle.yq_meaning.specs.Judgement.{MatchFails, Judgement, and_then, gives, refuses}
 use Rattle.yq_meaning.specs.Meaning.{roots_of}
 use Rattle.yq_planning.specs.PlaceView.{places_of, put_behind}
 use Rattle.yq_meaning.specs.Places.{Place, root_place, for_each}
@@ -31,7 +31,7 @@ value_there root right f [] v some is = absurd (omega (arith, some))
 value_there root right f (p ∷ ps) v some is = ap (and_then (λ w. at_each root (λ q. f q w) (p ∷ ps))) is
 
 -- a refusal of the right side is one of all
-pub value_fails : (root : Node) (right : Judgement Node) (f : Place → Node → Judgement (List Changed)) (ps : List Place) (e : ExprError) → 0 < length ps → Fails e right → Fails e (with_value root right f ps)
+pub value_fails : (root : Node) (right : Judgement Node) (f : Place → Node → Judgement (List Changed)) (ps : List Place) (e : ExprError) → 0 < length ps → MatchFails e right → MatchFails e (with_value root right f ps)
 value_fails root right f [] e some h = absurd (omega (arith, some))
 value_fails root right f (p ∷ ps) e some h = fails_then (λ w. at_each root (λ q. f q w) (p ∷ ps)) right e h
 
@@ -78,7 +78,7 @@ module _ (u : Update) (rooms : ℕ → Room) where
 
   -- a refusal of one document is one of all
   pub document_fails : (docs : List Document) (i : ℕ) (d : Document) (before : List (List Changed)) (all : Judgement (List (List Changed))) (e : ExprError) → drop i docs ≡ d ∷ drop (suc i) docs →
-      Fails e (changes_in u i (rooms i) d.root) → put_behind before (changes_from u rooms i (roots_of (drop i docs))) ≡ all → Fails e all
+      MatchFails e (changes_in u i (rooms i) d.root) → put_behind before (changes_from u rooms i (roots_of (drop i docs))) ≡ all → MatchFails e all
   document_fails docs i d before all e at h so_far =
-      subst (Fails e) (sym (behind_document docs i d before at) ∙ so_far)
+      subst (MatchFails e) (sym (behind_document docs i d before at) ∙ so_far)
       (fails_then (λ first. put_behind (before ++ first ∷ []) (changes_from u rooms (i + 1) (roots_of (drop (i + 1) docs)))) (changes_in u i (rooms i) d.root) e h)

@@ -5,7 +5,7 @@ use Rattle.std.proofs.lemmas.List.{map_push, reverse-append, take_rest}
 use Rattle.yq_scalar.specs.Tree as tree
 use Rattle.yq_scalar.specs.Tree.{Node, none, child}
 use Rattle.yq_documents.specs.TreeEdits.{new_label}
-use Rattle.yq_meaning.specs.Changes.{nested, made, put_below}
+use Rattle.yq_meaning.specs.Changes.{nested, created, put_below}
 use Rattle.yq_meaning.specs.Judgement.{gives, refuses}
 use Rattle.yq_meaning.specs.declared.refusal.Refusal.TheVariants.{IndexOutOfRange}
 use Rattle.yq_program.proofs.Lists.{list_any_map}
@@ -44,10 +44,10 @@ split_first [] x some is = absurd (omega (arith, some))
 split_first (y ∷ ys) x some is = ap (λ z. z ∷ ys) (sym is) ∙ ap (λ zs. x ∷ zs) (sym (take_rest (y ∷ ys) 1))
 
 -- a view of a list that is turned round
-pub turned_seen : {X A : Type 0} (f : X → A) (xs : List X) → map f (reverse xs) ≡ reverse (map f xs)
-turned_seen f [] = refl
-turned_seen {X} {A} f (x ∷ xs) =
-    ap (map f) (turned x xs) ∙ (map_push f (reverse xs) x ∙ (ap (λ (ys : List A). ys ++ f x ∷ []) (turned_seen f xs) ∙ sym (turned (f x) (map f xs))))
+pub reverse_map : {X A : Type 0} (f : X → A) (xs : List X) → map f (reverse xs) ≡ reverse (map f xs)
+reverse_map f [] = refl
+reverse_map {X} {A} f (x ∷ xs) =
+    ap (map f) (turned x xs) ∙ (map_push f (reverse xs) x ∙ (ap (λ (ys : List A). ys ++ f x ∷ []) (reverse_map f xs) ∙ sym (turned (f x) (map f xs))))
   where
     turned : {Y : Type 0} (y : Y) (ys : List Y) → reverse (y ∷ ys) ≡ reverse ys ++ y ∷ []
     turned y ys = reverse-append (y ∷ []) ys
@@ -56,13 +56,13 @@ turned_seen {X} {A} f (x ∷ xs) =
 pub put_no_item : {X : Type 0} (f : X → Step) (n : Node) (xs : List X) (x : X) (v : Node) → 1 ≤ length xs → x ≡ get_or xs 0 x → list_any (λ s. is_index (f s)) xs ≡ true → put_below n (map f xs) v ≡ refuses IndexOutOfRange
 put_no_item {X} f n xs x v some is indexed =
     ap (λ (ys : List X). put_below n (map f ys) v) (split_first xs x some is)
-    ∙ ap (λ b. cond b (refuses IndexOutOfRange) (gives (made n (f x) (map f (take (length xs - 1) (drop 1 xs))) v)))
+    ∙ ap (λ b. cond b (refuses IndexOutOfRange) (gives (created n (f x) (map f (take (length xs - 1) (drop 1 xs))) v)))
     (list_any_map is_index f (x ∷ take (length xs - 1) (drop 1 xs)) ∙ (ap (list_any (λ s. is_index (f s))) (sym (split_first xs x some is)) ∙ indexed))
 
 -- entries are
-pub put_made : {X : Type 0} (f : X → Step) (n : Node) (xs : List X) (x : X) (v : Node) → 1 ≤ length xs → x ≡ get_or xs 0 x → list_any (λ s. is_index (f s)) xs ≡ false →
-    put_below n (map f xs) v ≡ gives (made n (f x) (map f (take (length xs - 1) (drop 1 xs))) v)
-put_made {X} f n xs x v some is indexed =
+pub put_created : {X : Type 0} (f : X → Step) (n : Node) (xs : List X) (x : X) (v : Node) → 1 ≤ length xs → x ≡ get_or xs 0 x → list_any (λ s. is_index (f s)) xs ≡ false →
+    put_below n (map f xs) v ≡ gives (created n (f x) (map f (take (length xs - 1) (drop 1 xs))) v)
+put_created {X} f n xs x v some is indexed =
     ap (λ (ys : List X). put_below n (map f ys) v) (split_first xs x some is)
-    ∙ ap (λ b. cond b (refuses IndexOutOfRange) (gives (made n (f x) (map f (take (length xs - 1) (drop 1 xs))) v)))
+    ∙ ap (λ b. cond b (refuses IndexOutOfRange) (gives (created n (f x) (map f (take (length xs - 1) (drop 1 xs))) v)))
     (list_any_map is_index f (x ∷ take (length xs - 1) (drop 1 xs)) ∙ (ap (list_any (λ s. is_index (f s))) (sym (split_first xs x some is)) ∙ indexed))

@@ -1,18 +1,18 @@
 -- What comes of each of several, one behind the other, and of several that act in turn.
 use Rattle.std.proofs.Common.{◌≡◌, ℕ, suc, ◌+◌, ◌<◌, List, ◌∷◌, ◌++◌, length, map, drop, get_or, Result, Err, refl, sym, ap, ◌∙◌, subst, append_assoc, add-one, drop-cons}
-use Rattle.yq_meaning.specs.Judgement.{Fails, Judgement, Judges, and_then, gives, refuses}
+use Rattle.yq_meaning.specs.Judgement.{MatchFails, Judgement, Judges, and_then, gives, refuses}
 use Rattle.yq_planning.specs.PlaceView.{put_behind}
-use Rattle.yq_meaning.specs.Places.{for_each, in_turn}
+use Rattle.yq_meaning.specs.Places.{for_each, chained}
 use Rattle.yq_meaning.specs.declared.expr_error.ExprError.{ExprError}
 use Rattle.yq_meaning.specs.declared.expr_error.ExprError.TheVariants as error
 
 -- an error on the first of two steps is one of both
-pub fails_then : {Y W : Type 0} (f : Y → Judgement W) (j : Judgement Y) (e : ExprError) → Fails e j → Fails e (and_then f j)
+pub fails_then : {Y W : Type 0} (f : Y → Judgement W) (j : Judgement Y) (e : ExprError) → MatchFails e j → MatchFails e (and_then f j)
 fails_then f j (error.Refused why) h = ap (and_then f) h
 fails_then f j error.Memory h = tt
 
 -- the answer is that error
-pub failed : {X Y : Type 0} (view : X → Y) (r : Result X ExprError) (e : ExprError) (j : Judgement Y) → r ≡ Err e → Fails e j → Judges view r j
+pub failed : {X Y : Type 0} (view : X → Y) (r : Result X ExprError) (e : ExprError) (j : Judgement Y) → r ≡ Err e → MatchFails e j → Judges view r j
 failed view r e j is h = subst (λ q. Judges view q j) (sym is) h
 
 -- one of several, as a loop reaches it, before those behind it
@@ -40,19 +40,19 @@ each_more v f before after xs i x all within is h so_far =
 
 -- an error on one of several is one of all
 pub each_fails : {X A B : Type 0} (v : X → A) (f : A → Judgement (List B)) (before : List B) (xs : List X) (i : ℕ) (x : X) (all : Judgement (List B)) (e : ExprError) →
-    i < length xs → x ≡ get_or xs i x → Fails e (put_behind before (f (v x))) → put_behind before (for_each f (map v (drop i xs))) ≡ all → Fails e all
+    i < length xs → x ≡ get_or xs i x → MatchFails e (put_behind before (f (v x))) → put_behind before (for_each f (map v (drop i xs))) ≡ all → MatchFails e all
 each_fails v f before xs i x all e within at h so_far =
-    subst (Fails e) (sym (put_each f before (v x) (map v (drop (i + 1) xs))) ∙ (ap (λ ys. put_behind before (for_each f ys)) (sym (reached v xs i x within at)) ∙ so_far))
+    subst (MatchFails e) (sym (put_each f before (v x) (map v (drop (i + 1) xs))) ∙ (ap (λ ys. put_behind before (for_each f ys)) (sym (reached v xs i x within at)) ∙ so_far))
     (fails_then (λ ys. put_behind ys (for_each f (map v (drop (i + 1) xs)))) (put_behind before (f (v x))) e h)
 
 -- one more in turn
-pub turn_more : {X S A : Type 0} (v : X → S) (f : S → A → Judgement A) (xs : List X) (i : ℕ) (x : X) (a b : A) (all : Judgement A) →
-    i < length xs → x ≡ get_or xs i x → f (v x) a ≡ gives b → in_turn f (map v (drop i xs)) a ≡ all → in_turn f (map v (drop (i + 1) xs)) b ≡ all
-turn_more v f xs i x a b all within is h so_far =
-    ap (and_then (in_turn f (map v (drop (i + 1) xs)))) (sym h) ∙ (ap (λ ys. in_turn f ys a) (sym (reached v xs i x within is)) ∙ so_far)
+pub chain_more : {X S A : Type 0} (v : X → S) (f : S → A → Judgement A) (xs : List X) (i : ℕ) (x : X) (a b : A) (all : Judgement A) →
+    i < length xs → x ≡ get_or xs i x → f (v x) a ≡ gives b → chained f (map v (drop i xs)) a ≡ all → chained f (map v (drop (i + 1) xs)) b ≡ all
+chain_more v f xs i x a b all within is h so_far =
+    ap (and_then (chained f (map v (drop (i + 1) xs)))) (sym h) ∙ (ap (λ ys. chained f ys a) (sym (reached v xs i x within is)) ∙ so_far)
 
 -- an error in turn is one of all
-pub turn_fails : {X S A : Type 0} (v : X → S) (f : S → A → Judgement A) (xs : List X) (i : ℕ) (x : X) (a : A) (all : Judgement A) (e : ExprError) →
-    i < length xs → x ≡ get_or xs i x → Fails e (f (v x) a) → in_turn f (map v (drop i xs)) a ≡ all → Fails e all
-turn_fails v f xs i x a all e within at h so_far =
-    subst (Fails e) (ap (λ ys. in_turn f ys a) (sym (reached v xs i x within at)) ∙ so_far) (fails_then (in_turn f (map v (drop (i + 1) xs))) (f (v x) a) e h)
+pub chain_fails : {X S A : Type 0} (v : X → S) (f : S → A → Judgement A) (xs : List X) (i : ℕ) (x : X) (a : A) (all : Judgement A) (e : ExprError) →
+    i < length xs → x ≡ get_or xs i x → MatchFails e (f (v x) a) → chained f (map v (drop i xs)) a ≡ all → MatchFails e all
+chain_fails v f xs i x a all e within at h so_far =
+    subst (MatchFails e) (ap (λ ys. chained f ys a) (sym (reached v xs i x within at)) ∙ so_far) (fails_then (chained f (map v (drop (i + 1) xs))) (f (v x) a) e h)

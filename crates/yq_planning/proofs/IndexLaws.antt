@@ -17,14 +17,14 @@ use Rattle.yq_scalar.specs.Anchors.{Name, names_of}
 use Rattle.yq_lines.proofs.BoundLaws.{equal_back}
 use Rattle.yq_meaning.specs.Changes.{refers_to}
 use Rattle.yq_planning.specs.EntryNumbers.{number_kept}
-use Rattle.yq_planning.specs.Indexes.{text_at, HasAliases, kept_first}
+use Rattle.yq_planning.specs.Indexes.{get_text, HasAliases, kept_first}
 
 -- that a map has a value more, as `insert` says it
 abbrev pub Puts : {X : Type 0} → BTreeMap (Bor (List ℕ)) X → BTreeMap (Bor (List ℕ)) X → List ℕ → X → Type 0
 Puts m n a v = maps.UpdatesBy (λ x y. slice_cmp nat_cmp x.now y.now) (λ k. slice_cmp nat_cmp a k.now) m n (Some v)
 
 -- what such a map has for a text
-pub put_text : {X : Type 0} (m n : BTreeMap (Bor (List ℕ)) X) (a : List ℕ) (v : X) → Puts m n a v → (k : List ℕ) → text_at k n ≡ cond (bytes_eq a k) (Some v) (text_at k m)
+pub put_text : {X : Type 0} (m n : BTreeMap (Bor (List ℕ)) X) (a : List ℕ) (v : X) → Puts m n a v → (k : List ℕ) → get_text k n ≡ cond (bytes_eq a k) (Some v) (get_text k m)
 put_text m n a v h k = btree_map_updates_str a m n (Some v) h k
 
 -- ---- entries
@@ -65,14 +65,14 @@ pub without_aliases : {X : Type 0} (names : List Name) (m : BTreeMap (Bor (List 
 without_aliases names m empty none k = ap (λ es. is_some (lookup (maps.is_at (λ j. slice_cmp nat_cmp k j.now)) es)) empty ∙ sym (none k)
 
 -- a view of a value, if one is put
-pub seen_put : {A B : Type 0} (f : A → B) (b : Bool) (v : A) (o : Option A) → option_map f (cond b (Some v) o) ≡ cond b (Some (f v)) (option_map f o)
-seen_put f true v o = refl
-seen_put f false v o = refl
+pub map_put : {A B : Type 0} (f : A → B) (b : Bool) (v : A) (o : Option A) → option_map f (cond b (Some v) o) ≡ cond b (Some (f v)) (option_map f o)
+map_put f true v o = refl
+map_put f false v o = refl
 
 -- no value has no view
-pub seen_none : {A B : Type 0} (f : A → B) (o : Option A) → is_some o ≡ false → is_some (option_map f o) ≡ false
-seen_none f None h = refl
-seen_none f (Some x) h = h
+pub map_none : {A B : Type 0} (f : A → B) (o : Option A) → is_some o ≡ false → is_some (option_map f o) ≡ false
+map_none f None h = refl
+map_none f (Some x) h = h
 
 -- the number of an entry whose key has none is kept
 pub new_number : (a k : List ℕ) (f : List ℕ → Option ℕ) (n : ℕ) → is_some (f a) ≡ false → cond (bytes_eq a k) (Some n) (f k) ≡ number_kept k (f k) a n

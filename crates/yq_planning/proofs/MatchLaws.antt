@@ -13,11 +13,11 @@ use Rattle.yq_scalar.specs.Tree.{Node, alias, scalar, list, Children, none, chil
 use Rattle.yq_documents.specs.Documents.{Document}
 use Rattle.yq_meaning.specs.Conditions.{node_there, value_of, holds}
 use Rattle.yq_meaning.specs.Copies.{matches_in, matches_from}
-use Rattle.yq_meaning.specs.Judgement.{Fails, Judgement, and_then, gives}
-use Rattle.yq_meaning.specs.Matching.{Found, find, in_scalar, key_step, item_number, index_step}
+use Rattle.yq_meaning.specs.Judgement.{MatchFails, Judgement, and_then, gives}
+use Rattle.yq_meaning.specs.Matching.{ChildFound, find, in_scalar, key_step, item_number, index_step}
 use Rattle.yq_meaning.specs.Pipes.{kept, select_on, stage_on, pipe_on, places}
 use Rattle.yq_planning.specs.PlaceView.{put_behind}
-use Rattle.yq_meaning.specs.Places.{Place, root_place, child_place, for_each, miss, found_place, stepped, all_steps, step_there, step_from, step_on, in_turn}
+use Rattle.yq_meaning.specs.Places.{Place, root_place, child_place, for_each, miss, found_place, stepped, all_steps, step_there, step_from, step_on, chained}
 use Rattle.yq_program.specs.Program.{Step, key, index, each, Stage, path, select}
 use Rattle.yq_planning.specs.TreeScalars.{HasScalars, EachHasScalars, HaveScalars}
 use Rattle.yq_meaning.specs.declared.expr_error.ExprError.{ExprError}
@@ -52,7 +52,7 @@ child_has s (child label m cs) n h e = go (is_here s label) (child_has (further 
     go false rest e = rest e
 
 -- what a step finds has such scalars
-abbrev FindsScalars : Judgement Found → Type 0
+abbrev FindsScalars : Judgement ChildFound → Type 0
 FindsScalars j = (x : paths.Step × Node) → j ≡ gives (Some x) → HasScalars x.1
 
 find_has : (s : paths.Step) (cs : Children) → EachHasScalars cs → FindsScalars (gives (find s cs))
@@ -87,12 +87,12 @@ miss_has (key k) p h = (h, tt)
 miss_has (index i) p h = (h, tt)
 miss_has each p h = tt
 
-found_have : (s : Step) (p : Place) (j : Judgement Found) (qs : List Place) → HasScalars p.node → FindsScalars j → and_then (λ x. gives (found_place s p x)) j ≡ gives qs → HaveScalars qs
+found_have : (s : Step) (p : Place) (j : Judgement ChildFound) (qs : List Place) → HasScalars p.node → FindsScalars j → and_then (λ x. gives (found_place s p x)) j ≡ gives qs → HaveScalars qs
 found_have s p j qs h finds e =
-    let x = then_gives (λ (x : Found). gives (found_place s p x)) j qs e in
+    let x = then_gives (λ (x : ChildFound). gives (found_place s p x)) j qs e in
     subst HaveScalars (gives_same x.2) (go x.0 x.1)
   where
-    go : (x : Found) → j ≡ gives x → HaveScalars (found_place s p x)
+    go : (x : ChildFound) → j ≡ gives x → HaveScalars (found_place s p x)
     go None e = miss_has s p h
     go (Some y) e = (finds y e, tt)
 
@@ -104,7 +104,7 @@ all_have : (p : Place) (n : Node) (qs : List Place) → HasScalars n → and_the
 all_have p (alias name) qs h e = absurd (cc)
 all_have p (scalar anchor kind text) qs h e =
     let x = then_gives (λ (xs : List (paths.Step × Node)). gives (map (child_place p) xs)) (all_steps (scalar anchor kind text)) qs e in
-    let y = then_gives (λ (nothing : Found). gives []) (in_scalar NotASequence kind) x.0 x.1 in
+    let y = then_gives (λ (nothing : ChildFound). gives []) (in_scalar NotASequence kind) x.0 x.1 in
     subst HaveScalars (gives_same x.2) (subst (λ (xs : List (paths.Step × Node)). HaveScalars (map (child_place p) xs)) (gives_same y.2) tt)
 all_have p (list anchor cs) qs h e = subst HaveScalars (gives_same e) (children_have p 0 cs h)
 all_have p (tree.map anchor cs) qs h e = subst HaveScalars (gives_same e) (children_have p 0 cs h)
@@ -121,13 +121,13 @@ step_has s p qs h e = go p.missing e
     go [] e = there s e
     go (m ∷ ms) e = subst HaveScalars (gives_same e) (miss_has s p h)
 
-turn_has : {S : Type 0} (f : S → List Place → Judgement (List Place)) → ((s : S) (ps qs : List Place) → HaveScalars ps → f s ps ≡ gives qs → HaveScalars qs) → (ss : List S) (ps qs : List Place) → HaveScalars ps → in_turn f ss ps ≡ gives qs → HaveScalars qs
-turn_has f so [] ps qs h e = subst HaveScalars (gives_same e) h
-turn_has f so (s ∷ ss) ps qs h e =
-    let x = then_gives (in_turn f ss) (f s ps) qs e in turn_has f so ss x.0 qs (so s ps x.0 h x.1) x.2
+chain_has : {S : Type 0} (f : S → List Place → Judgement (List Place)) → ((s : S) (ps qs : List Place) → HaveScalars ps → f s ps ≡ gives qs → HaveScalars qs) → (ss : List S) (ps qs : List Place) → HaveScalars ps → chained f ss ps ≡ gives qs → HaveScalars qs
+chain_has f so [] ps qs h e = subst HaveScalars (gives_same e) h
+chain_has f so (s ∷ ss) ps qs h e =
+    let x = then_gives (chained f ss) (f s ps) qs e in chain_has f so ss x.0 qs (so s ps x.0 h x.1) x.2
 
 kept_has : (doc : ℕ) (stage : Stage) (ps qs : List Place) → HaveScalars ps → stage_on doc stage ps ≡ gives qs → HaveScalars qs
-kept_has doc (path steps) ps qs h e = turn_has (λ s. for_each (step_on s)) (λ s. each_have (step_on s) (step_has s)) steps ps qs h e
+kept_has doc (path steps) ps qs h e = chain_has (λ s. for_each (step_on s)) (λ s. each_have (step_on s) (step_has s)) steps ps qs h e
 kept_has doc (select c) ps qs h e = each_have (select_on doc c) leads ps qs h e
   where
     leads : LeadsToScalars (select_on doc c)
@@ -140,7 +140,7 @@ kept_has doc (select c) ps qs h e = each_have (select_on doc c) leads ps qs h e
 
 -- the nodes to which a pipe leads from such places have such scalars
 pub pipe_have : (doc : ℕ) (pipe : List Stage) (ps qs : List Place) → HaveScalars ps → pipe_on doc pipe ps ≡ gives qs → HaveScalars qs
-pipe_have doc pipe ps qs h e = turn_has (stage_on doc) (kept_has doc) pipe ps qs h e
+pipe_have doc pipe ps qs h e = chain_has (stage_on doc) (kept_has doc) pipe ps qs h e
 
 -- so have those to which it leads from a root
 pub places_have : (doc : ℕ) (pipe : List Stage) (root : Node) (qs : List Place) → HasScalars root → places doc pipe root ≡ gives qs → HaveScalars qs
@@ -176,9 +176,9 @@ document_more pipe docs i d before after all at h so_far =
     ap (and_then (λ ys. put_behind ys (matches_from (i + 1) pipe (drop (i + 1) docs)))) (sym h) ∙ (sym (behind_document pipe docs i d before at) ∙ so_far)
 
 pub document_fails : (pipe : List Stage) (docs : List Document) (i : ℕ) (d : Document) (before : List (ℕ × Node)) (all : Judgement (List (ℕ × Node))) (e : ExprError) → drop i docs ≡ d ∷ drop (suc i) docs →
-    Fails e (put_behind before (matches_in i pipe d.root)) → put_behind before (matches_from i pipe (drop i docs)) ≡ all → Fails e all
+    MatchFails e (put_behind before (matches_in i pipe d.root)) → put_behind before (matches_from i pipe (drop i docs)) ≡ all → MatchFails e all
 document_fails pipe docs i d before all e at h so_far =
-    subst (Fails e) (sym (behind_document pipe docs i d before at) ∙ so_far)
+    subst (MatchFails e) (sym (behind_document pipe docs i d before at) ∙ so_far)
     (fails_then (λ ys. put_behind ys (matches_from (i + 1) pipe (drop (i + 1) docs))) (put_behind before (matches_in i pipe d.root)) e h)
 
 -- behind the last document nothing more is found

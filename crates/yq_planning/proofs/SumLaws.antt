@@ -22,7 +22,7 @@ use Rattle.yq_scalar.proofs.SchemaLaws.{resolve_again}
 use Rattle.yq_documents.specs.TreeEdits.{new_label}
 use Rattle.yq_planning.specs.EntryNumbers.{entry_number, number_kept}
 use Rattle.yq_meaning.specs.Judgement.{Judgement, and_then, gives, refuses}
-use Rattle.yq_meaning.specs.Places.{Place, in_turn}
+use Rattle.yq_meaning.specs.Places.{Place, chained}
 use Rattle.yq_program.specs.Program.{Term}
 use Rattle.yq_meaning.specs.RightValues.{as_items, with_entry, with_entries, value_sum, sum, term_value, sum_from, right_value}
 
@@ -42,8 +42,8 @@ pub int_plain : (z : ℤ) → FitsSigned w64 z → plain_of (signed_decimal z) �
 int_plain z h = ap (λ (k : Kind). of_kind k (signed_decimal z)) (int_written z h)
 
 -- a number that is passed on is the same
-pub int_told : (z : ℤ) (t : List ℕ) → FitsSigned w64 z → t ≡ signed_decimal (to_z w64 (of_z w64 z)) → t ≡ signed_decimal z
-int_told z t fits e = e ∙ ap signed_decimal (to_z-of_z w64 z fits)
+pub int_agrees : (z : ℤ) (t : List ℕ) → FitsSigned w64 z → t ≡ signed_decimal (to_z w64 (of_z w64 z)) → t ≡ signed_decimal z
+int_agrees z t fits e = e ∙ ap signed_decimal (to_z-of_z w64 z fits)
 
 -- ---- items and entries
 
@@ -194,16 +194,16 @@ numbered_push {X} f xs all x key k n old new named many before kept pushed =
     ∙ (ap (entry_number k) (sym (map_push f xs x)) ∙ ap (λ (ys : List X). entry_number k (map f ys)) (sym pushed))))))
 
 -- a view of a list with one element exchanged
-pub set_seen : {A B : Type 0} (f : A → B) (xs : List A) (i : ℕ) (x : A) → map f (set xs i x) ≡ set (map f xs) i (f x)
-set_seen f [] i x = refl
-set_seen f (y ∷ xs) zero x = refl
-set_seen f (y ∷ xs) (suc i) x = ap (λ ys. f y ∷ ys) (set_seen f xs i x)
+pub map_set : {A B : Type 0} (f : A → B) (xs : List A) (i : ℕ) (x : A) → map f (set xs i x) ≡ set (map f xs) i (f x)
+map_set f [] i x = refl
+map_set f (y ∷ xs) zero x = refl
+map_set f (y ∷ xs) (suc i) x = ap (λ ys. f y ∷ ys) (map_set f xs i x)
 
 -- a view of one element
-pub get_seen : {A B : Type 0} (f : A → B) (xs : List A) (i : ℕ) (d : A) → get_or (map f xs) i (f d) ≡ f (get_or xs i d)
-get_seen f [] i d = refl
-get_seen f (y ∷ xs) zero d = refl
-get_seen f (y ∷ xs) (suc i) d = get_seen f xs i d
+pub map_get : {A B : Type 0} (f : A → B) (xs : List A) (i : ℕ) (d : A) → get_or (map f xs) i (f d) ≡ f (get_or xs i d)
+map_get f [] i d = refl
+map_get f (y ∷ xs) zero d = refl
+map_get f (y ∷ xs) (suc i) d = map_get f xs i d
 
 -- the entries of two mappings
 pub map_sum : (n m : Node) (es ds : List (List ℕ × Node)) (cs : Children) → n ≡ tree.map None (entries es) → m ≡ tree.map None (entries ds) → cs ≡ with_entries (entries es) (entries ds) → value_sum n m ≡ gives (tree.map None cs)
@@ -226,17 +226,17 @@ abbrev with_term : ℕ → Place → Term → Node → Judgement Node
 with_term doc p t v = and_then (sum v) (term_value doc p t)
 
 -- terms act in turn
-pub sum_turns : (doc : ℕ) (p : Place) (ts : List Term) (v : Node) → sum_from doc p v ts ≡ in_turn (with_term doc p) ts v
-sum_turns doc p [] v = refl
-sum_turns doc p (t ∷ ts) v =
+pub sum_chained : (doc : ℕ) (p : Place) (ts : List Term) (v : Node) → sum_from doc p v ts ≡ chained (with_term doc p) ts v
+sum_chained doc p [] v = refl
+sum_chained doc p (t ∷ ts) v =
     joined_steps (sum v) (λ w. sum_from doc p w ts) (term_value doc p t)
-    ∙ same_then (λ w. sum_from doc p w ts) (in_turn (with_term doc p) ts) (with_term doc p t v) (λ w. sum_turns doc p ts w)
+    ∙ same_then (λ w. sum_from doc p w ts) (chained (with_term doc p) ts) (with_term doc p t v) (λ w. sum_chained doc p ts w)
 
 -- the first term and the others
 pub right_on : {X : Type 0} (view : X → Term) (doc : ℕ) (p : Place) (xs : List X) (x : X) (v : Node) → 0 < length xs → x ≡ get_or xs 0 x → term_value doc p (view x) ≡ gives v →
-    right_value doc (map view xs) p ≡ in_turn (with_term doc p) (map view (take (length xs - 1) (drop 1 xs))) v
+    right_value doc (map view xs) p ≡ chained (with_term doc p) (map view (take (length xs - 1) (drop 1 xs))) v
 right_on view doc p [] x v some is h = absurd (omega (arith, some))
 right_on {X} view doc p (y ∷ ys) x v some is h =
     ap (λ (z : X). and_then (λ w. sum_from doc p w (map view ys)) (term_value doc p (view z))) (sym is)
     ∙ (ap (and_then (λ w. sum_from doc p w (map view ys))) h
-    ∙ (sum_turns doc p (map view ys) v ∙ ap (λ (zs : List X). in_turn (with_term doc p) (map view zs) v) (sym (take_rest (y ∷ ys) 1))))
+    ∙ (sum_chained doc p (map view ys) v ∙ ap (λ (zs : List X). chained (with_term doc p) (map view zs) v) (sym (take_rest (y ∷ ys) 1))))

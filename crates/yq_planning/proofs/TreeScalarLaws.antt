@@ -137,15 +137,15 @@ head_or_has : (head : Option Node) (n : Node) → HeadHas head → HasScalars n 
 head_or_has None n h k = k
 head_or_has (Some m) n h k = h
 
-made_has : (mark : Mark) (cs : Children) → EachHasScalars cs → HasScalars (outline.collection mark cs)
-made_has Bare tree.none h = refl
-made_has Bare (tree.child label n cs) h = h.0
-made_has (Key k) cs h = h
-made_has Dash cs h = h
+coll_has : (mark : Mark) (cs : Children) → EachHasScalars cs → HasScalars (outline.collection mark cs)
+coll_has Bare tree.none h = refl
+coll_has Bare (tree.child label n cs) h = h.0
+coll_has (Key k) cs h = h
+coll_has Dash cs h = h
 
 shaped_has : (o : Outline) (cs : Children) → EachHasScalars cs → HasScalars (shaped o cs)
 shaped_has end cs h = refl
-shaped_has (row l under after) cs h = made_has l.mark cs h
+shaped_has (row l under after) cs h = coll_has l.mark cs h
 
 children_have : (o : Outline) → OutlineHas o → EachHasScalars (children o)
 children_have end h = tt

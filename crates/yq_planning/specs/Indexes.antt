@@ -13,16 +13,16 @@ use Rattle.yq_documents.specs.declared.nodes.node.Node as nodes
 use Rattle.yq_meaning.specs.Changes.{refers_to}
 
 -- what a map has for a text (own)
-abbrev pub text_at : {X : Type 0} → List ℕ → BTreeMap (Bor (List ℕ)) X → Option X
-text_at k m = get_by (λ j. slice_cmp nat_cmp k j.now) m
+abbrev pub get_text : {X : Type 0} → List ℕ → BTreeMap (Bor (List ℕ)) X → Option X
+get_text k m = get_by (λ j. slice_cmp nat_cmp k j.now) m
 
 -- a map has the value of each key of these entries (own)
 abbrev pub IsIndex : Children → BTreeMap (Bor (List ℕ)) nodes.Node → Type 0
-IsIndex cs m = (k : List ℕ) → option_map node_of (text_at k m) ≡ child_at (To k) cs
+IsIndex cs m = (k : List ℕ) → option_map node_of (get_text k m) ≡ child_at (To k) cs
 
 -- a map has the name of each alias among these names, and no other text (own)
 abbrev pub HasAliases : {X : Type 0} → List Name → BTreeMap (Bor (List ℕ)) X → Type 0
-HasAliases names m = (k : List ℕ) → is_some (text_at k m) ≡ list_any (refers_to k) names
+HasAliases names m = (k : List ℕ) → is_some (get_text k m) ≡ list_any (refers_to k) names
 
 -- what is kept for a key when one more item or entry comes: the first one of the key (own)
 abbrev pub kept_first : List ℕ → Option Node → Label → Node → Option Node

@@ -13,7 +13,7 @@ use Rattle.yq_planning.specs.declared.matching.place.Missing.{Missing, fold-Miss
 use Rattle.yq_planning.specs.declared.matching.place.Missing.TheOpen.{Missing-F}
 use Rattle.yq_planning.specs.declared.matching.place.Place as declared
 use Rattle.yq_meaning.specs.Judgement.{Judgement, and_then, gives}
-use Rattle.yq_meaning.specs.Matching.{Found}
+use Rattle.yq_meaning.specs.Matching.{ChildFound}
 use Rattle.yq_meaning.specs.Places.{Place}
 use Rattle.yq_program.specs.Program.{Step}
 use Rattle.yq_program.specs.View.{step_of}
@@ -55,7 +55,7 @@ node_or_null None = null_node
 node_or_null (Some n) = node_of n
 
 -- the item or entry that one of the code stands for, with the step that leads to it (own)
-abbrev pub found_of : Option (steps.NodeStep × nodes.Node) → Found
+abbrev pub found_of : Option (steps.NodeStep × nodes.Node) → ChildFound
 found_of x = option_map (λ c. (node_step_of c.0, node_of c.1)) x
 
 -- what comes of something, put behind what is there (own)

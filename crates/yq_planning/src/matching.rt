@@ -8,7 +8,7 @@ pub(crate) mod copy;
 pub(crate) mod pipe;
 pub(crate) mod place;
 mod step;
-mod walk;
+mod traverse;
 
 use self::place::NodeStep;
 use std::alloc::{AllocError, Global};

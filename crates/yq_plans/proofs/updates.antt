@@ -7,7 +7,7 @@ pub mod Each
 pub mod Examples
 pub mod FirstPlaces
 pub mod FitChanges
-pub mod FitsAtTurn
+pub mod FitsInOrder
 pub mod Folds
 pub mod Mentions
 pub mod OneAt

@@ -69,9 +69,9 @@ cut_parts : (t run end : List ℕ) → (run, end) ≡ cut (unless is_plain) t �
 cut_parts t run end e = subst (λ (p : List ℕ × List ℕ). content t ≡ p.0 ++ content p.1) (sym e) (content_run t)
 
 -- a turn of the loop: a run and an escape
-pub content_turn : (text out rest run end c behind : List ℕ) → out ++ content rest ≡ content text → (run, end) ≡ cut (unless is_plain) rest → escape_front end ≡ Some (c, behind)
+pub content_next : (text out rest run end c behind : List ℕ) → out ++ content rest ≡ content text → (run, end) ≡ cut (unless is_plain) rest → escape_front end ≡ Some (c, behind)
     → ((out ++ run) ++ c) ++ content behind ≡ content text
-content_turn text out rest run end c behind whole parts escaped =
+content_next text out rest run end c behind whole parts escaped =
     simp append_assoc (sym (ap (λ (s : List ℕ). out ++ s) (cut_parts rest run end parts ∙ ap (λ (s : List ℕ). run ++ s) (content_escape end c behind escaped))) ∙ whole)
 
 -- the last run

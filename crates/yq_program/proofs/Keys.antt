@@ -53,17 +53,17 @@ keys_of_fields (e ∷ es) = ap (λ (ks : List (List ℕ)). string_bytes e.0 ∷ 
 
 -- a mapping as a node
 -- an entry with its value seen as a node
-abbrev seen_value : String Global × Value → String Global × Node
-seen_value e = (e.0, node_of e.1)
+abbrev value_view : String Global × Value → String Global × Node
+value_view e = (e.0, node_of e.1)
 
-abbrev seen_key : String Global × Node → List ℕ × Node
-seen_key e = (string_bytes e.0, e.1)
+abbrev key_view : String Global × Node → List ℕ × Node
+key_view e = (string_bytes e.0, e.1)
 
-fields_are : (es : List (String Global × Value)) → map seen_key (map seen_value es) ≡ map field_of es
+fields_are : (es : List (String Global × Value)) → map key_view (map value_view es) ≡ map field_of es
 fields_are [] = refl
 fields_are (e ∷ es) = ap (λ (fs : List (List ℕ × Node)). field_of e ∷ fs) (fields_are es)
 
-opened : (v : Vec (String Global × Value) Global) → node_of (MapValue v) ≡ tree.map None (entries (map seen_key (map seen_value v.items)))
+opened : (v : Vec (String Global × Value) Global) → node_of (MapValue v) ≡ tree.map None (entries (map key_view (map value_view v.items)))
 opened v = search (rules, the_lemmas)
 
 pub node_of-map : (v : Vec (String Global × Value) Global) → node_of (MapValue v) ≡ tree.map None (entries (map field_of v.items))

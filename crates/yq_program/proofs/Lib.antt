@@ -18,6 +18,6 @@ pub mod RunLaws
 pub mod TextTokens
 pub mod TokenAgain
 pub mod TokenTakes
-pub mod Turns
+pub mod LoopSteps
 pub mod UpdateAgain
 pub mod UpdateTakes

@@ -9,11 +9,11 @@ use Rattle.yq_scalar.specs.Tree.{Node}
 use Rattle.yq_scalar.specs.SchemaReading.{is_one_of}
 use Rattle.yq_program.specs.Tokens.{Token, symbol, scalar_words}
 use Rattle.yq_program.specs.Lexing.{after, taken, as_step}
-use Rattle.yq_program.specs.Grammar.{Form, Mark, IsScalar, AreListed, IsField, IsLiteral}
+use Rattle.yq_program.specs.Grammar.{Production, HasSymbol, IsPlainLiteral, AreListed, IsField, IsLiteral}
 use Rattle.yq_program.specs.Parse.{Parse, behind_at, word_at, scalar_at, listed_at, field_at, literal_at, begins_left}
 use Rattle.yq_program.proofs.Keys.{distinct_again}
 use Rattle.yq_program.proofs.Readers.{Lessens}
-use Rattle.yq_program.proofs.Turns.{item_lessens, field_lessens}
+use Rattle.yq_program.proofs.LoopSteps.{item_lessens, field_lessens}
 use Rattle.yq_program.proofs.FormsAgain.{after_again, Again, parted_again, Anything}
 
 word_again : (w : List ℕ) (r : List Token) → is_one_of scalar_words w ≡ true → word_at (symbol w ∷ r) ≡ Some (w, r)
@@ -30,7 +30,7 @@ word_again w r h = elim (cases_Bool (bytes_eq w (codes "true"))) [
   ]
 ]
 
-pub scalar_again : Again scalar_at IsScalar Anything
+pub scalar_again : Again scalar_at IsPlainLiteral Anything
 unfolding scalar_at
 scalar_again s ts rest (inl h) f = rw (h.2, h.1) refl
 scalar_again s ts rest (inr (inl h)) f = rw (h.2, h.1) refl
@@ -44,12 +44,12 @@ word_is_none w r s h not_word = elim (cases_Bool (bytes_eq w s)) [
 ]
 
 -- no mark or word but those of scalars begins a scalar
-scalar_begins : (s : ScalarText) (ts rest : List Token) → IsScalar s ts rest → (mark : List ℕ) → is_one_of scalar_words mark ≡ false → after mark ts ≡ None
+scalar_begins : (s : ScalarText) (ts rest : List Token) → IsPlainLiteral s ts rest → (mark : List ℕ) → is_one_of scalar_words mark ≡ false → after mark ts ≡ None
 scalar_begins s ts rest (inl h) mark not_word = rw h.2 refl
 scalar_begins s ts rest (inr (inl h)) mark not_word = rw h.2 refl
 scalar_begins s ts rest (inr (inr h)) mark not_word = rw h.3 (word_is_none h.0 rest mark h.2 not_word)
 
-scalar_unnamed : (s : ScalarText) (ts rest : List Token) → IsScalar s ts rest → taken as_step ts ≡ None
+scalar_unnamed : (s : ScalarText) (ts rest : List Token) → IsPlainLiteral s ts rest → taken as_step ts ≡ None
 scalar_unnamed s ts rest (inl h) = rw h.2 refl
 scalar_unnamed s ts rest (inr (inl h)) = rw h.2 refl
 scalar_unnamed s ts rest (inr (inr h)) = rw h.3 refl
@@ -60,7 +60,7 @@ pub record BeginsLiteral (ts : List Token) : Type 0 where
   pub entry : after (codes "}") ts ≡ None
   pub left : begins_left ts ≡ false
 
-listed_begins : {A : Type 0} (opening closing : List ℕ) (Is : Form A) (xs : List A) (ts rest : List Token) → AreListed opening closing Is xs ts rest → (inner : List Token) × Mark opening ts inner
+listed_begins : {A : Type 0} (opening closing : List ℕ) (Is : Production A) (xs : List A) (ts rest : List Token) → AreListed opening closing Is xs ts rest → (inner : List Token) × HasSymbol opening ts inner
 listed_begins opening closing Is [] ts rest h = (symbol closing ∷ rest, h)
 listed_begins opening closing Is (x ∷ xs) ts rest h = (h.0, h.2)
 
@@ -79,9 +79,9 @@ literal_begins (suc depth) n ts rest (inr (inr h)) =
     let o = listed_begins (codes "{") (codes "}") (IsField (IsLiteral depth)) h.0 ts rest h.3 in
     record { item = rw o.1 refl; entry = rw o.1 refl; left = rw o.1 refl }
 
-listed_again : {A : Type 0} (opening closing : List ℕ) (at : Parse A) (Is : Form A) → Lessens (behind_at (codes ",") at) → Again at Is Anything
+listed_again : {A : Type 0} (opening closing : List ℕ) (at : Parse A) (Is : Production A) → Lessens (behind_at (codes ",") at) → Again at Is Anything
     → ((x : A) (ts rest : List Token) → Is x ts rest → after closing ts ≡ None) → ((r : List Token) → after (codes ",") (symbol closing ∷ r) ≡ None)
-    → (xs : List A) (ts rest : List Token) → AreListed opening closing Is xs ts rest → (inner : List Token) × Mark opening ts inner × (listed_at closing at inner ≡ Some (xs, rest))
+    → (xs : List A) (ts rest : List Token) → AreListed opening closing Is xs ts rest → (inner : List Token) × HasSymbol opening ts inner × (listed_at closing at inner ≡ Some (xs, rest))
 listed_again opening closing at Is less again front comma [] ts rest h =
     let e = after_again closing (symbol closing ∷ rest) rest refl in
     (symbol closing ∷ rest, h, rw e refl)
@@ -92,7 +92,7 @@ listed_again opening closing at Is less again front comma (x ∷ xs) ts rest h =
     let read = parted_again (codes ",") at Is Anything less again (λ r. tt) (x ∷ xs) h.0 h.1 h.3 tt stops in
     (h.0, h.2, rw (none, read, e) refl)
 
-field_again : {A : Type 0} (at : Parse A) (Is : Form A) → Again at Is Anything → Again (field_at at) (IsField Is) Anything
+field_again : {A : Type 0} (at : Parse A) (Is : Production A) → Again at Is Anything → Again (field_at at) (IsField Is) Anything
 field_again at Is again e ts rest h f = rw (h.1, again e.1 h.0 rest h.2 f) refl
 
 pub literal_again : (depth : ℕ) → Again (literal_at depth) (IsLiteral depth) Anything

@@ -8,7 +8,7 @@ use Rattle.yq_scalar.specs.Keys.{are_distinct}
 use Rattle.yq_scalar.specs.SchemaReading.{is_one_of}
 use Rattle.yq_program.specs.Tokens.{Token, string, symbol, scalar_words}
 use Rattle.yq_program.specs.Lexing.{after, taken, as_number, as_string}
-use Rattle.yq_program.specs.Grammar.{Form, Mark, AreParted, IsScalar, AreListed, IsField, IsScalarNode, IsLiteral}
+use Rattle.yq_program.specs.Grammar.{Production, HasSymbol, AreParted, IsPlainLiteral, AreListed, IsField, IsScalarNode, IsLiteral}
 use Rattle.yq_program.specs.Parse.{Parse, parted_at, word_at, scalar_at, listed_at, field_at, mapping_of, scalar_node_at, literal_at}
 use Rattle.yq_program.proofs.Keys.{distinct_keys}
 use Rattle.yq_program.proofs.Readers.{either_cases, after_takes, string_takes, number_takes, Takes, Shortens, same_form, parted_takes, closed_takes, parted_shortens, between_shortens}
@@ -25,33 +25,33 @@ word_takes ts x h = elim (either_cases (after (codes "true") ts) h) [
   ]
 ]
   where
-    Word : Form (List ℕ)
+    Word : Production (List ℕ)
     Word w ts rest = (is_one_of scalar_words w ≡ true) × (ts ≡ symbol w ∷ rest)
 
-pub scalar_takes : Takes scalar_at IsScalar
+pub scalar_takes : Takes scalar_at IsPlainLiteral
 unfolding scalar_at
 scalar_takes ts x h = elim (either_cases (taken as_number ts) h) [
-  | inl n ↦ same_form IsScalar ts n.2 (inr (inl (n.0.0, refl, number_takes ts n.0 n.1)))
+  | inl n ↦ same_form IsPlainLiteral ts n.2 (inr (inl (n.0.0, refl, number_takes ts n.0 n.1)))
   | inr on ↦ elim (either_cases (word_at ts) on.1) [
-    | inl w ↦ let is = word_takes ts w.0 w.1 in same_form IsScalar ts w.2 (inr (inr (w.0.0, refl, is.0, is.1)))
+    | inl w ↦ let is = word_takes ts w.0 w.1 in same_form IsPlainLiteral ts w.2 (inr (inr (w.0.0, refl, is.0, is.1)))
     | inr other ↦
         let s = bind_some (taken as_string ts) other.1 in
-        same_form IsScalar ts s.2 (inl (s.0.0, refl, string_takes ts s.0 s.1))
+        same_form IsPlainLiteral ts s.2 (inl (s.0.0, refl, string_takes ts s.0 s.1))
   ]
 ]
 
-pub scalar_shortens : Shortens IsScalar
+pub scalar_shortens : Shortens IsPlainLiteral
 scalar_shortens s ts rest (inl h) = omega (arith, ap length h.2)
 scalar_shortens s ts rest (inr (inl h)) = omega (arith, ap length h.2)
 scalar_shortens s ts rest (inr (inr h)) = omega (arith, ap length h.3)
 
-listed_is : {A : Type 0} (opening closing : List ℕ) (Is : Form A) (xs : List A) (all inner end rest : List Token)
-    → Mark opening all inner → AreParted (codes ",") Is xs inner end → Mark closing end rest → AreListed opening closing Is xs all rest
+listed_is : {A : Type 0} (opening closing : List ℕ) (Is : Production A) (xs : List A) (all inner end rest : List Token)
+    → HasSymbol opening all inner → AreParted (codes ",") Is xs inner end → HasSymbol closing end rest → AreListed opening closing Is xs all rest
 listed_is opening closing Is [] all inner end rest o are c = absurd are
 listed_is opening closing Is (x ∷ xs) all inner end rest o are c = (inner, end, o, are, c)
 
-listed_takes : {A : Type 0} (opening closing : List ℕ) (at : Parse A) (Is : Form A) → Takes at Is → (all ts : List Token) (x : List A × List Token)
-    → Mark opening all ts → listed_at closing at ts ≡ Some x → AreListed opening closing Is x.0 all x.1
+listed_takes : {A : Type 0} (opening closing : List ℕ) (at : Parse A) (Is : Production A) → Takes at Is → (all ts : List Token) (x : List A × List Token)
+    → HasSymbol opening all ts → listed_at closing at ts ≡ Some x → AreListed opening closing Is x.0 all x.1
 listed_takes opening closing at Is takes all ts x o h = elim (either_cases (after closing ts) h) [
   | inl end ↦
       let c : ts ≡ symbol closing ∷ end.0 = after_takes closing ts end.0 end.1 in
@@ -61,7 +61,7 @@ listed_takes opening closing at Is takes all ts x o h = elim (either_cases (afte
       listed_is opening closing Is x.0 all ts y.0 x.1 o y.1 y.2
 ]
 
-pub field_takes : {A : Type 0} (at : Parse A) (Is : Form A) → Takes at Is → Takes (field_at at) (IsField Is)
+pub field_takes : {A : Type 0} (at : Parse A) (Is : Production A) → Takes at Is → Takes (field_at at) (IsField Is)
 field_takes at Is takes ts x h =
     let k = bind_some (taken as_string ts) h in
     let r = bind_some (after (codes ":") k.0.1) k.2 in
@@ -100,11 +100,11 @@ literal_takes (suc depth) ts x h = elim (either_cases (after (codes "[") ts) h) 
   ]
 ]
 
-listed_shortens : {A : Type 0} (opening closing : List ℕ) (Is : Form A) → Shortens Is → Shortens (AreListed opening closing Is)
+listed_shortens : {A : Type 0} (opening closing : List ℕ) (Is : Production A) → Shortens Is → Shortens (AreListed opening closing Is)
 listed_shortens opening closing Is less [] ts rest h = omega (arith, ap length h)
 listed_shortens opening closing Is less (x ∷ xs) ts rest h = between_shortens opening closing (AreParted (codes ",") Is) (parted_shortens (codes ",") Is less) (x ∷ xs) ts rest h
 
-pub field_shortens : {A : Type 0} (Is : Form A) → Shortens Is → Shortens (IsField Is)
+pub field_shortens : {A : Type 0} (Is : Production A) → Shortens Is → Shortens (IsField Is)
 field_shortens Is less e ts rest h = let one = less e.1 h.0 rest h.2 in omega (arith, ap length h.1)
 
 pub literal_shortens : (depth : ℕ) → Shortens (IsLiteral depth)

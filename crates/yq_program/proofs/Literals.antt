@@ -11,22 +11,22 @@ use Rattle.yq_scalar.specs.Anchors.{names_of, names_in}
 use Rattle.yq_program.specs.Program.{Term, literal, found, Update, assign, delete, comment, Program, read, updates, IsValue, SumHolds, UpdatesHold, LiteralsHold}
 use Rattle.yq_program.specs.Tokens.{Token}
 use Rattle.yq_inline.specs.Values.{items, entries}
-use Rattle.yq_program.specs.Grammar.{Form, Are, Behind, AreParted, AreListed, IsField, IsScalarNode, IsLiteral, literal_depth, IsTerm, IsUpdate, IsProgram}
+use Rattle.yq_program.specs.Grammar.{Production, Are, Behind, AreParted, AreListed, IsField, IsScalarNode, IsLiteral, literal_depth, IsTerm, IsUpdate, IsProgram}
 
 -- a fact of each element
 abbrev Each : {A : Type 0} → (A → Type 0) → List A → Type 0
 Each P [] = ⊤
 Each P (x ∷ xs) = P x × Each P xs
 
-each_behind : {A : Type 0} (P : A → Type 0) (s : List ℕ) (Is : Form A) → ((x : A) (ts rest : List Token) → Is x ts rest → P x) → (xs : List A) (ts rest : List Token) → Are (Behind s Is) xs ts rest → Each P xs
+each_behind : {A : Type 0} (P : A → Type 0) (s : List ℕ) (Is : Production A) → ((x : A) (ts rest : List Token) → Is x ts rest → P x) → (xs : List A) (ts rest : List Token) → Are (Behind s Is) xs ts rest → Each P xs
 each_behind P s Is holds [] ts rest h = tt
 each_behind P s Is holds (x ∷ xs) ts rest h = (holds x h.1.0 h.0 h.1.2, each_behind P s Is holds xs h.0 rest h.2)
 
-each_parted : {A : Type 0} (P : A → Type 0) (s : List ℕ) (Is : Form A) → ((x : A) (ts rest : List Token) → Is x ts rest → P x) → (xs : List A) (ts rest : List Token) → AreParted s Is xs ts rest → Each P xs
+each_parted : {A : Type 0} (P : A → Type 0) (s : List ℕ) (Is : Production A) → ((x : A) (ts rest : List Token) → Is x ts rest → P x) → (xs : List A) (ts rest : List Token) → AreParted s Is xs ts rest → Each P xs
 each_parted P s Is holds [] ts rest h = absurd h
 each_parted P s Is holds (x ∷ xs) ts rest h = (holds x ts h.0 h.1, each_behind P s Is holds xs h.0 rest h.2)
 
-each_listed : {A : Type 0} (P : A → Type 0) (opening closing : List ℕ) (Is : Form A) → ((x : A) (ts rest : List Token) → Is x ts rest → P x) → (xs : List A) (ts rest : List Token) → AreListed opening closing Is xs ts rest → Each P xs
+each_listed : {A : Type 0} (P : A → Type 0) (opening closing : List ℕ) (Is : Production A) → ((x : A) (ts rest : List Token) → Is x ts rest → P x) → (xs : List A) (ts rest : List Token) → AreListed opening closing Is xs ts rest → Each P xs
 each_listed P opening closing Is holds [] ts rest h = tt
 each_listed P opening closing Is holds (x ∷ xs) ts rest h = each_parted P (codes ",") Is holds (x ∷ xs) h.0 h.1 h.3
 

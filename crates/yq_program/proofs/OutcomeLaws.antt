@@ -7,7 +7,7 @@ use Rattle.yq_program.specs.Tokens.{Token, AreTokens}
 use Rattle.yq_program.specs.Lexing.{tokens, AreRead}
 use Rattle.yq_program.specs.Program.{Program}
 use Rattle.yq_program.specs.Grammar.{IsProgram, literal_depth}
-use Rattle.yq_program.specs.Outcome.{Outcome, parsed, refused, ComesTo, HasForeign, IsRefused, IsTooDeep, has_pattern}
+use Rattle.yq_program.specs.Outcome.{Outcome, parsed, refused, ComesTo, HasForeign, ExprRefused, IsTooDeep, has_pattern}
 use Rattle.yq_program.specs.Parse.{surveyed, program_at, unless_pattern, outcome_of, outcome}
 use Rattle.yq_program.proofs.Outcomes.{all_read, derives_again, none_in, outcome_again, outcome_parsed, outcome_refused, surveys, unread_in}
 use Rattle.yq_program.proofs.TextTokens.{tokens_take, tokens_again}
@@ -35,7 +35,7 @@ no_program ts none (Some p) s = absurd (none p (program_takes ts p s))
 
 -- ---- a refusal whose cause a text has is its outcome
 
-refuses : (text : List ℕ) (e : ParseError) → (e ≡ error.Memory → ⊥) → IsRefused e text → outcome text ≡ refused e
+refuses : (text : List ℕ) (e : ParseError) → (e ≡ error.Memory → ⊥) → ExprRefused e text → outcome text ≡ refused e
 unfolding outcome
 refuses text error.Syntax other (inl none) = let s : surveyed false 0 0 (tokens text) ≡ None = no_tokens text none (surveyed false 0 0 (tokens text)) refl in rw s refl
 refuses text error.Syntax other (inr (ts, are, own, shallow, none)) =

@@ -10,7 +10,7 @@ use Rattle.yq_program.specs.Tokens.{Token, string, number, step, symbol, foreign
 use Rattle.yq_program.specs.Lexing.{tokens, AreRead}
 use Rattle.yq_program.specs.Program.{Program, LiteralsHold}
 use Rattle.yq_program.specs.Grammar.{literal_depth}
-use Rattle.yq_program.specs.Outcome.{parsed, refused, counted, is_opening, is_closing, opened, closed, IsTooDeep, HasForeign, has_pattern, Derives, IsRefused, Answers}
+use Rattle.yq_program.specs.Outcome.{parsed, refused, counted, is_opening, is_closing, opened, closed, IsTooDeep, HasForeign, has_pattern, Derives, ExprRefused, Answers}
 use Rattle.yq_program.specs.Parse.{is_unread, is_foreign_token, surveyed, program_at, unless_pattern, outcome_of, outcome}
 use Rattle.yq_program.proofs.Literals.{literals_hold}
 use Rattle.yq_program.proofs.TextTokens.{tokens_take, tokens_again}
@@ -142,7 +142,7 @@ none_in (t ∷ ts) o a b h shallow = elim (chosen (is_unread t) h) [
 too_deep : (ts : List Token) (n : ℕ) → DeepFrom 0 0 ts n → IsTooDeep ts
 too_deep ts n d = (n, omega arith)
 
-pub survey_refuses : (text : List ℕ) → surveyed false 0 0 (tokens text) ≡ Some true → IsRefused error.NotInProfile text
+pub survey_refuses : (text : List ℕ) → surveyed false 0 0 (tokens text) ≡ Some true → ExprRefused error.NotInProfile text
 survey_refuses text h = elim (refused_in (tokens text) false 0 0 h) [
   | inl before ↦ cc
   | inr found ↦ elim found [
@@ -201,23 +201,23 @@ outcome_parsed text p h = go (surveyed false 0 0 (tokens text)) refl h
     go (Some true) s k = cc
     go (Some false) s k = last (program_at literal_depth (tokens text)) refl s k
 
-pub outcome_refused : (text : List ℕ) (e : ParseError) → outcome text ≡ refused e → IsRefused e text
+pub outcome_refused : (text : List ℕ) (e : ParseError) → outcome text ≡ refused e → ExprRefused e text
 unfolding outcome
 outcome_refused text e h = go (surveyed false 0 0 (tokens text)) refl h
   where
-    last : (o : Option Program) → program_at literal_depth (tokens text) ≡ o → surveyed false 0 0 (tokens text) ≡ Some false → unless_pattern o ≡ refused e → IsRefused e text
+    last : (o : Option Program) → program_at literal_depth (tokens text) ≡ o → surveyed false 0 0 (tokens text) ≡ Some false → unless_pattern o ≡ refused e → ExprRefused e text
     last None r s k =
         let passes = survey_passes text s in
         let is : error.Syntax ≡ e = cc in
-        subst (λ (x : ParseError). IsRefused x text) is (inr (tokens text, passes.0, passes.1, passes.2, λ p k. none-some _ (sym r ∙ program_again p (tokens text) k)))
+        subst (λ (x : ParseError). ExprRefused x text) is (inr (tokens text, passes.0, passes.1, passes.2, λ p k. none-some _ (sym r ∙ program_again p (tokens text) k)))
     last (Some q) r s k = elim (chosen (has_pattern q) k) [
-      | inl pattern ↦ let is : error.Pattern ≡ e = cc in subst (λ (x : ParseError). IsRefused x text) is (q, derives_in text q s r, pattern.0)
+      | inl pattern ↦ let is : error.Pattern ≡ e = cc in subst (λ (x : ParseError). ExprRefused x text) is (q, derives_in text q s r, pattern.0)
       | inr none ↦ cc
     ]
 
-    go : (o : Option Bool) → surveyed false 0 0 (tokens text) ≡ o → outcome_of o (program_at literal_depth (tokens text)) ≡ refused e → IsRefused e text
-    go None s k = let is : error.Syntax ≡ e = cc in subst (λ (x : ParseError). IsRefused x text) is (inl (survey_fails text s))
-    go (Some true) s k = let is : error.NotInProfile ≡ e = cc in subst (λ (x : ParseError). IsRefused x text) is (survey_refuses text s)
+    go : (o : Option Bool) → surveyed false 0 0 (tokens text) ≡ o → outcome_of o (program_at literal_depth (tokens text)) ≡ refused e → ExprRefused e text
+    go None s k = let is : error.Syntax ≡ e = cc in subst (λ (x : ParseError). ExprRefused x text) is (inl (survey_fails text s))
+    go (Some true) s k = let is : error.NotInProfile ≡ e = cc in subst (λ (x : ParseError). ExprRefused x text) is (survey_refuses text s)
     go (Some false) s k = last (program_at literal_depth (tokens text)) refl s k
 
 pub outcome_again : (text : List ℕ) (p : Program) → Derives text p → has_pattern p ≡ false → outcome text ≡ parsed p
@@ -230,7 +230,7 @@ pub found_by : {X : Type 0} (view : X → Program) (text : List ℕ) (r : Result
 found_by view text (Ok x) h = outcome_parsed text (view x) h
 found_by view text (Err e) h = tt
 
-pub refused_by : {X : Type 0} (view : X → Program) (text : List ℕ) (r : Result X ParseError) → Answers view r (outcome text) → IfErr r (λ e. IsRefused e text)
+pub refused_by : {X : Type 0} (view : X → Program) (text : List ℕ) (r : Result X ParseError) → Answers view r (outcome text) → IfErr r (λ e. ExprRefused e text)
 refused_by view text (Ok x) h = tt
 refused_by view text (Err error.Syntax) h = outcome_refused text error.Syntax h
 refused_by view text (Err error.NotInProfile) h = outcome_refused text error.NotInProfile h

@@ -4,9 +4,9 @@ use Rattle.std.specs.Prelude.{codes}
 use Rattle.yq_program.specs.Program.{Step, key, index, each}
 use Rattle.yq_program.specs.Tokens.{Token, step}
 use Rattle.yq_program.specs.Lexing.{after, taken, as_step}
-use Rattle.yq_program.specs.Grammar.{Mark, IsBracket, IsNamed, IsFirst, IsNext, Are, IsPath}
+use Rattle.yq_program.specs.Grammar.{HasSymbol, IsBracket, IsNamed, IsFirst, IsNext, Are, IsPath}
 use Rattle.yq_program.specs.Parse.{many, bracketed_at, bracket_at, step_at, path_at}
-use Rattle.yq_program.proofs.Turns.{step_lessens}
+use Rattle.yq_program.proofs.LoopSteps.{step_lessens}
 use Rattle.yq_program.proofs.FormsAgain.{Again, AgainMaybe, many_again, Anything, Ends}
 
 bracket_again : (s : Step) (ts rest : List Token) → IsBracket s ts rest → bracket_at ts ≡ Some (Some (s, rest))
@@ -41,7 +41,7 @@ steps_again steps ts rest are none = many_again step_at IsNext Anything step_les
 
 -- a path begins with a named step or a dot
 abbrev pub BeginsPath : List Token → Type 0
-BeginsPath ts = ((k : List ℕ) × (r : List Token) × (ts ≡ step k ∷ r)) ⊎ ((r : List Token) × Mark (codes ".") ts r)
+BeginsPath ts = ((k : List ℕ) × (r : List Token) × (ts ≡ step k ∷ r)) ⊎ ((r : List Token) × HasSymbol (codes ".") ts r)
 
 first_begins : (s : Step) (ts rest : List Token) → IsFirst s ts rest → BeginsPath ts
 first_begins (key k) ts rest (inl h) = inl (k, rest, h)

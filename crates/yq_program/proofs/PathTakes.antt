@@ -7,13 +7,13 @@ use Rattle.yq_scalar.proofs.Bools.{bind_some, chosen}
 use Rattle.yq_program.specs.Program.{Step, key, index, each}
 use Rattle.yq_program.specs.Tokens.{Token, string, number, symbol}
 use Rattle.yq_program.specs.Lexing.{after, taken, as_number, as_string, as_step}
-use Rattle.yq_program.specs.Grammar.{Form, Mark, IsBracket, IsDotted, IsNamed, IsFirst, IsNext, Are, IsPath}
+use Rattle.yq_program.specs.Grammar.{Production, HasSymbol, IsBracket, IsDotted, IsNamed, IsFirst, IsNext, Are, IsPath}
 use Rattle.yq_program.specs.Parse.{many, bracketed_at, bracket_at, step_at, path_of, path_at}
 use Rattle.yq_program.proofs.Readers.{either_cases, after_takes, string_takes, number_takes, named_takes, Takes, TakesMaybe, Shortens, same_form, many_takes, many_shortens}
 
 -- a bracket from behind its opening mark
-abbrev Inner : Form Step
-Inner s ts rest = (all : List Token) → Mark (codes "[") all ts → IsBracket s all rest
+abbrev Inner : Production Step
+Inner s ts rest = (all : List Token) → HasSymbol (codes "[") all ts → IsBracket s all rest
 
 bracketed_takes : Takes bracketed_at Inner
 unfolding bracketed_at

@@ -4,9 +4,9 @@ use Rattle.std.specs.Prelude.{codes}
 use Rattle.yq_program.specs.Program.{is_simple, Step, key, index, each, Operand, value_at, document_index, compares, has, Stage, path, select}
 use Rattle.yq_program.specs.Tokens.{Token, symbol}
 use Rattle.yq_program.specs.Lexing.{after}
-use Rattle.yq_program.specs.Grammar.{Form, Mark, IsSimple, IsOperand, comparison, IsCondition, InParentheses, IsStage, IsPipe, IsLeft}
+use Rattle.yq_program.specs.Grammar.{Production, HasSymbol, IsSimple, IsOperand, comparison, IsCondition, InParentheses, IsStage, IsPipe, IsLeft}
 use Rattle.yq_program.specs.Parse.{Parse, parenthesized_at, operand_at, comparison_at, condition_at, stage_at, pipe_at, left_at, begins_left}
-use Rattle.yq_program.proofs.Turns.{stage_lessens}
+use Rattle.yq_program.proofs.LoopSteps.{stage_lessens}
 use Rattle.yq_program.proofs.FormsAgain.{after_again, Again, parted_again, Anything, Ends}
 use Rattle.yq_program.proofs.PathAgain.{BeginsPath, path_begins, path_again}
 use Rattle.yq_program.proofs.LiteralAgain.{scalar_again}
@@ -38,7 +38,7 @@ operand_begins (value_at steps) ts rest h = go (path_begins steps ts rest h.1)
 operand_begins document_index ts rest (inl h) = rw h refl
 operand_begins document_index ts rest (inr h) = rw h refl
 
-comparison_again : (equal : Bool) (ts rest : List Token) → Mark (comparison equal) ts rest → (comparison_at ts ≡ Some (equal, rest)) × Ends ts
+comparison_again : (equal : Bool) (ts rest : List Token) → HasSymbol (comparison equal) ts rest → (comparison_at ts ≡ Some (equal, rest)) × Ends ts
 comparison_again true ts rest h = (rw h refl, (rw h refl, rw h refl, rw h refl))
 comparison_again false ts rest h = (rw h refl, (rw h refl, rw h refl, rw h refl))
 
@@ -51,7 +51,7 @@ condition_again (compares o equal k t) ts rest h f =
     rw (operand_begins o ts h.0 h.2, left, sign.0, right) refl
 condition_again (has k) ts rest h f = rw h refl
 
-parenthesized_again : {A : Type 0} (at : Parse A) (Is : Form A) (Follows : List Token → Type 0) → Again at Is Follows → ((r : List Token) → Follows (symbol (codes ")") ∷ r))
+parenthesized_again : {A : Type 0} (at : Parse A) (Is : Production A) (Follows : List Token → Type 0) → Again at Is Follows → ((r : List Token) → Follows (symbol (codes ")") ∷ r))
     → Again (parenthesized_at at) (InParentheses Is) Anything
 parenthesized_again at Is Follows again mark x ts rest h f =
     let follows : Follows h.1 = subst Follows (sym h.4) (mark rest) in

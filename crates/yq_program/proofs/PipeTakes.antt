@@ -6,7 +6,7 @@ use Rattle.yq_scalar.proofs.Bools.{bind_some}
 use Rattle.yq_program.specs.Program.{is_simple, Step, key, index, each, Operand, value_at, document_index, compares, has, path, select}
 use Rattle.yq_program.specs.Tokens.{Token, string, symbol}
 use Rattle.yq_program.specs.Lexing.{after, taken, as_string}
-use Rattle.yq_program.specs.Grammar.{Form, Mark, IsSimple, IsOperand, comparison, IsCondition, InParentheses, IsStage, IsPipe, IsLeft}
+use Rattle.yq_program.specs.Grammar.{Production, HasSymbol, IsSimple, IsOperand, comparison, IsCondition, InParentheses, IsStage, IsPipe, IsLeft}
 use Rattle.yq_program.specs.Parse.{Parse, parenthesized_at, path_at, scalar_at, operand_at, comparison_at, condition_at, stage_at, pipe_at, left_at}
 use Rattle.yq_program.proofs.Readers.{either_cases, after_takes, string_takes, Takes, Shortens, same_form, parted_takes, closed_takes, behind_shortens, parted_shortens, between_shortens}
 use Rattle.yq_program.proofs.PathTakes.{path_takes, path_shortens}
@@ -31,15 +31,15 @@ operand_takes ts x h = elim (either_cases (after (codes "di") ts) h) [
   ]
 ]
 
-comparison_takes : (ts : List Token) (x : Bool × List Token) → comparison_at ts ≡ Some x → Mark (comparison x.0) ts x.1
+comparison_takes : (ts : List Token) (x : Bool × List Token) → comparison_at ts ≡ Some x → HasSymbol (comparison x.0) ts x.1
 comparison_takes ts x h = elim (either_cases (after (codes "==") ts) h) [
-  | inl equal ↦ same_form (λ b. Mark (comparison b)) ts equal.2 (after_takes (codes "==") ts equal.0 equal.1)
+  | inl equal ↦ same_form (λ b. HasSymbol (comparison b)) ts equal.2 (after_takes (codes "==") ts equal.0 equal.1)
   | inr on ↦
       let r = bind_some (after (codes "!=") ts) on.1 in
-      same_form (λ b. Mark (comparison b)) ts r.2 (after_takes (codes "!=") ts r.0 r.1)
+      same_form (λ b. HasSymbol (comparison b)) ts r.2 (after_takes (codes "!=") ts r.0 r.1)
 ]
 
-pub parenthesized_takes : {A : Type 0} (at : Parse A) (Is : Form A) → Takes at Is → Takes (parenthesized_at at) (InParentheses Is)
+pub parenthesized_takes : {A : Type 0} (at : Parse A) (Is : Production A) → Takes at Is → Takes (parenthesized_at at) (InParentheses Is)
 parenthesized_takes at Is takes ts x h =
     let r = bind_some (after (codes "(") ts) h in
     let y = closed_takes (codes ")") at Is takes r.0 x r.2 in

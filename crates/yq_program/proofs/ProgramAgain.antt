@@ -10,7 +10,7 @@ use Rattle.yq_program.specs.declared.program.CommentPlace.{CommentPlace}
 use Rattle.yq_program.specs.declared.program.CommentPlace.TheVariants as place
 use Rattle.yq_program.specs.Program.{Stage, path, select, Update, assign, delete, comment, Program, read, updates}
 use Rattle.yq_program.specs.Tokens.{Token, string, symbol}
-use Rattle.yq_program.specs.Grammar.{Mark, Are, Behind, AreParted, IsStage, IsPipe, IsLeft, literal_depth, operator_mark, place_word, IsUpdate, IsProgram}
+use Rattle.yq_program.specs.Grammar.{HasSymbol, Are, Behind, AreParted, IsStage, IsPipe, IsLeft, literal_depth, operator_mark, place_word, IsUpdate, IsProgram}
 use Rattle.yq_program.specs.Parse.{pipe_at, all_of, updates_at, program_at}
 use Rattle.yq_program.proofs.Readers.{second}
 use Rattle.yq_program.proofs.UpdateTakes.{whole_takes}
@@ -21,25 +21,25 @@ use Rattle.yq_program.proofs.PipeAgain.{pipe_again}
 use Rattle.yq_program.proofs.UpdateAgain.{operator_again, place_again, updates_again}
 
 -- what follows the first stage of a pipe that is all
-pipe_goes_on : (stages : List Stage) (ts : List Token) → Are (Behind (codes "|") IsStage) stages ts [] → (ts ≡ []) ⊎ ((r : List Token) × Mark (codes "|") ts r)
+pipe_goes_on : (stages : List Stage) (ts : List Token) → Are (Behind (codes "|") IsStage) stages ts [] → (ts ≡ []) ⊎ ((r : List Token) × HasSymbol (codes "|") ts r)
 pipe_goes_on [] ts h = inl h
 pipe_goes_on (s ∷ stages) ts h = inr (h.1.0, h.1.1)
 
 -- what an update does with what it finds
 abbrev Acts : List Token → Type 0
-Acts ts = ((op : Operator) × (r : List Token) × Mark (operator_mark op) ts r) ⊎ ((p : CommentPlace) × (r : List Token) × Mark (place_word p) ts r)
+Acts ts = ((op : Operator) × (r : List Token) × HasSymbol (operator_mark op) ts r) ⊎ ((p : CommentPlace) × (r : List Token) × HasSymbol (place_word p) ts r)
 
 acts_ends : (ts : List Token) → Acts ts → Ends ts
 acts_ends ts (inl h) = (operator_again h.0 ts h.1 h.2).1.0
 acts_ends ts (inr h) = (place_again h.0 ts h.1 h.2).2.0
 
 -- two marks that differ
-two_marks : (ts : List Token) (w v : List ℕ) (r q : List Token) → Mark w ts r → Mark v ts q → bytes_eq w v ≡ false → ⊥
+two_marks : (ts : List Token) (w v : List ℕ) (r q : List Token) → HasSymbol w ts r → HasSymbol v ts q → bytes_eq w v ≡ false → ⊥
 two_marks ts w v r q h k differ =
     let same : w ≡ v = cc in
     false≢true (sym differ ∙ (bytes_eq-Decides w v).1 same)
 
-mark_alone : (ts : List Token) (w : List ℕ) (r : List Token) → Mark w ts r → bytes_eq w (codes "|") ≡ false → ((ts ≡ []) ⊎ ((r : List Token) × Mark (codes "|") ts r)) → ⊥
+mark_alone : (ts : List Token) (w : List ℕ) (r : List Token) → HasSymbol w ts r → bytes_eq w (codes "|") ≡ false → ((ts ≡ []) ⊎ ((r : List Token) × HasSymbol (codes "|") ts r)) → ⊥
 mark_alone ts w r h other (inl e) = cc
 mark_alone ts w r h other (inr e) = two_marks ts w (codes "|") r e.0 h e.1 other
 
@@ -53,27 +53,27 @@ no_place place.Line = refl
 no_place place.Head = refl
 
 -- it doesn't end there, nor is there a `|`
-acts_alone : (ts : List Token) → Acts ts → ((ts ≡ []) ⊎ ((r : List Token) × Mark (codes "|") ts r)) → ⊥
+acts_alone : (ts : List Token) → Acts ts → ((ts ≡ []) ⊎ ((r : List Token) × HasSymbol (codes "|") ts r)) → ⊥
 acts_alone ts (inl h) on = mark_alone ts (operator_mark h.0) h.1 h.2 (no_operator h.0) on
 acts_alone ts (inr h) on = mark_alone ts (place_word h.0) h.1 h.2 (no_place h.0) on
 
-begins_other : (ts : List Token) (w : List ℕ) (r : List Token) → BeginsPath ts → Mark w ts r → bytes_eq w (codes ".") ≡ false → ⊥
+begins_other : (ts : List Token) (w : List ℕ) (r : List Token) → BeginsPath ts → HasSymbol w ts r → bytes_eq w (codes ".") ≡ false → ⊥
 begins_other ts w r (inl b) e other = let f = b.2 in cc
 begins_other ts w r (inr b) e other = two_marks ts w (codes ".") r b.0 e b.1 other
 
 -- no tokens are both a pipe and updates
-no_stage : (s : Stage) (ts end sign : List Token) (left : List Stage) → IsStage s ts end → ((end ≡ []) ⊎ ((r : List Token) × Mark (codes "|") end r)) → IsLeft left ts sign → Acts sign → ⊥
+no_stage : (s : Stage) (ts end sign : List Token) (left : List Stage) → IsStage s ts end → ((end ≡ []) ⊎ ((r : List Token) × HasSymbol (codes "|") end r)) → IsLeft left ts sign → Acts sign → ⊥
 no_stage (path steps) ts end sign left h on (inl l) acts =
     let ends : Ends end = elim on [ inl e ↦ rw e (refl, refl, refl) | inr m ↦ rw m.1 (refl, refl, refl) ] in
     let a = path_again steps ts end h ends in
     let b = path_again l.0 ts sign l.2 (acts_ends sign acts) in
     let same : end ≡ sign = second (sym a ∙ b) in
-    acts_alone sign acts (subst (λ (t : List Token). (t ≡ []) ⊎ ((r : List Token) × Mark (codes "|") t r)) same on)
+    acts_alone sign acts (subst (λ (t : List Token). (t ≡ []) ⊎ ((r : List Token) × HasSymbol (codes "|") t r)) same on)
 no_stage (path steps) ts end sign left h on (inr l) acts = begins_other ts (codes "(") l.0 (path_begins steps ts end h) l.2 refl
 no_stage (select c) ts end sign left h on (inl l) acts = begins_other ts (codes "select") h.0 (path_begins l.0 ts sign l.2) h.1 refl
 no_stage (select c) ts end sign left h on (inr l) acts = two_marks ts (codes "select") (codes "(") h.0 l.0 h.1 l.2 refl
 
-no_delete : (s : Stage) (ts end r : List Token) → IsStage s ts end → Mark (codes "del") ts r → ⊥
+no_delete : (s : Stage) (ts end r : List Token) → IsStage s ts end → HasSymbol (codes "del") ts r → ⊥
 no_delete (path steps) ts end r h d = begins_other ts (codes "del") r (path_begins steps ts end h) d refl
 no_delete (select c) ts end r h d = two_marks ts (codes "select") (codes "del") h.0 r h.1 d refl
 

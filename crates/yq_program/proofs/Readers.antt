@@ -7,7 +7,7 @@ use Rattle.yq_scalar.specs.Answers.{◌>>=◌}
 use Rattle.yq_scalar.proofs.Bools.{bind_some}
 use Rattle.yq_program.specs.Tokens.{Token, is_symbol, string, number, step, symbol, foreign, unread}
 use Rattle.yq_program.specs.Lexing.{after, taken, as_number, as_string, as_step}
-use Rattle.yq_program.specs.Grammar.{Form, Mark, Are, Behind, AreParted, Between}
+use Rattle.yq_program.specs.Grammar.{Production, HasSymbol, Are, Behind, AreParted, Between}
 use Rattle.yq_program.specs.Parse.{Parse, either, with_front, many_in, many, behind_at, parted_at, closed_at}
 
 pub either_cases : {A B : Type 0} {f : A → B} {y z : B} (o : Option A) → either o f y ≡ z → ((x : A) × (o ≡ Some x) × (f x ≡ z)) ⊎ ((o ≡ None) × (y ≡ z))
@@ -29,7 +29,7 @@ symbol_is s (step k) h = cc
 symbol_is s foreign h = cc
 symbol_is s unread h = cc
 
-pub after_takes : (s : List ℕ) (ts r : List Token) → after s ts ≡ Some r → Mark s ts r
+pub after_takes : (s : List ℕ) (ts r : List Token) → after s ts ≡ Some r → HasSymbol s ts r
 after_takes s [] r h = cc
 after_takes s (t ∷ ts) r h =
     let g = cond_some (is_symbol s t) _ _ h in
@@ -68,7 +68,7 @@ taken_is view make is (t ∷ ts) x h = go (view t) refl h
     go : (o : Option (List ℕ)) → view t ≡ o → option_map {U = List ℕ × List Token} (λ a. (a, ts)) o ≡ Some x → t ∷ ts ≡ make x.0 ∷ x.1
     go None e k = cc
     go (Some c) e k =
-        let made : t ≡ make c = is t c e in
+        let is_make : t ≡ make c = is t c e in
         let a : c ≡ x.0 = first k in
         let b : ts ≡ x.1 = second k in
         cc
@@ -83,19 +83,19 @@ pub named_takes : (ts : List Token) (x : List ℕ × List Token) → taken as_st
 named_takes = taken_is as_step step as_step_is
 
 -- what a reading function gives is the form
-abbrev pub Takes : {A : Type 0} → Parse A → Form A → Type 0
+abbrev pub Takes : {A : Type 0} → Parse A → Production A → Type 0
 Takes {A} at Is = (ts : List Token) (x : A × List Token) → at ts ≡ Some x → Is x.0 ts x.1
 
 -- the same of one that may find no form
-abbrev pub TakesMaybe : {A : Type 0} → (List Token → Option (Option (A × List Token))) → Form A → Type 0
+abbrev pub TakesMaybe : {A : Type 0} → (List Token → Option (Option (A × List Token))) → Production A → Type 0
 TakesMaybe {A} at Is = (ts : List Token) (x : A × List Token) → at ts ≡ Some (Some x) → Is x.0 ts x.1
 
 -- a form leaves fewer tokens
-abbrev pub Shortens : {A : Type 0} → Form A → Type 0
+abbrev pub Shortens : {A : Type 0} → Production A → Type 0
 Shortens {A} Is = (x : A) (ts rest : List Token) → Is x ts rest → length rest < length ts
 
 -- a form at a pair that is the same
-pub same_form : {A : Type 0} (Is : Form A) (ts : List Token) {x y : A × List Token} → Some x ≡ Some y → Is x.0 ts x.1 → Is y.0 ts y.1
+pub same_form : {A : Type 0} (Is : Production A) (ts : List Token) {x y : A × List Token} → Some x ≡ Some y → Is x.0 ts x.1 → Is y.0 ts y.1
 same_form {A} Is ts h is = subst (λ (p : A × List Token). Is p.0 ts p.1) (same_Some _ _ h) is
 
 with_front_some : {A : Type 0} (a : A) (o : Option (List A × List Token)) (y : List A × List Token) → with_front a o ≡ Some y
@@ -103,7 +103,7 @@ with_front_some : {A : Type 0} (a : A) (o : Option (List A × List Token)) (y : 
 with_front_some a None y h = cc
 with_front_some a (Some x) y h = (x, refl, h)
 
-many_in_takes : {A : Type 0} (next : List Token → Option (Option (A × List Token))) (Is : Form A) → TakesMaybe next Is → (n : ℕ) → Takes (many_in next n) (Are Is)
+many_in_takes : {A : Type 0} (next : List Token → Option (Option (A × List Token))) (Is : Production A) → TakesMaybe next Is → (n : ℕ) → Takes (many_in next n) (Are Is)
 unfolding many_in
 many_in_takes next Is takes zero ts x h = cc
 many_in_takes next Is takes (suc n) ts x h =
@@ -116,11 +116,11 @@ many_in_takes next Is takes (suc n) ts x h =
       | inr none ↦ same_form (Are Is) ts none.1 refl
     ]
 
-pub many_takes : {A : Type 0} (next : List Token → Option (Option (A × List Token))) (Is : Form A) → TakesMaybe next Is → Takes (many next) (Are Is)
+pub many_takes : {A : Type 0} (next : List Token → Option (Option (A × List Token))) (Is : Production A) → TakesMaybe next Is → Takes (many next) (Are Is)
 unfolding many
 many_takes next Is takes ts = many_in_takes next Is takes (1 + length ts) ts
 
-pub behind_takes : {A : Type 0} (s : List ℕ) (at : Parse A) (Is : Form A) → Takes at Is → TakesMaybe (behind_at s at) (Behind s Is)
+pub behind_takes : {A : Type 0} (s : List ℕ) (at : Parse A) (Is : Production A) → Takes at Is → TakesMaybe (behind_at s at) (Behind s Is)
 behind_takes s at Is takes ts x h = elim (either_cases (after s ts) h) [
   | inl some ↦
       let y = bind_some (at some.0) some.2 in
@@ -128,7 +128,7 @@ behind_takes s at Is takes ts x h = elim (either_cases (after s ts) h) [
   | inr none ↦ cc
 ]
 
-pub parted_takes : {A : Type 0} (s : List ℕ) (at : Parse A) (Is : Form A) → Takes at Is → Takes (parted_at s at) (AreParted s Is)
+pub parted_takes : {A : Type 0} (s : List ℕ) (at : Parse A) (Is : Production A) → Takes at Is → Takes (parted_at s at) (AreParted s Is)
 parted_takes s at Is takes ts x h =
     let y = bind_some (at ts) h in
     let w = with_front_some y.0.0 (many (behind_at s at) y.0.1) x y.2 in
@@ -136,36 +136,36 @@ parted_takes s at Is takes ts x h =
     same_form (AreParted s Is) ts w.2 (y.0.1, takes ts y.0 y.1, others)
 
 -- a form and then the mark
-abbrev pub Closed : {A : Type 0} → List ℕ → Form A → Form A
-Closed s Is x ts rest = (end : List Token) × Is x ts end × Mark s end rest
+abbrev pub Closed : {A : Type 0} → List ℕ → Production A → Production A
+Closed s Is x ts rest = (end : List Token) × Is x ts end × HasSymbol s end rest
 
-pub closed_takes : {A : Type 0} (s : List ℕ) (at : Parse A) (Is : Form A) → Takes at Is → Takes (closed_at s at) (Closed s Is)
+pub closed_takes : {A : Type 0} (s : List ℕ) (at : Parse A) (Is : Production A) → Takes at Is → Takes (closed_at s at) (Closed s Is)
 closed_takes s at Is takes ts x h =
     let y = bind_some (at ts) h in
     let r = bind_some (after s y.0.1) y.2 in
     same_form (Closed s Is) ts r.2 (y.0.1, takes ts y.0 y.1, after_takes s y.0.1 r.0 r.1)
 
 -- forms after the first, each a step further
-pub many_shortens : {A : Type 0} (Is : Form A) → Shortens Is → (xs : List A) (ts rest : List Token) → Are Is xs ts rest → length rest ≤ length ts
+pub many_shortens : {A : Type 0} (Is : Production A) → Shortens Is → (xs : List A) (ts rest : List Token) → Are Is xs ts rest → length rest ≤ length ts
 many_shortens Is less [] ts rest h = omega (arith, ap length h)
 many_shortens Is less (x ∷ xs) ts rest h =
     let one = less x ts h.0 h.1 in
     let others = many_shortens Is less xs h.0 rest h.2 in
     omega arith
 
-pub behind_shortens : {A : Type 0} (s : List ℕ) (Is : Form A) → Shortens Is → Shortens (Behind s Is)
+pub behind_shortens : {A : Type 0} (s : List ℕ) (Is : Production A) → Shortens Is → Shortens (Behind s Is)
 behind_shortens s Is less x ts rest h =
     let one = less x h.0 rest h.2 in
     omega (arith, ap length h.1)
 
-pub parted_shortens : {A : Type 0} (s : List ℕ) (Is : Form A) → Shortens Is → Shortens (AreParted s Is)
+pub parted_shortens : {A : Type 0} (s : List ℕ) (Is : Production A) → Shortens Is → Shortens (AreParted s Is)
 parted_shortens s Is less [] ts rest h = absurd h
 parted_shortens s Is less (x ∷ xs) ts rest h =
     let one = less x ts h.0 h.1 in
     let others = many_shortens (Behind s Is) (behind_shortens s Is less) xs h.0 rest h.2 in
     omega arith
 
-pub between_shortens : {A : Type 0} (opening closing : List ℕ) (Is : Form A) → Shortens Is → Shortens (Between opening closing Is)
+pub between_shortens : {A : Type 0} (opening closing : List ℕ) (Is : Production A) → Shortens Is → Shortens (Between opening closing Is)
 between_shortens opening closing Is less x ts rest h =
     let one = less x h.0 h.1 h.3 in
     omega (arith, ap length h.2, ap length h.4)
@@ -193,10 +193,10 @@ enough next less (suc n) (suc m) ts h k =
     let lt = less ts x (is ∙ ap Some some) in
     ap (with_front x.0) (enough next less n m x.1 (omega arith) (omega arith))
 
-pub many_turn : {A : Type 0} (next : List Token → Option (Option (A × List Token))) → Lessens next → (ts : List Token)
+pub many_next : {A : Type 0} (next : List Token → Option (Option (A × List Token))) → Lessens next → (ts : List Token)
     → many next ts ≡ (next ts >>= λ o. either o (λ x. with_front x.0 (many next x.1)) (Some ([], ts)))
 unfolding many many_in
-many_turn next less ts =
+many_next next less ts =
     let n : 1 + length ts ≡ suc (length ts) = omega arith in
     ap (λ (k : ℕ). many_in next k ts) n
     ∙ bind_same (next ts) _ _ λ o is. either_same o _ _ _ λ x some.

@@ -8,7 +8,7 @@ use Rattle.std.specs.List.{prefix_len}
 use Rattle.yq_scalar.specs.Text.{front}
 use Rattle.yq_scalar.proofs.Bools.{at_byte}
 use Rattle.yq_program.specs.declared.token.Form.TheVariants as form
-use Rattle.yq_program.specs.Tokens.{Token, string, number, step, symbol, foreign, begins_name, is_name_byte, is_word, is_mark, is_mark_before, is_foreign, Character, spelling, AreCharacters, interpolates, said, IsString, IsName, begins_fraction, IsUnsigned, IsNumber, goes_on, begins_equals, IsMark, IsForeign, IsToken}
+use Rattle.yq_program.specs.Tokens.{Token, string, number, step, symbol, foreign, begins_name, is_name_byte, is_word, is_mark, is_mark_before, is_foreign, Character, spelling, AreCharacters, interpolates, said, IsString, IsBareName, begins_fraction, IsUnsigned, IsNumberToken, goes_on, begins_equals, IsMark, IsForeign, IsToken}
 use Rattle.yq_program.specs.Lexing.{closing, quoted, fraction_len, number_len, named, marked, measure, content, token_of}
 use Rattle.yq_program.proofs.RunLaws.{closing_again, content_again, form_if, run_len}
 use Rattle.yq_program.proofs.TokenTakes.{Measures}
@@ -21,8 +21,8 @@ string_again cs rest are =
     let n : suc (length (spelling cs)) ≡ length (spelling cs ++ 34 ∷ []) = omega (arith, length-append (spelling cs) (34 ∷ [])) in
     ap closing (append_assoc (spelling cs) (34 ∷ []) rest) ∙ (closing_again cs rest are ∙ ap (λ (k : ℕ). Some (interpolates cs, k)) n)
 
-pub made : (make : List ℕ → Token) (cs : List Character) → AreCharacters cs → (t : Token) → t ≡ cond (interpolates cs) foreign (make (said cs)) → cond (interpolates cs) foreign (make (content (spelling cs ++ 34 ∷ []))) ≡ t
-made make cs are t is = rw (content_again cs [] are) (sym is)
+pub make_again : (make : List ℕ → Token) (cs : List Character) → AreCharacters cs → (t : Token) → t ≡ cond (interpolates cs) foreign (make (said cs)) → cond (interpolates cs) foreign (make (content (spelling cs ++ 34 ∷ []))) ≡ t
+make_again make cs are t is = rw (content_again cs [] are) (sym is)
 
 pub text_again : (t : Token) (piece rest : List ℕ) → IsString string t piece → Measures t piece rest
 unfolding measure
@@ -31,7 +31,7 @@ text_again t piece rest (cs, are, spelled_is, is) =
     let n : 1 + length q ≡ suc (length q) = omega arith in
     let m : measure ((34 ∷ q) ++ rest) ≡ Some (cond (interpolates cs) form.Foreign form.Text, length (34 ∷ q)) = rw (string_again cs rest are, n) refl in
     subst (λ (p : List ℕ). Measures t p rest) (sym spelled_is)
-    (cond (interpolates cs) form.Foreign form.Text, m, form_if (interpolates cs) form.Text (34 ∷ q) ∙ made string cs are t is)
+    (cond (interpolates cs) form.Foreign form.Text, m, form_if (interpolates cs) form.Text (34 ∷ q) ∙ make_again string cs are t is)
 
 pub quoted_again : (t : Token) (quoted rest : List ℕ) → IsString step t quoted → Measures t (46 ∷ quoted) rest
 unfolding measure
@@ -40,7 +40,7 @@ quoted_again t quoted rest (cs, are, spelled_is, is) =
     let n : 2 + length q ≡ suc (suc (length q)) = omega arith in
     let m : measure ((46 ∷ (34 ∷ q)) ++ rest) ≡ Some (cond (interpolates cs) form.Foreign form.Quoted, length (46 ∷ (34 ∷ q))) = rw (string_again cs rest are, n) refl in
     subst (λ (p : List ℕ). Measures t (46 ∷ p) rest) (sym spelled_is)
-    (cond (interpolates cs) form.Foreign form.Quoted, m, form_if (interpolates cs) form.Quoted (46 ∷ (34 ∷ q)) ∙ made step cs are t is)
+    (cond (interpolates cs) form.Foreign form.Quoted, m, form_if (interpolates cs) form.Quoted (46 ∷ (34 ∷ q)) ∙ make_again step cs are t is)
 
 -- a byte that begins a name begins no other token
 pub name_first : (b : ℕ) → begins_name b ≡ true → ((b == 34) ≡ false) × ((b == 46) ≡ false) × ((b == 45) ≡ false) × (is_ascii_digit b ≡ false)
@@ -49,7 +49,7 @@ name_first b h = (at_byte begins_name b 34 h refl, at_byte begins_name b 46 h re
 pub digit_first : (b : ℕ) → is_ascii_digit b ≡ true → ((b == 34) ≡ false) × ((b == 46) ≡ false) × ((b == 45) ≡ false)
 digit_first b h = (at_byte is_ascii_digit b 34 h refl, at_byte is_ascii_digit b 46 h refl, at_byte is_ascii_digit b 45 h refl)
 
-pub step_again : (name rest : List ℕ) → IsName name rest → Measures (step name) (46 ∷ name) rest
+pub step_again : (name rest : List ℕ) → IsBareName name rest → Measures (step name) (46 ∷ name) rest
 unfolding measure
 step_again [] rest h = cc
 step_again (b ∷ w) rest h =
@@ -67,7 +67,7 @@ pub digit_first_in : (b : ℕ) (bs : List ℕ) → is_ascii_digit b ≡ true →
 unfolding measure
 digit_first_in b bs h = let no = digit_first b h in rw (no.0, no.1, no.2, h) refl
 
-pub word_again : (t : Token) (piece rest : List ℕ) → IsName piece rest → t ≡ cond (is_word piece) (symbol piece) foreign → Measures t piece rest
+pub word_again : (t : Token) (piece rest : List ℕ) → IsBareName piece rest → t ≡ cond (is_word piece) (symbol piece) foreign → Measures t piece rest
 unfolding measure
 word_again t [] rest h is = cc
 word_again t (b ∷ w) rest h is =
@@ -107,7 +107,7 @@ unsigned_again piece rest (inr (digits, fraction, is, ds, fs)) =
     front_more [] rest h = cc
     front_more (b ∷ w) rest h = h
 
-pub number_again : (piece rest : List ℕ) → IsNumber piece rest → Measures (number piece) piece rest
+pub number_again : (piece rest : List ℕ) → IsNumberToken piece rest → Measures (number piece) piece rest
 unfolding measure
 number_again [] rest (inl h) = cc (unsigned_again [] rest h).1
 number_again (b ∷ w) rest (inl h) =

@@ -10,7 +10,7 @@ use Rattle.yq_scalar.specs.Text.{front}
 use Rattle.yq_scalar.proofs.Bools.{chosen, guard_then}
 use Rattle.yq_program.specs.declared.token.Form.{Form}
 use Rattle.yq_program.specs.declared.token.Form.TheVariants as form
-use Rattle.yq_program.specs.Tokens.{Token, string, step, symbol, foreign, begins_name, is_name_byte, is_word, is_mark, is_mark_before, is_foreign, IsName, AreDigits, begins_fraction, IsUnsigned, goes_on, begins_equals, IsToken}
+use Rattle.yq_program.specs.Tokens.{Token, string, step, symbol, foreign, begins_name, is_name_byte, is_word, is_mark, is_mark_before, is_foreign, IsBareName, AreDigits, begins_fraction, IsUnsigned, goes_on, begins_equals, IsToken}
 use Rattle.yq_program.specs.Lexing.{closing, fraction_len, number_len, dotted, marked, worded, measure, token_of}
 use Rattle.yq_program.proofs.Lexing.{begins_is_name}
 use Rattle.yq_program.proofs.RunLaws.{form_if, quoted_is, run_front, run_passes, run_stops, string_in}
@@ -31,7 +31,7 @@ quoted_in bs x h =
     let n : 2 + x.1 ≡ suc (suc x.1) = omega arith in
     rw n (inr (inl (34 ∷ take x.1 bs, refl, string_in step x bs _ h (form_if x.0 form.Quoted (46 ∷ (34 ∷ take x.1 bs))))))
 
-pub name_in : (b : ℕ) (bs : List ℕ) → begins_name b ≡ true → IsName (take (prefix_len is_name_byte (b ∷ bs)) (b ∷ bs)) (drop (prefix_len is_name_byte (b ∷ bs)) (b ∷ bs))
+pub name_in : (b : ℕ) (bs : List ℕ) → begins_name b ≡ true → IsBareName (take (prefix_len is_name_byte (b ∷ bs)) (b ∷ bs)) (drop (prefix_len is_name_byte (b ∷ bs)) (b ∷ bs))
 name_in b bs h = (run_front is_name_byte begins_name b bs h (begins_is_name b h), run_passes is_name_byte (b ∷ bs), run_stops is_name_byte (b ∷ bs))
 
 pub digits_in : (b : ℕ) (bs : List ℕ) → is_ascii_digit b ≡ true → AreDigits (take (prefix_len is_ascii_digit (b ∷ bs)) (b ∷ bs)) (drop (prefix_len is_ascii_digit (b ∷ bs)) (b ∷ bs))

@@ -8,9 +8,9 @@ use Rattle.yq_program.specs.declared.program.CommentPlace.TheVariants as place
 use Rattle.yq_program.specs.Program.{literal, found, Update, assign, delete, comment}
 use Rattle.yq_program.specs.Tokens.{Token, string, symbol}
 use Rattle.yq_program.specs.Lexing.{after}
-use Rattle.yq_program.specs.Grammar.{Mark, AreParted, literal_depth, IsTerm, IsRight, operator_mark, place_word, IsUpdate}
+use Rattle.yq_program.specs.Grammar.{HasSymbol, AreParted, literal_depth, IsTerm, IsRight, operator_mark, place_word, IsUpdate}
 use Rattle.yq_program.specs.Parse.{parted_at, term_at, right_at, operator_at, place_at, action_at, update_at}
-use Rattle.yq_program.proofs.Turns.{term_lessens, update_lessens}
+use Rattle.yq_program.proofs.LoopSteps.{term_lessens, update_lessens}
 use Rattle.yq_program.proofs.FormsAgain.{Again, parted_again, Ends}
 use Rattle.yq_program.proofs.LiteralAgain.{literal_begins, literal_again}
 use Rattle.yq_program.proofs.PipeAgain.{EndsPipe, parenthesized_pipe, left_again, left_begins}
@@ -32,12 +32,12 @@ right_again : Again (right_at literal_depth) IsRight EndsSum
 unfolding right_at
 right_again terms ts rest h f = parted_again (codes "+") (term_at literal_depth) IsTerm Ends term_lessens term_again (λ r. (refl, refl, refl)) terms ts rest h f.0 f.1
 
-pub operator_again : (op : Operator) (ts rest : List Token) → Mark (operator_mark op) ts rest → (operator_at ts ≡ Some (op, rest)) × EndsPipe ts
+pub operator_again : (op : Operator) (ts rest : List Token) → HasSymbol (operator_mark op) ts rest → (operator_at ts ≡ Some (op, rest)) × EndsPipe ts
 operator_again operator.Set ts rest h = (rw h refl, ((rw h refl, rw h refl, rw h refl), rw h refl))
 operator_again operator.Modify ts rest h = (rw h refl, ((rw h refl, rw h refl, rw h refl), rw h refl))
 operator_again operator.Add ts rest h = (rw h refl, ((rw h refl, rw h refl, rw h refl), rw h refl))
 
-pub place_again : (p : CommentPlace) (ts rest : List Token) → Mark (place_word p) ts rest → (operator_at ts ≡ None) × (place_at ts ≡ Some (p, rest)) × EndsPipe ts
+pub place_again : (p : CommentPlace) (ts rest : List Token) → HasSymbol (place_word p) ts rest → (operator_at ts ≡ None) × (place_at ts ≡ Some (p, rest)) × EndsPipe ts
 place_again place.Line ts rest h = (rw h refl, rw h refl, ((rw h refl, rw h refl, rw h refl), rw h refl))
 place_again place.Head ts rest h = (rw h refl, rw h refl, ((rw h refl, rw h refl, rw h refl), rw h refl))
 

@@ -9,7 +9,7 @@ use Rattle.yq_program.specs.declared.program.CommentPlace.{CommentPlace}
 use Rattle.yq_program.specs.Program.{Stage, literal, found, Update, assign, delete, comment, Program}
 use Rattle.yq_program.specs.Tokens.{Token, string, symbol}
 use Rattle.yq_program.specs.Lexing.{after, taken, as_string, is_end}
-use Rattle.yq_program.specs.Grammar.{Form, Mark, AreParted, InParentheses, IsPipe, IsLeft, literal_depth, IsTerm, IsRight, operator_mark, place_word, IsUpdate, IsProgram}
+use Rattle.yq_program.specs.Grammar.{Production, HasSymbol, AreParted, InParentheses, IsPipe, IsLeft, literal_depth, IsTerm, IsRight, operator_mark, place_word, IsUpdate, IsProgram}
 use Rattle.yq_program.specs.Parse.{Parse, parted_at, parenthesized_at, literal_at, pipe_at, left_at, begins_left, term_at, right_at, operator_at, place_at, action_at, update_at, whole, updates_at, program_at}
 use Rattle.yq_program.proofs.Readers.{either_cases, after_takes, string_takes, Takes, Shortens, same_form, parted_takes, behind_shortens, parted_shortens, between_shortens}
 use Rattle.yq_program.proofs.LiteralTakes.{literal_takes, literal_shortens}
@@ -37,23 +37,23 @@ right_takes = parted_takes (codes "+") (term_at literal_depth) IsTerm term_takes
 pub right_shortens : Shortens IsRight
 right_shortens = parted_shortens (codes "+") IsTerm term_shortens
 
-operator_takes : (ts : List Token) (x : Operator × List Token) → operator_at ts ≡ Some x → Mark (operator_mark x.0) ts x.1
+operator_takes : (ts : List Token) (x : Operator × List Token) → operator_at ts ≡ Some x → HasSymbol (operator_mark x.0) ts x.1
 operator_takes ts x h = elim (either_cases (after (codes "=") ts) h) [
-  | inl set ↦ same_form (λ o. Mark (operator_mark o)) ts set.2 (after_takes (codes "=") ts set.0 set.1)
+  | inl set ↦ same_form (λ o. HasSymbol (operator_mark o)) ts set.2 (after_takes (codes "=") ts set.0 set.1)
   | inr on ↦ elim (either_cases (after (codes "|=") ts) on.1) [
-    | inl modify ↦ same_form (λ o. Mark (operator_mark o)) ts modify.2 (after_takes (codes "|=") ts modify.0 modify.1)
+    | inl modify ↦ same_form (λ o. HasSymbol (operator_mark o)) ts modify.2 (after_takes (codes "|=") ts modify.0 modify.1)
     | inr other ↦
         let r = bind_some (after (codes "+=") ts) other.1 in
-        same_form (λ o. Mark (operator_mark o)) ts r.2 (after_takes (codes "+=") ts r.0 r.1)
+        same_form (λ o. HasSymbol (operator_mark o)) ts r.2 (after_takes (codes "+=") ts r.0 r.1)
   ]
 ]
 
-place_takes : (ts : List Token) (x : CommentPlace × List Token) → place_at ts ≡ Some x → Mark (place_word x.0) ts x.1
+place_takes : (ts : List Token) (x : CommentPlace × List Token) → place_at ts ≡ Some x → HasSymbol (place_word x.0) ts x.1
 place_takes ts x h = elim (either_cases (after (codes "line_comment") ts) h) [
-  | inl line ↦ same_form (λ p. Mark (place_word p)) ts line.2 (after_takes (codes "line_comment") ts line.0 line.1)
+  | inl line ↦ same_form (λ p. HasSymbol (place_word p)) ts line.2 (after_takes (codes "line_comment") ts line.0 line.1)
   | inr on ↦
       let r = bind_some (after (codes "head_comment") ts) on.1 in
-      same_form (λ p. Mark (place_word p)) ts r.2 (after_takes (codes "head_comment") ts r.0 r.1)
+      same_form (λ p. HasSymbol (place_word p)) ts r.2 (after_takes (codes "head_comment") ts r.0 r.1)
 ]
 
 action_takes : (left : List Stage) (all ts : List Token) (x : Update × List Token) → IsLeft left all ts → action_at literal_depth left ts ≡ Some x → IsUpdate x.0 all x.1
@@ -101,7 +101,7 @@ whole_is x y h = go x.1 refl h
     go [] e k = (same_Some _ _ k, e)
     go (t ∷ ts) e k = cc
 
-pub whole_takes : {A : Type 0} (at : Parse A) (Is : Form A) → Takes at Is → (ts : List Token) (x : A) → (at ts >>= whole) ≡ Some x → Is x ts []
+pub whole_takes : {A : Type 0} (at : Parse A) (Is : Production A) → Takes at Is → (ts : List Token) (x : A) → (at ts >>= whole) ≡ Some x → Is x ts []
 whole_takes {A} at Is takes ts x h =
     let y = bind_some (at ts) h in
     let w = whole_is y.0 x y.2 in

@@ -1,10 +1,10 @@
-pub mod Given
+pub mod ReadAnswers
 pub mod Grammar
 pub mod Lexing
 pub mod Outcome
 pub mod Parse
 pub mod Program
-pub mod Seen
+pub mod TokenView
 pub mod Tokens
 pub use Rattle.yq_inline.specs.Values
 pub mod View

@@ -95,13 +95,13 @@ Derives text p = (ts : List Token) × AreTokens ts text × ¬ HasForeign ts × �
 
 -- When each refusal comes, the first one in this order: a text without tokens; a token of other expressions or
 -- too many open brackets; no derivation; a pattern. Want of memory says nothing (own).
-abbrev pub IsRefused : ParseError → List ℕ → Type 0
-IsRefused error.Syntax text =
+abbrev pub ExprRefused : ParseError → List ℕ → Type 0
+ExprRefused error.Syntax text =
     ((ts : List Token) → ¬ AreTokens ts text)
     ⊎ ((ts : List Token) × AreTokens ts text × ¬ HasForeign ts × ¬ IsTooDeep ts × ((p : Program) → ¬ IsProgram p ts))
-IsRefused error.NotInProfile text = (ts : List Token) × AreTokens ts text × (HasForeign ts ⊎ IsTooDeep ts)
-IsRefused error.Pattern text = (p : Program) × Derives text p × (has_pattern p ≡ true)
-IsRefused error.Memory text = Unit {0}
+ExprRefused error.NotInProfile text = (ts : List Token) × AreTokens ts text × (HasForeign ts ⊎ IsTooDeep ts)
+ExprRefused error.Pattern text = (p : Program) × Derives text p × (has_pattern p ≡ true)
+ExprRefused error.Memory text = Unit {0}
 
 -- what comes of a text: a program, or a refusal (own)
 pub data Outcome : Type 0 where
@@ -112,7 +112,7 @@ pub data Outcome : Type 0 where
 -- it has. It comes to no want of memory (own).
 abbrev pub ComesTo : List ℕ → Outcome → Type 0
 ComesTo text (parsed p) = Derives text p × (has_pattern p ≡ false)
-ComesTo text (refused e) = (e ≢ error.Memory) × IsRefused e text
+ComesTo text (refused e) = (e ≢ error.Memory) × ExprRefused e text
 
 -- An error is that refusal; want of memory says nothing (own).
 abbrev pub AnswersError : ParseError → Outcome → Type 0

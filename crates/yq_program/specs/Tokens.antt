@@ -119,8 +119,8 @@ IsString make t piece =
     (cs : List Character) × AreCharacters cs × (piece ≡ 34 ∷ (spelling cs ++ 34 ∷ [])) × (t ≡ (if interpolates cs then foreign else make (said cs)))
 
 -- a name, behind which it doesn't go on (own)
-abbrev pub IsName : List ℕ → List ℕ → Type 0
-IsName name rest = (front begins_name name ≡ true) × (list_all is_name_byte name ≡ true) × (unless is_name_byte rest ≡ true)
+abbrev pub IsBareName : List ℕ → List ℕ → Type 0
+IsBareName name rest = (front begins_name name ≡ true) × (list_all is_name_byte name ≡ true) × (unless is_name_byte rest ≡ true)
 
 -- digits, one or more, behind which they don't go on (own)
 abbrev pub AreDigits : List ℕ → List ℕ → Type 0
@@ -138,8 +138,8 @@ IsUnsigned piece rest =
     ⊎ ((digits fraction : List ℕ) × (piece ≡ digits ++ 46 ∷ fraction) × AreDigits digits (46 ∷ (fraction ++ rest)) × AreDigits fraction rest)
 
 -- a number: a minus sign or none, and then such a number (own)
-abbrev pub IsNumber : List ℕ → List ℕ → Type 0
-IsNumber piece rest = IsUnsigned piece rest ⊎ ((number : List ℕ) × (piece ≡ 45 ∷ number) × IsUnsigned number rest)
+abbrev pub IsNumberToken : List ℕ → List ℕ → Type 0
+IsNumberToken piece rest = IsUnsigned piece rest ⊎ ((number : List ℕ) × (piece ≡ 45 ∷ number) × IsUnsigned number rest)
 
 -- whether a step or `..` begins behind a dot before this (own)
 abbrev pub goes_on : List ℕ → Bool
@@ -168,9 +168,9 @@ abbrev pub IsToken : Token → List ℕ → List ℕ → Type 0
 IsToken t piece rest =
     IsString string t piece
     ⊎ ((quoted : List ℕ) × (piece ≡ 46 ∷ quoted) × IsString step t quoted)
-    ⊎ ((name : List ℕ) × (piece ≡ 46 ∷ name) × IsName name rest × (t ≡ step name))
-    ⊎ (IsNumber piece rest × (t ≡ number piece))
-    ⊎ (IsName piece rest × (t ≡ (if is_word piece then symbol piece else foreign)))
+    ⊎ ((name : List ℕ) × (piece ≡ 46 ∷ name) × IsBareName name rest × (t ≡ step name))
+    ⊎ (IsNumberToken piece rest × (t ≡ number piece))
+    ⊎ (IsBareName piece rest × (t ≡ (if is_word piece then symbol piece else foreign)))
     ⊎ (IsMark piece rest × (t ≡ symbol piece))
     ⊎ (IsForeign piece rest × (t ≡ foreign))
 

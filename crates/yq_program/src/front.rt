@@ -1,8 +1,8 @@
 //! What is in front of a text, token by token.
 ghost use Rattle.std.specs.Prelude.{◌≡◌, ◌<◌, ℕ, List, length, is_some, option_map, string_bytes, IfSome, IfOk};
-ghost use Rattle.yq_program.specs.Given.{Gives, Finds, Reads, Shortens, IsBefore, with_tokens};
+ghost use Rattle.yq_program.specs.ReadAnswers.{GivesForm, Succeeds, ReadsForm, Shortens, IsShorter, with_tokens};
 ghost use Rattle.yq_program.specs.Lexing as spec;
-ghost use Rattle.yq_program.specs.Seen.{seen};
+ghost use Rattle.yq_program.specs.TokenView.{token_view};
 ghost use Rattle.yq_program.specs.Tokens.{Token};
 
 use crate::error::ParseError;
@@ -38,7 +38,7 @@ pub(crate) fn after<'t>(text: &'t str, symbol: &str) -> Option<&'t str>
 
 /// What follows the mark or word, which has to be in front.
 pub(crate) fn expect<'t>(text: &'t str, symbol: &str) -> Result<&'t str, ParseError>
-    ensures value { Gives (λ r. spec.tokens r.now) result
+    ensures value { GivesForm (λ r. spec.tokens r.now) result
         (spec.after symbol.now (spec.tokens text.now)) }
     ensures shorter { IfOk result (λ r. length r.now < length text.now) }
 {
@@ -53,7 +53,7 @@ pub(crate) fn expect<'t>(text: &'t str, symbol: &str) -> Result<&'t str, ParseEr
 pub(crate) fn number(text: &str) -> Option<(&str, &str)>
     ensures value { option_map (with_tokens (λ s. s.now)) result ≡
         spec.taken spec.as_number (spec.tokens text.now) }
-    ensures shorter { IsBefore text.now result }
+    ensures shorter { IsShorter text.now result }
 {
     match split_token(text) {
         Some((token, rest)) => match token.number() {
@@ -67,7 +67,7 @@ pub(crate) fn number(text: &str) -> Option<(&str, &str)>
 /// The string in front, which has to be there, and what follows it.
 #[tactic(auto, using(crate::proofs::Lexing::tokens_next))]
 pub(crate) fn string(alloc: Global, text: &str) -> Result<(String, &str), ParseError>
-    ensures value { Reads string_bytes result (spec.taken spec.as_string (spec.tokens text.now)) }
+    ensures value { ReadsForm string_bytes result (spec.taken spec.as_string (spec.tokens text.now)) }
     ensures shorter { Shortens text.now result }
 {
     match split_token(text) {
@@ -82,9 +82,9 @@ pub(crate) fn string(alloc: Global, text: &str) -> Result<(String, &str), ParseE
 /// The key of the named step in front and what follows it, if one is there.
 #[tactic(auto, using(crate::proofs::Lexing::tokens_next))]
 pub(crate) fn key(alloc: Global, text: &str) -> Result<Option<(String, &str)>, ParseError>
-    ensures value { Finds (option_map (with_tokens string_bytes)) result
+    ensures value { Succeeds (option_map (with_tokens string_bytes)) result
         (spec.taken spec.as_step (spec.tokens text.now)) }
-    ensures shorter { IfOk result (λ o. IsBefore text.now o) }
+    ensures shorter { IfOk result (λ o. IsShorter text.now o) }
 {
     match split_token(text) {
         Some((token, rest)) => match token.key(alloc)? {

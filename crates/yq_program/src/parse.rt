@@ -1,9 +1,9 @@
 //! Texts are parsed into programs.
 ghost use Rattle.std.specs.Prelude.{◌≡◌, false, map, IfOk, IfErr};
-ghost use Rattle.yq_program.specs.Given.{Gives};
+ghost use Rattle.yq_program.specs.ReadAnswers.{GivesForm};
 ghost use Rattle.yq_program.specs.Grammar.{literal_depth};
 ghost use Rattle.yq_program.specs.Lexing.{tokens};
-ghost use Rattle.yq_program.specs.Outcome.{Answers, Derives, IsRefused, has_pattern, parsed};
+ghost use Rattle.yq_program.specs.Outcome.{Answers, Derives, ExprRefused, has_pattern, parsed};
 ghost use Rattle.yq_program.specs.Parse as spec;
 ghost use Rattle.yq_program.specs.Program.{Program as Outline};
 ghost use Rattle.yq_program.specs.View.{stage_of, update_of, program_of};
@@ -29,7 +29,7 @@ pub fn parse_expr(alloc: Global, text: &str) -> Result<Program, ParseError>
         (has_pattern (program_of p) ≡ false)) }
     ensures only { (p : Outline) → Derives text.now p → has_pattern p ≡ false →
         Answers program_of result (parsed p) }
-    ensures refused { IfErr result (λ e. IsRefused e text.now) }
+    ensures refused { IfErr result (λ e. ExprRefused e text.now) }
 {
     parse(alloc, text)
 }
@@ -59,7 +59,7 @@ fn syntax(alloc: Global, text: &str) -> Result<Syntax, ParseError>
 
 /// A pipe, and no more.
 fn read(alloc: Global, text: &str) -> Result<Vec<Stage>, ParseError>
-    ensures { Gives (λ v. map stage_of v.items) result (spec.all_of spec.pipe_at (tokens text.now)) }
+    ensures { GivesForm (λ v. map stage_of v.items) result (spec.all_of spec.pipe_at (tokens text.now)) }
 {
     let (stages, rest) = pipe::pipe(alloc, text)?;
     if is_end(rest) {
@@ -72,7 +72,7 @@ fn read(alloc: Global, text: &str) -> Result<Vec<Stage>, ParseError>
 /// Updates, and no more.
 #[tactic(auto, unfolding(crate::specs::Parse::updates_at))]
 fn updates(alloc: Global, text: &str) -> Result<Syntax, ParseError>
-    ensures { Gives program_of result (spec.updates_at literal_depth (tokens text.now)) }
+    ensures { GivesForm program_of result (spec.updates_at literal_depth (tokens text.now)) }
 {
     let (updates, rest) = update::updates(alloc, text)?;
     if is_end(rest) {
@@ -85,7 +85,7 @@ fn updates(alloc: Global, text: &str) -> Result<Syntax, ParseError>
 /// A program: a pipe if the text is one, and else updates.
 #[tactic(auto, unfolding(crate::specs::Parse::program_at))]
 fn program(alloc: Global, text: &str) -> Result<Syntax, ParseError>
-    ensures { Gives program_of result (spec.program_at literal_depth (tokens text.now)) }
+    ensures { GivesForm program_of result (spec.program_at literal_depth (tokens text.now)) }
 {
     match read(alloc, text) {
         Ok(stages) => Ok(Syntax::Read(stages)),

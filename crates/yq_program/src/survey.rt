@@ -1,10 +1,10 @@
 //! What is told of a text before it is parsed.
 ghost use Rattle.std.specs.Prelude.{◌≡◌, ◌+◌, ◌^◌, ◌<◌, false};
-ghost use Rattle.yq_program.specs.Given.{Gives};
+ghost use Rattle.yq_program.specs.ReadAnswers.{GivesForm};
 ghost use Rattle.yq_program.specs.Lexing.{tokens};
 ghost use Rattle.yq_program.specs.Outcome as grammar;
 ghost use Rattle.yq_program.specs.Parse as spec;
-ghost use Rattle.yq_program.specs.Seen.{seen};
+ghost use Rattle.yq_program.specs.TokenView.{token_view};
 
 use crate::error::ParseError;
 use crate::token::{Token, split_token};
@@ -13,13 +13,13 @@ use crate::token::{Token, split_token};
 const MAX_OPEN: usize = 64;
 
 fn is_opening(token: Token<'_>) -> bool
-    ensures { result ≡ grammar.is_opening (seen token.entry) }
+    ensures { result ≡ grammar.is_opening (token_view token.entry) }
 {
     token.is_symbol("[") || token.is_symbol("{")
 }
 
 fn is_closing(token: Token<'_>) -> bool
-    ensures { result ≡ grammar.is_closing (seen token.entry) }
+    ensures { result ≡ grammar.is_closing (token_view token.entry) }
 {
     token.is_symbol("]") || token.is_symbol("}")
 }
@@ -34,7 +34,7 @@ fn counted(found: bool, n: usize) -> usize
 /// Whether the text has a token that only other expressions have, or too many open brackets.
 #[tactic(auto, using(crate::proofs::Lexing::tokens_next), unfolding(crate::specs::Parse::surveyed))]
 pub(crate) fn survey(text: &str) -> Result<bool, ParseError>
-    ensures { Gives (λ b. b) result (spec.surveyed false 0 0 (tokens text.now)) }
+    ensures { GivesForm (λ b. b) result (spec.surveyed false 0 0 (tokens text.now)) }
 {
     let mut other = false;
     let mut opened = 0;

@@ -3,7 +3,7 @@ ghost use Rattle.std.specs.List.{prefix_len};
 ghost use Rattle.std.specs.Prelude.{◌≡◌, ◌<◌, ◌≤◌, length, is_some, option_map, string_bytes, IfSome, IfOk, MatchOption};
 ghost use Rattle.yq_program.specs.Lexing as spec;
 ghost use Rattle.yq_program.specs.Parse as parse;
-ghost use Rattle.yq_program.specs.Seen.{seen};
+ghost use Rattle.yq_program.specs.TokenView.{token_view};
 ghost use Rattle.yq_program.specs.Tokens as grammar;
 ghost use Rattle.yq_program.specs.Tokens.{is_blank};
 
@@ -63,7 +63,7 @@ fn past_blank(text: &str) -> &str
 /// The token in front and what follows it, if the text doesn't end before.
 #[tactic(auto, using(crate::proofs::Lexing::boundary_token, crate::proofs::Lexing::token_some))]
 pub(crate) fn split_token(text: &str) -> Option<(Token<'_>, &str)>
-    ensures value { option_map (λ x. (seen x.0, x.1.now)) result ≡ spec.next text.now }
+    ensures value { option_map (λ x. (token_view x.0, x.1.now)) result ≡ spec.next text.now }
     ensures shorter { IfSome result (λ x. length x.1.now < length text.now) }
 {
     let text = past_blank(text);
@@ -88,7 +88,7 @@ pub(crate) fn split_token(text: &str) -> Option<(Token<'_>, &str)>
 impl<'t> Token<'t> {
     /// Whether it is the mark or the word.
     pub(crate) fn is_symbol(self, symbol: &str) -> bool
-        ensures { result ≡ grammar.is_symbol symbol.now (seen self.entry) }
+        ensures { result ≡ grammar.is_symbol symbol.now (token_view self.entry) }
     {
         match self.form {
             Form::Symbol => self.piece == symbol,
@@ -99,21 +99,21 @@ impl<'t> Token<'t> {
 
     /// Whether no token begins there.
     pub(crate) fn is_unread(self) -> bool
-        ensures { result ≡ parse.is_unread (seen self.entry) }
+        ensures { result ≡ parse.is_unread (token_view self.entry) }
     {
         matches!(self.form, Form::Unread)
     }
 
     /// Whether only other expressions have it.
     pub(crate) fn is_foreign(self) -> bool
-        ensures { result ≡ parse.is_foreign_token (seen self.entry) }
+        ensures { result ≡ parse.is_foreign_token (token_view self.entry) }
     {
         matches!(self.form, Form::Foreign)
     }
 
     /// The number, as it is written.
     pub(crate) fn number(self) -> Option<&'t str>
-        ensures { option_map (λ s. s.now) result ≡ spec.as_number (seen self.entry) }
+        ensures { option_map (λ s. s.now) result ≡ spec.as_number (token_view self.entry) }
     {
         match self.form {
             Form::Number => Some(self.piece),
@@ -124,7 +124,7 @@ impl<'t> Token<'t> {
 
     /// The content of a string.
     pub(crate) fn string(self, alloc: Global) -> Result<Option<String>, AllocError>
-        ensures { IfOk result (λ k. option_map string_bytes k ≡ spec.as_string (seen self.entry)) }
+        ensures { IfOk result (λ k. option_map string_bytes k ≡ spec.as_string (token_view self.entry)) }
     {
         match self.form {
             Form::Text => {
@@ -142,7 +142,7 @@ impl<'t> Token<'t> {
 
     /// Whether it is a named step.
     pub(crate) fn is_step(self) -> bool
-        ensures { result ≡ is_some (spec.as_step (seen self.entry)) }
+        ensures { result ≡ is_some (spec.as_step (token_view self.entry)) }
     {
         match self.form {
             Form::Name | Form::Quoted => true,
@@ -152,7 +152,7 @@ impl<'t> Token<'t> {
 
     /// The key of a step.
     pub(crate) fn key(self, alloc: Global) -> Result<Option<String>, AllocError>
-        ensures { IfOk result (λ k. option_map string_bytes k ≡ spec.as_step (seen self.entry)) }
+        ensures { IfOk result (λ k. option_map string_bytes k ≡ spec.as_step (token_view self.entry)) }
     {
         match self.form {
             Form::Name => {

@@ -12,13 +12,13 @@ use Rattle.yq_scalar.specs.Text.{is_empty}
 use Rattle.yq_scalar.specs.Tree as tree
 use Rattle.yq_inline.specs.Inline.{depth_limit}
 use Rattle.yq_inline.specs.Nodes.{Node, empty, alias, scalar, coll, anchored, node_text, items_text, IsNode, first_is}
-use Rattle.yq_inline.specs.Scalars.{IsScalar, begins_scalar}
+use Rattle.yq_inline.specs.Scalars.{IsScalarAt, begins_scalar}
 use Rattle.yq_inline.specs.Trees.{collection, items_tree, node_head, tree_of}
 use Rattle.yq_inline.proofs.NodeAgain.{is_anchored, takes_unanchored}
 use Rattle.yq_inline.proofs.PieceLaws.{front_not, scalar_begins}
 use Rattle.yq_lines.specs.LinesReading.{is_free, is_no_alias, may_take}
 use Rattle.yq_lines.specs.Outline.{Mark, Bare, Key, Dash, Line}
-use Rattle.yq_lines.specs.Spots.{is_bare}
+use Rattle.yq_lines.specs.Positions.{is_bare}
 use Rattle.yq_rows.specs.Grammar.{IsContent}
 use Rattle.yq_rows.specs.Rows as rows
 use Rattle.yq_rows.specs.Rows.{Content, Nothing, Inline, Block, Row}
@@ -42,8 +42,8 @@ first_of : (a : List ℕ) (xs : List Line) (l : Line) (ys : List Line) → slice
 first_of a [] l ys e = absurd (cc)
 first_of a (x ∷ xs) l ys e = ap (λ (y : Line). may_take y.mark y.anchor y.head) (same_Some _ _ e)
 
-pub free_told : (t : List ℕ) (xs : List Line) (l : Line) (ys : List Line) → is_empty t ≡ is_none (name_in t) → slice_get xs 0 ≡ Some l → is_free (name_in t) (xs ++ ys) ≡ (is_empty t || may_take l.mark l.anchor l.head)
-free_told t xs l ys named e = go (name_in t) refl
+pub free_agrees : (t : List ℕ) (xs : List Line) (l : Line) (ys : List Line) → is_empty t ≡ is_none (name_in t) → slice_get xs 0 ≡ Some l → is_free (name_in t) (xs ++ ys) ≡ (is_empty t || may_take l.mark l.anchor l.head)
+free_agrees t xs l ys named e = go (name_in t) refl
   where
     go : (o : Option (List ℕ)) → name_in t ≡ o → is_free (name_in t) (xs ++ ys) ≡ (is_empty t || may_take l.mark l.anchor l.head)
     go None is = ap (λ a. is_free a (xs ++ ys)) is ∙ sym (ap (λ b. b || may_take l.mark l.anchor l.head) (named ∙ ap is_none is))
@@ -63,7 +63,7 @@ opens k t = cond_both (eqb k 125) 123 91 (λ b. first_is 42 (b ∷ t) ≡ false)
 not_alias : (k : ℕ) (cs : tree.Children) → is_no_alias (Some (collection k cs)) ≡ true
 not_alias k cs = elim (eqb k 125) as (λ x. is_no_alias (Some (cond x (tree.map None cs) (tree.list None cs))) ≡ true) [ true ↦ refl | false ↦ refl ]
 
-scalar_star : (n : ℤ) (p rest : List ℕ) → IsScalar false (Some (deeper n)) p rest → first_is 42 p ≡ false
+scalar_star : (n : ℤ) (p rest : List ℕ) → IsScalarAt false (Some (deeper n)) p rest → first_is 42 p ≡ false
 scalar_star n [] rest h = refl
 scalar_star n (b ∷ bs) rest h = front_not (begins_scalar false) 42 (λ cs. refl) (b ∷ (bs ++ rest)) (scalar_begins false (Some (deeper n)) (b ∷ bs) rest h)
 
@@ -107,9 +107,9 @@ first_bare : (above : List (List ℕ)) (column : ℕ) (ns : List ℕ) (m : rows.
 first_bare above column [] m c l e bare = (ap (λ (y : Line). y.anchor) (same_Some _ _ e), ap (λ (y : Line). y.head) (same_Some _ _ e))
 first_bare above column (n ∷ ns) m c l e bare = absurd (false≢true (ap (λ (y : Line). is_bare y.mark) (same_Some _ _ e) ∙ sym bare))
 
-pub bare_told : (n : ℤ) (r : Row) (rest : List ℕ) (l : Line) → IsContent n r.content rest → slice_get (row_lines r) 0 ≡ Some l → true ≡ is_bare l.mark →
+pub bare_agrees : (n : ℤ) (r : Row) (rest : List ℕ) (l : Line) → IsContent n r.content rest → slice_get (row_lines r) 0 ≡ Some l → true ≡ is_bare l.mark →
     (is_empty (content_cut r.content).1 && not (first_is 42 (content_cut r.content).3)) ≡ may_take l.mark l.anchor l.head
-bare_told n r rest l valid e bare =
+bare_agrees n r rest l valid e bare =
     let f = first_bare _ r.column r.dashes r.mark r.content l e bare in
     (λ i. anchor_some r.content i && alias_is n r.content rest valid i)
     ∙ ((λ i. is_none (f.0 i) && is_no_alias (f.1 i))

@@ -9,34 +9,34 @@ use Rattle.yq_lines.specs.LinesReading.{lines_are_sound}
 use Rattle.yq_lines.specs.Names.{is_reference, line_names}
 use Rattle.yq_rows.specs.Grammar.{AreParts, IsCut, begins_document, no_rows}
 use Rattle.yq_rows.specs.Rows.{Row, Part, Cut, last, marked}
-use Rattle.yq_rows.specs.View.{Shown, rows_of, shown}
+use Rattle.yq_rows.specs.View.{RowsView, rows_of, rows_view}
 use Rattle.yq_rows.proofs.ScanLaws.{scan_again}
 use Rattle.yq_walk.specs.Lines.{lines_of}
 use Rattle.yq_walk.specs.RowWalk.{HasRows}
-use Rattle.yq_walk.specs.declared.spot.Stretch.{Stretch}
+use Rattle.yq_walk.specs.declared.position.Stretch.{Stretch}
 use Rattle.yq_documents.specs.Documents.{begins_bare, document_parts, has_begin, parts_from, with_part}
-use Rattle.yq_documents.specs.Holding.{Holds, IsPlaced}
+use Rattle.yq_documents.specs.Holding.{Holds, IsLocated}
 use Rattle.yq_documents.specs.Reading.{all_documents, cut_of, cut_or, has_short_root, have_fit_keys, is_document}
 use Rattle.yq_documents.specs.RowReading.{row_fits}
 use Rattle.yq_documents.specs.Stretches.{document_lines, part_rows}
-use Rattle.yq_documents.specs.declared.made.Made.{Made}
+use Rattle.yq_documents.specs.declared.decoded.Decoded.{Decoded}
 use Rattle.yq_documents.specs.declared.read_text.DocumentRows.{DocumentRows}
 use Rattle.yq_documents.proofs.PartRows.{has_part, rows_stand}
-use Rattle.yq_reading.specs.Checking.{IsReady, some_refer}
-use Rattle.yq_reading.specs.Making.{AreMade, IsCutInto}
-use Rattle.yq_reading.specs.Places.{ArePlaced, all_sound, part_is_sound}
-use Rattle.yq_reading.proofs.MadeRows.{each_fits}
-use Rattle.yq_reading.proofs.QuietLaws.{ready_quiet}
+use Rattle.yq_reading.specs.Checking.{IsCheckable, some_refer}
+use Rattle.yq_reading.specs.Decoding.{AreDecoded, IsCutInto}
+use Rattle.yq_reading.specs.Places.{AreLocated, all_sound, part_is_sound}
+use Rattle.yq_reading.proofs.DecodedRows.{each_fits}
+use Rattle.yq_reading.proofs.NoReferenceLaws.{ready_refers_not}
 
 -- the cut of a text that has one
 pub cut_is : (t : List ℕ) (c : Cut) → IsCut t c → cut_of t ≡ c
 unfolding cut_of
 cut_is t c h = ap cut_or (scan_again t c h)
 
-pub cut_into : (t : List ℕ) (s : Shown) (c : Cut) → IsCut t c → s ≡ shown c → IsCutInto t s
+pub cut_into : (t : List ℕ) (s : RowsView) (c : Cut) → IsCut t c → s ≡ rows_view c → IsCutInto t s
 cut_into t s c h rows =
     let e = cut_is t c h in
-    record { cut = subst (IsCut t) (sym e) h; rows = rows ∙ ap shown (sym e) }
+    record { cut = subst (IsCut t) (sym e) h; rows = rows ∙ ap rows_view (sym e) }
 
 -- rows stand in documents alone, so those of all are fit where those of documents are
 abbrev fit_all : List Part → Bool
@@ -88,38 +88,38 @@ all_split t c h =
     ∙ (ap (λ b. b && all_sound (document_parts c)) (fit_parts (begins_bare c || not (has_begin c)) c (opened c h.parts)) ∙ split (document_parts c))
 
 -- a document that is checked
-module _ (t : List ℕ) (s : Shown) (ms : List Made) (ds : List DocumentRows) (k : IsCutInto t s) (m : AreMade t ms) (a : ArePlaced t ds) where
+module _ (t : List ℕ) (s : RowsView) (ms : List Decoded) (ds : List DocumentRows) (k : IsCutInto t s) (m : AreDecoded t ms) (a : AreLocated t ds) where
   module _ (n : ℕ) (d : DocumentRows) (x : Stretch) (p : Part) (there : slice_get ds n ≡ Some d) (at : slice_get (document_parts (cut_of t)) n ≡ Some p) (first : x.first ≡ d.first) (end : x.end ≡ d.end) where
-    placed : IsPlaced t n p d
+    placed : IsLocated t n p d
     placed = a.each n d p there at
 
     pub stand : (h : HasRows s x) × ((h.rows ≡ p.rows) × (h.rows ≡ take (x.end - x.first) (drop x.first (rows_of (cut_of t)))))
     stand = rows_stand t s (cut_of t) n p x k.cut k.rows at (first ∙ placed.first) (end ∙ (placed.end ∙ ap (λ j. j + length p.rows) placed.first))
 
-    abbrev pub ready : IsReady t s ms x
+    abbrev pub ready : IsCheckable t s ms x
     ready = record {
       cut = cut_of t;
       is_cut = k.cut;
       rows = k.rows;
-      shown = record { cut = cut_of t; is = k.rows; size = subst (λ (y : List ℕ). length y ≤ text_limit) k.cut.text k.cut.size };
+      rows_view = record { cut = cut_of t; is = k.rows; size = subst (λ (y : List ℕ). length y ≤ text_limit) k.cut.text k.cut.size };
       document = stand.0;
       there = stand.1.1;
       rise = m.rise;
-      told = m.told;
+      agrees = m.agrees;
     }
 
     pub ready_sound : (has_short_root ready.document.rows && lines_are_sound (lines_of ready.document.rows)) ≡ part_is_sound p
     ready_sound = ap (λ (rs : List Row). has_short_root rs && lines_are_sound (lines_of rs)) stand.1.0
 
-    part_quiet : some_refer ms ≡ false → list_any is_reference (line_names (lines_of p.rows)) ≡ false
-    part_quiet none = ap (λ (rs : List Row). list_any is_reference (line_names (lines_of rs))) (sym stand.1.0) ∙ ready_quiet t s ms x ready none
+    part_refers_not : some_refer ms ≡ false → list_any is_reference (line_names (lines_of p.rows)) ≡ false
+    part_refers_not none = ap (λ (rs : List Row). list_any is_reference (line_names (lines_of rs))) (sym stand.1.0) ∙ ready_refers_not t s ms x ready none
 
   -- the document at an index
   module _ (n : ℕ) (less : n < length ds) (e : DocumentRows) where
     pub part_at : (p : Part) × (slice_get (document_parts (cut_of t)) n ≡ Some p)
     part_at = has_part (document_parts (cut_of t)) n (omega (arith, less, a.count))
 
-    abbrev pub ready_at : IsReady t s ms (record { first = (get_or ds n e).first; end = (get_or ds n e).end })
+    abbrev pub ready_at : IsCheckable t s ms (record { first = (get_or ds n e).first; end = (get_or ds n e).end })
     ready_at = ready n (get_or ds n e) (record { first = (get_or ds n e).first; end = (get_or ds n e).end }) part_at.0 (slice_get-get_or ds n e less) part_at.1 refl refl
 
     pub sound_at : (has_short_root ready_at.document.rows && lines_are_sound (lines_of ready_at.document.rows)) ≡ part_is_sound part_at.0
@@ -131,14 +131,14 @@ module _ (t : List ℕ) (s : Shown) (ms : List Made) (ds : List DocumentRows) (k
   has_document (x ∷ xs) zero h = (x, refl)
   has_document (x ∷ xs) (suc n) h = has_document xs n (omega (arith, h))
 
-  quiet : some_refer ms ≡ false → (n : ℕ) → list_any is_reference (line_names (document_lines n t)) ≡ false
-  quiet none n = go (slice_get (document_parts (cut_of t)) n) refl
+  alias_free : some_refer ms ≡ false → (n : ℕ) → list_any is_reference (line_names (document_lines n t)) ≡ false
+  alias_free none n = go (slice_get (document_parts (cut_of t)) n) refl
     where
       go : (o : Option Part) → slice_get (document_parts (cut_of t)) n ≡ o → list_any is_reference (line_names (lines_of (part_rows o))) ≡ false
       go None e = refl
       go (Some p) e =
           let d = has_document ds n (omega (arith, a.count, slice_get_within (document_parts (cut_of t)) n p e)) in
-          part_quiet n d.0 (record { first = d.0.first; end = d.0.end }) p d.1 e refl refl none
+          part_refers_not n d.0 (record { first = d.0.first; end = d.0.end }) p d.1 e refl refl none
 
   -- what is kept of the text
   pub held : (refers : Bool) → refers ≡ some_refer ms → all_documents (cut_of t) ≡ true → Holds t s ds ms refers
@@ -149,6 +149,6 @@ module _ (t : List ℕ) (s : Shown) (ms : List Made) (ds : List DocumentRows) (k
     count = a.count;
     places = a.each;
     rise = m.rise;
-    told = m.told;
-    quiet = λ e. quiet (sym flag ∙ e);
+    agrees = m.agrees;
+    alias_free = λ e. alias_free (sym flag ∙ e);
   }

@@ -12,7 +12,7 @@ use Rattle.yq_scalar.specs.Plain.{holds_break}
 use Rattle.yq_scalar.specs.Text.{is_empty, is_feed}
 use Rattle.yq_inline.specs.Inline.{depth_limit}
 use Rattle.yq_inline.specs.Nodes.{Node, empty, alias, scalar, coll, anchored, node_text, items_text, IsNode}
-use Rattle.yq_inline.specs.Scalars.{IsScalar, is_quoted, begins_scalar}
+use Rattle.yq_inline.specs.Scalars.{IsScalarAt, is_quoted, begins_scalar}
 use Rattle.yq_inline.proofs.NodeAgain.{is_anchored, takes_unanchored}
 use Rattle.yq_inline.proofs.PieceLaws.{front_not, scalar_begins, scalar_some}
 use Rattle.yq_rows.specs.Grammar.{Limit, AreRows, IsRow, IsMark, IsContent, AreDashes, is_plain}
@@ -22,9 +22,9 @@ use Rattle.yq_rows.specs.View.{Slices, last_dash, colon_of, anchor_cut, content_
 use Rattle.yq_documents.specs.Documents.{has_lines, is_long_plain}
 use Rattle.yq_documents.specs.Reading.{has_short_root}
 use Rattle.yq_reading.specs.FitReading.{is_plain_head, is_long}
-use Rattle.yq_rows.specs.View.{Shown}
+use Rattle.yq_rows.specs.View.{RowsView}
 use Rattle.yq_walk.specs.RowWalk.{HasRows}
-use Rattle.yq_walk.specs.declared.spot.Stretch.{Stretch}
+use Rattle.yq_walk.specs.declared.position.Stretch.{Stretch}
 use Rattle.yq_walk.proofs.RowLaws.{colon_some}
 use Rattle.yq_walk.proofs.WalkRows.{row_of, rows_length}
 
@@ -33,7 +33,7 @@ or_none true = refl
 or_none false = refl
 
 -- a plain scalar, by the head
-scalar_plain : (n : ℤ) (p rest : List ℕ) → IsScalar false (Some (deeper n)) p rest → is_plain_head p ≡ not (is_quoted p)
+scalar_plain : (n : ℤ) (p rest : List ℕ) → IsScalarAt false (Some (deeper n)) p rest → is_plain_head p ≡ not (is_quoted p)
 scalar_plain n [] rest h = absurd (omega (arith, scalar_some false (Some (deeper n)) [] rest h))
 scalar_plain n (b ∷ bs) rest h =
     let begins = scalar_begins false (Some (deeper n)) (b ∷ bs) rest h in
@@ -102,7 +102,7 @@ some_short x r [] limit end rest there pieces valid = absurd (cc)
 some_short x r (y ∷ rs) limit end rest there pieces valid =
     ap (λ (z : Slices). not (is_long z)) (sym (ap slices (same_Some _ _ there) ∙ pieces)) ∙ ap not (long_is y limit _ valid.0)
 
-pub short_some : (s : Shown) (d : Stretch) (x : Slices) → slice_get s.rows d.first ≡ Some x → d.first < d.end → (h : HasRows s d) → not (is_long x) ≡ has_short_root h.rows
+pub short_some : (s : RowsView) (d : Stretch) (x : Slices) → slice_get s.rows d.first ≡ Some x → d.first < d.end → (h : HasRows s d) → not (is_long x) ≡ has_short_root h.rows
 short_some s d x there some h =
     let r = row_of s d h d.first x (omega arith) some there in
     let none : d.first - d.first ≡ 0 = omega arith in
@@ -112,5 +112,5 @@ none_short : (rs : List Row) → length rs ≡ 0 → true ≡ has_short_root rs
 none_short [] none = refl
 none_short (r ∷ rs) none = absurd (omega (arith, none))
 
-pub short_none : (s : Shown) (d : Stretch) → d.end ≤ d.first → (h : HasRows s d) → true ≡ has_short_root h.rows
+pub short_none : (s : RowsView) (d : Stretch) → d.end ≤ d.first → (h : HasRows s d) → true ≡ has_short_root h.rows
 short_none s d none h = none_short h.rows (omega (arith, rows_length s d h, none))

@@ -14,9 +14,9 @@ use Rattle.yq_lines.specs.Outline.{Line}
 use Rattle.yq_lines.specs.View.{head_flow, head_view}
 use Rattle.yq_rows.specs.Rows.{Row}
 use Rattle.yq_walk.specs.Lines.{content_anchor, head_of, lines_of}
-use Rattle.yq_documents.specs.Made.{lent_head, lent_text, made_or, told_flow, told_head}
+use Rattle.yq_documents.specs.Decoded.{borrowed_head, borrowed_text, decoded_or, decoded_flow, decoded_head}
 use Rattle.yq_documents.specs.RowReading.{string_head}
-use Rattle.yq_documents.specs.declared.made.Made.{Made}
+use Rattle.yq_documents.specs.declared.decoded.Decoded.{Decoded}
 use Rattle.yq_reading.specs.Named.{flow_names}
 use Rattle.yq_walk.proofs.LineNames.{names_row}
 use Rattle.yq_reading.proofs.RowContents.{lines_at}
@@ -40,9 +40,9 @@ names_step all before middle after rs i r is so_far anchor head =
     ∙ (ap (λ (x : List Name). before ++ x) (sym (ap line_names (lines_at rs i r is) ∙ names_row r rest)) ∙ so_far))))
 
 -- the same, by what the code adds
-pub names_turn : (all before middle after f : List Name) (a : Option (List ℕ)) (rs : List Row) (i j : ℕ) (r : Row) → slice_get rs i ≡ Some r → i + 1 ≡ j → before ++ line_names (lines_of (drop i rs)) ≡ all →
+pub names_pass : (all before middle after f : List Name) (a : Option (List ℕ)) (rs : List Row) (i j : ℕ) (r : Row) → slice_get rs i ≡ Some r → i + 1 ≡ j → before ++ line_names (lines_of (drop i rs)) ≡ all →
     middle ≡ before ++ with_anchor a [] → a ≡ content_anchor r.content → after ≡ middle ++ f → f ≡ head_names (head_of r.content) → after ++ line_names (lines_of (drop j rs)) ≡ all
-names_turn all before middle after f a rs i j r is next so_far anchor named head flow =
+names_pass all before middle after f a rs i j r is next so_far anchor named head flow =
     ap (λ (k : ℕ). after ++ line_names (lines_of (drop k rs))) (sym next)
     ∙ names_step all before middle after rs i r is so_far (anchor ∙ ap (λ (x : Option (List ℕ)). before ++ with_anchor x []) named) (head ∙ ap (λ (x : List Name). middle ++ x) flow)
 
@@ -50,20 +50,20 @@ pub names_all : (all names : List Name) (rs : List Row) (i : ℕ) → length rs 
 names_all all names rs i past so_far = sym (append-nil names) ∙ (ap (λ (x : List Row). names ++ line_names (lines_of x)) (sym (drop_all i rs past)) ∙ so_far)
 
 -- the names in a head are those in what is made of it
-lent_named : (h : List ℕ) → head_names (lent_head h) ≡ []
-lent_named h = go (is_empty h) (is_quoted h)
+borrowed_named : (h : List ℕ) → head_names (borrowed_head h) ≡ []
+borrowed_named h = go (is_empty h) (is_quoted h)
   where
-    go : (a b : Bool) → head_names (cond a None (cond b (string_head (lent_text h)) (Some (scalar_node (plain_of h))))) ≡ []
+    go : (a b : Bool) → head_names (cond a None (cond b (string_head (borrowed_text h)) (Some (scalar_node (plain_of h))))) ≡ []
     go true b = refl
     go false true = refl
     go false false = refl
 
-made_named : (o : Option heads.Head) (h : List ℕ) → head_names (made_or (option_map head_view o) (lent_head h)) ≡ flow_names (option_and_then head_flow o)
-made_named None h = lent_named h
-made_named (Some heads.TheVariants.Nothing) h = refl
-made_named (Some (heads.TheVariants.Scalar kind text)) h = refl
-made_named (Some (heads.TheVariants.Inline node)) h = refl
+decoded_named : (o : Option heads.Head) (h : List ℕ) → head_names (decoded_or (option_map head_view o) (borrowed_head h)) ≡ flow_names (option_and_then head_flow o)
+decoded_named None h = borrowed_named h
+decoded_named (Some heads.TheVariants.Nothing) h = refl
+decoded_named (Some (heads.TheVariants.Scalar kind text)) h = refl
+decoded_named (Some (heads.TheVariants.Inline node)) h = refl
 
-pub flow_named : (m : Option Made) (h : List ℕ) → head_names (told_head m h) ≡ flow_names (told_flow m)
-flow_named None h = lent_named h
-flow_named (Some x) h = made_named x.head h
+pub flow_named : (m : Option Decoded) (h : List ℕ) → head_names (decoded_head m h) ≡ flow_names (decoded_flow m)
+flow_named None h = borrowed_named h
+flow_named (Some x) h = decoded_named x.head h

@@ -6,38 +6,38 @@ use Rattle.std.proofs.lemmas.Option.{same_Some}
 use Rattle.std.specs.List.{slice_get}
 use Rattle.std.specs.Prelude.{is_some}
 use Rattle.yq_lines.specs.Outline.{Mark, Bare, Key, Dash, Line, key_of, level, rank}
-use Rattle.yq_lines.specs.Spots.{is_bare}
+use Rattle.yq_lines.specs.Positions.{is_bare}
 use Rattle.yq_scalar.specs.Paths.{is_item}
 use Rattle.yq_inline.specs.Scalars.{content_of}
 use Rattle.yq_walk.specs.Lines.{lines_of}
-use Rattle.yq_rows.specs.View.{Slices, slices, Shown}
-use Rattle.yq_walk.specs.RowWalk.{HasRows, IsLine, IsSpot, line_level, line_number, line_rank}
-use Rattle.yq_walk.specs.declared.spot.Spot.{Spot}
-use Rattle.yq_walk.specs.declared.spot.Stretch.{Stretch}
-use Rattle.yq_walk.proofs.WalkMarks.{item_told, key_here}
-use Rattle.yq_walk.proofs.WalkSpots.{deeper_told, end_told, line_spot, located}
-use Rattle.yq_documents.specs.declared.made.Made.{Made}
+use Rattle.yq_rows.specs.View.{Slices, slices, RowsView}
+use Rattle.yq_walk.specs.RowWalk.{HasRows, IsLine, IsPosition, line_level, line_number, line_rank}
+use Rattle.yq_walk.specs.declared.position.Position.{Position}
+use Rattle.yq_walk.specs.declared.position.Stretch.{Stretch}
+use Rattle.yq_walk.proofs.WalkMarks.{item_agrees, key_here}
+use Rattle.yq_walk.proofs.WalkPositions.{deeper_agrees, end_agrees, line_position, located}
+use Rattle.yq_documents.specs.declared.decoded.Decoded.{Decoded}
 use Rattle.yq_reading.specs.Ahead.{IsAhead}
 use Rattle.yq_reading.specs.Checking.{IsReached}
-use Rattle.yq_reading.proofs.LineTold.{level_told}
+use Rattle.yq_reading.proofs.LineLevelLaws.{level_agrees}
 
 -- the end, and a line
-pub reached_end : (ms : List Made) (s : Shown) (d : Stretch) (q : Spot) (left : Bor (List Made)) → IsAhead ms q.row left.now → IsSpot s d q → d.end ≤ q.row → IsReached ms s d (record { spot = q; level = 0; made = left })
+pub reached_end : (ms : List Decoded) (s : RowsView) (d : Stretch) (q : Position) (left : Bor (List Decoded)) → IsAhead ms q.row left.now → IsPosition s d q → d.end ≤ q.row → IsReached ms s d (record { position = q; level = 0; decoded = left })
 reached_end ms s d q left ahead at past = record {
-  spot = at;
+  position = at;
   some = λ p. absurd (omega (arith, p));
-  told = λ p. absurd (omega (arith, p, past));
-  deeper = λ floor h. le-ltb floor 0 (omega arith) ∙ end_told s d h q floor at past;
-  made = ahead;
+  agrees = λ p. absurd (omega (arith, p, past));
+  deeper = λ floor h. le-ltb floor 0 (omega arith) ∙ end_agrees s d h q floor at past;
+  decoded = ahead;
 }
 
-pub reached_line : (ms : List Made) (s : Shown) (d : Stretch) (q : Spot) (left : Bor (List Made)) → IsAhead ms q.row left.now → IsLine s d q → (n : ℕ) → ((x : Slices) → slice_get s.rows q.row ≡ Some x → n ≡ line_level q.line x) → IsReached ms s d (record { spot = q; level = n; made = left })
-reached_line ms s d q left ahead at n told = record {
-  spot = line_spot s d q at;
+pub reached_line : (ms : List Decoded) (s : RowsView) (d : Stretch) (q : Position) (left : Bor (List Decoded)) → IsAhead ms q.row left.now → IsLine s d q → (n : ℕ) → ((x : Slices) → slice_get s.rows q.row ≡ Some x → n ≡ line_level q.line x) → IsReached ms s d (record { position = q; level = n; decoded = left })
+reached_line ms s d q left ahead at n agrees = record {
+  position = line_position s d q at;
   some = λ p. at.upto;
-  told = λ p. level_told s d q at n told;
-  deeper = λ floor h. deeper_told s d h q n floor at told;
-  made = ahead;
+  agrees = λ p. level_agrees s d q at n agrees;
+  deeper = λ floor h. deeper_agrees s d h q n floor at agrees;
+  decoded = ahead;
 }
 
 -- what a line begins with is told by how deep it is
@@ -68,9 +68,9 @@ ranked : (n : ℕ) (o : Option (List ℕ)) → not (eqb n 2) ≡ is_item o → t
 ranked n None e some = absurd (false≢true (sym some))
 ranked n (Some a) e some = eqb-true n 2 (not-false (eqb n 2) e)
 
-pub key_some : (s : Shown) (d : Stretch) (h : HasRows s d) (q : Spot) (at : IsLine s d q) (l : Line) → slice_get (lines_of h.rows) (line_number d h.rows q) ≡ Some l → true ≡ is_some (key_of l.mark) → Some (content_of (slices (located s d h q at).row).key) ≡ key_of l.mark
+pub key_some : (s : RowsView) (d : Stretch) (h : HasRows s d) (q : Position) (at : IsLine s d q) (l : Line) → slice_get (lines_of h.rows) (line_number d h.rows q) ≡ Some l → true ≡ is_some (key_of l.mark) → Some (content_of (slices (located s d h q at).row).key) ≡ key_of l.mark
 key_some s d h q at l is some =
     let k = located s d h q at in
     let n : ℕ = line_rank q.line (slices k.row) in
-    let told : (x : Slices) → slice_get s.rows q.row ≡ Some x → n ≡ line_rank q.line x = λ x e. ap (line_rank q.line) (same_Some _ _ (sym k.pieces ∙ e)) in
-    key_here s d h q at l is n told (ranked n (key_of l.mark) (item_told s d h q at l is n told) some)
+    let agrees : (x : Slices) → slice_get s.rows q.row ≡ Some x → n ≡ line_rank q.line x = λ x e. ap (line_rank q.line) (same_Some _ _ (sym k.pieces ∙ e)) in
+    key_here s d h q at l is n agrees (ranked n (key_of l.mark) (item_agrees s d h q at l is n agrees) some)

@@ -7,15 +7,15 @@ use Rattle.yq_rows.specs.Exchange.{behind_row, rows_behind}
 use Rattle.yq_rows.specs.Grammar.{IsMark}
 use Rattle.yq_rows.specs.Rows as rows
 use Rattle.yq_rows.specs.Rows.{Content, Row, content_text}
-use Rattle.yq_rows.specs.View.{Slices, Shown, key_of, rows_of, slices}
+use Rattle.yq_rows.specs.View.{Slices, RowsView, key_of, rows_of, slices}
 use Rattle.yq_rows.proofs.KeyLines.{key_line}
 use Rattle.yq_rows.proofs.PlaceLaws.{RowIn, row_in}
 use Rattle.yq_scalar.specs.Quoted.{IsQuotedText}
-use Rattle.yq_walk.specs.declared.spot.Stretch.{Stretch}
+use Rattle.yq_walk.specs.declared.position.Stretch.{Stretch}
 use Rattle.yq_walk.proofs.RowLaws.{mark_quoted}
-use Rattle.yq_documents.specs.declared.made.Made.{Made}
-use Rattle.yq_reading.specs.Checking.{IsReady}
-use Rattle.yq_reading.proofs.LineTold.{row_there}
+use Rattle.yq_documents.specs.declared.decoded.Decoded.{Decoded}
+use Rattle.yq_reading.specs.Checking.{IsCheckable}
+use Rattle.yq_reading.proofs.LineLevelLaws.{row_there}
 
 -- a key without quotes has one line, and stands for itself
 pub mark_plain : (m : rows.Mark) (c : Content) (rest : List ℕ) → IsMark m c rest → is_quoted (key_of m) ≡ false → key_of m ≡ content_of (key_of m)
@@ -24,9 +24,9 @@ mark_plain rows.Dash c rest h e = stands [] refl refl
 mark_plain (rows.Key key colon) c rest h e = stands key e (key_line key (colon ++ content_text c rest) h.scalar)
 
 -- a row of a document that is checked
-module _ (t : List ℕ) (s : Shown) (ms : List Made) (d : Stretch) (ready : IsReady t s ms d) (i : ℕ) (x : Slices) (there : slice_get s.rows i ≡ Some x) where
+module _ (t : List ℕ) (s : RowsView) (ms : List Decoded) (d : Stretch) (ready : IsCheckable t s ms d) (i : ℕ) (x : Slices) (there : slice_get s.rows i ≡ Some x) where
   found : (r : Row) × (slice_get (rows_of ready.cut) i ≡ Some r) × (slices r ≡ x)
-  found = row_there (rows_of ready.cut) i x (ap (λ (y : Shown). slice_get y.rows i) (sym ready.rows) ∙ there)
+  found = row_there (rows_of ready.cut) i x (ap (λ (y : RowsView). slice_get y.rows i) (sym ready.rows) ∙ there)
 
   row_is : RowIn found.0 (behind_row i ready.cut) (rows_behind i ready.cut)
   row_is = row_in ready.cut i true found.0 ready.is_cut.parts found.1

@@ -13,7 +13,7 @@ use Rattle.yq_rows.specs.Rows.{Row, parent_indent}
 use Rattle.yq_walk.specs.Lines.{content_anchor, lines_of, row_lines}
 use Rattle.yq_documents.specs.RowReading.{name_in}
 use Rattle.yq_walk.proofs.LineNames.{free_row}
-use Rattle.yq_reading.proofs.AnchorRows.{free_told}
+use Rattle.yq_reading.proofs.AnchorRows.{free_agrees}
 
 -- the content of a row is one
 pub row_content : (limit : Limit) (rs : List Row) (end rest : List ℕ) (i : ℕ) (r : Row) → AreRows limit rs end rest → slice_get rs i ≡ Some r → (t : List ℕ) × IsContent (parent_indent r) r.content t
@@ -33,7 +33,7 @@ anchor_step rs i r l before all there first named so_far =
     let rest : List Line = lines_of (drop (i + 1) rs) in
     so_far
     ∙ ((λ j. is_free (name_in before) (lines_at rs i r there j) && have_one_anchor_each (lines_at rs i r there j))
-    ∙ (λ j. free_told before (row_lines r) l rest named first j && free_row r rest j))
+    ∙ (λ j. free_agrees before (row_lines r) l rest named first j && free_row r rest j))
 
 -- behind the last row nothing is asked
 free_end : (a : Option (List ℕ)) → (is_free a [] && true) ≡ true

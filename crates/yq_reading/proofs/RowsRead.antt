@@ -8,7 +8,7 @@ use Rattle.std.proofs.lemmas.Str.{IsCharBoundary-start}
 use Rattle.std.specs.List.{slice_get}
 use Rattle.std.specs.Prelude.{option_map}
 use Rattle.std.specs.Str.{IsCharBoundary, IsUtf8}
-use Rattle.yq_scalar.specs.Answers.{Fails}
+use Rattle.yq_scalar.specs.Answers.{ReadFails}
 use Rattle.yq_scalar.specs.Quoted.{IsQuotedText}
 use Rattle.yq_scalar.specs.Text.{is_empty}
 use Rattle.yq_scalar.specs.Tree as trees
@@ -21,12 +21,12 @@ use Rattle.yq_rows.specs.Exchange.{before_content, behind_row, rows_behind}
 use Rattle.yq_rows.specs.Grammar.{IsMark}
 use Rattle.yq_rows.specs.Rows as rows
 use Rattle.yq_rows.specs.Rows.{Row, Cut, parent_indent}
-use Rattle.yq_rows.specs.View.{Slices, colon_of, key_of, slices, rows_of, Shown}
+use Rattle.yq_rows.specs.View.{Slices, colon_of, key_of, slices, rows_of, RowsView}
 use Rattle.yq_rows.proofs.PlaceLaws.{RowIn, place, row_in}
 use Rattle.yq_rows.proofs.SliceLaws.{content_slices}
 use Rattle.yq_documents.specs.FlowReading.{head_flow_at, row_flow}
 use Rattle.yq_documents.specs.KeyReading.{EndsIn}
-use Rattle.yq_documents.specs.Made.{lent_head, lent_text}
+use Rattle.yq_documents.specs.Decoded.{borrowed_head, borrowed_text}
 use Rattle.yq_documents.specs.Reading.{content_is_fit, cut_of, mark_is_fit}
 use Rattle.yq_documents.specs.RowReading.{head_at}
 use Rattle.yq_walk.specs.Lines.{head_of}
@@ -35,12 +35,12 @@ use Rattle.yq_documents.proofs.RowFlowLaws.{flow_is}
 use Rattle.yq_documents.proofs.RowLineLaws.{content_quoted}
 use Rattle.yq_walk.proofs.RowLaws.{colon_some, mark_quoted}
 use Rattle.yq_lines.proofs.OneLine.{kept}
-use Rattle.yq_reading.specs.Checking.{lends_head, lends_text}
+use Rattle.yq_reading.specs.Checking.{borrows_head, borrows_text}
 use Rattle.yq_reading.specs.Deciding.{Denies}
 use Rattle.yq_reading.specs.FitReading.{key_fits}
-use Rattle.yq_reading.specs.Making.{IsCutInto, IsHeadMade, IsKeyMade}
+use Rattle.yq_reading.specs.Decoding.{IsCutInto, IsHeadDecoded, IsKeyDecoded}
 use Rattle.yq_reading.proofs.RowBegins.{mark_plain}
-use Rattle.yq_reading.proofs.LendLaws.{lends_key, lent_read}
+use Rattle.yq_reading.proofs.BorrowLaws.{borrows_key, borrowed_read}
 
 -- a key is fit that is no plain `<<`
 key_fit : (m : rows.Mark) → key_fits (key_of m) ≡ mark_is_fit m
@@ -49,22 +49,22 @@ key_fit rows.Dash = refl
 key_fit (rows.Key key colon) = refl
 
 -- where a head isn't read, its keys aren't fit
-pub unfit_told : (e : ReadError) (o : Option (Option trees.Node)) (fit : Bool) (head : Option trees.Node) → o ≡ fitting fit head → Fails e o → Denies e fit
-unfit_told errors.Memory o fit head is f = tt
-unfit_told (errors.Fault k) o true head is f = absurd (cc)
-unfit_told (errors.Fault k) o false head is f = refl
+pub unfit_agrees : (e : ReadError) (o : Option (Option trees.Node)) (fit : Bool) (head : Option trees.Node) → o ≡ fitting fit head → ReadFails e o → Denies e fit
+unfit_agrees errors.Memory o fit head is f = tt
+unfit_agrees (errors.Fault k) o true head is f = absurd (cc)
+unfit_agrees (errors.Fault k) o false head is f = refl
 
-pub fit_told : (o : Option (Option trees.Node)) (fit : Bool) (head x : Option trees.Node) → o ≡ fitting fit head → o ≡ Some x → fit ≡ true
-fit_told o fit head x is e = (cond_some fit _ _ (sym is ∙ e)).0
+pub fit_agrees : (o : Option (Option trees.Node)) (fit : Bool) (head x : Option trees.Node) → o ≡ fitting fit head → o ≡ Some x → fit ≡ true
+fit_agrees o fit head x is e = (cond_some fit _ _ (sym is ∙ e)).0
 
 -- a row without a colon has no key, which is fit and stands for itself
-no_key : (m : rows.Mark) (c : rows.Content) (rest : List ℕ) → IsMark m c rest → is_empty (colon_of m) ≡ true → (mark_is_fit m ≡ true) × (lent_text (key_of m) ≡ content_of (key_of m))
+no_key : (m : rows.Mark) (c : rows.Content) (rest : List ℕ) → IsMark m c rest → is_empty (colon_of m) ≡ true → (mark_is_fit m ≡ true) × (borrowed_text (key_of m) ≡ content_of (key_of m))
 no_key rows.Bare c rest h e = (refl, kept [] refl refl)
 no_key rows.Dash c rest h e = (refl, kept [] refl refl)
 no_key (rows.Key key colon) c rest h e = absurd (false≢true (sym (ap is_empty h.colon_is.spelled ∙ colon_some h.colon_is.white) ∙ e))
 
--- no head is lent
-pub no_head : (h : List ℕ) → is_empty h ≡ true → lends_head h ≡ true
+-- no head is borrowed
+pub no_head : (h : List ℕ) → is_empty h ≡ true → borrows_head h ≡ true
 no_head [] e = refl
 no_head (b ∷ bs) e = absurd (false≢true e)
 
@@ -74,17 +74,17 @@ has_row [] i h = absurd (omega (arith, h))
 has_row (r ∷ rs) zero h = (r, refl)
 has_row (r ∷ rs) (suc i) h = has_row rs i (omega (arith, h))
 
-pub rows_count : (t : List ℕ) (s : Shown) → IsCutInto t s → length s.rows ≡ length (rows_of (cut_of t))
-rows_count t s k = ap (λ (y : Shown). length y.rows) k.rows ∙ length-map (rows_of (cut_of t)) slices
+pub rows_count : (t : List ℕ) (s : RowsView) → IsCutInto t s → length s.rows ≡ length (rows_of (cut_of t))
+rows_count t s k = ap (λ (y : RowsView). length y.rows) k.rows ∙ length-map (rows_of (cut_of t)) slices
 
-pub row_at : (t : List ℕ) (s : Shown) → IsCutInto t s → (i : ℕ) → i < length s.rows → (r : Row) × (slice_get (rows_of (cut_of t)) i ≡ Some r)
+pub row_at : (t : List ℕ) (s : RowsView) → IsCutInto t s → (i : ℕ) → i < length s.rows → (r : Row) × (slice_get (rows_of (cut_of t)) i ≡ Some r)
 row_at t s k i h = has_row (rows_of (cut_of t)) i (omega (arith, h, rows_count t s k))
 
 regroup : (a b c d e : List ℕ) → a ++ (b ++ (c ++ (d ++ e))) ≡ (a ++ (b ++ (c ++ d))) ++ e
 regroup a b c d e = simp append_assoc refl
 
--- a head that isn't lent is written, and begins with a whole character
-unlent_some : (h : List ℕ) → lends_head h ≡ false → is_empty h ≡ false
+-- a head that isn't borrowed is written, and begins with a whole character
+unlent_some : (h : List ℕ) → borrows_head h ≡ false → is_empty h ≡ false
 unlent_some [] e = absurd (false≢true (sym e))
 unlent_some (b ∷ bs) e = refl
 
@@ -97,7 +97,7 @@ whole_there t before (b ∷ h) more n is at some u =
     (subst (IsCharBoundary (before ++ (b ∷ (h ++ more)))) (sym at) (omega (arith, length-append before (b ∷ (h ++ more))), λ _ high. omega (arith, there, first (omega (arith, there, high)))))
 
 -- a row of a text
-module _ (t : List ℕ) (s : Shown) (k : IsCutInto t s) (i : ℕ) (r : Row) (is : slice_get (rows_of (cut_of t)) i ≡ Some r) where
+module _ (t : List ℕ) (s : RowsView) (k : IsCutInto t s) (i : ℕ) (r : Row) (is : slice_get (rows_of (cut_of t)) i ≡ Some r) where
   abbrev c : Cut
   c = cut_of t
 
@@ -108,7 +108,7 @@ module _ (t : List ℕ) (s : Shown) (k : IsCutInto t s) (i : ℕ) (r : Row) (is 
   behind = head_text r.content (behind_row i c)
 
   pub pieces_there : slice_get s.rows i ≡ Some (slices r)
-  pieces_there = ap (λ (y : Shown). slice_get y.rows i) k.rows ∙ (slice_get-map slices (rows_of c) i ∙ ap (option_map slices) is)
+  pieces_there = ap (λ (y : RowsView). slice_get y.rows i) k.rows ∙ (slice_get-map slices (rows_of c) i ∙ ap (option_map slices) is)
 
   row_here : RowIn r (behind_row i c) (rows_behind i c)
   row_here = row_in c i true r k.cut.parts is
@@ -119,7 +119,7 @@ module _ (t : List ℕ) (s : Shown) (k : IsCutInto t s) (i : ℕ) (r : Row) (is 
   pub key_quoted : (h : List ℕ) → h ≡ (slices r).key → is_quoted h ≡ true → IsQuotedText h
   key_quoted h e = subst (λ (x : List ℕ). is_quoted x ≡ true → IsQuotedText x) (sym e) (mark_quoted r.mark r.content (behind_row i c) row_here.row.mark)
 
-  pub keyless : is_empty (slices r).colon ≡ true → (mark_is_fit r.mark ≡ true) × IsKeyMade None r
+  pub keyless : is_empty (slices r).colon ≡ true → (mark_is_fit r.mark ≡ true) × IsKeyDecoded None r
   keyless = no_key r.mark r.content (behind_row i c) row_here.row.mark
 
   -- the key is written
@@ -127,13 +127,13 @@ module _ (t : List ℕ) (s : Shown) (k : IsCutInto t s) (i : ℕ) (r : Row) (is 
     pub key_fits_is : key_fits key ≡ mark_is_fit r.mark
     key_fits_is = ap key_fits is_key ∙ key_fit r.mark
 
-    pub key_unquoted : is_quoted key ≡ false → IsKeyMade None r
+    pub key_unquoted : is_quoted key ≡ false → IsKeyDecoded None r
     key_unquoted plain =
         let own = ap is_quoted (sym is_key) ∙ plain in
         cond-false (is_quoted (slices r).key) _ (slices r).key own ∙ mark_plain r.mark r.content (behind_row i c) row_here.row.mark own
 
-    pub key_lent : lends_text key ≡ true → IsKeyMade None r
-    key_lent lends = lends_key (slices r).key (key_quoted (slices r).key refl) (ap lends_text (sym is_key) ∙ lends)
+    pub key_borrowed : borrows_text key ≡ true → IsKeyDecoded None r
+    key_borrowed borrows = borrows_key (slices r).key (key_quoted (slices r).key refl) (ap borrows_text (sym is_key) ∙ borrows)
 
   pub text_there : t ≡ before ++ behind
   text_there =
@@ -148,20 +148,20 @@ module _ (t : List ℕ) (s : Shown) (k : IsCutInto t s) (i : ℕ) (r : Row) (is 
   flow_again : head_flow_at t (parent_indent r) (slices r).head behind ≡ row_flow (length t) r (behind_row i c)
   flow_again = flow_is t (parent_indent r) r.content (behind_row i c) (before, text_there) row_here.row.content
 
-  -- the head is lent
-  module _ (h : List ℕ) (head : h ≡ (slices r).head) (lends : lends_head h ≡ true) where
-    lent_so : (fitting (content_is_fit r.content) (head_of r.content) ≡ Some (lent_head (slices r).head)) × (None ≡ row_flow (length t) r (behind_row i c))
-    lent_so =
-        let l = lent_read t (parent_indent r) (slices r).head behind (head_quoted (slices r).head refl) (ap lends_head (sym head) ∙ lends) in
+  -- the head is borrowed
+  module _ (h : List ℕ) (head : h ≡ (slices r).head) (borrows : borrows_head h ≡ true) where
+    borrowed_so : (fitting (content_is_fit r.content) (head_of r.content) ≡ Some (borrowed_head (slices r).head)) × (None ≡ row_flow (length t) r (behind_row i c))
+    borrowed_so =
+        let l = borrowed_read t (parent_indent r) (slices r).head behind (head_quoted (slices r).head refl) (ap borrows_head (sym head) ∙ borrows) in
         (sym read_again ∙ l.0, sym l.1 ∙ flow_again)
 
-    pub lent_fit : content_is_fit r.content ≡ true
-    lent_fit = (cond_some (content_is_fit r.content) _ _ lent_so.0).0
+    pub borrowed_fit : content_is_fit r.content ≡ true
+    borrowed_fit = (cond_some (content_is_fit r.content) _ _ borrowed_so.0).0
 
-    pub lent_made : IsHeadMade t i None r
-    lent_made = record { head = sym (cond_some (content_is_fit r.content) _ _ lent_so.0).1; flow = lent_so.1 }
+    pub none_decoded : IsHeadDecoded t i None r
+    none_decoded = record { head = sym (cond_some (content_is_fit r.content) _ _ borrowed_so.0).1; flow = borrowed_so.1 }
 
-  pub place_whole : (h : List ℕ) (n : ℕ) → h ≡ (slices r).head → lends_head h ≡ false → IsUtf8 h → n ≡ length before → IsCharBoundary t n
+  pub place_whole : (h : List ℕ) (n : ℕ) → h ≡ (slices r).head → borrows_head h ≡ false → IsUtf8 h → n ≡ length before → IsCharBoundary t n
   place_whole h n e unlent u at =
       let x : Slices = slices r in
       let rest : List ℕ = x.tail ++ (x.raw ++ behind_row i c) in
@@ -182,8 +182,8 @@ module _ (t : List ℕ) (s : Shown) (k : IsCutInto t s) (i : ℕ) (r : Row) (is 
       flow_read : head_flow_at t p h text ≡ row_flow (length t) r (behind_row i c)
       flow_read = (λ j. head_flow_at t (parent j) (head j) (from_there j)) ∙ flow_again
 
-      pub read_made : (x : Head) → head_at t p h text ≡ Some (head_view x) → head_flow x ≡ head_flow_at t p h text → IsHeadMade t i (Some x) r
-      read_made x view flow = record {
+      pub read_decoded : (x : Head) → head_at t p h text ≡ Some (head_view x) → head_flow x ≡ head_flow_at t p h text → IsHeadDecoded t i (Some x) r
+      read_decoded x view flow = record {
         head = sym (cond_some (content_is_fit r.content) _ _ (sym head_read ∙ view)).1;
         flow = flow ∙ flow_read;
       }

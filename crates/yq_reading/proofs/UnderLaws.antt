@@ -7,7 +7,7 @@ use Rattle.yq_lines.specs.Ends.{is_end}
 use Rattle.yq_lines.specs.Group.{is_open}
 use Rattle.yq_lines.specs.Outline.{Mark, Bare, Key, Dash, Line, level, Outline, end, row}
 use Rattle.yq_lines.specs.Sound.{is_sound, head_is_sound, are_sound_under, is_entry}
-use Rattle.yq_lines.specs.Spots.{is_bare}
+use Rattle.yq_lines.specs.Positions.{is_bare}
 
 -- a line at another level
 pub other_level : (d n : ℕ) (l : Line) (u : Outline) → (level l ≡ n → ⊥) → are_sound_under d n l u ≡ false

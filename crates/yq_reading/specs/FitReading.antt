@@ -6,11 +6,11 @@ use Rattle.yq_scalar.specs.Text.{is_empty}
 use Rattle.yq_inline.specs.Nodes.{first_is}
 use Rattle.yq_inline.specs.Scalars.{is_quoted}
 use Rattle.yq_rows.specs.View.{Slices}
-use Rattle.yq_documents.specs.RowReading.{begins_block}
+use Rattle.yq_documents.specs.RowReading.{is_block_head}
 
 -- a plain scalar, among heads (own)
 abbrev pub is_plain_head : List ℕ → Bool
-is_plain_head head = not (is_empty head) && (not (begins_block head) && not (is_quoted head || (first_is 42 head || (first_is 91 head || first_is 123 head))))
+is_plain_head head = not (is_empty head) && (not (is_block_head head) && not (is_quoted head || (first_is 42 head || (first_is 91 head || first_is 123 head))))
 
 -- a break is in an anchor, behind it or in its head (own)
 abbrev pub has_break : Slices → Bool

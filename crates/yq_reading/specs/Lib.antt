@@ -5,5 +5,5 @@ pub mod Deciding
 pub mod Ahead
 pub mod Checking
 pub mod Named
-pub mod Making
+pub mod Decoding
 pub mod Places

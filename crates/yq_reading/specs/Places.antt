@@ -7,7 +7,7 @@ use Rattle.yq_rows.specs.Rows.{Part}
 use Rattle.yq_rows.specs.View.{Bound, Slices}
 use Rattle.yq_walk.specs.Lines.{lines_of}
 use Rattle.yq_documents.specs.Documents.{document_parts}
-use Rattle.yq_documents.specs.Holding.{IsPlaced}
+use Rattle.yq_documents.specs.Holding.{IsLocated}
 use Rattle.yq_documents.specs.Reading.{cut_of, has_short_root}
 use Rattle.yq_documents.specs.declared.read_text.DocumentRows.{DocumentRows}
 
@@ -31,17 +31,17 @@ all_rows ss is k [] = []
 all_rows ss is k (b ∷ bs) = part_row ss is k b ++ all_rows ss (begins_document b.marker) b.rows bs
 
 -- the same of a document of the code (own)
-abbrev pub row_told : DocumentRows → ℕ × ℕ × List ℕ
-row_told d = (d.first, d.end, d.lead.now)
+abbrev pub document_view : DocumentRows → ℕ × ℕ × List ℕ
+document_view d = (d.first, d.end, d.lead.now)
 
 -- the same of documents of the code (own)
-abbrev pub rows_told : List DocumentRows → List (ℕ × ℕ × List ℕ)
-rows_told ds = map row_told ds
+abbrev pub documents_view : List DocumentRows → List (ℕ × ℕ × List ℕ)
+documents_view ds = map document_view ds
 
 -- The documents of a text stand there (own).
-pub record ArePlaced (t : List ℕ) (ds : List DocumentRows) : Type 0 where
+pub record AreLocated (t : List ℕ) (ds : List DocumentRows) : Type 0 where
   pub count : length ds ≡ length (document_parts (cut_of t))
-  pub each : (n : ℕ) (d : DocumentRows) (p : Part) → slice_get ds n ≡ Some d → slice_get (document_parts (cut_of t)) n ≡ Some p → IsPlaced t n p d
+  pub each : (n : ℕ) (d : DocumentRows) (p : Part) → slice_get ds n ≡ Some d → slice_get (document_parts (cut_of t)) n ≡ Some p → IsLocated t n p d
 
 -- the root of a part is no plain scalar of several lines, and its lines are sound (own)
 abbrev pub part_is_sound : Part → Bool

@@ -8,7 +8,7 @@ ghost use Rattle.yq_reading.specs.Checking.{IsChecked};
 
 use crate::checked::Checked;
 use yq_inline::pieces::first_is;
-use yq_walk::{Spot, is_bare};
+use yq_walk::{Position, is_bare};
 
 /// Whether a node itself, written so, has no anchor and is no alias.
 fn is_unnamed(anchor: &str, head: &str) -> bool
@@ -18,7 +18,7 @@ fn is_unnamed(anchor: &str, head: &str) -> bool
 }
 
 /// Whether the node that begins with the first line of a row may take an anchor that stands before it.
-fn may_take(x: Checked<'_, '_>, at: Spot) -> bool
+fn may_take(x: Checked<'_, '_>, at: Position) -> bool
     requires ready { IsChecked x }
     requires line { IsLine x.rows.now x.document at }
     requires first { at.line ≡ 0 }
@@ -32,7 +32,7 @@ fn may_take(x: Checked<'_, '_>, at: Spot) -> bool
 }
 
 /// Whether an anchor, if one is written before the first line of a row, is the only one of its node.
-fn is_free(x: Checked<'_, '_>, before: &str, at: Spot) -> bool
+fn is_free(x: Checked<'_, '_>, before: &str, at: Position) -> bool
     requires ready { IsChecked x }
     requires line { IsLine x.rows.now x.document at }
     requires first { at.line ≡ 0 }
@@ -46,14 +46,14 @@ fn is_free(x: Checked<'_, '_>, before: &str, at: Spot) -> bool
 }
 
 /// The first line whose node has an anchor already, or is an alias, behind a row with an anchor.
-pub(crate) fn second_anchor(x: Checked<'_, '_>) -> Option<Spot>
+pub(crate) fn second_anchor(x: Checked<'_, '_>) -> Option<Position>
     requires ready { IsChecked x }
     ensures { OfLines x.entry.rows.now x.entry.document (λ ls n.
         is_none result ≡ spec.have_one_anchor_each ls) }
 {
     let mut before = "";
     'rows: for row in x.document.first..x.document.end {
-        let at = Spot { row, line: 0 };
+        let at = Position { row, line: 0 };
         if !is_free(x, before, at) {
             return Some(at);
         }

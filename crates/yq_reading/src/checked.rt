@@ -2,31 +2,31 @@
 ghost use Rattle.std.specs.Prelude.{◌≡◌, ◌≢◌, ◌<◌, Some, length, slice_get};
 ghost use Rattle.yq_scalar.specs.declared.fault.FaultKind.TheVariants.{NotUtf8};
 ghost use Rattle.yq_inline.specs.Scalars.{content_of};
-ghost use Rattle.yq_lines.specs.Bodies.{lent};
+ghost use Rattle.yq_lines.specs.Bodies.{borrowed};
 ghost use Rattle.yq_lines.specs.Outline as outline;
 ghost use Rattle.yq_rows.specs.View.{Slices};
 ghost use Rattle.yq_walk.specs.RowWalk.{IsLine, OfLine};
 ghost use Rattle.yq_reading.specs.Ahead.{IsAhead};
 ghost use Rattle.yq_reading.specs.Checking.{IsChecked};
 
-use crate::ahead::{ahead_from, made_here};
-use yq_documents::{Made, fault_at, told_key};
+use crate::ahead::{ahead_from, decoded_here};
+use yq_documents::{Decoded, decoded_key, fault_at};
 use yq_inline::pieces::is_quoted;
 use yq_rows::Rows;
 use yq_scalar::{FaultKind, ReadFault};
-use yq_walk::{Spot, Stretch, rank_at};
+use yq_walk::{Position, Stretch, rank_at};
 
 /// A document of a text whose rows are cut, with what is made of these.
 #[derive(Clone, Copy, Debug)]
 pub(crate) struct Checked<'a, 't> {
     pub(crate) text: &'t str,
     pub(crate) rows: &'a Rows<'t>,
-    pub(crate) made: &'a [Made<'t>],
+    pub(crate) decoded: &'a [Decoded<'t>],
     pub(crate) document: Stretch,
 }
 
 /// A fault of the row of a line: it is told on the line of the text behind the row's gap.
-pub(crate) fn row_fault(x: Checked<'_, '_>, at: Spot, kind: FaultKind) -> ReadFault
+pub(crate) fn row_fault(x: Checked<'_, '_>, at: Position, kind: FaultKind) -> ReadFault
     requires kind { kind ≢ NotUtf8 }
     ensures { result.kind ≢ NotUtf8 }
 {
@@ -42,29 +42,29 @@ pub(crate) fn row_fault(x: Checked<'_, '_>, at: Spot, kind: FaultKind) -> ReadFa
 
 /// What the key of a row stands for, by what is made from the row on.
 #[inline(always)]
-pub(crate) fn row_key<'a, 't>(x: Checked<'a, 't>, row: usize, made: &'a [Made<'t>]) -> &'a str
+pub(crate) fn row_key<'a, 't>(x: Checked<'a, 't>, row: usize, decoded: &'a [Decoded<'t>]) -> &'a str
     requires ready { IsChecked x }
     requires within { row < length x.rows.now.rows }
-    requires made { IsAhead x.made.now row made.now }
+    requires decoded { IsAhead x.decoded.now row decoded.now }
     ensures { (s : Slices) → slice_get x.entry.rows.now.rows row ≡ Some s →
         result.now ≡ content_of s.key }
 {
     let piece = x.rows.key(row);
     if is_quoted(piece.as_bytes()) {
-        return told_key(made_here(made, row), piece);
+        return decoded_key(decoded_here(decoded, row), piece);
     }
     piece
 }
 
 /// The key of a line, if it has one.
-pub(crate) fn line_key<'a>(x: Checked<'a, '_>, at: Spot) -> Option<&'a str>
+pub(crate) fn line_key<'a>(x: Checked<'a, '_>, at: Position) -> Option<&'a str>
     requires ready { IsChecked x }
     requires line { IsLine x.rows.now x.document at }
     ensures { OfLine x.entry.rows.now x.entry.document at (λ l.
-        lent result ≡ outline.key_of l.mark) }
+        borrowed result ≡ outline.key_of l.mark) }
 {
     if rank_at(x.rows, at) != 2 {
         return None;
     }
-    Some(row_key(x, at.row, ahead_from(x.made, at.row)))
+    Some(row_key(x, at.row, ahead_from(x.decoded, at.row)))
 }

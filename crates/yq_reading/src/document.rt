@@ -20,12 +20,12 @@ use std::alloc::Global;
 use yq_documents::fault_at;
 use yq_inline::DEPTH_LIMIT;
 use yq_scalar::{FaultKind, ReadError};
-use yq_walk::Spot;
+use yq_walk::Position;
 
 /// The aliases of a document: an earlier anchor of its name for each. Whether there are some is known.
 fn check_aliases(alloc: Global, x: Checked<'_, '_>, refers: bool) -> Result<(), ReadError>
     requires ready { IsChecked x }
-    requires refers { refers ≡ some_refer x.made.now }
+    requires refers { refers ≡ some_refer x.decoded.now }
     ensures sound { OfChecked x.entry (λ ls n. Decides result (lines.are_bound [] (line_names ls))) }
     ensures fault { IfErr result IsOfText }
 {
@@ -43,7 +43,7 @@ fn check_aliases(alloc: Global, x: Checked<'_, '_>, refers: bool) -> Result<(), 
 /// earlier anchor of its name for each alias.
 fn check_names(alloc: Global, x: Checked<'_, '_>, refers: bool) -> Result<(), ReadError>
     requires ready { IsChecked x }
-    requires refers { refers ≡ some_refer x.made.now }
+    requires refers { refers ≡ some_refer x.decoded.now }
     ensures sound { OfChecked x.entry (λ ls n. Decides result (lines.names_are_sound ls)) }
     ensures fault { IfErr result IsOfText }
 {
@@ -61,19 +61,19 @@ pub(crate) fn check_document(
     refers: bool,
 ) -> Result<(), ReadError>
     requires ready { IsChecked x }
-    requires refers { refers ≡ some_refer x.made.now }
+    requires refers { refers ≡ some_refer x.decoded.now }
     ensures sound { (k : IsChecked x.entry) → Decides result
         (has_short_root k.document.rows && lines.lines_are_sound (lines_of k.document.rows)) }
     ensures fault { IfErr result IsOfText }
 {
-    let first = Spot {
+    let first = Position {
         row: x.document.first,
         line: 0,
     };
     if !has_short_root(x.rows, x.document) {
         return Err(ReadError::Fault(row_fault(x, first, FaultKind::BadScalar)));
     }
-    let start = with_level(x, first, ahead_from(x.made, first.row));
+    let start = with_level(x, first, ahead_from(x.decoded, first.row));
     match check_lines(alloc, x, start, 0, DEPTH_LIMIT) {
         Ok(_) => check_names(alloc, x, refers),
         Err(e) => Err(e),

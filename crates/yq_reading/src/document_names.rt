@@ -30,11 +30,11 @@ pub(crate) fn names_of<'t>(alloc: Global, x: Checked<'_, 't>) -> Result<Vec<Name
     ensures { IfOk result (λ ns. OfChecked x.entry (λ ls n. all_named ns.items ≡ line_names ls)) }
 {
     let mut names = Vec::new(alloc);
-    let mut made = ahead_from(x.made, x.document.first);
+    let mut decoded = ahead_from(x.decoded, x.document.first);
     'rows: for i in x.document.first..x.document.end {
         push_anchor(&mut names, anchor_name(x.rows.anchor(i)))?;
-        made = ahead_of(made, i);
-        push_flow(&mut names, row_flow(made, i))?;
+        decoded = ahead_of(decoded, i);
+        push_flow(&mut names, row_flow(decoded, i))?;
     }
     Ok(names)
 }

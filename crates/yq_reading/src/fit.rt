@@ -5,7 +5,7 @@ ghost use Rattle.yq_reading.specs.FitReading as spec;
 ghost use Rattle.yq_walk.specs.RowWalk.{HasRows};
 ghost use Rattle.yq_documents.specs.Reading as reading;
 
-use yq_documents::begins_block;
+use yq_documents::is_block_head;
 use yq_inline::pieces::{first_is, is_quoted};
 use yq_rows::{Row, Rows};
 use yq_scalar::plain::holds_break;
@@ -18,7 +18,7 @@ fn is_plain(head: &str) -> bool
     let bytes = head.as_bytes();
     let other = is_quoted(bytes)
         || (first_is(b'*', bytes) || (first_is(b'[', bytes) || first_is(b'{', bytes)));
-    !head.is_empty() && (!begins_block(bytes) && !other)
+    !head.is_empty() && (!is_block_head(bytes) && !other)
 }
 
 /// Whether a break stands in a row's anchor, behind it or in its head.

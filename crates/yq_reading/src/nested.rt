@@ -4,28 +4,28 @@ ghost use Rattle.yq_scalar.specs.Answers.{IsOfText};
 ghost use Rattle.yq_inline.specs.View.{view};
 ghost use Rattle.yq_lines.specs.Sound as spec;
 ghost use Rattle.yq_walk.specs.RowWalk.{IsLine};
-ghost use Rattle.yq_documents.specs.Made.{made_at, told_flow};
-ghost use Rattle.yq_documents.specs.declared.made.Made.{Made as MadeOf};
+ghost use Rattle.yq_documents.specs.Decoded.{decoded_at, decoded_flow};
+ghost use Rattle.yq_documents.specs.declared.decoded.Decoded.{Decoded as DecodedOf};
 ghost use Rattle.yq_reading.specs.Ahead.{IsAhead};
 ghost use Rattle.yq_reading.specs.Checking.{IsChecked, IsReached, OfCheckedLine};
 ghost use Rattle.yq_reading.specs.Deciding.{Decides};
 
-use crate::ahead::made_here;
+use crate::ahead::decoded_here;
 use crate::checked::Checked;
 use crate::inline_fault::node_fault;
 use crate::reached::Reached;
 use std::alloc::Global;
-use yq_documents::Made;
+use yq_documents::Decoded;
 use yq_inline::Inline;
 use yq_lines::Head;
 use yq_scalar::ReadError;
 use yq_walk::has_head;
 
 /// The alias or flow collection that is made of a row, if one is.
-pub(crate) fn made_flow<'a, 't>(made: Option<&'a Made<'t>>) -> Option<&'a Inline<'t>>
-    ensures { option_map (λ n. view n.now) result ≡ told_flow (option_map (λ m. m.now) made.entry) }
+pub(crate) fn flow_decoded<'a, 't>(decoded: Option<&'a Decoded<'t>>) -> Option<&'a Inline<'t>>
+    ensures { option_map (λ n. view n.now) result ≡ decoded_flow (option_map (λ m. m.now) decoded.entry) }
 {
-    match made {
+    match decoded {
         Some(row) => match &row.head {
             Some(Head::Inline(node)) => Some(node),
             Some(Head::Scalar(..)) => None,
@@ -38,11 +38,11 @@ pub(crate) fn made_flow<'a, 't>(made: Option<&'a Made<'t>>) -> Option<&'a Inline
 
 /// The alias or flow collection in the head of row `i`, if one is there, by what is made from it on.
 #[inline(always)]
-pub(crate) fn row_flow<'a, 't>(made: &'a [Made<'t>], i: usize) -> Option<&'a Inline<'t>>
-    ensures { (all : List MadeOf) → IsAhead all i made.now →
-        option_map (λ n. view n.now) result ≡ told_flow (made_at i all) }
+pub(crate) fn row_flow<'a, 't>(decoded: &'a [Decoded<'t>], i: usize) -> Option<&'a Inline<'t>>
+    ensures { (all : List DecodedOf) → IsAhead all i decoded.now →
+        option_map (λ n. view n.now) result ≡ decoded_flow (decoded_at i all) }
 {
-    made_flow(made_here(made, i))
+    flow_decoded(decoded_here(decoded, i))
 }
 
 /// The head of a line, in which at most so many collections may be nested.
@@ -54,17 +54,17 @@ pub(crate) fn head_fault(
     depth: usize,
 ) -> Result<(), ReadError>
     requires ready { IsChecked x }
-    requires at { IsReached x.made.now x.rows.now x.document at }
-    requires line { IsLine x.rows.now x.document at.spot }
-    ensures sound { OfCheckedLine x.entry at.entry.spot (λ ls n l. Decides result
+    requires at { IsReached x.decoded.now x.rows.now x.document at }
+    requires line { IsLine x.rows.now x.document at.position }
+    ensures sound { OfCheckedLine x.entry at.entry.position (λ ls n l. Decides result
         (spec.head_is_sound depth l.head)) }
     ensures fault { IfErr result IsOfText }
 {
-    let node = match row_flow(at.made, at.spot.row) {
+    let node = match row_flow(at.decoded, at.position.row) {
         Some(node) => node,
         None => return Ok(()),
     };
-    if !has_head(x.rows, x.document, at.spot) {
+    if !has_head(x.rows, x.document, at.position) {
         return Ok(());
     }
     node_fault(alloc, x.text, node, depth)

@@ -26,7 +26,7 @@ fn push_document<'t>(
     from: usize,
     bound: Bound<'t>,
 ) -> Result<Vec<DocumentRows<'t>>, AllocError>
-    ensures { IfOk result (λ ds. spec.rows_told ds.items ≡ spec.rows_told documents.entry.items
+    ensures { IfOk result (λ ds. spec.documents_view ds.items ≡ spec.documents_view documents.entry.items
         ++ spec.part_row rows.now.rows is_document from (bound_view bound.entry)) }
 {
     let mut documents = documents;
@@ -45,7 +45,7 @@ pub(crate) fn document_rows<'t>(
     alloc: Global,
     rows: &Rows<'t>,
 ) -> Result<Vec<DocumentRows<'t>>, AllocError>
-    ensures { IfOk result (λ ds. spec.rows_told ds.items ≡ spec.all_rows rows.now.rows
+    ensures { IfOk result (λ ds. spec.documents_view ds.items ≡ spec.all_rows rows.now.rows
         (first_rows rows.now.bounds || not (some_begin rows.now.bounds)) 0 rows.now.bounds) }
 {
     let mut documents = Vec::with_capacity(alloc, rows.parts())?;

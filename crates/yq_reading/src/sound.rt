@@ -6,7 +6,7 @@ ghost use Rattle.yq_scalar.specs.declared.fault.FaultKind.TheVariants.{NotUtf8};
 ghost use Rattle.yq_lines.specs.Ends.{part, is_end};
 ghost use Rattle.yq_lines.specs.Outline as outline;
 ghost use Rattle.yq_lines.specs.Sound as spec;
-ghost use Rattle.yq_walk.specs.RowWalk.{IsLine, IsSpot, OfLine, OfLines};
+ghost use Rattle.yq_walk.specs.RowWalk.{IsLine, IsPosition, OfLine, OfLines};
 ghost use Rattle.yq_reading.specs.Checking.{IsChecked, IsReached, OfChecked, OfCheckedLine, GivesEnd, GivesStop};
 ghost use Rattle.yq_reading.specs.Deciding.{Decides};
 
@@ -17,7 +17,7 @@ use crate::reached::{Reached, is_bare, is_deeper, key_at, line_behind};
 use std::alloc::{AllocError, Global};
 use std::collections::BTreeMap;
 use yq_scalar::{FaultKind, ReadError, are_distinct};
-use yq_walk::{Spot, behind, has_head, is_deeper as is_line_deeper};
+use yq_walk::{Position, behind, has_head, is_deeper as is_line_deeper};
 
 /// Why a line can't stand where others of a collection at a level do: behind neither key nor dash in the
 /// column of the keys, where its key is missing, or in another column or collection.
@@ -31,7 +31,7 @@ fn misplaced(level: usize, n: usize) -> FaultKind
     }
 }
 
-/// A node on a line of its own, deeper than a level: it is to be there, and to be alone. The spot behind
+/// A node on a line of its own, deeper than a level: it is to be there, and to be alone. The position behind
 /// it.
 fn check_bare<'a, 't>(
     alloc: Global,
@@ -41,24 +41,24 @@ fn check_bare<'a, 't>(
     depth: usize,
 ) -> Result<Reached<'a, 't>, ReadError>
     requires ready { IsChecked x }
-    requires at { IsReached x.made.now x.rows.now x.document at }
-    requires line { IsLine x.rows.now x.document at.spot }
+    requires at { IsReached x.decoded.now x.rows.now x.document at }
+    requires line { IsLine x.rows.now x.document at.position }
     requires deep { OfLines x.rows.now x.document (λ ls n.
-        is_end (part ls (n at.spot) floor) ≡ false) }
-    ensures sound { OfCheckedLine x.entry at.entry.spot (λ ls n l.
-        Decides result ((is_some l.head && is_end (part ls (n at.entry.spot + 1) floor)) &&
+        is_end (part ls (n at.position) floor) ≡ false) }
+    ensures sound { OfCheckedLine x.entry at.entry.position (λ ls n l.
+        Decides result ((is_some l.head && is_end (part ls (n at.entry.position + 1) floor)) &&
         spec.head_is_sound depth l.head)) }
-    ensures reached { IfOk result (IsReached x.entry.made.now x.entry.rows.now x.entry.document) }
-    ensures behind { IfOk result (λ r. GivesStop x.entry.rows.now x.entry.document at.entry.spot
-        floor r.spot) }
+    ensures reached { IfOk result (IsReached x.entry.decoded.now x.entry.rows.now x.entry.document) }
+    ensures behind { IfOk result (λ r. GivesStop x.entry.rows.now x.entry.document at.entry.position
+        floor r.position) }
     ensures fault { IfErr result IsOfText }
 {
-    if !has_head(x.rows, x.document, at.spot) {
-        return Err(ReadError::Fault(row_fault(x, at.spot, FaultKind::BadIndent)));
+    if !has_head(x.rows, x.document, at.position) {
+        return Err(ReadError::Fault(row_fault(x, at.position, FaultKind::BadIndent)));
     }
     let after = line_behind(x, at);
     if is_deeper(x, after, floor) {
-        return Err(ReadError::Fault(row_fault(x, after.spot, FaultKind::BadIndent)));
+        return Err(ReadError::Fault(row_fault(x, after.position, FaultKind::BadIndent)));
     }
     match head_fault(alloc, x, at, depth) {
         Ok(()) => Ok(after),
@@ -74,9 +74,9 @@ fn push_key<'k, 't>(
     at: Reached<'k, 't>,
 ) -> Result<(), AllocError>
     requires ready { IsChecked x }
-    requires reached { IsReached x.made.now x.rows.now x.document at }
-    requires line { IsLine x.rows.now x.document at.spot }
-    ensures { OfLine x.entry.rows.now x.entry.document at.entry.spot (λ l. OnOk result
+    requires reached { IsReached x.decoded.now x.rows.now x.document at }
+    requires line { IsLine x.rows.now x.document at.position }
+    ensures { OfLine x.entry.rows.now x.entry.document at.entry.position (λ l. OnOk result
         (map (λ k. k.now) keys.new.items ≡
         map (λ k. k.now) keys.old.items ++ with_key (outline.key_of l.mark) [])) }
 {
@@ -94,11 +94,11 @@ fn push_key<'k, 't>(
 fn repeated_line(
     alloc: Global,
     x: Checked<'_, '_>,
-    start: Spot,
+    start: Position,
     floor: usize,
-) -> Result<Spot, AllocError>
+) -> Result<Position, AllocError>
     requires ready { IsChecked x }
-    requires start { IsSpot x.rows.now x.document start }
+    requires start { IsPosition x.rows.now x.document start }
 {
     let mut known = BTreeMap::new(alloc);
     let mut at = start;
@@ -114,7 +114,7 @@ fn repeated_line(
 }
 
 /// A line of a collection and the lines under it: it is to stand at the collection's level, to have no
-/// head where lines are under it, and a head that is sound. The spot behind them.
+/// head where lines are under it, and a head that is sound. The position behind them.
 #[cycle(sound)]
 fn check_line<'a, 't>(
     alloc: Global,
@@ -124,18 +124,18 @@ fn check_line<'a, 't>(
     depth: usize,
 ) -> Result<Reached<'a, 't>, ReadError>
     requires ready { IsChecked x }
-    requires at { IsReached x.made.now x.rows.now x.document at }
-    requires line { IsLine x.rows.now x.document at.spot }
-    ensures sound { OfCheckedLine x.entry at.entry.spot (λ ls num l. Decides result
-        (spec.are_sound_under depth n l (part ls (num at.entry.spot + 1) (outline.level l)))) }
-    ensures reached { IfOk result (IsReached x.entry.made.now x.entry.rows.now x.entry.document) }
+    requires at { IsReached x.decoded.now x.rows.now x.document at }
+    requires line { IsLine x.rows.now x.document at.position }
+    ensures sound { OfCheckedLine x.entry at.entry.position (λ ls num l. Decides result
+        (spec.are_sound_under depth n l (part ls (num at.entry.position + 1) (outline.level l)))) }
+    ensures reached { IfOk result (IsReached x.entry.decoded.now x.entry.rows.now x.entry.document) }
     ensures behind { IfOk result (λ r.
-        GivesEnd x.entry.rows.now x.entry.document at.entry.spot r.spot) }
+        GivesEnd x.entry.rows.now x.entry.document at.entry.position r.position) }
     ensures fault { IfErr result IsOfText }
 {
     let level = at.level;
     if level != n {
-        return Err(ReadError::Fault(row_fault(x, at.spot, misplaced(level, n))));
+        return Err(ReadError::Fault(row_fault(x, at.position, misplaced(level, n))));
     }
     let after = line_behind(x, at);
     if !is_deeper(x, after, n) {
@@ -144,14 +144,14 @@ fn check_line<'a, 't>(
             Err(e) => Err(e),
         };
     }
-    if has_head(x.rows, x.document, at.spot) {
-        return Err(ReadError::Fault(row_fault(x, after.spot, FaultKind::BadIndent)));
+    if has_head(x.rows, x.document, at.position) {
+        return Err(ReadError::Fault(row_fault(x, after.position, FaultKind::BadIndent)));
     }
     check_lines(alloc, x, after, n, depth)
 }
 
 /// The lines from a place on that are deeper than a level: they are to be the items or entries of one
-/// collection, in which at most so many are nested, or one node. The spot behind them.
+/// collection, in which at most so many are nested, or one node. The position behind them.
 #[cycle(sound)]
 pub(crate) fn check_lines<'a, 't>(
     alloc: Global,
@@ -161,12 +161,12 @@ pub(crate) fn check_lines<'a, 't>(
     depth: usize,
 ) -> Result<Reached<'a, 't>, ReadError>
     requires ready { IsChecked x }
-    requires start { IsReached x.made.now x.rows.now x.document start }
+    requires start { IsReached x.decoded.now x.rows.now x.document start }
     ensures sound { OfChecked x.entry (λ ls n. Decides result
-        (spec.is_sound depth (part ls (n start.entry.spot) floor))) }
-    ensures reached { IfOk result (IsReached x.entry.made.now x.entry.rows.now x.entry.document) }
+        (spec.is_sound depth (part ls (n start.entry.position) floor))) }
+    ensures reached { IfOk result (IsReached x.entry.decoded.now x.entry.rows.now x.entry.document) }
     ensures behind { IfOk result (λ r.
-        GivesStop x.entry.rows.now x.entry.document start.entry.spot floor r.spot) }
+        GivesStop x.entry.rows.now x.entry.document start.entry.position floor r.position) }
     ensures fault { IfErr result IsOfText }
 {
     if !is_deeper(x, start, floor) {
@@ -176,7 +176,7 @@ pub(crate) fn check_lines<'a, 't>(
         return check_bare(alloc, x, start, floor, depth);
     }
     if depth == 0 {
-        return Err(ReadError::Fault(row_fault(x, start.spot, FaultKind::TooDeep)));
+        return Err(ReadError::Fault(row_fault(x, start.position, FaultKind::TooDeep)));
     }
     let mut keys = Keys::new(alloc);
     let mut at = start;
@@ -188,7 +188,7 @@ pub(crate) fn check_lines<'a, 't>(
         };
     }
     if !are_distinct(keys.as_mut_slice()) {
-        let line = repeated_line(alloc, x, start.spot, floor)?;
+        let line = repeated_line(alloc, x, start.position, floor)?;
         return Err(ReadError::Fault(row_fault(x, line, FaultKind::DuplicateKey)));
     }
     Ok(at)

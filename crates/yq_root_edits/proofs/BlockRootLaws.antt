@@ -33,7 +33,7 @@ use Rattle.yq_change.proofs.PlacedPartLaws.{document_stands_at}
 use Rattle.yq_change.proofs.TextPieceLaws.{pieces_joined, text_is_piece}
 use Rattle.yq_change.proofs.RemovalPieceLaws.{spaces_piece, seam_pieces}
 use Rattle.yq_edits.proofs.AppendAtEnd.{nothing_tail}
-use Rattle.yq_edits.proofs.AppendEntryLaws.{none_quiet}
+use Rattle.yq_edits.proofs.AppendEntryLaws.{none_uncommented}
 use Rattle.yq_edits.proofs.CommentPieceLaws.{nothing, break_piece}
 use Rattle.yq_edits.proofs.LastRows.{lf_end}
 use Rattle.yq_root_edits.proofs.RootReadLaws.{TakesValue}
@@ -162,7 +162,7 @@ module _ (n : ℕ) (c : Cut) (w : BlockRoot) (read : read_at (cut_text c) ≡ So
     front = λ x some. gap_other h.row.gap behind_row x (behind_row_some unlimited h.row (rows_text h.others more) all.0) all.0.gap;
     tail = tail h.ends;
     apart = apart h.ends;
-    quiet = quiet h.ends;
+    uncommented = uncommented h.ends;
     back_is = gap_is;
     ends = subst (λ t. ends_part t ≡ true) stands.behind (part_ends c (part_number n c) true cut.parts);
   }
@@ -175,9 +175,9 @@ module _ (n : ℕ) (c : Cut) (w : BlockRoot) (read : read_at (cut_text c) ≡ So
       apart (inl b) = break_apart w.last more b
       apart (inr e) = (λ i. separates (e.0 i ++ e.1 i))
 
-      quiet : (IsOneBreak w.last) ⊎ ((w.last ≡ []) × (h.d.part.end ++ h.d.behind ≡ [])) → line_comment w.last ≡ None
-      quiet (inl b) = break_bare w.last b
-      quiet (inr e) = ap line_comment e.0 ∙ none_quiet
+      uncommented : (IsOneBreak w.last) ⊎ ((w.last ≡ []) × (h.d.part.end ++ h.d.behind ≡ [])) → line_comment w.last ≡ None
+      uncommented (inl b) = break_bare w.last b
+      uncommented (inr e) = ap line_comment e.0 ∙ none_uncommented
 
   pub takes_value : TakesValue n c h.d h.row.gap w.last h.d.part.end
   takes_value = record {

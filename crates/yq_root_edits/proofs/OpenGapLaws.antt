@@ -44,11 +44,11 @@ module _ (l : List ℕ) (h : IsGapLine l []) (open' : is_closed_text l ≡ false
   bare : l ≡ h.white ++ h.comment
   bare = h.line.spelled ∙ (ap (λ x. h.white ++ (h.comment ++ x)) none ∙ ap (λ x. h.white ++ x) (append-nil h.comment))
 
-  old_remark : IsComment h.comment []
-  old_remark = subst (IsComment h.comment) none h.line.remark
+  old_comment : IsComment h.comment []
+  old_comment = subst (IsComment h.comment) none h.line.as_comment
 
-  remark : IsComment h.comment (break_text br)
-  remark = comment_other h.comment [] [] (break_text br) (ap pairs_returns (append-nil h.comment) ∙ pairs_back h.white h.comment (ap pairs_returns (sym bare) ∙ pairs)) old_remark (inr (refl, refl))
+  as_comment : IsComment h.comment (break_text br)
+  as_comment = comment_other h.comment [] [] (break_text br) (ap pairs_returns (append-nil h.comment) ∙ pairs_back h.white h.comment (ap pairs_returns (sym bare) ∙ pairs)) old_comment (inr (refl, refl))
 
   spelled : l ++ break_text br ≡ h.white ++ (h.comment ++ break_text br)
   spelled = ap (λ x. x ++ break_text br) bare ∙ append_assoc h.white h.comment (break_text br)
@@ -57,15 +57,15 @@ module _ (l : List ℕ) (h : IsGapLine l []) (open' : is_closed_text l ≡ false
   last_broken x = record {
     white = h.white;
     comment = h.comment;
-    line = record { break = break_text br; spelled = spelled; blank = h.line.blank; remark = remark; ends = inl (break_is br) };
+    line = record { break = break_text br; spelled = spelled; blank = h.line.blank; as_comment = as_comment; ends = inl (break_is br) };
     some = some_more l (break_text br) h.some;
   }
 
   same_text : comment_text (l ++ break_text br) ≡ comment_text l
   same_text =
       ap comment_text spelled
-      ∙ (comment_is h.white h.comment (break_text br) h.line.blank remark (inl (break_is br))
-      ∙ (sym (comment_is h.white h.comment [] h.line.blank old_remark (inr (refl, refl))) ∙ ap comment_text (ap (λ x. h.white ++ x) (append-nil h.comment) ∙ sym bare)))
+      ∙ (comment_is h.white h.comment (break_text br) h.line.blank as_comment (inl (break_is br))
+      ∙ (sym (comment_is h.white h.comment [] h.line.blank old_comment (inr (refl, refl))) ∙ ap comment_text (ap (λ x. h.white ++ x) (append-nil h.comment) ∙ sym bare)))
 
 -- a line is a comment line where it has the text of one
 text_there : (l : List ℕ) → is_some (comment_text l) ≡ front (λ b. eqb b 35) (past_white l)

@@ -45,7 +45,7 @@ use Rattle.yq_edits.specs.EditLaws.{CarriedOut}
 use Rattle.yq_edits.proofs.ItemsLocal.{last_nothing}
 use Rattle.yq_edits.proofs.LocalLaws.{cut_known}
 use Rattle.yq_edits.proofs.AppendAtEnd.{nothing_tail}
-use Rattle.yq_edits.proofs.AppendEntryLaws.{none_quiet}
+use Rattle.yq_edits.proofs.AppendEntryLaws.{none_uncommented}
 use Rattle.yq_root_edits.proofs.FirstRows.{empty_cases}
 use Rattle.yq_edits.proofs.BreakLaws.{break_is as break_kind}
 use Rattle.yq_root_edits.proofs.ClosedTexts.{closed_behind, closed_end, closed_line, open_some}
@@ -65,7 +65,7 @@ use Rattle.yq_root_edits.proofs.UnwrittenRootLaws.{long_some, stands, there, cut
 
 -- rows come behind a gap, at the end of a text
 room_at_end : (gap : List ℕ) → ((x : List ℕ) → is_empty x ≡ false → IsGap gap x) → HasRoom gap [] [] []
-room_at_end gap front = record { front = front; tail = nothing_tail; apart = refl; quiet = none_quiet; back_is = no_gap_here []; ends = refl }
+room_at_end gap front = record { front = front; tail = nothing_tail; apart = refl; uncommented = none_uncommented; back_is = no_gap_here []; ends = refl }
 
 front_short : (a b : List ℕ) (limit : ℕ) → length (a ++ b) ≤ limit → length a ≤ limit
 front_short a b limit h = omega (arith, h, length-append a b)

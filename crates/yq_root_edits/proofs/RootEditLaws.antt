@@ -23,13 +23,13 @@ use Rattle.yq_script.specs.Script.{old_text, new_text}
 use Rattle.yq_edits.specs.ClosedTexts.{is_closed_text, lines_put_behind}
 use Rattle.yq_edits.specs.EditLaws.{CarriedOut, IsEdit}
 use Rattle.yq_edits.specs.Layouts.{layout_of}
-use Rattle.yq_edits.specs.ReplaceEdits.{first_put, root_put}
+use Rattle.yq_edits.specs.ReplaceEdits.{no_rows_put, root_put}
 use Rattle.yq_edits.proofs.CommentPieceLaws.{break_piece}
 use Rattle.yq_edits.proofs.LastRows.{lines_local}
 use Rattle.yq_edits.proofs.LayoutLaws.{mapping_least}
 use Rattle.yq_edits.proofs.OneLines.{is_one_line}
 use Rattle.yq_edits.proofs.SegmentLaws.{segments_readable}
-use Rattle.yq_root_edits.specs.RootEdits.{FirstNodesArePut, RootsArePut}
+use Rattle.yq_root_edits.specs.RootEdits.{NoRowsArePut, RootsArePut}
 use Rattle.yq_root_edits.proofs.BlockRootLaws.{IsBlockRoot, block_root_at, takes_value, before_piece, last_piece, behind_piece}
 use Rattle.yq_root_edits.proofs.OpenRootLaws.{open_carried}
 use Rattle.yq_root_edits.proofs.RootFits.{FitsPart, LocalRoot, fits_part, value_carried}
@@ -116,7 +116,7 @@ put_piece true br lines b k = pieces_joined lines br k b
 put_piece false br lines b k = pieces_joined br lines b k
 
 module _ (n : ℕ) (v : Node) (c : Cut) (w : NoRows) (read : read_at (cut_text c) ≡ Some c) (h : IsUnwrittenRoot n c w) where
-  first_old : old_text (first_put (layout_of n c) v w) ≡ cut_text c
+  first_old : old_text (no_rows_put (layout_of n c) v w) ≡ cut_text c
   first_old = ap (λ t. w.before ++ t) (append-nil w.behind) ∙ whole n c w read h
 
   module _ (value_tree : IsValueTree v) (fits : Fits (room_of (cut_text c)) (replace n [] v) (documents c)) where
@@ -129,30 +129,30 @@ module _ (n : ℕ) (v : Node) (c : Cut) (w : NoRows) (read : read_at (cut_text c
     there : FitsPart v h.d.part
     there = fits_part n v c h.d.part (stands n c w read h).there value_tree fits
 
-    new_is : new_text (first_put (layout_of n c) v w) ≡ h.d.before ++ (h.d.part.end ++ (lines_put_behind (is_closed_text w.before) (break_text (layout_of n c).br) (block_value (layout_of n c) 0 v) ++ h.d.behind))
+    new_is : new_text (no_rows_put (layout_of n c) v w) ≡ h.d.before ++ (h.d.part.end ++ (lines_put_behind (is_closed_text w.before) (break_text (layout_of n c).br) (block_value (layout_of n c) 0 v) ++ h.d.behind))
     new_is =
         (λ i. h.before_is i ++ (lines_put_behind (is_closed_text w.before) br (block_value (layout_of n c) 0 v) ++ (append-nil w.behind ∙ h.behind_is) i))
         ∙ append_assoc h.d.before h.d.part.end (lines_put_behind (is_closed_text w.before) br lines ++ h.d.behind)
 
-    by_break : (closed : Bool) → is_closed_text w.before ≡ closed → IsReadable (new_text (first_put (layout_of n c) v w)) → CarriedOut (replace n [] v) c (first_put (layout_of n c) v w)
+    by_break : (closed : Bool) → is_closed_text w.before ≡ closed → IsReadable (new_text (no_rows_put (layout_of n c) v w)) → CarriedOut (replace n [] v) c (no_rows_put (layout_of n c) v w)
     by_break true e readable =
         let takes = takes_unwritten n c w read h e (layout_of n c).br in
         let st = stands n c w read h in
         let rows = are n c h.d h.d.part.end br [] takes v (layout_of n c) 0 (mapping_least n c) value_tree there.near in
-        value_carried n c h.d h.d.part.end br [] v (layout_of n c) 0 (first_put (layout_of n c) v w) takes (mapping_least n c) value_tree there
+        value_carried n c h.d h.d.part.end br [] v (layout_of n c) 0 (no_rows_put (layout_of n c) v w) takes (mapping_least n c) value_tree there
         (sym (new_is ∙ ((λ i. h.d.before ++ (h.d.part.end ++ (lines_put_behind (e i) br lines ++ h.d.behind))) ∙ ap (λ t. h.d.before ++ (h.d.part.end ++ t)) (append_assoc lines br h.d.behind)))) readable
-        (λ new known. gap_moves n c h.d.part st.there h.d.before (λ x. st.put x ∙ ap (λ t. h.d.before ++ part_text x t) (sym st.behind)) (first_put (layout_of n c) v w) (root_rows (layout_of n c) h.d.part.end 0 br v) [] h.rows_are rows.some
+        (λ new known. gap_moves n c h.d.part st.there h.d.before (λ x. st.put x ∙ ap (λ t. h.d.before ++ part_text x t) (sym st.behind)) (no_rows_put (layout_of n c) v w) (root_rows (layout_of n c) h.d.part.end 0 br v) [] h.rows_are rows.some
         (rows.first ∙ sym (append-nil h.d.part.end)) (append-nil w.before ∙ h.before_is) (append-nil w.behind ∙ (h.behind_is ∙ sym st.behind)))
     by_break false e readable =
-        open_carried n c w read h e (layout_of n c).br v (layout_of n c) (mapping_least n c) value_tree there (first_put (layout_of n c) v w) (append-nil w.before) (append-nil w.behind)
+        open_carried n c w read h e (layout_of n c).br v (layout_of n c) (mapping_least n c) value_tree there (no_rows_put (layout_of n c) v w) (append-nil w.before) (append-nil w.behind)
         (new_is ∙ ((λ i. h.d.before ++ (h.d.part.end ++ (lines_put_behind (e i) br lines ++ h.d.behind))) ∙ ap (λ t. h.d.before ++ (h.d.part.end ++ t)) (append_assoc br lines h.d.behind))) readable
 
-    first_carried : length (new_text (first_put (layout_of n c) v w)) ≤ text_limit → CarriedOut (replace n [] v) c (first_put (layout_of n c) v w)
+    first_carried : length (new_text (no_rows_put (layout_of n c) v w)) ≤ text_limit → CarriedOut (replace n [] v) c (no_rows_put (layout_of n c) v w)
     first_carried size =
         let kept = pieces n c w read h in
         let put_there : IsPiece (lines_put_behind (is_closed_text w.before) br (block_value (layout_of n c) 0 v)) =
         put_piece (is_closed_text w.before) br (block_value (layout_of n c) 0 v) (break_piece (layout_of n c).br) (value_piece v (layout_of n c) 0 value_tree) in
-        by_break (is_closed_text w.before) refl (segments_readable (first_put (layout_of n c) v w) (kept.0, (put_there, (kept.1, tt))) size)
+        by_break (is_closed_text w.before) refl (segments_readable (no_rows_put (layout_of n c) v w) (kept.0, (put_there, (kept.1, tt))) size)
 
 -- ---- both
 
@@ -162,7 +162,7 @@ roots_are_put n steps v c w read at =
     let h = block_root_at n c w read x.1 in
     subst (λ (ts : List Step). IsEdit (replace n ts v) c (root_put (layout_of n c) v w)) (sym x.0) (record { old = old_is n v c w read h; carried = carried n v c w read h })
 
-pub first_nodes_are_put : FirstNodesArePut
+pub first_nodes_are_put : NoRowsArePut
 first_nodes_are_put n steps v c w read at =
     let x = has_no_rows n steps c w at in
-    subst (λ (ts : List Step). IsEdit (replace n ts v) c (first_put (layout_of n c) v w)) (sym x.0) (record { old = first_old n v c w read x.1; carried = first_carried n v c w read x.1 })
+    subst (λ (ts : List Step). IsEdit (replace n ts v) c (no_rows_put (layout_of n c) v w)) (sym x.0) (record { old = first_old n v c w read x.1; carried = first_carried n v c w read x.1 })

@@ -161,5 +161,5 @@ module _ (n : ℕ) (c : Cut) (d : PlacedPart) (gap last back : List ℕ) (h : Ta
           root = ap (λ b. replaced (led b lead [] v) (root_of p)) (sym h.block);
           lead_goes = lead_goes;
           block = λ keeps. absurd keeps;
-          seats = λ sets. absurd sets;
+          equal_room = λ sets. absurd sets;
         })

@@ -63,7 +63,7 @@ pub record HasRoom (gap last back rest : List ℕ) : Type 0 where
   pub front : (x : List ℕ) → is_empty x ≡ false → IsGap gap x
   pub tail : IsTail last (back ++ rest)
   pub apart : separates (last ++ (back ++ rest)) ≡ true
-  pub quiet : line_comment last ≡ None
+  pub uncommented : line_comment last ≡ None
   pub back_is : IsGap back rest
   pub ends : ends_part rest ≡ true
 
@@ -97,7 +97,7 @@ module _ (v : Node) (l : Layout) (gap : List ℕ) (column : ℕ) (last back rest
     laid = value_laid v l column last (back ++ rest) (record { rows = record { filled = filled; value = tree_is }; near = near; ends = record { tail = room.tail; plain = plain (suc column) } })
 
     stands : Stands (lines_of old) v (level_at column v)
-    stands = rules_give (level_at column v) (lines_of old) v (node_stands v l column last step filled tree_is room.quiet)
+    stands = rules_give (level_at column v) (lines_of old) v (node_stands v l column last step filled tree_is room.uncommented)
 
     abbrev above : List (List ℕ)
     above = head_comment gap

@@ -7,7 +7,7 @@ use Rattle.yq_documents.specs.Documents.{document_parts}
 use Rattle.yq_documents.specs.Reading as reading
 use Rattle.yq_documents.specs.Reading.{documents_of, read_at}
 use Rattle.yq_documents.specs.Ready.{part_is_block}
-use Rattle.yq_documents.specs.Seats.{seat_of, seat_has_room}
+use Rattle.yq_documents.specs.LinesInRows.{row_line_of, row_line_has_room}
 use Rattle.yq_meaning.specs.After.{after_op}
 use Rattle.yq_meaning.specs.Changes.{Room}
 use Rattle.yq_meaning.specs.Operations.{Operation}
@@ -18,7 +18,7 @@ use Rattle.yq_edits.proofs.DoneLaws.{read_cut}
 
 -- what documents have room for, by their parts
 abbrev rooms : List Part → ℕ → Room
-rooms ps i = record { block = part_is_block (slice_get ps i); has = λ place steps. seat_has_room (comment_part place) (slice_get ps i >>= λ p. seat_of steps p.rows) }
+rooms ps i = record { block = part_is_block (slice_get ps i); has = λ place steps. row_line_has_room (comment_part place) (slice_get ps i >>= λ p. row_line_of steps p.rows) }
 
 pub same_reads : (op : Operation) (b c : Cut) (new : List ℕ) → read_at (cut_text b) ≡ Some b → read_at (cut_text c) ≡ Some c → document_parts b ≡ document_parts c → ReadsAfter op b new → ReadsAfter op c new
 same_reads op b c new other read same h = record {

@@ -8,7 +8,7 @@ use Rattle.yq_rows.specs.Rows as rows
 use Rattle.yq_rows.specs.Rows.{Content, Nothing, Inline, Row, print_row, rows_text, Cut}
 use Rattle.yq_rows.specs.View.{slices}
 use Rattle.yq_places.specs.PlacedRows.{PlacedPart, placed_document}
-use Rattle.yq_places.specs.Standings.{BlockRoot, NoRows, PlacedEntry, Standing, alone, beside, under, compact, block, root, no_rows, behind_mark, below, block_root, compact_in, entry_standing, held, is_alone, lone, before_entry, behind_entry, placed_entry, root_standing, standing_at}
+use Rattle.yq_places.specs.Standings.{BlockRoot, NoRows, RowsOfEntry, Standing, alone, beside, under, compact, block, root, no_rows, behind_mark, below, block_root, compact_in, entry_standing, held, is_alone, lone, before_entry, behind_entry, rows_of_entry, root_standing, standing_at}
 use Rattle.yq_places.proofs.PlacedPartLaws.{map_some}
 
 -- whether what stands somewhere is a root that is a block collection, or no rows
@@ -22,24 +22,24 @@ is_root (root w) = true
 is_root (no_rows w) = true
 
 -- nothing of that kind stands at an item or entry
-below_other : (e : PlacedEntry) (rs : List Row) → is_root (below e rs) ≡ false
+below_other : (e : RowsOfEntry) (rs : List Row) → is_root (below e rs) ≡ false
 below_other e [] = refl
 below_other e (r ∷ rs) =
     cond_both (is_alone r) (alone (lone (before_entry e ++ print_row e.row []) r (rows_text rs (behind_entry e)))) (under (held e) r.column) (λ t. is_root t ≡ false) (λ bare. refl) (λ other. refl)
 
-behind_other : (e : PlacedEntry) (x : Content) → is_root (behind_mark e x) ≡ false
+behind_other : (e : RowsOfEntry) (x : Content) → is_root (behind_mark e x) ≡ false
 behind_other e (Nothing tail) = below_other e e.under
 behind_other e (Inline space node tail) = cond_both (is_empty (slices e.row).head) (below e e.under) (beside (held e)) (λ t. is_root t ≡ false) (λ none. below_other e e.under) (λ some. refl)
 behind_other e (rows.Block space anchor b) = refl
 
-entry_other : (e : PlacedEntry) → is_root (entry_standing e) ≡ false
+entry_other : (e : RowsOfEntry) → is_root (entry_standing e) ≡ false
 entry_other e =
     cond_both (e.line == length e.row.dashes) (behind_mark e e.row.content) (compact (compact_in e)) (λ t. is_root t ≡ false) (λ last. behind_other e e.row.content) (λ other. refl)
 
 -- no steps lead to what is of that kind
 root_found : (n : ℕ) (steps : List Step) (c : Cut) (t : Standing) → standing_at n steps c ≡ Some t → is_root t ≡ true → (steps ≡ []) × (d : PlacedPart) × (placed_document n c ≡ Some d) × (root_standing d d.part.rows ≡ t)
 root_found n [] c t at is = let x = map_some (λ (d : PlacedPart). root_standing d d.part.rows) (placed_document n c) t at in (refl, x.0, x.1, x.2)
-root_found n (s ∷ ss) c t at is = let x = map_some entry_standing (placed_entry n (s ∷ ss) c) t at in absurd (false≢true (sym (entry_other x.0) ∙ (ap is_root x.2 ∙ is)))
+root_found n (s ∷ ss) c t at is = let x = map_some entry_standing (rows_of_entry n (s ∷ ss) c) t at in absurd (false≢true (sym (entry_other x.0) ∙ (ap is_root x.2 ∙ is)))
 
 -- A block collection that is a root: the rows of its document.
 pub record HasRoot (n : ℕ) (c : Cut) (w : BlockRoot) : Type 0 where

@@ -39,7 +39,7 @@ use Rattle.yq_change.proofs.PartLaws.{document_known, part_numbered}
 use Rattle.yq_change.proofs.PlacedPartLaws.{document_stands_at}
 use Rattle.yq_change.proofs.TextPieceLaws.{text_is_piece}
 use Rattle.yq_change.proofs.RemovalPieceLaws.{seam_pieces}
-use Rattle.yq_block.proofs.LineLaws.{break_quiet}
+use Rattle.yq_block.proofs.LineLaws.{break_uncommented}
 use Rattle.yq_edits.specs.ClosedTexts.{is_closed_text}
 use Rattle.yq_root_edits.proofs.FirstRows.{empty_cases}
 use Rattle.yq_root_edits.proofs.ClosedTexts.{closed_behind}
@@ -56,18 +56,18 @@ open_end (b ∷ []) some none = (or_parts (is_feed b) _ none.0).0
 open_end (b ∷ (d ∷ t)) some none = open_end (d ∷ t) refl none.1
 
 -- white space and a comment end in none
-remark_open : (white comment l rest : List ℕ) (h : IsLineEnd white comment l rest) → is_empty l ≡ false → h.break ≡ [] → is_closed_text l ≡ false
-remark_open white comment l rest h some e =
+comment_open : (white comment l rest : List ℕ) (h : IsLineEnd white comment l rest) → is_empty l ≡ false → h.break ≡ [] → is_closed_text l ≡ false
+comment_open white comment l rest h some e =
     let is : l ≡ white ++ comment = h.spelled ∙ (ap (λ x. white ++ (comment ++ x)) e ∙ ap (λ x. white ++ x) (append-nil comment)) in
-    let none = white_none white comment h.break h.blank (comment_none comment h.break h.remark) in
+    let none = white_none white comment h.break h.blank (comment_none comment h.break h.as_comment) in
     open_end l some (subst (λ x. NoneIn ends_line x []) (sym is) (subst (NoneIn ends_line (white ++ comment)) e none))
 
 -- ---- gaps that end in a break
 
 last_line : (l x : List ℕ) → IsGapLine l [] → is_closed_text l ≡ true → IsGapLine l x
 last_line l x h closed = ⊎_elim {0, 0, 0}
-    (λ k. record { white = h.white; comment = h.comment; line = record { break = h.line.break; spelled = h.line.spelled; blank = h.line.blank; remark = h.line.remark; ends = inl k }; some = h.some })
-    (λ e. absurd (false≢true (sym (remark_open h.white h.comment l [] h.line h.some e.0) ∙ closed)))
+    (λ k. record { white = h.white; comment = h.comment; line = record { break = h.line.break; spelled = h.line.spelled; blank = h.line.blank; as_comment = h.line.as_comment; ends = inl k }; some = h.some })
+    (λ e. absurd (false≢true (sym (comment_open h.white h.comment l [] h.line h.some e.0) ∙ closed)))
     h.line.ends
 
 closed_lines : (ls : List (List ℕ)) (x : List ℕ) → AreGapLines ls [] → is_closed_text (joined ls) ≡ true → AreGapLines ls x
@@ -122,7 +122,7 @@ ends_in_marker n c d e = let w = ends_at_marker (part_number n c) c [] in (w.0, 
 open_tail : (a b c : ℕ) (p : List ℕ) (t : IsTail p []) → is_feed c ≡ false → is_closed_text (a ∷ (b ∷ (c ∷ p))) ≡ true → t.line.break ≡ [] → ⊥
 unfolding is_closed_text
 open_tail a b c [] t feed closed e = false≢true (sym feed ∙ closed)
-open_tail a b c (x ∷ p) t feed closed e = false≢true (sym (remark_open t.white t.comment (x ∷ p) [] t.line refl e) ∙ (sym (closed_behind (a ∷ (b ∷ (c ∷ []))) (x ∷ p) refl) ∙ closed))
+open_tail a b c (x ∷ p) t feed closed e = false≢true (sym (comment_open t.white t.comment (x ∷ p) [] t.line refl e) ∙ (sym (closed_behind (a ∷ (b ∷ (c ∷ []))) (x ∷ p) refl) ∙ closed))
 
 closed_tail : (a b c : ℕ) (p : List ℕ) → is_feed c ≡ false → IsTail p [] → is_closed_text (a ∷ (b ∷ (c ∷ p))) ≡ true → is_line p ≡ true
 closed_tail a b c p feed t closed = ⊎_elim {0, 0, 0}
@@ -224,7 +224,7 @@ module _ (n : ℕ) (c : Cut) (w : NoRows) (read : read_at (cut_text c) ≡ Some 
       front = λ x some. closed_gap h.d.part.end h.d.behind x gap_is (gap_closed (empty_cases h.d.part.end)) (empty_cases h.d.behind);
       tail = break_tail br h.d.behind;
       apart = apart br;
-      quiet = break_quiet br;
+      uncommented = break_uncommented br;
       back_is = no_gap_here h.d.behind;
       ends = subst (λ t. ends_part t ≡ true) stands.behind (part_ends c (part_number n c) true cut.parts);
     }

@@ -8,7 +8,7 @@ use Rattle.yq_places.specs.Standings.{BlockRoot, NoRows, root, no_rows, standing
 use Rattle.yq_meaning.specs.Operations.{replace}
 use Rattle.yq_edits.specs.EditLaws.{IsEdit}
 use Rattle.yq_edits.specs.Layouts.{layout_of}
-use Rattle.yq_edits.specs.ReplaceEdits.{first_put, root_put}
+use Rattle.yq_edits.specs.ReplaceEdits.{no_rows_put, root_put}
 
 -- Replace: a value put in the place of a root that is a block collection.
 abbrev pub RootsArePut : Type 0
@@ -17,7 +17,7 @@ RootsArePut =
     read_at (cut_text c) ≡ Some c → standing_at n steps c ≡ Some (root w) → IsEdit (replace n steps v) c (root_put (layout_of n c) v w)
 
 -- Replace: a value put as the root of a document without rows.
-abbrev pub FirstNodesArePut : Type 0
-FirstNodesArePut =
+abbrev pub NoRowsArePut : Type 0
+NoRowsArePut =
     (n : ℕ) (steps : List Step) (v : Node) (c : Cut) (w : NoRows) →
-    read_at (cut_text c) ≡ Some c → standing_at n steps c ≡ Some (no_rows w) → IsEdit (replace n steps v) c (first_put (layout_of n c) v w)
+    read_at (cut_text c) ≡ Some c → standing_at n steps c ≡ Some (no_rows w) → IsEdit (replace n steps v) c (no_rows_put (layout_of n c) v w)

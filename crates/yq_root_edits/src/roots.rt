@@ -5,5 +5,5 @@ ghost use Rattle.yq_root_edits.specs.RootEdits as spec;
 /// out its operation.
 pub fn roots_are_put()
     ensures block { spec.RootsArePut }
-    ensures first { spec.FirstNodesArePut }
+    ensures first { spec.NoRowsArePut }
 {}

@@ -26,7 +26,7 @@ break_alike : (p t u : List ℕ) → Alike (Some false) t u → IsBreak p t → 
 break_alike p t u h g = ⊎_elim {0, 0, 0} (λ e. inl e) (λ e. absurd (alike_some t u h e.1)) g
 
 line_end_alike : (white comment p t u : List ℕ) → Alike (Some false) t u → IsLineEnd white comment p t → IsLineEnd white comment p u
-line_end_alike white comment p t u h g = record { break = g.break; spelled = g.spelled; blank = g.blank; remark = g.remark; ends = break_alike g.break t u h g.ends }
+line_end_alike white comment p t u h g = record { break = g.break; spelled = g.spelled; blank = g.blank; as_comment = g.as_comment; ends = break_alike g.break t u h g.ends }
 
 gap_lines_alike : (lines : List (List ℕ)) (t u : List ℕ) → Alike (Some false) t u → AreGapLines lines t → AreGapLines lines u
 gap_lines_alike [] t u h g = tt

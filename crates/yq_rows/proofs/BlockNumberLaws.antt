@@ -12,9 +12,9 @@ use Rattle.yq_scalar.proofs.HeaderLaws.{indicators_again}
 use Rattle.yq_scalar.proofs.RawLaws.{raw_lines}
 use Rattle.yq_inline.specs.Inline.{depth_limit}
 use Rattle.yq_inline.specs.Nodes.{Node, empty, alias, scalar, coll, anchored, node_text, items_text, takes_anchor, IsNode}
-use Rattle.yq_inline.specs.Scalars.{IsScalar, begins_scalar}
+use Rattle.yq_inline.specs.Scalars.{IsScalarAt, begins_scalar}
 use Rattle.yq_inline.proofs.PieceLaws.{front_not, scalar_begins}
-use Rattle.yq_rows.specs.BlockNumbers.{block_told}
+use Rattle.yq_rows.specs.BlockNumbers.{block_numbers_of}
 use Rattle.yq_rows.specs.Grammar.{IsContent}
 use Rattle.yq_rows.specs.Removal.{block_numbers, block_of}
 use Rattle.yq_rows.specs.Rows.{Content, Nothing, Inline, Block}
@@ -22,7 +22,7 @@ use Rattle.yq_rows.specs.View.{anchor_cut, content_cut}
 use Rattle.yq_rows.proofs.NodeFronts.{is_block_mark}
 
 -- no inline node begins as a block scalar does
-scalar_no_mark : (n : ℤ) (p rest : List ℕ) → IsScalar false (Some (deeper n)) p rest → front is_block_mark p ≡ false
+scalar_no_mark : (n : ℤ) (p rest : List ℕ) → IsScalarAt false (Some (deeper n)) p rest → front is_block_mark p ≡ false
 scalar_no_mark n [] rest h = refl
 scalar_no_mark n (b ∷ bs) rest h =
     let begins = scalar_begins false (Some (deeper n)) (b ∷ bs) rest h in
@@ -53,7 +53,7 @@ head_no_mark n (coll k g is) rest h = opens k (g ++ items_text k is [])
 head_no_mark n (anchored m g node) rest h = behind_anchor n node rest h.3 h.4
 
 -- the numbers of a block scalar, by its header and its raw lines
-no_block : (n : ℤ) (head raw : List ℕ) → front is_block_mark head ≡ false → block_told n head raw ≡ None
+no_block : (n : ℤ) (head raw : List ℕ) → front is_block_mark head ≡ false → block_numbers_of n head raw ≡ None
 no_block n [] raw h = refl
 no_block n (b ∷ head) raw h = rw h refl
 
@@ -61,15 +61,15 @@ block_mark : (style : BlockStyle) → is_block_mark (mark_of style) ≡ true
 block_mark styles.Literal = refl
 block_mark styles.Folded = refl
 
-numbers_told : (n : ℤ) (b : BlockText) (rest : List ℕ) → IsBlock (deeper n) b rest → block_told n (mark_of b.style ∷ b.indicators) (joined b.raw) ≡ Some (block_numbers b)
+numbers_agrees : (n : ℤ) (b : BlockText) (rest : List ℕ) → IsBlock (deeper n) b rest → block_numbers_of n (mark_of b.style ∷ b.indicators) (joined b.raw) ≡ Some (block_numbers b)
 unfolding ends_block
-numbers_told n b rest h =
+numbers_agrees n b rest h =
     let own : indicators_at b.indicators ≡ (b.digit, b.chomping, b.indicators, []) = ap indicators_at (sym (append-nil b.indicators)) ∙ indicators_again b.digit b.chomping b.indicators [] h.indicators (refl, refl) in
     let lines : lines_of (joined b.raw) ≡ b.raw ++ [] = raw_lines b.indent b.raw h.lines ∙ sym (append-nil b.raw) in
     let indent : indent_at (deeper n) b.digit (lines_of (joined b.raw)) ≡ Some b.indent = ap (indent_at (deeper n) b.digit) lines ∙ indent_again (deeper n) b.digit false b.indent b.raw [] h.indent refl in
     rw (block_mark b.style, own, indent) refl
 
-pub block_by_pieces : (n : ℤ) (c : Content) (rest : List ℕ) → IsContent n c rest → block_told n (content_cut c).3 (content_cut c).5 ≡ option_map block_numbers (block_of c)
+pub block_by_pieces : (n : ℤ) (c : Content) (rest : List ℕ) → IsContent n c rest → block_numbers_of n (content_cut c).3 (content_cut c).5 ≡ option_map block_numbers (block_of c)
 block_by_pieces n (Nothing tail) rest h = refl
 block_by_pieces n (Inline space node tail) rest h = no_block n (anchor_cut node).2 [] (head_no_mark n node (tail ++ rest) h.1.valid)
-block_by_pieces n (Block space anchor block) rest h = numbers_told n block rest h.2
+block_by_pieces n (Block space anchor block) rest h = numbers_agrees n block rest h.2

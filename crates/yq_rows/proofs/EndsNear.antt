@@ -7,7 +7,7 @@ use Rattle.yq_scalar.specs.Answers.{◌>>=◌}
 use Rattle.yq_scalar.specs.Text.{is_empty}
 use Rattle.yq_rows.specs.Ends.{end_at}
 use Rattle.yq_rows.specs.Grammar.{begins_document}
-use Rattle.yq_rows.specs.Items.{Item, row_item, end_item, rows_items, items_of, rows_in_items, bounds_in_items, shown_items}
+use Rattle.yq_rows.specs.Items.{Item, row_item, end_item, rows_items, items_of, rows_in_items, bounds_in_items, view_of_items}
 use Rattle.yq_rows.specs.Kept.{ends_near, ends_placed}
 use Rattle.yq_rows.specs.Offsets.{Ends, row_length}
 use Rattle.yq_rows.specs.RowStarts.{bound_length, part_end}
@@ -125,10 +125,10 @@ ends_at (end_item gap marker ∷ xs) n k (suc i) b h =
     let place : end_in (n + length (gap ++ marker)) k i b xs ≡ end_in n k (suc i) b (end_item gap marker ∷ xs) = omega (arith, first, length-append gap marker) in
     ends_at xs (n + length (gap ++ marker)) k i b h ∙ ap (λ (m : ℕ). Some (end_at m b.rows b.end b.marker)) place
 
-pub part_ends : (xs : List Item) (i : ℕ) (b : Bound) (e : EndPlace) → slice_get (bounds_in_items 0 xs) i ≡ Some b → e ≡ get_or (ends_near 0 0 xs) i e → e.start + e.gap ≡ part_end i b (shown_items xs)
+pub part_ends : (xs : List Item) (i : ℕ) (b : Bound) (e : EndPlace) → slice_get (bounds_in_items 0 xs) i ≡ Some b → e ≡ get_or (ends_near 0 0 xs) i e → e.start + e.gap ≡ part_end i b (view_of_items xs)
 part_ends xs i b e there is =
     let near : slice_get (ends_near 0 0 xs) i ≡ Some (end_at (end_in 0 0 i b xs) b.rows b.end b.marker) = ends_at xs 0 0 i b there in
     let own : e ≡ end_at (end_in 0 0 i b xs) b.rows b.end b.marker = same_Some _ _ (sym (slice_get_read (ends_near 0 0 xs) (length (ends_near 0 0 xs)) i e refl (slice_get_within (ends_near 0 0 xs) i _ near) is) ∙ near) in
     let none : b.rows - 0 ≡ b.rows = omega arith in
-    let place : end_in 0 0 i b xs + length b.end ≡ part_end i b (shown_items xs) = omega (arith, ap (λ (j : ℕ). sum_by row_length (take j (rows_in_items xs))) none) in
+    let place : end_in 0 0 i b xs + length b.end ≡ part_end i b (view_of_items xs) = omega (arith, ap (λ (j : ℕ). sum_by row_length (take j (rows_in_items xs))) none) in
     ap (λ (x : EndPlace). x.start + x.gap) own ∙ place

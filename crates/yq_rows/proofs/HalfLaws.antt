@@ -1,4 +1,4 @@
--- Rows and ends of parts by where they are kept, lent on the two halves of their text.
+-- Rows and ends of parts by where they are kept, borrowed on the two halves of their text.
 use Rattle.std.proofs.Common.{◌≡◌, ℕ, ⊎_elim, ◌+◌, ◌-◌, ◌<◌, ◌≤◌, nat_lt, true, false, List, [], ◌∷◌, ◌++◌, length, map, reverse, refl, sym, ap, ◌∙◌, subst, arith, append-nil, length-append}
 use Rattle.std.proofs.lemmas.Bool.{cases_lt, le-ltb, lt-ltb}
 use Rattle.std.proofs.lemmas.Simd.{map-map}
@@ -8,8 +8,8 @@ use Rattle.std.specs.List.{All}
 use Rattle.std.specs.Str.{IsUtf8}
 use Rattle.yq_text.specs.declared.halves.Halves.{Halves}
 use Rattle.yq_rows.specs.Ends.{EndStands, bound_in, bound_in_half, bounds_in_halves, end_at}
-use Rattle.yq_rows.specs.Items.{Item, row_item, end_item, items_text, rows_in_items, bounds_in_items, shown_items}
-use Rattle.yq_rows.specs.Kept.{HavePlaces, TextsIn, ends_near, near, shown_in, slices_behind, turned}
+use Rattle.yq_rows.specs.Items.{Item, row_item, end_item, items_text, rows_in_items, bounds_in_items, view_of_items}
+use Rattle.yq_rows.specs.Kept.{HavePlaces, TextsIn, ends_near, near, halves_view, slices_behind, turned}
 use Rattle.yq_rows.specs.Offsets.{Ends, pieces_of, rows_in, slices_in}
 use Rattle.yq_rows.specs.Rows.{print_row}
 use Rattle.yq_rows.specs.View.{Bound, Slices, slices}
@@ -140,8 +140,8 @@ turned_rows : (back : List ℕ) (os : List declared.Offsets) → map (slices_beh
 unfolding pieces_of
 turned_rows back os = sym (map-map (slices_in back) (turned (length back)) os)
 
-pub have_shown : (text : Halves) (p : Places) → (h : HavePlaces text p) → shown_in text p ≡ shown_items (h.before ++ h.behind)
-have_shown text p h =
+pub have_view : (text : Halves) (p : Places) → (h : HavePlaces text p) → halves_view text p ≡ view_of_items (h.before ++ h.behind)
+have_view text p h =
     let back = text.back.now in
     let rows : rows_in text.front.now p.front.items ++ map (slices_behind back) (reverse p.behind.items) ≡ rows_in_items (h.before ++ h.behind) =
     ap (λ (l : List Slices). l ++ map (slices_behind back) (reverse p.behind.items)) (front_rows text p h).0

@@ -5,7 +5,7 @@ use Rattle.yq_scalar.specs.Text.{is_empty}
 use Rattle.yq_rows.specs.Exchange.{allows_first}
 use Rattle.yq_rows.specs.Gap.{IsGap}
 use Rattle.yq_rows.specs.Grammar.{Limit, unlimited, IsRow, AreRows, no_rows, IsMarkerLine, begins_document, AreParts}
-use Rattle.yq_rows.specs.Items.{Item, row_item, end_item, rows_items, items_of, items_text, Asked, asked_by, IsPartEnd, AreItems}
+use Rattle.yq_rows.specs.Items.{Item, row_item, end_item, rows_items, items_of, items_text, Asked, asked_by, IsPartEnd, AreRowItems}
 use Rattle.yq_rows.specs.Regions.{no_items, ended}
 use Rattle.yq_rows.specs.Reading.{all_parts}
 use Rattle.yq_rows.specs.Rows.{Row, print_row, Part, Cut, last, marked, cut_text}
@@ -56,50 +56,50 @@ unasked : (limit : Limit) (started : Bool) (c : Cut) → AreBehind limit started
 unasked limit started (last p) h = record { rows = relimit limit unlimited p.rows p.end [] (any_first p.rows) h.0; inside = refl }
 unasked limit started (marked p marker c) h = (record { rows = relimit limit unlimited p.rows p.end (marker ++ cut_text c) (any_first p.rows) h.0; inside = refl }, h.2, h.3)
 
-abbrev Made : Asked → List Item → Cut → Type 0
-Made asked xs c = AreBehind asked.limit asked.started c × (cut_text c ≡ items_text xs [])
+abbrev IsCutOf : Asked → List Item → Cut → Type 0
+IsCutOf asked xs c = AreBehind asked.limit asked.started c × (cut_text c ≡ items_text xs [])
 
-row_made : (asked : Asked) (r : Row) (xs : List Item) (c : Cut) → asked.started ≡ true → IsRow asked.limit r (items_text xs []) → Made (asked_by asked (row_item r)) xs c → Made asked (row_item r ∷ xs) (row_before r c)
-row_made asked r xs (last p) s h m = (((subst (IsRow asked.limit r) (sym m.1) h, m.0.0), rw s refl), ap (print_row r) m.1)
-row_made asked r xs (marked p marker c) s h m = (((subst (IsRow asked.limit r) (sym m.1) h, m.0.0), rw s refl, m.0.2, m.0.3), ap (print_row r) m.1)
+cut_of_row : (asked : Asked) (r : Row) (xs : List Item) (c : Cut) → asked.started ≡ true → IsRow asked.limit r (items_text xs []) → IsCutOf (asked_by asked (row_item r)) xs c → IsCutOf asked (row_item r ∷ xs) (row_before r c)
+cut_of_row asked r xs (last p) s h m = (((subst (IsRow asked.limit r) (sym m.1) h, m.0.0), rw s refl), ap (print_row r) m.1)
+cut_of_row asked r xs (marked p marker c) s h m = (((subst (IsRow asked.limit r) (sym m.1) h, m.0.0), rw s refl, m.0.2, m.0.3), ap (print_row r) m.1)
 
 pub no_marker : (marker t : List ℕ) → IsMarkerLine marker t → is_empty marker ≡ false
 no_marker [] t h = absurd (let l = h.long in omega (arith, l))
 no_marker (b ∷ marker) t h = refl
 
-end_made : (asked : Asked) (gap marker : List ℕ) (xs : List Item) (c : Cut) → IsGap gap (marker ++ items_text xs []) → IsPartEnd marker xs [] → Made (asked_by asked (end_item gap marker)) xs c → Made asked (end_item gap marker ∷ xs) (end_before gap marker c)
-end_made asked gap marker xs c g e m = ⊎_elim {0, 0, 0}
+cut_of_end : (asked : Asked) (gap marker : List ℕ) (xs : List Item) (c : Cut) → IsGap gap (marker ++ items_text xs []) → IsPartEnd marker xs [] → IsCutOf (asked_by asked (end_item gap marker)) xs c → IsCutOf asked (end_item gap marker ∷ xs) (end_before gap marker c)
+cut_of_end asked gap marker xs c g e m = ⊎_elim {0, 0, 0}
     (λ line.
     let p : Part = record { rows = []; end = gap } in
     let text : marker ++ items_text xs [] ≡ marker ++ cut_text c = ap (λ t. marker ++ t) (sym m.1) in
     let more : AreParts (begins_document marker) c = behind_parts (begins_document marker) c m.0 in
-    let made : Made asked (end_item gap marker ∷ xs) (marked p marker c) = ((subst (IsGap gap) text g, or_right asked.started true refl, subst (IsMarkerLine marker) (sym m.1) line, more), ap (λ t. gap ++ t) (sym text)) in
-    rw (no_marker marker (items_text xs []) line) made)
+    let cut_is : IsCutOf asked (end_item gap marker ∷ xs) (marked p marker c) = ((subst (IsGap gap) text g, or_right asked.started true refl, subst (IsMarkerLine marker) (sym m.1) line, more), ap (λ t. gap ++ t) (sym text)) in
+    rw (no_marker marker (items_text xs []) line) cut_is)
     (λ none.
     let p : Part = record { rows = []; end = gap } in
     let text : marker ++ items_text xs [] ≡ [] = rw (none.0, none.1) refl in
-    let made : Made asked (end_item gap marker ∷ xs) (last p) = ((subst (IsGap gap) text g, or_right asked.started true refl), ap (λ t. gap ++ t) (sym text)) in
+    let cut_is : IsCutOf asked (end_item gap marker ∷ xs) (last p) = ((subst (IsGap gap) text g, or_right asked.started true refl), ap (λ t. gap ++ t) (sym text)) in
     let empty : is_empty marker ≡ true = rw none.0 refl in
-    rw empty made)
+    rw empty cut_is)
     e
 
-pub cut_made : (xs : List Item) (asked : Asked) → AreItems asked xs [] → Made asked xs (cut_of xs)
-cut_made [] asked h = ((no_gap, or_right asked.started true refl), refl)
-cut_made (row_item r ∷ xs) asked h = row_made asked r xs (cut_of xs) h.0.0 h.0.1 (cut_made xs (asked_by asked (row_item r)) h.1)
-cut_made (end_item gap marker ∷ xs) asked h = end_made asked gap marker xs (cut_of xs) h.0.0 h.0.1 (cut_made xs (asked_by asked (end_item gap marker)) h.1)
+pub cut_of_items : (xs : List Item) (asked : Asked) → AreRowItems asked xs [] → IsCutOf asked xs (cut_of xs)
+cut_of_items [] asked h = ((no_gap, or_right asked.started true refl), refl)
+cut_of_items (row_item r ∷ xs) asked h = cut_of_row asked r xs (cut_of xs) h.0.0 h.0.1 (cut_of_items xs (asked_by asked (row_item r)) h.1)
+cut_of_items (end_item gap marker ∷ xs) asked h = cut_of_end asked gap marker xs (cut_of xs) h.0.0 h.0.1 (cut_of_items xs (asked_by asked (end_item gap marker)) h.1)
 
 -- read alone
-pub alone_read : (xs : List Item) (asked : Asked) → AreItems asked xs [] → all_parts true (items_text xs []) ≡ Some (cut_of xs)
+pub alone_read : (xs : List Item) (asked : Asked) → AreRowItems asked xs [] → all_parts true (items_text xs []) ≡ Some (cut_of xs)
 alone_read xs asked h =
-    let made = cut_made xs asked h in
-    subst (λ (t : List ℕ). all_parts true t ≡ Some (cut_of xs)) made.1 (parts_again (cut_of xs) true (suc (length (cut_text (cut_of xs)))) (unasked asked.limit asked.started (cut_of xs) made.0) (omega arith))
+    let cut_is = cut_of_items xs asked h in
+    subst (λ (t : List ℕ). all_parts true t ≡ Some (cut_of xs)) cut_is.1 (parts_again (cut_of xs) true (suc (length (cut_text (cut_of xs)))) (unasked asked.limit asked.started (cut_of xs) cut_is.0) (omega arith))
 
 -- the items of that cut
 row_items : (r : Row) (c : Cut) → items_of (row_before r c) ≡ row_item r ∷ items_of c
 row_items r (last p) = refl
 row_items r (marked p marker c) = refl
 
-pub inner_items : (xs : List Item) (z : Item) (zs : List Item) (asked : Asked) (rest : List ℕ) → AreItems asked (xs ++ (z ∷ zs)) rest → items_of (cut_of xs) ≡ ended xs [] []
+pub inner_items : (xs : List Item) (z : Item) (zs : List Item) (asked : Asked) (rest : List ℕ) → AreRowItems asked (xs ++ (z ∷ zs)) rest → items_of (cut_of xs) ≡ ended xs [] []
 inner_items [] z zs asked rest h = refl
 inner_items (row_item r ∷ xs) z zs asked rest h = row_items r (cut_of xs) ∙ ap (λ l. row_item r ∷ l) (inner_items xs z zs (asked_by asked (row_item r)) rest h.1)
 inner_items (end_item gap marker ∷ xs) z zs asked rest h = ⊎_elim {0, 0, 0}
@@ -113,7 +113,7 @@ Ended [] = ⊥
 Ended (row_item r ∷ xs) = Ended xs
 Ended (end_item gap marker ∷ xs) = ((marker ≡ []) × (xs ≡ [])) ⊎ Ended xs
 
-pub last_items : (xs : List Item) (asked : Asked) → AreItems asked xs [] → Ended xs → items_of (cut_of xs) ≡ xs
+pub last_items : (xs : List Item) (asked : Asked) → AreRowItems asked xs [] → Ended xs → items_of (cut_of xs) ≡ xs
 last_items [] asked h e = absurd e
 last_items (row_item r ∷ xs) asked h e = row_items r (cut_of xs) ∙ ap (λ l. row_item r ∷ l) (last_items xs (asked_by asked (row_item r)) h.1 e)
 last_items (end_item gap marker ∷ xs) asked h e = ⊎_elim {0, 0, 0}

@@ -2,9 +2,9 @@
 use Rattle.std.proofs.Common.{◌≡◌, inl, inr, ℕ, ◌+◌, Bool, true, false, ◌||◌, List, [], ◌∷◌, ◌++◌, length, map, refl, sym, ap, ◌∙◌, subst, arith, append-nil}
 use Rattle.std.proofs.lemmas.List.{map-append}
 use Rattle.yq_rows.specs.Grammar.{unlimited, limit_after, IsRow, AreRows, no_rows, IsMarkerLine, begins_document, AreParts}
-use Rattle.yq_rows.specs.Items.{Item, row_item, end_item, rows_items, items_of, items_text, Asked, asked_by, asked_of, IsPartEnd, AreItems, rows_in_items, bounds_in_items, shown_items}
+use Rattle.yq_rows.specs.Items.{Item, row_item, end_item, rows_items, items_of, items_text, Asked, asked_by, asked_of, IsPartEnd, AreRowItems, rows_in_items, bounds_in_items, view_of_items}
 use Rattle.yq_rows.specs.Rows.{Row, print_row, rows_text, Cut, last, marked, cut_text}
-use Rattle.yq_rows.specs.View.{Slices, slices, Bound, rows_of, bounds_from, shown}
+use Rattle.yq_rows.specs.View.{Slices, slices, Bound, rows_of, bounds_from, rows_view}
 
 -- texts
 pub rows_items_text : (rs : List Row) (xs : List Item) (rest : List ℕ) → items_text (rows_items rs xs) rest ≡ rows_text rs (items_text xs rest)
@@ -42,11 +42,11 @@ items_bounds (marked p marker c) n =
     rows_items_bounds p.rows n (end_item p.end marker ∷ items_of c)
     ∙ ap (λ l. record { rows = n + length p.rows; end = p.end; marker = marker } ∷ l) (items_bounds c (n + length p.rows))
 
-pub items_shown : (c : Cut) → shown_items (items_of c) ≡ shown c
-items_shown c = ap (λ (l : List Slices). record { rows = l; bounds = bounds_in_items 0 (items_of c) }) (items_rows c) ∙ ap (λ (l : List Bound). record { rows = map slices (rows_of c); bounds = l }) (items_bounds c 0)
+pub items_view_is : (c : Cut) → view_of_items (items_of c) ≡ rows_view c
+items_view_is c = ap (λ (l : List Slices). record { rows = l; bounds = bounds_in_items 0 (items_of c) }) (items_rows c) ∙ ap (λ (l : List Bound). record { rows = map slices (rows_of c); bounds = l }) (items_bounds c 0)
 
 -- items one behind the other
-pub items_joined : (xs ys : List Item) (asked : Asked) (rest : List ℕ) → AreItems asked (xs ++ ys) rest → AreItems (asked_of asked xs) ys rest
+pub items_joined : (xs ys : List Item) (asked : Asked) (rest : List ℕ) → AreRowItems asked (xs ++ ys) rest → AreRowItems (asked_of asked xs) ys rest
 items_joined [] ys asked rest h = h
 items_joined (x ∷ xs) ys asked rest h = items_joined xs ys (asked_by asked x) rest h.1
 
@@ -56,7 +56,7 @@ or_false true = refl
 or_false false = refl
 
 rows_are_items : (rs : List Row) (asked : Asked) (gap marker : List ℕ) (xs : List Item) → (asked.started || no_rows rs) ≡ true → AreRows asked.limit rs gap (marker ++ items_text xs []) → IsPartEnd marker xs [] →
-    AreItems (record { limit = unlimited; started = begins_document marker }) xs [] → AreItems asked (rows_items rs (end_item gap marker ∷ xs)) []
+    AreRowItems (record { limit = unlimited; started = begins_document marker }) xs [] → AreRowItems asked (rows_items rs (end_item gap marker ∷ xs)) []
 rows_are_items [] asked gap marker xs o h e more = ((h, e), more)
 rows_are_items (r ∷ rs) asked gap marker xs o h e more =
     let started : asked.started ≡ true = sym (or_false asked.started) ∙ o in
@@ -66,7 +66,7 @@ rows_are_items (r ∷ rs) asked gap marker xs o h e more =
       rows_are_items rs (record { limit = limit_after r; started = asked.started }) gap marker xs all h.1 e more,
     )
 
-pub parts_are_items : (c : Cut) (started : Bool) → AreParts started c → AreItems (record { limit = unlimited; started = started }) (items_of c) []
+pub parts_are_items : (c : Cut) (started : Bool) → AreParts started c → AreRowItems (record { limit = unlimited; started = started }) (items_of c) []
 parts_are_items (last p) started h = rows_are_items p.rows (record { limit = unlimited; started = started }) p.end [] [] h.inside h.rows (inr (refl, refl, refl)) tt
 parts_are_items (marked p marker c) started h =
     let text : marker ++ cut_text c ≡ marker ++ items_text (items_of c) [] = ap (λ t. marker ++ t) (sym (items_of_text c)) in

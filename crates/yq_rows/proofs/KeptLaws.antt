@@ -7,7 +7,7 @@ use Rattle.std.proofs.lemmas.Str.{IsUtf8-append}
 use Rattle.std.specs.Str.{IsUtf8}
 use Rattle.yq_rows.specs.Items.{Item, row_item, end_item, items_text, rows_in_items}
 use Rattle.yq_rows.specs.Kept.{near, far, turned, TextsIn}
-use Rattle.yq_rows.specs.Offsets.{Ends, Stands, Stand, slices_in, rows_in, AreTexts, offsets_of}
+use Rattle.yq_rows.specs.Offsets.{Ends, IsCutIn, Stand, slices_in, rows_in, AreTexts, offsets_of}
 use Rattle.yq_rows.specs.Rows.{Row, print_row}
 use Rattle.yq_rows.specs.View.{Slices, slices, slices_text}
 use Rattle.yq_rows.specs.declared.offsets.Offsets as declared
@@ -44,7 +44,7 @@ items_apart (end_item gap marker ∷ xs) rest = ap (λ l. gap ++ (marker ++ l)) 
 
 -- one row
 abbrev KeptRow : List ℕ → declared.Offsets → Slices → Type 0
-KeptRow whole o s = (slices_in whole o ≡ s) × Stands whole o
+KeptRow whole o s = (slices_in whole o ≡ s) × IsCutIn whole o
 
 kept_row : (pre : List ℕ) (r : Row) (t : List ℕ) → AreTexts (slices r) → IsUtf8 t → KeptRow (pre ++ print_row r t) (offsets_of (length pre) (slices r)) (slices r)
 kept_row pre r t h u =
@@ -55,7 +55,7 @@ kept_row pre r t h u =
     let same = row_same whole (print_row r t) t (slices r) ends spelled h.parent in
     let stands = row_stands whole (print_row r t) t (slices r) ends (row_texts r t h u) spelled h in (
       subst (λ (n : ℕ). slices_in whole (offsets_of n (slices r)) ≡ slices r) at same,
-      subst (λ (n : ℕ). Stands whole (offsets_of n (slices r))) at stands,
+      subst (λ (n : ℕ). IsCutIn whole (offsets_of n (slices r))) at stands,
     )
 
 -- Rows by their distance from the beginning: whatever stands behind them.
@@ -63,7 +63,7 @@ abbrev pub KeptRows : List ℕ → List declared.Offsets → List Slices → Typ
 KeptRows whole os ss = (rows_in whole os ≡ ss) × Stand whole os
 
 pub near_kept : (xs : List Item) (pre rest : List ℕ) → TextsIn xs → IsUtf8 rest → KeptRows (pre ++ items_text xs rest) (near (length pre) xs) (rows_in_items xs)
-near_kept [] pre rest h u = (refl, All-nil (Stands (pre ++ rest)))
+near_kept [] pre rest h u = (refl, All-nil (IsCutIn (pre ++ rest)))
 near_kept (row_item r ∷ xs) pre rest h u =
     let t = items_text xs rest in
     let one = kept_row pre r t h.0 (items_texts xs rest h.1 u) in
@@ -71,7 +71,7 @@ near_kept (row_item r ∷ xs) pre rest h u =
     let more : KeptRows ((pre ++ print_row r []) ++ t) (near (length (pre ++ print_row r [])) xs) (rows_in_items xs) = near_kept xs (pre ++ print_row r []) rest h.1 u in
     let moved : KeptRows (pre ++ print_row r t) (near (length pre + length (print_row r [])) xs) (rows_in_items xs) =
     subst (λ (n : ℕ). KeptRows (pre ++ print_row r t) (near n xs) (rows_in_items xs)) long (subst (λ (w : List ℕ). KeptRows w (near (length (pre ++ print_row r [])) xs) (rows_in_items xs)) (sym (row_apart pre r t)) more) in
-    (ap (λ s. s ∷ rows_in (pre ++ print_row r t) (near (length pre + length (print_row r [])) xs)) one.0 ∙ ap (λ l. slices r ∷ l) moved.0, All-cons (Stands (pre ++ print_row r t)) (offsets_of (length pre) (slices r)) (near (length pre + length (print_row r [])) xs) one.1 moved.1)
+    (ap (λ s. s ∷ rows_in (pre ++ print_row r t) (near (length pre + length (print_row r [])) xs)) one.0 ∙ ap (λ l. slices r ∷ l) moved.0, All-cons (IsCutIn (pre ++ print_row r t)) (offsets_of (length pre) (slices r)) (near (length pre + length (print_row r [])) xs) one.1 moved.1)
 near_kept (end_item gap marker ∷ xs) pre rest h u =
     let t = items_text xs rest in
     let long : length (pre ++ (gap ++ marker)) ≡ length pre + length (gap ++ marker) = length-append pre (gap ++ marker) in
@@ -108,5 +108,5 @@ texts_joined (row_item r ∷ xs) ys h k = (h.0, texts_joined xs ys h.1 k)
 texts_joined (end_item gap marker ∷ xs) ys h k = (h.0, h.1, texts_joined xs ys h.2 k)
 
 -- The row at an index.
-pub stands_at : (t : List ℕ) (os : List declared.Offsets) (i : ℕ) (o : declared.Offsets) → Stand t os → slice_get os i ≡ Some o → Stands t o
-stands_at t os i o h e = subst (Stands t) (get_or_from_slice_get os i o o e) (All-get_or (Stands t) os i o (slice_get_within os i o e) h)
+pub stands_at : (t : List ℕ) (os : List declared.Offsets) (i : ℕ) (o : declared.Offsets) → Stand t os → slice_get os i ≡ Some o → IsCutIn t o
+stands_at t os i o h e = subst (IsCutIn t) (get_or_from_slice_get os i o o e) (All-get_or (IsCutIn t) os i o (slice_get_within os i o e) h)

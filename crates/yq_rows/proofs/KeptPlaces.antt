@@ -11,14 +11,14 @@ use Rattle.yq_text.specs.Halves.{whole}
 use Rattle.yq_text.specs.declared.halves.Halves.{Halves}
 use Rattle.yq_rows.specs.Ends.{EndStands, bound_at, bound_in_half}
 use Rattle.yq_rows.specs.Items.{Item, row_item, end_item, items_text}
-use Rattle.yq_rows.specs.Kept.{HavePlaces, far, kept_rows, near, placed_rows, shown_in, slices_behind, turned}
-use Rattle.yq_rows.specs.Offsets.{AreCuts, Stands, offsets_of, slices_in}
+use Rattle.yq_rows.specs.Kept.{HavePlaces, far, kept_rows, near, placed_rows, halves_view, slices_behind, turned}
+use Rattle.yq_rows.specs.Offsets.{AreCuts, IsCutIn, offsets_of, slices_in}
 use Rattle.yq_rows.specs.RowStarts.{row_start}
-use Rattle.yq_rows.specs.View.{Shown, Slices, slices}
+use Rattle.yq_rows.specs.View.{RowsView, Slices, slices}
 use Rattle.yq_rows.specs.declared.ends.EndPlace.{EndPlace}
 use Rattle.yq_rows.specs.declared.offsets.Offsets as declared
 use Rattle.yq_rows.specs.declared.places.Places.{Places}
-use Rattle.yq_rows.proofs.HalfLaws.{InHalf, back_rows, front_rows, half_ends, have_shown}
+use Rattle.yq_rows.proofs.HalfLaws.{InHalf, back_rows, front_rows, half_ends, have_view}
 use Rattle.yq_rows.proofs.ItemLaws.{items_text-append}
 use Rattle.yq_rows.proofs.KeptLaws.{far_near, items_apart, near_joined, stands_at}
 use Rattle.yq_rows.proofs.NearLaws.{row_near, some_row}
@@ -56,40 +56,40 @@ sides_out (x ∷ xs) ys zero a e more = absurd (omega (arith, more))
 sides_out (x ∷ xs) ys (suc i) a e more = sides_out xs ys i a e (omega (arith, more))
 
 -- the place of a row
-row_place : (text : Halves) (p : Places) (i : ℕ) (q : declared.Offsets) (s : Slices) → HavePlaces text p → slice_get (shown_in text p).rows i ≡ Some s → slice_get (map (λ x. x) p.front.items ++ map (turned (length (whole text))) (reverse p.behind.items)) i ≡ Some q → q ≡ offsets_of (row_start i (shown_in text p)) s
+row_place : (text : Halves) (p : Places) (i : ℕ) (q : declared.Offsets) (s : Slices) → HavePlaces text p → slice_get (halves_view text p).rows i ≡ Some s → slice_get (map (λ x. x) p.front.items ++ map (turned (length (whole text))) (reverse p.behind.items)) i ≡ Some q → q ≡ offsets_of (row_start i (halves_view text p)) s
 row_place text p i q s h there own =
     let n = length (whole text) in
-    let same = have_shown text p h in
-    let near_is : slice_get (placed_rows n p) i ≡ Some (offsets_of (row_start i (shown_in text p)) s) =
+    let same = have_view text p h in
+    let near_is : slice_get (placed_rows n p) i ≡ Some (offsets_of (row_start i (halves_view text p)) s) =
     ap (λ (l : List declared.Offsets). slice_get l i) (placed_near text p h)
-    ∙ (row_near (h.before ++ h.behind) i s (sym (ap (λ (v : Shown). slice_get v.rows i) same) ∙ there) ∙ ap (λ (v : Shown). Some (offsets_of (row_start i v) s)) (sym same)) in
+    ∙ (row_near (h.before ++ h.behind) i s (sym (ap (λ (v : RowsView). slice_get v.rows i) same) ∙ there) ∙ ap (λ (v : RowsView). Some (offsets_of (row_start i v) s)) (sym same)) in
     let mine : slice_get (placed_rows n p) i ≡ Some q = ap (λ (l : List declared.Offsets). slice_get (l ++ map (turned n) (reverse p.behind.items)) i) (sym (map-id p.front.items)) ∙ own in
     same_Some _ _ (sym mine ∙ near_is)
 
-place_front : (text : Halves) (p : Places) (i : ℕ) (o : declared.Offsets) (s : Slices) → HavePlaces text p → slice_get (shown_in text p).rows i ≡ Some s → slice_get (kept_rows p) i ≡ Some o → i < length p.front.items → o ≡ offsets_of (row_start i (shown_in text p)) s
+place_front : (text : Halves) (p : Places) (i : ℕ) (o : declared.Offsets) (s : Slices) → HavePlaces text p → slice_get (halves_view text p).rows i ≡ Some s → slice_get (kept_rows p) i ≡ Some o → i < length p.front.items → o ≡ offsets_of (row_start i (halves_view text p)) s
 place_front text p i o s h there kept less = row_place text p i o s h there (at_front (λ x. x) (turned (length (whole text))) p.front.items (reverse p.behind.items) i o kept less)
 
-place_back : (text : Halves) (p : Places) (i : ℕ) (o : declared.Offsets) (s : Slices) → HavePlaces text p → slice_get (shown_in text p).rows i ≡ Some s → slice_get (kept_rows p) i ≡ Some o → length p.front.items ≤ i → turned (length (whole text)) o ≡ offsets_of (row_start i (shown_in text p)) s
+place_back : (text : Halves) (p : Places) (i : ℕ) (o : declared.Offsets) (s : Slices) → HavePlaces text p → slice_get (halves_view text p).rows i ≡ Some s → slice_get (kept_rows p) i ≡ Some o → length p.front.items ≤ i → turned (length (whole text)) o ≡ offsets_of (row_start i (halves_view text p)) s
 place_back text p i o s h there kept more = row_place text p i (turned (length (whole text)) o) s h there (at_back (λ x. x) (turned (length (whole text))) p.front.items (reverse p.behind.items) i o kept more)
 
-pub kept_lengths : (text : Halves) (p : Places) (i : ℕ) (o : declared.Offsets) (s : Slices) → HavePlaces text p → slice_get (shown_in text p).rows i ≡ Some s → slice_get (kept_rows p) i ≡ Some o → o ≡ offsets_of o.start s
+pub kept_lengths : (text : Halves) (p : Places) (i : ℕ) (o : declared.Offsets) (s : Slices) → HavePlaces text p → slice_get (halves_view text p).rows i ≡ Some s → slice_get (kept_rows p) i ≡ Some o → o ≡ offsets_of o.start s
 kept_lengths text p i o s h there kept =
     ⊎_elim {0, 0, 0}
     (λ (less : i < length p.front.items). ap (λ (q : declared.Offsets). record q { start = o.start }) (place_front text p i o s h there kept less))
     (λ (more : length p.front.items ≤ i). ap (λ (q : declared.Offsets). record q { start = o.start }) (place_back text p i o s h there kept more))
     (cases_lt i (length p.front.items))
 
-pub start_front : (text : Halves) (p : Places) (i : ℕ) (o : declared.Offsets) → HavePlaces text p → i < length (shown_in text p).rows → slice_get (kept_rows p) i ≡ Some o → i < length p.front.items → o.start ≡ row_start i (shown_in text p)
-start_front text p i o h within kept less = let s = some_row (shown_in text p).rows i within in ap (λ (q : declared.Offsets). q.start) (place_front text p i o s.0 h s.1 kept less)
+pub start_front : (text : Halves) (p : Places) (i : ℕ) (o : declared.Offsets) → HavePlaces text p → i < length (halves_view text p).rows → slice_get (kept_rows p) i ≡ Some o → i < length p.front.items → o.start ≡ row_start i (halves_view text p)
+start_front text p i o h within kept less = let s = some_row (halves_view text p).rows i within in ap (λ (q : declared.Offsets). q.start) (place_front text p i o s.0 h s.1 kept less)
 
-pub start_back : (text : Halves) (p : Places) (i : ℕ) (o : declared.Offsets) → HavePlaces text p → i < length (shown_in text p).rows → slice_get (kept_rows p) i ≡ Some o → length p.front.items ≤ i → length (whole text) - o.start ≡ row_start i (shown_in text p)
-start_back text p i o h within kept more = let s = some_row (shown_in text p).rows i within in ap (λ (q : declared.Offsets). q.start) (place_back text p i o s.0 h s.1 kept more)
+pub start_back : (text : Halves) (p : Places) (i : ℕ) (o : declared.Offsets) → HavePlaces text p → i < length (halves_view text p).rows → slice_get (kept_rows p) i ≡ Some o → length p.front.items ≤ i → length (whole text) - o.start ≡ row_start i (halves_view text p)
+start_back text p i o h within kept more = let s = some_row (halves_view text p).rows i within in ap (λ (q : declared.Offsets). q.start) (place_back text p i o s.0 h s.1 kept more)
 
 -- what stands in each half
-pub front_found : (text : Halves) (p : Places) (i : ℕ) (o : declared.Offsets) → HavePlaces text p → slice_get (kept_rows p) i ≡ Some o → i < length p.front.items → Stands text.front.now o
+pub front_found : (text : Halves) (p : Places) (i : ℕ) (o : declared.Offsets) → HavePlaces text p → slice_get (kept_rows p) i ≡ Some o → i < length p.front.items → IsCutIn text.front.now o
 front_found text p i o h kept less = stands_at text.front.now p.front.items i o (front_rows text p h).1 (sides_in p.front.items (reverse p.behind.items) i o kept less)
 
-pub back_found : (text : Halves) (p : Places) (i : ℕ) (o : declared.Offsets) → HavePlaces text p → slice_get (kept_rows p) i ≡ Some o → length p.front.items ≤ i → Stands text.back.now (turned (length text.back.now) o)
+pub back_found : (text : Halves) (p : Places) (i : ℕ) (o : declared.Offsets) → HavePlaces text p → slice_get (kept_rows p) i ≡ Some o → length p.front.items ≤ i → IsCutIn text.back.now (turned (length text.back.now) o)
 back_found text p i o h kept more =
     let n = length text.back.now in
     let at = sides_out p.front.items (reverse p.behind.items) i o kept more in
@@ -109,14 +109,14 @@ back_within text p i o h kept more =
     subst (λ (q : declared.Offsets). q.start ≤ n) (get_or_from_slice_get (reverse p.behind.items) at.0 o o at.1)
     (All-get_or (λ o. o.start ≤ n) (reverse p.behind.items) at.0 o (slice_get_within (reverse p.behind.items) at.0 o at.1) all)
 
-pub row_front : (text : Halves) (p : Places) (i : ℕ) (o : declared.Offsets) → slice_get (kept_rows p) i ≡ Some o → i < length p.front.items → slice_get (shown_in text p).rows i ≡ Some (slices_in text.front.now o)
+pub row_front : (text : Halves) (p : Places) (i : ℕ) (o : declared.Offsets) → slice_get (kept_rows p) i ≡ Some o → i < length p.front.items → slice_get (halves_view text p).rows i ≡ Some (slices_in text.front.now o)
 row_front text p i o kept less = at_front (slices_in text.front.now) (slices_behind text.back.now) p.front.items (reverse p.behind.items) i o kept less
 
-pub row_back : (text : Halves) (p : Places) (i : ℕ) (o : declared.Offsets) → slice_get (kept_rows p) i ≡ Some o → length p.front.items ≤ i → slice_get (shown_in text p).rows i ≡ Some (slices_behind text.back.now o)
+pub row_back : (text : Halves) (p : Places) (i : ℕ) (o : declared.Offsets) → slice_get (kept_rows p) i ≡ Some o → length p.front.items ≤ i → slice_get (halves_view text p).rows i ≡ Some (slices_behind text.back.now o)
 row_back text p i o kept more = at_back (slices_in text.front.now) (slices_behind text.back.now) p.front.items (reverse p.behind.items) i o kept more
 
 -- the end of a part at an index
-pub end_at_index : (text : Halves) (p : Places) (i : ℕ) (e : EndPlace) → HavePlaces text p → i < length (shown_in text p).bounds → e ≡ get_or p.ends.items i e → InHalf text e × (slice_get (shown_in text p).bounds i ≡ Some (bound_in_half text e))
+pub end_at_index : (text : Halves) (p : Places) (i : ℕ) (e : EndPlace) → HavePlaces text p → i < length (halves_view text p).bounds → e ≡ get_or p.ends.items i e → InHalf text e × (slice_get (halves_view text p).bounds i ≡ Some (bound_in_half text e))
 end_at_index text p i e h within is =
     let less : i < length p.ends.items = omega (arith, within, length-map p.ends.items (bound_in_half text)) in (
       subst (InHalf text) (sym is) (All-get_or (InHalf text) p.ends.items i e less (half_ends text p h).1),

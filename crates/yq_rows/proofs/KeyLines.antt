@@ -7,7 +7,7 @@ use Rattle.yq_scalar.specs.Plain.{ends_plain, ends_text, holds_break, last_line,
 use Rattle.yq_scalar.specs.Text.{NoneIn, cut, front, is_empty, is_feed, is_white, upto}
 use Rattle.yq_scalar.proofs.Bools.{at_byte}
 use Rattle.yq_inline.specs.Nodes.{first_is}
-use Rattle.yq_inline.specs.Scalars.{IsScalar}
+use Rattle.yq_inline.specs.Scalars.{IsScalarAt}
 use Rattle.yq_rows.specs.Gap.{IsWhite}
 use Rattle.yq_rows.specs.Reading.{holds_colon, key_at}
 use Rattle.yq_rows.proofs.PieceLaws.{key_takes}
@@ -41,7 +41,7 @@ plain_line : (p rest : List ℕ) → NoneIn (ends_plain false None) p rest → h
 plain_line [] rest h = refl
 plain_line (b ∷ p) rest h = rw (no_feed b (p ++ rest) h.0, plain_line p rest h.1) refl
 
-pub key_line : (p rest : List ℕ) → IsScalar false None p rest → holds_break p ≡ false
+pub key_line : (p rest : List ℕ) → IsScalarAt false None p rest → holds_break p ≡ false
 key_line p rest (inl h) = plain_line p rest h.inside
 key_line p rest (inr h) = not-true (holds_break p) h.1
 

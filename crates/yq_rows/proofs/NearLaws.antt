@@ -8,23 +8,23 @@ use Rattle.yq_scalar.specs.Answers.{◌>>=◌}
 use Rattle.yq_scalar.specs.Text.{is_empty}
 use Rattle.yq_scalar.proofs.Bools.{bind_some}
 use Rattle.yq_rows.specs.Grammar.{Limit, limit_after, ends_part, begins_document}
-use Rattle.yq_rows.specs.Items.{Item, row_item, end_item, rows_items, items_of, items_text, rows_in_items, bounds_in_items, shown_items}
+use Rattle.yq_rows.specs.Items.{Item, row_item, end_item, rows_items, items_of, items_text, rows_in_items, bounds_in_items, view_of_items}
 use Rattle.yq_rows.specs.Kept.{near, ends_near, rows_placed, parts_placed, ends_placed}
-use Rattle.yq_rows.specs.Lending.{Lent, lent, row_lent, shown_read}
+use Rattle.yq_rows.specs.Slicing.{SlicedRow, sliced, row_sliced, read_view}
 use Rattle.yq_rows.specs.Offsets.{Ends, offsets_of, row_length}
 use Rattle.yq_rows.specs.Reading.{cut_gap, row_at, all_rows, part_at, marker_at, all_parts}
 use Rattle.yq_rows.specs.RowStarts.{bound_length, passed_length, row_start}
 use Rattle.yq_rows.specs.Rows.{Row, print_row, rows_text, Part, part_text, Cut, last, marked, cut_text}
-use Rattle.yq_rows.specs.View.{Slices, slices, slices_text, Bound, Shown}
+use Rattle.yq_rows.specs.View.{Slices, slices, slices_text, Bound, RowsView}
 use Rattle.yq_rows.specs.declared.ends.EndPlace.{EndPlace}
 use Rattle.yq_rows.specs.declared.offsets.Offsets as declared
 use Rattle.yq_rows.proofs.FrontLaws.{front_join, front_le}
-use Rattle.yq_rows.proofs.ItemLaws.{items_of_text, items_shown, rows_items_text}
+use Rattle.yq_rows.proofs.ItemLaws.{items_of_text, items_view_is, rows_items_text}
 use Rattle.yq_rows.proofs.ItemSpliceLaws.{rows_front}
 use Rattle.yq_rows.proofs.KeptLaws.{items_apart, near_joined}
 use Rattle.yq_rows.proofs.OffsetLaws.{row_then}
 use Rattle.yq_rows.proofs.PartsLaws.{parts_last, parts_marked, part_takes, marker_takes, part_marker}
-use Rattle.yq_rows.proofs.RowLending.{row_joined}
+use Rattle.yq_rows.proofs.RowSlicing.{row_joined}
 use Rattle.yq_rows.proofs.RowsLaws.{with_front, rows_from, rows_cut, rows_step, rows_refused, rows_done}
 use Rattle.yq_rows.proofs.ScanLaws.{parts_take}
 use Rattle.yq_rows.proofs.SliceLaws.{slices_are, print-length}
@@ -42,11 +42,11 @@ gap_read limit t g r e = rows_cut limit t ∙ ap (λ (y : List ℕ × List ℕ).
 pub rows_placed_end : (os : List declared.Offsets) (n : ℕ) (limit : Limit) (t g r : List ℕ) (all : Option (List declared.Offsets)) → (g, r) ≡ cut_gap t → ends_part r ≡ true → rows_placed os n (all_rows limit t) ≡ all → all ≡ Some os
 rows_placed_end os n limit t g r all e none so_far = sym so_far ∙ (ap (rows_placed os n) (gap_read limit t g r e ∙ rows_done limit g r none) ∙ ap Some (append-nil os))
 
-not_read : (o : Option (Row × List ℕ)) → (o >>= λ x. Some (lent x)) ≡ None → o ≡ None
+not_read : (o : Option (Row × List ℕ)) → (o >>= λ x. Some (sliced x)) ≡ None → o ≡ None
 not_read None h = refl
 not_read (Some x) h = cc
 
-pub rows_placed_none : (os : List declared.Offsets) (n : ℕ) (limit : Limit) (t g r : List ℕ) (all : Option (List declared.Offsets)) → (g, r) ≡ cut_gap t → ends_part r ≡ false → row_lent limit g r ≡ None → rows_placed os n (all_rows limit t) ≡ all → all ≡ None
+pub rows_placed_none : (os : List declared.Offsets) (n : ℕ) (limit : Limit) (t g r : List ℕ) (all : Option (List declared.Offsets)) → (g, r) ≡ cut_gap t → ends_part r ≡ false → row_sliced limit g r ≡ None → rows_placed os n (all_rows limit t) ≡ all → all ≡ None
 rows_placed_none os n limit t g r all e more none so_far = sym so_far ∙ ap (rows_placed os n) (gap_read limit t g r e ∙ rows_refused limit g r more (not_read (row_at limit g r) none))
 
 -- how far from the beginning the next one stands
@@ -56,15 +56,15 @@ next_place whole t p rest h e =
     omega (arith, within, ap length e, length-append p rest)
 
 pub rows_placed_step : (os items : List declared.Offsets) (o : declared.Offsets) (whole : List ℕ) (limit next : Limit) (t g r : List ℕ) (s : Slices) (after : List ℕ) (all : Option (List declared.Offsets)) → Ends t whole → (g, r) ≡ cut_gap t → ends_part r ≡ false →
-    row_lent limit g r ≡ Some (s, next, after) → items ≡ os ++ o ∷ [] → o ≡ offsets_of (length whole - length t) s → rows_placed os (length whole - length t) (all_rows limit t) ≡ all → rows_placed items (length whole - length after) (all_rows next after) ≡ all
+    row_sliced limit g r ≡ Some (s, next, after) → items ≡ os ++ o ∷ [] → o ≡ offsets_of (length whole - length t) s → rows_placed os (length whole - length t) (all_rows limit t) ≡ all → rows_placed items (length whole - length after) (all_rows next after) ≡ all
 rows_placed_step os items o whole limit next t g r s after all ends e more h pushed place so_far =
     let n = length whole - length t in
     let x = bind_some (row_at limit g r) h in
-    let is : lent x.0 ≡ (s, next, after) = same_Some _ _ x.2 in
+    let is : sliced x.0 ≡ (s, next, after) = same_Some _ _ x.2 in
     let read : all_rows limit t ≡ with_front (x.0.0 ∷ []) (all_rows (limit_after x.0.0) x.0.1) = gap_read limit t g r e ∙ (rows_step limit g r x.0 more x.1 ∙ ap (with_front (x.0.0 ∷ [])) (sym (rows_cut (limit_after x.0.0) x.0.1))) in
     let one : rows_placed os n (all_rows limit t) ≡ rows_placed (os ++ offsets_of n (slices x.0.0) ∷ []) (n + length (slices_text (slices x.0.0) [])) (all_rows (limit_after x.0.0) x.0.1) = ap (rows_placed os n) read ∙ front_placed os n x.0.0 (all_rows (limit_after x.0.0) x.0.1) in
     let same : rows_placed os n (all_rows limit t) ≡ rows_placed (os ++ offsets_of n s ∷ []) (n + length (slices_text s [])) (all_rows next after) =
-    subst (λ (y : Lent). rows_placed os n (all_rows limit t) ≡ rows_placed (os ++ offsets_of n y.0 ∷ []) (n + length (slices_text y.0 [])) (all_rows y.1 y.2)) is one in
+    subst (λ (y : SlicedRow). rows_placed os n (all_rows limit t) ≡ rows_placed (os ++ offsets_of n y.0 ∷ []) (n + length (slices_text y.0 [])) (all_rows y.1 y.2)) is one in
     let size : length whole - length after ≡ n + length (slices_text s []) = next_place whole t (slices_text s []) after ends (row_joined limit next t g r s after e h ∙ row_then s after) in
     ap (λ (k : ℕ). rows_placed items k (all_rows next after)) size
     ∙ (ap (λ (l : List declared.Offsets). rows_placed l (n + length (slices_text s [])) (all_rows next after)) (pushed ∙ ap (λ (p : declared.Offsets). os ++ p ∷ []) place)
@@ -120,24 +120,24 @@ parts_placed_step os items whole started t after marker next all ends m placed s
     ∙ (sym (ap (parts_placed os n) (parts_marked started t (p, after) (marker, next) m.read m.some m.line)) ∙ so_far)))
 
 -- Rows and ends of parts that were read are kept where those of the items of the text stand.
-pub record AreRead (t : List ℕ) (os : List declared.Offsets) (es : List EndPlace) (s : Shown) : Type 0 where
+pub record AreRead (t : List ℕ) (os : List declared.Offsets) (es : List EndPlace) (s : RowsView) : Type 0 where
   pub items : List Item
   pub text_is : t ≡ items_text items []
   pub near_is : os ≡ near 0 items
   pub ends_is : es ≡ ends_near 0 0 items
-  pub shown_is : s ≡ shown_items items
+  pub rows_view_is : s ≡ view_of_items items
 
-are_read : (t : List ℕ) (n : ℕ) (o : Option Cut) (os : List declared.Offsets) (es : List EndPlace) (s : Shown) → n ≡ 0 → ((c : Cut) → o ≡ Some c → t ≡ cut_text c) → parts_placed [] n o ≡ Some os → ends_placed [] n 0 o ≡ Some es → shown_read o ≡ Some s → AreRead t os es s
+are_read : (t : List ℕ) (n : ℕ) (o : Option Cut) (os : List declared.Offsets) (es : List EndPlace) (s : RowsView) → n ≡ 0 → ((c : Cut) → o ≡ Some c → t ≡ cut_text c) → parts_placed [] n o ≡ Some os → ends_placed [] n 0 o ≡ Some es → read_view o ≡ Some s → AreRead t os es s
 are_read t n None os es s none text h g e = cc
 are_read t n (Some c) os es s none text h g e = record {
   items = items_of c;
   text_is = text c refl ∙ sym (items_of_text c);
   near_is = sym (same_Some _ _ h) ∙ ap (λ (k : ℕ). near k (items_of c)) none;
   ends_is = sym (same_Some _ _ g) ∙ ap (λ (k : ℕ). ends_near k 0 (items_of c)) none;
-  shown_is = sym (same_Some _ _ e) ∙ sym (items_shown c);
+  rows_view_is = sym (same_Some _ _ e) ∙ sym (items_view_is c);
 }
 
-pub near_read : (t : List ℕ) (os : List declared.Offsets) (es : List EndPlace) (s : Shown) → parts_placed [] (length t - length t) (all_parts true t) ≡ Some os → ends_placed [] (length t - length t) 0 (all_parts true t) ≡ Some es → shown_read (all_parts true t) ≡ Some s → AreRead t os es s
+pub near_read : (t : List ℕ) (os : List declared.Offsets) (es : List EndPlace) (s : RowsView) → parts_placed [] (length t - length t) (all_parts true t) ≡ Some os → ends_placed [] (length t - length t) 0 (all_parts true t) ≡ Some es → read_view (all_parts true t) ≡ Some s → AreRead t os es s
 near_read t os es s h g e = are_read t (length t - length t) (all_parts true t) os es s (omega arith) (λ c read. (parts_take (suc (length t)) true t c read).0) h g e
 
 -- a row by its index
@@ -172,9 +172,9 @@ near_at (end_item gap marker ∷ xs) n k i s h =
     let place : start_in (n + length (gap ++ marker)) k i xs ≡ start_in n k i (end_item gap marker ∷ xs) = omega (arith, own, first, length-append gap marker) in
     near_at xs (n + length (gap ++ marker)) k i s h ∙ ap (λ (m : ℕ). Some (offsets_of m s)) place
 
-pub row_near : (xs : List Item) (i : ℕ) (s : Slices) → slice_get (rows_in_items xs) i ≡ Some s → slice_get (near 0 xs) i ≡ Some (offsets_of (row_start i (shown_items xs)) s)
+pub row_near : (xs : List Item) (i : ℕ) (s : Slices) → slice_get (rows_in_items xs) i ≡ Some s → slice_get (near 0 xs) i ≡ Some (offsets_of (row_start i (view_of_items xs)) s)
 row_near xs i s there =
-    let place : start_in 0 0 i xs ≡ row_start i (shown_items xs) = omega (arith, ap (λ (j : ℕ). sum_by (passed_length j) (bounds_in_items 0 xs)) (zero_plus i)) in
+    let place : start_in 0 0 i xs ≡ row_start i (view_of_items xs) = omega (arith, ap (λ (j : ℕ). sum_by (passed_length j) (bounds_in_items 0 xs)) (zero_plus i)) in
     near_at xs 0 0 i s there ∙ ap (λ (m : ℕ). Some (offsets_of m s)) place
   where
     zero_plus : (i : ℕ) → 0 + i ≡ i

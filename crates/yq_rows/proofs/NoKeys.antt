@@ -13,7 +13,7 @@ use Rattle.yq_scalar.proofs.Upto.{upto_here}
 use Rattle.yq_scalar.proofs.QuotedLaws.{of_quotes}
 use Rattle.yq_inline.specs.Nodes.{Node, empty, alias, scalar, coll, anchored, node_text, is_bare, IsNode}
 use Rattle.yq_inline.specs.Reading.{scalar_at}
-use Rattle.yq_inline.specs.Scalars.{is_quoted, has_its_lines, IsScalar, begins_scalar}
+use Rattle.yq_inline.specs.Scalars.{is_quoted, has_its_lines, IsScalarAt, begins_scalar}
 use Rattle.yq_inline.proofs.PieceLaws.{front_not, scalar_begins}
 use Rattle.yq_rows.specs.Grammar.{IsTail, key_limit}
 use Rattle.yq_rows.specs.Reading.{is_colon, colon_at, key_at, is_dash}
@@ -118,7 +118,7 @@ plain_no_quote (b ∷ t) h =
 abbrev then_colon : Option (List ℕ × List ℕ) → Option (List ℕ × List ℕ × List ℕ)
 then_colon o = o >>= λ key. colon_at key.1 >>= λ colon. cond (leb (length (chars key.0) + length (chars colon.0)) (key_limit + 1)) (Some (key.0, colon.0, colon.1)) None
 
-scalar_no_key : (d : ℕ) (p rest : List ℕ) → IsScalar false (Some d) p rest → colon_at rest ≡ None → key_at (p ++ rest) ≡ None
+scalar_no_key : (d : ℕ) (p rest : List ℕ) → IsScalarAt false (Some d) p rest → colon_at rest ≡ None → key_at (p ++ rest) ≡ None
 unfolding key_at scalar_at plain_at
 scalar_no_key d p rest (inl h) c = rw (plain_no_quote (p ++ rest) h.begins, h.begins, plain_no_colon d p rest h.inside h.ends c) refl
 scalar_no_key d p rest (inr h) c =

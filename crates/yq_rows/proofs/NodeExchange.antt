@@ -10,7 +10,7 @@ use Rattle.yq_scalar.specs.Text.{front, is_feed, separates}
 use Rattle.yq_inline.specs.Inline.{depth_limit, IsInline}
 use Rattle.yq_inline.specs.Nodes.{Node, node_text}
 use Rattle.yq_inline.proofs.WrittenLaws.{node_then}
-use Rattle.yq_rows.specs.Exchange.{with_content, exchange, before_content, behind_row, rows_behind, allows_first, Fits}
+use Rattle.yq_rows.specs.Exchange.{with_content, exchange, before_content, behind_row, rows_behind, allows_first, FitsRow}
 use Rattle.yq_rows.specs.Gap.{IsWhite}
 use Rattle.yq_rows.specs.Grammar.{IsTail, IsContent, IsMark, is_entry, limit_after, IsCut}
 use Rattle.yq_rows.specs.Rows.{Mark, Bare, Dash, Key, Content, Inline, content_text, Row, parent_indent, Cut, cut_text}
@@ -47,7 +47,7 @@ holds_node r space node end rest behind h is entry =
     record { blank = c.0; inline = c.1; tail = c.2; apart = a }
 
 pub node_fits : (t : List ℕ) (c : Cut) (i : ℕ) (r : Row) (space : List ℕ) (node new : Node) (tail : List ℕ) → IsCut t c → slice_get (rows_of c) i ≡ Some r → r.content ≡ Inline space node tail → is_entry r.mark ≡ true →
-    IsInline places.Block (parent_indent r) 0 new (tail ++ behind_row i c) → allows_first (limit_after (with_content (Inline space new tail) r)) (rows_behind i c) ≡ true → Fits (Inline space new tail) r (behind_row i c) (rows_behind i c)
+    IsInline places.Block (parent_indent r) 0 new (tail ++ behind_row i c) → allows_first (limit_after (with_content (Inline space new tail) r)) (rows_behind i c) ≡ true → FitsRow (Inline space new tail) r (behind_row i c) (rows_behind i c)
 node_fits t c i r space node new tail h is content entry inline next =
     let rest = behind_row i c in
     let row = row_in c i true r h.parts is in

@@ -10,7 +10,7 @@ use Rattle.yq_scalar.proofs.Bools.{bind_some}
 use Rattle.yq_scalar.proofs.Upto.{upto-append}
 use Rattle.yq_scalar.specs.Lines.{is_hash}
 use Rattle.yq_inline.specs.Reading.{scalar_at}
-use Rattle.yq_inline.specs.Scalars.{IsScalar}
+use Rattle.yq_inline.specs.Scalars.{IsScalarAt}
 use Rattle.yq_inline.proofs.PieceLaws.{scalar_takes, scalar_again}
 use Rattle.yq_rows.specs.Gap.{IsWhite}
 use Rattle.yq_rows.specs.Grammar.{IsColon, IsKey, IsTail, key_limit}
@@ -62,7 +62,7 @@ key_takes t x h =
     let key_law = scalar_takes false None t key.0 key.1 in
     let colon_law = colon_takes key.0.1 colon.0 colon.1 in
     subst (λ (y : List ℕ × List ℕ × List ℕ). (t ≡ y.0 ++ (y.1 ++ y.2)) × IsKey y.0 y.1 y.2) near.1
-    (rw (← colon_law.0) key_law.0, record { scalar = subst (λ (s : List ℕ). IsScalar false None key.0.0 s) colon_law.0 key_law.1; colon_is = colon_law.1; near = leb-true _ _ near.0 })
+    (rw (← colon_law.0) key_law.0, record { scalar = subst (λ (s : List ℕ). IsScalarAt false None key.0.0 s) colon_law.0 key_law.1; colon_is = colon_law.1; near = leb-true _ _ near.0 })
 
 pub key_again : (key colon rest : List ℕ) → IsKey key colon rest → key_at (key ++ (colon ++ rest)) ≡ Some (key, colon, rest)
 unfolding key_at

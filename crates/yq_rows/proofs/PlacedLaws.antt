@@ -1,4 +1,4 @@
--- Rows and ends of parts that are kept by their places alone, lent in their text again.
+-- Rows and ends of parts that are kept by their places alone, borrowed in their text again.
 use Rattle.std.proofs.Common.{◌≡◌, ℕ, ◌+◌, ◌≤◌, List, [], ◌∷◌, ◌++◌, length, take, take_at, reverse, ◌<◌, ◌^◌, append-nil, refl, sym, ap, ◌∙◌, subst, arith}
 use Rattle.std.proofs.lemmas.List.{append_cancel_left, length-take-le}
 use Rattle.std.proofs.lemmas.List.Elements.{All-head, All-map, All-tail, All-weaker}
@@ -9,27 +9,27 @@ use Rattle.yq_text.specs.Halves.{whole}
 use Rattle.yq_text.specs.declared.halves.Halves.{Halves}
 use Rattle.yq_rows.specs.Ends.{EndStands, EndsStand, bound_in, bounds_in, end_at}
 use Rattle.yq_rows.specs.Grammar.{IsCut}
-use Rattle.yq_rows.specs.Items.{Item, row_item, end_item, items_of, items_text, rows_in_items, bounds_in_items, shown_items}
-use Rattle.yq_rows.specs.Kept.{HavePlaces, IsPlaced, TextsIn, ends_near, near, shown_in}
-use Rattle.yq_rows.specs.Offsets.{AreTexts, Stand, Stands, offsets_of, parent_by, pieces_of, rows_in, slices_in}
+use Rattle.yq_rows.specs.Items.{Item, row_item, end_item, items_of, items_text, rows_in_items, bounds_in_items, view_of_items}
+use Rattle.yq_rows.specs.Kept.{HavePlaces, IsPlaced, TextsIn, ends_near, near, halves_view}
+use Rattle.yq_rows.specs.Offsets.{AreTexts, Stand, IsCutIn, offsets_of, parent_by, pieces_of, rows_in, slices_in}
 use Rattle.yq_rows.specs.Rows.{Row, Cut, print_row}
-use Rattle.yq_rows.specs.View.{Bound, Shown, shown, slices, slices_text}
+use Rattle.yq_rows.specs.View.{Bound, RowsView, rows_view, slices, slices_text}
 use Rattle.yq_rows.specs.declared.ends.EndPlace.{EndPlace}
 use Rattle.yq_rows.specs.declared.offsets.Offsets as declared
 use Rattle.yq_rows.specs.declared.places.Places.{Places}
-use Rattle.yq_rows.proofs.HalfLaws.{have_shown, texts_parts}
-use Rattle.yq_rows.proofs.ItemLaws.{items_of_text, items_shown, items_text-append}
+use Rattle.yq_rows.proofs.HalfLaws.{have_view, texts_parts}
+use Rattle.yq_rows.proofs.ItemLaws.{items_of_text, items_view_is, items_text-append}
 use Rattle.yq_rows.proofs.KeptLaws.{items_apart, items_texts}
 use Rattle.yq_rows.proofs.NearLaws.{AreRead}
 use Rattle.yq_rows.proofs.ScanLaws.{one_cut}
 use Rattle.yq_rows.proofs.SliceLaws.{slices_are}
 
 -- the lengths of pieces that were cut again
-told_again : (column m n : ℕ) (dashes colon : List ℕ) → IsCharBoundary dashes m → IsCharBoundary colon n → parent_by (column + length (take m dashes)) (length (take n colon)) ≡ parent_by (column + m) n
-told_again column m n dashes colon h k = rw (length-take-le m dashes h.0, length-take-le n colon k.0) refl
+agrees_again : (column m n : ℕ) (dashes colon : List ℕ) → IsCharBoundary dashes m → IsCharBoundary colon n → parent_by (column + length (take m dashes)) (length (take n colon)) ≡ parent_by (column + m) n
+agrees_again column m n dashes colon h k = rw (length-take-le m dashes h.0, length-take-le n colon k.0) refl
 
 -- what stands in a text that is characters is characters
-pub row_texts_in : (t : List ℕ) (o : declared.Offsets) → IsUtf8 t → Stands t o → AreTexts (slices_in t o)
+pub row_texts_in : (t : List ℕ) (o : declared.Offsets) → IsUtf8 t → IsCutIn t o → AreTexts (slices_in t o)
 unfolding pieces_of
 row_texts_in t o u h =
     let gap = IsUtf8-drop t o.start u h.0 in
@@ -54,7 +54,7 @@ row_texts_in t o u h =
       head = IsUtf8-take _ o.head head h.1.1.1.1.1.1.1.1.1.0;
       tail = IsUtf8-take _ o.tail tail h.1.1.1.1.1.1.1.1.1.1.0;
       raw = IsUtf8-take _ o.raw raw h.1.1.1.1.1.1.1.1.1.1.1.0;
-      parent = sym (told_again o.column o.dashes o.colon _ _ h.1.1.1.0 h.1.1.1.1.1.0);
+      parent = sym (agrees_again o.column o.dashes o.colon _ _ h.1.1.1.0 h.1.1.1.1.1.0);
     }
 
 abbrev AreEndTexts : Bound → Type 0
@@ -78,16 +78,16 @@ texts_by (end_item gap marker ∷ xs) k rows ends =
 pub texts_stand : (t : List ℕ) (os : List declared.Offsets) (es : List EndPlace) (xs : List Item) → IsUtf8 t → Stand t os → EndsStand t es → rows_in t os ≡ rows_in_items xs → bounds_in t es ≡ bounds_in_items 0 xs → TextsIn xs
 texts_stand t os es xs u rows ends first second =
     texts_by xs 0
-    (subst (All AreTexts) first (All-map AreTexts (slices_in t) os (All-weaker (Stands t) (λ o. AreTexts (slices_in t o)) (λ o h. row_texts_in t o u h) os rows)))
+    (subst (All AreTexts) first (All-map AreTexts (slices_in t) os (All-weaker (IsCutIn t) (λ o. AreTexts (slices_in t o)) (λ o h. row_texts_in t o u h) os rows)))
     (subst (All AreEndTexts) second (All-map AreEndTexts (bound_in t) es (All-weaker (EndStands t) (λ o. AreEndTexts (bound_in t o)) (λ o h. end_texts_in t o u h) es ends)))
 
--- items that are lent alike have one text
+-- items that are borrowed alike have one text
 later : (k : ℕ) (xs : List Item) (b : Bound) (bs : List Bound) → bounds_in_items k xs ≡ b ∷ bs → k ≤ b.rows
 later k [] b bs e = absurd cc
 later k (row_item r ∷ xs) b bs e = let more = later (k + 1) xs b bs e in omega (arith, more)
 later k (end_item gap marker ∷ xs) b bs e = let same : record { rows = k; end = gap; marker = marker } ≡ b = cc in let count = ap (λ (x : Bound). x.rows) same in omega (arith, count)
 
--- Items that are alike in all that is kept and lent of them.
+-- Items that are alike in all that is kept and borrowed of them.
 pub record SameItems (n k : ℕ) (rest : List ℕ) (xs ys : List Item) : Type 0 where
   pub text : items_text xs rest ≡ items_text ys rest
   pub near : near n xs ≡ near n ys
@@ -135,8 +135,8 @@ same_from (end_item gap marker ∷ xs) (end_item g m ∷ ys) n k rest rows ends 
     let own : b ≡ d = cc in
     end_alike gap marker g m xs ys n k rest (ap (λ (b : Bound). b.end) own) (ap (λ (b : Bound). b.marker) own) (same_from xs ys (n + length (gap ++ marker)) k rest rows behind)
 
-pub same_shown : (xs ys : List Item) (n : ℕ) (rest : List ℕ) → shown_items xs ≡ shown_items ys → SameItems n 0 rest xs ys
-same_shown xs ys n rest e = same_from xs ys n 0 rest (ap (λ (s : Shown). s.rows) e) (ap (λ (s : Shown). s.bounds) e)
+pub same_view : (xs ys : List Item) (n : ℕ) (rest : List ℕ) → view_of_items xs ≡ view_of_items ys → SameItems n 0 rest xs ys
+same_view xs ys n rest e = same_from xs ys n 0 rest (ap (λ (s : RowsView). s.rows) e) (ap (λ (s : RowsView). s.bounds) e)
 
 -- the parts of a text by the length of the first one
 append_parts : (a b x y : List ℕ) → length a ≡ length b → a ++ x ≡ b ++ y → (a ≡ b) × (x ≡ y)
@@ -145,26 +145,26 @@ append_parts a b x y long e =
     (first, append_cancel_left b x y (ap (λ l. l ++ x) (sym first) ∙ e))
 
 -- places of a text's rows, and the two halves of it
-placed_text : (t : List ℕ) (c : Cut) (p : Places) → IsCut t c → (h : IsPlaced p (shown c)) → t ≡ items_text h.before [] ++ items_text h.behind []
+placed_text : (t : List ℕ) (c : Cut) (p : Places) → IsCut t c → (h : IsPlaced p (rows_view c)) → t ≡ items_text h.before [] ++ items_text h.behind []
 placed_text t c p cut h =
-    let lent : shown_items (items_of c) ≡ shown_items (h.before ++ h.behind) = items_shown c ∙ h.shown_is in
-    cut.text ∙ (sym (items_of_text c) ∙ ((same_shown (items_of c) (h.before ++ h.behind) 0 [] lent).text ∙ (items_text-append h.before h.behind [] ∙ items_apart h.before (items_text h.behind []))))
+    let sliced : view_of_items (items_of c) ≡ view_of_items (h.before ++ h.behind) = items_view_is c ∙ h.rows_view_is in
+    cut.text ∙ (sym (items_of_text c) ∙ ((same_view (items_of c) (h.before ++ h.behind) 0 [] sliced).text ∙ (items_text-append h.before h.behind [] ∙ items_apart h.before (items_text h.behind []))))
 
-pub have_places : (text : Halves) (c : Cut) (p : Places) → IsCut (whole text) c → length text.front.now ≡ p.split → IsPlaced p (shown c) → HavePlaces text p
+pub have_places : (text : Halves) (c : Cut) (p : Places) → IsCut (whole text) c → length text.front.now ≡ p.split → IsPlaced p (rows_view c) → HavePlaces text p
 have_places text c p cut long h =
     let halves = append_parts text.front.now (items_text h.before []) text.back.now (items_text h.behind []) (long ∙ h.placed.split_is) (placed_text (whole text) c p cut h) in
     record { before = h.before; behind = h.behind; placed = h.placed; front_is = halves.0; back_is = halves.1 }
 
-pub placed_shown : (text : Halves) (c d : Cut) (p : Places) → IsCut (whole text) c → IsCut (whole text) d → length text.front.now ≡ p.split → IsPlaced p (shown c) → shown_in text p ≡ shown d
+pub placed_view : (text : Halves) (c d : Cut) (p : Places) → IsCut (whole text) c → IsCut (whole text) d → length text.front.now ≡ p.split → IsPlaced p (rows_view c) → halves_view text p ≡ rows_view d
 unfolding have_places
-placed_shown text c d p cut other long h = have_shown text p (have_places text c p cut long h) ∙ (sym h.shown_is ∙ ap shown (one_cut (whole text) c d cut other))
+placed_view text c d p cut other long h = have_view text p (have_places text c p cut long h) ∙ (sym h.rows_view_is ∙ ap rows_view (one_cut (whole text) c d cut other))
 
 -- and back
-pub places_of : (text : Halves) (p : Places) (h : HavePlaces text p) → IsPlaced p (shown_in text p)
-places_of text p h = record { before = h.before; behind = h.behind; placed = h.placed; shown_is = have_shown text p h }
+pub places_of : (text : Halves) (p : Places) (h : HavePlaces text p) → IsPlaced p (halves_view text p)
+places_of text p h = record { before = h.before; behind = h.behind; placed = h.placed; rows_view_is = have_view text p h }
 
 -- the split is between characters of the text
-pub split_boundary : (t : List ℕ) (c : Cut) (p : Places) → IsCut t c → IsPlaced p (shown c) → IsCharBoundary t p.split
+pub split_boundary : (t : List ℕ) (c : Cut) (p : Places) → IsCut t c → IsPlaced p (rows_view c) → IsCharBoundary t p.split
 split_boundary t c p cut h =
     let back : IsUtf8 (items_text h.behind []) = items_texts h.behind [] (texts_parts h.before h.behind h.placed.texts).1 IsUtf8-nil in
     subst (IsCharBoundary t) (sym h.placed.split_is) (IsCharBoundary-at_seam t (items_text h.before []) (items_text h.behind []) (placed_text t c p cut h) back)
@@ -185,7 +185,7 @@ pub scanned_places : (t : List ℕ) (text : Halves) (p : Places) → Scanned t t
 scanned_places t text p h =
     let items = h.read.items in
     let all : items ++ [] ≡ items = append-nil items in
-    let texts = texts_stand t p.front.items p.ends.items items h.characters h.rows_stand h.ends_stand (ap (λ (s : Shown). s.rows) h.read.shown_is) (ap (λ (s : Shown). s.bounds) h.read.shown_is) in
+    let texts = texts_stand t p.front.items p.ends.items items h.characters h.rows_stand h.ends_stand (ap (λ (s : RowsView). s.rows) h.read.rows_view_is) (ap (λ (s : RowsView). s.bounds) h.read.rows_view_is) in
     record {
       before = items;
       behind = [];
@@ -201,6 +201,6 @@ scanned_places t text p h =
       back_is = h.back_is;
     }
 
-pub scanned_shown : (t : List ℕ) (text : Halves) (p : Places) → Scanned t text p → shown_in text p ≡ record { rows = rows_in t p.front.items; bounds = bounds_in t p.ends.items }
+pub scanned_view : (t : List ℕ) (text : Halves) (p : Places) → Scanned t text p → halves_view text p ≡ record { rows = rows_in t p.front.items; bounds = bounds_in t p.ends.items }
 unfolding scanned_places
-scanned_shown t text p h = have_shown text p (scanned_places t text p h) ∙ (ap shown_items (append-nil h.read.items) ∙ sym h.read.shown_is)
+scanned_view t text p h = have_view text p (scanned_places t text p h) ∙ (ap view_of_items (append-nil h.read.items) ∙ sym h.read.rows_view_is)

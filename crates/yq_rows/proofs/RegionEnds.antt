@@ -8,7 +8,7 @@ use Rattle.yq_inline.specs.Alike.{Alike}
 use Rattle.yq_inline.proofs.Alikes.{alike_append}
 use Rattle.yq_rows.specs.Gap.{IsGap}
 use Rattle.yq_rows.specs.Grammar.{Limit, IsTail, IsContent, IsRow, IsMarkerLine}
-use Rattle.yq_rows.specs.Items.{Item, row_item, end_item, items_of, items_text, Asked, nothing_asked, asked_by, asked_of, AreItems}
+use Rattle.yq_rows.specs.Items.{Item, row_item, end_item, items_of, items_text, Asked, nothing_asked, asked_by, asked_of, AreRowItems}
 use Rattle.yq_rows.specs.Regions.{StandIn, ended, IsReadAlone}
 use Rattle.yq_rows.specs.Rows.{Content, Nothing, Inline, Block, Row, parent_indent}
 use Rattle.yq_rows.specs.Seams.{is_closed, is_seam, TakesPlace}
@@ -16,7 +16,7 @@ use Rattle.yq_rows.proofs.AlikeRows.{marker_line_alike, row_alike, row_gap_alike
 use Rattle.yq_rows.proofs.EmptyTexts.{none_is}
 use Rattle.yq_rows.proofs.ItemLaws.{items_joined, parts_are_items}
 use Rattle.yq_rows.proofs.NothingLaws.{gap_other, some_behind}
-use Rattle.yq_rows.proofs.ItemCuts.{Ended, alone_read, cut_made, cut_of, last_items, no_last, no_marker}
+use Rattle.yq_rows.proofs.ItemCuts.{Ended, alone_read, cut_of_items, cut_of, last_items, no_last, no_marker}
 use Rattle.yq_rows.proofs.seams.GapSeams.{gap_lines_of, lines_before}
 use Rattle.yq_rows.proofs.seams.MarkerSeams.{marker_line_is, marker_seam}
 use Rattle.yq_rows.proofs.seams.SeamLaws.{plain_before, row_seam, tail_line}
@@ -55,7 +55,7 @@ LikeBefore [] t u = Unit {0}
 LikeBefore (x ∷ xs) t u = Alike (Some false) t u
 
 abbrev CutEnd : Asked → List Item → (gap marker : List ℕ) → List Item → Type 0
-CutEnd asked xs gap marker back = AreItems asked (xs ++ cut_end gap) [] × LikeBefore xs (items_text (xs ++ (end_item gap marker ∷ back)) []) (items_text (xs ++ cut_end gap) [])
+CutEnd asked xs gap marker back = AreRowItems asked (xs ++ cut_end gap) [] × LikeBefore xs (items_text (xs ++ (end_item gap marker ∷ back)) []) (items_text (xs ++ cut_end gap) [])
 
 -- What stands behind the items and in front of the marker.
 pub record Before (gap marker : List ℕ) (back : List Item) : Type 0 where
@@ -88,7 +88,7 @@ line_ended line (x ∷ xs) gap marker back b h a =
     let u = items_text ((x ∷ xs) ++ cut_end gap) [] in
     (marker_line_alike line t u a h, alike_append (Some false) line t u a)
 
-pub cut_items : (xs : List Item) (asked : Asked) (gap marker : List ℕ) (back : List Item) → Before gap marker back → AreItems asked (xs ++ (end_item gap marker ∷ back)) [] → CutEnd asked xs gap marker back
+pub cut_items : (xs : List Item) (asked : Asked) (gap marker : List ℕ) (back : List Item) → Before gap marker back → AreRowItems asked (xs ++ (end_item gap marker ∷ back)) [] → CutEnd asked xs gap marker back
 cut_items [] asked gap marker back b h = (((b.last, inr (refl, refl, refl)), tt), tt)
 cut_items (row_item r ∷ xs) asked gap marker back b h =
     let more = cut_items xs (asked_by asked (row_item r)) gap marker back b h.1 in
@@ -123,14 +123,14 @@ pub region_end : (xs back : List Item) (gap marker : List ℕ) → StandIn (ende
 region_end xs back gap marker s =
     let place : (xs ++ (end_item gap marker ∷ [])) ++ back ≡ xs ++ (end_item gap marker ∷ back) = append_assoc xs (end_item gap marker ∷ []) back in
     let own_items : items_of s.cut ≡ s.front ++ (xs ++ (end_item gap marker ∷ back)) = s.items ∙ ap (λ l. s.front ++ l) place in
-    let all : AreItems nothing_asked (s.front ++ (xs ++ (end_item gap marker ∷ back))) [] = subst (λ (l : List Item). AreItems nothing_asked l []) own_items (parts_are_items s.cut true s.is_cut.parts) in
+    let all : AreRowItems nothing_asked (s.front ++ (xs ++ (end_item gap marker ∷ back))) [] = subst (λ (l : List Item). AreRowItems nothing_asked l []) own_items (parts_are_items s.cut true s.is_cut.parts) in
     let asked = asked_of nothing_asked s.front in
-    let behind : AreItems asked (xs ++ (end_item gap marker ∷ back)) [] = items_joined s.front (xs ++ (end_item gap marker ∷ back)) nothing_asked [] all in
+    let behind : AreRowItems asked (xs ++ (end_item gap marker ∷ back)) [] = items_joined s.front (xs ++ (end_item gap marker ∷ back)) nothing_asked [] all in
     let own = items_joined xs (end_item gap marker ∷ back) asked [] behind in
-    let mine : AreItems asked (xs ++ cut_end gap) [] = ⊎_elim {0, 0, 0}
+    let mine : AreRowItems asked (xs ++ cut_end gap) [] = ⊎_elim {0, 0, 0}
     (λ line.
     let before : Before gap marker back = record { line = line; some = some_marker marker (items_text back []) line; was = own.0.0; last = end_last gap (marker ++ items_text back []) (some_marker marker (items_text back []) line) own.0.0 } in
     (cut_items xs asked gap marker back before behind).0)
-    (λ none. subst (λ (m : List ℕ). AreItems asked (xs ++ (end_item gap m ∷ [])) []) none.0 (subst (λ (l : List Item). AreItems asked (xs ++ (end_item gap marker ∷ l)) []) none.1 behind))
+    (λ none. subst (λ (m : List ℕ). AreRowItems asked (xs ++ (end_item gap m ∷ [])) []) none.0 (subst (λ (l : List Item). AreRowItems asked (xs ++ (end_item gap marker ∷ l)) []) none.1 behind))
     own.0.1 in
-    record { cut = cut_of (xs ++ cut_end gap); read = alone_read (xs ++ cut_end gap) asked mine; text = (cut_made (xs ++ cut_end gap) asked mine).1; items = last_items (xs ++ cut_end gap) asked mine (end_ended xs gap) }
+    record { cut = cut_of (xs ++ cut_end gap); read = alone_read (xs ++ cut_end gap) asked mine; text = (cut_of_items (xs ++ cut_end gap) asked mine).1; items = last_items (xs ++ cut_end gap) asked mine (end_ended xs gap) }

@@ -9,16 +9,16 @@ use Rattle.yq_scalar.specs.Text.{is_line, lines_of}
 use Rattle.yq_inline.specs.Alike.{Alike}
 use Rattle.yq_inline.proofs.Alikes.{alike_append}
 use Rattle.yq_rows.specs.Grammar.{Limit, IsRow, IsMarkerLine}
-use Rattle.yq_rows.specs.Items.{Item, row_item, end_item, items_text, Asked, nothing_asked, asked_by, asked_of, AreItems, shown_items}
+use Rattle.yq_rows.specs.Items.{Item, row_item, end_item, items_text, Asked, nothing_asked, asked_by, asked_of, AreRowItems, view_of_items}
 use Rattle.yq_rows.specs.Regions.{StandIn, alone, IsReadAlone}
-use Rattle.yq_rows.specs.Lending.{shown_read}
+use Rattle.yq_rows.specs.Slicing.{read_view}
 use Rattle.yq_rows.specs.Reading.{all_parts}
 use Rattle.yq_rows.specs.Rows.{Content, Nothing, Inline, Block, Row, parent_indent}
-use Rattle.yq_rows.specs.View.{Shown, shown}
+use Rattle.yq_rows.specs.View.{RowsView, rows_view}
 use Rattle.yq_rows.specs.Seams.{is_closed, is_seam, TakesPlace}
 use Rattle.yq_rows.proofs.AlikeRows.{row_alike, row_gap_alike, row_text_alike, marker_line_alike}
-use Rattle.yq_rows.proofs.ItemCuts.{no_last, no_gap, cut_of, cut_made, alone_read, inner_items, Ended, last_items, cut_ended, back_ended}
-use Rattle.yq_rows.proofs.ItemLaws.{items_joined, items_shown, parts_are_items}
+use Rattle.yq_rows.proofs.ItemCuts.{no_last, no_gap, cut_of, cut_of_items, alone_read, inner_items, Ended, last_items, cut_ended, back_ended}
+use Rattle.yq_rows.proofs.ItemLaws.{items_joined, items_view_is, parts_are_items}
 use Rattle.yq_rows.proofs.seams.MarkerSeams.{marker_seam}
 use Rattle.yq_rows.proofs.seams.SeamLaws.{row_seam, plain_before}
 
@@ -44,7 +44,7 @@ BeginsLike t [] = Unit {0}
 BeginsLike t (x ∷ xs) = Alike (Some false) t (items_text (x ∷ xs) [])
 
 abbrev Shortened : Asked → List Item → List ℕ → Type 0
-Shortened asked xs t = AreItems asked xs [] × BeginsLike t xs
+Shortened asked xs t = AreRowItems asked xs [] × BeginsLike t xs
 
 row_short : (limit : Limit) (r : Row) (xs : List Item) (t : List ℕ) → IsRow limit r t → BeginsLike t xs → TakesPlace limit r t r (items_text xs [])
 row_short limit r [] t h a = row_end limit r t h
@@ -58,7 +58,7 @@ marker_short marker [] t h a = marker_seam marker t [] h (closed_end marker)
 marker_short marker (x ∷ xs) t h a = (marker_line_alike marker t (items_text (x ∷ xs) []) a h, alike_append (Some false) marker t (items_text (x ∷ xs) []) a)
 
 -- Items in front of others, alone.
-pub shortened : (xs : List Item) (z : Item) (zs : List Item) (asked : Asked) (rest : List ℕ) → AreItems asked (xs ++ (z ∷ zs)) rest → Shortened asked xs (items_text (xs ++ (z ∷ zs)) rest)
+pub shortened : (xs : List Item) (z : Item) (zs : List Item) (asked : Asked) (rest : List ℕ) → AreRowItems asked (xs ++ (z ∷ zs)) rest → Shortened asked xs (items_text (xs ++ (z ∷ zs)) rest)
 shortened [] z zs asked rest h = (tt, tt)
 shortened (row_item r ∷ xs) z zs asked rest h =
     let more = shortened xs z zs (asked_by asked (row_item r)) rest h.1 in
@@ -77,21 +77,21 @@ shortened (end_item gap marker ∷ xs) z zs asked rest h =
 -- The law of regions.
 pub region : (xs back : List Item) → StandIn xs back → IsReadAlone xs back
 region xs [] s =
-    let all : AreItems nothing_asked (s.front ++ (xs ++ [])) [] = subst (λ (l : List Item). AreItems nothing_asked l []) s.items (parts_are_items s.cut true s.is_cut.parts) in
+    let all : AreRowItems nothing_asked (s.front ++ (xs ++ [])) [] = subst (λ (l : List Item). AreRowItems nothing_asked l []) s.items (parts_are_items s.cut true s.is_cut.parts) in
     let own : xs ++ [] ≡ xs = append-nil xs in
     let asked = asked_of nothing_asked s.front in
-    let mine : AreItems asked xs [] = subst (λ (l : List Item). AreItems asked l []) own (items_joined s.front (xs ++ []) nothing_asked [] all) in
+    let mine : AreRowItems asked xs [] = subst (λ (l : List Item). AreRowItems asked l []) own (items_joined s.front (xs ++ []) nothing_asked [] all) in
     let last : Ended xs = subst Ended own (back_ended s.front (xs ++ []) s.some (subst Ended s.items (cut_ended s.cut))) in
-    record { cut = cut_of xs; read = alone_read xs asked mine; text = (cut_made xs asked mine).1; items = last_items xs asked mine last }
+    record { cut = cut_of xs; read = alone_read xs asked mine; text = (cut_of_items xs asked mine).1; items = last_items xs asked mine last }
 region xs (z ∷ zs) s =
-    let all : AreItems nothing_asked (s.front ++ (xs ++ (z ∷ zs))) [] = subst (λ (l : List Item). AreItems nothing_asked l []) s.items (parts_are_items s.cut true s.is_cut.parts) in
+    let all : AreRowItems nothing_asked (s.front ++ (xs ++ (z ∷ zs))) [] = subst (λ (l : List Item). AreRowItems nothing_asked l []) s.items (parts_are_items s.cut true s.is_cut.parts) in
     let asked = asked_of nothing_asked s.front in
-    let behind : AreItems asked (xs ++ (z ∷ zs)) [] = items_joined s.front (xs ++ (z ∷ zs)) nothing_asked [] all in
-    let mine : AreItems asked xs [] = (shortened xs z zs asked [] behind).0 in
-    record { cut = cut_of xs; read = alone_read xs asked mine; text = (cut_made xs asked mine).1; items = inner_items xs z zs asked [] behind }
+    let behind : AreRowItems asked (xs ++ (z ∷ zs)) [] = items_joined s.front (xs ++ (z ∷ zs)) nothing_asked [] all in
+    let mine : AreRowItems asked xs [] = (shortened xs z zs asked [] behind).0 in
+    record { cut = cut_of xs; read = alone_read xs asked mine; text = (cut_of_items xs asked mine).1; items = inner_items xs z zs asked [] behind }
 
-pub given_alone : {X : Type 0} (v : X → Shown) (t : List ℕ) (xs back : List Item) (r : Result X ReadError) → IsReadAlone xs back → t ≡ items_text xs [] → Gives v r (shown_read (all_parts true t)) → Gives v r (Some (shown_items (alone xs back)))
-given_alone v t xs back r law e g =
+pub read_alone : {X : Type 0} (v : X → RowsView) (t : List ℕ) (xs back : List Item) (r : Result X ReadError) → IsReadAlone xs back → t ≡ items_text xs [] → Gives v r (read_view (all_parts true t)) → Gives v r (Some (view_of_items (alone xs back)))
+read_alone v t xs back r law e g =
     let read : all_parts true t ≡ Some law.cut = ap (all_parts true) e ∙ law.read in
-    let lent : shown law.cut ≡ shown_items (alone xs back) = sym (items_shown law.cut) ∙ ap shown_items law.items in
-    subst (λ (o : Option Shown). Gives v r o) (ap shown_read read ∙ ap Some lent) g
+    let sliced : rows_view law.cut ≡ view_of_items (alone xs back) = sym (items_view_is law.cut) ∙ ap view_of_items law.items in
+    subst (λ (o : Option RowsView). Gives v r o) (ap read_view read ∙ ap Some sliced) g

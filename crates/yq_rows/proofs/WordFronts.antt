@@ -10,7 +10,7 @@ use Rattle.yq_scalar.proofs.SpaceLaws.{prefix_drop, white_drop}
 use Rattle.yq_inline.specs.Nodes.{first_is}
 use Rattle.yq_inline.specs.Reading.{scalar_at}
 use Rattle.yq_inline.specs.Scalars.{is_quoted, begins_scalar}
-use Rattle.yq_rows.specs.Lending.{begins_other}
+use Rattle.yq_rows.specs.Slicing.{begins_other}
 use Rattle.yq_rows.specs.Reading.{is_word, begins_gap, begins_block, tail_at}
 
 isnt : (b k : ℕ) → is_word b ≡ true → is_word k ≡ false → eqb b k ≡ false

@@ -12,7 +12,7 @@ columns_at least digit raw = option_map (λ f. f.columns) (indent_at least digit
 
 -- whether the block scalar of this header and these raw lines, below a parent of this indentation, keeps the empty lines at its end, and how far its
 -- text is indented; nothing where the header is none (own)
-abbrev pub block_told : ℤ → (head raw : List ℕ) → Option (Bool × ℕ)
-block_told n [] raw = None
-block_told n (b ∷ t) raw =
+abbrev pub block_numbers_of : ℤ → (head raw : List ℕ) → Option (Bool × ℕ)
+block_numbers_of n [] raw = None
+block_numbers_of n (b ∷ t) raw =
     if b == 124 || b == 62 then option_map (λ k. (keeps (indicators_at t).1, k)) (columns_at (deeper n) (indicators_at t).0 raw) else None

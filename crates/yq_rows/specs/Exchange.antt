@@ -68,7 +68,7 @@ asked_behind limit (r ∷ rs) = asked_behind (limit_after r) rs
 
 -- What is asked of a content that stands in the place of a row's, behind a dash or a key: it stands there, behind it the next row of the part may
 -- stand, and white space, a break or the end is in front of it (own).
-pub record Fits (new : Content) (r : Row) (rest : List ℕ) (behind : List Row) : Type 0 where
+pub record FitsRow (new : Content) (r : Row) (rest : List ℕ) (behind : List Row) : Type 0 where
   pub entry : is_entry r.mark ≡ true
   pub content : IsContent (parent_indent r) new rest
   pub apart : separates (content_text new rest) ≡ true

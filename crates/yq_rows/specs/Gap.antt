@@ -21,7 +21,7 @@ pub record IsLineEnd (white comment p rest : List ℕ) : Type 0 where
   pub break : List ℕ
   pub spelled : p ≡ white ++ (comment ++ break)
   pub blank : IsWhite white
-  pub remark : IsComment comment break
+  pub as_comment : IsComment comment break
   pub ends : IsBreak break rest
 
 -- a blank line or a comment line (YAML 1.2.2, section 6.6)

@@ -8,7 +8,7 @@ use Rattle.yq_scalar.specs.Piece.{deeper}
 use Rattle.yq_scalar.specs.Text.{is_empty, separates, front, is_marker}
 use Rattle.yq_inline.specs.Inline.{IsInline}
 use Rattle.yq_inline.specs.Nodes.{Node, empty, alias, scalar, coll, anchored, is_bare, IsName}
-use Rattle.yq_inline.specs.Scalars.{IsScalar, is_quoted}
+use Rattle.yq_inline.specs.Scalars.{IsScalarAt, is_quoted}
 use Rattle.yq_rows.specs.Gap.{IsWhite, IsLineEnd, IsGap}
 use Rattle.yq_rows.specs.Rows as rows
 use Rattle.yq_rows.specs.Rows.{Mark, Bare, Dash, Key, Anchor, Content, Nothing, Inline, content_text, Row, behind_indent, behind_gap, parent_indent, rows_text, Part, Cut, last, marked, cut_text}
@@ -26,7 +26,7 @@ key_limit = 1024
 
 -- A key and its `:`, before a rest: a plain or quoted scalar on one line, and the `:` not too far behind its beginning (YAML 1.2.2, section 8.2.2).
 pub record IsKey (key colon rest : List ℕ) : Type 0 where
-  pub scalar : IsScalar false None key (colon ++ rest)
+  pub scalar : IsScalarAt false None key (colon ++ rest)
   pub colon_is : IsColon colon rest
   pub near : length (chars key) + length (chars colon) ≤ key_limit + 1
 

@@ -3,7 +3,7 @@ use Rattle.std.specs.Prelude.{◌≡◌, ◌⊎◌, ℕ, ◌+◌, Bool, true, Li
 use Rattle.yq_rows.specs.Gap.{IsGap}
 use Rattle.yq_rows.specs.Grammar.{IsRow, Limit, unlimited, limit_after, begins_document, IsMarkerLine}
 use Rattle.yq_rows.specs.Rows.{Row, print_row, Cut, last, marked}
-use Rattle.yq_rows.specs.View.{Slices, slices, Bound, Shown}
+use Rattle.yq_rows.specs.View.{Slices, slices, Bound, RowsView}
 
 -- a row, or the end of a part: the gap behind its rows, and the line of the marker behind that, which the last part has not (YAML 1.2.2, section 9.1;
 -- own)
@@ -56,9 +56,9 @@ IsItem asked (row_item r) xs rest = (asked.started ≡ true) × IsRow asked.limi
 IsItem asked (end_item gap marker) xs rest = IsGap gap (marker ++ items_text xs rest) × IsPartEnd marker xs rest
 
 -- items one behind the other, before a rest (own)
-abbrev pub AreItems : Asked → List Item → List ℕ → Type 0
-AreItems asked [] rest = Unit {0}
-AreItems asked (x ∷ xs) rest = IsItem asked x xs rest × AreItems (asked_by asked x) xs rest
+abbrev pub AreRowItems : Asked → List Item → List ℕ → Type 0
+AreRowItems asked [] rest = Unit {0}
+AreRowItems asked (x ∷ xs) rest = IsItem asked x xs rest × AreRowItems (asked_by asked x) xs rest
 
 -- the rows of items, by their pieces (own)
 abbrev pub rows_in_items : List Item → List Slices
@@ -73,5 +73,5 @@ bounds_in_items n (row_item r ∷ xs) = bounds_in_items (n + 1) xs
 bounds_in_items n (end_item gap marker ∷ xs) = record { rows = n; end = gap; marker = marker } ∷ bounds_in_items n xs
 
 -- items, as the code lends them (own)
-abbrev pub shown_items : List Item → Shown
-shown_items xs = record { rows = rows_in_items xs; bounds = bounds_in_items 0 xs }
+abbrev pub view_of_items : List Item → RowsView
+view_of_items xs = record { rows = rows_in_items xs; bounds = bounds_in_items 0 xs }

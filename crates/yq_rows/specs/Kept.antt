@@ -5,10 +5,10 @@ use Rattle.yq_scalar.specs.Answers.{◌>>=◌}
 use Rattle.std.specs.Str.{IsUtf8}
 use Rattle.yq_text.specs.declared.halves.Halves.{Halves}
 use Rattle.yq_rows.specs.Ends.{bounds_in_halves, end_at}
-use Rattle.yq_rows.specs.Items.{Item, row_item, end_item, items_of, items_text, rows_items, shown_items}
+use Rattle.yq_rows.specs.Items.{Item, row_item, end_item, items_of, items_text, rows_items, view_of_items}
 use Rattle.yq_rows.specs.Offsets.{AreTexts, offsets_of, pieces_of, rows_in}
 use Rattle.yq_rows.specs.Rows.{print_row, Part, Cut}
-use Rattle.yq_rows.specs.View.{slices, Shown, Slices}
+use Rattle.yq_rows.specs.View.{slices, RowsView, Slices}
 use Rattle.yq_rows.specs.declared.ends.EndPlace.{EndPlace}
 use Rattle.yq_rows.specs.declared.offsets.Offsets as declared
 use Rattle.yq_rows.specs.declared.places.Places.{Places}
@@ -79,11 +79,11 @@ pub record ArePlaced (p : Places) (before behind : List Item) : Type 0 where
   pub small : length (items_text (before ++ behind) []) < 2 ^ 32
 
 -- These are the rows and ends of a text that are kept so (own).
-pub record IsPlaced (p : Places) (s : Shown) : Type 0 where
+pub record IsPlaced (p : Places) (s : RowsView) : Type 0 where
   pub before : List Item
   pub behind : List Item
   pub placed : ArePlaced p before behind
-  pub shown_is : s ≡ shown_items (before ++ behind)
+  pub rows_view_is : s ≡ view_of_items (before ++ behind)
 
 -- Rows and ends of parts are kept where those of the two halves of a text stand (own).
 pub record HavePlaces (text : Halves) (p : Places) : Type 0 where
@@ -98,8 +98,8 @@ abbrev pub slices_behind : List ℕ → declared.Offsets → Slices
 slices_behind back o = pieces_of (drop (length back - o.start) back) o
 
 -- rows and ends of parts, by where they are kept, of a text in two halves (own)
-abbrev pub shown_in : Halves → Places → Shown
-shown_in text p = record {
+abbrev pub halves_view : Halves → Places → RowsView
+halves_view text p = record {
   rows = rows_in text.front.now p.front.items ++ map (slices_behind text.back.now) (reverse p.behind.items);
   bounds = bounds_in_halves text p.ends.items;
 }

@@ -61,16 +61,16 @@ abbrev pub lengths : declared.Offsets → List ℕ
 lengths o = o.gap ∷ o.column ∷ o.dashes ∷ o.key ∷ o.colon ∷ o.space ∷ o.anchor ∷ o.apart ∷ o.head ∷ o.tail ∷ o.raw ∷ []
 
 -- what stands before a row, and its pieces, are in a text, each cut between characters (own)
-abbrev pub Stands : List ℕ → declared.Offsets → Type 0
-Stands whole o = AreCuts whole (o.start ∷ lengths o)
+abbrev pub IsCutIn : List ℕ → declared.Offsets → Type 0
+IsCutIn whole o = AreCuts whole (o.start ∷ lengths o)
 
 -- the same of several rows (own)
 abbrev pub Stand : List ℕ → List declared.Offsets → Type 0
-Stand whole offsets = All (Stands whole) offsets
+Stand whole offsets = All (IsCutIn whole) offsets
 
 -- the pieces of a row tell the parent indentation of what stands behind its mark (own)
-abbrev pub TellParent : Slices → Type 0
-TellParent s = s.parent ≡ parent_by (s.column + length s.dashes) (length s.colon)
+abbrev pub ParentAgrees : Slices → Type 0
+ParentAgrees s = s.parent ≡ parent_by (s.column + length s.dashes) (length s.colon)
 
 -- The pieces of a row are characters, and tell the parent indentation of what stands behind its mark (own).
 pub record AreTexts (s : Slices) : Type 0 where
@@ -84,7 +84,7 @@ pub record AreTexts (s : Slices) : Type 0 where
   pub head : IsUtf8 s.head
   pub tail : IsUtf8 s.tail
   pub raw : IsUtf8 s.raw
-  pub parent : TellParent s
+  pub parent : ParentAgrees s
 
 -- how long a row is (own)
 abbrev pub row_length : Slices → ℕ

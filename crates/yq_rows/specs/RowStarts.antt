@@ -3,7 +3,7 @@ use Rattle.std.specs.Prelude.{ℕ, ◌+◌, ◌*◌, nat_le, length, take, if◌
 use Rattle.std.specs.List.{sum_by}
 use Rattle.yq_scalar.specs.Text.{is_empty}
 use Rattle.yq_rows.specs.Offsets.{row_length}
-use Rattle.yq_rows.specs.View.{Slices, Bound, Shown}
+use Rattle.yq_rows.specs.View.{Slices, Bound, RowsView}
 
 -- how long the end of a part is, with the marker behind it (own)
 abbrev pub bound_length : Bound → ℕ
@@ -14,11 +14,11 @@ abbrev pub passed_length : ℕ → Bound → ℕ
 passed_length i b = if nat_le b.rows i then bound_length b else 0
 
 -- how long the pieces of the rows and the ends of the parts before row i are (own)
-abbrev pub row_start : ℕ → Shown → ℕ
+abbrev pub row_start : ℕ → RowsView → ℕ
 row_start i s = sum_by row_length (take i s.rows) + sum_by (passed_length i) s.bounds
 
 -- how long the pieces of the rows and the ends of the parts before the end of part i are, with its own gap (own)
-abbrev pub part_end : ℕ → Bound → Shown → ℕ
+abbrev pub part_end : ℕ → Bound → RowsView → ℕ
 part_end i b s = sum_by row_length (take b.rows s.rows) + sum_by bound_length (take i s.bounds) + length b.end
 
 -- how deep a row begins: three for each column, and 3 for a dash, 2 for a key, or 1 for a node itself (YAML 1.2.2, section 8.2.3; own)

@@ -142,10 +142,10 @@ slices_text s rest =
     s.gap ++ (replicate s.column 32 ++ (s.dashes ++ (s.key ++ (s.colon ++ (s.space ++ (s.anchor ++ (s.apart ++ (s.head ++ (s.tail ++ (s.raw ++ rest))))))))))
 
 -- The rows of a cut, each by its pieces, and the bounds of its parts (own).
-pub record Shown : Type 0 where
+pub record RowsView : Type 0 where
   pub rows : List Slices
   pub bounds : List Bound
 
 -- a cut, as the code lends it (own)
-abbrev pub shown : Cut → Shown
-shown c = record { rows = map slices (rows_of c); bounds = bounds_of c }
+abbrev pub rows_view : Cut → RowsView
+rows_view c = record { rows = map slices (rows_of c); bounds = bounds_of c }

@@ -26,8 +26,8 @@ fn columns_at(least: usize, digit: Option<u8>, raw: &str) -> Option<usize>
 /// empty lines at its end, and how far its text is indented, in columns. Of the lines only those up to
 /// the first one that isn't blank are read, and none where a digit tells it. None where the header is
 /// none.
-pub(crate) fn block_told(head: &str, raw: &str, parent: i64) -> Option<(bool, usize)>
-    ensures { option_map (λ b. (b.0, b.1)) result ≡ spec.block_told parent head.now raw.now }
+pub(crate) fn block_numbers_of(head: &str, raw: &str, parent: i64) -> Option<(bool, usize)>
+    ensures { option_map (λ b. (b.0, b.1)) result ≡ spec.block_numbers_of parent head.now raw.now }
 {
     let [b'|' | b'>', behind @ ..] = head.as_bytes() else {
         return None;

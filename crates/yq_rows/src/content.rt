@@ -4,8 +4,8 @@ ghost use Rattle.std.specs.Prelude.{◌≡◌, ◌≢◌, ◌≤◌, ◌==◌, �
 ghost use Rattle.yq_scalar.specs.Answers.{Gives, IsOfText};
 ghost use Rattle.yq_inline.specs.Measured as measured;
 ghost use Rattle.yq_inline.specs.Scalars as scalars;
-ghost use Rattle.yq_rows.specs.Lending as lending;
-ghost use Rattle.yq_rows.specs.Lending.{filled_at, filling_view};
+ghost use Rattle.yq_rows.specs.Slicing as slicing;
+ghost use Rattle.yq_rows.specs.Slicing.{filled_at, filling_view};
 ghost use Rattle.yq_scalar.specs.Text.{front, is_empty};
 ghost use Rattle.yq_scalar.specs.declared.fault.FaultKind.TheVariants.{NotUtf8};
 ghost use Rattle.yq_rows.specs.Reading as spec;
@@ -60,7 +60,7 @@ pub(crate) fn find_tail(text: &str) -> Option<(&str, &str)>
 
 /// The text cut behind the anchor in front.
 fn split_anchor(text: &str) -> (&str, &str)
-    ensures { (result.0.now, result.1.now) ≡ lending.cut_anchor text.now }
+    ensures { (result.0.now, result.1.now) ≡ slicing.cut_anchor text.now }
 {
     match strip(b'&', text) {
         Some(behind) => text.split_at(name_len(behind.as_bytes()) + 1),
@@ -70,7 +70,7 @@ fn split_anchor(text: &str) -> (&str, &str)
 
 /// The anchor in front, the white space behind it, and what follows.
 fn split_apart(text: &str) -> (&str, &str, &str)
-    ensures { (result.0.now, result.1.now, result.2.now) ≡ lending.cut_apart text.now }
+    ensures { (result.0.now, result.1.now, result.2.now) ≡ slicing.cut_apart text.now }
 {
     if !first_is(b'&', text.as_bytes()) {
         return ("", "", text);
@@ -88,7 +88,7 @@ fn is_block_mark(text: &[u8]) -> bool
 }
 
 /// Whether a block scalar begins here, perhaps behind an anchor.
-#[tactic(auto, using(crate::proofs::BlockLending::block_begins))]
+#[tactic(auto, using(crate::proofs::BlockSlicing::block_begins))]
 fn begins_block(text: &str) -> bool
     ensures { result ≡ spec.begins_block text.now }
 {
@@ -97,7 +97,7 @@ fn begins_block(text: &str) -> bool
 
 /// Whether an anchor, an alias or a flow collection begins here.
 fn begins_other(text: &[u8]) -> bool
-    ensures { result ≡ lending.begins_other text.now }
+    ensures { result ≡ slicing.begins_other text.now }
 {
     matches!(text, [b'&' | b'*' | b'[' | b'{', ..])
 }
@@ -109,7 +109,7 @@ fn read_block_content<'t>(
     space: &'t str,
     text: &'t str,
 ) -> Result<Filling<'t>, ReadError>
-    ensures read { Gives filling_view result (lending.block_lent parent space.now text.now) }
+    ensures read { Gives filling_view result (slicing.block_sliced parent space.now text.now) }
     ensures fault { IfErr result IsOfText }
 {
     let (anchor, apart, rest) = split_apart(text);
@@ -138,7 +138,7 @@ fn read_block_content<'t>(
 
 /// Whether the node is a plain scalar, perhaps behind an anchor.
 fn is_plain(node: Measured<'_>) -> bool
-    ensures { result ≡ lending.is_plain_kind node.entry.kind }
+    ensures { result ≡ slicing.is_plain_kind node.entry.kind }
 {
     matches!(node.kind, NodeKind::Plain)
 }
@@ -152,7 +152,7 @@ fn is_nothing(node: Measured<'_>) -> bool
 
 /// The white space between an anchor and its node, and what follows it; before nothing stands none.
 fn split_lead(nothing: bool, text: &str) -> (&str, &str)
-    ensures { (result.0.now, result.1.now) ≡ lending.cut_lead nothing text.now }
+    ensures { (result.0.now, result.1.now) ≡ slicing.cut_lead nothing text.now }
 {
     if nothing {
         ("", text)
@@ -176,7 +176,7 @@ fn read_inline_content<'t>(
     space: &'t str,
     text: &'t str,
 ) -> Result<Filling<'t>, ReadError>
-    ensures read { Gives filling_view result (lending.inline_lent parent space.now text.now) }
+    ensures read { Gives filling_view result (slicing.inline_sliced parent space.now text.now) }
     ensures fault { IfErr result IsOfText }
 {
     let spaces = further_spaces(Place::Block, parent);
@@ -236,9 +236,9 @@ fn read_scalar_content<'t>(
     space: &'t str,
     text: &'t str,
 ) -> Result<Filling<'t>, ReadError>
-    requires { (lending.begins_other text.now ≡ false) ×
+    requires { (slicing.begins_other text.now ≡ false) ×
         (scalars.begins_scalar false text.now ≡ true) }
-    ensures read { Gives filling_view result (lending.inline_lent parent space.now text.now) }
+    ensures read { Gives filling_view result (slicing.inline_sliced parent space.now text.now) }
     ensures fault { IfErr result IsOfText }
 {
     let spaces = further_spaces(Place::Block, parent);

@@ -6,7 +6,7 @@ ghost use Rattle.std.specs.Str.{chars};
 ghost use Rattle.yq_scalar.specs.Text.{is_empty};
 ghost use Rattle.yq_rows.specs.Grammar as grammar;
 ghost use Rattle.yq_rows.specs.Grammar.{key_limit};
-ghost use Rattle.yq_rows.specs.Lending.{begin_view, begun, mark_view};
+ghost use Rattle.yq_rows.specs.Slicing.{begin_view, begun, mark_view};
 ghost use Rattle.yq_rows.specs.Reading as spec;
 ghost use Rattle.yq_rows.specs.Rows as rows;
 ghost use Rattle.yq_rows.specs.View as view;

@@ -2,10 +2,10 @@
 ghost use Rattle.std.specs.Prelude.{◌≡◌, ◌<◌, ◌^◌, ℕ, [], Some, length, slice_get};
 ghost use Rattle.yq_text.specs.Halves.{whole};
 ghost use Rattle.yq_rows.specs.Grammar.{IsCut};
-ghost use Rattle.yq_rows.specs.Items.{shown_items};
+ghost use Rattle.yq_rows.specs.Items.{view_of_items};
 ghost use Rattle.yq_rows.specs.Kept.{IsPlaced, kept_rows, placed_rows};
 ghost use Rattle.yq_rows.specs.Rows.{Cut};
-ghost use Rattle.yq_rows.specs.View.{shown};
+ghost use Rattle.yq_rows.specs.View.{rows_view};
 
 use crate::ends::EndPlace;
 use crate::offsets::Offsets;
@@ -32,7 +32,7 @@ pub struct Places {
 impl Places {
     /// No rows, and no ends of parts.
     pub fn new(alloc: Global) -> Places
-        ensures { IsPlaced result (shown_items []) }
+        ensures { IsPlaced result (view_of_items []) }
     {
         Places {
             front: Vec::new(alloc),
@@ -74,11 +74,11 @@ impl Places {
         self.behind[self.behind.len() - 1 - (i - self.front.len())].turned(len)
     }
 
-    /// The rows of the text in which they stand, lent in two halves at the split.
+    /// The rows of the text in which they stand, borrowed in two halves at the split.
     pub fn rows<'t>(self, text: Halves<'t>) -> Rows<'t>
         requires split { length text.front.now ≡ self.split }
-        requires placed { (c : Cut) × IsCut (whole text) c × IsPlaced self (shown c) }
-        ensures { (c : Cut) → IsCut (whole text.entry) c → result ≡ shown c }
+        requires placed { (c : Cut) × IsCut (whole text) c × IsPlaced self (rows_view c) }
+        ensures { (c : Cut) → IsCut (whole text.entry) c → result ≡ rows_view c }
     {
         Rows { text, places: self }
     }

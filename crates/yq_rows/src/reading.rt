@@ -6,8 +6,8 @@ ghost use Rattle.yq_scalar.specs.declared.fault.FaultKind.TheVariants.{NotUtf8};
 ghost use Rattle.yq_rows.specs.Grammar as grammar;
 ghost use Rattle.yq_rows.specs.Grammar.{unlimited, ends_part};
 ghost use Rattle.yq_rows.specs.Kept.{rows_placed};
-ghost use Rattle.yq_rows.specs.Lending.{begin_view, filling_view, marked_lent, row_lent, row_of, rows_lent};
-ghost use Rattle.yq_rows.specs.Offsets.{Ends, Stand, Stands, offsets_of, rows_in, slices_in};
+ghost use Rattle.yq_rows.specs.Slicing.{begin_view, filling_view, marked_sliced, row_sliced, row_of, rows_sliced};
+ghost use Rattle.yq_rows.specs.Offsets.{Ends, Stand, IsCutIn, offsets_of, rows_in, slices_in};
 ghost use Rattle.yq_rows.specs.Reading as spec;
 ghost use Rattle.yq_rows.specs.View.{limit_view};
 
@@ -32,7 +32,7 @@ fn read_marked<'t>(
     requires columns { column + begin.now.columns < 2 ^ 32 }
     ensures read { (gap : List ℕ) →
         Gives (λ f. row_of gap column (begin_view begin.now) (filling_view f)) result
-        (marked_lent gap column (begin_view begin.now)) }
+        (marked_sliced gap column (begin_view begin.now)) }
     ensures fault { IfErr result IsOfText }
 {
     let parent = parent_of(begin.mark, column + begin.columns);
@@ -68,8 +68,8 @@ fn read_row<'t>(
     requires short { length text.now ≤ length whole.now }
     requires small { length whole.now < 2 ^ 32 }
     ensures read { Gives (λ x. (slices_in whole.now x.0, limit_view x.1, x.2.now)) result
-        (row_lent (limit_view limit) gap.now text.now) }
-    ensures stands { IfOk result (λ x. Stands whole.now x.0) }
+        (row_sliced (limit_view limit) gap.now text.now) }
+    ensures stands { IfOk result (λ x. IsCutIn whole.now x.0) }
     ensures place { IfOk result (λ x. x.0 ≡
         offsets_of (length whole.now - length at.now) (slices_in whole.now x.0)) }
     ensures fault { IfErr result IsOfText }
@@ -108,7 +108,7 @@ fn read_rows<'t>(
     requires stand { Stand whole.now rows.items }
     requires small { length whole.now < 2 ^ 32 }
     ensures found { Gives (λ x. (rows_in whole.now x.0.items, x.1.now, x.2.now)) result
-        (rows_lent (rows_in whole.now rows.items) (spec.all_rows unlimited text.now)) }
+        (rows_sliced (rows_in whole.now rows.items) (spec.all_rows unlimited text.now)) }
     ensures placed { Gives (λ x. x.0.items) result
         (rows_placed rows.items (length whole.now - length text.now)
         (spec.all_rows unlimited text.now)) }
@@ -165,7 +165,7 @@ pub(crate) fn read_part<'t>(
     requires stand { Stand whole.now rows.items }
     requires small { length whole.now < 2 ^ 32 }
     ensures found { Gives (λ x. (rows_in whole.now x.0.items, x.1.now, x.2.now)) result
-        (rows_lent (rows_in whole.now rows.items) (spec.part_at is_open text.now)) }
+        (rows_sliced (rows_in whole.now rows.items) (spec.part_at is_open text.now)) }
     ensures placed { Gives (λ x. x.0.items) result
         (rows_placed rows.items (length whole.now - length text.now)
         (spec.part_at is_open text.now)) }

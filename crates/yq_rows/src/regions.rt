@@ -1,9 +1,9 @@
 //! Regions of a text: rows and ends of parts between others, read alone.
 ghost use Rattle.std.specs.Prelude.{◌≡◌, ◌<◌, ◌^◌, List, [], Some, length, true};
 ghost use Rattle.yq_scalar.specs.Answers.{Gives};
-ghost use Rattle.yq_rows.specs.Items.{Item, items_text, shown_items};
+ghost use Rattle.yq_rows.specs.Items.{Item, items_text, view_of_items};
 ghost use Rattle.yq_rows.specs.Regions.{IsReadAlone, alone};
-ghost use Rattle.yq_rows.specs.Lending.{shown_read};
+ghost use Rattle.yq_rows.specs.Slicing.{read_view};
 ghost use Rattle.yq_rows.specs.Meter.{counted, line_count};
 ghost use Rattle.yq_rows.specs.Reading.{all_parts};
 
@@ -21,10 +21,10 @@ pub fn read_region<'t>(
 ) -> Result<Rows<'t>, ReadError>
     requires small { length text.now < 2 ^ 32 }
     // They are what reading from left to right gives.
-    ensures exact { Gives (λ s. s) result (shown_read (all_parts true text.now)) }
+    ensures exact { Gives (λ s. s) result (read_view (all_parts true text.now)) }
     // The text of items that are read alone gives these.
     ensures alone { (xs back : List Item) → IsReadAlone xs back → text.now ≡ items_text xs [] →
-        Gives (λ s. s) result (Some (shown_items (alone xs back))) }
+        Gives (λ s. s) result (Some (view_of_items (alone xs back))) }
     ensures counted { meter.new ≡ counted (line_count text.now) meter.old }
 {
     count_lines(text, meter);

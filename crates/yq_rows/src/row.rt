@@ -1,7 +1,7 @@
 //! A row of a text.
 ghost use Rattle.std.specs.Prelude.{◌≡◌};
 ghost use Rattle.yq_rows.specs.Grammar as grammar;
-ghost use Rattle.yq_rows.specs.Lending as lending;
+ghost use Rattle.yq_rows.specs.Slicing as slicing;
 ghost use Rattle.yq_rows.specs.View.{limit_view, view};
 
 use yq_scalar::{Place, further_spaces};
@@ -128,7 +128,7 @@ impl Limit {
 
     /// What a row asks of the next one, below a parent of this indentation.
     pub(crate) fn behind(parent: i64, is_plain: bool) -> Limit
-        ensures { limit_view result ≡ lending.limit_by parent is_plain }
+        ensures { limit_view result ≡ slicing.limit_by parent is_plain }
     {
         Limit {
             column: if is_plain {

@@ -4,7 +4,7 @@ use Rattle.std.proofs.lemmas.Bool.{false≢true, cond_both, or_cases, false_from
 use Rattle.yq_scalar.proofs.RawLaws.{next_not_empty}
 use Rattle.yq_scalar.proofs.SpaceLaws.{white_drop, spaces_blank, prefix_none, spaces_front, drop_front}
 use Rattle.yq_scalar.specs.Block.{Lines, is_empty_line, is_less_indented, ends_block}
-use Rattle.yq_scalar.specs.BlockRepair.{AreGap, is_short, is_outside, repaired_blank, repaired_comment, repair, remarks, is_behind}
+use Rattle.yq_scalar.specs.BlockRepair.{AreGap, is_short, is_outside, repaired_blank, repaired_comment, repair, comment_lines, is_behind}
 use Rattle.yq_scalar.specs.Lines.{spaces, behind_spaces, is_tab, is_hash, is_blank}
 use Rattle.yq_scalar.specs.Text.{ends_line, past_white, upto}
 use Rattle.yq_scalar.specs.declared.block_lines.TextIndent.{TextIndent}
@@ -104,32 +104,32 @@ hash_end : (t : List ℕ) → is_hash t ≡ true → ends_line t ≡ false
 hash_end [] h = absurd (false≢true h)
 hash_end (b ∷ t) h = let is : b ≡ 35 = eqb-true b 35 h in rw is refl
 
-abbrev SameRemark : List ℕ → List ℕ → Type 0
-SameRemark l x = (is_blank x ≡ false) × (past_white x ≡ past_white l)
+abbrev SameComment : List ℕ → List ℕ → Type 0
+SameComment l x = (is_blank x ≡ false) × (past_white x ≡ past_white l)
 
-moved_same : (column : ℕ) (l : List ℕ) → is_hash (past_white l) ≡ true → SameRemark l (replicate column 32 ++ past_white l)
+moved_same : (column : ℕ) (l : List ℕ) → is_hash (past_white l) ≡ true → SameComment l (replicate column 32 ++ past_white l)
 moved_same column l h =
     let same : past_white (replicate column 32 ++ past_white l) ≡ past_white l = white_front column (past_white l) ∙ past_hash (past_white l) h in
     (ap ends_line same ∙ hash_end (past_white l) h, same)
 
-comment_same : (f : TextIndent) (column : ℕ) (l : List ℕ) → is_blank l ≡ false → (is_blank l || is_hash (past_white l)) ≡ true → SameRemark l (repaired_comment f.columns column l)
+comment_same : (f : TextIndent) (column : ℕ) (l : List ℕ) → is_blank l ≡ false → (is_blank l || is_hash (past_white l)) ≡ true → SameComment l (repaired_comment f.columns column l)
 comment_same f column l n h =
     let hash : is_hash (past_white l) ≡ true = ⊎_elim {0, 0, 0} (λ b. absurd (false≢true (sym n ∙ b))) (λ b. b) (or_cases (is_blank l) (is_hash (past_white l)) h) in
-    cond_both (is_outside f.columns l) l (replicate column 32 ++ past_white l) (SameRemark l) (λ _. (n, refl)) (λ _. moved_same column l hash)
+    cond_both (is_outside f.columns l) l (replicate column 32 ++ past_white l) (SameComment l) (λ _. (n, refl)) (λ _. moved_same column l hash)
 
-same_first : (l x : List ℕ) (ls : Lines) → SameRemark l x → remarks (x ∷ ls) ≡ past_white l ∷ remarks ls
-unfolding remarks
-same_first l x ls h = rw h.0 (ap (λ y. y ∷ remarks ls) h.1)
+same_first : (l x : List ℕ) (ls : Lines) → SameComment l x → comment_lines (x ∷ ls) ≡ past_white l ∷ comment_lines ls
+unfolding comment_lines
+same_first l x ls h = rw h.0 (ap (λ y. y ∷ comment_lines ls) h.1)
 
-pub repair_remarks : (keep : Bool) (f : TextIndent) (column : ℕ) (gap : Lines) → AreGap gap → remarks (repair keep f.columns column gap) ≡ remarks gap
-unfolding repair remarks
-repair_remarks keep f column [] h = refl
-repair_remarks true f column (l ∷ ls) h = ⊎_elim {0, 0, 0}
-    (λ b. rw b (repair_remarks true f column ls h.1))
+pub repair_comments : (keep : Bool) (f : TextIndent) (column : ℕ) (gap : Lines) → AreGap gap → comment_lines (repair keep f.columns column gap) ≡ comment_lines gap
+unfolding repair comment_lines
+repair_comments keep f column [] h = refl
+repair_comments true f column (l ∷ ls) h = ⊎_elim {0, 0, 0}
+    (λ b. rw b (repair_comments true f column ls h.1))
     (λ b. rw b (same_first l (repaired_comment f.columns column l) ls (comment_same f column l b h.0)))
     (cases_Bool (is_blank l))
-repair_remarks false f column (l ∷ ls) h = ⊎_elim {0, 0, 0}
+repair_comments false f column (l ∷ ls) h = ⊎_elim {0, 0, 0}
     (λ b. let stays_ : is_blank (repaired_blank f.columns l) ≡ true = cond_both (is_short f.columns l) l (past_white l) (λ x. is_blank x ≡ true) (λ _. b) (λ _. end_blank (past_white l) b) in
-    rw b (rw stays_ (repair_remarks false f column ls h.1)))
+    rw b (rw stays_ (repair_comments false f column ls h.1)))
     (λ b. rw b (same_first l (repaired_comment f.columns column l) ls (comment_same f column l b h.0)))
     (cases_Bool (is_blank l))

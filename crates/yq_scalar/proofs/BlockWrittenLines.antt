@@ -45,13 +45,13 @@ body_text [] br h b = ⊎_elim {0, 0, 0} (λ e. rw e refl) (λ e. rw e refl) b
 body_text (x ∷ p) br h b = rw (h.0, h.1) (ap suc (body_text p br h.2 b))
 
 -- a line that is written
-abbrev pub given_indent : ℕ → TextIndent
-given_indent m = record { columns = m; known = true }
+abbrev pub explicit_indent : ℕ → TextIndent
+explicit_indent m = record { columns = m; known = true }
 
 pub not_end : (b : ℕ) (t : List ℕ) → eqb b 10 ≡ false → eqb b 13 ≡ false → ends_line (b ∷ t) ≡ false
 not_end b t h k = rw (h, k) refl
 
-some_not_empty : (m b : ℕ) (p br : List ℕ) → IsText (b ∷ p) → is_empty_line (given_indent m) (replicate m 32 ++ ((b ∷ p) ++ br)) ≡ false
+some_not_empty : (m b : ℕ) (p br : List ℕ) → IsText (b ∷ p) → is_empty_line (explicit_indent m) (replicate m 32 ++ ((b ∷ p) ++ br)) ≡ false
 some_not_empty m b p br h = false_from_ne_true _ (λ e.
     let t : List ℕ = (b ∷ p) ++ br in
     let parts = and_parts (ends_line (behind_spaces (replicate m 32 ++ t))) (leb (spaces (replicate m 32 ++ t)) m) e in
@@ -61,14 +61,14 @@ some_not_empty m b p br h = false_from_ne_true _ (λ e.
     let behind : behind_spaces (replicate m 32 ++ t) ≡ t = ap (λ k. drop k (replicate m 32 ++ t)) (n ∙ ap (λ k. m + k) none) ∙ drop_front m 0 t in
     false≢true (sym (not_end b (p ++ br) h.0 h.1) ∙ (ap ends_line (sym behind) ∙ parts.0)))
 
-pub some_text : (m b : ℕ) (p br : List ℕ) → IsText (b ∷ p) → is_text_line (given_indent m) (replicate m 32 ++ ((b ∷ p) ++ br)) ≡ true
+pub some_text : (m b : ℕ) (p br : List ℕ) → IsText (b ∷ p) → is_text_line (explicit_indent m) (replicate m 32 ++ ((b ∷ p) ++ br)) ≡ true
 some_text m b p br h =
     let t : List ℕ = (b ∷ p) ++ br in
     let n : spaces (replicate m 32 ++ t) ≡ m + spaces t = spaces_front m t in
     let deep : leb m (spaces (replicate m 32 ++ t)) ≡ true = le-leb m (spaces (replicate m 32 ++ t)) (omega arith) in
-    and_from (not (is_empty_line (given_indent m) (replicate m 32 ++ t)) && true) (leb m (spaces (replicate m 32 ++ t))) (rw (some_not_empty m b p br h) refl) deep
+    and_from (not (is_empty_line (explicit_indent m) (replicate m 32 ++ t)) && true) (leb m (spaces (replicate m 32 ++ t))) (rw (some_not_empty m b p br h) refl) deep
 
-break_empty : (m : ℕ) (br : List ℕ) → IsBreak br → is_empty_line (given_indent m) br ≡ true
+break_empty : (m : ℕ) (br : List ℕ) → IsBreak br → is_empty_line (explicit_indent m) br ≡ true
 break_empty m br h =
     let low : leb 0 m ≡ true = le-leb 0 m (omega arith) in
     ⊎_elim {0, 0, 0} (λ e. rw e low) (λ e. rw e low) h
@@ -81,33 +81,33 @@ indented_some m x p =
     let some : eqb (suc (length p)) 0 ≡ false = false_from_ne_true _ (λ e. let z : suc (length p) ≡ 0 = eqb-true (suc (length p)) 0 e in absurd (omega arith)) in
     rw some refl
 
-pub indented_raw : (m : ℕ) (p br : List ℕ) → IsText p → IsBreak br → IsRawLine (given_indent m) (indented m p ++ br)
+pub indented_raw : (m : ℕ) (p br : List ℕ) → IsText p → IsBreak br → IsRawLine (explicit_indent m) (indented m p ++ br)
 indented_raw m [] br h b = (break_line br b, inl (break_empty m br b))
 indented_raw m (x ∷ p) br h b =
-    subst (IsRawLine (given_indent m)) (sym (ap (λ l. l ++ br) (indented_some m x p) ∙ line_regroup m (x ∷ p) br))
+    subst (IsRawLine (explicit_indent m)) (sym (ap (λ l. l ++ br) (indented_some m x p) ∙ line_regroup m (x ∷ p) br))
     (spaces_line m ((x ∷ p) ++ br) (text_line (x ∷ p) br h b), inr (some_text m x p br h))
 
 -- it says its text
 min_zero : (m : ℕ) → min m 0 ≡ 0
 min_zero m = omega arith
 
-part_lf : (m : ℕ) → part_of (given_indent m) (10 ∷ []) ≡ []
+part_lf : (m : ℕ) → part_of (explicit_indent m) (10 ∷ []) ≡ []
 unfolding upto
 part_lf m = ap (λ k. take (upto ends_line (drop k (10 ∷ []))) (drop k (10 ∷ []))) (min_zero m)
 
-part_crlf : (m : ℕ) → part_of (given_indent m) (13 ∷ 10 ∷ []) ≡ []
+part_crlf : (m : ℕ) → part_of (explicit_indent m) (13 ∷ 10 ∷ []) ≡ []
 unfolding upto
 part_crlf m = ap (λ k. take (upto ends_line (drop k (13 ∷ 10 ∷ []))) (drop k (13 ∷ 10 ∷ []))) (min_zero m)
 
-pub indented_part : (m : ℕ) (p br : List ℕ) → IsText p → IsBreak br → part_of (given_indent m) (indented m p ++ br) ≡ p
+pub indented_part : (m : ℕ) (p br : List ℕ) → IsText p → IsBreak br → part_of (explicit_indent m) (indented m p ++ br) ≡ p
 indented_part m [] br h b = ⊎_elim {0, 0, 0} (λ e. rw e (part_lf m)) (λ e. rw e (part_crlf m)) b
 indented_part m (x ∷ p) br h b =
     let t : List ℕ = (x ∷ p) ++ br in
     let n : spaces (replicate m 32 ++ t) ≡ m + spaces t = spaces_front m t in
     let least : min m (spaces (replicate m 32 ++ t)) ≡ m + 0 = omega arith in
-    let bare : unindented (given_indent m) (replicate m 32 ++ t) ≡ t = ap (λ k. drop k (replicate m 32 ++ t)) least ∙ drop_front m 0 t in
+    let bare : unindented (explicit_indent m) (replicate m 32 ++ t) ≡ t = ap (λ k. drop k (replicate m 32 ++ t)) least ∙ drop_front m 0 t in
     let body : take (upto ends_line t) t ≡ x ∷ p = ap (λ k. take k t) (body_text (x ∷ p) br h b) ∙ take-append_seam (x ∷ p) br in
-    ap (part_of (given_indent m)) (ap (λ l. l ++ br) (indented_some m x p) ∙ line_regroup m (x ∷ p) br) ∙ (ap (λ u. take (upto ends_line u) u) bare ∙ body)
+    ap (part_of (explicit_indent m)) (ap (λ l. l ++ br) (indented_some m x p) ∙ line_regroup m (x ∷ p) br) ∙ (ap (λ u. take (upto ends_line u) u) bare ∙ body)
 
 -- no CR is in it
 abbrev pub NoCr : List ℕ → Type 0

@@ -94,8 +94,8 @@ ends_takes digits (b ∷ bs) some full empty h = elim (cases_Bool (eqb b 46)) [
 
 pub number_takes : (t : List ℕ) → is_number t ≡ true → IsUnsigned t
 number_takes t h =
-    let made = ends_takes (digits_in 10 t) (past_digits 10 t) (front_digit t) (front_numeral t) (front_empty t) h in
-    subst (λ (u : List ℕ). IsUnsigned u) (sym (digits_cut 10 t)) made
+    let took = ends_takes (digits_in 10 t) (past_digits 10 t) (front_digit t) (front_numeral t) (front_empty t) h in
+    subst (λ (u : List ℕ). IsUnsigned u) (sym (digits_cut 10 t)) took
 
 ends_exponent : (e : Exponent) → IsExponent e → ends_number true (spell_exponent e) ≡ true
 ends_exponent absent h = refl

@@ -43,7 +43,7 @@ pub mod BlockFound
 pub mod BlockSteps
 pub mod QuotedPieceLaws
 pub mod PieceContentLaws
-pub mod GivenLaws
+pub mod ScalarPieceLaws
 pub mod ReadBackLaws
 pub mod BlockContentSteps
 pub mod BlockPieceLaws

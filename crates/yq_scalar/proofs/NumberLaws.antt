@@ -73,9 +73,9 @@ based_takes base digits n h = elim (cases_Bool (are_digits base digits)) [
 based_again : (base : ℕ) (digits : List ℕ) → IsNumeral base digits → based_number base digits ≡ Some (pos (digits_value base digits))
 based_again base digits h = rw (digits_again base digits h) refl
 
-some_tells : {A : Type 0} (b : Bool) (x : A) → b ≡ is_some (cond b (Some x) None)
-some_tells true x = refl
-some_tells false x = refl
+some_agrees : {A : Type 0} (b : Bool) (x : A) → b ≡ is_some (cond b (Some x) None)
+some_agrees true x = refl
+some_agrees false x = refl
 
 pub int_takes : (t : List ℕ) (n : ℤ) → int_number t ≡ Some n → IsIntOf t n
 unfolding int_number
@@ -98,12 +98,12 @@ pub int_again : (t : List ℕ) (n : ℤ) → IsIntOf t n → int_number t ≡ So
 int_again t n (i, spelled, is, value) = rw (spelled, value) (spelled_again i is)
 
 -- the test says whether there is a number
-pub int_tells : (t : List ℕ) → is_int t ≡ is_some (int_number t)
+pub int_has_number : (t : List ℕ) → is_int t ≡ is_some (int_number t)
 unfolding int_number is_int
-int_tells t = elim (cases_Bool (has_base 111 t)) [
-  | inl e ↦ rw e (some_tells (are_digits 8 (drop 2 t)) _)
+int_has_number t = elim (cases_Bool (has_base 111 t)) [
+  | inl e ↦ rw e (some_agrees (are_digits 8 (drop 2 t)) _)
   | inr e ↦ elim (cases_Bool (has_base 120 t)) [
-    | inl f ↦ rw (e, f) (some_tells (are_digits 16 (drop 2 t)) _)
-    | inr f ↦ rw (e, f) (some_tells (are_digits 10 (past_sign t)) _)
+    | inl f ↦ rw (e, f) (some_agrees (are_digits 16 (drop 2 t)) _)
+    | inr f ↦ rw (e, f) (some_agrees (are_digits 10 (past_sign t)) _)
   ]
 ]

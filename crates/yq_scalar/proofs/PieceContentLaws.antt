@@ -18,7 +18,7 @@ use Rattle.yq_scalar.specs.Quoted.{Lines, spell_lines, IsQuoted, content}
 use Rattle.yq_scalar.specs.PlainContent.{IsPlainLines}
 use Rattle.yq_scalar.specs.ContentReading.{plain_content, quoted_content}
 use Rattle.yq_scalar.specs.QuotedPiece.{style_of, IsQuotedPiece}
-use Rattle.yq_scalar.specs.Given.{IsInlineScalar, piece_text, content_in, piece_content}
+use Rattle.yq_scalar.specs.ScalarPiece.{IsInlineScalar, piece_text, content_in, piece_content}
 use Rattle.yq_scalar.specs.Writable.{in_flow}
 use Rattle.yq_scalar.proofs.ContentLaws.{quoted_content_is}
 use Rattle.yq_scalar.proofs.PlainContentLaws.{plain_content_is}

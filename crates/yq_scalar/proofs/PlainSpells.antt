@@ -17,7 +17,7 @@ use Rattle.yq_scalar.specs.Writable.{can_write_plain, is_string}
 use Rattle.yq_scalar.proofs.Bools.{at_byte}
 use Rattle.yq_scalar.proofs.Bytes.{Each}
 use Rattle.yq_scalar.proofs.PlainLaws.{plain_again}
-use Rattle.yq_scalar.proofs.PlainWritten.{is_quiet, quiet, quiet_parts, plain_text_parts, plain_written}
+use Rattle.yq_scalar.proofs.PlainWritten.{is_no_control, no_controls, no_controls_parts, plain_text_parts, plain_written}
 use Rattle.yq_scalar.proofs.SchemaLaws.{resolve_takes, resolve_again}
 use Rattle.yq_scalar.proofs.SchemaPlain.{null_plain, bool_plain, int_plain, float_plain}
 
@@ -27,26 +27,26 @@ plain_one flow spaces p rest q other e a b =
     let same : (p, rest) ≡ (q, other) = same_Some _ _ (sym (plain_again flow spaces p rest a) ∙ (ap (plain_at flow spaces) e ∙ plain_again flow spaces q other b)) in
     (ap (λ (x : List ℕ × List ℕ). x.0) same, ap (λ (x : List ℕ × List ℕ). x.1) same)
 
-quiet_line : (t : List ℕ) → Each is_quiet t → holds_break t ≡ false
-quiet_line [] q = refl
-quiet_line (b ∷ t) q = rw ((quiet_parts (eqb b 9) (eqb b 10) (eqb b 13) q.0).1, quiet_line t q.1) refl
+no_controls_line : (t : List ℕ) → Each is_no_control t → holds_break t ≡ false
+no_controls_line [] q = refl
+no_controls_line (b ∷ t) q = rw ((no_controls_parts (eqb b 9) (eqb b 10) (eqb b 13) q.0).1, no_controls_line t q.1) refl
 
 -- no break is in it
 pub plain_line : (flow : Bool) (t : List ℕ) → IsUtf8 t → is_plain_text flow t ≡ true → holds_break t ≡ false
-plain_line flow t u h = quiet_line t (quiet t u (plain_text_parts flow t h).0)
+plain_line flow t u h = no_controls_line t (no_controls t u (plain_text_parts flow t h).0)
 
 text_chars : (cs : List ℕ) → list_all is_plain_char cs ≡ true → list_all is_text_char cs ≡ true
 text_chars [] h = refl
 text_chars (c ∷ cs) h = let p = and_parts (is_plain_char c) (list_all is_plain_char cs) h in rw ((and_parts (is_text_char c) _ p.0).0, text_chars cs p.1) refl
 
-quiet_pairs : (t : List ℕ) → Each is_quiet t → pairs_returns t ≡ true
+no_controls_pairs : (t : List ℕ) → Each is_no_control t → pairs_returns t ≡ true
 unfolding pairs_returns
-quiet_pairs [] q = refl
-quiet_pairs (b ∷ t) q = rw ((quiet_parts (eqb b 9) (eqb b 10) (eqb b 13) q.0).2, quiet_pairs t q.1) refl
+no_controls_pairs [] q = refl
+no_controls_pairs (b ∷ t) q = rw ((no_controls_parts (eqb b 9) (eqb b 10) (eqb b 13) q.0).2, no_controls_pairs t q.1) refl
 
 -- it is a text
 pub plain_is_text : (flow : Bool) (t : List ℕ) → IsUtf8 t → is_plain_text flow t ≡ true → is_text t ≡ true
-plain_is_text flow t u h = let p = plain_text_parts flow t h in rw (text_chars (chars t) p.0, quiet_pairs t (quiet t u p.0)) refl
+plain_is_text flow t u h = let p = plain_text_parts flow t h in rw (text_chars (chars t) p.0, no_controls_pairs t (no_controls t u p.0)) refl
 
 pub plain_some : (flow : Bool) (t : List ℕ) → is_plain_text flow t ≡ true → is_empty t ≡ false
 plain_some flow [] h = absurd (false≢true ((plain_text_parts flow [] h).1))

@@ -14,17 +14,17 @@ use Rattle.yq_scalar.proofs.Across.{across_white, across_here, ends_space}
 use Rattle.yq_scalar.proofs.Bytes.{Each, each_byte}
 
 -- no control that white space and breaks are made of
-abbrev pub is_quiet : ℕ → Bool
-is_quiet b = not (eqb b 9 || eqb b 10 || eqb b 13)
+abbrev pub is_no_control : ℕ → Bool
+is_no_control b = not (eqb b 9 || eqb b 10 || eqb b 13)
 
-pub quiet_parts : (x y z : Bool) → not (x || y || z) ≡ true → (x ≡ false) × (y ≡ false) × (z ≡ false)
-quiet_parts false false false h = (refl, refl, refl)
-quiet_parts true y z h = absurd (false≢true h)
-quiet_parts false true z h = absurd (false≢true h)
-quiet_parts false false true h = absurd (false≢true h)
+pub no_controls_parts : (x y z : Bool) → not (x || y || z) ≡ true → (x ≡ false) × (y ≡ false) × (z ≡ false)
+no_controls_parts false false false h = (refl, refl, refl)
+no_controls_parts true y z h = absurd (false≢true h)
+no_controls_parts false true z h = absurd (false≢true h)
+no_controls_parts false false true h = absurd (false≢true h)
 
-pub quiet : (t : List ℕ) → IsUtf8 t → list_all is_plain_char (chars t) ≡ true → Each is_quiet t
-quiet t u h = each_byte is_quiet is_plain_char t u h
+pub no_controls : (t : List ℕ) → IsUtf8 t → list_all is_plain_char (chars t) ≡ true → Each is_no_control t
+no_controls t u h = each_byte is_no_control is_plain_char t u h
     (λ c low q. rw (at_byte is_plain_char c 9 q refl, at_byte is_plain_char c 10 q refl, at_byte is_plain_char c 13 q refl) refl)
     (λ b high. rw (not_byte b 9 (omega arith), not_byte b 10 (omega arith), not_byte b 13 (omega arith)) refl)
 
@@ -45,17 +45,17 @@ front_of flow b bs h =
     let two = or_parts in_flow at_colon none.0 in
     record { flow_free = two.0; colon = two.1; space = none.1; rest = parts.1 }
 
-pub quiet_space : (b : ℕ) (bs : List ℕ) → is_quiet b ≡ true → eqb b 32 ≡ false → is_space (b ∷ bs) ≡ false
-quiet_space b bs q n = let p = quiet_parts (eqb b 9) (eqb b 10) (eqb b 13) q in rw (n, p.0, p.1, p.2) refl
+pub no_control_space : (b : ℕ) (bs : List ℕ) → is_no_control b ≡ true → eqb b 32 ≡ false → is_space (b ∷ bs) ≡ false
+no_control_space b bs q n = let p = no_controls_parts (eqb b 9) (eqb b 10) (eqb b 13) q in rw (n, p.0, p.1, p.2) refl
 
-safe_next : (flow : Bool) (d : ℕ) (q rest : List ℕ) → is_quiet d ≡ true → no_rest (needs_quotes flow) (d ∷ q) ≡ true → eqb d 32 ≡ false → is_safe flow (d ∷ (q ++ rest)) ≡ true
-safe_next flow d q rest quiet h n = rw (quiet_space d (q ++ rest) quiet n, (front_of flow d q h).flow_free) refl
+safe_next : (flow : Bool) (d : ℕ) (q rest : List ℕ) → is_no_control d ≡ true → no_rest (needs_quotes flow) (d ∷ q) ≡ true → eqb d 32 ≡ false → is_safe flow (d ∷ (q ++ rest)) ≡ true
+safe_next flow d q rest no_controls h n = rw (no_control_space d (q ++ rest) no_controls n, (front_of flow d q h).flow_free) refl
 
-behind_colon : (flow : Bool) (bs rest : List ℕ) → Each is_quiet bs → no_rest (needs_quotes flow) bs ≡ true → (is_empty bs || front (λ c. eqb c 32) bs) ≡ false → is_safe flow (bs ++ rest) ≡ true
+behind_colon : (flow : Bool) (bs rest : List ℕ) → Each is_no_control bs → no_rest (needs_quotes flow) bs ≡ true → (is_empty bs || front (λ c. eqb c 32) bs) ≡ false → is_safe flow (bs ++ rest) ≡ true
 behind_colon flow [] rest q h e = absurd (false≢true (sym e))
 behind_colon flow (d ∷ bs) rest q h e = safe_next flow d bs rest q.0 h e
 
-pub text_inside : (flow : Bool) (b : ℕ) (bs rest : List ℕ) → Each is_quiet (b ∷ bs) → no_rest (needs_quotes flow) (b ∷ bs) ≡ true → ends_text flow (b ∷ (bs ++ rest)) ≡ false
+pub text_inside : (flow : Bool) (b : ℕ) (bs rest : List ℕ) → Each is_no_control (b ∷ bs) → no_rest (needs_quotes flow) (b ∷ bs) ≡ true → ends_text flow (b ∷ (bs ++ rest)) ≡ false
 text_inside flow b bs rest q h =
     let f = front_of flow b bs h in
     elim (cases_Bool (eqb b 58)) [
@@ -68,7 +68,7 @@ is_none_more : (o : Option ℕ) → is_none (more 1 o) ≡ is_none o
 is_none_more None = refl
 is_none_more (Some k) = refl
 
-pub across_inside : (flow : Bool) (spaces : Option ℕ) (bs rest : List ℕ) → Each is_quiet bs → no_rest (needs_quotes flow) bs ≡ true → is_empty bs ≡ false → front (λ c. eqb c 35) bs ≡ false → is_none (across flow spaces true (bs ++ rest)) ≡ false
+pub across_inside : (flow : Bool) (spaces : Option ℕ) (bs rest : List ℕ) → Each is_no_control bs → no_rest (needs_quotes flow) bs ≡ true → is_empty bs ≡ false → front (λ c. eqb c 35) bs ≡ false → is_none (across flow spaces true (bs ++ rest)) ≡ false
 across_inside flow spaces [] rest q h some hash = absurd (false≢true (sym some))
 across_inside flow spaces (c ∷ bs) rest q h some hash =
     let f = front_of flow c bs h in
@@ -76,10 +76,10 @@ across_inside flow spaces (c ∷ bs) rest q h some hash =
       | inl e ↦ (let g : (is_empty bs || front (λ c. eqb c 35) bs) ≡ false = rw e at f.space in
           let p = or_parts (is_empty bs) (front (λ c. eqb c 35) bs) g in
           ap is_none (across_white flow spaces true c (bs ++ rest) (rw e refl)) ∙ (is_none_more (across flow spaces true (bs ++ rest)) ∙ across_inside flow spaces bs rest q.1 f.rest p.0 p.1))
-      | inr e ↦ ap is_none (across_here flow spaces true c (bs ++ rest) (quiet_space c (bs ++ rest) q.0 e)) ∙ rw (hash, text_inside flow c bs rest q h) refl
+      | inr e ↦ ap is_none (across_here flow spaces true c (bs ++ rest) (no_control_space c (bs ++ rest) q.0 e)) ∙ rw (hash, text_inside flow c bs rest q h) refl
     ]
 
-pub none_inside : (flow : Bool) (spaces : Option ℕ) (t rest : List ℕ) → Each is_quiet t → no_rest (needs_quotes flow) t ≡ true → NoneIn (ends_plain flow spaces) t rest
+pub none_inside : (flow : Bool) (spaces : Option ℕ) (t rest : List ℕ) → Each is_no_control t → no_rest (needs_quotes flow) t ≡ true → NoneIn (ends_plain flow spaces) t rest
 none_inside flow spaces [] rest q h = tt
 none_inside flow spaces (b ∷ bs) rest q h =
     let f = front_of flow b bs h in
@@ -89,19 +89,19 @@ none_inside flow spaces (b ∷ bs) rest q h =
           let s : is_space (b ∷ (bs ++ rest)) ≡ true = rw e refl in
           let a : is_none (across flow spaces true (b ∷ (bs ++ rest))) ≡ false = ap is_none (across_white flow spaces true b (bs ++ rest) (rw e refl)) ∙ (is_none_more (across flow spaces true (bs ++ rest)) ∙ across_inside flow spaces bs rest q.1 f.rest p.0 p.1) in
           ends_space flow spaces (b ∷ (bs ++ rest)) s ∙ a)
-      | inr e ↦ rw (quiet_space b (bs ++ rest) q.0 e, text_inside flow b bs rest q h) refl
+      | inr e ↦ rw (no_control_space b (bs ++ rest) q.0 e, text_inside flow b bs rest q h) refl
     ] in
     (here, none_inside flow spaces bs rest q.1 f.rest)
 
-behind_dash : (flow : Bool) (bs rest : List ℕ) → Each is_quiet bs → no_rest (needs_quotes flow) bs ≡ true → front (λ c. not (eqb c 32)) bs ≡ true → is_safe flow (bs ++ rest) ≡ true
+behind_dash : (flow : Bool) (bs rest : List ℕ) → Each is_no_control bs → no_rest (needs_quotes flow) bs ≡ true → front (λ c. not (eqb c 32)) bs ≡ true → is_safe flow (bs ++ rest) ≡ true
 behind_dash flow [] rest q h e = absurd (false≢true e)
 behind_dash flow (d ∷ bs) rest q h e = safe_next flow d bs rest q.0 h (not-true (eqb d 32) e)
 
-pub plain_begins : (flow : Bool) (t rest : List ℕ) → Each is_quiet t → begins_plainly t ≡ true → no_rest (needs_quotes flow) t ≡ true → begins_plain flow (t ++ rest) ≡ true
+pub plain_begins : (flow : Bool) (t rest : List ℕ) → Each is_no_control t → begins_plainly t ≡ true → no_rest (needs_quotes flow) t ≡ true → begins_plain flow (t ++ rest) ≡ true
 plain_begins flow [] rest q s h = absurd (false≢true s)
 plain_begins flow (b ∷ bs) rest q s h =
     let p = and_parts (not (eqb b 32)) (not (is_indicator b) || (eqb b 45 && front (λ c. not (eqb c 32)) bs)) s in
-    let n : is_space (b ∷ (bs ++ rest)) ≡ false = quiet_space b (bs ++ rest) q.0 (not-true (eqb b 32) p.0) in
+    let n : is_space (b ∷ (bs ++ rest)) ≡ false = no_control_space b (bs ++ rest) q.0 (not-true (eqb b 32) p.0) in
     ⊎_elim
     (λ i. rw n (ap (λ (x : Bool). x || ((eqb b 45 || eqb b 63 || eqb b 58) && is_safe flow (bs ++ rest))) i))
     (λ i. let d = and_parts (eqb b 45) (front (λ c. not (eqb c 32)) bs) i in
@@ -122,5 +122,5 @@ plain_text_parts flow t h =
 pub plain_written : (flow : Bool) (spaces : Option ℕ) (t rest : List ℕ) → IsUtf8 t → is_plain_text flow t ≡ true → ends_plain flow spaces rest ≡ true → IsPlain flow spaces t rest
 plain_written flow spaces t rest u h e =
     let p = plain_text_parts flow t h in
-    let q = quiet t u p.0 in
+    let q = no_controls t u p.0 in
     record { begins = plain_begins flow t rest q p.1 p.2; inside = none_inside flow spaces t rest q p.2; ends = e }

@@ -11,14 +11,14 @@ use Rattle.yq_scalar.proofs.CharLaws.{escape_takes}
 use Rattle.yq_scalar.proofs.QuotedLaws.{Read, of_quotes, read_char, read_line, lines_again, closed_here}
 
 -- one step of the reading
-record Step (q b : ℕ) (bs : List ℕ) (n : ℕ) : Type 0 where
+record ReadStep (q b : ℕ) (bs : List ℕ) (n : ℕ) : Type 0 where
   k : ℕ
   belongs : behind q b bs ≡ Some k
   m : ℕ
   rest : quoted_len q 0 (drop k bs) ≡ Some m
   size : k + 1 + m ≡ n
 
-step_back : (q b n : ℕ) (bs : List ℕ) → closes q (b ∷ bs) ≡ false → quoted_len q 0 (b ∷ bs) ≡ Some n → Step q b bs n
+step_back : (q b n : ℕ) (bs : List ℕ) → closes q (b ∷ bs) ≡ false → quoted_len q 0 (b ∷ bs) ≡ Some n → ReadStep q b bs n
 unfolding quoted_len
 step_back q b n bs opened h =
     let x = bind_some (behind q b bs) (rw opened at h) in
@@ -116,14 +116,14 @@ only_quote : (x : Bool) → not (x && false) ≡ false → ⊥
 only_quote true h = false≢true (sym h)
 only_quote false h = false≢true (sym h)
 
-step_len : (q b n k : ℕ) (bs : List ℕ) (st : Step q b bs n) → behind q b bs ≡ Some k → st.k ≡ k
+step_len : (q b n k : ℕ) (bs : List ℕ) (st : ReadStep q b bs n) → behind q b bs ≡ Some k → st.k ≡ k
 step_len q b n k bs st h = let e : Some st.k ≡ Some k = sym st.belongs ∙ h in cc
 
 shorter : (k : ℕ) (bs : List ℕ) → length (drop k bs) ≤ length bs
 shorter k bs = omega (arith, length-drop k bs)
 
 -- two single quotes
-read_doubled : (q b n : ℕ) (bs : List ℕ) → closes q (b ∷ bs) ≡ false → eqb b q ≡ true → Step q b bs n → behind q b bs ≡ Some 1 → Reads q (length bs) → Read q (b ∷ bs) n
+read_doubled : (q b n : ℕ) (bs : List ℕ) → closes q (b ∷ bs) ≡ false → eqb b q ≡ true → ReadStep q b bs n → behind q b bs ≡ Some 1 → Reads q (length bs) → Read q (b ∷ bs) n
 unfolding Reads
 read_doubled q b n [] opened same st one reads = absurd (only_quote (eqb q 39) (rw same at opened))
 read_doubled q b n (c ∷ cs) opened same st one reads =
@@ -135,7 +135,7 @@ read_doubled q b n (c ∷ cs) opened same st one reads =
     read_char q st.m n doubled cs (b ∷ c ∷ cs) (ap (λ x. x ∷ c ∷ cs) first ∙ ap (λ x. 39 ∷ x ∷ cs) second) (eqb-true q 39 pair.0) (reads st.m cs (omega arith) read) (omega (arith, st.size, long))
 
 -- a byte that stands for itself
-read_itself : (q b n : ℕ) (bs : List ℕ) → IsChar q (itself b) bs → Step q b bs n → behind q b bs ≡ Some 0 → Reads q (length bs) → Read q (b ∷ bs) n
+read_itself : (q b n : ℕ) (bs : List ℕ) → IsChar q (itself b) bs → ReadStep q b bs n → behind q b bs ≡ Some 0 → Reads q (length bs) → Read q (b ∷ bs) n
 unfolding Reads
 read_itself q b n bs is st none reads =
     let long : st.k ≡ 0 = step_len q b n 0 bs st none in
@@ -143,7 +143,7 @@ read_itself q b n bs is st none reads =
     read_char q st.m n (itself b) bs (b ∷ bs) refl is (reads st.m bs (omega arith) read) (omega (arith, st.size, long))
 
 -- an escape
-read_escape : (n : ℕ) (bs : List ℕ) → Step 34 92 bs n → is_break bs ≡ false → Reads 34 (length bs) → Read 34 (92 ∷ bs) n
+read_escape : (n : ℕ) (bs : List ℕ) → ReadStep 34 92 bs n → is_break bs ≡ false → Reads 34 (length bs) → Read 34 (92 ∷ bs) n
 unfolding Reads
 read_escape n bs st no_break reads =
     let x = length_of_some (escape bs) st.k (rw no_break at st.belongs) in
@@ -151,7 +151,7 @@ read_escape n bs st no_break reads =
     read_char 34 st.m n e.char (drop st.k bs) (92 ∷ bs) e.spelled (e.is (drop st.k bs)) (reads st.m (drop st.k bs) (shorter st.k bs) st.rest) (omega (arith, st.size, e.long))
 
 -- a backslash before a break
-read_joined : (n : ℕ) (bs : List ℕ) → Step 34 92 bs n → is_break bs ≡ true → Reads 34 (length bs) → Read 34 (92 ∷ bs) n
+read_joined : (n : ℕ) (bs : List ℕ) → ReadStep 34 92 bs n → is_break bs ≡ true → Reads 34 (length bs) → Read 34 (92 ∷ bs) n
 unfolding Reads
 read_joined n bs st brk reads =
     let long : st.k ≡ 0 = step_len 34 92 n 0 bs st (rw brk refl) in
@@ -176,7 +176,7 @@ read_break q n t most le quotes brk h reads =
     let less : length x.rest ≤ most = omega (arith, ap length x.cut, length-append (spell_break x.kind) x.rest) in
     read_line q x.m n false x.kind x.rest t x.cut (λ e. no_way e) x.begins (reads x.m x.rest less x.read) x.size
 
-read_slash : (n : ℕ) (bs : List ℕ) → Step 34 92 bs n → Reads 34 (length bs) → Read 34 (92 ∷ bs) n
+read_slash : (n : ℕ) (bs : List ℕ) → ReadStep 34 92 bs n → Reads 34 (length bs) → Read 34 (92 ∷ bs) n
 read_slash n bs st reads = elim (cases_Bool (is_break bs)) [
   | inl brk ↦ read_joined n bs st brk reads
   | inr no_break ↦ read_escape n bs st no_break reads
@@ -192,9 +192,9 @@ read_front q b n bs quotes opened h reads = elim (cases_Bool (is_break (b ∷ bs
       elim (cases_Bool (eqb q 34 && eqb b 92)) [
         | inl slash ↦
             let p = and_parts (eqb q 34) (eqb b 92) slash in
-            let here : Step q b bs n → Reads q (length bs) → Read q (b ∷ bs) n =
-            subst (λ (x : ℕ). Step x b bs n → Reads x (length bs) → Read x (b ∷ bs) n) (sym (eqb-true q 34 p.0))
-            (subst (λ (y : ℕ). Step 34 y bs n → Reads 34 (length bs) → Read 34 (y ∷ bs) n) (sym (eqb-true b 92 p.1))
+            let here : ReadStep q b bs n → Reads q (length bs) → Read q (b ∷ bs) n =
+            subst (λ (x : ℕ). ReadStep x b bs n → Reads x (length bs) → Read x (b ∷ bs) n) (sym (eqb-true q 34 p.0))
+            (subst (λ (y : ℕ). ReadStep 34 y bs n → Reads 34 (length bs) → Read 34 (y ∷ bs) n) (sym (eqb-true b 92 p.1))
             (read_slash n bs)) in
             here st reads
         | inr no_slash ↦ elim (cases_Bool (eqb b q)) [

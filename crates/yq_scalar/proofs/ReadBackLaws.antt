@@ -11,7 +11,7 @@ use Rattle.yq_scalar.specs.declared.style.Place.TheVariants as places
 use Rattle.yq_scalar.specs.declared.style.Style.TheVariants as styles
 use Rattle.yq_scalar.specs.Block.{BlockText, IsBlock, IsBlockPiece, block_text, block_piece, ends_block, is_tail}
 use Rattle.yq_scalar.specs.BlockWritten.{break_text, written_block}
-use Rattle.yq_scalar.specs.Given.{piece_content}
+use Rattle.yq_scalar.specs.ScalarPiece.{piece_content}
 use Rattle.yq_scalar.specs.Piece.{IsPlainPiece, deeper, further_spaces}
 use Rattle.yq_scalar.specs.Plain.{ends_plain, holds_break}
 use Rattle.yq_scalar.specs.PlainContent.{ArePlain, IsPlainLines}

@@ -6,7 +6,7 @@ use Rattle.yq_scalar.specs.declared.kind.Kind.TheVariants as kinds
 use Rattle.yq_scalar.specs.Schema.{null_words, bool_words, IsInt, Resolves}
 use Rattle.yq_scalar.specs.SchemaReading.{is_one_of, int_number, is_int, is_float, resolve}
 use Rattle.yq_scalar.proofs.WordLaws.{word_takes, word_again, word_fails}
-use Rattle.yq_scalar.proofs.NumberLaws.{int_takes, int_again, int_tells}
+use Rattle.yq_scalar.proofs.NumberLaws.{int_takes, int_again, int_has_number}
 use Rattle.yq_scalar.proofs.FloatLaws.{float_takes, float_again}
 
 some_of : {A : Type 0} (x : Option A) → is_some x ≡ true → (a : A) × (x ≡ Some a)
@@ -14,10 +14,10 @@ some_of (Some a) h = (a, refl)
 some_of None h = absurd (false≢true h)
 
 pub is_int_takes : (t : List ℕ) → is_int t ≡ true → IsInt t
-is_int_takes t h = let x = some_of (int_number t) (sym (int_tells t) ∙ h) in (x.0, int_takes t x.0 x.1)
+is_int_takes t h = let x = some_of (int_number t) (sym (int_has_number t) ∙ h) in (x.0, int_takes t x.0 x.1)
 
 pub is_int_again : (t : List ℕ) → IsInt t → is_int t ≡ true
-is_int_again t h = int_tells t ∙ ap is_some (int_again t h.0 h.1)
+is_int_again t h = int_has_number t ∙ ap is_some (int_again t h.0 h.1)
 
 -- a text for which a test fails is not what the test tells
 fails : {P : Type 0} (b : Bool) → (P → b ≡ true) → b ≡ false → P → ⊥

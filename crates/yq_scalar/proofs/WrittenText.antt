@@ -57,45 +57,45 @@ char_line c s t low = record {
 }
 
 -- an ASCII character that is written as it is
-abbrev pub is_shown : ℕ → Bool
-is_shown b = ltb b 128 && is_text_char b && no_break b
+abbrev pub is_line_ascii : ℕ → Bool
+is_line_ascii b = ltb b 128 && is_text_char b && no_break b
 
-shown_line : (b : ℕ) → is_shown b ≡ true → IsLine (b ∷ [])
-shown_line b h =
+ascii_line : (b : ℕ) → is_line_ascii b ≡ true → IsLine (b ∷ [])
+ascii_line b h =
     let p = and_parts (ltb b 128 && is_text_char b) (no_break b) h in
     let r = and_parts (ltb b 128) (is_text_char b) p.0 in
     let low : b < 128 = ltb-true b 128 r.0 in
     subst IsLine (encode_ascii b low) (char_line b (low_scalar b (omega arith)) r.1 (λ _. p.1))
 
-shown_more : (b : ℕ) (p : List ℕ) → is_shown b ≡ true → IsLine p → IsLine (b ∷ p)
-shown_more b p h l = line_append (b ∷ []) p (shown_line b h) l
+ascii_more : (b : ℕ) (p : List ℕ) → is_line_ascii b ≡ true → IsLine p → IsLine (b ∷ p)
+ascii_more b p h l = line_append (b ∷ []) p (ascii_line b h) l
 
-letter_shown : (es : List (ℕ × ℕ)) (c l : ℕ) → list_all (λ e. is_shown e.0) es ≡ true → letter_of c es ≡ Some l → is_shown l ≡ true
-letter_shown [] c l all h = absurd (let e : None ≡ Some l = h in cc)
-letter_shown (e ∷ es) c l all h =
-    let p = and_parts (is_shown e.0) (list_all (λ e. is_shown e.0) es) all in
+letter_ascii : (es : List (ℕ × ℕ)) (c l : ℕ) → list_all (λ e. is_line_ascii e.0) es ≡ true → letter_of c es ≡ Some l → is_line_ascii l ≡ true
+letter_ascii [] c l all h = absurd (let e : None ≡ Some l = h in cc)
+letter_ascii (e ∷ es) c l all h =
+    let p = and_parts (is_line_ascii e.0) (list_all (λ e. is_line_ascii e.0) es) all in
     elim (chosen (eqb c e.1) h) [
-      | inl w ↦ (let same : e.0 ≡ l = (let k : Some e.0 ≡ Some l = w.1 in cc) in subst (λ (x : ℕ). is_shown x ≡ true) same p.0)
-      | inr w ↦ letter_shown es c l p.1 w.1
+      | inl w ↦ (let same : e.0 ≡ l = (let k : Some e.0 ≡ Some l = w.1 in cc) in subst (λ (x : ℕ). is_line_ascii x ≡ true) same p.0)
+      | inr w ↦ letter_ascii es c l p.1 w.1
     ]
 
-upper_shown : (d : ℕ) → d < 16 → is_shown (upper d) ≡ true
-upper_shown d h = agree_below_at (λ x. is_shown (upper x)) (λ x. true) 16 d refl h
+upper_ascii : (d : ℕ) → d < 16 → is_line_ascii (upper d) ≡ true
+upper_ascii d h = agree_below_at (λ x. is_line_ascii (upper x)) (λ x. true) 16 d refl h
 
 two_line : (c : ℕ) → IsLine (two_digits c)
-two_line c = shown_more _ _ (upper_shown (c / 16 % 16) (omega arith)) (shown_more _ _ (upper_shown (c % 16) (omega arith)) line_none)
+two_line c = ascii_more _ _ (upper_ascii (c / 16 % 16) (omega arith)) (ascii_more _ _ (upper_ascii (c % 16) (omega arith)) line_none)
 
 four_line : (c : ℕ) → IsLine (four_digits c)
-four_line c = shown_more _ _ (upper_shown (c / 4096 % 16) (omega arith)) (shown_more _ _ (upper_shown (c / 256 % 16) (omega arith)) (two_line c))
+four_line c = ascii_more _ _ (upper_ascii (c / 4096 % 16) (omega arith)) (ascii_more _ _ (upper_ascii (c / 256 % 16) (omega arith)) (two_line c))
 
 code_line : (c : ℕ) → IsLine (code_escape c)
 code_line c = elim (cases_Bool (ltb c 256)) [
-  | inl lt ↦ rw lt (shown_more 92 _ refl (shown_more 120 _ refl (two_line c)))
-  | inr ge ↦ rw ge (shown_more 92 _ refl (shown_more 117 _ refl (four_line c)))
+  | inl lt ↦ rw lt (ascii_more 92 _ refl (ascii_more 120 _ refl (two_line c)))
+  | inr ge ↦ rw ge (ascii_more 92 _ refl (ascii_more 117 _ refl (four_line c)))
 ]
 
 double_line : (c : ℕ) (o : Option ℕ) → letter_of c written_letters ≡ o → scalar c ≡ true → IsLine (double_by o c)
-double_line c (Some l) h s = shown_more 92 (l ∷ []) refl (shown_line l (letter_shown written_letters c l refl h))
+double_line c (Some l) h s = ascii_more 92 (l ∷ []) refl (ascii_line l (letter_ascii written_letters c l refl h))
 double_line c None h s = elim (cases_Bool (is_text_char c)) [
   | inl p ↦ (let test : ℕ → Bool = λ x. is_none (letter_of x written_letters) in
       let none : test c ≡ true = ap is_none h in
@@ -117,7 +117,7 @@ single_text c h = elim (or_cases (is_plain_char c) (eqb c 9) h) [
 
 single_line : (c : ℕ) → is_single_char c ≡ true → scalar c ≡ true → IsLine (in_single c)
 single_line c h s = elim (cases_Bool (eqb c 39)) [
-  | inl e ↦ rw e (shown_more 39 (39 ∷ []) refl (shown_line 39 refl))
+  | inl e ↦ rw e (ascii_more 39 (39 ∷ []) refl (ascii_line 39 refl))
   | inr n ↦ rw n (char_line c s (single_text c h) (λ low. rw (at_byte is_single_char c 10 h refl, at_byte is_single_char c 13 h refl) refl))
 ]
 
@@ -149,7 +149,7 @@ line_is_text p l =
     and_from (list_all is_text_char (chars p)) (pairs_returns p) all (line_pairs p l.bytes)
 
 pub double_is_line : (t : List ℕ) → IsUtf8 t → IsLine (double t)
-double_is_line t u = shown_more 34 _ refl (line_append _ (34 ∷ []) (doubles_line (chars t) (scalars-chars t u)) (shown_line 34 refl))
+double_is_line t u = ascii_more 34 _ refl (line_append _ (34 ∷ []) (doubles_line (chars t) (scalars-chars t u)) (ascii_line 34 refl))
 
 pub single_is_line : (t : List ℕ) → IsUtf8 t → list_all is_single_char (chars t) ≡ true → IsLine (single t)
-single_is_line t u h = shown_more 39 _ refl (line_append _ (39 ∷ []) (singles_line (chars t) h (scalars-chars t u)) (shown_line 39 refl))
+single_is_line t u h = ascii_more 39 _ refl (line_append _ (39 ∷ []) (singles_line (chars t) h (scalars-chars t u)) (ascii_line 39 refl))

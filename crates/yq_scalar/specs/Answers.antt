@@ -16,14 +16,14 @@ more k None = None
 more k (Some n) = Some (k + n)
 
 -- A fault comes where reading gives nothing; want of memory says nothing (own).
-abbrev pub Fails : {Y : Type 0} → ReadError → Option Y → Type 0
-Fails error.Memory read = Unit {0}
-Fails (error.Fault f) read = read ≡ None
+abbrev pub ReadFails : {Y : Type 0} → ReadError → Option Y → Type 0
+ReadFails error.Memory read = Unit {0}
+ReadFails (error.Fault f) read = read ≡ None
 
 -- The answer, as it is seen, is what reading gives, unless memory ran out (own).
 abbrev pub Gives : {X Y : Type 0} → (X → Y) → Result X ReadError → Option Y → Type 0
 Gives view (Ok x) read = read ≡ Some (view x)
-Gives view (Err e) read = Fails e read
+Gives view (Err e) read = ReadFails e read
 
 -- An error of a text that is UTF-8: want of memory, or a fault that isn't that its bytes are not UTF-8 (own).
 abbrev pub IsOfText : ReadError → Type 0

@@ -35,9 +35,9 @@ repair keep m column (l ∷ ls) =
     else (repaired_comment m column l ∷ ls)
 
 -- the comments, with what stands behind them on their lines (own)
-unfoldable pub remarks : Lines → Lines
-remarks [] = []
-remarks (l ∷ ls) = if is_blank l then remarks ls else (past_white l ∷ remarks ls)
+unfoldable pub comment_lines : Lines → Lines
+comment_lines [] = []
+comment_lines (l ∷ ls) = if is_blank l then comment_lines ls else (past_white l ∷ comment_lines ls)
 
 -- the end, or a less indented line (own)
 abbrev pub is_behind : TextIndent → Lines → Bool

@@ -26,7 +26,7 @@ pub mod Lines
 pub mod Block
 pub mod BlockReading
 pub mod QuotedPiece
-pub mod Given
+pub mod ScalarPiece
 pub mod BlockContent
 pub mod BlockWritten
 pub mod BlockRepair

@@ -3,17 +3,17 @@ use Rattle.std.specs.Prelude.{◌≡◌, ◌≢◌, ◌<◌, ◌⊎◌, List, []
 use Rattle.yq_scalar.specs.Paths.{Step, To, Nth}
 
 -- two steps part: they are to entries of other keys, or to an item and a later one (own)
-abbrev pub Parts : Step → Step → Type 0
-Parts (To k) (To j) = k ≢ j
-Parts (To k) (Nth n) = ⊤
-Parts (Nth m) (To j) = ⊤
-Parts (Nth m) (Nth n) = m < n
+abbrev pub Diverge : Step → Step → Type 0
+Diverge (To k) (To j) = k ≢ j
+Diverge (To k) (Nth n) = ⊤
+Diverge (Nth m) (To j) = ⊤
+Diverge (Nth m) (Nth n) = m < n
 
 -- two paths part at some step, so neither leads into the other; where they part at items, the first one's is the earlier (own)
 abbrev pub Before : List Step → List Step → Type 0
 Before [] q = ⊥
 Before (s ∷ p) [] = ⊥
-Before (s ∷ p) (t ∷ q) = Parts s t ⊎ ((s ≡ t) × Before p q)
+Before (s ∷ p) (t ∷ q) = Diverge s t ⊎ ((s ≡ t) × Before p q)
 
 -- neither path leads into the other (own)
 abbrev pub Apart : List Step → List Step → Type 0

@@ -7,7 +7,7 @@ use Rattle.yq_scalar.specs.declared.style.Style.{Style}
 use Rattle.yq_scalar.specs.declared.style.Style.TheVariants.{Plain}
 use Rattle.yq_scalar.specs.Block.{IsBlockPiece, block_text, block_piece}
 use Rattle.yq_scalar.specs.BlockWritten.{break_text, written_block}
-use Rattle.yq_scalar.specs.Given.{piece_content}
+use Rattle.yq_scalar.specs.ScalarPiece.{piece_content}
 use Rattle.yq_scalar.specs.Piece.{IsPlainPiece, inline_piece}
 use Rattle.yq_scalar.specs.QuotedPiece.{IsQuotedPiece}
 use Rattle.yq_scalar.specs.Scalar.{ScalarText, plain_of, string_of}

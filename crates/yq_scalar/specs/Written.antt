@@ -55,12 +55,12 @@ abbrev pub double : List ℕ → List ℕ
 double t = 34 ∷ (flat_map in_double (chars t) ++ 34 ∷ [])
 
 -- a style that writes a scalar on one line (own)
-abbrev pub IsInline : Style → Type 0
-IsInline styles.Plain = Unit {0}
-IsInline styles.Single = Unit {0}
-IsInline styles.Double = Unit {0}
-IsInline styles.Literal = ⊥
-IsInline styles.Folded = ⊥
+abbrev pub IsOneLine : Style → Type 0
+IsOneLine styles.Plain = Unit {0}
+IsOneLine styles.Single = Unit {0}
+IsOneLine styles.Double = Unit {0}
+IsOneLine styles.Literal = ⊥
+IsOneLine styles.Folded = ⊥
 
 -- a scalar in plain, single or double style; no other style is asked of it (own)
 abbrev pub written : Style → List ℕ → List ℕ

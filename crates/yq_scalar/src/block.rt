@@ -4,7 +4,7 @@ ghost use Rattle.std.specs.Str.{IsCharBoundary};
 ghost use Rattle.yq_scalar.specs.Answers.{Reads};
 ghost use Rattle.yq_scalar.specs.Block as spec;
 ghost use Rattle.yq_scalar.specs.BlockReading as reading;
-ghost use Rattle.yq_scalar.specs.Given.{IsGiven};
+ghost use Rattle.yq_scalar.specs.ScalarPiece.{IsReadPiece};
 ghost use Rattle.yq_scalar.specs.Piece.{deeper};
 ghost use Rattle.yq_scalar.specs.Text.{lines_of};
 ghost use Rattle.yq_scalar.specs.declared.piece.Piece.{Piece};
@@ -79,7 +79,7 @@ pub fn read_block(text: &str, at: usize, parent: i64) -> Result<Piece, FaultKind
     ensures exact { Reads (λ p. p) result (reading.block_from parent at text.now) }
     ensures found { IfOk result (spec.IsBlockPiece parent at text.now) }
     ensures only { (p : Piece) → spec.IsBlockPiece parent at text.now p → result ≡ Ok p }
-    ensures given { IfOk result (IsGiven text.now) }
+    ensures is_piece { IfOk result (IsReadPiece text.now) }
     ensures fault { IfErr result (λ kind. spec.is_block_fault kind ≡ true) }
 {
     block_from(text, at, parent)

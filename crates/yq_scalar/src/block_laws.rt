@@ -4,7 +4,7 @@ ghost use Rattle.std.specs.Str.{IsUtf8};
 ghost use Rattle.yq_scalar.specs.Block.{BlockText, IsBlock, Lines, block_text, ends_block, is_tail, keeps};
 ghost use Rattle.yq_scalar.specs.BlockContent.{block_content};
 ghost use Rattle.yq_scalar.specs.BlockReading.{block_at};
-ghost use Rattle.yq_scalar.specs.BlockRepair.{AreGap, is_behind, remarks, repair};
+ghost use Rattle.yq_scalar.specs.BlockRepair.{AreGap, is_behind, comment_lines, repair};
 ghost use Rattle.yq_scalar.specs.BlockWritten.{break_text, closed, written_block};
 ghost use Rattle.yq_scalar.specs.Scalar.{ScalarText};
 ghost use Rattle.yq_scalar.specs.Text.{joined, lines_of};
@@ -51,5 +51,5 @@ pub fn repaired()
         AreGap gap → is_behind indent rest ≡ true → column < indent.columns →
         ends_block keep indent (repair keep indent.columns column gap ++ rest) ≡ true }
     ensures comments { (keep : Bool) (indent column : ℕ) (gap : Lines) → AreGap gap →
-        remarks (repair keep indent column gap) ≡ remarks gap }
+        comment_lines (repair keep indent column gap) ≡ comment_lines gap }
 {}

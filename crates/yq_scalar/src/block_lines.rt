@@ -96,19 +96,19 @@ pub fn raw_len(keep: bool, indent: TextIndent, text: &[u8]) -> Result<usize, Fau
     ensures fault { IfErr result (λ kind. spec.is_block_fault kind ≡ true) }
 {
     let mut within = 0;
-    let mut seen = 0;
+    let mut scanned = 0;
     let mut rest = text;
     'each: while !rest.is_empty() {
         let n = line_len(rest);
         let (line, after) = rest.split_at(n);
         if is_empty_at(keep, indent, line) {
-            seen += n;
+            scanned += n;
             if keep {
-                within = seen;
+                within = scanned;
             }
         } else if is_text_at(indent, line) {
-            seen += n;
-            within = seen;
+            scanned += n;
+            within = scanned;
         } else if is_less_indented(indent, line) {
             return Ok(within);
         } else {

@@ -2,7 +2,7 @@
 ghost use Rattle.std.specs.Prelude.{◌≡◌, IfOk, string_bytes, ℕ, ℤ};
 ghost use Rattle.yq_scalar.specs.Block.{IsBlockPiece};
 ghost use Rattle.yq_scalar.specs.BlockContent as block;
-ghost use Rattle.yq_scalar.specs.Given as spec;
+ghost use Rattle.yq_scalar.specs.ScalarPiece as spec;
 ghost use Rattle.yq_scalar.specs.Piece.{IsPlainPiece};
 ghost use Rattle.yq_scalar.specs.PlainContent.{IsPlainLines};
 ghost use Rattle.yq_scalar.specs.Quoted.{Lines, content as content_of};
@@ -20,7 +20,7 @@ use std::alloc::{AllocError, Global};
 ///
 /// Memory is taken once.
 pub fn content(alloc: Global, text: &str, piece: &Piece) -> Result<String, AllocError>
-    requires { spec.IsGiven text.now piece.now }
+    requires { spec.IsReadPiece text.now piece.now }
     ensures exact { IfOk result (λ s. string_bytes s ≡ spec.piece_content text.now piece.now) }
     ensures plain { (place : Place) (n : ℤ) (at : ℕ)
         (h : IsPlainPiece place n at text.now piece.now) (ls : Lines) → IsPlainLines ls h.scalar →
@@ -34,7 +34,7 @@ pub fn content(alloc: Global, text: &str, piece: &Piece) -> Result<String, Alloc
 }
 
 fn content_at(alloc: Global, text: &str, piece: &Piece) -> Result<String, AllocError>
-    requires { spec.IsGiven text.now piece.now }
+    requires { spec.IsReadPiece text.now piece.now }
     ensures { IfOk result (λ s. string_bytes s ≡ spec.piece_content text.now piece.now) }
 {
     match piece.style {

@@ -2,7 +2,7 @@
 ghost use Rattle.std.specs.Prelude.{◌≡◌, IfErr, IfOk, Ok};
 ghost use Rattle.std.specs.Str.{IsCharBoundary};
 ghost use Rattle.yq_scalar.specs.Answers.{Reads};
-ghost use Rattle.yq_scalar.specs.Given.{IsGiven};
+ghost use Rattle.yq_scalar.specs.ScalarPiece.{IsReadPiece};
 ghost use Rattle.yq_scalar.specs.Piece as spec;
 ghost use Rattle.yq_scalar.specs.declared.fault.FaultKind.TheVariants.{BadScalar};
 ghost use Rattle.yq_scalar.specs.declared.piece.Piece.{Piece};
@@ -24,7 +24,7 @@ pub fn read_plain(text: &str, at: usize, place: Place, indent: i64) -> Result<Pi
     ensures exact { Reads (λ p. p) result (spec.plain_from place indent at text.now) }
     ensures found { IfOk result (spec.IsPlainPiece place indent at text.now) }
     ensures only { (p : Piece) → spec.IsPlainPiece place indent at text.now p → result ≡ Ok p }
-    ensures given { IfOk result (IsGiven text.now) }
+    ensures is_piece { IfOk result (IsReadPiece text.now) }
     ensures fault { IfErr result (λ kind. kind ≡ BadScalar) }
 {
     plain_from(text, at, place, indent)

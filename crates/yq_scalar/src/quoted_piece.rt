@@ -2,7 +2,7 @@
 ghost use Rattle.std.specs.Prelude.{◌≡◌, IfErr, IfOk, Ok};
 ghost use Rattle.std.specs.Str.{IsCharBoundary};
 ghost use Rattle.yq_scalar.specs.Answers.{Reads};
-ghost use Rattle.yq_scalar.specs.Given.{IsGiven};
+ghost use Rattle.yq_scalar.specs.ScalarPiece.{IsReadPiece};
 ghost use Rattle.yq_scalar.specs.QuotedPiece as spec;
 ghost use Rattle.yq_scalar.specs.declared.fault.FaultKind.TheVariants.{BadScalar};
 ghost use Rattle.yq_scalar.specs.declared.piece.Piece.{Piece};
@@ -33,7 +33,7 @@ pub fn read_quoted(text: &str, at: usize) -> Result<Piece, FaultKind>
     ensures exact { Reads (λ p. p) result (spec.quoted_from at text.now) }
     ensures found { IfOk result (spec.IsQuotedPiece at text.now) }
     ensures only { (p : Piece) → spec.IsQuotedPiece at text.now p → result ≡ Ok p }
-    ensures given { IfOk result (IsGiven text.now) }
+    ensures is_piece { IfOk result (IsReadPiece text.now) }
     ensures fault { IfErr result (λ kind. kind ≡ BadScalar) }
 {
     quoted_from(text, at)

@@ -120,7 +120,7 @@ pub fn write_scalar(
     place: Place,
 ) -> Result<String, AllocError>
     requires can { can_write scalar.now style place ≡ true }
-    requires inline { spec.IsInline style }
+    requires inline { spec.IsOneLine style }
     ensures { IfOk result (λ s. string_bytes s ≡ spec.written style scalar.now.text) }
 {
     match style {

@@ -18,10 +18,10 @@ last_gives [] o w = refl
 last_gives (keep u ∷ ss) o w = last_gives ss o w
 last_gives (put p x ∷ ss) o w = refl
 
-pub last_given : (ss : List Segment) (o w : List ℕ) → to_last (ss ++ (put o w ∷ [])) ≡ ss ++ (put o w ∷ [])
-last_given [] o w = refl
-last_given (keep u ∷ ss) o w = λ i. cond (last_gives ss o w i) [] (keep u ∷ last_given ss o w i)
-last_given (put p x ∷ ss) o w = ap (λ s. put p x ∷ s) (last_given ss o w)
+pub to_last_put : (ss : List Segment) (o w : List ℕ) → to_last (ss ++ (put o w ∷ [])) ≡ ss ++ (put o w ∷ [])
+to_last_put [] o w = refl
+to_last_put (keep u ∷ ss) o w = λ i. cond (last_gives ss o w i) [] (keep u ∷ to_last_put ss o w i)
+to_last_put (put p x ∷ ss) o w = ap (λ s. put p x ∷ s) (to_last_put ss o w)
 
 -- ---- what is kept behind it
 
@@ -91,10 +91,10 @@ put_kept n o w b t (keep u ∷ ss) = ap (λ k. splice_at n o w ++ splices_at k s
 put_kept n o w b t (put p x ∷ ss) = refl
 
 -- what is kept ends the exchange in front of it
-pub turn_kept : (done more whole : List Splice) (n m : ℕ) (o w t : List ℕ) (rest : List Segment) → nat_eq (length t) 0 ≡ false → done ++ splices_at n (put_before o w (merged (keep t ∷ rest))) ≡ whole →
+pub loop_kept : (done more whole : List Splice) (n m : ℕ) (o w t : List ℕ) (rest : List Segment) → nat_eq (length t) 0 ≡ false → done ++ splices_at n (put_before o w (merged (keep t ∷ rest))) ≡ whole →
     more ≡ done ++ splice_at n o w → m ≡ n + length w + length t → more ++ splices_at m (put_before [] [] (merged rest)) ≡ whole
-turn_kept done more whole n m o w [] rest some found is at = absurd (false≢true (sym some))
-turn_kept done more whole n m o w (b ∷ t) rest some found is at =
+loop_kept done more whole n m o w [] rest some found is at = absurd (false≢true (sym some))
+loop_kept done more whole n m o w (b ∷ t) rest some found is at =
     ap (λ k. more ++ k) (behind_nothing m (merged rest) ∙ ap (λ k. splices_at k (merged rest)) at)
     ∙ (ap (λ k. k ++ splices_at (n + length w + length (b ∷ t)) (merged rest)) is
     ∙ (append_assoc done (splice_at n o w) (splices_at (n + length w + length (b ∷ t)) (merged rest))

@@ -23,13 +23,13 @@ limit_kept ss n is = go (nat_le (length (new_text ss)) text_limit) refl
     go false e = absurd (cc)
 
 -- what an exchange gives
-abbrev text_given : Exchange → List ℕ
-text_given too_large = []
-text_given (gives t cs) = t
+abbrev exchange_text : Exchange → List ℕ
+exchange_text too_large = []
+exchange_text (gives t cs) = t
 
-abbrev splices_given : Exchange → List Splice
-splices_given too_large = []
-splices_given (gives t cs) = cs
+abbrev exchange_splices : Exchange → List Splice
+exchange_splices too_large = []
+exchange_splices (gives t cs) = cs
 
 module _ (ss : List Segment) where
   abbrev inner : List Segment
@@ -64,13 +64,13 @@ module _ (ss : List Segment) where
 
   pub change_is : (c : Changed) (n : ℕ) (held : List Segment) → within_limit (length (new_text ss)) ≡ Some n → held ≡ inner → c.front ≡ length (kept_front ss) → c.back ≡ length (kept_back ss) →
       IsUtf8 (kept_front ss) → IsUtf8 (kept_back ss) → gives (new_text held) (changes_behind c.front held) ≡ gives (string_bytes c.new) c.splices.items → IsChange ss c
-  change_is c n held limit is front back front_text back_text made = record {
+  change_is c n held limit is front back front_text back_text so_far = record {
     front = front;
     back = back;
     front_text = front_text;
     back_text = back_text;
-    exact = ap (λ b. cond b (gives (new_text ss) (changes ss)) too_large) (limit_kept ss n limit) ∙ ap (gives (new_text ss)) (sym inner_changes ∙ (λ i. changes_behind (sym front i) (sym is i)) ∙ ap splices_given made);
-    text = λ puts. inner_text puts ∙ λ i. take (sym front i) (old_text ss) ++ ((ap new_text (sym is) ∙ ap text_given made) i ++ drop (length (old_text ss) - sym back i) (old_text ss));
+    exact = ap (λ b. cond b (gives (new_text ss) (changes ss)) too_large) (limit_kept ss n limit) ∙ ap (gives (new_text ss)) (sym inner_changes ∙ (λ i. changes_behind (sym front i) (sym is i)) ∙ ap exchange_splices so_far);
+    text = λ puts. inner_text puts ∙ λ i. take (sym front i) (old_text ss) ++ ((ap new_text (sym is) ∙ ap exchange_text so_far) i ++ drop (length (old_text ss) - sym back i) (old_text ss));
   }
 
 -- a text may be cut where what stays at its ends does

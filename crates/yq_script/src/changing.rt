@@ -15,7 +15,7 @@ use std::alloc::Global;
 use yq_text::Halves;
 
 /// How many bytes a text has that is kept; they are characters.
-#[tactic(auto, using(crate::proofs::TurnLaws::texts_joined))]
+#[tactic(auto, using(crate::proofs::LoopLaws::texts_joined))]
 fn text_len(text: Halves<'_>) -> usize
     requires { length (whole text) < 2 ^ 64 }
     ensures len { result ≡ length (whole text.entry) }

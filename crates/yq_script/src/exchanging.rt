@@ -101,7 +101,7 @@ fn push_gone(bytes: &mut Vec<u8>, gone: Halves<'_>) -> Result<(), AllocError>
 }
 
 /// The new text of segments, which is about that long, and their splices behind so many bytes.
-#[tactic(auto, using(crate::proofs::BetweenLaws::behind_nothing, crate::proofs::BetweenLaws::turn_kept))]
+#[tactic(auto, using(crate::proofs::BetweenLaws::behind_nothing, crate::proofs::BetweenLaws::loop_kept))]
 pub(crate) fn build(
     alloc: Global,
     segments: &[Segment<'_>],

@@ -15,7 +15,7 @@ pub enum Segment<'t> {
     Put(Halves<'t>, String),
 }
 
-/// Segments of a text, in its order. What they keep and what gives way is lent from the text, and what
+/// Segments of a text, in its order. What they keep and what gives way is borrowed from the text, and what
 /// comes is owned.
 #[derive(Debug, Drop)]
 pub struct Segments<'t> {

@@ -4,9 +4,9 @@ use Rattle.yq_rows.specs.Grammar.{IsCut}
 use Rattle.yq_rows.specs.Items.{Item, items_of}
 use Rattle.yq_rows.specs.Kept.{ArePlaced, IsPlaced}
 use Rattle.yq_rows.specs.Rows.{Cut}
-use Rattle.yq_rows.specs.View.{shown}
+use Rattle.yq_rows.specs.View.{rows_view}
 use Rattle.yq_rows.specs.declared.places.Places.{Places}
-use Rattle.yq_session.specs.Exchanging.{Change, Exchanged, GivesWay, SamePlaces}
+use Rattle.yq_session.specs.Exchanging.{TextChange, RowsExchanged, GivesWay, SamePlaces}
 use Rattle.yq_session.specs.Following.{ArePlacesOf, Follows, IsPlacedIn, exchanged}
 use Rattle.yq_session.specs.Reading.{ArePlacesRead}
 use Rattle.yq_session.specs.declared.kept.Kept.{Kept}
@@ -44,14 +44,14 @@ same_sides p q b z same h = record {
 
 pub same_places : (t u : List ℕ) (p q : Places) → u ≡ t → IsPlacedIn t p → SamePlaces p q → ArePlacesOf u q
 same_places t u p q text h same =
-    let placed : IsPlaced q (shown h.cut) = record { before = h.placed.before; behind = h.placed.behind; placed = same_sides p q h.placed.before h.placed.behind same h.placed.placed; shown_is = h.placed.shown_is } in
+    let placed : IsPlaced q (rows_view h.cut) = record { before = h.placed.before; behind = h.placed.behind; placed = same_sides p q h.placed.before h.placed.behind same h.placed.placed; rows_view_is = h.placed.rows_view_is } in
     subst (λ (x : List ℕ). ArePlacesOf x q) (sym text) (places_of t q (record { cut = h.cut; is_cut = h.is_cut; placed = placed }))
 
 pub still_placed : (t u : List ℕ) (p : Places) → u ≡ t → IsPlacedIn t p → ArePlacesOf u p
 still_placed t u p text h = same_places t u p p text h (refl, refl, refl, refl)
 
 -- what gives way, and what stands there then
-pub gives_way : (t new : List ℕ) (kept : Kept) (p : Places) (x : Touched) (come : Come) → (k : Change t new kept p x) → ArePlacesRead k.read.written come → GivesWay p x come
+pub gives_way : (t new : List ℕ) (kept : Kept) (p : Places) (x : Touched) (come : Come) → (k : TextChange t new kept p x) → ArePlacesRead k.read.written come → GivesWay p x come
 gives_way t new kept p x come k read = record {
   before = k.before;
   touched = k.touched;
@@ -66,12 +66,12 @@ gives_way t new kept p x come k read = record {
   small = k.small;
 }
 
-new_sides : (t new : List ℕ) (kept : Kept) (p q : Places) (x : Touched) (come : Come) (d : Cut) → (k : Change t new kept p x) → ArePlacesRead k.read.written come → Exchanged p x come q → IsCut (exchanged kept t new) d → BothSides q (items_of d)
+new_sides : (t new : List ℕ) (kept : Kept) (p q : Places) (x : Touched) (come : Come) (d : Cut) → (k : TextChange t new kept p x) → ArePlacesRead k.read.written come → RowsExchanged p x come q → IsCut (exchanged kept t new) d → BothSides q (items_of d)
 unfolding gives_way
 new_sides t new kept p q x come d k read done is =
     (k.before ++ k.read.written, k.read.behind, append_assoc k.before k.read.written k.read.behind ∙ k.items d is, done (gives_way t new kept p x come k read))
 
-pub new_places : (t u v new : List ℕ) (kept : Kept) (p q : Places) (x : Touched) (come : Come) (d : Cut) → u ≡ t → v ≡ exchanged kept u new → (k : Change t new kept p x) → ArePlacesRead k.read.written come → Exchanged p x come q → IsCut (exchanged kept t new) d → ArePlacesOf v q
-new_places t u v new kept p q x come d text made k read done is =
-    subst (λ (l : List ℕ). ArePlacesOf l q) (sym (made ∙ ap (λ (l : List ℕ). exchanged kept l new) text))
+pub new_places : (t u v new : List ℕ) (kept : Kept) (p q : Places) (x : Touched) (come : Come) (d : Cut) → u ≡ t → v ≡ exchanged kept u new → (k : TextChange t new kept p x) → ArePlacesRead k.read.written come → RowsExchanged p x come q → IsCut (exchanged kept t new) d → ArePlacesOf v q
+new_places t u v new kept p q x come d text spliced k read done is =
+    subst (λ (l : List ℕ). ArePlacesOf l q) (sym (spliced ∙ ap (λ (l : List ℕ). exchanged kept l new) text))
     (places_of (exchanged kept t new) q (placed_in (exchanged kept t new) q d is (new_sides t new kept p q x come d k read done is)))

@@ -117,17 +117,17 @@ numbers p x come h =
     let front_bytes : x.front.bytes ≡ text_length h.before = ap (λ (s : Side). s.bytes) h.front_is in
     let n : ℕ = length (near 0 h.behind) in
     let whole : ℕ = text_length (h.before ++ (h.touched ++ h.behind)) in
-    let told : length (placed_rows whole p) ≡ length (near 0 bt) + length (near (0 + text_length bt) h.behind) = ap length h.placed.rows_are ∙ (ap length rows ∙ length-append (near 0 bt) (near (0 + text_length bt) h.behind)) in
-    let ends_told : length p.ends.items ≡ length (ends_near 0 0 bt) + length (ends_near (0 + text_length bt) (0 + length (near 0 bt)) h.behind) =
+    let agrees : length (placed_rows whole p) ≡ length (near 0 bt) + length (near (0 + text_length bt) h.behind) = ap length h.placed.rows_are ∙ (ap length rows ∙ length-append (near 0 bt) (near (0 + text_length bt) h.behind)) in
+    let ends_agrees : length p.ends.items ≡ length (ends_near 0 0 bt) + length (ends_near (0 + text_length bt) (0 + length (near 0 bt)) h.behind) =
     ap length h.placed.ends_are ∙ (ap length ends ∙ length-append (ends_near 0 0 bt) (ends_near (0 + text_length bt) (0 + length (near 0 bt)) h.behind)) in
     let first_ends : length (ends_near 0 0 bt) ≡ length (ends_near 0 0 h.before) + length (ends_near (0 + text_length h.before) (0 + length (near 0 h.before)) h.touched) =
     ap length (ends_joined 0 0 h.before h.touched) ∙ length-append (ends_near 0 0 h.before) (ends_near (0 + text_length h.before) (0 + length (near 0 h.before)) h.touched) in
     record {
       front_rows = omega (arith, front_rows, ap length h.front_rows, length-take x.front.rows p.front.items);
-      all_rows = kept_count whole p ∙ omega (arith, told, old_rows, later);
+      all_rows = kept_count whole p ∙ omega (arith, agrees, old_rows, later);
       back_rows = omega (arith, ap length h.back_rows, length-reverse (take n p.behind.items), length-take n p.behind.items, far_count h.behind);
-      old_ends = omega (arith, ends_told, old_ends);
-      front_ends = omega (arith, ends_told, first_ends, front_ends);
+      old_ends = omega (arith, ends_agrees, old_ends);
+      front_ends = omega (arith, ends_agrees, first_ends, front_ends);
       come_rows = kept_count come.read come.places ∙ ap length h.are_read.rows;
       bytes = omega (arith, h.small, front_bytes, h.are_read.long, joined_long h.before (h.written ++ h.behind), joined_long h.written h.behind);
     }

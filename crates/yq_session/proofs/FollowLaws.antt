@@ -6,7 +6,7 @@ use Rattle.std.proofs.lemmas.Str.{IsUtf8-nil}
 use Rattle.std.specs.Str.{IsUtf8}
 use Rattle.yq_scalar.specs.Characters.{text_limit}
 use Rattle.yq_rows.specs.Grammar.{IsCut, IsMarkerLine}
-use Rattle.yq_rows.specs.Items.{Item, end_item, items_of, items_text, nothing_asked, asked_of, AreItems}
+use Rattle.yq_rows.specs.Items.{Item, end_item, items_of, items_text, nothing_asked, asked_of, AreRowItems}
 use Rattle.yq_rows.specs.Kept.{kept_rows, near, ends_near, TextsIn}
 use Rattle.yq_rows.specs.Meter.{begins_line}
 use Rattle.yq_rows.specs.Regions.{StandIn, ended, no_items}
@@ -19,7 +19,7 @@ use Rattle.yq_rows.proofs.KeptLaws.{items_texts, near_joined}
 use Rattle.yq_rows.proofs.RegionEnds.{region_end}
 use Rattle.yq_rows.proofs.RegionLaws.{region}
 use Rattle.yq_rows.proofs.ScanLaws.{one_cut}
-use Rattle.yq_session.specs.Exchanging.{Change}
+use Rattle.yq_session.specs.Exchanging.{TextChange}
 use Rattle.yq_session.specs.Following.{Follows, exchanged, kept_marker, read_text, without_line}
 use Rattle.yq_session.specs.Reading.{AreEdges, IsRead, IsUnread, read_part, region_text, unread_end}
 use Rattle.yq_session.specs.Sides.{AreAt, IsSplitAt, IsSideBefore, IsSideBehind, marked_end, not_in_back, side_of, text_length}
@@ -33,7 +33,7 @@ use Rattle.yq_session.proofs.EdgeLaws.{Pieces, begin_edge, back_edge, end_edge, 
 use Rattle.yq_session.proofs.ExchangeLaws.{kept_count, texts_first, texts_second}
 use Rattle.yq_session.proofs.KeptSides.{all_in_front, back_long, cut_some, front_long, last_long, some_behind}
 use Rattle.yq_session.proofs.ItemPlaces.{cut_long, cut_places, text_split}
-use Rattle.yq_session.proofs.MarkedLaws.{KeepsEnd, Tells, told}
+use Rattle.yq_session.proofs.MarkedLaws.{KeepsEnd, KeepsMarker, agrees}
 use Rattle.yq_session.proofs.MarkerLaws.{marker_stays, marker_there}
 use Rattle.yq_session.proofs.ReadLaws.{unread_is, without, without_none}
 use Rattle.yq_session.proofs.SideLaws.{front_taken}
@@ -177,8 +177,8 @@ module _ (t new : List ℕ) (kept : Kept) (p : Places) (x : Touched) (h : Follow
   }
 
   -- the marker that is kept
-  tells : Tells tch (kept.back - text_length z) x.marked
-  tells = subst (Tells tch (kept.back - text_length z)) (sym marked_is) (told f tch z p.ends.items x.front x.old (length t) kept.back (record {
+  reports : KeepsMarker tch (kept.back - text_length z) x.marked
+  reports = subst (KeepsMarker tch (kept.back - text_length z)) (sym marked_is) (agrees f tch z p.ends.items x.front x.old (length t) kept.back (record {
     rest = ends_near (0 + text_length (f ++ tch)) (0 + length (near 0 (f ++ tch))) z;
     ends = at_xs.ends_are ∙ (ap (ends_near 0 0) group ∙ ends_joined 0 0 (f ++ tch) z);
     front_is = front_is;
@@ -200,7 +200,7 @@ module _ (t new : List ℕ) (kept : Kept) (p : Places) (x : Touched) (h : Follow
         ap (λ l. items_text f [] ++ l) own ∙ sym (append_assoc (items_text f []) inner k.marker)
 
     line : IsMarkerLine k.marker (items_text z [])
-    line = marker_there xs (f ++ k.front) z k.gap k.marker (subst (λ (l : List Item). AreItems nothing_asked l []) refl (parts_are_items h.old_cut true h.old_is.parts))
+    line = marker_there xs (f ++ k.front) z k.gap k.marker (subst (λ (l : List Item). AreRowItems nothing_asked l []) refl (parts_are_items h.old_cut true h.old_is.parts))
         (group ∙ (ap (λ (l : List Item). (f ++ l) ++ z) k.items ∙ ap (λ (l : List Item). l ++ z) (sym (append_assoc f k.front (end_item k.gap k.marker ∷ []))))) k.some
 
     ends_so : (lead : List ℕ) × (items_text w [] ≡ lead ++ k.marker)
@@ -213,7 +213,7 @@ module _ (t new : List ℕ) (kept : Kept) (p : Places) (x : Touched) (h : Follow
     stays begins =
         let lead = ends_so.0 in
         let place : length (items_text w []) - e.marker ≡ length lead = omega (arith, k.long, ap length ends_so.1, length-append lead k.marker) in
-        let behind = items_joined f (w ++ z) nothing_asked [] (subst (λ (l : List Item). AreItems nothing_asked l []) h.touches.new_are (parts_are_items h.new_cut true h.new_is.parts)) in
+        let behind = items_joined f (w ++ z) nothing_asked [] (subst (λ (l : List Item). AreRowItems nothing_asked l []) h.touches.new_are (parts_are_items h.new_cut true h.new_is.parts)) in
         marker_stays (asked_of nothing_asked f) w z lead k.marker behind line ends_so.1 (subst (λ (n : ℕ). begins_line (items_text w []) n ≡ true) place begins) k.some
         (λ u i is. omega (arith, k.within, pieces.last, last_long kept.back f u z i (ap (λ (l : List Item). in_back kept.back (f ++ (l ++ z))) (sym is) ∙ (ap (in_back kept.back) (sym h.touches.new_are) ∙ h.touches.back_same))))
 
@@ -230,13 +230,13 @@ module _ (t new : List ℕ) (kept : Kept) (p : Places) (x : Touched) (h : Follow
     text = part_is;
     read = region w z (stand_in w z refl);
     more = more;
-    unread = λ d is. go x.marked tells d (subst (λ (l : List ℕ). unread_end l x.marked ≡ Some d) part_is is);
+    unread = λ d is. go x.marked reports d (subst (λ (l : List ℕ). unread_end l x.marked ≡ Some d) part_is is);
     small = omega (arith, ap length part_is, new_size, h.new_is.size, limit);
   } where
     limit : text_limit < 2 ^ 32
     limit = omega arith
 
-    go : (o : Option EndPlace) → Tells tch (kept.back - text_length z) o → (d : EndPlace) → unread_end (items_text w []) o ≡ Some d → IsUnread w d
+    go : (o : Option EndPlace) → KeepsMarker tch (kept.back - text_length z) o → (d : EndPlace) → unread_end (items_text w []) o ≡ Some d → IsUnread w d
     go None k d is = absurd cc
     go (Some e) k d is = let u = unread_is (items_text w []) e d is in subst (IsUnread w) u.0 (unread e k u.1)
 
@@ -252,13 +252,13 @@ module _ (t new : List ℕ) (kept : Kept) (p : Places) (x : Touched) (h : Follow
       let touched : j.touched ≡ tch = append_cancel_right j.touched tch z (append_cancel_left f (j.touched ++ z) (tch ++ z) old) in
       let written : j.written ≡ w = append_cancel_right j.written w z (append_cancel_left f (j.written ++ z) (w ++ z) new) in
       let all : read_text kept c d j ≡ without_line (kept_marker (kept.back - text_length z) tch) (items_text w []) = λ i. without_line (kept_marker (kept.back - text_length (back i)) (touched i)) (items_text (written i) []) in
-      all ∙ (go x.marked tells ∙ ap (λ (l : List ℕ). read_part l x.marked) (sym part_is))
+      all ∙ (go x.marked reports ∙ ap (λ (l : List ℕ). read_part l x.marked) (sym part_is))
     where
-      go : (o : Option EndPlace) → Tells tch (kept.back - text_length z) o → without_line (kept_marker (kept.back - text_length z) tch) (items_text w []) ≡ read_part (items_text w []) o
+      go : (o : Option EndPlace) → KeepsMarker tch (kept.back - text_length z) o → without_line (kept_marker (kept.back - text_length z) tch) (items_text w []) ≡ read_part (items_text w []) o
       go None k = ap (λ (n : ℕ). without_line n (items_text w [])) k ∙ without_none (items_text w [])
       go (Some e) k = ap (λ (n : ℕ). without_line n (items_text w [])) (k.kept ∙ sym k.long) ∙ without (items_text w []) e
 
-  pub changes : Change t new kept p x
+  pub changes : TextChange t new kept p x
   unfolding read
   changes = record {
     before = f;

@@ -1,19 +1,19 @@
--- Places of the items of a cut, by what is lent of them, and on both sides of a split.
+-- Places of the items of a cut, by what is borrowed of them, and on both sides of a split.
 use Rattle.std.proofs.Common.{◌≡◌, ℕ, ◌+◌, ◌<◌, ◌≤◌, ◌^◌, List, [], ◌∷◌, ◌++◌, length, map, reverse, refl, sym, ap, ◌∙◌, subst, arith}
 use Rattle.std.proofs.lemmas.List.{reverse-append, reverse-reverse}
 use Rattle.std.proofs.lemmas.List.Elements.{All-cons, All-head, All-nil, All-push, All-tail}
 use Rattle.std.specs.List.{All}
 use Rattle.yq_rows.specs.Grammar.{IsCut}
-use Rattle.yq_rows.specs.Items.{Item, row_item, end_item, items_of, items_text, shown_items}
+use Rattle.yq_rows.specs.Items.{Item, row_item, end_item, items_of, items_text, view_of_items}
 use Rattle.yq_rows.specs.Kept.{ArePlaced, IsPlaced, far, near, ends_near, placed_rows, turned, TextsIn}
 use Rattle.yq_rows.specs.Offsets.{offsets_of}
 use Rattle.yq_rows.specs.Rows.{Cut, print_row}
-use Rattle.yq_rows.specs.View.{Shown, shown, slices}
+use Rattle.yq_rows.specs.View.{RowsView, rows_view, slices}
 use Rattle.yq_rows.specs.declared.offsets.Offsets as declared
 use Rattle.yq_rows.specs.declared.places.Places.{Places}
-use Rattle.yq_rows.proofs.ItemLaws.{items_of_text, items_shown, items_text-append}
+use Rattle.yq_rows.proofs.ItemLaws.{items_of_text, items_view_is, items_text-append}
 use Rattle.yq_rows.proofs.KeptLaws.{far_near, items_apart, near_joined}
-use Rattle.yq_rows.proofs.PlacedLaws.{same_shown}
+use Rattle.yq_rows.proofs.PlacedLaws.{same_view}
 use Rattle.yq_rows.proofs.ScanLaws.{one_cut}
 use Rattle.yq_session.specs.Following.{ArePlacesOf, IsPlacedIn}
 use Rattle.yq_session.specs.Sides.{AreAt, first_byte, text_length}
@@ -32,10 +32,10 @@ placed_at p b z h =
     let begin : text_length b ≡ 0 + text_length b = omega arith in
     record { rows_are = (λ i. front i ++ back i) ∙ (ap (λ (m : ℕ). near 0 b ++ near m z) begin ∙ sym (near_joined 0 b z)); ends_are = h.ends_are; texts = h.texts; small = h.small }
 
-pub places_are : (p : Places) (s : Shown) (xs : List Item) → IsPlaced p s → s ≡ shown_items xs → AreAt p xs
+pub places_are : (p : Places) (s : RowsView) (xs : List Item) → IsPlaced p s → s ≡ view_of_items xs → AreAt p xs
 places_are p s xs h e =
     let all = placed_at p h.before h.behind h.placed in
-    let same = same_shown (h.before ++ h.behind) xs 0 [] (sym h.shown_is ∙ e) in
+    let same = same_view (h.before ++ h.behind) xs 0 [] (sym h.rows_view_is ∙ e) in
     record {
       rows_are = ap (λ (t : List ℕ). placed_rows (length t) p) (sym same.text) ∙ (all.rows_are ∙ same.near);
       ends_are = all.ends_are ∙ same.ends;
@@ -43,8 +43,8 @@ places_are p s xs h e =
       small = subst (λ (t : List ℕ). length t < 2 ^ 32) same.text all.small;
     }
 
-pub cut_places : (p : Places) (c : Cut) → IsPlaced p (shown c) → AreAt p (items_of c)
-cut_places p c h = places_are p (shown c) (items_of c) h (sym (items_shown c))
+pub cut_places : (p : Places) (c : Cut) → IsPlaced p (rows_view c) → AreAt p (items_of c)
+cut_places p c h = places_are p (rows_view c) (items_of c) h (sym (items_view_is c))
 
 pub cut_long : (t : List ℕ) (c : Cut) → IsCut t c → length t ≡ text_length (items_of c)
 cut_long t c h = ap length (h.text ∙ sym (items_of_text c))
@@ -131,10 +131,10 @@ settled p xs h within split =
 -- ---- places of a text
 
 pub placed_in : (t : List ℕ) (p : Places) (c : Cut) → IsCut t c → BothSides p (items_of c) → IsPlacedIn t p
-placed_in t p c cut s = record { cut = c; is_cut = cut; placed = record { before = s.0; behind = s.1; placed = s.3; shown_is = sym (items_shown c) ∙ ap shown_items (sym s.2) } }
+placed_in t p c cut s = record { cut = c; is_cut = cut; placed = record { before = s.0; behind = s.1; placed = s.3; rows_view_is = sym (items_view_is c) ∙ ap view_of_items (sym s.2) } }
 
 pub places_of : (t : List ℕ) (p : Places) → IsPlacedIn t p → ArePlacesOf t p
-places_of t p h c cut = subst (λ (x : Cut). IsPlaced p (shown x)) (one_cut t h.cut c h.is_cut cut) h.placed
+places_of t p h c cut = subst (λ (x : Cut). IsPlaced p (rows_view x)) (one_cut t h.cut c h.is_cut cut) h.placed
 
 -- the same rows and ends of parts, on other sides of the split
 pub still_at : (p q : Places) (xs : List Item) (len : ℕ) → len ≡ text_length xs → placed_rows len q ≡ placed_rows len p → q.ends.items ≡ p.ends.items → AreAt p xs → AreAt q xs
@@ -147,9 +147,9 @@ still_at p q xs len long rows ends h = record {
 
 -- ---- the split of a text
 
-long_by : (t : List ℕ) (c : Cut) (p : Places) → IsCut t c → (h : IsPlaced p (shown c)) → text_length (h.before ++ h.behind) ≡ length t
+long_by : (t : List ℕ) (c : Cut) (p : Places) → IsCut t c → (h : IsPlaced p (rows_view c)) → text_length (h.before ++ h.behind) ≡ length t
 long_by t c p cut h =
-    let same = same_shown (items_of c) (h.before ++ h.behind) 0 [] (items_shown c ∙ h.shown_is) in
+    let same = same_view (items_of c) (h.before ++ h.behind) 0 [] (items_view_is c ∙ h.rows_view_is) in
     sym (cut_long t c cut ∙ ap length same.text)
 
 -- where rows stand before they are moved

@@ -31,9 +31,9 @@ pub record KeepsEnd (touched : List Item) (n : ℕ) (e : EndPlace) : Type 0 wher
   pub kept : kept_marker n touched ≡ length marker
 
 -- what the end of a part tells of the marker that is kept
-abbrev pub Tells : List Item → ℕ → Option EndPlace → Type 0
-Tells touched n None = kept_marker n touched ≡ 0
-Tells touched n (Some e) = KeepsEnd touched n e
+abbrev pub KeepsMarker : List Item → ℕ → Option EndPlace → Type 0
+KeepsMarker touched n None = kept_marker n touched ≡ 0
+KeepsMarker touched n (Some e) = KeepsEnd touched n e
 
 -- the last of items
 abbrev pub HasLast : List Item → Type 0
@@ -89,11 +89,11 @@ pub record Stretch (f touched z : List Item) (es : List EndPlace) (front old : S
   pub last : text_length z ≤ back
   pub within : back ≤ len
 
-told_none : (f touched z : List Item) (es : List EndPlace) (front old : Side) (len back : ℕ) → Stretch f touched z es front old len back → touched ≡ [] → Tells touched (back - text_length z) (marked_end es front old (len - back))
-told_none f touched z es front old len back h none =
+agrees_none : (f touched z : List Item) (es : List EndPlace) (front old : Side) (len back : ℕ) → Stretch f touched z es front old len back → touched ≡ [] → KeepsMarker touched (back - text_length z) (marked_end es front old (len - back))
+agrees_none f touched z es front old len back h none =
     let n : ℕ = back - text_length z in
     let same : old.ends ≡ front.ends = ap (λ (s : Side). s.ends) (h.old_is ∙ (ap (λ (l : List Item). side_of (f ++ l)) none ∙ (ap side_of (append-nil f) ∙ sym h.front_is))) in
-    subst (Tells touched n) (sym (none_chosen es front old (len - back) (omega (arith, same)))) (kept_none n touched (ap last_marker none))
+    subst (KeepsMarker touched n) (sym (none_chosen es front old (len - back) (omega (arith, same)))) (kept_none n touched (ap last_marker none))
 
 -- the last touched item is a row
 row_there : (g : List Item) (r : Row) (rest es : List EndPlace) (i : ℕ) (e : EndPlace) → es ≡ ends_near 0 0 (g ++ (row_item r ∷ [])) ++ rest → i < length (ends_near 0 0 g) → slice_get es i ≡ Some e → e.rows ≤ length (near 0 g)
@@ -103,10 +103,10 @@ row_there g r rest es i e ends less is =
     let bound = All-get_or (λ (x : EndPlace). x.rows ≤ length (near 0 g)) (ends_near 0 0 g) i e less (ends_rows 0 0 (length (near 0 g)) g (omega arith)) in
     subst (λ (x : EndPlace). x.rows ≤ length (near 0 g)) (sym at) bound
 
-told_row : (f touched z : List Item) (es : List EndPlace) (front old : Side) (len back : ℕ) (u : List Item) (r : Row) → Stretch f touched z es front old len back → touched ≡ u ++ (row_item r ∷ []) → Tells touched (back - text_length z) (marked_end es front old (len - back))
-told_row f touched z es front old len back u r h is = ⊎_elim {0, 0, 0}
-    (λ (low : front.ends < old.ends). subst (Tells touched n) (sym (chosen es front old (len - back) (slice_get es (old.ends - 1)) low refl)) (go low (slice_get es (old.ends - 1)) refl))
-    (λ (high : old.ends ≤ front.ends). subst (Tells touched n) (sym (none_chosen es front old (len - back) high)) zero)
+agrees_row : (f touched z : List Item) (es : List EndPlace) (front old : Side) (len back : ℕ) (u : List Item) (r : Row) → Stretch f touched z es front old len back → touched ≡ u ++ (row_item r ∷ []) → KeepsMarker touched (back - text_length z) (marked_end es front old (len - back))
+agrees_row f touched z es front old len back u r h is = ⊎_elim {0, 0, 0}
+    (λ (low : front.ends < old.ends). subst (KeepsMarker touched n) (sym (chosen es front old (len - back) (slice_get es (old.ends - 1)) low refl)) (go low (slice_get es (old.ends - 1)) refl))
+    (λ (high : old.ends ≤ front.ends). subst (KeepsMarker touched n) (sym (none_chosen es front old (len - back) high)) zero)
     (cases_lt front.ends old.ends)
   where
     n : ℕ
@@ -127,16 +127,16 @@ told_row f touched z es front old len back u r h is = ⊎_elim {0, 0, 0}
     ends : old.ends ≡ length (ends_near 0 0 g)
     ends = ap (λ (s : Side). s.ends) h.old_is ∙ (ap (λ (l : List Item). length (ends_near 0 0 l)) all ∙ ap length (ends_row g r))
 
-    go : front.ends < old.ends → (o : Option EndPlace) → slice_get es (old.ends - 1) ≡ o → Tells touched n (o >>= test old (len - back))
+    go : front.ends < old.ends → (o : Option EndPlace) → slice_get es (old.ends - 1) ≡ o → KeepsMarker touched n (o >>= test old (len - back))
     go low None at = zero
     go low (Some e) at =
         let few = row_there g r h.rest es (old.ends - 1) e (h.ends ∙ ap (λ (l : List Item). ends_near 0 0 l ++ h.rest) all) (omega (arith, ends, low)) at in
         rw (refused e old.rows (len - back) (λ same. omega (arith, same, few, rows))) zero
 
 -- the last touched item is the end of a part
-told_end : (f touched z : List Item) (es : List EndPlace) (front old : Side) (len back : ℕ) (u : List Item) (gap marker : List ℕ) → Stretch f touched z es front old len back → touched ≡ ended u gap marker → Tells touched (back - text_length z) (marked_end es front old (len - back))
-told_end f touched z es front old len back u gap marker h is =
-    subst (Tells touched n) (sym (chosen es front old at (Some e) low there)) (go (keeps_marker e old.rows at) refl)
+agrees_end : (f touched z : List Item) (es : List EndPlace) (front old : Side) (len back : ℕ) (u : List Item) (gap marker : List ℕ) → Stretch f touched z es front old len back → touched ≡ ended u gap marker → KeepsMarker touched (back - text_length z) (marked_end es front old (len - back))
+agrees_end f touched z es front old len back u gap marker h is =
+    subst (KeepsMarker touched n) (sym (chosen es front old at (Some e) low there)) (go (keeps_marker e old.rows at) refl)
   where
     n : ℕ
     n = back - text_length z
@@ -174,7 +174,7 @@ told_end f touched z es front old len back u gap marker h is =
     size : len ≡ ((text_length g + length gap) + length marker) + text_length z
     size = h.long ∙ omega (arith, ap text_length all, joined_long g (end_item gap marker ∷ []), first_long (end_item gap marker) [], length-append gap marker)
 
-    go : (b : Bool) → keeps_marker e old.rows at ≡ b → Tells touched n (if b then Some e else None)
+    go : (b : Bool) → keeps_marker e old.rows at ≡ b → KeepsMarker touched n (if b then Some e else None)
     go true t =
         let a = and_parts (eqb e.rows old.rows && ltb 0 e.marker) (leb at (e.start + e.gap)) t in
         let some : 0 < length marker = ltb-true 0 (length marker) (and_parts (eqb e.rows old.rows) (ltb 0 e.marker) a.0).1 in
@@ -189,12 +189,12 @@ told_end f touched z es front old len back u gap marker h is =
         both : 0 < length marker → length marker ≤ n → ⊥
         both some within = false≢true (sym t ∙ and_from (eqb e.rows old.rows && ltb 0 e.marker) (leb at (e.start + e.gap)) (and_from (eqb e.rows old.rows) (ltb 0 e.marker) (eq-eqb e.rows old.rows (sym rows)) (lt-ltb 0 (length marker) some)) (le-leb at (text_length g + length gap) (omega (arith, within, some, size, h.last, h.within))))
 
-pub told : (f touched z : List Item) (es : List EndPlace) (front old : Side) (len back : ℕ) → Stretch f touched z es front old len back → Tells touched (back - text_length z) (marked_end es front old (len - back))
-told f touched z es front old len back h = ⊎_elim {0, 0, 0}
-    (λ (e : touched ≡ []). told_none f touched z es front old len back h e)
+pub agrees : (f touched z : List Item) (es : List EndPlace) (front old : Side) (len back : ℕ) → Stretch f touched z es front old len back → KeepsMarker touched (back - text_length z) (marked_end es front old (len - back))
+agrees f touched z es front old len back h = ⊎_elim {0, 0, 0}
+    (λ (e : touched ≡ []). agrees_none f touched z es front old len back h e)
     (λ (l : (u : List Item) × (i : Item) × (touched ≡ u ++ (i ∷ []))). by_last l.0 l.1 l.2)
     (last_of touched)
   where
-    by_last : (u : List Item) (i : Item) → touched ≡ u ++ (i ∷ []) → Tells touched (back - text_length z) (marked_end es front old (len - back))
-    by_last u (row_item r) is = told_row f touched z es front old len back u r h is
-    by_last u (end_item gap marker) is = told_end f touched z es front old len back u gap marker h is
+    by_last : (u : List Item) (i : Item) → touched ≡ u ++ (i ∷ []) → KeepsMarker touched (back - text_length z) (marked_end es front old (len - back))
+    by_last u (row_item r) is = agrees_row f touched z es front old len back u r h is
+    by_last u (end_item gap marker) is = agrees_end f touched z es front old len back u gap marker h is

@@ -6,7 +6,7 @@ use Rattle.yq_scalar.specs.Text.{front, is_feed, is_marker}
 use Rattle.yq_inline.specs.Alike.{fresh}
 use Rattle.yq_rows.specs.Gap.{IsGap}
 use Rattle.yq_rows.specs.Grammar.{IsMarkerLine, IsRow, Limit}
-use Rattle.yq_rows.specs.Items.{Item, row_item, end_item, items_text, Asked, asked_of, AreItems, IsPartEnd, nothing_asked}
+use Rattle.yq_rows.specs.Items.{Item, row_item, end_item, items_text, Asked, asked_of, AreRowItems, IsPartEnd, nothing_asked}
 use Rattle.yq_rows.specs.Meter.{begins_line}
 use Rattle.yq_rows.specs.Regions.{ended}
 use Rattle.yq_rows.specs.Rows.{Row, print_row}
@@ -19,10 +19,10 @@ use Rattle.yq_session.proofs.MarkedLaws.{last_of}
 use Rattle.yq_session.proofs.RowLines.{gap_lines, marker_lines, row_lines}
 
 -- the marker of an end among items
-pub marker_there : (xs u z : List Item) (gap marker : List ℕ) → AreItems nothing_asked xs [] → xs ≡ ended u gap marker ++ z → 0 < length marker → IsMarkerLine marker (items_text z [])
+pub marker_there : (xs u z : List Item) (gap marker : List ℕ) → AreRowItems nothing_asked xs [] → xs ≡ ended u gap marker ++ z → 0 < length marker → IsMarkerLine marker (items_text z [])
 marker_there xs u z gap marker h is some =
     let group : ended u gap marker ++ z ≡ u ++ (end_item gap marker ∷ z) = append_assoc u (end_item gap marker ∷ []) z in
-    let all : AreItems nothing_asked (u ++ (end_item gap marker ∷ z)) [] = subst (λ (l : List Item). AreItems nothing_asked l []) (is ∙ group) h in
+    let all : AreRowItems nothing_asked (u ++ (end_item gap marker ∷ z)) [] = subst (λ (l : List Item). AreRowItems nothing_asked l []) (is ∙ group) h in
     ⊎_elim {0, 0, 0}
     (λ (line : IsMarkerLine marker (items_text z [])). line)
     (λ none. absurd (omega (arith, some, ap length none.0)))
@@ -110,7 +110,7 @@ end_ends u z gap own q marker h end line is e some = ⊎_elim {0, 0, 0}
         (λ none. omega (arith, long, ap length c.1, length-append c.0 marker, ap length none.0))
         end
 
-pub marker_stays : (asked : Asked) (w z : List Item) (lead marker : List ℕ) → AreItems asked (w ++ z) [] → IsMarkerLine marker (items_text z []) → items_text w [] ≡ lead ++ marker → begins_line (items_text w []) (length lead) ≡ true → 0 < length marker →
+pub marker_stays : (asked : Asked) (w z : List Item) (lead marker : List ℕ) → AreRowItems asked (w ++ z) [] → IsMarkerLine marker (items_text z []) → items_text w [] ≡ lead ++ marker → begins_line (items_text w []) (length lead) ≡ true → 0 < length marker →
     ((u : List Item) (i : Item) → w ≡ u ++ (i ∷ []) → length marker ≤ length (item_text i)) → (front : List Item) × (gap : List ℕ) × (w ≡ ended front gap marker)
 marker_stays asked w z lead marker h line text begins some last = ⊎_elim {0, 0, 0}
     (λ (e : w ≡ []). absurd (omega (arith, some, ap length (sym (ap (λ (l : List Item). items_text l []) e) ∙ text), length-append lead marker)))
@@ -130,8 +130,8 @@ marker_stays asked w z lead marker h line text begins some last = ⊎_elim {0, 0
     fresh_last : (u : List Item) (i : Item) → (c : Cuts (items_text u []) (item_text i) lead marker) → fresh true c.0 ≡ true
     fresh_last u i c = fresh_any (fresh true (items_text u [])) c.0 (sym (fresh_joined true (items_text u []) c.0) ∙ (ap (fresh true) (sym c.2) ∙ fresh_lead))
 
-    behind : (u : List Item) (i : Item) → w ≡ u ++ (i ∷ []) → AreItems (asked_of asked u) (i ∷ z) []
-    behind u i is = items_joined u (i ∷ z) asked [] (subst (λ (l : List Item). AreItems asked l []) (ap (λ (l : List Item). l ++ z) is ∙ append_assoc u (i ∷ []) z) h)
+    behind : (u : List Item) (i : Item) → w ≡ u ++ (i ∷ []) → AreRowItems (asked_of asked u) (i ∷ z) []
+    behind u i is = items_joined u (i ∷ z) asked [] (subst (λ (l : List Item). AreRowItems asked l []) (ap (λ (l : List Item). l ++ z) is ∙ append_assoc u (i ∷ []) z) h)
 
     by_last : (u : List Item) (i : Item) → w ≡ u ++ (i ∷ []) → (front : List Item) × (gap : List ℕ) × (w ≡ ended front gap marker)
     by_last u (row_item r) is =

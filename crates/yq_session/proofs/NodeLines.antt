@@ -6,9 +6,9 @@ use Rattle.yq_scalar.specs.Quoted.{Lines, IsQuoted, spell_lines}
 use Rattle.yq_scalar.specs.Text.{is_feed, is_marker, is_space, is_white, no_white, unless, NoneIn}
 use Rattle.yq_inline.specs.declared.gap.Before.{Before}
 use Rattle.yq_inline.specs.declared.gap.Before.TheVariants.{Token, White, Break, Comment}
-use Rattle.yq_inline.specs.Gaps.{goes, next, behind, is_break, is_comment, AllGo, IsGap}
-use Rattle.yq_inline.specs.Nodes.{Node, empty, alias, scalar, coll, anchored, Items, none, item, Key, bare, keyed, Sep, last, comma, key_text, sep_text, node_text, items_text, open_of, is_close, in_name, begins_node, begins_content, IsApart, IsLead, IsKey, IsSep, IsNode, AreItems}
-use Rattle.yq_inline.specs.Scalars.{IsScalar}
+use Rattle.yq_inline.specs.Gaps.{goes, next, behind, is_break, is_comment, AllGo, IsInlineGap}
+use Rattle.yq_inline.specs.Nodes.{Node, empty, alias, scalar, coll, anchored, Items, none, item, Key, bare, keyed, Sep, last, comma, key_text, sep_text, node_text, items_text, open_of, is_close, in_name, begins_node, begins_content, IsApart, IsLead, IsInlineKey, IsSep, IsNode, AreItems}
+use Rattle.yq_inline.specs.Scalars.{IsScalarAt}
 use Rattle.yq_session.proofs.LineLaws.{NoFeed, Upto, no_marker_byte, plain_lines, quoted_lines, space_no_marker, upto_byte, upto_line, upto_more, upto_piece}
 
 -- a byte is one of two
@@ -17,7 +17,7 @@ two_bytes b m n x y h = ⊎_elim {0, 0, 0} (λ (e : eqb b m ≡ true). ap is_fee
 
 -- ---- scalars, names and gaps
 
-pub scalar_lines : (flow : Bool) (spaces : Option ℕ) (p t rest : List ℕ) → IsScalar flow spaces p t → Upto false t rest → Upto false (p ++ t) rest
+pub scalar_lines : (flow : Bool) (spaces : Option ℕ) (p t rest : List ℕ) → IsScalarAt flow spaces p t → Upto false t rest → Upto false (p ++ t) rest
 scalar_lines flow spaces p t rest h k = ⊎_elim {0, 0, 0}
     (λ (a : IsPlain flow spaces p t). plain_lines flow spaces p t rest a.inside k)
     (λ a. in_quotes a.0.0 a.0.1.0 a.0.1.1)
@@ -78,7 +78,7 @@ gap_goes : (s : Before) (p t rest : List ℕ) → AllGo s p t → (is_break (beh
 gap_goes s [] t rest h u k = gap_ends s t rest u k
 gap_goes s (b ∷ p) t rest h u k = upto_more (is_break s) b (p ++ t) rest (goes_no_marker s b (p ++ t) h.0) (subst (λ (x : Bool). Upto x (p ++ t) rest) (next_break s b) (gap_goes (next s b) p t rest h.1 u k))
 
-gap_lines : (p t rest : List ℕ) → IsGap p t → Upto false t rest → Upto false (p ++ t) rest
+gap_lines : (p t rest : List ℕ) → IsInlineGap p t → Upto false t rest → Upto false (p ++ t) rest
 gap_lines p t rest h k = gap_goes Token p t rest h.inside h.unmarked k
 
 apart_lines : (flow : Bool) (p t rest : List ℕ) → IsApart flow p t → Upto false t rest → Upto false (p ++ t) rest
@@ -99,7 +99,7 @@ open_byte k = go (eqb k 125) where
   go true = refl
   go false = refl
 
-key_lines : (k : ℕ) (key : Key) (t rest : List ℕ) → IsKey k key t → Upto false t rest → Upto false (key_text key t) rest
+key_lines : (k : ℕ) (key : Key) (t rest : List ℕ) → IsInlineKey k key t → Upto false t rest → Upto false (key_text key t) rest
 key_lines k bare t rest h u = u
 key_lines k (keyed text b g) t rest h u =
     scalar_lines true _ text (b ++ (58 ∷ (g ++ t))) rest h.1 (gap_lines b (58 ∷ (g ++ t)) rest h.2 (upto_byte 58 (g ++ t) rest refl (lead_lines true (begins_node true) g t rest h.4 u)))

@@ -5,17 +5,17 @@ use Rattle.std.proofs.lemmas.Option.{same_Some}
 use Rattle.std.proofs.lemmas.List.{drop_all, drop_more, set_split, take_at}
 use Rattle.std.proofs.lemmas.Str.{IsCharBoundary-at_seam}
 use Rattle.std.specs.Str.{IsCharBoundary}
-use Rattle.yq_scalar.specs.Answers.{Fails}
+use Rattle.yq_scalar.specs.Answers.{ReadFails}
 use Rattle.yq_scalar.specs.declared.fault.ReadError.{ReadError}
 use Rattle.yq_scalar.specs.declared.fault.ReadError.TheVariants as reading
 use Rattle.yq_scalar.specs.declared.fault.ReadFault.{ReadFault}
 use Rattle.yq_rows.specs.Ends.{end_at}
-use Rattle.yq_rows.specs.Items.{Item, end_item, items_of, items_text, rows_items, shown_items}
+use Rattle.yq_rows.specs.Items.{Item, end_item, items_of, items_text, rows_items, view_of_items}
 use Rattle.yq_rows.specs.Kept.{IsPlaced, near, ends_near, TextsIn}
 use Rattle.yq_rows.specs.Meter.{begins_line}
 use Rattle.yq_rows.specs.Regions.{IsReadAlone, alone, ended, no_items}
 use Rattle.yq_rows.specs.Rows.{Row, Cut, last, marked, print_row}
-use Rattle.yq_rows.specs.View.{Shown}
+use Rattle.yq_rows.specs.View.{RowsView}
 use Rattle.yq_rows.specs.declared.ends.EndPlace.{EndPlace}
 use Rattle.yq_rows.specs.declared.places.Places.{Places}
 use Rattle.yq_rows.proofs.KeptLaws.{texts_joined}
@@ -133,7 +133,7 @@ part_short region None = omega arith
 part_short region (Some e) = omega (arith, length-take (length region - e.marker) region)
 
 -- the places that come of it
-pub comes : (region text : List ℕ) (x : Touched) (u : Option EndPlace) (p : Places) (s : Shown) (ends : List EndPlace) (come : Come) (h : IsRead region x) → (k : Parted text h.written u x.more) → IsPlaced p s → s ≡ shown_items (alone k.items k.back) →
+pub comes : (region text : List ℕ) (x : Touched) (u : Option EndPlace) (p : Places) (s : RowsView) (ends : List EndPlace) (come : Come) (h : IsRead region x) → (k : Parted text h.written u x.more) → IsPlaced p s → s ≡ view_of_items (alone k.items k.back) →
     ends ≡ settled p.ends.items u x.more → come.places.front.items ≡ p.front.items → come.places.behind.items ≡ p.behind.items → come.places.ends.items ≡ ends → come.read ≡ length text → come.len ≡ length region → text ≡ without_marker region u → ArePlacesRead h.written come
 comes region text x u p s ends come h k placed shows ends_are front behind own read long part =
     let at = places_are p s (alone k.items k.back) placed shows in
@@ -147,7 +147,7 @@ comes region text x u p s ends come h k placed shows ends_are front behind own r
     }
 
 -- how many ends were read
-pub ends_read : (region text : List ℕ) (x : Touched) (u : Option EndPlace) (p : Places) (s : Shown) (h : IsRead region x) → (k : Parted text h.written u x.more) → IsPlaced p s → s ≡ shown_items (alone k.items k.back) → 1 ≤ length p.ends.items
+pub ends_read : (region text : List ℕ) (x : Touched) (u : Option EndPlace) (p : Places) (s : RowsView) (h : IsRead region x) → (k : Parted text h.written u x.more) → IsPlaced p s → s ≡ view_of_items (alone k.items k.back) → 1 ≤ length p.ends.items
 ends_read region text x u p s h k placed shows = subst (λ (l : List EndPlace). 1 ≤ length l) (sym (places_are p s (alone k.items k.back) placed shows).ends_are) k.some
 
 -- where the line of a marker begins that isn't read
@@ -160,8 +160,8 @@ part_edge region x h (Some e) is =
     subst (IsCharBoundary region) (let n : length a ≡ length region - e.marker = omega (arith, ap length all, length-append a k.marker, k.long) in n) (IsCharBoundary-at_seam region a k.marker all k.text)
 
 -- what is read alone has no fault
-pub no_fault : {Y : Type 0} (e : ReadError) (f : ReadFault) (y : Y) → e ≡ reading.Fault f → Fails e (Some y) → ⊥
-no_fault {Y} e f y is h = let none : Some y ≡ None = subst (λ (x : ReadError). Fails x (Some y)) is h in absurd cc
+pub no_fault : {Y : Type 0} (e : ReadError) (f : ReadFault) (y : Y) → e ≡ reading.Fault f → ReadFails e (Some y) → ⊥
+no_fault {Y} e f y is h = let none : Some y ≡ None = subst (λ (x : ReadError). ReadFails x (Some y)) is h in absurd cc
 
 -- what a text is read without
 pub without : (w : List ℕ) (e : EndPlace) → without_line e.marker w ≡ read_part w (Some e)

@@ -41,7 +41,7 @@ break_lines p t rest h k = ⊎_elim {0, 0, 0}
 
 pub end_lines : (white comment p t rest : List ℕ) → IsLineEnd white comment p t → Upto true t rest → Upto false (p ++ t) rest
 end_lines white comment p t rest h k =
-    let own = upto_piece white (comment ++ (h.break ++ t)) rest (white_all white h.blank) (upto_piece comment (h.break ++ t) rest (comment_all comment h.break h.remark) (break_lines h.break t rest h.ends k)) in
+    let own = upto_piece white (comment ++ (h.break ++ t)) rest (white_all white h.blank) (upto_piece comment (h.break ++ t) rest (comment_all comment h.break h.as_comment) (break_lines h.break t rest h.ends k)) in
     subst (λ (l : List ℕ). Upto false l rest) (ap (λ l. white ++ l) (sym (append_assoc comment h.break t)) ∙ (sym (append_assoc white (comment ++ h.break) t) ∙ ap (λ l. l ++ t) (sym h.spelled))) own
 
 pub tail_lines : (tail rest : List ℕ) → IsTail tail rest → Upto false (tail ++ rest) rest
@@ -51,7 +51,7 @@ tail_lines tail rest h = end_lines h.white h.comment tail rest rest h.line (upto
 
 end_no_marker : (white comment p t : List ℕ) → IsLineEnd white comment p t → is_empty p ≡ false → is_marker (p ++ t) ≡ false
 end_no_marker (b ∷ white) comment p t h some = subst (λ (l : List ℕ). is_marker (l ++ t) ≡ false) (sym h.spelled) (space_no_marker b _ (rw h.blank.0 refl))
-end_no_marker [] (b ∷ comment) p t h some = subst (λ (l : List ℕ). is_marker (l ++ t) ≡ false) (sym h.spelled) (no_marker_byte b _ (ap (λ (n : ℕ). eqb n 45) h.remark.0) (ap (λ (n : ℕ). eqb n 46) h.remark.0))
+end_no_marker [] (b ∷ comment) p t h some = subst (λ (l : List ℕ). is_marker (l ++ t) ≡ false) (sym h.spelled) (no_marker_byte b _ (ap (λ (n : ℕ). eqb n 45) h.as_comment.0) (ap (λ (n : ℕ). eqb n 46) h.as_comment.0))
 end_no_marker [] [] p t h some = ⊎_elim {0, 0, 0} (λ a. go p h.break h.spelled a) (λ a. absurd (false≢true (sym some ∙ ap is_empty (h.spelled ∙ a.0)))) h.ends where
   space : (b : ℕ) (q : List ℕ) → is_break (b ∷ q) ≡ true → is_space (b ∷ (q ++ t)) ≡ true
   space b q e = ⊎_elim {0, 0, 0}

@@ -38,7 +38,7 @@ pub record GivesWay (p : Places) (x : Touched) (come : Come) : Type 0 where
   pub small : text_length (before ++ (written ++ behind)) < 2 ^ 32
 
 -- The items that a change of a text touches, between the others, and the region that is read in their place (own).
-pub record Change (t new : List ℕ) (kept : Kept) (p : Places) (x : Touched) : Type 0 where
+pub record TextChange (t new : List ℕ) (kept : Kept) (p : Places) (x : Touched) : Type 0 where
   pub before : List Item
   pub touched : List Item
   pub read : IsRead (region_text t x kept new) x
@@ -62,5 +62,5 @@ abbrev pub joined_ends : Side → Side → Side → List EndPlace → List EndPl
 joined_ends front old new ends found = take front.ends ends ++ (map (moved_from origin front) found ++ map (moved_from old new) (drop old.ends ends))
 
 -- rows and ends of parts are kept where they stand once those that were read have the place of the touched ones (own)
-abbrev pub Exchanged : Places → Touched → Come → Places → Type 0
-Exchanged p x come new = (h : GivesWay p x come) → ArePlaced new (h.before ++ h.written) h.behind
+abbrev pub RowsExchanged : Places → Touched → Come → Places → Type 0
+RowsExchanged p x come new = (h : GivesWay p x come) → ArePlaced new (h.before ++ h.written) h.behind

@@ -8,7 +8,7 @@ use Rattle.yq_rows.specs.Meter.{begins_line, counted, line_count}
 use Rattle.yq_rows.specs.Regions.{no_items}
 use Rattle.yq_rows.specs.Rows.{Cut}
 use Rattle.yq_rows.specs.Touched.{TouchesOnly, in_back}
-use Rattle.yq_rows.specs.View.{shown}
+use Rattle.yq_rows.specs.View.{rows_view}
 use Rattle.yq_rows.specs.declared.places.Places.{Places}
 use Rattle.yq_session.specs.declared.kept.Kept.{Kept}
 
@@ -18,13 +18,13 @@ exchanged kept t new = take kept.front t ++ (new ++ drop (length t - kept.back) 
 
 -- these are the places of the rows of a text and of the ends of its parts (own)
 abbrev pub ArePlacesOf : List ℕ → Places → Type 0
-ArePlacesOf t p = (c : Cut) → IsCut t c → IsPlaced p (shown c)
+ArePlacesOf t p = (c : Cut) → IsCut t c → IsPlaced p (rows_view c)
 
 -- A text has a cut, and these are the places of its rows and of the ends of its parts (own).
 pub record IsPlacedIn (t : List ℕ) (p : Places) : Type 0 where
   pub cut : Cut
   pub is_cut : IsCut t cut
-  pub placed : IsPlaced p (shown cut)
+  pub placed : IsPlaced p (rows_view cut)
 
 -- Places of a text, how many of its bytes are kept in front and behind, and those that come in the place of the others: only rows and ends of parts that
 -- lie neither in front of the first of these nor behind the last ones are exchanged (own).
@@ -32,7 +32,7 @@ pub record Follows (t : List ℕ) (places : Places) (kept : Kept) (new : List �
   pub old_cut : Cut
   pub new_cut : Cut
   pub old_is : IsCut t old_cut
-  pub placed : IsPlaced places (shown old_cut)
+  pub placed : IsPlaced places (rows_view old_cut)
   pub new_is : IsCut (exchanged kept t new) new_cut
   pub touches : TouchesOnly kept.front kept.back old_cut new_cut
   pub within : kept.front + kept.back ≤ length t

@@ -3,7 +3,7 @@ ghost use Rattle.std.specs.Prelude.{◌≡◌, ◌<◌, ◌≤◌, ◌+◌, ◌^
 ghost use Rattle.std.specs.List.{All};
 ghost use Rattle.std.specs.Vec.{vec_capacity, vec_len};
 ghost use Rattle.yq_rows.specs.Kept.{kept_rows, placed_rows, raised};
-ghost use Rattle.yq_session.specs.Exchanging.{Exchanged, GivesWay, IsMovable, SamePlaces, joined_ends, moved_from};
+ghost use Rattle.yq_session.specs.Exchanging.{RowsExchanged, GivesWay, IsMovable, SamePlaces, joined_ends, moved_from};
 ghost use Rattle.yq_session.specs.Sides.{origin};
 
 use crate::reading::Come;
@@ -114,7 +114,7 @@ pub(crate) fn exchange(
     come: &Come,
 ) -> Result<(), AllocError>
     requires { GivesWay places.old touched come.now }
-    ensures ok { OnOk result (Exchanged places.old touched come.now places.new) }
+    ensures ok { OnOk result (RowsExchanged places.old touched come.now places.new) }
     ensures err { OnErr result (SamePlaces places.old places.new) }
 {
     let Touched { front, old, .. } = touched;

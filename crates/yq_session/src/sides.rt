@@ -1,7 +1,7 @@
 //! What stands in front of what a change touches, and in front of what stands behind that.
 ghost use Rattle.std.specs.Prelude.{◌≡◌, ◌<◌, ◌≤◌, ◌^◌, ◌||◌, List, ℕ, length, nat_lt, reverse};
 ghost use Rattle.yq_rows.specs.Kept.{kept_rows};
-ghost use Rattle.yq_session.specs.Exchanging.{Change};
+ghost use Rattle.yq_session.specs.Exchanging.{TextChange};
 ghost use Rattle.yq_session.specs.Following.{Follows};
 ghost use Rattle.yq_session.specs.Sides as spec;
 
@@ -152,7 +152,7 @@ pub(crate) fn find_touched(places: &Places, len: usize, kept: Kept) -> Touched
     requires within { kept.back ≤ len }
     requires split { spec.IsSplitAt kept.front len places.now }
     ensures { (t new : List ℕ) → len ≡ length t → (h : Follows t places.now kept new) →
-        Change t new kept places.now result }
+        TextChange t new kept places.now result }
 {
     let front = side_before(places, kept.front);
     let old = side_behind(places, len, kept.back);

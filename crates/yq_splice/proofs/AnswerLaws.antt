@@ -8,7 +8,7 @@ use Rattle.yq_program.specs.Program.{Program, Update, read, updates, update_at, 
 use Rattle.yq_script.specs.Splice.{Splice}
 use Rattle.yq_script.specs.declared.edited.Edited.{Edited}
 use Rattle.yq_script.proofs.PlaceInList.{get_some, split_at, take_next}
-use Rattle.yq_splice.specs.Answers.{Edits, Fails}
+use Rattle.yq_splice.specs.Answers.{Edits, EditFails}
 use Rattle.yq_splice.specs.Carried.{updated, program_done, edit_of}
 use Rattle.yq_splice.specs.Edit.{unreadable, gives, and_then, by_reading, in_order}
 use Rattle.yq_splice.specs.Theorems.{AreSplices, EditRefused, HasReading, InOrder, IsEdited, IsUpdated, UpdateRefused}
@@ -59,7 +59,7 @@ step_fails p us n t m cs e is below h fails =
     let here : FailsAt e u m = fails u (ap (update_at n) is ∙ x.1) in
     let all : us ≡ take n us ++ u ∷ drop (suc n) us = split_at us n u x.1 in
     record {
-      fails = subst (λ l. Fails e (in_order updated l t)) (sym all) (leads_fail updated IsStep (λ v a b ds k. k.exact) (take n us) u (drop (suc n) us) t m cs e h here.fails);
+      fails = subst (λ l. EditFails e (in_order updated l t)) (sym all) (leads_fail updated IsStep (λ v a b ds k. k.exact) (take n us) u (drop (suc n) us) t m cs e h here.fails);
       why = subst (λ l. EditRefused e (updates l) t) (sym all) (fails_on e (take n us) u (drop (suc n) us) t m cs (are_updates (take n us) t m cs h) here.why);
     }
 
@@ -95,7 +95,7 @@ each_exact (Ok e) p t some ok err =
     ∙ (program_edit x.0 t x.2 ∙ leads_give updated IsStep (λ v a b ds k. k.exact) x.0 t (string_bytes e.text) e.splices.items (ok x.0 x.1))
 each_exact (Err e) p t some ok err =
     let x = has_updates p some in
-    subst (Fails e) (sym (ap (λ q. by_reading (λ c. program_done q t) (read_at t)) x.1 ∙ program_edit x.0 t x.2)) (err x.0 x.1).fails
+    subst (EditFails e) (sym (ap (λ q. by_reading (λ c. program_done q t) (read_at t)) x.1 ∙ program_edit x.0 t x.2)) (err x.0 x.1).fails
 
 pub each_edited : (r : Result Edited EditError) (p : Program) (t : List ℕ) → 0 < update_count p →
     IfOk r (λ e. (us : List Update) → p ≡ updates us → InOrder IsStep us t (string_bytes e.text) e.splices.items) → IfOk r (λ e. IsEdited p t (string_bytes e.text) e.splices.items)
@@ -122,10 +122,10 @@ none_done (updates []) t h none = refl
 none_done (updates (u ∷ us)) t h none = absurd (omega (arith, none))
 
 -- what is known where one is carried out
-none_given : (p : Program) (t new : List ℕ) (cs : List Splice) → update_count p ≡ 0 → program_done p t ≡ gives new cs → IsEdited p t new cs
-none_given (read stages) t new cs none h = absurd (cc)
-none_given (updates []) t new cs none h = record { all = []; program = refl; leads = (cc, cc) }
-none_given (updates (u ∷ us)) t new cs none h = absurd (omega (arith, none))
+updates_none : (p : Program) (t new : List ℕ) (cs : List Splice) → update_count p ≡ 0 → program_done p t ≡ gives new cs → IsEdited p t new cs
+updates_none (read stages) t new cs none h = absurd (cc)
+updates_none (updates []) t new cs none h = record { all = []; program = refl; leads = (cc, cc) }
+updates_none (updates (u ∷ us)) t new cs none h = absurd (omega (arith, none))
 
 pub none_edited : (r : Result Edited EditError) (p : Program) (t : List ℕ) → update_count p ≡ 0 → Edits r (edit_of p t) → IfOk r (λ e. IsEdited p t (string_bytes e.text) e.splices.items)
 none_edited (Err e) p t none h = tt
@@ -133,10 +133,10 @@ none_edited (Ok e) p t none h = go (read_at t) refl
   where
     go : (o : Option Cut) → read_at t ≡ o → IsEdited p t (string_bytes e.text) e.splices.items
     go None is = absurd (let f = sym (none_edit p t None is) ∙ h in cc)
-    go (Some c) is = none_given p t (string_bytes e.text) e.splices.items none (sym (none_edit p t (Some c) is) ∙ h)
+    go (Some c) is = updates_none p t (string_bytes e.text) e.splices.items none (sym (none_edit p t (Some c) is) ∙ h)
 
 -- and where one is refused, on a text that reads
-none_refused_so : (p : Program) (t : List ℕ) (e : EditError) → update_count p ≡ 0 → HasReading t → Fails e (program_done p t) → EditRefused e p t
+none_refused_so : (p : Program) (t : List ℕ) (e : EditError) → update_count p ≡ 0 → HasReading t → EditFails e (program_done p t) → EditRefused e p t
 none_refused_so p t error.Memory none reads h = tt
 none_refused_so (read stages) t (error.Read fault) none reads h = absurd (let f = h.0 in cc)
 none_refused_so (read stages) t (error.Refused why) none reads h = (cc, reads)
@@ -146,7 +146,7 @@ none_refused_so (updates (u ∷ us)) t (error.Read fault) none reads h = absurd 
 none_refused_so (updates (u ∷ us)) t (error.Refused why) none reads h = absurd (omega (arith, none))
 
 -- and on one that doesn't
-unread_refused : (p : Program) (t : List ℕ) (e : EditError) → read_at t ≡ None → Fails e unreadable → EditRefused e p t
+unread_refused : (p : Program) (t : List ℕ) (e : EditError) → read_at t ≡ None → EditFails e unreadable → EditRefused e p t
 unread_refused p t (error.Read fault) is h = no_reading t is
 unread_refused p t (error.Refused why) is h = absurd (cc)
 unread_refused p t error.Memory is h = tt
@@ -156,5 +156,5 @@ none_refused (Ok e) p t none h = tt
 none_refused (Err e) p t none h = go (read_at t) refl
   where
     go : (o : Option Cut) → read_at t ≡ o → EditRefused e p t
-    go None is = unread_refused p t e is (subst (Fails e) (none_edit p t None is) h)
-    go (Some c) is = none_refused_so p t e none (documents c, read_takes t c is) (subst (Fails e) (none_edit p t (Some c) is) h)
+    go None is = unread_refused p t e is (subst (EditFails e) (none_edit p t None is) h)
+    go (Some c) is = none_refused_so p t e none (documents c, read_takes t c is) (subst (EditFails e) (none_edit p t (Some c) is) h)

@@ -22,10 +22,10 @@ use Rattle.yq_edits.specs.EditLaws.{IsEdit}
 use Rattle.yq_edits.specs.Edits.{edits, or_stay}
 use Rattle.yq_edits.specs.ReadsAfter.{ReadsAfter}
 use Rattle.yq_flow_edits.proofs.CutLaws.{cut_same}
-use Rattle.yq_splice.specs.Answers.{Edits, Fails}
+use Rattle.yq_splice.specs.Answers.{Edits, EditFails}
 use Rattle.yq_splice.specs.Carried.{carry_one, carried}
-use Rattle.yq_splice.specs.Edit.{Edit, unreadable, refuses, gives, by_reading, edit_of_segments, edit_made}
-use Rattle.yq_splice.specs.Theorems.{IsFitting, IsApplied, IsLarge, IsRefused}
+use Rattle.yq_splice.specs.Edit.{Edit, unreadable, refuses, gives, by_reading, edit_of_segments, exchange_edit}
+use Rattle.yq_splice.specs.Theorems.{IsFitting, IsApplied, IsLarge, OpRefused}
 use Rattle.yq_splice.specs.declared.edit_error.EditError.{EditError}
 use Rattle.yq_splice.specs.declared.edit_error.EditError.TheVariants as error
 use Rattle.yq_splice.proofs.EditsHold.{edit_is, edit_there}
@@ -60,15 +60,15 @@ module _ (op : Operation) (t : List ℕ) (operand : HasOperand op) (k : IsFittin
   edit : IsEdit op cut own.0
   edit = edit_is op cut own.0 again own.1
 
-  abbrev made : List ℕ
-  made = new_text own.0
+  abbrev new_bytes : List ℕ
+  new_bytes = new_text own.0
 
   comes : carried op t ≡ edit_of_segments own.0
   comes = ap (by_reading (carry_one op)) is.0 ∙ ap (λ (x : Option (List Segment)). edit_of_segments (or_stay cut x)) own.1
 
-  is_applied : length made ≤ text_limit → IsApplied op t made (changes own.0)
+  is_applied : length new_bytes ≤ text_limit → IsApplied op t new_bytes (changes own.0)
   is_applied size =
-      let r : ReadsAfter op cut made = (edit.carried operand fits size).reads in
+      let r : ReadsAfter op cut new_bytes = (edit.carried operand fits size).reads in
       let after : documents r.cut ≡ after_op (room_of t) op k.before =
       r.documents_are ∙ (λ i. after_op (room_of (text i)) op (is.1 i)) in
       record {
@@ -79,12 +79,12 @@ module _ (op : Operation) (t : List ℕ) (operand : HasOperand op) (k : IsFittin
         old_is = edit.old ∙ text;
         new_is = refl;
         splices = refl;
-        reads = subst (Reads made) after (read_takes made r.cut r.read);
-        room = subst (LeavesRooms op (room_of t) (room_of made)) (ap documents (cut_same made r.cut r.read) ∙ after)
-            (subst (λ (x : List ℕ). LeavesRooms op (room_of x) (room_of made) (documents_of made)) text r.room);
+        reads = subst (Reads new_bytes) after (read_takes new_bytes r.cut r.read);
+        room = subst (LeavesRooms op (room_of t) (room_of new_bytes)) (ap documents (cut_same new_bytes r.cut r.read) ∙ after)
+            (subst (λ (x : List ℕ). LeavesRooms op (room_of x) (room_of new_bytes) (documents_of new_bytes)) text r.room);
       }
 
-  is_large : text_limit < length made → IsLarge op t
+  is_large : text_limit < length new_bytes → IsLarge op t
   is_large size = record {
     before = k.before;
     read = k.read;
@@ -94,13 +94,13 @@ module _ (op : Operation) (t : List ℕ) (operand : HasOperand op) (k : IsFittin
     size = size;
   }
 
-  by_size : (b : Bool) → leb (length made) text_limit ≡ b →
-      OperationComes op t (edit_made (cond b (exchange.gives made (changes own.0)) exchange.too_large))
-  by_size true e = is_applied (leb-true (length made) text_limit e)
-  by_size false e = (refl, is_large (leb-false (length made) text_limit e))
+  by_size : (b : Bool) → leb (length new_bytes) text_limit ≡ b →
+      OperationComes op t (exchange_edit (cond b (exchange.gives new_bytes (changes own.0)) exchange.too_large))
+  by_size true e = is_applied (leb-true (length new_bytes) text_limit e)
+  by_size false e = (refl, is_large (leb-false (length new_bytes) text_limit e))
 
   pub operation_comes : OperationComes op t (carried op t)
-  operation_comes = subst (OperationComes op t) (sym comes) (by_size (leb (length made) text_limit) refl)
+  operation_comes = subst (OperationComes op t) (sym comes) (by_size (leb (length new_bytes) text_limit) refl)
 
   pub applied_by : (new : List ℕ) (cs : List Splice) → carried op t ≡ gives new cs → IsApplied op t new cs
   applied_by new cs h = subst (OperationComes op t) h operation_comes
@@ -109,11 +109,11 @@ module _ (op : Operation) (t : List ℕ) (operand : HasOperand op) (k : IsFittin
   op_applied (Ok e) h = applied_by (string_bytes e.text) e.splices.items h
   op_applied (Err e) h = tt
 
-  pub refused_by : (e : EditError) → Fails e (carried op t) → IsRefused e op t
+  pub refused_by : (e : EditError) → EditFails e (carried op t) → OpRefused e op t
   refused_by (error.Read fault) h = subst (OperationComes op t) h.0 operation_comes
   refused_by (error.Refused why) h = subst (OperationComes op t) h operation_comes
   refused_by error.Memory h = tt
 
-  pub op_refused : (r : Result Edited EditError) → Edits r (carried op t) → IfErr r (λ e. IsRefused e op t)
+  pub op_refused : (r : Result Edited EditError) → Edits r (carried op t) → IfErr r (λ e. OpRefused e op t)
   op_refused (Ok e) h = tt
   op_refused (Err e) h = refused_by e h

@@ -7,28 +7,28 @@ use Rattle.yq_scalar.specs.Tree.{Node}
 use Rattle.yq_places.specs.Standings.{FlowPart}
 use Rattle.yq_edits.specs.FlowParts.{flow_put}
 use Rattle.yq_flow_edits.specs.PartPuts.{part_put}
-use Rattle.yq_edits.specs.Answers.{Carries}
+use Rattle.yq_edits.specs.Answers.{GivesSegments}
 
 -- the first one answers
 pub first_is : (ss : List Segment) (x y : Option (List Segment)) → x ≡ Some ss → option_or x y ≡ Some ss
 first_is ss x y h = ap (λ (z : Option (List Segment)). option_or z y) h
 
 -- it doesn't
-pub second_is : {E : Type 0} (r : Result (Option (List Segment)) E) (x y : Option (List Segment)) → x ≡ None → Carries r y → Carries r (option_or x y)
-second_is r x y none h = subst (λ (z : Option (List Segment)). Carries r (option_or z y)) (sym none) h
+pub second_is : {E : Type 0} (r : Result (Option (List Segment)) E) (x y : Option (List Segment)) → x ≡ None → GivesSegments r y → GivesSegments r (option_or x y)
+second_is r x y none h = subst (λ (z : Option (List Segment)). GivesSegments r (option_or z y)) (sym none) h
 
 -- a choice that is known
-pub chosen : {E : Type 0} (r : Result (Option (List Segment)) E) (b : Bool) (x y : Option (List Segment)) → b ≡ true → Carries r x → Carries r (cond b x y)
-chosen r b x y is h = subst (λ (c : Bool). Carries r (cond c x y)) (sym is) h
+pub chosen : {E : Type 0} (r : Result (Option (List Segment)) E) (b : Bool) (x y : Option (List Segment)) → b ≡ true → GivesSegments r x → GivesSegments r (cond b x y)
+chosen r b x y is h = subst (λ (c : Bool). GivesSegments r (cond c x y)) (sym is) h
 
-pub not_chosen : {E : Type 0} (r : Result (Option (List Segment)) E) (b : Bool) (x y : Option (List Segment)) → b ≡ false → Carries r y → Carries r (cond b x y)
-not_chosen r b x y is h = subst (λ (c : Bool). Carries r (cond c x y)) (sym is) h
+pub not_chosen : {E : Type 0} (r : Result (Option (List Segment)) E) (b : Bool) (x y : Option (List Segment)) → b ≡ false → GivesSegments r y → GivesSegments r (cond b x y)
+not_chosen r b x y is h = subst (λ (c : Bool). GivesSegments r (cond c x y)) (sym is) h
 
 -- ---- a value, outside flow collections or in one
 
 -- something stands outside
-pub put_outside : {E : Type 0} (r : Result (Option (List Segment)) E) (k : List Segment) (b : Bool) (ss : List Segment) (block y : Option (List Segment)) → block ≡ Some ss → Carries r (cond b (Some k) (Some ss)) → Carries r (cond b (Some k) (option_or block y))
-put_outside r k b ss block y is h = subst (λ (z : Option (List Segment)). Carries r (cond b (Some k) z)) (sym (ap (λ (z : Option (List Segment)). option_or z y) is)) h
+pub put_outside : {E : Type 0} (r : Result (Option (List Segment)) E) (k : List Segment) (b : Bool) (ss : List Segment) (block y : Option (List Segment)) → block ≡ Some ss → GivesSegments r (cond b (Some k) (Some ss)) → GivesSegments r (cond b (Some k) (option_or block y))
+put_outside r k b ss block y is h = subst (λ (z : Option (List Segment)). GivesSegments r (cond b (Some k) z)) (sym (ap (λ (z : Option (List Segment)). option_or z y) is)) h
 
 -- a part of a flow collection is there
 pub put_inside : (t : List ℕ) (v : Node) (b : Bool) (block : Option (List Segment)) (x : Option FlowPart) (ss : List Segment) → block ≡ None → option_map (part_put t b v) x ≡ Some ss → cond b (Some (keep t ∷ [])) (option_or block (option_map (flow_put t v) x)) ≡ Some ss
@@ -37,7 +37,7 @@ put_inside t v true block (Some x) ss is e = e
 put_inside t v false block (Some x) ss is e = ap (λ (z : Option (List Segment)). option_or z (Some (flow_put t v x))) is ∙ e
 
 -- neither
-pub put_nowhere : {E : Type 0} (r : Result (Option (List Segment)) E) (t : List ℕ) (v : Node) (b : Bool) (block : Option (List Segment)) (x : Option FlowPart) → block ≡ None → option_map (part_put t b v) x ≡ None → Carries r (cond b (Some (keep t ∷ [])) None) →
-    Carries r (cond b (Some (keep t ∷ [])) (option_or block (option_map (flow_put t v) x)))
+pub put_nowhere : {E : Type 0} (r : Result (Option (List Segment)) E) (t : List ℕ) (v : Node) (b : Bool) (block : Option (List Segment)) (x : Option FlowPart) → block ≡ None → option_map (part_put t b v) x ≡ None → GivesSegments r (cond b (Some (keep t ∷ [])) None) →
+    GivesSegments r (cond b (Some (keep t ∷ [])) (option_or block (option_map (flow_put t v) x)))
 put_nowhere r t v b block (Some x) is e h = absurd (none-some _ (sym e))
-put_nowhere r t v b block None is e h = subst (λ (z : Option (List Segment)). Carries r (cond b (Some (keep t ∷ [])) z)) (sym (ap (λ (z : Option (List Segment)). option_or z None) is)) h
+put_nowhere r t v b block None is e h = subst (λ (z : Option (List Segment)). GivesSegments r (cond b (Some (keep t ∷ [])) z)) (sym (ap (λ (z : Option (List Segment)). option_or z None) is)) h

@@ -1,7 +1,7 @@
 -- What each operation exchanges carries it out, and one that fits has it: the laws of all kinds of edits together.
 use Rattle.std.proofs.Common.{refl}
 use Rattle.yq_places.specs.Standings.{alone, beside, under, compact, block, root, no_rows}
-use Rattle.yq_edits.specs.EditLaws.{AreEdits, EditsCarryOut, FittingHasEdit, ValuesArePut}
+use Rattle.yq_edits.specs.EditLaws.{KindsCarryOut, EditsCarryOut, FittingHasEdit, ValuesArePut}
 use Rattle.yq_edits.proofs.HeadCommentLaws.{head_comment_is_put}
 use Rattle.yq_edits.proofs.KeptLaws.{equal_scalars_stay}
 use Rattle.yq_edits.proofs.LineCommentLaws.{line_comment_is_put}
@@ -15,8 +15,8 @@ use Rattle.yq_flow_edits.proofs.SoleLaws.{sole_removed}
 use Rattle.yq_flow_edits.proofs.StandingExists.{entries_stand, roots_stand}
 use Rattle.yq_root_edits.proofs.RootEditLaws.{first_nodes_are_put, roots_are_put}
 use Rattle.yq_block_edits.proofs.MarkedValueLaws.{marked_values}
-use Rattle.yq_splice.proofs.TableExists.{fitting_has_edit}
-use Rattle.yq_splice.proofs.TableLaws.{edits_carry_out}
+use Rattle.yq_splice.proofs.FittingExists.{fitting_has_edit}
+use Rattle.yq_splice.proofs.CarryOutLaws.{edits_carry_out}
 
 -- a value is put, whatever stands at its place
 values_are_put : ValuesArePut
@@ -28,7 +28,7 @@ values_are_put n steps v c (block h indent) read at other = marked_values n step
 values_are_put n steps v c (root w) read at other = roots_are_put n steps v c w read at
 values_are_put n steps v c (no_rows w) read at other = first_nodes_are_put n steps v c w read at
 
-are_edits : AreEdits
+are_edits : KindsCarryOut
 are_edits = record {
   values = values_are_put;
   flow_values = flow_values_put;

@@ -10,14 +10,14 @@ use Rattle.yq_rows.specs.Grammar.{IsCut}
 use Rattle.yq_rows.specs.Meter.{counted, line_count}
 use Rattle.yq_rows.specs.Rows.{Cut, cut_text}
 use Rattle.yq_rows.specs.Touched.{TouchesOnly}
-use Rattle.yq_rows.specs.View.{shown}
+use Rattle.yq_rows.specs.View.{rows_view}
 use Rattle.yq_rows.specs.declared.places.Places.{Places}
 use Rattle.yq_rows.proofs.MeterLaws.{counted_within}
 use Rattle.yq_documents.specs.Documents.{Document, Reads}
 use Rattle.yq_documents.specs.Reading.{documents, cut_of, read_at}
 use Rattle.yq_walk.specs.RowWalk.{AreKnown}
 use Rattle.yq_places.specs.RowWalk.{StayKnown}
-use Rattle.yq_walk.specs.declared.spot.KnownItems.{KnownItems}
+use Rattle.yq_walk.specs.declared.position.KnownItems.{KnownItems}
 use Rattle.yq_places.proofs.ExactReading.{parts_read}
 use Rattle.yq_meaning.specs.Fits.{Fits}
 use Rattle.yq_meaning.specs.Operations.{Operation}
@@ -33,7 +33,7 @@ use Rattle.yq_session.specs.declared.kept.Kept.{Kept}
 use Rattle.yq_edits.specs.Edits.{edits, or_stay}
 use Rattle.yq_edits.specs.Local.{IsLocalTo}
 use Rattle.yq_edits.specs.Operands.{HasOperand}
-use Rattle.yq_edits.specs.TouchedRanges.{IsNear}
+use Rattle.yq_edits.specs.TouchedRanges.{IsLocalEdit}
 use Rattle.yq_script.proofs.KeptSegments.{IsBetween, between}
 use Rattle.yq_edits.proofs.NearLaws.{edits_are_near}
 use Rattle.yq_edits.proofs.TouchLaws.{local_touches}
@@ -68,8 +68,8 @@ all_stay (keep t ∷ ss) e = (tt, all_stay ss e)
 all_stay (put o w ∷ ss) e = absurd (cc)
 
 -- segments of which not all bytes stay exchange some
-some_given : (ss : List Segment) → ¬ AllStay ss → are_kept ss ≡ false
-some_given ss change = go (are_kept ss) refl
+some_change : (ss : List Segment) → ¬ AllStay ss → are_kept ss ≡ false
+some_change ss change = go (are_kept ss) refl
   where
     go : (b : Bool) → are_kept ss ≡ b → are_kept ss ≡ false
     go true e = absurd (change (all_stay ss e))
@@ -80,15 +80,15 @@ module _ (op : Operation) (t : List ℕ) (operand : HasOperand op) (fitting : Is
   abbrev own : List Segment
   own = segments_by op (cut_of t)
 
-  abbrev made : List ℕ
-  made = new_text own
+  abbrev new_bytes : List ℕ
+  new_bytes = new_text own
 
-  a : IsApplied op t made x.splices.items
-  a = applied_by op t operand fitting made x.splices.items (carried_by op t p x h change)
+  a : IsApplied op t new_bytes x.splices.items
+  a = applied_by op t operand fitting new_bytes x.splices.items (carried_by op t p x h change)
 
   -- where it makes no splice, the text stays
   module _ (none : x.splices.items ≡ []) where
-    stays : made ≡ t
+    stays : new_bytes ≡ t
     stays =
         let lead : Some (old_text a.segments) ≡ Some (new_text a.segments) = sym (ap (λ (xs : List Splice). all_done xs (old_text a.segments)) (a.splices ∙ none)) ∙ changes_lead a.segments in
         sym a.new_is ∙ (sym (same_Some _ _ lead) ∙ a.old_is)
@@ -131,8 +131,8 @@ module _ (op : Operation) (t : List ℕ) (operand : HasOperand op) (fitting : Is
     size : length (new_text ss) ≤ text_limit
     size = omega (arith, a.reads.cut.size, ap length a.new_is)
 
-    made_read : read_at made ≡ Some new_cut
-    made_read = (parts_read made _ a.reads).0
+    new_bytes_read : read_at new_bytes ≡ Some new_cut
+    new_bytes_read = (parts_read new_bytes _ a.reads).0
 
     changed : ¬ AllStay ss
     changed stay = some (sym a.splices ∙ kept_changes ss stay)
@@ -142,16 +142,16 @@ module _ (op : Operation) (t : List ℕ) (operand : HasOperand op) (fitting : Is
     by_local (inr stay) = absurd (changed stay)
 
     touches : TouchesOnly (length (kept_front ss)) (length (kept_back ss)) c new_cut
-    touches = local_touches ss c new_cut (by_local ((edit_is op c ss again exchanged_there).carried operand fit size).local new_cut (ap read_at a.new_is ∙ made_read))
+    touches = local_touches ss c new_cut (by_local ((edit_is op c ss again exchanged_there).carried operand fit size).local new_cut (ap read_at a.new_is ∙ new_bytes_read))
 
-    some_given_there : are_kept ss ≡ false
-    some_given_there = some_given ss changed
+    some_change_there : are_kept ss ≡ false
+    some_change_there = some_change ss changed
 
-    near : IsNear ss
+    near : IsLocalEdit ss
     near = edits_are_near op c ss again exchanged_there operand fit size
 
     room : IsBetween ss
-    room = between ss some_given_there
+    room = between ss some_change_there
 
     abbrev kept : Kept
     kept = record { front = x.front; back = x.back }
@@ -162,8 +162,8 @@ module _ (op : Operation) (t : List ℕ) (operand : HasOperand op) (fitting : Is
     back : kept.back ≡ length (kept_back ss)
     back = change.back ∙ ap (λ (y : List Segment). length (kept_back y)) own_is
 
-    told : TouchesOnly kept.front kept.back c new_cut
-    told = subst (λ (n : ℕ). TouchesOnly n kept.back c new_cut) (sym front) (subst (λ (n : ℕ). TouchesOnly (length (kept_front ss)) n c new_cut) (sym back) touches)
+    agrees : TouchesOnly kept.front kept.back c new_cut
+    agrees = subst (λ (n : ℕ). TouchesOnly n kept.back c new_cut) (sym front) (subst (λ (n : ℕ). TouchesOnly (length (kept_front ss)) n c new_cut) (sym back) touches)
 
     of_text : old_text own ≡ t
     of_text = ap old_text own_is ∙ a.old_is
@@ -171,8 +171,8 @@ module _ (op : Operation) (t : List ℕ) (operand : HasOperand op) (fitting : Is
     utf8 : IsUtf8 (old_text own)
     utf8 = subst IsUtf8 (sym of_text) (text_utf8 t c h.read)
 
-    made_is : made ≡ exchanged kept t (string_bytes x.new)
-    made_is = change.text (ap are_kept own_is ∙ some_given_there) ∙ ap (λ (y : List ℕ). exchanged kept y (string_bytes x.new)) of_text
+    new_bytes_are : new_bytes ≡ exchanged kept t (string_bytes x.new)
+    new_bytes_are = change.text (ap are_kept own_is ∙ some_change_there) ∙ ap (λ (y : List ℕ). exchanged kept y (string_bytes x.new)) of_text
 
     -- the text and the rows follow
     pub follows : Follows t p kept (string_bytes x.new)
@@ -181,8 +181,8 @@ module _ (op : Operation) (t : List ℕ) (operand : HasOperand op) (fitting : Is
       new_cut = new_cut;
       old_is = cut_read t c h.read;
       placed = h.placed;
-      new_is = subst (λ (y : List ℕ). IsCut y new_cut) made_is a.reads.cut;
-      touches = told;
+      new_is = subst (λ (y : List ℕ). IsCut y new_cut) new_bytes_are a.reads.cut;
+      touches = agrees;
       within = omega (arith, front, back, ap length a.old_is, ap length room.old_is, length-append (kept_front ss) (room.old ++ kept_back ss), length-append room.old (kept_back ss));
       front_edge = subst (λ (y : List ℕ). IsCharBoundary y x.front) of_text (subst (IsCharBoundary (old_text own)) (sym change.front) (cut_front own utf8 change.front_text));
       back_edge = subst (λ (y : List ℕ). IsCharBoundary y (length y - x.back)) of_text (subst (λ (n : ℕ). IsCharBoundary (old_text own) (length (old_text own) - n)) (sym change.back) (cut_back own change.back_text));
@@ -190,8 +190,8 @@ module _ (op : Operation) (t : List ℕ) (operand : HasOperand op) (fitting : Is
 
     -- and behind that
     module _ (new : List ℕ) (becomes : new ≡ exchanged kept t (string_bytes x.new)) where
-      text_after : made ≡ new
-      text_after = made_is ∙ sym becomes
+      text_after : new_bytes ≡ new
+      text_after = new_bytes_are ∙ sym becomes
 
       pub carried_some : carried op t ≡ gives new x.splices.items
       carried_some = carried_by op t p x h change ∙ ap (λ (y : List ℕ). gives y x.splices.items) text_after
@@ -203,20 +203,20 @@ module _ (op : Operation) (t : List ℕ) (operand : HasOperand op) (fitting : Is
       is_cut = subst (λ (y : List ℕ). IsCut y new_cut) text_after a.reads.cut
 
       read_after : read_at new ≡ Some new_cut
-      read_after = ap read_at (sym text_after) ∙ made_read
+      read_after = ap read_at (sym text_after) ∙ new_bytes_read
 
       known_by : (k : KnownItems) → StayKnown kept.front (cut_of t) k → KnowsItems new k
       known_by k stay =
-          subst (λ (d : Cut). AreKnown (shown d).rows k) (sym (cut_same new new_cut read_after))
-          (stay new_cut kept.back (subst (λ (d : Cut). TouchesOnly kept.front kept.back d new_cut) (sym (cut_same t c h.read)) told))
+          subst (λ (d : Cut). AreKnown (rows_view d).rows k) (sym (cut_same new new_cut read_after))
+          (stay new_cut kept.back (subst (λ (d : Cut). TouchesOnly kept.front kept.back d new_cut) (sym (cut_same t c h.read)) agrees))
 
       pub kept_after : (q : Places) (k : KnownItems) → ArePlacesOf new q → StayKnown kept.front (cut_of t) k → HasPlaces new q × KnowsItems new k
       kept_after q k placed stay = (record { cut = new_cut; read = read_after; placed = placed new_cut is_cut }, known_by k stay)
 
       pub scans : (count before after : ℕ) → count ≡ before → CountsWritten t new kept count after → Scans op t new x.splices.items before after
       scans count before after is counts =
-          let lines : ℕ = line_count (read_text kept c new_cut told) in
-          let exact : after ≡ counted lines before = counts c new_cut (cut_read t c h.read) is_cut told ∙ ap (counted lines) is in
+          let lines : ℕ = line_count (read_text kept c new_cut agrees) in
+          let exact : after ≡ counted lines before = counts c new_cut (cut_read t c h.read) is_cut agrees ∙ ap (counted lines) is in
           inr (
             some,
             record {
@@ -230,8 +230,8 @@ module _ (op : Operation) (t : List ℕ) (operand : HasOperand op) (fitting : Is
               kept = kept;
               front = front;
               back = back;
-              touches = told;
-              each = near_touched ss c new_cut near some_given_there (ap read_at a.new_is ∙ made_read) kept.front kept.back front back told;
+              touches = agrees;
+              each = near_touched ss c new_cut near some_change_there (ap read_at a.new_is ∙ new_bytes_read) kept.front kept.back front back agrees;
               exact = exact;
               most = omega (arith, exact, counted_within lines before);
             },

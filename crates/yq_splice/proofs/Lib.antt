@@ -10,8 +10,8 @@ pub mod FollowLaws
 pub mod OperationsLaws
 pub mod AnswerLaws
 pub mod PrintLaws
-pub mod TableLaws
-pub mod TableExists
+pub mod CarryOutLaws
+pub mod FittingExists
 pub mod ChoiceLaws
 pub mod EditsHold
 pub mod RemoveExists

@@ -34,10 +34,10 @@ last_comes os op t some at none = sym (ap (λ (x : List Op). carry_all (operatio
 -- one that others follow
 pub others_come : (os : List Op) (op : Op) (t m : List ℕ) (bs cs all : List Splice) → 1 ≤ length os → op ≡ slice_index_or os 0 op → carried (operation_of op) t ≡ gives m cs → all ≡ bs ++ cs →
     behind all (carry_all (operations_of (later os)) m) ≡ behind bs (carry_all (operations_of os) t)
-others_come os op t m bs cs all some at made joined =
+others_come os op t m bs cs all some at new_bytes joined =
     ap (λ (x : List Splice). behind x (carry_all (operations_of (later os)) m)) joined
     ∙ (behind_both bs cs (carry_all (operations_of (later os)) m)
-    ∙ (ap (λ (x : Edit). behind bs (and_then (carry_all (operations_of (later os))) x)) (sym made)
+    ∙ (ap (λ (x : Edit). behind bs (and_then (carry_all (operations_of (later os))) x)) (sym new_bytes)
     ∙ ap (λ (x : List Op). behind bs (carry_all (operations_of x) t)) (sym (first_apart os op some at))))
 
 pub others_served : (os : List Op) (op : Op) (t m : List ℕ) (cs : List Splice) → 1 ≤ length os → op ≡ slice_index_or os 0 op → AreServed (operations_of os) t → IsApplied (operation_of op) t m cs →

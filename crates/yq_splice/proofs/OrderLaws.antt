@@ -1,7 +1,7 @@
 -- Edits one after the other lead from text to text.
 use Rattle.std.proofs.Common.{◌≡◌, inl, inr, ℕ, List, [], ◌∷◌, ◌++◌, refl, sym, ap, ◌∙◌, subst, append_assoc, append-nil}
 use Rattle.yq_script.specs.Splice.{Splice}
-use Rattle.yq_splice.specs.Answers.{Fails}
+use Rattle.yq_splice.specs.Answers.{EditFails}
 use Rattle.yq_splice.specs.Edit.{Edit, unreadable, refuses, gives, behind, and_then, in_order}
 use Rattle.yq_splice.specs.Theorems.{InOrder, Leading, StopsInOrder}
 use Rattle.yq_splice.specs.declared.edit_error.EditError.{EditError}
@@ -31,13 +31,13 @@ leads_give f R each (x ∷ xs) t new cs h =
     ∙ (ap (behind h.1) (leads_give f R each xs h.0 new h.2 h.4) ∙ ap (gives new) (sym h.5))
 
 -- an edit that fails, also behind splices
-pub fails_behind : (e : EditError) (cs : List Splice) (r : Edit) → Fails e r → Fails e (behind cs r)
+pub fails_behind : (e : EditError) (cs : List Splice) (r : Edit) → EditFails e r → EditFails e (behind cs r)
 fails_behind (error.Read fault) cs r h = (ap (behind cs) h.0, h.1)
 fails_behind (error.Refused why) cs r h = ap (behind cs) h
 fails_behind error.Memory cs r h = tt
 
 -- and without these
-pub fails_itself : (e : EditError) (cs : List Splice) (r : Edit) → Fails e (behind cs r) → Fails e r
+pub fails_itself : (e : EditError) (cs : List Splice) (r : Edit) → EditFails e (behind cs r) → EditFails e r
 fails_itself (error.Read fault) cs unreadable h = h
 fails_itself (error.Read fault) cs (refuses why) h = absurd (let f = h.0 in cc)
 fails_itself (error.Read fault) cs (gives t ds) h = absurd (let f = h.0 in cc)
@@ -53,17 +53,17 @@ behind_both bs cs (refuses why) = refl
 behind_both bs cs (gives t ds) = ap (gives t) (append_assoc bs cs ds)
 
 -- a step that fails fails all that come after it
-pub fails_on : (e : EditError) (g : List ℕ → Edit) (r : Edit) → Fails e r → Fails e (and_then g r)
+pub fails_on : (e : EditError) (g : List ℕ → Edit) (r : Edit) → EditFails e r → EditFails e (and_then g r)
 fails_on (error.Read fault) g r h = (ap (and_then g) h.0, h.1)
 fails_on (error.Refused why) g r h = ap (and_then g) h
 fails_on error.Memory g r h = tt
 
 -- and those that came before it
 pub leads_fail : {A : Type 0} (f : A → List ℕ → Edit) (R : Leading A) → ((x : A) (t new : List ℕ) (cs : List Splice) → R x t new cs → f x t ≡ gives new cs) →
-    (xs : List A) (y : A) (ys : List A) (t m : List ℕ) (cs : List Splice) (e : EditError) → InOrder R xs t m cs → Fails e (f y m) → Fails e (in_order f (xs ++ y ∷ ys) t)
-leads_fail f R each [] y ys t m cs e h fails = fails_on e (in_order f ys) (f y t) (subst (λ s. Fails e (f y s)) (sym h.0) fails)
+    (xs : List A) (y : A) (ys : List A) (t m : List ℕ) (cs : List Splice) (e : EditError) → InOrder R xs t m cs → EditFails e (f y m) → EditFails e (in_order f (xs ++ y ∷ ys) t)
+leads_fail f R each [] y ys t m cs e h fails = fails_on e (in_order f ys) (f y t) (subst (λ s. EditFails e (f y s)) (sym h.0) fails)
 leads_fail f R each (x ∷ xs) y ys t m cs e h fails =
-    subst (Fails e) (ap (and_then (in_order f (xs ++ y ∷ ys))) (sym (each x t h.0 h.1 h.3)))
+    subst (EditFails e) (ap (and_then (in_order f (xs ++ y ∷ ys))) (sym (each x t h.0 h.1 h.3)))
     (fails_behind e h.1 (in_order f (xs ++ y ∷ ys) h.0) (leads_fail f R each xs y ys h.0 m h.2 e h.4 fails))
 
 -- a thing that is refused stops those that come behind others

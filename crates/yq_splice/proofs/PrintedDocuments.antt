@@ -20,4 +20,4 @@ printed_at c doc p read there =
     let s = around doc c p there in
     let known = document_known (cut_text c) c doc p (record { read = read; there = there }) in
     let q = document_is doc c _ known.cut.parts s.printed in
-    record { document = _; is = s.printed; printed = record { lines = refl; told = q.2.told } }
+    record { document = _; is = s.printed; printed = record { lines = refl; as_printed = q.2.as_printed } }

@@ -1,4 +1,4 @@
--- A text with its cut, which a session keeps, and what is lent of it.
+-- A text with its cut, which a session keeps, and what is borrowed of it.
 use Rattle.std.proofs.Common.{◌≡◌, ℕ, ◌-◌, ◌<◌, ◌≤◌, ◌^◌, Bool, true, false, cond, ltb, List, [], ◌∷◌, ◌++◌, length, take, drop, Option, Some, None, refl, sym, ap, ◌∙◌, subst, arith, append-nil}
 use Rattle.std.proofs.lemmas.Bool.{le-ltb}
 use Rattle.std.proofs.lemmas.List.{length-take-le, take-append-drop}
@@ -16,13 +16,13 @@ use Rattle.yq_rows.specs.Items.{Item, items_of, items_text}
 use Rattle.yq_rows.specs.Kept.{IsPlaced}
 use Rattle.yq_rows.specs.Rows.{Cut, cut_text}
 use Rattle.yq_rows.specs.Touched.{TouchesOnly, in_back, in_front, item_text}
-use Rattle.yq_rows.specs.View.{Shown, shown}
+use Rattle.yq_rows.specs.View.{RowsView, rows_view}
 use Rattle.yq_rows.specs.declared.places.Places.{Places}
 use Rattle.yq_rows.proofs.PlacedLaws.{split_boundary}
 use Rattle.yq_documents.specs.Reading.{all_documents, documents, cut_of, read_at}
 use Rattle.yq_walk.specs.RowWalk.{AreKnown}
 use Rattle.yq_places.specs.RowWalk.{HasCut, StayKnown}
-use Rattle.yq_walk.specs.declared.spot.KnownItems.{KnownItems}
+use Rattle.yq_walk.specs.declared.position.KnownItems.{KnownItems}
 use Rattle.yq_places.proofs.ReadLaws.{text_takes, read_takes}
 use Rattle.yq_meaning.specs.Operations.{Operation}
 use Rattle.yq_script.specs.Changing.{IsChange}
@@ -32,7 +32,7 @@ use Rattle.yq_session.specs.Following.{ArePlacesOf}
 use Rattle.yq_edits.specs.Edits.{edits, or_stay}
 use Rattle.yq_flow_edits.proofs.CutLaws.{cut_read, cut_same, text_read}
 use Rattle.yq_splice.specs.Carried.{carry_one, carried}
-use Rattle.yq_splice.specs.Edit.{gives, by_reading, edit_made}
+use Rattle.yq_splice.specs.Edit.{gives, by_reading, exchange_edit}
 use Rattle.yq_splice.specs.Session.{HasPlaces, KnowsItems, NotOpened}
 use Rattle.yq_splice.specs.Theorems.{HasReading}
 use Rattle.yq_splice.specs.Valid.{segments_by}
@@ -46,10 +46,10 @@ documents_sound : (t : List ℕ) (c : Cut) → read_at t ≡ Some c → all_docu
 unfolding read_at
 documents_sound t c is = (text_takes t c (guard_then (is_utf8 t) is).1).1
 
-has_cut : (t : List ℕ) (c : Cut) (s : Shown) → read_at t ≡ Some c → s ≡ shown c → HasCut t s
+has_cut : (t : List ℕ) (c : Cut) (s : RowsView) → read_at t ≡ Some c → s ≡ rows_view c → HasCut t s
 has_cut t c s is shows =
     let same : c ≡ cut_of t = sym (cut_same t c is) in
-    record { cut = subst (IsCut t) same (cut_read t c is); rows = shows ∙ ap shown same; sound = ap all_documents (sym same) ∙ documents_sound t c is }
+    record { cut = subst (IsCut t) same (cut_read t c is); rows = shows ∙ ap rows_view same; sound = ap all_documents (sym same) ∙ documents_sound t c is }
 
 pub text_utf8 : (t : List ℕ) (c : Cut) → read_at t ≡ Some c → IsUtf8 t
 unfolding read_at
@@ -82,30 +82,30 @@ module _ (t : List ℕ) (p : Places) (h : HasPlaces t p) where
   pub split_is : IsCharBoundary t p.split
   split_is = split_boundary t h.cut p (cut_read t h.cut h.read) h.placed
 
-  -- lent on the halves of the text, which is split there
-  module _ (text : Halves) (lent : (text.front.now ≡ take p.split t) × (text.back.now ≡ drop p.split t)) where
-    pub whole_lent : whole text ≡ t
-    whole_lent = (λ i. lent.0 i ++ lent.1 i) ∙ take-append-drop p.split t
+  -- borrowed on the halves of the text, which is split there
+  module _ (text : Halves) (borrowed : (text.front.now ≡ take p.split t) × (text.back.now ≡ drop p.split t)) where
+    pub whole_borrowed : whole text ≡ t
+    whole_borrowed = (λ i. borrowed.0 i ++ borrowed.1 i) ∙ take-append-drop p.split t
 
     own_cut : (d : Cut) → IsCut t d → IsCut (whole text) d
-    own_cut d = subst (λ (x : List ℕ). IsCut x d) (sym whole_lent)
+    own_cut d = subst (λ (x : List ℕ). IsCut x d) (sym whole_borrowed)
 
-    pub split_lent : length text.front.now ≡ p.split
-    split_lent = ap length lent.0 ∙ length-take-le p.split t split_is.0
+    pub split_borrowed : length text.front.now ≡ p.split
+    split_borrowed = ap length borrowed.0 ∙ length-take-le p.split t split_is.0
 
-    pub places_lent : (c : Cut) × IsCut (whole text) c × IsPlaced p (shown c)
-    places_lent = (h.cut, own_cut h.cut (cut_read t h.cut h.read), h.placed)
+    pub places_borrowed : (c : Cut) × IsCut (whole text) c × IsPlaced p (rows_view c)
+    places_borrowed = (h.cut, own_cut h.cut (cut_read t h.cut h.read), h.placed)
 
-    module _ (r : Shown) (shows : (c : Cut) → IsCut (whole text) c → r ≡ shown c) where
-      own : r ≡ shown h.cut
+    module _ (r : RowsView) (shows : (c : Cut) → IsCut (whole text) c → r ≡ rows_view c) where
+      own : r ≡ rows_view h.cut
       own = shows h.cut (own_cut h.cut (cut_read t h.cut h.read))
 
-      pub cut_lent : HasCut (whole text) r
-      cut_lent = subst (λ (x : List ℕ). HasCut x r) (sym whole_lent) (has_cut t h.cut r h.read own)
+      pub cut_borrowed : HasCut (whole text) r
+      cut_borrowed = subst (λ (x : List ℕ). HasCut x r) (sym whole_borrowed) (has_cut t h.cut r h.read own)
 
       -- items that are known
-      pub known_lent : (k : KnownItems) → KnowsItems t k → AreKnown r.rows k
-      known_lent k is = subst (λ (x : Shown). AreKnown x.rows k) (sym (own ∙ ap shown (sym (cut_same t h.cut h.read)))) is
+      pub known_borrowed : (k : KnownItems) → KnowsItems t k → AreKnown r.rows k
+      known_borrowed k is = subst (λ (x : RowsView). AreKnown x.rows k) (sym (own ∙ ap rows_view (sym (cut_same t h.cut h.read)))) is
 
       -- and given back
       pub places_back : (q : Places) → IsPlaced q r → HasPlaces t q
@@ -159,4 +159,4 @@ pub carried_on : (op : Operation) (t x : List ℕ) (p : Places) → HasPlaces t 
 carried_on op t x p h same = ap (λ (y : List ℕ). carry_one op (cut_of y)) same ∙ (ap (carry_one op) (cut_same t h.cut h.read) ∙ sym (ap (by_reading (carry_one op)) h.read))
 
 pub carried_by : (op : Operation) (t : List ℕ) (p : Places) (x : Changed) → HasPlaces t p → IsChange (segments_by op (cut_of t)) x → carried op t ≡ gives (new_text (segments_by op (cut_of t))) x.splices.items
-carried_by op t p x h change = sym (carried_on op t t p h refl) ∙ ap edit_made change.exact
+carried_by op t p x h change = sym (carried_on op t t p h refl) ∙ ap exchange_edit change.exact

@@ -28,8 +28,8 @@ operation_splices : (op : Operation) (t new : List ℕ) (cs : List Splice) → I
 operation_splices op t new cs k =
     let ss : List Segment = k.segments in
     let small : length t ≤ text_limit = k.read.cut.size in
-    let made : length new ≤ text_limit = k.reads.cut.size in
-    let fits : length (old_text ss) + length (new_text ss) < 2 ^ 64 = omega (arith, small, made, ap length k.old_is, ap length k.new_is) in
+    let new_bytes : length new ≤ text_limit = k.reads.cut.size in
+    let fits : length (old_text ss) + length (new_text ss) < 2 ^ 64 = omega (arith, small, new_bytes, ap length k.old_is, ap length k.new_is) in
     record {
       texts = sym (λ i. all_done (k.splices i) (k.old_is i)) ∙ (changes_lead ss ∙ ap Some k.new_is);
       lengths = sym (λ i. lengths_done (k.splices i) (length (k.old_is i))) ∙ (changes_lengths ss fits ∙ ap (λ (x : List ℕ). Some (length x)) k.new_is);

@@ -3,14 +3,14 @@ use Rattle.std.proofs.Common.{◌≡◌, ◌≢◌, ◌↔◌, List, ℕ, None, 
 use Rattle.std.specs.Str.{IsUtf8, is_utf8}
 use Rattle.std.proofs.lemmas.Bool.{false≢true}
 use Rattle.std.proofs.lemmas.Str.{is_utf8-from_IsUtf8}
-use Rattle.yq_scalar.specs.Answers.{Fails as FailsReading}
+use Rattle.yq_scalar.specs.Answers.{ReadFails as FailsReading}
 use Rattle.yq_scalar.specs.declared.ReadFault.{ReadFault}
 use Rattle.yq_scalar.specs.declared.fault.FaultKind.TheVariants.{NotUtf8}
 use Rattle.yq_scalar.specs.declared.fault.ReadError.{ReadError}
 use Rattle.yq_scalar.specs.declared.fault.ReadError.TheVariants as reading
 use Rattle.yq_places.specs.Answers.{IsNotUtf8}
 use Rattle.yq_documents.specs.Reading.{read_at}
-use Rattle.yq_splice.specs.Answers.{Fails, of_reading}
+use Rattle.yq_splice.specs.Answers.{EditFails, of_reading}
 use Rattle.yq_splice.specs.Edit.{Edit, unreadable}
 
 -- What is known where bytes aren't read.
@@ -25,6 +25,6 @@ text_unread bytes t fault same utf8 h = (
 )
 
 -- an edit of a text that isn't read
-pub edit_not_read : (e : ReadError) (bytes t : List ℕ) (edit : Edit) → bytes ≡ t → IsUtf8 t → FailsToRead e bytes → (read_at t ≡ None → edit ≡ unreadable) → Fails (of_reading e) edit
+pub edit_not_read : (e : ReadError) (bytes t : List ℕ) (edit : Edit) → bytes ≡ t → IsUtf8 t → FailsToRead e bytes → (read_at t ≡ None → edit ≡ unreadable) → EditFails (of_reading e) edit
 edit_not_read reading.Memory bytes t edit same utf8 h unread = tt
 edit_not_read (reading.Fault fault) bytes t edit same utf8 h unread = let k = text_unread bytes t fault same utf8 h in (unread k.0, k.1)

@@ -21,7 +21,7 @@ use Rattle.yq_meaning.specs.declared.expr_error.ExprError.TheVariants as plannin
 use Rattle.yq_script.specs.Splice.{Splice}
 use Rattle.yq_script.proofs.PlaceInList.{get_some}
 use Rattle.yq_script.specs.declared.edited.Edited.{Edited}
-use Rattle.yq_splice.specs.Answers.{Edits, Fails, of_planning, of_reading}
+use Rattle.yq_splice.specs.Answers.{Edits, EditFails, of_planning, of_reading}
 use Rattle.yq_splice.specs.Carried.{carry_all, carry_out, updated}
 use Rattle.yq_splice.specs.Edit.{Edit, unreadable, refuses, gives, behind, by_reading}
 use Rattle.yq_splice.specs.Theorems.{HasReading, IsUpdated}
@@ -65,14 +65,14 @@ module _ (u : Update) (t : List ℕ) (c : Cut) (ops : List Operation) (is : read
   update_ok (Ok e) ds h = step_so ds (carry_all ops t) (string_bytes e.text) e.splices.items done comes h
   update_ok (Err e) ds h = tt
 
-  fails_so : (e : EditError) → Fails e (carry_all ops t) → UpdateFails e u t
+  fails_so : (e : EditError) → EditFails e (carry_all ops t) → UpdateFails e u t
   fails_so (error.Read fault) h = absurd (subst (UpdateComes u t) h.0 comes)
   fails_so (error.Refused why) h = subst (UpdateComes u t) h comes
   fails_so error.Memory h = tt
 
   pub update_err : (r : Result Edited EditError) (ds : List Splice) → Edits r (behind ds (carry_all ops t)) → IfErr r (λ e. FailsAt e u t)
   update_err (Ok e) ds h = tt
-  update_err (Err e) ds h = let own = fails_itself e ds (carry_all ops t) h in record { fails = subst (Fails e) (sym done) own; why = fails_so e own }
+  update_err (Err e) ds h = let own = fails_itself e ds (carry_all ops t) h in record { fails = subst (EditFails e) (sym done) own; why = fails_so e own }
 
 -- an update that is refused
 update_refused : (u : Update) (t : List ℕ) (c : Cut) (why : Refusal) → read_at t ≡ Some c → plan u (room_of t) (documents c) ≡ judgement.refuses why → FailsAt (error.Refused why) u t

@@ -29,12 +29,12 @@ of_exchange exchanging.TooLarge = error.Refused TooLarge
 of_exchange exchanging.Memory = error.Memory
 
 -- what an error says of the edit, and that no text is told to be no UTF-8; want of memory says nothing (own)
-abbrev pub Fails : EditError → Edit → Type 0
-Fails (error.Read fault) edit = (edit ≡ unreadable) × (fault.kind ≢ NotUtf8)
-Fails (error.Refused why) edit = edit ≡ refuses why
-Fails error.Memory edit = Unit {0}
+abbrev pub EditFails : EditError → Edit → Type 0
+EditFails (error.Read fault) edit = (edit ≡ unreadable) × (fault.kind ≢ NotUtf8)
+EditFails (error.Refused why) edit = edit ≡ refuses why
+EditFails error.Memory edit = Unit {0}
 
 -- the answer is what the edit comes to (own)
 abbrev pub Edits : Result Edited EditError → Edit → Type 0
 Edits (Ok e) edit = edit ≡ gives (string_bytes e.text) e.splices.items
-Edits (Err e) edit = Fails e edit
+Edits (Err e) edit = EditFails e edit

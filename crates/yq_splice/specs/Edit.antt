@@ -37,10 +37,10 @@ by_reading f None = unreadable
 by_reading f (Some c) = f c
 
 -- what an exchange comes to as an edit (own)
-abbrev pub edit_made : Exchange → Edit
-edit_made (exchange.gives t cs) = gives t cs
-edit_made exchange.too_large = refuses TooLarge
+abbrev pub exchange_edit : Exchange → Edit
+exchange_edit (exchange.gives t cs) = gives t cs
+exchange_edit exchange.too_large = refuses TooLarge
 
 -- what segments of a text come to, unless the new text is too large (own)
 abbrev pub edit_of_segments : List Segment → Edit
-edit_of_segments ss = edit_made (exchange_of ss)
+edit_of_segments ss = exchange_edit (exchange_of ss)

@@ -7,18 +7,18 @@ use Rattle.yq_rows.specs.Kept.{IsPlaced}
 use Rattle.yq_rows.specs.Meter.{counted, line_count}
 use Rattle.yq_rows.specs.Rows.{Cut}
 use Rattle.yq_rows.specs.Touched.{TouchesOnly}
-use Rattle.yq_rows.specs.View.{shown}
+use Rattle.yq_rows.specs.View.{rows_view}
 use Rattle.yq_rows.specs.declared.places.Places.{Places}
 use Rattle.yq_documents.specs.Reading.{cut_of, read_at}
 use Rattle.yq_walk.specs.RowWalk.{AreKnown}
-use Rattle.yq_walk.specs.declared.spot.KnownItems.{KnownItems}
+use Rattle.yq_walk.specs.declared.position.KnownItems.{KnownItems}
 use Rattle.yq_meaning.specs.Operations.{Operation}
 use Rattle.yq_script.specs.Script.{Segment, kept_front, kept_back, new_text}
 use Rattle.yq_script.specs.Splice.{Splice}
 use Rattle.yq_session.specs.Following.{read_text}
 use Rattle.yq_session.specs.declared.kept.Kept.{Kept}
 use Rattle.yq_edits.specs.Edits.{edits}
-use Rattle.yq_edits.specs.TouchedRanges.{WrittenAreTouched}
+use Rattle.yq_edits.specs.TouchedRanges.{PutAreTouched}
 use Rattle.yq_splice.specs.Theorems.{HasReading}
 
 -- What a session is known by: its text, and how many lines were counted (own).
@@ -30,11 +30,11 @@ pub record SessionState : Type 0 where
 pub record HasPlaces (t : List ℕ) (places : Places) : Type 0 where
   pub cut : Cut
   pub read : read_at t ≡ Some cut
-  pub placed : IsPlaced places (shown cut)
+  pub placed : IsPlaced places (rows_view cut)
 
 -- items that are kept are known among the rows of a text (own)
 abbrev pub KnowsItems : List ℕ → KnownItems → Type 0
-KnowsItems t known = AreKnown (shown (cut_of t)).rows known
+KnowsItems t known = AreKnown (rows_view (cut_of t)).rows known
 
 -- why no session of a text is opened: it has no reading, or memory ran out (own)
 abbrev pub NotOpened : ReadError → List ℕ → Type 0
@@ -55,7 +55,7 @@ pub record IsScanned (op : Operation) (t new : List ℕ) (before after : ℕ) : 
   pub front : kept.front ≡ length (kept_front segments)
   pub back : kept.back ≡ length (kept_back segments)
   pub touches : TouchesOnly kept.front kept.back cut new_cut
-  pub each : WrittenAreTouched segments kept.front kept.back cut new_cut touches
+  pub each : PutAreTouched segments kept.front kept.back cut new_cut touches
   pub exact : after ≡ counted (line_count (read_text kept cut new_cut touches)) before
   pub most : after ≤ before + line_count (read_text kept cut new_cut touches)
 

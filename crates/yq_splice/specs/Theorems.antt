@@ -71,10 +71,10 @@ pub record IsLarge (op : Operation) (t : List ℕ) : Type 0 where
   pub size : text_limit < length (new_text segments)
 
 -- what refuses an operation that fits: the size of the new text, or want of memory (own)
-abbrev pub IsRefused : EditError → Operation → List ℕ → Type 0
-IsRefused (error.Read fault) op t = ⊥
-IsRefused (error.Refused why) op t = (why ≡ TooLarge) × IsLarge op t
-IsRefused error.Memory op t = ⊤
+abbrev pub OpRefused : EditError → Operation → List ℕ → Type 0
+OpRefused (error.Read fault) op t = ⊥
+OpRefused (error.Refused why) op t = (why ≡ TooLarge) × IsLarge op t
+OpRefused error.Memory op t = ⊤
 
 -- ---- one update
 

@@ -10,7 +10,7 @@ use Rattle.yq_script.specs.Splice.{Splice}
 use Rattle.yq_script.specs.Script.{Segment}
 use Rattle.yq_edits.specs.Edits.{edits, or_stay}
 use Rattle.yq_edits.specs.Operands.{HasOperand}
-use Rattle.yq_splice.specs.Answers.{Fails}
+use Rattle.yq_splice.specs.Answers.{EditFails}
 use Rattle.yq_splice.specs.Carried.{updated}
 use Rattle.yq_splice.specs.Edit.{in_order}
 use Rattle.yq_splice.specs.Edit as edit
@@ -50,10 +50,10 @@ UpdateFails error.Memory u t = ⊤
 
 -- An error is what an update comes to on a text, and tells why (own).
 pub record FailsAt (e : EditError) (u : Update) (t : List ℕ) : Type 0 where
-  pub fails : Fails e (updated u t)
+  pub fails : EditFails e (updated u t)
   pub why : UpdateFails e u t
 
 -- An error is what updates in order come to, and tells why (own).
 pub record FailsEach (e : EditError) (us : List Update) (t : List ℕ) : Type 0 where
-  pub fails : Fails e (in_order updated us t)
+  pub fails : EditFails e (in_order updated us t)
   pub why : EditRefused e (updates us) t

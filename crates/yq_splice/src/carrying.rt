@@ -4,11 +4,11 @@ ghost use Rattle.yq_meaning.specs.Operations.{operation_of, operations_of};
 ghost use Rattle.yq_documents.specs.Reading.{cut_of};
 ghost use Rattle.yq_script.specs.Changing.{IsChange};
 ghost use Rattle.yq_places.specs.RowWalk.{StayKnown};
-ghost use Rattle.yq_splice.specs.Answers.{Edits, Fails};
+ghost use Rattle.yq_splice.specs.Answers.{Edits, EditFails};
 ghost use Rattle.yq_splice.specs.Carried as spec;
 ghost use Rattle.yq_splice.specs.Edit.{behind};
 ghost use Rattle.yq_splice.specs.Session.{HasPlaces};
-ghost use Rattle.yq_splice.specs.Theorems.{IsApplied, IsFitting, IsRefused};
+ghost use Rattle.yq_splice.specs.Theorems.{IsApplied, IsFitting, OpRefused};
 ghost use Rattle.yq_splice.specs.Valid.{AreServed, segments_by};
 
 use crate::edit_error::EditError;
@@ -45,7 +45,7 @@ pub(crate) fn change_one(
     ensures ok { IfOk result (λ x. IsChange (segments_by (operation_of op.now) (cut_of cut.now))
         x.0) }
     ensures known { IfOk result (λ x. StayKnown x.0.front (cut_of cut.now) x.1) }
-    ensures err { IfErr result (λ e. Fails e (spec.carry_one (operation_of op.now)
+    ensures err { IfErr result (λ e. EditFails e (spec.carry_one (operation_of op.now)
         (cut_of cut.now))) }
 {
     let cut = on_the_way(cut, op);
@@ -83,7 +83,7 @@ pub fn apply_op(alloc: Global, text: &str, op: &Op) -> Result<Edited, EditError>
     ensures exact { Edits result (spec.carried (operation_of op.now) text.now) }
     ensures done { IfOk result (λ e. IsApplied (operation_of op.now) text.now (string_bytes e.text)
         e.splices.items) }
-    ensures refused { IfErr result (λ e. IsRefused e (operation_of op.now) text.now) }
+    ensures refused { IfErr result (λ e. OpRefused e (operation_of op.now) text.now) }
 {
     operand_holds(op);
     carry(alloc, text, op)

@@ -1,7 +1,7 @@
 //! What an operation exchanges in a text, by its kind and by what stands at its place.
 ghost use Rattle.std.specs.Prelude.{◌≡◌, ◌∷◌, IfOk, [], Some, None, if◌then◌else◌};
 ghost use Rattle.yq_inline.specs.Values.{node_of};
-ghost use Rattle.yq_lines.specs.Bodies.{lent};
+ghost use Rattle.yq_lines.specs.Bodies.{borrowed};
 ghost use Rattle.yq_rows.specs.Rows.{cut_text};
 ghost use Rattle.yq_documents.specs.Located.{steps_of};
 ghost use Rattle.yq_documents.specs.Reading.{cut_of};
@@ -10,7 +10,7 @@ ghost use Rattle.yq_places.specs.Standings.{last_step};
 ghost use Rattle.yq_meaning.specs.Operations.{operation_of};
 ghost use Rattle.yq_script.specs.Script.{keep};
 ghost use Rattle.yq_edits.specs.Edits as spec;
-ghost use Rattle.yq_edits.specs.Answers.{Carries};
+ghost use Rattle.yq_edits.specs.Answers.{GivesSegments};
 ghost use Rattle.yq_edits.specs.Replacing.{is_kept as is_kept_there};
 ghost use Rattle.yq_edits.specs.ReplaceEdits.{value_put_at as value_put_there};
 
@@ -32,7 +32,7 @@ fn unless_kept<'d>(
     value: &Value,
     segments: Option<Segments<'d>>,
 ) -> Result<Option<Segments<'d>>, AllocError>
-    ensures { Carries result (if is_kept_there (node_in path.now.doc (steps_of path.now)
+    ensures { GivesSegments result (if is_kept_there (node_in path.now.doc (steps_of path.now)
         (cut_of cut.now)) (node_of value.now) then Some (keep (cut_text (cut_of cut.now)) ∷ [])
         else segments.entry) }
 {
@@ -52,7 +52,7 @@ fn replaced_inside<'d>(
     value: &Value,
 ) -> Result<Option<Segments<'d>>, AllocError>
     ensures { value_put_there path.now.doc (steps_of path.now) (node_of value.now)
-        (cut_of cut.now) ≡ None → Carries result (spec.replaced path.now.doc (steps_of path.now)
+        (cut_of cut.now) ≡ None → GivesSegments result (spec.replaced path.now.doc (steps_of path.now)
         (node_of value.now) (cut_of cut.now)) }
 {
     let inside = put_in_flow(alloc, cut, path, value)?;
@@ -69,7 +69,7 @@ fn replaced<'d>(
     path: &Path,
     value: &Value,
 ) -> Result<Option<Segments<'d>>, AllocError>
-    ensures { Carries result (spec.replaced path.now.doc (steps_of path.now) (node_of value.now)
+    ensures { GivesSegments result (spec.replaced path.now.doc (steps_of path.now) (node_of value.now)
         (cut_of cut.now)) }
 {
     let outside = value_put_at(alloc, cut, path, value)?;
@@ -88,7 +88,7 @@ fn appended<'d>(
     key: Option<&str>,
     value: &Value,
 ) -> Result<Option<Segments<'d>>, AllocError>
-    ensures { Carries result (spec.appended path.now.doc (steps_of path.now) (lent key.entry)
+    ensures { GivesSegments result (spec.appended path.now.doc (steps_of path.now) (borrowed key.entry)
         (node_of value.now) (cut_of cut.now)) }
 {
     if let Some(segments) = more_at(alloc, cut, path, key, value)? {
@@ -103,7 +103,7 @@ fn sole_removed<'d>(
     cut: &CutText<'_, 'd>,
     path: &Path,
 ) -> Result<Option<Segments<'d>>, AllocError>
-    ensures { Carries result (spec.sole_removed path.now.doc (cut_of cut.now)
+    ensures { GivesSegments result (spec.sole_removed path.now.doc (cut_of cut.now)
         (last_step (steps_of path.now))) }
 {
     let Some(empty) = emptying(alloc, cut, path)? else {
@@ -119,7 +119,7 @@ fn rows_or_sole<'d>(
     cut: &CutText<'_, 'd>,
     path: &Path,
 ) -> Result<Option<Segments<'d>>, AllocError>
-    ensures { Carries result (spec.rows_or_sole path.now.doc (steps_of path.now)
+    ensures { GivesSegments result (spec.rows_or_sole path.now.doc (steps_of path.now)
         (cut_of cut.now)) }
 {
     let others = cut.has_others(alloc, path)?;
@@ -137,7 +137,7 @@ fn removed<'d>(
     cut: &CutText<'_, 'd>,
     path: &Path,
 ) -> Result<Option<Segments<'d>>, AllocError>
-    ensures { Carries result (spec.removed path.now.doc (steps_of path.now) (cut_of cut.now)) }
+    ensures { GivesSegments result (spec.removed path.now.doc (steps_of path.now) (cut_of cut.now)) }
 {
     if let Some(segments) = remove_in_flow(alloc, cut, path)? {
         return Ok(Some(segments));
@@ -151,7 +151,7 @@ fn edits<'d>(
     cut: &CutText<'_, 'd>,
     op: &Op,
 ) -> Result<Option<Segments<'d>>, AllocError>
-    ensures { Carries result (spec.edits (operation_of op.now) (cut_of cut.now)) }
+    ensures { GivesSegments result (spec.edits (operation_of op.now) (cut_of cut.now)) }
 {
     match op {
         Op::Replace(path, value) => replaced(alloc, cut, path, value),

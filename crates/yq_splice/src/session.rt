@@ -7,11 +7,11 @@ ghost use Rattle.yq_scalar.specs.Answers.{Gives};
 ghost use Rattle.yq_script.specs.Changing.{IsChange};
 ghost use Rattle.yq_text.specs.Halves.{whole};
 ghost use Rattle.yq_places.specs.RowWalk.{StayKnown};
-ghost use Rattle.yq_splice.specs.Answers.{Edits, Fails};
+ghost use Rattle.yq_splice.specs.Answers.{Edits, EditFails};
 ghost use Rattle.yq_splice.specs.Carried.{carried};
 ghost use Rattle.yq_splice.specs.Edit.{behind, gives};
 ghost use Rattle.yq_splice.specs.Session.{HasPlaces, NotOpened, Scans};
-ghost use Rattle.yq_splice.specs.Theorems.{HasReading, IsApplied, IsFitting, IsRefused};
+ghost use Rattle.yq_splice.specs.Theorems.{HasReading, IsApplied, IsFitting, OpRefused};
 ghost use Rattle.yq_splice.specs.Valid.{segments_by};
 
 use crate::carrying::{carry_one, change_one};
@@ -101,7 +101,7 @@ impl Session {
         ensures ok { IfOk result (λ x. IsChange (segments_by (operation_of op.now)
             (cut_of self.old.text)) x.0) }
         ensures known { IfOk result (λ x. StayKnown x.0.front (cut_of self.old.text) x.1) }
-        ensures err { IfErr result (λ e. Fails e (carried (operation_of op.now) self.old.text)) }
+        ensures err { IfErr result (λ e. EditFails e (carried (operation_of op.now) self.old.text)) }
     {
         let places = mem::replace(&mut self.places, Places::new(self.alloc));
         self.text.move_split(places.split);
@@ -124,10 +124,10 @@ impl Session {
         // What the operation comes to by itself.
         ensures ok { IfOk result (λ cs. carried (operation_of op.now) self.old.text ≡
             gives self.new.text cs.items) }
-        ensures err { IfErr result (λ e. Fails e (carried (operation_of op.now) self.old.text)) }
+        ensures err { IfErr result (λ e. EditFails e (carried (operation_of op.now) self.old.text)) }
         ensures done { IfOk result (λ cs.
             IsApplied (operation_of op.now) self.old.text self.new.text cs.items) }
-        ensures refused { IfErr result (λ e. IsRefused e (operation_of op.now) self.old.text) }
+        ensures refused { IfErr result (λ e. OpRefused e (operation_of op.now) self.old.text) }
         // The lines of the rows and ends of parts that it wrote are counted, and no others; none, where no
         // splice comes.
         ensures scanned { IfOk result (λ cs. Scans (operation_of op.now) self.old.text self.new.text

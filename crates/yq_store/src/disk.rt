@@ -15,7 +15,7 @@ mod state;
 mod temporary;
 mod trust;
 
-use crate::disk::edited::{Edited, check_first, journal_place, own_place, read_edited};
+use crate::disk::edited::{EditedFile, check_first, journal_place, own_place, read_edited};
 use crate::disk::journal::read_journal;
 use crate::disk::purpose::Purpose;
 use crate::disk::reading::read_text;
@@ -37,9 +37,9 @@ pub struct DiskStore<'a, R: Drop> {
     rt: R,
     file: &'a str,
     purpose: Purpose,
-    edited: Option<Edited>,
+    edited: Option<EditedFile>,
     is_checked: bool,
-    tells: bool,
+    reports: bool,
     failures: u64,
 }
 
@@ -52,16 +52,16 @@ impl<'a, R: Drop> DiskStore<'a, R> {
             purpose,
             edited: None,
             is_checked: false,
-            tells: false,
+            reports: false,
             failures: 0,
         }
     }
 
     /// The same store, which tells on standard error, or doesn't, where it waits for another run for
     /// longer than a second.
-    pub fn telling(self, tells: bool) -> Self {
+    pub fn reporting(self, reports: bool) -> Self {
         let mut store = self;
-        store.tells = tells;
+        store.reports = reports;
         store
     }
 }
@@ -80,7 +80,7 @@ impl<
         if name == self.file {
             self.edited = None;
             self.is_checked = false;
-            let (text, edited) = read_edited(&self.rt, alloc, name, self.purpose, self.tells)?;
+            let (text, edited) = read_edited(&self.rt, alloc, name, self.purpose, self.reports)?;
             self.edited = Some(edited);
             return Ok(text);
         }

@@ -2,7 +2,7 @@
 ghost use Rattle.std.specs.Prelude.{◌≡◌, true, [], IfOk, OnErr, option_map};
 ghost use Rattle.std.specs.FinMap as map;
 ghost use Rattle.std.specs.String.{string_bytes};
-ghost use Rattle.yq_store.specs.Content.{content_of};
+ghost use Rattle.yq_store.specs.FileMap.{content_of};
 
 use crate::store::{FileReadError, FileWriteError, Store};
 use std::alloc::Global;
@@ -72,7 +72,7 @@ impl MemoryStore {
     }
 
     /// What a write of this call leaves, where this is the call to fail.
-    fn turn(&mut self) -> Option<Left>
+    fn next_call(&mut self) -> Option<Left>
         ensures log { self.new.log ≡ self.old.log }
         ensures failures { self.new.failures ≡ self.old.failures }
         ensures alloc { self.new.alloc ≡ self.old.alloc }
@@ -119,7 +119,7 @@ impl Store for MemoryStore {
     ghost failures = { λ s. s.failures };
 
     fn read(&mut self, alloc: Global, name: &str) -> Result<Vec<u8>, FileReadError> {
-        if self.turn().is_some() {
+        if self.next_call().is_some() {
             self.failures = self.failures.saturating_add(1);
             return Err(FileReadError::ReadFailed);
         }
@@ -132,10 +132,10 @@ impl Store for MemoryStore {
         }
     }
 
-    #[tactic(auto, using(crate::specs::Content::get_other))]
+    #[tactic(auto, using(crate::specs::FileMap::get_other))]
     fn replace(&mut self, name: &str, bytes: &[u8]) -> Result<(), FileWriteError> {
-        let turn = self.turn();
-        if turn == Some(Left::OldBytes) {
+        let next_call = self.next_call();
+        if next_call == Some(Left::OldBytes) {
             self.failures = self.failures.saturating_add(1);
             return Err(FileWriteError::WriteFailed);
         }
@@ -143,7 +143,7 @@ impl Store for MemoryStore {
         if self.log.push_front(entry).is_err() {
             return Err(FileWriteError::OutOfMemory);
         }
-        if turn == Some(Left::NewBytes) {
+        if next_call == Some(Left::NewBytes) {
             self.failures = self.failures.saturating_add(1);
             return Err(FileWriteError::WriteFailed);
         }

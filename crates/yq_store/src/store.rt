@@ -1,7 +1,7 @@
 //! Stores of named files.
 ghost use Rattle.std.specs.Prelude.{◌≡◌, ◌≢◌, ℕ, List, ◌⊎◌, Bool, IsTrue, IfOk, OnOk, OnErr, IsErrOf, None, Some};
 ghost use Rattle.std.specs.FinMap as map;
-ghost use Rattle.yq_store.specs.Content.{Content};
+ghost use Rattle.yq_store.specs.FileMap.{FileMap};
 ghost use Rattle.yq_store.specs.Count.{after_read, after_write};
 
 use std::alloc::Global;
@@ -27,7 +27,7 @@ pub trait Store {
     ghost keeps: { Bool };
 
     /// What each name holds.
-    ghost content: { Self → Content };
+    ghost content: { Self → FileMap };
 
     /// How many calls failed, up to the last value of 64 bits, where it stays.
     ghost failures: { Self → ℕ };

@@ -1,8 +1,8 @@
 //! Calls of yq_inline.
 
+mod as_text;
 mod memory;
 mod nodes;
 mod reading;
 mod reads;
-mod shown;
 mod writes;

@@ -163,18 +163,18 @@ fn edited(
 fn edits_of_flow_collections(rt: HostRuntime) -> Result<(), Fail> {
     let alloc = rt.alloc();
     for (text, words, edit, expected) in &EDITS {
-        let Some(seen) = edited(alloc, text, words, edit)? else {
+        let Some(actual) = edited(alloc, text, words, edit)? else {
             panic!(rt; "no place of {edit:?} at {words:?} of {text:?}");
         };
         assert_eq!(rt;
-            seen.as_str(),
+            actual.as_str(),
             *expected,
             "{edit:?} at {words:?} of {text:?}"
         );
-        let Some(node) = node_of(alloc, &seen)? else {
+        let Some(node) = node_of(alloc, &actual)? else {
             panic!(rt; "nothing in front of {seen:?}");
         };
-        assert_eq!(rt; node.end, seen.len(), "{seen:?}");
+        assert_eq!(rt; node.end, actual.len(), "{seen:?}");
     }
     for (text, words, edit) in &NOWHERE {
         assert!(rt;

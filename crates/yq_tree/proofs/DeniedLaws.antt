@@ -1,17 +1,17 @@
 -- Texts whose parts stand for no documents.
 use Rattle.std.proofs.Common.{ℕ, List, ap, ◌∙◌}
 use Rattle.std.proofs.lemmas.Bool.{cond-false}
-use Rattle.yq_scalar.specs.Answers.{◌>>=◌, Fails}
+use Rattle.yq_scalar.specs.Answers.{◌>>=◌, ReadFails}
 use Rattle.yq_scalar.specs.declared.fault.ReadError.{ReadError}
 use Rattle.yq_scalar.specs.declared.fault.ReadError.TheVariants as errors
 use Rattle.yq_rows.specs.Grammar.{IsCut}
 use Rattle.yq_rows.specs.Rows.{Cut}
 use Rattle.yq_rows.proofs.ScanLaws.{scan_again}
-use Rattle.yq_documents.specs.Reading.{all_documents, checked, text_at}
+use Rattle.yq_documents.specs.Reading.{all_documents, checked, checked_at}
 use Rattle.yq_reading.specs.Deciding.{Denies}
 
 -- a text with parts that stand for no documents
-pub text_denied : (t : List ℕ) (c : Cut) (e : ReadError) → IsCut t c → Denies e (all_documents c) → Fails e (text_at t)
-unfolding text_at
+pub text_denied : (t : List ℕ) (c : Cut) (e : ReadError) → IsCut t c → Denies e (all_documents c) → ReadFails e (checked_at t)
+unfolding checked_at
 text_denied t c errors.Memory h denied = tt
 text_denied t c (errors.Fault f) h denied = ap (λ o. o >>= checked) (scan_again t c h) ∙ cond-false _ _ _ denied

@@ -9,29 +9,29 @@ use Rattle.yq_lines.specs.Ends.{reached}
 use Rattle.yq_rows.specs.Exchange.{behind_row}
 use Rattle.yq_rows.specs.Grammar.{IsCut}
 use Rattle.yq_rows.specs.Rows.{Row, cut_text}
-use Rattle.yq_rows.specs.View.{rows_of, Shown, shown}
+use Rattle.yq_rows.specs.View.{rows_of, RowsView, rows_view}
 use Rattle.yq_walk.specs.Lines.{lines_of}
-use Rattle.yq_walk.specs.RowWalk.{HasDocument, IsLine, line_number, stretch_told}
-use Rattle.yq_walk.specs.declared.spot.Spot.{Spot}
-use Rattle.yq_walk.specs.declared.spot.Stretch.{Stretch}
+use Rattle.yq_walk.specs.RowWalk.{HasDocument, IsLine, line_number, stretch_view}
+use Rattle.yq_walk.specs.declared.position.Position.{Position}
+use Rattle.yq_walk.specs.declared.position.Stretch.{Stretch}
 use Rattle.yq_documents.specs.Documents.{document_parts}
 use Rattle.yq_documents.specs.FlowReading.{row_flow}
 use Rattle.yq_documents.specs.Reading.{all_documents, cut_of}
-use Rattle.yq_documents.specs.Seats.{Seat, document_row}
+use Rattle.yq_documents.specs.LinesInRows.{RowLine, document_row}
 use Rattle.yq_places.specs.EntryReading.{entry_within, flow_entry_of}
 use Rattle.yq_places.specs.RowWalk.{document_rows}
 use Rattle.yq_places.proofs.EntryPlaceLaws.{flow_left}
 use Rattle.yq_places.proofs.WalkDocuments.{place_found}
-use Rattle.yq_places.proofs.WalkNodes.{before_is, row_in_cut, row_is, seat_is}
+use Rattle.yq_places.proofs.WalkNodes.{before_is, row_in_cut, row_is, row_line_is}
 
-pub flow_found : (t : List ℕ) (s : Shown) (i : ℕ) (d : Stretch) (q : Spot) (steps left : List Step) (flow : Option Placed) (found : Option PlacedEntry) → IsCut t (cut_of t) → s ≡ shown (cut_of t) →
-    Some (stretch_told d) ≡ document_rows i (cut_of t) → all_documents (cut_of t) ≡ true → IsLine s d q → ((h : HasDocument s d) → Some (line_number d h.stand.rows q, left) ≡ reached steps (lines_of h.stand.rows)) →
+pub flow_found : (t : List ℕ) (s : RowsView) (i : ℕ) (d : Stretch) (q : Position) (steps left : List Step) (flow : Option Placed) (found : Option PlacedEntry) → IsCut t (cut_of t) → s ≡ rows_view (cut_of t) →
+    Some (stretch_view d) ≡ document_rows i (cut_of t) → all_documents (cut_of t) ≡ true → IsLine s d q → ((h : HasDocument s d) → Some (line_number d h.stand.rows q, left) ≡ reached steps (lines_of h.stand.rows)) →
     ((r : Row) → slice_get (rows_of (cut_of t)) q.row ≡ Some r → flow ≡ row_flow (length t) r (behind_row q.row (cut_of t))) → found ≡ entry_within left flow → false ≡ eqb (length left) 0 →
     found ≡ (slice_get (document_parts (cut_of t)) i >>= λ p. flow_entry_of (document_row i (cut_of t)) (cut_of t) p.rows steps)
-flow_found t s i d q steps left flow found cut is place sound line leads made told some =
+flow_found t s i d q steps left flow found cut is place sound line leads decoded agrees some =
     place_found t s (cut_of t) i d found (λ k c rows. flow_entry_of k c rows steps) cut is place sound
     (λ k.
-    let seat' : Seat = record { before = q.row - d.first; row = row_is s d (cut_of t) k q line; line = q.line } in
-    let own : row_flow (length t) seat'.row (behind_row q.row (cut_of t)) ≡ row_flow (length (cut_text (cut_of t))) seat'.row (behind_row (d.first + seat'.before) (cut_of t)) =
-    λ j. row_flow (length (cut.text j)) seat'.row (behind_row (sym (before_is s d (cut_of t) k q line) j) (cut_of t)) in
-    flow_left d.first (cut_of t) k.document.stand.rows steps left (line_number d k.document.stand.rows q) seat' flow found (seat_is s d (cut_of t) k q line) (made seat'.row (row_in_cut s d (cut_of t) k q line) ∙ own) told (leads k.document) some)
+    let row_line' : RowLine = record { before = q.row - d.first; row = row_is s d (cut_of t) k q line; line = q.line } in
+    let own : row_flow (length t) row_line'.row (behind_row q.row (cut_of t)) ≡ row_flow (length (cut_text (cut_of t))) row_line'.row (behind_row (d.first + row_line'.before) (cut_of t)) =
+    λ j. row_flow (length (cut.text j)) row_line'.row (behind_row (sym (before_is s d (cut_of t) k q line) j) (cut_of t)) in
+    flow_left d.first (cut_of t) k.document.stand.rows steps left (line_number d k.document.stand.rows q) row_line' flow found (row_line_is s d (cut_of t) k q line) (decoded row_line'.row (row_in_cut s d (cut_of t) k q line) ∙ own) agrees (leads k.document) some)

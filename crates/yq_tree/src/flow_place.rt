@@ -2,13 +2,13 @@
 ghost use Rattle.std.specs.Prelude.{◌≡◌, map, option_map};
 ghost use Rattle.yq_inline.specs.Entries.{content_place, entry_place, entry_view, step_of};
 ghost use Rattle.yq_lines.specs.View.{head_flow};
-ghost use Rattle.yq_documents.specs.Made.{told_flow};
+ghost use Rattle.yq_documents.specs.Decoded.{decoded_flow};
 ghost use Rattle.yq_documents.specs.Pieces.{span};
 ghost use Rattle.yq_documents.specs.Reading.{cut_of};
 ghost use Rattle.yq_places.specs.EntryReading as spec;
 
 use crate::document::Documents;
-use yq_documents::{Made, Path, Span};
+use yq_documents::{Decoded, Path, Span};
 use yq_inline::{Entry, Step};
 use yq_lines::Head;
 use yq_walk::reach;
@@ -42,11 +42,11 @@ pub(crate) fn content_span(entry: &Entry<'_, '_>) -> Option<Span>
 }
 
 /// The item or entry to which steps lead in what is made of a row.
-fn made_entry<'d, 't>(made: Option<&'d Made<'t>>, steps: &[Step]) -> Option<Entry<'d, 't>>
+fn decoded_entry<'d, 't>(decoded: Option<&'d Decoded<'t>>, steps: &[Step]) -> Option<Entry<'d, 't>>
     ensures { option_map entry_view result ≡
-        spec.entry_within (map step_of steps.now) (told_flow (option_map (λ m. m.now) made.entry)) }
+        spec.entry_within (map step_of steps.now) (decoded_flow (option_map (λ m. m.now) decoded.entry)) }
 {
-    match &made?.head {
+    match &decoded?.head {
         Some(head) => head_entry(head, steps),
         None => None,
     }
@@ -64,6 +64,6 @@ impl<'t> Documents<'t> {
         if left.is_empty() {
             return None;
         }
-        made_entry(self.read.made(at.row), left)
+        decoded_entry(self.read.decoded(at.row), left)
     }
 }

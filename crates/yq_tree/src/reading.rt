@@ -40,7 +40,7 @@ pub fn text_of(bytes: &[u8]) -> Result<&str, ReadFault>
 /// Reads a text as documents.
 fn read_text(alloc: Global, text: &str) -> Result<Documents<'_>, ReadError>
     ensures text { IfOk result (λ d. d ≡ text.now) }
-    ensures exact { Gives spec.cut_of result (spec.text_at text.now) }
+    ensures exact { Gives spec.cut_of result (spec.checked_at text.now) }
     ensures fault { IfErr result IsOfText }
 {
     let rows = match scan(alloc, text) {
@@ -89,10 +89,10 @@ pub fn one_reading()
 
 /// What reading from left to right gives is a text's cut, whose parts stand for documents.
 pub fn cut_read()
-    ensures taken { (t : List ℕ) (c : Cut) → spec.text_at t ≡ Some c →
+    ensures taken { (t : List ℕ) (c : Cut) → spec.checked_at t ≡ Some c →
         IsCut t c × (spec.all_documents c ≡ true) }
-    ensures given { (t : List ℕ) (c : Cut) → IsCut t c → spec.all_documents c ≡ true →
-        spec.text_at t ≡ Some c }
+    ensures reads { (t : List ℕ) (c : Cut) → IsCut t c → spec.all_documents c ≡ true →
+        spec.checked_at t ≡ Some c }
 {}
 
 /// Each document of bytes that read is a tree, with no more collections nested than may be, and has the

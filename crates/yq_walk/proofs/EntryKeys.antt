@@ -11,7 +11,7 @@ use Rattle.yq_lines.specs.Group.{deeper, shallow, group, level_or, is_even, is_o
 use Rattle.yq_lines.specs.Outline.{Mark, Bare, Key, Dash, Line, level, Outline, end, row, children, key_of, label}
 use Rattle.yq_lines.specs.Places.{here, find_row, next_to}
 use Rattle.yq_lines.specs.Sound.{is_sound, head_is_sound, line_is_sound, is_entry, each_has_unique_keys}
-use Rattle.yq_lines.specs.Spots.{spot}
+use Rattle.yq_lines.specs.Positions.{position}
 use Rattle.yq_lines.proofs.EndsLaws.{deeper_line, not_end}
 use Rattle.yq_lines.proofs.KeyLaws.{differ, differs}
 use Rattle.yq_lines.proofs.LinesLaws.{part-all}
@@ -146,11 +146,11 @@ module _ (ls : List Line) (at floor next : ℕ) (l : Line) (is : slice_get ls at
       go None e = e
       go (Some j) e = (and_parts (not (list_any (bytes_eq j) (keys_of (children (part ls next floor))))) _ e).1
 
-  pub other_key : (key : List ℕ) (w : ℕ × Line × Outline) → spot next (find_row (To key) (part ls next floor)) ≡ Some w → is_here (To key) (label l) ≡ false
+  pub other_key : (key : List ℕ) (w : ℕ × Line × Outline) → position next (find_row (To key) (part ls next floor)) ≡ Some w → is_here (To key) (label l) ≡ false
   other_key key w found = go (key_of l.mark) own
     where
       there : find_row (To key) (part ls next floor) ≡ None → ⊥
-      there none = none-some w (sym (ap (spot next) none) ∙ found)
+      there none = none-some w (sym (ap (position next) none) ∙ found)
 
       go : (k : Option (List ℕ)) → are_distinct (with_key k (keys_of (children (part ls next floor)))) ≡ true → key_is key k ≡ false
       go None e = refl

@@ -6,8 +6,8 @@ use Rattle.std.specs.List.{slice_get}
 use Rattle.yq_scalar.specs.Text.{is_empty}
 use Rattle.yq_rows.specs.RowStarts.{row_level}
 use Rattle.yq_rows.specs.Rows.{Mark, Bare, Dash, Key, Row, dashes_text}
-use Rattle.yq_rows.specs.View.{Slices, slices, last_dash, rows_of, Shown, shown}
-use Rattle.yq_walk.specs.Extents.{dash_at, IsShown}
+use Rattle.yq_rows.specs.View.{Slices, slices, last_dash, rows_of, RowsView, rows_view}
+use Rattle.yq_walk.specs.Extents.{dash_at, IsRowsView}
 use Rattle.yq_walk.specs.RowWalk.{line_level, line_rank}
 
 -- a row without dashes, or one that begins with a dash
@@ -27,9 +27,9 @@ first_level r = go r.dashes r.mark refl where
   go [] (Key key colon) e = bare_level (slices r) e
   go (n ∷ ns) m e = dash_level (slices r) _ e
 
-pub shown_level : (s : Shown) (i : ℕ) (x : Slices) → IsShown s → slice_get s.rows i ≡ Some x → row_level x ≡ line_level 0 x
-shown_level s i x h there =
-    let at : slice_get (shown h.cut).rows i ≡ Some x = ap (λ (y : Shown). slice_get y.rows i) (sym h.is) ∙ there in
+pub view_level : (s : RowsView) (i : ℕ) (x : Slices) → IsRowsView s → slice_get s.rows i ≡ Some x → row_level x ≡ line_level 0 x
+view_level s i x h there =
+    let at : slice_get (rows_view h.cut).rows i ≡ Some x = ap (λ (y : RowsView). slice_get y.rows i) (sym h.is) ∙ there in
     go (slice_get (rows_of h.cut) i) (sym (slice_get-map slices (rows_of h.cut) i) ∙ at)
   where
     go : (o : Option Row) → option_map slices o ≡ Some x → row_level x ≡ line_level 0 x
@@ -37,9 +37,9 @@ shown_level s i x h there =
     go (Some r) e = let same : slices r ≡ x = same_Some _ _ e in ap row_level (sym same) ∙ (first_level r ∙ ap (line_level 0) same)
 
 -- what the first line of a row begins with
-pub first_rank : (s : Shown) (i : ℕ) (x : Slices) → IsShown s → slice_get s.rows i ≡ Some x → (a b : Bool) → a ≡ not (is_empty x.dashes) → b ≡ not (is_empty x.colon) → cond a 3 (cond b 2 1) ≡ line_rank 0 x
+pub first_rank : (s : RowsView) (i : ℕ) (x : Slices) → IsRowsView s → slice_get s.rows i ≡ Some x → (a b : Bool) → a ≡ not (is_empty x.dashes) → b ≡ not (is_empty x.colon) → cond a 3 (cond b 2 1) ≡ line_rank 0 x
 first_rank s i x h there a b dashes colon =
-    let level = shown_level s i x h there in
+    let level = view_level s i x h there in
     let r = ranks (is_empty x.dashes) (is_empty x.colon) in
     let d = ranks (not (ltb (dash_at 0 x.dashes) (length x.dashes))) (is_empty x.colon) in
     let same : cond (is_empty x.dashes) (cond (is_empty x.colon) 1 2) 3 ≡ line_rank 0 x = omega (arith, level, r.0, r.1, d.0, d.1, rank_is) in

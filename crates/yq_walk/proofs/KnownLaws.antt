@@ -5,8 +5,8 @@ use Rattle.std.proofs.lemmas.List.{drop-append-le, length-take-le}
 use Rattle.std.proofs.lemmas.Option.{same_Some, slice_get_within}
 use Rattle.std.specs.List.{slice_get}
 use Rattle.yq_rows.specs.View.{Slices}
-use Rattle.yq_walk.specs.RowWalk.{line_level, level_count, AreDeep, ArePassed, IsKnown}
-use Rattle.yq_walk.specs.declared.spot.KnownItem.{KnownItem}
+use Rattle.yq_walk.specs.RowWalk.{line_level, level_count, AreRowsDeep, ArePassed, IsKnown}
+use Rattle.yq_walk.specs.declared.position.KnownItem.{KnownItem}
 
 -- lists
 pub get_front : {A : Type 0} (xs ys : List A) (i : ℕ) (x : A) → slice_get xs i ≡ Some x → slice_get (xs ++ ys) i ≡ Some x
@@ -38,11 +38,11 @@ one_there [] i h = absurd (omega (arith, h))
 one_there (x ∷ ss) zero h = (x, refl)
 one_there (x ∷ ss) (suc i) h = one_there ss i (omega (arith, h))
 
-deep_both : (n : ℕ) (xs ys : List Slices) → AreDeep n xs → AreDeep n ys → AreDeep n (xs ++ ys)
+deep_both : (n : ℕ) (xs ys : List Slices) → AreRowsDeep n xs → AreRowsDeep n ys → AreRowsDeep n (xs ++ ys)
 deep_both n [] ys h g = g
 deep_both n (x ∷ xs) ys h g = (h.0, deep_both n xs ys h.1 g)
 
-deep_first : (n : ℕ) (xs ys : List Slices) → AreDeep n (xs ++ ys) → AreDeep n xs
+deep_first : (n : ℕ) (xs ys : List Slices) → AreRowsDeep n (xs ++ ys) → AreRowsDeep n xs
 deep_first n [] ys h = tt
 deep_first n (x ∷ xs) ys h = (h.0, deep_first n xs ys h.1)
 
@@ -80,7 +80,7 @@ passed_more xs x k index row h deep e =
       there = get_front xs (x ∷ []) k.under.row h.piece h.there;
       level = h.level;
       deeper = h.deeper;
-      deep = subst (AreDeep k.level) (sym split) (deep_both k.level (drop (k.under.row + 1) xs) (x ∷ []) h.deep (deep, tt));
+      deep = subst (AreRowsDeep k.level) (sym split) (deep_both k.level (drop (k.under.row + 1) xs) (x ∷ []) h.deep (deep, tt));
       index = omega (arith, e, h.index, ap (level_count k.level) split, count_both k.level (drop (k.under.row + 1) xs) (x ∷ []));
     }
 
@@ -92,7 +92,7 @@ passed_less xs x k index row h within e =
       there = get_before xs (x ∷ []) k.under.row h.piece within h.there;
       level = h.level;
       deeper = h.deeper;
-      deep = deep_first k.level (drop (k.under.row + 1) xs) (x ∷ []) (subst (AreDeep k.level) split h.deep);
+      deep = deep_first k.level (drop (k.under.row + 1) xs) (x ∷ []) (subst (AreRowsDeep k.level) split h.deep);
       index = omega (arith, e, h.index, ap (level_count k.level) split, count_both k.level (drop (k.under.row + 1) xs) (x ∷ []));
     }
 
@@ -122,7 +122,7 @@ known_first ss k x is level deeper one next =
       there = last_there (take u ss) u (omega (arith, size));
       level = level;
       deeper = deeper;
-      deep = subst (AreDeep k.level) (sym none) tt;
+      deep = subst (AreRowsDeep k.level) (sym none) tt;
       index = one ∙ ap (λ (ys : List Slices). suc (level_count k.level ys)) (sym none);
     })
   where

@@ -8,11 +8,11 @@ use Rattle.std.specs.List.{slice_get, sum_by}
 use Rattle.yq_scalar.specs.Characters.{text_limit}
 use Rattle.yq_rows.specs.Exchange.{row_front, before_at, before_content}
 use Rattle.yq_rows.specs.Rows.{Mark, Bare, Dash, Key, Row, dashes_text, mark_text, rows_text, Part, part_text, Cut, last, marked, cut_text}
-use Rattle.yq_rows.specs.View.{Slices, slices, last_dash, key_of, colon_of, rows_of, Bound, bounds_from, Shown, shown}
+use Rattle.yq_rows.specs.View.{Slices, slices, last_dash, key_of, colon_of, rows_of, Bound, bounds_from, RowsView, rows_view}
 use Rattle.yq_rows.proofs.ExchangeLaws.{slice_front, slice_back}
 use Rattle.yq_rows.proofs.SliceLaws.{print-length}
 use Rattle.yq_rows.specs.Offsets.{row_length}
-use Rattle.yq_walk.specs.Extents.{bound_length, passed_length, row_start, front_length, shown_length, head_place, IsShown}
+use Rattle.yq_walk.specs.Extents.{bound_length, passed_length, row_start, front_length, view_length, head_place, IsRowsView}
 
 -- how long rows are
 abbrev rows_sum : List Row → ℕ
@@ -39,8 +39,8 @@ pieces-length n (marked p marker c) =
     ap (sum_by row_length) (map-append slices p.rows (rows_of c)) ∙ sum_by-append row_length (map slices p.rows) (map slices (rows_of c)) in
     omega (arith, part-length p (marker ++ cut_text c), length-append marker (cut_text c), rows, sum_by-cons bound_length b (bounds_from (n + length p.rows) c), pieces-length (n + length p.rows) c)
 
-pub shown-length : (c : Cut) → length (cut_text c) ≡ shown_length (shown c)
-shown-length c = pieces-length 0 c
+pub rows_view-length : (c : Cut) → length (cut_text c) ≡ view_length (rows_view c)
+rows_view-length c = pieces-length 0 c
 
 -- the front of a row
 mark-length : (m : Mark) → length (mark_text m []) ≡ length (last_dash m) + (length (key_of m) + length (colon_of m))
@@ -142,23 +142,23 @@ content-length n i (marked p marker c) r is = go (cases_lt i (length p.rows)) (�
         omega (arith, text, part-length p (marker ++ before_content (i - length p.rows) c), length-append marker (before_content (i - length p.rows) c), rows_past i p.rows (rows_of c) past, sum, all, deep)
 
 -- where the head of a row stands, by the pieces
-head_is : (c : Cut) (i : ℕ) (r : Row) (start end : ℕ) → slice_get (rows_of c) i ≡ Some r → start ≡ row_start i (shown c) + front_length (slices r) → end ≡ start + length (slices r).head → (start, end) ≡ head_place i c r
+head_is : (c : Cut) (i : ℕ) (r : Row) (start end : ℕ) → slice_get (rows_of c) i ≡ Some r → start ≡ row_start i (rows_view c) + front_length (slices r) → end ≡ start + length (slices r).head → (start, end) ≡ head_place i c r
 head_is c i r start end is e f =
     let s : Slices = slices r in
     let zero : 0 + i ≡ i = omega arith in
-    let text : length (before_content i c) ≡ row_start i (shown c) + begin_length s =
+    let text : length (before_content i c) ≡ row_start i (rows_view c) + begin_length s =
     content-length 0 i c r is ∙ ap (λ (k : ℕ). rows_first i c + sum_by (passed_length k) (bounds_from 0 c) + begin_length (slices r)) zero in
     let before : length (before_content i c ++ (s.space ++ (s.anchor ++ s.apart))) ≡ start =
     omega (arith, e, text, length-append (before_content i c) (s.space ++ (s.anchor ++ s.apart)), length-append s.space (s.anchor ++ s.apart), length-append s.anchor s.apart) in
     λ j. (sym before j, (f ∙ ap (λ (k : ℕ). k + length s.head) (sym before)) j)
 
 -- the same by the sums of the code
-pub head_told : (s : Shown) (i start front head : ℕ) (x : Slices) → slice_get s.rows i ≡ Some x → start ≡ row_start i s → front ≡ front_length x → head ≡ length x.head →
-    (c : Cut) → s ≡ shown c → (r : Row) → slice_get (rows_of c) i ≡ Some r → (start + front, start + front + head) ≡ head_place i c r
-head_told s i start front head x there start_is front_is head_len c shown_is r is =
-    let same : x ≡ slices r = same_Some _ _ (sym there ∙ (ap (λ (y : Shown). slice_get y.rows i) shown_is ∙ (slice_get-map slices (rows_of c) i ∙ ap (option_map slices) is))) in
+pub head_agrees : (s : RowsView) (i start front head : ℕ) (x : Slices) → slice_get s.rows i ≡ Some x → start ≡ row_start i s → front ≡ front_length x → head ≡ length x.head →
+    (c : Cut) → s ≡ rows_view c → (r : Row) → slice_get (rows_of c) i ≡ Some r → (start + front, start + front + head) ≡ head_place i c r
+head_agrees s i start front head x there start_is front_is head_len c rows_view_is r is =
+    let same : x ≡ slices r = same_Some _ _ (sym there ∙ (ap (λ (y : RowsView). slice_get y.rows i) rows_view_is ∙ (slice_get-map slices (rows_of c) i ∙ ap (option_map slices) is))) in
     head_is c i r (start + front) (start + front + head) is
-    (omega (arith, start_is, front_is, ap (row_start i) shown_is, ap front_length same))
+    (omega (arith, start_is, front_is, ap (row_start i) rows_view_is, ap front_length same))
     (omega (arith, head_len, ap (λ (y : Slices). length y.head) same))
 
 passed_less : (i : ℕ) (b : Bound) → passed_length i b ≤ bound_length b
@@ -169,12 +169,12 @@ passed_less i b = go (leb b.rows i)
     go false = omega arith
 
 -- what stands before a row and the row are within the whole
-pub row_fits : (s : Shown) (i : ℕ) (x : Slices) → slice_get s.rows i ≡ Some x → row_start i s + row_length x ≤ shown_length s
+pub row_fits : (s : RowsView) (i : ℕ) (x : Slices) → slice_get s.rows i ≡ Some x → row_start i s + row_length x ≤ view_length s
 row_fits s i x is =
     let ends = sum_by-le-sum_by (passed_length i) bound_length s.bounds (passed_less i) in
     let within = slice_get_within s.rows i x is in
     omega (arith, ends, ap row_length (get_or_from_slice_get s.rows i x x is), sum_by_more_le row_length s.rows i x within)
 
 -- a text that is not too long has pieces that are not
-pub shown_small : (s : Shown) → IsShown s → shown_length s ≤ text_limit
-shown_small s h = omega (arith, ap shown_length h.is, shown-length h.cut, h.size)
+pub view_small : (s : RowsView) → IsRowsView s → view_length s ≤ text_limit
+view_small s h = omega (arith, ap view_length h.is, rows_view-length h.cut, h.size)

@@ -3,7 +3,7 @@ pub mod LengthLaws
 pub mod WalkLevels
 pub mod WalkRows
 pub mod WalkEnds
-pub mod WalkSpots
+pub mod WalkPositions
 pub mod KnownLaws
 pub mod Siblings
 pub mod KnownWalks

@@ -7,7 +7,7 @@ use Rattle.yq_scalar.specs.Plain.{holds_break}
 use Rattle.yq_scalar.specs.Quoted.{IsQuotedText}
 use Rattle.yq_scalar.specs.Text.{is_feed}
 use Rattle.yq_inline.specs.Nodes.{first_is}
-use Rattle.yq_lines.proofs.OneLine.{lent_quoted}
+use Rattle.yq_lines.proofs.OneLine.{borrowed_quoted}
 
 any_drop : (f : ℕ → Bool) (n : ℕ) (t : List ℕ) → list_any f t ≡ false → list_any f (drop n t) ≡ false
 any_drop f zero t e = e
@@ -23,6 +23,6 @@ any_take f (suc n) (b ∷ bs) e =
     (λ i. p.0 i || rest i)
 
 pub quoted_lent : (piece inner : List ℕ) → IsQuotedText piece → holds_break piece ≡ false → inner ≡ take (length piece - 2) (drop 1 piece) → list_any (λ b. eqb b (cond (first_is 34 piece) 92 39)) inner ≡ false → inner ≡ quoted_content piece
-quoted_lent [] inner q broken is none = lent_quoted [] inner [] q refl is (ap holds_break is) (ap (list_any (λ b. eqb b 39)) is)
+quoted_lent [] inner q broken is none = borrowed_quoted [] inner [] q refl is (ap holds_break is) (ap (list_any (λ b. eqb b 39)) is)
 quoted_lent (b ∷ bs) inner q broken is none =
-    lent_quoted (b ∷ bs) inner (b ∷ bs) q refl is (ap holds_break is ∙ any_take is_feed (length (b ∷ bs) - 2) bs (any_drop is_feed 1 (b ∷ bs) broken)) none
+    borrowed_quoted (b ∷ bs) inner (b ∷ bs) q refl is (ap holds_break is ∙ any_take is_feed (length (b ∷ bs) - 2) bs (any_drop is_feed 1 (b ∷ bs) broken)) none

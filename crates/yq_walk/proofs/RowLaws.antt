@@ -5,7 +5,7 @@ use Rattle.yq_scalar.specs.Piece.{deeper}
 use Rattle.yq_scalar.specs.Plain.{begins_plain, holds_break}
 use Rattle.yq_scalar.specs.Quoted.{IsQuotedText}
 use Rattle.yq_scalar.specs.Text.{is_empty, lines_of}
-use Rattle.yq_inline.specs.Scalars.{IsScalar, is_quoted}
+use Rattle.yq_inline.specs.Scalars.{IsScalarAt, is_quoted}
 use Rattle.yq_inline.proofs.PieceLaws.{front_not, scalar_some}
 use Rattle.yq_lines.specs.Comments.{head_comment}
 use Rattle.yq_rows.specs.Grammar.{IsMark}
@@ -20,7 +20,7 @@ pub colon_some : (white : List ℕ) → is_empty (white ++ 58 ∷ []) ≡ false
 colon_some [] = refl
 colon_some (b ∷ bs) = refl
 
-pub scalar_written : (n : ℤ) (p rest : List ℕ) → IsScalar false (Some (deeper n)) p rest → is_empty p ≡ false
+pub scalar_written : (n : ℤ) (p rest : List ℕ) → IsScalarAt false (Some (deeper n)) p rest → is_empty p ≡ false
 scalar_written n [] rest h = absurd (omega (arith, scalar_some false (Some (deeper n)) [] rest h))
 scalar_written n (b ∷ bs) rest h = refl
 
@@ -33,7 +33,7 @@ plain_key (b ∷ bs) rest h q =
     let no : is_quoted (b ∷ bs) ≡ false = rw (double, single) refl in
     absurd (false≢true (sym no ∙ q))
 
-pub scalar_quoted : (spaces : Option ℕ) (p rest : List ℕ) → IsScalar false spaces p rest → is_quoted p ≡ true → IsQuotedText p
+pub scalar_quoted : (spaces : Option ℕ) (p rest : List ℕ) → IsScalarAt false spaces p rest → is_quoted p ≡ true → IsQuotedText p
 scalar_quoted spaces p rest (inl h) q = plain_key p rest h.begins q
 scalar_quoted spaces p rest (inr h) q = (h.0.0, (h.0.1.0, (rest, h.0.1.1)))
 

@@ -4,7 +4,7 @@ use Rattle.std.proofs.lemmas.Bool.{cases_lt, cond-true, cond-false, lt-ltb, le-l
 use Rattle.std.proofs.lemmas.Option.{same_Some}
 use Rattle.std.specs.List.{slice_get}
 use Rattle.yq_rows.specs.View.{Slices}
-use Rattle.yq_walk.specs.RowWalk.{line_level, level_count, deeper_rows, AreDeep}
+use Rattle.yq_walk.specs.RowWalk.{line_level, level_count, deeper_rows, AreRowsDeep}
 
 pub get_taken : (ss : List Slices) (n i : ℕ) → i < n → slice_get (take n ss) i ≡ slice_get ss i
 get_taken [] zero i h = refl
@@ -29,9 +29,9 @@ pub record Sibling (n : ℕ) (ys : List Slices) : Type 0 where
   pub there : slice_get ys before ≡ Some piece
   pub same : line_level 0 piece ≡ n
   pub count : level_count n ys ≡ suc (level_count n (drop (suc before) ys))
-  pub deep : AreDeep n (drop (suc before) ys)
+  pub deep : AreRowsDeep n (drop (suc before) ys)
 
-pub siblings : (n : ℕ) (ys : List Slices) → AreDeep n ys → ((deeper_rows n ys ≡ length ys) × (level_count n ys ≡ 0)) ⊎ Sibling n ys
+pub siblings : (n : ℕ) (ys : List Slices) → AreRowsDeep n ys → ((deeper_rows n ys ≡ length ys) × (level_count n ys ≡ 0)) ⊎ Sibling n ys
 siblings n [] h = inl (refl, refl)
 siblings n (y ∷ ys) h = go (cases_lt n (line_level 0 y)) (siblings n ys h.1)
   where

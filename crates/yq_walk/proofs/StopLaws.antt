@@ -6,7 +6,7 @@ use Rattle.std.proofs.lemmas.Option.{slice_get_within}
 use Rattle.std.specs.List.{slice_get}
 use Rattle.yq_lines.specs.Ends.{IsEndOf, deeper_count}
 use Rattle.yq_lines.specs.Outline.{Line, level}
-use Rattle.yq_lines.proofs.LineEnds.{end_counted, end_told}
+use Rattle.yq_lines.proofs.LineEnds.{end_counted, end_agrees}
 use Rattle.yq_lines.proofs.Parts.{drop_at}
 
 count_more : (n : ℕ) (l : Line) (ls : List Line) → n < level l → deeper_count n (l ∷ ls) ≡ suc (deeper_count n ls)
@@ -35,7 +35,7 @@ stop_step ls at floor next l is deep ends =
     let rest : List Line = drop (at + 1) ls in
     let m : ℕ = deeper_count (level l) rest in
     let within : at < length ls = slice_get_within ls at l is in
-    let next_is : next ≡ (at + 1) + m = end_told ls at next within ends ∙ sym (end_told ls at ((at + 1) + m) within (stop_end ls at l is)) in
+    let next_is : next ≡ (at + 1) + m = end_agrees ls at next within ends ∙ sym (end_agrees ls at ((at + 1) + m) within (stop_end ls at l is)) in
     let count : deeper_count floor (drop at ls) ≡ suc (deeper_count floor rest) = ap (deeper_count floor) (drop_at ls at l is) ∙ count_more floor l rest deep in
     let behind : deeper_count floor (drop next ls) ≡ deeper_count floor (drop m rest) = ap (λ (k : ℕ). deeper_count floor (drop k ls)) next_is ∙ ap (deeper_count floor) (sym (drop-drop m (at + 1) ls)) in
     omega (arith, count, passed (level l) floor rest deep, next_is, behind)

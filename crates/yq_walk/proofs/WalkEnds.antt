@@ -16,7 +16,7 @@ use Rattle.yq_rows.specs.View.{slices}
 use Rattle.yq_walk.specs.Lines.{mark_of, mark_line, dash_line, lines_from, row_lines, lines_of}
 use Rattle.yq_walk.proofs.RowLaws.{lines_count}
 use Rattle.yq_walk.specs.RowWalk.{line_level, deeper_rows, lines_stop}
-use Rattle.yq_walk.proofs.WalkLevels.{IsTelling, AreTelling, line_in, level_is}
+use Rattle.yq_walk.proofs.WalkLevels.{RowAgrees, RowsAgree, line_in, level_is}
 
 -- one more line that is deeper, or none
 count_more : (n : ℕ) (l : Line) (ls : List Line) → n < level l → deeper_count n (l ∷ ls) ≡ suc (deeper_count n ls)
@@ -77,13 +77,13 @@ behind_line n above column (x ∷ ns) m c (suc k) l ys h e deep =
     omega (arith, behind_line n [] (suc (column + x)) ns m c k l ys (omega (arith, h)) e deep)
 
 -- the first line of a row
-first_line : (r : Row) → IsTelling r → (l : Line) × (slice_get (row_lines r) 0 ≡ Some l) × (level l ≡ line_level 0 (slices r))
+first_line : (r : Row) → RowAgrees r → (l : Line) × (slice_get (row_lines r) 0 ≡ Some l) × (level l ≡ line_level 0 (slices r))
 first_line r t =
     let x = line_in (comments.head_comment r.gap) r.column r.dashes r.mark r.content 0 (omega arith) in
     (x.0, x.1, level_is r 0 x.0 t (omega arith) x.2)
 
 -- the lines of the rows that begin deeper
-rows_deeper : (n : ℕ) (rs : List Row) → AreTelling rs → deeper_count n (lines_of rs) ≡ length (lines_of (take (deeper_rows n (map slices rs)) rs))
+rows_deeper : (n : ℕ) (rs : List Row) → RowsAgree rs → deeper_count n (lines_of rs) ≡ length (lines_of (take (deeper_rows n (map slices rs)) rs))
 rows_deeper n [] h = refl
 rows_deeper n (r ∷ rs) h = go (cases_lt n (line_level 0 (slices r))) (rows_deeper n rs h.1)
   where
@@ -97,13 +97,13 @@ rows_deeper n (r ∷ rs) h = go (cases_lt n (line_level 0 (slices r))) (rows_dee
         let rest : List Line = lines_of (take (deeper_rows n (map slices rs)) rs) in
         let lines : deeper_count n (row_lines r ++ lines_of rs) ≡ suc (length r.dashes) + deeper_count n (lines_of rs) =
         first_deeper n (comments.head_comment r.gap) r.column r.dashes r.mark r.content x.0 (lines_of rs) x.1 (omega (arith, less, x.2)) in
-        let told : deeper_rows n (map slices (r ∷ rs)) ≡ suc (deeper_rows n (map slices rs)) = cond-true _ (suc (deeper_rows n (map slices rs))) 0 (lt-ltb n (line_level 0 (slices r)) less) in
+        let agrees : deeper_rows n (map slices (r ∷ rs)) ≡ suc (deeper_rows n (map slices rs)) = cond-true _ (suc (deeper_rows n (map slices rs))) 0 (lt-ltb n (line_level 0 (slices r)) less) in
         let sum : length (row_lines r ++ rest) ≡ suc (length r.dashes) + deeper_count n (lines_of rs) = omega (arith, count, again, length-append (row_lines r) rest) in
-        lines ∙ (sym sum ∙ ap (λ (k : ℕ). length (lines_of (take k (r ∷ rs)))) (sym told))
+        lines ∙ (sym sum ∙ ap (λ (k : ℕ). length (lines_of (take k (r ∷ rs)))) (sym agrees))
     go (inr stop) again =
         let x = first_line r h.0 in
-        let told : deeper_rows n (map slices (r ∷ rs)) ≡ 0 = cond-false _ (suc (deeper_rows n (map slices rs))) 0 (le-ltb n (line_level 0 (slices r)) stop) in
-        first_shallow n (comments.head_comment r.gap) r.column r.dashes r.mark r.content x.0 (lines_of rs) x.1 (omega (arith, stop, x.2)) ∙ ap (λ (k : ℕ). length (lines_of (take k (r ∷ rs)))) (sym told)
+        let agrees : deeper_rows n (map slices (r ∷ rs)) ≡ 0 = cond-false _ (suc (deeper_rows n (map slices rs))) 0 (le-ltb n (line_level 0 (slices r)) stop) in
+        first_shallow n (comments.head_comment r.gap) r.column r.dashes r.mark r.content x.0 (lines_of rs) x.1 (omega (arith, stop, x.2)) ∙ ap (λ (k : ℕ). length (lines_of (take k (r ∷ rs)))) (sym agrees)
 
 -- the lines of rows, cut at a row
 pub lines_cut : (rs : List Row) (i : ℕ) (r : Row) → slice_get rs i ≡ Some r → lines_of rs ≡ lines_of (take i rs) ++ (row_lines r ++ lines_of (drop (suc i) rs))
@@ -124,10 +124,10 @@ lines_upto (x ∷ rs) (suc i) d r e =
     ∙ omega (arith, lines_upto rs i d r e, length-append (row_lines x) (lines_of (take (suc i + d) rs)), length-append (row_lines x) (lines_of (take i rs)))
 
 -- the rows behind one
-telling_drop : (k : ℕ) (rs : List Row) → AreTelling rs → AreTelling (drop k rs)
-telling_drop zero rs h = h
-telling_drop (suc k) [] h = h
-telling_drop (suc k) (r ∷ rs) h = telling_drop k rs h.1
+rows_agree_drop : (k : ℕ) (rs : List Row) → RowsAgree rs → RowsAgree (drop k rs)
+rows_agree_drop zero rs h = h
+rows_agree_drop (suc k) [] h = h
+rows_agree_drop (suc k) (r ∷ rs) h = rows_agree_drop k rs h.1
 
 -- a line of rows
 pub line_of_row : (rs : List Row) (i k : ℕ) (r : Row) → slice_get rs i ≡ Some r → k ≤ length r.dashes → slice_get (lines_of rs) (length (lines_of (take i rs)) + k) ≡ slice_get (row_lines r) k
@@ -147,7 +147,7 @@ line_of_row rs i k r e h =
     front (x ∷ xs) ys (suc n) h = front xs ys n (omega (arith, h))
 
 -- where lines end that follow one of a row and are deeper than a level: at the first row behind its own that doesn't begin deeper
-module _ (rs : List Row) (i k : ℕ) (r : Row) (l : Line) (t : AreTelling rs) (e : slice_get rs i ≡ Some r) (h : k ≤ length r.dashes) (is : slice_get (row_lines r) k ≡ Some l) where
+module _ (rs : List Row) (i k : ℕ) (r : Row) (l : Line) (t : RowsAgree rs) (e : slice_get rs i ≡ Some r) (h : k ≤ length r.dashes) (is : slice_get (row_lines r) k ≡ Some l) where
   abbrev at : ℕ
   at = length (lines_of (take i rs)) + k
 
@@ -160,7 +160,7 @@ module _ (rs : List Row) (i k : ℕ) (r : Row) (l : Line) (t : AreTelling rs) (e
       (λ j. drop (one j) (lines_cut rs i r e j)) ∙ drop-append-add a (row_lines r ++ lines_of others) (suc k) in
       let count : deeper_count n (drop (suc at) (lines_of rs)) ≡ (length r.dashes - k) + deeper_count n (lines_of others) =
       ap (deeper_count n) rest ∙ behind_line n (comments.head_comment r.gap) r.column r.dashes r.mark r.content k l (lines_of others) h is deep in
-      omega (arith, count, h, rows_deeper n others (telling_drop (suc i) rs t), lines_upto rs i (deeper_rows n (map slices others)) r e)
+      omega (arith, count, h, rows_deeper n others (rows_agree_drop (suc i) rs t), lines_upto rs i (deeper_rows n (map slices others)) r e)
 
   pub ends_at : IsEndOf (lines_of rs) at (length (lines_of (take (suc i + deeper_rows (level l) (map slices (drop (suc i) rs))) rs)))
   ends_at = subst (IsEndOf (lines_of rs) at) (followed (level l) (omega arith)) (end_counted (lines_of rs) at l (line_of_row rs i k r e h ∙ is))

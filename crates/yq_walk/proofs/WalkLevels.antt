@@ -20,7 +20,7 @@ use Rattle.yq_walk.specs.RowWalk.{line_rank, line_level}
 use Rattle.yq_walk.proofs.ToDashes.{to_dash, last_is}
 
 -- What is asked of a row, for its pieces to tell its lines.
-pub record IsTelling (r : Row) : Type 0 where
+pub record RowAgrees (r : Row) : Type 0 where
   pub counted : lines_before_mark (slices r) ≡ length r.dashes
   pub colon : is_empty (colon_of r.mark) ≡ is_item (key_of (mark_of r.mark))
   pub head : is_empty (content_cut r.content).3 ≡ is_none (head_of r.content)
@@ -28,9 +28,9 @@ pub record IsTelling (r : Row) : Type 0 where
   pub line : holds_break (slices r).key ≡ false
 
 -- the same of all rows
-abbrev pub AreTelling : List Row → Type 0
-AreTelling [] = Unit {0}
-AreTelling (r ∷ rs) = IsTelling r × AreTelling rs
+abbrev pub RowsAgree : List Row → Type 0
+RowsAgree [] = Unit {0}
+RowsAgree (r ∷ rs) = RowAgrees r × RowsAgree rs
 
 -- Line k of a row from a column on.
 pub record IsLineOf (column : ℕ) (ns : List ℕ) (m : rows.Mark) (c : Content) (k : ℕ) (l : Line) : Type 0 where
@@ -76,7 +76,7 @@ mark_rank (rows.Key key colon) ns a e h =
     sym (cond-false _ 3 (cond (is_empty colon) 1 2) (le-ltb a (length (dashes_text ns [])) (omega (arith, e))) ∙ ap (λ (b : Bool). cond b 1 2) h)
 
 -- the rank of a line of a row
-pub rank_is : (r : Row) (k : ℕ) (l : Line) → IsTelling r → k ≤ length r.dashes → IsLineOf r.column r.dashes r.mark r.content k l → rank l.mark ≡ line_rank k (slices r)
+pub rank_is : (r : Row) (k : ℕ) (l : Line) → RowAgrees r → k ≤ length r.dashes → IsLineOf r.column r.dashes r.mark r.content k l → rank l.mark ≡ line_rank k (slices r)
 rank_is r k l t h is = go (to_dash k r.dashes (last_dash r.mark) h (last_is r.mark)) (cases_lt k (length r.dashes))
   where
     go : dash_at k (slices r).dashes ≡ length (dashes_text (take k r.dashes) []) → (k < length r.dashes) ⊎ (length r.dashes ≤ k) → rank l.mark ≡ line_rank k (slices r)
@@ -89,7 +89,7 @@ rank_is r k l t h is = go (to_dash k r.dashes (last_dash r.mark) h (last_is r.ma
         ∙ mark_rank r.mark r.dashes (dash_at k (slices r).dashes) (at ∙ ap (λ (ns : List ℕ). length (dashes_text ns [])) whole) t.colon
 
 -- the level of a line of a row
-pub level_is : (r : Row) (k : ℕ) (l : Line) → IsTelling r → k ≤ length r.dashes → IsLineOf r.column r.dashes r.mark r.content k l → level l ≡ line_level k (slices r)
+pub level_is : (r : Row) (k : ℕ) (l : Line) → RowAgrees r → k ≤ length r.dashes → IsLineOf r.column r.dashes r.mark r.content k l → level l ≡ line_level k (slices r)
 unfolding level
 level_is r k l t h is =
     let at : dash_at k (slices r).dashes ≡ length (dashes_text (take k r.dashes) []) = to_dash k r.dashes (last_dash r.mark) h (last_is r.mark) in

@@ -7,7 +7,7 @@ use Rattle.std.specs.Prelude.{is_none, is_some}
 use Rattle.std.specs.Str.{bytes_eq}
 use Rattle.yq_inline.specs.Scalars.{content_of, is_quoted}
 use Rattle.yq_lines.specs.Outline.{Mark, Bare, Key, Dash, Line, key_of, rank}
-use Rattle.yq_lines.specs.Spots.{is_bare}
+use Rattle.yq_lines.specs.Positions.{is_bare}
 use Rattle.yq_scalar.specs.Paths.{is_item, key_is}
 use Rattle.yq_scalar.specs.Plain.{holds_break}
 use Rattle.yq_scalar.specs.Quoted.{IsQuotedText}
@@ -15,14 +15,14 @@ use Rattle.yq_scalar.specs.Text.{is_empty}
 use Rattle.yq_scalar.specs.Tree.{Node}
 use Rattle.yq_rows.specs.Rows as rows
 use Rattle.yq_rows.specs.View as views
-use Rattle.yq_rows.specs.View.{Slices, slices, Shown}
+use Rattle.yq_rows.specs.View.{Slices, slices, RowsView}
 use Rattle.yq_walk.specs.Lines.{mark_of, lines_of}
 use Rattle.yq_walk.specs.Extents.{lines_before_mark}
 use Rattle.yq_walk.specs.RowWalk.{line_rank, HasRows, IsLine, line_number}
-use Rattle.yq_walk.specs.declared.spot.Spot.{Spot}
-use Rattle.yq_walk.specs.declared.spot.Stretch.{Stretch}
+use Rattle.yq_walk.specs.declared.position.Position.{Position}
+use Rattle.yq_walk.specs.declared.position.Stretch.{Stretch}
 use Rattle.yq_walk.proofs.WalkLevels.{rank_is}
-use Rattle.yq_walk.proofs.WalkSpots.{Located, located}
+use Rattle.yq_walk.proofs.WalkPositions.{Located, located}
 
 -- what is told of a line's mark, by its rank
 bare_ranked : (m : Mark) → is_bare m ≡ eqb (rank m) 1
@@ -35,7 +35,7 @@ item_ranked Bare = refl
 item_ranked (Key k) = refl
 item_ranked Dash = refl
 
-module _ (s : Shown) (d : Stretch) (h : HasRows s d) (q : Spot) (at : IsLine s d q) (l : Line) (is : slice_get (lines_of h.rows) (line_number d h.rows q) ≡ Some l) where
+module _ (s : RowsView) (d : Stretch) (h : HasRows s d) (q : Position) (at : IsLine s d q) (l : Line) (is : slice_get (lines_of h.rows) (line_number d h.rows q) ≡ Some l) where
   abbrev k : Located s d h q
   k = located s d h q at
 
@@ -43,17 +43,17 @@ module _ (s : Shown) (d : Stretch) (h : HasRows s d) (q : Spot) (at : IsLine s d
   own = same_Some _ _ (sym k.is ∙ is)
 
   ranked : rank l.mark ≡ line_rank q.line (slices (located s d h q at).row)
-  ranked = ap (λ (y : Line). rank y.mark) (sym own) ∙ rank_is k.row q.line k.line k.telling k.within k.told
+  ranked = ap (λ (y : Line). rank y.mark) (sym own) ∙ rank_is k.row q.line k.line k.row_agrees k.within k.agrees
 
-  module _ (n : ℕ) (told : (x : Slices) → slice_get s.rows q.row ≡ Some x → n ≡ line_rank q.line x) where
+  module _ (n : ℕ) (agrees : (x : Slices) → slice_get s.rows q.row ≡ Some x → n ≡ line_rank q.line x) where
     same : n ≡ rank l.mark
-    same = told (slices k.row) k.pieces ∙ sym ranked
+    same = agrees (slices k.row) k.pieces ∙ sym ranked
 
-    pub bare_told : eqb n 1 ≡ is_bare l.mark
-    bare_told = ap (λ (j : ℕ). eqb j 1) same ∙ sym (bare_ranked l.mark)
+    pub bare_agrees : eqb n 1 ≡ is_bare l.mark
+    bare_agrees = ap (λ (j : ℕ). eqb j 1) same ∙ sym (bare_ranked l.mark)
 
-    pub item_told : not (eqb n 2) ≡ is_item (key_of l.mark)
-    item_told = ap (λ (j : ℕ). not (eqb j 2)) same ∙ sym (item_ranked l.mark)
+    pub item_agrees : not (eqb n 2) ≡ is_item (key_of l.mark)
+    item_agrees = ap (λ (j : ℕ). not (eqb j 2)) same ∙ sym (item_ranked l.mark)
 
     -- the key of the line
     pub key_none : (n ≡ 2 → ⊥) → None ≡ key_of l.mark
@@ -74,28 +74,28 @@ module _ (s : Shown) (d : Stretch) (h : HasRows s d) (q : Spot) (at : IsLine s d
 
         go : (q.line < length k.row.dashes) ⊎ (length k.row.dashes ≤ q.line) → Some (content_of (slices k.row).key) ≡ key_of l.mark
         go (inl less) =
-            let dash : l.mark ≡ Dash = ap (λ (y : Line). y.mark) (sym own) ∙ (k.told.dash less).0 in
+            let dash : l.mark ≡ Dash = ap (λ (y : Line). y.mark) (sym own) ∙ (k.agrees.dash less).0 in
             absurd (omega (arith, ap rank dash, same, two))
         go (inr past) =
             let last : q.line ≡ length k.row.dashes = omega (arith, past, k.within) in
-            let mark : l.mark ≡ mark_of k.row.mark = ap (λ (y : Line). y.mark) (sym own) ∙ (k.told.mark last).0 in
+            let mark : l.mark ≡ mark_of k.row.mark = ap (λ (y : Line). y.mark) (sym own) ∙ (k.agrees.mark last).0 in
             marked k.row.mark (sym (ap rank mark) ∙ (sym same ∙ two)) ∙ sym (ap key_of mark)
 
     -- whether it is that key's
-    pub other_told : (key : List ℕ) → (n ≡ 2 → ⊥) → false ≡ key_is key (key_of l.mark)
-    other_told key other = ap (key_is key) (key_none other)
+    pub other_agrees : (key : List ℕ) → (n ≡ 2 → ⊥) → false ≡ key_is key (key_of l.mark)
+    other_agrees key other = ap (key_is key) (key_none other)
 
-    pub key_told : (piece key : List ℕ) → ((x : Slices) → slice_get s.rows q.row ≡ Some x → piece ≡ x.key) → n ≡ 2 → bytes_eq (content_of piece) key ≡ key_is key (key_of l.mark)
-    key_told piece key written two = ap (λ (t : List ℕ). bytes_eq (content_of t) key) (written (slices k.row) k.pieces) ∙ ap (key_is key) (key_here two)
+    pub key_agrees : (piece key : List ℕ) → ((x : Slices) → slice_get s.rows q.row ≡ Some x → piece ≡ x.key) → n ≡ 2 → bytes_eq (content_of piece) key ≡ key_is key (key_of l.mark)
+    key_agrees piece key written two = ap (λ (t : List ℕ). bytes_eq (content_of t) key) (written (slices k.row) k.pieces) ∙ ap (key_is key) (key_here two)
 
-  pub head_told : (last : Bool) (x : Slices) → slice_get s.rows q.row ≡ Some x → last ≡ eqb q.line (lines_before_mark x) → (last && not (is_empty x.head)) ≡ is_some l.head
-  head_told last x there e = go (cases_lt q.line (length k.row.dashes))
+  pub head_agrees : (last : Bool) (x : Slices) → slice_get s.rows q.row ≡ Some x → last ≡ eqb q.line (lines_before_mark x) → (last && not (is_empty x.head)) ≡ is_some l.head
+  head_agrees last x there e = go (cases_lt q.line (length k.row.dashes))
     where
       pieces : slices k.row ≡ x
       pieces = same_Some _ _ (sym k.pieces ∙ there)
 
       counted : lines_before_mark x ≡ length k.row.dashes
-      counted = ap lines_before_mark (sym pieces) ∙ k.telling.counted
+      counted = ap lines_before_mark (sym pieces) ∙ k.row_agrees.counted
 
       some : (o : Option Node) → not (is_none o) ≡ is_some o
       some None = refl
@@ -104,21 +104,21 @@ module _ (s : Shown) (d : Stretch) (h : HasRows s d) (q : Spot) (at : IsLine s d
       go : (q.line < length k.row.dashes) ⊎ (length k.row.dashes ≤ q.line) → (last && not (is_empty x.head)) ≡ is_some l.head
       go (inl less) =
           let no : last ≡ false = e ∙ ne_eqb q.line (lines_before_mark x) (λ same. omega (arith, same, less, counted)) in
-          ap (λ b. b && not (is_empty x.head)) no ∙ sym (ap is_some (ap (λ (y : Line). y.head) (sym own) ∙ (k.told.dash less).1))
+          ap (λ b. b && not (is_empty x.head)) no ∙ sym (ap is_some (ap (λ (y : Line). y.head) (sym own) ∙ (k.agrees.dash less).1))
       go (inr past) =
           let same : q.line ≡ length k.row.dashes = omega (arith, past, k.within) in
           let yes : last ≡ true = e ∙ eq-eqb q.line (lines_before_mark x) (omega (arith, same, counted)) in
-          let head : is_empty x.head ≡ is_none l.head = ap (λ (y : Slices). is_empty y.head) (sym pieces) ∙ (k.telling.head ∙ ap is_none (sym (k.told.mark same).1 ∙ ap (λ (y : Line). y.head) own)) in
+          let head : is_empty x.head ≡ is_none l.head = ap (λ (y : Slices). is_empty y.head) (sym pieces) ∙ (k.row_agrees.head ∙ ap is_none (sym (k.agrees.mark same).1 ∙ ap (λ (y : Line). y.head) own)) in
           ap (λ b. b && not (is_empty x.head)) yes ∙ (ap not head ∙ some l.head)
 
 -- a quoted key is a quoted scalar
-pub quoted_told : (s : Shown) (d : Stretch) (h : HasRows s d) (q : Spot) → IsLine s d q → (piece : List ℕ) → ((x : Slices) → slice_get s.rows q.row ≡ Some x → piece ≡ x.key) → is_quoted piece ≡ true → IsQuotedText piece
-quoted_told s d h q at piece written =
+pub quoted_agrees : (s : RowsView) (d : Stretch) (h : HasRows s d) (q : Position) → IsLine s d q → (piece : List ℕ) → ((x : Slices) → slice_get s.rows q.row ≡ Some x → piece ≡ x.key) → is_quoted piece ≡ true → IsQuotedText piece
+quoted_agrees s d h q at piece written =
     let k = located s d h q at in
-    subst (λ (y : List ℕ). is_quoted y ≡ true → IsQuotedText y) (sym (written (slices k.row) k.pieces)) k.telling.quoted
+    subst (λ (y : List ℕ). is_quoted y ≡ true → IsQuotedText y) (sym (written (slices k.row) k.pieces)) k.row_agrees.quoted
 
 -- a key has one line
-pub line_told : (s : Shown) (d : Stretch) (h : HasRows s d) (q : Spot) → IsLine s d q → (piece : List ℕ) → ((x : Slices) → slice_get s.rows q.row ≡ Some x → piece ≡ x.key) → holds_break piece ≡ false
-line_told s d h q at piece written =
+pub beside_agrees : (s : RowsView) (d : Stretch) (h : HasRows s d) (q : Position) → IsLine s d q → (piece : List ℕ) → ((x : Slices) → slice_get s.rows q.row ≡ Some x → piece ≡ x.key) → holds_break piece ≡ false
+beside_agrees s d h q at piece written =
     let k = located s d h q at in
-    ap holds_break (written (slices k.row) k.pieces) ∙ k.telling.line
+    ap holds_break (written (slices k.row) k.pieces) ∙ k.row_agrees.line

@@ -16,13 +16,13 @@ use Rattle.yq_lines.proofs.Parts.{drop_at}
 use Rattle.yq_rows.specs.Grammar.{IsContent, IsMark, Limit, limit_after, AreRows}
 use Rattle.yq_rows.specs.Rows as rows
 use Rattle.yq_rows.specs.Rows.{Content, Nothing, Inline, Block, Row, parent_indent, rows_text}
-use Rattle.yq_rows.specs.View.{Slices, slices, Shown, colon_of, content_cut}
+use Rattle.yq_rows.specs.View.{Slices, slices, RowsView, colon_of, content_cut}
 use Rattle.yq_walk.specs.Lines.{head_of, mark_of}
 use Rattle.yq_walk.specs.RowWalk.{line_level, deeper_rows, HasRows}
-use Rattle.yq_walk.specs.declared.spot.Stretch.{Stretch}
+use Rattle.yq_walk.specs.declared.position.Stretch.{Stretch}
 use Rattle.yq_walk.proofs.CountLaws.{before_mark}
 use Rattle.yq_walk.proofs.RowLaws.{colon_some, mark_line, mark_quoted, scalar_written}
-use Rattle.yq_walk.proofs.WalkLevels.{AreTelling}
+use Rattle.yq_walk.proofs.WalkLevels.{RowsAgree}
 
 -- row by row, up to one that doesn't begin deeper
 pub under_more : (ss : List Slices) (n at end : ℕ) (x : Slices) → slice_get ss at ≡ Some x → at < end → n < line_level 0 x →
@@ -43,7 +43,7 @@ under_stop ss n at end x is h stop =
     omega (arith, count)
 
 -- the rows of a document from one on
-pub rows_behind : (s : Shown) (d : Stretch) (h : HasRows s d) (k : ℕ) → d.first ≤ k → k ≤ d.end → take (d.end - k) (drop k s.rows) ≡ map slices (drop (k - d.first) h.rows)
+pub rows_behind : (s : RowsView) (d : Stretch) (h : HasRows s d) (k : ℕ) → d.first ≤ k → k ≤ d.end → take (d.end - k) (drop k s.rows) ≡ map slices (drop (k - d.first) h.rows)
 rows_behind s d h k from upto =
     let n : ℕ = k - d.first in
     let m : ℕ = d.end - k in
@@ -56,7 +56,7 @@ rows_behind s d h k from upto =
     ∙ (ap (drop n) h.pieces ∙ drop-map slices n h.rows))))
 
 -- how many rows a document has
-pub rows_length : (s : Shown) (d : Stretch) (h : HasRows s d) → length h.rows ≡ d.end - d.first
+pub rows_length : (s : RowsView) (d : Stretch) (h : HasRows s d) → length h.rows ≡ d.end - d.first
 rows_length s d h =
     omega (
       arith,
@@ -74,7 +74,7 @@ get_from [] (suc i) x rest e = absurd (cc)
 get_from (r ∷ xs) zero x rest e = (r, refl, cc)
 get_from (r ∷ xs) (suc i) x rest e = get_from xs i x rest e
 
-pub row_of : (s : Shown) (d : Stretch) (h : HasRows s d) (i : ℕ) (x : Slices) → d.first ≤ i → i < d.end → slice_get s.rows i ≡ Some x → (r : Row) × (slice_get h.rows (i - d.first) ≡ Some r) × (slices r ≡ x)
+pub row_of : (s : RowsView) (d : Stretch) (h : HasRows s d) (i : ℕ) (x : Slices) → d.first ≤ i → i < d.end → slice_get s.rows i ≡ Some x → (r : Row) × (slice_get h.rows (i - d.first) ≡ Some r) × (slices r ≡ x)
 row_of s d h i x from upto is =
     let rest : List Slices = take (d.end - (i + 1)) (drop (i + 1) s.rows) in
     let more : d.end - i ≡ suc (d.end - (i + 1)) = omega (arith, upto) in
@@ -82,39 +82,39 @@ row_of s d h i x from upto is =
     get_from h.rows (i - d.first) x rest (sym pieces ∙ rows_behind s d h i from (omega (arith, upto)))
 
 -- the pieces of rows tell their lines
-node_told : (n : ℤ) (node : Node) (rest : List ℕ) → is_anchored node ≡ false → IsNode false (Some (deeper n)) depth_limit node rest → is_empty (node_text node []) ≡ is_none (node_head node)
+node_summary : (n : ℤ) (node : Node) (rest : List ℕ) → is_anchored node ≡ false → IsNode false (Some (deeper n)) depth_limit node rest → is_empty (node_text node []) ≡ is_none (node_head node)
 unfolding node_text IsNode
-node_told n empty rest a h = refl
-node_told n (alias name) rest a h = refl
-node_told n (scalar p) rest a h = ap is_empty (append-nil p) ∙ scalar_written n p rest h
-node_told n (coll k g is) rest a h = refl
-node_told n (anchored name g node) rest a h = absurd (false≢true (sym a))
+node_summary n empty rest a h = refl
+node_summary n (alias name) rest a h = refl
+node_summary n (scalar p) rest a h = ap is_empty (append-nil p) ∙ scalar_written n p rest h
+node_summary n (coll k g is) rest a h = refl
+node_summary n (anchored name g node) rest a h = absurd (false≢true (sym a))
 
-pub head_told : (n : ℤ) (c : Content) (rest : List ℕ) → IsContent n c rest → is_empty (content_cut c).3 ≡ is_none (head_of c)
+pub head_agrees : (n : ℤ) (c : Content) (rest : List ℕ) → IsContent n c rest → is_empty (content_cut c).3 ≡ is_none (head_of c)
 unfolding IsNode
-head_told n (Nothing tail) rest h = refl
-head_told n (Inline space empty tail) rest h = refl
-head_told n (Inline space (alias name) tail) rest h = node_told n (alias name) (tail ++ rest) refl h.1.valid
-head_told n (Inline space (scalar p) tail) rest h = node_told n (scalar p) (tail ++ rest) refl h.1.valid
-head_told n (Inline space (coll k g is) tail) rest h = node_told n (coll k g is) (tail ++ rest) refl h.1.valid
-head_told n (Inline space (anchored name g node) tail) rest h = node_told n node (tail ++ rest) (takes_unanchored node h.1.valid.3) h.1.valid.4
-head_told n (Block space anchor block) rest h = refl
+head_agrees n (Nothing tail) rest h = refl
+head_agrees n (Inline space empty tail) rest h = refl
+head_agrees n (Inline space (alias name) tail) rest h = node_summary n (alias name) (tail ++ rest) refl h.1.valid
+head_agrees n (Inline space (scalar p) tail) rest h = node_summary n (scalar p) (tail ++ rest) refl h.1.valid
+head_agrees n (Inline space (coll k g is) tail) rest h = node_summary n (coll k g is) (tail ++ rest) refl h.1.valid
+head_agrees n (Inline space (anchored name g node) tail) rest h = node_summary n node (tail ++ rest) (takes_unanchored node h.1.valid.3) h.1.valid.4
+head_agrees n (Block space anchor block) rest h = refl
 
-colon_told : (m : rows.Mark) (c : Content) (rest : List ℕ) → IsMark m c rest → is_empty (colon_of m) ≡ is_item (key_of (mark_of m))
-colon_told rows.Bare c rest h = refl
-colon_told rows.Dash c rest h = refl
-colon_told (rows.Key key colon) c rest h = ap is_empty h.colon_is.spelled ∙ colon_some h.colon_is.white
+colon_agrees : (m : rows.Mark) (c : Content) (rest : List ℕ) → IsMark m c rest → is_empty (colon_of m) ≡ is_item (key_of (mark_of m))
+colon_agrees rows.Bare c rest h = refl
+colon_agrees rows.Dash c rest h = refl
+colon_agrees (rows.Key key colon) c rest h = ap is_empty h.colon_is.spelled ∙ colon_some h.colon_is.white
 
-pub rows_telling : (limit : Limit) (rs : List Row) (end rest : List ℕ) → AreRows limit rs end rest → AreTelling rs
-rows_telling limit [] end rest h = tt
-rows_telling limit (r ∷ rs) end rest h =
+pub rows_agree : (limit : Limit) (rs : List Row) (end rest : List ℕ) → AreRows limit rs end rest → RowsAgree rs
+rows_agree limit [] end rest h = tt
+rows_agree limit (r ∷ rs) end rest h =
     let t : List ℕ = rows_text rs (end ++ rest) in (
       record {
         counted = before_mark r.dashes r.mark r.content t h.0.dashes h.0.mark;
-        colon = colon_told r.mark r.content t h.0.mark;
-        head = head_told (parent_indent r) r.content t h.0.content;
+        colon = colon_agrees r.mark r.content t h.0.mark;
+        head = head_agrees (parent_indent r) r.content t h.0.content;
         quoted = mark_quoted r.mark r.content t h.0.mark;
         line = mark_line r.mark r.content t h.0.mark;
       },
-      rows_telling (limit_after r) rs end rest h.1,
+      rows_agree (limit_after r) rs end rest h.1,
     )

@@ -5,7 +5,7 @@ use Rattle.yq_rows.specs.Exchange.{before_content}
 use Rattle.yq_rows.specs.Offsets.{row_length}
 use Rattle.yq_rows.specs.Rows.{Row, Cut, cut_text}
 pub use Rattle.yq_rows.specs.RowStarts.{bound_length, passed_length, row_start}
-use Rattle.yq_rows.specs.View.{Slices, slices, Shown, shown}
+use Rattle.yq_rows.specs.View.{Slices, slices, RowsView, rows_view}
 use Rattle.yq_scalar.specs.Characters.{text_limit}
 use Rattle.yq_scalar.specs.Text.{is_empty}
 
@@ -20,8 +20,8 @@ abbrev pub front_length : Slices → ℕ
 front_length s = length s.gap + s.column + length s.dashes + length s.key + length s.colon + length s.space + length s.anchor + length s.apart
 
 -- how long all pieces of a cut are
-abbrev pub shown_length : Shown → ℕ
-shown_length s = sum_by row_length s.rows + sum_by bound_length s.bounds
+abbrev pub view_length : RowsView → ℕ
+view_length s = sum_by row_length s.rows + sum_by bound_length s.bounds
 
 -- how many dashes stand in a text
 abbrev pub dash_count : List ℕ → ℕ
@@ -32,9 +32,9 @@ abbrev pub lines_before_mark : Slices → ℕ
 lines_before_mark s = if is_empty s.colon then dash_count s.dashes - 1 else dash_count s.dashes
 
 -- These are the pieces of a cut, whose text is not too long.
-pub record IsShown (s : Shown) : Type 0 where
+pub record IsRowsView (s : RowsView) : Type 0 where
   pub cut : Cut
-  pub is : s ≡ shown cut
+  pub is : s ≡ rows_view cut
   pub size : length (cut_text cut) ≤ text_limit
 
 -- how far it is in a text to the dash before which k others stand, or to the end

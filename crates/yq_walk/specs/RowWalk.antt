@@ -12,17 +12,17 @@ use Rattle.yq_lines.specs.Group.{group}
 use Rattle.yq_lines.specs.Outline.{Line, Outline, children, key_of}
 use Rattle.yq_lines.specs.Places.{find_row}
 use Rattle.yq_lines.specs.Sound.{is_sound}
-use Rattle.yq_lines.specs.Spots.{reach_from, seen, spot}
+use Rattle.yq_lines.specs.Positions.{reach_from, line_here, position}
 use Rattle.yq_rows.specs.Grammar.{Limit, AreRows}
 use Rattle.yq_rows.specs.Rows.{Row}
-use Rattle.yq_rows.specs.View.{Slices, slices, Shown}
+use Rattle.yq_rows.specs.View.{Slices, slices, RowsView}
 use Rattle.yq_walk.specs.Lines.{lines_of}
 use Rattle.yq_walk.specs.Extents.{dash_at, lines_before_mark}
-use Rattle.yq_walk.specs.declared.spot.KnownItem.{KnownItem}
-use Rattle.yq_walk.specs.declared.spot.KnownItems.{KnownItems}
-use Rattle.yq_walk.specs.declared.spot.Spot.{Spot}
-use Rattle.yq_walk.specs.declared.spot.Stretch.{Stretch}
-use Rattle.yq_walk.specs.declared.spot_reach.Next as nexts
+use Rattle.yq_walk.specs.declared.position.KnownItem.{KnownItem}
+use Rattle.yq_walk.specs.declared.position.KnownItems.{KnownItems}
+use Rattle.yq_walk.specs.declared.position.Position.{Position}
+use Rattle.yq_walk.specs.declared.position.Stretch.{Stretch}
+use Rattle.yq_walk.specs.declared.position_reach.Next as nexts
 
 -- the rank of line k of a row: that of a dash, of a key, or of a node itself (8.2.3)
 abbrev pub line_rank : ℕ → Slices → ℕ
@@ -42,7 +42,7 @@ deeper_rows n [] = 0
 deeper_rows n (s ∷ ss) = if nat_lt n (line_level 0 s) then suc (deeper_rows n ss) else 0
 
 -- the first row of a document from one on that doesn't begin deeper than a level, or the document's end (8.2)
-abbrev pub rows_end : Shown → Stretch → ℕ → ℕ → ℕ
+abbrev pub rows_end : RowsView → Stretch → ℕ → ℕ → ℕ
 rows_end s d n from = from + deeper_rows n (take (d.end - from) (drop from s.rows))
 
 -- how many rows begin at a level (8.2)
@@ -51,9 +51,9 @@ level_count n [] = 0
 level_count n (s ∷ ss) = if line_level 0 s == n then suc (level_count n ss) else level_count n ss
 
 -- no rows begin less deep than a level (8.2)
-abbrev pub AreDeep : ℕ → List Slices → Type 0
-AreDeep n [] = Unit {0}
-AreDeep n (s ∷ ss) = (n ≤ line_level 0 s) × AreDeep n ss
+abbrev pub AreRowsDeep : ℕ → List Slices → Type 0
+AreRowsDeep n [] = Unit {0}
+AreRowsDeep n (s ∷ ss) = (n ≤ line_level 0 s) × AreRowsDeep n ss
 
 -- Behind the line of a first item, which is deeper than a level, no row in front begins less deep. So many items begin as deep, it among them (8.2).
 pub record ArePassed (front : List Slices) (k : KnownItem) : Type 0 where
@@ -61,7 +61,7 @@ pub record ArePassed (front : List Slices) (k : KnownItem) : Type 0 where
   pub there : slice_get front k.under.row ≡ Some piece
   pub level : k.level ≡ line_level k.under.line piece
   pub deeper : k.floor < k.level
-  pub deep : AreDeep k.level (drop (k.under.row + 1) front)
+  pub deep : AreRowsDeep k.level (drop (k.under.row + 1) front)
   pub index : k.index ≡ suc (level_count k.level (drop (k.under.row + 1) front))
 
 -- The items before one that is known are those in front of its row.
@@ -73,14 +73,14 @@ abbrev pub AreKnown : List Slices → KnownItems → Type 0
 AreKnown ss ks = IfSome ks.far (IsKnown ss) × IfSome ks.near (IsKnown ss)
 
 -- An item is known that begins before a row, among the lines from one on that are deeper than a level (own).
-pub record IsAmong (ss : List Slices) (under : Spot) (floor end : ℕ) (k : KnownItem) : Type 0 where
+pub record IsKnownIn (ss : List Slices) (under : Position) (floor end : ℕ) (k : KnownItem) : Type 0 where
   pub known : IsKnown ss k
   pub under_is : k.under ≡ under
   pub floor_is : k.floor ≡ floor
   pub within : k.row < end
 
 -- The rows of a text from one up to another one stand in it as those of a document.
-pub record HasRows (s : Shown) (d : Stretch) : Type 0 where
+pub record HasRows (s : RowsView) (d : Stretch) : Type 0 where
   pub rows : List Row
   pub limit : Limit
   pub end : List ℕ
@@ -91,31 +91,31 @@ pub record HasRows (s : Shown) (d : Stretch) : Type 0 where
   pub valid : AreRows limit rows end rest
 
 -- The lines of such rows are sound.
-pub record HasDocument (s : Shown) (d : Stretch) : Type 0 where
+pub record HasDocument (s : RowsView) (d : Stretch) : Type 0 where
   pub stand : HasRows s d
   pub sound : is_sound depth_limit (group (lines_of stand.rows)) ≡ true
 
 -- A line of a document, or the end behind its rows.
-pub record IsSpot (s : Shown) (d : Stretch) (q : Spot) : Type 0 where
+pub record IsPosition (s : RowsView) (d : Stretch) (q : Position) : Type 0 where
   pub from : d.first ≤ q.row
   pub upto : q.row ≤ d.end
   pub line : (x : Slices) → slice_get s.rows q.row ≡ Some x → q.line ≤ lines_before_mark x
   pub last : q.row ≡ d.end → q.line ≡ 0
 
 -- A line of a document.
-pub record IsLine (s : Shown) (d : Stretch) (q : Spot) : Type 0 where
+pub record IsLine (s : RowsView) (d : Stretch) (q : Position) : Type 0 where
   pub from : d.first ≤ q.row
   pub upto : q.row < d.end
   pub line : (x : Slices) → slice_get s.rows q.row ≡ Some x → q.line ≤ lines_before_mark x
 
 -- the number of a line among those of a document's rows
-abbrev pub line_number : Stretch → List Row → Spot → ℕ
+abbrev pub line_number : Stretch → List Row → Position → ℕ
 line_number d rs q = length (lines_of (take (q.row - d.first) rs)) + q.line
 
 -- Lines of a document from one up to another one, which is the first line of its row or the end.
-pub record AreLines (s : Shown) (d : Stretch) (p q : Spot) : Type 0 where
-  pub begin : IsSpot s d p
-  pub stop : IsSpot s d q
+pub record AreLinesTo (s : RowsView) (d : Stretch) (p q : Position) : Type 0 where
+  pub begin : IsPosition s d p
+  pub stop : IsPosition s d q
   pub first : q.line ≡ 0
   pub order : (h : HasRows s d) → line_number d h.rows p ≤ line_number d h.rows q
 
@@ -124,34 +124,34 @@ abbrev pub lines_stop : ℕ → ℕ → List Line → ℕ
 lines_stop n floor ls = n + deeper_count floor (drop n ls)
 
 -- What is said of the line of a document that is there.
-abbrev pub OfLine : Shown → Stretch → Spot → (Line → Type 0) → Type 0
+abbrev pub OfLine : RowsView → Stretch → Position → (Line → Type 0) → Type 0
 OfLine s d q said = (h : HasRows s d) (l : Line) → slice_get (lines_of h.rows) (line_number d h.rows q) ≡ Some l → said l
 
 -- What is said of the lines of a document, with their numbers.
-abbrev pub OfLines : Shown → Stretch → (List Line → (Spot → ℕ) → Type 0) → Type 0
+abbrev pub OfLines : RowsView → Stretch → (List Line → (Position → ℕ) → Type 0) → Type 0
 OfLines s d said = (h : HasRows s d) → said (lines_of h.rows) (line_number d h.rows)
 
 -- A step leads to that line, if to any, among the lines from one on that are deeper than a level.
-abbrev pub Finds : Shown → Stretch → Spot → ℕ → Step → Option Spot → Type 0
+abbrev pub Finds : RowsView → Stretch → Position → ℕ → Step → Option Position → Type 0
 Finds s d under floor step found =
-    (h : HasDocument s d) → spot (line_number d h.stand.rows under) (find_row step (part (lines_of h.stand.rows) (line_number d h.stand.rows under) floor)) ≡ seen (lines_of h.stand.rows) (option_map (line_number d h.stand.rows) found)
+    (h : HasDocument s d) → position (line_number d h.stand.rows under) (find_row step (part (lines_of h.stand.rows) (line_number d h.stand.rows under) floor)) ≡ line_here (lines_of h.stand.rows) (option_map (line_number d h.stand.rows) found)
 
 -- where a step leads among the lines from one on that are deeper than a level
-abbrev pub found_from : Stretch → List Row → ℕ → Spot → Step → Option (ℕ × Line × Outline)
-found_from d rs floor q step = spot (line_number d rs q) (find_row step (part (lines_of rs) (line_number d rs q) floor))
+abbrev pub found_from : Stretch → List Row → ℕ → Position → Step → Option (ℕ × Line × Outline)
+found_from d rs floor q step = position (line_number d rs q) (find_row step (part (lines_of rs) (line_number d rs q) floor))
 
 -- Among the lines from one on that are deeper than a level, a walk to an item goes on from another line, by the item's index from there on.
-abbrev pub GoesOn : Shown → Stretch → ℕ → Spot → ℕ → Spot → ℕ → Type 0
+abbrev pub GoesOn : RowsView → Stretch → ℕ → Position → ℕ → Position → ℕ → Type 0
 GoesOn s d floor under index at left =
     (h : HasDocument s d) → found_from d h.stand.rows floor under (Nth index) ≡ found_from d h.stand.rows floor at (Nth left)
 
 -- The entries among the lines from one on that are deeper than a level have different keys (3.2.1.3).
-abbrev pub HaveKeys : Shown → Stretch → Spot → ℕ → Type 0
+abbrev pub HaveKeys : RowsView → Stretch → Position → ℕ → Type 0
 HaveKeys s d under floor =
     (h : HasDocument s d) → are_distinct (keys_of (children (part (lines_of h.stand.rows) (line_number d h.stand.rows under) floor))) ≡ true
 
 -- An entry that is known has a key.
-abbrev pub IsKeyed : Shown → Stretch → KnownItem → List ℕ → Type 0
+abbrev pub IsKeyed : RowsView → Stretch → KnownItem → List ℕ → Type 0
 IsKeyed s d k key = OfLine s d (record { row = k.row; line = 0 }) (λ l. key_is key (key_of l.mark) ≡ true)
 
 -- where steps lead whose first one leads there, with a line by its number
@@ -160,18 +160,18 @@ next_reached d rs s ss (nexts.TheVariants.Line q) = reach_from (lines_of rs) (So
 next_reached d rs s ss (nexts.TheVariants.Head q) = Some (line_number d rs q, s ∷ ss)
 
 -- Where steps lead, by lines and their numbers, is where the code finds that the first of them leads.
-abbrev pub LeadsTo : Shown → Stretch → (List Line → (Spot → ℕ) → List Step → Option (ℕ × List Step)) → Step → Option nexts.Next → Type 0
+abbrev pub LeadsTo : RowsView → Stretch → (List Line → (Position → ℕ) → List Step → Option (ℕ × List Step)) → Step → Option nexts.Next → Type 0
 LeadsTo s d leads step found = (h : HasDocument s d) (ss : List Step) → leads (lines_of h.stand.rows) (line_number d h.stand.rows) ss ≡ option_and_then (next_reached d h.stand.rows step ss) found
 
 -- the line where a step leads
-abbrev pub next_spot : nexts.Next → Spot
-next_spot (nexts.TheVariants.Line q) = q
-next_spot (nexts.TheVariants.Head q) = q
+abbrev pub next_position : nexts.Next → Position
+next_position (nexts.TheVariants.Line q) = q
+next_position (nexts.TheVariants.Head q) = q
 
 -- where the code's steps lead, with a line by its number, and on
-abbrev pub reached_told : Stretch → List Row → Spot × Bor (List declared.Step) → ℕ × List Step
-reached_told d rs x = (line_number d rs x.0, map step_of x.1.now)
+abbrev pub reached_view : Stretch → List Row → Position × Bor (List declared.Step) → ℕ × List Step
+reached_view d rs x = (line_number d rs x.0, map step_of x.1.now)
 
 -- the rows of a document as two numbers: how many rows of the text stand before them, and before what is behind them
-abbrev pub stretch_told : Stretch → ℕ × ℕ
-stretch_told d = (d.first, d.end)
+abbrev pub stretch_view : Stretch → ℕ × ℕ
+stretch_view d = (d.first, d.end)

@@ -3,7 +3,7 @@ ghost use Rattle.std.specs.Prelude.{◌≡◌, ◌<◌, ◌≤◌, ◌-◌, leng
 ghost use Rattle.yq_scalar.specs.Characters.{text_limit};
 ghost use Rattle.yq_rows.specs.Offsets.{row_length};
 ghost use Rattle.yq_rows.specs.Rows.{Cut, Row as RowOf};
-ghost use Rattle.yq_rows.specs.View.{rows_of, shown, view, Slices};
+ghost use Rattle.yq_rows.specs.View.{rows_of, rows_view, view, Slices};
 ghost use Rattle.yq_walk.specs.Extents as spec;
 
 use yq_rows::{Row, Rows};
@@ -44,7 +44,7 @@ pub fn front_len(row: &Row<'_>) -> usize
 /// Where row `i` begins, with its gap.
 pub fn row_start(rows: &Rows<'_>, i: usize) -> usize
     requires within { i < length rows.now.rows }
-    requires shown { spec.IsShown rows.now }
+    requires rows_view { spec.IsRowsView rows.now }
     ensures { result ≡ spec.row_start i rows.now }
 {
     rows.start(i)
@@ -53,8 +53,8 @@ pub fn row_start(rows: &Rows<'_>, i: usize) -> usize
 /// Where the head of row `i` begins and ends, in bytes, or where it would begin.
 pub fn head_place(rows: &Rows<'_>, i: usize) -> (usize, usize)
     requires within { i < length rows.now.rows }
-    requires shown { spec.IsShown rows.now }
-    ensures { (c : Cut) → rows.now ≡ shown c → (r : RowOf) → slice_get (rows_of c) i ≡ Some r →
+    requires rows_view { spec.IsRowsView rows.now }
+    ensures { (c : Cut) → rows.now ≡ rows_view c → (r : RowOf) → slice_get (rows_of c) i ≡ Some r →
         (result.0, result.1) ≡ spec.head_place i c r }
 {
     let row = rows.row(i);

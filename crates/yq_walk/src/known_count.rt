@@ -1,16 +1,16 @@
 //! The item of a row, counted from one that is known.
 ghost use Rattle.std.specs.Prelude.{◌≡◌, ◌<◌, ◌≤◌, ◌+◌, length, IfSome, if◌then◌else◌};
-ghost use Rattle.yq_walk.specs.Extents.{IsShown};
+ghost use Rattle.yq_walk.specs.Extents.{IsRowsView};
 ghost use Rattle.yq_walk.specs.RowWalk.{AreKnown, HasDocument, IsKnown};
 
 use crate::known_item::known_among;
-use crate::spot::{KnownItem, KnownItems, Spot, Stretch, level_at};
+use crate::position::{KnownItem, KnownItems, Position, Stretch, level_at};
 use yq_rows::Rows;
 
 /// The first item among the lines from one on that are deeper than a level, as one that is known.
-pub fn first_known(rows: &Rows<'_>, under: Spot, floor: usize) -> Option<KnownItem>
+pub fn first_known(rows: &Rows<'_>, under: Position, floor: usize) -> Option<KnownItem>
     requires within { under.row < length rows.now.rows }
-    requires shown { IsShown rows.now }
+    requires rows_view { IsRowsView rows.now }
     ensures { IfSome result (IsKnown rows.now.rows) }
 {
     let level = level_at(rows, under);
@@ -42,7 +42,7 @@ pub fn counted(index: usize, is_item: bool) -> Option<usize>
 fn known_further(rows: &Rows<'_>, known: KnownItem, row: usize) -> Option<KnownItem>
     requires known { IsKnown rows.now.rows known }
     requires within { row < length rows.now.rows }
-    requires shown { IsShown rows.now }
+    requires rows_view { IsRowsView rows.now }
     ensures known { IfSome result (IsKnown rows.now.rows) }
     ensures row { IfSome result (λ k. k.row ≡ row) }
 {
@@ -51,7 +51,7 @@ fn known_further(rows: &Rows<'_>, known: KnownItem, row: usize) -> Option<KnownI
     }
     let mut index = known.index;
     'rows: for at in known.row..row {
-        let level = level_at(rows, Spot { row: at, line: 0 });
+        let level = level_at(rows, Position { row: at, line: 0 });
         if level < known.level {
             return None;
         }
@@ -69,7 +69,7 @@ fn known_back(rows: &Rows<'_>, known: KnownItem, row: usize) -> Option<KnownItem
     requires known { IsKnown rows.now.rows known }
     requires within { known.row ≤ length rows.now.rows }
     requires order { known.under.row < row }
-    requires shown { IsShown rows.now }
+    requires rows_view { IsRowsView rows.now }
     ensures known { IfSome result (IsKnown rows.now.rows) }
     ensures row { IfSome result (λ k. k.row ≡ row) }
 {
@@ -77,7 +77,7 @@ fn known_back(rows: &Rows<'_>, known: KnownItem, row: usize) -> Option<KnownItem
     let mut index = known.index;
     'rows: while row < at {
         at -= 1;
-        if level_at(rows, Spot { row: at, line: 0 }) == known.level {
+        if level_at(rows, Position { row: at, line: 0 }) == known.level {
             index -= 1;
         }
     }
@@ -98,11 +98,11 @@ pub fn known_to(
     rows: &Rows<'_>,
     document: Stretch,
     known: KnownItems,
-    under: Spot,
+    under: Position,
     floor: usize,
     row: usize,
 ) -> Option<KnownItem>
-    requires shown { IsShown rows.now }
+    requires rows_view { IsRowsView rows.now }
     requires document { HasDocument rows.now document }
     requires known { AreKnown rows.now.rows known }
     requires order { under.row < row }

@@ -1,14 +1,14 @@
 //! Items and entries that are known, from which a walk over the rows of a collection goes on.
 ghost use Rattle.std.specs.Prelude.{◌≡◌, ◌<◌, ◌≤◌, ◌+◌, length, IfSome, IsTrue};
-ghost use Rattle.yq_walk.specs.Extents.{IsShown};
-ghost use Rattle.yq_walk.specs.RowWalk.{AreKnown, GoesOn, HasDocument, IsAmong, IsKnown, IsSpot};
+ghost use Rattle.yq_walk.specs.Extents.{IsRowsView};
+ghost use Rattle.yq_walk.specs.RowWalk.{AreKnown, GoesOn, HasDocument, IsKnownIn, IsKnown, IsPosition};
 
-use crate::spot::{KnownItem, KnownItems, Spot, Stretch, level_at};
+use crate::position::{KnownItem, KnownItems, Position, Stretch, level_at};
 use yq_rows::Rows;
 
 /// Whether an item is known among the lines from one on that are deeper than a level.
 #[inline(always)]
-fn is_among(known: KnownItem, under: Spot, floor: usize) -> bool
+fn is_among(known: KnownItem, under: Position, floor: usize) -> bool
     ensures under { IsTrue result → known.under ≡ under }
     ensures floor { IsTrue result → known.floor ≡ floor }
 {
@@ -21,12 +21,12 @@ fn is_among(known: KnownItem, under: Spot, floor: usize) -> bool
 fn if_among(
     rows: &Rows<'_>,
     document: Stretch,
-    under: Spot,
+    under: Position,
     floor: usize,
     known: Option<KnownItem>,
 ) -> Option<KnownItem>
     requires known { IfSome known (IsKnown rows.now.rows) }
-    ensures { IfSome result (IsAmong rows.now.rows under floor document.end) }
+    ensures { IfSome result (IsKnownIn rows.now.rows under floor document.end) }
 {
     let _rows = rows;
     let known = known?;
@@ -42,11 +42,11 @@ pub fn known_among(
     rows: &Rows<'_>,
     document: Stretch,
     known: KnownItems,
-    under: Spot,
+    under: Position,
     floor: usize,
 ) -> Option<KnownItem>
     requires known { AreKnown rows.now.rows known }
-    ensures { IfSome result (IsAmong rows.now.rows under floor document.end) }
+    ensures { IfSome result (IsKnownIn rows.now.rows under floor document.end) }
 {
     let far = if_among(rows, document, under, floor, known.far);
     if far.is_some() {
@@ -59,15 +59,15 @@ pub fn known_among(
 pub fn item_back(rows: &Rows<'_>, known: KnownItem, index: usize) -> Option<KnownItem>
     requires known { IsKnown rows.now.rows known }
     requires within { known.row ≤ length rows.now.rows }
-    requires shown { IsShown rows.now }
-    ensures known { IfSome result (IsAmong rows.now.rows known.under known.floor (known.row + 1)) }
+    requires rows_view { IsRowsView rows.now }
+    ensures known { IfSome result (IsKnownIn rows.now.rows known.under known.floor (known.row + 1)) }
     ensures index { IfSome result (λ k. k.index ≡ index) }
 {
     let mut row = known.row;
     let mut at = known.index;
     'rows: while index < at && row.saturating_sub(known.under.row) > 1 {
         row -= 1;
-        if level_at(rows, Spot { row, line: 0 }) == known.level {
+        if level_at(rows, Position { row, line: 0 }) == known.level {
             at -= 1;
         }
     }
@@ -85,8 +85,8 @@ pub fn item_back(rows: &Rows<'_>, known: KnownItem, index: usize) -> Option<Know
 pub fn item_before(rows: &Rows<'_>, known: KnownItem) -> Option<KnownItem>
     requires known { IsKnown rows.now.rows known }
     requires within { known.row ≤ length rows.now.rows }
-    requires shown { IsShown rows.now }
-    ensures { IfSome result (IsAmong rows.now.rows known.under known.floor (known.row + 1)) }
+    requires rows_view { IsRowsView rows.now }
+    ensures { IfSome result (IsKnownIn rows.now.rows known.under known.floor (known.row + 1)) }
 {
     item_back(rows, known, known.index - 1)
 }
@@ -97,14 +97,14 @@ fn known_for(
     rows: &Rows<'_>,
     document: Stretch,
     known: KnownItems,
-    under: Spot,
+    under: Position,
     floor: usize,
     index: usize,
 ) -> Option<KnownItem>
-    requires shown { IsShown rows.now }
+    requires rows_view { IsRowsView rows.now }
     requires document { HasDocument rows.now document }
     requires known { AreKnown rows.now.rows known }
-    ensures known { IfSome result (IsAmong rows.now.rows under floor document.end) }
+    ensures known { IfSome result (IsKnownIn rows.now.rows under floor document.end) }
     ensures index { IfSome result (λ k. k.index ≤ index) }
 {
     let known = known_among(rows, document, known, under, floor)?;
@@ -124,21 +124,21 @@ pub fn walk_begin(
     rows: &Rows<'_>,
     document: Stretch,
     known: KnownItems,
-    under: Spot,
+    under: Position,
     floor: usize,
     index: usize,
-) -> (Spot, usize)
-    requires shown { IsShown rows.now }
+) -> (Position, usize)
+    requires rows_view { IsRowsView rows.now }
     requires document { HasDocument rows.now document }
     requires known { AreKnown rows.now.rows known }
-    requires under { IsSpot rows.now document under }
-    ensures spot { IsSpot rows.now document result.0 }
+    requires under { IsPosition rows.now document under }
+    ensures position { IsPosition rows.now document result.0 }
     ensures found { GoesOn rows.now document floor under index result.0 result.1 }
 {
     let Some(known) = known_for(rows, document, known, under, floor, index) else {
         return (under, index);
     };
-    let at = Spot {
+    let at = Position {
         row: known.row,
         line: 0,
     };

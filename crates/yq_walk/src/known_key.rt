@@ -1,25 +1,25 @@
 //! The entry of a key, looked for on both sides of an entry that is known.
 ghost use Rattle.std.specs.Prelude.{◌<◌, ◌≤◌, length, IfSome, Some};
 ghost use Rattle.yq_scalar.specs.Paths as steps;
-ghost use Rattle.yq_walk.specs.Extents.{IsShown};
-ghost use Rattle.yq_walk.specs.RowWalk.{AreKnown, Finds, HasDocument, HaveKeys, IsAmong, IsKnown, IsLine, IsSpot};
+ghost use Rattle.yq_walk.specs.Extents.{IsRowsView};
+ghost use Rattle.yq_walk.specs.RowWalk.{AreKnown, Finds, HasDocument, HaveKeys, IsKnownIn, IsKnown, IsLine, IsPosition};
 
 use crate::known_count::counted;
 use crate::known_item::{item_before, known_among};
-use crate::spot::{KnownItem, KnownItems, Spot, Stretch, level_at};
-use crate::spot_marks::is_key;
+use crate::position::{KnownItem, KnownItems, Position, Stretch, level_at};
+use crate::position_marks::is_key;
 use yq_rows::Rows;
 
 /// The item behind one that is known, before the row where a document ends.
 fn item_behind(rows: &Rows<'_>, known: KnownItem, end: usize) -> Option<KnownItem>
     requires known { IsKnown rows.now.rows known }
     requires within { end ≤ length rows.now.rows }
-    requires shown { IsShown rows.now }
-    ensures { IfSome result (IsAmong rows.now.rows known.under known.floor end) }
+    requires rows_view { IsRowsView rows.now }
+    ensures { IfSome result (IsKnownIn rows.now.rows known.under known.floor end) }
 {
     let mut index = known.index;
     'rows: for row in known.row..end {
-        let level = level_at(rows, Spot { row, line: 0 });
+        let level = level_at(rows, Position { row, line: 0 });
         if level < known.level {
             return None;
         }
@@ -41,21 +41,21 @@ fn item_behind(rows: &Rows<'_>, known: KnownItem, end: usize) -> Option<KnownIte
 fn keyed(
     rows: &Rows<'_>,
     document: Stretch,
-    under: Spot,
+    under: Position,
     floor: usize,
     known: KnownItem,
     key: &str,
-) -> Option<Spot>
-    requires shown { IsShown rows.now }
+) -> Option<Position>
+    requires rows_view { IsRowsView rows.now }
     requires document { HasDocument rows.now document }
-    requires under { IsSpot rows.now document under }
+    requires under { IsPosition rows.now document under }
     requires keys { HaveKeys rows.now document under floor }
-    requires known { IsAmong rows.now.rows under floor document.end known }
+    requires known { IsKnownIn rows.now.rows under floor document.end known }
     ensures within { IfSome result (IsLine rows.now document) }
     ensures found { IfSome result (λ q.
         Finds rows.now document under floor (steps.To key.now) (Some q)) }
 {
-    let at = Spot {
+    let at = Position {
         row: known.row,
         line: 0,
     };
@@ -71,14 +71,14 @@ pub fn key_near(
     rows: &Rows<'_>,
     document: Stretch,
     known: KnownItems,
-    under: Spot,
+    under: Position,
     floor: usize,
     key: &str,
-) -> Option<Spot>
-    requires shown { IsShown rows.now }
+) -> Option<Position>
+    requires rows_view { IsRowsView rows.now }
     requires document { HasDocument rows.now document }
     requires known { AreKnown rows.now.rows known }
-    requires under { IsSpot rows.now document under }
+    requires under { IsPosition rows.now document under }
     requires keys { HaveKeys rows.now document under floor }
     ensures within { IfSome result (IsLine rows.now document) }
     ensures found { IfSome result (λ q.

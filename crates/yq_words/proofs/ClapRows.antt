@@ -103,9 +103,9 @@ first_value : (xs : List Text) → 0 < length xs → is_some (slice_get xs 0) �
 first_value [] h = absurd (omega arith)
 first_value (x ∷ xs) h = refl
 
-pub given_text : (id : Text) (rows : List Row) → AreFilled rows → is_given id rows ≡ true → is_some (first_of id rows) ≡ true
-given_text id [] h given = cc
-given_text id (r ∷ rows) h given = here (bytes_eq r.id id) given (given_text id rows h.1) where
+pub option_text : (id : Text) (rows : List Row) → AreFilled rows → is_given id rows ≡ true → is_some (first_of id rows) ≡ true
+option_text id [] h given = cc
+option_text id (r ∷ rows) h given = here (bytes_eq r.id id) given (option_text id rows h.1) where
   here : (b : Bool) → option_map_or (λ (x : Row). explicit_source x.source) (cond b (Some r) (find (λ x. bytes_eq x.id id) rows)) false ≡ true → (is_given id rows ≡ true → is_some (first_of id rows) ≡ true) →
       is_some (option_and_then (λ (x : Row). slice_get x.values 0) (cond b (Some r) (find (λ x. bytes_eq x.id id) rows))) ≡ true
   here true given later = first_value r.values h.0

@@ -11,29 +11,29 @@ use Rattle.clap.specs.Takes.{is_given, takes}
 use Rattle.clap.specs.Walk.{Row, Rule, Text, answers_to, first_of, nothing_held, rows_after, walk_from, walked}
 use Rattle.clap.proofs.OnLiterals.{clap_on_literals}
 use Rattle.clap.proofs.WalkLemmas.{both}
-use Rattle.yq_words.specs.Asked.{checks, count_in, IsRefused, IsUnread, finds, full_words, is_command_word, name_fits, names_fit, words_fit}
+use Rattle.yq_words.specs.Asked.{checks, count_in, WordsRefused, IsNotTaken, finds, full_words, is_command_word, name_fits, names_fit, words_fit}
 use Rattle.yq_words.specs.Line.{yq}
 use Rattle.yq_words.specs.declared.command.Command.{Command}
 use Rattle.yq_words.specs.declared.words_error.WordsError.{WordsError}
 use Rattle.yq_words.proofs.ClapLevel.{Passed, stops_at, sub_found, sub_passed}
-use Rattle.yq_words.proofs.ClapRows.{fills, given_text}
+use Rattle.yq_words.proofs.ClapRows.{fills, option_text}
 
 -- an argument that is required was given
-given_in : (rules : List Rule) (rows : List Row) (id : Text) → list_all (λ a. not a.required || is_given a.id rows) rules ≡ true → list_any (λ a. a.required && bytes_eq a.id id) rules ≡ true → is_given id rows ≡ true
-given_in [] rows id all some = cc
-given_in (a ∷ rules) rows id all some = elim (or_cases (a.required && bytes_eq a.id id) _ some) [
+required_in : (rules : List Rule) (rows : List Row) (id : Text) → list_all (λ a. not a.required || is_given a.id rows) rules ≡ true → list_any (λ a. a.required && bytes_eq a.id id) rules ≡ true → is_given id rows ≡ true
+required_in [] rows id all some = cc
+required_in (a ∷ rules) rows id all some = elim (or_cases (a.required && bytes_eq a.id id) _ some) [
   | inl here ↦
       let is = both a.required _ here in
       let given : (not true || is_given a.id rows) ≡ true = sym (ap (λ b. not b || is_given a.id rows) is.0) ∙ (both (not a.required || is_given a.id rows) _ all).0 in
       subst (λ x. is_given x rows ≡ true) ((bytes_eq-Decides a.id id).0 is.1) given
-  | inr later ↦ given_in rules rows id (both (not a.required || is_given a.id rows) _ all).1 later
+  | inr later ↦ required_in rules rows id (both (not a.required || is_given a.id rows) _ all).1 later
 ]
 
 required_text : (s : Shape) (words : List Text) (id : Text) → s.subcommand_negates_reqs ≡ false → list_any (λ a. a.required && bytes_eq a.id id) s.rules ≡ true → Passed s words → is_some (first_of id (rows_after s.rules [] words)) ≡ true
 required_text s words id none some p =
     let rows = rows_after s.rules [] words in
     let all = sym (ap (λ b. (b && false) || list_all (λ a. not a.required || is_given a.id rows) s.rules) none) ∙ p.given in
-    given_text id rows p.filled (given_in s.rules rows id all some)
+    option_text id rows p.filled (required_in s.rules rows id all some)
 
 -- A command's words that clap takes.
 record Taken (name : Text) (s : Shape) (rest : List Text) : Type 0 where
@@ -152,7 +152,7 @@ words_refused (word ∷ rest) = by_command (is_command_word word) refl where
   by_command true h = word_refused word rest (sym h)
   by_command false h = by_e (bytes_eq word (codes "e"))
 
-pub refused_by_checks : (answer : Result Command WordsError) (words : List Text) → IfErr answer (IsUnread (full_words words)) → IfErr answer (IsRefused (full_words words))
+pub refused_by_checks : (answer : Result Command WordsError) (words : List Text) → IfErr answer (IsNotTaken (full_words words)) → IfErr answer (WordsRefused (full_words words))
 refused_by_checks answer words h = IfErr-weaker answer _ _ (λ fault unread. elim unread [
   | inl memory ↦ inl memory
   | inr usage ↦ inr (usage.0, λ taken. words_refused words taken (usage.1 taken))

@@ -72,22 +72,22 @@ pub record HasNames (rows : List Row) (file journal : Text) : Type 0 where
   pub differ : journal ≢ file
 
 -- the command's word is this one, and what stands behind it has this property
-abbrev pub Follows : Text → (List Row → Type 0) → Option (Text × List Row) → Type 0
-Follows name holds None = ⊥
-Follows name holds (Some found) = (found.0 ≡ name) × holds found.1
+abbrev pub CommandIs : Text → (List Row → Type 0) → Option (Text × List Row) → Type 0
+CommandIs name holds None = ⊥
+CommandIs name holds (Some found) = (found.0 ≡ name) × holds found.1
 
 -- the command is the one that clap finds, with its texts and switches; of help nothing is said
 abbrev pub IsAsked : Option (Text × List Row) → Command → Type 0
-IsAsked found (Eval expr file journal in_place exit_status no_doc) = Follows (codes "eval") (λ rows.
+IsAsked found (Eval expr file journal in_place exit_status no_doc) = CommandIs (codes "eval") (λ rows.
     (first_of (codes "expr") rows ≡ Some (string_bytes expr))
     × HasNames rows (string_bytes file) (string_bytes journal)
     × IsSwitch (one_of (codes "inplace") rows) in_place
     × IsSwitch (one_of (codes "exit-status") rows) exit_status
     × IsSwitch (one_of (codes "no-doc") rows) no_doc) found
-IsAsked found (Undo file journal) = Follows (codes "undo") (λ rows. HasNames rows (string_bytes file) (string_bytes journal)) found
-IsAsked found (Redo file journal) = Follows (codes "redo") (λ rows. HasNames rows (string_bytes file) (string_bytes journal)) found
-IsAsked found (History file journal) = Follows (codes "history") (λ rows. HasNames rows (string_bytes file) (string_bytes journal)) found
-IsAsked found (Squash n file journal) = Follows (codes "squash") (λ rows.
+IsAsked found (Undo file journal) = CommandIs (codes "undo") (λ rows. HasNames rows (string_bytes file) (string_bytes journal)) found
+IsAsked found (Redo file journal) = CommandIs (codes "redo") (λ rows. HasNames rows (string_bytes file) (string_bytes journal)) found
+IsAsked found (History file journal) = CommandIs (codes "history") (λ rows. HasNames rows (string_bytes file) (string_bytes journal)) found
+IsAsked found (Squash n file journal) = CommandIs (codes "squash") (λ rows.
     (option_and_then count_in (first_of (codes "n") rows) ≡ Some n)
     × HasNames rows (string_bytes file) (string_bytes journal)) found
 IsAsked found Help = Unit {0}
@@ -127,8 +127,8 @@ finds None = false
 finds (Some found) = passes found.0 found.1
 
 -- memory ran out, or clap doesn't take the words, or finds no such command in them
-abbrev pub IsUnread : List Text → WordsError → Type 0
-IsUnread full fault =
+abbrev pub IsNotTaken : List Text → WordsError → Type 0
+IsNotTaken full fault =
     (fault ≡ OutOfMemory) ⊎ ((is_usage fault ≡ true) × (takes yq full ≡ true → finds (subcommand_of yq full) ≡ false))
 
 -- the program's own checks of the texts that clap finds: FILE isn't `-`, the journal has another name, and N is a number of 64 bits
@@ -138,6 +138,6 @@ checks rows =
     && option_map_or (λ text. is_some (count_in text)) (first_of (codes "n") rows) true
 
 -- memory ran out, or clap doesn't take the words, or they fail the program's own checks
-abbrev pub IsRefused : List Text → WordsError → Type 0
-IsRefused full fault = (fault ≡ OutOfMemory) ⊎ ((is_usage fault ≡ true)
+abbrev pub WordsRefused : List Text → WordsError → Type 0
+WordsRefused full fault = (fault ≡ OutOfMemory) ⊎ ((is_usage fault ≡ true)
     × (takes yq full ≡ true → option_map_or (λ found. checks found.1) (subcommand_of yq full) true ≡ false))

@@ -26,12 +26,12 @@ pub enum UsageCause {
 }
 
 /// How many characters of a word are shown.
-const SHOWN: usize = 80;
+const MAX_CHARS: usize = 80;
 
 /// Adds a word in quotes, with `?` for each control character, and cut where it is long.
 fn push_word(text: &mut String, word: &str) -> Result<(), AllocError> {
     text.push('\'')?;
-    'chars: for c in word.chars().take(SHOWN) {
+    'chars: for c in word.chars().take(MAX_CHARS) {
         text.push(if c.is_control() { '?' } else { c })?;
     }
     text.push('\'')

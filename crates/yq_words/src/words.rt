@@ -92,7 +92,7 @@ fn command_by(alloc: Global, full: &[&str], asked: bool) -> Result<Command, Word
     ensures called { asked ≡ true → fault_of yq (map (λ w. w.now) full.now) ≡
         ErrorKind.DisplayHelp ∷ [] →
         MatchResult result (λ c. c ≡ Help) (λ e. e ≡ WordsError.OutOfMemory) }
-    ensures err { IfErr result (spec.IsUnread (map (λ w. w.now) full.now)) }
+    ensures err { IfErr result (spec.IsNotTaken (map (λ w. w.now) full.now)) }
 {
     match matched(alloc, full) {
         Err(e) => without_matches(e.kind(), asked),
@@ -121,7 +121,7 @@ pub fn read_words(alloc: Global, words: &[&str]) -> Result<Command, WordsError>
     ensures only { result ≡ Ok Help → spec.MayCallHelp (map (λ w. w.now) words.now) }
     ensures called { spec.CallsHelp (map (λ w. w.now) words.now) →
         MatchResult result (λ c. c ≡ Help) (λ e. e ≡ WordsError.OutOfMemory) }
-    ensures err { IfErr result (spec.IsRefused (spec.full_words (map (λ w. w.now) words.now))) }
+    ensures err { IfErr result (spec.WordsRefused (spec.full_words (map (λ w. w.now) words.now))) }
 {
     let full = full_words(alloc, words)?;
     command_by(alloc, &full, asks_help(words))

@@ -12,9 +12,9 @@ const PRINTED: &str = "a:\n  - b\n  - c: \"true\"\n    \"null\": {}\n";
 /// With all memory held the value isn't printed; once enough is given back it is, whole.
 fn is_printed_later(alloc: Global, value: &Value) -> Result<bool, AllocError> {
     let mut held = all_memory(alloc)?;
-    'turns: for turn in 0..4096u32 {
+    'growths: for nth_growth in 0..4096u32 {
         match print(alloc, value) {
-            Ok(text) => return Ok(turn > 3 && text.as_str() == PRINTED),
+            Ok(text) => return Ok(nth_growth > 3 && text.as_str() == PRINTED),
             Err(_) => {
                 let _ = held.pop();
             }
@@ -24,7 +24,7 @@ fn is_printed_later(alloc: Global, value: &Value) -> Result<bool, AllocError> {
 }
 
 #[test]
-fn memory_is_refused_in_turn(rt: HostRuntime) -> Result<(), Fail> {
+fn memory_is_refused_each_time(rt: HostRuntime) -> Result<(), Fail> {
     let alloc = rt.alloc();
     let program = parse_expr(
         alloc,

@@ -8,8 +8,8 @@ use yq_journal::JournalFault;
 /// Each fault has its line.
 fn have_lines(rt: &impl Abort, alloc: Global, rows: &[(JournalFault, &str)]) -> Result<(), Fail> {
     'rows: for (fault, line) in rows {
-        let told = format!(in alloc; "{fault}")?;
-        assert_eq!(rt; told.as_str(), *line);
+        let message = format!(in alloc; "{fault}")?;
+        assert_eq!(rt; message.as_str(), *line);
     }
     Ok(())
 }

@@ -120,8 +120,8 @@ fn start(
     text: &[u8],
 ) -> Result<(), JournalError> {
     let step = move_of(alloc, opened)?;
-    let made = journal.target(alloc, &step, text)?;
-    if made.as_slice() == text {
+    let called = journal.target(alloc, &step, text)?;
+    if called.as_slice() == text {
         return Err(NO_CALL);
     }
     match journal.start(step, text) {
@@ -148,7 +148,7 @@ fn turned(
 }
 
 /// What a call gives: a text, or an empty one where it gives none.
-fn made(alloc: Global, journal: &mut Journal, call: Call) -> Result<Vec<u8>, JournalError> {
+fn called(alloc: Global, journal: &mut Journal, call: Call) -> Result<Vec<u8>, JournalError> {
     match call {
         Call::Undo(text) => return journal.undo(text.as_bytes()),
         Call::Redo(text) => return journal.redo(text.as_bytes()),
@@ -172,19 +172,19 @@ type Row = (State, Call, &'static str, State);
 
 /// Refuses each growth of a call in turn, compares what it then gives and leaves, and says how many growths
 /// were refused. All turns are made on one journal, so a refused one leaves it as it was.
-fn in_turn(rt: &impl Abort, alloc: Global, row: &Row) -> Result<u32, Fail> {
-    let (state, call, given, behind) = row;
+fn growths_of(rt: &impl Abort, alloc: Global, row: &Row) -> Result<u32, Fail> {
+    let (state, call, want, behind) = row;
     let text = journal_text(alloc, state)?;
     let wanted = journal_text(alloc, behind)?;
     let mut journal = Journal::from_json(alloc, text.as_bytes())?;
     let mut held = all_memory(alloc)?;
-    'turns: for turn in 0..4096u32 {
-        match made(alloc, &mut journal, *call) {
-            Ok(made) => {
+    'growths: for nth_growth in 0..4096u32 {
+        match called(alloc, &mut journal, *call) {
+            Ok(called) => {
                 drop(held);
-                assert_eq!(rt; made.as_slice(), given.as_bytes());
+                assert_eq!(rt; called.as_slice(), want.as_bytes());
                 assert_eq!(rt; journal.to_json(alloc)?.as_slice(), wanted.as_bytes());
-                return Ok(turn);
+                return Ok(nth_growth);
             }
             Err(error) => {
                 assert_eq!(rt; error, JournalError::Memory);
@@ -196,7 +196,7 @@ fn in_turn(rt: &impl Abort, alloc: Global, row: &Row) -> Result<u32, Fail> {
 }
 
 #[test]
-fn each_growth_is_refused_in_turn(rt: HostRuntime) -> Result<(), Fail> {
+fn each_growth_is_refused(rt: HostRuntime) -> Result<(), Fail> {
     let rows: [Row; 13] = [
         (TWO, Call::Undo("n: 3\n"), "n: 2\n", ONE),
         (ONE, Call::Redo("n: 2\n"), "n: 3\n", TWO),
@@ -233,8 +233,8 @@ fn each_growth_is_refused_in_turn(rt: HostRuntime) -> Result<(), Fail> {
         (TWO, Call::Write, "", TWO),
     ];
     'rows: for row in &rows {
-        let turns = in_turn(&rt, rt.alloc(), row)?;
-        assert!(rt; turns > 0);
+        let growths = growths_of(&rt, rt.alloc(), row)?;
+        assert!(rt; growths > 0);
     }
     Ok(())
 }

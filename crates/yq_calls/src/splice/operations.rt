@@ -17,10 +17,10 @@ pub(super) fn by_itself(rt: &impl Abort, alloc: Global, text: &str, op: &Op) -> 
     requires { IsFitting (operation_of op.now) text.now }
 {
     let mut held = all_memory(alloc)?;
-    'turns: for turn in 0..4096u32 {
+    'growths: for nth_growth in 0..4096u32 {
         match apply_op(alloc, text, op) {
             Ok(edited) => {
-                assert!(rt; turn > 1);
+                assert!(rt; nth_growth > 1);
                 return Ok(edited);
             }
             Err(error) => {
@@ -35,7 +35,7 @@ pub(super) fn by_itself(rt: &impl Abort, alloc: Global, text: &str, op: &Op) -> 
 /// A session opened, behind the same answers.
 pub(super) fn opened(rt: &impl Abort, alloc: Global, text: &str) -> Result<Session, Fail> {
     let mut held = all_memory(alloc)?;
-    'turns: for _ in 0..4096u32 {
+    'growths: for _ in 0..4096u32 {
         match Session::open(alloc, text) {
             Ok(session) => return Ok(session),
             Err(error) => {
@@ -61,10 +61,10 @@ pub(super) fn in_session(
     let text = text_of(alloc, session)?;
     let scanned = session.scanned();
     let mut held = all_memory(alloc)?;
-    'turns: for turn in 0..4096u32 {
+    'growths: for nth_growth in 0..4096u32 {
         match session.apply(op) {
             Ok(splices) => {
-                assert!(rt; turn > 1);
+                assert!(rt; nth_growth > 1);
                 return Ok(splices);
             }
             Err(error) => {

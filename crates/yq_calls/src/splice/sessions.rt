@@ -92,8 +92,8 @@ fn edited(
         Session::open(alloc, text)?
     };
     let splices = carry_out(rt, alloc, &mut session, &program, refused)?;
-    let made = session.close();
-    assert_eq!(rt; made.as_str(), wanted, "{expr} on {text:?}");
+    let closed = session.close();
+    assert_eq!(rt; closed.as_str(), wanted, "{expr} on {text:?}");
     Ok(splices)
 }
 

@@ -1,6 +1,6 @@
 //! Reads, matched in documents.
 
-use super::shown::value;
+use super::as_text::value;
 use std::alloc::{AllocError, Global};
 use std::process::Abort;
 use std::test::Fail;
@@ -150,7 +150,7 @@ const REFUSED: [(&str, &str, Refusal); 16] = [
 ];
 
 /// The matches as text.
-fn told(alloc: Global, found: &[Match]) -> Result<String, AllocError> {
+fn described(alloc: Global, found: &[Match]) -> Result<String, AllocError> {
     let mut out = String::new(alloc);
     'matches: for one in found {
         out.push_str(format!(in alloc; "{} ", one.doc)?.as_str())?;
@@ -179,8 +179,8 @@ fn reads_of_texts(rt: HostRuntime) -> Result<(), Fail> {
     let alloc = rt.alloc();
     'matched: for (text, expr, wanted) in &MATCHED {
         let found = matched(&rt, alloc, text, expr)??;
-        let told = told(alloc, &found)?;
-        assert_eq!(rt; told.as_str(), *wanted, "{expr} on {text:?}");
+        let described = described(alloc, &found)?;
+        assert_eq!(rt; described.as_str(), *wanted, "{expr} on {text:?}");
     }
     'refused: for (text, expr, wanted) in &REFUSED {
         let error = matched(&rt, alloc, text, expr)?.err();

@@ -5,7 +5,7 @@ mod reads;
 mod updates;
 mod white_space;
 
-use super::shown::shown;
+use super::as_text::as_text;
 use std::alloc::{AllocError, Global};
 use std::process::Abort;
 use std::test::Fail;
@@ -16,14 +16,14 @@ pub type Row = (&'static str, &'static str, usize);
 
 /// The text with a word for each `%`.
 fn filled(alloc: Global, text: &str, word: &str) -> Result<String, AllocError> {
-    let mut made = String::new(alloc);
+    let mut joined = String::new(alloc);
     'parts: for (nth, part) in text.split('%').enumerate() {
         if nth > 0 {
-            made.push_str(word)?;
+            joined.push_str(word)?;
         }
-        made.push_str(part)?;
+        joined.push_str(part)?;
     }
-    Ok(made)
+    Ok(joined)
 }
 
 /// Each text, with a word for each `%`, is the program shown beside it.
@@ -32,7 +32,7 @@ fn derive(rt: &impl Abort, alloc: Global, rows: &[Row], word: &str) -> Result<()
         let text = filled(alloc, text, word)?;
         let wanted = filled(alloc, wanted, word)?;
         let program = parse_expr(alloc, &text)?;
-        let got = shown(alloc, &program)?;
+        let got = as_text(alloc, &program)?;
         assert_eq!(rt; got.as_str(), wanted.as_str(), "at {text:?}");
         let form = (program.is_read(), program.updates());
         assert_eq!(rt; form, (*updates == 0, *updates), "at {text:?}");

@@ -14,11 +14,11 @@ fn of_programs(rt: HostRuntime) -> Result<(), Fail> {
     let text =
         ".a.\"b\\n\"[0] = [1, {\"k\": \"v\\t\", \"l\": null}] + (.c | select(has(\"d\"))) | del(.e) | .f line_comment=\"g\"";
     let mut held = all_memory(alloc)?;
-    'turns: for turn in 0..4096u32 {
+    'growths: for nth_growth in 0..4096u32 {
         match parse_expr(alloc, text) {
             Ok(program) => {
                 assert_eq!(rt; program.updates(), 3);
-                assert!(rt; turn > 3);
+                assert!(rt; nth_growth > 3);
                 return Ok(());
             }
             Err(e) => {
@@ -43,7 +43,7 @@ static PLANS: [(&str, usize, &str, usize); 7] = [
 ];
 
 /// The same of the plan of an update: so many steps are refused before it has its operations.
-fn plan_in_turn(
+fn plan_growths(
     rt: &impl Abort,
     alloc: Global,
     expr: &str,
@@ -54,12 +54,12 @@ fn plan_in_turn(
     let program = parse_expr(alloc, expr)?;
     let documents = read(alloc, text.as_bytes())?;
     let mut held = all_memory(alloc)?;
-    'turns: for turn in 0..4096u32 {
+    'growths: for nth_growth in 0..4096u32 {
         assert!(rt; program.updates() > nth);
         match plan(alloc, &program, nth, &documents) {
             Ok(ops) => {
                 assert_eq!(rt; ops.len(), wanted);
-                return Ok(turn);
+                return Ok(nth_growth);
             }
             Err(e) => {
                 assert_eq!(rt; e, ExprError::Memory);
@@ -73,8 +73,8 @@ fn plan_in_turn(
 #[test]
 fn of_plans(rt: HostRuntime) -> Result<(), Fail> {
     'plans: for (expr, nth, text, wanted) in &PLANS {
-        let turns = plan_in_turn(&rt, rt.alloc(), expr, *nth, text, *wanted)?;
-        assert!(rt; turns > 0, "{expr:?}");
+        let growths = plan_growths(&rt, rt.alloc(), expr, *nth, text, *wanted)?;
+        assert!(rt; growths > 0, "{expr:?}");
     }
     Ok(())
 }
@@ -86,12 +86,12 @@ fn of_matches(rt: HostRuntime) -> Result<(), Fail> {
     let program = parse_expr(alloc, ".l[] | select(.n == \"x\") | .v")?;
     let documents = read(alloc, b"l:\n- {n: y}\n- {n: x, v: [1, {k: \"q\\t\"}]}\n")?;
     let mut held = all_memory(alloc)?;
-    'turns: for turn in 0..4096u32 {
+    'growths: for nth_growth in 0..4096u32 {
         assert!(rt; program.is_read());
         match matches(alloc, &program, &documents) {
             Ok(found) => {
                 assert_eq!(rt; found.len(), 1);
-                assert!(rt; turn > 3);
+                assert!(rt; nth_growth > 3);
                 return Ok(());
             }
             Err(e) => {

@@ -1,7 +1,7 @@
 //! The documents that texts are read as.
 
+use super::as_text::push_node;
 use super::examples::{block_styles, characters, flow_styles, preview, structures};
-use super::shown::push_node;
 use std::alloc::Global;
 use std::process::Abort;
 use std::test::Fail;
@@ -9,7 +9,7 @@ use yq_scalar::ReadError;
 use yq_tree::{DEPTH_LIMIT, read};
 
 /// The documents of a text, with a `/` behind each.
-fn shown(alloc: Global, text: &str) -> Result<String, ReadError> {
+fn as_text(alloc: Global, text: &str) -> Result<String, ReadError> {
     let documents = read(alloc, text.as_bytes())?;
     let mut all = String::new(alloc);
     'documents: for at in 0..documents.count() {
@@ -22,7 +22,7 @@ fn shown(alloc: Global, text: &str) -> Result<String, ReadError> {
 /// Each text, behind its name, has the documents that stand behind it.
 fn are_read(rt: &impl Abort, alloc: Global, texts: &[(&str, &str, &str)]) -> Result<(), ReadError> {
     'texts: for (name, text, wanted) in texts {
-        let got = shown(alloc, text)?;
+        let got = as_text(alloc, text)?;
         assert_eq!(rt; got.as_str(), *wanted, "{name} {text:?}");
     }
     Ok(())

@@ -1,14 +1,14 @@
 //! The nodes at paths: their keys, items and comments.
 
+use super::as_text::push_node;
 use super::path;
-use super::shown::push_node;
 use std::alloc::{AllocError, Global};
 use std::test::Fail;
 use yq_scalar::ReadError;
 use yq_tree::{DEPTH_LIMIT, Node, read};
 
 /// A node with its key, how many items or entries it has, and its comments.
-fn told(alloc: Global, node: &Node<'_, '_>) -> Result<String, AllocError> {
+fn described(alloc: Global, node: &Node<'_, '_>) -> Result<String, AllocError> {
     let mut all = String::new(alloc);
     push_node(&mut all, node, DEPTH_LIMIT)?;
     let count = format!(in alloc; " ({})", node.count())?;
@@ -25,11 +25,11 @@ fn told(alloc: Global, node: &Node<'_, '_>) -> Result<String, AllocError> {
 }
 
 /// The node at a path in the first document of a text.
-fn told_at(alloc: Global, text: &str, words: &str) -> Result<String, ReadError> {
+fn described_at(alloc: Global, text: &str, words: &str) -> Result<String, ReadError> {
     let documents = read(alloc, text.as_bytes())?;
     let path = path(alloc, 0, words)?;
     match documents.locate(&path) {
-        Some(node) => Ok(told(alloc, &node)?),
+        Some(node) => Ok(described(alloc, &node)?),
         None => Ok(String::from_str(alloc, "none")?),
     }
 }
@@ -79,7 +79,7 @@ static NODES: [(&str, &str, &str); 32] = [
 #[test]
 fn nodes_of_texts(rt: HostRuntime) -> Result<(), Fail> {
     'rows: for (text, words, wanted) in &NODES {
-        let got = told_at(rt.alloc(), text, words)?;
+        let got = described_at(rt.alloc(), text, words)?;
         assert_eq!(rt; got.as_str(), *wanted, "at {text:?} {words:?}");
     }
     Ok(())

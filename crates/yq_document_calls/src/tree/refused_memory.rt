@@ -6,15 +6,15 @@ use yq_text_calls::all_memory;
 use yq_tree::read;
 
 #[test]
-fn memory_is_refused_in_turn(rt: HostRuntime) -> Result<(), Fail> {
+fn memory_is_refused_each_time(rt: HostRuntime) -> Result<(), Fail> {
     let alloc = rt.alloc();
     let text = b"a: [b, {c: \"d\"}]\n---\n- &x e\n- *x\n";
     let mut held = all_memory(alloc)?;
-    'turns: for turn in 0..4096u32 {
+    'growths: for nth_growth in 0..4096u32 {
         match read(alloc, text) {
             Ok(documents) => {
                 assert_eq!(rt; documents.count(), 2);
-                assert!(rt; turn > 3);
+                assert!(rt; nth_growth > 3);
                 return Ok(());
             }
             Err(e) => {

@@ -5,7 +5,7 @@ use std::test::Fail;
 use yq_tree::{Held, Standing, read};
 
 /// What stands somewhere, by its kind and by its pieces in order.
-type Told<'t> = (&'static str, [&'t str; 9]);
+type Described<'t> = (&'static str, [&'t str; 9]);
 
 /// The pieces of what a key or dash holds.
 fn held(h: Held<'_>) -> [&str; 9] {
@@ -28,7 +28,7 @@ fn four<'t>(a: &'t str, b: &'t str, c: &'t str, d: &'t str) -> [&'t str; 9] {
 }
 
 /// What stands there.
-fn told(standing: Standing<'_>) -> Told<'_> {
+fn described(standing: Standing<'_>) -> Described<'_> {
     match standing {
         Standing::Alone(w) => ("alone", four(w.before.front, w.head, w.behind.front, "")),
         Standing::Beside(h) => ("beside", held(h)),
@@ -47,7 +47,7 @@ fn told(standing: Standing<'_>) -> Told<'_> {
 }
 
 /// Texts and paths in their first document, and what stands there.
-static STANDINGS: [(&str, &str, Option<Told<'static>>); 22] = [
+static STANDINGS: [(&str, &str, Option<Described<'static>>); 22] = [
     (
         "a: 1 # c\n",
         "/a",
@@ -190,7 +190,7 @@ fn standings_at_paths(rt: HostRuntime) -> Result<(), Fail> {
         let documents = read(rt.alloc(), text.as_bytes())?;
         let path = path(rt.alloc(), 0, words)?;
         let got = match documents.cut().standing(&path) {
-            Some(standing) => Some(told(standing)),
+            Some(standing) => Some(described(standing)),
             None => None,
         };
         assert_eq!(rt; got, *wanted, "at {text:?} {words:?}");

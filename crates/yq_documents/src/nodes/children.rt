@@ -91,7 +91,7 @@ pub(crate) fn behind_first<'d, 't>(under: Under<'d, 't>) -> Option<Under<'d, 't>
 
 /// The first of the items or entries that lines begin, and the lines behind it.
 pub(crate) fn next_line<'d, 't>(under: Under<'d, 't>) -> Option<(Node<'d, 't>, Under<'d, 't>)>
-    ensures gives { spec.Gives (spec.rest_of (spec.lines_rest under.entry))
+    ensures gives { spec.GivesFirst (spec.rest_of (spec.lines_rest under.entry))
         (λ u. spec.rest_of (spec.lines_rest u)) result }
     ensures fewer { IfSome result (λ x. spec.lines_left x.1 < spec.lines_left under.entry) }
 {

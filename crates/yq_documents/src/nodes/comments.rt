@@ -5,7 +5,7 @@ ghost use Rattle.yq_lines.specs.Comments as spec;
 ghost use Rattle.yq_scalar.specs.Text.{front, lines_of, past_white};
 ghost use Rattle.yq_documents.specs.Pieces as pieces;
 ghost use Rattle.yq_documents.specs.Nodes.{label_of};
-ghost use Rattle.yq_lines.specs.Bodies.{lent};
+ghost use Rattle.yq_lines.specs.Bodies.{borrowed};
 ghost use Rattle.yq_documents.specs.Texts.{texts_left, YieldsText};
 
 use crate::nodes::node::{Node, Slot};
@@ -94,7 +94,7 @@ impl<'t> Node<'_, 't> {
 
     /// The comment behind its entry or item, on its line.
     pub fn line_comment(&self) -> Option<&'t str>
-        ensures { lent result ≡ (label_of self.now).line_comment }
+        ensures { borrowed result ≡ (label_of self.now).line_comment }
     {
         match self.slot {
             Slot::Root => None,

@@ -10,7 +10,7 @@ ghost use Rattle.yq_scalar.specs.Anchors.{names_in, names_of};
 ghost use Rattle.yq_lines.specs.Names.{is_reference};
 ghost use Rattle.yq_lines.specs.Outline.{anchored};
 ghost use Rattle.yq_lines.specs.Outline as outline;
-ghost use Rattle.yq_lines.specs.Bodies.{lent};
+ghost use Rattle.yq_lines.specs.Bodies.{borrowed};
 
 use crate::nodes::node::NodeKind;
 use yq_inline::{Form, Inline};
@@ -46,7 +46,7 @@ pub(crate) fn inline_text<'d>(node: &'d Inline<'_>) -> &'d str
 
 /// The first of two anchors.
 pub(crate) fn first_anchor<'d>(first: Option<&'d str>, second: Option<&'d str>) -> Option<&'d str>
-    ensures { lent result ≡ outline.first_anchor (lent first.entry) (lent second.entry) }
+    ensures { borrowed result ≡ outline.first_anchor (borrowed first.entry) (borrowed second.entry) }
 {
     match first {
         Some(name) => Some(name),
@@ -57,7 +57,7 @@ pub(crate) fn first_anchor<'d>(first: Option<&'d str>, second: Option<&'d str>) 
 /// The anchor of a node behind another anchor; an alias has none.
 #[tactic(auto, using(crate::proofs::KindLaws::anchor_scalar, crate::proofs::KindLaws::anchor_list, crate::proofs::KindLaws::anchor_map, crate::proofs::KindLaws::anchor_alias))]
 pub(crate) fn inline_anchor<'t>(before: Option<&'t str>, node: &Inline<'t>) -> Option<&'t str>
-    ensures { lent result ≡ spec.anchor_of (anchored (lent before.entry)
+    ensures { borrowed result ≡ spec.anchor_of (anchored (borrowed before.entry)
         (placed_tree (view node.now))) }
 {
     match node.form {

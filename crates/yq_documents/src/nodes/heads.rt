@@ -1,8 +1,8 @@
-//! What the lines of rows spell, lent or made.
+//! What the lines of rows spell, borrowed or made.
 ghost use Rattle.std.specs.Prelude.{◌≡◌, ◌<◌, None, Some, length, option_map, true};
 ghost use Rattle.yq_inline.specs.Scalars.{is_quoted};
 ghost use Rattle.yq_inline.specs.Trees.{scalar_node};
-ghost use Rattle.yq_lines.specs.Bodies.{lent};
+ghost use Rattle.yq_lines.specs.Bodies.{borrowed};
 ghost use Rattle.yq_lines.specs.Comments as comments;
 ghost use Rattle.yq_lines.specs.Outline.{key_of, label};
 ghost use Rattle.yq_lines.specs.View.{head_view};
@@ -10,26 +10,26 @@ ghost use Rattle.yq_scalar.specs.Quoted.{IsQuotedText};
 ghost use Rattle.yq_scalar.specs.Scalar.{plain_of};
 ghost use Rattle.yq_scalar.specs.Tree.{scalar};
 ghost use Rattle.yq_documents.specs.Bodies.{body_node};
-ghost use Rattle.yq_documents.specs.Made as spec;
+ghost use Rattle.yq_documents.specs.Decoded as spec;
 ghost use Rattle.yq_documents.specs.Nodes.{written_label};
 ghost use Rattle.yq_documents.specs.Reading.{documents_of};
 ghost use Rattle.yq_documents.specs.Stretches.{IsLineIn, OfLineIn};
 
+use crate::decoded::Decoded;
 use crate::head::anchor_name;
-use crate::made::Made;
 use crate::nodes::body::Body;
 use crate::nodes::node::Written;
-use crate::of_row::made_head;
+use crate::of_row::head_decoded;
 use crate::read_text::ReadText;
 use yq_inline::pieces::is_quoted;
 use yq_lines::{Head, between_quotes};
 use yq_scalar::{Kind, resolve};
-use yq_walk::{Spot, has_head, lines_before_mark, rank_at};
+use yq_walk::{Position, has_head, lines_before_mark, rank_at};
 
 /// A text as it is written, without its quotes.
-pub fn lent_text(piece: &str) -> &str
+pub fn borrowed_text(piece: &str) -> &str
     requires { is_quoted piece.now ≡ true → IsQuotedText piece.now }
-    ensures { result.now ≡ spec.lent_text piece.now }
+    ensures { result.now ≡ spec.borrowed_text piece.now }
 {
     if is_quoted(piece.as_bytes()) {
         between_quotes(piece)
@@ -39,16 +39,16 @@ pub fn lent_text(piece: &str) -> &str
 }
 
 /// The text of a row's key, by what is made of the row and by its key as it is written.
-pub fn told_key<'d>(made: Option<&'d Made<'_>>, piece: &'d str) -> &'d str
+pub fn decoded_key<'d>(decoded: Option<&'d Decoded<'_>>, piece: &'d str) -> &'d str
     requires { is_quoted piece.now ≡ true → IsQuotedText piece.now }
-    ensures { result.now ≡ spec.told_key (option_map (λ m. m.now) made.entry) piece.now }
+    ensures { result.now ≡ spec.decoded_key (option_map (λ m. m.now) decoded.entry) piece.now }
 {
-    match made {
+    match decoded {
         Some(row) => match &row.key {
             Some(key) => key.as_str(),
-            None => lent_text(piece),
+            None => borrowed_text(piece),
         },
-        None => lent_text(piece),
+        None => borrowed_text(piece),
     }
 }
 
@@ -62,10 +62,10 @@ fn plain_kind(text: &str) -> (Kind, &str)
     }
 }
 
-/// What a head spells that is lent as it is written.
-fn lent_head<'d, 't>(head: &'d str) -> Option<Body<'d, 't>>
+/// What a head spells that is borrowed as it is written.
+fn borrowed_head<'d, 't>(head: &'d str) -> Option<Body<'d, 't>>
     requires { is_quoted head.now ≡ true → IsQuotedText head.now }
-    ensures { option_map body_node result ≡ spec.lent_head head.now }
+    ensures { option_map body_node result ≡ spec.borrowed_head head.now }
 {
     if head.is_empty() {
         return None;
@@ -92,7 +92,7 @@ fn head_body<'d, 't>(head: &'d Head<'t>) -> Option<Body<'d, 't>>
 pub(crate) fn line_head<'d, 't>(
     text: &'d ReadText<'t>,
     document: usize,
-    at: Spot,
+    at: Position,
 ) -> Option<Body<'d, 't>>
     requires there { document < length (documents_of text.now) }
     requires line { IsLineIn text.now document at }
@@ -102,17 +102,17 @@ pub(crate) fn line_head<'d, 't>(
     if !has_head(rows, stretch, at) {
         return None;
     }
-    match made_head(text.made(at.row)) {
+    match head_decoded(text.decoded(at.row)) {
         Some(head) => head_body(head),
-        None => lent_head(rows.head(at.row)),
+        None => borrowed_head(rows.head(at.row)),
     }
 }
 
 /// The anchor in a line.
-pub(crate) fn line_anchor<'t>(text: &ReadText<'t>, document: usize, at: Spot) -> Option<&'t str>
+pub(crate) fn line_anchor<'t>(text: &ReadText<'t>, document: usize, at: Position) -> Option<&'t str>
     requires there { document < length (documents_of text.now) }
     requires line { IsLineIn text.now document at }
-    ensures { OfLineIn text.now document at (λ l. lent result ≡ l.anchor) }
+    ensures { OfLineIn text.now document at (λ l. borrowed result ≡ l.anchor) }
 {
     let (rows, _stretch) = text.document_rows(document);
     if at.line < lines_before_mark(rows, at.row) {
@@ -122,20 +122,20 @@ pub(crate) fn line_anchor<'t>(text: &ReadText<'t>, document: usize, at: Spot) ->
 }
 
 /// The key of a line's entry; an item has none.
-fn line_key<'d>(text: &'d ReadText<'_>, document: usize, at: Spot) -> Option<&'d str>
+fn line_key<'d>(text: &'d ReadText<'_>, document: usize, at: Position) -> Option<&'d str>
     requires there { document < length (documents_of text.now) }
     requires line { IsLineIn text.now document at }
-    ensures { OfLineIn text.now document at (λ l. lent result ≡ key_of l.mark) }
+    ensures { OfLineIn text.now document at (λ l. borrowed result ≡ key_of l.mark) }
 {
     let (rows, _stretch) = text.document_rows(document);
     if rank_at(rows, at) != 2 {
         return None;
     }
-    Some(told_key(text.made(at.row), rows.key(at.row)))
+    Some(decoded_key(text.decoded(at.row), rows.key(at.row)))
 }
 
 /// The gap before a line's row, where the line begins it.
-fn line_gap<'t>(text: &ReadText<'t>, document: usize, at: Spot) -> &'t str
+fn line_gap<'t>(text: &ReadText<'t>, document: usize, at: Position) -> &'t str
     requires there { document < length (documents_of text.now) }
     requires line { IsLineIn text.now document at }
     ensures { OfLineIn text.now document at (λ l. comments.head_comment result.now ≡
@@ -149,7 +149,7 @@ fn line_gap<'t>(text: &ReadText<'t>, document: usize, at: Spot) -> &'t str
 }
 
 /// The tail of a line, where it ends its row's first line.
-fn line_tail<'t>(text: &ReadText<'t>, document: usize, at: Spot) -> &'t str
+fn line_tail<'t>(text: &ReadText<'t>, document: usize, at: Position) -> &'t str
     requires there { document < length (documents_of text.now) }
     requires line { IsLineIn text.now document at }
     ensures { OfLineIn text.now document at (λ l. comments.line_comment result.now ≡
@@ -166,7 +166,7 @@ fn line_tail<'t>(text: &ReadText<'t>, document: usize, at: Spot) -> &'t str
 pub(crate) fn line_written<'d, 't>(
     text: &'d ReadText<'t>,
     document: usize,
-    at: Spot,
+    at: Position,
 ) -> Written<'d, 't>
     requires there { document < length (documents_of text.now) }
     requires line { IsLineIn text.now document at }

@@ -2,7 +2,7 @@
 ghost use Rattle.std.specs.Prelude.{◌≡◌, ◌<◌, IsTrue, length, not};
 ghost use Rattle.yq_lines.specs.Ends.{is_end};
 ghost use Rattle.yq_lines.specs.Outline.{key_of};
-ghost use Rattle.yq_lines.specs.Spots as spots;
+ghost use Rattle.yq_lines.specs.Positions as positions;
 ghost use Rattle.yq_scalar.specs.Paths.{is_item};
 ghost use Rattle.yq_documents.specs.Bodies.{outline_of};
 ghost use Rattle.yq_documents.specs.Children.{lines_left};
@@ -11,7 +11,7 @@ ghost use Rattle.yq_documents.specs.Stretches.{IsLineIn, OfLineIn, count_from, l
 
 use crate::nodes::under::Under;
 use crate::read_text::ReadText;
-use yq_walk::{Spot, is_bare, is_deeper, is_item_at, level_at, next};
+use yq_walk::{Position, is_bare, is_deeper, is_item_at, level_at, next};
 
 /// Whether there are lines.
 pub(crate) fn has_lines(under: Under<'_, '_>) -> bool
@@ -24,17 +24,17 @@ pub(crate) fn has_lines(under: Under<'_, '_>) -> bool
 }
 
 /// Whether a line of a document is a node itself.
-pub(crate) fn begins_node(text: &ReadText<'_>, document: usize, at: Spot) -> bool
+pub(crate) fn begins_node(text: &ReadText<'_>, document: usize, at: Position) -> bool
     requires there { document < length (documents_of text.now) }
     requires line { IsLineIn text.now document at }
-    ensures { OfLineIn text.now document at (λ l. result ≡ spots.is_bare l.mark) }
+    ensures { OfLineIn text.now document at (λ l. result ≡ positions.is_bare l.mark) }
 {
     let (rows, stretch) = text.document_rows(document);
     is_bare(rows, stretch, at)
 }
 
 /// Whether a line of a document is no entry of a key.
-pub(crate) fn begins_item(text: &ReadText<'_>, document: usize, at: Spot) -> bool
+pub(crate) fn begins_item(text: &ReadText<'_>, document: usize, at: Position) -> bool
     requires there { document < length (documents_of text.now) }
     requires line { IsLineIn text.now document at }
     ensures { OfLineIn text.now document at (λ l. result ≡ is_item (key_of l.mark)) }
@@ -44,7 +44,11 @@ pub(crate) fn begins_item(text: &ReadText<'_>, document: usize, at: Spot) -> boo
 }
 
 /// The lines under a line of a document.
-pub(crate) fn under_line<'d, 't>(text: &'d ReadText<'t>, document: usize, at: Spot) -> Under<'d, 't>
+pub(crate) fn under_line<'d, 't>(
+    text: &'d ReadText<'t>,
+    document: usize,
+    at: Position,
+) -> Under<'d, 't>
     requires there { document < length (documents_of text.now) }
     requires line { IsLineIn text.now document at }
     ensures lines { OfLineIn text.now document at (λ l. outline_of result ≡

@@ -5,7 +5,7 @@ ghost use Rattle.yq_scalar.specs.Anchors.{names_of};
 ghost use Rattle.yq_lines.specs.Names.{is_reference};
 ghost use Rattle.yq_inline.specs.Trees.{inner, placed_tree};
 ghost use Rattle.yq_inline.specs.View as inline;
-ghost use Rattle.yq_lines.specs.Bodies.{lent};
+ghost use Rattle.yq_lines.specs.Bodies.{borrowed};
 ghost use Rattle.yq_lines.specs.Outline.{label};
 ghost use Rattle.yq_lines.specs.Places.{content};
 ghost use Rattle.yq_documents.specs.Bodies.{body_node};
@@ -23,7 +23,7 @@ use crate::nodes::under::Under;
 use crate::read_text::ReadText;
 use yq_inline::Inline;
 use yq_scalar::Kind;
-use yq_walk::Spot;
+use yq_walk::Position;
 
 /// What a node is.
 #[derive(Clone, Copy, PartialEq, Eq, Debug)]
@@ -89,7 +89,7 @@ impl<'d, 't> Node<'d, 't> {
         ensures label { spec.label_of result ≡ unlabelled }
     {
         let (_rows, stretch) = text.document_rows(i);
-        let first = Spot {
+        let first = Position {
             row: stretch.first,
             line: 0,
         };
@@ -106,7 +106,7 @@ impl<'d, 't> Node<'d, 't> {
     }
 
     /// The node of a line's entry or item.
-    pub(crate) fn of_line(text: &'d ReadText<'t>, document: usize, at: Spot) -> Node<'d, 't>
+    pub(crate) fn of_line(text: &'d ReadText<'t>, document: usize, at: Position) -> Node<'d, 't>
         requires there { document < length (documents_of text.now) }
         requires line { IsLineIn text.now document at }
         ensures node { OfLineIn text.now document at (λ l. spec.node_of result ≡
@@ -123,7 +123,7 @@ impl<'d, 't> Node<'d, 't> {
     #[tactic(auto, using(yq_lines::proofs::NodeLaws::anchored_none))]
     pub(crate) fn of_inline(key: Option<&'d str>, node: &'d Inline<'t>) -> Node<'d, 't>
         ensures node { spec.node_of result ≡ placed_tree (inline.view node.now) }
-        ensures label { spec.label_of result ≡ inner (lent key.entry) }
+        ensures label { spec.label_of result ≡ inner (borrowed key.entry) }
     {
         let named = Named {
             anchor: None,
@@ -166,7 +166,7 @@ impl<'d, 't> Node<'d, 't> {
     /// The name of the anchor before it.
     #[tactic(auto, using(yq_lines::proofs::NodeLaws::first_none))]
     pub fn anchor(&self) -> Option<&'t str>
-        ensures { lent result ≡ spec.anchor_of (spec.node_of self.now) }
+        ensures { borrowed result ≡ spec.anchor_of (spec.node_of self.now) }
     {
         let before = self.named.anchor;
         match self.named.body {
@@ -189,7 +189,7 @@ impl<'d, 't> Node<'d, 't> {
 
     /// The key of its entry; an item and the root have none.
     pub fn key(&self) -> Option<&'d str>
-        ensures { lent result ≡ (spec.label_of self.now).key }
+        ensures { borrowed result ≡ (spec.label_of self.now).key }
     {
         match self.slot {
             Slot::Root => None,

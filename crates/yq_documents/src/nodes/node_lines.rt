@@ -1,6 +1,6 @@
 //! The nodes for which lines stand.
 ghost use Rattle.std.specs.Prelude.{◌≡◌, ◌<◌, length};
-ghost use Rattle.yq_lines.specs.Bodies.{lent};
+ghost use Rattle.yq_lines.specs.Bodies.{borrowed};
 ghost use Rattle.yq_lines.specs.Outline.{anchored, value};
 ghost use Rattle.yq_lines.specs.Places.{content};
 ghost use Rattle.yq_documents.specs.Bodies as spec;
@@ -13,13 +13,13 @@ use crate::nodes::heads::{line_anchor, line_head};
 use crate::nodes::lines::{begins_item, begins_node, has_lines, under_line};
 use crate::nodes::under::Under;
 use crate::read_text::ReadText;
-use yq_walk::Spot;
+use yq_walk::Position;
 
 /// The node that lines stand for, behind an anchor. A node on a line of its own is that line's, with
 /// the first anchor before it.
 pub(crate) fn lines_node<'d, 't>(under: Under<'d, 't>, before: Option<&'t str>) -> Named<'d, 't>
     ensures { spec.named_node result ≡
-        anchored (lent before.entry) (value (spec.outline_of under.entry)) }
+        anchored (borrowed before.entry) (value (spec.outline_of under.entry)) }
 {
     let mut anchor = before;
     let mut these = under;
@@ -51,7 +51,11 @@ pub(crate) fn lines_node<'d, 't>(under: Under<'d, 't>, before: Option<&'t str>) 
 }
 
 /// The node of an entry or item: that of its head, or of the lines under its line.
-pub(crate) fn line_node<'d, 't>(text: &'d ReadText<'t>, document: usize, at: Spot) -> Named<'d, 't>
+pub(crate) fn line_node<'d, 't>(
+    text: &'d ReadText<'t>,
+    document: usize,
+    at: Position,
+) -> Named<'d, 't>
     requires there { document < length (documents_of text.now) }
     requires line { IsLineIn text.now document at }
     ensures { OfLineIn text.now document at (λ l. spec.named_node result ≡

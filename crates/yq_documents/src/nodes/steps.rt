@@ -104,7 +104,7 @@ impl<'d, 't> Node<'d, 't> {
     }
 
     /// The node to which steps lead.
-    pub fn walk(&self, steps: &[Step]) -> Option<Node<'d, 't>>
+    pub fn descend(&self, steps: &[Step]) -> Option<Node<'d, 't>>
         ensures node { option_map node_of result ≡
             node_at (map step_of steps.now) (node_of self.now) }
         ensures labelled { option_map labelled_of result ≡

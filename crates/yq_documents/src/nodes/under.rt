@@ -1,10 +1,10 @@
 //! The lines under a line, or of a document.
 ghost use Rattle.std.specs.Prelude.{◌<◌, length};
 ghost use Rattle.yq_documents.specs.Reading.{documents_of};
-ghost use Rattle.yq_documents.specs.Stretches.{IsSpotIn};
+ghost use Rattle.yq_documents.specs.Stretches.{IsPositionIn};
 
 use crate::read_text::ReadText;
-use yq_walk::Spot;
+use yq_walk::Position;
 
 /// The lines of a document from one on that are deeper than a level.
 #[derive(Clone, Copy, Debug)]
@@ -12,8 +12,8 @@ pub(crate) struct Under<'d, 't> {
     pub(crate) text: &'d ReadText<'t>,
     /// Which document, counted from 0.
     pub(crate) document: usize,
-    pub(crate) first: Spot,
+    pub(crate) first: Position,
     pub(crate) floor: usize,
     ghost there: { document < length (documents_of text.now) },
-    ghost spot: { IsSpotIn text.now document first },
+    ghost position: { IsPositionIn text.now document first },
 }

@@ -4,12 +4,12 @@ ghost use Rattle.yq_inline.specs.Values.{node_of};
 ghost use Rattle.yq_scalar.specs.BlockWritten.{break_text};
 ghost use Rattle.yq_scalar.specs.Writable.{is_string};
 ghost use Rattle.yq_places.specs.NodesAt.{scalar_in};
-ghost use Rattle.yq_places.specs.StandingTelling.{held_told, mark_told};
+ghost use Rattle.yq_places.specs.StandingViews.{held_view, held_mark_view};
 ghost use Rattle.yq_edits.specs.ReplaceEdits as spec;
 ghost use Rattle.yq_edits.specs.WrittenValues.{column_under, lines, lines_in, written_at};
 
 use crate::replace::held::{put_compact, put_inline};
-use crate::written_value::{before_break, takes_compact, value_text};
+use crate::written_value::{lines_and_break, takes_compact, value_text};
 use std::alloc::{AllocError, Global};
 use yq_block::{Layout, is_filled};
 use yq_inline::Value;
@@ -20,8 +20,8 @@ use yq_text::Halves;
 
 /// The break of the line of a key or dash, and that of the last line, where lines are below it.
 fn line_breaks<'t>(held: &Held<'t>) -> (&'t str, &'t str)
-    ensures line { result.0.now ≡ spec.line_break (held_told held.now) }
-    ensures last { result.1.now ≡ spec.raw_last (held_told held.now) }
+    ensures line { result.0.now ≡ spec.line_break (held_view held.now) }
+    ensures last { result.1.now ≡ spec.raw_last (held_view held.now) }
 {
     if held.line_break.is_empty() {
         (held.last, "")
@@ -39,7 +39,7 @@ fn literal_put<'t>(
     text: &str,
 ) -> Result<Segments<'t>, AllocError>
     ensures { IfOk result (λ ss. ss ≡
-        spec.literal_put (break_text layout.now.br) (held_told held.now) indent text.now) }
+        spec.literal_put (break_text layout.now.br) (held_view held.now) indent text.now) }
 {
     let (header, raw) = write_block(alloc, text, indent, layout.br)?;
     let (line_break, last) = line_breaks(held);
@@ -65,11 +65,11 @@ fn lines_put<'t>(
     value: &Value,
 ) -> Result<Segments<'t>, AllocError>
     ensures { IfOk result (λ ss. ss ≡
-        spec.block_put (break_text layout.now.br) (held_told held.now) (lines (lines_in
-        layout.now (column_under layout.now (mark_told held.now.mark) (node_of value.now))
+        spec.block_put (break_text layout.now.br) (held_view held.now) (lines (lines_in
+        layout.now (column_under layout.now (held_mark_view held.now.mark) (node_of value.now))
         (node_of value.now)))) }
 {
-    let raw = before_break(alloc, layout, held.mark, value)?;
+    let raw = lines_and_break(alloc, layout, held.mark, value)?;
     let (line_break, last) = line_breaks(held);
     let segments = vec![in alloc;
         Segment::Keep(held.before),
@@ -96,7 +96,7 @@ fn string_put<'t>(
 ) -> Result<Segments<'t>, AllocError>
     requires { is_string scalar.now.kind ≡ true }
     ensures { IfOk result (λ ss. ss ≡
-        spec.string_put (break_text layout.now.br) (held_told held.now) indent scalar.now) }
+        spec.string_put (break_text layout.now.br) (held_view held.now) indent scalar.now) }
 {
     if can_write(scalar, Style::Literal, Place::Block) {
         return literal_put(alloc, layout, held, indent, scalar.text());
@@ -114,8 +114,8 @@ fn block_put<'t>(
     value: &Value,
 ) -> Result<Segments<'t>, AllocError>
     ensures { IfOk result (λ ss. ss ≡
-        spec.block_put (break_text layout.now.br) (held_told held.now) (written_at
-        layout.now (mark_told held.now.mark) [] (node_of value.now))) }
+        spec.block_put (break_text layout.now.br) (held_view held.now) (written_at
+        layout.now (held_mark_view held.now.mark) [] (node_of value.now))) }
 {
     if !is_filled(value) {
         let text = value_text(alloc, Place::Block, b"", value)?;
@@ -138,8 +138,8 @@ pub(crate) fn block_scalar_put<'t>(
     value: &Value,
 ) -> Result<Segments<'t>, AllocError>
     ensures { IfOk result (λ ss. ss ≡
-        spec.block_scalar_put has_text (break_text layout.now.br) (held_told held.now) indent
-        (written_at layout.now (mark_told held.now.mark) [] (node_of value.now))
+        spec.block_scalar_put has_text (break_text layout.now.br) (held_view held.now) indent
+        (written_at layout.now (held_mark_view held.now.mark) [] (node_of value.now))
         (scalar_in (node_of value.now))) }
 {
     if let Value::Scalar(scalar) = value {

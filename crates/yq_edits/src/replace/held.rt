@@ -2,7 +2,7 @@
 ghost use Rattle.std.specs.Prelude.{◌≡◌, ℕ, List, [], false, IfOk, string_bytes};
 ghost use Rattle.yq_inline.specs.Values.{node_of};
 ghost use Rattle.yq_scalar.specs.BlockWritten.{break_text};
-ghost use Rattle.yq_places.specs.StandingTelling.{compact_told, held_told, mark_told};
+ghost use Rattle.yq_places.specs.StandingViews.{compact_view, held_view, held_mark_view};
 ghost use Rattle.yq_block.specs.BlockReading.{is_filled as filled};
 ghost use Rattle.yq_block.specs.BlockRows.{item_column};
 ghost use Rattle.yq_block.specs.BlockText.{block_value};
@@ -10,7 +10,9 @@ ghost use Rattle.yq_block.specs.declared.layout.Layout.{Layout as LayoutOf};
 ghost use Rattle.yq_edits.specs.ReplaceEdits as spec;
 ghost use Rattle.yq_edits.specs.WrittenValues as written;
 
-use crate::written_value::{behind_space, below_break, compact_text, takes_compact, value_text};
+use crate::written_value::{
+    behind_space, break_and_lines, compact_text, takes_compact, value_text,
+};
 use std::alloc::{AllocError, Global};
 use yq_block::{Layout, is_filled};
 use yq_inline::Value;
@@ -36,7 +38,7 @@ pub(crate) fn put_inline<'t>(
     text: String,
 ) -> Result<Segments<'t>, AllocError>
     ensures { (br : List ℕ) → IfOk result (λ ss. ss ≡
-        spec.held_put br (held_told held.now) (written.inline (string_bytes text))) }
+        spec.held_put br (held_view held.now) (written.inline (string_bytes text))) }
 {
     let new = apart(alloc, held.head, text)?;
     let segments = vec![in alloc;
@@ -62,7 +64,7 @@ pub(crate) fn put_compact<'t>(
     value: &Value,
 ) -> Result<Segments<'t>, AllocError>
     ensures { IfOk result (λ ss. ss ≡
-        spec.held_put (break_text layout.now.br) (held_told held.now) (written.compact_text
+        spec.held_put (break_text layout.now.br) (held_view held.now) (written.compact_text
         (block_value layout.now (item_column held.now.mark.column) (node_of value.now)))) }
 {
     let new = compact_text(alloc, layout, held.mark, value)?;
@@ -91,12 +93,12 @@ fn put_lines<'t>(
     value: &Value,
 ) -> Result<Segments<'t>, AllocError>
     ensures { IfOk result (λ ss. ss ≡
-        spec.held_put (break_text layout.now.br) (held_told held.now)
+        spec.held_put (break_text layout.now.br) (held_view held.now)
         (written.lines (written.lines_in layout.now
-        (written.column_under layout.now (mark_told held.now.mark) (node_of value.now))
+        (written.column_under layout.now (held_mark_view held.now.mark) (node_of value.now))
         (node_of value.now)))) }
 {
-    let new = below_break(alloc, layout, held.mark, value)?;
+    let new = break_and_lines(alloc, layout, held.mark, value)?;
     let gone = Halves {
         front: held.space,
         back: held.head,
@@ -123,8 +125,8 @@ pub(crate) fn text_put<'t>(
 ) -> Result<Segments<'t>, AllocError>
     requires { filled (node_of value.now) ≡ false }
     ensures { (l : LayoutOf) → IfOk result (λ ss. ss ≡
-        spec.held_put (break_text l.br) (held_told held.now) (written.written_at
-        l (mark_told held.now.mark) held.now.head.now (node_of value.now))) }
+        spec.held_put (break_text l.br) (held_view held.now) (written.written_at
+        l (held_mark_view held.now.mark) held.now.head.now (node_of value.now))) }
 {
     let text = value_text(alloc, Place::Block, held.head.as_bytes(), value)?;
     put_inline(alloc, held, text)
@@ -138,8 +140,8 @@ pub(crate) fn beside_put<'t>(
     value: &Value,
 ) -> Result<Segments<'t>, AllocError>
     ensures { IfOk result (λ ss. ss ≡
-        spec.held_put (break_text layout.now.br) (held_told held.now) (written.written_at
-        layout.now (mark_told held.now.mark) held.now.head.now (node_of value.now))) }
+        spec.held_put (break_text layout.now.br) (held_view held.now) (written.written_at
+        layout.now (held_mark_view held.now.mark) held.now.head.now (node_of value.now))) }
 {
     if !is_filled(value) {
         return text_put(alloc, held, value);
@@ -159,8 +161,8 @@ pub(crate) fn under_put<'t>(
     value: &Value,
 ) -> Result<Segments<'t>, AllocError>
     ensures { IfOk result (λ ss. ss ≡
-        spec.held_put (break_text layout.now.br) (held_told held.now) (written.written_below
-        layout.now (mark_told held.now.mark) (node_of value.now))) }
+        spec.held_put (break_text layout.now.br) (held_view held.now) (written.written_under
+        layout.now (held_mark_view held.now.mark) (node_of value.now))) }
 {
     if is_filled(value) {
         return put_lines(alloc, layout, held, value);
@@ -176,7 +178,7 @@ fn put_behind<'t>(
     text: String,
 ) -> Result<Segments<'t>, AllocError>
     ensures { IfOk result (λ ss. ss ≡
-        spec.behind_dash (compact_told compact.now) (string_bytes text)) }
+        spec.behind_dash (compact_view compact.now) (string_bytes text)) }
 {
     let segments = vec![in alloc;
         Segment::Keep(compact.before),
@@ -188,15 +190,15 @@ fn put_behind<'t>(
 }
 
 /// A value behind a dash, in the place of a compact collection.
-pub(crate) fn dash_put<'t>(
+pub(crate) fn compact_put<'t>(
     alloc: Global,
     layout: &Layout,
     compact: &Compact<'t>,
     value: &Value,
 ) -> Result<Segments<'t>, AllocError>
     ensures { IfOk result (λ ss. ss ≡
-        spec.dash_put (break_text layout.now.br) (compact_told compact.now) (written.written_at
-        layout.now (mark_told compact.now.mark) [] (node_of value.now))) }
+        spec.compact_put (break_text layout.now.br) (compact_view compact.now) (written.written_at
+        layout.now (held_mark_view compact.now.mark) [] (node_of value.now))) }
 {
     let text = if !is_filled(value) {
         let text = value_text(alloc, Place::Block, b"", value)?;
@@ -204,7 +206,7 @@ pub(crate) fn dash_put<'t>(
     } else if takes_compact(compact.mark) {
         compact_text(alloc, layout, compact.mark, value)?
     } else {
-        below_break(alloc, layout, compact.mark, value)?
+        break_and_lines(alloc, layout, compact.mark, value)?
     };
     put_behind(alloc, compact, text)
 }

@@ -3,7 +3,7 @@ ghost use Rattle.std.specs.Prelude.{◌≡◌, IfOk, string_bytes};
 ghost use Rattle.yq_text.specs.Halves.{whole};
 ghost use Rattle.yq_inline.specs.Values.{node_of};
 ghost use Rattle.yq_scalar.specs.BlockWritten.{break_text};
-ghost use Rattle.yq_places.specs.StandingTelling.{lone_told, no_rows_told, root_told};
+ghost use Rattle.yq_places.specs.StandingViews.{lone_view, no_rows_view, root_view};
 ghost use Rattle.yq_block.specs.BlockText.{block_value};
 ghost use Rattle.yq_edits.specs.ClosedTexts as closed;
 ghost use Rattle.yq_edits.specs.ReplaceEdits as spec;
@@ -25,7 +25,7 @@ pub(crate) fn lone_put<'t>(
     lone: &Lone<'t>,
     value: &Value,
 ) -> Result<Segments<'t>, AllocError>
-    ensures { IfOk result (λ ss. ss ≡ spec.lone_put (lone_told lone.now) (node_of value.now)) }
+    ensures { IfOk result (λ ss. ss ≡ spec.lone_put (lone_view lone.now) (node_of value.now)) }
 {
     let text = value_text(alloc, Place::Block, lone.head.as_bytes(), value)?;
     let new = apart(alloc, lone.head, text)?;
@@ -45,7 +45,7 @@ pub(crate) fn root_put<'t>(
     value: &Value,
 ) -> Result<Segments<'t>, AllocError>
     ensures { IfOk result (λ ss. ss ≡
-        spec.root_put layout.now (node_of value.now) (root_told root.now)) }
+        spec.root_put layout.now (node_of value.now) (root_view root.now)) }
 {
     let mut text = String::new(alloc);
     push_block(alloc, &mut text, layout, root.column, value)?;
@@ -70,7 +70,7 @@ fn is_closed_text(text: &[u8]) -> bool
 }
 
 /// The same of a text in two halves.
-#[tactic(auto, using(crate::proofs::ClosedLaws::half_told))]
+#[tactic(auto, using(crate::proofs::ClosedLaws::half_agrees))]
 fn is_closed(text: Halves<'_>) -> bool
     ensures { result ≡ closed.is_closed_text (whole text.entry) }
 {
@@ -104,14 +104,14 @@ fn lines_behind(
 }
 
 /// A value in block style behind the gap of a document without rows.
-pub(crate) fn first_put<'t>(
+pub(crate) fn no_rows_put<'t>(
     alloc: Global,
     layout: &Layout,
     place: &NoRows<'t>,
     value: &Value,
 ) -> Result<Segments<'t>, AllocError>
     ensures { IfOk result (λ ss. ss ≡
-        spec.first_put layout.now (node_of value.now) (no_rows_told place.now)) }
+        spec.no_rows_put layout.now (node_of value.now) (no_rows_view place.now)) }
 {
     let lines = lines_behind(alloc, layout, place.before, value)?;
     let segments = vec![in alloc;

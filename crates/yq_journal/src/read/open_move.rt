@@ -99,7 +99,7 @@ pub(super) fn can_move(
     ensures { IfOk result (λ b. b ≡ spec.can_move records.now at (Some open.now)) }
 {
     match target(alloc, records, at, &open.step, &open.from) {
-        Ok(made) => Ok(made.as_slice() != open.from.as_slice()),
+        Ok(patched) => Ok(patched.as_slice() != open.from.as_slice()),
         Err(JournalError::Memory) => Err(AllocError),
         Err(JournalError::Fault(_)) => Ok(false),
     }

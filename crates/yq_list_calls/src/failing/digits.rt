@@ -66,10 +66,10 @@ impl Digits {
     /// move then writes the journal, the file and the journal. Behind the file's write the move is made.
     pub fn answer(&mut self, asked: Asked) -> Result<Answer, AllocError> {
         let refusal = self.refusal(asked);
-        let made = if refusal.is_none() { 5 } else { 2 };
+        let writes = if refusal.is_none() { 5 } else { 2 };
         let failing = self.calls;
-        self.calls = failing.saturating_sub(made);
-        if failing == 0 || failing > made {
+        self.calls = failing.saturating_sub(writes);
+        if failing == 0 || failing > writes {
             if let Some(fault) = refusal {
                 return Ok(Answer::Refused(fault));
             }

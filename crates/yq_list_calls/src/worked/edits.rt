@@ -1,11 +1,11 @@
 //! Lists of edits and reads.
 
-use crate::steps::{NOTHING_TO_REDO, NOTHING_TO_UNDO, Step};
+use crate::steps::{CommandRow, NOTHING_TO_REDO, NOTHING_TO_UNDO};
 use crate::wanted::Wanted::{Done, NoMatch, Refused};
 use crate::wanted::Why;
 
 /// An edit behind an undo drops what could be redone.
-pub static MOVED: [Step; 10] = [
+pub static MOVED: [CommandRow; 10] = [
     (&["-i", ".n = 2", "f"], Done, "", "n: 2\n"),
     (&["-i", ".n = 3", "f"], Done, "", "n: 3\n"),
     (&["undo", "f"], Done, "", "n: 2\n"),
@@ -19,7 +19,7 @@ pub static MOVED: [Step; 10] = [
 ];
 
 /// What is printed, and refusals between what is carried out.
-pub static SHOWN: [Step; 9] = [
+pub static EVALS: [CommandRow; 9] = [
     (&["-e", ".a", "f"], NoMatch, "false\n", "a: false\nb: [1]\n"),
     (
         &["-i", ".n = 1 | .b.c = 2", "f"],
@@ -57,7 +57,7 @@ pub static SHOWN: [Step; 9] = [
 ];
 
 /// An edit to equal bytes is no edit of the history.
-pub static EQUAL: [Step; 5] = [
+pub static EQUAL: [CommandRow; 5] = [
     (&["-i", ".a = \"x\"", "f"], Done, "", "a: \"x\"\n"),
     (&["history", "f"], Done, "", "a: \"x\"\n"),
     (&["-i", ".a |= . + \"y\"", "f"], Done, "", "a: \"xy\"\n"),
@@ -71,7 +71,7 @@ pub static EQUAL: [Step; 5] = [
 ];
 
 /// Matches of two documents, with the marker between them and without.
-pub static TWO_DOCUMENTS: [Step; 3] = [
+pub static TWO_DOCUMENTS: [CommandRow; 3] = [
     (&[".a", "f"], Done, "1\n---\n2\n", "a: 1\n---\na: 2\n"),
     (&["-N", ".a", "f"], Done, "1\n2\n", "a: 1\n---\na: 2\n"),
     (
@@ -83,7 +83,7 @@ pub static TWO_DOCUMENTS: [Step; 3] = [
 ];
 
 /// Lines that end in CR LF.
-pub static CR_LF: [Step; 3] = [
+pub static CR_LF: [CommandRow; 3] = [
     (
         &["-i", ".port = {\"h\": 1}", "f"],
         Done,

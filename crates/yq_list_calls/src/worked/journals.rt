@@ -1,6 +1,6 @@
 //! Lists between which another hand writes, and the journals behind them.
 
-use crate::steps::{DOES_NOT_STAND, FILE, JOURNAL, Step, holds, runs, store_with};
+use crate::steps::{CommandRow, DOES_NOT_STAND, FILE, JOURNAL, holds, runs, store_with};
 use crate::wanted::Wanted::{Done, Refused};
 use crate::wanted::{Wanted, Why};
 use std::alloc::Global;
@@ -9,10 +9,10 @@ use std::test::Fail;
 use yq_store::Store;
 
 /// What another hand gives a name, a list, and the journal behind it, if it is compared.
-type Turn = (
+type Round = (
     &'static str,
     &'static str,
-    &'static [Step],
+    &'static [CommandRow],
     Option<&'static str>,
 );
 
@@ -39,7 +39,7 @@ const SETTLED: &str =
 const UNSETTLED: Wanted = Refused(Why::Unsettled);
 
 /// An undo stands where the recorded bytes do.
-static ELSEWHERE: [Turn; 3] = [
+static ELSEWHERE: [Round; 3] = [
     (
         FILE,
         PORT,
@@ -71,7 +71,7 @@ static ELSEWHERE: [Turn; 3] = [
 ];
 
 /// Two splices of one record.
-static TWO_SPLICES: [Turn; 4] = [
+static TWO_SPLICES: [Round; 4] = [
     (
         FILE,
         "a: 1\nb: 2\n",
@@ -102,7 +102,7 @@ static TWO_SPLICES: [Turn; 4] = [
 ];
 
 /// A journal that is none, and one whose open move stands beside another text, and then beside its own.
-static FOREIGN: [Turn; 4] = [
+static FOREIGN: [Round; 4] = [
     (FILE, "n: 7\n", &[], None),
     (
         JOURNAL,
@@ -137,9 +137,9 @@ static FOREIGN: [Turn; 4] = [
 ];
 
 /// Runs lists over one store, each behind what another hand writes.
-fn runs_in_turn(rt: &impl Abort, alloc: Global, turns: &[Turn]) -> Result<(), Fail> {
+fn run_rounds(rt: &impl Abort, alloc: Global, rounds: &[Round]) -> Result<(), Fail> {
     let mut store = store_with(alloc, "")?;
-    'turns: for (name, text, steps, journal) in turns {
+    'rounds: for (name, text, steps, journal) in rounds {
         store.replace(name, text.as_bytes())?;
         runs(rt, alloc, &mut store, steps)?;
         if let Some(journal) = journal {
@@ -152,7 +152,7 @@ fn runs_in_turn(rt: &impl Abort, alloc: Global, turns: &[Turn]) -> Result<(), Fa
 #[test]
 fn behind_another_hand(rt: HostRuntime) -> Result<(), Fail> {
     let alloc = rt.alloc();
-    runs_in_turn(&rt, alloc, &ELSEWHERE)?;
-    runs_in_turn(&rt, alloc, &TWO_SPLICES)?;
-    runs_in_turn(&rt, alloc, &FOREIGN)
+    run_rounds(&rt, alloc, &ELSEWHERE)?;
+    run_rounds(&rt, alloc, &TWO_SPLICES)?;
+    run_rounds(&rt, alloc, &FOREIGN)
 }

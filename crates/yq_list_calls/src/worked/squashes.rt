@@ -1,11 +1,11 @@
 //! Lists with squashes.
 
-use crate::steps::{NOTHING_TO_UNDO, Step};
+use crate::steps::{CommandRow, NOTHING_TO_UNDO};
 use crate::wanted::Wanted::{Done, Refused};
 use crate::wanted::{Wanted, Why};
 
 /// Two edits joined are undone and redone as one.
-pub static TWO_JOINED: [Step; 6] = [
+pub static TWO_JOINED: [CommandRow; 6] = [
     (&["-i", ".n = 2", "f"], Done, "", "n: 2\n"),
     (&["-i", ".n = 3", "f"], Done, "", "n: 3\n"),
     (&["squash", "2", "f"], Done, "", "n: 3\n"),
@@ -20,7 +20,7 @@ pub static TWO_JOINED: [Step; 6] = [
 ];
 
 /// What is undone stays, and can be redone behind the joined edits.
-pub static WITH_ONE_UNDONE: [Step; 8] = [
+pub static WITH_ONE_UNDONE: [CommandRow; 8] = [
     (&["-i", ".n = 2", "f"], Done, "", "n: 2\n"),
     (&["-i", ".n = 3", "f"], Done, "", "n: 3\n"),
     (&["-i", ".n = 4", "f"], Done, "", "n: 4\n"),
@@ -34,7 +34,7 @@ pub static WITH_ONE_UNDONE: [Step; 8] = [
 const BAD_COUNT: Wanted = Refused(Why::BadCount);
 
 /// Edits that lead back to the first text, joined: their undo changes no byte.
-pub static COUNTS: [Step; 8] = [
+pub static COUNTS: [CommandRow; 8] = [
     (&["-i", ".n = 2", "f"], Done, "", "n: 2\n"),
     (&["squash", "0", "f"], BAD_COUNT, "", "n: 2\n"),
     (&["squash", "2", "f"], BAD_COUNT, "", "n: 2\n"),

@@ -45,7 +45,7 @@ impl MemoryOut {
 }
 
 impl Out for MemoryOut {
-    ghost tells = { true };
+    ghost observable = { true };
 
     ghost taken = { λ w. w.bytes.items };
 

@@ -20,7 +20,7 @@ impl<R: Print + Drop> StandardOut<R> {
 }
 
 impl<R: Print + Drop> Out for StandardOut<R> {
-    ghost tells = { false };
+    ghost observable = { false };
 
     ghost taken = { λ _. [] };
 

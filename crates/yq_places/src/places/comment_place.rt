@@ -5,14 +5,14 @@ ghost use Rattle.yq_rows.specs.View.{Slices};
 ghost use Rattle.yq_places.specs.CommentReading as spec;
 ghost use Rattle.yq_walk.specs.Extents as extents;
 ghost use Rattle.yq_documents.specs.Pieces.{piece_span, span};
-ghost use Rattle.yq_walk.specs.Extents.{IsShown};
+ghost use Rattle.yq_walk.specs.Extents.{IsRowsView};
 ghost use Rattle.yq_places.specs.PathPieces.{piece_at};
 ghost use Rattle.yq_documents.specs.Reading.{cut_of};
-ghost use Rattle.yq_places.specs.SeatReading.{told};
+ghost use Rattle.yq_places.specs.RowLineReading.{line_view};
 ghost use Rattle.yq_documents.specs.declared.path.Part.TheVariants as parts;
 
 use crate::cut_text::CutText;
-use crate::places::stretch::Seat;
+use crate::places::stretch::RowLine;
 use yq_documents::{Path, Span, is_comment, last_run};
 use yq_rows::Rows;
 use yq_scalar::lines::split_at_break;
@@ -34,17 +34,17 @@ fn tail_comment(start: usize, tail: &str) -> Option<Span>
 }
 
 /// The place of the line comment of a line.
-fn line_comment_in(rows: &Rows<'_>, seat: Seat) -> Option<Span>
-    requires within { seat.row < length rows.now.rows }
-    requires shown { IsShown rows.now }
-    ensures { (x : Slices) → slice_get rows.now.rows seat.row ≡ Some x → option_map span result ≡
-        spec.line_comment_span (extents.row_start seat.row rows.now) x (told seat) }
+fn line_comment_in(rows: &Rows<'_>, row_line: RowLine) -> Option<Span>
+    requires within { row_line.row < length rows.now.rows }
+    requires rows_view { IsRowsView rows.now }
+    ensures { (x : Slices) → slice_get rows.now.rows row_line.row ≡ Some x → option_map span result ≡
+        spec.line_comment_span (extents.row_start row_line.row rows.now) x (line_view row_line) }
 {
-    if seat.line != seat.dashes {
+    if row_line.line != row_line.dashes {
         return None;
     }
-    let row = rows.row(seat.row);
-    let start = row_start(rows, seat.row) + front_len(&row) + row.head().len();
+    let row = rows.row(row_line.row);
+    let start = row_start(rows, row_line.row) + front_len(&row) + row.head().len();
     tail_comment(start, row.tail())
 }
 
@@ -63,16 +63,16 @@ fn gap_comment(start: usize, gap: &str) -> Option<Span>
 }
 
 /// The place of the head comment of a line.
-fn head_comment_in(rows: &Rows<'_>, seat: Seat) -> Option<Span>
-    requires within { seat.row < length rows.now.rows }
-    requires shown { IsShown rows.now }
-    ensures { (x : Slices) → slice_get rows.now.rows seat.row ≡ Some x → option_map span result ≡
-        spec.head_comment_span (extents.row_start seat.row rows.now) x (told seat) }
+fn head_comment_in(rows: &Rows<'_>, row_line: RowLine) -> Option<Span>
+    requires within { row_line.row < length rows.now.rows }
+    requires rows_view { IsRowsView rows.now }
+    ensures { (x : Slices) → slice_get rows.now.rows row_line.row ≡ Some x → option_map span result ≡
+        spec.head_comment_span (extents.row_start row_line.row rows.now) x (line_view row_line) }
 {
-    if seat.line != 0 {
+    if row_line.line != 0 {
         return None;
     }
-    gap_comment(row_start(rows, seat.row), rows.row(seat.row).gap())
+    gap_comment(row_start(rows, row_line.row), rows.row(row_line.row).gap())
 }
 
 impl<'t> CutText<'_, 't> {
@@ -81,8 +81,8 @@ impl<'t> CutText<'_, 't> {
         ensures { option_map span result ≡
             option_map piece_span (piece_at path.now parts.LineComment (cut_of self.now)) }
     {
-        let seat = self.seat(path)?;
-        line_comment_in(self.rows, seat)
+        let row_line = self.row_line(path)?;
+        line_comment_in(self.rows, row_line)
     }
 
     /// The place of the run of comments above the entry or item at a path, with the breaks.
@@ -90,7 +90,7 @@ impl<'t> CutText<'_, 't> {
         ensures { option_map span result ≡
             option_map piece_span (piece_at path.now parts.HeadComment (cut_of self.now)) }
     {
-        let seat = self.seat(path)?;
-        head_comment_in(self.rows, seat)
+        let row_line = self.row_line(path)?;
+        head_comment_in(self.rows, row_line)
     }
 }

@@ -2,8 +2,8 @@
 ghost use Rattle.std.specs.Prelude.{◌≡◌, map, option_map};
 ghost use Rattle.yq_inline.specs.Entries.{step_of};
 ghost use Rattle.yq_places.specs.EntryReading as spec;
-ghost use Rattle.yq_walk.specs.Extents.{IsShown};
-ghost use Rattle.yq_walk.specs.RowWalk.{AreKnown, HasDocument, IsSpot, lines_stop};
+ghost use Rattle.yq_walk.specs.Extents.{IsRowsView};
+ghost use Rattle.yq_walk.specs.RowWalk.{AreKnown, HasDocument, IsPosition, lines_stop};
 ghost use Rattle.yq_places.specs.RowWalk.{InEach};
 ghost use Rattle.yq_walk.specs.Lines.{lines_of};
 ghost use Rattle.yq_documents.specs.Pieces.{span};
@@ -17,20 +17,20 @@ use crate::places::row_place::head_extent;
 use yq_documents::{Path, Span};
 use yq_inline::Step;
 use yq_rows::Rows;
-use yq_walk::{KnownItems, Spot, Stretch, is_bare, is_deeper};
+use yq_walk::{KnownItems, Position, Stretch, is_bare, is_deeper};
 
 /// The place of the node for which the lines stand, from one on, that are deeper than a level.
 fn lines_content(
     rows: &Rows<'_>,
     document: Stretch,
     known: KnownItems,
-    from: Spot,
+    from: Position,
     floor: usize,
 ) -> Option<Span>
-    requires shown { IsShown rows.now }
+    requires rows_view { IsRowsView rows.now }
     requires document { HasDocument rows.now document }
     requires known { AreKnown rows.now.rows known }
-    requires from { IsSpot rows.now document from }
+    requires from { IsPosition rows.now document from }
     ensures { InEach rows.now document (λ first c rs n. option_map span result ≡
         spec.lines_content first c rs (n from) (lines_stop (n from) floor (lines_of rs))) }
 {
@@ -46,7 +46,7 @@ fn lines_content(
 
 /// The place of the node to which steps lead, unless they go on in a head.
 fn content_of(rows: &Rows<'_>, document: Stretch, known: KnownItems, steps: &[Step]) -> Option<Span>
-    requires shown { IsShown rows.now }
+    requires rows_view { IsRowsView rows.now }
     requires document { HasDocument rows.now document }
     requires known { AreKnown rows.now.rows known }
     ensures { InEach rows.now document (λ first c rs n. option_map span result ≡

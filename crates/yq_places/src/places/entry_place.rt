@@ -2,8 +2,8 @@
 ghost use Rattle.std.specs.Prelude.{◌≡◌, ◌<◌, ◌-◌, map, option_map, Some};
 ghost use Rattle.yq_inline.specs.Entries.{step_of};
 ghost use Rattle.yq_places.specs.EntryReading as spec;
-ghost use Rattle.yq_walk.specs.Extents.{IsShown};
-ghost use Rattle.yq_walk.specs.RowWalk.{AreKnown, AreLines, HasDocument, IsLine};
+ghost use Rattle.yq_walk.specs.Extents.{IsRowsView};
+ghost use Rattle.yq_walk.specs.RowWalk.{AreKnown, AreLinesTo, HasDocument, IsLine};
 ghost use Rattle.yq_places.specs.RowWalk.{InEach};
 ghost use Rattle.yq_documents.specs.Pieces.{span};
 ghost use Rattle.yq_documents.specs.Reading.{cut_of};
@@ -13,13 +13,13 @@ use crate::places::row_place::{line_start, row_end};
 use yq_documents::{Path, Span};
 use yq_inline::Step;
 use yq_rows::Rows;
-use yq_walk::{KnownItems, Spot, Stretch, behind, line_at};
+use yq_walk::{KnownItems, Position, Stretch, behind, line_at};
 
 /// The place from the beginning of a line of a document to the end of the last row before another one.
-pub(crate) fn lines_place(rows: &Rows<'_>, document: Stretch, from: Spot, to: Spot) -> Span
-    requires shown { IsShown rows.now }
+pub(crate) fn lines_place(rows: &Rows<'_>, document: Stretch, from: Position, to: Position) -> Span
+    requires rows_view { IsRowsView rows.now }
     requires document { HasDocument rows.now document }
-    requires lines { AreLines rows.now document from to }
+    requires lines { AreLinesTo rows.now document from to }
     requires some { from.row < to.row }
     ensures { InEach rows.now document (λ first c rs n. Some (span result) ≡
         spec.lines_place first c rs (n from) (n to - 1)) }
@@ -31,8 +31,8 @@ pub(crate) fn lines_place(rows: &Rows<'_>, document: Stretch, from: Spot, to: Sp
 }
 
 /// The place of the entry or item of a line.
-fn line_entry(rows: &Rows<'_>, document: Stretch, at: Spot) -> Span
-    requires shown { IsShown rows.now }
+fn line_entry(rows: &Rows<'_>, document: Stretch, at: Position) -> Span
+    requires rows_view { IsRowsView rows.now }
     requires document { HasDocument rows.now document }
     requires at { IsLine rows.now document at }
     ensures { InEach rows.now document (λ first c rs n. Some (span result) ≡
@@ -43,7 +43,7 @@ fn line_entry(rows: &Rows<'_>, document: Stretch, at: Spot) -> Span
 
 /// The place of the entry or item of the line to which steps lead.
 fn entry_of(rows: &Rows<'_>, document: Stretch, known: KnownItems, steps: &[Step]) -> Option<Span>
-    requires shown { IsShown rows.now }
+    requires rows_view { IsRowsView rows.now }
     requires document { HasDocument rows.now document }
     requires known { AreKnown rows.now.rows known }
     ensures { InEach rows.now document (λ first c rs n. option_map span result ≡

@@ -5,17 +5,17 @@ ghost use Rattle.yq_rows.specs.Grammar.{IsMark};
 ghost use Rattle.yq_rows.specs.Rows.{Row as RowOf, rows_text};
 ghost use Rattle.yq_rows.specs.View.{slices, view};
 ghost use Rattle.yq_places.specs.Standings as spec;
-ghost use Rattle.yq_places.specs.StandingReading.{AreRowsOf, HasEntry, HasRows, IsEntry};
-ghost use Rattle.yq_places.specs.StandingTelling as telling;
+ghost use Rattle.yq_places.specs.StandingReading.{AreRowsOf, HasEntry, BeginsRows, IsEntryIn};
+ghost use Rattle.yq_places.specs.StandingViews as row_agrees;
 
 use crate::places::held::{Mark, held_in, is_noted};
 use crate::places::lines_cut::{cut_lines, cut_tail};
-use crate::places::placed_entry::PlacedEntry;
 use crate::places::row_place::{line_start, row_stop};
+use crate::places::rows_of_entry::RowsOfEntry;
 use crate::places::standing::{Compact, Lone, Standing};
 use yq_rows::{Row, Rows};
 use yq_text::Halves;
-use yq_walk::{Spot, head_place, line_column};
+use yq_walk::{Position, head_place, line_column};
 
 /// Whether a row is a node that is alone on its line.
 pub(crate) fn is_alone(row: &Row<'_>) -> bool
@@ -27,10 +27,10 @@ pub(crate) fn is_alone(row: &Row<'_>) -> bool
 
 /// The node in row `i`, which is alone on its line.
 pub(crate) fn lone_in<'t>(rows: &Rows<'t>, text: Halves<'t>, i: usize) -> Lone<'t>
-    requires { HasRows (whole text) rows.now i }
-    ensures { (e : spec.PlacedEntry) (end : ℕ) → AreRowsOf (whole text.entry) rows.now e i end →
+    requires { BeginsRows (whole text) rows.now i }
+    ensures { (e : spec.RowsOfEntry) (end : ℕ) → AreRowsOf (whole text.entry) rows.now e i end →
         spec.is_alone e.row ≡ true →
-        telling.lone_told result ≡ spec.lone (spec.before_entry e) e.row
+        row_agrees.lone_view result ≡ spec.lone (spec.before_entry e) e.row
         (rows_text e.under (spec.behind_entry e)) }
 {
     let row = rows.row(i);
@@ -46,19 +46,19 @@ pub(crate) fn lone_in<'t>(rows: &Rows<'t>, text: Halves<'t>, i: usize) -> Lone<'
 }
 
 /// The collection that begins on the line of a dash.
-fn compact_in<'t>(rows: &Rows<'t>, text: Halves<'t>, at: PlacedEntry) -> Compact<'t>
+fn compact_in<'t>(rows: &Rows<'t>, text: Halves<'t>, at: RowsOfEntry) -> Compact<'t>
     requires entry { HasEntry (whole text) rows.now at }
     requires dash { at.line < at.dashes }
-    ensures { (e : spec.PlacedEntry) → IsEntry (whole text.entry) rows.now e at →
-        telling.compact_told result ≡ spec.compact_in e }
+    ensures { (e : spec.RowsOfEntry) → IsEntryIn (whole text.entry) rows.now e at →
+        row_agrees.compact_view result ≡ spec.compact_in e }
 {
     let row = rows.row(at.row);
-    let spot = Spot {
+    let position = Position {
         row: at.row,
         line: at.line,
     };
     let stop = row_stop(rows, at.end - 1);
-    let lower = cut_lines(text, line_start(rows, spot) + 1, stop);
+    let lower = cut_lines(text, line_start(rows, position) + 1, stop);
     let tail = cut_tail(&row);
     Compact {
         mark: Mark {
@@ -75,10 +75,10 @@ fn compact_in<'t>(rows: &Rows<'t>, text: Halves<'t>, at: PlacedEntry) -> Compact
 }
 
 /// What stands behind a key or dash behind which no node is written on its line.
-fn below<'t>(rows: &Rows<'t>, text: Halves<'t>, at: PlacedEntry) -> Standing<'t>
+fn below<'t>(rows: &Rows<'t>, text: Halves<'t>, at: RowsOfEntry) -> Standing<'t>
     requires { HasEntry (whole text) rows.now at }
-    ensures { (e : spec.PlacedEntry) → IsEntry (whole text.entry) rows.now e at →
-        telling.standing_told result ≡ spec.below e e.under }
+    ensures { (e : spec.RowsOfEntry) → IsEntryIn (whole text.entry) rows.now e at →
+        row_agrees.standing_view result ≡ spec.below e e.under }
 {
     let next = at.row + 1;
     if next == at.end {
@@ -92,10 +92,10 @@ fn below<'t>(rows: &Rows<'t>, text: Halves<'t>, at: PlacedEntry) -> Standing<'t>
 }
 
 /// What stands at an item or entry.
-pub(crate) fn entry_standing<'t>(rows: &Rows<'t>, text: Halves<'t>, at: PlacedEntry) -> Standing<'t>
+pub(crate) fn entry_standing<'t>(rows: &Rows<'t>, text: Halves<'t>, at: RowsOfEntry) -> Standing<'t>
     requires { HasEntry (whole text) rows.now at }
-    ensures { (e : spec.PlacedEntry) → IsEntry (whole text.entry) rows.now e at →
-        telling.standing_told result ≡ spec.entry_standing e }
+    ensures { (e : spec.RowsOfEntry) → IsEntryIn (whole text.entry) rows.now e at →
+        row_agrees.standing_view result ≡ spec.entry_standing e }
 {
     if at.line != at.dashes {
         return Standing::Compact(compact_in(rows, text, at));

@@ -2,7 +2,7 @@
 ghost use Rattle.std.specs.Prelude.{◌≡◌, option_map};
 ghost use Rattle.yq_text.specs.Halves.{whole};
 ghost use Rattle.yq_places.specs.FirstPlaces as spec;
-ghost use Rattle.yq_places.specs.FirstTelling.{first_told, piece_of};
+ghost use Rattle.yq_places.specs.FirstViews.{first_view, piece_of};
 ghost use Rattle.yq_documents.specs.Located.{steps_of};
 ghost use Rattle.yq_documents.specs.Reading.{cut_of};
 
@@ -31,7 +31,7 @@ pub struct FirstRemoval<'d> {
 
 /// What is taken out with an item or entry between two texts.
 fn first_out<'d>(before: Halves<'d>, own: Halves<'d>, behind: Halves<'d>) -> FirstRemoval<'d>
-    ensures { first_told result ≡ spec.first_out (piece_of (whole before.entry) (whole own.entry)
+    ensures { first_view result ≡ spec.first_out (piece_of (whole before.entry) (whole own.entry)
         (whole behind.entry)) }
 {
     let (line, next) = split_line(behind);
@@ -63,12 +63,12 @@ impl<'t> CutText<'_, 't> {
     /// to the end of the last line, before its break. None, where its line is the first one of a row, or
     /// it stands in flow.
     pub fn first_removal(&self, path: &Path) -> Option<FirstRemoval<'t>>
-        ensures { option_map first_told result ≡
+        ensures { option_map first_view result ≡
             spec.first_removal path.now.doc (steps_of path.now) (cut_of self.now) }
     {
         let whole = self.whole();
-        let seat = self.seat(path)?;
-        if seat.line == 0 {
+        let row_line = self.row_line(path)?;
+        if row_line.line == 0 {
             return None;
         }
         let span = self.entry_place(path)?;

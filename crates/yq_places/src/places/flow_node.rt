@@ -4,7 +4,7 @@ ghost use Rattle.yq_inline.specs.Entries.{step_of};
 ghost use Rattle.yq_inline.specs.View.{view};
 ghost use Rattle.yq_documents.specs.Reading.{cut_of};
 ghost use Rattle.yq_places.specs.FlowNodes.{flow_collection};
-ghost use Rattle.yq_places.specs.FlowTold as spec;
+ghost use Rattle.yq_places.specs.FlowViews as spec;
 
 use crate::cut_text::CutText;
 use crate::places::node_place::{node_place, place_line};
@@ -50,7 +50,7 @@ impl<'t> CutText<'_, 't> {
         doc: usize,
         steps: &'s [Step],
     ) -> Result<Option<FlowHead<'s, 't>>, AllocError>
-        ensures { IfOk result (spec.TellsFlow self.now (flow_collection doc (map step_of steps.now)
+        ensures { IfOk result (spec.FlowAgrees self.now (flow_collection doc (map step_of steps.now)
             (cut_of self.now))) }
     {
         let _whole = self.whole();

@@ -7,13 +7,13 @@ ghost use Rattle.yq_documents.specs.Located.{steps_of};
 ghost use Rattle.yq_documents.specs.Reading.{cut_of};
 ghost use Rattle.yq_places.specs.RowPieces as pieces;
 ghost use Rattle.yq_places.specs.Standings as spec;
-ghost use Rattle.yq_places.specs.StandingReading.{HasEntry, IsEntry};
-ghost use Rattle.yq_places.specs.StandingTelling as telling;
+ghost use Rattle.yq_places.specs.StandingReading.{HasEntry, IsEntryIn};
+ghost use Rattle.yq_places.specs.StandingViews as row_agrees;
 
 use crate::cut_text::CutText;
 use crate::places::lines_cut::{cut_lines, cut_tail, either};
-use crate::places::placed_entry::PlacedEntry;
 use crate::places::row_place::row_stop;
+use crate::places::rows_of_entry::RowsOfEntry;
 use yq_documents::Path;
 use yq_rows::{Row, Rows};
 use yq_text::Halves;
@@ -82,10 +82,10 @@ fn space_before<'t>(row: &Row<'t>) -> &'t str
 }
 
 /// What the key or dash of rows holds.
-pub(crate) fn held_in<'t>(rows: &Rows<'t>, text: Halves<'t>, at: PlacedEntry) -> Held<'t>
+pub(crate) fn held_in<'t>(rows: &Rows<'t>, text: Halves<'t>, at: RowsOfEntry) -> Held<'t>
     requires { HasEntry (whole text) rows.now at }
-    ensures { (e : spec.PlacedEntry) → IsEntry (whole text.entry) rows.now e at →
-        telling.held_told result ≡ spec.held e }
+    ensures { (e : spec.RowsOfEntry) → IsEntryIn (whole text.entry) rows.now e at →
+        row_agrees.held_view result ≡ spec.held e }
 {
     let row = rows.row(at.row);
     let (_, end) = head_place(rows, at.row);
@@ -118,8 +118,8 @@ impl<'t> CutText<'_, 't> {
     /// The key or dash of the item or entry at a path, with what it holds, if its line is the last one
     /// of its row. The root has none, nor has what stands in flow.
     pub fn held(&self, path: &Path) -> Option<Held<'t>>
-        ensures { option_map telling.held_told result ≡
-            telling.held_at path.now.doc (steps_of path.now) (cut_of self.now) }
+        ensures { option_map row_agrees.held_view result ≡
+            row_agrees.held_at path.now.doc (steps_of path.now) (cut_of self.now) }
     {
         let text = self.whole();
         let entry = self.entry(path)?;

@@ -1,9 +1,9 @@
 //! The item on the way of a path from which a later walk may go on.
 ghost use Rattle.std.specs.Prelude.{◌≡◌, IfSome};
 ghost use Rattle.yq_rows.specs.Rows.{Cut};
-ghost use Rattle.yq_rows.specs.View.{shown};
+ghost use Rattle.yq_rows.specs.View.{rows_view};
 ghost use Rattle.yq_documents.specs.Reading.{cut_of};
-ghost use Rattle.yq_walk.specs.Extents.{IsShown};
+ghost use Rattle.yq_walk.specs.Extents.{IsRowsView};
 ghost use Rattle.yq_walk.specs.RowWalk.{AreKnown, HasDocument, IsKnown, IsLine};
 ghost use Rattle.yq_places.specs.RowWalk.{IsKnownLine, StayKnown, StaysKnown};
 
@@ -14,20 +14,20 @@ use yq_documents::Path;
 use yq_inline::Step;
 use yq_rows::Rows;
 use yq_walk::{
-    KnownItem, KnownItems, Next, Spot, Stretch, item_before, known_to, level_at, next, next_at,
+    KnownItem, KnownItems, Next, Position, Stretch, item_before, known_to, level_at, next, next_at,
 };
 
 /// Where what is under a line begins, or under the root, and how deep that line is.
 #[inline(always)]
-fn begin_under(rows: &Rows<'_>, document: Stretch, from: Option<Spot>) -> (Spot, usize)
-    requires shown { IsShown rows.now }
+fn begin_under(rows: &Rows<'_>, document: Stretch, from: Option<Position>) -> (Position, usize)
+    requires rows_view { IsRowsView rows.now }
     requires document { HasDocument rows.now document }
     requires from { IfSome from (IsLine rows.now document) }
 {
     match from {
         Some(at) => (next(rows, document, at), level_at(rows, at)),
         None => {
-            let first = Spot {
+            let first = Position {
                 row: document.first,
                 line: 0,
             };
@@ -81,10 +81,10 @@ fn known_by(
     rows: &Rows<'_>,
     document: Stretch,
     known: KnownItems,
-    from: Option<Spot>,
-    at: Spot,
+    from: Option<Position>,
+    at: Position,
 ) -> Option<KnownItem>
-    requires shown { IsShown rows.now }
+    requires rows_view { IsRowsView rows.now }
     requires document { HasDocument rows.now document }
     requires known { AreKnown rows.now.rows known }
     requires from { IfSome from (IsLine rows.now document) }
@@ -107,7 +107,7 @@ fn known_along<'s>(
     known: KnownItems,
     steps: &'s [Step],
 ) -> (KnownItems, Option<KnownLine<'s>>)
-    requires shown { IsShown rows.now }
+    requires rows_view { IsRowsView rows.now }
     requires document { HasDocument rows.now document }
     requires known { AreKnown rows.now.rows known }
     ensures known { AreKnown rows.now.rows result.0 }
@@ -139,8 +139,8 @@ fn known_along<'s>(
 #[inline(always)]
 fn begins_in_front(rows: &Rows<'_>, known: KnownItem, front: usize) -> Option<KnownItem>
     requires known { IsKnown rows.now.rows known }
-    requires shown { IsShown rows.now }
-    ensures { IfSome result (λ k. (c : Cut) → rows.now ≡ shown c → StaysKnown front c k) }
+    requires rows_view { IsRowsView rows.now }
+    ensures { IfSome result (λ k. (c : Cut) → rows.now ≡ rows_view c → StaysKnown front c k) }
 {
     if known.row >= rows.len() {
         return None;
@@ -160,8 +160,8 @@ fn begins_in_front(rows: &Rows<'_>, known: KnownItem, front: usize) -> Option<Kn
 #[inline(always)]
 fn if_in_front(rows: &Rows<'_>, known: Option<KnownItem>, front: usize) -> Option<KnownItem>
     requires known { IfSome known (IsKnown rows.now.rows) }
-    requires shown { IsShown rows.now }
-    ensures { IfSome result (λ k. (c : Cut) → rows.now ≡ shown c → StaysKnown front c k) }
+    requires rows_view { IsRowsView rows.now }
+    ensures { IfSome result (λ k. (c : Cut) → rows.now ≡ rows_view c → StaysKnown front c k) }
 {
     begins_in_front(rows, known?, front)
 }

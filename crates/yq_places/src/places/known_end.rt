@@ -1,15 +1,16 @@
 //! The end of a collection, looked for from an item that is known.
 ghost use Rattle.std.specs.Prelude.{◌≡◌, ◌<◌, ◌≤◌, ◌+◌, length, IfSome};
 ghost use Rattle.yq_lines.specs.Outline.{level};
-ghost use Rattle.yq_walk.specs.Extents.{IsShown};
+ghost use Rattle.yq_walk.specs.Extents.{IsRowsView};
 ghost use Rattle.yq_walk.specs.RowWalk as spec;
-ghost use Rattle.yq_walk.specs.RowWalk.{AreKnown, HasDocument, IsKnown, IsLine, IsSpot, OfLine, OfLines, lines_stop};
+ghost use Rattle.yq_walk.specs.RowWalk.{AreKnown, HasDocument, IsKnown, IsLine, IsPosition, OfLine, OfLines, lines_stop};
 
 use crate::places::node_place::{NodePlace, node_place};
 use yq_inline::Step;
 use yq_rows::Rows;
 use yq_walk::{
-    KnownItem, KnownItems, Spot, Stretch, counted, first_known, known_among, level_at, rows_under,
+    KnownItem, KnownItems, Position, Stretch, counted, first_known, known_among, level_at,
+    rows_under,
 };
 
 /// The row from which on the end is looked for of the lines from one on that are deeper than a level: that
@@ -18,7 +19,7 @@ fn search_row(
     rows: &Rows<'_>,
     document: Stretch,
     known: KnownItems,
-    from: Spot,
+    from: Position,
     floor: usize,
 ) -> usize
     requires document { HasDocument rows.now document }
@@ -40,21 +41,21 @@ pub(crate) fn behind_all(
     rows: &Rows<'_>,
     document: Stretch,
     known: KnownItems,
-    from: Spot,
+    from: Position,
     floor: usize,
-) -> Spot
-    requires shown { IsShown rows.now }
+) -> Position
+    requires rows_view { IsRowsView rows.now }
     requires document { HasDocument rows.now document }
     requires known { AreKnown rows.now.rows known }
     requires from { IsLine rows.now document from }
     requires deeper { OfLine rows.now document from (λ l. floor < level l) }
     ensures number { OfLines rows.now document (λ ls n. n result ≡ lines_stop (n from) floor ls) }
-    ensures spot { IsSpot rows.now document result }
+    ensures position { IsPosition rows.now document result }
     ensures line { result.line ≡ 0 }
     ensures later { from.row < result.row }
 {
     let begin = search_row(rows, document, known, from, floor);
-    Spot {
+    Position {
         row: rows_under(rows, begin, document.end, floor),
         line: 0,
     }
@@ -65,13 +66,13 @@ pub(crate) fn behind_all(
 fn known_last(rows: &Rows<'_>, known: KnownItem, end: usize) -> KnownItem
     requires known { IsKnown rows.now.rows known }
     requires within { end ≤ length rows.now.rows }
-    requires shown { IsShown rows.now }
+    requires rows_view { IsRowsView rows.now }
     ensures { IsKnown rows.now.rows result }
 {
     let mut last = known;
     let mut index = known.index;
     'rows: for row in known.row..end {
-        let level = level_at(rows, Spot { row, line: 0 });
+        let level = level_at(rows, Position { row, line: 0 });
         if level < known.level {
             return last;
         }
@@ -95,7 +96,7 @@ pub(crate) fn known_end(
     known: KnownItems,
     steps: &[Step],
 ) -> Option<KnownItem>
-    requires shown { IsShown rows.now }
+    requires rows_view { IsRowsView rows.now }
     requires document { HasDocument rows.now document }
     requires known { AreKnown rows.now.rows known }
     ensures { IfSome result (IsKnown rows.now.rows) }

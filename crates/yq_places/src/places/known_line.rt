@@ -3,20 +3,20 @@ ghost use Rattle.std.specs.Prelude.{◌≡◌, map, option_map, IfSome, IsTrue};
 ghost use Rattle.yq_inline.specs.Entries.{step_of};
 ghost use Rattle.yq_lines.specs.Ends.{line_of, reached};
 ghost use Rattle.yq_walk.specs.Lines.{lines_of};
-ghost use Rattle.yq_walk.specs.Extents.{IsShown};
-ghost use Rattle.yq_walk.specs.RowWalk.{AreKnown, HasDocument, IsLine, line_number, reached_told};
+ghost use Rattle.yq_walk.specs.Extents.{IsRowsView};
+ghost use Rattle.yq_walk.specs.RowWalk.{AreKnown, HasDocument, IsLine, line_number, reached_view};
 ghost use Rattle.yq_places.specs.RowWalk.{IsKnownLine, IsLineAt};
 
 use yq_inline::Step;
 use yq_rows::Rows;
-use yq_walk::{KnownItems, Spot, Stretch, line_at, reach};
+use yq_walk::{KnownItems, Position, Stretch, line_at, reach};
 
 /// The line to which all steps of a path lead in a document.
 #[derive(Clone, Copy, Debug)]
 pub(crate) struct KnownLine<'s> {
     pub(crate) document: Stretch,
     pub(crate) steps: &'s [Step],
-    pub(crate) at: Spot,
+    pub(crate) at: Position,
 }
 
 /// Whether two steps are the same.
@@ -63,7 +63,7 @@ fn if_along(
     document: Stretch,
     line: Option<KnownLine<'_>>,
     steps: &[Step],
-) -> Option<Spot>
+) -> Option<Position>
     requires line { IfSome line (IsKnownLine rows.now) }
     ensures { IfSome result (IsLineAt rows.now document (map step_of steps.now)) }
 {
@@ -88,14 +88,14 @@ pub(crate) fn reach_by<'s>(
     known: KnownItems,
     line: Option<KnownLine<'_>>,
     steps: &'s [Step],
-) -> Option<(Spot, &'s [Step])>
-    requires shown { IsShown rows.now }
+) -> Option<(Position, &'s [Step])>
+    requires rows_view { IsRowsView rows.now }
     requires document { HasDocument rows.now document }
     requires known { AreKnown rows.now.rows known }
     requires line { IfSome line (IsKnownLine rows.now) }
     ensures within { IfSome result (λ x. IsLine rows.now document x.0) }
     ensures found { (h : HasDocument rows.now document) →
-        option_map (reached_told document h.stand.rows) result ≡
+        option_map (reached_view document h.stand.rows) result ≡
         reached (map step_of steps.now) (lines_of h.stand.rows) }
 {
     match if_along(rows, document, line, steps) {
@@ -112,8 +112,8 @@ pub(crate) fn line_by(
     known: KnownItems,
     line: Option<KnownLine<'_>>,
     steps: &[Step],
-) -> Option<Spot>
-    requires shown { IsShown rows.now }
+) -> Option<Position>
+    requires rows_view { IsRowsView rows.now }
     requires document { HasDocument rows.now document }
     requires known { AreKnown rows.now.rows known }
     requires line { IfSome line (IsKnownLine rows.now) }

@@ -2,7 +2,7 @@
 ghost use Rattle.std.specs.Prelude.{◌≡◌, option_map};
 ghost use Rattle.yq_text.specs.Halves.{whole};
 ghost use Rattle.yq_places.specs.CommentPlaces as spec;
-ghost use Rattle.yq_places.specs.CommentTelling.{above_told, GapStands};
+ghost use Rattle.yq_places.specs.CommentViews.{above_view, GapStands};
 ghost use Rattle.yq_documents.specs.Located.{steps_of};
 ghost use Rattle.yq_documents.specs.Reading.{cut_of};
 
@@ -28,7 +28,7 @@ pub struct LinesAbove<'d> {
 fn above<'d>(text: Halves<'d>, start: usize, gap: &'d str, column: usize) -> LinesAbove<'d>
     requires gap { GapStands (whole text) start gap.now }
     ensures { (h : GapStands (whole text.entry) start gap.now) →
-        above_told result ≡ spec.gap_above h.before gap.now column h.rest }
+        above_view result ≡ spec.gap_above h.before gap.now column h.rest }
 {
     let run = last_run(gap);
     let end = start + gap.len();
@@ -46,16 +46,16 @@ impl<'t> CutText<'_, 't> {
     /// The lines above the entry or item at a path, where its head comment stands or would stand. The
     /// root has none, nor has what stands in flow, nor what begins behind a dash.
     pub fn lines_above(&self, path: &Path) -> Option<LinesAbove<'t>>
-        ensures { option_map above_told result ≡
+        ensures { option_map above_view result ≡
             spec.lines_above path.now.doc (steps_of path.now) (cut_of self.now) }
     {
         let whole = self.whole();
-        let seat = self.seat(path)?;
-        if seat.line != 0 {
+        let row_line = self.row_line(path)?;
+        if row_line.line != 0 {
             return None;
         }
-        let start = row_start(self.rows, seat.row);
-        let row = self.rows.row(seat.row);
+        let start = row_start(self.rows, row_line.row);
+        let row = self.rows.row(row_line.row);
         let gap = row.gap();
         let column = row.column();
         Some(above(whole, start, gap, column))

@@ -48,7 +48,7 @@ fn last_break<'t>(end: Halves<'_>) -> &'t str
 pub(crate) fn cut_lines<'t>(text: Halves<'t>, from: usize, stop: usize) -> LinesCut<'t>
     requires { reading.CutsLines (whole text) from stop }
     ensures { (h : reading.CutsLines (whole text.entry) from stop) →
-        reading.lines_told result ≡ reading.lines_of h }
+        reading.lines_view result ≡ reading.lines_of h }
 {
     let (before, own, behind) = cut_at(text, from, stop);
     let (lines, last) = split_break(own);
@@ -63,7 +63,7 @@ pub(crate) fn cut_lines<'t>(text: Halves<'t>, from: usize, stop: usize) -> Lines
 
 /// The end of the line of a row's mark.
 pub(crate) fn cut_tail<'t>(row: &Row<'t>) -> TailCut<'t>
-    ensures { reading.tail_told result ≡ end_before [] (view row.now).tail }
+    ensures { reading.tail_view result ≡ end_before [] (view row.now).tail }
 {
     let (white, line) = split_white(row.tail());
     let (comment, line_break) = split_at_break(line);

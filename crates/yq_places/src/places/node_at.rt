@@ -5,16 +5,16 @@ ghost use Rattle.yq_inline.specs.Trees.{placed_tree};
 ghost use Rattle.yq_inline.specs.View as inline;
 ghost use Rattle.yq_lines.specs.Ends.{part};
 ghost use Rattle.yq_lines.specs.Outline.{value};
-ghost use Rattle.yq_lines.specs.Spots.{begins_with_node};
+ghost use Rattle.yq_lines.specs.Positions.{begins_with_node};
 ghost use Rattle.yq_lines.specs.View.{head_view};
 ghost use Rattle.yq_walk.specs.Lines.{lines_of};
 ghost use Rattle.yq_documents.specs.Located.{steps_of};
 ghost use Rattle.yq_documents.specs.Reading.{cut_of};
-ghost use Rattle.yq_walk.specs.Extents.{IsShown};
+ghost use Rattle.yq_walk.specs.Extents.{IsRowsView};
 ghost use Rattle.yq_places.specs.NodeReading as reading;
 ghost use Rattle.yq_places.specs.NodesAt as spec;
 ghost use Rattle.yq_places.specs.RemovalPlaces.{has_others_at};
-ghost use Rattle.yq_walk.specs.RowWalk.{HasRows, IsSpot, line_number};
+ghost use Rattle.yq_walk.specs.RowWalk.{HasRows, IsPosition, line_number};
 
 use crate::cut_text::CutText;
 use crate::places::node_place::{NodePlace, node_place, place_line};
@@ -24,7 +24,7 @@ use yq_inline::{Form, Inline, Step};
 use yq_lines::{Content, Head};
 use yq_rows::Rows;
 use yq_scalar::Kind;
-use yq_walk::{Spot, Stretch, behind, is_deeper, is_item_at};
+use yq_walk::{Position, Stretch, behind, is_deeper, is_item_at};
 
 /// What a node is, as far as updates ask.
 #[derive(Debug, Drop)]
@@ -41,7 +41,7 @@ impl<'t> NodeAt<'t> {
     /// The scalar that it is, if it is one.
     fn scalar(self) -> Option<(Kind, Content<'t>)>
         ensures { option_map spec.scalar_view result ≡
-            spec.told_scalar (spec.node_view self.entry) }
+            spec.summary_scalar (spec.node_view self.entry) }
     {
         match self {
             NodeAt::Scalar(kind, text) => Some((kind, text)),
@@ -51,7 +51,7 @@ impl<'t> NodeAt<'t> {
 
     /// Whether it has several items or entries.
     fn has_several(&self) -> bool
-        ensures { result ≡ spec.told_several (spec.node_view self.now) }
+        ensures { result ≡ spec.summary_several (spec.node_view self.now) }
     {
         match self {
             NodeAt::Alias | NodeAt::Scalar(..) => false,
@@ -62,7 +62,7 @@ impl<'t> NodeAt<'t> {
 
 /// What an inline node is.
 fn inline_node<'t>(alloc: Global, node: &Inline<'t>) -> Result<NodeAt<'t>, AllocError>
-    ensures { IfOk result (λ n. spec.node_view n ≡ spec.node_told
+    ensures { IfOk result (λ n. spec.node_view n ≡ spec.node_summary
         (placed_tree (inline.view node.now))) }
 {
     match &node.form {
@@ -84,7 +84,7 @@ fn head_node<'t>(
     steps: &[Step],
 ) -> Result<Option<NodeAt<'t>>, AllocError>
     ensures { IfOk result (λ o. option_map spec.node_view o ≡
-        reading.told_in_head (map step_of steps.now) (head_view head.entry)) }
+        reading.summary_in_head (map step_of steps.now) (head_view head.entry)) }
 {
     match head {
         Head::Nothing => Ok(None),
@@ -106,13 +106,13 @@ fn head_node<'t>(
 
 /// What the node is for which the lines stand, from one on, that are deeper than a level, where the
 /// first of them is no node itself.
-fn lines_node<'t>(rows: &Rows<'_>, document: Stretch, under: Spot, floor: usize) -> NodeAt<'t>
-    requires shown { IsShown rows.now }
+fn lines_node<'t>(rows: &Rows<'_>, document: Stretch, under: Position, floor: usize) -> NodeAt<'t>
+    requires rows_view { IsRowsView rows.now }
     requires document { HasRows rows.now document }
-    requires under { IsSpot rows.now document under }
+    requires under { IsPosition rows.now document under }
     ensures { (h : HasRows rows.now document) →
         begins_with_node (part (lines_of h.rows) (line_number document h.rows under) floor) ≡
-        false → spec.node_view result ≡ spec.node_told
+        false → spec.node_view result ≡ spec.node_summary
         (value (part (lines_of h.rows) (line_number document h.rows under) floor)) }
 {
     if !is_deeper(rows, document, under, floor) {
@@ -129,13 +129,13 @@ fn lines_node<'t>(rows: &Rows<'_>, document: Stretch, under: Spot, floor: usize)
 
 /// What the node is that is written in the head of no line.
 fn block_node<'t>(rows: &Rows<'_>, document: Stretch, place: NodePlace) -> Option<NodeAt<'t>>
-    requires shown { IsShown rows.now }
+    requires rows_view { IsRowsView rows.now }
     requires document { HasRows rows.now document }
     requires place { reading.IsPlace rows.now document place }
     ensures { (h : HasRows rows.now document) →
-        reading.place_line (lines_of h.rows) (reading.place_told document h.rows place) ≡ None →
+        reading.place_line (lines_of h.rows) (reading.place_view document h.rows place) ≡ None →
         option_map spec.node_view result ≡
-        reading.told_of_lines (lines_of h.rows) (reading.place_told document h.rows place) }
+        reading.summary_of_lines (lines_of h.rows) (reading.place_view document h.rows place) }
 {
     match place {
         NodePlace::Head(_) => None,
@@ -152,7 +152,7 @@ impl<'t> CutText<'_, 't> {
         steps: &[Step],
     ) -> Result<Option<NodeAt<'t>>, AllocError>
         ensures { IfOk result (λ o. option_map spec.node_view o ≡
-            option_map spec.node_told (spec.node_in doc (map step_of steps.now)
+            option_map spec.node_summary (spec.node_in doc (map step_of steps.now)
             (cut_of self.now))) }
     {
         let _whole = self.whole();

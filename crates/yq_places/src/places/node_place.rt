@@ -3,7 +3,7 @@ ghost use Rattle.std.specs.Prelude.{◌≡◌, map, option_map, slice_get, IfSom
 ghost use Rattle.yq_inline.specs.Entries.{step_of};
 ghost use Rattle.yq_lines.specs.Outline.{Line};
 ghost use Rattle.yq_walk.specs.Lines.{lines_of};
-ghost use Rattle.yq_walk.specs.Extents.{IsShown};
+ghost use Rattle.yq_walk.specs.Extents.{IsRowsView};
 ghost use Rattle.yq_places.specs.NodeReading as spec;
 ghost use Rattle.yq_places.specs.RowWalk.{IsKnownLine};
 ghost use Rattle.yq_walk.specs.RowWalk.{AreKnown, HasDocument, HasRows, IsLine, line_number};
@@ -11,28 +11,28 @@ ghost use Rattle.yq_walk.specs.RowWalk.{AreKnown, HasDocument, HasRows, IsLine, 
 use crate::places::known_line::{KnownLine, reach_by};
 use yq_inline::Step;
 use yq_rows::Rows;
-use yq_walk::{KnownItems, Spot, Stretch, begins_with_node, has_head, level_at, next};
+use yq_walk::{KnownItems, Position, Stretch, begins_with_node, has_head, level_at, next};
 
 /// Where a node is written.
 #[derive(Clone, Copy, Debug)]
 pub(crate) enum NodePlace {
     /// In the head of a line.
-    Head(Spot),
+    Head(Position),
     /// On the lines from one on that are deeper than a level.
-    Lines(Spot, usize),
+    Lines(Position, usize),
 }
 
 /// Where the node of a line is written: in its head, if it has one or steps go on there, else on the
 /// lines under it.
 #[inline(always)]
-fn line_place(rows: &Rows<'_>, document: Stretch, at: Spot, left: &[Step]) -> NodePlace
-    requires shown { IsShown rows.now }
+fn line_place(rows: &Rows<'_>, document: Stretch, at: Position, left: &[Step]) -> NodePlace
+    requires rows_view { IsRowsView rows.now }
     requires document { HasRows rows.now document }
     requires at { IsLine rows.now document at }
     ensures within { spec.IsPlace rows.now document result }
-    ensures told { (h : HasRows rows.now document) (l : Line) →
+    ensures agrees { (h : HasRows rows.now document) (l : Line) →
         slice_get (lines_of h.rows) (line_number document h.rows at) ≡ Some l →
-        spec.place_told document h.rows result ≡
+        spec.place_view document h.rows result ≡
         spec.line_place (line_number document h.rows at) (map step_of left.now) l }
 {
     if !left.is_empty() {
@@ -53,17 +53,17 @@ pub(crate) fn node_place<'s>(
     line: Option<KnownLine<'_>>,
     steps: &'s [Step],
 ) -> Option<(NodePlace, &'s [Step])>
-    requires shown { IsShown rows.now }
+    requires rows_view { IsRowsView rows.now }
     requires document { HasDocument rows.now document }
     requires known { AreKnown rows.now.rows known }
     requires line { IfSome line (IsKnownLine rows.now) }
     ensures within { IfSome result (λ x. spec.IsPlace rows.now document x.0) }
     ensures found { (h : HasDocument rows.now document) →
-        option_map (spec.node_place_told document h.stand.rows) result ≡
+        option_map (spec.node_place_view document h.stand.rows) result ≡
         spec.node_place (map step_of steps.now) (lines_of h.stand.rows) }
 {
     if steps.is_empty() {
-        let first = Spot {
+        let first = Position {
             row: document.first,
             line: 0,
         };
@@ -75,14 +75,14 @@ pub(crate) fn node_place<'s>(
 
 /// The line in whose head a node is written, if it is in one.
 #[inline(always)]
-pub(crate) fn place_line(rows: &Rows<'_>, document: Stretch, place: NodePlace) -> Option<Spot>
-    requires shown { IsShown rows.now }
+pub(crate) fn place_line(rows: &Rows<'_>, document: Stretch, place: NodePlace) -> Option<Position>
+    requires rows_view { IsRowsView rows.now }
     requires document { HasRows rows.now document }
     requires place { spec.IsPlace rows.now document place }
     ensures within { IfSome result (IsLine rows.now document) }
     ensures found { (h : HasRows rows.now document) →
         option_map (line_number document h.rows) result ≡
-        spec.place_line (lines_of h.rows) (spec.place_told document h.rows place) }
+        spec.place_line (lines_of h.rows) (spec.place_view document h.rows place) }
 {
     match place {
         NodePlace::Head(at) => Some(at),

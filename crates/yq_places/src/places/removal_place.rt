@@ -5,10 +5,10 @@ ghost use Rattle.yq_inline.specs.Entries.{step_of};
 ghost use Rattle.yq_rows.specs.Grammar.{IsCut};
 ghost use Rattle.yq_rows.specs.Removal.{block_numbers, hold_comment, last_block};
 ghost use Rattle.yq_rows.specs.Rows.{Cut, Part, Row as RowOf};
-ghost use Rattle.yq_rows.specs.View.{rows_of, shown};
+ghost use Rattle.yq_rows.specs.View.{rows_of, rows_view};
 ghost use Rattle.yq_scalar.specs.Block.{BlockText};
 ghost use Rattle.yq_scalar.specs.Text.{joined, lines_of as text_lines};
-ghost use Rattle.yq_walk.specs.Extents.{IsShown};
+ghost use Rattle.yq_walk.specs.Extents.{IsRowsView};
 ghost use Rattle.yq_documents.specs.Located.{steps_of};
 ghost use Rattle.yq_documents.specs.Pieces as pieces;
 ghost use Rattle.yq_documents.specs.Reading.{cut_of};
@@ -88,7 +88,7 @@ fn own_rows(
     line: Option<KnownLine<'_>>,
     steps: &[Step],
 ) -> Option<(usize, usize, usize)>
-    requires shown { IsShown rows.now }
+    requires rows_view { IsRowsView rows.now }
     requires document { HasDocument rows.now document }
     requires known { AreKnown rows.now.rows known }
     requires line { IfSome line (IsKnownLine rows.now) }
@@ -125,7 +125,7 @@ fn gap_before<'t>(rows: &Rows<'t>, i: usize) -> (&'t str, usize)
 fn block_before(rows: &Rows<'_>, first: usize, at: usize) -> Option<(bool, usize)>
     requires order { first ≤ at }
     requires within { at < length rows.now.rows }
-    ensures { (t : List ℕ) (c : Cut) → IsCut t c → rows.now ≡ shown c → (p : Part)
+    ensures { (t : List ℕ) (c : Cut) → IsCut t c → rows.now ≡ rows_view c → (p : Part)
         (more : List RowOf) → drop first (rows_of c) ≡ p.rows ++ more → at - first ≤ length p.rows →
         option_map (λ b. (b.0, b.1)) result ≡
         option_map block_numbers (last_block (take (at - first) p.rows)) }
@@ -140,7 +140,7 @@ fn block_before(rows: &Rows<'_>, first: usize, at: usize) -> Option<(bool, usize
 /// The seam behind a block scalar, where no comment line stays behind it.
 fn seam_of(block: Option<(bool, usize)>, column: usize, kept: &str) -> Option<Seam>
     ensures { (b : Option BlockText) → option_map (λ b. (b.0, b.1)) block ≡
-        option_map block_numbers b → option_map reading.seam_told result ≡
+        option_map block_numbers b → option_map reading.seam_view result ≡
         spec.seam_behind b column kept.now }
 {
     let (keeps, indent) = block?;
@@ -159,7 +159,7 @@ fn rows_out<'d>(rows: &Rows<'d>, text: Halves<'d>, marks: (usize, usize, usize))
     requires { reading.HasOwn (whole text) rows.now (marks.0, marks.1, marks.2) }
     ensures { (d : PlacedPart) (x : spec.OwnRows) →
         reading.IsOwn (whole text.entry) rows.now d x (marks.0, marks.1, marks.2) →
-        reading.removal_told result ≡ spec.rows_out d x }
+        reading.removal_view result ≡ spec.rows_out d x }
 {
     let (first, at, end) = marks;
     let (kept, _) = split_run(rows.row(at).gap());
@@ -201,7 +201,7 @@ impl<'t> CutText<'_, 't> {
     /// it, and its rows, less the gap before the first one. None, where its line is not the first one of
     /// a row, as in flow, or behind another dash.
     pub fn removal(&self, path: &Path) -> Option<Removal<'t>>
-        ensures { option_map reading.removal_told result ≡
+        ensures { option_map reading.removal_view result ≡
             spec.removal_place path.now.doc (steps_of path.now) (cut_of self.now) }
     {
         let whole = self.whole();

@@ -1,22 +1,22 @@
 //! Where a text has room for comments.
 ghost use Rattle.std.specs.Prelude.{◌≡◌, ℕ};
-ghost use Rattle.yq_places.specs.SeatReading.{numbers, told};
-ghost use Rattle.yq_documents.specs.Seats as spec;
+ghost use Rattle.yq_places.specs.RowLineReading.{numbers, line_view};
+ghost use Rattle.yq_documents.specs.LinesInRows as spec;
 
 use crate::cut_text::CutText;
-use crate::places::stretch::Seat;
+use crate::places::stretch::RowLine;
 use yq_documents::{Part, Path};
 
 /// Whether a line has room for a comment.
-fn line_has_room(seat: Seat, part: Part) -> bool
-    ensures { (k : ℕ) (s : spec.Seat) → told seat ≡ numbers k s →
+fn line_has_room(row_line: RowLine, part: Part) -> bool
+    ensures { (k : ℕ) (s : spec.RowLine) → line_view row_line ≡ numbers k s →
         result ≡ spec.line_has_room part s }
 {
     match part {
         Part::Content => false,
         Part::Entry => false,
-        Part::HeadComment => seat.line == 0,
-        Part::LineComment => seat.line == seat.dashes,
+        Part::HeadComment => row_line.line == 0,
+        Part::LineComment => row_line.line == row_line.dashes,
     }
 }
 
@@ -28,9 +28,9 @@ impl<'t> CutText<'_, 't> {
     pub fn has_room(&self, path: &Path, part: Part) -> bool
         ensures { result ≡ spec.has_room path.now part self.now }
     {
-        let Some(seat) = self.seat(path) else {
+        let Some(row_line) = self.row_line(path) else {
             return false;
         };
-        line_has_room(seat, part)
+        line_has_room(row_line, part)
     }
 }

@@ -5,7 +5,7 @@ ghost use Rattle.yq_documents.specs.Reading.{cut_of};
 ghost use Rattle.yq_places.specs.RootReading as reading;
 ghost use Rattle.yq_places.specs.Standings as spec;
 ghost use Rattle.yq_places.specs.StandingReading.{IsRootOf};
-ghost use Rattle.yq_places.specs.StandingTelling as telling;
+ghost use Rattle.yq_places.specs.StandingViews as row_agrees;
 
 use crate::cut_text::CutText;
 use crate::places::entry_standing::{is_alone, lone_in};
@@ -15,21 +15,21 @@ use crate::places::standing::{BlockRoot, NoRows, Standing};
 use yq_documents::{document_part, rows_to};
 use yq_rows::Rows;
 use yq_text::Halves;
-use yq_walk::{Spot, Stretch};
+use yq_walk::{Position, Stretch};
 
 /// The root of a document as a block collection: from its first key or dash to its last line.
 fn block_root_in<'t>(rows: &Rows<'t>, text: Halves<'t>, document: Stretch) -> BlockRoot<'t>
     requires { IsRootOf (whole text) rows.now document }
     ensures { (h : IsRootOf (whole text.entry) rows.now document) →
-        telling.root_told result ≡ spec.block_root h.part h.row h.under }
+        row_agrees.root_view result ≡ spec.block_root h.part h.row h.under }
 {
-    let spot = Spot {
+    let position = Position {
         row: document.first,
         line: 0,
     };
     let column = rows.row(document.first).column();
     let stop = row_stop(rows, document.end - 1);
-    let lower = cut_lines(text, line_start(rows, spot), stop);
+    let lower = cut_lines(text, line_start(rows, position), stop);
     BlockRoot {
         column,
         before: lower.before,
@@ -43,7 +43,7 @@ fn block_root_in<'t>(rows: &Rows<'t>, text: Halves<'t>, document: Stretch) -> Bl
 fn rows_standing<'t>(rows: &Rows<'t>, text: Halves<'t>, document: Stretch) -> Standing<'t>
     requires { IsRootOf (whole text) rows.now document }
     ensures { (h : IsRootOf (whole text.entry) rows.now document) →
-        telling.standing_told result ≡ spec.root_standing h.part (h.row ∷ h.under) }
+        row_agrees.standing_view result ≡ spec.root_standing h.part (h.row ∷ h.under) }
 {
     if is_alone(&rows.row(document.first)) {
         Standing::Alone(lone_in(rows, text, document.first))
@@ -54,8 +54,8 @@ fn rows_standing<'t>(rows: &Rows<'t>, text: Halves<'t>, document: Stretch) -> St
 
 impl<'t> CutText<'_, 't> {
     /// Where document `doc` ends, in bytes, if it has no rows.
-    pub(crate) fn unwritten_end(&self, doc: usize) -> Option<usize>
-        ensures { result ≡ reading.unwritten_at doc (cut_of self.now) }
+    pub(crate) fn rowless_end(&self, doc: usize) -> Option<usize>
+        ensures { result ≡ reading.rowless_at doc (cut_of self.now) }
     {
         let rows = self.rows();
         let part = document_part(rows, doc)?;
@@ -67,18 +67,18 @@ impl<'t> CutText<'_, 't> {
 
     /// The text of document `doc`, if it has no rows.
     fn no_rows(&self, doc: usize) -> Option<NoRows<'t>>
-        ensures { option_map telling.no_rows_told result ≡
-            reading.unwritten_place doc (cut_of self.now) }
+        ensures { option_map row_agrees.no_rows_view result ≡
+            reading.rowless_place doc (cut_of self.now) }
     {
         let whole = self.whole();
-        let end = self.unwritten_end(doc)?;
+        let end = self.rowless_end(doc)?;
         let (before, behind) = whole.split_at(end);
         Some(NoRows { before, behind })
     }
 
     /// What stands at the root of document `doc`.
     pub(crate) fn root_standing(&self, doc: usize) -> Option<Standing<'t>>
-        ensures { option_map telling.standing_told result ≡
+        ensures { option_map row_agrees.standing_view result ≡
             spec.standing_at doc [] (cut_of self.now) }
     {
         match self.no_rows(doc) {

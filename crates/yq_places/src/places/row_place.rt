@@ -4,34 +4,34 @@ ghost use Rattle.yq_scalar.specs.Characters.{text_limit};
 ghost use Rattle.yq_rows.specs.Grammar.{IsCut};
 ghost use Rattle.yq_rows.specs.Offsets.{row_length};
 ghost use Rattle.yq_rows.specs.Rows.{Cut, Row as RowOf};
-ghost use Rattle.yq_rows.specs.View.{rows_of, shown, Slices, view};
+ghost use Rattle.yq_rows.specs.View.{rows_of, rows_view, Slices, view};
 ghost use Rattle.yq_places.specs.EntryReading as spec;
 ghost use Rattle.yq_walk.specs.Extents as extents;
-ghost use Rattle.yq_walk.specs.Extents.{IsShown};
+ghost use Rattle.yq_walk.specs.Extents.{IsRowsView};
 ghost use Rattle.yq_documents.specs.Pieces.{span};
 
 use crate::places::halves::less_break_len;
-use yq_documents::{Span, begins_block};
+use yq_documents::{Span, is_block_head};
 use yq_rows::{Row, Rows};
 use yq_text::Halves;
-use yq_walk::{Spot, dash_at, head_place, row_len, row_start};
+use yq_walk::{Position, dash_at, head_place, row_len, row_start};
 
 /// Where a line begins, in bytes: at its dash, its key or its head.
-pub(crate) fn line_start(rows: &Rows<'_>, spot: Spot) -> usize
-    requires within { spot.row < length rows.now.rows }
-    requires shown { IsShown rows.now }
-    ensures { (x : Slices) → slice_get rows.now.rows spot.row ≡ Some x → result ≡
-        spec.line_begin (extents.row_start spot.row rows.now) x spot.line }
+pub(crate) fn line_start(rows: &Rows<'_>, position: Position) -> usize
+    requires within { position.row < length rows.now.rows }
+    requires rows_view { IsRowsView rows.now }
+    ensures { (x : Slices) → slice_get rows.now.rows position.row ≡ Some x → result ≡
+        spec.line_begin (extents.row_start position.row rows.now) x position.line }
 {
-    let row = rows.row(spot.row);
-    let dash = dash_at(row.dashes().as_bytes(), spot.line);
-    row_start(rows, spot.row) + row.gap().len() + row.column() + dash
+    let row = rows.row(position.row);
+    let dash = dash_at(row.dashes().as_bytes(), position.line);
+    row_start(rows, position.row) + row.gap().len() + row.column() + dash
 }
 
 /// Where row `i` ends, with its break.
 pub(crate) fn row_stop(rows: &Rows<'_>, i: usize) -> usize
     requires within { i < length rows.now.rows }
-    requires shown { IsShown rows.now }
+    requires rows_view { IsRowsView rows.now }
     ensures { (x : Slices) → slice_get rows.now.rows i ≡ Some x →
         result ≡ extents.row_start i rows.now + row_length x }
 {
@@ -54,8 +54,8 @@ fn ending_len(row: &Row<'_>) -> usize
 /// Where the last line of row `i` ends, in bytes, before its break.
 pub(crate) fn row_end(rows: &Rows<'_>, i: usize) -> usize
     requires within { i < length rows.now.rows }
-    requires shown { IsShown rows.now }
-    ensures { (c : Cut) → rows.now ≡ shown c → (r : RowOf) → slice_get (rows_of c) i ≡ Some r →
+    requires rows_view { IsRowsView rows.now }
+    ensures { (c : Cut) → rows.now ≡ rows_view c → (r : RowOf) → slice_get (rows_of c) i ≡ Some r →
         result ≡ length (spec.through_row i r c) }
 {
     let (_, end) = head_place(rows, i);
@@ -68,7 +68,7 @@ fn head_end(row: &Row<'_>, end: usize) -> usize
     requires { end + (length (view row.now).tail + length (view row.now).raw) ≤ text_limit }
     ensures { result ≡ spec.head_finish end (view row.now) }
 {
-    if begins_block(row.head().as_bytes()) {
+    if is_block_head(row.head().as_bytes()) {
         end + row.tail().len() + row.raw().len()
     } else {
         end
@@ -78,8 +78,8 @@ fn head_end(row: &Row<'_>, end: usize) -> usize
 /// The place of the head of row `i`, without its anchor.
 pub(crate) fn head_extent(rows: &Rows<'_>, i: usize) -> Span
     requires within { i < length rows.now.rows }
-    requires shown { IsShown rows.now }
-    ensures { (t : List ℕ) (c : Cut) → IsCut t c → rows.now ≡ shown c → (r : RowOf) →
+    requires rows_view { IsRowsView rows.now }
+    ensures { (t : List ℕ) (c : Cut) → IsCut t c → rows.now ≡ rows_view c → (r : RowOf) →
         slice_get (rows_of c) i ≡ Some r → span result ≡ spec.head_extent i r c }
 {
     let (start, end) = head_place(rows, i);

@@ -2,14 +2,14 @@
 ghost use Rattle.std.specs.Prelude.{◌≡◌};
 ghost use Rattle.yq_walk.specs.Lines.{lines_of};
 ghost use Rattle.yq_documents.specs.Reading.{cut_of};
-ghost use Rattle.yq_walk.specs.Extents.{IsShown};
+ghost use Rattle.yq_walk.specs.Extents.{IsRowsView};
 ghost use Rattle.yq_walk.specs.RowWalk.{HasRows};
 ghost use Rattle.yq_places.specs.StepReading as reading;
 ghost use Rattle.yq_places.specs.Steps as spec;
 
 use crate::cut_text::CutText;
 use yq_rows::Rows;
-use yq_walk::{Spot, Stretch, level_at, lines_before_mark};
+use yq_walk::{Position, Stretch, level_at, lines_before_mark};
 
 /// How much deeper than its key a mapping, and a sequence, stands in a document.
 #[derive(Clone, Copy, Debug)]
@@ -32,21 +32,21 @@ fn begins_under(above: usize, level: usize, dashes: bool) -> bool
 /// By how many columns the first sequence, or mapping, that stands under a key is deeper than that
 /// key. It begins a row, since a key ends one.
 fn first_step(rows: &Rows<'_>, document: Stretch, dashes: bool) -> usize
-    requires shown { IsShown rows.now }
+    requires rows_view { IsRowsView rows.now }
     requires document { HasRows rows.now document }
     ensures { (h : HasRows rows.now document) →
         result ≡ spec.first_step (spec.is_kind dashes) (lines_of h.rows) }
 {
     let mut above = 0;
     'rows: for at in document.first..document.end {
-        let first = level_at(rows, Spot { row: at, line: 0 });
+        let first = level_at(rows, Position { row: at, line: 0 });
         if begins_under(above, first, dashes) {
             return (first - above) / 3;
         }
         let last = lines_before_mark(rows, at);
         above = level_at(
             rows,
-            Spot {
+            Position {
                 row: at,
                 line: last,
             },

@@ -2,11 +2,11 @@
 ghost use Rattle.std.specs.Prelude.{◌≡◌, ◌-◌, map, option_map, true};
 ghost use Rattle.yq_inline.specs.Entries.{step_of};
 ghost use Rattle.yq_documents.specs.Reading.{all_documents, cut_of};
-ghost use Rattle.yq_documents.specs.Seats.{document_row, seat_at, seat_of};
-ghost use Rattle.yq_walk.specs.Extents.{IsShown};
+ghost use Rattle.yq_documents.specs.LinesInRows.{document_row, row_line_at, row_line_of};
+ghost use Rattle.yq_walk.specs.Extents.{IsRowsView};
 ghost use Rattle.yq_places.specs.RowWalk as spec;
-ghost use Rattle.yq_walk.specs.RowWalk.{AreKnown, HasDocument, stretch_told};
-ghost use Rattle.yq_places.specs.SeatReading.{numbers, told};
+ghost use Rattle.yq_walk.specs.RowWalk.{AreKnown, HasDocument, stretch_view};
+ghost use Rattle.yq_places.specs.RowLineReading.{numbers, line_view};
 
 use crate::cut_text::CutText;
 use yq_documents::{Path, document_part, rows_to};
@@ -16,7 +16,7 @@ use yq_walk::{KnownItems, Stretch, line_at, lines_before_mark};
 
 /// A line of a row.
 #[derive(Clone, Copy, Debug)]
-pub(crate) struct Seat {
+pub(crate) struct RowLine {
     /// How many rows of the text stand before the row.
     pub(crate) row: usize,
     /// How many lines of the row stand before this one.
@@ -26,18 +26,23 @@ pub(crate) struct Seat {
 }
 
 /// The line of the entry or item to which steps lead in a document, if one of a row is.
-fn seat_along(rows: &Rows<'_>, document: Stretch, known: KnownItems, steps: &[Step]) -> Option<Seat>
-    requires shown { IsShown rows.now }
+fn row_line_along(
+    rows: &Rows<'_>,
+    document: Stretch,
+    known: KnownItems,
+    steps: &[Step],
+) -> Option<RowLine>
+    requires rows_view { IsRowsView rows.now }
     requires document { HasDocument rows.now document }
     requires known { AreKnown rows.now.rows known }
-    ensures { (h : HasDocument rows.now document) → option_map told result ≡
-        option_map (numbers document.first) (seat_of (map step_of steps.now) h.stand.rows) }
+    ensures { (h : HasDocument rows.now document) → option_map line_view result ≡
+        option_map (numbers document.first) (row_line_of (map step_of steps.now) h.stand.rows) }
 {
-    let spot = line_at(rows, document, known, steps)?;
-    Some(Seat {
-        row: spot.row,
-        line: spot.line,
-        dashes: lines_before_mark(rows, spot.row),
+    let position = line_at(rows, document, known, steps)?;
+    Some(RowLine {
+        row: position.row,
+        line: position.line,
+        dashes: lines_before_mark(rows, position.row),
     })
 }
 
@@ -45,7 +50,7 @@ impl<'d, 't> CutText<'d, 't> {
     /// The rows of document `doc`, counted from 0, if there is one.
     #[inline(always)]
     pub fn stretch(&self, doc: usize) -> Option<Stretch>
-        ensures place { option_map stretch_told result ≡ spec.document_rows doc (cut_of self.now) }
+        ensures place { option_map stretch_view result ≡ spec.document_rows doc (cut_of self.now) }
         ensures sound { all_documents (cut_of self.now) ≡ true }
     {
         let _whole = self.whole();
@@ -58,13 +63,13 @@ impl<'d, 't> CutText<'d, 't> {
     }
 
     /// The line of the entry or item at a path, if one of a row is.
-    pub(crate) fn seat(&self, path: &Path) -> Option<Seat>
-        ensures { option_map told result ≡
+    pub(crate) fn row_line(&self, path: &Path) -> Option<RowLine>
+        ensures { option_map line_view result ≡
             option_map (numbers (document_row path.now.doc (cut_of self.now)))
-            (seat_at path.now (cut_of self.now)) }
+            (row_line_at path.now (cut_of self.now)) }
     {
         let document = self.stretch(path.doc)?;
         let _whole = self.whole();
-        seat_along(self.rows(), document, self.known(), &path.steps)
+        row_line_along(self.rows(), document, self.known(), &path.steps)
     }
 }

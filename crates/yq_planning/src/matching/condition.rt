@@ -9,7 +9,7 @@ ghost use Rattle.yq_program.specs.Program.{value_at};
 ghost use Rattle.yq_program.specs.View.{condition_of, operand_of, step_of};
 
 use crate::matching::place::Place;
-use crate::matching::walk::walk;
+use crate::matching::traverse::traverse;
 use bumpalo::Bump;
 use std::alloc::Global;
 use yq_documents::{Node, NodeKind};
@@ -99,7 +99,7 @@ fn value_is<'a, 't>(
 {
     let mut start = Vec::with_capacity(alloc, 1)?;
     start.push(place)?;
-    let places = walk(alloc, bump, steps, start)?;
+    let places = traverse(alloc, bump, steps, start)?;
     first_is(&places, scalar)
 }
 

@@ -9,7 +9,7 @@ ghost use Rattle.yq_program.specs.View.{condition_of, stage_of};
 
 use crate::matching::condition::holds;
 use crate::matching::place::Place;
-use crate::matching::walk::walk;
+use crate::matching::traverse::traverse;
 use bumpalo::Bump;
 use std::alloc::Global;
 use yq_documents::Node;
@@ -64,7 +64,7 @@ fn stage_on<'a, 't>(
         (spec.stage_on doc (stage_of stage.now) (places_of places.entry.items)) }
 {
     match stage {
-        Stage::Path(steps) => walk(alloc, bump, steps, places),
+        Stage::Path(steps) => traverse(alloc, bump, steps, places),
         Stage::Select(condition) => select_each(alloc, doc, condition, &places),
     }
 }

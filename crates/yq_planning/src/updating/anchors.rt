@@ -5,7 +5,7 @@ ghost use Rattle.yq_scalar.specs.Tree.{children_of};
 ghost use Rattle.yq_scalar.specs.Anchors.{Name, names_in, names_of};
 ghost use Rattle.yq_documents.specs.Nodes.{anchor_of, node_of};
 ghost use Rattle.yq_meaning.specs.Changes as spec;
-ghost use Rattle.yq_planning.specs.Indexes.{HasAliases, text_at};
+ghost use Rattle.yq_planning.specs.Indexes.{HasAliases, get_text};
 ghost use Rattle.yq_planning.specs.TakenNames.{is_used_anchor};
 
 use std::alloc::{AllocError, Global};
@@ -18,8 +18,8 @@ pub type Aliases<'d> = BTreeMap<&'d str, ()>;
 /// Puts the names of the aliases in a node among others.
 #[cycle(aliases)]
 fn put_aliases<'d>(node: Node<'d, '_>, aliases: &mut Aliases<'d>) -> Result<(), AllocError>
-    ensures { OnOk result ((k : List ℕ) → is_some (text_at k aliases.new) ≡
-        (is_some (text_at k aliases.old) || list_any (spec.refers_to k)
+    ensures { OnOk result ((k : List ℕ) → is_some (get_text k aliases.new) ≡
+        (is_some (get_text k aliases.old) || list_any (spec.refers_to k)
         (names_of (node_of node.entry)))) }
 {
     match node.kind() {
@@ -35,8 +35,8 @@ fn put_aliases<'d>(node: Node<'d, '_>, aliases: &mut Aliases<'d>) -> Result<(), 
 /// Puts the names of the aliases in a node's items or values among others.
 #[cycle(aliases)]
 fn put_aliases_below<'d>(node: Node<'d, '_>, aliases: &mut Aliases<'d>) -> Result<(), AllocError>
-    ensures { OnOk result ((k : List ℕ) → is_some (text_at k aliases.new) ≡
-        (is_some (text_at k aliases.old) || list_any (spec.refers_to k)
+    ensures { OnOk result ((k : List ℕ) → is_some (get_text k aliases.new) ≡
+        (is_some (get_text k aliases.old) || list_any (spec.refers_to k)
         (names_in (children_of (node_of node.entry))))) }
 {
     let mut children = node.children();

@@ -3,7 +3,7 @@ ghost use Rattle.std.specs.Prelude.{◌≡◌, IfOk, List, OnOk, option_map, ℕ
 ghost use Rattle.yq_scalar.specs.Paths.{To, child_at};
 ghost use Rattle.yq_scalar.specs.Tree.{Children, children_of};
 ghost use Rattle.yq_documents.specs.Nodes.{label_of, node_of};
-ghost use Rattle.yq_planning.specs.Indexes.{IsIndex, kept_first, text_at};
+ghost use Rattle.yq_planning.specs.Indexes.{IsIndex, kept_first, get_text};
 
 use std::alloc::{AllocError, Global};
 use std::collections::BTreeMap;
@@ -14,8 +14,8 @@ pub(crate) type EntryIndex<'d, 't> = BTreeMap<&'d str, Node<'d, 't>>;
 
 /// Keeps the value of an entry, if there is none for its key.
 fn keep<'d, 't>(index: &mut EntryIndex<'d, 't>, entry: Node<'d, 't>) -> Result<(), AllocError>
-    ensures { OnOk result ((k : List ℕ) → option_map node_of (text_at k index.new) ≡
-        kept_first k (option_map node_of (text_at k index.old)) (label_of entry.entry)
+    ensures { OnOk result ((k : List ℕ) → option_map node_of (get_text k index.new) ≡
+        kept_first k (option_map node_of (get_text k index.old)) (label_of entry.entry)
         (node_of entry.entry)) }
 {
     let Some(key) = entry.key() else {

@@ -81,7 +81,7 @@ fn appended(alloc: Global, step: &Step, value: Value) -> Result<Change, AllocErr
 
 /// A value under missing keys below a node: a mapping gets an entry more, and a
 /// null gives way to a mapping.
-fn made(
+fn created(
     alloc: Global,
     node: Node<'_, '_>,
     first: &Step,
@@ -89,7 +89,7 @@ fn made(
     value: Value,
 ) -> Result<Change, AllocError>
     ensures { IfOk result (λ c. change_of c ≡
-        spec.made (node_of node.entry) (step_of first.now) (map (λ s. step_of s.now) others.now)
+        spec.created (node_of node.entry) (step_of first.now) (map (λ s. step_of s.now) others.now)
         (value_node value)) }
 {
     let below = nested(alloc, others, value)?;
@@ -116,7 +116,7 @@ fn put_below(
     if has_index(missing) {
         return Err(ExprError::Refused(Refusal::IndexOutOfRange));
     }
-    Ok(made(alloc, node, first, others, value)?)
+    Ok(created(alloc, node, first, others, value)?)
 }
 
 /// What a value changes that is put at a place.

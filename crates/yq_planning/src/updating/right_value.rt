@@ -4,7 +4,7 @@ ghost use Rattle.yq_inline.specs.Values.{node_of};
 ghost use Rattle.yq_meaning.specs.Judgement.{Judges, and_then};
 ghost use Rattle.yq_meaning.specs.Pipes.{pipe_on};
 ghost use Rattle.yq_planning.specs.PlaceView.{place_of, places_of};
-ghost use Rattle.yq_meaning.specs.Places.{in_turn};
+ghost use Rattle.yq_meaning.specs.Places.{chained};
 ghost use Rattle.yq_meaning.specs.RightValues as spec;
 ghost use Rattle.yq_planning.specs.TreeScalars.{HasScalars, HaveScalars};
 ghost use Rattle.yq_program.specs.View.{stage_of, term_of};
@@ -91,7 +91,7 @@ fn with_terms<'a, 't>(
     place: Place<'a, 't>,
 ) -> Result<Value, ExprError>
     requires { HasScalars (place_of place).node }
-    ensures { Judges node_of result (in_turn (λ t v. and_then (spec.sum v)
+    ensures { Judges node_of result (chained (λ t v. and_then (spec.sum v)
         (spec.term_value doc (place_of place.entry) t)) (map term_of terms.now) (node_of first)) }
 {
     let mut total = first;

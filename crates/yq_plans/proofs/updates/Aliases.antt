@@ -6,8 +6,8 @@ use Rattle.yq_scalar.specs.Tree as tree
 use Rattle.yq_scalar.specs.Tree.{Label, Node, alias, scalar, list, Children, none, child}
 use Rattle.yq_scalar.specs.Paths.{Step, To, is_here, further, change_child, append_child, within}
 use Rattle.yq_meaning.specs.Changes.{Addition, appends, overwrites, Change, replaces, adds, sets_comment, Changed, value_in}
-use Rattle.yq_meaning.specs.Deeds.{Deed, becomes, line, head, goes, Deeds, step_to, under, done_at, child_by, inside, each_at_once, at_once, same_path, done_by}
-use Rattle.yq_meaning.specs.Meaning.{add_to, add_all, placed_deed, deed_of}
+use Rattle.yq_meaning.specs.NodeEdits.{NodeEdit, becomes, line, head, goes, NodeEdits, step_to, under, done_at, child_by, inside, each_at_once, at_once, same_path, done_by}
+use Rattle.yq_meaning.specs.Meaning.{add_to, add_all, placed_edit, node_edit_of}
 use Rattle.yq_documents.specs.TreeEdits.{replaced, headed, led, new_label}
 use Rattle.yq_program.specs.declared.program.CommentPlace.TheVariants as comments
 use Rattle.yq_meaning.specs.Changes as changes
@@ -16,21 +16,21 @@ use Rattle.yq_plans.proofs.updates.Each.{Each}
 use Rattle.yq_plans.proofs.updates.Spares.{child_kept_or_gone}
 
 -- what is done at a place brings no alias
-abbrev BringsNone : Deed → Type 0
+abbrev BringsNone : NodeEdit → Type 0
 BringsNone (becomes g) = (m : Node) → MentionsNoMore (g m) m
 BringsNone (line text) = Unit {0}
 BringsNone (head texts) = Unit {0}
 BringsNone goes = Unit {0}
 
-abbrev pub BringNone : Deeds → Type 0
-BringNone f = (q : List Step) (x : Deed) → f q ≡ Some x → BringsNone x
+abbrev pub BringNone : NodeEdits → Type 0
+BringNone f = (q : List Step) (x : NodeEdit) → f q ≡ Some x → BringsNone x
 
-child_no_more : (a : List ℕ) (d : Option Deed) (label : Label) (m n : Node) (rest cs : Children) → (Mentions a m → Mentions a n) → (AnyMentions a rest → AnyMentions a cs) → AnyMentions a (child_by d label m rest) →
+child_no_more : (a : List ℕ) (d : Option NodeEdit) (label : Label) (m n : Node) (rest cs : Children) → (Mentions a m → Mentions a n) → (AnyMentions a rest → AnyMentions a cs) → AnyMentions a (child_by d label m rest) →
     AnyMentions a (child label n cs)
 child_no_more a d label m n rest cs f g =
     child_kept_or_gone (λ k. AnyMentions a (k rest) → AnyMentions a (child label n cs)) d label m (λ hd ld h. elim h [ inl e ↦ inl (f e) | inr e ↦ inr (g e) ]) (λ gone h. inr (g h))
 
-done_no_more : (a : List ℕ) (d : Option Deed) → ((x : Deed) → d ≡ Some x → BringsNone x) → (n m : Node) → (Mentions a m → Mentions a n) → Mentions a (done_at d n m) → Mentions a n
+done_no_more : (a : List ℕ) (d : Option NodeEdit) → ((x : NodeEdit) → d ≡ Some x → BringsNone x) → (n m : Node) → (Mentions a m → Mentions a n) → Mentions a (done_at d n m) → Mentions a n
 done_no_more a None b n m f h = f h
 done_no_more a (Some (becomes g)) b n m f h = b (becomes g) refl n a h
 done_no_more a (Some (line text)) b n m f h = h
@@ -38,13 +38,13 @@ done_no_more a (Some (head texts)) b n m f h = h
 done_no_more a (Some goes) b n m f h = h
 
 mutual
-  inside_no_more : (a : List ℕ) (f : Deeds) → BringNone f → (n : Node) → Mentions a (inside f n) → Mentions a n
+  inside_no_more : (a : List ℕ) (f : NodeEdits) → BringNone f → (n : Node) → Mentions a (inside f n) → Mentions a n
   inside_no_more a f b (alias name) h = h
   inside_no_more a f b (scalar anchor kind text) h = h
   inside_no_more a f b (list anchor cs) h = each_no_more a f b 0 cs h
   inside_no_more a f b (tree.map anchor cs) h = each_no_more a f b 0 cs h
 
-  each_no_more : (a : List ℕ) (f : Deeds) → BringNone f → (i : ℕ) (cs : Children) → AnyMentions a (each_at_once f i cs) → AnyMentions a cs
+  each_no_more : (a : List ℕ) (f : NodeEdits) → BringNone f → (i : ℕ) (cs : Children) → AnyMentions a (each_at_once f i cs) → AnyMentions a cs
   each_no_more a f b i none h = h
   each_no_more a f b i (child label n cs) h =
       child_no_more a (f (step_to i label ∷ [])) label (done_at (f (step_to i label ∷ [])) n (inside (under (step_to i label) f) n)) n (each_at_once f (suc i) cs) cs
@@ -52,7 +52,7 @@ mutual
       (each_no_more a f b (suc i) cs) h
 
 -- all that is done brings none
-pub at_once_no_more : (f : Deeds) → BringNone f → (n : Node) → MentionsNoMore (at_once f n) n
+pub at_once_no_more : (f : NodeEdits) → BringNone f → (n : Node) → MentionsNoMore (at_once f n) n
 at_once_no_more f b n a h = done_no_more a (f []) (b []) n (inside f n) (inside_no_more a f b n) h
 
 -- ---- changes
@@ -123,16 +123,16 @@ WritesNone (sets_comment place text) = Unit {0}
 abbrev pub AllWriteNone : List Changed → Type 0
 AllWriteNone cs = Each (λ (c : Changed). WritesNone c.1) cs
 
-deed_brings : (block : Bool) (lead : List (List ℕ)) (c : Changed) → WritesNone c.1 → BringsNone (deed_of block lead c)
-deed_brings block lead (p, replaces v) w = λ m a h. absurd (w a (led_mentions a block lead p v (replaced_mentions a (led block lead p v) m h)))
-deed_brings block lead (p, adds xs) w = λ m. all_no_more xs w m
-deed_brings block lead (p, changes.removes) w = tt
-deed_brings block lead (p, sets_comment comments.Line text) w = tt
-deed_brings block lead (p, sets_comment comments.Head text) w = tt
+node_edit_brings : (block : Bool) (lead : List (List ℕ)) (c : Changed) → WritesNone c.1 → BringsNone (node_edit_of block lead c)
+node_edit_brings block lead (p, replaces v) w = λ m a h. absurd (w a (led_mentions a block lead p v (replaced_mentions a (led block lead p v) m h)))
+node_edit_brings block lead (p, adds xs) w = λ m. all_no_more xs w m
+node_edit_brings block lead (p, changes.removes) w = tt
+node_edit_brings block lead (p, sets_comment comments.Line text) w = tt
+node_edit_brings block lead (p, sets_comment comments.Head text) w = tt
 
 -- what a list of changes does brings none
-pub all_bring : (block : Bool) (lead : List (List ℕ)) (cs : List Changed) → AllWriteNone cs → BringNone (done_by (map (placed_deed block lead) cs))
+pub all_bring : (block : Bool) (lead : List (List ℕ)) (cs : List Changed) → AllWriteNone cs → BringNone (done_by (map (placed_edit block lead) cs))
 all_bring block lead [] w q x h = absurd (none-some _ h)
 all_bring block lead (c ∷ cs) w q x h =
-    cond_both (same_path c.0 q) (Some (deed_of block lead c)) (done_by (map (placed_deed block lead) cs) q) (λ d. d ≡ Some x → BringsNone x)
-    (λ e same. subst BringsNone (same_Some _ _ same) (deed_brings block lead c w.0)) (λ e later. all_bring block lead cs w.1 q x later) h
+    cond_both (same_path c.0 q) (Some (node_edit_of block lead c)) (done_by (map (placed_edit block lead) cs) q) (λ d. d ≡ Some x → BringsNone x)
+    (λ e same. subst BringsNone (same_Some _ _ same) (node_edit_brings block lead c w.0)) (λ e later. all_bring block lead cs w.1 q x later) h

@@ -10,7 +10,7 @@ use Rattle.yq_meaning.specs.After.{document_of, done_to, after_op, all_after}
 use Rattle.yq_meaning.specs.Changes.{Room}
 use Rattle.yq_meaning.specs.Fits.{FitsRoot, Fits, AllFit}
 use Rattle.yq_meaning.specs.Operations.{Operation, replace, append, remove, line_comment, head_comment}
-use Rattle.yq_meaning.specs.RoomsKept.{KeepsBlockIn, SetsComment, NoneIn, BlockLasts, SetComments, SetNoComment, MayFollow, SameRoom, LeavesRooms, AlikeFor, AreAlike}
+use Rattle.yq_meaning.specs.RoomsKept.{KeepsBlockIn, SetsComment, NoneOn, BlockLasts, SetComments, SetNoComment, MayFollow, SameRoom, LeavesRooms, AlikeFor, AreAlike}
 
 root_alike : (old new : Room) (op : Operation) (root : Node) → AlikeFor op old new → FitsRoot old op root → FitsRoot new op root
 root_alike old new (replace doc path v) root a h = h
@@ -42,7 +42,7 @@ module _ (old new : ℕ → Room) where
   lasts_alike : (ops : List Operation) (docs : List Document) → AreAlike old new ops → BlockLasts old ops docs → BlockLasts new ops docs
   lasts_alike [] docs a h = tt
   lasts_alike (op ∷ ops) docs a h =
-      subst (λ (after : List Document). (KeepsBlockIn op after ⊎ NoneIn (document_of op) ops) × BlockLasts new ops after) (sym (after_alike op docs a.0))
+      subst (λ (after : List Document). (KeepsBlockIn op after ⊎ NoneOn (document_of op) ops) × BlockLasts new ops after) (sym (after_alike op docs a.0))
       (h.0, lasts_alike ops (after_op old op docs) a.1 h.1)
 
   -- and may follow by either
@@ -81,12 +81,12 @@ module _ (op : Operation) (old new : ℕ → Room) (docs : List Document) (left 
       go : (new (document_of op)).block ≡ (old (document_of op)).block
       go = left.block there.0 there.1 (kept there.0 there.1)
 
-  same_others : (others : List Operation) → NoneIn (document_of op) others → SetNoComment others → AreAlike old new others
+  same_others : (others : List Operation) → NoneOn (document_of op) others → SetNoComment others → AreAlike old new others
   same_others [] apart none = tt
   same_others (x ∷ xs) apart none = (record { block = (left.others (document_of x) apart.0).block; has = λ c. absurd (none.0 c) }, same_others xs apart.1 none.1)
 
 -- the rooms that an operation leaves are alike for the later ones
-next_alike : (op : Operation) (ops : List Operation) (old new : ℕ → Room) (after : List Document) → LeavesRooms op old new after → ((d : Document) × (slice_get after (document_of op) ≡ Some d)) → (KeepsBlockIn op after ⊎ NoneIn (document_of op) ops) → SetComments (op ∷ ops) ⊎ SetNoComment (op ∷ ops) → AreAlike old new ops
+next_alike : (op : Operation) (ops : List Operation) (old new : ℕ → Room) (after : List Document) → LeavesRooms op old new after → ((d : Document) × (slice_get after (document_of op) ≡ Some d)) → (KeepsBlockIn op after ⊎ NoneOn (document_of op) ops) → SetComments (op ∷ ops) ⊎ SetNoComment (op ∷ ops) → AreAlike old new ops
 next_alike op ops old new after left there lasts (inl set) = all_same op old new after left there set.0 ops
 next_alike op ops old new after left there (inl kept) (inr none) = same_block op old new after left there kept ops none.1
 next_alike op ops old new after left there (inr apart) (inr none) = same_others op old new after left there ops apart none.1

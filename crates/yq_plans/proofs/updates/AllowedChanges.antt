@@ -8,7 +8,7 @@ use Rattle.yq_scalar.specs.Paths as paths
 use Rattle.yq_scalar.specs.Paths.{To, key_is, child_at, node_at, change_child, append_child}
 use Rattle.yq_scalar.specs.Anchors.{names_of}
 use Rattle.yq_meaning.specs.Judgement.{Judgement, gives}
-use Rattle.yq_meaning.specs.Matching.{Found, find, key_step, index_step}
+use Rattle.yq_meaning.specs.Matching.{ChildFound, find, key_step, index_step}
 use Rattle.yq_meaning.specs.Changes.{Addition, appends, overwrites, addition, additions, is_long, has_long_key, writes_long_key, value_in, is_deep, is_used_inside, overwrites_used}
 use Rattle.yq_meaning.specs.Conditions.{holds}
 use Rattle.yq_meaning.specs.Meaning.{add_to}
@@ -20,7 +20,7 @@ use Rattle.yq_program.specs.Program.{Step, key, index, each, Condition, Stage}
 use Rattle.yq_meaning.proofs.JudgementLaws.{then_gives, gives_same}
 use Rattle.yq_meaning.proofs.ChildPlaces.{node_further}
 use Rattle.yq_meaning.proofs.PathLaws.{bytes_differ, bytes_same}
-use Rattle.yq_plans.proofs.updates.FitsAtTurn.{FitAdds}
+use Rattle.yq_plans.proofs.updates.FitsInOrder.{FitAdds}
 use Rattle.std.proofs.lemmas.Bool.{false≢true, cond-false, or_parts}
 use Rattle.std.proofs.lemmas.Option.{none-some}
 use mathlib.Core.List.{cons≢nil}
@@ -86,15 +86,15 @@ miss_missed each p h l = tt
 
 there_missed : (s : Step) → Keeps (step_there s)
 there_missed (key k) p qs m h =
-    let x = then_gives (λ (x : Found). gives (found_place (key k) p x)) (key_step k p.node) qs h in subst AreMissed (gives_same x.2) (go x.0 x.1)
+    let x = then_gives (λ (x : ChildFound). gives (found_place (key k) p x)) (key_step k p.node) qs h in subst AreMissed (gives_same x.2) (go x.0 x.1)
   where
-    go : (x : Found) → key_step k p.node ≡ gives x → AreMissed (found_place (key k) p x)
+    go : (x : ChildFound) → key_step k p.node ≡ gives x → AreMissed (found_place (key k) p x)
     go None e = miss_missed (key k) p m (λ there. key_lacks k p.node e)
     go (Some y) e = (tt, tt)
 there_missed (index i) p qs m h =
-    let x = then_gives (λ (x : Found). gives (found_place (index i) p x)) (index_step i p.node) qs h in subst AreMissed (gives_same x.2) (go x.0 x.1)
+    let x = then_gives (λ (x : ChildFound). gives (found_place (index i) p x)) (index_step i p.node) qs h in subst AreMissed (gives_same x.2) (go x.0 x.1)
   where
-    go : (x : Found) → index_step i p.node ≡ gives x → AreMissed (found_place (index i) p x)
+    go : (x : ChildFound) → index_step i p.node ≡ gives x → AreMissed (found_place (index i) p x)
     go None e = miss_missed (index i) p m (λ there. index_lacks i p.node e)
     go (Some y) e = (tt, tt)
 there_missed each p qs m h =

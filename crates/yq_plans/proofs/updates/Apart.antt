@@ -5,28 +5,28 @@ use Rattle.std.specs.Str.{bytes_eq}
 use Rattle.yq_scalar.specs.Tree as tree
 use Rattle.yq_scalar.specs.Tree.{Label, Node, alias, scalar, list, Children, none, child, children_of}
 use Rattle.yq_scalar.specs.Paths.{Step, To, Nth, key_is, is_item, child_at, node_at, change}
-use Rattle.yq_meaning.specs.Deeds.{Deed, becomes, goes, Deeds, under, done_at, child_by, inside, each_at_once, at_once, same_path, and_at, done_by, one_at}
+use Rattle.yq_meaning.specs.NodeEdits.{NodeEdit, becomes, goes, NodeEdits, under, done_at, child_by, inside, each_at_once, at_once, same_path, and_at, done_by, one_at}
 use Rattle.yq_meaning.specs.Places.{step_by}
 use Rattle.yq_scalar.specs.PathOrder.{Before, Apart}
 use Rattle.yq_scalar.specs.Shapes.{AreItems, AreEntries, IsTree}
 use Rattle.yq_plans.proofs.updates.AtOnce.{one_more}
 use Rattle.yq_meaning.proofs.ChildPlaces.{child_tree, children_tree}
 use Rattle.yq_meaning.proofs.PathLaws.{apart_root, bytes_refl, bytes_same}
-use Rattle.yq_plans.proofs.updates.Spares.{IsSpared, Spares, spares_root, spares_under, spares_behind, nothing, idle, child_done, deeds_same, child_kept_or_gone}
+use Rattle.yq_plans.proofs.updates.Spares.{IsSpared, Spares, spares_root, spares_under, spares_behind, nothing, idle, child_done, node_edits_same, child_kept_or_gone}
 use Rattle.yq_plans.proofs.updates.Folds.{path_same, apart_irrefl, apart_sym}
 use Rattle.yq_plans.proofs.updates.OneAt.{one_becomes}
 
 -- ---- the child to which a step leads
 
 -- the first child by what is done at it
-abbrev first_by : Option Deed → Option (List ℕ) → List (List ℕ) → Option (List ℕ) → Node → Children → Children
+abbrev first_by : Option NodeEdit → Option (List ℕ) → List (List ℕ) → Option (List ℕ) → Node → Children → Children
 first_by d o hc lc m rest = child_by d (record { key = o; head_comment = hc; line_comment = lc }) m rest
 
-find_past_key : (k : List ℕ) (o : Option (List ℕ)) (hc : List (List ℕ)) (lc : Option (List ℕ)) → key_is k o ≡ false → (d : Option Deed) (m : Node) (rest : Children) → child_at (To k) (first_by d o hc lc m rest) ≡ child_at (To k) rest
+find_past_key : (k : List ℕ) (o : Option (List ℕ)) (hc : List (List ℕ)) (lc : Option (List ℕ)) → key_is k o ≡ false → (d : Option NodeEdit) (m : Node) (rest : Children) → child_at (To k) (first_by d o hc lc m rest) ≡ child_at (To k) rest
 find_past_key k o hc lc e d m rest =
     child_kept_or_gone (λ f. child_at (To k) (f rest) ≡ child_at (To k) rest) d (record { key = o; head_comment = hc; line_comment = lc }) m (λ hd ld. cond-false (key_is k o) _ _ e) (λ gone. refl)
 
-find_past_item : (r : ℕ) (d : Option Deed) → d ≢ Some goes → (label : Label) (m : Node) (rest : Children) → child_at (Nth (suc r)) (child_by d label m rest) ≡ child_at (Nth r) rest
+find_past_item : (r : ℕ) (d : Option NodeEdit) → d ≢ Some goes → (label : Label) (m : Node) (rest : Children) → child_at (Nth (suc r)) (child_by d label m rest) ≡ child_at (Nth r) rest
 find_past_item r d stays label m rest =
     child_kept_or_gone (λ f. child_at (Nth (suc r)) (f rest) ≡ child_at (Nth r) rest) d label m (λ hd ld. refl) (λ gone. absurd (stays gone))
 
@@ -36,31 +36,31 @@ no_entry r none h = refl
 no_entry zero (child label n cs) h = ap (λ (o : Option (List ℕ)). cond (is_item o) (Some n) (child_at (Nth 0) cs)) h.0.1 ∙ no_entry 0 cs h.1
 no_entry (suc r) (child label n cs) h = no_entry r cs h.1
 
-find_past_entry : (r : ℕ) (k : List ℕ) (hc : List (List ℕ)) (lc : Option (List ℕ)) (d : Option Deed) (m : Node) (rest : Children) → ((j : ℕ) → child_at (Nth j) rest ≡ None) → child_at (Nth r) (first_by d (Some k) hc lc m rest) ≡ None
+find_past_entry : (r : ℕ) (k : List ℕ) (hc : List (List ℕ)) (lc : Option (List ℕ)) (d : Option NodeEdit) (m : Node) (rest : Children) → ((j : ℕ) → child_at (Nth j) rest ≡ None) → child_at (Nth r) (first_by d (Some k) hc lc m rest) ≡ None
 find_past_entry r k hc lc d m rest ih = child_kept_or_gone (λ f. child_at (Nth r) (f rest) ≡ None) d (record { key = Some k; head_comment = hc; line_comment = lc }) m (kept r) (λ gone. ih r)
   where
     kept : (r : ℕ) (hd : List (List ℕ)) (ld : Option (List ℕ)) → child_at (Nth r) (child (record { key = Some k; head_comment = hd; line_comment = ld }) m rest) ≡ None
     kept zero hd ld = ih 0
     kept (suc r) hd ld = ih r
 
-no_entry_done : (f : Deeds) (i r : ℕ) (cs : Children) → AreEntries cs → child_at (Nth r) (each_at_once f i cs) ≡ None
+no_entry_done : (f : NodeEdits) (i r : ℕ) (cs : Children) → AreEntries cs → child_at (Nth r) (each_at_once f i cs) ≡ None
 no_entry_done f i r none h = refl
 no_entry_done f i r (child label n cs) h =
     subst (λ (o : Option (List ℕ)). child_at (Nth r) (child_done (under (step_by i o) f) (record { key = o; head_comment = label.head_comment; line_comment = label.line_comment }) n (each_at_once f (suc i) cs)) ≡ None) (sym h.0.1)
     (find_past_entry r h.0.0 label.head_comment label.line_comment (f (To h.0.0 ∷ [])) (at_once (under (To h.0.0) f) n) (each_at_once f (suc i) cs) (λ j. no_entry_done f (suc i) j cs h.1))
 
 -- what the step leads to afterwards
-abbrev done_child : Step → Deeds → Option Node → Option Node
+abbrev done_child : Step → NodeEdits → Option Node → Option Node
 done_child s f o = option_map (at_once (under s f)) o
 
-find_key : (k : List ℕ) (f : Deeds) → f (To k ∷ []) ≡ None → (i : ℕ) (cs : Children) → child_at (To k) (each_at_once f i cs) ≡ done_child (To k) f (child_at (To k) cs)
+find_key : (k : List ℕ) (f : NodeEdits) → f (To k ∷ []) ≡ None → (i : ℕ) (cs : Children) → child_at (To k) (each_at_once f i cs) ≡ done_child (To k) f (child_at (To k) cs)
 find_key k f free i none = refl
 find_key k f free i (child label n cs) = go label.key label.head_comment label.line_comment (find_key k f free (suc i) cs)
   where
     there : (hc : List (List ℕ)) (lc : Option (List ℕ)) → child_at (To k) (child_done (under (To k) f)
         (record { key = Some k; head_comment = hc; line_comment = lc }) n (each_at_once f (suc i) cs)) ≡ done_child (To k) f (cond (key_is k (Some k)) (Some n) (child_at (To k) cs))
     there hc lc =
-        ap (λ (d : Option Deed). child_at (To k) (first_by d (Some k) hc lc (at_once (under (To k) f) n) (each_at_once f (suc i) cs))) free
+        ap (λ (d : Option NodeEdit). child_at (To k) (first_by d (Some k) hc lc (at_once (under (To k) f) n) (each_at_once f (suc i) cs))) free
         ∙ (cond-true (key_is k (Some k)) (Some (at_once (under (To k) f) n)) (child_at (To k) (each_at_once f (suc i) cs)) (bytes_refl k)
         ∙ sym (ap (λ (o : Option Node). done_child (To k) f o) (cond-true (key_is k (Some k)) (Some n) (child_at (To k) cs) (bytes_refl k))))
 
@@ -79,7 +79,7 @@ find_key k f free i (child label n cs) = go label.key label.head_comment label.l
       | inr differs ↦ other (Some j) hc lc differs ih
     ]
 
-find_item : (r m : ℕ) (f : Deeds) → f (Nth m ∷ []) ≡ None → ((i : ℕ) → f (Nth i ∷ []) ≡ Some goes → m < i) → (i : ℕ) → i + r ≡ m → (cs : Children) → AreItems cs → child_at (Nth r)
+find_item : (r m : ℕ) (f : NodeEdits) → f (Nth m ∷ []) ≡ None → ((i : ℕ) → f (Nth i ∷ []) ≡ Some goes → m < i) → (i : ℕ) → i + r ≡ m → (cs : Children) → AreItems cs → child_at (Nth r)
     (each_at_once f i cs) ≡ done_child (Nth m) f (child_at (Nth r) cs)
 find_item r m f free behind i is none items = refl
 find_item zero m f free behind i is (child label n cs) items =
@@ -87,7 +87,7 @@ find_item zero m f free behind i is (child label n cs) items =
     subst (λ (j : ℕ). child_at (Nth 0) (each_at_once f i (child label n cs)) ≡ done_child (Nth j) f (child_at (Nth 0) (child label n cs))) (sym same)
     (subst (λ (o : Option (List ℕ)). child_at (Nth 0) (child_done (under (step_by i o) f) (record { key = o; head_comment = label.head_comment; line_comment = label.line_comment }) n (each_at_once f (suc i) cs)) ≡
     done_child (Nth i) f (cond (is_item o) (Some n) (child_at (Nth 0) cs))) (sym items.0)
-    (ap (λ (d : Option Deed). child_at (Nth 0) (first_by d None label.head_comment label.line_comment (at_once (under (Nth i) f) n) (each_at_once f (suc i) cs))) (subst (λ (j : ℕ). f (Nth j ∷ []) ≡ None) same free)))
+    (ap (λ (d : Option NodeEdit). child_at (Nth 0) (first_by d None label.head_comment label.line_comment (at_once (under (Nth i) f) n) (each_at_once f (suc i) cs))) (subst (λ (j : ℕ). f (Nth j ∷ []) ≡ None) same free)))
 find_item (suc r) m f free behind i is (child label n cs) items =
     let next : suc i + r ≡ m = omega (arith, is) in
     subst (λ (o : Option (List ℕ)). child_at (Nth (suc r)) (child_done (under (step_by i o) f)
@@ -96,25 +96,25 @@ find_item (suc r) m f free behind i is (child label n cs) items =
     (at_once (under (Nth i) f) n) (each_at_once f (suc i) cs)
     ∙ find_item r m f free behind (suc i) next cs items.1)
 
-find_each : (s : Step) (f : Deeds) → f (s ∷ []) ≡ None → ((m i : ℕ) → s ≡ Nth m → f (Nth i ∷ []) ≡ Some goes → m < i) → (cs : Children) → AreItems cs ⊎ AreEntries cs → child_at s (each_at_once f 0 cs) ≡ done_child s f (child_at s cs)
+find_each : (s : Step) (f : NodeEdits) → f (s ∷ []) ≡ None → ((m i : ℕ) → s ≡ Nth m → f (Nth i ∷ []) ≡ Some goes → m < i) → (cs : Children) → AreItems cs ⊎ AreEntries cs → child_at s (each_at_once f 0 cs) ≡ done_child s f (child_at s cs)
 find_each (To k) f free behind cs kind = find_key k f free 0 cs
 find_each (Nth m) f free behind cs (inl items) = find_item m m f free (λ i e. behind m i refl e) 0 (omega arith) cs items
 find_each (Nth m) f free behind cs (inr entries) = no_entry_done f 0 m cs entries ∙ sym (ap (λ (o : Option Node). done_child (Nth m) f o) (no_entry m cs entries))
 
-find_inside : (s : Step) (f : Deeds) → f (s ∷ []) ≡ None → ((m i : ℕ) → s ≡ Nth m → f (Nth i ∷ []) ≡ Some goes → m < i) → (n : Node) → IsTree n → child_at s (children_of (inside f n)) ≡ done_child s f (child_at s (children_of n))
+find_inside : (s : Step) (f : NodeEdits) → f (s ∷ []) ≡ None → ((m i : ℕ) → s ≡ Nth m → f (Nth i ∷ []) ≡ Some goes → m < i) → (n : Node) → IsTree n → child_at s (children_of (inside f n)) ≡ done_child s f (child_at s (children_of n))
 find_inside s f free behind (alias name) tree = refl
 find_inside s f free behind (scalar anchor kind text) tree = refl
 find_inside s f free behind (list anchor cs) tree = find_each s f free behind cs (inl tree.0)
 find_inside s f free behind (tree.map anchor cs) tree = find_each s f free behind cs (inr tree.0)
 
 -- what is done elsewhere leaves the node at a path as it is
-pub node_spared : (p : List Step) (f : Deeds) (n : Node) → IsTree n → Spares f p → node_at p (at_once f n) ≡ node_at p n
+pub node_spared : (p : List Step) (f : NodeEdits) (n : Node) → IsTree n → Spares f p → node_at p (at_once f n) ≡ node_at p n
 node_spared [] f n tree spared = ap Some (idle f n (λ q. nothing (f q) [] q (apart_root q) (spared q)))
 node_spared (s ∷ p) f n tree spared =
     let below : Spares (under s f) p = spares_under f s p spared in
     let behind : (m i : ℕ) → s ≡ Nth m → f (Nth i ∷ []) ≡ Some goes → m < i =
-    λ m i is gone. spares_behind m i p (subst (λ (t : Step). Before (t ∷ p) (Nth i ∷ [])) is (subst (λ (d : Option Deed). IsSpared d (s ∷ p) (Nth i ∷ [])) gone (spared (Nth i ∷ [])))) in
-    ap (λ (d : Option Deed). node_at (s ∷ p) (done_at d n (inside f n))) (spares_root f (s ∷ p) spared)
+    λ m i is gone. spares_behind m i p (subst (λ (t : Step). Before (t ∷ p) (Nth i ∷ [])) is (subst (λ (d : Option NodeEdit). IsSpared d (s ∷ p) (Nth i ∷ [])) gone (spared (Nth i ∷ [])))) in
+    ap (λ (d : Option NodeEdit). node_at (s ∷ p) (done_at d n (inside f n))) (spares_root f (s ∷ p) spared)
     ∙ (ap (option_and_then (node_at p)) (find_inside s f (spares_root (under s f) p below) behind n tree)
     ∙ go (child_at s (children_of n)) (λ m is. node_spared p (under s f) m (child_tree s (children_of n) m (children_tree n tree) is) below))
   where
@@ -125,7 +125,7 @@ node_spared (s ∷ p) f n tree spared =
 -- ---- two changes
 
 -- a node that becomes another, and nothing else
-abbrev alone : List Step → (Node → Node) → Deeds
+abbrev alone : List Step → (Node → Node) → NodeEdits
 alone p g = and_at p (becomes g) (done_by [])
 
 spares_alone : (p q : List Step) (g : Node → Node) → Apart p q → Spares (alone q g) p
@@ -147,7 +147,7 @@ both p q f g n tree h =
 pub changes_commute : (p q : List Step) (f g : Node → Node) (n : Node) → IsTree n → Apart p q → change p f (change q g n) ≡ change q g (change p f n)
 changes_commute p q f g n tree h =
     sym (both p q f g n tree h)
-    ∙ (ap (λ (d : Deeds). at_once d n) (deeds_same (and_at p (becomes f) (alone q g)) (and_at q (becomes g) (alone p f)) (λ r. go r (same_path p r) (same_path q r) refl refl))
+    ∙ (ap (λ (d : NodeEdits). at_once d n) (node_edits_same (and_at p (becomes f) (alone q g)) (and_at q (becomes g) (alone p f)) (λ r. go r (same_path p r) (same_path q r) refl refl))
     ∙ both q p g f n tree (apart_sym p q h))
   where
     go : (r : List Step) (a b : Bool) → same_path p r ≡ a → same_path q r ≡ b → cond a (Some (becomes f)) (cond b (Some (becomes g)) None) ≡ cond b (Some (becomes g)) (cond a (Some (becomes f)) None)

@@ -4,13 +4,13 @@ use Rattle.std.proofs.lemmas.Bool.{cases_Bool, cond-false, cond-true}
 use Rattle.std.proofs.lemmas.Option.{none-some, same_Some}
 use Rattle.yq_scalar.specs.Tree.{Label, Node, alias, scalar, list, Children, none, child, map}
 use Rattle.yq_scalar.specs.Paths.{To, Nth, key_is, is_here, further, Step, within}
-use Rattle.yq_meaning.specs.Deeds.{step_to, Deed, becomes, line, head, goes, Deeds, under, done_at, child_by, inside, each_at_once, at_once, same_path, and_at, at_child, here, one_at}
+use Rattle.yq_meaning.specs.NodeEdits.{step_to, NodeEdit, becomes, line, head, goes, NodeEdits, under, done_at, child_by, inside, each_at_once, at_once, same_path, and_at, at_child, here, one_at}
 use Rattle.yq_meaning.specs.Places.{step_by}
 use Rattle.yq_scalar.specs.PathOrder.{Before}
 use Rattle.yq_scalar.specs.Shapes.{IsNew, AreItems, AreEntries, IsTree, AreTrees}
 use Rattle.std.specs.Str.{bytes_eq}
 use Rattle.yq_meaning.proofs.PathLaws.{bytes_refl, bytes_same, bytes_other, to_nth, step_refl, step_other, apart_root}
-use Rattle.yq_plans.proofs.updates.Spares.{deeds_same, IsSpared, Spares, spares_under, nothing, spares_root, spares_behind, child_done, idle, child_kept_or_gone}
+use Rattle.yq_plans.proofs.updates.Spares.{node_edits_same, IsSpared, Spares, spares_under, nothing, spares_root, spares_behind, child_done, idle, child_kept_or_gone}
 
 -- none of the steps to these is this one
 abbrev HasNone : Step → ℕ → Children → Type 0
@@ -18,32 +18,32 @@ HasNone s i none = Unit {0}
 HasNone s i (child label n cs) = (step_to i label ≢ s) × HasNone s (suc i) cs
 
 -- what is done agrees but at a step
-abbrev Agree : Step → Deeds → Deeds → Type 0
+abbrev Agree : Step → NodeEdits → NodeEdits → Type 0
 Agree s f g = (t : Step) → t ≢ s → (q : List Step) → f (t ∷ q) ≡ g (t ∷ q)
 
-each_same : (s : Step) (f g : Deeds) → Agree s f g → (i : ℕ) (cs : Children) → HasNone s i cs → each_at_once f i cs ≡ each_at_once g i cs
+each_same : (s : Step) (f g : NodeEdits) → Agree s f g → (i : ℕ) (cs : Children) → HasNone s i cs → each_at_once f i cs ≡ each_at_once g i cs
 each_same s f g same i none h = refl
 each_same s f g same i (child label n cs) h =
-    ap (λ (k : Deeds). child_done k label n (each_at_once f (suc i) cs)) (deeds_same (under (step_to i label) f) (under (step_to i label) g) (same (step_to i label) h.0))
+    ap (λ (k : NodeEdits). child_done k label n (each_at_once f (suc i) cs)) (node_edits_same (under (step_to i label) f) (under (step_to i label) g) (same (step_to i label) h.0))
     ∙ ap (child_done (under (step_to i label) g) label n) (each_same s f g same (suc i) cs h.1)
 
 -- what is done at a child, and at what a step leads to behind it
-abbrev at_rest : Step → (Label → Node → Children → Children) → Option Deed → Label → Node → Children → Type 0
+abbrev at_rest : Step → (Label → Node → Children → Children) → Option NodeEdit → Label → Node → Children → Type 0
 at_rest s h d label m rest = at_child s h (child_by d label m rest) ≡ child_by d label m (at_child (further s) h rest)
 
 -- a step to a key leads past others
-past_key : (k : List ℕ) (h : Label → Node → Children → Children) (o : Option (List ℕ)) (hc : List (List ℕ)) (lc : Option (List ℕ)) → key_is k o ≡ false → (d : Option Deed) (m : Node) (rest : Children) →
+past_key : (k : List ℕ) (h : Label → Node → Children → Children) (o : Option (List ℕ)) (hc : List (List ℕ)) (lc : Option (List ℕ)) → key_is k o ≡ false → (d : Option NodeEdit) (m : Node) (rest : Children) →
     at_rest (To k) h d (record { key = o; head_comment = hc; line_comment = lc }) m rest
 past_key k h o hc lc e d m rest =
     child_kept_or_gone (λ f. at_child (To k) h (f rest) ≡ f (at_child (To k) h rest)) d (record { key = o; head_comment = hc; line_comment = lc }) m (λ hd ld. cond-false (key_is k o) _ _ e) (λ gone. refl)
 
 -- a step to a later item leads past one that stays
-past_item : (r : ℕ) (h : Label → Node → Children → Children) (d : Option Deed) → d ≢ Some goes → (label : Label) (m : Node) (rest : Children) → at_rest (Nth (suc r)) h d label m rest
+past_item : (r : ℕ) (h : Label → Node → Children → Children) (d : Option NodeEdit) → d ≢ Some goes → (label : Label) (m : Node) (rest : Children) → at_rest (Nth (suc r)) h d label m rest
 past_item r h d stays label m rest =
     child_kept_or_gone (λ f. at_child (Nth (suc r)) h (f rest) ≡ f (at_child (Nth r) h rest)) d label m (λ hd ld. refl) (λ gone. absurd (stays gone))
 
 -- a step to an item leads past what has a key
-past_entry : (r : ℕ) (h : Label → Node → Children → Children) (k : List ℕ) (hc : List (List ℕ)) (lc : Option (List ℕ)) (d : Option Deed) (m : Node) (rest : Children) →
+past_entry : (r : ℕ) (h : Label → Node → Children → Children) (k : List ℕ) (hc : List (List ℕ)) (lc : Option (List ℕ)) (d : Option NodeEdit) (m : Node) (rest : Children) →
     ((j : ℕ) → at_child (Nth j) h rest ≡ rest) → at_child (Nth r) h (child_by d (record { key = Some k; head_comment = hc; line_comment = lc }) m rest) ≡ child_by d (record { key = Some k; head_comment = hc; line_comment = lc }) m rest
 past_entry r h k hc lc d m rest ih = child_kept_or_gone (λ f. at_child (Nth r) h (f rest) ≡ f rest) d (record { key = Some k; head_comment = hc; line_comment = lc }) m (kept r) (λ gone. ih r)
   where
@@ -53,7 +53,7 @@ past_entry r h k hc lc d m rest ih = child_kept_or_gone (λ f. at_child (Nth r) 
     kept (suc r) hd ld = ap (child (record { key = Some k; head_comment = hd; line_comment = ld }) m) (ih r)
 
 -- one thing more is done under a step
-record More (s : Step) (x : Deed) (p : List Step) (f g : Deeds) : Type 0 where
+record More (s : Step) (x : NodeEdit) (p : List Step) (f g : NodeEdits) : Type 0 where
   agree : Agree s f g
   at : f (s ∷ []) ≡ here x p
   free : g (s ∷ []) ≡ None
@@ -61,18 +61,18 @@ record More (s : Step) (x : Deed) (p : List Step) (f g : Deeds) : Type 0 where
   behind : (m i : ℕ) → s ≡ Nth m → g (Nth i ∷ []) ≡ Some goes → m < i
 
 -- what is done where the step leads
-abbrev there : Deed → List Step → Label → Node → Children → Children
+abbrev there : NodeEdit → List Step → Label → Node → Children → Children
 there x p label m cs = child_by (here x p) label (one_at p x m) cs
 
 -- at the child where the step leads
-more_here : (s t : Step) (x : Deed) (p : List Step) (f g : Deeds) → More s x p f g → (label : Label) (n : Node) → IsTree n → is_here t label ≡ true → (fs gs : Children) → fs ≡ gs →
+more_here : (s t : Step) (x : NodeEdit) (p : List Step) (f g : NodeEdits) → More s x p f g → (label : Label) (n : Node) → IsTree n → is_here t label ≡ true → (fs gs : Children) → fs ≡ gs →
     child_done (under s f) label n fs ≡ at_child t (there x p) (child_done (under s g) label n gs)
 more_here s t x p f g more label n tree is fs gs same =
     ap (child_done (under s f) label n) same
     ∙ (ap (λ (m : Node). child_by (f (s ∷ [])) label m gs) (more.within_it n tree)
-    ∙ (ap (λ (d : Option Deed). child_by d label (one_at p x (at_once (under s g) n)) gs) more.at
+    ∙ (ap (λ (d : Option NodeEdit). child_by d label (one_at p x (at_once (under s g) n)) gs) more.at
     ∙ (sym (cond-true (is_here t label) (there x p label (at_once (under s g) n) gs) _ is)
-    ∙ ap (λ (d : Option Deed). at_child t (there x p) (child_by d label (at_once (under s g) n) gs)) (sym more.free))))
+    ∙ ap (λ (d : Option NodeEdit). at_child t (there x p) (child_by d label (at_once (under s g) n) gs)) (sym more.free))))
 
 new_none : (k : List ℕ) (i : ℕ) (cs : Children) → IsNew k cs → HasNone (To k) i cs
 new_none k i none h = tt
@@ -104,17 +104,17 @@ entries_distinct none h = tt
 entries_distinct (child label n cs) h = ((λ k e. subst (λ j. IsNew j cs) (same_Some _ _ (sym h.0.1 ∙ e)) h.0.2), entries_distinct cs h.1)
 
 -- what is done at the first child and those behind it
-abbrev first_done : Deeds → ℕ → Option (List ℕ) → List (List ℕ) → Option (List ℕ) → Node → Children → Children
+abbrev first_done : NodeEdits → ℕ → Option (List ℕ) → List (List ℕ) → Option (List ℕ) → Node → Children → Children
 first_done f i o hc lc n rest = child_done (under (step_by i o) f) (record { key = o; head_comment = hc; line_comment = lc }) n rest
 
-module _ (x : Deed) (p : List Step) (f g : Deeds) (i : ℕ) (n : Node) (cs : Children) (tree : IsTree n) where
+module _ (x : NodeEdit) (p : List Step) (f g : NodeEdits) (i : ℕ) (n : Node) (cs : Children) (tree : IsTree n) where
   -- the step is to a key, and this is another
   key_other : (k : List ℕ) → More (To k) x p f g → each_at_once f (suc i) cs ≡ at_child (To k) (there x p) (each_at_once g (suc i) cs) →
       (o : Option (List ℕ)) (hc : List (List ℕ)) (lc : Option (List ℕ)) → key_is k o ≡ false → step_by i o ≢ To k →
       first_done f i o hc lc n (each_at_once f (suc i) cs) ≡ at_child (To k) (there x p) (first_done g i o hc lc n (each_at_once g (suc i) cs))
   key_other k more rest o hc lc e differs =
       let label : Label = record { key = o; head_comment = hc; line_comment = lc } in
-      ap (λ (j : Deeds). child_done j label n (each_at_once f (suc i) cs)) (deeds_same (under (step_by i o) f) (under (step_by i o) g) (more.agree (step_by i o) differs))
+      ap (λ (j : NodeEdits). child_done j label n (each_at_once f (suc i) cs)) (node_edits_same (under (step_by i o) f) (under (step_by i o) g) (more.agree (step_by i o) differs))
       ∙ (ap (child_done (under (step_by i o) g) label n) rest
       ∙ sym (past_key k (there x p) o hc lc e (g (step_by i o ∷ [])) (at_once (under (step_by i o) g) n) (each_at_once g (suc i) cs)))
 
@@ -124,11 +124,11 @@ module _ (x : Deed) (p : List Step) (f g : Deeds) (i : ℕ) (n : Node) (cs : Chi
   key_this k more hc lc new = more_here (To k) (To k) x p f g more (record { key = Some k; head_comment = hc; line_comment = lc }) n tree (bytes_refl k) (each_at_once f (suc i) cs) (each_at_once g (suc i) cs)
       (each_same (To k) f g more.agree (suc i) cs (new_none k (suc i) cs new))
 
-  key_turn : (k : List ℕ) → More (To k) x p f g → each_at_once f (suc i) cs ≡ at_child (To k) (there x p) (each_at_once g (suc i) cs) →
+  key_once : (k : List ℕ) → More (To k) x p f g → each_at_once f (suc i) cs ≡ at_child (To k) (there x p) (each_at_once g (suc i) cs) →
       (o : Option (List ℕ)) (hc : List (List ℕ)) (lc : Option (List ℕ)) → ((j : List ℕ) → o ≡ Some j → IsNew j cs) →
       first_done f i o hc lc n (each_at_once f (suc i) cs) ≡ at_child (To k) (there x p) (first_done g i o hc lc n (each_at_once g (suc i) cs))
-  key_turn k more rest None hc lc new = key_other k more rest None hc lc refl (λ e. to_nth k i (sym e))
-  key_turn k more rest (Some j) hc lc new = elim (cases_Bool (bytes_eq j k)) [
+  key_once k more rest None hc lc new = key_other k more rest None hc lc refl (λ e. to_nth k i (sym e))
+  key_once k more rest (Some j) hc lc new = elim (cases_Bool (bytes_eq j k)) [
     | inl same ↦ subst (λ (c : List ℕ). first_done f i (Some c) hc lc n (each_at_once f (suc i) cs) ≡ at_child (To k) (there x p) (first_done g i (Some c) hc lc n (each_at_once g (suc i) cs)))
         (sym (bytes_same j k same)) (key_this k more hc lc (subst (λ c. IsNew c cs) (bytes_same j k same) (new j refl)))
     | inr differs ↦ key_other k more rest (Some j) hc lc differs (λ e. bytes_other j k differs (let same : j ≡ k = cc in same))
@@ -147,36 +147,36 @@ module _ (x : Deed) (p : List Step) (f g : Deeds) (i : ℕ) (n : Node) (cs : Chi
       first_done f i None hc lc n (each_at_once f (suc i) cs) ≡ at_child (Nth (suc r)) (there x p) (first_done g i None hc lc n (each_at_once g (suc i) cs))
   item_later r m is more rest hc lc =
       let label : Label = record { key = None; head_comment = hc; line_comment = lc } in
-      ap (λ (j : Deeds). child_done j label n (each_at_once f (suc i) cs)) (deeds_same (under (Nth i) f) (under (Nth i) g) (more.agree (Nth i) (λ e. let same : i ≡ m = cc in absurd (omega (arith, is, same)))))
+      ap (λ (j : NodeEdits). child_done j label n (each_at_once f (suc i) cs)) (node_edits_same (under (Nth i) f) (under (Nth i) g) (more.agree (Nth i) (λ e. let same : i ≡ m = cc in absurd (omega (arith, is, same)))))
       ∙ (ap (child_done (under (Nth i) g) label n) rest
       ∙ sym (past_item r (there x p) (g (Nth i ∷ [])) (λ e. let behind : m < i = more.behind m i refl e in absurd (omega (arith, is, behind))) label (at_once (under (Nth i) g) n) (each_at_once g (suc i) cs)))
 
 -- under a key
-more_key : (k : List ℕ) (x : Deed) (p : List Step) (f g : Deeds) → More (To k) x p f g → (i : ℕ) (cs : Children) → AreDistinct cs → AreTrees cs →
+more_key : (k : List ℕ) (x : NodeEdit) (p : List Step) (f g : NodeEdits) → More (To k) x p f g → (i : ℕ) (cs : Children) → AreDistinct cs → AreTrees cs →
     each_at_once f i cs ≡ at_child (To k) (there x p) (each_at_once g i cs)
 more_key k x p f g more i none d trees = refl
 more_key k x p f g more i (child label n cs) d trees =
-    key_turn x p f g i n cs trees.0 k more (more_key k x p f g more (suc i) cs d.1 trees.1) label.key label.head_comment label.line_comment d.0
+    key_once x p f g i n cs trees.0 k more (more_key k x p f g more (suc i) cs d.1 trees.1) label.key label.head_comment label.line_comment d.0
 
 -- the same of a first child
-abbrev TurnOf : Step → Deed → List Step → Deeds → Deeds → ℕ → Node → Children → List (List ℕ) → Option (List ℕ) → Option (List ℕ) → Type 0
-TurnOf t x p f g i n cs hc lc o = first_done f i o hc lc n (each_at_once f (suc i) cs) ≡ at_child t (there x p) (first_done g i o hc lc n (each_at_once g (suc i) cs))
+abbrev FirstOnce : Step → NodeEdit → List Step → NodeEdits → NodeEdits → ℕ → Node → Children → List (List ℕ) → Option (List ℕ) → Option (List ℕ) → Type 0
+FirstOnce t x p f g i n cs hc lc o = first_done f i o hc lc n (each_at_once f (suc i) cs) ≡ at_child t (there x p) (first_done g i o hc lc n (each_at_once g (suc i) cs))
 
 -- under an item
-more_item : (r m : ℕ) (x : Deed) (p : List Step) (f g : Deeds) → More (Nth m) x p f g → (i : ℕ) → i + r ≡ m → (cs : Children) → AreItems cs → AreTrees cs →
+more_item : (r m : ℕ) (x : NodeEdit) (p : List Step) (f g : NodeEdits) → More (Nth m) x p f g → (i : ℕ) → i + r ≡ m → (cs : Children) → AreItems cs → AreTrees cs →
     each_at_once f i cs ≡ at_child (Nth r) (there x p) (each_at_once g i cs)
 more_item r m x p f g more i is none items trees = refl
 more_item zero m x p f g more i is (child label n cs) items trees =
     let same : m ≡ i = omega (arith, is) in
-    subst (TurnOf (Nth 0) x p f g i n cs label.head_comment label.line_comment) (sym items.0)
+    subst (FirstOnce (Nth 0) x p f g i n cs label.head_comment label.line_comment) (sym items.0)
     (item_this x p f g i n cs trees.0 (subst (λ j. More (Nth j) x p f g) same more) label.head_comment label.line_comment)
 more_item (suc r) m x p f g more i is (child label n cs) items trees =
     let next : suc i + r ≡ m = omega (arith, is) in
-    subst (TurnOf (Nth (suc r)) x p f g i n cs label.head_comment label.line_comment) (sym items.0)
+    subst (FirstOnce (Nth (suc r)) x p f g i n cs label.head_comment label.line_comment) (sym items.0)
     (item_later x p f g i n cs trees.0 r m is more (more_item r m x p f g more (suc i) next cs items.1 trees.1) label.head_comment label.line_comment)
 
 -- a step to an item leads to no entry
-no_item : (h : Label → Node → Children → Children) (g : Deeds) (i r : ℕ) (cs : Children) → AreEntries cs → at_child (Nth r) h (each_at_once g i cs) ≡ each_at_once g i cs
+no_item : (h : Label → Node → Children → Children) (g : NodeEdits) (i r : ℕ) (cs : Children) → AreEntries cs → at_child (Nth r) h (each_at_once g i cs) ≡ each_at_once g i cs
 no_item h g i r none entries = refl
 no_item h g i r (child label n cs) entries =
     let k : List ℕ = entries.0.0 in
@@ -189,7 +189,7 @@ no_nth m i none h = tt
 no_nth m i (child label n cs) h = ((λ e. to_nth h.0.0 m (ap (step_by i) (sym h.0.1) ∙ e)), no_nth m (suc i) cs h.1)
 
 -- in items or entries
-more_each : (s : Step) (x : Deed) (p : List Step) (f g : Deeds) → More s x p f g → (cs : Children) → AreItems cs ⊎ AreEntries cs → AreTrees cs → each_at_once f 0 cs ≡ at_child s (there x p) (each_at_once g 0 cs)
+more_each : (s : Step) (x : NodeEdit) (p : List Step) (f g : NodeEdits) → More s x p f g → (cs : Children) → AreItems cs ⊎ AreEntries cs → AreTrees cs → each_at_once f 0 cs ≡ at_child s (there x p) (each_at_once g 0 cs)
 more_each (To k) x p f g more cs (inl items) trees = more_key k x p f g more 0 cs (items_distinct cs items) trees
 more_each (To k) x p f g more cs (inr entries) trees = more_key k x p f g more 0 cs (entries_distinct cs entries) trees
 more_each (Nth m) x p f g more cs (inl items) trees = more_item m m x p f g more 0 (omega arith) cs items trees
@@ -197,30 +197,30 @@ more_each (Nth m) x p f g more cs (inr entries) trees =
     each_same (Nth m) f g more.agree 0 cs (no_nth m 0 cs entries) ∙ sym (no_item (there x p) g 0 m cs entries)
 
 -- a node by what is done at it is one of these two
-done_one : (x : Deed) (n m : Node) → done_at (Some x) n m ≡ done_at (Some x) n n
+done_one : (x : NodeEdit) (n m : Node) → done_at (Some x) n m ≡ done_at (Some x) n n
 done_one (becomes g) n m = refl
 done_one (line text) n m = refl
 done_one (head texts) n m = refl
 done_one goes n m = refl
 
-and_other : (s t : Step) (p q : List Step) (x : Deed) (f : Deeds) → t ≢ s → and_at (s ∷ p) x f (t ∷ q) ≡ f (t ∷ q)
+and_other : (s t : Step) (p q : List Step) (x : NodeEdit) (f : NodeEdits) → t ≢ s → and_at (s ∷ p) x f (t ∷ q) ≡ f (t ∷ q)
 and_other s t p q x f d = ap (λ (b : Bool). cond (b && same_path p q) (Some x) (f (t ∷ q))) (step_other s t (λ e. d (sym e)))
 
-and_under : (s : Step) (p : List Step) (x : Deed) (f : Deeds) → under s (and_at (s ∷ p) x f) ≡ and_at p x (under s f)
-and_under s p x f = deeds_same (under s (and_at (s ∷ p) x f)) (and_at p x (under s f)) (λ q. ap (λ (b : Bool). cond (b && same_path p q) (Some x) (f (s ∷ q))) (step_refl s))
+and_under : (s : Step) (p : List Step) (x : NodeEdit) (f : NodeEdits) → under s (and_at (s ∷ p) x f) ≡ and_at p x (under s f)
+and_under s p x f = node_edits_same (under s (and_at (s ∷ p) x f)) (and_at p x (under s f)) (λ q. ap (λ (b : Bool). cond (b && same_path p q) (Some x) (f (s ∷ q))) (step_refl s))
 
-and_here : (p : List Step) (x : Deed) (f : Deeds) → f [] ≡ None → and_at p x f [] ≡ here x p
+and_here : (p : List Step) (x : NodeEdit) (f : NodeEdits) → f [] ≡ None → and_at p x f [] ≡ here x p
 and_here [] x f h = refl
 and_here (s ∷ p) x f h = h
 
-in_tree : (s : Step) (x : Deed) (p : List Step) (f g : Deeds) → More s x p f g → (n : Node) → IsTree n → inside f n ≡ within (at_child s (there x p)) (inside g n)
+in_tree : (s : Step) (x : NodeEdit) (p : List Step) (f g : NodeEdits) → More s x p f g → (n : Node) → IsTree n → inside f n ≡ within (at_child s (there x p)) (inside g n)
 in_tree s x p f g more (alias name) tree = refl
 in_tree s x p f g more (scalar anchor kind text) tree = refl
 in_tree s x p f g more (list anchor cs) tree = ap (list anchor) (more_each s x p f g more cs (inl tree.0) tree.1)
 in_tree s x p f g more (map anchor cs) tree = ap (map anchor) (more_each s x p f g more cs (inr tree.0) tree.1)
 
 -- one thing more is done at once as it is done alone, after the others
-pub one_more : (p : List Step) (x : Deed) (f : Deeds) (n : Node) → IsTree n → Spares f p → at_once (and_at p x f) n ≡ one_at p x (at_once f n)
+pub one_more : (p : List Step) (x : NodeEdit) (f : NodeEdits) (n : Node) → IsTree n → Spares f p → at_once (and_at p x f) n ≡ one_at p x (at_once f n)
 one_more [] x f n tree spared =
     done_one x n (inside (and_at [] x f) n) ∙ ap (λ m. done_at (Some x) m m) (sym (idle f n (λ q. nothing (f q) [] q (apart_root q) (spared q))))
 one_more (s ∷ p) x f n tree spared =
@@ -228,11 +228,11 @@ one_more (s ∷ p) x f n tree spared =
     let below : Spares (under s f) p = spares_under f s p spared in
     let more : More s x p (and_at (s ∷ p) x f) f = record {
       agree = λ t d q. and_other s t p q x f d;
-      at = ap (λ (k : Deeds). k []) (and_under s p x f) ∙ and_here p x (under s f) (spares_root (under s f) p below);
+      at = ap (λ (k : NodeEdits). k []) (and_under s p x f) ∙ and_here p x (under s f) (spares_root (under s f) p below);
       free = spares_root (under s f) p below;
-      within_it = λ m is. ap (λ (k : Deeds). at_once k m) (and_under s p x f) ∙ one_more p x (under s f) m is below;
-      behind = λ m i is gone. spares_behind m i p (subst (λ (t : Step). Before (t ∷ p) (Nth i ∷ [])) is (subst (λ (d : Option Deed). IsSpared d (s ∷ p) (Nth i ∷ [])) gone (spared (Nth i ∷ []))));
+      within_it = λ m is. ap (λ (k : NodeEdits). at_once k m) (and_under s p x f) ∙ one_more p x (under s f) m is below;
+      behind = λ m i is gone. spares_behind m i p (subst (λ (t : Step). Before (t ∷ p) (Nth i ∷ [])) is (subst (λ (d : Option NodeEdit). IsSpared d (s ∷ p) (Nth i ∷ [])) gone (spared (Nth i ∷ []))));
     } in
-    ap (λ (d : Option Deed). done_at d n (inside (and_at (s ∷ p) x f) n)) free
+    ap (λ (d : Option NodeEdit). done_at d n (inside (and_at (s ∷ p) x f) n)) free
     ∙ (in_tree s x p (and_at (s ∷ p) x f) f more n tree
-    ∙ ap (λ (d : Option Deed). within (at_child s (there x p)) (done_at d n (inside f n))) (sym free))
+    ∙ ap (λ (d : Option NodeEdit). within (at_child s (there x p)) (done_at d n (inside f n))) (sym free))

@@ -77,10 +77,10 @@ null_added : planned (assign (at (codes "n")) operator.Add (literal (scalar None
 null_added = refl
 
 -- `n: 1⏎`, `.x.y = 1`: an entry of the new key x
-nested_made : planned (set (path (key (codes "x") ∷ (key (codes "y") ∷ [])) ∷ []) one) (sole one)
+nested_created : planned (set (path (key (codes "x") ∷ (key (codes "y") ∷ [])) ∷ []) one) (sole one)
     ≡ gives (append 0 [] (Some (codes "x")) (map None (entry (codes "y") one none)) ∷ [])
 unfolding scalar_text chars can_write_plain resolve is_int is_float
-nested_made = refl
+nested_created = refl
 
 -- `a: {b: 0}⏎b: 1⏎`, `.a += {"b": 1, "c": 2}`: a present key's value is replaced, a new key goes last
 entries_added : planned (assign (at (codes "a")) operator.Add (literal (map None (entry (codes "b") one (entry (codes "c") one none))) ∷ [])) (two (map None (entry (codes "b") one none)) one)

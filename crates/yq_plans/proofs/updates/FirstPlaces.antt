@@ -8,10 +8,10 @@ use Rattle.yq_scalar.specs.Paths as paths
 use Rattle.yq_scalar.specs.Paths.{node_at}
 use Rattle.yq_meaning.specs.declared.refusal.Refusal.TheVariants.{NotASequence}
 use Rattle.yq_meaning.specs.Judgement.{Judgement, and_then, gives}
-use Rattle.yq_meaning.specs.Matching.{Found, in_scalar, key_step, index_step}
+use Rattle.yq_meaning.specs.Matching.{ChildFound, in_scalar, key_step, index_step}
 use Rattle.yq_program.specs.Program.{Step, key, index, each, Condition, Stage}
 use Rattle.yq_meaning.specs.Conditions.{holds}
-use Rattle.yq_meaning.specs.Deeds.{step_to}
+use Rattle.yq_meaning.specs.NodeEdits.{step_to}
 use Rattle.yq_meaning.specs.Pipes.{kept, select_on, places}
 use Rattle.yq_meaning.specs.Places.{Place, root_place, child_place, for_each, miss, found_place, stepped, all_steps, step_there, step_from, step_on}
 use Rattle.yq_meaning.specs.PlacesApart.{IsBeforeAll, IsIn}
@@ -116,11 +116,11 @@ miss_later s (key k) p = tt
 miss_later s (index i) p = tt
 miss_later s each p = tt
 
-found_later : (s : paths.Step) (step : Step) (p : Place) (j : Judgement Found) (qs : List Place) → and_then (λ x. gives (found_place step p x)) j ≡ gives qs → NoPlaceLater s qs
+found_later : (s : paths.Step) (step : Step) (p : Place) (j : Judgement ChildFound) (qs : List Place) → and_then (λ x. gives (found_place step p x)) j ≡ gives qs → NoPlaceLater s qs
 found_later s step p j qs h =
-    let x = then_gives (λ (x : Found). gives (found_place step p x)) j qs h in subst (NoPlaceLater s) (gives_same x.2) (go x.0)
+    let x = then_gives (λ (x : ChildFound). gives (found_place step p x)) j qs h in subst (NoPlaceLater s) (gives_same x.2) (go x.0)
   where
-    go : (x : Found) → NoPlaceLater s (found_place step p x)
+    go : (x : ChildFound) → NoPlaceLater s (found_place step p x)
     go None = miss_later s step p
     go (Some y) = tt
 
@@ -129,7 +129,7 @@ all_later : (root : Node) (s : paths.Step) → IsFirstStep root s → (p : Place
 all_later root s first p (alias name) is tree at qs h = absurd (cc)
 all_later root s first p (scalar anchor kind text) is tree at qs h =
     let x = then_gives (λ (xs : List (paths.Step × Node)). gives (map (child_place p) xs)) (all_steps (scalar anchor kind text)) qs h in
-    let y = then_gives (λ (nothing : Found). gives []) (in_scalar NotASequence kind) x.0 x.1 in
+    let y = then_gives (λ (nothing : ChildFound). gives []) (in_scalar NotASequence kind) x.0 x.1 in
     subst (NoPlaceLater s) (gives_same x.2) (subst (λ (xs : List (paths.Step × Node)). NoPlaceLater s (map (child_place p) xs)) (gives_same y.2) tt)
 all_later root s first p (list anchor cs) is tree at qs h =
     subst (NoPlaceLater s) (gives_same h) (first_children root s first p at cs (ap children_of is) (inl (subst IsTree is tree).0))

@@ -11,7 +11,7 @@ use Rattle.yq_program.specs.declared.program.CommentPlace.{CommentPlace}
 use Rattle.yq_program.specs.declared.program.Operator.TheVariants as operator
 use Rattle.yq_meaning.specs.declared.refusal.Refusal.TheVariants.{IndexOutOfRange, NoPlaceForComment, AnchorInUse, TooDeep, KeyTooLong}
 use Rattle.yq_meaning.specs.Judgement.{Judgement, and_then, gives, refuses}
-use Rattle.yq_meaning.specs.Changes.{appends, overwrites, Change, replaces, adds, sets_comment, Changed, Room, is_long, has_long_key, is_deep, nested, made, put_below, put_at, addition, additions, added, add_below, add_at}
+use Rattle.yq_meaning.specs.Changes.{appends, overwrites, Change, replaces, adds, sets_comment, Changed, Room, is_long, has_long_key, is_deep, nested, created, put_below, put_at, addition, additions, added, add_below, add_at}
 use Rattle.yq_meaning.specs.Changes.{remove_below, remove_at, is_there, comment_at, is_too_long, is_too_deep, is_used_inside, is_used_in, takes_used, allowed, all_allowed, at_each, with_value, changes_at, left_of, changes_in}
 use Rattle.yq_meaning.specs.Changes.{is_comment, has_comment, value_in}
 use Rattle.yq_plans.proofs.updates.Mentions.{HasNoAlias, IsPure}
@@ -23,7 +23,7 @@ use Rattle.yq_scalar.specs.Shapes.{IsTree}
 use Rattle.yq_program.specs.Program.{is_index, SumHolds, UpdatesHold, Step, key, index, each, Term, Update, assign, delete, comment}
 use Rattle.yq_plans.proofs.updates.Aliases.{AddNone, WritesNone}
 use Rattle.yq_plans.proofs.updates.AllowedChanges.{IsMissed, AreMissed, places_missed, list_fits, entries_fit}
-use Rattle.yq_plans.proofs.updates.FitsAtTurn.{FitAdds, MayChange, AreFit}
+use Rattle.yq_plans.proofs.updates.FitsInOrder.{FitAdds, MayChange, AreFit}
 use Rattle.yq_meaning.proofs.JudgementLaws.{then_gives, gives_same}
 use Rattle.yq_meaning.proofs.GoodPlaces.{AreSound}
 use Rattle.yq_plans.proofs.updates.PipePlaces.{places_apart}
@@ -74,7 +74,7 @@ each_fit room root f so ps cs s m h =
     (λ p more both. (one p both.0.0.0 both.0.0.1 both.1.0, (both.0.1, both.1.1))) ps cs (s, m) h
   where
     one : (p : Place) → IsTree p.node → IsIn root p → IsMissed p.missing p.node → (ds : List Changed) → and_then (all_allowed root) (f p) ≡ gives ds → AreFit room root ds
-    one p tree at miss ds h = let made = then_gives (all_allowed root) (f p) ds h in all_free room root made.0 ds (so p made.0 tree at miss made.1) made.2
+    one p tree at miss ds h = let created = then_gives (all_allowed root) (f p) ds h in all_free room root created.0 ds (so p created.0 tree at miss created.1) created.2
 
 -- ---- at one place
 
@@ -96,19 +96,19 @@ nested_tree (each ∷ ms) v h = nested_tree ms v h
 nested_pure : (ms : List Step) (v : Node) → IsPure v → IsPure (nested ms v)
 nested_pure ms v h = (nested_tree ms v h.0, nested_free ms v h.1)
 
-made_fit : (room : Room) (root : Node) (p : Place) (v : Node) (m : Step) (ms : List Step) (n : Node) → p.node ≡ n → IsIn root p → IsMissed (m ∷ ms) n → IsPure v → IfFree room root (p.path, made n m ms v)
-made_fit room root p v m ms (alias name) is at miss pure = puts_fit room root p (nested (m ∷ ms) v) at (nested_pure (m ∷ ms) v pure)
-made_fit room root p v m ms (scalar anchor kind text) is at miss pure = puts_fit room root p (nested (m ∷ ms) v) at (nested_pure (m ∷ ms) v pure)
-made_fit room root p v m ms (list anchor cs) is at miss pure = puts_fit room root p (nested (m ∷ ms) v) at (nested_pure (m ∷ ms) v pure)
-made_fit room root p v (key k) ms (tree.map anchor cs) is at miss pure =
+created_fit : (room : Room) (root : Node) (p : Place) (v : Node) (m : Step) (ms : List Step) (n : Node) → p.node ≡ n → IsIn root p → IsMissed (m ∷ ms) n → IsPure v → IfFree room root (p.path, created n m ms v)
+created_fit room root p v m ms (alias name) is at miss pure = puts_fit room root p (nested (m ∷ ms) v) at (nested_pure (m ∷ ms) v pure)
+created_fit room root p v m ms (scalar anchor kind text) is at miss pure = puts_fit room root p (nested (m ∷ ms) v) at (nested_pure (m ∷ ms) v pure)
+created_fit room root p v m ms (list anchor cs) is at miss pure = puts_fit room root p (nested (m ∷ ms) v) at (nested_pure (m ∷ ms) v pure)
+created_fit room root p v (key k) ms (tree.map anchor cs) is at miss pure =
     ((nested_free ms v pure.1, tt), λ f. (tree.map anchor cs, at ∙ ap Some is, (added_one f)))
   where
     added_one : IsFree root (p.path, adds (appends (Some k) (nested ms v) ∷ [])) → FitAdds root p.path (tree.map anchor cs) (appends (Some k) (nested ms v) ∷ [])
     added_one f =
         let long = or_parts (is_long (Some k)) (has_long_key (nested ms v)) (or_parts (is_long (Some k) || has_long_key (nested ms v)) false f.0).0 in
         ((long.0, (nested_tree ms v pure.0, long.1, (or_parts (is_deep (suc (length p.path)) (nested ms v)) false f.1).0), (anchor, cs, refl, miss)), tt)
-made_fit room root p v (index i) ms (tree.map anchor cs) is at miss pure = absurd miss
-made_fit room root p v each ms (tree.map anchor cs) is at miss pure = absurd miss
+created_fit room root p v (index i) ms (tree.map anchor cs) is at miss pure = absurd miss
+created_fit room root p v each ms (tree.map anchor cs) is at miss pure = absurd miss
 
 put_fits : (room : Room) (root : Node) (v : Node) → IsPure v → SoFits room root (λ p. put_at p v)
 put_fits room root v pure p cs tree at miss h =
@@ -119,9 +119,9 @@ put_fits room root v pure p cs tree at miss h =
     go [] m c e = subst (λ (d : Change). IfFree room root (p.path, d)) (gives_same e) (puts_fit room root p v at pure)
     go (y ∷ ys) m c e = by (list_any is_index (y ∷ ys)) e
       where
-        by : (b : Bool) → cond b (refuses IndexOutOfRange) (gives (made p.node y ys v)) ≡ gives c → IfFree room root (p.path, c)
+        by : (b : Bool) → cond b (refuses IndexOutOfRange) (gives (created p.node y ys v)) ≡ gives c → IfFree room root (p.path, c)
         by true k = absurd (cc)
-        by false k = subst (λ (d : Change). IfFree room root (p.path, d)) (gives_same k) (made_fit room root p v y ys p.node refl at m pure)
+        by false k = subst (λ (d : Change). IfFree room root (p.path, d)) (gives_same k) (created_fit room root p v y ys p.node refl at m pure)
 
 addition_value : (cs : Children) (o : Option (List ℕ)) (v : Node) → value_in (addition cs o v) ≡ v
 addition_value cs None v = refl

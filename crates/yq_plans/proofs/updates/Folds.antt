@@ -4,8 +4,8 @@ use Rattle.std.proofs.lemmas.List.{reverse-reverse}
 use Rattle.yq_scalar.specs.Tree.{Node}
 use Rattle.yq_scalar.specs.Paths.{Step}
 use Rattle.yq_meaning.specs.Changes.{Change, replaces, adds, sets_comment, Changed}
-use Rattle.yq_meaning.specs.Deeds.{Deed, becomes, line, head, goes, Deeds, at_once, same_step, same_path, and_at, done_by}
-use Rattle.yq_meaning.specs.Meaning.{placed_deed, deed_of}
+use Rattle.yq_meaning.specs.NodeEdits.{NodeEdit, becomes, line, head, goes, NodeEdits, at_once, same_step, same_path, and_at, done_by}
+use Rattle.yq_meaning.specs.Meaning.{placed_edit, node_edit_of}
 use Rattle.yq_meaning.specs.Operations.{Operation}
 use Rattle.yq_meaning.specs.Plans.{change_ops, ops_of, is_removal, ordered}
 use Rattle.yq_program.specs.Program.{Update, assign, delete, comment}
@@ -15,7 +15,7 @@ use Rattle.yq_meaning.specs.Changes as changes
 use Rattle.yq_program.specs.declared.program.CommentPlace.TheVariants as comments
 use Rattle.yq_plans.proofs.updates.AtOnce.{one_more}
 use Rattle.yq_meaning.proofs.PathLaws.{bytes_same, parts_not}
-use Rattle.yq_plans.proofs.updates.Spares.{idle, IsSpared, Spares, deeds_same}
+use Rattle.yq_plans.proofs.updates.Spares.{idle, IsSpared, Spares, node_edits_same}
 use Rattle.yq_plans.proofs.updates.OneAt.{roots_after, roots_join, change_after}
 use Rattle.std.proofs.lemmas.Bool.{false≢true, eqb-true, and_parts, cond_both}
 use Rattle.yq_scalar.specs.Paths.{To, Nth}
@@ -144,50 +144,50 @@ of_may_fold (comment left place text) cs h = each_weaker (λ (c : Changed). IsSa
 -- ---- what is done is the same in any order
 
 module _ (block : Bool) (lead : List (List ℕ)) where
-  abbrev pub deeds_of : List Changed → Deeds
-  deeds_of cs = done_by (map (placed_deed block lead) cs)
+  abbrev pub node_edits_of : List Changed → NodeEdits
+  node_edits_of cs = done_by (map (placed_edit block lead) cs)
 
   -- one done last is done as if it were the first, where it is apart from the others
-  done_last : (cs : List Changed) (c : Changed) → ToEach Apart c.0 cs → deeds_of (cs ++ c ∷ []) ≡ and_at c.0 (deed_of block lead c) (deeds_of cs)
+  done_last : (cs : List Changed) (c : Changed) → ToEach Apart c.0 cs → node_edits_of (cs ++ c ∷ []) ≡ and_at c.0 (node_edit_of block lead c) (node_edits_of cs)
   done_last [] c h = refl
   done_last (d ∷ ds) c h =
-      deeds_same (deeds_of ((d ∷ ds) ++ c ∷ [])) (and_at c.0 (deed_of block lead c) (deeds_of (d ∷ ds)))
-      (λ q. ap (λ (f : Deeds). and_at d.0 (deed_of block lead d) f q) (done_last ds c h.1) ∙ exchanged q)
+      node_edits_same (node_edits_of ((d ∷ ds) ++ c ∷ [])) (and_at c.0 (node_edit_of block lead c) (node_edits_of (d ∷ ds)))
+      (λ q. ap (λ (f : NodeEdits). and_at d.0 (node_edit_of block lead d) f q) (done_last ds c h.1) ∙ exchanged q)
     where
-      exchanged : (q : List Step) → and_at d.0 (deed_of block lead d) (and_at c.0 (deed_of block lead c) (deeds_of ds)) q ≡ and_at c.0 (deed_of block lead c) (and_at d.0 (deed_of block lead d) (deeds_of ds)) q
+      exchanged : (q : List Step) → and_at d.0 (node_edit_of block lead d) (and_at c.0 (node_edit_of block lead c) (node_edits_of ds)) q ≡ and_at c.0 (node_edit_of block lead c) (and_at d.0 (node_edit_of block lead d) (node_edits_of ds)) q
       exchanged q = go (same_path d.0 q) (same_path c.0 q) refl refl
         where
-          go : (a b : Bool) → same_path d.0 q ≡ a → same_path c.0 q ≡ b → cond a (Some (deed_of block lead d)) (cond b (Some (deed_of block lead c)) (deeds_of ds q)) ≡ cond b (Some (deed_of block lead c))
-              (cond a (Some (deed_of block lead d)) (deeds_of ds q))
+          go : (a b : Bool) → same_path d.0 q ≡ a → same_path c.0 q ≡ b → cond a (Some (node_edit_of block lead d)) (cond b (Some (node_edit_of block lead c)) (node_edits_of ds q)) ≡ cond b (Some (node_edit_of block lead c))
+              (cond a (Some (node_edit_of block lead d)) (node_edits_of ds q))
           go true true x y = absurd (apart_irrefl c.0 (subst (Apart c.0) (path_same d.0 q x ∙ sym (path_same c.0 q y)) h.0))
           go true false x y = refl
           go false true x y = refl
           go false false x y = refl
 
-  done_reverse : (cs : List Changed) → InPairs Apart cs → deeds_of (reverse cs) ≡ deeds_of cs
+  done_reverse : (cs : List Changed) → InPairs Apart cs → node_edits_of (reverse cs) ≡ node_edits_of cs
   done_reverse [] h = refl
   done_reverse (c ∷ cs) h =
-      ap deeds_of (reverse-cons c cs) ∙ (done_last (reverse cs) c (each_reverse (λ (d : Changed). Apart c.0 d.0) cs h.0) ∙ ap (and_at c.0 (deed_of block lead c)) (done_reverse cs h.1))
+      ap node_edits_of (reverse-cons c cs) ∙ (done_last (reverse cs) c (each_reverse (λ (d : Changed). Apart c.0 d.0) cs h.0) ∙ ap (and_at c.0 (node_edit_of block lead c)) (done_reverse cs h.1))
 
   -- ---- one after the other
 
   -- what is done later spares each
   abbrev pub AreSpared : List Changed → Type 0
   AreSpared [] = Unit {0}
-  AreSpared (c ∷ cs) = Spares (deeds_of cs) c.0 × AreSpared cs
+  AreSpared (c ∷ cs) = Spares (node_edits_of cs) c.0 × AreSpared cs
 
-  spared_before : (x : Deed) (p q : List Step) → Before p q → IsSpared (Some x) p q
+  spared_before : (x : NodeEdit) (p q : List Step) → Before p q → IsSpared (Some x) p q
   spared_before (becomes g) p q h = inl h
   spared_before (line text) p q h = inl h
   spared_before (head texts) p q h = inl h
   spared_before goes p q h = h
 
-  spared_by : (p : List Step) (x : Deed) (r : List Step) (f : Deeds) → IsSpared (Some x) p r → Spares f p → Spares (and_at r x f) p
+  spared_by : (p : List Step) (x : NodeEdit) (r : List Step) (f : NodeEdits) → IsSpared (Some x) p r → Spares f p → Spares (and_at r x f) p
   spared_by p x r f h k q = cond_both (same_path r q) (Some x) (f q) (λ d. IsSpared d p q) (λ e. subst (IsSpared (Some x) p) (path_same r q e) h) (λ e. k q)
 
-  spares_later : (p : List Step) (cs : List Changed) → ToEach Before p cs → Spares (deeds_of cs) p
+  spares_later : (p : List Step) (cs : List Changed) → ToEach Before p cs → Spares (node_edits_of cs) p
   spares_later p [] h = λ q. tt
-  spares_later p (c ∷ cs) h = spared_by p (deed_of block lead c) c.0 (deeds_of cs) (spared_before (deed_of block lead c) p c.0 h.0) (spares_later p cs h.1)
+  spares_later p (c ∷ cs) h = spared_by p (node_edit_of block lead c) c.0 (node_edits_of cs) (spared_before (node_edit_of block lead c) p c.0 h.0) (spares_later p cs h.1)
 
   pub spared_in_order : (cs : List Changed) → InPairs Before cs → AreSpared cs
   spared_in_order [] h = tt
@@ -198,37 +198,37 @@ module _ (block : Bool) (lead : List (List ℕ)) where
   ops_join doc (c ∷ cs) ds = ap (λ ops. change_ops doc c ++ ops) (ops_join doc cs ds) ∙ sym (append_assoc (change_ops doc c) (ops_of doc cs) (ops_of doc ds))
 
   -- those of changes from the last one to the first make all of them at once, where each is spared by what is done later
-  pub fold_back : (doc : ℕ) (n : Node) → IsTree n → (cs : List Changed) → AreSpared cs → roots_after block lead (ops_of doc (reverse cs)) n ≡ at_once (deeds_of cs) n
-  fold_back doc n tree [] h = sym (idle (deeds_of []) n (λ q. refl))
+  pub fold_back : (doc : ℕ) (n : Node) → IsTree n → (cs : List Changed) → AreSpared cs → roots_after block lead (ops_of doc (reverse cs)) n ≡ at_once (node_edits_of cs) n
+  fold_back doc n tree [] h = sym (idle (node_edits_of []) n (λ q. refl))
   fold_back doc n tree (c ∷ cs) h =
       ap (λ (xs : List Changed). roots_after block lead (ops_of doc xs) n) (reverse-cons c cs)
       ∙ (ap (λ (ops : List Operation). roots_after block lead ops n) (ops_join doc (reverse cs) (c ∷ []))
       ∙ (roots_join block lead (ops_of doc (reverse cs)) (ops_of doc (c ∷ [])) n
       ∙ (ap (roots_after block lead (change_ops doc c ++ [])) (fold_back doc n tree cs h.1)
-      ∙ (ap (λ (ops : List Operation). roots_after block lead ops (at_once (deeds_of cs) n)) (append-nil (change_ops doc c))
-      ∙ (change_after block lead doc c (at_once (deeds_of cs) n)
-      ∙ sym (one_more c.0 (deed_of block lead c) (deeds_of cs) n tree h.0))))))
+      ∙ (ap (λ (ops : List Operation). roots_after block lead ops (at_once (node_edits_of cs) n)) (append-nil (change_ops doc c))
+      ∙ (change_after block lead doc c (at_once (node_edits_of cs) n)
+      ∙ sym (one_more c.0 (node_edit_of block lead c) (node_edits_of cs) n tree h.0))))))
 
-  spared_kept : (c : Changed) → IsKept c.1 → (p : List Step) → Apart p c.0 → IsSpared (Some (deed_of block lead c)) p c.0
+  spared_kept : (c : Changed) → IsKept c.1 → (p : List Step) → Apart p c.0 → IsSpared (Some (node_edit_of block lead c)) p c.0
   spared_kept (path, replaces v) k p h = h
   spared_kept (path, adds xs) k p h = h
   spared_kept (path, changes.removes) k p h = absurd k
   spared_kept (path, sets_comment comments.Line text) k p h = h
   spared_kept (path, sets_comment comments.Head text) k p h = h
 
-  spares_kept : (p : List Step) (cs : List Changed) → AreKept cs → ToEach Apart p cs → Spares (deeds_of cs) p
+  spares_kept : (p : List Step) (cs : List Changed) → AreKept cs → ToEach Apart p cs → Spares (node_edits_of cs) p
   spares_kept p [] k h = λ q. tt
-  spares_kept p (c ∷ cs) k h = spared_by p (deed_of block lead c) c.0 (deeds_of cs) (spared_kept c k.0 p h.0) (spares_kept p cs k.1 h.1)
+  spares_kept p (c ∷ cs) k h = spared_by p (node_edit_of block lead c) c.0 (node_edits_of cs) (spared_kept c k.0 p h.0) (spares_kept p cs k.1 h.1)
 
   pub spared_apart : (cs : List Changed) → AreKept cs → InPairs Apart cs → AreSpared cs
   spared_apart [] k h = tt
   spared_apart (c ∷ cs) k h = (spares_kept c.0 cs k.1 h.0, spared_apart cs k.1 h.1)
 
   -- the operations of changes, one after the other, make all of them at once
-  pub folds : (doc : ℕ) (n : Node) → IsTree n → (removal : Bool) (cs : List Changed) → InPairs Before cs → MayFold removal cs → roots_after block lead (ops_of doc (ordered removal cs)) n ≡ at_once (deeds_of cs) n
+  pub folds : (doc : ℕ) (n : Node) → IsTree n → (removal : Bool) (cs : List Changed) → InPairs Before cs → MayFold removal cs → roots_after block lead (ops_of doc (ordered removal cs)) n ≡ at_once (node_edits_of cs) n
   folds doc n tree true cs h k = fold_back doc n tree cs (spared_in_order cs h)
   folds doc n tree false cs h k =
       let apart : InPairs Apart (reverse cs) = pairs_reverse Apart apart_sym cs (pairs_apart cs h) in
       ap (λ (xs : List Changed). roots_after block lead (ops_of doc xs) n) (sym (reverse-reverse cs))
       ∙ (fold_back doc n tree (reverse cs) (spared_apart (reverse cs) (each_reverse (λ (c : Changed). IsKept c.1) cs k) apart)
-      ∙ ap (λ (f : Deeds). at_once f n) (done_reverse cs (pairs_apart cs h)))
+      ∙ ap (λ (f : NodeEdits). at_once f n) (done_reverse cs (pairs_apart cs h)))

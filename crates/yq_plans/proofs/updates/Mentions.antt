@@ -63,16 +63,16 @@ mutual
   any_mentioned a (child label n cs) h = elim (any_split (refers_to a) (names_of n) (names_in cs) h) [ inl e ↦ inl (mentioned a n e) | inr e ↦ inr (any_mentioned a cs e) ]
 
 mutual
-  told : (a : List ℕ) (n : Node) → Mentions a n → list_any (refers_to a) (names_of n) ≡ true
-  told a (alias name) h = or-false (bytes_eq a name) ∙ h
-  told a (scalar anchor kind text) h = absurd h
-  told a (list anchor cs) h = any_anchor a anchor (names_in cs) ∙ any_told a cs h
-  told a (tree.map anchor cs) h = any_anchor a anchor (names_in cs) ∙ any_told a cs h
+  refers_in : (a : List ℕ) (n : Node) → Mentions a n → list_any (refers_to a) (names_of n) ≡ true
+  refers_in a (alias name) h = or-false (bytes_eq a name) ∙ h
+  refers_in a (scalar anchor kind text) h = absurd h
+  refers_in a (list anchor cs) h = any_anchor a anchor (names_in cs) ∙ any_refer a cs h
+  refers_in a (tree.map anchor cs) h = any_anchor a anchor (names_in cs) ∙ any_refer a cs h
 
-  any_told : (a : List ℕ) (cs : Children) → AnyMentions a cs → list_any (refers_to a) (names_in cs) ≡ true
-  any_told a none h = absurd h
-  any_told a (child label n cs) (inl h) = any_left (refers_to a) (names_of n) (names_in cs) (told a n h)
-  any_told a (child label n cs) (inr h) = any_right (refers_to a) (names_of n) (names_in cs) (any_told a cs h)
+  any_refer : (a : List ℕ) (cs : Children) → AnyMentions a cs → list_any (refers_to a) (names_in cs) ≡ true
+  any_refer a none h = absurd h
+  any_refer a (child label n cs) (inl h) = any_left (refers_to a) (names_of n) (names_in cs) (refers_in a n h)
+  any_refer a (child label n cs) (inr h) = any_right (refers_to a) (names_of n) (names_in cs) (any_refer a cs h)
 
 -- one tree mentions no more than another
 abbrev pub MentionsNoMore : Node → Node → Type 0
@@ -88,7 +88,7 @@ used_less n m less (Anchors a ∷ xs) h = go (list_any (refers_to a) (names_of n
         (c || list_any (is_used (names_of m)) xs) ≡ false → (b || list_any (is_used (names_of n)) xs) ≡ false
     go b is true e rest k = absurd (false≢true (sym k))
     go false is false e rest k = rest k
-    go true is false e rest k = absurd (false≢true (sym e ∙ told a m (less a (mentioned a n is))))
+    go true is false e rest k = absurd (false≢true (sym e ∙ refers_in a m (less a (mentioned a n is))))
 
 pub inside_less : (n m : Node) → MentionsNoMore n m → (x : Option Node) → is_used_inside (names_of m) x ≡ false → is_used_inside (names_of n) x ≡ false
 inside_less n m less None h = refl
@@ -100,7 +100,7 @@ in_less n m less (Some x) h = used_less n m less (names_of x) h
 
 -- a node without anchors and aliases has no alias
 pub unnamed_free : (v : Node) → names_of v ≡ [] → HasNoAlias v
-unnamed_free v unnamed a m = false≢true (ap (list_any (refers_to a)) (sym unnamed) ∙ told a v m)
+unnamed_free v unnamed a m = false≢true (ap (list_any (refers_to a)) (sym unnamed) ∙ refers_in a v m)
 
 pub literal_pure : (v : Node) → IsValue v → IsPure v
 literal_pure v h = (h.tree, unnamed_free v h.unnamed)

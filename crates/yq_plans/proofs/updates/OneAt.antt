@@ -6,8 +6,8 @@ use Rattle.yq_scalar.specs.Paths.{Step, To, is_here, further, change_child, rela
 use Rattle.yq_program.specs.declared.program.CommentPlace.TheVariants as comments
 use Rattle.yq_meaning.specs.After.{root_after}
 use Rattle.yq_meaning.specs.Changes.{Addition, appends, overwrites, replaces, adds, sets_comment, Changed}
-use Rattle.yq_meaning.specs.Deeds.{Deed, becomes, line, head, goes, done_at, child_by, at_child, one_at}
-use Rattle.yq_meaning.specs.Meaning.{add_to, add_all, head_of, line_of, deed_of}
+use Rattle.yq_meaning.specs.NodeEdits.{NodeEdit, becomes, line, head, goes, done_at, child_by, at_child, one_at}
+use Rattle.yq_meaning.specs.Meaning.{add_to, add_all, head_of, line_of, node_edit_of}
 use Rattle.yq_meaning.specs.Operations.{Operation}
 use Rattle.yq_meaning.specs.Plans.{add_op, change_ops}
 use Rattle.yq_documents.specs.TreeEdits.{replaced, at_end, with_line_comment, with_head_comment, led}
@@ -95,7 +95,7 @@ one_becomes (s ∷ (t ∷ p)) g n =
     ∙ at_child_change s (change (t ∷ p) g) cs) n
 
 -- what is done among the items or entries where a path ends
-module _ (x : Deed) (e : Step → Children → Children) (root : (n : Node) → done_at (Some x) n n ≡ n)
+module _ (x : NodeEdit) (e : Step → Children → Children) (root : (n : Node) → done_at (Some x) n n ≡ n)
     (at : (s : Step) (cs : Children) → at_child s (λ label m ds. child_by (Some x) label (done_at (Some x) m m) ds) cs ≡ e s cs) where
   one_end : (p : List Step) (n : Node) → one_at p x n ≡ at_end e p n
   one_end [] n = root n
@@ -141,7 +141,7 @@ adds_after block lead doc p (x ∷ xs) n =
     ∙ (adds_after block lead doc p xs (change p (within (add_to x)) n) ∙ change_twice p (add_all xs) (within (add_to x)) n)
 
 -- the operations of a change do what is done at its place
-pub change_after : (block : Bool) (lead : List (List ℕ)) (doc : ℕ) (c : Changed) (n : Node) → roots_after block lead (change_ops doc c) n ≡ one_at c.0 (deed_of block lead c) n
+pub change_after : (block : Bool) (lead : List (List ℕ)) (doc : ℕ) (c : Changed) (n : Node) → roots_after block lead (change_ops doc c) n ≡ one_at c.0 (node_edit_of block lead c) n
 change_after block lead doc (p, replaces v) n = sym (one_becomes p (replaced (led block lead p v)) n)
 change_after block lead doc (p, adds xs) n = adds_after block lead doc p xs n ∙ sym (one_becomes p (add_all xs) n)
 change_after block lead doc (p, changes.removes) n = sym (one_goes p n)

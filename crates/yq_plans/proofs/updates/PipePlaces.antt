@@ -5,20 +5,20 @@ use Rattle.yq_meaning.specs.Judgement.{gives}
 use Rattle.yq_program.specs.Program.{Step, Condition, Stage, path, select}
 use Rattle.yq_meaning.specs.Conditions.{holds}
 use Rattle.yq_meaning.specs.Pipes.{kept, select_on, stage_on, pipe_on, places}
-use Rattle.yq_meaning.specs.Places.{Place, root_place, for_each, step_on, in_turn, walk}
+use Rattle.yq_meaning.specs.Places.{Place, root_place, for_each, step_on, chained, traverse}
 use Rattle.yq_meaning.specs.PlacesApart.{AreApart, AreIn}
 use Rattle.yq_scalar.specs.Shapes.{IsTree}
 use Rattle.yq_meaning.proofs.JudgementLaws.{then_gives, gives_same}
-use Rattle.yq_meaning.proofs.GoodPlaces.{AreSound, Leads, LeadsSo, AreGood, each_good}
+use Rattle.yq_meaning.proofs.GoodPlaces.{AreSound, LeadsInto, LeadsSo, AreGood, each_good}
 use Rattle.yq_meaning.proofs.ChildPlaces.{leads_none, leads_self}
 use Rattle.yq_plans.proofs.updates.StepPlaces.{leads_step}
 
 pub leads_select : (root : Node) (doc : ℕ) (c : Condition) → LeadsSo root (select_on doc c)
 leads_select root doc c p qs tree at h =
     let x = then_gives (λ (b : Bool). gives (kept p b)) (holds doc c p) qs h in
-    subst (Leads root p) (gives_same x.2) (go x.0)
+    subst (LeadsInto root p) (gives_same x.2) (go x.0)
   where
-    go : (b : Bool) → Leads root p (kept p b)
+    go : (b : Bool) → LeadsInto root p (kept p b)
     go true = leads_self root p p refl refl tree at
     go false = leads_none root p
 
@@ -27,12 +27,12 @@ pub pipe_keeps : (doc : ℕ) (R : List Place → Type 0) → ((s : Step) (ps qs 
     ((c : Condition) (ps qs : List Place) → R ps → for_each (select_on doc c) ps ≡ gives qs → R qs) → (stages : List Stage) (ps qs : List Place) → R ps → pipe_on doc stages ps ≡ gives qs → R qs
 pipe_keeps doc R step chosen [] ps qs r h = subst R (gives_same h) r
 pipe_keeps doc R step chosen (stage ∷ stages) ps qs r h =
-    let x = then_gives (in_turn (stage_on doc) stages) (stage_on doc stage ps) qs h in pipe_keeps doc R step chosen stages x.0 qs (staged stage x.0 x.1) x.2
+    let x = then_gives (chained (stage_on doc) stages) (stage_on doc stage ps) qs h in pipe_keeps doc R step chosen stages x.0 qs (staged stage x.0 x.1) x.2
   where
-    walked : (ss : List Step) (from to : List Place) → R from → walk ss from ≡ gives to → R to
+    walked : (ss : List Step) (from to : List Place) → R from → traverse ss from ≡ gives to → R to
     walked [] from to f e = subst R (gives_same e) f
     walked (s ∷ ss) from to f e =
-        let x = then_gives (in_turn (λ u. for_each (step_on u)) ss) (for_each (step_on s) from) to e in walked ss x.0 to (step s from x.0 f x.1) x.2
+        let x = then_gives (chained (λ u. for_each (step_on u)) ss) (for_each (step_on s) from) to e in walked ss x.0 to (step s from x.0 f x.1) x.2
 
     staged : (stage : Stage) (to : List Place) → stage_on doc stage ps ≡ gives to → R to
     staged (path steps) to e = walked steps ps to r e

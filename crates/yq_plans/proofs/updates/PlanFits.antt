@@ -6,7 +6,7 @@ use Rattle.yq_documents.specs.Documents.{Document}
 use Rattle.yq_meaning.specs.declared.refusal.Refusal.TheVariants.{BadCommentText}
 use Rattle.yq_meaning.specs.Judgement.{and_then, gives, refuses}
 use Rattle.yq_meaning.specs.After.{root_after, done_to, after_op, all_after}
-use Rattle.yq_meaning.specs.Changes.{replaces, adds, sets_comment, Changed, Room, made, changes_in, has_comment, changes_from, changes_of}
+use Rattle.yq_meaning.specs.Changes.{replaces, adds, sets_comment, Changed, Room, created, changes_in, has_comment, changes_from, changes_of}
 use Rattle.yq_meaning.specs.Fits.{FitsRoot, AllFit}
 use Rattle.yq_meaning.specs.Meaning.{changed_at_once, roots_of, AreReady}
 use Rattle.yq_meaning.specs.Operations.{Operation}
@@ -14,9 +14,9 @@ use Rattle.yq_meaning.specs.Plans.{change_ops, ops_of, is_removal, ordered, all_
 use Rattle.yq_scalar.specs.PathOrder.{Before}
 use Rattle.yq_program.specs.Program.{UpdatesHold, Update}
 use Rattle.yq_meaning.specs.Changes as changes
-use Rattle.yq_plans.proofs.updates.FitsAtTurn.{AllFitRoot, all_fit, AreFit}
+use Rattle.yq_plans.proofs.updates.FitsInOrder.{AllFitRoot, all_fit, AreFit}
 use Rattle.yq_plans.proofs.updates.Folds.{InPairs, IsGone, AreGone, MayFold}
-use Rattle.yq_plans.proofs.updates.RootLeads.{document_after, document_folds, AllLeave, op_any_lead, PutsOrLeaves, puts_or_leaves, Leaves}
+use Rattle.yq_plans.proofs.updates.RootLeads.{document_after, document_folds, AllKeepSome, op_any_lead, PutsOrKeeps, puts_or_keeps, KeepsSome}
 use Rattle.yq_meaning.proofs.JudgementLaws.{then_gives, gives_same}
 use Rattle.yq_plans.proofs.updates.Planned.{AreOrdered, update_ordered, removal_first}
 use Rattle.yq_plans.proofs.updates.PlanMeans.{AreOf, ops_are_of, after_at, all_after_at}
@@ -35,8 +35,8 @@ AnyLead block op = (lead other : List (List ℕ)) (n : Node) → root_after bloc
 abbrev AllAnyLead : Bool → List Operation → Type 0
 AllAnyLead block ops = Each (AnyLead block) ops
 
-leave_any : (block : Bool) (ops : List Operation) → AllLeave ops → AllAnyLead block ops
-leave_any block ops l = each_weaker Leaves (AnyLead block) (λ op one lead other n. op_any_lead block lead other op one n) ops l
+leave_any : (block : Bool) (ops : List Operation) → AllKeepSome ops → AllAnyLead block ops
+leave_any block ops l = each_weaker KeepsSome (AnyLead block) (λ op one lead other n. op_any_lead block lead other op one n) ops l
 
 gone_any : (block : Bool) (doc : ℕ) (c : Changed) → IsGone c.1 → AllAnyLead block (change_ops doc c)
 gone_any block doc (p, replaces v) g = absurd g
@@ -55,9 +55,9 @@ any_fit block lead room (op ∷ ops) d l h =
 document_fits : (block : Bool) (room : Room) (doc : ℕ) (d : Document) (removal : Bool) (cs : List Changed) → InPairs Before cs → MayFold removal cs → AllFitRoot block d.lead room (ops_of doc (ordered removal cs)) d.root →
     AllFitDocument block room (ops_of doc (ordered removal cs)) d
 document_fits block room doc d true cs p k h = any_fit block d.lead room (ops_of doc (reverse cs)) d (all_gone_any block doc (reverse cs) (each_reverse (λ (c : Changed). IsGone c.1) cs k)) h
-document_fits block room doc d false cs p k h = go (puts_or_leaves doc cs p k) h
+document_fits block room doc d false cs p k h = go (puts_or_keeps doc cs p k) h
   where
-    go : PutsOrLeaves doc cs → AllFitRoot block d.lead room (ops_of doc cs) d.root → AllFitDocument block room (ops_of doc cs) d
+    go : PutsOrKeeps doc cs → AllFitRoot block d.lead room (ops_of doc cs) d.root → AllFitDocument block room (ops_of doc cs) d
     go (inl x) f = subst (λ (xs : List Changed). AllFitRoot block d.lead room (ops_of doc xs) d.root → AllFitDocument block room (ops_of doc xs) d) (sym x.1) (λ e. (e.0, tt)) f
     go (inr l) f = any_fit block d.lead room (ops_of doc cs) d (leave_any block (ops_of doc cs) l) f
 
@@ -91,11 +91,11 @@ from_fits u rooms n (d ∷ ds) front css is ready pure good h =
     let ops : List Operation = ops_of n (ordered (is_removal u) one.0) in
     let new : Document = changed_at_once (rooms n).block one.0 d in
     let are_of : AreOf (length front) ops = subst (λ (m : ℕ). AreOf m ops) (sym is) (ops_are_of n (ordered (is_removal u) one.0)) in
-    let made : document_after (rooms n).block ops d ≡ new =
+    let created : document_after (rooms n).block ops d ≡ new =
     document_folds (rooms n).block n d ready.0.1 ready.0.0 (is_removal u) one.0 order.0 order.1 (λ removal. removal_first u n (rooms n) d.root one.0 removal ready.0.0 one.1) in
     let at : all_after rooms ops (front ++ d ∷ ds) ≡ (front ++ new ∷ []) ++ ds =
     all_after_at rooms ops front d ds are_of
-    ∙ (ap (λ (m : ℕ). front ++ document_after (rooms m).block ops d ∷ ds) is ∙ (ap (λ (e : Document). front ++ e ∷ ds) made ∙ sym (append_assoc front (new ∷ []) ds))) in
+    ∙ (ap (λ (m : ℕ). front ++ document_after (rooms m).block ops d ∷ ds) is ∙ (ap (λ (e : Document). front ++ e ∷ ds) created ∙ sym (append_assoc front (new ∷ []) ds))) in
     let longer : length (front ++ new ∷ []) ≡ suc n = length-append front (new ∷ []) ∙ (omega (arith, is)) in
     let here : AllFitDocument (rooms n).block (rooms n) ops d =
     document_fits (rooms n).block (rooms n) n d (is_removal u) one.0 order.0 order.1 (all_fit (rooms n).block d.lead (rooms n) n d.root ready.0.0 (is_removal u) one.0 order.0 order.1 fit) in

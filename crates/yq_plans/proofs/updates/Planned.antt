@@ -9,9 +9,9 @@ use Rattle.yq_program.specs.declared.program.Operator.TheVariants as operator
 use Rattle.yq_meaning.specs.declared.refusal.Refusal.TheVariants.{IndexOutOfRange, NoPlaceForComment, AnchorInUse, TooDeep, KeyTooLong}
 use Rattle.yq_meaning.specs.Judgement.{Judgement, and_then, gives, refuses}
 use Rattle.yq_program.specs.Program.{is_index, Step, Term, Update, assign, delete, comment}
-use Rattle.yq_meaning.specs.Changes.{Change, replaces, sets_comment, Changed, Room, made, put_below, put_at, added_entries, added, add_below, add_at, remove_below, remove_at, is_there, comment_at, is_too_long, is_too_deep}
+use Rattle.yq_meaning.specs.Changes.{Change, replaces, sets_comment, Changed, Room, created, put_below, put_at, added_entries, added, add_below, add_at, remove_below, remove_at, is_there, comment_at, is_too_long, is_too_deep}
 use Rattle.yq_meaning.specs.Changes.{takes_used, allowed, all_allowed, at_each, with_value, changes_at, left_of, changes_in}
-use Rattle.yq_meaning.specs.Deeds.{step_to}
+use Rattle.yq_meaning.specs.NodeEdits.{step_to}
 use Rattle.yq_meaning.specs.Pipes.{places}
 use Rattle.yq_meaning.specs.Places.{Place, root_place, for_each}
 use Rattle.yq_meaning.specs.PlacesApart.{IsBeforeAll, AreApart}
@@ -97,19 +97,19 @@ at_ordered root P f so ps cs a h = each_ordered P (λ p. and_then (all_allowed r
 single : (P : Change → Type 0) (p : Place) (c : Change) (cs : List Changed) → P c → gives ((p.path, c) ∷ []) ≡ gives cs → FromPlace P p cs
 single P p c cs k h = subst (FromPlace P p) (gives_same h) (refl, (k, tt))
 
-made_written : (n : Node) (m : Step) (ms : List Step) (v : Node) → IsWritten (made n m ms v)
-made_written (alias name) m ms v = tt
-made_written (scalar anchor kind text) m ms v = tt
-made_written (list anchor cs) m ms v = tt
-made_written (tree.map anchor cs) m ms v = tt
+created_written : (n : Node) (m : Step) (ms : List Step) (v : Node) → IsWritten (created n m ms v)
+created_written (alias name) m ms v = tt
+created_written (scalar anchor kind text) m ms v = tt
+created_written (list anchor cs) m ms v = tt
+created_written (tree.map anchor cs) m ms v = tt
 
 put_written : (n : Node) (missing : List Step) (v : Node) (c : Change) → put_below n missing v ≡ gives c → IsWritten c
 put_written n [] v c h = subst IsWritten (gives_same h) tt
 put_written n (m ∷ ms) v c h = go (list_any is_index (m ∷ ms)) h
   where
-    go : (b : Bool) → cond b (refuses IndexOutOfRange) (gives (made n m ms v)) ≡ gives c → IsWritten c
+    go : (b : Bool) → cond b (refuses IndexOutOfRange) (gives (created n m ms v)) ≡ gives c → IsWritten c
     go true e = absurd (cc)
-    go false e = subst IsWritten (gives_same e) (made_written n m ms v)
+    go false e = subst IsWritten (gives_same e) (created_written n m ms v)
 
 put_so : (v : Node) → IsSo IsWritten (λ p. put_at p v)
 put_so v p cs h =

@@ -16,23 +16,23 @@ use Rattle.yq_meaning.specs.Meaning.{roots_of, AreReady}
 use Rattle.yq_meaning.specs.Operations.{Operation, replace, append, remove, line_comment, head_comment}
 use Rattle.yq_meaning.specs.Plans.{add_op, ops_of, is_removal, ordered, all_ops, plan}
 use Rattle.yq_program.specs.Program.{UpdatesHold, Update, assign, delete, comment}
-use Rattle.yq_meaning.specs.RoomsKept.{HasSome, KeepsBlock, KeepsBlockIn, NoneIn, BlockLasts, SetComments, SetNoComment, RoomsLast, MayFollow}
+use Rattle.yq_meaning.specs.RoomsKept.{HasSome, KeepsBlock, KeepsBlockIn, NoneOn, BlockLasts, SetComments, SetNoComment, RoomsLast, MayFollow}
 use Rattle.yq_meaning.proofs.JudgementLaws.{then_gives, gives_same}
 use Rattle.yq_plans.proofs.updates.Folds.{InPairs, AllAre, AreGone, IsWritten, IsSaid, IsOf, MayFold, of_may_fold, IsGone}
 use Rattle.yq_plans.proofs.updates.Planned.{update_kind}
 use Rattle.yq_plans.proofs.updates.PlanFits.{plan_fits}
 use Rattle.yq_plans.proofs.updates.PlanMeans.{AreOf, ops_are_of}
-use Rattle.yq_plans.proofs.updates.RootLeads.{Leaves, AllLeave, puts_or_leaves}
+use Rattle.yq_plans.proofs.updates.RootLeads.{KeepsSome, AllKeepSome, puts_or_keeps}
 use Rattle.yq_plans.proofs.updates.Each.{each_reverse}
 
 -- ---- by turns
 
-leaves_keeps : (op : Operation) → Leaves op → (root : Node) → KeepsBlock op root
-leaves_keeps (replace doc path v) l root = subst IsBelow (sym l.2) tt
-leaves_keeps (append doc path k v) l root = tt
-leaves_keeps (remove doc path) l root = absurd l
-leaves_keeps (line_comment doc path text) l root = tt
-leaves_keeps (head_comment doc path text) l root = tt
+some_keeps_block : (op : Operation) → KeepsSome op → (root : Node) → KeepsBlock op root
+some_keeps_block (replace doc path v) l root = subst IsBelow (sym l.2) tt
+some_keeps_block (append doc path k v) l root = tt
+some_keeps_block (remove doc path) l root = absurd l
+some_keeps_block (line_comment doc path text) l root = tt
+some_keeps_block (head_comment doc path text) l root = tt
 
 -- an operation removes something, and the next one does too, in the same document
 abbrev RemovesMore : Operation → List Operation → Type 0
@@ -43,9 +43,9 @@ RemovesMore (line_comment doc path text) ops = ⊥
 RemovesMore (head_comment doc path text) ops = ⊥
 
 -- each operation leaves items and entries, or is the last one of its document, or removes what isn't the last
-abbrev Turns : List Operation → Type 0
-Turns [] = Unit {0}
-Turns (op ∷ ops) = (Leaves op ⊎ (NoneIn (document_of op) ops ⊎ RemovesMore op ops)) × Turns ops
+abbrev KeepBlocks : List Operation → Type 0
+KeepBlocks [] = Unit {0}
+KeepBlocks (op ∷ ops) = (KeepsSome op ⊎ (NoneOn (document_of op) ops ⊎ RemovesMore op ops)) × KeepBlocks ops
 
 -- where a path leads below a root, there are items or entries
 some_below : (path : List Step) (root n : Node) → IsBelow path → node_at path root ≡ Some n → HasSome (children_of root)
@@ -66,26 +66,26 @@ removes_keeps rooms (remove doc path) ops docs r f = go (subst (λ (os : List Op
 removes_keeps rooms (line_comment doc path text) ops docs r f = absurd r
 removes_keeps rooms (head_comment doc path text) ops docs r f = absurd r
 
-turns_last : (rooms : ℕ → Room) (ops : List Operation) (docs : List Document) → Turns ops → AllFit rooms ops docs → BlockLasts rooms ops docs
-turns_last rooms [] docs t f = tt
-turns_last rooms (op ∷ ops) docs t f = (go t.0, turns_last rooms ops (after_op rooms op docs) t.1 f.1)
+keep_last : (rooms : ℕ → Room) (ops : List Operation) (docs : List Document) → KeepBlocks ops → AllFit rooms ops docs → BlockLasts rooms ops docs
+keep_last rooms [] docs t f = tt
+keep_last rooms (op ∷ ops) docs t f = (go t.0, keep_last rooms ops (after_op rooms op docs) t.1 f.1)
   where
-    go : Leaves op ⊎ (NoneIn (document_of op) ops ⊎ RemovesMore op ops) → KeepsBlockIn op (after_op rooms op docs) ⊎ NoneIn (document_of op) ops
-    go (inl l) = inl (λ d at. leaves_keeps op l d.root)
+    go : KeepsSome op ⊎ (NoneOn (document_of op) ops ⊎ RemovesMore op ops) → KeepsBlockIn op (after_op rooms op docs) ⊎ NoneOn (document_of op) ops
+    go (inl l) = inl (λ d at. some_keeps_block op l d.root)
     go (inr (inl n)) = inr n
     go (inr (inr r)) = inl (removes_keeps rooms op ops (after_op rooms op docs) r f.1)
 
 -- ---- the operations of later documents
 
-none_join : (n : ℕ) (ops others : List Operation) → NoneIn n ops → NoneIn n others → NoneIn n (ops ++ others)
+none_join : (n : ℕ) (ops others : List Operation) → NoneOn n ops → NoneOn n others → NoneOn n (ops ++ others)
 none_join n [] others h k = k
 none_join n (op ∷ ops) others h k = (h.0, none_join n ops others h.1 k)
 
-none_other : (n m : ℕ) (ops : List Operation) → n < m → AreOf m ops → NoneIn n ops
+none_other : (n m : ℕ) (ops : List Operation) → n < m → AreOf m ops → NoneOn n ops
 none_other n m [] less o = tt
 none_other n m (op ∷ ops) less o = ((λ e. let same : n ≡ m = sym e ∙ o.0 in absurd (omega (arith, less, same))), none_other n m ops less o.1)
 
-none_before : (removal : Bool) (n m : ℕ) (css : List (List Changed)) → n < m → NoneIn n (all_ops removal m css)
+none_before : (removal : Bool) (n m : ℕ) (css : List (List Changed)) → n < m → NoneOn n (all_ops removal m css)
 none_before removal n m [] less = tt
 none_before removal n m (cs ∷ css) less =
     none_join n (ops_of m (ordered removal cs)) (all_ops removal (suc m) css) (none_other n m (ops_of m (ordered removal cs)) less (ops_are_of m (ordered removal cs)))
@@ -93,27 +93,27 @@ none_before removal n m (cs ∷ css) less =
 
 -- ---- the operations of a document
 
-turns_leave : (ops others : List Operation) → AllLeave ops → Turns others → Turns (ops ++ others)
-turns_leave [] others l t = t
-turns_leave (op ∷ ops) others l t = (inl l.0, turns_leave ops others l.1 t)
+keep_leave : (ops others : List Operation) → AllKeepSome ops → KeepBlocks others → KeepBlocks (ops ++ others)
+keep_leave [] others l t = t
+keep_leave (op ∷ ops) others l t = (inl l.0, keep_leave ops others l.1 t)
 
-turns_gone : (n : ℕ) (cs : List Changed) (others : List Operation) → AreGone cs → NoneIn n others → Turns others → Turns (ops_of n cs ++ others)
-turns_gone n [] others g away t = t
-turns_gone n ((p, replaces v) ∷ cs) others g away t = absurd g.0
-turns_gone n ((p, adds xs) ∷ cs) others g away t = absurd g.0
-turns_gone n ((p, changes.removes) ∷ []) others g away t = (inr (inl away), t)
-turns_gone n ((p, changes.removes) ∷ ((q, replaces v) ∷ cs)) others g away t = absurd g.1.0
-turns_gone n ((p, changes.removes) ∷ ((q, adds xs) ∷ cs)) others g away t = absurd g.1.0
-turns_gone n ((p, changes.removes) ∷ ((q, changes.removes) ∷ cs)) others g away t =
-    (inr (inr (q, ops_of n cs ++ others, refl)), turns_gone n ((q, changes.removes) ∷ cs) others g.1 away t)
-turns_gone n ((p, changes.removes) ∷ ((q, sets_comment place text) ∷ cs)) others g away t = absurd g.1.0
-turns_gone n ((p, sets_comment place text) ∷ cs) others g away t = absurd g.0
+keep_gone : (n : ℕ) (cs : List Changed) (others : List Operation) → AreGone cs → NoneOn n others → KeepBlocks others → KeepBlocks (ops_of n cs ++ others)
+keep_gone n [] others g away t = t
+keep_gone n ((p, replaces v) ∷ cs) others g away t = absurd g.0
+keep_gone n ((p, adds xs) ∷ cs) others g away t = absurd g.0
+keep_gone n ((p, changes.removes) ∷ []) others g away t = (inr (inl away), t)
+keep_gone n ((p, changes.removes) ∷ ((q, replaces v) ∷ cs)) others g away t = absurd g.1.0
+keep_gone n ((p, changes.removes) ∷ ((q, adds xs) ∷ cs)) others g away t = absurd g.1.0
+keep_gone n ((p, changes.removes) ∷ ((q, changes.removes) ∷ cs)) others g away t =
+    (inr (inr (q, ops_of n cs ++ others, refl)), keep_gone n ((q, changes.removes) ∷ cs) others g.1 away t)
+keep_gone n ((p, changes.removes) ∷ ((q, sets_comment place text) ∷ cs)) others g away t = absurd g.1.0
+keep_gone n ((p, sets_comment place text) ∷ cs) others g away t = absurd g.0
 
-document_turns : (removal : Bool) (n : ℕ) (cs : List Changed) (others : List Operation) → InPairs Before cs → MayFold removal cs → NoneIn n others → Turns others → Turns (ops_of n (ordered removal cs) ++ others)
-document_turns true n cs others order g away t = turns_gone n (reverse cs) others (each_reverse (λ (c : Changed). IsGone c.1) cs g) away t
-document_turns false n cs others order k away t = elim (puts_or_leaves n cs order k) [
-  | inl x ↦ subst (λ (xs : List Changed). Turns (ops_of n xs ++ others)) (sym x.1) (inr (inl away), t)
-  | inr l ↦ turns_leave (ops_of n cs) others l t
+document_keep : (removal : Bool) (n : ℕ) (cs : List Changed) (others : List Operation) → InPairs Before cs → MayFold removal cs → NoneOn n others → KeepBlocks others → KeepBlocks (ops_of n (ordered removal cs) ++ others)
+document_keep true n cs others order g away t = keep_gone n (reverse cs) others (each_reverse (λ (c : Changed). IsGone c.1) cs g) away t
+document_keep false n cs others order k away t = elim (puts_or_keeps n cs order k) [
+  | inl x ↦ subst (λ (xs : List Changed). KeepBlocks (ops_of n xs ++ others)) (sym x.1) (inr (inl away), t)
+  | inr l ↦ keep_leave (ops_of n cs) others l t
 ]
 
 -- ---- which set comments
@@ -176,27 +176,27 @@ say_alone (comment left place text) ops h = inl h
 
 -- ---- the operations of an update
 
-from_turns : (u : Update) (rooms : ℕ → Room) (n : ℕ) (docs : List Document) (css : List (List Changed)) → AreReady rooms n docs → changes_from u rooms n (roots_of docs) ≡ gives css →
-    Turns (all_ops (is_removal u) n css) × Say u (all_ops (is_removal u) n css)
-from_turns u rooms n [] css ready h = subst (λ (xs : List (List Changed)). Turns (all_ops (is_removal u) n xs) × Say u (all_ops (is_removal u) n xs)) (gives_same h) (tt, say_none u)
-from_turns u rooms n (d ∷ ds) css ready h =
+from_keep : (u : Update) (rooms : ℕ → Room) (n : ℕ) (docs : List Document) (css : List (List Changed)) → AreReady rooms n docs → changes_from u rooms n (roots_of docs) ≡ gives css →
+    KeepBlocks (all_ops (is_removal u) n css) × Say u (all_ops (is_removal u) n css)
+from_keep u rooms n [] css ready h = subst (λ (xs : List (List Changed)). KeepBlocks (all_ops (is_removal u) n xs) × Say u (all_ops (is_removal u) n xs)) (gives_same h) (tt, say_none u)
+from_keep u rooms n (d ∷ ds) css ready h =
     let one = then_gives (λ first. and_then (λ others. gives (first ∷ others)) (changes_from u rooms (suc n) (roots_of ds))) (changes_in u n (rooms n) d.root) css h in
     let two = then_gives (λ (others : List (List Changed)). gives (one.0 ∷ others)) (changes_from u rooms (suc n) (roots_of ds)) css one.2 in
     let kind = update_kind u n (rooms n) d.root one.0 ready.0.0 one.1 in
     let others : List Operation = all_ops (is_removal u) (suc n) two.0 in
-    let rest = from_turns u rooms (suc n) ds two.0 ready.1 two.1 in
-    subst (λ (xs : List (List Changed)). Turns (all_ops (is_removal u) n xs) × Say u (all_ops (is_removal u) n xs)) (gives_same two.2)
-    (document_turns (is_removal u) n one.0 others kind.0 (of_may_fold u one.0 kind.1) (none_before (is_removal u) n (suc n) two.0 (omega arith)) rest.0, say_join u n one.0 others kind.1 rest.1)
+    let rest = from_keep u rooms (suc n) ds two.0 ready.1 two.1 in
+    subst (λ (xs : List (List Changed)). KeepBlocks (all_ops (is_removal u) n xs) × Say u (all_ops (is_removal u) n xs)) (gives_same two.2)
+    (document_keep (is_removal u) n one.0 others kind.0 (of_may_fold u one.0 kind.1) (none_before (is_removal u) n (suc n) two.0 (omega arith)) rest.0, say_join u n one.0 others kind.1 rest.1)
 
 -- the room that the operations of a plan ask for lasts, where each fits at its turn
 rooms_last : (u : Update) (rooms : ℕ → Room) (docs : List Document) (ops : List Operation) → AreReady rooms 0 docs → plan u rooms docs ≡ gives ops → AllFit rooms ops docs → RoomsLast rooms ops docs
 rooms_last u rooms docs ops ready h fit =
     let x = then_gives (λ (css : List (List Changed)). gives (all_ops (is_removal u) 0 css)) (changes_of u rooms (roots_of docs)) ops h in
-    let y = subst (λ (os : List Operation). Turns os × Say u os) (gives_same x.2) (go (has_comment u) x.0 x.1) in
-    record { block = turns_last rooms ops docs y.0 fit; comments = say_alone u ops y.1 }
+    let y = subst (λ (os : List Operation). KeepBlocks os × Say u os) (gives_same x.2) (go (has_comment u) x.0 x.1) in
+    record { block = keep_last rooms ops docs y.0 fit; comments = say_alone u ops y.1 }
   where
-    go : (b : Bool) (css : List (List Changed)) → cond b (changes_from u rooms 0 (roots_of docs)) (refuses BadCommentText) ≡ gives css → Turns (all_ops (is_removal u) 0 css) × Say u (all_ops (is_removal u) 0 css)
-    go true css e = from_turns u rooms 0 docs css ready e
+    go : (b : Bool) (css : List (List Changed)) → cond b (changes_from u rooms 0 (roots_of docs)) (refuses BadCommentText) ≡ gives css → KeepBlocks (all_ops (is_removal u) 0 css) × Say u (all_ops (is_removal u) 0 css)
+    go true css e = from_keep u rooms 0 docs css ready e
     go false css e = absurd (cc)
 
 -- the operations of a plan may follow one another

@@ -9,8 +9,8 @@ use Rattle.yq_documents.specs.Documents.{Document}
 use Rattle.yq_program.specs.declared.program.CommentPlace.TheVariants as comments
 use Rattle.yq_meaning.specs.After.{root_after, done_to}
 use Rattle.yq_meaning.specs.Changes.{Addition, appends, overwrites, replaces, adds, sets_comment, Changed}
-use Rattle.yq_meaning.specs.Deeds.{Deed, Deeds, same_path, step_to, done_at, child_by, under, inside, each_at_once, at_once}
-use Rattle.yq_meaning.specs.Meaning.{head_of, line_of, deed_of, changed_at_once, IsLed}
+use Rattle.yq_meaning.specs.NodeEdits.{NodeEdit, NodeEdits, same_path, step_to, done_at, child_by, under, inside, each_at_once, at_once}
+use Rattle.yq_meaning.specs.Meaning.{head_of, line_of, node_edit_of, changed_at_once, IsLed}
 use Rattle.yq_meaning.specs.Operations.{Operation, replace, append, remove, line_comment, head_comment}
 use Rattle.yq_meaning.specs.Plans.{add_op, change_ops, ops_of, ordered}
 use Rattle.yq_scalar.specs.PathOrder.{Before}
@@ -19,7 +19,7 @@ use Rattle.yq_documents.specs.TreeEdits.{replaced, at_end, with_line_comment, wi
 use Rattle.yq_meaning.specs.Changes as changes
 use Rattle.yq_plans.proofs.updates.AtOnce.{one_more}
 use Rattle.yq_plans.proofs.updates.Spares.{idle, spares_root}
-use Rattle.yq_plans.proofs.updates.Folds.{ToEach, InPairs, IsKept, AreKept, IsGone, MayFold, AreSpared, deeds_of, path_same, AreGone, ops_join, folds, spared_in_order}
+use Rattle.yq_plans.proofs.updates.Folds.{ToEach, InPairs, IsKept, AreKept, IsGone, MayFold, AreSpared, node_edits_of, path_same, AreGone, ops_join, folds, spared_in_order}
 use Rattle.yq_plans.proofs.updates.OneAt.{roots_after, change_after}
 use Rattle.yq_plans.proofs.updates.Each.{Each, each_join, reverse-cons}
 
@@ -40,64 +40,64 @@ IsNone none = Unit {0}
 IsNone (child label n cs) = ⊥
 
 -- an operation that leaves items or entries, if there are any, and asks for no lead
-abbrev pub Leaves : Operation → Type 0
-Leaves (replace doc path v) = (s : Step) × (p : List Step) × (path ≡ s ∷ p)
-Leaves (append doc path k v) = Unit {0}
-Leaves (remove doc path) = ⊥
-Leaves (line_comment doc path text) = Unit {0}
-Leaves (head_comment doc path text) = Unit {0}
+abbrev pub KeepsSome : Operation → Type 0
+KeepsSome (replace doc path v) = (s : Step) × (p : List Step) × (path ≡ s ∷ p)
+KeepsSome (append doc path k v) = Unit {0}
+KeepsSome (remove doc path) = ⊥
+KeepsSome (line_comment doc path text) = Unit {0}
+KeepsSome (head_comment doc path text) = Unit {0}
 
-abbrev pub AllLeave : List Operation → Type 0
-AllLeave ops = Each Leaves ops
+abbrev pub AllKeepSome : List Operation → Type 0
+AllKeepSome ops = Each KeepsSome ops
 
-within_leaves : (g : Children → Children) → ((cs : Children) → IsNone (g cs) → IsNone cs) → (n : Node) → IsNone (children_of (within g n)) → IsNone (children_of n)
-within_leaves g so (alias name) h = tt
-within_leaves g so (scalar anchor kind text) h = tt
-within_leaves g so (list anchor cs) h = so cs h
-within_leaves g so (tree.map anchor cs) h = so cs h
+within_keeps : (g : Children → Children) → ((cs : Children) → IsNone (g cs) → IsNone cs) → (n : Node) → IsNone (children_of (within g n)) → IsNone (children_of n)
+within_keeps g so (alias name) h = tt
+within_keeps g so (scalar anchor kind text) h = tt
+within_keeps g so (list anchor cs) h = so cs h
+within_keeps g so (tree.map anchor cs) h = so cs h
 
-change_leaves : (s : Step) (f : Node → Node) (cs : Children) → IsNone (change_child s f cs) → IsNone cs
-change_leaves s f none h = tt
-change_leaves s f (child label n cs) h = cond_both (is_here s label) (child label (f n) cs) (child label n (change_child (further s) f cs)) (λ ds. IsNone ds → ⊥) (λ e k. k) (λ e k. k) h
+change_keeps : (s : Step) (f : Node → Node) (cs : Children) → IsNone (change_child s f cs) → IsNone cs
+change_keeps s f none h = tt
+change_keeps s f (child label n cs) h = cond_both (is_here s label) (child label (f n) cs) (child label n (change_child (further s) f cs)) (λ ds. IsNone ds → ⊥) (λ e k. k) (λ e k. k) h
 
-relabel_leaves : (s : Step) (f : Label → Label) (cs : Children) → IsNone (relabel_child s f cs) → IsNone cs
-relabel_leaves s f none h = tt
-relabel_leaves s f (child label n cs) h = cond_both (is_here s label) (child (f label) n cs) (child label n (relabel_child (further s) f cs)) (λ ds. IsNone ds → ⊥) (λ e k. k) (λ e k. k) h
+relabel_keeps : (s : Step) (f : Label → Label) (cs : Children) → IsNone (relabel_child s f cs) → IsNone cs
+relabel_keeps s f none h = tt
+relabel_keeps s f (child label n cs) h = cond_both (is_here s label) (child (f label) n cs) (child label n (relabel_child (further s) f cs)) (λ ds. IsNone ds → ⊥) (λ e k. k) (λ e k. k) h
 
-append_leaves : (label : Label) (v : Node) (cs : Children) → IsNone (append_child label v cs) → IsNone cs
-append_leaves label v none h = tt
-append_leaves label v (child first n cs) h = h
+append_keeps : (label : Label) (v : Node) (cs : Children) → IsNone (append_child label v cs) → IsNone cs
+append_keeps label v none h = tt
+append_keeps label v (child first n cs) h = h
 
-end_leaves : (g : Label → Label) (p : List Step) (n : Node) → IsNone (children_of (at_end (λ s. relabel_child s g) p n)) → IsNone (children_of n)
-end_leaves g [] n h = h
-end_leaves g (s ∷ []) n h = within_leaves (relabel_child s g) (relabel_leaves s g) n h
-end_leaves g (s ∷ (t ∷ p)) n h = within_leaves (change_child s (at_end (λ r. relabel_child r g) (t ∷ p))) (change_leaves s (at_end (λ r. relabel_child r g) (t ∷ p))) n h
+end_keeps : (g : Label → Label) (p : List Step) (n : Node) → IsNone (children_of (at_end (λ s. relabel_child s g) p n)) → IsNone (children_of n)
+end_keeps g [] n h = h
+end_keeps g (s ∷ []) n h = within_keeps (relabel_child s g) (relabel_keeps s g) n h
+end_keeps g (s ∷ (t ∷ p)) n h = within_keeps (change_child s (at_end (λ r. relabel_child r g) (t ∷ p))) (change_keeps s (at_end (λ r. relabel_child r g) (t ∷ p))) n h
 
-op_leaves : (block : Bool) (lead : List (List ℕ)) (op : Operation) → Leaves op → (n : Node) → IsNone (children_of (root_after block lead op n)) → IsNone (children_of n)
-op_leaves block lead (replace doc [] v) l n h = absurd (nil≢cons l.2)
-op_leaves block lead (replace doc (s ∷ p) v) l n h = within_leaves (change_child s (change p (replaced v))) (change_leaves s (change p (replaced v))) n h
-op_leaves block lead (append doc [] k v) l n h = within_leaves (append_child (new_label k) v) (append_leaves (new_label k) v) n h
-op_leaves block lead (append doc (s ∷ p) k v) l n h = within_leaves (change_child s (change p (within (append_child (new_label k) v)))) (change_leaves s (change p (within (append_child (new_label k) v)))) n h
-op_leaves block lead (remove doc path) l n h = absurd l
-op_leaves block lead (line_comment doc path text) l n h = end_leaves (with_line_comment (line_of text)) path n h
-op_leaves block lead (head_comment doc path text) l n h = end_leaves (with_head_comment (head_of text)) path n h
+op_keeps_some : (block : Bool) (lead : List (List ℕ)) (op : Operation) → KeepsSome op → (n : Node) → IsNone (children_of (root_after block lead op n)) → IsNone (children_of n)
+op_keeps_some block lead (replace doc [] v) l n h = absurd (nil≢cons l.2)
+op_keeps_some block lead (replace doc (s ∷ p) v) l n h = within_keeps (change_child s (change p (replaced v))) (change_keeps s (change p (replaced v))) n h
+op_keeps_some block lead (append doc [] k v) l n h = within_keeps (append_child (new_label k) v) (append_keeps (new_label k) v) n h
+op_keeps_some block lead (append doc (s ∷ p) k v) l n h = within_keeps (change_child s (change p (within (append_child (new_label k) v)))) (change_keeps s (change p (within (append_child (new_label k) v)))) n h
+op_keeps_some block lead (remove doc path) l n h = absurd l
+op_keeps_some block lead (line_comment doc path text) l n h = end_keeps (with_line_comment (line_of text)) path n h
+op_keeps_some block lead (head_comment doc path text) l n h = end_keeps (with_head_comment (head_of text)) path n h
 
-ops_leave : (block : Bool) (lead : List (List ℕ)) (ops : List Operation) → AllLeave ops → (n : Node) → IsNone (children_of (roots_after block lead ops n)) → IsNone (children_of n)
+ops_leave : (block : Bool) (lead : List (List ℕ)) (ops : List Operation) → AllKeepSome ops → (n : Node) → IsNone (children_of (roots_after block lead ops n)) → IsNone (children_of n)
 ops_leave block lead [] l n h = h
-ops_leave block lead (op ∷ ops) l n h = op_leaves block lead op l.0 n (ops_leave block lead ops l.1 (root_after block lead op n) h)
+ops_leave block lead (op ∷ ops) l n h = op_keeps_some block lead op l.0 n (ops_leave block lead ops l.1 (root_after block lead op n) h)
 
 led_under : (block : Bool) (lead other : List (List ℕ)) (p : List Step) (v : Node) → ((s : Step) × (q : List Step) × (p ≡ s ∷ q)) → led block lead p v ≡ led block other p v
 led_under block lead other [] v l = absurd (nil≢cons l.2)
 led_under block lead other (s ∷ p) v l = refl
 
-pub op_any_lead : (block : Bool) (lead other : List (List ℕ)) (op : Operation) → Leaves op → (n : Node) → root_after block lead op n ≡ root_after block other op n
+pub op_any_lead : (block : Bool) (lead other : List (List ℕ)) (op : Operation) → KeepsSome op → (n : Node) → root_after block lead op n ≡ root_after block other op n
 op_any_lead block lead other (replace doc path v) l n = ap (λ w. change path (replaced w) n) (led_under block lead other path v l)
 op_any_lead block lead other (append doc path k v) l n = refl
 op_any_lead block lead other (remove doc path) l n = refl
 op_any_lead block lead other (line_comment doc path text) l n = refl
 op_any_lead block lead other (head_comment doc path text) l n = refl
 
-ops_any_lead : (block : Bool) (lead other : List (List ℕ)) (ops : List Operation) → AllLeave ops → (n : Node) → roots_after block lead ops n ≡ roots_after block other ops n
+ops_any_lead : (block : Bool) (lead other : List (List ℕ)) (ops : List Operation) → AllKeepSome ops → (n : Node) → roots_after block lead ops n ≡ roots_after block other ops n
 ops_any_lead block lead other [] l n = refl
 ops_any_lead block lead other (op ∷ ops) l n = ap (roots_after block lead ops) (op_any_lead block lead other op l.0 n) ∙ ops_any_lead block lead other ops l.1 (root_after block other op n)
 
@@ -108,7 +108,7 @@ lead_twice true none none lead so = refl
 lead_twice true (child label n cs) none lead so = absurd (so tt)
 lead_twice false cs ds lead so = refl
 
-leaving : (block : Bool) (ops : List Operation) → AllLeave ops → (d : Document) → IsLed block d → document_after block ops d ≡ with_tree block (roots_after block d.lead ops d.root) d
+leaving : (block : Bool) (ops : List Operation) → AllKeepSome ops → (d : Document) → IsLed block d → document_after block ops d ≡ with_tree block (roots_after block d.lead ops d.root) d
 leaving block [] l d is = ap (λ (lead : List (List ℕ)). record d { lead = lead }) (sym is)
 leaving block (op ∷ ops) l d is =
     let root : Node = root_after block d.lead op d.root in
@@ -120,25 +120,25 @@ leaving block (op ∷ ops) l d is =
     ∙ ap (λ (n : Node). with_tree block n d) same)
 
 -- a change at the root is the only one, or each operation leaves items and entries
-abbrev pub PutsOrLeaves : ℕ → List Changed → Type 0
-PutsOrLeaves doc cs = ((v : Node) × (cs ≡ ([], replaces v) ∷ [])) ⊎ AllLeave (ops_of doc cs)
+abbrev pub PutsOrKeeps : ℕ → List Changed → Type 0
+PutsOrKeeps doc cs = ((v : Node) × (cs ≡ ([], replaces v) ∷ [])) ⊎ AllKeepSome (ops_of doc cs)
 
 path_end : (p : List Step) (s : Step) → (t : Step) × (q : List Step) × (p ++ s ∷ [] ≡ t ∷ q)
 path_end [] s = (s, [], refl)
 path_end (t ∷ p) s = (t, p ++ s ∷ [], refl)
 
-adds_leave : (doc : ℕ) (p : List Step) (xs : List Addition) → AllLeave (map (add_op doc p) xs)
+adds_leave : (doc : ℕ) (p : List Step) (xs : List Addition) → AllKeepSome (map (add_op doc p) xs)
 adds_leave doc p [] = tt
 adds_leave doc p (appends k v ∷ xs) = (tt, adds_leave doc p xs)
 adds_leave doc p (overwrites k v ∷ xs) = (path_end p (To k), adds_leave doc p xs)
 
 -- below the root each operation leaves them
-below_leaves : (doc : ℕ) (c : Changed) → ((s : Step) × (q : List Step) × (c.0 ≡ s ∷ q)) → IsKept c.1 → AllLeave (change_ops doc c)
-below_leaves doc (p, replaces v) b k = (b, tt)
-below_leaves doc (p, adds xs) b k = adds_leave doc p xs
-below_leaves doc (p, changes.removes) b k = absurd k
-below_leaves doc (p, sets_comment comments.Line text) b k = (tt, tt)
-below_leaves doc (p, sets_comment comments.Head text) b k = (tt, tt)
+below_keeps : (doc : ℕ) (c : Changed) → ((s : Step) × (q : List Step) × (c.0 ≡ s ∷ q)) → IsKept c.1 → AllKeepSome (change_ops doc c)
+below_keeps doc (p, replaces v) b k = (b, tt)
+below_keeps doc (p, adds xs) b k = adds_leave doc p xs
+below_keeps doc (p, changes.removes) b k = absurd k
+below_keeps doc (p, sets_comment comments.Line text) b k = (tt, tt)
+below_keeps doc (p, sets_comment comments.Head text) b k = (tt, tt)
 
 first_below : (p q : List Step) → Before p q → (s : Step) × (r : List Step) × (p ≡ s ∷ r)
 first_below [] q h = absurd h
@@ -149,27 +149,27 @@ second_below [] q h = absurd h
 second_below (t ∷ p) [] h = absurd h
 second_below (t ∷ p) (s ∷ q) h = (s, q, refl)
 
-all_below : (doc : ℕ) (p : List Step) (cs : List Changed) → ToEach Before p cs → AreKept cs → AllLeave (ops_of doc cs)
+all_below : (doc : ℕ) (p : List Step) (cs : List Changed) → ToEach Before p cs → AreKept cs → AllKeepSome (ops_of doc cs)
 all_below doc p [] h k = tt
-all_below doc p (c ∷ cs) h k = each_join Leaves (change_ops doc c) (ops_of doc cs) (below_leaves doc c (second_below p c.0 h.0) k.0) (all_below doc p cs h.1 k.1)
+all_below doc p (c ∷ cs) h k = each_join KeepsSome (change_ops doc c) (ops_of doc cs) (below_keeps doc c (second_below p c.0 h.0) k.0) (all_below doc p cs h.1 k.1)
 
-one_leaves : (doc : ℕ) (c : Changed) → IsKept c.1 → PutsOrLeaves doc (c ∷ [])
-one_leaves doc ([], replaces v) k = inl (v, refl)
-one_leaves doc (s ∷ p, replaces v) k = inr ((s, p, refl), tt)
-one_leaves doc (p, adds xs) k = inr (each_join Leaves (map (add_op doc p) xs) [] (adds_leave doc p xs) tt)
-one_leaves doc (p, changes.removes) k = absurd k
-one_leaves doc (p, sets_comment comments.Line text) k = inr (tt, tt)
-one_leaves doc (p, sets_comment comments.Head text) k = inr (tt, tt)
+one_keeps : (doc : ℕ) (c : Changed) → IsKept c.1 → PutsOrKeeps doc (c ∷ [])
+one_keeps doc ([], replaces v) k = inl (v, refl)
+one_keeps doc (s ∷ p, replaces v) k = inr ((s, p, refl), tt)
+one_keeps doc (p, adds xs) k = inr (each_join KeepsSome (map (add_op doc p) xs) [] (adds_leave doc p xs) tt)
+one_keeps doc (p, changes.removes) k = absurd k
+one_keeps doc (p, sets_comment comments.Line text) k = inr (tt, tt)
+one_keeps doc (p, sets_comment comments.Head text) k = inr (tt, tt)
 
-pub puts_or_leaves : (doc : ℕ) (cs : List Changed) → InPairs Before cs → AreKept cs → PutsOrLeaves doc cs
-puts_or_leaves doc [] h k = inr tt
-puts_or_leaves doc (c ∷ []) h k = one_leaves doc c k.0
-puts_or_leaves doc (c ∷ (d ∷ ds)) h k =
-    inr (each_join Leaves (change_ops doc c) (ops_of doc (d ∷ ds)) (below_leaves doc c (first_below c.0 d.0 h.0.0) k.0) (all_below doc c.0 (d ∷ ds) h.0 k.1))
+pub puts_or_keeps : (doc : ℕ) (cs : List Changed) → InPairs Before cs → AreKept cs → PutsOrKeeps doc cs
+puts_or_keeps doc [] h k = inr tt
+puts_or_keeps doc (c ∷ []) h k = one_keeps doc c k.0
+puts_or_keeps doc (c ∷ (d ∷ ds)) h k =
+    inr (each_join KeepsSome (change_ops doc c) (ops_of doc (d ∷ ds)) (below_keeps doc c (first_below c.0 d.0 h.0.0) k.0) (all_below doc c.0 (d ∷ ds) h.0 k.1))
 
 kept_document : (block : Bool) (doc : ℕ) (cs : List Changed) (d : Document) → IsLed block d → InPairs Before cs → AreKept cs →
     document_after block (ops_of doc cs) d ≡ with_tree block (roots_after block d.lead (ops_of doc cs) d.root) d
-kept_document block doc cs d is h k = elim (puts_or_leaves doc cs h k) [
+kept_document block doc cs d is h k = elim (puts_or_keeps doc cs h k) [
   | inl x ↦ subst (λ (xs : List Changed). document_after block (ops_of doc xs) d ≡ with_tree block (roots_after block d.lead (ops_of doc xs) d.root) d) (sym x.1) refl
   | inr l ↦ leaving block (ops_of doc cs) l d is
 ]
@@ -194,23 +194,23 @@ abbrev pub IsFirst : Node → List Changed → Type 0
 IsFirst root cs = FirstIn (children_of root) cs
 
 -- nothing is done at the first item or entry
-abbrev FirstFree : Deeds → Children → Type 0
+abbrev FirstFree : NodeEdits → Children → Type 0
 FirstFree f none = Unit {0}
 FirstFree f (child label n cs) = f (step_to 0 label ∷ []) ≡ None
 
 -- the lead that one tree gives is that of another which has the same first item or entry
-lead_kept : (block : Bool) (f : Deeds) (lead : List (List ℕ)) (cs ds : Children) → FirstFree f cs → ds ≡ each_at_once f 0 cs → lead_by block ds lead ≡ lead_by block cs lead
+lead_kept : (block : Bool) (f : NodeEdits) (lead : List (List ℕ)) (cs ds : Children) → FirstFree f cs → ds ≡ each_at_once f 0 cs → lead_by block ds lead ≡ lead_by block cs lead
 lead_kept block f lead none ds h is = ap (λ k. lead_by block k lead) is
 lead_kept block f lead (child label n cs) ds h is =
     ap (λ k. lead_by block k lead) is
-    ∙ (ap (λ (d : Option Deed). lead_by block (child_by d label (done_at d n (inside (under (step_to 0 label) f) n)) (each_at_once f 1 cs)) lead) h ∙ same block)
+    ∙ (ap (λ (d : Option NodeEdit). lead_by block (child_by d label (done_at d n (inside (under (step_to 0 label) f) n)) (each_at_once f 1 cs)) lead) h ∙ same block)
   where
     same : (b : Bool) → lead_by b (child label (inside (under (step_to 0 label) f) n) (each_at_once f 1 cs)) lead ≡ lead_by b (child label n cs) lead
     same true = refl
     same false = refl
 
-root_kept : (block : Bool) (f : Deeds) (lead : List (List ℕ)) (root : Node) → f [] ≡ None → FirstFree f (children_of root) → lead_by block (children_of (at_once f root)) lead ≡ lead_by block (children_of root) lead
-root_kept block f lead root free h = ap (λ (d : Option Deed). lead_by block (children_of (done_at d root (inside f root))) lead) free ∙ go root h
+root_kept : (block : Bool) (f : NodeEdits) (lead : List (List ℕ)) (root : Node) → f [] ≡ None → FirstFree f (children_of root) → lead_by block (children_of (at_once f root)) lead ≡ lead_by block (children_of root) lead
+root_kept block f lead root free h = ap (λ (d : Option NodeEdit). lead_by block (children_of (done_at d root (inside f root))) lead) free ∙ go root h
   where
     go : (n : Node) → FirstFree f (children_of n) → lead_by block (children_of (inside f n)) lead ≡ lead_by block (children_of n) lead
     go (alias name) h = refl
@@ -220,12 +220,12 @@ root_kept block f lead root free h = ap (λ (d : Option Deed). lead_by block (ch
 
 module _ (block : Bool) (doc : ℕ) (d : Document) (is : IsLed block d) (tree : IsTree d.root) where
   -- nothing is done at a path at which there is no change
-  not_done : (s : Step) (cs : List Changed) → NoneAt s cs → deeds_of block d.lead cs (s ∷ []) ≡ None
+  not_done : (s : Step) (cs : List Changed) → NoneAt s cs → node_edits_of block d.lead cs (s ∷ []) ≡ None
   not_done s [] h = refl
   not_done s (c ∷ cs) h =
-      cond_both (same_path c.0 (s ∷ [])) (Some (deed_of block d.lead c)) (deeds_of block d.lead cs (s ∷ [])) (λ x. x ≡ None) (λ e. absurd (h.0 (path_same c.0 (s ∷ []) e))) (λ e. not_done s cs h.1)
+      cond_both (same_path c.0 (s ∷ [])) (Some (node_edit_of block d.lead c)) (node_edits_of block d.lead cs (s ∷ [])) (λ x. x ≡ None) (λ e. absurd (h.0 (path_same c.0 (s ∷ []) e))) (λ e. not_done s cs h.1)
 
-  first_free : (kids : Children) (c : Changed) (cs : List Changed) → FirstIn kids (c ∷ cs) → FirstFree (deeds_of block d.lead cs) kids
+  first_free : (kids : Children) (c : Changed) (cs : List Changed) → FirstIn kids (c ∷ cs) → FirstFree (node_edits_of block d.lead cs) kids
   first_free none c cs h = tt
   first_free (child label n ds) c cs h = not_done (step_to 0 label) cs h
 
@@ -243,14 +243,14 @@ module _ (block : Bool) (doc : ℕ) (d : Document) (is : IsLed block d) (tree : 
 
   removed_document : (cs : List Changed) → InPairs Before cs → AreGone cs → IsFirst d.root cs → document_after block (ops_of doc (reverse cs)) d ≡ changed_at_once block cs d
   removed_document [] h g f =
-      ap (λ (lead : List (List ℕ)). record d { lead = lead }) (sym is) ∙ ap (λ (n : Node). with_tree block n d) (sym (idle (deeds_of block d.lead []) d.root (λ q. refl)))
+      ap (λ (lead : List (List ℕ)). record d { lead = lead }) (sym is) ∙ ap (λ (n : Node). with_tree block n d) (sym (idle (node_edits_of block d.lead []) d.root (λ q. refl)))
   removed_document (c ∷ cs) h g f =
-      let later : Deeds = deeds_of block d.lead cs in
+      let later : NodeEdits = node_edits_of block d.lead cs in
       let spared : AreSpared block d.lead (c ∷ cs) = spared_in_order block d.lead (c ∷ cs) h in
       let root : Node = at_once later d.root in
       let kept : lead_by block (children_of root) d.lead ≡ d.lead = root_kept block later d.lead d.root (spares_root later c.0 spared.0) (first_free (children_of d.root) c cs f) ∙ is in
-      let made : roots_after block d.lead (change_ops doc c) root ≡ at_once (deeds_of block d.lead (c ∷ cs)) d.root =
-      change_after block d.lead doc c root ∙ sym (one_more c.0 (deed_of block d.lead c) later d.root tree spared.0) in
+      let created : roots_after block d.lead (change_ops doc c) root ≡ at_once (node_edits_of block d.lead (c ∷ cs)) d.root =
+      change_after block d.lead doc c root ∙ sym (one_more c.0 (node_edit_of block d.lead c) later d.root tree spared.0) in
       ap (λ (xs : List Changed). document_after block (ops_of doc xs) d) (reverse-cons c cs)
       ∙ (ap (λ (ops : List Operation). document_after block ops d) (ops_join block d.lead doc (reverse cs) (c ∷ []))
       ∙ (document_join block (ops_of doc (reverse cs)) (change_ops doc c ++ []) d
@@ -258,7 +258,7 @@ module _ (block : Bool) (doc : ℕ) (d : Document) (is : IsLed block d) (tree : 
       ∙ (ap (λ (ops : List Operation). document_after block ops (with_tree block root d)) (append-nil (change_ops doc c))
       ∙ (ap (λ (lead : List (List ℕ)). document_after block (change_ops doc c) (record { lead = lead; root = root })) kept
       ∙ (gone_ops c d.lead g.0 root
-      ∙ ap (λ (n : Node). with_tree block n d) made))))))
+      ∙ ap (λ (n : Node). with_tree block n d) created))))))
 
   -- the operations of changes, one after the other, make all of them in a document
   pub document_folds : (removal : Bool) (cs : List Changed) → InPairs Before cs → MayFold removal cs → (removal ≡ true → IsFirst d.root cs) → document_after block (ops_of doc (ordered removal cs)) d ≡ changed_at_once block cs d

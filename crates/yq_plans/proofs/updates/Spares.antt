@@ -2,16 +2,16 @@
 use Rattle.std.proofs.Common.{◌≡◌, ℕ, suc, ◌<◌, List, [], ◌∷◌, Option, Some, None, refl, ap, ◌∙◌, inl, inr}
 use Rattle.yq_scalar.specs.Tree.{Label, Node, alias, scalar, list, Children, none, child, map}
 use Rattle.yq_scalar.specs.Paths.{Nth, Step}
-use Rattle.yq_meaning.specs.Deeds.{step_to, Deed, becomes, line, head, goes, Deeds, under, done_at, child_by, inside, each_at_once, at_once}
+use Rattle.yq_meaning.specs.NodeEdits.{step_to, NodeEdit, becomes, line, head, goes, NodeEdits, under, done_at, child_by, inside, each_at_once, at_once}
 use Rattle.yq_scalar.specs.PathOrder.{Before, Apart}
 use Rattle.yq_meaning.proofs.PathLaws.{before_not_in, before_under, apart_under, apart_root, apart_not_in}
 
 -- two functions that agree at each path
-pub deeds_same : (f g : Deeds) → ((q : List Step) → f q ≡ g q) → f ≡ g
-deeds_same f g h = λ i q. h q i
+pub node_edits_same : (f g : NodeEdits) → ((q : List Step) → f q ≡ g q) → f ≡ g
+node_edits_same f g h = λ i q. h q i
 
 -- What is done at a child leaves a child with the same key in front of those behind it, or these alone: so is what is so of both.
-pub child_kept_or_gone : (P : (Children → Children) → Type 0) (d : Option Deed) (label : Label) (m : Node) →
+pub child_kept_or_gone : (P : (Children → Children) → Type 0) (d : Option NodeEdit) (label : Label) (m : Node) →
     ((hc : List (List ℕ)) (lc : Option (List ℕ)) → P (λ rest. child (record { key = label.key; head_comment = hc; line_comment = lc }) m rest)) → (d ≡ Some goes → P (λ rest. rest)) → P (λ rest. child_by d label m rest)
 child_kept_or_gone P None label m kept gone = kept label.head_comment label.line_comment
 child_kept_or_gone P (Some (becomes g)) label m kept gone = kept label.head_comment label.line_comment
@@ -20,7 +20,7 @@ child_kept_or_gone P (Some (head texts)) label m kept gone = kept texts label.li
 child_kept_or_gone P (Some goes) label m kept gone = gone refl
 
 -- what is done at a path leaves another one's place where it is
-abbrev pub IsSpared : Option Deed → List Step → List Step → Type 0
+abbrev pub IsSpared : Option NodeEdit → List Step → List Step → Type 0
 IsSpared None p q = Unit {0}
 IsSpared (Some (becomes g)) p q = Apart p q
 IsSpared (Some (line text)) p q = Apart p q
@@ -28,31 +28,31 @@ IsSpared (Some (head texts)) p q = Apart p q
 IsSpared (Some goes) p q = Before p q
 
 -- the same of all that is done
-abbrev pub Spares : Deeds → List Step → Type 0
+abbrev pub Spares : NodeEdits → List Step → Type 0
 Spares f p = (q : List Step) → IsSpared (f q) p q
 
-spared_apart : (x : Deed) (p q : List Step) → IsSpared (Some x) p q → Apart p q
+spared_apart : (x : NodeEdit) (p q : List Step) → IsSpared (Some x) p q → Apart p q
 spared_apart (becomes g) p q h = h
 spared_apart (line text) p q h = h
 spared_apart (head texts) p q h = h
 spared_apart goes p q h = inl h
 
-spared_under : (s : Step) (p q : List Step) (d : Option Deed) → IsSpared d (s ∷ p) (s ∷ q) → IsSpared d p q
+spared_under : (s : Step) (p q : List Step) (d : Option NodeEdit) → IsSpared d (s ∷ p) (s ∷ q) → IsSpared d p q
 spared_under s p q None h = tt
 spared_under s p q (Some (becomes g)) h = apart_under s p q h
 spared_under s p q (Some (line text)) h = apart_under s p q h
 spared_under s p q (Some (head texts)) h = apart_under s p q h
 spared_under s p q (Some goes) h = before_under s p q h
 
-pub spares_under : (f : Deeds) (s : Step) (p : List Step) → Spares f (s ∷ p) → Spares (under s f) p
+pub spares_under : (f : NodeEdits) (s : Step) (p : List Step) → Spares f (s ∷ p) → Spares (under s f) p
 spares_under f s p h q = spared_under s p q (f (s ∷ q)) (h (s ∷ q))
 
 -- nothing is done at a place that is apart from none
-pub nothing : (d : Option Deed) (p q : List Step) → (Apart p q → ⊥) → IsSpared d p q → d ≡ None
+pub nothing : (d : Option NodeEdit) (p q : List Step) → (Apart p q → ⊥) → IsSpared d p q → d ≡ None
 nothing None p q never h = refl
 nothing (Some x) p q never h = absurd (never (spared_apart x p q h))
 
-pub spares_root : (f : Deeds) (p : List Step) → Spares f p → f [] ≡ None
+pub spares_root : (f : NodeEdits) (p : List Step) → Spares f p → f [] ≡ None
 spares_root f [] h = nothing (f []) [] [] (apart_root []) (h [])
 spares_root f (s ∷ p) h = nothing (f []) (s ∷ p) [] (apart_not_in s p) (h [])
 
@@ -64,21 +64,21 @@ spares_behind m i p (inr h) = absurd (before_not_in p h.1)
 -- ---- where nothing is done
 
 -- what is done at a child and under it
-abbrev pub child_done : Deeds → Label → Node → Children → Children
+abbrev pub child_done : NodeEdits → Label → Node → Children → Children
 child_done f label n rest = child_by (f []) label (at_once f n) rest
 
 mutual
-  idle_inside : (f : Deeds) (n : Node) → ((q : List Step) → f q ≡ None) → inside f n ≡ n
+  idle_inside : (f : NodeEdits) (n : Node) → ((q : List Step) → f q ≡ None) → inside f n ≡ n
   idle_inside f (alias name) h = refl
   idle_inside f (scalar anchor kind text) h = refl
   idle_inside f (list anchor cs) h = ap (list anchor) (idle_each f 0 cs h)
   idle_inside f (map anchor cs) h = ap (map anchor) (idle_each f 0 cs h)
 
-  idle_each : (f : Deeds) (i : ℕ) (cs : Children) → ((q : List Step) → f q ≡ None) → each_at_once f i cs ≡ cs
+  idle_each : (f : NodeEdits) (i : ℕ) (cs : Children) → ((q : List Step) → f q ≡ None) → each_at_once f i cs ≡ cs
   idle_each f i none h = refl
   idle_each f i (child label n cs) h =
-      ap (λ (d : Option Deed). child_by d label (done_at d n (inside (under (step_to i label) f) n)) (each_at_once f (suc i) cs)) (h (step_to i label ∷ []))
+      ap (λ (d : Option NodeEdit). child_by d label (done_at d n (inside (under (step_to i label) f) n)) (each_at_once f (suc i) cs)) (h (step_to i label ∷ []))
       ∙ (ap (λ m. child label m (each_at_once f (suc i) cs)) (idle_inside (under (step_to i label) f) n (λ q. h (step_to i label ∷ q))) ∙ ap (child label n) (idle_each f (suc i) cs h))
 
-pub idle : (f : Deeds) (n : Node) → ((q : List Step) → f q ≡ None) → at_once f n ≡ n
-idle f n h = ap (λ (d : Option Deed). done_at d n (inside f n)) (h []) ∙ idle_inside f n h
+pub idle : (f : NodeEdits) (n : Node) → ((q : List Step) → f q ≡ None) → at_once f n ≡ n
+idle f n h = ap (λ (d : Option NodeEdit). done_at d n (inside f n)) (h []) ∙ idle_inside f n h

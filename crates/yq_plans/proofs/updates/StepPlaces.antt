@@ -11,18 +11,18 @@ use Rattle.yq_scalar.specs.Paths.{To, Nth, child_at}
 use Rattle.yq_meaning.specs.declared.refusal.Refusal.{Refusal}
 use Rattle.yq_meaning.specs.declared.refusal.Refusal.TheVariants.{NotAMap, NotASequence}
 use Rattle.yq_meaning.specs.Judgement.{Judgement, and_then, gives}
-use Rattle.yq_meaning.specs.Matching.{Found, find, in_scalar, key_step, item_number, index_step}
+use Rattle.yq_meaning.specs.Matching.{ChildFound, find, in_scalar, key_step, item_number, index_step}
 use Rattle.yq_program.specs.Program.{Step, key, index, each}
 use Rattle.yq_meaning.specs.Places.{Place, child_place, found_place, all_steps, step_there, step_from, step_on}
 use Rattle.yq_meaning.specs.PlacesApart.{IsIn}
 use Rattle.yq_scalar.specs.Shapes.{IsTree}
 use Rattle.yq_meaning.proofs.JudgementLaws.{then_gives, gives_same}
-use Rattle.yq_meaning.proofs.GoodPlaces.{Leads, LeadsSo}
+use Rattle.yq_meaning.proofs.GoodPlaces.{LeadsInto, LeadsSo}
 use Rattle.yq_meaning.proofs.ChildPlaces.{leads_none, leads_missing, leads_child, leads_children}
 
 -- what a step finds is a child
-abbrev IsFound : Node → Judgement Found → Type 0
-IsFound n j = (x : Found) → j ≡ gives x → (y : paths.Step × Node) → x ≡ Some y → child_at y.0 (children_of n) ≡ Some y.1
+abbrev IsFound : Node → Judgement ChildFound → Type 0
+IsFound n j = (x : ChildFound) → j ≡ gives x → (y : paths.Step × Node) → x ≡ Some y → child_at y.0 (children_of n) ≡ Some y.1
 
 found_scalar : (why : Refusal) (kind : Kind) (n : Node) → IsFound n (in_scalar why kind)
 found_scalar why kinds.Null n x e y is = absurd (none-some _ (gives_same e ∙ is))
@@ -51,25 +51,25 @@ found_index i (list anchor cs) x e y is =
     let at = then_gives (λ (n : ℕ). gives (find (Nth n) cs)) (item_number i cs) x e in found_find (Nth at.0) (list anchor cs) x at.2 y is
 found_index i (tree.map anchor cs) x e y is = absurd (cc)
 
-leads_found : (root : Node) (p : Place) (s : Step) (j : Judgement Found) (qs : List Place) → IsTree p.node → IsIn root p → IsFound p.node j → and_then (λ x. gives (found_place s p x)) j ≡ gives qs → Leads root p qs
+leads_found : (root : Node) (p : Place) (s : Step) (j : Judgement ChildFound) (qs : List Place) → IsTree p.node → IsIn root p → IsFound p.node j → and_then (λ x. gives (found_place s p x)) j ≡ gives qs → LeadsInto root p qs
 leads_found root p s j qs tree at found h =
-    let x = then_gives (λ (x : Found). gives (found_place s p x)) j qs h in
-    subst (Leads root p) (gives_same x.2) (go x.0 (found x.0 x.1))
+    let x = then_gives (λ (x : ChildFound). gives (found_place s p x)) j qs h in
+    subst (LeadsInto root p) (gives_same x.2) (go x.0 (found x.0 x.1))
   where
-    go : (x : Found) → ((y : paths.Step × Node) → x ≡ Some y → child_at y.0 (children_of p.node) ≡ Some y.1) → Leads root p (found_place s p x)
+    go : (x : ChildFound) → ((y : paths.Step × Node) → x ≡ Some y → child_at y.0 (children_of p.node) ≡ Some y.1) → LeadsInto root p (found_place s p x)
     go None f = leads_missing root p s tree at
     go (Some y) f = leads_child root p y.0 y.1 tree at (f y refl)
 
-leads_all : (root : Node) (p : Place) (n : Node) → p.node ≡ n → IsTree p.node → IsIn root p → (qs : List Place) → and_then (λ xs. gives (map (child_place p) xs)) (all_steps n) ≡ gives qs → Leads root p qs
+leads_all : (root : Node) (p : Place) (n : Node) → p.node ≡ n → IsTree p.node → IsIn root p → (qs : List Place) → and_then (λ xs. gives (map (child_place p) xs)) (all_steps n) ≡ gives qs → LeadsInto root p qs
 leads_all root p (alias name) is tree at qs h = absurd (cc)
 leads_all root p (scalar anchor kind text) is tree at qs h =
     let x = then_gives (λ (xs : List (paths.Step × Node)). gives (map (child_place p) xs)) (all_steps (scalar anchor kind text)) qs h in
-    let y = then_gives (λ (nothing : Found). gives []) (in_scalar NotASequence kind) x.0 x.1 in
-    subst (Leads root p) (gives_same x.2) (subst (λ (xs : List (paths.Step × Node)). Leads root p (map (child_place p) xs)) (gives_same y.2) (leads_none root p))
+    let y = then_gives (λ (nothing : ChildFound). gives []) (in_scalar NotASequence kind) x.0 x.1 in
+    subst (LeadsInto root p) (gives_same x.2) (subst (λ (xs : List (paths.Step × Node)). LeadsInto root p (map (child_place p) xs)) (gives_same y.2) (leads_none root p))
 leads_all root p (list anchor cs) is tree at qs h =
-    subst (Leads root p) (gives_same h) (leads_children root p cs tree at (ap children_of is) (inl (subst IsTree is tree).0))
+    subst (LeadsInto root p) (gives_same h) (leads_children root p cs tree at (ap children_of is) (inl (subst IsTree is tree).0))
 leads_all root p (tree.map anchor cs) is tree at qs h =
-    subst (Leads root p) (gives_same h) (leads_children root p cs tree at (ap children_of is) (inr (subst IsTree is tree).0))
+    subst (LeadsInto root p) (gives_same h) (leads_children root p cs tree at (ap children_of is) (inr (subst IsTree is tree).0))
 
 leads_there : (root : Node) (s : Step) → LeadsSo root (step_there s)
 leads_there root (key k) p qs tree at h = leads_found root p (key k) (key_step k p.node) qs tree at (found_key k p.node) h
@@ -79,6 +79,6 @@ leads_there root each p qs tree at h = leads_all root p p.node refl tree at qs h
 pub leads_step : (root : Node) (s : Step) → LeadsSo root (step_on s)
 leads_step root s p qs tree at h = go p.missing h
   where
-    go : (missing : List Step) → step_from missing s p ≡ gives qs → Leads root p qs
+    go : (missing : List Step) → step_from missing s p ≡ gives qs → LeadsInto root p qs
     go [] e = leads_there root s p qs tree at e
-    go (m ∷ ms) e = subst (Leads root p) (gives_same e) (leads_missing root p s tree at)
+    go (m ∷ ms) e = subst (LeadsInto root p) (gives_same e) (leads_missing root p s tree at)

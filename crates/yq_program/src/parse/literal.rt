@@ -1,6 +1,6 @@
 //! Scalars and literals.
 ghost use Rattle.std.specs.Prelude.{◌≡◌, ◌<◌, codes, length, map, option_map, string_bytes, IfOk};
-ghost use Rattle.yq_program.specs.Given.{Reads, ReadsMaybe, Shortens, IsBefore, with_tokens};
+ghost use Rattle.yq_program.specs.ReadAnswers.{ReadsForm, ReadsMaybe, Shortens, IsShorter, with_tokens};
 ghost use Rattle.yq_program.specs.Lexing.{tokens};
 ghost use Rattle.yq_program.specs.Parse as spec;
 ghost use Rattle.yq_inline.specs.Values.{node_of, field_of};
@@ -15,7 +15,7 @@ use yq_scalar::{Scalar, are_distinct};
 /// A word for a scalar, if one is in front, and what follows it.
 fn word(text: &str) -> Option<(&'static str, &str)>
     ensures value { option_map (with_tokens (λ s. s.now)) result ≡ spec.word_at (tokens text.now) }
-    ensures shorter { IsBefore text.now result }
+    ensures shorter { IsShorter text.now result }
 {
     if let Some(rest) = after(text, "true") {
         return Some(("true", rest));
@@ -32,7 +32,7 @@ fn word(text: &str) -> Option<(&'static str, &str)>
 /// A scalar.
 #[tactic(auto, unfolding(crate::specs::Parse::scalar_at))]
 pub(super) fn scalar(alloc: Global, text: &str) -> Result<(Scalar, &str), ParseError>
-    ensures value { Reads (λ s. s) result (spec.scalar_at (tokens text.now)) }
+    ensures value { ReadsForm (λ s. s) result (spec.scalar_at (tokens text.now)) }
     ensures shorter { Shortens text.now result }
 {
     if let Some((digits, rest)) = number(text) {
@@ -68,7 +68,7 @@ fn keys_differ(alloc: Global, fields: &Vec<(String, Value)>) -> Result<bool, All
 
 /// A scalar as a value.
 fn scalar_value(alloc: Global, text: &str) -> Result<(Value, &str), ParseError>
-    ensures value { Reads node_of result (spec.scalar_node_at (tokens text.now)) }
+    ensures value { ReadsForm node_of result (spec.scalar_node_at (tokens text.now)) }
     ensures shorter { Shortens text.now result }
 {
     let (scalar, rest) = scalar(alloc, text)?;
@@ -79,7 +79,7 @@ fn scalar_value(alloc: Global, text: &str) -> Result<(Value, &str), ParseError>
 #[cycle(literal)]
 #[tactic(auto, unfolding(crate::specs::Parse::literal_at))]
 pub(super) fn literal(alloc: Global, text: &str, depth: usize) -> Result<(Value, &str), ParseError>
-    ensures value { Reads node_of result (spec.literal_at depth (tokens text.now)) }
+    ensures value { ReadsForm node_of result (spec.literal_at depth (tokens text.now)) }
     ensures shorter { Shortens text.now result }
 {
     if depth == 0 {
@@ -102,7 +102,7 @@ pub(super) fn literal(alloc: Global, text: &str, depth: usize) -> Result<(Value,
 /// The items of a list, from behind its opening bracket.
 #[cycle(literal)]
 fn list(alloc: Global, text: &str, depth: usize) -> Result<(Vec<Value>, &str), ParseError>
-    ensures value { Reads (λ v. map node_of v.items) result (spec.listed_at (codes "]")
+    ensures value { ReadsForm (λ v. map node_of v.items) result (spec.listed_at (codes "]")
         (spec.literal_at depth) (tokens text.now)) }
     ensures shorter { Shortens text.now result }
 {
@@ -116,7 +116,7 @@ fn list(alloc: Global, text: &str, depth: usize) -> Result<(Vec<Value>, &str), P
 
 #[cycle(literal)]
 fn items(alloc: Global, text: &str, depth: usize) -> Result<(Vec<Value>, &str), ParseError>
-    ensures value { Reads (λ v. map node_of v.items) result
+    ensures value { ReadsForm (λ v. map node_of v.items) result
         (spec.parted_at (codes ",") (spec.literal_at depth) (tokens text.now)) }
     ensures shorter { Shortens text.now result }
 {
@@ -139,7 +139,7 @@ fn items(alloc: Global, text: &str, depth: usize) -> Result<(Vec<Value>, &str), 
 fn next_item(alloc: Global, text: &str, depth: usize) -> Result<Option<(Value, &str)>, ParseError>
     ensures value { ReadsMaybe node_of result
         (spec.behind_at (codes ",") (spec.literal_at depth) (tokens text.now)) }
-    ensures shorter { IfOk result (λ o. IsBefore text.now o) }
+    ensures shorter { IfOk result (λ o. IsShorter text.now o) }
 {
     match after(text, ",") {
         Some(rest) => {
@@ -157,7 +157,7 @@ fn mapping(
     text: &str,
     depth: usize,
 ) -> Result<(Vec<(String, Value)>, &str), ParseError>
-    ensures value { Reads (λ v. map field_of v.items) result (spec.listed_at (codes "}") (spec.field_at (spec.literal_at depth)) (tokens text.now)) }
+    ensures value { ReadsForm (λ v. map field_of v.items) result (spec.listed_at (codes "}") (spec.field_at (spec.literal_at depth)) (tokens text.now)) }
     ensures shorter { Shortens text.now result }
 {
     if let Some(rest) = after(text, "}") {
@@ -174,7 +174,7 @@ fn fields(
     text: &str,
     depth: usize,
 ) -> Result<(Vec<(String, Value)>, &str), ParseError>
-    ensures value { Reads (λ v. map field_of v.items) result
+    ensures value { ReadsForm (λ v. map field_of v.items) result
         (spec.parted_at (codes ",") (spec.field_at (spec.literal_at depth)) (tokens text.now)) }
     ensures shorter { Shortens text.now result }
 {
@@ -201,7 +201,7 @@ fn next_field(
 ) -> Result<Option<((String, Value), &str)>, ParseError>
     ensures value { ReadsMaybe field_of result
         (spec.behind_at (codes ",") (spec.field_at (spec.literal_at depth)) (tokens text.now)) }
-    ensures shorter { IfOk result (λ o. IsBefore text.now o) }
+    ensures shorter { IfOk result (λ o. IsShorter text.now o) }
 {
     match after(text, ",") {
         Some(rest) => {
@@ -215,7 +215,7 @@ fn next_field(
 /// A string, `:` and a literal.
 #[cycle(literal)]
 fn field(alloc: Global, text: &str, depth: usize) -> Result<((String, Value), &str), ParseError>
-    ensures value { Reads field_of result (spec.field_at (spec.literal_at depth) (tokens text.now)) }
+    ensures value { ReadsForm field_of result (spec.field_at (spec.literal_at depth) (tokens text.now)) }
     ensures shorter { Shortens text.now result }
 {
     let (key, rest) = string(alloc, text)?;

@@ -1,6 +1,6 @@
 //! Conditions, stages and pipes.
 ghost use Rattle.std.specs.Prelude.{◌≡◌, ◌<◌, codes, length, map, option_map, IfOk};
-ghost use Rattle.yq_program.specs.Given.{Reads, ReadsMaybe, Shortens, IsBefore, with_tokens};
+ghost use Rattle.yq_program.specs.ReadAnswers.{ReadsForm, ReadsMaybe, Shortens, IsShorter, with_tokens};
 ghost use Rattle.yq_program.specs.Lexing.{tokens};
 ghost use Rattle.yq_program.specs.Parse as spec;
 ghost use Rattle.yq_program.specs.View.{operand_of, condition_of, stage_of};
@@ -15,7 +15,7 @@ use std::alloc::Global;
 /// What is compared.
 #[tactic(auto, using(crate::proofs::Lists::list_all_map), unfolding(crate::specs::Parse::operand_at))]
 fn operand(alloc: Global, text: &str) -> Result<(Operand, &str), ParseError>
-    ensures value { Reads operand_of result (spec.operand_at (tokens text.now)) }
+    ensures value { ReadsForm operand_of result (spec.operand_at (tokens text.now)) }
     ensures shorter { Shortens text.now result }
 {
     if let Some(rest) = after(text, "di") {
@@ -33,7 +33,7 @@ fn operand(alloc: Global, text: &str) -> Result<(Operand, &str), ParseError>
 
 /// `==`, which is true, or `!=`.
 fn comparison(text: &str) -> Result<(bool, &str), ParseError>
-    ensures value { Reads (λ b. b) result (spec.comparison_at (tokens text.now)) }
+    ensures value { ReadsForm (λ b. b) result (spec.comparison_at (tokens text.now)) }
     ensures shorter { Shortens text.now result }
 {
     if let Some(rest) = after(text, "==") {
@@ -46,7 +46,7 @@ fn comparison(text: &str) -> Result<(bool, &str), ParseError>
 /// A condition.
 #[tactic(auto, unfolding(crate::specs::Parse::condition_at))]
 fn condition(alloc: Global, text: &str) -> Result<(Condition, &str), ParseError>
-    ensures value { Reads condition_of result (spec.condition_at (tokens text.now)) }
+    ensures value { ReadsForm condition_of result (spec.condition_at (tokens text.now)) }
     ensures shorter { Shortens text.now result }
 {
     if let Some(rest) = after(text, "has") {
@@ -71,7 +71,7 @@ fn condition(alloc: Global, text: &str) -> Result<(Condition, &str), ParseError>
 /// A stage of a pipe.
 #[tactic(auto, unfolding(crate::specs::Parse::stage_at))]
 fn stage(alloc: Global, text: &str) -> Result<(Stage, &str), ParseError>
-    ensures value { Reads stage_of result (spec.stage_at (tokens text.now)) }
+    ensures value { ReadsForm stage_of result (spec.stage_at (tokens text.now)) }
     ensures shorter { Shortens text.now result }
 {
     if let Some(rest) = after(text, "select") {
@@ -88,7 +88,7 @@ fn stage(alloc: Global, text: &str) -> Result<(Stage, &str), ParseError>
 fn next_stage(alloc: Global, text: &str) -> Result<Option<(Stage, &str)>, ParseError>
     ensures value { ReadsMaybe stage_of result
         (spec.behind_at (codes "|") spec.stage_at (tokens text.now)) }
-    ensures shorter { IfOk result (λ o. IsBefore text.now o) }
+    ensures shorter { IfOk result (λ o. IsShorter text.now o) }
 {
     match after(text, "|") {
         Some(rest) => {
@@ -102,7 +102,7 @@ fn next_stage(alloc: Global, text: &str) -> Result<Option<(Stage, &str)>, ParseE
 /// A pipe: its stages.
 #[tactic(auto, unfolding(crate::specs::Parse::pipe_at))]
 pub(super) fn pipe(alloc: Global, text: &str) -> Result<(Vec<Stage>, &str), ParseError>
-    ensures value { Reads (λ v. map stage_of v.items) result (spec.pipe_at (tokens text.now)) }
+    ensures value { ReadsForm (λ v. map stage_of v.items) result (spec.pipe_at (tokens text.now)) }
     ensures shorter { Shortens text.now result }
 {
     let (first, mut rest) = stage(alloc, text)?;
@@ -122,7 +122,7 @@ pub(super) fn pipe(alloc: Global, text: &str) -> Result<(Vec<Stage>, &str), Pars
 /// The left side of an update: a path, or a pipe in parentheses.
 #[tactic(auto, unfolding(crate::specs::Parse::left_at))]
 pub(super) fn left(alloc: Global, text: &str) -> Result<(Vec<Stage>, &str), ParseError>
-    ensures value { Reads (λ v. map stage_of v.items) result (spec.left_at (tokens text.now)) }
+    ensures value { ReadsForm (λ v. map stage_of v.items) result (spec.left_at (tokens text.now)) }
     ensures shorter { Shortens text.now result }
 {
     if let Some(rest) = after(text, "(") {

@@ -1,6 +1,6 @@
 //! Updates.
 ghost use Rattle.std.specs.Prelude.{◌≡◌, ◌<◌, codes, length, map, option_map, string_bytes, IfOk};
-ghost use Rattle.yq_program.specs.Given.{Reads, ReadsMaybe, Shortens, IsBefore, with_tokens};
+ghost use Rattle.yq_program.specs.ReadAnswers.{ReadsForm, ReadsMaybe, Shortens, IsShorter, with_tokens};
 ghost use Rattle.yq_program.specs.Grammar.{literal_depth};
 ghost use Rattle.yq_program.specs.Lexing.{tokens};
 ghost use Rattle.yq_program.specs.Parse as spec;
@@ -33,7 +33,7 @@ fn begins_left(text: &str) -> bool
 /// A term of a sum.
 #[tactic(auto, unfolding(crate::specs::Parse::term_at))]
 fn term(alloc: Global, text: &str) -> Result<(Term, &str), ParseError>
-    ensures value { Reads term_of result (spec.term_at literal_depth (tokens text.now)) }
+    ensures value { ReadsForm term_of result (spec.term_at literal_depth (tokens text.now)) }
     ensures shorter { Shortens text.now result }
 {
     if begins_left(text) {
@@ -48,7 +48,7 @@ fn term(alloc: Global, text: &str) -> Result<(Term, &str), ParseError>
 fn next_term(alloc: Global, text: &str) -> Result<Option<(Term, &str)>, ParseError>
     ensures value { ReadsMaybe term_of result
         (spec.behind_at (codes "+") (spec.term_at literal_depth) (tokens text.now)) }
-    ensures shorter { IfOk result (λ o. IsBefore text.now o) }
+    ensures shorter { IfOk result (λ o. IsShorter text.now o) }
 {
     match after(text, "+") {
         Some(rest) => {
@@ -62,7 +62,7 @@ fn next_term(alloc: Global, text: &str) -> Result<Option<(Term, &str)>, ParseErr
 /// A sum: its terms.
 #[tactic(auto, unfolding(crate::specs::Parse::right_at))]
 fn right(alloc: Global, text: &str) -> Result<(Vec<Term>, &str), ParseError>
-    ensures value { Reads (λ v. map term_of v.items) result
+    ensures value { ReadsForm (λ v. map term_of v.items) result
         (spec.right_at literal_depth (tokens text.now)) }
     ensures shorter { Shortens text.now result }
 {
@@ -83,7 +83,7 @@ fn right(alloc: Global, text: &str) -> Result<(Vec<Term>, &str), ParseError>
 /// The operator of an assignment, if one is in front.
 fn operator(text: &str) -> Option<(Operator, &str)>
     ensures value { option_map (with_tokens (λ o. o)) result ≡ spec.operator_at (tokens text.now) }
-    ensures shorter { IsBefore text.now result }
+    ensures shorter { IsShorter text.now result }
 {
     if let Some(rest) = after(text, "=") {
         return Some((Operator::Set, rest));
@@ -99,7 +99,7 @@ fn operator(text: &str) -> Option<(Operator, &str)>
 
 /// The place of a comment.
 fn place(text: &str) -> Result<(CommentPlace, &str), ParseError>
-    ensures value { Reads (λ p. p) result (spec.place_at (tokens text.now)) }
+    ensures value { ReadsForm (λ p. p) result (spec.place_at (tokens text.now)) }
     ensures shorter { Shortens text.now result }
 {
     if let Some(rest) = after(text, "line_comment") {
@@ -112,7 +112,7 @@ fn place(text: &str) -> Result<(CommentPlace, &str), ParseError>
 /// What is done with what `left` finds.
 #[tactic(auto, unfolding(crate::specs::Parse::action_at))]
 fn action(alloc: Global, left: Vec<Stage>, text: &str) -> Result<(Update, &str), ParseError>
-    ensures value { Reads update_of result (spec.action_at literal_depth (map stage_of left.items)
+    ensures value { ReadsForm update_of result (spec.action_at literal_depth (map stage_of left.items)
         (tokens text.now)) }
     ensures shorter { Shortens text.now result }
 {
@@ -136,7 +136,7 @@ fn action(alloc: Global, left: Vec<Stage>, text: &str) -> Result<(Update, &str),
 /// An update.
 #[tactic(auto, unfolding(crate::specs::Parse::update_at))]
 fn update(alloc: Global, text: &str) -> Result<(Update, &str), ParseError>
-    ensures value { Reads update_of result (spec.update_at literal_depth (tokens text.now)) }
+    ensures value { ReadsForm update_of result (spec.update_at literal_depth (tokens text.now)) }
     ensures shorter { Shortens text.now result }
 {
     if let Some(rest) = after(text, "del") {
@@ -153,7 +153,7 @@ fn update(alloc: Global, text: &str) -> Result<(Update, &str), ParseError>
 fn next_update(alloc: Global, text: &str) -> Result<Option<(Update, &str)>, ParseError>
     ensures value { ReadsMaybe update_of result
         (spec.behind_at (codes "|") (spec.update_at literal_depth) (tokens text.now)) }
-    ensures shorter { IfOk result (λ o. IsBefore text.now o) }
+    ensures shorter { IfOk result (λ o. IsShorter text.now o) }
 {
     match after(text, "|") {
         Some(rest) => {
@@ -166,7 +166,7 @@ fn next_update(alloc: Global, text: &str) -> Result<Option<(Update, &str)>, Pars
 
 /// Updates, one after the other.
 pub(super) fn updates(alloc: Global, text: &str) -> Result<(Vec<Update>, &str), ParseError>
-    ensures value { Reads (λ v. map update_of v.items) result
+    ensures value { ReadsForm (λ v. map update_of v.items) result
         (spec.parted_at (codes "|") (spec.update_at literal_depth) (tokens text.now)) }
     ensures shorter { Shortens text.now result }
 {

@@ -16,7 +16,7 @@ use Rattle.yq_rows.proofs.RowAgain.{white_spaces}
 
 past_line : (white comment p rest : List ℕ) (h : IsLineEnd white comment p rest) → (past_white p ≡ comment ++ h.break) × ((ends_line (comment ++ h.break) || is_hash (comment ++ h.break)) ≡ true)
 past_line white comment p rest h =
-    let parts = Rattle.yq_rows.proofs.LineEnds.behind_comment comment h.break [] h.remark (⊎_elim {0, 0, 0} (λ e. inl e) (λ e. inr (e.0, refl)) h.ends) in
+    let parts = Rattle.yq_rows.proofs.LineEnds.behind_comment comment h.break [] h.as_comment (⊎_elim {0, 0, 0} (λ e. inl e) (λ e. inr (e.0, refl)) h.ends) in
     let none : comment ++ (h.break ++ []) ≡ comment ++ h.break = ap (λ l. comment ++ l) (append-nil h.break) in
     let first : no_white (comment ++ h.break) ≡ true = ap no_white (sym none) ∙ parts.0 in
     let past : past_white (white ++ (comment ++ h.break)) ≡ comment ++ h.break = ap (λ (y : List ℕ × List ℕ). y.1) (white_again white (comment ++ h.break) h.blank first) in
@@ -43,7 +43,7 @@ line_is l rest h = ⊎_elim {0, 0, 0}
     (λ e. inl (line_by_break h.white h.comment l rest h.line ∙ (and_parts (is_break h.line.break) (is_line h.line.break) e).1))
     (λ e.
     let is : l ≡ h.white ++ h.comment = h.line.spelled ∙ (ap (λ x. h.white ++ (h.comment ++ x)) e.0 ∙ ap (λ x. h.white ++ x) (append-nil h.comment)) in
-    let none = white_none h.white h.comment h.line.break h.line.blank (comment_none h.comment h.line.break h.line.remark) in
+    let none = white_none h.white h.comment h.line.break h.line.blank (comment_none h.comment h.line.break h.line.as_comment) in
     inr (e.1, subst (λ (x : List ℕ). NoneIn ends_line x []) (sym is) (subst (NoneIn ends_line (h.white ++ h.comment)) e.0 none)))
     h.line.ends
 
@@ -107,14 +107,14 @@ blank_line : (m : ℕ) (l old new : List ℕ) → IsGapLine l old → (old ≡ [
 blank_line m l old new h none =
     let break : IsBreak h.line.break new = ⊎_elim {0, 0, 0} (λ e. inl e) (λ e. inr (e.0, none e.1)) h.line.ends in
     cond_both (is_short m l) l (past_white l) (λ x. EndOf x new)
-    (λ _. (h.white, h.comment, record { break = h.line.break; spelled = h.line.spelled; blank = h.line.blank; remark = h.line.remark; ends = break }))
-    (λ _. ([], h.comment, record { break = h.line.break; spelled = (past_line h.white h.comment l old h.line).0; blank = tt; remark = h.line.remark; ends = break }))
+    (λ _. (h.white, h.comment, record { break = h.line.break; spelled = h.line.spelled; blank = h.line.blank; as_comment = h.line.as_comment; ends = break }))
+    (λ _. ([], h.comment, record { break = h.line.break; spelled = (past_line h.white h.comment l old h.line).0; blank = tt; as_comment = h.line.as_comment; ends = break }))
 
 comment_line : (m column : ℕ) (l rest : List ℕ) → IsGapLine l rest → EndOf (repaired_comment m column l) rest
 comment_line m column l rest h =
     cond_both (is_outside m l) l (replicate column 32 ++ past_white l) (λ x. EndOf x rest)
     (λ _. (h.white, h.comment, h.line))
-    (λ _. (replicate column 32, h.comment, record { break = h.line.break; spelled = ap (λ x. replicate column 32 ++ x) (past_line h.white h.comment l rest h.line).0; blank = white_spaces column; remark = h.line.remark; ends = h.line.ends }))
+    (λ _. (replicate column 32, h.comment, record { break = h.line.break; spelled = ap (λ x. replicate column 32 ++ x) (past_line h.white h.comment l rest h.line).0; blank = white_spaces column; as_comment = h.line.as_comment; ends = h.line.ends }))
 
 pub repaired_gap : (keep : Bool) (m column : ℕ) (ls : Lines) (rest : List ℕ) → AreGapLines ls rest → IsGap (joined (repair keep m column ls)) rest
 unfolding repair

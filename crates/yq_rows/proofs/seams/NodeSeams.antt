@@ -4,7 +4,7 @@ use Rattle.std.proofs.lemmas.Bool.{false≢true, not-true, or_cases, cases_Bool,
 use Rattle.yq_scalar.specs.Plain.{ends_plain}
 use Rattle.yq_scalar.specs.Text.{is_empty, is_white, is_space, separates, unless, NoneIn, no_white}
 use Rattle.yq_inline.specs.Nodes.{Key, bare, keyed, Sep, last, comma, Node, empty, alias, scalar, coll, anchored, Items, none, item, key_text, sep_text, node_text, items_text, first_is, is_close, in_name, begins_content, IsLead, IsName, is_bare, IsNode}
-use Rattle.yq_inline.specs.Scalars.{IsScalar}
+use Rattle.yq_inline.specs.Scalars.{IsScalarAt}
 use Rattle.yq_inline.specs.Alike.{Alike, byte, after}
 use Rattle.yq_rows.specs.Grammar.{is_plain}
 use Rattle.yq_inline.proofs.Alikes.{alike_append}
@@ -37,7 +37,7 @@ abbrev pub Kept : Option ℕ → ℕ → Node → List ℕ → List ℕ → Type
 Kept spaces d node t u = IsNode false spaces d node u × (is_bare node ≡ false → Alike (Some false) (node_text node t) (node_text node u))
 
 -- scalars
-scalar_seam : (spaces : Option ℕ) (p t u : List ℕ) → Behind spaces (scalar p) t u → IsScalar false spaces p t → IsScalar false spaces p u × Alike (Some false) (p ++ t) (p ++ u)
+scalar_seam : (spaces : Option ℕ) (p t u : List ℕ) → Behind spaces (scalar p) t u → IsScalarAt false spaces p t → IsScalarAt false spaces p u × Alike (Some false) (p ++ t) (p ++ u)
 scalar_seam spaces p t u h (inl g) =
     let ends : ends_plain false spaces u ≡ true = h.ends (ap not (plain_unquoted spaces p t g)) in
     let kept = plain_seam spaces p t u h.was h.apart h.joint ends g in

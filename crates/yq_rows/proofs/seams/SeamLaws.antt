@@ -30,7 +30,7 @@ no_line = refl
 -- the end of a line by its break
 pub line_by_break : (white comment tail t : List ℕ) (h : IsLineEnd white comment tail t) → is_line tail ≡ is_line h.break
 line_by_break white comment tail t h =
-    ap is_line (h.spelled ∙ sym (append_assoc white comment h.break)) ∙ text_line (white ++ comment) h.break (white_none white comment h.break h.blank (comment_none comment h.break h.remark))
+    ap is_line (h.spelled ∙ sym (append_assoc white comment h.break)) ∙ text_line (white ++ comment) h.break (white_none white comment h.break h.blank (comment_none comment h.break h.as_comment))
 
 -- a tail without a break is at the end of the text
 pub tail_line : (tail t : List ℕ) → IsTail tail t → (is_line tail ≡ true) ⊎ (t ≡ [])
@@ -49,7 +49,7 @@ closed_end false u h e = empty_is u h
 pub tail_kept : (tail t u : List ℕ) → is_closed tail u ≡ true → IsTail tail t → IsTail tail u
 tail_kept tail t u c h =
     let ends : IsBreak h.line.break u = ⊎_elim {0, 0, 0} (λ e. inl e) (λ e. inr (e.0, closed_end (is_line tail) u c (tail_no_line tail t h e.0))) h.line.ends in
-    record { white = h.white; comment = h.comment; line = record { break = h.line.break; spelled = h.line.spelled; blank = h.line.blank; remark = h.line.remark; ends = ends }; apart = h.apart }
+    record { white = h.white; comment = h.comment; line = record { break = h.line.break; spelled = h.line.spelled; blank = h.line.blank; as_comment = h.line.as_comment; ends = ends }; apart = h.apart }
 
 joint_tail : (p tail t u : List ℕ) → is_closed tail u ≡ true → IsTail tail t → Joint p (tail ++ t) (tail ++ u)
 joint_tail p (b ∷ tail) t u c h = inl refl

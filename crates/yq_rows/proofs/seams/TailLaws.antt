@@ -92,11 +92,11 @@ tail_closed tail break u b bare pairs h = ⊎_elim {0, 0, 0}
     (λ e.
     let is : tail ≡ h.white ++ h.comment = h.line.spelled ∙ (ap (λ l. h.white ++ (h.comment ++ l)) e.0 ∙ ap (λ l. h.white ++ l) (append-nil h.comment)) in
     let none : ends_return h.comment ≡ false = no_end_return h.comment (pairs_back h.white h.comment (ap pairs_returns (sym is) ∙ pairs)) in
-    let remark : IsComment h.comment [] = subst (IsComment h.comment) e.0 h.line.remark in
+    let as_comment : IsComment h.comment [] = subst (IsComment h.comment) e.0 h.line.as_comment in
     record {
       white = h.white;
       comment = h.comment;
-      line = record { break = break; spelled = ap (λ l. l ++ break) is ∙ append_assoc h.white h.comment break; blank = h.line.blank; remark = comment_closed h.comment break remark none; ends = inl b };
+      line = record { break = break; spelled = ap (λ l. l ++ break) is ∙ append_assoc h.white h.comment break; blank = h.line.blank; as_comment = comment_closed h.comment break as_comment none; ends = inl b };
       apart = h.apart;
     })
     h.line.ends

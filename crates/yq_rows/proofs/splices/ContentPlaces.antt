@@ -4,7 +4,7 @@ use Rattle.std.proofs.Math.Dec.{ltb}
 use Rattle.std.proofs.lemmas.Bool.{false≢true, ltb-true, ltb-false, cases_Bool}
 use Rattle.std.specs.List.{slice_get}
 use Rattle.yq_rows.specs.Counted.{RowPlace}
-use Rattle.yq_rows.specs.Exchange.{with_content, with_content_at, with_content_in, exchange, behind_at, behind_row, rows_behind, allows_first, Fits}
+use Rattle.yq_rows.specs.Exchange.{with_content, with_content_at, with_content_in, exchange, behind_at, behind_row, rows_behind, allows_first, FitsRow}
 use Rattle.yq_rows.specs.Grammar.{IsMark, may_be_alone, is_entry, IsRow, Limit, limit_after, IsCut}
 use Rattle.yq_rows.specs.Rows.{Mark, Bare, Dash, Key, Content, Row, behind_gap, rows_text, Part, Cut, last, marked, cut_text}
 use Rattle.yq_rows.specs.Splices.{with_first_gap, first_gap, splice_part, asked_at, rest_behind, CutsItsText}
@@ -96,7 +96,7 @@ exchanged_by t c i r new h is row next =
     let allowed : allows_first (limit_after s) p.back ≡ true = ap (allows_first (limit_after s)) (sym p.rows) ∙ next in
     subst CutsItsText (sym (p.exchanged new)) (row_exchanged t c p.part p.front r p.back s h p.stands (record { gap = refl; column = refl; row = there; next = allowed }))
 
-pub content_exchanged : (t : List ℕ) (c : Cut) (i : ℕ) (r : Row) (new : Content) → IsCut t c → slice_get (rows_of c) i ≡ Some r → Fits new r (behind_row i c) (rows_behind i c) → CutsItsText (exchange i new c)
+pub content_exchanged : (t : List ℕ) (c : Cut) (i : ℕ) (r : Row) (new : Content) → IsCut t c → slice_get (rows_of c) i ≡ Some r → FitsRow new r (behind_row i c) (rows_behind i c) → CutsItsText (exchange i new c)
 content_exchanged t c i r new h is f = exchanged_by t c i r new h is (λ limit row. (one_row limit r new (behind_row i c) (behind_row i c) row f.entry f.content f.apart).row) f.next
 
 -- a row with neither a dash nor a key

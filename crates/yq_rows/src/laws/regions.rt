@@ -2,22 +2,22 @@
 ghost use Rattle.std.specs.Prelude.{◌≡◌, ◌≤◌, ℕ, List, [], ◌++◌, Bool};
 ghost use Rattle.yq_rows.specs.Grammar.{AreParts, unlimited};
 ghost use Rattle.yq_rows.specs.ItemSplices.{SplicedItems};
-ghost use Rattle.yq_rows.specs.Items.{Asked, AreItems, Item, asked_of, items_of, items_text, shown_items};
+ghost use Rattle.yq_rows.specs.Items.{Asked, AreRowItems, Item, asked_of, items_of, items_text, view_of_items};
 ghost use Rattle.yq_rows.specs.Regions.{IsReadAlone, StandIn, ended};
 ghost use Rattle.yq_rows.specs.Rows.{Cut, Row, cut_text};
-ghost use Rattle.yq_rows.specs.View.{shown};
+ghost use Rattle.yq_rows.specs.View.{rows_view};
 
 /// The rows and ends of a cut are its text, and what the code lends of it; each is one behind those
 /// in front of it.
 pub fn items_are()
     ensures text { (c : Cut) → items_text (items_of c) [] ≡ cut_text c }
-    ensures lent { (c : Cut) → shown_items (items_of c) ≡ shown c }
+    ensures sliced { (c : Cut) → view_of_items (items_of c) ≡ rows_view c }
     ensures grammar { (c : Cut) (started : Bool) → AreParts started c →
-        AreItems (record { limit = unlimited; started = started }) (items_of c) [] }
+        AreRowItems (record { limit = unlimited; started = started }) (items_of c) [] }
     ensures joined { (xs ys : List Item) (rest : List ℕ) →
         items_text (xs ++ ys) rest ≡ items_text xs (items_text ys rest) }
     ensures behind { (xs ys : List Item) (asked : Asked) (rest : List ℕ) →
-        AreItems asked (xs ++ ys) rest → AreItems (asked_of asked xs) ys rest }
+        AreRowItems asked (xs ++ ys) rest → AreRowItems (asked_of asked xs) ys rest }
 {}
 
 /// Rows and ends of a cut, read alone, are the same, whatever stands in front of them and behind;

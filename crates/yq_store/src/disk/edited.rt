@@ -21,7 +21,7 @@ use std::{fs, io};
 
 /// A file that is locked, as it was when it was read.
 #[derive(Drop)]
-pub struct Edited {
+pub struct EditedFile {
     pub path: PathBuf,
     pub lock: File,
     pub state: FileState,
@@ -30,27 +30,27 @@ pub struct Edited {
 
 /// Where a write goes, and the rights of what it writes.
 #[derive(Drop)]
-pub struct Place {
+pub struct WriteTarget {
     pub path: PathBuf,
     pub rights: Rights,
 }
 
-/// Locks the file to which a name leads, and reads it. Where `tells` is set, a run that waits for the
+/// Locks the file to which a name leads, and reads it. Where `reports` is set, a run that waits for the
 /// lock for longer than a second tells it.
 pub fn read_edited<R: Files<File = File> + Clock + Eprint + Alloc<A = Global>>(
     rt: &R,
     alloc: Global,
     name: &str,
     purpose: Purpose,
-    tells: bool,
-) -> io::Result<(Vec<u8>, Edited)> {
-    let OpenedFile { path, file } = locked_file(rt, name, purpose, tells)?;
+    reports: bool,
+) -> io::Result<(Vec<u8>, EditedFile)> {
+    let OpenedFile { path, file } = locked_file(rt, name, purpose, reports)?;
     let found = file.metadata()?;
     if purpose == Purpose::Replay {
         check_length(&found)?;
     }
     let text = read_text(alloc, &file)?;
-    let edited = Edited {
+    let edited = EditedFile {
         path,
         lock: file,
         state: FileState::of(&found),
@@ -60,9 +60,12 @@ pub fn read_edited<R: Files<File = File> + Clock + Eprint + Alloc<A = Global>>(
 }
 
 /// Where the new bytes of the file itself go.
-pub fn own_place<R: Files + Alloc<A = Global>>(rt: &R, edited: &Edited) -> io::Result<Place> {
+pub fn own_place<R: Files + Alloc<A = Global>>(
+    rt: &R,
+    edited: &EditedFile,
+) -> io::Result<WriteTarget> {
     match old_file(rt, &edited.path)? {
-        Some(old) => Ok(Place {
+        Some(old) => Ok(WriteTarget {
             path: edited.path.to_path_buf(rt.alloc())?,
             rights: Rights::of(&old),
         }),
@@ -73,22 +76,22 @@ pub fn own_place<R: Files + Alloc<A = Global>>(rt: &R, edited: &Edited) -> io::R
 /// Where the bytes of the file's journal go.
 pub fn journal_place<R: Files + Alloc<A = Global>>(
     rt: &R,
-    edited: &Edited,
+    edited: &EditedFile,
     name: &str,
-) -> io::Result<Place> {
+) -> io::Result<WriteTarget> {
     let target = target_of(rt, name)?;
     let rights = journal_rights(rt, &target, edited.trust, &edited.path)?;
     let Target { path, .. } = target;
-    Ok(Place { path, rights })
+    Ok(WriteTarget { path, rights })
 }
 
 /// Before the first write: that the file and what is to be written may both be replaced, and that
 /// the name still leads to the file as it was read. Then what cut runs left beside these goes.
 pub fn check_first<R: Files<File = File> + Clock + Alloc<A = Global>>(
     rt: &R,
-    edited: &Edited,
+    edited: &EditedFile,
     name: &str,
-    place: &Place,
+    place: &WriteTarget,
 ) -> io::Result<()> {
     check_replaceable(rt, &edited.path)?;
     check_replaceable(rt, &place.path)?;

@@ -16,7 +16,7 @@ use std::{fs, io, thread};
 const MOST_TRIES: u32 = 12_000;
 
 /// After how many tries a run tells for what it waits: about a second.
-const QUIET_TRIES: u32 = 200;
+const SILENT_TRIES: u32 = 200;
 
 /// The pause between two tries, in milliseconds.
 const PAUSE: u64 = 5;
@@ -74,20 +74,20 @@ fn is_at<R: Files>(rt: &R, file: &File, name: &str) -> io::Result<bool> {
 }
 
 /// Tells on standard error for what a run waits.
-fn tell_waiting<R: Eprint>(rt: &R, name: &str) {
-    let _told = eprintln!(rt; "yq: waiting for another run at {name:?}");
+fn report_waiting<R: Eprint>(rt: &R, name: &str) {
+    let _reported = eprintln!(rt; "yq: waiting for another run at {name:?}");
 }
 
 /// Opens and locks the file to which a name leads; where another run keeps the lock for too long,
 /// that is an error. Where the name leads to another file once the lock is had, since a run that
 /// held it put that there, it begins again. The lock goes when the file is closed, also when a run
 /// is killed. On a file system without locks the file is open and not locked.
-/// Where `tells` is set, a run that waits for longer than a second tells it.
+/// Where `reports` is set, a run that waits for longer than a second tells it.
 pub fn locked_file<R: Files<File = File> + Clock + Eprint + Alloc<A = Global>>(
     rt: &R,
     name: &str,
     purpose: Purpose,
-    tells: bool,
+    reports: bool,
 ) -> io::Result<OpenedFile> {
     let mut writes = false;
     let mut waiting = None;
@@ -103,8 +103,8 @@ pub fn locked_file<R: Files<File = File> + Clock + Eprint + Alloc<A = Global>>(
                 }
             }
             Ok(false) => {
-                if tells && tried == QUIET_TRIES {
-                    tell_waiting(rt, name);
+                if reports && tried == SILENT_TRIES {
+                    report_waiting(rt, name);
                 }
                 thread::sleep(rt, Duration::from_millis(PAUSE));
                 waiting = Some(opened);

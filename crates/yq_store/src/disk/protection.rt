@@ -15,8 +15,8 @@ use std::{fs, io};
 const MOUNT: &str = "mnt_id:";
 
 /// The number of a mount in what the system tells of an open file, or nothing where it isn't told.
-fn mount_in(told: &str) -> &str {
-    for line in told.lines() {
+fn mount_in(info: &str) -> &str {
+    for line in info.lines() {
         if let Some(number) = line.strip_prefix(MOUNT) {
             return number.trim();
         }
@@ -28,10 +28,10 @@ fn mount_in(told: &str) -> &str {
 fn mount_of<R: Files + Alloc<A = Global>>(rt: &R, file: &File) -> io::Result<String> {
     let number = file.as_raw_fd();
     let path = format!(in rt.alloc(); "/proc/self/fdinfo/{number}")?;
-    let Ok(mut told) = fs::open(rt, path.as_str()) else {
+    let Ok(mut info) = fs::open(rt, path.as_str()) else {
         return Ok(String::new(rt.alloc()));
     };
-    let bytes = read_whole(rt.alloc(), &mut told)?;
+    let bytes = read_whole(rt.alloc(), &mut info)?;
     let text = std::str::from_utf8(bytes.as_slice()).unwrap_or("");
     Ok(String::from_str(rt.alloc(), mount_in(text))?)
 }

@@ -15,7 +15,7 @@ const TEXT: &str = "[a, {b: 'c', d: 2}]";
 fn is_read_later(alloc: Global) -> Result<bool, AllocError> {
     let mut held = all_memory(alloc)?;
     let mut refused = false;
-    'turns: for _ in 0..4096u32 {
+    'growths: for _ in 0..4096u32 {
         match in_flow(alloc, TEXT, 0, 0) {
             Ok(Some(node)) => return Ok(refused && node.end == TEXT.len()),
             Err(ReadError::Memory) => refused = true,
@@ -30,7 +30,7 @@ fn is_read_later(alloc: Global) -> Result<bool, AllocError> {
 fn is_written_later(alloc: Global, value: &Value) -> Result<bool, AllocError> {
     let mut held = all_memory(alloc)?;
     let mut refused = false;
-    'turns: for _ in 0..4096u32 {
+    'growths: for _ in 0..4096u32 {
         match write_inline(alloc, value) {
             Ok(text) => return Ok(refused && text.as_str() == "[a, {b: c, d: 2}]"),
             Err(_) => refused = true,
@@ -41,7 +41,7 @@ fn is_written_later(alloc: Global, value: &Value) -> Result<bool, AllocError> {
 }
 
 #[test]
-fn memory_is_refused_in_turn(rt: HostRuntime) -> Result<(), Fail> {
+fn memory_is_refused_each_time(rt: HostRuntime) -> Result<(), Fail> {
     let alloc = rt.alloc();
     let Some(node) = in_flow(alloc, TEXT, 0, 0)? else {
         panic!(rt; "no node");

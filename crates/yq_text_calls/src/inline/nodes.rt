@@ -1,8 +1,8 @@
 //! Inline nodes at paths, by the events of the standard's test suite, and where they stand. The
 //! examples are those of YAML 1.2.2, chapter 7.4.
 
+use super::as_text::{as_text, places};
 use super::reading::in_block;
-use super::shown::{places, shown};
 use std::alloc::{AllocError, Global};
 use std::test::Fail;
 use yq_inline::Step;
@@ -176,17 +176,17 @@ fn found(
     let Some(entry) = node.entry(&steps) else {
         return Ok(None);
     };
-    Ok(Some((shown(alloc, entry.node)?, places(alloc, &entry)?)))
+    Ok(Some((as_text(alloc, entry.node)?, places(alloc, &entry)?)))
 }
 
 #[test]
 fn nodes_at_paths(rt: HostRuntime) -> Result<(), Fail> {
     let alloc = rt.alloc();
     for (text, at, words, events, places) in &NODES {
-        let Some((seen, stands)) = found(alloc, text, *at, words)? else {
+        let Some((actual, stands)) = found(alloc, text, *at, words)? else {
             panic!(rt; "nothing at {words:?} of {text:?}");
         };
-        assert_eq!(rt; seen.as_str(), *events, "{words:?} of {text:?}");
+        assert_eq!(rt; actual.as_str(), *events, "{words:?} of {text:?}");
         assert_eq!(rt; stands.as_str(), *places, "{words:?} of {text:?}");
     }
     for words in &NOWHERE {

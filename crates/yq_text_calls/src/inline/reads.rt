@@ -86,12 +86,12 @@ fn ends(alloc: Global, text: &str, flow: bool, depth: usize) -> Result<Option<us
 fn ends_of_nodes(rt: HostRuntime) {
     let alloc = rt.alloc();
     for text in &WHOLE {
-        let seen = ends(alloc, text, true, 0);
-        assert!(rt; seen == Ok(Some(text.len())), "of {text:?}");
+        let actual = ends(alloc, text, true, 0);
+        assert!(rt; actual == Ok(Some(text.len())), "of {text:?}");
     }
     for (text, node) in &IN_FRONT {
-        let seen = ends(alloc, text, false, 0).unwrap_or(None);
-        assert!(rt; seen == node.map(|node| node.len()), "of {text:?}");
+        let actual = ends(alloc, text, false, 0).unwrap_or(None);
+        assert!(rt; actual == node.map(|node| node.len()), "of {text:?}");
     }
 }
 
@@ -119,8 +119,8 @@ fn nested_collections(rt: HostRuntime) -> Result<(), Fail> {
     for (open, count, close, depth, want) in &DEEP {
         let mut text = open.repeat(alloc, *count)?;
         text.push_str(close.repeat(alloc, *count)?.as_str())?;
-        let seen = ends(alloc, text.as_str(), false, *depth);
-        assert!(rt; seen == *want, "{count} of {open:?}");
+        let actual = ends(alloc, text.as_str(), false, *depth);
+        assert!(rt; actual == *want, "{count} of {open:?}");
     }
     Ok(())
 }

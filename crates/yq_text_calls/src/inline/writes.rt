@@ -79,9 +79,9 @@ fn written_values(rt: HostRuntime) -> Result<(), Fail> {
     let alloc = rt.alloc();
     for (text, want) in &WRITTEN {
         for text in [*text, *want] {
-            let seen = written(alloc, text)?;
-            let seen = seen.as_ref().map(|seen| seen.as_str());
-            assert_eq!(rt; seen, Some(*want), "of {text:?}");
+            let actual = written(alloc, text)?;
+            let actual = actual.as_ref().map(|actual| actual.as_str());
+            assert_eq!(rt; actual, Some(*want), "of {text:?}");
         }
     }
     Ok(())

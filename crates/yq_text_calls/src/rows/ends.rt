@@ -92,8 +92,8 @@ fn ends_of_parts(rt: HostRuntime) -> Result<(), Fail> {
         assert!(rt; are_parts(&rows, parts), "at {text:?}");
         assert!(rt; rows.len().saturating_add(1) == rests.len(), "at {text:?}");
         for (i, want) in rests.iter().enumerate() {
-            let seen = text_before(alloc, &rows, i)?;
-            assert_eq!(rt; seen.as_str(), *want, "before row {i} of {text:?}");
+            let actual = text_before(alloc, &rows, i)?;
+            assert_eq!(rt; actual.as_str(), *want, "before row {i} of {text:?}");
         }
     }
     Ok(())

@@ -13,9 +13,9 @@ const TEXT: &str =
 /// given back each time. Nothing where it isn't read, or not whole.
 fn times_refused(alloc: Global) -> Result<Option<u32>, AllocError> {
     let mut held = all_memory(alloc)?;
-    'turns: for turn in 0..4096u32 {
+    'growths: for nth_growth in 0..4096u32 {
         match scan(alloc, TEXT) {
-            Ok(rows) if rows.len() == 12 => return Ok(Some(turn)),
+            Ok(rows) if rows.len() == 12 => return Ok(Some(nth_growth)),
             Err(ReadError::Memory) => {}
             _ => return Ok(None),
         }
@@ -25,7 +25,7 @@ fn times_refused(alloc: Global) -> Result<Option<u32>, AllocError> {
 }
 
 #[test]
-fn memory_is_refused_in_turn(rt: HostRuntime) -> Result<(), Fail> {
+fn memory_is_refused_each_time(rt: HostRuntime) -> Result<(), Fail> {
     assert!(rt; matches!(times_refused(rt.alloc())?, Some(times) if times > 0));
     Ok(())
 }

@@ -79,7 +79,7 @@ fn pieces(alloc: Global, row: &Row<'_>) -> Result<String, AllocError> {
     Ok(all)
 }
 
-fn shown(alloc: Global, row: &Row<'_>, what: Asked) -> Result<String, AllocError> {
+fn as_text(alloc: Global, row: &Row<'_>, what: Asked) -> Result<String, AllocError> {
     match what {
         Asked::Pieces => pieces(alloc, row),
         Asked::Parent => format!(in alloc; "{}", row.parent_indent()),
@@ -90,7 +90,7 @@ fn shown(alloc: Global, row: &Row<'_>, what: Asked) -> Result<String, AllocError
 }
 
 /// A text has so many rows, and these pieces are shown of them.
-fn are_shown(
+fn are_pieces(
     rt: &impl Abort,
     alloc: Global,
     text: &str,
@@ -101,8 +101,8 @@ fn are_shown(
     assert!(rt; rows.len() == count, "at {text:?}");
     for (i, what, want) in wanted {
         if *i < rows.len() {
-            let seen = shown(alloc, &rows.row(*i), *what)?;
-            assert_eq!(rt; seen.as_str(), *want, "row {i} of {text:?}");
+            let actual = as_text(alloc, &rows.row(*i), *what)?;
+            assert_eq!(rt; actual.as_str(), *want, "row {i} of {text:?}");
         }
     }
     Ok(())
@@ -112,13 +112,13 @@ fn are_shown(
 fn pieces_of_rows(rt: HostRuntime) -> Result<(), Fail> {
     let alloc = rt.alloc();
     for (text, want) in &ALONE {
-        are_shown(&rt, alloc, text, 1, &[(0, Asked::Pieces, *want)])?;
+        are_pieces(&rt, alloc, text, 1, &[(0, Asked::Pieces, *want)])?;
     }
     for (text, want) in &PARENTS {
-        are_shown(&rt, alloc, text, 1, &[(0, Asked::Parent, *want)])?;
+        are_pieces(&rt, alloc, text, 1, &[(0, Asked::Parent, *want)])?;
     }
     for (text, count, wanted) in &ROWS {
-        are_shown(&rt, alloc, text, *count, wanted)?;
+        are_pieces(&rt, alloc, text, *count, wanted)?;
     }
     Ok(())
 }

@@ -58,8 +58,8 @@ fn refused_prefixes(alloc: Global, text: &str, from: usize) -> Result<Vec<usize>
 #[test]
 fn prefixes_of_texts(rt: HostRuntime) -> Result<(), Fail> {
     for (text, from, want) in &PREFIXES {
-        let seen = refused_prefixes(rt.alloc(), text, *from)?;
-        assert!(rt; seen.as_slice() == *want, "of {text:?}");
+        let actual = refused_prefixes(rt.alloc(), text, *from)?;
+        assert!(rt; actual.as_slice() == *want, "of {text:?}");
     }
     Ok(())
 }

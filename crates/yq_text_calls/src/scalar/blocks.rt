@@ -43,8 +43,8 @@ fn written(
 fn written_blocks(rt: HostRuntime) -> Result<(), Fail> {
     let alloc = rt.alloc();
     for (content, indent, br, want) in &WRITTEN {
-        let (seen, is_filled) = written(alloc, content, *indent, *br)?;
-        assert!(rt; is_filled && seen.as_str() == *want, "of {content:?}");
+        let (actual, is_filled) = written(alloc, content, *indent, *br)?;
+        assert!(rt; is_filled && actual.as_str() == *want, "of {content:?}");
         let again = content_at(alloc, want, 0, Place::Block, 0)?;
         let again = again.as_ref().map(|again| again.as_str());
         assert_eq!(rt; again, Some(*content), "of {content:?}");
@@ -90,10 +90,10 @@ fn repaired(
 fn repaired_gaps(rt: HostRuntime) -> Result<(), Fail> {
     let alloc = rt.alloc();
     for (text, column, gap, want) in &REPAIRED {
-        let Some((seen, taken)) = repaired(alloc, text, *column, gap)? else {
+        let Some((actual, taken)) = repaired(alloc, text, *column, gap)? else {
             panic!(rt; "no block scalar");
         };
-        assert_eq!(rt; seen.as_str(), *want, "of {gap:?}");
+        assert_eq!(rt; actual.as_str(), *want, "of {gap:?}");
         assert!(rt; taken == gap.len().saturating_add(*column), "of {gap:?}");
     }
     Ok(())

@@ -85,9 +85,9 @@ fn stand_for(
     rows: &[(&str, usize, i64, &str)],
 ) -> Result<(), Fail> {
     for (text, at, parent, want) in rows {
-        let seen = content_at(alloc, text, *at, place, *parent)?;
-        let seen = seen.as_ref().map(|seen| seen.as_str());
-        assert_eq!(rt; seen, Some(*want), "at {at} of {text:?}");
+        let actual = content_at(alloc, text, *at, place, *parent)?;
+        let actual = actual.as_ref().map(|actual| actual.as_str());
+        assert_eq!(rt; actual, Some(*want), "at {at} of {text:?}");
     }
     Ok(())
 }

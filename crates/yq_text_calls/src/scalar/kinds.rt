@@ -89,48 +89,48 @@ fn kinds_of_plain_texts(rt: HostRuntime) {
 
 /// How a scalar is made: of a plain text, of a string, as null, or as a copy of that of a plain text.
 #[derive(Clone, Copy, Debug)]
-pub(crate) enum Made {
+pub(crate) enum Origin {
     Plain,
     Text,
     Null,
     Copy,
 }
 
-pub(crate) fn scalar_of(alloc: Global, made: Made, text: &str) -> Result<Scalar, AllocError> {
-    match made {
-        Made::Plain => Scalar::plain(alloc, text),
-        Made::Text => Ok(Scalar::string(String::from_str(alloc, text)?)),
-        Made::Null => Scalar::null(alloc),
-        Made::Copy => Scalar::plain(alloc, text)?.copy(alloc),
+pub(crate) fn scalar_of(alloc: Global, origin: Origin, text: &str) -> Result<Scalar, AllocError> {
+    match origin {
+        Origin::Plain => Scalar::plain(alloc, text),
+        Origin::Text => Ok(Scalar::string(String::from_str(alloc, text)?)),
+        Origin::Null => Scalar::null(alloc),
+        Origin::Copy => Scalar::plain(alloc, text)?.copy(alloc),
     }
 }
 
 /// How a scalar is made, of which text, its kind, its text, and another plain text whose scalar is
 /// the same, or isn't.
-static SCALARS: [(Made, &str, Kind, &str, &str, bool); 11] = [
-    (Made::Plain, "~", Kind::Null, "null", "NULL", true),
-    (Made::Plain, "", Kind::Null, "null", "~", true),
-    (Made::Plain, "True", Kind::Bool, "True", "true", false),
-    (Made::Plain, "0x0F", Kind::Int, "0x0F", "15", false),
-    (Made::Plain, "1", Kind::Int, "1", "01", false),
-    (Made::Plain, "1.50", Kind::Float, "1.50", "1.50", true),
-    (Made::Plain, "a b", Kind::Text, "a b", "a b", true),
-    (Made::Text, "null", Kind::Text, "null", "null", false),
-    (Made::Text, "a", Kind::Text, "a", "a", true),
-    (Made::Null, "", Kind::Null, "null", "NULL", true),
-    (Made::Copy, "01", Kind::Int, "01", "01", true),
+static SCALARS: [(Origin, &str, Kind, &str, &str, bool); 11] = [
+    (Origin::Plain, "~", Kind::Null, "null", "NULL", true),
+    (Origin::Plain, "", Kind::Null, "null", "~", true),
+    (Origin::Plain, "True", Kind::Bool, "True", "true", false),
+    (Origin::Plain, "0x0F", Kind::Int, "0x0F", "15", false),
+    (Origin::Plain, "1", Kind::Int, "1", "01", false),
+    (Origin::Plain, "1.50", Kind::Float, "1.50", "1.50", true),
+    (Origin::Plain, "a b", Kind::Text, "a b", "a b", true),
+    (Origin::Text, "null", Kind::Text, "null", "null", false),
+    (Origin::Text, "a", Kind::Text, "a", "a", true),
+    (Origin::Null, "", Kind::Null, "null", "NULL", true),
+    (Origin::Copy, "01", Kind::Int, "01", "01", true),
 ];
 
 #[test]
 fn scalars(rt: HostRuntime) -> Result<(), Fail> {
     let alloc = rt.alloc();
-    for (made, text, kind, kept, other, is_same) in &SCALARS {
-        let scalar = scalar_of(alloc, *made, text)?;
+    for (origin, text, kind, kept, other, is_same) in &SCALARS {
+        let scalar = scalar_of(alloc, *origin, text)?;
         assert!(rt; scalar.kind() == *kind, "of {text:?}");
         let other = Scalar::plain(alloc, other)?;
         assert!(rt; scalar.same(&other) == *is_same, "of {text:?}");
-        let seen = scalar.into_text();
-        assert_eq!(rt; seen.as_str(), *kept, "of {text:?}");
+        let actual = scalar.into_text();
+        assert_eq!(rt; actual.as_str(), *kept, "of {text:?}");
     }
     Ok(())
 }

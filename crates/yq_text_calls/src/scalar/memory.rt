@@ -1,6 +1,6 @@
 //! Memory is taken once for a content, and each call is refused without it.
 
-use super::kinds::{Made, scalar_of};
+use super::kinds::{Origin, scalar_of};
 use super::reading::{Reader, content_at, read};
 use super::styles::written;
 use crate::memory::all_memory;
@@ -17,7 +17,7 @@ enum Call {
     Block,
     Repair,
     Write(Style),
-    Scalar(Made),
+    Scalar(Origin),
 }
 
 /// What the call gives, if it can be made.
@@ -30,10 +30,10 @@ fn called(alloc: Global, call: Call, text: &str) -> Result<Option<String>, Alloc
             _ => Ok(None),
         },
         Call::Write(style) => {
-            let scalar = scalar_of(alloc, Made::Text, text)?;
+            let scalar = scalar_of(alloc, Origin::Text, text)?;
             written(alloc, &scalar, style, Place::Block)
         }
-        Call::Scalar(made) => Ok(Some(scalar_of(alloc, made, text)?.into_text())),
+        Call::Scalar(origin) => Ok(Some(scalar_of(alloc, origin, text)?.into_text())),
     }
 }
 
@@ -51,11 +51,11 @@ static CONTENTS: [(&str, &str, usize); 6] = [
 #[test]
 fn contents_take_memory_once(rt: HostRuntime) -> Result<(), Fail> {
     for (text, want, taken) in &CONTENTS {
-        let Some(seen) = called(rt.alloc(), Call::Content, text)? else {
+        let Some(actual) = called(rt.alloc(), Call::Content, text)? else {
             panic!(rt; "no scalar");
         };
-        assert_eq!(rt; seen.as_str(), *want, "of {text:?}");
-        assert!(rt; seen.capacity() == *taken, "of {text:?}");
+        assert_eq!(rt; actual.as_str(), *want, "of {text:?}");
+        assert!(rt; actual.capacity() == *taken, "of {text:?}");
     }
     Ok(())
 }
@@ -72,19 +72,21 @@ static CALLS: [(Call, &str, &str); 14] = [
     (Call::Write(Style::Plain), "a b", "a b"),
     (Call::Write(Style::Single), "it's", "'it''s'"),
     (Call::Write(Style::Double), "a\tb", "\"a\\tb\""),
-    (Call::Scalar(Made::Plain), "1", "1"),
-    (Call::Scalar(Made::Text), "1", "1"),
-    (Call::Scalar(Made::Null), "", "null"),
-    (Call::Scalar(Made::Copy), "1", "1"),
+    (Call::Scalar(Origin::Plain), "1", "1"),
+    (Call::Scalar(Origin::Text), "1", "1"),
+    (Call::Scalar(Origin::Null), "", "null"),
+    (Call::Scalar(Origin::Copy), "1", "1"),
 ];
 
 /// With all memory held the call is refused; once enough is given back it gives what is wanted.
 fn is_refused_first(alloc: Global, call: Call, text: &str, want: &str) -> Result<bool, AllocError> {
     let mut held = all_memory(alloc)?;
     let mut refused = false;
-    'turns: for _ in 0..4096u32 {
+    'growths: for _ in 0..4096u32 {
         match called(alloc, call, text) {
-            Ok(seen) => return Ok(refused && matches!(&seen, Some(seen) if seen.as_str() == want)),
+            Ok(actual) => return Ok(
+                refused && matches!(&actual, Some(actual) if actual.as_str() == want),
+            ),
             Err(_) => {
                 refused = true;
                 let _ = held.pop();

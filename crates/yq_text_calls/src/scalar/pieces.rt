@@ -183,8 +183,8 @@ static BLOCK: [(&str, usize, i64, Style, [usize; 4], usize, bool); 16] = [
 fn plain_scalars(rt: HostRuntime) {
     for (text, at, place, parent, written) in &PLAIN {
         let want = inline_piece(Style::Plain, *at, at.saturating_add(written.len()));
-        let seen = read(text, *at, Reader::Plain(*place, *parent));
-        assert_eq!(rt; seen, Some(Ok(want)), "at {at} of {text:?}");
+        let actual = read(text, *at, Reader::Plain(*place, *parent));
+        assert_eq!(rt; actual, Some(Ok(want)), "at {at} of {text:?}");
     }
 }
 
@@ -192,8 +192,8 @@ fn plain_scalars(rt: HostRuntime) {
 fn quoted_scalars(rt: HostRuntime) {
     for (text, at, style, written) in &QUOTED {
         let want = inline_piece(*style, *at, at.saturating_add(written.len()));
-        let seen = read(text, *at, Reader::Quoted);
-        assert_eq!(rt; seen, Some(Ok(want)), "at {at} of {text:?}");
+        let actual = read(text, *at, Reader::Quoted);
+        assert_eq!(rt; actual, Some(Ok(want)), "at {at} of {text:?}");
     }
 }
 
@@ -210,7 +210,7 @@ fn block_scalars(rt: HostRuntime) {
             indent: *indent,
             keep: *keep,
         };
-        let seen = read(text, *at, Reader::Block(*parent));
-        assert_eq!(rt; seen, Some(Ok(want)), "at {at} of {text:?}");
+        let actual = read(text, *at, Reader::Block(*parent));
+        assert_eq!(rt; actual, Some(Ok(want)), "at {at} of {text:?}");
     }
 }

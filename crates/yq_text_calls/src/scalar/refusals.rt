@@ -78,7 +78,7 @@ static REFUSED: [(&str, usize, Reader, FaultKind); 38] = [
 #[test]
 fn refused_scalars(rt: HostRuntime) {
     for (text, at, reader, kind) in &REFUSED {
-        let seen = read(text, *at, *reader);
-        assert_eq!(rt; seen, Some(Err(*kind)), "at {at} of {text:?}");
+        let actual = read(text, *at, *reader);
+        assert_eq!(rt; actual, Some(Err(*kind)), "at {at} of {text:?}");
     }
 }

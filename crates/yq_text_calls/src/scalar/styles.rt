@@ -1,6 +1,6 @@
 //! Which styles can write a scalar, where, and what they write (YAML 1.2.2, sections 7.3 and 8.1).
 
-use super::kinds::{Made, scalar_of};
+use super::kinds::{Origin, scalar_of};
 use super::reading::content_at;
 use std::alloc::{AllocError, Global};
 use std::test::Fail;
@@ -77,14 +77,14 @@ fn places(scalar: &Scalar) -> [[bool; 5]; 4] {
 fn styles_of_scalars(rt: HostRuntime) -> Result<(), Fail> {
     let alloc = rt.alloc();
     for (text, plain, in_flow, single, literal) in &STRINGS {
-        let scalar = scalar_of(alloc, Made::Text, text)?;
+        let scalar = scalar_of(alloc, Origin::Text, text)?;
         let node = [*plain, *single, true, *literal, false];
         let key = [*plain, *single, true, false, false];
         let flow = [*in_flow, *single, true, false, false];
         assert!(rt; places(&scalar) == [node, key, flow, flow], "of {text:?}");
     }
     for text in &OTHERS {
-        let scalar = scalar_of(alloc, Made::Plain, text)?;
+        let scalar = scalar_of(alloc, Origin::Plain, text)?;
         let alone = [true, false, false, false, false];
         assert!(rt; places(&scalar) == [alone; 4], "of {text:?}");
     }
@@ -92,63 +92,69 @@ fn styles_of_scalars(rt: HostRuntime) -> Result<(), Fail> {
 }
 
 /// How the scalar is made, its text, the style and the place, and what is written.
-static WRITTEN: [(Made, &str, Style, Place, &str); 14] = [
-    (Made::Text, "", Style::Single, Place::Flow, "''"),
-    (Made::Text, "it's", Style::Single, Place::Flow, "'it''s'"),
-    (Made::Text, "a\tb", Style::Single, Place::Flow, "'a\tb'"),
-    (Made::Text, "'", Style::Single, Place::Flow, "''''"),
+static WRITTEN: [(Origin, &str, Style, Place, &str); 14] = [
+    (Origin::Text, "", Style::Single, Place::Flow, "''"),
+    (Origin::Text, "it's", Style::Single, Place::Flow, "'it''s'"),
+    (Origin::Text, "a\tb", Style::Single, Place::Flow, "'a\tb'"),
+    (Origin::Text, "'", Style::Single, Place::Flow, "''''"),
     (
-        Made::Text,
+        Origin::Text,
         "\\n \u{e9}",
         Style::Single,
         Place::Flow,
         "'\\n \u{e9}'",
     ),
-    (Made::Text, "", Style::Double, Place::BlockKey, "\"\""),
+    (Origin::Text, "", Style::Double, Place::BlockKey, "\"\""),
     (
-        Made::Text,
+        Origin::Text,
         "a\"b\\",
         Style::Double,
         Place::BlockKey,
         "\"a\\\"b\\\\\"",
     ),
     (
-        Made::Text,
+        Origin::Text,
         "\0\u{7}\u{8}\t\n\u{b}\u{c}\r\u{1b}\u{85}\u{2028}\u{2029}",
         Style::Double,
         Place::BlockKey,
         "\"\\0\\a\\b\\t\\n\\v\\f\\r\\e\\N\\L\\P\"",
     ),
     (
-        Made::Text,
+        Origin::Text,
         "\u{feff}\u{1}\u{7f}\u{9f}\u{fffe}",
         Style::Double,
         Place::BlockKey,
         "\"\\uFEFF\\x01\\x7F\\x9F\\uFFFE\"",
     ),
     (
-        Made::Text,
+        Origin::Text,
         "\t\u{85}\u{1b}\u{1}",
         Style::Double,
         Place::BlockKey,
         "\"\\t\\N\\e\\x01\"",
     ),
     (
-        Made::Text,
+        Origin::Text,
         "x\n\n",
         Style::Double,
         Place::BlockKey,
         "\"x\\n\\n\"",
     ),
     (
-        Made::Text,
+        Origin::Text,
         "it's / \u{a0}\u{1f600}",
         Style::Double,
         Place::BlockKey,
         "\"it's / \u{a0}\u{1f600}\"",
     ),
-    (Made::Text, "true", Style::Double, Place::Block, "\"true\""),
-    (Made::Null, "null", Style::Plain, Place::Block, "null"),
+    (
+        Origin::Text,
+        "true",
+        Style::Double,
+        Place::Block,
+        "\"true\"",
+    ),
+    (Origin::Null, "null", Style::Plain, Place::Block, "null"),
 ];
 
 /// A scalar in a style, if it can be written so on one line.
@@ -167,11 +173,11 @@ pub(crate) fn written(
 #[test]
 fn written_scalars(rt: HostRuntime) -> Result<(), Fail> {
     let alloc = rt.alloc();
-    for (made, text, style, place, want) in &WRITTEN {
-        let scalar = scalar_of(alloc, *made, text)?;
-        let seen = written(alloc, &scalar, *style, *place)?;
-        let seen = seen.as_ref().map(|seen| seen.as_str());
-        assert_eq!(rt; seen, Some(*want), "of {text:?}");
+    for (origin, text, style, place, want) in &WRITTEN {
+        let scalar = scalar_of(alloc, *origin, text)?;
+        let actual = written(alloc, &scalar, *style, *place)?;
+        let actual = actual.as_ref().map(|actual| actual.as_str());
+        assert_eq!(rt; actual, Some(*want), "of {text:?}");
         let again = content_at(alloc, want, 0, *place, 0)?;
         let again = again.as_ref().map(|again| again.as_str());
         assert_eq!(rt; again, Some(*text), "of {text:?}");

@@ -36,11 +36,11 @@ fn count_of(text: &str) -> Option<u64>
 }
 
 /// The journal's name, where one is given, or by the file's.
-fn journal_name(alloc: Global, given: Option<&str>, file: &str) -> Result<String, AllocError>
+fn journal_name(alloc: Global, option: Option<&str>, file: &str) -> Result<String, AllocError>
     ensures { IfOk result (λ name. string_bytes name ≡ spec.journal_name
-        (option_map (λ s. s.now) given.entry) file.now) }
+        (option_map (λ s. s.now) option.entry) file.now) }
 {
-    match given {
+    match option {
         Some(name) => String::from_str(alloc, name),
         None => format!(in alloc; "{file}.undo.json"),
     }

@@ -1,5 +1,5 @@
 use Rattle.yq_change.proofs.HeadLaws.{head_commented}
-use Rattle.yq_change.proofs.RemarkLaws.{line_commented}
+use Rattle.yq_change.proofs.CommentPutLaws.{line_commented}
 use Rattle.yq_change.proofs.operations.commented.Goals as goal
 
 pub returns-clause-line : goal.returns-clause-line

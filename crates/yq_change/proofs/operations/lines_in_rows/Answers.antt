@@ -1,9 +1,9 @@
 use Rattle.yq_change.proofs.ApartLaws.{row_begins, lines_apart, entries_apart, even_closed}
-use Rattle.yq_change.proofs.LineLaws.{seat_splits}
+use Rattle.yq_change.proofs.LineLaws.{row_line_splits}
 use Rattle.yq_change.proofs.operations.lines_in_rows.Goals as goal
 
-pub returns-clause-seats : goal.returns-clause-seats
-returns-clause-seats c = seat_splits
+pub returns-clause-equal_room : goal.returns-clause-equal_room
+returns-clause-equal_room c = row_line_splits
 
 pub returns-clause-begins : goal.returns-clause-begins
 returns-clause-begins c = row_begins

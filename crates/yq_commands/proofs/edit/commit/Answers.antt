@@ -31,14 +31,14 @@ pub returns-in_err-edit-clause-effect : goal.returns-in_err-edit-clause-effect
 returns-in_err-edit-clause-effect g c = λ keeps apart p gives.
     let r = err_from_is_err_and c.from_residual.result c.from_residual.ensures.1 in
     let content = g.D.Store.content c.args.store.now in
-    let effect = edit_effect c.args.expr.now (edits p c.args.old.now) c.args.old.now c.args.journal.now in
-    subst (Works effect c.args.file.now c.args.name.now content content) (sym r.1) (works_outside (Unit {0}) effect c.args.file.now c.args.name.now content r.0 (ap is_outside r.2))
+    let effect = edit_effect c.args.expr.now (edits p c.args.old.now) c.args.old.now c.args.state.now in
+    subst (Works effect c.args.file.now c.args.journal.now content content) (sym r.1) (works_outside (Unit {0}) effect c.args.file.now c.args.journal.now content r.0 (ap is_outside r.2))
 
 pub returns-clause-effect : goal.returns-clause-effect
 returns-clause-effect g c = λ keeps apart p gives.
     let e = c.carry_out.ensures in
     let leads = ap (λ (r : Record). done r c.args.old.now) c.in_ok-edit.ensures ∙ edit_done c.args.expr.now _ c.args.old.now c.args.new.now c.requires.leads in
-    edit_works c.args.file.now c.args.name.now (g.D.Store.content c.args.store.now) c.args.expr.now c.args.journal.now c.args.old.now _ _ _ c.in_ok-edit.ensures
+    edit_works c.args.file.now c.args.journal.now (g.D.Store.content c.args.store.now) c.args.expr.now c.args.state.now c.args.old.now _ _ _ c.in_ok-edit.ensures
     (edits p c.args.old.now) _ c.carry_out.result gives c.requires.changes
     (record {
       leads = leads;

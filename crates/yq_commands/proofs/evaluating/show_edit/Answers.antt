@@ -14,10 +14,10 @@ returns-in_err-text-clause-err c = λ exit_status no_doc.
 pub returns-clause-ok : goal.returns-clause-ok
 returns-clause-ok c = λ exit_status no_doc.
     let is = edit_shows exit_status no_doc c.args.text.now (program_of c.args.program.now) c.requires ∙ ap show_edit c.in_ok-text.ensures.ok in
-    let made = c.in_ok-text.text-is in
+    let edited_to = c.in_ok-text.text-is in
     cc
 
 pub returns-clause-edited : goal.returns-clause-edited
 returns-clause-edited c =
-    let made = c.in_ok-text.text-is in
+    let edited_to = c.in_ok-text.text-is in
     text_same (program_of c.args.program.now) c.args.text.now _ _ c.in_ok-text.ensures.edited (cc)

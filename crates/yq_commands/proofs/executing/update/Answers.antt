@@ -7,7 +7,7 @@ use Rattle.yq_commands.specs.CommandEffects.{edit_effect}
 use Rattle.yq_history.proofs.EffectLaws.{not_opened, from_opened}
 use Rattle.std.specs.FinMap.{get}
 use Rattle.yq_commands.proofs.EditEffects.{not_parsed, parsed_works}
-use Rattle.yq_commands.proofs.FileEditLaws.{file_made, parsed_free, unparsed_told}
+use Rattle.yq_commands.proofs.FileEditLaws.{file_comes, parsed_free, unparsed_fault}
 use Rattle.yq_commands.proofs.executing.update.Goals as goal
 
 pub returns-in_err-program-clause-effect : goal.returns-in_err-program-clause-effect
@@ -26,8 +26,8 @@ pub returns-clause-effect : goal.returns-clause-effect
 returns-clause-effect g c = λ keeps apart.
     let does = λ (t : List ℕ) (s : State). edit_effect c.args.expr.now (edits (program_of c.in_ok-program.program) t) t s in
     parsed_works _ _ (g.D.Store.content c.args.store.now) _ c.args.expr.now (program_of c.in_ok-program.program) _ _ c.edit_from.result c.in_ok-program.ensures.ok
-    (from_opened _ _ does _ _ (g.D.Store.content c.args.store.now) _ _ c.as_slice.result.now c.in_ok-text.journal c.edit_from.result (c.in_ok-text.ensures.same keeps)
-    (c.in_ok-text.ensures.found keeps does ∙ ap (λ t. does t c.in_ok-text.journal) (sym c.as_slice.ensures.value))
+    (from_opened _ _ does _ _ (g.D.Store.content c.args.store.now) _ _ c.as_slice.result.now c.in_ok-text.state c.edit_from.result (c.in_ok-text.ensures.same keeps)
+    (c.in_ok-text.ensures.found keeps does ∙ ap (λ t. does t c.in_ok-text.state) (sym c.as_slice.ensures.value))
     (c.edit_from.ensures.effect keeps apart))
 
 pub returns-clause-edited : goal.returns-clause-edited
@@ -35,13 +35,13 @@ returns-clause-edited g c = λ keeps apart.
     let same = c.in_ok-text.ensures.same keeps in
     let slice = c.as_slice.ensures.value in
     let held = c.in_ok-text.ensures.text keeps ∙ ap Some (sym slice) in
-    file_made c.edit_from.result c.args.expr.now (program_of c.in_ok-program.program) c.as_slice.result.now _ _ c.in_ok-program.ensures.ok held
+    file_comes c.edit_from.result c.args.expr.now (program_of c.in_ok-program.program) c.as_slice.result.now _ _ c.in_ok-program.ensures.ok held
     (c.edit_from.ensures.edited keeps apart (ap (λ m. get m c.args.file.now) same ∙ held))
 
 pub returns-in_err-program-clause-unparsed : goal.returns-in_err-program-clause-unparsed
 returns-in_err-program-clause-unparsed g c =
     let p = err_from_is_err_and c.from_residual.result c.from_residual.ensures.1 in
-    unparsed_told c.from_residual.result c.args.expr.now _ (p.1 ∙ ap Err p.2) c.in_err-program.ensures.err
+    unparsed_fault c.from_residual.result c.args.expr.now _ (p.1 ∙ ap Err p.2) c.in_err-program.ensures.err
 
 pub returns-in_err-text-clause-unparsed : goal.returns-in_err-text-clause-unparsed
 returns-in_err-text-clause-unparsed g c = parsed_free c.from_residual-in_err-text.result c.args.expr.now (program_of c.in_ok-program.program) c.in_ok-program.ensures.ok

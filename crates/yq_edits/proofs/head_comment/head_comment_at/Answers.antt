@@ -4,7 +4,7 @@ use Rattle.yq_rows.specs.Rows.{cut_text}
 use Rattle.yq_documents.specs.Located.{steps_of}
 use Rattle.yq_documents.specs.Reading.{cut_of}
 use Rattle.yq_places.specs.CommentPlaces.{lines_above}
-use Rattle.yq_places.specs.CommentTelling.{above_told}
+use Rattle.yq_places.specs.CommentViews.{above_view}
 use Rattle.yq_places.specs.FirstBreak.{first_break}
 use Rattle.yq_edits.specs.CommentEdits.{head_comment_segments}
 use Rattle.yq_edits.proofs.AboveLaws.{head_there}
@@ -16,7 +16,7 @@ returns c =
     let steps = steps_of c.args.path.now in
     let cut = cut_of c.args.cut.now in
     let br = break_text (first_break (cut_text cut)) in
-    let above = above_told c.in-Some.above in
-    let found : Some above ≡ lines_above n steps cut = sym (ap (option_map above_told) c.in-Some.is) ∙ c.lines_above.ensures in
-    let made : Some (head_comment_segments br c.args.text.now above) ≡ Some c.new.result = search rules in
-    sym (head_there n steps cut br c.args.text.now (Some above) found) ∙ made
+    let above = above_view c.in-Some.above in
+    let found : Some above ≡ lines_above n steps cut = sym (ap (option_map above_view) c.in-Some.is) ∙ c.lines_above.ensures in
+    let same : Some (head_comment_segments br c.args.text.now above) ≡ Some c.new.result = search rules in
+    sym (head_there n steps cut br c.args.text.now (Some above) found) ∙ same

@@ -4,7 +4,7 @@ use Rattle.yq_documents.specs.Located.{steps_of}
 use Rattle.yq_documents.specs.Reading.{cut_of}
 use Rattle.yq_places.specs.NodesAt.{node_in, scalar_in, scalar_view}
 use Rattle.yq_edits.specs.Replacing.{are_same}
-use Rattle.yq_edits.proofs.ScalarAnswers.{kept_told, no_scalar, not_kept}
+use Rattle.yq_edits.proofs.ScalarAnswers.{kept_agrees, no_scalar, not_kept}
 use Rattle.yq_edits.proofs.kept.is_kept.Goals as goal
 
 pub returns-then-not-holds_scalar : goal.returns-then-not-holds_scalar
@@ -17,5 +17,5 @@ returns-in_default c =
 
 pub returns : goal.returns
 returns c =
-    kept_told (node_in c.args.path.now.doc (steps_of c.args.path.now) (cut_of c.args.text.now)) (values.node_of c.args.value.now) _ c.is_scalar.result (sym (ap (option_map scalar_view) c.in-Some.is) ∙ c.in_ok-found.ensures)
+    kept_agrees (node_in c.args.path.now.doc (steps_of c.args.path.now) (cut_of c.args.text.now)) (values.node_of c.args.value.now) _ c.is_scalar.result (sym (ap (option_map scalar_view) c.in-Some.is) ∙ c.in_ok-found.ensures)
     (c.is_scalar.ensures ∙ ap (λ t. are_same (Some (record { kind = c.in-Some.kind; text = t })) (scalar_in (values.node_of c.args.value.now))) c.text.ensures)

@@ -5,7 +5,7 @@ use Rattle.yq_scalar.specs.Text.{is_feed}
 use Rattle.yq_documents.specs.Located.{steps_of}
 use Rattle.yq_documents.specs.Reading.{cut_of}
 use Rattle.yq_places.specs.NodesAt.{node_in, scalar_view}
-use Rattle.yq_edits.proofs.ScalarAnswers.{no_text, text_told}
+use Rattle.yq_edits.proofs.ScalarAnswers.{no_text, has_text_agrees}
 use Rattle.yq_edits.proofs.replace.has_text.Goals as goal
 
 pub returns-in_default : goal.returns-in_default
@@ -13,5 +13,5 @@ returns-in_default c = no_text (node_in c.args.path.now.doc (steps_of c.args.pat
 
 pub returns : goal.returns
 returns c =
-    text_told (node_in c.args.path.now.doc (steps_of c.args.path.now) (cut_of c.args.cut.now)) _ c.holds_text.result (sym (ap (option_map scalar_view) c.in-Some.is) ∙ c.in_ok-found.ensures)
+    has_text_agrees (node_in c.args.path.now.doc (steps_of c.args.path.now) (cut_of c.args.cut.now)) _ c.holds_text.result (sym (ap (option_map scalar_view) c.in-Some.is) ∙ c.in_ok-found.ensures)
     (c.holds_text.ensures ∙ ap (list_any (λ b. not (is_feed b))) c.text.ensures)

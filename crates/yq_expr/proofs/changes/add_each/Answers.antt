@@ -5,7 +5,7 @@ use Rattle.yq_inline.specs.Values.{node_of as value_node}
 use Rattle.yq_documents.specs.Nodes.{node_of}
 use Rattle.yq_meaning.specs.Changes.{add_at}
 use Rattle.yq_planning.specs.ChangeView.{changed_of}
-use Rattle.yq_meaning.specs.Judgement.{Fails, Judges}
+use Rattle.yq_meaning.specs.Judgement.{MatchFails, Judges}
 use Rattle.yq_planning.specs.PlaceView.{place_of, places_of}
 use Rattle.yq_meaning.specs.Places.{root_place}
 use Rattle.yq_meaning.specs.RightValues.{right_value}
@@ -22,7 +22,7 @@ returns-in_err-value c =
     let p = err_from_is_err_and c.from_residual.result c.from_residual.ensures.1 in
     failed _ _ _ _ (p.1 ∙ ap Err p.2)
     (value_fails root (right_value c.args.doc ts (root_place root)) add_at (places_of c.args.places.now) _ (some_places c.args.places.now c.requires.some)
-    (subst (Fails _) (from_root c.args.doc root ts (place_of c.of_root.result) c.of_root.ensures) c.in_err-value.ensures))
+    (subst (MatchFails _) (from_root c.args.doc root ts (place_of c.of_root.result) c.of_root.ensures) c.in_err-value.ensures))
 
 pub returns : goal.returns
 returns c =

@@ -7,7 +7,7 @@ use Rattle.yq_documents.specs.Documents.{Document, document_parts}
 use Rattle.yq_documents.specs.Reading.{cut_of, documents_of}
 use Rattle.yq_meaning.specs.Changes.{changes_in}
 use Rattle.yq_planning.specs.ChangeView.{all_changed_of, changed_of}
-use Rattle.yq_meaning.specs.Judgement.{Fails}
+use Rattle.yq_meaning.specs.Judgement.{MatchFails}
 use Rattle.yq_meaning.specs.Rooms.{room_of}
 use Rattle.yq_planning.specs.TreeScalars.{HasScalars}
 use Rattle.yq_program.specs.View.{update_of}
@@ -39,7 +39,7 @@ returns-in_err-changes_in c =
     let p = err_from_is_err_and c.from_residual.result c.from_residual.ensures.1 in
     failed _ _ _ _ (p.1 ∙ ap Err p.2)
     (document_fails (update_of c.args.update.now) (room_of c.args.documents.now) docs c.documents.doc d.0 (all_changed_of c.documents.changes.items) _ _ d.2
-    (subst (λ (n : Node). Fails c.in_err-changes_in.field-0.0 (changes_in (update_of c.args.update.now) c.documents.doc (room_of c.args.documents.now c.documents.doc) n)) (c.root.ensures.node d.0 d.1) c.in_err-changes_in.ensures)
+    (subst (λ (n : Node). MatchFails c.in_err-changes_in.field-0.0 (changes_in (update_of c.args.update.now) c.documents.doc (room_of c.args.documents.now c.documents.doc) n)) (c.root.ensures.node d.0 d.1) c.in_err-changes_in.ensures)
     c.documents.invariant)
 
 pub documents-preserved : goal.documents-preserved

@@ -4,7 +4,7 @@ use Rattle.yq_scalar.specs.Tree.{Node}
 use Rattle.yq_documents.specs.Documents.{Document, document_parts}
 use Rattle.yq_documents.specs.Reading.{cut_of, documents_of}
 use Rattle.yq_meaning.specs.Copies.{matches, matches_in}
-use Rattle.yq_meaning.specs.Judgement.{Fails}
+use Rattle.yq_meaning.specs.Judgement.{MatchFails}
 use Rattle.yq_expr.specs.MatchView.{matches_of}
 use Rattle.yq_planning.specs.PlaceView.{put_behind}
 use Rattle.yq_planning.specs.TreeScalars.{HasScalars}
@@ -30,7 +30,7 @@ returns-in_err-push_document c =
     let p = err_from_is_err_and c.from_residual.result c.from_residual.ensures.1 in
     failed _ _ _ _ (p.1 ∙ ap Err p.2)
     (document_fails (map stage_of c.args.pipe.now) docs c.documents.doc d.0 (matches_of c.documents.matches.items) _ _ d.2
-    (subst (λ (n : Node). Fails c.in_err-push_document.field-0.0 (put_behind (matches_of c.documents.matches.items) (matches_in c.documents.doc (map stage_of c.args.pipe.now) n))) (c.root.ensures.node d.0 d.1) c.in_err-push_document.ensures)
+    (subst (λ (n : Node). MatchFails c.in_err-push_document.field-0.0 (put_behind (matches_of c.documents.matches.items) (matches_in c.documents.doc (map stage_of c.args.pipe.now) n))) (c.root.ensures.node d.0 d.1) c.in_err-push_document.ensures)
     c.documents.invariant)
 
 pub documents-preserved : goal.documents-preserved

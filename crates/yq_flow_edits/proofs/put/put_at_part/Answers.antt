@@ -19,23 +19,23 @@ use Rattle.yq_flow_edits.proofs.put.put_at_part.Goals as goal
 pub returns-in_default-collection_in : goal.returns-in_default-collection_in
 returns-in_default-collection_in c =
     let last = c.in-Some.ensures ∙ ap (λ ss. last_step (map step_of ss)) c.deref.ensures.value in
-    let told = subst (λ o. IsHeadOf c.args.path.now.doc o c.args.cut.now c.args.head.now) (sym last) c.requires in
-    ap (flow_standing c.args.path.now.doc (cut_of c.args.cut.now)) (sym last) ∙ ap (λ (o : Option CollPieces). o >>= flow_part (step_of c.in-Some.last.now)) (no_collection c.args.cut.now _ c.args.head.now told c.in_default-collection_in.ensures)
+    let agrees = subst (λ o. IsHeadOf c.args.path.now.doc o c.args.cut.now c.args.head.now) (sym last) c.requires in
+    ap (flow_standing c.args.path.now.doc (cut_of c.args.cut.now)) (sym last) ∙ ap (λ (o : Option CollPieces). o >>= flow_part (step_of c.in-Some.last.now)) (no_collection c.args.cut.now _ c.args.head.now agrees c.in_default-collection_in.ensures)
 
 pub returns-in_default-part : goal.returns-in_default-part
 returns-in_default-part c =
     let last = c.in-Some.ensures ∙ ap (λ ss. last_step (map step_of ss)) c.deref.ensures.value in
-    let told = subst (λ o. IsHeadOf c.args.path.now.doc o c.args.cut.now c.args.head.now) (sym last) c.requires in
+    let agrees = subst (λ o. IsHeadOf c.args.path.now.doc o c.args.cut.now c.args.head.now) (sym last) c.requires in
     let q = view c.in-Some-collection_in.node.now in
-    let f = coll_found c.args.cut.now c.args.path.now.doc _ (Some c.args.head.now) c.args.head.now q c.text-text.ensures.read told refl c.in-Some-collection_in.ensures in
+    let f = coll_found c.args.cut.now c.args.path.now.doc _ (Some c.args.head.now) c.args.head.now q c.text-text.ensures.read agrees refl c.in-Some-collection_in.ensures in
     content_missing _ _ (steps_of c.args.path.now) _ (step_of c.in-Some.last.now) c.args.head.now q last f _ c.in_default-part.ensures refl
 
 pub returns-then-is_same_node : goal.returns-then-is_same_node
 returns-then-is_same_node c =
     let last = c.in-Some.ensures ∙ ap (λ ss. last_step (map step_of ss)) c.deref.ensures.value in
-    let told = subst (λ o. IsHeadOf c.args.path.now.doc o c.args.cut.now c.args.head.now) (sym last) c.requires in
+    let agrees = subst (λ o. IsHeadOf c.args.path.now.doc o c.args.cut.now c.args.head.now) (sym last) c.requires in
     let q = view c.in-Some-collection_in.node.now in
-    let f = coll_found c.args.cut.now c.args.path.now.doc _ (Some c.args.head.now) c.args.head.now q c.text-text.ensures.read told refl c.in-Some-collection_in.ensures in
+    let f = coll_found c.args.cut.now c.args.path.now.doc _ (Some c.args.head.now) c.args.head.now q c.text-text.ensures.read agrees refl c.in-Some-collection_in.ensures in
     let p = entry_view c.in-Some-part.entry in (
       _,
       standing_there _ _ (steps_of c.args.path.now) _ (step_of c.in-Some.last.now) c.args.head.now q last f _ c.in-Some-part.ensures p refl,
@@ -46,9 +46,9 @@ returns-then-is_same_node c =
 pub returns : goal.returns
 returns c =
     let last = c.in-Some.ensures ∙ ap (λ ss. last_step (map step_of ss)) c.deref.ensures.value in
-    let told = subst (λ o. IsHeadOf c.args.path.now.doc o c.args.cut.now c.args.head.now) (sym last) c.requires in
+    let agrees = subst (λ o. IsHeadOf c.args.path.now.doc o c.args.cut.now c.args.head.now) (sym last) c.requires in
     let q = view c.in-Some-collection_in.node.now in
-    let f = coll_found c.args.cut.now c.args.path.now.doc _ (Some c.args.head.now) c.args.head.now q c.text-text.ensures.read told refl c.in-Some-collection_in.ensures in
+    let f = coll_found c.args.cut.now c.args.path.now.doc _ (Some c.args.head.now) c.args.head.now q c.text-text.ensures.read agrees refl c.in-Some-collection_in.ensures in
     let p = entry_view c.in-Some-part.entry in
     let written = c.in_ok-written.ensures ∙ ap (λ (l : List ℕ). value_text InFlow l (node_of c.args.value.now)) c.bytes_at.ensures in (
       _,

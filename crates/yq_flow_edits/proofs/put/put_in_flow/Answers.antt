@@ -6,9 +6,9 @@ use Rattle.yq_documents.specs.Located.{steps_of}
 use Rattle.yq_documents.specs.Reading.{cut_of}
 use Rattle.yq_flow.specs.FlowPlaces.{edit_view}
 use Rattle.yq_places.specs.FlowNodes.{flow_collection}
-use Rattle.yq_places.specs.FlowTold.{TellsFlow}
+use Rattle.yq_places.specs.FlowViews.{FlowAgrees}
 use Rattle.yq_places.specs.Standings.{last_step}
-use Rattle.yq_edits.specs.Answers.{Carries}
+use Rattle.yq_edits.specs.Answers.{GivesSegments}
 use Rattle.yq_flow_edits.specs.EditPlaces.{LiesIn, moved_on}
 use Rattle.yq_flow_edits.specs.PartPuts.{ArePuts, IsHeadOf}
 use Rattle.yq_flow_edits.proofs.FlowAnswers.{whole_text}
@@ -18,8 +18,8 @@ use Rattle.yq_flow_edits.proofs.put.put_in_flow.Goals as goal
 pub put_at_part-requires : goal.put_at_part-requires
 put_at_part-requires c =
     let last = c.in-Some.ensures ∙ ap (λ ss. last_step (map step_of ss)) c.deref.ensures.value in
-    let told = subst (TellsFlow c.args.cut.now (flow_collection c.args.path.now.doc (map step_of c.in-Some.above.now) (cut_of c.args.cut.now))) c.in-Some-found.is c.in_ok-found.ensures in
-    subst (λ o. IsHeadOf c.args.path.now.doc o c.args.cut.now c.in-Some-found.head) last told
+    let agrees = subst (FlowAgrees c.args.cut.now (flow_collection c.args.path.now.doc (map step_of c.in-Some.above.now) (cut_of c.args.cut.now))) c.in-Some-found.is c.in_ok-found.ensures in
+    subst (λ o. IsHeadOf c.args.path.now.doc o c.args.cut.now c.in-Some-found.head) last agrees
 
 pub returns-in_default-put : goal.returns-in_default-put
 returns-in_default-put c =
@@ -36,4 +36,4 @@ pub returns-in-Some-written : goal.returns-in-Some-written
 returns-in-Some-written c =
     let h = subst (ArePuts c.args.path.now.doc (steps_of c.args.path.now) (node_of c.args.value.now) (cut_of c.args.cut.now) c.in-Some-found.head) c.in-Some-put.is c.in_ok-put.ensures in
     let all = whole_text c.args.cut.now (whole c.text-text.result) c.text-text.ensures.read c.text-text.ensures.text in
-    subst (Carries c.edit_at.result) (sym (puts_written c.args.path.now.doc (steps_of c.args.path.now) (node_of c.args.value.now) (cut_of c.args.cut.now) c.in-Some-found.head c.in-Some-put.field-0 c.in-Some-written.written (whole c.text-text.result) c.in-Some-written.is all h)) c.edit_at.ensures
+    subst (GivesSegments c.edit_at.result) (sym (puts_written c.args.path.now.doc (steps_of c.args.path.now) (node_of c.args.value.now) (cut_of c.args.cut.now) c.in-Some-found.head c.in-Some-put.field-0 c.in-Some-written.written (whole c.text-text.result) c.in-Some-written.is all h)) c.edit_at.ensures

@@ -5,7 +5,7 @@ use Rattle.yq_inline.specs.View.{view}
 use Rattle.yq_flow.specs.FlowPlaces.{edit_view}
 use Rattle.yq_documents.specs.Located.{steps_of}
 use Rattle.yq_places.specs.Standings.{last_step}
-use Rattle.yq_edits.specs.Answers.{Carries}
+use Rattle.yq_edits.specs.Answers.{GivesSegments}
 use Rattle.yq_flow_edits.specs.EditPlaces.{edit_segments, moved_on}
 use Rattle.yq_flow_edits.proofs.FlowAnswers.{coll_found, whole_text}
 use Rattle.yq_flow_edits.proofs.RemoveAnswers.{removal_found, removal_missing}
@@ -35,4 +35,4 @@ returns c =
     let all = whole_text c.args.cut.now (whole c.text-text.result) c.text-text.ensures.read c.text-text.ensures.text in
     let w = removal_found _ _ (steps_of c.args.path.now) _ (step_of c.in-Some.last.now) c.in-Some-found.head q last f (whole c.text-text.result) (edit_view c.in-Some-remove_place.place) all c.in-Some-remove_place.ensures in
     let nothing = ap (λ (l : List ℕ). Some (edit_segments (whole c.text-text.result) (moved_on c.in-Some-found.head.before (edit_view c.in-Some-remove_place.place)) l)) (sym c.new-nothing.ensures.bytes) in
-    subst (Carries c.edit_at.result) (sym (w.is ∙ nothing)) c.edit_at.ensures
+    subst (GivesSegments c.edit_at.result) (sym (w.is ∙ nothing)) c.edit_at.ensures

@@ -3,7 +3,7 @@ use Rattle.yq_history.proofs.MoveLaws.{first_write, second_write, third_write, s
 use Rattle.std.proofs.Common.{refl, ap, ◌∙◌}
 use Rattle.yq_history.proofs.CutLaws.{cut_unwritten, cut_opened, cut_changed, cut_settled}
 use Rattle.std.specs.FinMap.{get}
-use Rattle.yq_store.specs.Content.{get_written}
+use Rattle.yq_store.specs.FileMap.{get_written}
 use Rattle.yq_history.proofs.EffectLaws.{on_ok}
 use Rattle.yq_history.proofs.moves.carry_out.Goals as goal
 
@@ -66,11 +66,11 @@ returns-clause-cut g c = λ keeps apart.
     (λ x. either x
     (λ same. cut_changed _ _ _ _ _ _ apart _ _ c.in-Ok.ensures.ok (c.in_ok-write_journal.ensures.ok keeps) _ (same ∙ put))
     (λ w. cut_settled _ _ _ _ _ _ _ file
-    (moved_journal _ c.args.journal.now _ _ c.args.step _ _ _ _ c.requires.moves c.requires.changes c.in-Ok.ensures.ok c.in_ok-settle.ensures.ok w)))
+    (moved_journal _ c.args.state.now _ _ c.args.step _ _ _ _ c.requires.moves c.requires.changes c.in-Ok.ensures.ok c.in_ok-settle.ensures.ok w)))
 
 pub returns-clause-moved : goal.returns-clause-moved
 returns-clause-moved g c = λ keeps. on_ok_map _ (c.write_journal-2.ensures.ok keeps)
-    (moved_journal _ c.args.journal.now _ _ c.args.step _ _ _ _ c.requires.moves c.requires.changes c.in-Ok.ensures.ok c.in_ok-settle.ensures.ok)
+    (moved_journal _ c.args.state.now _ _ c.args.step _ _ _ _ c.requires.moves c.requires.changes c.in-Ok.ensures.ok c.in_ok-settle.ensures.ok)
 
 pub returns-clause-text : goal.returns-clause-text
 returns-clause-text g c = λ keeps apart.

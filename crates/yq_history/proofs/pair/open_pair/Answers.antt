@@ -10,17 +10,17 @@ pub returns-clause-opens : goal.returns-clause-opens
 returns-clause-opens g c = λ keeps h good.
     let content = g.D.Store.content in
     let first : content c.read.new.self ≡ content c.args.store.now = c.in_ok-text.ensures.same keeps in
-    opens (content c.args.store.now) (content c.read_journal.new.store) c.args.file.now c.args.name.now c.in_ok-text.text c.in_ok-journal.journal c.settle.new.self h
-    (c.in_ok-journal.ensures.same keeps ∙ first)
+    opens (content c.args.store.now) (content c.read_journal.new.store) c.args.file.now c.args.journal.now c.in_ok-text.text c.in_ok-state.state c.settle.new.self h
+    (c.in_ok-state.ensures.same keeps ∙ first)
     (c.in_ok-text.ensures.found keeps)
-    (sym (ap (λ m. journal_beside (get m c.args.name.now)) first) ∙ c.in_ok-journal.ensures.ok keeps)
-    (sym (ap (settled c.in_ok-journal.journal) c.deref.ensures.value) ∙ c.in_ok-settle.ensures.ok)
+    (sym (ap (λ m. journal_beside (get m c.args.journal.now)) first) ∙ c.in_ok-state.ensures.ok keeps)
+    (sym (ap (settled c.in_ok-state.state) c.deref.ensures.value) ∙ c.in_ok-settle.ensures.ok)
     good
 
 pub returns-clause-found : goal.returns-clause-found
 returns-clause-found g c = λ keeps go.
     let content = g.D.Store.content in
     let first : content c.read.new.self ≡ content c.args.store.now = c.in_ok-text.ensures.same keeps in
-    settles (get (content c.args.store.now) c.args.file.now) (get (content c.args.store.now) c.args.name.now) _ (c.in_ok-text.ensures.found keeps)
-    _ (sym (ap (λ m. journal_beside (get m c.args.name.now)) first) ∙ c.in_ok-journal.ensures.ok keeps)
-    _ (sym (ap (settled c.in_ok-journal.journal) c.deref.ensures.value) ∙ c.in_ok-settle.ensures.ok) go
+    settles (get (content c.args.store.now) c.args.file.now) (get (content c.args.store.now) c.args.journal.now) _ (c.in_ok-text.ensures.found keeps)
+    _ (sym (ap (λ m. journal_beside (get m c.args.journal.now)) first) ∙ c.in_ok-state.ensures.ok keeps)
+    _ (sym (ap (settled c.in_ok-state.state) c.deref.ensures.value) ∙ c.in_ok-settle.ensures.ok) go

@@ -5,4 +5,4 @@ use Rattle.yq_history.specs.Listing.{lines_behind}
 use Rattle.yq_history.proofs.printing.lines_of.Given as goal
 
 abbrev pub invariant-records : goal.invariant-records
-invariant-records l = string_bytes l.lines ≡ lines_behind 0 l.journal.at (map (λ (r : Record). r.expr) (take l.i l.journal.records))
+invariant-records l = string_bytes l.lines ≡ lines_behind 0 l.state.at (map (λ (r : Record). r.expr) (take l.i l.state.records))

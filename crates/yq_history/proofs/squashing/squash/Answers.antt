@@ -8,7 +8,7 @@ use Rattle.yq_history.proofs.squashing.squash.Goals as goal
 
 pub returns-clause-arrives : goal.returns-clause-arrives
 returns-clause-arrives g c = λ keeps apart h good.
-    squash_opened _ _ _ _ c.args.n h _ c.in_ok-_text.journal c.squash_from.result (c.in_ok-_text.ensures.opens keeps h good)
+    squash_opened _ _ _ _ c.args.n h _ c.in_ok-_text.state c.squash_from.result (c.in_ok-_text.ensures.opens keeps h good)
     (λ t x rest. c.squash_from.ensures.arrives keeps c.args.file.now t apart x rest)
 
 pub returns-in_err-_text-clause-effect : goal.returns-in_err-_text-clause-effect
@@ -19,5 +19,5 @@ returns-in_err-_text-clause-effect g c = λ keeps apart.
 pub returns-clause-effect : goal.returns-clause-effect
 returns-clause-effect g c = λ keeps apart.
     let same = c.in_ok-_text.ensures.same keeps in
-    from_opened _ _ (squash_effect c.args.n) _ _ (g.D.Store.content c.args.store.now) _ _ c.in_ok-_text._text.items c.in_ok-_text.journal c.squash_from.result same (c.in_ok-_text.ensures.found keeps (squash_effect c.args.n))
+    from_opened _ _ (squash_effect c.args.n) _ _ (g.D.Store.content c.args.store.now) _ _ c.in_ok-_text._text.items c.in_ok-_text.state c.squash_from.result same (c.in_ok-_text.ensures.found keeps (squash_effect c.args.n))
     (c.squash_from.ensures.effect keeps c.args.file.now _ apart (ap (λ m. get m c.args.file.now) same ∙ c.in_ok-_text.ensures.text keeps))

@@ -26,15 +26,15 @@ returns-clause-arrives g c = λ keeps file t apart h k.
 pub returns-in_err-squash-clause-effect : goal.returns-in_err-squash-clause-effect
 returns-in_err-squash-clause-effect g c = λ keeps file t apart there.
     let p = err_from_is_err_and c.from_residual.result c.from_residual.ensures.1 in
-    squash_not_done file c.args.name.now (g.D.Store.content c.args.store.now) c.args.journal.now t c.args.n c.from_residual.result p.0 _ p.1 p.2 c.in_err-squash.ensures.fault
+    squash_not_done file c.args.journal.now (g.D.Store.content c.args.store.now) c.args.state.now t c.args.n c.from_residual.result p.0 _ p.1 p.2 c.in_err-squash.ensures.fault
 
 pub returns-then-n-eq1-clause-effect : goal.returns-then-n-eq1-clause-effect
 returns-then-n-eq1-clause-effect g c = λ keeps file t apart there.
-    squash_one_works file c.args.name.now (g.D.Store.content c.args.store.now) c.args.journal.now t c.args.n {T = Unit {0}} tt (eq-eqb c.args.n 1 c.if-n-eq1.true) c.in_ok-squash.ensures.free
+    squash_one_works file c.args.journal.now (g.D.Store.content c.args.store.now) c.args.state.now t c.args.n {T = Unit {0}} tt (eq-eqb c.args.n 1 c.if-n-eq1.true) c.in_ok-squash.ensures.free
 
 pub returns-clause-effect : goal.returns-clause-effect
 returns-clause-effect g c = λ keeps file t apart there.
-    squash_works file c.args.name.now (g.D.Store.content c.args.store.now) c.args.journal.now t c.args.n _ c.write_journal.result (ne_eqb c.args.n 1 c.if-n-eq1.false) c.in_ok-squash.ensures.free there (c.write_journal.ensures.others keeps file apart)
+    squash_works file c.args.journal.now (g.D.Store.content c.args.store.now) c.args.state.now t c.args.n _ c.write_journal.result (ne_eqb c.args.n 1 c.if-n-eq1.false) c.in_ok-squash.ensures.free there (c.write_journal.ensures.others keeps file apart)
     (on_ok_map _ (c.write_journal.ensures.ok keeps) (λ w. subst (IsJournal _) c.in_ok-squash.ensures.ok (journal_written _ _ _ _ w)))
     (on_err_map _ (c.write_journal.ensures.err keeps) (λ x. either x inl (λ w. inr (subst (IsJournal _) c.in_ok-squash.ensures.ok (journal_written _ _ _ _ w)))))
     c.write_journal.ensures.outside

@@ -1,6 +1,6 @@
 use Rattle.std.proofs.Common.{arith}
 use Rattle.std.proofs.lemmas.Grind.{common_steps}
-use Rattle.yq_journal.specs.Gap.{whole}
+use Rattle.yq_journal.specs.GapBuffer.{whole}
 use Rattle.yq_journal.proofs.RecordLaws.{undone_step}
 use Rattle.yq_journal.proofs.gap.unspliced.Goals as goal
 

@@ -1,6 +1,6 @@
 use Rattle.std.proofs.Common.{◌≡◌, ◌≤◌, take, length}
 use Rattle.yq_script.specs.Splice.{all_done, flipped}
-use Rattle.yq_journal.specs.Gap.{whole}
+use Rattle.yq_journal.specs.GapBuffer.{whole}
 use Rattle.yq_journal.proofs.gap.unspliced.Given as goal
 
 abbrev pub invariant-splices : goal.invariant-splices

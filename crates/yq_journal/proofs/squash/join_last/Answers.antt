@@ -2,7 +2,7 @@ use Rattle.std.proofs.Common.{◌≡◌, ◌∷◌, ◌-◌, [], take, drop, tru
 use Rattle.std.proofs.lemmas.Result.{err_from_is_err_and}
 use Rattle.yq_journal.specs.Record.{meet}
 use Rattle.yq_journal.specs.State.{joined_of, last_done}
-use Rattle.yq_journal.proofs.JoinLaws.{slice_run, bad_count, good_count, split_first, tells_memory}
+use Rattle.yq_journal.proofs.JoinLaws.{slice_run, bad_count, good_count, split_first, reports_memory}
 use Rattle.yq_journal.proofs.squash.join_last.Goals as goal
 
 pub returns-then-not-meets-clause-err : goal.returns-then-not-meets-clause-err
@@ -25,4 +25,4 @@ returns-in_err-join_all-in-len1-up-clause-err c =
     let p = err_from_is_err_and c.from_residual.result c.from_residual.ensures.1 in
     let meets : meet (last_done c.args.records.now c.args.at c.args.n) ≡ true =
     ap meet (sym (slice_run c.args.records.now c.args.at (c.args.at - c.args.n) (omega arith))) ∙ sym c.meets.ensures ∙ c.if-not-meets.false in
-    tells_memory c.from_residual.result p.0 _ p.1 p.2 (good_count c.args.records.now c.args.at c.args.n (omega arith) (omega arith) meets)
+    reports_memory c.from_residual.result p.0 _ p.1 p.2 (good_count c.args.records.now c.args.at c.args.n (omega arith) (omega arith) meets)

@@ -2,7 +2,7 @@ use Rattle.std.proofs.Common.{◌-◌, length, Some, sym, ap, ap₂, ◌∙◌, 
 use Rattle.std.specs.Prelude.{slice_get}
 use Rattle.std.proofs.lemmas.Option.{slice_get_read}
 use Rattle.yq_script.specs.Splice.{Splice, swapped}
-use Rattle.yq_journal.specs.Gap.{change}
+use Rattle.yq_journal.specs.GapBuffer.{change}
 use Rattle.yq_journal.specs.Turned.{turned}
 use Rattle.yq_journal.proofs.StandLaws.{flipped_at}
 use Rattle.yq_journal.proofs.stands.nth.Goals as goal

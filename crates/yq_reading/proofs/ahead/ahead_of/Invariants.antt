@@ -1,5 +1,5 @@
 use Rattle.std.proofs.Common.{ℕ, ◌≤◌, List, length}
-use Rattle.yq_documents.specs.declared.made.Made.{Made}
+use Rattle.yq_documents.specs.declared.decoded.Decoded.{Decoded}
 use Rattle.yq_reading.specs.Ahead.{IsAhead}
 use Rattle.yq_reading.proofs.ahead.ahead_of.Given as goal
 
@@ -8,4 +8,4 @@ decreases-passed l = length l.left
 
 -- what is left is made of the rows from one on that is no later
 abbrev pub invariant-passed : goal.invariant-passed
-invariant-passed l = (all : List Made) (first : ℕ) → first ≤ l.row → IsAhead all first l.made → (n : ℕ) × (n ≤ l.row) × IsAhead all n l.left
+invariant-passed l = (all : List Decoded) (first : ℕ) → first ≤ l.row → IsAhead all first l.decoded → (n : ℕ) × (n ≤ l.row) × IsAhead all n l.left

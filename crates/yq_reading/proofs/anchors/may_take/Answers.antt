@@ -5,8 +5,8 @@ use Rattle.yq_scalar.specs.Text.{is_empty}
 use Rattle.yq_inline.specs.Nodes.{first_is}
 use Rattle.yq_rows.specs.View.{slices}
 use Rattle.yq_walk.specs.Lines.{row_lines}
-use Rattle.yq_walk.proofs.WalkSpots.{located}
-use Rattle.yq_reading.proofs.AnchorRows.{bare_told, mark_takes}
+use Rattle.yq_walk.proofs.WalkPositions.{located}
+use Rattle.yq_reading.proofs.AnchorRows.{bare_agrees, mark_takes}
 use Rattle.yq_reading.proofs.ReadyLaws.{row_within}
 use Rattle.yq_reading.proofs.RowContents.{row_content}
 use Rattle.yq_rows.specs.Rows.{parent_indent}
@@ -16,10 +16,10 @@ pub returns-then-not-is_bare : goal.returns-then-not-is_bare
 returns-then-not-is_bare c = λ h l is. mark_takes l.mark l.anchor l.head (c.if-not-is_bare.ensures h l is)
 
 pub anchor-requires : goal.anchor-requires
-anchor-requires c = row_within c.args.x.text.now c.args.x.rows.now c.args.x.made.now c.args.x.document c.args.at c.requires.ready c.requires.line
+anchor-requires c = row_within c.args.x.text.now c.args.x.rows.now c.args.x.decoded.now c.args.x.document c.args.at c.requires.ready c.requires.line
 
 pub head-requires : goal.head-requires
-head-requires c = row_within c.args.x.text.now c.args.x.rows.now c.args.x.made.now c.args.x.document c.args.at c.requires.ready c.requires.line
+head-requires c = row_within c.args.x.text.now c.args.x.rows.now c.args.x.decoded.now c.args.x.document c.args.at c.requires.ready c.requires.line
 
 pub returns : goal.returns
 returns c = λ h l is.
@@ -29,4 +29,4 @@ returns c = λ h l is.
     let first = ap (slice_get (row_lines k.row)) (sym c.requires.first) ∙ (k.in_row ∙ ap Some own) in
     c.is_unnamed.ensures
     ∙ ((λ i. is_empty (c.anchor.ensures (slices k.row) k.pieces i) && not (first_is 42 (c.head.ensures (slices k.row) k.pieces i)))
-    ∙ bare_told (parent_indent k.row) k.row v.0 l v.1 first (c.if-not-is_bare.ensures h l is))
+    ∙ bare_agrees (parent_indent k.row) k.row v.0 l v.1 first (c.if-not-is_bare.ensures h l is))

@@ -6,11 +6,11 @@ use Rattle.yq_rows.specs.View.{slices}
 use Rattle.yq_walk.specs.Lines.{content_anchor, lines_of}
 use Rattle.yq_walk.specs.RowWalk.{IsLine}
 use Rattle.yq_walk.proofs.WalkRows.{rows_length}
-use Rattle.yq_walk.proofs.WalkSpots.{located}
+use Rattle.yq_walk.proofs.WalkPositions.{located}
 use Rattle.yq_documents.specs.RowReading.{name_in}
 use Rattle.yq_documents.proofs.RowLineLaws.{anchor_is}
 use Rattle.yq_reading.proofs.AnchorRows.{anchor_some, row_fails, row_passes}
-use Rattle.yq_reading.proofs.ReadyLaws.{row_line}
+use Rattle.yq_reading.proofs.ReadyLaws.{row_first_line}
 use Rattle.yq_reading.proofs.RowContents.{anchor_step, nothing_left}
 use Rattle.yq_reading.proofs.anchors.second_anchor.Goals as goal
 
@@ -24,13 +24,13 @@ rows-init c = record {
 }
 
 pub is_free-requires-clause-line : goal.is_free-requires-clause-line
-is_free-requires-clause-line c = row_line c.args.x.rows.now c.args.x.document c.rows.row c.rows.auto.row c.rows-test.true
+is_free-requires-clause-line c = row_first_line c.args.x.rows.now c.args.x.document c.rows.row c.rows.auto.row c.rows-test.true
 
 pub returns-then-not-is_free : goal.returns-then-not-is_free
 returns-then-not-is_free c = λ h.
     let s = c.args.x.rows.now in
     let d = c.args.x.document in
-    let at = row_line s d c.rows.row c.rows.auto.row c.rows-test.true in
+    let at = row_first_line s d c.rows.row c.rows.auto.row c.rows-test.true in
     let k = located s d h (record { row = c.rows.row; line = 0 }) at in
     row_fails _ _ _ (anchor_step h.rows (c.rows.row - d.first) k.row k.line c.rows.before.now _ k.there k.in_row c.rows.invariant.named (c.rows.invariant.so_far h)) (c.if-not-is_free.ensures h k.line k.is)
 
@@ -41,12 +41,12 @@ pub rows-preserved : goal.rows-preserved
 rows-preserved c =
     let s = c.args.x.rows.now in
     let d = c.args.x.document in
-    let at : IsLine s d (record { row = c.rows.row; line = 0 }) = row_line s d c.rows.row c.rows.auto.row c.rows-test.true in
+    let at : IsLine s d (record { row = c.rows.row; line = 0 }) = row_first_line s d c.rows.row c.rows.auto.row c.rows-test.true in
     let f = located s d c.requires.ready.document (record { row = c.rows.row; line = 0 }) at in
-    let told = c.anchor-before.ensures (slices f.row) f.pieces in
+    let agrees = c.anchor-before.ensures (slices f.row) f.pieces in
     record {
       text = search rules;
-      named = ap is_empty told ∙ (anchor_some f.row.content ∙ ap is_none (sym (anchor_is f.row.content) ∙ ap name_in (sym told)));
+      named = ap is_empty agrees ∙ (anchor_some f.row.content ∙ ap is_none (sym (anchor_is f.row.content) ∙ ap name_in (sym agrees)));
       so_far = λ h.
           let k = located s d h (record { row = c.rows.row; line = 0 }) at in
           let here = c.anchor-before.ensures (slices k.row) k.pieces in

@@ -15,10 +15,10 @@ names-preserved c =
     elim c.match-named.branch [
       | in-Anchors+in_ok-insert-in-Anchors w ↦
           let a = w.in-Anchors.name.now in
-          let seen = named_at ns c.names.at _ (Anchors a) c.names-test.true (ap name_view w.in-Anchors.is) in
-          subst (λ m. Known m behind all) (sym w.known-is) (anchor_known c.names.known w.insert.new.self a tt behind all w.in_ok-insert-in-Anchors.ensures.updates (subst (λ x. Known c.names.known x all) seen c.names.invariant))
+          let name_is = named_at ns c.names.at _ (Anchors a) c.names-test.true (ap name_view w.in-Anchors.is) in
+          subst (λ m. Known m behind all) (sym w.known-is) (anchor_known c.names.known w.insert.new.self a tt behind all w.in_ok-insert-in-Anchors.ensures.updates (subst (λ x. Known c.names.known x all) name_is c.names.invariant))
       | in-Refers+else-not-contains_key w ↦
           let a = w.in-Refers.name.now in
-          let seen = named_at ns c.names.at _ (Refers a) c.names-test.true (ap name_view w.in-Refers.is) in
-          subst (λ m. Known m behind all) (sym w.known-is) (alias_known c.names.known a behind all w.if-not-contains_key.ensures (subst (λ x. Known c.names.known x all) seen c.names.invariant))
+          let name_is = named_at ns c.names.at _ (Refers a) c.names-test.true (ap name_view w.in-Refers.is) in
+          subst (λ m. Known m behind all) (sym w.known-is) (alias_known c.names.known a behind all w.if-not-contains_key.ensures (subst (λ x. Known c.names.known x all) name_is c.names.invariant))
     ]

@@ -1,27 +1,27 @@
 use Rattle.std.proofs.Common.{Some, ap, ◌∙◌}
 use Rattle.yq_rows.specs.View.{slices}
 use Rattle.yq_walk.proofs.WalkMarks.{key_none, key_here}
-use Rattle.yq_walk.proofs.WalkSpots.{located}
+use Rattle.yq_walk.proofs.WalkPositions.{located}
 use Rattle.yq_reading.proofs.ReadyLaws.{row_within}
 use Rattle.yq_reading.proofs.checked.line_key.Goals as goal
 
 pub rank_at-requires-clause-within : goal.rank_at-requires-clause-within
-rank_at-requires-clause-within c = row_within c.args.x.text.now c.args.x.rows.now c.args.x.made.now c.args.x.document c.args.at c.requires.ready c.requires.line
+rank_at-requires-clause-within c = row_within c.args.x.text.now c.args.x.rows.now c.args.x.decoded.now c.args.x.document c.args.at c.requires.ready c.requires.line
 
-pub rank_at-requires-clause-shown : goal.rank_at-requires-clause-shown
-rank_at-requires-clause-shown c = c.requires.ready.shown
+pub rank_at-requires-clause-rows_view : goal.rank_at-requires-clause-rows_view
+rank_at-requires-clause-rows_view c = c.requires.ready.rows_view
 
 pub returns-then-rank_at-ne2 : goal.returns-then-rank_at-ne2
 returns-then-rank_at-ne2 c = λ h l is. key_none c.args.x.rows.now c.args.x.document h c.args.at c.requires.line l is c.rank_at.result c.rank_at.ensures c.if-rank_at-ne2.true
 
 pub row_key-requires-clause-within : goal.row_key-requires-clause-within
-row_key-requires-clause-within c = row_within c.args.x.text.now c.args.x.rows.now c.args.x.made.now c.args.x.document c.args.at c.requires.ready c.requires.line
+row_key-requires-clause-within c = row_within c.args.x.text.now c.args.x.rows.now c.args.x.decoded.now c.args.x.document c.args.at c.requires.ready c.requires.line
 
 pub ahead_from-requires : goal.ahead_from-requires
 ahead_from-requires c = c.requires.ready.rise
 
-pub row_key-requires-clause-made : goal.row_key-requires-clause-made
-row_key-requires-clause-made c = c.ahead_from.ensures
+pub row_key-requires-clause-decoded : goal.row_key-requires-clause-decoded
+row_key-requires-clause-decoded c = c.ahead_from.ensures
 
 pub returns : goal.returns
 returns c = λ h l is.

@@ -6,14 +6,14 @@ use Rattle.yq_lines.specs.Sound.{is_sound}
 use Rattle.yq_lines.proofs.LinesLaws.{lines_named, lines_unsound}
 use Rattle.yq_walk.specs.Lines.{lines_of}
 use Rattle.yq_walk.specs.RowWalk.{line_number}
-use Rattle.yq_walk.proofs.WalkSpots.{first_number}
+use Rattle.yq_walk.proofs.WalkPositions.{first_number}
 use Rattle.yq_reading.proofs.DecidingLaws.{decides_as, denies_as}
 use Rattle.yq_reading.proofs.HeadsApart.{heads_apart}
-use Rattle.yq_reading.proofs.ReadyLaws.{first_spot}
+use Rattle.yq_reading.proofs.ReadyLaws.{first_position}
 use Rattle.yq_reading.proofs.document.check_document.Goals as goal
 
-pub with_level-start-requires-clause-spot : goal.with_level-start-requires-clause-spot
-with_level-start-requires-clause-spot c = first_spot c.args.x.rows.now c.args.x.document c.requires.ready.document
+pub with_level-start-requires-clause-position : goal.with_level-start-requires-clause-position
+with_level-start-requires-clause-position c = first_position c.args.x.rows.now c.args.x.document c.requires.ready.document
 
 pub ahead_from-requires : goal.ahead_from-requires
 ahead_from-requires c = c.requires.ready.rise
@@ -26,7 +26,7 @@ returns-in-Err-clause-sound c = λ k.
     let ls = lines_of k.document.rows in
     denies_as c.in-Err.e _ _
     (λ bad.
-    let unsound = lines_unsound ls (sym (ap (λ (n : ℕ). is_sound depth_limit (part ls n 0)) (first_number c.args.x.document k.document.rows ∙ ap (line_number c.args.x.document k.document.rows) (sym c.with_level-start.ensures.spot)) ∙ bad)) in
+    let unsound = lines_unsound ls (sym (ap (λ (n : ℕ). is_sound depth_limit (part ls n 0)) (first_number c.args.x.document k.document.rows ∙ ap (line_number c.args.x.document k.document.rows) (sym c.with_level-start.ensures.position)) ∙ bad)) in
     (λ i. sym (c.if-not-has_short_root.ensures k.document) i && sym unsound i))
     (c.in-Err.ensures.sound k)
 
@@ -34,7 +34,7 @@ pub returns-in-Ok-clause-sound : goal.returns-in-Ok-clause-sound
 returns-in-Ok-clause-sound c = λ k.
     let ls = lines_of k.document.rows in
     let h = k.document in
-    let sound = sym (ap (λ (n : ℕ). is_sound depth_limit (part ls n 0)) (first_number c.args.x.document h.rows ∙ ap (line_number c.args.x.document h.rows) (sym c.with_level-start.ensures.spot)) ∙ c.in-Ok.ensures.sound k) in
+    let sound = sym (ap (λ (n : ℕ). is_sound depth_limit (part ls n 0)) (first_number c.args.x.document h.rows ∙ ap (line_number c.args.x.document h.rows) (sym c.with_level-start.ensures.position)) ∙ c.in-Ok.ensures.sound k) in
     decides_as c.check_names.result _ _
     (lines_named ls (heads_apart h.limit h.rows h.end h.rest h.valid) sound ∙ ap (λ b. b && lines_are_sound ls) (c.if-not-has_short_root.ensures h))
     (c.check_names.ensures.sound k)

@@ -9,6 +9,6 @@ use Rattle.yq_reading.proofs.document_names.names_of.Given as goal
 -- the names so far stand before those from here on, and what is made of a row that is no later is at hand
 abbrev pub invariant-rows : goal.invariant-rows
 invariant-rows l = record {
-  ahead : (k : IsChecked l.x) → (n : ℕ) × (n ≤ l.i) × IsAhead l.x.made.now n l.made;
+  ahead : (k : IsChecked l.x) → (n : ℕ) × (n ≤ l.i) × IsAhead l.x.decoded.now n l.decoded;
   names : (k : IsChecked l.x) → all_named l.names.items ++ line_names (lines_of (drop (l.i - l.x.document.first) k.document.rows)) ≡ line_names (lines_of k.document.rows);
 }

@@ -1,7 +1,7 @@
 use Rattle.std.proofs.Common.{Some, ap, ◌∙◌}
 use Rattle.yq_lines.specs.Outline.{key_of}
 use Rattle.yq_rows.specs.View.{slices}
-use Rattle.yq_walk.proofs.WalkSpots.{located}
+use Rattle.yq_walk.proofs.WalkPositions.{located}
 use Rattle.yq_reading.proofs.ReachedLaws.{key_some, none_of}
 use Rattle.yq_reading.proofs.ReadyLaws.{row_within}
 use Rattle.yq_reading.proofs.reached.key_at.Goals as goal
@@ -10,13 +10,13 @@ pub returns-then-not-has_key : goal.returns-then-not-has_key
 returns-then-not-has_key c = λ h l is. none_of (key_of l.mark) (c.if-not-has_key.ensures h l is)
 
 pub row_key-requires-clause-within : goal.row_key-requires-clause-within
-row_key-requires-clause-within c = let x = c.args.x in row_within x.text.now x.rows.now x.made.now x.document c.args.at.spot c.requires.ready c.requires.line
+row_key-requires-clause-within c = let x = c.args.x in row_within x.text.now x.rows.now x.decoded.now x.document c.args.at.position c.requires.ready c.requires.line
 
-pub row_key-requires-clause-made : goal.row_key-requires-clause-made
-row_key-requires-clause-made c = c.requires.reached.made
+pub row_key-requires-clause-decoded : goal.row_key-requires-clause-decoded
+row_key-requires-clause-decoded c = c.requires.reached.decoded
 
 pub returns : goal.returns
 returns c = λ h l is.
     let x = c.args.x in
-    let k = located x.rows.now x.document h c.args.at.spot c.requires.line in
-    ap Some (c.row_key.ensures (slices k.row) k.pieces) ∙ key_some x.rows.now x.document h c.args.at.spot c.requires.line l is (c.if-not-has_key.ensures h l is)
+    let k = located x.rows.now x.document h c.args.at.position c.requires.line in
+    ap Some (c.row_key.ensures (slices k.row) k.pieces) ∙ key_some x.rows.now x.document h c.args.at.position c.requires.line l is (c.if-not-has_key.ensures h l is)

@@ -3,14 +3,14 @@ use Rattle.yq_rows.specs.View.{rows_of}
 use Rattle.yq_documents.specs.Documents.{document_parts}
 use Rattle.yq_documents.specs.Reading.{all_documents, cut_of, have_fit_keys}
 use Rattle.yq_reading.specs.Checking.{some_refer}
-use Rattle.yq_reading.specs.Places.{ArePlaced, all_sound}
+use Rattle.yq_reading.specs.Places.{AreLocated, all_sound}
 use Rattle.yq_reading.proofs.DecidingLaws.{denies_as}
 use Rattle.yq_reading.proofs.DocumentsRead.{all_split, cut_into, held}
 use Rattle.yq_reading.proofs.PartLaws.{are_placed}
 use Rattle.yq_reading.proofs.reading.read_rows.Goals as goal
 
-pub made_rows-requires : goal.made_rows-requires
-made_rows-requires c = record { cut = cut_into c.args.text.now c.args.rows c.requires.0 c.requires.1 c.requires.2 }
+pub decode_rows-requires : goal.decode_rows-requires
+decode_rows-requires c = record { cut = cut_into c.args.text.now c.args.rows c.requires.0 c.requires.1 c.requires.2 }
 
 pub returns-in-Err-clause-documents : goal.returns-in-Err-clause-documents
 returns-in-Err-clause-documents c = λ d h.
@@ -23,7 +23,7 @@ check_documents-requires-clause-cut c = cut_into c.args.text.now c.args.rows c.r
 pub check_documents-requires-clause-places : goal.check_documents-requires-clause-places
 check_documents-requires-clause-places c =
     let t = c.args.text.now in
-    subst (ArePlaced t) (sym c.deref-3.ensures.value) (are_placed t c.args.rows c.in_ok-documents.documents.items (cut_into t c.args.rows c.requires.0 c.requires.1 c.requires.2) c.in_ok-documents.ensures)
+    subst (AreLocated t) (sym c.deref-3.ensures.value) (are_placed t c.args.rows c.in_ok-documents.documents.items (cut_into t c.args.rows c.requires.0 c.requires.1 c.requires.2) c.in_ok-documents.ensures)
 
 pub returns-in-Err-check_documents-clause-documents : goal.returns-in-Err-check_documents-clause-documents
 returns-in-Err-check_documents-clause-documents c = λ d h.
@@ -34,7 +34,7 @@ pub new-requires : goal.new-requires
 new-requires c =
     let t = c.args.text.now in
     let k = cut_into t c.args.rows c.requires.0 c.requires.1 c.requires.2 in
-    held t c.args.rows c.in-Ok.made.items c.in_ok-documents.documents.items k c.in-Ok.ensures.made (are_placed t c.args.rows c.in_ok-documents.documents.items k c.in_ok-documents.ensures) c.some_refer-refers.result
+    held t c.args.rows c.in-Ok.decoded.items c.in_ok-documents.documents.items k c.in-Ok.ensures.decoded (are_placed t c.args.rows c.in_ok-documents.documents.items k c.in_ok-documents.ensures) c.some_refer-refers.result
     (c.some_refer-refers.ensures ∙ ap some_refer c.deref.ensures.value) (sym (all_split t (cut_of t) k.cut) ∙ (λ i. c.in-Ok.ensures.fits i && c.in-Ok-check_documents.ensures.sound i))
 
 pub returns-clause-documents : goal.returns-clause-documents

@@ -3,12 +3,12 @@ use Rattle.yq_lines.specs.Ends.{is_end, part}
 use Rattle.yq_lines.specs.Sound.{is_sound}
 use Rattle.yq_lines.proofs.EndsLaws.{is_at_end, not_end}
 use Rattle.yq_lines.proofs.EntryLaws.{start_asked, start_deep, start_bare, one_fails, one_passes, no_more}
-use Rattle.yq_lines.proofs.KeyLaws.{distinct_told}
+use Rattle.yq_lines.proofs.KeyLaws.{distinct_agrees}
 use Rattle.yq_lines.proofs.LineEnds.{end_counted}
 use Rattle.yq_lines.proofs.SoundLaws.{IsEntryLevel, entry_level}
 use Rattle.yq_walk.specs.Lines.{lines_of}
 use Rattle.yq_walk.specs.RowWalk.{line_number}
-use Rattle.yq_walk.proofs.WalkSpots.{located, spot_line}
+use Rattle.yq_walk.proofs.WalkPositions.{located, position_line}
 use Rattle.yq_reading.proofs.DecidingLaws.{decides_as, denies_as}
 use Rattle.yq_reading.proofs.GivesLaws.{gives_all, gives_alone, gives_end, gives_none, moved_on, stop_same}
 use Rattle.yq_reading.proofs.UnderLaws.{alone_sound, bare_is, both_there, entry_is, none_sound, other_level, under_sound}
@@ -18,19 +18,19 @@ use Rattle.yq_reading.proofs.sound.+sound.Goals as goal
 -- a line
 pub check_line-returns-then-level-n-clause-sound : goal.check_line-returns-then-level-n-clause-sound
 check_line-returns-then-level-n-clause-sound t c = λ r l is.
-    let h = r.document in other_level c.args.depth c.args.n l _ (λ same. c.if-level-n.true (c.requires.at.told c.requires.line.upto h l is ∙ same))
+    let h = r.document in other_level c.args.depth c.args.n l _ (λ same. c.if-level-n.true (c.requires.at.agrees c.requires.line.upto h l is ∙ same))
 
 pub check_line-returns-in-Err-clause-sound : goal.check_line-returns-in-Err-clause-sound
 check_line-returns-in-Err-clause-sound t c = λ r l is.
     let h = r.document in
-    let same = sym (c.requires.at.told c.requires.line.upto h l is) ∙ c.if-level-n.false in
+    let same = sym (c.requires.at.agrees c.requires.line.upto h l is) ∙ c.if-level-n.false in
     let none = (λ i. is_end (part (lines_of h.rows) (sym (c.line_behind-after.ensures.number h) i) (same i))) ∙ is_at_end _ (c.if-not-is_deeper.ensures.test h) in
     denies_as c.in-Err.e _ _ (λ bad. alone_sound c.args.depth c.args.n l _ same none ∙ bad) (c.in-Err.ensures.sound r l is)
 
 pub check_line-returns-in-Ok-clause-sound : goal.check_line-returns-in-Ok-clause-sound
 check_line-returns-in-Ok-clause-sound t c = λ r l is.
     let h = r.document in
-    let same = sym (c.requires.at.told c.requires.line.upto h l is) ∙ c.if-level-n.false in
+    let same = sym (c.requires.at.agrees c.requires.line.upto h l is) ∙ c.if-level-n.false in
     let none = (λ i. is_end (part (lines_of h.rows) (sym (c.line_behind-after.ensures.number h) i) (same i))) ∙ is_at_end _ (c.if-not-is_deeper.ensures.test h) in
     alone_sound c.args.depth c.args.n l _ same none ∙ c.in-Ok.ensures.sound r l is
 
@@ -40,20 +40,20 @@ check_line-returns-in-Ok-clause-reached t c = c.line_behind-after.ensures.reache
 pub check_line-returns-in-Ok-clause-behind : goal.check_line-returns-in-Ok-clause-behind
 check_line-returns-in-Ok-clause-behind t c =
     let x = c.args.x in
-    gives_alone x.rows.now x.document c.args.at.spot c.line_behind-after.result.spot c.args.n c.requires.ready.document c.requires.line c.line_behind-after.ensures.reached.spot c.line_behind-after.ensures.number
-    (λ h l is. sym c.if-level-n.false ∙ c.requires.at.told c.requires.line.upto h l is) (λ h. is_at_end _ (c.if-not-is_deeper.ensures.test h))
+    gives_alone x.rows.now x.document c.args.at.position c.line_behind-after.result.position c.args.n c.requires.ready.document c.requires.line c.line_behind-after.ensures.reached.position c.line_behind-after.ensures.number
+    (λ h l is. sym c.if-level-n.false ∙ c.requires.at.agrees c.requires.line.upto h l is) (λ h. is_at_end _ (c.if-not-is_deeper.ensures.test h))
 
 pub check_line-returns-then-has_head-clause-sound : goal.check_line-returns-then-has_head-clause-sound
 check_line-returns-then-has_head-clause-sound t c = λ r l is.
     let h = r.document in
-    let same = sym (c.requires.at.told c.requires.line.upto h l is) ∙ c.if-level-n.false in
+    let same = sym (c.requires.at.agrees c.requires.line.upto h l is) ∙ c.if-level-n.false in
     let some = (λ i. is_end (part (lines_of h.rows) (sym (c.line_behind-after.ensures.number h) i) (same i))) ∙ not_end _ (c.if-not-is_deeper.ensures.test h) in
     both_there c.args.depth c.args.n l _ (c.if-has_head.ensures h l is) some
 
 pub check_line-returns-clause-sound : goal.check_line-returns-clause-sound
 check_line-returns-clause-sound t c = λ r l is.
     let h = r.document in
-    let same = sym (c.requires.at.told c.requires.line.upto h l is) ∙ c.if-level-n.false in
+    let same = sym (c.requires.at.agrees c.requires.line.upto h l is) ∙ c.if-level-n.false in
     decides_as c.check_lines.result _ _
     ((λ i. is_sound c.args.depth (part (lines_of h.rows) (c.line_behind-after.ensures.number h i) (sym same i))) ∙ under_sound c.args.depth c.args.n l _ same (c.if-has_head.ensures h l is))
     (c.check_lines.ensures.sound r)
@@ -63,8 +63,8 @@ check_line-returns-clause-behind t c =
     let x = c.args.x in
     IfOk-weaker c.check_lines.result _ _
     (λ q g.
-    gives_end x.rows.now x.document c.args.at.spot c.line_behind-after.result.spot q.spot c.args.n c.requires.ready.document c.requires.line c.line_behind-after.ensures.reached.spot c.line_behind-after.ensures.number
-    (λ h l is. sym c.if-level-n.false ∙ c.requires.at.told c.requires.line.upto h l is) (λ h. not_end _ (c.if-not-is_deeper.ensures.test h)) g)
+    gives_end x.rows.now x.document c.args.at.position c.line_behind-after.result.position q.position c.args.n c.requires.ready.document c.requires.line c.line_behind-after.ensures.reached.position c.line_behind-after.ensures.number
+    (λ h l is. sym c.if-level-n.false ∙ c.requires.at.agrees c.requires.line.upto h l is) (λ h. not_end _ (c.if-not-is_deeper.ensures.test h)) g)
     c.check_lines.ensures.behind
 
 -- lines that are deeper than a level
@@ -74,13 +74,13 @@ check_lines-returns-then-not-is_deeper-clause-sound t c = λ r.
 
 pub check_lines-returns-then-not-is_deeper-clause-behind : goal.check_lines-returns-then-not-is_deeper-clause-behind
 check_lines-returns-then-not-is_deeper-clause-behind t c =
-    gives_none c.args.x.rows.now c.args.x.document c.args.start.spot c.args.floor c.requires.start.spot (λ h. is_at_end _ (c.if-not-is_deeper.ensures.test h))
+    gives_none c.args.x.rows.now c.args.x.document c.args.start.position c.args.floor c.requires.start.position (λ h. is_at_end _ (c.if-not-is_deeper.ensures.test h))
 
 pub check_lines-is_bare-requires-clause-line : goal.check_lines-is_bare-requires-clause-line
-check_lines-is_bare-requires-clause-line t c = spot_line c.args.x.rows.now c.args.x.document c.args.start.spot c.requires.start.spot (c.if-not-is_deeper.ensures.some refl)
+check_lines-is_bare-requires-clause-line t c = position_line c.args.x.rows.now c.args.x.document c.args.start.position c.requires.start.position (c.if-not-is_deeper.ensures.some refl)
 
 pub check_lines-check_bare-requires-clause-line : goal.check_lines-check_bare-requires-clause-line
-check_lines-check_bare-requires-clause-line t c = spot_line c.args.x.rows.now c.args.x.document c.args.start.spot c.requires.start.spot (c.if-not-is_deeper.ensures.some refl)
+check_lines-check_bare-requires-clause-line t c = position_line c.args.x.rows.now c.args.x.document c.args.start.position c.requires.start.position (c.if-not-is_deeper.ensures.some refl)
 
 pub check_lines-check_bare-requires-clause-deep : goal.check_lines-check_bare-requires-clause-deep
 check_lines-check_bare-requires-clause-deep t c = λ h. not_end _ (c.if-not-is_deeper.ensures.test h)
@@ -88,79 +88,79 @@ check_lines-check_bare-requires-clause-deep t c = λ h. not_end _ (c.if-not-is_d
 pub check_lines-returns-then-is_bare-clause-sound : goal.check_lines-returns-then-is_bare-clause-sound
 check_lines-returns-then-is_bare-clause-sound t c = λ r.
     let h = r.document in
-    let k = located c.args.x.rows.now c.args.x.document h c.args.start.spot (spot_line c.args.x.rows.now c.args.x.document c.args.start.spot c.requires.start.spot (c.if-not-is_deeper.ensures.some refl)) in
+    let k = located c.args.x.rows.now c.args.x.document h c.args.start.position (position_line c.args.x.rows.now c.args.x.document c.args.start.position c.requires.start.position (c.if-not-is_deeper.ensures.some refl)) in
     decides_as c.check_bare.result _ _
-    (sym (start_bare (lines_of h.rows) (line_number c.args.x.document h.rows c.args.start.spot) c.args.floor c.args.depth k.line k.is (c.if-not-is_deeper.ensures.test h) (bare_is k.line.mark (c.if-is_bare.ensures h k.line k.is))))
+    (sym (start_bare (lines_of h.rows) (line_number c.args.x.document h.rows c.args.start.position) c.args.floor c.args.depth k.line k.is (c.if-not-is_deeper.ensures.test h) (bare_is k.line.mark (c.if-is_bare.ensures h k.line k.is))))
     (c.check_bare.ensures.sound r k.line k.is)
 
 pub check_lines-returns-then-depth-eq0-clause-sound : goal.check_lines-returns-then-depth-eq0-clause-sound
 check_lines-returns-then-depth-eq0-clause-sound t c = λ r.
     let h = r.document in
-    let k = located c.args.x.rows.now c.args.x.document h c.args.start.spot (spot_line c.args.x.rows.now c.args.x.document c.args.start.spot c.requires.start.spot (c.if-not-is_deeper.ensures.some refl)) in
-    start_deep (lines_of h.rows) (line_number c.args.x.document h.rows c.args.start.spot) c.args.floor c.args.depth k.line k.is (c.if-not-is_deeper.ensures.test h) (entry_is k.line.mark (c.if-is_bare.ensures h k.line k.is)) c.if-depth-eq0.true
+    let k = located c.args.x.rows.now c.args.x.document h c.args.start.position (position_line c.args.x.rows.now c.args.x.document c.args.start.position c.requires.start.position (c.if-not-is_deeper.ensures.some refl)) in
+    start_deep (lines_of h.rows) (line_number c.args.x.document h.rows c.args.start.position) c.args.floor c.args.depth k.line k.is (c.if-not-is_deeper.ensures.test h) (entry_is k.line.mark (c.if-is_bare.ensures h k.line k.is)) c.if-depth-eq0.true
 
 pub check_lines-lines-init : goal.check_lines-lines-init
 check_lines-lines-init t c =
-    let at = spot_line c.args.x.rows.now c.args.x.document c.args.start.spot c.requires.start.spot (c.if-not-is_deeper.ensures.some refl) in
+    let at = position_line c.args.x.rows.now c.args.x.document c.args.start.position c.requires.start.position (c.if-not-is_deeper.ensures.some refl) in
     let rows = c.requires.ready.document in
-    let first = located c.args.x.rows.now c.args.x.document rows c.args.start.spot at in
+    let first = located c.args.x.rows.now c.args.x.document rows c.args.start.position at in
     record {
       at = c.requires.start;
       moved = inl refl;
       more = omega (arith, c.if-depth-eq0.false);
-      entries = subst IsEntryLevel (sym (c.requires.start.told at.upto rows first.line first.is)) (entry_level first.line (entry_is first.line.mark (c.if-is_bare.ensures rows first.line first.is)));
+      entries = subst IsEntryLevel (sym (c.requires.start.agrees at.upto rows first.line first.is)) (entry_level first.line (entry_is first.line.mark (c.if-is_bare.ensures rows first.line first.is)));
       so_far = λ r.
           let h = r.document in
-          let k = located c.args.x.rows.now c.args.x.document h c.args.start.spot at in
-          rw (c.requires.start.told at.upto h k.line k.is, c.new-keys.ensures.items) (start_asked (lines_of h.rows) (line_number c.args.x.document h.rows c.args.start.spot) c.args.floor c.args.depth k.line k.is (c.if-not-is_deeper.ensures.test h) (c.args.depth - 1) (entry_is k.line.mark (c.if-is_bare.ensures h k.line k.is)) (omega (arith, c.if-depth-eq0.false)));
+          let k = located c.args.x.rows.now c.args.x.document h c.args.start.position at in
+          rw (c.requires.start.agrees at.upto h k.line k.is, c.new-keys.ensures.items) (start_asked (lines_of h.rows) (line_number c.args.x.document h.rows c.args.start.position) c.args.floor c.args.depth k.line k.is (c.if-not-is_deeper.ensures.test h) (c.args.depth - 1) (entry_is k.line.mark (c.if-is_bare.ensures h k.line k.is)) (omega (arith, c.if-depth-eq0.false)));
       stop = λ h. refl;
     }
 
 pub check_lines-push_key-requires-clause-line : goal.check_lines-push_key-requires-clause-line
-check_lines-push_key-requires-clause-line t c = spot_line c.args.x.rows.now c.args.x.document c.lines.at.spot c.lines.invariant.at.spot (c.lines-test.ensures.some refl)
+check_lines-push_key-requires-clause-line t c = position_line c.args.x.rows.now c.args.x.document c.lines.at.position c.lines.invariant.at.position (c.lines-test.ensures.some refl)
 
 pub check_lines-returns-in-Err-clause-sound : goal.check_lines-returns-in-Err-clause-sound
 check_lines-returns-in-Err-clause-sound t c = λ r.
     let h = r.document in
-    let k = located c.args.x.rows.now c.args.x.document h c.lines.at.spot (spot_line c.args.x.rows.now c.args.x.document c.lines.at.spot c.lines.invariant.at.spot (c.lines-test.ensures.some refl)) in
+    let k = located c.args.x.rows.now c.args.x.document h c.lines.at.position (position_line c.args.x.rows.now c.args.x.document c.lines.at.position c.lines.invariant.at.position (c.lines-test.ensures.some refl)) in
     let num = line_number c.args.x.document h.rows in
-    let ends = end_counted (lines_of h.rows) (num c.lines.at.spot) k.line k.is in
+    let ends = end_counted (lines_of h.rows) (num c.lines.at.position) k.line k.is in
     denies_as c.in-Err.e _ _
     (λ bad.
-    sym (one_fails (lines_of h.rows) (num c.lines.at.spot) c.args.floor _ (c.args.depth - 1) c.args.start.level (map (λ k. k.now) c.lines.keys.items) k.line k.is (c.lines-test.ensures.test h) ends c.lines.invariant.entries _ (c.lines.invariant.so_far r) (sym bad)))
+    sym (one_fails (lines_of h.rows) (num c.lines.at.position) c.args.floor _ (c.args.depth - 1) c.args.start.level (map (λ k. k.now) c.lines.keys.items) k.line k.is (c.lines-test.ensures.test h) ends c.lines.invariant.entries _ (c.lines.invariant.so_far r) (sym bad)))
     (c.in-Err.ensures.sound r k.line k.is)
 
 pub check_lines-lines-preserved : goal.check_lines-lines-preserved
 check_lines-lines-preserved t c =
     let x = c.args.x in
-    let at = spot_line x.rows.now x.document c.lines.at.spot c.lines.invariant.at.spot (c.lines-test.ensures.some refl) in
+    let at = position_line x.rows.now x.document c.lines.at.position c.lines.invariant.at.position (c.lines-test.ensures.some refl) in
     let g = c.in-Ok.ensures.behind in
     record {
       at = c.in-Ok.ensures.reached;
-      moved = moved_on c.args.start.spot c.lines.at.spot c.in-Ok.after.spot c.lines.invariant.moved g.later;
+      moved = moved_on c.args.start.position c.lines.at.position c.in-Ok.after.position c.lines.invariant.moved g.later;
       more = c.lines.invariant.more;
       entries = c.lines.invariant.entries;
       so_far = λ r.
           let h = r.document in
-          let k = located x.rows.now x.document h c.lines.at.spot at in
+          let k = located x.rows.now x.document h c.lines.at.position at in
           let num = line_number x.document h.rows in
-          rw (c.in_ok-push_key.ensures h k.line k.is) (one_passes (lines_of h.rows) (num c.lines.at.spot) c.args.floor (num c.in-Ok.after.spot) (c.args.depth - 1) c.args.start.level (map (λ k. k.now) c.lines.keys.items) k.line k.is (c.lines-test.ensures.test h) (g.end h) c.lines.invariant.entries _ (c.lines.invariant.so_far r) (sym (c.in-Ok.ensures.sound r k.line k.is)));
-      stop = λ h. stop_same x.rows.now x.document h c.args.start.spot c.lines.at.spot c.in-Ok.after.spot c.args.floor at (c.lines.invariant.stop h) (not_end _ (c.lines-test.ensures.test h)) g;
+          rw (c.in_ok-push_key.ensures h k.line k.is) (one_passes (lines_of h.rows) (num c.lines.at.position) c.args.floor (num c.in-Ok.after.position) (c.args.depth - 1) c.args.start.level (map (λ k. k.now) c.lines.keys.items) k.line k.is (c.lines-test.ensures.test h) (g.end h) c.lines.invariant.entries _ (c.lines.invariant.so_far r) (sym (c.in-Ok.ensures.sound r k.line k.is)));
+      stop = λ h. stop_same x.rows.now x.document h c.args.start.position c.lines.at.position c.in-Ok.after.position c.args.floor at (c.lines.invariant.stop h) (not_end _ (c.lines-test.ensures.test h)) g;
     }
 
 pub check_lines-returns-then-not-are_distinct-clause-sound : goal.check_lines-returns-then-not-are_distinct-clause-sound
 check_lines-returns-then-not-are_distinct-clause-sound t c = λ r.
     let h = r.document in
-    c.lines.invariant.so_far r ∙ (no_more (c.args.depth - 1) _ (map (λ k. k.now) c.lines.keys.items) _ (c.lines-test.ensures.test h) ∙ distinct_told _ _ (rw c.as_mut_slice.ensures.value at c.if-not-are_distinct.ensures))
+    c.lines.invariant.so_far r ∙ (no_more (c.args.depth - 1) _ (map (λ k. k.now) c.lines.keys.items) _ (c.lines-test.ensures.test h) ∙ distinct_agrees _ _ (rw c.as_mut_slice.ensures.value at c.if-not-are_distinct.ensures))
 
 pub check_lines-returns-clause-sound : goal.check_lines-returns-clause-sound
 check_lines-returns-clause-sound t c = λ r.
     let h = r.document in
-    c.lines.invariant.so_far r ∙ (no_more (c.args.depth - 1) _ (map (λ k. k.now) c.lines.keys.items) _ (c.lines-test.ensures.test h) ∙ distinct_told _ _ (rw c.as_mut_slice.ensures.value at c.if-not-are_distinct.ensures))
+    c.lines.invariant.so_far r ∙ (no_more (c.args.depth - 1) _ (map (λ k. k.now) c.lines.keys.items) _ (c.lines-test.ensures.test h) ∙ distinct_agrees _ _ (rw c.as_mut_slice.ensures.value at c.if-not-are_distinct.ensures))
 
 pub check_lines-returns-clause-behind : goal.check_lines-returns-clause-behind
 check_lines-returns-clause-behind t c =
-    gives_all c.args.x.rows.now c.args.x.document c.args.start.spot c.lines.at.spot c.args.floor c.lines.invariant.at.spot c.lines.invariant.stop c.lines.invariant.moved (λ h. is_at_end _ (c.lines-test.ensures.test h))
+    gives_all c.args.x.rows.now c.args.x.document c.args.start.position c.lines.at.position c.args.floor c.lines.invariant.at.position c.lines.invariant.stop c.lines.invariant.moved (λ h. is_at_end _ (c.lines-test.ensures.test h))
 
 pub check_lines-returns-clause-reached : goal.check_lines-returns-clause-reached
 check_lines-returns-clause-reached t c = c.lines.invariant.at

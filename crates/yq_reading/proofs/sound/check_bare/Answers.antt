@@ -24,7 +24,7 @@ pub returns-in-Err-clause-sound : goal.returns-in-Err-clause-sound
 returns-in-Err-clause-sound c = λ r l is.
     let h = r.document in
     denies_as c.in-Err.e (head_is_sound c.args.depth l.head) _
-    (bare_head (is_some l.head) (is_end (part (lines_of h.rows) (line_number c.args.x.document h.rows c.args.at.spot + 1) c.args.floor)) (head_is_sound c.args.depth l.head))
+    (bare_head (is_some l.head) (is_end (part (lines_of h.rows) (line_number c.args.x.document h.rows c.args.at.position + 1) c.args.floor)) (head_is_sound c.args.depth l.head))
     (c.in-Err.ensures.sound r l is)
 
 pub returns-in-Ok-clause-sound : goal.returns-in-Ok-clause-sound
@@ -36,7 +36,7 @@ returns-in-Ok-clause-sound c = λ r l is.
 
 pub returns-in-Ok-clause-behind : goal.returns-in-Ok-clause-behind
 returns-in-Ok-clause-behind c =
-    gives_bare c.args.x.rows.now c.args.x.document c.args.at.spot c.line_behind-after.result.spot c.args.floor c.requires.line c.line_behind-after.ensures.reached.spot c.line_behind-after.ensures.number c.if-not-has_head.ensures c.requires.deep
+    gives_bare c.args.x.rows.now c.args.x.document c.args.at.position c.line_behind-after.result.position c.args.floor c.requires.line c.line_behind-after.ensures.reached.position c.line_behind-after.ensures.number c.if-not-has_head.ensures c.requires.deep
     (λ h. is_at_end _ (c.if-is_deeper.ensures.test h))
 
 pub returns-in-Ok-clause-reached : goal.returns-in-Ok-clause-reached

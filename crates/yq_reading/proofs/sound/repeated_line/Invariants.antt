@@ -1,9 +1,9 @@
 use Rattle.std.proofs.Common.{◌-◌}
-use Rattle.yq_walk.specs.RowWalk.{IsSpot}
+use Rattle.yq_walk.specs.RowWalk.{IsPosition}
 use Rattle.yq_reading.proofs.sound.repeated_line.Given as goal
 
 abbrev pub invariant-lines : goal.invariant-lines
-invariant-lines l = IsSpot l.x.rows.now l.x.document l.at
+invariant-lines l = IsPosition l.x.rows.now l.x.document l.at
 
 abbrev pub decreases-lines : goal.decreases-lines
 decreases-lines l = l.x.document.end - l.at.row

@@ -3,11 +3,11 @@ use Rattle.std.proofs.lemmas.Int.{to_z-of_z}
 use Rattle.yq_scalar.specs.Answers.{Gives}
 use Rattle.yq_scalar.specs.Text.{front}
 use Rattle.yq_inline.specs.Scalars.{begins_scalar}
-use Rattle.yq_rows.specs.Lending.{filling_view, begins_other}
+use Rattle.yq_rows.specs.Slicing.{filling_view, begins_other}
 use Rattle.yq_rows.specs.Reading.{is_word}
 use Rattle.yq_rows.proofs.MarkAgain.{scalar_node}
-use Rattle.yq_rows.proofs.ScalarLending.{other_node, no_node}
-use Rattle.yq_rows.proofs.RowLending.{content_block, content_inline, content_nothing}
+use Rattle.yq_rows.proofs.ScalarSlicing.{other_node, no_node}
+use Rattle.yq_rows.proofs.RowSlicing.{content_block, content_inline, content_nothing}
 use Rattle.yq_rows.proofs.WordFronts.{word_scalar, word_other, word_block}
 use Rattle.yq_rows.proofs.content.read_content.Goals as goal
 

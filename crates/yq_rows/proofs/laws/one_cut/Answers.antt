@@ -7,5 +7,5 @@ returns-clause-one c = one_cut
 pub returns-clause-taken : goal.returns-clause-taken
 returns-clause-taken c = scan_takes
 
-pub returns-clause-given : goal.returns-clause-given
-returns-clause-given c = scan_again
+pub returns-clause-scanned : goal.returns-clause-scanned
+returns-clause-scanned c = scan_again

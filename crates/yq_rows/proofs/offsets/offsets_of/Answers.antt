@@ -1,10 +1,10 @@
 use Rattle.std.proofs.Common.{◌∙◌, ap, arith, length}
 use Rattle.yq_rows.specs.Offsets as spec
-use Rattle.yq_rows.specs.Lending.{read_slices}
+use Rattle.yq_rows.specs.Slicing.{read_slices}
 use Rattle.yq_rows.proofs.FrontLaws.{front_join, front_le}
 use Rattle.yq_rows.proofs.OffsetLaws.{row_same, row_stands}
-use Rattle.yq_rows.proofs.ParentTold.{row_told}
-use Rattle.yq_rows.proofs.RowLending.{row_spelled}
+use Rattle.yq_rows.proofs.ParentLaws.{row_known}
+use Rattle.yq_rows.proofs.RowSlicing.{row_spelled}
 use Rattle.yq_rows.proofs.SliceLaws.{slices-length}
 use Rattle.yq_rows.proofs.offsets.offsets_of.Goals as goal
 
@@ -17,7 +17,7 @@ measure-requires-clause-small c =
     omega (arith, spelled, long, within, c.requires.small)
 
 pub measure-requires-clause-parent : goal.measure-requires-clause-parent
-measure-requires-clause-parent c = let h = c.requires.read in row_told h.limit c.args.gap.now h.behind _ _ _ h.read
+measure-requires-clause-parent c = let h = c.requires.read in row_known h.limit c.args.gap.now h.behind _ _ _ h.read
 
 pub returns-clause-stands : goal.returns-clause-stands
 returns-clause-stands c =

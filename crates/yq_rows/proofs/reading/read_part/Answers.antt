@@ -1,9 +1,9 @@
 use Rattle.std.proofs.Common.{◌≡◌, ◌-◌, length, true, false, ◌||◌, List, ℕ, sym, ap, ◌∙◌}
 use Rattle.yq_rows.specs.Kept.{rows_placed}
-use Rattle.yq_rows.specs.Lending.{rows_lent}
+use Rattle.yq_rows.specs.Slicing.{rows_sliced}
 use Rattle.yq_rows.specs.Offsets.{rows_in}
 use Rattle.yq_rows.specs.Reading.{cut_gap}
-use Rattle.yq_rows.proofs.RowLending.{part_same, part_shut}
+use Rattle.yq_rows.proofs.RowSlicing.{part_same, part_shut}
 use Rattle.yq_rows.proofs.reading.read_part.Goals as goal
 use Rattle.yq_rows.specs.Grammar.{ends_part}
 
@@ -11,7 +11,7 @@ pub returns-then-not-may_begin-clause-found : goal.returns-then-not-may_begin-cl
 returns-then-not-may_begin-clause-found c =
     let first : (cut_gap c.args.text.now).1 ≡ c.split_gap.result.1.now = ap (λ (y : List ℕ × List ℕ). y.1) (sym c.split_gap.ensures) in
     let shut : (c.args.is_open || ends_part (cut_gap c.args.text.now).1) ≡ false = ap (λ (t : List ℕ). c.args.is_open || ends_part t) (first ∙ sym c.as_bytes.ensures.value) ∙ (sym c.may_begin.ensures ∙ c.if-not-may_begin.true) in
-    ap (rows_lent (rows_in c.args.whole.now c.args.rows.items)) (part_shut c.args.is_open c.args.text.now shut)
+    ap (rows_sliced (rows_in c.args.whole.now c.args.rows.items)) (part_shut c.args.is_open c.args.text.now shut)
 
 pub returns-clause-found : goal.returns-clause-found
 returns-clause-found c =

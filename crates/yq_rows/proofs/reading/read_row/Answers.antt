@@ -1,12 +1,12 @@
 use Rattle.std.proofs.Common.{◌≡◌, SFits, Some, ap, length, rules, sym, w64, ◌+◌, ◌∙◌}
 use Rattle.std.proofs.lemmas.Int.{to_z-of_z}
 use Rattle.yq_rows.specs.Grammar.{Limit}
-use Rattle.yq_rows.specs.Lending.{limit_by, mark_view, read_slices}
+use Rattle.yq_rows.specs.Slicing.{limit_by, mark_view, read_slices}
 use Rattle.yq_rows.specs.Offsets.{offsets_of}
 use Rattle.yq_rows.specs.Rows.{parent_of}
 use Rattle.yq_rows.specs.View.{Slices, limit_view}
 use Rattle.yq_rows.proofs.Failing.{fails_by}
-use Rattle.yq_rows.proofs.RowLending.{row_as}
+use Rattle.yq_rows.proofs.RowSlicing.{row_as}
 use Rattle.yq_rows.proofs.reading.read_row.Goals as goal
 
 pub returns-in-Err-clause-read : goal.returns-in-Err-clause-read

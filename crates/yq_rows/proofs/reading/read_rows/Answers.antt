@@ -1,11 +1,11 @@
 use Rattle.std.proofs.Common.{◌≡◌, ◌-◌, length, true, false, refl, rules, sym, subst, ap, ◌∙◌}
 use Rattle.std.proofs.lemmas.List.Elements.{All-push}
-use Rattle.yq_rows.specs.Offsets.{Stand, Stands, rows_in, slices_in}
+use Rattle.yq_rows.specs.Offsets.{Stand, IsCutIn, rows_in, slices_in}
 use Rattle.yq_rows.specs.View.{limit_view}
 use Rattle.yq_rows.proofs.Failing.{fails_by}
 use Rattle.yq_rows.proofs.NearLaws.{rows_placed_end, rows_placed_none, rows_placed_step}
 use Rattle.yq_rows.proofs.OffsetLaws.{ends_next, row_then, rows_push}
-use Rattle.yq_rows.proofs.RowLending.{at_gap, gap_joined, loop_smaller, loop_step, no_row, row_joined, rows_end}
+use Rattle.yq_rows.proofs.RowSlicing.{at_gap, gap_joined, loop_smaller, loop_step, no_row, row_joined, rows_end}
 use Rattle.yq_rows.proofs.reading.read_rows.Goals as goal
 use Rattle.yq_rows.specs.Grammar.{ends_part}
 
@@ -56,7 +56,7 @@ rows-preserved c =
     record {
       text = search rules;
       ends = ends_next whole c.rows.at.now _ after c.rows.invariant.ends (joined ∙ row_then row after);
-      stand = subst (Stand whole) (sym c.in_ok-push.ensures.items) (All-push (Stands whole) c.rows.rows.items c.in-Ok.found.0 c.rows.invariant.stand c.in-Ok.ensures.stands);
+      stand = subst (Stand whole) (sym c.in_ok-push.ensures.items) (All-push (IsCutIn whole) c.rows.rows.items c.in-Ok.found.0 c.rows.invariant.stand c.in-Ok.ensures.stands);
       so_far = loop_step (rows_in whole c.rows.rows.items) _ (limit_view c.rows.limit) (limit_view c.in-Ok.found.1) c.rows.at.now _ _ row after _ c.split_gap.ensures more c.in-Ok.ensures.read pushed c.rows.invariant.so_far;
       placed = rows_placed_step c.rows.rows.items _ c.in-Ok.found.0 whole (limit_view c.rows.limit) (limit_view c.in-Ok.found.1) c.rows.at.now _ _ row after _ c.rows.invariant.ends c.split_gap.ensures more c.in-Ok.ensures.read c.in_ok-push.ensures.items c.in-Ok.ensures.place c.rows.invariant.placed;
     }

@@ -2,7 +2,7 @@ use Rattle.std.proofs.Common.{◌≡◌, ◌-◌, length}
 use Rattle.std.specs.Str.{IsUtf8}
 use Rattle.yq_rows.specs.Grammar.{unlimited}
 use Rattle.yq_rows.specs.Kept.{rows_placed}
-use Rattle.yq_rows.specs.Lending.{rows_lent}
+use Rattle.yq_rows.specs.Slicing.{rows_sliced}
 use Rattle.yq_rows.specs.Offsets.{Ends, Stand, rows_in}
 use Rattle.yq_rows.specs.Reading.{all_rows}
 use Rattle.yq_rows.specs.View.{limit_view}
@@ -16,6 +16,6 @@ invariant-rows l = record {
   text : IsUtf8 l.at;
   ends : Ends l.at l.whole;
   stand : Stand l.whole l.rows.items;
-  so_far : rows_lent (rows_in l.whole l.rows.items) (all_rows (limit_view l.limit) l.at) ≡ rows_lent (rows_in l.whole l.fn.rows.items) (all_rows unlimited l.text);
+  so_far : rows_sliced (rows_in l.whole l.rows.items) (all_rows (limit_view l.limit) l.at) ≡ rows_sliced (rows_in l.whole l.fn.rows.items) (all_rows unlimited l.text);
   placed : rows_placed l.rows.items (length l.whole - length l.at) (all_rows (limit_view l.limit) l.at) ≡ rows_placed l.fn.rows.items (length l.whole - length l.text) (all_rows unlimited l.text);
 }

@@ -9,9 +9,9 @@ use Rattle.yq_rows.proofs.EndsNear.{ends_placed_end, ends_placed_step, kept_part
 use Rattle.yq_rows.proofs.Failing.{fails_by}
 use Rattle.yq_rows.proofs.NearLaws.{near_read, parts_placed_end, parts_placed_step}
 use Rattle.yq_rows.proofs.OffsetLaws.{ends_next, rows_length}
-use Rattle.yq_rows.proofs.PartLending.{one_part, end_ends, empty_by, bounds_push, part_is_marker, part_smaller, parts_none, parts_unmarked, parts_end, parts_more}
+use Rattle.yq_rows.proofs.PartSlicing.{one_part, end_ends, empty_by, bounds_push, part_is_marker, part_smaller, parts_none, parts_unmarked, parts_end, parts_more}
 use Rattle.yq_rows.proofs.PartsLaws.{marker_takes}
-use Rattle.yq_rows.proofs.PlacedLaws.{Scanned, scanned_places, scanned_shown}
+use Rattle.yq_rows.proofs.PlacedLaws.{Scanned, scanned_places, scanned_view}
 use Rattle.yq_rows.proofs.scanning.cut.Goals as goal
 
 pub returns-in-Err-clause-read : goal.returns-in-Err-clause-read
@@ -59,7 +59,7 @@ returns-then-is_empty-clause-read c =
     let count : c.len-count.result ≡ length (rows_in whole c.in-Ok.part.0.items) = c.len-count.ensures ∙ (c.in-Ok.part.0.ok.0 ∙ rows_length whole c.in-Ok.part.0.items) in
     let pushed = bounds_push whole c.parts.ends.items _ c.end_of.result _ c.in_ok-push.ensures.items c.end_of.ensures.same in
     parts_end _ (rows_in whole c.in-Ok.part.0.items) _ _ _ _ _ _ _ _ c.in-Ok.ensures.found none count pushed c.parts.invariant.so_far
-    ∙ ap Some (sym (scanned_shown whole c.of-text.result p (scanned c)))
+    ∙ ap Some (sym (scanned_view whole c.of-text.result p (scanned c)))
 
 pub read_marker-requires : goal.read_marker-requires
 read_marker-requires c =

@@ -2,7 +2,7 @@ use Rattle.std.proofs.Common.{◌≡◌, ◌-◌, [], length, true}
 use Rattle.std.specs.Str.{IsUtf8}
 use Rattle.yq_rows.specs.Ends.{EndsStand, bounds_in}
 use Rattle.yq_rows.specs.Kept.{ends_placed, parts_placed}
-use Rattle.yq_rows.specs.Lending.{shown_read, parts_lent}
+use Rattle.yq_rows.specs.Slicing.{read_view, parts_sliced}
 use Rattle.yq_rows.specs.Offsets.{Ends, Stand, rows_in}
 use Rattle.yq_rows.specs.Reading.{all_parts}
 use Rattle.yq_rows.proofs.scanning.cut.Given as goal
@@ -16,7 +16,7 @@ invariant-parts l = record {
   ends : Ends l.rest l.text;
   stand : Stand l.text l.rows.items;
   ends_stand : EndsStand l.text l.ends.items;
-  so_far : parts_lent (rows_in l.text l.rows.items) (bounds_in l.text l.ends.items) (all_parts l.is_open l.rest) ≡ shown_read (all_parts true l.text);
+  so_far : parts_sliced (rows_in l.text l.rows.items) (bounds_in l.text l.ends.items) (all_parts l.is_open l.rest) ≡ read_view (all_parts true l.text);
   placed : parts_placed l.rows.items (length l.text - length l.rest) (all_parts l.is_open l.rest) ≡ parts_placed [] (length l.text - length l.text) (all_parts true l.text);
   ends_placed : ends_placed l.ends.items (length l.text - length l.rest) (length l.rows.items) (all_parts l.is_open l.rest) ≡ ends_placed [] (length l.text - length l.text) 0 (all_parts true l.text);
 }

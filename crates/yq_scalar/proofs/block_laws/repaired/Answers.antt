@@ -1,5 +1,5 @@
 use Rattle.std.proofs.Common.{true}
-use Rattle.yq_scalar.proofs.BlockRepairLaws.{repair_ends, repair_remarks}
+use Rattle.yq_scalar.proofs.BlockRepairLaws.{repair_ends, repair_comments}
 use Rattle.yq_scalar.proofs.BlockRepairText.{repair_stands}
 use Rattle.yq_scalar.proofs.block_laws.repaired.Goals as goal
 
@@ -10,4 +10,4 @@ pub returns-clause-ends : goal.returns-clause-ends
 returns-clause-ends c = repair_ends
 
 pub returns-clause-comments : goal.returns-clause-comments
-returns-clause-comments c = λ keep indent column gap h. repair_remarks keep (record { columns = indent; known = true }) column gap h
+returns-clause-comments c = λ keep indent column gap h. repair_comments keep (record { columns = indent; known = true }) column gap h

@@ -7,7 +7,7 @@ decreases-each l = length l.rest
 
 abbrev pub invariant-each : goal.invariant-each
 invariant-each l = record {
-  within : l.seen + length l.rest ≡ length l.text;
-  kept : l.keep ≡ true → l.within ≡ l.seen;
-  so_far : spec.counted l.within l.seen (spec.len_at l.keep l.indent l.rest) ≡ spec.len_at l.keep l.indent l.text;
+  within : l.scanned + length l.rest ≡ length l.text;
+  kept : l.keep ≡ true → l.within ≡ l.scanned;
+  so_far : spec.counted l.within l.scanned (spec.len_at l.keep l.indent l.rest) ≡ spec.len_at l.keep l.indent l.text;
 }

@@ -1,11 +1,11 @@
 use Rattle.std.proofs.Common.{w64}
 use Rattle.std.proofs.lemmas.Int.{to_z-of_z}
-use Rattle.yq_scalar.proofs.GivenLaws.{plain_given}
+use Rattle.yq_scalar.proofs.ScalarPieceLaws.{plain_is_piece}
 use Rattle.yq_scalar.proofs.PieceLaws.{only_by}
 use Rattle.yq_scalar.proofs.plain_piece.read_plain.Goals as goal
 
 pub returns-clause-only : goal.returns-clause-only
 returns-clause-only c = only_by c.args.place c.args.indent c.args.at c.args.text.now c.plain_from.result (rw (to_z-of_z w64 c.args.indent c.ranges.indent) at c.plain_from.ensures.read)
 
-pub returns-clause-given : goal.returns-clause-given
-returns-clause-given c = plain_given c.args.place c.args.indent c.args.at c.args.text.now c.plain_from.result c.requires (rw (to_z-of_z w64 c.args.indent c.ranges.indent) at c.plain_from.ensures.read)
+pub returns-clause-is_piece : goal.returns-clause-is_piece
+returns-clause-is_piece c = plain_is_piece c.args.place c.args.indent c.args.at c.args.text.now c.plain_from.result c.requires (rw (to_z-of_z w64 c.args.indent c.ranges.indent) at c.plain_from.ensures.read)

@@ -1,9 +1,9 @@
-use Rattle.yq_scalar.proofs.GivenLaws.{quoted_given}
+use Rattle.yq_scalar.proofs.ScalarPieceLaws.{quoted_is_piece}
 use Rattle.yq_scalar.proofs.QuotedPieceLaws.{only_by}
 use Rattle.yq_scalar.proofs.quoted_piece.read_quoted.Goals as goal
 
 pub returns-clause-only : goal.returns-clause-only
 returns-clause-only c = only_by c.args.at c.args.text.now c.quoted_from.result c.quoted_from.ensures.read
 
-pub returns-clause-given : goal.returns-clause-given
-returns-clause-given c = quoted_given c.args.at c.args.text.now c.quoted_from.result c.requires c.quoted_from.ensures.read
+pub returns-clause-is_piece : goal.returns-clause-is_piece
+returns-clause-is_piece c = quoted_is_piece c.args.at c.args.text.now c.quoted_from.result c.requires c.quoted_from.ensures.read

@@ -1,7 +1,7 @@
 use Rattle.std.proofs.Common.{◌-◌, length, take, drop, arith}
 use Rattle.std.proofs.lemmas.Grind.{common_steps}
 use Rattle.yq_script.specs.Segments.{segments_of}
-use Rattle.yq_script.proofs.TurnLaws.{front_more}
+use Rattle.yq_script.proofs.LoopLaws.{front_more}
 use Rattle.yq_script.proofs.changing.from_first.Goals as goal
 
 pub segments-preserved : goal.segments-preserved

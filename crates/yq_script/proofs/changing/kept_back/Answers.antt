@@ -5,7 +5,7 @@ use Rattle.yq_text.specs.Halves.{whole}
 use Rattle.yq_script.specs.Script.{kept_back}
 use Rattle.yq_script.specs.Segments.{segments_of}
 use Rattle.yq_script.proofs.KeptSegments.{back_within}
-use Rattle.yq_script.proofs.TurnLaws.{back_kept, back_put}
+use Rattle.yq_script.proofs.LoopLaws.{back_kept, back_put}
 use Rattle.yq_script.proofs.changing.kept_back.Goals as goal
 
 pub text_len-len-requires : goal.text_len-len-requires

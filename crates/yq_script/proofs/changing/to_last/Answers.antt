@@ -1,5 +1,5 @@
 use Rattle.std.proofs.Common.{◌∙◌, ◌-◌, arith, length, length-take-le}
-use Rattle.yq_script.proofs.TurnLaws.{last_kept_goes, last_put_is}
+use Rattle.yq_script.proofs.LoopLaws.{last_kept_goes, last_put_is}
 use Rattle.yq_script.proofs.changing.to_last.Goals as goal
 
 pub segments-preserved : goal.segments-preserved

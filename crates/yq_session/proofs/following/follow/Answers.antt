@@ -2,7 +2,7 @@ use Rattle.std.proofs.Common.{◌∙◌, ◌++◌, List, ℕ, refl, sym, ap, sub
 use Rattle.yq_text.specs.Split.{joined}
 use Rattle.yq_rows.specs.Grammar.{IsCut}
 use Rattle.yq_rows.specs.Meter.{counted, line_count}
-use Rattle.yq_session.specs.Exchanging.{Change}
+use Rattle.yq_session.specs.Exchanging.{TextChange}
 use Rattle.yq_session.specs.Following.{exchanged}
 use Rattle.yq_session.specs.Reading.{AreEdges, Comes, IsRead, read_part, region_text}
 use Rattle.yq_session.proofs.DoneLaws.{gives_way, moved_follows, new_places, placed_before, same_places, still_placed}
@@ -18,7 +18,7 @@ pub region-requires-clause-edges : goal.region-requires-clause-edges
 region-requires-clause-edges c =
     let t = joined c.args.text.now in
     let p = c.move_split.new.places in
-    let k : Change t c.args.new.now c.args.kept p c.find_touched-touched.result = c.find_touched-touched.ensures t c.args.new.now c.len.ensures (moved_follows t c.args.places.now p c.args.kept c.args.new.now c.requires c.move_split.ensures.placed) in
+    let k : TextChange t c.args.new.now c.args.kept p c.find_touched-touched.result = c.find_touched-touched.ensures t c.args.new.now c.len.ensures (moved_follows t c.args.places.now p c.args.kept c.args.new.now c.requires c.move_split.ensures.placed) in
     let whole = (λ i. c.halves.ensures.front i ++ c.halves.ensures.back i) ∙ refl in
     subst (λ (u : List ℕ). AreEdges u c.find_touched-touched.result c.args.kept) (sym whole) k.edges
 
@@ -30,7 +30,7 @@ read-requires c =
     let t = joined c.args.text.now in
     let p = c.move_split.new.places in
     let x = c.find_touched-touched.result in
-    let k : Change t c.args.new.now c.args.kept p x = c.find_touched-touched.ensures t c.args.new.now c.len.ensures (moved_follows t c.args.places.now p c.args.kept c.args.new.now c.requires c.move_split.ensures.placed) in
+    let k : TextChange t c.args.new.now c.args.kept p x = c.find_touched-touched.ensures t c.args.new.now c.len.ensures (moved_follows t c.args.places.now p c.args.kept c.args.new.now c.requires c.move_split.ensures.placed) in
     let whole = (λ i. c.halves.ensures.front i ++ c.halves.ensures.back i) ∙ refl in
     let part = c.as_str.ensures.value ∙ (c.in_ok-region.ensures ∙ ap (λ (u : List ℕ). region_text u x c.args.kept c.args.new.now) whole) in
     subst (λ (u : List ℕ). IsRead u x) (sym part) k.read
@@ -46,7 +46,7 @@ exchange-requires c =
     let t = joined c.args.text.now in
     let p = c.move_split.new.places in
     let x = c.find_touched-touched.result in
-    let k : Change t c.args.new.now c.args.kept p x = c.find_touched-touched.ensures t c.args.new.now c.len.ensures (moved_follows t c.args.places.now p c.args.kept c.args.new.now c.requires c.move_split.ensures.placed) in
+    let k : TextChange t c.args.new.now c.args.kept p x = c.find_touched-touched.ensures t c.args.new.now c.len.ensures (moved_follows t c.args.places.now p c.args.kept c.args.new.now c.requires c.move_split.ensures.placed) in
     let whole = (λ i. c.halves.ensures.front i ++ c.halves.ensures.back i) ∙ refl in
     let part = c.as_str.ensures.value ∙ (c.in_ok-region.ensures ∙ ap (λ (u : List ℕ). region_text u x c.args.kept c.args.new.now) whole) in
     gives_way t c.args.new.now c.args.kept p x c.in_ok-come.come k (subst (λ (u : List ℕ). Comes u x c.in_ok-come.come) part c.in_ok-come.ensures.come k.read)
@@ -59,7 +59,7 @@ returns-clause-placed c =
     let t = joined c.args.text.now in
     let p = c.move_split.new.places in
     let x = c.find_touched-touched.result in
-    let k : Change t c.args.new.now c.args.kept p x = c.find_touched-touched.ensures t c.args.new.now c.len.ensures (moved_follows t c.args.places.now p c.args.kept c.args.new.now c.requires c.move_split.ensures.placed) in
+    let k : TextChange t c.args.new.now c.args.kept p x = c.find_touched-touched.ensures t c.args.new.now c.len.ensures (moved_follows t c.args.places.now p c.args.kept c.args.new.now c.requires c.move_split.ensures.placed) in
     let whole = (λ i. c.halves.ensures.front i ++ c.halves.ensures.back i) ∙ refl in
     let part = c.as_str.ensures.value ∙ (c.in_ok-region.ensures ∙ ap (λ (u : List ℕ). region_text u x c.args.kept c.args.new.now) whole) in
     let same = (λ i. c.reserve.ensures.front i ++ c.reserve.ensures.back i) ∙ refl in
@@ -70,9 +70,9 @@ returns-clause-counted c old d was is h =
     let t = joined c.args.text.now in
     let p = c.move_split.new.places in
     let x = c.find_touched-touched.result in
-    let k : Change t c.args.new.now c.args.kept p x = c.find_touched-touched.ensures t c.args.new.now c.len.ensures (moved_follows t c.args.places.now p c.args.kept c.args.new.now c.requires c.move_split.ensures.placed) in
+    let k : TextChange t c.args.new.now c.args.kept p x = c.find_touched-touched.ensures t c.args.new.now c.len.ensures (moved_follows t c.args.places.now p c.args.kept c.args.new.now c.requires c.move_split.ensures.placed) in
     let whole = (λ i. c.halves.ensures.front i ++ c.halves.ensures.back i) ∙ refl in
     let part = c.as_str.ensures.value ∙ (c.in_ok-region.ensures ∙ ap (λ (u : List ℕ). region_text u x c.args.kept c.args.new.now) whole) in
     let same = (λ i. c.reserve.ensures.front i ++ c.reserve.ensures.back i) ∙ refl in
-    let made = c.write.ensures ∙ ap (λ (u : List ℕ). exchanged c.args.kept u c.args.new.now) same in
-    c.in_ok-come.ensures.counted ∙ ap (λ (u : List ℕ). counted (line_count u) c.args.meter.now) (ap (λ (u : List ℕ). read_part u x.marked) part ∙ sym (k.once old d was (subst (λ (u : List ℕ). IsCut u d) made is) h))
+    let spliced = c.write.ensures ∙ ap (λ (u : List ℕ). exchanged c.args.kept u c.args.new.now) same in
+    c.in_ok-come.ensures.counted ∙ ap (λ (u : List ℕ). counted (line_count u) c.args.meter.now) (ap (λ (u : List ℕ). read_part u x.marked) part ∙ sym (k.once old d was (subst (λ (u : List ℕ). IsCut u d) spliced is) h))

@@ -51,8 +51,8 @@ returns-clause-ok c =
     let text : d ≡ t = c.in_ok-documents.ensures.text ∙ (c.as_bytes.ensures.value ∙ c.as_str.ensures.value) in
     let is : read_at t ≡ Some (cut_of d) = ap read_at (sym (c.as_bytes.ensures.value ∙ c.as_str.ensures.value)) ∙ c.in_ok-documents.ensures.exact in
     let valid : HaveOperands ops = subst (λ (x : List Op). HaveOperands (operations_of x)) c.deref.ensures.value c.operands_hold.ensures in
-    let made : Edits c.carry_all.result (behind c.args.done.splices.items (carry_all ops t)) = subst (λ (x : List Op). Edits c.carry_all.result (behind c.args.done.splices.items (carry_all (operations_of x) t))) c.deref-2.ensures.value c.carry_all.ensures in
-    λ u at. update_ok u t (cut_of d) ops is (update_planned u t d ops text (c.in_ok-ops.ensures.exact u at)) (update_holds (program_of c.args.program.now) c.args.nth u c.requires.literals at) valid c.carry_all.result c.args.done.splices.items made
+    let new_bytes : Edits c.carry_all.result (behind c.args.done.splices.items (carry_all ops t)) = subst (λ (x : List Op). Edits c.carry_all.result (behind c.args.done.splices.items (carry_all (operations_of x) t))) c.deref-2.ensures.value c.carry_all.ensures in
+    λ u at. update_ok u t (cut_of d) ops is (update_planned u t d ops text (c.in_ok-ops.ensures.exact u at)) (update_holds (program_of c.args.program.now) c.args.nth u c.requires.literals at) valid c.carry_all.result c.args.done.splices.items new_bytes
 
 pub returns-clause-err : goal.returns-clause-err
 returns-clause-err c =
@@ -62,5 +62,5 @@ returns-clause-err c =
     let text : d ≡ t = c.in_ok-documents.ensures.text ∙ (c.as_bytes.ensures.value ∙ c.as_str.ensures.value) in
     let is : read_at t ≡ Some (cut_of d) = ap read_at (sym (c.as_bytes.ensures.value ∙ c.as_str.ensures.value)) ∙ c.in_ok-documents.ensures.exact in
     let valid : HaveOperands ops = subst (λ (x : List Op). HaveOperands (operations_of x)) c.deref.ensures.value c.operands_hold.ensures in
-    let made : Edits c.carry_all.result (behind c.args.done.splices.items (carry_all ops t)) = subst (λ (x : List Op). Edits c.carry_all.result (behind c.args.done.splices.items (carry_all (operations_of x) t))) c.deref-2.ensures.value c.carry_all.ensures in
-    λ u at. update_err u t (cut_of d) ops is (update_planned u t d ops text (c.in_ok-ops.ensures.exact u at)) (update_holds (program_of c.args.program.now) c.args.nth u c.requires.literals at) valid c.carry_all.result c.args.done.splices.items made
+    let new_bytes : Edits c.carry_all.result (behind c.args.done.splices.items (carry_all ops t)) = subst (λ (x : List Op). Edits c.carry_all.result (behind c.args.done.splices.items (carry_all (operations_of x) t))) c.deref-2.ensures.value c.carry_all.ensures in
+    λ u at. update_err u t (cut_of d) ops is (update_planned u t d ops text (c.in_ok-ops.ensures.exact u at)) (update_holds (program_of c.args.program.now) c.args.nth u c.requires.literals at) valid c.carry_all.result c.args.done.splices.items new_bytes

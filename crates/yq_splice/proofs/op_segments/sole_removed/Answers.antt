@@ -3,7 +3,7 @@ use Rattle.yq_scalar.specs.Answers.{◌>>=◌}
 use Rattle.yq_documents.specs.Located.{steps_of}
 use Rattle.yq_documents.specs.Reading.{cut_of}
 use Rattle.yq_places.specs.Standings.{last_step}
-use Rattle.yq_edits.specs.Answers.{Carries}
+use Rattle.yq_edits.specs.Answers.{GivesSegments}
 use Rattle.yq_edits.specs.Edits.{replaced}
 use Rattle.yq_flow_edits.specs.Emptying.{Emptied, emptied_view}
 use Rattle.yq_flow_edits.proofs.EmptyingAnswers.{sole_by_emptying}
@@ -13,6 +13,6 @@ pub returns : goal.returns
 returns c =
     let cut = cut_of c.args.cut.now in
     let empties = sym c.in_ok-empty.ensures ∙ ap (option_map emptied_view) c.in-Some.is in
-    subst (Carries c.replaced.result)
+    subst (GivesSegments c.replaced.result)
     (sym (sole_by_emptying c.args.path.now.doc cut (last_step (steps_of c.args.path.now)) ∙ ap (λ (o : Option Emptied). o >>= λ e. replaced e.doc e.steps e.value cut) empties))
     c.replaced.ensures

@@ -3,7 +3,7 @@ use Rattle.std.specs.FinMap.{find, get-from_entries}
 use Rattle.std.specs.Ordering.{nat_cmp}
 use Rattle.std.specs.Cmp.Lexicographic.{slice_cmp, nat_list_cmp_total}
 use Rattle.std.proofs.lemmas.Grind.{common_steps}
-use Rattle.yq_store.specs.Content.{entries_of}
+use Rattle.yq_store.specs.FileMap.{entries_of}
 use Rattle.yq_store.proofs.Found.{found_first, found_later}
 use Rattle.yq_store.proofs.memory.find_bytes.Goals as goal
 

@@ -3,7 +3,7 @@ use Rattle.std.specs.Ordering.{nat_cmp}
 use Rattle.std.specs.Cmp.Lexicographic.{slice_cmp}
 use Rattle.std.specs.FinMap.{get, find}
 use Rattle.std.specs.VecDeque.Iter.{deque_iter_rest}
-use Rattle.yq_store.specs.Content.{content_of, entries_of}
+use Rattle.yq_store.specs.FileMap.{content_of, entries_of}
 use Rattle.yq_store.proofs.memory.find_bytes.Given as goal
 
 abbrev pub invariant-entries : goal.invariant-entries

@@ -4,5 +4,5 @@ use Rattle.yq_tree.proofs.reading.cut_read.Goals as goal
 pub returns-clause-taken : goal.returns-clause-taken
 returns-clause-taken c = text_takes
 
-pub returns-clause-given : goal.returns-clause-given
-returns-clause-given c = text_again
+pub returns-clause-reads : goal.returns-clause-reads
+returns-clause-reads c = text_again

@@ -1,19 +1,19 @@
 use Rattle.std.proofs.Common.{length, ap, arith}
 use Rattle.yq_rows.specs.View.{view}
-use Rattle.yq_walk.proofs.LengthLaws.{head_told, row_fits, shown_small}
+use Rattle.yq_walk.proofs.LengthLaws.{head_agrees, row_fits, view_small}
 use Rattle.yq_walk.proofs.extent.head_place.Goals as goal
 
 pub front_len-requires : goal.front_len-requires
-front_len-requires c = let f = row_fits c.args.rows.now c.args.i (view c.row-row.result) c.row-row.ensures in omega (arith, f, shown_small c.args.rows.now c.requires.shown)
+front_len-requires c = let f = row_fits c.args.rows.now c.args.i (view c.row-row.result) c.row-row.ensures in omega (arith, f, view_small c.args.rows.now c.requires.rows_view)
 
 pub overflow_add-start : goal.overflow_add-start
 overflow_add-start c =
-    let f = row_fits c.args.rows.now c.args.i (view c.row-row.result) c.row-row.ensures in omega (arith, f, shown_small c.args.rows.now c.requires.shown, c.start.ensures, c.front_len.ensures)
+    let f = row_fits c.args.rows.now c.args.i (view c.row-row.result) c.row-row.ensures in omega (arith, f, view_small c.args.rows.now c.requires.rows_view, c.start.ensures, c.front_len.ensures)
 
 pub overflow_add-result : goal.overflow_add-result
 overflow_add-result c =
     let f = row_fits c.args.rows.now c.args.i (view c.row-row.result) c.row-row.ensures in
-    omega (arith, f, shown_small c.args.rows.now c.requires.shown, c.start.ensures, c.front_len.ensures, ap length c.head.ensures)
+    omega (arith, f, view_small c.args.rows.now c.requires.rows_view, c.start.ensures, c.front_len.ensures, ap length c.head.ensures)
 
 pub returns : goal.returns
-returns c = head_told c.args.rows.now c.args.i c.start.result c.front_len.result _ (view c.row-row.result) c.row-row.ensures c.start.ensures c.front_len.ensures (ap length c.head.ensures)
+returns c = head_agrees c.args.rows.now c.args.i c.start.result c.front_len.result _ (view c.row-row.result) c.row-row.ensures c.start.ensures c.front_len.ensures (ap length c.head.ensures)

@@ -1,5 +1,5 @@
 use Rattle.std.proofs.Common.{refl, sym, ap, ◌∙◌}
-use Rattle.yq_lines.specs.Bodies.{lent}
+use Rattle.yq_lines.specs.Bodies.{borrowed}
 use Rattle.yq_lines.specs.Outline.{first_anchor, anchored, head_or, value}
 use Rattle.yq_lines.proofs.EndsLaws.{deeper_line, not_end}
 use Rattle.yq_lines.proofs.NodeLaws.{map_value, list_value, bare_value}
@@ -17,7 +17,7 @@ returns-then-begins_item c =
     let l = at.line in
     let deep = deeper_line ls num u.floor l at.there (not_end _ c.bare-test.ensures.test) in
     let dash = dash_mark l.mark (c.if-not-begins_node.ensures l at.there) (c.if-begins_item.ensures l at.there) in
-    sym (ap (anchored (lent c.bare.anchor)) (list_value ls num u.floor l at.there deep dash)) ∙ c.bare.invariant
+    sym (ap (anchored (borrowed c.bare.anchor)) (list_value ls num u.floor l at.there deep dash)) ∙ c.bare.invariant
 
 pub returns-then-not-begins_node : goal.returns-then-not-begins_node
 returns-then-not-begins_node c =
@@ -28,7 +28,7 @@ returns-then-not-begins_node c =
     let l = at.line in
     let deep = deeper_line ls num u.floor l at.there (not_end _ c.bare-test.ensures.test) in
     let key = key_mark l.mark (c.if-not-begins_node.ensures l at.there) (c.if-begins_item.ensures l at.there) in
-    sym (ap (anchored (lent c.bare.anchor)) (map_value ls num u.floor l at.there deep key.0 key.1)) ∙ c.bare.invariant
+    sym (ap (anchored (borrowed c.bare.anchor)) (map_value ls num u.floor l at.there deep key.0 key.1)) ∙ c.bare.invariant
 
 pub returns-in-Some : goal.returns-in-Some
 returns-in-Some c =
@@ -39,10 +39,10 @@ returns-in-Some c =
     let l = at.line in
     let deep = deeper_line ls num u.floor l at.there (not_end _ c.bare-test.ensures.test) in
     let under = value (lines_under u.text.now u.document u.first l) in
-    let first = first_anchor (lent c.bare.anchor) l.anchor in
-    ap (λ a. anchored a (body_node c.in-Some.body)) (c.first_anchor-anchor.ensures ∙ ap (first_anchor (lent c.bare.anchor)) (c.line_anchor.ensures l at.there))
+    let first = first_anchor (borrowed c.bare.anchor) l.anchor in
+    ap (λ a. anchored a (body_node c.in-Some.body)) (c.first_anchor-anchor.ensures ∙ ap (first_anchor (borrowed c.bare.anchor)) (c.line_anchor.ensures l at.there))
     ∙ (ap (λ h. anchored first (head_or h under)) (c.in-Some.ensures l at.there)
-    ∙ (sym (bare_value ls num u.floor l at.there deep (lent c.bare.anchor) (bare_mark l.mark (c.if-not-begins_node.ensures l at.there))) ∙ c.bare.invariant))
+    ∙ (sym (bare_value ls num u.floor l at.there deep (borrowed c.bare.anchor) (bare_mark l.mark (c.if-not-begins_node.ensures l at.there))) ∙ c.bare.invariant))
 
 pub bare-preserved : goal.bare-preserved
 bare-preserved c =
@@ -53,11 +53,11 @@ bare-preserved c =
     let l = at.line in
     let deep = deeper_line ls num u.floor l at.there (not_end _ c.bare-test.ensures.test) in
     let under = value (lines_under u.text.now u.document u.first l) in
-    let first = first_anchor (lent c.bare.anchor) l.anchor in
-    ap (λ o. anchored (lent c.first_anchor-anchor.result) (value o)) (c.under_line-these.ensures.lines l at.there)
-    ∙ (ap (λ a. anchored a under) (c.first_anchor-anchor.ensures ∙ ap (first_anchor (lent c.bare.anchor)) (c.line_anchor.ensures l at.there))
+    let first = first_anchor (borrowed c.bare.anchor) l.anchor in
+    ap (λ o. anchored (borrowed c.first_anchor-anchor.result) (value o)) (c.under_line-these.ensures.lines l at.there)
+    ∙ (ap (λ a. anchored a under) (c.first_anchor-anchor.ensures ∙ ap (first_anchor (borrowed c.bare.anchor)) (c.line_anchor.ensures l at.there))
     ∙ (ap (λ h. anchored first (head_or h under)) (c.in_default.ensures l at.there)
-    ∙ (sym (bare_value ls num u.floor l at.there deep (lent c.bare.anchor) (bare_mark l.mark (c.if-not-begins_node.ensures l at.there))) ∙ c.bare.invariant)))
+    ∙ (sym (bare_value ls num u.floor l at.there deep (borrowed c.bare.anchor) (bare_mark l.mark (c.if-not-begins_node.ensures l at.there))) ∙ c.bare.invariant)))
 
 pub returns : goal.returns
-returns c = sym (ap (anchored (lent c.bare.anchor)) (no_value _ c.bare-test.ensures.test)) ∙ c.bare.invariant
+returns c = sym (ap (anchored (borrowed c.bare.anchor)) (no_value _ c.bare-test.ensures.test)) ∙ c.bare.invariant

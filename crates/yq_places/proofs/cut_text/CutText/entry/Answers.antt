@@ -2,14 +2,14 @@ use Rattle.std.proofs.Common.{List, ℕ, map, option_map, ap, ◌∙◌}
 use Rattle.yq_inline.specs.Entries.{step_of}
 use Rattle.yq_documents.specs.Located.{steps_of}
 use Rattle.yq_documents.specs.Reading.{cut_of}
-use Rattle.yq_documents.specs.Seats.{seat_of}
-use Rattle.yq_places.specs.StandingReading.{seat_numbers}
+use Rattle.yq_documents.specs.LinesInRows.{row_line_of}
+use Rattle.yq_places.specs.StandingReading.{numbers_of_entry}
 use Rattle.yq_places.proofs.WalkDocuments.{found_document, no_place_found, place_found}
 use Rattle.yq_places.proofs.cut_text.CutText.entry.Goals as goal
 
 pub returns-in_err-document : goal.returns-in_err-document
 returns-in_err-document c =
-    rw c.from_residual.ensures (no_place_found (cut_of c.args.self.now) c.args.path.now.doc (λ k cut rows. option_map (seat_numbers k rows) (seat_of (steps_of c.args.path.now) rows)) c.in_err-document.ensures.place)
+    rw c.from_residual.ensures (no_place_found (cut_of c.args.self.now) c.args.path.now.doc (λ k cut rows. option_map (numbers_of_entry k rows) (row_line_of (steps_of c.args.path.now) rows)) c.in_err-document.ensures.place)
 
 pub entry_along-requires-clause-document : goal.entry_along-requires-clause-document
 entry_along-requires-clause-document c =
@@ -18,5 +18,5 @@ entry_along-requires-clause-document c =
 pub returns : goal.returns
 returns c =
     let t : List ℕ = c.args.self.now in
-    place_found t c.rows.result.now (cut_of t) c.args.path.now.doc c.in_ok-document.document _ (λ k cut rows. option_map (seat_numbers k rows) (seat_of (steps_of c.args.path.now) rows)) c.whole-whole.ensures.cut c.rows.ensures c.in_ok-document.ensures.place c.in_ok-document.ensures.sound
-    (λ k. c.entry_along.ensures k.document ∙ ap (λ xs. option_map (seat_numbers c.in_ok-document.document.first k.document.stand.rows) (seat_of (map step_of xs) k.document.stand.rows)) c.deref.ensures.value)
+    place_found t c.rows.result.now (cut_of t) c.args.path.now.doc c.in_ok-document.document _ (λ k cut rows. option_map (numbers_of_entry k rows) (row_line_of (steps_of c.args.path.now) rows)) c.whole-whole.ensures.cut c.rows.ensures c.in_ok-document.ensures.place c.in_ok-document.ensures.sound
+    (λ k. c.entry_along.ensures k.document ∙ ap (λ xs. option_map (numbers_of_entry c.in_ok-document.document.first k.document.stand.rows) (row_line_of (map step_of xs) k.document.stand.rows)) c.deref.ensures.value)

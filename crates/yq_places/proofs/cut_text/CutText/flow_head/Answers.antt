@@ -2,12 +2,12 @@ use Rattle.std.proofs.Common.{ℕ, List, length, map, Some, None, refl, sym, ap,
 use Rattle.yq_inline.specs.Entries.{step_of}
 use Rattle.yq_lines.specs.View.{head_flow}
 use Rattle.yq_places.specs.FlowNodes.{flow_collection}
-use Rattle.yq_places.specs.NodeReading.{place_told}
+use Rattle.yq_places.specs.NodeReading.{place_view}
 use Rattle.yq_walk.specs.RowWalk.{line_number}
 use Rattle.yq_scalar.specs.Paths.{Step}
 use Rattle.yq_walk.specs.Lines.{lines_of}
 use Rattle.yq_documents.specs.Reading.{cut_of}
-use Rattle.yq_places.proofs.FlowNodeLaws.{collection_is, head_line_at, head_tells, no_collection, no_flow_told, no_head_at, other_head, rows_collection}
+use Rattle.yq_places.proofs.FlowNodeLaws.{collection_is, head_line_at, head_agrees_at, no_collection, no_flow_agrees, no_head_at, other_head, rows_collection}
 use Rattle.yq_places.proofs.RowHeads.{line_fit, line_within, row_start, row_text}
 use Rattle.yq_places.proofs.WalkDocuments.{found_document, found_in_cut, place_found}
 use Rattle.yq_places.proofs.WalkNodes.{row_is, row_in_cut}
@@ -36,7 +36,7 @@ returns-in_default-node_place c =
     let t : List ℕ = c.args.self.now in
     let steps : List Step = map step_of c.args.steps.now in
     let d = c.in-Some.document in
-    no_flow_told t (flow_collection c.args.doc steps (cut_of t))
+    no_flow_agrees t (flow_collection c.args.doc steps (cut_of t))
     (place_found t c.rows-rows.result.now (cut_of t) c.args.doc d None (λ k x rs. rows_collection k x rs steps) c.whole-whole.ensures.cut c.rows-rows.ensures c.in-Some.ensures.place c.in-Some.ensures.sound
     (λ k. no_collection d.first (cut_of t) k.document.stand.rows steps (no_head_at (lines_of k.document.stand.rows) steps (c.in_default-node_place.ensures.found k.document)))
     ∙ collection_is (cut_of t) c.args.doc steps)
@@ -46,9 +46,9 @@ returns-in_default-place_line c =
     let t : List ℕ = c.args.self.now in
     let steps : List Step = map step_of c.args.steps.now in
     let d = c.in-Some.document in
-    no_flow_told t (flow_collection c.args.doc steps (cut_of t))
+    no_flow_agrees t (flow_collection c.args.doc steps (cut_of t))
     (place_found t c.rows-rows.result.now (cut_of t) c.args.doc d None (λ k x rs. rows_collection k x rs steps) c.whole-whole.ensures.cut c.rows-rows.ensures c.in-Some.ensures.place c.in-Some.ensures.sound
-    (λ k. no_collection d.first (cut_of t) k.document.stand.rows steps (head_line_at (lines_of k.document.stand.rows) steps (map step_of c.in-Some-node_place.left.now) (place_told d k.document.stand.rows c.in-Some-node_place.place) None (c.in-Some-node_place.ensures.found k.document) (c.in_default-place_line.ensures.found k.document.stand)))
+    (λ k. no_collection d.first (cut_of t) k.document.stand.rows steps (head_line_at (lines_of k.document.stand.rows) steps (map step_of c.in-Some-node_place.left.now) (place_view d k.document.stand.rows c.in-Some-node_place.place) None (c.in-Some-node_place.ensures.found k.document) (c.in_default-place_line.ensures.found k.document.stand)))
     ∙ collection_is (cut_of t) c.args.doc steps)
 
 pub returns-in-Nothing : goal.returns-in-Nothing
@@ -63,7 +63,7 @@ returns-in-Nothing c =
     let cut = c.whole-whole.ensures.cut in
     let f = found_document t rows (cut_of t) c.args.doc d cut c.rows-rows.ensures c.in-Some.ensures.place c.in-Some.ensures.sound in
     let k = (found_in_cut t rows (cut_of t) c.args.doc d cut c.rows-rows.ensures f).0 in
-    let leads = head_line_at (lines_of k.document.stand.rows) steps left (place_told d k.document.stand.rows c.in-Some-node_place.place) (Some (line_number d k.document.stand.rows q)) (c.in-Some-node_place.ensures.found k.document) (c.in-Some-place_line.ensures.found k.document.stand) in
+    let leads = head_line_at (lines_of k.document.stand.rows) steps left (place_view d k.document.stand.rows c.in-Some-node_place.place) (Some (line_number d k.document.stand.rows q)) (c.in-Some-node_place.ensures.found k.document) (c.in-Some-place_line.ensures.found k.document.stand) in
     let head = c.in_ok-head.ensures (row_is rows d (cut_of t) k q at) (row_in_cut rows d (cut_of t) k q at) in
     other_head t rows (cut_of t) c.args.doc d cut c.rows-rows.ensures f q at steps left (sym leads) (length c.in_ok-head.field-0.text.now) (ap head_flow (sym c.in-Nothing.is) ∙ head.flow)
 
@@ -79,7 +79,7 @@ returns-in-Scalar c =
     let cut = c.whole-whole.ensures.cut in
     let f = found_document t rows (cut_of t) c.args.doc d cut c.rows-rows.ensures c.in-Some.ensures.place c.in-Some.ensures.sound in
     let k = (found_in_cut t rows (cut_of t) c.args.doc d cut c.rows-rows.ensures f).0 in
-    let leads = head_line_at (lines_of k.document.stand.rows) steps left (place_told d k.document.stand.rows c.in-Some-node_place.place) (Some (line_number d k.document.stand.rows q)) (c.in-Some-node_place.ensures.found k.document) (c.in-Some-place_line.ensures.found k.document.stand) in
+    let leads = head_line_at (lines_of k.document.stand.rows) steps left (place_view d k.document.stand.rows c.in-Some-node_place.place) (Some (line_number d k.document.stand.rows q)) (c.in-Some-node_place.ensures.found k.document) (c.in-Some-place_line.ensures.found k.document.stand) in
     let head = c.in_ok-head.ensures (row_is rows d (cut_of t) k q at) (row_in_cut rows d (cut_of t) k q at) in
     other_head t rows (cut_of t) c.args.doc d cut c.rows-rows.ensures f q at steps left (sym leads) (length c.in_ok-head.field-0.text.now) (ap head_flow (sym c.in-Scalar.is) ∙ head.flow)
 
@@ -95,11 +95,11 @@ returns c =
     let cut = c.whole-whole.ensures.cut in
     let f = found_document t rows (cut_of t) c.args.doc d cut c.rows-rows.ensures c.in-Some.ensures.place c.in-Some.ensures.sound in
     let k = (found_in_cut t rows (cut_of t) c.args.doc d cut c.rows-rows.ensures f).0 in
-    let leads = head_line_at (lines_of k.document.stand.rows) steps left (place_told d k.document.stand.rows c.in-Some-node_place.place) (Some (line_number d k.document.stand.rows q)) (c.in-Some-node_place.ensures.found k.document) (c.in-Some-place_line.ensures.found k.document.stand) in
+    let leads = head_line_at (lines_of k.document.stand.rows) steps left (place_view d k.document.stand.rows c.in-Some-node_place.place) (Some (line_number d k.document.stand.rows q)) (c.in-Some-node_place.ensures.found k.document) (c.in-Some-place_line.ensures.found k.document.stand) in
     let row = row_is rows d (cut_of t) k q at in
     let there = row_in_cut rows d (cut_of t) k q at in
     let head = c.in_ok-head.ensures row there in
-    head_tells t rows (cut_of t) c.args.doc d cut c.rows-rows.ensures f q at steps left (sym leads) _ refl
+    head_agrees_at t rows (cut_of t) c.args.doc d cut c.rows-rows.ensures f q at steps left (sym leads) _ refl
     (row_text t (cut_of t) q.row row c.in_ok-head.field-0.before c.whole-whole.ensures.utf8 cut there head.before c.in_ok-head.field-0.text.now head.text)
     (row_start t (cut_of t) q.row row c.in_ok-head.field-0.before c.whole-whole.ensures.utf8 cut there head.before)
     head.text

@@ -3,7 +3,7 @@ use Rattle.yq_inline.specs.Entries.{step_of}
 use Rattle.yq_documents.specs.Reading.{cut_of}
 use Rattle.yq_places.specs.NodesAt.{node_in, node_view}
 use Rattle.yq_places.specs.RemovalPlaces.{has_several}
-use Rattle.yq_places.proofs.NodeAtLaws.{several_told, none_told, steps_above}
+use Rattle.yq_places.proofs.NodeAtLaws.{several_agrees, none_agrees, steps_above}
 use Rattle.yq_places.proofs.cut_text.CutText.has_others.Goals as goal
 
 pub returns-in-Some : goal.returns-in-Some
@@ -13,7 +13,7 @@ returns-in-Some c =
     let n : c.saturating_sub-above.result ≡ length c.args.path.now.steps.items - 1 = omega (arith, c.saturating_sub-above.ensures, c.len.ensures) in
     let above = (λ i. map step_of (take c.saturating_sub-above.result (c.deref.ensures.value i))) ∙ steps_above step_of c.args.path.now.steps.items c.saturating_sub-above.result n in
     c.has_several.ensures
-    ∙ (several_told (node_in doc (map step_of (take c.saturating_sub-above.result c.deref.result.now)) cut) (node_view c.in-Some.node) (sym (ap (option_map node_view) c.in-Some.is) ∙ c.in_ok-node.ensures)
+    ∙ (several_agrees (node_in doc (map step_of (take c.saturating_sub-above.result c.deref.result.now)) cut) (node_view c.in-Some.node) (sym (ap (option_map node_view) c.in-Some.is) ∙ c.in_ok-node.ensures)
     ∙ ap (λ ss. has_several (node_in doc ss cut)) above)
 
 pub returns-in-None : goal.returns-in-None
@@ -22,4 +22,4 @@ returns-in-None c =
     let cut = cut_of c.args.self.now in
     let n : c.saturating_sub-above.result ≡ length c.args.path.now.steps.items - 1 = omega (arith, c.saturating_sub-above.ensures, c.len.ensures) in
     let above = (λ i. map step_of (take c.saturating_sub-above.result (c.deref.ensures.value i))) ∙ steps_above step_of c.args.path.now.steps.items c.saturating_sub-above.result n in
-    none_told (node_in doc (map step_of (take c.saturating_sub-above.result c.deref.result.now)) cut) (sym (ap (option_map node_view) c.in-None.is) ∙ c.in_ok-node.ensures) ∙ ap (λ ss. has_several (node_in doc ss cut)) above
+    none_agrees (node_in doc (map step_of (take c.saturating_sub-above.result c.deref.result.now)) cut) (sym (ap (option_map node_view) c.in-None.is) ∙ c.in_ok-node.ensures) ∙ ap (λ ss. has_several (node_in doc ss cut)) above

@@ -1,13 +1,13 @@
 use Rattle.std.proofs.Common.{Some, refl, sym, ap, ◌∙◌, subst}
 use Rattle.yq_text.specs.Halves.{whole}
 use Rattle.yq_rows.specs.Grammar.{IsCut}
-use Rattle.yq_rows.specs.View.{shown}
+use Rattle.yq_rows.specs.View.{rows_view}
 use Rattle.yq_documents.specs.Located.{steps_of}
 use Rattle.yq_documents.specs.Reading.{cut_of}
 use Rattle.yq_places.specs.StandingReading.{numbers_at}
-use Rattle.yq_places.specs.StandingTelling.{held_at}
+use Rattle.yq_places.specs.StandingViews.{held_at}
 use Rattle.yq_places.proofs.EntryNumbers.{entry_found}
-use Rattle.yq_places.proofs.StandingTold.{held_there, no_held, other_held}
+use Rattle.yq_places.proofs.StandingViewLaws.{held_there, no_held, other_held}
 use Rattle.yq_places.proofs.cut_text.CutText.held.Goals as goal
 
 pub returns-in_err-entry : goal.returns-in_err-entry
@@ -15,14 +15,14 @@ returns-in_err-entry c = rw c.from_residual.ensures (no_held c.args.path.now.doc
 
 pub returns-then-entry : goal.returns-then-entry
 returns-then-entry c =
-    let f = entry_found c.args.self.now (shown (cut_of c.args.self.now)) c.args.path.now.doc (steps_of c.args.path.now) c.in_ok-entry.entry c.whole-text.ensures.cut refl c.in_ok-entry.ensures in
-    other_held c.args.self.now (shown (cut_of c.args.self.now)) c.args.path.now.doc (steps_of c.args.path.now) c.in_ok-entry.entry f c.if-entry.true
+    let f = entry_found c.args.self.now (rows_view (cut_of c.args.self.now)) c.args.path.now.doc (steps_of c.args.path.now) c.in_ok-entry.entry c.whole-text.ensures.cut refl c.in_ok-entry.ensures in
+    other_held c.args.self.now (rows_view (cut_of c.args.self.now)) c.args.path.now.doc (steps_of c.args.path.now) c.in_ok-entry.entry f c.if-entry.true
 
 pub held_in-requires : goal.held_in-requires
 held_in-requires c =
     let text = c.whole-text.ensures.text in
     let cut = subst (λ t. IsCut t (cut_of t)) (sym text) c.whole-text.ensures.cut in
-    let rows = c.rows.ensures ∙ ap (λ t. shown (cut_of t)) (sym text) in
+    let rows = c.rows.ensures ∙ ap (λ t. rows_view (cut_of t)) (sym text) in
     let f = entry_found (whole c.whole-text.result) c.rows.result.now c.args.path.now.doc (steps_of c.args.path.now) c.in_ok-entry.entry cut rows (c.in_ok-entry.ensures ∙ ap (λ t. numbers_at c.args.path.now.doc (steps_of c.args.path.now) (cut_of t)) (sym text)) in
     record { entry = f.entry; is = f.is }
 
@@ -30,7 +30,7 @@ pub returns : goal.returns
 returns c =
     let text = c.whole-text.ensures.text in
     let cut = subst (λ t. IsCut t (cut_of t)) (sym text) c.whole-text.ensures.cut in
-    let rows = c.rows.ensures ∙ ap (λ t. shown (cut_of t)) (sym text) in
+    let rows = c.rows.ensures ∙ ap (λ t. rows_view (cut_of t)) (sym text) in
     let f = entry_found (whole c.whole-text.result) c.rows.result.now c.args.path.now.doc (steps_of c.args.path.now) c.in_ok-entry.entry cut rows (c.in_ok-entry.ensures ∙ ap (λ t. numbers_at c.args.path.now.doc (steps_of c.args.path.now) (cut_of t)) (sym text)) in
     ap Some (c.held_in.ensures f.entry f.is)
     ∙ (held_there (whole c.whole-text.result) c.rows.result.now c.args.path.now.doc (steps_of c.args.path.now) c.in_ok-entry.entry f c.if-entry.false

@@ -2,7 +2,7 @@ use Rattle.std.proofs.Common.{List, ℕ, take, drop, sym, ap, ◌∙◌, subst}
 use Rattle.std.specs.Str.{IsUtf8, IsCharBoundary}
 use Rattle.yq_text.specs.Halves.{whole}
 use Rattle.yq_documents.specs.Reading.{cut_of}
-use Rattle.yq_places.proofs.RootPlaceLaws.{unwritten_boundary, unwritten_told}
+use Rattle.yq_places.proofs.RootPlaceLaws.{unwritten_boundary, rowless_agrees}
 use Rattle.yq_places.proofs.RootStandingLaws.{no_bare}
 use Rattle.yq_places.proofs.cut_text.CutText.no_rows.Goals as goal
 
@@ -16,5 +16,5 @@ split_at-requires c =
 
 pub returns : goal.returns
 returns c =
-    unwritten_told c.args.self.now c.args.doc c.in_ok-end.end (whole c.split_at.result.0) (whole c.split_at.result.1) c.whole-whole.ensures.cut c.in_ok-end.ensures
+    rowless_agrees c.args.self.now c.args.doc c.in_ok-end.end (whole c.split_at.result.0) (whole c.split_at.result.1) c.whole-whole.ensures.cut c.in_ok-end.ensures
     (c.split_at.ensures.front ∙ ap (take c.in_ok-end.end) c.whole-whole.ensures.text) (c.split_at.ensures.back ∙ ap (drop c.in_ok-end.end) c.whole-whole.ensures.text)

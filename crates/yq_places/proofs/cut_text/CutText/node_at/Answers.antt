@@ -6,8 +6,8 @@ use Rattle.yq_scalar.specs.Paths.{Step}
 use Rattle.yq_walk.specs.Lines.{lines_of}
 use Rattle.yq_documents.specs.Reading.{cut_of}
 use Rattle.yq_lines.specs.View.{head_view}
-use Rattle.yq_places.specs.NodeReading.{NodePlace, place_node, place_told}
-use Rattle.yq_places.proofs.NodeAtLaws.{node_among, block_told, head_told, node_is}
+use Rattle.yq_places.specs.NodeReading.{NodePlace, place_node, place_view}
+use Rattle.yq_places.proofs.NodeAtLaws.{node_among, block_numbers_of, head_agrees, node_is}
 use Rattle.yq_places.proofs.RowHeads.{line_fit, line_within}
 use Rattle.yq_places.proofs.WalkDocuments.{found_document, found_in_cut, place_found}
 use Rattle.yq_places.proofs.WalkNodes.{row_is, row_in_cut}
@@ -36,7 +36,7 @@ returns-in_default-place_line c =
     let steps : List Step = map step_of c.args.steps.now in
     place_found t c.rows-rows.result.now (cut_of t) c.args.doc c.in-Some.document _ (node_among steps) c.whole-whole.ensures.cut c.rows-rows.ensures c.in-Some.ensures.place c.in-Some.ensures.sound
     (λ k. c.block_node.ensures k.document.stand (sym (c.in_default-place_line.ensures.found k.document.stand))
-    ∙ block_told (lines_of k.document.stand.rows) steps (map step_of c.in-Some-node_place.left.now) (place_told c.in-Some.document k.document.stand.rows c.in-Some-node_place.place) (c.in-Some-node_place.ensures.found k.document) (c.in_default-place_line.ensures.found k.document.stand))
+    ∙ block_numbers_of (lines_of k.document.stand.rows) steps (map step_of c.in-Some-node_place.left.now) (place_view c.in-Some.document k.document.stand.rows c.in-Some-node_place.place) (c.in-Some-node_place.ensures.found k.document) (c.in_default-place_line.ensures.found k.document.stand))
     ∙ node_is (cut_of t) c.args.doc steps 0 c.whole-whole.ensures.documents
 
 pub row_head-requires-clause-within : goal.row_head-requires-clause-within
@@ -60,8 +60,8 @@ returns c =
     let q = c.in-Some-place_line.at in
     let at = c.in-Some-place_line.ensures.within in
     let left : List Step = map step_of c.in-Some-node_place.left.now in
-    let told = place_found t rows (cut_of t) c.args.doc d _ (node_among steps) c.whole-whole.ensures.cut c.rows-rows.ensures c.in-Some.ensures.place c.in-Some.ensures.sound
-    (λ k. head_told rows d (cut_of t) k q at steps left (place_told d k.document.stand.rows c.in-Some-node_place.place) (head_view c.in_ok-head.head.head) (c.in-Some-node_place.ensures.found k.document) (c.in-Some-place_line.ensures.found k.document.stand)
+    let agrees = place_found t rows (cut_of t) c.args.doc d _ (node_among steps) c.whole-whole.ensures.cut c.rows-rows.ensures c.in-Some.ensures.place c.in-Some.ensures.sound
+    (λ k. head_agrees rows d (cut_of t) k q at steps left (place_view d k.document.stand.rows c.in-Some-node_place.place) (head_view c.in_ok-head.head.head) (c.in-Some-node_place.ensures.found k.document) (c.in-Some-place_line.ensures.found k.document.stand)
     (c.in_ok-head.ensures (row_is rows d (cut_of t) k q at) (row_in_cut rows d (cut_of t) k q at)).view)
     ∙ node_is (cut_of t) c.args.doc steps 0 c.whole-whole.ensures.documents in
-    IfOk-weaker c.head_node.result _ _ (λ o is. is ∙ told) c.head_node.ensures
+    IfOk-weaker c.head_node.result _ _ (λ o is. is ∙ agrees) c.head_node.ensures

@@ -1,12 +1,12 @@
 use Rattle.std.proofs.Common.{Some, sym, ap, ◌∙◌, subst}
 use Rattle.yq_text.specs.Halves.{whole}
 use Rattle.yq_rows.specs.Grammar.{IsCut}
-use Rattle.yq_rows.specs.View.{shown}
+use Rattle.yq_rows.specs.View.{rows_view}
 use Rattle.yq_documents.specs.Located.{steps_of}
 use Rattle.yq_documents.specs.Reading.{cut_of}
 use Rattle.yq_places.specs.RemovalPlaces.{removal_place}
 use Rattle.yq_places.specs.RemovalReading.{marks_at}
-use Rattle.yq_places.proofs.RemovalTold.{none_taken, taken_at}
+use Rattle.yq_places.proofs.RemovalViewLaws.{none_taken, taken_at}
 use Rattle.yq_places.proofs.cut_text.CutText.removal.Goals as goal
 
 pub returns-in_err-marks : goal.returns-in_err-marks
@@ -16,7 +16,7 @@ pub rows_out-requires : goal.rows_out-requires
 rows_out-requires c =
     let text = c.whole-whole.ensures.text in
     let cut = subst (λ t. IsCut t (cut_of t)) (sym text) c.whole-whole.ensures.cut in
-    let rows = c.rows.ensures ∙ ap (λ t. shown (cut_of t)) (sym text) in
+    let rows = c.rows.ensures ∙ ap (λ t. rows_view (cut_of t)) (sym text) in
     let x = taken_at (whole c.whole-whole.result) c.rows.result.now c.args.path.now.doc (steps_of c.args.path.now) _ cut rows (c.in_ok-marks.ensures ∙ ap (λ t. marks_at c.args.path.now.doc (steps_of c.args.path.now) (cut_of t)) (sym text)) in
     record { part = x.part; rows = x.rows; is = x.is }
 
@@ -24,6 +24,6 @@ pub returns : goal.returns
 returns c =
     let text = c.whole-whole.ensures.text in
     let cut = subst (λ t. IsCut t (cut_of t)) (sym text) c.whole-whole.ensures.cut in
-    let rows = c.rows.ensures ∙ ap (λ t. shown (cut_of t)) (sym text) in
+    let rows = c.rows.ensures ∙ ap (λ t. rows_view (cut_of t)) (sym text) in
     let x = taken_at (whole c.whole-whole.result) c.rows.result.now c.args.path.now.doc (steps_of c.args.path.now) _ cut rows (c.in_ok-marks.ensures ∙ ap (λ t. marks_at c.args.path.now.doc (steps_of c.args.path.now) (cut_of t)) (sym text)) in
     ap Some (c.rows_out.ensures x.part x.rows x.is) ∙ (sym x.place ∙ ap (λ t. removal_place c.args.path.now.doc (steps_of c.args.path.now) (cut_of t)) text)

@@ -4,9 +4,9 @@ use Rattle.yq_text.specs.Halves.{whole}
 use Rattle.yq_scalar.specs.Characters.{text_limit}
 use Rattle.yq_rows.specs.View.{view, rows_of}
 use Rattle.yq_documents.specs.Reading.{cut_of}
-use Rattle.yq_walk.specs.Extents.{IsShown}
+use Rattle.yq_walk.specs.Extents.{IsRowsView}
 use Rattle.yq_places.proofs.FoundEntries.{within_some}
-use Rattle.yq_walk.proofs.LengthLaws.{row_fits, shown_small}
+use Rattle.yq_walk.proofs.LengthLaws.{row_fits, view_small}
 use Rattle.yq_places.proofs.RowHeads.{head_boundary, has_head, row_boundary, row_taken, slices_are}
 use Rattle.yq_places.proofs.cut_text.CutText.row_head.Goals as goal
 
@@ -21,9 +21,9 @@ pub overflow_add-len-2 : goal.overflow_add-len-2
 overflow_add-len-2 c =
     let t : List ℕ = c.args.self.now in
     let cut = c.whole-whole.ensures.cut in
-    let is : IsShown c.rows-rows.result.now = record { cut = cut_of t; is = c.rows-rows.ensures; size = subst (λ (y : List ℕ). length y ≤ text_limit) cut.text cut.size } in
+    let is : IsRowsView c.rows-rows.result.now = record { cut = cut_of t; is = c.rows-rows.ensures; size = subst (λ (y : List ℕ). length y ≤ text_limit) cut.text cut.size } in
     let f = row_fits c.rows-rows.result.now c.args.i (view c.row-row.result) c.row-row.ensures in
-    omega (arith, f, shown_small c.rows-rows.result.now is, ap length c.head.ensures, ap length c.tail.ensures, ap length c.raw.ensures)
+    omega (arith, f, view_small c.rows-rows.result.now is, ap length c.head.ensures, ap length c.tail.ensures, ap length c.raw.ensures)
 
 pub split_at-requires-2 : goal.split_at-requires-2
 split_at-requires-2 c =

@@ -1,9 +1,9 @@
 use Rattle.std.proofs.Common.{length, ap, arith}
 use Rattle.yq_rows.specs.View.{view}
-use Rattle.yq_walk.proofs.LengthLaws.{row_fits, shown_small}
+use Rattle.yq_walk.proofs.LengthLaws.{row_fits, view_small}
 use Rattle.yq_places.proofs.places.comment_place.head_comment_in.Goals as goal
 
 pub gap_comment-requires : goal.gap_comment-requires
 gap_comment-requires c =
-    let f = row_fits c.args.rows.now c.args.seat.row (view c.row.result) c.row.ensures in
-    omega (arith, f, shown_small c.args.rows.now c.requires.shown, c.row_start.ensures, ap length c.gap.ensures)
+    let f = row_fits c.args.rows.now c.args.row_line.row (view c.row.result) c.row.ensures in
+    omega (arith, f, view_small c.args.rows.now c.requires.rows_view, c.row_start.ensures, ap length c.gap.ensures)

@@ -1,22 +1,22 @@
 use Rattle.std.proofs.Common.{length, ap, arith}
 use Rattle.yq_rows.specs.View.{view}
-use Rattle.yq_walk.proofs.LengthLaws.{row_fits, shown_small}
+use Rattle.yq_walk.proofs.LengthLaws.{row_fits, view_small}
 use Rattle.yq_places.proofs.places.comment_place.line_comment_in.Goals as goal
 
 pub front_len-requires : goal.front_len-requires
-front_len-requires c = let f = row_fits c.args.rows.now c.args.seat.row (view c.row-row.result) c.row-row.ensures in omega (arith, f, shown_small c.args.rows.now c.requires.shown)
+front_len-requires c = let f = row_fits c.args.rows.now c.args.row_line.row (view c.row-row.result) c.row-row.ensures in omega (arith, f, view_small c.args.rows.now c.requires.rows_view)
 
 pub overflow_add-start : goal.overflow_add-start
 overflow_add-start c =
-    let f = row_fits c.args.rows.now c.args.seat.row (view c.row-row.result) c.row-row.ensures in
-    omega (arith, f, shown_small c.args.rows.now c.requires.shown, c.row_start.ensures, c.front_len.ensures)
+    let f = row_fits c.args.rows.now c.args.row_line.row (view c.row-row.result) c.row-row.ensures in
+    omega (arith, f, view_small c.args.rows.now c.requires.rows_view, c.row_start.ensures, c.front_len.ensures)
 
 pub overflow_add-start-2 : goal.overflow_add-start-2
 overflow_add-start-2 c =
-    let f = row_fits c.args.rows.now c.args.seat.row (view c.row-row.result) c.row-row.ensures in
-    omega (arith, f, shown_small c.args.rows.now c.requires.shown, c.row_start.ensures, c.front_len.ensures, ap length c.head.ensures)
+    let f = row_fits c.args.rows.now c.args.row_line.row (view c.row-row.result) c.row-row.ensures in
+    omega (arith, f, view_small c.args.rows.now c.requires.rows_view, c.row_start.ensures, c.front_len.ensures, ap length c.head.ensures)
 
 pub tail_comment-requires : goal.tail_comment-requires
 tail_comment-requires c =
-    let f = row_fits c.args.rows.now c.args.seat.row (view c.row-row.result) c.row-row.ensures in
-    omega (arith, f, shown_small c.args.rows.now c.requires.shown, c.row_start.ensures, c.front_len.ensures, ap length c.head.ensures, ap length c.tail.ensures)
+    let f = row_fits c.args.rows.now c.args.row_line.row (view c.row-row.result) c.row-row.ensures in
+    omega (arith, f, view_small c.args.rows.now c.requires.rows_view, c.row_start.ensures, c.front_len.ensures, ap length c.head.ensures, ap length c.tail.ensures)

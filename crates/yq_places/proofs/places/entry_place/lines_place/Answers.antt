@@ -1,5 +1,5 @@
 use Rattle.std.proofs.Common.{arith}
-use Rattle.yq_places.proofs.WalkLines.{lines_told}
+use Rattle.yq_places.proofs.WalkLines.{lines_view}
 use Rattle.yq_places.proofs.places.entry_place.lines_place.Goals as goal
 
 pub line_start-requires-clause-within : goal.line_start-requires-clause-within
@@ -10,4 +10,4 @@ row_end-requires-clause-within c = omega (arith, c.requires.some, c.requires.lin
 
 pub returns : goal.returns
 returns c = λ cut k.
-    lines_told c.args.rows.now c.args.document cut k c.args.from c.args.to c.line_start.result c.row_end.result c.requires.lines c.requires.some c.line_start.ensures (λ r at. c.row_end.ensures cut k.rows r at)
+    lines_view c.args.rows.now c.args.document cut k c.args.from c.args.to c.line_start.result c.row_end.result c.requires.lines c.requires.some c.line_start.ensures (λ r at. c.row_end.ensures cut k.rows r at)

@@ -6,7 +6,7 @@ use Rattle.yq_rows.specs.View.{Slices}
 use Rattle.yq_places.specs.Standings as spec
 use Rattle.yq_places.specs.Standings.{behind_entry}
 use Rattle.yq_places.proofs.EntryRowLaws.{pieces_at, row_valid, row_within}
-use Rattle.yq_places.proofs.StandingTold.{alone_is, has_under, next_entry, none_below, under_is}
+use Rattle.yq_places.proofs.StandingViewLaws.{alone_is, has_under, next_entry, none_below, under_is}
 use Rattle.yq_places.proofs.places.entry_standing.below.Goals as goal
 
 pub returns-then-next-at : goal.returns-then-next-at
@@ -29,8 +29,8 @@ returns-then-is_alone c = λ e h.
     let x = has_under t s e c.args.at h c.if-next-at.false in
     let n = next_entry e x.first x.others in
     let row = same_Some _ _ (sym (pieces_at t s n (c.args.at.row + 1) c.args.at.end x.rows) ∙ c.row-row.ensures) in
-    let told = sym (c.is_alone.ensures x.first (rows_text x.others (behind_entry e)) row (row_valid t s n (c.args.at.row + 1) c.args.at.end x.rows).row.mark) ∙ c.if-is_alone.true in
-    ap spec.alone (c.lone_in.ensures n c.args.at.end x.rows told) ∙ alone_is t s e c.args.at.row c.args.at.end x told
+    let agrees = sym (c.is_alone.ensures x.first (rows_text x.others (behind_entry e)) row (row_valid t s n (c.args.at.row + 1) c.args.at.end x.rows).row.mark) ∙ c.if-is_alone.true in
+    ap spec.alone (c.lone_in.ensures n c.args.at.end x.rows agrees) ∙ alone_is t s e c.args.at.row c.args.at.end x agrees
 
 pub returns : goal.returns
 returns c = λ e h.
@@ -39,6 +39,6 @@ returns c = λ e h.
     let x = has_under t s e c.args.at h c.if-next-at.false in
     let n = next_entry e x.first x.others in
     let row = same_Some _ _ (sym (pieces_at t s n (c.args.at.row + 1) c.args.at.end x.rows) ∙ c.row-row.ensures) in
-    let told = sym (c.is_alone.ensures x.first (rows_text x.others (behind_entry e)) row (row_valid t s n (c.args.at.row + 1) c.args.at.end x.rows).row.mark) ∙ c.if-is_alone.false in
+    let agrees = sym (c.is_alone.ensures x.first (rows_text x.others (behind_entry e)) row (row_valid t s n (c.args.at.row + 1) c.args.at.end x.rows).row.mark) ∙ c.if-is_alone.false in
     let column : c.column.result ≡ x.first.column = c.column.ensures ∙ ap (λ (y : Slices). y.column) (sym row) in
-    (λ i. spec.under (c.held_in-2.ensures e h i) (column i)) ∙ under_is t s e c.args.at.row c.args.at.end x told
+    (λ i. spec.under (c.held_in-2.ensures e h i) (column i)) ∙ under_is t s e c.args.at.row c.args.at.end x agrees

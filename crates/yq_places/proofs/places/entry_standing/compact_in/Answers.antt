@@ -5,7 +5,7 @@ use Rattle.yq_text.specs.Halves.{whole}
 use Rattle.yq_scalar.specs.Text.{is_empty}
 use Rattle.yq_rows.specs.View.{Slices, view}
 use Rattle.yq_places.specs.CommentPlaces.{end_before}
-use Rattle.yq_places.specs.LineReading.{lines_told}
+use Rattle.yq_places.specs.LineReading.{lines_view}
 use Rattle.yq_walk.specs.RowWalk.{line_column}
 use Rattle.yq_places.proofs.EntryRowLaws.{column_fits, last_within, pieces_at, row_within}
 use Rattle.yq_places.proofs.HeldTexts.{column_is}
@@ -33,7 +33,7 @@ returns c = λ e h.
     let s = c.args.rows.now in
     let less : e.line < length e.row.dashes = omega (arith, c.requires.dash, h.line, h.dashes) in
     let row = same_Some _ _ (sym (pieces_at t s e c.args.at.row c.args.at.end h.rows) ∙ c.row-row.ensures) in
-    let lower = dash_lines t s e c.args.at.row c.args.at.end h.rows (IsUtf8-append c.args.text.front.now c.args.text.back.now (search rules) (search rules)) c.args.at.line h.line less (view c.row-row.result) c.row-row.ensures c.line_start.result c.row_stop-stop.result c.line_start.ensures c.row_stop-stop.ensures t refl (lines_told c.cut_lines-lower.result) c.cut_lines-lower.ensures in
+    let lower = dash_lines t s e c.args.at.row c.args.at.end h.rows (IsUtf8-append c.args.text.front.now c.args.text.back.now (search rules) (search rules)) c.args.at.line h.line less (view c.row-row.result) c.row-row.ensures c.line_start.result c.row_stop-stop.result c.line_start.ensures c.row_stop-stop.ensures t refl (lines_view c.cut_lines-lower.result) c.cut_lines-lower.ensures in
     let first = c.line_column.ensures.value ∙ ((λ i. line_column (h.line i) (sym row i)) ∙ column_is e.row e.line (omega (arith, less))) in
     let next : c.args.at.line + 1 ≡ suc e.line = omega (arith, h.line) in
     let second = c.line_column-2.ensures.value ∙ ((λ i. line_column (next i) (sym row i)) ∙ column_is e.row (suc e.line) (omega (arith, less))) in

@@ -1,6 +1,6 @@
 use Rattle.std.proofs.Common.{◌≡◌, IfSome, arith, map, refl, subst}
 use Rattle.yq_inline.specs.Entries.{step_of}
-use Rattle.yq_walk.specs.declared.spot.Stretch.{Stretch}
+use Rattle.yq_walk.specs.declared.position.Stretch.{Stretch}
 use Rattle.yq_places.specs.RowWalk.{IsKnownLine, IsLineAt}
 use Rattle.yq_places.proofs.places.known_line.if_along.Goals as goal
 

@@ -7,13 +7,13 @@ use Rattle.yq_rows.specs.View.{slices}
 use Rattle.yq_walk.specs.RowWalk.{line_number}
 use Rattle.yq_places.proofs.NodeAtLaws.{lines_place}
 use Rattle.yq_places.proofs.WalkNodes.{no_steps}
-use Rattle.yq_walk.proofs.WalkSpots.{located}
+use Rattle.yq_walk.proofs.WalkPositions.{located}
 use Rattle.yq_places.proofs.places.node_place.line_place.Goals as goal
 
-pub returns-clause-told : goal.returns-clause-told
-returns-clause-told c = λ h l is.
+pub returns-clause-agrees : goal.returns-clause-agrees
+returns-clause-agrees c = λ h l is.
     let d = c.args.document in
     let k = located c.args.rows.now d h c.args.at c.requires.at in
-    let floor : c.level_at.result ≡ level l = c.level_at.ensures (slices k.row) k.pieces ∙ (sym k.level_told ∙ ap level (same_Some _ _ (sym k.is ∙ is))) in
+    let floor : c.level_at.result ≡ level l = c.level_at.ensures (slices k.row) k.pieces ∙ (sym k.level_agrees ∙ ap level (same_Some _ _ (sym k.is ∙ is))) in
     lines_place (line_number d h.rows c.args.at) (line_number d h.rows c.next.result) c.level_at.result (map step_of c.args.left.now) l
     (no_steps (map step_of c.args.left.now) (c.if-not-is_empty.ensures ∙ sym (ap (λ n. eqb n 0) (length-map c.args.left.now step_of)))) (c.if-has_head.ensures h l is) (c.next.ensures.number h) floor

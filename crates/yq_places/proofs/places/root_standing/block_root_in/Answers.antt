@@ -3,7 +3,7 @@ use Rattle.std.proofs.lemmas.Option.{same_Some}
 use Rattle.std.proofs.lemmas.Str.{IsUtf8-append}
 use Rattle.yq_text.specs.Halves.{whole}
 use Rattle.yq_rows.specs.View.{Slices}
-use Rattle.yq_places.specs.LineReading.{lines_told}
+use Rattle.yq_places.specs.LineReading.{lines_view}
 use Rattle.yq_places.specs.StandingReading.{root_entry}
 use Rattle.yq_places.proofs.EntryRowLaws.{last_within, pieces_at, row_within}
 use Rattle.yq_places.proofs.RootStandingLaws.{root_cut, root_lines}
@@ -28,6 +28,6 @@ returns c = λ h.
     let s = c.args.rows.now in
     let e = root_entry h.part h.row h.under in
     let row = same_Some _ _ (sym (pieces_at t s e c.args.document.first c.args.document.end h.is) ∙ c.row.ensures) in
-    let lower = root_lines t s c.args.document h (IsUtf8-append c.args.text.front.now c.args.text.back.now (search rules) (search rules)) c.line_start.result c.row_stop-stop.result c.line_start.ensures c.row_stop-stop.ensures t refl (lines_told c.cut_lines-lower.result) c.cut_lines-lower.ensures in
+    let lower = root_lines t s c.args.document h (IsUtf8-append c.args.text.front.now c.args.text.back.now (search rules) (search rules)) c.line_start.result c.row_stop-stop.result c.line_start.ensures c.row_stop-stop.ensures t refl (lines_view c.cut_lines-lower.result) c.cut_lines-lower.ensures in
     let column = c.column-column.ensures ∙ ap (λ (y : Slices). y.column) (sym row) in
     λ i. record { column = column i; before = (lower i).before; old = (lower i).lines; last = (lower i).last; behind = (lower i).behind }

@@ -20,8 +20,8 @@ returns-then-is_alone c = λ h.
     let s = c.args.rows.now in
     let e = root_entry h.part h.row h.under in
     let row = same_Some _ _ (sym (pieces_at t s e c.args.document.first c.args.document.end h.is) ∙ c.row.ensures) in
-    let told = sym (c.is_alone.ensures h.row (rows_text h.under (spec.behind_entry e)) row (row_valid t s e c.args.document.first c.args.document.end h.is).row.mark) ∙ c.if-is_alone.true in
-    ap spec.alone (c.lone_in.ensures e c.args.document.end h.is told) ∙ root_alone t s c.args.document h told
+    let agrees = sym (c.is_alone.ensures h.row (rows_text h.under (spec.behind_entry e)) row (row_valid t s e c.args.document.first c.args.document.end h.is).row.mark) ∙ c.if-is_alone.true in
+    ap spec.alone (c.lone_in.ensures e c.args.document.end h.is agrees) ∙ root_alone t s c.args.document h agrees
 
 pub returns-else-is_alone : goal.returns-else-is_alone
 returns-else-is_alone c = λ h.
@@ -29,5 +29,5 @@ returns-else-is_alone c = λ h.
     let s = c.args.rows.now in
     let e = root_entry h.part h.row h.under in
     let row = same_Some _ _ (sym (pieces_at t s e c.args.document.first c.args.document.end h.is) ∙ c.row.ensures) in
-    let told = sym (c.is_alone.ensures h.row (rows_text h.under (spec.behind_entry e)) row (row_valid t s e c.args.document.first c.args.document.end h.is).row.mark) ∙ c.if-is_alone.false in
-    ap spec.root (c.block_root_in.ensures h) ∙ root_block t s c.args.document h told
+    let agrees = sym (c.is_alone.ensures h.row (rows_text h.under (spec.behind_entry e)) row (row_valid t s e c.args.document.first c.args.document.end h.is).row.mark) ∙ c.if-is_alone.false in
+    ap spec.root (c.block_root_in.ensures h) ∙ root_block t s c.args.document h agrees

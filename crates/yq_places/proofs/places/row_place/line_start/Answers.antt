@@ -1,25 +1,25 @@
 use Rattle.std.proofs.Common.{length, ap, arith}
 use Rattle.yq_rows.specs.View.{view}
-use Rattle.yq_walk.proofs.LengthLaws.{row_fits, shown_small}
+use Rattle.yq_walk.proofs.LengthLaws.{row_fits, view_small}
 use Rattle.yq_places.proofs.places.row_place.line_start.Goals as goal
 
 pub overflow_add-result : goal.overflow_add-result
 overflow_add-result c =
-    let f = row_fits c.args.rows.now c.args.spot.row (view c.row-row.result) c.row-row.ensures in
-    omega (arith, f, shown_small c.args.rows.now c.requires.shown, c.row_start.ensures, ap length c.gap.ensures)
+    let f = row_fits c.args.rows.now c.args.position.row (view c.row-row.result) c.row-row.ensures in
+    omega (arith, f, view_small c.args.rows.now c.requires.rows_view, c.row_start.ensures, ap length c.gap.ensures)
 
 pub overflow_add-result-2 : goal.overflow_add-result-2
 overflow_add-result-2 c =
-    let f = row_fits c.args.rows.now c.args.spot.row (view c.row-row.result) c.row-row.ensures in
-    omega (arith, f, shown_small c.args.rows.now c.requires.shown, c.row_start.ensures, ap length c.gap.ensures, c.column.ensures)
+    let f = row_fits c.args.rows.now c.args.position.row (view c.row-row.result) c.row-row.ensures in
+    omega (arith, f, view_small c.args.rows.now c.requires.rows_view, c.row_start.ensures, ap length c.gap.ensures, c.column.ensures)
 
 pub overflow_add-result-3 : goal.overflow_add-result-3
 overflow_add-result-3 c =
-    let f = row_fits c.args.rows.now c.args.spot.row (view c.row-row.result) c.row-row.ensures in
+    let f = row_fits c.args.rows.now c.args.position.row (view c.row-row.result) c.row-row.ensures in
     omega (
       arith,
       f,
-      shown_small c.args.rows.now c.requires.shown,
+      view_small c.args.rows.now c.requires.rows_view,
       c.row_start.ensures,
       ap length c.gap.ensures,
       c.column.ensures,

@@ -7,7 +7,7 @@ use Rattle.yq_documents.specs.Children.{left_of}
 use Rattle.yq_lines.specs.Counts.{count}
 use Rattle.yq_documents.specs.Nodes.{node_of}
 use Rattle.yq_meaning.specs.Changes.{refers_to}
-use Rattle.yq_planning.specs.Indexes.{text_at}
+use Rattle.yq_planning.specs.Indexes.{get_text}
 use Rattle.yq_planning.proofs.updating.anchors.+aliases.Given as goal
 
 abbrev pub decreases-put_aliases : goal.decreases-put_aliases
@@ -20,7 +20,7 @@ abbrev pub invariant-put_aliases_below-each : goal.invariant-put_aliases_below-e
 invariant-put_aliases_below-each l = record {
   counted : count (left_of l.children) ≤ count (children_of (node_of l.fn.node));
   deep : deepest (left_of l.children) ≤ deepest (children_of (node_of l.fn.node));
-  so_far : (k : List ℕ) → (is_some (text_at k l.aliases) || list_any (refers_to k) (names_in (left_of l.children))) ≡ (is_some (text_at k l.initial.aliases) || list_any (refers_to k) (names_in (children_of (node_of l.fn.node))));
+  so_far : (k : List ℕ) → (is_some (get_text k l.aliases) || list_any (refers_to k) (names_in (left_of l.children))) ≡ (is_some (get_text k l.initial.aliases) || list_any (refers_to k) (names_in (children_of (node_of l.fn.node))));
 }
 
 abbrev pub decreases-put_aliases_below-each : goal.decreases-put_aliases_below-each

@@ -5,11 +5,11 @@ use Rattle.yq_scalar.specs.Tree.{children_of}
 use Rattle.yq_documents.specs.Children.{left_of}
 use Rattle.yq_lines.specs.Counts.{count}
 use Rattle.yq_documents.specs.Nodes.{node_of}
-use Rattle.yq_planning.specs.Indexes.{text_at}
+use Rattle.yq_planning.specs.Indexes.{get_text}
 use Rattle.yq_planning.proofs.updating.entry_index.index_of.Given as goal
 
 abbrev pub invariant-each : goal.invariant-each
-invariant-each l = (k : List ℕ) → option_or (option_map node_of (text_at k l.index)) (child_at (To k) (left_of l.entries)) ≡ child_at (To k) (children_of (node_of l.fn.node))
+invariant-each l = (k : List ℕ) → option_or (option_map node_of (get_text k l.index)) (child_at (To k) (left_of l.entries)) ≡ child_at (To k) (children_of (node_of l.fn.node))
 
 abbrev pub decreases-each : goal.decreases-each
 decreases-each l = count (left_of l.entries)

@@ -1,14 +1,14 @@
 use Rattle.std.proofs.Common.{option_map, sym, ap, ◌∙◌, bytes_eq}
 use Rattle.yq_documents.specs.Nodes.{label_of, node_of}
-use Rattle.yq_planning.specs.Indexes.{text_at}
-use Rattle.yq_planning.proofs.IndexLaws.{put_text, seen_put, new_kept, seen_none}
+use Rattle.yq_planning.specs.Indexes.{get_text}
+use Rattle.yq_planning.proofs.IndexLaws.{put_text, map_put, new_kept, map_none}
 use Rattle.yq_planning.proofs.updating.entry_index.keep.Goals as goal
 
 pub returns-in_ok-insert : goal.returns-in_ok-insert
 returns-in_ok-insert c = λ k.
     let a = c.in-Some.key.now in
     let m = c.args.index.now in
-    let none = seen_none node_of (text_at a m) (sym c.contains_key.ensures ∙ c.if-not-contains_key.true) in
+    let none = map_none node_of (get_text a m) (sym c.contains_key.ensures ∙ c.if-not-contains_key.true) in
     ap (option_map node_of) (put_text m c.insert.new.self a c.args.entry c.in_ok-insert.ensures.updates k)
-    ∙ (seen_put node_of (bytes_eq a k) c.args.entry (text_at k m)
-    ∙ new_kept a k (λ j. option_map node_of (text_at j m)) (label_of c.args.entry) (node_of c.args.entry) (sym c.in-Some.ensures) none)
+    ∙ (map_put node_of (bytes_eq a k) c.args.entry (get_text k m)
+    ∙ new_kept a k (λ j. option_map node_of (get_text j m)) (label_of c.args.entry) (node_of c.args.entry) (sym c.in-Some.ensures) none)

@@ -3,7 +3,7 @@ use Rattle.yq_inline.specs.Values.{node_of as value_node}
 use Rattle.yq_documents.specs.Nodes.{node_of}
 use Rattle.yq_meaning.specs.Judgement.{gives}
 use Rattle.yq_program.specs.View.{step_of}
-use Rattle.yq_planning.proofs.ChangeLaws.{put_made, put_no_item}
+use Rattle.yq_planning.proofs.ChangeLaws.{put_created, put_no_item}
 use Rattle.yq_planning.proofs.updating.put.put_below.Goals as goal
 
 pub returns-then-has_index : goal.returns-then-has_index
@@ -12,5 +12,5 @@ returns-then-has_index c =
 
 pub returns : goal.returns
 returns c =
-    put_made (λ s. step_of s.now) (node_of c.args.node) c.args.missing.now c.first-item.result (value_node c.args.value) c.in-len1-up.len_at_least c.first-item.is (sym c.has_index.ensures ∙ c.if-has_index.false)
-    ∙ ap gives (sym c.in_ok-made.ensures)
+    put_created (λ s. step_of s.now) (node_of c.args.node) c.args.missing.now c.first-item.result (value_node c.args.value) c.in-len1-up.len_at_least c.first-item.is (sym c.has_index.ensures ∙ c.if-has_index.false)
+    ∙ ap gives (sym c.in_ok-created.ensures)

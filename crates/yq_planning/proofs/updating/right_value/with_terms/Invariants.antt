@@ -2,12 +2,12 @@ use Rattle.std.proofs.Common.{◌≡◌, drop, map}
 use Rattle.yq_inline.specs.Values.{node_of}
 use Rattle.yq_meaning.specs.Judgement.{and_then}
 use Rattle.yq_planning.specs.PlaceView.{place_of}
-use Rattle.yq_meaning.specs.Places.{in_turn}
+use Rattle.yq_meaning.specs.Places.{chained}
 use Rattle.yq_meaning.specs.RightValues.{sum, term_value}
 use Rattle.yq_program.specs.View.{term_of}
 use Rattle.yq_planning.proofs.updating.right_value.with_terms.Given as goal
 
 abbrev pub invariant-terms : goal.invariant-terms
 invariant-terms l =
-    in_turn (λ t v. and_then (sum v) (term_value l.doc (place_of l.place) t)) (map term_of (drop l.term-index l.terms)) (node_of l.total)
-    ≡ in_turn (λ t v. and_then (sum v) (term_value l.doc (place_of l.place) t)) (map term_of l.terms) (node_of l.fn.first)
+    chained (λ t v. and_then (sum v) (term_value l.doc (place_of l.place) t)) (map term_of (drop l.term-index l.terms)) (node_of l.total)
+    ≡ chained (λ t v. and_then (sum v) (term_value l.doc (place_of l.place) t)) (map term_of l.terms) (node_of l.fn.first)

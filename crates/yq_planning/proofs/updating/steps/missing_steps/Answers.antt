@@ -3,7 +3,7 @@ use Rattle.yq_planning.specs.PlaceView.{missing_of}
 use Rattle.yq_program.specs.Program.{Step}
 use Rattle.yq_program.specs.View.{step_of}
 use Rattle.yq_planning.specs.declared.matching.place.Missing.{Nothing, the_lemmas}
-use Rattle.yq_planning.proofs.ChangeLaws.{turned_seen}
+use Rattle.yq_planning.proofs.ChangeLaws.{reverse_map}
 use Rattle.yq_planning.proofs.updating.steps.missing_steps.Goals as goal
 
 ends : missing_of Nothing ≡ []
@@ -12,5 +12,5 @@ ends = search (rules, the_lemmas)
 pub returns : goal.returns
 returns c =
     ap (map (λ s. step_of s.now)) c.reverse.ensures.items
-    ∙ (turned_seen (λ s. step_of s.now) c.steps.steps.items
+    ∙ (reverse_map (λ s. step_of s.now) c.steps.steps.items
     ∙ (ap (λ (xs : List Step). xs ++ reverse (map (λ s. step_of s.now) c.steps.steps.items)) (sym (ap missing_of c.in-Nothing.is ∙ ends)) ∙ c.steps.invariant))

@@ -5,7 +5,7 @@ use Rattle.yq_inline.specs.Values.{entries, field_of, node_of}
 use Rattle.yq_inline.specs.declared.value.Value.{Value}
 use Rattle.yq_scalar.specs.Tree.{Node}
 use Rattle.yq_planning.specs.EntryNumbers.{entry_number}
-use Rattle.yq_planning.proofs.SumLaws.{get_seen, number_same, numbered_push, number_within, set_seen, with_absent, with_present}
+use Rattle.yq_planning.proofs.SumLaws.{map_get, number_same, numbered_push, number_within, map_set, with_absent, with_present}
 use Rattle.yq_planning.proofs.updating.sum.put_entry.Goals as goal
 
 abbrev Entry : Type 0
@@ -27,9 +27,9 @@ returns-in-Some-clause-entries c =
     let r : Entry = c.index_mut.result.now in
     let same : entry_number k (map field_of es) ≡ Some c.in-Some.number =
     ap (λ (j : List ℕ). entry_number j (map field_of es)) (sym c.as_str.ensures.value) ∙ (sym (c.requires c.as_str.result.now) ∙ (sym c.number_of.ensures ∙ c.in-Some.is)) in
-    ap (λ (xs : List (List ℕ × Node)). entries xs) (set_seen field_of es c.in-Some.number (r.0, c.args.value))
+    ap (λ (xs : List (List ℕ × Node)). entries xs) (map_set field_of es c.in-Some.number (r.0, c.args.value))
     ∙ sym (with_present k (map field_of es) c.in-Some.number (string_bytes r.0) (node_of c.args.value) (field_of r) same
-    (ap (λ (x : List ℕ × Node). x.0) (get_seen field_of es c.in-Some.number r) ∙ ap (λ (x : Entry). string_bytes x.0) (sym c.index_mut.ensures.value)))
+    (ap (λ (x : List ℕ × Node). x.0) (map_get field_of es c.in-Some.number r) ∙ ap (λ (x : Entry). string_bytes x.0) (sym c.index_mut.ensures.value)))
 
 pub returns-in-Some-clause-numbers : goal.returns-in-Some-clause-numbers
 returns-in-Some-clause-numbers c = λ k.
@@ -38,9 +38,9 @@ returns-in-Some-clause-numbers c = λ k.
     let r : Entry = c.index_mut.result.now in
     let at : entry_number j (map field_of es) ≡ Some c.in-Some.number = sym (c.requires j) ∙ (sym c.number_of.ensures ∙ c.in-Some.is) in
     c.requires k
-    ∙ sym (ap (entry_number k) (set_seen field_of es c.in-Some.number (r.0, c.args.value))
+    ∙ sym (ap (entry_number k) (map_set field_of es c.in-Some.number (r.0, c.args.value))
     ∙ number_same k (map field_of es) c.in-Some.number (string_bytes r.0) (node_of c.args.value) (field_of r) (number_within j (map field_of es) c.in-Some.number at)
-    (ap (λ (x : List ℕ × Node). x.0) (get_seen field_of es c.in-Some.number r) ∙ ap (λ (x : Entry). string_bytes x.0) (sym c.index_mut.ensures.value)))
+    (ap (λ (x : List ℕ × Node). x.0) (map_get field_of es c.in-Some.number r) ∙ ap (λ (x : Entry). string_bytes x.0) (sym c.index_mut.ensures.value)))
 
 pub returns-in_ok-push-in-None-clause-entries : goal.returns-in_ok-push-in-None-clause-entries
 returns-in_ok-push-in-None-clause-entries c =

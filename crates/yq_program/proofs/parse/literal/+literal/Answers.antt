@@ -2,7 +2,7 @@ use Rattle.std.proofs.Common.{rules, arith, ◌<◌, ◌≡◌, ◌∙◌, lengt
 use Rattle.std.specs.Prelude.{codes}
 use Rattle.std.proofs.lemmas.Grind.{common_steps}
 use Rattle.std.proofs.lemmas.Result.{err_from_is_err_and}
-use Rattle.yq_program.proofs.Turns.{turn_more, turn_end, loop_fails, failed, before_some, item_lessens, field_lessens}
+use Rattle.yq_program.proofs.LoopSteps.{step_more, step_end, loop_fails, failed, before_some, item_lessens, field_lessens}
 use Rattle.yq_program.specs.Parse.{behind_at, literal_at, field_at}
 use Rattle.yq_program.specs.Lexing.{tokens, after}
 use Rattle.yq_program.proofs.Keys.{map_is, node_of-map}
@@ -22,11 +22,11 @@ items-items-preserved t c =
       search rules,
       omega arith,
       rw c.in_ok-push-in-Some.ensures.items
-          (turn_more node_of (behind_at (codes ",") (literal_at c.args.depth)) (item_lessens c.args.depth) _ _ _ c.items.invariant.2 _ c.in_ok-item.ensures.value _ _ c.in-Some.is),
+          (step_more node_of (behind_at (codes ",") (literal_at c.args.depth)) (item_lessens c.args.depth) _ _ _ c.items.invariant.2 _ c.in_ok-item.ensures.value _ _ c.in-Some.is),
     )
 
 pub items-returns-in-None-clause-value : goal.items-returns-in-None-clause-value
-items-returns-in-None-clause-value t c = turn_end node_of (behind_at (codes ",") (literal_at c.args.depth)) (item_lessens c.args.depth) _ _ _ c.items.invariant.2 _ c.in_ok-item.ensures.value c.in-None.is
+items-returns-in-None-clause-value t c = step_end node_of (behind_at (codes ",") (literal_at c.args.depth)) (item_lessens c.args.depth) _ _ _ c.items.invariant.2 _ c.in_ok-item.ensures.value c.in-None.is
 
 pub fields-returns-in_err-field-clause-value : goal.fields-returns-in_err-field-clause-value
 fields-returns-in_err-field-clause-value t c =
@@ -40,11 +40,11 @@ fields-fields-preserved t c =
       search rules,
       omega arith,
       rw c.in_ok-push-in-Some.ensures.items
-          (turn_more field_of (behind_at (codes ",") (field_at (literal_at c.args.depth))) (field_lessens c.args.depth) _ _ _ c.fields.invariant.2 _ c.in_ok-field.ensures.value _ _ c.in-Some.is),
+          (step_more field_of (behind_at (codes ",") (field_at (literal_at c.args.depth))) (field_lessens c.args.depth) _ _ _ c.fields.invariant.2 _ c.in_ok-field.ensures.value _ _ c.in-Some.is),
     )
 
 pub fields-returns-in-None-clause-value : goal.fields-returns-in-None-clause-value
-fields-returns-in-None-clause-value t c = turn_end field_of (behind_at (codes ",") (field_at (literal_at c.args.depth))) (field_lessens c.args.depth) _ _ _ c.fields.invariant.2 _ c.in_ok-field.ensures.value c.in-None.is
+fields-returns-in-None-clause-value t c = step_end field_of (behind_at (codes ",") (field_at (literal_at c.args.depth))) (field_lessens c.args.depth) _ _ _ c.fields.invariant.2 _ c.in_ok-field.ensures.value c.in-None.is
 
 pub literal-returns-then-branch-clause-value : goal.literal-returns-then-branch-clause-value
 literal-returns-then-branch-clause-value t c =

@@ -5,7 +5,7 @@ use denote.Shadow.{shadow}
 use Rattle.yq_program.specs.Lexing.{tokens}
 use Rattle.yq_program.specs.Parse.{many, behind_at, parted_at, field_at, literal_at}
 use Rattle.yq_inline.specs.Values.{node_of, field_of}
-use Rattle.yq_program.proofs.Turns.{onto}
+use Rattle.yq_program.proofs.LoopSteps.{onto}
 use Rattle.yq_program.proofs.parse.literal.+literal.Given as goal
 
 abbrev pub decreases-literal : goal.decreases-literal

@@ -1,6 +1,6 @@
 use Rattle.std.proofs.Common.{rules, arith, ◌<◌, length}
 use Rattle.std.proofs.lemmas.Result.{err_from_is_err_and}
-use Rattle.yq_program.proofs.Turns.{turn_more, turn_end, loop_fails, failed, before_some, step_lessens}
+use Rattle.yq_program.proofs.LoopSteps.{step_more, step_end, loop_fails, failed, before_some, step_lessens}
 use Rattle.yq_program.specs.Parse.{step_at}
 use Rattle.yq_program.specs.View.{step_of}
 use Rattle.yq_program.proofs.parse.path.steps.Goals as goal
@@ -18,8 +18,8 @@ steps-preserved c =
       omega arith,
       λ some. omega arith,
       rw c.in_ok-push-in-Some.ensures.items
-          (turn_more step_of step_at step_lessens _ _ _ c.steps.invariant.3 _ c.in_ok-step.ensures.value _ _ c.in-Some.is),
+          (step_more step_of step_at step_lessens _ _ _ c.steps.invariant.3 _ c.in_ok-step.ensures.value _ _ c.in-Some.is),
     )
 
 pub returns-in-None-clause-value : goal.returns-in-None-clause-value
-returns-in-None-clause-value c = turn_end step_of step_at step_lessens _ _ _ c.steps.invariant.3 _ c.in_ok-step.ensures.value c.in-None.is
+returns-in-None-clause-value c = step_end step_of step_at step_lessens _ _ _ c.steps.invariant.3 _ c.in_ok-step.ensures.value c.in-None.is

@@ -4,7 +4,7 @@ use denote.Shadow.{shadow}
 use Rattle.yq_program.specs.Lexing.{tokens}
 use Rattle.yq_program.specs.Parse.{many, step_at}
 use Rattle.yq_program.specs.View.{step_of}
-use Rattle.yq_program.proofs.Turns.{onto}
+use Rattle.yq_program.proofs.LoopSteps.{onto}
 use Rattle.yq_program.proofs.parse.path.steps.Given as goal
 
 abbrev pub invariant-steps : goal.invariant-steps

@@ -1,7 +1,7 @@
 use Rattle.std.proofs.Common.{rules, arith, ◌<◌, length}
 use Rattle.std.specs.Prelude.{codes}
 use Rattle.std.proofs.lemmas.Result.{err_from_is_err_and}
-use Rattle.yq_program.proofs.Turns.{turn_more, turn_end, loop_fails, failed, before_some, stage_lessens}
+use Rattle.yq_program.proofs.LoopSteps.{step_more, step_end, loop_fails, failed, before_some, stage_lessens}
 use Rattle.yq_program.specs.Parse.{behind_at, stage_at}
 use Rattle.yq_program.specs.View.{stage_of}
 use Rattle.yq_program.proofs.parse.pipe.pipe.Goals as goal
@@ -18,8 +18,8 @@ stages-preserved c =
       search rules,
       omega arith,
       rw c.in_ok-push-in-Some.ensures.items
-          (turn_more stage_of (behind_at (codes "|") stage_at) stage_lessens _ _ _ c.stages.invariant.2 _ c.in_ok-stage.ensures.value _ _ c.in-Some.is),
+          (step_more stage_of (behind_at (codes "|") stage_at) stage_lessens _ _ _ c.stages.invariant.2 _ c.in_ok-stage.ensures.value _ _ c.in-Some.is),
     )
 
 pub returns-in-None-clause-value : goal.returns-in-None-clause-value
-returns-in-None-clause-value c = turn_end stage_of (behind_at (codes "|") stage_at) stage_lessens _ _ _ c.stages.invariant.2 _ c.in_ok-stage.ensures.value c.in-None.is
+returns-in-None-clause-value c = step_end stage_of (behind_at (codes "|") stage_at) stage_lessens _ _ _ c.stages.invariant.2 _ c.in_ok-stage.ensures.value c.in-None.is

@@ -5,7 +5,7 @@ use denote.Shadow.{shadow}
 use Rattle.yq_program.specs.Lexing.{tokens}
 use Rattle.yq_program.specs.Parse.{many, behind_at, stage_at, pipe_at}
 use Rattle.yq_program.specs.View.{stage_of}
-use Rattle.yq_program.proofs.Turns.{onto}
+use Rattle.yq_program.proofs.LoopSteps.{onto}
 use Rattle.yq_program.proofs.parse.pipe.pipe.Given as goal
 
 abbrev pub invariant-stages : goal.invariant-stages

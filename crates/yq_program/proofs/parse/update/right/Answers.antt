@@ -1,7 +1,7 @@
 use Rattle.std.proofs.Common.{rules, arith, ◌<◌, length}
 use Rattle.std.specs.Prelude.{codes}
 use Rattle.std.proofs.lemmas.Result.{err_from_is_err_and}
-use Rattle.yq_program.proofs.Turns.{turn_more, turn_end, loop_fails, failed, before_some, term_lessens}
+use Rattle.yq_program.proofs.LoopSteps.{step_more, step_end, loop_fails, failed, before_some, term_lessens}
 use Rattle.yq_program.specs.Grammar.{literal_depth}
 use Rattle.yq_program.specs.Parse.{behind_at, term_at}
 use Rattle.yq_program.specs.View.{term_of}
@@ -19,8 +19,8 @@ terms-preserved c =
       search rules,
       omega arith,
       rw c.in_ok-push-in-Some.ensures.items
-          (turn_more term_of (behind_at (codes "+") (term_at literal_depth)) term_lessens _ _ _ c.terms.invariant.2 _ c.in_ok-term.ensures.value _ _ c.in-Some.is),
+          (step_more term_of (behind_at (codes "+") (term_at literal_depth)) term_lessens _ _ _ c.terms.invariant.2 _ c.in_ok-term.ensures.value _ _ c.in-Some.is),
     )
 
 pub returns-in-None-clause-value : goal.returns-in-None-clause-value
-returns-in-None-clause-value c = turn_end term_of (behind_at (codes "+") (term_at literal_depth)) term_lessens _ _ _ c.terms.invariant.2 _ c.in_ok-term.ensures.value c.in-None.is
+returns-in-None-clause-value c = step_end term_of (behind_at (codes "+") (term_at literal_depth)) term_lessens _ _ _ c.terms.invariant.2 _ c.in_ok-term.ensures.value c.in-None.is

@@ -6,7 +6,7 @@ use Rattle.yq_program.specs.Grammar.{literal_depth}
 use Rattle.yq_program.specs.Lexing.{tokens}
 use Rattle.yq_program.specs.Parse.{many, behind_at, term_at, right_at}
 use Rattle.yq_program.specs.View.{term_of}
-use Rattle.yq_program.proofs.Turns.{onto}
+use Rattle.yq_program.proofs.LoopSteps.{onto}
 use Rattle.yq_program.proofs.parse.update.right.Given as goal
 
 abbrev pub invariant-terms : goal.invariant-terms

@@ -1,7 +1,7 @@
 use Rattle.std.proofs.Common.{rules, arith, ◌<◌, length}
 use Rattle.std.specs.Prelude.{codes}
 use Rattle.std.proofs.lemmas.Result.{err_from_is_err_and}
-use Rattle.yq_program.proofs.Turns.{turn_more, turn_end, loop_fails, failed, before_some, update_lessens}
+use Rattle.yq_program.proofs.LoopSteps.{step_more, step_end, loop_fails, failed, before_some, update_lessens}
 use Rattle.yq_program.specs.Grammar.{literal_depth}
 use Rattle.yq_program.specs.Parse.{behind_at, update_at}
 use Rattle.yq_program.specs.View.{update_of}
@@ -19,8 +19,8 @@ updates-preserved c =
       search rules,
       omega arith,
       rw c.in_ok-push-in-Some.ensures.items
-          (turn_more update_of (behind_at (codes "|") (update_at literal_depth)) update_lessens _ _ _ c.updates.invariant.2 _ c.in_ok-update.ensures.value _ _ c.in-Some.is),
+          (step_more update_of (behind_at (codes "|") (update_at literal_depth)) update_lessens _ _ _ c.updates.invariant.2 _ c.in_ok-update.ensures.value _ _ c.in-Some.is),
     )
 
 pub returns-in-None-clause-value : goal.returns-in-None-clause-value
-returns-in-None-clause-value c = turn_end update_of (behind_at (codes "|") (update_at literal_depth)) update_lessens _ _ _ c.updates.invariant.2 _ c.in_ok-update.ensures.value c.in-None.is
+returns-in-None-clause-value c = step_end update_of (behind_at (codes "|") (update_at literal_depth)) update_lessens _ _ _ c.updates.invariant.2 _ c.in_ok-update.ensures.value c.in-None.is

@@ -6,7 +6,7 @@ use Rattle.yq_program.specs.Grammar.{literal_depth}
 use Rattle.yq_program.specs.Lexing.{tokens}
 use Rattle.yq_program.specs.Parse.{many, behind_at, parted_at, update_at}
 use Rattle.yq_program.specs.View.{update_of}
-use Rattle.yq_program.proofs.Turns.{onto}
+use Rattle.yq_program.proofs.LoopSteps.{onto}
 use Rattle.yq_program.proofs.parse.update.updates.Given as goal
 
 abbrev pub invariant-updates : goal.invariant-updates

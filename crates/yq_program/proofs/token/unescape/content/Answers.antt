@@ -1,5 +1,5 @@
 use Rattle.std.proofs.Common.{◌≡◌, ◌++◌, ◌∙◌, ℕ, List, ap, sym, rules, string_bytes}
-use Rattle.yq_program.proofs.Content.{content_turn, content_done}
+use Rattle.yq_program.proofs.Content.{content_next, content_done}
 use Rattle.yq_program.proofs.token.unescape.content.Goals as goal
 
 pub runs-preserved : goal.runs-preserved
@@ -8,7 +8,7 @@ runs-preserved c =
     let character = c.in-Some.character.now in
     let pushed : string_bytes c.push_str-in-Some.new.self ≡ (string_bytes c.runs.out ++ run) ++ character =
     c.in_ok-push_str-in-Some.ensures.bytes ∙ ap (λ (s : List ℕ). s ++ character) c.in_ok-push_str.ensures.bytes in
-    (search rules, rw pushed (content_turn _ _ c.runs.rest.now run _ character _ c.runs.invariant.1 c.split_plain.ensures (sym c.in-Some.ensures.value)))
+    (search rules, rw pushed (content_next _ _ c.runs.rest.now run _ character _ c.runs.invariant.1 c.split_plain.ensures (sym c.in-Some.ensures.value)))
 
 pub returns-in-None : goal.returns-in-None
 returns-in-None c =

@@ -1,7 +1,7 @@
 use Rattle.std.proofs.Common.{arith, ◌-◌, List, ℕ, Some, ap, drop, length, slice_get, subst, sym, ◌∙◌}
 use Rattle.std.specs.Str.{IsCharBoundary}
 use Rattle.yq_rows.specs.Offsets.{AreCuts, lengths, pieces_of}
-use Rattle.yq_rows.specs.View.{Shown}
+use Rattle.yq_rows.specs.View.{RowsView}
 use Rattle.yq_rows.proofs.KeptPlaces.{back_found, back_within, front_found, row_back, row_front}
 use Rattle.yq_rows.proofs.scanning.Rows.found.Goals as goal
 
@@ -17,7 +17,7 @@ returns-then-i-len-clause-cuts c =
 
 pub returns-then-i-len-clause-row : goal.returns-then-i-len-clause-row
 returns-then-i-len-clause-row c =
-    ap (λ (v : Shown). slice_get v.rows c.args.i) (sym c.self.view_is)
+    ap (λ (v : RowsView). slice_get v.rows c.args.i) (sym c.self.view_is)
     ∙ (row_front c.self.inside.text c.self.inside.places c.args.i c.kept-row.result.now c.kept-row.ensures (omega (arith, c.self.inside.places.front.ok.0))
     ∙ ap (λ (t : List ℕ). Some (pieces_of t c.kept-row.result.now)) (ap (λ (n : ℕ). drop n c.self.inside.text.front.now) (sym c.start.ensures) ∙ sym c.split_at.ensures.back))
 
@@ -38,6 +38,6 @@ returns-clause-cuts c =
 pub returns-clause-row : goal.returns-clause-row
 returns-clause-row c =
     let back = c.self.inside.text.back.now in
-    ap (λ (v : Shown). slice_get v.rows c.args.i) (sym c.self.view_is)
+    ap (λ (v : RowsView). slice_get v.rows c.args.i) (sym c.self.view_is)
     ∙ (row_back c.self.inside.text c.self.inside.places c.args.i c.kept-row.result.now c.kept-row.ensures (omega (arith, c.self.inside.places.front.ok.0))
     ∙ ap (λ (t : List ℕ). Some (pieces_of t c.kept-row.result.now)) (ap (λ (n : ℕ). drop (length back - n) back) (sym c.start-2.ensures) ∙ sym c.split_at-2.ensures.back))

@@ -1,12 +1,12 @@
 use Rattle.std.proofs.Common.{◌<◌, ◌∙◌, ap, arith, length, length-append, subst, sym}
 use Rattle.yq_rows.specs.RowStarts.{row_start}
-use Rattle.yq_rows.specs.View.{Shown}
+use Rattle.yq_rows.specs.View.{RowsView}
 use Rattle.yq_rows.proofs.KeptPlaces.{back_within, halves_small, start_back, start_front}
 use Rattle.yq_rows.proofs.scanning.Rows.start.Goals as goal
 
 pub returns-then-i-len : goal.returns-then-i-len
 returns-then-i-len c =
-    let within = subst (λ (v : Shown). c.args.i < length v.rows) (sym c.self.view_is) c.requires in
+    let within = subst (λ (v : RowsView). c.args.i < length v.rows) (sym c.self.view_is) c.requires in
     c.start-start.ensures
     ∙ (start_front c.self.inside.text c.self.inside.places c.args.i c.kept.result.now c.self.invariant within c.kept.ensures (omega (arith, c.self.inside.places.front.ok.0))
     ∙ ap (row_start c.args.i) c.self.view_is)
@@ -22,7 +22,7 @@ overflow_sub-result c =
 
 pub returns : goal.returns
 returns c =
-    let within = subst (λ (v : Shown). c.args.i < length v.rows) (sym c.self.view_is) c.requires in
+    let within = subst (λ (v : RowsView). c.args.i < length v.rows) (sym c.self.view_is) c.requires in
     rw (c.len-2.ensures, c.start-start.ensures)
     (start_back c.self.inside.text c.self.inside.places c.args.i c.kept.result.now c.self.invariant within c.kept.ensures (omega (arith, c.self.inside.places.front.ok.0))
     ∙ ap (row_start c.args.i) c.self.view_is)

@@ -49,9 +49,9 @@ follow-requires c =
     let text : joined c.self.inside.text ≡ c.args.self.now.text = ap (λ (s : SessionState). s.text) (c.self.view_is ∙ c.in_ok-changed.ensures.same) in
     let h : HasPlaces c.args.self.now.text c.self.inside.places = subst (λ (x : List ℕ). HasPlaces x c.self.inside.places) text c.self.invariant.0 in
     let some = some_splices c.in_ok-changed.changed.splices (sym c.is_empty.ensures ∙ c.if-is_empty.false) in
-    let made = follows (operation_of c.args.op.now) c.args.self.now.text c.operand_holds.ensures c.requires c.self.inside.places h c.in_ok-changed.changed c.in_ok-changed.ensures.ok some in
+    let new_bytes = follows (operation_of c.args.op.now) c.args.self.now.text c.operand_holds.ensures c.requires c.self.inside.places h c.in_ok-changed.changed c.in_ok-changed.ensures.ok some in
     subst (λ (x : List ℕ). Follows x c.self.inside.places (record { front = c.in_ok-changed.changed.front; back = c.in_ok-changed.changed.back }) c.deref.result.now) (sym text)
-    (subst (Follows c.args.self.now.text c.self.inside.places (record { front = c.in_ok-changed.changed.front; back = c.in_ok-changed.changed.back })) (sym c.deref.ensures) made)
+    (subst (Follows c.args.self.now.text c.self.inside.places (record { front = c.in_ok-changed.changed.front; back = c.in_ok-changed.changed.back })) (sym c.deref.ensures) new_bytes)
 
 pub invariant_of-self-in_err-follow : goal.invariant_of-self-in_err-follow
 invariant_of-self-in_err-follow c =

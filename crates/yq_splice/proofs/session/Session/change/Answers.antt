@@ -4,12 +4,12 @@ use Rattle.yq_documents.specs.Reading.{cut_of}
 use Rattle.yq_meaning.specs.Operations.{operation_of}
 use Rattle.yq_script.specs.Changing.{IsChange}
 use Rattle.yq_places.specs.RowWalk.{StayKnown}
-use Rattle.yq_splice.specs.Answers.{Fails}
+use Rattle.yq_splice.specs.Answers.{EditFails}
 use Rattle.yq_splice.specs.Carried.{carried}
 use Rattle.yq_splice.specs.Edit.{Edit}
 use Rattle.yq_splice.specs.Session.{SessionState, HasPlaces, KnowsItems}
 use Rattle.yq_splice.specs.Valid.{segments_by}
-use Rattle.yq_splice.proofs.SessionLaws.{carried_on, cut_lent, known_lent, moved_same, places_back, places_lent, split_is, split_lent, whole_lent}
+use Rattle.yq_splice.proofs.SessionLaws.{carried_on, cut_borrowed, known_borrowed, moved_same, places_back, places_borrowed, split_is, split_borrowed, whole_borrowed}
 use Rattle.yq_splice.proofs.session.Session.change.Goals as goal
 
 pub move_split-requires : goal.move_split-requires
@@ -20,22 +20,22 @@ move_split-requires c =
 pub rows-rows-requires-clause-split : goal.rows-rows-requires-clause-split
 rows-rows-requires-clause-split c =
     let h : HasPlaces (joined c.self.inside.text) c.replace-places.result = subst (HasPlaces (joined c.self.inside.text)) (sym c.replace-places.ensures.value) c.self.invariant.0 in
-    split_lent (joined c.self.inside.text) c.replace-places.result h c.halves-text.result (c.halves-text.ensures.front ∙ c.move_split.ensures.front, c.halves-text.ensures.back ∙ c.move_split.ensures.back)
+    split_borrowed (joined c.self.inside.text) c.replace-places.result h c.halves-text.result (c.halves-text.ensures.front ∙ c.move_split.ensures.front, c.halves-text.ensures.back ∙ c.move_split.ensures.back)
 
 pub rows-rows-requires-clause-placed : goal.rows-rows-requires-clause-placed
 rows-rows-requires-clause-placed c =
     let h : HasPlaces (joined c.self.inside.text) c.replace-places.result = subst (HasPlaces (joined c.self.inside.text)) (sym c.replace-places.ensures.value) c.self.invariant.0 in
-    places_lent (joined c.self.inside.text) c.replace-places.result h c.halves-text.result (c.halves-text.ensures.front ∙ c.move_split.ensures.front, c.halves-text.ensures.back ∙ c.move_split.ensures.back)
+    places_borrowed (joined c.self.inside.text) c.replace-places.result h c.halves-text.result (c.halves-text.ensures.front ∙ c.move_split.ensures.front, c.halves-text.ensures.back ∙ c.move_split.ensures.back)
 
 pub resumed-cut-requires-clause-cut : goal.resumed-cut-requires-clause-cut
 resumed-cut-requires-clause-cut c =
     let h : HasPlaces (joined c.self.inside.text) c.replace-places.result = subst (HasPlaces (joined c.self.inside.text)) (sym c.replace-places.ensures.value) c.self.invariant.0 in
-    cut_lent (joined c.self.inside.text) c.replace-places.result h c.halves-text.result (c.halves-text.ensures.front ∙ c.move_split.ensures.front, c.halves-text.ensures.back ∙ c.move_split.ensures.back) c.rows-rows.result c.rows-rows.ensures
+    cut_borrowed (joined c.self.inside.text) c.replace-places.result h c.halves-text.result (c.halves-text.ensures.front ∙ c.move_split.ensures.front, c.halves-text.ensures.back ∙ c.move_split.ensures.back) c.rows-rows.result c.rows-rows.ensures
 
 pub resumed-cut-requires-clause-known : goal.resumed-cut-requires-clause-known
 resumed-cut-requires-clause-known c =
     let h : HasPlaces (joined c.self.inside.text) c.replace-places.result = subst (HasPlaces (joined c.self.inside.text)) (sym c.replace-places.ensures.value) c.self.invariant.0 in
-    known_lent (joined c.self.inside.text) c.replace-places.result h c.halves-text.result (c.halves-text.ensures.front ∙ c.move_split.ensures.front, c.halves-text.ensures.back ∙ c.move_split.ensures.back) c.rows-rows.result c.rows-rows.ensures c.self.inside.known c.self.invariant.1
+    known_borrowed (joined c.self.inside.text) c.replace-places.result h c.halves-text.result (c.halves-text.ensures.front ∙ c.move_split.ensures.front, c.halves-text.ensures.back ∙ c.move_split.ensures.back) c.rows-rows.result c.rows-rows.ensures c.self.inside.known c.self.invariant.1
 
 pub invariant_of-self : goal.invariant_of-self
 invariant_of-self c =
@@ -47,18 +47,18 @@ invariant_of-self c =
 pub returns-clause-ok : goal.returns-clause-ok
 returns-clause-ok c =
     let h : HasPlaces (joined c.self.inside.text) c.replace-places.result = subst (HasPlaces (joined c.self.inside.text)) (sym c.replace-places.ensures.value) c.self.invariant.0 in
-    let same = c.resumed-cut.ensures ∙ (whole_lent (joined c.self.inside.text) c.replace-places.result h c.halves-text.result (c.halves-text.ensures.front ∙ c.move_split.ensures.front, c.halves-text.ensures.back ∙ c.move_split.ensures.back) ∙ ap (λ (s : SessionState). s.text) c.self.view_is) in
+    let same = c.resumed-cut.ensures ∙ (whole_borrowed (joined c.self.inside.text) c.replace-places.result h c.halves-text.result (c.halves-text.ensures.front ∙ c.move_split.ensures.front, c.halves-text.ensures.back ∙ c.move_split.ensures.back) ∙ ap (λ (s : SessionState). s.text) c.self.view_is) in
     subst (λ (t : List ℕ). IfOk c.change_one-changed.result (λ x. IsChange (segments_by (operation_of c.args.op.now) (cut_of t)) x.0)) same c.change_one-changed.ensures.ok
 
 pub returns-clause-known : goal.returns-clause-known
 returns-clause-known c =
     let h : HasPlaces (joined c.self.inside.text) c.replace-places.result = subst (HasPlaces (joined c.self.inside.text)) (sym c.replace-places.ensures.value) c.self.invariant.0 in
-    let same = c.resumed-cut.ensures ∙ (whole_lent (joined c.self.inside.text) c.replace-places.result h c.halves-text.result (c.halves-text.ensures.front ∙ c.move_split.ensures.front, c.halves-text.ensures.back ∙ c.move_split.ensures.back) ∙ ap (λ (s : SessionState). s.text) c.self.view_is) in
+    let same = c.resumed-cut.ensures ∙ (whole_borrowed (joined c.self.inside.text) c.replace-places.result h c.halves-text.result (c.halves-text.ensures.front ∙ c.move_split.ensures.front, c.halves-text.ensures.back ∙ c.move_split.ensures.back) ∙ ap (λ (s : SessionState). s.text) c.self.view_is) in
     subst (λ (t : List ℕ). IfOk c.change_one-changed.result (λ x. StayKnown x.0.front (cut_of t) x.1)) same c.change_one-changed.ensures.known
 
 pub returns-clause-err : goal.returns-clause-err
 returns-clause-err c =
     let h : HasPlaces (joined c.self.inside.text) c.replace-places.result = subst (HasPlaces (joined c.self.inside.text)) (sym c.replace-places.ensures.value) c.self.invariant.0 in
-    let whole = c.resumed-cut.ensures ∙ whole_lent (joined c.self.inside.text) c.replace-places.result h c.halves-text.result (c.halves-text.ensures.front ∙ c.move_split.ensures.front, c.halves-text.ensures.back ∙ c.move_split.ensures.back) in
+    let whole = c.resumed-cut.ensures ∙ whole_borrowed (joined c.self.inside.text) c.replace-places.result h c.halves-text.result (c.halves-text.ensures.front ∙ c.move_split.ensures.front, c.halves-text.ensures.back ∙ c.move_split.ensures.back) in
     let same = carried_on (operation_of c.args.op.now) (joined c.self.inside.text) c.resumed-cut.result c.replace-places.result h whole ∙ ap (λ (s : SessionState). carried (operation_of c.args.op.now) s.text) c.self.view_is in
-    subst (λ (x : Edit). IfErr c.change_one-changed.result (λ e. Fails e x)) same c.change_one-changed.ensures.err
+    subst (λ (x : Edit). IfErr c.change_one-changed.result (λ e. EditFails e x)) same c.change_one-changed.ensures.err

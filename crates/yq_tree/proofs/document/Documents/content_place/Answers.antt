@@ -2,7 +2,7 @@ use Rattle.std.proofs.Common.{option_and_then, sym, ap, ◌∙◌}
 use Rattle.yq_inline.specs.Entries.{PlacedEntry, content_place}
 use Rattle.yq_documents.specs.Reading.{cut_of}
 use Rattle.yq_places.specs.EntryReading.{flow_entry_at, line_content_at}
-use Rattle.yq_places.proofs.EntryPlaceLaws.{Place, or_flow, content_either}
+use Rattle.yq_places.proofs.EntryPlaceLaws.{TextSpan, or_flow, content_either}
 use Rattle.yq_places.proofs.PieceHolds.{spans_are}
 use Rattle.yq_tree.proofs.document.Documents.content_place.Goals as goal
 
@@ -10,7 +10,7 @@ pub returns-in-Some : goal.returns-in-Some
 returns-in-Some c =
     let p = c.args.path.now in
     let cut = cut_of c.args.self.now in
-    ap (λ (o : Place). or_flow o (option_and_then (λ (e : PlacedEntry). content_place e.1) (flow_entry_at p cut))) (c.in-Some.ensures ∙ ap (λ t. line_content_at p (cut_of t)) c.cut.ensures)
+    ap (λ (o : TextSpan). or_flow o (option_and_then (λ (e : PlacedEntry). content_place e.1) (flow_entry_at p cut))) (c.in-Some.ensures ∙ ap (λ t. line_content_at p (cut_of t)) c.cut.ensures)
     ∙ (sym (content_either p cut) ∙ sym (spans_are c.args.self.now cut p c.whole-whole.ensures.cut c.whole-whole.ensures.documents).0)
 
 pub returns-in_err-entry : goal.returns-in_err-entry
@@ -18,7 +18,7 @@ returns-in_err-entry c =
     let p = c.args.path.now in
     let cut = cut_of c.args.self.now in
     rw c.from_residual.ensures (ap (option_and_then (λ (e : PlacedEntry). content_place e.1)) c.in_err-entry.ensures
-    ∙ (ap (λ (o : Place). or_flow o (option_and_then (λ (e : PlacedEntry). content_place e.1) (flow_entry_at p cut))) (c.in_default.ensures ∙ ap (λ t. line_content_at p (cut_of t)) c.cut.ensures)
+    ∙ (ap (λ (o : TextSpan). or_flow o (option_and_then (λ (e : PlacedEntry). content_place e.1) (flow_entry_at p cut))) (c.in_default.ensures ∙ ap (λ t. line_content_at p (cut_of t)) c.cut.ensures)
     ∙ (sym (content_either p cut) ∙ sym (spans_are c.args.self.now cut p c.whole-whole.ensures.cut c.whole-whole.ensures.documents).0)))
 
 pub returns : goal.returns
@@ -27,5 +27,5 @@ returns c =
     let cut = cut_of c.args.self.now in
     c.content_span.ensures
     ∙ (ap (option_and_then (λ (e : PlacedEntry). content_place e.1)) c.in_ok-entry.ensures
-    ∙ (ap (λ (o : Place). or_flow o (option_and_then (λ (e : PlacedEntry). content_place e.1) (flow_entry_at p cut))) (c.in_default.ensures ∙ ap (λ t. line_content_at p (cut_of t)) c.cut.ensures)
+    ∙ (ap (λ (o : TextSpan). or_flow o (option_and_then (λ (e : PlacedEntry). content_place e.1) (flow_entry_at p cut))) (c.in_default.ensures ∙ ap (λ t. line_content_at p (cut_of t)) c.cut.ensures)
     ∙ (sym (content_either p cut) ∙ sym (spans_are c.args.self.now cut p c.whole-whole.ensures.cut c.whole-whole.ensures.documents).0)))

@@ -2,7 +2,7 @@ use Rattle.std.proofs.Common.{Some, option_map, sym, ap, ◌∙◌}
 use Rattle.yq_inline.specs.Entries.{entry_place}
 use Rattle.yq_documents.specs.Reading.{cut_of}
 use Rattle.yq_places.specs.EntryReading.{flow_entry_at, line_entry_at}
-use Rattle.yq_places.proofs.EntryPlaceLaws.{Place, or_flow, entry_either}
+use Rattle.yq_places.proofs.EntryPlaceLaws.{TextSpan, or_flow, entry_either}
 use Rattle.yq_places.proofs.PieceHolds.{spans_are}
 use Rattle.yq_tree.proofs.document.Documents.entry_place.Goals as goal
 
@@ -10,7 +10,7 @@ pub returns-in-Some : goal.returns-in-Some
 returns-in-Some c =
     let p = c.args.path.now in
     let cut = cut_of c.args.self.now in
-    ap (λ (o : Place). or_flow o (option_map entry_place (flow_entry_at p cut))) (c.in-Some.ensures ∙ ap (λ t. line_entry_at p (cut_of t)) c.cut.ensures)
+    ap (λ (o : TextSpan). or_flow o (option_map entry_place (flow_entry_at p cut))) (c.in-Some.ensures ∙ ap (λ t. line_entry_at p (cut_of t)) c.cut.ensures)
     ∙ (sym (entry_either p cut) ∙ sym (spans_are c.args.self.now cut p c.whole-whole.ensures.cut c.whole-whole.ensures.documents).1)
 
 pub returns-in_err-entry : goal.returns-in_err-entry
@@ -18,7 +18,7 @@ returns-in_err-entry c =
     let p = c.args.path.now in
     let cut = cut_of c.args.self.now in
     rw c.from_residual.ensures (ap (option_map entry_place) c.in_err-entry.ensures
-    ∙ (ap (λ (o : Place). or_flow o (option_map entry_place (flow_entry_at p cut))) (c.in_default.ensures ∙ ap (λ t. line_entry_at p (cut_of t)) c.cut.ensures)
+    ∙ (ap (λ (o : TextSpan). or_flow o (option_map entry_place (flow_entry_at p cut))) (c.in_default.ensures ∙ ap (λ t. line_entry_at p (cut_of t)) c.cut.ensures)
     ∙ (sym (entry_either p cut) ∙ sym (spans_are c.args.self.now cut p c.whole-whole.ensures.cut c.whole-whole.ensures.documents).1)))
 
 pub returns : goal.returns
@@ -27,5 +27,5 @@ returns c =
     let cut = cut_of c.args.self.now in
     ap Some c.entry_span.ensures
     ∙ (ap (option_map entry_place) c.in_ok-entry.ensures
-    ∙ (ap (λ (o : Place). or_flow o (option_map entry_place (flow_entry_at p cut))) (c.in_default.ensures ∙ ap (λ t. line_entry_at p (cut_of t)) c.cut.ensures)
+    ∙ (ap (λ (o : TextSpan). or_flow o (option_map entry_place (flow_entry_at p cut))) (c.in_default.ensures ∙ ap (λ t. line_entry_at p (cut_of t)) c.cut.ensures)
     ∙ (sym (entry_either p cut) ∙ sym (spans_are c.args.self.now cut p c.whole-whole.ensures.cut c.whole-whole.ensures.documents).1)))

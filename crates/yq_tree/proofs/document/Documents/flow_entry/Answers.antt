@@ -4,10 +4,10 @@ use Rattle.yq_inline.specs.Entries.{step_of}
 use Rattle.yq_inline.specs.Places.{Placed}
 use Rattle.yq_lines.specs.Ends.{reached}
 use Rattle.yq_rows.specs.Grammar.{IsCut}
-use Rattle.yq_rows.specs.View.{shown}
+use Rattle.yq_rows.specs.View.{rows_view}
 use Rattle.yq_walk.specs.Lines.{lines_of}
 use Rattle.yq_documents.specs.Located.{steps_of}
-use Rattle.yq_documents.specs.Made.{told_flow}
+use Rattle.yq_documents.specs.Decoded.{decoded_flow}
 use Rattle.yq_documents.specs.Reading.{all_documents, cut_of}
 use Rattle.yq_places.specs.EntryReading.{flow_entry_at, flow_entry_of}
 use Rattle.yq_places.specs.RowWalk.{document_rows}
@@ -47,9 +47,9 @@ pub returns : goal.returns
 returns c =
     let v : List ℕ = c.self.inside.read in
     let same : c.cut-cut.result ≡ v = c.cut-cut.ensures ∙ sym c.self.view_is in
-    let flow : Option Placed = told_flow (option_map (λ m. m.now) c.made.result) in
+    let flow : Option Placed = decoded_flow (option_map (λ m. m.now) c.decoded.result) in
     flow_found v c.rows.result.now c.args.path.now.doc c.in_ok-document.document c.in_ok-at.at (steps_of c.args.path.now) (map step_of c.in_ok-at.left.now) flow _ (subst (λ x. IsCut x (cut_of x)) same c.whole-whole.ensures.cut)
-    (c.rows.ensures ∙ ap (λ x. shown (cut_of x)) same) (c.in_ok-document.ensures.place ∙ ap (λ x. document_rows c.args.path.now.doc (cut_of x)) same) (subst (λ x. all_documents (cut_of x) ≡ true) same c.in_ok-document.ensures.sound) c.in_ok-at.ensures.within
-    (λ h. c.in_ok-at.ensures.found h ∙ ap (λ xs. reached (map step_of xs) (lines_of h.stand.rows)) c.deref.ensures.value) (λ r is. (c.made.ensures r is).flow) c.made_entry.ensures
+    (c.rows.ensures ∙ ap (λ x. rows_view (cut_of x)) same) (c.in_ok-document.ensures.place ∙ ap (λ x. document_rows c.args.path.now.doc (cut_of x)) same) (subst (λ x. all_documents (cut_of x) ≡ true) same c.in_ok-document.ensures.sound) c.in_ok-at.ensures.within
+    (λ h. c.in_ok-at.ensures.found h ∙ ap (λ xs. reached (map step_of xs) (lines_of h.stand.rows)) c.deref.ensures.value) (λ r is. (c.decoded.ensures r is).flow) c.decoded_entry.ensures
     (c.if-is_empty.ensures ∙ sym (ap (λ n. eqb n 0) (length-map c.in_ok-at.left.now step_of)))
     ∙ ap (λ x. flow_entry_at c.args.path.now (cut_of x)) c.self.view_is

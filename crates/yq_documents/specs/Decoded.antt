@@ -1,0 +1,61 @@
+-- Reading (own; a reader may skip it): what rows spell, as it is borrowed, or made where the text doesn't lend it.
+use Rattle.std.specs.Prelude.{◌≡◌, ℕ, suc, ◌-◌, ◌≤◌, ◌==◌, List, [], ◌∷◌, drop, length, take, Option, Some, None, option_and_then, option_map, string_bytes, if◌then◌else◌, ⊤}
+use Rattle.yq_scalar.specs.Scalar.{plain_of}
+use Rattle.yq_scalar.specs.Text.{is_empty}
+use Rattle.yq_scalar.specs.Tree.{Node}
+use Rattle.yq_inline.specs.Places.{Placed}
+use Rattle.yq_inline.specs.Scalars.{is_quoted, content_of}
+use Rattle.yq_inline.specs.Trees.{scalar_node}
+use Rattle.yq_lines.specs.View.{head_flow, head_view}
+use Rattle.yq_rows.specs.Exchange.{behind_row}
+use Rattle.yq_rows.specs.Rows.{Row, Cut}
+use Rattle.yq_rows.specs.View.{slices}
+use Rattle.yq_walk.specs.Lines.{head_of}
+use Rattle.yq_documents.specs.FlowReading.{row_flow}
+use Rattle.yq_documents.specs.RowReading.{string_head}
+use Rattle.yq_documents.specs.declared.decoded.Decoded.{Decoded}
+
+-- what is made of row i, if anything is (own)
+abbrev pub decoded_at : ℕ → List Decoded → Option Decoded
+decoded_at i [] = None
+decoded_at i (m ∷ ms) = if i == m.row then Some m else decoded_at i ms
+
+-- what is made of rows, from one on, in their order (own)
+abbrev pub Rise : ℕ → List Decoded → Type 0
+Rise n [] = ⊤
+Rise n (m ∷ ms) = (n ≤ m.row) × Rise (suc m.row) ms
+
+-- a text as it is written, without its quotes (own)
+abbrev pub borrowed_text : List ℕ → List ℕ
+borrowed_text t = if is_quoted t then take (length t - 2) (drop 1 t) else t
+
+-- what a head spells that is borrowed as it is written (own)
+abbrev pub borrowed_head : List ℕ → Option Node
+borrowed_head h = if is_empty h then None else (if is_quoted h then string_head (borrowed_text h) else Some (scalar_node (plain_of h)))
+
+-- the first of two answers, if there is one (own)
+abbrev pub decoded_or : {A : Type 0} → Option A → A → A
+decoded_or None borrowed = borrowed
+decoded_or (Some x) borrowed = x
+
+-- the text of a row's key, by what is made of the row and by its key (own)
+abbrev pub decoded_key : Option Decoded → List ℕ → List ℕ
+decoded_key m key = decoded_or (option_and_then (λ x. option_map string_bytes x.key) m) (borrowed_text key)
+
+-- what a row's head spells, by what is made of the row and by its head (own)
+abbrev pub decoded_head : Option Decoded → List ℕ → Option Node
+decoded_head m head = decoded_or (option_and_then (λ x. option_map head_view x.head) m) (borrowed_head head)
+
+-- the alias or flow collection in a row's head with its places, by what is made of the row (own)
+abbrev pub decoded_flow : Option Decoded → Option Placed
+decoded_flow m = option_and_then (λ x. option_and_then head_flow x.head) m
+
+-- What row i of a cut of a text so long spells is told by what is made of it and by its pieces (own).
+pub record IsDecodedBy (total : ℕ) (c : Cut) (m : Option Decoded) (i : ℕ) (r : Row) : Type 0 where
+  pub key : decoded_key m (slices r).key ≡ content_of (slices r).key
+  pub head : decoded_head m (slices r).head ≡ head_of r.content
+  pub flow : decoded_flow m ≡ row_flow total r (behind_row i c)
+
+-- The same by what is made of rows (own).
+abbrev pub IsDecoded : ℕ → Cut → List Decoded → ℕ → Row → Type 0
+IsDecoded total c ms i r = IsDecodedBy total c (decoded_at i ms) i r

@@ -1,0 +1,57 @@
+-- Which line of which row a line is, and where a text has room for comments (own).
+use Rattle.std.specs.Prelude.{ℕ, suc, ◌-◌, nat_lt, ◌==◌, Bool, false, List, [], ◌∷◌, length, slice_get, Option, Some, None, option_map, if◌then◌else◌}
+use Rattle.yq_scalar.specs.Answers.{◌>>=◌}
+use Rattle.yq_scalar.specs.Paths.{Step}
+use Rattle.yq_rows.specs.Rows.{Row, Cut}
+use Rattle.yq_documents.specs.declared.path.Part.{Part}
+use Rattle.yq_documents.specs.declared.path.Part.TheVariants.{Content, Entry, HeadComment, LineComment}
+use Rattle.yq_documents.specs.declared.path.Path.{Path}
+use Rattle.yq_documents.specs.Documents.{document_parts}
+use Rattle.yq_documents.specs.PartNumbers.{part_number, rows_to}
+use Rattle.yq_walk.specs.Lines.{lines_of}
+use Rattle.yq_documents.specs.Located.{steps_of}
+use Rattle.yq_documents.specs.Reading.{cut_of}
+use Rattle.yq_lines.specs.Ends.{line_of}
+
+-- A line of a row: how many rows stand before that row, the row, and how many of its lines stand before this one (own).
+pub record RowLine : Type 0 where
+  pub before : ℕ
+  pub row : Row
+  pub line : ℕ
+
+-- the same behind one more row (own)
+abbrev pub behind_one : RowLine → RowLine
+behind_one s = record s { before = suc s.before }
+
+-- line n of rows; a row has a line for each dash before its mark, and one for the mark (own)
+abbrev pub row_line : ℕ → List Row → Option RowLine
+row_line n [] = None
+row_line n (r ∷ rs) = if nat_lt (length r.dashes) n then option_map behind_one (row_line (n - suc (length r.dashes)) rs) else Some (record { before = 0; row = r; line = n })
+
+-- the line of the entry or item to which steps lead among rows; the root has none, nor has what stands in flow (own)
+abbrev pub row_line_of : List Step → List Row → Option RowLine
+row_line_of steps rs = line_of steps (lines_of rs) >>= λ n. row_line n rs
+
+-- the same of a path in a cut, among the rows of its document (own)
+abbrev pub row_line_at : Path → Cut → Option RowLine
+row_line_at p c = slice_get (document_parts c) p.doc >>= λ d. row_line_of (steps_of p) d.rows
+
+-- whether a line has room for a comment: above it where it begins its row, behind it where it is that of the row's mark (own)
+abbrev pub line_has_room : Part → RowLine → Bool
+line_has_room Content s = false
+line_has_room Entry s = false
+line_has_room HeadComment s = s.line == 0
+line_has_room LineComment s = s.line == length s.row.dashes
+
+-- the same of a line, if there is one (own)
+abbrev pub row_line_has_room : Part → Option RowLine → Bool
+row_line_has_room part None = false
+row_line_has_room part (Some s) = line_has_room part s
+
+-- whether a text has room for a comment at a path (own)
+abbrev pub has_room : Path → Part → List ℕ → Bool
+has_room p part t = row_line_has_room part (row_line_at p (cut_of t))
+
+-- how many rows stand before document n of a cut (own)
+abbrev pub document_row : ℕ → Cut → ℕ
+document_row n c = rows_to (part_number n c) c

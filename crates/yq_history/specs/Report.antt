@@ -1,0 +1,21 @@
+-- What a command that is carried out shows (own).
+use Rattle.std.specs.Prelude.{ℕ, Bool, true, List, []}
+use Rattle.std.specs.String.{string_bytes}
+use Rattle.yq_history.specs.declared.report.Report as declared
+
+-- the bytes that it prints, and whether what it was asked for is there
+pub record Report : Type 0 where
+  pub printed : List ℕ
+  pub is_match : Bool
+
+-- bytes that are printed
+abbrev pub text : List ℕ → Report
+text bytes = record { printed = bytes; is_match = true }
+
+-- nothing is printed
+abbrev pub nothing : Report
+nothing = text []
+
+-- what that of the code stands for
+abbrev pub report_by : declared.Report → Report
+report_by s = record { printed = string_bytes s.text; is_match = s.is_match }

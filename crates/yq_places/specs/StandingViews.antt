@@ -1,0 +1,67 @@
+-- What the code tells of what stands at a place (own).
+use Rattle.std.specs.Prelude.{ℕ, ◌==◌, List, length, Option, Some, None, if◌then◌else◌}
+use Rattle.yq_text.specs.Halves.{whole}
+use Rattle.yq_scalar.specs.Answers.{◌>>=◌}
+use Rattle.yq_scalar.specs.Paths.{Step}
+use Rattle.yq_rows.specs.Rows.{Cut}
+use Rattle.yq_places.specs.Standings.{Mark, Held, Lone, Compact, BlockRoot, NoRows, Standing, RowsOfEntry, alone, beside, under, compact, block, root, no_rows, held, rows_of_entry}
+use Rattle.yq_places.specs.declared.places.held.Held as declared_held
+use Rattle.yq_places.specs.declared.places.held.Mark as declared_mark
+use Rattle.yq_places.specs.declared.places.standing.BlockRoot as declared_root
+use Rattle.yq_places.specs.declared.places.standing.Compact as declared_compact
+use Rattle.yq_places.specs.declared.places.standing.Lone as declared_lone
+use Rattle.yq_places.specs.declared.places.standing.NoRows as declared_no_rows
+use Rattle.yq_places.specs.declared.places.standing.Standing as declared
+
+-- a key or dash that the code lends
+abbrev pub held_mark_view : declared_mark.Mark → Mark
+held_mark_view m = record { column = m.column; keyed = m.keyed; noted = m.noted }
+
+-- a key or dash that the code lends, with what it holds
+abbrev pub held_view : declared_held.Held → Held
+held_view h = record {
+  mark = held_mark_view h.mark;
+  before = whole h.before;
+  space = h.space.now;
+  head = h.head.now;
+  white = h.white.now;
+  comment = h.comment.now;
+  break = h.line_break.now;
+  lines = whole h.lines;
+  last = h.last.now;
+  behind = whole h.behind;
+}
+
+-- a lone node that the code lends
+abbrev pub lone_view : declared_lone.Lone → Lone
+lone_view w = record { before = whole w.before; head = w.head.now; behind = whole w.behind }
+
+-- a collection behind a dash that the code lends
+abbrev pub compact_view : declared_compact.Compact → Compact
+compact_view p = record { mark = held_mark_view p.mark; column = p.column; before = whole p.before; old = whole p.old; last = p.last.now; behind = whole p.behind }
+
+-- a root that the code lends
+abbrev pub root_view : declared_root.BlockRoot → BlockRoot
+root_view w = record { column = w.column; before = whole w.before; old = whole w.old; last = w.last.now; behind = whole w.behind }
+
+-- a document without rows that the code lends
+abbrev pub no_rows_view : declared_no_rows.NoRows → NoRows
+no_rows_view w = record { before = whole w.before; behind = whole w.behind }
+
+-- what stands at a place, as the code lends it
+abbrev pub standing_view : declared.Standing → Standing
+standing_view (declared.TheVariants.Alone w) = alone (lone_view w)
+standing_view (declared.TheVariants.Beside h) = beside (held_view h)
+standing_view (declared.TheVariants.Under h column) = under (held_view h) column
+standing_view (declared.TheVariants.Compact p) = compact (compact_view p)
+standing_view (declared.TheVariants.Block h indent) = block (held_view h) indent
+standing_view (declared.TheVariants.Root w) = root (root_view w)
+standing_view (declared.TheVariants.NoRows w) = no_rows (no_rows_view w)
+
+-- what the key or dash of rows holds, if its line is the last one of its row
+abbrev pub held_if_last : RowsOfEntry → Option Held
+held_if_last e = if e.line == length e.row.dashes then Some (held e) else None
+
+-- what the key or dash holds of the item or entry to which steps lead in document n, if its line is the last one of its row
+abbrev pub held_at : ℕ → List Step → Cut → Option Held
+held_at n steps c = rows_of_entry n steps c >>= held_if_last

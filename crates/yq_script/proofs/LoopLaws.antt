@@ -1,0 +1,65 @@
+-- The segments so far and one more.
+use Rattle.std.proofs.Common.{◌≡◌, ℕ, ◌+◌, ◌<◌, List, [], ◌∷◌, ◌++◌, ◌-◌, ◌≤◌, length, take, get_or, refl, sym, ap, ◌∙◌, arith, append-nil}
+use Rattle.std.proofs.lemmas.List.{map-append, take_all, take_more}
+use Rattle.std.proofs.Common.{subst, String, Global}
+use Rattle.std.proofs.lemmas.Str.{IsUtf8-append}
+use Rattle.std.specs.Str.{IsUtf8}
+use Rattle.std.specs.String.{string_bytes}
+use Rattle.yq_text.specs.Halves.{whole}
+use Rattle.yq_text.specs.declared.halves.Halves.{Halves}
+use Rattle.yq_script.specs.Splice.{Splice}
+use Rattle.yq_script.specs.Exchanging.{gives}
+use Rattle.yq_script.specs.Script.{Segment, keep, kept_front, kept_back, new_text, put_before, merged, splice_at, splices_at, changes_behind, to_last}
+use Rattle.yq_script.specs.Segments.{segment_of, segments_of}
+use Rattle.yq_script.specs.declared.segment.Segment.{Segment as Held}
+use Rattle.yq_script.specs.declared.segment.Segment.TheVariants as held
+use Rattle.yq_script.proofs.BetweenLaws.{back_gives, back_stays, to_last_put, last_stays}
+
+-- the last exchange
+pub loop_last : (done all : List Splice) (n : ℕ) (o w : List ℕ) → all ≡ done ++ splice_at n o w → all ≡ done ++ splices_at n (put_before o w [])
+loop_last done all n o w e = e ∙ ap (λ x. done ++ x) (sym (append-nil (splice_at n o w)))
+
+-- no segment is left
+pub none_left : (ss : List Held) → length ss < 1 → segments_of ss ≡ []
+none_left [] h = refl
+none_left (p ∷ ss) h = absurd (omega (arith, h))
+
+pub loop_done : (front : ℕ) (whole rest : List Segment) (bytes : List ℕ) (done all : List Splice) (n : ℕ) (o w : List ℕ) → rest ≡ [] → bytes ++ new_text rest ≡ new_text whole →
+    done ++ splices_at n (put_before o w (merged rest)) ≡ changes_behind front whole → all ≡ done ++ splice_at n o w → gives (new_text whole) (changes_behind front whole) ≡ gives bytes all
+loop_done front whole rest bytes done all n o w none so_far found last =
+    let text : new_text whole ≡ bytes = sym so_far ∙ ap (λ ss. bytes ++ new_text ss) none ∙ append-nil bytes in
+    let splices_are : changes_behind front whole ≡ all =
+    sym found ∙ ap (λ ss. done ++ splices_at n (put_before o w (merged ss))) none ∙ sym (loop_last done all n o w last) in
+    λ i. gives (text i) (splices_are i)
+
+-- segments with the last one behind the others
+module _ (xs : List Held) (x d : Held) (some : 1 ≤ length xs) (is : x ≡ get_or xs (length xs - 1) d) where
+  abbrev but_last : List Held
+  but_last = take (length xs - 1) xs
+
+  with_last : segments_of xs ≡ segments_of but_last ++ (segment_of x ∷ [])
+  with_last =
+      ap segments_of (sym (take_all (length xs - 1 + 1) xs (omega (arith, some))) ∙ (take_more xs (length xs - 1) d (omega (arith, some)) ∙ ap (λ y. but_last ++ (y ∷ [])) (sym is)))
+      ∙ map-append segment_of but_last (x ∷ [])
+
+  pub last_kept_goes : (t : Halves) → x ≡ held.Keep t → to_last (segments_of but_last) ≡ to_last (segments_of xs)
+  last_kept_goes t keeps = sym (ap to_last (with_last ∙ ap (λ y. segments_of but_last ++ (segment_of y ∷ [])) keeps) ∙ last_stays (segments_of but_last) (whole t))
+
+  pub last_put_is : (o : Halves) (w : String Global) → x ≡ held.Put o w → segments_of xs ≡ to_last (segments_of xs)
+  last_put_is o w puts =
+      let all : segments_of xs ≡ segments_of but_last ++ (segment_of (held.Put o w) ∷ []) = with_last ∙ ap (λ y. segments_of but_last ++ (segment_of y ∷ [])) puts in
+      all ∙ sym (ap to_last all ∙ to_last_put (segments_of but_last) (whole o) (string_bytes w))
+
+  pub back_kept : (t : Halves) → x ≡ held.Keep t → kept_back (segments_of xs) ≡ kept_back (segments_of but_last) ++ whole t
+  back_kept t keeps = ap kept_back (with_last ∙ ap (λ y. segments_of but_last ++ (segment_of y ∷ [])) keeps) ∙ back_stays (segments_of but_last) (whole t)
+
+  pub back_put : (o : Halves) (w : String Global) → x ≡ held.Put o w → kept_back (segments_of xs) ≡ []
+  back_put o w puts = ap kept_back (with_last ∙ ap (λ y. segments_of but_last ++ (segment_of y ∷ [])) puts) ∙ back_gives (segments_of but_last) (whole o) (string_bytes w)
+
+-- a text behind another one
+pub texts_joined : (t u : List ℕ) → IsUtf8 t → IsUtf8 u → IsUtf8 (t ++ u)
+texts_joined = IsUtf8-append
+
+-- what is kept in front with one more
+pub front_more : (ss us : List Segment) (t : List ℕ) → IsUtf8 t → IsUtf8 (kept_front us) → ss ≡ keep t ∷ us → IsUtf8 (kept_front ss)
+front_more ss us t text more is = subst (λ x. IsUtf8 (kept_front x)) (sym is) (IsUtf8-append t (kept_front us) text more)

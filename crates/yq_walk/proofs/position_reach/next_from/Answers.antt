@@ -1,0 +1,36 @@
+use Rattle.std.proofs.Common.{◌≡◌, ap, sym, ◌∙◌}
+use Rattle.std.specs.Prelude.{option_and_then}
+use Rattle.yq_inline.specs.Entries.{step_of}
+use Rattle.yq_inline.specs.Inline.{depth_limit}
+use Rattle.yq_scalar.specs.Keys.{are_distinct, keys_of}
+use Rattle.yq_walk.specs.Lines.{lines_of}
+use Rattle.yq_lines.specs.Ends.{part}
+use Rattle.yq_lines.specs.Outline.{children, level}
+use Rattle.yq_lines.specs.Positions.{reach_in, reach_under}
+use Rattle.yq_rows.specs.View.{slices}
+use Rattle.yq_walk.specs.RowWalk.{line_number}
+use Rattle.yq_walk.proofs.EntryKeys.{line_keys}
+use Rattle.yq_walk.proofs.WalkPositions.{located, head_here, head_none}
+use Rattle.yq_walk.proofs.position_reach.next_from.Goals as goal
+
+pub returns-then-has_head-clause-found : goal.returns-then-has_head-clause-found
+returns-then-has_head-clause-found c = λ h ss.
+    let n = line_number c.args.document h.stand.rows c.args.at in
+    let k = located c.args.rows.now c.args.document h.stand c.args.at c.requires.at in
+    ap (option_and_then (reach_under (lines_of h.stand.rows) n (step_of c.args.step.now) ss)) k.is ∙ head_here k.line.head _ _ (c.if-has_head.ensures h.stand k.line k.is)
+
+pub next_in-requires-clause-keys : goal.next_in-requires-clause-keys
+next_in-requires-clause-keys c = λ h.
+    let k = located c.args.rows.now c.args.document h.stand c.args.at c.requires.at in
+    let floor : c.level_at.result ≡ level k.line = c.level_at.ensures (slices k.row) k.pieces ∙ sym k.level_agrees in
+    (λ j. are_distinct (keys_of (children (part (lines_of h.stand.rows) (c.next-under.ensures.number h.stand j) (floor j))))) ∙ line_keys depth_limit (lines_of h.stand.rows) _ k.line h.sound k.is
+
+pub returns-clause-found : goal.returns-clause-found
+returns-clause-found c = λ h ss.
+    let n = line_number c.args.document h.stand.rows c.args.at in
+    let k = located c.args.rows.now c.args.document h.stand c.args.at c.requires.at in
+    let floor : c.level_at.result ≡ level k.line = c.level_at.ensures (slices k.row) k.pieces ∙ sym k.level_agrees in
+    let number = c.next-under.ensures.number h.stand in
+    ap (option_and_then (reach_under (lines_of h.stand.rows) n (step_of c.args.step.now) ss)) k.is
+    ∙ (head_none k.line.head _ _ (c.if-has_head.ensures h.stand k.line k.is)
+    ∙ ((λ j. reach_in (lines_of h.stand.rows) (sym number j) (sym floor j) (step_of c.args.step.now) ss) ∙ c.next_in.ensures.found h ss))

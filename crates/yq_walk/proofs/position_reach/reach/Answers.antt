@@ -1,0 +1,8 @@
+use Rattle.std.proofs.Common.{map}
+use Rattle.yq_inline.specs.Entries.{step_of}
+use Rattle.yq_walk.specs.Lines.{lines_of}
+use Rattle.yq_lines.proofs.PathLines.{from_root}
+use Rattle.yq_walk.proofs.position_reach.reach.Goals as goal
+
+pub steps-init : goal.steps-init
+steps-init c = record { within = tt; leads = λ h. from_root (lines_of h.stand.rows) (map step_of c.args.steps.now) }
