@@ -5,9 +5,9 @@ use Rattle.std.specs.Prelude.{nat_le}
 use Rattle.yq_scalar.specs.declared.block_written.Break.{Break}
 use Rattle.yq_scalar.specs.declared.block_written.Break.TheVariants as breaks
 use Rattle.yq_scalar.specs.BlockWritten.{break_text}
-use Rattle.yq_scalar.specs.Lines.{spaces}
-use Rattle.yq_scalar.specs.Plain.{no_gap, last_line, may_follow, follows, ends_plain, ends_text}
-use Rattle.yq_scalar.specs.Text.{cut, is_space, is_empty, is_line, front, is_marker}
+use Rattle.yq_flow_scalars.specs.Lines.{spaces}
+use Rattle.yq_flow_scalars.specs.Plain.{no_gap, last_line, may_follow, follows, ends_plain, ends_text}
+use Rattle.yq_flow_scalars.specs.Text.{cut, is_space, is_empty, is_line, front, is_marker}
 use Rattle.yq_rows.specs.Grammar.{IsTail}
 use Rattle.yq_rows.proofs.PlainEnds.{AtLine, tail_ends}
 use Rattle.yq_block.specs.BlockValues.{IsEnd}

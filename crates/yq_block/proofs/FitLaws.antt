@@ -1,12 +1,12 @@
 -- What is written in block style has no anchors, and no keys that would merge mappings.
 use Rattle.std.proofs.Common.{◌≡◌, ℕ, Bool, true, false, List, [], ◌∷◌, ◌++◌, Option, Some, None, refl, sym, subst}
-use Rattle.yq_scalar.specs.Tree as tree
-use Rattle.yq_scalar.specs.Tree.{Children}
+use Rattle.yq_flow_scalars.specs.Tree as tree
+use Rattle.yq_flow_scalars.specs.Tree.{Children}
 use Rattle.yq_inline.specs.Nodes as inline
 use Rattle.yq_flow.specs.Valued.{IsValueTree, AreValueTrees}
 use Rattle.yq_rows.specs.Rows as rows
 use Rattle.yq_rows.specs.Rows.{Row}
-use Rattle.yq_scalar.specs.Anchors.{names_of, names_in, AreBound}
+use Rattle.yq_flow_scalars.specs.Anchors.{names_of, names_in, AreBound}
 use Rattle.yq_lines.specs.LineAnchors.{HaveOneAnchorEach}
 use Rattle.yq_documents.specs.Documents.{MarkIsFit, ContentHasFitKeys, HaveFitKeys}
 use Rattle.yq_walk.specs.Lines.{content_anchor, lines_from, lines_of}

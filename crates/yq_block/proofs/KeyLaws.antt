@@ -5,15 +5,15 @@ use Rattle.std.proofs.lemmas.Bool.{false≢true, ltb-true, not-true, and_parts}
 use Rattle.std.proofs.lemmas.Str.{encode_ascii, scalars-chars, chars-encodes, encodes-append}
 use Rattle.std.specs.List.{list_all}
 use Rattle.std.specs.Str.{chars, IsUtf8}
-use Rattle.yq_scalar.specs.declared.kind.Kind.TheVariants as kinds
-use Rattle.yq_scalar.specs.declared.style.Place.TheVariants as places
-use Rattle.yq_scalar.specs.declared.style.Style.TheVariants as styles
-use Rattle.yq_scalar.specs.Characters.{is_text_char}
-use Rattle.yq_scalar.specs.PlainText.{is_plain_char, is_plain_text, begins_marker}
-use Rattle.yq_scalar.specs.Scalar.{string_of}
-use Rattle.yq_scalar.specs.Writable.{can_write_plain}
-use Rattle.yq_scalar.specs.Written.{written_letters, letter_of, double_by, in_double, written, double}
-use Rattle.yq_scalar.proofs.Bools.{chosen}
+use Rattle.yq_flow_scalars.specs.declared.kind.Kind.TheVariants as kinds
+use Rattle.yq_flow_scalars.specs.declared.style.Place.TheVariants as places
+use Rattle.yq_flow_scalars.specs.declared.style.Style.TheVariants as styles
+use Rattle.yq_flow_scalars.specs.Characters.{is_text_char}
+use Rattle.yq_flow_scalars.specs.PlainText.{is_plain_char, is_plain_text, begins_marker}
+use Rattle.yq_flow_scalars.specs.Scalar.{string_of}
+use Rattle.yq_flow_scalars.specs.Writable.{can_write_plain}
+use Rattle.yq_flow_scalars.specs.Written.{written_letters, letter_of, double_by, in_double, written, double}
+use Rattle.yq_flow_scalars.proofs.Bools.{chosen}
 use Rattle.yq_scalar.proofs.PlainSpells.{writable_text}
 use Rattle.yq_scalar.proofs.PlainWritten.{plain_text_parts}
 use Rattle.yq_inline.specs.Written.{scalar_text}
@@ -22,8 +22,8 @@ use Rattle.yq_inline.proofs.Alikes.{no_first, no_second, no_third}
 use Rattle.yq_scalar.proofs.WrittenText.{scalars_append}
 use Rattle.std.specs.Prelude.{◌≢◌}
 use Rattle.std.proofs.Common.{codes}
-use Rattle.yq_scalar.specs.Text.{front, is_marker}
-use Rattle.yq_scalar.specs.Writable.{can_write}
+use Rattle.yq_flow_scalars.specs.Text.{front, is_marker}
+use Rattle.yq_flow_scalars.specs.Writable.{can_write}
 use Rattle.yq_block.specs.BlockRows.{block_key}
 
 -- a key begins with no marker

@@ -4,9 +4,9 @@ use Rattle.std.specs.Str.{IsUtf8}
 use Rattle.yq_scalar.specs.declared.block_written.Break.{Break}
 use Rattle.yq_scalar.specs.declared.block_written.Break.TheVariants as breaks
 use Rattle.yq_scalar.specs.BlockWritten.{break_text}
-use Rattle.yq_scalar.specs.Text.{lines_of as text_lines, upto}
-use Rattle.yq_scalar.specs.Tree as tree
-use Rattle.yq_scalar.specs.Tree.{Children}
+use Rattle.yq_flow_scalars.specs.Text.{lines_of as text_lines, upto}
+use Rattle.yq_flow_scalars.specs.Tree as tree
+use Rattle.yq_flow_scalars.specs.Tree.{Children}
 use Rattle.yq_inline.specs.Nodes as inline
 use Rattle.yq_inline.specs.Trees.{inner}
 use Rattle.yq_flow.specs.Valued.{IsLabel, IsValueTree, AreValueTrees}

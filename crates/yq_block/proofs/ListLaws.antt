@@ -7,7 +7,7 @@ use Rattle.std.specs.Option.{is_none}
 use Rattle.std.specs.Prelude.{Vec, nat_eq}
 use Rattle.std.specs.Vec.{vec_len}
 use Rattle.yq_scalar.specs.BlockWritten.{break_text}
-use Rattle.yq_scalar.specs.Tree as tree
+use Rattle.yq_flow_scalars.specs.Tree as tree
 use Rattle.yq_inline.specs.declared.value.Value.{Value}
 use Rattle.yq_inline.specs.declared.value.Value.TheVariants as values
 use Rattle.yq_inline.specs.Nodes as inline

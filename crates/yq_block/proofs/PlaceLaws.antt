@@ -1,7 +1,7 @@
 -- Rows that are written behind a key or dash of a text.
 use Rattle.std.proofs.Common.{◌≡◌, ℤ, ℕ, suc, ◌+◌, ◌≤◌, true, false, not, ◌&&◌, eqb, List, [], ◌∷◌, ◌++◌, None, refl, sym, ap, ◌∙◌, subst, arith, append_assoc, replicate, Some}
 use Rattle.std.proofs.lemmas.Bool.{false≢true}
-use Rattle.yq_scalar.specs.Text.{separates, upto}
+use Rattle.yq_flow_scalars.specs.Text.{separates, upto}
 use Rattle.yq_inline.specs.Alike.{Alike, byte}
 use Rattle.yq_lines.specs.Comments.{head_comment, line_comment}
 use Rattle.yq_rows.specs.Exchange.{asked_behind, with_content, allows_first}

@@ -2,19 +2,19 @@
 use Rattle.std.proofs.Common.{◌≡◌, ℕ, Bool, true, false, cond, List, [], ◌∷◌, length, Option, Some, None, refl, sym, ap, subst, arith}
 use Rattle.std.proofs.lemmas.Bool.{false≢true}
 use Rattle.std.specs.Str.{chars, IsUtf8}
-use Rattle.yq_scalar.specs.declared.kind.Kind.{Kind}
-use Rattle.yq_scalar.specs.declared.kind.Kind.TheVariants as kinds
-use Rattle.yq_scalar.specs.declared.style.Place.TheVariants as places
-use Rattle.yq_scalar.specs.declared.style.Style.TheVariants as styles
-use Rattle.yq_scalar.specs.ContentReading.{plain_content, quoted_content}
-use Rattle.yq_scalar.specs.Piece.{deeper}
-use Rattle.yq_scalar.specs.Plain.{ends_plain}
-use Rattle.yq_scalar.specs.Scalar.{ScalarText, string_of, of_kind, plain_of}
-use Rattle.yq_scalar.specs.SchemaReading.{resolve}
-use Rattle.yq_scalar.specs.Text.{separates}
-use Rattle.yq_scalar.specs.Tree as tree
-use Rattle.yq_scalar.specs.Writable.{can_write, is_string}
-use Rattle.yq_scalar.specs.Written.{written}
+use Rattle.yq_flow_scalars.specs.declared.kind.Kind.{Kind}
+use Rattle.yq_flow_scalars.specs.declared.kind.Kind.TheVariants as kinds
+use Rattle.yq_flow_scalars.specs.declared.style.Place.TheVariants as places
+use Rattle.yq_flow_scalars.specs.declared.style.Style.TheVariants as styles
+use Rattle.yq_flow_scalars.specs.ContentReading.{plain_content, quoted_content}
+use Rattle.yq_flow_scalars.specs.Piece.{deeper}
+use Rattle.yq_flow_scalars.specs.Plain.{ends_plain}
+use Rattle.yq_flow_scalars.specs.Scalar.{ScalarText, string_of, of_kind, plain_of}
+use Rattle.yq_flow_scalars.specs.SchemaReading.{resolve}
+use Rattle.yq_flow_scalars.specs.Text.{separates}
+use Rattle.yq_flow_scalars.specs.Tree as tree
+use Rattle.yq_flow_scalars.specs.Writable.{can_write, is_string}
+use Rattle.yq_flow_scalars.specs.Written.{written}
 use Rattle.yq_inline.specs.Nodes as inline
 use Rattle.yq_inline.specs.Nodes.{IsNode}
 use Rattle.yq_inline.specs.Scalars.{is_quoted, content_of, scalar_of}

@@ -2,8 +2,8 @@
 use Rattle.std.proofs.Common.{◌≡◌, ℕ, Bool, true, false, List, [], ◌∷◌, ◌++◌, Option, Some, None, refl, sym, ap, ◌∙◌, append_assoc, append-nil, replicate}
 use Rattle.std.proofs.lemmas.List.{append_cancel_left}
 use Rattle.yq_scalar.specs.BlockWritten.{break_text}
-use Rattle.yq_scalar.specs.Tree as tree
-use Rattle.yq_scalar.specs.Tree.{Children}
+use Rattle.yq_flow_scalars.specs.Tree as tree
+use Rattle.yq_flow_scalars.specs.Tree.{Children}
 use Rattle.yq_inline.specs.Nodes as inline
 use Rattle.yq_inline.specs.Nodes.{node_text}
 use Rattle.yq_flow.specs.Valued.{IsValueTree, AreValueTrees}

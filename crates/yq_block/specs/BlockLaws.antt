@@ -1,13 +1,13 @@
 -- What is promised of the nodes and rows in which values are written in block style (own).
 use Rattle.std.specs.Prelude.{◌≡◌, ℕ, ◌<◌, ◌≤◌, ℤ, Option, Some, List, [], ◌∷◌, ◌++◌, replicate, None, true, false, length}
 use Rattle.std.specs.Str.{IsUtf8, chars}
-use Rattle.yq_scalar.specs.declared.style.Place.TheVariants.{Block, FlowKey}
+use Rattle.yq_flow_scalars.specs.declared.style.Place.TheVariants.{Block, FlowKey}
 use Rattle.yq_scalar.specs.BlockWritten.{break_text}
-use Rattle.yq_scalar.specs.Characters.{is_text, text_limit}
-use Rattle.yq_scalar.specs.Piece.{deeper}
-use Rattle.yq_scalar.specs.Plain.{ends_plain}
-use Rattle.yq_scalar.specs.Scalar.{string_of}
-use Rattle.yq_scalar.specs.Tree as tree
+use Rattle.yq_flow_scalars.specs.Characters.{is_text, text_limit}
+use Rattle.yq_flow_scalars.specs.Piece.{deeper}
+use Rattle.yq_flow_scalars.specs.Plain.{ends_plain}
+use Rattle.yq_flow_scalars.specs.Scalar.{string_of}
+use Rattle.yq_flow_scalars.specs.Tree as tree
 use Rattle.yq_inline.specs.Inline.{IsInline}
 use Rattle.yq_inline.specs.Nodes as inline
 use Rattle.yq_flow.specs.Valued.{IsValueTree}

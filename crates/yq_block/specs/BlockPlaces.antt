@@ -1,7 +1,7 @@
 -- Rows that are put in the place of others, and values that are written there (own).
 use Rattle.std.specs.Prelude.{◌≡◌, ℕ, ◌≤◌, List, [], ◌∷◌, ◌++◌, true, false, Some}
-use Rattle.yq_scalar.specs.Text.{separates}
-use Rattle.yq_scalar.specs.Tree as tree
+use Rattle.yq_flow_scalars.specs.Text.{separates}
+use Rattle.yq_flow_scalars.specs.Tree as tree
 use Rattle.yq_inline.specs.Alike.{Alike}
 use Rattle.yq_rows.specs.Alone.{holds_nothing}
 use Rattle.yq_rows.specs.Exchange.{asked_behind, with_content}

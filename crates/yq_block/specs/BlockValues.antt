@@ -1,10 +1,10 @@
 -- What is asked of a value and of its place, so that it can be written in block style.
 use Rattle.std.specs.Prelude.{◌≡◌, ℕ, suc, ◌+◌, ◌*◌, ◌≤◌, List, ◌++◌, true, false, Option, Some, None, ⊤, length}
 use Rattle.std.specs.Str.{chars}
-use Rattle.yq_scalar.specs.Keys.{HasUniqueKeys, depth}
-use Rattle.yq_scalar.specs.Plain.{ends_plain}
-use Rattle.yq_scalar.specs.Tree as tree
-use Rattle.yq_scalar.specs.Tree.{Children}
+use Rattle.yq_flow_scalars.specs.Keys.{HasUniqueKeys, depth}
+use Rattle.yq_flow_scalars.specs.Plain.{ends_plain}
+use Rattle.yq_flow_scalars.specs.Tree as tree
+use Rattle.yq_flow_scalars.specs.Tree.{Children}
 use Rattle.yq_inline.specs.Inline.{depth_limit}
 use Rattle.yq_flow.specs.Valued.{IsValueTree}
 use Rattle.yq_rows.specs.Grammar.{IsTail, key_limit}

@@ -1,5 +1,5 @@
-pub use Rattle.yq_scalar.specs.Keys
-pub use Rattle.yq_scalar.specs.Tree
+pub use Rattle.yq_flow_scalars.specs.Keys
+pub use Rattle.yq_flow_scalars.specs.Tree
 pub use Rattle.yq_flow.specs.Valued
 pub use Rattle.yq_inline.specs.Values
 pub use Rattle.yq_inline.specs.Written

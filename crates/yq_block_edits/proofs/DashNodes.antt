@@ -2,8 +2,8 @@
 use Rattle.std.proofs.Common.{◌≡◌, inl, inr, ℕ, zero, suc, ◌<◌, ◌≤◌, true, false, List, [], ◌∷◌, ◌++◌, length, take, drop, replicate, Some, None, refl, sym, ap, ◌∙◌, subst, arith, append_assoc}
 use Rattle.std.proofs.lemmas.List.{append_cancel_left, length-take-le, take-append-drop}
 use mathlib.Core.List.{tail-eq_of_cons-eq}
-use Rattle.yq_scalar.specs.Paths.{Step}
-use Rattle.yq_scalar.specs.Text.{is_empty}
+use Rattle.yq_flow_scalars.specs.Paths.{Step}
+use Rattle.yq_flow_scalars.specs.Text.{is_empty}
 use Rattle.yq_scalar.proofs.BlockPieceLaws.{IsLf}
 use Rattle.yq_lines.specs.Outline.{Line}
 use Rattle.yq_lines.specs.Places.{content}

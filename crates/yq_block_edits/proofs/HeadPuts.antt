@@ -1,10 +1,10 @@
 -- A value on one line takes the place of what is written on the line of a key or dash, with another content of the row.
 use Rattle.std.proofs.Common.{◌≡◌, ℕ, ◌≤◌, false, true, List, [], ◌∷◌, ◌++◌, length, refl, sym, ap, ◌∙◌, subst, append_assoc, append-nil}
 use Rattle.yq_scalar.specs.BlockWritten.{break_text}
-use Rattle.yq_scalar.specs.Characters.{text_limit}
-use Rattle.yq_scalar.specs.Paths.{Step}
-use Rattle.yq_scalar.specs.Text.{is_empty, separates}
-use Rattle.yq_scalar.specs.Tree.{Node}
+use Rattle.yq_flow_scalars.specs.Characters.{text_limit}
+use Rattle.yq_flow_scalars.specs.Paths.{Step}
+use Rattle.yq_flow_scalars.specs.Text.{is_empty, separates}
+use Rattle.yq_flow_scalars.specs.Tree.{Node}
 use Rattle.yq_scalar.specs.declared.block_written.Break.{Break}
 use Rattle.yq_inline.specs.Nodes.{node_text}
 use Rattle.yq_inline.proofs.WrittenLaws.{node_then}

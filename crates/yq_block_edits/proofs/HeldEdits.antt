@@ -2,10 +2,10 @@
 use Rattle.std.proofs.Common.{◌≡◌, ℕ, ◌≤◌, true, false, List, [], ◌∷◌, length, sym, ◌∙◌}
 use Rattle.std.proofs.lemmas.Bool.{cond_both}
 use Rattle.yq_scalar.specs.BlockWritten.{break_text}
-use Rattle.yq_scalar.specs.Characters.{text_limit}
-use Rattle.yq_scalar.specs.Paths.{Step}
-use Rattle.yq_scalar.specs.Tree.{Node}
-use Rattle.yq_scalar.specs.declared.style.Place.TheVariants.{Block as InBlock}
+use Rattle.yq_flow_scalars.specs.Characters.{text_limit}
+use Rattle.yq_flow_scalars.specs.Paths.{Step}
+use Rattle.yq_flow_scalars.specs.Tree.{Node}
+use Rattle.yq_flow_scalars.specs.declared.style.Place.TheVariants.{Block as InBlock}
 use Rattle.yq_flow.specs.Valued.{IsValueTree}
 use Rattle.yq_rows.specs.Rows.{Cut}
 use Rattle.yq_rows.specs.Seams.{is_block}

@@ -2,10 +2,10 @@
 use Rattle.std.proofs.Common.{◌≡◌, ⊎_elim, ℕ, ◌≤◌, true, false, cond, List, [], ◌∷◌, ◌++◌, length, refl, sym, ap, ◌∙◌}
 use Rattle.std.proofs.lemmas.Bool.{cases_Bool}
 use Rattle.yq_scalar.specs.BlockWritten.{break_text}
-use Rattle.yq_scalar.specs.Characters.{text_limit}
-use Rattle.yq_scalar.specs.Paths.{Step}
-use Rattle.yq_scalar.specs.Text.{is_empty}
-use Rattle.yq_scalar.specs.Tree.{Node}
+use Rattle.yq_flow_scalars.specs.Characters.{text_limit}
+use Rattle.yq_flow_scalars.specs.Paths.{Step}
+use Rattle.yq_flow_scalars.specs.Text.{is_empty}
+use Rattle.yq_flow_scalars.specs.Tree.{Node}
 use Rattle.yq_scalar.specs.declared.block_written.Break.{Break}
 use Rattle.yq_scalar.proofs.LineLaws.{is_empty_is}
 use Rattle.yq_inline.specs.Nodes.{node_text}

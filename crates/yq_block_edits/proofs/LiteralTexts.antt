@@ -7,12 +7,12 @@ use Rattle.std.specs.Str.{IsUtf8, chars}
 use Rattle.yq_scalar.specs.Block.{BlockText, is_text_line, no_lines, Lines, AreRaw, IsDetected, IsDigit, IsRawLine, IsTextIndent, ends_block, is_empty_line, is_less_indented}
 use Rattle.yq_scalar.specs.BlockContent.{block_content, content_of, broken, ending, folded, kind_of, joint, literal, line_text, part_of, strips, unindented}
 use Rattle.yq_scalar.specs.BlockWritten.{break_text, header_text, indented, written, written_line}
-use Rattle.yq_scalar.specs.Characters.{is_text_char}
-use Rattle.yq_scalar.specs.Lines.{behind_spaces}
-use Rattle.yq_scalar.specs.PlainText.{is_plain_char}
-use Rattle.yq_scalar.specs.Scalar.{ScalarText}
-use Rattle.yq_scalar.specs.Text.{ends_line, front, is_white, is_feed, is_line, joined, lines_of, upto}
-use Rattle.yq_scalar.specs.Writable.{can_write, is_literal_char, is_literal_text, is_string}
+use Rattle.yq_flow_scalars.specs.Characters.{is_text_char}
+use Rattle.yq_flow_scalars.specs.Lines.{behind_spaces}
+use Rattle.yq_flow_scalars.specs.PlainText.{is_plain_char}
+use Rattle.yq_flow_scalars.specs.Scalar.{ScalarText}
+use Rattle.yq_flow_scalars.specs.Text.{ends_line, front, is_white, is_feed, is_line, joined, lines_of, upto}
+use Rattle.yq_flow_scalars.specs.Writable.{can_write, is_literal_char, is_literal_text, is_string}
 use Rattle.yq_scalar.specs.declared.block_content.Before.{Before}
 use Rattle.yq_scalar.specs.declared.block_content.Before.TheVariants as before
 use Rattle.yq_scalar.specs.declared.block_header.BlockStyle.{BlockStyle}
@@ -21,8 +21,8 @@ use Rattle.yq_scalar.specs.declared.block_header.Chomping.{Chomping}
 use Rattle.yq_scalar.specs.declared.block_header.Chomping.TheVariants as chompings
 use Rattle.yq_scalar.specs.declared.block_lines.TextIndent.{TextIndent}
 use Rattle.yq_scalar.specs.declared.block_written.Break.{Break}
-use Rattle.yq_scalar.specs.declared.style.Place.TheVariants as places
-use Rattle.yq_scalar.specs.declared.style.Style.TheVariants as styles
+use Rattle.yq_flow_scalars.specs.declared.style.Place.TheVariants as places
+use Rattle.yq_flow_scalars.specs.declared.style.Style.TheVariants as styles
 use Rattle.yq_scalar.proofs.BlockWrittenLines.{Good, IsText, NoCr, indented_some, lines_good}
 use Rattle.yq_scalar.proofs.Bytes.{Each}
 use Rattle.yq_scalar.proofs.LineLaws.{AreLines, joined_lines, lines_are}

@@ -1,7 +1,7 @@
 -- What is written in a row that is alone on its line.
 use Rattle.std.proofs.Common.{◌≡◌, ◌⊎◌, inl, inr, ℕ, ℤ, ◌<◌, eqb, ◌||◌, Bool, true, false, not, List, [], ◌∷◌, ◌++◌, refl, sym, ap, ◌∙◌, subst, arith, append_assoc, append-nil, eqb-true}
 use Rattle.std.proofs.lemmas.Bool.{false≢true, not-true}
-use Rattle.yq_scalar.specs.Text.{is_empty, is_return, is_white}
+use Rattle.yq_flow_scalars.specs.Text.{is_empty, is_return, is_white}
 use Rattle.yq_inline.specs.Nodes as inline
 use Rattle.yq_inline.specs.Nodes.{node_text, IsNode}
 use Rattle.yq_inline.proofs.PieceLaws.{scalar_some}

@@ -2,7 +2,7 @@
 use Rattle.std.proofs.Common.{◌≡◌, ℕ, ℤ, true, false, cond, List, [], ◌∷◌, ◌++◌, Option, Some, None, refl, sym, ap, ◌∙◌, append_assoc, append-nil}
 use Rattle.std.proofs.lemmas.Bool.{false≢true, or_parts}
 use Rattle.yq_scalar.specs.Block.{block_text}
-use Rattle.yq_scalar.specs.Text.{is_empty, separates}
+use Rattle.yq_flow_scalars.specs.Text.{is_empty, separates}
 use Rattle.yq_inline.specs.Nodes as inline
 use Rattle.yq_inline.specs.Nodes.{begins_content, first_is, node_text, IsName, IsNode}
 use Rattle.yq_lines.specs.LineAnchors.{IsFree}

@@ -1,7 +1,7 @@
 -- Segments that put rows for a value in the place of those of an item or entry carry out its replacement.
 use Rattle.std.proofs.Common.{inl, ◌≡◌, ℕ, ◌≤◌, true, false, List, [], ◌∷◌, ◌++◌, length, sym, subst}
-use Rattle.yq_scalar.specs.Paths.{Step}
-use Rattle.yq_scalar.specs.Tree.{Node}
+use Rattle.yq_flow_scalars.specs.Paths.{Step}
+use Rattle.yq_flow_scalars.specs.Tree.{Node}
 use Rattle.yq_lines.specs.Places.{content}
 use Rattle.yq_rows.specs.Rows.{Row, print_row, rows_text, Cut, cut_text}
 use Rattle.yq_rows.proofs.splices.SpliceTexts.{own_end}

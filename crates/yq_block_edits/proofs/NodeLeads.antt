@@ -1,7 +1,7 @@
 -- The text of a row up to where something is written behind its key or dash.
 use Rattle.std.proofs.Common.{◌≡◌, ℕ, ◌+◌, ◌≤◌, Bool, true, false, cond, List, [], ◌∷◌, ◌++◌, length, replicate, sym, ap, ◌∙◌, append_assoc, arith}
 use Rattle.std.proofs.lemmas.List.{length-append}
-use Rattle.yq_scalar.specs.Text.{is_empty}
+use Rattle.yq_flow_scalars.specs.Text.{is_empty}
 use Rattle.yq_rows.specs.Exchange.{row_front, with_content}
 use Rattle.yq_rows.specs.Rows.{Content, content_text, Row, behind_dashes, behind_gap, behind_indent, dashes_text, print_row}
 use Rattle.yq_rows.specs.View.{content_cut, slices}

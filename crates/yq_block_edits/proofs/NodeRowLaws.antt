@@ -2,8 +2,8 @@
 use Rattle.std.proofs.Common.{◌≡◌, ℕ, suc, ◌+◌, ◌≤◌, true, List, [], ◌∷◌, ◌++◌, length, Some, refl, sym, ap, ◌∙◌, subst, arith, length-append}
 use mathlib.Core.List.{head-eq_of_cons-eq}
 use Rattle.std.specs.Str.{is_utf8}
-use Rattle.yq_scalar.specs.Paths.{Step}
-use Rattle.yq_scalar.proofs.Bools.{guard_then}
+use Rattle.yq_flow_scalars.specs.Paths.{Step}
+use Rattle.yq_flow_scalars.proofs.Bools.{guard_then}
 use Rattle.yq_lines.specs.Comments.{head_comment}
 use Rattle.yq_lines.specs.Group.{group, is_fine, level_or}
 use Rattle.yq_lines.specs.Outline as outline

@@ -2,11 +2,11 @@
 use Rattle.std.proofs.Common.{◌≡◌, cond, inl, ℕ, ◌≤◌, not, List, [], ◌∷◌, ◌++◌, length, Option, Some, None, false, true, refl, sym, ap, ◌∙◌, subst}
 use Rattle.yq_scalar.specs.Block.{BlockText, block_text}
 use Rattle.yq_scalar.specs.BlockWritten.{break_text}
-use Rattle.yq_scalar.specs.Characters.{text_limit}
-use Rattle.yq_scalar.specs.Paths.{Step}
-use Rattle.yq_scalar.specs.Piece.{deeper}
-use Rattle.yq_scalar.specs.Plain.{ends_plain}
-use Rattle.yq_scalar.specs.Tree.{Node}
+use Rattle.yq_flow_scalars.specs.Characters.{text_limit}
+use Rattle.yq_flow_scalars.specs.Paths.{Step}
+use Rattle.yq_flow_scalars.specs.Piece.{deeper}
+use Rattle.yq_flow_scalars.specs.Plain.{ends_plain}
+use Rattle.yq_flow_scalars.specs.Tree.{Node}
 use Rattle.yq_scalar.specs.declared.block_written.Break.{Break}
 use Rattle.yq_inline.specs.Nodes as inline
 use Rattle.yq_inline.specs.Nodes.{node_text, IsNode}

@@ -1,6 +1,6 @@
 -- The rows of an item or entry, and the last line of its row.
 use Rattle.std.proofs.Common.{◌≡◌, ℕ, suc, ◌+◌, List, length, sym, ap, ◌∙◌}
-use Rattle.yq_scalar.specs.Paths.{Step}
+use Rattle.yq_flow_scalars.specs.Paths.{Step}
 use Rattle.yq_lines.specs.Outline.{flatten}
 use Rattle.yq_rows.specs.Rows.{Cut, Row}
 use Rattle.yq_walk.specs.Lines.{lines_of}

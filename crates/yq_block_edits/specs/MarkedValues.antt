@@ -1,7 +1,7 @@
 -- Replace at an item or entry, or of a node alone on its line: what is owed of what is put there (own).
 use Rattle.std.specs.Prelude.{◌≡◌, ℕ, List, Some, Bool, true, false}
-use Rattle.yq_scalar.specs.Paths.{Step}
-use Rattle.yq_scalar.specs.Tree.{Node}
+use Rattle.yq_flow_scalars.specs.Paths.{Step}
+use Rattle.yq_flow_scalars.specs.Tree.{Node}
 use Rattle.yq_rows.specs.Rows.{Cut, cut_text}
 use Rattle.yq_documents.specs.Reading.{read_at}
 use Rattle.yq_places.specs.NodesAt.{node_in}

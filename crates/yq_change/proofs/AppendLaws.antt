@@ -3,7 +3,7 @@ use Rattle.std.proofs.Common.{◌≡◌, ℕ, ◌<◌, List, [], ◌∷◌, ◌+
 use Rattle.std.proofs.lemmas.Bool.{false≢true}
 use mathlib.Core.List.{head-eq_of_cons-eq}
 use Rattle.yq_scalar.specs.Block.{BlockText, ends_block, keeps}
-use Rattle.yq_scalar.specs.Text.{lines_of as text_lines}
+use Rattle.yq_flow_scalars.specs.Text.{lines_of as text_lines}
 use Rattle.yq_scalar.proofs.BlockRepairLaws.{ends_behind}
 use Rattle.yq_lines.specs.Comments.{head_comment}
 use Rattle.yq_rows.specs.Exchange.{asked_behind}

@@ -1,8 +1,8 @@
 -- The operations on block nodes, by the lines that they exchange, add or drop.
 use Rattle.std.proofs.Common.{◌≡◌, ℕ, ◌+◌, List, [], ◌∷◌, ◌++◌, length, Option, Some, option_map, refl, sym, ap, ◌∙◌, subst, arith, append-nil, length-append}
-use Rattle.yq_scalar.specs.Keys.{keys_of}
-use Rattle.yq_scalar.specs.Paths.{child_at, node_at}
-use Rattle.yq_scalar.specs.Tree.{Node, Children, children_of}
+use Rattle.yq_flow_scalars.specs.Keys.{keys_of}
+use Rattle.yq_flow_scalars.specs.Paths.{child_at, node_at}
+use Rattle.yq_flow_scalars.specs.Tree.{Node, Children, children_of}
 use Rattle.yq_lines.specs.Group.{level_or}
 use Rattle.yq_walk.specs.Lines.{lines_from, lines_of}
 use Rattle.yq_lines.specs.Outline.{Mark, Bare, Key, Dash, Line, Outline, end, row, flatten, anchored, label, collection, children, value}

@@ -2,9 +2,9 @@
 use Rattle.std.proofs.Common.{◌≡◌, ◌⊎◌, ℕ, List, [], ◌∷◌, ◌++◌, Option, Some, None, option_and_then, Bool, true, false, cond, refl, sym, ap, ◌∙◌, subst, inl, inr, ⊎_elim, append_assoc, append-nil}
 use Rattle.std.proofs.lemmas.Option.{none-some, same_Some}
 use mathlib.Core.List.{cons≢nil}
-use Rattle.yq_scalar.specs.Paths.{Step, is_here, further, child_at, node_at, change_child, within, change}
-use Rattle.yq_scalar.specs.Tree.{Node, alias, scalar, list, map, Children, none, child, children_of}
-use Rattle.yq_scalar.specs.Anchors.{Name, Anchors, Refers, with_anchor, names_of, names_in, IsAmong, AreBound}
+use Rattle.yq_flow_scalars.specs.Paths.{Step, is_here, further, child_at, node_at, change_child, within, change}
+use Rattle.yq_flow_scalars.specs.Tree.{Node, alias, scalar, list, map, Children, none, child, children_of}
+use Rattle.yq_flow_scalars.specs.Anchors.{Name, Anchors, Refers, with_anchor, names_of, names_in, IsAmong, AreBound}
 use Rattle.yq_change.specs.Conditions.{anchors_in, aliases_in, known_behind, BoundStays, Around, NamesAround, BoundChanged}
 
 -- names in two parts

@@ -4,7 +4,7 @@ use Rattle.std.proofs.lemmas.Bool.{and_parts, and_from, cond-true}
 use Rattle.std.proofs.lemmas.Option.{same_Some}
 use mathlib.Core.List.{cons≢nil}
 use Rattle.std.specs.List.{slice_get, list_all}
-use Rattle.yq_scalar.specs.Tree.{Node}
+use Rattle.yq_flow_scalars.specs.Tree.{Node}
 use Rattle.yq_lines.specs.Comments.{head_comment}
 use Rattle.yq_rows.specs.Grammar.{no_rows, begins_document}
 use Rattle.yq_rows.specs.Rows.{Row, Part, Cut, last, marked, cut_text}
@@ -17,7 +17,7 @@ use Rattle.yq_documents.specs.Reading.{root_of, document_of, is_document, all_do
 use Rattle.yq_lines.proofs.ByRules.{rules_from}
 use Rattle.yq_places.proofs.DocumentLaws.{is_document_of}
 use Rattle.yq_places.proofs.ReadLaws.{text_takes, text_again}
-use Rattle.yq_scalar.proofs.Bools.{guard_then}
+use Rattle.yq_flow_scalars.proofs.Bools.{guard_then}
 use Rattle.yq_change.specs.Siblings.{StandsSomewhere}
 use Rattle.yq_change.specs.Changed.{put_part, put_document, KeepsRows, DocumentPut, changed, PartStands, DocumentChanged, first_comment, LeadIsFirst}
 use Rattle.yq_documents.specs.TreeEdits.{change_nth}

@@ -1,7 +1,7 @@
 -- Items or entries of the collection at a path, added, taken out and relabelled.
 use Rattle.std.proofs.Common.{◌≡◌, ℕ, ◌<◌, List, [], ◌∷◌, ◌++◌, Option, Some, None, option_map, Bool, true, false, cond, refl, sym, ap, ◌∙◌, subst, append_assoc, append-nil}
-use Rattle.yq_scalar.specs.Paths.{Step, is_here, further, append_child, change, relabel_child, remove_child, within, append_children}
-use Rattle.yq_scalar.specs.Tree.{Label, child}
+use Rattle.yq_flow_scalars.specs.Paths.{Step, is_here, further, append_child, change, relabel_child, remove_child, within, append_children}
+use Rattle.yq_flow_scalars.specs.Tree.{Label, child}
 use Rattle.yq_lines.specs.Group.{level_or}
 use Rattle.yq_lines.specs.Laws.{with_lines}
 use Rattle.yq_lines.specs.Outline.{Line, level, Outline, end, row, flatten, IsOpen, IsEven, anchored, head_or, label, children, value}

@@ -6,7 +6,7 @@ use Rattle.std.proofs.lemmas.Option.{none-some, same_Some}
 use mathlib.Core.List.{head-eq_of_cons-eq}
 use Rattle.yq_scalar.specs.Block.{BlockText, Lines, IsBlock, IsDigit, IsTextIndent}
 use Rattle.yq_scalar.specs.declared.block_lines.TextIndent.{TextIndent}
-use Rattle.yq_scalar.specs.Piece.{deeper}
+use Rattle.yq_flow_scalars.specs.Piece.{deeper}
 use Rattle.yq_lines.specs.Comments.{head_comment}
 use Rattle.yq_rows.specs.Grammar.{Limit, allows, is_within, unlimited, limit_after, limit_behind, is_plain, is_entry, AreDashes, IsMark, IsRow}
 use Rattle.yq_rows.specs.Rows as rows

@@ -2,7 +2,7 @@
 use Rattle.std.proofs.Common.{◌≡◌, ℕ, ◌+◌, ◌≤◌, List, [], ◌∷◌, ◌++◌, length, true, false, Option, refl, sym, ap, ◌∙◌, subst, append_assoc, length-append, arith}
 use Rattle.std.proofs.lemmas.Bool.{false≢true}
 use mathlib.Core.List.{head-eq_of_cons-eq}
-use Rattle.yq_scalar.specs.Characters.{is_text, text_limit}
+use Rattle.yq_flow_scalars.specs.Characters.{is_text, text_limit}
 use Rattle.yq_lines.specs.Comments.{head_comment, line_comment}
 use Rattle.yq_rows.specs.Grammar.{IsCut}
 use Rattle.yq_rows.specs.Rows.{Content, Nothing, Inline, Block, Row, mark_column, parent_indent, rows_text, Part, Cut, cut_text}
@@ -45,7 +45,7 @@ pub record OneLine (p : Part) (h : NodeLines) (f : FoundLine) (a : List Line) (x
 pub around : (a x e y z : List Line) → a ++ ((x ++ (e ++ y)) ++ z) ≡ (a ++ x) ++ (e ++ (y ++ z))
 around a x e y z = ap (λ v. a ++ v) (append_assoc x (e ++ y) z ∙ ap (λ v. x ++ v) (append_assoc e y z)) ∙ sym (append_assoc a x (e ++ (y ++ z)))
 
-pub one_line : (t : List ℕ) (c : Cut) (p : Part) (steps : List Rattle.yq_scalar.specs.Paths.Step) (s : Rattle.yq_scalar.specs.Paths.Step) (h : NodeLines) (f : FoundLine) (a : List Line) (x : Line) (z : List Line) →
+pub one_line : (t : List ℕ) (c : Cut) (p : Part) (steps : List Rattle.yq_flow_scalars.specs.Paths.Step) (s : Rattle.yq_flow_scalars.specs.Paths.Step) (h : NodeLines) (f : FoundLine) (a : List Line) (x : Line) (z : List Line) →
     Known t c p → IsEntryAt steps s (outline_of p) h f →
     lines_of p.rows ≡ a ++ (x ∷ z) → length a ≡ line_number h f → OneLine p h f a x z
 one_line t c p steps s h f a x z old e lines size =

@@ -2,15 +2,15 @@
 use Rattle.std.proofs.Common.{◌≡◌, ◌⊎◌, inl, inr, ℕ, ℤ, suc, ◌+◌, ◌≤◌, ◌++◌, eqb, Bool, true, List, [], ◌∷◌, length, take, Option, Some, None, refl, sym, ap, ◌∙◌, subst, arith, length-append, append_assoc, append-nil}
 use Rattle.std.proofs.lemmas.Bool.{cond_both, false≢true}
 use mathlib.Core.List.{head-eq_of_cons-eq, tail-eq_of_cons-eq}
-use Rattle.yq_scalar.specs.Characters.{is_text, text_limit}
-use Rattle.yq_scalar.specs.Paths.{Step, change}
-use Rattle.yq_scalar.specs.Tree as tree
-use Rattle.yq_scalar.specs.Tree.{Node, Children}
+use Rattle.yq_flow_scalars.specs.Characters.{is_text, text_limit}
+use Rattle.yq_flow_scalars.specs.Paths.{Step, change}
+use Rattle.yq_flow_scalars.specs.Tree as tree
+use Rattle.yq_flow_scalars.specs.Tree.{Node, Children}
 use Rattle.yq_inline.specs.Nodes as inline
 use Rattle.yq_inline.specs.Nodes.{takes_anchor, IsNode}
 use Rattle.yq_inline.specs.Trees as trees
 use Rattle.yq_inline.specs.Trees.{tree_of, node_anchor, node_head, items_tree}
-use Rattle.yq_scalar.specs.Anchors.{IsNoAlias, names_of}
+use Rattle.yq_flow_scalars.specs.Anchors.{IsNoAlias, names_of}
 use Rattle.yq_lines.specs.LineAnchors.{IsFree, MayTake, HaveOneAnchorEach}
 use Rattle.yq_lines.specs.Comments.{head_comment}
 use Rattle.yq_lines.specs.Group.{group, level_or}

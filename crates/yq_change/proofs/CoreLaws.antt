@@ -1,7 +1,7 @@
 -- Another inline node behind the anchor of what is written behind a mark.
 use Rattle.std.proofs.Common.{◌≡◌, inl, inr, ℕ, ◌||◌, not, eqb, List, [], ◌∷◌, ◌++◌, Option, None, Bool, true, false, refl, sym, ap, ◌∙◌}
 use Rattle.std.proofs.lemmas.Bool.{cond_both, false≢true, or_right}
-use Rattle.yq_scalar.specs.Text.{is_empty, no_white, unless, NoneIn}
+use Rattle.yq_flow_scalars.specs.Text.{is_empty, no_white, unless, NoneIn}
 use Rattle.yq_inline.specs.Nodes.{Node, empty, alias, scalar, coll, anchored, node_text, items_text, open_of, first_is, in_name, begins_content, takes_anchor, is_bare, IsName, IsLead, IsNode}
 use Rattle.yq_inline.specs.Trees.{node_anchor, node_head}
 use Rattle.yq_inline.specs.Scalars.{IsScalarAt, begins_scalar}

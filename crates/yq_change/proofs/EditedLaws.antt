@@ -1,13 +1,13 @@
 -- Texts with other lines in one document.
 use Rattle.std.proofs.Common.{◌≡◌, ℕ, List, [], ◌∷◌, ◌++◌, Option, Some, None, true, refl, sym, ap, ◌∙◌, subst, append_assoc}
 use Rattle.std.proofs.lemmas.Option.{same_Some}
-use Rattle.yq_scalar.specs.Keys.{HasUniqueKeys, depth}
-use Rattle.yq_scalar.specs.Paths.{Step, append_child, change, node_at, relabel_child, remove_child, within}
-use Rattle.yq_scalar.specs.Tree.{Label, Node, alias, scalar, list, map, Children, none, child, children_of}
-use Rattle.yq_scalar.proofs.Bools.{guard_then}
+use Rattle.yq_flow_scalars.specs.Keys.{HasUniqueKeys, depth}
+use Rattle.yq_flow_scalars.specs.Paths.{Step, append_child, change, node_at, relabel_child, remove_child, within}
+use Rattle.yq_flow_scalars.specs.Tree.{Label, Node, alias, scalar, list, map, Children, none, child, children_of}
+use Rattle.yq_flow_scalars.proofs.Bools.{guard_then}
 use Rattle.yq_lines.specs.Comments.{head_comment}
 use Rattle.yq_rows.specs.Rows.{Part, Cut}
-use Rattle.yq_scalar.specs.Anchors.{names_of}
+use Rattle.yq_flow_scalars.specs.Anchors.{names_of}
 use Rattle.yq_lines.specs.LineAnchors.{IsFree, HaveOneAnchorEach}
 use Rattle.yq_documents.specs.Documents.{document_parts, lead_of}
 use Rattle.yq_lines.specs.Group.{level_or}

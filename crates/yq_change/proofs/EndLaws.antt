@@ -4,10 +4,10 @@ use Rattle.std.proofs.Common.{arith, ⊎_elim, append_assoc, append-nil, length-
 use Rattle.std.proofs.lemmas.Bool.{false≢true, cond-true, cond-false, and_parts}
 use Rattle.std.specs.List.{list_all}
 use Rattle.std.specs.Str.{chars}
-use Rattle.yq_scalar.specs.Characters.{is_text, is_text_char, pairs_returns, text_limit}
-use Rattle.yq_scalar.specs.Lines.{is_hash}
-use Rattle.yq_scalar.specs.Text.{cut, ends_line, is_break, is_line, no_white, past_white}
-use Rattle.yq_scalar.proofs.Upto.{cut-append}
+use Rattle.yq_flow_scalars.specs.Characters.{is_text, is_text_char, pairs_returns, text_limit}
+use Rattle.yq_flow_scalars.specs.Lines.{is_hash}
+use Rattle.yq_flow_scalars.specs.Text.{cut, ends_line, is_break, is_line, no_white, past_white}
+use Rattle.yq_flow_scalars.proofs.Upto.{cut-append}
 use Rattle.yq_lines.specs.Comments.{comment_text, head_comment, less_space, line_comment}
 use Rattle.yq_rows.specs.Exchange.{row_front}
 use Rattle.yq_rows.specs.Gap.{IsBreak, IsComment, IsWhite}

@@ -1,10 +1,10 @@
 -- The break behind the lines of an item or entry.
 use Rattle.std.proofs.Common.{◌≡◌, ◌⊎◌, inl, inr, ℕ, ℤ, ◌<◌, eqb, Bool, true, false, cond, List, [], ◌∷◌, ◌++◌, length, drop, None, refl, sym, ap, ◌∙◌, subst, arith, append-nil}
 use Rattle.std.proofs.lemmas.Bool.{false≢true, eqb-true, and_parts}
-use Rattle.yq_scalar.specs.Text.{cut_line, is_empty, separates}
+use Rattle.yq_flow_scalars.specs.Text.{cut_line, is_empty, separates}
 use Rattle.yq_scalar.proofs.BlockPieceLaws.{IsLf, line_lf, raw_lf}
-use Rattle.yq_scalar.specs.Text.{is_line}
-use Rattle.yq_scalar.specs.Text.{joined}
+use Rattle.yq_flow_scalars.specs.Text.{is_line}
+use Rattle.yq_flow_scalars.specs.Text.{joined}
 use Rattle.yq_lines.specs.Comments.{line_comment}
 use Rattle.yq_rows.specs.Grammar.{IsContent, IsTail, AreRows, Limit, limit_after}
 use Rattle.yq_rows.specs.Rows as rows
@@ -107,7 +107,7 @@ rows_break limit r (g ∷ gone) more end rest gap spaces column es h some =
 -- ---- what a break is
 
 pub break_cut : (b rest : List ℕ) → IsOneBreak b → cut_line (b ++ rest) ≡ (b, rest)
-unfolding Rattle.yq_scalar.specs.Text.line_len
+unfolding Rattle.yq_flow_scalars.specs.Text.line_len
 break_cut b rest (inl e) = ap (λ (x : List ℕ). cut_line (x ++ rest)) e ∙ ap (λ (x : List ℕ). (x, rest)) (sym e)
 break_cut b rest (inr e) = ap (λ (x : List ℕ). cut_line (x ++ rest)) e ∙ ap (λ (x : List ℕ). (x, rest)) (sym e)
 
@@ -131,7 +131,7 @@ break_apart b rest (inl e) = ap (λ (x : List ℕ). separates (x ++ rest)) e
 break_apart b rest (inr e) = ap (λ (x : List ℕ). separates (x ++ rest)) e
 
 pub break_bare : (b : List ℕ) → IsOneBreak b → line_comment b ≡ None
-unfolding Rattle.yq_scalar.specs.Text.upto
+unfolding Rattle.yq_flow_scalars.specs.Text.upto
 break_bare b (inl e) = ap line_comment e
 break_bare b (inr e) = ap line_comment e
 

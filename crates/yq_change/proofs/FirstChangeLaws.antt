@@ -1,8 +1,8 @@
 -- The text without the first item or entry of a compact collection, and what it reads as.
 use Rattle.std.proofs.Common.{◌≡◌, ℕ, zero, suc, ◌+◌, ◌&&◌, eqb, Bool, true, false, cond, List, [], ◌∷◌, ◌++◌, length, replicate, take, drop, refl, sym, ap, ◌∙◌, arith, append_assoc, append-nil}
-use Rattle.yq_scalar.specs.Paths.{Step, change, remove_child, within}
-use Rattle.yq_scalar.specs.Text.{cut, no_space}
-use Rattle.yq_scalar.specs.Anchors.{names_of}
+use Rattle.yq_flow_scalars.specs.Paths.{Step, change, remove_child, within}
+use Rattle.yq_flow_scalars.specs.Text.{cut, no_space}
+use Rattle.yq_flow_scalars.specs.Anchors.{names_of}
 use Rattle.yq_lines.specs.Comments.{head_comment}
 use Rattle.yq_lines.specs.Places.{plug, FoundLine, content}
 use Rattle.yq_rows.specs.Grammar.{IsRow, Limit, unlimited, AreRows}

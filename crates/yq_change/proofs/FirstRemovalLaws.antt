@@ -4,12 +4,12 @@ use Rattle.std.proofs.Math.Seq.{take-append_seam}
 use Rattle.std.proofs.lemmas.List.{take-append-drop, length-append, length-take-le}
 use Rattle.std.proofs.lemmas.Str.{IsUtf8-take, is_utf8-from_IsUtf8}
 use Rattle.std.specs.Str.{IsUtf8}
-use Rattle.yq_scalar.specs.Answers.{◌>>=◌}
-use Rattle.yq_scalar.specs.Characters.{text_limit}
-use Rattle.yq_scalar.specs.Paths.{Step, change, remove_child, within}
-use Rattle.yq_scalar.specs.Text.{cut, cut_line, no_space}
-use Rattle.yq_scalar.proofs.Bools.{guard_then}
-use Rattle.yq_scalar.specs.Anchors.{names_of}
+use Rattle.yq_flow_scalars.specs.Answers.{◌>>=◌}
+use Rattle.yq_flow_scalars.specs.Characters.{text_limit}
+use Rattle.yq_flow_scalars.specs.Paths.{Step, change, remove_child, within}
+use Rattle.yq_flow_scalars.specs.Text.{cut, cut_line, no_space}
+use Rattle.yq_flow_scalars.proofs.Bools.{guard_then}
+use Rattle.yq_flow_scalars.specs.Anchors.{names_of}
 use Rattle.yq_lines.specs.Ends.{line_of}
 use Rattle.yq_lines.specs.Group.{group, level_or, is_fine}
 use Rattle.yq_lines.specs.Places.{plug, content}

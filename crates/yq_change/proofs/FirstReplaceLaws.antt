@@ -1,6 +1,6 @@
 -- Rows that take the place of a compact collection's first item or entry.
 use Rattle.std.proofs.Common.{◌≡◌, ℕ, ◌+◌, ◌<◌, true, false, List, [], ◌∷◌, ◌++◌, length, Some, refl, sym, ap, ◌∙◌, subst, arith, append_assoc}
-use Rattle.yq_scalar.specs.Text.{separates}
+use Rattle.yq_flow_scalars.specs.Text.{separates}
 use Rattle.yq_inline.specs.Alike.{Alike, byte}
 use Rattle.yq_rows.specs.Exchange.{allows_first, asked_behind}
 use Rattle.yq_rows.specs.Grammar.{IsContent, IsTail, AreDashes, is_entry, IsRow, Limit, unlimited, limit_after, limit_behind, AreRows}

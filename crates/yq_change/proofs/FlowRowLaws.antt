@@ -3,9 +3,9 @@ use Rattle.std.proofs.Common.{◌≡◌, ℕ, ◌+◌, Bool, true, false, ◌&&�
 use Rattle.std.proofs.lemmas.Bool.{and_parts, cond_both}
 use Rattle.std.proofs.lemmas.Option.{none-some, same_Some}
 use mathlib.Core.List.{head-eq_of_cons-eq}
-use Rattle.yq_scalar.specs.Paths.{Step, change, within}
-use Rattle.yq_scalar.specs.Text.{is_empty, separates}
-use Rattle.yq_scalar.specs.Tree as tree
+use Rattle.yq_flow_scalars.specs.Paths.{Step, change, within}
+use Rattle.yq_flow_scalars.specs.Text.{is_empty, separates}
+use Rattle.yq_flow_scalars.specs.Tree as tree
 use Rattle.yq_inline.specs.Alike.{Alike, stop, after}
 use Rattle.yq_inline.specs.Collections.{CollPieces, coll_along, put_at}
 use Rattle.yq_flow.specs.FlowEdits.{edited_node}
@@ -14,7 +14,7 @@ use Rattle.yq_inline.specs.Nodes.{Node, empty, alias, scalar, coll, anchored, It
 use Rattle.yq_inline.specs.Trees.{collection, items_tree, node_anchor, node_head, tree_of}
 use Rattle.yq_inline.proofs.Alikes.{alike_append, alike_separates}
 use Rattle.yq_flow.proofs.CollLaws.{open_stop}
-use Rattle.yq_scalar.specs.Anchors.{IsNoAlias}
+use Rattle.yq_flow_scalars.specs.Anchors.{IsNoAlias}
 use Rattle.yq_lines.specs.Comments.{head_comment}
 use Rattle.yq_lines.specs.Group.{level_or}
 use Rattle.yq_lines.specs.Laws.{with_lines}
@@ -145,7 +145,7 @@ mark_stays (rows.Key key colon) space tail node m u more apart h =
     mark_kept (rows.Key key colon) (Inline space node tail) (Inline space m tail) u u refl h (apart ∙ h.colon_is.separated)
 
 row_takes : (limit : Limit) (i : InlineRow) (m : Node) (u : List ℕ) → IsRow limit i.row u → i.row.content ≡ Inline i.space i.node i.tail → HoldsColl i.node m (i.tail ++ u) →
-    IsInline Rattle.yq_scalar.specs.declared.style.Place.TheVariants.Block (parent_indent i.row) 0 m (i.tail ++ u) → TakesPlace limit i.row u (with_content (Inline i.space m i.tail) i.row) u
+    IsInline Rattle.yq_flow_scalars.specs.declared.style.Place.TheVariants.Block (parent_indent i.row) 0 m (i.tail ++ u) → TakesPlace limit i.row u (with_content (Inline i.space m i.tail) i.row) u
 row_takes limit i m u h e holds inline =
     let r : Row = i.row in
     let text : Alike (Some false) (content_text (Inline i.space i.node i.tail) u) (content_text (Inline i.space m i.tail) u) = alike_append (Some false) i.space _ _ holds.alike in
@@ -158,10 +158,10 @@ row_takes limit i m u h e holds inline =
 
 plain_next : (n : ℤ) (space tail : List ℕ) (m : Node) (back : List Row) → is_plain m ≡ false → allows_first (Rattle.yq_rows.specs.Grammar.limit_behind n (Inline space m tail)) back ≡ true
 plain_next n space tail m [] e = refl
-plain_next n space tail m (b ∷ back) e = ap (λ (x : Bool). Rattle.yq_rows.specs.Grammar.allows (cond x (record { column = Some (Rattle.yq_scalar.specs.Piece.deeper n) }) unlimited) b.column) e
+plain_next n space tail m (b ∷ back) e = ap (λ (x : Bool). Rattle.yq_rows.specs.Grammar.allows (cond x (record { column = Some (Rattle.yq_flow_scalars.specs.Piece.deeper n) }) unlimited) b.column) e
 
 short_node : (mark : rows.Mark) (space tail : List ℕ) (m : Node) → is_plain m ≡ false → is_long_plain mark (Inline space m tail) ≡ false
-short_node rows.Bare space tail m e = ap (λ (b : Bool). b && Rattle.yq_scalar.specs.Plain.holds_break (node_text m [])) e
+short_node rows.Bare space tail m e = ap (λ (b : Bool). b && Rattle.yq_flow_scalars.specs.Plain.holds_break (node_text m [])) e
 short_node rows.Dash space tail m e = refl
 short_node (rows.Key key colon) space tail m e = refl
 

@@ -2,7 +2,7 @@
 use Rattle.std.proofs.Common.{◌≡◌, ℕ, ◌+◌, Bool, true, List, [], ◌∷◌, ◌++◌, length, Option, Some, option_map, refl, sym, ap, ◌∙◌, subst, append_assoc}
 use Rattle.std.proofs.lemmas.Option.{same_Some}
 use Rattle.std.specs.Str.{IsUtf8}
-use Rattle.yq_scalar.specs.Paths.{Step}
+use Rattle.yq_flow_scalars.specs.Paths.{Step}
 use Rattle.yq_inline.specs.Collections.{CollPieces, coll_along, coll_in}
 use Rattle.yq_inline.specs.Entries.{EntryPieces, entry_pieces_at, inside, locate_entry, placed_entry_at}
 use Rattle.yq_inline.specs.Nodes.{bare, Node, key_text, node_text, IsNode}

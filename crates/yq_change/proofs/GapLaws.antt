@@ -3,8 +3,8 @@ use Rattle.std.proofs.Common.{◌≡◌, ℕ, Bool, true, false, ◌&&◌, List,
 use Rattle.std.proofs.lemmas.Bool.{false≢true, cond_both, cond-true, cond-false, and_parts, cases_Bool}
 use Rattle.yq_scalar.specs.Block.{BlockText, Lines, keeps}
 use Rattle.yq_scalar.specs.BlockRepair.{AreGap, is_short, is_outside, repair}
-use Rattle.yq_scalar.specs.Lines.{is_hash, is_blank}
-use Rattle.yq_scalar.specs.Text.{is_break, is_empty, is_line, joined, lines_of, past_white}
+use Rattle.yq_flow_scalars.specs.Lines.{is_hash, is_blank}
+use Rattle.yq_flow_scalars.specs.Text.{is_break, is_empty, is_line, joined, lines_of, past_white}
 use Rattle.yq_scalar.proofs.LineLaws.{lines_again}
 use Rattle.yq_scalar.proofs.BlockRepairText.{line_past, line_spaces}
 use Rattle.yq_lines.specs.Comments.{are_comments, head_comment, last_comments}

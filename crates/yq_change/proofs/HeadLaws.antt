@@ -6,8 +6,8 @@ use Rattle.std.proofs.lemmas.Bool.{lt-ltb, and_from, cases_Bool}
 use Rattle.yq_scalar.specs.Block.{BlockText, Lines, ends_block, is_less_indented, keeps}
 use Rattle.yq_scalar.specs.BlockRepair.{is_behind}
 use Rattle.yq_scalar.specs.declared.block_lines.TextIndent.{TextIndent}
-use Rattle.yq_scalar.specs.Lines.{spaces, behind_spaces, is_tab}
-use Rattle.yq_scalar.specs.Text.{ends_line, is_empty, joined, put_byte, lines_of as text_lines}
+use Rattle.yq_flow_scalars.specs.Lines.{spaces, behind_spaces, is_tab}
+use Rattle.yq_flow_scalars.specs.Text.{ends_line, is_empty, joined, put_byte, lines_of as text_lines}
 use Rattle.yq_scalar.proofs.BlockRepairLaws.{ends_behind}
 use Rattle.yq_scalar.proofs.SpaceLaws.{prefix_none, spaces_front, drop_front as spaces_drop}
 use Rattle.yq_lines.specs.Comments.{head_comment, last_comments}

@@ -1,7 +1,7 @@
 -- The lead that goes with the root of a part in the place of another one.
 use Rattle.std.proofs.Common.{inl, inr, ◌⊎◌, ◌≡◌, List, [], ◌∷◌, Bool, true, false, refl, sym, ap, ◌∙◌}
 use Rattle.std.proofs.lemmas.Bool.{false≢true}
-use Rattle.yq_scalar.specs.Tree.{none, children_of}
+use Rattle.yq_flow_scalars.specs.Tree.{none, children_of}
 use Rattle.yq_lines.specs.Group.{group}
 use Rattle.yq_lines.specs.Outline.{Mark, Bare, Key, Dash, Line, value}
 use Rattle.yq_lines.specs.Sound.{is_entry}

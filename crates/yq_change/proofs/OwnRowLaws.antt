@@ -3,8 +3,8 @@ use Rattle.std.proofs.Common.{◌≡◌, ℕ, suc, ◌+◌, ◌-◌, eqb, ltb, L
 use Rattle.std.proofs.Math.Seq.{take-append_seam, drop-append_seam}
 use Rattle.std.proofs.lemmas.Bool.{eqb-true, le-ltb, cond-false}
 use Rattle.std.proofs.lemmas.Option.{cond_some}
-use Rattle.yq_scalar.specs.Paths.{Step}
-use Rattle.yq_scalar.proofs.Bools.{bind_some}
+use Rattle.yq_flow_scalars.specs.Paths.{Step}
+use Rattle.yq_flow_scalars.proofs.Bools.{bind_some}
 use Rattle.yq_lines.specs.Comments as comments
 use Rattle.yq_lines.specs.Ends.{deeper_count, line_of, lines_end}
 use Rattle.yq_lines.specs.Group.{level_or}

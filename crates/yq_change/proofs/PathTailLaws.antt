@@ -3,8 +3,8 @@ use Rattle.std.proofs.Common.{◌≡◌, ℕ, ◌+◌, true, false, List, [], �
 use Rattle.std.proofs.Math.Seq.{take-append_seam}
 use Rattle.std.proofs.lemmas.Bool.{false≢true}
 use Rattle.yq_scalar.specs.Block.{BlockText, block_text, mark_of}
-use Rattle.yq_scalar.specs.Text.{is_empty, separates, unless}
-use Rattle.yq_scalar.specs.Paths.{Step, change, relabel_child, within}
+use Rattle.yq_flow_scalars.specs.Text.{is_empty, separates, unless}
+use Rattle.yq_flow_scalars.specs.Paths.{Step, change, relabel_child, within}
 use Rattle.yq_scalar.specs.declared.block_header.BlockStyle.{BlockStyle}
 use Rattle.yq_scalar.specs.declared.block_header.BlockStyle.TheVariants as styles
 use Rattle.yq_inline.specs.Nodes.{in_name}

@@ -4,11 +4,11 @@ use Rattle.std.proofs.Math.Seq.{take-append_seam}
 use Rattle.std.proofs.lemmas.Bool.{false≢true, ltb-true}
 use Rattle.std.proofs.lemmas.Option.{none-some, same_Some}
 use Rattle.std.proofs.lemmas.Str.{is_utf8-from_IsUtf8}
-use Rattle.yq_scalar.specs.Characters.{text_limit}
-use Rattle.yq_scalar.specs.Paths.{Step, is_here, further, child_at, node_at, remove_child}
-use Rattle.yq_scalar.specs.Tree.{Node, Children, children_of}
-use Rattle.yq_scalar.proofs.Bools.{bind_some, guard_then}
-use Rattle.yq_scalar.specs.Anchors.{names_of}
+use Rattle.yq_flow_scalars.specs.Characters.{text_limit}
+use Rattle.yq_flow_scalars.specs.Paths.{Step, is_here, further, child_at, node_at, remove_child}
+use Rattle.yq_flow_scalars.specs.Tree.{Node, Children, children_of}
+use Rattle.yq_flow_scalars.proofs.Bools.{bind_some, guard_then}
+use Rattle.yq_flow_scalars.specs.Anchors.{names_of}
 use Rattle.yq_lines.specs.Counts.{count}
 use Rattle.yq_lines.specs.Group.{group, level_or}
 use Rattle.yq_lines.specs.Laws.{with_lines}

@@ -7,10 +7,10 @@ use Rattle.std.specs.List.{list_all}
 use Rattle.std.specs.Str.{chars, IsAscii}
 use Rattle.yq_scalar.specs.Block.{Lines}
 use Rattle.yq_scalar.specs.BlockRepair.{is_short, is_outside, repaired_blank, repaired_comment, repair}
-use Rattle.yq_scalar.specs.Characters.{is_text, is_text_char, pairs_returns}
-use Rattle.yq_scalar.specs.Lines.{is_blank}
-use Rattle.yq_scalar.specs.Text.{is_white, joined, lines_of as text_lines, past_white}
-use Rattle.yq_scalar.proofs.Boundaries.{white_ascii}
+use Rattle.yq_flow_scalars.specs.Characters.{is_text, is_text_char, pairs_returns}
+use Rattle.yq_flow_scalars.specs.Lines.{is_blank}
+use Rattle.yq_flow_scalars.specs.Text.{is_white, joined, lines_of as text_lines, past_white}
+use Rattle.yq_flow_scalars.proofs.Boundaries.{white_ascii}
 use Rattle.yq_scalar.proofs.SpaceLaws.{white_drop}
 use Rattle.yq_rows.specs.Gap.{IsGap, IsGapLine, AreGapLines}
 use Rattle.yq_rows.specs.Grammar.{AreParts}
@@ -63,7 +63,7 @@ byte_ascii : (b : ℕ) → b < 128 → IsAscii (b ∷ [])
 byte_ascii b h = IsAscii-cons b [] h IsAscii-nil
 
 past_piece : (l : List ℕ) → IsPiece l → IsPiece (past_white l)
-unfolding Rattle.yq_scalar.specs.Text.upto
+unfolding Rattle.yq_flow_scalars.specs.Text.upto
 past_piece [] h = h
 past_piece (b ∷ l) h = elim (cases_Bool (is_white b)) [
   | inl e ↦ (let less = piece_back (b ∷ []) l (IsUtf8-from_ascii (b ∷ []) (byte_ascii b (white_ascii b e))) h in rw (white_drop b l) (rw e (past_piece l less)))

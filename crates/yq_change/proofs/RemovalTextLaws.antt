@@ -2,7 +2,7 @@
 use Rattle.std.proofs.Common.{◌≡◌, Bool, true, false, cond, ℕ, List, ◌++◌, Option, Some, None, refl, sym, ap, ◌∙◌, append_assoc}
 use Rattle.yq_scalar.specs.Block.{BlockText, keeps}
 use Rattle.yq_scalar.specs.BlockRepair.{repair}
-use Rattle.yq_scalar.specs.Text.{joined, lines_of as text_lines}
+use Rattle.yq_flow_scalars.specs.Text.{joined, lines_of as text_lines}
 use Rattle.yq_rows.specs.Removal.{hold_comment, last_block, next_column, seam_gap}
 use Rattle.yq_rows.specs.Rows.{rows_text, part_text}
 use Rattle.yq_rows.specs.Splices.{behind_first, end_gap, first_gap, with_first_gap}

@@ -1,7 +1,7 @@
 -- Another root for a document, also where it had none written.
 use Rattle.std.proofs.Common.{◌≡◌, ℕ, ◌+◌, ◌≤◌, List, [], ◌++◌, length, true, false, refl, sym, ap, ◌∙◌, subst, append-nil, ⊎_elim}
 use Rattle.std.proofs.lemmas.Bool.{cases_Bool}
-use Rattle.yq_scalar.specs.Characters.{is_text, text_limit}
+use Rattle.yq_flow_scalars.specs.Characters.{is_text, text_limit}
 use Rattle.yq_rows.specs.Grammar.{IsCut, no_rows}
 use Rattle.yq_rows.specs.Rows.{Row, rows_text, Part, Cut, cut_text}
 use Rattle.yq_rows.specs.SpliceFits.{SpliceFits, is_after}

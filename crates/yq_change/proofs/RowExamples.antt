@@ -1,8 +1,8 @@
 -- Whole operations on the smallest texts, from bytes through all premises of their laws.
 use Rattle.std.proofs.Common.{false, ◌≡◌, [], ◌∷◌, ◌++◌, Some, None, refl, codes, ⊎_elim, arith}
-use Rattle.yq_scalar.specs.ContentReading as contents
-use Rattle.yq_scalar.specs.Paths.{append_child, change, within}
-use Rattle.yq_scalar.specs.Text as text
+use Rattle.yq_flow_scalars.specs.ContentReading as contents
+use Rattle.yq_flow_scalars.specs.Paths.{append_child, change, within}
+use Rattle.yq_flow_scalars.specs.Text as text
 use Rattle.yq_inline.specs.Nodes as inline
 use Rattle.yq_inline.specs.Scalars.{content_of}
 use Rattle.yq_inline.specs.Trees.{tree_of}
@@ -20,7 +20,7 @@ use Rattle.yq_change.specs.Siblings.{NodeLines}
 use Rattle.yq_change.proofs.AppendLaws.{block_appended}
 use Rattle.yq_lines.specs.Places.{FoundLine, find}
 use Rattle.yq_lines.specs.Outline.{Line}
-use Rattle.yq_scalar.specs.Paths.{To}
+use Rattle.yq_flow_scalars.specs.Paths.{To}
 use Rattle.yq_inline.specs.Alike.{Alike, after, byte}
 use Rattle.yq_rows.specs.Rows.{rows_text}
 use Rattle.yq_walk.specs.Lines.{mark_line}

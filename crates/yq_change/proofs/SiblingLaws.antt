@@ -1,7 +1,7 @@
 -- Outlines one behind the other: their lines, evenness, and items or entries.
 use Rattle.std.proofs.Common.{◌≡◌, ℕ, ◌∷◌, ◌++◌, Option, refl, sym, ap, ◌∙◌, append_assoc}
-use Rattle.yq_scalar.specs.Paths.{within, append_children}
-use Rattle.yq_scalar.specs.Tree.{Children, child}
+use Rattle.yq_flow_scalars.specs.Paths.{within, append_children}
+use Rattle.yq_flow_scalars.specs.Tree.{Children, child}
 use Rattle.yq_lines.specs.Outline.{Mark, Bare, Key, Dash, Line, level, Outline, end, row, flatten, IsWhole, IsEven, label, shaped, children, value}
 use Rattle.yq_lines.specs.Places.{content}
 use Rattle.yq_lines.proofs.Allowing as allowing

@@ -5,13 +5,13 @@ use Rattle.std.proofs.lemmas.Bool.{and_parts, and_from, or_parts, or_from, not-t
 use Rattle.std.proofs.lemmas.Option.{none-some, same_Some}
 use mathlib.Core.List.{cons≢nil}
 use Rattle.std.specs.List.{list_any}
-use Rattle.yq_scalar.specs.Keys.{AreDistinct, with_key, keys_of, HasUniqueKeys, EachHasUniqueKeys, depth, deepest}
-use Rattle.yq_scalar.specs.Paths.{Step, is_here, further, append_child, change, child_at, node_at, within}
-use Rattle.yq_scalar.specs.Tree.{Label, Node, alias, scalar, list, map, Children, none, child, children_of}
+use Rattle.yq_flow_scalars.specs.Keys.{AreDistinct, with_key, keys_of, HasUniqueKeys, EachHasUniqueKeys, depth, deepest}
+use Rattle.yq_flow_scalars.specs.Paths.{Step, is_here, further, append_child, change, child_at, node_at, within}
+use Rattle.yq_flow_scalars.specs.Tree.{Label, Node, alias, scalar, list, map, Children, none, child, children_of}
 use Rattle.yq_inline.specs.Inline.{depth_limit}
-use Rattle.yq_scalar.specs.Anchors.{Name, Anchors, with_anchor, names_of, names_in, IsAmong}
+use Rattle.yq_flow_scalars.specs.Anchors.{Name, Anchors, with_anchor, names_of, names_in, IsAmong}
 use Rattle.yq_lines.specs.Outline.{anchored}
-use Rattle.yq_scalar.specs.Keys.{are_distinct}
+use Rattle.yq_flow_scalars.specs.Keys.{are_distinct}
 use Rattle.yq_lines.proofs.KeyLaws.{differs, distinct_is, is_distinct}
 use Rattle.yq_lines.proofs.SoundLaws.{depth-anchored}
 use Rattle.yq_change.specs.Conditions.{aliases_in, AreSpared}

@@ -4,11 +4,11 @@ use Rattle.std.proofs.Common.{subst, arith, append_assoc, not, bytes_eq}
 use Rattle.std.proofs.lemmas.Bool.{and_parts, and_from, or_parts, or_from, not-true}
 use Rattle.std.proofs.lemmas.Option.{none-some, same_Some}
 use Rattle.std.specs.List.{list_any}
-use Rattle.yq_scalar.specs.Keys.{AreDistinct, with_key, keys_of, HasUniqueKeys, EachHasUniqueKeys, depth, deepest}
-use Rattle.yq_scalar.specs.Paths.{Step, is_here, further, child_at, relabel_child, remove_child, within}
-use Rattle.yq_scalar.specs.Tree.{Label, Node, alias, scalar, list, map, Children, none, child, children_of}
-use Rattle.yq_scalar.specs.Anchors.{Name, with_anchor, names_of, names_in}
-use Rattle.yq_scalar.specs.Keys.{are_distinct}
+use Rattle.yq_flow_scalars.specs.Keys.{AreDistinct, with_key, keys_of, HasUniqueKeys, EachHasUniqueKeys, depth, deepest}
+use Rattle.yq_flow_scalars.specs.Paths.{Step, is_here, further, child_at, relabel_child, remove_child, within}
+use Rattle.yq_flow_scalars.specs.Tree.{Label, Node, alias, scalar, list, map, Children, none, child, children_of}
+use Rattle.yq_flow_scalars.specs.Anchors.{Name, with_anchor, names_of, names_in}
+use Rattle.yq_flow_scalars.specs.Keys.{are_distinct}
 use Rattle.yq_lines.proofs.KeyLaws.{distinct_is, is_distinct}
 use Rattle.yq_change.specs.SoundRoots.{RemoveKeeps, RelabelKeeps}
 use Rattle.yq_change.proofs.BoundLaws.{anchor_front}

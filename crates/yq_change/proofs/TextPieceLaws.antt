@@ -4,14 +4,14 @@ use Rattle.std.proofs.Math.Seq.{take-append_seam, drop-append_seam}
 use Rattle.std.proofs.lemmas.Str.{IsCharBoundary-from_take, IsUtf8-append, IsUtf8-drop, IsUtf8-from_is_utf8, IsUtf8-take}
 use Rattle.std.proofs.lemmas.Bool.{and_from, and_parts}
 use Rattle.std.specs.Str.{IsUtf8, IsCharBoundary}
-use Rattle.yq_scalar.specs.Characters.{pairs_returns}
-use Rattle.yq_scalar.specs.Text.{front, is_feed}
+use Rattle.yq_flow_scalars.specs.Characters.{pairs_returns}
+use Rattle.yq_flow_scalars.specs.Text.{front, is_feed}
 use Rattle.yq_rows.specs.Rows.{cut_text}
 use Rattle.yq_rows.proofs.CharacterLaws.{all_text, all_join, pairs_join, pairs_back, pairs_front, pairs_cut, EndsBlack}
 use Rattle.yq_rows.proofs.NodePieces.{EndsAscii, BeginsAscii, behind_ascii, before_ascii}
 use Rattle.yq_documents.specs.Reading.{read_at}
 use Rattle.yq_places.proofs.ReadLaws.{text_takes}
-use Rattle.yq_scalar.proofs.Bools.{guard_then}
+use Rattle.yq_flow_scalars.proofs.Bools.{guard_then}
 use Rattle.yq_change.specs.TextPieces.{IsPiece, TextIsPiece, PiecesJoined, LineCut, BeginsPiece, ByteCut}
 
 pub pieces_joined : PiecesJoined

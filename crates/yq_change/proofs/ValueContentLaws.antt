@@ -2,14 +2,14 @@
 use Rattle.std.proofs.Common.{◌≡◌, inl, inr, ℕ, ℤ, ◌&&◌, ◌||◌, not, eqb, List, [], ◌∷◌, ◌++◌, Option, Some, Bool, true, false, refl, sym, ap, ◌∙◌}
 use Rattle.std.proofs.lemmas.Bool.{false≢true, and_parts, and_from, eqb-true}
 use Rattle.std.proofs.lemmas.List.Folds.{list_any-append}
-use Rattle.yq_scalar.specs.Piece.{deeper}
-use Rattle.yq_scalar.specs.Plain.{ends_plain, holds_break}
-use Rattle.yq_scalar.specs.Text.{is_empty, is_feed, is_marker, is_white, no_white, separates, unless, NoneIn}
-use Rattle.yq_scalar.specs.Tree.{Node}
+use Rattle.yq_flow_scalars.specs.Piece.{deeper}
+use Rattle.yq_flow_scalars.specs.Plain.{ends_plain, holds_break}
+use Rattle.yq_flow_scalars.specs.Text.{is_empty, is_feed, is_marker, is_white, no_white, separates, unless, NoneIn}
+use Rattle.yq_flow_scalars.specs.Tree.{Node}
 use Rattle.yq_inline.specs.Nodes as inline
 use Rattle.yq_inline.specs.Nodes.{empty, alias, scalar, coll, anchored, node_text, begins_content, in_name, is_bare, IsLead, IsNode}
-use Rattle.yq_scalar.specs.Plain.{is_flow_indicator}
-use Rattle.yq_scalar.specs.Text.{is_return}
+use Rattle.yq_flow_scalars.specs.Plain.{is_flow_indicator}
+use Rattle.yq_flow_scalars.specs.Text.{is_return}
 use Rattle.yq_rows.proofs.NothingLaws.{tail_apart}
 use Rattle.std.specs.List.{list_any}
 use Rattle.yq_inline.proofs.Alikes.{no_first}

@@ -1,7 +1,7 @@
 -- A changed text, told as a tree with the lead that goes with it (own).
 use Rattle.std.specs.Prelude.{◌≡◌, List, [], ◌∷◌, ◌++◌}
-use Rattle.yq_scalar.specs.Paths.{Step, change, within}
-use Rattle.yq_scalar.specs.Tree.{Node, Children}
+use Rattle.yq_flow_scalars.specs.Paths.{Step, change, within}
+use Rattle.yq_flow_scalars.specs.Tree.{Node, Children}
 use Rattle.yq_documents.specs.TreeEdits.{at_end}
 
 -- A change of the items or entries at the end of a path is a change of the node that holds them.

@@ -1,7 +1,7 @@
 -- One item or entry more in a block collection that has some (own).
 use Rattle.std.specs.Prelude.{◌≡◌, ℕ, suc, ◌+◌, List, [], ◌∷◌, ◌++◌, length, true, false}
-use Rattle.yq_scalar.specs.Keys.{keys_of}
-use Rattle.yq_scalar.specs.Paths.{Step, append_child, change, within}
+use Rattle.yq_flow_scalars.specs.Keys.{keys_of}
+use Rattle.yq_flow_scalars.specs.Paths.{Step, append_child, change, within}
 use Rattle.yq_rows.specs.Exchange.{asked_behind}
 use Rattle.yq_rows.specs.Grammar.{unlimited, AreRows, no_rows}
 use Rattle.yq_rows.specs.Rows.{Row, Part, Cut, cut_text}

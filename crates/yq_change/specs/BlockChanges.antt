@@ -1,11 +1,11 @@
 -- The operations on block nodes, by the lines that they exchange, add or drop (own).
 use Rattle.std.specs.Prelude.{◌≡◌, ℕ, suc, ◌+◌, ◌<◌, List, [], ◌∷◌, ◌++◌, length, Some, None}
-use Rattle.yq_scalar.specs.Keys.{keys_of}
-use Rattle.yq_scalar.specs.Paths.{Step, append_child, change, relabel_child, remove_child, within}
-use Rattle.yq_scalar.specs.Tree.{Label, Node}
+use Rattle.yq_flow_scalars.specs.Keys.{keys_of}
+use Rattle.yq_flow_scalars.specs.Paths.{Step, append_child, change, relabel_child, remove_child, within}
+use Rattle.yq_flow_scalars.specs.Tree.{Label, Node}
 use Rattle.yq_lines.specs.Comments.{head_comment, line_comment}
 use Rattle.yq_rows.specs.Rows.{Row, behind_columns, Part, Cut}
-use Rattle.yq_scalar.specs.Anchors.{names_of}
+use Rattle.yq_flow_scalars.specs.Anchors.{names_of}
 use Rattle.yq_lines.specs.LineAnchors.{HaveOneAnchorEach}
 use Rattle.yq_documents.specs.Documents.{lead_of}
 use Rattle.yq_lines.specs.Laws.{with_lines}

@@ -1,9 +1,9 @@
 -- What is asked of a whole document, where one node of it is changed (own).
 use Rattle.std.specs.Prelude.{◌≡◌, ℕ, ◌+◌, ◌≤◌, List, [], ◌∷◌, ◌++◌, length, Option, Some, None, ⊤}
-use Rattle.yq_scalar.specs.Keys.{HasUniqueKeys, depth}
-use Rattle.yq_scalar.specs.Paths.{Step, node_at, change}
-use Rattle.yq_scalar.specs.Tree.{Node}
-use Rattle.yq_scalar.specs.Anchors.{Name, Anchors, Refers, names_of, IsAmong, AreBound}
+use Rattle.yq_flow_scalars.specs.Keys.{HasUniqueKeys, depth}
+use Rattle.yq_flow_scalars.specs.Paths.{Step, node_at, change}
+use Rattle.yq_flow_scalars.specs.Tree.{Node}
+use Rattle.yq_flow_scalars.specs.Anchors.{Name, Anchors, Refers, names_of, IsAmong, AreBound}
 use Rattle.yq_lines.specs.LineAnchors.{IsFree, HaveOneAnchorEach}
 use Rattle.yq_lines.specs.Outline.{Line, Outline, IsEven}
 use Rattle.yq_lines.specs.Places.{lines_before, lines_after}

@@ -1,7 +1,7 @@
 -- What is written behind the mark of one row gives way to a value (own).
 use Rattle.std.specs.Prelude.{◌≡◌, ℕ, suc, ◌+◌, List, [], ◌∷◌, ◌++◌, length, Some, None, false}
-use Rattle.yq_scalar.specs.Paths.{Step, change}
-use Rattle.yq_scalar.specs.Tree.{Node}
+use Rattle.yq_flow_scalars.specs.Paths.{Step, change}
+use Rattle.yq_flow_scalars.specs.Tree.{Node}
 use Rattle.yq_lines.specs.Comments.{line_comment}
 use Rattle.yq_lines.specs.Outline.{end, flatten}
 use Rattle.yq_lines.specs.Places.{lines_before, FoundLine, find, content}

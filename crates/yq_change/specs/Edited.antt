@@ -1,8 +1,8 @@
 -- What texts with other lines in one document read as (own).
 use Rattle.std.specs.Prelude.{◌≡◌, ℕ, ◌<◌, List, [], ◌∷◌, ◌++◌, slice_get, Option, Some, None, true}
 use Rattle.std.specs.Str.{is_utf8}
-use Rattle.yq_scalar.specs.Paths.{Step, append_child, change, node_at, relabel_child, remove_child, within}
-use Rattle.yq_scalar.specs.Tree.{Label, Node, Children, none, child, children_of}
+use Rattle.yq_flow_scalars.specs.Paths.{Step, append_child, change, node_at, relabel_child, remove_child, within}
+use Rattle.yq_flow_scalars.specs.Tree.{Label, Node, Children, none, child, children_of}
 use Rattle.yq_rows.specs.Grammar.{IsCut}
 use Rattle.yq_rows.specs.Rows.{Part, Cut, cut_text}
 use Rattle.yq_lines.specs.LineAnchors.{IsFree, HaveOneAnchorEach}

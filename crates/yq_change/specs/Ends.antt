@@ -1,6 +1,6 @@
 -- One item or entry more at the end of a text without a final break (own).
 use Rattle.std.specs.Prelude.{◌≡◌, ℕ, ◌+◌, List, [], ◌∷◌, ◌++◌, length}
-use Rattle.yq_scalar.specs.Paths.{Step, append_child, change, within}
+use Rattle.yq_flow_scalars.specs.Paths.{Step, append_child, change, within}
 use Rattle.yq_rows.specs.Grammar.{AreRows, limit_after}
 use Rattle.yq_rows.specs.Rows.{Row, Part, Cut, cut_text}
 use Rattle.yq_rows.specs.Appending.{closed_by, TakesBreak}

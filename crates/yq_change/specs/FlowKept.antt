@@ -1,6 +1,6 @@
 -- What stays of a document in which a flow collection has other items or entries (7.4; own).
 use Rattle.std.specs.Prelude.{◌≡◌, ℕ, List, Some}
-use Rattle.yq_scalar.specs.Paths.{Step}
+use Rattle.yq_flow_scalars.specs.Paths.{Step}
 use Rattle.yq_inline.specs.Collections.{CollPieces, put_at}
 use Rattle.yq_inline.specs.Nodes.{Items}
 use Rattle.yq_flow.specs.FlowEdits.{FlowEdit}

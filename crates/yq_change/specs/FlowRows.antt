@@ -1,8 +1,8 @@
 -- The operations inside flow collections, by the row in whose content the collection stands (7.4; own).
 use Rattle.std.specs.Prelude.{◌≡◌, ℕ, ◌+◌, List, [], ◌∷◌, ◌++◌, length, slice_get, Some}
-use Rattle.yq_scalar.specs.Paths.{Step, change, within}
-use Rattle.yq_scalar.specs.Tree.{Children}
-use Rattle.yq_scalar.specs.declared.style.Place.TheVariants as places
+use Rattle.yq_flow_scalars.specs.Paths.{Step, change, within}
+use Rattle.yq_flow_scalars.specs.Tree.{Children}
+use Rattle.yq_flow_scalars.specs.declared.style.Place.TheVariants as places
 use Rattle.yq_inline.specs.Collections.{CollAt, CollPieces, IsCollAt, coll_along}
 use Rattle.yq_flow.specs.FlowEdits.{FlowEdit, IsFlowEdited, edited_node}
 use Rattle.yq_inline.specs.Nodes.{Node, node_text}

@@ -1,7 +1,7 @@
 -- Head comments of items and entries, put and taken away (own).
 use Rattle.std.specs.Prelude.{◌≡◌, ◌⊎◌, ℕ, List, [], ◌∷◌, ◌++◌, length, replicate}
-use Rattle.yq_scalar.specs.Paths.{Step, change, relabel_child, within}
-use Rattle.yq_scalar.specs.Text.{joined, lines_of as text_lines}
+use Rattle.yq_flow_scalars.specs.Paths.{Step, change, relabel_child, within}
+use Rattle.yq_flow_scalars.specs.Text.{joined, lines_of as text_lines}
 use Rattle.yq_lines.specs.Comments.{head_comment}
 use Rattle.yq_rows.specs.Gap.{IsGap}
 use Rattle.yq_rows.specs.Rows.{Row, behind_gap, rows_text, Part, Cut, cut_text}

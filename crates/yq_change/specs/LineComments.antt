@@ -1,6 +1,6 @@
 -- Comments of items and entries, put and taken away (own).
 use Rattle.std.specs.Prelude.{◌≡◌, ℕ, ◌+◌, List, [], ◌∷◌, ◌++◌, length, false}
-use Rattle.yq_scalar.specs.Paths.{Step, change, relabel_child, within}
+use Rattle.yq_flow_scalars.specs.Paths.{Step, change, relabel_child, within}
 use Rattle.yq_lines.specs.Comments.{line_comment}
 use Rattle.yq_rows.specs.Rows.{Row, parent_indent, rows_text, Part, Cut, cut_text}
 use Rattle.yq_rows.specs.Seams.{TailFits, is_block, retail}

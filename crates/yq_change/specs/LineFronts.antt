@@ -1,8 +1,8 @@
 -- A text cut before the end of a line (5.4; own).
 use Rattle.std.specs.Prelude.{◌≡◌, ℕ, List, ◌++◌, true, false}
 use Rattle.std.specs.Str.{IsUtf8}
-use Rattle.yq_scalar.specs.Characters.{pairs_returns}
-use Rattle.yq_scalar.specs.Text.{front, is_feed}
+use Rattle.yq_flow_scalars.specs.Characters.{pairs_returns}
+use Rattle.yq_flow_scalars.specs.Text.{front, is_feed}
 use Rattle.yq_rows.specs.Grammar.{IsRow, Limit}
 use Rattle.yq_rows.specs.Rows.{Row, print_row}
 use Rattle.yq_rows.specs.View.{slices}

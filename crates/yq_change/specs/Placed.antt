@@ -1,6 +1,6 @@
 -- Where the lines of a node, an entry or an item stand among the lines of rows, by their numbers (own).
 use Rattle.std.specs.Prelude.{◌≡◌, ℕ, ◌+◌, List, [], ◌∷◌, ◌++◌, length, Some}
-use Rattle.yq_scalar.specs.Paths.{Step}
+use Rattle.yq_flow_scalars.specs.Paths.{Step}
 use Rattle.yq_rows.specs.Rows.{Row, Part}
 use Rattle.yq_lines.specs.Laws.{with_lines}
 use Rattle.yq_walk.specs.Lines.{lines_of}

@@ -1,8 +1,8 @@
 -- A node replaced by rows, and what stands first in a compact collection taken out (own).
 use Rattle.std.specs.Prelude.{◌≡◌, ℕ, ◌+◌, List, [], ◌∷◌, ◌++◌, length, Some, true, false}
-use Rattle.yq_scalar.specs.Paths.{Step, change, remove_child, within}
-use Rattle.yq_scalar.specs.Tree.{Node}
-use Rattle.yq_scalar.specs.Anchors.{names_of}
+use Rattle.yq_flow_scalars.specs.Paths.{Step, change, remove_child, within}
+use Rattle.yq_flow_scalars.specs.Tree.{Node}
+use Rattle.yq_flow_scalars.specs.Anchors.{names_of}
 use Rattle.yq_lines.specs.LineAnchors.{HaveOneAnchorEach}
 use Rattle.yq_lines.specs.Outline.{Line, Outline, flatten}
 use Rattle.yq_lines.specs.Places.{lines_before, plug, FoundLine, find, content}

@@ -1,7 +1,7 @@
 -- What the rows of a part tell of its lead, of whether its root is block, and of the room for comments, where they take the place of another one's (own).
 use Rattle.std.specs.Prelude.{◌≡◌, ℕ, List, map, is_some, Bool, true}
-use Rattle.yq_scalar.specs.Paths.{Step}
-use Rattle.yq_scalar.specs.Tree.{none, children_of}
+use Rattle.yq_flow_scalars.specs.Paths.{Step}
+use Rattle.yq_flow_scalars.specs.Tree.{none, children_of}
 use Rattle.yq_rows.specs.Rows.{Mark, Row, Part}
 use Rattle.yq_documents.specs.declared.path.Part as places
 use Rattle.yq_documents.specs.Documents.{lead_of}

@@ -1,7 +1,7 @@
 -- One row in the place of another one, and the line comments of rows of which a tail alone doesn't tell: block scalars have theirs in the header (8.1.1; own).
 use Rattle.std.specs.Prelude.{◌≡◌, ℕ, ◌+◌, List, [], ◌∷◌, ◌++◌, length, Option, true, false}
 use Rattle.yq_scalar.specs.Block.{BlockText}
-use Rattle.yq_scalar.specs.Paths.{Step, change, relabel_child, within}
+use Rattle.yq_flow_scalars.specs.Paths.{Step, change, relabel_child, within}
 use Rattle.yq_lines.specs.Comments.{line_comment}
 use Rattle.yq_lines.specs.Places.{FoundLine}
 use Rattle.yq_rows.specs.Exchange.{allows_first, asked_behind, with_content}

@@ -1,7 +1,7 @@
 -- Items or entries of a block collection exchanged, and the lines of a node at a path (own).
 use Rattle.std.specs.Prelude.{◌≡◌, ℕ, ◌<◌, List, [], ◌∷◌, ◌++◌, Option, Some, None, option_and_then, ⊤}
-use Rattle.yq_scalar.specs.Paths.{Step, append_child, change, relabel_child, remove_child, within}
-use Rattle.yq_scalar.specs.Tree.{Label, Node, Children}
+use Rattle.yq_flow_scalars.specs.Paths.{Step, append_child, change, relabel_child, remove_child, within}
+use Rattle.yq_flow_scalars.specs.Tree.{Label, Node, Children}
 use Rattle.yq_lines.specs.Group.{level_or}
 use Rattle.yq_lines.specs.Laws.{with_lines}
 use Rattle.yq_lines.specs.Outline.{Mark, Bare, Key, Dash, Line, level, Outline, end, row, flatten, IsOpen, IsEven, anchored, label, children, value, Stands}

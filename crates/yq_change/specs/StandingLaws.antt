@@ -1,7 +1,7 @@
 -- What is owed of the rows in which items and entries stand, and of what these hold (own).
 use Rattle.std.specs.Prelude.{◌≡◌, ◌⊎◌, ℕ, suc, ◌+◌, List, [], ◌∷◌, ◌++◌, length, nat_lt, slice_get, Some}
-use Rattle.yq_scalar.specs.Paths.{Step}
-use Rattle.yq_scalar.specs.Tree.{Node}
+use Rattle.yq_flow_scalars.specs.Paths.{Step}
+use Rattle.yq_flow_scalars.specs.Tree.{Node}
 use Rattle.yq_inline.specs.Trees.{items_tree}
 use Rattle.yq_lines.specs.Counts.{count}
 use Rattle.yq_lines.specs.Outline.{flatten}

@@ -1,8 +1,8 @@
 -- Pieces of a text, which can be joined to texts that may be read (own).
 use Rattle.std.specs.Prelude.{◌≡◌, ◌<◌, ℕ, List, [], ◌∷◌, ◌++◌, Some, true, false}
 use Rattle.std.specs.Str.{IsUtf8}
-use Rattle.yq_scalar.specs.Characters.{is_text}
-use Rattle.yq_scalar.specs.Text.{is_feed}
+use Rattle.yq_flow_scalars.specs.Characters.{is_text}
+use Rattle.yq_flow_scalars.specs.Text.{is_feed}
 use Rattle.yq_rows.specs.Rows.{Cut, cut_text}
 use Rattle.yq_documents.specs.Reading.{read_at}
 

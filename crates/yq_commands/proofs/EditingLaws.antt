@@ -1,8 +1,8 @@
 -- Texts without a reading, and why a program is refused on a text.
 use Rattle.std.proofs.Common.{◌≡◌, ◌≢◌, ℕ, List, true, false, if◌then◌else◌, None, refl, sym, ap, subst, ◌∙◌, true≢false}
 use Rattle.std.specs.Str.{is_utf8}
-use Rattle.yq_scalar.specs.declared.ReadFault.{ReadFault}
-use Rattle.yq_scalar.specs.declared.fault.FaultKind.TheVariants.{NotUtf8}
+use Rattle.yq_flow_scalars.specs.declared.ReadFault.{ReadFault}
+use Rattle.yq_flow_scalars.specs.declared.fault.FaultKind.TheVariants.{NotUtf8}
 use Rattle.yq_documents.specs.Reading.{read_at, checked_at}
 use Rattle.yq_program.specs.Program.{Program}
 use Rattle.yq_splice.specs.Carried.{edit_of, program_done}

@@ -3,10 +3,10 @@ use Rattle.std.proofs.Common.{◌≡◌, ◌≢◌, inl, true, false, Bool, ℕ,
 use Rattle.std.proofs.lemmas.Option.{same_Some}
 use Rattle.std.specs.FinMap.{get}
 use Rattle.std.specs.Str.{is_utf8}
-use Rattle.yq_scalar.specs.Answers.{ReadFails}
-use Rattle.yq_scalar.specs.Tree.{Node}
-use Rattle.yq_scalar.specs.declared.fault.ReadError.{ReadError}
-use Rattle.yq_scalar.specs.declared.fault.ReadError.TheVariants as reading
+use Rattle.yq_flow_scalars.specs.Answers.{ReadFails}
+use Rattle.yq_flow_scalars.specs.Tree.{Node}
+use Rattle.yq_flow_scalars.specs.declared.fault.ReadError.{ReadError}
+use Rattle.yq_flow_scalars.specs.declared.fault.ReadError.TheVariants as reading
 use Rattle.yq_places.specs.Answers.{IsNotUtf8}
 use Rattle.yq_documents.specs.Documents.{Document}
 use Rattle.yq_documents.specs.Reading.{documents, read_at}

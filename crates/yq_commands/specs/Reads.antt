@@ -1,9 +1,9 @@
 -- What a read prints of its matches (own).
 use Rattle.std.specs.Prelude.{ℕ, ◌==◌, Bool, true, false, not, ◌&&◌, ◌||◌, if◌then◌else◌, List, [], ◌∷◌, ◌++◌, codes, Option, Some, None}
-use Rattle.yq_scalar.specs.declared.kind.Kind.{Kind}
-use Rattle.yq_scalar.specs.declared.kind.Kind.TheVariants as kinds
-use Rattle.yq_scalar.specs.Tree.{Node, alias, scalar, list, map}
-use Rattle.yq_scalar.specs.SchemaReading.{is_true_word}
+use Rattle.yq_flow_scalars.specs.declared.kind.Kind.{Kind}
+use Rattle.yq_flow_scalars.specs.declared.kind.Kind.TheVariants as kinds
+use Rattle.yq_flow_scalars.specs.Tree.{Node, alias, scalar, list, map}
+use Rattle.yq_flow_scalars.specs.SchemaReading.{is_true_word}
 use Rattle.yq_splice.specs.Print.{print_text}
 use Rattle.yq_history.specs.Report.{Report}
 

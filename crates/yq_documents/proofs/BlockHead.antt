@@ -1,11 +1,11 @@
 -- The head that a block scalar is.
 use Rattle.std.proofs.Common.{◌≡◌, ℕ, ℤ, List, drop, Option, Some, None, refl, sym, ap, ◌∙◌, subst}
-use Rattle.yq_scalar.specs.Answers.{◌>>=◌}
+use Rattle.yq_flow_scalars.specs.Answers.{◌>>=◌}
 use Rattle.yq_scalar.specs.Block.{BlockText, block_piece, IsBlockPiece}
 use Rattle.yq_scalar.specs.BlockContent.{block_content}
 use Rattle.yq_scalar.specs.BlockReading.{block_at, block_from}
-use Rattle.yq_scalar.specs.Piece.{deeper}
-use Rattle.yq_scalar.specs.declared.piece.Piece.{Piece}
+use Rattle.yq_flow_scalars.specs.Piece.{deeper}
+use Rattle.yq_flow_scalars.specs.declared.piece.Piece.{Piece}
 use Rattle.yq_scalar.proofs.BlockLaws.{block_again}
 use Rattle.yq_documents.specs.RowReading.{string_head, block_head_at}
 

@@ -2,7 +2,7 @@
 use Rattle.std.proofs.Common.{◌≡◌, ℕ, ◌+◌, ◌-◌, true, false, cond, ◌&&◌, eqb, List, [], ◌∷◌, ◌++◌, length, take, drop, refl, sym, ap, ◌∙◌, arith, append_assoc, length-append, get_or, subst, ◌<◌}
 use Rattle.std.specs.Prelude.{String}
 use Rattle.std.specs.declared.alloc.Global.{Global}
-use Rattle.yq_scalar.specs.declared.piece.Piece.{Piece}
+use Rattle.yq_flow_scalars.specs.declared.piece.Piece.{Piece}
 use Rattle.yq_inline.specs.declared.inline.Inline.{Inline}
 use Rattle.yq_inline.specs.View.{view, items_end, entries_end}
 use Rattle.std.proofs.lemmas.List.{take_at, drop_at, drop_more}

@@ -7,13 +7,13 @@ use Rattle.std.specs.Str.{IsUtf8, IsCharBoundary}
 use Rattle.yq_scalar.specs.declared.block_header.BlockStyle.{BlockStyle}
 use Rattle.yq_scalar.specs.declared.block_header.BlockStyle.TheVariants as styles
 use Rattle.yq_scalar.specs.Block.{mark_of, BlockText, block_text, IsBlock}
-use Rattle.yq_scalar.specs.Answers.{◌>>=◌}
-use Rattle.yq_scalar.specs.declared.style.Place.TheVariants as places
-use Rattle.yq_scalar.specs.Piece.{deeper}
-use Rattle.yq_scalar.specs.Tree as trees
-use Rattle.yq_scalar.specs.Plain.{holds_break}
-use Rattle.yq_scalar.specs.Scalar.{plain_of}
-use Rattle.yq_scalar.specs.Text.{is_empty}
+use Rattle.yq_flow_scalars.specs.Answers.{◌>>=◌}
+use Rattle.yq_flow_scalars.specs.declared.style.Place.TheVariants as places
+use Rattle.yq_flow_scalars.specs.Piece.{deeper}
+use Rattle.yq_flow_scalars.specs.Tree as trees
+use Rattle.yq_flow_scalars.specs.Plain.{holds_break}
+use Rattle.yq_flow_scalars.specs.Scalar.{plain_of}
+use Rattle.yq_flow_scalars.specs.Text.{is_empty}
 use Rattle.yq_scalar.proofs.BlockLaws.{block_again}
 use Rattle.yq_inline.specs.Inline.{depth_limit, IsInlineAt}
 use Rattle.yq_inline.specs.Nodes.{Node, empty, alias, scalar, coll, anchored, node_text, items_text, is_bare, IsNode}

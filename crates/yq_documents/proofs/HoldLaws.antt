@@ -8,7 +8,7 @@ use Rattle.yq_lines.specs.Names.{is_reference, line_names}
 use Rattle.yq_rows.specs.Grammar.{IsCut}
 use Rattle.yq_rows.specs.Rows.{Row, Part}
 use Rattle.yq_rows.specs.View.{rows_of, RowsView, rows_view}
-use Rattle.yq_scalar.specs.Characters.{text_limit}
+use Rattle.yq_flow_scalars.specs.Characters.{text_limit}
 use Rattle.yq_walk.specs.Extents.{IsRowsView}
 use Rattle.yq_walk.specs.declared.position.Stretch.{Stretch}
 use Rattle.yq_documents.specs.Documents.{Document, document_parts}

@@ -1,7 +1,7 @@
 -- The anchor of a node changes neither its kind nor its text.
 use Rattle.std.proofs.Common.{◌≡◌, ℕ, List, Option, Some, None, refl}
-use Rattle.yq_scalar.specs.Tree.{Node, alias, scalar, list, map, Children}
-use Rattle.yq_scalar.specs.declared.kind.Kind.{Kind}
+use Rattle.yq_flow_scalars.specs.Tree.{Node, alias, scalar, list, map, Children}
+use Rattle.yq_flow_scalars.specs.declared.kind.Kind.{Kind}
 use Rattle.yq_inline.specs.Trees.{named}
 use Rattle.yq_documents.specs.Nodes.{kind_of, text_of, anchor_of}
 use Rattle.yq_lines.specs.Outline.{first_anchor, anchored}

@@ -10,9 +10,9 @@ use Rattle.yq_lines.specs.Outline.{Line, key_of}
 use Rattle.yq_rows.specs.Grammar.{AreRows, Limit, limit_after}
 use Rattle.yq_rows.specs.Rows.{Row, parent_indent, rows_text}
 use Rattle.yq_rows.specs.View.{RowsView, Slices, slices}
-use Rattle.yq_scalar.specs.Quoted.{IsQuotedText}
-use Rattle.yq_scalar.specs.Text.{upto}
-use Rattle.yq_scalar.specs.Tree.{Node}
+use Rattle.yq_flow_scalars.specs.Quoted.{IsQuotedText}
+use Rattle.yq_flow_scalars.specs.Text.{upto}
+use Rattle.yq_flow_scalars.specs.Tree.{Node}
 use Rattle.yq_walk.specs.Extents.{lines_before_mark}
 use Rattle.yq_walk.specs.Lines.{head_of}
 use Rattle.yq_walk.specs.RowWalk.{line_rank}

@@ -1,8 +1,8 @@
 -- What lines of documents begin with, and the nodes that they stand for.
 use Rattle.std.proofs.Common.{◌≡◌, ℕ, List, true, false, not, refl, sym}
 use Rattle.std.proofs.lemmas.Bool.{false≢true}
-use Rattle.yq_scalar.specs.Paths.{is_item}
-use Rattle.yq_scalar.specs.Tree.{none}
+use Rattle.yq_flow_scalars.specs.Paths.{is_item}
+use Rattle.yq_flow_scalars.specs.Tree.{none}
 use Rattle.yq_lines.specs.Ends.{is_end}
 use Rattle.yq_lines.specs.Outline.{Mark, Bare, Key, Dash, Outline, end, row, children, key_of, null_node, value}
 use Rattle.yq_lines.specs.Positions.{is_bare}

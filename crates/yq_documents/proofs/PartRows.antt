@@ -12,7 +12,7 @@ use Rattle.yq_rows.specs.Rows.{Row, Part, Cut}
 use Rattle.yq_rows.specs.Splices.{nth_part, behind_part}
 use Rattle.yq_rows.specs.View.{slices, rows_of, RowsView, rows_view}
 use Rattle.yq_rows.proofs.splices.PartPlaces.{part_in}
-use Rattle.yq_scalar.specs.Anchors.{names_of}
+use Rattle.yq_flow_scalars.specs.Anchors.{names_of}
 use Rattle.yq_walk.specs.Lines.{lines_of}
 use Rattle.yq_walk.specs.RowWalk.{HasDocument, HasRows}
 use Rattle.yq_walk.specs.declared.position.Stretch.{Stretch}

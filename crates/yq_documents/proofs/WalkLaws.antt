@@ -3,8 +3,8 @@ use Rattle.std.proofs.Common.{◌≡◌, ℕ, ◌+◌, ◌<◌, List, ◌∷◌,
 use Rattle.std.proofs.lemmas.List.{drop_more}
 use Rattle.yq_inline.specs.declared.path.Step as step
 use Rattle.yq_inline.specs.Entries.{step_of}
-use Rattle.yq_scalar.specs.Paths.{Step, child_at, node_at}
-use Rattle.yq_scalar.specs.Tree.{Node, children_of}
+use Rattle.yq_flow_scalars.specs.Paths.{Step, child_at, node_at}
+use Rattle.yq_flow_scalars.specs.Tree.{Node, children_of}
 use Rattle.yq_documents.specs.declared.nodes.node.Node as declared
 use Rattle.yq_lines.specs.Labelled.{Labelled, labelled_at, labelled_from}
 use Rattle.yq_documents.specs.Nodes.{node_of, labelled_of}

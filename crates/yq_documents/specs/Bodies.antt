@@ -1,6 +1,6 @@
 -- What nodes of the code stand for.
 use Rattle.std.specs.Prelude.{None}
-use Rattle.yq_scalar.specs.Tree.{Node, scalar, list, map}
+use Rattle.yq_flow_scalars.specs.Tree.{Node, scalar, list, map}
 use Rattle.yq_inline.specs.Trees.{placed_tree}
 use Rattle.yq_inline.specs.View as inline
 use Rattle.yq_lines.specs.Bodies.{borrowed}

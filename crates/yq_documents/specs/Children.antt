@@ -1,6 +1,6 @@
 -- The items or entries of the code, as those of trees.
 use Rattle.std.specs.Prelude.{◌≡◌, ℕ, length, Option, Some, None}
-use Rattle.yq_scalar.specs.Tree.{Children, none, child}
+use Rattle.yq_flow_scalars.specs.Tree.{Children, none, child}
 use Rattle.yq_inline.specs.Trees.{parts_tree}
 use Rattle.yq_inline.specs.View.{entries_end, items_end}
 use Rattle.yq_lines.specs.Outline as outline

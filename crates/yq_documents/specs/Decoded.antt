@@ -1,8 +1,8 @@
 -- Reading (own; a reader may skip it): what rows spell, as it is borrowed, or made where the text doesn't lend it.
 use Rattle.std.specs.Prelude.{◌≡◌, ℕ, suc, ◌-◌, ◌≤◌, ◌==◌, List, [], ◌∷◌, drop, length, take, Option, Some, None, option_and_then, option_map, string_bytes, if◌then◌else◌, ⊤}
-use Rattle.yq_scalar.specs.Scalar.{plain_of}
-use Rattle.yq_scalar.specs.Text.{is_empty}
-use Rattle.yq_scalar.specs.Tree.{Node}
+use Rattle.yq_flow_scalars.specs.Scalar.{plain_of}
+use Rattle.yq_flow_scalars.specs.Text.{is_empty}
+use Rattle.yq_flow_scalars.specs.Tree.{Node}
 use Rattle.yq_inline.specs.Places.{Placed}
 use Rattle.yq_inline.specs.Scalars.{is_quoted, content_of}
 use Rattle.yq_inline.specs.Trees.{scalar_node}

@@ -1,9 +1,9 @@
 -- Documents, and what a text reads as (YAML 1.2.2, 9.1 and 9.2).
 use Rattle.std.specs.Prelude.{◌≡◌, ◌≢◌, ℕ, ◌≤◌, List, [], ◌∷◌, Bool, true, false, ◌||◌, ◌&&◌, not, codes, length, ⊤}
 use Rattle.std.specs.Str.{is_utf8, chars}
-use Rattle.yq_scalar.specs.Plain.{holds_break}
-use Rattle.yq_scalar.specs.Tree.{Node}
-use Rattle.yq_scalar.specs.Keys.{HasUniqueKeys, depth}
+use Rattle.yq_flow_scalars.specs.Plain.{holds_break}
+use Rattle.yq_flow_scalars.specs.Tree.{Node}
+use Rattle.yq_flow_scalars.specs.Keys.{HasUniqueKeys, depth}
 use Rattle.yq_inline.specs.Nodes as inline
 use Rattle.yq_inline.specs.Nodes.{Items, none, item}
 use Rattle.yq_inline.specs.Inline.{depth_limit}
@@ -12,7 +12,7 @@ use Rattle.yq_rows.specs.Grammar.{IsCut, is_plain, no_rows, begins_document, key
 use Rattle.yq_rows.specs.Rows as rows
 use Rattle.yq_rows.specs.Rows.{Content, Nothing, Inline, Block, Row, Part, Cut, last, marked}
 use Rattle.yq_rows.specs.Splices.{first_gap}
-use Rattle.yq_scalar.specs.Anchors.{names_of, AreBound}
+use Rattle.yq_flow_scalars.specs.Anchors.{names_of, AreBound}
 use Rattle.yq_lines.specs.LineAnchors.{HaveOneAnchorEach}
 use Rattle.yq_lines.specs.Grammar.{IsNode}
 use Rattle.yq_walk.specs.Lines.{lines_of}

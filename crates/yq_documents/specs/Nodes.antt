@@ -1,6 +1,6 @@
 -- The nodes of the code, as those of trees.
 use Rattle.std.specs.Prelude.{List, [], ℕ, Option, None}
-use Rattle.yq_scalar.specs.Tree.{Label, Node, alias, scalar, list, map}
+use Rattle.yq_flow_scalars.specs.Tree.{Label, Node, alias, scalar, list, map}
 use Rattle.yq_inline.specs.Trees.{inner}
 use Rattle.yq_documents.specs.Bodies.{named_node}
 use Rattle.yq_documents.specs.Located.{unlabelled}

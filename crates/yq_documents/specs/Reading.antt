@@ -2,8 +2,8 @@
 use Rattle.std.specs.Prelude.{ℕ, nat_le, List, [], ◌∷◌, length, map, Bool, true, not, ◌&&◌, codes, Option, Some, None, if◌then◌else◌}
 use Rattle.std.specs.List.{list_all}
 use Rattle.std.specs.Str.{bytes_eq, chars, is_utf8}
-use Rattle.yq_scalar.specs.Answers.{◌>>=◌}
-use Rattle.yq_scalar.specs.Tree.{Node}
+use Rattle.yq_flow_scalars.specs.Answers.{◌>>=◌}
+use Rattle.yq_flow_scalars.specs.Tree.{Node}
 use Rattle.yq_inline.specs.Nodes as inline
 use Rattle.yq_inline.specs.Nodes.{Items, none, item}
 use Rattle.yq_inline.specs.Inline.{depth_limit}
@@ -11,7 +11,7 @@ use Rattle.yq_rows.specs.Grammar.{key_limit}
 use Rattle.yq_rows.specs.Reading.{scan_at}
 use Rattle.yq_rows.specs.Rows as rows
 use Rattle.yq_rows.specs.Rows.{Content, Nothing, Inline, Block, Row, Part, Cut, last}
-use Rattle.yq_scalar.specs.Anchors.{names_of}
+use Rattle.yq_flow_scalars.specs.Anchors.{names_of}
 use Rattle.yq_documents.specs.Documents.{Document, document_parts, lead_of, is_long_plain}
 use Rattle.yq_lines.specs.Group.{group}
 use Rattle.yq_walk.specs.Lines.{lines_of}

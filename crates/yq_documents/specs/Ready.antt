@@ -1,8 +1,8 @@
 -- What a reading promises of its documents, so that updates have a meaning on them (own).
 use Rattle.std.specs.Prelude.{◌≡◌, ℕ, ◌≤◌, List, [], ◌∷◌, Option, Some, None, slice_get, Bool, true}
-use Rattle.yq_scalar.specs.Keys.{depth}
-use Rattle.yq_scalar.specs.Shapes.{IsTree}
-use Rattle.yq_scalar.specs.Tree.{children_of}
+use Rattle.yq_flow_scalars.specs.Keys.{depth}
+use Rattle.yq_flow_scalars.specs.Shapes.{IsTree}
+use Rattle.yq_flow_scalars.specs.Tree.{children_of}
 use Rattle.yq_inline.specs.Inline.{depth_limit}
 use Rattle.yq_lines.specs.Outline.{Line}
 use Rattle.yq_lines.specs.Sound.{is_entry}

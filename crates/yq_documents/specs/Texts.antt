@@ -1,7 +1,7 @@
 -- The texts of comment lines (own).
 use Rattle.std.specs.Prelude.{◌≡◌, List, [], ◌∷◌, Option, Some, None, ℕ}
 use denote.Bor.{Bor}
-use Rattle.yq_scalar.specs.Text.{lines_of}
+use Rattle.yq_flow_scalars.specs.Text.{lines_of}
 use Rattle.yq_lines.specs.Comments.{comment_text}
 use Rattle.yq_documents.specs.declared.nodes.comments.Comments.{Comments}
 

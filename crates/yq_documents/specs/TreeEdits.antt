@@ -1,7 +1,7 @@
 -- Changes of a tree and of a document that operations and the meaning of updates share (own).
 use Rattle.std.specs.Prelude.{ℕ, zero, suc, Bool, true, false, List, [], ◌∷◌, Option, None}
-use Rattle.yq_scalar.specs.Paths.{Step, change_child, within}
-use Rattle.yq_scalar.specs.Tree.{Label, Node, Children, none, child, children_of}
+use Rattle.yq_flow_scalars.specs.Paths.{Step, change_child, within}
+use Rattle.yq_flow_scalars.specs.Tree.{Label, Node, Children, none, child, children_of}
 use Rattle.yq_lines.specs.Outline.{anchored}
 use Rattle.yq_documents.specs.Documents.{Document}
 use Rattle.yq_documents.specs.Nodes.{anchor_of}

@@ -2,14 +2,14 @@
 ghost use Rattle.std.specs.Prelude.{◌≡◌, ◌≢◌, is_none, IfSome};
 ghost use Rattle.yq_inline.specs.Spans.{HasSpans, IsSpan, PartsHaveSpans};
 ghost use Rattle.yq_inline.specs.View.{entries_end, items_end, view as node_view};
-ghost use Rattle.yq_scalar.specs.declared.fault.FaultKind.TheVariants.{NotUtf8};
+ghost use Rattle.yq_flow_scalars.specs.declared.fault.FaultKind.TheVariants.{NotUtf8};
 ghost use Rattle.yq_documents.specs.KeyReading as spec;
 
 use crate::fault::fault_at;
 use yq_inline::{Form, Inline};
 use yq_rows::KEY_LIMIT;
-use yq_scalar::characters::char_count;
-use yq_scalar::{FaultKind, Piece, ReadFault};
+use yq_flow_scalars::characters::char_count;
+use yq_flow_scalars::{FaultKind, Piece, ReadFault};
 
 /// What is at fault in the key at a place of a text: it is to be no plain `<<`, and not too long.
 fn key_fault(whole: &str, piece: &Piece) -> Option<ReadFault>

@@ -1,7 +1,7 @@
 //! The heads of rows.
 ghost use Rattle.std.specs.Prelude.{◌≡◌, IfErr, IfOk, None, length, option_map, true};
-ghost use Rattle.yq_scalar.specs.Answers.{Gives, IsOfText};
-ghost use Rattle.yq_scalar.specs.Quoted.{IsQuotedText};
+ghost use Rattle.yq_flow_scalars.specs.Answers.{Gives, IsOfText};
+ghost use Rattle.yq_flow_scalars.specs.Quoted.{IsQuotedText};
 ghost use Rattle.yq_inline.specs.Scalars.{is_quoted, content_of as content_text};
 ghost use Rattle.yq_inline.specs.View.{view as node_view};
 ghost use Rattle.yq_rows.specs.View.{view as row_view};
@@ -18,8 +18,9 @@ use yq_inline::pieces::{first_is, is_quoted, strip};
 use yq_inline::{Form, Inline, read_inline};
 use yq_lines::{Content, Head, content_of, plain_head};
 use yq_rows::Row;
-use yq_scalar::plain::holds_break;
-use yq_scalar::{Kind, Place, ReadError, ReadFault, content, read_block};
+use yq_flow_scalars::plain::holds_break;
+use yq_flow_scalars::{Kind, Place, ReadError, ReadFault};
+use yq_scalar::{content, read_block};
 
 /// The name of an anchor that is written with its `&`.
 pub fn anchor_name(anchor: &str) -> Option<&str>

@@ -1,7 +1,7 @@
 -- The lines above a row, as the code finds them, are those above the rows of an item or entry.
 use Rattle.std.proofs.Common.{◌≡◌, ℕ, Bool, true, false, cond, eqb, List, Option, Some, None, option_map, refl, sym, ap, ◌∙◌}
-use Rattle.yq_scalar.specs.Answers.{◌>>=◌}
-use Rattle.yq_scalar.specs.Paths.{Step}
+use Rattle.yq_flow_scalars.specs.Answers.{◌>>=◌}
+use Rattle.yq_flow_scalars.specs.Paths.{Step}
 use Rattle.yq_rows.specs.Rows.{Cut}
 use Rattle.yq_places.specs.CommentPlaces.{LinesAbove, above_row, lines_above}
 use Rattle.yq_places.specs.PlacedRows.{PlacedRow}

@@ -3,10 +3,10 @@ use Rattle.std.proofs.Common.{arith, inr, ◌≡◌, ℕ, ◌+◌, ◌≤◌, tr
 use Rattle.yq_scalar.specs.declared.block_written.Break.{Break}
 use Rattle.yq_scalar.specs.declared.block_written.Break.TheVariants as breaks
 use Rattle.yq_scalar.specs.BlockWritten.{break_text}
-use Rattle.yq_scalar.specs.Characters.{text_limit}
-use Rattle.yq_scalar.specs.Paths.{Step}
-use Rattle.yq_scalar.specs.Tree.{Node}
-use Rattle.yq_scalar.specs.Text.{is_line}
+use Rattle.yq_flow_scalars.specs.Characters.{text_limit}
+use Rattle.yq_flow_scalars.specs.Paths.{Step}
+use Rattle.yq_flow_scalars.specs.Tree.{Node}
+use Rattle.yq_flow_scalars.specs.Text.{is_line}
 use Rattle.yq_lines.specs.Outline.{flatten}
 use Rattle.yq_rows.specs.Rows.{print_row, Row, rows_text, Part, Cut, cut_text}
 use Rattle.yq_places.specs.CollectionEnds.{CollectionEnd}

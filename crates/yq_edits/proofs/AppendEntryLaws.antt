@@ -1,8 +1,8 @@
 -- The rows of one item or entry that is written.
 use Rattle.std.proofs.Common.{◌≡◌, ℕ, ◌+◌, ◌*◌, ◌<◌, ◌≤◌, true, List, [], ◌∷◌, ◌++◌, Option, Some, None, refl, sym, ap, ◌∙◌, subst, arith, append-nil}
-use Rattle.yq_scalar.specs.Text.{upto}
-use Rattle.yq_scalar.specs.Tree as tree
-use Rattle.yq_scalar.specs.Tree.{Node, Children, none, child}
+use Rattle.yq_flow_scalars.specs.Text.{upto}
+use Rattle.yq_flow_scalars.specs.Tree as tree
+use Rattle.yq_flow_scalars.specs.Tree.{Node, Children, none, child}
 use Rattle.yq_inline.specs.Nodes as inline
 use Rattle.yq_flow.specs.Valued.{IsValueTree}
 use Rattle.yq_lines.specs.LineAnchors.{HaveOneAnchorEach}

@@ -3,10 +3,10 @@ use Rattle.std.proofs.Common.{inl, inr, ◌≡◌, ℕ, suc, true, false, List, 
 use Rattle.std.proofs.lemmas.Bool.{false≢true}
 use Rattle.std.proofs.lemmas.Option.{same_Some}
 use Rattle.std.specs.List.{slice_get}
-use Rattle.yq_scalar.specs.Keys.{HasUniqueKeys, keys_of}
-use Rattle.yq_scalar.specs.Paths.{Step, append_child, change, node_at, within}
-use Rattle.yq_scalar.specs.Tree as tree
-use Rattle.yq_scalar.specs.Tree.{Node}
+use Rattle.yq_flow_scalars.specs.Keys.{HasUniqueKeys, keys_of}
+use Rattle.yq_flow_scalars.specs.Paths.{Step, append_child, change, node_at, within}
+use Rattle.yq_flow_scalars.specs.Tree as tree
+use Rattle.yq_flow_scalars.specs.Tree.{Node}
 use Rattle.yq_flow.specs.Valued.{IsValueTree}
 use Rattle.yq_lines.specs.LineAnchors.{HaveOneAnchorEach}
 use Rattle.yq_lines.specs.Outline.{children, label}

@@ -1,9 +1,9 @@
 -- Which collection takes one more item or entry.
 use Rattle.std.proofs.Common.{◌≡◌, ℕ, ◌+◌, ◌*◌, List, Option, Some, None, refl, sym, ap, ◌∙◌}
-use Rattle.yq_scalar.specs.Keys.{keys_of}
-use Rattle.yq_scalar.specs.Paths.{To, child_at}
-use Rattle.yq_scalar.specs.Tree as tree
-use Rattle.yq_scalar.specs.Tree.{Node, Children}
+use Rattle.yq_flow_scalars.specs.Keys.{keys_of}
+use Rattle.yq_flow_scalars.specs.Paths.{To, child_at}
+use Rattle.yq_flow_scalars.specs.Tree as tree
+use Rattle.yq_flow_scalars.specs.Tree.{Node, Children}
 use Rattle.yq_lines.specs.Group.{level_or}
 use Rattle.yq_lines.specs.Outline.{Mark, Bare, Key, Dash, Line, level, rank, Outline, end, row, anchored, children, collection, value}
 use Rattle.yq_change.specs.CollectionPlaces.{BeginsAt}

@@ -1,8 +1,8 @@
 -- The end of a line with another break.
 use Rattle.std.proofs.Common.{◌≡◌, ◌⊎◌, inl, inr, ℕ, true, false, ◌&&◌, List, [], ◌∷◌, ◌++◌, refl, sym, ap, ◌∙◌, append_assoc}
 use Rattle.std.proofs.lemmas.Bool.{false≢true, and_parts, cases_Bool, or_parts}
-use Rattle.yq_scalar.specs.Characters.{pairs_returns}
-use Rattle.yq_scalar.specs.Text.{front, is_feed, is_return, is_empty, ends_line, NoneIn}
+use Rattle.yq_flow_scalars.specs.Characters.{pairs_returns}
+use Rattle.yq_flow_scalars.specs.Text.{front, is_feed, is_return, is_empty, ends_line, NoneIn}
 use Rattle.yq_lines.specs.Comments.{line_comment}
 use Rattle.yq_rows.specs.Gap.{IsBreak, IsComment}
 use Rattle.yq_rows.specs.Grammar.{IsTail}

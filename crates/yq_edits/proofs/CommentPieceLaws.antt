@@ -7,11 +7,11 @@ use Rattle.std.proofs.Math.Utf8.{encodes, encode, scalars, low_scalar}
 use Rattle.std.specs.List.{list_all}
 use Rattle.std.specs.Str.{chars, IsUtf8}
 use Rattle.yq_scalar.specs.BlockWritten.{break_text}
-use Rattle.yq_scalar.specs.Characters.{is_text, is_text_char, pairs_returns}
-use Rattle.yq_scalar.specs.Text.{front, is_feed, is_return, is_empty}
+use Rattle.yq_flow_scalars.specs.Characters.{is_text, is_text_char, pairs_returns}
+use Rattle.yq_flow_scalars.specs.Text.{front, is_feed, is_return, is_empty}
 use Rattle.yq_scalar.specs.declared.block_written.Break.{Break}
 use Rattle.yq_scalar.specs.declared.block_written.Break.TheVariants.{Lf, CrLf}
-use Rattle.yq_scalar.proofs.Bools.{not_byte}
+use Rattle.yq_flow_scalars.proofs.Bools.{not_byte}
 use Rattle.yq_scalar.proofs.Bytes.{Each, each_byte}
 use Rattle.yq_scalar.proofs.WrittenText.{no_break, is_line_ascii, IsLine, line_is_text}
 use Rattle.yq_rows.proofs.NodePieces.{before_ascii}

@@ -4,13 +4,13 @@ use Rattle.std.proofs.lemmas.List.{take-append-drop}
 use Rattle.std.proofs.lemmas.Bool.{false≢true, or_cases, cases_Bool}
 use Rattle.std.proofs.lemmas.Option.{none-some}
 use Rattle.std.specs.List.{slice_get}
-use Rattle.yq_scalar.specs.Answers.{◌>>=◌}
-use Rattle.yq_scalar.specs.Paths.{Step}
-use Rattle.yq_scalar.specs.Text.{is_empty, ends_line, no_white, past_white}
-use Rattle.yq_scalar.specs.Text as text
-use Rattle.yq_scalar.specs.Lines.{is_hash}
-use Rattle.yq_scalar.proofs.Bools.{bind_some, guard_then}
-use Rattle.yq_scalar.proofs.Upto.{cut_takes}
+use Rattle.yq_flow_scalars.specs.Answers.{◌>>=◌}
+use Rattle.yq_flow_scalars.specs.Paths.{Step}
+use Rattle.yq_flow_scalars.specs.Text.{is_empty, ends_line, no_white, past_white}
+use Rattle.yq_flow_scalars.specs.Text as text
+use Rattle.yq_flow_scalars.specs.Lines.{is_hash}
+use Rattle.yq_flow_scalars.proofs.Bools.{bind_some, guard_then}
+use Rattle.yq_flow_scalars.proofs.Upto.{cut_takes}
 use Rattle.yq_lines.specs.Ends.{found_line, line_of}
 use Rattle.yq_lines.specs.Places.{FoundLine, bare_or}
 use Rattle.yq_lines.specs.Sound.{is_entry}

@@ -1,10 +1,10 @@
 -- Whether a text of rows ends in a break: by what stands behind the mark of the last one.
 use Rattle.std.proofs.Common.{inl, inr, ⊎_elim, ◌⊎◌, ◌≡◌, ℕ, zero, suc, ℤ, Bool, true, false, cond, ◌&&◌, not, List, [], ◌∷◌, ◌++◌, replicate, Option, refl, sym, ap, ◌∙◌, subst, append_assoc, append-nil}
 use Rattle.std.proofs.lemmas.Bool.{false≢true, false_from_ne_true, or_parts, and_parts, eqb-true}
-use Rattle.yq_scalar.specs.Plain.{IsPlain, ends_plain}
-use Rattle.yq_scalar.specs.Quoted.{spell_lines}
-use Rattle.yq_scalar.specs.Text.{front, joined, is_break, is_white, is_feed, is_return, is_line, is_empty, no_white, unless, NoneIn}
-use Rattle.yq_scalar.proofs.Bools.{at_byte}
+use Rattle.yq_flow_scalars.specs.Plain.{IsPlain, ends_plain}
+use Rattle.yq_flow_scalars.specs.Quoted.{spell_lines}
+use Rattle.yq_flow_scalars.specs.Text.{front, joined, is_break, is_white, is_feed, is_return, is_line, is_empty, no_white, unless, NoneIn}
+use Rattle.yq_flow_scalars.proofs.Bools.{at_byte}
 use Rattle.yq_scalar.proofs.BlockPieceLaws.{IsLf, append_lf, line_lf, raw_lf}
 use Rattle.yq_inline.specs.Nodes as nodes
 use Rattle.yq_inline.specs.Nodes.{Node, empty, alias, scalar, coll, anchored, in_name, is_close, items_text, node_text, open_of, IsNode}

@@ -8,18 +8,18 @@ use Rattle.std.proofs.lemmas.List.Kept.{AllPairs-cons}
 use Rattle.std.proofs.lemmas.Option.{none-some, same_Some}
 use Rattle.std.specs.Prelude.{◌≢◌, All, AllPairs}
 use Rattle.std.specs.Str.{bytes_eq, chars}
-use Rattle.yq_scalar.specs.Answers.{◌>>=◌}
-use Rattle.yq_scalar.specs.Keys.{HasUniqueKeys, EachHasUniqueKeys, AreDistinct, with_key, keys_of, depth}
-use Rattle.yq_scalar.specs.Paths.{Step, To, key_is, child_at, node_at}
-use Rattle.yq_scalar.specs.Scalar.{string_of}
-use Rattle.yq_scalar.specs.Shapes.{IsTree, AreTrees, AreEntries, IsNew}
-use Rattle.yq_scalar.specs.Tree as tree
-use Rattle.yq_scalar.specs.Tree.{Node, Children}
-use Rattle.yq_scalar.specs.declared.style.Place.TheVariants.{FlowKey}
+use Rattle.yq_flow_scalars.specs.Answers.{◌>>=◌}
+use Rattle.yq_flow_scalars.specs.Keys.{HasUniqueKeys, EachHasUniqueKeys, AreDistinct, with_key, keys_of, depth}
+use Rattle.yq_flow_scalars.specs.Paths.{Step, To, key_is, child_at, node_at}
+use Rattle.yq_flow_scalars.specs.Scalar.{string_of}
+use Rattle.yq_flow_scalars.specs.Shapes.{IsTree, AreTrees, AreEntries, IsNew}
+use Rattle.yq_flow_scalars.specs.Tree as tree
+use Rattle.yq_flow_scalars.specs.Tree.{Node, Children}
+use Rattle.yq_flow_scalars.specs.declared.style.Place.TheVariants.{FlowKey}
 use Rattle.yq_inline.specs.Inline.{depth_limit}
 use Rattle.yq_flow.specs.Valued.{IsLabel, IsValueTree, AreValueTrees}
 use Rattle.yq_inline.specs.Written.{scalar_text}
-use Rattle.yq_scalar.specs.Anchors.{Name, Anchors, Refers, names_of, names_in, IsAmong}
+use Rattle.yq_flow_scalars.specs.Anchors.{Name, Anchors, Refers, names_of, names_in, IsAmong}
 use Rattle.yq_rows.specs.Grammar.{key_limit}
 use Rattle.yq_rows.specs.Rows.{Part, Cut, cut_text}
 use Rattle.yq_documents.specs.Documents.{Document, document_parts}

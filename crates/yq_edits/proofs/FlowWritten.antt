@@ -3,14 +3,14 @@ use Rattle.std.proofs.Common.{◌≡◌, ◌≢◌, ℕ, ◌||◌, eqb, List, []
 use Rattle.std.proofs.lemmas.Bool.{false≢true, ltb-false, or_parts}
 use Rattle.std.specs.Prelude.{codes}
 use Rattle.std.specs.Str.{chars}
-use Rattle.yq_scalar.specs.PlainText.{is_plain_text}
-use Rattle.yq_scalar.specs.Scalar.{string_of}
-use Rattle.yq_scalar.specs.Tree as tree
-use Rattle.yq_scalar.specs.Tree.{Children}
-use Rattle.yq_scalar.specs.Writable.{can_write_plain}
-use Rattle.yq_scalar.specs.Written.{written}
-use Rattle.yq_scalar.specs.declared.kind.Kind.TheVariants as kinds
-use Rattle.yq_scalar.specs.declared.style.Style.TheVariants as styles
+use Rattle.yq_flow_scalars.specs.PlainText.{is_plain_text}
+use Rattle.yq_flow_scalars.specs.Scalar.{string_of}
+use Rattle.yq_flow_scalars.specs.Tree as tree
+use Rattle.yq_flow_scalars.specs.Tree.{Children}
+use Rattle.yq_flow_scalars.specs.Writable.{can_write_plain}
+use Rattle.yq_flow_scalars.specs.Written.{written}
+use Rattle.yq_flow_scalars.specs.declared.kind.Kind.TheVariants as kinds
+use Rattle.yq_flow_scalars.specs.declared.style.Style.TheVariants as styles
 use Rattle.yq_scalar.proofs.PlainSpells.{writable_text}
 use Rattle.yq_inline.specs.Written.{scalar_text, flow_key, flow_of, flow_items}
 use Rattle.yq_documents.specs.Documents.{HasFitKey, HasFitKeys, EachHasFitKeys}
@@ -25,7 +25,7 @@ key_apart_by : (k : List ℕ) (plain : Bool) → can_write_plain (string_of k) t
 key_apart_by k true h e = let merge : codes "<<" ≡ 60 ∷ 60 ∷ [] = refl in plain_apart k (writable_text kinds.Text k true tt h) (e ∙ merge)
 key_apart_by k false h e =
     let merge : codes "<<" ≡ 60 ∷ 60 ∷ [] = refl in
-    false≢true (sym (ap (Rattle.yq_scalar.specs.Text.front (λ b. eqb b 34)) (e ∙ merge)))
+    false≢true (sym (ap (Rattle.yq_flow_scalars.specs.Text.front (λ b. eqb b 34)) (e ∙ merge)))
 
 pub key_fits : (k : Option (List ℕ)) → is_long k ≡ false → HasFitKey (flow_key k)
 unfolding scalar_text

@@ -7,12 +7,12 @@ use Rattle.std.proofs.lemmas.Option.{same_Some}
 use Rattle.std.proofs.lemmas.Str.{IsUtf8-take}
 use Rattle.std.specs.Str.{IsUtf8}
 use Rattle.yq_scalar.specs.BlockWritten.{break_text}
-use Rattle.yq_scalar.specs.Characters.{text_limit}
-use Rattle.yq_scalar.specs.Paths.{Step, change, relabel_child, within}
-use Rattle.yq_scalar.specs.Text.{front, is_feed, past_white, joined, lines_of}
-use Rattle.yq_scalar.specs.Text as text
+use Rattle.yq_flow_scalars.specs.Characters.{text_limit}
+use Rattle.yq_flow_scalars.specs.Paths.{Step, change, relabel_child, within}
+use Rattle.yq_flow_scalars.specs.Text.{front, is_feed, past_white, joined, lines_of}
+use Rattle.yq_flow_scalars.specs.Text as text
 use Rattle.yq_scalar.specs.declared.block_written.Break.{Break}
-use Rattle.yq_scalar.proofs.Bools.{guard_then}
+use Rattle.yq_flow_scalars.proofs.Bools.{guard_then}
 use Rattle.yq_lines.specs.Comments.{are_comments}
 use Rattle.yq_lines.specs.Group.{group}
 use Rattle.yq_rows.specs.Grammar.{IsCut}

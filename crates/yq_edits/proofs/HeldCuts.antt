@@ -4,8 +4,8 @@ use Rattle.std.proofs.lemmas.Bool.{cases_lt, eqb-true, false≢true, false_from_
 use Rattle.std.proofs.Math.Seq.{take-append_seam}
 use Rattle.std.proofs.lemmas.Str.{IsUtf8-take}
 use Rattle.std.specs.Str.{IsUtf8}
-use Rattle.yq_scalar.specs.Text.{front, is_empty, is_feed, is_return, is_white, no_white, unless, NoneIn}
-use Rattle.yq_scalar.proofs.Bools.{at_byte}
+use Rattle.yq_flow_scalars.specs.Text.{front, is_empty, is_feed, is_return, is_white, no_white, unless, NoneIn}
+use Rattle.yq_flow_scalars.proofs.Bools.{at_byte}
 use Rattle.yq_inline.specs.Nodes as inline
 use Rattle.yq_inline.specs.Nodes.{in_name, node_text, IsLead, IsName, IsNode}
 use Rattle.yq_inline.proofs.WrittenLaws.{node_then}
@@ -90,7 +90,7 @@ anchor_ends n (Inline space (inline.anchored m g node) z) rest some h =
 anchor_ends n (Block space None block) rest some h = absurd (false≢true (sym some))
 anchor_ends n (Block space (Some a) block) rest some h =
     let head : List ℕ = (content_cut (Block space (Some a) block)).3 in
-    let more : List ℕ = block.tail ++ (Rattle.yq_scalar.specs.Text.joined block.raw ++ rest) in
+    let more : List ℕ = block.tail ++ (Rattle.yq_flow_scalars.specs.Text.joined block.raw ++ rest) in
     record {
       clean = name_clean 38 a.name (a.gap ++ (head ++ more)) refl h.1.0.inside;
       ascii = ascii_front (a.gap ++ head) more (subst BeginsAscii (sym (append_assoc a.gap head more)) (unnamed_ascii (a.gap ++ (head ++ more)) h.1.0.ends));

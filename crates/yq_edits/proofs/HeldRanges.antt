@@ -1,9 +1,9 @@
 -- What is kept behind the head of a key or dash is a part of its line.
 use Rattle.std.proofs.Common.{◌≡◌, ◌⊎◌, inl, inr, ℕ, Bool, true, false, cond, ◌&&◌, List, [], ◌∷◌, ◌++◌, Some, refl, sym, ap, ◌∙◌, subst, append_assoc, append-nil}
 use Rattle.std.proofs.lemmas.Bool.{or_parts}
-use Rattle.yq_scalar.specs.Paths.{Step}
-use Rattle.yq_scalar.specs.Text.{NoneIn, ends_line, front, is_empty, is_feed, is_return, is_white}
-use Rattle.yq_scalar.proofs.Bools.{at_byte}
+use Rattle.yq_flow_scalars.specs.Paths.{Step}
+use Rattle.yq_flow_scalars.specs.Text.{NoneIn, ends_line, front, is_empty, is_feed, is_return, is_white}
+use Rattle.yq_flow_scalars.proofs.Bools.{at_byte}
 use Rattle.yq_rows.specs.Exchange.{asked_behind}
 use Rattle.yq_rows.specs.Gap.{IsComment, IsWhite}
 use Rattle.yq_rows.specs.Grammar.{IsRow, IsTail, unlimited}

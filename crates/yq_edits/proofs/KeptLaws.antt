@@ -2,11 +2,11 @@
 use Rattle.std.proofs.Common.{inr, ◌≡◌, ℕ, List, [], ◌∷◌, Option, Some, None, Bool, true, false, refl, sym, ap, ◌∙◌, subst, append-nil}
 use Rattle.std.proofs.lemmas.Bool.{false≢true}
 use Rattle.std.specs.List.{slice_get}
-use Rattle.yq_scalar.specs.Answers.{◌>>=◌}
-use Rattle.yq_scalar.specs.Paths.{Step, change, node_at}
-use Rattle.yq_scalar.specs.Scalar.{ScalarText}
-use Rattle.yq_scalar.specs.Tree as tree
-use Rattle.yq_scalar.specs.Tree.{Node}
+use Rattle.yq_flow_scalars.specs.Answers.{◌>>=◌}
+use Rattle.yq_flow_scalars.specs.Paths.{Step, change, node_at}
+use Rattle.yq_flow_scalars.specs.Scalar.{ScalarText}
+use Rattle.yq_flow_scalars.specs.Tree as tree
+use Rattle.yq_flow_scalars.specs.Tree.{Node}
 use Rattle.yq_flow.specs.Valued.{IsValueTree}
 use Rattle.yq_lines.specs.Outline.{first_anchor}
 use Rattle.yq_rows.specs.Rows.{Part, Cut, cut_text}

@@ -3,9 +3,9 @@ use Rattle.std.proofs.Common.{inl, inr, ◌≡◌, append_assoc, Some, ℕ, ◌<
 use mathlib.Core.List.{tail-eq_of_cons-eq}
 use Rattle.std.proofs.lemmas.Bool.{false≢true, leb-true, leb-false}
 use Rattle.std.proofs.lemmas.List.{length-append}
-use Rattle.yq_scalar.specs.Text.{is_empty}
+use Rattle.yq_flow_scalars.specs.Text.{is_empty}
 use Rattle.yq_scalar.proofs.BlockPieceLaws.{IsLf}
-use Rattle.yq_scalar.proofs.Bools.{guard_then}
+use Rattle.yq_flow_scalars.proofs.Bools.{guard_then}
 use Rattle.yq_rows.specs.Grammar.{Limit, limit_after, IsRow}
 use Rattle.yq_rows.specs.Items.{Item, row_item, rows_items, items_of, items_text, Asked, nothing_asked, asked_by, asked_of, AreRowItems}
 use Rattle.yq_rows.specs.Rows.{Row, print_row, behind_gap, rows_text, Part, Cut, cut_text}

@@ -4,8 +4,8 @@ use Rattle.std.proofs.lemmas.Bool.{false≢true, ltb-true, and_parts}
 use Rattle.std.specs.Prelude.{nat_lt}
 use Rattle.std.specs.List.{slice_get}
 use Rattle.yq_scalar.specs.BlockWritten.{break_text}
-use Rattle.yq_scalar.specs.Text.{is_empty}
-use Rattle.yq_scalar.specs.Tree.{Node}
+use Rattle.yq_flow_scalars.specs.Text.{is_empty}
+use Rattle.yq_flow_scalars.specs.Tree.{Node}
 use Rattle.yq_inline.specs.Nodes as inline
 use Rattle.yq_lines.specs.Outline.{Mark, Bare, Key, Dash, Line, level, rank}
 use Rattle.yq_rows.specs.Rows.{Part, Cut}

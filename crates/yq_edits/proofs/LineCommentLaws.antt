@@ -3,10 +3,10 @@ use Rattle.std.proofs.Common.{◌≡◌, inl, inr, ⊎_elim, ℕ, ◌≤◌, Boo
 use Rattle.std.proofs.lemmas.Bool.{false≢true, eqb-true}
 use Rattle.std.proofs.lemmas.Option.{same_Some}
 use Rattle.std.specs.Str.{IsUtf8}
-use Rattle.yq_scalar.specs.Characters.{text_limit}
-use Rattle.yq_scalar.specs.Paths.{Step, change, relabel_child, within}
-use Rattle.yq_scalar.specs.Text.{is_empty}
-use Rattle.yq_scalar.proofs.Bools.{guard_then}
+use Rattle.yq_flow_scalars.specs.Characters.{text_limit}
+use Rattle.yq_flow_scalars.specs.Paths.{Step, change, relabel_child, within}
+use Rattle.yq_flow_scalars.specs.Text.{is_empty}
+use Rattle.yq_flow_scalars.proofs.Bools.{guard_then}
 use Rattle.yq_rows.specs.Gap.{IsBreak}
 use Rattle.yq_rows.specs.Grammar.{IsTail, no_rows}
 use Rattle.yq_rows.specs.Rows.{Row, parent_indent, print_row, rows_text, Part, Cut, cut_text, part_text}

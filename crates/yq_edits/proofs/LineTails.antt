@@ -3,8 +3,8 @@ use Rattle.std.proofs.Common.{◌≡◌, ◌⊎◌, inl, inr, ⊎_elim, ℕ, Boo
 use Rattle.std.proofs.lemmas.Bool.{false≢true, eqb-true, and_parts, cases_Bool, not-true}
 use Rattle.std.proofs.lemmas.List.{map-append}
 use Rattle.yq_scalar.specs.Block.{is_tail}
-use Rattle.yq_scalar.specs.Lines.{is_blank, is_hash}
-use Rattle.yq_scalar.specs.Text.{front, is_white, is_line, is_empty, ends_line, no_white, past_white}
+use Rattle.yq_flow_scalars.specs.Lines.{is_blank, is_hash}
+use Rattle.yq_flow_scalars.specs.Text.{front, is_white, is_line, is_empty, ends_line, no_white, past_white}
 use Rattle.yq_lines.specs.Comments.{line_comment as comment_in, head_comment as head_in}
 use Rattle.yq_rows.specs.Exchange.{with_content}
 use Rattle.yq_rows.specs.Gap.{IsWhite, IsBreak, IsComment}
@@ -96,8 +96,8 @@ module _ (text tail more : List ℕ) (h : IsTail tail more) (no_breaks : Rattle.
       let front_white : no_white h.line.break ≡ true = ap no_white (sym (append-nil h.line.break)) ∙ parts.0 in
       let front_end : ends_line h.line.break ≡ true = ap ends_line (sym (append-nil h.line.break)) ∙ parts.2 in
       let past : past_white (w ++ h.line.break) ≡ h.line.break = ap (λ (x : List ℕ × List ℕ). x.1) (white_again w h.line.break b front_white) in
-      ap (λ x. cond (front (λ b. eqb b 35) x) (Some (Rattle.yq_lines.specs.Comments.less_space (Rattle.yq_scalar.specs.Text.cut ends_line (drop 1 x)).0)) None) past
-      ∙ ap (λ b. cond b (Some (Rattle.yq_lines.specs.Comments.less_space (Rattle.yq_scalar.specs.Text.cut ends_line (drop 1 h.line.break)).0)) None) (no_hash h.line.break front_end)
+      ap (λ x. cond (front (λ b. eqb b 35) x) (Some (Rattle.yq_lines.specs.Comments.less_space (Rattle.yq_flow_scalars.specs.Text.cut ends_line (drop 1 x)).0)) None) past
+      ∙ ap (λ b. cond b (Some (Rattle.yq_lines.specs.Comments.less_space (Rattle.yq_flow_scalars.specs.Text.cut ends_line (drop 1 h.line.break)).0)) None) (no_hash h.line.break front_end)
 
   pub new_comment_is : comment_in tail_then ≡ line_of text
   new_comment_is = go text refl

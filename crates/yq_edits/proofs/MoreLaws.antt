@@ -2,9 +2,9 @@
 use Rattle.std.proofs.Common.{inl, inr, ◌⊎◌, ◌≡◌, ℕ, zero, suc, ◌<◌, ◌≤◌, Bool, true, false, cond, eqb, not, List, [], ◌∷◌, ◌++◌, length, drop, replicate, Option, Some, refl, sym, ap, ◌∙◌, subst, arith, append_assoc, append-nil}
 use Rattle.std.proofs.lemmas.Bool.{cases_lt, cond-false, eqb-true, eqb-false}
 use Rattle.std.proofs.lemmas.Option.{none-some, same_Some}
-use Rattle.yq_scalar.specs.Paths.{Step}
-use Rattle.yq_scalar.specs.Text.{is_empty}
-use Rattle.yq_scalar.specs.Tree.{Node}
+use Rattle.yq_flow_scalars.specs.Paths.{Step}
+use Rattle.yq_flow_scalars.specs.Text.{is_empty}
+use Rattle.yq_flow_scalars.specs.Tree.{Node}
 use Rattle.yq_rows.specs.Exchange.{row_front}
 use Rattle.yq_rows.specs.Grammar.{AreDashes, AreRows, IsRow, Limit, unlimited}
 use Rattle.yq_rows.specs.Rows.{Content, Nothing, Inline, Block, Cut, Row, behind_dashes, behind_indent, cut_text, dashes_text, part_text, print_row, rows_text}

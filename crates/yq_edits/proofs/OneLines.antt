@@ -2,7 +2,7 @@
 use Rattle.std.proofs.Common.{inl, inr, ◌≡◌, ℕ, Bool, true, false, cond, List, [], ◌∷◌, ◌++◌, refl, sym, ap, ◌∙◌}
 use mathlib.Core.List.{head-eq_of_cons-eq, tail-eq_of_cons-eq}
 use Rattle.std.proofs.lemmas.Bool.{false≢true, and_parts}
-use Rattle.yq_scalar.specs.Text.{is_break, is_empty, is_feed, is_line}
+use Rattle.yq_flow_scalars.specs.Text.{is_break, is_empty, is_feed, is_line}
 use Rattle.yq_scalar.proofs.BlockPieceLaws.{IsLf}
 use Rattle.yq_scalar.proofs.LineLaws.{is_empty_is}
 use Rattle.yq_rows.specs.Gap.{IsBreak}

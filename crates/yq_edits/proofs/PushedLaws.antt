@@ -2,8 +2,8 @@
 use Rattle.std.proofs.Common.{◌≡◌, ℕ, true, false, List, [], ◌∷◌, ◌++◌, refl, sym, ap, ◌∙◌, append_assoc, append-nil}
 use Rattle.yq_scalar.specs.Block.{Lines}
 use Rattle.yq_scalar.specs.BlockRepair.{is_short}
-use Rattle.yq_scalar.specs.Lines.{is_blank}
-use Rattle.yq_scalar.specs.Text.{joined, lines_of}
+use Rattle.yq_flow_scalars.specs.Lines.{is_blank}
+use Rattle.yq_flow_scalars.specs.Text.{joined, lines_of}
 use Rattle.yq_scalar.proofs.LineLaws.{joined_lines}
 use Rattle.yq_places.specs.RemovalPlaces.{Seam}
 use Rattle.yq_script.specs.Script.{Segment, keep}

@@ -2,7 +2,7 @@
 use Rattle.std.proofs.Common.{◌≡◌, ◌⊎◌, inl, inr, ℕ, ◌+◌, ◌<◌, ◌≤◌, Bool, true, false, cond, List, [], ◌∷◌, ◌++◌, length, refl, sym, ap, ◌∙◌, subst, append_assoc, arith}
 use Rattle.std.proofs.lemmas.Bool.{cases_lt, false≢true}
 use Rattle.std.proofs.lemmas.List.{append_cancel_left, length-append}
-use Rattle.yq_scalar.specs.Text.{is_empty, is_feed}
+use Rattle.yq_flow_scalars.specs.Text.{is_empty, is_feed}
 use Rattle.yq_scalar.proofs.BlockPieceLaws.{IsLf}
 use Rattle.yq_rows.proofs.NothingLaws.{some_behind}
 use Rattle.yq_script.specs.Script.{Segment, keep, put, are_kept, extents, from_first, kept_back, kept_front, new_text, swapped_segments}

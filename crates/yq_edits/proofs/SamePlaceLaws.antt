@@ -3,8 +3,8 @@ use Rattle.std.proofs.Common.{◌≡◌, ℕ, zero, suc, cond, List, [], ◌∷�
 use Rattle.std.proofs.lemmas.Option.{same_Some}
 use Rattle.std.specs.List.{slice_get}
 use Rattle.std.specs.Prelude.{option_and_then}
-use Rattle.yq_scalar.specs.Paths.{Step, is_here, further, child_at, change_child, change, node_at}
-use Rattle.yq_scalar.specs.Tree.{Node, alias, scalar, list, map, Children, none, child}
+use Rattle.yq_flow_scalars.specs.Paths.{Step, is_here, further, child_at, change_child, change, node_at}
+use Rattle.yq_flow_scalars.specs.Tree.{Node, alias, scalar, list, map, Children, none, child}
 use Rattle.yq_rows.specs.Rows.{Part, Cut, last, marked}
 use Rattle.yq_rows.specs.Splices.{nth_part}
 use Rattle.yq_documents.specs.Documents.{document_parts}

@@ -1,9 +1,9 @@
 -- What is asked of the scalar at a place, by what the code finds.
 use Rattle.std.proofs.Common.{◌≡◌, Bool, false, Option, Some, None, is_some, option_and_then, refl, sym, ap, ◌∙◌}
 use Rattle.std.proofs.lemmas.Bool.{false≢true}
-use Rattle.yq_scalar.specs.Answers.{◌>>=◌}
-use Rattle.yq_scalar.specs.Scalar.{ScalarText}
-use Rattle.yq_scalar.specs.Tree.{Node}
+use Rattle.yq_flow_scalars.specs.Answers.{◌>>=◌}
+use Rattle.yq_flow_scalars.specs.Scalar.{ScalarText}
+use Rattle.yq_flow_scalars.specs.Tree.{Node}
 use Rattle.yq_places.specs.NodesAt.{scalar_in}
 use Rattle.yq_edits.specs.ReplaceEdits.{has_text, holds_text}
 use Rattle.yq_edits.specs.Replacing.{are_same, is_kept}

@@ -2,7 +2,7 @@
 use Rattle.std.proofs.Common.{◌≡◌, List, [], ◌∷◌, true, refl}
 use Rattle.std.proofs.lemmas.Str.{IsUtf8-nil, is_utf8-from_IsUtf8}
 use Rattle.std.specs.Str.{chars}
-use Rattle.yq_scalar.specs.Characters.{is_text, pairs_returns}
+use Rattle.yq_flow_scalars.specs.Characters.{is_text, pairs_returns}
 use Rattle.yq_change.specs.TextPieces.{IsPiece}
 use Rattle.yq_change.proofs.TextPieceLaws.{pieces_joined}
 use Rattle.yq_script.specs.Script.{Segment, keep, put, new_text}

@@ -1,13 +1,13 @@
 -- The style of a scalar in the place of another one can write it.
 use Rattle.std.proofs.Common.{◌≡◌, Bool, true, false, not, ◌||◌, ◌&&◌, cond, refl}
-use Rattle.yq_scalar.specs.PlainText.{is_plain_text}
-use Rattle.yq_scalar.specs.Scalar.{ScalarText}
-use Rattle.yq_scalar.specs.SchemaReading.{resolve}
-use Rattle.yq_scalar.specs.Writable.{in_flow, is_string, can_write_plain, can_write}
-use Rattle.yq_scalar.specs.Written.{IsOneLine}
-use Rattle.yq_scalar.specs.declared.style.Place.{Place}
-use Rattle.yq_scalar.specs.declared.style.Style.{Style}
-use Rattle.yq_scalar.specs.declared.style.Style.TheVariants.{Plain, Double}
+use Rattle.yq_flow_scalars.specs.PlainText.{is_plain_text}
+use Rattle.yq_flow_scalars.specs.Scalar.{ScalarText}
+use Rattle.yq_flow_scalars.specs.SchemaReading.{resolve}
+use Rattle.yq_flow_scalars.specs.Writable.{in_flow, is_string, can_write_plain, can_write}
+use Rattle.yq_flow_scalars.specs.Written.{IsOneLine}
+use Rattle.yq_flow_scalars.specs.declared.style.Place.{Place}
+use Rattle.yq_flow_scalars.specs.declared.style.Style.{Style}
+use Rattle.yq_flow_scalars.specs.declared.style.Style.TheVariants.{Plain, Double}
 use Rattle.yq_edits.specs.Style.{style_in}
 
 pub double_writes : (place : Place) (s : ScalarText) → can_write s Plain place ≡ false → can_write s Double place ≡ true

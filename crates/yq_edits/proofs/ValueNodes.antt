@@ -4,21 +4,21 @@ use Rattle.std.proofs.lemmas.Bool.{false≢true, not-true, and_parts}
 use Rattle.std.proofs.lemmas.Str.{IsUtf8-nil}
 use Rattle.std.specs.Str.{chars, IsUtf8}
 use lib.Utf8.{encode}
-use Rattle.yq_scalar.specs.Characters.{pairs_returns}
-use Rattle.yq_scalar.specs.Keys.{depth}
-use Rattle.yq_scalar.specs.Piece.{deeper}
-use Rattle.yq_scalar.specs.PlainText.{begins_marker}
-use Rattle.yq_scalar.specs.Plain.{holds_break}
-use Rattle.yq_scalar.specs.Scalar.{ScalarText, string_of}
-use Rattle.yq_scalar.specs.Text.{is_marker, separates}
-use Rattle.yq_scalar.specs.Tree as tree
-use Rattle.yq_scalar.specs.Tree.{Children}
-use Rattle.yq_scalar.specs.Writable.{can_write, can_write_plain}
-use Rattle.yq_scalar.specs.Written.{written, double, IsOneLine}
-use Rattle.yq_scalar.specs.declared.kind.Kind.{Kind}
-use Rattle.yq_scalar.specs.declared.style.Place.TheVariants as places
-use Rattle.yq_scalar.specs.declared.style.Style.{Style}
-use Rattle.yq_scalar.specs.declared.style.Style.TheVariants as styles
+use Rattle.yq_flow_scalars.specs.Characters.{pairs_returns}
+use Rattle.yq_flow_scalars.specs.Keys.{depth}
+use Rattle.yq_flow_scalars.specs.Piece.{deeper}
+use Rattle.yq_flow_scalars.specs.PlainText.{begins_marker}
+use Rattle.yq_flow_scalars.specs.Plain.{holds_break}
+use Rattle.yq_flow_scalars.specs.Scalar.{ScalarText, string_of}
+use Rattle.yq_flow_scalars.specs.Text.{is_marker, separates}
+use Rattle.yq_flow_scalars.specs.Tree as tree
+use Rattle.yq_flow_scalars.specs.Tree.{Children}
+use Rattle.yq_flow_scalars.specs.Writable.{can_write, can_write_plain}
+use Rattle.yq_flow_scalars.specs.Written.{written, double, IsOneLine}
+use Rattle.yq_flow_scalars.specs.declared.kind.Kind.{Kind}
+use Rattle.yq_flow_scalars.specs.declared.style.Place.TheVariants as places
+use Rattle.yq_flow_scalars.specs.declared.style.Style.{Style}
+use Rattle.yq_flow_scalars.specs.declared.style.Style.TheVariants as styles
 use Rattle.yq_scalar.proofs.PlainSpells.{plain_is_text, writable_text}
 use Rattle.yq_scalar.proofs.WrittenText.{double_is_line, line_is_text}
 use Rattle.yq_inline.specs.Inline.{depth_limit}

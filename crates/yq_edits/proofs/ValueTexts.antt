@@ -1,15 +1,15 @@
 -- The text of a value that is written on one line is that of its inline node.
 use Rattle.std.proofs.Common.{◌≡◌, ℕ, ◌≤◌, Bool, true, false, cond, List, [], Option, eqb, refl, append-nil}
-use Rattle.yq_scalar.specs.Keys.{depth}
-use Rattle.yq_scalar.specs.Scalar.{ScalarText}
-use Rattle.yq_scalar.specs.Text.{front}
-use Rattle.yq_scalar.specs.Tree as tree
-use Rattle.yq_scalar.specs.Tree.{Node}
-use Rattle.yq_scalar.specs.Writable.{can_write}
-use Rattle.yq_scalar.specs.Written.{written, IsOneLine}
-use Rattle.yq_scalar.specs.declared.style.Place.TheVariants.{Block}
-use Rattle.yq_scalar.specs.declared.style.Style.{Style}
-use Rattle.yq_scalar.specs.declared.style.Style.TheVariants as styles
+use Rattle.yq_flow_scalars.specs.Keys.{depth}
+use Rattle.yq_flow_scalars.specs.Scalar.{ScalarText}
+use Rattle.yq_flow_scalars.specs.Text.{front}
+use Rattle.yq_flow_scalars.specs.Tree as tree
+use Rattle.yq_flow_scalars.specs.Tree.{Node}
+use Rattle.yq_flow_scalars.specs.Writable.{can_write}
+use Rattle.yq_flow_scalars.specs.Written.{written, IsOneLine}
+use Rattle.yq_flow_scalars.specs.declared.style.Place.TheVariants.{Block}
+use Rattle.yq_flow_scalars.specs.declared.style.Style.{Style}
+use Rattle.yq_flow_scalars.specs.declared.style.Style.TheVariants as styles
 use Rattle.yq_inline.specs.Inline.{depth_limit}
 use Rattle.yq_inline.specs.Nodes as inline
 use Rattle.yq_inline.specs.Nodes.{node_text}

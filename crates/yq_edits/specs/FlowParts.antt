@@ -1,9 +1,9 @@
 -- Edits in flow collections: what is exchanged, by the part of the collection (YAML 1.2.2, 7.4; own).
 use Rattle.std.specs.Prelude.{ℕ, ◌==◌, List, [], ◌∷◌, ◌++◌, Option, Some, None, is_some, option_map, Bool, not, if◌then◌else◌}
-use Rattle.yq_scalar.specs.Paths.{Step}
-use Rattle.yq_scalar.specs.Tree as tree
-use Rattle.yq_scalar.specs.Written.{written}
-use Rattle.yq_scalar.specs.declared.style.Place.TheVariants.{Flow as InFlow}
+use Rattle.yq_flow_scalars.specs.Paths.{Step}
+use Rattle.yq_flow_scalars.specs.Tree as tree
+use Rattle.yq_flow_scalars.specs.Written.{written}
+use Rattle.yq_flow_scalars.specs.declared.style.Place.TheVariants.{Flow as InFlow}
 use Rattle.yq_inline.specs.Collections.{CollPieces}
 use Rattle.yq_inline.specs.Nodes.{Node, alias, scalar, node_text}
 use Rattle.yq_inline.specs.Scalars.{style_of}

@@ -1,17 +1,17 @@
 -- Replace: what is exchanged, by what stands at the place: a clause for each row of the table (YAML 1.2.2, 7 and 8; own).
 use Rattle.std.specs.List.{list_any}
 use Rattle.std.specs.Prelude.{ℕ, ◌&&◌, not, List, [], ◌∷◌, ◌++◌, Option, Some, None, Bool, false, option_map, if◌then◌else◌}
-use Rattle.yq_scalar.specs.Answers.{◌>>=◌}
+use Rattle.yq_flow_scalars.specs.Answers.{◌>>=◌}
 use Rattle.yq_scalar.specs.BlockWritten as literal
 use Rattle.yq_scalar.specs.BlockWritten.{break_text, chomping_of, header_text}
-use Rattle.yq_scalar.specs.Paths.{Step}
-use Rattle.yq_scalar.specs.Scalar.{ScalarText}
-use Rattle.yq_scalar.specs.Text.{is_empty, is_feed, joined, lines_of}
-use Rattle.yq_scalar.specs.Tree.{Node}
-use Rattle.yq_scalar.specs.Writable.{can_write, is_string}
-use Rattle.yq_scalar.specs.Written.{double}
-use Rattle.yq_scalar.specs.declared.style.Place.TheVariants.{Block as InBlock}
-use Rattle.yq_scalar.specs.declared.style.Style.TheVariants.{Literal}
+use Rattle.yq_flow_scalars.specs.Paths.{Step}
+use Rattle.yq_flow_scalars.specs.Scalar.{ScalarText}
+use Rattle.yq_flow_scalars.specs.Text.{is_empty, is_feed, joined, lines_of}
+use Rattle.yq_flow_scalars.specs.Tree.{Node}
+use Rattle.yq_flow_scalars.specs.Writable.{can_write, is_string}
+use Rattle.yq_flow_scalars.specs.Written.{double}
+use Rattle.yq_flow_scalars.specs.declared.style.Place.TheVariants.{Block as InBlock}
+use Rattle.yq_flow_scalars.specs.declared.style.Style.TheVariants.{Literal}
 use Rattle.yq_rows.specs.Rows.{Cut}
 use Rattle.yq_places.specs.NodesAt.{node_in, scalar_in}
 use Rattle.yq_places.specs.Standings.{Compact, Held, Lone, BlockRoot, NoRows, Standing, alone, beside, under, compact, block, root, no_rows, standing_at}

@@ -1,8 +1,8 @@
 -- Whether a value is the scalar that is there (YAML 1.2.2, 3.2.1; own).
 use Rattle.std.specs.Prelude.{Option, Some, None, Bool, false}
-use Rattle.yq_scalar.specs.Answers.{◌>>=◌}
-use Rattle.yq_scalar.specs.Scalar.{ScalarText}
-use Rattle.yq_scalar.specs.Tree.{Node}
+use Rattle.yq_flow_scalars.specs.Answers.{◌>>=◌}
+use Rattle.yq_flow_scalars.specs.Scalar.{ScalarText}
+use Rattle.yq_flow_scalars.specs.Tree.{Node}
 use Rattle.yq_places.specs.NodesAt.{scalar_in}
 use Rattle.yq_edits.specs.Style.{is_same}
 

@@ -1,7 +1,7 @@
 -- Whether each row and end of a part that an operation writes is touched by a range of what it exchanges (own).
 use Rattle.std.specs.Prelude.{◌≡◌, ◌⊎◌, ⊤, ℕ, ◌+◌, ◌≤◌, Bool, true, false, List, [], ◌∷◌, ◌++◌, length, Some, if◌then◌else◌}
-use Rattle.yq_scalar.specs.Characters.{text_limit}
-use Rattle.yq_scalar.specs.Text.{is_empty, is_feed}
+use Rattle.yq_flow_scalars.specs.Characters.{text_limit}
+use Rattle.yq_flow_scalars.specs.Text.{is_empty, is_feed}
 use Rattle.yq_rows.specs.Items.{Item, items_of, items_text}
 use Rattle.yq_rows.specs.Rows.{Cut, cut_text}
 use Rattle.yq_rows.specs.Touched.{TouchesOnly, in_front, item_text}

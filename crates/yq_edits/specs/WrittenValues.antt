@@ -1,9 +1,9 @@
 -- How a value is written at a place (YAML 1.2.2, 7 and 8; own).
 use Rattle.std.specs.Prelude.{ℕ, ◌+◌, ◌||◌, not, List, [], ◌++◌, replicate, Bool, if◌then◌else◌}
-use Rattle.yq_scalar.specs.Tree.{Node, alias, scalar, list, map}
-use Rattle.yq_scalar.specs.Written.{written}
-use Rattle.yq_scalar.specs.declared.style.Place.{Place}
-use Rattle.yq_scalar.specs.declared.style.Place.TheVariants.{Block as InBlock}
+use Rattle.yq_flow_scalars.specs.Tree.{Node, alias, scalar, list, map}
+use Rattle.yq_flow_scalars.specs.Written.{written}
+use Rattle.yq_flow_scalars.specs.declared.style.Place.{Place}
+use Rattle.yq_flow_scalars.specs.declared.style.Place.TheVariants.{Block as InBlock}
 use Rattle.yq_inline.specs.Scalars.{style_of}
 use Rattle.yq_inline.specs.Written.{flow_text}
 use Rattle.yq_places.specs.Standings.{Mark}

@@ -17,7 +17,7 @@ use yq_documents::Path;
 use yq_inline::Value;
 use yq_places::{CutText, Held, Standing};
 use yq_scalar::block_written::break_text;
-use yq_scalar::push_spaces;
+use yq_flow_scalars::push_spaces;
 use yq_script::{Segment, Segments};
 use yq_text::Halves;
 

@@ -10,7 +10,7 @@ use std::alloc::{AllocError, Global};
 use yq_documents::Path;
 use yq_places::CutText;
 use yq_scalar::block_written::break_text;
-use yq_scalar::push_spaces;
+use yq_flow_scalars::push_spaces;
 use yq_script::{Segment, Segments};
 use yq_text::Halves;
 

@@ -11,7 +11,7 @@ use std::alloc::{AllocError, Global};
 use yq_documents::Path;
 use yq_inline::Value;
 use yq_places::CutText;
-use yq_scalar::Kind;
+use yq_flow_scalars::Kind;
 
 /// Whether a value is a scalar.
 fn holds_scalar(value: &Value) -> bool

@@ -1,6 +1,6 @@
 //! Remove: one of several items or entries of a block collection.
 ghost use Rattle.std.specs.Prelude.{◌≡◌, ◌++◌, IfOk, OnOk, option_map, replicate, string_bytes};
-ghost use Rattle.yq_scalar.specs.Text.{lines_of};
+ghost use Rattle.yq_flow_scalars.specs.Text.{lines_of};
 ghost use Rattle.yq_documents.specs.Located.{steps_of};
 ghost use Rattle.yq_documents.specs.Reading.{cut_of};
 ghost use Rattle.yq_places.specs.FirstViews.{first_view};
@@ -14,9 +14,9 @@ use std::alloc::{AllocError, Global};
 use yq_documents::Path;
 use yq_places::{CutText, FirstRemoval, Removal, Seam};
 use yq_scalar::block_repair::{is_outside, is_short};
-use yq_scalar::lines::split_line;
-use yq_scalar::push_spaces;
-use yq_scalar::text::{is_blank, split_white};
+use yq_flow_scalars::lines::split_line;
+use yq_flow_scalars::push_spaces;
+use yq_flow_scalars::text::{is_blank, split_white};
 use yq_script::{Segment, Segments};
 use yq_text::Halves;
 

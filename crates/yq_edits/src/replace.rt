@@ -2,8 +2,8 @@
 ghost use Rattle.std.specs.List.{list_any};
 ghost use Rattle.std.specs.Prelude.{◌≡◌, IfOk, not};
 ghost use Rattle.yq_inline.specs.Values.{node_of};
-ghost use Rattle.yq_scalar.specs.Tree.{Node as NodeOf};
-ghost use Rattle.yq_scalar.specs.Text.{is_feed};
+ghost use Rattle.yq_flow_scalars.specs.Tree.{Node as NodeOf};
+ghost use Rattle.yq_flow_scalars.specs.Text.{is_feed};
 ghost use Rattle.yq_documents.specs.Located.{steps_of};
 ghost use Rattle.yq_documents.specs.Reading.{cut_of};
 ghost use Rattle.yq_places.specs.NodesAt.{node_in};

@@ -1,11 +1,11 @@
 //! How a scalar is written in the place of another one.
 ghost use Rattle.std.specs.Prelude.{◌≡◌, true};
-ghost use Rattle.yq_scalar.specs.Writable as writable;
-ghost use Rattle.yq_scalar.specs.Written.{IsOneLine};
+ghost use Rattle.yq_flow_scalars.specs.Writable as writable;
+ghost use Rattle.yq_flow_scalars.specs.Written.{IsOneLine};
 ghost use Rattle.yq_flow.specs.Valued.{IsValid};
 ghost use Rattle.yq_edits.specs.Style as spec;
 
-use yq_scalar::{Kind, Place, Scalar, Style, can_write};
+use yq_flow_scalars::{Kind, Place, Scalar, Style, can_write};
 
 /// Whether a scalar has that kind and that text.
 pub(crate) fn is_same(kind: Kind, text: &str, scalar: &Scalar) -> bool

@@ -14,7 +14,8 @@ use yq_flow::write_inline;
 use yq_inline::{Value, style_of};
 use yq_places::Mark;
 use yq_scalar::block_written::break_text;
-use yq_scalar::{Place, push_spaces, write_scalar};
+use yq_flow_scalars::{Place, push_spaces};
+use yq_scalar::write_scalar;
 
 /// A value on one line, in the place of a text.
 ///

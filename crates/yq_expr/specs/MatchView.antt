@@ -1,6 +1,6 @@
 -- The matches that those of the code stand for.
 use Rattle.std.specs.Prelude.{ℕ, List, map}
-use Rattle.yq_scalar.specs.Tree.{Node}
+use Rattle.yq_flow_scalars.specs.Tree.{Node}
 use Rattle.yq_inline.specs.Values.{node_of}
 use Rattle.yq_expr.specs.declared.matched.Match.{Match}
 

@@ -1,8 +1,8 @@
 //! What an update changes in documents.
 ghost use Rattle.std.specs.Prelude.{◌≡◌, ◌<◌, length, map};
-ghost use Rattle.yq_scalar.specs.Shapes.{IsTree};
-ghost use Rattle.yq_scalar.specs.Tree.{Node as TreeNode};
-ghost use Rattle.yq_scalar.specs.Anchors.{names_of};
+ghost use Rattle.yq_flow_scalars.specs.Shapes.{IsTree};
+ghost use Rattle.yq_flow_scalars.specs.Tree.{Node as TreeNode};
+ghost use Rattle.yq_flow_scalars.specs.Anchors.{names_of};
 ghost use Rattle.yq_documents.specs.Nodes.{node_of};
 ghost use Rattle.yq_documents.specs.Reading.{documents_of};
 ghost use Rattle.yq_meaning.specs.Changes as spec;

@@ -2,15 +2,15 @@
 use Rattle.std.proofs.Common.{◌≡◌, inl, inr, ℕ, zero, suc, ◌+◌, ◌≤◌, Bool, true, false, not, eqb, cond, List, [], ◌∷◌, ◌++◌, length, Option, Some, None, refl, sym, ap, ◌∙◌, subst, arith, append_assoc}
 use Rattle.std.proofs.lemmas.Bool.{false≢true, cond_both}
 use Rattle.std.proofs.lemmas.Option.{same_Some}
-use Rattle.yq_scalar.specs.Paths.{within}
-use Rattle.yq_scalar.specs.Text.{is_empty, is_white}
+use Rattle.yq_flow_scalars.specs.Paths.{within}
+use Rattle.yq_flow_scalars.specs.Text.{is_empty, is_white}
 use Rattle.yq_inline.specs.Alike.{is_stop, Alike, stop}
 use Rattle.yq_inline.specs.Gaps.{IsInlineGap}
 use Rattle.yq_inline.specs.Nodes.{Node, empty, alias, scalar, coll, anchored, Items, node_text, items_text, open_of, begins_content, is_close, IsApart, IsLead, IsName, is_bare, IsNode, AreItems}
 use Rattle.yq_inline.specs.Collections.{CollPieces, coll_text, coll_in, put_coll}
 use Rattle.yq_inline.specs.Trees.{collection, with_name, tree_of, items_tree}
 use Rattle.yq_inline.proofs.AlikePieces.{gap_alike, none_unless, name_by}
-use Rattle.yq_scalar.specs.Tree as tree
+use Rattle.yq_flow_scalars.specs.Tree as tree
 
 pub open_stop : (k : ℕ) → is_stop (open_of k) ≡ true
 open_stop k = elim (eqb k 125) as (λ c. is_stop (cond c 123 91) ≡ true) [ true ↦ refl | false ↦ refl ]

@@ -1,7 +1,7 @@
 -- A collection inside a node, exchanged for another one.
 use Rattle.std.proofs.Common.{◌≡◌, ℕ, Bool, true, false, List, [], ◌∷◌, ◌++◌, length, Option, Some, refl, sym, ap, ◌∙◌, subst, arith, append_assoc}
 use Rattle.std.proofs.lemmas.Option.{same_Some}
-use Rattle.yq_scalar.specs.Paths.{Step, change_child, within, change}
+use Rattle.yq_flow_scalars.specs.Paths.{Step, change_child, within, change}
 use Rattle.yq_inline.specs.Alike.{Alike}
 use Rattle.yq_inline.specs.Gaps.{IsInlineGap}
 use Rattle.yq_inline.specs.Nodes.{Node, empty, alias, scalar, coll, anchored, Items, node_text, items_text, open_of, is_bare, IsNode, AreItems}

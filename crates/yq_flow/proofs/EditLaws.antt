@@ -1,8 +1,8 @@
 -- Edits of a collection inside an inline node: a node replaced, an item or entry appended.
 use Rattle.std.proofs.Common.{◌≡◌, ℕ, ◌-◌, Bool, true, not, List, [], ◌∷◌, ◌++◌, length, Some, refl, sym, ap, ◌∙◌, subst, arith, eq-eqb}
-use Rattle.yq_scalar.specs.Paths.{Step, change_child, append_child, within, change}
-use Rattle.yq_scalar.specs.Piece.{further_spaces}
-use Rattle.yq_scalar.specs.Writable.{in_flow}
+use Rattle.yq_flow_scalars.specs.Paths.{Step, change_child, append_child, within, change}
+use Rattle.yq_flow_scalars.specs.Piece.{further_spaces}
+use Rattle.yq_flow_scalars.specs.Writable.{in_flow}
 use Rattle.yq_inline.specs.Gaps.{IsInlineGap}
 use Rattle.yq_inline.specs.Inline.{depth_limit}
 use Rattle.yq_inline.specs.Nodes.{Key, Node, Items, none, item, key_text, node_text, items_text, open_of, is_close, AreItems}
@@ -15,7 +15,7 @@ use Rattle.yq_flow.proofs.ContextLaws.{path_stands}
 use Rattle.yq_flow.proofs.ItemLaws.{put_local, put_before, becomes_same, add_local, item_begins}
 use Rattle.yq_flow.proofs.LocalLaws.{no_gap_before}
 use Rattle.yq_inline.proofs.WrittenLaws.{node_then, key_append}
-use Rattle.yq_scalar.specs.Tree as tree
+use Rattle.yq_flow_scalars.specs.Tree as tree
 
 -- what is known of the collection, and of the node with another one there
 abbrev pub Around : CollAt → Type 0

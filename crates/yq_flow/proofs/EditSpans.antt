@@ -6,9 +6,9 @@ use Rattle.std.proofs.lemmas.Str.{IsCharBoundary-before_ascii}
 use Rattle.std.specs.Option.{option_or}
 use Rattle.std.specs.Prelude.{get_or}
 use Rattle.std.specs.Str.{IsCharBoundary}
-use Rattle.yq_scalar.specs.Paths.{Step, is_here, further}
-use Rattle.yq_scalar.specs.Text.{front, is_feed, is_space}
-use Rattle.yq_scalar.specs.declared.piece.Piece.{Piece}
+use Rattle.yq_flow_scalars.specs.Paths.{Step, is_here, further}
+use Rattle.yq_flow_scalars.specs.Text.{front, is_feed, is_space}
+use Rattle.yq_flow_scalars.specs.declared.piece.Piece.{Piece}
 use Rattle.yq_inline.specs.Alike.{EndsItem}
 use Rattle.yq_inline.specs.Entries.{end_of, entry_start, parts_in}
 use Rattle.yq_flow.specs.FlowPlaces.{PlacedEdit, first_start, marks_before, only_end, past_gap, remove_before, remove_end, remove_part, remove_place, replace_place}

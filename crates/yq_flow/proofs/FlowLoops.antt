@@ -3,7 +3,7 @@ use Rattle.std.proofs.Common.{◌≡◌, ℕ, zero, suc, ◌-◌, ◌≤◌, Lis
 use Rattle.std.proofs.lemmas.List.{take_all}
 use Rattle.std.specs.Option.{option_or}
 use Rattle.std.specs.declared.alloc.Global.{Global}
-use Rattle.yq_scalar.specs.Paths.{To, Nth}
+use Rattle.yq_flow_scalars.specs.Paths.{To, Nth}
 use Rattle.yq_inline.specs.declared.inline.Inline.{Inline}
 use Rattle.yq_inline.specs.declared.path.Step as declared
 use Rattle.yq_inline.specs.Entries.{end_of, entry_start, step_of}

@@ -1,12 +1,12 @@
 -- What is written in flow style spells an entry, or a scalar, of a flow collection.
 use Rattle.std.proofs.Common.{◌≡◌, ℕ, true, List, [], ◌∷◌, ◌++◌, Some, refl, sym, ap, ◌∙◌, append_assoc}
 use Rattle.std.specs.Str.{IsUtf8}
-use Rattle.yq_scalar.specs.declared.style.Place.TheVariants as places
-use Rattle.yq_scalar.specs.declared.style.Style.{Style}
-use Rattle.yq_scalar.specs.Scalar.{ScalarText, string_of}
-use Rattle.yq_scalar.specs.Tree as tree
-use Rattle.yq_scalar.specs.Writable.{can_write}
-use Rattle.yq_scalar.specs.Written as scalars
+use Rattle.yq_flow_scalars.specs.declared.style.Place.TheVariants as places
+use Rattle.yq_flow_scalars.specs.declared.style.Style.{Style}
+use Rattle.yq_flow_scalars.specs.Scalar.{ScalarText, string_of}
+use Rattle.yq_flow_scalars.specs.Tree as tree
+use Rattle.yq_flow_scalars.specs.Writable.{can_write}
+use Rattle.yq_flow_scalars.specs.Written as scalars
 use Rattle.yq_flow.specs.FlowValues.{SpellsEntry, SpellsInFlow}
 use Rattle.yq_inline.specs.Trees.{inner}
 use Rattle.yq_flow.specs.Valued.{IsValid, IsValueTree}

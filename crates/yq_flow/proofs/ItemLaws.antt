@@ -3,10 +3,10 @@ use Rattle.std.proofs.Common.{◌≡◌, ℕ, Bool, true, false, not, ◌&&◌, 
 use Rattle.std.proofs.Math.Bool.{and-false}
 use Rattle.std.proofs.lemmas.Bool.{false≢true, or_right, not-true, or_parts}
 use Rattle.std.proofs.lemmas.Option.{same_Some}
-use Rattle.yq_scalar.specs.Paths.{Step, is_here, further, change_child, append_child}
-use Rattle.yq_scalar.specs.PlainText.{begins_marker}
-use Rattle.yq_scalar.specs.Text.{front, is_white, is_feed, is_return, is_space, is_marker, separates}
-use Rattle.yq_scalar.proofs.Bools.{at_byte}
+use Rattle.yq_flow_scalars.specs.Paths.{Step, is_here, further, change_child, append_child}
+use Rattle.yq_flow_scalars.specs.PlainText.{begins_marker}
+use Rattle.yq_flow_scalars.specs.Text.{front, is_white, is_feed, is_return, is_space, is_marker, separates}
+use Rattle.yq_flow_scalars.proofs.Bools.{at_byte}
 use Rattle.yq_inline.specs.Alike.{Alike, stop, EndsItem, fresh, KeepsApart}
 use Rattle.yq_inline.specs.Gaps.{IsInlineGap}
 use Rattle.yq_inline.specs.Nodes.{Key, bare, keyed, Sep, last, comma, Node, Items, none, item, key_text, sep_text, node_text, items_text, first_is, begins_content, begins_node, is_close, IsInlineKey, IsSep, is_bare, is_keyed, IsNode, AreItems}
@@ -27,7 +27,7 @@ use Rattle.yq_flow.proofs.LocalLaws.{Front, filled, space_before}
 use Rattle.yq_inline.proofs.NodeAgain.{item_front}
 use Rattle.yq_inline.proofs.PieceLaws.{scalar_begins, scalar_some}
 use Rattle.yq_inline.proofs.WrittenLaws.{node_then, key_append}
-use Rattle.yq_scalar.specs.Tree as tree
+use Rattle.yq_flow_scalars.specs.Tree as tree
 
 -- Items of a collection give way to others, with this tree: these stand before the same rest, a gap before the ones may stand before the others, and
 -- bytes of their text give way to others.

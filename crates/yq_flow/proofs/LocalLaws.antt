@@ -2,9 +2,9 @@
 use Rattle.std.proofs.Common.{◌≡◌, inl, ℕ, true, false, not, ◌&&◌, ◌||◌, eqb, cond, List, [], ◌∷◌, ◌++◌, Option, Some, None, refl, sym, ap, ◌∙◌, subst, append_assoc, Bool}
 use Rattle.std.proofs.Math.Bool.{and-false, or-true}
 use Rattle.std.proofs.lemmas.Bool.{false≢true, or_from}
-use Rattle.yq_scalar.specs.Plain.{is_safe}
+use Rattle.yq_flow_scalars.specs.Plain.{is_safe}
 use Rattle.yq_inline.specs.Scalars.{is_quoted}
-use Rattle.yq_scalar.specs.Text.{front, is_feed, is_marker, is_empty}
+use Rattle.yq_flow_scalars.specs.Text.{front, is_feed, is_marker, is_empty}
 use Rattle.yq_inline.specs.declared.gap.Before.{Before}
 use Rattle.yq_inline.specs.declared.gap.Before.TheVariants.{Token, White, Break, Comment}
 use Rattle.yq_inline.specs.Alike.{Alike, colon, any_colon, EndsItem}
@@ -20,7 +20,7 @@ use Rattle.yq_inline.proofs.KeepLaws.{go_front, some_begins, taken_begins}
 use Rattle.yq_inline.proofs.KeyKeeps.{lead_gap, lead_none, key_front}
 use Rattle.yq_inline.proofs.PieceLaws.{front_not}
 use Rattle.yq_inline.proofs.WrittenLaws.{node_then, key_append}
-use Rattle.yq_scalar.specs.Tree as tree
+use Rattle.yq_flow_scalars.specs.Tree as tree
 
 -- gaps before what begins a node
 pub node_no_feed : (t : List ℕ) → begins_node true t ≡ true → front is_feed t ≡ false

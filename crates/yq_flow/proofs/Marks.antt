@@ -2,8 +2,8 @@
 use Rattle.std.proofs.Common.{◌≡◌, ℕ, suc, ◌+◌, ◌-◌, Bool, true, false, ◌&&◌, ◌||◌, nat_le, nat_lt, List, [], ◌∷◌, ◌++◌, length, drop, refl, sym, ap, ◌∙◌, arith, append_assoc, length-append}
 use Rattle.std.proofs.Math.Seq.{drop-append_seam}
 use Rattle.std.proofs.lemmas.Bool.{le-leb, lt-ltb}
-use Rattle.yq_scalar.specs.PlainText.{begins_marker}
-use Rattle.yq_scalar.specs.Text.{is_feed}
+use Rattle.yq_flow_scalars.specs.PlainText.{begins_marker}
+use Rattle.yq_flow_scalars.specs.Text.{is_feed}
 use Rattle.yq_inline.specs.Alike.{fresh}
 use Rattle.yq_flow.specs.FlowPlaces.{behind_feed, marks_before}
 use Rattle.yq_flow.specs.Removals.{is_marks, ends_marked}

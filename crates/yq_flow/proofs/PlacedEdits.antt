@@ -2,7 +2,7 @@
 use Rattle.std.proofs.Common.{◌≡◌, ℕ, suc, ◌+◌, ◌-◌, ◌≤◌, min, Bool, true, false, eqb, cond, List, [], ◌∷◌, ◌++◌, length, Option, Some, None, refl, sym, ap, ◌∙◌, subst, arith}
 use Rattle.std.proofs.lemmas.Bool.{false≢true}
 use Rattle.std.proofs.lemmas.Option.{same_Some}
-use Rattle.yq_scalar.specs.Paths.{Step}
+use Rattle.yq_flow_scalars.specs.Paths.{Step}
 use Rattle.yq_inline.specs.Collections.{CollPieces, coll_in}
 use Rattle.yq_inline.specs.Entries.{EntryPieces, place_in}
 use Rattle.yq_flow.specs.FlowEdits.{content_node, space_for, replacing, is_none, appending, behind_last}

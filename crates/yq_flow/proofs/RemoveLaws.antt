@@ -4,10 +4,10 @@ use Rattle.std.proofs.lemmas.Bool.{false≢true, and_parts}
 use Rattle.std.proofs.lemmas.List.{append_cancel_right}
 use Rattle.std.proofs.lemmas.Option.{none-some, same_Some}
 use Rattle.std.specs.Option.{option_or}
-use Rattle.yq_scalar.specs.Characters.{pairs_returns}
-use Rattle.yq_scalar.specs.Paths.{Step, is_here, further, remove_child, within, change}
-use Rattle.yq_scalar.specs.PlainText.{begins_marker}
-use Rattle.yq_scalar.specs.Text.{front, is_feed, is_marker}
+use Rattle.yq_flow_scalars.specs.Characters.{pairs_returns}
+use Rattle.yq_flow_scalars.specs.Paths.{Step, is_here, further, remove_child, within, change}
+use Rattle.yq_flow_scalars.specs.PlainText.{begins_marker}
+use Rattle.yq_flow_scalars.specs.Text.{front, is_feed, is_marker}
 use Rattle.yq_inline.specs.declared.gap.Before.{Before}
 use Rattle.yq_inline.specs.declared.gap.Before.TheVariants.{Token, White, Break, Comment}
 use Rattle.yq_inline.specs.Alike.{stop, fresh}
@@ -28,7 +28,7 @@ use Rattle.yq_flow.proofs.ItemSwaps.{item_cut, text_cut}
 use Rattle.yq_flow.proofs.LocalLaws.{gap_new, node_no_feed, node_stops}
 use Rattle.yq_flow.proofs.RemoveTexts.{LastBytes, behind_cut, comma_new_bytes, comma_old_bytes, either, gone_bytes, option_some, removed_text, sep_front}
 use Rattle.yq_flow.proofs.ReturnLaws.{Whole, item_return, pairs_behind, pairs_end, return_some, whole_by, whole_front}
-use Rattle.yq_scalar.specs.Tree as tree
+use Rattle.yq_flow_scalars.specs.Tree as tree
 
 -- ---- a space behind a gap that ends a line
 

@@ -3,8 +3,8 @@ use Rattle.std.proofs.Common.{◌≡◌, ◌⊎◌, inl, inr, ℕ, ◌≤◌, Bo
 use Rattle.std.proofs.lemmas.Bool.{cond_both}
 use Rattle.std.proofs.lemmas.Option.{none-some, same_Some}
 use Rattle.std.specs.Option.{option_or}
-use Rattle.yq_scalar.specs.Paths.{Step, is_here, further}
-use Rattle.yq_scalar.specs.PlainText.{begins_marker}
+use Rattle.yq_flow_scalars.specs.Paths.{Step, is_here, further}
+use Rattle.yq_flow_scalars.specs.PlainText.{begins_marker}
 use Rattle.yq_inline.specs.Alike.{fresh}
 use Rattle.yq_inline.specs.Nodes.{Key, Sep, last, comma, Node, Items, none, item, key_text, sep_text, node_text, items_text}
 use Rattle.yq_inline.specs.Trees.{inner, key_content}

@@ -2,10 +2,10 @@
 use Rattle.std.proofs.Common.{◌≡◌, ◌⊎◌, inl, inr, ℕ, Bool, true, false, ◌&&◌, ◌||◌, eqb, cond, List, [], ◌∷◌, ◌++◌, Some, refl, sym, ap, ◌∙◌, subst, append_assoc, append-nil, eq-eqb}
 use Rattle.std.proofs.Math.Bool.{and-false}
 use Rattle.std.proofs.lemmas.Bool.{false≢true, not-false, or_right, and_parts, cases_Bool, or_parts}
-use Rattle.yq_scalar.specs.Characters.{pairs_returns}
-use Rattle.yq_scalar.specs.Quoted.{spell_lines}
-use Rattle.yq_scalar.specs.Text.{NoneIn, unless, front, is_white, is_feed, is_return}
-use Rattle.yq_scalar.proofs.Bools.{at_byte}
+use Rattle.yq_flow_scalars.specs.Characters.{pairs_returns}
+use Rattle.yq_flow_scalars.specs.Quoted.{spell_lines}
+use Rattle.yq_flow_scalars.specs.Text.{NoneIn, unless, front, is_white, is_feed, is_return}
+use Rattle.yq_flow_scalars.proofs.Bools.{at_byte}
 use Rattle.yq_inline.specs.Alike.{EndsItem}
 use Rattle.yq_inline.specs.Nodes.{Key, bare, keyed, Node, empty, alias, scalar, coll, anchored, Items, none, item, key_text, sep_text, node_text, items_text, open_of, in_name, begins_content, begins_node, is_close, IsInlineKey, IsLead, is_bare, IsNode, first_is}
 use Rattle.yq_inline.specs.Scalars.{IsScalarAt}

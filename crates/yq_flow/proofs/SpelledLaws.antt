@@ -3,14 +3,14 @@ use Rattle.std.proofs.Common.{◌≡◌, ℕ, zero, suc, ◌-◌, ◌≤◌, Boo
 use Rattle.std.proofs.Math.Nat.{le-max_left, le-max_right}
 use Rattle.std.proofs.lemmas.Bool.{or_cases, or_right}
 use Rattle.std.specs.Str.{IsUtf8}
-use Rattle.yq_scalar.specs.declared.style.Place.TheVariants as places
-use Rattle.yq_scalar.specs.Keys.{depth, deepest}
-use Rattle.yq_scalar.specs.Piece.{further_spaces}
-use Rattle.yq_scalar.specs.Plain.{ends_plain, begins_plain}
-use Rattle.yq_scalar.specs.Scalar.{ScalarText, string_of}
-use Rattle.yq_scalar.specs.Text.{is_space}
-use Rattle.yq_scalar.specs.Tree as tree
-use Rattle.yq_scalar.specs.Writable.{can_write_plain, in_flow}
+use Rattle.yq_flow_scalars.specs.declared.style.Place.TheVariants as places
+use Rattle.yq_flow_scalars.specs.Keys.{depth, deepest}
+use Rattle.yq_flow_scalars.specs.Piece.{further_spaces}
+use Rattle.yq_flow_scalars.specs.Plain.{ends_plain, begins_plain}
+use Rattle.yq_flow_scalars.specs.Scalar.{ScalarText, string_of}
+use Rattle.yq_flow_scalars.specs.Text.{is_space}
+use Rattle.yq_flow_scalars.specs.Tree as tree
+use Rattle.yq_flow_scalars.specs.Writable.{can_write_plain, in_flow}
 use Rattle.yq_inline.specs.declared.gap.Before.TheVariants.{Token, White}
 use Rattle.yq_inline.specs.Gaps.{IsInlineGap, stops}
 use Rattle.yq_inline.specs.Inline.{depth_limit}

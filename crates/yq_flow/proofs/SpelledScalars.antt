@@ -2,19 +2,19 @@
 use Rattle.std.proofs.Common.{◌≡◌, ℕ, Bool, true, false, cond, not, ◌&&◌, ◌||◌, eqb, List, [], ◌∷◌, ◌++◌, Option, Some, None, refl, sym, ap, ◌∙◌, inl, inr, ⊎_elim, append_assoc, append-nil, eqb-true}
 use Rattle.std.proofs.Math.Bool.{and-false}
 use Rattle.std.proofs.lemmas.Bool.{false≢true, cond_both, or_cases, and_parts, not-true, or_parts}
-use Rattle.yq_scalar.specs.declared.kind.Kind.{Kind}
-use Rattle.yq_scalar.specs.declared.style.Style.TheVariants as styles
-use Rattle.yq_scalar.specs.ContentReading.{within, broken, content_on}
-use Rattle.yq_scalar.specs.Plain.{ends_plain, holds_break, is_indicator, is_flow_indicator}
-use Rattle.yq_scalar.specs.PlainText.{is_plain_text, begins_plainly, needs_quotes, no_rest, is_merge, begins_marker}
-use Rattle.yq_scalar.specs.Quoted.{last}
-use Rattle.yq_scalar.specs.QuotedReading.{is_quote}
-use Rattle.yq_scalar.specs.Scalar.{ScalarText, string_of, plain_of}
-use Rattle.yq_scalar.specs.SchemaReading.{resolve}
-use Rattle.yq_scalar.specs.Text.{is_white, is_feed, is_return, is_break, front}
-use Rattle.yq_scalar.specs.Writable.{can_write_plain, is_string}
-use Rattle.yq_scalar.specs.Written.{written, double}
-use Rattle.yq_scalar.proofs.ContentLaws.{quoted_content_is}
+use Rattle.yq_flow_scalars.specs.declared.kind.Kind.{Kind}
+use Rattle.yq_flow_scalars.specs.declared.style.Style.TheVariants as styles
+use Rattle.yq_flow_scalars.specs.ContentReading.{within, broken, content_on}
+use Rattle.yq_flow_scalars.specs.Plain.{ends_plain, holds_break, is_indicator, is_flow_indicator}
+use Rattle.yq_flow_scalars.specs.PlainText.{is_plain_text, begins_plainly, needs_quotes, no_rest, is_merge, begins_marker}
+use Rattle.yq_flow_scalars.specs.Quoted.{last}
+use Rattle.yq_flow_scalars.specs.QuotedReading.{is_quote}
+use Rattle.yq_flow_scalars.specs.Scalar.{ScalarText, string_of, plain_of}
+use Rattle.yq_flow_scalars.specs.SchemaReading.{resolve}
+use Rattle.yq_flow_scalars.specs.Text.{is_white, is_feed, is_return, is_break, front}
+use Rattle.yq_flow_scalars.specs.Writable.{can_write_plain, is_string}
+use Rattle.yq_flow_scalars.specs.Written.{written, double}
+use Rattle.yq_flow_scalars.proofs.ContentLaws.{quoted_content_is}
 use Rattle.yq_scalar.proofs.PlainSpells.{plain_line, plain_opens, writable_text, writable_same, writable_piece, string_kind}
 use Rattle.yq_scalar.proofs.PlainWritten.{plain_text_parts}
 use Rattle.yq_scalar.proofs.WrittenLaws.{double_spells}

@@ -3,17 +3,17 @@ use Rattle.std.proofs.Common.{◌≡◌, ℕ, Bool, true, false, eqb, List, [], 
 use Rattle.std.proofs.lemmas.Bool.{false≢true, and_parts}
 use Rattle.std.specs.List.{list_all}
 use Rattle.std.specs.Str.{chars}
-use Rattle.yq_scalar.specs.declared.style.Place.TheVariants.{Block}
-use Rattle.yq_scalar.specs.declared.style.Style.{Style}
-use Rattle.yq_scalar.specs.declared.style.Style.TheVariants as styles
-use Rattle.yq_scalar.specs.Plain.{ends_plain, holds_break}
-use Rattle.yq_scalar.specs.Quoted.{last}
-use Rattle.yq_scalar.specs.QuotedReading.{is_quote}
-use Rattle.yq_scalar.specs.Scalar.{ScalarText, string_of, plain_of}
-use Rattle.yq_scalar.specs.Text.{front}
-use Rattle.yq_scalar.specs.Writable.{can_write, can_write_plain, is_string, is_single_char}
-use Rattle.yq_scalar.specs.Written.{written, single, double, IsOneLine}
-use Rattle.yq_scalar.proofs.ContentLaws.{quoted_content_is}
+use Rattle.yq_flow_scalars.specs.declared.style.Place.TheVariants.{Block}
+use Rattle.yq_flow_scalars.specs.declared.style.Style.{Style}
+use Rattle.yq_flow_scalars.specs.declared.style.Style.TheVariants as styles
+use Rattle.yq_flow_scalars.specs.Plain.{ends_plain, holds_break}
+use Rattle.yq_flow_scalars.specs.Quoted.{last}
+use Rattle.yq_flow_scalars.specs.QuotedReading.{is_quote}
+use Rattle.yq_flow_scalars.specs.Scalar.{ScalarText, string_of, plain_of}
+use Rattle.yq_flow_scalars.specs.Text.{front}
+use Rattle.yq_flow_scalars.specs.Writable.{can_write, can_write_plain, is_string, is_single_char}
+use Rattle.yq_flow_scalars.specs.Written.{written, single, double, IsOneLine}
+use Rattle.yq_flow_scalars.proofs.ContentLaws.{quoted_content_is}
 use Rattle.yq_scalar.proofs.PlainSpells.{plain_line, plain_is_text, plain_opens, writable_text, writable_same, writable_piece, string_kind}
 use Rattle.yq_scalar.proofs.PlainWritten.{plain_text_parts}
 use Rattle.yq_scalar.proofs.WrittenLaws.{double_spells, single_spells}

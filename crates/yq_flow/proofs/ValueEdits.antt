@@ -1,12 +1,12 @@
 -- Values put into a flow collection.
 use Rattle.std.proofs.Common.{◌≡◌, ℕ, ◌≤◌, true, eqb, List, [], ◌∷◌, ◌++◌, Some, refl, ap, ◌∙◌, subst, eq-eqb}
 use Rattle.std.proofs.lemmas.Bool.{or_right}
-use Rattle.yq_scalar.specs.declared.style.Style.{Style}
-use Rattle.yq_scalar.specs.Keys.{depth}
-use Rattle.yq_scalar.specs.Paths.{Step, change_child, append_child, within, change}
-use Rattle.yq_scalar.specs.Scalar.{ScalarText}
-use Rattle.yq_scalar.specs.Writable.{can_write}
-use Rattle.yq_scalar.specs.Written.{written}
+use Rattle.yq_flow_scalars.specs.declared.style.Style.{Style}
+use Rattle.yq_flow_scalars.specs.Keys.{depth}
+use Rattle.yq_flow_scalars.specs.Paths.{Step, change_child, append_child, within, change}
+use Rattle.yq_flow_scalars.specs.Scalar.{ScalarText}
+use Rattle.yq_flow_scalars.specs.Writable.{can_write}
+use Rattle.yq_flow_scalars.specs.Written.{written}
 use Rattle.yq_inline.specs.Alike.{EndsItem}
 use Rattle.yq_inline.specs.Gaps.{IsInlineGap}
 use Rattle.yq_flow.specs.FlowEdits.{put_value, behind_last, replacing, appending, IsFlowEdited, FlowEdit, behind_appended}
@@ -20,9 +20,9 @@ use Rattle.yq_flow.proofs.ItemPlaces.{item_behind, last_behind}
 use Rattle.yq_flow.proofs.SpelledLaws.{written_tree}
 use Rattle.yq_flow.proofs.ValueFits.{value_fits, item_fits, fit_of, scalar_fits, scalar_same}
 use Rattle.yq_inline.specs.Collections.{room_in, CollAt, item_in, IsCollAt}
-use Rattle.yq_scalar.specs.declared.style.Place.TheVariants as places
-use Rattle.yq_scalar.specs.Tree as tree
-use Rattle.yq_scalar.specs.Written as scalars
+use Rattle.yq_flow_scalars.specs.declared.style.Place.TheVariants as places
+use Rattle.yq_flow_scalars.specs.Tree as tree
+use Rattle.yq_flow_scalars.specs.Written as scalars
 
 -- a change at the last of more steps
 pub change_last : (ss : List Step) (s : Step) (f : tree.Node → tree.Node) → change ss (within (change_child s f)) ≡ change (ss ++ (s ∷ [])) f

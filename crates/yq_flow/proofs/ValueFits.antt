@@ -3,14 +3,14 @@ use Rattle.std.proofs.Common.{◌≡◌, inl, inr, ⊎_elim, ℕ, ◌≤◌, Boo
 use Rattle.std.proofs.lemmas.Bool.{or_right, or_cases, not-true, and_parts}
 use Rattle.std.specs.List.{list_all}
 use Rattle.std.specs.Str.{chars}
-use Rattle.yq_scalar.specs.declared.style.Style.{Style}
-use Rattle.yq_scalar.specs.Keys.{depth}
-use Rattle.yq_scalar.specs.PlainText.{is_plain_text, begins_marker}
-use Rattle.yq_scalar.specs.Quoted.{last}
-use Rattle.yq_scalar.specs.Scalar.{ScalarText}
-use Rattle.yq_scalar.specs.Text.{is_marker}
-use Rattle.yq_scalar.specs.Writable.{can_write, can_write_plain, is_string, is_single_char}
-use Rattle.yq_scalar.specs.Written.{written}
+use Rattle.yq_flow_scalars.specs.declared.style.Style.{Style}
+use Rattle.yq_flow_scalars.specs.Keys.{depth}
+use Rattle.yq_flow_scalars.specs.PlainText.{is_plain_text, begins_marker}
+use Rattle.yq_flow_scalars.specs.Quoted.{last}
+use Rattle.yq_flow_scalars.specs.Scalar.{ScalarText}
+use Rattle.yq_flow_scalars.specs.Text.{is_marker}
+use Rattle.yq_flow_scalars.specs.Writable.{can_write, can_write_plain, is_string, is_single_char}
+use Rattle.yq_flow_scalars.specs.Written.{written}
 use Rattle.yq_scalar.proofs.PlainSpells.{writable_text, writable_piece}
 use Rattle.yq_scalar.proofs.WrittenLaws.{double_spells, single_spells}
 use Rattle.yq_inline.specs.Alike.{EndsItem}
@@ -25,10 +25,10 @@ use Rattle.yq_flow.proofs.ItemLaws.{Unmarked, ends_mark, marker_append}
 use Rattle.yq_flow.proofs.SpelledLaws.{no_bare, node_begins, written_node, items_fit, entries_fit}
 use Rattle.yq_flow.proofs.SpelledScalars.{plain_anywhere}
 use Rattle.yq_flow.proofs.StyledScalars.{styled_spells}
-use Rattle.yq_scalar.specs.declared.style.Place.TheVariants as places
-use Rattle.yq_scalar.specs.declared.style.Style.TheVariants as styles
-use Rattle.yq_scalar.specs.Tree as tree
-use Rattle.yq_scalar.specs.Written as scalars
+use Rattle.yq_flow_scalars.specs.declared.style.Place.TheVariants as places
+use Rattle.yq_flow_scalars.specs.declared.style.Style.TheVariants as styles
+use Rattle.yq_flow_scalars.specs.Tree as tree
+use Rattle.yq_flow_scalars.specs.Written as scalars
 use Rattle.yq_flow.proofs.SpelledLaws as spelled
 
 plain_unmarked : (t rest : List ℕ) → is_plain_text true t ≡ true → Unmarked rest → is_marker (t ++ rest) ≡ false

@@ -6,7 +6,7 @@ use Rattle.yq_inline.specs.declared.value.Value.{Value}
 use Rattle.yq_inline.specs.declared.value.Value.TheVariants as values
 use Rattle.yq_flow.specs.Valued.{IsValueTree, AreValueTrees}
 use Rattle.yq_inline.specs.Values.{node_of, field_of, items_of, entries_of}
-use Rattle.yq_scalar.specs.Tree as tree
+use Rattle.yq_flow_scalars.specs.Tree as tree
 use Rattle.yq_inline.proofs.WrittenLaws.{node_list, node_map, map_twice}
 
 abbrev Entry : Type 0

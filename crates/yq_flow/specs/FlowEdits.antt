@@ -1,8 +1,8 @@
 -- Edits of a flow collection: a node in the place of another one, and one more item or entry.
 use Rattle.std.specs.Prelude.{◌≡◌, ℕ, Bool, true, false, not, ◌||◌, List, [], ◌∷◌, ◌++◌, Option, Some, None, if◌then◌else◌}
-use Rattle.yq_scalar.specs.Paths.{Step, is_here, further}
-use Rattle.yq_scalar.specs.Text.{is_marker}
-use Rattle.yq_scalar.specs.Tree as tree
+use Rattle.yq_flow_scalars.specs.Paths.{Step, is_here, further}
+use Rattle.yq_flow_scalars.specs.Text.{is_marker}
+use Rattle.yq_flow_scalars.specs.Tree as tree
 use Rattle.yq_inline.specs.Collections.{CollPieces, CollAt, put_at}
 use Rattle.yq_inline.specs.Entries.{EntryPieces}
 use Rattle.yq_inline.specs.Inline.{IsInline}

@@ -1,9 +1,9 @@
 -- Where the bytes of an edit of a flow collection stand in the text, by the places of the collection's parts.
 use Rattle.std.specs.Option.{option_or}
 use Rattle.std.specs.Prelude.{ℕ, ◌+◌, ◌-◌, Bool, ◌&&◌, List, [], ◌∷◌, ◌++◌, drop, length, nat_le, nat_lt, Option, Some, None, option_map, min, if◌then◌else◌}
-use Rattle.yq_scalar.specs.Paths.{Step, is_here, further}
-use Rattle.yq_scalar.specs.PlainText.{begins_marker}
-use Rattle.yq_scalar.specs.Text.{is_feed, front}
+use Rattle.yq_flow_scalars.specs.Paths.{Step, is_here, further}
+use Rattle.yq_flow_scalars.specs.PlainText.{begins_marker}
+use Rattle.yq_flow_scalars.specs.Text.{is_feed, front}
 use Rattle.yq_flow.specs.declared.flow_place.EditPlace.{EditPlace}
 use Rattle.yq_inline.specs.declared.gap.Before.TheVariants.{Token}
 use Rattle.yq_inline.specs.Entries.{content_place, end_of, entry_start, parts_of}

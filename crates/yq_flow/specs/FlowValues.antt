@@ -1,11 +1,11 @@
 -- Texts that spell what is put into flow collections.
 use Rattle.std.specs.Prelude.{◌≡◌, ℕ, ◌≤◌, true, false, List, ◌++◌, Some}
 use Rattle.std.specs.Str.{IsUtf8}
-use Rattle.yq_scalar.specs.Characters.{is_text}
-use Rattle.yq_scalar.specs.Keys.{depth}
-use Rattle.yq_scalar.specs.Plain.{holds_break}
-use Rattle.yq_scalar.specs.Scalar.{ScalarText}
-use Rattle.yq_scalar.specs.Tree as tree
+use Rattle.yq_flow_scalars.specs.Characters.{is_text}
+use Rattle.yq_flow_scalars.specs.Keys.{depth}
+use Rattle.yq_flow_scalars.specs.Plain.{holds_break}
+use Rattle.yq_flow_scalars.specs.Scalar.{ScalarText}
+use Rattle.yq_flow_scalars.specs.Tree as tree
 use Rattle.yq_inline.specs.Alike.{EndsItem}
 use Rattle.yq_flow.specs.FlowEdits.{FitsItem, FitsNode}
 use Rattle.yq_inline.specs.Nodes.{Key, Node, scalar, key_text, node_text, is_close}

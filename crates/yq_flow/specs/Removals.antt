@@ -1,9 +1,9 @@
 -- Edits of a flow collection: an item or entry is taken out.
 use Rattle.std.specs.Option.{option_or}
 use Rattle.std.specs.Prelude.{◌≡◌, ℕ, Bool, false, ◌||◌, ◌&&◌, ◌==◌, List, [], ◌∷◌, ◌++◌, Option, Some, None, option_map, if◌then◌else◌}
-use Rattle.yq_scalar.specs.Paths.{Step, is_here, further}
-use Rattle.yq_scalar.specs.PlainText.{begins_marker}
-use Rattle.yq_scalar.specs.Text.{is_feed, is_return, front, separates}
+use Rattle.yq_flow_scalars.specs.Paths.{Step, is_here, further}
+use Rattle.yq_flow_scalars.specs.PlainText.{begins_marker}
+use Rattle.yq_flow_scalars.specs.Text.{is_feed, is_return, front, separates}
 use Rattle.yq_inline.specs.Alike.{fresh}
 use Rattle.yq_inline.specs.Collections.{CollPieces}
 use Rattle.yq_flow.specs.FlowEdits.{FlowEdit}

@@ -1,14 +1,14 @@
 -- The trees that values stand for, and the texts that spell them.
 use Rattle.std.specs.Prelude.{◌≡◌, ℕ, ◌+◌, ◌≤◌, Bool, true, false, List, ◌++◌, Option, Some, None, ⊤, ℤ}
 use Rattle.std.specs.Str.{IsUtf8}
-use Rattle.yq_scalar.specs.declared.style.Place.{Place}
-use Rattle.yq_scalar.specs.Characters.{is_text}
-use Rattle.yq_scalar.specs.Keys.{depth}
-use Rattle.yq_scalar.specs.Piece.{further_spaces}
-use Rattle.yq_scalar.specs.Plain.{ends_plain, holds_break}
-use Rattle.yq_scalar.specs.Scalar.{ScalarText, IsScalar}
-use Rattle.yq_scalar.specs.Tree as tree
-use Rattle.yq_scalar.specs.Writable.{in_flow}
+use Rattle.yq_flow_scalars.specs.declared.style.Place.{Place}
+use Rattle.yq_flow_scalars.specs.Characters.{is_text}
+use Rattle.yq_flow_scalars.specs.Keys.{depth}
+use Rattle.yq_flow_scalars.specs.Piece.{further_spaces}
+use Rattle.yq_flow_scalars.specs.Plain.{ends_plain, holds_break}
+use Rattle.yq_flow_scalars.specs.Scalar.{ScalarText, IsScalar}
+use Rattle.yq_flow_scalars.specs.Tree as tree
+use Rattle.yq_flow_scalars.specs.Writable.{in_flow}
 use Rattle.yq_inline.specs.Inline.{IsInline, depth_limit}
 use Rattle.yq_inline.specs.Nodes.{Node, node_text}
 use Rattle.yq_inline.specs.Scalars as scalars

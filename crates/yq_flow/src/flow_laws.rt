@@ -1,14 +1,14 @@
 //! Laws of edits in flow collections, each the contract of a function that does nothing.
 ghost use Rattle.std.specs.Prelude.{◌≡◌, ◌∷◌, ◌++◌, ◌==◌, ◌≤◌, [], Some, true};
-ghost use Rattle.yq_scalar.specs.Characters.{pairs_returns};
-ghost use Rattle.yq_scalar.specs.Keys.{depth};
-ghost use Rattle.yq_scalar.specs.Paths.{Step, append_child, change, change_child, remove_child, within};
-ghost use Rattle.yq_scalar.specs.Scalar.{ScalarText};
-ghost use Rattle.yq_scalar.specs.Tree as tree;
-ghost use Rattle.yq_scalar.specs.Writable.{can_write};
-ghost use Rattle.yq_scalar.specs.Written as scalars;
-ghost use Rattle.yq_scalar.specs.declared.style.Place.TheVariants.{Flow, Block};
-ghost use Rattle.yq_scalar.specs.declared.style.Style.{Style};
+ghost use Rattle.yq_flow_scalars.specs.Characters.{pairs_returns};
+ghost use Rattle.yq_flow_scalars.specs.Keys.{depth};
+ghost use Rattle.yq_flow_scalars.specs.Paths.{Step, append_child, change, change_child, remove_child, within};
+ghost use Rattle.yq_flow_scalars.specs.Scalar.{ScalarText};
+ghost use Rattle.yq_flow_scalars.specs.Tree as tree;
+ghost use Rattle.yq_flow_scalars.specs.Writable.{can_write};
+ghost use Rattle.yq_flow_scalars.specs.Written as scalars;
+ghost use Rattle.yq_flow_scalars.specs.declared.style.Place.TheVariants.{Flow, Block};
+ghost use Rattle.yq_flow_scalars.specs.declared.style.Style.{Style};
 ghost use Rattle.yq_inline.specs.Collections.{CollAt, IsCollAt, item_in, room_in};
 ghost use Rattle.yq_inline.specs.Entries.{EntryPieces};
 ghost use Rattle.yq_flow.specs.FlowEdits.{FitsItem, FitsNode, FlowEdit, IsFlowEdited, appending, behind_appended, put_value, replacing};

@@ -6,7 +6,7 @@ ghost use Rattle.yq_inline.specs.View.{view};
 ghost use Rattle.yq_flow.specs.FlowPlaces as spec;
 
 use yq_inline::{Form, Inline};
-use yq_scalar::Piece;
+use yq_flow_scalars::Piece;
 
 /// Where an edit changes a text, in bytes: what stands from `start` to `end` gives way to `lead` and,
 /// behind that, to what is written.

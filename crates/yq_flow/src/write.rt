@@ -1,9 +1,9 @@
 //! Values, written in flow style.
 ghost use Rattle.std.specs.Prelude.{◌≡◌, ◌++◌, IfOk, OnOk, false, map, string_bytes, true};
 ghost use Rattle.std.specs.Str.{IsUtf8};
-ghost use Rattle.yq_scalar.specs.Scalar.{IsScalar};
-ghost use Rattle.yq_scalar.specs.Writable as writable;
-ghost use Rattle.yq_scalar.specs.declared.style.Style.TheVariants.{Plain};
+ghost use Rattle.yq_flow_scalars.specs.Scalar.{IsScalar};
+ghost use Rattle.yq_flow_scalars.specs.Writable as writable;
+ghost use Rattle.yq_flow_scalars.specs.declared.style.Style.TheVariants.{Plain};
 ghost use Rattle.yq_flow.specs.FlowValues.{SpellsEntry};
 ghost use Rattle.yq_flow.specs.Valued.{AreValueTrees, IsValid, IsValueTree, Spells};
 ghost use Rattle.yq_inline.specs.Values.{entries_of, items_of, node_of};
@@ -11,10 +11,11 @@ ghost use Rattle.yq_inline.specs.Written as spec;
 
 use std::alloc::{AllocError, Global};
 use yq_inline::Value;
-use yq_scalar::{Kind, Place, Scalar, Style, can_write, write_scalar};
+use yq_flow_scalars::{Kind, Place, Scalar, Style, can_write};
+use yq_scalar::write_scalar;
 
 /// Whether the scalar stands plain there.
-#[tactic(auto, unfolding(yq_scalar::specs::Writable::can_write_plain), using(yq_inline::proofs::WrittenLaws::other_plain))]
+#[tactic(auto, unfolding(yq_flow_scalars::specs::Writable::can_write_plain), using(yq_inline::proofs::WrittenLaws::other_plain))]
 fn is_plain(scalar: &Scalar, place: Place) -> bool
     ensures value { result ≡ writable.can_write scalar.now Plain place }
     ensures kind { IsScalar scalar.now.kind scalar.now.text }
@@ -23,7 +24,7 @@ fn is_plain(scalar: &Scalar, place: Place) -> bool
 }
 
 /// Adds a scalar, without quotes if it can be.
-#[tactic(auto, unfolding(yq_inline::specs::Written::scalar_text, yq_scalar::specs::Writable::can_write_plain))]
+#[tactic(auto, unfolding(yq_inline::specs::Written::scalar_text, yq_flow_scalars::specs::Writable::can_write_plain))]
 pub fn push_scalar(
     alloc: Global,
     out: &mut String,

@@ -2,9 +2,9 @@
 use Rattle.std.proofs.Common.{◌≡◌, ◌⊎◌, inl, inr, cond, List, [], ◌∷◌, Option, Some, None, option_map, refl, sym, ap, ◌∙◌, subst}
 use Rattle.std.proofs.lemmas.Option.{none-some, same_Some}
 use Rattle.std.specs.Prelude.{option_and_then}
-use Rattle.yq_scalar.specs.Answers.{◌>>=◌}
-use Rattle.yq_scalar.specs.Paths.{Step, node_at}
-use Rattle.yq_scalar.specs.Tree.{Node}
+use Rattle.yq_flow_scalars.specs.Answers.{◌>>=◌}
+use Rattle.yq_flow_scalars.specs.Paths.{Step, node_at}
+use Rattle.yq_flow_scalars.specs.Tree.{Node}
 use Rattle.yq_lines.specs.Outline.{Mark, Bare, Key, Dash, Outline, end, row, anchored, head_or, value}
 use Rattle.yq_lines.specs.Places.{here, FoundLine, find, in_head, inside, content}
 use Rattle.yq_lines.specs.Positions.{is_bare}

@@ -1,7 +1,7 @@
 -- A text that reads is that of its cut.
 use Rattle.std.proofs.Common.{◌≡◌, ◌<◌, ◌^◌, ℕ, List, [], ◌∷◌, length, Some, arith, sym, ap, ◌∙◌}
 use Rattle.std.specs.Str.{is_utf8}
-use Rattle.yq_scalar.proofs.Bools.{guard_then}
+use Rattle.yq_flow_scalars.proofs.Bools.{guard_then}
 use Rattle.yq_rows.specs.Grammar.{IsCut}
 use Rattle.yq_rows.specs.Rows.{Cut, cut_text}
 use Rattle.yq_documents.specs.Reading.{read_at, cut_of}

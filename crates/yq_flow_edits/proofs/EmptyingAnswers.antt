@@ -1,7 +1,7 @@
 -- A sole item or entry is removed by Replace of its collection with an empty one.
 use Rattle.std.proofs.Common.{◌≡◌, Option, Some, None, option_map, refl}
-use Rattle.yq_scalar.specs.Answers.{◌>>=◌}
-use Rattle.yq_scalar.specs.Tree.{Node}
+use Rattle.yq_flow_scalars.specs.Answers.{◌>>=◌}
+use Rattle.yq_flow_scalars.specs.Tree.{Node}
 use Rattle.yq_places.specs.NodesAt.{node_in}
 use Rattle.yq_edits.specs.Edits.{emptied, replaced}
 use Rattle.yq_flow_edits.specs.Emptying.{Emptied, SoleByEmptying}

@@ -4,11 +4,11 @@ use Rattle.std.proofs.lemmas.Bool.{cond_both, false≢true}
 use Rattle.std.proofs.lemmas.Option.{none-some, same_Some}
 use Rattle.std.specs.Prelude.{is_some}
 use Rattle.std.specs.Str.{IsCharBoundary}
-use Rattle.yq_scalar.specs.Characters.{text_limit}
-use Rattle.yq_scalar.specs.Keys.{depth, keys_of}
-use Rattle.yq_scalar.specs.Paths.{Step, append_child, node_at}
-use Rattle.yq_scalar.specs.Tree as tree
-use Rattle.yq_scalar.specs.Tree.{children_of}
+use Rattle.yq_flow_scalars.specs.Characters.{text_limit}
+use Rattle.yq_flow_scalars.specs.Keys.{depth, keys_of}
+use Rattle.yq_flow_scalars.specs.Paths.{Step, append_child, node_at}
+use Rattle.yq_flow_scalars.specs.Tree as tree
+use Rattle.yq_flow_scalars.specs.Tree.{children_of}
 use Rattle.yq_inline.specs.Collections.{CollAt, CollPieces, IsCollAt, room_in}
 use Rattle.yq_flow.specs.FlowEdits.{FlowEdit, add_item, appending, behind_appended, is_none}
 use Rattle.yq_inline.specs.Nodes.{Key, Node, Items, none, item, node_text}

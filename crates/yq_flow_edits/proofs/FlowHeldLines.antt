@@ -5,9 +5,9 @@ use Rattle.std.proofs.lemmas.Option.{none-some, same_Some}
 use mathlib.Core.List.{head-eq_of_cons-eq}
 use Rattle.std.specs.List.{slice_get}
 use Rattle.std.specs.Prelude.{is_some, option_and_then}
-use Rattle.yq_scalar.specs.Answers.{◌>>=◌}
-use Rattle.yq_scalar.specs.Paths.{Step, node_at}
-use Rattle.yq_scalar.specs.Tree as tree
+use Rattle.yq_flow_scalars.specs.Answers.{◌>>=◌}
+use Rattle.yq_flow_scalars.specs.Paths.{Step, node_at}
+use Rattle.yq_flow_scalars.specs.Tree as tree
 use Rattle.yq_inline.specs.Collections.{CollPieces}
 use Rattle.yq_inline.specs.Trees.{tree_of}
 use Rattle.yq_lines.specs.Comments.{head_comment}
@@ -134,7 +134,7 @@ head_there f (inr some) whole = go f.line.head some
 
 -- ---- the row's content is an inline node with the collection
 
-scalar_holds : (ss : List Step) (a b : Option (List ℕ)) (text : List ℕ) (x : FlowContent) → HeldAt ss (anchored a (tree.scalar b Rattle.yq_scalar.specs.declared.kind.Kind.TheVariants.Text text)) x → ⊥
+scalar_holds : (ss : List Step) (a b : Option (List ℕ)) (text : List ℕ) (x : FlowContent) → HeldAt ss (anchored a (tree.scalar b Rattle.yq_flow_scalars.specs.declared.kind.Kind.TheVariants.Text text)) x → ⊥
 scalar_holds [] a b text x h = none-some _ (ap held (same_Some _ _ h.1) ∙ h.2)
 scalar_holds (s ∷ ss) a b text x h = none-some _ h.1
 

@@ -1,7 +1,7 @@
 -- Edits of a flow collection in a part of a text, as edits of the text.
 use Rattle.std.proofs.Common.{◌≡◌, ℕ, ◌+◌, ◌-◌, ◌≤◌, Bool, true, false, cond, List, [], ◌∷◌, ◌++◌, length, Option, Some, None, option_map, refl, sym, ap, ◌∙◌, arith, append_assoc, length-append}
 use Rattle.std.specs.Option.{option_or}
-use Rattle.yq_scalar.specs.Paths.{Step, is_here, further}
+use Rattle.yq_flow_scalars.specs.Paths.{Step, is_here, further}
 use Rattle.yq_inline.specs.Alike.{fresh}
 use Rattle.yq_inline.specs.Collections.{CollPieces}
 use Rattle.yq_inline.specs.Entries.{EntryPieces, item_at}

@@ -5,8 +5,8 @@ use Rattle.std.proofs.lemmas.Bool.{false≢true, and_from, and_parts}
 use Rattle.std.proofs.lemmas.Str.{IsUtf8-drop, IsUtf8-take, IsUtf8-nil, IsUtf8-from_ascii}
 use Rattle.std.proofs.lemmas.Str.Ascii.{IsAscii-cons, IsAscii-nil}
 use Rattle.std.specs.Str.{chars, IsUtf8, IsCharBoundary}
-use Rattle.yq_scalar.specs.Characters.{pairs_returns}
-use Rattle.yq_scalar.specs.Text.{front, is_feed, is_return}
+use Rattle.yq_flow_scalars.specs.Characters.{pairs_returns}
+use Rattle.yq_flow_scalars.specs.Text.{front, is_feed, is_return}
 use Rattle.yq_flow.specs.FlowEdits.{FlowEdit}
 use Rattle.yq_flow.proofs.ReturnLaws.{Whole}
 use Rattle.yq_rows.proofs.CharacterLaws.{all_text, all_join, pairs_back}

@@ -3,12 +3,12 @@ use Rattle.std.proofs.Common.{◌≡◌, ℕ, ◌-◌, ◌≤◌, Bool, true, fa
 use Rattle.std.proofs.lemmas.Bool.{cond_both}
 use Rattle.std.proofs.lemmas.Option.{none-some}
 use Rattle.std.specs.Str.{IsCharBoundary}
-use Rattle.yq_scalar.specs.Characters.{text_limit}
-use Rattle.yq_scalar.specs.Keys.{depth}
-use Rattle.yq_scalar.specs.Paths.{Step, change, change_child, is_here, further, within}
-use Rattle.yq_scalar.specs.Scalar.{ScalarText}
-use Rattle.yq_scalar.specs.Tree as tree
-use Rattle.yq_scalar.specs.declared.style.Place.TheVariants.{Flow}
+use Rattle.yq_flow_scalars.specs.Characters.{text_limit}
+use Rattle.yq_flow_scalars.specs.Keys.{depth}
+use Rattle.yq_flow_scalars.specs.Paths.{Step, change, change_child, is_here, further, within}
+use Rattle.yq_flow_scalars.specs.Scalar.{ScalarText}
+use Rattle.yq_flow_scalars.specs.Tree as tree
+use Rattle.yq_flow_scalars.specs.declared.style.Place.TheVariants.{Flow}
 use Rattle.yq_inline.specs.Collections.{CollAt, IsCollAt, item_in, room_in}
 use Rattle.yq_inline.specs.Entries.{EntryPieces}
 use Rattle.yq_flow.specs.FlowEdits.{FlowEdit, IsFlowEdited, anchor_in, content_node, put_content, put_item, put_value, replacing, space_for, spaced_key}
@@ -63,7 +63,7 @@ use Rattle.yq_edits.proofs.ValueNodes.{flow_piece, scalar_is}
 
 -- ---- what is written of a value
 
-abbrev style_there : List ℕ → ScalarText → Rattle.yq_scalar.specs.declared.style.Style.Style
+abbrev style_there : List ℕ → ScalarText → Rattle.yq_flow_scalars.specs.declared.style.Style.Style
 style_there old s = style_in Flow s (style_of old)
 
 value_edited : (x : CollAt) (s : Step) (y : EntryPieces) (old : List ℕ) (v : tree.Node) → IsCollAt x → item_in s x ≡ Some y → IsValueTree v → depth v ≤ room_in x →

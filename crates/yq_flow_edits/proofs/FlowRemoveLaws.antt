@@ -2,8 +2,8 @@
 use Rattle.std.proofs.Common.{arith, ◌≡◌, true, ℕ, ◌-◌, ◌≤◌, List, ◌++◌, length, Some, option_map, sym, ap, ◌∙◌, subst}
 use Rattle.std.proofs.lemmas.Option.{same_Some}
 use Rattle.std.specs.Str.{IsCharBoundary}
-use Rattle.yq_scalar.specs.Characters.{pairs_returns, text_limit}
-use Rattle.yq_scalar.specs.Paths.{Step, change, remove_child, within}
+use Rattle.yq_flow_scalars.specs.Characters.{pairs_returns, text_limit}
+use Rattle.yq_flow_scalars.specs.Paths.{Step, change, remove_child, within}
 use Rattle.yq_inline.specs.Collections.{CollAt, CollPieces, IsCollAt}
 use Rattle.yq_flow.specs.FlowEdits.{FlowEdit, IsFlowEdited}
 use Rattle.yq_flow.specs.FlowPlaces.{place_edit}
@@ -76,7 +76,7 @@ module _ (c : Cut) (doc : ℕ) (path init : List Step) (s : Step) (w : CollPiece
       let old = standing.old c doc init w read found in
       let known = document_known (cut_text c) c doc at.part old in
       let root : fits.0.root ≡ root_of at.part = ap (λ (d : Document). d.root) (same_Some _ _ (sym fits.1 ∙ nth_map doc at.part reading.document_of (document_parts c) at.there)) in
-      let n = subst (λ r. (n : Rattle.yq_scalar.specs.Tree.Node) × (Rattle.yq_scalar.specs.Paths.node_at path r ≡ Some n) × (Rattle.yq_meaning.specs.Changes.is_used_in (Rattle.yq_scalar.specs.Anchors.names_of r) (Some n) ≡ Rattle.std.proofs.Common.false)) root fits.2.1 in
+      let n = subst (λ r. (n : Rattle.yq_flow_scalars.specs.Tree.Node) × (Rattle.yq_flow_scalars.specs.Paths.node_at path r ≡ Some n) × (Rattle.yq_meaning.specs.Changes.is_used_in (Rattle.yq_flow_scalars.specs.Anchors.names_of r) (Some n) ≡ Rattle.std.proofs.Common.false)) root fits.2.1 in
       let sound : IsSoundRoot (root_of at.part) = record { unique = known.document.unique; nested = known.document.nested; bound = known.document.bound } in
       let whole = removed_whole x s e stands gone row_text.before texts.before pairs (sym row_text.old ∙ texts.old) in
       let parts = edit_pieces (cut_text c) texts.before e (standing.piece c doc init w read found) texts.old bounds.0 bounds.1 whole in

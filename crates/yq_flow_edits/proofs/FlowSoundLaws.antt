@@ -3,9 +3,9 @@ use Rattle.std.proofs.Common.{◌≡◌, inl, inr, ℕ, false, List, [], ◌∷�
 use Rattle.std.proofs.lemmas.Bool.{or_parts}
 use Rattle.std.proofs.lemmas.Option.{none-some, same_Some}
 use Rattle.std.specs.List.{list_any}
-use Rattle.yq_scalar.specs.Paths.{Step, change, child_at, node_at, remove_child, within}
-use Rattle.yq_scalar.specs.Tree.{Node, children_of}
-use Rattle.yq_scalar.specs.Anchors.{Name, Anchors, Refers, IsAmong, names_of}
+use Rattle.yq_flow_scalars.specs.Paths.{Step, change, child_at, node_at, remove_child, within}
+use Rattle.yq_flow_scalars.specs.Tree.{Node, children_of}
+use Rattle.yq_flow_scalars.specs.Anchors.{Name, Anchors, Refers, IsAmong, names_of}
 use Rattle.yq_documents.specs.TreeEdits.{at_end}
 use Rattle.yq_places.specs.Standings.{last_step}
 use Rattle.yq_change.specs.Conditions.{AreSpared, anchors_in, aliases_in}

@@ -1,8 +1,8 @@
 -- Where something is written in a flow collection, no CR stands before an LF.
 use Rattle.std.proofs.Common.{◌≡◌, ℕ, Bool, true, false, not, ◌&&◌, cond, eqb, List, [], ◌∷◌, ◌++◌, Some, refl, sym, ap, ◌∙◌, subst, append_assoc}
 use Rattle.std.proofs.lemmas.Bool.{false≢true}
-use Rattle.yq_scalar.specs.Paths.{Step}
-use Rattle.yq_scalar.specs.Text.{front, is_feed}
+use Rattle.yq_flow_scalars.specs.Paths.{Step}
+use Rattle.yq_flow_scalars.specs.Text.{front, is_feed}
 use Rattle.yq_inline.specs.Collections.{CollAt, IsCollAt, item_in}
 use Rattle.yq_inline.specs.Entries.{EntryPieces, pieces_text}
 use Rattle.yq_flow.specs.FlowEdits.{behind_appended, behind_last, content_node}

@@ -4,9 +4,9 @@ use Rattle.std.proofs.Math.Seq.{take-append_seam, drop-append_seam}
 use Rattle.std.proofs.lemmas.Option.{none-some, same_Some}
 use Rattle.std.specs.Prelude.{option_and_then, String, string_bytes}
 use Rattle.std.specs.declared.alloc.Global.{Global}
-use Rattle.yq_scalar.specs.Paths.{Step}
-use Rattle.yq_scalar.specs.Tree as tree
-use Rattle.yq_scalar.specs.declared.style.Place.TheVariants.{Flow as InFlow}
+use Rattle.yq_flow_scalars.specs.Paths.{Step}
+use Rattle.yq_flow_scalars.specs.Tree as tree
+use Rattle.yq_flow_scalars.specs.declared.style.Place.TheVariants.{Flow as InFlow}
 use Rattle.yq_inline.specs.Collections.{CollPieces}
 use Rattle.yq_inline.specs.Entries.{EntryPieces, PlacedEntry, entry_pieces_at, item_at, locate_entry, part_at, parts_of, placed_entry_at}
 use Rattle.yq_flow.specs.FlowEdits.{FlowEdit, replacing}

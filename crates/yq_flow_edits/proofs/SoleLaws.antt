@@ -3,16 +3,16 @@ use Rattle.std.proofs.Common.{◌≡◌, ℕ, zero, suc, ◌+◌, ◌≤◌, con
 use Rattle.std.proofs.lemmas.Bool.{le-ltb, ltb-false}
 use Rattle.std.proofs.lemmas.Option.{none-some, same_Some}
 use Rattle.std.specs.List.{list_any, slice_get}
-use Rattle.yq_scalar.specs.Answers.{◌>>=◌}
-use Rattle.yq_scalar.specs.Keys.{depth}
-use Rattle.yq_scalar.specs.Paths.{Step, change, change_child, child_at, further, is_here, node_at, remove_child, within}
-use Rattle.yq_scalar.specs.Shapes.{IsTree}
-use Rattle.yq_scalar.specs.Tree as tree
-use Rattle.yq_scalar.specs.Tree.{Label, Node, Children, none, child, children_of}
-use Rattle.yq_scalar.proofs.Bools.{bind_some}
+use Rattle.yq_flow_scalars.specs.Answers.{◌>>=◌}
+use Rattle.yq_flow_scalars.specs.Keys.{depth}
+use Rattle.yq_flow_scalars.specs.Paths.{Step, change, change_child, child_at, further, is_here, node_at, remove_child, within}
+use Rattle.yq_flow_scalars.specs.Shapes.{IsTree}
+use Rattle.yq_flow_scalars.specs.Tree as tree
+use Rattle.yq_flow_scalars.specs.Tree.{Label, Node, Children, none, child, children_of}
+use Rattle.yq_flow_scalars.proofs.Bools.{bind_some}
 use Rattle.yq_inline.specs.Inline.{depth_limit}
 use Rattle.yq_flow.specs.Valued.{IsValueTree}
-use Rattle.yq_scalar.specs.Anchors.{Name, names_in, names_of}
+use Rattle.yq_flow_scalars.specs.Anchors.{Name, names_in, names_of}
 use Rattle.yq_lines.specs.Counts.{count}
 use Rattle.yq_rows.specs.Rows.{Cut, cut_text}
 use Rattle.yq_documents.specs.Documents.{Document}

@@ -1,9 +1,9 @@
 -- Where flow collections of a text are edited, by places in bytes (YAML 1.2.2, 7.4; own).
 use Rattle.std.specs.Prelude.{ℕ, ◌+◌, ◌≤◌, ◌<◌, ◌^◌, List, [], ◌∷◌, drop, length, take, Option, is_some, Bool, false, not}
 use Rattle.std.specs.Str.{IsCharBoundary}
-use Rattle.yq_scalar.specs.Answers.{◌>>=◌}
-use Rattle.yq_scalar.specs.Paths.{Step}
-use Rattle.yq_scalar.specs.Tree.{Node}
+use Rattle.yq_flow_scalars.specs.Answers.{◌>>=◌}
+use Rattle.yq_flow_scalars.specs.Paths.{Step}
+use Rattle.yq_flow_scalars.specs.Tree.{Node}
 use Rattle.yq_inline.specs.Places.{Content, nothing, name, text, sequence, mapping, Placed, placed}
 use Rattle.yq_flow.specs.FlowPlaces.{PlacedEdit}
 use Rattle.yq_rows.specs.Rows.{Cut, cut_text}

@@ -1,8 +1,8 @@
 -- A sole item or entry removed: an empty collection is put in the place of its own (YAML 1.2.2, 7.4 and 8.2; own).
 use Rattle.std.specs.Prelude.{◌≡◌, ℕ, List, Option, Some, None, option_map}
-use Rattle.yq_scalar.specs.Answers.{◌>>=◌}
-use Rattle.yq_scalar.specs.Paths.{Step}
-use Rattle.yq_scalar.specs.Tree.{Node, list, map, none}
+use Rattle.yq_flow_scalars.specs.Answers.{◌>>=◌}
+use Rattle.yq_flow_scalars.specs.Paths.{Step}
+use Rattle.yq_flow_scalars.specs.Tree.{Node, list, map, none}
 use Rattle.yq_inline.specs.Values.{node_of}
 use Rattle.yq_rows.specs.Rows.{Cut}
 use Rattle.yq_documents.specs.Located.{steps_of}

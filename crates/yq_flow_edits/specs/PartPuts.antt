@@ -1,8 +1,8 @@
 -- Values put in the place of contents in a flow collection, whose row's head was read once (YAML 1.2.2, 7.4; own).
 use Rattle.std.specs.Prelude.{◌≡◌, ℕ, List, [], ◌∷◌, ◌++◌, length, Option, Some, None, option_map, Bool, true, false, if◌then◌else◌, String, string_bytes}
 use Rattle.std.specs.declared.alloc.Global.{Global}
-use Rattle.yq_scalar.specs.Paths.{Step}
-use Rattle.yq_scalar.specs.Tree.{Node}
+use Rattle.yq_flow_scalars.specs.Paths.{Step}
+use Rattle.yq_flow_scalars.specs.Tree.{Node}
 use Rattle.yq_flow.specs.FlowEdits.{FlowEdit, replacing}
 use Rattle.yq_flow.specs.FlowPlaces.{edit_view, place_edit}
 use Rattle.yq_flow.specs.declared.flow_place.EditPlace.{EditPlace}

@@ -1,7 +1,7 @@
 //! Why a command is refused.
 
 use thiserror::Error;
-use yq_scalar::{FaultKind, ReadFault};
+use yq_flow_scalars::{FaultKind, ReadFault};
 use yq_words::UsageCause;
 
 /// Why a command is refused. Its text is the line that the program prints.

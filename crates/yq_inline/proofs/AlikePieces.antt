@@ -1,8 +1,8 @@
 -- A piece of a node before one text is one before a text that is alike.
 use Rattle.std.proofs.Common.{◌≡◌, ◌⊎◌, inl, inr, ℕ, Bool, true, false, eqb, List, [], ◌∷◌, ◌++◌, Option, Some, None, refl, sym, ap, ◌∙◌, not, ◌&&◌, ◌||◌}
 use Rattle.std.proofs.Math.Bool.{and-false}
-use Rattle.yq_scalar.specs.Quoted.{Char, itself, doubled, escape, code, spell_chars, IsChar, AreChars, Lines, last, line, spell_end, spell_lines, AreLines, IsQuoted}
-use Rattle.yq_scalar.specs.Text.{NoneIn, front, unless, is_break}
+use Rattle.yq_flow_scalars.specs.Quoted.{Char, itself, doubled, escape, code, spell_chars, IsChar, AreChars, Lines, last, line, spell_end, spell_lines, AreLines, IsQuoted}
+use Rattle.yq_flow_scalars.specs.Text.{NoneIn, front, unless, is_break}
 use Rattle.yq_inline.specs.declared.gap.Before.{Before}
 use Rattle.yq_inline.specs.declared.gap.Before.TheVariants.{Token, White, Break, Comment}
 use Rattle.yq_inline.specs.Gaps.{goes, next, behind, is_break as at_break, AllGo, stops, IsInlineGap}

@@ -4,10 +4,10 @@ use Rattle.std.proofs.lemmas.Bool.{false≢true, cond_both, or_cases, cases_lt, 
 use Rattle.std.proofs.lemmas.Str.{IsCharBoundary-start, IsCharBoundary-end, IsCharBoundary-after_ascii}
 use Rattle.std.specs.List.{prefix_len}
 use Rattle.std.specs.Str.{IsUtf8, IsCharBoundary}
-use Rattle.yq_scalar.specs.Quoted.{IsQuotedText}
-use Rattle.yq_scalar.specs.Text.{unless, is_space}
-use Rattle.yq_scalar.proofs.Boundaries.{boundary_ends, space_ascii}
-use Rattle.yq_scalar.proofs.Upto.{upto_unless}
+use Rattle.yq_flow_scalars.specs.Quoted.{IsQuotedText}
+use Rattle.yq_flow_scalars.specs.Text.{unless, is_space}
+use Rattle.yq_flow_scalars.proofs.Boundaries.{boundary_ends, space_ascii}
+use Rattle.yq_flow_scalars.proofs.Upto.{upto_unless}
 use Rattle.yq_inline.specs.declared.gap.Before.{Before}
 use Rattle.yq_inline.specs.declared.gap.Before.TheVariants.{Token, White, Break, Comment}
 use Rattle.yq_inline.specs.Gaps.{goes, next, is_comment}

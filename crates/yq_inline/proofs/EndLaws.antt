@@ -3,9 +3,9 @@ use Rattle.std.proofs.Common.{◌≡◌, ◌⊎◌, inl, inr, ⊎_elim, ℕ, Boo
 use Rattle.std.proofs.lemmas.Bool.{false≢true, or_cases, or_right, not-false, not-true, false_from_ne_true, and_from, le-leb, and_parts, cases_Bool}
 use Rattle.std.proofs.lemmas.Option.{cond_some}
 use Rattle.std.specs.Option.{option_or}
-use Rattle.yq_scalar.specs.Plain.{begins_plain, ends_plain, ends_text, is_flow_indicator, is_safe, no_gap, last_line, may_follow, follows, IsPlain}
-use Rattle.yq_scalar.specs.Text.{upto, cut, NoneIn, front, unless, is_empty, is_white, is_feed, is_return, is_break, is_space, is_marker}
-use Rattle.yq_scalar.proofs.Bools.{at_byte}
+use Rattle.yq_flow_scalars.specs.Plain.{begins_plain, ends_plain, ends_text, is_flow_indicator, is_safe, no_gap, last_line, may_follow, follows, IsPlain}
+use Rattle.yq_flow_scalars.specs.Text.{upto, cut, NoneIn, front, unless, is_empty, is_white, is_feed, is_return, is_break, is_space, is_marker}
+use Rattle.yq_flow_scalars.proofs.Bools.{at_byte}
 use Rattle.yq_inline.specs.declared.gap.Before.{Before}
 use Rattle.yq_inline.specs.declared.gap.Before.TheVariants.{Token, White, Break, Comment}
 use Rattle.yq_inline.specs.Alike.{EndsItem, fresh, KeepsApart}

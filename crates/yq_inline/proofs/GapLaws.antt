@@ -4,7 +4,7 @@ use Rattle.std.proofs.lemmas.Bool.{cond_both, not-true}
 use Rattle.std.proofs.lemmas.List.{take-append-drop}
 use Rattle.std.proofs.Math.Seq.{take-append_seam, drop-append_seam}
 use Rattle.std.proofs.lemmas.Option.{same_Some}
-use Rattle.yq_scalar.specs.Text.{is_marker}
+use Rattle.yq_flow_scalars.specs.Text.{is_marker}
 use Rattle.yq_inline.specs.declared.gap.Before.{Before}
 use Rattle.yq_inline.specs.declared.gap.Before.TheVariants.{Token}
 use Rattle.yq_inline.specs.Gaps.{goes, next, behind, is_break, AllGo, stops, IsInlineGap}

@@ -1,12 +1,12 @@
 -- The inline node at an offset, read and spelled.
 use Rattle.std.proofs.Common.{◌≡◌, ℕ, ◌-◌, true, not, List, length, drop, Some, sym, ap, ◌∙◌, subst, ℤ, Result, Ok, Err, IfOk}
 use Rattle.std.proofs.lemmas.Option.{cond_some, same_Some}
-use Rattle.yq_scalar.specs.declared.fault.ReadError.{ReadError}
-use Rattle.yq_scalar.specs.declared.style.Place.{Place}
-use Rattle.yq_scalar.specs.Answers.{◌>>=◌, Gives}
-use Rattle.yq_scalar.specs.Piece.{further_spaces}
-use Rattle.yq_scalar.specs.Writable.{in_flow}
-use Rattle.yq_scalar.proofs.Bools.{bind_some}
+use Rattle.yq_flow_scalars.specs.declared.fault.ReadError.{ReadError}
+use Rattle.yq_flow_scalars.specs.declared.style.Place.{Place}
+use Rattle.yq_flow_scalars.specs.Answers.{◌>>=◌, Gives}
+use Rattle.yq_flow_scalars.specs.Piece.{further_spaces}
+use Rattle.yq_flow_scalars.specs.Writable.{in_flow}
+use Rattle.yq_flow_scalars.proofs.Bools.{bind_some}
 use Rattle.yq_inline.specs.Inline.{depth_limit, IsInlineAt, inline_at, if_something}
 use Rattle.yq_inline.specs.Nodes.{Node, is_bare}
 use Rattle.yq_inline.specs.Places.{Placed, locate, bare_placed}

@@ -1,10 +1,10 @@
 -- What stands behind an anchor or a `:`, and keys, before another text.
 use Rattle.std.proofs.Common.{◌≡◌, inl, inr, ℕ, Bool, true, false, ◌||◌, eqb, List, [], ◌∷◌, ◌++◌, Some, None, refl, sym, ◌∙◌, subst, eqb-true}
 use Rattle.std.proofs.lemmas.Bool.{false≢true, or_right, false_from_ne_true, cases_Bool}
-use Rattle.yq_scalar.specs.Plain.{begins_plain, is_safe}
-use Rattle.yq_scalar.specs.QuotedReading.{is_quote}
-use Rattle.yq_scalar.specs.Text.{front, is_space, separates}
-use Rattle.yq_scalar.proofs.Bools.{at_byte}
+use Rattle.yq_flow_scalars.specs.Plain.{begins_plain, is_safe}
+use Rattle.yq_flow_scalars.specs.QuotedReading.{is_quote}
+use Rattle.yq_flow_scalars.specs.Text.{front, is_space, separates}
+use Rattle.yq_flow_scalars.proofs.Bools.{at_byte}
 use Rattle.yq_inline.specs.Alike.{Alike, colon, any_colon, EndsItem, fresh, KeepsApart}
 use Rattle.yq_inline.specs.Gaps.{IsInlineGap}
 use Rattle.yq_inline.specs.Nodes.{Key, bare, keyed, Node, key_text, node_text, first_is, begins_node, is_close, IsLead, IsInlineKey, is_bare, IsNode}

@@ -1,8 +1,8 @@
 -- A node outside flow collections before one text is one before a text that is alike.
 use Rattle.std.proofs.Common.{◌≡◌, inl, inr, ℕ, zero, suc, true, false, not, List, [], ◌∷◌, ◌++◌, Option, Some, refl, sym, ap, ◌∙◌, subst}
 use Rattle.std.proofs.lemmas.Bool.{false≢true, not-false, or_parts}
-use Rattle.yq_scalar.specs.Text.{is_white, is_break, no_white}
-use Rattle.yq_scalar.proofs.Bools.{at_byte}
+use Rattle.yq_flow_scalars.specs.Text.{is_white, is_break, no_white}
+use Rattle.yq_flow_scalars.proofs.Bools.{at_byte}
 use Rattle.yq_inline.specs.Alike.{is_stop, Alike, stop, colon, byte, after}
 use Rattle.yq_inline.specs.Nodes.{Node, empty, alias, scalar, coll, anchored, node_text, items_text, begins_content, IsApart, IsLead, IsNode}
 use Rattle.yq_inline.proofs.Alikes.{alike_append, alike_unless, alike_first, alike_content, alike_none}

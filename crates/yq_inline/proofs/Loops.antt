@@ -2,9 +2,9 @@
 use Rattle.std.proofs.Common.{◌≡◌, ℕ, ◌<◌, true, false, List, [], ◌∷◌, ◌++◌, length, Option, Some, None, refl, sym, ap, ◌∙◌, arith, String, string_bytes}
 use Rattle.std.proofs.lemmas.Option.{same_Some}
 use Rattle.std.specs.declared.alloc.Global.{Global}
-use Rattle.yq_scalar.specs.declared.piece.Piece.{Piece}
-use Rattle.yq_scalar.specs.Answers.{◌>>=◌}
-use Rattle.yq_scalar.proofs.Bools.{bind_some}
+use Rattle.yq_flow_scalars.specs.declared.piece.Piece.{Piece}
+use Rattle.yq_flow_scalars.specs.Answers.{◌>>=◌}
+use Rattle.yq_flow_scalars.proofs.Bools.{bind_some}
 use Rattle.yq_inline.specs.declared.inline.Inline.{Inline}
 use Rattle.yq_inline.specs.Nodes.{first_is, bare, is_bare, node_text}
 use Rattle.yq_inline.specs.Places.{Placed, Parts, part, locate, bare_placed}

@@ -1,9 +1,9 @@
 -- The parts of an inline node lie inside it, one behind the other.
 use Rattle.std.proofs.Common.{ℕ, suc, ◌+◌, ◌-◌, ◌≤◌, true, false, eqb, cond, List, ◌∷◌, ◌++◌, length, refl, sym, ap, subst, arith, length-append, ℤ, Result, Ok, Err, IfOk}
 use Rattle.std.proofs.lemmas.List.{length-drop}
-use Rattle.yq_scalar.specs.declared.fault.ReadError.{ReadError}
-use Rattle.yq_scalar.specs.declared.style.Place.{Place}
-use Rattle.yq_scalar.specs.Answers.{Gives}
+use Rattle.yq_flow_scalars.specs.declared.fault.ReadError.{ReadError}
+use Rattle.yq_flow_scalars.specs.declared.style.Place.{Place}
+use Rattle.yq_flow_scalars.specs.Answers.{Gives}
 use Rattle.yq_inline.specs.Entries.{EntryPieces, end_of}
 use Rattle.yq_inline.specs.Inline.{IsInlineAt, inline_at}
 use Rattle.yq_inline.specs.Nodes.{Key, bare, keyed, Node, empty, alias, scalar, coll, anchored, Items, none, item, key_text, sep_text, node_text, items_text}

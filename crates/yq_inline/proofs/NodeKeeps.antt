@@ -1,8 +1,8 @@
 -- A node of a flow collection before what stands behind an item is one before another such text, if its bytes keep apart from that.
 use Rattle.std.proofs.Common.{◌≡◌, inl, inr, ⊎_elim, ℕ, zero, suc, drop, eq-eqb, Bool, true, false, not, ◌||◌, eqb, List, [], ◌∷◌, ◌++◌, Option, Some, refl, sym, ap, ◌∙◌, subst, eqb-true, append-nil}
 use Rattle.std.proofs.lemmas.Bool.{or_cases, or_right, not-false, cases_Bool, or_parts}
-use Rattle.yq_scalar.specs.Text.{NoneIn, unless, is_empty, is_feed}
-use Rattle.yq_scalar.proofs.Bools.{at_byte}
+use Rattle.yq_flow_scalars.specs.Text.{NoneIn, unless, is_empty, is_feed}
+use Rattle.yq_flow_scalars.proofs.Bools.{at_byte}
 use Rattle.yq_inline.specs.Alike.{Alike, stop, after, EndsItem, fresh, KeepsApart}
 use Rattle.yq_inline.specs.Gaps.{IsInlineGap}
 use Rattle.yq_inline.specs.Nodes.{Key, bare, keyed, Sep, last, comma, Node, empty, alias, scalar, coll, anchored, Items, none, item, key_text, sep_text, node_text, items_text, first_is, in_name, begins_content, is_close, IsLead, IsName, IsSep, is_bare, takes_anchor, IsNode, AreItems}

@@ -1,9 +1,9 @@
 -- How many steps are allowed makes no difference.
 use Rattle.std.proofs.Common.{◌≡◌, ℕ, zero, suc, ◌≤◌, ◌<◌, Bool, true, false, cond, not, ◌&&◌, ◌||◌, eqb, List, [], ◌∷◌, ◌++◌, length, drop, Option, Some, None, refl, sym, ap, ◌∙◌, arith, length-append}
 use Rattle.std.proofs.lemmas.Option.{same_Some}
-use Rattle.yq_scalar.specs.Text.{is_empty}
-use Rattle.yq_scalar.specs.Answers.{◌>>=◌}
-use Rattle.yq_scalar.proofs.Bools.{guard_then}
+use Rattle.yq_flow_scalars.specs.Text.{is_empty}
+use Rattle.yq_flow_scalars.specs.Answers.{◌>>=◌}
+use Rattle.yq_flow_scalars.proofs.Bools.{guard_then}
 use Rattle.yq_inline.specs.Nodes.{first_is, key_text, Key, Sep, Node, empty, alias, scalar, coll, anchored, Items, none, item, node_text, begins_content, is_keyed, is_bare, takes_anchor, IsNode}
 use Rattle.yq_inline.specs.Reading.{gap_at, scalar_at, name_at, lead_at, sep_at, Kids, coll_at, content_at, node_at, deeper, items_at, all_items, kids_of, all_node}
 use Rattle.yq_inline.proofs.Binds.{bind_same}

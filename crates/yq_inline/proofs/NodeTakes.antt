@@ -2,8 +2,8 @@
 use Rattle.std.proofs.Common.{◌≡◌, ℕ, zero, suc, Bool, true, false, cond, not, ◌&&◌, ◌||◌, eqb, List, [], ◌∷◌, ◌++◌, drop, Option, Some, None, refl, ap, ◌∙◌, subst, inl, inr, ◌⊎◌, ⊎_elim, eqb-true}
 use Rattle.std.proofs.lemmas.Bool.{false≢true, and_parts}
 use Rattle.std.proofs.lemmas.Option.{cond_some, same_Some}
-use Rattle.yq_scalar.specs.Text.{unless, is_empty}
-use Rattle.yq_scalar.proofs.Bools.{bind_some, chosen, guard_then}
+use Rattle.yq_flow_scalars.specs.Text.{unless, is_empty}
+use Rattle.yq_flow_scalars.proofs.Bools.{bind_some, chosen, guard_then}
 use Rattle.yq_inline.specs.Gaps.{IsInlineGap}
 use Rattle.yq_inline.specs.Nodes.{first_is, in_name, open_of, is_close, Key, bare, Node, Items, key_text, sep_text, node_text, items_text, begins_content, IsLead, IsName, IsInlineKey, IsSep, is_keyed, is_bare, takes_anchor, Deeper, IsNode, AreItems}
 use Rattle.yq_inline.specs.Reading.{gap_at, scalar_at, name_at, lead_at, key_at, sep_at, Kids, coll_at, content_at, node_at, deeper, items_at}

@@ -4,12 +4,12 @@ use Rattle.std.proofs.Math.Seq.{drop-append_seam, get_or-append_seam}
 use Rattle.std.proofs.lemmas.Bool.{cond_both, or_cases}
 use Rattle.std.proofs.lemmas.Str.{IsUtf8-drop, IsCharBoundary-after_ascii}
 use Rattle.std.specs.Str.{IsUtf8, IsCharBoundary}
-use Rattle.yq_scalar.specs.Plain.{IsPlain, ends_plain}
-use Rattle.yq_scalar.specs.Quoted.{spell_lines}
-use Rattle.yq_scalar.specs.Text.{unless, is_white, no_white}
-use Rattle.yq_scalar.proofs.Boundaries.{boundary_unless, white_ascii}
-use Rattle.yq_scalar.proofs.PlainLaws.{boundary_plain}
-use Rattle.yq_scalar.proofs.Upto.{upto-append, upto_unless}
+use Rattle.yq_flow_scalars.specs.Plain.{IsPlain, ends_plain}
+use Rattle.yq_flow_scalars.specs.Quoted.{spell_lines}
+use Rattle.yq_flow_scalars.specs.Text.{unless, is_white, no_white}
+use Rattle.yq_flow_scalars.proofs.Boundaries.{boundary_unless, white_ascii}
+use Rattle.yq_flow_scalars.proofs.PlainLaws.{boundary_plain}
+use Rattle.yq_flow_scalars.proofs.Upto.{upto-append, upto_unless}
 use Rattle.yq_inline.specs.declared.gap.Before.TheVariants.{Token}
 use Rattle.yq_inline.specs.Gaps.{IsInlineGap}
 use Rattle.yq_inline.specs.Nodes.{Key, bare, keyed, Sep, last, comma, Node, empty, alias, scalar, coll, anchored, Items, none, item, key_text, sep_text, node_text, items_text, in_name, begins_content, begins_node, is_close, open_of, IsApart, IsLead, IsName, IsInlineKey, IsSep, IsNode, AreItems}

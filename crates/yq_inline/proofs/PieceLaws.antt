@@ -3,16 +3,16 @@ use Rattle.std.proofs.Common.{◌≡◌, ℕ, ◌<◌, Bool, true, false, not, �
 use Rattle.std.proofs.Math.Bool.{and-false}
 use Rattle.std.proofs.lemmas.Bool.{false≢true, cond_both, not-true, false_from_ne_true, and_parts}
 use Rattle.std.proofs.lemmas.Option.{cond_some, same_Some}
-use Rattle.yq_scalar.specs.Answers.{◌>>=◌}
-use Rattle.yq_scalar.specs.Plain.{begins_plain, ends_plain, ends_text, is_flow_indicator, is_safe}
-use Rattle.yq_scalar.specs.Quoted.{spell_lines}
-use Rattle.yq_scalar.specs.QuotedReading.{is_quote, quoted_at}
-use Rattle.yq_scalar.specs.Text.{upto, cut, unless, is_empty, is_space, no_white}
-use Rattle.yq_scalar.proofs.Bools.{bind_some, chosen}
-use Rattle.yq_scalar.proofs.PlainLaws.{plain_takes, plain_again}
-use Rattle.yq_scalar.proofs.QuotedFound.{quoted_takes, quoted_again}
-use Rattle.yq_scalar.proofs.Upto.{upto_ends, none_in_cut, cut-append, cut_takes}
-use Rattle.yq_scalar.proofs.QuotedLaws.{of_quotes}
+use Rattle.yq_flow_scalars.specs.Answers.{◌>>=◌}
+use Rattle.yq_flow_scalars.specs.Plain.{begins_plain, ends_plain, ends_text, is_flow_indicator, is_safe}
+use Rattle.yq_flow_scalars.specs.Quoted.{spell_lines}
+use Rattle.yq_flow_scalars.specs.QuotedReading.{is_quote, quoted_at}
+use Rattle.yq_flow_scalars.specs.Text.{upto, cut, unless, is_empty, is_space, no_white}
+use Rattle.yq_flow_scalars.proofs.Bools.{bind_some, chosen}
+use Rattle.yq_flow_scalars.proofs.PlainLaws.{plain_takes, plain_again}
+use Rattle.yq_flow_scalars.proofs.QuotedFound.{quoted_takes, quoted_again}
+use Rattle.yq_flow_scalars.proofs.Upto.{upto_ends, none_in_cut, cut-append, cut_takes}
+use Rattle.yq_flow_scalars.proofs.QuotedLaws.{of_quotes}
 use Rattle.yq_inline.specs.Gaps.{IsInlineGap}
 use Rattle.yq_inline.specs.Nodes.{Key, bare, keyed, Sep, last, comma, key_text, sep_text, first_is, in_name, begins_node, IsApart, IsLead, IsName, ends_key, IsInlineKey, IsSep, is_keyed}
 use Rattle.yq_inline.specs.Reading.{gap_at, scalar_at, with_its_lines, name_at, apart_at, lead_at, colon_at, key_at, sep_at, sep_behind}

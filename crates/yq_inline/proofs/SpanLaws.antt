@@ -3,11 +3,11 @@ use Rattle.std.proofs.Common.{◌≡◌, ℕ, zero, suc, ◌+◌, ◌-◌, ◌�
 use Rattle.std.proofs.lemmas.Str.{IsCharBoundary-at_seam, IsUtf8-drop}
 use Rattle.std.proofs.lemmas.List.{take-append-drop}
 use Rattle.std.specs.Str.{IsUtf8, IsCharBoundary}
-use Rattle.yq_scalar.specs.declared.fault.ReadError.{ReadError}
-use Rattle.yq_scalar.specs.declared.style.Place.{Place}
-use Rattle.yq_scalar.specs.Answers.{Gives}
-use Rattle.yq_scalar.specs.Piece.{further_spaces}
-use Rattle.yq_scalar.specs.Writable.{in_flow}
+use Rattle.yq_flow_scalars.specs.declared.fault.ReadError.{ReadError}
+use Rattle.yq_flow_scalars.specs.declared.style.Place.{Place}
+use Rattle.yq_flow_scalars.specs.Answers.{Gives}
+use Rattle.yq_flow_scalars.specs.Piece.{further_spaces}
+use Rattle.yq_flow_scalars.specs.Writable.{in_flow}
 use Rattle.yq_inline.specs.Inline.{depth_limit, IsInlineAt, inline_at}
 use Rattle.yq_inline.specs.Nodes.{Key, bare, keyed, Sep, Node, empty, alias, scalar, coll, anchored, Items, none, item, key_text, sep_text, node_text, items_text, is_close, open_of, begins_content, IsInlineKey, IsSep, IsNode, AreItems}
 use Rattle.yq_inline.specs.Places.{Placed, placed, sequence, mapping, Parts, holder, key_placed, locate, locate_items, with_anchor}

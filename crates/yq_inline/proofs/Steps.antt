@@ -2,11 +2,11 @@
 use Rattle.std.proofs.Common.{◌≡◌, ℕ, zero, suc, ◌-◌, Bool, true, false, cond, not, ◌&&◌, ◌||◌, eqb, List, ◌∷◌, ◌++◌, length, drop, Option, Some, None, refl, sym, ap, ◌∙◌, subst, Result}
 use Rattle.std.proofs.lemmas.Bool.{false≢true}
 use Rattle.std.proofs.lemmas.Option.{same_Some}
-use Rattle.yq_scalar.specs.declared.fault.ReadError.{ReadError}
-use Rattle.yq_scalar.specs.declared.fault.ReadError.TheVariants as errors
-use Rattle.yq_scalar.specs.declared.piece.Piece.{Piece}
-use Rattle.yq_scalar.specs.Answers.{◌>>=◌, ReadFails, Gives}
-use Rattle.yq_scalar.specs.Text.{is_empty}
+use Rattle.yq_flow_scalars.specs.declared.fault.ReadError.{ReadError}
+use Rattle.yq_flow_scalars.specs.declared.fault.ReadError.TheVariants as errors
+use Rattle.yq_flow_scalars.specs.declared.piece.Piece.{Piece}
+use Rattle.yq_flow_scalars.specs.Answers.{◌>>=◌, ReadFails, Gives}
+use Rattle.yq_flow_scalars.specs.Text.{is_empty}
 use Rattle.yq_inline.specs.Nodes.{first_is, Key, bare, keyed, Node, empty, alias, scalar, coll, anchored, Items, item, key_text, sep_text, node_text, items_text, begins_content, is_keyed, is_bare, takes_anchor, IsInlineKey}
 use Rattle.yq_inline.specs.Places.{Placed, placed, mapping, sequence, Parts, end, part, key_placed, key_here, locate, locate_items, placed_between, with_anchor, bare_in, bare_placed, holder}
 use Rattle.yq_inline.specs.PlacedReading.{piece_of, content_in, placed_node, placed_items, placed_content, placed_key, past_sep, placed_item, placed_entry, takes_in, takes_placed, then_anchored}

@@ -1,6 +1,6 @@
 -- The tree of a node with its places is that of its pieces.
 use Rattle.std.proofs.Common.{◌≡◌, ℕ, true, false, cond, eqb, List, Option, Some, None, refl, sym, ap, ◌∙◌}
-use Rattle.yq_scalar.specs.Tree as tree
+use Rattle.yq_flow_scalars.specs.Tree as tree
 use Rattle.yq_inline.specs.Nodes.{Key, bare, keyed, Node, empty, alias, scalar, coll, anchored, Items, none, item, key_text, sep_text, node_text, items_text}
 use Rattle.yq_inline.specs.Places.{Placed, placed, sequence, mapping, Parts, holder, key_placed, locate, locate_items, with_anchor}
 use Rattle.yq_inline.specs.Trees.{inner, collection, with_name, named, key_content, tree_of, items_tree, unplaced_key, placed_tree, content_tree, parts_tree}

@@ -6,15 +6,15 @@ use Rattle.yq_inline.specs.declared.value.Value.{Value}
 use Rattle.yq_inline.specs.declared.value.Value.TheVariants as values
 use Rattle.yq_inline.specs.declared.value.Value.TheFolds.{the_lemmas}
 use Rattle.std.proofs.lemmas.Bool.{false≢true}
-use Rattle.yq_scalar.specs.declared.kind.Kind.{Kind}
-use Rattle.yq_scalar.specs.declared.kind.Kind.TheVariants as kinds
-use Rattle.yq_scalar.specs.declared.style.Place.{Place}
-use Rattle.yq_scalar.specs.declared.style.Style.TheVariants as styles
-use Rattle.yq_scalar.specs.PlainText.{is_plain_text}
-use Rattle.yq_scalar.specs.Scalar.{ScalarText}
-use Rattle.yq_scalar.specs.SchemaReading.{resolve}
-use Rattle.yq_scalar.specs.Tree as tree
-use Rattle.yq_scalar.specs.Writable.{can_write, can_write_plain, in_flow, is_string}
+use Rattle.yq_flow_scalars.specs.declared.kind.Kind.{Kind}
+use Rattle.yq_flow_scalars.specs.declared.kind.Kind.TheVariants as kinds
+use Rattle.yq_flow_scalars.specs.declared.style.Place.{Place}
+use Rattle.yq_flow_scalars.specs.declared.style.Style.TheVariants as styles
+use Rattle.yq_flow_scalars.specs.PlainText.{is_plain_text}
+use Rattle.yq_flow_scalars.specs.Scalar.{ScalarText}
+use Rattle.yq_flow_scalars.specs.SchemaReading.{resolve}
+use Rattle.yq_flow_scalars.specs.Tree as tree
+use Rattle.yq_flow_scalars.specs.Writable.{can_write, can_write_plain, in_flow, is_string}
 use Rattle.yq_inline.specs.Nodes.{Key, bare, keyed, Sep, last, comma, Node, empty, alias, scalar, coll, anchored, Items, none, item, key_text, sep_text, node_text, items_text, open_of}
 use Rattle.yq_inline.specs.Values.{node_of, items, entries, item as an_item, entry}
 use Rattle.yq_inline.specs.Written.{flow_of, flow_items, flow_sep, flow_key, flow_text, key_front, listed, entry_text}
@@ -112,7 +112,7 @@ entry_is : (k : ℕ) (e : List ℕ × tree.Node) (cs : tree.Children) (r : List 
 entry_is k e cs r h =
     item_text k (entry e.0) e.1 cs
     ∙ (ap (λ l. key_text (flow_key (Some e.0)) (flow_text e.1 ++ l)) h
-    ∙ (sym (append_assoc (Rattle.yq_inline.specs.Written.scalar_text (Rattle.yq_scalar.specs.Scalar.string_of e.0) Rattle.yq_scalar.specs.declared.style.Place.TheVariants.FlowKey) (58 ∷ 32 ∷ []) (flow_text e.1 ++ r))
+    ∙ (sym (append_assoc (Rattle.yq_inline.specs.Written.scalar_text (Rattle.yq_flow_scalars.specs.Scalar.string_of e.0) Rattle.yq_flow_scalars.specs.declared.style.Place.TheVariants.FlowKey) (58 ∷ 32 ∷ []) (flow_text e.1 ++ r))
     ∙ sym (append_assoc (key_front e.0) (flow_text e.1) r)))
 
 entries_rest : (k : ℕ) (es : List (List ℕ × tree.Node)) → between (entries es) ++ rest_text k (entries es) ≡ listed false (map entry_text es) ++ k ∷ []

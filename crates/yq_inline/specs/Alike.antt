@@ -1,8 +1,8 @@
 -- Texts that begin alike: what is asked of the text behind a piece doesn't tell them apart.
 use Rattle.std.specs.Prelude.{◌≡◌, ℕ, Bool, true, false, ◌||◌, ◌==◌, List, [], ◌∷◌, ◌++◌, Option, Some, None}
-use Rattle.yq_scalar.specs.Plain.{is_flow_indicator, is_safe}
-use Rattle.yq_scalar.specs.QuotedReading.{is_quote}
-use Rattle.yq_scalar.specs.Text.{is_feed, is_space, is_marker, separates}
+use Rattle.yq_flow_scalars.specs.Plain.{is_flow_indicator, is_safe}
+use Rattle.yq_flow_scalars.specs.QuotedReading.{is_quote}
+use Rattle.yq_flow_scalars.specs.Text.{is_feed, is_space, is_marker, separates}
 use Rattle.yq_inline.specs.Gaps.{IsInlineGap}
 
 -- behind this byte nobody looks: an indicator of flow, a quote, `&` or `*` (own)

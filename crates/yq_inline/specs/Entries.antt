@@ -1,7 +1,7 @@
 -- The items and entries of an inline node to which paths lead.
 use Rattle.std.specs.Prelude.{◌≡◌, ℕ, List, [], ◌∷◌, ◌++◌, Option, Some, None, option_map, option_and_then, if◌then◌else◌, string_bytes}
-use Rattle.yq_scalar.specs.declared.piece.Piece.{Piece}
-use Rattle.yq_scalar.specs.Paths.{Step, To, Nth, is_here, further}
+use Rattle.yq_flow_scalars.specs.declared.piece.Piece.{Piece}
+use Rattle.yq_flow_scalars.specs.Paths.{Step, To, Nth, is_here, further}
 use Rattle.yq_inline.specs.declared.path.Step as declared
 use Rattle.yq_inline.specs.declared.path.Entry.{Entry}
 use Rattle.yq_inline.specs.Nodes.{Key, Node, empty, alias, scalar, coll, anchored, Items, none, item, key_text, sep_text, node_text, items_text}

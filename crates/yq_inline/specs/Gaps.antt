@@ -1,6 +1,6 @@
 -- What may stand between two tokens of a flow collection: white space, breaks and comments (YAML 1.2.2, sections 6.6 and 6.7).
 use Rattle.std.specs.Prelude.{◌≡◌, ℕ, Bool, true, false, ◌||◌, ◌&&◌, not, ◌==◌, List, [], ◌∷◌, ◌++◌, if◌then◌else◌}
-use Rattle.yq_scalar.specs.Text.{is_feed, is_space, is_marker}
+use Rattle.yq_flow_scalars.specs.Text.{is_feed, is_space, is_marker}
 use Rattle.yq_inline.specs.declared.gap.Before.{Before}
 use Rattle.yq_inline.specs.declared.gap.Before.TheVariants.{Token, White, Break, Comment}
 

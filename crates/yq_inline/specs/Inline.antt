@@ -1,9 +1,9 @@
 -- The inline node at an offset of a text.
 use Rattle.std.specs.Prelude.{◌≡◌, ℕ, ◌-◌, true, not, List, Option, Some, None, length, drop, ℤ, if◌then◌else◌}
-use Rattle.yq_scalar.specs.declared.style.Place.{Place}
-use Rattle.yq_scalar.specs.Answers.{◌>>=◌}
-use Rattle.yq_scalar.specs.Piece.{further_spaces}
-use Rattle.yq_scalar.specs.Writable.{in_flow}
+use Rattle.yq_flow_scalars.specs.declared.style.Place.{Place}
+use Rattle.yq_flow_scalars.specs.Answers.{◌>>=◌}
+use Rattle.yq_flow_scalars.specs.Piece.{further_spaces}
+use Rattle.yq_flow_scalars.specs.Writable.{in_flow}
 use Rattle.yq_inline.specs.Nodes.{Node, node_text, IsNode, is_bare}
 use Rattle.yq_inline.specs.Places.{Placed, locate, bare_placed}
 use Rattle.yq_inline.specs.PlacedReading.{placed_node}

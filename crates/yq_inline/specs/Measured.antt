@@ -1,13 +1,13 @@
 -- What is told of an inline node of which only the end is found (own).
 use Rattle.std.specs.Prelude.{ℕ, Bool, true, false, ◌||◌, ◌&&◌, not, List, Option, Some, None}
-use Rattle.yq_scalar.specs.Answers.{◌>>=◌}
-use Rattle.yq_scalar.specs.Text.{is_empty}
+use Rattle.yq_flow_scalars.specs.Answers.{◌>>=◌}
+use Rattle.yq_flow_scalars.specs.Text.{is_empty}
 use Rattle.yq_inline.specs.Places.{Placed, placed, Content, nothing, name, text, sequence, mapping}
 use Rattle.yq_inline.specs.declared.measuring.NodeKind.{NodeKind}
 use Rattle.yq_inline.specs.declared.measuring.NodeKind.TheVariants as kinds
 use Rattle.yq_inline.specs.declared.measuring.Measured.{Measured}
-use Rattle.yq_scalar.specs.declared.style.Style.{Style}
-use Rattle.yq_scalar.specs.declared.style.Style.TheVariants as styles
+use Rattle.yq_flow_scalars.specs.declared.style.Style.{Style}
+use Rattle.yq_flow_scalars.specs.declared.style.Style.TheVariants as styles
 
 -- the kind of a scalar of this style (own)
 abbrev pub kind_of_style : Style → NodeKind

@@ -1,7 +1,7 @@
 -- Inline nodes: which pieces stand one behind the other (YAML 1.2.2, sections 6.9.2, 7.1 and 7.4).
 use Rattle.std.specs.Prelude.{◌≡◌, ◌⊎◌, ℕ, zero, suc, Bool, true, false, ◌||◌, not, ◌==◌, List, [], ◌∷◌, ◌++◌, Option, Some, None, if◌then◌else◌}
-use Rattle.yq_scalar.specs.Text.{is_empty, is_white, is_feed, is_return, NoneIn, unless, no_white, separates}
-use Rattle.yq_scalar.specs.Plain.{is_flow_indicator}
+use Rattle.yq_flow_scalars.specs.Text.{is_empty, is_white, is_feed, is_return, NoneIn, unless, no_white, separates}
+use Rattle.yq_flow_scalars.specs.Plain.{is_flow_indicator}
 use Rattle.yq_inline.specs.Gaps.{IsInlineGap}
 use Rattle.yq_inline.specs.Scalars.{IsScalarAt, is_quoted, begins_scalar}
 

@@ -1,8 +1,8 @@
 -- Reading a node with its places (own; a reader may skip it: the clauses `found` and `only` tie it to the grammar).
 use Rattle.std.specs.Prelude.{ℕ, ◌-◌, List, [], length, if◌then◌else◌, Option, Some, None, Bool, true, false, not, ◌||◌, ◌&&◌}
-use Rattle.yq_scalar.specs.declared.piece.Piece.{Piece}
-use Rattle.yq_scalar.specs.Answers.{◌>>=◌}
-use Rattle.yq_scalar.specs.Text.{is_empty}
+use Rattle.yq_flow_scalars.specs.declared.piece.Piece.{Piece}
+use Rattle.yq_flow_scalars.specs.Answers.{◌>>=◌}
+use Rattle.yq_flow_scalars.specs.Text.{is_empty}
 use Rattle.yq_inline.specs.Nodes.{Key, bare, keyed, Node, empty, alias, scalar, coll, anchored}
 use Rattle.yq_inline.specs.Places.{Placed, placed, Content, nothing, name, text, sequence, mapping, Parts, holder, with_anchor, placed_between, scalar_between, key_here, locate, locate_items, bare_placed}
 use Rattle.yq_inline.specs.Reading.{gap_at, scalar_at, key_at, sep_at, content_at, all_items, kids_of, all_node}

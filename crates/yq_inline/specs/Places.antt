@@ -1,8 +1,8 @@
 -- An inline node with the places of its parts, by how much of the text follows them.
 use Rattle.std.specs.Prelude.{ℕ, ◌+◌, ◌-◌, ◌==◌, List, length, if◌then◌else◌, Option, Some, None, Bool, true, false}
-use Rattle.yq_scalar.specs.declared.piece.Piece.{Piece}
-use Rattle.yq_scalar.specs.Piece.{inline_piece}
-use Rattle.yq_scalar.specs.Scalar.{ScalarText}
+use Rattle.yq_flow_scalars.specs.declared.piece.Piece.{Piece}
+use Rattle.yq_flow_scalars.specs.Piece.{inline_piece}
+use Rattle.yq_flow_scalars.specs.Scalar.{ScalarText}
 use Rattle.yq_inline.specs.Nodes.{Key, bare, keyed, Node, empty, alias, scalar, coll, anchored, Items, none, item, key_text, sep_text, node_text, items_text}
 use Rattle.yq_inline.specs.Scalars.{style_of, content_of, scalar_of}
 

@@ -1,9 +1,9 @@
 -- Reading (own; a reader may skip it: the grammar is what is believed, and the clauses `found` and `only` tie the two).
 use Rattle.std.specs.Prelude.{ℕ, zero, suc, Bool, true, false, ◌||◌, ◌&&◌, not, ◌==◌, List, [], ◌∷◌, length, take, drop, Option, Some, None, if◌then◌else◌}
-use Rattle.yq_scalar.specs.Answers.{◌>>=◌}
-use Rattle.yq_scalar.specs.Plain.{plain_at}
-use Rattle.yq_scalar.specs.QuotedReading.{quoted_at}
-use Rattle.yq_scalar.specs.Text.{is_empty, is_marker, cut, unless, no_white}
+use Rattle.yq_flow_scalars.specs.Answers.{◌>>=◌}
+use Rattle.yq_flow_scalars.specs.Plain.{plain_at}
+use Rattle.yq_flow_scalars.specs.QuotedReading.{quoted_at}
+use Rattle.yq_flow_scalars.specs.Text.{is_empty, is_marker, cut, unless, no_white}
 use Rattle.yq_inline.specs.declared.gap.Before.{Before}
 use Rattle.yq_inline.specs.declared.gap.Before.TheVariants.{Token}
 use Rattle.yq_inline.specs.Gaps.{goes, next, is_break}

@@ -1,13 +1,13 @@
 -- The plain and quoted scalars of inline nodes (YAML 1.2.2, section 7.3).
 use Rattle.std.specs.Prelude.{◌≡◌, ◌⊎◌, ℕ, Bool, true, ◌||◌, not, ◌==◌, List, Option, Some, None, if◌then◌else◌}
-use Rattle.yq_scalar.specs.declared.style.Style.{Style}
-use Rattle.yq_scalar.specs.declared.style.Style.TheVariants as styles
-use Rattle.yq_scalar.specs.ContentReading.{plain_content, quoted_content}
-use Rattle.yq_scalar.specs.Plain.{IsPlain, begins_plain, holds_break}
-use Rattle.yq_scalar.specs.Quoted.{Lines, IsQuoted}
-use Rattle.yq_scalar.specs.QuotedReading.{is_quote}
-use Rattle.yq_scalar.specs.Scalar.{ScalarText, plain_of, string_of}
-use Rattle.yq_scalar.specs.Text.{front}
+use Rattle.yq_flow_scalars.specs.declared.style.Style.{Style}
+use Rattle.yq_flow_scalars.specs.declared.style.Style.TheVariants as styles
+use Rattle.yq_flow_scalars.specs.ContentReading.{plain_content, quoted_content}
+use Rattle.yq_flow_scalars.specs.Plain.{IsPlain, begins_plain, holds_break}
+use Rattle.yq_flow_scalars.specs.Quoted.{Lines, IsQuoted}
+use Rattle.yq_flow_scalars.specs.QuotedReading.{is_quote}
+use Rattle.yq_flow_scalars.specs.Scalar.{ScalarText, plain_of, string_of}
+use Rattle.yq_flow_scalars.specs.Text.{front}
 
 -- a quote is in front (YAML 1.2.2, sections 7.3.1 and 7.3.2)
 abbrev pub is_quoted : List ℕ → Bool

@@ -1,7 +1,7 @@
 -- The places of an inline node and of its parts lie in order, each from one character of the text to another or to the end.
 use Rattle.std.specs.Prelude.{◌≡◌, ℕ, suc, ◌<◌, ◌≤◌, List, Option, Some, None, ⊤}
 use Rattle.std.specs.Str.{IsCharBoundary}
-use Rattle.yq_scalar.specs.declared.piece.Piece.{Piece}
+use Rattle.yq_flow_scalars.specs.declared.piece.Piece.{Piece}
 use Rattle.yq_inline.specs.Entries.{start_of, end_of, entry_start}
 use Rattle.yq_inline.specs.Places.{Placed, placed, Content, nothing, name, text, sequence, mapping, Parts, end, part}
 

@@ -1,9 +1,9 @@
 -- The tree that an inline node stands for (YAML 1.2.2, section 3.2.1).
 use Rattle.std.specs.Prelude.{ℕ, ◌==◌, List, [], Option, Some, None, if◌then◌else◌}
-use Rattle.yq_scalar.specs.declared.piece.Piece.{Piece}
-use Rattle.yq_scalar.specs.Scalar.{ScalarText, null}
-use Rattle.yq_scalar.specs.Tree.{Label, Children}
-use Rattle.yq_scalar.specs.Tree as tree
+use Rattle.yq_flow_scalars.specs.declared.piece.Piece.{Piece}
+use Rattle.yq_flow_scalars.specs.Scalar.{ScalarText, null}
+use Rattle.yq_flow_scalars.specs.Tree.{Label, Children}
+use Rattle.yq_flow_scalars.specs.Tree as tree
 use Rattle.yq_inline.specs.Nodes.{Key, bare, keyed, Node, empty, alias, scalar, coll, anchored, Items, none, item}
 use Rattle.yq_inline.specs.Places.{Placed, placed, Content, nothing, name, text, sequence, mapping, Parts, end, part}
 use Rattle.yq_inline.specs.Scalars.{content_of, scalar_of}

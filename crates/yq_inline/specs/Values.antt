@@ -1,8 +1,8 @@
 -- Values: nodes without anchors and comments.
 use Rattle.std.specs.Prelude.{ℕ, List, [], ◌∷◌, map, Some, None, String, string_bytes}
 use Rattle.std.specs.declared.alloc.Global.{Global}
-use Rattle.yq_scalar.specs.Tree.{Label, Node, Children}
-use Rattle.yq_scalar.specs.Tree as tree
+use Rattle.yq_flow_scalars.specs.Tree.{Label, Node, Children}
+use Rattle.yq_flow_scalars.specs.Tree as tree
 use Rattle.yq_inline.specs.declared.value.Value.{Value, fold-Value}
 use Rattle.yq_inline.specs.declared.value.Value.TheOpen.{Value-F}
 

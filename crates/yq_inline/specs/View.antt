@@ -2,8 +2,8 @@
 use Rattle.std.specs.Prelude.{ℕ, List, [], ◌∷◌, map, Option, Some, None, String, string_bytes}
 use Rattle.std.specs.declared.alloc.Global.{Global}
 use denote.Bor.{Bor}
-use Rattle.yq_scalar.specs.declared.piece.Piece.{Piece}
-use Rattle.yq_scalar.specs.Answers.{◌>>=◌}
+use Rattle.yq_flow_scalars.specs.declared.piece.Piece.{Piece}
+use Rattle.yq_flow_scalars.specs.Answers.{◌>>=◌}
 use Rattle.yq_inline.specs.declared.inline.Inline.{Inline}
 use Rattle.yq_inline.specs.declared.inline.Form.{Form}
 use Rattle.yq_inline.specs.declared.inline.Form.TheOpen.{Inline-F, Form-F}

@@ -1,14 +1,14 @@
 //! What stands between two tokens of a flow collection.
 ghost use Rattle.std.specs.Prelude.{◌≡◌, ◌≢◌, ◌∷◌, ◌≤◌, IfErr, IfOk, length};
-ghost use Rattle.yq_scalar.specs.Answers.{Reads};
-ghost use Rattle.yq_scalar.specs.declared.fault.FaultKind.TheVariants.{NotUtf8};
+ghost use Rattle.yq_flow_scalars.specs.Answers.{Reads};
+ghost use Rattle.yq_flow_scalars.specs.declared.fault.FaultKind.TheVariants.{NotUtf8};
 ghost use Rattle.yq_inline.specs.Gaps as spec;
 ghost use Rattle.yq_inline.specs.Reading as reading;
 ghost use Rattle.yq_inline.specs.declared.gap.Before.TheVariants.{Token as token};
 
 use crate::fault::fault;
-use yq_scalar::text::{is_marker, is_space};
-use yq_scalar::{FaultKind, ReadFault};
+use yq_flow_scalars::text::{is_marker, is_space};
+use yq_flow_scalars::{FaultKind, ReadFault};
 
 /// What stands before the next byte.
 #[derive(Clone, Copy, Debug)]

@@ -1,6 +1,6 @@
 //! Inline nodes, as they are read.
 
-use yq_scalar::{Piece, Scalar};
+use yq_flow_scalars::{Piece, Scalar};
 
 /// An inline node of a text, by offsets in bytes.
 #[derive(Debug, Drop)]

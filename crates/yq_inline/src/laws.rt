@@ -1,7 +1,7 @@
 //! Laws of inline nodes, each the contract of a function that does nothing.
 ghost use Rattle.std.specs.Prelude.{◌≡◌, ◌+◌, ◌∷◌, length, Bool, List, Option, Some, option_map, true, ℕ, ℤ};
-ghost use Rattle.yq_scalar.specs.Paths.{Step};
-ghost use Rattle.yq_scalar.specs.declared.style.Place.{Place};
+ghost use Rattle.yq_flow_scalars.specs.Paths.{Step};
+ghost use Rattle.yq_flow_scalars.specs.declared.style.Place.{Place};
 ghost use Rattle.yq_inline.specs.Inline.{IsInline, IsInlineAt, inline_at};
 ghost use Rattle.yq_inline.specs.Nodes.{IsNode, Node, node_text};
 ghost use Rattle.yq_inline.specs.Entries.{EntryPieces, StandsIn, placed_entry_at, entry_pieces_at, locate_entry, pieces_text};

@@ -21,4 +21,4 @@ pub use pieces::first_is;
 pub use read::{DEPTH_LIMIT, read_inline};
 pub use scalar::style_of;
 pub use value::Value;
-pub use yq_scalar::ReadFault;
+pub use yq_flow_scalars::ReadFault;

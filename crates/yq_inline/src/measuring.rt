@@ -1,7 +1,7 @@
 //! The ends of inline nodes, found without their trees.
 ghost use Rattle.std.specs.Prelude.{◌≡◌, ◌≢◌, ◌<◌, ◌≤◌, IfErr, IfOk, false, length};
-ghost use Rattle.yq_scalar.specs.Answers.{Reads};
-ghost use Rattle.yq_scalar.specs.declared.fault.FaultKind.TheVariants.{NotUtf8};
+ghost use Rattle.yq_flow_scalars.specs.Answers.{Reads};
+ghost use Rattle.yq_flow_scalars.specs.declared.fault.FaultKind.TheVariants.{NotUtf8};
 ghost use Rattle.yq_inline.specs.Measured as spec;
 ghost use Rattle.yq_inline.specs.Measured.{measured, measured_view, past};
 ghost use Rattle.yq_inline.specs.PlacedReading as reading;
@@ -12,7 +12,7 @@ use crate::gap::read_gap;
 use crate::pieces::{
     begins_content, no_node, read_key, read_lead, read_name, read_scalar, read_sep, strip,
 };
-use yq_scalar::{FaultKind, ReadFault};
+use yq_flow_scalars::{FaultKind, ReadFault};
 
 /// What a node is, behind its anchor.
 #[derive(Clone, Copy, Debug)]

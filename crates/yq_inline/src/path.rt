@@ -1,12 +1,12 @@
 //! Paths inside inline nodes, and the places to which they lead.
 ghost use Rattle.std.specs.Prelude.{◌≡◌, None, map, option_map};
-ghost use Rattle.yq_scalar.specs.Paths as paths;
+ghost use Rattle.yq_flow_scalars.specs.Paths as paths;
 ghost use Rattle.yq_inline.specs.Entries as spec;
 ghost use Rattle.yq_inline.specs.Trees.{placed_tree};
 ghost use Rattle.yq_inline.specs.View.{entries_end, items_end, view};
 
 use crate::inline::{Form, Inline};
-use yq_scalar::Piece;
+use yq_flow_scalars::Piece;
 
 /// A step of a path.
 #[derive(Debug, Drop)]

@@ -1,8 +1,8 @@
 //! The pieces of inline nodes, read one behind the other.
 ghost use Rattle.std.specs.Prelude.{◌≡◌, ◌≢◌, ◌<◌, ◌≤◌, IfErr, IfOk, MatchOption, drop, false, length, true};
-ghost use Rattle.yq_scalar.specs.Answers.{Reads};
-ghost use Rattle.yq_scalar.specs.Quoted.{IsQuotedText};
-ghost use Rattle.yq_scalar.specs.declared.fault.FaultKind.TheVariants.{NotUtf8};
+ghost use Rattle.yq_flow_scalars.specs.Answers.{Reads};
+ghost use Rattle.yq_flow_scalars.specs.Quoted.{IsQuotedText};
+ghost use Rattle.yq_flow_scalars.specs.declared.fault.FaultKind.TheVariants.{NotUtf8};
 ghost use Rattle.yq_inline.specs.Nodes as nodes;
 ghost use Rattle.yq_inline.specs.PlacedReading as reading;
 ghost use Rattle.yq_inline.specs.Reading as spec;
@@ -11,10 +11,10 @@ ghost use Rattle.std.specs.List.{prefix_len};
 
 use crate::fault::{fault, flow_fault};
 use crate::gap::read_gap;
-use yq_scalar::plain::{begins_plain, holds_break, is_flow_indicator, split_plain};
-use yq_scalar::quoted::split_quoted;
-use yq_scalar::text::{is_white, separates, split_white};
-use yq_scalar::{FaultKind, ReadFault};
+use yq_flow_scalars::plain::{begins_plain, holds_break, is_flow_indicator, split_plain};
+use yq_flow_scalars::quoted::split_quoted;
+use yq_flow_scalars::text::{is_white, separates, split_white};
+use yq_flow_scalars::{FaultKind, ReadFault};
 
 /// Whether this byte is in front.
 pub fn first_is(k: u8, text: &[u8]) -> bool
@@ -55,7 +55,7 @@ pub fn name_len(text: &[u8]) -> usize
 }
 
 /// The name of an anchor or alias in front, and what follows it.
-#[tactic(auto, unfolding(crate::specs::Reading::name_at), using(yq_scalar::proofs::Upto::upto_unless, crate::proofs::Bounds::name_none))]
+#[tactic(auto, unfolding(crate::specs::Reading::name_at), using(yq_flow_scalars::proofs::Upto::upto_unless, crate::proofs::Bounds::name_none))]
 pub fn read_name<'t>(whole: &str, text: &'t str) -> Result<(&'t str, &'t str), ReadFault>
     ensures read { Reads (λ x. (x.0.now, x.1.now)) result (spec.name_at text.now) }
     ensures shorter { IfOk result (λ x. length x.1.now ≤ length text.now) }
@@ -135,7 +135,7 @@ fn read_quoted<'t>(
 
 /// The scalar in front, and what follows it. A further line of it begins with so many spaces at least;
 /// without a number it has one line.
-#[tactic(auto, unfolding(crate::specs::Reading::scalar_at, yq_scalar::specs::Plain::plain_at), using(crate::proofs::Bounds::plain_unquoted))]
+#[tactic(auto, unfolding(crate::specs::Reading::scalar_at, yq_flow_scalars::specs::Plain::plain_at), using(crate::proofs::Bounds::plain_unquoted))]
 pub fn read_scalar<'t>(
     flow: bool,
     spaces: Option<usize>,

@@ -1,8 +1,8 @@
 //! The inline node at an offset of a text.
 ghost use Rattle.std.specs.Prelude.{◌≡◌, ◌⊎◌, IfErr, IfOk, Some};
 ghost use Rattle.std.specs.Str.{IsCharBoundary};
-ghost use Rattle.yq_scalar.specs.Answers.{Gives, IsOfText};
-ghost use Rattle.yq_scalar.specs.declared.style.Place.TheVariants.{Block, Flow};
+ghost use Rattle.yq_flow_scalars.specs.Answers.{Gives, IsOfText};
+ghost use Rattle.yq_flow_scalars.specs.declared.style.Place.TheVariants.{Block, Flow};
 ghost use Rattle.yq_inline.specs.Inline as spec;
 ghost use Rattle.yq_inline.specs.Places.{Placed};
 ghost use Rattle.yq_inline.specs.Spans.{HasSpans, IsNested};
@@ -13,7 +13,7 @@ use crate::inline::Inline;
 use crate::pieces::no_node;
 use crate::reading::{is_bare, read_node};
 use std::alloc::Global;
-use yq_scalar::{FaultKind, Place, ReadError, further_spaces, in_flow};
+use yq_flow_scalars::{FaultKind, Place, ReadError, further_spaces, in_flow};
 
 /// How many collections may be nested.
 pub const DEPTH_LIMIT: usize = 64;

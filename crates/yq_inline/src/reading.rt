@@ -1,7 +1,7 @@
 //! Inline nodes, read from left to right.
 ghost use Rattle.std.specs.Prelude.{◌≡◌, ◌<◌, ◌≤◌, IfErr, IfOk, Some, length, true};
 ghost use Rattle.std.specs.String.{string_bytes};
-ghost use Rattle.yq_scalar.specs.Answers.{Gives, IsOfText};
+ghost use Rattle.yq_flow_scalars.specs.Answers.{Gives, IsOfText};
 ghost use Rattle.yq_inline.specs.Places as spec;
 ghost use Rattle.yq_inline.specs.PlacedReading as reading;
 ghost use Rattle.yq_inline.specs.View.{entries_end, form_view, items_end, view};
@@ -12,7 +12,7 @@ use crate::inline::{Form, Inline};
 use crate::pieces::{begins_content, no_node, read_lead, read_name, read_sep, strip};
 use crate::scalar::{read_entry_key, read_text};
 use std::alloc::Global;
-use yq_scalar::{FaultKind, Piece, ReadError};
+use yq_flow_scalars::{FaultKind, Piece, ReadError};
 
 /// A node without an anchor between two rests of the whole text.
 fn placed_between<'t>(whole: &str, text: &str, rest: &str, form: Form<'t>) -> Inline<'t>

@@ -1,8 +1,8 @@
 //! Scalars and keys with what they stand for and their pieces.
 ghost use Rattle.std.specs.Prelude.{◌≡◌, ◌<◌, ◌≤◌, IfErr, IfOk, length, string_bytes, true};
-ghost use Rattle.yq_scalar.specs.Answers.{Gives, IsOfText};
-ghost use Rattle.yq_scalar.specs.Quoted.{IsQuotedText};
-ghost use Rattle.yq_scalar.specs.Written.{IsOneLine};
+ghost use Rattle.yq_flow_scalars.specs.Answers.{Gives, IsOfText};
+ghost use Rattle.yq_flow_scalars.specs.Quoted.{IsQuotedText};
+ghost use Rattle.yq_flow_scalars.specs.Written.{IsOneLine};
 ghost use Rattle.yq_inline.specs.PlacedReading as reading;
 ghost use Rattle.yq_inline.specs.Scalars as scalars;
 ghost use Rattle.yq_inline.specs.View.{form_view};
@@ -10,9 +10,9 @@ ghost use Rattle.yq_inline.specs.View.{form_view};
 use crate::inline::Form;
 use crate::pieces::{is_quoted, read_key, read_scalar};
 use std::alloc::{AllocError, Global};
-use yq_scalar::folding::{plain_content, quoted_content};
-use yq_scalar::piece::inline_piece;
-use yq_scalar::{Piece, ReadError, Scalar, Style};
+use yq_flow_scalars::folding::{plain_content, quoted_content};
+use yq_flow_scalars::piece::inline_piece;
+use yq_flow_scalars::{Piece, ReadError, Scalar, Style};
 
 /// The style of a plain or quoted scalar, as it is written (YAML 1.2.2, 7.3).
 pub fn style_of(piece: &[u8]) -> Style

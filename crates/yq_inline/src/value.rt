@@ -1,6 +1,6 @@
 //! Values: what a literal says, and what is copied from a document.
 
-use yq_scalar::Scalar;
+use yq_flow_scalars::Scalar;
 
 /// A value: a node without anchors and comments. The keys of a mapping differ.
 #[derive(Debug, Drop)]

@@ -9,7 +9,7 @@ use Rattle.std.specs.Cmp.Lexicographic.{slice_cmp}
 use Rattle.std.specs.List.{list_any}
 use Rattle.std.specs.Ordering.{nat_cmp}
 use denote.Bor.{Bor}
-use Rattle.yq_scalar.specs.Anchors.{Name, Anchors, Refers}
+use Rattle.yq_flow_scalars.specs.Anchors.{Name, Anchors, Refers}
 use Rattle.yq_lines.specs.LinesReading.{are_bound}
 
 -- a name is among the keys

@@ -2,7 +2,7 @@
 use Rattle.std.proofs.Common.{◌≡◌, ℕ, ◌+◌, ◌<◌, List, [], ◌∷◌, ◌++◌, Option, Some, None, refl, sym, ap, ◌∙◌, subst, arith}
 use Rattle.std.proofs.lemmas.Option.{none-some}
 use mathlib.Core.List.{head-eq_of_cons-eq, nil≢cons}
-use Rattle.yq_scalar.specs.Tree.{Node, Children, none, child}
+use Rattle.yq_flow_scalars.specs.Tree.{Node, Children, none, child}
 use Rattle.yq_lines.specs.Outline.{Mark, Bare, Key, Dash, Line, level, Outline, end, row, flatten, IsOpen, IsWhole, IsEven, anchored, head_or, null_node, label, collection, shaped, children, value, Stands}
 use Rattle.yq_lines.specs.Grammar.{IsNode, alone, mapping, sequence, AreEntries, no_more, entry, IsUnder, headed, missing, deeper_lines}
 use Rattle.yq_lines.proofs.Allowing.{IsEntry, IsCollection}

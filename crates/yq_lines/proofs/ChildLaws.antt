@@ -1,10 +1,10 @@
 -- The items or entries of nodes.
 use Rattle.std.proofs.Common.{◌≡◌, ℕ, ◌+◌, List, Option, Some, None, option_map, true, not, refl, sym, ap, ◌∙◌}
 use Rattle.std.specs.List.{slice_get}
-use Rattle.yq_scalar.specs.Tree.{Label, Node, alias, scalar, list, map, child, children_of}
+use Rattle.yq_flow_scalars.specs.Tree.{Label, Node, alias, scalar, list, map, child, children_of}
 use Rattle.yq_inline.specs.Trees.{named}
 use Rattle.yq_lines.specs.Ends.{part, is_end, IsEndOf}
-use Rattle.yq_scalar.specs.Paths.{Step}
+use Rattle.yq_flow_scalars.specs.Paths.{Step}
 use Rattle.yq_lines.specs.Labelled.{labelled_at}
 use Rattle.yq_lines.specs.Outline.{Line, level, Outline, anchored, label, children}
 use Rattle.yq_lines.specs.Places.{FoundLine, find_row, content}

@@ -1,8 +1,8 @@
 -- Where a path leads.
 use Rattle.std.proofs.Common.{◌≡◌, ℕ, List, [], ◌∷◌, Option, Some, None, option_map, option_and_then, Bool, true, false, cond, refl, sym, ap, ◌∙◌}
-use Rattle.yq_scalar.specs.Tree.{Node, alias, scalar, list, map, Children, children_of}
+use Rattle.yq_flow_scalars.specs.Tree.{Node, alias, scalar, list, map, Children, children_of}
 use Rattle.yq_lines.specs.Outline.{Mark, Bare, Key, Dash, Line, Outline, end, row, anchored, head_or, label, collection, children, value}
-use Rattle.yq_scalar.specs.Paths.{Step, is_here, further, child_at, node_at}
+use Rattle.yq_flow_scalars.specs.Paths.{Step, is_here, further, child_at, node_at}
 use Rattle.yq_lines.specs.Places.{here, below, plug, FoundLine, next_to, find_row, inside, bare_or, in_head, find, content}
 use Rattle.yq_lines.specs.Labelled.{Labelled, labelled_at}
 use Rattle.yq_lines.proofs.Allowing.{IsEntry}

@@ -1,7 +1,7 @@
 -- Where steps lead in what lines stand for, with the label there.
 use Rattle.std.proofs.Common.{◌≡◌, ℕ, List, [], ◌∷◌, Option, Some, None, option_map, option_and_then, refl, sym, ap, ◌∙◌, subst}
-use Rattle.yq_scalar.specs.Tree.{Node, alias, scalar, list, map, children_of}
-use Rattle.yq_scalar.specs.Paths.{Step}
+use Rattle.yq_flow_scalars.specs.Tree.{Node, alias, scalar, list, map, children_of}
+use Rattle.yq_flow_scalars.specs.Paths.{Step}
 use Rattle.yq_lines.specs.Labelled.{Labelled, labelled_at, labelled_from}
 use Rattle.yq_lines.specs.Outline.{Mark, Bare, Key, Dash, Outline, end, row, anchored, head_or, collection, children, value}
 use Rattle.yq_lines.specs.Places.{here, FoundLine, find_row, inside, bare_or, in_head, find}

@@ -1,7 +1,7 @@
 -- Items and entries where steps lead in a tree: their nodes are those of `child_at` and `node_at`.
 use Rattle.std.proofs.Common.{◌≡◌, List, [], ◌∷◌, Option, Some, None, option_map, option_and_then, Bool, true, false, cond, refl, ap, ◌∙◌}
-use Rattle.yq_scalar.specs.Paths.{Step, is_here, further, child_at, node_at}
-use Rattle.yq_scalar.specs.Tree.{Children, none, child, children_of}
+use Rattle.yq_flow_scalars.specs.Paths.{Step, is_here, further, child_at, node_at}
+use Rattle.yq_flow_scalars.specs.Tree.{Children, none, child, children_of}
 use Rattle.yq_lines.specs.Labelled.{Labelled, labelled_at, labelled_from}
 
 pub labelled_child : (s : Step) (cs : Children) → option_map (λ x. x.1) (labelled_at s cs) ≡ child_at s cs

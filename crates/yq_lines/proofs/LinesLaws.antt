@@ -2,9 +2,9 @@
 use Rattle.std.proofs.Common.{◌≡◌, ◌<◌, leb, List, [], None, Bool, true, false, ◌&&◌, refl, sym, ap, ◌∙◌, arith}
 use Rattle.std.proofs.lemmas.Bool.{lt-ltb, cond-true, and_parts}
 use Rattle.std.proofs.Math.Bool.{and-false}
-use Rattle.yq_scalar.specs.Keys.{depth}
+use Rattle.yq_flow_scalars.specs.Keys.{depth}
 use Rattle.yq_inline.specs.Inline.{depth_limit}
-use Rattle.yq_scalar.specs.Anchors.{names_of}
+use Rattle.yq_flow_scalars.specs.Anchors.{names_of}
 use Rattle.yq_lines.specs.Ends.{part}
 use Rattle.yq_lines.specs.Group.{deeper, group, is_fine}
 use Rattle.yq_lines.specs.LinesReading.{names_are_sound, lines_are_sound, have_one_anchor_each, are_bound}

@@ -4,8 +4,8 @@ use Rattle.std.proofs.Math.Bool.{or-true}
 use Rattle.std.proofs.lemmas.Bool.{and_parts, and_from, or_cases}
 use Rattle.std.proofs.lemmas.Slice.Eq.{bytes_eq-Decides}
 use Rattle.std.specs.List.{list_any}
-use Rattle.yq_scalar.specs.Tree.{Node, alias, scalar, list, map}
-use Rattle.yq_scalar.specs.Anchors.{Name, Anchors, Refers, IsAmong, AreBound, IsNoAlias}
+use Rattle.yq_flow_scalars.specs.Tree.{Node, alias, scalar, list, map}
+use Rattle.yq_flow_scalars.specs.Anchors.{Name, Anchors, Refers, IsAmong, AreBound, IsNoAlias}
 use Rattle.yq_lines.specs.LineAnchors.{MayTake, IsFree, HaveOneAnchorEach}
 use Rattle.yq_lines.specs.LinesReading.{is_no_alias, may_take, is_free, have_one_anchor_each, are_bound}
 use Rattle.yq_lines.specs.Outline.{Mark, Bare, Key, Dash, Line}

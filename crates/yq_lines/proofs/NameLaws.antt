@@ -1,7 +1,7 @@
 -- The anchors and aliases of a node, as those of its lines.
 use Rattle.std.proofs.Common.{◌≡◌, ℕ, ◌+◌, List, [], ◌∷◌, ◌++◌, Option, Some, None, true, refl, sym, ap, ◌∙◌, subst, append_assoc, append-nil}
-use Rattle.yq_scalar.specs.Tree.{Label, Node, alias, scalar, list, map, Children, child}
-use Rattle.yq_scalar.specs.Anchors.{Name, with_anchor, names_of, names_in, IsNoAlias}
+use Rattle.yq_flow_scalars.specs.Tree.{Label, Node, alias, scalar, list, map, Children, child}
+use Rattle.yq_flow_scalars.specs.Anchors.{Name, with_anchor, names_of, names_in, IsNoAlias}
 use Rattle.yq_lines.specs.LineAnchors.{MayTake, IsFree, HaveOneAnchorEach}
 use Rattle.yq_lines.specs.Group.{group, level_or, is_fine}
 use Rattle.yq_lines.specs.Names.{head_names, line_names, IsUnnamed, MayBeNamed, HaveHeadsApart}

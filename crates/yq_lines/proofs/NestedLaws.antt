@@ -5,8 +5,8 @@ use Rattle.std.proofs.lemmas.Bool.{le-leb}
 use Rattle.std.proofs.lemmas.List.{drop_all}
 use Rattle.std.specs.Prelude.{String}
 use Rattle.std.specs.declared.alloc.Global.{Global}
-use Rattle.yq_scalar.specs.declared.piece.Piece.{Piece}
-use Rattle.yq_scalar.specs.Keys.{AreDistinct, keys_of, are_distinct}
+use Rattle.yq_flow_scalars.specs.declared.piece.Piece.{Piece}
+use Rattle.yq_flow_scalars.specs.Keys.{AreDistinct, keys_of, are_distinct}
 use Rattle.yq_inline.specs.declared.inline.Inline.{Inline}
 use Rattle.yq_inline.specs.Trees.{parts_tree}
 use Rattle.yq_inline.specs.View.{entries_end}

@@ -1,7 +1,7 @@
 -- The nodes that lines stand for.
 use Rattle.std.proofs.Common.{◌≡◌, ℕ, ◌+◌, ◌<◌, List, Option, Some, None, refl, sym, ap, ◌∙◌}
 use Rattle.std.specs.List.{slice_get}
-use Rattle.yq_scalar.specs.Tree.{Node, alias, scalar, list, map}
+use Rattle.yq_flow_scalars.specs.Tree.{Node, alias, scalar, list, map}
 use Rattle.yq_lines.specs.Ends.{part, rest}
 use Rattle.yq_lines.specs.Group.{deeper}
 use Rattle.yq_lines.specs.Outline.{Bare, Key, Dash, Line, level, Outline, row, first_anchor, anchored, head_or, collection, children, value}

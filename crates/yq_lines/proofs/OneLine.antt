@@ -2,10 +2,10 @@
 use Rattle.std.proofs.Common.{◌≡◌, ℕ, Bool, true, false, ◌&&◌, cond, eqb, ◌⊎◌, inl, inr, List, [], ◌∷◌, ◌++◌, refl, sym, ap, ◌∙◌, ⊎_elim, append_assoc, append-nil, subst, ◌-◌, length, take, drop, slice_index}
 use Rattle.std.proofs.lemmas.Bool.{cases_Bool, or_parts}
 use Rattle.std.specs.List.{list_any}
-use Rattle.yq_scalar.specs.ContentReading.{within, item, item_len, item_before, content_on, plain_content, quoted_content}
-use Rattle.yq_scalar.specs.Plain.{holds_break}
-use Rattle.yq_scalar.specs.Quoted.{IsQuotedText}
-use Rattle.yq_scalar.specs.Text.{is_white, is_feed, is_return, front}
+use Rattle.yq_flow_scalars.specs.ContentReading.{within, item, item_len, item_before, content_on, plain_content, quoted_content}
+use Rattle.yq_flow_scalars.specs.Plain.{holds_break}
+use Rattle.yq_flow_scalars.specs.Quoted.{IsQuotedText}
+use Rattle.yq_flow_scalars.specs.Text.{is_white, is_feed, is_return, front}
 use Rattle.yq_inline.specs.Scalars.{is_quoted, content_of}
 
 -- no break is in front of a text without an LF

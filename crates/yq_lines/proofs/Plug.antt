@@ -1,7 +1,7 @@
 -- What exchanging the lines in a place does to the lines, to evenness and to the tree.
 use Rattle.std.proofs.Common.{◌≡◌, ℕ, ◌∷◌, ◌++◌, Option, Some, None, refl, sym, ap, ◌∙◌, subst, append_assoc, append-nil}
 use Rattle.std.proofs.lemmas.Option.{none-some}
-use Rattle.yq_scalar.specs.Tree.{Node}
+use Rattle.yq_flow_scalars.specs.Tree.{Node}
 use Rattle.yq_lines.specs.Outline.{Mark, Bare, Key, Dash, Line, level, Outline, end, row, flatten, IsOpen, IsWhole, IsEven}
 use Rattle.yq_lines.specs.Places.{Context, here, below, beside, plug, lines_before, lines_after, compose}
 use Rattle.yq_lines.proofs.Allowing.{IsEntry, Allows}

@@ -2,7 +2,7 @@
 use Rattle.std.proofs.Common.{◌≡◌, ℕ, zero, suc, ◌+◌, ◌-◌, ◌<◌, eqb, List, ◌++◌, length, drop, Option, Some, None, option_map, true, false, not, ◌&&◌, refl, sym, ap, ◌∙◌, arith, length-append, length-drop}
 use Rattle.std.proofs.lemmas.Bool.{cond-true, cond-false, ne_eqb, false≢true}
 use Rattle.std.specs.List.{slice_get}
-use Rattle.yq_scalar.specs.Paths.{Step, Nth, is_here, further, is_item}
+use Rattle.yq_flow_scalars.specs.Paths.{Step, Nth, is_here, further, is_item}
 use Rattle.yq_lines.specs.Ends.{part, is_end, IsEndOf}
 use Rattle.yq_lines.specs.Group.{deeper, shallow, group}
 use Rattle.yq_lines.specs.Outline.{Line, level, Outline, end, row, flatten, key_of, label}

@@ -2,8 +2,8 @@
 use Rattle.std.proofs.Common.{◌≡◌, ℕ, suc, ◌+◌, ◌*◌, ◌<◌, ◌≤◌, max, leb, ltb, eqb, List, [], ◌∷◌, ◌++◌, Option, Some, None, is_some, Bool, true, false, ◌&&◌, cond, ◌⊎◌, inl, inr, refl, sym, ap, ◌∙◌, subst, arith, append_assoc}
 use Rattle.std.proofs.lemmas.Bool.{lt-ltb, eq-eqb, ne_eqb, leb-true, le-leb, ltb-true, cases_eq, and_parts, false_from_ne_true, false≢true}
 use Rattle.std.proofs.Math.Bool.{and-false, and-true, and_comm}
-use Rattle.yq_scalar.specs.Tree.{Node, alias, scalar, list, map}
-use Rattle.yq_scalar.specs.Keys.{with_key, keys_of, depth, deepest, are_distinct}
+use Rattle.yq_flow_scalars.specs.Tree.{Node, alias, scalar, list, map}
+use Rattle.yq_flow_scalars.specs.Keys.{with_key, keys_of, depth, deepest, are_distinct}
 use Rattle.yq_lines.specs.Outline.{Mark, Bare, Key, Dash, rank, Line, level, Outline, end, row, anchored, head_or, key_of, collection, children, value}
 use Rattle.yq_lines.specs.Group.{deeper, shallow, is_open, is_whole, level_or, is_even, is_fine}
 use Rattle.yq_lines.specs.Ends.{is_end}

@@ -1,7 +1,7 @@
 -- An even outline is the one that its lines group to.
 use Rattle.std.proofs.Common.{◌≡◌, ℕ, ◌<◌, ◌≤◌, List, [], ◌++◌, refl, sym, ap, ◌∙◌, arith, append_assoc, append-nil}
 use Rattle.std.proofs.lemmas.Bool.{lt-ltb, le-ltb, cond-true, cond-false}
-use Rattle.yq_scalar.specs.Tree.{Node}
+use Rattle.yq_flow_scalars.specs.Tree.{Node}
 use Rattle.yq_lines.specs.Outline.{Line, level, Outline, end, row, flatten, IsEven, value, Stands}
 use Rattle.yq_lines.specs.Group.{deeper, shallow, lead, group}
 

@@ -1,8 +1,8 @@
 -- What exchanging the lines in a place does to the tree.
 use Rattle.std.proofs.Common.{◌≡◌, ℕ, ◌≤◌, List, [], ◌∷◌, Option, Some, None, option_map, option_and_then, Bool, true, false, cond, refl, sym, ap, ◌∙◌, subst, arith}
-use Rattle.yq_scalar.specs.Tree.{Node, alias, scalar, list, map, Children, child}
+use Rattle.yq_flow_scalars.specs.Tree.{Node, alias, scalar, list, map, Children, child}
 use Rattle.yq_lines.specs.Outline.{Mark, Bare, Key, Dash, rank, Line, level, Outline, end, row, anchored, label, collection, shaped, children, value}
-use Rattle.yq_scalar.specs.Paths.{Step, is_here, further, change_child, within, change}
+use Rattle.yq_flow_scalars.specs.Paths.{Step, is_here, further, change_child, within, change}
 use Rattle.yq_lines.specs.Places.{here, below, plug, FoundLine, next_to, find_row, inside, bare_or, in_head, find, content}
 use Rattle.yq_lines.proofs.Allowing.{IsEntry, IsCollection}
 use Rattle.yq_lines.proofs.Plug.{plug-compose}

@@ -1,6 +1,6 @@
 -- The comments that belong to a row.
 use Rattle.std.specs.Prelude.{ℕ, Bool, true, ◌&&◌, ◌==◌, List, [], ◌∷◌, drop, Option, Some, None, if◌then◌else◌}
-use Rattle.yq_scalar.specs.Text.{cut, front, ends_line, past_white, lines_of}
+use Rattle.yq_flow_scalars.specs.Text.{cut, front, ends_line, past_white, lines_of}
 
 -- a comment's text without the one space that may begin it (own)
 abbrev pub less_space : List ℕ → List ℕ

@@ -1,6 +1,6 @@
 -- Reading (own; a reader may skip it: the grammar is what is believed, and the clauses `found` and `only` tie the two): lines by their indexes, where those under each end, and where steps lead.
 use Rattle.std.specs.Prelude.{◌≡◌, ℕ, zero, suc, ◌+◌, ◌<◌, ◌≤◌, nat_lt, List, [], ◌∷◌, drop, length, slice_get, Option, Some, None, option_map, option_and_then, Bool, true, false, if◌then◌else◌}
-use Rattle.yq_scalar.specs.Paths.{Step}
+use Rattle.yq_flow_scalars.specs.Paths.{Step}
 use Rattle.yq_lines.specs.Outline.{Line, level, Outline, end, row}
 use Rattle.yq_lines.specs.Group.{deeper, shallow, group}
 use Rattle.yq_lines.specs.Places.{lines_before, FoundLine, find}

@@ -1,6 +1,6 @@
 -- The rules of block nodes (YAML 1.2.2, 8.2).
 use Rattle.std.specs.Prelude.{◌≡◌, ℕ, ◌<◌, List, [], ◌∷◌, ◌++◌, Some, None}
-use Rattle.yq_scalar.specs.Tree.{Node, list, map, Children, none, child}
+use Rattle.yq_flow_scalars.specs.Tree.{Node, list, map, Children, none, child}
 use Rattle.yq_lines.specs.Outline.{Bare, Key, Dash, Line, level, anchored, null_node, label}
 
 mutual

@@ -1,6 +1,6 @@
 -- Reading (own; a reader may skip it: the grammar is what is believed, and the clauses `found` and `only` tie the two): lines grouped from the last to the first.
 use Rattle.std.specs.Prelude.{ℕ, nat_lt, nat_eq, ◌+◌, List, [], ◌∷◌, Option, Some, None, Bool, true, false, ◌&&◌, if◌then◌else◌}
-use Rattle.yq_scalar.specs.Tree.{Node}
+use Rattle.yq_flow_scalars.specs.Tree.{Node}
 use Rattle.yq_lines.specs.Outline.{Mark, Bare, Key, Dash, Line, level, Outline, end, row, value}
 
 -- the first lines of an outline that are deeper than n, with what is under them

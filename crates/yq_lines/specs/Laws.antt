@@ -1,8 +1,8 @@
 -- The law of places (own): what an exchange of lines does to the tree.
 use Rattle.std.specs.Prelude.{◌≡◌, ℕ, ◌<◌, List, ◌∷◌, ◌++◌, Some}
-use Rattle.yq_scalar.specs.Tree.{Node}
+use Rattle.yq_flow_scalars.specs.Tree.{Node}
 use Rattle.yq_lines.specs.Outline.{Line, level, Outline, flatten, IsOpen, IsWhole, IsEven, label, value, Stands}
-use Rattle.yq_scalar.specs.Paths.{Step, change}
+use Rattle.yq_flow_scalars.specs.Paths.{Step, change}
 use Rattle.yq_lines.specs.Places.{lines_before, lines_after, FoundLine, find, content}
 
 -- the lines of an outline with these in the place of the line at a path and of those under it

@@ -1,8 +1,8 @@
 -- Places in an outline, where lines can be exchanged (own).
 use Rattle.std.specs.Prelude.{List, [], ◌∷◌, ◌++◌, Option, Some, None, option_map, option_and_then, if◌then◌else◌}
-use Rattle.yq_scalar.specs.Tree.{Node}
+use Rattle.yq_flow_scalars.specs.Tree.{Node}
 use Rattle.yq_lines.specs.Outline.{Mark, Bare, Key, Dash, Line, Outline, end, row, flatten, anchored, head_or, label, value}
-use Rattle.yq_scalar.specs.Paths.{Step, is_here, further}
+use Rattle.yq_flow_scalars.specs.Paths.{Step, is_here, further}
 
 -- an outline with a hole: here, in what is under a line, or in what is after one
 pub data Context : Type 0 where

@@ -1,8 +1,8 @@
 -- The laws of shape: the node for which lines stand is a tree, where what is written on them is (YAML 1.2.2, section 3.2.1).
 use Rattle.std.specs.Prelude.{ℕ, List, [], ◌∷◌, Option, Some, None, ⊤}
-use Rattle.yq_scalar.specs.Keys.{HasUniqueKeys}
-use Rattle.yq_scalar.specs.Shapes.{IsShaped, IsTree}
-use Rattle.yq_scalar.specs.Tree.{Node}
+use Rattle.yq_flow_scalars.specs.Keys.{HasUniqueKeys}
+use Rattle.yq_flow_scalars.specs.Shapes.{IsShaped, IsTree}
+use Rattle.yq_flow_scalars.specs.Tree.{Node}
 use Rattle.yq_lines.specs.Grammar.{IsNode}
 use Rattle.yq_lines.specs.Outline.{Line}
 

@@ -1,9 +1,9 @@
 //! The texts that keys and scalars stand for.
 ghost use Rattle.std.specs.List.{list_any};
 ghost use Rattle.std.specs.Prelude.{◌≡◌, ◌==◌, ◌-◌, IfOk, None, Some, drop, if◌then◌else◌, length, take, true};
-ghost use Rattle.yq_scalar.specs.ContentReading as reading;
-ghost use Rattle.yq_scalar.specs.Quoted.{IsQuotedText};
-ghost use Rattle.yq_scalar.specs.Scalar.{plain_of};
+ghost use Rattle.yq_flow_scalars.specs.ContentReading as reading;
+ghost use Rattle.yq_flow_scalars.specs.Quoted.{IsQuotedText};
+ghost use Rattle.yq_flow_scalars.specs.Scalar.{plain_of};
 ghost use Rattle.yq_inline.specs.Scalars as scalars;
 ghost use Rattle.yq_inline.specs.Trees.{scalar_node};
 ghost use Rattle.yq_lines.specs.View.{content_view, head_view, head_flow};
@@ -11,9 +11,9 @@ ghost use Rattle.yq_lines.specs.View.{content_view, head_view, head_flow};
 use crate::line::{Content, Head};
 use std::alloc::{AllocError, Global};
 use yq_inline::pieces::is_quoted;
-use yq_scalar::folding::{plain_content, quoted_content};
-use yq_scalar::plain::holds_break;
-use yq_scalar::{Kind, resolve};
+use yq_flow_scalars::folding::{plain_content, quoted_content};
+use yq_flow_scalars::plain::holds_break;
+use yq_flow_scalars::{Kind, resolve};
 
 /// What stands between the quotes of a quoted scalar.
 pub fn between_quotes(piece: &str) -> &str

@@ -3,7 +3,7 @@ ghost use Rattle.std.specs.Prelude.{◌≡◌};
 ghost use Rattle.yq_lines.specs.View.{content_view};
 
 use yq_inline::Inline;
-use yq_scalar::Kind;
+use yq_flow_scalars::Kind;
 
 /// A text that a key or scalar stands for.
 #[derive(Debug, Drop)]

@@ -2,15 +2,15 @@
 use Rattle.std.proofs.Common.{◌≡◌, ◌≢◌, ℕ, suc, ◌+◌, ◌<◌, ◌⊎◌, Bool, true, false, cond, List, [], ◌∷◌, ◌++◌, map, Option, Some, None, option_and_then, refl, sym, ap, subst, ◌∙◌, inl, inr, arith, append-nil}
 use Rattle.std.proofs.lemmas.Bool.{cond-false, cond-true}
 use Rattle.std.proofs.lemmas.Option.{none-some, same_Some}
-use Rattle.yq_scalar.specs.Tree as tree
-use Rattle.yq_scalar.specs.Tree.{Node, alias, scalar, list, Children, none, child, children_of}
-use Rattle.yq_scalar.specs.Paths as paths
-use Rattle.yq_scalar.specs.Paths.{To, Nth, key_is, is_item, is_here, further, child_at, node_at}
+use Rattle.yq_flow_scalars.specs.Tree as tree
+use Rattle.yq_flow_scalars.specs.Tree.{Node, alias, scalar, list, Children, none, child, children_of}
+use Rattle.yq_flow_scalars.specs.Paths as paths
+use Rattle.yq_flow_scalars.specs.Paths.{To, Nth, key_is, is_item, is_here, further, child_at, node_at}
 use Rattle.yq_program.specs.Program.{Step, key, index, each}
 use Rattle.yq_meaning.specs.Places.{step_by, Place, child_place, miss, stepped}
 use Rattle.yq_meaning.specs.PlacesApart.{IsBeforeAll, AreApart, IsIn}
-use Rattle.yq_scalar.specs.PathOrder.{Diverge}
-use Rattle.yq_scalar.specs.Shapes.{IsNew, AreItems, AreEntries, IsTree, AreTrees}
+use Rattle.yq_flow_scalars.specs.PathOrder.{Diverge}
+use Rattle.yq_flow_scalars.specs.Shapes.{IsNew, AreItems, AreEntries, IsTree, AreTrees}
 use Rattle.yq_meaning.proofs.PathLaws.{bytes_refl, bytes_differ, before_in}
 use Rattle.yq_meaning.proofs.GoodPlaces.{LieIn, AreSound, LeadsInto}
 

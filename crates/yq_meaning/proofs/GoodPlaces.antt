@@ -1,12 +1,12 @@
 -- Places that are apart, and what leads from each of them.
 use Rattle.std.proofs.Common.{◌≡◌, List, [], ◌∷◌, ◌++◌, sym, subst}
-use Rattle.yq_scalar.specs.Tree.{Node}
-use Rattle.yq_scalar.specs.Paths as paths
+use Rattle.yq_flow_scalars.specs.Tree.{Node}
+use Rattle.yq_flow_scalars.specs.Paths as paths
 use Rattle.yq_meaning.specs.Judgement.{Judgement, and_then, gives}
 use Rattle.yq_meaning.specs.Places.{Place, for_each}
 use Rattle.yq_meaning.specs.PlacesApart.{IsBeforeAll, AreApart, IsIn}
-use Rattle.yq_scalar.specs.PathOrder.{Before}
-use Rattle.yq_scalar.specs.Shapes.{IsTree}
+use Rattle.yq_flow_scalars.specs.PathOrder.{Before}
+use Rattle.yq_flow_scalars.specs.Shapes.{IsTree}
 use Rattle.yq_meaning.proofs.JudgementLaws.{then_gives, gives_same}
 use Rattle.yq_meaning.proofs.PathLaws.{before_right, before_left}
 

@@ -1,8 +1,8 @@
 -- Steps and paths that are the same, and those that part.
 use Rattle.std.proofs.Common.{◌≡◌, ◌≢◌, ℕ, true, false, List, [], ◌∷◌, ◌++◌, refl, sym, ap, subst, ◌∙◌, inl, inr, arith, append-nil}
-use Rattle.yq_scalar.specs.Paths.{To, Nth, Step}
+use Rattle.yq_flow_scalars.specs.Paths.{To, Nth, Step}
 use Rattle.yq_meaning.specs.NodeEdits.{same_step}
-use Rattle.yq_scalar.specs.PathOrder.{Diverge, Before, Apart}
+use Rattle.yq_flow_scalars.specs.PathOrder.{Diverge, Before, Apart}
 use Rattle.std.proofs.lemmas.Bool.{ne_eqb, eq-eqb, false_from_ne_true, false≢true}
 use Rattle.std.specs.Str.{bytes_eq}
 use Rattle.std.proofs.lemmas.Slice.Eq.{bytes_eq-Decides}

@@ -1,7 +1,7 @@
 -- What operations make of documents (own).
 use Rattle.std.specs.Prelude.{ℕ, Bool, List, [], ◌∷◌}
-use Rattle.yq_scalar.specs.Paths.{relabel_child, remove_child, append_child, within, change}
-use Rattle.yq_scalar.specs.Tree.{Node}
+use Rattle.yq_flow_scalars.specs.Paths.{relabel_child, remove_child, append_child, within, change}
+use Rattle.yq_flow_scalars.specs.Tree.{Node}
 use Rattle.yq_documents.specs.Documents.{Document}
 use Rattle.yq_documents.specs.TreeEdits.{change_nth, replaced, at_end, new_label, with_line_comment, with_head_comment, led, with_tree}
 use Rattle.yq_meaning.specs.Changes.{Room}

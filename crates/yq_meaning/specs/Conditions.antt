@@ -3,11 +3,11 @@ use Rattle.std.specs.Prelude.{ℕ, ℤ, Bool, true, false, not, List, [], ◌∷
 use Rattle.std.specs.Str.{bytes_eq}
 use Rattle.std.specs.Fmt.{decimal}
 use Rattle.std.specs.Ordering.{int_eq}
-use Rattle.yq_scalar.specs.declared.kind.Kind.{Kind}
-use Rattle.yq_scalar.specs.declared.kind.Kind.TheVariants as kinds
-use Rattle.yq_scalar.specs.Paths.{To, child_at}
-use Rattle.yq_scalar.specs.SchemaReading.{int_value, is_true_word}
-use Rattle.yq_scalar.specs.Tree.{Node, alias, scalar, list, map}
+use Rattle.yq_flow_scalars.specs.declared.kind.Kind.{Kind}
+use Rattle.yq_flow_scalars.specs.declared.kind.Kind.TheVariants as kinds
+use Rattle.yq_flow_scalars.specs.Paths.{To, child_at}
+use Rattle.yq_flow_scalars.specs.SchemaReading.{int_value, is_true_word}
+use Rattle.yq_flow_scalars.specs.Tree.{Node, alias, scalar, list, map}
 use Rattle.yq_lines.specs.Outline.{null_node}
 use Rattle.yq_meaning.specs.declared.refusal.Refusal.TheVariants.{ThroughAlias}
 use Rattle.yq_meaning.specs.Judgement.{Judgement, and_then, gives, refuses}

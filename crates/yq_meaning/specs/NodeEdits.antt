@@ -1,8 +1,8 @@
 -- Changes of several places of a tree, all at once (own).
 use Rattle.std.specs.Prelude.{ℕ, suc, ◌==◌, Bool, true, false, ◌&&◌, List, [], ◌∷◌, Option, Some, None, if◌then◌else◌}
 use Rattle.std.specs.Str.{bytes_eq}
-use Rattle.yq_scalar.specs.Tree.{Label, Node, alias, scalar, list, map, Children, none, child}
-use Rattle.yq_scalar.specs.Paths.{Step, To, Nth, is_here, further, within}
+use Rattle.yq_flow_scalars.specs.Tree.{Label, Node, alias, scalar, list, map, Children, none, child}
+use Rattle.yq_flow_scalars.specs.Paths.{Step, To, Nth, is_here, further, within}
 use Rattle.yq_documents.specs.TreeEdits.{with_line_comment, with_head_comment}
 use Rattle.yq_meaning.specs.Places.{step_by}
 

@@ -1,7 +1,7 @@
 -- Operations on documents.
 use Rattle.std.specs.Prelude.{ℕ, List, map, Option, option_map, string_bytes}
-use Rattle.yq_scalar.specs.Tree.{Node}
-use Rattle.yq_scalar.specs.Paths.{Step}
+use Rattle.yq_flow_scalars.specs.Tree.{Node}
+use Rattle.yq_flow_scalars.specs.Paths.{Step}
 use Rattle.yq_documents.specs.Located.{steps_of}
 use Rattle.yq_inline.specs.Values.{node_of}
 use Rattle.yq_meaning.specs.declared.op.Op as declared

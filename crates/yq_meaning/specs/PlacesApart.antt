@@ -1,9 +1,9 @@
 -- Places of which none lies in another (own).
 use Rattle.std.specs.Prelude.{◌≡◌, ⊤, List, [], ◌∷◌, Some}
-use Rattle.yq_scalar.specs.PathOrder.{Before}
-use Rattle.yq_scalar.specs.Paths as paths
-use Rattle.yq_scalar.specs.Paths.{node_at}
-use Rattle.yq_scalar.specs.Tree.{Node}
+use Rattle.yq_flow_scalars.specs.PathOrder.{Before}
+use Rattle.yq_flow_scalars.specs.Paths as paths
+use Rattle.yq_flow_scalars.specs.Paths.{node_at}
+use Rattle.yq_flow_scalars.specs.Tree.{Node}
 use Rattle.yq_meaning.specs.Places.{Place}
 
 -- a path stands before each of these places (own)

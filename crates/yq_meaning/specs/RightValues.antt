@@ -1,12 +1,12 @@
 -- Right sides of updates: sums of values, which are nodes without anchors, comments and aliases (yq manual; own).
 use Rattle.std.specs.Prelude.{ℕ, ℤ, ◌+ℤ◌, Bool, true, false, List, [], ◌∷◌, ◌++◌, Option, Some, None, is_some, if◌then◌else◌}
 use Rattle.std.specs.Fmt.{signed_decimal}
-use Rattle.yq_scalar.specs.declared.kind.Kind.{Kind}
-use Rattle.yq_scalar.specs.declared.kind.Kind.TheVariants as kinds
-use Rattle.yq_scalar.specs.Numbers.{is_i64}
-use Rattle.yq_scalar.specs.Paths.{To, child_at, change_child, append_child, append_children}
-use Rattle.yq_scalar.specs.SchemaReading.{int_value}
-use Rattle.yq_scalar.specs.Tree.{Node, alias, scalar, list, map, Children, none, child}
+use Rattle.yq_flow_scalars.specs.declared.kind.Kind.{Kind}
+use Rattle.yq_flow_scalars.specs.declared.kind.Kind.TheVariants as kinds
+use Rattle.yq_flow_scalars.specs.Numbers.{is_i64}
+use Rattle.yq_flow_scalars.specs.Paths.{To, child_at, change_child, append_child, append_children}
+use Rattle.yq_flow_scalars.specs.SchemaReading.{int_value}
+use Rattle.yq_flow_scalars.specs.Tree.{Node, alias, scalar, list, map, Children, none, child}
 use Rattle.yq_lines.specs.Outline.{null_node}
 use Rattle.yq_meaning.specs.declared.refusal.Refusal.TheVariants.{NotOneValue, KindMismatch, IntegerRange, FloatArithmetic}
 use Rattle.yq_meaning.specs.Judgement.{Judgement, and_then, gives, refuses}

@@ -1,7 +1,7 @@
 -- What a text has room for, document by document (own).
 use Rattle.std.specs.Prelude.{ℕ, List, slice_get, Bool}
-use Rattle.yq_scalar.specs.Answers.{◌>>=◌}
-use Rattle.yq_scalar.specs.Paths.{Step}
+use Rattle.yq_flow_scalars.specs.Answers.{◌>>=◌}
+use Rattle.yq_flow_scalars.specs.Paths.{Step}
 use Rattle.yq_documents.specs.declared.path.Part.{Part}
 use Rattle.yq_documents.specs.declared.path.Part.TheVariants.{HeadComment, LineComment}
 use Rattle.yq_documents.specs.Documents.{document_parts}

@@ -1,7 +1,7 @@
 -- What operations leave of the room that texts have: whether roots are block, and which comments have a place (own).
 use Rattle.std.specs.Prelude.{◌≡◌, ◌≢◌, ◌⊎◌, ⊤, ℕ, List, [], ◌∷◌, slice_get, Some}
-use Rattle.yq_scalar.specs.Paths.{Step}
-use Rattle.yq_scalar.specs.Tree.{Node, Children, none, child, children_of}
+use Rattle.yq_flow_scalars.specs.Paths.{Step}
+use Rattle.yq_flow_scalars.specs.Tree.{Node, Children, none, child, children_of}
 use Rattle.yq_documents.specs.Documents.{Document}
 use Rattle.yq_program.specs.declared.program.CommentPlace.{CommentPlace}
 use Rattle.yq_meaning.specs.After.{document_of, after_op}

@@ -7,11 +7,11 @@ use Rattle.std.proofs.lemmas.Option.{same_Some}
 use Rattle.std.proofs.lemmas.Str.{IsUtf8-take, IsUtf8-between}
 use Rattle.std.specs.List.{slice_get}
 use Rattle.std.specs.Str.{IsUtf8, IsCharBoundary}
-use Rattle.yq_scalar.specs.Text.{cut, front, ends_line, is_break, is_white, is_line, is_empty, joined, lines_of, no_white, past_white, upto}
+use Rattle.yq_flow_scalars.specs.Text.{cut, front, ends_line, is_break, is_white, is_line, is_empty, joined, lines_of, no_white, past_white, upto}
 use Rattle.yq_scalar.proofs.BlockPieceLaws.{IsLf, line_lf, append_lf, cut_lf}
-use Rattle.yq_scalar.proofs.Boundaries.{white_ascii, break_ascii}
+use Rattle.yq_flow_scalars.proofs.Boundaries.{white_ascii, break_ascii}
 use Rattle.yq_scalar.proofs.LineLaws.{joined_lines}
-use Rattle.yq_scalar.proofs.Upto.{upto_ends}
+use Rattle.yq_flow_scalars.proofs.Upto.{upto_ends}
 use Rattle.yq_lines.specs.Comments.{are_comments}
 use Rattle.yq_rows.specs.Exchange.{before_content, behind_at, behind_row, HasPieces}
 use Rattle.yq_rows.specs.Gap.{IsLineEnd, IsGap, AreGapLines}

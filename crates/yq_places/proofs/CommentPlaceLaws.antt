@@ -2,7 +2,7 @@
 use Rattle.std.proofs.Common.{◌≡◌, ℕ, ◌+◌, ◌-◌, ◌<◌, ◌≤◌, eqb, List, [], ◌∷◌, ◌++◌, length, Option, Some, None, option_map, Bool, true, false, cond, refl, sym, ap, ◌∙◌, arith, length-append}
 use Rattle.std.proofs.lemmas.Option.{slice_get-map}
 use Rattle.std.specs.List.{slice_get}
-use Rattle.yq_scalar.specs.Text.{cut, front, ends_line, no_white, past_white, is_empty, joined, lines_of}
+use Rattle.yq_flow_scalars.specs.Text.{cut, front, ends_line, no_white, past_white, is_empty, joined, lines_of}
 use Rattle.yq_rows.specs.Exchange.{before_content, behind_row}
 use Rattle.yq_rows.specs.Rows.{Row, behind_gap, Cut}
 use Rattle.yq_rows.specs.View.{Slices, slices, rows_of, rows_view}

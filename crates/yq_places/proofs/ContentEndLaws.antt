@@ -1,7 +1,7 @@
 -- A content ends in a break, or the text ends behind it.
 use Rattle.std.proofs.Common.{◌≡◌, ◌⊎◌, inl, inr, ℕ, ℤ, Bool, true, false, ◌&&◌, List, [], ◌∷◌, ◌++◌, refl, sym, ap, ◌∙◌, subst, append-nil}
 use Rattle.std.proofs.lemmas.Bool.{eqb-true, false_from_ne_true, false≢true, and_parts, or_parts}
-use Rattle.yq_scalar.specs.Text.{front, is_white, is_feed, is_return, is_break, is_line, ends_line, NoneIn}
+use Rattle.yq_flow_scalars.specs.Text.{front, is_white, is_feed, is_return, is_break, is_line, ends_line, NoneIn}
 use Rattle.yq_rows.specs.Gap.{IsBreak, IsComment, IsWhite}
 use Rattle.yq_rows.specs.Grammar.{IsContent, IsTail}
 use Rattle.yq_rows.specs.Rows.{Content, Nothing, Inline, Block}

@@ -3,11 +3,11 @@ use Rattle.std.proofs.Common.{◌≡◌, leb, List, [], ◌∷◌, map, Bool, tr
 use Rattle.std.proofs.lemmas.Bool.{and_parts, and_from, leb-true, le-leb, cond-true}
 use Rattle.std.proofs.lemmas.Option.{cond_some}
 use Rattle.std.specs.List.{list_all}
-use Rattle.yq_scalar.specs.Tree.{Node}
-use Rattle.yq_scalar.specs.Keys.{depth}
+use Rattle.yq_flow_scalars.specs.Tree.{Node}
+use Rattle.yq_flow_scalars.specs.Keys.{depth}
 use Rattle.yq_inline.specs.Inline.{depth_limit}
 use Rattle.yq_rows.specs.Rows.{Part}
-use Rattle.yq_scalar.specs.Anchors.{names_of}
+use Rattle.yq_flow_scalars.specs.Anchors.{names_of}
 use Rattle.yq_documents.specs.Documents.{Document, IsRoot, IsDocument, AreDocuments}
 use Rattle.yq_lines.specs.Group.{group, is_fine}
 use Rattle.yq_walk.specs.Lines.{lines_of}

@@ -4,9 +4,9 @@ use Rattle.std.proofs.lemmas.List.{length-map, take-append-drop}
 use Rattle.yq_lines.proofs.Parts.{drop_at}
 use Rattle.std.proofs.lemmas.Option.{slice_get_within, none-some}
 use Rattle.std.specs.List.{slice_get}
-use Rattle.yq_scalar.specs.Answers.{◌>>=◌}
-use Rattle.yq_scalar.specs.Paths.{Step}
-use Rattle.yq_scalar.proofs.Bools.{bind_some}
+use Rattle.yq_flow_scalars.specs.Answers.{◌>>=◌}
+use Rattle.yq_flow_scalars.specs.Paths.{Step}
+use Rattle.yq_flow_scalars.proofs.Bools.{bind_some}
 use Rattle.yq_rows.specs.Grammar.{IsCut}
 use Rattle.yq_rows.specs.Rows.{Row, Part, Cut}
 use Rattle.yq_rows.specs.View.{Slices, slices, RowsView, rows_view}

@@ -4,9 +4,9 @@ use Rattle.std.proofs.lemmas.Bool.{ltb-true, ltb-false, eqb-false}
 use Rattle.std.proofs.lemmas.Option.{slice_get_within, none-some, same_Some}
 use Rattle.std.specs.List.{slice_get}
 use Rattle.std.specs.Str.{IsUtf8}
-use Rattle.yq_scalar.specs.Answers.{◌>>=◌}
-use Rattle.yq_scalar.specs.Paths.{Step}
-use Rattle.yq_scalar.proofs.Bools.{bind_some}
+use Rattle.yq_flow_scalars.specs.Answers.{◌>>=◌}
+use Rattle.yq_flow_scalars.specs.Paths.{Step}
+use Rattle.yq_flow_scalars.proofs.Bools.{bind_some}
 use Rattle.yq_inline.specs.Entries.{PlacedEntry, entry_place, content_place}
 use Rattle.yq_inline.specs.Spans.{IsSpan}
 use Rattle.yq_lines.specs.Comments as comments

@@ -3,7 +3,7 @@ use Rattle.std.proofs.Common.{◌≡◌, ◌⊎◌, inl, inr, ℕ, zero, suc, �
 use Rattle.std.proofs.lemmas.Bool.{cases_lt, lt-ltb, le-ltb, cond-true, cond-false, false≢true, and_parts}
 use Rattle.std.specs.List.{slice_get}
 use Rattle.std.specs.Str.{IsCharBoundary}
-use Rattle.yq_scalar.specs.Text.{is_empty, is_feed, is_return}
+use Rattle.yq_flow_scalars.specs.Text.{is_empty, is_feed, is_return}
 use Rattle.yq_scalar.proofs.BlockPieceLaws.{IsLf}
 use Rattle.yq_rows.specs.Exchange.{row_front, before_at, before_content, behind_row}
 use Rattle.yq_rows.specs.Grammar.{AreParts}

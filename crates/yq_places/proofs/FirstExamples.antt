@@ -1,8 +1,8 @@
 -- The smallest rows of which the first item or entry of a compact collection is taken out.
 use Rattle.std.proofs.Common.{◌≡◌, ℕ, List, [], ◌∷◌, ◌++◌, Some, None, refl, codes}
-use Rattle.yq_scalar.specs.Paths.{Nth, To}
-use Rattle.yq_scalar.specs.Text.{upto, line_len, lines_of}
-use Rattle.yq_scalar.specs.ContentReading as reading
+use Rattle.yq_flow_scalars.specs.Paths.{Nth, To}
+use Rattle.yq_flow_scalars.specs.Text.{upto, line_len, lines_of}
+use Rattle.yq_flow_scalars.specs.ContentReading as reading
 use Rattle.yq_inline.specs.Nodes as inline
 use Rattle.yq_inline.specs.Scalars as scalars
 use Rattle.yq_lines.specs.Outline.{level}

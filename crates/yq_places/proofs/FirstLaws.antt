@@ -7,8 +7,8 @@ use Rattle.std.proofs.lemmas.Option.{same_Some}
 use Rattle.std.proofs.lemmas.Str.{IsCharBoundary-at_seam, IsUtf8-drop, IsUtf8-from_ascii}
 use Rattle.std.proofs.lemmas.Str.Ascii.{IsAscii-nil, IsAscii-cons}
 use Rattle.std.specs.Str.{IsAscii, IsUtf8, IsCharBoundary}
-use Rattle.yq_scalar.specs.Answers.{◌>>=◌}
-use Rattle.yq_scalar.proofs.Bools.{bind_some}
+use Rattle.yq_flow_scalars.specs.Answers.{◌>>=◌}
+use Rattle.yq_flow_scalars.proofs.Bools.{bind_some}
 use Rattle.yq_inline.specs.Spans.{IsSpan}
 use Rattle.yq_rows.specs.Grammar.{IsCut}
 use Rattle.yq_rows.specs.Rows.{Cut}

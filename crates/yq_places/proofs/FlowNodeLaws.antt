@@ -1,10 +1,10 @@
 -- The flow collection at a path is the one that the code finds in the head of a line.
 use Rattle.std.proofs.Common.{◌≡◌, ℕ, ℤ, ◌+◌, Bool, true, false, not, cond, List, [], ◌∷◌, ◌++◌, length, map, take, Option, Some, None, option_and_then, option_map, refl, sym, ap, ◌∙◌, subst, append-nil}
 use Rattle.std.specs.List.{slice_get}
-use Rattle.yq_scalar.specs.Answers.{◌>>=◌}
-use Rattle.yq_scalar.specs.Paths.{Step, is_here, further}
-use Rattle.yq_scalar.specs.Piece.{deeper}
-use Rattle.yq_scalar.specs.declared.style.Place.TheVariants.{Block}
+use Rattle.yq_flow_scalars.specs.Answers.{◌>>=◌}
+use Rattle.yq_flow_scalars.specs.Paths.{Step, is_here, further}
+use Rattle.yq_flow_scalars.specs.Piece.{deeper}
+use Rattle.yq_flow_scalars.specs.declared.style.Place.TheVariants.{Block}
 use Rattle.yq_inline.specs.Collections.{CollAt, CollPieces, IsCollAt, coll_along, coll_in}
 use Rattle.yq_inline.specs.Entries.{EntryPieces, inside, item_at, step_of}
 use Rattle.yq_inline.specs.Nodes.{Items, none, item, Key, Node, empty, alias, scalar, coll, anchored, items_text, sep_text, node_text, is_bare, IsNode}

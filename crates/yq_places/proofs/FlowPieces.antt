@@ -1,8 +1,8 @@
 -- Items and entries in flow, and the trees of their nodes.
 use Rattle.std.proofs.Common.{◌≡◌, ℕ, eqb, List, [], ◌∷◌, ◌++◌, Option, Some, None, option_map, option_and_then, Bool, true, false, cond, refl, sym, ap, ◌∙◌}
 use Rattle.std.proofs.lemmas.Option.{none-some, same_Some}
-use Rattle.yq_scalar.specs.declared.kind.Kind.TheVariants.{Text}
-use Rattle.yq_scalar.specs.Answers.{◌>>=◌}
+use Rattle.yq_flow_scalars.specs.declared.kind.Kind.TheVariants.{Text}
+use Rattle.yq_flow_scalars.specs.Answers.{◌>>=◌}
 use Rattle.yq_scalar.specs.BlockContent.{block_content}
 use Rattle.yq_lines.specs.Group.{group, is_fine}
 use Rattle.yq_lines.specs.Labelled.{Labelled, labelled_at, labelled_from}
@@ -11,8 +11,8 @@ use Rattle.yq_lines.proofs.LabelPaths.{reach, HasHead, rest_head}
 use Rattle.yq_lines.proofs.PlaceLaws.{at}
 use Rattle.yq_places.proofs.FoundLines.{some_head}
 use Rattle.yq_places.proofs.RowPathLaws.{found_place}
-use Rattle.yq_scalar.specs.Paths.{Step, is_here, further}
-use Rattle.yq_scalar.specs.Tree as tree
+use Rattle.yq_flow_scalars.specs.Paths.{Step, is_here, further}
+use Rattle.yq_flow_scalars.specs.Tree as tree
 use Rattle.yq_inline.specs.Entries.{EntryPieces, entry_pieces_at, inside, locate_entry, placed_entry_at}
 use Rattle.yq_inline.specs.Entries as entries
 use Rattle.yq_inline.specs.Nodes.{bare, Node, empty, alias, scalar, coll, anchored, Items, none, item, key_text, sep_text, open_of, node_text, items_text, IsNode}

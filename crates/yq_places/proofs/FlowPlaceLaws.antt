@@ -3,9 +3,9 @@ use Rattle.std.proofs.Common.{◌≡◌, ◌⊎◌, inl, inr, ℕ, ◌+◌, ◌<
 use Rattle.std.proofs.lemmas.Bool.{cases_lt, false≢true}
 use Rattle.std.specs.List.{slice_get}
 use Rattle.std.specs.Prelude.{is_some}
-use Rattle.yq_scalar.specs.Answers.{◌>>=◌}
-use Rattle.yq_scalar.specs.Paths.{Step}
-use Rattle.yq_scalar.specs.Tree as tree
+use Rattle.yq_flow_scalars.specs.Answers.{◌>>=◌}
+use Rattle.yq_flow_scalars.specs.Paths.{Step}
+use Rattle.yq_flow_scalars.specs.Tree as tree
 use Rattle.yq_inline.specs.Entries.{parts_of, part_at, placed_entry_at}
 use Rattle.yq_inline.specs.Nodes.{Node, empty, alias, scalar, coll, anchored}
 use Rattle.yq_inline.specs.Places.{Placed, placed, nothing, name, text, sequence, mapping, Parts, with_anchor, locate}

@@ -3,7 +3,7 @@ use Rattle.std.proofs.Common.{◌≡◌, ℕ, ◌≤◌, List, [], ◌∷◌, �
 use Rattle.std.proofs.lemmas.Option.{same_Some}
 use Rattle.std.specs.List.{slice_get}
 use Rattle.std.specs.Str.{IsUtf8}
-use Rattle.yq_scalar.specs.Paths.{Step, is_here, further}
+use Rattle.yq_flow_scalars.specs.Paths.{Step, is_here, further}
 use Rattle.yq_inline.specs.Entries.{PlacedEntry, EntryPieces, parts_of, part_at, placed_entry_at, content_place, end_of, entry_start, entry_place, locate_entry, entry_pieces_at}
 use Rattle.yq_inline.specs.Nodes.{Key, bare, keyed, empty, node_text, key_text}
 use Rattle.yq_inline.specs.Places.{Placed, placed, nothing, name, text, sequence, mapping, Parts, end, part, key_placed, locate}

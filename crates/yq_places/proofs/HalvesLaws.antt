@@ -5,8 +5,8 @@ use Rattle.std.proofs.lemmas.List.{drop_all, get_or_append_left, get_or-append_r
 use Rattle.std.proofs.lemmas.List.Folds.{prefix_len-append}
 use Rattle.std.proofs.lemmas.List.Sums.{prefix_len-le-length}
 use Rattle.std.specs.List.{prefix_len}
-use Rattle.yq_scalar.specs.Text.{front, is_break, is_empty, is_feed, is_line, is_return, is_white, line_len, past_white}
-use Rattle.yq_scalar.proofs.Upto.{upto_unless}
+use Rattle.yq_flow_scalars.specs.Text.{front, is_break, is_empty, is_feed, is_line, is_return, is_white, line_len, past_white}
+use Rattle.yq_flow_scalars.proofs.Upto.{upto_unless}
 use Rattle.yq_rows.specs.Reading.{begins_gap}
 use Rattle.yq_places.specs.PrintedLines.{less_break}
 

@@ -2,7 +2,7 @@
 use Rattle.std.proofs.Common.{◌≡◌, inl, inr, ℕ, suc, ◌-◌, eqb, Bool, true, false, cond, List, [], ◌∷◌, ◌++◌, length, length-append, take, drop, refl, ap, ◌∙◌, arith}
 use Rattle.std.proofs.Math.Seq.{drop-append_seam, take-append_seam}
 use Rattle.std.proofs.lemmas.Bool.{and_parts, eqb-true, ne_eqb}
-use Rattle.yq_scalar.specs.Text.{is_empty, is_feed, is_return}
+use Rattle.yq_flow_scalars.specs.Text.{is_empty, is_feed, is_return}
 use Rattle.yq_places.specs.LineReading.{CutsLines, IsLastBreak, LinesIn, lines_of}
 use Rattle.yq_places.specs.PrintedLines.{is_last_break, last_break, less_break}
 

@@ -1,6 +1,6 @@
 -- Behind a line and what is under it the next line is no deeper.
 use Rattle.std.proofs.Common.{◌≡◌, ℕ, ◌≤◌, List, [], ◌∷◌, ◌++◌, Some, true, arith}
-use Rattle.yq_scalar.specs.Paths.{Step}
+use Rattle.yq_flow_scalars.specs.Paths.{Step}
 use Rattle.yq_lines.specs.Group.{group, level_or, is_fine}
 use Rattle.yq_lines.specs.Outline.{Line, level, Outline, end, row, flatten, IsEven}
 use Rattle.yq_lines.specs.Places.{Context, here, below, beside, lines_after, FoundLine, find}

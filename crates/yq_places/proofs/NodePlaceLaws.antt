@@ -3,10 +3,10 @@ use Rattle.std.proofs.Common.{◌≡◌, ℕ, suc, ◌+◌, eqb, Bool, true, fal
 use Rattle.std.proofs.lemmas.Bool.{eq-eqb, false≢true}
 use Rattle.std.specs.List.{slice_get}
 use Rattle.std.specs.Prelude.{is_some}
-use Rattle.yq_scalar.specs.Answers.{◌>>=◌}
-use Rattle.yq_scalar.specs.Paths.{Step, node_at}
-use Rattle.yq_scalar.specs.Tree as tree
-use Rattle.yq_scalar.specs.Tree.{Node, child}
+use Rattle.yq_flow_scalars.specs.Answers.{◌>>=◌}
+use Rattle.yq_flow_scalars.specs.Paths.{Step, node_at}
+use Rattle.yq_flow_scalars.specs.Tree as tree
+use Rattle.yq_flow_scalars.specs.Tree.{Node, child}
 use Rattle.yq_lines.specs.Ends.{found_line, line_of, lines_end, part}
 use Rattle.yq_lines.specs.Group.{group, level_or, is_fine}
 use Rattle.yq_lines.specs.Outline.{Mark, Bare, Key, Dash, Line, level, Outline, end, row, IsEven, IsWhole, anchored, head_or, label, collection, shaped, children, value}

@@ -1,8 +1,8 @@
 -- Contents begin in their entries.
 use Rattle.std.proofs.Common.{◌≡◌, ℕ, List, [], ◌∷◌, ◌++◌, map, Option, Some, None, is_some, option_map, Bool, true, false, cond, sym, ap, ◌∙◌, append_assoc, append-nil}
 use Rattle.std.proofs.lemmas.Option.{none-some, same_Some}
-use Rattle.yq_scalar.specs.Answers.{◌>>=◌}
-use Rattle.yq_scalar.specs.Paths.{Step}
+use Rattle.yq_flow_scalars.specs.Answers.{◌>>=◌}
+use Rattle.yq_flow_scalars.specs.Paths.{Step}
 use Rattle.yq_inline.specs.Nodes.{Node, empty, alias, scalar, coll, anchored, key_text}
 use Rattle.yq_rows.specs.Rows.{Content, Nothing, Inline, Block, anchor_text}
 use Rattle.yq_documents.specs.declared.path.Part.TheVariants as parts

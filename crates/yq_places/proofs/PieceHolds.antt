@@ -4,8 +4,8 @@ use Rattle.std.proofs.Math.Seq.{take-append_seam, drop-append_seam}
 use Rattle.std.proofs.lemmas.Str.{IsUtf8-take, IsUtf8-between, IsUtf8-from_is_utf8}
 use Rattle.std.specs.List.{slice_get}
 use Rattle.std.specs.Str.{is_utf8, IsUtf8}
-use Rattle.yq_scalar.specs.Answers.{◌>>=◌}
-use Rattle.yq_scalar.proofs.Bools.{bind_some, guard_then}
+use Rattle.yq_flow_scalars.specs.Answers.{◌>>=◌}
+use Rattle.yq_flow_scalars.proofs.Bools.{bind_some, guard_then}
 use Rattle.yq_inline.specs.Spans.{IsSpan}
 use Rattle.yq_rows.specs.Exchange.{HasPieces}
 use Rattle.yq_rows.specs.Grammar.{IsCut}

@@ -5,9 +5,9 @@ use Rattle.std.proofs.lemmas.Bool.{cases_lt, eq-eqb, eqb-true, cond-true, cond-f
 use Rattle.std.proofs.lemmas.List.{append_cancel_left}
 use Rattle.std.proofs.lemmas.Option.{slice_get-map, slice_get_within, none-some, same_Some}
 use Rattle.std.specs.List.{slice_get}
-use Rattle.yq_scalar.specs.Answers.{◌>>=◌}
-use Rattle.yq_scalar.specs.Paths.{Step}
-use Rattle.yq_scalar.specs.Tree as tree
+use Rattle.yq_flow_scalars.specs.Answers.{◌>>=◌}
+use Rattle.yq_flow_scalars.specs.Paths.{Step}
+use Rattle.yq_flow_scalars.specs.Tree as tree
 use Rattle.yq_inline.specs.Entries.{PlacedEntry, placed_entry_at, entry_place, content_place, locate_entry}
 use Rattle.yq_inline.specs.Nodes.{bare, node_text}
 use Rattle.yq_inline.specs.Places.{locate}

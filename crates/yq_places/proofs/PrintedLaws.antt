@@ -2,7 +2,7 @@
 use Rattle.std.proofs.Common.{◌≡◌, ◌⊎◌, inl, inr, ℕ, suc, ◌+◌, List, [], ◌∷◌, ◌++◌, map, Option, Some, None, Bool, true, refl, sym, ap, ◌∙◌, subst, replicate, ℤ}
 use Rattle.std.specs.List.{slice_get}
 use Rattle.yq_scalar.specs.Block.{IsBlock}
-use Rattle.yq_scalar.specs.Text.{upto}
+use Rattle.yq_flow_scalars.specs.Text.{upto}
 use Rattle.yq_inline.specs.Nodes.{Node, IsNode}
 use Rattle.yq_lines.specs.Comments as comments
 use Rattle.yq_rows.specs.Grammar.{Limit, unlimited, limit_after, IsContent, AreRows, AreParts}

@@ -3,9 +3,9 @@ use Rattle.std.proofs.Common.{◌≡◌, ℕ, ℤ, zero, suc, ◌+◌, eqb, Bool
 use Rattle.std.specs.List.{list_all, slice_get}
 use Rattle.std.proofs.lemmas.Bool.{and_parts, false≢true}
 use Rattle.std.proofs.lemmas.Option.{none-some}
-use Rattle.yq_scalar.specs.Shapes.{IsShaped, AreShaped, AreItems, AreKeyed}
-use Rattle.yq_scalar.specs.Tree as tree
-use Rattle.yq_scalar.specs.Tree.{Node, Children, children_of}
+use Rattle.yq_flow_scalars.specs.Shapes.{IsShaped, AreShaped, AreItems, AreKeyed}
+use Rattle.yq_flow_scalars.specs.Tree as tree
+use Rattle.yq_flow_scalars.specs.Tree.{Node, Children, children_of}
 use Rattle.yq_inline.specs.Nodes as inline
 use Rattle.yq_inline.specs.Nodes.{Items, IsNode}
 use Rattle.yq_inline.specs.Trees.{tree_of, items_tree, with_name, node_head}

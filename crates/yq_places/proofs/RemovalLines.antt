@@ -4,7 +4,7 @@ use Rattle.std.proofs.Math.Seq.{drop-append_seam}
 use Rattle.std.proofs.lemmas.Bool.{and_parts}
 use Rattle.std.proofs.lemmas.List.{take-append-drop}
 use Rattle.yq_scalar.specs.Block.{Lines}
-use Rattle.yq_scalar.specs.Text.{is_empty, is_line, joined, lines_of as text_lines}
+use Rattle.yq_flow_scalars.specs.Text.{is_empty, is_line, joined, lines_of as text_lines}
 use Rattle.yq_scalar.proofs.BlockPieceLaws.{IsLf, line_lf, append_lf, raw_lf}
 use Rattle.yq_rows.specs.Exchange.{asked_behind}
 use Rattle.yq_rows.specs.Gap.{IsGap, AreGapLines}

@@ -7,11 +7,11 @@ use Rattle.std.proofs.lemmas.Option.{cond_some, same_Some}
 use Rattle.std.proofs.lemmas.Str.{IsCharBoundary-at_seam}
 use Rattle.std.specs.List.{slice_get}
 use Rattle.std.specs.Str.{IsUtf8, IsCharBoundary}
-use Rattle.yq_scalar.specs.Answers.{◌>>=◌}
-use Rattle.yq_scalar.specs.Paths.{Step}
-use Rattle.yq_scalar.specs.Lines.{is_blank}
-use Rattle.yq_scalar.specs.Text.{joined, lines_of as text_lines}
-use Rattle.yq_scalar.proofs.Bools.{bind_some}
+use Rattle.yq_flow_scalars.specs.Answers.{◌>>=◌}
+use Rattle.yq_flow_scalars.specs.Paths.{Step}
+use Rattle.yq_flow_scalars.specs.Lines.{is_blank}
+use Rattle.yq_flow_scalars.specs.Text.{joined, lines_of as text_lines}
+use Rattle.yq_flow_scalars.proofs.Bools.{bind_some}
 use Rattle.yq_scalar.proofs.LineLaws.{joined_lines}
 use Rattle.yq_lines.specs.Comments.{head_comment}
 use Rattle.yq_lines.specs.Ends.{line_of, lines_end}
@@ -202,7 +202,7 @@ pub held_on : (l : List ℕ) (ls : List (List ℕ)) → is_blank l ≡ true → 
 held_on l ls e = rw e refl
 
 pub none_held : (t : List ℕ) → t ≡ [] → hold_comment (text_lines t) ≡ false
-unfolding Rattle.yq_scalar.specs.Text.lines_of
+unfolding Rattle.yq_flow_scalars.specs.Text.lines_of
 none_held t e = ap (λ (x : List ℕ). hold_comment (text_lines x)) e
 
 pub run_less : (gap run : List ℕ) → text_lines run ≡ last_run (text_lines gap) → length run ≤ length gap

@@ -2,7 +2,7 @@
 use Rattle.std.proofs.Common.{◌≡◌, Bool, true, false, cond, ℕ, List, [], ◌∷◌, ◌++◌, refl, sym, ap, ◌∙◌, append_assoc}
 use Rattle.std.proofs.lemmas.Bool.{false≢true}
 use Rattle.yq_scalar.specs.Block.{Lines}
-use Rattle.yq_scalar.specs.Text.{joined, lines_of as text_lines}
+use Rattle.yq_flow_scalars.specs.Text.{joined, lines_of as text_lines}
 use Rattle.yq_scalar.proofs.LineLaws.{joined_lines}
 use Rattle.yq_lines.specs.Comments.{are_comments}
 use Rattle.yq_rows.specs.Grammar.{no_rows}

@@ -1,10 +1,10 @@
 -- What stands at items and entries, by the rows that the code has found.
 use Rattle.std.proofs.Common.{◌≡◌, ℕ, suc, ◌+◌, ◌<◌, eqb, Bool, true, false, ◌&&◌, List, [], ◌∷◌, ◌++◌, length, length-append, map, Option, Some, None, option_map, refl, sym, ap, ◌∙◌, arith, append_assoc}
 use Rattle.std.proofs.lemmas.Bool.{cond-false, cond-true, eq-eqb, false≢true, ne_eqb}
-use Rattle.yq_scalar.specs.Answers.{◌>>=◌}
+use Rattle.yq_flow_scalars.specs.Answers.{◌>>=◌}
 use Rattle.yq_scalar.specs.Block.{BlockText}
-use Rattle.yq_scalar.specs.Paths.{Step}
-use Rattle.yq_scalar.specs.Text.{is_empty}
+use Rattle.yq_flow_scalars.specs.Paths.{Step}
+use Rattle.yq_flow_scalars.specs.Text.{is_empty}
 use Rattle.yq_lines.specs.Positions.{is_bare}
 use Rattle.yq_rows.specs.Grammar.{IsMark}
 use Rattle.yq_rows.specs.Removal.{block_numbers, block_of}

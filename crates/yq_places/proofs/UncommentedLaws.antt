@@ -1,7 +1,7 @@
 -- Nothing is told of comments in heads.
 use Rattle.std.proofs.Common.{◌≡◌, ℕ, Bool, true, false, cond, eqb, List, [], ◌∷◌, Option, Some, None, option_and_then, refl}
-use Rattle.yq_scalar.specs.Tree.{Label, Node, alias, scalar, list, map, Children, none, child, children_of}
-use Rattle.yq_scalar.specs.Paths.{Step, is_here, further}
+use Rattle.yq_flow_scalars.specs.Tree.{Label, Node, alias, scalar, list, map, Children, none, child, children_of}
+use Rattle.yq_flow_scalars.specs.Paths.{Step, is_here, further}
 use Rattle.yq_inline.specs.Nodes as inline
 use Rattle.yq_inline.specs.Nodes.{Items, item}
 use Rattle.yq_inline.specs.Trees.{tree_of, items_tree, collection, with_name, node_head}

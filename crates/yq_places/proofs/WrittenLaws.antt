@@ -1,6 +1,6 @@
 -- Rows that may follow a row with another inline node.
 use Rattle.std.proofs.Common.{◌≡◌, ℕ, Bool, true, false, cond, List, [], ◌∷◌, Some, refl}
-use Rattle.yq_scalar.specs.Piece.{deeper}
+use Rattle.yq_flow_scalars.specs.Piece.{deeper}
 use Rattle.yq_inline.specs.Nodes.{Node}
 use Rattle.yq_rows.specs.Exchange.{with_content, allows_first}
 use Rattle.yq_rows.specs.Grammar.{is_plain, unlimited, limit_after}

@@ -1,7 +1,7 @@
 -- What the comments in pieces of a text tell (own).
 use Rattle.std.specs.Prelude.{ℕ, List, [], drop, Option, Some, None, option_map, ◌≡◌}
-use Rattle.yq_scalar.specs.Answers.{◌>>=◌}
-use Rattle.yq_scalar.specs.Text.{lines_of}
+use Rattle.yq_flow_scalars.specs.Answers.{◌>>=◌}
+use Rattle.yq_flow_scalars.specs.Text.{lines_of}
 use Rattle.yq_rows.specs.Rows.{Cut}
 use Rattle.yq_documents.specs.declared.path.Path.{Path}
 use Rattle.yq_documents.specs.Located.{labelled_located}

@@ -1,9 +1,9 @@
 -- Where the comments of entries and items stand, or would stand, in a text (YAML 1.2.2, 6.6; own).
 use Rattle.std.specs.Prelude.{ℕ, ◌==◌, List, ◌++◌, Option, Some, None, if◌then◌else◌}
-use Rattle.yq_scalar.specs.Answers.{◌>>=◌}
-use Rattle.yq_scalar.specs.Paths.{Step}
-use Rattle.yq_scalar.specs.Text as text
-use Rattle.yq_scalar.specs.Text.{ends_line, joined, lines_of, no_white, past_white}
+use Rattle.yq_flow_scalars.specs.Answers.{◌>>=◌}
+use Rattle.yq_flow_scalars.specs.Paths.{Step}
+use Rattle.yq_flow_scalars.specs.Text as text
+use Rattle.yq_flow_scalars.specs.Text.{ends_line, joined, lines_of, no_white, past_white}
 use Rattle.yq_rows.specs.Exchange.{row_front}
 use Rattle.yq_rows.specs.Rows.{Row, behind_gap, Cut}
 use Rattle.yq_rows.specs.View.{slices}

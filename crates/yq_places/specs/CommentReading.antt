@@ -1,6 +1,6 @@
 -- Reading (own; a reader may skip it): where comments stand, by the pieces of rows.
 use Rattle.std.specs.Prelude.{ℕ, ◌+◌, ◌-◌, ◌==◌, List, length, Option, Some, None, if◌then◌else◌, [], ◌++◌, nat_lt, take}
-use Rattle.yq_scalar.specs.Text.{cut, front, ends_line, is_empty, joined, lines_of, no_white, past_white}
+use Rattle.yq_flow_scalars.specs.Text.{cut, front, ends_line, is_empty, joined, lines_of, no_white, past_white}
 use Rattle.yq_rows.specs.View.{Slices, slices}
 use Rattle.yq_walk.specs.Extents.{front_length}
 use Rattle.yq_places.specs.RowLineReading.{Numbers}

@@ -1,9 +1,9 @@
 -- Reading (own; a reader may skip it): where lines, entries and contents begin and end, by the rows of a text and their pieces, as the code counts.
 use Rattle.yq_walk.specs.Extents.{dash_at}
 use Rattle.std.specs.Prelude.{ℕ, suc, ◌+◌, ◌-◌, ◌==◌, List, [], ◌∷◌, ◌++◌, length, replicate, slice_get, take, Option, Some, None, is_some, option_map, option_and_then, if◌then◌else◌}
-use Rattle.yq_scalar.specs.Answers.{◌>>=◌}
-use Rattle.yq_scalar.specs.Paths.{Step}
-use Rattle.yq_scalar.specs.Text.{is_empty, joined}
+use Rattle.yq_flow_scalars.specs.Answers.{◌>>=◌}
+use Rattle.yq_flow_scalars.specs.Paths.{Step}
+use Rattle.yq_flow_scalars.specs.Text.{is_empty, joined}
 use Rattle.yq_inline.specs.Entries.{PlacedEntry, placed_entry_at, entry_place, content_place}
 use Rattle.yq_inline.specs.Nodes.{Node, empty}
 use Rattle.yq_inline.specs.Places.{Placed, locate}

@@ -2,7 +2,7 @@
 use Rattle.std.specs.Prelude.{ℕ, List, if◌then◌else◌}
 use Rattle.yq_scalar.specs.declared.block_written.Break.{Break}
 use Rattle.yq_scalar.specs.declared.block_written.Break.TheVariants.{Lf, CrLf}
-use Rattle.yq_scalar.specs.Text.{cut, front, ends_line, is_return}
+use Rattle.yq_flow_scalars.specs.Text.{cut, front, ends_line, is_return}
 
 -- the break that ends the first line of a text; LF where there is none (5.4; own)
 abbrev pub first_break : List ℕ → Break

@@ -1,8 +1,8 @@
 -- Where the first item or entry of a compact collection stands in a text, and what is taken out of the text with it (YAML 1.2.2, 8.2.1; own).
 use Rattle.std.specs.Prelude.{ℕ, ◌==◌, ◌&&◌, Bool, true, List, [], ◌∷◌, length, drop, slice_get, Option, None, option_map, if◌then◌else◌}
-use Rattle.yq_scalar.specs.Answers.{◌>>=◌}
-use Rattle.yq_scalar.specs.Paths.{Step}
-use Rattle.yq_scalar.specs.Text.{cut, cut_line, no_space}
+use Rattle.yq_flow_scalars.specs.Answers.{◌>>=◌}
+use Rattle.yq_flow_scalars.specs.Paths.{Step}
+use Rattle.yq_flow_scalars.specs.Text.{cut, cut_line, no_space}
 use Rattle.yq_rows.specs.Rows.{Cut}
 use Rattle.yq_rows.specs.Reading.{begins_gap}
 use Rattle.yq_documents.specs.declared.path.Part.TheVariants.{Entry}

@@ -1,7 +1,7 @@
 -- Reading (own; a reader may skip it: the grammar is what is believed, and the clauses `found` and `only` tie the two): flow collections at paths, as the code finds them.
 use Rattle.std.specs.Prelude.{◌≡◌, ℕ, List, ◌++◌, length, map, Option, Some, None}
-use Rattle.yq_scalar.specs.Answers.{◌>>=◌}
-use Rattle.yq_scalar.specs.Paths.{Step}
+use Rattle.yq_flow_scalars.specs.Answers.{◌>>=◌}
+use Rattle.yq_flow_scalars.specs.Paths.{Step}
 use Rattle.yq_inline.specs.Collections.{CollAt, CollPieces, IsCollAt}
 use Rattle.yq_inline.specs.Entries.{placed_entry_at, step_of}
 use Rattle.yq_inline.specs.Nodes.{coll, node_text}

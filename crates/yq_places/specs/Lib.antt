@@ -1,8 +1,8 @@
-pub use Rattle.yq_scalar.specs.Anchors
-pub use Rattle.yq_scalar.specs.Tree
-pub use Rattle.yq_scalar.specs.Paths
-pub use Rattle.yq_scalar.specs.Keys
-pub use Rattle.yq_scalar.specs.Shapes
+pub use Rattle.yq_flow_scalars.specs.Anchors
+pub use Rattle.yq_flow_scalars.specs.Tree
+pub use Rattle.yq_flow_scalars.specs.Paths
+pub use Rattle.yq_flow_scalars.specs.Keys
+pub use Rattle.yq_flow_scalars.specs.Shapes
 pub use Rattle.yq_lines.specs.Outline
 pub use Rattle.yq_lines.specs.Grammar
 pub use Rattle.yq_lines.specs.Group

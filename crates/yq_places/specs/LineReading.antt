@@ -2,7 +2,7 @@
 use Rattle.std.specs.Prelude.{◌≡◌, ◌⊎◌, ℕ, Bool, List, [], ◌∷◌, ◌++◌, length}
 use Rattle.std.specs.Str.{IsCharBoundary}
 use Rattle.yq_text.specs.Halves.{whole}
-use Rattle.yq_scalar.specs.Text.{is_empty}
+use Rattle.yq_flow_scalars.specs.Text.{is_empty}
 use Rattle.yq_places.specs.CommentPlaces.{LineEnd}
 use Rattle.yq_places.specs.PrintedLines.{last_break, less_break}
 use Rattle.yq_places.specs.declared.places.lines_cut.LinesCut as declared_lines

@@ -3,9 +3,9 @@ use Rattle.std.specs.Prelude.{ℕ, ◌+◌, List, [], ◌∷◌, slice_get, map,
 use denote.Bor.{Bor}
 use Rattle.yq_inline.specs.declared.path.Step as steps
 use Rattle.yq_inline.specs.Entries.{step_of}
-use Rattle.yq_scalar.specs.Answers.{◌>>=◌}
-use Rattle.yq_scalar.specs.Paths.{Step, node_at}
-use Rattle.yq_scalar.specs.Tree as tree
+use Rattle.yq_flow_scalars.specs.Answers.{◌>>=◌}
+use Rattle.yq_flow_scalars.specs.Paths.{Step, node_at}
+use Rattle.yq_flow_scalars.specs.Tree as tree
 use Rattle.yq_lines.specs.Ends.{part, reached}
 use Rattle.yq_lines.specs.Outline.{Line, level, value}
 use Rattle.yq_lines.specs.Positions.{begins_with_node}

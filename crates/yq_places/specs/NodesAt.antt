@@ -1,10 +1,10 @@
 -- What a node at a path is, as far as updates ask (YAML 1.2.2, 3.2.1; own).
 use Rattle.std.specs.Prelude.{ℕ, nat_lt, List, slice_get, Bool, false, Option, Some, None}
-use Rattle.yq_scalar.specs.declared.kind.Kind.{Kind}
-use Rattle.yq_scalar.specs.Answers.{◌>>=◌}
-use Rattle.yq_scalar.specs.Scalar.{ScalarText}
-use Rattle.yq_scalar.specs.Tree as tree
-use Rattle.yq_scalar.specs.Paths.{Step, node_at}
+use Rattle.yq_flow_scalars.specs.declared.kind.Kind.{Kind}
+use Rattle.yq_flow_scalars.specs.Answers.{◌>>=◌}
+use Rattle.yq_flow_scalars.specs.Scalar.{ScalarText}
+use Rattle.yq_flow_scalars.specs.Tree as tree
+use Rattle.yq_flow_scalars.specs.Paths.{Step, node_at}
 use Rattle.yq_lines.specs.Counts.{count}
 use Rattle.yq_lines.specs.declared.line.Content.{Content}
 use Rattle.yq_lines.specs.View.{content_view}

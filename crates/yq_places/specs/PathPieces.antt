@@ -1,7 +1,7 @@
 -- The pieces of a text where nodes, entries, items and comments at paths stand (YAML 1.2.2, 7.4 and 8; own).
 use Rattle.std.specs.Prelude.{ℕ, suc, List, [], ◌∷◌, ◌++◌, length, take, drop, map, slice_get, Option, Some, None, is_some, option_map, option_and_then, if◌then◌else◌}
-use Rattle.yq_scalar.specs.Answers.{◌>>=◌}
-use Rattle.yq_scalar.specs.Paths.{Step, is_here, further}
+use Rattle.yq_flow_scalars.specs.Answers.{◌>>=◌}
+use Rattle.yq_flow_scalars.specs.Paths.{Step, is_here, further}
 use Rattle.yq_inline.specs.Nodes.{Key, bare, Node, empty, alias, scalar, coll, anchored, Items, none, item, key_text, sep_text, open_of, node_text, items_text}
 use Rattle.yq_inline.specs.Trees.{inner, key_content}
 use Rattle.yq_rows.specs.Rows.{Content, Nothing, Inline, Block, Cut}

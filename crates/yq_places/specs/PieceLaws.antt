@@ -1,9 +1,9 @@
 -- What stands in pieces of a text (own).
 use Rattle.std.specs.Prelude.{◌≡◌, ◌<◌, ◌⊎◌, ℕ, List, [], ◌∷◌, ◌++◌, map, Option, Some, None, slice_get, Bool, true, false}
-use Rattle.yq_scalar.specs.declared.kind.Kind.TheVariants.{Text}
+use Rattle.yq_flow_scalars.specs.declared.kind.Kind.TheVariants.{Text}
 use Rattle.yq_scalar.specs.Block.{BlockText, block_text, IsBlock}
 use Rattle.yq_scalar.specs.BlockContent.{block_content}
-use Rattle.yq_scalar.specs.Tree as tree
+use Rattle.yq_flow_scalars.specs.Tree as tree
 use Rattle.yq_inline.specs.Nodes.{Key, key_text, Node, node_text, IsNode}
 use Rattle.yq_inline.specs.Trees.{tree_of, inner, key_content}
 use Rattle.yq_rows.specs.Rows.{Part as Rows, Cut}

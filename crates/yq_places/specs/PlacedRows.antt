@@ -1,7 +1,7 @@
 -- A document's rows in the text of a cut, and the row of the line to which a path leads (YAML 1.2.2, 9.1; own).
 use Rattle.std.specs.Prelude.{ℕ, zero, suc, List, [], ◌++◌, take, drop, slice_get, Option, option_map}
-use Rattle.yq_scalar.specs.Answers.{◌>>=◌}
-use Rattle.yq_scalar.specs.Paths.{Step}
+use Rattle.yq_flow_scalars.specs.Answers.{◌>>=◌}
+use Rattle.yq_flow_scalars.specs.Paths.{Step}
 use Rattle.yq_rows.specs.Rows.{Row, rows_text, Part, part_text, Cut, last, marked}
 use Rattle.yq_rows.specs.Splices.{nth_part, behind_part}
 use Rattle.yq_documents.specs.Documents.{document_parts}

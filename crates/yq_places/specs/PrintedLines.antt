@@ -1,6 +1,6 @@
 -- The lines of a text with their texts, and runs of them (YAML 1.2.2, 8; own).
 use Rattle.std.specs.Prelude.{ℕ, suc, ◌+◌, ◌&&◌, List, [], ◌∷◌, ◌++◌, length, drop, replicate, Option, Some, None, Bool, false, if◌then◌else◌}
-use Rattle.yq_scalar.specs.Text.{is_empty, is_feed, is_return}
+use Rattle.yq_flow_scalars.specs.Text.{is_empty, is_feed, is_return}
 use Rattle.yq_rows.specs.Rows.{Content, Nothing, mark_text, content_text, Row, last}
 use Rattle.yq_rows.specs.View.{content_cut}
 use Rattle.yq_walk.specs.Lines.{mark_line, dash_line}

@@ -1,10 +1,10 @@
 -- Where an item or entry of a block collection, with whole rows, is taken out of a text (YAML 1.2.2, 8.2 and 9.1; own).
 use Rattle.std.specs.Prelude.{ℕ, zero, suc, ◌-◌, ◌==◌, nat_lt, List, [], ◌∷◌, ◌++◌, length, slice_get, take, drop, Option, Some, None, option_map, Bool, false, if◌then◌else◌}
-use Rattle.yq_scalar.specs.Answers.{◌>>=◌}
+use Rattle.yq_flow_scalars.specs.Answers.{◌>>=◌}
 use Rattle.yq_scalar.specs.Block.{BlockText, keeps}
-use Rattle.yq_scalar.specs.Paths.{Step, node_at}
-use Rattle.yq_scalar.specs.Text.{joined, lines_of as text_lines}
-use Rattle.yq_scalar.specs.Tree.{Node, children_of}
+use Rattle.yq_flow_scalars.specs.Paths.{Step, node_at}
+use Rattle.yq_flow_scalars.specs.Text.{joined, lines_of as text_lines}
+use Rattle.yq_flow_scalars.specs.Tree.{Node, children_of}
 use Rattle.yq_rows.specs.Removal.{hold_comment, last_block, next_column}
 use Rattle.yq_rows.specs.Rows.{Row, rows_text, Cut}
 use Rattle.yq_rows.specs.Splices.{behind_first, first_gap}

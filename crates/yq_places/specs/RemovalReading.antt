@@ -1,8 +1,8 @@
 -- Reading (own; a reader may skip it): what is taken out with an item or entry, by the pieces of rows, as the code counts.
 use Rattle.std.specs.Prelude.{◌≡◌, ℕ, ◌+◌, false, List, [], ◌∷◌, ◌++◌, length, slice_get, Option, Some, None, option_map}
 use Rattle.yq_text.specs.Halves.{whole}
-use Rattle.yq_scalar.specs.Answers.{◌>>=◌}
-use Rattle.yq_scalar.specs.Paths.{Step}
+use Rattle.yq_flow_scalars.specs.Answers.{◌>>=◌}
+use Rattle.yq_flow_scalars.specs.Paths.{Step}
 use Rattle.yq_rows.specs.Grammar.{IsCut, no_rows}
 use Rattle.yq_rows.specs.Rows.{Cut}
 use Rattle.yq_rows.specs.View.{Slices, Bound, bounds_at, RowsView, rows_view}

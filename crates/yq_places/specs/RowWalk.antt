@@ -9,7 +9,7 @@ use Rattle.yq_documents.specs.Reading.{all_documents, cut_of}
 use Rattle.yq_documents.specs.LinesInRows.{document_row}
 use Rattle.yq_inline.specs.Entries.{step_of}
 use Rattle.yq_lines.specs.Ends.{reached}
-use Rattle.yq_scalar.specs.Paths.{Step}
+use Rattle.yq_flow_scalars.specs.Paths.{Step}
 use Rattle.yq_walk.specs.Lines.{lines_of}
 use Rattle.yq_walk.specs.RowWalk.{IsKnown, AreKnown, HasDocument, IsLine, line_number}
 use Rattle.yq_walk.specs.declared.position.KnownItem.{KnownItem}

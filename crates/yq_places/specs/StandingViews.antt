@@ -1,8 +1,8 @@
 -- What the code tells of what stands at a place (own).
 use Rattle.std.specs.Prelude.{ℕ, ◌==◌, List, length, Option, Some, None, if◌then◌else◌}
 use Rattle.yq_text.specs.Halves.{whole}
-use Rattle.yq_scalar.specs.Answers.{◌>>=◌}
-use Rattle.yq_scalar.specs.Paths.{Step}
+use Rattle.yq_flow_scalars.specs.Answers.{◌>>=◌}
+use Rattle.yq_flow_scalars.specs.Paths.{Step}
 use Rattle.yq_rows.specs.Rows.{Cut}
 use Rattle.yq_places.specs.Standings.{Mark, Held, Lone, Compact, BlockRoot, NoRows, Standing, RowsOfEntry, alone, beside, under, compact, block, root, no_rows, held, rows_of_entry}
 use Rattle.yq_places.specs.declared.places.held.Held as declared_held

@@ -1,7 +1,7 @@
 -- What an update changes: place by place, and document by document.
 use Rattle.std.proofs.Common.{◌≡◌, ℕ, suc, ◌+◌, ◌<◌, ◌≤◌, List, [], ◌∷◌, ◌++◌, length, map, drop, refl, sym, ap, ◌∙◌, subst, append-nil, append_assoc, add-one, arith}
 use Rattle.std.proofs.lemmas.List.{drop_all}
-use Rattle.yq_scalar.specs.Tree.{Node}
+use Rattle.yq_flow_scalars.specs.Tree.{Node}
 use Rattle.yq_documents.specs.Documents.{Document}
 use Rattle.yq_meaning.specs.Changes.{Room, Changed, put_at, at_each, with_value, changes_at, changes_in, changes_from}
 use Rattle.yq_meaning.specs.Judgement.{MatchFails, Judgement, and_then, gives, refuses}

@@ -10,10 +10,10 @@ use Rattle.std.specs.Borrow.{Bor}
 use Rattle.std.specs.Cmp.Lexicographic.{slice_cmp}
 use Rattle.std.specs.List.{list_any}
 use Rattle.std.specs.Ordering.{nat_cmp}
-use Rattle.yq_scalar.specs.Paths.{key_is}
-use Rattle.yq_scalar.specs.Tree as tree
-use Rattle.yq_scalar.specs.Tree.{Label, Node}
-use Rattle.yq_scalar.specs.Anchors.{Name, names_of}
+use Rattle.yq_flow_scalars.specs.Paths.{key_is}
+use Rattle.yq_flow_scalars.specs.Tree as tree
+use Rattle.yq_flow_scalars.specs.Tree.{Label, Node}
+use Rattle.yq_flow_scalars.specs.Anchors.{Name, names_of}
 use Rattle.yq_lines.proofs.BoundLaws.{equal_back}
 use Rattle.yq_meaning.specs.Changes.{refers_to}
 use Rattle.yq_planning.specs.EntryNumbers.{number_kept}

@@ -4,12 +4,12 @@ use Rattle.std.proofs.lemmas.List.{drop_all}
 use Rattle.std.proofs.lemmas.Option.{same_Some}
 use Rattle.std.specs.List.{slice_get}
 use Rattle.std.specs.Prelude.{ℤ}
-use Rattle.yq_scalar.specs.declared.kind.Kind.{Kind}
-use Rattle.yq_scalar.specs.declared.kind.Kind.TheVariants as kinds
-use Rattle.yq_scalar.specs.Paths as paths
-use Rattle.yq_scalar.specs.Paths.{is_here, further, child_at}
-use Rattle.yq_scalar.specs.Tree as tree
-use Rattle.yq_scalar.specs.Tree.{Node, alias, scalar, list, Children, none, child}
+use Rattle.yq_flow_scalars.specs.declared.kind.Kind.{Kind}
+use Rattle.yq_flow_scalars.specs.declared.kind.Kind.TheVariants as kinds
+use Rattle.yq_flow_scalars.specs.Paths as paths
+use Rattle.yq_flow_scalars.specs.Paths.{is_here, further, child_at}
+use Rattle.yq_flow_scalars.specs.Tree as tree
+use Rattle.yq_flow_scalars.specs.Tree.{Node, alias, scalar, list, Children, none, child}
 use Rattle.yq_documents.specs.Documents.{Document}
 use Rattle.yq_meaning.specs.Conditions.{node_there, value_of, holds}
 use Rattle.yq_meaning.specs.Copies.{matches_in, matches_from}

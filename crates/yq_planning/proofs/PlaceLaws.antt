@@ -1,7 +1,7 @@
 -- What is missing from a place.
 use Rattle.std.proofs.Common.{◌≡◌, ℕ, suc, ◌+◌, List, [], ◌∷◌, ◌++◌, map, refl, sym, ap, ◌∙◌, append_assoc, add-one, arith}
 use Rattle.std.proofs.lemmas.List.{map_push}
-use Rattle.yq_scalar.specs.Tree.{Label, Node, Children, none, child}
+use Rattle.yq_flow_scalars.specs.Tree.{Label, Node, Children, none, child}
 use Rattle.yq_lines.specs.Counts.{count}
 use Rattle.yq_lines.specs.Outline.{null_node}
 use Rattle.yq_meaning.specs.Conditions.{node_there}

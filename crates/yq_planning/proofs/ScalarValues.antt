@@ -1,7 +1,7 @@
 -- The node of a scalar of the code.
 use Rattle.std.proofs.Common.{rules, ◌≡◌, None}
-use Rattle.yq_scalar.specs.Scalar.{ScalarText}
-use Rattle.yq_scalar.specs.Tree.{scalar}
+use Rattle.yq_flow_scalars.specs.Scalar.{ScalarText}
+use Rattle.yq_flow_scalars.specs.Tree.{scalar}
 use Rattle.yq_inline.specs.Values.{node_of}
 use Rattle.yq_inline.specs.declared.value.Value.{the_lemmas}
 use Rattle.yq_inline.specs.declared.value.Value.TheVariants as values

@@ -9,16 +9,16 @@ use Rattle.std.proofs.lemmas.Int.{to_z-of_z}
 use Rattle.std.proofs.lemmas.List.{length-map, map_push, take_more, take_rest}
 use mir.Val.{to_z, of_z}
 use Rattle.yq_inline.specs.Values.{items, entries}
-use Rattle.yq_scalar.specs.Numbers as numbers
-use Rattle.yq_scalar.specs.Numbers.{unsigned, minus}
-use Rattle.yq_scalar.specs.Paths.{To, child_at, change_child, append_child, append_children}
-use Rattle.yq_scalar.specs.Scalar.{of_kind, plain_of}
-use Rattle.yq_scalar.specs.SchemaReading.{resolve}
-use Rattle.yq_scalar.specs.Tree as tree
-use Rattle.yq_scalar.specs.Tree.{Node, Children, none, child}
-use Rattle.yq_scalar.specs.declared.kind.Kind.{Kind}
-use Rattle.yq_scalar.specs.declared.kind.Kind.TheVariants as kinds
-use Rattle.yq_scalar.proofs.SchemaLaws.{resolve_again}
+use Rattle.yq_flow_scalars.specs.Numbers as numbers
+use Rattle.yq_flow_scalars.specs.Numbers.{unsigned, minus}
+use Rattle.yq_flow_scalars.specs.Paths.{To, child_at, change_child, append_child, append_children}
+use Rattle.yq_flow_scalars.specs.Scalar.{of_kind, plain_of}
+use Rattle.yq_flow_scalars.specs.SchemaReading.{resolve}
+use Rattle.yq_flow_scalars.specs.Tree as tree
+use Rattle.yq_flow_scalars.specs.Tree.{Node, Children, none, child}
+use Rattle.yq_flow_scalars.specs.declared.kind.Kind.{Kind}
+use Rattle.yq_flow_scalars.specs.declared.kind.Kind.TheVariants as kinds
+use Rattle.yq_flow_scalars.proofs.SchemaLaws.{resolve_again}
 use Rattle.yq_documents.specs.TreeEdits.{new_label}
 use Rattle.yq_planning.specs.EntryNumbers.{entry_number, number_kept}
 use Rattle.yq_meaning.specs.Judgement.{Judgement, and_then, gives, refuses}

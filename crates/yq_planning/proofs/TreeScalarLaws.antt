@@ -2,13 +2,13 @@
 use Rattle.std.proofs.Common.{◌≡◌, ℕ, zero, suc, ◌+◌, ◌==◌, nat_lt, Bool, true, false, cond, List, [], ◌∷◌, ◌++◌, map, Option, Some, None, refl, subst}
 use Rattle.std.proofs.lemmas.Option.{none-some}
 use Rattle.std.specs.List.{slice_get}
-use Rattle.yq_scalar.specs.declared.kind.Kind.{Kind}
-use Rattle.yq_scalar.specs.declared.kind.Kind.TheVariants as kinds
-use Rattle.yq_scalar.specs.Scalar.{IsScalar, of_kind, string_of, plain_of}
-use Rattle.yq_scalar.specs.ContentReading.{plain_content, quoted_content}
-use Rattle.yq_scalar.specs.SchemaReading.{resolve}
-use Rattle.yq_scalar.specs.Tree as tree
-use Rattle.yq_scalar.specs.Tree.{Node, Children}
+use Rattle.yq_flow_scalars.specs.declared.kind.Kind.{Kind}
+use Rattle.yq_flow_scalars.specs.declared.kind.Kind.TheVariants as kinds
+use Rattle.yq_flow_scalars.specs.Scalar.{IsScalar, of_kind, string_of, plain_of}
+use Rattle.yq_flow_scalars.specs.ContentReading.{plain_content, quoted_content}
+use Rattle.yq_flow_scalars.specs.SchemaReading.{resolve}
+use Rattle.yq_flow_scalars.specs.Tree as tree
+use Rattle.yq_flow_scalars.specs.Tree.{Node, Children}
 use Rattle.yq_inline.specs.Nodes as inline
 use Rattle.yq_inline.specs.Scalars.{is_quoted, scalar_of}
 use Rattle.yq_inline.specs.Trees.{tree_of, items_tree, with_name, node_head}

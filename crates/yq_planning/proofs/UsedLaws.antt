@@ -3,10 +3,10 @@ use Rattle.std.proofs.Common.{◌≡◌, ℕ, Bool, true, false, ◌||◌, cond,
 use Rattle.std.proofs.lemmas.Bool.{false≢true}
 use Rattle.std.proofs.lemmas.List.Folds.{list_any-append}
 use Rattle.std.specs.List.{list_any}
-use Rattle.yq_scalar.specs.Paths.{Step, To, child_at, node_at}
-use Rattle.yq_scalar.specs.Tree as tree
-use Rattle.yq_scalar.specs.Tree.{Label, Node, alias, scalar, list, Children, child, children_of}
-use Rattle.yq_scalar.specs.Anchors.{Name, Anchors, Refers, names_of, names_in}
+use Rattle.yq_flow_scalars.specs.Paths.{Step, To, child_at, node_at}
+use Rattle.yq_flow_scalars.specs.Tree as tree
+use Rattle.yq_flow_scalars.specs.Tree.{Label, Node, alias, scalar, list, Children, child, children_of}
+use Rattle.yq_flow_scalars.specs.Anchors.{Name, Anchors, Refers, names_of, names_in}
 use Rattle.yq_lines.specs.Names.{is_reference}
 use Rattle.yq_documents.specs.Nodes.{anchor_of, kind_of, text_of}
 use Rattle.yq_documents.specs.declared.nodes.node.NodeKind.TheVariants as kinds

@@ -5,9 +5,9 @@ use Rattle.std.specs.Borrow.{Bor}
 use Rattle.std.specs.Cmp.Lexicographic.{slice_cmp}
 use Rattle.std.specs.List.{list_any}
 use Rattle.std.specs.Ordering.{nat_cmp}
-use Rattle.yq_scalar.specs.Paths.{To, child_at, key_is}
-use Rattle.yq_scalar.specs.Tree.{Label, Node, Children}
-use Rattle.yq_scalar.specs.Anchors.{Name}
+use Rattle.yq_flow_scalars.specs.Paths.{To, child_at, key_is}
+use Rattle.yq_flow_scalars.specs.Tree.{Label, Node, Children}
+use Rattle.yq_flow_scalars.specs.Anchors.{Name}
 use Rattle.yq_documents.specs.Nodes.{node_of}
 use Rattle.yq_documents.specs.declared.nodes.node.Node as nodes
 use Rattle.yq_meaning.specs.Changes.{refers_to}

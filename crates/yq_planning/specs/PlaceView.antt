@@ -1,8 +1,8 @@
 -- The places that those of the code stand for.
 use Rattle.std.specs.Prelude.{List, [], ◌∷◌, ◌++◌, map, Option, Some, None, option_map}
-use Rattle.yq_scalar.specs.Paths as paths
-use Rattle.yq_scalar.specs.Paths.{To, Nth}
-use Rattle.yq_scalar.specs.Tree as tree
+use Rattle.yq_flow_scalars.specs.Paths as paths
+use Rattle.yq_flow_scalars.specs.Paths.{To, Nth}
+use Rattle.yq_flow_scalars.specs.Tree as tree
 use Rattle.yq_documents.specs.declared.nodes.node.Node as nodes
 use Rattle.yq_documents.specs.Nodes.{node_of}
 use Rattle.yq_lines.specs.Outline.{null_node}

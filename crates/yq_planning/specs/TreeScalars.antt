@@ -1,7 +1,7 @@
 -- Trees whose scalars have the kinds of their texts, as those of documents do.
 use Rattle.std.specs.Prelude.{List, [], ◌∷◌, ⊤}
-use Rattle.yq_scalar.specs.Scalar.{IsScalar}
-use Rattle.yq_scalar.specs.Tree.{Node, alias, scalar, list, map, Children, none, child}
+use Rattle.yq_flow_scalars.specs.Scalar.{IsScalar}
+use Rattle.yq_flow_scalars.specs.Tree.{Node, alias, scalar, list, map, Children, none, child}
 use Rattle.yq_meaning.specs.Places.{Place}
 
 abbrev mutual

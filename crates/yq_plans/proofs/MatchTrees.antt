@@ -1,12 +1,12 @@
 -- Matches of documents that are ready: trees with no more collections nested than in these.
 use Rattle.std.proofs.Common.{◌≡◌, ◌≤◌, ℕ, suc, Bool, true, false, cond, List, [], ◌∷◌, ◌++◌, max, Option, Some, None, option_and_then, Result, Ok, Err, IfOk, slice_get, refl, subst, arith}
 use Rattle.std.proofs.lemmas.Option.{none-some, same_Some}
-use Rattle.yq_scalar.specs.Keys.{depth, deepest}
-use Rattle.yq_scalar.specs.Paths as paths
-use Rattle.yq_scalar.specs.Paths.{is_here, further, child_at, node_at}
-use Rattle.yq_scalar.specs.Shapes.{IsTree}
-use Rattle.yq_scalar.specs.Tree as tree
-use Rattle.yq_scalar.specs.Tree.{Node, alias, scalar, list, Children, none, child, children_of}
+use Rattle.yq_flow_scalars.specs.Keys.{depth, deepest}
+use Rattle.yq_flow_scalars.specs.Paths as paths
+use Rattle.yq_flow_scalars.specs.Paths.{is_here, further, child_at, node_at}
+use Rattle.yq_flow_scalars.specs.Shapes.{IsTree}
+use Rattle.yq_flow_scalars.specs.Tree as tree
+use Rattle.yq_flow_scalars.specs.Tree.{Node, alias, scalar, list, Children, none, child, children_of}
 use Rattle.yq_inline.specs.Values.{items, entries}
 use Rattle.yq_documents.specs.Documents.{Document}
 use Rattle.yq_meaning.specs.Conditions.{node_there, value_of}

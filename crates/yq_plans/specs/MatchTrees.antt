@@ -1,8 +1,8 @@
 -- What each match is, of documents that are ready.
 use Rattle.std.specs.Prelude.{ℕ, ◌≤◌, ⊤, List, [], ◌∷◌}
-use Rattle.yq_scalar.specs.Keys.{depth}
-use Rattle.yq_scalar.specs.Shapes.{IsTree}
-use Rattle.yq_scalar.specs.Tree.{Node}
+use Rattle.yq_flow_scalars.specs.Keys.{depth}
+use Rattle.yq_flow_scalars.specs.Shapes.{IsTree}
+use Rattle.yq_flow_scalars.specs.Tree.{Node}
 use Rattle.yq_inline.specs.Inline.{depth_limit}
 
 -- A tree, in which the keys of each mapping differ, with no more collections nested than may be (YAML 1.2.2, section 3.2.1.3; own).

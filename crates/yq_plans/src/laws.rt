@@ -1,9 +1,9 @@
 //! Laws of expressions.
 ghost use Rattle.std.specs.Prelude.{◌≡◌, ℕ, List, [], ◌∷◌};
-ghost use Rattle.yq_scalar.specs.PathOrder.{Apart};
-ghost use Rattle.yq_scalar.specs.Paths.{Step as TreeStep, change, node_at};
-ghost use Rattle.yq_scalar.specs.Shapes.{IsTree};
-ghost use Rattle.yq_scalar.specs.Tree.{Node};
+ghost use Rattle.yq_flow_scalars.specs.PathOrder.{Apart};
+ghost use Rattle.yq_flow_scalars.specs.Paths.{Step as TreeStep, change, node_at};
+ghost use Rattle.yq_flow_scalars.specs.Shapes.{IsTree};
+ghost use Rattle.yq_flow_scalars.specs.Tree.{Node};
 ghost use Rattle.yq_documents.specs.Documents.{Document};
 ghost use Rattle.yq_meaning.specs.After.{document_of, after_op, all_after};
 ghost use Rattle.yq_meaning.specs.Changes.{Room};

@@ -3,10 +3,10 @@ use Rattle.std.proofs.Common.{◌≡◌, ℕ, ◌<◌, true, false, ◌==◌, no
 use Rattle.std.proofs.lemmas.Bool.{not-true, false≢true, and_parts, cases_Bool}
 use Rattle.std.specs.List.{prefix_len}
 use Rattle.std.specs.Str.{IsCharBoundary}
-use Rattle.yq_scalar.specs.Text.{unless, upto, cut}
-use Rattle.yq_scalar.proofs.Boundaries.{boundary_ends}
-use Rattle.yq_scalar.proofs.Bools.{guard_then}
-use Rattle.yq_scalar.proofs.Upto.{upto_ends, upto_unless}
+use Rattle.yq_flow_scalars.specs.Text.{unless, upto, cut}
+use Rattle.yq_flow_scalars.proofs.Boundaries.{boundary_ends}
+use Rattle.yq_flow_scalars.proofs.Bools.{guard_then}
+use Rattle.yq_flow_scalars.proofs.Upto.{upto_ends, upto_unless}
 use Rattle.yq_program.specs.Tokens.{escape, put}
 use Rattle.yq_program.specs.Lexing.{content, content_escaped, is_plain, escape_front}
 

@@ -6,11 +6,11 @@ use Rattle.std.proofs.lemmas.Bool.{not-true, false≢true, false_from_ne_true, a
 use Rattle.std.proofs.lemmas.List.Folds.{list_any_at, Any-from_list_any}
 use Rattle.std.proofs.lemmas.List.Kept.{AllPairs-cons}
 use Rattle.std.proofs.lemmas.Slice.Eq.{bytes_eq-Decides}
-use Rattle.yq_scalar.specs.Keys.{AreDistinct, are_distinct}
+use Rattle.yq_flow_scalars.specs.Keys.{AreDistinct, are_distinct}
 use Rattle.std.specs.Prelude.{codes, string_bytes, String, Vec}
 use Rattle.std.specs.declared.alloc.Global.{Global}
-use Rattle.yq_scalar.specs.Tree.{Node}
-use Rattle.yq_scalar.specs.Tree as tree
+use Rattle.yq_flow_scalars.specs.Tree.{Node}
+use Rattle.yq_flow_scalars.specs.Tree as tree
 use Rattle.yq_inline.specs.declared.value.Value.{Value, Map as MapValue, the_lemmas}
 use Rattle.yq_program.specs.Lexing.{after}
 use Rattle.yq_program.specs.Tokens.{Token}

@@ -8,10 +8,10 @@ use Rattle.std.proofs.lemmas.Str.{IsCharBoundary-after_ascii}
 use Rattle.std.specs.Char.{is_ascii_digit}
 use Rattle.std.specs.List.{prefix_len}
 use Rattle.std.specs.Str.{IsUtf8, IsCharBoundary}
-use Rattle.yq_scalar.specs.Text.{front}
-use Rattle.yq_scalar.proofs.Boundaries.{boundary_unless}
-use Rattle.yq_scalar.proofs.Upto.{upto_unless}
-use Rattle.yq_scalar.proofs.Bools.{chosen, guard_then}
+use Rattle.yq_flow_scalars.specs.Text.{front}
+use Rattle.yq_flow_scalars.proofs.Boundaries.{boundary_unless}
+use Rattle.yq_flow_scalars.proofs.Upto.{upto_unless}
+use Rattle.yq_flow_scalars.proofs.Bools.{chosen, guard_then}
 use Rattle.yq_program.specs.Tokens.{Token, is_blank, begins_name, is_name_byte, is_word, is_mark, is_mark_before, is_foreign, escape}
 use Rattle.yq_program.specs.Lexing.{beyond, closing, escaping, quoted, fraction_len, number_len, dotted, marked, worded, measure, cut_token, front_token, next, ahead, tokens_in, tokens}
 use Rattle.yq_program.specs.declared.token.Form.{Form}

@@ -4,9 +4,9 @@ use Rattle.std.specs.Prelude.{codes}
 use Rattle.std.specs.Str.{bytes_eq}
 use Rattle.std.proofs.lemmas.Bool.{false≢true, cases_Bool}
 use Rattle.std.proofs.lemmas.Slice.Eq.{bytes_eq-Decides}
-use Rattle.yq_scalar.specs.Scalar.{ScalarText}
-use Rattle.yq_scalar.specs.Tree.{Node}
-use Rattle.yq_scalar.specs.SchemaReading.{is_one_of}
+use Rattle.yq_flow_scalars.specs.Scalar.{ScalarText}
+use Rattle.yq_flow_scalars.specs.Tree.{Node}
+use Rattle.yq_flow_scalars.specs.SchemaReading.{is_one_of}
 use Rattle.yq_program.specs.Tokens.{Token, symbol, scalar_words}
 use Rattle.yq_program.specs.Lexing.{after, taken, as_step}
 use Rattle.yq_program.specs.Grammar.{Production, HasSymbol, IsPlainLiteral, AreListed, IsField, IsLiteral}

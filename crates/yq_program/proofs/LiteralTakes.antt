@@ -2,10 +2,10 @@
 use Rattle.std.proofs.Common.{◌≡◌, ℕ, zero, suc, true, List, [], ◌∷◌, length, map, Some, refl, ap, ◌∙◌, subst, inl, inr, arith}
 use Rattle.std.proofs.lemmas.Option.{cond_some}
 use Rattle.std.specs.Prelude.{codes}
-use Rattle.yq_scalar.specs.Tree.{Node}
-use Rattle.yq_scalar.proofs.Bools.{bind_some}
-use Rattle.yq_scalar.specs.Keys.{are_distinct}
-use Rattle.yq_scalar.specs.SchemaReading.{is_one_of}
+use Rattle.yq_flow_scalars.specs.Tree.{Node}
+use Rattle.yq_flow_scalars.proofs.Bools.{bind_some}
+use Rattle.yq_flow_scalars.specs.Keys.{are_distinct}
+use Rattle.yq_flow_scalars.specs.SchemaReading.{is_one_of}
 use Rattle.yq_program.specs.Tokens.{Token, string, symbol, scalar_words}
 use Rattle.yq_program.specs.Lexing.{after, taken, as_number, as_string}
 use Rattle.yq_program.specs.Grammar.{Production, HasSymbol, AreParted, IsPlainLiteral, AreListed, IsField, IsScalarNode, IsLiteral}

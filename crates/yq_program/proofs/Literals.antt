@@ -3,11 +3,11 @@ use Rattle.std.proofs.Common.{◌≡◌, ◌≢◌, ℕ, zero, suc, ◌≤◌, L
 use Rattle.std.proofs.lemmas.Option.{same_Some}
 use Rattle.std.specs.List.{All}
 use Rattle.std.specs.Prelude.{⊤, codes}
-use Rattle.yq_scalar.specs.Keys.{AreDistinct, depth, deepest}
-use Rattle.yq_scalar.specs.Shapes.{IsNew, AreItems, AreEntries, IsTree, AreTrees}
-use Rattle.yq_scalar.specs.Tree as tree
-use Rattle.yq_scalar.specs.Tree.{Label, Node, list, Children, none, child}
-use Rattle.yq_scalar.specs.Anchors.{names_of, names_in}
+use Rattle.yq_flow_scalars.specs.Keys.{AreDistinct, depth, deepest}
+use Rattle.yq_flow_scalars.specs.Shapes.{IsNew, AreItems, AreEntries, IsTree, AreTrees}
+use Rattle.yq_flow_scalars.specs.Tree as tree
+use Rattle.yq_flow_scalars.specs.Tree.{Label, Node, list, Children, none, child}
+use Rattle.yq_flow_scalars.specs.Anchors.{names_of, names_in}
 use Rattle.yq_program.specs.Program.{Term, literal, found, Update, assign, delete, comment, Program, read, updates, IsValue, SumHolds, UpdatesHold, LiteralsHold}
 use Rattle.yq_program.specs.Tokens.{Token}
 use Rattle.yq_inline.specs.Values.{items, entries}

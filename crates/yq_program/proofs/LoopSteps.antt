@@ -1,7 +1,7 @@
 -- Loops over forms one after the other, a turn at a time.
 use Rattle.std.proofs.Common.{◌≡◌, ℕ, List, [], ◌∷◌, ◌++◌, ◌<◌, subst, length, map, Option, Some, None, option_map, refl, sym, ap, ◌∙◌, append_assoc, append-nil, Result, Err}
 use Rattle.std.proofs.lemmas.List.{map_push}
-use Rattle.yq_scalar.specs.Answers.{◌>>=◌}
+use Rattle.yq_flow_scalars.specs.Answers.{◌>>=◌}
 use Rattle.yq_program.specs.declared.error.ParseError.{ParseError}
 use Rattle.yq_program.specs.declared.error.ParseError.TheVariants as error
 use Rattle.yq_program.specs.Tokens.{Token}

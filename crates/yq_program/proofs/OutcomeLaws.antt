@@ -1,6 +1,6 @@
 -- That the outcome of a text is what it comes to by the grammar, and nothing else.
 use Rattle.std.proofs.Common.{◌≡◌, ◌⊎◌, ◌↔◌, ℕ, Bool, true, false, List, Option, Some, None, refl, sym, ap, ◌∙◌, inl, inr, arith}
-use Rattle.yq_scalar.proofs.Bools.{chosen}
+use Rattle.yq_flow_scalars.proofs.Bools.{chosen}
 use Rattle.yq_program.specs.declared.error.ParseError.{ParseError}
 use Rattle.yq_program.specs.declared.error.ParseError.TheVariants as error
 use Rattle.yq_program.specs.Tokens.{Token, AreTokens}

@@ -3,7 +3,7 @@ use Rattle.std.proofs.Common.{◌≡◌, ◌⊎◌, ℕ, zero, suc, ◌+◌, ◌
 use Rattle.std.proofs.lemmas.Bool.{false≢true, or_cases, lt-ltb, or_parts}
 use Rattle.std.proofs.lemmas.Option.{none-some}
 use Rattle.std.specs.Prelude.{IfOk, IfErr}
-use Rattle.yq_scalar.proofs.Bools.{chosen}
+use Rattle.yq_flow_scalars.proofs.Bools.{chosen}
 use Rattle.yq_program.specs.declared.error.ParseError.{ParseError}
 use Rattle.yq_program.specs.declared.error.ParseError.TheVariants as error
 use Rattle.yq_program.specs.Tokens.{Token, string, number, step, symbol, foreign, unread, AreTokens}

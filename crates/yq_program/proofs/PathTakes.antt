@@ -2,8 +2,8 @@
 use Rattle.std.proofs.Common.{◌≡◌, true, false, List, [], ◌∷◌, length, Some, is_some, refl, ap, ◌∙◌, inl, inr, arith}
 use Rattle.std.proofs.lemmas.Option.{same_Some}
 use Rattle.std.specs.Prelude.{codes}
-use Rattle.yq_scalar.specs.SchemaReading.{int_value}
-use Rattle.yq_scalar.proofs.Bools.{bind_some, chosen}
+use Rattle.yq_flow_scalars.specs.SchemaReading.{int_value}
+use Rattle.yq_flow_scalars.proofs.Bools.{bind_some, chosen}
 use Rattle.yq_program.specs.Program.{Step, key, index, each}
 use Rattle.yq_program.specs.Tokens.{Token, string, number, symbol}
 use Rattle.yq_program.specs.Lexing.{after, taken, as_number, as_string, as_step}

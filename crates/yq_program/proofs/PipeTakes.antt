@@ -2,7 +2,7 @@
 use Rattle.std.proofs.Common.{◌≡◌, Bool, true, List, [], ◌∷◌, length, Some, refl, ap, subst, inl, inr, arith}
 use Rattle.std.proofs.lemmas.Option.{cond_some}
 use Rattle.std.specs.Prelude.{codes}
-use Rattle.yq_scalar.proofs.Bools.{bind_some}
+use Rattle.yq_flow_scalars.proofs.Bools.{bind_some}
 use Rattle.yq_program.specs.Program.{is_simple, Step, key, index, each, Operand, value_at, document_index, compares, has, path, select}
 use Rattle.yq_program.specs.Tokens.{Token, string, symbol}
 use Rattle.yq_program.specs.Lexing.{after, taken, as_string}

@@ -3,8 +3,8 @@ use Rattle.std.proofs.Common.{◌≡◌, ◌⊎◌, ℕ, zero, suc, ◌+◌, ◌
 use Rattle.std.proofs.lemmas.Option.{cond_some, same_Some}
 use Rattle.std.specs.Cmp.Lexicographic.{same_text}
 use Rattle.std.specs.Prelude.{option_map}
-use Rattle.yq_scalar.specs.Answers.{◌>>=◌}
-use Rattle.yq_scalar.proofs.Bools.{bind_some}
+use Rattle.yq_flow_scalars.specs.Answers.{◌>>=◌}
+use Rattle.yq_flow_scalars.proofs.Bools.{bind_some}
 use Rattle.yq_program.specs.Tokens.{Token, is_symbol, string, number, step, symbol, foreign, unread}
 use Rattle.yq_program.specs.Lexing.{after, taken, as_number, as_string, as_step}
 use Rattle.yq_program.specs.Grammar.{Production, HasSymbol, Are, Behind, AreParted, Between}

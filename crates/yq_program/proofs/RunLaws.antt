@@ -3,8 +3,8 @@ use Rattle.std.proofs.Common.{◌≡◌, ℕ, suc, ◌+◌, Bool, true, false, c
 use Rattle.std.proofs.lemmas.Bool.{not-true, and_parts, cases_Bool, or_parts}
 use Rattle.std.proofs.lemmas.Option.{same_Some}
 use Rattle.std.specs.List.{prefix_len, list_all}
-use Rattle.yq_scalar.specs.Text.{front, unless}
-use Rattle.yq_scalar.proofs.Bools.{chosen, guard_then}
+use Rattle.yq_flow_scalars.specs.Text.{front, unless}
+use Rattle.yq_flow_scalars.proofs.Bools.{chosen, guard_then}
 use Rattle.yq_program.specs.declared.token.Form.{Form}
 use Rattle.yq_program.specs.declared.token.Form.TheVariants as form
 use Rattle.yq_program.specs.Tokens.{Token, foreign, escape, Character, itself, escaped, spelling, AreCharacters, interpolates, put, said, IsString}

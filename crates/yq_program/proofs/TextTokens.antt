@@ -5,7 +5,7 @@ use Rattle.std.proofs.lemmas.List.{take-append-drop}
 use Rattle.std.proofs.Math.Seq.{take-append_seam, drop-append_seam}
 use Rattle.std.proofs.lemmas.Option.{none-some}
 use Rattle.std.specs.List.{prefix_len, list_all}
-use Rattle.yq_scalar.specs.Text.{unless}
+use Rattle.yq_flow_scalars.specs.Text.{unless}
 use Rattle.yq_program.specs.declared.token.Form.{Form}
 use Rattle.yq_program.specs.Tokens.{Token, string, step, symbol, foreign, unread, is_blank, is_word, interpolates, IsToken, AreTokens}
 use Rattle.yq_program.specs.Lexing.{measure, token_of, cut_token, front_token, next, ahead, tokens, AreRead}

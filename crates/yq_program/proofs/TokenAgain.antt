@@ -5,8 +5,8 @@ use Rattle.std.proofs.Math.Bool.{and-false}
 use Rattle.std.proofs.Math.Seq.{take-append_seam, drop-append_seam}
 use Rattle.std.specs.Char.{is_ascii_digit}
 use Rattle.std.specs.List.{prefix_len}
-use Rattle.yq_scalar.specs.Text.{front}
-use Rattle.yq_scalar.proofs.Bools.{at_byte}
+use Rattle.yq_flow_scalars.specs.Text.{front}
+use Rattle.yq_flow_scalars.proofs.Bools.{at_byte}
 use Rattle.yq_program.specs.declared.token.Form.TheVariants as form
 use Rattle.yq_program.specs.Tokens.{Token, string, number, step, symbol, foreign, begins_name, is_name_byte, is_word, is_mark, is_mark_before, is_foreign, Character, spelling, AreCharacters, interpolates, said, IsString, IsBareName, begins_fraction, IsUnsigned, IsNumberToken, goes_on, begins_equals, IsMark, IsForeign, IsToken}
 use Rattle.yq_program.specs.Lexing.{closing, quoted, fraction_len, number_len, named, marked, measure, content, token_of}

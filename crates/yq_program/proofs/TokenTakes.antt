@@ -6,8 +6,8 @@ use Rattle.std.proofs.lemmas.Bool.{and_parts, cases_Bool}
 use Rattle.std.proofs.lemmas.Option.{same_Some}
 use Rattle.std.specs.Char.{is_ascii_digit}
 use Rattle.std.specs.List.{prefix_len}
-use Rattle.yq_scalar.specs.Text.{front}
-use Rattle.yq_scalar.proofs.Bools.{chosen, guard_then}
+use Rattle.yq_flow_scalars.specs.Text.{front}
+use Rattle.yq_flow_scalars.proofs.Bools.{chosen, guard_then}
 use Rattle.yq_program.specs.declared.token.Form.{Form}
 use Rattle.yq_program.specs.declared.token.Form.TheVariants as form
 use Rattle.yq_program.specs.Tokens.{Token, string, step, symbol, foreign, begins_name, is_name_byte, is_word, is_mark, is_mark_before, is_foreign, IsBareName, AreDigits, begins_fraction, IsUnsigned, goes_on, begins_equals, IsToken}

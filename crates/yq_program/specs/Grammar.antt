@@ -1,10 +1,10 @@
 -- The grammar of expressions. `IsX x ts rest` says that the tokens ts are the form x and then the tokens rest.
 use Rattle.std.specs.Prelude.{◌≡◌, ℕ, zero, suc, ◌⊎◌, Bool, true, false, List, [], ◌∷◌, map, Some, None, codes}
-use Rattle.yq_scalar.specs.Keys.{AreDistinct}
-use Rattle.yq_scalar.specs.Scalar.{ScalarText, string_of, plain_of}
-use Rattle.yq_scalar.specs.SchemaReading.{int_value, is_one_of}
-use Rattle.yq_scalar.specs.Tree.{Node}
-use Rattle.yq_scalar.specs.Tree as tree
+use Rattle.yq_flow_scalars.specs.Keys.{AreDistinct}
+use Rattle.yq_flow_scalars.specs.Scalar.{ScalarText, string_of, plain_of}
+use Rattle.yq_flow_scalars.specs.SchemaReading.{int_value, is_one_of}
+use Rattle.yq_flow_scalars.specs.Tree.{Node}
+use Rattle.yq_flow_scalars.specs.Tree as tree
 use Rattle.yq_program.specs.declared.program.Operator.{Operator}
 use Rattle.yq_program.specs.declared.program.Operator.TheVariants as operator
 use Rattle.yq_program.specs.declared.program.CommentPlace.{CommentPlace}

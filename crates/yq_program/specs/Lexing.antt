@@ -2,7 +2,7 @@
 use Rattle.std.specs.Prelude.{◌≡◌, ℕ, zero, suc, ◌+◌, if◌then◌else◌, Bool, true, false, ◌||◌, ◌&&◌, ◌==◌, List, [], ◌∷◌, length, take, drop, Option, Some, None, is_some, option_map, not}
 use Rattle.std.specs.Char.{is_ascii_digit}
 use Rattle.std.specs.List.{prefix_len}
-use Rattle.yq_scalar.specs.Text.{front}
+use Rattle.yq_flow_scalars.specs.Text.{front}
 use Rattle.yq_program.specs.Tokens.{Token, is_symbol, string, number, step, symbol, foreign, unread, is_blank, begins_name, is_name_byte, is_word, is_mark, is_mark_before, is_foreign, escape, put}
 use Rattle.yq_program.specs.declared.token.Form.{Form}
 use Rattle.yq_program.specs.declared.token.Form.TheVariants as form

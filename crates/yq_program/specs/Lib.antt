@@ -8,4 +8,4 @@ pub mod TokenView
 pub mod Tokens
 pub use Rattle.yq_inline.specs.Values
 pub mod View
-pub use Rattle.yq_scalar.specs.Tree
+pub use Rattle.yq_flow_scalars.specs.Tree

@@ -1,10 +1,10 @@
 -- Reading (own; a reader may skip it: the grammar is what is believed, and the clauses `found` and `only` tie the two).
 use Rattle.std.specs.Prelude.{ℕ, zero, suc, ◌+◌, nat_lt, if◌then◌else◌, Bool, true, false, ◌||◌, List, [], ◌∷◌, length, map, Option, Some, None, is_some, codes}
-use Rattle.yq_scalar.specs.Answers.{◌>>=◌}
-use Rattle.yq_scalar.specs.Scalar.{ScalarText, string_of, plain_of}
-use Rattle.yq_scalar.specs.SchemaReading.{int_value}
-use Rattle.yq_scalar.specs.Tree.{Node}
-use Rattle.yq_scalar.specs.Tree as tree
+use Rattle.yq_flow_scalars.specs.Answers.{◌>>=◌}
+use Rattle.yq_flow_scalars.specs.Scalar.{ScalarText, string_of, plain_of}
+use Rattle.yq_flow_scalars.specs.SchemaReading.{int_value}
+use Rattle.yq_flow_scalars.specs.Tree.{Node}
+use Rattle.yq_flow_scalars.specs.Tree as tree
 use Rattle.yq_program.specs.declared.program.Operator.{Operator}
 use Rattle.yq_program.specs.declared.program.Operator.TheVariants as operator
 use Rattle.yq_program.specs.declared.program.CommentPlace.{CommentPlace}
@@ -16,7 +16,7 @@ use Rattle.yq_program.specs.Grammar.{literal_depth}
 use Rattle.yq_program.specs.declared.error.ParseError.TheVariants as error
 use Rattle.yq_program.specs.Lexing.{tokens, after, taken, as_number, as_string, as_step, is_end}
 use Rattle.yq_inline.specs.Values.{items, entries}
-use Rattle.yq_scalar.specs.Keys.{are_distinct}
+use Rattle.yq_flow_scalars.specs.Keys.{are_distinct}
 
 -- a reading function: the form in front and the tokens that follow, or nothing (own)
 abbrev pub Parse : Type 0 → Type 0

@@ -3,8 +3,8 @@ use Rattle.std.specs.Prelude.{◌≡◌, ℕ, ◌⊎◌, if◌then◌else◌, Bo
 use Rattle.std.specs.Char.{is_ascii_digit, is_ascii_alphabetic, is_ascii_alphanumeric}
 use Rattle.std.specs.List.{list_all}
 use Rattle.std.specs.Str.{bytes_eq}
-use Rattle.yq_scalar.specs.Text.{front, unless}
-use Rattle.yq_scalar.specs.SchemaReading.{is_one_of}
+use Rattle.yq_flow_scalars.specs.Text.{front, unless}
+use Rattle.yq_flow_scalars.specs.SchemaReading.{is_one_of}
 
 -- a token: a string by its content, a number as written, a step `.name` or `."string"` by its key, a mark or
 -- a word of this language, a token that only other expressions have, or a place where no token begins (own)

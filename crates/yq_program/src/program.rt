@@ -6,7 +6,7 @@ ghost use Rattle.yq_program.specs.View.{program_of, step_of};
 
 use std::marker::Model;
 use yq_inline::Value;
-use yq_scalar::Scalar;
+use yq_flow_scalars::Scalar;
 
 /// A program, known by its syntax tree. Each literal is a value as it may be written.
 #[derive(Debug, Drop)]

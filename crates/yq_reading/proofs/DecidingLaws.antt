@@ -1,7 +1,7 @@
 -- What answers say of whether a text is as is asked.
 use Rattle.std.proofs.Common.{◌≡◌, Bool, false, Result, subst}
-use Rattle.yq_scalar.specs.declared.fault.ReadError.{ReadError}
-use Rattle.yq_scalar.specs.declared.fault.ReadError.TheVariants as error
+use Rattle.yq_flow_scalars.specs.declared.fault.ReadError.{ReadError}
+use Rattle.yq_flow_scalars.specs.declared.fault.ReadError.TheVariants as error
 use Rattle.yq_reading.specs.Deciding.{Denies, Decides}
 
 -- what denies a part denies the whole

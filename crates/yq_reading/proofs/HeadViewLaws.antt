@@ -4,9 +4,9 @@ use Rattle.std.proofs.lemmas.Bool.{false≢true, le-leb}
 use Rattle.std.proofs.lemmas.Option.{same_Some}
 use Rattle.std.specs.List.{slice_get}
 use Rattle.std.specs.Prelude.{is_some, option_and_then, option_map}
-use Rattle.yq_scalar.specs.Scalar.{plain_of}
-use Rattle.yq_scalar.specs.Text.{is_empty}
-use Rattle.yq_scalar.specs.Tree.{Node}
+use Rattle.yq_flow_scalars.specs.Scalar.{plain_of}
+use Rattle.yq_flow_scalars.specs.Text.{is_empty}
+use Rattle.yq_flow_scalars.specs.Tree.{Node}
 use Rattle.yq_inline.specs.Places.{Placed}
 use Rattle.yq_inline.specs.Scalars.{is_quoted}
 use Rattle.yq_inline.specs.Trees.{placed_tree, scalar_node}

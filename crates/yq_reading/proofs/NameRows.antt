@@ -3,9 +3,9 @@ use Rattle.std.proofs.Common.{◌≡◌, ℕ, ◌+◌, ◌≤◌, Bool, true, fa
 use Rattle.std.proofs.lemmas.List.{drop_all}
 use Rattle.std.specs.List.{slice_get}
 use Rattle.std.specs.Prelude.{option_and_then, option_map}
-use Rattle.yq_scalar.specs.Anchors.{Name, with_anchor}
-use Rattle.yq_scalar.specs.Scalar.{plain_of}
-use Rattle.yq_scalar.specs.Text.{is_empty}
+use Rattle.yq_flow_scalars.specs.Anchors.{Name, with_anchor}
+use Rattle.yq_flow_scalars.specs.Scalar.{plain_of}
+use Rattle.yq_flow_scalars.specs.Text.{is_empty}
 use Rattle.yq_inline.specs.Scalars.{is_quoted}
 use Rattle.yq_inline.specs.Trees.{scalar_node}
 use Rattle.yq_lines.specs.declared.line.Head as heads

@@ -1,7 +1,7 @@
 -- The names of the code, one by one.
 use Rattle.std.proofs.Common.{◌≡◌, ℕ, ◌+◌, ◌<◌, List, ◌∷◌, length, drop, get_or, ap, ◌∙◌}
 use Rattle.std.proofs.lemmas.List.{drop_more}
-use Rattle.yq_scalar.specs.Anchors.{Name}
+use Rattle.yq_flow_scalars.specs.Anchors.{Name}
 use Rattle.yq_reading.specs.Named.{name_view, all_named}
 use Rattle.yq_reading.specs.declared.names.Name as declared
 

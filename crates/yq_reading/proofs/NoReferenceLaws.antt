@@ -3,7 +3,7 @@ use Rattle.std.proofs.Common.{◌≡◌, ℕ, suc, ◌+◌, eqb, Bool, true, fal
 use Rattle.std.proofs.lemmas.Bool.{false≢true}
 use Rattle.std.proofs.lemmas.List.Folds.{list_any-append}
 use Rattle.std.specs.List.{list_any, slice_get}
-use Rattle.yq_scalar.specs.Anchors.{Name, with_anchor}
+use Rattle.yq_flow_scalars.specs.Anchors.{Name, with_anchor}
 use Rattle.yq_lines.specs.Names.{head_names, is_reference, line_names}
 use Rattle.yq_rows.specs.Rows.{Row}
 use Rattle.yq_rows.specs.View.{RowsView, slices}

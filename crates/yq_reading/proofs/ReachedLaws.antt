@@ -7,7 +7,7 @@ use Rattle.std.specs.List.{slice_get}
 use Rattle.std.specs.Prelude.{is_some}
 use Rattle.yq_lines.specs.Outline.{Mark, Bare, Key, Dash, Line, key_of, level, rank}
 use Rattle.yq_lines.specs.Positions.{is_bare}
-use Rattle.yq_scalar.specs.Paths.{is_item}
+use Rattle.yq_flow_scalars.specs.Paths.{is_item}
 use Rattle.yq_inline.specs.Scalars.{content_of}
 use Rattle.yq_walk.specs.Lines.{lines_of}
 use Rattle.yq_rows.specs.View.{Slices, slices, RowsView}

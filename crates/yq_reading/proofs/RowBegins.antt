@@ -10,7 +10,7 @@ use Rattle.yq_rows.specs.Rows.{Content, Row, content_text}
 use Rattle.yq_rows.specs.View.{Slices, RowsView, key_of, rows_of, slices}
 use Rattle.yq_rows.proofs.KeyLines.{key_line}
 use Rattle.yq_rows.proofs.PlaceLaws.{RowIn, row_in}
-use Rattle.yq_scalar.specs.Quoted.{IsQuotedText}
+use Rattle.yq_flow_scalars.specs.Quoted.{IsQuotedText}
 use Rattle.yq_walk.specs.declared.position.Stretch.{Stretch}
 use Rattle.yq_walk.proofs.RowLaws.{mark_quoted}
 use Rattle.yq_documents.specs.declared.decoded.Decoded.{Decoded}

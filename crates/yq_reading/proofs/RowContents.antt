@@ -4,7 +4,7 @@ use Rattle.std.proofs.lemmas.List.{drop_all}
 use Rattle.std.proofs.lemmas.Option.{same_Some}
 use Rattle.std.specs.List.{slice_get}
 use Rattle.std.specs.Prelude.{is_none}
-use Rattle.yq_scalar.specs.Text.{is_empty}
+use Rattle.yq_flow_scalars.specs.Text.{is_empty}
 use Rattle.yq_lines.specs.LinesReading.{have_one_anchor_each, is_free, may_take}
 use Rattle.yq_lines.specs.Outline.{Line}
 use Rattle.yq_lines.proofs.Parts.{drop_at}

@@ -1,7 +1,7 @@
 -- Reading (own; a reader may skip it): a document of a text whose rows are cut, with what is made of these.
 use Rattle.std.specs.Prelude.{◌≡◌, ℕ, ◌<◌, nat_lt, List, length, slice_get, Some, Bool, false, ◌&&◌, ◌||◌, ◌-◌, ◌==◌, not, take, drop, if◌then◌else◌}
 use Rattle.std.specs.List.{list_any}
-use Rattle.yq_scalar.specs.Plain.{holds_break}
+use Rattle.yq_flow_scalars.specs.Plain.{holds_break}
 use Rattle.yq_inline.specs.Scalars.{is_quoted}
 use Rattle.yq_inline.specs.Nodes.{first_is}
 use Rattle.yq_lines.specs.Ends.{IsEndOf, is_end, part}

@@ -2,7 +2,7 @@
 use Rattle.std.specs.Prelude.{List, [], map, Option, Some, None}
 use Rattle.yq_inline.specs.Places.{Placed}
 use Rattle.yq_inline.specs.Trees.{placed_tree}
-use Rattle.yq_scalar.specs.Anchors.{Name, Anchors, Refers, names_of}
+use Rattle.yq_flow_scalars.specs.Anchors.{Name, Anchors, Refers, names_of}
 use Rattle.yq_reading.specs.declared.names.Name as declared
 
 -- the name that one of the code shows (own)

@@ -1,7 +1,7 @@
 //! Anchors of neighbouring lines: no node has two, and no alias has one.
 ghost use Rattle.std.specs.Prelude.{◌≡◌, ◌&&◌, ◌||◌, is_none, not};
 ghost use Rattle.yq_inline.specs.Nodes as nodes;
-ghost use Rattle.yq_scalar.specs.Text.{is_empty};
+ghost use Rattle.yq_flow_scalars.specs.Text.{is_empty};
 ghost use Rattle.yq_lines.specs.LinesReading as spec;
 ghost use Rattle.yq_walk.specs.RowWalk.{IsLine, OfLine, OfLines};
 ghost use Rattle.yq_reading.specs.Checking.{IsChecked};

@@ -1,6 +1,6 @@
 //! A document whose rows are checked.
 ghost use Rattle.std.specs.Prelude.{◌≡◌, ◌≢◌, ◌<◌, Some, length, slice_get};
-ghost use Rattle.yq_scalar.specs.declared.fault.FaultKind.TheVariants.{NotUtf8};
+ghost use Rattle.yq_flow_scalars.specs.declared.fault.FaultKind.TheVariants.{NotUtf8};
 ghost use Rattle.yq_inline.specs.Scalars.{content_of};
 ghost use Rattle.yq_lines.specs.Bodies.{borrowed};
 ghost use Rattle.yq_lines.specs.Outline as outline;
@@ -13,7 +13,7 @@ use crate::ahead::{ahead_from, decoded_here};
 use yq_documents::{Decoded, decoded_key, fault_at};
 use yq_inline::pieces::is_quoted;
 use yq_rows::Rows;
-use yq_scalar::{FaultKind, ReadFault};
+use yq_flow_scalars::{FaultKind, ReadFault};
 use yq_walk::{Position, Stretch, rank_at};
 
 /// A document of a text whose rows are cut, with what is made of these.

@@ -1,8 +1,8 @@
 //! What rows spell, made where their text doesn't lend it.
 ghost use Rattle.std.specs.List.{list_any};
 ghost use Rattle.std.specs.Prelude.{◌≡◌, ◌<◌, ◌++◌, ◌==◌, if◌then◌else◌, length, option_and_then, option_map, string_bytes, true, IfErr, IfOk, IfSome};
-ghost use Rattle.yq_scalar.specs.Answers.{IsOfText};
-ghost use Rattle.yq_scalar.specs.Quoted.{IsQuotedText};
+ghost use Rattle.yq_flow_scalars.specs.Answers.{IsOfText};
+ghost use Rattle.yq_flow_scalars.specs.Quoted.{IsQuotedText};
 ghost use Rattle.yq_inline.specs.Scalars.{is_quoted as is_in_quotes};
 ghost use Rattle.yq_lines.specs.View.{head_flow, head_view};
 ghost use Rattle.yq_rows.specs.View.{rows_of};
@@ -20,9 +20,9 @@ use yq_documents::{Decoded, borrowed_text, fault_at, node_refers, read_head};
 use yq_inline::pieces::{first_is, is_quoted};
 use yq_lines::Head;
 use yq_rows::Rows;
-use yq_scalar::folding::quoted_content;
-use yq_scalar::plain::holds_break;
-use yq_scalar::{FaultKind, ReadError};
+use yq_flow_scalars::folding::quoted_content;
+use yq_flow_scalars::plain::holds_break;
+use yq_flow_scalars::{FaultKind, ReadError};
 use yq_walk::head_place;
 
 /// Whether a backslash stands in what is between double quotes, or a quote between single ones.

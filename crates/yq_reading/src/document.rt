@@ -1,6 +1,6 @@
 //! A document, checked by its rows.
 ghost use Rattle.std.specs.Prelude.{◌≡◌, ◌&&◌, [], IfErr};
-ghost use Rattle.yq_scalar.specs.Answers.{IsOfText};
+ghost use Rattle.yq_flow_scalars.specs.Answers.{IsOfText};
 ghost use Rattle.yq_lines.specs.LinesReading as lines;
 ghost use Rattle.yq_lines.specs.Names.{line_names};
 ghost use Rattle.yq_walk.specs.Lines.{lines_of};
@@ -19,7 +19,7 @@ use crate::sound::check_lines;
 use std::alloc::Global;
 use yq_documents::fault_at;
 use yq_inline::DEPTH_LIMIT;
-use yq_scalar::{FaultKind, ReadError};
+use yq_flow_scalars::{FaultKind, ReadError};
 use yq_walk::Position;
 
 /// The aliases of a document: an earlier anchor of its name for each. Whether there are some is known.

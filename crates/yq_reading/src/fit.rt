@@ -8,7 +8,7 @@ ghost use Rattle.yq_documents.specs.Reading as reading;
 use yq_documents::is_block_head;
 use yq_inline::pieces::{first_is, is_quoted};
 use yq_rows::{Row, Rows};
-use yq_scalar::plain::holds_break;
+use yq_flow_scalars::plain::holds_break;
 use yq_walk::Stretch;
 
 /// Whether a head is a plain scalar.

@@ -1,7 +1,7 @@
 //! What is asked of flow collections: how deep they are nested, and the keys of each.
 ghost use Rattle.std.specs.Prelude.{◌&&◌, Some, IfErr};
-ghost use Rattle.yq_scalar.specs.Answers.{IsOfText};
-ghost use Rattle.yq_scalar.specs.Keys.{are_distinct, keys_of};
+ghost use Rattle.yq_flow_scalars.specs.Answers.{IsOfText};
+ghost use Rattle.yq_flow_scalars.specs.Keys.{are_distinct, keys_of};
 ghost use Rattle.yq_inline.specs.Trees.{parts_tree, placed_tree};
 ghost use Rattle.yq_inline.specs.View.{entries_end, items_end, view};
 ghost use Rattle.yq_lines.specs.Sound as spec;
@@ -12,7 +12,8 @@ use std::alloc::{AllocError, Global};
 use std::collections::BTreeMap;
 use yq_documents::fault_at;
 use yq_inline::{Form, Inline};
-use yq_scalar::{FaultKind, Piece, ReadError, are_distinct};
+use yq_flow_scalars::{FaultKind, Piece, ReadError};
+use yq_scalar::are_distinct;
 
 /// An inline node of a text, in which at most so many collections may be nested.
 #[cycle(nested)]

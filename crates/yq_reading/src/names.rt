@@ -2,12 +2,12 @@
 ghost use Rattle.std.specs.Prelude.{◌≡◌, ◌++◌, [], option_map, OnOk};
 ghost use Rattle.yq_inline.specs.Trees.{parts_tree, placed_tree};
 ghost use Rattle.yq_inline.specs.View as inline;
-ghost use Rattle.yq_scalar.specs.Anchors as spec;
+ghost use Rattle.yq_flow_scalars.specs.Anchors as spec;
 ghost use Rattle.yq_reading.specs.Named.{all_named};
 
 use std::alloc::AllocError;
 use yq_inline::{Form, Inline};
-use yq_scalar::Piece;
+use yq_flow_scalars::Piece;
 
 /// An anchor, or an alias, by its name; of an alias, the byte of the text where it begins.
 #[derive(Clone, Copy, Debug, PartialEq, Eq)]

@@ -1,6 +1,6 @@
 //! What is asked of a head: how deep collections are nested in it, and the keys of each.
 ghost use Rattle.std.specs.Prelude.{◌≡◌, List, option_map, IfErr, Some};
-ghost use Rattle.yq_scalar.specs.Answers.{IsOfText};
+ghost use Rattle.yq_flow_scalars.specs.Answers.{IsOfText};
 ghost use Rattle.yq_inline.specs.View.{view};
 ghost use Rattle.yq_lines.specs.Sound as spec;
 ghost use Rattle.yq_walk.specs.RowWalk.{IsLine};
@@ -18,7 +18,7 @@ use std::alloc::Global;
 use yq_documents::Decoded;
 use yq_inline::Inline;
 use yq_lines::Head;
-use yq_scalar::ReadError;
+use yq_flow_scalars::ReadError;
 use yq_walk::has_head;
 
 /// The alias or flow collection that is made of a row, if one is.

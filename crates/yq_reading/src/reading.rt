@@ -1,6 +1,6 @@
 //! A text that is cut into rows, read as documents.
 ghost use Rattle.std.specs.Prelude.{◌≡◌, IfErr, IfOk};
-ghost use Rattle.yq_scalar.specs.Answers.{IsOfText};
+ghost use Rattle.yq_flow_scalars.specs.Answers.{IsOfText};
 ghost use Rattle.yq_rows.specs.Grammar.{IsCut};
 ghost use Rattle.yq_rows.specs.Rows.{Cut};
 ghost use Rattle.yq_rows.specs.View.{rows_view};
@@ -18,7 +18,7 @@ use crate::parts::document_rows;
 use std::alloc::Global;
 use yq_documents::{Decoded, DocumentRows, ReadText};
 use yq_rows::Rows;
-use yq_scalar::ReadError;
+use yq_flow_scalars::ReadError;
 use yq_walk::Stretch;
 
 /// The documents of a text, each checked by its rows. Whether an alias may stand in them is known.

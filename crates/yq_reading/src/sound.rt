@@ -1,8 +1,8 @@
 //! What is asked of a document's lines, row by row.
 ghost use Rattle.std.specs.Prelude.{◌≡◌, ◌≢◌, ◌+◌, ◌++◌, ◌&&◌, [], false, is_some, map, IfErr, IfOk, OnOk, Some};
-ghost use Rattle.yq_scalar.specs.Answers.{IsOfText};
-ghost use Rattle.yq_scalar.specs.Keys.{with_key};
-ghost use Rattle.yq_scalar.specs.declared.fault.FaultKind.TheVariants.{NotUtf8};
+ghost use Rattle.yq_flow_scalars.specs.Answers.{IsOfText};
+ghost use Rattle.yq_flow_scalars.specs.Keys.{with_key};
+ghost use Rattle.yq_flow_scalars.specs.declared.fault.FaultKind.TheVariants.{NotUtf8};
 ghost use Rattle.yq_lines.specs.Ends.{part, is_end};
 ghost use Rattle.yq_lines.specs.Outline as outline;
 ghost use Rattle.yq_lines.specs.Sound as spec;
@@ -16,7 +16,8 @@ use crate::nested::head_fault;
 use crate::reached::{Reached, is_bare, is_deeper, key_at, line_behind};
 use std::alloc::{AllocError, Global};
 use std::collections::BTreeMap;
-use yq_scalar::{FaultKind, ReadError, are_distinct};
+use yq_flow_scalars::{FaultKind, ReadError};
+use yq_scalar::are_distinct;
 use yq_walk::{Position, behind, has_head, is_deeper as is_line_deeper};
 
 /// Why a line can't stand where others of a collection at a level do: behind neither key nor dash in the

@@ -1,7 +1,7 @@
 -- Texts that end in a break, and those that don't.
 use Rattle.std.proofs.Common.{◌≡◌, inl, inr, ℕ, List, [], ◌∷◌, ◌++◌, Bool, true, false, cond, refl, sym, ap}
 use Rattle.std.proofs.lemmas.Bool.{false≢true}
-use Rattle.yq_scalar.specs.Text.{is_empty, is_feed, is_line}
+use Rattle.yq_flow_scalars.specs.Text.{is_empty, is_feed, is_line}
 use Rattle.yq_edits.specs.ClosedTexts.{is_closed_text}
 use Rattle.yq_edits.proofs.BreakLaws.{IsLfOrCrLf}
 

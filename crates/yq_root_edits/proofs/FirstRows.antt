@@ -1,7 +1,7 @@
 -- The first row of a block collection, the line that it begins, and the break that ends a text.
 use Rattle.std.proofs.Common.{◌≡◌, ◌⊎◌, inl, inr, ℕ, ◌<◌, List, [], ◌∷◌, ◌++◌, length, true, false, ◌&&◌, refl, sym, ap, ◌∙◌, subst, append_assoc, arith}
 use Rattle.std.proofs.lemmas.Bool.{false≢true}
-use Rattle.yq_scalar.specs.Text.{is_empty, is_line}
+use Rattle.yq_flow_scalars.specs.Text.{is_empty, is_line}
 use Rattle.yq_lines.specs.Comments.{head_comment}
 use Rattle.yq_lines.specs.Sound.{is_entry}
 use Rattle.yq_lines.specs.Positions.{is_bare}

@@ -2,8 +2,8 @@
 use Rattle.std.proofs.Common.{◌≡◌, ◌&&◌, inl, inr, eqb, List, [], ◌∷◌, ◌++◌, ℕ, Some, None, is_some, Bool, true, false, cond, refl, sym, ap, ◌∙◌, subst, append_assoc, append-nil, ⊎_elim}
 use Rattle.std.proofs.lemmas.Bool.{false≢true}
 use Rattle.yq_scalar.specs.BlockWritten.{break_text}
-use Rattle.yq_scalar.specs.Characters.{pairs_returns}
-use Rattle.yq_scalar.specs.Text.{front, is_empty, joined, past_white}
+use Rattle.yq_flow_scalars.specs.Characters.{pairs_returns}
+use Rattle.yq_flow_scalars.specs.Text.{front, is_empty, joined, past_white}
 use Rattle.yq_scalar.specs.declared.block_written.Break.{Break}
 use Rattle.yq_lines.specs.Comments.{comment_text, are_comments, with_text, last_comments, head_comment}
 use Rattle.yq_rows.specs.Gap.{IsComment, IsGapLine, AreGapLines, IsGap}

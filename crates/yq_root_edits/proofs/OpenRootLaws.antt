@@ -5,11 +5,11 @@ use Rattle.std.proofs.lemmas.Str.{is_utf8-from_IsUtf8}
 use Rattle.std.specs.List.{list_all}
 use Rattle.std.specs.Str.{chars, is_utf8}
 use Rattle.yq_scalar.specs.BlockWritten.{break_text}
-use Rattle.yq_scalar.specs.Characters.{is_text, is_text_char, pairs_returns, text_limit}
-use Rattle.yq_scalar.specs.Text.{is_empty, is_line}
-use Rattle.yq_scalar.specs.Tree.{Node}
+use Rattle.yq_flow_scalars.specs.Characters.{is_text, is_text_char, pairs_returns, text_limit}
+use Rattle.yq_flow_scalars.specs.Text.{is_empty, is_line}
+use Rattle.yq_flow_scalars.specs.Tree.{Node}
 use Rattle.yq_scalar.specs.declared.block_written.Break.{Break}
-use Rattle.yq_scalar.proofs.Bools.{guard_then}
+use Rattle.yq_flow_scalars.proofs.Bools.{guard_then}
 use Rattle.yq_flow.specs.Valued.{IsValueTree}
 use Rattle.yq_lines.specs.Comments.{head_comment}
 use Rattle.yq_rows.specs.Appending.{last_marker, with_last_part, PartFits}

@@ -2,9 +2,9 @@
 use Rattle.std.proofs.Common.{inl, ◌≡◌, ℕ, ◌≤◌, List, [], ◌++◌, replicate, Some, sym, ◌∙◌, subst}
 use Rattle.std.proofs.lemmas.Option.{same_Some}
 use Rattle.std.specs.List.{slice_get}
-use Rattle.yq_scalar.specs.Tree.{Node}
+use Rattle.yq_flow_scalars.specs.Tree.{Node}
 use Rattle.yq_flow.specs.Valued.{IsValueTree}
-use Rattle.yq_scalar.specs.Anchors.{names_of}
+use Rattle.yq_flow_scalars.specs.Anchors.{names_of}
 use Rattle.yq_rows.specs.Rows.{Row, Part, Cut, cut_text}
 use Rattle.yq_documents.specs.Documents.{document_parts}
 use Rattle.yq_places.specs.PlacedRows.{PlacedPart}

@@ -1,12 +1,12 @@
 -- The rows of any value as a root.
 use Rattle.std.proofs.Common.{◌≡◌, ℕ, ◌≤◌, Bool, true, false, cond, List, [], ◌++◌, replicate, Option, refl, arith}
-use Rattle.yq_scalar.specs.declared.style.Place.TheVariants as places
-use Rattle.yq_scalar.specs.declared.style.Style.TheVariants as styles
-use Rattle.yq_scalar.specs.declared.kind.Kind.{Kind}
-use Rattle.yq_scalar.specs.Tree as tree
-use Rattle.yq_scalar.specs.Tree.{Node}
-use Rattle.yq_scalar.specs.Writable.{can_write}
-use Rattle.yq_scalar.specs.Written.{written}
+use Rattle.yq_flow_scalars.specs.declared.style.Place.TheVariants as places
+use Rattle.yq_flow_scalars.specs.declared.style.Style.TheVariants as styles
+use Rattle.yq_flow_scalars.specs.declared.kind.Kind.{Kind}
+use Rattle.yq_flow_scalars.specs.Tree as tree
+use Rattle.yq_flow_scalars.specs.Tree.{Node}
+use Rattle.yq_flow_scalars.specs.Writable.{can_write}
+use Rattle.yq_flow_scalars.specs.Written.{written}
 use Rattle.yq_inline.specs.Nodes as inline
 use Rattle.yq_flow.specs.Valued.{IsValueTree}
 use Rattle.yq_inline.specs.Written.{scalar_text, flow_of, flow_items}

@@ -1,7 +1,7 @@
 -- Two texts with the same parts that are documents: what an operation makes of the one it makes of the other.
 use Rattle.std.proofs.Common.{◌≡◌, ℕ, List, map, sym, ap, ◌∙◌, subst, Some}
 use Rattle.std.specs.List.{slice_get}
-use Rattle.yq_scalar.specs.Answers.{◌>>=◌}
+use Rattle.yq_flow_scalars.specs.Answers.{◌>>=◌}
 use Rattle.yq_rows.specs.Rows.{Part, Cut, cut_text}
 use Rattle.yq_documents.specs.Documents.{document_parts}
 use Rattle.yq_documents.specs.Reading as reading

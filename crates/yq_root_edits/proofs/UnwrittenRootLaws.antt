@@ -3,7 +3,7 @@ use Rattle.std.proofs.Common.{◌≡◌, ◌⊎◌, inl, inr, ℕ, zero, suc, �
 use Rattle.std.proofs.lemmas.List.{nil_from_length}
 use Rattle.std.proofs.lemmas.Bool.{false≢true, or_right, and_parts, or_parts}
 use Rattle.yq_scalar.specs.BlockWritten.{break_text}
-use Rattle.yq_scalar.specs.Text.{is_empty, is_feed, is_break, is_line, ends_line, separates, NoneIn, joined}
+use Rattle.yq_flow_scalars.specs.Text.{is_empty, is_feed, is_break, is_line, ends_line, separates, NoneIn, joined}
 use Rattle.yq_scalar.specs.declared.block_written.Break.{Break}
 use Rattle.yq_scalar.specs.declared.block_written.Break.TheVariants as breaks
 use Rattle.yq_lines.specs.Comments.{head_comment}

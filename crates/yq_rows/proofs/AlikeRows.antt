@@ -1,8 +1,8 @@
 -- A row, and rows, before one text are rows before a text that is alike.
 use Rattle.std.proofs.Common.{inl, ℕ, ℤ, Bool, false, ◌&&◌, eqb, List, [], ◌∷◌, ◌++◌, Option, Some, None, drop, sym, ap, ◌∙◌, ⊎_elim, replicate, ◌≡◌}
 use Rattle.yq_scalar.specs.Block.{BlockText, block_text}
-use Rattle.yq_scalar.specs.Piece.{deeper}
-use Rattle.yq_scalar.specs.Text.{joined}
+use Rattle.yq_flow_scalars.specs.Piece.{deeper}
+use Rattle.yq_flow_scalars.specs.Text.{joined}
 use Rattle.yq_inline.specs.Inline.{depth_limit}
 use Rattle.yq_rows.specs.Gap.{IsBreak, IsLineEnd, AreGapLines, IsGap}
 use Rattle.yq_rows.specs.Grammar.{IsColon, IsKey, IsTail, IsAnchor, IsContent, IsMark, IsRow, Limit, limit_after, AreRows, IsPart, IsMarkerLine}

@@ -2,8 +2,8 @@
 use Rattle.std.proofs.Common.{◌≡◌, ℕ, suc, ◌+◌, ◌-◌, ◌<◌, ◌≤◌, true, false, not, ◌&&◌, List, [], ◌∷◌, ◌++◌, length, take, drop, Option, Some, None, refl, sym, ap, ◌∙◌, subst, arith, append_assoc, append-nil, length-append, replicate}
 use Rattle.std.proofs.lemmas.List.{length-replicate}
 use Rattle.std.specs.Str.{IsUtf8, IsCharBoundary}
-use Rattle.yq_scalar.specs.Text.{cut, no_space, is_empty}
-use Rattle.yq_scalar.proofs.Upto.{cut_takes}
+use Rattle.yq_flow_scalars.specs.Text.{cut, no_space, is_empty}
+use Rattle.yq_flow_scalars.proofs.Upto.{cut_takes}
 use Rattle.yq_rows.specs.Slicing.{Begun, begun, behind_front}
 use Rattle.yq_rows.specs.Reading.{Marks, key_at, begins_entry, is_dash, key_mark, mark_at, undashed, with_dash, marks_at}
 use Rattle.yq_rows.specs.Rows.{Mark, Dash, behind_columns}

@@ -3,8 +3,8 @@ use Rattle.std.proofs.Common.{◌≡◌, ℕ, ℤ, true, false, eqb, cond, List,
 use Rattle.std.proofs.lemmas.Bool.{cond_both, false≢true}
 use Rattle.yq_scalar.specs.Block.{BlockText, IsBlock, ends_block, mark_of}
 use Rattle.yq_scalar.specs.BlockReading.{indent_at, indicators_at}
-use Rattle.yq_scalar.specs.Piece.{deeper}
-use Rattle.yq_scalar.specs.Text.{front, joined, lines_of}
+use Rattle.yq_flow_scalars.specs.Piece.{deeper}
+use Rattle.yq_flow_scalars.specs.Text.{front, joined, lines_of}
 use Rattle.yq_scalar.specs.declared.block_header.BlockStyle.{BlockStyle}
 use Rattle.yq_scalar.specs.declared.block_header.BlockStyle.TheVariants as styles
 use Rattle.yq_scalar.proofs.DetectedLaws.{indent_again}

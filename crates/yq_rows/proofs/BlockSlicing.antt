@@ -5,18 +5,18 @@ use Rattle.std.proofs.Math.Seq.{take-append_seam, drop-append_seam, get_or-appen
 use Rattle.std.proofs.lemmas.Option.{same_Some}
 use Rattle.std.proofs.lemmas.Str.{IsCharBoundary-start, IsCharBoundary-before_ascii}
 use Rattle.std.specs.Str.{IsUtf8, IsCharBoundary}
-use Rattle.yq_scalar.specs.Answers.{◌>>=◌}
+use Rattle.yq_flow_scalars.specs.Answers.{◌>>=◌}
 use Rattle.yq_scalar.specs.Block.{mark_of, BlockText, block_text, block_piece, is_tail, IsBlock}
 use Rattle.yq_scalar.specs.BlockReading.{block_at, block_from}
-use Rattle.yq_scalar.specs.Lines.{is_blank}
-use Rattle.yq_scalar.specs.Piece.{deeper}
-use Rattle.yq_scalar.specs.Text.{cut, upto, unless, front, no_white, past_white, ends_line, is_line, is_white, joined}
-use Rattle.yq_scalar.specs.declared.piece.Piece.{Piece}
+use Rattle.yq_flow_scalars.specs.Lines.{is_blank}
+use Rattle.yq_flow_scalars.specs.Piece.{deeper}
+use Rattle.yq_flow_scalars.specs.Text.{cut, upto, unless, front, no_white, past_white, ends_line, is_line, is_white, joined}
+use Rattle.yq_flow_scalars.specs.declared.piece.Piece.{Piece}
 use Rattle.yq_scalar.proofs.BlockLaws.{block_takes}
 use Rattle.yq_scalar.proofs.BlockPieceLaws.{line_lf, raw_lf, cut_lf}
-use Rattle.yq_scalar.proofs.Bools.{bind_some}
-use Rattle.yq_scalar.proofs.Boundaries.{break_ascii, white_ascii}
-use Rattle.yq_scalar.proofs.Upto.{upto_here, upto_ends, upto_le_length}
+use Rattle.yq_flow_scalars.proofs.Bools.{bind_some}
+use Rattle.yq_flow_scalars.proofs.Boundaries.{break_ascii, white_ascii}
+use Rattle.yq_flow_scalars.proofs.Upto.{upto_here, upto_ends, upto_le_length}
 use Rattle.yq_rows.specs.View.{anchor_of, apart_of}
 use Rattle.yq_inline.specs.Nodes.{first_is, in_name}
 use Rattle.yq_inline.specs.Reading.{name_at}

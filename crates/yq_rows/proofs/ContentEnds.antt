@@ -3,10 +3,10 @@ use Rattle.std.proofs.Common.{◌≡◌, ℕ, ℤ, suc, true, false, not, eqb, L
 use Rattle.std.proofs.Math.Bool.{and-false}
 use Rattle.std.proofs.lemmas.Bool.{cond_both}
 use Rattle.yq_scalar.specs.Block.{BlockText, block_text}
-use Rattle.yq_scalar.specs.Piece.{deeper}
-use Rattle.yq_scalar.specs.Text.{cut, upto, no_space, is_empty, is_white}
-use Rattle.yq_scalar.proofs.Bools.{at_byte}
-use Rattle.yq_scalar.proofs.Upto.{upto_here}
+use Rattle.yq_flow_scalars.specs.Piece.{deeper}
+use Rattle.yq_flow_scalars.specs.Text.{cut, upto, no_space, is_empty, is_white}
+use Rattle.yq_flow_scalars.proofs.Bools.{at_byte}
+use Rattle.yq_flow_scalars.proofs.Upto.{upto_here}
 use Rattle.yq_inline.specs.Inline.{depth_limit}
 use Rattle.yq_inline.specs.Nodes.{node_text, begins_node}
 use Rattle.yq_inline.specs.Scalars.{begins_scalar}

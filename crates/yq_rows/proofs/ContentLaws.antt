@@ -2,15 +2,15 @@
 use Rattle.std.proofs.Common.{◌≡◌, ℕ, ℤ, true, false, cond, not, eqb, List, [], ◌∷◌, ◌++◌, drop, Option, Some, None, refl, sym, ap, ◌∙◌, subst, ⊎_elim, eqb-true}
 use Rattle.std.proofs.lemmas.Bool.{false≢true, or_cases}
 use Rattle.std.proofs.lemmas.Option.{same_Some}
-use Rattle.yq_scalar.specs.Answers.{◌>>=◌}
-use Rattle.yq_scalar.specs.declared.style.Place.TheVariants as places
+use Rattle.yq_flow_scalars.specs.Answers.{◌>>=◌}
+use Rattle.yq_flow_scalars.specs.declared.style.Place.TheVariants as places
 use Rattle.yq_scalar.specs.Block.{IsBlock, BlockText, block_text}
 use Rattle.yq_scalar.specs.BlockReading.{block_at}
-use Rattle.yq_scalar.specs.Piece.{deeper}
-use Rattle.yq_scalar.specs.Text.{cut, unless, front, is_empty, no_white, past_white}
+use Rattle.yq_flow_scalars.specs.Piece.{deeper}
+use Rattle.yq_flow_scalars.specs.Text.{cut, unless, front, is_empty, no_white, past_white}
 use Rattle.yq_scalar.proofs.BlockLaws.{block_takes, block_again}
-use Rattle.yq_scalar.proofs.Bools.{bind_some, chosen}
-use Rattle.yq_scalar.proofs.Upto.{cut_takes}
+use Rattle.yq_flow_scalars.proofs.Bools.{bind_some, chosen}
+use Rattle.yq_flow_scalars.proofs.Upto.{cut_takes}
 use Rattle.yq_inline.specs.Inline.{depth_limit, IsInline}
 use Rattle.yq_inline.specs.Nodes.{Node, node_text, first_is, in_name, begins_node, IsName, is_bare}
 use Rattle.yq_inline.specs.Reading.{name_at, all_node}

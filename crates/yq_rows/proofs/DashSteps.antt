@@ -1,7 +1,7 @@
 -- A dash behind which a further one stands, or a key, or neither.
 use Rattle.std.proofs.Common.{◌≡◌, ℕ, ◌-◌, ◌≤◌, Bool, true, false, cond, not, ◌&&◌, ◌||◌, List, ◌++◌, length, take, drop, Option, Some, None, refl, sym, ap, arith}
 use Rattle.std.proofs.lemmas.Bool.{false≢true}
-use Rattle.yq_scalar.specs.Text.{cut, no_space, is_empty}
+use Rattle.yq_flow_scalars.specs.Text.{cut, no_space, is_empty}
 use Rattle.yq_rows.specs.Slicing.{begun, behind_front}
 use Rattle.yq_rows.specs.Reading.{key_at, begins_entry, is_dash, is_some, key_mark, marks_at}
 use Rattle.yq_rows.specs.Rows.{Key}

@@ -1,8 +1,8 @@
 -- What a refusal says.
 use Rattle.std.proofs.Common.{◌≡◌, Option, None}
-use Rattle.yq_scalar.specs.Answers.{ReadFails}
-use Rattle.yq_scalar.specs.declared.fault.ReadError.{ReadError}
-use Rattle.yq_scalar.specs.declared.fault.ReadError.TheVariants as error
+use Rattle.yq_flow_scalars.specs.Answers.{ReadFails}
+use Rattle.yq_flow_scalars.specs.declared.fault.ReadError.{ReadError}
+use Rattle.yq_flow_scalars.specs.declared.fault.ReadError.TheVariants as error
 
 -- where reading gives nothing, reading further gives nothing
 pub fails_by : {A B : Type 0} (e : ReadError) (x : Option A) (y : Option B) → ReadFails e x → (x ≡ None → y ≡ None) → ReadFails e y

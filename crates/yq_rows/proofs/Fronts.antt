@@ -1,8 +1,8 @@
 -- What is in front of a node, of a tail and of a marker.
 use Rattle.std.proofs.Common.{◌≡◌, ℕ, true, false, ◌&&◌, ◌||◌, eqb, List, [], ◌∷◌, ◌++◌, refl, sym, ap, ◌∙◌, subst, ⊎_elim, eqb-true}
 use Rattle.std.proofs.lemmas.Bool.{false≢true, or_cases, false_from_ne_true, and_parts, cases_Bool}
-use Rattle.yq_scalar.specs.Text.{cut, is_feed, is_return, front, is_break, ends_line, no_white, no_space, separates, is_empty}
-use Rattle.yq_scalar.specs.Lines.{is_hash}
+use Rattle.yq_flow_scalars.specs.Text.{cut, is_feed, is_return, front, is_break, ends_line, no_white, no_space, separates, is_empty}
+use Rattle.yq_flow_scalars.specs.Lines.{is_hash}
 use Rattle.yq_inline.specs.Nodes.{first_is, begins_node}
 use Rattle.yq_inline.specs.Scalars.{begins_scalar}
 use Rattle.yq_inline.proofs.PieceLaws.{front_not}

@@ -3,12 +3,12 @@ use Rattle.std.proofs.Common.{◌≡◌, ℕ, zero, suc, ◌+◌, ◌<◌, ◌�
 use Rattle.std.proofs.lemmas.Bool.{false≢true, cond_both, not-true, and_parts}
 use Rattle.std.proofs.lemmas.List.{take-append-drop, drop-drop}
 use Rattle.std.proofs.Math.Seq.{take-append_seam, drop-append_seam, take-add}
-use Rattle.yq_scalar.specs.Text.{upto, cut, no_white, is_feed, ends_line, is_empty, past_white, line_len, cut_line, joined}
+use Rattle.yq_flow_scalars.specs.Text.{upto, cut, no_white, is_feed, ends_line, is_empty, past_white, line_len, cut_line, joined}
 use Rattle.std.proofs.lemmas.Str.{IsCharBoundary-start, IsCharBoundary-from_rest, IsUtf8-drop}
 use Rattle.std.specs.Str.{IsUtf8, IsCharBoundary}
-use Rattle.yq_scalar.proofs.Boundaries.{boundary_line}
+use Rattle.yq_flow_scalars.proofs.Boundaries.{boundary_line}
 use Rattle.yq_scalar.proofs.LineLaws.{line_len_some, line_len_within}
-use Rattle.yq_scalar.specs.Lines.{is_hash}
+use Rattle.yq_flow_scalars.specs.Lines.{is_hash}
 use Rattle.yq_rows.specs.Gap.{IsGapLine, AreGapLines, IsGap}
 use Rattle.yq_rows.specs.Reading.{begins_gap, gap_lines, gap_len, cut_gap}
 use Rattle.yq_rows.proofs.LineEnds.{white_cut, white_again, line_end_takes, line_end_behind, line_end_line, line_again}

@@ -6,18 +6,18 @@ use Rattle.std.proofs.lemmas.Option.{same_Some}
 use Rattle.std.proofs.lemmas.Str.{IsCharBoundary-from_rest}
 use Rattle.std.specs.List.{prefix_len}
 use Rattle.std.specs.Str.{IsUtf8, IsCharBoundary}
-use Rattle.yq_scalar.specs.Answers.{◌>>=◌}
-use Rattle.yq_scalar.specs.Piece.{deeper}
-use Rattle.yq_scalar.specs.Text.{cut, upto, unless, no_white, is_empty}
-use Rattle.yq_scalar.proofs.Bools.{bind_some}
-use Rattle.yq_scalar.proofs.Upto.{cut-append, upto-append, upto_here, upto_unless, upto_le_length}
+use Rattle.yq_flow_scalars.specs.Answers.{◌>>=◌}
+use Rattle.yq_flow_scalars.specs.Piece.{deeper}
+use Rattle.yq_flow_scalars.specs.Text.{cut, upto, unless, no_white, is_empty}
+use Rattle.yq_flow_scalars.proofs.Bools.{bind_some}
+use Rattle.yq_flow_scalars.proofs.Upto.{cut-append, upto-append, upto_here, upto_unless, upto_le_length}
 use Rattle.yq_inline.specs.Inline.{depth_limit}
 use Rattle.yq_inline.specs.Nodes.{Node, empty, alias, scalar, coll, anchored, node_text, items_text, first_is, in_name, begins_content, is_bare, takes_anchor, IsNode, IsLead}
 use Rattle.yq_inline.specs.Places.{Placed, placed, Parts, mapping, sequence, placed_between, locate, locate_items, with_anchor, holder}
 use Rattle.yq_inline.specs.PlacedReading.{placed_node}
 use Rattle.yq_inline.specs.Reading.{all_node}
 use Rattle.yq_inline.specs.Scalars.{is_quoted, begins_scalar, style_of}
-use Rattle.yq_scalar.specs.declared.style.Style.TheVariants as styles
+use Rattle.yq_flow_scalars.specs.declared.style.Style.TheVariants as styles
 use Rattle.yq_inline.proofs.Bounds.{boundary_name}
 use Rattle.yq_inline.proofs.NodeLaws.{all_takes}
 use Rattle.yq_inline.proofs.PieceLaws.{front_not, scalar_begins}

@@ -3,9 +3,9 @@ use Rattle.std.proofs.Common.{◌≡◌, inl, inr, ℕ, suc, ◌+◌, Bool, true
 use Rattle.std.proofs.lemmas.Bool.{cases_Bool, false≢true, not-true, or_parts}
 use Rattle.std.specs.List.{prefix_len}
 use Rattle.std.specs.Option.{option_or}
-use Rattle.yq_scalar.specs.Plain.{ends_plain, ends_text, holds_break, last_line, may_follow, no_gap}
-use Rattle.yq_scalar.specs.Text.{NoneIn, cut, front, is_empty, is_feed, is_white, upto}
-use Rattle.yq_scalar.proofs.Bools.{at_byte}
+use Rattle.yq_flow_scalars.specs.Plain.{ends_plain, ends_text, holds_break, last_line, may_follow, no_gap}
+use Rattle.yq_flow_scalars.specs.Text.{NoneIn, cut, front, is_empty, is_feed, is_white, upto}
+use Rattle.yq_flow_scalars.proofs.Bools.{at_byte}
 use Rattle.yq_inline.specs.Nodes.{first_is}
 use Rattle.yq_inline.specs.Scalars.{IsScalarAt}
 use Rattle.yq_rows.specs.Gap.{IsWhite}

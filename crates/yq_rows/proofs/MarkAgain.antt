@@ -2,8 +2,8 @@
 use Rattle.std.proofs.Common.{◌≡◌, ℕ, zero, suc, ◌≤◌, ◌<◌, inl, inr, true, false, cond, not, ◌&&◌, eqb, List, [], ◌∷◌, ◌++◌, length, None, refl, ap, ◌∙◌, subst, arith, eqb-true, replicate, length-append}
 use Rattle.std.proofs.lemmas.Bool.{false≢true, not-true, or_right, and_parts, cases_Bool}
 use Rattle.std.proofs.lemmas.List.{length-replicate}
-use Rattle.yq_scalar.specs.Plain.{is_safe}
-use Rattle.yq_scalar.specs.Text.{cut, no_space, is_empty, separates}
+use Rattle.yq_flow_scalars.specs.Plain.{is_safe}
+use Rattle.yq_flow_scalars.specs.Text.{cut, no_space, is_empty, separates}
 use Rattle.yq_inline.specs.Nodes.{begins_node, first_is, begins_content}
 use Rattle.yq_inline.specs.Scalars.{begins_scalar}
 use Rattle.yq_inline.proofs.PieceLaws.{scalar_begins}

@@ -1,8 +1,8 @@
 -- Dashes and the mark behind them, read and spelled.
 use Rattle.std.proofs.Common.{◌≡◌, ℕ, zero, suc, ◌≤◌, true, false, cond, not, ◌&&◌, eqb, List, [], ◌∷◌, ◌++◌, length, take, drop, Option, Some, None, refl, ap, ◌∙◌, arith, eqb-true, replicate, length-drop}
 use Rattle.std.proofs.lemmas.Bool.{false≢true, cond_both, not-false, and_parts}
-use Rattle.yq_scalar.specs.Text.{upto, cut, NoneIn, no_space, is_empty, separates}
-use Rattle.yq_scalar.proofs.Upto.{cut-append, cut_takes}
+use Rattle.yq_flow_scalars.specs.Text.{upto, cut, NoneIn, no_space, is_empty, separates}
+use Rattle.yq_flow_scalars.proofs.Upto.{cut-append, cut_takes}
 use Rattle.yq_rows.specs.Grammar.{IsKey, is_entry, AreDashes}
 use Rattle.yq_rows.specs.Reading.{key_at, is_dash, is_some, begins_entry, key_mark, mark_at, Marks, with_dash, undashed, dashes_at, marks_at}
 use Rattle.yq_rows.specs.Rows.{Mark, Bare, Dash, Key, dashes_text, mark_text}

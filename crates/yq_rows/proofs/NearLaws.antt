@@ -4,9 +4,9 @@ use Rattle.std.proofs.lemmas.Bool.{le-leb, lt-leb}
 use Rattle.std.proofs.lemmas.List.Sums.{sum_by-cons}
 use Rattle.std.proofs.lemmas.Option.{same_Some}
 use Rattle.std.specs.List.{slice_get, sum_by}
-use Rattle.yq_scalar.specs.Answers.{◌>>=◌}
-use Rattle.yq_scalar.specs.Text.{is_empty}
-use Rattle.yq_scalar.proofs.Bools.{bind_some}
+use Rattle.yq_flow_scalars.specs.Answers.{◌>>=◌}
+use Rattle.yq_flow_scalars.specs.Text.{is_empty}
+use Rattle.yq_flow_scalars.proofs.Bools.{bind_some}
 use Rattle.yq_rows.specs.Grammar.{Limit, limit_after, ends_part, begins_document}
 use Rattle.yq_rows.specs.Items.{Item, row_item, end_item, rows_items, items_of, items_text, rows_in_items, bounds_in_items, view_of_items}
 use Rattle.yq_rows.specs.Kept.{near, ends_near, rows_placed, parts_placed, ends_placed}

@@ -3,14 +3,14 @@ use Rattle.std.proofs.Common.{◌≡◌, inl, inr, ℕ, suc, ◌+◌, Bool, true
 use Rattle.std.proofs.lemmas.Bool.{false≢true, cond_both, not-true, not-false, and_parts, cases_Bool, or_parts}
 use Rattle.std.specs.Option.{option_or}
 use Rattle.std.specs.Str.{chars}
-use Rattle.yq_scalar.specs.Answers.{◌>>=◌}
-use Rattle.yq_scalar.specs.Plain.{begins_plain, ends_plain, ends_text, follows, may_follow, last_line, no_gap, plain_at}
-use Rattle.yq_scalar.specs.QuotedReading.{is_quote}
-use Rattle.yq_scalar.specs.Text.{upto, cut, NoneIn, is_white, is_break, is_space, is_empty, front, past_white}
-use Rattle.yq_scalar.proofs.Bools.{at_byte}
-use Rattle.yq_scalar.proofs.QuotedFound.{quoted_again}
-use Rattle.yq_scalar.proofs.Upto.{upto_here}
-use Rattle.yq_scalar.proofs.QuotedLaws.{of_quotes}
+use Rattle.yq_flow_scalars.specs.Answers.{◌>>=◌}
+use Rattle.yq_flow_scalars.specs.Plain.{begins_plain, ends_plain, ends_text, follows, may_follow, last_line, no_gap, plain_at}
+use Rattle.yq_flow_scalars.specs.QuotedReading.{is_quote}
+use Rattle.yq_flow_scalars.specs.Text.{upto, cut, NoneIn, is_white, is_break, is_space, is_empty, front, past_white}
+use Rattle.yq_flow_scalars.proofs.Bools.{at_byte}
+use Rattle.yq_flow_scalars.proofs.QuotedFound.{quoted_again}
+use Rattle.yq_flow_scalars.proofs.Upto.{upto_here}
+use Rattle.yq_flow_scalars.proofs.QuotedLaws.{of_quotes}
 use Rattle.yq_inline.specs.Nodes.{Node, empty, alias, scalar, coll, anchored, node_text, is_bare, IsNode}
 use Rattle.yq_inline.specs.Reading.{scalar_at}
 use Rattle.yq_inline.specs.Scalars.{is_quoted, has_its_lines, IsScalarAt, begins_scalar}

@@ -4,8 +4,8 @@ use Rattle.std.proofs.lemmas.Bool.{false≢true, cond_both, or_right}
 use Rattle.yq_scalar.specs.Block.{mark_of, BlockText, block_text}
 use Rattle.yq_scalar.specs.declared.block_header.BlockStyle.{BlockStyle}
 use Rattle.yq_scalar.specs.declared.block_header.BlockStyle.TheVariants as styles
-use Rattle.yq_scalar.specs.Text.{upto, unless, front, is_empty, no_white, no_space, past_white, NoneIn, joined}
-use Rattle.yq_scalar.proofs.Upto.{cut-append}
+use Rattle.yq_flow_scalars.specs.Text.{upto, unless, front, is_empty, no_white, no_space, past_white, NoneIn, joined}
+use Rattle.yq_flow_scalars.proofs.Upto.{cut-append}
 use Rattle.yq_inline.specs.Nodes.{Node, empty, alias, scalar, coll, anchored, node_text, items_text, first_is, in_name, begins_content, begins_node, IsLead, IsName, is_bare, IsNode}
 use Rattle.yq_inline.specs.Scalars.{begins_scalar}
 use Rattle.yq_inline.proofs.PieceLaws.{front_not, scalar_begins}

@@ -5,9 +5,9 @@ use Rattle.std.proofs.lemmas.Bool.{false≢true, or_cases, and_parts, cases_Bool
 use Rattle.std.proofs.lemmas.Str.{IsCharBoundary-after_ascii, IsCharBoundary-before_ascii, IsCharBoundary-end, IsUtf8-take, IsUtf8-between}
 use Rattle.std.specs.List.{slice_get}
 use Rattle.std.specs.Str.{IsUtf8, IsCharBoundary}
-use Rattle.yq_scalar.specs.Text.{front, is_feed, is_return, ends_line, separates}
-use Rattle.yq_scalar.proofs.Boundaries.{white_ascii}
-use Rattle.yq_scalar.specs.Lines.{is_hash}
+use Rattle.yq_flow_scalars.specs.Text.{front, is_feed, is_return, ends_line, separates}
+use Rattle.yq_flow_scalars.proofs.Boundaries.{white_ascii}
+use Rattle.yq_flow_scalars.specs.Lines.{is_hash}
 use Rattle.yq_inline.specs.Nodes.{Node, node_text}
 use Rattle.yq_rows.specs.Exchange.{before_content, behind_row, rows_behind, HasPieces}
 use Rattle.yq_rows.specs.Gap.{IsWhite}

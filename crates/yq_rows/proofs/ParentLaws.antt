@@ -3,7 +3,7 @@ use Rattle.std.proofs.Common.{◌≡◌, ℕ, zero, suc, ◌+◌, ◌<◌, List,
 use Rattle.std.proofs.lemmas.Bool.{false≢true}
 use Rattle.std.proofs.lemmas.List.{length-replicate}
 use Rattle.std.proofs.lemmas.Option.{same_Some}
-use Rattle.yq_scalar.proofs.Bools.{bind_some}
+use Rattle.yq_flow_scalars.proofs.Bools.{bind_some}
 use Rattle.yq_rows.specs.Grammar.{AreDashes, IsMark, Limit}
 use Rattle.yq_rows.specs.Slicing.{SlicedRow, sliced, row_sliced}
 use Rattle.yq_rows.specs.Offsets.{ParentAgrees, parent_by}

@@ -5,10 +5,10 @@ use Rattle.std.proofs.lemmas.List.{take-append-drop}
 use Rattle.std.proofs.Math.Seq.{take-append_seam, drop-append_seam}
 use Rattle.std.proofs.lemmas.Option.{cond_some}
 use Rattle.std.specs.Str.{chars}
-use Rattle.yq_scalar.specs.Text.{upto, cut, no_white, ends_line, separates, is_empty, cut_line, line_len}
-use Rattle.yq_scalar.proofs.Bools.{bind_some}
-use Rattle.yq_scalar.proofs.Upto.{upto-append}
-use Rattle.yq_scalar.specs.Lines.{is_hash}
+use Rattle.yq_flow_scalars.specs.Text.{upto, cut, no_white, ends_line, separates, is_empty, cut_line, line_len}
+use Rattle.yq_flow_scalars.proofs.Bools.{bind_some}
+use Rattle.yq_flow_scalars.proofs.Upto.{upto-append}
+use Rattle.yq_flow_scalars.specs.Lines.{is_hash}
 use Rattle.yq_inline.specs.Reading.{scalar_at}
 use Rattle.yq_inline.specs.Scalars.{IsScalarAt}
 use Rattle.yq_inline.proofs.PieceLaws.{scalar_takes, scalar_again}

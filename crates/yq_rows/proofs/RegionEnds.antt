@@ -3,7 +3,7 @@ use Rattle.std.proofs.Common.{◌≡◌, inl, inr, ℕ, ℤ, Bool, true, false, 
 use Rattle.std.proofs.lemmas.Bool.{false≢true, and_parts, cases_Bool}
 use Rattle.yq_scalar.specs.Block.{ends_block, is_empty_line, keeps}
 use Rattle.yq_scalar.specs.declared.block_lines.TextIndent.{TextIndent}
-use Rattle.yq_scalar.specs.Text.{is_empty, is_line, lines_of}
+use Rattle.yq_flow_scalars.specs.Text.{is_empty, is_line, lines_of}
 use Rattle.yq_inline.specs.Alike.{Alike}
 use Rattle.yq_inline.proofs.Alikes.{alike_append}
 use Rattle.yq_rows.specs.Gap.{IsGap}

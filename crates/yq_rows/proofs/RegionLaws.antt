@@ -1,11 +1,11 @@
 -- The law of regions: items between others, read alone.
 use Rattle.std.proofs.Common.{◌≡◌, inl, ℕ, Bool, true, false, List, [], ◌∷◌, ◌++◌, Option, Some, Result, refl, sym, ap, ◌∙◌, subst, ⊎_elim, append-nil}
 use Rattle.std.proofs.lemmas.Bool.{or_right}
-use Rattle.yq_scalar.specs.Answers.{Gives}
-use Rattle.yq_scalar.specs.declared.fault.ReadError.{ReadError}
+use Rattle.yq_flow_scalars.specs.Answers.{Gives}
+use Rattle.yq_flow_scalars.specs.declared.fault.ReadError.{ReadError}
 use Rattle.yq_scalar.specs.Block.{ends_block, keeps}
 use Rattle.yq_scalar.specs.declared.block_lines.TextIndent.{TextIndent}
-use Rattle.yq_scalar.specs.Text.{is_line, lines_of}
+use Rattle.yq_flow_scalars.specs.Text.{is_line, lines_of}
 use Rattle.yq_inline.specs.Alike.{Alike}
 use Rattle.yq_inline.proofs.Alikes.{alike_append}
 use Rattle.yq_rows.specs.Grammar.{Limit, IsRow, IsMarkerLine}

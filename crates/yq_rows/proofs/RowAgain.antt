@@ -2,7 +2,7 @@
 use Rattle.std.proofs.Common.{◌≡◌, ℕ, ℤ, zero, suc, true, false, cond, not, ◌&&◌, eqb, List, [], ◌∷◌, ◌++◌, length, Some, None, refl, ap, ◌∙◌, replicate}
 use Rattle.std.proofs.Math.Bool.{and-false}
 use Rattle.std.proofs.lemmas.List.{length-replicate}
-use Rattle.yq_scalar.specs.Text.{past_white, is_empty, is_marker}
+use Rattle.yq_flow_scalars.specs.Text.{past_white, is_empty, is_marker}
 use Rattle.yq_rows.specs.Gap.{IsWhite}
 use Rattle.yq_rows.specs.Grammar.{IsRow, IsContent, IsMark, Limit, allows, ends_part}
 use Rattle.yq_rows.specs.Reading.{begins_gap, marks_at, fits, marked_row_at, row_at}

@@ -3,10 +3,10 @@ use Rattle.std.proofs.Common.{◌≡◌, ℕ, ℤ, ◌<◌, ◌≤◌, true, fal
 use Rattle.std.proofs.lemmas.Bool.{not-true, and_parts}
 use Rattle.std.proofs.lemmas.Option.{cond_some}
 use Rattle.yq_scalar.specs.Block.{block_text}
-use Rattle.yq_scalar.specs.Piece.{deeper}
-use Rattle.yq_scalar.specs.Text.{cut, no_space, is_marker, separates, joined}
-use Rattle.yq_scalar.proofs.Bools.{guard_then, bind_some}
-use Rattle.yq_scalar.proofs.Upto.{cut_takes}
+use Rattle.yq_flow_scalars.specs.Piece.{deeper}
+use Rattle.yq_flow_scalars.specs.Text.{cut, no_space, is_marker, separates, joined}
+use Rattle.yq_flow_scalars.proofs.Bools.{guard_then, bind_some}
+use Rattle.yq_flow_scalars.proofs.Upto.{cut_takes}
 use Rattle.yq_inline.specs.Inline.{depth_limit}
 use Rattle.yq_inline.specs.Nodes.{bare, node_text}
 use Rattle.yq_inline.proofs.NodeAgain.{item_longer}

@@ -3,9 +3,9 @@ use Rattle.std.proofs.Common.{if◌then◌else◌, ◌≡◌, ℕ, ◌+◌, ◌<
 use Rattle.std.proofs.lemmas.Bool.{false≢true}
 use Rattle.std.proofs.lemmas.List.{take-append-drop}
 use Rattle.std.proofs.lemmas.Option.{same_Some}
-use Rattle.yq_scalar.specs.Answers.{◌>>=◌}
-use Rattle.yq_scalar.specs.Text.{cut, no_space, no_white, is_marker}
-use Rattle.yq_scalar.proofs.Bools.{bind_some}
+use Rattle.yq_flow_scalars.specs.Answers.{◌>>=◌}
+use Rattle.yq_flow_scalars.specs.Text.{cut, no_space, no_white, is_marker}
+use Rattle.yq_flow_scalars.proofs.Bools.{bind_some}
 use Rattle.yq_inline.specs.Nodes.{begins_node}
 use Rattle.yq_rows.specs.Grammar.{Limit, unlimited, allows, limit_after, limit_behind, is_entry, no_rows, ends_part}
 use Rattle.yq_rows.specs.Slicing.{Begun, begun, filled, filled_at, holds_plain, limit_by, SlicedRow, sliced, row_of, marked_sliced, row_sliced, rows_sliced, inline_sliced, block_sliced}

@@ -1,6 +1,6 @@
 -- The rows of a part: steps of reading them.
 use Rattle.std.proofs.Common.{if◌then◌else◌, ◌≡◌, ℕ, zero, suc, ◌<◌, ◌≤◌, true, false, cond, List, [], ◌∷◌, length, Option, Some, None, refl, ap, arith, length-drop}
-use Rattle.yq_scalar.specs.Answers.{◌>>=◌}
+use Rattle.yq_flow_scalars.specs.Answers.{◌>>=◌}
 use Rattle.yq_inline.proofs.Binds.{bind_same}
 use Rattle.yq_rows.specs.Grammar.{Limit, limit_after, ends_part}
 use Rattle.yq_rows.specs.Reading.{gap_len, cut_gap, row_at, with_rows, rows_at, all_rows}

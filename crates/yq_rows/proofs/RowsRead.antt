@@ -3,9 +3,9 @@ use Rattle.std.proofs.Common.{◌≡◌, ℕ, zero, suc, ◌<◌, Bool, true, fa
 use Rattle.std.proofs.lemmas.Bool.{false≢true}
 use Rattle.std.proofs.lemmas.List.{take-append-drop}
 use Rattle.std.proofs.lemmas.Option.{same_Some}
-use Rattle.yq_scalar.specs.Answers.{◌>>=◌}
-use Rattle.yq_scalar.specs.Text.{is_marker}
-use Rattle.yq_scalar.proofs.Bools.{at_byte, bind_some, chosen}
+use Rattle.yq_flow_scalars.specs.Answers.{◌>>=◌}
+use Rattle.yq_flow_scalars.specs.Text.{is_marker}
+use Rattle.yq_flow_scalars.proofs.Bools.{at_byte, bind_some, chosen}
 use Rattle.yq_rows.specs.Gap.{IsGap}
 use Rattle.yq_rows.specs.Grammar.{IsRow, Limit, limit_after, AreRows, ends_part}
 use Rattle.yq_rows.specs.Reading.{gap_len, cut_gap, begins_gap, row_at, rows_at}

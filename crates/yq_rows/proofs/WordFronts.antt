@@ -2,10 +2,10 @@
 use Rattle.std.proofs.Common.{◌≡◌, ℕ, Bool, true, false, ◌||◌, ◌&&◌, not, eqb, eqb-true, Option, Some, List, [], ◌∷◌, take, drop, refl, sym, ap, ◌∙◌, inl, inr}
 use Rattle.std.proofs.lemmas.Bool.{false≢true, or_cases, and_right, cases_Bool}
 use Rattle.std.specs.List.{prefix_len}
-use Rattle.yq_scalar.specs.Lines.{is_hash}
-use Rattle.yq_scalar.specs.Text.{upto, cut, front, line_len, is_empty, ends_line, past_white}
-use Rattle.yq_scalar.specs.Plain.{begins_plain, ends_plain, plain_at}
-use Rattle.yq_scalar.proofs.Bools.{at_byte}
+use Rattle.yq_flow_scalars.specs.Lines.{is_hash}
+use Rattle.yq_flow_scalars.specs.Text.{upto, cut, front, line_len, is_empty, ends_line, past_white}
+use Rattle.yq_flow_scalars.specs.Plain.{begins_plain, ends_plain, plain_at}
+use Rattle.yq_flow_scalars.proofs.Bools.{at_byte}
 use Rattle.yq_scalar.proofs.SpaceLaws.{prefix_drop, white_drop}
 use Rattle.yq_inline.specs.Nodes.{first_is}
 use Rattle.yq_inline.specs.Reading.{scalar_at}

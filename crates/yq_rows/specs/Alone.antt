@@ -1,6 +1,6 @@
 -- A node alone on its line, exchanged for another one (own).
 use Rattle.std.specs.Prelude.{◌≡◌, ◌==◌, ◌&&◌, ℕ, Bool, true, false, not, List}
-use Rattle.yq_scalar.specs.Text.{is_marker}
+use Rattle.yq_flow_scalars.specs.Text.{is_marker}
 use Rattle.yq_rows.specs.Exchange.{with_content, allows_first}
 use Rattle.yq_rows.specs.Grammar.{IsContent, is_entry, is_more, limit_after, may_be_alone}
 use Rattle.yq_rows.specs.Rows.{Content, Nothing, Inline, Block, Row, behind_indent, parent_indent}

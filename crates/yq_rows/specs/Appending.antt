@@ -1,6 +1,6 @@
 -- What is put behind a text that has no final break.
 use Rattle.std.specs.Prelude.{◌≡◌, ℕ, Bool, true, false, ◌&&◌, List, [], ◌++◌}
-use Rattle.yq_scalar.specs.Text.{is_break, is_empty, is_line}
+use Rattle.yq_flow_scalars.specs.Text.{is_break, is_empty, is_line}
 use Rattle.yq_rows.specs.Grammar.{IsPart, begins_document}
 use Rattle.yq_rows.specs.Rows.{Row, Part, Cut, last, marked}
 use Rattle.yq_rows.specs.Seams.{tail_behind, retail, is_block}

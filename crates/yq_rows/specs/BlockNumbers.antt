@@ -3,8 +3,8 @@ use Rattle.std.specs.Prelude.{ℤ, ℕ, ◌==◌, ◌||◌, Bool, List, [], ◌�
 use Rattle.std.specs.Option.{option_map}
 use Rattle.yq_scalar.specs.Block.{keeps}
 use Rattle.yq_scalar.specs.BlockReading.{indent_at, indicators_at}
-use Rattle.yq_scalar.specs.Piece.{deeper}
-use Rattle.yq_scalar.specs.Text.{lines_of}
+use Rattle.yq_flow_scalars.specs.Piece.{deeper}
+use Rattle.yq_flow_scalars.specs.Text.{lines_of}
 
 -- how far raw lines behind this indentation indicator are indented, at least so far (own)
 abbrev pub columns_at : ℕ → Option ℕ → List ℕ → Option ℕ

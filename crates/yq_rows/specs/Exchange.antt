@@ -1,7 +1,7 @@
 -- What stands behind the mark of a row, exchanged for something else.
 use Rattle.std.specs.Prelude.{◌≡◌, ℕ, zero, suc, ◌+◌, ◌-◌, Bool, true, nat_lt, List, [], ◌∷◌, ◌++◌, length, drop, replicate, if◌then◌else◌}
 use Rattle.std.specs.Str.{IsUtf8, IsCharBoundary}
-use Rattle.yq_scalar.specs.Text.{separates}
+use Rattle.yq_flow_scalars.specs.Text.{separates}
 use Rattle.yq_rows.specs.Grammar.{IsContent, is_entry, Limit, allows, limit_after}
 use Rattle.yq_rows.specs.Rows.{Content, content_text, dashes_text, mark_text, Row, parent_indent, print_row, rows_text, Part, part_text, Cut, last, marked, cut_text}
 

@@ -1,6 +1,6 @@
 -- Ends of lines, blank lines, comment lines and gaps.
 use Rattle.std.specs.Prelude.{◌≡◌, ◌⊎◌, ℕ, true, false, ◌&&◌, List, [], ◌∷◌, ◌++◌}
-use Rattle.yq_scalar.specs.Text.{is_white, is_empty, is_break, is_line, ends_line, NoneIn, joined}
+use Rattle.yq_flow_scalars.specs.Text.{is_white, is_empty, is_break, is_line, ends_line, NoneIn, joined}
 
 -- white space alone (YAML 1.2.2, section 6.2)
 abbrev pub IsWhite : List ℕ → Type 0

@@ -1,11 +1,11 @@
 -- What a row is, and how a text is cut into rows and markers.
 use Rattle.std.specs.Prelude.{◌≡◌, ℕ, ◌+◌, ◌≤◌, ℤ, Bool, true, false, nat_lt, ◌==◌, ◌&&◌, ◌||◌, not, List, [], ◌∷◌, ◌++◌, length, drop, Option, Some, None, if◌then◌else◌}
 use Rattle.std.specs.Str.{chars}
-use Rattle.yq_scalar.specs.declared.style.Place.TheVariants.{Block}
+use Rattle.yq_flow_scalars.specs.declared.style.Place.TheVariants.{Block}
 use Rattle.yq_scalar.specs.Block.{IsBlock, block_text}
-use Rattle.yq_scalar.specs.Characters.{is_text, text_limit}
-use Rattle.yq_scalar.specs.Piece.{deeper}
-use Rattle.yq_scalar.specs.Text.{is_empty, separates, front, is_marker}
+use Rattle.yq_flow_scalars.specs.Characters.{is_text, text_limit}
+use Rattle.yq_flow_scalars.specs.Piece.{deeper}
+use Rattle.yq_flow_scalars.specs.Text.{is_empty, separates, front, is_marker}
 use Rattle.yq_inline.specs.Inline.{IsInline}
 use Rattle.yq_inline.specs.Nodes.{Node, empty, alias, scalar, coll, anchored, is_bare, IsName}
 use Rattle.yq_inline.specs.Scalars.{IsScalarAt, is_quoted}

@@ -1,6 +1,6 @@
 -- Rows joined from pieces of two, where collections are compact (YAML 1.2.2, section 8.2.1).
 use Rattle.std.specs.Prelude.{◌≡◌, ℕ, suc, ◌+◌, ◌≤◌, pos, true, false, List, ◌∷◌, ◌++◌}
-use Rattle.yq_scalar.specs.Text.{is_empty, separates}
+use Rattle.yq_flow_scalars.specs.Text.{is_empty, separates}
 use Rattle.yq_rows.specs.Grammar.{IsContent, is_entry}
 use Rattle.yq_rows.specs.Rows.{Dash, Content, content_text, Row, behind_columns, mark_column}
 

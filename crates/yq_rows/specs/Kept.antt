@@ -1,7 +1,7 @@
 -- Rows kept by where they stand (own; a reader of the contracts may skip it): in front of a split by the distance from the text's beginning, behind it by
 -- that to the text's end.
 use Rattle.std.specs.Prelude.{◌≡◌, ℕ, ◌+◌, ◌-◌, ◌<◌, ◌^◌, List, [], ◌∷◌, ◌++◌, drop, length, map, reverse, Option, Some}
-use Rattle.yq_scalar.specs.Answers.{◌>>=◌}
+use Rattle.yq_flow_scalars.specs.Answers.{◌>>=◌}
 use Rattle.std.specs.Str.{IsUtf8}
 use Rattle.yq_text.specs.declared.halves.Halves.{Halves}
 use Rattle.yq_rows.specs.Ends.{bounds_in_halves, end_at}

@@ -2,12 +2,12 @@
 use Rattle.std.specs.Prelude.{ℕ, zero, suc, ◌+◌, ℤ, Bool, true, false, ◌||◌, ◌&&◌, not, ◌==◌, nat_le, List, [], ◌∷◌, ◌++◌, length, take, drop, if◌then◌else◌, Option, Some, None}
 use Rattle.std.specs.List.{prefix_len}
 use Rattle.std.specs.Str.{chars}
-use Rattle.yq_scalar.specs.Answers.{◌>>=◌}
+use Rattle.yq_flow_scalars.specs.Answers.{◌>>=◌}
 use Rattle.yq_scalar.specs.BlockReading.{block_at}
-use Rattle.yq_scalar.specs.Characters.{is_text, text_limit}
-use Rattle.yq_scalar.specs.Piece.{deeper}
-use Rattle.yq_scalar.specs.Text.{cut, upto, front, is_empty, unless, no_space, no_white, past_white, ends_line, separates, is_marker, line_len, cut_line}
-use Rattle.yq_scalar.specs.Lines.{is_hash}
+use Rattle.yq_flow_scalars.specs.Characters.{is_text, text_limit}
+use Rattle.yq_flow_scalars.specs.Piece.{deeper}
+use Rattle.yq_flow_scalars.specs.Text.{cut, upto, front, is_empty, unless, no_space, no_white, past_white, ends_line, separates, is_marker, line_len, cut_line}
+use Rattle.yq_flow_scalars.specs.Lines.{is_hash}
 use Rattle.yq_inline.specs.Inline.{depth_limit}
 use Rattle.yq_inline.specs.Nodes.{first_is, in_name, begins_node}
 use Rattle.yq_inline.specs.Reading.{scalar_at, name_at, all_node}

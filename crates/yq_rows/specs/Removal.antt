@@ -2,8 +2,8 @@
 use Rattle.std.specs.Prelude.{◌≡◌, ℕ, Bool, true, false, ◌||◌, not, List, [], ◌∷◌, ◌++◌, take, drop, ◌<◌, Option, Some, None, if◌then◌else◌}
 use Rattle.yq_scalar.specs.Block.{BlockText, keeps}
 use Rattle.yq_scalar.specs.BlockRepair.{repair}
-use Rattle.yq_scalar.specs.Lines.{is_blank}
-use Rattle.yq_scalar.specs.Text.{joined, lines_of}
+use Rattle.yq_flow_scalars.specs.Lines.{is_blank}
+use Rattle.yq_flow_scalars.specs.Text.{joined, lines_of}
 use Rattle.yq_rows.specs.Exchange.{allows_first}
 use Rattle.yq_rows.specs.Grammar.{no_rows}
 use Rattle.yq_rows.specs.Rows.{Content, Nothing, Inline, Block, Row, Part, Cut}

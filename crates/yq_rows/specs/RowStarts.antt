@@ -1,7 +1,7 @@
 -- Where rows begin in their text (own), by the pieces of the rows and of the ends of parts in front of them.
 use Rattle.std.specs.Prelude.{ℕ, ◌+◌, ◌*◌, nat_le, length, take, if◌then◌else◌}
 use Rattle.std.specs.List.{sum_by}
-use Rattle.yq_scalar.specs.Text.{is_empty}
+use Rattle.yq_flow_scalars.specs.Text.{is_empty}
 use Rattle.yq_rows.specs.Offsets.{row_length}
 use Rattle.yq_rows.specs.View.{Slices, Bound, RowsView}
 

@@ -1,9 +1,9 @@
 -- Seams: what a row asks of the text behind it, and a row that takes the place of another one.
 use Rattle.std.specs.Prelude.{◌≡◌, ℕ, ℤ, Bool, true, false, ◌||◌, List, [], ◌∷◌, ◌++◌, Some, if◌then◌else◌}
 use Rattle.yq_scalar.specs.Block.{ends_block, keeps}
-use Rattle.yq_scalar.specs.Piece.{deeper}
-use Rattle.yq_scalar.specs.Plain.{ends_plain}
-use Rattle.yq_scalar.specs.Text.{is_empty, is_line, lines_of}
+use Rattle.yq_flow_scalars.specs.Piece.{deeper}
+use Rattle.yq_flow_scalars.specs.Plain.{ends_plain}
+use Rattle.yq_flow_scalars.specs.Text.{is_empty, is_line, lines_of}
 use Rattle.yq_inline.specs.Alike.{Alike}
 use Rattle.yq_rows.specs.Exchange.{asked_behind, with_content}
 use Rattle.yq_rows.specs.Grammar.{IsTail, is_plain, IsRow, Limit, AreRows, no_rows, ends_part}

@@ -1,10 +1,10 @@
 -- What reading gives, as the code lends it (own; a reader may skip it).
 use Rattle.std.specs.Prelude.{◌≡◌, ℕ, suc, ◌+◌, Bool, true, false, ◌||◌, ◌==◌, List, [], ◌++◌, length, map, take, drop, Option, Some, None, if◌then◌else◌, ℤ}
-use Rattle.yq_scalar.specs.Answers.{◌>>=◌}
-use Rattle.yq_scalar.specs.Piece.{deeper}
-use Rattle.yq_scalar.specs.Text.{upto, cut, front, unless, no_white}
-use Rattle.yq_scalar.specs.declared.style.Style.{Style}
-use Rattle.yq_scalar.specs.declared.style.Style.TheVariants as styles
+use Rattle.yq_flow_scalars.specs.Answers.{◌>>=◌}
+use Rattle.yq_flow_scalars.specs.Piece.{deeper}
+use Rattle.yq_flow_scalars.specs.Text.{upto, cut, front, unless, no_white}
+use Rattle.yq_flow_scalars.specs.declared.style.Style.{Style}
+use Rattle.yq_flow_scalars.specs.declared.style.Style.TheVariants as styles
 use Rattle.yq_inline.specs.declared.measuring.NodeKind.{NodeKind}
 use Rattle.yq_inline.specs.declared.measuring.NodeKind.TheVariants as kinds
 use Rattle.yq_inline.specs.Nodes.{first_is, in_name}

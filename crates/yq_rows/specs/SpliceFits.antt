@@ -1,6 +1,6 @@
 -- What is asked of rows that stand in the place of others.
 use Rattle.std.specs.Prelude.{◌≡◌, ℕ, Bool, true, false, ◌||◌, not, List, [], ◌++◌, take, drop, Some}
-use Rattle.yq_scalar.specs.Text.{is_empty}
+use Rattle.yq_flow_scalars.specs.Text.{is_empty}
 use Rattle.yq_inline.specs.Alike.{Alike}
 use Rattle.yq_rows.specs.Exchange.{allows_first, asked_behind}
 use Rattle.yq_rows.specs.Gap.{IsGap}

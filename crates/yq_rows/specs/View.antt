@@ -1,7 +1,7 @@
 -- The rows of the code, as the pieces that they lend.
 use Rattle.std.specs.Prelude.{ℕ, ℤ, ◌+◌, ◌==◌, List, [], ◌∷◌, ◌++◌, length, map, replicate, Option, Some, None, if◌then◌else◌}
 use Rattle.yq_scalar.specs.Block.{mark_of}
-use Rattle.yq_scalar.specs.Text.{joined}
+use Rattle.yq_flow_scalars.specs.Text.{joined}
 use Rattle.yq_inline.specs.Nodes.{Node, empty, alias, scalar, coll, anchored, node_text}
 use Rattle.yq_rows.specs.Rows.{Mark, Bare, Dash, Key, Anchor, Content, Nothing, Inline, Block, Row, dashes_text, parent_indent, Cut, last, marked}
 use Rattle.yq_rows.specs.Grammar.{Limit}

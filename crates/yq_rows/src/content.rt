@@ -1,13 +1,13 @@
 //! What stands behind a row's mark.
 ghost use Rattle.std.specs.Option.{option_map};
 ghost use Rattle.std.specs.Prelude.{◌≡◌, ◌≢◌, ◌≤◌, ◌==◌, ◌||◌, ◌&&◌, not, length, true, false, IfErr};
-ghost use Rattle.yq_scalar.specs.Answers.{Gives, IsOfText};
+ghost use Rattle.yq_flow_scalars.specs.Answers.{Gives, IsOfText};
 ghost use Rattle.yq_inline.specs.Measured as measured;
 ghost use Rattle.yq_inline.specs.Scalars as scalars;
 ghost use Rattle.yq_rows.specs.Slicing as slicing;
 ghost use Rattle.yq_rows.specs.Slicing.{filled_at, filling_view};
-ghost use Rattle.yq_scalar.specs.Text.{front, is_empty};
-ghost use Rattle.yq_scalar.specs.declared.fault.FaultKind.TheVariants.{NotUtf8};
+ghost use Rattle.yq_flow_scalars.specs.Text.{front, is_empty};
+ghost use Rattle.yq_flow_scalars.specs.declared.fault.FaultKind.TheVariants.{NotUtf8};
 ghost use Rattle.yq_rows.specs.Reading as spec;
 
 use crate::fault::{block_fault, fault};
@@ -18,9 +18,10 @@ use crate::words::{begins_word, read_front};
 use yq_inline::DEPTH_LIMIT;
 use yq_inline::measuring::{Measured, NodeKind, measure_node};
 use yq_inline::pieces::{begins_scalar, first_is, is_quoted, name_len, strip};
-use yq_scalar::lines::split_line;
-use yq_scalar::text::{ends_line, split_white};
-use yq_scalar::{FaultKind, Place, ReadError, ReadFault, further_spaces, read_block};
+use yq_flow_scalars::lines::split_line;
+use yq_flow_scalars::text::{ends_line, split_white};
+use yq_flow_scalars::{FaultKind, Place, ReadError, ReadFault, further_spaces};
+use yq_scalar::read_block;
 
 /// What stands behind a mark, by its pieces.
 #[derive(Clone, Copy, Debug)]

@@ -1,14 +1,14 @@
 //! Blank lines and comment lines.
 ghost use Rattle.std.specs.Prelude.{◌≡◌, ◌||◌};
-ghost use Rattle.yq_scalar.specs.Lines as lines;
-ghost use Rattle.yq_scalar.specs.Text.{front};
+ghost use Rattle.yq_flow_scalars.specs.Lines as lines;
+ghost use Rattle.yq_flow_scalars.specs.Text.{front};
 ghost use Rattle.yq_inline.specs.Nodes as nodes;
 ghost use Rattle.yq_rows.specs.Reading as spec;
 
 use crate::words::begins_word;
 use yq_inline::pieces::first_is;
-use yq_scalar::lines::line_len;
-use yq_scalar::text::{ends_line, past_white, spaces_len};
+use yq_flow_scalars::lines::line_len;
+use yq_flow_scalars::text::{ends_line, past_white, spaces_len};
 
 /// Whether a `#` is in front.
 pub(crate) fn is_hash(text: &[u8]) -> bool

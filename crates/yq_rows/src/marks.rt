@@ -3,7 +3,7 @@ ghost use Rattle.std.specs.List.{prefix_len};
 ghost use Rattle.std.specs.Option.{option_map};
 ghost use Rattle.std.specs.Prelude.{◌≡◌, ◌≤◌, ◌==◌, ◌&&◌, ◌+◌, length, nat_le, not, None, if◌then◌else◌};
 ghost use Rattle.std.specs.Str.{chars};
-ghost use Rattle.yq_scalar.specs.Text.{is_empty};
+ghost use Rattle.yq_flow_scalars.specs.Text.{is_empty};
 ghost use Rattle.yq_rows.specs.Grammar as grammar;
 ghost use Rattle.yq_rows.specs.Grammar.{key_limit};
 ghost use Rattle.yq_rows.specs.Slicing.{begin_view, begun, mark_view};
@@ -13,8 +13,8 @@ ghost use Rattle.yq_rows.specs.View as view;
 
 use crate::words::read_front;
 use yq_inline::pieces::first_is;
-use yq_scalar::characters::char_count;
-use yq_scalar::text::{separates, split_spaces, split_white};
+use yq_flow_scalars::characters::char_count;
+use yq_flow_scalars::text::{separates, split_spaces, split_white};
 
 /// How many characters a key may have, and how many its `:` may stand behind its first one.
 pub const KEY_LIMIT: usize = 1024;

@@ -1,8 +1,8 @@
 //! Rows, read one behind the other.
 ghost use Rattle.std.specs.Prelude.{◌≡◌, ◌≢◌, ◌<◌, ◌≤◌, ◌+◌, ◌++◌, ◌-◌, ◌^◌, ◌==◌, ◌&&◌, ◌||◌, ℕ, List, not, length, true, IfErr, IfOk};
-ghost use Rattle.yq_scalar.specs.Answers.{Gives, IsOfText, Reads};
-ghost use Rattle.yq_scalar.specs.Text;
-ghost use Rattle.yq_scalar.specs.declared.fault.FaultKind.TheVariants.{NotUtf8};
+ghost use Rattle.yq_flow_scalars.specs.Answers.{Gives, IsOfText, Reads};
+ghost use Rattle.yq_flow_scalars.specs.Text;
+ghost use Rattle.yq_flow_scalars.specs.declared.fault.FaultKind.TheVariants.{NotUtf8};
 ghost use Rattle.yq_rows.specs.Grammar as grammar;
 ghost use Rattle.yq_rows.specs.Grammar.{unlimited, ends_part};
 ghost use Rattle.yq_rows.specs.Kept.{rows_placed};
@@ -19,8 +19,8 @@ use crate::naming::not_alone;
 use crate::offsets::{Offsets, offsets_of};
 use crate::row::Limit;
 use std::alloc::Global;
-use yq_scalar::text::{is_marker, split_spaces};
-use yq_scalar::{FaultKind, ReadError, ReadFault};
+use yq_flow_scalars::text::{is_marker, split_spaces};
+use yq_flow_scalars::{FaultKind, ReadError, ReadFault};
 
 /// What stands behind the marks of a row that are read already, below a parent of this indentation.
 #[inline]

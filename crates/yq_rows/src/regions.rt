@@ -1,6 +1,6 @@
 //! Regions of a text: rows and ends of parts between others, read alone.
 ghost use Rattle.std.specs.Prelude.{◌≡◌, ◌<◌, ◌^◌, List, [], Some, length, true};
-ghost use Rattle.yq_scalar.specs.Answers.{Gives};
+ghost use Rattle.yq_flow_scalars.specs.Answers.{Gives};
 ghost use Rattle.yq_rows.specs.Items.{Item, items_text, view_of_items};
 ghost use Rattle.yq_rows.specs.Regions.{IsReadAlone, alone};
 ghost use Rattle.yq_rows.specs.Slicing.{read_view};
@@ -10,7 +10,7 @@ ghost use Rattle.yq_rows.specs.Reading.{all_parts};
 use crate::meter::{Meter, count_lines};
 use crate::scanning::{Rows, cut};
 use std::alloc::Global;
-use yq_scalar::ReadError;
+use yq_flow_scalars::ReadError;
 
 /// The rows and ends of parts that are read in a region of a text. Its lines are given one by one,
 /// and each is counted once.

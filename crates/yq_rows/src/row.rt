@@ -4,7 +4,7 @@ ghost use Rattle.yq_rows.specs.Grammar as grammar;
 ghost use Rattle.yq_rows.specs.Slicing as slicing;
 ghost use Rattle.yq_rows.specs.View.{limit_view, view};
 
-use yq_scalar::{Place, further_spaces};
+use yq_flow_scalars::{Place, further_spaces};
 
 /// A row, as slices of its text.
 #[derive(Clone, Copy, Debug)]

@@ -1,6 +1,6 @@
 //! Pieces of rows by their number, without making the rows.
 ghost use Rattle.std.specs.Prelude.{◌≡◌, ◌<◌, Some, length, not, slice_get};
-ghost use Rattle.yq_scalar.specs.Text.{is_empty};
+ghost use Rattle.yq_flow_scalars.specs.Text.{is_empty};
 ghost use Rattle.yq_rows.specs.View.{Slices};
 
 use crate::scanning::Rows;

@@ -1,14 +1,14 @@
 //! What a letter or a digit in front tells.
 ghost use Rattle.std.specs.Prelude.{◌≡◌, ◌≢◌, IfErr, false};
-ghost use Rattle.yq_scalar.specs.Answers.{Reads};
-ghost use Rattle.yq_scalar.specs.Text.{front};
-ghost use Rattle.yq_scalar.specs.declared.fault.FaultKind.TheVariants.{NotUtf8};
+ghost use Rattle.yq_flow_scalars.specs.Answers.{Reads};
+ghost use Rattle.yq_flow_scalars.specs.Text.{front};
+ghost use Rattle.yq_flow_scalars.specs.declared.fault.FaultKind.TheVariants.{NotUtf8};
 ghost use Rattle.yq_inline.specs.Reading as inline;
 ghost use Rattle.yq_rows.specs.Reading as spec;
 
 use yq_inline::pieces::read_scalar;
-use yq_scalar::ReadFault;
-use yq_scalar::plain::split_plain;
+use yq_flow_scalars::ReadFault;
+use yq_flow_scalars::plain::split_plain;
 
 /// Whether a letter or a digit is in front.
 pub(crate) fn begins_word(text: &[u8]) -> bool

@@ -4,7 +4,7 @@ use Rattle.std.proofs.lemmas.Bool.{false_from_ne_true}
 use Rattle.yq_scalar.proofs.LineLaws.{line_step}
 use Rattle.yq_scalar.specs.Block.{no_lines}
 use Rattle.yq_scalar.specs.BlockContent.{part_of, broken, literal, joint, ending, kind_of, folded}
-use Rattle.yq_scalar.specs.Text.{is_white, front, lines_of}
+use Rattle.yq_flow_scalars.specs.Text.{is_white, front, lines_of}
 use Rattle.yq_scalar.specs.declared.block_content.Before.{Before}
 use Rattle.yq_scalar.specs.declared.block_header.Chomping.{Chomping}
 use Rattle.yq_scalar.specs.declared.block_lines.TextIndent.{TextIndent}

@@ -3,22 +3,22 @@ use Rattle.std.proofs.Common.{◌≡◌, ◌≢◌, ℕ, ◌+◌, ◌-◌, ◌�
 use Rattle.std.proofs.lemmas.Bool.{false≢true}
 use Rattle.std.proofs.lemmas.Option.{same_Some}
 use Rattle.yq_scalar.proofs.BlockLaws.{block_takes, block_again}
-use Rattle.yq_scalar.proofs.Bools.{bind_some}
+use Rattle.yq_flow_scalars.proofs.Bools.{bind_some}
 use Rattle.yq_scalar.proofs.HeaderLaws.{head_length}
 use Rattle.yq_scalar.proofs.LineLaws.{joined_lines, joined-append}
 use Rattle.yq_scalar.proofs.RawLaws.{raw_split}
-use Rattle.yq_scalar.specs.Answers.{◌>>=◌, Reads}
+use Rattle.yq_flow_scalars.specs.Answers.{◌>>=◌, Reads}
 use Rattle.yq_scalar.specs.Block.{style_of, is_block_fault, keeps, BlockText, block_piece, IsBlockPiece}
 use Rattle.yq_scalar.specs.BlockReading.{raw_at, len_at, indent_at, style_at, indicators_at, values, tail_at, block_behind, block_at, piece_at, block_from}
-use Rattle.yq_scalar.specs.Piece.{deeper}
-use Rattle.yq_scalar.specs.Text.{lines_of, joined}
+use Rattle.yq_flow_scalars.specs.Piece.{deeper}
+use Rattle.yq_flow_scalars.specs.Text.{lines_of, joined}
 use Rattle.yq_scalar.specs.declared.block_header.BlockStyle.{BlockStyle}
 use Rattle.yq_scalar.specs.declared.block_header.Chomping.{Chomping}
 use Rattle.yq_scalar.specs.declared.block_lines.TextIndent.{TextIndent}
-use Rattle.yq_scalar.specs.declared.fault.FaultKind.{FaultKind}
-use Rattle.yq_scalar.specs.declared.fault.FaultKind.TheVariants.{NotUtf8}
-use Rattle.yq_scalar.specs.declared.piece.Piece.{Piece}
-use Rattle.yq_scalar.specs.declared.style.Style.{Style}
+use Rattle.yq_flow_scalars.specs.declared.fault.FaultKind.{FaultKind}
+use Rattle.yq_flow_scalars.specs.declared.fault.FaultKind.TheVariants.{NotUtf8}
+use Rattle.yq_flow_scalars.specs.declared.piece.Piece.{Piece}
+use Rattle.yq_flow_scalars.specs.declared.style.Style.{Style}
 
 pub raw_within : (keep : Bool) (f : TextIndent) (t : List ℕ) (n : ℕ) → len_at keep f t ≡ Some n → n ≤ length t
 raw_within keep f t n h =

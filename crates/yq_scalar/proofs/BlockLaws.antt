@@ -2,14 +2,14 @@
 use Rattle.std.proofs.Common.{◌≡◌, ℕ, true, List, ◌∷◌, ◌++◌, Some, sym, ap, ◌∙◌, subst}
 use Rattle.std.proofs.lemmas.List.{append_cancel_left}
 use Rattle.std.proofs.lemmas.Option.{same_Some}
-use Rattle.yq_scalar.proofs.Bools.{bind_some}
+use Rattle.yq_flow_scalars.proofs.Bools.{bind_some}
 use Rattle.yq_scalar.proofs.DetectedLaws.{indent_takes, indent_again}
 use Rattle.yq_scalar.proofs.HeaderLaws.{style_takes, style_again, indicators_takes, tail_takes, tail_again, tail_no_indicator, indicators_again}
 use Rattle.yq_scalar.proofs.LineLaws.{joined_lines, lines_are, joined-append}
 use Rattle.yq_scalar.proofs.RawLaws.{raw_split, IsRaw, raw_takes, raw_again, lines_raw}
 use Rattle.yq_scalar.specs.Block.{ends_block, mark_of, keeps, BlockText, block_text, IsBlock}
 use Rattle.yq_scalar.specs.BlockReading.{raw_at, indent_at, style_at, indicators_at, tail_at, block_behind, block_at}
-use Rattle.yq_scalar.specs.Text.{lines_of, joined}
+use Rattle.yq_flow_scalars.specs.Text.{lines_of, joined}
 
 -- the text of what is read
 pub block_takes : (least : ℕ) (t : List ℕ) (x : BlockText × List ℕ) → block_at least t ≡ Some x → (t ≡ block_text x.0 x.1) × IsBlock least x.0 x.1

@@ -12,11 +12,11 @@ use Rattle.yq_scalar.proofs.RawLaws.{raw_lines}
 use Rattle.yq_scalar.specs.Block.{Lines, AreRaw, IsTextIndent, mark_of, style_of, is_tail, BlockText, block_text, IsBlock, IsBlockPiece}
 use Rattle.yq_scalar.specs.BlockContent.{content_of, block_content}
 use Rattle.yq_scalar.specs.BlockReading.{block_style, indent_of, raw_content, piece_content, indicators_at, values}
-use Rattle.yq_scalar.specs.Piece.{deeper}
-use Rattle.yq_scalar.specs.Text.{lines_of, joined, is_line}
+use Rattle.yq_flow_scalars.specs.Piece.{deeper}
+use Rattle.yq_flow_scalars.specs.Text.{lines_of, joined, is_line}
 use Rattle.yq_scalar.specs.declared.block_header.BlockStyle.{BlockStyle}
 use Rattle.yq_scalar.specs.declared.block_lines.TextIndent.{TextIndent}
-use Rattle.yq_scalar.specs.declared.piece.Piece.{Piece}
+use Rattle.yq_flow_scalars.specs.declared.piece.Piece.{Piece}
 use Rattle.yq_scalar.proofs.LineLaws.{is_empty_is}
 
 -- a text that ends in LF

@@ -5,8 +5,8 @@ use Rattle.yq_scalar.proofs.RawLaws.{next_not_empty}
 use Rattle.yq_scalar.proofs.SpaceLaws.{white_drop, spaces_blank, prefix_none, spaces_front, drop_front}
 use Rattle.yq_scalar.specs.Block.{Lines, is_empty_line, is_less_indented, ends_block}
 use Rattle.yq_scalar.specs.BlockRepair.{AreGap, is_short, is_outside, repaired_blank, repaired_comment, repair, comment_lines, is_behind}
-use Rattle.yq_scalar.specs.Lines.{spaces, behind_spaces, is_tab, is_hash, is_blank}
-use Rattle.yq_scalar.specs.Text.{ends_line, past_white, upto}
+use Rattle.yq_flow_scalars.specs.Lines.{spaces, behind_spaces, is_tab, is_hash, is_blank}
+use Rattle.yq_flow_scalars.specs.Text.{ends_line, past_white, upto}
 use Rattle.yq_scalar.specs.declared.block_lines.TextIndent.{TextIndent}
 
 -- what begins with no space

@@ -3,8 +3,8 @@ use Rattle.std.proofs.Common.{◌≡◌, ℕ, Bool, true, false, cond, List, [],
 use Rattle.yq_scalar.proofs.LineLaws.{joined_lines}
 use Rattle.yq_scalar.specs.Block.{Lines}
 use Rattle.yq_scalar.specs.BlockRepair.{repaired_blank, repaired_comment, repair}
-use Rattle.yq_scalar.specs.Lines.{is_blank}
-use Rattle.yq_scalar.specs.Text.{lines_of, joined}
+use Rattle.yq_flow_scalars.specs.Lines.{is_blank}
+use Rattle.yq_flow_scalars.specs.Text.{lines_of, joined}
 
 -- what is written for a blank line
 abbrev written_blank : Bool → ℕ → List ℕ → List ℕ

@@ -2,14 +2,14 @@
 use Rattle.std.proofs.Common.{◌≡◌, ℕ, zero, suc, ◌<◌, Bool, true, false, cond, ◌||◌, eqb, List, [], ◌∷◌, ◌++◌, replicate, ◌⊎◌, inl, inr, refl, sym, ap, ◌∙◌, ⊎_elim, append_assoc, append-nil}
 use Rattle.std.proofs.lemmas.Bool.{cond_both, cases_Bool}
 use Rattle.yq_scalar.proofs.BlockRepairLaws.{comment_less, blank_empty, ends_less, ends_blank, ends_behind}
-use Rattle.yq_scalar.proofs.Bools.{at_byte}
+use Rattle.yq_flow_scalars.proofs.Bools.{at_byte}
 use Rattle.yq_scalar.proofs.LineLaws.{lines_again, joined_lines}
 use Rattle.yq_scalar.proofs.SpaceLaws.{white_drop}
 use Rattle.yq_scalar.specs.Block.{Lines, no_lines, keeps, ends_block, BlockText, IsBlock}
 use Rattle.yq_scalar.specs.BlockRepair.{AreGap, is_short, is_outside, repaired_blank, repaired_comment, repair, is_behind}
 use Rattle.yq_scalar.specs.BlockWritten.{closed}
-use Rattle.yq_scalar.specs.Lines.{is_blank, is_hash}
-use Rattle.yq_scalar.specs.Text.{is_white, past_white, upto, lines_of, put_byte, joined, is_line}
+use Rattle.yq_flow_scalars.specs.Lines.{is_blank, is_hash}
+use Rattle.yq_flow_scalars.specs.Text.{is_white, past_white, upto, lines_of, put_byte, joined, is_line}
 use Rattle.yq_scalar.specs.declared.block_lines.TextIndent.{TextIndent}
 
 -- no LF is in the text

@@ -2,11 +2,11 @@
 use Rattle.std.proofs.Common.{◌≡◌, ℕ, zero, suc, ◌+◌, ◌<◌, ◌≤◌, Bool, true, false, cond, eqb, ltb, List, [], ◌∷◌, length, take, drop, Option, Some, None, refl, sym, ap, ◌∙◌, ⊎_elim, arith, eqb-true, length-append, length-take, length-drop}
 use Rattle.std.proofs.lemmas.Bool.{false≢true, lt-ltb, false_from_ne_true, cases_Bool, le-ltb}
 use Rattle.yq_scalar.proofs.LineLaws.{line_step, line_len_some, line_len_within}
-use Rattle.yq_scalar.specs.Answers.{◌>>=◌}
+use Rattle.yq_flow_scalars.specs.Answers.{◌>>=◌}
 use Rattle.yq_scalar.specs.Block.{Lines, is_less_indented}
 use Rattle.yq_scalar.specs.BlockReading.{is_empty_at, is_text_at, with_line, with_empty, raw_at, raw_len, len_at, counted, detected_at}
-use Rattle.yq_scalar.specs.Lines.{spaces, is_blank}
-use Rattle.yq_scalar.specs.Text.{is_empty, line_len, lines_of, joined, cut_line}
+use Rattle.yq_flow_scalars.specs.Lines.{spaces, is_blank}
+use Rattle.yq_flow_scalars.specs.Text.{is_empty, line_len, lines_of, joined, cut_line}
 use Rattle.yq_scalar.specs.declared.block_lines.TextIndent.{TextIndent}
 
 -- the line in front of a text that is not empty

@@ -8,7 +8,7 @@ use Rattle.yq_scalar.proofs.LineLaws.{line_step}
 use Rattle.yq_scalar.specs.Block.{Lines, no_lines}
 use Rattle.yq_scalar.specs.BlockContent.{line_text}
 use Rattle.yq_scalar.specs.BlockWritten.{indented, written, closed, chomping_by, chomping_of, ends_in_feed}
-use Rattle.yq_scalar.specs.Text.{line_len, lines_of, put_byte, joined, is_line}
+use Rattle.yq_flow_scalars.specs.Text.{line_len, lines_of, put_byte, joined, is_line}
 
 -- the loop that writes the lines
 pub write_step : (m : ℕ) (br t l a p out mid all : List ℕ) → lines_of t ≡ l ∷ lines_of a → p ≡ line_text l → mid ≡ out ++ (indented m p ++ br) →

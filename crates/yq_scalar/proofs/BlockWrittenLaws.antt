@@ -8,8 +8,8 @@ use Rattle.yq_scalar.proofs.SpaceLaws.{char_not_blank, prefix_none, spaces_front
 use Rattle.yq_scalar.specs.Block.{Lines, is_text_line, ends_block, AreRaw, no_lines, ends_in_text, IsDetected, keeps, is_tail, IsBlock}
 use Rattle.yq_scalar.specs.BlockContent.{line_text, part_of, broken, literal, strips, block_content}
 use Rattle.yq_scalar.specs.BlockWritten.{break_text, indented, written_line, written, closed, chomping_by, written_block}
-use Rattle.yq_scalar.specs.Lines.{spaces, behind_spaces, is_tab, is_blank}
-use Rattle.yq_scalar.specs.Text.{is_white, ends_line, lines_of, put_byte, joined, is_line}
+use Rattle.yq_flow_scalars.specs.Lines.{spaces, behind_spaces, is_tab, is_blank}
+use Rattle.yq_flow_scalars.specs.Text.{is_white, ends_line, lines_of, put_byte, joined, is_line}
 use Rattle.yq_scalar.specs.declared.block_written.Break.{Break}
 
 -- the text of the last line is not empty

@@ -2,7 +2,7 @@
 use Rattle.std.proofs.Common.{◌≡◌, ℕ, ◌+◌, ◌-◌, ◌≤◌, ◌^◌, List, [], ◌∷◌, ◌++◌, length, min, sym, ap, ◌∙◌, arith, length-append}
 use Rattle.yq_scalar.specs.BlockContent.{line_text}
 use Rattle.yq_scalar.specs.BlockWritten.{indented, written}
-use Rattle.yq_scalar.specs.Text.{lines_of, joined}
+use Rattle.yq_flow_scalars.specs.Text.{lines_of, joined}
 
 -- a number, or the largest one where it is larger
 abbrev capped : ℕ → ℕ

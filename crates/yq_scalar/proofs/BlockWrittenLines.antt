@@ -7,8 +7,8 @@ use Rattle.yq_scalar.proofs.SpaceLaws.{spaces_front, drop_front}
 use Rattle.yq_scalar.specs.Block.{Lines, is_empty_line, is_text_line, IsRawLine}
 use Rattle.yq_scalar.specs.BlockContent.{line_text, unindented, part_of, broken}
 use Rattle.yq_scalar.specs.BlockWritten.{break_text, indented}
-use Rattle.yq_scalar.specs.Lines.{spaces, behind_spaces}
-use Rattle.yq_scalar.specs.Text.{ends_line, lines_of, put_byte, is_line, upto}
+use Rattle.yq_flow_scalars.specs.Lines.{spaces, behind_spaces}
+use Rattle.yq_flow_scalars.specs.Text.{ends_line, lines_of, put_byte, is_line, upto}
 use Rattle.yq_scalar.specs.declared.block_lines.TextIndent.{TextIndent}
 use Rattle.yq_scalar.specs.declared.block_written.Break.{Break}
 

@@ -2,15 +2,15 @@
 use Rattle.std.proofs.Common.{◌≡◌, ℕ, ◌<◌, ◌≤◌, Bool, true, false, cond, not, ◌&&◌, ◌||◌, leb, ltb, List, [], ◌∷◌, ◌++◌, Option, Some, None, refl, sym, ap, ◌∙◌, subst, inl, inr, ⊎_elim, arith, append-nil, ltb-true}
 use Rattle.std.proofs.lemmas.Bool.{false≢true, cond_both, not-true, lt-ltb, and_parts, cases_Bool, le-ltb, ltb-false}
 use Rattle.std.proofs.lemmas.Option.{same_Some}
-use Rattle.yq_scalar.proofs.Bools.{chosen, bind_some}
+use Rattle.yq_flow_scalars.proofs.Bools.{chosen, bind_some}
 use Rattle.yq_scalar.proofs.LineLaws.{AreLines}
 use Rattle.yq_scalar.proofs.RawLaws.{joined_none, raw_takes, raw_lines}
 use Rattle.yq_scalar.proofs.SpaceLaws.{spaces_blank, char_not_blank}
-use Rattle.yq_scalar.specs.Answers.{◌>>=◌}
+use Rattle.yq_flow_scalars.specs.Answers.{◌>>=◌}
 use Rattle.yq_scalar.specs.Block.{Lines, is_empty_line, is_text_line, is_less_indented, ends_block, AreRaw, IsDetected, IsTextIndent}
 use Rattle.yq_scalar.specs.BlockReading.{is_empty_at, is_text_at, with_line, raw_at, detected_at, indent_at}
-use Rattle.yq_scalar.specs.Lines.{spaces, behind_spaces, is_tab, is_blank}
-use Rattle.yq_scalar.specs.Text.{is_empty, ends_line, lines_of, joined, is_line}
+use Rattle.yq_flow_scalars.specs.Lines.{spaces, behind_spaces, is_tab, is_blank}
+use Rattle.yq_flow_scalars.specs.Text.{is_empty, ends_line, lines_of, joined, is_line}
 use Rattle.yq_scalar.specs.declared.block_lines.TextIndent.{TextIndent}
 
 pub empty_blank : (f : TextIndent) (l : List ℕ) → is_empty_line f l ≡ true → is_blank l ≡ true

@@ -11,7 +11,7 @@ use Rattle.std.proofs.lemmas.Map.Text.{is_eq-slice_cmp}
 use Rattle.std.proofs.lemmas.Slice.Eq.{bytes_eq-Decides}
 use Rattle.std.specs.Cmp.Lexicographic.{slice_cmp}
 use Rattle.std.specs.Ordering.{ordering_reverse, ordering_then, on, then_cmp}
-use Rattle.yq_scalar.specs.Keys.{AreDistinct, DiffersBefore}
+use Rattle.yq_flow_scalars.specs.Keys.{AreDistinct, DiffersBefore}
 
 abbrev pub Key : Type 0
 Key = Bor (List ℕ)

@@ -6,13 +6,13 @@ use Rattle.std.proofs.Math.Seq.{take-append_seam, drop-append_seam}
 use Rattle.std.proofs.lemmas.Option.{same_Some}
 use Rattle.yq_scalar.specs.declared.block_header.BlockStyle.TheVariants as styles
 use Rattle.yq_scalar.specs.declared.block_header.Chomping.TheVariants as chompings
-use Rattle.yq_scalar.proofs.Bools.{chosen}
+use Rattle.yq_flow_scalars.proofs.Bools.{chosen}
 use Rattle.yq_scalar.proofs.LineLaws.{line_cut}
 use Rattle.yq_scalar.proofs.SpaceLaws.{white_drop}
 use Rattle.yq_scalar.specs.Block.{mark_of, IsDigit, digit_text, sign_text, IsIndicators, is_tail}
 use Rattle.yq_scalar.specs.BlockReading.{style_at, digit_at, sign_at, Indicators, indicators_behind, indicators_at, values, tail_at}
-use Rattle.yq_scalar.specs.Lines.{is_hash, is_blank}
-use Rattle.yq_scalar.specs.Text.{is_white, is_feed, front, ends_line, past_white, line_len, is_line}
+use Rattle.yq_flow_scalars.specs.Lines.{is_hash, is_blank}
+use Rattle.yq_flow_scalars.specs.Text.{is_white, is_feed, front, ends_line, past_white, line_len, is_line}
 use Rattle.yq_scalar.specs.declared.block_header.BlockStyle.{BlockStyle}
 use Rattle.yq_scalar.specs.declared.block_header.Chomping.{Chomping}
 

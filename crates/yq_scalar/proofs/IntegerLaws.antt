@@ -8,12 +8,12 @@ use Rattle.std.proofs.lemmas.Bool.{false≢true, cases_Bool, and_parts, ltb-true
 use Rattle.std.proofs.lemmas.Str.{IsCharBoundary-after_ascii}
 use Rattle.std.specs.Str.{IsUtf8, IsCharBoundary}
 use Rattle.std.specs.Option.{IfSome}
-use Rattle.yq_scalar.specs.Answers.{◌>>=◌}
-use Rattle.yq_scalar.specs.Numbers.{signed, is_i64}
-use Rattle.yq_scalar.specs.Schema.{IsIntOf}
-use Rattle.yq_scalar.specs.SchemaReading.{past_sign, sign_of, are_digits, has_base, as_i64, based_value, decimal_value, int_number, int_value}
-use Rattle.yq_scalar.proofs.DigitLaws.{digits_takes, digits_again}
-use Rattle.yq_scalar.proofs.NumberLaws.{int_takes, int_again}
+use Rattle.yq_flow_scalars.specs.Answers.{◌>>=◌}
+use Rattle.yq_flow_scalars.specs.Numbers.{signed, is_i64}
+use Rattle.yq_flow_scalars.specs.Schema.{IsIntOf}
+use Rattle.yq_flow_scalars.specs.SchemaReading.{past_sign, sign_of, are_digits, has_base, as_i64, based_value, decimal_value, int_number, int_value}
+use Rattle.yq_flow_scalars.proofs.DigitLaws.{digits_takes, digits_again}
+use Rattle.yq_flow_scalars.proofs.NumberLaws.{int_takes, int_again}
 
 pair : {A B : Type 0} {a a' : A} {b b' : B} → a ≡ a' → b ≡ b' → ◌≡◌ {A = A × B} (a, b) (a', b')
 pair {a = a} {b' = b'} p q = ap (λ y. (a, y)) q ∙ ap (λ x. (x, b')) p

@@ -1,7 +1,7 @@
 -- The lines of a text.
 use Rattle.std.proofs.Common.{◌≡◌, ℕ, suc, ◌<◌, ◌≤◌, true, false, List, [], ◌∷◌, ◌++◌, length, take, drop, refl, sym, ap, ◌∙◌, inl, inr, ◌⊎◌, ⊎_elim, arith, append_assoc}
 use Rattle.std.proofs.lemmas.Bool.{false≢true, cond_both, cases_Bool}
-use Rattle.yq_scalar.specs.Text.{line_len, lines_of, put_byte, joined, is_line, is_empty, is_feed}
+use Rattle.yq_flow_scalars.specs.Text.{line_len, lines_of, put_byte, joined, is_line, is_empty, is_feed}
 
 pub line_first : (b : ℕ) (bs : List ℕ) → lines_of (b ∷ bs) ≡ take (line_len (b ∷ bs)) (b ∷ bs) ∷ lines_of (drop (line_len (b ∷ bs)) (b ∷ bs))
 unfolding lines_of line_len

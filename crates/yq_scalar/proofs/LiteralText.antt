@@ -8,20 +8,20 @@ use Rattle.std.proofs.Math.Dec.{eqb-suc-zero}
 use Rattle.yq_scalar.proofs.BlockWrittenHeader.{some_lines, ends_next}
 use Rattle.yq_scalar.proofs.BlockWrittenLaws.{ends_some, CanWrite}
 use Rattle.yq_scalar.proofs.BlockWrittenLines.{NoCr, text_next}
-use Rattle.yq_scalar.proofs.Bools.{at_byte, not_byte}
+use Rattle.yq_flow_scalars.proofs.Bools.{at_byte, not_byte}
 use Rattle.yq_scalar.proofs.Bytes.{Each, each_byte}
 use Rattle.yq_scalar.specs.Block.{Lines, no_lines}
 use Rattle.yq_scalar.specs.BlockContent.{line_text}
-use Rattle.yq_scalar.specs.Text.{is_white, is_empty, lines_of, put_byte}
-use Rattle.yq_scalar.specs.Writable.{is_literal_char, is_literal_text}
-use Rattle.yq_scalar.specs.declared.style.Place.TheVariants as places
-use Rattle.yq_scalar.specs.declared.style.Style.TheVariants as styles
+use Rattle.yq_flow_scalars.specs.Text.{is_white, is_empty, lines_of, put_byte}
+use Rattle.yq_flow_scalars.specs.Writable.{is_literal_char, is_literal_text}
+use Rattle.yq_flow_scalars.specs.declared.style.Place.TheVariants as places
+use Rattle.yq_flow_scalars.specs.declared.style.Style.TheVariants as styles
 use Rattle.yq_scalar.specs.declared.block_written.Break.{Break}
 use Rattle.yq_scalar.specs.Block.{is_tail, ends_block, IsBlock}
 use Rattle.yq_scalar.specs.BlockContent.{block_content}
 use Rattle.yq_scalar.specs.BlockWritten.{written_block, break_text}
-use Rattle.yq_scalar.specs.Scalar.{ScalarText}
-use Rattle.yq_scalar.specs.Writable.{can_write, is_string}
+use Rattle.yq_flow_scalars.specs.Scalar.{ScalarText}
+use Rattle.yq_flow_scalars.specs.Writable.{can_write, is_string}
 use Rattle.yq_scalar.proofs.BlockWrittenLaws.{written_is, written_content}
 use Rattle.std.proofs.Common.{◌≤◌, ℕ}
 

@@ -9,23 +9,23 @@ use Rattle.yq_scalar.specs.BlockContent.{block_content}
 use Rattle.yq_scalar.specs.BlockReading as blocks
 use Rattle.yq_scalar.specs.declared.block_header.BlockStyle.{BlockStyle}
 use Rattle.yq_scalar.specs.declared.block_header.BlockStyle.TheVariants as block_styles
-use Rattle.yq_scalar.specs.declared.piece.Piece.{Piece}
-use Rattle.yq_scalar.specs.declared.style.Style.TheVariants as styles
-use Rattle.yq_scalar.specs.declared.style.Place.{Place}
-use Rattle.yq_scalar.specs.Piece.{inline_piece, further_spaces, IsPlainPiece}
-use Rattle.yq_scalar.specs.Plain.{ends_plain}
-use Rattle.yq_scalar.specs.Quoted.{Lines, spell_lines, IsQuoted, content}
-use Rattle.yq_scalar.specs.PlainContent.{IsPlainLines}
-use Rattle.yq_scalar.specs.ContentReading.{plain_content, quoted_content}
+use Rattle.yq_flow_scalars.specs.declared.piece.Piece.{Piece}
+use Rattle.yq_flow_scalars.specs.declared.style.Style.TheVariants as styles
+use Rattle.yq_flow_scalars.specs.declared.style.Place.{Place}
+use Rattle.yq_flow_scalars.specs.Piece.{inline_piece, further_spaces, IsPlainPiece}
+use Rattle.yq_flow_scalars.specs.Plain.{ends_plain}
+use Rattle.yq_flow_scalars.specs.Quoted.{Lines, spell_lines, IsQuoted, content}
+use Rattle.yq_flow_scalars.specs.PlainContent.{IsPlainLines}
+use Rattle.yq_flow_scalars.specs.ContentReading.{plain_content, quoted_content}
 use Rattle.yq_scalar.specs.QuotedPiece.{style_of, IsQuotedPiece}
 use Rattle.yq_scalar.specs.ScalarPiece.{IsInlineScalar, piece_text, content_in, piece_content}
-use Rattle.yq_scalar.specs.Writable.{in_flow}
-use Rattle.yq_scalar.proofs.ContentLaws.{quoted_content_is}
-use Rattle.yq_scalar.proofs.PlainContentLaws.{plain_content_is}
-use Rattle.yq_scalar.proofs.PlainLaws.{boundary_plain}
-use Rattle.yq_scalar.proofs.QuotedLaws.{of_quotes}
-use Rattle.yq_scalar.proofs.QuotedFound.{at_seam}
-use Rattle.yq_scalar.proofs.Upto.{upto-append}
+use Rattle.yq_flow_scalars.specs.Writable.{in_flow}
+use Rattle.yq_flow_scalars.proofs.ContentLaws.{quoted_content_is}
+use Rattle.yq_flow_scalars.proofs.PlainContentLaws.{plain_content_is}
+use Rattle.yq_flow_scalars.proofs.PlainLaws.{boundary_plain}
+use Rattle.yq_flow_scalars.proofs.QuotedLaws.{of_quotes}
+use Rattle.yq_flow_scalars.proofs.QuotedFound.{at_seam}
+use Rattle.yq_flow_scalars.proofs.Upto.{upto-append}
 
 -- the scalar of a piece
 pub record Scalar (text : List ℕ) (p : Piece) : Type 0 where

@@ -1,15 +1,15 @@
 -- The piece of a plain scalar.
 use Rattle.std.proofs.Common.{◌≡◌, ℕ, ◌+◌, List, length, drop, Some, Result, Ok, Err, sym, ap, ◌∙◌, IfOk, ℤ}
 use Rattle.std.proofs.lemmas.Option.{same_Some}
-use Rattle.yq_scalar.specs.declared.piece.Piece.{Piece}
-use Rattle.yq_scalar.specs.declared.style.Place.{Place}
-use Rattle.yq_scalar.specs.declared.style.Style.TheVariants as styles
-use Rattle.yq_scalar.specs.Answers.{◌>>=◌, Reads}
-use Rattle.yq_scalar.specs.Piece.{inline_piece, further_spaces, IsPlainPiece, plain_from}
-use Rattle.yq_scalar.specs.Plain.{plain_at}
-use Rattle.yq_scalar.specs.Writable.{in_flow}
-use Rattle.yq_scalar.proofs.Bools.{bind_some}
-use Rattle.yq_scalar.proofs.PlainLaws.{plain_takes, plain_again}
+use Rattle.yq_flow_scalars.specs.declared.piece.Piece.{Piece}
+use Rattle.yq_flow_scalars.specs.declared.style.Place.{Place}
+use Rattle.yq_flow_scalars.specs.declared.style.Style.TheVariants as styles
+use Rattle.yq_flow_scalars.specs.Answers.{◌>>=◌, Reads}
+use Rattle.yq_flow_scalars.specs.Piece.{inline_piece, further_spaces, IsPlainPiece, plain_from}
+use Rattle.yq_flow_scalars.specs.Plain.{plain_at}
+use Rattle.yq_flow_scalars.specs.Writable.{in_flow}
+use Rattle.yq_flow_scalars.proofs.Bools.{bind_some}
+use Rattle.yq_flow_scalars.proofs.PlainLaws.{plain_takes, plain_again}
 
 pub piece_takes : (place : Place) (n : ℤ) (at : ℕ) (text : List ℕ) (p : Piece) → plain_from place n at text ≡ Some p → IsPlainPiece place n at text p
 unfolding plain_from

@@ -4,21 +4,21 @@ use Rattle.std.proofs.lemmas.Bool.{false≢true, false_from_ne_true, and_parts}
 use Rattle.std.proofs.lemmas.Option.{same_Some}
 use Rattle.std.specs.List.{list_all}
 use Rattle.std.specs.Str.{IsUtf8, chars}
-use Rattle.yq_scalar.specs.declared.kind.Kind.{Kind}
-use Rattle.yq_scalar.specs.declared.kind.Kind.TheVariants as kinds
-use Rattle.yq_scalar.specs.Characters.{is_text, is_text_char, pairs_returns}
-use Rattle.yq_scalar.specs.Text.{is_empty, front}
-use Rattle.yq_scalar.specs.Plain.{is_indicator, IsPlain, ends_plain, holds_break, plain_at}
-use Rattle.yq_scalar.specs.PlainText.{is_plain_char, is_plain_text, begins_plainly}
-use Rattle.yq_scalar.specs.Scalar.{ScalarText, IsScalar, plain_of, of_kind}
-use Rattle.yq_scalar.specs.Schema.{Resolves}
-use Rattle.yq_scalar.specs.SchemaReading.{resolve}
-use Rattle.yq_scalar.specs.Writable.{can_write_plain, is_string}
-use Rattle.yq_scalar.proofs.Bools.{at_byte}
+use Rattle.yq_flow_scalars.specs.declared.kind.Kind.{Kind}
+use Rattle.yq_flow_scalars.specs.declared.kind.Kind.TheVariants as kinds
+use Rattle.yq_flow_scalars.specs.Characters.{is_text, is_text_char, pairs_returns}
+use Rattle.yq_flow_scalars.specs.Text.{is_empty, front}
+use Rattle.yq_flow_scalars.specs.Plain.{is_indicator, IsPlain, ends_plain, holds_break, plain_at}
+use Rattle.yq_flow_scalars.specs.PlainText.{is_plain_char, is_plain_text, begins_plainly}
+use Rattle.yq_flow_scalars.specs.Scalar.{ScalarText, IsScalar, plain_of, of_kind}
+use Rattle.yq_flow_scalars.specs.Schema.{Resolves}
+use Rattle.yq_flow_scalars.specs.SchemaReading.{resolve}
+use Rattle.yq_flow_scalars.specs.Writable.{can_write_plain, is_string}
+use Rattle.yq_flow_scalars.proofs.Bools.{at_byte}
 use Rattle.yq_scalar.proofs.Bytes.{Each}
-use Rattle.yq_scalar.proofs.PlainLaws.{plain_again}
+use Rattle.yq_flow_scalars.proofs.PlainLaws.{plain_again}
 use Rattle.yq_scalar.proofs.PlainWritten.{is_no_control, no_controls, no_controls_parts, plain_text_parts, plain_written}
-use Rattle.yq_scalar.proofs.SchemaLaws.{resolve_takes, resolve_again}
+use Rattle.yq_flow_scalars.proofs.SchemaLaws.{resolve_takes, resolve_again}
 use Rattle.yq_scalar.proofs.SchemaPlain.{null_plain, bool_plain, int_plain, float_plain}
 
 -- a text begins with one plain scalar at most

@@ -4,13 +4,13 @@ use Rattle.std.proofs.lemmas.Bool.{false≢true, or_cases, not-true, and_parts, 
 use Rattle.std.specs.List.{list_all}
 use Rattle.std.specs.Str.{chars, IsUtf8}
 use Rattle.std.specs.Option.{is_none}
-use Rattle.yq_scalar.specs.Answers.{more}
-use Rattle.yq_scalar.specs.Text.{NoneIn, is_empty, is_space, front}
-use Rattle.yq_scalar.specs.Plain.{ends_plain, ends_text, is_flow_indicator, is_indicator, is_safe, begins_plain, IsPlain}
-use Rattle.yq_scalar.specs.PlainReading.{across}
-use Rattle.yq_scalar.specs.PlainText.{is_plain_char, begins_plainly, needs_quotes, no_rest, is_plain_text, is_merge, begins_marker}
-use Rattle.yq_scalar.proofs.Bools.{at_byte, not_byte}
-use Rattle.yq_scalar.proofs.Across.{across_white, across_here, ends_space}
+use Rattle.yq_flow_scalars.specs.Answers.{more}
+use Rattle.yq_flow_scalars.specs.Text.{NoneIn, is_empty, is_space, front}
+use Rattle.yq_flow_scalars.specs.Plain.{ends_plain, ends_text, is_flow_indicator, is_indicator, is_safe, begins_plain, IsPlain}
+use Rattle.yq_flow_scalars.specs.PlainReading.{across}
+use Rattle.yq_flow_scalars.specs.PlainText.{is_plain_char, begins_plainly, needs_quotes, no_rest, is_plain_text, is_merge, begins_marker}
+use Rattle.yq_flow_scalars.proofs.Bools.{at_byte, not_byte}
+use Rattle.yq_flow_scalars.proofs.Across.{across_white, across_here, ends_space}
 use Rattle.yq_scalar.proofs.Bytes.{Each, each_byte}
 
 -- no control that white space and breaks are made of

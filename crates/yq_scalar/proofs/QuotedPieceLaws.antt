@@ -1,14 +1,14 @@
 -- The piece of a quoted scalar.
 use Rattle.std.proofs.Common.{◌≡◌, ℕ, ◌+◌, List, length, drop, slice_index, Some, None, Result, Ok, Err, sym, ap, ◌∙◌, IfOk}
 use Rattle.std.proofs.lemmas.Option.{same_Some}
-use Rattle.yq_scalar.specs.declared.piece.Piece.{Piece}
-use Rattle.yq_scalar.specs.Answers.{◌>>=◌, Reads}
-use Rattle.yq_scalar.specs.Piece.{inline_piece}
-use Rattle.yq_scalar.specs.Quoted.{Lines, IsQuoted}
-use Rattle.yq_scalar.specs.QuotedReading.{quoted_at}
+use Rattle.yq_flow_scalars.specs.declared.piece.Piece.{Piece}
+use Rattle.yq_flow_scalars.specs.Answers.{◌>>=◌, Reads}
+use Rattle.yq_flow_scalars.specs.Piece.{inline_piece}
+use Rattle.yq_flow_scalars.specs.Quoted.{Lines, IsQuoted}
+use Rattle.yq_flow_scalars.specs.QuotedReading.{quoted_at}
 use Rattle.yq_scalar.specs.QuotedPiece.{style_of, IsQuotedPiece, piece_of, quoted_from}
-use Rattle.yq_scalar.proofs.Bools.{bind_some}
-use Rattle.yq_scalar.proofs.QuotedFound.{quoted_takes, quoted_again}
+use Rattle.yq_flow_scalars.proofs.Bools.{bind_some}
+use Rattle.yq_flow_scalars.proofs.QuotedFound.{quoted_takes, quoted_again}
 
 first_is : (quote : ℕ) (ls : Lines) (piece rest : List ℕ) → IsQuoted quote ls piece rest → slice_index piece 0 ≡ quote
 first_is quote ls piece rest is = ap (λ (l : List ℕ). slice_index l 0) is.spelled

@@ -2,12 +2,12 @@
 use Rattle.std.proofs.Common.{◌≡◌, ℕ, ◌<◌, ◌≤◌, Bool, true, false, not, ◌&&◌, ◌||◌, leb, ltb, List, [], ◌∷◌, ◌++◌, length, Some, refl, sym, ap, ◌∙◌, subst, inl, inr, ◌⊎◌, ⊎_elim, arith, append_assoc, append-nil, ltb-true}
 use Rattle.std.proofs.lemmas.Bool.{false≢true, false_from_ne_true, leb-true, not-true, or_right, and_from, and_parts}
 use Rattle.std.proofs.lemmas.Option.{same_Some}
-use Rattle.yq_scalar.proofs.Bools.{chosen, bind_some}
+use Rattle.yq_flow_scalars.proofs.Bools.{chosen, bind_some}
 use Rattle.yq_scalar.proofs.LineLaws.{lines_again, AreLines, line_some}
 use Rattle.yq_scalar.specs.Block.{Lines, is_empty_line, is_text_line, is_less_indented, ends_block, AreRaw, no_lines, ends_in_text}
 use Rattle.yq_scalar.specs.BlockReading.{is_empty_at, is_text_at, with_empty, raw_at}
-use Rattle.yq_scalar.specs.Lines.{spaces, behind_spaces, is_tab}
-use Rattle.yq_scalar.specs.Text.{is_empty, ends_line, lines_of, joined, is_line}
+use Rattle.yq_flow_scalars.specs.Lines.{spaces, behind_spaces, is_tab}
+use Rattle.yq_flow_scalars.specs.Text.{is_empty, ends_line, lines_of, joined, is_line}
 use Rattle.yq_scalar.specs.declared.block_lines.TextIndent.{TextIndent}
 
 -- the raw lines and what follows are the lines

@@ -6,22 +6,22 @@ use Rattle.std.proofs.lemmas.Bool.{and_parts, or_parts}
 use Rattle.std.specs.List.{list_all}
 use Rattle.std.specs.Str.{IsUtf8, chars}
 use Rattle.yq_scalar.specs.declared.block_written.Break.{Break}
-use Rattle.yq_scalar.specs.declared.style.Place.{Place}
-use Rattle.yq_scalar.specs.declared.style.Place.TheVariants as places
-use Rattle.yq_scalar.specs.declared.style.Style.TheVariants as styles
+use Rattle.yq_flow_scalars.specs.declared.style.Place.{Place}
+use Rattle.yq_flow_scalars.specs.declared.style.Place.TheVariants as places
+use Rattle.yq_flow_scalars.specs.declared.style.Style.TheVariants as styles
 use Rattle.yq_scalar.specs.Block.{BlockText, IsBlock, IsBlockPiece, block_text, block_piece, ends_block, is_tail}
 use Rattle.yq_scalar.specs.BlockWritten.{break_text, written_block}
 use Rattle.yq_scalar.specs.ScalarPiece.{piece_content}
-use Rattle.yq_scalar.specs.Piece.{IsPlainPiece, deeper, further_spaces}
-use Rattle.yq_scalar.specs.Plain.{ends_plain, holds_break}
-use Rattle.yq_scalar.specs.PlainContent.{ArePlain, IsPlainLines}
-use Rattle.yq_scalar.specs.Quoted.{Char, itself, spell_chars, chars_text, last}
+use Rattle.yq_flow_scalars.specs.Piece.{IsPlainPiece, deeper, further_spaces}
+use Rattle.yq_flow_scalars.specs.Plain.{ends_plain, holds_break}
+use Rattle.yq_flow_scalars.specs.PlainContent.{ArePlain, IsPlainLines}
+use Rattle.yq_flow_scalars.specs.Quoted.{Char, itself, spell_chars, chars_text, last}
 use Rattle.yq_scalar.specs.QuotedPiece.{IsQuotedPiece}
 use Rattle.yq_scalar.specs.ReadBack.{put, put_piece, put_block, put_block_piece}
-use Rattle.yq_scalar.specs.Scalar.{IsScalar, ScalarText, plain_of, string_of}
-use Rattle.yq_scalar.specs.Text.{is_feed, is_return, is_break, front, lines_of}
-use Rattle.yq_scalar.specs.Writable.{can_write, in_flow, is_string, is_single_char}
-use Rattle.yq_scalar.specs.Written.{single, double}
+use Rattle.yq_flow_scalars.specs.Scalar.{IsScalar, ScalarText, plain_of, string_of}
+use Rattle.yq_flow_scalars.specs.Text.{is_feed, is_return, is_break, front, lines_of}
+use Rattle.yq_flow_scalars.specs.Writable.{can_write, in_flow, is_string, is_single_char}
+use Rattle.yq_flow_scalars.specs.Written.{single, double}
 use Rattle.yq_scalar.proofs.LiteralText.{literal_block, literal_content}
 use Rattle.yq_scalar.proofs.PieceContentLaws.{plain_piece_content, quoted_piece_content, block_piece_content}
 use Rattle.yq_scalar.proofs.PlainSpells.{plain_line, string_kind, writable_text, writable_same, writable_piece}

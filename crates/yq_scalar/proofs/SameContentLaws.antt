@@ -7,8 +7,8 @@ use Rattle.std.specs.Str.Pattern.{FindsTextPrefix, FindsCharPrefix, StripsPrefix
 use Rattle.std.specs.Prelude.{MatchOption}
 use denote.Bor.{Bor}
 use mathlib.Core.List.{tail-eq_of_cons-eq}
-use Rattle.yq_scalar.specs.ContentReading.{content_on, before_of}
-use Rattle.yq_scalar.specs.Folded.{StripsText}
+use Rattle.yq_flow_scalars.specs.ContentReading.{content_on, before_of}
+use Rattle.yq_flow_scalars.specs.Folded.{StripsText}
 
 -- what `strip_prefix` says at a text and at a character
 pub strips_text : (p t : List ℕ) (r : Option (Bor (List ℕ))) → MatchOption r (FindsTextPrefix p t None) (λ x. StripsPrefix (FindsTextPrefix p) t x.now) → StripsText p t r

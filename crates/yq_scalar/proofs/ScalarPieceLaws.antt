@@ -4,14 +4,14 @@ use Rattle.std.specs.Str.{IsCharBoundary}
 use Rattle.yq_scalar.proofs.BlockFound.{from_takes}
 use Rattle.yq_scalar.proofs.PieceLaws as plain
 use Rattle.yq_scalar.proofs.QuotedPieceLaws as quoted
-use Rattle.yq_scalar.specs.Answers.{Reads}
+use Rattle.yq_flow_scalars.specs.Answers.{Reads}
 use Rattle.yq_scalar.specs.Block.{IsBlockPiece}
 use Rattle.yq_scalar.specs.BlockReading.{block_from}
 use Rattle.yq_scalar.specs.ScalarPiece.{IsReadPiece}
-use Rattle.yq_scalar.specs.Piece.{plain_from}
+use Rattle.yq_flow_scalars.specs.Piece.{plain_from}
 use Rattle.yq_scalar.specs.QuotedPiece.{quoted_from}
-use Rattle.yq_scalar.specs.declared.piece.Piece.{Piece}
-use Rattle.yq_scalar.specs.declared.style.Place.{Place}
+use Rattle.yq_flow_scalars.specs.declared.piece.Piece.{Piece}
+use Rattle.yq_flow_scalars.specs.declared.style.Place.{Place}
 
 pub plain_is_piece : {E : Type 0} (place : Place) (n : ℤ) (at : ℕ) (text : List ℕ) (r : Result Piece E) → IsCharBoundary text at → Reads (λ p. p) r (plain_from place n at text) → IfOk r (IsReadPiece text)
 plain_is_piece place n at text (Ok p) b h =

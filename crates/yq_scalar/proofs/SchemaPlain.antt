@@ -5,10 +5,10 @@ use Rattle.std.proofs.lemmas.List.Folds.{list_all-append}
 use Rattle.std.specs.Char.{digit_value}
 use Rattle.std.specs.List.{list_all}
 use Rattle.std.specs.Str.Parse.{AllDigits, IsNumeral}
-use Rattle.yq_scalar.specs.Numbers.{Sign, unsigned, plus, minus, spell_sign, Integer, decimal, octal, hexadecimal, spell_integer, IsInteger, Mantissa, fraction, whole, pointed, spell_mantissa, IsMantissa, Exponent, absent, lower, upper, spell_exponent, IsExponent, Number, spell_number, IsNumber}
-use Rattle.yq_scalar.specs.Schema.{bool_words, infinity_words, nan_words, IsOneOf, IsInt, IsFloat}
-use Rattle.yq_scalar.specs.Text.{front}
-use Rattle.yq_scalar.specs.PlainText.{is_plain_text}
+use Rattle.yq_flow_scalars.specs.Numbers.{Sign, unsigned, plus, minus, spell_sign, Integer, decimal, octal, hexadecimal, spell_integer, IsInteger, Mantissa, fraction, whole, pointed, spell_mantissa, IsMantissa, Exponent, absent, lower, upper, spell_exponent, IsExponent, Number, spell_number, IsNumber}
+use Rattle.yq_flow_scalars.specs.Schema.{bool_words, infinity_words, nan_words, IsOneOf, IsInt, IsFloat}
+use Rattle.yq_flow_scalars.specs.Text.{front}
+use Rattle.yq_flow_scalars.specs.PlainText.{is_plain_text}
 use Rattle.yq_scalar.proofs.WordPlain.{is_letter, is_word, begins_unsigned, begins_signed, word_plain}
 
 -- a test of words

@@ -2,9 +2,9 @@
 use Rattle.std.proofs.Common.{◌≡◌, ℕ, zero, suc, ◌+◌, Bool, true, false, cond, not, eqb, List, [], ◌∷◌, ◌++◌, drop, replicate, refl, ap, ◌∙◌, ⊎_elim, arith}
 use Rattle.std.proofs.lemmas.Bool.{cases_Bool}
 use Rattle.std.specs.List.{prefix_len}
-use Rattle.yq_scalar.proofs.Bools.{at_byte}
-use Rattle.yq_scalar.specs.Lines.{spaces, behind_spaces, is_tab, is_blank}
-use Rattle.yq_scalar.specs.Text.{is_white, ends_line, past_white, upto, no_white}
+use Rattle.yq_flow_scalars.proofs.Bools.{at_byte}
+use Rattle.yq_flow_scalars.specs.Lines.{spaces, behind_spaces, is_tab, is_blank}
+use Rattle.yq_flow_scalars.specs.Text.{is_white, ends_line, past_white, upto, no_white}
 
 -- what stands behind a prefix, step by step
 pub prefix_drop : (p : ℕ → Bool) (b : ℕ) (l : List ℕ) → drop (prefix_len p (b ∷ l)) (b ∷ l) ≡ cond (p b) (drop (prefix_len p l) l) (b ∷ l)

@@ -6,10 +6,10 @@ use Rattle.std.proofs.lemmas.Str.{chars-IsAscii}
 use Rattle.std.specs.Char.{digit_value}
 use Rattle.std.specs.List.{list_all}
 use Rattle.std.specs.Str.{chars, IsAscii}
-use Rattle.yq_scalar.specs.Text.{front}
-use Rattle.yq_scalar.specs.Plain.{is_flow_indicator, is_indicator}
-use Rattle.yq_scalar.specs.PlainText.{is_plain_char, begins_plainly, needs_quotes, no_rest, is_plain_text, is_merge, begins_marker}
-use Rattle.yq_scalar.proofs.Bools.{at_byte}
+use Rattle.yq_flow_scalars.specs.Text.{front}
+use Rattle.yq_flow_scalars.specs.Plain.{is_flow_indicator, is_indicator}
+use Rattle.yq_flow_scalars.specs.PlainText.{is_plain_char, begins_plainly, needs_quotes, no_rest, is_plain_text, is_merge, begins_marker}
+use Rattle.yq_flow_scalars.proofs.Bools.{at_byte}
 
 -- a digit or a letter
 abbrev pub is_letter : ℕ → Bool

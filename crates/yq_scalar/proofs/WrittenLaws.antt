@@ -7,12 +7,12 @@ use Rattle.std.specs.Char.{digit_value}
 use Rattle.std.specs.List.{list_all}
 use Rattle.std.specs.Str.{chars, IsUtf8}
 use Rattle.std.specs.Str.Parse.{digits_value}
-use Rattle.yq_scalar.specs.Characters.{is_text_char, is_printable, is_mark}
-use Rattle.yq_scalar.specs.Text.{is_feed, is_return, front}
-use Rattle.yq_scalar.specs.Quoted.{letters, beside, is_unicode, Char, itself, doubled, escape, code, spell_char, spell_chars, char_text, chars_text, bytes_of, IsChar, AreChars, last, content, IsQuoted}
-use Rattle.yq_scalar.specs.Writable.{is_single_char}
-use Rattle.yq_scalar.specs.Written.{written_letters, letter_of, upper, two_digits, four_digits, code_escape, double_by, in_double, in_single, single, double}
-use Rattle.yq_scalar.proofs.Bools.{chosen, at_byte, not_byte}
+use Rattle.yq_flow_scalars.specs.Characters.{is_text_char, is_printable, is_mark}
+use Rattle.yq_flow_scalars.specs.Text.{is_feed, is_return, front}
+use Rattle.yq_flow_scalars.specs.Quoted.{letters, beside, is_unicode, Char, itself, doubled, escape, code, spell_char, spell_chars, char_text, chars_text, bytes_of, IsChar, AreChars, last, content, IsQuoted}
+use Rattle.yq_flow_scalars.specs.Writable.{is_single_char}
+use Rattle.yq_flow_scalars.specs.Written.{written_letters, letter_of, upper, two_digits, four_digits, code_escape, double_by, in_double, in_single, single, double}
+use Rattle.yq_flow_scalars.proofs.Bools.{chosen, at_byte, not_byte}
 use Rattle.yq_scalar.proofs.Bytes.{Each, each_encode}
 
 -- a character, written so in these quotes

@@ -5,13 +5,13 @@ use Rattle.std.proofs.Math.Utf8.{encodes, encode, scalar, scalars, low_scalar}
 use Rattle.std.proofs.lemmas.Str.{encode_ascii, encodes-append, chars-encodes, scalars-chars}
 use Rattle.std.specs.List.{list_all}
 use Rattle.std.specs.Str.{chars, IsUtf8}
-use Rattle.yq_scalar.specs.Characters.{is_text_char, is_text, pairs_returns}
-use Rattle.yq_scalar.specs.Text.{is_feed, is_return}
-use Rattle.yq_scalar.specs.Plain.{holds_break}
-use Rattle.yq_scalar.specs.PlainText.{is_plain_char}
-use Rattle.yq_scalar.specs.Writable.{is_single_char}
-use Rattle.yq_scalar.specs.Written.{written_letters, letter_of, upper, two_digits, four_digits, code_escape, double_by, in_double, in_single, single, double}
-use Rattle.yq_scalar.proofs.Bools.{chosen, at_byte, not_byte}
+use Rattle.yq_flow_scalars.specs.Characters.{is_text_char, is_text, pairs_returns}
+use Rattle.yq_flow_scalars.specs.Text.{is_feed, is_return}
+use Rattle.yq_flow_scalars.specs.Plain.{holds_break}
+use Rattle.yq_flow_scalars.specs.PlainText.{is_plain_char}
+use Rattle.yq_flow_scalars.specs.Writable.{is_single_char}
+use Rattle.yq_flow_scalars.specs.Written.{written_letters, letter_of, upper, two_digits, four_digits, code_escape, double_by, in_double, in_single, single, double}
+use Rattle.yq_flow_scalars.proofs.Bools.{chosen, at_byte, not_byte}
 use Rattle.yq_scalar.proofs.Bytes.{Each, Each-append, each_encode}
 
 -- a byte of no break

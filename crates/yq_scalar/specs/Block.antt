@@ -5,14 +5,14 @@ use Rattle.yq_scalar.specs.declared.block_header.BlockStyle.TheVariants as style
 use Rattle.yq_scalar.specs.declared.block_header.Chomping.{Chomping}
 use Rattle.yq_scalar.specs.declared.block_header.Chomping.TheVariants as chompings
 use Rattle.yq_scalar.specs.declared.block_lines.TextIndent.{TextIndent}
-use Rattle.yq_scalar.specs.declared.fault.FaultKind.{FaultKind}
-use Rattle.yq_scalar.specs.declared.fault.FaultKind.TheVariants as fault
-use Rattle.yq_scalar.specs.declared.piece.Piece.{Piece}
-use Rattle.yq_scalar.specs.declared.style.Style.{Style}
-use Rattle.yq_scalar.specs.declared.style.Style.TheVariants as all_styles
-use Rattle.yq_scalar.specs.Lines.{spaces, behind_spaces, is_tab, is_hash, is_blank}
-use Rattle.yq_scalar.specs.Piece.{deeper}
-use Rattle.yq_scalar.specs.Text.{is_white, front, past_white, ends_line, lines_of, joined, is_line}
+use Rattle.yq_flow_scalars.specs.declared.fault.FaultKind.{FaultKind}
+use Rattle.yq_flow_scalars.specs.declared.fault.FaultKind.TheVariants as fault
+use Rattle.yq_flow_scalars.specs.declared.piece.Piece.{Piece}
+use Rattle.yq_flow_scalars.specs.declared.style.Style.{Style}
+use Rattle.yq_flow_scalars.specs.declared.style.Style.TheVariants as all_styles
+use Rattle.yq_flow_scalars.specs.Lines.{spaces, behind_spaces, is_tab, is_hash, is_blank}
+use Rattle.yq_flow_scalars.specs.Piece.{deeper}
+use Rattle.yq_flow_scalars.specs.Text.{is_white, front, past_white, ends_line, lines_of, joined, is_line}
 
 -- lines, each with its break (own)
 abbrev pub Lines : Type 0

@@ -8,8 +8,8 @@ use Rattle.yq_scalar.specs.declared.block_header.Chomping.{Chomping}
 use Rattle.yq_scalar.specs.declared.block_header.Chomping.TheVariants as chompings
 use Rattle.yq_scalar.specs.declared.block_lines.TextIndent.{TextIndent}
 use Rattle.yq_scalar.specs.Block.{Lines, no_lines, BlockText}
-use Rattle.yq_scalar.specs.Lines.{spaces}
-use Rattle.yq_scalar.specs.Text.{feed, is_white, front, upto, ends_line}
+use Rattle.yq_flow_scalars.specs.Lines.{spaces}
+use Rattle.yq_flow_scalars.specs.Text.{feed, is_white, front, upto, ends_line}
 
 -- a line without its break (own)
 abbrev pub line_text : List ℕ → List ℕ

@@ -6,15 +6,15 @@ use Rattle.yq_scalar.specs.declared.block_header.BlockStyle.TheVariants as style
 use Rattle.yq_scalar.specs.declared.block_header.Chomping.{Chomping}
 use Rattle.yq_scalar.specs.declared.block_header.Chomping.TheVariants as chompings
 use Rattle.yq_scalar.specs.declared.block_lines.TextIndent.{TextIndent}
-use Rattle.yq_scalar.specs.declared.piece.Piece.{Piece}
-use Rattle.yq_scalar.specs.declared.style.Style.{Style}
-use Rattle.yq_scalar.specs.declared.style.Style.TheVariants as all_styles
-use Rattle.yq_scalar.specs.Answers.{◌>>=◌}
+use Rattle.yq_flow_scalars.specs.declared.piece.Piece.{Piece}
+use Rattle.yq_flow_scalars.specs.declared.style.Style.{Style}
+use Rattle.yq_flow_scalars.specs.declared.style.Style.TheVariants as all_styles
+use Rattle.yq_flow_scalars.specs.Answers.{◌>>=◌}
 use Rattle.yq_scalar.specs.Block.{Lines, is_empty_line, is_text_line, is_less_indented, digit_text, sign_text, keeps, is_tail, BlockText, block_piece}
 use Rattle.yq_scalar.specs.BlockContent.{content_of}
-use Rattle.yq_scalar.specs.Lines.{spaces, is_blank}
-use Rattle.yq_scalar.specs.Piece.{deeper}
-use Rattle.yq_scalar.specs.Text.{is_empty, is_line, line_len, lines_of, joined}
+use Rattle.yq_flow_scalars.specs.Lines.{spaces, is_blank}
+use Rattle.yq_flow_scalars.specs.Piece.{deeper}
+use Rattle.yq_flow_scalars.specs.Text.{is_empty, is_line, line_len, lines_of, joined}
 
 -- an empty line that is read as one: with a break, where it may belong to the scalar (own)
 abbrev pub is_empty_at : Bool → TextIndent → List ℕ → Bool

@@ -2,8 +2,8 @@
 use Rattle.std.specs.Prelude.{◌≡◌, ℕ, Bool, true, ◌||◌, ◌&&◌, not, nat_le, nat_lt, List, [], ◌∷◌, ◌++◌, replicate, if◌then◌else◌}
 use Rattle.yq_scalar.specs.declared.block_lines.TextIndent.{TextIndent}
 use Rattle.yq_scalar.specs.Block.{Lines, is_less_indented}
-use Rattle.yq_scalar.specs.Lines.{spaces, behind_spaces, is_tab, is_hash, is_blank}
-use Rattle.yq_scalar.specs.Text.{ends_line, past_white}
+use Rattle.yq_flow_scalars.specs.Lines.{spaces, behind_spaces, is_tab, is_hash, is_blank}
+use Rattle.yq_flow_scalars.specs.Text.{ends_line, past_white}
 
 -- each line is blank or a comment line (own)
 abbrev pub AreGap : Lines → Type 0

@@ -8,7 +8,7 @@ use Rattle.yq_scalar.specs.declared.block_written.Break.{Break}
 use Rattle.yq_scalar.specs.declared.block_written.Break.TheVariants as breaks
 use Rattle.yq_scalar.specs.Block.{Lines, no_lines, BlockText, sign_text}
 use Rattle.yq_scalar.specs.BlockContent.{line_text}
-use Rattle.yq_scalar.specs.Text.{feed, is_empty, is_line, lines_of}
+use Rattle.yq_flow_scalars.specs.Text.{feed, is_empty, is_line, lines_of}
 
 -- the bytes of a break: LF or CR LF (YAML 1.2.2, section 5.4)
 abbrev pub break_text : Break → List ℕ

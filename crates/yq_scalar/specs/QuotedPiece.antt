@@ -1,12 +1,12 @@
 -- Where a quoted scalar stands in a text.
 use Rattle.std.specs.Prelude.{◌≡◌, ℕ, ◌+◌, ◌==◌, Option, Some, List, ◌++◌, length, drop, slice_index, if◌then◌else◌}
-use Rattle.yq_scalar.specs.declared.piece.Piece.{Piece}
-use Rattle.yq_scalar.specs.declared.style.Style.{Style}
-use Rattle.yq_scalar.specs.declared.style.Style.TheVariants as styles
-use Rattle.yq_scalar.specs.Answers.{◌>>=◌}
-use Rattle.yq_scalar.specs.Piece.{inline_piece}
-use Rattle.yq_scalar.specs.Quoted.{Lines, IsQuoted}
-use Rattle.yq_scalar.specs.QuotedReading.{quoted_at}
+use Rattle.yq_flow_scalars.specs.declared.piece.Piece.{Piece}
+use Rattle.yq_flow_scalars.specs.declared.style.Style.{Style}
+use Rattle.yq_flow_scalars.specs.declared.style.Style.TheVariants as styles
+use Rattle.yq_flow_scalars.specs.Answers.{◌>>=◌}
+use Rattle.yq_flow_scalars.specs.Piece.{inline_piece}
+use Rattle.yq_flow_scalars.specs.Quoted.{Lines, IsQuoted}
+use Rattle.yq_flow_scalars.specs.QuotedReading.{quoted_at}
 
 -- the style of a scalar in these quotes, 39 or 34 (YAML 1.2.2, sections 7.3.1 and 7.3.2)
 abbrev pub style_of : ℕ → Style

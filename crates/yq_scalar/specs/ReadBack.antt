@@ -1,17 +1,17 @@
 -- What is written, put between two texts (own).
 use Rattle.std.specs.Prelude.{◌≡◌, ℕ, ℤ, ◌+◌, List, ◌++◌, length}
 use Rattle.yq_scalar.specs.declared.block_written.Break.{Break}
-use Rattle.yq_scalar.specs.declared.piece.Piece.{Piece}
-use Rattle.yq_scalar.specs.declared.style.Place.{Place}
-use Rattle.yq_scalar.specs.declared.style.Style.{Style}
-use Rattle.yq_scalar.specs.declared.style.Style.TheVariants.{Plain}
+use Rattle.yq_flow_scalars.specs.declared.piece.Piece.{Piece}
+use Rattle.yq_flow_scalars.specs.declared.style.Place.{Place}
+use Rattle.yq_flow_scalars.specs.declared.style.Style.{Style}
+use Rattle.yq_flow_scalars.specs.declared.style.Style.TheVariants.{Plain}
 use Rattle.yq_scalar.specs.Block.{IsBlockPiece, block_text, block_piece}
 use Rattle.yq_scalar.specs.BlockWritten.{break_text, written_block}
 use Rattle.yq_scalar.specs.ScalarPiece.{piece_content}
-use Rattle.yq_scalar.specs.Piece.{IsPlainPiece, inline_piece}
+use Rattle.yq_flow_scalars.specs.Piece.{IsPlainPiece, inline_piece}
 use Rattle.yq_scalar.specs.QuotedPiece.{IsQuotedPiece}
-use Rattle.yq_scalar.specs.Scalar.{ScalarText, plain_of, string_of}
-use Rattle.yq_scalar.specs.Written.{written}
+use Rattle.yq_flow_scalars.specs.Scalar.{ScalarText, plain_of, string_of}
+use Rattle.yq_flow_scalars.specs.Written.{written}
 
 -- a string that is written in a style on one line, between two texts (own)
 abbrev pub put : Style → List ℕ → List ℕ → List ℕ → List ℕ

@@ -1,13 +1,13 @@
 -- Pieces that were given for a text, and what they stand for.
 use Rattle.std.specs.Prelude.{ℕ, ◌-◌, ◌⊎◌, List, take, drop, ℤ, IsCharBoundary}
-use Rattle.yq_scalar.specs.declared.piece.Piece.{Piece}
-use Rattle.yq_scalar.specs.declared.style.Style.{Style}
-use Rattle.yq_scalar.specs.declared.style.Style.TheVariants as styles
-use Rattle.yq_scalar.specs.declared.style.Place.{Place}
+use Rattle.yq_flow_scalars.specs.declared.piece.Piece.{Piece}
+use Rattle.yq_flow_scalars.specs.declared.style.Style.{Style}
+use Rattle.yq_flow_scalars.specs.declared.style.Style.TheVariants as styles
+use Rattle.yq_flow_scalars.specs.declared.style.Place.{Place}
 use Rattle.yq_scalar.specs.Block.{IsBlockScalar}
 use Rattle.yq_scalar.specs.BlockReading as blocks
-use Rattle.yq_scalar.specs.ContentReading.{plain_content, quoted_content}
-use Rattle.yq_scalar.specs.Piece.{IsPlainPiece}
+use Rattle.yq_flow_scalars.specs.ContentReading.{plain_content, quoted_content}
+use Rattle.yq_flow_scalars.specs.Piece.{IsPlainPiece}
 use Rattle.yq_scalar.specs.QuotedPiece.{IsQuotedPiece}
 
 -- the piece is that of a plain scalar in some place of the text, below some indentation (own)

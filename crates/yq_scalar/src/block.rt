@@ -1,18 +1,17 @@
 //! The block scalar at an offset of a text (YAML 1.2.2, section 8.1).
 ghost use Rattle.std.specs.Prelude.{◌≡◌, ◌<◌, ◌≤◌, ◌+◌, ◌^◌, length, drop, true, IfErr, IfOk, Ok};
 ghost use Rattle.std.specs.Str.{IsCharBoundary};
-ghost use Rattle.yq_scalar.specs.Answers.{Reads};
+ghost use Rattle.yq_flow_scalars.specs.Answers.{Reads};
 ghost use Rattle.yq_scalar.specs.Block as spec;
 ghost use Rattle.yq_scalar.specs.BlockReading as reading;
 ghost use Rattle.yq_scalar.specs.ScalarPiece.{IsReadPiece};
-ghost use Rattle.yq_scalar.specs.Piece.{deeper};
-ghost use Rattle.yq_scalar.specs.Text.{lines_of};
-ghost use Rattle.yq_scalar.specs.declared.piece.Piece.{Piece};
+ghost use Rattle.yq_flow_scalars.specs.Piece.{deeper};
+ghost use Rattle.yq_flow_scalars.specs.Text.{lines_of};
+ghost use Rattle.yq_flow_scalars.specs.declared.piece.Piece.{Piece};
 
 use crate::block_header::{keeps, read_style, read_tail, split_indicators, style_of};
 use crate::block_lines::{TextIndent, detect_indent, raw_len};
-use crate::fault::FaultKind;
-use crate::piece::Piece;
+use yq_flow_scalars::{FaultKind, Piece};
 
 /// One column more than the indentation of a parent.
 fn least_indent(parent: i64) -> usize

@@ -5,17 +5,15 @@ ghost use Rattle.std.specs.String.{string_bytes};
 ghost use Rattle.yq_scalar.specs.Block.{IsBlockPiece, IsBlockScalar};
 ghost use Rattle.yq_scalar.specs.BlockContent as spec;
 ghost use Rattle.yq_scalar.specs.BlockReading as reading;
-ghost use Rattle.yq_scalar.specs.Text.{front, is_white, lines_of, cut_line};
+ghost use Rattle.yq_flow_scalars.specs.Text.{front, is_white, lines_of, cut_line};
 ghost use Rattle.yq_scalar.specs.declared.block_content.Before.TheVariants.{Nothing};
 
 use crate::block_header::{BlockStyle, Chomping, split_indicators};
 use crate::block_lines::{TextIndent, detect_indent};
-use crate::lines::{split_at_break, split_line};
-use crate::piece::Piece;
-use crate::pushing::push_breaks;
-use crate::style::Style;
-use crate::text::{is_white, spaces_len};
 use std::alloc::{AllocError, Global};
+use yq_flow_scalars::{
+    Piece, Style, is_white, push_breaks, spaces_len, split_at_break, split_line,
+};
 
 /// What stands before a line of folded text.
 #[derive(Clone, Copy, Debug, PartialEq, Eq)]

@@ -1,13 +1,10 @@
 //! The header of a block scalar (YAML 1.2.2, section 8.1.1).
 ghost use Rattle.std.specs.Prelude.{◌≡◌, true, IfErr};
-ghost use Rattle.yq_scalar.specs.Answers.{Reads};
+ghost use Rattle.yq_flow_scalars.specs.Answers.{Reads};
 ghost use Rattle.yq_scalar.specs.Block as spec;
 ghost use Rattle.yq_scalar.specs.BlockReading as reading;
 
-use crate::fault::FaultKind;
-use crate::lines::{is_line, line_len};
-use crate::style::Style;
-use crate::text::{is_blank, is_white, past_white};
+use yq_flow_scalars::{FaultKind, Style, is_blank, is_line, is_white, line_len, past_white};
 
 /// How the breaks of a block scalar are read.
 #[derive(Clone, Copy, Debug, PartialEq, Eq)]

@@ -6,13 +6,13 @@ ghost use Rattle.yq_scalar.specs.BlockContent.{block_content};
 ghost use Rattle.yq_scalar.specs.BlockReading.{block_at};
 ghost use Rattle.yq_scalar.specs.BlockRepair.{AreGap, is_behind, comment_lines, repair};
 ghost use Rattle.yq_scalar.specs.BlockWritten.{break_text, closed, written_block};
-ghost use Rattle.yq_scalar.specs.Scalar.{ScalarText};
-ghost use Rattle.yq_scalar.specs.Text.{joined, lines_of};
-ghost use Rattle.yq_scalar.specs.Writable.{can_write};
+ghost use Rattle.yq_flow_scalars.specs.Scalar.{ScalarText};
+ghost use Rattle.yq_flow_scalars.specs.Text.{joined, lines_of};
+ghost use Rattle.yq_flow_scalars.specs.Writable.{can_write};
 ghost use Rattle.yq_scalar.specs.declared.block_lines.TextIndent.{TextIndent};
 ghost use Rattle.yq_scalar.specs.declared.block_written.Break.{Break};
-ghost use Rattle.yq_scalar.specs.declared.style.Place.TheVariants.{Block};
-ghost use Rattle.yq_scalar.specs.declared.style.Style.TheVariants.{Literal};
+ghost use Rattle.yq_flow_scalars.specs.declared.style.Place.TheVariants.{Block};
+ghost use Rattle.yq_flow_scalars.specs.declared.style.Style.TheVariants.{Literal};
 
 /// What is read is a block scalar in front of its rest, what is one is read, and a text begins with one
 /// block scalar at most.

@@ -1,13 +1,13 @@
 //! The lines of a block scalar, and what may stand behind them (YAML 1.2.2, sections 8.1.1 and 8.1.2).
 ghost use Rattle.std.specs.Prelude.{◌≡◌, true, IfErr};
-ghost use Rattle.yq_scalar.specs.Answers.{Reads};
+ghost use Rattle.yq_flow_scalars.specs.Answers.{Reads};
 ghost use Rattle.yq_scalar.specs.Block as spec;
 ghost use Rattle.yq_scalar.specs.BlockReading as reading;
-ghost use Rattle.yq_scalar.specs.Text.{lines_of};
+ghost use Rattle.yq_flow_scalars.specs.Text.{lines_of};
 
-use crate::fault::FaultKind;
-use crate::lines::{is_line, line_len};
-use crate::text::{behind_spaces, ends_line, is_blank, spaces_len};
+use yq_flow_scalars::{
+    FaultKind, behind_spaces, ends_line, is_blank, is_line, line_len, spaces_len,
+};
 
 /// The indentation of a block scalar's text, in columns, and whether a digit or a text line gives it.
 #[derive(Clone, Copy, Debug, PartialEq, Eq)]

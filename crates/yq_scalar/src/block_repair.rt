@@ -2,13 +2,12 @@
 ghost use Rattle.std.specs.Prelude.{◌≡◌, ◌++◌, [], OnOk, IfOk, if◌then◌else◌};
 ghost use Rattle.std.specs.String.{string_bytes};
 ghost use Rattle.yq_scalar.specs.BlockRepair as spec;
-ghost use Rattle.yq_scalar.specs.Text.{joined, lines_of};
+ghost use Rattle.yq_flow_scalars.specs.Text.{joined, lines_of};
 
-use crate::lines::split_line;
-use crate::piece::Piece;
-use crate::pushing::push_spaces;
-use crate::text::{behind_spaces, ends_line, is_blank, spaces_len, split_white};
 use std::alloc::{AllocError, Global};
+use yq_flow_scalars::{
+    Piece, behind_spaces, ends_line, is_blank, push_spaces, spaces_len, split_line, split_white,
+};
 
 /// A line of spaces alone, so many at most.
 pub fn is_short(indent: usize, line: &[u8]) -> bool

@@ -3,11 +3,10 @@ ghost use Rattle.std.specs.Prelude.{◌≡◌, ◌++◌, ◌-◌, ◌^◌, lengt
 ghost use Rattle.std.specs.String.{string_bytes};
 ghost use Rattle.yq_scalar.specs.BlockContent.{line_text};
 ghost use Rattle.yq_scalar.specs.BlockWritten as spec;
-ghost use Rattle.yq_scalar.specs.Text.{joined, lines_of};
+ghost use Rattle.yq_flow_scalars.specs.Text.{joined, lines_of};
 
-use crate::lines::{split_at_break, split_line};
-use crate::pushing::push_spaces;
 use std::alloc::{AllocError, Global};
+use yq_flow_scalars::{push_spaces, split_at_break, split_line};
 
 /// The break that is written.
 #[derive(Clone, Copy, Debug, PartialEq, Eq)]

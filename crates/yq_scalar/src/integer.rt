@@ -1,10 +1,10 @@
 //! The numbers that ints of the core schema spell.
 ghost use Rattle.std.specs.Prelude.{◌≡◌, ◌≤◌, ℤ, true, Some, IfSome};
-ghost use Rattle.yq_scalar.specs.Numbers.{is_i64};
-ghost use Rattle.yq_scalar.specs.Schema.{IsIntOf};
-ghost use Rattle.yq_scalar.specs.SchemaReading as spec;
+ghost use Rattle.yq_flow_scalars.specs.Numbers.{is_i64};
+ghost use Rattle.yq_flow_scalars.specs.Schema.{IsIntOf};
+ghost use Rattle.yq_flow_scalars.specs.SchemaReading as spec;
 
-use crate::schema::are_digits;
+use yq_flow_scalars::are_digits;
 
 /// The number that the text spells, if it is an int of the core schema (YAML 1.2.2, section 10.3.2)
 /// and its number is an `i64`.
@@ -16,7 +16,7 @@ pub fn int_value(text: &str) -> Option<i64>
     number_of(text)
 }
 
-#[tactic(auto, unfolding(crate::specs::SchemaReading::int_number))]
+#[tactic(auto, unfolding(yq_flow_scalars::specs::SchemaReading::int_number))]
 fn number_of(text: &str) -> Option<i64>
     ensures { result ≡ spec.int_value text.now }
 {

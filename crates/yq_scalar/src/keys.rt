@@ -2,7 +2,7 @@
 ghost use Rattle.std.specs.Prelude.{◌≡◌, ◌<◌, ◌↔◌, length, map, IsTrue, IsSorted};
 ghost use Rattle.std.specs.Ordering.{nat_cmp};
 ghost use Rattle.std.specs.Cmp.Lexicographic.{slice_cmp};
-ghost use Rattle.yq_scalar.specs.Keys.{AreDistinct, DiffersBefore};
+ghost use Rattle.yq_flow_scalars.specs.Keys.{AreDistinct, DiffersBefore};
 
 /// How many keys are compared each with each.
 const FEW_KEYS: usize = 8;

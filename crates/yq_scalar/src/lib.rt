@@ -1,4 +1,4 @@
-//! Characters, breaks and scalars of YAML, and the tree that a text stands for.
+//! Scalars of YAML where they stand in a text, block scalars among them, and scalars as they are written.
 #![tactic(auto)]
 
 pub mod block;
@@ -8,49 +8,28 @@ pub mod block_laws;
 pub mod block_lines;
 pub mod block_repair;
 pub mod block_written;
-pub mod characters;
-mod fault;
-pub mod folded;
-pub mod folding;
 mod integer;
 mod keys;
-mod kind;
-pub mod lines;
-pub mod piece;
 mod piece_content;
-pub mod plain;
 pub mod plain_laws;
 mod plain_piece;
-pub mod plain_text;
-mod pushing;
-pub mod quoted;
 pub mod quoted_laws;
 mod quoted_piece;
-mod runs;
 pub mod same_content;
-mod scalar;
-mod schema;
-mod style;
-pub mod text;
-mod writable;
 mod write;
 pub mod written_laws;
 
 pub use block::read_block;
 pub use block_repair::repair;
 pub use block_written::{Break, write_block};
-pub use fault::{FaultKind, ReadError, ReadFault};
 pub use integer::int_value;
 pub use keys::are_distinct;
-pub use kind::Kind;
-pub use piece::{Piece, further_spaces};
 pub use piece_content::content;
 pub use plain_piece::read_plain;
-pub use pushing::push_spaces;
 pub use quoted_piece::read_quoted;
 pub use same_content::{is_plain_content, is_quoted_content};
-pub use scalar::Scalar;
-pub use schema::{is_true_word, resolve};
-pub use style::{Place, Style};
-pub use writable::{can_write, in_flow};
 pub use write::write_scalar;
+pub use yq_flow_scalars::{
+    FaultKind, Kind, Piece, Place, ReadError, ReadFault, Scalar, Style, can_write, further_spaces,
+    in_flow, is_true_word, push_spaces, resolve,
+};

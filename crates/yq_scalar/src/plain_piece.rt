@@ -1,17 +1,16 @@
 //! The plain scalar at an offset of a text.
 ghost use Rattle.std.specs.Prelude.{◌≡◌, IfErr, IfOk, Ok};
 ghost use Rattle.std.specs.Str.{IsCharBoundary};
-ghost use Rattle.yq_scalar.specs.Answers.{Reads};
+ghost use Rattle.yq_flow_scalars.specs.Answers.{Reads};
 ghost use Rattle.yq_scalar.specs.ScalarPiece.{IsReadPiece};
-ghost use Rattle.yq_scalar.specs.Piece as spec;
-ghost use Rattle.yq_scalar.specs.declared.fault.FaultKind.TheVariants.{BadScalar};
-ghost use Rattle.yq_scalar.specs.declared.piece.Piece.{Piece};
+ghost use Rattle.yq_flow_scalars.specs.Piece as spec;
+ghost use Rattle.yq_flow_scalars.specs.declared.fault.FaultKind.TheVariants.{BadScalar};
+ghost use Rattle.yq_flow_scalars.specs.declared.piece.Piece.{Piece};
 
-use crate::fault::FaultKind;
-use crate::piece::{Piece, further_spaces, inline_piece};
-use crate::plain::{begins_plain, split_plain};
-use crate::style::{Place, Style};
-use crate::writable::in_flow;
+use yq_flow_scalars::{
+    FaultKind, Piece, Place, Style, begins_plain, further_spaces, in_flow, inline_piece,
+    split_plain,
+};
 
 /// The plain scalar that begins at an offset, in bytes, of a text, going on as far as it may. `indent`
 /// is the indentation of its parent, in columns, and -1 below no parent.
@@ -30,7 +29,7 @@ pub fn read_plain(text: &str, at: usize, place: Place, indent: i64) -> Result<Pi
     plain_from(text, at, place, indent)
 }
 
-#[tactic(auto, unfolding(crate::specs::Piece::plain_from, crate::specs::Plain::plain_at))]
+#[tactic(auto, unfolding(yq_flow_scalars::specs::Piece::plain_from, yq_flow_scalars::specs::Plain::plain_at))]
 fn plain_from(text: &str, at: usize, place: Place, indent: i64) -> Result<Piece, FaultKind>
     requires { IsCharBoundary text.now at }
     ensures read { Reads (λ p. p) result (spec.plain_from place indent at text.now) }

@@ -1,16 +1,13 @@
 //! The quoted scalar at an offset of a text.
 ghost use Rattle.std.specs.Prelude.{◌≡◌, IfErr, IfOk, Ok};
 ghost use Rattle.std.specs.Str.{IsCharBoundary};
-ghost use Rattle.yq_scalar.specs.Answers.{Reads};
+ghost use Rattle.yq_flow_scalars.specs.Answers.{Reads};
 ghost use Rattle.yq_scalar.specs.ScalarPiece.{IsReadPiece};
 ghost use Rattle.yq_scalar.specs.QuotedPiece as spec;
-ghost use Rattle.yq_scalar.specs.declared.fault.FaultKind.TheVariants.{BadScalar};
-ghost use Rattle.yq_scalar.specs.declared.piece.Piece.{Piece};
+ghost use Rattle.yq_flow_scalars.specs.declared.fault.FaultKind.TheVariants.{BadScalar};
+ghost use Rattle.yq_flow_scalars.specs.declared.piece.Piece.{Piece};
 
-use crate::fault::FaultKind;
-use crate::piece::{Piece, inline_piece};
-use crate::quoted::split_quoted;
-use crate::style::Style;
+use yq_flow_scalars::{FaultKind, Piece, Style, inline_piece, split_quoted};
 
 /// The style of a scalar in these quotes.
 fn style_of(quote: u8) -> Style

@@ -1,13 +1,12 @@
 //! Plain and quoted scalars compared with what they may stand for, without memory (YAML 1.2.2, sections 5.7, 6.5 and 7.3).
 ghost use Rattle.std.specs.Prelude.{◌≡◌, ◌<◌, length, replicate, IfSome};
 ghost use Rattle.std.specs.Str.{bytes_eq};
-ghost use Rattle.yq_scalar.specs.ContentReading as spec;
-ghost use Rattle.yq_scalar.specs.Folded.{folded_text, StripsItem, StripsText};
-ghost use Rattle.yq_scalar.specs.Quoted.{IsQuotedText};
-ghost use Rattle.yq_scalar.specs.Text.{feed};
+ghost use Rattle.yq_flow_scalars.specs.ContentReading as spec;
+ghost use Rattle.yq_flow_scalars.specs.Folded.{folded_text, StripsItem, StripsText};
+ghost use Rattle.yq_flow_scalars.specs.Quoted.{IsQuotedText};
+ghost use Rattle.yq_flow_scalars.specs.Text.{feed};
 
-use crate::folded::{Folded, fold_gap, fold_item, split_space};
-use crate::folding::inside;
+use yq_flow_scalars::{Folded, fold_gap, fold_item, inside, split_space};
 
 /// A text without the LFs that it begins with, where these are so many at least.
 fn strip_breaks(text: &str, count: usize) -> Option<&str>

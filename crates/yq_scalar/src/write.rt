@@ -1,12 +1,10 @@
 //! Scalars as they are written in quotes.
 ghost use Rattle.std.specs.Prelude.{◌≡◌, ◌++◌, ◌<◌, ◌∷◌, [], OnOk, IfOk, string_bytes, true};
-ghost use Rattle.yq_scalar.specs.Writable.{can_write};
-ghost use Rattle.yq_scalar.specs.Written as spec;
+ghost use Rattle.yq_flow_scalars.specs.Writable.{can_write};
+ghost use Rattle.yq_flow_scalars.specs.Written as spec;
 
-use crate::characters::is_text_char;
-use crate::scalar::Scalar;
-use crate::style::{Place, Style};
 use std::alloc::{AllocError, Global};
+use yq_flow_scalars::{Place, Scalar, Style, is_text_char};
 
 /// The letter that stands behind a backslash for the character.
 fn letter_of(c: char) -> Option<char>

@@ -11,7 +11,7 @@ use crate::exchange_error::ExchangeError;
 use crate::segment::{Segment, Segments};
 use crate::splice::Splice;
 use std::alloc::{AllocError, Global};
-use yq_scalar::characters::TEXT_LIMIT;
+use yq_flow_scalars::characters::TEXT_LIMIT;
 use yq_text::Halves;
 
 /// What stands in the new text for a segment.

@@ -4,7 +4,7 @@ use Rattle.std.proofs.lemmas.Bool.{cases_lt, le-ltb, lt-ltb, or_right}
 use Rattle.std.proofs.lemmas.List.{append_cancel_left, append_cancel_right}
 use Rattle.std.proofs.lemmas.Str.{IsUtf8-nil}
 use Rattle.std.specs.Str.{IsUtf8}
-use Rattle.yq_scalar.specs.Characters.{text_limit}
+use Rattle.yq_flow_scalars.specs.Characters.{text_limit}
 use Rattle.yq_rows.specs.Grammar.{IsCut, IsMarkerLine}
 use Rattle.yq_rows.specs.Items.{Item, end_item, items_of, items_text, nothing_asked, asked_of, AreRowItems}
 use Rattle.yq_rows.specs.Kept.{kept_rows, near, ends_near, TextsIn}

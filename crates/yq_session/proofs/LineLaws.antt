@@ -4,10 +4,10 @@ use Rattle.std.proofs.lemmas.Bool.{and_parts, cases_Bool, false≢true, not-fals
 use Rattle.std.specs.Str.Parse.{AllDigits}
 use Rattle.std.specs.Prelude.{nat_le}
 use Rattle.std.specs.Char.{digit_value}
-use Rattle.yq_scalar.specs.Lines.{spaces as spaces_of}
-use Rattle.yq_scalar.specs.Plain.{begins_deep, ends_plain, follows, last_line, may_follow, no_gap}
-use Rattle.yq_scalar.specs.Quoted.{Break, line_feed, return_feed, Char, itself, doubled, escape, code, Lines, last, line, spell_char, spell_chars, spell_end, spell_lines, AreChars, AreLines, IsChar, beside, letters, digit_counts}
-use Rattle.yq_scalar.specs.Text.{cut, is_break, is_empty, is_feed, is_line, is_marker, is_return, is_space, is_white, front, upto, NoneIn}
+use Rattle.yq_flow_scalars.specs.Lines.{spaces as spaces_of}
+use Rattle.yq_flow_scalars.specs.Plain.{begins_deep, ends_plain, follows, last_line, may_follow, no_gap}
+use Rattle.yq_flow_scalars.specs.Quoted.{Break, line_feed, return_feed, Char, itself, doubled, escape, code, Lines, last, line, spell_char, spell_chars, spell_end, spell_lines, AreChars, AreLines, IsChar, beside, letters, digit_counts}
+use Rattle.yq_flow_scalars.specs.Text.{cut, is_break, is_empty, is_feed, is_line, is_marker, is_return, is_space, is_white, front, upto, NoneIn}
 
 -- No line but the first begins with a marker in a piece before a rest, nor does the first, where the piece begins a line.
 abbrev pub Unmarked : Bool → List ℕ → List ℕ → Type 0

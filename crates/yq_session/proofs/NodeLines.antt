@@ -1,9 +1,9 @@
 -- No line begins with a document marker inside a node.
 use Rattle.std.proofs.Common.{◌≡◌, ◌⊎◌, ⊎_elim, if◌then◌else◌, ℕ, zero, suc, Bool, true, false, ◌&&◌, ◌||◌, eqb, List, [], ◌∷◌, ◌++◌, Option, refl, sym, ap, ◌∙◌, subst, append_assoc, eqb-true}
 use Rattle.std.proofs.lemmas.Bool.{cases_Bool, false≢true, not-false, or_cases}
-use Rattle.yq_scalar.specs.Plain.{IsPlain}
-use Rattle.yq_scalar.specs.Quoted.{Lines, IsQuoted, spell_lines}
-use Rattle.yq_scalar.specs.Text.{is_feed, is_marker, is_space, is_white, no_white, unless, NoneIn}
+use Rattle.yq_flow_scalars.specs.Plain.{IsPlain}
+use Rattle.yq_flow_scalars.specs.Quoted.{Lines, IsQuoted, spell_lines}
+use Rattle.yq_flow_scalars.specs.Text.{is_feed, is_marker, is_space, is_white, no_white, unless, NoneIn}
 use Rattle.yq_inline.specs.declared.gap.Before.{Before}
 use Rattle.yq_inline.specs.declared.gap.Before.TheVariants.{Token, White, Break, Comment}
 use Rattle.yq_inline.specs.Gaps.{goes, next, behind, is_break, is_comment, AllGo, IsInlineGap}

@@ -5,10 +5,10 @@ use Rattle.std.proofs.lemmas.Option.{same_Some}
 use Rattle.std.proofs.lemmas.List.{drop_all, drop_more, set_split, take_at}
 use Rattle.std.proofs.lemmas.Str.{IsCharBoundary-at_seam}
 use Rattle.std.specs.Str.{IsCharBoundary}
-use Rattle.yq_scalar.specs.Answers.{ReadFails}
-use Rattle.yq_scalar.specs.declared.fault.ReadError.{ReadError}
-use Rattle.yq_scalar.specs.declared.fault.ReadError.TheVariants as reading
-use Rattle.yq_scalar.specs.declared.fault.ReadFault.{ReadFault}
+use Rattle.yq_flow_scalars.specs.Answers.{ReadFails}
+use Rattle.yq_flow_scalars.specs.declared.fault.ReadError.{ReadError}
+use Rattle.yq_flow_scalars.specs.declared.fault.ReadError.TheVariants as reading
+use Rattle.yq_flow_scalars.specs.declared.fault.ReadFault.{ReadFault}
 use Rattle.yq_rows.specs.Ends.{end_at}
 use Rattle.yq_rows.specs.Items.{Item, end_item, items_of, items_text, rows_items, view_of_items}
 use Rattle.yq_rows.specs.Kept.{IsPlaced, near, ends_near, TextsIn}

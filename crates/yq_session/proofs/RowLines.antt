@@ -7,9 +7,9 @@ use Rattle.yq_scalar.specs.declared.block_header.BlockStyle.TheVariants as style
 use Rattle.yq_scalar.specs.declared.block_header.Chomping.{Chomping}
 use Rattle.yq_scalar.specs.declared.block_header.Chomping.TheVariants as chompings
 use Rattle.yq_scalar.specs.declared.block_lines.TextIndent.{TextIndent}
-use Rattle.yq_scalar.specs.Lines.{behind_spaces, spaces}
-use Rattle.yq_scalar.specs.Piece.{deeper}
-use Rattle.yq_scalar.specs.Text.{ends_line, front, is_break, is_empty, is_feed, is_line, is_marker, is_return, is_space, is_white, joined, NoneIn}
+use Rattle.yq_flow_scalars.specs.Lines.{behind_spaces, spaces}
+use Rattle.yq_flow_scalars.specs.Piece.{deeper}
+use Rattle.yq_flow_scalars.specs.Text.{ends_line, front, is_break, is_empty, is_feed, is_line, is_marker, is_return, is_space, is_white, joined, NoneIn}
 use Rattle.yq_inline.specs.Nodes.{node_text}
 use Rattle.yq_rows.specs.Gap.{AreGapLines, IsBreak, IsComment, IsGap, IsLineEnd, IsWhite}
 use Rattle.yq_rows.specs.Grammar.{IsAnchor, IsContent, IsMark, IsMarkerLine, IsRow, IsTail, Limit, may_be_alone}

@@ -10,7 +10,7 @@ use crate::kept::Kept;
 use crate::sides::Touched;
 use std::alloc::{AllocError, Global};
 use yq_rows::{EndPlace, Meter, Places, read_region};
-use yq_scalar::ReadError;
+use yq_flow_scalars::ReadError;
 use yq_text::Halves;
 
 /// Rows and ends of parts that come in the place of others.

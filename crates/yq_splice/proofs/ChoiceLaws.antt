@@ -3,7 +3,7 @@ use Rattle.std.proofs.Common.{◌≡◌, Bool, true, false, cond, ℕ, List, [],
 use Rattle.std.proofs.lemmas.Option.{none-some}
 use Rattle.std.specs.Option.{option_or}
 use Rattle.yq_script.specs.Script.{Segment, keep}
-use Rattle.yq_scalar.specs.Tree.{Node}
+use Rattle.yq_flow_scalars.specs.Tree.{Node}
 use Rattle.yq_places.specs.Standings.{FlowPart}
 use Rattle.yq_edits.specs.FlowParts.{flow_put}
 use Rattle.yq_flow_edits.specs.PartPuts.{part_put}

@@ -1,6 +1,6 @@
 -- What is printed is read.
 use Rattle.std.proofs.Common.{◌≡◌, List, ℕ, [], ◌∷◌, ◌++◌, refl, sym, ◌∙◌, subst, arith}
-use Rattle.yq_scalar.specs.Tree as tree
+use Rattle.yq_flow_scalars.specs.Tree as tree
 use Rattle.yq_flow.specs.Valued.{IsValueTree}
 use Rattle.yq_block.specs.BlockLaws.{ReadsAlone}
 use Rattle.yq_block.specs.BlockText.{block_value}

@@ -3,8 +3,8 @@ use Rattle.std.proofs.Common.{◌≡◌, ◌-◌, Bool, true, false, cond, eqb, 
 use Rattle.std.proofs.lemmas.Bool.{cond-true, cond-false}
 use Rattle.std.specs.List.{slice_get}
 use Rattle.std.specs.Option.{option_or}
-use Rattle.yq_scalar.specs.Answers.{◌>>=◌}
-use Rattle.yq_scalar.specs.Paths.{Step}
+use Rattle.yq_flow_scalars.specs.Answers.{◌>>=◌}
+use Rattle.yq_flow_scalars.specs.Paths.{Step}
 use Rattle.yq_lines.specs.Ends.{found_line, line_of, lines_end}
 use Rattle.yq_lines.specs.Group.{group}
 use Rattle.yq_lines.specs.Outline.{Line, flatten}

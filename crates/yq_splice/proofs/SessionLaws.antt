@@ -7,10 +7,10 @@ use Rattle.std.specs.Str.{IsCharBoundary, IsUtf8, is_utf8}
 use Rattle.yq_text.specs.Halves.{whole}
 use Rattle.yq_text.specs.Split.{Split, joined}
 use Rattle.yq_text.specs.declared.halves.Halves.{Halves}
-use Rattle.yq_scalar.specs.declared.fault.ReadError.{ReadError}
-use Rattle.yq_scalar.specs.declared.fault.ReadError.TheVariants as reading
-use Rattle.yq_scalar.specs.Characters.{text_limit}
-use Rattle.yq_scalar.proofs.Bools.{guard_then}
+use Rattle.yq_flow_scalars.specs.declared.fault.ReadError.{ReadError}
+use Rattle.yq_flow_scalars.specs.declared.fault.ReadError.TheVariants as reading
+use Rattle.yq_flow_scalars.specs.Characters.{text_limit}
+use Rattle.yq_flow_scalars.proofs.Bools.{guard_then}
 use Rattle.yq_rows.specs.Grammar.{IsCut}
 use Rattle.yq_rows.specs.Items.{Item, items_of, items_text}
 use Rattle.yq_rows.specs.Kept.{IsPlaced}

@@ -1,8 +1,8 @@
 -- What an answer to an edit says.
 use Rattle.std.specs.Prelude.{◌≡◌, ◌≢◌, Result, Ok, Err, string_bytes}
-use Rattle.yq_scalar.specs.declared.fault.FaultKind.TheVariants.{NotUtf8}
-use Rattle.yq_scalar.specs.declared.fault.ReadError.{ReadError}
-use Rattle.yq_scalar.specs.declared.fault.ReadError.TheVariants as reading
+use Rattle.yq_flow_scalars.specs.declared.fault.FaultKind.TheVariants.{NotUtf8}
+use Rattle.yq_flow_scalars.specs.declared.fault.ReadError.{ReadError}
+use Rattle.yq_flow_scalars.specs.declared.fault.ReadError.TheVariants as reading
 use Rattle.yq_meaning.specs.declared.expr_error.ExprError.{ExprError}
 use Rattle.yq_meaning.specs.declared.expr_error.ExprError.TheVariants as planning
 use Rattle.yq_script.specs.declared.edited.Edited.{Edited}

@@ -2,7 +2,7 @@
 
 use std::alloc::AllocError;
 use yq_expr::{ExprError, Refusal};
-use yq_scalar::{ReadError, ReadFault};
+use yq_flow_scalars::{ReadError, ReadFault};
 use yq_script::ExchangeError;
 
 /// Why a text is not edited.

@@ -9,7 +9,7 @@ ghost use Rattle.yq_edits.specs.Operands.{HasOperand, KeyIsUtf8};
 ghost use Rattle.yq_splice.specs.Valid.{HaveOperands};
 
 use yq_expr::{Op, Value};
-use yq_scalar::Scalar;
+use yq_flow_scalars::Scalar;
 
 fn scalar_holds(scalar: &Scalar)
     ensures { IsValid scalar.now }

@@ -3,7 +3,7 @@ ghost use Rattle.std.specs.Prelude.{◌≡◌, IfErr, IfOk, OnErr, string_bytes}
 ghost use Rattle.yq_documents.specs.Reading.{cut_of, read_at};
 ghost use Rattle.yq_meaning.specs.Operations.{operation_of};
 ghost use Rattle.yq_rows.specs.Meter.{counted, line_count};
-ghost use Rattle.yq_scalar.specs.Answers.{Gives};
+ghost use Rattle.yq_flow_scalars.specs.Answers.{Gives};
 ghost use Rattle.yq_script.specs.Changing.{IsChange};
 ghost use Rattle.yq_text.specs.Halves.{whole};
 ghost use Rattle.yq_places.specs.RowWalk.{StayKnown};
@@ -23,7 +23,7 @@ use std::mem;
 use yq_expr::Op;
 use yq_places::CutText;
 use yq_rows::{Meter, Places, count_lines};
-use yq_scalar::ReadError;
+use yq_flow_scalars::ReadError;
 use yq_script::{Changed, Edited, Splice};
 use yq_session::{Kept, follow};
 use yq_text::{Halves, SplitText};

@@ -1,9 +1,9 @@
 -- Texts whose parts stand for no documents.
 use Rattle.std.proofs.Common.{ℕ, List, ap, ◌∙◌}
 use Rattle.std.proofs.lemmas.Bool.{cond-false}
-use Rattle.yq_scalar.specs.Answers.{◌>>=◌, ReadFails}
-use Rattle.yq_scalar.specs.declared.fault.ReadError.{ReadError}
-use Rattle.yq_scalar.specs.declared.fault.ReadError.TheVariants as errors
+use Rattle.yq_flow_scalars.specs.Answers.{◌>>=◌, ReadFails}
+use Rattle.yq_flow_scalars.specs.declared.fault.ReadError.{ReadError}
+use Rattle.yq_flow_scalars.specs.declared.fault.ReadError.TheVariants as errors
 use Rattle.yq_rows.specs.Grammar.{IsCut}
 use Rattle.yq_rows.specs.Rows.{Cut}
 use Rattle.yq_rows.proofs.ScanLaws.{scan_again}

@@ -1,8 +1,8 @@
 -- The item or entry of a flow collection at a path, by what is made of its row.
 use Rattle.std.proofs.Common.{◌≡◌, ℕ, ◌+◌, ◌-◌, eqb, List, length, Option, Some, true, false, sym, ◌∙◌}
 use Rattle.std.specs.List.{slice_get}
-use Rattle.yq_scalar.specs.Answers.{◌>>=◌}
-use Rattle.yq_scalar.specs.Paths.{Step}
+use Rattle.yq_flow_scalars.specs.Answers.{◌>>=◌}
+use Rattle.yq_flow_scalars.specs.Paths.{Step}
 use Rattle.yq_inline.specs.Entries.{PlacedEntry}
 use Rattle.yq_inline.specs.Places.{Placed}
 use Rattle.yq_lines.specs.Ends.{reached}

@@ -1,8 +1,8 @@
 //! Reading bytes as documents.
 ghost use Rattle.std.specs.Prelude.{◌≡◌, ◌↔◌, ℕ, List, IfErr, IfOk, Some, MatchResult, true, false};
 ghost use Rattle.std.specs.Str.{is_utf8};
-ghost use Rattle.yq_scalar.specs.declared.fault.FaultKind.TheVariants.{NotUtf8};
-ghost use Rattle.yq_scalar.specs.Answers.{Gives, IsOfText};
+ghost use Rattle.yq_flow_scalars.specs.declared.fault.FaultKind.TheVariants.{NotUtf8};
+ghost use Rattle.yq_flow_scalars.specs.Answers.{Gives, IsOfText};
 ghost use Rattle.yq_rows.specs.Grammar.{IsCut};
 ghost use Rattle.yq_rows.specs.Rows.{Cut};
 ghost use Rattle.yq_places.specs.Answers.{IsNotUtf8};
@@ -16,7 +16,7 @@ use std::num::NonZeroU64;
 use yq_lines::lines_shaped;
 use yq_reading::read_rows;
 use yq_rows::scan;
-use yq_scalar::{FaultKind, ReadError, ReadFault};
+use yq_flow_scalars::{FaultKind, ReadError, ReadFault};
 
 /// The text that bytes are in UTF-8. Bytes that are none are refused as
 /// `NotUtf8`, on the line of the first byte that isn't UTF-8.

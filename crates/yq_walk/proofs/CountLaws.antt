@@ -2,7 +2,7 @@
 use Rattle.std.proofs.Common.{◌≡◌, ℕ, zero, suc, ◌+◌, ◌-◌, eqb, List, [], ◌∷◌, ◌++◌, length, replicate, false, cond, refl, ap, ◌∙◌, arith, Bool, true, not, sym}
 use Rattle.std.proofs.lemmas.Bool.{cond-false, false≢true}
 use Rattle.std.proofs.lemmas.List.Sums.{sum_by-cons}
-use Rattle.yq_scalar.specs.Text.{is_empty}
+use Rattle.yq_flow_scalars.specs.Text.{is_empty}
 use Rattle.yq_rows.specs.Grammar.{IsMark, AreDashes}
 use Rattle.yq_rows.specs.Rows.{Mark, Bare, Dash, Key, Content, dashes_text}
 use Rattle.yq_rows.specs.View.{Slices, last_dash, colon_of}

@@ -4,8 +4,8 @@ use Rattle.std.proofs.lemmas.Bool.{and_parts, or_parts, not-true, ltb-true, eqb-
 use Rattle.std.proofs.lemmas.Option.{same_Some, none-some}
 use Rattle.std.specs.List.{slice_get, list_any}
 use Rattle.std.specs.Prelude.{is_some}
-use Rattle.yq_scalar.specs.Keys.{keys_of, with_key, are_distinct, deepest}
-use Rattle.yq_scalar.specs.Paths.{To, is_here, key_is}
+use Rattle.yq_flow_scalars.specs.Keys.{keys_of, with_key, are_distinct, deepest}
+use Rattle.yq_flow_scalars.specs.Paths.{To, is_here, key_is}
 use Rattle.yq_lines.specs.Ends.{part, is_end, IsEndOf}
 use Rattle.yq_lines.specs.Group.{deeper, shallow, group, level_or, is_even, is_open, is_whole}
 use Rattle.yq_lines.specs.Outline.{Mark, Bare, Key, Dash, Line, level, Outline, end, row, children, key_of, label}

@@ -3,7 +3,7 @@ use Rattle.std.proofs.Common.{◌≡◌, ℕ, List, [], ◌∷◌, length, Optio
 use Rattle.std.proofs.lemmas.Bool.{false≢true, lt-ltb}
 use Rattle.std.proofs.lemmas.Option.{slice_get-map, same_Some}
 use Rattle.std.specs.List.{slice_get}
-use Rattle.yq_scalar.specs.Text.{is_empty}
+use Rattle.yq_flow_scalars.specs.Text.{is_empty}
 use Rattle.yq_rows.specs.RowStarts.{row_level}
 use Rattle.yq_rows.specs.Rows.{Mark, Bare, Dash, Key, Row, dashes_text}
 use Rattle.yq_rows.specs.View.{Slices, slices, last_dash, rows_of, RowsView, rows_view}

@@ -4,8 +4,8 @@ use Rattle.std.proofs.lemmas.Bool.{lt-ltb, ne_eqb}
 use Rattle.std.proofs.lemmas.List.{drop-drop, drop-take, take-take, length-take-le, length-drop}
 use Rattle.std.proofs.lemmas.Option.{same_Some, slice_get_within}
 use Rattle.std.specs.List.{slice_get}
-use Rattle.yq_scalar.specs.Keys.{are_distinct, keys_of}
-use Rattle.yq_scalar.specs.Paths.{Step, To, Nth, is_here, is_item, further}
+use Rattle.yq_flow_scalars.specs.Keys.{are_distinct, keys_of}
+use Rattle.yq_flow_scalars.specs.Paths.{Step, To, Nth, is_here, is_item, further}
 use Rattle.yq_lines.specs.Ends.{IsEndOf, is_end, part}
 use Rattle.yq_lines.specs.Outline.{Line, Outline, children, key_of, label, level}
 use Rattle.yq_lines.specs.Positions as lines

@@ -1,6 +1,6 @@
 -- What is asked of the anchors and names of all lines of rows, row by row.
 use Rattle.std.proofs.Common.{◌≡◌, ℕ, suc, ◌+◌, ◌&&◌, List, [], ◌∷◌, ◌++◌, refl}
-use Rattle.yq_scalar.specs.Anchors.{with_anchor}
+use Rattle.yq_flow_scalars.specs.Anchors.{with_anchor}
 use Rattle.yq_lines.specs.Comments as comments
 use Rattle.yq_lines.specs.LinesReading.{is_free, have_one_anchor_each}
 use Rattle.yq_lines.specs.Names.{head_names, line_names}

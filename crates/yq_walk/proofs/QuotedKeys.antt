@@ -2,10 +2,10 @@
 use Rattle.std.proofs.Common.{◌≡◌, ℕ, suc, zero, ◌-◌, eqb, Bool, false, cond, ◌||◌, List, [], ◌∷◌, drop, take, length, refl, ap, ◌∙◌}
 use Rattle.std.proofs.lemmas.Bool.{or_parts}
 use Rattle.std.specs.List.{list_any}
-use Rattle.yq_scalar.specs.ContentReading.{quoted_content}
-use Rattle.yq_scalar.specs.Plain.{holds_break}
-use Rattle.yq_scalar.specs.Quoted.{IsQuotedText}
-use Rattle.yq_scalar.specs.Text.{is_feed}
+use Rattle.yq_flow_scalars.specs.ContentReading.{quoted_content}
+use Rattle.yq_flow_scalars.specs.Plain.{holds_break}
+use Rattle.yq_flow_scalars.specs.Quoted.{IsQuotedText}
+use Rattle.yq_flow_scalars.specs.Text.{is_feed}
 use Rattle.yq_inline.specs.Nodes.{first_is}
 use Rattle.yq_lines.proofs.OneLine.{borrowed_quoted}
 

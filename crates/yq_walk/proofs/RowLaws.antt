@@ -1,10 +1,10 @@
 -- What a row spells, by what is written: its colon, its key and its lines.
 use Rattle.std.proofs.Common.{◌≡◌, inl, inr, ℕ, ℤ, suc, ◌+◌, true, false, eqb, List, [], ◌∷◌, ◌++◌, length, Option, None, Some, refl, sym, ap, ◌∙◌, arith}
 use Rattle.std.proofs.lemmas.Bool.{false≢true}
-use Rattle.yq_scalar.specs.Piece.{deeper}
-use Rattle.yq_scalar.specs.Plain.{begins_plain, holds_break}
-use Rattle.yq_scalar.specs.Quoted.{IsQuotedText}
-use Rattle.yq_scalar.specs.Text.{is_empty, lines_of}
+use Rattle.yq_flow_scalars.specs.Piece.{deeper}
+use Rattle.yq_flow_scalars.specs.Plain.{begins_plain, holds_break}
+use Rattle.yq_flow_scalars.specs.Quoted.{IsQuotedText}
+use Rattle.yq_flow_scalars.specs.Text.{is_empty, lines_of}
 use Rattle.yq_inline.specs.Scalars.{IsScalarAt, is_quoted}
 use Rattle.yq_inline.proofs.PieceLaws.{front_not, scalar_some}
 use Rattle.yq_lines.specs.Comments.{head_comment}

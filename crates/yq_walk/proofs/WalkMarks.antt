@@ -8,11 +8,11 @@ use Rattle.std.specs.Str.{bytes_eq}
 use Rattle.yq_inline.specs.Scalars.{content_of, is_quoted}
 use Rattle.yq_lines.specs.Outline.{Mark, Bare, Key, Dash, Line, key_of, rank}
 use Rattle.yq_lines.specs.Positions.{is_bare}
-use Rattle.yq_scalar.specs.Paths.{is_item, key_is}
-use Rattle.yq_scalar.specs.Plain.{holds_break}
-use Rattle.yq_scalar.specs.Quoted.{IsQuotedText}
-use Rattle.yq_scalar.specs.Text.{is_empty}
-use Rattle.yq_scalar.specs.Tree.{Node}
+use Rattle.yq_flow_scalars.specs.Paths.{is_item, key_is}
+use Rattle.yq_flow_scalars.specs.Plain.{holds_break}
+use Rattle.yq_flow_scalars.specs.Quoted.{IsQuotedText}
+use Rattle.yq_flow_scalars.specs.Text.{is_empty}
+use Rattle.yq_flow_scalars.specs.Tree.{Node}
 use Rattle.yq_rows.specs.Rows as rows
 use Rattle.yq_rows.specs.View as views
 use Rattle.yq_rows.specs.View.{Slices, slices, RowsView}

@@ -4,9 +4,9 @@ use Rattle.std.proofs.lemmas.Bool.{false≢true, lt-ltb, le-ltb, cond-true, cond
 use Rattle.std.proofs.lemmas.List.{drop-drop, drop-map, drop-take, length-map, length-take-le, length-drop}
 use Rattle.std.specs.List.{slice_get}
 use Rattle.std.specs.Prelude.{is_none}
-use Rattle.yq_scalar.specs.Piece.{deeper}
-use Rattle.yq_scalar.specs.Paths.{is_item}
-use Rattle.yq_scalar.specs.Text.{is_empty}
+use Rattle.yq_flow_scalars.specs.Piece.{deeper}
+use Rattle.yq_flow_scalars.specs.Paths.{is_item}
+use Rattle.yq_flow_scalars.specs.Text.{is_empty}
 use Rattle.yq_inline.specs.Inline.{depth_limit}
 use Rattle.yq_inline.specs.Nodes.{Node, empty, alias, scalar, coll, anchored, node_text, IsNode}
 use Rattle.yq_inline.specs.Trees.{node_head}

@@ -6,8 +6,8 @@ use Rattle.yq_rows.specs.Offsets.{row_length}
 use Rattle.yq_rows.specs.Rows.{Row, Cut, cut_text}
 pub use Rattle.yq_rows.specs.RowStarts.{bound_length, passed_length, row_start}
 use Rattle.yq_rows.specs.View.{Slices, slices, RowsView, rows_view}
-use Rattle.yq_scalar.specs.Characters.{text_limit}
-use Rattle.yq_scalar.specs.Text.{is_empty}
+use Rattle.yq_flow_scalars.specs.Characters.{text_limit}
+use Rattle.yq_flow_scalars.specs.Text.{is_empty}
 
 -- The place of a row's head: behind the text before the row's content, white space, an anchor and the white space behind that.
 abbrev pub head_place : ℕ → Cut → Row → ℕ × ℕ

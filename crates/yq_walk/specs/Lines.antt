@@ -1,8 +1,8 @@
 -- The lines of block nodes that rows are.
 use Rattle.std.specs.Prelude.{ℕ, suc, ◌+◌, List, [], ◌∷◌, ◌++◌, Option, Some, None}
-use Rattle.yq_scalar.specs.declared.kind.Kind.TheVariants.{Text}
+use Rattle.yq_flow_scalars.specs.declared.kind.Kind.TheVariants.{Text}
 use Rattle.yq_scalar.specs.BlockContent.{block_content}
-use Rattle.yq_scalar.specs.Tree as tree
+use Rattle.yq_flow_scalars.specs.Tree as tree
 use Rattle.yq_inline.specs.Scalars.{content_of}
 use Rattle.yq_inline.specs.Trees.{node_anchor, node_head}
 use Rattle.yq_lines.specs.Comments as comments

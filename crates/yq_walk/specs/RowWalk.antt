@@ -4,9 +4,9 @@ use denote.Bor.{Bor}
 use Rattle.yq_inline.specs.declared.path.Step as declared
 use Rattle.yq_inline.specs.Entries.{step_of}
 use Rattle.yq_inline.specs.Inline.{depth_limit}
-use Rattle.yq_scalar.specs.Keys.{are_distinct, keys_of}
-use Rattle.yq_scalar.specs.Paths.{Step, Nth, key_is}
-use Rattle.yq_scalar.specs.Text.{is_empty}
+use Rattle.yq_flow_scalars.specs.Keys.{are_distinct, keys_of}
+use Rattle.yq_flow_scalars.specs.Paths.{Step, Nth, key_is}
+use Rattle.yq_flow_scalars.specs.Text.{is_empty}
 use Rattle.yq_lines.specs.Ends.{deeper_count, part}
 use Rattle.yq_lines.specs.Group.{group}
 use Rattle.yq_lines.specs.Outline.{Line, Outline, children, key_of}

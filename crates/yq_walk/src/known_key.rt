@@ -1,6 +1,6 @@
 //! The entry of a key, looked for on both sides of an entry that is known.
 ghost use Rattle.std.specs.Prelude.{◌<◌, ◌≤◌, length, IfSome, Some};
-ghost use Rattle.yq_scalar.specs.Paths as steps;
+ghost use Rattle.yq_flow_scalars.specs.Paths as steps;
 ghost use Rattle.yq_walk.specs.Extents.{IsRowsView};
 ghost use Rattle.yq_walk.specs.RowWalk.{AreKnown, Finds, HasDocument, HaveKeys, IsKnownIn, IsKnown, IsLine, IsPosition};
 

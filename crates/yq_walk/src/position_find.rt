@@ -1,7 +1,7 @@
 //! Where a step of a path leads among the lines of a document, row by row.
 ghost use Rattle.std.specs.Prelude.{IfSome};
 ghost use Rattle.yq_inline.specs.Entries.{step_of};
-ghost use Rattle.yq_scalar.specs.Paths as steps;
+ghost use Rattle.yq_flow_scalars.specs.Paths as steps;
 ghost use Rattle.yq_walk.specs.Extents.{IsRowsView};
 ghost use Rattle.yq_walk.specs.RowWalk.{AreKnown, Finds, HasDocument, HaveKeys, IsLine, IsPosition};
 

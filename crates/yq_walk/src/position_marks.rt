@@ -2,7 +2,7 @@
 ghost use Rattle.std.specs.Prelude.{◌≡◌, ◌&&◌, is_some, nat_eq};
 ghost use Rattle.yq_lines.specs.Outline as outline;
 ghost use Rattle.yq_lines.specs.Positions as positions;
-ghost use Rattle.yq_scalar.specs.Paths as steps;
+ghost use Rattle.yq_flow_scalars.specs.Paths as steps;
 ghost use Rattle.yq_walk.specs.Extents.{IsRowsView};
 ghost use Rattle.yq_walk.specs.RowWalk.{HasRows, IsLine, OfLine};
 

@@ -3,9 +3,9 @@ ghost use Rattle.std.specs.List.{list_any};
 ghost use Rattle.std.specs.Prelude.{◌≡◌, ◌==◌, false, if◌then◌else◌, true};
 ghost use Rattle.std.specs.Str.{bytes_eq};
 ghost use Rattle.yq_inline.specs.Scalars as scalars;
-ghost use Rattle.yq_scalar.specs.ContentReading.{quoted_content};
-ghost use Rattle.yq_scalar.specs.Plain.{holds_break};
-ghost use Rattle.yq_scalar.specs.Quoted.{IsQuotedText};
+ghost use Rattle.yq_flow_scalars.specs.ContentReading.{quoted_content};
+ghost use Rattle.yq_flow_scalars.specs.Plain.{holds_break};
+ghost use Rattle.yq_flow_scalars.specs.Quoted.{IsQuotedText};
 
 use yq_inline::pieces::{first_is, is_quoted};
 use yq_lines::between_quotes;

@@ -8,7 +8,7 @@ use std::alloc::Global;
 use std::process::Abort;
 use std::test::Fail;
 use yq_expr::Op;
-use yq_scalar::ReadError;
+use yq_flow_scalars::ReadError;
 use yq_splice::{EditError, Edited, Session, Splice, apply_op};
 use yq_text_calls::all_memory;
 

@@ -4,7 +4,7 @@ use std::alloc::{AllocError, Global};
 use yq_expr::{
     CommentPlace, Condition, Operand, Operator, Program, Stage, Step, Syntax, Term, Update, Value,
 };
-use yq_scalar::{Kind, Scalar};
+use yq_flow_scalars::{Kind, Scalar};
 
 /// The program's form, with kinds before scalars.
 pub(super) fn as_text(alloc: Global, program: &Program) -> Result<String, AllocError> {

@@ -1,7 +1,7 @@
 //! Nodes in a form that tests can compare.
 
 use std::alloc::AllocError;
-use yq_scalar::Kind;
+use yq_flow_scalars::Kind;
 use yq_tree::{Node, NodeKind};
 
 /// What a node is, in one letter or in what opens a collection.

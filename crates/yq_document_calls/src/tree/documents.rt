@@ -5,7 +5,7 @@ use super::examples::{block_styles, characters, flow_styles, preview, structures
 use std::alloc::Global;
 use std::process::Abort;
 use std::test::Fail;
-use yq_scalar::ReadError;
+use yq_flow_scalars::ReadError;
 use yq_tree::{DEPTH_LIMIT, read};
 
 /// The documents of a text, with a `/` behind each.

@@ -4,7 +4,7 @@ use super::as_text::push_node;
 use super::path;
 use std::alloc::{AllocError, Global};
 use std::test::Fail;
-use yq_scalar::ReadError;
+use yq_flow_scalars::ReadError;
 use yq_tree::{DEPTH_LIMIT, Node, read};
 
 /// A node with its key, how many items or entries it has, and its comments.

@@ -3,7 +3,7 @@
 use std::alloc::{AllocError, Global};
 use std::num::NonZeroU64;
 use std::test::Fail;
-use yq_scalar::{FaultKind, ReadError, ReadFault};
+use yq_flow_scalars::{FaultKind, ReadError, ReadFault};
 use yq_tree::read;
 
 /// A text, and the lengths of its beginnings that are refused, in bytes.

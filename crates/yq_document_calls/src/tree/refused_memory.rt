@@ -1,7 +1,7 @@
 //! Each growth of memory is refused in turn.
 
 use std::test::Fail;
-use yq_scalar::ReadError;
+use yq_flow_scalars::ReadError;
 use yq_text_calls::all_memory;
 use yq_tree::read;
 

@@ -2,7 +2,7 @@
 
 use crate::nodes::under::Under;
 use yq_inline::Inline;
-use yq_scalar::Kind;
+use yq_flow_scalars::Kind;
 
 /// What a node is, but for the anchor before it.
 #[derive(Clone, Copy, Debug)]

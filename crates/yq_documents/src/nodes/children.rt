@@ -3,7 +3,7 @@ ghost use Rattle.std.specs.Iterator.{at_most};
 ghost use Rattle.std.specs.Prelude.{◌≡◌, ◌<◌, IfSome};
 ghost use Rattle.yq_inline.specs.Trees.{placed_tree};
 ghost use Rattle.yq_inline.specs.View as inline;
-ghost use Rattle.yq_scalar.specs.Tree.{children_of};
+ghost use Rattle.yq_flow_scalars.specs.Tree.{children_of};
 ghost use Rattle.yq_documents.specs.Children as spec;
 ghost use Rattle.yq_documents.specs.Nodes.{node_of};
 
@@ -12,7 +12,7 @@ use crate::nodes::lines::has_lines;
 use crate::nodes::node::Node;
 use crate::nodes::under::Under;
 use yq_inline::{Form, Inline};
-use yq_scalar::Piece;
+use yq_flow_scalars::Piece;
 use yq_walk::behind;
 
 /// What is left of the items or entries of a node.

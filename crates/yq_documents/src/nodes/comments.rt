@@ -2,7 +2,7 @@
 ghost use Rattle.std.specs.Iterator.{at_most};
 ghost use Rattle.std.specs.Prelude.{◌≡◌, ◌==◌, [], length, option_map};
 ghost use Rattle.yq_lines.specs.Comments as spec;
-ghost use Rattle.yq_scalar.specs.Text.{front, lines_of, past_white};
+ghost use Rattle.yq_flow_scalars.specs.Text.{front, lines_of, past_white};
 ghost use Rattle.yq_documents.specs.Pieces as pieces;
 ghost use Rattle.yq_documents.specs.Nodes.{label_of};
 ghost use Rattle.yq_lines.specs.Bodies.{borrowed};
@@ -10,8 +10,8 @@ ghost use Rattle.yq_documents.specs.Texts.{texts_left, YieldsText};
 
 use crate::nodes::node::{Node, Slot};
 use yq_inline::pieces::strip;
-use yq_scalar::lines::{split_at_break, split_line};
-use yq_scalar::text::{past_white, split_white};
+use yq_flow_scalars::lines::{split_at_break, split_line};
+use yq_flow_scalars::text::{past_white, split_white};
 
 /// A comment's text without the one space that may begin it.
 #[tactic(auto, using(crate::proofs::CommentLaws::space_there, crate::proofs::CommentLaws::no_space))]

@@ -1,6 +1,6 @@
 //! How many items or entries a node has.
 ghost use Rattle.std.specs.Prelude.{◌≡◌};
-ghost use Rattle.yq_scalar.specs.Tree.{children_of};
+ghost use Rattle.yq_flow_scalars.specs.Tree.{children_of};
 ghost use Rattle.yq_documents.specs.Children.{lines_rest, rest_of};
 ghost use Rattle.yq_lines.specs.Counts as spec;
 ghost use Rattle.yq_documents.specs.Nodes.{node_of};

@@ -2,11 +2,11 @@
 ghost use Rattle.std.specs.Prelude.{◌≡◌, Some, None, option_map};
 ghost use Rattle.yq_inline.specs.Trees.{inner, parts_tree, placed_tree};
 ghost use Rattle.yq_inline.specs.View.{entries_end, items_end, view};
-ghost use Rattle.yq_scalar.specs.Paths.{To, Nth};
+ghost use Rattle.yq_flow_scalars.specs.Paths.{To, Nth};
 ghost use Rattle.yq_lines.specs.Labelled.{labelled_at};
 ghost use Rattle.yq_documents.specs.Nodes as spec;
 ghost use Rattle.std.specs.List.{list_any};
-ghost use Rattle.yq_scalar.specs.Anchors.{names_in, names_of};
+ghost use Rattle.yq_flow_scalars.specs.Anchors.{names_in, names_of};
 ghost use Rattle.yq_lines.specs.Names.{is_reference};
 ghost use Rattle.yq_lines.specs.Outline.{anchored};
 ghost use Rattle.yq_lines.specs.Outline as outline;
@@ -14,7 +14,7 @@ ghost use Rattle.yq_lines.specs.Bodies.{borrowed};
 
 use crate::nodes::node::NodeKind;
 use yq_inline::{Form, Inline};
-use yq_scalar::{Kind, Piece};
+use yq_flow_scalars::{Kind, Piece};
 
 /// What a node of a flow collection is.
 #[tactic(auto, using(crate::proofs::KindLaws::kind_named))]

@@ -6,9 +6,9 @@ ghost use Rattle.yq_lines.specs.Bodies.{borrowed};
 ghost use Rattle.yq_lines.specs.Comments as comments;
 ghost use Rattle.yq_lines.specs.Outline.{key_of, label};
 ghost use Rattle.yq_lines.specs.View.{head_view};
-ghost use Rattle.yq_scalar.specs.Quoted.{IsQuotedText};
-ghost use Rattle.yq_scalar.specs.Scalar.{plain_of};
-ghost use Rattle.yq_scalar.specs.Tree.{scalar};
+ghost use Rattle.yq_flow_scalars.specs.Quoted.{IsQuotedText};
+ghost use Rattle.yq_flow_scalars.specs.Scalar.{plain_of};
+ghost use Rattle.yq_flow_scalars.specs.Tree.{scalar};
 ghost use Rattle.yq_documents.specs.Bodies.{body_node};
 ghost use Rattle.yq_documents.specs.Decoded as spec;
 ghost use Rattle.yq_documents.specs.Nodes.{written_label};
@@ -23,7 +23,7 @@ use crate::of_row::head_decoded;
 use crate::read_text::ReadText;
 use yq_inline::pieces::is_quoted;
 use yq_lines::{Head, between_quotes};
-use yq_scalar::{Kind, resolve};
+use yq_flow_scalars::{Kind, resolve};
 use yq_walk::{Position, has_head, lines_before_mark, rank_at};
 
 /// A text as it is written, without its quotes.

@@ -3,7 +3,7 @@ ghost use Rattle.std.specs.Prelude.{◌≡◌, ◌<◌, IsTrue, length, not};
 ghost use Rattle.yq_lines.specs.Ends.{is_end};
 ghost use Rattle.yq_lines.specs.Outline.{key_of};
 ghost use Rattle.yq_lines.specs.Positions as positions;
-ghost use Rattle.yq_scalar.specs.Paths.{is_item};
+ghost use Rattle.yq_flow_scalars.specs.Paths.{is_item};
 ghost use Rattle.yq_documents.specs.Bodies.{outline_of};
 ghost use Rattle.yq_documents.specs.Children.{lines_left};
 ghost use Rattle.yq_documents.specs.Reading.{documents_of};

@@ -1,7 +1,7 @@
 //! The nodes of documents.
 ghost use Rattle.std.specs.List.{list_any};
 ghost use Rattle.std.specs.Prelude.{◌≡◌, ◌<◌, false, length, Some};
-ghost use Rattle.yq_scalar.specs.Anchors.{names_of};
+ghost use Rattle.yq_flow_scalars.specs.Anchors.{names_of};
 ghost use Rattle.yq_lines.specs.Names.{is_reference};
 ghost use Rattle.yq_inline.specs.Trees.{inner, placed_tree};
 ghost use Rattle.yq_inline.specs.View as inline;
@@ -22,7 +22,7 @@ use crate::nodes::node_lines::{line_node, lines_node};
 use crate::nodes::under::Under;
 use crate::read_text::ReadText;
 use yq_inline::Inline;
-use yq_scalar::Kind;
+use yq_flow_scalars::Kind;
 use yq_walk::Position;
 
 /// What a node is.

@@ -1,8 +1,8 @@
 //! Where steps lead from a node.
 ghost use Rattle.std.specs.Prelude.{◌≡◌, map, option_map};
 ghost use Rattle.yq_inline.specs.Entries.{step_of};
-ghost use Rattle.yq_scalar.specs.Paths.{To, Nth, child_at, node_at};
-ghost use Rattle.yq_scalar.specs.Tree.{children_of};
+ghost use Rattle.yq_flow_scalars.specs.Paths.{To, Nth, child_at, node_at};
+ghost use Rattle.yq_flow_scalars.specs.Tree.{children_of};
 ghost use Rattle.yq_documents.specs.Children.{rest_of};
 ghost use Rattle.yq_lines.specs.Labelled.{labelled_at, labelled_from};
 ghost use Rattle.yq_documents.specs.Nodes.{labelled_of, node_of};

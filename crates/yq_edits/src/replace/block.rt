@@ -2,7 +2,7 @@
 ghost use Rattle.std.specs.Prelude.{◌≡◌, [], IfOk, true};
 ghost use Rattle.yq_inline.specs.Values.{node_of};
 ghost use Rattle.yq_scalar.specs.BlockWritten.{break_text};
-ghost use Rattle.yq_scalar.specs.Writable.{is_string};
+ghost use Rattle.yq_flow_scalars.specs.Writable.{is_string};
 ghost use Rattle.yq_places.specs.NodesAt.{scalar_in};
 ghost use Rattle.yq_places.specs.StandingViews.{held_view, held_mark_view};
 ghost use Rattle.yq_edits.specs.ReplaceEdits as spec;
@@ -14,7 +14,8 @@ use std::alloc::{AllocError, Global};
 use yq_block::{Layout, is_filled};
 use yq_inline::Value;
 use yq_places::Held;
-use yq_scalar::{Kind, Place, Scalar, Style, can_write, write_block, write_scalar};
+use yq_flow_scalars::{Kind, Place, Scalar, Style, can_write};
+use yq_scalar::{write_block, write_scalar};
 use yq_script::{Segment, Segments};
 use yq_text::Halves;
 

@@ -14,7 +14,7 @@ use std::alloc::{AllocError, Global};
 use yq_block::{Layout, push_block};
 use yq_inline::Value;
 use yq_places::{BlockRoot, Lone, NoRows};
-use yq_scalar::Place;
+use yq_flow_scalars::Place;
 use yq_scalar::block_written::break_text;
 use yq_script::{Segment, Segments};
 use yq_text::Halves;

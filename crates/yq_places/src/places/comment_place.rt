@@ -1,6 +1,6 @@
 //! Where the comments of entries and items stand.
 ghost use Rattle.std.specs.Prelude.{◌≡◌, ◌<◌, ◌≤◌, ◌+◌, length, option_map, slice_get, Some};
-ghost use Rattle.yq_scalar.specs.Characters.{text_limit};
+ghost use Rattle.yq_flow_scalars.specs.Characters.{text_limit};
 ghost use Rattle.yq_rows.specs.View.{Slices};
 ghost use Rattle.yq_places.specs.CommentReading as spec;
 ghost use Rattle.yq_walk.specs.Extents as extents;
@@ -15,8 +15,8 @@ use crate::cut_text::CutText;
 use crate::places::stretch::RowLine;
 use yq_documents::{Path, Span, is_comment, last_run};
 use yq_rows::Rows;
-use yq_scalar::lines::split_at_break;
-use yq_scalar::text::split_white;
+use yq_flow_scalars::lines::split_at_break;
+use yq_flow_scalars::text::split_white;
 use yq_walk::{front_len, row_start};
 
 /// The place of the comment in a tail that begins at a place.

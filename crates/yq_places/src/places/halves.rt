@@ -4,12 +4,12 @@ ghost use Rattle.std.specs.Prelude.{◌≡◌, ◌==◌, ◌≤◌, length, slic
 ghost use Rattle.std.specs.Str.{IsUtf8};
 ghost use Rattle.yq_text.specs.Halves.{whole};
 ghost use Rattle.yq_rows.specs.Reading as reading;
-ghost use Rattle.yq_scalar.specs.Text as scan;
+ghost use Rattle.yq_flow_scalars.specs.Text as scan;
 ghost use Rattle.yq_places.specs.FirstPlaces as spaces;
 ghost use Rattle.yq_places.specs.PrintedLines as lines;
 
-use yq_scalar::lines::{is_line, line_len};
-use yq_scalar::text::{is_break, spaces_len, whites_len};
+use yq_flow_scalars::lines::{is_line, line_len};
+use yq_flow_scalars::text::{is_break, spaces_len, whites_len};
 use yq_text::Halves;
 
 /// Two halves are whole characters, and so is the text.

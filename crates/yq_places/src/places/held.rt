@@ -1,7 +1,7 @@
 //! Keys and dashes of a text, with what they hold.
 ghost use Rattle.std.specs.Prelude.{◌≡◌, ◌||◌, not, option_map};
 ghost use Rattle.yq_text.specs.Halves.{whole};
-ghost use Rattle.yq_scalar.specs.Text.{is_empty};
+ghost use Rattle.yq_flow_scalars.specs.Text.{is_empty};
 ghost use Rattle.yq_rows.specs.View.{view};
 ghost use Rattle.yq_documents.specs.Located.{steps_of};
 ghost use Rattle.yq_documents.specs.Reading.{cut_of};

@@ -23,7 +23,7 @@ use yq_documents::Path;
 use yq_inline::{Form, Inline, Step};
 use yq_lines::{Content, Head};
 use yq_rows::Rows;
-use yq_scalar::Kind;
+use yq_flow_scalars::Kind;
 use yq_walk::{Position, Stretch, behind, is_deeper, is_item_at};
 
 /// What a node is, as far as updates ask.

@@ -7,7 +7,7 @@ ghost use Rattle.yq_rows.specs.Removal.{block_numbers, hold_comment, last_block}
 ghost use Rattle.yq_rows.specs.Rows.{Cut, Part, Row as RowOf};
 ghost use Rattle.yq_rows.specs.View.{rows_of, rows_view};
 ghost use Rattle.yq_scalar.specs.Block.{BlockText};
-ghost use Rattle.yq_scalar.specs.Text.{joined, lines_of as text_lines};
+ghost use Rattle.yq_flow_scalars.specs.Text.{joined, lines_of as text_lines};
 ghost use Rattle.yq_walk.specs.Extents.{IsRowsView};
 ghost use Rattle.yq_documents.specs.Located.{steps_of};
 ghost use Rattle.yq_documents.specs.Pieces as pieces;
@@ -25,7 +25,7 @@ use yq_documents::{Path, last_run};
 use yq_inline::Step;
 use yq_rows::Rows;
 use yq_scalar::block_lines::is_blank;
-use yq_scalar::lines::split_line;
+use yq_flow_scalars::lines::split_line;
 use yq_text::Halves;
 use yq_walk::{KnownItems, Stretch, behind, row_start};
 

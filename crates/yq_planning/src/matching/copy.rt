@@ -1,8 +1,8 @@
 //! Copies of nodes, as values.
 ghost use Rattle.std.specs.Prelude.{◌≡◌, map, IfOk, string_bytes};
 ghost use Rattle.yq_inline.specs.Values.{field_of, node_of as value_node};
-ghost use Rattle.yq_scalar.specs.Scalar.{IsScalar};
-ghost use Rattle.yq_scalar.specs.Tree.{children_of};
+ghost use Rattle.yq_flow_scalars.specs.Scalar.{IsScalar};
+ghost use Rattle.yq_flow_scalars.specs.Tree.{children_of};
 ghost use Rattle.yq_documents.specs.Nodes.{label_of, node_of};
 ghost use Rattle.yq_meaning.specs.Copies as spec;
 ghost use Rattle.yq_meaning.specs.Judgement.{Judges};
@@ -15,7 +15,7 @@ use std::alloc::{AllocError, Global};
 use yq_documents::{Node, NodeKind};
 use yq_inline::Value;
 use yq_meaning::{ExprError, Refusal};
-use yq_scalar::{Kind, Scalar};
+use yq_flow_scalars::{Kind, Scalar};
 
 /// The scalar of that kind and text.
 fn scalar_of(alloc: Global, kind: Kind, text: &str) -> Result<Scalar, AllocError>

@@ -1,7 +1,7 @@
 //! Where a step leads from a node.
 ghost use Rattle.std.specs.Prelude.{◌≡◌, option_map, Some};
-ghost use Rattle.yq_scalar.specs.Paths.{To, Nth};
-ghost use Rattle.yq_scalar.specs.Tree.{children_of};
+ghost use Rattle.yq_flow_scalars.specs.Paths.{To, Nth};
+ghost use Rattle.yq_flow_scalars.specs.Tree.{children_of};
 ghost use Rattle.yq_documents.specs.Nodes.{node_of};
 ghost use Rattle.yq_meaning.specs.Judgement.{Judges};
 ghost use Rattle.yq_meaning.specs.Matching as spec;
@@ -10,7 +10,7 @@ ghost use Rattle.yq_planning.specs.PlaceView.{found_of};
 use crate::matching::place::NodeStep;
 use yq_documents::{Node, NodeKind};
 use yq_meaning::{ExprError, Refusal};
-use yq_scalar::Kind;
+use yq_flow_scalars::Kind;
 
 /// The entry of a key, if there is one, with the step that leads to it.
 fn entry<'a, 't>(node: Node<'a, 't>, key: &'a str) -> Option<(NodeStep<'a>, Node<'a, 't>)>

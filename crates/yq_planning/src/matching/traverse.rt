@@ -1,7 +1,7 @@
 //! Where steps lead from places: each acts on all of them before the next one
 //! does.
 ghost use Rattle.std.specs.Prelude.{◌≡◌, ◌++◌, map, IfOk, OnOk};
-ghost use Rattle.yq_scalar.specs.Tree.{children_of};
+ghost use Rattle.yq_flow_scalars.specs.Tree.{children_of};
 ghost use Rattle.yq_documents.specs.Nodes.{label_of, node_of};
 ghost use Rattle.yq_meaning.specs.Judgement.{Judges};
 ghost use Rattle.yq_planning.specs.PlaceView.{found_of, node_step_of, place_of, places_of, put_behind};
@@ -16,7 +16,7 @@ use std::alloc::{AllocError, Global};
 use yq_documents::{Node, NodeKind};
 use yq_meaning::{ExprError, Refusal};
 use yq_program::Step;
-use yq_scalar::Kind;
+use yq_flow_scalars::Kind;
 
 /// Puts the place from which the step is missing behind others. `[]` leads to
 /// none there.

@@ -1,7 +1,7 @@
 //! A value that is added to a node.
 ghost use Rattle.std.specs.Prelude.{◌≡◌, IfOk, None, Some, map, false};
 ghost use Rattle.yq_inline.specs.Values.{entries_of, node_of as value_node, items_of};
-ghost use Rattle.yq_scalar.specs.Tree.{Children, children_of, none, scalar};
+ghost use Rattle.yq_flow_scalars.specs.Tree.{Children, children_of, none, scalar};
 ghost use Rattle.yq_documents.specs.Nodes.{node_of};
 ghost use Rattle.yq_meaning.specs.Changes as spec;
 ghost use Rattle.yq_planning.specs.ChangeView.{addition_of, change_of};
@@ -17,7 +17,7 @@ use std::alloc::{AllocError, Global};
 use yq_documents::{Node, NodeKind};
 use yq_inline::Value;
 use yq_meaning::{ExprError, Refusal};
-use yq_scalar::Kind;
+use yq_flow_scalars::Kind;
 
 /// A value that is added to a scalar.
 fn to_scalar(alloc: Global, kind: Kind, text: &str, value: &Value) -> Result<Change, ExprError>

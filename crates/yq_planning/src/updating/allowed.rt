@@ -1,9 +1,9 @@
 //! What refuses a change.
 ghost use Rattle.std.specs.List.{list_any};
 ghost use Rattle.std.specs.Prelude.{◌≡◌, ◌∷◌, [], IfOk, List, Some, length, map};
-ghost use Rattle.yq_scalar.specs.Paths.{Step as TreeStep, node_at};
-ghost use Rattle.yq_scalar.specs.Tree.{Children, Node as TreeNode, children_of};
-ghost use Rattle.yq_scalar.specs.Anchors.{Name, names_of};
+ghost use Rattle.yq_flow_scalars.specs.Paths.{Step as TreeStep, node_at};
+ghost use Rattle.yq_flow_scalars.specs.Tree.{Children, Node as TreeNode, children_of};
+ghost use Rattle.yq_flow_scalars.specs.Anchors.{Name, names_of};
 ghost use Rattle.yq_documents.specs.Nodes.{node_of};
 ghost use Rattle.yq_meaning.specs.Changes as spec;
 ghost use Rattle.yq_planning.specs.ChangeView.{addition_of, change_of};

@@ -1,8 +1,8 @@
 //! Anchors that aliases of a document name.
 ghost use Rattle.std.specs.List.{list_any};
 ghost use Rattle.std.specs.Prelude.{◌≡◌, ◌||◌, IfOk, List, OnOk, is_some, ℕ};
-ghost use Rattle.yq_scalar.specs.Tree.{children_of};
-ghost use Rattle.yq_scalar.specs.Anchors.{Name, names_in, names_of};
+ghost use Rattle.yq_flow_scalars.specs.Tree.{children_of};
+ghost use Rattle.yq_flow_scalars.specs.Anchors.{Name, names_in, names_of};
 ghost use Rattle.yq_documents.specs.Nodes.{anchor_of, node_of};
 ghost use Rattle.yq_meaning.specs.Changes as spec;
 ghost use Rattle.yq_planning.specs.Indexes.{HasAliases, get_text};

@@ -1,7 +1,7 @@
 //! The entries of a mapping, by their keys.
 ghost use Rattle.std.specs.Prelude.{◌≡◌, IfOk, List, OnOk, option_map, ℕ};
-ghost use Rattle.yq_scalar.specs.Paths.{To, child_at};
-ghost use Rattle.yq_scalar.specs.Tree.{Children, children_of};
+ghost use Rattle.yq_flow_scalars.specs.Paths.{To, child_at};
+ghost use Rattle.yq_flow_scalars.specs.Tree.{Children, children_of};
 ghost use Rattle.yq_documents.specs.Nodes.{label_of, node_of};
 ghost use Rattle.yq_planning.specs.Indexes.{IsIndex, kept_first, get_text};
 

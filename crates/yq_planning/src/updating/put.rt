@@ -2,7 +2,7 @@
 ghost use Rattle.std.specs.List.{list_any};
 ghost use Rattle.std.specs.Prelude.{◌≡◌, ◌∷◌, [], IfOk, map};
 ghost use Rattle.yq_inline.specs.Values.{node_of as value_node};
-ghost use Rattle.yq_scalar.specs.Tree as tree;
+ghost use Rattle.yq_flow_scalars.specs.Tree as tree;
 ghost use Rattle.yq_documents.specs.Nodes.{node_of};
 ghost use Rattle.yq_documents.specs.TreeEdits.{new_label};
 ghost use Rattle.yq_meaning.specs.Changes as spec;

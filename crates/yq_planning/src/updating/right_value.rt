@@ -19,7 +19,7 @@ use std::alloc::Global;
 use yq_inline::Value;
 use yq_meaning::{ExprError, Refusal};
 use yq_program::{Stage, Term};
-use yq_scalar::Scalar;
+use yq_flow_scalars::Scalar;
 
 /// A copy of the value at the one place that there is.
 fn only(alloc: Global, places: &[Place<'_, '_>]) -> Result<Value, ExprError>

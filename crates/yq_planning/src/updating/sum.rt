@@ -2,10 +2,10 @@
 ghost use Rattle.std.specs.Fmt.{signed_decimal};
 ghost use Rattle.std.specs.Prelude.{◌≡◌, ◌++◌, IfOk, None, OnOk, Some, map, option_map, string_bytes};
 ghost use Rattle.yq_inline.specs.Values.{entries_of, field_of, items_of, node_of};
-ghost use Rattle.yq_scalar.specs.SchemaReading as numbers;
-ghost use Rattle.yq_scalar.specs.Tree.{scalar};
-ghost use Rattle.yq_scalar.specs.declared.kind.Kind.TheVariants.{Int, Text};
-ghost use Rattle.yq_scalar.specs.Paths.{append_children};
+ghost use Rattle.yq_flow_scalars.specs.SchemaReading as numbers;
+ghost use Rattle.yq_flow_scalars.specs.Tree.{scalar};
+ghost use Rattle.yq_flow_scalars.specs.declared.kind.Kind.TheVariants.{Int, Text};
+ghost use Rattle.yq_flow_scalars.specs.Paths.{append_children};
 ghost use Rattle.yq_planning.specs.EntryNumbers.{AreNumbered};
 ghost use Rattle.yq_meaning.specs.Judgement.{Judges};
 ghost use Rattle.yq_meaning.specs.RightValues as spec;
@@ -14,7 +14,8 @@ use crate::updating::key_numbers::{KeyNumbers, keep_number, number_of, numbers_o
 use std::alloc::{AllocError, Global};
 use yq_inline::Value;
 use yq_meaning::{ExprError, Refusal};
-use yq_scalar::{Kind, Scalar, int_value};
+use yq_flow_scalars::{Kind, Scalar};
+use yq_scalar::int_value;
 
 /// The int of a number.
 fn int(alloc: Global, number: i64) -> Result<Value, AllocError>

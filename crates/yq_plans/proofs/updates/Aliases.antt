@@ -2,9 +2,9 @@
 use Rattle.std.proofs.Common.{◌≡◌, ℕ, suc, ◌⊎◌, Bool, true, false, cond, List, [], ◌∷◌, map, Option, Some, None, refl, subst, inl, inr}
 use Rattle.std.proofs.lemmas.Bool.{cond_both}
 use Rattle.std.proofs.lemmas.Option.{none-some, same_Some}
-use Rattle.yq_scalar.specs.Tree as tree
-use Rattle.yq_scalar.specs.Tree.{Label, Node, alias, scalar, list, Children, none, child}
-use Rattle.yq_scalar.specs.Paths.{Step, To, is_here, further, change_child, append_child, within}
+use Rattle.yq_flow_scalars.specs.Tree as tree
+use Rattle.yq_flow_scalars.specs.Tree.{Label, Node, alias, scalar, list, Children, none, child}
+use Rattle.yq_flow_scalars.specs.Paths.{Step, To, is_here, further, change_child, append_child, within}
 use Rattle.yq_meaning.specs.Changes.{Addition, appends, overwrites, Change, replaces, adds, sets_comment, Changed, value_in}
 use Rattle.yq_meaning.specs.NodeEdits.{NodeEdit, becomes, line, head, goes, NodeEdits, step_to, under, done_at, child_by, inside, each_at_once, at_once, same_path, done_by}
 use Rattle.yq_meaning.specs.Meaning.{add_to, add_all, placed_edit, node_edit_of}

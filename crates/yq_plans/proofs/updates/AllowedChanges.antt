@@ -2,11 +2,11 @@
 use Rattle.std.proofs.Common.{◌≡◌, ◌≢◌, ℕ, suc, Bool, true, false, cond, ◌||◌, List, [], ◌∷◌, ◌++◌, length, map, Option, Some, None, is_some, option_map, refl, sym, ap, subst, ◌∙◌}
 use Rattle.std.specs.Prelude.{ℤ}
 use Rattle.std.specs.List.{list_any}
-use Rattle.yq_scalar.specs.Tree as tree
-use Rattle.yq_scalar.specs.Tree.{Node, alias, scalar, list, Children, none, child}
-use Rattle.yq_scalar.specs.Paths as paths
-use Rattle.yq_scalar.specs.Paths.{To, key_is, child_at, node_at, change_child, append_child}
-use Rattle.yq_scalar.specs.Anchors.{names_of}
+use Rattle.yq_flow_scalars.specs.Tree as tree
+use Rattle.yq_flow_scalars.specs.Tree.{Node, alias, scalar, list, Children, none, child}
+use Rattle.yq_flow_scalars.specs.Paths as paths
+use Rattle.yq_flow_scalars.specs.Paths.{To, key_is, child_at, node_at, change_child, append_child}
+use Rattle.yq_flow_scalars.specs.Anchors.{names_of}
 use Rattle.yq_meaning.specs.Judgement.{Judgement, gives}
 use Rattle.yq_meaning.specs.Matching.{ChildFound, find, key_step, index_step}
 use Rattle.yq_meaning.specs.Changes.{Addition, appends, overwrites, addition, additions, is_long, has_long_key, writes_long_key, value_in, is_deep, is_used_inside, overwrites_used}
@@ -14,7 +14,7 @@ use Rattle.yq_meaning.specs.Conditions.{holds}
 use Rattle.yq_meaning.specs.Meaning.{add_to}
 use Rattle.yq_meaning.specs.Pipes.{kept, places, select_on}
 use Rattle.yq_meaning.specs.Places.{Place, root_place, child_place, for_each, miss, found_place, all_steps, step_there, step_from, step_on}
-use Rattle.yq_scalar.specs.Shapes.{IsNew, AreItems, AreEntries, IsTree, AreTrees}
+use Rattle.yq_flow_scalars.specs.Shapes.{IsNew, AreItems, AreEntries, IsTree, AreTrees}
 use Rattle.yq_documents.specs.TreeEdits.{replaced, new_label}
 use Rattle.yq_program.specs.Program.{Step, key, index, each, Condition, Stage}
 use Rattle.yq_meaning.proofs.JudgementLaws.{then_gives, gives_same}

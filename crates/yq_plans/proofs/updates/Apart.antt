@@ -2,13 +2,13 @@
 use Rattle.std.proofs.Common.{◌≡◌, ◌≢◌, ℕ, zero, suc, ◌+◌, ◌<◌, ◌⊎◌, Bool, true, false, cond, List, [], ◌∷◌, Option, Some, None, option_map, option_and_then, refl, sym, ap, subst, ◌∙◌, inl, inr, arith}
 use Rattle.std.proofs.lemmas.Bool.{cases_Bool, cond-false, cond-true, cond_both}
 use Rattle.std.specs.Str.{bytes_eq}
-use Rattle.yq_scalar.specs.Tree as tree
-use Rattle.yq_scalar.specs.Tree.{Label, Node, alias, scalar, list, Children, none, child, children_of}
-use Rattle.yq_scalar.specs.Paths.{Step, To, Nth, key_is, is_item, child_at, node_at, change}
+use Rattle.yq_flow_scalars.specs.Tree as tree
+use Rattle.yq_flow_scalars.specs.Tree.{Label, Node, alias, scalar, list, Children, none, child, children_of}
+use Rattle.yq_flow_scalars.specs.Paths.{Step, To, Nth, key_is, is_item, child_at, node_at, change}
 use Rattle.yq_meaning.specs.NodeEdits.{NodeEdit, becomes, goes, NodeEdits, under, done_at, child_by, inside, each_at_once, at_once, same_path, and_at, done_by, one_at}
 use Rattle.yq_meaning.specs.Places.{step_by}
-use Rattle.yq_scalar.specs.PathOrder.{Before, Apart}
-use Rattle.yq_scalar.specs.Shapes.{AreItems, AreEntries, IsTree}
+use Rattle.yq_flow_scalars.specs.PathOrder.{Before, Apart}
+use Rattle.yq_flow_scalars.specs.Shapes.{AreItems, AreEntries, IsTree}
 use Rattle.yq_plans.proofs.updates.AtOnce.{one_more}
 use Rattle.yq_meaning.proofs.ChildPlaces.{child_tree, children_tree}
 use Rattle.yq_meaning.proofs.PathLaws.{apart_root, bytes_refl, bytes_same}

@@ -2,11 +2,11 @@
 use Rattle.std.proofs.Common.{◌≡◌, ℕ, true, false, List, [], ◌∷◌, Some, None, refl}
 use Rattle.std.specs.Prelude.{codes, pos, negsuc}
 use Rattle.std.specs.Str.{chars}
-use Rattle.yq_scalar.specs.declared.kind.Kind.TheVariants as kinds
-use Rattle.yq_scalar.specs.Paths.{To}
-use Rattle.yq_scalar.specs.SchemaReading.{resolve, is_int, is_float}
-use Rattle.yq_scalar.specs.Tree.{Node, alias, scalar, list, map, Children, none, child}
-use Rattle.yq_scalar.specs.Writable.{can_write_plain}
+use Rattle.yq_flow_scalars.specs.declared.kind.Kind.TheVariants as kinds
+use Rattle.yq_flow_scalars.specs.Paths.{To}
+use Rattle.yq_flow_scalars.specs.SchemaReading.{resolve, is_int, is_float}
+use Rattle.yq_flow_scalars.specs.Tree.{Node, alias, scalar, list, map, Children, none, child}
+use Rattle.yq_flow_scalars.specs.Writable.{can_write_plain}
 use Rattle.yq_inline.specs.Written.{scalar_text}
 use Rattle.yq_documents.specs.Documents.{Document}
 use Rattle.yq_documents.specs.TreeEdits.{new_label}

@@ -2,10 +2,10 @@
 use Rattle.std.proofs.Common.{◌≡◌, ℕ, suc, Bool, true, false, cond, List, [], ◌∷◌, ◌++◌, length, map, reverse, Option, Some, None, option_and_then, refl, sym, ap, subst, ◌∙◌, inl, inr, append-nil, arith, length-append}
 use Rattle.std.proofs.lemmas.List.{reverse-reverse}
 use Rattle.std.proofs.lemmas.Option.{same_Some}
-use Rattle.yq_scalar.specs.Tree as tree
-use Rattle.yq_scalar.specs.Tree.{Node, alias, scalar, list, Children, none, child, children_of}
-use Rattle.yq_scalar.specs.Paths.{Step, To, is_here, further, child_at, node_at, change_child, within, change}
-use Rattle.yq_scalar.specs.Anchors.{names_of}
+use Rattle.yq_flow_scalars.specs.Tree as tree
+use Rattle.yq_flow_scalars.specs.Tree.{Node, alias, scalar, list, Children, none, child, children_of}
+use Rattle.yq_flow_scalars.specs.Paths.{Step, To, is_here, further, child_at, node_at, change_child, within, change}
+use Rattle.yq_flow_scalars.specs.Anchors.{names_of}
 use Rattle.yq_program.specs.declared.program.CommentPlace.TheVariants as comments
 use Rattle.yq_meaning.specs.After.{root_after}
 use Rattle.yq_meaning.specs.Changes.{Addition, appends, overwrites, replaces, adds, sets_comment, Changed, Room, is_long, is_used_inside, is_used_in}
@@ -15,8 +15,8 @@ use Rattle.yq_plans.proofs.updates.Mentions.{AnyMentions}
 use Rattle.yq_meaning.specs.Meaning.{add_to}
 use Rattle.yq_meaning.specs.Operations.{Operation}
 use Rattle.yq_meaning.specs.Plans.{add_op, change_ops, ops_of, ordered}
-use Rattle.yq_scalar.specs.PathOrder.{Before, Apart}
-use Rattle.yq_scalar.specs.Shapes.{IsTree}
+use Rattle.yq_flow_scalars.specs.PathOrder.{Before, Apart}
+use Rattle.yq_flow_scalars.specs.Shapes.{IsTree}
 use Rattle.yq_meaning.specs.Changes as changes
 use Rattle.yq_plans.proofs.updates.Aliases.{AddNone, one_no_more, WritesNone, all_bring, at_once_no_more}
 use Rattle.yq_plans.proofs.updates.Mentions.{MentionsNoMore, inside_less, in_less}

@@ -1,16 +1,16 @@
 -- Operations on a root, one after the other, make all changes at once.
 use Rattle.std.proofs.Common.{◌≡◌, ℕ, Bool, true, false, cond, List, [], ◌∷◌, ◌++◌, map, reverse, Some, refl, sym, ap, subst, ◌∙◌, inl, inr, append-nil, append_assoc}
 use Rattle.std.proofs.lemmas.List.{reverse-reverse}
-use Rattle.yq_scalar.specs.Tree.{Node}
-use Rattle.yq_scalar.specs.Paths.{Step}
+use Rattle.yq_flow_scalars.specs.Tree.{Node}
+use Rattle.yq_flow_scalars.specs.Paths.{Step}
 use Rattle.yq_meaning.specs.Changes.{Change, replaces, adds, sets_comment, Changed}
 use Rattle.yq_meaning.specs.NodeEdits.{NodeEdit, becomes, line, head, goes, NodeEdits, at_once, same_step, same_path, and_at, done_by}
 use Rattle.yq_meaning.specs.Meaning.{placed_edit, node_edit_of}
 use Rattle.yq_meaning.specs.Operations.{Operation}
 use Rattle.yq_meaning.specs.Plans.{change_ops, ops_of, is_removal, ordered}
 use Rattle.yq_program.specs.Program.{Update, assign, delete, comment}
-use Rattle.yq_scalar.specs.PathOrder.{Before, Apart}
-use Rattle.yq_scalar.specs.Shapes.{IsTree}
+use Rattle.yq_flow_scalars.specs.PathOrder.{Before, Apart}
+use Rattle.yq_flow_scalars.specs.Shapes.{IsTree}
 use Rattle.yq_meaning.specs.Changes as changes
 use Rattle.yq_program.specs.declared.program.CommentPlace.TheVariants as comments
 use Rattle.yq_plans.proofs.updates.AtOnce.{one_more}
@@ -18,7 +18,7 @@ use Rattle.yq_meaning.proofs.PathLaws.{bytes_same, parts_not}
 use Rattle.yq_plans.proofs.updates.Spares.{idle, IsSpared, Spares, node_edits_same}
 use Rattle.yq_plans.proofs.updates.OneAt.{roots_after, roots_join, change_after}
 use Rattle.std.proofs.lemmas.Bool.{false≢true, eqb-true, and_parts, cond_both}
-use Rattle.yq_scalar.specs.Paths.{To, Nth}
+use Rattle.yq_flow_scalars.specs.Paths.{To, Nth}
 use Rattle.yq_plans.proofs.updates.Each.{Each, each_join, each_reverse, each_weaker, reverse-cons}
 
 -- ---- which path is which

@@ -4,11 +4,11 @@ use Rattle.std.proofs.Math.Bool.{or-false}
 use Rattle.std.specs.List.{list_any}
 use Rattle.std.specs.Str.{bytes_eq}
 use Rattle.std.proofs.lemmas.Bool.{false≢true, or_cases, or_left, or_right}
-use Rattle.yq_scalar.specs.Tree as tree
-use Rattle.yq_scalar.specs.Tree.{Node, alias, scalar, list, Children, none, child, children_of}
-use Rattle.yq_scalar.specs.Anchors.{Name, Anchors, Refers, with_anchor, names_of, names_in}
+use Rattle.yq_flow_scalars.specs.Tree as tree
+use Rattle.yq_flow_scalars.specs.Tree.{Node, alias, scalar, list, Children, none, child, children_of}
+use Rattle.yq_flow_scalars.specs.Anchors.{Name, Anchors, Refers, with_anchor, names_of, names_in}
 use Rattle.yq_meaning.specs.Changes.{refers_to, is_used, is_used_inside, is_used_in}
-use Rattle.yq_scalar.specs.Shapes.{IsTree}
+use Rattle.yq_flow_scalars.specs.Shapes.{IsTree}
 use Rattle.yq_program.specs.Program.{IsValue}
 
 abbrev mutual

@@ -1,13 +1,13 @@
 -- The places to which a pipe leads are apart.
 use Rattle.std.proofs.Common.{◌≡◌, ℕ, Bool, true, false, List, [], ◌∷◌, refl, subst}
-use Rattle.yq_scalar.specs.Tree.{Node}
+use Rattle.yq_flow_scalars.specs.Tree.{Node}
 use Rattle.yq_meaning.specs.Judgement.{gives}
 use Rattle.yq_program.specs.Program.{Step, Condition, Stage, path, select}
 use Rattle.yq_meaning.specs.Conditions.{holds}
 use Rattle.yq_meaning.specs.Pipes.{kept, select_on, stage_on, pipe_on, places}
 use Rattle.yq_meaning.specs.Places.{Place, root_place, for_each, step_on, chained, traverse}
 use Rattle.yq_meaning.specs.PlacesApart.{AreApart, AreIn}
-use Rattle.yq_scalar.specs.Shapes.{IsTree}
+use Rattle.yq_flow_scalars.specs.Shapes.{IsTree}
 use Rattle.yq_meaning.proofs.JudgementLaws.{then_gives, gives_same}
 use Rattle.yq_meaning.proofs.GoodPlaces.{AreSound, LeadsInto, LeadsSo, AreGood, each_good}
 use Rattle.yq_meaning.proofs.ChildPlaces.{leads_none, leads_self}

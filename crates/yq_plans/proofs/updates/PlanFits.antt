@@ -1,7 +1,7 @@
 -- Each operation of a plan fits at its turn.
 use Rattle.std.proofs.Common.{◌≡◌, ℕ, suc, Bool, true, false, cond, List, [], ◌∷◌, ◌++◌, length, reverse, Some, refl, sym, ap, subst, ◌∙◌, inl, inr, append_assoc, arith, length-append}
 use Rattle.std.specs.List.{slice_get}
-use Rattle.yq_scalar.specs.Tree.{Node}
+use Rattle.yq_flow_scalars.specs.Tree.{Node}
 use Rattle.yq_documents.specs.Documents.{Document}
 use Rattle.yq_meaning.specs.declared.refusal.Refusal.TheVariants.{BadCommentText}
 use Rattle.yq_meaning.specs.Judgement.{and_then, gives, refuses}
@@ -11,7 +11,7 @@ use Rattle.yq_meaning.specs.Fits.{FitsRoot, AllFit}
 use Rattle.yq_meaning.specs.Meaning.{changed_at_once, roots_of, AreReady}
 use Rattle.yq_meaning.specs.Operations.{Operation}
 use Rattle.yq_meaning.specs.Plans.{change_ops, ops_of, is_removal, ordered, all_ops, plan}
-use Rattle.yq_scalar.specs.PathOrder.{Before}
+use Rattle.yq_flow_scalars.specs.PathOrder.{Before}
 use Rattle.yq_program.specs.Program.{UpdatesHold, Update}
 use Rattle.yq_meaning.specs.Changes as changes
 use Rattle.yq_plans.proofs.updates.FitsInOrder.{AllFitRoot, all_fit, AreFit}

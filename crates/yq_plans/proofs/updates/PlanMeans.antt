@@ -1,6 +1,6 @@
 -- What is planned leads to what is meant.
 use Rattle.std.proofs.Common.{◌≡◌, ℕ, suc, Bool, true, false, cond, List, [], ◌∷◌, ◌++◌, length, map, refl, sym, ap, subst, ◌∙◌, append_assoc, arith, length-append}
-use Rattle.yq_scalar.specs.Paths as paths
+use Rattle.yq_flow_scalars.specs.Paths as paths
 use Rattle.yq_documents.specs.Documents.{Document}
 use Rattle.yq_program.specs.declared.program.CommentPlace.TheVariants as comments
 use Rattle.yq_meaning.specs.declared.refusal.Refusal.{Refusal}

@@ -1,9 +1,9 @@
 -- What an update changes stands in order.
 use Rattle.std.proofs.Common.{◌≡◌, ◌≢◌, ℕ, Bool, true, false, cond, ◌&&◌, List, [], ◌∷◌, ◌++◌, length, None, refl, sym, ap, subst, ◌∙◌}
 use Rattle.std.specs.List.{list_any}
-use Rattle.yq_scalar.specs.Tree as tree
-use Rattle.yq_scalar.specs.Tree.{Node, alias, scalar, list, Children, none, child, children_of}
-use Rattle.yq_scalar.specs.Paths as paths
+use Rattle.yq_flow_scalars.specs.Tree as tree
+use Rattle.yq_flow_scalars.specs.Tree.{Node, alias, scalar, list, Children, none, child, children_of}
+use Rattle.yq_flow_scalars.specs.Paths as paths
 use Rattle.yq_program.specs.declared.program.CommentPlace.{CommentPlace}
 use Rattle.yq_program.specs.declared.program.Operator.TheVariants as operator
 use Rattle.yq_meaning.specs.declared.refusal.Refusal.TheVariants.{IndexOutOfRange, NoPlaceForComment, AnchorInUse, TooDeep, KeyTooLong}
@@ -17,8 +17,8 @@ use Rattle.yq_meaning.specs.Places.{Place, root_place, for_each}
 use Rattle.yq_meaning.specs.PlacesApart.{IsBeforeAll, AreApart}
 use Rattle.yq_meaning.specs.Plans.{is_removal}
 use Rattle.yq_meaning.specs.RightValues.{is_null, sum, right_value}
-use Rattle.yq_scalar.specs.PathOrder.{Before}
-use Rattle.yq_scalar.specs.Shapes.{IsTree}
+use Rattle.yq_flow_scalars.specs.PathOrder.{Before}
+use Rattle.yq_flow_scalars.specs.Shapes.{IsTree}
 use Rattle.yq_plans.proofs.updates.Folds.{ToEach, InPairs, AllAre, IsGone, IsWritten, IsSaid, IsOf, MayFold, of_may_fold}
 use Rattle.yq_plans.proofs.updates.RootLeads.{NoneAt, NoneLater, FirstIn, IsFirst}
 use Rattle.yq_meaning.proofs.JudgementLaws.{then_gives, gives_same}

@@ -1,8 +1,8 @@
 -- Copies are trees without aliases.
 use Rattle.std.proofs.Common.{◌≡◌, ℕ, ◌⊎◌, List, [], ◌∷◌, Option, Some, None, refl, sym, ap, subst, ◌∙◌, inl, inr}
-use Rattle.yq_scalar.specs.Shapes.{IsNew, AreItems, AreEntries, IsTree, AreTrees}
-use Rattle.yq_scalar.specs.Tree as tree
-use Rattle.yq_scalar.specs.Tree.{Label, Node, alias, scalar, list, Children, none, child}
+use Rattle.yq_flow_scalars.specs.Shapes.{IsNew, AreItems, AreEntries, IsTree, AreTrees}
+use Rattle.yq_flow_scalars.specs.Tree as tree
+use Rattle.yq_flow_scalars.specs.Tree.{Label, Node, alias, scalar, list, Children, none, child}
 use Rattle.yq_inline.specs.Values.{item, entry, items, entries}
 use Rattle.yq_meaning.specs.Copies.{key_or_empty, and_others, keyed, copy, item_copies, entry_copies}
 use Rattle.yq_plans.proofs.updates.Mentions.{AnyMentions, IsPure}

@@ -1,9 +1,9 @@
 -- What is done spares a path: it is apart from it, and what goes stands behind.
 use Rattle.std.proofs.Common.{◌≡◌, ℕ, suc, ◌<◌, List, [], ◌∷◌, Option, Some, None, refl, ap, ◌∙◌, inl, inr}
-use Rattle.yq_scalar.specs.Tree.{Label, Node, alias, scalar, list, Children, none, child, map}
-use Rattle.yq_scalar.specs.Paths.{Nth, Step}
+use Rattle.yq_flow_scalars.specs.Tree.{Label, Node, alias, scalar, list, Children, none, child, map}
+use Rattle.yq_flow_scalars.specs.Paths.{Nth, Step}
 use Rattle.yq_meaning.specs.NodeEdits.{step_to, NodeEdit, becomes, line, head, goes, NodeEdits, under, done_at, child_by, inside, each_at_once, at_once}
-use Rattle.yq_scalar.specs.PathOrder.{Before, Apart}
+use Rattle.yq_flow_scalars.specs.PathOrder.{Before, Apart}
 use Rattle.yq_meaning.proofs.PathLaws.{before_not_in, before_under, apart_under, apart_root, apart_not_in}
 
 -- two functions that agree at each path

@@ -2,12 +2,12 @@
 use Rattle.std.proofs.Common.{◌≡◌, ℕ, List, [], ◌∷◌, map, Option, Some, None, option_map, refl, sym, ap, subst, ◌∙◌, inl, inr}
 use Rattle.std.proofs.lemmas.Option.{none-some, same_Some}
 use Rattle.std.specs.Prelude.{ℤ}
-use Rattle.yq_scalar.specs.declared.kind.Kind.{Kind}
-use Rattle.yq_scalar.specs.declared.kind.Kind.TheVariants as kinds
-use Rattle.yq_scalar.specs.Tree as tree
-use Rattle.yq_scalar.specs.Tree.{Node, alias, scalar, list, child, children_of}
-use Rattle.yq_scalar.specs.Paths as paths
-use Rattle.yq_scalar.specs.Paths.{To, Nth, child_at}
+use Rattle.yq_flow_scalars.specs.declared.kind.Kind.{Kind}
+use Rattle.yq_flow_scalars.specs.declared.kind.Kind.TheVariants as kinds
+use Rattle.yq_flow_scalars.specs.Tree as tree
+use Rattle.yq_flow_scalars.specs.Tree.{Node, alias, scalar, list, child, children_of}
+use Rattle.yq_flow_scalars.specs.Paths as paths
+use Rattle.yq_flow_scalars.specs.Paths.{To, Nth, child_at}
 use Rattle.yq_meaning.specs.declared.refusal.Refusal.{Refusal}
 use Rattle.yq_meaning.specs.declared.refusal.Refusal.TheVariants.{NotAMap, NotASequence}
 use Rattle.yq_meaning.specs.Judgement.{Judgement, and_then, gives}
@@ -15,7 +15,7 @@ use Rattle.yq_meaning.specs.Matching.{ChildFound, find, in_scalar, key_step, ite
 use Rattle.yq_program.specs.Program.{Step, key, index, each}
 use Rattle.yq_meaning.specs.Places.{Place, child_place, found_place, all_steps, step_there, step_from, step_on}
 use Rattle.yq_meaning.specs.PlacesApart.{IsIn}
-use Rattle.yq_scalar.specs.Shapes.{IsTree}
+use Rattle.yq_flow_scalars.specs.Shapes.{IsTree}
 use Rattle.yq_meaning.proofs.JudgementLaws.{then_gives, gives_same}
 use Rattle.yq_meaning.proofs.GoodPlaces.{LeadsInto, LeadsSo}
 use Rattle.yq_meaning.proofs.ChildPlaces.{leads_none, leads_missing, leads_child, leads_children}

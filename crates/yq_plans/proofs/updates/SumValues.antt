@@ -4,13 +4,13 @@ use Rattle.std.specs.Prelude.{ℤ, ◌+ℤ◌}
 use Rattle.std.specs.Fmt.{signed_decimal}
 use Rattle.std.proofs.lemmas.Bool.{false≢true}
 use Rattle.std.proofs.lemmas.Option.{none-some}
-use Rattle.yq_scalar.specs.declared.kind.Kind.{Kind}
-use Rattle.yq_scalar.specs.declared.kind.Kind.TheVariants as kinds
-use Rattle.yq_scalar.specs.Numbers.{is_i64}
-use Rattle.yq_scalar.specs.SchemaReading.{int_value}
-use Rattle.yq_scalar.specs.Tree as tree
-use Rattle.yq_scalar.specs.Tree.{Label, Node, alias, scalar, list, Children, none, child}
-use Rattle.yq_scalar.specs.Paths.{To, key_is, child_at, change_child, append_child, append_children}
+use Rattle.yq_flow_scalars.specs.declared.kind.Kind.{Kind}
+use Rattle.yq_flow_scalars.specs.declared.kind.Kind.TheVariants as kinds
+use Rattle.yq_flow_scalars.specs.Numbers.{is_i64}
+use Rattle.yq_flow_scalars.specs.SchemaReading.{int_value}
+use Rattle.yq_flow_scalars.specs.Tree as tree
+use Rattle.yq_flow_scalars.specs.Tree.{Label, Node, alias, scalar, list, Children, none, child}
+use Rattle.yq_flow_scalars.specs.Paths.{To, key_is, child_at, change_child, append_child, append_children}
 use Rattle.yq_meaning.specs.declared.refusal.Refusal.TheVariants.{IntegerRange}
 use Rattle.yq_meaning.specs.Judgement.{and_then, gives, refuses}
 use Rattle.yq_program.specs.Program.{SumHolds, Step, Term, literal, found}
@@ -21,7 +21,7 @@ use Rattle.yq_meaning.specs.Pipes.{pipe_on}
 use Rattle.yq_meaning.specs.Places.{Place}
 use Rattle.yq_meaning.specs.PlacesApart.{IsIn}
 use Rattle.yq_meaning.specs.RightValues.{is_null, int_sum, scalar_sum, as_items, with_entry, with_entries, value_sum, sum, only_copy, term_value, sum_from, right_value}
-use Rattle.yq_scalar.specs.Shapes.{IsNew, AreItems, AreEntries, IsTree}
+use Rattle.yq_flow_scalars.specs.Shapes.{IsNew, AreItems, AreEntries, IsTree}
 use Rattle.yq_documents.specs.TreeEdits.{new_label}
 use Rattle.yq_meaning.proofs.JudgementLaws.{then_gives, gives_same}
 use Rattle.yq_meaning.proofs.GoodPlaces.{AreSound}

@@ -4,13 +4,14 @@ ghost use Rattle.yq_program.specs.ReadAnswers.{ReadsForm, ReadsMaybe, Shortens, 
 ghost use Rattle.yq_program.specs.Lexing.{tokens};
 ghost use Rattle.yq_program.specs.Parse as spec;
 ghost use Rattle.yq_inline.specs.Values.{node_of, field_of};
-ghost use Rattle.yq_scalar.specs.Keys.{are_distinct};
+ghost use Rattle.yq_flow_scalars.specs.Keys.{are_distinct};
 
 use crate::error::ParseError;
 use crate::front::{after, expect, number, string};
 use std::alloc::{AllocError, Global};
 use yq_inline::Value;
-use yq_scalar::{Scalar, are_distinct};
+use yq_flow_scalars::Scalar;
+use yq_scalar::are_distinct;
 
 /// A word for a scalar, if one is in front, and what follows it.
 fn word(text: &str) -> Option<(&'static str, &str)>

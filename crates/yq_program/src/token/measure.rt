@@ -2,8 +2,8 @@
 ghost use Rattle.std.specs.Char.{is_ascii_digit};
 ghost use Rattle.std.specs.List.{prefix_len};
 ghost use Rattle.std.specs.Prelude.{◌≡◌, ◌==◌, ◌&&◌, ◌+◌, ◌^◌, ◌<◌, ◌≤◌, length, is_some, IfSome};
-ghost use Rattle.yq_scalar.specs.Text.{front};
-ghost use Rattle.yq_scalar.specs.SchemaReading.{is_one_of};
+ghost use Rattle.yq_flow_scalars.specs.Text.{front};
+ghost use Rattle.yq_flow_scalars.specs.SchemaReading.{is_one_of};
 ghost use Rattle.yq_program.specs.Lexing as spec;
 ghost use Rattle.yq_program.specs.Tokens as grammar;
 ghost use Rattle.yq_program.specs.Tokens.{is_name_byte};

@@ -1,7 +1,7 @@
 //! The content of strings.
 ghost use Rattle.std.specs.List.{prefix_len};
 ghost use Rattle.std.specs.Prelude.{◌≡◌, ◌-◌, ◌<◌, ◌≤◌, ℕ, List, [], ◌∷◌, length, drop, option_map, slice_index, string_bytes, IfSome, IfOk};
-ghost use Rattle.yq_scalar.specs.Text.{unless, cut};
+ghost use Rattle.yq_flow_scalars.specs.Text.{unless, cut};
 ghost use Rattle.yq_program.specs.Lexing as spec;
 ghost use Rattle.yq_program.specs.Tokens as grammar;
 
@@ -47,7 +47,7 @@ fn plain_len(text: &[u8]) -> usize
 }
 
 /// The text cut before the first quote or backslash.
-#[tactic(auto, using(crate::proofs::Content::boundary_plain, yq_scalar::proofs::Upto::upto_unless))]
+#[tactic(auto, using(crate::proofs::Content::boundary_plain, yq_flow_scalars::proofs::Upto::upto_unless))]
 fn split_plain(text: &str) -> (&str, &str)
     ensures { (result.0.now, result.1.now) ≡ cut (unless spec.is_plain) text.now }
 {

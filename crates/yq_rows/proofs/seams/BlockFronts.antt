@@ -4,8 +4,8 @@ use Rattle.std.proofs.lemmas.Bool.{cond_both, cases_Bool}
 use Rattle.yq_scalar.specs.Block.{Lines, BlockText, IsBlock, ends_block, keeps}
 use Rattle.yq_scalar.specs.BlockRepair.{AreGap, repair, is_behind}
 use Rattle.yq_scalar.specs.BlockWritten.{closed}
-use Rattle.yq_scalar.specs.Piece.{deeper}
-use Rattle.yq_scalar.specs.Text.{is_empty, lines_of, joined}
+use Rattle.yq_flow_scalars.specs.Piece.{deeper}
+use Rattle.yq_flow_scalars.specs.Text.{is_empty, lines_of, joined}
 use Rattle.yq_scalar.proofs.BlockRepairText.{repair_stands}
 use Rattle.yq_scalar.proofs.LineLaws.{joined-append}
 use Rattle.yq_rows.specs.Gap.{IsGapLine, AreGapLines, IsGap}

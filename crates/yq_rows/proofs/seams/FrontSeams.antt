@@ -2,7 +2,7 @@
 use Rattle.std.proofs.Common.{◌≡◌, ℕ, ℤ, true, false, ◌||◌, List, [], ◌∷◌, ◌++◌, refl, sym, ap, ◌∙◌, ⊎_elim, replicate, Some, subst}
 use Rattle.std.proofs.lemmas.Bool.{false≢true, or_right}
 use Rattle.yq_scalar.specs.Block.{keeps}
-use Rattle.yq_scalar.specs.Text.{is_empty, is_line, lines_of}
+use Rattle.yq_flow_scalars.specs.Text.{is_empty, is_line, lines_of}
 use Rattle.yq_inline.specs.Alike.{Alike}
 use Rattle.yq_rows.specs.Grammar.{IsTail, IsContent, IsRow, Limit, limit_after, AreRows, no_rows}
 use Rattle.yq_rows.specs.Rows.{Content, Nothing, Inline, Block, Row, behind_indent, behind_gap, parent_indent, print_row, rows_text}

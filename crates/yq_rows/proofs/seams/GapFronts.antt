@@ -3,8 +3,8 @@ use Rattle.std.proofs.Common.{◌≡◌, ℕ, Bool, true, false, not, List, [], 
 use Rattle.std.proofs.lemmas.Bool.{false≢true, not-false, not-true, and_parts, cases_Bool, or_parts}
 use Rattle.yq_scalar.specs.Block.{Lines, ends_block, is_empty_line, is_less_indented}
 use Rattle.yq_scalar.specs.declared.block_lines.TextIndent.{TextIndent}
-use Rattle.yq_scalar.specs.Lines.{behind_spaces, is_tab, is_blank}
-use Rattle.yq_scalar.specs.Text.{is_empty, ends_line, joined, lines_of}
+use Rattle.yq_flow_scalars.specs.Lines.{behind_spaces, is_tab, is_blank}
+use Rattle.yq_flow_scalars.specs.Text.{is_empty, ends_line, joined, lines_of}
 use Rattle.yq_scalar.specs.BlockRepair.{repair}
 use Rattle.yq_scalar.proofs.SpaceLaws.{char_not_blank}
 use Rattle.yq_scalar.proofs.LineLaws.{joined-append}

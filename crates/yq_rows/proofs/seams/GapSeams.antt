@@ -4,8 +4,8 @@ use Rattle.std.proofs.lemmas.Bool.{false≢true, cond_both, and_parts, cases_Boo
 use Rattle.yq_scalar.specs.Block.{Lines}
 use Rattle.yq_scalar.specs.BlockRepair.{AreGap, is_short, is_outside, repaired_blank, repaired_comment, repair}
 use Rattle.yq_scalar.specs.BlockWritten.{closed}
-use Rattle.yq_scalar.specs.Lines.{is_hash, is_blank}
-use Rattle.yq_scalar.specs.Text.{no_white, NoneIn, is_feed, is_return, is_break, is_empty, is_line, ends_line, front, past_white, put_byte, lines_of, joined}
+use Rattle.yq_flow_scalars.specs.Lines.{is_hash, is_blank}
+use Rattle.yq_flow_scalars.specs.Text.{no_white, NoneIn, is_feed, is_return, is_break, is_empty, is_line, ends_line, front, past_white, put_byte, lines_of, joined}
 use Rattle.yq_scalar.proofs.LineLaws.{lines_again}
 use Rattle.yq_rows.specs.Gap.{IsBreak, IsLineEnd, IsGapLine, AreGapLines, IsGap}
 use Rattle.yq_rows.proofs.EmptyTexts.{empty_is, none_is, empty_or}

@@ -1,7 +1,7 @@
 -- A row behind the dashes of another one.
 use Rattle.std.proofs.Common.{◌≡◌, ℕ, zero, suc, ℤ, ◌+◌, ◌≤◌, true, false, List, [], ◌∷◌, ◌++◌, refl, sym, ap, ◌∙◌, subst, arith, replicate, Some}
 use Rattle.std.proofs.lemmas.Bool.{false≢true}
-use Rattle.yq_scalar.specs.Text.{is_empty, separates}
+use Rattle.yq_flow_scalars.specs.Text.{is_empty, separates}
 use Rattle.yq_inline.specs.Alike.{Alike, byte}
 use Rattle.yq_rows.specs.Grammar.{IsContent, IsMark, AreDashes, is_entry, IsRow, Limit, limit_after, limit_behind}
 use Rattle.yq_rows.specs.Rows.{Mark, dashes_text, behind_columns, mark_column, parent_of, Row, behind_dashes, behind_indent, parent_indent, Dash, Content, content_text, mark_text}

@@ -5,8 +5,8 @@ use Rattle.std.proofs.lemmas.Bool.{false≢true, lt-ltb, not-true, or_cases, and
 use Rattle.yq_scalar.specs.Block.{is_less_indented}
 use Rattle.yq_scalar.specs.BlockRepair.{is_behind}
 use Rattle.yq_scalar.specs.declared.block_lines.TextIndent.{TextIndent}
-use Rattle.yq_scalar.specs.Lines.{spaces, behind_spaces, is_tab}
-use Rattle.yq_scalar.specs.Text.{front, is_white, is_feed, is_return, is_empty, is_marker, ends_line, put_byte, lines_of}
+use Rattle.yq_flow_scalars.specs.Lines.{spaces, behind_spaces, is_tab}
+use Rattle.yq_flow_scalars.specs.Text.{front, is_white, is_feed, is_return, is_empty, is_marker, ends_line, put_byte, lines_of}
 use Rattle.yq_scalar.proofs.SpaceLaws.{prefix_none, spaces_front, drop_front}
 use Rattle.yq_rows.specs.Grammar.{Limit, AreRows, ends_part}
 use Rattle.yq_rows.specs.Rows.{Row, behind_indent, rows_text}

@@ -1,8 +1,8 @@
 -- An inline node before a text is one before another text, where white space, a break or the end is in front of both.
 use Rattle.std.proofs.Common.{◌≡◌, inl, inr, ℕ, zero, suc, true, false, not, ◌||◌, eqb, List, [], ◌∷◌, ◌++◌, Option, refl, sym, ap, ◌∙◌, subst, ⊎_elim, eqb-true, Some}
 use Rattle.std.proofs.lemmas.Bool.{false≢true, not-true, or_cases, cases_Bool, or_parts}
-use Rattle.yq_scalar.specs.Plain.{ends_plain}
-use Rattle.yq_scalar.specs.Text.{is_empty, is_white, is_space, separates, unless, NoneIn, no_white}
+use Rattle.yq_flow_scalars.specs.Plain.{ends_plain}
+use Rattle.yq_flow_scalars.specs.Text.{is_empty, is_white, is_space, separates, unless, NoneIn, no_white}
 use Rattle.yq_inline.specs.Nodes.{Key, bare, keyed, Sep, last, comma, Node, empty, alias, scalar, coll, anchored, Items, none, item, key_text, sep_text, node_text, items_text, first_is, is_close, in_name, begins_content, IsLead, IsName, is_bare, IsNode}
 use Rattle.yq_inline.specs.Scalars.{IsScalarAt}
 use Rattle.yq_inline.specs.Alike.{Alike, byte, after}

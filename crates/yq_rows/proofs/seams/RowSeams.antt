@@ -4,8 +4,8 @@ use Rattle.std.proofs.lemmas.Bool.{false≢true, cases_Bool}
 use Rattle.yq_scalar.specs.Block.{BlockText, block_text, mark_of, IsBlock, ends_block, keeps}
 use Rattle.yq_scalar.specs.declared.block_header.BlockStyle.{BlockStyle}
 use Rattle.yq_scalar.specs.declared.block_header.BlockStyle.TheVariants as styles
-use Rattle.yq_scalar.specs.Piece.{deeper}
-use Rattle.yq_scalar.specs.Text.{lines_of, joined, separates}
+use Rattle.yq_flow_scalars.specs.Piece.{deeper}
+use Rattle.yq_flow_scalars.specs.Text.{lines_of, joined, separates}
 use Rattle.yq_inline.specs.Inline.{depth_limit}
 use Rattle.yq_inline.specs.Nodes.{Node, node_text, in_name, is_bare}
 use Rattle.yq_inline.specs.Alike.{Alike}

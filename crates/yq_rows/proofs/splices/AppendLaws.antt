@@ -1,6 +1,6 @@
 -- Rows behind the last one of a text without a final break, in a cut.
 use Rattle.std.proofs.Common.{◌≡◌, ℕ, suc, true, false, List, [], ◌∷◌, ◌++◌, length, refl, sym, ap, ◌∙◌, subst, Some}
-use Rattle.yq_scalar.specs.Characters.{pairs_returns}
+use Rattle.yq_flow_scalars.specs.Characters.{pairs_returns}
 use Rattle.yq_inline.specs.Alike.{Alike}
 use Rattle.yq_rows.specs.Exchange.{allows_first, asked_behind}
 use Rattle.yq_rows.specs.Grammar.{Limit, limit_after, AreRows, no_rows, IsCut}

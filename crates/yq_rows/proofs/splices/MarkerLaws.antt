@@ -3,8 +3,8 @@ use Rattle.std.proofs.Common.{◌≡◌, ℕ, Bool, true, false, List, [], ◌�
 use Rattle.std.proofs.lemmas.Bool.{false≢true, and_parts}
 use Rattle.std.specs.List.{list_all}
 use Rattle.std.specs.Str.{chars}
-use Rattle.yq_scalar.specs.Characters.{is_text_char, pairs_returns}
-use Rattle.yq_scalar.specs.Text.{is_empty, is_feed, is_space, is_line}
+use Rattle.yq_flow_scalars.specs.Characters.{is_text_char, pairs_returns}
+use Rattle.yq_flow_scalars.specs.Text.{is_empty, is_feed, is_space, is_line}
 use Rattle.yq_inline.specs.Alike.{Alike, byte, after}
 use Rattle.yq_rows.specs.Grammar.{IsPart, IsMarkerLine, begins_document, AreParts, IsCut}
 use Rattle.yq_rows.specs.Rows.{Part, part_text, Cut, last, marked, cut_text}

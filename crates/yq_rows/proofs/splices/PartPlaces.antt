@@ -2,7 +2,7 @@
 use Rattle.std.proofs.Common.{◌≡◌, ℕ, zero, suc, Bool, true, false, List, [], ◌∷◌, ◌++◌, length, drop, refl, ap, ◌∙◌, subst}
 use Rattle.std.proofs.Math.Seq.{drop-append_seam}
 use Rattle.std.proofs.lemmas.Bool.{or_right}
-use Rattle.yq_scalar.specs.Text.{is_empty, is_marker}
+use Rattle.yq_flow_scalars.specs.Text.{is_empty, is_marker}
 use Rattle.yq_rows.specs.Grammar.{unlimited, AreRows, no_rows, IsPart, IsMarkerLine, begins_document, AreParts, IsCut, ends_part}
 use Rattle.yq_rows.specs.Rows.{Row, Part, part_text, Cut, last, marked, cut_text}
 use Rattle.yq_rows.specs.SpliceFits.{is_after}

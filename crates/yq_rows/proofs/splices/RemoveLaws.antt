@@ -3,7 +3,7 @@ use Rattle.std.proofs.Common.{◌≡◌, ℕ, ◌<◌, true, false, List, [], �
 use Rattle.std.proofs.lemmas.Bool.{false≢true}
 use Rattle.yq_scalar.specs.Block.{Lines, BlockText, IsBlock}
 use Rattle.yq_scalar.specs.BlockRepair.{is_behind}
-use Rattle.yq_scalar.specs.Text.{is_empty, lines_of, joined}
+use Rattle.yq_flow_scalars.specs.Text.{is_empty, lines_of, joined}
 use Rattle.yq_scalar.proofs.LineLaws.{joined-append, joined_lines}
 use Rattle.yq_rows.specs.Exchange.{asked_behind}
 use Rattle.yq_rows.specs.Gap.{AreGapLines, IsGap}

@@ -1,6 +1,6 @@
 -- One row of a cut, exchanged for another one that takes its place.
 use Rattle.std.proofs.Common.{◌≡◌, ℕ, suc, true, List, [], ◌∷◌, ◌++◌, length, sym, ap, ◌∙◌, subst}
-use Rattle.yq_scalar.specs.Characters.{pairs_returns}
+use Rattle.yq_flow_scalars.specs.Characters.{pairs_returns}
 use Rattle.yq_rows.specs.Exchange.{allows_first}
 use Rattle.yq_rows.specs.Grammar.{Limit, limit_after, IsRow, AreRows, no_rows, IsCut}
 use Rattle.yq_rows.specs.Rows.{Row, parent_indent, print_row, rows_text, Cut}

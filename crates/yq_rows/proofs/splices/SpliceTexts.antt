@@ -10,7 +10,7 @@ use Rattle.yq_rows.proofs.PlaceLaws.{part_then}
 use Rattle.yq_rows.proofs.seams.SeamLaws.{spliced_text}
 use Rattle.std.specs.List.{list_all}
 use Rattle.std.specs.Str.{chars}
-use Rattle.yq_scalar.specs.Characters.{is_text_char, pairs_returns}
+use Rattle.yq_flow_scalars.specs.Characters.{is_text_char, pairs_returns}
 use Rattle.yq_rows.specs.Splices.{rows_between, gap_before, back_rows}
 use Rattle.yq_rows.proofs.CharacterLaws.{pairs_back}
 use Rattle.yq_rows.proofs.PlaceLaws.{row_then}

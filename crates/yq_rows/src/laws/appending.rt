@@ -1,6 +1,6 @@
 //! Laws of what is put behind a text that has no final break.
 ghost use Rattle.std.specs.Prelude.{◌≡◌, ℕ, List, [], ◌∷◌, ◌++◌, true};
-ghost use Rattle.yq_scalar.specs.Characters.{pairs_returns};
+ghost use Rattle.yq_flow_scalars.specs.Characters.{pairs_returns};
 ghost use Rattle.yq_rows.specs.Appending.{IsLastRow, PartFits, TakesBreak, closed_by, with_last_part};
 ghost use Rattle.yq_rows.specs.Grammar.{AreRows, IsCut, Limit, limit_after};
 ghost use Rattle.yq_rows.specs.Rows.{Cut, Part, Row, print_row};

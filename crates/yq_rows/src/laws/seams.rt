@@ -1,8 +1,8 @@
 //! Laws of seams: what a row asks of the text behind it, and rows that take the place of others.
 ghost use Rattle.std.specs.Prelude.{◌≡◌, ℕ, Bool, List, [], ◌∷◌, ◌++◌, false, true};
 ghost use Rattle.yq_scalar.specs.BlockRepair.{repair};
-ghost use Rattle.yq_scalar.specs.Characters.{pairs_returns};
-ghost use Rattle.yq_scalar.specs.Text.{is_empty, joined, lines_of};
+ghost use Rattle.yq_flow_scalars.specs.Characters.{pairs_returns};
+ghost use Rattle.yq_flow_scalars.specs.Text.{is_empty, joined, lines_of};
 ghost use Rattle.yq_rows.specs.Gap.{IsGap};
 ghost use Rattle.yq_rows.specs.Grammar.{IsRow, AreRows, Limit, limit_after};
 ghost use Rattle.yq_rows.specs.Joined.{CompactFits, DashFits, Joins, compact_row, dashed_row, joined_row};

@@ -1,7 +1,7 @@
 //! Pieces of a row by its lengths, without the others.
 ghost use Rattle.std.specs.Prelude.{◌≡◌, drop, not, take};
 ghost use Rattle.std.specs.Str.{IsCharBoundary};
-ghost use Rattle.yq_scalar.specs.Text.{is_empty};
+ghost use Rattle.yq_flow_scalars.specs.Text.{is_empty};
 ghost use Rattle.yq_rows.specs.Offsets as spec;
 ghost use Rattle.yq_rows.specs.View.{Slices};
 

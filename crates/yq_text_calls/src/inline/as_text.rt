@@ -2,7 +2,7 @@
 
 use std::alloc::{AllocError, Global};
 use yq_inline::{Entry, Form, Inline};
-use yq_scalar::{Piece, Scalar, Style};
+use yq_flow_scalars::{Piece, Scalar, Style};
 
 /// The events of the node: `+SEQ []`, `-SEQ`, `+MAP {}`, `-MAP`, `=ALI *x`, and `=VAL` with the
 /// anchor, if there is one, a sign of the style and the text.

@@ -7,7 +7,7 @@ use std::alloc::{AllocError, Global};
 use std::test::Fail;
 use yq_flow::write_inline;
 use yq_inline::Value;
-use yq_scalar::ReadError;
+use yq_flow_scalars::ReadError;
 
 const TEXT: &str = "[a, {b: 'c', d: 2}]";
 

@@ -6,7 +6,7 @@ use super::reading::in_block;
 use std::alloc::{AllocError, Global};
 use std::test::Fail;
 use yq_inline::Step;
-use yq_scalar::ReadError;
+use yq_flow_scalars::ReadError;
 
 const SEQUENCES: &str = "- [ one, two, ]\n- [three ,four]";
 

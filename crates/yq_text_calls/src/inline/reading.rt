@@ -2,7 +2,7 @@
 
 use std::alloc::Global;
 use yq_inline::{Inline, read_inline};
-use yq_scalar::{Place, ReadError};
+use yq_flow_scalars::{Place, ReadError};
 
 /// The node of a flow collection that begins at an offset, with so many collections round it. Nothing
 /// where no character begins there.

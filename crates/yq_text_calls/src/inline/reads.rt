@@ -5,7 +5,7 @@ use std::alloc::Global;
 use std::num::NonZeroU64;
 use std::test::Fail;
 use yq_inline::{DEPTH_LIMIT, Inline};
-use yq_scalar::{FaultKind, ReadError, ReadFault};
+use yq_flow_scalars::{FaultKind, ReadError, ReadFault};
 
 /// Texts that are an inline node of a flow collection.
 static WHOLE: [&str; 34] = [

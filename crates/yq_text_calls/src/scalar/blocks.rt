@@ -4,7 +4,8 @@
 use super::reading::{Reader, content_at, read};
 use std::alloc::{AllocError, Global};
 use std::test::Fail;
-use yq_scalar::{Break, Place, repair, write_block};
+use yq_flow_scalars::Place;
+use yq_scalar::{Break, repair, write_block};
 
 /// The content, its indentation, the break, and the header on a line of its own with the raw lines
 /// behind it.

@@ -5,7 +5,7 @@ use super::spelled::{BLOCK_STYLES, IN_FLOW, KEYS, VALUES};
 use std::alloc::Global;
 use std::process::Abort;
 use std::test::Fail;
-use yq_scalar::Place;
+use yq_flow_scalars::Place;
 
 /// The text, where a scalar begins, its parent's indentation, and its content.
 static OWN: [(&str, usize, i64, &str); 41] = [

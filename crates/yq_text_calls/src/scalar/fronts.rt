@@ -1,10 +1,10 @@
 //! Characters, breaks, white space and plain scalars in front of texts (YAML 1.2.2, chapters 5, 6 and
 //! 7.3.3).
 
-use yq_scalar::characters::{char_count, has_text_chars, is_text};
-use yq_scalar::lines::{line_len, split_at_break, split_line, text_len};
-use yq_scalar::plain::{begins_plain, holds_break};
-use yq_scalar::text::{
+use yq_flow_scalars::characters::{char_count, has_text_chars, is_text};
+use yq_flow_scalars::lines::{line_len, split_at_break, split_line, text_len};
+use yq_flow_scalars::plain::{begins_plain, holds_break};
+use yq_flow_scalars::text::{
     ends_line, is_break, is_marker, is_space, past_white, separates, split_spaces, split_white,
 };
 

@@ -2,7 +2,8 @@
 
 use std::alloc::{AllocError, Global};
 use std::test::Fail;
-use yq_scalar::{Kind, Scalar, int_value, resolve};
+use yq_flow_scalars::{Kind, Scalar, resolve};
+use yq_scalar::int_value;
 
 /// The kind, and plain texts of it.
 static KINDS: [(Kind, &[&str]); 5] = [

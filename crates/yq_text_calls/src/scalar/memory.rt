@@ -6,7 +6,8 @@ use super::styles::written;
 use crate::memory::all_memory;
 use std::alloc::{AllocError, Global};
 use std::test::Fail;
-use yq_scalar::{Break, Place, Style, repair, write_block};
+use yq_flow_scalars::{Place, Style};
+use yq_scalar::{Break, repair, write_block};
 
 /// A call that takes memory: the content of the scalar in front of a text, the raw lines of a text,
 /// the text as a repaired gap behind a block scalar, the text in a style, and the scalar that is made

@@ -1,8 +1,8 @@
 //! Where scalars stand in texts.
 
 use super::reading::{Reader, read};
-use yq_scalar::piece::inline_piece;
-use yq_scalar::{Piece, Place, Style};
+use yq_flow_scalars::piece::inline_piece;
+use yq_flow_scalars::{Piece, Place, Style};
 
 /// The text, where a plain scalar begins, its place, its parent's indentation, and the scalar as it
 /// is written (YAML 1.2.2, section 7.3.3).

@@ -1,7 +1,8 @@
 //! Scalars of texts, read at an offset.
 
 use std::alloc::{AllocError, Global};
-use yq_scalar::{FaultKind, Piece, Place, content, read_block, read_plain, read_quoted};
+use yq_flow_scalars::{FaultKind, Piece, Place};
+use yq_scalar::{content, read_block, read_plain, read_quoted};
 
 /// How a scalar is read: the plain one of a place, below a parent of this indentation, the quoted
 /// one, or the block scalar below a parent of this indentation.

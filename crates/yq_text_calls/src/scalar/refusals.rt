@@ -1,7 +1,7 @@
 //! Why there is no scalar at an offset.
 
 use super::reading::{Reader, read};
-use yq_scalar::{FaultKind, Place};
+use yq_flow_scalars::{FaultKind, Place};
 
 /// The text, the offset, how the scalar is to be read there, and why it isn't.
 static REFUSED: [(&str, usize, Reader, FaultKind); 38] = [

@@ -4,7 +4,8 @@ use super::kinds::{Origin, scalar_of};
 use super::reading::content_at;
 use std::alloc::{AllocError, Global};
 use std::test::Fail;
-use yq_scalar::{Place, Scalar, Style, can_write, write_scalar};
+use yq_flow_scalars::{Place, Scalar, Style, can_write};
+use yq_scalar::write_scalar;
 
 /// The string, and whether it can be written plain outside flow collections, plain in them, in single
 /// quotes, and literal. In double quotes each string can.

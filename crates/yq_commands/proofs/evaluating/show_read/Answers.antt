@@ -1,7 +1,7 @@
 use Rattle.std.proofs.Common.{Ok, Err, option_map, ap, sym, ◌∙◌, subst}
 use Rattle.std.proofs.lemmas.Result.{err_from_is_err_and}
 use Rattle.std.specs.Str.{is_utf8}
-use Rattle.yq_scalar.specs.Answers.{ReadFails}
+use Rattle.yq_flow_scalars.specs.Answers.{ReadFails}
 use Rattle.yq_documents.specs.Reading.{documents, read_at}
 use Rattle.yq_meaning.specs.Judgement.{gives}
 use Rattle.yq_expr.specs.MatchView.{matches_of}

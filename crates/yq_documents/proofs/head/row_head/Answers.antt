@@ -3,7 +3,7 @@ use Rattle.std.proofs.lemmas.Int.{to_z-of_z}
 use Rattle.std.proofs.lemmas.Option.{same_Some}
 use Rattle.yq_inline.specs.Scalars.{is_quoted}
 use Rattle.yq_rows.specs.View.{view as row_view}
-use Rattle.yq_scalar.specs.Quoted.{IsQuotedText}
+use Rattle.yq_flow_scalars.specs.Quoted.{IsQuotedText}
 use Rattle.yq_documents.proofs.RowFlowLaws.{flow_again}
 use Rattle.yq_documents.proofs.RowLineLaws.{quoted_again, head_again}
 use Rattle.yq_documents.proofs.head.row_head.Goals as goal

@@ -1,8 +1,8 @@
 use Rattle.std.proofs.Common.{◌<◌, List, length, map, Err, ap, sym, ◌∙◌, subst, arith}
 use Rattle.std.proofs.lemmas.List.{map_push}
 use Rattle.std.proofs.lemmas.Result.{err_from_is_err_and}
-use Rattle.yq_scalar.specs.Shapes.{IsTree}
-use Rattle.yq_scalar.specs.Tree.{Node}
+use Rattle.yq_flow_scalars.specs.Shapes.{IsTree}
+use Rattle.yq_flow_scalars.specs.Tree.{Node}
 use Rattle.yq_documents.specs.Documents.{Document, document_parts}
 use Rattle.yq_documents.specs.Reading.{cut_of, documents_of}
 use Rattle.yq_meaning.specs.Changes.{changes_in}

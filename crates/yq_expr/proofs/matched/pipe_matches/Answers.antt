@@ -1,6 +1,6 @@
 use Rattle.std.proofs.Common.{◌<◌, List, length, map, Err, ap, sym, ◌∙◌, subst, arith}
 use Rattle.std.proofs.lemmas.Result.{err_from_is_err_and}
-use Rattle.yq_scalar.specs.Tree.{Node}
+use Rattle.yq_flow_scalars.specs.Tree.{Node}
 use Rattle.yq_documents.specs.Documents.{Document, document_parts}
 use Rattle.yq_documents.specs.Reading.{cut_of, documents_of}
 use Rattle.yq_meaning.specs.Copies.{matches, matches_in}

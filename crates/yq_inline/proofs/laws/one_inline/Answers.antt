@@ -1,6 +1,6 @@
 use Rattle.std.proofs.Common.{◌-◌, refl}
-use Rattle.yq_scalar.specs.Piece.{further_spaces}
-use Rattle.yq_scalar.specs.Writable.{in_flow}
+use Rattle.yq_flow_scalars.specs.Piece.{further_spaces}
+use Rattle.yq_flow_scalars.specs.Writable.{in_flow}
 use Rattle.yq_inline.specs.Inline.{depth_limit}
 use Rattle.yq_inline.specs.Nodes.{node_text}
 use Rattle.yq_inline.proofs.InlineLaws.{inline_takes, inline_again}

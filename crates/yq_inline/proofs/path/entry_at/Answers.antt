@@ -1,5 +1,5 @@
 use Rattle.std.proofs.Common.{ap, arith, sym, ◌∙◌}
-use Rattle.yq_scalar.specs.Paths.{To}
+use Rattle.yq_flow_scalars.specs.Paths.{To}
 use Rattle.yq_inline.specs.Entries.{part_at}
 use Rattle.yq_inline.specs.View.{entries_end}
 use Rattle.yq_inline.proofs.PathLoops.{Field, entry_found, entry_past, entry_missing}

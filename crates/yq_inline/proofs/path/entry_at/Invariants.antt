@@ -1,5 +1,5 @@
 use Rattle.std.proofs.Common.{◌≡◌, drop}
-use Rattle.yq_scalar.specs.Paths.{To}
+use Rattle.yq_flow_scalars.specs.Paths.{To}
 use Rattle.yq_inline.specs.Entries.{part_at}
 use Rattle.yq_inline.specs.View.{entries_end}
 use Rattle.yq_inline.proofs.path.entry_at.Given as goal

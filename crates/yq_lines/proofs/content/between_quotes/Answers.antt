@@ -1,5 +1,5 @@
 use Rattle.std.proofs.Common.{◌∙◌}
-use Rattle.yq_scalar.proofs.ContentLaws.{boundary_open, boundary_close, between_quotes}
+use Rattle.yq_flow_scalars.proofs.ContentLaws.{boundary_open, boundary_close, between_quotes}
 use Rattle.yq_lines.proofs.content.between_quotes.Goals as goal
 
 pub split_at-requires : goal.split_at-requires

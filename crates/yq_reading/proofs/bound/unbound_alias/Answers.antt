@@ -1,5 +1,5 @@
 use Rattle.std.proofs.Common.{◌+◌, [], drop, ap, sym, subst}
-use Rattle.yq_scalar.specs.Anchors.{Anchors, Refers}
+use Rattle.yq_flow_scalars.specs.Anchors.{Anchors, Refers}
 use Rattle.yq_reading.specs.Named.{name_view, all_named}
 use Rattle.yq_lines.specs.LinesReading.{are_bound}
 use Rattle.yq_lines.proofs.BoundLaws.{Known, anchor_known, alias_known}

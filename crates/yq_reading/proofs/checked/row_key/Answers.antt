@@ -1,5 +1,5 @@
 use Rattle.std.proofs.Common.{◌≡◌, true, List, ℕ, sym, ap, ◌∙◌, subst}
-use Rattle.yq_scalar.specs.Quoted.{IsQuotedText}
+use Rattle.yq_flow_scalars.specs.Quoted.{IsQuotedText}
 use Rattle.yq_inline.specs.Scalars.{is_quoted}
 use Rattle.yq_walk.proofs.WalkPositions.{has_row}
 use Rattle.yq_documents.specs.Decoded.{decoded_key}

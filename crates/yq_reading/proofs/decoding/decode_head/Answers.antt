@@ -1,6 +1,6 @@
 use Rattle.std.proofs.Common.{rules, ℕ, refl, sym, ap, ◌∙◌, SFits, w64}
 use Rattle.std.proofs.lemmas.Bool.{not-false}
-use Rattle.yq_scalar.specs.Text.{is_empty}
+use Rattle.yq_flow_scalars.specs.Text.{is_empty}
 use Rattle.std.proofs.lemmas.Int.{to_z-of_z}
 use Rattle.std.proofs.lemmas.Option.{same_Some}
 use Rattle.yq_rows.specs.View.{Slices, slices}

@@ -1,6 +1,6 @@
 use Rattle.std.proofs.Common.{sym, ap, ◌∙◌}
 use Rattle.std.proofs.lemmas.Bool.{not-false}
-use Rattle.yq_scalar.specs.Text.{is_empty}
+use Rattle.yq_flow_scalars.specs.Text.{is_empty}
 use Rattle.yq_inline.specs.Scalars.{content_of, is_quoted}
 use Rattle.yq_rows.specs.View.{slices}
 use Rattle.yq_reading.proofs.BorrowLaws.{quoted_is}

@@ -1,5 +1,5 @@
 use Rattle.std.proofs.Common.{◌≡◌, ◌+◌, ◌*◌, ◌++◌, ◌&&◌, drop, map}
-use Rattle.yq_scalar.specs.Keys.{keys_of, are_distinct}
+use Rattle.yq_flow_scalars.specs.Keys.{keys_of, are_distinct}
 use Rattle.yq_inline.specs.Trees.{parts_tree}
 use Rattle.yq_inline.specs.View.{entries_end, items_end}
 use Rattle.yq_lines.specs.Sound.{are_sound}

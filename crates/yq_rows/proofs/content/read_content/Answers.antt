@@ -1,7 +1,7 @@
 use Rattle.std.proofs.Common.{Some, None, false, sym, ap, ◌∙◌, subst, w64}
 use Rattle.std.proofs.lemmas.Int.{to_z-of_z}
-use Rattle.yq_scalar.specs.Answers.{Gives}
-use Rattle.yq_scalar.specs.Text.{front}
+use Rattle.yq_flow_scalars.specs.Answers.{Gives}
+use Rattle.yq_flow_scalars.specs.Text.{front}
 use Rattle.yq_inline.specs.Scalars.{begins_scalar}
 use Rattle.yq_rows.specs.Slicing.{filling_view, begins_other}
 use Rattle.yq_rows.specs.Reading.{is_word}

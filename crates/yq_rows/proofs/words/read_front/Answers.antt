@@ -1,5 +1,5 @@
 use Rattle.std.proofs.Common.{Some, ap, sym, ◌∙◌}
-use Rattle.yq_scalar.specs.Text.{front}
+use Rattle.yq_flow_scalars.specs.Text.{front}
 use Rattle.yq_rows.specs.Reading.{is_word}
 use Rattle.yq_rows.proofs.WordFronts.{word_at}
 use Rattle.yq_rows.proofs.words.read_front.Goals as goal

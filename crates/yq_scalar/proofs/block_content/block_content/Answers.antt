@@ -1,6 +1,6 @@
 use Rattle.std.proofs.Common.{string_bytes}
 use Rattle.yq_scalar.proofs.BlockPieceLaws.{stands, content_is}
-use Rattle.yq_scalar.proofs.ContentLaws.{if_ok_same}
+use Rattle.yq_flow_scalars.proofs.ContentLaws.{if_ok_same}
 use Rattle.yq_scalar.proofs.block_content.block_content.Goals as goal
 
 pub content_at-requires-clause-header : goal.content_at-requires-clause-header

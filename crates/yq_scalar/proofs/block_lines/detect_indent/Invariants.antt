@@ -1,5 +1,5 @@
 use Rattle.std.proofs.Common.{◌≡◌, length}
-use Rattle.yq_scalar.specs.Text.{lines_of}
+use Rattle.yq_flow_scalars.specs.Text.{lines_of}
 use Rattle.yq_scalar.specs.BlockReading as spec
 use Rattle.yq_scalar.proofs.block_lines.detect_indent.Given as goal
 

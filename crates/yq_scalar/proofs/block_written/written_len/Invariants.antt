@@ -1,6 +1,6 @@
 use Rattle.std.proofs.Common.{◌≡◌, ◌+◌, ◌-◌, ◌≤◌, ◌^◌, length, min}
 use Rattle.std.specs.Str.{IsUtf8}
-use Rattle.yq_scalar.specs.Text.{lines_of, joined}
+use Rattle.yq_flow_scalars.specs.Text.{lines_of, joined}
 use Rattle.yq_scalar.specs.BlockWritten as spec
 use Rattle.yq_scalar.proofs.block_written.written_len.Given as goal
 

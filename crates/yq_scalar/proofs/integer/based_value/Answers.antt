@@ -1,5 +1,5 @@
 use Rattle.std.proofs.Common.{◌∙◌, sym, ap}
-use Rattle.yq_scalar.specs.SchemaReading as spec
+use Rattle.yq_flow_scalars.specs.SchemaReading as spec
 use Rattle.yq_scalar.proofs.IntegerLaws.{based_parsed}
 use Rattle.yq_scalar.proofs.integer.based_value.Goals as goal
 

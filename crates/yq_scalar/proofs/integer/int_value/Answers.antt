@@ -1,5 +1,5 @@
 use Rattle.std.proofs.Common.{IfSome, ℤ, sym, ◌∙◌, subst, Option}
-use Rattle.yq_scalar.specs.Schema.{IsIntOf}
+use Rattle.yq_flow_scalars.specs.Schema.{IsIntOf}
 use Rattle.yq_scalar.proofs.IntegerLaws.{value_takes, value_again}
 use Rattle.yq_scalar.proofs.integer.int_value.Goals as goal
 

@@ -1,5 +1,5 @@
 use Rattle.std.proofs.Common.{sym, ◌∙◌, ap, arith}
-use Rattle.yq_scalar.specs.SchemaReading as spec
+use Rattle.yq_flow_scalars.specs.SchemaReading as spec
 use Rattle.yq_scalar.proofs.IntegerLaws.{boundary_base}
 use Rattle.yq_scalar.proofs.integer.number_of.Goals as goal
 

@@ -1,5 +1,5 @@
 use Rattle.std.proofs.Common.{ℕ, ◌<◌}
-use Rattle.yq_scalar.specs.Keys.{DiffersBefore}
+use Rattle.yq_flow_scalars.specs.Keys.{DiffersBefore}
 use Rattle.yq_scalar.proofs.DistinctKeys.{texts}
 use Rattle.yq_scalar.proofs.keys.all_differ.Given as goal
 

@@ -1,6 +1,6 @@
 use Rattle.std.proofs.Common.{◌≡◌, [], length}
 use Rattle.std.specs.Str.{bytes_eq}
-use Rattle.yq_scalar.specs.ContentReading as spec
+use Rattle.yq_flow_scalars.specs.ContentReading as spec
 use denote.Shadow.{shadow}
 use denote.Text.{Utf8}
 use Rattle.yq_scalar.proofs.same_content.folds_to.Given as goal

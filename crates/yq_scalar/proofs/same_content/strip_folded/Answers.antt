@@ -1,5 +1,5 @@
 use Rattle.std.proofs.Common.{sym, subst}
-use Rattle.yq_scalar.specs.Folded.{folded_text, StripsText}
+use Rattle.yq_flow_scalars.specs.Folded.{folded_text, StripsText}
 use Rattle.yq_scalar.proofs.SameContentLaws.{strips_text, strips_char}
 use Rattle.yq_scalar.proofs.same_content.strip_folded.Goals as goal
 

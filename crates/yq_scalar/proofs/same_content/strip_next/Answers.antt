@@ -1,10 +1,10 @@
 use Rattle.std.proofs.Common.{◌++◌, ℕ, List, [], ap, ◌∙◌, bytes_eq}
-use Rattle.yq_scalar.specs.ContentReading.{content_on, before_of, within}
-use Rattle.yq_scalar.specs.Folded.{folded_text}
-use Rattle.yq_scalar.specs.Plain.{no_gap}
-use Rattle.yq_scalar.specs.Text.{is_space}
-use Rattle.yq_scalar.proofs.FoldLaws.{content_next, gap_next, space_ends}
-use Rattle.yq_scalar.proofs.ItemLaws.{cut_within, shorter_still}
+use Rattle.yq_flow_scalars.specs.ContentReading.{content_on, before_of, within}
+use Rattle.yq_flow_scalars.specs.Folded.{folded_text}
+use Rattle.yq_flow_scalars.specs.Plain.{no_gap}
+use Rattle.yq_flow_scalars.specs.Text.{is_space}
+use Rattle.yq_flow_scalars.proofs.FoldLaws.{content_next, gap_next, space_ends}
+use Rattle.yq_flow_scalars.proofs.ItemLaws.{cut_within, shorter_still}
 use Rattle.yq_scalar.proofs.SameContentLaws.{same_behind, other_front}
 use Rattle.yq_scalar.proofs.same_content.strip_next.Goals as goal
 

@@ -3,7 +3,7 @@ use Rattle.std.specs.Str.{chars}
 use Rattle.std.proofs.Math.Utf8.{encode}
 use Rattle.std.proofs.lemmas.Iterator.{YieldsList-from_chars}
 use Rattle.std.proofs.lemmas.Iterator.Consumers.{YieldsList-end}
-use Rattle.yq_scalar.specs.Written.{in_double}
+use Rattle.yq_flow_scalars.specs.Written.{in_double}
 use Rattle.yq_scalar.proofs.write.write_double.Goals as goal
 
 pub returns : goal.returns

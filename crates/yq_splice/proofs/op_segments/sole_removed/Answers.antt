@@ -1,5 +1,5 @@
 use Rattle.std.proofs.Common.{Option, option_map, sym, ap, ◌∙◌, subst}
-use Rattle.yq_scalar.specs.Answers.{◌>>=◌}
+use Rattle.yq_flow_scalars.specs.Answers.{◌>>=◌}
 use Rattle.yq_documents.specs.Located.{steps_of}
 use Rattle.yq_documents.specs.Reading.{cut_of}
 use Rattle.yq_places.specs.Standings.{last_step}

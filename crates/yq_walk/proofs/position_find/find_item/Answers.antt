@@ -1,5 +1,5 @@
 use Rattle.std.proofs.Common.{refl, sym, ap, ◌∙◌}
-use Rattle.yq_scalar.specs.Paths.{Nth}
+use Rattle.yq_flow_scalars.specs.Paths.{Nth}
 use Rattle.yq_lines.specs.Ends.{part}
 use Rattle.yq_lines.specs.Places.{find_row}
 use Rattle.yq_lines.specs.Positions.{position}

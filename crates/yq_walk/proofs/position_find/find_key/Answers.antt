@@ -1,5 +1,5 @@
 use Rattle.std.proofs.Common.{refl, sym, ◌∙◌}
-use Rattle.yq_scalar.specs.Paths.{To}
+use Rattle.yq_flow_scalars.specs.Paths.{To}
 use Rattle.yq_walk.specs.Lines.{lines_of}
 use Rattle.yq_lines.proofs.PositionLaws.{position_here, position_passed, position_end}
 use Rattle.yq_walk.specs.RowWalk.{line_number}

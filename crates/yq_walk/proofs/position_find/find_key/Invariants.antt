@@ -1,5 +1,5 @@
 use Rattle.std.proofs.Common.{◌≡◌, ◌-◌}
-use Rattle.yq_scalar.specs.Paths.{To}
+use Rattle.yq_flow_scalars.specs.Paths.{To}
 use Rattle.yq_lines.specs.Ends.{part}
 use Rattle.yq_lines.specs.Places.{find_row}
 use Rattle.yq_lines.specs.Positions.{position}

@@ -1,7 +1,7 @@
 use Rattle.std.proofs.Common.{sym, ap, ◌&&◌, ◌∙◌}
 use Rattle.std.proofs.lemmas.Bool.{eq-eqb}
 use Rattle.yq_lines.specs.Outline.{key_of}
-use Rattle.yq_scalar.specs.Paths.{is_item}
+use Rattle.yq_flow_scalars.specs.Paths.{is_item}
 use Rattle.yq_walk.proofs.WalkMarks.{item_agrees}
 use Rattle.yq_walk.proofs.position_marks.is_item_at.Goals as goal
 

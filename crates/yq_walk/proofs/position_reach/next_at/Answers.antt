@@ -1,7 +1,7 @@
 use Rattle.std.proofs.Common.{◌∷◌, option_map, ap, sym, ◌∙◌}
 use Rattle.yq_inline.specs.Entries.{step_of}
 use Rattle.yq_inline.specs.Inline.{depth_limit}
-use Rattle.yq_scalar.specs.Keys.{are_distinct, keys_of}
+use Rattle.yq_flow_scalars.specs.Keys.{are_distinct, keys_of}
 use Rattle.yq_lines.specs.Ends.{part}
 use Rattle.yq_lines.specs.Outline.{children}
 use Rattle.yq_walk.specs.Lines.{lines_of}

@@ -2,7 +2,7 @@ use Rattle.std.proofs.Common.{◌≡◌, ap, sym, ◌∙◌}
 use Rattle.std.specs.Prelude.{option_and_then}
 use Rattle.yq_inline.specs.Entries.{step_of}
 use Rattle.yq_inline.specs.Inline.{depth_limit}
-use Rattle.yq_scalar.specs.Keys.{are_distinct, keys_of}
+use Rattle.yq_flow_scalars.specs.Keys.{are_distinct, keys_of}
 use Rattle.yq_walk.specs.Lines.{lines_of}
 use Rattle.yq_lines.specs.Ends.{part}
 use Rattle.yq_lines.specs.Outline.{children, level}

@@ -1,5 +1,5 @@
 use Rattle.std.proofs.Common.{◌∙◌, sym}
-use Rattle.yq_scalar.specs.Tree.{child}
+use Rattle.yq_flow_scalars.specs.Tree.{child}
 use Rattle.yq_lines.specs.Outline.{children}
 use Rattle.yq_documents.specs.Bodies.{outline_of}
 use Rattle.yq_documents.proofs.nodes.children.next_line.Goals as goal

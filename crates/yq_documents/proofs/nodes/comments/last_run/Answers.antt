@@ -1,6 +1,6 @@
 use Rattle.std.proofs.Common.{rules, sym, ap, ◌∙◌}
 use Rattle.yq_scalar.proofs.BlockSteps.{at_cut, at_end}
-use Rattle.yq_scalar.specs.Text.{lines_of}
+use Rattle.yq_flow_scalars.specs.Text.{lines_of}
 use Rattle.yq_documents.proofs.RunLaws.{run_or, run_here, run_on, run_anew, run_end}
 use Rattle.yq_documents.proofs.nodes.comments.last_run.Goals as goal
 

@@ -1,6 +1,6 @@
 use Rattle.std.proofs.Common.{◌≡◌, length}
 use Rattle.std.specs.Str.{IsUtf8}
-use Rattle.yq_scalar.specs.Text.{lines_of}
+use Rattle.yq_flow_scalars.specs.Text.{lines_of}
 use Rattle.yq_documents.specs.Pieces as pieces
 use Rattle.yq_documents.proofs.RunLaws.{run_or}
 use Rattle.yq_documents.proofs.nodes.comments.last_run.Given as goal

@@ -2,7 +2,7 @@ use Rattle.std.proofs.Common.{◌≡◌, ◌+◌, ◌*◌, drop}
 use Rattle.std.specs.List.{list_any}
 use Rattle.yq_inline.specs.Trees.{parts_tree}
 use Rattle.yq_inline.specs.View.{view, items_end, entries_end}
-use Rattle.yq_scalar.specs.Anchors.{names_in}
+use Rattle.yq_flow_scalars.specs.Anchors.{names_in}
 use Rattle.yq_lines.specs.Names.{is_reference}
 use Rattle.yq_lines.proofs.SizeLaws.{node_size, parts_size}
 use Rattle.yq_documents.proofs.nodes.flow.+refers.Given as goal

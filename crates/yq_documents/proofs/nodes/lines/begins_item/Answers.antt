@@ -1,6 +1,6 @@
 use Rattle.std.proofs.Common.{◌≡◌}
 use Rattle.yq_lines.specs.Outline.{key_of}
-use Rattle.yq_scalar.specs.Paths.{is_item}
+use Rattle.yq_flow_scalars.specs.Paths.{is_item}
 use Rattle.yq_documents.proofs.WalkedRows.{line_here, of_line, stands}
 use Rattle.yq_documents.proofs.nodes.lines.begins_item.Goals as goal
 

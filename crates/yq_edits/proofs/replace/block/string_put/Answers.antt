@@ -3,7 +3,7 @@ use Rattle.yq_scalar.specs.BlockWritten.{break_text}
 use Rattle.yq_places.specs.StandingViews.{held_view}
 use Rattle.yq_edits.specs.ReplaceEdits.{held_put, literal_put}
 use Rattle.yq_edits.specs.WrittenValues.{inline}
-use Rattle.yq_scalar.specs.Written.{double}
+use Rattle.yq_flow_scalars.specs.Written.{double}
 use Rattle.yq_edits.proofs.replace.block.string_put.Goals as goal
 
 pub returns : goal.returns

@@ -1,5 +1,5 @@
 use Rattle.std.proofs.Common.{ℕ, List, IfOk, ◌≡◌, sym, ap, ◌∙◌, subst}
-use Rattle.yq_scalar.specs.declared.style.Place.TheVariants.{Block as InBlock}
+use Rattle.yq_flow_scalars.specs.declared.style.Place.TheVariants.{Block as InBlock}
 use Rattle.yq_inline.specs.Values.{node_of}
 use Rattle.yq_scalar.specs.BlockWritten.{break_text}
 use Rattle.yq_places.specs.StandingViews.{held_view, held_mark_view}

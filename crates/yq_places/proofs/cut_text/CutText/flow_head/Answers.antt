@@ -4,7 +4,7 @@ use Rattle.yq_lines.specs.View.{head_flow}
 use Rattle.yq_places.specs.FlowNodes.{flow_collection}
 use Rattle.yq_places.specs.NodeReading.{place_view}
 use Rattle.yq_walk.specs.RowWalk.{line_number}
-use Rattle.yq_scalar.specs.Paths.{Step}
+use Rattle.yq_flow_scalars.specs.Paths.{Step}
 use Rattle.yq_walk.specs.Lines.{lines_of}
 use Rattle.yq_documents.specs.Reading.{cut_of}
 use Rattle.yq_places.proofs.FlowNodeLaws.{collection_is, head_line_at, head_agrees_at, no_collection, no_flow_agrees, no_head_at, other_head, rows_collection}

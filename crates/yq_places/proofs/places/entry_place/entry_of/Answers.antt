@@ -1,5 +1,5 @@
 use Rattle.std.proofs.Common.{ℕ, Option, ap, ◌∙◌}
-use Rattle.yq_scalar.specs.Answers.{◌>>=◌}
+use Rattle.yq_flow_scalars.specs.Answers.{◌>>=◌}
 use Rattle.yq_places.specs.EntryReading.{line_entry}
 use Rattle.yq_places.proofs.places.entry_place.entry_of.Goals as goal
 

@@ -2,7 +2,7 @@ use Rattle.std.proofs.Common.{[], rules, ◌≡◌, ◌∙◌, ◌+◌, ◌<◌,
 use Rattle.std.proofs.lemmas.Option.{same_Some}
 use Rattle.std.proofs.lemmas.Str.{IsUtf8-append}
 use Rattle.yq_text.specs.Halves.{whole}
-use Rattle.yq_scalar.specs.Text.{is_empty}
+use Rattle.yq_flow_scalars.specs.Text.{is_empty}
 use Rattle.yq_rows.specs.View.{Slices, view}
 use Rattle.yq_places.specs.CommentPlaces.{end_before}
 use Rattle.yq_places.specs.LineReading.{lines_view}

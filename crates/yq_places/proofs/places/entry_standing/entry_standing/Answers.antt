@@ -1,7 +1,7 @@
 use Rattle.std.proofs.Common.{ℕ, Bool, option_map, sym, ap, ◌∙◌}
 use Rattle.std.proofs.lemmas.Option.{same_Some}
 use Rattle.yq_text.specs.Halves.{whole}
-use Rattle.yq_scalar.specs.Text.{is_empty}
+use Rattle.yq_flow_scalars.specs.Text.{is_empty}
 use Rattle.yq_rows.specs.Removal.{block_of}
 use Rattle.yq_rows.specs.View.{Slices}
 use Rattle.yq_documents.specs.Reading.{cut_of}

@@ -1,7 +1,7 @@
 use Rattle.std.proofs.Common.{rules}
 use Rattle.std.proofs.lemmas.Str.{IsUtf8-append}
 use Rattle.yq_text.specs.Halves.{whole}
-use Rattle.yq_scalar.proofs.Boundaries.{boundary_line}
+use Rattle.yq_flow_scalars.proofs.Boundaries.{boundary_line}
 use Rattle.yq_places.proofs.places.halves.split_line.Goals as goal
 
 pub split_at-requires : goal.split_at-requires

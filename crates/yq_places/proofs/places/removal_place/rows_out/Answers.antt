@@ -1,7 +1,7 @@
 use Rattle.std.proofs.Common.{rules, ◌+◌, ◌-◌, ℕ, ◌++◌, length, length-append, take, drop, option_map, ap, ◌∙◌, arith}
 use Rattle.std.proofs.lemmas.Str.{IsUtf8-append}
 use Rattle.yq_text.specs.Halves.{whole}
-use Rattle.yq_scalar.specs.Text.{joined, lines_of}
+use Rattle.yq_flow_scalars.specs.Text.{joined, lines_of}
 use Rattle.yq_rows.specs.Removal.{block_numbers, last_block}
 use Rattle.yq_rows.specs.View.{view}
 use Rattle.yq_documents.specs.Pieces.{before_run}

@@ -1,8 +1,8 @@
 use Rattle.std.proofs.Common.{ℕ, List, [], ◌∷◌, ◌++◌, map, refl, sym, ap, ◌∙◌, subst, arith}
 use Rattle.std.proofs.lemmas.List.{map_push}
 use Rattle.yq_inline.specs.Values.{field_of, node_of as value_node}
-use Rattle.yq_scalar.specs.Keys.{deepest}
-use Rattle.yq_scalar.specs.Tree.{Node}
+use Rattle.yq_flow_scalars.specs.Keys.{deepest}
+use Rattle.yq_flow_scalars.specs.Tree.{Node}
 use Rattle.yq_documents.specs.Children.{left_of}
 use Rattle.yq_lines.specs.Counts.{count}
 use Rattle.yq_documents.specs.Nodes.{label_of, node_of}

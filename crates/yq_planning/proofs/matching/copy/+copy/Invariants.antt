@@ -1,7 +1,7 @@
 use Rattle.std.proofs.Common.{◌≡◌, ◌+◌, ◌*◌, ◌≤◌, map}
 use Rattle.yq_inline.specs.Values.{field_of, node_of as value_node}
-use Rattle.yq_scalar.specs.Keys.{depth, deepest}
-use Rattle.yq_scalar.specs.Tree.{children_of}
+use Rattle.yq_flow_scalars.specs.Keys.{depth, deepest}
+use Rattle.yq_flow_scalars.specs.Tree.{children_of}
 use Rattle.yq_documents.specs.Children.{left_of}
 use Rattle.yq_lines.specs.Counts.{count}
 use Rattle.yq_documents.specs.Nodes.{node_of}

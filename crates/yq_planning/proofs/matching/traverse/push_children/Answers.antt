@@ -1,6 +1,6 @@
 use Rattle.std.proofs.Common.{◌≡◌, ◌+◌, ◌++◌, map, sym, ap, ◌∙◌, append-nil, arith}
-use Rattle.yq_scalar.specs.Tree.{Children}
-use Rattle.yq_scalar.specs.Paths as paths
+use Rattle.yq_flow_scalars.specs.Tree.{Children}
+use Rattle.yq_flow_scalars.specs.Paths as paths
 use Rattle.yq_documents.specs.Children.{left_of}
 use Rattle.yq_lines.specs.Counts.{count}
 use Rattle.yq_documents.specs.Nodes.{label_of, node_of}

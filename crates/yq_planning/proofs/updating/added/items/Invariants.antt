@@ -1,6 +1,6 @@
 use Rattle.std.proofs.Common.{◌≡◌, drop, ◌++◌, map}
 use Rattle.yq_inline.specs.Values.{items_of}
-use Rattle.yq_scalar.specs.Tree.{none}
+use Rattle.yq_flow_scalars.specs.Tree.{none}
 use Rattle.yq_meaning.specs.Changes.{additions}
 use Rattle.yq_planning.specs.ChangeView.{addition_of}
 use Rattle.yq_planning.proofs.updating.added.items.Given as goal

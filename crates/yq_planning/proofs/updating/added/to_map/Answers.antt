@@ -1,6 +1,6 @@
 use Rattle.std.proofs.Common.{List, sym, ap, ◌∙◌}
 use Rattle.yq_inline.specs.Values.{node_of as value_node}
-use Rattle.yq_scalar.specs.Tree.{children_of}
+use Rattle.yq_flow_scalars.specs.Tree.{children_of}
 use Rattle.yq_documents.specs.Nodes.{node_of}
 use Rattle.yq_meaning.specs.Changes.{Addition, adds, added_entries}
 use Rattle.yq_meaning.specs.Judgement.{gives}

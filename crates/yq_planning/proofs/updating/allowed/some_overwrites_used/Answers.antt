@@ -1,5 +1,5 @@
 use Rattle.std.proofs.Common.{sym, ◌∙◌, ◌≤◌, length, arith}
-use Rattle.yq_scalar.specs.Tree.{children_of}
+use Rattle.yq_flow_scalars.specs.Tree.{children_of}
 use Rattle.yq_documents.specs.Nodes.{node_of}
 use Rattle.yq_planning.specs.ChangeView.{addition_of}
 use Rattle.yq_planning.specs.TakenNames.{overwrites_at}

@@ -1,8 +1,8 @@
 use Rattle.std.proofs.Common.{◌≡◌, ℕ, ◌+◌, ◌*◌, ◌≤◌, ◌||◌, List, is_some}
 use Rattle.std.specs.List.{list_any}
-use Rattle.yq_scalar.specs.Keys.{depth, deepest}
-use Rattle.yq_scalar.specs.Tree.{children_of}
-use Rattle.yq_scalar.specs.Anchors.{names_in}
+use Rattle.yq_flow_scalars.specs.Keys.{depth, deepest}
+use Rattle.yq_flow_scalars.specs.Tree.{children_of}
+use Rattle.yq_flow_scalars.specs.Anchors.{names_in}
 use Rattle.yq_documents.specs.Children.{left_of}
 use Rattle.yq_lines.specs.Counts.{count}
 use Rattle.yq_documents.specs.Nodes.{node_of}

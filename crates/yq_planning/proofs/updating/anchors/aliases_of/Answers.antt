@@ -1,4 +1,4 @@
-use Rattle.yq_scalar.specs.Anchors.{names_of}
+use Rattle.yq_flow_scalars.specs.Anchors.{names_of}
 use Rattle.yq_documents.specs.Nodes.{node_of}
 use Rattle.yq_planning.proofs.IndexLaws.{without_aliases}
 use Rattle.yq_planning.proofs.UsedLaws.{none_refer}

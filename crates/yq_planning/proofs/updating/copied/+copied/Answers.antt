@@ -1,7 +1,7 @@
 use Rattle.std.proofs.Common.{ℕ, List, None, sym, ap, ◌∙◌}
 use Rattle.yq_inline.specs.Values.{entries, node_of}
-use Rattle.yq_scalar.specs.Tree as tree
-use Rattle.yq_scalar.specs.Tree.{Node}
+use Rattle.yq_flow_scalars.specs.Tree as tree
+use Rattle.yq_flow_scalars.specs.Tree.{Node}
 use Rattle.yq_program.proofs.Keys.{node_of-map}
 use Rattle.yq_planning.proofs.updating.copied.+copied.Goals as goal
 

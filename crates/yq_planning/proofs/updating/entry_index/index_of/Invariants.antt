@@ -1,7 +1,7 @@
 use Rattle.std.proofs.Common.{◌≡◌, ℕ, List, option_map}
 use Rattle.std.specs.Option.{option_or}
-use Rattle.yq_scalar.specs.Paths.{To, child_at}
-use Rattle.yq_scalar.specs.Tree.{children_of}
+use Rattle.yq_flow_scalars.specs.Paths.{To, child_at}
+use Rattle.yq_flow_scalars.specs.Tree.{children_of}
 use Rattle.yq_documents.specs.Children.{left_of}
 use Rattle.yq_lines.specs.Counts.{count}
 use Rattle.yq_documents.specs.Nodes.{node_of}

@@ -1,6 +1,6 @@
 use Rattle.std.proofs.Common.{◌≡◌, drop, nat_lt}
 use Rattle.yq_inline.specs.Values.{entries_of, items_of}
-use Rattle.yq_scalar.specs.Keys.{deepest}
+use Rattle.yq_flow_scalars.specs.Keys.{deepest}
 use Rattle.yq_planning.proofs.updating.limits.+deeper.Given as goal
 
 abbrev pub invariant-some_item_is_deeper-each : goal.invariant-some_item_is_deeper-each

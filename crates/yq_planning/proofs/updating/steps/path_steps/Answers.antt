@@ -1,5 +1,5 @@
 use Rattle.std.proofs.Common.{◌≡◌, rules, List, [], map, reverse, sym, ap, ◌++◌, ◌∙◌}
-use Rattle.yq_scalar.specs.Paths.{Step}
+use Rattle.yq_flow_scalars.specs.Paths.{Step}
 use Rattle.yq_inline.specs.Entries.{step_of}
 use Rattle.yq_planning.specs.PlaceView.{path_of}
 use Rattle.yq_planning.specs.declared.matching.place.NodePath.{Root, the_lemmas}

@@ -1,6 +1,6 @@
 use Rattle.std.proofs.Common.{ℕ, List, None, ap, ◌∙◌}
-use Rattle.yq_scalar.specs.Scalar.{ScalarText, plain_of}
-use Rattle.yq_scalar.specs.Tree.{scalar}
+use Rattle.yq_flow_scalars.specs.Scalar.{ScalarText, plain_of}
+use Rattle.yq_flow_scalars.specs.Tree.{scalar}
 use Rattle.yq_planning.proofs.ScalarValues.{scalar_value}
 use Rattle.yq_planning.proofs.SumLaws.{int_plain, int_agrees}
 use Rattle.yq_planning.proofs.updating.sum.int.Goals as goal

@@ -7,7 +7,7 @@ use Rattle.yq_program.specs.Parse.{behind_at, literal_at, field_at}
 use Rattle.yq_program.specs.Lexing.{tokens, after}
 use Rattle.yq_program.proofs.Keys.{map_is, node_of-map}
 use Rattle.yq_inline.specs.Values.{node_of, field_of}
-use Rattle.yq_scalar.specs.Keys.{are_distinct}
+use Rattle.yq_flow_scalars.specs.Keys.{are_distinct}
 use Rattle.yq_program.proofs.parse.literal.+literal.Goals as goal
 
 pub items-returns-in_err-item-clause-value : goal.items-returns-in_err-item-clause-value

@@ -1,6 +1,6 @@
 use Rattle.std.proofs.Common.{◌∙◌, ap, map, List, ℕ}
 use Rattle.std.specs.Borrow.{Bor}
-use Rattle.yq_scalar.specs.Keys.{are_distinct}
+use Rattle.yq_flow_scalars.specs.Keys.{are_distinct}
 use Rattle.yq_program.proofs.Keys.{tested, keys_of_fields}
 use Rattle.yq_program.proofs.parse.literal.keys_differ.Goals as goal
 

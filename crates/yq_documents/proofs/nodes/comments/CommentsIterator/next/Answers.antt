@@ -1,6 +1,6 @@
 use Rattle.std.proofs.Common.{refl, ap, ◌∙◌}
 use Rattle.yq_scalar.proofs.BlockSteps.{at_cut, at_end}
-use Rattle.yq_scalar.specs.Text.{lines_of}
+use Rattle.yq_flow_scalars.specs.Text.{lines_of}
 use Rattle.yq_documents.specs.Texts.{texts}
 use Rattle.yq_documents.proofs.CommentLaws.{no_text, one_text, none_left}
 use Rattle.yq_documents.proofs.nodes.comments.CommentsIterator.next.Goals as goal

@@ -1,5 +1,5 @@
 use Rattle.std.proofs.Common.{ap, ◌∙◌}
-use Rattle.yq_scalar.specs.Paths.{Nth}
+use Rattle.yq_flow_scalars.specs.Paths.{Nth}
 use Rattle.yq_lines.specs.Labelled.{labelled_at}
 use Rattle.yq_documents.specs.Nodes.{node_of}
 use Rattle.yq_documents.proofs.WalkLaws.{child_node}

@@ -1,0 +1,187 @@
+-- What the items of a scalar stand for, and where a text may be cut.
+use Rattle.std.proofs.Common.{◌≡◌, ℕ, zero, suc, ◌<◌, ◌≤◌, Bool, true, false, eqb, List, [], ◌∷◌, ◌++◌, length, take, drop, get_or, Some, None, Result, Ok, Err, IfOk, refl, sym, inl, inr, ◌&&◌, ◌||◌, ap, ◌∙◌, subst, arith, eqb-true, append-nil, length-drop}
+use Rattle.std.proofs.lemmas.Bool.{false≢true, or_cases, cases_lt, and_parts, cases_Bool, or_parts}
+use Rattle.std.proofs.lemmas.List.{take-append-drop}
+use Rattle.std.proofs.Math.Utf8.{encode}
+use Rattle.std.specs.Str.{IsUtf8, IsCharBoundary}
+use Rattle.yq_flow_scalars.specs.Text.{is_white, is_break, is_feed, is_return, is_space, front, upto, NoneIn}
+use Rattle.yq_flow_scalars.specs.Quoted.{joined}
+use Rattle.yq_flow_scalars.specs.QuotedReading.{escape}
+use Rattle.yq_flow_scalars.specs.ContentReading.{Before, within, after, filled, content_on, break_len, before_of, is_pair, is_slash, ends_run}
+use Rattle.yq_flow_scalars.specs.Plain.{no_gap}
+use Rattle.yq_flow_scalars.proofs.Upto.{upto_le_length, none_in_cut}
+use Rattle.yq_flow_scalars.proofs.Boundaries.{boundary_ends, space_ascii, break_ascii, boundary_behind}
+use Rattle.yq_flow_scalars.proofs.EscapeLaws.{escape_ascii, escape_within}
+
+-- bytes that are all ASCII
+low_at : (b : ℕ) (bs : List ℕ) (n k : ℕ) → b < 128 → ((j : ℕ) → j < n → get_or bs j 0 < 128) → k < suc n → get_or (b ∷ bs) k 0 < 128
+low_at b bs n zero low rest lt = low
+low_at b bs n (suc k) low rest lt = rest k (omega arith)
+
+first_low : (b : ℕ) (bs : List ℕ) (k : ℕ) → b < 128 → k < 1 → get_or (b ∷ bs) k 0 < 128
+first_low b bs zero low lt = low
+first_low b bs (suc k) low lt = absurd (omega arith)
+
+space_low : (t : List ℕ) (k : ℕ) → k < upto no_gap t → get_or t k 0 < 128
+unfolding upto
+space_low [] k lt = absurd (omega arith)
+space_low (b ∷ bs) k lt = elim (cases_Bool (is_space (b ∷ bs))) [
+  | inl s ↦ (let n : k < suc (upto no_gap bs) = rw s at lt in low_at b bs (upto no_gap bs) k (space_ascii b bs s) (λ j l. space_low bs j l) n)
+  | inr s ↦ absurd (let n : k < 0 = rw s at lt in omega (arith, n))
+]
+
+pub boundary_space : (t : List ℕ) (n : ℕ) → n ≡ upto no_gap t → IsUtf8 t → IsCharBoundary t n
+boundary_space t n e u = rw e (boundary_behind t (upto no_gap t) u (upto_le_length no_gap t) (space_low t))
+
+run_ascii : (q b : ℕ) (bs : List ℕ) → ends_run q (b ∷ bs) ≡ true → b < 128
+run_ascii q b bs h = elim (or_cases (is_space (b ∷ bs) || is_pair q (b ∷ bs)) (is_slash q (b ∷ bs)) h) [
+  | inl x ↦ elim (or_cases (is_space (b ∷ bs)) (is_pair q (b ∷ bs)) x) [
+    | inl y ↦ space_ascii b bs y
+    | inr y ↦ omega (arith, eqb-true b 39 (and_parts (eqb q 39) (eqb b 39) (and_parts (eqb q 39 && eqb b 39) (front (λ c. eqb c 39) bs) y).0).1)
+  ]
+  | inr x ↦ omega (arith, eqb-true b 92 (and_parts (eqb q 34) (eqb b 92) x).1)
+]
+
+pub boundary_run : (q : ℕ) (t : List ℕ) (n : ℕ) → n ≡ upto (ends_run q) t → IsCharBoundary t n
+boundary_run q t n e = rw e (boundary_ends (ends_run q) t (run_ascii q) refl)
+
+-- bytes that are passed over
+content_skip : (q k : ℕ) (g : Before) (w t : List ℕ) → content_on q k g w t ≡ content_on q 0 g w (drop k t)
+unfolding content_on
+content_skip q zero g w t = refl
+content_skip q (suc k) g w [] = refl
+content_skip q (suc k) g w (b ∷ t) = content_skip q k g w t
+
+at_break : (bs : List ℕ) → is_break bs ≡ true → content_on 34 0 within [] (92 ∷ bs) ≡ content_on 34 0 (after (joined 0)) [] (drop (break_len bs) bs)
+unfolding content_on
+at_break bs e = rw e (content_skip 34 (break_len bs) (after (joined 0)) [] bs)
+
+at_none : (bs : List ℕ) → is_break bs ≡ false → escape bs ≡ None → content_on 34 0 within [] (92 ∷ bs) ≡ content_on 34 0 within [] bs
+unfolding content_on
+at_none bs e n = rw (e, n) refl
+
+at_some : (bs : List ℕ) (c k : ℕ) → is_break bs ≡ false → escape bs ≡ Some (c, k) → content_on 34 0 within [] (92 ∷ bs) ≡ encode c ++ content_on 34 0 within [] (drop k bs)
+unfolding content_on
+at_some bs c k e n = rw (e, n) (ap (λ l. encode c ++ l) (content_skip 34 k within [] bs))
+
+-- an escape in front
+pub escape_break : (t : List ℕ) → front (λ b. eqb b 92) t ≡ true → is_break (drop 1 t) ≡ true → content_on 34 0 within [] t ≡ content_on 34 0 (after (joined 0)) [] (drop (break_len (drop 1 t)) (drop 1 t))
+escape_break [] h e = absurd (false≢true h)
+escape_break (b ∷ bs) h e = subst (λ (x : ℕ). content_on 34 0 within [] (x ∷ bs) ≡ content_on 34 0 (after (joined 0)) [] (drop (break_len bs) bs)) (sym (eqb-true b 92 h)) (at_break bs e)
+
+pub escape_none : (t : List ℕ) → front (λ b. eqb b 92) t ≡ true → is_break (drop 1 t) ≡ false → escape (drop 1 t) ≡ None → content_on 34 0 within [] t ≡ content_on 34 0 within [] (drop 1 t)
+escape_none [] h e n = absurd (false≢true h)
+escape_none (b ∷ bs) h e n = subst (λ (x : ℕ). content_on 34 0 within [] (x ∷ bs) ≡ content_on 34 0 within [] bs) (sym (eqb-true b 92 h)) (at_none bs e n)
+
+pub escape_some : (t : List ℕ) (c k : ℕ) → front (λ b. eqb b 92) t ≡ true → is_break (drop 1 t) ≡ false → escape (drop 1 t) ≡ Some (c, k) → content_on 34 0 within [] t ≡ encode c ++ content_on 34 0 within [] (drop k (drop 1 t))
+escape_some [] c k h e n = absurd (false≢true h)
+escape_some (b ∷ bs) c k h e n = subst (λ (x : ℕ). content_on 34 0 within [] (x ∷ bs) ≡ encode c ++ content_on 34 0 within [] (drop k bs)) (sym (eqb-true b 92 h)) (at_some bs c k e n)
+
+-- where it may be cut
+pub boundary_slash : (t : List ℕ) → front (λ b. eqb b 92) t ≡ true → IsUtf8 t → IsCharBoundary t 1
+boundary_slash [] h u = absurd (false≢true h)
+boundary_slash (b ∷ bs) h u = boundary_behind (b ∷ bs) 1 u (omega arith) (λ k lt. first_low b bs k (omega (arith, eqb-true b 92 h)) lt)
+
+break_within : (t : List ℕ) → is_break t ≡ true → break_len t ≤ length t
+break_within [] h = absurd (false≢true h)
+break_within (b ∷ []) h = elim (cases_Bool (is_feed b)) [
+  | inl e ↦ rw e (omega arith)
+  | inr e ↦ absurd (let g : (is_return b && false) ≡ true = rw e at h in false≢true (and_parts (is_return b) false g).1)
+]
+break_within (b ∷ c ∷ bs) h = elim (cases_Bool (is_feed b)) [ inl e ↦ rw e (omega arith) | inr e ↦ rw e (omega arith) ]
+
+break_low : (t : List ℕ) → is_break t ≡ true → (k : ℕ) → k < break_len t → get_or t k 0 < 128
+break_low [] h k lt = absurd (false≢true h)
+break_low (b ∷ []) h zero lt = break_ascii b [] h
+break_low (b ∷ []) h (suc k) lt = absurd (let w = break_within (b ∷ []) h in omega (arith, w, lt))
+break_low (b ∷ c ∷ bs) h zero lt = break_ascii b (c ∷ bs) h
+break_low (b ∷ c ∷ bs) h (suc zero) lt = elim (cases_Bool (is_feed b)) [
+  | inl e ↦ absurd (let n : suc zero < 1 = rw e at lt in omega (arith, n))
+  | inr e ↦ (let g : (is_return b && is_feed c) ≡ true = rw e at h in omega (arith, eqb-true c 10 (and_parts (is_return b) (is_feed c) g).1))
+]
+break_low (b ∷ c ∷ bs) h (suc (suc k)) lt = absurd (elim (cases_Bool (is_feed b)) [
+  | inl e ↦ (let n : suc (suc k) < 1 = rw e at lt in omega (arith, n))
+  | inr e ↦ (let n : suc (suc k) < 2 = rw e at lt in omega (arith, n))
+])
+
+pub boundary_break : (t : List ℕ) → is_break t ≡ true → IsUtf8 t → IsCharBoundary t (break_len t)
+boundary_break t h u = boundary_behind t (break_len t) u (break_within t h) (break_low t h)
+
+pub boundary_escape : (t : List ℕ) (c k : ℕ) → escape t ≡ Some (c, k) → IsUtf8 t → IsCharBoundary t k
+boundary_escape t c k h u = boundary_behind t k u (escape_within t c k h) (escape_ascii t c k h)
+
+-- bytes that stand for themselves
+pub content_itself : (q : ℕ) (p rest : List ℕ) → NoneIn (ends_run q) p rest → content_on q 0 within [] (p ++ rest) ≡ p ++ content_on q 0 within [] rest
+unfolding content_on
+content_itself q [] rest h = refl
+content_itself q (b ∷ p) rest h =
+    let x = or_parts (is_space (b ∷ (p ++ rest)) || is_pair q (b ∷ (p ++ rest))) (is_slash q (b ∷ (p ++ rest))) h.0 in
+    let y = or_parts (is_space (b ∷ (p ++ rest))) (is_pair q (b ∷ (p ++ rest))) x.0 in
+    let z = or_parts (is_white b) (is_break (b ∷ (p ++ rest))) y.0 in
+    let n = or_parts (is_feed b) (is_return b && front is_feed (p ++ rest)) z.1 in
+    rw (z.0, n.0, n.1, x.1, y.1) (ap (λ l. b ∷ l) (content_itself q p rest h.1))
+
+-- two single quotes
+pair_front : (before : Before) (w bs : List ℕ) → content_on 39 0 before w (39 ∷ 39 ∷ bs) ≡ filled before w ++ (39 ∷ content_on 39 0 within [] bs)
+unfolding content_on
+pair_front before w bs = refl
+
+pub content_pair : (q : ℕ) (t : List ℕ) → is_pair q t ≡ true → content_on q 0 within [] t ≡ 39 ∷ content_on q 0 within [] (drop 2 t)
+content_pair q [] h = absurd (false≢true h)
+content_pair q (b ∷ []) h = absurd (false≢true (and_parts (eqb q 39 && eqb b 39) false h).1)
+content_pair q (b ∷ c ∷ bs) h =
+    let p = and_parts (eqb q 39 && eqb b 39) (eqb c 39) h in
+    let r = and_parts (eqb q 39) (eqb b 39) p.0 in
+    rw (eqb-true q 39 r.0, eqb-true b 39 r.1, eqb-true c 39 p.1) (pair_front within [] bs)
+
+pair_low : (q : ℕ) (t : List ℕ) → is_pair q t ≡ true → (k : ℕ) → k < 2 → get_or t k 0 < 128
+pair_low q [] h k lt = absurd (false≢true h)
+pair_low q (b ∷ []) h k lt = absurd (false≢true (and_parts (eqb q 39 && eqb b 39) false h).1)
+pair_low q (b ∷ c ∷ bs) h zero lt = omega (arith, eqb-true b 39 (and_parts (eqb q 39) (eqb b 39) (and_parts (eqb q 39 && eqb b 39) (eqb c 39) h).0).1)
+pair_low q (b ∷ c ∷ bs) h (suc zero) lt = omega (arith, eqb-true c 39 (and_parts (eqb q 39 && eqb b 39) (eqb c 39) h).1)
+pair_low q (b ∷ c ∷ bs) h (suc (suc k)) lt = absurd (omega arith)
+
+pair_within : (q : ℕ) (t : List ℕ) → is_pair q t ≡ true → 2 ≤ length t
+pair_within q [] h = absurd (false≢true h)
+pair_within q (b ∷ []) h = absurd (false≢true (and_parts (eqb q 39 && eqb b 39) false h).1)
+pair_within q (b ∷ c ∷ bs) h = omega arith
+
+pub boundary_pair : (q : ℕ) (t : List ℕ) → is_pair q t ≡ true → IsUtf8 t → IsCharBoundary t 2
+boundary_pair q t h u = boundary_behind t 2 u (pair_within q t h) (pair_low q t h)
+
+pub content_run : (q : ℕ) (t : List ℕ) → content_on q 0 within [] t ≡ take (upto (ends_run q) t) t ++ content_on q 0 within [] (drop (upto (ends_run q) t) t)
+content_run q t = ap (content_on q 0 within []) (sym (take-append-drop (upto (ends_run q) t) t)) ∙ content_itself q (take (upto (ends_run q) t) t) (drop (upto (ends_run q) t) t) (none_in_cut (ends_run q) t)
+
+-- what follows a cut is no longer, and shorter where the cut isn't in front
+pub cut_within : (ends : List ℕ → Bool) (t r : List ℕ) → r ≡ drop (upto ends t) t → length r ≤ length t
+cut_within ends t r e = omega (arith, ap length e, length-drop (upto ends t) t)
+
+pub cut_shorter : (ends : List ℕ → Bool) (t r : List ℕ) → r ≡ drop (upto ends t) t → 0 < length t → ends t ≡ false → length r < length t
+unfolding upto
+cut_shorter ends [] r e some h = absurd (omega arith)
+cut_shorter ends (b ∷ bs) r e some h =
+    let rest : r ≡ drop (upto ends bs) bs = rw h at e in
+    omega (arith, ap length rest, length-drop (upto ends bs) bs)
+
+-- a run begins where neither white space, a break, two quotes nor a backslash is in front
+pub runs_on : (q : ℕ) (t : List ℕ) → 0 < length t → is_space t ≡ false → is_pair q t ≡ false → is_slash q t ≡ false → ends_run q t ≡ false
+runs_on q [] some space pair slash = absurd (omega (arith, some))
+runs_on q (b ∷ bs) some space pair slash = rw (space, pair, slash) refl
+
+-- what is shorter than a text that is no longer
+pub shorter_still : (x next all : ℕ) → next ≤ all → x ≤ next → (0 < next → x < next) → 0 < all → x < all
+shorter_still x next all no_longer le lt some = elim (cases_lt 0 next) [
+  | inl more ↦ omega (arith, lt more)
+  | inr none ↦ omega arith
+]
+
+pub both_if_ok : {X E : Type 0} (r : Result X E) (P Q R : X → Type 0) → ((x : X) → P x → Q x → R x) → IfOk r P → IfOk r Q → IfOk r R
+both_if_ok (Ok x) P Q R f p q = f x p q
+both_if_ok (Err e) P Q R f p q = tt
+
+-- at the end all is there
+pub all_folded : (q : ℕ) (j : Bool) (out rest all : List ℕ) → eqb (length rest) 0 ≡ true → out ++ content_on q 0 (before_of j) [] rest ≡ all → out ≡ all
+unfolding content_on
+all_folded q true out [] all h e = sym (append-nil out) ∙ e
+all_folded q false out [] all h e = sym (append-nil out) ∙ e
+all_folded q j out (b ∷ bs) all h e = absurd (omega (arith, eqb-true (length (b ∷ bs)) 0 h))
