@@ -11,12 +11,12 @@ ghost use Rattle.yq_expr.specs.EffectView.{effect_at};
 ghost use Rattle.yq_planning.specs.Indexes.{HasAliases};
 ghost use Rattle.yq_meaning.specs.Judgement.{Judges, and_then};
 ghost use Rattle.yq_meaning.specs.Meaning.{roots_of};
-ghost use Rattle.yq_planning.specs.PlaceView.{place_of, places_of, put_behind};
+ghost use Rattle.yq_matching.specs.PlaceView.{place_of, places_of, put_behind};
 ghost use Rattle.yq_meaning.specs.Places.{root_place};
 ghost use Rattle.yq_meaning.specs.PlacesApart.{AreIn, IsIn};
 ghost use Rattle.yq_meaning.specs.RightValues.{right_value as right_sum};
 ghost use Rattle.yq_meaning.specs.Rooms.{room_of};
-ghost use Rattle.yq_planning.specs.TreeScalars.{HasScalars, HaveScalars};
+ghost use Rattle.yq_matching.specs.TreeScalars.{HasScalars, HaveScalars};
 ghost use Rattle.yq_program.specs.View.{stage_of, term_of, update_of};
 
 use crate::effect::{Action, change_at};
@@ -24,9 +24,8 @@ use bumpalo::Bump;
 use std::alloc::Global;
 use yq_documents::Node;
 use yq_meaning::{ExprError, Refusal};
-use yq_planning::{
-    Aliases, Change, Changed, Place, aliases_of, allow, find, has_comment, path_steps, right_value,
-};
+use yq_matching::{Place, find};
+use yq_planning::{Aliases, Change, Changed, aliases_of, allow, has_comment, path_steps, right_value};
 use yq_program::{Assignment, Operator, Stage, Term, Update};
 use yq_tree::{CutText, Documents};
 

@@ -3,19 +3,18 @@ ghost use Rattle.std.specs.Prelude.{◌≡◌, IfOk, map};
 ghost use Rattle.yq_planning.specs.ChangeView.{placed};
 ghost use Rattle.yq_expr.specs.EffectView.{effect_at};
 ghost use Rattle.yq_meaning.specs.Judgement.{Judges};
-ghost use Rattle.yq_planning.specs.PlaceView.{place_of};
+ghost use Rattle.yq_matching.specs.PlaceView.{place_of};
 ghost use Rattle.yq_meaning.specs.Changes as spec;
 ghost use Rattle.yq_meaning.specs.Rooms.{comment_part, room_of};
-ghost use Rattle.yq_planning.specs.TreeScalars.{HasScalars};
+ghost use Rattle.yq_matching.specs.TreeScalars.{HasScalars};
 ghost use Rattle.yq_inline.specs.Values.{node_of};
 
 use std::alloc::{AllocError, Global};
 use yq_documents::{Part, Path};
 use yq_inline::Value;
 use yq_meaning::{ExprError, Refusal};
-use yq_planning::{
-    Change, Missing, NodePath, Place, added, copied, is_null, path_steps, put, right_value,
-};
+use yq_matching::{Missing, NodePath, Place};
+use yq_planning::{Change, added, copied, is_null, path_steps, put, right_value};
 use yq_program::{CommentPlace, Term};
 use yq_tree::CutText;
 

@@ -7,10 +7,10 @@ ghost use Rattle.yq_meaning.specs.Copies as spec;
 ghost use Rattle.yq_meaning.specs.Judgement.{Judges};
 ghost use Rattle.yq_plans.specs.MatchTrees.{AreMatches};
 ghost use Rattle.yq_expr.specs.MatchView.{matches_of};
-ghost use Rattle.yq_planning.specs.PlaceView.{place_of, places_of, put_behind};
+ghost use Rattle.yq_matching.specs.PlaceView.{place_of, places_of, put_behind};
 ghost use Rattle.yq_meaning.specs.Places.{for_each};
 ghost use Rattle.yq_program.specs.Program.{Stage as PipeStage, is_read, read};
-ghost use Rattle.yq_planning.specs.TreeScalars.{HasScalars, HaveScalars};
+ghost use Rattle.yq_matching.specs.TreeScalars.{HasScalars, HaveScalars};
 ghost use Rattle.yq_program.specs.View.{program_of, stage_of};
 
 use bumpalo::Bump;
@@ -18,7 +18,7 @@ use std::alloc::Global;
 use yq_documents::Node;
 use yq_inline::Value;
 use yq_meaning::ExprError;
-use yq_planning::{Place, copy_at, find};
+use yq_matching::{Place, copy_at, find};
 use yq_program::{Program, Stage, Syntax};
 use yq_tree::Documents;
 

@@ -6,15 +6,15 @@ use Rattle.yq_documents.specs.Documents.{Document}
 use Rattle.yq_meaning.specs.Changes.{Room, Changed, put_at, at_each, with_value, changes_at, changes_in, changes_from}
 use Rattle.yq_meaning.specs.Judgement.{MatchFails, Judgement, and_then, gives, refuses}
 use Rattle.yq_meaning.specs.Meaning.{roots_of}
-use Rattle.yq_planning.specs.PlaceView.{places_of, put_behind}
+use Rattle.yq_matching.specs.PlaceView.{places_of, put_behind}
 use Rattle.yq_meaning.specs.Places.{Place, root_place, for_each}
 use Rattle.yq_program.specs.Program.{Stage, Term, Update, assign}
 use Rattle.yq_meaning.specs.RightValues.{right_value}
-use Rattle.yq_planning.specs.declared.matching.place.Place as declared
+use Rattle.yq_matching.specs.declared.matching.place.Place as declared
 use Rattle.yq_program.specs.declared.program.Operator.{Operator}
 use Rattle.yq_program.specs.declared.program.Operator.TheVariants as operator
 use Rattle.yq_meaning.specs.declared.expr_error.ExprError.{ExprError}
-use Rattle.yq_planning.proofs.EachLaws.{fails_then}
+use Rattle.yq_matching.proofs.EachLaws.{fails_then}
 
 -- ---- places
 

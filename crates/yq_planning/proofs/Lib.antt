@@ -1,9 +1,4 @@
 pub mod ScalarValues
-pub mod PlaceLaws
-pub mod EachLaws
-pub mod CopyLaws
-pub mod TreeScalarLaws
-pub mod MatchLaws
 pub mod SumLaws
 pub mod LimitLaws
 pub mod IndexLaws

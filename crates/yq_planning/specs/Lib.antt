@@ -1,7 +1,5 @@
 pub use Rattle.yq_inline.specs.Values
 pub use Rattle.yq_flow_scalars.specs.Tree
-pub mod TreeScalars
-pub mod PlaceView
 pub mod EntryNumbers
 pub mod ChangeView
 pub mod Indexes

@@ -1,12 +1,8 @@
-//! What an update changes in trees: where its pipes lead, the changes there, and the operations that carry them out.
+//! What an update changes at a place, what refuses it, and the operations that carry it out.
 #![tactic(auto)]
 
-mod matching;
 mod updating;
 
-pub use matching::copy::copy_at;
-pub use matching::pipe::find;
-pub use matching::place::{Missing, NodePath, NodeStep, Place};
 pub use updating::added::added;
 pub use updating::allowed::allow;
 pub use updating::anchors::{Aliases, aliases_of};

@@ -15,9 +15,9 @@ use crate::updating::entry_index::{EntryIndex, find, index_of};
 use crate::updating::sum::scalar_sum;
 use std::alloc::{AllocError, Global};
 use yq_documents::{Node, NodeKind};
+use yq_flow_scalars::Kind;
 use yq_inline::Value;
 use yq_meaning::{ExprError, Refusal};
-use yq_flow_scalars::Kind;
 
 /// A value that is added to a scalar.
 fn to_scalar(alloc: Global, kind: Kind, text: &str, value: &Value) -> Result<Change, ExprError>

@@ -4,8 +4,8 @@ ghost use Rattle.yq_flow_scalars.specs.Characters.{is_text_char};
 ghost use Rattle.yq_meaning.specs.Changes as spec;
 ghost use Rattle.yq_program.specs.View.{update_of};
 
-use yq_program::{CommentPlace, Update};
 use yq_flow_scalars::characters::is_text_char;
+use yq_program::{CommentPlace, Update};
 
 /// Whether a line comment can have a text: no character is a break.
 fn is_line(text: &str) -> bool

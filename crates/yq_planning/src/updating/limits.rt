@@ -5,10 +5,10 @@ ghost use Rattle.yq_flow_scalars.specs.Keys.{deepest, depth};
 ghost use Rattle.yq_meaning.specs.Changes as spec;
 
 use std::alloc::{AllocError, Global};
-use yq_inline::{DEPTH_LIMIT, Value};
-use yq_rows::KEY_LIMIT;
 use yq_flow_scalars::characters::char_count;
 use yq_flow_scalars::{Place, Scalar, Style, can_write};
+use yq_inline::{DEPTH_LIMIT, Value};
+use yq_rows::KEY_LIMIT;
 use yq_scalar::write_scalar;
 
 /// Whether a key has too many characters as it is written in flow mappings.

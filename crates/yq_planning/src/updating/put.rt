@@ -9,16 +9,16 @@ ghost use Rattle.yq_meaning.specs.Changes as spec;
 ghost use Rattle.yq_planning.specs.ChangeView.{change_of};
 ghost use Rattle.yq_planning.specs.ChangeView.{placed_change};
 ghost use Rattle.yq_meaning.specs.Judgement.{Judges};
-ghost use Rattle.yq_planning.specs.PlaceView.{place_of};
+ghost use Rattle.yq_matching.specs.PlaceView.{place_of};
 ghost use Rattle.yq_program.specs.Program.{is_index};
 ghost use Rattle.yq_program.specs.View.{step_of};
 
-use crate::matching::place::Place;
 use crate::updating::change::{Addition, Change};
 use crate::updating::steps::missing_steps;
 use std::alloc::{AllocError, Global};
 use yq_documents::{Node, NodeKind};
 use yq_inline::Value;
+use yq_matching::Place;
 use yq_meaning::{ExprError, Refusal};
 use yq_program::{Step, is_index};
 

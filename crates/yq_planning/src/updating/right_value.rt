@@ -3,23 +3,21 @@ ghost use Rattle.std.specs.Prelude.{◌≡◌, ◌∷◌, [], map};
 ghost use Rattle.yq_inline.specs.Values.{node_of};
 ghost use Rattle.yq_meaning.specs.Judgement.{Judges, and_then};
 ghost use Rattle.yq_meaning.specs.Pipes.{pipe_on};
-ghost use Rattle.yq_planning.specs.PlaceView.{place_of, places_of};
+ghost use Rattle.yq_matching.specs.PlaceView.{place_of, places_of};
 ghost use Rattle.yq_meaning.specs.Places.{chained};
 ghost use Rattle.yq_meaning.specs.RightValues as spec;
-ghost use Rattle.yq_planning.specs.TreeScalars.{HasScalars, HaveScalars};
+ghost use Rattle.yq_matching.specs.TreeScalars.{HasScalars, HaveScalars};
 ghost use Rattle.yq_program.specs.View.{stage_of, term_of};
 
-use crate::matching::copy::copy_at;
-use crate::matching::pipe::pipe_on;
-use crate::matching::place::Place;
 use crate::updating::copied::copied;
 use crate::updating::sum::sum;
 use bumpalo::Bump;
 use std::alloc::Global;
+use yq_flow_scalars::Scalar;
 use yq_inline::Value;
+use yq_matching::{Place, copy_at, pipe_on};
 use yq_meaning::{ExprError, Refusal};
 use yq_program::{Stage, Term};
-use yq_flow_scalars::Scalar;
 
 /// A copy of the value at the one place that there is.
 fn only(alloc: Global, places: &[Place<'_, '_>]) -> Result<Value, ExprError>

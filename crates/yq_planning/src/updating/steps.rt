@@ -1,12 +1,11 @@
 //! The steps of a place, in order.
 ghost use Rattle.std.specs.Prelude.{◌≡◌, IfOk, map};
 ghost use Rattle.yq_inline.specs.Entries.{step_of as tree_step};
-ghost use Rattle.yq_planning.specs.PlaceView.{missing_of, path_of};
+ghost use Rattle.yq_matching.specs.PlaceView.{missing_of, path_of};
 ghost use Rattle.yq_program.specs.View.{step_of};
 
-use crate::matching::owned;
-use crate::matching::place::{Missing, NodePath};
 use std::alloc::{AllocError, Global};
+use yq_matching::{Missing, NodePath, owned};
 use yq_program::Step;
 
 /// The steps of a path.

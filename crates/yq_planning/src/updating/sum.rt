@@ -12,9 +12,9 @@ ghost use Rattle.yq_meaning.specs.RightValues as spec;
 
 use crate::updating::key_numbers::{KeyNumbers, keep_number, number_of, numbers_of};
 use std::alloc::{AllocError, Global};
+use yq_flow_scalars::{Kind, Scalar};
 use yq_inline::Value;
 use yq_meaning::{ExprError, Refusal};
-use yq_flow_scalars::{Kind, Scalar};
 use yq_scalar::int_value;
 
 /// The int of a number.

@@ -9,12 +9,12 @@ use Rattle.yq_meaning.specs.Changes.{changes_in}
 use Rattle.yq_planning.specs.ChangeView.{all_changed_of, changed_of}
 use Rattle.yq_meaning.specs.Judgement.{MatchFails}
 use Rattle.yq_meaning.specs.Rooms.{room_of}
-use Rattle.yq_planning.specs.TreeScalars.{HasScalars}
+use Rattle.yq_matching.specs.TreeScalars.{HasScalars}
 use Rattle.yq_program.specs.View.{update_of}
 use Rattle.yq_planning.proofs.AllChanges.{document_more, document_fails}
-use Rattle.yq_planning.proofs.EachLaws.{failed}
-use Rattle.yq_planning.proofs.MatchLaws.{document_there}
-use Rattle.yq_planning.proofs.TreeScalarLaws.{documents_have}
+use Rattle.yq_matching.proofs.EachLaws.{failed}
+use Rattle.yq_matching.proofs.MatchLaws.{document_there}
+use Rattle.yq_matching.proofs.TreeScalarLaws.{documents_have}
 use Rattle.yq_expr.proofs.changes.all_changes.Goals as goal
 
 pub changes_in-requires-clause-scalars : goal.changes_in-requires-clause-scalars

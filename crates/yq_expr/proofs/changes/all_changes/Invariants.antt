@@ -3,7 +3,7 @@ use Rattle.yq_documents.specs.Reading.{documents_of}
 use Rattle.yq_meaning.specs.Changes.{changes_from}
 use Rattle.yq_planning.specs.ChangeView.{all_changed_of}
 use Rattle.yq_meaning.specs.Meaning.{roots_of}
-use Rattle.yq_planning.specs.PlaceView.{put_behind}
+use Rattle.yq_matching.specs.PlaceView.{put_behind}
 use Rattle.yq_meaning.specs.Rooms.{room_of}
 use Rattle.yq_program.specs.View.{update_of}
 use Rattle.yq_expr.proofs.changes.all_changes.Given as goal

@@ -3,7 +3,7 @@ use Rattle.std.specs.declared.alloc.Global.{Global}
 use Rattle.yq_documents.specs.Nodes.{node_of}
 use Rattle.yq_planning.specs.ChangeView.{changed_of}
 use Rattle.yq_meaning.specs.Judgement.{Judges}
-use Rattle.yq_planning.specs.PlaceView.{places_of}
+use Rattle.yq_matching.specs.PlaceView.{places_of}
 use Rattle.yq_meaning.specs.Rooms.{room_of}
 use Rattle.yq_program.specs.View.{stage_of, term_of}
 use Rattle.yq_planning.specs.declared.updating.change.Changed.{Changed}

@@ -4,13 +4,13 @@ use Rattle.yq_meaning.specs.Changes.{Changed, all_allowed}
 use Rattle.yq_planning.specs.ChangeView.{changed_of}
 use Rattle.yq_expr.specs.EffectView.{effect_at}
 use Rattle.yq_meaning.specs.Judgement.{Judgement, and_then}
-use Rattle.yq_planning.specs.PlaceView.{place_of}
+use Rattle.yq_matching.specs.PlaceView.{place_of}
 use Rattle.yq_meaning.specs.PlacesApart.{AreIn}
 use Rattle.yq_meaning.specs.Places.{Place}
 use Rattle.yq_meaning.specs.Rooms.{room_of}
-use Rattle.yq_planning.specs.TreeScalars.{HaveScalars}
+use Rattle.yq_matching.specs.TreeScalars.{HaveScalars}
 use Rattle.yq_planning.proofs.AllChanges.{each_done}
-use Rattle.yq_planning.proofs.EachLaws.{each_more, each_fails, failed, reached}
+use Rattle.yq_matching.proofs.EachLaws.{each_more, each_fails, failed, reached}
 use Rattle.yq_expr.proofs.changes.at_each.Goals as goal
 
 pub returns-in_err-push_effect : goal.returns-in_err-push_effect

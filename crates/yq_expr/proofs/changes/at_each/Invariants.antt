@@ -5,10 +5,10 @@ use Rattle.yq_meaning.specs.Changes.{at_each}
 use Rattle.yq_planning.specs.ChangeView.{changed_of}
 use Rattle.yq_expr.specs.EffectView.{effect_at}
 use Rattle.yq_planning.specs.Indexes.{HasAliases}
-use Rattle.yq_planning.specs.PlaceView.{places_of, put_behind}
+use Rattle.yq_matching.specs.PlaceView.{places_of, put_behind}
 use Rattle.yq_meaning.specs.PlacesApart.{AreIn}
 use Rattle.yq_meaning.specs.Rooms.{room_of}
-use Rattle.yq_planning.specs.TreeScalars.{HaveScalars}
+use Rattle.yq_matching.specs.TreeScalars.{HaveScalars}
 use Rattle.yq_expr.proofs.changes.at_each.Given as goal
 
 abbrev pub invariant-places : goal.invariant-places

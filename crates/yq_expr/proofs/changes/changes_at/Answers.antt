@@ -4,7 +4,7 @@ use Rattle.yq_documents.specs.Nodes.{node_of}
 use Rattle.yq_meaning.specs.Changes.{at_each, changes_at, comment_at}
 use Rattle.yq_planning.specs.ChangeView.{changed_of}
 use Rattle.yq_meaning.specs.Judgement.{Judges}
-use Rattle.yq_planning.specs.PlaceView.{places_of}
+use Rattle.yq_matching.specs.PlaceView.{places_of}
 use Rattle.yq_meaning.specs.Rooms.{room_of}
 use Rattle.yq_program.specs.View.{update_of}
 use Rattle.yq_planning.specs.declared.updating.change.Changed.{Changed}

@@ -1,11 +1,11 @@
 use Rattle.std.proofs.Common.{List, map, sym, subst}
 use Rattle.yq_documents.specs.Nodes.{node_of}
-use Rattle.yq_planning.specs.PlaceView.{places_of}
+use Rattle.yq_matching.specs.PlaceView.{places_of}
 use Rattle.yq_meaning.specs.PlacesApart.{AreIn}
-use Rattle.yq_planning.specs.TreeScalars.{HaveScalars}
+use Rattle.yq_matching.specs.TreeScalars.{HaveScalars}
 use Rattle.yq_program.specs.View.{stage_of}
-use Rattle.yq_planning.specs.declared.matching.place.Place as declared
-use Rattle.yq_planning.proofs.MatchLaws.{places_have}
+use Rattle.yq_matching.specs.declared.matching.place.Place as declared
+use Rattle.yq_matching.proofs.MatchLaws.{places_have}
 use Rattle.yq_plans.proofs.updates.PipePlaces.{places_stand}
 use Rattle.yq_expr.proofs.changes.changes_in.Goals as goal
 

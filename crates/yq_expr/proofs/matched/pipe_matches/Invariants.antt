@@ -2,7 +2,7 @@ use Rattle.std.proofs.Common.{◌≡◌, drop, map}
 use Rattle.yq_documents.specs.Reading.{documents_of}
 use Rattle.yq_meaning.specs.Copies.{matches_from}
 use Rattle.yq_expr.specs.MatchView.{matches_of}
-use Rattle.yq_planning.specs.PlaceView.{put_behind}
+use Rattle.yq_matching.specs.PlaceView.{put_behind}
 use Rattle.yq_program.specs.View.{stage_of}
 use Rattle.yq_expr.proofs.matched.pipe_matches.Given as goal
 

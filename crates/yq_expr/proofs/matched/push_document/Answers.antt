@@ -1,10 +1,10 @@
 use Rattle.std.proofs.Common.{List, map, sym, subst}
 use Rattle.yq_documents.specs.Nodes.{node_of}
-use Rattle.yq_planning.specs.PlaceView.{places_of}
-use Rattle.yq_planning.specs.TreeScalars.{HaveScalars}
+use Rattle.yq_matching.specs.PlaceView.{places_of}
+use Rattle.yq_matching.specs.TreeScalars.{HaveScalars}
 use Rattle.yq_program.specs.View.{stage_of}
-use Rattle.yq_planning.specs.declared.matching.place.Place as declared
-use Rattle.yq_planning.proofs.MatchLaws.{places_have}
+use Rattle.yq_matching.specs.declared.matching.place.Place as declared
+use Rattle.yq_matching.proofs.MatchLaws.{places_have}
 use Rattle.yq_expr.proofs.matched.push_document.Goals as goal
 
 pub push_copies-requires : goal.push_copies-requires

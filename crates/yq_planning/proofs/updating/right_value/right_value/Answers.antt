@@ -1,7 +1,7 @@
 use Rattle.std.proofs.Common.{sym, subst, arith}
 use Rattle.yq_inline.specs.Values.{node_of}
 use Rattle.yq_meaning.specs.Judgement.{Judges}
-use Rattle.yq_planning.specs.PlaceView.{place_of}
+use Rattle.yq_matching.specs.PlaceView.{place_of}
 use Rattle.yq_program.specs.View.{term_of}
 use Rattle.yq_planning.proofs.SumLaws.{right_on}
 use Rattle.yq_planning.proofs.updating.right_value.right_value.Goals as goal

@@ -2,10 +2,10 @@ use Rattle.std.proofs.Common.{Err, ap, ◌∙◌}
 use Rattle.std.proofs.lemmas.Result.{err_from_is_err_and}
 use Rattle.yq_inline.specs.Values.{node_of}
 use Rattle.yq_meaning.specs.Judgement.{and_then}
-use Rattle.yq_planning.specs.PlaceView.{place_of}
+use Rattle.yq_matching.specs.PlaceView.{place_of}
 use Rattle.yq_meaning.specs.RightValues.{sum, term_value}
 use Rattle.yq_program.specs.View.{term_of}
-use Rattle.yq_planning.proofs.EachLaws.{chain_more, chain_fails, failed}
+use Rattle.yq_matching.proofs.EachLaws.{chain_more, chain_fails, failed}
 use Rattle.yq_planning.proofs.updating.right_value.with_terms.Goals as goal
 
 pub returns-in_err-total : goal.returns-in_err-total

@@ -1,7 +1,7 @@
 use Rattle.std.proofs.Common.{◌≡◌, drop, map}
 use Rattle.yq_inline.specs.Values.{node_of}
 use Rattle.yq_meaning.specs.Judgement.{and_then}
-use Rattle.yq_planning.specs.PlaceView.{place_of}
+use Rattle.yq_matching.specs.PlaceView.{place_of}
 use Rattle.yq_meaning.specs.Places.{chained}
 use Rattle.yq_meaning.specs.RightValues.{sum, term_value}
 use Rattle.yq_program.specs.View.{term_of}

@@ -1,8 +1,8 @@
 use Rattle.std.proofs.Common.{◌≡◌, rules, List, [], map, reverse, sym, ap, ◌++◌, ◌∙◌}
-use Rattle.yq_planning.specs.PlaceView.{missing_of}
+use Rattle.yq_matching.specs.PlaceView.{missing_of}
 use Rattle.yq_program.specs.Program.{Step}
 use Rattle.yq_program.specs.View.{step_of}
-use Rattle.yq_planning.specs.declared.matching.place.Missing.{Nothing, the_lemmas}
+use Rattle.yq_matching.specs.declared.matching.place.Missing.{Nothing, the_lemmas}
 use Rattle.yq_planning.proofs.ChangeLaws.{reverse_map}
 use Rattle.yq_planning.proofs.updating.steps.missing_steps.Goals as goal
 

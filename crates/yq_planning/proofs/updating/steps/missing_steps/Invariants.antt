@@ -1,5 +1,5 @@
 use Rattle.std.proofs.Common.{◌≡◌, ◌++◌, length, map, reverse}
-use Rattle.yq_planning.specs.PlaceView.{missing_of}
+use Rattle.yq_matching.specs.PlaceView.{missing_of}
 use Rattle.yq_program.specs.View.{step_of}
 use Rattle.yq_planning.proofs.updating.steps.missing_steps.Given as goal
 

@@ -1,6 +1,6 @@
 use Rattle.std.proofs.Common.{◌≡◌, ◌++◌, length, map, reverse}
 use Rattle.yq_inline.specs.Entries.{step_of}
-use Rattle.yq_planning.specs.PlaceView.{path_of}
+use Rattle.yq_matching.specs.PlaceView.{path_of}
 use Rattle.yq_planning.proofs.updating.steps.path_steps.Given as goal
 
 abbrev pub invariant-steps : goal.invariant-steps

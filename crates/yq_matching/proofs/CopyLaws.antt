@@ -1,0 +1,47 @@
+-- Copies of items and entries, one behind the other.
+use Rattle.std.proofs.Common.{◌≡◌, ℕ, ◌<◌, ◌≤◌, List, [], ◌∷◌, ◌++◌, None, refl, sym, ap, ◌∙◌, append_assoc, arith}
+use Rattle.yq_flow_scalars.specs.Keys.{depth, deepest}
+use Rattle.yq_flow_scalars.specs.Tree as tree
+use Rattle.yq_flow_scalars.specs.Tree.{Label, Node, alias, scalar, list, Children, child, children_of}
+use Rattle.yq_inline.specs.Values.{entries}
+use Rattle.yq_lines.specs.Counts.{count}
+use Rattle.yq_documents.specs.Nodes.{kind_of}
+use Rattle.yq_documents.specs.declared.nodes.node.NodeKind.TheVariants as kinds
+use Rattle.yq_meaning.specs.Copies.{and_others, keyed, copy, item_copies, entry_copies}
+use Rattle.yq_meaning.specs.Judgement.{Judgement, and_then, gives, refuses}
+use Rattle.yq_matching.specs.PlaceView.{put_behind}
+
+-- one more behind what is there
+put_one : {V A : Type 0} (g : V → A) (before : List A) (v : V) (j : Judgement V) (others : Judgement (List A)) → j ≡ gives v →
+    put_behind before (and_then (λ w. and_others others (g w)) j) ≡ put_behind (before ++ g v ∷ []) others
+put_one {V} {A} g before v j others h = ap (λ k. put_behind before (and_then (λ w. and_others others (g w)) k)) h ∙ go others
+  where
+    go : (k : Judgement (List A)) → put_behind before (and_others k (g v)) ≡ put_behind (before ++ g v ∷ []) k
+    go (gives xs) = ap gives (sym (append_assoc before (g v ∷ []) xs))
+    go (refuses why) = refl
+
+-- one more item's copy
+pub items_more : (before : List Node) (cs rest : Children) (label : Label) (n v : Node) (all : Judgement (List Node)) → cs ≡ child label n rest → copy n ≡ gives v → put_behind before (item_copies cs) ≡ all →
+    put_behind (before ++ v ∷ []) (item_copies rest) ≡ all
+items_more before cs rest label n v all is h so_far =
+    sym (put_one (λ w. w) before v (copy n) (item_copies rest) h) ∙ (ap (λ ds. put_behind before (item_copies ds)) (sym is) ∙ so_far)
+
+-- one more entry's copy
+pub entries_more : (before : List (List ℕ × Node)) (cs rest : Children) (label : Label) (n v : Node) (all : Judgement (List (List ℕ × Node))) → cs ≡ child label n rest → copy n ≡ gives v → put_behind before (entry_copies cs) ≡ all →
+    put_behind (before ++ keyed label.key v ∷ []) (entry_copies rest) ≡ all
+entries_more before cs rest label n v all is h so_far =
+    sym (put_one (keyed label.key) before v (copy n) (entry_copies rest) h) ∙ (ap (λ ds. put_behind before (entry_copies ds)) (sym is) ∙ so_far)
+
+-- a mapping's copy has copies of its entries
+pub map_copied : (n : Node) (es : List (List ℕ × Node)) → kinds.Map ≡ kind_of n → entry_copies (children_of n) ≡ gives es → copy n ≡ gives (tree.map None (entries es))
+map_copied (alias name) es is h = absurd (cc)
+map_copied (scalar anchor kind text) es is h = absurd (cc)
+map_copied (list anchor cs) es is h = absurd (cc)
+map_copied (tree.map anchor cs) es is h = ap (and_then (λ xs. gives (tree.map None (entries xs)))) h
+
+-- collections are nested less deep in an item or entry than in its node
+pub depth_below : (n m : Node) (label : Label) (cs rest : Children) → cs ≡ child label m rest → count cs ≤ count (children_of n) → deepest cs ≤ deepest (children_of n) → depth m < depth n
+depth_below (alias name) m label cs rest is some deep = let counted = ap count is in absurd (omega arith)
+depth_below (scalar anchor kind text) m label cs rest is some deep = let counted = ap count is in absurd (omega arith)
+depth_below (list anchor ds) m label cs rest is some deep = let reaches = ap deepest is in omega arith
+depth_below (tree.map anchor ds) m label cs rest is some deep = let reaches = ap deepest is in omega arith

@@ -1,0 +1,5 @@
+pub mod PlaceLaws
+pub mod EachLaws
+pub mod CopyLaws
+pub mod TreeScalarLaws
+pub mod MatchLaws

@@ -1,0 +1,9 @@
+//! Where pipes lead in a tree, and copies of what stands there.
+#![tactic(auto)]
+
+mod matching;
+
+pub use matching::copy::copy_at;
+pub use matching::owned;
+pub use matching::pipe::{find, pipe_on};
+pub use matching::place::{Missing, NodePath, NodeStep, Place};

@@ -1,0 +1,123 @@
+//! Places to which steps lead. Paths share their fronts in an arena, so that a
+//! place takes one link, however deep it lies.
+ghost use Rattle.std.specs.Prelude.{◌≡◌, ◌++◌, ◌∷◌, [], IfOk};
+ghost use Rattle.yq_documents.specs.Nodes.{node_of};
+ghost use Rattle.yq_meaning.specs.Conditions as conditions;
+ghost use Rattle.yq_matching.specs.PlaceView.{missing_of, node_step_of, path_of, node_or_null, place_of};
+ghost use Rattle.yq_meaning.specs.Places as spec;
+ghost use Rattle.yq_program.specs.View.{step_of};
+
+use bumpalo::Bump;
+use std::alloc::AllocError;
+use yq_documents::Node;
+use yq_program::Step;
+
+/// A step to a node of a document.
+#[derive(Clone, Copy, Debug)]
+pub enum NodeStep<'a> {
+    /// To the value of a key.
+    Key(&'a str),
+    /// To an item, counted from 0.
+    Index(usize),
+}
+
+/// The path from a root to a node.
+#[derive(Clone, Copy)]
+pub enum NodePath<'a> {
+    Root,
+    /// One step further than another path.
+    Below(&'a NodePath<'a>, NodeStep<'a>),
+}
+
+/// Steps that are missing.
+#[derive(Clone, Copy)]
+pub enum Missing<'a> {
+    Nothing,
+    /// One step further than others.
+    Further(&'a Missing<'a>, &'a Step),
+}
+
+/// A place: the last node on the way, its path, and the steps that are missing
+/// from there.
+#[derive(Clone, Copy)]
+pub struct Place<'a, 't> {
+    pub path: NodePath<'a>,
+    pub node: Node<'a, 't>,
+    pub missing: Missing<'a>,
+}
+
+impl<'a> Missing<'a> {
+    /// One step more than these.
+    fn behind(front: &'a Missing<'a>, step: &'a Step) -> Missing<'a>
+        ensures { missing_of result ≡ missing_of front.now ++ step_of step.now ∷ [] }
+    {
+        Missing::Further(front, step)
+    }
+}
+
+impl<'a, 't> Place<'a, 't> {
+    /// The place of a root.
+    pub fn of_root(node: Node<'a, 't>) -> Place<'a, 't>
+        ensures { place_of result ≡ spec.root_place (node_of node.entry) }
+    {
+        Place {
+            path: NodePath::Root,
+            node,
+            missing: Missing::Nothing,
+        }
+    }
+
+    /// The place of a node one step below a path.
+    pub(crate) fn below(
+        path: &'a NodePath<'a>,
+        step: NodeStep<'a>,
+        node: Node<'a, 't>,
+    ) -> Place<'a, 't>
+        ensures { (p : spec.Place) → p.path ≡ path_of path.now → place_of result ≡
+            spec.child_place p (node_step_of step.entry, node_of node.entry) }
+    {
+        Place {
+            path: NodePath::Below(path, step),
+            node,
+            missing: Missing::Nothing,
+        }
+    }
+
+    /// The place of an item or entry of its node.
+    pub(crate) fn child(
+        self,
+        bump: &'a Bump,
+        step: NodeStep<'a>,
+        node: Node<'a, 't>,
+    ) -> Result<Place<'a, 't>, AllocError>
+        ensures { IfOk result (λ p. place_of p ≡ spec.child_place (place_of self.entry)
+            (node_step_of step.entry, node_of node.entry)) }
+    {
+        let path = bump.try_alloc(self.path)?;
+        Ok(Place::below(path, step, node))
+    }
+
+    /// The place from which one more step is missing.
+    pub(crate) fn further(self, bump: &'a Bump, step: &'a Step) -> Result<Place<'a, 't>, AllocError>
+        ensures { IfOk result (λ p. place_of p ≡ spec.further_place (step_of step.now)
+            (place_of self.entry)) }
+    {
+        let front = bump.try_alloc(self.missing)?;
+        Ok(Place {
+            path: self.path,
+            node: self.node,
+            missing: Missing::behind(front, step),
+        })
+    }
+
+    /// The node there, or none where a step is missing: it is null there.
+    #[tactic(auto, using(crate::proofs::PlaceLaws::null_there))]
+    pub fn found(self) -> Option<Node<'a, 't>>
+        ensures { node_or_null result ≡ conditions.value_of (place_of self.entry) }
+    {
+        match self.missing {
+            Missing::Nothing => Some(self.node),
+            Missing::Further(..) => None,
+        }
+    }
+}

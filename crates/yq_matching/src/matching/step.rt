@@ -1,0 +1,80 @@
+//! Where a step leads from a node.
+ghost use Rattle.std.specs.Prelude.{◌≡◌, option_map, Some};
+ghost use Rattle.yq_flow_scalars.specs.Paths.{To, Nth};
+ghost use Rattle.yq_flow_scalars.specs.Tree.{children_of};
+ghost use Rattle.yq_documents.specs.Nodes.{node_of};
+ghost use Rattle.yq_meaning.specs.Judgement.{Judges};
+ghost use Rattle.yq_meaning.specs.Matching as spec;
+ghost use Rattle.yq_matching.specs.PlaceView.{found_of};
+
+use crate::matching::place::NodeStep;
+use yq_documents::{Node, NodeKind};
+use yq_flow_scalars::Kind;
+use yq_meaning::{ExprError, Refusal};
+
+/// The entry of a key, if there is one, with the step that leads to it.
+fn entry<'a, 't>(node: Node<'a, 't>, key: &'a str) -> Option<(NodeStep<'a>, Node<'a, 't>)>
+    ensures { found_of result ≡ spec.find (To key.now) (children_of (node_of node.entry)) }
+{
+    let value = node.entry(key)?;
+    Some((NodeStep::Key(key), value))
+}
+
+/// Where a key leads from a node.
+pub(crate) fn key_step<'a, 't>(
+    node: Node<'a, 't>,
+    key: &'a str,
+) -> Result<Option<(NodeStep<'a>, Node<'a, 't>)>, ExprError>
+    ensures { Judges found_of result (spec.key_step key.now (node_of node.entry)) }
+{
+    match node.kind() {
+        NodeKind::Alias => Err(ExprError::Refused(Refusal::ThroughAlias)),
+        NodeKind::Scalar(Kind::Null) => Ok(None),
+        NodeKind::Scalar(_) | NodeKind::List => Err(ExprError::Refused(Refusal::NotAMap)),
+        NodeKind::Map => Ok(entry(node, key)),
+    }
+}
+
+/// The number from 0 of the item of an index.
+fn item_number(node: Node<'_, '_>, index: i64) -> Result<usize, ExprError>
+    ensures { Judges (λ n. n) result (spec.item_number index (children_of (node_of node.entry))) }
+{
+    if index >= 0 {
+        return Ok(index as usize);
+    }
+    let all = node.count();
+    let back = index.unsigned_abs() as usize;
+    if all < back {
+        return Err(ExprError::Refused(Refusal::IndexOutOfRange));
+    }
+    Ok(all - back)
+}
+
+/// The item of an index, if there is one, with the step that leads to it.
+fn item<'a, 't>(
+    node: Node<'a, 't>,
+    index: i64,
+) -> Result<Option<(NodeStep<'a>, Node<'a, 't>)>, ExprError>
+    ensures { Judges found_of result (spec.item index (children_of (node_of node.entry))) }
+{
+    let number = item_number(node, index)?;
+    let Some(item) = node.item(number) else {
+        return Ok(None);
+    };
+    Ok(Some((NodeStep::Index(number), item)))
+}
+
+/// Where an index leads from a node.
+pub(crate) fn index_step<'a, 't>(
+    node: Node<'a, 't>,
+    index: i64,
+) -> Result<Option<(NodeStep<'a>, Node<'a, 't>)>, ExprError>
+    ensures { Judges found_of result (spec.index_step index (node_of node.entry)) }
+{
+    match node.kind() {
+        NodeKind::Alias => Err(ExprError::Refused(Refusal::ThroughAlias)),
+        NodeKind::Scalar(Kind::Null) => Ok(None),
+        NodeKind::Scalar(_) | NodeKind::Map => Err(ExprError::Refused(Refusal::NotASequence)),
+        NodeKind::List => item(node, index),
+    }
+}
