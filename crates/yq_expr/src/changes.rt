@@ -20,12 +20,14 @@ ghost use Rattle.yq_matching.specs.TreeScalars.{HasScalars, HaveScalars};
 ghost use Rattle.yq_program.specs.View.{stage_of, term_of, update_of};
 
 use crate::effect::{Action, change_at};
+use crate::right_value::right_value;
+use crate::steps::path_steps;
 use bumpalo::Bump;
 use std::alloc::Global;
 use yq_documents::Node;
-use yq_meaning::{ExprError, Refusal};
 use yq_matching::{Place, find};
-use yq_planning::{Aliases, Change, Changed, aliases_of, allow, has_comment, path_steps, right_value};
+use yq_meaning::{ExprError, Refusal};
+use yq_planning::{Aliases, Change, Changed, aliases_of, allow, has_comment};
 use yq_program::{Assignment, Operator, Stage, Term, Update};
 use yq_tree::{CutText, Documents};
 

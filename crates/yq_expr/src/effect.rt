@@ -9,12 +9,15 @@ ghost use Rattle.yq_meaning.specs.Rooms.{comment_part, room_of};
 ghost use Rattle.yq_matching.specs.TreeScalars.{HasScalars};
 ghost use Rattle.yq_inline.specs.Values.{node_of};
 
+use crate::put::put;
+use crate::right_value::right_value;
+use crate::steps::path_steps;
 use std::alloc::{AllocError, Global};
 use yq_documents::{Part, Path};
 use yq_inline::Value;
-use yq_meaning::{ExprError, Refusal};
 use yq_matching::{Missing, NodePath, Place};
-use yq_planning::{Change, added, copied, is_null, path_steps, put, right_value};
+use yq_meaning::{ExprError, Refusal};
+use yq_planning::{Change, added, copied, is_null};
 use yq_program::{CommentPlace, Term};
 use yq_tree::CutText;
 

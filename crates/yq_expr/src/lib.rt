@@ -5,6 +5,9 @@ mod changes;
 mod effect;
 mod matched;
 mod planning;
+mod put;
+mod right_value;
+mod steps;
 
 pub use matched::{Match, matches};
 pub use planning::plan;

@@ -17,8 +17,8 @@ use bumpalo::Bump;
 use std::alloc::Global;
 use yq_documents::Node;
 use yq_inline::Value;
-use yq_meaning::ExprError;
 use yq_matching::{Place, copy_at, find};
+use yq_meaning::ExprError;
 use yq_program::{Program, Stage, Syntax};
 use yq_tree::Documents;
 

@@ -10,7 +10,4 @@ pub use updating::change::{Addition, Change, Changed};
 pub use updating::comment_text::has_comment;
 pub use updating::copied::copied;
 pub use updating::operations::operations;
-pub use updating::put::put;
-pub use updating::right_value::right_value;
-pub use updating::steps::path_steps;
-pub use updating::sum::is_null;
+pub use updating::sum::{is_null, sum};

@@ -11,7 +11,4 @@ pub(crate) mod entry_index;
 pub(crate) mod key_numbers;
 pub(crate) mod limits;
 pub(crate) mod operations;
-pub(crate) mod put;
-pub(crate) mod right_value;
-pub(crate) mod steps;
 pub(crate) mod sum;

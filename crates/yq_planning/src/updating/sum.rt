@@ -177,7 +177,7 @@ fn value_sum(alloc: Global, one: Value, other: Value) -> Result<Value, ExprError
 }
 
 /// The sum of two values.
-pub(crate) fn sum(alloc: Global, one: Value, other: Value) -> Result<Value, ExprError>
+pub fn sum(alloc: Global, one: Value, other: Value) -> Result<Value, ExprError>
     ensures { Judges node_of result (spec.sum (node_of one) (node_of other)) }
 {
     if is_null(&one) {

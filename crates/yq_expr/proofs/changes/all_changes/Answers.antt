@@ -11,7 +11,7 @@ use Rattle.yq_meaning.specs.Judgement.{MatchFails}
 use Rattle.yq_meaning.specs.Rooms.{room_of}
 use Rattle.yq_matching.specs.TreeScalars.{HasScalars}
 use Rattle.yq_program.specs.View.{update_of}
-use Rattle.yq_planning.proofs.AllChanges.{document_more, document_fails}
+use Rattle.yq_expr.proofs.AllChanges.{document_more, document_fails}
 use Rattle.yq_matching.proofs.EachLaws.{failed}
 use Rattle.yq_matching.proofs.MatchLaws.{document_there}
 use Rattle.yq_matching.proofs.TreeScalarLaws.{documents_have}

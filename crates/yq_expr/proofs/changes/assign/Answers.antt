@@ -7,7 +7,7 @@ use Rattle.yq_matching.specs.PlaceView.{places_of}
 use Rattle.yq_meaning.specs.Rooms.{room_of}
 use Rattle.yq_program.specs.View.{stage_of, term_of}
 use Rattle.yq_planning.specs.declared.updating.change.Changed.{Changed}
-use Rattle.yq_planning.proofs.AllChanges.{modified}
+use Rattle.yq_expr.proofs.AllChanges.{modified}
 use Rattle.yq_expr.proofs.changes.assign.Goals as goal
 
 pub returns-in-Modify : goal.returns-in-Modify

@@ -9,7 +9,7 @@ use Rattle.yq_meaning.specs.PlacesApart.{AreIn}
 use Rattle.yq_meaning.specs.Places.{Place}
 use Rattle.yq_meaning.specs.Rooms.{room_of}
 use Rattle.yq_matching.specs.TreeScalars.{HaveScalars}
-use Rattle.yq_planning.proofs.AllChanges.{each_done}
+use Rattle.yq_expr.proofs.AllChanges.{each_done}
 use Rattle.yq_matching.proofs.EachLaws.{each_more, each_fails, failed, reached}
 use Rattle.yq_expr.proofs.changes.at_each.Goals as goal
 

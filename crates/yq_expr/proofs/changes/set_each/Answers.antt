@@ -11,7 +11,7 @@ use Rattle.yq_meaning.specs.Places.{root_place}
 use Rattle.yq_meaning.specs.RightValues.{right_value}
 use Rattle.yq_program.specs.View.{term_of}
 use Rattle.yq_planning.specs.declared.updating.change.Changed.{Changed}
-use Rattle.yq_planning.proofs.AllChanges.{from_root, some_places, value_there, value_fails}
+use Rattle.yq_expr.proofs.AllChanges.{from_root, some_places, value_there, value_fails}
 use Rattle.yq_matching.proofs.EachLaws.{failed}
 use Rattle.yq_expr.proofs.changes.set_each.Goals as goal
 

@@ -5,7 +5,7 @@ use Rattle.yq_matching.specs.PlaceView.{place_of}
 use Rattle.yq_meaning.specs.Places.{chained}
 use Rattle.yq_meaning.specs.RightValues.{sum, term_value}
 use Rattle.yq_program.specs.View.{term_of}
-use Rattle.yq_planning.proofs.updating.right_value.with_terms.Given as goal
+use Rattle.yq_expr.proofs.right_value.with_terms.Given as goal
 
 abbrev pub invariant-terms : goal.invariant-terms
 invariant-terms l =

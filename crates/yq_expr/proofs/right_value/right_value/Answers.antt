@@ -4,7 +4,7 @@ use Rattle.yq_meaning.specs.Judgement.{Judges}
 use Rattle.yq_matching.specs.PlaceView.{place_of}
 use Rattle.yq_program.specs.View.{term_of}
 use Rattle.yq_planning.proofs.SumLaws.{right_on}
-use Rattle.yq_planning.proofs.updating.right_value.right_value.Goals as goal
+use Rattle.yq_expr.proofs.right_value.right_value.Goals as goal
 
 pub returns : goal.returns
 returns c =

@@ -6,7 +6,7 @@ use Rattle.yq_matching.specs.TreeScalars.{HaveScalars}
 use Rattle.yq_program.specs.View.{stage_of}
 use Rattle.yq_matching.specs.declared.matching.place.Place as declared
 use Rattle.yq_matching.proofs.MatchLaws.{pipe_have}
-use Rattle.yq_planning.proofs.updating.right_value.found_value.Goals as goal
+use Rattle.yq_expr.proofs.right_value.found_value.Goals as goal
 
 pub only-requires : goal.only-requires
 only-requires c =

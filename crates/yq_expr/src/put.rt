@@ -13,13 +13,13 @@ ghost use Rattle.yq_matching.specs.PlaceView.{place_of};
 ghost use Rattle.yq_program.specs.Program.{is_index};
 ghost use Rattle.yq_program.specs.View.{step_of};
 
-use crate::updating::change::{Addition, Change};
-use crate::updating::steps::missing_steps;
+use crate::steps::missing_steps;
 use std::alloc::{AllocError, Global};
 use yq_documents::{Node, NodeKind};
 use yq_inline::Value;
 use yq_matching::Place;
 use yq_meaning::{ExprError, Refusal};
+use yq_planning::{Addition, Change};
 use yq_program::{Step, is_index};
 
 /// Whether some step is an index.

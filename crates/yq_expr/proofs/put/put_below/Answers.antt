@@ -3,8 +3,8 @@ use Rattle.yq_inline.specs.Values.{node_of as value_node}
 use Rattle.yq_documents.specs.Nodes.{node_of}
 use Rattle.yq_meaning.specs.Judgement.{gives}
 use Rattle.yq_program.specs.View.{step_of}
-use Rattle.yq_planning.proofs.ChangeLaws.{put_created, put_no_item}
-use Rattle.yq_planning.proofs.updating.put.put_below.Goals as goal
+use Rattle.yq_expr.proofs.ChangeLaws.{put_created, put_no_item}
+use Rattle.yq_expr.proofs.put.put_below.Goals as goal
 
 pub returns-then-has_index : goal.returns-then-has_index
 returns-then-has_index c =

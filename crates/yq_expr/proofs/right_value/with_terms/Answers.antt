@@ -6,7 +6,7 @@ use Rattle.yq_matching.specs.PlaceView.{place_of}
 use Rattle.yq_meaning.specs.RightValues.{sum, term_value}
 use Rattle.yq_program.specs.View.{term_of}
 use Rattle.yq_matching.proofs.EachLaws.{chain_more, chain_fails, failed}
-use Rattle.yq_planning.proofs.updating.right_value.with_terms.Goals as goal
+use Rattle.yq_expr.proofs.right_value.with_terms.Goals as goal
 
 pub returns-in_err-total : goal.returns-in_err-total
 returns-in_err-total c =

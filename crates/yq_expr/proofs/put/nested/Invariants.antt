@@ -2,7 +2,7 @@ use Rattle.std.proofs.Common.{◌≡◌, ◌≤◌, length, map}
 use Rattle.yq_inline.specs.Values.{node_of}
 use Rattle.yq_meaning.specs.Changes.{nested}
 use Rattle.yq_program.specs.View.{step_of}
-use Rattle.yq_planning.proofs.updating.put.nested.Given as goal
+use Rattle.yq_expr.proofs.put.nested.Given as goal
 
 abbrev pub invariant-steps : goal.invariant-steps
 invariant-steps l = record {

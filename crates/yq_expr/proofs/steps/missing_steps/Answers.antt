@@ -3,8 +3,8 @@ use Rattle.yq_matching.specs.PlaceView.{missing_of}
 use Rattle.yq_program.specs.Program.{Step}
 use Rattle.yq_program.specs.View.{step_of}
 use Rattle.yq_matching.specs.declared.matching.place.Missing.{Nothing, the_lemmas}
-use Rattle.yq_planning.proofs.ChangeLaws.{reverse_map}
-use Rattle.yq_planning.proofs.updating.steps.missing_steps.Goals as goal
+use Rattle.yq_expr.proofs.ChangeLaws.{reverse_map}
+use Rattle.yq_expr.proofs.steps.missing_steps.Goals as goal
 
 ends : missing_of Nothing ≡ []
 ends = search (rules, the_lemmas)

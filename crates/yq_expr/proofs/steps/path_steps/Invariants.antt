@@ -1,7 +1,7 @@
 use Rattle.std.proofs.Common.{◌≡◌, ◌++◌, length, map, reverse}
 use Rattle.yq_inline.specs.Entries.{step_of}
 use Rattle.yq_matching.specs.PlaceView.{path_of}
-use Rattle.yq_planning.proofs.updating.steps.path_steps.Given as goal
+use Rattle.yq_expr.proofs.steps.path_steps.Given as goal
 
 abbrev pub invariant-steps : goal.invariant-steps
 invariant-steps l = path_of l.rest ++ reverse (map step_of l.steps.items) ≡ path_of l.fn.path

@@ -9,14 +9,13 @@ ghost use Rattle.yq_meaning.specs.RightValues as spec;
 ghost use Rattle.yq_matching.specs.TreeScalars.{HasScalars, HaveScalars};
 ghost use Rattle.yq_program.specs.View.{stage_of, term_of};
 
-use crate::updating::copied::copied;
-use crate::updating::sum::sum;
 use bumpalo::Bump;
 use std::alloc::Global;
 use yq_flow_scalars::Scalar;
 use yq_inline::Value;
 use yq_matching::{Place, copy_at, pipe_on};
 use yq_meaning::{ExprError, Refusal};
+use yq_planning::{copied, sum};
 use yq_program::{Stage, Term};
 
 /// A copy of the value at the one place that there is.

@@ -1,8 +1,8 @@
 use Rattle.std.proofs.Common.{rules}
 use Rattle.yq_inline.specs.Values.{node_of}
 use Rattle.yq_program.specs.View.{step_of}
-use Rattle.yq_planning.proofs.ChangeLaws.{one_out}
-use Rattle.yq_planning.proofs.updating.put.nested.Goals as goal
+use Rattle.yq_expr.proofs.ChangeLaws.{one_out}
+use Rattle.yq_expr.proofs.put.nested.Goals as goal
 
 pub steps-preserved : goal.steps-preserved
 steps-preserved c = record {

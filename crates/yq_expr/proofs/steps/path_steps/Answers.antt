@@ -3,8 +3,8 @@ use Rattle.yq_flow_scalars.specs.Paths.{Step}
 use Rattle.yq_inline.specs.Entries.{step_of}
 use Rattle.yq_matching.specs.PlaceView.{path_of}
 use Rattle.yq_matching.specs.declared.matching.place.NodePath.{Root, the_lemmas}
-use Rattle.yq_planning.proofs.ChangeLaws.{reverse_map}
-use Rattle.yq_planning.proofs.updating.steps.path_steps.Goals as goal
+use Rattle.yq_expr.proofs.ChangeLaws.{reverse_map}
+use Rattle.yq_expr.proofs.steps.path_steps.Goals as goal
 
 ends : path_of Root ≡ []
 ends = search (rules, the_lemmas)
