@@ -1,5 +1,5 @@
 """Looks at what needs no proof: whether the sources are in the layout of `rt fmt`, symbolic links, sources that no check reads,
-definitions whose comments name no section, clauses that are too wide, wrong bodies of both tiers that can't be applied, versions that
+definitions whose comments name no section, names that have a better word in the glossary, clauses that are too wide, wrong bodies of both tiers that can't be applied, versions that
 differ, and links of pages that lead nowhere.
 
 usage: ready.py
@@ -18,6 +18,7 @@ import tempfile
 from clauses import too_wide
 from crates import ROOT, RT, libraries
 from edits import hindrance, names_in
+from glossary import coined
 from version import other_versions
 
 sys.path.append(os.path.join(ROOT, "tests", "cli"))
@@ -113,7 +114,7 @@ def main(words):
     try:
         copy = os.path.join(room, "copy")
         shutil.copytree(ROOT, copy, symlinks=True, ignore=LEFT)
-        found = [*misplaced(copy), *badly_laid(copy), *untold_definitions(copy), *too_wide(), *not_applied(), *other_versions(), *lost_links()]
+        found = [*misplaced(copy), *badly_laid(copy), *untold_definitions(copy), *coined(copy), *too_wide(), *not_applied(), *other_versions(), *lost_links()]
     finally:
         shutil.rmtree(room, ignore_errors=True)
     for it in found:

@@ -10,8 +10,8 @@ use crate::layout::Layout;
 use crate::pieces::{add, push_front, push_line};
 use std::alloc::{AllocError, Global};
 use yq_flow::push_scalar;
-use yq_inline::Value;
 use yq_flow_scalars::Place;
+use yq_inline::Value;
 
 /// Whether a value is a collection with an item or entry, which is written in rows.
 #[tactic(auto, using(crate::proofs::ListLaws::list_agrees, crate::proofs::ListLaws::map_agrees))]

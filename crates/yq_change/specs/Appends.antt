@@ -20,7 +20,8 @@ use Rattle.yq_change.specs.SoundRoots.{IsNewKey}
 use Rattle.yq_change.specs.Siblings.{NodeLines, IsCollectionAt, EntryFits}
 use Rattle.yq_change.specs.DocumentRows.{IsDocumentPart, behind_document, put_rows}
 
--- Rows that are written for one more item or entry of a collection at a path of this length: a line at its level and those under it, with a value and a new key.
+-- Rows that are written for one more item or entry of a collection at a path of this length: a line at its level and those under it, with a value and a new
+-- key.
 pub record IsWritten (h : NodeLines) (new : List Row) (m : ℕ) (l : Line) (u : Outline) (above : ℕ) : Type 0 where
   pub lines : lines_of new ≡ l ∷ flatten u
   pub bare : first_gap new [] ≡ []
@@ -43,7 +44,9 @@ pub record TakesRows (p : Part) (front new back : List Row) (rest : List ℕ) : 
 -- One item or entry more is appended to a block collection that has some, in the middle of a document or behind a final break.
 abbrev pub BlockAppended : Type 0
 BlockAppended =
-    (t : List ℕ) (c : Cut) (k : ℕ) (p : Part) (steps : List Step) (h : NodeLines) (front back new : List Row) (m : ℕ) (l : Line) (u : Outline) → IsDocumentPart t c k p →
-    IsCollectionAt steps (outline_of p) h → length (lines_of front) ≡ length (lines_before h.place) + length (flatten h.lines) → IsWritten h new m l u (length steps) →
+    (t : List ℕ) (c : Cut) (k : ℕ) (p : Part) (steps : List Step) (h : NodeLines) (front back new : List Row) (m : ℕ) (l : Line) (u : Outline) →
+    IsDocumentPart t c k p →
+    IsCollectionAt steps (outline_of p) h → length (lines_of front) ≡ length (lines_before h.place) + length (flatten h.lines) →
+    IsWritten h new m l u (length steps) →
     TakesRows p front new back (behind_document k c) → IsReadable (cut_text (put_document k (inserted front new back p) c)) →
     IsChanged c (put_document k (inserted front new back p) c) k (lead_of p) (change steps (within (append_child (label l) (content l u))))

@@ -32,20 +32,23 @@ pub record RootFits (m : ℕ) (u : Outline) (root : Node) : Type 0 where
 abbrev pub NodeReplaced : Type 0
 NodeReplaced =
     (t : List ℕ) (c : Cut) (k : ℕ) (p q : Part) (s : Step) (ss : List Step) (f : FoundLine) (v : Node) (m : ℕ) (l : Line) (u : Outline) → IsPut t c k p q →
-    find s ss (outline_of p) ≡ Some (f, []) → LineFits [] f (replaced v) m l u → HaveOneAnchorEach (l ∷ flatten u) → lines_of q.rows ≡ with_lines f (l ∷ flatten u) →
+    find s ss (outline_of p) ≡ Some (f, []) → LineFits [] f (replaced v) m l u → HaveOneAnchorEach (l ∷ flatten u) →
+    lines_of q.rows ≡ with_lines f (l ∷ flatten u) →
     MayReplace v (content f.line f.under) (root_of p) (length (s ∷ ss)) → IsChanged c (put_document k q c) k (lead_of p) (change (s ∷ ss) (replaced v))
 
 -- The root is replaced on a line of its own, and keeps its anchor.
 abbrev pub RootReplaced : Type 0
 RootReplaced =
-    (t : List ℕ) (c : Cut) (k : ℕ) (p q : Part) (v : Node) (m : ℕ) (u : Outline) → IsPut t c k p q → RootFits m u (replaced v (root_of p)) → lines_of q.rows ≡ flatten u →
+    (t : List ℕ) (c : Cut) (k : ℕ) (p q : Part) (v : Node) (m : ℕ) (u : Outline) → IsPut t c k p q → RootFits m u (replaced v (root_of p)) →
+    lines_of q.rows ≡ flatten u →
     MayReplace v (root_of p) (root_of p) 0 → IsChanged c (put_document k q c) k (lead_of q) (replaced v)
 
 -- One item or entry more is appended to a block collection.
 abbrev pub EntryAppended : Type 0
 EntryAppended =
     (t : List ℕ) (c : Cut) (k : ℕ) (p q : Part) (steps : List Step) (h : NodeLines) (m : ℕ) (l : Line) (u : Outline) → IsPut t c k p q →
-    IsCollectionAt steps (outline_of p) h → EntryFits h m l u → HaveOneAnchorEach (l ∷ flatten u) → lines_of q.rows ≡ put_lines h (flatten h.lines ++ (l ∷ flatten u)) →
+    IsCollectionAt steps (outline_of p) h → EntryFits h m l u → HaveOneAnchorEach (l ∷ flatten u) →
+    lines_of q.rows ≡ put_lines h (flatten h.lines ++ (l ∷ flatten u)) →
     IsNewValue (content l u) (suc (length steps)) → IsNewKey (label l).key (keys_of (children h.lines)) →
     IsChanged c (put_document k q c) k (lead_of p) (change steps (within (append_child (label l) (content l u))))
 
@@ -54,16 +57,20 @@ abbrev pub EntryRemoved : Type 0
 EntryRemoved =
     (t : List ℕ) (c : Cut) (k : ℕ) (p q : Part) (steps : List Step) (h : NodeLines) (s : Step) (f : FoundLine) → IsPut t c k p q →
     IsEntryAt steps s (outline_of p) h f → HasEntries (plug f.place f.after) → lines_of q.rows ≡ put_lines h (with_lines f []) →
-    AreSpared (names_of (content f.line f.under)) [] (names_of (root_of p)) → IsChanged c (put_document k q c) k (lead_of q) (change steps (within (remove_child s)))
+    AreSpared (names_of (content f.line f.under)) [] (names_of (root_of p)) →
+    IsChanged c (put_document k q c) k (lead_of q) (change steps (within (remove_child s)))
 
 -- An item or entry of a block collection gets another line comment or head comment.
 abbrev pub EntryRelabelled : Type 0
 EntryRelabelled =
-    (t : List ℕ) (c : Cut) (k : ℕ) (p q : Part) (steps : List Step) (h : NodeLines) (s : Step) (f : FoundLine) (g : Label → Label) (l : Line) → IsPut t c k p q →
-    IsEntryAt steps s (outline_of p) h f → IsRelabelled g f.line l → ((x : Label) → (g x).key ≡ x.key) → lines_of q.rows ≡ put_lines h (with_lines f (l ∷ flatten f.under)) →
+    (t : List ℕ) (c : Cut) (k : ℕ) (p q : Part) (steps : List Step) (h : NodeLines) (s : Step) (f : FoundLine) (g : Label → Label) (l : Line) →
+    IsPut t c k p q →
+    IsEntryAt steps s (outline_of p) h f → IsRelabelled g f.line l → ((x : Label) → (g x).key ≡ x.key) →
+    lines_of q.rows ≡ put_lines h (with_lines f (l ∷ flatten f.under)) →
     IsChanged c (put_document k q c) k (lead_of q) (change steps (within (relabel_child s g)))
 
--- The rows of the first item or entry of a compact collection: behind the first dashes of row r the rest of it and the rows behind it, down to row b, which begins in the same column and has no comment above it.
+-- The rows of the first item or entry of a compact collection: behind the first dashes of row r the rest of it and the rows behind it, down to row b, which
+-- begins in the same column and has no comment above it.
 pub record MovesUp (r b : Row) (n : ℕ) (ns es : List ℕ) : Type 0 where
   pub dashes : r.dashes ≡ n ∷ (ns ++ es)
   pub column : b.column ≡ behind_columns r.column (n ∷ ns)
@@ -77,10 +84,13 @@ pub record AreCounted (h : NodeLines) (f : FoundLine) (before size : ℕ) : Type
 -- The first item or entry of a compact collection is removed: the next one's row stands behind the dash.
 abbrev pub FirstRemoved : Type 0
 FirstRemoved =
-    (t : List ℕ) (c : Cut) (k : ℕ) (p q : Part) (steps : List Step) (h : NodeLines) (s : Step) (f : FoundLine) (before gone behind : List Row) (r b : Row) (n : ℕ) (ns es : List ℕ) → IsPut t c k p q →
-    IsEntryAt steps s (outline_of p) h f → HasEntries (plug f.place f.after) → p.rows ≡ before ++ (r ∷ (gone ++ (b ∷ behind))) → q.rows ≡ before ++ (moved_up r (n ∷ ns) b ∷ behind) →
+    (t : List ℕ) (c : Cut) (k : ℕ) (p q : Part) (steps : List Step) (h : NodeLines) (s : Step) (f : FoundLine) (before gone behind : List Row) (r b : Row)
+    (n : ℕ) (ns es : List ℕ) → IsPut t c k p q →
+    IsEntryAt steps s (outline_of p) h f → HasEntries (plug f.place f.after) → p.rows ≡ before ++ (r ∷ (gone ++ (b ∷ behind))) →
+    q.rows ≡ before ++ (moved_up r (n ∷ ns) b ∷ behind) →
     MovesUp r b n ns es → AreCounted h f (length (lines_of before) + length (n ∷ ns)) (length (lines_from [] b.column es r.mark r.content ++ lines_of gone)) →
-    AreSpared (names_of (content f.line f.under)) [] (names_of (root_of p)) → IsChanged c (put_document k q c) k (lead_of q) (change steps (within (remove_child s)))
+    AreSpared (names_of (content f.line f.under)) [] (names_of (root_of p)) →
+    IsChanged c (put_document k q c) k (lead_of q) (change steps (within (remove_child s)))
 
 -- Behind the first dashes of row r nothing stays but a tail without a comment.
 pub record StaysEmpty (r : Row) (n : ℕ) (ns es tail : List ℕ) : Type 0 where
@@ -90,7 +100,11 @@ pub record StaysEmpty (r : Row) (n : ℕ) (ns es tail : List ℕ) : Type 0 where
 -- The first item or entry of a compact collection is removed: the next one's row keeps its place below the dash.
 abbrev pub FirstDropped : Type 0
 FirstDropped =
-    (t : List ℕ) (c : Cut) (k : ℕ) (p q : Part) (steps : List Step) (h : NodeLines) (s : Step) (f : FoundLine) (before gone behind : List Row) (r : Row) (n : ℕ) (ns es tail : List ℕ) → IsPut t c k p q →
-    IsEntryAt steps s (outline_of p) h f → HasEntries (plug f.place f.after) → p.rows ≡ before ++ (r ∷ (gone ++ behind)) → q.rows ≡ before ++ (emptied r ns tail ∷ behind) → StaysEmpty r n ns es tail →
-    AreCounted h f (length (lines_of before) + length (ns ++ (n ∷ []))) (length (lines_from [] (behind_columns r.column (ns ++ (n ∷ []))) es r.mark r.content ++ lines_of gone)) →
-    AreSpared (names_of (content f.line f.under)) [] (names_of (root_of p)) → IsChanged c (put_document k q c) k (lead_of q) (change steps (within (remove_child s)))
+    (t : List ℕ) (c : Cut) (k : ℕ) (p q : Part) (steps : List Step) (h : NodeLines) (s : Step) (f : FoundLine) (before gone behind : List Row) (r : Row)
+    (n : ℕ) (ns es tail : List ℕ) → IsPut t c k p q →
+    IsEntryAt steps s (outline_of p) h f → HasEntries (plug f.place f.after) → p.rows ≡ before ++ (r ∷ (gone ++ behind)) →
+    q.rows ≡ before ++ (emptied r ns tail ∷ behind) → StaysEmpty r n ns es tail →
+    AreCounted h f (length (lines_of before) + length (ns ++ (n ∷ [])))
+    (length (lines_from [] (behind_columns r.column (ns ++ (n ∷ []))) es r.mark r.content ++ lines_of gone)) →
+    AreSpared (names_of (content f.line f.under)) [] (names_of (root_of p)) →
+    IsChanged c (put_document k q c) k (lead_of q) (change steps (within (remove_child s)))

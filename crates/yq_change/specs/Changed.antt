@@ -58,7 +58,8 @@ pub record HasRoot (q : Part) (root : Node) : Type 0 where
 abbrev pub PartStands : Type 0
 PartStands = (q : Part) (root : Node) → HasRoot q root → IsDocument q (record { lead = lead_of q; root = root })
 
--- With another part for document k, where the new text has that cut, and the part stands for the old root changed, it reads as the same documents but for this one.
+-- With another part for document k, where the new text has that cut, and the part stands for the old root changed, it reads as the same documents but for this
+-- one.
 abbrev pub DocumentChanged : Type 0
 DocumentChanged =
     (t : List ℕ) (c : Cut) (k : ℕ) (p q : Part) (f : Node → Node) → read_at t ≡ Some c → slice_get (document_parts c) k ≡ Some p → KeepsRows p q →

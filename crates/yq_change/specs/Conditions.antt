@@ -57,7 +57,8 @@ pub record ExchangesNames (old new : Node) (front gone come back : List Name) : 
 -- A node changed so that names without aliases take the place of others, of whose anchors none has an alias in the whole, leaves the whole bound (7.1).
 abbrev pub BoundChanged : Type 0
 BoundChanged =
-    (steps : List Step) (n old : Node) (f : Node → Node) (front gone come back : List Name) → node_at steps n ≡ Some old → ExchangesNames old (f old) front gone come back →
+    (steps : List Step) (n old : Node) (f : Node → Node) (front gone come back : List Name) → node_at steps n ≡ Some old →
+    ExchangesNames old (f old) front gone come back →
     AreSpared gone come (names_of n) → AreBound [] (names_of n) → AreBound [] (names_of (change steps f n))
 
 -- A node changed for one with unique keys leaves all keys unique (3.2.1.3).
@@ -67,7 +68,8 @@ UniqueChanged = (steps : List Step) (n old : Node) (f : Node → Node) → node_
 -- A node changed for one that isn't too deep for its path leaves the whole not too deep.
 abbrev pub DepthChanged : Type 0
 DepthChanged =
-    (d : ℕ) (steps : List Step) (n old : Node) (f : Node → Node) → node_at steps n ≡ Some old → depth n ≤ d → length steps + depth (f old) ≤ d → depth (change steps f n) ≤ d
+    (d : ℕ) (steps : List Step) (n old : Node) (f : Node → Node) → node_at steps n ≡ Some old → depth n ≤ d → length steps + depth (f old) ≤ d →
+    depth (change steps f n) ≤ d
 
 -- the anchor of the last of lines, if it has one
 abbrev pub last_anchor : List Line → Option (List ℕ)
@@ -83,10 +85,12 @@ BeginsEntry (l ∷ ls) = IsEntry l.mark
 -- Where lines before an entry give way to others whose first one may take the anchor before it, no node gets two anchors (6.9.2).
 abbrev pub AnchorsStay : Type 0
 AnchorsStay =
-    (before gone come after : List Line) → HaveOneAnchorEach (before ++ (gone ++ after)) → HaveOneAnchorEach come → IsFree (last_anchor before) come → BeginsEntry after →
+    (before gone come after : List Line) → HaveOneAnchorEach (before ++ (gone ++ after)) → HaveOneAnchorEach come → IsFree (last_anchor before) come →
+    BeginsEntry after →
     HaveOneAnchorEach (before ++ (come ++ after))
 
 -- Behind the lines of a node at a path stands an entry or nothing, and before them stands the line with its anchor.
 abbrev pub LinesAmong : Type 0
 LinesAmong =
-    (n : ℕ) (o : Outline) (steps : List Step) (h : NodeLines) → IsEven n o → lines_at steps o ≡ Some h → BeginsEntry (lines_after h.place) × (last_anchor (lines_before h.place) ≡ h.anchor)
+    (n : ℕ) (o : Outline) (steps : List Step) (h : NodeLines) → IsEven n o → lines_at steps o ≡ Some h →
+    BeginsEntry (lines_after h.place) × (last_anchor (lines_before h.place) ≡ h.anchor)

@@ -23,7 +23,8 @@ use Rattle.yq_change.specs.SoundRoots.{MayReplace}
 abbrev pub recontent : (front : List Row) → Row → (back : List Row) → Content → Part → Part
 recontent front r back new p = inserted front (with_content new r ∷ []) back p
 
--- A content takes the place of a row's in document k: the row with it stands for the row there, it stands for a value behind the old anchor, and has the old comment.
+-- A content takes the place of a row's in document k: the row with it stands for the row there, it stands for a value behind the old anchor, and has the old
+-- comment.
 pub record TakesContent (t : List ℕ) (c : Cut) (k : ℕ) (p : Part) (front : List Row) (r : Row) (back : List Row) (v : Node) (new : Content) : Type 0 where
   pub old : IsDocumentPart t c k p
   pub rows_are : p.rows ≡ front ++ (r ∷ back)
@@ -38,12 +39,16 @@ pub record TakesContent (t : List ℕ) (c : Cut) (k : ℕ) (p : Part) (front : L
 -- A node that is alone on the line under its key or dash is replaced.
 abbrev pub LowerContentReplaced : Type 0
 LowerContentReplaced =
-    (t : List ℕ) (c : Cut) (k : ℕ) (p : Part) (front back : List Row) (r : Row) (v : Node) (new : Content) (s : Step) (ss : List Step) (f : FoundLine) → TakesContent t c k p front r back v new →
-    find s ss (outline_of p) ≡ Some (f, []) → f.line.head ≡ None → length (flatten f.under) ≡ 1 → r.mark ≡ Bare → length (lines_of front) + length r.dashes ≡ suc (length (lines_before f.place)) →
-    MayReplace v (content f.line f.under) (root_of p) (length (s ∷ ss)) → IsChanged c (put_document k (recontent front r back new p) c) k (lead_of p) (change (s ∷ ss) (replaced v))
+    (t : List ℕ) (c : Cut) (k : ℕ) (p : Part) (front back : List Row) (r : Row) (v : Node) (new : Content) (s : Step) (ss : List Step) (f : FoundLine) →
+    TakesContent t c k p front r back v new →
+    find s ss (outline_of p) ≡ Some (f, []) → f.line.head ≡ None → length (flatten f.under) ≡ 1 → r.mark ≡ Bare →
+    length (lines_of front) + length r.dashes ≡ suc (length (lines_before f.place)) →
+    MayReplace v (content f.line f.under) (root_of p) (length (s ∷ ss)) →
+    IsChanged c (put_document k (recontent front r back new p) c) k (lead_of p) (change (s ∷ ss) (replaced v))
 
 -- A root that is alone on its line is replaced.
 abbrev pub RootContentReplaced : Type 0
 RootContentReplaced =
-    (t : List ℕ) (c : Cut) (k : ℕ) (p : Part) (front back : List Row) (r : Row) (v : Node) (new : Content) → TakesContent t c k p front r back v new → length (lines_of p.rows) ≡ 1 → r.mark ≡ Bare →
+    (t : List ℕ) (c : Cut) (k : ℕ) (p : Part) (front back : List Row) (r : Row) (v : Node) (new : Content) → TakesContent t c k p front r back v new →
+    length (lines_of p.rows) ≡ 1 → r.mark ≡ Bare →
     MayReplace v (root_of p) (root_of p) 0 → IsChanged c (put_document k (recontent front r back new p) c) k (lead_of p) (change [] (replaced v))

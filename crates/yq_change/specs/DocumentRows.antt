@@ -30,7 +30,8 @@ put_rows front new back gap p = record { rows = front ++ (new ++ with_first_gap 
 abbrev pub PartNumbered : Type 0
 PartNumbered =
     (c : Cut) (k : ℕ) (p : Part) → slice_get (document_parts c) k ≡ Some p →
-    (nth_part (part_number k c) c ≡ p) × ((i j : ℕ) (new : List Row) (gap : List ℕ) → splice (part_number k c) i j new gap c ≡ put_document k (splice_part i j new gap p) c)
+    (nth_part (part_number k c) c ≡ p) ×
+    ((i j : ℕ) (new : List Row) (gap : List ℕ) → splice (part_number k c) i j new gap c ≡ put_document k (splice_part i j new gap p) c)
 
 -- The same of rows between those in front and those behind.
 abbrev pub RowsPut : Type 0
@@ -48,7 +49,8 @@ pub record Known (t : List ℕ) (c : Cut) (p : Part) : Type 0 where
 abbrev pub DocumentKnown : Type 0
 DocumentKnown = (t : List ℕ) (c : Cut) (k : ℕ) (p : Part) → IsDocumentPart t c k p → Known t c p
 
--- Rows may stand between those in front and those behind, with this gap behind them: they are rows there, the next row may follow, and what then stands behind the rows in front may stand there.
+-- Rows may stand between those in front and those behind, with this gap behind them: they are rows there, the next row may follow, and what then stands behind
+-- the rows in front may stand there.
 pub record RowsFit (front new back : List Row) (gap : List ℕ) (p : Part) (rest : List ℕ) : Type 0 where
   pub rows : AreRows (asked_behind unlimited front) new gap (behind_first back p.end rest)
   pub next : allows_first (asked_behind (asked_behind unlimited front) new) back ≡ true
@@ -57,6 +59,8 @@ pub record RowsFit (front new back : List Row) (gap : List ℕ) (p : Part) (rest
 -- A cut in which rows of a document that has some give way to others that fit is a cut, where the new text may stand.
 abbrev pub DocumentSpliced : Type 0
 DocumentSpliced =
-    (t : List ℕ) (c : Cut) (k : ℕ) (p : Part) (front gone back new : List Row) (gap : List ℕ) → IsDocumentPart t c k p → IsCut t c → p.rows ≡ front ++ (gone ++ back) → no_rows p.rows ≡ false →
+    (t : List ℕ) (c : Cut) (k : ℕ) (p : Part) (front gone back new : List Row) (gap : List ℕ) → IsDocumentPart t c k p → IsCut t c →
+    p.rows ≡ front ++ (gone ++ back) → no_rows p.rows ≡ false →
     RowsFit front new back gap p (behind_document k c) →
-    IsReadable (cut_text (put_document k (put_rows front new back gap p) c)) → IsCut (cut_text (put_document k (put_rows front new back gap p) c)) (put_document k (put_rows front new back gap p) c)
+    IsReadable (cut_text (put_document k (put_rows front new back gap p) c)) →
+    IsCut (cut_text (put_document k (put_rows front new back gap p) c)) (put_document k (put_rows front new back gap p) c)

@@ -58,9 +58,12 @@ pub record AnchorsFit (a : Option (List ℕ)) (ls : List Line) : Type 0 where
 -- A line at a path and those under it are exchanged: a node is replaced, or something in the flow collection that the line's head is.
 abbrev pub LineExchanged : Type 0
 LineExchanged =
-    (t : List ℕ) (c : Cut) (k : ℕ) (p q : Part) (s : Step) (ss rest : List Step) (f : FoundLine) (g : Node → Node) (m : ℕ) (l : Line) (u : Outline) → IsPut t c k p q →
-    find s ss (outline_of p) ≡ Some (f, rest) → LineFits rest f g m l u → IsWhole l.mark l.head f.after → AnchorsFit (last_anchor (lines_before f.place)) (l ∷ flatten u) →
-    lines_of q.rows ≡ with_lines f (l ∷ flatten u) → IsSoundRoot (change (s ∷ ss) g (root_of p)) → IsChanged c (put_document k q c) k (lead_of p) (change (s ∷ ss) g)
+    (t : List ℕ) (c : Cut) (k : ℕ) (p q : Part) (s : Step) (ss rest : List Step) (f : FoundLine) (g : Node → Node) (m : ℕ) (l : Line) (u : Outline) →
+    IsPut t c k p q →
+    find s ss (outline_of p) ≡ Some (f, rest) → LineFits rest f g m l u → IsWhole l.mark l.head f.after →
+    AnchorsFit (last_anchor (lines_before f.place)) (l ∷ flatten u) →
+    lines_of q.rows ≡ with_lines f (l ∷ flatten u) → IsSoundRoot (change (s ∷ ss) g (root_of p)) →
+    IsChanged c (put_document k q c) k (lead_of p) (change (s ∷ ss) g)
 
 -- All lines of the node at a path are exchanged: at the root, or under a line that stays.
 abbrev pub LinesExchanged : Type 0
@@ -74,7 +77,8 @@ abbrev pub LinesAppended : Type 0
 LinesAppended =
     (t : List ℕ) (c : Cut) (k : ℕ) (p q : Part) (steps : List Step) (h : NodeLines) (m : ℕ) (l : Line) (v : Outline) → IsPut t c k p q →
     IsCollectionAt steps (outline_of p) h → EntryFits h m l v → HaveOneAnchorEach (l ∷ flatten v) →
-    lines_of q.rows ≡ put_lines h (flatten h.lines ++ (l ∷ flatten v)) → IsSoundRoot (change steps (within (append_child (label l) (content l v))) (root_of p)) →
+    lines_of q.rows ≡ put_lines h (flatten h.lines ++ (l ∷ flatten v)) →
+    IsSoundRoot (change steps (within (append_child (label l) (content l v))) (root_of p)) →
     IsChanged c (put_document k q c) k (lead_of p) (change steps (within (append_child (label l) (content l v))))
 
 -- The lines of one of several items or entries of the collection at a path are taken out.
@@ -87,9 +91,11 @@ LinesRemoved =
 -- The line of an item or entry of the collection at a path gets other comments.
 abbrev pub LineRelabelled : Type 0
 LineRelabelled =
-    (t : List ℕ) (c : Cut) (k : ℕ) (p q : Part) (steps : List Step) (h : NodeLines) (s : Step) (f : FoundLine) (g : Label → Label) (l : Line) → IsPut t c k p q →
+    (t : List ℕ) (c : Cut) (k : ℕ) (p q : Part) (steps : List Step) (h : NodeLines) (s : Step) (f : FoundLine) (g : Label → Label) (l : Line) →
+    IsPut t c k p q →
     IsEntryAt steps s (outline_of p) h f → IsRelabelled g f.line l → lines_of q.rows ≡ put_lines h (with_lines f (l ∷ flatten f.under)) →
-    IsSoundRoot (change steps (within (relabel_child s g)) (root_of p)) → IsChanged c (put_document k q c) k (lead_of q) (change steps (within (relabel_child s g)))
+    IsSoundRoot (change steps (within (relabel_child s g)) (root_of p)) →
+    IsChanged c (put_document k q c) k (lead_of q) (change steps (within (relabel_child s g)))
 
 -- an outline whose first line has this head comment
 abbrev pub with_lead : List (List ℕ) → Outline → Outline

@@ -30,7 +30,9 @@ pub record TakesRowsLast (p : Part) (front : List Row) (r : Row) (break : List �
 -- One item or entry more is appended at the end of a text without a final break: the last row gets one.
 abbrev pub EndAppended : Type 0
 EndAppended =
-    (t : List ℕ) (c : Cut) (k : ℕ) (p : Part) (steps : List Step) (h : NodeLines) (front new : List Row) (r : Row) (break : List ℕ) (m : ℕ) (l : Line) (u : Outline) → IsDocumentPart t c k p →
-    IsCollectionAt steps (outline_of p) h → length (lines_of p.rows) ≡ length (lines_before h.place) + length (flatten h.lines) → IsWritten h new m l u (length steps) →
+    (t : List ℕ) (c : Cut) (k : ℕ) (p : Part) (steps : List Step) (h : NodeLines) (front new : List Row) (r : Row) (break : List ℕ) (m : ℕ) (l : Line)
+    (u : Outline) → IsDocumentPart t c k p →
+    IsCollectionAt steps (outline_of p) h → length (lines_of p.rows) ≡ length (lines_before h.place) + length (flatten h.lines) →
+    IsWritten h new m l u (length steps) →
     TakesRowsLast p front r break new (behind_document k c) → IsReadable (cut_text (put_document k (closed_with front r break new p) c)) →
     IsChanged c (put_document k (closed_with front r break new p) c) k (lead_of p) (change steps (within (append_child (label l) (content l u))))

@@ -19,13 +19,16 @@ with_items p i rest gap is = with_node p i (put_at rest gap is i.node)
 -- Such a document has room for the same comments, its root is block where it was, and it has the same lead.
 abbrev pub FlowRooms : Type 0
 FlowRooms =
-    (c : Cut) (k : ℕ) (p : Part) (steps : List Step) (f : FoundLine) (rest : List Step) (i : InlineRow) (w : CollPieces) (gap : List ℕ) (is : Items) → IsFlowAt c k p steps f rest i w →
-    EqualRoom p (with_items p i rest gap is) × (is_block_root (with_items p i rest gap is) ≡ is_block_root p) × (lead_of (with_items p i rest gap is) ≡ lead_of p)
+    (c : Cut) (k : ℕ) (p : Part) (steps : List Step) (f : FoundLine) (rest : List Step) (i : InlineRow) (w : CollPieces) (gap : List ℕ) (is : Items) →
+    IsFlowAt c k p steps f rest i w →
+    EqualRoom p (with_items p i rest gap is) × (is_block_root (with_items p i rest gap is) ≡ is_block_root p) ×
+    (lead_of (with_items p i rest gap is) ≡ lead_of p)
 
 -- The keys in the changed node are fit, if those of the new items or entries are where those of the old ones are.
 abbrev pub FlowKeys : Type 0
 FlowKeys =
-    (t : List ℕ) (c : Cut) (k : ℕ) (p : Part) (steps : List Step) (f : FoundLine) (rest : List Step) (i : InlineRow) (w : CollPieces) (gap : List ℕ) (is : Items) → IsDocumentPart t c k p → IsFlowAt c k p steps f rest i w →
+    (t : List ℕ) (c : Cut) (k : ℕ) (p : Part) (steps : List Step) (f : FoundLine) (rest : List Step) (i : InlineRow) (w : CollPieces) (gap : List ℕ)
+    (is : Items) → IsDocumentPart t c k p → IsFlowAt c k p steps f rest i w →
     (EachHasFitKeys w.items → EachHasFitKeys is) → HasFitKeys (put_at rest gap is i.node)
 
 -- Without one of the items or entries, the keys of the others are fit, if all were.

@@ -51,14 +51,17 @@ pub record IsFlowAt (c : Cut) (k : ℕ) (p : Part) (steps : List Step) (f : Foun
 -- A collection to which a path leads stands in the inline node of its row.
 abbrev pub FlowStands : Type 0
 FlowStands =
-    (t : List ℕ) (c : Cut) (k : ℕ) (p : Part) (steps : List Step) (f : FoundLine) (rest : List Step) (i : InlineRow) (w : CollPieces) → IsDocumentPart t c k p → IsFlowAt c k p steps f rest i w →
+    (t : List ℕ) (c : Cut) (k : ℕ) (p : Part) (steps : List Step) (f : FoundLine) (rest : List Step) (i : InlineRow) (w : CollPieces) →
+    IsDocumentPart t c k p → IsFlowAt c k p steps f rest i w →
     IsCollAt (coll_at c k p i rest w)
 
 -- An edit of the text of a flow collection changes its items or entries in the document.
 abbrev pub FlowEdited : Type 0
 FlowEdited =
-    (t : List ℕ) (c : Cut) (k : ℕ) (p : Part) (steps : List Step) (f : FoundLine) (rest : List Step) (i : InlineRow) (w : CollPieces) (e : FlowEdit) (h : Children → Children) →
-    IsDocumentPart t c k p → IsFlowAt c k p steps f rest i w → IsFlowEdited (coll_at c k p i rest w) e (change rest (within h)) → HasFitKeys (edited_node (coll_at c k p i rest w) e) →
+    (t : List ℕ) (c : Cut) (k : ℕ) (p : Part) (steps : List Step) (f : FoundLine) (rest : List Step) (i : InlineRow) (w : CollPieces) (e : FlowEdit)
+    (h : Children → Children) →
+    IsDocumentPart t c k p → IsFlowAt c k p steps f rest i w → IsFlowEdited (coll_at c k p i rest w) e (change rest (within h)) →
+    HasFitKeys (edited_node (coll_at c k p i rest w) e) →
     IsSoundRoot (change steps (within h) (root_of p)) → IsReadable (cut_text (put_document k (with_node p i (edited_node (coll_at c k p i rest w) e)) c)) →
     IsChanged c (put_document k (with_node p i (edited_node (coll_at c k p i rest w) e)) c) k (lead_of p) (change steps (within h))
 

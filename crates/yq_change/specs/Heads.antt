@@ -38,7 +38,9 @@ pub record TakesRun (p : Part) (front : List Row) (r : Row) (back : List Row) (r
 -- The head comment of an item or entry is set, where its line is the first of its row.
 abbrev pub HeadCommented : Type 0
 HeadCommented =
-    (t : List ℕ) (c : Cut) (k : ℕ) (p : Part) (steps : List Step) (s : Step) (h : NodeLines) (f : FoundLine) (front back : List Row) (r : Row) (run : List ℕ) → IsDocumentPart t c k p →
+    (t : List ℕ) (c : Cut) (k : ℕ) (p : Part) (steps : List Step) (s : Step) (h : NodeLines) (f : FoundLine) (front back : List Row) (r : Row) (run : List ℕ) →
+    IsDocumentPart t c k p →
     IsEntryAt steps s (outline_of p) h f → TakesRun p front r back run (behind_document k c) → length (lines_of front) ≡ line_number h f →
     IsReadable (cut_text (put_document k (rerun front r back run p) c)) →
-    IsChanged c (put_document k (rerun front r back run p) c) k (lead_of (rerun front r back run p)) (change steps (within (relabel_child s (with_head_comment (head_comment run)))))
+    IsChanged c (put_document k (rerun front r back run p) c) k (lead_of (rerun front r back run p))
+    (change steps (within (relabel_child s (with_head_comment (head_comment run)))))

@@ -29,7 +29,9 @@ pub record TakesTail (p : Part) (front : List Row) (r : Row) (back : List Row) (
 -- The line comment of an item or entry is set, where its line is the last of its row and no block scalar's: the row gets another tail.
 abbrev pub LineCommented : Type 0
 LineCommented =
-    (t : List ℕ) (c : Cut) (k : ℕ) (p : Part) (steps : List Step) (s : Step) (h : NodeLines) (f : FoundLine) (front back : List Row) (r : Row) (tail : List ℕ) → IsDocumentPart t c k p →
+    (t : List ℕ) (c : Cut) (k : ℕ) (p : Part) (steps : List Step) (s : Step) (h : NodeLines) (f : FoundLine) (front back : List Row) (r : Row)
+    (tail : List ℕ) → IsDocumentPart t c k p →
     IsEntryAt steps s (outline_of p) h f → TakesTail p front r back tail (behind_document k c) → length (lines_of front) + length r.dashes ≡ line_number h f →
     IsReadable (cut_text (put_document k (retailed front r back tail p) c)) →
-    IsChanged c (put_document k (retailed front r back tail p) c) k (lead_of p) (change steps (within (relabel_child s (with_line_comment (line_comment tail)))))
+    IsChanged c (put_document k (retailed front r back tail p) c) k (lead_of p)
+    (change steps (within (relabel_child s (with_line_comment (line_comment tail)))))

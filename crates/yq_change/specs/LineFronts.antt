@@ -17,4 +17,5 @@ CleanCut = (a b : List ℕ) → IsPiece (a ++ b) → IsUtf8 a → (front is_feed
 -- What is written on the line of a row's mark ends in no CR, where an LF is behind it.
 abbrev pub LineEndsClean : Type 0
 LineEndsClean =
-    (limit : Limit) (r : Row) (rest : List ℕ) → IsRow limit r rest → pairs_returns (print_row r rest) ≡ true → front is_feed ((slices r).tail ++ ((slices r).raw ++ rest)) ≡ true → ends_return (line_text r) ≡ false
+    (limit : Limit) (r : Row) (rest : List ℕ) → IsRow limit r rest → pairs_returns (print_row r rest) ≡ true →
+    front is_feed ((slices r).tail ++ ((slices r).raw ++ rest)) ≡ true → ends_return (line_text r) ≡ false

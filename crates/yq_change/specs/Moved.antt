@@ -19,10 +19,12 @@ moved_up r dashes b = record b { gap = r.gap; column = r.column; dashes = dashes
 abbrev pub emptied : Row → List ℕ → List ℕ → Row
 emptied r dashes tail = record r { dashes = dashes; mark = rows.Dash; content = Nothing tail }
 
--- Where the next entry's row b, in the same column and with no comment above it, stands behind the first dashes of row r, the lines are the old ones without those of the first entry.
+-- Where the next entry's row b, in the same column and with no comment above it, stands behind the first dashes of row r, the lines are the old ones without
+-- those of the first entry.
 abbrev pub FirstMoved : Type 0
 FirstMoved =
-    (before gone behind : List Row) (r b : Row) (n : ℕ) (ns es : List ℕ) → r.dashes ≡ n ∷ (ns ++ es) → b.column ≡ behind_columns r.column (n ∷ ns) → head_comment b.gap ≡ [] →
+    (before gone behind : List Row) (r b : Row) (n : ℕ) (ns es : List ℕ) → r.dashes ≡ n ∷ (ns ++ es) → b.column ≡ behind_columns r.column (n ∷ ns) →
+    head_comment b.gap ≡ [] →
     (lines_of (before ++ (r ∷ (gone ++ (b ∷ behind)))) ≡
     (lines_of before ++ dash_lines (head_comment r.gap) r.column (n ∷ ns)) ++ ((lines_from [] b.column es r.mark r.content ++ lines_of gone) ++ lines_of (b ∷ behind))) ×
     (lines_of (before ++ (moved_up r (n ∷ ns) b ∷ behind)) ≡ (lines_of before ++ dash_lines (head_comment r.gap) r.column (n ∷ ns)) ++ lines_of (b ∷ behind))

@@ -42,9 +42,11 @@ pub record PathEntry (p : Part) (steps : List Step) (s : Step) (before : ℕ) : 
 abbrev pub PathLineCommented : Type 0
 PathLineCommented =
     (t : List ℕ) (c : Cut) (k : ℕ) (p : Part) (steps : List Step) (s : Step) (x : RowLine) (front back : List Row) (tail : List ℕ) → IsDocumentPart t c k p →
-    row_line_of (steps ++ (s ∷ [])) p.rows ≡ Some x → x.line ≡ length x.row.dashes → TakesTail p front x.row back tail (behind_document k c) → length front ≡ x.before →
+    row_line_of (steps ++ (s ∷ [])) p.rows ≡ Some x → x.line ≡ length x.row.dashes → TakesTail p front x.row back tail (behind_document k c) →
+    length front ≡ x.before →
     IsReadable (cut_text (put_document k (retailed front x.row back tail p) c)) →
-    IsChanged c (put_document k (retailed front x.row back tail p) c) k (lead_of p) (change steps (within (relabel_child s (with_line_comment (line_comment tail)))))
+    IsChanged c (put_document k (retailed front x.row back tail p) c) k (lead_of p)
+    (change steps (within (relabel_child s (with_line_comment (line_comment tail)))))
 
 -- The head comment at a path is set, where the path's line is the first of its row.
 abbrev pub PathHeadCommented : Type 0
@@ -52,4 +54,5 @@ PathHeadCommented =
     (t : List ℕ) (c : Cut) (k : ℕ) (p : Part) (steps : List Step) (s : Step) (x : RowLine) (front back : List Row) (run : List ℕ) → IsDocumentPart t c k p →
     row_line_of (steps ++ (s ∷ [])) p.rows ≡ Some x → x.line ≡ 0 → TakesRun p front x.row back run (behind_document k c) → length front ≡ x.before →
     IsReadable (cut_text (put_document k (rerun front x.row back run p) c)) →
-    IsChanged c (put_document k (rerun front x.row back run p) c) k (lead_of (rerun front x.row back run p)) (change steps (within (relabel_child s (with_head_comment (head_comment run)))))
+    IsChanged c (put_document k (rerun front x.row back run p) c) k (lead_of (rerun front x.row back run p))
+    (change steps (within (relabel_child s (with_head_comment (head_comment run)))))

@@ -39,6 +39,8 @@ pub record TakesLineTail (p : Part) (front : List Row) (r : Row) (back : List Ro
 abbrev pub PathTailPut : Type 0
 PathTailPut =
     (t : List ℕ) (c : Cut) (k : ℕ) (p : Part) (steps : List Step) (s : Step) (x : RowLine) (front back : List Row) (tail : List ℕ) → IsDocumentPart t c k p →
-    row_line_of (steps ++ (s ∷ [])) p.rows ≡ Some x → x.line ≡ length x.row.dashes → TakesLineTail p front x.row back tail (behind_document k c) → length front ≡ x.before →
+    row_line_of (steps ++ (s ∷ [])) p.rows ≡ Some x → x.line ≡ length x.row.dashes → TakesLineTail p front x.row back tail (behind_document k c) →
+    length front ≡ x.before →
     IsReadable (cut_text (put_document k (inserted front (tailed tail x.row ∷ []) back p) c)) →
-    IsChanged c (put_document k (inserted front (tailed tail x.row ∷ []) back p) c) k (lead_of p) (change steps (within (relabel_child s (with_line_comment (line_comment tail)))))
+    IsChanged c (put_document k (inserted front (tailed tail x.row ∷ []) back p) c) k (lead_of p)
+    (change steps (within (relabel_child s (with_line_comment (line_comment tail)))))

@@ -26,13 +26,16 @@ pub record ArePartedAt (ls a x z : List Line) (before size : ℕ) : Type 0 where
 -- Of lines in three parts, the second is that of a line that was found and those under it, if it is as long and as many stand before it.
 abbrev pub LinePlaced : Type 0
 LinePlaced =
-    (n : ℕ) (p : Part) (s : Step) (ss rest : List Step) (f : FoundLine) (a x z : List Line) → IsEven n (outline_of p) → find s ss (outline_of p) ≡ Some (f, rest) →
-    ArePartedAt (lines_of p.rows) a x z (length (lines_before f.place)) (length (f.line ∷ flatten f.under)) → (x ≡ f.line ∷ flatten f.under) × ((ls : List Line) → with_lines f ls ≡ a ++ (ls ++ z))
+    (n : ℕ) (p : Part) (s : Step) (ss rest : List Step) (f : FoundLine) (a x z : List Line) → IsEven n (outline_of p) →
+    find s ss (outline_of p) ≡ Some (f, rest) →
+    ArePartedAt (lines_of p.rows) a x z (length (lines_before f.place)) (length (f.line ∷ flatten f.under)) →
+    (x ≡ f.line ∷ flatten f.under) × ((ls : List Line) → with_lines f ls ≡ a ++ (ls ++ z))
 
 -- The same of the lines of an item or entry of that node.
 abbrev pub EntryPlaced : Type 0
 EntryPlaced =
-    (n : ℕ) (p : Part) (steps : List Step) (h : NodeLines) (s : Step) (f : FoundLine) (a x z : List Line) → IsEven n (outline_of p) → IsEntryAt steps s (outline_of p) h f →
+    (n : ℕ) (p : Part) (steps : List Step) (h : NodeLines) (s : Step) (f : FoundLine) (a x z : List Line) → IsEven n (outline_of p) →
+    IsEntryAt steps s (outline_of p) h f →
     ArePartedAt (lines_of p.rows) a x z (length (lines_before h.place) + length (lines_before f.place)) (length (f.line ∷ flatten f.under)) →
     (x ≡ f.line ∷ flatten f.under) × ((ls : List Line) → put_lines h (with_lines f ls) ≡ a ++ (ls ++ z))
 

@@ -28,7 +28,8 @@ use Rattle.yq_change.specs.Moved.{moved_up, emptied}
 use Rattle.yq_change.specs.Siblings.{HasEntries, IsEntryAt, NodeLines}
 use Rattle.yq_change.specs.SoundRoots.{MayReplace}
 
--- Rows may stand in the place of some of a part, with a gap behind them, before a rest: they are rows there, the next row may follow, and their text begins like the old one.
+-- Rows may stand in the place of some of a part, with a gap behind them, before a rest: they are rows there, the next row may follow, and their text begins
+-- like the old one.
 pub record RowsReplace (front gone new back : List Row) (gap : List ℕ) (p : Part) (rest : List ℕ) : Type 0 where
   pub rows_are : p.rows ≡ front ++ (gone ++ back)
   pub some : no_rows gone ≡ false
@@ -39,7 +40,8 @@ pub record RowsReplace (front gone new back : List Row) (gap : List ℕ) (p : Pa
 -- A cut in which rows of a document give way to others whose text begins like theirs is a cut, where the new text may stand.
 abbrev pub DocumentReplaced : Type 0
 DocumentReplaced =
-    (t : List ℕ) (c : Cut) (k : ℕ) (p : Part) (front gone back new : List Row) (gap : List ℕ) → IsDocumentPart t c k p → RowsReplace front gone new back gap p (behind_document k c) →
+    (t : List ℕ) (c : Cut) (k : ℕ) (p : Part) (front gone back new : List Row) (gap : List ℕ) → IsDocumentPart t c k p →
+    RowsReplace front gone new back gap p (behind_document k c) →
     IsReadable (cut_text (put_document k (put_rows front new back gap p) c)) →
     IsCut (cut_text (put_document k (put_rows front new back gap p) c)) (put_document k (put_rows front new back gap p) c)
 
@@ -55,10 +57,12 @@ pub record TakesLines (f : FoundLine) (front gone new : List Row) (x y : List Li
 -- The node of an item or entry at a path is replaced: what is written inline or in rows, by either of these.
 abbrev pub NodeRowsReplaced : Type 0
 NodeRowsReplaced =
-    (t : List ℕ) (c : Cut) (k : ℕ) (p : Part) (s : Step) (ss : List Step) (f : FoundLine) (v : Node) (front gone new back : List Row) (x y : List Line) (m : ℕ) (l : Line) (u : Outline) →
+    (t : List ℕ) (c : Cut) (k : ℕ) (p : Part) (s : Step) (ss : List Step) (f : FoundLine) (v : Node) (front gone new back : List Row) (x y : List Line) (m : ℕ)
+    (l : Line) (u : Outline) →
     IsDocumentPart t c k p → find s ss (outline_of p) ≡ Some (f, []) → RowsReplace front gone new back (first_gap back p.end) p (behind_document k c) →
     TakesLines f front gone new x y l u → LineFits [] f (replaced v) m l u → MayReplace v (content f.line f.under) (root_of p) (length (s ∷ ss)) →
-    IsReadable (cut_text (put_document k (inserted front new back p) c)) → IsChanged c (put_document k (inserted front new back p) c) k (lead_of p) (change (s ∷ ss) (replaced v))
+    IsReadable (cut_text (put_document k (inserted front new back p) c)) →
+    IsChanged c (put_document k (inserted front new back p) c) k (lead_of p) (change (s ∷ ss) (replaced v))
 
 -- a part with these rows, and this gap behind them
 abbrev pub rooted : List Row → List ℕ → Part → Part
@@ -81,26 +85,36 @@ DocumentRooted =
 -- The root is replaced by rows, and keeps its anchor.
 abbrev pub RootRowsReplaced : Type 0
 RootRowsReplaced =
-    (t : List ℕ) (c : Cut) (k : ℕ) (p : Part) (v : Node) (new : List Row) (gap : List ℕ) (m : ℕ) (u : Outline) → IsDocumentPart t c k p → TakesRoot c k p new gap →
-    RootFits m u (replaced v (root_of p)) → lines_of new ≡ flatten u → MayReplace v (root_of p) (root_of p) 0 → IsReadable (cut_text (put_document k (rooted new gap p) c)) →
+    (t : List ℕ) (c : Cut) (k : ℕ) (p : Part) (v : Node) (new : List Row) (gap : List ℕ) (m : ℕ) (u : Outline) → IsDocumentPart t c k p →
+    TakesRoot c k p new gap →
+    RootFits m u (replaced v (root_of p)) → lines_of new ≡ flatten u → MayReplace v (root_of p) (root_of p) 0 →
+    IsReadable (cut_text (put_document k (rooted new gap p) c)) →
     IsChanged c (put_document k (rooted new gap p) c) k (lead_of (rooted new gap p)) (replaced v)
 
 -- The first item or entry of a compact collection is removed: the next one's row b stands behind the dash.
 abbrev pub FirstRowMoved : Type 0
 FirstRowMoved =
-    (t : List ℕ) (c : Cut) (k : ℕ) (p : Part) (steps : List Step) (s : Step) (h : NodeLines) (f : FoundLine) (front gone back : List Row) (r b : Row) (n : ℕ) (ns es : List ℕ) → IsDocumentPart t c k p →
+    (t : List ℕ) (c : Cut) (k : ℕ) (p : Part) (steps : List Step) (s : Step) (h : NodeLines) (f : FoundLine) (front gone back : List Row) (r b : Row) (n : ℕ)
+    (ns es : List ℕ) → IsDocumentPart t c k p →
     IsEntryAt steps s (outline_of p) h f → HasEntries (plug f.place f.after) →
     RowsReplace front (r ∷ (gone ++ (b ∷ []))) (moved_up r (n ∷ ns) b ∷ []) back (first_gap back p.end) p (behind_document k c) → MovesUp r b n ns es →
     AreCounted h f (length (lines_of front) + length (n ∷ ns)) (length (lines_from [] b.column es r.mark r.content ++ lines_of gone)) →
-    AreSpared (names_of (content f.line f.under)) [] (names_of (root_of p)) → IsReadable (cut_text (put_document k (inserted front (moved_up r (n ∷ ns) b ∷ []) back p) c)) →
-    IsChanged c (put_document k (inserted front (moved_up r (n ∷ ns) b ∷ []) back p) c) k (lead_of (inserted front (moved_up r (n ∷ ns) b ∷ []) back p)) (change steps (within (remove_child s)))
+    AreSpared (names_of (content f.line f.under)) [] (names_of (root_of p)) →
+    IsReadable (cut_text (put_document k (inserted front (moved_up r (n ∷ ns) b ∷ []) back p) c)) →
+    IsChanged c (put_document k (inserted front (moved_up r (n ∷ ns) b ∷ []) back p) c) k (lead_of (inserted front (moved_up r (n ∷ ns) b ∷ []) back p))
+    (change steps (within (remove_child s)))
 
 -- The same where nothing but a tail stays behind the dash, and the next one's row keeps its place below it.
 abbrev pub FirstRowDropped : Type 0
 FirstRowDropped =
-    (t : List ℕ) (c : Cut) (k : ℕ) (p : Part) (steps : List Step) (s : Step) (h : NodeLines) (f : FoundLine) (front gone back : List Row) (r : Row) (n : ℕ) (ns es tail : List ℕ) → IsDocumentPart t c k p →
-    IsEntryAt steps s (outline_of p) h f → HasEntries (plug f.place f.after) → RowsReplace front (r ∷ gone) (emptied r ns tail ∷ []) back (first_gap back p.end) p (behind_document k c) →
+    (t : List ℕ) (c : Cut) (k : ℕ) (p : Part) (steps : List Step) (s : Step) (h : NodeLines) (f : FoundLine) (front gone back : List Row) (r : Row) (n : ℕ)
+    (ns es tail : List ℕ) → IsDocumentPart t c k p →
+    IsEntryAt steps s (outline_of p) h f → HasEntries (plug f.place f.after) →
+    RowsReplace front (r ∷ gone) (emptied r ns tail ∷ []) back (first_gap back p.end) p (behind_document k c) →
     StaysEmpty r n ns es tail →
-    AreCounted h f (length (lines_of front) + length (ns ++ (n ∷ []))) (length (lines_from [] (behind_columns r.column (ns ++ (n ∷ []))) es r.mark r.content ++ lines_of gone)) →
-    AreSpared (names_of (content f.line f.under)) [] (names_of (root_of p)) → IsReadable (cut_text (put_document k (inserted front (emptied r ns tail ∷ []) back p) c)) →
-    IsChanged c (put_document k (inserted front (emptied r ns tail ∷ []) back p) c) k (lead_of (inserted front (emptied r ns tail ∷ []) back p)) (change steps (within (remove_child s)))
+    AreCounted h f (length (lines_of front) + length (ns ++ (n ∷ [])))
+    (length (lines_from [] (behind_columns r.column (ns ++ (n ∷ []))) es r.mark r.content ++ lines_of gone)) →
+    AreSpared (names_of (content f.line f.under)) [] (names_of (root_of p)) →
+    IsReadable (cut_text (put_document k (inserted front (emptied r ns tail ∷ []) back p) c)) →
+    IsChanged c (put_document k (inserted front (emptied r ns tail ∷ []) back p) c) k (lead_of (inserted front (emptied r ns tail ∷ []) back p))
+    (change steps (within (remove_child s)))

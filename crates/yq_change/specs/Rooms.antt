@@ -16,7 +16,8 @@ use Rattle.yq_change.specs.Siblings.{HasEntries}
 abbrev pub is_block_root : Part → Bool
 is_block_root p = begins_no_node (lines_of p.rows)
 
--- the lead of part q goes with its root, where that takes the place of part p's: it is that one's, or where that root was block, the head comment of the first item or entry
+-- the lead of part q goes with its root, where that takes the place of part p's: it is that one's, or where that root was block, the head comment of the first
+-- item or entry
 abbrev pub LeadGoes : Part → Part → Type 0
 LeadGoes p q = lead_of q ≡ lead_by (is_block_root p) (children_of (root_of q)) (lead_of p)
 

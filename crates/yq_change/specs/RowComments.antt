@@ -31,7 +31,8 @@ pub record TakesRow (p : Part) (front : List Row) (r new : Row) (back : List Row
 -- A row that takes the place of another one replaces it among the rows of a document.
 abbrev pub RowReplaces : Type 0
 RowReplaces =
-    (t : List ℕ) (c : Cut) (k : ℕ) (p : Part) (front back : List Row) (r new : Row) → IsDocumentPart t c k p → TakesRow p front r new back (behind_document k c) →
+    (t : List ℕ) (c : Cut) (k : ℕ) (p : Part) (front back : List Row) (r new : Row) → IsDocumentPart t c k p →
+    TakesRow p front r new back (behind_document k c) →
     RowsReplace front (r ∷ []) (new ∷ []) back (first_gap back p.end) p (behind_document k c)
 
 -- A content spells what another one does, and may have another tail.
@@ -44,10 +45,12 @@ pub record SpellsAlike (mark : rows.Mark) (old new : Content) : Type 0 where
 -- The line comment of an item or entry is set, where its line is the last of its row: the row gets a content that spells the same.
 abbrev pub ContentCommented : Type 0
 ContentCommented =
-    (t : List ℕ) (c : Cut) (k : ℕ) (p : Part) (steps : List Step) (s : Step) (h : NodeLines) (f : FoundLine) (front back : List Row) (r : Row) (new : Content) → IsDocumentPart t c k p →
+    (t : List ℕ) (c : Cut) (k : ℕ) (p : Part) (steps : List Step) (s : Step) (h : NodeLines) (f : FoundLine) (front back : List Row) (r : Row)
+    (new : Content) → IsDocumentPart t c k p →
     IsEntryAt steps s (outline_of p) h f → TakesRow p front r (with_content new r) back (behind_document k c) → SpellsAlike r.mark r.content new →
     length (lines_of front) + length r.dashes ≡ line_number h f → IsReadable (cut_text (put_document k (inserted front (with_content new r ∷ []) back p) c)) →
-    IsChanged c (put_document k (inserted front (with_content new r ∷ []) back p) c) k (lead_of p) (change steps (within (relabel_child s (with_line_comment (line_comment (tail_of new))))))
+    IsChanged c (put_document k (inserted front (with_content new r ∷ []) back p) c) k (lead_of p)
+    (change steps (within (relabel_child s (with_line_comment (line_comment (tail_of new))))))
 
 -- a block scalar whose header has another tail
 abbrev pub with_header_tail : List ℕ → List ℕ → Option rows.Anchor → BlockText → Content
@@ -56,7 +59,8 @@ with_header_tail tail space anchor block = Block space anchor (record block { ta
 -- The line comment of a block scalar is set: its header gets another tail.
 abbrev pub BlockCommented : Type 0
 BlockCommented =
-    (t : List ℕ) (c : Cut) (k : ℕ) (p : Part) (steps : List Step) (s : Step) (h : NodeLines) (f : FoundLine) (front back : List Row) (r : Row) (space : List ℕ) (anchor : Option rows.Anchor) (block : BlockText)
+    (t : List ℕ) (c : Cut) (k : ℕ) (p : Part) (steps : List Step) (s : Step) (h : NodeLines) (f : FoundLine) (front back : List Row) (r : Row) (space : List ℕ)
+    (anchor : Option rows.Anchor) (block : BlockText)
     (tail : List ℕ) → IsDocumentPart t c k p → IsEntryAt steps s (outline_of p) h f → r.content ≡ Block space anchor block →
     TakesRow p front r (with_content (with_header_tail tail space anchor block) r) back (behind_document k c) →
     length (lines_of front) + length r.dashes ≡ line_number h f →

@@ -64,7 +64,8 @@ pub record IsEntryAt (steps : List Step) (s : Step) (o : Outline) (h : NodeLines
   pub block : HasEntries h.lines
   pub found : find_row s h.lines ≡ Some f
 
--- An outline may stand in the place of a node's lines, where the node is changed by a function: it is deeper than what is above them, and stands for the new node.
+-- An outline may stand in the place of a node's lines, where the node is changed by a function: it is deeper than what is above them, and stands for the new
+-- node.
 pub record LinesFit (h : NodeLines) (g : Node → Node) (m : ℕ) (u : Outline) : Type 0 where
   pub deep : h.above < m
   pub even : IsEven m u
@@ -93,8 +94,10 @@ LinesReplaced =
 -- Where the lines of the collection at a path give way to others at their level, the lines stand for the tree with its items or entries exchanged.
 abbrev pub CollectionReplaced : Type 0
 CollectionReplaced =
-    (n : ℕ) (o u : Outline) (steps : List Step) (h : NodeLines) (g : Children → Children) → IsEven n o → IsCollectionAt steps o h → HasEntries u → IsEven (level_or 0 h.lines) u →
-    children u ≡ g (children h.lines) → (flatten o ≡ put_lines h (flatten h.lines)) × StandsSomewhere (put_lines h (flatten u)) (change steps (within g) (value o))
+    (n : ℕ) (o u : Outline) (steps : List Step) (h : NodeLines) (g : Children → Children) → IsEven n o → IsCollectionAt steps o h → HasEntries u →
+    IsEven (level_or 0 h.lines) u →
+    children u ≡ g (children h.lines) → (flatten o ≡ put_lines h (flatten h.lines)) ×
+    StandsSomewhere (put_lines h (flatten u)) (change steps (within g) (value o))
 
 -- With the lines of one item or entry more at the end of the collection at a path, lines stand for the tree with that one.
 abbrev pub Appended : Type 0
@@ -106,13 +109,15 @@ Appended =
 -- Without the lines of one of several items or entries of the collection at a path, lines stand for the tree without that one.
 abbrev pub Removed : Type 0
 Removed =
-    (n : ℕ) (o : Outline) (steps : List Step) (h : NodeLines) (s : Step) (f : FoundLine) → IsEven n o → IsEntryAt steps s o h f → HasEntries (plug f.place f.after) →
+    (n : ℕ) (o : Outline) (steps : List Step) (h : NodeLines) (s : Step) (f : FoundLine) → IsEven n o → IsEntryAt steps s o h f →
+    HasEntries (plug f.place f.after) →
     (flatten o ≡ put_lines h (with_lines f (f.line ∷ flatten f.under))) ×
     StandsSomewhere (put_lines h (with_lines f [])) (change steps (within (remove_child s)) (value o))
 
 -- With another head comment or line comment of an item or entry of the collection at a path, lines stand for the tree with that one.
 abbrev pub Relabelled : Type 0
 Relabelled =
-    (n : ℕ) (o : Outline) (steps : List Step) (h : NodeLines) (s : Step) (f : FoundLine) (g : Label → Label) (l : Line) → IsEven n o → IsEntryAt steps s o h f → IsRelabelled g f.line l →
+    (n : ℕ) (o : Outline) (steps : List Step) (h : NodeLines) (s : Step) (f : FoundLine) (g : Label → Label) (l : Line) → IsEven n o →
+    IsEntryAt steps s o h f → IsRelabelled g f.line l →
     (flatten o ≡ put_lines h (with_lines f (f.line ∷ flatten f.under))) ×
     StandsSomewhere (put_lines h (with_lines f (l ∷ flatten f.under))) (change steps (within (relabel_child s g)) (value o))

@@ -40,12 +40,14 @@ pub record MayReplace (v old root : Node) (above : ℕ) : Type 0 where
 -- A root stays as is asked where a node gives way to one without anchors and aliases, and no anchor below the old one has an alias.
 abbrev pub ReplaceKeeps : Type 0
 ReplaceKeeps =
-    (steps : List Step) (root old v : Node) → IsSoundRoot root → node_at steps root ≡ Some old → MayReplace v old root (length steps) → IsSoundRoot (change steps (replaced v) root)
+    (steps : List Step) (root old v : Node) → IsSoundRoot root → node_at steps root ≡ Some old → MayReplace v old root (length steps) →
+    IsSoundRoot (change steps (replaced v) root)
 
 -- It stays so with one item or entry more, of a new key.
 abbrev pub AppendKeeps : Type 0
 AppendKeeps =
-    (steps : List Step) (root old v : Node) (l : Label) → IsSoundRoot root → node_at steps root ≡ Some old → IsNewValue v (suc (length steps)) → IsNewKey l.key (keys_of (children_of old)) →
+    (steps : List Step) (root old v : Node) (l : Label) → IsSoundRoot root → node_at steps root ≡ Some old → IsNewValue v (suc (length steps)) →
+    IsNewKey l.key (keys_of (children_of old)) →
     IsSoundRoot (change steps (within (append_child l v)) root)
 
 -- It stays so without an item or entry in which no anchor has an alias.
@@ -57,5 +59,6 @@ RemoveKeeps =
 -- It stays so with other comments of an item or entry.
 abbrev pub RelabelKeeps : Type 0
 RelabelKeeps =
-    (steps : List Step) (root old : Node) (s : Step) (g : Label → Label) → IsSoundRoot root → node_at steps root ≡ Some old → ((l : Label) → (g l).key ≡ l.key) →
+    (steps : List Step) (root old : Node) (s : Step) (g : Label → Label) → IsSoundRoot root → node_at steps root ≡ Some old →
+    ((l : Label) → (g l).key ≡ l.key) →
     IsSoundRoot (change steps (within (relabel_child s g)) root)

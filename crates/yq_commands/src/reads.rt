@@ -10,8 +10,8 @@ ghost use Rattle.yq_history.specs.Report.{report_by};
 
 use std::alloc::{AllocError, Global};
 use yq_expr::{Match, Value};
-use yq_history::Report;
 use yq_flow_scalars::{Kind, is_true_word};
+use yq_history::Report;
 use yq_splice::print;
 
 /// Adds what stands before a match: the line `---`, where the match before it is in another document.

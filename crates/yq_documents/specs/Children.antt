@@ -42,7 +42,8 @@ left_of c = rest_of c.rest
 -- The first of these lines begins an item or entry, and the others are behind it and the lines under it (own).
 pub record Passes (old new : Under) : Type 0 where
   pub first : IsLineIn old.text.now old.document old.first
-  pub children_are : outline.children (outline_of old) ≡ child (outline.label first.line) (content first.line (lines_under old.text.now old.document old.first first.line)) (outline.children (outline_of new))
+  pub children_are : outline.children (outline_of old) ≡ child (outline.label first.line)
+      (content first.line (lines_under old.text.now old.document old.first first.line)) (outline.children (outline_of new))
 
 -- the first item or entry of these lines is passed; or there is none (own)
 abbrev pub PassesFirst : Under → Option Under → Type 0

@@ -6,10 +6,10 @@ ghost use Rattle.yq_flow_scalars.specs.declared.fault.FaultKind.TheVariants.{Not
 ghost use Rattle.yq_documents.specs.KeyReading as spec;
 
 use crate::fault::fault_at;
-use yq_inline::{Form, Inline};
-use yq_rows::KEY_LIMIT;
 use yq_flow_scalars::characters::char_count;
 use yq_flow_scalars::{FaultKind, Piece, ReadFault};
+use yq_inline::{Form, Inline};
+use yq_rows::KEY_LIMIT;
 
 /// What is at fault in the key at a place of a text: it is to be no plain `<<`, and not too long.
 fn key_fault(whole: &str, piece: &Piece) -> Option<ReadFault>

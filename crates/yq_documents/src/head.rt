@@ -14,12 +14,12 @@ ghost use Rattle.yq_lines.specs.View.{head_view, head_flow};
 use crate::flow_keys::keys_fault;
 use std::alloc::{AllocError, Global};
 use std::num::NonZeroU64;
+use yq_flow_scalars::plain::holds_break;
+use yq_flow_scalars::{Kind, Place, ReadError, ReadFault};
 use yq_inline::pieces::{first_is, is_quoted, strip};
 use yq_inline::{Form, Inline, read_inline};
 use yq_lines::{Content, Head, content_of, plain_head};
 use yq_rows::Row;
-use yq_flow_scalars::plain::holds_break;
-use yq_flow_scalars::{Kind, Place, ReadError, ReadFault};
 use yq_scalar::{content, read_block};
 
 /// The name of an anchor that is written with its `&`.

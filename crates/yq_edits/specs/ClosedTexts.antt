@@ -8,7 +8,8 @@ is_closed_text [] = true
 is_closed_text (b ∷ []) = is_feed b
 is_closed_text (b ∷ (d ∷ t)) = is_closed_text (d ∷ t)
 
--- lines put behind a line: with a break behind them, or, where that line has none, with the break in front of them, so that the text again ends without one (own)
+-- lines put behind a line: with a break behind them, or, where that line has none, with the break in front of them, so that the text again ends without one
+-- (own)
 abbrev pub lines_put_behind : (closed : Bool) → List ℕ → List ℕ → List ℕ
 lines_put_behind true br lines = lines ++ br
 lines_put_behind false br lines = br ++ lines

@@ -18,7 +18,8 @@ use Rattle.yq_edits.specs.Style.{style_in}
 abbrev pub flow_segments : List ℕ → FlowEdit → List Segment
 flow_segments t e = keep (text_before t (e.old ++ e.behind)) ∷ (put e.old e.lead ∷ (put [] e.written ∷ (keep e.behind ∷ [])))
 
--- a value as an inline node in the place of a text: a scalar in the style of that, if this can write it in flow, else plain if it can be, else in double quotes; a collection in flow style (7.4)
+-- a value as an inline node in the place of a text: a scalar in the style of that, if this can write it in flow, else plain if it can be, else in double
+-- quotes; a collection in flow style (7.4)
 abbrev pub flow_value : List ℕ → tree.Node → Node
 flow_value old (tree.alias name) = alias name
 flow_value old (tree.scalar anchor kind text) = scalar (written (style_in InFlow (record { kind = kind; text = text }) (style_of old)) text)

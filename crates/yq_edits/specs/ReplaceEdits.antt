@@ -66,7 +66,8 @@ literal_put br h indent t = raw_put h (keep h.space) (put h.head (header_text (c
 abbrev pub string_put : List ℕ → Held → ℕ → ScalarText → List Segment
 string_put br h indent s = if can_write s Literal InBlock then literal_put br h indent s.text else held_put br h (inline (double s.text))
 
--- a value in the place of a block scalar: a collection on lines in the place of its lines, without the header; else as in the place of what a key or dash holds (8.1, 8.2)
+-- a value in the place of a block scalar: a collection on lines in the place of its lines, without the header; else as in the place of what a key or dash
+-- holds (8.1, 8.2)
 abbrev pub block_put : List ℕ → Held → Written → List Segment
 block_put br h (inline t) = held_put br h (inline t)
 block_put br h (compact_text t) = held_put br h (compact_text t)

@@ -13,14 +13,16 @@ use Rattle.yq_block.specs.BlockRows.{indent_step, item_column}
 use Rattle.yq_block.specs.BlockText.{block_value}
 use Rattle.yq_edits.specs.Style.{style_in}
 
--- a value on one line, in the place of a text: a scalar in the style of that, if this can write it, else plain if it can be, else in double quotes; a collection in flow style (7)
+-- a value on one line, in the place of a text: a scalar in the style of that, if this can write it, else plain if it can be, else in double quotes; a
+-- collection in flow style (7)
 abbrev pub value_text : Place → List ℕ → Node → List ℕ
 value_text place old (alias name) = flow_text (alias name)
 value_text place old (scalar anchor kind text) = written (style_in place (record { kind = kind; text = text }) (style_of old)) text
 value_text place old (list anchor cs) = flow_text (list anchor cs)
 value_text place old (map anchor cs) = flow_text (map anchor cs)
 
--- A value as it is written at a place, without its last break: on one line; on the line of a dash and the lines below it, from its first key or dash on; or on lines of its own, with the spaces of the first one (8.2).
+-- A value as it is written at a place, without its last break: on one line; on the line of a dash and the lines below it, from its first key or dash on; or on
+-- lines of its own, with the spaces of the first one (8.2).
 pub data Written : Type 0 where
   inline : List ℕ → Written
   compact_text : List ℕ → Written

@@ -14,10 +14,10 @@ use crate::layout::layout_for;
 use std::alloc::{AllocError, Global};
 use yq_block::{Layout, push_entry};
 use yq_documents::Path;
+use yq_flow_scalars::push_spaces;
 use yq_inline::Value;
 use yq_places::{CutText, Held, Standing};
 use yq_scalar::block_written::break_text;
-use yq_flow_scalars::push_spaces;
 use yq_script::{Segment, Segments};
 use yq_text::Halves;
 

@@ -8,9 +8,9 @@ ghost use Rattle.yq_edits.specs.Answers.{GivesSegments};
 
 use std::alloc::{AllocError, Global};
 use yq_documents::Path;
+use yq_flow_scalars::push_spaces;
 use yq_places::CutText;
 use yq_scalar::block_written::break_text;
-use yq_flow_scalars::push_spaces;
 use yq_script::{Segment, Segments};
 use yq_text::Halves;
 

@@ -9,9 +9,9 @@ ghost use Rattle.yq_edits.specs.Replacing as spec;
 use crate::style::is_same;
 use std::alloc::{AllocError, Global};
 use yq_documents::Path;
+use yq_flow_scalars::Kind;
 use yq_inline::Value;
 use yq_places::CutText;
-use yq_flow_scalars::Kind;
 
 /// Whether a value is a scalar.
 fn holds_scalar(value: &Value) -> bool

@@ -12,11 +12,11 @@ ghost use Rattle.yq_edits.specs.Answers.{GivesSegments};
 
 use std::alloc::{AllocError, Global};
 use yq_documents::Path;
-use yq_places::{CutText, FirstRemoval, Removal, Seam};
-use yq_scalar::block_repair::{is_outside, is_short};
 use yq_flow_scalars::lines::split_line;
 use yq_flow_scalars::push_spaces;
 use yq_flow_scalars::text::{is_blank, split_white};
+use yq_places::{CutText, FirstRemoval, Removal, Seam};
+use yq_scalar::block_repair::{is_outside, is_short};
 use yq_script::{Segment, Segments};
 use yq_text::Halves;
 

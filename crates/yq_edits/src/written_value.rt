@@ -11,10 +11,10 @@ use crate::style::style_in;
 use std::alloc::{AllocError, Global};
 use yq_block::{Layout, indent_step, push_block};
 use yq_flow::write_inline;
+use yq_flow_scalars::{Place, push_spaces};
 use yq_inline::{Value, style_of};
 use yq_places::Mark;
 use yq_scalar::block_written::break_text;
-use yq_flow_scalars::{Place, push_spaces};
 use yq_scalar::write_scalar;
 
 /// A value on one line, in the place of a text.

@@ -86,7 +86,8 @@ comma_left k rest g key n sep key2 n2 (comma b h) =
 -- The last one: a comma stays behind an item that ends in `---` or `...` in column 0, which would else become a document marker (own).
 abbrev pub last_removed : ℕ → List ℕ → List ℕ → Key → Node → Sep → Key → Node → Sep → FlowEdit
 last_removed k rest g key n sep key2 n2 sep2 =
-    if ends_marked (fresh false g) (key_text key (node_text n [])) then comma_left k rest g key n sep key2 n2 sep2 else last_gone k rest g key n sep key2 n2 sep2
+    if ends_marked (fresh false g)
+    (key_text key (node_text n [])) then comma_left k rest g key n sep key2 n2 sep2 else last_gone k rest g key n sep key2 n2 sep2
 
 -- the item that follows another one goes, if a step leads to it and it is the last one (own)
 abbrev pub last_out : ℕ → List ℕ → Step → List ℕ → Key → Node → Sep → Items → Option FlowEdit

@@ -42,7 +42,8 @@ abbrev mutual
 pub record Spells (v : tree.Node) (t : List ℕ) : Type 0 where
   pub node : Node
   pub written : (rest : List ℕ) → node_text node rest ≡ t ++ rest
-  pub stands : (place : Place) (n : ℤ) (around : ℕ) (rest : List ℕ) → depth v + around ≤ depth_limit → ends_plain (in_flow place) (further_spaces place n) rest ≡ true → IsInline place n around node rest
+  pub stands : (place : Place) (n : ℤ) (around : ℕ) (rest : List ℕ) → depth v + around ≤ depth_limit →
+      ends_plain (in_flow place) (further_spaces place n) rest ≡ true → IsInline place n around node rest
   pub same : tree_of node ≡ v
 
 -- A text spells a scalar outside flow collections: it stands for the scalar, is one line of a text, and is a scalar before any rest at which a plain

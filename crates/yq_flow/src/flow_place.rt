@@ -5,8 +5,8 @@ ghost use Rattle.yq_inline.specs.View as views;
 ghost use Rattle.yq_inline.specs.View.{view};
 ghost use Rattle.yq_flow.specs.FlowPlaces as spec;
 
-use yq_inline::{Form, Inline};
 use yq_flow_scalars::Piece;
+use yq_inline::{Form, Inline};
 
 /// Where an edit changes a text, in bytes: what stands from `start` to `end` gives way to `lead` and,
 /// behind that, to what is written.

@@ -7,9 +7,9 @@ ghost use Rattle.yq_inline.specs.View.{view};
 ghost use Rattle.yq_flow.specs.FlowPlaces as spec;
 
 use crate::flow_place::{EditPlace, end_of};
-use yq_inline::{Form, Inline, Step, first_is, gap_len};
 use yq_flow_scalars::Piece;
 use yq_flow_scalars::plain_text::begins_marker;
+use yq_inline::{Form, Inline, Step, first_is, gap_len};
 
 /// What stands behind so many bytes.
 pub fn behind(text: &[u8], at: usize) -> &[u8]

@@ -10,8 +10,8 @@ ghost use Rattle.yq_inline.specs.Values.{entries_of, items_of, node_of};
 ghost use Rattle.yq_inline.specs.Written as spec;
 
 use std::alloc::{AllocError, Global};
-use yq_inline::Value;
 use yq_flow_scalars::{Kind, Place, Scalar, Style, can_write};
+use yq_inline::Value;
 use yq_scalar::write_scalar;
 
 /// Whether the scalar stands plain there.

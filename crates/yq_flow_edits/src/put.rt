@@ -16,9 +16,9 @@ use std::alloc::{AllocError, Global};
 use yq_documents::Path;
 use yq_edits::value_text;
 use yq_flow::{EditPlace, replace_place};
+use yq_flow_scalars::{Kind, Place};
 use yq_inline::{Form, Inline, Value};
 use yq_places::{CutText, FlowHead};
-use yq_flow_scalars::{Kind, Place};
 use yq_script::Segments;
 
 /// What it comes to that a value is put in the place of a content.

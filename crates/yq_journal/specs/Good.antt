@@ -34,7 +34,8 @@ pub record AtRest (s : State) (t : List ℕ) (h : History) : Type 0 where
   pub reports : LeadsAsHistory s h
   pub text : t ≡ text_at h
 
--- an open move: the journal tells the history before it and keeps the text at its cursor, which the move changes; the text is that one, or the one to which the move leads, with the history after it (own)
+-- an open move: the journal tells the history before it and keeps the text at its cursor, which the move changes; the text is that one, or the one to which
+-- the move leads, with the history after it (own)
 pub record Underway (s : State) (p : Pending) (t : List ℕ) (h : History) : Type 0 where
   pub before : History
   pub reports : LeadsAsHistory s before

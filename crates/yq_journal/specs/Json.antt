@@ -106,7 +106,8 @@ record_keys false = 4
 -- the record that a value stands for: the keys are after_len, before_len, count (from version 2), expr, splices (own)
 unfoldable pub record_of : Bool → Data → Option Record
 record_of counted d = if has_keys (record_keys counted) d
-    then record_from (string_at (codes "expr") d) (option_and_then changes_of (get (codes "splices") d)) (number_at (codes "before_len") d) (number_at (codes "after_len") d) (count_at counted d)
+    then record_from (string_at (codes "expr") d) (option_and_then changes_of (get (codes "splices") d)) (number_at (codes "before_len") d)
+    (number_at (codes "after_len") d) (count_at counted d)
     else None
 
 -- the records that a value stands for (own)
@@ -178,7 +179,8 @@ state_of counted d = state_from (number_at (codes "at") d) (option_and_then (pen
 unfoldable pub journal_of : Data → Option State
 journal_of d = if has_keys 4 d then option_and_then (λ counted. state_of counted d) (option_and_then has_count (number_at (codes "version") d)) else None
 
--- the journal that bytes are: UTF-8 of a JSON text whose value is one; of equal keys the last one counts, and at most 127 arrays and objects are nested (RFC 8259)
+-- the journal that bytes are: UTF-8 of a JSON text whose value is one; of equal keys the last one counts, and at most 127 arrays and objects are nested
+-- (RFC 8259)
 abbrev pub journal_in : List ℕ → Option State
 journal_in bs = if is_utf8 bs then option_and_then journal_of (read bs) else None
 

@@ -10,10 +10,10 @@ ghost use Rattle.yq_lines.specs.View.{content_view, head_view, head_flow};
 
 use crate::line::{Content, Head};
 use std::alloc::{AllocError, Global};
-use yq_inline::pieces::is_quoted;
 use yq_flow_scalars::folding::{plain_content, quoted_content};
 use yq_flow_scalars::plain::holds_break;
 use yq_flow_scalars::{Kind, resolve};
+use yq_inline::pieces::is_quoted;
 
 /// What stands between the quotes of a quoted scalar.
 pub fn between_quotes(piece: &str) -> &str

@@ -107,7 +107,8 @@ ReportsEffect x file journal old new (Refused e) o = MatchBool (is_output e) (Un
 -- the reply, and what the file and the journal then hold, are those of the command's effect on what they held, be they good for a history or not
 abbrev pub HasEffect : Command → Reply → FileMap → FileMap → Type 0
 HasEffect c r old new =
-    (file journal : List ℕ) → file ≢ journal → IsOn file journal c → OfEffect c (get old file) (get old journal) (λ x. ReportsEffect x file journal old new r.answer r.printed)
+    (file journal : List ℕ) → file ≢ journal → IsOn file journal c →
+    OfEffect c (get old file) (get old journal) (λ x. ReportsEffect x file journal old new r.answer r.printed)
 
 -- from every history for which a pair is good it goes on to one for which the pair is good then
 abbrev pub StepsHistory : Command → Reply → FileMap → FileMap → Type 0

@@ -6,7 +6,8 @@ use Rattle.yq_documents.specs.Located.{steps_of}
 use Rattle.yq_inline.specs.Values.{node_of}
 use Rattle.yq_meaning.specs.declared.op.Op as declared
 
--- An operation, at the steps of a path in the document of a number: a node is exchanged, appended as an item or as the entry of a key, or removed; or the text of its line comment or head comment is set (own).
+-- An operation, at the steps of a path in the document of a number: a node is exchanged, appended as an item or as the entry of a key, or removed; or the text
+-- of its line comment or head comment is set (own).
 pub data Operation : Type 0 where
   replace : ℕ → List Step → Node → Operation
   append : ℕ → List Step → Option (List ℕ) → Node → Operation

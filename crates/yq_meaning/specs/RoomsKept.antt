@@ -14,7 +14,8 @@ abbrev pub HasSome : Children → Type 0
 HasSome none = ⊥
 HasSome (child label n cs) = ⊤
 
--- an operation leaves it as it was whether the root of its document is block, where this is the root after it: it doesn't exchange the root, nor take its last item or entry (own)
+-- an operation leaves it as it was whether the root of its document is block, where this is the root after it: it doesn't exchange the root, nor take its last
+-- item or entry (own)
 abbrev pub KeepsBlock : Operation → Node → Type 0
 KeepsBlock (replace doc path v) root = IsBelow path
 KeepsBlock (append doc path k v) root = ⊤
@@ -56,7 +57,8 @@ abbrev pub SetNoComment : List Operation → Type 0
 SetNoComment [] = ⊤
 SetNoComment (op ∷ ops) = ¬ SetsComment op × SetNoComment ops
 
--- The room that operations ask for lasts while they are carried out: whether a root is block, where a later one is of its document; and they set comments all, or none does (own).
+-- The room that operations ask for lasts while they are carried out: whether a root is block, where a later one is of its document; and they set comments all,
+-- or none does (own).
 pub record RoomsLast (rooms : ℕ → Room) (ops : List Operation) (docs : List Document) : Type 0 where
   pub block : BlockLasts rooms ops docs
   pub comments : SetComments ops ⊎ SetNoComment ops
@@ -73,7 +75,8 @@ pub record SameRoom (old new : Room) : Type 0 where
   pub block : new.block ≡ old.block
   pub has : (place : CommentPlace) (path : List Step) → new.has place path ≡ old.has place path
 
--- What an operation leaves of rooms, where these are the documents after it: the room of the other documents is as it was, and a comment leaves that of its own one too. The root of that one after it tells whether it is still block (own).
+-- What an operation leaves of rooms, where these are the documents after it: the room of the other documents is as it was, and a comment leaves that of its
+-- own one too. The root of that one after it tells whether it is still block (own).
 pub record LeavesRooms (op : Operation) (old new : ℕ → Room) (docs : List Document) : Type 0 where
   pub others : (i : ℕ) → (i ≡ document_of op → ⊥) → SameRoom (old i) (new i)
   pub comments : SetsComment op → SameRoom (old (document_of op)) (new (document_of op))

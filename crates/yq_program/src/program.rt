@@ -5,8 +5,8 @@ ghost use Rattle.yq_program.specs.Program as spec;
 ghost use Rattle.yq_program.specs.View.{program_of, step_of};
 
 use std::marker::Model;
-use yq_inline::Value;
 use yq_flow_scalars::Scalar;
+use yq_inline::Value;
 
 /// A program, known by its syntax tree. Each literal is a value as it may be written.
 #[derive(Debug, Drop)]

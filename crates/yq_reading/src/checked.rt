@@ -11,9 +11,9 @@ ghost use Rattle.yq_reading.specs.Checking.{IsChecked};
 
 use crate::ahead::{ahead_from, decoded_here};
 use yq_documents::{Decoded, decoded_key, fault_at};
+use yq_flow_scalars::{FaultKind, ReadFault};
 use yq_inline::pieces::is_quoted;
 use yq_rows::Rows;
-use yq_flow_scalars::{FaultKind, ReadFault};
 use yq_walk::{Position, Stretch, rank_at};
 
 /// A document of a text whose rows are cut, with what is made of these.

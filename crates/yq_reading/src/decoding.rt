@@ -17,12 +17,12 @@ use crate::fit::key_fits;
 use crate::nested::flow_decoded;
 use std::alloc::{AllocError, Global};
 use yq_documents::{Decoded, borrowed_text, fault_at, node_refers, read_head};
-use yq_inline::pieces::{first_is, is_quoted};
-use yq_lines::Head;
-use yq_rows::Rows;
 use yq_flow_scalars::folding::quoted_content;
 use yq_flow_scalars::plain::holds_break;
 use yq_flow_scalars::{FaultKind, ReadError};
+use yq_inline::pieces::{first_is, is_quoted};
+use yq_lines::Head;
+use yq_rows::Rows;
 use yq_walk::head_place;
 
 /// Whether a backslash stands in what is between double quotes, or a quote between single ones.

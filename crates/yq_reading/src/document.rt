@@ -18,8 +18,8 @@ use crate::reached::with_level;
 use crate::sound::check_lines;
 use std::alloc::Global;
 use yq_documents::fault_at;
-use yq_inline::DEPTH_LIMIT;
 use yq_flow_scalars::{FaultKind, ReadError};
+use yq_inline::DEPTH_LIMIT;
 use yq_walk::Position;
 
 /// The aliases of a document: an earlier anchor of its name for each. Whether there are some is known.

@@ -6,9 +6,9 @@ ghost use Rattle.yq_walk.specs.RowWalk.{HasRows};
 ghost use Rattle.yq_documents.specs.Reading as reading;
 
 use yq_documents::is_block_head;
+use yq_flow_scalars::plain::holds_break;
 use yq_inline::pieces::{first_is, is_quoted};
 use yq_rows::{Row, Rows};
-use yq_flow_scalars::plain::holds_break;
 use yq_walk::Stretch;
 
 /// Whether a head is a plain scalar.

@@ -11,8 +11,8 @@ use crate::keys::Keys;
 use std::alloc::{AllocError, Global};
 use std::collections::BTreeMap;
 use yq_documents::fault_at;
-use yq_inline::{Form, Inline};
 use yq_flow_scalars::{FaultKind, Piece, ReadError};
+use yq_inline::{Form, Inline};
 use yq_scalar::are_distinct;
 
 /// An inline node of a text, in which at most so many collections may be nested.

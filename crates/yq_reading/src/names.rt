@@ -6,8 +6,8 @@ ghost use Rattle.yq_flow_scalars.specs.Anchors as spec;
 ghost use Rattle.yq_reading.specs.Named.{all_named};
 
 use std::alloc::AllocError;
-use yq_inline::{Form, Inline};
 use yq_flow_scalars::Piece;
+use yq_inline::{Form, Inline};
 
 /// An anchor, or an alias, by its name; of an alias, the byte of the text where it begins.
 #[derive(Clone, Copy, Debug, PartialEq, Eq)]

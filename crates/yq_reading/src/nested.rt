@@ -16,9 +16,9 @@ use crate::inline_fault::node_fault;
 use crate::reached::Reached;
 use std::alloc::Global;
 use yq_documents::Decoded;
+use yq_flow_scalars::ReadError;
 use yq_inline::Inline;
 use yq_lines::Head;
-use yq_flow_scalars::ReadError;
 use yq_walk::has_head;
 
 /// The alias or flow collection that is made of a row, if one is.

@@ -17,8 +17,8 @@ use crate::document::check_document;
 use crate::parts::document_rows;
 use std::alloc::Global;
 use yq_documents::{Decoded, DocumentRows, ReadText};
-use yq_rows::Rows;
 use yq_flow_scalars::ReadError;
+use yq_rows::Rows;
 use yq_walk::Stretch;
 
 /// The documents of a text, each checked by its rows. Whether an alias may stand in them is known.

@@ -3,9 +3,9 @@ ghost use Rattle.std.specs.Option.{option_map};
 ghost use Rattle.std.specs.Prelude.{◌≡◌, ◌≤◌, ◌^◌};
 ghost use Rattle.yq_rows.specs.BlockNumbers as spec;
 
+use yq_flow_scalars::{Place, further_spaces};
 use yq_scalar::block_header::{keeps, split_indicators};
 use yq_scalar::block_lines::detect_indent;
-use yq_flow_scalars::{Place, further_spaces};
 
 /// How far the text of raw lines is indented, by the digit or by the first of them that isn't blank.
 #[tactic(auto, unfolding(yq_scalar::specs::BlockReading::indent_at))]

@@ -15,12 +15,12 @@ use crate::gap::is_hash;
 use crate::marks::Mark;
 use crate::naming::{no_content, no_further_line, no_tail};
 use crate::words::{begins_word, read_front};
-use yq_inline::DEPTH_LIMIT;
-use yq_inline::measuring::{Measured, NodeKind, measure_node};
-use yq_inline::pieces::{begins_scalar, first_is, is_quoted, name_len, strip};
 use yq_flow_scalars::lines::split_line;
 use yq_flow_scalars::text::{ends_line, split_white};
 use yq_flow_scalars::{FaultKind, Place, ReadError, ReadFault, further_spaces};
+use yq_inline::DEPTH_LIMIT;
+use yq_inline::measuring::{Measured, NodeKind, measure_node};
+use yq_inline::pieces::{begins_scalar, first_is, is_quoted, name_len, strip};
 use yq_scalar::read_block;
 
 /// What stands behind a mark, by its pieces.

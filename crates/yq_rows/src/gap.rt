@@ -6,9 +6,9 @@ ghost use Rattle.yq_inline.specs.Nodes as nodes;
 ghost use Rattle.yq_rows.specs.Reading as spec;
 
 use crate::words::begins_word;
-use yq_inline::pieces::first_is;
 use yq_flow_scalars::lines::line_len;
 use yq_flow_scalars::text::{ends_line, past_white, spaces_len};
+use yq_inline::pieces::first_is;
 
 /// Whether a `#` is in front.
 pub(crate) fn is_hash(text: &[u8]) -> bool

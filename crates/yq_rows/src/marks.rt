@@ -12,9 +12,9 @@ ghost use Rattle.yq_rows.specs.Rows as rows;
 ghost use Rattle.yq_rows.specs.View as view;
 
 use crate::words::read_front;
-use yq_inline::pieces::first_is;
 use yq_flow_scalars::characters::char_count;
 use yq_flow_scalars::text::{separates, split_spaces, split_white};
+use yq_inline::pieces::first_is;
 
 /// How many characters a key may have, and how many its `:` may stand behind its first one.
 pub const KEY_LIMIT: usize = 1024;

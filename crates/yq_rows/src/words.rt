@@ -6,9 +6,9 @@ ghost use Rattle.yq_flow_scalars.specs.declared.fault.FaultKind.TheVariants.{Not
 ghost use Rattle.yq_inline.specs.Reading as inline;
 ghost use Rattle.yq_rows.specs.Reading as spec;
 
-use yq_inline::pieces::read_scalar;
 use yq_flow_scalars::ReadFault;
 use yq_flow_scalars::plain::split_plain;
+use yq_inline::pieces::read_scalar;
 
 /// Whether a letter or a digit is in front.
 pub(crate) fn begins_word(text: &[u8]) -> bool

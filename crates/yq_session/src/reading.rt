@@ -9,8 +9,8 @@ ghost use Rattle.yq_session.specs.Reading as spec;
 use crate::kept::Kept;
 use crate::sides::Touched;
 use std::alloc::{AllocError, Global};
-use yq_rows::{EndPlace, Meter, Places, read_region};
 use yq_flow_scalars::ReadError;
+use yq_rows::{EndPlace, Meter, Places, read_region};
 use yq_text::Halves;
 
 /// Rows and ends of parts that come in the place of others.

@@ -3,8 +3,8 @@
 use std::alloc::{AllocError, Global};
 use std::test::Fail;
 use yq_flow::{EditPlace, append_place, remove_place, replace_place, write_entry, write_inline};
-use yq_inline::{Inline, Step, Value, read_inline};
 use yq_flow_scalars::{Place, ReadError, Scalar};
+use yq_inline::{Inline, Step, Value, read_inline};
 
 /// What is done at the end of a path.
 #[derive(Debug)]

@@ -13,10 +13,10 @@ ghost use Rattle.yq_documents.specs.Ready.{TextIsReady};
 use crate::document::Documents;
 use std::alloc::Global;
 use std::num::NonZeroU64;
+use yq_flow_scalars::{FaultKind, ReadError, ReadFault};
 use yq_lines::lines_shaped;
 use yq_reading::read_rows;
 use yq_rows::scan;
-use yq_flow_scalars::{FaultKind, ReadError, ReadFault};
 
 /// The text that bytes are in UTF-8. Bytes that are none are refused as
 /// `NotUtf8`, on the line of the first byte that isn't UTF-8.

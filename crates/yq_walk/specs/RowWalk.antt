@@ -134,7 +134,9 @@ OfLines s d said = (h : HasRows s d) → said (lines_of h.rows) (line_number d h
 -- A step leads to that line, if to any, among the lines from one on that are deeper than a level.
 abbrev pub Finds : RowsView → Stretch → Position → ℕ → Step → Option Position → Type 0
 Finds s d under floor step found =
-    (h : HasDocument s d) → position (line_number d h.stand.rows under) (find_row step (part (lines_of h.stand.rows) (line_number d h.stand.rows under) floor)) ≡ line_here (lines_of h.stand.rows) (option_map (line_number d h.stand.rows) found)
+    (h : HasDocument s d) → position (line_number d h.stand.rows under)
+    (find_row step (part (lines_of h.stand.rows) (line_number d h.stand.rows under) floor)) ≡ line_here (lines_of h.stand.rows)
+    (option_map (line_number d h.stand.rows) found)
 
 -- where a step leads among the lines from one on that are deeper than a level
 abbrev pub found_from : Stretch → List Row → ℕ → Position → Step → Option (ℕ × Line × Outline)

@@ -1,8 +1,8 @@
 //! What nodes are, where they stand on lines or in heads.
 
 use crate::nodes::under::Under;
-use yq_inline::Inline;
 use yq_flow_scalars::Kind;
+use yq_inline::Inline;
 
 /// What a node is, but for the anchor before it.
 #[derive(Clone, Copy, Debug)]

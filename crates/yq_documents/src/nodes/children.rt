@@ -11,8 +11,8 @@ use crate::nodes::body::Body;
 use crate::nodes::lines::has_lines;
 use crate::nodes::node::Node;
 use crate::nodes::under::Under;
-use yq_inline::{Form, Inline};
 use yq_flow_scalars::Piece;
+use yq_inline::{Form, Inline};
 use yq_walk::behind;
 
 /// What is left of the items or entries of a node.

@@ -9,9 +9,9 @@ ghost use Rattle.yq_lines.specs.Bodies.{borrowed};
 ghost use Rattle.yq_documents.specs.Texts.{texts_left, YieldsText};
 
 use crate::nodes::node::{Node, Slot};
-use yq_inline::pieces::strip;
 use yq_flow_scalars::lines::{split_at_break, split_line};
 use yq_flow_scalars::text::{past_white, split_white};
+use yq_inline::pieces::strip;
 
 /// A comment's text without the one space that may begin it.
 #[tactic(auto, using(crate::proofs::CommentLaws::space_there, crate::proofs::CommentLaws::no_space))]

@@ -13,8 +13,8 @@ ghost use Rattle.yq_lines.specs.Outline as outline;
 ghost use Rattle.yq_lines.specs.Bodies.{borrowed};
 
 use crate::nodes::node::NodeKind;
-use yq_inline::{Form, Inline};
 use yq_flow_scalars::{Kind, Piece};
+use yq_inline::{Form, Inline};
 
 /// What a node of a flow collection is.
 #[tactic(auto, using(crate::proofs::KindLaws::kind_named))]

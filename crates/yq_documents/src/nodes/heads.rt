@@ -21,9 +21,9 @@ use crate::nodes::body::Body;
 use crate::nodes::node::Written;
 use crate::of_row::head_decoded;
 use crate::read_text::ReadText;
+use yq_flow_scalars::{Kind, resolve};
 use yq_inline::pieces::is_quoted;
 use yq_lines::{Head, between_quotes};
-use yq_flow_scalars::{Kind, resolve};
 use yq_walk::{Position, has_head, lines_before_mark, rank_at};
 
 /// A text as it is written, without its quotes.

@@ -21,8 +21,8 @@ use crate::nodes::heads::line_written;
 use crate::nodes::node_lines::{line_node, lines_node};
 use crate::nodes::under::Under;
 use crate::read_text::ReadText;
-use yq_inline::Inline;
 use yq_flow_scalars::Kind;
+use yq_inline::Inline;
 use yq_walk::Position;
 
 /// What a node is.

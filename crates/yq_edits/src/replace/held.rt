@@ -15,9 +15,9 @@ use crate::written_value::{
 };
 use std::alloc::{AllocError, Global};
 use yq_block::{Layout, is_filled};
+use yq_flow_scalars::Place;
 use yq_inline::Value;
 use yq_places::{Compact, Held};
-use yq_flow_scalars::Place;
 use yq_script::{Segment, Segments};
 use yq_text::Halves;
 

@@ -14,9 +14,9 @@ ghost use Rattle.yq_documents.specs.declared.path.Part.TheVariants as parts;
 use crate::cut_text::CutText;
 use crate::places::stretch::RowLine;
 use yq_documents::{Path, Span, is_comment, last_run};
-use yq_rows::Rows;
 use yq_flow_scalars::lines::split_at_break;
 use yq_flow_scalars::text::split_white;
+use yq_rows::Rows;
 use yq_walk::{front_len, row_start};
 
 /// The place of the comment in a tail that begins at a place.

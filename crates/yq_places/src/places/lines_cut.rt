@@ -7,9 +7,9 @@ ghost use Rattle.yq_places.specs.LineReading as reading;
 
 use crate::places::halves::split_break;
 use crate::places::written::cut_at;
-use yq_rows::Row;
 use yq_flow_scalars::lines::split_at_break;
 use yq_flow_scalars::text::split_white;
+use yq_rows::Row;
 use yq_text::Halves;
 
 /// Lines of a text, less their last break, with what is before and behind them.

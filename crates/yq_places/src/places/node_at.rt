@@ -20,10 +20,10 @@ use crate::cut_text::CutText;
 use crate::places::node_place::{NodePlace, node_place, place_line};
 use std::alloc::{AllocError, Global};
 use yq_documents::Path;
+use yq_flow_scalars::Kind;
 use yq_inline::{Form, Inline, Step};
 use yq_lines::{Content, Head};
 use yq_rows::Rows;
-use yq_flow_scalars::Kind;
 use yq_walk::{Position, Stretch, behind, is_deeper, is_item_at};
 
 /// What a node is, as far as updates ask.

@@ -22,10 +22,10 @@ use crate::cut_text::CutText;
 use crate::places::known_line::{KnownLine, line_by};
 use crate::places::row_place::row_stop;
 use yq_documents::{Path, last_run};
+use yq_flow_scalars::lines::split_line;
 use yq_inline::Step;
 use yq_rows::Rows;
 use yq_scalar::block_lines::is_blank;
-use yq_flow_scalars::lines::split_line;
 use yq_text::Halves;
 use yq_walk::{KnownItems, Stretch, behind, row_start};
 

@@ -9,8 +9,8 @@ ghost use Rattle.yq_flow_scalars.specs.Keys.{are_distinct};
 use crate::error::ParseError;
 use crate::front::{after, expect, number, string};
 use std::alloc::{AllocError, Global};
-use yq_inline::Value;
 use yq_flow_scalars::Scalar;
+use yq_inline::Value;
 use yq_scalar::are_distinct;
 
 /// A word for a scalar, if one is in front, and what follows it.

@@ -1,8 +1,8 @@
 //! Nodes in a form that tests can compare: the events of the standard's test suite.
 
 use std::alloc::{AllocError, Global};
-use yq_inline::{Entry, Form, Inline};
 use yq_flow_scalars::{Piece, Scalar, Style};
+use yq_inline::{Entry, Form, Inline};
 
 /// The events of the node: `+SEQ []`, `-SEQ`, `+MAP {}`, `-MAP`, `=ALI *x`, and `=VAL` with the
 /// anchor, if there is one, a sign of the style and the text.

@@ -6,8 +6,8 @@ use crate::memory::all_memory;
 use std::alloc::{AllocError, Global};
 use std::test::Fail;
 use yq_flow::write_inline;
-use yq_inline::Value;
 use yq_flow_scalars::ReadError;
+use yq_inline::Value;
 
 const TEXT: &str = "[a, {b: 'c', d: 2}]";
 

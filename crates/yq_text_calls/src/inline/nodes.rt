@@ -5,8 +5,8 @@ use super::as_text::{as_text, places};
 use super::reading::in_block;
 use std::alloc::{AllocError, Global};
 use std::test::Fail;
-use yq_inline::Step;
 use yq_flow_scalars::ReadError;
+use yq_inline::Step;
 
 const SEQUENCES: &str = "- [ one, two, ]\n- [three ,four]";
 

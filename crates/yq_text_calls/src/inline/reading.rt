@@ -1,8 +1,8 @@
 //! Inline nodes of texts, read at an offset.
 
 use std::alloc::Global;
-use yq_inline::{Inline, read_inline};
 use yq_flow_scalars::{Place, ReadError};
+use yq_inline::{Inline, read_inline};
 
 /// The node of a flow collection that begins at an offset, with so many collections round it. Nothing
 /// where no character begins there.

@@ -4,8 +4,8 @@ use super::reading::{in_block, in_flow};
 use std::alloc::Global;
 use std::num::NonZeroU64;
 use std::test::Fail;
-use yq_inline::{DEPTH_LIMIT, Inline};
 use yq_flow_scalars::{FaultKind, ReadError, ReadFault};
+use yq_inline::{DEPTH_LIMIT, Inline};
 
 /// Texts that are an inline node of a flow collection.
 static WHOLE: [&str; 34] = [

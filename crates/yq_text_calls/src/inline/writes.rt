@@ -4,8 +4,8 @@ use super::reading::in_flow;
 use std::alloc::{AllocError, Global};
 use std::test::Fail;
 use yq_flow::write_inline;
-use yq_inline::{Form, Inline, Value};
 use yq_flow_scalars::{ReadError, Scalar};
+use yq_inline::{Form, Inline, Value};
 
 /// A value that was read, without anchors; nothing of an alias.
 pub(crate) fn value_of(alloc: Global, node: &Inline<'_>) -> Result<Value, AllocError> {

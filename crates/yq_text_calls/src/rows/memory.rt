@@ -3,8 +3,8 @@
 use crate::memory::all_memory;
 use std::alloc::{AllocError, Global};
 use std::test::Fail;
-use yq_rows::scan;
 use yq_flow_scalars::ReadError;
+use yq_rows::scan;
 
 const TEXT: &str =
     "a: [b, {c: \"d\"}]\n---\n- e\n- f\n- g\n- h\n- i\n- j\n- k\n- l\n- m\n- n\n- o\n";

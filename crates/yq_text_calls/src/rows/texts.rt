@@ -3,9 +3,9 @@
 use std::alloc::{AllocError, Global};
 use std::num::NonZeroU64;
 use std::test::Fail;
-use yq_rows::{KEY_LIMIT, scan};
 use yq_flow_scalars::characters::TEXT_LIMIT;
 use yq_flow_scalars::{FaultKind, ReadError, ReadFault};
+use yq_rows::{KEY_LIMIT, scan};
 
 /// The text, and from which length on which of its prefixes are refused. Where that is the whole text
 /// alone, rows are read of which no tree is made.
