@@ -12,7 +12,7 @@ ghost use Rattle.yq_history.specs.Pair.{Arrives, GoodIn, IsJournal, OthersStay, 
 ghost use Rattle.yq_history.specs.Steps.{move_cause, move_next};
 ghost use Rattle.yq_history.specs.Directions.{step_of};
 
-use crate::dir::Direction;
+use crate::direction::Direction;
 use crate::fault::Fault;
 use crate::pair::{open_pair, write_journal};
 use std::alloc::Global;

@@ -23,9 +23,9 @@ use crate::places::known_line::{KnownLine, line_by};
 use crate::places::row_place::row_stop;
 use yq_documents::{Path, last_run};
 use yq_flow_scalars::lines::split_line;
+use yq_flow_scalars::text::is_blank;
 use yq_inline::Step;
 use yq_rows::Rows;
-use yq_scalar::block_lines::is_blank;
 use yq_text::Halves;
 use yq_walk::{KnownItems, Stretch, behind, row_start};
 
