@@ -24,23 +24,23 @@ use yq_tree::read;
 use yq_walk::KnownItems;
 
 /// The same text, where what stands on the way of an operation is known.
-fn on_the_way<'d, 't>(cut: &CutText<'d, 't>, op: &Op) -> CutText<'d, 't>
+fn on_the_way<'d, 't>(cut: &CutText<'d, 't>, op: &'d Op) -> CutText<'d, 't>
     ensures { result ≡ cut.now }
 {
     match op {
-        Op::Replace(path, _) => cut.along(path),
-        Op::Append(path, _, _) => cut.along(path).to_end(path),
-        Op::Remove(path) => cut.along(path),
-        Op::LineComment(path, _) => cut.along(path),
-        Op::HeadComment(path, _) => cut.along(path),
+        Op::Replace(path, _) => cut.to_line(path),
+        Op::Append(path, _, _) => cut.to_line(path).to_end(path),
+        Op::Remove(path) => cut.to_line(path),
+        Op::LineComment(path, _) => cut.to_line(path),
+        Op::HeadComment(path, _) => cut.to_line(path),
     }
 }
 
 /// What an operation changes in a text with its cut, and what is known behind it of its way.
-pub(crate) fn change_one(
+pub(crate) fn change_one<'d>(
     alloc: Global,
-    cut: &CutText<'_, '_>,
-    op: &Op,
+    cut: &CutText<'d, '_>,
+    op: &'d Op,
 ) -> Result<(Changed, KnownItems), EditError>
     ensures ok { IfOk result (λ x. IsChange (segments_by (operation_of op.now) (cut_of cut.now))
         x.0) }
@@ -57,7 +57,11 @@ pub(crate) fn change_one(
 }
 
 /// An operation carried out on a text with its cut.
-pub(crate) fn carry_one(alloc: Global, cut: &CutText<'_, '_>, op: &Op) -> Result<Edited, EditError>
+pub(crate) fn carry_one<'d>(
+    alloc: Global,
+    cut: &CutText<'d, '_>,
+    op: &'d Op,
+) -> Result<Edited, EditError>
     ensures { Edits result (spec.carry_one (operation_of op.now) (cut_of cut.now)) }
 {
     let segments = op_segments(alloc, &on_the_way(cut, op), op)?;
