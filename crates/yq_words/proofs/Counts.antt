@@ -4,7 +4,7 @@ use Rattle.std.proofs.lemmas.Bool.{and_from, and_parts}
 use Rattle.std.specs.Result.{result_ok}
 use Rattle.std.specs.Str.{all_ascii_digits}
 use Rattle.std.specs.Str.Parse.{ParsesUnsigned, digits_value}
-use Rattle.std.proofs.lemmas.Str.Parse.{IsNumeralModel, numerals_by_value, reports_all_ascii_digits, parse_plain, not_in_digits}
+use Rattle.std.proofs.lemmas.Str.Parse.{IsNumeralModel, numerals_by_value, tells_all_ascii_digits, parse_plain, not_in_digits}
 use Rattle.std.proofs.lemmas.Bool.Decides.{nat_tests}
 use Rattle.yq_words.specs.Asked.{count_in}
 
@@ -15,7 +15,7 @@ true_lt : (a b : ℕ) → nat_lt a b ≡ true → a < b
 true_lt a b h = grind (arith, nat_tests)
 
 own : IsNumeralModel (λ ds. all_ascii_digits ds ≡ true) (digits_value 10)
-own = numerals_by_value _ reports_all_ascii_digits
+own = numerals_by_value _ tells_all_ascii_digits
 
 -- whether a text writes a number of 64 bits
 abbrev is_count : List ℕ → Bool
