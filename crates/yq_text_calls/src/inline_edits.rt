@@ -172,9 +172,9 @@ fn edits_of_flow_collections(rt: HostRuntime) -> Result<(), Fail> {
             "{edit:?} at {words:?} of {text:?}"
         );
         let Some(node) = node_of(alloc, &actual)? else {
-            panic!(rt; "nothing in front of {seen:?}");
+            panic!(rt; "nothing in front of {actual:?}");
         };
-        assert_eq!(rt; node.end, actual.len(), "{seen:?}");
+        assert_eq!(rt; node.end, actual.len(), "{actual:?}");
     }
     for (text, words, edit) in &NOWHERE {
         assert!(rt;
