@@ -15,7 +15,7 @@ use Rattle.yq_inline.specs.Trees.{tree_of}
 use Rattle.yq_lines.specs.Ends.{found_line}
 use Rattle.yq_lines.specs.Group.{level_or}
 use Rattle.yq_lines.specs.Outline.{Outline, IsEven, level, row, anchored, head_or, value}
-use Rattle.yq_lines.specs.Places.{Found, content, lines_before}
+use Rattle.yq_lines.specs.Places.{FoundLine, content, lines_before}
 use Rattle.yq_lines.proofs.Finding.{FoundNode, node-anchored, path_node}
 use Rattle.yq_lines.proofs.Plug.{allows_from}
 use Rattle.yq_rows.specs.Exchange.{behind_row}
@@ -27,7 +27,7 @@ use Rattle.yq_walk.specs.Lines.{content_anchor, head_of}
 use Rattle.yq_places.specs.FlowNodes.{content_flow, find_head}
 use Rattle.yq_places.specs.NodesAt.{node_in}
 use Rattle.yq_places.specs.PlacedRows.{PlacedPart, placed_document}
-use Rattle.yq_places.specs.Standings.{entry_at, entry_standing, last_step, standing_at}
+use Rattle.yq_places.specs.Standings.{entry_rows_at, entry_standing, last_step, standing_at}
 use Rattle.yq_places.proofs.FlowPieces.{head_tree}
 use Rattle.yq_places.proofs.PlacedRowLaws.{document_placed, part_of}
 use Rattle.yq_change.proofs.FlowLineLaws.{head_takes, head_whole}
@@ -81,7 +81,7 @@ content_node (Inline space node tail) h ss s behind w head e =
 record LineAt (c : Cut) (n : ℕ) (steps : List Step) (w : CollPieces) : Type 0 where
   part : Part
   there : slice_get (document_parts c) n ≡ Some part
-  line : Found × List Step
+  line : FoundLine × List Step
   found : find_head steps (outline_of part) ≡ Some line
   row_line_is : RowLine
   printed_line : row_line (length (lines_before line.0.place)) part.rows ≡ Some row_line_is
@@ -102,7 +102,7 @@ node_found (t ∷ ts) s o = path_node t (ts ++ (s ∷ [])) o
 line_node : (c : Cut) (n : ℕ) (steps : List Step) (s : Step) (w : CollPieces) (h : LineAt c n steps w) → read_at (cut_text c) ≡ Some c → node_at (steps ++ (s ∷ [])) (value (outline_of h.part)) ≡ option_map entry_tree (item_at w.close s w.items w.rest)
 line_node c n steps s w h read =
     let o : Outline = outline_of h.part in
-    let f : Found = h.line.0 in
+    let f : FoundLine = h.line.0 in
     let known = document_known (cut_text c) c n h.part (record { read = read; there = h.there }) in
     let m : ℕ = level_or 0 o in
     let r = head_row m h.part steps f h.line.1 known.even h.found in
@@ -117,9 +117,9 @@ line_node c n steps s w h read =
 
 -- ---- nothing outside flow collections
 
-none_seat : (path : List Step) (s : Step) (p : Part) (y : Found × List Step) → found_at path (outline_of p) ≡ Some (y.0, y.1 ++ (s ∷ [])) → row_line_of path p.rows ≡ None
+none_seat : (path : List Step) (s : Step) (p : Part) (y : FoundLine × List Step) → found_at path (outline_of p) ≡ Some (y.0, y.1 ++ (s ∷ [])) → row_line_of path p.rows ≡ None
 none_seat [] s p y e = refl
-none_seat (t ∷ ts) s p y e = ap (λ (o : Option (Found × List Step)). option_and_then (λ x. found_line x.0 x.1) o >>= λ n. row_line n p.rows) e ∙ go y.1
+none_seat (t ∷ ts) s p y e = ap (λ (o : Option (FoundLine × List Step)). option_and_then (λ x. found_line x.0 x.1) o >>= λ n. row_line n p.rows) e ∙ go y.1
   where
     go : (ss : List Step) → (found_line y.0 (ss ++ (s ∷ [])) >>= λ n. row_line n p.rows) ≡ None
     go [] = refl
@@ -129,9 +129,9 @@ none_standing : (n : ℕ) (path : List Step) (c : Cut) (x : List Step × Step) �
 none_standing n [] c x last h = absurd (none-some _ last)
 none_standing n (t ∷ ts) c x last h = go (placed_document n c) h
   where
-    go : (o : Option PlacedPart) → ((d : PlacedPart) → o ≡ Some d → row_line_of (t ∷ ts) d.part.rows ≡ None) → option_map entry_standing (o >>= λ d. option_map (entry_at d) (row_line_of (t ∷ ts) d.part.rows)) ≡ None
+    go : (o : Option PlacedPart) → ((d : PlacedPart) → o ≡ Some d → row_line_of (t ∷ ts) d.part.rows ≡ None) → option_map entry_standing (o >>= λ d. option_map (entry_rows_at d) (row_line_of (t ∷ ts) d.part.rows)) ≡ None
     go None h = refl
-    go (Some d) h = ap (λ (s : Option RowLine). option_map entry_standing (option_map (entry_at d) s)) (h d refl)
+    go (Some d) h = ap (λ (s : Option RowLine). option_map entry_standing (option_map (entry_rows_at d) s)) (h d refl)
 
 -- ---- at a path
 
