@@ -9,7 +9,7 @@ use crate::wanted::{Wanted, Why};
 use std::alloc::Global;
 use std::process::Abort;
 use std::test::Fail;
-use yq_lists::{MemoryOut, command_of, run_list};
+use yq_commands::{MemoryOut, command_of, run_list};
 use yq_store::{Left, MemoryStore};
 use yq_words::Command;
 

@@ -3,8 +3,8 @@
 use crate::steps::{FILE, holds, store_with};
 use std::test::Fail;
 use yq_commands::Answer::{Done, Refused};
+use yq_commands::{MemoryOut, command_of, run_list};
 use yq_history::Fault;
-use yq_lists::{MemoryOut, command_of, run_list};
 
 /// A command whose output fails is answered so, writes no name, and the next one runs.
 #[test]

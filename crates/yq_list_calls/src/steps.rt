@@ -4,7 +4,7 @@ use crate::wanted::{Wanted, Why, answer_of};
 use std::alloc::Global;
 use std::process::Abort;
 use std::test::Fail;
-use yq_lists::{MemoryOut, command_of, run_list};
+use yq_commands::{MemoryOut, command_of, run_list};
 use yq_store::{MemoryStore, Store};
 
 /// The name of the file, and that of its journal.

@@ -1,7 +1,7 @@
 //! Words that ask for no command.
 
 use std::test::Fail;
-use yq_lists::command_of;
+use yq_commands::command_of;
 
 static REFUSED: [&[&str]; 5] = [
     &[".a"],

@@ -6,7 +6,7 @@ use crate::wanted::{Wanted, Why, answer_of};
 use std::alloc::Global;
 use std::process::Abort;
 use std::test::Fail;
-use yq_lists::{MemoryOut, command_of, run_list};
+use yq_commands::{MemoryOut, command_of, run_list};
 use yq_store::{Left, MemoryStore};
 
 /// The words of a command, its answer, the calls of the store that it makes, and whether it changes the file and

@@ -5,7 +5,7 @@ use Rattle.yq_commands.specs.declared.answer.Answer.{Answer}
 use Rattle.yq_commands.specs.declared.answer.Answer.TheVariants.{Done, NoMatch, Refused}
 use Rattle.yq_history.specs.declared.fault.Fault.{Fault}
 use Rattle.yq_store.specs.Count.{one_more}
-use Rattle.yq_lists.specs.Lists.{Reply, answers_in, printed_in, IsAnswer, reports_failure, reports_output, is_kept}
+use Rattle.yq_commands.specs.Lists.{Reply, answers_in, printed_in, IsAnswer, reports_failure, reports_output, is_kept}
 use Rattle.yq_commands.specs.Prints.{answer_by}
 use Rattle.yq_history.specs.Report.{Report}
 

@@ -21,13 +21,13 @@ use Rattle.yq_history.specs.Causes.{Cause, IsFor, named}
 use Rattle.yq_store.specs.FileMap.{FileMap}
 use Rattle.yq_commands.specs.Editing.{EditOutcome, unreadable, refused, edited, edits, program_in}
 use Rattle.yq_history.specs.Faults.{is_failure, is_outside, is_output, of_fault}
-use Rattle.yq_lists.specs.Lists.{Reply, answers_in, IsAnswer, CommandRefused, IsCarriedOut, Steps, Goes, Run, IsReply, GoesExactly, RunExactly, reports_failure, reports_output, count_passing, failures_in, output_failures_in, is_memory, has_memory}
+use Rattle.yq_commands.specs.Lists.{Reply, answers_in, IsAnswer, CommandRefused, IsCarriedOut, Steps, Goes, Run, IsReply, GoesExactly, RunExactly, reports_failure, reports_output, count_passing, failures_in, output_failures_in, is_memory, has_memory}
 use Rattle.yq_history.specs.Pair.{GoodIn, Arrives}
 use Rattle.yq_commands.specs.Prints.{report_of, answer_by}
 use Rattle.yq_history.specs.Report.{Report}
 use Rattle.yq_commands.specs.CommandSteps.{cause_of, next_of, edit_cause, edit_next, update_cause, update_next}
 use Rattle.yq_history.specs.Steps.{unless_fault, move_cause, move_next, squash_cause, squash_next}
-use Rattle.yq_lists.proofs.ReplyLaws.{reply}
+use Rattle.yq_commands.proofs.ReplyLaws.{reply}
 
 -- a command that prints leaves its history
 printing_stays : (c : Command) (h : Option History) → (report_of c h).printed ≢ [] → next_of c h ≡ h

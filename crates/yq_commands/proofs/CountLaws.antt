@@ -4,9 +4,9 @@ use Rattle.yq_commands.specs.declared.answer.Answer.{Answer}
 use Rattle.yq_history.specs.declared.fault.Fault.{Fault}
 use Rattle.yq_store.specs.Count.{one_more}
 use Rattle.yq_history.specs.Faults.{is_output, counted}
-use Rattle.yq_lists.specs.Lists.{IsAnswer, reports_failure, reports_output, count_passing, failures_in, output_failures_in}
+use Rattle.yq_commands.specs.Lists.{IsAnswer, reports_failure, reports_output, count_passing, failures_in, output_failures_in}
 use Rattle.yq_history.specs.Report.{Report}
-use Rattle.yq_lists.proofs.ReplyLaws.{no_failure}
+use Rattle.yq_commands.proofs.ReplyLaws.{no_failure}
 
 -- the count of the answers that tell something, one answer more
 pub passing_more : (passes : Answer → Bool) (rs : List Answer) (a : Answer) → count_passing passes (rs ++ a ∷ []) ≡ count_passing passes rs + (if passes a then 1 else 0)

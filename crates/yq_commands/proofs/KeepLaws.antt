@@ -26,15 +26,15 @@ use Rattle.yq_commands.specs.FileEdits.{HasEdited}
 use Rattle.yq_commands.specs.Edits.{edit_record}
 use Rattle.yq_history.specs.Faults.{is_outside, is_output}
 use Rattle.yq_commands.specs.CommandNames.{IsOn, IsNotNamed}
-use Rattle.yq_lists.specs.Lists.{IsUnrelated, AllOnOrApart, Reply, IsAnswer, Goes, Run, ReportsEffect, HasEffect, RunsTo, Keeps, ReportsUnparsed, is_kept}
+use Rattle.yq_commands.specs.Lists.{IsUnrelated, AllOnOrApart, Reply, IsAnswer, Goes, Run, ReportsEffect, HasEffect, RunsTo, Keeps, ReportsUnparsed, is_kept}
 use Rattle.yq_history.specs.Pair.{GoodIn, Arrives}
 use Rattle.yq_commands.specs.Prints.{report_of, prints, reads_journal, answer_by}
 use Rattle.yq_history.specs.Report.{Report, nothing}
 use Rattle.yq_commands.specs.CommandSteps.{cause_of, next_of}
 use Rattle.yq_history.proofs.EffectLaws.{on_ok}
 use Rattle.yq_history.proofs.PairLaws.{same_pair}
-use Rattle.yq_lists.proofs.ReplyLaws.{reply, reply-answer, reply-printed, no_refusal}
-use Rattle.yq_lists.proofs.ListLaws.{arrived, not_true}
+use Rattle.yq_commands.proofs.ReplyLaws.{reply, reply-answer, reply-printed, no_refusal}
+use Rattle.yq_commands.proofs.ListLaws.{arrived, not_true}
 
 -- ---- what effects print: of these but a listing nothing
 

@@ -7,8 +7,8 @@ ghost use Rattle.yq_words.specs.declared.words_error.WordsError.{WordsError};
 ghost use Rattle.yq_words.specs.Asked as spec;
 ghost use Rattle.yq_words.specs.Line.{yq};
 
+use crate::faults::words_fault;
 use std::alloc::Global;
-use yq_commands::words_fault;
 use yq_history::Fault;
 use yq_words::{Command, read_words};
 

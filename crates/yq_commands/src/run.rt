@@ -6,14 +6,15 @@ ghost use Rattle.std.specs.String.{string_bytes};
 ghost use Rattle.yq_journal.specs.History.{History};
 ghost use Rattle.yq_store.specs.Count.{one_more};
 ghost use Rattle.yq_commands.specs.CommandNames.{IsNotNamed};
-ghost use Rattle.yq_lists.specs.Lists.{AllOnOrApart, Keeps, Run, RunExactly, IsAnswer, Reply, answers_in, printed_in, has_memory, failures_in, output_failures_in, reports_output};
+ghost use Rattle.yq_commands.specs.Lists.{AllOnOrApart, Keeps, Run, RunExactly, IsAnswer, Reply, answers_in, printed_in, has_memory, failures_in, output_failures_in, reports_output};
 ghost use Rattle.yq_history.specs.Pair.{GoodIn};
 ghost use Rattle.yq_commands.specs.Prints as spec;
 ghost use Rattle.yq_history.specs.Report.{report_by};
 
+use crate::answer::Answer;
+use crate::executing::execute;
 use crate::output::Out;
 use std::alloc::{AllocError, Global};
-use yq_commands::{Answer, execute};
 use yq_history::{Fault, Report};
 use yq_store::Store;
 use yq_words::Command;
