@@ -1,9 +1,7 @@
-//! Tests of the public calls on block values, edits, operations, sessions and
-//! journals: what their contracts leave open.
+//! Tests of the public calls on edits, operations, sessions and journals, and
+//! of the printing of values: what their contracts leave open.
 #![tactic(auto)]
 
-#[cfg(test)]
-mod block;
 #[cfg(test)]
 mod journal;
 #[cfg(test)]

@@ -1,6 +1,6 @@
 //! The calls of yq_splice.
 
-mod edits;
+mod growths;
 mod operations;
 mod planned;
 mod sessions;

@@ -3,6 +3,8 @@
 #![tactic(auto)]
 
 #[cfg(test)]
-mod expr;
+mod growths;
 #[cfg(test)]
-mod tree;
+mod long;
+#[cfg(test)]
+mod nodes;

@@ -1,76 +1,15 @@
-//! Lists over a store of which one call fails: each call in turn, with both outcomes of a write.
+//! A list over a store of which one call fails: each call in turn, with both outcomes of a write.
 
 mod digits;
 
 use crate::failing::digits::{Asked, Digits};
-use crate::steps::{CommandRow, FILE, NOTHING_TO_UNDO, holds, runs, store_with};
-use crate::wanted::Wanted::{Done, Refused};
-use crate::wanted::{Wanted, Why};
+use crate::stores::{FILE, holds, store_with};
 use std::alloc::Global;
 use std::process::Abort;
 use std::test::Fail;
 use yq_commands::{MemoryOut, command_of, run_list};
-use yq_store::{Left, MemoryStore};
+use yq_store::Left;
 use yq_words::Command;
-
-const READ_FAILED: Wanted = Refused(Why::ReadFailed);
-
-const WRITE_FAILED: Wanted = Refused(Why::WriteFailed);
-
-const PORT: &str = "name: web # main\nport: 8080\n";
-
-const EDITED: &str = "name: web # main\nport: 9090\n";
-
-/// An edit of which a call fails, its answer, and whether the edit is made all the same.
-type Failing = (u64, Left, Wanted, bool);
-
-/// The five calls of an edit: two reads, and three writes, of which the second one is the file's.
-static CALLS: [Failing; 10] = [
-    (1, Left::OldBytes, READ_FAILED, false),
-    (1, Left::NewBytes, READ_FAILED, false),
-    (2, Left::OldBytes, READ_FAILED, false),
-    (2, Left::NewBytes, READ_FAILED, false),
-    (3, Left::OldBytes, WRITE_FAILED, false),
-    (3, Left::NewBytes, WRITE_FAILED, false),
-    (4, Left::OldBytes, WRITE_FAILED, false),
-    (4, Left::NewBytes, WRITE_FAILED, true),
-    (5, Left::OldBytes, WRITE_FAILED, true),
-    (5, Left::NewBytes, WRITE_FAILED, true),
-];
-
-/// The history behind the failed edit, its undo, and the history behind that.
-fn steps_behind(answer: Wanted, is_written: bool) -> [CommandRow; 4] {
-    let edit: &'static [&'static str] = &["-i", ".port = 9090", "f"];
-    let history: &'static [&'static str] = &["history", "f"];
-    let undo: &'static [&'static str] = &["undo", "f"];
-    if is_written {
-        [
-            (edit, answer, "", EDITED),
-            (history, Done, "1 done \".port = 9090\"\n", EDITED),
-            (undo, Done, "", PORT),
-            (history, Done, "1 undone \".port = 9090\"\n", PORT),
-        ]
-    } else {
-        [
-            (edit, answer, "", PORT),
-            (history, Done, "", PORT),
-            (undo, NOTHING_TO_UNDO, "", PORT),
-            (history, Done, "", PORT),
-        ]
-    }
-}
-
-#[test]
-fn each_call_of_an_edit(rt: HostRuntime) -> Result<(), Fail> {
-    let alloc = rt.alloc();
-    'calls: for (call, left, answer, is_written) in &CALLS {
-        let mut store = store_with(alloc, PORT)?;
-        store.fail_at(*call, *left);
-        runs(&rt, alloc, &mut store, &steps_behind(*answer, *is_written))?;
-        assert_eq!(rt; store.failures(), 1);
-    }
-    Ok(())
-}
 
 /// A list over a file of one digit: the words of each command, and what it asks.
 static LIST: [(&[&str], Asked); 10] = [
@@ -107,6 +46,7 @@ fn runs_failing(
         assert_eq!(rt; *answer, wanted, "{words:?} with call {call} failing");
     }
     holds(rt, &store, FILE, &digits.text(alloc)?);
+    assert!(rt; call == 0 || store.failures() == 1);
     Ok(store.calls())
 }
 

@@ -4,18 +4,10 @@
 #[cfg(test)]
 mod failing;
 #[cfg(test)]
-mod full;
-#[cfg(test)]
-mod outputs;
+mod lists;
 #[cfg(test)]
 mod refused_memory;
 #[cfg(test)]
-mod steps;
-#[cfg(test)]
-mod wanted;
-#[cfg(test)]
-mod words;
-#[cfg(test)]
-mod worked;
+mod stores;
 #[cfg(test)]
 mod writes;

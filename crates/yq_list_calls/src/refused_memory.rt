@@ -1,7 +1,7 @@
 //! Each growth in a list refused in turn: nothing is run, or a command is answered want of memory, or that its
 //! output failed, and the list goes on.
 
-use crate::steps::{FILE, JOURNAL, holds, store_with};
+use crate::stores::{FILE, JOURNAL, holds, store_with};
 use std::alloc::Global;
 use std::process::Abort;
 use std::test::Fail;

@@ -3,13 +3,7 @@
 #![tactic(auto)]
 
 #[cfg(test)]
-mod inline;
-#[cfg(test)]
-mod inline_edits;
+mod calls;
 mod memory;
-#[cfg(test)]
-mod rows;
-#[cfg(test)]
-mod scalar;
 
 pub use memory::all_memory;

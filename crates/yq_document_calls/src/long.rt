@@ -1,0 +1,34 @@
+//! Expressions of a mebibyte, which no word of a command line can hold.
+
+use std::alloc::{AllocError, Global};
+use std::test::Fail;
+use yq_expr::parse_expr;
+
+/// What stands in front, what is repeated, and what stands behind it.
+static REPEATED: [(&str, &str, &str); 3] = [
+    ("", ".key[-1]", ""),
+    (".a = 0", " + 1234567", ""),
+    (".a = [0", ", \"text\"", "]"),
+];
+
+/// A mapping whose keys differ.
+fn mapping(alloc: Global) -> Result<String, AllocError> {
+    let mut text = String::from_str(alloc, ".a = {\"x\": 1")?;
+    'keys: for i in 0..100_000u32 {
+        text.push_str(&format!(in alloc; ", \"{i}\": {i}")?)?;
+    }
+    text.push_str("}")?;
+    Ok(text)
+}
+
+#[test]
+fn are_programs(rt: HostRuntime) -> Result<(), Fail> {
+    let alloc = rt.alloc();
+    'rows: for (front, piece, behind) in &REPEATED {
+        let pieces = piece.repeat(alloc, 150_000)?;
+        let text = format!(in alloc; "{front}{}{behind}", pieces.as_str())?;
+        assert_eq!(rt; parse_expr(alloc, &text).err(), None, "{piece:?}");
+    }
+    assert_eq!(rt; parse_expr(alloc, &mapping(alloc)?).err(), None);
+    Ok(())
+}

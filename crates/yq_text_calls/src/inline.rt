@@ -1,8 +1,0 @@
-//! Calls of yq_inline.
-
-mod as_text;
-mod memory;
-mod nodes;
-mod reading;
-mod reads;
-mod writes;

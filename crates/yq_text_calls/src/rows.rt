@@ -1,8 +1,0 @@
-//! Calls of yq_rows.
-
-mod ends;
-mod memory;
-mod neighbours;
-mod pieces;
-mod regions;
-mod texts;
