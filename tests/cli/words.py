@@ -1,4 +1,4 @@
-"""The command line: help, an output that takes nothing, and texts that are cut."""
+"""The command line: help, an output that takes nothing, long expressions, and texts that are cut."""
 
 import subprocess
 
@@ -37,6 +37,11 @@ def check_an_output_that_takes_nothing(folder):
     equal(folder.read("f"), WEB)
 
 
+def check_brackets_that_nest_in_long_expressions(folder):
+    folder.refuses("E2 not in profile", "-i", ".a = " + "[" * 100_000, "f")
+    folder.refuses("E1 syntax", "-i", ".a = " + "(" * 60_000 + ".b" + ")" * 60_000, "f")
+
+
 def is_whole(text):
     try:
         text.decode()
@@ -54,3 +59,26 @@ def check_texts_that_are_cut(folder):
             status, _out, err = folder.run(".name = 1", "f")
             equal(status == 0 or err.startswith((b"Error: Y", b"Error: X")), True, (text[:end], err))
             equal(err == b"Error: Y1 line 1: not utf8\n", not is_whole(text[:end]), (text[:end], err))
+
+
+# A text, and how many bytes those of its prefixes have that are refused.
+REFUSED_PREFIXES = [
+    ("name: web # main\nport: 8080\n", [*range(18, 22)]),
+    ("a: |+\n  text\n# head\nb: 1\n\nc: 2\n", [4, 5, *range(7, 13), 21, 27]),
+    ("- a: 1\n  # about b\n  b: 2\n", [22]),
+    ("p: [\n  a, # one\n  b\n]\n", [*range(4, 21)]),
+    ("run: |\n    echo a\n", [6, *range(12, 18)]),
+    ("a: 1\n---\na: 2\n", [6, 7]),
+    ("a: {b: [1, \"x y\"], c: {}}\n", [*range(4, 25)]),
+    ("k: \"\u00e9\n  x\"\n", [*range(4, 11)]),
+]
+
+
+def check_which_prefixes_of_texts_are_refused(folder):
+    for text, wanted in REFUSED_PREFIXES:
+        refused = []
+        for end in range(len(text.encode()) + 1):
+            folder.write("f", text.encode()[:end])
+            if folder.run(".", "f")[0] != 0:
+                refused.append(end)
+        equal(refused, wanted, text)
