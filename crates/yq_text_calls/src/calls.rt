@@ -54,7 +54,7 @@ static CALLS: [(Call, &str, &str, Option<usize>); 19] = [
         Some(14),
     ),
     (Call::Content, "|+\n  a\n\n", "a\n\n", Some(5)),
-    (Call::Raw(Break::Lf), "a\n\n b", "  a\n\n   b\n", Some(11)),
+    (Call::Raw(Break::Lf), "a\n\n b", "  a\n\n   b\n", Some(10)),
     (Call::Raw(Break::CrLf), "z\nw\n", "  z\r\n  w\r\n", Some(10)),
     (Call::Repair, "\n   # c\n", "\n # c\n", Some(9)),
     (Call::Write(Style::Plain), "a b", "a b", None),
