@@ -7,7 +7,7 @@ ghost use Rattle.yq_splice.specs.Carried as spec;
 ghost use Rattle.yq_splice.specs.Theorems.{AreSplices, EditRefused, InOrder, IsEdited};
 ghost use Rattle.yq_splice.specs.Valid.{FailsAt, FailsEach, IsStep};
 
-use crate::carrying::carry_all;
+use crate::carrying::carry_plan;
 use crate::edit_error::EditError;
 use crate::operands::operands_hold;
 use std::alloc::{AllocError, Global};
@@ -46,9 +46,7 @@ fn step(
     let documents = read(alloc, text.as_bytes())?;
     let ops = plan(alloc, program, nth, &documents)?;
     operands_hold(&ops);
-    let places = documents.into_rows().into_places();
-    let kept = String::from_str(alloc, text)?;
-    carry_all(alloc, kept, places, splices, &ops)
+    carry_plan(alloc, text, documents, splices, &ops)
 }
 
 /// The updates of a program carried out on a text, one after the other.

@@ -29,8 +29,11 @@ returns-in_err-ops-clause-err c =
     rw (p.1, p.2)
     (λ u at. update_unplanned (λ (v : Vec Op Global). operations_of v.items) u c.args.text.now c.in_ok-documents.documents _ is text (c.in_err-ops.ensures.exact u at))
 
-pub carry_all-requires-clause-serves : goal.carry_all-requires-clause-serves
-carry_all-requires-clause-serves c =
+pub carry_plan-requires-clause-read : goal.carry_plan-requires-clause-read
+carry_plan-requires-clause-read c = ap read_at (sym c.as_bytes.ensures.value) ∙ c.in_ok-documents.ensures.exact
+
+pub carry_plan-requires-clause-serves : goal.carry_plan-requires-clause-serves
+carry_plan-requires-clause-serves c =
     let t : List ℕ = c.args.text.now in
     let d : List ℕ = c.in_ok-documents.documents in
     let ops : List Operation = operations_of c.in_ok-ops.ops.items in
@@ -40,7 +43,7 @@ carry_all-requires-clause-serves c =
     let u = update_there (program_of c.args.program.now) c.args.nth c.requires.within in
     let served : AreServed ops t =
     (documents (cut_of d), plan_serves u.0 t (cut_of d) is ops (update_planned u.0 t d ops text (c.in_ok-ops.ensures.exact u.0 u.1)) valid (update_holds (program_of c.args.program.now) c.args.nth u.0 c.requires.literals u.1)) in
-    subst (AreServed (operations_of c.deref-2.result.now)) (sym c.in_ok-kept.ensures.ok) (subst (λ (x : List Op). AreServed (operations_of x) t) (sym c.deref-2.ensures.value) served)
+    subst (λ (x : List Op). AreServed (operations_of x) t) (sym c.deref-2.ensures.value) served
 
 pub returns-clause-ok : goal.returns-clause-ok
 returns-clause-ok c =
@@ -50,9 +53,8 @@ returns-clause-ok c =
     let text : d ≡ t = c.in_ok-documents.ensures.text ∙ c.as_bytes.ensures.value in
     let is : read_at t ≡ Some (cut_of d) = ap read_at (sym c.as_bytes.ensures.value) ∙ c.in_ok-documents.ensures.exact in
     let valid : HaveOperands ops = subst (λ (x : List Op). HaveOperands (operations_of x)) c.deref.ensures.value c.operands_hold.ensures in
-    let new_bytes : Edits c.carry_all.result (behind c.args.splices.items (carry_all ops t)) = subst (λ (x : List Op). Edits c.carry_all.result (behind c.args.splices.items (carry_all (operations_of x) t))) c.deref-2.ensures.value
-        (subst (λ (s : List ℕ). Edits c.carry_all.result (behind c.args.splices.items (carry_all (operations_of c.deref-2.result.now) s))) c.in_ok-kept.ensures.ok c.carry_all.ensures) in
-    λ u at. update_ok u t (cut_of d) ops is (update_planned u t d ops text (c.in_ok-ops.ensures.exact u at)) (update_holds (program_of c.args.program.now) c.args.nth u c.requires.literals at) valid c.carry_all.result c.args.splices.items new_bytes
+    let new_bytes : Edits c.carry_plan.result (behind c.args.splices.items (carry_all ops t)) = subst (λ (x : List Op). Edits c.carry_plan.result (behind c.args.splices.items (carry_all (operations_of x) t))) c.deref-2.ensures.value c.carry_plan.ensures in
+    λ u at. update_ok u t (cut_of d) ops is (update_planned u t d ops text (c.in_ok-ops.ensures.exact u at)) (update_holds (program_of c.args.program.now) c.args.nth u c.requires.literals at) valid c.carry_plan.result c.args.splices.items new_bytes
 
 pub returns-clause-err : goal.returns-clause-err
 returns-clause-err c =
@@ -62,6 +64,5 @@ returns-clause-err c =
     let text : d ≡ t = c.in_ok-documents.ensures.text ∙ c.as_bytes.ensures.value in
     let is : read_at t ≡ Some (cut_of d) = ap read_at (sym c.as_bytes.ensures.value) ∙ c.in_ok-documents.ensures.exact in
     let valid : HaveOperands ops = subst (λ (x : List Op). HaveOperands (operations_of x)) c.deref.ensures.value c.operands_hold.ensures in
-    let new_bytes : Edits c.carry_all.result (behind c.args.splices.items (carry_all ops t)) = subst (λ (x : List Op). Edits c.carry_all.result (behind c.args.splices.items (carry_all (operations_of x) t))) c.deref-2.ensures.value
-        (subst (λ (s : List ℕ). Edits c.carry_all.result (behind c.args.splices.items (carry_all (operations_of c.deref-2.result.now) s))) c.in_ok-kept.ensures.ok c.carry_all.ensures) in
-    λ u at. update_err u t (cut_of d) ops is (update_planned u t d ops text (c.in_ok-ops.ensures.exact u at)) (update_holds (program_of c.args.program.now) c.args.nth u c.requires.literals at) valid c.carry_all.result c.args.splices.items new_bytes
+    let new_bytes : Edits c.carry_plan.result (behind c.args.splices.items (carry_all ops t)) = subst (λ (x : List Op). Edits c.carry_plan.result (behind c.args.splices.items (carry_all (operations_of x) t))) c.deref-2.ensures.value c.carry_plan.ensures in
+    λ u at. update_err u t (cut_of d) ops is (update_planned u t d ops text (c.in_ok-ops.ensures.exact u at)) (update_holds (program_of c.args.program.now) c.args.nth u c.requires.literals at) valid c.carry_plan.result c.args.splices.items new_bytes
