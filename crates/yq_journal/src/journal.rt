@@ -1,10 +1,10 @@
 //! The journal: records, a cursor, and perhaps an open move.
-ghost use Rattle.std.specs.Prelude.{◌≡◌, ◌≢◌, ◌⊎◌, ◌<◌, None, Some, IfOk, IfErr, OnOk, OnErr, IsNone, IsOk, length, slice_get};
+ghost use Rattle.std.specs.Prelude.{◌≡◌, ◌<◌, None, Some, IfOk, IfErr, OnOk, OnErr, IsNone, length, slice_get};
 ghost use Rattle.yq_journal.specs.Refusals.{ErrorIs, Reports, move_fault, no_way, push_fault, squash_fault, way_fault};
-ghost use Rattle.yq_journal.specs.State.{empty_state, moved, moved_text, opened, settled, squashed};
+ghost use Rattle.yq_journal.specs.State.{empty_state, moved, moved_text, squashed};
 
 use crate::fault::{JournalError, JournalFault};
-use crate::moves::{MAX_RECORDS, Move, lead, make, target};
+use crate::moves::{MAX_RECORDS, Move, make, target};
 use crate::record::Record;
 use crate::squash::{join_last, replace_run};
 use std::alloc::Global;
@@ -157,68 +157,6 @@ impl Journal {
             no_way self.now.records self.now.at step.now ≡ None) }
     {
         target(alloc, &self.records, self.at, step, text)
-    }
-
-    /// Opens a move and keeps the whole text from which it starts. Refused,
-    /// with the move handed back, first to last: as `Unsettled` where a move
-    /// is open, as `JournalFull`, as `NothingToUndo` or `NothingToRedo`, as
-    /// `DoesNotStand`. All but the last come before any memory is asked for.
-    pub fn start(&mut self, step: Move, text: &[u8]) -> Result<(), (Move, JournalError)>
-        requires { moved_text self.old.records self.old.at step text.now ≢ Some text.now }
-        ensures free { OnOk result (move_fault self.old step text.now ≡ None) }
-        ensures ok { OnOk result (self.new ≡ opened self.old step text.now) }
-        ensures fault { IfErr result (λ e. ErrorIs e.1 (move_fault self.old step text.now)) }
-        ensures memory { IfErr result (λ e. e.1 ≡ JournalError.Memory →
-            IsNone self.old.pending × (no_way self.old.records self.old.at step ≡ None)) }
-        ensures err { IfErr result (λ e. (e.0 ≡ step) × (self.new ≡ self.old)) }
-    {
-        if self.open.is_some() {
-            return Err((step, JournalError::Fault(JournalFault::Unsettled)));
-        }
-        match target(self.alloc, &self.records, self.at, &step, text) {
-            Err(error) => Err((step, error)),
-            Ok(_) => match text.to_vec(self.alloc) {
-                Err(_) => Err((step, JournalError::Memory)),
-                Ok(from) => {
-                    self.open = Some(Open { step, from });
-                    Ok(())
-                }
-            },
-        }
-    }
-
-    /// Settles an open move beside a text: drops it beside the text from
-    /// which it starts, finishes it beside the one to which it leads, and is
-    /// refused as `Unsettled` beside any other. With no open move it does
-    /// nothing, and takes no memory.
-    pub fn settle(&mut self, text: &[u8]) -> Result<(), JournalError>
-        ensures ok { OnOk result (settled self.old text.now ≡ Some self.new) }
-        ensures at_rest { IsNone self.old.pending → IsOk result }
-        ensures fault { IfErr result (λ e. (e ≡ JournalError.Memory) ⊎
-            ((e ≡ JournalError.Fault JournalFault.Unsettled) ×
-            (settled self.old text.now ≡ None))) }
-        ensures err { OnErr result (self.new ≡ self.old) }
-    {
-        let Some(held) = &self.open else {
-            return Ok(());
-        };
-        if held.from.as_slice() == text {
-            self.open = None;
-            return Ok(());
-        }
-        match lead(self.alloc, &self.records, self.at, &held.step, &held.from) {
-            Ok(patched) if patched.as_slice() == text => (),
-            Err(JournalError::Memory) => return Err(JournalError::Memory),
-            _ => return Err(JournalError::Fault(JournalFault::Unsettled)),
-        }
-        if let Some(taken) = self.open.take() {
-            let Open { step, from } = taken;
-            if let Err(step) = make(&mut self.records, &mut self.at, step) {
-                self.open = Some(Open { step, from });
-                return Err(JournalError::Memory);
-            }
-        }
-        Ok(())
     }
 
     /// Joins the last `n` done records into one. Refused, first to last: as

@@ -14,7 +14,7 @@ ghost use Rattle.yq_splice.specs.Session.{HasPlaces, NotOpened, Scans};
 ghost use Rattle.yq_splice.specs.Theorems.{HasReading, IsApplied, IsFitting, OpRefused};
 ghost use Rattle.yq_splice.specs.Valid.{segments_by};
 
-use crate::carrying::{carry_one, change_one};
+use crate::carrying::{carry_one, change_one, edited_behind};
 use crate::edit_error::EditError;
 use crate::operands::operand_holds;
 use std::alloc::Global;
@@ -200,12 +200,6 @@ impl Session {
         let halves = text.halves();
         let rows = places.rows(halves);
         let edited = carry_one(alloc, &CutText::resumed(halves, &rows, known), op)?;
-        let Edited {
-            text,
-            splices: mut last,
-        } = edited;
-        let mut splices = splices;
-        splices.append(&mut last)?;
-        Ok(Edited { text, splices })
+        Ok(edited_behind(splices, edited)?)
     }
 }

@@ -1,8 +1,7 @@
-use Rattle.std.proofs.Common.{List, string_bytes, sym, ap, ◌∙◌, subst}
+use Rattle.std.proofs.Common.{string_bytes, sym, ap, ◌∙◌, subst}
 use Rattle.std.proofs.lemmas.Result.{err_from_is_err_and}
 use Rattle.yq_text.specs.Split.{joined}
 use Rattle.yq_meaning.specs.Operations.{operation_of}
-use Rattle.yq_script.specs.Splice.{Splice}
 use Rattle.yq_splice.specs.Answers.{EditFails}
 use Rattle.yq_splice.specs.Carried.{carried}
 use Rattle.yq_splice.specs.Edit.{behind, gives}
@@ -39,4 +38,4 @@ returns c =
     let whole = c.resumed.ensures ∙ whole_borrowed (joined c.self.inside.text) c.self.inside.places c.self.invariant.0 c.halves-halves.result (c.halves-halves.ensures.front ∙ c.move_split.ensures.front, c.halves-halves.ensures.back ∙ c.move_split.ensures.back) in
     let same = carried_on (operation_of c.args.op.now) (joined c.self.inside.text) c.resumed.result c.self.inside.places c.self.invariant.0 whole ∙ ap (λ (s : SessionState). carried (operation_of c.args.op.now) s.text) c.self.view_is in
     ap (behind c.args.splices.items) (sym same ∙ c.in_ok-edited.ensures)
-    ∙ ap (λ (l : List Splice). gives (string_bytes c.in_ok-edited.edited.text) l) (sym c.in_ok-append.ensures.items)
+    ∙ λ i. gives (string_bytes (sym c.in_ok-edited_behind.ensures.0 i)) (sym c.in_ok-edited_behind.ensures.1 i)

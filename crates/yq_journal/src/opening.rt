@@ -1,0 +1,99 @@
+//! The open move of a journal: opened on a text, and settled beside it or the text to which it leads.
+ghost use Rattle.std.specs.Prelude.{◌≡◌, ◌≢◌, ◌⊎◌, None, Some, IfErr, OnOk, OnErr, IsNone, IsOk};
+ghost use Rattle.yq_journal.specs.Refusals.{ErrorIs, move_fault, no_way};
+ghost use Rattle.yq_journal.specs.State.{moved_text, opened, settled};
+
+use crate::fault::{JournalError, JournalFault};
+use crate::journal::{Journal, Open};
+use crate::moves::{Move, lead, make, target};
+
+impl Journal {
+    /// The first fault of a move that is to be opened on a text. The text to which it leads is given back.
+    fn check_start(&self, step: &Move, text: &[u8]) -> Result<(), JournalError>
+        ensures free { OnOk result (move_fault self.now step.now text.now ≡ None) }
+        ensures fault { IfErr result (λ e. ErrorIs e (move_fault self.now step.now text.now)) }
+        ensures memory { IfErr result (λ e. e ≡ JournalError.Memory →
+            IsNone self.now.pending × (no_way self.now.records self.now.at step.now ≡ None)) }
+    {
+        if self.open.is_some() {
+            return Err(JournalError::Fault(JournalFault::Unsettled));
+        }
+        let _target = target(self.alloc, &self.records, self.at, step, text)?;
+        Ok(())
+    }
+
+    /// Opens a move and keeps the whole text from which it starts. Refused,
+    /// with the move handed back, first to last: as `Unsettled` where a move
+    /// is open, as `JournalFull`, as `NothingToUndo` or `NothingToRedo`, as
+    /// `DoesNotStand`. All but the last come before any memory is asked for.
+    pub fn start(&mut self, step: Move, text: &[u8]) -> Result<(), (Move, JournalError)>
+        requires { moved_text self.old.records self.old.at step text.now ≢ Some text.now }
+        ensures free { OnOk result (move_fault self.old step text.now ≡ None) }
+        ensures ok { OnOk result (self.new ≡ opened self.old step text.now) }
+        ensures fault { IfErr result (λ e. ErrorIs e.1 (move_fault self.old step text.now)) }
+        ensures memory { IfErr result (λ e. e.1 ≡ JournalError.Memory →
+            IsNone self.old.pending × (no_way self.old.records self.old.at step ≡ None)) }
+        ensures err { IfErr result (λ e. (e.0 ≡ step) × (self.new ≡ self.old)) }
+    {
+        if let Err(error) = self.check_start(&step, text) {
+            return Err((step, error));
+        }
+        match text.to_vec(self.alloc) {
+            Err(_) => Err((step, JournalError::Memory)),
+            Ok(from) => {
+                self.open = Some(Open { step, from });
+                Ok(())
+            }
+        }
+    }
+
+    /// Opens a move as [`Journal::start`] does, and keeps the very text that
+    /// it is given, where that would copy it.
+    pub fn start_with(&mut self, step: Move, text: Vec<u8>) -> Result<(), JournalError>
+        requires { moved_text self.old.records self.old.at step text.items ≢ Some text.items }
+        ensures free { OnOk result (move_fault self.old step text.items ≡ None) }
+        ensures ok { OnOk result (self.new ≡ opened self.old step text.items) }
+        ensures fault { IfErr result (λ e. ErrorIs e (move_fault self.old step text.items)) }
+        ensures memory { IfErr result (λ e. e ≡ JournalError.Memory →
+            IsNone self.old.pending × (no_way self.old.records self.old.at step ≡ None)) }
+        ensures err { OnErr result (self.new ≡ self.old) }
+    {
+        self.check_start(&step, &text)?;
+        self.open = Some(Open { step, from: text });
+        Ok(())
+    }
+
+    /// Settles an open move beside a text: drops it beside the text from
+    /// which it starts, finishes it beside the one to which it leads, and is
+    /// refused as `Unsettled` beside any other. With no open move it does
+    /// nothing, and takes no memory.
+    pub fn settle(&mut self, text: &[u8]) -> Result<(), JournalError>
+        ensures ok { OnOk result (settled self.old text.now ≡ Some self.new) }
+        ensures at_rest { IsNone self.old.pending → IsOk result }
+        ensures fault { IfErr result (λ e. (e ≡ JournalError.Memory) ⊎
+            ((e ≡ JournalError.Fault JournalFault.Unsettled) ×
+            (settled self.old text.now ≡ None))) }
+        ensures err { OnErr result (self.new ≡ self.old) }
+    {
+        let Some(held) = &self.open else {
+            return Ok(());
+        };
+        if held.from.as_slice() == text {
+            self.open = None;
+            return Ok(());
+        }
+        match lead(self.alloc, &self.records, self.at, &held.step, &held.from) {
+            Ok(patched) if patched.as_slice() == text => (),
+            Err(JournalError::Memory) => return Err(JournalError::Memory),
+            _ => return Err(JournalError::Fault(JournalFault::Unsettled)),
+        }
+        if let Some(taken) = self.open.take() {
+            let Open { step, from } = taken;
+            if let Err(step) = make(&mut self.records, &mut self.at, step) {
+                self.open = Some(Open { step, from });
+                return Err(JournalError::Memory);
+            }
+        }
+        Ok(())
+    }
+}
