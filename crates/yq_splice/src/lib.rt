@@ -9,6 +9,7 @@ mod op_segments;
 mod operands;
 mod printing;
 mod session;
+mod together;
 
 pub use carrying::apply_op;
 pub use edit_error::EditError;
