@@ -19,4 +19,3 @@ pub mod PrintedDocuments
 pub mod PutComes
 pub mod RunLaws
 pub mod RunAnswers
-pub mod StepLaws

@@ -31,7 +31,7 @@ use Rattle.yq_flow_edits.specs.PartPuts.{IsPlaceOf, put_edit}
 use Rattle.yq_flow_edits.proofs.CutLaws.{text_read}
 use Rattle.yq_flow_edits.proofs.FlowPartNodes.{part_node}
 use Rattle.yq_flow_edits.proofs.FlowPutLaws.{replaced_next, there}
-use Rattle.yq_flow_edits.proofs.FlowStandings.{EntryAt, entry_made}
+use Rattle.yq_flow_edits.proofs.FlowStandings.{EntryAt, entry_found}
 use Rattle.yq_flow_edits.proofs.LaterItems.{later_item}
 use Rattle.yq_splice.specs.Carried.{carried}
 use Rattle.yq_splice.specs.Edit.{edit_of_segments, gives, refuses}
@@ -60,7 +60,7 @@ module _ (c : Cut) (n : ℕ) (steps path : List Step) (s : Step) (v : Node) (out
 
   -- the part as it was read
   abbrev b : EntryAt c n path
-  b = (entry_made c n path z standing).0
+  b = (entry_found c n path z standing).0
 
   abbrev first_part : FlowPart
   first_part = record { step = b.step; collection = b.coll; part = b.item }
@@ -69,7 +69,7 @@ module _ (c : Cut) (n : ℕ) (steps path : List Step) (s : Step) (v : Node) (out
   e = put_edit v first_part
 
   at : IsPlaceOf t v first_part x place
-  at = subst (λ (y : FlowPart). IsPlaceOf t v y x place) (sym (entry_made c n path z standing).1) placed
+  at = subst (λ (y : FlowPart). IsPlaceOf t v y x place) (sym (entry_found c n path z standing).1) placed
 
   start_is : start ≡ length t - length (e.old ++ e.behind)
   start_is = ap (λ (p : PlacedEdit). p.start) at.place_is
@@ -120,7 +120,7 @@ module _ (c : Cut) (n : ℕ) (steps path : List Step) (s : Step) (v : Node) (out
   -- another value
   module _ (written : List ℕ) (other : is_kept (node_in n path c) v ≡ false) (is : written ≡ (put_edit v z).written) where
     written_is : written ≡ e.written
-    written_is = is ∙ ap (λ (y : FlowPart). (put_edit v y).written) (sym (entry_made c n path z standing).1)
+    written_is = is ∙ ap (λ (y : FlowPart). (put_edit v y).written) (sym (entry_found c n path z standing).1)
 
     abbrev front : List ℕ
     front = between out t done start
