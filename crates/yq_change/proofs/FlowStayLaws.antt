@@ -14,7 +14,7 @@ use Rattle.yq_inline.specs.Nodes.{Key, Node, empty, alias, scalar, coll, anchore
 use Rattle.yq_inline.specs.Trees.{inner, key_content}
 use Rattle.yq_lines.specs.Group.{group}
 use Rattle.yq_lines.specs.Outline.{Outline, end, row, null_node}
-use Rattle.yq_lines.specs.Places.{here, below, Found, find, in_head, inside, lines_before}
+use Rattle.yq_lines.specs.Places.{here, below, FoundLine, find, in_head, inside, lines_before}
 use Rattle.yq_lines.specs.Positions.{is_bare}
 use Rattle.yq_rows.specs.Exchange.{behind_row, with_content}
 use Rattle.yq_rows.specs.Grammar.{begins_document, no_rows}
@@ -22,6 +22,7 @@ use Rattle.yq_rows.specs.Rows.{Content, Inline, Row, Part, Cut, last, marked, ro
 use Rattle.yq_rows.specs.Splices.{behind_part}
 use Rattle.yq_rows.proofs.splices.SpliceTexts.{own_gap, own_end}
 use Rattle.yq_documents.specs.Documents.{begins_bare, document_parts, has_begin}
+use Rattle.yq_documents.specs.PartNumbers.{number_from, part_number}
 use Rattle.yq_documents.specs.Reading.{outline_of}
 use Rattle.yq_documents.specs.LinesInRows.{RowLine, document_row, row_line}
 use Rattle.yq_documents.specs.TreeEdits.{change_nth}
@@ -29,8 +30,8 @@ use Rattle.yq_walk.specs.Lines.{head_of, lines_of}
 use Rattle.yq_places.specs.FlowNodes.{bare_line, content_flow, find_head, flow_collection, head_line, line_collection, part_collection}
 use Rattle.yq_places.proofs.RemovalLines.{front_some}
 use Rattle.yq_places.proofs.WalkDocuments.{row_line_number}
-use Rattle.yq_change.specs.Changed.{put_document, put_from}
-use Rattle.yq_change.specs.DocumentRows.{behind_document, number_from}
+use Rattle.yq_change.specs.Changed.{put_document, put_part}
+use Rattle.yq_change.specs.DocumentRows.{behind_document}
 use Rattle.yq_change.specs.FlowRows.{FlowAt, InlineRow, behind_node, with_node}
 use Rattle.yq_change.specs.Rooms.{row_shape}
 use Rattle.yq_change.proofs.ChangedLaws.{document_put, first_stays}
@@ -78,7 +79,7 @@ along_stays (s ∷ ss) (anchored n gap node) rest w g is e = along_stays (s ∷ 
 -- ---- among lines
 
 abbrev Reached : Type 0
-Reached = Found × List Step
+Reached = FoundLine × List Step
 
 bare_strip : (o : Outline) → bare_line (strip_outline o) ≡ option_map strip_found (bare_line o)
 bare_strip end = refl
@@ -88,11 +89,11 @@ bare_strip (row l u a) = go (is_bare l.mark)
     go true = refl
     go false = refl
 
-under_strip : (f : Found) (o : Option Found) → option_map {U = Reached} (λ g. (inside (strip_found f) g, [])) (option_map strip_found o) ≡ option_map strip_pair (option_map {U = Reached} (λ g. (inside f g, [])) o)
+under_strip : (f : FoundLine) (o : Option FoundLine) → option_map {U = Reached} (λ g. (inside (strip_found f) g, [])) (option_map strip_found o) ≡ option_map strip_pair (option_map {U = Reached} (λ g. (inside f g, [])) o)
 under_strip f None = refl
 under_strip f (Some g) = λ i. Some (record (strip_found g) { place = compose_strip f.place (below f.line g.place f.after) i }, [])
 
-line_strip : (f : Found) (left : List Step) → head_line (strip_found f) left ≡ option_map strip_pair (head_line f left)
+line_strip : (f : FoundLine) (left : List Step) → head_line (strip_found f) left ≡ option_map strip_pair (head_line f left)
 line_strip f (s ∷ ss) = refl
 line_strip f [] =
     ap (in_head (option_map (λ n. null_node) f.line.head) (Some (strip_found f, []))) (ap (option_map {U = Reached} (λ g. (inside (strip_found f) g, []))) (bare_strip f.under) ∙ under_strip f (bare_line f.under))
@@ -101,7 +102,7 @@ line_strip f [] =
 find_head_strip : (steps : List Step) (o : Outline) → find_head steps (strip_outline o) ≡ option_map strip_pair (find_head steps o)
 find_head_strip [] o = ap (option_map {U = Reached} (λ f. (f, []))) (bare_strip o) ∙ go (bare_line o)
   where
-    go : (r : Option Found) → option_map {U = Reached} (λ f. (f, [])) (option_map strip_found r) ≡ option_map strip_pair (option_map {U = Reached} (λ f. (f, [])) r)
+    go : (r : Option FoundLine) → option_map {U = Reached} (λ f. (f, [])) (option_map strip_found r) ≡ option_map strip_pair (option_map {U = Reached} (λ f. (f, [])) r)
     go None = refl
     go (Some f) = refl
 find_head_strip (s ∷ ss) o = ap (λ (r : Option Reached). r >>= λ x. head_line x.0 x.1) (find_strip s ss o) ∙ go (find s ss o)
@@ -127,7 +128,7 @@ record SameHead (steps : List Step) (o : Outline) (x : Reached) : Type 0 where
 same_head : (p q : Part) → map row_shape q.rows ≡ map row_shape p.rows → (steps : List Step) (x : Reached) → find_head steps (outline_of p) ≡ Some x → SameHead steps (outline_of q) x
 same_head p q h steps x e = go (find_head steps (outline_of q)) refl (shape_head p q h steps ∙ ap (option_map strip_pair) e)
   where
-    size : (f : Found) → length (lines_before (strip_found f).place) ≡ length (lines_before f.place)
+    size : (f : FoundLine) → length (lines_before (strip_found f).place) ≡ length (lines_before f.place)
     size f = ap length (before_strip f.place) ∙ length-map (lines_before f.place) stripped
 
     go : (o : Option Reached) → find_head steps (outline_of q) ≡ o → option_map strip_pair o ≡ Some (strip_pair x) → SameHead steps (outline_of q) x
@@ -139,10 +140,8 @@ same_head p q h steps x e = go (find_head steps (outline_of q)) refl (shape_head
 -- ---- in a cut
 
 -- what stands behind a document
-behind_stays : (is : Bool) (k : ℕ) (q : Part) (c : Cut) → behind_part (number_from is k (put_from is k q c)) (put_from is k q c) ≡ behind_part (number_from is k c) c
-behind_stays true zero q (last p) = refl
-behind_stays true (suc k) q (last p) = refl
-behind_stays false k q (last p) = refl
+behind_stays : (is : Bool) (k : ℕ) (q : Part) (c : Cut) → behind_part (number_from is k (put_part (number_from is k c) q c)) (put_part (number_from is k c) q c) ≡ behind_part (number_from is k c) c
+behind_stays is k q (last p) = refl
 behind_stays true zero q (marked p marker c) = refl
 behind_stays true (suc k) q (marked p marker c) = behind_stays (begins_document marker) k q c
 behind_stays false k q (marked p marker c) = behind_stays (begins_document marker) k q c
@@ -181,7 +180,7 @@ module _ (c : Cut) (k : ℕ) (steps : List Step) (w : CollPieces) (at : FlowAt c
   there : slice_get (document_parts new) k ≡ Some q
   there = ap (λ (ps : List Part). slice_get ps k) (document_put c k at.part q at.there keeps) ∙ nth_changed k at.part q (document_parts c) at.there
 
-  in_new : InCut (begins_bare new || not (has_begin new)) k new q i.front r i.back
+  in_new : InCut (part_number k new) new q i.front r i.back
   in_new = row_in_cut new k q i.front r i.back there rows_are
 
   same_behind : behind_document k new ≡ behind_document k c

@@ -58,4 +58,5 @@ later_item k s r m (item key n sep is) rest y z here there less =
     go false true is_r here there again =
         absurd (omega (arith, less, rest_within k (further s) is rest y here, sep_longer sep (items_text k is rest), ap (λ (x : EntryPieces). length x.rest) (same_Some _ _ there)))
     go false false is_r here there again =
-        ap (λ (b : Bool). cond b own (item_at k (further r) (put_item (further s) m is) rest)) is_r ∙ again here there less
+        let later : Items = put_item (further s) m is in
+        ap (λ (b : Bool). cond b (Some (record { key = key; node = n; rest = sep_text sep (items_text k later rest) })) (item_at k (further r) later rest)) is_r ∙ again here there less
