@@ -11,10 +11,9 @@ ghost use Rattle.yq_splice.specs.Valid.{FailsAt, FailsEach, IsStep};
 use crate::carrying::carry_all;
 use crate::edit_error::EditError;
 use crate::operands::operands_hold;
-use crate::together::carry_together;
 use std::alloc::{AllocError, Global};
 use yq_expr::{Program, Refusal, plan};
-use yq_script::{Edited, Splice};
+use yq_script::Edited;
 use yq_tree::read;
 
 /// The text as it is.
@@ -25,20 +24,6 @@ fn unchanged(alloc: Global, text: &str) -> Result<Edited, AllocError>
         text: String::from_str(alloc, text)?,
         splices: Vec::new(alloc),
     })
-}
-
-/// An edit whose splices come behind others.
-fn edited_behind(splices: Vec<Splice>, edited: Edited) -> Result<Edited, AllocError>
-    ensures { IfOk result (λ e. (e.text ≡ edited.text) ×
-        (e.splices.items ≡ splices.items ++ edited.splices.items)) }
-{
-    let Edited {
-        text,
-        splices: mut last,
-    } = edited;
-    let mut splices = splices;
-    splices.append(&mut last)?;
-    Ok(Edited { text, splices })
 }
 
 /// Update `nth` of a program carried out on the text that those before gave: what the reading says of
@@ -57,9 +42,6 @@ fn step(alloc: Global, done: Edited, program: &Program, nth: usize) -> Result<Ed
     let documents = read(alloc, text.as_str().as_bytes())?;
     let ops = plan(alloc, program, nth, &documents)?;
     operands_hold(&ops);
-    if let Some(edited) = carry_together(alloc, &documents.cut(), &ops)? {
-        return Ok(edited_behind(splices, edited)?);
-    }
     let places = documents.into_rows().into_places();
     carry_all(alloc, text, places, splices, &ops)
 }
