@@ -80,14 +80,14 @@ puts_at t m n steps op path v x is operand beside (Err e) h = tt
 
 -- where a run ends, and a value comes, in the text of the cut
 module _ (t u : List ℕ) (read : read_at t ≡ Some (cut_of t)) (all : u ≡ t) where
-  abbrev same : u ≡ cut_text (cut_of t)
-  same = whole_text t u read all
+  text_is : u ≡ cut_text (cut_of t)
+  text_is = whole_text t u read all
 
   pub edge_in : (n : ℕ) (steps : List Step) (r : Run) → Runs (cut_of t) n steps r → IsCharBoundary u r.done
-  edge_in n steps r run = subst (λ (l : List ℕ). IsCharBoundary l r.done) (sym same) run.edge
+  edge_in n steps r run = subst (λ (l : List ℕ). IsCharBoundary l r.done) (sym text_is) run.edge
 
   pub lies_in : (op : Operation) (n : ℕ) (steps : List Step) (x : FlowHead) (p : PartPut) → PutsAt op t n steps x p → LiesIn u (moved_on x.before (edit_view p.place))
-  lies_in op n steps x p h = subst (λ (l : List ℕ). LiesIn l (moved_on x.before (edit_view p.place))) (sym same) h.placed.lies
+  lies_in op n steps x p h = subst (λ (l : List ℕ). LiesIn l (moved_on x.before (edit_view p.place))) (sym text_is) h.placed.lies
 
 module _ (t u : List ℕ) (n : ℕ) (steps : List Step) (op : Operation) (before : Run) (x : FlowHead) (p : PartPut) (read : read_at t ≡ Some (cut_of t)) (all : u ≡ t) (run : Runs (cut_of t) n steps before) (h : PutsAt op t n steps x p) (behind : before.done ≤ x.before + p.place.start) (passes : before.done < x.before + p.place.end)
     (fitting : IsFitting op (now_text (cut_of t) before)) where
@@ -106,15 +106,15 @@ module _ (t u : List ℕ) (n : ℕ) (steps : List Step) (op : Operation) (before
   own_fits : IsFitting own now
   own_fits = subst (λ (o : Operation). IsFitting o now) h.operation fitting
 
-  same : (after : Run) → RunsOn own c n steps before after → RunsOn op c n steps before after
-  same after = subst (λ (o : Operation). RunsOn o c n steps before after) (sym h.operation)
+  runs_so : (after : Run) → RunsOn own c n steps before after → RunsOn op c n steps before after
+  runs_so after = subst (λ (o : Operation). RunsOn o c n steps before after) (sym h.operation)
 
   -- an equal scalar
   pub kept_on : p.written ≡ None → RunsOn op c n steps before before
   kept_on none =
       let kept = subst (IsWritten (node_in n h.path c) h.value h.part) none h.written in
       let comes = kept_there c n steps h.path h.step h.value (string_bytes before.text) before.done again run h.last h.part h.standing x p.place h.placed behind passes kept in
-      same before (record { new_bytes = []; comes = comes; applied = applied_by own now h.valid own_fits now [] comes; splices = sym (append-nil before.splices.items); run = run })
+      runs_so before (record { new_bytes = []; comes = comes; applied = applied_by own now h.valid own_fits now [] comes; splices = sym (append-nil before.splices.items); run = run })
 
   module _ (s : String Global) (some : p.written ≡ Some s) where
     abbrev start : ℕ
@@ -142,7 +142,7 @@ module _ (t u : List ℕ) (n : ℕ) (steps : List Step) (op : Operation) (before
         put_there c n steps h.path h.step h.value (string_bytes before.text) before.done again run h.last h.part h.standing x p.place h.placed behind passes (string_bytes s) is.0 is.1 a.size
         ∙ ap (λ (l : List ℕ). gives l cs) text in
         let on = goes_on c n steps h.path h.step h.value (string_bytes before.text) before.done again run h.last h.part h.standing x p.place h.placed behind passes (string_bytes s) is.0 is.1 h.valid own_fits a.size in
-        same after (record {
+        runs_so after (record {
           new_bytes = cs;
           comes = comes;
           applied = applied_by own now h.valid own_fits (now_text c after) cs comes;

@@ -116,8 +116,8 @@ impl Run {
     pub(crate) fn end(self, text: Halves<'_>) -> Result<Edited, AllocError>
         requires { IsCharBoundary (whole text) self.done }
         ensures text { IfOk result (λ e. string_bytes e.text ≡
-            spec.run_text (whole text.entry) (string_bytes self.entry.text) self.entry.done) }
-        ensures splices { IfOk result (λ e. e.splices.items ≡ self.entry.splices.items) }
+            spec.run_text (whole text.entry) (string_bytes self.text) self.done) }
+        ensures splices { IfOk result (λ e. e.splices.items ≡ self.splices.items) }
     {
         let Run {
             text: mut new,

@@ -11,5 +11,5 @@ use Rattle.yq_splice.proofs.together.carry_together.Goals as goal
 pub put_each-requires-clause-head : goal.put_each-requires-clause-head
 put_each-requires-clause-head c =
     let last = c.in-Some.ensures ∙ ap (λ ss. last_step (map step_of ss)) c.deref.ensures.value in
-    subst (λ (ss : List Step). FlowAgrees c.args.cut.now (flow_collection c.in-Replace.first.now.doc ss (cut_of c.args.cut.now)) (Some c.in-Some-found.head)) (ap above_in last)
-    (subst (FlowAgrees c.args.cut.now (flow_collection c.in-Replace.first.now.doc (map step_of c.in-Some.above.now) (cut_of c.args.cut.now))) c.in-Some-found.is c.in_ok-found.ensures)
+    subst (λ (ss : List Step). FlowAgrees c.args.cut.now (flow_collection c.in-Replace.first.doc ss (cut_of c.args.cut.now)) (Some c.in-Some-found.head)) (ap above_in last)
+    (subst (FlowAgrees c.args.cut.now (flow_collection c.in-Replace.first.doc (map step_of c.in-Some.above.now) (cut_of c.args.cut.now))) c.in-Some-found.is c.in_ok-found.ensures)
