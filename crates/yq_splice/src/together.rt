@@ -167,7 +167,10 @@ pub(crate) fn carry_together(
         gives (string_bytes e.text) e.splices.items)) }
     ensures err { IfErr result (λ e. EditFails e (carry_all (operations_of ops.now) cut.now)) }
 {
-    let [Op::Replace(first, _), _, ..] = ops else {
+    let [op, _, ..] = ops else {
+        return Ok(None);
+    };
+    let Op::Replace(first, _) = op else {
         return Ok(None);
     };
     let Some((above, _)) = last_step(&first.steps) else {

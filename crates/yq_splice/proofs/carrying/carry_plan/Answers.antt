@@ -14,13 +14,13 @@ carry_together-requires c = subst (AreServed (operations_of c.args.ops.now)) (sy
 pub returns-in_err-together : goal.returns-in_err-together
 returns-in_err-together c =
     let p = err_from_is_err_and c.from_residual.result c.from_residual.ensures.1 in
-    let same : c.cut.result.now ≡ c.args.text.now = c.cut.ensures ∙ c.requires.same in
+    let same = c.cut.ensures ∙ c.requires.same in
     rw (p.1, p.2)
     (fails_behind c.in_err-together.field-0.0 c.args.splices.items (carry_all (operations_of c.args.ops.now) c.args.text.now)
     (subst (λ (t : List ℕ). EditFails c.in_err-together.field-0.0 (carry_all (operations_of c.args.ops.now) t)) same c.in_err-together.ensures.err))
 
 pub returns-in-Some : goal.returns-in-Some
 returns-in-Some c =
-    let same : c.cut.result.now ≡ c.args.text.now = c.cut.ensures ∙ c.requires.same in
+    let same = c.cut.ensures ∙ c.requires.same in
     let made : carry_all (operations_of c.args.ops.now) c.args.text.now ≡ gives (string_bytes c.in-Some.edited.text) c.in-Some.edited.splices.items = ap (carry_all (operations_of c.args.ops.now)) (sym same) ∙ c.in-Some.ensures.ok in
     ap (behind c.args.splices.items) made ∙ λ i. gives (string_bytes (sym c.in_ok-edited_behind.ensures.0 i)) (sym c.in_ok-edited_behind.ensures.1 i)

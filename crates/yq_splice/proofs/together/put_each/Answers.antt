@@ -32,7 +32,7 @@ put_one-requires-clause-fits c = first_fits c.operations.rest.now c.op-item.resu
 
 pub returns-in_err-put-clause-err : goal.returns-in_err-put-clause-err
 returns-in_err-put-clause-err c =
-    let p = err_from_is_err_and c.from_residual-in_err-put.result c.from_residual-in_err-put.ensures.1 in
+    let p = err_from_is_err_and c.from_residual.result c.from_residual.ensures.1 in
     let t : List ℕ = now_text (cut_of c.args.cut.now) c.operations.run in
     let fails : EditFails c.in_err-put.field-0.0 (behind c.operations.run.splices.items (carry_all (operations_of c.operations.rest.now) t)) =
     first_fails c.operations.rest.now c.op-item.result t c.operations.run.splices.items c.in_err-put.field-0.0 c.in-len1-up.len_at_least c.op-item.is c.in_err-put.ensures.err in
@@ -41,11 +41,11 @@ returns-in_err-put-clause-err c =
 pub operations-preserved : goal.operations-preserved
 operations-preserved c =
     let t : List ℕ = now_text (cut_of c.args.cut.now) c.operations.run in
-    let m : List ℕ = now_text (cut_of c.args.cut.now) c.put_one-put.new.run in
+    let m : List ℕ = now_text (cut_of c.args.cut.now) c.put_one.new.run in
     let on = c.in_ok-put.ensures.ok c.if-not-put.false in
     record {
       whole =
-          others_come c.operations.rest.now c.op-item.result t m c.operations.run.splices.items on.new_bytes c.put_one-put.new.run.splices.items c.in-len1-up.len_at_least c.op-item.is on.comes on.splices
+          others_come c.operations.rest.now c.op-item.result t m c.operations.run.splices.items on.new_bytes c.put_one.new.run.splices.items c.in-len1-up.len_at_least c.op-item.is on.comes on.splices
           ∙ c.operations.invariant.whole;
       serves = others_served c.operations.rest.now c.op-item.result t m on.new_bytes c.in-len1-up.len_at_least c.op-item.is c.operations.invariant.serves on.applied;
       runs = on.run;

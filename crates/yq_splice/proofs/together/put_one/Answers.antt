@@ -48,11 +48,11 @@ pub returns-in_err-put-clause-err : goal.returns-in_err-put-clause-err
 returns-in_err-put-clause-err c =
     let h = subst (λ (o : Option PartPut). IfSome o (λ p. PutsAt (operation_of c.args.op.now) c.args.cut.now c.args.first.now.doc (steps_above (steps_of c.args.first.now)) c.args.head.now p)) c.in-Some.is c.in_ok-found.ensures in
     let p = err_from_is_err_and c.from_residual-in_err-put.result c.from_residual-in_err-put.ensures.1 in
-    let fails = subst (λ (l : List ℕ). PutFails c.in_err-put.field-0.0 (whole c.text-text.result) (c.args.head.now.before + c.in-Some.field-0.place.start) (c.args.head.now.before + c.in-Some.field-0.place.end) (c.in-Some.field-0.place.lead.now ++ l) c.args.run.now) c.deref.ensures.value c.in_err-put.ensures.err in
+    let fails = subst (λ (l : List ℕ). PutFails c.in_err-put.field-0.0 (whole c.text-text.result) (c.args.head.now.before + c.in-Some.field-0.place.start) (c.args.head.now.before + c.in-Some.field-0.place.end) (c.in-Some.field-0.place.lead.now ++ l) c.args.run.now) c.deref.ensures c.in_err-put.ensures.err in
     rw (p.1, p.2) (put_fails c.args.cut.now (whole c.text-text.result) c.args.first.now.doc (steps_above (steps_of c.args.first.now)) (operation_of c.args.op.now) c.args.run.now c.args.head.now c.in-Some.field-0 c.text-text.ensures.read c.text-text.ensures.text c.requires.run h (omega arith) (omega arith) c.requires.fits c.in-Some-written.written c.in-Some-written.is c.in_err-put.field-0.0 fails)
 
 pub returns-clause-ok : goal.returns-clause-ok
 returns-clause-ok c =
     let h = subst (λ (o : Option PartPut). IfSome o (λ p. PutsAt (operation_of c.args.op.now) c.args.cut.now c.args.first.now.doc (steps_above (steps_of c.args.first.now)) c.args.head.now p)) c.in-Some.is c.in_ok-found.ensures in
-    let has_put = subst (λ (l : List ℕ). HasPut (whole c.text-text.result) (c.args.head.now.before + c.in-Some.field-0.place.start) (c.args.head.now.before + c.in-Some.field-0.place.end) (c.in-Some.field-0.place.lead.now ++ l) c.args.run.now c.put.new.self) c.deref.ensures.value c.in_ok-put.ensures.ok in
+    let has_put = subst (λ (l : List ℕ). HasPut (whole c.text-text.result) (c.args.head.now.before + c.in-Some.field-0.place.start) (c.args.head.now.before + c.in-Some.field-0.place.end) (c.in-Some.field-0.place.lead.now ++ l) c.args.run.now c.put.new.self) c.deref.ensures c.in_ok-put.ensures.ok in
     λ _. put_on c.args.cut.now (whole c.text-text.result) c.args.first.now.doc (steps_above (steps_of c.args.first.now)) (operation_of c.args.op.now) c.args.run.now c.args.head.now c.in-Some.field-0 c.text-text.ensures.read c.text-text.ensures.text c.requires.run h (omega arith) (omega arith) c.requires.fits c.in-Some-written.written c.in-Some-written.is c.put.new.self has_put
