@@ -1,6 +1,8 @@
-use Rattle.std.proofs.Common.{◌≡◌, ◌∙◌, List, ℕ, sym, ap, subst, string_bytes}
+use Rattle.std.proofs.Common.{◌≡◌, ◌∙◌, List, ℕ, Option, sym, ap, subst, string_bytes}
 use Rattle.std.proofs.lemmas.Result.{err_from_is_err_and}
-use Rattle.yq_meaning.specs.Operations.{operations_of}
+use Rattle.std.specs.Prelude.{IfSome}
+use Rattle.yq_meaning.specs.Operations.{Operation, operations_of}
+use Rattle.yq_script.specs.declared.edited.Edited.{Edited}
 use Rattle.yq_splice.specs.Answers.{EditFails}
 use Rattle.yq_splice.specs.Carried.{carry_all}
 use Rattle.yq_splice.specs.Edit.{behind, gives}
@@ -22,5 +24,7 @@ returns-in_err-together c =
 pub returns-in-Some : goal.returns-in-Some
 returns-in-Some c =
     let same = c.cut.ensures ∙ c.requires.same in
-    let made : carry_all (operations_of c.args.ops.now) c.args.text.now ≡ gives (string_bytes c.in-Some.edited.text) c.in-Some.edited.splices.items = ap (carry_all (operations_of c.args.ops.now)) (sym same) ∙ c.in-Some.ensures.ok in
+    let ops : List Operation = operations_of c.args.ops.now in
+    let together = subst (λ (o : Option Edited). IfSome o (λ e. carry_all ops c.cut.result ≡ gives (string_bytes e.text) e.splices.items)) c.in-Some.is c.in_ok-together.ensures.ok in
+    let made : carry_all ops c.args.text.now ≡ gives (string_bytes c.in-Some.edited.text) c.in-Some.edited.splices.items = ap (carry_all ops) (sym same) ∙ together in
     ap (behind c.args.splices.items) made ∙ λ i. gives (string_bytes (sym c.in_ok-edited_behind.ensures.0 i)) (sym c.in_ok-edited_behind.ensures.1 i)
