@@ -151,7 +151,8 @@ pub(crate) fn carry_plan(
     requires same { documents ≡ text.now }
     requires read { read_at text.now ≡ Some (cut_of documents) }
     requires serves { AreServed (operations_of ops.now) text.now }
-    ensures { Edits result (behind splices.items (spec.carry_all (operations_of ops.now) text.now)) }
+    ensures { Edits result (behind splices.items (spec.carry_all (operations_of ops.now)
+        text.now)) }
 {
     let together = carry_together(alloc, &documents.cut(), ops)?;
     if let Some(edited) = together {
