@@ -30,7 +30,7 @@ use Rattle.yq_edits.specs.Replacing.{is_kept}
 use Rattle.yq_flow_edits.specs.PartPuts.{IsPlaceOf, put_edit}
 use Rattle.yq_flow_edits.proofs.CutLaws.{text_read}
 use Rattle.yq_flow_edits.proofs.FlowPartNodes.{part_node}
-use Rattle.yq_flow_edits.proofs.FlowPutLaws.{replaced_next, there}
+use Rattle.yq_flow_edits.proofs.FlowPutLaws.{replaced_next}
 use Rattle.yq_flow_edits.proofs.FlowStandings.{EntryAt, entry_found}
 use Rattle.yq_flow_edits.proofs.LaterItems.{later_item}
 use Rattle.yq_splice.specs.Carried.{carried}
@@ -38,7 +38,7 @@ use Rattle.yq_splice.specs.Edit.{edit_of_segments, gives, refuses}
 use Rattle.yq_splice.specs.Runs.{IsRun, StayBehind, run_text}
 use Rattle.yq_splice.specs.Theorems.{IsFitting}
 use Rattle.yq_splice.proofs.ApplyLaws.{fits}
-use Rattle.yq_splice.proofs.PutComes.{kept_comes, made_text, new_is, part, put_comes, segments_come, segments_large}
+use Rattle.yq_splice.proofs.PutComes.{kept_comes, made_text, new_is, put_comes, segments_come, segments_large}
 
 -- what a run has written, with what stays up to the next place
 abbrev between : List ℕ → List ℕ → (done start : ℕ) → List ℕ
