@@ -59,7 +59,8 @@ pub ends_there : (one other above first : List Step) (s r : Step) → Some (abov
 ends_there one other above first s r last first_last same = (s, sym last ∙ ap (λ (ss : List Step). Some (ss, s)) (same ∙ ap above_in first_last))
 
 -- a value is put at a part in that collection
-pub puts_at : {E : Type 0} (t : List ℕ) (m n : ℕ) (steps : List Step) (op : Operation) (path : List Step) (v : Node) (x : FlowHead) → op ≡ replace m path v → HasOperand op → (m ≡ n) × EndsIn steps path → (r : Result (Option PartPut) E) → IfOk r (λ o. ArePuts m path v (cut_of t) x o) →
+pub puts_at : {E : Type 0} (t : List ℕ) (m n : ℕ) (steps : List Step) (op : Operation) (path : List Step) (v : Node) (x : FlowHead) →
+    op ≡ replace m path v → HasOperand op → (m ≡ n) × EndsIn steps path → (r : Result (Option PartPut) E) → IfOk r (λ o. ArePuts m path v (cut_of t) x o) →
     IfOk r (λ o. IfSome o (λ p. PutsAt op t n steps x p))
 puts_at t m n steps op path v x is operand beside (Ok None) h = tt
 puts_at t m n steps op path v x is operand beside (Ok (Some p)) h =
@@ -89,8 +90,8 @@ module _ (t u : List ℕ) (read : read_at t ≡ Some (cut_of t)) (all : u ≡ t)
   pub lies_in : (op : Operation) (n : ℕ) (steps : List Step) (x : FlowHead) (p : PartPut) → PutsAt op t n steps x p → LiesIn u (moved_on x.before (edit_view p.place))
   lies_in op n steps x p h = subst (λ (l : List ℕ). LiesIn l (moved_on x.before (edit_view p.place))) (sym text_is) h.placed.lies
 
-module _ (t u : List ℕ) (n : ℕ) (steps : List Step) (op : Operation) (before : Run) (x : FlowHead) (p : PartPut) (read : read_at t ≡ Some (cut_of t)) (all : u ≡ t) (run : Runs (cut_of t) n steps before) (h : PutsAt op t n steps x p) (behind : before.done ≤ x.before + p.place.start) (passes : before.done < x.before + p.place.end)
-    (fitting : IsFitting op (now_text (cut_of t) before)) where
+module _ (t u : List ℕ) (n : ℕ) (steps : List Step) (op : Operation) (before : Run) (x : FlowHead) (p : PartPut) (read : read_at t ≡ Some (cut_of t)) (all : u ≡ t)
+    (run : Runs (cut_of t) n steps before) (h : PutsAt op t n steps x p) (behind : before.done ≤ x.before + p.place.start) (passes : before.done < x.before + p.place.end) (fitting : IsFitting op (now_text (cut_of t) before)) where
   abbrev c : Cut
   c = cut_of t
 

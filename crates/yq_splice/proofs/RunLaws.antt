@@ -44,7 +44,8 @@ use Rattle.yq_splice.proofs.PutComes.{kept_comes, made_text, new_is, put_comes, 
 abbrev between : List ℕ → List ℕ → (done start : ℕ) → List ℕ
 between out t done start = out ++ drop done (take start t)
 
-module _ (c : Cut) (n : ℕ) (steps path : List Step) (s : Step) (v : Node) (out : List ℕ) (done : ℕ) (whole : read_at (cut_text c) ≡ Some c) (run : IsRun c n steps out done) (last : last_step path ≡ Some (steps, s)) (z : FlowPart) (standing : flow_standing n c (last_step path) ≡ Some z) (x : FlowHead) (place : EditPlace)
+module _ (c : Cut) (n : ℕ) (steps path : List Step) (s : Step) (v : Node) (out : List ℕ) (done : ℕ) (whole : read_at (cut_text c) ≡ Some c) (run : IsRun c n steps out done)
+    (last : last_step path ≡ Some (steps, s)) (z : FlowPart) (standing : flow_standing n c (last_step path) ≡ Some z) (x : FlowHead) (place : EditPlace)
     (placed : IsPlaceOf (cut_text c) v z x place) (behind : done ≤ x.before + place.start) (passes : done < x.before + place.end) where
   abbrev t : List ℕ
   t = cut_text c

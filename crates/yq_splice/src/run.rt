@@ -1,5 +1,5 @@
 //! Runs: the text and the splices that values make which are put one behind the other.
-ghost use Rattle.std.specs.Prelude.{◌≡◌, ◌≤◌, ◌++◌, [], IfErr, IfOk, OnOk, drop, take, string_bytes};
+ghost use Rattle.std.specs.Prelude.{◌≡◌, ◌≤◌, ◌<◌, ◌++◌, [], true, IfErr, IfOk, OnOk, drop, take, string_bytes};
 ghost use Rattle.std.specs.Str.{IsCharBoundary};
 ghost use Rattle.yq_text.specs.Halves.{whole};
 ghost use Rattle.yq_script.specs.Script.{splice_at};
@@ -72,6 +72,13 @@ impl Run {
             done: 0,
             splices: Vec::new(alloc),
         }
+    }
+
+    /// Whether what stands between two places of the old text is behind all that gave way.
+    pub(crate) fn ends_before(&self, start: usize, end: usize) -> bool
+        ensures { result ≡ true → (self.now.done ≤ start) × (self.now.done < end) }
+    {
+        self.done <= start && self.done < end
     }
 
     /// A text comes behind a lead in the place of what stands between two places.

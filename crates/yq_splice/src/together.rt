@@ -116,7 +116,7 @@ fn put_one(
     };
     let start = head.before + place.start;
     let end = head.before + place.end;
-    if start < run.done || end <= run.done {
+    if !run.ends_before(start, end) {
         return Ok(false);
     }
     let Some(written) = written else {

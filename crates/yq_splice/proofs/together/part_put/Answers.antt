@@ -17,5 +17,5 @@ put_at_part-requires c =
 
 pub returns : goal.returns
 returns c =
-    puts_at c.args.cut.now c.in-Replace.path.doc c.args.first.now.doc (steps_above (steps_of c.args.first.now)) (operation_of c.args.op.now) (steps_of c.in-Replace.path) (node_of c.in-Replace.value) c.args.head.now (ap operation_of c.in-Replace.is) c.operand_holds.ensures
-    (c.is_beside.ensures c.if-not-is_beside.false) c.put_at_part.result c.put_at_part.ensures
+    puts_at c.args.cut.now c.in-Replace.path.doc c.args.first.now.doc (steps_above (steps_of c.args.first.now)) (operation_of c.args.op.now) (steps_of c.in-Replace.path) (node_of c.in-Replace.value) c.args.head.now
+    (ap operation_of c.in-Replace.is) c.operand_holds.ensures (c.is_beside.ensures c.if-not-is_beside.false) c.put_at_part.result c.put_at_part.ensures
