@@ -56,10 +56,11 @@ first_is true zero p q (marked x marker c) e there keeps =
 first_is true (suc k) p q (marked x marker c) e there keeps = ap (λ b. not (no_rows x.rows) || not (begins_document marker || b)) (begin_stays (number_from (begins_document marker) k c) q c) ∙ e
 first_is false k p q (marked x marker c) e there keeps = ap (λ b. not (no_rows x.rows) || not (begins_document marker || b)) (begin_stays (number_from (begins_document marker) k c) q c) ∙ e
 
+pub first_stays : (c : Cut) (k : ℕ) (p q : Part) → slice_get (document_parts c) k ≡ Some p → KeepsRows p q → (begins_bare (put_document k q c) || not (has_begin (put_document k q c))) ≡ (begins_bare c || not (has_begin c))
+first_stays c k p q there keeps = first_is (begins_bare c || not (has_begin c)) k p q c refl there keeps
+
 pub document_put : DocumentPut
-document_put c k p q there keeps =
-    let is : Bool = begins_bare c || not (has_begin c) in
-    ap (λ b. parts_from b (put_document k q c)) (first_is is k p q c refl there keeps) ∙ from_put is k p q c there
+document_put c k p q there keeps = ap (λ b. parts_from b (put_document k q c)) (first_stays c k p q there keeps) ∙ from_put (begins_bare c || not (has_begin c)) k p q c there
 
 -- the root of lines
 root_of_lines : (ls : List Line) (root : Node) → StandsSomewhere ls root → IsRoot ls root

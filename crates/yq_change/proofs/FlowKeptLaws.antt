@@ -96,7 +96,7 @@ left_keys s w e at h = left_fit w.close w.rest s w.gap w.items e at h
 
 -- ---- rooms and leads
 
-one_other : (front : List Row) (b r : Row) (back : List Row) → row_shape b ≡ row_shape r → map row_shape (front ++ (b ∷ back)) ≡ map row_shape (front ++ (r ∷ back))
+pub one_other : (front : List Row) (b r : Row) (back : List Row) → row_shape b ≡ row_shape r → map row_shape (front ++ (b ∷ back)) ≡ map row_shape (front ++ (r ∷ back))
 one_other [] b r back e = ap (λ x. x ∷ map row_shape back) e
 one_other (y ∷ front) b r back e = ap (λ xs. row_shape y ∷ xs) (one_other front b r back e)
 

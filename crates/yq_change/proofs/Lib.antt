@@ -67,3 +67,4 @@ pub mod UnbrokenLaws
 pub mod DocumentItemLaws
 pub mod StandingRows
 pub mod StandingMarks
+pub mod FlowStayLaws

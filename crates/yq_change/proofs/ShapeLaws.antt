@@ -20,22 +20,22 @@ use Rattle.yq_change.specs.Rooms.{RowShape, row_shape, EqualRoom, ShapesAgree}
 
 -- ---- lines without what is told behind their marks but that there is a head
 
-abbrev stripped : Line → Line
+abbrev pub stripped : Line → Line
 stripped l = record { column = l.column; mark = l.mark; anchor = None; head = option_map (λ n. null_node) l.head; head_comment = []; line_comment = None }
 
-abbrev strip_outline : Outline → Outline
+abbrev pub strip_outline : Outline → Outline
 strip_outline end = end
 strip_outline (row l u a) = row (stripped l) (strip_outline u) (strip_outline a)
 
-abbrev strip_place : Context → Context
+abbrev pub strip_place : Context → Context
 strip_place here = here
 strip_place (below l p a) = below (stripped l) (strip_place p) (strip_outline a)
 strip_place (beside l u p) = beside (stripped l) (strip_outline u) (strip_place p)
 
-abbrev strip_found : FoundLine → FoundLine
+abbrev pub strip_found : FoundLine → FoundLine
 strip_found f = record { place = strip_place f.place; line = stripped f.line; under = strip_outline f.under; after = strip_outline f.after }
 
-abbrev strip_pair : FoundLine × List Step → FoundLine × List Step
+abbrev pub strip_pair : FoundLine × List Step → FoundLine × List Step
 strip_pair x = (strip_found x.0, x.1)
 
 same_level : (l : Line) → level (stripped l) ≡ level l
@@ -56,7 +56,7 @@ shallow_strip n end = refl
 shallow_strip n (row l u a) =
     (λ i. cond (nat_lt n (same_level l i)) (shallow_strip n a i) (row (stripped l) (strip_outline u) (strip_outline a))) ∙ outline_if (nat_lt n (level l)) (shallow n a) (row l u a)
 
-group_strip : (ls : List Line) → group (map stripped ls) ≡ strip_outline (group ls)
+pub group_strip : (ls : List Line) → group (map stripped ls) ≡ strip_outline (group ls)
 group_strip [] = refl
 group_strip (l ∷ ls) =
     ap (lead (stripped l)) (group_strip ls)
@@ -67,12 +67,12 @@ flatten_strip : (o : Outline) → flatten (strip_outline o) ≡ map stripped (fl
 flatten_strip end = refl
 flatten_strip (row l u a) = ap (λ ls. stripped l ∷ ls) ((λ i. flatten_strip u i ++ flatten_strip a i) ∙ sym (map-append stripped (flatten u) (flatten a)))
 
-before_strip : (p : Context) → lines_before (strip_place p) ≡ map stripped (lines_before p)
+pub before_strip : (p : Context) → lines_before (strip_place p) ≡ map stripped (lines_before p)
 before_strip here = refl
 before_strip (below l p a) = ap (λ ls. stripped l ∷ ls) (before_strip p)
 before_strip (beside l u p) = ap (λ ls. stripped l ∷ ls) ((λ i. flatten_strip u i ++ before_strip p i) ∙ sym (map-append stripped (flatten u) (lines_before p)))
 
-compose_strip : (p q : Context) → compose (strip_place p) (strip_place q) ≡ strip_place (compose p q)
+pub compose_strip : (p q : Context) → compose (strip_place p) (strip_place q) ≡ strip_place (compose p q)
 compose_strip here q = refl
 compose_strip (below l p a) q = ap (λ x. below (stripped l) x (strip_outline a)) (compose_strip p q)
 compose_strip (beside l u p) q = ap (λ x. beside (stripped l) (strip_outline u) x) (compose_strip p q)
@@ -114,7 +114,7 @@ inside_strip f None = refl
 inside_strip f (Some x) =
     λ i. Some (record { place = compose_strip f.place (below f.line x.0.place f.after) i; line = stripped x.0.line; under = strip_outline x.0.under; after = strip_outline x.0.after }, x.1)
 
-head_strip : (h : Option Node) (x y : Option (FoundLine × List Step)) → in_head (option_map (λ n. null_node) h) (option_map strip_pair x) (option_map strip_pair y) ≡ option_map strip_pair (in_head h x y)
+pub head_strip : (h : Option Node) (x y : Option (FoundLine × List Step)) → in_head (option_map (λ n. null_node) h) (option_map strip_pair x) (option_map strip_pair y) ≡ option_map strip_pair (in_head h x y)
 head_strip None x y = refl
 head_strip (Some n) x y = refl
 
@@ -129,7 +129,7 @@ on_strip t ts ih (Some f) =
     ap (in_head (option_map (λ n. null_node) f.line.head) (Some (strip_found f, t ∷ ts))) (ap (option_map (deeper_found (strip_found f))) (ih f.under) ∙ inside_strip f (find t ts f.under))
     ∙ head_strip f.line.head (Some (f, t ∷ ts)) (option_map (deeper_found f) (find t ts f.under))
 
-find_strip : (s : Step) (ss : List Step) (o : Outline) → find s ss (strip_outline o) ≡ option_map strip_pair (find s ss o)
+pub find_strip : (s : Step) (ss : List Step) (o : Outline) → find s ss (strip_outline o) ≡ option_map strip_pair (find s ss o)
 find_strip s ss end = refl
 find_strip s [] (row l u a) =
     ap (bare_or l.mark (Some (strip_pair (record { place = here; line = l; under = u; after = a }, s ∷ []))))
@@ -164,7 +164,7 @@ abbrev shape_lines : ℕ → List ℕ → rows.Mark → Bool → List Line
 shape_lines column [] mark headed = record { column = column; mark = mark_of mark; anchor = None; head = head_if headed; head_comment = []; line_comment = None } ∷ []
 shape_lines column (n ∷ ns) mark headed = record { column = column; mark = Dash; anchor = None; head = None; head_comment = []; line_comment = None } ∷ shape_lines (suc (column + n)) ns mark headed
 
-abbrev shapes_lines : List RowShape → List Line
+abbrev pub shapes_lines : List RowShape → List Line
 shapes_lines [] = []
 shapes_lines (s ∷ ss) = shape_lines s.column s.dashes s.mark s.headed ++ shapes_lines ss
 
@@ -177,7 +177,7 @@ from_strip above column [] mark c = ap (λ h. record { column = column; mark = m
 from_strip above column (n ∷ ns) mark c =
     ap (λ ls. record { column = column; mark = Dash; anchor = None; head = None; head_comment = []; line_comment = None } ∷ ls) (from_strip [] (suc (column + n)) ns mark c)
 
-rows_strip : (rs : List Row) → map stripped (lines_of rs) ≡ shapes_lines (map row_shape rs)
+pub rows_strip : (rs : List Row) → map stripped (lines_of rs) ≡ shapes_lines (map row_shape rs)
 rows_strip [] = refl
 rows_strip (r ∷ rs) = map-append stripped (row_lines r) (lines_of rs) ∙ (λ i. from_strip (head_comment r.gap) r.column r.dashes r.mark r.content i ++ rows_strip rs i)
 

@@ -16,7 +16,8 @@ use Rattle.yq_rows.proofs.splices.SpliceTexts.{own_gap, own_end}
 use Rattle.yq_documents.specs.Documents.{HasFitKeys, lead_of}
 use Rattle.yq_documents.specs.Reading.{read_at, root_of}
 use Rattle.yq_places.specs.RowPaths.{IsReadable}
-use Rattle.yq_change.specs.Changed.{put_document}
+use Rattle.yq_places.specs.FlowNodes.{flow_collection}
+use Rattle.yq_change.specs.Changed.{IsChanged, put_document}
 use Rattle.yq_change.specs.DocumentRows.{behind_document}
 use Rattle.yq_change.specs.FlowRows.{behind_node, coll_at, with_node, FlowAt}
 use Rattle.yq_change.proofs.PlaceTextLaws.{IsAround, around}
@@ -25,6 +26,7 @@ use Rattle.yq_change.specs.SoundRoots.{IsSoundRoot}
 use Rattle.yq_change.proofs.FlowKeptLaws.{flow_rooms}
 use Rattle.yq_change.proofs.FlowPathLaws.{row_texts}
 use Rattle.yq_change.proofs.FlowRowLaws.{flow_edited}
+use Rattle.yq_change.proofs.FlowStayLaws.{flow_stays, other_items}
 use Rattle.yq_change.proofs.LeadLaws.{same_lead_goes}
 use Rattle.yq_meaning.specs.After.{document_of, root_after}
 use Rattle.yq_meaning.specs.Operations.{Operation}
@@ -43,6 +45,10 @@ use Rattle.yq_places.proofs.RemovalLines.{front_some}
 -- the node that is edited, in its row
 abbrev pub edited_at : (c : Cut) (k : ℕ) (steps : List Step) (w : CollPieces) → FlowAt c k steps w → FlowEdit → Node
 edited_at c k steps w at e = edited_node (coll_at c k at.part at.row at.rest w) e
+
+-- the cut with the edited node there
+abbrev pub made_cut : (op : Operation) (c : Cut) (steps : List Step) (w : CollPieces) → FlowAt c (document_of op) steps w → FlowEdit → Cut
+made_cut op c steps w at e = put_document (document_of op) (with_node at.part at.row (edited_at c (document_of op) steps w at e)) c
 
 -- An edit of the flow collection at a path makes of a document what an operation does.
 pub record FlowCarried (op : Operation) (c : Cut) (steps : List Step) (w : CollPieces) (at : FlowAt c (document_of op) steps w) (e : FlowEdit) (h : Children → Children) : Type 0 where
@@ -121,28 +127,48 @@ flow_local c k steps w at e m t stays new =
       length-append (row_front i.row ++ i.space) (node_text i.node (behind_node c k p i)),
     )) (omega (arith, stays, ap length behind, length-append i.tail (rows_text i.back (p.end ++ behind_document k c))))
 
+-- the text that it makes is that of another cut, which reads as the documents with that change
+pub made_changed : (op : Operation) (c : Cut) (steps : List Step) (w : CollPieces) (at : FlowAt c (document_of op) steps w) (e : FlowEdit) (h : Children → Children) → read_at (cut_text c) ≡ Some c → FlowCarried op c steps w at e h →
+    length (new_text (flow_segments (cut_text c) e)) ≤ text_limit → (new_text (flow_segments (cut_text c) e) ≡ cut_text (made_cut op c steps w at e)) × IsChanged c (made_cut op c steps w at e) (document_of op) (lead_of at.part) (change steps (within h))
+made_changed op c steps w at e h read done size =
+    let k : ℕ = document_of op in
+    let texts = flow_texts c k steps w at e h done.edited in
+    let is : new_text (flow_segments (cut_text c) e) ≡ cut_text (made_cut op c steps w at e) = segments_new (cut_text c) (cut_text (made_cut op c steps w at e)) texts.before e texts.old texts.is in
+    let readable : IsReadable (cut_text (made_cut op c steps w at e)) = subst IsReadable is (segments_readable (flow_segments (cut_text c) e) done.pieces size) in
+    (is, flow_edited (cut_text c) c k at.part steps at.line at.rest at.row w e h (record { read = read; there = at.there }) at.at done.edited done.keys done.sound readable)
+
 pub flow_carried : (op : Operation) (c : Cut) (steps : List Step) (w : CollPieces) (at : FlowAt c (document_of op) steps w) (e : FlowEdit) (h : Children → Children) → read_at (cut_text c) ≡ Some c → FlowCarried op c steps w at e h →
     length (new_text (flow_segments (cut_text c) e)) ≤ text_limit → CarriedOut op c (flow_segments (cut_text c) e)
 flow_carried op c steps w at e h read done size =
     let k : ℕ = document_of op in
     let p : Part = at.part in
     let q : Part = with_node p at.row (edited_at c k steps w at e) in
-    let new : Cut = put_document k q c in
+    let new : Cut = made_cut op c steps w at e in
     let texts = flow_texts c k steps w at e h done.edited in
-    let is : new_text (flow_segments (cut_text c) e) ≡ cut_text new = segments_new (cut_text c) (cut_text new) texts.before e texts.old texts.is in
-    let readable : IsReadable (cut_text new) = subst IsReadable is (segments_readable (flow_segments (cut_text c) e) done.pieces size) in
-    let changed = flow_edited (cut_text c) c k p steps at.line at.rest at.row w e h (record { read = read; there = at.there }) at.at done.edited done.keys done.sound readable in
+    let changed = made_changed op c steps w at e h read done size in
     let kept = flow_rooms c k p steps at.line at.rest at.row w e.gap e.items at.at in
     record {
-      reads = subst (ReadsAfter op c) (sym is) (document_done op c p q (lead_of p) (change steps (within h)) (record {
+      reads = subst (ReadsAfter op c) (sym changed.0) (document_done op c p q (lead_of p) (change steps (within h)) (record {
         read = read;
         there = at.there;
         rows = λ none. absurd (false≢true (sym (front_some at.row.front _ _) ∙ none));
-        changed = changed;
+        changed = changed.1;
         root = done.root;
         lead_goes = same_lead_goes p q kept.2 kept.1;
         block = λ _. kept.1;
         equal_room = λ _. kept.0;
       }));
-      local = inl (cut_known (flow_segments (cut_text c) e) c new changed.read (sym is) (flow_local c k steps w at e (edited_at c k steps w at e) texts done.stays is));
+      local = inl (cut_known (flow_segments (cut_text c) e) c new changed.1.read (sym changed.0) (flow_local c k steps w at e (edited_at c k steps w at e) texts done.stays changed.0));
     }
+
+-- Behind an edit the path of the collection leads to it still, with the gap and the items that it then has.
+pub record Next (c : Cut) (n : ℕ) (steps : List Step) (w : CollPieces) (e : FlowEdit) : Type 0 where
+  pub cut : Cut
+  pub read : read_at (new_text (flow_segments (cut_text c) e)) ≡ Some cut
+  pub found : flow_collection n steps cut ≡ Some (other_items e.gap e.items w)
+
+pub flow_next : (op : Operation) (c : Cut) (steps : List Step) (w : CollPieces) (at : FlowAt c (document_of op) steps w) (e : FlowEdit) (h : Children → Children) → read_at (cut_text c) ≡ Some c → FlowCarried op c steps w at e h →
+    length (new_text (flow_segments (cut_text c) e)) ≤ text_limit → Next c (document_of op) steps w e
+flow_next op c steps w at e h read done size =
+    let changed = made_changed op c steps w at e h read done size in
+    record { cut = made_cut op c steps w at e; read = ap read_at changed.0 ∙ changed.1.read; found = flow_stays c (document_of op) steps w at e.gap e.items }

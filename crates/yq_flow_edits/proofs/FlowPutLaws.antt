@@ -53,7 +53,7 @@ use Rattle.yq_flow_edits.proofs.FlowPieceLaws.{edit_pieces, nothing_piece, one_s
 use Rattle.yq_flow_edits.proofs.FlowSoundLaws.{last_is}
 use Rattle.yq_flow_edits.proofs.FlowStandings as standing
 use Rattle.yq_flow_edits.proofs.FlowStandings.{EntryAt, entry_found, entry_placed}
-use Rattle.yq_flow_edits.proofs.FlowEditLaws.{before_is, flow_carried, segments_old}
+use Rattle.yq_flow_edits.proofs.FlowEditLaws.{FlowCarried, Next, before_is, flow_carried, flow_next, segments_old}
 use Rattle.yq_flow_edits.proofs.FlowWholeLaws.{StandsBefore, replaced_stands}
 use Rattle.yq_edits.proofs.FlowWritten.{flow_fits}
 use Rattle.yq_edits.proofs.KeptLaws.{led_same}
@@ -191,11 +191,11 @@ module _ (c : Cut) (doc : ℕ) (path : List Step) (v : tree.Node) (read : read_a
         subst (λ (f : tree.Node → tree.Node). IsSoundRoot (f (root_of at.part))) (sym (step_change path a.init a.step (replaced v) a.last))
         (replace_keeps path (root_of at.part) fitting.node v old fitting.there fitting.may)
 
-    pub replaced_carried : length (new_text (flow_segments (cut_text c) e)) ≤ text_limit → CarriedOut (replace doc path v) c (flow_segments (cut_text c) e)
-    replaced_carried size =
+    done : FlowCarried (replace doc path v) c a.init a.coll at e (change_child a.step (replaced v))
+    done =
         let p = standing.piece c doc a.init a.coll read a.found in
         let parts = edit_pieces (cut_text c) there.before e p there.text bounds.0 bounds.1 there.whole in
-        flow_carried (replace doc path v) c a.init a.coll at e (change_child a.step (replaced v)) read (record {
+        record {
           edited = edited;
           keys = flow_keys (cut_text c) c doc at.part a.init at.line at.rest at.row a.coll e.gap e.items (standing.old c doc a.init a.coll read a.found) at.at (put_fit a.step m a.coll.items (value_keys (content_written a.item.node) v fitting.long));
           sound = sound;
@@ -208,7 +208,14 @@ module _ (c : Cut) (doc : ℕ) (path : List Step) (v : tree.Node) (read : read_a
             (around_is x stands).longer,
             item_rest a.coll.close a.step a.coll.items a.coll.rest a.item a.at,
           );
-        }) size
+        }
+
+    pub replaced_carried : length (new_text (flow_segments (cut_text c) e)) ≤ text_limit → CarriedOut (replace doc path v) c (flow_segments (cut_text c) e)
+    replaced_carried size = flow_carried (replace doc path v) c a.init a.coll at e (change_child a.step (replaced v)) read done size
+
+    -- the same collection is at the path behind that
+    pub replaced_next : length (new_text (flow_segments (cut_text c) e)) ≤ text_limit → Next c doc a.init a.coll e
+    replaced_next size = flow_next (replace doc path v) c a.init a.coll at e (change_child a.step (replaced v)) read done size
 
 -- Replace: a value put in the place of a content of a flow collection.
 pub flow_values_put : FlowValuesArePut

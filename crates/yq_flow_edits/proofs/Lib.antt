@@ -21,6 +21,7 @@ pub mod FlowHeldLines
 pub mod CollectionCases
 pub mod EntryLines
 pub mod StepsOn
+pub mod LaterItems
 pub mod FlowPartNodes
 pub mod StandingExists
 pub mod MoreExists

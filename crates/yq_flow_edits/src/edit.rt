@@ -20,7 +20,7 @@ use yq_script::{Segment, Segments};
 use yq_text::Halves;
 
 /// The steps to the collection in which a path ends, and the last one.
-pub(crate) fn last_step(steps: &[Step]) -> Option<(&[Step], &Step)>
+pub fn last_step(steps: &[Step]) -> Option<(&[Step], &Step)>
     ensures { option_map (λ x. (map step_of x.0.now, step_of x.1.now)) result ≡
         standings.last_step (map step_of steps.now) }
 {

@@ -10,7 +10,7 @@ mod remove;
 mod sole;
 
 pub use append::append_in_flow;
-pub use edit::unchanged;
-pub use put::put_in_flow;
+pub use edit::{last_step, unchanged};
+pub use put::{PartPut, put_at_part, put_in_flow};
 pub use remove::remove_in_flow;
 pub use sole::{EmptyPut, emptying};

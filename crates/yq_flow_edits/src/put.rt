@@ -23,7 +23,7 @@ use yq_script::Segments;
 
 /// What it comes to that a value is put in the place of a content.
 #[derive(Debug, Drop)]
-pub(crate) struct PartPut {
+pub struct PartPut {
     /// The place, in the text that begins with the node in the head.
     pub place: EditPlace,
     /// What is written there; nothing, where the value is the scalar that is there, so that all bytes
@@ -60,7 +60,7 @@ fn is_same_node(node: &Inline<'_>, value: &Value) -> bool
 ///
 /// # Errors
 /// [`AllocError`] where memory is refused.
-fn put_at_part(
+pub fn put_at_part(
     alloc: Global,
     cut: &CutText<'_, '_>,
     head: &FlowHead<'_, '_>,

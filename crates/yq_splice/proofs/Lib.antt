@@ -16,3 +16,6 @@ pub mod ChoiceLaws
 pub mod EditsHold
 pub mod RemoveExists
 pub mod PrintedDocuments
+pub mod PutComes
+pub mod RunLaws
+pub mod RunAnswers

@@ -15,6 +15,7 @@ use crate::edit_error::EditError;
 use crate::op_segments::op_segments;
 use crate::operands::operand_holds;
 use crate::session::Session;
+use crate::together::carry_together;
 use std::alloc::{AllocError, Global};
 use yq_expr::Op;
 use yq_places::CutText;
@@ -138,8 +139,32 @@ pub(crate) fn edited_behind(splices: Vec<Splice>, edited: Edited) -> Result<Edit
     Ok(Edited { text, splices })
 }
 
+/// Several operations carried out on a text that was read, together where that can be; their splices
+/// come behind others. The text is copied behind the reading.
+fn carry_several(
+    alloc: Global,
+    text: &str,
+    documents: Documents<'_>,
+    splices: Vec<Splice>,
+    ops: &[Op],
+) -> Result<Edited, EditError>
+    requires same { documents ≡ text.now }
+    requires read { read_at text.now ≡ Some (cut_of documents) }
+    requires serves { AreServed (operations_of ops.now) text.now }
+    ensures { Edits result (behind splices.items (spec.carry_all (operations_of ops.now)
+        text.now)) }
+{
+    let together = carry_together(alloc, &documents.cut(), ops)?;
+    if let Some(edited) = together {
+        return Ok(edited_behind(splices, edited)?);
+    }
+    let places = documents.into_rows().into_places();
+    let kept = String::from_str(alloc, text)?;
+    carry_all(alloc, kept, places, splices, ops)
+}
+
 /// The operations of a plan carried out on a text that was read; their splices come behind others. For a
-/// sole one the text is not copied, and for several it is copied behind the reading.
+/// sole one the text is not copied.
 pub(crate) fn carry_plan(
     alloc: Global,
     text: &str,
@@ -150,13 +175,12 @@ pub(crate) fn carry_plan(
     requires same { documents ≡ text.now }
     requires read { read_at text.now ≡ Some (cut_of documents) }
     requires serves { AreServed (operations_of ops.now) text.now }
-    ensures { Edits result (behind splices.items (spec.carry_all (operations_of ops.now) text.now)) }
+    ensures { Edits result (behind splices.items (spec.carry_all (operations_of ops.now)
+        text.now)) }
 {
     if let [op] = ops {
         let edited = carry_one(alloc, &documents.cut(), op)?;
         return Ok(edited_behind(splices, edited)?);
     }
-    let places = documents.into_rows().into_places();
-    let kept = String::from_str(alloc, text)?;
-    carry_all(alloc, kept, places, splices, ops)
+    carry_several(alloc, text, documents, splices, ops)
 }

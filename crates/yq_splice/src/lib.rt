@@ -8,7 +8,9 @@ mod editing;
 mod op_segments;
 mod operands;
 mod printing;
+mod run;
 mod session;
+mod together;
 
 pub use carrying::apply_op;
 pub use edit_error::EditError;

@@ -1,0 +1,218 @@
+-- With other items or entries in a flow collection, its path leads to it still, and what stands behind it stays.
+use Rattle.std.proofs.Common.{◌≡◌, ℕ, zero, suc, ◌+◌, Bool, true, false, not, ◌||◌, cond, List, [], ◌∷◌, ◌++◌, length, take, map, Option, Some, None, option_map, option_and_then, refl, sym, ap, ◌∙◌, arith}
+use Rattle.std.proofs.Math.Seq.{take-append_seam}
+use Rattle.std.proofs.lemmas.Bool.{false≢true}
+use Rattle.std.proofs.lemmas.List.{length-map}
+use Rattle.std.proofs.lemmas.Option.{none-some, same_Some}
+use Rattle.std.specs.List.{slice_get}
+use Rattle.std.specs.Option.{is_some}
+use Rattle.yq_flow_scalars.specs.Answers.{◌>>=◌}
+use Rattle.yq_flow_scalars.specs.Paths.{Step, is_here, further}
+use Rattle.yq_inline.specs.Collections.{CollPieces, change_item, coll_along, put_at}
+use Rattle.yq_inline.specs.Entries.{EntryPieces, item_at}
+use Rattle.yq_inline.specs.Nodes.{Key, Node, empty, alias, scalar, coll, anchored, Items, none, item, items_text, sep_text}
+use Rattle.yq_inline.specs.Trees.{inner, key_content}
+use Rattle.yq_lines.specs.Group.{group}
+use Rattle.yq_lines.specs.Outline.{Outline, end, row, null_node}
+use Rattle.yq_lines.specs.Places.{here, below, FoundLine, find, in_head, inside, lines_before}
+use Rattle.yq_lines.specs.Positions.{is_bare}
+use Rattle.yq_rows.specs.Exchange.{behind_row, with_content}
+use Rattle.yq_rows.specs.Grammar.{begins_document, no_rows}
+use Rattle.yq_rows.specs.Rows.{Content, Inline, Row, Part, Cut, last, marked, rows_text}
+use Rattle.yq_rows.specs.Splices.{behind_part}
+use Rattle.yq_rows.proofs.splices.SpliceTexts.{own_gap, own_end}
+use Rattle.yq_documents.specs.Documents.{begins_bare, document_parts, has_begin}
+use Rattle.yq_documents.specs.PartNumbers.{number_from, part_number}
+use Rattle.yq_documents.specs.Reading.{outline_of}
+use Rattle.yq_documents.specs.LinesInRows.{RowLine, document_row, row_line}
+use Rattle.yq_documents.specs.TreeEdits.{change_nth}
+use Rattle.yq_walk.specs.Lines.{head_of, lines_of}
+use Rattle.yq_places.specs.FlowNodes.{bare_line, content_flow, find_head, flow_collection, head_line, line_collection, part_collection}
+use Rattle.yq_places.proofs.RemovalLines.{front_some}
+use Rattle.yq_places.proofs.WalkDocuments.{row_line_number}
+use Rattle.yq_change.specs.Changed.{put_document, put_part}
+use Rattle.yq_change.specs.DocumentRows.{behind_document}
+use Rattle.yq_change.specs.FlowRows.{FlowAt, InlineRow, behind_node, with_node}
+use Rattle.yq_change.specs.Rooms.{row_shape}
+use Rattle.yq_change.proofs.ChangedLaws.{document_put, first_stays}
+use Rattle.yq_change.proofs.FlowKeptLaws.{one_other}
+use Rattle.yq_change.proofs.FlowPathLaws.{InCut, row_in_cut}
+use Rattle.yq_change.proofs.FlowRowLaws.{node_holds}
+use Rattle.yq_change.proofs.ShapeLaws.{before_strip, find_strip, group_strip, head_strip, rows_strip, strip_found, strip_outline, strip_pair, compose_strip, shapes_lines, stripped}
+
+-- ---- in an inline node
+
+-- a collection with another gap and other items
+abbrev pub other_items : List ℕ → Items → CollPieces → CollPieces
+other_items g is w = record { close = w.close; gap = g; items = is; rest = w.rest }
+
+-- what steps lead to behind an item
+abbrev behind : List Step → Option EntryPieces → Option CollPieces
+behind ss o = option_and_then (λ (y : EntryPieces). coll_along ss y.node y.rest) o
+
+-- an item or entry
+abbrev own : Key → Node → List ℕ → Option EntryPieces
+own key n rest = Some (record { key = key; node = n; rest = rest })
+
+items_stay : (ss : List Step) (k : ℕ) (s : Step) (os : Items) (rest : List ℕ) (w v : CollPieces) (f : Node → Node) → behind ss (item_at k s os rest) ≡ Some w →
+    ((node : Node) (u : List ℕ) → coll_along ss node u ≡ Some w → coll_along ss (f node) u ≡ Some v) → behind ss (item_at k s (change_item s f os) rest) ≡ Some v
+items_stay ss k s none rest w v f e h = absurd (none-some _ e)
+items_stay ss k s (item key n sep os) rest w v f e h = go (is_here s (inner (key_content key))) refl (λ again. items_stay ss k (further s) os rest w v f again h) e
+  where
+    go : (b : Bool) → is_here s (inner (key_content key)) ≡ b → (behind ss (item_at k (further s) os rest) ≡ Some w → behind ss (item_at k (further s) (change_item (further s) f os) rest) ≡ Some v) →
+        behind ss (cond b (own key n (sep_text sep (items_text k os rest))) (item_at k (further s) os rest)) ≡ Some w → behind ss (item_at k s (cond b (item key (f n) sep os) (item key n sep (change_item (further s) f os))) rest) ≡ Some v
+    go true is again e = ap (λ (b : Bool). behind ss (cond b (own key (f n) (sep_text sep (items_text k os rest))) (item_at k (further s) os rest))) is ∙ h n _ e
+    go false is again e = ap (λ (b : Bool). behind ss (cond b (own key n (sep_text sep (items_text k (change_item (further s) f os) rest))) (item_at k (further s) (change_item (further s) f os) rest))) is ∙ again e
+
+pub along_stays : (ss : List Step) (node : Node) (rest : List ℕ) (w : CollPieces) (g : List ℕ) (is : Items) → coll_along ss node rest ≡ Some w → coll_along ss (put_at ss g is node) rest ≡ Some (other_items g is w)
+along_stays [] empty rest w g is e = absurd (none-some _ e)
+along_stays [] (alias n) rest w g is e = absurd (none-some _ e)
+along_stays [] (scalar p) rest w g is e = absurd (none-some _ e)
+along_stays [] (coll k gap os) rest w g is e = ap (λ (x : CollPieces). Some (other_items g is x)) (same_Some _ _ e)
+along_stays [] (anchored n gap node) rest w g is e = along_stays [] node rest w g is e
+along_stays (s ∷ ss) empty rest w g is e = absurd (none-some _ e)
+along_stays (s ∷ ss) (alias n) rest w g is e = absurd (none-some _ e)
+along_stays (s ∷ ss) (scalar p) rest w g is e = absurd (none-some _ e)
+along_stays (s ∷ ss) (coll k gap os) rest w g is e = items_stay ss k s os rest w (other_items g is w) (put_at ss g is) e (λ node u at. along_stays ss node u w g is at)
+along_stays (s ∷ ss) (anchored n gap node) rest w g is e = along_stays (s ∷ ss) node rest w g is e
+
+-- ---- among lines
+
+abbrev Reached : Type 0
+Reached = FoundLine × List Step
+
+bare_strip : (o : Outline) → bare_line (strip_outline o) ≡ option_map strip_found (bare_line o)
+bare_strip end = refl
+bare_strip (row l u a) = go (is_bare l.mark)
+  where
+    go : (b : Bool) → cond b (Some (strip_found (record { place = here; line = l; under = u; after = a }))) None ≡ option_map strip_found (cond b (Some (record { place = here; line = l; under = u; after = a })) None)
+    go true = refl
+    go false = refl
+
+under_strip : (f : FoundLine) (o : Option FoundLine) → option_map {U = Reached} (λ g. (inside (strip_found f) g, [])) (option_map strip_found o) ≡ option_map strip_pair (option_map {U = Reached} (λ g. (inside f g, [])) o)
+under_strip f None = refl
+under_strip f (Some g) = λ i. Some (record (strip_found g) { place = compose_strip f.place (below f.line g.place f.after) i }, [])
+
+line_strip : (f : FoundLine) (left : List Step) → head_line (strip_found f) left ≡ option_map strip_pair (head_line f left)
+line_strip f (s ∷ ss) = refl
+line_strip f [] =
+    ap (in_head (option_map (λ n. null_node) f.line.head) (Some (strip_found f, []))) (ap (option_map {U = Reached} (λ g. (inside (strip_found f) g, []))) (bare_strip f.under) ∙ under_strip f (bare_line f.under))
+    ∙ head_strip f.line.head (Some (f, [])) (option_map {U = Reached} (λ g. (inside f g, [])) (bare_line f.under))
+
+find_head_strip : (steps : List Step) (o : Outline) → find_head steps (strip_outline o) ≡ option_map strip_pair (find_head steps o)
+find_head_strip [] o = ap (option_map {U = Reached} (λ f. (f, []))) (bare_strip o) ∙ go (bare_line o)
+  where
+    go : (r : Option FoundLine) → option_map {U = Reached} (λ f. (f, [])) (option_map strip_found r) ≡ option_map strip_pair (option_map {U = Reached} (λ f. (f, [])) r)
+    go None = refl
+    go (Some f) = refl
+find_head_strip (s ∷ ss) o = ap (λ (r : Option Reached). r >>= λ x. head_line x.0 x.1) (find_strip s ss o) ∙ go (find s ss o)
+  where
+    go : (r : Option Reached) → (option_map strip_pair r >>= λ x. head_line x.0 x.1) ≡ option_map strip_pair (r >>= λ x. head_line x.0 x.1)
+    go None = refl
+    go (Some x) = line_strip x.0 x.1
+
+-- where a path leads in rows of the same shapes
+shape_head : (p q : Part) → map row_shape q.rows ≡ map row_shape p.rows → (steps : List Step) → option_map strip_pair (find_head steps (outline_of q)) ≡ option_map strip_pair (find_head steps (outline_of p))
+shape_head p q h steps =
+    sym (find_head_strip steps (outline_of q))
+    ∙ (ap (find_head steps) (sym (group_strip (lines_of q.rows)) ∙ (ap group (rows_strip q.rows ∙ (ap shapes_lines h ∙ sym (rows_strip p.rows))) ∙ group_strip (lines_of p.rows)))
+    ∙ find_head_strip steps (outline_of p))
+
+-- A line in whose head a path goes on, by how many lines stand before it.
+record SameHead (steps : List Step) (o : Outline) (x : Reached) : Type 0 where
+  line : Reached
+  found : find_head steps o ≡ Some line
+  number : length (lines_before line.0.place) ≡ length (lines_before x.0.place)
+  left : line.1 ≡ x.1
+
+same_head : (p q : Part) → map row_shape q.rows ≡ map row_shape p.rows → (steps : List Step) (x : Reached) → find_head steps (outline_of p) ≡ Some x → SameHead steps (outline_of q) x
+same_head p q h steps x e = go (find_head steps (outline_of q)) refl (shape_head p q h steps ∙ ap (option_map strip_pair) e)
+  where
+    size : (f : FoundLine) → length (lines_before (strip_found f).place) ≡ length (lines_before f.place)
+    size f = ap length (before_strip f.place) ∙ length-map (lines_before f.place) stripped
+
+    go : (o : Option Reached) → find_head steps (outline_of q) ≡ o → option_map strip_pair o ≡ Some (strip_pair x) → SameHead steps (outline_of q) x
+    go None is e = absurd (none-some _ e)
+    go (Some y) is e =
+        let same = same_Some _ _ e in
+        record { line = y; found = is; number = sym (size y.0) ∙ (ap (λ (z : Reached). length (lines_before z.0.place)) same ∙ size x.0); left = ap (λ (z : Reached). z.1) same }
+
+-- ---- in a cut
+
+-- what stands behind a document
+behind_stays : (is : Bool) (k : ℕ) (q : Part) (c : Cut) → behind_part (number_from is k (put_part (number_from is k c) q c)) (put_part (number_from is k c) q c) ≡ behind_part (number_from is k c) c
+behind_stays is k q (last p) = refl
+behind_stays true zero q (marked p marker c) = refl
+behind_stays true (suc k) q (marked p marker c) = behind_stays (begins_document marker) k q c
+behind_stays false k q (marked p marker c) = behind_stays (begins_document marker) k q c
+
+nth_changed : (k : ℕ) (p q : Part) (ps : List Part) → slice_get ps k ≡ Some p → slice_get (change_nth k (λ x. q) ps) k ≡ Some q
+nth_changed k p q [] e = absurd (none-some _ e)
+nth_changed zero p q (x ∷ ps) e = refl
+nth_changed (suc k) p q (x ∷ ps) e = nth_changed k p q ps e
+
+nth_behind : (front : List Row) (r : Row) (back : List Row) → slice_get (front ++ (r ∷ back)) (length front) ≡ Some r
+nth_behind [] r back = refl
+nth_behind (x ∷ front) r back = nth_behind front r back
+
+module _ (c : Cut) (k : ℕ) (steps : List Step) (w : CollPieces) (at : FlowAt c k steps w) (gap : List ℕ) (is : Items) where
+  abbrev i : InlineRow
+  i = at.row
+
+  abbrev m : Node
+  m = put_at at.rest gap is i.node
+
+  abbrev q : Part
+  q = with_node at.part i m
+
+  abbrev new : Cut
+  new = put_document k q c
+
+  abbrev r : Row
+  r = with_content (Inline i.space m i.tail) i.row
+
+  rows_are : q.rows ≡ i.front ++ (r ∷ i.back)
+  rows_are = ap (λ (rs : List Row). i.front ++ (r ∷ rs)) (own_gap i.back at.part.end)
+
+  keeps : no_rows q.rows ≡ true → no_rows at.part.rows ≡ true
+  keeps h = absurd (false≢true (sym (ap no_rows rows_are ∙ front_some i.front r i.back) ∙ h))
+
+  there : slice_get (document_parts new) k ≡ Some q
+  there = ap (λ (ps : List Part). slice_get ps k) (document_put c k at.part q at.there keeps) ∙ nth_changed k at.part q (document_parts c) at.there
+
+  in_new : InCut (part_number k new) new q i.front r i.back
+  in_new = row_in_cut new k q i.front r i.back there rows_are
+
+  same_behind : behind_document k new ≡ behind_document k c
+  same_behind =
+      ap (λ (b : Bool). behind_part (number_from b k new) new) (first_stays c k at.part q at.there keeps) ∙ behind_stays (begins_bare c || not (has_begin c)) k q c
+
+  behind_row_is : behind_row (document_row k new + length i.front) new ≡ rows_text i.back (at.part.end ++ behind_document k c)
+  behind_row_is = in_new.behind ∙ (λ j. rows_text i.back (own_end i.back at.part.end j ++ same_behind j))
+
+  headed : is_some (head_of (Inline i.space m i.tail)) ≡ is_some (head_of i.row.content)
+  headed =
+      let holds = node_holds at.rest i.node (behind_node c k at.part i) w gap is at.at.along in
+      ap is_some holds.head.1 ∙ (sym (ap is_some holds.old_head.1) ∙ sym (ap (λ (x : Content). is_some (head_of x)) at.at.content_is))
+
+  shapes : map row_shape q.rows ≡ map row_shape at.part.rows
+  shapes =
+      let own : row_shape r ≡ row_shape i.row = λ j. record { column = i.row.column; dashes = i.row.dashes; mark = i.row.mark; headed = headed j } in
+      ap (map row_shape) rows_are ∙ (one_other i.front r i.row i.back own ∙ sym (ap (map row_shape) at.at.rows_are))
+
+  head : SameHead steps (outline_of q) (at.line, at.rest)
+  head = same_head at.part q shapes steps (at.line, at.rest) at.at.found
+
+  printed_line : row_line (length (lines_before head.line.0.place)) q.rows ≡ Some (record { before = length i.front; row = r; line = length i.row.dashes })
+  printed_line =
+      let front : take (length i.front) q.rows ≡ i.front = ap (take (length i.front)) rows_are ∙ take-append_seam i.front (r ∷ i.back) in
+      let number : length (lines_before head.line.0.place) ≡ length (lines_of (take (length i.front) q.rows)) + length i.row.dashes =
+      head.number ∙ (sym at.at.number ∙ ap (λ (rs : List Row). length (lines_of rs) + length i.row.dashes) (sym front)) in
+      ap (λ (n : ℕ). row_line n q.rows) number ∙ row_line_number q.rows (length i.front) (length i.row.dashes) r (ap (λ (rs : List Row). slice_get rs (length i.front)) rows_are ∙ nth_behind i.front r i.back) (omega arith)
+
+  pub flow_stays : flow_collection k steps (put_document k (with_node at.part at.row (put_at at.rest gap is at.row.node)) c) ≡ Some (other_items gap is w)
+  flow_stays =
+      ap (λ (o : Option Part). o >>= part_collection (document_row k new) new steps) there
+      ∙ (ap (λ (o : Option Reached). o >>= λ x. line_collection (document_row k new) new q.rows (length (lines_before x.0.place)) x.1) head.found
+      ∙ (ap (λ (o : Option RowLine). o >>= λ s. content_flow head.line.1 s.row.content (behind_row (document_row k new + s.before) new)) printed_line
+      ∙ ((λ j. coll_along (head.left j) m (i.tail ++ behind_row_is j)) ∙ along_stays at.rest i.node (behind_node c k at.part i) w gap is at.at.along)))

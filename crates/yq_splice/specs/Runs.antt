@@ -1,0 +1,106 @@
+-- Values put one behind the other in one flow collection, whose row's head was read once (YAML 1.2.2, 7.4; own).
+use Rattle.std.specs.Prelude.{◌≡◌, ⊤, ℕ, ◌-◌, ◌<◌, ◌≤◌, List, [], ◌++◌, drop, take, length, Option, Some, None, string_bytes}
+use Rattle.std.specs.Str.{IsCharBoundary}
+use Rattle.yq_flow_scalars.specs.Characters.{text_limit}
+use Rattle.yq_flow_scalars.specs.Paths.{Step}
+use Rattle.yq_flow_scalars.specs.Tree.{Node}
+use Rattle.yq_inline.specs.Collections.{CollPieces}
+use Rattle.yq_inline.specs.Entries.{EntryPieces, item_at}
+use Rattle.yq_flow.specs.Valued.{IsValueTree}
+use Rattle.yq_rows.specs.Rows.{Cut, cut_text}
+use Rattle.yq_documents.specs.Reading.{cut_of, read_at}
+use Rattle.yq_places.specs.FlowNodes.{flow_collection}
+use Rattle.yq_places.specs.NodesAt.{node_in}
+use Rattle.yq_places.specs.Standings.{FlowPart, flow_standing, last_step}
+use Rattle.yq_places.specs.declared.places.flow_node.FlowHead.{FlowHead}
+use Rattle.yq_meaning.specs.Operations.{Operation, replace}
+use Rattle.yq_meaning.specs.declared.refusal.Refusal.TheVariants.{TooLarge}
+use Rattle.yq_script.specs.Script.{splice_at}
+use Rattle.yq_script.specs.Splice.{Splice}
+use Rattle.yq_flow_edits.specs.PartPuts.{IsPlaceOf, IsWritten}
+use Rattle.yq_flow_edits.specs.declared.put.PartPut.{PartPut}
+use Rattle.yq_splice.specs.Carried.{carried}
+use Rattle.yq_splice.specs.Edit.{gives}
+use Rattle.yq_splice.specs.Theorems.{IsApplied}
+use Rattle.yq_splice.specs.declared.edit_error.EditError.{EditError}
+use Rattle.yq_splice.specs.declared.edit_error.EditError.TheVariants as error
+use Rattle.yq_splice.specs.declared.run.Run.{Run}
+
+-- a text whose first bytes gave way to others (own)
+abbrev pub run_text : List ℕ → (out : List ℕ) → (done : ℕ) → List ℕ
+run_text t out done = out ++ drop done t
+
+-- A collection stands where steps lead in another cut too, and of its items and entries those behind which less than so many bytes stand are the
+-- same there (own).
+pub record StayBehind (w : CollPieces) (n : ℕ) (steps : List Step) (c : Cut) (left : ℕ) : Type 0 where
+  pub now : CollPieces
+  pub found : flow_collection n steps c ≡ Some now
+  pub later : (s : Step) (y : EntryPieces) → item_at w.close s w.items w.rest ≡ Some y → length y.rest < left → item_at now.close s now.items now.rest ≡ Some y
+
+-- The first bytes of a cut's text gave way to others, by values put at parts of the collection to which steps lead: the text reads, and the parts in the
+-- bytes that stay are as they were (own).
+pub record IsRun (c : Cut) (n : ℕ) (steps : List Step) (out : List ℕ) (done : ℕ) : Type 0 where
+  pub within : done ≤ length (cut_text c)
+  pub edge : IsCharBoundary (cut_text c) done
+  pub cut : Cut
+  pub read : read_at (run_text (cut_text c) out done) ≡ Some cut
+  pub stays : (w : CollPieces) → flow_collection n steps c ≡ Some w → StayBehind w n steps cut (length (cut_text c) - done)
+
+-- the steps before the last one, if there is one (own)
+abbrev pub above_in : Option (List Step × Step) → List Step
+above_in None = []
+above_in (Some x) = x.0
+
+-- the steps to the collection in which a path ends (own)
+abbrev pub steps_above : List Step → List Step
+steps_above steps = above_in (last_step steps)
+
+-- a path ends in the collection to which steps lead (own)
+abbrev pub EndsIn : (above steps : List Step) → Type 0
+EndsIn above steps = (s : Step) × (last_step steps ≡ Some (above, s))
+
+-- the text that a run has made so far (own)
+abbrev pub now_text : Cut → Run → List ℕ
+now_text c r = run_text (cut_text c) (string_bytes r.text) r.done
+
+-- a run of the code is one (own)
+abbrev pub Runs : Cut → ℕ → List Step → Run → Type 0
+Runs c n steps r = IsRun c n steps (string_bytes r.text) r.done
+
+-- An operation puts a value at a part of the collection to which steps lead in document n of a text, in the head of a row that was read (own).
+pub record PutsAt (op : Operation) (t : List ℕ) (n : ℕ) (steps : List Step) (x : FlowHead) (p : PartPut) : Type 0 where
+  pub path : List Step
+  pub value : Node
+  pub operation : op ≡ replace n path value
+  pub valid : IsValueTree value
+  pub step : Step
+  pub last : last_step path ≡ Some (steps, step)
+  pub part : FlowPart
+  pub standing : flow_standing n (cut_of t) (last_step path) ≡ Some part
+  pub placed : IsPlaceOf (cut_text (cut_of t)) value part x p.place
+  pub written : IsWritten (node_in n path (cut_of t)) value part p.written
+
+-- what a run has written, with what stays up to a place (own)
+abbrev pub run_front : List ℕ → Run → ℕ → List ℕ
+run_front t r start = string_bytes r.text ++ drop r.done (take start t)
+
+-- A text has come in the place of what stands between two places, and the whole is no larger than a text may be (own).
+pub record HasPut (t : List ℕ) (start end : ℕ) (new : List ℕ) (before after : Run) : Type 0 where
+  pub text : string_bytes after.text ≡ run_front t before start ++ new
+  pub done : after.done ≡ end
+  pub splices : after.splices.items ≡ before.splices.items ++ splice_at (length (run_front t before start)) (drop start (take end t)) new
+  pub size : length (run_text t (run_front t before start ++ new) end) ≤ text_limit
+
+-- why it has not: the whole would be too large, or memory ran out (own)
+abbrev pub PutFails : EditError → List ℕ → (start end : ℕ) → List ℕ → Run → Type 0
+PutFails (error.Read fault) t start end new r = ⊥
+PutFails (error.Refused why) t start end new r = (why ≡ TooLarge) × (text_limit < length (run_text t (run_front t r start ++ new) end))
+PutFails error.Memory t start end new r = ⊤
+
+-- An operation is carried out on the text of a run, which goes on behind it (own).
+pub record RunsOn (op : Operation) (c : Cut) (n : ℕ) (steps : List Step) (before after : Run) : Type 0 where
+  pub new_bytes : List Splice
+  pub comes : carried op (now_text c before) ≡ gives (now_text c after) new_bytes
+  pub applied : IsApplied op (now_text c before) (now_text c after) new_bytes
+  pub splices : after.splices.items ≡ before.splices.items ++ new_bytes
+  pub run : Runs c n steps after
