@@ -150,7 +150,8 @@ pub(crate) fn carry_plan(
     requires same { documents ≡ text.now }
     requires read { read_at text.now ≡ Some (cut_of documents) }
     requires serves { AreServed (operations_of ops.now) text.now }
-    ensures { Edits result (behind splices.items (spec.carry_all (operations_of ops.now) text.now)) }
+    ensures { Edits result (behind splices.items (spec.carry_all (operations_of ops.now)
+        text.now)) }
 {
     if let [op] = ops {
         let edited = carry_one(alloc, &documents.cut(), op)?;
