@@ -47,23 +47,23 @@ fn commit<D: Store>(
     state: &mut Journal,
     expr: &str,
     splices: Vec<Splice>,
-    old: &[u8],
+    old: Vec<u8>,
     new: &[u8],
 ) -> Result<(), Fault>
     requires at_rest { IsNone state.old.pending }
-    requires lengths { lengths_done splices.items (length old.now) ≡ Some (length new.now) }
-    requires leads { all_done splices.items old.now ≡ Some new.now }
-    requires changes { new.now ≢ old.now }
+    requires lengths { lengths_done splices.items (length old.items) ≡ Some (length new.now) }
+    requires leads { all_done splices.items old.items ≡ Some new.now }
+    requires changes { new.now ≢ old.items }
     ensures arrives { IsTrue D.keeps → file.now ≢ journal.now → (h : History) → (p : spec.Program) →
-        PairAtRest (D.content store.old) file.now journal.now state.old old.now h →
-        edits p old.now ≡ edited new.now splices.items →
+        PairAtRest (D.content store.old) file.now journal.now state.old old.items h →
+        edits p old.items ≡ edited new.now splices.items →
         Arrives (D.content store.new) file.now journal.now (update_cause (Ok p) (Some h)) (Some h)
         (update_next expr.now (Ok p) (Some h)) result }
     ensures text { IsTrue D.keeps → file.now ≢ journal.now →
         OnOk result (map.get (D.content store.new) file.now ≡ Some new.now) }
     ensures effect { IsTrue D.keeps → file.now ≢ journal.now → (p : spec.Program) →
-        edits p old.now ≡ edited new.now splices.items →
-        Works (edit_effect expr.now (edits p old.now) old.now state.old) file.now journal.now
+        edits p old.items ≡ edited new.now splices.items →
+        Works (edit_effect expr.now (edits p old.items) old.items state.old) file.now journal.now
         (D.content store.old) (D.content store.new) result }
     ensures kept { IsTrue D.keeps → IfErr result (λ e. is_outside e ≡ false →
         D.content store.new ≡ D.content store.old) }
@@ -72,7 +72,7 @@ fn commit<D: Store>(
     ensures no_output { IfErr result (λ e. is_output e ≡ false) }
     ensures count { D.failures store.new ≡ counted result (D.failures store.old) }
 {
-    let edit = record_of(alloc, expr, splices, old, new)?;
+    let edit = record_of(alloc, expr, splices, &old, new)?;
     carry_out(
         alloc,
         store,
@@ -94,20 +94,20 @@ pub fn edit_from<D: Store>(
     state: &mut Journal,
     program: &Program,
     expr: &str,
-    text: &[u8],
+    text: Vec<u8>,
 ) -> Result<(), Fault>
     requires at_rest { IsNone state.old.pending }
     ensures arrives { IsTrue D.keeps → file.now ≢ journal.now → (h : History) →
-        PairAtRest (D.content store.old) file.now journal.now state.old text.now h →
+        PairAtRest (D.content store.old) file.now journal.now state.old text.items h →
         Arrives (D.content store.new) file.now journal.now
         (update_cause (Ok (program_of program.now)) (Some h)) (Some h)
         (update_next expr.now (Ok (program_of program.now)) (Some h)) result }
     ensures effect { IsTrue D.keeps → file.now ≢ journal.now →
-        Works (edit_effect expr.now (edits (program_of program.now) text.now) text.now state.old)
-        file.now journal.now (D.content store.old) (D.content store.new) result }
+        Works (edit_effect expr.now (edits (program_of program.now) text.items) text.items
+        state.old) file.now journal.now (D.content store.old) (D.content store.new) result }
     ensures edited { IsTrue D.keeps → file.now ≢ journal.now →
-        map.get (D.content store.old) file.now ≡ Some text.now →
-        OnOk result (HoldsEdited (program_of program.now) text.now
+        map.get (D.content store.old) file.now ≡ Some text.items →
+        OnOk result (HoldsEdited (program_of program.now) text.items
         (map.get (D.content store.new) file.now)) }
     ensures kept { IsTrue D.keeps → IfErr result (λ e. is_outside e ≡ false →
         D.content store.new ≡ D.content store.old) }
@@ -119,9 +119,9 @@ pub fn edit_from<D: Store>(
     let Edited {
         text: edited_to,
         splices,
-    } = edit_text(alloc, program, text)?;
+    } = edit_text(alloc, program, text.as_slice())?;
     let new = edited_to.as_bytes();
-    if new == text {
+    if new == text.as_slice() {
         return Ok(());
     }
     commit(alloc, store, file, journal, state, expr, splices, text, new)

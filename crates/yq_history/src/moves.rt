@@ -20,7 +20,7 @@ use yq_journal::{Journal, Move};
 use yq_store::Store;
 
 /// Carries out a move that changes the text, in three writes: the journal with the move open, the
-/// file, and the journal settled.
+/// file, and the journal settled. The journal takes the old text, of which nobody else keeps a copy.
 pub fn carry_out<D: Store>(
     alloc: Global,
     store: &mut D,
@@ -28,17 +28,17 @@ pub fn carry_out<D: Store>(
     journal: &str,
     state: &mut Journal,
     step: Move,
-    old: &[u8],
+    old: Vec<u8>,
     new: &[u8],
 ) -> Result<(), Fault>
     requires at_rest { IsNone state.old.pending }
-    requires moves { moved_text state.old.records state.old.at step old.now ≡ Some new.now }
-    requires changes { new.now ≢ old.now }
+    requires moves { moved_text state.old.records state.old.at step old.items ≡ Some new.now }
+    requires changes { new.now ≢ old.items }
     ensures ok { IsTrue D.keeps → file.now ≢ journal.now → (h : History) →
-        PairAtRest (D.content store.old) file.now journal.now state.old old.now h →
+        PairAtRest (D.content store.old) file.now journal.now state.old old.items h →
         OnOk result (PairStands (D.content store.new) file.now journal.now (after_move h step new.now)) }
     ensures err { IsTrue D.keeps → file.now ≢ journal.now → (h : History) →
-        PairAtRest (D.content store.old) file.now journal.now state.old old.now h →
+        PairAtRest (D.content store.old) file.now journal.now state.old old.items h →
         OnErr result (PairStands (D.content store.new) file.now journal.now h ⊎ PairStands
         (D.content store.new) file.now journal.now (after_move h step new.now)) }
     ensures text { IsTrue D.keeps → file.now ≢ journal.now →
@@ -46,7 +46,7 @@ pub fn carry_out<D: Store>(
     ensures moved { IsTrue D.keeps → OnOk result (IsJournal (map.get (D.content store.new) journal.now)
         (moved state.old step)) }
     ensures cut { IsTrue D.keeps → file.now ≢ journal.now →
-        OnErr result (IsMoveCutShort state.old step old.now new.now file.now journal.now
+        OnErr result (IsMoveCutShort state.old step old.items new.now file.now journal.now
         (D.content store.old) (D.content store.new)) }
     ensures fault { IfErr result (λ e. is_outside e ≡ false →
         option_map of_fault (no_way state.old.records state.old.at step) ≡ Some e) }
@@ -61,10 +61,7 @@ pub fn carry_out<D: Store>(
     ensures no_output { IfErr result (λ e. is_output e ≡ false) }
     ensures count { D.failures store.new ≡ counted result (D.failures store.old) }
 {
-    match state.start(step, old) {
-        Ok(()) => (),
-        Err((_step, error)) => return Err(Fault::from(error)),
-    }
+    state.start_with(step, old)?;
     write_journal(alloc, store, journal, state)?;
     store.replace(file, new)?;
     state.settle(new)?;
@@ -114,16 +111,16 @@ fn move_from<D: Store>(
     journal: &str,
     state: &mut Journal,
     dir: Direction,
-    text: &[u8],
+    text: Vec<u8>,
 ) -> Result<(), Fault>
     requires at_rest { IsNone state.old.pending }
     ensures arrives { IsTrue D.keeps → file.now ≢ journal.now → (h : History) →
-        PairAtRest (D.content store.old) file.now journal.now state.old text.now h →
+        PairAtRest (D.content store.old) file.now journal.now state.old text.items h →
         Arrives (D.content store.new) file.now journal.now (move_cause (step_of dir) (Some h))
         (Some h) (move_next (step_of dir) (Some h)) result }
     ensures effect { IsTrue D.keeps → file.now ≢ journal.now →
-        map.get (D.content store.old) file.now ≡ Some text.now →
-        Works (move_effect (step_of dir) text.now state.old) file.now journal.now
+        map.get (D.content store.old) file.now ≡ Some text.items →
+        Works (move_effect (step_of dir) text.items state.old) file.now journal.now
         (D.content store.old) (D.content store.new) result }
     ensures kept { IsTrue D.keeps → IfErr result (λ e. is_outside e ≡ false →
         D.content store.new ≡ D.content store.old) }
@@ -132,9 +129,10 @@ fn move_from<D: Store>(
     ensures no_output { IfErr result (λ e. is_output e ≡ false) }
     ensures count { D.failures store.new ≡ counted result (D.failures store.old) }
 {
-    let new = state.target(alloc, &dir.step(), text)?;
-    if new.as_slice() == text {
-        move_only(alloc, store, journal, state, dir, text)
+    let old = text.as_slice();
+    let new = state.target(alloc, &dir.step(), old)?;
+    if new.as_slice() == old {
+        move_only(alloc, store, journal, state, dir, old)
     } else {
         carry_out(alloc, store, file, journal, state, dir.step(), text, &new)
     }
@@ -163,13 +161,5 @@ pub fn move_file<D: Store>(
     ensures count { D.failures store.new ≡ counted result (D.failures store.old) }
 {
     let (text, mut state) = open_pair(alloc, store, file, journal)?;
-    move_from(
-        alloc,
-        store,
-        file,
-        journal,
-        &mut state,
-        dir,
-        text.as_slice(),
-    )
+    move_from(alloc, store, file, journal, &mut state, dir, text)
 }

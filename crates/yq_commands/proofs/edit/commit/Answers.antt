@@ -1,8 +1,9 @@
-use Rattle.std.proofs.Common.{◌∙◌, sym, ap, subst}
+use Rattle.std.proofs.Common.{ℕ, List, length, ◌∙◌, sym, ap, subst}
 use Rattle.std.proofs.lemmas.Result.{err_from_is_err_and}
 use Rattle.yq_history.specs.Effects.{Works}
 use Rattle.yq_commands.specs.CommandEffects.{edit_effect}
 use Rattle.yq_commands.specs.Editing.{edits}
+use Rattle.yq_commands.specs.Edits.{edit_record}
 use Rattle.yq_history.specs.Faults.{is_outside}
 use Rattle.yq_journal.specs.Record.{Record, done}
 use Rattle.yq_commands.proofs.EditLaws.{edit_done, edit_ends}
@@ -13,8 +14,9 @@ use Rattle.yq_commands.proofs.edit.commit.Goals as goal
 pub returns-clause-arrives : goal.returns-clause-arrives
 returns-clause-arrives g c = λ keeps apart h p k gives.
     let e = c.carry_out.ensures in
-    let leads = ap (λ (r : Record). done r c.args.old.now) c.in_ok-edit.ensures ∙ edit_done c.args.expr.now _ c.args.old.now c.args.new.now c.requires.leads in
-    edit_ends _ _ _ h _ p _ _ k _ _ _ _ c.in_ok-edit.ensures gives c.requires.changes c.carry_out.result
+    let made = c.in_ok-edit.ensures ∙ ap (λ (b : List ℕ). edit_record c.args.expr.now c.args.splices.items (length b) (length c.args.new.now)) c.deref.ensures.value in
+    let leads = ap (λ (r : Record). done r c.args.old.items) made ∙ edit_done c.args.expr.now _ c.args.old.items c.args.new.now c.requires.leads in
+    edit_ends _ _ _ h _ p _ _ k _ _ _ _ made gives c.requires.changes c.carry_out.result
     (record {
       leads = leads;
       ok = e.ok keeps apart;
@@ -31,15 +33,16 @@ pub returns-in_err-edit-clause-effect : goal.returns-in_err-edit-clause-effect
 returns-in_err-edit-clause-effect g c = λ keeps apart p gives.
     let r = err_from_is_err_and c.from_residual.result c.from_residual.ensures.1 in
     let content = g.D.Store.content c.args.store.now in
-    let effect = edit_effect c.args.expr.now (edits p c.args.old.now) c.args.old.now c.args.state.now in
+    let effect = edit_effect c.args.expr.now (edits p c.args.old.items) c.args.old.items c.args.state.now in
     subst (Works effect c.args.file.now c.args.journal.now content content) (sym r.1) (works_outside (Unit {0}) effect c.args.file.now c.args.journal.now content r.0 (ap is_outside r.2))
 
 pub returns-clause-effect : goal.returns-clause-effect
 returns-clause-effect g c = λ keeps apart p gives.
     let e = c.carry_out.ensures in
-    let leads = ap (λ (r : Record). done r c.args.old.now) c.in_ok-edit.ensures ∙ edit_done c.args.expr.now _ c.args.old.now c.args.new.now c.requires.leads in
-    edit_works c.args.file.now c.args.journal.now (g.D.Store.content c.args.store.now) c.args.expr.now c.args.state.now c.args.old.now _ _ _ c.in_ok-edit.ensures
-    (edits p c.args.old.now) _ c.carry_out.result gives c.requires.changes
+    let made = c.in_ok-edit.ensures ∙ ap (λ (b : List ℕ). edit_record c.args.expr.now c.args.splices.items (length b) (length c.args.new.now)) c.deref.ensures.value in
+    let leads = ap (λ (r : Record). done r c.args.old.items) made ∙ edit_done c.args.expr.now _ c.args.old.items c.args.new.now c.requires.leads in
+    edit_works c.args.file.now c.args.journal.now (g.D.Store.content c.args.store.now) c.args.expr.now c.args.state.now c.args.old.items _ _ _ made
+    (edits p c.args.old.items) _ c.carry_out.result gives c.requires.changes
     (record {
       leads = leads;
       ok = e.ok keeps apart;

@@ -17,10 +17,11 @@ returns-clause-arrives g c = λ keeps apart h k.
     c.commit.ensures.arrives keeps apart h (program_of c.args.program.now) k cc
 
 pub returns-in_err-edited_to-clause-effect : goal.returns-in_err-edited_to-clause-effect
-returns-in_err-edited_to-clause-effect g c = λ keeps apart.
+returns-in_err-edited_to-clause-effect g c =
     let p = err_from_is_err_and c.from_residual.result c.from_residual.ensures.1 in
-    edit_fails c.args.file.now c.args.journal.now (g.D.Store.content c.args.store.now) c.args.expr.now c.args.state.now c.args.text.now
-    (edits (program_of c.args.program.now) c.args.text.now) c.from_residual.result _ (p.1 ∙ ap Err p.2) c.in_err-edited_to.ensures.err
+    rw (← c.as_slice.ensures.value)
+    (λ keeps apart. edit_fails c.args.file.now c.args.journal.now (g.D.Store.content c.args.store.now) c.args.expr.now c.args.state.now c.as_slice.result.now
+    (edits (program_of c.args.program.now) c.as_slice.result.now) c.from_residual.result _ (p.1 ∙ ap Err p.2) c.in_err-edited_to.ensures.err)
 
 pub returns-clause-effect : goal.returns-clause-effect
 returns-clause-effect g c = λ keeps apart.
@@ -31,14 +32,16 @@ returns-clause-effect g c = λ keeps apart.
     c.commit.ensures.effect keeps apart (program_of c.args.program.now) cc
 
 pub returns-then-eq-clause-edited : goal.returns-then-eq-clause-edited
-returns-then-eq-clause-edited g c = λ keeps apart there.
+returns-then-eq-clause-edited g c =
     let edited_to = c.in_ok-edited_to.edited_to-is in
     let slice = c.as_bytes-new.ensures.value in
-    let same = (bytes_eq-Decides c.as_bytes-new.result.now c.args.text.now).0 (sym c.eq.ensures ∙ c.if-eq.true) in
-    holds_comes (program_of c.args.program.now) c.args.text.now _ c.args.text.now _ c.in_ok-edited_to.ensures.edited (cc) there
+    let same = (bytes_eq-Decides c.as_bytes-new.result.now c.as_slice-2.result.now).0 (sym c.eq.ensures ∙ c.if-eq.true) ∙ c.as_slice-2.ensures.value ∙ sym c.as_slice.ensures.value in
+    rw (← c.as_slice.ensures.value)
+    (λ keeps apart there. holds_comes (program_of c.args.program.now) c.as_slice.result.now _ c.as_slice.result.now _ c.in_ok-edited_to.ensures.edited (cc) there)
 
 pub returns-clause-edited : goal.returns-clause-edited
-returns-clause-edited g c = λ keeps apart there.
+returns-clause-edited g c =
     let edited_to = c.in_ok-edited_to.edited_to-is in
     let slice = c.as_bytes-new.ensures.value in
-    on_ok_map _ (c.commit.ensures.text keeps apart) (holds_comes (program_of c.args.program.now) c.args.text.now _ c.as_bytes-new.result.now _ c.in_ok-edited_to.ensures.edited (cc))
+    rw (← c.as_slice.ensures.value)
+    (λ keeps apart there. on_ok_map _ (c.commit.ensures.text keeps apart) (holds_comes (program_of c.args.program.now) c.as_slice.result.now _ c.as_bytes-new.result.now _ c.in_ok-edited_to.ensures.edited (cc)))

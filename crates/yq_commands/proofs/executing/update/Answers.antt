@@ -1,4 +1,4 @@
-use Rattle.std.proofs.Common.{ℕ, List, Some, Err, sym, ap, ◌∙◌}
+use Rattle.std.proofs.Common.{ℕ, List, Err, ap, ◌∙◌}
 use Rattle.yq_journal.specs.State.{State}
 use Rattle.std.proofs.lemmas.Result.{err_from_is_err_and}
 use Rattle.yq_program.specs.View.{program_of}
@@ -26,16 +26,15 @@ pub returns-clause-effect : goal.returns-clause-effect
 returns-clause-effect g c = λ keeps apart.
     let does = λ (t : List ℕ) (s : State). edit_effect c.args.expr.now (edits (program_of c.in_ok-program.program) t) t s in
     parsed_works _ _ (g.D.Store.content c.args.store.now) _ c.args.expr.now (program_of c.in_ok-program.program) _ _ c.edit_from.result c.in_ok-program.ensures.ok
-    (from_opened _ _ does _ _ (g.D.Store.content c.args.store.now) _ _ c.as_slice.result.now c.in_ok-text.state c.edit_from.result (c.in_ok-text.ensures.same keeps)
-    (c.in_ok-text.ensures.found keeps does ∙ ap (λ t. does t c.in_ok-text.state) (sym c.as_slice.ensures.value))
+    (from_opened _ _ does _ _ (g.D.Store.content c.args.store.now) _ _ c.in_ok-text.text.items c.in_ok-text.state c.edit_from.result (c.in_ok-text.ensures.same keeps)
+    (c.in_ok-text.ensures.found keeps does)
     (c.edit_from.ensures.effect keeps apart))
 
 pub returns-clause-edited : goal.returns-clause-edited
 returns-clause-edited g c = λ keeps apart.
     let same = c.in_ok-text.ensures.same keeps in
-    let slice = c.as_slice.ensures.value in
-    let held = c.in_ok-text.ensures.text keeps ∙ ap Some (sym slice) in
-    file_comes c.edit_from.result c.args.expr.now (program_of c.in_ok-program.program) c.as_slice.result.now _ _ c.in_ok-program.ensures.ok held
+    let held = c.in_ok-text.ensures.text keeps in
+    file_comes c.edit_from.result c.args.expr.now (program_of c.in_ok-program.program) c.in_ok-text.text.items _ _ c.in_ok-program.ensures.ok held
     (c.edit_from.ensures.edited keeps apart (ap (λ m. get m c.args.file.now) same ∙ held))
 
 pub returns-in_err-program-clause-unparsed : goal.returns-in_err-program-clause-unparsed

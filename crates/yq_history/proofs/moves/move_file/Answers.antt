@@ -1,4 +1,4 @@
-use Rattle.std.proofs.Common.{Err, sym, ap, ◌∙◌, Some}
+use Rattle.std.proofs.Common.{Err, ap, ◌∙◌}
 use Rattle.std.specs.FinMap.{get}
 use Rattle.std.proofs.lemmas.Result.{err_from_is_err_and}
 use Rattle.yq_history.specs.Effects.{move_effect}
@@ -14,6 +14,5 @@ returns-in_err-text-clause-effect g c = λ keeps apart.
 pub returns-clause-effect : goal.returns-clause-effect
 returns-clause-effect g c = λ keeps apart.
     let same = c.in_ok-text.ensures.same keeps in
-    let slice = c.as_slice.ensures.value in
-    from_opened _ _ (move_effect (step_of c.args.dir)) _ _ (g.D.Store.content c.args.store.now) _ _ c.as_slice.result.now c.in_ok-text.state c.move_from.result same (c.in_ok-text.ensures.found keeps (move_effect (step_of c.args.dir)) ∙ ap (λ t. move_effect (step_of c.args.dir) t c.in_ok-text.state) (sym slice))
-    (c.move_from.ensures.effect keeps apart (ap (λ m. get m c.args.file.now) same ∙ c.in_ok-text.ensures.text keeps ∙ ap Some (sym slice)))
+    from_opened _ _ (move_effect (step_of c.args.dir)) _ _ (g.D.Store.content c.args.store.now) _ _ c.in_ok-text.text.items c.in_ok-text.state c.move_from.result same (c.in_ok-text.ensures.found keeps (move_effect (step_of c.args.dir)))
+    (c.move_from.ensures.effect keeps apart (ap (λ m. get m c.args.file.now) same ∙ c.in_ok-text.ensures.text keeps))
