@@ -1,9 +1,7 @@
 -- The effects of edits, from the contracts of the calls of which they are made.
 use Rattle.std.proofs.Common.{◌≡◌, ◌≢◌, ℕ, Bool, true, false, nat_le, List, [], length, Option, Some, None, Result, Ok, Err, MatchBool, if◌then◌else◌, sym, ap, ◌∙◌, subst, refl}
-use Rattle.std.proofs.lemmas.Slice.Eq.{bytes_eq-Decides}
 use Rattle.yq_program.specs.Program.{Program}
 use Rattle.yq_script.specs.Splice.{Splice}
-use Rattle.yq_journal.specs.declared.fault.JournalFault.{JournalFault}
 use Rattle.yq_journal.specs.declared.fault.JournalFault.TheVariants as journal
 use Rattle.yq_journal.specs.declared.moves.Move.TheVariants as move
 use Rattle.yq_journal.specs.Record.{Record}
@@ -45,13 +43,6 @@ module _ (f j : List ℕ) (c : FileMap) (expr : List ℕ) (s : State) (t : List 
   by_tests u cs equal full =
       if equal then writes_nothing []
       else if full then refuses (named fault.JournalFull) else edit_writes (edit_record expr cs (length t) (length u)) t u s
-
-  -- the edited text is the old one: nothing is written
-  pub edit_equal_works : (o : EditOutcome) (u : List ℕ) (cs : List Splice) {T : Type 0} (v : T) → o ≡ edited u cs → u ≡ t → Works (edit_effect expr o t s) f j c c {T = T} (Ok v)
-  edit_equal_works o u cs {T = T} v is same =
-      subst (λ x. Works x f j c c {T = T} (Ok v))
-      (sym (ap (λ x. edit_effect expr x t s) is ∙ ap (λ b. by_tests u cs b (nat_le most_records s.at)) ((bytes_eq-Decides u t).1 same)))
-      refl
 
   -- an edit to another text is a move
   module _ (u : List ℕ) (cs : List Splice) (edit : Record) (is_edit : edit ≡ edit_record expr cs (length t) (length u)) where

@@ -1,5 +1,5 @@
 -- The effects of commands, from the contracts of the calls of which they are made.
-use Rattle.std.proofs.Common.{◌≡◌, ◌⊎◌, inl, inr, ℕ, Bool, true, false, ◌==◌, List, [], Option, Some, None, Result, Ok, Err, OnOk, OnErr, IfErr, IsTrue, MatchBool, if◌then◌else◌, sym, ap, ◌∙◌, subst, refl}
+use Rattle.std.proofs.Common.{◌≡◌, ◌⊎◌, inl, ℕ, Bool, true, false, ◌==◌, List, [], Option, Some, None, Result, Ok, Err, OnOk, OnErr, IfErr, IsTrue, MatchBool, if◌then◌else◌, sym, ap, ◌∙◌, subst, refl}
 use Rattle.std.specs.Option.{option_or}
 use Rattle.std.proofs.lemmas.Option.{same_Some, none-some}
 use Rattle.std.specs.FinMap.{get}
@@ -14,12 +14,11 @@ use Rattle.yq_journal.specs.Refusals.{ErrorIs, Reports, no_way, if_moves, way_fa
 use Rattle.yq_journal.specs.State.{State, moved, moved_text, opened, settled, squashed}
 use Rattle.yq_history.specs.declared.fault.Fault.{Fault}
 use Rattle.yq_history.specs.declared.fault.Fault.TheVariants as fault
-use Rattle.yq_store.specs.declared.store.FileReadError.{FileReadError}
 use Rattle.yq_store.specs.declared.store.FileReadError.TheVariants as read
 use Rattle.yq_history.specs.declared.direction.Direction.{Direction}
 use Rattle.yq_store.specs.FileMap.{FileMap}
 use Rattle.yq_history.specs.Effects.{Effect, refuses, writes_nothing, writes_both, from_pair, from_journal, from_settled, leads_to, goes_to, move_effect, joins_to, squash_effect, IsCutShort, Works}
-use Rattle.yq_history.specs.Faults.{is_outside, of_fault, of_journal, of_read}
+use Rattle.yq_history.specs.Faults.{is_outside, of_fault, of_journal}
 use Rattle.yq_history.specs.Pair.{IsJournal}
 use Rattle.yq_history.specs.Causes.{IsFor, named}
 use Rattle.yq_history.specs.Directions.{step_of}
@@ -130,29 +129,10 @@ module _ (file beside : Option (List ℕ)) where
   abbrev pub Refused : Fault → Type 0
   Refused e = is_outside e ≡ false → (go : List ℕ → State → Effect) → from_pair file beside go ≡ refuses (named e)
 
-  not_outside : (e : Fault) → is_outside e ≡ true → Refused e
-  not_outside e out = λ no. let bad : true ≡ false = sym out ∙ no in cc
-
-  -- the file was not read
-  pub unread_file : (e : Fault) (x : FileReadError) → e ≡ of_read x → (x ≡ read.NotThere → file ≡ None) → Refused e
-  unread_file e read.NotThere is absent = subst Refused (sym is) (λ no go. ap (λ o. from_pair o beside go) (absent refl))
-  unread_file e read.ReadFailed is absent = subst Refused (sym is) (not_outside fault.ReadFailed refl)
-  unread_file e read.OutOfMemory is absent = subst Refused (sym is) (not_outside fault.OutOfMemory refl)
-
   module _ (t : List ℕ) (file_is : file ≡ Some t) where
-    -- nor the journal
-    pub unread_journal : (e : Fault) → ((e ≡ fault.BadJournal) × (journal_beside beside ≡ None)) ⊎ IsTrue (is_outside e) → Refused e
-    unread_journal e (inl p) = subst Refused (sym p.0) (λ no go. ap (λ o. from_pair o beside go) file_is ∙ ap (λ o. from_journal o t go) p.1)
-    unread_journal e (inr out) = not_outside e out
-
     module _ (s : State) (journal_is : journal_beside beside ≡ Some s) where
       settling : (go : List ℕ → State → Effect) → from_pair file beside go ≡ from_settled (settled s t) t go
       settling go = ap (λ o. from_pair o beside go) file_is ∙ ap (λ o. from_journal o t go) journal_is
-
-      -- nor settled
-      pub unsettled : (e : Fault) (x : JournalError) → e ≡ of_journal x → (x ≡ error.Memory) ⊎ ((x ≡ error.Fault journal.Unsettled) × (settled s t ≡ None)) → Refused e
-      unsettled e x is (inl memory) = not_outside e (ap is_outside (is ∙ ap of_journal memory))
-      unsettled e x is (inr p) = subst Refused (sym (is ∙ ap of_journal p.0)) (λ no go. settling go ∙ ap (λ o. from_settled o t go) p.1)
 
       -- both were read, and settled
       pub settles : (r : State) → settled s t ≡ Some r → (go : List ℕ → State → Effect) → from_pair file beside go ≡ go t r

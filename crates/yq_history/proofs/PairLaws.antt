@@ -33,9 +33,6 @@ module _ (c : FileMap) (f j : List ℕ) (t : List ℕ) (s : State) (file_is : ge
     stands = good;
   }
 
-  pub never_unsettled : (h : History) → GoodIn c f j (Some h) → settled s t ≡ None → ⊥
-  never_unsettled h good none = none-some (settles s t h (reads h good)).rest (sym none ∙ (settles s t h (reads h good)).is)
-
 -- a pair that was read and settled
 pub opens : (c e : FileMap) (f j : List ℕ) (v : Vec ℕ Global) (s r : State) (h : Option History) →
     e ≡ c → get c f ≡ Some v.items → journal_beside (get c j) ≡ Some s → settled s v.items ≡ Some r → GoodIn c f j h → Opens e f j h (Ok (v, r))
