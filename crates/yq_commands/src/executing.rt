@@ -52,7 +52,9 @@ fn update<D: Store>(
 {
     let program = parse(alloc, expr)?;
     let (text, mut state) = open_pair(alloc, store, file, journal)?;
-    edit_from(alloc, store, file, journal, &mut state, &program, expr, text)
+    edit_from(
+        alloc, store, file, journal, &mut state, &program, expr, text,
+    )
 }
 
 /// Carries out a command but for its output, and tells what it shows.
