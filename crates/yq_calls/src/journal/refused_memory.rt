@@ -61,6 +61,7 @@ enum Call {
     Redo(&'static str),
     Squash(u64),
     Start(Opened, &'static str),
+    StartWith(Opened, &'static str),
     Settle(&'static str),
     TargetOfUndo(&'static str),
     Push(&'static str),
@@ -112,17 +113,21 @@ fn move_of(alloc: Global, opened: Opened) -> Result<Move, JournalError> {
     }
 }
 
-/// Opens a move that changes a text.
+/// Opens a move that changes a text, of which the journal takes a copy or keeps the one that it is given.
 fn start(
     alloc: Global,
     journal: &mut Journal,
     opened: Opened,
     text: &[u8],
+    is_kept: bool,
 ) -> Result<(), JournalError> {
     let step = move_of(alloc, opened)?;
     let called = journal.target(alloc, &step, text)?;
     if called.as_slice() == text {
         return Err(NO_CALL);
+    }
+    if is_kept {
+        return journal.start_with(step, Vec::from_slice(alloc, text)?);
     }
     match journal.start(step, text) {
         Ok(()) => Ok(()),
@@ -156,7 +161,8 @@ fn called(alloc: Global, journal: &mut Journal, call: Call) -> Result<Vec<u8>, J
         Call::UndoRecord(text) => return turned(alloc, journal, true, text.as_bytes()),
         Call::RedoRecord(text) => return turned(alloc, journal, false, text.as_bytes()),
         Call::Squash(count) => journal.squash(count)?,
-        Call::Start(opened, text) => start(alloc, journal, opened, text.as_bytes())?,
+        Call::Start(opened, text) => start(alloc, journal, opened, text.as_bytes(), false)?,
+        Call::StartWith(opened, text) => start(alloc, journal, opened, text.as_bytes(), true)?,
         Call::Settle(text) => journal.settle(text.as_bytes())?,
         Call::Push(expr) => push(alloc, journal, expr)?,
         Call::Read(text) => *journal = Journal::from_json(alloc, text.as_bytes())?,
@@ -212,7 +218,7 @@ fn each_growth_is_refused(rt: HostRuntime) -> Result<(), Fail> {
         ),
         (
             TWO,
-            Call::Start(Opened::Undo, "n: 3\n"),
+            Call::StartWith(Opened::Undo, "n: 3\n"),
             "",
             ("2", OPEN_UNDO, BOTH),
         ),
