@@ -18,7 +18,6 @@ use Rattle.yq_change.specs.LineRows.{line_number}
 use Rattle.yq_change.specs.DocumentRows.{IsDocumentPart, behind_document}
 use Rattle.yq_change.specs.LineComments.{retailed, TakesTail}
 use Rattle.yq_documents.specs.TreeEdits.{with_head_comment, with_line_comment}
-use Rattle.yq_change.specs.EntryRows.{RowsFrom}
 
 -- Line n is that of an item or entry of the block collection at a path.
 pub record IsEntryLine (steps : List Step) (s : Step) (o : Outline) (n : ℕ) : Type 0 where
@@ -30,13 +29,6 @@ pub record IsEntryLine (steps : List Step) (s : Step) (o : Outline) (n : ℕ) : 
 -- The line to which a path leads is that of an item or entry of a block collection.
 abbrev pub PathIsEntry : Type 0
 PathIsEntry = (p : Part) (m : ℕ) (steps : List Step) (s : Step) (n : ℕ) → IsEven m (outline_of p) → line_of (steps ++ (s ∷ [])) (lines_of p.rows) ≡ Some n → IsEntryLine steps s (outline_of p) n
-
--- An item or entry to which a path leads has rows of its own, before which so many stand.
-pub record PathEntry (p : Part) (steps : List Step) (s : Step) (before : ℕ) : Type 0 where
-  pub h : NodeLines
-  pub f : FoundLine
-  pub entry : IsEntryAt steps s (outline_of p) h f
-  pub rows : RowsFrom p h f before
 
 -- The line comment at a path is set, where the path's line is the last of its row.
 abbrev pub PathLineCommented : Type 0

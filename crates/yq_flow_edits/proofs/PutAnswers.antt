@@ -1,5 +1,5 @@
 -- What putting a value into a flow collection comes to, by what the code finds.
-use Rattle.std.proofs.Common.{◌≡◌, ℕ, ◌-◌, true, List, [], ◌∷◌, ◌++◌, length, take, drop, Option, Some, None, option_map, refl, sym, ap, ◌∙◌, subst, arith, append_assoc, append-nil, length-append}
+use Rattle.std.proofs.Common.{◌≡◌, ℕ, ◌-◌, List, [], ◌∷◌, ◌++◌, length, take, drop, Option, Some, None, option_map, refl, sym, ap, ◌∙◌, subst, arith, append_assoc, append-nil, length-append}
 use Rattle.std.proofs.Math.Seq.{take-append_seam, drop-append_seam}
 use Rattle.std.proofs.lemmas.Option.{none-some, same_Some}
 use Rattle.std.specs.Prelude.{option_and_then, String, string_bytes}
@@ -24,7 +24,6 @@ use Rattle.yq_places.specs.FlowViews.{FlowAgrees, behind_anchor, collection_view
 use Rattle.yq_places.specs.NodesAt.{node_in}
 use Rattle.yq_places.specs.Standings.{FlowPart, flow_standing, last_step}
 use Rattle.yq_places.specs.declared.places.flow_node.FlowHead.{FlowHead}
-use Rattle.yq_script.specs.Script.{keep}
 use Rattle.yq_edits.specs.FlowParts.{flow_value}
 use Rattle.yq_edits.specs.Replacing.{is_kept}
 use Rattle.yq_edits.specs.WrittenValues.{value_text}
@@ -169,11 +168,6 @@ no_collection t (Some w) x agrees none = absurd (none-some _ (none ∙ agrees.fo
 
 pub puts_none : (n : ℕ) (path : List Step) (v : tree.Node) (c : Cut) → flow_standing n c (last_step path) ≡ None → part_replaced n path v c ≡ None
 puts_none n path v c none = ap (option_map (part_put (cut_text c) (is_kept (node_in n path c) v) v)) none
-
-pub puts_same : (n : ℕ) (path : List Step) (v : tree.Node) (c : Cut) (x : FlowHead) (p : PartPut) → p.written ≡ None → ArePuts n path v c x (Some p) → part_replaced n path v c ≡ Some (keep (cut_text c) ∷ [])
-puts_same n path v c x p none h =
-    let kept : is_kept (node_in n path c) v ≡ true = subst (IsWritten (node_in n path c) v h.0) none h.3 in
-    λ i. option_map (part_put (cut_text c) (kept i) v) (h.1 i)
 
 pub puts_written : (n : ℕ) (path : List Step) (v : tree.Node) (c : Cut) (x : FlowHead) (p : PartPut) (written : String Global) (whole : List ℕ) → p.written ≡ Some written → whole ≡ cut_text c → ArePuts n path v c x (Some p) →
     part_replaced n path v c ≡ Some (edit_segments whole (moved_on x.before (edit_view p.place)) (string_bytes written))
