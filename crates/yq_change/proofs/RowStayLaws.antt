@@ -1,6 +1,6 @@
 -- Behind rows that gave way to others of the same shapes, paths lead to the rows to which they led.
 use Rattle.std.proofs.Common.{◌≡◌, ℕ, zero, suc, ◌+◌, ◌-◌, ◌≤◌, ◌<◌, nat_lt, Bool, true, false, cond, List, [], ◌∷◌, ◌++◌, drop, length, take, map, Option, Some, None, option_map, refl, sym, ap, ◌∙◌, arith}
-use Rattle.std.proofs.lemmas.List.{drop-drop, length-take-le}
+use Rattle.std.proofs.lemmas.List.{drop-drop, length-map, length-take-le}
 use Rattle.std.proofs.lemmas.Option.{none-some, same_Some, slice_get-map, slice_get_within}
 use Rattle.std.specs.List.{slice_get}
 use Rattle.yq_flow_scalars.specs.Answers.{◌>>=◌}
@@ -47,6 +47,15 @@ same_dashes x r ss rs e = let same : row_shape x ≡ row_shape r = cc in ap (λ 
 
 same_others : (x r : Row) (ss rs : List Row) → shapes (x ∷ ss) ≡ shapes (r ∷ rs) → shapes ss ≡ shapes rs
 same_others x r ss rs e = cc
+
+same_size : (rs ss : List Row) → shapes ss ≡ shapes rs → length ss ≡ length rs
+same_size rs ss e = sym (length-map ss row_shape) ∙ (ap length e ∙ length-map rs row_shape)
+
+-- what is the same from a row on is so from a later one on
+drop_later : (n m : ℕ) (ss rs : List Row) → drop n ss ≡ drop n rs → n ≤ m → drop m ss ≡ drop m rs
+drop_later n m ss rs same less =
+    let size : m ≡ n + (m - n) = omega (arith, less) in
+    (λ j. drop (size j) ss) ∙ (sym (drop-drop (m - n) n ss) ∙ (ap (drop (m - n)) same ∙ (drop-drop (m - n) n rs ∙ (λ j. drop (sym size j) rs))))
 
 -- a line of a row behind those that are others
 row_line_stays : (n m : ℕ) (rs ss : List Row) (s : RowLine) → shapes ss ≡ shapes rs → drop n ss ≡ drop n rs → row_line m rs ≡ Some s → n ≤ s.before → row_line m ss ≡ Some s
@@ -150,16 +159,17 @@ module _ (c : Cut) (k n : ℕ) (p q : Part) (there : slice_get (document_parts c
     abbrev s : RowLine
     s = found.0
 
+    within : s.before < length p.rows
+    within = slice_get_within p.rows s.before s.row (steps_row (line_of steps (lines_of p.rows)) p.rows s found.1)
+
     front_size : length e.front ≡ s.before
-    front_size =
-        sym (ap (λ (x : RowsOfEntry). length x.front) found.2)
-        ∙ length-take-le s.before p.rows (let within : s.before < length p.rows = slice_get_within p.rows s.before s.row (steps_row (line_of steps (lines_of p.rows)) p.rows s found.1) in omega (arith, within))
+    front_size = sym (ap (λ (x : RowsOfEntry). length x.front) found.2) ∙ length-take-le s.before p.rows (omega (arith, within))
+
+    size_stays : length (take (length e.front) q.rows) ≡ length e.front
+    size_stays = length-take-le (length e.front) q.rows (omega (arith, front_size, within, same_size p.rows q.rows stays.shapes))
 
     later : drop (suc s.before) q.rows ≡ drop (suc s.before) p.rows
-    later =
-        let d : ℕ = suc s.before - n in
-        let size : suc s.before ≡ n + d = omega (arith, less, front_size) in
-        (λ j. drop (size j) q.rows) ∙ (sym (drop-drop d n q.rows) ∙ (ap (drop d) stays.rows ∙ (drop-drop d n p.rows ∙ (λ j. drop (sym size j) p.rows))))
+    later = drop_later n (suc s.before) q.rows p.rows stays.rows (omega (arith, less, front_size))
 
     rows_same : entry_rows_at (around k q c) s ≡ with_front (take s.before q.rows) (entry_rows_at (around k p c) s)
     rows_same = λ j. record {
@@ -180,7 +190,7 @@ module _ (c : Cut) (k n : ℕ) (p q : Part) (there : slice_get (document_parts c
         ∙ (ap Some rows_same ∙ (λ j. Some (with_front (take (sym front_size j) q.rows) (found.2 j)))))
 
 entries_stay : EntriesStay
-entries_stay c k n p q steps e there stays is less = entry_stays c k n p q there stays steps e is less
+entries_stay c k n p q steps e there stays is less = (entry_stays c k n p q there stays steps e is less, size_stays c k n p q there stays steps e is less)
 
 -- ---- one more row
 
@@ -191,10 +201,7 @@ past_row (x ∷ front) r back = past_row front r back
 exchanges_stay : ExchangesStay
 exchanges_stay n p q front back r new stays are less same =
     let now : (inserted front (new ∷ []) back q).rows ≡ front ++ (new ∷ back) = ap (λ (rs : List Row). front ++ (new ∷ rs)) (own_gap back q.end) in
-    let d : ℕ = suc (length front) - n in
-    let size : suc (length front) ≡ n + d = omega (arith, less) in
-    let later : drop (suc (length front)) q.rows ≡ drop (suc (length front)) p.rows =
-    (λ j. drop (size j) q.rows) ∙ (sym (drop-drop d n q.rows) ∙ (ap (drop d) stays.rows ∙ (drop-drop d n p.rows ∙ (λ j. drop (sym size j) p.rows)))) in
+    let later : drop (suc (length front)) q.rows ≡ drop (suc (length front)) p.rows = drop_later n (suc (length front)) q.rows p.rows stays.rows (omega (arith, less)) in
     record {
       shapes = ap (map row_shape) now ∙ (one_other front new r back same ∙ (sym (ap (map row_shape) are) ∙ stays.shapes));
       rows = ap (drop (suc (length front))) now ∙ (past_row front new back ∙ (sym (past_row front r back) ∙ (sym (ap (drop (suc (length front))) are) ∙ later)));

@@ -30,12 +30,13 @@ RowLinesStay =
 abbrev pub with_front : List Row → RowsOfEntry → RowsOfEntry
 with_front front e = record e { front = front }
 
--- An item or entry behind those has the rows that it had, and the first ones of the other part in front of them (own).
+-- An item or entry behind those has the rows that it had, and in front of them as many of the other part (own).
 abbrev pub EntriesStay : Type 0
 EntriesStay =
     (c : Cut) (k n : ℕ) (p q : Part) (steps : List Step) (e : RowsOfEntry) → slice_get (document_parts c) k ≡ Some p → StaysFrom n p q →
     rows_of_entry k steps c ≡ Some e → n ≤ length e.front →
-    rows_of_entry k steps (put_document k q c) ≡ Some (with_front (take (length e.front) q.rows) e)
+    (rows_of_entry k steps (put_document k q c) ≡ Some (with_front (take (length e.front) q.rows) e)) ×
+    (length (take (length e.front) q.rows) ≡ length e.front)
 
 -- With one row behind those exchanged for another one of its shape, a part is that one but for the rows up to it (own).
 abbrev pub ExchangesStay : Type 0

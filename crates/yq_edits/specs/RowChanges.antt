@@ -1,5 +1,5 @@
 -- Operations that give one row of a text another content of the same shape (own).
-use Rattle.std.specs.Prelude.{◌≡◌, ℕ, ◌≤◌, List, [], ◌∷◌, ◌++◌, length, slice_get, Some, false}
+use Rattle.std.specs.Prelude.{◌≡◌, ℕ, ◌≤◌, List, [], ◌∷◌, ◌++◌, length, slice_get, Some, false, if◌then◌else◌}
 use Rattle.yq_flow_scalars.specs.Characters.{text_limit}
 use Rattle.yq_flow_scalars.specs.Paths.{Step}
 use Rattle.yq_flow_scalars.specs.Text.{is_empty}
@@ -18,10 +18,13 @@ use Rattle.yq_block.specs.BlockReading.{is_filled}
 use Rattle.yq_meaning.specs.Fits.{Fits}
 use Rattle.yq_meaning.specs.Operations.{line_comment, replace}
 use Rattle.yq_meaning.specs.Rooms.{room_of}
-use Rattle.yq_script.specs.Script.{Segment, new_text}
+use Rattle.yq_script.specs.Script.{Segment, changes, keep, new_text, old_text, splice_at}
+use Rattle.yq_places.specs.NodesAt.{node_in}
 use Rattle.yq_edits.specs.CommentEdits.{comment_put}
+use Rattle.yq_edits.specs.Edits.{edits}
 use Rattle.yq_edits.specs.Operands.{HasOperand}
 use Rattle.yq_edits.specs.ReplaceEdits.{held_put}
+use Rattle.yq_edits.specs.Replacing.{is_kept}
 use Rattle.yq_edits.specs.WrittenValues.{inline, value_text}
 
 -- In the cut of the text that segments make, the row of an item or entry of document n has given way to another one of its shape (own).
@@ -36,6 +39,12 @@ pub record ChangesRow (n : ℕ) (c : Cut) (e : RowsOfEntry) (ss : List Segment) 
   pub front_size : length front ≡ length e.front
   pub shape : row_shape new ≡ row_shape row
   pub read : read_at (new_text ss) ≡ Some (put_document n (inserted front (new ∷ []) back part) c)
+
+-- Segments put one text in the place of another, between a text in front and one behind (own).
+pub record PutsOne (ss : List Segment) (front old new behind : List ℕ) : Type 0 where
+  pub old_is : old_text ss ≡ front ++ (old ++ behind)
+  pub new_is : new_text ss ≡ front ++ (new ++ behind)
+  pub changes_are : changes ss ≡ splice_at (length front) old new
 
 -- An item or entry holds an inline node on the line of its key or dash, which is the last one of its row (7, 8.2).
 pub record HoldsInline (e : RowsOfEntry) : Type 0 where
@@ -62,3 +71,22 @@ LineCommentsChangeRows =
     rows_of_entry n steps c ≡ Some e → e.line ≡ length e.row.dashes →
     HasOperand (line_comment n steps text) → Fits (room_of (cut_text c)) (line_comment n steps text) (documents c) →
     length (new_text (comment_put text (held e))) ≤ text_limit → ChangesRow n c e (comment_put text (held e))
+
+-- what a Replace exchanges there, by whether its value is the scalar that is there
+abbrev pub InlineEdits : Type 0
+InlineEdits =
+    (n : ℕ) (s : Step) (ss : List Step) (v : Node) (c : Cut) (e : RowsOfEntry) → rows_of_entry n (s ∷ ss) c ≡ Some e → HoldsInline e →
+    is_filled v ≡ false →
+    edits (replace n (s ∷ ss) v) c ≡
+    (if is_kept (node_in n (s ∷ ss) c) v then Some (keep (cut_text c) ∷ []) else Some (inline_put v (held e)))
+
+-- what a LineComment exchanges
+abbrev pub CommentEdits : Type 0
+CommentEdits =
+    (n : ℕ) (steps : List Step) (text : List ℕ) (c : Cut) (e : RowsOfEntry) → rows_of_entry n steps c ≡ Some e → e.line ≡ length e.row.dashes →
+    edits (line_comment n steps text) c ≡ Some (comment_put text (held e))
+
+-- These laws together (own).
+pub record RowEdits : Type 0 where
+  pub inline : InlineEdits
+  pub comment : CommentEdits
