@@ -1,6 +1,6 @@
 -- What operations exchange that change one row.
-use Rattle.std.proofs.Common.{◌≡◌, ℕ, Bool, true, false, cond, eqb, List, [], ◌∷◌, length, Option, Some, option_map, refl, sym, ap, ◌∙◌}
-use Rattle.std.proofs.lemmas.Bool.{eqb-refl, false≢true}
+use Rattle.std.proofs.Common.{◌≡◌, ℕ, Bool, true, false, cond, eqb, List, [], ◌∷◌, length, Option, Some, None, option_map, refl, sym, ap, ◌∙◌}
+use Rattle.std.proofs.lemmas.Bool.{eq-eqb, false≢true}
 use Rattle.std.specs.Option.{option_or}
 use Rattle.yq_flow_scalars.specs.Answers.{◌>>=◌}
 use Rattle.yq_flow_scalars.specs.Paths.{Step}
@@ -12,7 +12,7 @@ use Rattle.yq_rows.specs.Rows.{Content, Nothing, Inline, Block, Cut, cut_text}
 use Rattle.yq_rows.specs.Seams.{is_block}
 use Rattle.yq_rows.specs.View.{content_cut, slices}
 use Rattle.yq_places.specs.NodesAt.{node_in}
-use Rattle.yq_places.specs.Standings.{RowsOfEntry, Standing, behind_mark, beside, compact, compact_in, entry_standing, flow_standing, held, last_step, rows_of_entry, standing_at}
+use Rattle.yq_places.specs.Standings.{RowsOfEntry, Standing, behind_mark, below, beside, compact, compact_in, entry_standing, flow_standing, held, last_step, rows_of_entry, standing_at}
 use Rattle.yq_block.specs.BlockReading.{is_filled}
 use Rattle.yq_script.specs.Script.{Segment, keep}
 use Rattle.yq_edits.specs.CommentEdits.{comment_put, line_comment_put}
@@ -29,11 +29,11 @@ beside_there : (e : RowsOfEntry) → HoldsInline e → entry_standing e ≡ besi
 beside_there e h = ap (λ (b : Bool). cond b (behind_mark e e.row.content) (compact (compact_in e))) at_mark ∙ go e.row.content refl
   where
     at_mark : eqb e.line (length e.row.dashes) ≡ true
-    at_mark = ap (λ (n : ℕ). eqb n (length e.row.dashes)) h.last ∙ eqb-refl (length e.row.dashes)
+    at_mark = eq-eqb e.line (length e.row.dashes) h.last
 
     go : (x : Content) → e.row.content ≡ x → behind_mark e x ≡ beside (held e)
     go (Nothing tail) is = absurd (false≢true (sym h.some ∙ ap (λ (y : Content). is_empty (content_cut y).3) is))
-    go (Inline space node tail) is = ap (λ (b : Bool). cond b (Rattle.yq_places.specs.Standings.below e e.under) (beside (held e))) h.some
+    go (Inline space node tail) is = ap (λ (b : Bool). cond b (below e e.under) (beside (held e))) h.some
     go (Block space anchor b) is = absurd (false≢true (sym h.block ∙ ap is_block is))
 
 inline_edits : InlineEdits
@@ -47,7 +47,7 @@ inline_edits n s ss v c e at h plain =
 comment_edits : CommentEdits
 comment_edits n steps text c e at last =
     ap (λ (o : Option RowsOfEntry). o >>= line_comment_put text) at
-    ∙ ap (λ (b : Bool). cond b (Some (comment_put text (held e))) Rattle.std.proofs.Common.None) (ap (λ (n : ℕ). eqb n (length e.row.dashes)) last ∙ eqb-refl (length e.row.dashes))
+    ∙ ap (λ (b : Bool). cond b (Some (comment_put text (held e))) None) (eq-eqb e.line (length e.row.dashes) last)
 
 pub row_edits : RowEdits
 row_edits = record { inline = inline_edits; comment = comment_edits }
