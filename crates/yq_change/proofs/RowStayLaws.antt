@@ -1,5 +1,5 @@
 -- Behind rows that gave way to others of the same shapes, paths lead to the rows to which they led.
-use Rattle.std.proofs.Common.{◌≡◌, ℕ, zero, suc, ◌+◌, ◌-◌, ◌≤◌, ◌<◌, nat_lt, Bool, true, false, cond, List, [], ◌∷◌, ◌++◌, drop, length, take, map, Option, Some, None, option_map, refl, sym, ap, ◌∙◌, arith}
+use Rattle.std.proofs.Common.{◌≡◌, ℕ, zero, suc, ◌+◌, ◌-◌, ◌≤◌, ◌<◌, nat_lt, Bool, true, false, not, ◌||◌, cond, List, [], ◌∷◌, ◌++◌, drop, length, take, map, Option, Some, None, option_map, refl, sym, ap, ◌∙◌, arith}
 use Rattle.std.proofs.lemmas.List.{drop-drop, length-map, length-take-le}
 use Rattle.std.proofs.lemmas.Option.{none-some, same_Some, slice_get-map, slice_get_within}
 use Rattle.std.specs.List.{slice_get}
@@ -64,16 +64,17 @@ row_line_stays (suc n) m [] ss s e same is less = absurd (none-some _ is)
 row_line_stays (suc n) m (r ∷ rs) [] s e same is less = absurd (no_shapes r rs e)
 row_line_stays (suc n) m (r ∷ rs) (x ∷ ss) s e same is less =
     ap (λ (l : ℕ). cond (nat_lt l m) (option_map behind_one (row_line (m - suc l) ss)) (Some (record { before = 0; row = x; line = m }))) (ap length (same_dashes x r ss rs e))
-    ∙ go (nat_lt (length r.dashes) m) (row_line (m - suc (length r.dashes)) rs) refl is
+    ∙ go (nat_lt (length r.dashes) m) (row_line (m - suc (length r.dashes)) rs) refl is (λ y. row_line_stays n (m - suc (length r.dashes)) rs ss y (same_others x r ss rs e) same)
   where
     go : (b : Bool) (o : Option RowLine) → row_line (m - suc (length r.dashes)) rs ≡ o → cond b (option_map behind_one o) (Some (record { before = 0; row = r; line = m })) ≡ Some s →
+        ((y : RowLine) → row_line (m - suc (length r.dashes)) rs ≡ Some y → n ≤ y.before → row_line (m - suc (length r.dashes)) ss ≡ Some y) →
         cond b (option_map behind_one (row_line (m - suc (length r.dashes)) ss)) (Some (record { before = 0; row = x; line = m })) ≡ Some s
-    go true None found there = absurd (none-some _ there)
-    go true (Some y) found there =
+    go true None found there again = absurd (none-some _ there)
+    go true (Some y) found there again =
         let one : behind_one y ≡ s = same_Some _ _ there in
         let behind : suc y.before ≡ s.before = ap (λ (z : RowLine). z.before) one in
-        ap (option_map behind_one) (row_line_stays n (m - suc (length r.dashes)) rs ss y (same_others x r ss rs e) same found (omega (arith, less, behind))) ∙ ap Some one
-    go false o found there = absurd (let first : 0 ≡ s.before = ap (λ (z : RowLine). z.before) (same_Some _ _ there) in omega (arith, less, first))
+        ap (option_map behind_one) (again y found (omega (arith, less, behind))) ∙ ap Some one
+    go false o found there again = absurd (let first : 0 ≡ s.before = ap (λ (z : RowLine). z.before) (same_Some _ _ there) in omega (arith, less, first))
 
 line_there : (n : ℕ) (o : Option ℕ) (rs ss : List Row) (s : RowLine) → shapes ss ≡ shapes rs → drop n ss ≡ drop n rs → (o >>= λ m. row_line m rs) ≡ Some s → n ≤ s.before → (o >>= λ m. row_line m ss) ≡ Some s
 line_there n None rs ss s e same is less = absurd (none-some _ is)
@@ -220,11 +221,11 @@ put_again c k n p q r there stays =
 -- ---- nodes
 
 head_nodes : HeadNodes
-head_nodes n s ss c e h there last is =
-    let row = under_it n s ss c e there last in
-    let line : line_with e.row e.row.content ≡ there.found.line = line_is there.part s ss e.front e.row e.under e.back row (even_there n s ss c e there last) in
-    ap (λ (o : Option Document). o >>= λ d. node_at (s ∷ ss) d.root) (slice_get-map document_of (document_parts c) n ∙ ap (option_map document_of) there.old.there)
-    ∙ (path_node s ss (outline_of there.part)
+head_nodes n t ts c e h there mark is =
+    let row = under_it n t ts c e there mark in
+    let line : line_with e.row e.row.content ≡ there.found.line = line_is there.part t ts e.front e.row e.under e.back row (even_there n t ts c e there mark) in
+    ap (λ (o : Option Document). o >>= λ d. node_at (t ∷ ts) d.root) (slice_get-map document_of (document_parts c) n ∙ ap (option_map document_of) there.old.there)
+    ∙ (path_node t ts (outline_of there.part)
     ∙ (ap FoundNode there.is ∙ ((λ j. Some (content (sym line j) there.found.under)) ∙ (λ j. Some (anchored (content_anchor e.row.content) (head_or (is j) (value there.found.under)))))))
 
 pub rows_stay_there : RowsBehindStay
