@@ -1,10 +1,11 @@
 -- Behind rows that gave way to others of the same shapes, paths lead to the rows to which they led.
-use Rattle.std.proofs.Common.{◌≡◌, ℕ, zero, suc, ◌+◌, ◌-◌, ◌≤◌, ◌<◌, nat_lt, Bool, true, false, not, ◌||◌, cond, List, [], ◌∷◌, ◌++◌, drop, length, take, map, Option, Some, None, option_map, refl, sym, ap, ◌∙◌, arith}
+use Rattle.std.proofs.Common.{◌≡◌, inl, inr, ℕ, zero, suc, ◌+◌, ◌-◌, ◌≤◌, ◌<◌, nat_lt, Bool, true, false, not, ◌||◌, cond, List, [], ◌∷◌, ◌++◌, drop, length, take, map, Option, Some, None, option_map, refl, sym, ap, ◌∙◌, subst, arith}
 use Rattle.std.proofs.lemmas.List.{drop-drop, length-map, length-take-le}
 use Rattle.std.proofs.lemmas.Option.{none-some, same_Some, slice_get-map, slice_get_within}
 use Rattle.std.specs.List.{slice_get}
 use Rattle.yq_flow_scalars.specs.Answers.{◌>>=◌}
 use Rattle.yq_flow_scalars.specs.Paths.{Step, node_at}
+use Rattle.yq_flow_scalars.proofs.Bools.{bind_some}
 use Rattle.yq_lines.specs.Ends.{line_of}
 use Rattle.yq_lines.specs.Outline.{anchored, head_or, value}
 use Rattle.yq_lines.specs.Places.{content}
@@ -22,12 +23,12 @@ use Rattle.yq_documents.proofs.PartNumberLaws.{part_there}
 use Rattle.yq_walk.specs.Lines.{content_anchor, lines_of}
 use Rattle.yq_places.specs.PlacedRows.{PlacedPart, before_part, placed_at, placed_document}
 use Rattle.yq_places.specs.Standings.{RowsOfEntry, entry_rows_at, rows_of_entry, under_count}
-use Rattle.yq_places.proofs.PlacedPartLaws.{map_some}
+use Rattle.yq_places.proofs.PlacedPartLaws.{StandsIn, map_some, part_stands}
 use Rattle.yq_places.proofs.RowLineSpans.{steps_row}
 use Rattle.yq_change.specs.Appends.{inserted}
 use Rattle.yq_change.specs.Changed.{KeepsRows, put_document, put_part}
 use Rattle.yq_change.specs.Rooms.{RowShape, row_shape}
-use Rattle.yq_change.specs.RowStays.{EntriesStay, ExchangesStay, HeadNodes, PutAgain, RowLinesStay, RowsBehindStay, StaysFrom, with_front}
+use Rattle.yq_change.specs.RowStays.{EntriesStay, ExchangesStay, HeadNodes, RowLinesStay, RowsBehindStay, StandsStill, StaysFrom}
 use Rattle.yq_change.proofs.ChangedLaws.{document_put, first_stays}
 use Rattle.yq_change.proofs.FlowKeptLaws.{one_other}
 use Rattle.yq_change.proofs.ShapeLaws.{line_by_shape}
@@ -110,6 +111,20 @@ nth_put i q (last p) = refl
 nth_put zero q (marked p marker c) = refl
 nth_put (suc i) q (marked p marker c) = nth_put i q c
 
+numbers_rise : (is : Bool) (k m : ℕ) (c : Cut) → k ≤ m → number_from is k c ≤ number_from is m c
+numbers_rise is k m (last p) less = omega arith
+numbers_rise true zero m (marked p marker c) less = omega arith
+numbers_rise true (suc k) zero (marked p marker c) less = absurd (omega (arith, less))
+numbers_rise true (suc k) (suc m) (marked p marker c) less = omega (arith, numbers_rise (begins_document marker) k m c (omega (arith, less)))
+numbers_rise false k m (marked p marker c) less = omega (arith, numbers_rise (begins_document marker) k m c less)
+
+behind_other : (i j : ℕ) (q : Part) (c : Cut) → i ≤ j → behind_part j (put_part i q c) ≡ behind_part j c
+behind_other i j q (last p) less = refl
+behind_other zero zero q (marked p marker c) less = refl
+behind_other zero (suc j) q (marked p marker c) less = refl
+behind_other (suc i) zero q (marked p marker c) less = absurd (omega (arith, less))
+behind_other (suc i) (suc j) q (marked p marker c) less = behind_other i j q c (omega (arith, less))
+
 behind_put : (i : ℕ) (q : Part) (c : Cut) → behind_part i (put_part i q c) ≡ behind_part i c
 behind_put i q (last p) = refl
 behind_put zero q (marked p marker c) = refl
@@ -119,6 +134,13 @@ nth_changed : (k : ℕ) (p q : Part) (ps : List Part) → slice_get ps k ≡ Som
 nth_changed k p q [] e = absurd (none-some _ e)
 nth_changed zero p q (x ∷ ps) e = refl
 nth_changed (suc k) p q (x ∷ ps) e = nth_changed k p q ps e
+
+nth_other : (k m : ℕ) (q : Part) (ps : List Part) → k < m → slice_get (change_nth k (λ x. q) ps) m ≡ slice_get ps m
+nth_other k m q [] less = refl
+nth_other zero zero q (x ∷ ps) less = absurd (omega (arith, less))
+nth_other zero (suc m) q (x ∷ ps) less = refl
+nth_other (suc k) zero q (x ∷ ps) less = absurd (omega (arith, less))
+nth_other (suc k) (suc m) q (x ∷ ps) less = nth_other k m q ps (omega (arith, less))
 
 -- document k with this part, between the texts that stand around it
 abbrev around : ℕ → Part → Cut → PlacedPart
@@ -166,13 +188,10 @@ module _ (c : Cut) (k n : ℕ) (p q : Part) (there : slice_get (document_parts c
     front_size : length e.front ≡ s.before
     front_size = sym (ap (λ (x : RowsOfEntry). length x.front) found.2) ∙ length-take-le s.before p.rows (omega (arith, within))
 
-    size_stays : length (take (length e.front) q.rows) ≡ length e.front
-    size_stays = length-take-le (length e.front) q.rows (omega (arith, front_size, within, same_size p.rows q.rows stays.shapes))
-
     later : drop (suc s.before) q.rows ≡ drop (suc s.before) p.rows
     later = drop_later n (suc s.before) q.rows p.rows stays.rows (omega (arith, less, front_size))
 
-    rows_same : entry_rows_at (around k q c) s ≡ with_front (take s.before q.rows) (entry_rows_at (around k p c) s)
+    rows_same : entry_rows_at (around k q c) s ≡ record (entry_rows_at (around k p c) s) { front = take s.before q.rows }
     rows_same = λ j. record {
       start = before_part i c;
       front = take s.before q.rows;
@@ -184,14 +203,63 @@ module _ (c : Cut) (k n : ℕ) (p q : Part) (there : slice_get (document_parts c
       behind = behind_part i c;
     }
 
-    entry_stays : rows_of_entry k steps new ≡ Some (with_front (take (length e.front) q.rows) e)
-    entry_stays =
-        ap (λ (o : Option PlacedPart). o >>= λ d. option_map (entry_rows_at d) (row_line_of steps d.part.rows)) placed_new
-        ∙ (ap (option_map (entry_rows_at (around k q c))) (row_lines_stay n p q steps s stays found.1 (omega (arith, less, front_size)))
-        ∙ (ap Some rows_same ∙ (λ j. Some (with_front (take (sym front_size j) q.rows) (found.2 j)))))
+    entry_stays : StandsStill e k steps new
+    entry_stays = record {
+      start = before_part i c;
+      front = take s.before q.rows;
+      found = ap (λ (o : Option PlacedPart). o >>= λ d. option_map (entry_rows_at d) (row_line_of steps d.part.rows)) placed_new
+          ∙ (ap (option_map (entry_rows_at (around k q c))) (row_lines_stay n p q steps s stays found.1 (omega (arith, less, front_size)))
+          ∙ (ap Some rows_same ∙ (λ j. Some (record (found.2 j) { start = before_part i c; front = take s.before q.rows }))));
+      size = length-take-le s.before q.rows (omega (arith, within, same_size p.rows q.rows stays.shapes)) ∙ sym front_size;
+    }
+
+  -- the rows of one in a later document
+  module _ (m : ℕ) (steps : List Step) (e : RowsOfEntry) (is : rows_of_entry m steps c ≡ Some e) (later : k < m) where
+    other : (d : PlacedPart) × (placed_document m c ≡ Some d) × (option_map (entry_rows_at d) (row_line_of steps d.part.rows) ≡ Some e)
+    other = bind_some (placed_document m c) is
+
+    abbrev d : PlacedPart
+    d = other.0
+
+    stands : StandsIn m c d
+    stands = part_stands m c d other.1
+
+    abbrev j : ℕ
+    j = part_number m c
+
+    number_there : part_number m new ≡ j
+    number_there = ap (λ (b : Bool). number_from b m new) (first_stays c k p q there keeps) ∙ number_stays (begins_bare c || not (has_begin c)) m i q c
+
+    there_too : slice_get (document_parts new) m ≡ Some d.part
+    there_too = ap (λ (ps : List Part). slice_get ps m) (document_put c k p q there keeps) ∙ (nth_other k m q (document_parts c) later ∙ stands.there)
+
+    abbrev now : PlacedPart
+    now = record { before = before_part j new; part = d.part; behind = d.behind }
+
+    placed_there : placed_document m new ≡ Some now
+    placed_there =
+        ap (option_map (λ (x : Part). placed_at (part_number m new) new)) there_too
+        ∙ ((λ u. Some (record { before = before_part (number_there u) new; part = part_there new m d.part there_too u; behind = behind_part (number_there u) new }))
+        ∙ ap (λ (t : List ℕ). Some (record { before = before_part j new; part = d.part; behind = t }))
+        (behind_other i j q c (numbers_rise (begins_bare c || not (has_begin c)) k m c (omega (arith, later))) ∙ ap (λ (x : PlacedPart). x.behind) stands.is))
+
+    line_there_still : (s : RowLine) × (row_line_of steps d.part.rows ≡ Some s) × (entry_rows_at d s ≡ e)
+    line_there_still = map_some (entry_rows_at d) (row_line_of steps d.part.rows) e other.2
+
+    other_stays : StandsStill e m steps new
+    other_stays = record {
+      start = before_part j new;
+      front = e.front;
+      found = ap (λ (o : Option PlacedPart). o >>= λ x. option_map (entry_rows_at x) (row_line_of steps x.part.rows)) placed_there
+          ∙ (ap (option_map (entry_rows_at now)) line_there_still.1 ∙ (λ u. Some (record (line_there_still.2 u) { start = before_part j new; front = (line_there_still.2 u).front })));
+      size = refl;
+    }
 
 entries_stay : EntriesStay
-entries_stay c k n p q steps e there stays is less = (entry_stays c k n p q there stays steps e is less, size_stays c k n p q there stays steps e is less)
+entries_stay c k n p q m steps e there stays is (inl later) = other_stays c k n p q there stays m steps e is later
+entries_stay c k n p q m steps e there stays is (inr same) =
+    subst (λ (x : ℕ). StandsStill e x steps (put_document k q c)) same.0
+    (entry_stays c k n p q there stays steps e (ap (λ (x : ℕ). rows_of_entry x steps c) same.0 ∙ is) same.1)
 
 -- ---- one more row
 
@@ -200,23 +268,13 @@ past_row [] r back = refl
 past_row (x ∷ front) r back = past_row front r back
 
 exchanges_stay : ExchangesStay
-exchanges_stay n p q front back r new stays are less same =
-    let now : (inserted front (new ∷ []) back q).rows ≡ front ++ (new ∷ back) = ap (λ (rs : List Row). front ++ (new ∷ rs)) (own_gap back q.end) in
-    let later : drop (suc (length front)) q.rows ≡ drop (suc (length front)) p.rows = drop_later n (suc (length front)) q.rows p.rows stays.rows (omega (arith, less)) in
+exchanges_stay p front back r new are same =
+    let now : (inserted front (new ∷ []) back p).rows ≡ front ++ (new ∷ back) = ap (λ (rs : List Row). front ++ (new ∷ rs)) (own_gap back p.end) in
     record {
-      shapes = ap (map row_shape) now ∙ (one_other front new r back same ∙ (sym (ap (map row_shape) are) ∙ stays.shapes));
-      rows = ap (drop (suc (length front))) now ∙ (past_row front new back ∙ (sym (past_row front r back) ∙ (sym (ap (drop (suc (length front))) are) ∙ later)));
-      end = own_end back q.end ∙ stays.end;
+      shapes = ap (map row_shape) now ∙ (one_other front new r back same ∙ sym (ap (map row_shape) are));
+      rows = ap (drop (suc (length front))) now ∙ (past_row front new back ∙ (sym (past_row front r back) ∙ sym (ap (drop (suc (length front))) are)));
+      end = own_end back p.end;
     }
-
-put_put : (i : ℕ) (q r : Part) (c : Cut) → put_part i r (put_part i q c) ≡ put_part i r c
-put_put i q r (last p) = refl
-put_put zero q r (marked p marker c) = refl
-put_put (suc i) q r (marked p marker c) = ap (marked p marker) (put_put i q r c)
-
-put_again : PutAgain
-put_again c k n p q r there stays =
-    ap (λ (j : ℕ). put_part j r (put_document k q c)) (number_is c k n p q there stays) ∙ put_put (part_number k c) q r c
 
 -- ---- nodes
 
@@ -229,4 +287,4 @@ head_nodes n t ts c e h there mark is =
     ∙ (ap FoundNode there.is ∙ ((λ j. Some (content (sym line j) there.found.under)) ∙ (λ j. Some (anchored (content_anchor e.row.content) (head_or (is j) (value there.found.under)))))))
 
 pub rows_stay_there : RowsBehindStay
-rows_stay_there = record { lines = row_lines_stay; entries = entries_stay; exchanges = exchanges_stay; again = put_again; nodes = head_nodes }
+rows_stay_there = record { lines = row_lines_stay; entries = entries_stay; exchanges = exchanges_stay; nodes = head_nodes }

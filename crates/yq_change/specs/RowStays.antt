@@ -1,5 +1,5 @@
 -- What stands behind rows that gave way to others of the same shapes (own).
-use Rattle.std.specs.Prelude.{◌≡◌, ℕ, suc, ◌≤◌, List, [], ◌∷◌, ◌++◌, drop, length, map, slice_get, Some, take}
+use Rattle.std.specs.Prelude.{◌≡◌, ◌⊎◌, ℕ, suc, ◌<◌, ◌≤◌, List, [], ◌∷◌, ◌++◌, drop, length, map, slice_get, Some}
 use Rattle.yq_flow_scalars.specs.Paths.{Step}
 use Rattle.yq_flow_scalars.specs.Tree.{Node}
 use Rattle.yq_lines.specs.Outline.{anchored}
@@ -26,29 +26,28 @@ RowLinesStay =
     (n : ℕ) (p q : Part) (steps : List Step) (s : RowLine) → StaysFrom n p q → row_line_of steps p.rows ≡ Some s → n ≤ s.before →
     row_line_of steps q.rows ≡ Some s
 
--- the rows of an item or entry, with others in front of them (own)
-abbrev pub with_front : List Row → RowsOfEntry → RowsOfEntry
-with_front front e = record e { front = front }
+-- A row of a document stands behind so many rows of document k (own).
+abbrev pub IsBehind : (k n m i : ℕ) → Type 0
+IsBehind k n m i = (k < m) ⊎ ((k ≡ m) × (n ≤ i))
 
--- An item or entry behind those has the rows that it had, and in front of them as many of the other part (own).
+-- In another cut too, steps lead to the rows of an item or entry, of which those in front may be others, and the text before its document (own).
+pub record StandsStill (e : RowsOfEntry) (m : ℕ) (steps : List Step) (c : Cut) : Type 0 where
+  pub start : List ℕ
+  pub front : List Row
+  pub found : rows_of_entry m steps c ≡ Some (record e { start = start; front = front })
+  pub size : length front ≡ length e.front
+
+-- An item or entry behind those stands there still, with the document exchanged for the other part (own).
 abbrev pub EntriesStay : Type 0
 EntriesStay =
-    (c : Cut) (k n : ℕ) (p q : Part) (steps : List Step) (e : RowsOfEntry) → slice_get (document_parts c) k ≡ Some p → StaysFrom n p q →
-    rows_of_entry k steps c ≡ Some e → n ≤ length e.front →
-    (rows_of_entry k steps (put_document k q c) ≡ Some (with_front (take (length e.front) q.rows) e)) ×
-    (length (take (length e.front) q.rows) ≡ length e.front)
+    (c : Cut) (k n : ℕ) (p q : Part) (m : ℕ) (steps : List Step) (e : RowsOfEntry) → slice_get (document_parts c) k ≡ Some p → StaysFrom n p q →
+    rows_of_entry m steps c ≡ Some e → IsBehind k n m (length e.front) → StandsStill e m steps (put_document k q c)
 
--- With one row behind those exchanged for another one of its shape, a part is that one but for the rows up to it (own).
+-- With one row exchanged for another one of its shape, a part is that one but for the rows up to it (own).
 abbrev pub ExchangesStay : Type 0
 ExchangesStay =
-    (n : ℕ) (p q : Part) (front back : List Row) (r new : Row) → StaysFrom n p q → q.rows ≡ front ++ (r ∷ back) → n ≤ length front →
-    row_shape new ≡ row_shape r → StaysFrom (suc (length front)) p (inserted front (new ∷ []) back q)
-
--- A document exchanged for a part, and that for another one, is exchanged for that (own).
-abbrev pub PutAgain : Type 0
-PutAgain =
-    (c : Cut) (k n : ℕ) (p q r : Part) → slice_get (document_parts c) k ≡ Some p → StaysFrom n p q →
-    put_document k r (put_document k q c) ≡ put_document k r c
+    (p : Part) (front back : List Row) (r new : Row) → p.rows ≡ front ++ (r ∷ back) → row_shape new ≡ row_shape r →
+    StaysFrom (suc (length front)) p (inserted front (new ∷ []) back p)
 
 -- The node of an item or entry is what the row of its key or dash spells behind that, if anything is written there (8.2).
 abbrev pub HeadNodes : Type 0
@@ -61,5 +60,4 @@ pub record RowsBehindStay : Type 0 where
   pub lines : RowLinesStay
   pub entries : EntriesStay
   pub exchanges : ExchangesStay
-  pub again : PutAgain
   pub nodes : HeadNodes
