@@ -1,5 +1,6 @@
 -- Segments that put one text in the place of another: a value on one line, or a line comment.
-use Rattle.std.proofs.Common.{◌≡◌, ℕ, ◌+◌, Bool, true, false, ◌&&◌, not, cond, List, [], ◌∷◌, ◌++◌, length, ⊤, refl, sym, ap, ◌∙◌, arith, append-nil, append_assoc, length-append}
+use Rattle.std.proofs.Common.{◌≡◌, ℕ, ◌+◌, Bool, true, false, ◌&&◌, not, cond, List, [], ◌∷◌, ◌++◌, length, refl, sym, ap, ◌∙◌, arith, append-nil, append_assoc, length-append}
+use Rattle.std.specs.Prelude.{⊤}
 use Rattle.yq_flow_scalars.specs.Text.{is_empty}
 use Rattle.yq_flow_scalars.specs.Tree.{Node}
 use Rattle.yq_flow_scalars.specs.declared.style.Place.TheVariants.{Block as InBlock}
@@ -24,6 +25,9 @@ after_keep n [] ss = let same : n ≡ n + 0 = omega arith in ap (λ (m : ℕ). s
 after_keep n (b ∷ t) [] = refl
 after_keep n (b ∷ t) (keep u ∷ ss) = let same : n + length (b ∷ (t ++ u)) ≡ n + length (b ∷ t) + length u = omega (arith, length-append t u) in ap (λ (m : ℕ). splices_at m ss) same
 after_keep n (b ∷ t) (put o w ∷ ss) = refl
+
+first_keep : (t : List ℕ) (ss : List Segment) → splices_at 0 (keep_before t ss) ≡ splices_at (length t) ss
+first_keep t ss = let same : 0 + length t ≡ length t = omega arith in after_keep 0 t ss ∙ ap (λ (m : ℕ). splices_at m ss) same
 
 put_nothing : (n : ℕ) (ss : List Segment) → splices_at n (put_before [] [] ss) ≡ splices_at n ss
 put_nothing n [] = refl
@@ -72,7 +76,7 @@ module _ (h : Held) (v : Node) (some : is_empty h.head ≡ false) (none : h.brea
     old_is = (λ i. h.before ++ (h.space ++ (h.head ++ (h.white ++ (h.comment ++ (none i ++ (no_lines i ++ (h.last ++ append-nil h.behind i)))))))) ∙ sym (append_assoc h.before h.space (h.head ++ behind));
     new_is = (λ i. h.before ++ (h.space ++ (text_is i ++ (h.white ++ (h.comment ++ (h.last ++ append-nil h.behind i)))))) ∙ sym (append_assoc h.before h.space (t ++ behind));
     changes_are =
-        after_keep 0 h.before (merged (keep h.space ∷ (put h.head (apart h.head t) ∷ left)))
+        first_keep h.before (merged (keep h.space ∷ (put h.head (apart h.head t) ∷ left)))
         ∙ (after_keep (length h.before) h.space (merged (put h.head (apart h.head t) ∷ left))
         ∙ (put_quiet (length h.before + length h.space) h.head (apart h.head t) left (none, (refl, (no_lines, (refl, tt))))
         ∙ (λ i. splice_at (sym (length-append h.before h.space) i) h.head (text_is i))));
@@ -106,7 +110,7 @@ module _ (h : Held) (text : List ℕ) where
     old_is = simp (append_assoc, append-nil) refl;
     new_is = simp (append_assoc, append-nil) refl;
     changes_are =
-        after_keep 0 h.before (merged (keep h.space ∷ (keep h.head ∷ (put h.white [] ∷ (put h.comment new ∷ kept)))))
+        first_keep h.before (merged (keep h.space ∷ (keep h.head ∷ (put h.white [] ∷ (put h.comment new ∷ kept)))))
         ∙ (after_keep (length h.before) h.space (merged (keep h.head ∷ (put h.white [] ∷ (put h.comment new ∷ kept))))
         ∙ (after_keep (length h.before + length h.space) h.head (merged (put h.white [] ∷ (put h.comment new ∷ kept)))
         ∙ (ap (splices_at (length h.before + length h.space + length h.head)) (put_twice h.white [] h.comment new (merged kept))
@@ -117,7 +121,7 @@ module _ (h : Held) (text : List ℕ) where
     old_is = simp (append_assoc, append-nil) refl;
     new_is = simp (append_assoc, append-nil) refl;
     changes_are =
-        after_keep 0 h.before (merged (keep h.space ∷ (keep h.head ∷ (keep h.white ∷ (put h.comment new ∷ kept)))))
+        first_keep h.before (merged (keep h.space ∷ (keep h.head ∷ (keep h.white ∷ (put h.comment new ∷ kept)))))
         ∙ (after_keep (length h.before) h.space (merged (keep h.head ∷ (keep h.white ∷ (put h.comment new ∷ kept))))
         ∙ (after_keep (length h.before + length h.space) h.head (merged (keep h.white ∷ (put h.comment new ∷ kept)))
         ∙ (after_keep (length h.before + length h.space + length h.head) h.white (merged (put h.comment new ∷ kept))

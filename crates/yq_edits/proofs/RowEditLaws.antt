@@ -1,22 +1,18 @@
 -- What operations exchange that change one row.
-use Rattle.std.proofs.Common.{◌≡◌, ℕ, Bool, true, false, cond, eqb, eq-eqb, List, [], ◌∷◌, length, Option, Some, None, option_map, refl, sym, ap, ◌∙◌}
+use Rattle.std.proofs.Common.{◌≡◌, Bool, true, false, cond, eqb, eq-eqb, List, [], ◌∷◌, length, Option, Some, None, option_map, refl, sym, ap, ◌∙◌}
 use Rattle.std.proofs.lemmas.Bool.{false≢true}
 use Rattle.std.specs.Option.{option_or}
 use Rattle.yq_flow_scalars.specs.Answers.{◌>>=◌}
-use Rattle.yq_flow_scalars.specs.Paths.{Step}
 use Rattle.yq_flow_scalars.specs.Text.{is_empty}
-use Rattle.yq_flow_scalars.specs.Tree.{Node}
 use Rattle.yq_flow_scalars.specs.declared.style.Place.TheVariants.{Block as InBlock}
 use Rattle.yq_scalar.specs.BlockWritten.{break_text}
-use Rattle.yq_rows.specs.Rows.{Content, Nothing, Inline, Block, Cut, cut_text}
+use Rattle.yq_rows.specs.Rows.{Content, Nothing, Inline, Block, cut_text}
 use Rattle.yq_rows.specs.Seams.{is_block}
-use Rattle.yq_rows.specs.View.{content_cut, slices}
+use Rattle.yq_rows.specs.View.{content_cut}
 use Rattle.yq_places.specs.NodesAt.{node_in}
-use Rattle.yq_places.specs.Standings.{RowsOfEntry, Standing, behind_mark, below, beside, compact, compact_in, entry_standing, flow_standing, held, last_step, rows_of_entry, standing_at}
-use Rattle.yq_block.specs.BlockReading.{is_filled}
+use Rattle.yq_places.specs.Standings.{RowsOfEntry, behind_mark, below, beside, compact, compact_in, entry_standing, flow_standing, held, last_step, standing_at}
 use Rattle.yq_script.specs.Script.{Segment, keep}
 use Rattle.yq_edits.specs.CommentEdits.{comment_put, line_comment_put}
-use Rattle.yq_edits.specs.Edits.{edits}
 use Rattle.yq_edits.specs.FlowParts.{flow_put}
 use Rattle.yq_edits.specs.Layouts.{layout_of}
 use Rattle.yq_edits.specs.ReplaceEdits.{has_text, held_put, value_put, value_put_at}

@@ -1,26 +1,22 @@
 -- One more operation that changes a row, behind those that did: it comes to what it does on the rows as they were read, but for the text in front.
-use Rattle.std.proofs.Common.{◌≡◌, ℕ, suc, ◌+◌, ◌≤◌, ◌<◌, Bool, true, false, cond, leb, List, [], ◌∷◌, ◌++◌, length, take, drop, Option, Some, sym, ap, ◌∙◌, subst, append_assoc, append-nil, arith, length-append}
+use Rattle.std.proofs.Common.{◌≡◌, inl, inr, ℕ, suc, ◌+◌, ◌≤◌, ◌<◌, Bool, cond, leb, List, [], ◌∷◌, ◌++◌, length, take, drop, Option, Some, sym, ap, ◌∙◌, subst, append_assoc, arith, length-append}
 use Rattle.std.proofs.Math.Seq.{take-append_seam, drop-append_seam}
 use Rattle.std.proofs.lemmas.Bool.{le-leb, lt-leb}
 use Rattle.std.proofs.lemmas.List.{append_cancel_right, drop-append-le}
-use Rattle.std.proofs.lemmas.Option.{same_Some}
-use Rattle.std.specs.List.{slice_get}
 use Rattle.std.specs.Str.{IsCharBoundary}
 use Rattle.yq_flow_scalars.specs.Characters.{text_limit}
 use Rattle.yq_flow_scalars.specs.Paths.{Step}
-use Rattle.yq_rows.specs.Rows.{Cut, Part, Row, cut_text}
-use Rattle.yq_documents.specs.Documents.{document_parts}
+use Rattle.yq_rows.specs.Rows.{Cut, cut_text}
 use Rattle.yq_documents.specs.Reading.{read_at}
 use Rattle.yq_places.specs.Standings.{RowsOfEntry, rows_of_entry}
 use Rattle.yq_change.specs.Appends.{inserted}
 use Rattle.yq_change.specs.Changed.{put_document}
-use Rattle.yq_change.specs.RowStays.{RowsBehindStay, StaysFrom, with_front}
-use Rattle.yq_change.proofs.RowStayLaws.{rows_stay_there, there_still}
+use Rattle.yq_change.specs.RowStays.{IsBehind, StandsStill, StaysFrom}
+use Rattle.yq_change.proofs.RowStayLaws.{rows_stay_there}
 use Rattle.yq_meaning.specs.Operations.{Operation}
 use Rattle.yq_meaning.specs.declared.refusal.Refusal.TheVariants.{TooLarge}
 use Rattle.yq_script.specs.Exchanging as exchange
 use Rattle.yq_script.specs.Script.{Segment, changes, new_text, old_text, splice_at}
-use Rattle.yq_script.specs.Splice.{Splice}
 use Rattle.yq_edits.specs.Edits.{edits, or_stay}
 use Rattle.yq_edits.specs.RowChanges.{ChangesRow, PutsOne}
 use Rattle.yq_flow_edits.proofs.CutLaws.{text_read}
@@ -29,25 +25,32 @@ use Rattle.yq_splice.specs.Edit.{by_reading, edit_of_segments, exchange_edit, gi
 use Rattle.yq_splice.specs.RowRuns.{IsRowRun}
 use Rattle.yq_splice.specs.Runs.{run_text}
 
-module _ (c : Cut) (k n : ℕ) (p : Part) (out : List ℕ) (done : ℕ) (run : IsRowRun c k p n out done) (steps : List Step) (e : RowsOfEntry) (at : rows_of_entry k steps c ≡ Some e) (less : n ≤ length e.front) where
-  -- the cut of the text as it is now, and the rows there
-  abbrev pub cut_now : Cut
-  cut_now = put_document k run.part c
+-- what is behind one row behind another is behind that
+behind_both : (k n m i l j : ℕ) → IsBehind k n m i → IsBehind m (suc i) l j → IsBehind k n l j
+behind_both k n m i l j (inl a) (inl b) = inl (omega (arith, a, b))
+behind_both k n m i l j (inl a) (inr b) = inl (omega (arith, a, b.0))
+behind_both k n m i l j (inr a) (inl b) = inl (omega (arith, a.0, b))
+behind_both k n m i l j (inr a) (inr b) = inr (a.0 ∙ b.0, omega (arith, a.1, b.1))
+
+sized : (k n m i j : ℕ) → i ≡ j → IsBehind k n m i → IsBehind k n m j
+sized k n m i j e h = subst (λ (x : ℕ). IsBehind k n m x) e h
+
+module _ (c : Cut) (k n : ℕ) (out : List ℕ) (done : ℕ) (run : IsRowRun c k n out done) (m : ℕ) (steps : List Step) (e : RowsOfEntry) (at : rows_of_entry m steps c ≡ Some e) (later : IsBehind k n m (length e.front)) where
+  -- the rows in the text as it is now
+  abbrev pub still : StandsStill e m steps run.cut
+  still = run.stays m steps e at later
 
   abbrev pub rows_now : RowsOfEntry
-  rows_now = with_front (take (length e.front) run.part.rows) e
+  rows_now = record e { start = still.start; front = still.front }
 
-  stay : (rows_of_entry k steps cut_now ≡ Some rows_now) × (length rows_now.front ≡ length e.front)
-  stay = rows_stay_there.entries c k n p run.part steps e run.there run.stays at less
+  pub text_now : cut_text run.cut ≡ run_text (cut_text c) out done
+  text_now = text_read (run_text (cut_text c) out done) run.cut run.read
 
-  pub at_now : rows_of_entry k steps cut_now ≡ Some rows_now
-  at_now = stay.0
-
-  pub read_now : read_at (cut_text cut_now) ≡ Some cut_now
-  read_now = ap read_at run.text ∙ run.read
+  pub read_now : read_at (cut_text run.cut) ≡ Some run.cut
+  read_now = ap read_at text_now ∙ run.read
 
   -- an operation that puts one text there, and changes one row
-  module _ (op : Operation) (old_ss ss : List Segment) (before front old new behind : List ℕ) (was : PutsOne old_ss before old new behind) (whole_was : old_text old_ss ≡ cut_text c) (is : PutsOne ss front old new behind) (whole : old_text ss ≡ cut_text cut_now) (ordered : done ≤ length before) (edited : edits op cut_now ≡ Some ss) where
+  module _ (op : Operation) (old_ss ss : List Segment) (before front old new behind : List ℕ) (was : PutsOne old_ss before old new behind) (whole_was : old_text old_ss ≡ cut_text c) (is : PutsOne ss front old new behind) (whole : old_text ss ≡ cut_text run.cut) (ordered : done ≤ length before) (edited : edits op run.cut ≡ Some ss) where
     abbrev t : List ℕ
     t = cut_text c
 
@@ -75,7 +78,7 @@ module _ (c : Cut) (k n : ℕ) (p : Part) (out : List ℕ) (done : ℕ) (run : I
         append_cancel_right front new_front (old ++ behind)
         (sym is.old_is
         ∙ (whole
-        ∙ (run.text
+        ∙ (text_now
         ∙ (ap (λ (u : List ℕ). out ++ drop done u) text_is
         ∙ (ap (λ (u : List ℕ). out ++ u) (drop-append-le done before (old ++ behind) ordered)
         ∙ (sym (append_assoc out (drop done before) (old ++ behind))
@@ -93,7 +96,7 @@ module _ (c : Cut) (k n : ℕ) (p : Part) (out : List ℕ) (done : ℕ) (run : I
     changes_are = is.changes_are ∙ ap (λ (u : List ℕ). splice_at (length u) old new) front_is
 
     comes : carried op (run_text t out done) ≡ edit_of_segments ss
-    comes = ap (by_reading (carry_one op)) run.read ∙ ap (λ (o : Option (List Segment)). edit_of_segments (or_stay cut_now o)) edited
+    comes = ap (by_reading (carry_one op)) run.read ∙ ap (λ (o : Option (List Segment)). edit_of_segments (or_stay run.cut o)) edited
 
     pub row_put_comes : length (run_text t new_out finish) ≤ text_limit → carried op (run_text t out done) ≡ gives (run_text t new_out finish) (splice_at (length new_front) old new)
     row_put_comes small =
@@ -108,23 +111,19 @@ module _ (c : Cut) (k n : ℕ) (p : Part) (out : List ℕ) (done : ℕ) (run : I
         ∙ ap (λ (b : Bool). exchange_edit (cond b (exchange.gives (run_text t new_out finish) (splice_at (length new_front) old new)) exchange.too_large)) (lt-leb (length (run_text t new_out finish)) text_limit large))
 
     -- the run goes on behind it
-    pub row_goes_on : IsCharBoundary t finish → ChangesRow k cut_now rows_now ss → IsRowRun c k p (suc (length e.front)) new_out finish
+    pub row_goes_on : IsCharBoundary t finish → ChangesRow m run.cut rows_now ss → IsRowRun c m (suc (length e.front)) new_out finish
     row_goes_on edge x =
-        let same : x.part ≡ run.part = same_Some _ _ (sym x.there ∙ there_still c k n p run.part run.there run.stays) in
-        let are : run.part.rows ≡ x.front ++ (x.row ∷ x.back) = ap (λ (q : Part). q.rows) (sym same) ∙ x.rows_are in
-        let size : length x.front ≡ length e.front = x.front_size ∙ stay.1 in
-        let part : Part = inserted x.front (x.new ∷ []) x.back run.part in
-        let cut : put_document k part cut_now ≡ put_document k part c = rows_stay_there.again c k n p run.part part run.there run.stays in
-        let read : read_at (new_text ss) ≡ Some (put_document k part c) = x.read ∙ (ap (λ (q : Part). Some (put_document k (inserted x.front (x.new ∷ []) x.back q) cut_now)) same ∙ ap Some cut) in
+        let size : length x.front ≡ length e.front = x.front_size ∙ still.size in
+        let kept : StaysFrom (suc (length e.front)) x.part (inserted x.front (x.new ∷ []) x.back x.part) =
+        subst (λ (i : ℕ). StaysFrom (suc i) x.part (inserted x.front (x.new ∷ []) x.back x.part)) size (rows_stay_there.exchanges x.part x.front x.back x.row x.new x.rows_are x.shape) in
         record {
           within = omega (arith, ap length text_is, length-append before (old ++ behind), length-append old behind);
           edge = edge;
-          there = run.there;
-          part = part;
-          stays = subst (λ (m : ℕ). StaysFrom (suc m) p part) size (rows_stay_there.exchanges n p run.part x.front x.back x.row x.new run.stays are (omega (arith, less, size)) x.shape);
-          text = sym (text_of (new_text ss) (put_document k part c) read) ∙ new_is;
-          read = ap read_at (sym new_is) ∙ read;
+          cut = put_document m (inserted x.front (x.new ∷ []) x.back x.part) run.cut;
+          read = ap read_at (sym new_is) ∙ x.read;
+          stays = λ l path f found after.
+              let first : StandsStill f l path run.cut = run.stays l path f found (behind_both k n m (length e.front) l (length f.front) later after) in
+              let z = rows_stay_there.entries run.cut m (suc (length e.front)) x.part (inserted x.front (x.new ∷ []) x.back x.part) l path (record f { start = first.start; front = first.front }) x.there kept first.found
+              (sized m (suc (length e.front)) l (length f.front) (length first.front) (sym first.size) after) in
+              record { start = z.start; front = z.front; found = z.found; size = z.size ∙ first.size };
         }
-      where
-        text_of : (u : List ℕ) (d : Cut) → read_at u ≡ Some d → u ≡ cut_text d
-        text_of u d read = sym (text_read u d read)
