@@ -78,7 +78,7 @@ module _ (h : Held) (v : Node) (some : is_empty h.head ≡ false) (none : h.brea
     changes_are =
         first_keep h.before (merged (keep h.space ∷ (put h.head (apart h.head t) ∷ left)))
         ∙ (after_keep (length h.before) h.space (merged (put h.head (apart h.head t) ∷ left))
-        ∙ (put_quiet (length h.before + length h.space) h.head (apart h.head t) left (none, (refl, (no_lines, (refl, tt))))
+        ∙ (put_quiet (length h.before + length h.space) h.head (apart h.head t) left (none, refl, (no_lines, refl, tt))
         ∙ (λ i. splice_at (sym (length-append h.before h.space) i) h.head (text_is i))));
   }
 
