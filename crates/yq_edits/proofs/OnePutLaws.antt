@@ -1,5 +1,5 @@
 -- Segments that put one text in the place of another: a value on one line, or a line comment.
-use Rattle.std.proofs.Common.{◌≡◌, ℕ, ◌+◌, Bool, true, false, ◌&&◌, not, cond, List, [], ◌∷◌, ◌++◌, length, refl, sym, ap, ◌∙◌, arith, append-nil, append_assoc, length-append}
+use Rattle.std.proofs.Common.{◌≡◌, ℕ, ◌+◌, Bool, true, false, cond, List, [], ◌∷◌, ◌++◌, length, refl, sym, ap, ◌∙◌, arith, append-nil, append_assoc, length-append}
 use Rattle.std.specs.Prelude.{⊤}
 use Rattle.yq_flow_scalars.specs.Text.{is_empty}
 use Rattle.yq_flow_scalars.specs.Tree.{Node}
@@ -8,9 +8,9 @@ use Rattle.yq_places.specs.Standings.{Held}
 use Rattle.yq_script.specs.Script.{Segment, changes, keep, keep_before, merged, put, put_before, splice_at, splices_at}
 use Rattle.yq_script.specs.Splice.{Splice}
 use Rattle.yq_script.proofs.TouchLaws.{put_twice}
-use Rattle.yq_edits.specs.CommentEdits.{comment_put, comment_written}
+use Rattle.yq_edits.specs.CommentEdits.{comment_written}
 use Rattle.yq_edits.specs.ReplaceEdits.{apart}
-use Rattle.yq_edits.specs.RowChanges.{PutsOne, inline_put}
+use Rattle.yq_edits.specs.RowChanges.{CommentPutsOne, InlinePutsOne, PutsOne, inline_put, takes_white}
 use Rattle.yq_edits.specs.WrittenValues.{value_text}
 
 -- ---- segments that exchange no bytes
@@ -70,9 +70,9 @@ module _ (h : Held) (v : Node) (some : is_empty h.head ≡ false) (none : h.brea
   abbrev left : List Segment
   left = keep h.white ∷ (keep h.comment ∷ (put h.break [] ∷ (put h.lines [] ∷ (keep h.last ∷ (keep h.behind ∷ [])))))
 
-  pub inline_puts : PutsOne (inline_put v h) (h.before ++ h.space) h.head t behind
+  one_put : PutsOne (inline_put v h) (h.before ++ h.space) h.head t behind
   unfolding changes
-  inline_puts = record {
+  one_put = record {
     old_is = (λ i. h.before ++ (h.space ++ (h.head ++ (h.white ++ (h.comment ++ (none i ++ (no_lines i ++ (h.last ++ append-nil h.behind i)))))))) ∙ sym (append_assoc h.before h.space (h.head ++ behind));
     new_is = (λ i. h.before ++ (h.space ++ (text_is i ++ (h.white ++ (h.comment ++ (h.last ++ append-nil h.behind i)))))) ∙ sym (append_assoc h.before h.space (t ++ behind));
     changes_are =
@@ -82,14 +82,10 @@ module _ (h : Held) (v : Node) (some : is_empty h.head ≡ false) (none : h.brea
         ∙ (λ i. splice_at (sym (length-append h.before h.space) i) h.head (text_is i))));
   }
 
+pub inline_puts : InlinePutsOne
+inline_puts v h some none no_lines = one_put h v some none no_lines
+
 -- ---- a line comment
-
--- the text in front of what a line comment exchanges, and what gives way
-abbrev pub comment_front : List ℕ → Held → List ℕ
-comment_front text h = h.before ++ (h.space ++ (h.head ++ cond (is_empty text && not (is_empty h.comment)) [] h.white))
-
-abbrev pub comment_old : List ℕ → Held → List ℕ
-comment_old text h = cond (is_empty text && not (is_empty h.comment)) h.white [] ++ h.comment
 
 module _ (h : Held) (text : List ℕ) where
   abbrev lower : List ℕ
@@ -129,5 +125,5 @@ module _ (h : Held) (text : List ℕ) where
         ∙ ap (λ (m : ℕ). splice_at m h.comment new) (omega (arith, length-append h.before (h.space ++ (h.head ++ h.white)), length-append h.space (h.head ++ h.white), length-append h.head h.white))))));
   }
 
-  pub comment_puts : PutsOne (comment_put text h) (comment_front text h) (comment_old text h) (comment_written text h.comment) lower
-  comment_puts = by_white (is_empty text && not (is_empty h.comment))
+pub comment_puts : CommentPutsOne
+comment_puts text h = by_white h text (takes_white text h)

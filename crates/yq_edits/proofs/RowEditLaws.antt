@@ -1,5 +1,5 @@
 -- What operations exchange that change one row.
-use Rattle.std.proofs.Common.{◌≡◌, Bool, true, false, cond, eqb, eq-eqb, List, [], ◌∷◌, length, Option, Some, None, option_map, refl, sym, ap, ◌∙◌}
+use Rattle.std.proofs.Common.{◌≡◌, Bool, true, cond, eqb, eq-eqb, List, [], ◌∷◌, length, Option, Some, None, option_map, refl, sym, ap, ◌∙◌}
 use Rattle.std.proofs.lemmas.Bool.{false≢true}
 use Rattle.std.specs.Option.{option_or}
 use Rattle.yq_flow_scalars.specs.Answers.{◌>>=◌}
@@ -19,6 +19,7 @@ use Rattle.yq_edits.specs.ReplaceEdits.{has_text, held_put, value_put, value_put
 use Rattle.yq_edits.specs.Replacing.{is_kept}
 use Rattle.yq_edits.specs.RowChanges.{CommentEdits, HoldsInline, InlineEdits, RowEdits, inline_put}
 use Rattle.yq_edits.specs.WrittenValues.{collection_at, inline, value_text}
+use Rattle.yq_edits.proofs.OnePutLaws.{comment_puts, inline_puts}
 
 -- an inline node stands beside its key or dash
 beside_there : (e : RowsOfEntry) → HoldsInline e → entry_standing e ≡ beside (held e)
@@ -46,4 +47,4 @@ comment_edits n steps text c e at last =
     ∙ ap (λ (b : Bool). cond b (Some (comment_put text (held e))) None) (eq-eqb e.line (length e.row.dashes) last)
 
 pub row_edits : RowEdits
-row_edits = record { inline = inline_edits; comment = comment_edits }
+row_edits = record { inline = inline_edits; comment = comment_edits; inline_puts = inline_puts; comment_puts = comment_puts }

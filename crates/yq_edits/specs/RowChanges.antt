@@ -1,5 +1,5 @@
 -- Operations that give one row of a text another content of the same shape (own).
-use Rattle.std.specs.Prelude.{◌≡◌, ℕ, ◌≤◌, List, [], ◌∷◌, ◌++◌, length, slice_get, Some, false, if◌then◌else◌}
+use Rattle.std.specs.Prelude.{◌≡◌, ℕ, ◌≤◌, ◌&&◌, not, Bool, List, [], ◌∷◌, ◌++◌, length, slice_get, Some, false, if◌then◌else◌}
 use Rattle.yq_flow_scalars.specs.Characters.{text_limit}
 use Rattle.yq_flow_scalars.specs.Paths.{Step}
 use Rattle.yq_flow_scalars.specs.Text.{is_empty}
@@ -20,7 +20,7 @@ use Rattle.yq_meaning.specs.Operations.{line_comment, replace}
 use Rattle.yq_meaning.specs.Rooms.{room_of}
 use Rattle.yq_script.specs.Script.{Segment, changes, keep, new_text, old_text, splice_at}
 use Rattle.yq_places.specs.NodesAt.{node_in}
-use Rattle.yq_edits.specs.CommentEdits.{comment_put}
+use Rattle.yq_edits.specs.CommentEdits.{comment_put, comment_written}
 use Rattle.yq_edits.specs.Edits.{edits}
 use Rattle.yq_edits.specs.Operands.{HasOperand}
 use Rattle.yq_edits.specs.ReplaceEdits.{held_put}
@@ -86,7 +86,33 @@ CommentEdits =
     (n : ℕ) (steps : List Step) (text : List ℕ) (c : Cut) (e : RowsOfEntry) → rows_of_entry n steps c ≡ Some e → e.line ≡ length e.row.dashes →
     edits (line_comment n steps text) c ≡ Some (comment_put text (held e))
 
+-- A value so put is one text in the place of the head, where no lines are below.
+abbrev pub InlinePutsOne : Type 0
+InlinePutsOne =
+    (v : Node) (h : Held) → is_empty h.head ≡ false → h.break ≡ [] → h.lines ≡ [] →
+    PutsOne (inline_put v h) (h.before ++ h.space) h.head (value_text InBlock h.head v) (h.white ++ (h.comment ++ (h.last ++ h.behind)))
+
+-- whether a line comment takes the white space before it away with it
+abbrev pub takes_white : List ℕ → Held → Bool
+takes_white text h = is_empty text && not (is_empty h.comment)
+
+-- the text in front of what a line comment exchanges
+abbrev pub comment_front : List ℕ → Held → List ℕ
+comment_front text h = h.before ++ (h.space ++ (h.head ++ (if takes_white text h then [] else h.white)))
+
+-- what gives way to a line comment
+abbrev pub comment_old : List ℕ → Held → List ℕ
+comment_old text h = (if takes_white text h then h.white else []) ++ h.comment
+
+-- A line comment is one text in the place of another one, or of none.
+abbrev pub CommentPutsOne : Type 0
+CommentPutsOne =
+    (text : List ℕ) (h : Held) →
+    PutsOne (comment_put text h) (comment_front text h) (comment_old text h) (comment_written text h.comment) (h.break ++ (h.lines ++ (h.last ++ h.behind)))
+
 -- These laws together (own).
 pub record RowEdits : Type 0 where
   pub inline : InlineEdits
   pub comment : CommentEdits
+  pub inline_puts : InlinePutsOne
+  pub comment_puts : CommentPutsOne
