@@ -1,26 +1,21 @@
 -- What each operation exchanges carries it out, by the laws of each kind of edit.
-use Rattle.std.proofs.Common.{◌≡◌, ◌⊎◌, inl, inr, ℕ, Bool, true, false, cond, eqb, List, [], ◌∷◌, length, Option, Some, None, option_map, refl, sym, ap, ◌∙◌, subst}
-use Rattle.std.proofs.lemmas.Bool.{cond-true, cond-false, false≢true}
+use Rattle.std.proofs.Common.{◌≡◌, ◌⊎◌, inl, inr, ℕ, Bool, true, false, cond, List, [], ◌∷◌, Option, Some, None, option_map, refl, subst}
 use Rattle.std.proofs.lemmas.Option.{none-some, same_Some}
-use Rattle.std.specs.List.{slice_get}
 use Rattle.std.specs.Option.{option_or}
 use Rattle.yq_flow_scalars.specs.Answers.{◌>>=◌}
-use Rattle.yq_scalar.specs.BlockWritten.{break_text}
 use Rattle.yq_flow_scalars.specs.Paths.{Step}
 use Rattle.yq_flow_scalars.specs.Tree.{Node}
 use Rattle.yq_flow_scalars.proofs.Bools.{bind_some}
 use Rattle.yq_flow.proofs.RemoveTexts.{either}
 use Rattle.yq_rows.specs.Rows.{Cut, cut_text}
 use Rattle.yq_documents.specs.Reading.{read_at}
-use Rattle.yq_places.specs.FirstBreak.{first_break}
 use Rattle.yq_places.specs.FlowNodes.{flow_collection}
 use Rattle.yq_places.specs.NodesAt.{node_in}
 use Rattle.yq_places.specs.RemovalPlaces.{has_others_at}
-use Rattle.yq_places.specs.Standings.{FlowPart, RowsOfEntry, Standing, flow_standing, last_step, rows_of_entry, standing_at}
+use Rattle.yq_places.specs.Standings.{flow_standing, last_step, rows_of_entry, standing_at}
 use Rattle.yq_places.proofs.PrintedTexts.{map_some}
 use Rattle.yq_meaning.specs.Operations.{replace, append, remove, line_comment, head_comment}
 use Rattle.yq_script.specs.Script.{Segment, keep}
-use Rattle.yq_edits.specs.CommentEdits.{head_comment_put, line_comment_put}
 use Rattle.yq_edits.specs.EditLaws.{KindsCarryOut, EditsCarryOut, IsEdit}
 use Rattle.yq_edits.specs.Edits.{emptied, part_removed, replaced, rows_or_sole, sole_removed}
 use Rattle.yq_edits.specs.EntryEdits.{block_more, one_removed}

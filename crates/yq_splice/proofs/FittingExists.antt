@@ -1,7 +1,7 @@
 -- An operation that fits has its edit: where a node is, something stands.
-use Rattle.std.proofs.Common.{◌≡◌, ◌⊎◌, inl, inr, ltb, ℕ, Bool, true, false, cond, eqb, List, [], ◌∷◌, length, Option, Some, None, option_map, refl, sym, ap, ◌∙◌, subst}
+use Rattle.std.proofs.Common.{◌≡◌, ◌⊎◌, inl, inr, ltb, ℕ, Bool, true, false, cond, List, [], ◌∷◌, Option, Some, None, option_map, refl, sym, ap, ◌∙◌, subst}
 use Rattle.std.proofs.lemmas.Bool.{cond-true, false≢true}
-use Rattle.std.proofs.lemmas.Option.{none-some, same_Some}
+use Rattle.std.proofs.lemmas.Option.{none-some}
 use Rattle.std.specs.List.{slice_get}
 use Rattle.std.specs.Option.{option_or}
 use Rattle.yq_flow_scalars.specs.Answers.{◌>>=◌}
@@ -34,7 +34,7 @@ use Rattle.yq_places.proofs.PlacedRowLaws.{document_placed, part_of}
 use Rattle.yq_places.proofs.PrintedTexts.{map_some}
 use Rattle.yq_change.specs.StandingLaws.{EntriesStand, RootsStand}
 use Rattle.yq_meaning.specs.Fits.{Fits}
-use Rattle.yq_meaning.specs.Operations.{Operation, replace, append, remove, line_comment, head_comment}
+use Rattle.yq_meaning.specs.Operations.{replace, append, remove, line_comment, head_comment}
 use Rattle.yq_meaning.specs.Rooms.{room_of}
 use Rattle.yq_script.specs.Script.{Segment, keep}
 use Rattle.yq_edits.specs.CommentEdits.{above_rows, comment_put, head_comment_put, head_comment_segments, line_comment_put}

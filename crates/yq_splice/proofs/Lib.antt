@@ -19,5 +19,4 @@ pub mod PrintedDocuments
 pub mod PutComes
 pub mod RunLaws
 pub mod RunAnswers
-pub mod StepLaws
 pub mod RowRunLaws

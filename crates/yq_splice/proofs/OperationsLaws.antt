@@ -3,12 +3,14 @@ use Rattle.std.proofs.Common.{◌≡◌, ℕ, ◌-◌, ◌≤◌, List, [], ◌�
 use Rattle.yq_meaning.specs.Operations.{operation_of, operations_of}
 use Rattle.yq_meaning.specs.declared.op.Op.{Op}
 use Rattle.yq_script.specs.Splice.{Splice}
+use Rattle.yq_splice.specs.Answers.{EditFails}
 use Rattle.yq_splice.specs.Carried.{carried, carry_all}
 use Rattle.yq_splice.specs.Edit.{Edit, unreadable, refuses, gives, behind, and_then}
-use Rattle.yq_splice.specs.Theorems.{IsApplied}
+use Rattle.yq_splice.specs.Theorems.{IsApplied, IsFitting}
 use Rattle.yq_splice.specs.Valid.{AreServed}
-use Rattle.yq_splice.proofs.OrderLaws.{behind_both}
-use Rattle.yq_splice.proofs.ServeLaws.{others_serve}
+use Rattle.yq_splice.specs.declared.edit_error.EditError.{EditError}
+use Rattle.yq_splice.proofs.OrderLaws.{behind_both, fails_behind, fails_on}
+use Rattle.yq_splice.proofs.ServeLaws.{fits, others_serve}
 
 -- an edit, and then nothing more
 then_nothing : (e : Edit) → and_then (carry_all []) e ≡ e
@@ -45,3 +47,19 @@ pub others_served : (os : List Op) (op : Op) (t m : List ℕ) (cs : List Splice)
 others_served os op t m cs some at h a =
     let s = subst (λ (x : List Op). AreServed (operations_of x) t) (first_apart os op some at) h in
     (_, others_serve s.0 (operation_of op) (operations_of (later os)) t s.1 m cs a)
+
+-- one that fails
+pub first_fails : (os : List Op) (op : Op) (t : List ℕ) (bs : List Splice) (e : EditError) → 1 ≤ length os → op ≡ slice_index_or os 0 op → EditFails e (carried (operation_of op) t) → EditFails e (behind bs (carry_all (operations_of os) t))
+first_fails os op t bs e some at h =
+    fails_behind e bs (carry_all (operations_of os) t)
+    (subst (λ (x : List Op). EditFails e (carry_all (operations_of x) t)) (sym (first_apart os op some at)) (fails_on e (carry_all (operations_of (later os))) (carried (operation_of op) t) h))
+
+-- none
+pub none_come : (os : List Op) (t : List ℕ) (bs : List Splice) → length os ≡ 0 → behind bs (carry_all (operations_of os) t) ≡ gives t bs
+none_come [] t bs e = ap (gives t) (append-nil bs)
+none_come (o ∷ os) t bs e = absurd (omega (arith, e))
+
+pub first_fits : (os : List Op) (op : Op) (t : List ℕ) → 1 ≤ length os → op ≡ slice_index_or os 0 op → AreServed (operations_of os) t → IsFitting (operation_of op) t
+first_fits os op t some at h =
+    let s = subst (λ (x : List Op). AreServed (operations_of x) t) (first_apart os op some at) h in
+    fits s.0 (operation_of op) (operations_of (later os)) t s.1

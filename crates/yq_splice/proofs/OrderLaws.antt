@@ -46,6 +46,12 @@ fails_itself (error.Refused why) cs (refuses other) h = h
 fails_itself (error.Refused why) cs (gives t ds) h = absurd (cc)
 fails_itself error.Memory cs r h = tt
 
+-- an edit behind no splices
+pub behind_none : (r : Edit) → behind [] r ≡ r
+behind_none unreadable = refl
+behind_none (refuses why) = refl
+behind_none (gives t cs) = refl
+
 -- an edit behind splices, behind others
 pub behind_both : (bs cs : List Splice) (r : Edit) → behind (bs ++ cs) r ≡ behind bs (behind cs r)
 behind_both bs cs unreadable = refl

@@ -1,5 +1,5 @@
 -- What it comes to that a value is put at a part of a flow collection.
-use Rattle.std.proofs.Common.{◌≡◌, ℕ, ◌+◌, ◌≤◌, ◌<◌, Bool, true, false, cond, leb, List, [], ◌∷◌, ◌++◌, length, Option, Some, None, option_map, sym, ap, ◌∙◌, append-nil, append_assoc}
+use Rattle.std.proofs.Common.{◌≡◌, ℕ, ◌+◌, ◌≤◌, ◌<◌, Bool, true, false, cond, leb, List, [], ◌∷◌, ◌++◌, length, Option, Some, None, option_map, sym, ap, ◌∙◌, append-nil, append_assoc, arith}
 use Rattle.std.proofs.lemmas.Bool.{le-leb, lt-leb}
 use Rattle.std.specs.Option.{option_or}
 use Rattle.yq_flow_scalars.specs.Answers.{◌>>=◌}
@@ -34,13 +34,16 @@ use Rattle.yq_splice.specs.Edit.{by_reading, exchange_edit, edit_of_segments, gi
 
 -- ---- the splices
 
+from_start : (n : ℕ) → 0 + n ≡ n
+from_start n = omega arith
+
 -- an exchange with what leads and what is written behind it
 put_splices : (b o l w r : List ℕ) → changes (keep b ∷ (put o l ∷ (put [] w ∷ (keep r ∷ [])))) ≡ splice_at (length b) o (l ++ w)
 unfolding changes
 put_splices [] o l w [] = append-nil _ ∙ ap (λ (x : List ℕ). splice_at 0 x (l ++ w)) (append-nil o)
 put_splices [] o l w (y ∷ r) = append-nil _ ∙ ap (λ (x : List ℕ). splice_at 0 x (l ++ w)) (append-nil o)
-put_splices (x ∷ b) o l w [] = append-nil _ ∙ ap (λ (y : List ℕ). splice_at (length (x ∷ b)) y (l ++ w)) (append-nil o)
-put_splices (x ∷ b) o l w (y ∷ r) = append-nil _ ∙ ap (λ (z : List ℕ). splice_at (length (x ∷ b)) z (l ++ w)) (append-nil o)
+put_splices (x ∷ b) o l w [] = append-nil _ ∙ λ i. splice_at (from_start (length (x ∷ b)) i) (append-nil o i) (l ++ w)
+put_splices (x ∷ b) o l w (y ∷ r) = append-nil _ ∙ λ i. splice_at (from_start (length (x ∷ b)) i) (append-nil o i) (l ++ w)
 
 -- ---- the segments
 

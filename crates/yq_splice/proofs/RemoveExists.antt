@@ -1,5 +1,5 @@
 -- An item or entry that stands in rows can be taken out.
-use Rattle.std.proofs.Common.{◌≡◌, ◌-◌, Bool, true, false, cond, eqb, ℕ, List, [], ◌∷◌, ◌++◌, length, drop, map, Option, Some, None, option_map, option_and_then, refl, sym, ap, ◌∙◌}
+use Rattle.std.proofs.Common.{◌≡◌, ◌-◌, Bool, true, false, cond, eqb, ℕ, List, [], ◌∷◌, ◌++◌, length, drop, map, Option, Some, None, option_map, option_and_then, refl, ap, ◌∙◌}
 use Rattle.std.proofs.lemmas.Bool.{cond-true, cond-false}
 use Rattle.std.specs.List.{slice_get}
 use Rattle.std.specs.Option.{option_or}
@@ -11,10 +11,9 @@ use Rattle.yq_lines.specs.Outline.{Line, flatten}
 use Rattle.yq_lines.specs.Places.{FoundLine, find, lines_after, lines_before}
 use Rattle.yq_rows.specs.Rows.{Part, Cut, cut_text}
 use Rattle.yq_documents.specs.declared.path.Part.TheVariants.{Entry}
-use Rattle.yq_documents.specs.Documents.{document_parts}
 use Rattle.yq_walk.specs.Lines.{lines_of}
 use Rattle.yq_documents.specs.Pieces.{TextPiece}
-use Rattle.yq_documents.specs.Reading.{outline_of, read_at}
+use Rattle.yq_documents.specs.Reading.{read_at}
 use Rattle.yq_documents.specs.LinesInRows.{RowLine, row_line, row_line_of}
 use Rattle.yq_places.specs.FirstPlaces.{first_entry, first_out, first_removal}
 use Rattle.yq_places.specs.PathPieces.{BlockEntry, PrintedDocument, entry_piece, found_entry, piece_in, piece_in_entry, printed_document}

@@ -1,29 +1,35 @@
 -- Runs of values that are put in one flow collection, as the code makes them.
-use Rattle.std.proofs.Common.{◌≡◌, ℕ, ◌+◌, ◌≤◌, ◌<◌, true, false, List, [], ◌++◌, length, take, drop, Some, sym, ap, ◌∙◌, subst, append-nil, arith, string_bytes}
+use Rattle.std.proofs.Common.{◌≡◌, ℕ, ◌+◌, ◌≤◌, ◌<◌, false, List, [], ◌++◌, length, take, drop, Option, Some, None, Result, Ok, Err, IfOk, sym, ap, ◌∙◌, subst, append-nil, arith, string_bytes}
 use Rattle.std.proofs.lemmas.Str.{IsCharBoundary-start}
+use Rattle.std.specs.Prelude.{IfSome, String}
+use Rattle.std.specs.Str.{IsCharBoundary}
+use Rattle.std.specs.declared.alloc.Global.{Global}
 use Rattle.yq_flow_scalars.specs.Paths.{Step}
 use Rattle.yq_flow_scalars.specs.Tree.{Node}
-use Rattle.yq_flow.specs.Valued.{IsValueTree}
-use Rattle.yq_flow.specs.declared.flow_place.EditPlace.{EditPlace}
+use Rattle.yq_flow.specs.FlowPlaces.{edit_view}
 use Rattle.yq_rows.specs.Rows.{Cut, cut_text}
 use Rattle.yq_documents.specs.Reading.{cut_of, read_at}
 use Rattle.yq_places.specs.NodesAt.{node_in}
-use Rattle.yq_places.specs.Standings.{FlowPart, flow_standing, last_step}
+use Rattle.yq_places.specs.Standings.{last_step}
 use Rattle.yq_places.specs.declared.places.flow_node.FlowHead.{FlowHead}
 use Rattle.yq_meaning.specs.Operations.{Operation, replace}
 use Rattle.yq_script.specs.Script.{splice_at}
 use Rattle.yq_script.specs.Splice.{Splice}
+use Rattle.yq_edits.specs.Operands.{HasOperand}
 use Rattle.yq_edits.specs.Replacing.{is_kept}
-use Rattle.yq_flow_edits.specs.PartPuts.{IsPlaceOf, put_edit}
+use Rattle.yq_flow_edits.specs.EditPlaces.{LiesIn, moved_on}
+use Rattle.yq_flow_edits.specs.PartPuts.{ArePuts, IsWritten, put_edit}
+use Rattle.yq_flow_edits.specs.declared.put.PartPut.{PartPut}
 use Rattle.yq_flow_edits.proofs.CutLaws.{text_read}
-use Rattle.yq_splice.specs.Answers.{Fails}
+use Rattle.yq_flow_edits.proofs.FlowAnswers.{whole_text}
+use Rattle.yq_splice.specs.Answers.{EditFails}
 use Rattle.yq_splice.specs.Carried.{carried}
 use Rattle.yq_splice.specs.Edit.{gives, refuses}
-use Rattle.yq_splice.specs.Runs.{HasPut, IsRun, PutFails, Runs, RunsOn, now_text, run_front, run_text}
+use Rattle.yq_splice.specs.Runs.{EndsIn, HasPut, IsRun, PutFails, PutsAt, Runs, RunsOn, above_in, now_text, run_front, run_text, steps_above}
 use Rattle.yq_splice.specs.Theorems.{IsFitting}
 use Rattle.yq_splice.specs.declared.edit_error.EditError.{EditError}
 use Rattle.yq_splice.specs.declared.edit_error.EditError.TheVariants as error
-use Rattle.yq_splice.specs.declared.together.Run.{Run}
+use Rattle.yq_splice.specs.declared.run.Run.{Run}
 use Rattle.yq_splice.proofs.ApplyLaws.{applied_by}
 use Rattle.yq_splice.proofs.RunLaws.{goes_on, kept_there, large_there, put_there}
 use Rattle.yq_splice.proofs.SessionLaws.{text_utf8}
@@ -40,49 +46,118 @@ run_begins t n steps read =
       stays = λ w found. record { now = w; found = found; later = λ s y at less. at };
     }
 
-module _ (c : Cut) (n : ℕ) (steps path : List Step) (s : Step) (v : Node) (before : Run) (whole : read_at (cut_text c) ≡ Some c) (run : Runs c n steps before) (last : last_step path ≡ Some (steps, s)) (z : FlowPart) (standing : flow_standing n c (last_step path) ≡ Some z) (x : FlowHead) (place : EditPlace)
-    (placed : IsPlaceOf (cut_text c) v z x place) (behind : before.done ≤ x.before + place.start) (passes : before.done < x.before + place.end) (value : IsValueTree v) (fitting : IsFitting (replace n path v) (now_text c before)) where
-  abbrev out : List ℕ
-  out = string_bytes before.text
+-- the same of a run that the code begins
+module _ (t : List ℕ) (n : ℕ) (steps : List Step) (r : Run) (read : read_at t ≡ Some (cut_of t)) (text : string_bytes r.text ≡ []) (done : r.done ≡ 0) where
+  pub begins : Runs (cut_of t) n steps r
+  begins = subst (λ (d : ℕ). IsRun (cut_of t) n steps (string_bytes r.text) d) (sym done) (subst (λ (l : List ℕ). IsRun (cut_of t) n steps l 0) (sym text) (run_begins t n steps read))
 
-  abbrev op : Operation
-  op = replace n path v
+  pub begins_with : now_text (cut_of t) r ≡ t
+  begins_with = (λ i. run_text (cut_text (cut_of t)) (text i) (done i)) ∙ text_read t (cut_of t) read
 
-  abbrev start : ℕ
-  start = x.before + place.start
+-- a path ends in the collection in which another one does, if the steps above their last ones are the same
+pub ends_there : (one other above first : List Step) (s r : Step) → Some (above, s) ≡ last_step one → Some (first, r) ≡ last_step other → above ≡ first → EndsIn (steps_above other) one
+ends_there one other above first s r last first_last same = (s, sym last ∙ ap (λ (ss : List Step). Some (ss, s)) (same ∙ ap above_in first_last))
 
-  abbrev finish : ℕ
-  finish = x.before + place.end
+-- a value is put at a part in that collection
+pub puts_at : {E : Type 0} (t : List ℕ) (m n : ℕ) (steps : List Step) (op : Operation) (path : List Step) (v : Node) (x : FlowHead) →
+    op ≡ replace m path v → HasOperand op → (m ≡ n) × EndsIn steps path → (r : Result (Option PartPut) E) → IfOk r (λ o. ArePuts m path v (cut_of t) x o) →
+    IfOk r (λ o. IfSome o (λ p. PutsAt op t n steps x p))
+puts_at t m n steps op path v x is operand beside (Ok None) h = tt
+puts_at t m n steps op path v x is operand beside (Ok (Some p)) h =
+    let a : ArePuts n path v (cut_of t) x (Some p) = subst (λ (k : ℕ). ArePuts k path v (cut_of t) x (Some p)) beside.0 h in
+    record {
+      path = path;
+      value = v;
+      operation = is ∙ ap (λ (k : ℕ). replace k path v) beside.0;
+      valid = subst HasOperand is operand;
+      step = beside.1.0;
+      last = beside.1.1;
+      part = a.0;
+      standing = a.1;
+      placed = a.2;
+      written = a.3;
+    }
+puts_at t m n steps op path v x is operand beside (Err e) h = tt
+
+-- where a run ends, and a value comes, in the text of the cut
+module _ (t u : List ℕ) (read : read_at t ≡ Some (cut_of t)) (all : u ≡ t) where
+  text_is : u ≡ cut_text (cut_of t)
+  text_is = whole_text t u read all
+
+  pub edge_in : (n : ℕ) (steps : List Step) (r : Run) → Runs (cut_of t) n steps r → IsCharBoundary u r.done
+  edge_in n steps r run = subst (λ (l : List ℕ). IsCharBoundary l r.done) (sym text_is) run.edge
+
+  pub lies_in : (op : Operation) (n : ℕ) (steps : List Step) (x : FlowHead) (p : PartPut) → PutsAt op t n steps x p → LiesIn u (moved_on x.before (edit_view p.place))
+  lies_in op n steps x p h = subst (λ (l : List ℕ). LiesIn l (moved_on x.before (edit_view p.place))) (sym text_is) h.placed.lies
+
+module _ (t u : List ℕ) (n : ℕ) (steps : List Step) (op : Operation) (before : Run) (x : FlowHead) (p : PartPut) (read : read_at t ≡ Some (cut_of t)) (all : u ≡ t)
+    (run : Runs (cut_of t) n steps before) (h : PutsAt op t n steps x p) (behind : before.done ≤ x.before + p.place.start) (passes : before.done < x.before + p.place.end) (fitting : IsFitting op (now_text (cut_of t) before)) where
+  abbrev c : Cut
+  c = cut_of t
+
+  abbrev own : Operation
+  own = replace n h.path h.value
+
+  abbrev now : List ℕ
+  now = now_text c before
+
+  again : read_at (cut_text c) ≡ Some c
+  again = ap read_at (text_read t c read) ∙ read
+
+  own_fits : IsFitting own now
+  own_fits = subst (λ (o : Operation). IsFitting o now) h.operation fitting
+
+  runs_so : (after : Run) → RunsOn own c n steps before after → RunsOn op c n steps before after
+  runs_so after = subst (λ (o : Operation). RunsOn o c n steps before after) (sym h.operation)
 
   -- an equal scalar
-  pub kept_on : is_kept (node_in n path c) v ≡ true → RunsOn op c n steps before before
-  kept_on kept =
-      let comes = kept_there c n steps path s v out before.done whole run last z standing x place placed behind passes kept in
-      record { new_bytes = []; comes = comes; applied = applied_by op (now_text c before) value fitting (now_text c before) [] comes; splices = sym (append-nil before.splices.items); run = run }
+  pub kept_on : p.written ≡ None → RunsOn op c n steps before before
+  kept_on none =
+      let kept = subst (IsWritten (node_in n h.path c) h.value h.part) none h.written in
+      let comes = kept_there c n steps h.path h.step h.value (string_bytes before.text) before.done again run h.last h.part h.standing x p.place h.placed behind passes kept in
+      runs_so before (record { new_bytes = []; comes = comes; applied = applied_by own now h.valid own_fits now [] comes; splices = sym (append-nil before.splices.items); run = run })
 
-  module _ (written : List ℕ) (other : is_kept (node_in n path c) v ≡ false) (written_is : written ≡ (put_edit v z).written) where
+  module _ (s : String Global) (some : p.written ≡ Some s) where
+    abbrev start : ℕ
+    start = x.before + p.place.start
+
+    abbrev finish : ℕ
+    finish = x.before + p.place.end
+
     abbrev new : List ℕ
-    new = place.lead.now ++ written
+    new = p.place.lead.now ++ string_bytes s
+
+    whole_is : u ≡ cut_text c
+    whole_is = whole_text t u read all
+
+    is : (is_kept (node_in n h.path c) h.value ≡ false) × (string_bytes s ≡ (put_edit h.value h.part).written)
+    is = subst (IsWritten (node_in n h.path c) h.value h.part) some h.written
 
     -- another value
-    pub put_on : (after : Run) → HasPut (cut_text c) start finish new before after → RunsOn op c n steps before after
-    put_on after h =
+    pub put_on : (after : Run) → HasPut u start finish new before after → RunsOn op c n steps before after
+    put_on after has_put =
+        let a : HasPut (cut_text c) start finish new before after = subst (λ (l : List ℕ). HasPut l start finish new before after) whole_is has_put in
         let cs : List Splice = splice_at (length (run_front (cut_text c) before start)) (drop start (take finish (cut_text c))) new in
-        let text : run_text (cut_text c) (run_front (cut_text c) before start ++ new) finish ≡ now_text c after = λ i. run_text (cut_text c) (sym h.text i) (sym h.done i) in
-        let comes : carried op (now_text c before) ≡ gives (now_text c after) cs =
-        put_there c n steps path s v out before.done whole run last z standing x place placed behind passes written other written_is h.size ∙ ap (λ (u : List ℕ). gives u cs) text in
-        let on = goes_on c n steps path s v out before.done whole run last z standing x place placed behind passes written other written_is value fitting h.size in
-        record {
+        let text : run_text (cut_text c) (run_front (cut_text c) before start ++ new) finish ≡ now_text c after = λ i. run_text (cut_text c) (sym a.text i) (sym a.done i) in
+        let comes : carried own now ≡ gives (now_text c after) cs =
+        put_there c n steps h.path h.step h.value (string_bytes before.text) before.done again run h.last h.part h.standing x p.place h.placed behind passes (string_bytes s) is.0 is.1 a.size
+        ∙ ap (λ (l : List ℕ). gives l cs) text in
+        let on = goes_on c n steps h.path h.step h.value (string_bytes before.text) before.done again run h.last h.part h.standing x p.place h.placed behind passes (string_bytes s) is.0 is.1 h.valid own_fits a.size in
+        runs_so after (record {
           new_bytes = cs;
           comes = comes;
-          applied = applied_by op (now_text c before) value fitting (now_text c after) cs comes;
-          splices = h.splices;
-          run = subst (λ (d : ℕ). IsRun c n steps (string_bytes after.text) d) (sym h.done) (subst (λ (u : List ℕ). IsRun c n steps u finish) (sym h.text) on);
-        }
+          applied = applied_by own now h.valid own_fits (now_text c after) cs comes;
+          splices = a.splices;
+          run = subst (λ (d : ℕ). IsRun c n steps (string_bytes after.text) d) (sym a.done) (subst (λ (l : List ℕ). IsRun c n steps l finish) (sym a.text) on);
+        })
 
-    -- no other value
-    pub put_fails : (e : EditError) → PutFails e (cut_text c) start finish new before → Fails e (carried op (now_text c before))
-    put_fails (error.Read fault) h = absurd h
-    put_fails (error.Refused why) h =
-        large_there c n steps path s v out before.done whole run last z standing x place placed behind passes written other written_is h.1 ∙ ap refuses (sym h.0)
-    put_fails error.Memory h = tt
+    large : (e : EditError) → PutFails e (cut_text c) start finish new before → EditFails e (carried own now)
+    large (error.Read fault) fails = absurd fails
+    large (error.Refused why) fails =
+        large_there c n steps h.path h.step h.value (string_bytes before.text) before.done again run h.last h.part h.standing x p.place h.placed behind passes (string_bytes s) is.0 is.1 fails.1
+        ∙ ap refuses (sym fails.0)
+    large error.Memory fails = tt
+
+    -- too large a text
+    pub put_fails : (e : EditError) → PutFails e u start finish new before → EditFails e (carried op now)
+    put_fails e fails = subst (λ (o : Operation). EditFails e (carried o now)) (sym h.operation) (large e (subst (λ (l : List ℕ). PutFails e l start finish new before) whole_is fails))

@@ -10,19 +10,19 @@ use Rattle.yq_inline.specs.Collections.{CollPieces}
 use Rattle.yq_inline.specs.Trees.{tree_of}
 use Rattle.yq_flow.specs.FlowEdits.{FlowEdit}
 use Rattle.yq_flow.specs.FlowPlaces.{PlacedEdit}
-use Rattle.yq_flow.specs.declared.flow_place.EditPlace.{EditPlace}
 use Rattle.yq_flow.specs.Valued.{IsValueTree}
+use Rattle.yq_flow.specs.declared.flow_place.EditPlace.{EditPlace}
 use Rattle.yq_rows.specs.Rows.{Cut, cut_text}
 use Rattle.yq_documents.specs.Reading.{documents, read_at}
 use Rattle.yq_places.specs.FlowNodes.{flow_collection}
 use Rattle.yq_places.specs.NodesAt.{node_in}
 use Rattle.yq_places.specs.Standings.{FlowPart, flow_standing, last_step}
 use Rattle.yq_places.specs.declared.places.flow_node.FlowHead.{FlowHead}
+use Rattle.yq_places.proofs.ExactReading.{parts_read}
 use Rattle.yq_meaning.specs.Fits.{Fits}
 use Rattle.yq_meaning.specs.Operations.{replace}
 use Rattle.yq_meaning.specs.Rooms.{room_of}
 use Rattle.yq_meaning.specs.declared.refusal.Refusal.TheVariants.{TooLarge}
-use Rattle.yq_places.proofs.ExactReading.{parts_read}
 use Rattle.yq_script.specs.Script.{new_text, splice_at}
 use Rattle.yq_script.specs.Splice.{Splice}
 use Rattle.yq_edits.specs.FlowParts.{flow_segments}
@@ -30,21 +30,22 @@ use Rattle.yq_edits.specs.Replacing.{is_kept}
 use Rattle.yq_flow_edits.specs.PartPuts.{IsPlaceOf, put_edit}
 use Rattle.yq_flow_edits.proofs.CutLaws.{text_read}
 use Rattle.yq_flow_edits.proofs.FlowPartNodes.{part_node}
-use Rattle.yq_flow_edits.proofs.FlowPutLaws.{replaced_next, there}
-use Rattle.yq_flow_edits.proofs.FlowStandings.{EntryAt, entry_made}
+use Rattle.yq_flow_edits.proofs.FlowPutLaws.{replaced_next}
+use Rattle.yq_flow_edits.proofs.FlowStandings.{EntryAt, entry_found}
 use Rattle.yq_flow_edits.proofs.LaterItems.{later_item}
 use Rattle.yq_splice.specs.Carried.{carried}
 use Rattle.yq_splice.specs.Edit.{edit_of_segments, gives, refuses}
 use Rattle.yq_splice.specs.Runs.{IsRun, StayBehind, run_text}
 use Rattle.yq_splice.specs.Theorems.{IsFitting}
 use Rattle.yq_splice.proofs.ApplyLaws.{fits}
-use Rattle.yq_splice.proofs.PutComes.{kept_comes, made_text, new_is, part, put_comes, segments_come, segments_large}
+use Rattle.yq_splice.proofs.PutComes.{kept_comes, made_text, new_is, put_comes, segments_come, segments_large}
 
 -- what a run has written, with what stays up to the next place
 abbrev between : List ℕ → List ℕ → (done start : ℕ) → List ℕ
 between out t done start = out ++ drop done (take start t)
 
-module _ (c : Cut) (n : ℕ) (steps path : List Step) (s : Step) (v : Node) (out : List ℕ) (done : ℕ) (whole : read_at (cut_text c) ≡ Some c) (run : IsRun c n steps out done) (last : last_step path ≡ Some (steps, s)) (z : FlowPart) (standing : flow_standing n c (last_step path) ≡ Some z) (x : FlowHead) (place : EditPlace)
+module _ (c : Cut) (n : ℕ) (steps path : List Step) (s : Step) (v : Node) (out : List ℕ) (done : ℕ) (whole : read_at (cut_text c) ≡ Some c) (run : IsRun c n steps out done)
+    (last : last_step path ≡ Some (steps, s)) (z : FlowPart) (standing : flow_standing n c (last_step path) ≡ Some z) (x : FlowHead) (place : EditPlace)
     (placed : IsPlaceOf (cut_text c) v z x place) (behind : done ≤ x.before + place.start) (passes : done < x.before + place.end) where
   abbrev t : List ℕ
   t = cut_text c
@@ -60,7 +61,7 @@ module _ (c : Cut) (n : ℕ) (steps path : List Step) (s : Step) (v : Node) (out
 
   -- the part as it was read
   abbrev b : EntryAt c n path
-  b = (entry_made c n path z standing).0
+  b = (entry_found c n path z standing).0
 
   abbrev first_part : FlowPart
   first_part = record { step = b.step; collection = b.coll; part = b.item }
@@ -69,7 +70,7 @@ module _ (c : Cut) (n : ℕ) (steps path : List Step) (s : Step) (v : Node) (out
   e = put_edit v first_part
 
   at : IsPlaceOf t v first_part x place
-  at = subst (λ (y : FlowPart). IsPlaceOf t v y x place) (sym (entry_made c n path z standing).1) placed
+  at = subst (λ (y : FlowPart). IsPlaceOf t v y x place) (sym (entry_found c n path z standing).1) placed
 
   start_is : start ≡ length t - length (e.old ++ e.behind)
   start_is = ap (λ (p : PlacedEdit). p.start) at.place_is
@@ -120,7 +121,7 @@ module _ (c : Cut) (n : ℕ) (steps path : List Step) (s : Step) (v : Node) (out
   -- another value
   module _ (written : List ℕ) (other : is_kept (node_in n path c) v ≡ false) (is : written ≡ (put_edit v z).written) where
     written_is : written ≡ e.written
-    written_is = is ∙ ap (λ (y : FlowPart). (put_edit v y).written) (sym (entry_made c n path z standing).1)
+    written_is = is ∙ ap (λ (y : FlowPart). (put_edit v y).written) (sym (entry_found c n path z standing).1)
 
     abbrev front : List ℕ
     front = between out t done start

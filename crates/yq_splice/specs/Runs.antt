@@ -3,22 +3,28 @@ use Rattle.std.specs.Prelude.{◌≡◌, ⊤, ℕ, ◌-◌, ◌<◌, ◌≤◌, 
 use Rattle.std.specs.Str.{IsCharBoundary}
 use Rattle.yq_flow_scalars.specs.Characters.{text_limit}
 use Rattle.yq_flow_scalars.specs.Paths.{Step}
+use Rattle.yq_flow_scalars.specs.Tree.{Node}
 use Rattle.yq_inline.specs.Collections.{CollPieces}
 use Rattle.yq_inline.specs.Entries.{EntryPieces, item_at}
+use Rattle.yq_flow.specs.Valued.{IsValueTree}
 use Rattle.yq_rows.specs.Rows.{Cut, cut_text}
-use Rattle.yq_documents.specs.Reading.{read_at}
+use Rattle.yq_documents.specs.Reading.{cut_of, read_at}
 use Rattle.yq_places.specs.FlowNodes.{flow_collection}
-use Rattle.yq_places.specs.Standings.{last_step}
-use Rattle.yq_meaning.specs.Operations.{Operation}
+use Rattle.yq_places.specs.NodesAt.{node_in}
+use Rattle.yq_places.specs.Standings.{FlowPart, flow_standing, last_step}
+use Rattle.yq_places.specs.declared.places.flow_node.FlowHead.{FlowHead}
+use Rattle.yq_meaning.specs.Operations.{Operation, replace}
 use Rattle.yq_meaning.specs.declared.refusal.Refusal.TheVariants.{TooLarge}
 use Rattle.yq_script.specs.Script.{splice_at}
 use Rattle.yq_script.specs.Splice.{Splice}
+use Rattle.yq_flow_edits.specs.PartPuts.{IsPlaceOf, IsWritten}
+use Rattle.yq_flow_edits.specs.declared.put.PartPut.{PartPut}
 use Rattle.yq_splice.specs.Carried.{carried}
 use Rattle.yq_splice.specs.Edit.{gives}
 use Rattle.yq_splice.specs.Theorems.{IsApplied}
 use Rattle.yq_splice.specs.declared.edit_error.EditError.{EditError}
 use Rattle.yq_splice.specs.declared.edit_error.EditError.TheVariants as error
-use Rattle.yq_splice.specs.declared.together.Run.{Run}
+use Rattle.yq_splice.specs.declared.run.Run.{Run}
 
 -- a text whose first bytes gave way to others (own)
 abbrev pub run_text : List ℕ → (out : List ℕ) → (done : ℕ) → List ℕ
@@ -60,6 +66,19 @@ now_text c r = run_text (cut_text c) (string_bytes r.text) r.done
 -- a run of the code is one (own)
 abbrev pub Runs : Cut → ℕ → List Step → Run → Type 0
 Runs c n steps r = IsRun c n steps (string_bytes r.text) r.done
+
+-- An operation puts a value at a part of the collection to which steps lead in document n of a text, in the head of a row that was read (own).
+pub record PutsAt (op : Operation) (t : List ℕ) (n : ℕ) (steps : List Step) (x : FlowHead) (p : PartPut) : Type 0 where
+  pub path : List Step
+  pub value : Node
+  pub operation : op ≡ replace n path value
+  pub valid : IsValueTree value
+  pub step : Step
+  pub last : last_step path ≡ Some (steps, step)
+  pub part : FlowPart
+  pub standing : flow_standing n (cut_of t) (last_step path) ≡ Some part
+  pub placed : IsPlaceOf (cut_text (cut_of t)) value part x p.place
+  pub written : IsWritten (node_in n path (cut_of t)) value part p.written
 
 -- what a run has written, with what stays up to a place (own)
 abbrev pub run_front : List ℕ → Run → ℕ → List ℕ

@@ -1,7 +1,7 @@
 //! Carrying out: operations done on a text, one after the other.
-ghost use Rattle.std.specs.Prelude.{◌≡◌, IfErr, IfOk, string_bytes};
+ghost use Rattle.std.specs.Prelude.{◌≡◌, ◌++◌, Some, IfErr, IfOk, string_bytes};
 ghost use Rattle.yq_meaning.specs.Operations.{operation_of, operations_of};
-ghost use Rattle.yq_documents.specs.Reading.{cut_of};
+ghost use Rattle.yq_documents.specs.Reading.{cut_of, read_at};
 ghost use Rattle.yq_script.specs.Changing.{IsChange};
 ghost use Rattle.yq_places.specs.RowWalk.{StayKnown};
 ghost use Rattle.yq_splice.specs.Answers.{Edits, EditFails};
@@ -15,12 +15,13 @@ use crate::edit_error::EditError;
 use crate::op_segments::op_segments;
 use crate::operands::operand_holds;
 use crate::session::Session;
-use std::alloc::Global;
+use crate::together::carry_together;
+use std::alloc::{AllocError, Global};
 use yq_expr::Op;
 use yq_places::CutText;
 use yq_rows::Places;
 use yq_script::{Changed, Edited, Splice, changes, exchange};
-use yq_tree::read;
+use yq_tree::{Documents, read};
 use yq_walk::KnownItems;
 
 /// The same text, where what stands on the way of an operation is known.
@@ -122,4 +123,42 @@ pub(crate) fn carry_all(
         text: session.close(),
         splices,
     })
+}
+
+/// An edit whose splices come behind others.
+fn edited_behind(splices: Vec<Splice>, edited: Edited) -> Result<Edited, AllocError>
+    ensures { IfOk result (λ e. (e.text ≡ edited.text) ×
+        (e.splices.items ≡ splices.items ++ edited.splices.items)) }
+{
+    let Edited {
+        text,
+        splices: mut last,
+    } = edited;
+    let mut splices = splices;
+    splices.append(&mut last)?;
+    Ok(Edited { text, splices })
+}
+
+/// The operations of a plan carried out on a text that was read, together where that can be; their
+/// splices come behind others. The text is copied behind the reading.
+pub(crate) fn carry_plan(
+    alloc: Global,
+    text: &str,
+    documents: Documents<'_>,
+    splices: Vec<Splice>,
+    ops: &[Op],
+) -> Result<Edited, EditError>
+    requires same { documents ≡ text.now }
+    requires read { read_at text.now ≡ Some (cut_of documents) }
+    requires serves { AreServed (operations_of ops.now) text.now }
+    ensures { Edits result (behind splices.items (spec.carry_all (operations_of ops.now)
+        text.now)) }
+{
+    let together = carry_together(alloc, &documents.cut(), ops)?;
+    if let Some(edited) = together {
+        return Ok(edited_behind(splices, edited)?);
+    }
+    let places = documents.into_rows().into_places();
+    let kept = String::from_str(alloc, text)?;
+    carry_all(alloc, kept, places, splices, ops)
 }

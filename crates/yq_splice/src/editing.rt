@@ -2,16 +2,14 @@
 ghost use Rattle.std.specs.Prelude.{◌≡◌, ◌++◌, ◌<◌, List, [], Some, IfErr, IfOk, string_bytes};
 ghost use Rattle.yq_program.specs.Program.{LiteralsHold, Update, update_at, update_count, updates};
 ghost use Rattle.yq_program.specs.View.{program_of};
-ghost use Rattle.yq_script.specs.Splice.{Splice};
 ghost use Rattle.yq_splice.specs.Answers.{Edits};
 ghost use Rattle.yq_splice.specs.Carried as spec;
 ghost use Rattle.yq_splice.specs.Theorems.{AreSplices, EditRefused, InOrder, IsEdited};
 ghost use Rattle.yq_splice.specs.Valid.{FailsAt, FailsEach, IsStep};
 
-use crate::carrying::carry_all;
+use crate::carrying::carry_plan;
 use crate::edit_error::EditError;
 use crate::operands::operands_hold;
-use crate::together::carry_together;
 use std::alloc::{AllocError, Global};
 use yq_expr::{Program, Refusal, plan};
 use yq_script::{Edited, Splice};
@@ -27,56 +25,45 @@ fn unchanged(alloc: Global, text: &str) -> Result<Edited, AllocError>
     })
 }
 
-/// An edit whose splices come behind others.
-fn edited_behind(splices: Vec<Splice>, edited: Edited) -> Result<Edited, AllocError>
-    ensures { IfOk result (λ e. (e.text ≡ edited.text) ×
-        (e.splices.items ≡ splices.items ++ edited.splices.items)) }
-{
-    let Edited {
-        text,
-        splices: mut last,
-    } = edited;
-    let mut splices = splices;
-    splices.append(&mut last)?;
-    Ok(Edited { text, splices })
-}
-
 /// Update `nth` of a program carried out on the text that those before gave: what the reading says of
 /// rows, by which it is planned, is kept for its operations.
-fn step(alloc: Global, done: Edited, program: &Program, nth: usize) -> Result<Edited, EditError>
+fn step(
+    alloc: Global,
+    text: &str,
+    splices: Vec<Splice>,
+    program: &Program,
+    nth: usize,
+) -> Result<Edited, EditError>
     requires within { nth < update_count (program_of program.now) }
     requires literals { LiteralsHold (program_of program.now) }
     ensures ok { (u : Update) → update_at nth (program_of program.now) ≡ Some u →
         IfOk result (λ e. (cs : List Splice) ×
-        IsStep u (string_bytes done.text) (string_bytes e.text) cs ×
-        (e.splices.items ≡ done.splices.items ++ cs)) }
+        IsStep u text.now (string_bytes e.text) cs ×
+        (e.splices.items ≡ splices.items ++ cs)) }
     ensures err { (u : Update) → update_at nth (program_of program.now) ≡ Some u →
-        IfErr result (λ e. FailsAt e u (string_bytes done.text)) }
+        IfErr result (λ e. FailsAt e u text.now) }
 {
-    let Edited { text, splices } = done;
-    let documents = read(alloc, text.as_str().as_bytes())?;
+    let documents = read(alloc, text.as_bytes())?;
     let ops = plan(alloc, program, nth, &documents)?;
     operands_hold(&ops);
-    if let Some(edited) = carry_together(alloc, &documents.cut(), &ops)? {
-        return Ok(edited_behind(splices, edited)?);
-    }
-    let places = documents.into_rows().into_places();
-    carry_all(alloc, text, places, splices, &ops)
+    carry_plan(alloc, text, documents, splices, &ops)
 }
 
 /// The updates of a program carried out on a text, one after the other.
 fn update_each(alloc: Global, text: &str, program: &Program) -> Result<Edited, EditError>
-    requires { LiteralsHold (program_of program.now) }
+    requires some { 0 < update_count (program_of program.now) }
+    requires literals { LiteralsHold (program_of program.now) }
     ensures ok { IfOk result (λ e. (us : List Update) → program_of program.now ≡ updates us →
         InOrder IsStep us text.now (string_bytes e.text) e.splices.items) }
     ensures err { IfErr result (λ e. (us : List Update) → program_of program.now ≡ updates us →
         FailsEach e us text.now) }
 {
-    let mut done = unchanged(alloc, text)?;
+    let mut done = step(alloc, text, Vec::new(alloc), program, 0)?;
     let count = program.updates();
-    let mut nth = 0;
+    let mut nth = 1;
     'updates: while nth < count {
-        done = step(alloc, done, program, nth)?;
+        let Edited { text, splices } = done;
+        done = step(alloc, text.as_str(), splices, program, nth)?;
         nth += 1;
     }
     Ok(done)

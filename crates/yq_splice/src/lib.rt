@@ -8,6 +8,7 @@ mod editing;
 mod op_segments;
 mod operands;
 mod printing;
+mod run;
 mod session;
 mod together;
 

@@ -1,7 +1,6 @@
-use Rattle.std.proofs.Common.{◌≡◌, ℕ, List, Some, string_bytes, sym, ap, subst, ◌∙◌}
+use Rattle.std.proofs.Common.{◌≡◌, ℕ, List, Some, sym, ap, subst, ◌∙◌}
 use Rattle.std.proofs.lemmas.Result.{err_from_is_err_and}
 use Rattle.std.specs.Prelude.{Vec}
-use Rattle.std.specs.Str.{IsUtf8}
 use Rattle.std.specs.declared.alloc.Global.{Global}
 use Rattle.yq_documents.specs.Reading.{cut_of, documents, read_at}
 use Rattle.yq_meaning.specs.Operations.{Operation, operations_of}
@@ -19,24 +18,27 @@ pub returns-in_err-documents-clause-err : goal.returns-in_err-documents-clause-e
 returns-in_err-documents-clause-err c =
     let p = err_from_is_err_and c.from_residual.result c.from_residual.ensures.1 in
     rw (p.1, p.2)
-    (λ u at. update_not_read u c.as_bytes.result.now (string_bytes c.args.done.text) c.in_err-documents.field-0.0 (c.as_bytes.ensures.value ∙ c.as_str.ensures.value) (subst IsUtf8 c.as_str.ensures.value c.as_str.utf8)
+    (λ u at. update_not_read u c.as_bytes.result.now c.args.text.now c.in_err-documents.field-0.0 c.as_bytes.ensures.value c.utf8.text
     (record { none = c.in_err-documents.ensures.exact; utf8 = c.in_err-documents.ensures.not_utf8 }))
 
 pub returns-in_err-ops-clause-err : goal.returns-in_err-ops-clause-err
 returns-in_err-ops-clause-err c =
     let p = err_from_is_err_and c.from_residual-in_err-ops.result c.from_residual-in_err-ops.ensures.1 in
-    let text = c.in_ok-documents.ensures.text ∙ (c.as_bytes.ensures.value ∙ c.as_str.ensures.value) in
-    let is : read_at (string_bytes c.args.done.text) ≡ Some (cut_of c.in_ok-documents.documents) = ap read_at (sym (c.as_bytes.ensures.value ∙ c.as_str.ensures.value)) ∙ c.in_ok-documents.ensures.exact in
+    let text = c.in_ok-documents.ensures.text ∙ c.as_bytes.ensures.value in
+    let is : read_at c.args.text.now ≡ Some (cut_of c.in_ok-documents.documents) = ap read_at (sym c.as_bytes.ensures.value) ∙ c.in_ok-documents.ensures.exact in
     rw (p.1, p.2)
-    (λ u at. update_unplanned (λ (v : Vec Op Global). operations_of v.items) u (string_bytes c.args.done.text) c.in_ok-documents.documents _ is text (c.in_err-ops.ensures.exact u at))
+    (λ u at. update_unplanned (λ (v : Vec Op Global). operations_of v.items) u c.args.text.now c.in_ok-documents.documents _ is text (c.in_err-ops.ensures.exact u at))
 
-pub carry_all-requires-clause-serves : goal.carry_all-requires-clause-serves
-carry_all-requires-clause-serves c =
-    let t : List ℕ = string_bytes c.args.done.text in
+pub carry_plan-requires-clause-read : goal.carry_plan-requires-clause-read
+carry_plan-requires-clause-read c = ap read_at (sym c.as_bytes.ensures.value) ∙ c.in_ok-documents.ensures.exact
+
+pub carry_plan-requires-clause-serves : goal.carry_plan-requires-clause-serves
+carry_plan-requires-clause-serves c =
+    let t : List ℕ = c.args.text.now in
     let d : List ℕ = c.in_ok-documents.documents in
     let ops : List Operation = operations_of c.in_ok-ops.ops.items in
-    let text : d ≡ t = c.in_ok-documents.ensures.text ∙ (c.as_bytes.ensures.value ∙ c.as_str.ensures.value) in
-    let is : read_at t ≡ Some (cut_of d) = ap read_at (sym (c.as_bytes.ensures.value ∙ c.as_str.ensures.value)) ∙ c.in_ok-documents.ensures.exact in
+    let text : d ≡ t = c.in_ok-documents.ensures.text ∙ c.as_bytes.ensures.value in
+    let is : read_at t ≡ Some (cut_of d) = ap read_at (sym c.as_bytes.ensures.value) ∙ c.in_ok-documents.ensures.exact in
     let valid : HaveOperands ops = subst (λ (x : List Op). HaveOperands (operations_of x)) c.deref.ensures.value c.operands_hold.ensures in
     let u = update_there (program_of c.args.program.now) c.args.nth c.requires.within in
     let served : AreServed ops t =
@@ -45,22 +47,22 @@ carry_all-requires-clause-serves c =
 
 pub returns-clause-ok : goal.returns-clause-ok
 returns-clause-ok c =
-    let t : List ℕ = string_bytes c.args.done.text in
+    let t : List ℕ = c.args.text.now in
     let d : List ℕ = c.in_ok-documents.documents in
     let ops : List Operation = operations_of c.in_ok-ops.ops.items in
-    let text : d ≡ t = c.in_ok-documents.ensures.text ∙ (c.as_bytes.ensures.value ∙ c.as_str.ensures.value) in
-    let is : read_at t ≡ Some (cut_of d) = ap read_at (sym (c.as_bytes.ensures.value ∙ c.as_str.ensures.value)) ∙ c.in_ok-documents.ensures.exact in
+    let text : d ≡ t = c.in_ok-documents.ensures.text ∙ c.as_bytes.ensures.value in
+    let is : read_at t ≡ Some (cut_of d) = ap read_at (sym c.as_bytes.ensures.value) ∙ c.in_ok-documents.ensures.exact in
     let valid : HaveOperands ops = subst (λ (x : List Op). HaveOperands (operations_of x)) c.deref.ensures.value c.operands_hold.ensures in
-    let new_bytes : Edits c.carry_all.result (behind c.args.done.splices.items (carry_all ops t)) = subst (λ (x : List Op). Edits c.carry_all.result (behind c.args.done.splices.items (carry_all (operations_of x) t))) c.deref-2.ensures.value c.carry_all.ensures in
-    λ u at. update_ok u t (cut_of d) ops is (update_planned u t d ops text (c.in_ok-ops.ensures.exact u at)) (update_holds (program_of c.args.program.now) c.args.nth u c.requires.literals at) valid c.carry_all.result c.args.done.splices.items new_bytes
+    let new_bytes : Edits c.carry_plan.result (behind c.args.splices.items (carry_all ops t)) = subst (λ (x : List Op). Edits c.carry_plan.result (behind c.args.splices.items (carry_all (operations_of x) t))) c.deref-2.ensures.value c.carry_plan.ensures in
+    λ u at. update_ok u t (cut_of d) ops is (update_planned u t d ops text (c.in_ok-ops.ensures.exact u at)) (update_holds (program_of c.args.program.now) c.args.nth u c.requires.literals at) valid c.carry_plan.result c.args.splices.items new_bytes
 
 pub returns-clause-err : goal.returns-clause-err
 returns-clause-err c =
-    let t : List ℕ = string_bytes c.args.done.text in
+    let t : List ℕ = c.args.text.now in
     let d : List ℕ = c.in_ok-documents.documents in
     let ops : List Operation = operations_of c.in_ok-ops.ops.items in
-    let text : d ≡ t = c.in_ok-documents.ensures.text ∙ (c.as_bytes.ensures.value ∙ c.as_str.ensures.value) in
-    let is : read_at t ≡ Some (cut_of d) = ap read_at (sym (c.as_bytes.ensures.value ∙ c.as_str.ensures.value)) ∙ c.in_ok-documents.ensures.exact in
+    let text : d ≡ t = c.in_ok-documents.ensures.text ∙ c.as_bytes.ensures.value in
+    let is : read_at t ≡ Some (cut_of d) = ap read_at (sym c.as_bytes.ensures.value) ∙ c.in_ok-documents.ensures.exact in
     let valid : HaveOperands ops = subst (λ (x : List Op). HaveOperands (operations_of x)) c.deref.ensures.value c.operands_hold.ensures in
-    let new_bytes : Edits c.carry_all.result (behind c.args.done.splices.items (carry_all ops t)) = subst (λ (x : List Op). Edits c.carry_all.result (behind c.args.done.splices.items (carry_all (operations_of x) t))) c.deref-2.ensures.value c.carry_all.ensures in
-    λ u at. update_err u t (cut_of d) ops is (update_planned u t d ops text (c.in_ok-ops.ensures.exact u at)) (update_holds (program_of c.args.program.now) c.args.nth u c.requires.literals at) valid c.carry_all.result c.args.done.splices.items new_bytes
+    let new_bytes : Edits c.carry_plan.result (behind c.args.splices.items (carry_all ops t)) = subst (λ (x : List Op). Edits c.carry_plan.result (behind c.args.splices.items (carry_all (operations_of x) t))) c.deref-2.ensures.value c.carry_plan.ensures in
+    λ u at. update_err u t (cut_of d) ops is (update_planned u t d ops text (c.in_ok-ops.ensures.exact u at)) (update_holds (program_of c.args.program.now) c.args.nth u c.requires.literals at) valid c.carry_plan.result c.args.splices.items new_bytes

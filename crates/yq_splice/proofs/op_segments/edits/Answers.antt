@@ -1,4 +1,3 @@
-use Rattle.std.proofs.Common.{rules}
 use Rattle.yq_splice.proofs.op_segments.edits.Goals as goal
 
 pub returns-in-Replace : goal.returns-in-Replace
