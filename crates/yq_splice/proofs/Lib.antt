@@ -20,3 +20,4 @@ pub mod PutComes
 pub mod RunLaws
 pub mod RunAnswers
 pub mod RowRunLaws
+pub mod RowPutLaws

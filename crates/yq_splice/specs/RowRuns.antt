@@ -1,5 +1,5 @@
 -- Operations that change one row each, one behind the other, on the rows as they were read (YAML 1.2.2, 8; own).
-use Rattle.std.specs.Prelude.{◌≡◌, ℕ, ◌+◌, ◌≤◌, List, [], ◌∷◌, ◌++◌, length, Option, Some, None, string_bytes}
+use Rattle.std.specs.Prelude.{◌≡◌, ⊤, ◌⊎◌, ℕ, ◌+◌, ◌<◌, ◌≤◌, List, [], ◌∷◌, ◌++◌, length, Option, Some, None, string_bytes}
 use Rattle.std.specs.Str.{IsCharBoundary}
 use Rattle.yq_flow_scalars.specs.Characters.{text_limit}
 use Rattle.yq_flow_scalars.specs.Paths.{Step}
@@ -22,7 +22,7 @@ use Rattle.yq_splice.specs.Edit.{gives}
 use Rattle.yq_splice.specs.Runs.{now_text, run_text}
 use Rattle.yq_splice.specs.Theorems.{IsApplied}
 use Rattle.yq_splice.specs.declared.in_rows.RowPut.{RowPut}
-use Rattle.yq_splice.specs.declared.in_rows.RowsRun.{RowsRun}
+use Rattle.yq_splice.specs.declared.run.Run.{Run}
 
 -- ---- runs
 
@@ -40,12 +40,17 @@ abbrev pub IsLast : Cut → Option (ℕ × ℕ) → (k n : ℕ) → Type 0
 IsLast c None k n = (k ≡ 0) × (n ≡ 0)
 IsLast c (Some x) k n = (x.0 ≡ k) × (x.1 + 1 ≡ document_row k c + n)
 
--- a run of the code is one (own)
-pub record IsRowsRun (c : Cut) (r : RowsRun) : Type 0 where
+-- a row of a document stands behind the last one that was changed (own)
+abbrev pub Passed : Option (ℕ × ℕ) → (m row : ℕ) → Type 0
+Passed None m row = ⊤
+Passed (Some x) m row = (x.0 < m) ⊎ ((x.0 ≡ m) × (x.1 < row))
+
+-- a run of the code is one, by the row that was changed last (own)
+pub record IsRowsRun (c : Cut) (o : Option (ℕ × ℕ)) (r : Run) : Type 0 where
   pub document : ℕ
   pub row : ℕ
-  pub last : IsLast c r.last document row
-  pub run : IsRowRun c document row (string_bytes r.run.text) r.run.done
+  pub last : IsLast c o document row
+  pub run : IsRowRun c document row (string_bytes r.text) r.done
 
 -- ---- operations
 
@@ -90,10 +95,10 @@ pub record PutsInRow (op : Operation) (c : Cut) (x : RowPut) : Type 0 where
   pub ends : IsCharBoundary (cut_text c) x.end
   pub there : (d : Cut) → read_at (cut_text d) ≡ Some d → (s : StandsStill entry (document_of op) steps d) → PutsSo op d (rows_still entry s) old behind (bytes_in string_bytes x.written)
 
--- An operation is carried out on the text of a run, which goes on behind it (own).
-pub record RowsGoOn (op : Operation) (c : Cut) (before after : RowsRun) : Type 0 where
+-- An operation is carried out on the text of a run, which goes on behind it, and behind the row that was changed last then (own).
+pub record RowsGoOn (op : Operation) (c : Cut) (before : Run) (last : Option (ℕ × ℕ)) (after : Run) : Type 0 where
   pub new_bytes : List Splice
-  pub comes : carried op (now_text c before.run) ≡ gives (now_text c after.run) new_bytes
-  pub applied : IsApplied op (now_text c before.run) (now_text c after.run) new_bytes
-  pub splices : after.run.splices.items ≡ before.run.splices.items ++ new_bytes
-  pub run : IsRowsRun c after
+  pub comes : carried op (now_text c before) ≡ gives (now_text c after) new_bytes
+  pub applied : IsApplied op (now_text c before) (now_text c after) new_bytes
+  pub splices : after.splices.items ≡ before.splices.items ++ new_bytes
+  pub run : IsRowsRun c last after

@@ -40,13 +40,6 @@ pub(crate) struct RowPut {
     pub(crate) written: Option<String>,
 }
 
-/// A run over rows, and the row that was changed last, by its document and how many rows stand before it.
-#[derive(Debug, Drop)]
-pub(crate) struct RowsRun {
-    pub(crate) run: Run,
-    pub(crate) last: Option<(usize, usize)>,
-}
-
 /// A value without items and entries in the place of an inline node.
 fn value_in_row(
     alloc: Global,
@@ -128,42 +121,53 @@ fn row_put(
     }
 }
 
-/// Whether a row of a document stands behind another one, if there is that.
-fn is_behind(last: Option<(usize, usize)>, doc: usize, row: usize) -> bool {
+/// Whether a row of a document stands behind another one, by its document and how many rows stand before
+/// it, if there is that.
+fn is_behind(last: Option<(usize, usize)>, doc: usize, row: usize) -> bool
+    ensures { result ≡ true → spec.Passed last doc row }
+{
     match last {
         None => true,
         Some((other, before)) => other < doc || (other == doc && before < row),
     }
 }
 
-/// Carries out an operation on the text of a run, if it changes one row, behind those that were changed.
+/// Carries out an operation on the text of a run, if it changes one row, behind the last one that was
+/// changed; and tells which one that is then.
 fn put_one(
     alloc: Global,
     cut: &CutText<'_, '_>,
     op: &Op,
-    run: &mut RowsRun,
-) -> Result<bool, EditError>
-    requires run { spec.IsRowsRun (cut_of cut.now) run.old }
-    requires fits { IsFitting (operation_of op.now) (now_text (cut_of cut.now) run.old.run) }
-    ensures ok { IfOk result (λ b. b ≡ true → spec.RowsGoOn (operation_of op.now) (cut_of cut.now)
-        run.old run.new) }
+    last: Option<(usize, usize)>,
+    run: &mut Run,
+) -> Result<Option<Option<(usize, usize)>>, EditError>
+    requires run { spec.IsRowsRun (cut_of cut.now) last run.old }
+    requires fits { IsFitting (operation_of op.now) (now_text (cut_of cut.now) run.old) }
+    ensures ok { IfOk result (λ o. IfSome o (λ next. spec.RowsGoOn (operation_of op.now) (cut_of cut.now)
+        run.old next run.new)) }
     ensures err { IfErr result (λ e. EditFails e (carried (operation_of op.now)
-        (now_text (cut_of cut.now) run.old.run))) }
+        (now_text (cut_of cut.now) run.old))) }
 {
     let text = cut.text();
     let found = row_put(alloc, cut, op)?;
     let Some(put) = found else {
-        return Ok(false);
+        return Ok(None);
     };
-    if !is_behind(run.last, put.doc, put.row) || put.start < run.run.done {
-        return Ok(false);
+    let RowPut {
+        doc,
+        row,
+        start,
+        end,
+        written,
+    } = put;
+    if !is_behind(last, doc, row) || start < run.done {
+        return Ok(None);
     }
-    let Some(written) = put.written else {
-        return Ok(true);
+    let Some(written) = written else {
+        return Ok(Some(last));
     };
-    run.run.put(alloc, text, put.start, put.end, "", &written)?;
-    run.last = Some((put.doc, put.row));
-    Ok(true)
+    run.put(alloc, text, start, end, "", &written)?;
+    Ok(Some(Some((doc, row))))
 }
 
 /// Carries out operations together that change one row each, one behind the other; nothing, where one of
@@ -183,19 +187,17 @@ pub(crate) fn carry_in_rows<'d>(
     };
     let text = cut.text();
     let mut now = on_the_way(cut, first);
-    let mut run = RowsRun {
-        run: Run::new(alloc),
-        last: None,
-    };
+    let mut run = Run::new(alloc);
+    let mut last = None;
     let mut rest = ops;
     'operations: while let [op, after @ ..] = rest {
         let there = on_the_way(&now, op);
-        let put = put_one(alloc, &there, op, &mut run)?;
-        if !put {
+        let Some(next) = put_one(alloc, &there, op, last, &mut run)? else {
             return Ok(None);
-        }
+        };
         now = there;
+        last = next;
         rest = after;
     }
-    Ok(Some(run.run.end(text)?))
+    Ok(Some(run.end(text)?))
 }
