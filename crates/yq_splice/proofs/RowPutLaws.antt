@@ -1,10 +1,11 @@
 -- What operations put in rows, wherever their items and entries stand still.
-use Rattle.std.proofs.Common.{◌≡◌, ℕ, suc, ◌+◌, Bool, true, false, cond, is_some, List, [], ◌∷◌, ◌++◌, length, Option, Some, None, option_map, refl, sym, ap, ◌∙◌, subst, arith, append_assoc, append-nil, string_bytes, length-append}
+use Rattle.std.proofs.Common.{◌≡◌, ℕ, suc, ◌+◌, ◌≤◌, Bool, true, false, cond, is_some, List, [], ◌∷◌, ◌++◌, length, Option, Some, None, option_map, refl, sym, ap, ◌∙◌, subst, arith, append_assoc, append-nil, string_bytes, length-append}
 use Rattle.std.proofs.lemmas.Bool.{false≢true}
 use Rattle.std.proofs.lemmas.Option.{none-some}
 use Rattle.std.proofs.lemmas.Str.{IsCharBoundary-at_seam}
 use Rattle.std.specs.Str.{IsCharBoundary, IsUtf8}
 use Rattle.yq_flow_scalars.specs.Answers.{◌>>=◌}
+use Rattle.yq_flow_scalars.specs.Characters.{text_limit}
 use Rattle.yq_flow_scalars.specs.Paths.{Step}
 use Rattle.yq_flow_scalars.specs.Text.{is_empty}
 use Rattle.yq_flow_scalars.specs.Tree.{Node}
@@ -42,11 +43,11 @@ use Rattle.yq_edits.proofs.HeldPieces.{held_spells}
 use Rattle.yq_edits.proofs.LineCommentLaws.{line_comments_change_rows}
 use Rattle.yq_edits.proofs.RowEditLaws.{row_edits}
 use Rattle.yq_edits.proofs.TailPieces.{white_piece}
-use Rattle.yq_flow_edits.proofs.CutLaws.{text_read}
+use Rattle.yq_flow_edits.proofs.CutLaws.{cut_read, text_read}
 use Rattle.yq_block_edits.proofs.HeldRows.{head_there, headless_there, mark_end, mark_tail}
 use Rattle.yq_block_edits.proofs.InlineChangeLaws.{inline_values_change_rows}
 use Rattle.yq_block_edits.proofs.MarkHeads.{no_raw}
-use Rattle.yq_splice.specs.RowRuns.{PutsInRow, PutsSo, PutsText, bytes_in, rows_still}
+use Rattle.yq_splice.specs.RowRuns.{IsWrittenSo, PutsInRow, PutsSo, PutsText, bytes_in, line_to_comment, rows_still}
 use Rattle.yq_splice.specs.declared.in_rows.RowPut.{RowPut}
 use Rattle.yq_splice.proofs.EditsHold.{edit_is}
 
@@ -143,10 +144,19 @@ module _ (m : ℕ) (s : Step) (ss : List Step) (v : Node) (c : Cut) (e : RowsOfE
       let apart : cut_text c ≡ ((w.before ++ w.space) ++ w.head) ++ (w.white ++ (w.comment ++ (w.last ++ w.behind))) = spelled ∙ sym (append_assoc (w.before ++ w.space) w.head _) in
       subst (IsCharBoundary (cut_text c)) (length-append (w.before ++ w.space) w.head) (IsCharBoundary-at_seam (cut_text c) ((w.before ++ w.space) ++ w.head) _ apart left.utf8)
 
--- what is written, by whether the value is the scalar that is there
-abbrev pub IsWrittenSo : Option Node → Node → List ℕ → Option (List ℕ) → Type 0
-IsWrittenSo old v head None = is_kept old v ≡ true
-IsWrittenSo old v head (Some w) = (is_kept old v ≡ false) × (w ≡ value_text InBlock head v)
+-- the text of a value that is put in a row, up to its end, is no longer than a text may be
+pub value_fits : (t : List ℕ) (n : ℕ) (steps : List Step) (v : Node) (x : HeldRow) → read_at t ≡ Some (cut_of t) → IsHeldRow n steps (cut_of t) x → x.inline ≡ true → is_filled v ≡ false →
+    length (held_view x.held).before + length (held_view x.held).space + length (held_view x.held).head ≤ text_limit
+value_fits t n [] v x read is inline plain = absurd (no_root_rows n (cut_of t) is.entry is.found)
+value_fits t n (s ∷ ss) v x read is inline plain =
+    let c : Cut = cut_of t in
+    let again : read_at (cut_text c) ≡ Some c = ap read_at (text_read t c read) ∙ read in
+    let h : HoldsInline is.entry = record { last = is.last; block = (is.inline inline).0; some = (is.inline inline).1 } in
+    let w : Held = held is.entry in
+    let text = ap length (value_text_is n s ss v c is.entry again is.found h plain) in
+    let size = (cut_read (cut_text c) c again).size in
+    let sizes : length (held_view x.held).before + length (held_view x.held).space + length (held_view x.held).head ≡ length w.before + length w.space + length w.head = ap (λ (y : Held). length y.before + length y.space + length y.head) is.held_is in
+    omega (arith, size, text, sizes, length-append (w.before ++ w.space) (w.head ++ (w.white ++ (w.comment ++ (w.last ++ w.behind)))), length-append w.before w.space, length-append w.head (w.white ++ (w.comment ++ (w.last ++ w.behind))))
 
 -- what the code tells of a value that is put in a row
 pub value_puts : (t : List ℕ) (n : ℕ) (steps : List Step) (v : Node) (x : HeldRow) (put : RowPut) → read_at t ≡ Some (cut_of t) → IsHeldRow n steps (cut_of t) x → x.inline ≡ true → is_filled v ≡ false → HasOperand (replace n steps v) →
@@ -265,3 +275,16 @@ comment_puts_there t n (s ∷ ss) text x put read is operand doc row start finis
       ends = subst (IsCharBoundary (cut_text c)) (sym stop) (comment_ends n s ss text c e again is.found is.last);
       there = λ d there still. subst (PutsSo (line_comment n (s ∷ ss) text) d (rows_still e still) (comment_old text (held e)) ((held e).break ++ ((held e).lines ++ ((held e).last ++ (held e).behind)))) (sym new) (comment_comes n s ss text c e again is.found is.last d there still);
     }
+
+-- the text up to the end of a line comment is no longer than a text may be
+pub comment_fits : (t : List ℕ) (n : ℕ) (steps : List Step) (x : HeldRow) → read_at t ≡ Some (cut_of t) → IsHeldRow n steps (cut_of t) x → length (line_to_comment (held_view x.held)) ≤ text_limit
+comment_fits t n [] x read is = absurd (no_root_rows n (cut_of t) is.entry is.found)
+comment_fits t n (s ∷ ss) x read is =
+    let c : Cut = cut_of t in
+    let again : read_at (cut_text c) ≡ Some c = ap read_at (text_read t c read) ∙ read in
+    let w : Held = held is.entry in
+    let lower : List ℕ = w.break ++ (w.lines ++ (w.last ++ w.behind)) in
+    let parts : w.before ++ (w.space ++ (w.head ++ (w.white ++ (w.comment ++ lower)))) ≡ line_to_comment w ++ lower = simp append_assoc refl in
+    let text = ap length ((held_spells n s ss c is.entry again is.found is.last).0 ∙ parts) in
+    let size = (cut_read (cut_text c) c again).size in
+    omega (arith, size, text, ap (λ (y : Held). length (line_to_comment y)) is.held_is, length-append (line_to_comment w) lower)

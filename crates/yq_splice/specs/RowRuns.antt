@@ -1,12 +1,14 @@
 -- Operations that change one row each, one behind the other, on the rows as they were read (YAML 1.2.2, 8; own).
-use Rattle.std.specs.Prelude.{◌≡◌, ⊤, ◌⊎◌, ℕ, ◌+◌, ◌<◌, ◌≤◌, List, [], ◌∷◌, ◌++◌, length, Option, Some, None, string_bytes}
+use Rattle.std.specs.Prelude.{◌≡◌, ⊤, ◌⊎◌, ℕ, ◌+◌, ◌<◌, ◌≤◌, List, [], ◌∷◌, ◌++◌, length, Option, Some, None, true, false, string_bytes}
 use Rattle.std.specs.Str.{IsCharBoundary}
 use Rattle.yq_flow_scalars.specs.Characters.{text_limit}
 use Rattle.yq_flow_scalars.specs.Paths.{Step}
+use Rattle.yq_flow_scalars.specs.Tree.{Node}
+use Rattle.yq_flow_scalars.specs.declared.style.Place.TheVariants.{Block as InBlock}
 use Rattle.yq_rows.specs.Rows.{Cut, cut_text}
 use Rattle.yq_documents.specs.LinesInRows.{document_row}
 use Rattle.yq_documents.specs.Reading.{documents, read_at}
-use Rattle.yq_places.specs.Standings.{RowsOfEntry, rows_of_entry}
+use Rattle.yq_places.specs.Standings.{Held, RowsOfEntry, rows_of_entry}
 use Rattle.yq_change.specs.RowStays.{IsBehind, StandsStill}
 use Rattle.yq_meaning.specs.After.{document_of}
 use Rattle.yq_meaning.specs.Fits.{Fits}
@@ -16,7 +18,9 @@ use Rattle.yq_script.specs.Script.{Segment, keep, new_text, old_text}
 use Rattle.yq_script.specs.Splice.{Splice}
 use Rattle.yq_edits.specs.Edits.{edits}
 use Rattle.yq_edits.specs.Operands.{HasOperand}
+use Rattle.yq_edits.specs.Replacing.{is_kept}
 use Rattle.yq_edits.specs.RowChanges.{ChangesRow, PutsOne}
+use Rattle.yq_edits.specs.WrittenValues.{value_text}
 use Rattle.yq_splice.specs.Carried.{carried}
 use Rattle.yq_splice.specs.Edit.{gives}
 use Rattle.yq_splice.specs.Runs.{now_text, run_text}
@@ -76,6 +80,15 @@ PutsSo op d e old behind (Some new) = PutsText op d e old new behind
 abbrev pub bytes_in : {S : Type 0} → (S → List ℕ) → Option S → Option (List ℕ)
 bytes_in f None = None
 bytes_in f (Some s) = Some (f s)
+
+-- what is written for a value on one line in the place of a text, if it isn't the scalar that is there (own)
+abbrev pub IsWrittenSo : Option Node → Node → List ℕ → Option (List ℕ) → Type 0
+IsWrittenSo old v head None = is_kept old v ≡ true
+IsWrittenSo old v head (Some w) = (is_kept old v ≡ false) × (w ≡ value_text InBlock head v)
+
+-- the text up to the end of a line comment (own)
+abbrev pub line_to_comment : Held → List ℕ
+line_to_comment h = h.before ++ (h.space ++ (h.head ++ (h.white ++ h.comment)))
 
 -- An operation puts a text in a row, or leaves it alone, wherever the item or entry stands still (own).
 pub record PutsInRow (op : Operation) (c : Cut) (x : RowPut) : Type 0 where

@@ -1,11 +1,15 @@
 //! Operations of an update that each change one row: they are carried out together, on the rows as they
 //! were read.
-ghost use Rattle.std.specs.Prelude.{◌≡◌, true, IfErr, IfOk, IfSome, string_bytes};
+ghost use Rattle.std.specs.Prelude.{◌≡◌, ◌+◌, ◌≤◌, length, true, IfErr, IfOk, IfSome, string_bytes};
+ghost use Rattle.yq_flow_scalars.specs.Characters.{text_limit};
 ghost use Rattle.yq_inline.specs.Values.{node_of};
 ghost use Rattle.yq_documents.specs.Located.{steps_of};
 ghost use Rattle.yq_documents.specs.Reading.{cut_of};
+ghost use Rattle.yq_places.specs.NodesAt.{node_in};
+ghost use Rattle.yq_places.specs.StandingViews.{held_view};
 ghost use Rattle.yq_meaning.specs.Operations.{line_comment, operation_of, operations_of, replace};
 ghost use Rattle.yq_edits.specs.Operands.{HasOperand};
+ghost use Rattle.yq_edits.specs.RowChanges.{comment_front, comment_old};
 ghost use Rattle.yq_splice.specs.Answers.{EditFails};
 ghost use Rattle.yq_splice.specs.Carried.{carry_all, carried};
 ghost use Rattle.yq_splice.specs.Edit.{gives};
@@ -24,7 +28,7 @@ use yq_documents::Path;
 use yq_edits::{comment_written, is_kept, value_text};
 use yq_expr::{Op, Value};
 use yq_flow_scalars::Place;
-use yq_places::CutText;
+use yq_places::{CutText, Held};
 use yq_script::Edited;
 
 /// A text that an operation puts in a row, in the place of what stands between two places.
@@ -38,6 +42,25 @@ pub(crate) struct RowPut {
     pub(crate) end: usize,
     /// Nothing, where an equal scalar stands there.
     pub(crate) written: Option<String>,
+}
+
+/// What is written for a value on one line; nothing, where it is the scalar at the path.
+fn value_written(
+    alloc: Global,
+    cut: &CutText<'_, '_>,
+    path: &Path,
+    value: &Value,
+    old: &str,
+) -> Result<Option<String>, AllocError>
+    ensures { IfOk result (λ o. spec.IsWrittenSo (node_in path.now.doc (steps_of path.now)
+        (cut_of cut.now)) (node_of value.now) old.now (spec.bytes_in string_bytes o)) }
+{
+    let stays = is_kept(alloc, cut, path, value)?;
+    if stays {
+        return Ok(None);
+    }
+    let written = value_text(alloc, Place::Block, old.as_bytes(), value)?;
+    Ok(Some(written))
 }
 
 /// A value without items and entries in the place of an inline node.
@@ -63,10 +86,7 @@ fn value_in_row(
     let _text = cut.text();
     let held = place.held;
     let start = held.before.len() + held.space.len();
-    let mut written = None;
-    if !is_kept(alloc, cut, path, value)? {
-        written = Some(value_text(alloc, Place::Block, held.head.as_bytes(), value)?);
-    }
+    let written = value_written(alloc, cut, path, value, held.head)?;
     Ok(Some(RowPut {
         doc: path.doc,
         row: place.row,
@@ -74,6 +94,22 @@ fn value_in_row(
         end: start + held.head.len(),
         written,
     }))
+}
+
+/// Where what gives way to a line comment begins and ends.
+fn comment_place(text: &str, held: &Held<'_>) -> (usize, usize)
+    requires { length (spec.line_to_comment (held_view held.now)) ≤ text_limit }
+    ensures start { result.0 ≡ length (comment_front text.now (held_view held.now)) }
+    ensures end { result.1 ≡ result.0 + length (comment_old text.now (held_view held.now)) }
+{
+    let front = held.before.len() + held.space.len() + held.head.len();
+    let behind = front + held.white.len();
+    let end = behind + held.comment.len();
+    if text.is_empty() && !held.comment.is_empty() {
+        (front, end)
+    } else {
+        (behind, end)
+    }
 }
 
 /// A line comment in the place of another one, or of none.
@@ -92,15 +128,13 @@ fn comment_in_row(
     };
     let _text = cut.text();
     let held = place.held;
-    let stop = held.before.len() + held.space.len() + held.head.len() + held.white.len();
-    let takes_white = text.is_empty() && !held.comment.is_empty();
-    let start = if takes_white { stop - held.white.len() } else { stop };
+    let (start, end) = comment_place(text, &held);
     let written = comment_written(alloc, text, held.comment)?;
     Ok(Some(RowPut {
         doc: path.doc,
         row: place.row,
         start,
-        end: stop + held.comment.len(),
+        end,
         written: Some(written),
     }))
 }
