@@ -1,5 +1,5 @@
 -- A value on one line takes the place of what is written on the line of a key or dash, with another content of the row.
-use Rattle.std.proofs.Common.{◌≡◌, ℕ, ◌≤◌, false, true, List, [], ◌∷◌, ◌++◌, length, refl, sym, ap, ◌∙◌, subst, append_assoc, append-nil}
+use Rattle.std.proofs.Common.{◌≡◌, ℕ, ◌≤◌, false, true, List, [], ◌∷◌, ◌++◌, length, Some, refl, sym, ap, ◌∙◌, subst, append_assoc, append-nil}
 use Rattle.yq_scalar.specs.BlockWritten.{break_text}
 use Rattle.yq_flow_scalars.specs.Characters.{text_limit}
 use Rattle.yq_flow_scalars.specs.Paths.{Step}
@@ -15,6 +15,9 @@ use Rattle.yq_rows.specs.View.{slices}
 use Rattle.yq_rows.proofs.NodeExchange.{mark_apart}
 use Rattle.yq_places.specs.RowPieces.{anchor_before, space_before}
 use Rattle.yq_places.specs.Standings.{Held, RowsOfEntry, held}
+use Rattle.yq_documents.specs.Reading.{read_at}
+use Rattle.yq_change.specs.Appends.{inserted}
+use Rattle.yq_change.specs.Changed.{put_document}
 use Rattle.yq_change.specs.DocumentRows.{behind_document}
 use Rattle.yq_change.specs.StandingLaws.{StandsThere}
 use Rattle.yq_meaning.specs.Operations.{replace}
@@ -26,7 +29,7 @@ use Rattle.yq_edits.proofs.FitLaws.{FitsReplace}
 use Rattle.yq_edits.proofs.ValueTexts.{IsWrittenFor}
 use Rattle.yq_change.proofs.StandingMarks.{entry_there}
 use Rattle.yq_block_edits.proofs.ContentRows.{IsContentFor, takes_content}
-use Rattle.yq_block_edits.proofs.HeldCarried.{Spells, held_carried}
+use Rattle.yq_block_edits.proofs.HeldCarried.{Spells, held_carried, held_made}
 use Rattle.yq_block_edits.proofs.HeldKnown.{KnowsHeld}
 use Rattle.yq_block_edits.proofs.NodeLeads.{first_lead, own_space_lead}
 use Rattle.yq_block_edits.proofs.NodeRowLaws.{rest, rows_there}
@@ -99,3 +102,7 @@ module _ (n : ℕ) (s : Step) (ss : List Step) (c : Cut) (e : RowsOfEntry) (ther
 
   pub head_carried : length (new_text us) ≤ text_limit → CarriedOut (replace n (s ∷ ss) v) c us
   head_carried = held_carried n s ss c e there last k v f br (inline t) new spells for.piece
+
+  -- the cut of the text that it makes: the row has another content
+  pub head_made : length (new_text us) ≤ text_limit → read_at (new_text us) ≡ Some (put_document n (inserted e.front (with_content x e.row ∷ []) e.back there.part) c)
+  head_made = held_made n s ss c e there last k v f br (inline t) new spells for.piece

@@ -1,5 +1,5 @@
 -- What is put in the place of what a key or dash holds carries out a replacement, where rows for the value spell it.
-use Rattle.std.proofs.Common.{◌≡◌, ℕ, ◌≤◌, true, false, List, [], ◌∷◌, ◌++◌, length, refl, sym, ap, ◌∙◌, subst, append_assoc, append-nil}
+use Rattle.std.proofs.Common.{◌≡◌, ℕ, ◌≤◌, true, false, List, [], ◌∷◌, ◌++◌, length, Some, refl, sym, ap, ◌∙◌, subst, append_assoc, append-nil}
 use Rattle.std.proofs.lemmas.Option.{same_Some}
 use Rattle.yq_scalar.specs.BlockWritten.{break_text}
 use Rattle.yq_flow_scalars.specs.Characters.{text_limit}
@@ -10,8 +10,10 @@ use Rattle.yq_lines.specs.Places.{content}
 use Rattle.yq_lines.proofs.Finding.{FoundNode, path_node}
 use Rattle.yq_rows.specs.Items.{rows_items}
 use Rattle.yq_rows.specs.Rows.{Row, print_row, rows_text, Cut, cut_text}
-use Rattle.yq_documents.specs.Reading.{outline_of, root_of}
+use Rattle.yq_documents.specs.Reading.{outline_of, read_at, root_of}
 use Rattle.yq_places.specs.Standings.{Held, RowsOfEntry, behind_entry, held}
+use Rattle.yq_change.specs.Appends.{inserted}
+use Rattle.yq_change.specs.Changed.{put_document}
 use Rattle.yq_change.specs.SoundRoots.{MayReplace}
 use Rattle.yq_change.specs.StandingLaws.{StandsThere, held_text}
 use Rattle.yq_change.specs.TextPieces.{IsPiece}
@@ -28,7 +30,7 @@ use Rattle.yq_edits.proofs.OneLines.{break_line, is_one_line}
 use Rattle.yq_edits.proofs.SegmentLaws.{segments_readable}
 use Rattle.yq_change.proofs.TextPieceLaws.{pieces_joined}
 use Rattle.yq_block_edits.proofs.HeldKnown.{KnowsHeld}
-use Rattle.yq_block_edits.proofs.NodeCarriedLaws.{KeepsNode, node_carried}
+use Rattle.yq_block_edits.proofs.NodeCarriedLaws.{KeepsNode, node_carried, node_made}
 use Rattle.yq_block_edits.proofs.NodeRowLaws.{rest}
 use Rattle.yq_block_edits.proofs.NodeTaken.{TakesNode, q_text}
 use Rattle.yq_block_edits.proofs.StandingNodes.{behind_is, mark_node}
@@ -115,3 +117,11 @@ module _ (n : ℕ) (s : Step) (ss : List Step) (c : Cut) (e : RowsOfEntry) (ther
     held_carried br w new x piece =
         put_carried (held_put (break_text br) h w) new x h.last (held_back (break_text br) h w) (break_line h.last (rest n s ss c (mark_node n s ss c e there last)) k.ends) (held_puts (break_text br) h w)
         (held_old (break_text br) h w ∙ sym k.spells) (held_pieces br w piece)
+
+    -- the cut of the text that they make
+    pub held_made : (br : Break) (w : Written) (new : List Row) → Spells v (held_put (break_text br) h w) new → IsPiece (text_of w) → length (new_text (held_put (break_text br) h w)) ≤ text_limit →
+        read_at (new_text (held_put (break_text br) h w)) ≡ Some (put_document n (inserted e.front new e.back there.part) c)
+    held_made br w new x piece size =
+        let node = mark_node n s ss c e there last in
+        let us : List Segment = held_put (break_text br) h w in
+        node_made n s ss c node v new x.takes us may (segments_readable us (held_pieces br w piece) size) (q_text n s ss c node v new x.takes ∙ x.text)

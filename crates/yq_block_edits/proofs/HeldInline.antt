@@ -1,5 +1,5 @@
 -- A value on the line of a key or dash, in the place of what this holds.
-use Rattle.std.proofs.Common.{◌≡◌, ⊎_elim, ℕ, ◌≤◌, true, false, cond, List, [], ◌∷◌, ◌++◌, length, refl, sym, ap, ◌∙◌}
+use Rattle.std.proofs.Common.{◌≡◌, ⊎_elim, ℕ, ◌≤◌, true, false, cond, List, [], ◌∷◌, ◌++◌, length, Some, refl, sym, ap, ◌∙◌}
 use Rattle.std.proofs.lemmas.Bool.{cases_Bool}
 use Rattle.yq_scalar.specs.BlockWritten.{break_text}
 use Rattle.yq_flow_scalars.specs.Characters.{text_limit}
@@ -11,13 +11,17 @@ use Rattle.yq_scalar.proofs.LineLaws.{is_empty_is}
 use Rattle.yq_inline.specs.Nodes.{node_text}
 use Rattle.yq_rows.specs.Exchange.{row_front, with_content}
 use Rattle.yq_rows.specs.Grammar.{IsContent}
-use Rattle.yq_rows.specs.Rows.{Content, content_text, parent_indent, rows_text, Cut}
+use Rattle.yq_rows.specs.Rows.{Content, Part, content_text, parent_indent, rows_text, Cut}
 use Rattle.yq_rows.specs.Seams.{is_block}
 use Rattle.yq_rows.specs.View.{slices}
 use Rattle.yq_rows.proofs.PlaceLaws.{row_front-append}
+use Rattle.yq_walk.specs.Lines.{head_of}
+use Rattle.yq_documents.specs.Reading.{read_at}
 use Rattle.yq_places.specs.CommentPlaces.{LineEnd, end_before}
 use Rattle.yq_places.specs.PrintedLines.{last_break}
 use Rattle.yq_places.specs.Standings.{Held, RowsOfEntry, before_entry, held}
+use Rattle.yq_change.specs.Appends.{inserted}
+use Rattle.yq_change.specs.Changed.{put_document}
 use Rattle.yq_change.specs.StandingLaws.{StandsThere}
 use Rattle.yq_change.proofs.CoreLaws.{put_core}
 use Rattle.yq_meaning.specs.Operations.{replace}
@@ -29,7 +33,7 @@ use Rattle.yq_edits.proofs.CommentRowLaws.{end_parts}
 use Rattle.yq_edits.proofs.FitLaws.{FitsReplace}
 use Rattle.yq_edits.proofs.ValueTexts.{IsWrittenFor}
 use Rattle.yq_block_edits.proofs.ContentRows.{IsContentFor}
-use Rattle.yq_block_edits.proofs.HeadPuts.{apart_there, content_there, head_carried}
+use Rattle.yq_block_edits.proofs.HeadPuts.{apart_there, content_there, head_carried, head_made}
 use Rattle.yq_block_edits.proofs.HeldKnown.{KnowsHeld}
 use Rattle.yq_block_edits.proofs.HeldTexts.{holding, regroup, text_beside}
 use Rattle.yq_block_edits.proofs.MarkContentLaws.{anchor_left}
@@ -37,6 +41,12 @@ use Rattle.yq_block_edits.proofs.MarkHeads.{core_text, no_raw, none_written}
 use Rattle.yq_block_edits.proofs.NodeRowLaws.{NodeRows, rest, rows_there}
 use Rattle.yq_block_edits.proofs.NodeValueLaws.{IsHolding, content_beside, content_for}
 use Rattle.yq_block_edits.proofs.StandingNodes.{mark_node}
+
+-- Segments make a text in whose cut the row of an item or entry has another content, with a head.
+pub record RowMade (n : ℕ) (c : Cut) (e : RowsOfEntry) (p : Part) (us : List Segment) (v : Node) : Type 0 where
+  pub content : Content
+  pub headed : head_of content ≡ Some v
+  pub read : read_at (new_text us) ≡ Some (put_document n (inserted e.front (with_content content e.row ∷ []) e.back p) c)
 
 module _ (n : ℕ) (s : Step) (ss : List Step) (c : Cut) (e : RowsOfEntry) (there : StandsThere n s ss c e) (last : e.line ≡ length e.row.dashes) (k : KnowsHeld n s ss c e there last)
     (br : Break) (v : Node) (f : FitsReplace n (s ∷ ss) v c there.part) (t : List ℕ) (for : IsWrittenFor v t) where
@@ -105,6 +115,10 @@ module _ (n : ℕ) (s : Step) (ss : List Step) (c : Cut) (e : RowsOfEntry) (ther
 
     node_there : length (new_text us) ≤ text_limit → CarriedOut (replace n (s ∷ ss) v) c us
     node_there = head_carried n s ss c e there last k br v f t for (put_core for.node x) is_for text_there
+
+    -- behind it the row has another content of the same shape
+    pub node_made : length (new_text us) ≤ text_limit → RowMade n c e there.part us v
+    node_made size = record { content = put_core for.node x; headed = is_for.head; read = head_made n s ss c e there last k br v f t for (put_core for.node x) is_for text_there size }
 
   -- in the place of anything but a block scalar
   pub held_inline : is_block e.row.content ≡ false → length (new_text us) ≤ text_limit → CarriedOut (replace n (s ∷ ss) v) c us

@@ -78,7 +78,7 @@ last_ends own more (inr none) = go (last_is own)
 -- ---- heads and anchors
 
 -- what is written for a head is one
-head_there : (n : ℤ) (x : Content) (more : List ℕ) → IsContent n x more → is_empty (content_cut x).3 ≡ false → is_some (head_of x) ≡ true
+pub head_there : (n : ℤ) (x : Content) (more : List ℕ) → IsContent n x more → is_empty (content_cut x).3 ≡ false → is_some (head_of x) ≡ true
 unfolding IsNode node_text
 head_there n (Nothing z) more h e = absurd (false≢true (sym e))
 head_there n (Inline space inline.empty z) more h e = absurd (false≢true (sym e))

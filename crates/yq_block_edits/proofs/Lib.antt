@@ -33,3 +33,4 @@ pub mod MarkedValueLaws
 pub mod HeldRows
 pub mod DashNodes
 pub mod DashCarried
+pub mod InlineChangeLaws

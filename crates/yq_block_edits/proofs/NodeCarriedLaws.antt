@@ -1,11 +1,11 @@
 -- Segments that put rows for a value in the place of those of an item or entry carry out its replacement.
-use Rattle.std.proofs.Common.{inl, ◌≡◌, ℕ, ◌≤◌, true, false, List, [], ◌∷◌, ◌++◌, length, sym, subst}
+use Rattle.std.proofs.Common.{inl, ◌≡◌, ℕ, ◌≤◌, true, false, List, [], ◌∷◌, ◌++◌, length, Some, sym, ap, ◌∙◌, subst}
 use Rattle.yq_flow_scalars.specs.Paths.{Step}
 use Rattle.yq_flow_scalars.specs.Tree.{Node}
 use Rattle.yq_lines.specs.Places.{content}
 use Rattle.yq_rows.specs.Rows.{Row, print_row, rows_text, Cut, cut_text}
 use Rattle.yq_rows.proofs.splices.SpliceTexts.{own_end}
-use Rattle.yq_documents.specs.Reading.{root_of}
+use Rattle.yq_documents.specs.Reading.{read_at, root_of}
 use Rattle.yq_places.specs.RowPaths.{IsReadable}
 use Rattle.yq_change.specs.Appends.{inserted}
 use Rattle.yq_change.specs.Changed.{put_document}
@@ -64,3 +64,8 @@ module _ (doc : ℕ) (s : Step) (ss : List Step) (c : Cut) (h : NodeRows doc s s
         reads = subst (ReadsAfter (replace doc (s ∷ ss) v) c) text (node_reads doc s ss c h v new t may there);
         local = inl (cut_known us c (put_document doc (inserted h.front new h.back h.p) c) read text (lines_local us c doc (inserted h.front new h.back h.p) e h.old.read read n.one n.begins begins));
       }
+
+  -- the cut of the text that they make
+  pub node_made : (us : List Segment) → MayReplace v (content h.found.line h.found.under) (root_of h.p) (length (s ∷ ss)) → IsReadable (new_text us) → cut_text (put_document doc (inserted h.front new h.back h.p) c) ≡ new_text us →
+      read_at (new_text us) ≡ Some (put_document doc (inserted h.front new h.back h.p) c)
+  node_made us may readable text = ap read_at (sym text) ∙ (node_changed doc s ss c h v new t may (subst IsReadable (sym text) readable)).read

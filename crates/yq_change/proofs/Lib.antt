@@ -68,3 +68,4 @@ pub mod DocumentItemLaws
 pub mod StandingRows
 pub mod StandingMarks
 pub mod FlowStayLaws
+pub mod RowStayLaws

@@ -181,7 +181,7 @@ pub rows_strip : (rs : List Row) → map stripped (lines_of rs) ≡ shapes_lines
 rows_strip [] = refl
 rows_strip (r ∷ rs) = map-append stripped (row_lines r) (lines_of rs) ∙ (λ i. from_strip (head_comment r.gap) r.column r.dashes r.mark r.content i ++ rows_strip rs i)
 
-line_by_shape : (p q : Part) → map row_shape q.rows ≡ map row_shape p.rows → (steps : List Step) → line_of steps (lines_of q.rows) ≡ line_of steps (lines_of p.rows)
+pub line_by_shape : (p q : Part) → map row_shape q.rows ≡ map row_shape p.rows → (steps : List Step) → line_of steps (lines_of q.rows) ≡ line_of steps (lines_of p.rows)
 line_by_shape p q h steps =
     sym (line_strip steps (lines_of q.rows))
     ∙ (ap (line_of steps) (rows_strip q.rows ∙ (ap shapes_lines h ∙ sym (rows_strip p.rows))) ∙ line_strip steps (lines_of p.rows))

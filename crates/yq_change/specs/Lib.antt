@@ -34,3 +34,4 @@ pub mod FlowKept
 pub mod Unders
 pub mod DocumentItems
 pub mod StandingLaws
+pub mod RowStays

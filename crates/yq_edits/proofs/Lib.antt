@@ -49,3 +49,5 @@ pub mod HeldRanges
 pub mod NearLaws
 pub mod AboveLaws
 pub mod ScalarAnswers
+pub mod OnePutLaws
+pub mod RowEditLaws

@@ -1,8 +1,9 @@
 -- A line comment set: the text reads as the documents after that.
-use Rattle.std.proofs.Common.{◌≡◌, inl, inr, ⊎_elim, ℕ, ◌≤◌, Bool, true, false, ◌&&◌, not, cond, eqb, List, [], ◌∷◌, ◌++◌, length, take, drop, Some, refl, sym, ap, ◌∙◌, subst, append_assoc, append-nil}
+use Rattle.std.proofs.Common.{◌≡◌, inl, inr, ⊎_elim, ℕ, ◌≤◌, Bool, true, false, ◌&&◌, not, cond, eqb, List, [], ◌∷◌, ◌++◌, length, take, drop, Option, Some, option_map, refl, sym, ap, ◌∙◌, subst, append_assoc, append-nil}
 use Rattle.std.proofs.lemmas.Bool.{false≢true, eqb-true}
 use Rattle.std.proofs.lemmas.Option.{same_Some}
 use Rattle.std.specs.Str.{IsUtf8}
+use Rattle.yq_flow_scalars.specs.Answers.{◌>>=◌}
 use Rattle.yq_flow_scalars.specs.Characters.{text_limit}
 use Rattle.yq_flow_scalars.specs.Paths.{Step, change, relabel_child, within}
 use Rattle.yq_flow_scalars.specs.Text.{is_empty}
@@ -14,12 +15,13 @@ use Rattle.yq_rows.specs.View.{slices}
 use Rattle.yq_rows.proofs.splices.SpliceTexts.{own_gap, own_end}
 use Rattle.yq_places.specs.CommentPlaces.{LineEnd, end_before, line_text, end_of_line}
 use Rattle.yq_documents.specs.Documents.{lead_of}
-use Rattle.yq_places.specs.PlacedRows.{PlacedRow, placed_row}
+use Rattle.yq_documents.specs.LinesInRows.{row_line_of}
+use Rattle.yq_places.specs.PlacedRows.{PlacedPart, PlacedRow, placed_row}
 use Rattle.yq_documents.specs.Reading.{read_at, root_of}
 use Rattle.yq_places.specs.RowPaths.{IsReadable}
 use Rattle.yq_documents.specs.TreeEdits.{at_end, with_line_comment}
 use Rattle.yq_places.proofs.LineEndLaws.{line_tail, end_of_tail, tail_is_end}
-use Rattle.yq_places.specs.Standings.{Held, RowsOfEntry, before_entry, behind_entry, held, rows_of_entry}
+use Rattle.yq_places.specs.Standings.{Held, RowsOfEntry, before_entry, behind_entry, entry_rows_at, held, rows_of_entry}
 use Rattle.yq_places.proofs.RunSpans.{rows_then}
 use Rattle.yq_change.specs.Appends.{inserted}
 use Rattle.yq_change.specs.Changed.{put_document}
@@ -42,11 +44,12 @@ use Rattle.yq_edits.specs.CommentEdits.{comment_put, comment_written}
 use Rattle.yq_edits.specs.EditLaws.{CarriedOut, IsEdit, LineCommentIsPut}
 use Rattle.yq_edits.specs.Local.{IsLocal}
 use Rattle.yq_edits.specs.ReadsAfter.{ReadsAfter}
+use Rattle.yq_edits.specs.RowChanges.{ChangesRow, LineCommentsChangeRows}
 use Rattle.yq_edits.proofs.CommentPieceLaws.{nothing, byte_then, line_text_is}
 use Rattle.yq_edits.proofs.CommentRowLaws.{entry_is_row, entry_row, rows_front, IsRowFound, row_found, found_text, found_row, cut_is, HasRow, line_whole, end_parts, some_steps}
 use Rattle.yq_edits.proofs.DoneLaws.{document_done}
 use Rattle.yq_edits.proofs.HeldLaws.{below_is, front_is}
-use Rattle.yq_edits.proofs.LineTails.{written, new_white, new_comment, tail_then, blank, new_comment_is, line_tail_is, row_then_text, lead_same, shapes_same}
+use Rattle.yq_edits.proofs.LineTails.{written, new_white, new_comment, tail_then, blank, new_comment_is, line_tail_is, row_then_text, lead_same, shape_same, shapes_same}
 use Rattle.yq_edits.proofs.LocalLaws.{cut_known, row_local}
 use Rattle.yq_edits.proofs.SegmentLaws.{segments_readable}
 use Rattle.yq_edits.proofs.TailPieces.{white_piece, pieces}
@@ -143,9 +146,10 @@ comment_piece text t = go (is_empty text)
 
 -- ---- the law
 
-both : (doc : ℕ) (steps : List Step) (text : List ℕ) (c : Cut) (hd : Held) → read_at (cut_text c) ≡ Some c → IsEndOfLine doc steps c (ends hd) → IsUtf8 text → is_comment comments.Line text ≡ true →
-    length (new_text (comment_put text hd)) ≤ text_limit → CarriedOut (line_comment doc steps text) c (comment_put text hd)
-both doc steps text c hd read a utf8 fit size =
+both : (doc : ℕ) (steps : List Step) (text : List ℕ) (c : Cut) (rows : RowsOfEntry) → read_at (cut_text c) ≡ Some c → rows_of_entry doc steps c ≡ Some rows → IsEndOfLine doc steps c (ends (held rows)) → IsUtf8 text → is_comment comments.Line text ≡ true →
+    length (new_text (comment_put text (held rows))) ≤ text_limit → CarriedOut (line_comment doc steps text) c (comment_put text (held rows)) × ChangesRow doc c rows (comment_put text (held rows))
+both doc steps text c rows read is a utf8 fit size =
+    let hd : Held = held rows in
     let e : LineEnd = ends hd in
     let ss : List Segment = comment_put text hd in
     let w : PlacedRow = a.w in
@@ -216,7 +220,8 @@ both doc steps text c hd read a utf8 fit size =
       old_is = put_is.old ∙ sym (place_text doc steps c e a);
       new_is = sym text_then;
     }) r (tailed tail r) refl refl in
-    record {
+    let own_rows : rows ≡ entry_rows_at f.s f.x = same_Some _ _ (sym is ∙ (ap (λ (o : Option PlacedPart). o >>= λ d. option_map (entry_rows_at d) (row_line_of steps d.part.rows)) f.document ∙ ap (option_map (entry_rows_at f.s)) f.row_line_is)) in
+    (record {
       reads = subst (ReadsAfter (line_comment doc steps text) c) text_then
           (document_done (line_comment doc steps text) c p q (lead_of p) _ (record {
             read = read;
@@ -230,7 +235,18 @@ both doc steps text c hd read a utf8 fit size =
             equal_room = λ x. shapes.0;
           }));
       local = inl (cut_known ss c new changed.read text_then local);
-    }
+    }, record {
+      part = p;
+      there = f.stands.there;
+      front = front_rows;
+      row = r;
+      new = tailed tail r;
+      back = back;
+      rows_are = f.rows_are;
+      front_size = sym (ap (λ (x : RowsOfEntry). length x.front) own_rows);
+      shape = shape_same r tail;
+      read = ap read_at (sym text_then) ∙ changed.read;
+    })
   where
     assoc : (a b l z : List ℕ) → a ++ (b ++ (l ++ z)) ≡ ((a ++ b) ++ l) ++ z
     assoc a b l z = sym (append_assoc a b (l ++ z)) ∙ sym (append_assoc (a ++ b) l z)
@@ -244,5 +260,8 @@ line_comment_is_put n steps text c e ss read is so =
     let a : IsEndOfLine n steps c (ends (held e)) = place n steps c e read is (eqb-true e.line (length e.row.dashes) g.0) in
     subst (IsEdit (line_comment n steps text) c) (same_Some _ _ g.1) (record {
       old = (comment_segments text (held e)).old ∙ sym (place_text n steps c (ends (held e)) a);
-      carried = λ operand fits size. both n steps text c (held e) read a operand fits.2.1 size;
+      carried = λ operand fits size. (both n steps text c e read is a operand fits.2.1 size).0;
     })
+
+pub line_comments_change_rows : LineCommentsChangeRows
+line_comments_change_rows n steps text c e read is last operand fits size = (both n steps text c e read is (place n steps c e read is last) operand fits.2.1 size).1

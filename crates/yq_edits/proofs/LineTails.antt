@@ -167,7 +167,7 @@ row_then_text r tail rest =
     let x = row_tail r.content tail in
     row_text_parts (tailed tail r) rest ∙ (λ i. row_line_same r tail i ++ (x.0 i ++ (x.1 i ++ rest)))
 
-shape_same : (r : Row) (tail : List ℕ) → row_shape (tailed tail r) ≡ row_shape r
+pub shape_same : (r : Row) (tail : List ℕ) → row_shape (tailed tail r) ≡ row_shape r
 shape_same r tail = ap (λ (h : Bool). record { column = r.column; dashes = r.dashes; mark = r.mark; headed = h }) (go r.content)
   where
     go : (c : Content) → Rattle.std.specs.Option.is_some (Rattle.yq_walk.specs.Lines.head_of (with_line_tail tail c)) ≡ Rattle.std.specs.Option.is_some (Rattle.yq_walk.specs.Lines.head_of c)

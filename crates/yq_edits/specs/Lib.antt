@@ -17,3 +17,4 @@ pub mod FlowParts
 pub mod Edits
 pub mod EditLaws
 pub mod TouchedRanges
+pub mod RowChanges

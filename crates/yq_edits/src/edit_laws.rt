@@ -2,6 +2,7 @@
 ghost use Rattle.yq_change.specs.StandingLaws.{HeldSpells};
 ghost use Rattle.yq_edits.specs.EditLaws as laws;
 ghost use Rattle.yq_edits.specs.Local.{LocalTouches};
+ghost use Rattle.yq_edits.specs.RowChanges.{LineCommentsChangeRows, RowEdits};
 ghost use Rattle.yq_edits.specs.TouchedRanges.{EditsAreNear, NearAreTouched};
 
 /// An equal scalar leaves all bytes.
@@ -44,4 +45,14 @@ pub fn near_items_are_touched()
 /// What each operation puts is near.
 pub fn edits_are_near()
     ensures { EditsAreNear }
+{}
+
+/// What operations exchange that change one row.
+pub fn row_edits_are()
+    ensures { RowEdits }
+{}
+
+/// A line comment changes one row, and leaves its shape.
+pub fn line_comments_change_rows()
+    ensures { LineCommentsChangeRows }
 {}

@@ -16,7 +16,7 @@ mod written_value;
 pub use append::more_at;
 pub use head_comment::head_comment_at;
 pub use kept::is_kept;
-pub use line_comment::line_comment_at;
+pub use line_comment::{comment_written, line_comment_at};
 pub use removing::one_removed;
 pub use replace::value_put_at;
 pub use written_value::value_text;

@@ -25,7 +25,10 @@ fn white_put<'t>(alloc: Global, text: &str, held: &Held<'t>) -> Segment<'t>
 }
 
 /// What is written for a line comment with a text, in the place of another one, or of none.
-fn comment_written(alloc: Global, text: &str, old: &str) -> Result<String, AllocError>
+///
+/// # Errors
+/// [`AllocError`] where memory is refused.
+pub fn comment_written(alloc: Global, text: &str, old: &str) -> Result<String, AllocError>
     ensures { IfOk result (λ s. string_bytes s ≡ spec.comment_written text.now old.now) }
 {
     let mut out = String::new(alloc);

@@ -67,6 +67,7 @@ pub record FoundEntry (t : List ℕ) (s : RowsView) (n : ℕ) (steps : List Step
   pub entry : RowsOfEntry
   pub is : IsEntryIn t s entry m
   pub place : rows_of_entry n steps (cut_of t) ≡ Some entry
+  pub row : m.row ≡ document_row n (cut_of t) + length entry.front
 
 pub entry_found : (t : List ℕ) (s : RowsView) (n : ℕ) (steps : List Step) (m : declared.RowsOfEntry) → IsCut t (cut_of t) → s ≡ rows_view (cut_of t) → Some (as_numbers m) ≡ numbers_at n steps (cut_of t) → FoundEntry t s n steps m
 entry_found t s n steps m cut is e =
@@ -111,6 +112,7 @@ entry_found t s n steps m cut is e =
         dashes = sym (ap (λ (y : Numbers). y.2) same);
         upto = (row_line_is line.0 rs q line.2).1;
       };
+      row = omega (arith, row_is, front);
       place = ap (λ (o : Option PlacedPart). o >>= λ y. option_map (entry_rows_at y) (row_line_of steps y.part.rows)) d.1 ∙ ap (option_map (entry_rows_at d.0)) line_in_row;
     }
 

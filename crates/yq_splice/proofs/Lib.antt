@@ -19,3 +19,5 @@ pub mod PrintedDocuments
 pub mod PutComes
 pub mod RunLaws
 pub mod RunAnswers
+pub mod RowRunLaws
+pub mod RowPutLaws

@@ -6,3 +6,4 @@ pub mod Runs
 pub mod Theorems
 pub mod Session
 pub mod Print
+pub mod RowRuns

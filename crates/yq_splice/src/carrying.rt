@@ -12,6 +12,7 @@ ghost use Rattle.yq_splice.specs.Theorems.{IsApplied, IsFitting, OpRefused};
 ghost use Rattle.yq_splice.specs.Valid.{AreServed, segments_by};
 
 use crate::edit_error::EditError;
+use crate::in_rows::carry_in_rows;
 use crate::op_segments::op_segments;
 use crate::operands::operand_holds;
 use crate::session::Session;
@@ -25,7 +26,7 @@ use yq_tree::{Documents, read};
 use yq_walk::KnownItems;
 
 /// The same text, where what stands on the way of an operation is known.
-fn on_the_way<'d, 't>(cut: &CutText<'d, 't>, op: &'d Op) -> CutText<'d, 't>
+pub(crate) fn on_the_way<'d, 't>(cut: &CutText<'d, 't>, op: &'d Op) -> CutText<'d, 't>
     ensures { result ≡ cut.now }
 {
     match op {
@@ -156,6 +157,10 @@ fn carry_several(
 {
     let together = carry_together(alloc, &documents.cut(), ops)?;
     if let Some(edited) = together {
+        return Ok(edited_behind(splices, edited)?);
+    }
+    let in_rows = carry_in_rows(alloc, &documents.cut(), ops)?;
+    if let Some(edited) = in_rows {
         return Ok(edited_behind(splices, edited)?);
     }
     let places = documents.into_rows().into_places();

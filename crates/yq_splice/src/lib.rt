@@ -5,6 +5,7 @@ mod carrying;
 mod edit_error;
 pub mod edit_laws;
 mod editing;
+mod in_rows;
 mod op_segments;
 mod operands;
 mod printing;

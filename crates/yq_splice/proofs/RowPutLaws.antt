@@ -1,0 +1,290 @@
+-- What operations put in rows, wherever their items and entries stand still.
+use Rattle.std.proofs.Common.{◌≡◌, ℕ, suc, ◌+◌, ◌≤◌, Bool, true, false, cond, is_some, List, [], ◌∷◌, ◌++◌, length, Option, Some, None, option_map, refl, sym, ap, ◌∙◌, subst, arith, append_assoc, append-nil, string_bytes, length-append}
+use Rattle.std.proofs.lemmas.Bool.{false≢true}
+use Rattle.std.proofs.lemmas.Option.{none-some}
+use Rattle.std.proofs.lemmas.Str.{IsCharBoundary-at_seam}
+use Rattle.std.specs.Str.{IsCharBoundary, IsUtf8}
+use Rattle.yq_flow_scalars.specs.Answers.{◌>>=◌}
+use Rattle.yq_flow_scalars.specs.Characters.{text_limit}
+use Rattle.yq_flow_scalars.specs.Paths.{Step}
+use Rattle.yq_flow_scalars.specs.Text.{is_empty}
+use Rattle.yq_flow_scalars.specs.Tree.{Node}
+use Rattle.yq_flow_scalars.specs.declared.style.Place.TheVariants.{Block as InBlock}
+use Rattle.yq_lines.specs.Outline.{anchored}
+use Rattle.yq_rows.specs.Rows.{Cut, cut_text, parent_indent, rows_text}
+use Rattle.yq_rows.specs.View.{slices}
+use Rattle.yq_walk.specs.Lines.{content_anchor, head_of}
+use Rattle.yq_documents.specs.LinesInRows.{document_row, row_line_of}
+use Rattle.yq_documents.specs.Reading.{cut_of, read_at}
+use Rattle.yq_places.specs.CommentPlaces.{LineEnd, end_before}
+use Rattle.yq_places.specs.StandingViews.{IsHeldRow, held_view}
+use Rattle.yq_places.specs.declared.places.held.HeldRow.{HeldRow}
+use Rattle.yq_places.specs.NodesAt.{node_in}
+use Rattle.yq_places.specs.PlacedRows.{PlacedPart, placed_document}
+use Rattle.yq_places.specs.PrintedLines.{less_break}
+use Rattle.yq_places.specs.Standings.{Held, RowsOfEntry, behind_entry, entry_rows_at, held, rows_of_entry}
+use Rattle.yq_change.specs.RowStays.{StandsStill}
+use Rattle.yq_change.specs.StandingLaws.{HoldsPieces, StandsThere}
+use Rattle.yq_change.specs.TextPieces.{IsPiece}
+use Rattle.yq_change.proofs.RowStayLaws.{rows_stay_there}
+use Rattle.yq_change.proofs.StandingMarks.{row_there}
+use Rattle.yq_change.proofs.StandingRows.{rows_stand}
+use Rattle.yq_change.proofs.TextPieceLaws.{piece_back, pieces_joined}
+use Rattle.yq_block.specs.BlockReading.{is_filled}
+use Rattle.yq_meaning.specs.Operations.{line_comment, replace}
+use Rattle.yq_script.specs.Script.{keep}
+use Rattle.yq_edits.specs.CommentEdits.{comment_put, comment_written}
+use Rattle.yq_edits.specs.Edits.{edits}
+use Rattle.yq_edits.specs.Operands.{HasOperand}
+use Rattle.yq_edits.specs.Replacing.{is_kept}
+use Rattle.yq_edits.specs.RowChanges.{HoldsInline, comment_front, comment_old, inline_put, takes_white}
+use Rattle.yq_edits.specs.WrittenValues.{value_text}
+use Rattle.yq_edits.proofs.HeldPieces.{held_spells}
+use Rattle.yq_edits.proofs.LineCommentLaws.{line_comments_change_rows}
+use Rattle.yq_edits.proofs.RowEditLaws.{row_edits}
+use Rattle.yq_edits.proofs.TailPieces.{white_piece}
+use Rattle.yq_flow_edits.proofs.CutLaws.{cut_read, text_read}
+use Rattle.yq_block_edits.proofs.HeldRows.{head_there, headless_there, mark_end, mark_tail}
+use Rattle.yq_block_edits.proofs.InlineChangeLaws.{inline_values_change_rows}
+use Rattle.yq_block_edits.proofs.MarkHeads.{no_raw}
+use Rattle.yq_splice.specs.RowRuns.{IsWrittenSo, PutsInRow, PutsSo, PutsText, bytes_in, line_to_comment, rows_still}
+use Rattle.yq_splice.specs.declared.in_rows.RowPut.{RowPut}
+use Rattle.yq_splice.proofs.EditsHold.{edit_is}
+
+-- ---- an inline node
+
+is_there : (o : Option Node) → is_some o ≡ true → (x : Node) × (o ≡ Some x)
+is_there None e = absurd (false≢true e)
+is_there (Some x) e = (x, refl)
+
+-- the root has no rows of an item or entry
+pub no_root_rows : (n : ℕ) (c : Cut) (e : RowsOfEntry) → rows_of_entry n [] c ≡ Some e → ⊥
+no_root_rows n c e is = go (placed_document n c) is
+  where
+    go : (o : Option PlacedPart) → (o >>= λ d. option_map (entry_rows_at d) (row_line_of [] d.part.rows)) ≡ Some e → ⊥
+    go None h = none-some _ h
+    go (Some d) h = none-some _ h
+
+module _ (m : ℕ) (s : Step) (ss : List Step) (d : Cut) (e : RowsOfEntry) (read : read_at (cut_text d) ≡ Some d) (at : rows_of_entry m (s ∷ ss) d ≡ Some e) (h : HoldsInline e) where
+  there : StandsThere m s ss d e
+  there = rows_stand m s ss d e read at
+
+  none_below : (slices e.row).raw ++ rows_text e.under [] ≡ []
+  none_below = λ i. no_raw e.row.content h.block i ++ rows_text (headless_there m s ss d e there h.last h.some i) []
+
+  pub no_break : (held e).break ≡ []
+  no_break = ap (λ (b : List ℕ). cond (is_empty b) [] (end_before [] (slices e.row).tail).behind) none_below
+
+  pub no_lines : (held e).lines ≡ []
+  no_lines = ap less_break none_below
+
+  head : (x : Node) × (head_of e.row.content ≡ Some x)
+  head = is_there (head_of e.row.content) (head_there (parent_indent e.row) e.row.content (rows_text e.under (behind_entry e)) (row_there m s ss d e there).content h.some)
+
+  node_there : node_in m (s ∷ ss) d ≡ Some (anchored (content_anchor e.row.content) head.0)
+  node_there = rows_stay_there.nodes m s ss d e head.0 there h.last head.1
+
+module _ (m : ℕ) (s : Step) (ss : List Step) (v : Node) (c : Cut) (e : RowsOfEntry) (read : read_at (cut_text c) ≡ Some c) (at : rows_of_entry m (s ∷ ss) c ≡ Some e) (h : HoldsInline e) (plain : is_filled v ≡ false) where
+  module _ (d : Cut) (read_d : read_at (cut_text d) ≡ Some d) (still : StandsStill e m (s ∷ ss) d) where
+    abbrev now : RowsOfEntry
+    now = rows_still e still
+
+    holds : HoldsInline now
+    holds = record { last = h.last; block = h.block; some = h.some }
+
+    same_node : node_in m (s ∷ ss) d ≡ node_in m (s ∷ ss) c
+    same_node = node_there m s ss d now read_d still.found holds ∙ sym (node_there m s ss c e read at h)
+
+    by_kept : (b : Bool) → is_kept (node_in m (s ∷ ss) c) v ≡ b → edits (replace m (s ∷ ss) v) d ≡ cond b (Some (keep (cut_text d) ∷ [])) (Some (inline_put v (held now)))
+    by_kept b kept =
+        row_edits.inline m s ss v d now still.found holds plain
+        ∙ ap (λ (k : Bool). cond k (Some (keep (cut_text d) ∷ [])) (Some (inline_put v (held now)))) (ap (λ (o : Option Node). is_kept o v) same_node ∙ kept)
+
+    -- an equal scalar
+    pub value_stays : is_kept (node_in m (s ∷ ss) c) v ≡ true → edits (replace m (s ∷ ss) v) d ≡ Some (keep (cut_text d) ∷ [])
+    value_stays = by_kept true
+
+    -- another value
+    pub value_comes : is_kept (node_in m (s ∷ ss) c) v ≡ false → PutsText (replace m (s ∷ ss) v) d now (held e).head (value_text InBlock (held e).head v) ((held e).white ++ ((held e).comment ++ ((held e).last ++ (held e).behind)))
+    value_comes other =
+        let edited = by_kept false other in
+        record {
+          segments = inline_put v (held now);
+          front = (held now).before ++ (held now).space;
+          edited = edited;
+          whole = (edit_is (replace m (s ∷ ss) v) d (inline_put v (held now)) read_d edited).old;
+          puts = row_edits.inline_puts v (held now) h.some (no_break m s ss d now read_d still.found holds) (no_lines m s ss d now read_d still.found holds);
+          changes = λ operand fit size. inline_values_change_rows m s ss v d now read_d still.found holds plain operand fit size;
+        }
+
+  -- where it stands
+  spelled : cut_text c ≡ ((held e).before ++ (held e).space) ++ ((held e).head ++ ((held e).white ++ ((held e).comment ++ ((held e).last ++ (held e).behind))))
+  spelled =
+      let w : Held = held e in
+      (held_spells m s ss c e read at h.last).0
+      ∙ ((λ i. w.before ++ (w.space ++ (w.head ++ (w.white ++ (w.comment ++ (no_break m s ss c e read at h i ++ (no_lines m s ss c e read at h i ++ (w.last ++ w.behind)))))))) ∙ sym (append_assoc w.before w.space _))
+
+  pieces : HoldsPieces (held e)
+  pieces = (held_spells m s ss c e read at h.last).1
+
+  pub value_text_is : cut_text c ≡ ((held e).before ++ (held e).space) ++ ((held e).head ++ ((held e).white ++ ((held e).comment ++ ((held e).last ++ (held e).behind))))
+  value_text_is = spelled
+
+  left : IsPiece ((held e).white ++ ((held e).comment ++ ((held e).last ++ (held e).behind)))
+  left =
+      let w : Held = held e in
+      subst IsPiece (append_assoc w.white w.comment (w.last ++ w.behind)) (pieces_joined (w.white ++ w.comment) (w.last ++ w.behind) pieces.line (pieces_joined w.last w.behind pieces.last pieces.behind))
+
+  pub value_starts : IsCharBoundary (cut_text c) (length ((held e).before ++ (held e).space))
+  value_starts = IsCharBoundary-at_seam (cut_text c) ((held e).before ++ (held e).space) _ spelled (pieces_joined (held e).head _ pieces.head left).utf8
+
+  pub value_ends : IsCharBoundary (cut_text c) (length ((held e).before ++ (held e).space) + length (held e).head)
+  value_ends =
+      let w : Held = held e in
+      let apart : cut_text c ≡ ((w.before ++ w.space) ++ w.head) ++ (w.white ++ (w.comment ++ (w.last ++ w.behind))) = spelled ∙ sym (append_assoc (w.before ++ w.space) w.head _) in
+      subst (IsCharBoundary (cut_text c)) (length-append (w.before ++ w.space) w.head) (IsCharBoundary-at_seam (cut_text c) ((w.before ++ w.space) ++ w.head) _ apart left.utf8)
+
+-- the text of a value that is put in a row, up to its end, is no longer than a text may be
+pub value_fits : (t : List ℕ) (n : ℕ) (steps : List Step) (v : Node) (x : HeldRow) → read_at t ≡ Some (cut_of t) → IsHeldRow n steps (cut_of t) x → x.inline ≡ true → is_filled v ≡ false →
+    length (held_view x.held).before + length (held_view x.held).space + length (held_view x.held).head ≤ text_limit
+value_fits t n [] v x read is inline plain = absurd (no_root_rows n (cut_of t) is.entry is.found)
+value_fits t n (s ∷ ss) v x read is inline plain =
+    let c : Cut = cut_of t in
+    let again : read_at (cut_text c) ≡ Some c = ap read_at (text_read t c read) ∙ read in
+    let h : HoldsInline is.entry = record { last = is.last; block = (is.inline inline).0; some = (is.inline inline).1 } in
+    let w : Held = held is.entry in
+    let text = ap length (value_text_is n s ss v c is.entry again is.found h plain) in
+    let size = (cut_read (cut_text c) c again).size in
+    let sizes : length (held_view x.held).before + length (held_view x.held).space + length (held_view x.held).head ≡ length w.before + length w.space + length w.head = ap (λ (y : Held). length y.before + length y.space + length y.head) is.held_is in
+    omega (arith, size, text, sizes, length-append (w.before ++ w.space) (w.head ++ (w.white ++ (w.comment ++ (w.last ++ w.behind)))), length-append w.before w.space, length-append w.head (w.white ++ (w.comment ++ (w.last ++ w.behind))))
+
+-- what the code tells of a value that is put in a row
+pub value_puts : (t : List ℕ) (n : ℕ) (steps : List Step) (v : Node) (x : HeldRow) (put : RowPut) → read_at t ≡ Some (cut_of t) → IsHeldRow n steps (cut_of t) x → x.inline ≡ true → is_filled v ≡ false → HasOperand (replace n steps v) →
+    put.doc ≡ n → put.row ≡ x.row → put.start ≡ length (held_view x.held).before + length (held_view x.held).space → put.end ≡ put.start + length (held_view x.held).head →
+    IsWrittenSo (node_in n steps (cut_of t)) v (held_view x.held).head (bytes_in string_bytes put.written) → PutsInRow (replace n steps v) (cut_of t) put
+value_puts t n [] v x put read is inline plain operand doc row start finish written = absurd (no_root_rows n (cut_of t) is.entry is.found)
+value_puts t n (s ∷ ss) v x put read is inline plain operand doc row start finish written =
+    let c : Cut = cut_of t in
+    let again : read_at (cut_text c) ≡ Some c = ap read_at (text_read t c read) ∙ read in
+    let e : RowsOfEntry = is.entry in
+    let h : HoldsInline e = record { last = is.last; block = (is.inline inline).0; some = (is.inline inline).1 } in
+    let place : put.start ≡ length ((held e).before ++ (held e).space) = start ∙ (ap (λ (y : Held). length y.before + length y.space) is.held_is ∙ sym (length-append (held e).before (held e).space)) in
+    let stop : put.end ≡ length ((held e).before ++ (held e).space) + length (held e).head = finish ∙ λ i. place i + length (is.held_is i).head in
+    record {
+      steps = s ∷ ss;
+      entry = e;
+      found = is.found;
+      document = doc;
+      row = row ∙ is.row;
+      valid = operand;
+      before = (held e).before ++ (held e).space;
+      old = (held e).head;
+      behind = (held e).white ++ ((held e).comment ++ ((held e).last ++ (held e).behind));
+      text = value_text_is n s ss v c e again is.found h plain;
+      start = place;
+      finish = stop;
+      starts = subst (IsCharBoundary (cut_text c)) (sym place) (value_starts n s ss v c e again is.found h plain);
+      ends = subst (IsCharBoundary (cut_text c)) (sym stop) (value_ends n s ss v c e again is.found h plain);
+      there = λ d there still. there_so d there still again h (bytes_in string_bytes put.written) (subst (λ (y : Held). IsWrittenSo (node_in n (s ∷ ss) c) v y.head (bytes_in string_bytes put.written)) is.held_is written);
+    }
+  where
+    there_so : (d : Cut) → read_at (cut_text d) ≡ Some d → (still : StandsStill is.entry n (s ∷ ss) d) → read_at (cut_text (cut_of t)) ≡ Some (cut_of t) → (h : HoldsInline is.entry) (w : Option (List ℕ)) → IsWrittenSo (node_in n (s ∷ ss) (cut_of t)) v (held is.entry).head w →
+        PutsSo (replace n (s ∷ ss) v) d (rows_still is.entry still) (held is.entry).head ((held is.entry).white ++ ((held is.entry).comment ++ ((held is.entry).last ++ (held is.entry).behind))) w
+    there_so d there still again h None kept = value_stays n s ss v (cut_of t) is.entry again is.found h plain d there still kept
+    there_so d there still again h (Some w) other =
+        subst (λ (l : List ℕ). PutsText (replace n (s ∷ ss) v) d (rows_still is.entry still) (held is.entry).head l ((held is.entry).white ++ ((held is.entry).comment ++ ((held is.entry).last ++ (held is.entry).behind)))) (sym other.1)
+        (value_comes n s ss v (cut_of t) is.entry again is.found h plain d there still other.0)
+
+-- ---- a line comment
+
+module _ (n : ℕ) (s : Step) (ss : List Step) (text : List ℕ) (c : Cut) (e : RowsOfEntry) (read : read_at (cut_text c) ≡ Some c) (at : rows_of_entry n (s ∷ ss) c ≡ Some e) (last : e.line ≡ length e.row.dashes) where
+  abbrev lower : List ℕ
+  lower = (held e).break ++ ((held e).lines ++ ((held e).last ++ (held e).behind))
+
+  pub comment_comes : (d : Cut) → read_at (cut_text d) ≡ Some d → (still : StandsStill e n (s ∷ ss) d) → PutsText (line_comment n (s ∷ ss) text) d (rows_still e still) (comment_old text (held e)) (comment_written text (held e).comment) ((held e).break ++ ((held e).lines ++ ((held e).last ++ (held e).behind)))
+  comment_comes d read_d still =
+      let now : RowsOfEntry = rows_still e still in
+      let edited = row_edits.comment n (s ∷ ss) text d now still.found last in
+      record {
+        segments = comment_put text (held now);
+        front = comment_front text (held now);
+        edited = edited;
+        whole = (edit_is (line_comment n (s ∷ ss) text) d (comment_put text (held now)) read_d edited).old;
+        puts = row_edits.comment_puts text (held now);
+        changes = λ operand fit size. line_comments_change_rows n (s ∷ ss) text d now read_d still.found last operand fit size;
+      }
+
+  own : StandsStill e n (s ∷ ss) c
+  own = record { start = e.start; front = e.front; found = at; size = refl }
+
+  pub comment_text_is : cut_text c ≡ comment_front text (held e) ++ (comment_old text (held e) ++ lower)
+  comment_text_is = sym (comment_comes c read own).whole ∙ (comment_comes c read own).puts.old_is
+
+  pieces_of : HoldsPieces (held e)
+  pieces_of = (held_spells n s ss c e read at last).1
+
+  below : IsPiece lower
+  below = pieces_joined (held e).break _ pieces_of.break (pieces_joined (held e).lines _ pieces_of.lines (pieces_joined (held e).last (held e).behind pieces_of.last pieces_of.behind))
+
+  stands : StandsThere n s ss c e
+  stands = rows_stand n s ss c e read at
+
+  white : IsPiece (held e).white
+  white =
+      let tail = mark_tail n s ss c e stands last in
+      subst (λ (x : LineEnd). IsPiece x.white) (sym (mark_end n s ss c e stands last)) (white_piece tail.white tail.line.blank)
+
+  gone : (b : Bool) → IsPiece (cond b (held e).white [] ++ (held e).comment)
+  gone true = pieces_of.line
+  gone false = piece_back (held e).white (held e).comment white.utf8 pieces_of.line
+
+  pub comment_starts : IsCharBoundary (cut_text c) (length (comment_front text (held e)))
+  comment_starts = IsCharBoundary-at_seam (cut_text c) (comment_front text (held e)) _ comment_text_is (pieces_joined (comment_old text (held e)) lower (gone (takes_white text (held e))) below).utf8
+
+  pub comment_ends : IsCharBoundary (cut_text c) (length (comment_front text (held e)) + length (comment_old text (held e)))
+  comment_ends =
+      let apart : cut_text c ≡ (comment_front text (held e) ++ comment_old text (held e)) ++ lower = comment_text_is ∙ sym (append_assoc (comment_front text (held e)) (comment_old text (held e)) lower) in
+      subst (IsCharBoundary (cut_text c)) (length-append (comment_front text (held e)) (comment_old text (held e))) (IsCharBoundary-at_seam (cut_text c) (comment_front text (held e) ++ comment_old text (held e)) _ apart below.utf8)
+
+-- what the code tells of a line comment that is put in a row
+pub comment_puts_there : (t : List ℕ) (n : ℕ) (steps : List Step) (text : List ℕ) (x : HeldRow) (put : RowPut) → read_at t ≡ Some (cut_of t) → IsHeldRow n steps (cut_of t) x → HasOperand (line_comment n steps text) →
+    put.doc ≡ n → put.row ≡ x.row → put.start ≡ length (comment_front text (held_view x.held)) → put.end ≡ put.start + length (comment_old text (held_view x.held)) →
+    bytes_in string_bytes put.written ≡ Some (comment_written text (held_view x.held).comment) → PutsInRow (line_comment n steps text) (cut_of t) put
+comment_puts_there t n [] text x put read is operand doc row start finish written = absurd (no_root_rows n (cut_of t) is.entry is.found)
+comment_puts_there t n (s ∷ ss) text x put read is operand doc row start finish written =
+    let c : Cut = cut_of t in
+    let again : read_at (cut_text c) ≡ Some c = ap read_at (text_read t c read) ∙ read in
+    let e : RowsOfEntry = is.entry in
+    let place : put.start ≡ length (comment_front text (held e)) = start ∙ ap (λ (y : Held). length (comment_front text y)) is.held_is in
+    let stop : put.end ≡ length (comment_front text (held e)) + length (comment_old text (held e)) = finish ∙ λ i. place i + length (comment_old text (is.held_is i)) in
+    let new : bytes_in string_bytes put.written ≡ Some (comment_written text (held e).comment) = written ∙ ap (λ (y : Held). Some (comment_written text y.comment)) is.held_is in
+    record {
+      steps = s ∷ ss;
+      entry = e;
+      found = is.found;
+      document = doc;
+      row = row ∙ is.row;
+      valid = operand;
+      before = comment_front text (held e);
+      old = comment_old text (held e);
+      behind = (held e).break ++ ((held e).lines ++ ((held e).last ++ (held e).behind));
+      text = comment_text_is n s ss text c e again is.found is.last;
+      start = place;
+      finish = stop;
+      starts = subst (IsCharBoundary (cut_text c)) (sym place) (comment_starts n s ss text c e again is.found is.last);
+      ends = subst (IsCharBoundary (cut_text c)) (sym stop) (comment_ends n s ss text c e again is.found is.last);
+      there = λ d there still. subst (PutsSo (line_comment n (s ∷ ss) text) d (rows_still e still) (comment_old text (held e)) ((held e).break ++ ((held e).lines ++ ((held e).last ++ (held e).behind)))) (sym new) (comment_comes n s ss text c e again is.found is.last d there still);
+    }
+
+-- the text up to the end of a line comment is no longer than a text may be
+pub comment_fits : (t : List ℕ) (n : ℕ) (steps : List Step) (x : HeldRow) → read_at t ≡ Some (cut_of t) → IsHeldRow n steps (cut_of t) x → length (line_to_comment (held_view x.held)) ≤ text_limit
+comment_fits t n [] x read is = absurd (no_root_rows n (cut_of t) is.entry is.found)
+comment_fits t n (s ∷ ss) x read is =
+    let c : Cut = cut_of t in
+    let again : read_at (cut_text c) ≡ Some c = ap read_at (text_read t c read) ∙ read in
+    let w : Held = held is.entry in
+    let lower : List ℕ = w.break ++ (w.lines ++ (w.last ++ w.behind)) in
+    let parts : w.before ++ (w.space ++ (w.head ++ (w.white ++ (w.comment ++ lower)))) ≡ line_to_comment w ++ lower = simp append_assoc refl in
+    let text = ap length ((held_spells n s ss c is.entry again is.found is.last).0 ∙ parts) in
+    let size = (cut_read (cut_text c) c again).size in
+    omega (arith, size, text, ap (λ (y : Held). length (line_to_comment y)) is.held_is, length-append (line_to_comment w) lower)

@@ -1,0 +1,237 @@
+//! Operations of an update that each change one row: they are carried out together, on the rows as they
+//! were read.
+ghost use Rattle.std.specs.Prelude.{◌≡◌, ◌+◌, ◌≤◌, length, true, IfErr, IfOk, IfSome, string_bytes};
+ghost use Rattle.yq_flow_scalars.specs.Characters.{text_limit};
+ghost use Rattle.yq_inline.specs.Values.{node_of};
+ghost use Rattle.yq_documents.specs.Located.{steps_of};
+ghost use Rattle.yq_documents.specs.Reading.{cut_of};
+ghost use Rattle.yq_places.specs.NodesAt.{node_in};
+ghost use Rattle.yq_places.specs.StandingViews.{held_view};
+ghost use Rattle.yq_meaning.specs.Operations.{line_comment, operation_of, operations_of, replace};
+ghost use Rattle.yq_edits.specs.Operands.{HasOperand};
+ghost use Rattle.yq_edits.specs.RowChanges.{comment_front, comment_old};
+ghost use Rattle.yq_splice.specs.Answers.{EditFails};
+ghost use Rattle.yq_splice.specs.Carried.{carry_all, carried};
+ghost use Rattle.yq_splice.specs.Edit.{gives};
+ghost use Rattle.yq_splice.specs.RowRuns as spec;
+ghost use Rattle.yq_splice.specs.Runs.{now_text};
+ghost use Rattle.yq_splice.specs.Theorems.{IsFitting};
+ghost use Rattle.yq_splice.specs.Valid.{AreServed};
+
+use crate::carrying::on_the_way;
+use crate::edit_error::EditError;
+use crate::operands::operand_holds;
+use crate::run::Run;
+use std::alloc::{AllocError, Global};
+use yq_block::is_filled;
+use yq_documents::Path;
+use yq_edits::{comment_written, is_kept, value_text};
+use yq_expr::{Op, Value};
+use yq_flow_scalars::Place;
+use yq_places::{CutText, Held};
+use yq_script::Edited;
+
+/// A text that an operation puts in a row, in the place of what stands between two places.
+#[derive(Debug, Drop)]
+pub(crate) struct RowPut {
+    /// The row's document.
+    pub(crate) doc: usize,
+    /// How many rows stand before it.
+    pub(crate) row: usize,
+    pub(crate) start: usize,
+    pub(crate) end: usize,
+    /// Nothing, where an equal scalar stands there.
+    pub(crate) written: Option<String>,
+}
+
+/// What is written for a value on one line; nothing, where it is the scalar at the path.
+fn value_written(
+    alloc: Global,
+    cut: &CutText<'_, '_>,
+    path: &Path,
+    value: &Value,
+    old: &str,
+) -> Result<Option<String>, AllocError>
+    ensures { IfOk result (λ o. spec.IsWrittenSo (node_in path.now.doc (steps_of path.now)
+        (cut_of cut.now)) (node_of value.now) old.now (spec.bytes_in string_bytes o)) }
+{
+    let stays = is_kept(alloc, cut, path, value)?;
+    if stays {
+        return Ok(None);
+    }
+    let written = value_text(alloc, Place::Block, old.as_bytes(), value)?;
+    Ok(Some(written))
+}
+
+/// A value without items and entries in the place of an inline node.
+fn value_in_row(
+    alloc: Global,
+    cut: &CutText<'_, '_>,
+    path: &Path,
+    value: &Value,
+) -> Result<Option<RowPut>, AllocError>
+    requires { HasOperand (replace path.now.doc (steps_of path.now) (node_of value.now)) }
+    ensures { IfOk result (λ o. IfSome o (spec.PutsInRow
+        (replace path.now.doc (steps_of path.now) (node_of value.now)) (cut_of cut.now))) }
+{
+    if is_filled(value) {
+        return Ok(None);
+    }
+    let Some(place) = cut.held_row(path) else {
+        return Ok(None);
+    };
+    if !place.inline {
+        return Ok(None);
+    }
+    let _text = cut.text();
+    let held = place.held;
+    let start = held.before.len() + held.space.len();
+    let written = value_written(alloc, cut, path, value, held.head)?;
+    Ok(Some(RowPut {
+        doc: path.doc,
+        row: place.row,
+        start,
+        end: start + held.head.len(),
+        written,
+    }))
+}
+
+/// Where what gives way to a line comment begins and ends.
+fn comment_place(text: &str, held: &Held<'_>) -> (usize, usize)
+    requires { length (spec.line_to_comment (held_view held.now)) ≤ text_limit }
+    ensures start { result.0 ≡ length (comment_front text.now (held_view held.now)) }
+    ensures end { result.1 ≡ result.0 + length (comment_old text.now (held_view held.now)) }
+{
+    let front = held.before.len() + held.space.len() + held.head.len();
+    let behind = front + held.white.len();
+    let end = behind + held.comment.len();
+    if text.is_empty() && !held.comment.is_empty() {
+        (front, end)
+    } else {
+        (behind, end)
+    }
+}
+
+/// A line comment in the place of another one, or of none.
+fn comment_in_row(
+    alloc: Global,
+    cut: &CutText<'_, '_>,
+    path: &Path,
+    text: &str,
+) -> Result<Option<RowPut>, AllocError>
+    requires { HasOperand (line_comment path.now.doc (steps_of path.now) text.now) }
+    ensures { IfOk result (λ o. IfSome o (spec.PutsInRow
+        (line_comment path.now.doc (steps_of path.now) text.now) (cut_of cut.now))) }
+{
+    let Some(place) = cut.held_row(path) else {
+        return Ok(None);
+    };
+    let _text = cut.text();
+    let held = place.held;
+    let (start, end) = comment_place(text, &held);
+    let written = comment_written(alloc, text, held.comment)?;
+    Ok(Some(RowPut {
+        doc: path.doc,
+        row: place.row,
+        start,
+        end,
+        written: Some(written),
+    }))
+}
+
+/// What an operation puts in a row, if it does no more than that.
+fn row_put(
+    alloc: Global,
+    cut: &CutText<'_, '_>,
+    op: &Op,
+) -> Result<Option<RowPut>, AllocError>
+    ensures { IfOk result (λ o. IfSome o (spec.PutsInRow (operation_of op.now) (cut_of cut.now))) }
+{
+    operand_holds(op);
+    match op {
+        Op::Replace(path, value) => value_in_row(alloc, cut, path, value),
+        Op::LineComment(path, text) => comment_in_row(alloc, cut, path, text),
+        Op::Append(_, _, _) | Op::Remove(_) | Op::HeadComment(_, _) => Ok(None),
+    }
+}
+
+/// Whether a row of a document stands behind another one, by its document and how many rows stand before
+/// it, if there is that.
+fn is_behind(last: Option<(usize, usize)>, doc: usize, row: usize) -> bool
+    ensures { result ≡ true → spec.Passed last doc row }
+{
+    match last {
+        None => true,
+        Some((other, before)) => other < doc || (other == doc && before < row),
+    }
+}
+
+/// Carries out an operation on the text of a run, if it changes one row, behind the last one that was
+/// changed; and tells which one that is then.
+fn put_one(
+    alloc: Global,
+    cut: &CutText<'_, '_>,
+    op: &Op,
+    last: Option<(usize, usize)>,
+    run: &mut Run,
+) -> Result<Option<Option<(usize, usize)>>, EditError>
+    requires run { spec.IsRowsRun (cut_of cut.now) last run.old }
+    requires fits { IsFitting (operation_of op.now) (now_text (cut_of cut.now) run.old) }
+    ensures ok { IfOk result (λ o. IfSome o (λ next. spec.RowsGoOn (operation_of op.now) (cut_of cut.now)
+        run.old next run.new)) }
+    ensures err { IfErr result (λ e. EditFails e (carried (operation_of op.now)
+        (now_text (cut_of cut.now) run.old))) }
+{
+    let text = cut.text();
+    let found = row_put(alloc, cut, op)?;
+    let Some(put) = found else {
+        return Ok(None);
+    };
+    let RowPut {
+        doc,
+        row,
+        start,
+        end,
+        written,
+    } = put;
+    if !is_behind(last, doc, row) || start < run.done {
+        return Ok(None);
+    }
+    let Some(written) = written else {
+        return Ok(Some(last));
+    };
+    run.put(alloc, text, start, end, "", &written)?;
+    Ok(Some(Some((doc, row))))
+}
+
+/// Carries out operations together that change one row each, one behind the other; nothing, where one of
+/// them does more, or stands in front of one before it.
+pub(crate) fn carry_in_rows<'d>(
+    alloc: Global,
+    cut: &CutText<'d, '_>,
+    ops: &'d [Op],
+) -> Result<Option<Edited>, EditError>
+    requires { AreServed (operations_of ops.now) cut.now }
+    ensures ok { IfOk result (λ o. IfSome o (λ e. carry_all (operations_of ops.now) cut.now ≡
+        gives (string_bytes e.text) e.splices.items)) }
+    ensures err { IfErr result (λ e. EditFails e (carry_all (operations_of ops.now) cut.now)) }
+{
+    let [first, _, ..] = ops else {
+        return Ok(None);
+    };
+    let text = cut.text();
+    let mut now = on_the_way(cut, first);
+    let mut run = Run::new(alloc);
+    let mut last = None;
+    let mut rest = ops;
+    'operations: while let [op, after @ ..] = rest {
+        let there = on_the_way(&now, op);
+        let Some(next) = put_one(alloc, &there, op, last, &mut run)? else {
+            return Ok(None);
+        };
+        now = there;
+        last = next;
+        rest = after;
+    }
+    Ok(Some(run.end(text)?))
+}
