@@ -220,33 +220,35 @@ both doc steps text c rows read is a utf8 fit size =
       old_is = put_is.old ∙ sym (place_text doc steps c e a);
       new_is = sym text_then;
     }) r (tailed tail r) refl refl in
-    let own_rows : rows ≡ entry_rows_at f.s f.x = same_Some _ _ (sym is ∙ (ap (λ (o : Option PlacedPart). o >>= λ d. option_map (entry_rows_at d) (row_line_of steps d.part.rows)) f.document ∙ ap (option_map (entry_rows_at f.s)) f.row_line_is)) in
-    (record {
-      reads = subst (ReadsAfter (line_comment doc steps text) c) text_then
-          (document_done (line_comment doc steps text) c p q (lead_of p) _ (record {
-            read = read;
-            there = f.stands.there;
-            rows = λ none. absurd (false≢true (sym (rows_before_some front_rows (tailed tail r ∷ back) refl) ∙ (sym (ap no_rows rows_now) ∙ none)));
-            changed = changed;
-            root = ap (λ o. change steps_are.0 (within (relabel_child steps_are.1 (with_line_comment o))) (root_of p)) (new_comment_is text (slices r).tail ((slices r).raw ++ rest) h no_breaks.0)
-                ∙ (sym (end_is_change (λ s. relabel_child s (with_line_comment (line_of text))) steps_are.0 steps_are.1 (root_of p)) ∙ ap (λ (s : List Step). at_end (λ s. relabel_child s (with_line_comment (line_of text))) s (root_of p)) (sym steps_are.2));
-            lead_goes = same_lead_goes p q (lead_same front_rows r back tail p q f.rows_are rows_now) shapes.1;
-            block = λ x. shapes.1;
-            equal_room = λ x. shapes.0;
-          }));
-      local = inl (cut_known ss c new changed.read text_then local);
-    }, record {
-      part = p;
-      there = f.stands.there;
-      front = front_rows;
-      row = r;
-      new = tailed tail r;
-      back = back;
-      rows_are = f.rows_are;
-      front_size = sym (ap (λ (x : RowsOfEntry). length x.front) own_rows);
-      shape = shape_same r tail;
-      read = ap read_at (sym text_then) ∙ changed.read;
-    })
+    let own_rows : rows ≡ entry_rows_at f.s f.x = same_Some _ _ (sym is ∙ (ap (λ (o : Option PlacedPart). o >>= λ d. option_map (entry_rows_at d) (row_line_of steps d.part.rows)) f.document ∙ ap (option_map (entry_rows_at f.s)) f.row_line_is)) in (
+      record {
+        reads = subst (ReadsAfter (line_comment doc steps text) c) text_then
+            (document_done (line_comment doc steps text) c p q (lead_of p) _ (record {
+              read = read;
+              there = f.stands.there;
+              rows = λ none. absurd (false≢true (sym (rows_before_some front_rows (tailed tail r ∷ back) refl) ∙ (sym (ap no_rows rows_now) ∙ none)));
+              changed = changed;
+              root = ap (λ o. change steps_are.0 (within (relabel_child steps_are.1 (with_line_comment o))) (root_of p)) (new_comment_is text (slices r).tail ((slices r).raw ++ rest) h no_breaks.0)
+                  ∙ (sym (end_is_change (λ s. relabel_child s (with_line_comment (line_of text))) steps_are.0 steps_are.1 (root_of p)) ∙ ap (λ (s : List Step). at_end (λ s. relabel_child s (with_line_comment (line_of text))) s (root_of p)) (sym steps_are.2));
+              lead_goes = same_lead_goes p q (lead_same front_rows r back tail p q f.rows_are rows_now) shapes.1;
+              block = λ x. shapes.1;
+              equal_room = λ x. shapes.0;
+            }));
+        local = inl (cut_known ss c new changed.read text_then local);
+      },
+      record {
+        part = p;
+        there = f.stands.there;
+        front = front_rows;
+        row = r;
+        new = tailed tail r;
+        back = back;
+        rows_are = f.rows_are;
+        front_size = sym (ap (λ (x : RowsOfEntry). length x.front) own_rows);
+        shape = shape_same r tail;
+        read = ap read_at (sym text_then) ∙ changed.read;
+      },
+    )
   where
     assoc : (a b l z : List ℕ) → a ++ (b ++ (l ++ z)) ≡ ((a ++ b) ++ l) ++ z
     assoc a b l z = sym (append_assoc a b (l ++ z)) ∙ sym (append_assoc (a ++ b) l z)

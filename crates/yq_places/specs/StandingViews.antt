@@ -10,7 +10,7 @@ use Rattle.yq_rows.specs.View.{slices}
 use Rattle.yq_documents.specs.LinesInRows.{document_row}
 use Rattle.yq_places.specs.Standings.{Mark, Held, Lone, Compact, BlockRoot, NoRows, Standing, RowsOfEntry, alone, beside, under, compact, block, root, no_rows, held, rows_of_entry}
 use Rattle.yq_places.specs.declared.places.held.Held as declared_held
-use Rattle.yq_places.specs.declared.places.held.HeldRow as declared_row
+use Rattle.yq_places.specs.declared.places.held_row.HeldRow as declared_row
 use Rattle.yq_places.specs.declared.places.held.Mark as declared_mark
 use Rattle.yq_places.specs.declared.places.standing.BlockRoot as declared_root
 use Rattle.yq_places.specs.declared.places.standing.Compact as declared_compact

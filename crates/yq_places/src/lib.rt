@@ -11,7 +11,8 @@ pub use laws::piece_laws::{contents_spell, entries_spell, pieces_exist, pieces_h
 pub use places::first_removal::FirstRemoval;
 pub use places::flow_node::{FlowHead, collection_along};
 pub use places::halves::split_break;
-pub use places::held::{Held, HeldRow, Mark};
+pub use places::held::{Held, Mark};
+pub use places::held_row::HeldRow;
 pub use places::lines_above::LinesAbove;
 pub use places::node_at::NodeAt;
 pub use places::removal_place::{Removal, Seam};

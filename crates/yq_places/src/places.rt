@@ -10,6 +10,7 @@ pub mod first_removal;
 pub mod flow_node;
 pub mod halves;
 pub mod held;
+pub mod held_row;
 pub mod known_at;
 pub mod known_end;
 pub mod known_line;

@@ -18,7 +18,7 @@ use Rattle.yq_documents.specs.LinesInRows.{document_row, row_line_of}
 use Rattle.yq_documents.specs.Reading.{cut_of, read_at}
 use Rattle.yq_places.specs.CommentPlaces.{LineEnd, end_before}
 use Rattle.yq_places.specs.StandingViews.{IsHeldRow, held_view}
-use Rattle.yq_places.specs.declared.places.held.HeldRow.{HeldRow}
+use Rattle.yq_places.specs.declared.places.held_row.HeldRow.{HeldRow}
 use Rattle.yq_places.specs.NodesAt.{node_in}
 use Rattle.yq_places.specs.PlacedRows.{PlacedPart, placed_document}
 use Rattle.yq_places.specs.PrintedLines.{less_break}

@@ -1,11 +1,8 @@
 //! Keys and dashes of a text, with what they hold.
-ghost use Rattle.std.specs.Prelude.{◌≡◌, ◌<◌, ◌||◌, not, true, false, ℕ, List, Some, length, option_map, slice_get, IfSome};
+ghost use Rattle.std.specs.Prelude.{◌≡◌, ◌||◌, not, option_map};
 ghost use Rattle.yq_text.specs.Halves.{whole};
 ghost use Rattle.yq_flow_scalars.specs.Text.{is_empty};
-ghost use Rattle.yq_rows.specs.Grammar.{IsCut};
-ghost use Rattle.yq_rows.specs.Rows.{Cut, Row as RowOf};
-ghost use Rattle.yq_rows.specs.Seams.{is_block};
-ghost use Rattle.yq_rows.specs.View.{rows_of, rows_view, view};
+ghost use Rattle.yq_rows.specs.View.{view};
 ghost use Rattle.yq_documents.specs.Located.{steps_of};
 ghost use Rattle.yq_documents.specs.Reading.{cut_of};
 ghost use Rattle.yq_places.specs.RowPieces as pieces;
@@ -59,17 +56,6 @@ pub struct Held<'t> {
     pub behind: Halves<'t>,
 }
 
-/// A key or dash of a text with what it holds, and the row of which its line is the last one.
-#[derive(Clone, Copy, Debug)]
-pub struct HeldRow<'t> {
-    /// How many rows of the text stand before it.
-    pub row: usize,
-    /// Whether an inline node is written there.
-    pub inline: bool,
-    /// The key or dash, with what it holds.
-    pub held: Held<'t>,
-}
-
 /// Whether a row has an anchor or a comment.
 pub(crate) fn is_noted(row: &Row<'_>, comment: &str) -> bool
     ensures { result ≡ (not (is_empty (view row.now).anchor) || not (is_empty comment.now)) }
@@ -82,19 +68,6 @@ fn has_key(row: &Row<'_>) -> bool
     ensures { result ≡ not (is_empty (view row.now).colon) }
 {
     !row.colon().is_empty()
-}
-
-/// Whether the head of row `i`, which is this one, is an inline node.
-fn is_inline(rows: &Rows<'_>, i: usize, head: &str) -> bool
-    requires { i < length rows.now.rows }
-    ensures { result ≡ true → (t : List ℕ) (c : Cut) (r : RowOf) → IsCut t c →
-        rows.now ≡ rows_view c → slice_get (rows_of c) i ≡ Some r →
-        (is_block r.content ≡ false) × (is_empty head.now ≡ false) }
-{
-    match rows.block(i) {
-        Some(_) => false,
-        None => !head.is_empty(),
-    }
 }
 
 /// The white space before the head of a row. Without a head there is none, it is in the tail.
@@ -154,25 +127,5 @@ impl<'t> CutText<'_, 't> {
             return None;
         }
         Some(held_in(self.rows(), text, entry))
-    }
-
-    /// The same, with its row.
-    pub fn held_row(&self, path: &Path) -> Option<HeldRow<'t>>
-        ensures { IfSome result (row_agrees.IsHeldRow path.now.doc (steps_of path.now)
-            (cut_of self.now)) }
-    {
-        let text = self.whole();
-        let entry = self.entry(path)?;
-        if entry.line != entry.dashes {
-            return None;
-        }
-        let rows = self.rows();
-        let held = held_in(rows, text, entry);
-        let inline = is_inline(rows, entry.row, held.head);
-        Some(HeldRow {
-            row: entry.row,
-            inline,
-            held,
-        })
     }
 }
