@@ -76,13 +76,14 @@ module _ (m : ℕ) (s : Step) (ss : List Step) (d : Cut) (e : RowsOfEntry) (read
   no_break = ap (λ (b : List ℕ). cond (is_empty b) [] (end_before [] (slices e.row).tail).behind) none_below
 
   pub no_lines : (held e).lines ≡ []
+  unfolding less_break
   no_lines = ap less_break none_below
 
   head : (x : Node) × (head_of e.row.content ≡ Some x)
   head = is_there (head_of e.row.content) (head_there (parent_indent e.row) e.row.content (rows_text e.under (behind_entry e)) (row_there m s ss d e there).content h.some)
 
-  node_there : node_in m (s ∷ ss) d ≡ Some (anchored (content_anchor e.row.content) head.0)
-  node_there = rows_stay_there.nodes m s ss d e head.0 there h.last head.1
+  pub node_there : (x : Node) → head_of e.row.content ≡ Some x → node_in m (s ∷ ss) d ≡ Some (anchored (content_anchor e.row.content) x)
+  node_there x is = rows_stay_there.nodes m s ss d e x there h.last is
 
 module _ (m : ℕ) (s : Step) (ss : List Step) (v : Node) (c : Cut) (e : RowsOfEntry) (read : read_at (cut_text c) ≡ Some c) (at : rows_of_entry m (s ∷ ss) c ≡ Some e) (h : HoldsInline e) (plain : is_filled v ≡ false) where
   module _ (d : Cut) (read_d : read_at (cut_text d) ≡ Some d) (still : StandsStill e m (s ∷ ss) d) where
@@ -93,7 +94,9 @@ module _ (m : ℕ) (s : Step) (ss : List Step) (v : Node) (c : Cut) (e : RowsOfE
     holds = record { last = h.last; block = h.block; some = h.some }
 
     same_node : node_in m (s ∷ ss) d ≡ node_in m (s ∷ ss) c
-    same_node = node_there m s ss d now read_d still.found holds ∙ sym (node_there m s ss c e read at h)
+    same_node =
+        let x : (y : Node) × (head_of e.row.content ≡ Some y) = head m s ss c e read at h in
+        node_there m s ss d now read_d still.found holds x.0 x.1 ∙ sym (node_there m s ss c e read at h x.0 x.1)
 
     by_kept : (b : Bool) → is_kept (node_in m (s ∷ ss) c) v ≡ b → edits (replace m (s ∷ ss) v) d ≡ cond b (Some (keep (cut_text d) ∷ [])) (Some (inline_put v (held now)))
     by_kept b kept =
@@ -218,6 +221,7 @@ module _ (n : ℕ) (s : Step) (ss : List Step) (text : List ℕ) (c : Cut) (e : 
   own = record { start = e.start; front = e.front; found = at; size = refl }
 
   pub comment_text_is : cut_text c ≡ comment_front text (held e) ++ (comment_old text (held e) ++ lower)
+  unfolding comment_comes own
   comment_text_is = sym (comment_comes c read own).whole ∙ (comment_comes c read own).puts.old_is
 
   pieces_of : HoldsPieces (held e)

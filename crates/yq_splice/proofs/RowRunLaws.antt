@@ -199,6 +199,23 @@ behind_last c (Some x) k n m i row h (inr p) is =
     let same : k ≡ m = sym h.0 ∙ p.0 in
     inr (same, omega (arith, p.1, h.1, is, ap (λ (j : ℕ). document_row j c) same))
 
+-- where a run ends, and a text comes, in the text of the cut
+module _ (t u : List ℕ) (read : read_at t ≡ Some (cut_of t)) (all : u ≡ t) where
+  text_is_whole : u ≡ cut_text (cut_of t)
+  text_is_whole = whole_text t u read all
+
+  pub row_edge : (o : Option (ℕ × ℕ)) (r : Run) → IsRowsRun (cut_of t) o r → IsCharBoundary u r.done
+  row_edge o r run = subst (λ (l : List ℕ). IsCharBoundary l r.done) (sym text_is_whole) run.run.edge
+
+  pub row_starts : (op : Operation) (x : RowPut) → PutsInRow op (cut_of t) x → IsCharBoundary u x.start
+  row_starts op x h = subst (λ (l : List ℕ). IsCharBoundary l x.start) (sym text_is_whole) h.starts
+
+  pub row_ends : (op : Operation) (x : RowPut) → PutsInRow op (cut_of t) x → IsCharBoundary u x.end
+  row_ends op x h = subst (λ (l : List ℕ). IsCharBoundary l x.end) (sym text_is_whole) h.ends
+
+  pub row_order : (op : Operation) (x : RowPut) → PutsInRow op (cut_of t) x → x.start ≤ x.end
+  row_order op x h = omega (arith, h.start, h.finish)
+
 module _ (t u : List ℕ) (op : Operation) (o : Option (ℕ × ℕ)) (before : Run) (x : RowPut) (read : read_at t ≡ Some (cut_of t)) (all : u ≡ t) (run : IsRowsRun (cut_of t) o before) (h : PutsInRow op (cut_of t) x) (passed : Passed o x.doc x.row) (ordered : before.done ≤ x.start) (fitting : IsFitting op (now_text (cut_of t) before)) where
   abbrev c : Cut
   c = cut_of t
