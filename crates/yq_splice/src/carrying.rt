@@ -140,8 +140,32 @@ pub(crate) fn edited_behind(splices: Vec<Splice>, edited: Edited) -> Result<Edit
     Ok(Edited { text, splices })
 }
 
-/// Several operations carried out on a text that was read, together where that can be; their splices
-/// come behind others. The text is copied behind the reading.
+/// Several operations carried out on a text that was read, together where each changes one row, else one
+/// by one on a copy of the text; their splices come behind others.
+fn carry_by_rows(
+    alloc: Global,
+    text: &str,
+    documents: Documents<'_>,
+    splices: Vec<Splice>,
+    ops: &[Op],
+) -> Result<Edited, EditError>
+    requires same { documents ≡ text.now }
+    requires read { read_at text.now ≡ Some (cut_of documents) }
+    requires serves { AreServed (operations_of ops.now) text.now }
+    ensures { Edits result (behind splices.items (spec.carry_all (operations_of ops.now)
+        text.now)) }
+{
+    let in_rows = carry_in_rows(alloc, &documents.cut(), ops)?;
+    if let Some(edited) = in_rows {
+        return Ok(edited_behind(splices, edited)?);
+    }
+    let places = documents.into_rows().into_places();
+    let kept = String::from_str(alloc, text)?;
+    carry_all(alloc, kept, places, splices, ops)
+}
+
+/// Several operations carried out on a text that was read, together where they put values in one flow
+/// collection, or each changes one row; their splices come behind others.
 fn carry_several(
     alloc: Global,
     text: &str,
@@ -159,13 +183,7 @@ fn carry_several(
     if let Some(edited) = together {
         return Ok(edited_behind(splices, edited)?);
     }
-    let in_rows = carry_in_rows(alloc, &documents.cut(), ops)?;
-    if let Some(edited) = in_rows {
-        return Ok(edited_behind(splices, edited)?);
-    }
-    let places = documents.into_rows().into_places();
-    let kept = String::from_str(alloc, text)?;
-    carry_all(alloc, kept, places, splices, ops)
+    carry_by_rows(alloc, text, documents, splices, ops)
 }
 
 /// The operations of a plan carried out on a text that was read; their splices come behind others. For a

@@ -140,11 +140,7 @@ fn comment_in_row(
 }
 
 /// What an operation puts in a row, if it does no more than that.
-fn row_put(
-    alloc: Global,
-    cut: &CutText<'_, '_>,
-    op: &Op,
-) -> Result<Option<RowPut>, AllocError>
+fn row_put(alloc: Global, cut: &CutText<'_, '_>, op: &Op) -> Result<Option<RowPut>, AllocError>
     ensures { IfOk result (λ o. IfSome o (spec.PutsInRow (operation_of op.now) (cut_of cut.now))) }
 {
     operand_holds(op);
@@ -177,8 +173,8 @@ fn put_one(
 ) -> Result<Option<Option<(usize, usize)>>, EditError>
     requires run { spec.IsRowsRun (cut_of cut.now) last run.old }
     requires fits { IsFitting (operation_of op.now) (now_text (cut_of cut.now) run.old) }
-    ensures ok { IfOk result (λ o. IfSome o (λ next. spec.RowsGoOn (operation_of op.now) (cut_of cut.now)
-        run.old next run.new)) }
+    ensures ok { IfOk result (λ o. IfSome o (λ next. spec.RowsGoOn (operation_of op.now)
+        (cut_of cut.now) run.old next run.new)) }
     ensures err { IfErr result (λ e. EditFails e (carried (operation_of op.now)
         (now_text (cut_of cut.now) run.old))) }
 {
