@@ -27,7 +27,10 @@ use Rattle.yq_documents.specs.Reading.{outline_of}
 use Rattle.yq_documents.specs.LinesInRows.{RowLine, document_row, row_line}
 use Rattle.yq_documents.specs.TreeEdits.{change_nth}
 use Rattle.yq_walk.specs.Lines.{head_of, lines_of}
-use Rattle.yq_places.specs.FlowNodes.{bare_line, content_flow, find_head, flow_collection, head_line, line_collection, part_collection}
+use Rattle.yq_places.specs.FlowNodes.{bare_line, content_flow, find_head, flow_collection, head_line, line_collection}
+use Rattle.yq_places.specs.NodeReading.{head_at}
+use Rattle.yq_places.proofs.FlowNodeLaws.{collection_is, rows_collection}
+use Rattle.yq_places.proofs.FlowViewLaws.{head_found, numbered}
 use Rattle.yq_places.proofs.RemovalLines.{front_some}
 use Rattle.yq_places.proofs.WalkDocuments.{row_line_number}
 use Rattle.yq_change.specs.Changed.{put_document, put_part}
@@ -118,24 +121,16 @@ shape_head p q h steps =
     ∙ (ap (find_head steps) (sym (group_strip (lines_of q.rows)) ∙ (ap group (rows_strip q.rows ∙ (ap shapes_lines h ∙ sym (rows_strip p.rows))) ∙ group_strip (lines_of p.rows)))
     ∙ find_head_strip steps (outline_of p))
 
--- A line in whose head a path goes on, by how many lines stand before it.
-record SameHead (steps : List Step) (o : Outline) (x : Reached) : Type 0 where
-  line : Reached
-  found : find_head steps o ≡ Some line
-  number : length (lines_before line.0.place) ≡ length (lines_before x.0.place)
-  left : line.1 ≡ x.1
+same_numbers : (o : Option Reached) → option_map numbered o ≡ option_map numbered (option_map strip_pair o)
+same_numbers None = refl
+same_numbers (Some x) = λ i. Some (sym (ap length (before_strip x.0.place) ∙ length-map (lines_before x.0.place) stripped) i, x.1)
 
-same_head : (p q : Part) → map row_shape q.rows ≡ map row_shape p.rows → (steps : List Step) (x : Reached) → find_head steps (outline_of p) ≡ Some x → SameHead steps (outline_of q) x
-same_head p q h steps x e = go (find_head steps (outline_of q)) refl (shape_head p q h steps ∙ ap (option_map strip_pair) e)
-  where
-    size : (f : FoundLine) → length (lines_before (strip_found f).place) ≡ length (lines_before f.place)
-    size f = ap length (before_strip f.place) ∙ length-map (lines_before f.place) stripped
-
-    go : (o : Option Reached) → find_head steps (outline_of q) ≡ o → option_map strip_pair o ≡ Some (strip_pair x) → SameHead steps (outline_of q) x
-    go None is e = absurd (none-some _ e)
-    go (Some y) is e =
-        let same = same_Some _ _ e in
-        record { line = y; found = is; number = sym (size y.0) ∙ (ap (λ (z : Reached). length (lines_before z.0.place)) same ∙ size x.0); left = ap (λ (z : Reached). z.1) same }
+numbers_stay : (p q : Part) → map row_shape q.rows ≡ map row_shape p.rows → (steps : List Step) → head_at steps (lines_of q.rows) ≡ head_at steps (lines_of p.rows)
+numbers_stay p q h steps =
+    sym (head_found (lines_of q.rows) steps)
+    ∙ (same_numbers (find_head steps (outline_of q))
+    ∙ (ap (option_map numbered) (shape_head p q h steps)
+    ∙ (sym (same_numbers (find_head steps (outline_of p))) ∙ head_found (lines_of p.rows) steps)))
 
 -- ---- in a cut
 
@@ -162,7 +157,7 @@ module _ (c : Cut) (k : ℕ) (steps : List Step) (w : CollPieces) (at : FlowAt c
   abbrev m : Node
   m = put_at at.rest gap is i.node
 
-  abbrev q : Part
+  abbrev pub q : Part
   q = with_node at.part i m
 
   abbrev new : Cut
@@ -177,7 +172,7 @@ module _ (c : Cut) (k : ℕ) (steps : List Step) (w : CollPieces) (at : FlowAt c
   keeps : no_rows q.rows ≡ true → no_rows at.part.rows ≡ true
   keeps h = absurd (false≢true (sym (ap no_rows rows_are ∙ front_some i.front r i.back) ∙ h))
 
-  there : slice_get (document_parts new) k ≡ Some q
+  pub there : slice_get (document_parts new) k ≡ Some q
   there = ap (λ (ps : List Part). slice_get ps k) (document_put c k at.part q at.there keeps) ∙ nth_changed k at.part q (document_parts c) at.there
 
   in_new : InCut (part_number k new) new q i.front r i.back
@@ -200,19 +195,40 @@ module _ (c : Cut) (k : ℕ) (steps : List Step) (w : CollPieces) (at : FlowAt c
       let own : row_shape r ≡ row_shape i.row = λ j. record { column = i.row.column; dashes = i.row.dashes; mark = i.row.mark; headed = headed j } in
       ap (map row_shape) rows_are ∙ (one_other i.front r i.row i.back own ∙ sym (ap (map row_shape) at.at.rows_are))
 
-  head : SameHead steps (outline_of q) (at.line, at.rest)
-  head = same_head at.part q shapes steps (at.line, at.rest) at.at.found
+  -- by how many lines stand before the one in whose head the node is
+  abbrev pub number : ℕ
+  number = length (lines_before at.line.place)
 
-  printed_line : row_line (length (lines_before head.line.0.place)) q.rows ≡ Some (record { before = length i.front; row = r; line = length i.row.dashes })
-  printed_line =
-      let front : take (length i.front) q.rows ≡ i.front = ap (take (length i.front)) rows_are ∙ take-append_seam i.front (r ∷ i.back) in
-      let number : length (lines_before head.line.0.place) ≡ length (lines_of (take (length i.front) q.rows)) + length i.row.dashes =
-      head.number ∙ (sym at.at.number ∙ ap (λ (rs : List Row). length (lines_of rs) + length i.row.dashes) (sym front)) in
-      ap (λ (n : ℕ). row_line n q.rows) number ∙ row_line_number q.rows (length i.front) (length i.row.dashes) r (ap (λ (rs : List Row). slice_get rs (length i.front)) rows_are ∙ nth_behind i.front r i.back) (omega arith)
+  pub number_is : head_at steps (lines_of at.part.rows) ≡ Some (number, at.rest)
+  number_is = sym (head_found (lines_of at.part.rows) steps) ∙ ap (option_map numbered) at.at.found
 
-  pub flow_stays : flow_collection k steps (put_document k (with_node at.part at.row (put_at at.rest gap is at.row.node)) c) ≡ Some (other_items gap is w)
-  flow_stays =
-      ap (λ (o : Option Part). o >>= part_collection (document_row k new) new steps) there
-      ∙ (ap (λ (o : Option Reached). o >>= λ x. line_collection (document_row k new) new q.rows (length (lines_before x.0.place)) x.1) head.found
-      ∙ (ap (λ (o : Option RowLine). o >>= λ s. content_flow head.line.1 s.row.content (behind_row (document_row k new + s.before) new)) printed_line
-      ∙ ((λ j. coll_along (head.left j) m (i.tail ++ behind_row_is j)) ∙ along_stays at.rest i.node (behind_node c k at.part i) w gap is at.at.along)))
+  pub numbers_same : (ss : List Step) → head_at ss (lines_of q.rows) ≡ head_at ss (lines_of at.part.rows)
+  numbers_same = numbers_stay at.part q shapes
+
+  line_there : (rows : List Row) (y : Content) → rows ≡ i.front ++ (with_content y i.row ∷ i.back) → row_line number rows ≡ Some (record { before = length i.front; row = with_content y i.row; line = length i.row.dashes })
+  line_there rows y are =
+      let front : take (length i.front) rows ≡ i.front = ap (take (length i.front)) are ∙ take-append_seam i.front (with_content y i.row ∷ i.back) in
+      let is : number ≡ length (lines_of (take (length i.front) rows)) + length i.row.dashes = sym at.at.number ∙ ap (λ (rs : List Row). length (lines_of rs) + length i.row.dashes) (sym front) in
+      ap (λ (n : ℕ). row_line n rows) is
+      ∙ row_line_number rows (length i.front) (length i.row.dashes) (with_content y i.row) (ap (λ (rs : List Row). slice_get rs (length i.front)) are ∙ nth_behind i.front (with_content y i.row) i.back) (omega arith)
+
+  module _ (ss left : List Step) (e : head_at ss (lines_of at.part.rows) ≡ Some (number, left)) where
+    -- a path that goes on in the same head leads to what is in the node there
+    pub collection_before : flow_collection k ss c ≡ coll_along left i.node (behind_node c k at.part i)
+    collection_before =
+        sym (collection_is c k ss)
+        ∙ (ap (λ (o : Option Part). o >>= λ p. rows_collection (document_row k c) c p.rows ss) at.there
+        ∙ (ap (λ (o : Option (ℕ × List Step)). o >>= λ x. line_collection (document_row k c) c at.part.rows x.0 x.1) e
+        ∙ (ap (λ (o : Option RowLine). o >>= λ s. content_flow left s.row.content (behind_row (document_row k c + s.before) c)) (line_there at.part.rows i.row.content at.at.rows_are)
+        ∙ λ j. content_flow left (at.at.content_is j) ((row_in_cut c k at.part i.front i.row i.back at.there at.at.rows_are).behind j))))
+
+    pub collection_behind : flow_collection k ss new ≡ coll_along left m (behind_node c k at.part i)
+    collection_behind =
+        sym (collection_is new k ss)
+        ∙ (ap (λ (o : Option Part). o >>= λ p. rows_collection (document_row k new) new p.rows ss) there
+        ∙ (ap (λ (o : Option (ℕ × List Step)). o >>= λ x. line_collection (document_row k new) new q.rows x.0 x.1) (numbers_same ss ∙ e)
+        ∙ (ap (λ (o : Option RowLine). o >>= λ s. content_flow left s.row.content (behind_row (document_row k new + s.before) new)) (line_there q.rows (Inline i.space m i.tail) rows_are)
+        ∙ λ j. coll_along left m (i.tail ++ behind_row_is j))))
+
+  pub flow_stays : flow_collection k steps new ≡ Some (other_items gap is w)
+  flow_stays = collection_behind steps at.rest number_is ∙ along_stays at.rest i.node (behind_node c k at.part i) w gap is at.at.along

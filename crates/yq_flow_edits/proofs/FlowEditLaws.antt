@@ -26,7 +26,6 @@ use Rattle.yq_change.specs.SoundRoots.{IsSoundRoot}
 use Rattle.yq_change.proofs.FlowKeptLaws.{flow_rooms}
 use Rattle.yq_change.proofs.FlowPathLaws.{row_texts}
 use Rattle.yq_change.proofs.FlowRowLaws.{flow_edited}
-use Rattle.yq_change.proofs.FlowStayLaws.{flow_stays, other_items}
 use Rattle.yq_change.proofs.LeadLaws.{same_lead_goes}
 use Rattle.yq_meaning.specs.After.{document_of, root_after}
 use Rattle.yq_meaning.specs.Operations.{Operation}
@@ -161,14 +160,7 @@ flow_carried op c steps w at e h read done size =
       local = inl (cut_known (flow_segments (cut_text c) e) c new changed.1.read (sym changed.0) (flow_local c k steps w at e (edited_at c k steps w at e) texts done.stays changed.0));
     }
 
--- Behind an edit the path of the collection leads to it still, with the gap and the items that it then has.
-pub record Next (c : Cut) (n : ℕ) (steps : List Step) (w : CollPieces) (e : FlowEdit) : Type 0 where
-  pub cut : Cut
-  pub read : read_at (new_text (flow_segments (cut_text c) e)) ≡ Some cut
-  pub found : flow_collection n steps cut ≡ Some (other_items e.gap e.items w)
-
-pub flow_next : (op : Operation) (c : Cut) (steps : List Step) (w : CollPieces) (at : FlowAt c (document_of op) steps w) (e : FlowEdit) (h : Children → Children) → read_at (cut_text c) ≡ Some c → FlowCarried op c steps w at e h →
-    length (new_text (flow_segments (cut_text c) e)) ≤ text_limit → Next c (document_of op) steps w e
-flow_next op c steps w at e h read done size =
-    let changed = made_changed op c steps w at e h read done size in
-    record { cut = made_cut op c steps w at e; read = ap read_at changed.0 ∙ changed.1.read; found = flow_stays c (document_of op) steps w at e.gap e.items }
+-- the text that it makes reads as that cut
+pub made_reads : (op : Operation) (c : Cut) (steps : List Step) (w : CollPieces) (at : FlowAt c (document_of op) steps w) (e : FlowEdit) (h : Children → Children) → read_at (cut_text c) ≡ Some c → FlowCarried op c steps w at e h →
+    length (new_text (flow_segments (cut_text c) e)) ≤ text_limit → read_at (new_text (flow_segments (cut_text c) e)) ≡ Some (made_cut op c steps w at e)
+made_reads op c steps w at e h read done size = let changed = made_changed op c steps w at e h read done size in ap read_at changed.0 ∙ changed.1.read

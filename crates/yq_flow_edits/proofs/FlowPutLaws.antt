@@ -53,7 +53,7 @@ use Rattle.yq_flow_edits.proofs.FlowPieceLaws.{edit_pieces, nothing_piece, one_s
 use Rattle.yq_flow_edits.proofs.FlowSoundLaws.{last_is}
 use Rattle.yq_flow_edits.proofs.FlowStandings as standing
 use Rattle.yq_flow_edits.proofs.FlowStandings.{EntryAt, entry_found, entry_placed}
-use Rattle.yq_flow_edits.proofs.FlowEditLaws.{FlowCarried, Next, before_is, flow_carried, flow_next, segments_old}
+use Rattle.yq_flow_edits.proofs.FlowEditLaws.{FlowCarried, before_is, flow_carried, made_cut, made_reads, segments_old}
 use Rattle.yq_flow_edits.proofs.FlowWholeLaws.{StandsBefore, replaced_stands}
 use Rattle.yq_edits.proofs.FlowWritten.{flow_fits}
 use Rattle.yq_edits.proofs.KeptLaws.{led_same}
@@ -213,9 +213,9 @@ module _ (c : Cut) (doc : ℕ) (path : List Step) (v : tree.Node) (read : read_a
     pub replaced_carried : length (new_text (flow_segments (cut_text c) e)) ≤ text_limit → CarriedOut (replace doc path v) c (flow_segments (cut_text c) e)
     replaced_carried size = flow_carried (replace doc path v) c a.init a.coll at e (change_child a.step (replaced v)) read done size
 
-    -- the same collection is at the path behind that
-    pub replaced_next : length (new_text (flow_segments (cut_text c) e)) ≤ text_limit → Next c doc a.init a.coll e
-    replaced_next size = flow_next (replace doc path v) c a.init a.coll at e (change_child a.step (replaced v)) read done size
+    -- the cut as which that reads
+    pub replaced_reads : length (new_text (flow_segments (cut_text c) e)) ≤ text_limit → read_at (new_text (flow_segments (cut_text c) e)) ≡ Some (made_cut (replace doc path v) c a.init a.coll at e)
+    replaced_reads size = made_reads (replace doc path v) c a.init a.coll at e (change_child a.step (replaced v)) read done size
 
 -- Replace: a value put in the place of a content of a flow collection.
 pub flow_values_put : FlowValuesArePut

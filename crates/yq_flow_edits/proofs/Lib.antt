@@ -22,6 +22,8 @@ pub mod CollectionCases
 pub mod EntryLines
 pub mod StepsOn
 pub mod LaterItems
+pub mod LaterParts
+pub mod PartsStay
 pub mod FlowPartNodes
 pub mod StandingExists
 pub mod MoreExists

@@ -29,7 +29,7 @@ use Rattle.yq_documents.specs.RowReading.{from_head}
 use Rattle.yq_documents.specs.LinesInRows.{RowLine, document_row}
 use Rattle.yq_places.specs.FlowNodes.{content_flow, find_head, flow_collection, line_collection, part_collection}
 use Rattle.yq_places.specs.FlowViews as views
-use Rattle.yq_places.specs.FlowViews.{FlowAgrees, placed_collection, collection_along}
+use Rattle.yq_places.specs.FlowViews.{FlowAgrees, IsHeadFor, placed_collection, collection_along}
 use Rattle.yq_places.specs.NodeReading.{NodePlace, with_steps, node_place, place_line, head_at}
 use Rattle.yq_places.specs.RowWalk.{InCut}
 use Rattle.yq_walk.specs.RowWalk.{IsLine, line_number}
@@ -37,6 +37,7 @@ use Rattle.yq_places.specs.declared.places.flow_node.FlowHead.{FlowHead}
 use Rattle.yq_walk.specs.declared.position.Position.{Position}
 use Rattle.yq_walk.specs.declared.position.Stretch.{Stretch}
 use Rattle.yq_places.proofs.FlowViewLaws.{collection_placed, head_found, numbered}
+use Rattle.yq_places.proofs.HeadSteps.{HasStemAt, stem_at}
 use Rattle.yq_places.proofs.WalkDocuments as documents
 use Rattle.yq_places.proofs.WalkDocuments.{found_in_cut}
 use Rattle.yq_places.proofs.RowHeads.{row_alone}
@@ -281,3 +282,32 @@ module _ (t : List ℕ) (s : RowsView) (c : Cut) (n : ℕ) (d : Stretch) (cut : 
             coll_is = h.coll_is;
             found = e;
           }
+
+-- ---- all collections of the head
+
+module _ (t : List ℕ) (s : RowsView) (c : Cut) (n : ℕ) (d : Stretch) (cut : IsCut t c) (is : s ≡ rows_view c) (f : documents.Found s c n d) (q : Position) (at : IsLine s d q) (steps left : List Step)
+    (leads : head_at steps (lines_of (found_in_cut t s c n d cut is f).0.document.stand.rows) ≡ Some (line_number d (found_in_cut t s c n d cut is f).0.document.stand.rows q, left)) where
+  abbrev there : InCut s d c
+  there = (found_in_cut t s c n d cut is f).0
+
+  stem : HasStemAt steps (lines_of there.document.stand.rows) (line_number d there.document.stand.rows q, left)
+  stem = stem_at steps (lines_of there.document.stand.rows) (line_number d there.document.stand.rows q, left) leads
+
+  pub head_for : (x : FlowHead) → left ≡ map step_of x.left.now → t ≡ take x.before t ++ (x.text.now ++ behind_row q.row c) → x.before ≡ length (take x.before t) → x.text.now ≡ from_head (slices (row_is s d c there q at)) [] →
+      Some (view x.node.value) ≡ row_flow (length x.text.now) (row_is s d c there q at) [] → IsHeadFor t c n steps x
+  head_for x own stands begins ends e =
+      (stem.stem, stem.steps_are ∙ ap (λ (ss : List Step). stem.stem ++ ss) own, record {
+        leads = record {
+          part = f.part;
+          there = f.there;
+          number = line_number d there.document.stand.rows q;
+          leads = λ ss. ap (λ (rs : List Row). head_at (stem.stem ++ ss) (lines_of rs)) (sym (found_in_cut t s c n d cut is f).1) ∙ stem.leads ss;
+        };
+        tells = λ y node text before.
+            let is_text : y.text.now ≡ x.text.now = λ i. (text i).now in
+            head_agrees_at t s c n d cut is f q at (stem.stem ++ map step_of y.left.now) (map step_of y.left.now) (stem.leads (map step_of y.left.now)) y refl
+            (stands ∙ λ i. take (sym before i) t ++ (sym is_text i ++ behind_row q.row c))
+            (before ∙ (begins ∙ λ i. length (take (sym before i) t)))
+            (is_text ∙ ends)
+            ((λ i. Some (view (node i).value)) ∙ (e ∙ λ i. row_flow (length (sym is_text i)) (row_is s d c there q at) []));
+      })

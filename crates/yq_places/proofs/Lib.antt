@@ -69,6 +69,7 @@ pub mod NodeAtLaws
 pub mod LastBreakLaws
 pub mod ContentEndLaws
 pub mod FlowViewLaws
+pub mod HeadSteps
 pub mod FlowNodeLaws
 pub mod DashLaws
 pub mod KnownFronts

@@ -1,11 +1,16 @@
 -- Reading (own; a reader may skip it: the grammar is what is believed, and the clauses `found` and `only` tie the two): flow collections at paths, as the code finds them.
-use Rattle.std.specs.Prelude.{◌≡◌, ℕ, List, ◌++◌, length, map, Option, Some, None}
+use Rattle.std.specs.Prelude.{◌≡◌, ℕ, List, ◌++◌, length, slice_get, map, Option, Some, None}
 use Rattle.yq_flow_scalars.specs.Answers.{◌>>=◌}
 use Rattle.yq_flow_scalars.specs.Paths.{Step}
 use Rattle.yq_inline.specs.Collections.{CollAt, CollPieces, IsCollAt}
 use Rattle.yq_inline.specs.Entries.{placed_entry_at, step_of}
 use Rattle.yq_inline.specs.Nodes.{coll, node_text}
 use Rattle.yq_inline.specs.View.{view}
+use Rattle.yq_rows.specs.Rows.{Part, Cut}
+use Rattle.yq_walk.specs.Lines.{lines_of}
+use Rattle.yq_documents.specs.Documents.{document_parts}
+use Rattle.yq_places.specs.FlowNodes.{flow_collection}
+use Rattle.yq_places.specs.NodeReading.{head_at}
 use Rattle.yq_places.specs.declared.places.flow_node.FlowHead.{FlowHead}
 use Rattle.yq_inline.specs.Places.{Placed, placed, Content, nothing, name, text, sequence, mapping, locate}
 
@@ -58,3 +63,20 @@ FlowAgrees t None None = Unit {0}
 FlowAgrees t (Some w) None = ⊥
 FlowAgrees t None (Some x) = collection_view x ≡ None
 FlowAgrees t (Some w) (Some x) = IsHeadOf t w x
+
+-- The first steps of a path lead to the head of a line of document n, whichever steps go on there (8.2).
+pub record LeadsToHead (c : Cut) (n : ℕ) (stem : List Step) : Type 0 where
+  pub part : Part
+  pub there : slice_get (document_parts c) n ≡ Some part
+  pub number : ℕ
+  pub leads : (left : List Step) → head_at (stem ++ left) (lines_of part.rows) ≡ Some (number, left)
+
+-- The code tells with a node all flow collections of the head to which steps lead in document n of a text with its cut: with other steps in the node it
+-- tells the one to which these lead (7.4; own).
+pub record TellsHead (t : List ℕ) (c : Cut) (n : ℕ) (stem : List Step) (x : FlowHead) : Type 0 where
+  pub leads : LeadsToHead c n stem
+  pub tells : (y : FlowHead) → y.node ≡ x.node → y.text ≡ x.text → y.before ≡ x.before → FlowAgrees t (flow_collection n (stem ++ map step_of y.left.now) c) (Some y)
+
+-- the same of the head that was found for a path: the steps that the code tells go on in it (own)
+abbrev pub IsHeadFor : List ℕ → Cut → ℕ → List Step → FlowHead → Type 0
+IsHeadFor t c n steps x = (stem : List Step) × (steps ≡ stem ++ map step_of x.left.now) × TellsHead t c n stem x

@@ -1,14 +1,19 @@
--- Runs of values that are put in one flow collection, as the code makes them.
-use Rattle.std.proofs.Common.{◌≡◌, ℕ, ◌+◌, ◌≤◌, ◌<◌, false, List, [], ◌++◌, length, take, drop, Option, Some, None, Result, Ok, Err, IfOk, sym, ap, ◌∙◌, subst, append-nil, arith, string_bytes}
+-- Runs of values that are put in the collections of one head, as the code makes them.
+use Rattle.std.proofs.Common.{◌≡◌, ℕ, ◌+◌, ◌-◌, ◌≤◌, ◌<◌, false, List, [], ◌++◌, length, length-append, map, take, drop, Option, Some, None, Result, Ok, Err, IfOk, sym, ap, ◌∙◌, subst, append-nil, arith, string_bytes}
+use Rattle.std.proofs.Math.Seq.{take-append_seam}
+use Rattle.std.proofs.lemmas.List.{length-map, take-map}
 use Rattle.std.proofs.lemmas.Str.{IsCharBoundary-start}
 use Rattle.std.specs.Prelude.{IfSome, String}
 use Rattle.std.specs.Str.{IsCharBoundary}
 use Rattle.std.specs.declared.alloc.Global.{Global}
 use Rattle.yq_flow_scalars.specs.Paths.{Step}
 use Rattle.yq_flow_scalars.specs.Tree.{Node}
+use Rattle.yq_inline.specs.Entries.{step_of}
+use Rattle.yq_inline.specs.declared.path.Step as declared
 use Rattle.yq_flow.specs.FlowPlaces.{edit_view}
 use Rattle.yq_rows.specs.Rows.{Cut, cut_text}
 use Rattle.yq_documents.specs.Reading.{cut_of, read_at}
+use Rattle.yq_places.specs.FlowViews.{LeadsToHead}
 use Rattle.yq_places.specs.NodesAt.{node_in}
 use Rattle.yq_places.specs.Standings.{last_step}
 use Rattle.yq_places.specs.declared.places.flow_node.FlowHead.{FlowHead}
@@ -25,7 +30,7 @@ use Rattle.yq_flow_edits.proofs.FlowAnswers.{whole_text}
 use Rattle.yq_splice.specs.Answers.{EditFails}
 use Rattle.yq_splice.specs.Carried.{carried}
 use Rattle.yq_splice.specs.Edit.{gives, refuses}
-use Rattle.yq_splice.specs.Runs.{EndsIn, HasPut, IsRun, PutFails, PutsAt, Runs, RunsOn, above_in, now_text, run_front, run_text, steps_above}
+use Rattle.yq_splice.specs.Runs.{EndsAt, EndsIn, HasPut, IsRun, PutFails, PutsAt, Runs, RunsOn, now_text, run_front, run_text}
 use Rattle.yq_splice.specs.Theorems.{IsFitting}
 use Rattle.yq_splice.specs.declared.edit_error.EditError.{EditError}
 use Rattle.yq_splice.specs.declared.edit_error.EditError.TheVariants as error
@@ -35,49 +40,55 @@ use Rattle.yq_splice.proofs.RunLaws.{goes_on, kept_there, large_there, put_there
 use Rattle.yq_splice.proofs.SessionLaws.{text_utf8}
 
 -- a run of nothing
-pub run_begins : (t : List ℕ) (n : ℕ) (steps : List Step) → read_at t ≡ Some (cut_of t) → IsRun (cut_of t) n steps [] 0
-run_begins t n steps read =
+pub run_begins : (t : List ℕ) (n : ℕ) (stem : List Step) → read_at t ≡ Some (cut_of t) → LeadsToHead (cut_of t) n stem → IsRun (cut_of t) n stem [] 0
+run_begins t n stem read leads =
     let same : cut_text (cut_of t) ≡ t = text_read t (cut_of t) read in
     record {
       within = omega arith;
       edge = IsCharBoundary-start (cut_text (cut_of t)) (text_utf8 (cut_text (cut_of t)) (cut_of t) (ap read_at same ∙ read));
       cut = cut_of t;
       read = ap read_at same ∙ read;
-      stays = λ w found. record { now = w; found = found; later = λ s y at less. at };
+      leads = leads;
+      stays = λ left s y there less begins. there;
     }
 
 -- the same of a run that the code begins
-module _ (t : List ℕ) (n : ℕ) (steps : List Step) (r : Run) (read : read_at t ≡ Some (cut_of t)) (text : string_bytes r.text ≡ []) (done : r.done ≡ 0) where
+module _ (t : List ℕ) (n : ℕ) (stem : List Step) (r : Run) (read : read_at t ≡ Some (cut_of t)) (leads : LeadsToHead (cut_of t) n stem) (text : string_bytes r.text ≡ []) (done : r.done ≡ 0) where
   pub begins : Runs (cut_of t) n steps r
-  begins = subst (λ (d : ℕ). IsRun (cut_of t) n steps (string_bytes r.text) d) (sym done) (subst (λ (l : List ℕ). IsRun (cut_of t) n steps l 0) (sym text) (run_begins t n steps read))
+  begins = subst (λ (d : ℕ). IsRun (cut_of t) n stem (string_bytes r.text) d) (sym done) (subst (λ (l : List ℕ). IsRun (cut_of t) n stem l 0) (sym text) (run_begins t n stem read leads))
 
   pub begins_with : now_text (cut_of t) r ≡ t
   begins_with = (λ i. run_text (cut_text (cut_of t)) (text i) (done i)) ∙ text_read t (cut_of t) read
 
--- a path ends in the collection in which another one does, if the steps above their last ones are the same
-pub ends_there : (one other above first : List Step) (s r : Step) → Some (above, s) ≡ last_step one → Some (first, r) ≡ last_step other → above ≡ first → EndsIn (steps_above other) one
-ends_there one other above first s r last first_last same = (s, sym last ∙ ap (λ (ss : List Step). Some (ss, s)) (same ∙ ap above_in first_last))
+-- a path ends there, if the steps above its last one are those to the head and others
+pub ends_there : (path above stem left : List Step) (s : Step) → Some (above, s) ≡ last_step path → above ≡ stem ++ left → EndsAt stem left path
+ends_there path above stem left s last same = (s, sym last ∙ ap (λ (ss : List Step). Some (ss, s)) same)
+
+-- the steps to a head, by how many go on in it
+pub stem_is : (above left : List declared.Step) (stem : List Step) (n : ℕ) → map step_of above ≡ stem ++ map step_of left → n ≡ length above - length left → map step_of (take n above) ≡ stem
+stem_is above left stem n same size =
+    let long : length stem ≡ n = omega (arith, size, ap length same, length-append stem (map step_of left), length-map above step_of, length-map left step_of) in
+    sym (take-map step_of n above) ∙ ((λ i. take (sym long i) (same i)) ∙ take-append_seam stem (map step_of left))
 
 -- a value is put at a part in that collection
-pub puts_at : {E : Type 0} (t : List ℕ) (m n : ℕ) (steps : List Step) (op : Operation) (path : List Step) (v : Node) (x : FlowHead) →
-    op ≡ replace m path v → HasOperand op → (m ≡ n) × EndsIn steps path → (r : Result (Option PartPut) E) → IfOk r (λ o. ArePuts m path v (cut_of t) x o) →
-    IfOk r (λ o. IfSome o (λ p. PutsAt op t n steps x p))
-puts_at t m n steps op path v x is operand beside (Ok None) h = tt
-puts_at t m n steps op path v x is operand beside (Ok (Some p)) h =
+pub puts_at : {E : Type 0} (t : List ℕ) (m n : ℕ) (stem : List Step) (op : Operation) (path : List Step) (v : Node) (x : FlowHead) →
+    op ≡ replace m path v → HasOperand op → (m ≡ n) × EndsIn stem path → (r : Result (Option PartPut) E) → IfOk r (λ o. ArePuts m path v (cut_of t) x o) →
+    IfOk r (λ o. IfSome o (λ p. PutsAt op t n stem x p))
+puts_at t m n stem op path v x is operand beside (Ok None) h = tt
+puts_at t m n stem op path v x is operand beside (Ok (Some p)) h =
     let a : ArePuts n path v (cut_of t) x (Some p) = subst (λ (k : ℕ). ArePuts k path v (cut_of t) x (Some p)) beside.0 h in
     record {
       path = path;
       value = v;
       operation = is ∙ ap (λ (k : ℕ). replace k path v) beside.0;
       valid = subst HasOperand is operand;
-      step = beside.1.0;
-      last = beside.1.1;
+      ends = beside.1;
       part = a.0;
       standing = a.1;
       placed = a.2;
       written = a.3;
     }
-puts_at t m n steps op path v x is operand beside (Err e) h = tt
+puts_at t m n stem op path v x is operand beside (Err e) h = tt
 
 -- where a run ends, and a value comes, in the text of the cut
 module _ (t u : List ℕ) (read : read_at t ≡ Some (cut_of t)) (all : u ≡ t) where
@@ -114,7 +125,7 @@ module _ (t u : List ℕ) (n : ℕ) (steps : List Step) (op : Operation) (before
   pub kept_on : p.written ≡ None → RunsOn op c n steps before before
   kept_on none =
       let kept = subst (IsWritten (node_in n h.path c) h.value h.part) none h.written in
-      let comes = kept_there c n steps h.path h.step h.value (string_bytes before.text) before.done again run h.last h.part h.standing x p.place h.placed behind passes kept in
+      let comes = kept_there c n steps h.path h.value (string_bytes before.text) before.done again run h.ends h.part h.standing x p.place h.placed behind passes kept in
       runs_so before (record { new_bytes = []; comes = comes; applied = applied_by own now h.valid own_fits now [] comes; splices = sym (append-nil before.splices.items); run = run })
 
   module _ (s : String Global) (some : p.written ≡ Some s) where
@@ -140,9 +151,9 @@ module _ (t u : List ℕ) (n : ℕ) (steps : List Step) (op : Operation) (before
         let cs : List Splice = splice_at (length (run_front (cut_text c) before start)) (drop start (take finish (cut_text c))) new in
         let text : run_text (cut_text c) (run_front (cut_text c) before start ++ new) finish ≡ now_text c after = λ i. run_text (cut_text c) (sym a.text i) (sym a.done i) in
         let comes : carried own now ≡ gives (now_text c after) cs =
-        put_there c n steps h.path h.step h.value (string_bytes before.text) before.done again run h.last h.part h.standing x p.place h.placed behind passes (string_bytes s) is.0 is.1 a.size
+        put_there c n steps h.path h.value (string_bytes before.text) before.done again run h.ends h.part h.standing x p.place h.placed behind passes (string_bytes s) is.0 is.1 a.size
         ∙ ap (λ (l : List ℕ). gives l cs) text in
-        let on = goes_on c n steps h.path h.step h.value (string_bytes before.text) before.done again run h.last h.part h.standing x p.place h.placed behind passes (string_bytes s) is.0 is.1 h.valid own_fits a.size in
+        let on = goes_on c n steps h.path h.value (string_bytes before.text) before.done again run h.ends h.part h.standing x p.place h.placed behind passes (string_bytes s) is.0 is.1 h.valid own_fits a.size in
         runs_so after (record {
           new_bytes = cs;
           comes = comes;
@@ -154,7 +165,7 @@ module _ (t u : List ℕ) (n : ℕ) (steps : List Step) (op : Operation) (before
     large : (e : EditError) → PutFails e (cut_text c) start finish new before → EditFails e (carried own now)
     large (error.Read fault) fails = absurd fails
     large (error.Refused why) fails =
-        large_there c n steps h.path h.step h.value (string_bytes before.text) before.done again run h.last h.part h.standing x p.place h.placed behind passes (string_bytes s) is.0 is.1 fails.1
+        large_there c n steps h.path h.value (string_bytes before.text) before.done again run h.ends h.part h.standing x p.place h.placed behind passes (string_bytes s) is.0 is.1 fails.1
         ∙ ap refuses (sym fails.0)
     large error.Memory fails = tt
 

@@ -1,14 +1,15 @@
--- One more value put in a flow collection, behind those that were.
-use Rattle.std.proofs.Common.{◌≡◌, ℕ, ◌+◌, ◌-◌, ◌≤◌, ◌<◌, true, false, List, [], ◌++◌, length, take, drop, Option, Some, sym, ap, ◌∙◌, subst, append_assoc, arith, length-append}
+-- One more value put in a head, behind those that were.
+use Rattle.std.proofs.Common.{◌≡◌, ℕ, ◌+◌, ◌-◌, ◌≤◌, ◌<◌, true, false, List, [], ◌++◌, length, take, drop, Option, Some, refl, sym, ap, ◌∙◌, subst, append_assoc, arith, length-append}
 use Rattle.std.proofs.Math.Seq.{take-append_seam, drop-append_seam}
 use Rattle.std.proofs.lemmas.List.{drop-append-le}
 use Rattle.std.proofs.lemmas.Option.{same_Some}
 use Rattle.yq_flow_scalars.specs.Characters.{text_limit}
 use Rattle.yq_flow_scalars.specs.Paths.{Step}
 use Rattle.yq_flow_scalars.specs.Tree.{Node}
-use Rattle.yq_inline.specs.Collections.{CollPieces}
+use Rattle.yq_inline.specs.Nodes.{node_text}
+use Rattle.yq_inline.proofs.WrittenLaws.{node_then}
 use Rattle.yq_inline.specs.Trees.{tree_of}
-use Rattle.yq_flow.specs.FlowEdits.{FlowEdit}
+use Rattle.yq_flow.specs.FlowEdits.{FlowEdit, content_node}
 use Rattle.yq_flow.specs.FlowPlaces.{PlacedEdit}
 use Rattle.yq_flow.specs.Valued.{IsValueTree}
 use Rattle.yq_flow.specs.declared.flow_place.EditPlace.{EditPlace}
@@ -27,15 +28,15 @@ use Rattle.yq_script.specs.Script.{new_text, splice_at}
 use Rattle.yq_script.specs.Splice.{Splice}
 use Rattle.yq_edits.specs.FlowParts.{flow_segments}
 use Rattle.yq_edits.specs.Replacing.{is_kept}
-use Rattle.yq_flow_edits.specs.PartPuts.{IsPlaceOf, put_edit}
+use Rattle.yq_flow_edits.specs.PartPuts.{IsPart, IsPlaceOf, put_edit}
 use Rattle.yq_flow_edits.proofs.CutLaws.{text_read}
 use Rattle.yq_flow_edits.proofs.FlowPartNodes.{part_node}
-use Rattle.yq_flow_edits.proofs.FlowPutLaws.{replaced_next}
+use Rattle.yq_flow_edits.proofs.FlowPutLaws.{replaced_reads}
 use Rattle.yq_flow_edits.proofs.FlowStandings.{EntryAt, entry_found}
-use Rattle.yq_flow_edits.proofs.LaterItems.{later_item}
+use Rattle.yq_flow_edits.proofs.PartsStay.{leads_behind, next, part_behind}
 use Rattle.yq_splice.specs.Carried.{carried}
 use Rattle.yq_splice.specs.Edit.{edit_of_segments, gives, refuses}
-use Rattle.yq_splice.specs.Runs.{IsRun, StayBehind, run_text}
+use Rattle.yq_splice.specs.Runs.{EndsIn, IsRun, run_text}
 use Rattle.yq_splice.specs.Theorems.{IsFitting}
 use Rattle.yq_splice.proofs.ApplyLaws.{fits}
 use Rattle.yq_splice.proofs.PutComes.{kept_comes, made_text, new_is, put_comes, segments_come, segments_large}
@@ -44,8 +45,8 @@ use Rattle.yq_splice.proofs.PutComes.{kept_comes, made_text, new_is, put_comes, 
 abbrev between : List ℕ → List ℕ → (done start : ℕ) → List ℕ
 between out t done start = out ++ drop done (take start t)
 
-module _ (c : Cut) (n : ℕ) (steps path : List Step) (s : Step) (v : Node) (out : List ℕ) (done : ℕ) (whole : read_at (cut_text c) ≡ Some c) (run : IsRun c n steps out done)
-    (last : last_step path ≡ Some (steps, s)) (z : FlowPart) (standing : flow_standing n c (last_step path) ≡ Some z) (x : FlowHead) (place : EditPlace)
+module _ (c : Cut) (n : ℕ) (stem path : List Step) (v : Node) (out : List ℕ) (done : ℕ) (whole : read_at (cut_text c) ≡ Some c) (run : IsRun c n stem out done)
+    (ends : EndsIn stem path) (z : FlowPart) (standing : flow_standing n c (last_step path) ≡ Some z) (x : FlowHead) (place : EditPlace)
     (placed : IsPlaceOf (cut_text c) v z x place) (behind : done ≤ x.before + place.start) (passes : done < x.before + place.end) where
   abbrev t : List ℕ
   t = cut_text c
@@ -85,24 +86,30 @@ module _ (c : Cut) (n : ℕ) (steps path : List Step) (s : Step) (v : Node) (out
   front_size = omega (arith, start_is, size, length-append e.old e.behind)
 
   -- and as it is now
-  steps_are : b.init ≡ steps
-  steps_are = ap (λ (y : List Step × Step). y.0) (same_Some _ _ (sym b.last ∙ last))
+  abbrev left : List Step
+  left = ends.0
 
-  first : flow_collection n steps c ≡ Some b.coll
-  first = ap (λ (ss : List Step). flow_collection n ss c) (sym steps_are) ∙ b.found
+  steps_are : b.init ≡ stem ++ left
+  steps_are = ap (λ (y : List Step × Step). y.0) (same_Some _ _ (sym b.last ∙ ends.1.1))
 
-  abbrev stays : StayBehind b.coll n steps run.cut (length t - done)
-  stays = run.stays b.coll first
+  first : IsPart c n (stem ++ left) b.step b.item
+  first = record { coll = b.coll; found = ap (λ (ss : List Step). flow_collection n ss c) (sym steps_are) ∙ b.found; at = b.at }
+
+  content_is : length (e.old ++ e.behind) ≡ length (node_text (content_node b.item.node) b.item.rest)
+  content_is = ap length (sym (node_then (content_node b.item.node) b.item.rest))
+
+  stays : IsPart run.cut n (stem ++ left) b.step b.item
+  stays = run.stays left b.step b.item first (omega (arith, passes, finish_is, size)) (omega (arith, behind, start_is, content_is, size, run.within, length-append e.old e.behind))
 
   abbrev a : EntryAt run.cut n path
   a = record {
-    init = steps;
+    init = stem ++ left;
     step = b.step;
     last = b.last ∙ ap (λ (ss : List Step). Some (ss, b.step)) steps_are;
-    coll = stays.now;
+    coll = stays.coll;
     found = stays.found;
     item = b.item;
-    at = stays.later b.step b.item b.at (omega (arith, passes, finish_is, size));
+    at = stays.at;
   }
 
   text : cut_text run.cut ≡ now
@@ -177,20 +184,19 @@ module _ (c : Cut) (n : ℕ) (steps path : List Step) (s : Step) (v : Node) (out
     large_there large = comes ∙ segments_large (cut_text run.cut) front e split (omega (arith, large, ap length new_bytes_are))
 
     -- the run goes on behind it
-    pub goes_on : IsValueTree v → IsFitting (replace n path v) now → length (run_text t new_out finish) ≤ text_limit → IsRun c n steps new_out finish
+    pub goes_on : IsValueTree v → IsFitting (replace n path v) now → length (run_text t new_out finish) ≤ text_limit → IsRun c n stem new_out finish
     goes_on value fitting small =
         let new_bytes : new_text (flow_segments (cut_text run.cut) e) ≡ run_text t new_out finish = new_is (cut_text run.cut) front e split ∙ new_bytes_are in
         let same : fitting.read.parts ≡ run.cut = same_Some _ _ (sym (parts_read now fitting.before fitting.read).0 ∙ run.read) in
         let fit : Fits (room_of (cut_text run.cut)) (replace n path v) (documents run.cut) = subst (λ (d : Cut). Fits (room_of (cut_text d)) (replace n path v) (documents d)) same (fits (replace n path v) now value fitting) in
-        let next = replaced_next run.cut n path v read a value fit (omega (arith, small, ap length new_bytes)) in
+        let reads = replaced_reads run.cut n path v read a value fit (omega (arith, small, ap length new_bytes)) in
         record {
           within = omega (arith, finish_is);
           edge = at.lies.end;
-          cut = next.cut;
-          read = ap read_at (sym new_bytes) ∙ next.read;
-          stays = λ w found. subst (λ (y : CollPieces). StayBehind y n steps next.cut (length t - finish)) (same_Some _ _ (sym first ∙ found)) (record {
-            now = _;
-            found = next.found;
-            later = λ r y there less. later_item stays.now.close b.step r _ stays.now.items stays.now.rest b.item y a.at (stays.later r y there (omega (arith, less, passes))) (omega (arith, less, finish_is, size));
-          });
+          cut = next run.cut n path v read a stem left refl run.leads;
+          read = ap read_at (sym new_bytes) ∙ reads;
+          leads = leads_behind run.cut n path v read a stem left refl run.leads;
+          stays = λ ss r y there less begins.
+              part_behind run.cut n path v read a stem left refl run.leads ss r y
+              (run.stays ss r y there (omega (arith, less, passes)) (omega (arith, begins, passes))) (omega (arith, less, finish_is, size)) (omega (arith, begins, finish_is, size));
         }

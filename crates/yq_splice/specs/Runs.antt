@@ -1,15 +1,16 @@
--- Values put one behind the other in one flow collection, whose row's head was read once (YAML 1.2.2, 7.4; own).
+-- Values put one behind the other in the flow collections of one head, which was read once (YAML 1.2.2, 7.4; own).
 use Rattle.std.specs.Prelude.{◌≡◌, ⊤, ℕ, ◌-◌, ◌<◌, ◌≤◌, List, [], ◌++◌, drop, take, length, Option, Some, None, string_bytes}
 use Rattle.std.specs.Str.{IsCharBoundary}
 use Rattle.yq_flow_scalars.specs.Characters.{text_limit}
 use Rattle.yq_flow_scalars.specs.Paths.{Step}
 use Rattle.yq_flow_scalars.specs.Tree.{Node}
-use Rattle.yq_inline.specs.Collections.{CollPieces}
-use Rattle.yq_inline.specs.Entries.{EntryPieces, item_at}
+use Rattle.yq_inline.specs.Entries.{EntryPieces}
+use Rattle.yq_inline.specs.Nodes.{node_text}
+use Rattle.yq_flow.specs.FlowEdits.{content_node}
 use Rattle.yq_flow.specs.Valued.{IsValueTree}
 use Rattle.yq_rows.specs.Rows.{Cut, cut_text}
 use Rattle.yq_documents.specs.Reading.{cut_of, read_at}
-use Rattle.yq_places.specs.FlowNodes.{flow_collection}
+use Rattle.yq_places.specs.FlowViews.{LeadsToHead}
 use Rattle.yq_places.specs.NodesAt.{node_in}
 use Rattle.yq_places.specs.Standings.{FlowPart, flow_standing, last_step}
 use Rattle.yq_places.specs.declared.places.flow_node.FlowHead.{FlowHead}
@@ -17,7 +18,7 @@ use Rattle.yq_meaning.specs.Operations.{Operation, replace}
 use Rattle.yq_meaning.specs.declared.refusal.Refusal.TheVariants.{TooLarge}
 use Rattle.yq_script.specs.Script.{splice_at}
 use Rattle.yq_script.specs.Splice.{Splice}
-use Rattle.yq_flow_edits.specs.PartPuts.{IsPlaceOf, IsWritten}
+use Rattle.yq_flow_edits.specs.PartPuts.{IsPart, IsPlaceOf, IsWritten}
 use Rattle.yq_flow_edits.specs.declared.put.PartPut.{PartPut}
 use Rattle.yq_splice.specs.Carried.{carried}
 use Rattle.yq_splice.specs.Edit.{gives}
@@ -30,34 +31,24 @@ use Rattle.yq_splice.specs.declared.run.Run.{Run}
 abbrev pub run_text : List ℕ → (out : List ℕ) → (done : ℕ) → List ℕ
 run_text t out done = out ++ drop done t
 
--- A collection stands where steps lead in another cut too, and of its items and entries those behind which less than so many bytes stand are the
--- same there (own).
-pub record StayBehind (w : CollPieces) (n : ℕ) (steps : List Step) (c : Cut) (left : ℕ) : Type 0 where
-  pub now : CollPieces
-  pub found : flow_collection n steps c ≡ Some now
-  pub later : (s : Step) (y : EntryPieces) → item_at w.close s w.items w.rest ≡ Some y → length y.rest < left → item_at now.close s now.items now.rest ≡ Some y
-
--- The first bytes of a cut's text gave way to others, by values put at parts of the collection to which steps lead: the text reads, and the parts in the
--- bytes that stay are as they were (own).
-pub record IsRun (c : Cut) (n : ℕ) (steps : List Step) (out : List ℕ) (done : ℕ) : Type 0 where
+-- The first bytes of a cut's text gave way to others, by values put at parts of the head to which steps lead: the text reads, the steps lead to a head
+-- in it, and the parts whose contents stand in the bytes that stay are there as they were, in whichever collections (own).
+pub record IsRun (c : Cut) (n : ℕ) (stem : List Step) (out : List ℕ) (done : ℕ) : Type 0 where
   pub within : done ≤ length (cut_text c)
   pub edge : IsCharBoundary (cut_text c) done
   pub cut : Cut
   pub read : read_at (run_text (cut_text c) out done) ≡ Some cut
-  pub stays : (w : CollPieces) → flow_collection n steps c ≡ Some w → StayBehind w n steps cut (length (cut_text c) - done)
+  pub leads : LeadsToHead cut n stem
+  pub stays : (left : List Step) (s : Step) (y : EntryPieces) → IsPart c n (stem ++ left) s y → length y.rest < length (cut_text c) - done →
+      length (node_text (content_node y.node) y.rest) ≤ length (cut_text c) - done → IsPart cut n (stem ++ left) s y
 
--- the steps before the last one, if there is one (own)
-abbrev pub above_in : Option (List Step × Step) → List Step
-above_in None = []
-above_in (Some x) = x.0
+-- a path ends in the collection to which steps lead on in the head to which others lead (own)
+abbrev pub EndsAt : (stem left steps : List Step) → Type 0
+EndsAt stem left steps = (s : Step) × (last_step steps ≡ Some (stem ++ left, s))
 
--- the steps to the collection in which a path ends (own)
-abbrev pub steps_above : List Step → List Step
-steps_above steps = above_in (last_step steps)
-
--- a path ends in the collection to which steps lead (own)
-abbrev pub EndsIn : (above steps : List Step) → Type 0
-EndsIn above steps = (s : Step) × (last_step steps ≡ Some (above, s))
+-- a path ends in a collection of the head to which steps lead (own)
+abbrev pub EndsIn : (stem steps : List Step) → Type 0
+EndsIn stem steps = (left : List Step) × EndsAt stem left steps
 
 -- the text that a run has made so far (own)
 abbrev pub now_text : Cut → Run → List ℕ
@@ -65,16 +56,15 @@ now_text c r = run_text (cut_text c) (string_bytes r.text) r.done
 
 -- a run of the code is one (own)
 abbrev pub Runs : Cut → ℕ → List Step → Run → Type 0
-Runs c n steps r = IsRun c n steps (string_bytes r.text) r.done
+Runs c n stem r = IsRun c n stem (string_bytes r.text) r.done
 
--- An operation puts a value at a part of the collection to which steps lead in document n of a text, in the head of a row that was read (own).
-pub record PutsAt (op : Operation) (t : List ℕ) (n : ℕ) (steps : List Step) (x : FlowHead) (p : PartPut) : Type 0 where
+-- An operation puts a value at a part of the head to which steps lead in document n of a text, which was read (own).
+pub record PutsAt (op : Operation) (t : List ℕ) (n : ℕ) (stem : List Step) (x : FlowHead) (p : PartPut) : Type 0 where
   pub path : List Step
   pub value : Node
   pub operation : op ≡ replace n path value
   pub valid : IsValueTree value
-  pub step : Step
-  pub last : last_step path ≡ Some (steps, step)
+  pub ends : EndsIn stem path
   pub part : FlowPart
   pub standing : flow_standing n (cut_of t) (last_step path) ≡ Some part
   pub placed : IsPlaceOf (cut_text (cut_of t)) value part x p.place

@@ -1,11 +1,10 @@
-//! Values that an update puts in one flow collection: they are carried out together, and the head of their
-//! row is read once.
-ghost use Rattle.std.specs.Prelude.{◌≡◌, Some, true, map, IfErr, IfOk, IfSome, string_bytes};
+//! Values that an update puts in the flow collections of one head: they are carried out together, and the
+//! head is read once.
+ghost use Rattle.std.specs.Prelude.{◌≡◌, ◌++◌, true, map, IfErr, IfOk, IfSome, string_bytes};
 ghost use Rattle.yq_inline.specs.Entries.{step_of};
 ghost use Rattle.yq_documents.specs.Located.{steps_of};
 ghost use Rattle.yq_documents.specs.Reading.{cut_of};
-ghost use Rattle.yq_places.specs.FlowNodes.{flow_collection};
-ghost use Rattle.yq_places.specs.FlowViews.{FlowAgrees};
+ghost use Rattle.yq_places.specs.FlowViews.{TellsHead};
 ghost use Rattle.yq_meaning.specs.Operations.{operation_of, operations_of};
 ghost use Rattle.yq_splice.specs.Answers.{EditFails};
 ghost use Rattle.yq_splice.specs.Carried.{carry_all, carried};
@@ -51,66 +50,84 @@ fn are_same_steps(some: &[Step], others: &[Step]) -> bool
     true
 }
 
-/// Whether a path ends in the same collection as the first one.
-fn is_beside(path: &Path, first: &Path) -> bool
-    ensures { result ≡ true → (path.now.doc ≡ first.now.doc) ×
-        spec.EndsIn (spec.steps_above (steps_of first.now)) (steps_of path.now) }
+/// The steps of a path behind others with which it begins, if it does.
+fn steps_behind<'s>(steps: &'s [Step], stem: &[Step]) -> Option<&'s [Step]>
+    ensures { IfSome result (λ left. map step_of steps.now ≡
+        map step_of stem.now ++ map step_of left.now) }
 {
-    let Some((above, _)) = last_step(&path.steps) else {
-        return false;
-    };
-    let Some((first_above, _)) = last_step(&first.steps) else {
-        return false;
-    };
-    path.doc == first.doc && are_same_steps(above, first_above)
+    if steps.len() < stem.len() {
+        return None;
+    }
+    let (front, left) = steps.split_at(stem.len());
+    if are_same_steps(front, stem) {
+        Some(left)
+    } else {
+        None
+    }
 }
 
-/// What it comes to that an operation puts a value in the collection in which the first path ends;
-/// nothing, where it does something else.
-fn part_put(
+/// The steps that go on in a head to the collection in which a path ends, if the path leads there as the
+/// first one does.
+fn steps_in_head<'s>(path: &'s Path, doc: usize, stem: &[Step]) -> Option<&'s [Step]>
+    ensures { IfSome result (λ left. (path.now.doc ≡ doc) ×
+        spec.EndsAt (map step_of stem.now) (map step_of left.now) (steps_of path.now)) }
+{
+    let (above, _) = last_step(&path.steps)?;
+    if path.doc == doc {
+        steps_behind(above, stem)
+    } else {
+        None
+    }
+}
+
+/// What it comes to that an operation puts a value in a collection of a head; nothing, where it does
+/// something else.
+fn part_put<'s>(
     alloc: Global,
     cut: &CutText<'_, '_>,
-    first: &Path,
-    head: &FlowHead<'_, '_>,
-    op: &Op,
+    doc: usize,
+    stem: &[Step],
+    head: &mut FlowHead<'s, '_>,
+    op: &'s Op,
 ) -> Result<Option<PartPut>, AllocError>
-    requires { FlowAgrees cut.now (flow_collection first.now.doc (spec.steps_above
-        (steps_of first.now)) (cut_of cut.now)) (Some head.now) }
-    ensures { IfOk result (λ o. IfSome o (λ p. spec.PutsAt (operation_of op.now) cut.now
-        first.now.doc (spec.steps_above (steps_of first.now)) head.now p)) }
+    requires { TellsHead cut.now (cut_of cut.now) doc (map step_of stem.now) head.old }
+    ensures head { TellsHead cut.now (cut_of cut.now) doc (map step_of stem.now) head.new }
+    ensures put { IfOk result (λ o. IfSome o (λ p. spec.PutsAt (operation_of op.now) cut.now doc
+        (map step_of stem.now) head.new p)) }
 {
     operand_holds(op);
     let Op::Replace(path, value) = op else {
         return Ok(None);
     };
-    if !is_beside(path, first) {
+    let Some(left) = steps_in_head(path, doc, stem) else {
         return Ok(None);
-    }
+    };
+    head.left = left;
     put_at_part(alloc, cut, head, path, value)
 }
 
-/// Carries out an operation on the text of a run, if it puts a value in the collection in which the first
-/// path ends, behind those that were put.
-fn put_one(
+/// Carries out an operation on the text of a run, if it puts a value in a collection of a head, behind
+/// those that were put.
+fn put_one<'s>(
     alloc: Global,
     cut: &CutText<'_, '_>,
-    first: &Path,
-    head: &FlowHead<'_, '_>,
-    op: &Op,
+    doc: usize,
+    stem: &[Step],
+    head: &mut FlowHead<'s, '_>,
+    op: &'s Op,
     run: &mut Run,
 ) -> Result<bool, EditError>
-    requires head { FlowAgrees cut.now (flow_collection first.now.doc (spec.steps_above
-        (steps_of first.now)) (cut_of cut.now)) (Some head.now) }
-    requires run { spec.Runs (cut_of cut.now) first.now.doc (spec.steps_above (steps_of first.now))
-        run.old }
+    requires head { TellsHead cut.now (cut_of cut.now) doc (map step_of stem.now) head.old }
+    requires run { spec.Runs (cut_of cut.now) doc (map step_of stem.now) run.old }
     requires fits { IsFitting (operation_of op.now) (spec.now_text (cut_of cut.now) run.old) }
-    ensures ok { IfOk result (λ b. b ≡ true → spec.RunsOn (operation_of op.now) (cut_of cut.now)
-        first.now.doc (spec.steps_above (steps_of first.now)) run.old run.new) }
+    ensures head { TellsHead cut.now (cut_of cut.now) doc (map step_of stem.now) head.new }
+    ensures ok { IfOk result (λ b. b ≡ true → spec.RunsOn (operation_of op.now) (cut_of cut.now) doc
+        (map step_of stem.now) run.old run.new) }
     ensures err { IfErr result (λ e. EditFails e (carried (operation_of op.now)
         (spec.now_text (cut_of cut.now) run.old))) }
 {
     let text = cut.text();
-    let found = part_put(alloc, cut, first, head, op)?;
+    let found = part_put(alloc, cut, doc, stem, head, op)?;
     let Some(PartPut { place, written }) = found else {
         return Ok(false);
     };
@@ -126,17 +143,17 @@ fn put_one(
     Ok(true)
 }
 
-/// Carries out operations that put values in the collection in which a path ends; nothing, where one of
-/// them does something else, or stands in front of one before it.
-fn put_each(
+/// Carries out operations that put values in the collections of a head; nothing, where one of them does
+/// something else, or stands in front of one before it.
+fn put_each<'s>(
     alloc: Global,
     cut: &CutText<'_, '_>,
-    first: &Path,
-    head: &FlowHead<'_, '_>,
-    ops: &[Op],
+    doc: usize,
+    stem: &[Step],
+    head: &mut FlowHead<'s, '_>,
+    ops: &'s [Op],
 ) -> Result<Option<Edited>, EditError>
-    requires head { FlowAgrees cut.now (flow_collection first.now.doc (spec.steps_above
-        (steps_of first.now)) (cut_of cut.now)) (Some head.now) }
+    requires head { TellsHead cut.now (cut_of cut.now) doc (map step_of stem.now) head.old }
     requires serves { AreServed (operations_of ops.now) cut.now }
     ensures ok { IfOk result (λ o. IfSome o (λ e. carry_all (operations_of ops.now) cut.now ≡
         gives (string_bytes e.text) e.splices.items)) }
@@ -146,7 +163,7 @@ fn put_each(
     let mut run = Run::new(alloc);
     let mut rest = ops;
     'operations: while let [op, after @ ..] = rest {
-        let put = put_one(alloc, cut, first, head, op, &mut run)?;
+        let put = put_one(alloc, cut, doc, stem, head, op, &mut run)?;
         if !put {
             return Ok(None);
         }
@@ -155,8 +172,8 @@ fn put_each(
     Ok(Some(run.end(text)?))
 }
 
-/// Carries out operations together that put values in one flow collection, one behind the other;
-/// nothing, where they don't.
+/// Carries out operations together that put values in the flow collections of one head, one behind the
+/// other; nothing, where they don't.
 pub(crate) fn carry_together(
     alloc: Global,
     cut: &CutText<'_, '_>,
@@ -177,8 +194,9 @@ pub(crate) fn carry_together(
         return Ok(None);
     };
     let found = cut.flow_head(alloc, first.doc, above)?;
-    let Some(head) = found else {
+    let Some(mut head) = found else {
         return Ok(None);
     };
-    put_each(alloc, cut, first, &head, ops)
+    let (stem, _) = above.split_at(above.len() - head.left.len());
+    put_each(alloc, cut, first.doc, stem, &mut head, ops)
 }

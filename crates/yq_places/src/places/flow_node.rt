@@ -1,5 +1,5 @@
 //! Flow collections at paths, with their places.
-ghost use Rattle.std.specs.Prelude.{◌≡◌, map, option_map, IfOk};
+ghost use Rattle.std.specs.Prelude.{◌≡◌, map, option_map, IfOk, IfSome};
 ghost use Rattle.yq_inline.specs.Entries.{step_of};
 ghost use Rattle.yq_inline.specs.View.{view};
 ghost use Rattle.yq_documents.specs.Reading.{cut_of};
@@ -50,8 +50,10 @@ impl<'t> CutText<'_, 't> {
         doc: usize,
         steps: &'s [Step],
     ) -> Result<Option<FlowHead<'s, 't>>, AllocError>
-        ensures { IfOk result (spec.FlowAgrees self.now (flow_collection doc (map step_of steps.now)
-            (cut_of self.now))) }
+        ensures found { IfOk result (spec.FlowAgrees self.now (flow_collection doc
+            (map step_of steps.now) (cut_of self.now))) }
+        ensures whole { IfOk result (λ o. IfSome o (spec.IsHeadFor self.now (cut_of self.now) doc
+            (map step_of steps.now))) }
     {
         let _whole = self.whole();
         let rows = self.rows();

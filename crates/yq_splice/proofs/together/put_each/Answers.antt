@@ -1,15 +1,15 @@
-use Rattle.std.proofs.Common.{◌≡◌, ◌∙◌, ℕ, List, sym, ap, subst, string_bytes, arith}
+use Rattle.std.proofs.Common.{◌≡◌, ◌∙◌, ℕ, List, map, sym, ap, subst, string_bytes, arith}
 use Rattle.std.proofs.lemmas.Result.{err_from_is_err_and}
 use Rattle.yq_text.specs.Halves.{whole}
 use Rattle.yq_rows.specs.Rows.{cut_text}
-use Rattle.yq_documents.specs.Located.{steps_of}
+use Rattle.yq_inline.specs.Entries.{step_of}
 use Rattle.yq_documents.specs.Reading.{cut_of}
 use Rattle.yq_meaning.specs.Operations.{operations_of}
 use Rattle.yq_flow_edits.proofs.FlowAnswers.{whole_text}
 use Rattle.yq_splice.specs.Answers.{EditFails}
 use Rattle.yq_splice.specs.Carried.{carry_all}
 use Rattle.yq_splice.specs.Edit.{behind, gives}
-use Rattle.yq_splice.specs.Runs.{now_text, run_text, steps_above}
+use Rattle.yq_splice.specs.Runs.{now_text, run_text}
 use Rattle.yq_splice.specs.Valid.{AreServed}
 use Rattle.yq_splice.proofs.OperationsLaws.{first_fails, first_fits, none_come, others_come, others_served}
 use Rattle.yq_splice.proofs.OrderLaws.{behind_none}
@@ -19,12 +19,13 @@ use Rattle.yq_splice.proofs.together.put_each.Goals as goal
 pub operations-init : goal.operations-init
 operations-init c =
     let t : List ℕ = c.args.cut.now in
-    let steps = steps_above (steps_of c.args.first.now) in
-    let text : now_text (cut_of t) c.new-run.result ≡ t = begins_with t c.args.first.now.doc steps c.new-run.result c.text-text.ensures.read c.new-run.ensures.text c.new-run.ensures.done in
+    let steps = map step_of c.args.stem.now in
+    let text : now_text (cut_of t) c.new-run.result ≡ t = begins_with t c.args.doc steps c.new-run.result c.text-text.ensures.read c.requires.head.leads c.new-run.ensures.text c.new-run.ensures.done in
     record {
+      head = c.requires.head;
       whole = (λ i. behind (c.new-run.ensures.splices i) (carry_all (operations_of c.args.ops.now) (text i))) ∙ behind_none (carry_all (operations_of c.args.ops.now) t);
       serves = subst (AreServed (operations_of c.args.ops.now)) (sym text) c.requires.serves;
-      runs = begins t c.args.first.now.doc steps c.new-run.result c.text-text.ensures.read c.new-run.ensures.text c.new-run.ensures.done;
+      runs = begins t c.args.doc steps c.new-run.result c.text-text.ensures.read c.requires.head.leads c.new-run.ensures.text c.new-run.ensures.done;
     }
 
 pub put_one-requires-clause-fits : goal.put_one-requires-clause-fits
@@ -44,6 +45,7 @@ operations-preserved c =
     let m : List ℕ = now_text (cut_of c.args.cut.now) c.put_one.new.run in
     let on = c.in_ok-put.ensures.ok c.if-not-put.false in
     record {
+      head = c.put_one.ensures.head;
       whole =
           others_come c.operations.rest.now c.op-item.result t m c.operations.run.splices.items on.new_bytes c.put_one.new.run.splices.items c.in-len1-up.len_at_least c.op-item.is on.comes on.splices
           ∙ c.operations.invariant.whole;
@@ -53,7 +55,7 @@ operations-preserved c =
 
 pub end-requires : goal.end-requires
 end-requires c =
-    edge_in c.args.cut.now (whole c.text-text.result) c.text-text.ensures.read c.text-text.ensures.text c.args.first.now.doc (steps_above (steps_of c.args.first.now)) c.operations.run c.operations.invariant.runs
+    edge_in c.args.cut.now (whole c.text-text.result) c.text-text.ensures.read c.text-text.ensures.text c.args.doc (map step_of c.args.stem.now) c.operations.run c.operations.invariant.runs
 
 pub returns-clause-ok : goal.returns-clause-ok
 returns-clause-ok c =

@@ -1,18 +1,20 @@
-use Rattle.std.proofs.Common.{◌≡◌, length}
-use Rattle.yq_documents.specs.Located.{steps_of}
+use Rattle.std.proofs.Common.{◌≡◌, length, map}
+use Rattle.yq_inline.specs.Entries.{step_of}
 use Rattle.yq_documents.specs.Reading.{cut_of}
+use Rattle.yq_places.specs.FlowViews.{TellsHead}
 use Rattle.yq_meaning.specs.Operations.{operations_of}
 use Rattle.yq_splice.specs.Carried.{carry_all}
 use Rattle.yq_splice.specs.Edit.{behind}
-use Rattle.yq_splice.specs.Runs.{Runs, now_text, steps_above}
+use Rattle.yq_splice.specs.Runs.{Runs, now_text}
 use Rattle.yq_splice.specs.Valid.{AreServed}
 use Rattle.yq_splice.proofs.together.put_each.Given as goal
 
 abbrev pub invariant-operations : goal.invariant-operations
 invariant-operations l = record {
+  head : TellsHead l.fn.cut (cut_of l.fn.cut) l.fn.doc (map step_of l.fn.stem) l.head;
   whole : behind l.run.splices.items (carry_all (operations_of l.rest) (now_text (cut_of l.fn.cut) l.run)) ≡ carry_all (operations_of l.fn.ops) l.fn.cut;
   serves : AreServed (operations_of l.rest) (now_text (cut_of l.fn.cut) l.run);
-  runs : Runs (cut_of l.fn.cut) l.fn.first.doc (steps_above (steps_of l.fn.first)) l.run;
+  runs : Runs (cut_of l.fn.cut) l.fn.doc (map step_of l.fn.stem) l.run;
 }
 
 abbrev pub decreases-operations : goal.decreases-operations

@@ -7,7 +7,7 @@ use Rattle.yq_walk.specs.RowWalk.{line_number}
 use Rattle.yq_flow_scalars.specs.Paths.{Step}
 use Rattle.yq_walk.specs.Lines.{lines_of}
 use Rattle.yq_documents.specs.Reading.{cut_of}
-use Rattle.yq_places.proofs.FlowNodeLaws.{collection_is, head_line_at, head_agrees_at, no_collection, no_flow_agrees, no_head_at, other_head, rows_collection}
+use Rattle.yq_places.proofs.FlowNodeLaws.{collection_is, head_line_at, head_agrees_at, head_for, no_collection, no_flow_agrees, no_head_at, other_head, rows_collection}
 use Rattle.yq_places.proofs.RowHeads.{line_fit, line_within, row_start, row_text}
 use Rattle.yq_places.proofs.WalkDocuments.{found_document, found_in_cut, place_found}
 use Rattle.yq_places.proofs.WalkNodes.{row_is, row_in_cut}
@@ -31,8 +31,8 @@ row_head-requires-clause-fit c =
     let k = found_in_cut c.args.self.now c.rows-rows.result.now (cut_of c.args.self.now) c.args.doc c.in-Some.document c.whole-whole.ensures.cut c.rows-rows.ensures f in
     line_fit c.rows-rows.result.now (cut_of c.args.self.now) c.args.doc c.in-Some.document f k.0 c.in-Some-place_line.at k.1 c.whole-whole.ensures.documents c.in-Some-place_line.ensures.within
 
-pub returns-in_default-node_place : goal.returns-in_default-node_place
-returns-in_default-node_place c =
+pub returns-in_default-node_place-clause-found : goal.returns-in_default-node_place-clause-found
+returns-in_default-node_place-clause-found c =
     let t : List ℕ = c.args.self.now in
     let steps : List Step = map step_of c.args.steps.now in
     let d = c.in-Some.document in
@@ -41,8 +41,8 @@ returns-in_default-node_place c =
     (λ k. no_collection d.first (cut_of t) k.document.stand.rows steps (no_head_at (lines_of k.document.stand.rows) steps (c.in_default-node_place.ensures.found k.document)))
     ∙ collection_is (cut_of t) c.args.doc steps)
 
-pub returns-in_default-place_line : goal.returns-in_default-place_line
-returns-in_default-place_line c =
+pub returns-in_default-place_line-clause-found : goal.returns-in_default-place_line-clause-found
+returns-in_default-place_line-clause-found c =
     let t : List ℕ = c.args.self.now in
     let steps : List Step = map step_of c.args.steps.now in
     let d = c.in-Some.document in
@@ -51,8 +51,8 @@ returns-in_default-place_line c =
     (λ k. no_collection d.first (cut_of t) k.document.stand.rows steps (head_line_at (lines_of k.document.stand.rows) steps (map step_of c.in-Some-node_place.left.now) (place_view d k.document.stand.rows c.in-Some-node_place.place) None (c.in-Some-node_place.ensures.found k.document) (c.in_default-place_line.ensures.found k.document.stand)))
     ∙ collection_is (cut_of t) c.args.doc steps)
 
-pub returns-in-Nothing : goal.returns-in-Nothing
-returns-in-Nothing c =
+pub returns-in-Nothing-clause-found : goal.returns-in-Nothing-clause-found
+returns-in-Nothing-clause-found c =
     let t : List ℕ = c.args.self.now in
     let steps : List Step = map step_of c.args.steps.now in
     let left : List Step = map step_of c.in-Some-node_place.left.now in
@@ -67,8 +67,8 @@ returns-in-Nothing c =
     let head = c.in_ok-head.ensures (row_is rows d (cut_of t) k q at) (row_in_cut rows d (cut_of t) k q at) in
     other_head t rows (cut_of t) c.args.doc d cut c.rows-rows.ensures f q at steps left (sym leads) (length c.in_ok-head.field-0.text.now) (ap head_flow (sym c.in-Nothing.is) ∙ head.flow)
 
-pub returns-in-Scalar : goal.returns-in-Scalar
-returns-in-Scalar c =
+pub returns-in-Scalar-clause-found : goal.returns-in-Scalar-clause-found
+returns-in-Scalar-clause-found c =
     let t : List ℕ = c.args.self.now in
     let steps : List Step = map step_of c.args.steps.now in
     let left : List Step = map step_of c.in-Some-node_place.left.now in
@@ -83,8 +83,8 @@ returns-in-Scalar c =
     let head = c.in_ok-head.ensures (row_is rows d (cut_of t) k q at) (row_in_cut rows d (cut_of t) k q at) in
     other_head t rows (cut_of t) c.args.doc d cut c.rows-rows.ensures f q at steps left (sym leads) (length c.in_ok-head.field-0.text.now) (ap head_flow (sym c.in-Scalar.is) ∙ head.flow)
 
-pub returns : goal.returns
-returns c =
+pub returns-clause-found : goal.returns-clause-found
+returns-clause-found c =
     let t : List ℕ = c.args.self.now in
     let steps : List Step = map step_of c.args.steps.now in
     let left : List Step = map step_of c.in-Some-node_place.left.now in
@@ -100,6 +100,28 @@ returns c =
     let there = row_in_cut rows d (cut_of t) k q at in
     let head = c.in_ok-head.ensures row there in
     head_agrees_at t rows (cut_of t) c.args.doc d cut c.rows-rows.ensures f q at steps left (sym leads) _ refl
+    (row_text t (cut_of t) q.row row c.in_ok-head.field-0.before c.whole-whole.ensures.utf8 cut there head.before c.in_ok-head.field-0.text.now head.text)
+    (row_start t (cut_of t) q.row row c.in_ok-head.field-0.before c.whole-whole.ensures.utf8 cut there head.before)
+    head.text
+    (ap head_flow (sym c.in-Inline.is) ∙ head.flow)
+
+pub returns-clause-whole : goal.returns-clause-whole
+returns-clause-whole c =
+    let t : List ℕ = c.args.self.now in
+    let steps : List Step = map step_of c.args.steps.now in
+    let left : List Step = map step_of c.in-Some-node_place.left.now in
+    let rows = c.rows-rows.result.now in
+    let d = c.in-Some.document in
+    let q = c.in-Some-place_line.at in
+    let at = c.in-Some-place_line.ensures.within in
+    let cut = c.whole-whole.ensures.cut in
+    let f = found_document t rows (cut_of t) c.args.doc d cut c.rows-rows.ensures c.in-Some.ensures.place c.in-Some.ensures.sound in
+    let k = (found_in_cut t rows (cut_of t) c.args.doc d cut c.rows-rows.ensures f).0 in
+    let leads = head_line_at (lines_of k.document.stand.rows) steps left (place_view d k.document.stand.rows c.in-Some-node_place.place) (Some (line_number d k.document.stand.rows q)) (c.in-Some-node_place.ensures.found k.document) (c.in-Some-place_line.ensures.found k.document.stand) in
+    let row = row_is rows d (cut_of t) k q at in
+    let there = row_in_cut rows d (cut_of t) k q at in
+    let head = c.in_ok-head.ensures row there in
+    head_for t rows (cut_of t) c.args.doc d cut c.rows-rows.ensures f q at steps left (sym leads) _ refl
     (row_text t (cut_of t) q.row row c.in_ok-head.field-0.before c.whole-whole.ensures.utf8 cut there head.before c.in_ok-head.field-0.text.now head.text)
     (row_start t (cut_of t) q.row row c.in_ok-head.field-0.before c.whole-whole.ensures.utf8 cut there head.before)
     head.text
