@@ -1,5 +1,5 @@
--- With other items or entries in a flow collection, its path leads to it still, and what stands behind it stays.
-use Rattle.std.proofs.Common.{◌≡◌, ℕ, zero, suc, ◌+◌, Bool, true, false, not, ◌||◌, cond, List, [], ◌∷◌, ◌++◌, length, take, map, Option, Some, None, option_map, option_and_then, refl, sym, ap, ◌∙◌, arith}
+-- With other items or entries in a flow collection, the steps that lead to its head lead there still, with what they led to in it.
+use Rattle.std.proofs.Common.{◌≡◌, ℕ, zero, suc, ◌+◌, Bool, true, false, not, ◌||◌, cond, List, [], ◌∷◌, ◌++◌, length, take, map, Option, Some, None, option_map, refl, sym, ap, ◌∙◌, arith}
 use Rattle.std.proofs.Math.Seq.{take-append_seam}
 use Rattle.std.proofs.lemmas.Bool.{false≢true}
 use Rattle.std.proofs.lemmas.List.{length-map}
@@ -7,11 +7,9 @@ use Rattle.std.proofs.lemmas.Option.{none-some, same_Some}
 use Rattle.std.specs.List.{slice_get}
 use Rattle.std.specs.Option.{is_some}
 use Rattle.yq_flow_scalars.specs.Answers.{◌>>=◌}
-use Rattle.yq_flow_scalars.specs.Paths.{Step, is_here, further}
-use Rattle.yq_inline.specs.Collections.{CollPieces, change_item, coll_along, put_at}
-use Rattle.yq_inline.specs.Entries.{EntryPieces, item_at}
-use Rattle.yq_inline.specs.Nodes.{Key, Node, empty, alias, scalar, coll, anchored, Items, none, item, items_text, sep_text}
-use Rattle.yq_inline.specs.Trees.{inner, key_content}
+use Rattle.yq_flow_scalars.specs.Paths.{Step}
+use Rattle.yq_inline.specs.Collections.{CollPieces, coll_along, put_at}
+use Rattle.yq_inline.specs.Nodes.{Node, Items}
 use Rattle.yq_lines.specs.Group.{group}
 use Rattle.yq_lines.specs.Outline.{Outline, end, row, null_node}
 use Rattle.yq_lines.specs.Places.{here, below, FoundLine, find, in_head, inside, lines_before}
@@ -28,6 +26,7 @@ use Rattle.yq_documents.specs.LinesInRows.{RowLine, document_row, row_line}
 use Rattle.yq_documents.specs.TreeEdits.{change_nth}
 use Rattle.yq_walk.specs.Lines.{head_of, lines_of}
 use Rattle.yq_places.specs.FlowNodes.{bare_line, content_flow, find_head, flow_collection, head_line, line_collection}
+use Rattle.yq_places.specs.FlowViews.{LeadsToHead}
 use Rattle.yq_places.specs.NodeReading.{head_at}
 use Rattle.yq_places.proofs.FlowNodeLaws.{collection_is, rows_collection}
 use Rattle.yq_places.proofs.FlowViewLaws.{head_found, numbered}
@@ -42,42 +41,6 @@ use Rattle.yq_change.proofs.FlowKeptLaws.{one_other}
 use Rattle.yq_change.proofs.FlowPathLaws.{InCut, row_in_cut}
 use Rattle.yq_change.proofs.FlowRowLaws.{node_holds}
 use Rattle.yq_change.proofs.ShapeLaws.{before_strip, find_strip, group_strip, head_strip, rows_strip, strip_found, strip_outline, strip_pair, compose_strip, shapes_lines, stripped}
-
--- ---- in an inline node
-
--- a collection with another gap and other items
-abbrev pub other_items : List ℕ → Items → CollPieces → CollPieces
-other_items g is w = record { close = w.close; gap = g; items = is; rest = w.rest }
-
--- what steps lead to behind an item
-abbrev behind : List Step → Option EntryPieces → Option CollPieces
-behind ss o = option_and_then (λ (y : EntryPieces). coll_along ss y.node y.rest) o
-
--- an item or entry
-abbrev own : Key → Node → List ℕ → Option EntryPieces
-own key n rest = Some (record { key = key; node = n; rest = rest })
-
-items_stay : (ss : List Step) (k : ℕ) (s : Step) (os : Items) (rest : List ℕ) (w v : CollPieces) (f : Node → Node) → behind ss (item_at k s os rest) ≡ Some w →
-    ((node : Node) (u : List ℕ) → coll_along ss node u ≡ Some w → coll_along ss (f node) u ≡ Some v) → behind ss (item_at k s (change_item s f os) rest) ≡ Some v
-items_stay ss k s none rest w v f e h = absurd (none-some _ e)
-items_stay ss k s (item key n sep os) rest w v f e h = go (is_here s (inner (key_content key))) refl (λ again. items_stay ss k (further s) os rest w v f again h) e
-  where
-    go : (b : Bool) → is_here s (inner (key_content key)) ≡ b → (behind ss (item_at k (further s) os rest) ≡ Some w → behind ss (item_at k (further s) (change_item (further s) f os) rest) ≡ Some v) →
-        behind ss (cond b (own key n (sep_text sep (items_text k os rest))) (item_at k (further s) os rest)) ≡ Some w → behind ss (item_at k s (cond b (item key (f n) sep os) (item key n sep (change_item (further s) f os))) rest) ≡ Some v
-    go true is again e = ap (λ (b : Bool). behind ss (cond b (own key (f n) (sep_text sep (items_text k os rest))) (item_at k (further s) os rest))) is ∙ h n _ e
-    go false is again e = ap (λ (b : Bool). behind ss (cond b (own key n (sep_text sep (items_text k (change_item (further s) f os) rest))) (item_at k (further s) (change_item (further s) f os) rest))) is ∙ again e
-
-pub along_stays : (ss : List Step) (node : Node) (rest : List ℕ) (w : CollPieces) (g : List ℕ) (is : Items) → coll_along ss node rest ≡ Some w → coll_along ss (put_at ss g is node) rest ≡ Some (other_items g is w)
-along_stays [] empty rest w g is e = absurd (none-some _ e)
-along_stays [] (alias n) rest w g is e = absurd (none-some _ e)
-along_stays [] (scalar p) rest w g is e = absurd (none-some _ e)
-along_stays [] (coll k gap os) rest w g is e = ap (λ (x : CollPieces). Some (other_items g is x)) (same_Some _ _ e)
-along_stays [] (anchored n gap node) rest w g is e = along_stays [] node rest w g is e
-along_stays (s ∷ ss) empty rest w g is e = absurd (none-some _ e)
-along_stays (s ∷ ss) (alias n) rest w g is e = absurd (none-some _ e)
-along_stays (s ∷ ss) (scalar p) rest w g is e = absurd (none-some _ e)
-along_stays (s ∷ ss) (coll k gap os) rest w g is e = items_stay ss k s os rest w (other_items g is w) (put_at ss g is) e (λ node u at. along_stays ss node u w g is at)
-along_stays (s ∷ ss) (anchored n gap node) rest w g is e = along_stays (s ∷ ss) node rest w g is e
 
 -- ---- among lines
 
@@ -157,7 +120,7 @@ module _ (c : Cut) (k : ℕ) (steps : List Step) (w : CollPieces) (at : FlowAt c
   abbrev m : Node
   m = put_at at.rest gap is i.node
 
-  abbrev pub q : Part
+  abbrev q : Part
   q = with_node at.part i m
 
   abbrev new : Cut
@@ -172,7 +135,7 @@ module _ (c : Cut) (k : ℕ) (steps : List Step) (w : CollPieces) (at : FlowAt c
   keeps : no_rows q.rows ≡ true → no_rows at.part.rows ≡ true
   keeps h = absurd (false≢true (sym (ap no_rows rows_are ∙ front_some i.front r i.back) ∙ h))
 
-  pub there : slice_get (document_parts new) k ≡ Some q
+  there : slice_get (document_parts new) k ≡ Some q
   there = ap (λ (ps : List Part). slice_get ps k) (document_put c k at.part q at.there keeps) ∙ nth_changed k at.part q (document_parts c) at.there
 
   in_new : InCut (part_number k new) new q i.front r i.back
@@ -196,14 +159,8 @@ module _ (c : Cut) (k : ℕ) (steps : List Step) (w : CollPieces) (at : FlowAt c
       ap (map row_shape) rows_are ∙ (one_other i.front r i.row i.back own ∙ sym (ap (map row_shape) at.at.rows_are))
 
   -- by how many lines stand before the one in whose head the node is
-  abbrev pub number : ℕ
+  abbrev number : ℕ
   number = length (lines_before at.line.place)
-
-  pub number_is : head_at steps (lines_of at.part.rows) ≡ Some (number, at.rest)
-  number_is = sym (head_found (lines_of at.part.rows) steps) ∙ ap (option_map numbered) at.at.found
-
-  pub numbers_same : (ss : List Step) → head_at ss (lines_of q.rows) ≡ head_at ss (lines_of at.part.rows)
-  numbers_same = numbers_stay at.part q shapes
 
   line_there : (rows : List Row) (y : Content) → rows ≡ i.front ++ (with_content y i.row ∷ i.back) → row_line number rows ≡ Some (record { before = length i.front; row = with_content y i.row; line = length i.row.dashes })
   line_there rows y are =
@@ -212,23 +169,40 @@ module _ (c : Cut) (k : ℕ) (steps : List Step) (w : CollPieces) (at : FlowAt c
       ap (λ (n : ℕ). row_line n rows) is
       ∙ row_line_number rows (length i.front) (length i.row.dashes) (with_content y i.row) (ap (λ (rs : List Row). slice_get rs (length i.front)) are ∙ nth_behind i.front (with_content y i.row) i.back) (omega arith)
 
-  module _ (ss left : List Step) (e : head_at ss (lines_of at.part.rows) ≡ Some (number, left)) where
-    -- a path that goes on in the same head leads to what is in the node there
-    pub collection_before : flow_collection k ss c ≡ coll_along left i.node (behind_node c k at.part i)
-    collection_before =
-        sym (collection_is c k ss)
-        ∙ (ap (λ (o : Option Part). o >>= λ p. rows_collection (document_row k c) c p.rows ss) at.there
-        ∙ (ap (λ (o : Option (ℕ × List Step)). o >>= λ x. line_collection (document_row k c) c at.part.rows x.0 x.1) e
-        ∙ (ap (λ (o : Option RowLine). o >>= λ s. content_flow left s.row.content (behind_row (document_row k c + s.before) c)) (line_there at.part.rows i.row.content at.at.rows_are)
-        ∙ λ j. content_flow left (at.at.content_is j) ((row_in_cut c k at.part i.front i.row i.back at.there at.at.rows_are).behind j))))
+  -- other steps lead to other collections of the same head
+  module _ (stem left : List Step) (init : steps ≡ stem ++ left) (h : LeadsToHead c k stem) where
+    same_part : at.part ≡ h.part
+    same_part = same_Some _ _ (sym at.there ∙ h.there)
 
-    pub collection_behind : flow_collection k ss new ≡ coll_along left m (behind_node c k at.part i)
-    collection_behind =
-        sym (collection_is new k ss)
-        ∙ (ap (λ (o : Option Part). o >>= λ p. rows_collection (document_row k new) new p.rows ss) there
-        ∙ (ap (λ (o : Option (ℕ × List Step)). o >>= λ x. line_collection (document_row k new) new q.rows x.0 x.1) (numbers_same ss ∙ e)
-        ∙ (ap (λ (o : Option RowLine). o >>= λ s. content_flow left s.row.content (behind_row (document_row k new + s.before) new)) (line_there q.rows (Inline i.space m i.tail) rows_are)
-        ∙ λ j. coll_along left m (i.tail ++ behind_row_is j))))
+    leads : (ss : List Step) → head_at (stem ++ ss) (lines_of at.part.rows) ≡ Some (h.number, ss)
+    leads ss = ap (λ (p : Part). head_at (stem ++ ss) (lines_of p.rows)) same_part ∙ h.leads ss
 
-  pub flow_stays : flow_collection k steps new ≡ Some (other_items gap is w)
-  flow_stays = collection_behind steps at.rest number_is ∙ along_stays at.rest i.node (behind_node c k at.part i) w gap is at.at.along
+    same_number : h.number ≡ number
+    same_number =
+        ap (λ (x : ℕ × List Step). x.0) (same_Some _ _ (sym (leads left) ∙ (ap (λ (ss : List Step). head_at ss (lines_of at.part.rows)) (sym init)
+        ∙ (sym (head_found (lines_of at.part.rows) steps) ∙ ap (option_map numbered) at.at.found))))
+
+    leads_there : (ss : List Step) → head_at (stem ++ ss) (lines_of at.part.rows) ≡ Some (number, ss)
+    leads_there ss = leads ss ∙ ap (λ (n : ℕ). Some (n, ss)) same_number
+
+    leads_behind : (ss : List Step) → head_at (stem ++ ss) (lines_of q.rows) ≡ Some (number, ss)
+    leads_behind ss = numbers_stay at.part q shapes (stem ++ ss) ∙ leads_there ss
+
+    pub head_behind : LeadsToHead new k stem
+    head_behind = record { part = q; there = there; number = number; leads = leads_behind }
+
+    pub collection_before : (ss : List Step) → flow_collection k (stem ++ ss) c ≡ coll_along ss i.node (behind_node c k at.part i)
+    collection_before ss =
+        sym (collection_is c k (stem ++ ss))
+        ∙ (ap (λ (o : Option Part). o >>= λ p. rows_collection (document_row k c) c p.rows (stem ++ ss)) at.there
+        ∙ (ap (λ (o : Option (ℕ × List Step)). o >>= λ x. line_collection (document_row k c) c at.part.rows x.0 x.1) (leads_there ss)
+        ∙ (ap (λ (o : Option RowLine). o >>= λ s. content_flow ss s.row.content (behind_row (document_row k c + s.before) c)) (line_there at.part.rows i.row.content at.at.rows_are)
+        ∙ λ j. content_flow ss (at.at.content_is j) ((row_in_cut c k at.part i.front i.row i.back at.there at.at.rows_are).behind j))))
+
+    pub collection_behind : (ss : List Step) → flow_collection k (stem ++ ss) new ≡ coll_along ss m (behind_node c k at.part i)
+    collection_behind ss =
+        sym (collection_is new k (stem ++ ss))
+        ∙ (ap (λ (o : Option Part). o >>= λ p. rows_collection (document_row k new) new p.rows (stem ++ ss)) there
+        ∙ (ap (λ (o : Option (ℕ × List Step)). o >>= λ x. line_collection (document_row k new) new q.rows x.0 x.1) (leads_behind ss)
+        ∙ (ap (λ (o : Option RowLine). o >>= λ s. content_flow ss s.row.content (behind_row (document_row k new + s.before) new)) (line_there q.rows (Inline i.space m i.tail) rows_are)
+        ∙ λ j. coll_along ss m (i.tail ++ behind_row_is j))))

@@ -1,16 +1,17 @@
 -- The content of an item or entry of a flow collection gives way to a value.
-use Rattle.std.proofs.Common.{◌≡◌, ℕ, ◌-◌, ◌≤◌, Bool, true, false, List, [], ◌∷◌, ◌++◌, length, Option, Some, None, refl, sym, ap, ◌∙◌, subst, arith, ◌+◌, append-nil, length-append}
+use Rattle.std.proofs.Common.{◌≡◌, ℕ, ◌-◌, ◌<◌, ◌≤◌, Bool, true, false, List, [], ◌∷◌, ◌++◌, length, Option, Some, None, refl, sym, ap, ◌∙◌, subst, arith, ◌+◌, append-nil, length-append}
 use Rattle.std.proofs.lemmas.Bool.{cond_both}
 use Rattle.std.proofs.lemmas.Option.{none-some}
 use Rattle.std.specs.Str.{IsCharBoundary}
+use Rattle.yq_flow_scalars.specs.Answers.{◌>>=◌}
 use Rattle.yq_flow_scalars.specs.Characters.{text_limit}
 use Rattle.yq_flow_scalars.specs.Keys.{depth}
 use Rattle.yq_flow_scalars.specs.Paths.{Step, change, change_child, is_here, further, within}
 use Rattle.yq_flow_scalars.specs.Scalar.{ScalarText}
 use Rattle.yq_flow_scalars.specs.Tree as tree
 use Rattle.yq_flow_scalars.specs.declared.style.Place.TheVariants.{Flow}
-use Rattle.yq_inline.specs.Collections.{CollAt, IsCollAt, item_in, room_in}
-use Rattle.yq_inline.specs.Entries.{EntryPieces}
+use Rattle.yq_inline.specs.Collections.{CollAt, CollPieces, IsCollAt, item_in, put_at, room_in}
+use Rattle.yq_inline.specs.Entries.{EntryPieces, item_at}
 use Rattle.yq_flow.specs.FlowEdits.{FlowEdit, IsFlowEdited, anchor_in, content_node, put_content, put_item, put_value, replacing, space_for, spaced_key}
 use Rattle.yq_inline.specs.Nodes as inline
 use Rattle.yq_inline.specs.Nodes.{Key, bare, keyed, Items, none, item, is_bare, node_text}
@@ -30,12 +31,14 @@ use Rattle.yq_documents.specs.Documents.{EachHasFitKeys, HasFitKey, HasFitKeys, 
 use Rattle.yq_documents.specs.Nodes.{anchor_of}
 use Rattle.yq_documents.specs.Reading.{documents, read_at, root_of}
 use Rattle.yq_documents.specs.TreeEdits.{replaced}
+use Rattle.yq_places.specs.FlowViews.{LeadsToHead}
 use Rattle.yq_places.proofs.FlowPieces.{named_is, none_anchored}
-use Rattle.yq_change.specs.FlowRows.{FlowAt}
+use Rattle.yq_change.specs.FlowRows.{FlowAt, behind_node}
 use Rattle.yq_change.specs.Rooms.{is_block_root}
 use Rattle.yq_change.specs.SoundRoots.{IsSoundRoot}
 use Rattle.yq_change.specs.TextPieces.{IsPiece}
 use Rattle.yq_change.proofs.FlowKeptLaws.{flow_keys}
+use Rattle.yq_change.proofs.FlowStayLaws as stay
 use Rattle.yq_change.proofs.PartLaws.{document_known}
 use Rattle.yq_change.proofs.SoundRootLaws.{replace_keeps}
 use Rattle.yq_meaning.specs.Changes.{has_long_key}
@@ -47,6 +50,7 @@ use Rattle.yq_places.specs.Standings.{FlowPart, last_step}
 use Rattle.yq_edits.specs.EditLaws.{CarriedOut, FlowValuesArePut, IsEdit}
 use Rattle.yq_edits.specs.FlowParts.{content_written, flow_put, flow_segments, flow_value}
 use Rattle.yq_edits.specs.Style.{style_in}
+use Rattle.yq_flow_edits.specs.PartPuts.{IsPart}
 use Rattle.yq_flow.proofs.ItemPlaces.{item_rest}
 use Rattle.yq_edits.proofs.FitLaws.{FitsReplace, fits_replace}
 use Rattle.yq_flow_edits.proofs.FlowPieceLaws.{edit_pieces, nothing_piece, one_space}
@@ -55,6 +59,7 @@ use Rattle.yq_flow_edits.proofs.FlowStandings as standing
 use Rattle.yq_flow_edits.proofs.FlowStandings.{EntryAt, entry_found, entry_placed}
 use Rattle.yq_flow_edits.proofs.FlowEditLaws.{FlowCarried, before_is, flow_carried, made_cut, made_reads, segments_old}
 use Rattle.yq_flow_edits.proofs.FlowWholeLaws.{StandsBefore, replaced_stands}
+use Rattle.yq_flow_edits.proofs.LaterParts.{later_part, parts_along}
 use Rattle.yq_edits.proofs.FlowWritten.{flow_fits}
 use Rattle.yq_edits.proofs.KeptLaws.{led_same}
 use Rattle.yq_edits.proofs.ValueTexts.{style_line}
@@ -216,6 +221,25 @@ module _ (c : Cut) (doc : ℕ) (path : List Step) (v : tree.Node) (read : read_a
     -- the cut as which that reads
     pub replaced_reads : length (new_text (flow_segments (cut_text c) e)) ≤ text_limit → read_at (new_text (flow_segments (cut_text c) e)) ≡ Some (made_cut (replace doc path v) c a.init a.coll at e)
     replaced_reads size = made_reads (replace doc path v) c a.init a.coll at e (change_child a.step (replaced v)) read done size
+
+  -- Behind it the steps to the head lead there still, and the later parts of its collections are as they were.
+  module _ (stem left : List Step) (init : a.init ≡ stem ++ left) (h : LeadsToHead c doc stem) where
+    abbrev items : Items
+    items = put_item a.step m a.coll.items
+
+    abbrev pub next : Cut
+    next = made_cut (replace doc path v) c a.init a.coll at e
+
+    pub head_behind : LeadsToHead next doc stem
+    head_behind = stay.head_behind c doc a.init a.coll at a.coll.gap items stem left init h
+
+    pub part_behind : (ss : List Step) (r : Step) (z : EntryPieces) → IsPart c doc (stem ++ ss) r z → length z.rest < length a.item.rest → length (node_text (content_node z.node) z.rest) ≤ length a.item.rest → IsPart next doc (stem ++ ss) r z
+    part_behind ss r z part less begins =
+        let slot : EntryPieces = record { key = bare; node = at.row.node; rest = behind_node c doc at.part at.row } in
+        let own = λ (o : Option CollPieces). o >>= λ w. item_at w.close r w.items w.rest in
+        let before = sym (parts_along ss r slot) ∙ (sym (ap own (stay.collection_before c doc a.init a.coll at a.coll.gap items stem left init h ss)) ∙ part) in
+        ap own (stay.collection_behind c doc a.init a.coll at a.coll.gap items stem left init h ss)
+        ∙ (parts_along ss r (record slot { node = put_at at.rest a.coll.gap items at.row.node }) ∙ later_part at.rest (ss ++ (r ∷ [])) a.step m slot a.coll a.item z at.at.along a.at before less begins)
 
 -- Replace: a value put in the place of a content of a flow collection.
 pub flow_values_put : FlowValuesArePut

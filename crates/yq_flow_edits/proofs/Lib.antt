@@ -5,6 +5,7 @@ pub mod FlowSoundLaws
 pub mod FlowPieceLaws
 pub mod FlowStandings
 pub mod FlowWholeLaws
+pub mod LaterParts
 pub mod FlowPutLaws
 pub mod FlowAppendLaws
 pub mod FlowRemoveLaws
@@ -21,9 +22,6 @@ pub mod FlowHeldLines
 pub mod CollectionCases
 pub mod EntryLines
 pub mod StepsOn
-pub mod LaterItems
-pub mod LaterParts
-pub mod PartsStay
 pub mod FlowPartNodes
 pub mod StandingExists
 pub mod MoreExists

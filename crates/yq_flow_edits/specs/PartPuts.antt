@@ -3,7 +3,6 @@ use Rattle.std.specs.Prelude.{◌≡◌, ℕ, List, [], ◌∷◌, ◌++◌, len
 use Rattle.std.specs.declared.alloc.Global.{Global}
 use Rattle.yq_flow_scalars.specs.Paths.{Step}
 use Rattle.yq_flow_scalars.specs.Tree.{Node}
-use Rattle.yq_inline.specs.Collections.{CollPieces}
 use Rattle.yq_inline.specs.Entries.{EntryPieces, item_at}
 use Rattle.yq_flow.specs.FlowEdits.{FlowEdit, replacing}
 use Rattle.yq_flow.specs.FlowPlaces.{edit_view, place_edit}
@@ -56,8 +55,6 @@ ArePuts n steps v c x None = flow_standing n c (last_step steps) ≡ None
 ArePuts n steps v c x (Some p) =
     (z : FlowPart) × (flow_standing n c (last_step steps) ≡ Some z) × IsPlaceOf (cut_text c) v z x p.place × IsWritten (node_in n steps c) v z p.written
 
--- A part stands in document n of a cut, in the collection to which steps lead, at one more step (7.4; own).
-pub record IsPart (c : Cut) (n : ℕ) (steps : List Step) (s : Step) (y : EntryPieces) : Type 0 where
-  pub coll : CollPieces
-  pub found : flow_collection n steps c ≡ Some coll
-  pub at : item_at coll.close s coll.items coll.rest ≡ Some y
+-- a part stands in document n of a cut, in the collection to which steps lead, at one more step (7.4; own)
+abbrev pub IsPart : Cut → ℕ → List Step → Step → EntryPieces → Type 0
+IsPart c n steps s y = (flow_collection n steps c >>= λ w. item_at w.close s w.items w.rest) ≡ Some y

@@ -84,10 +84,10 @@ head_in_row s (t ∷ ts) l u a = go l.mark (find_row s (row l u a))
 -- ---- the steps before those that go on
 
 -- The first steps of a path to the head of a line lead there before any others.
-record HasStem (steps : List Step) (o : Outline) (y : FoundLine × List Step) : Type 0 where
-  stem : List Step
-  steps_are : steps ≡ stem ++ y.1
-  leads : (left : List Step) → find_head (stem ++ left) o ≡ Some (y.0, left)
+pub record HasStem (steps : List Step) (o : Outline) (y : FoundLine × List Step) : Type 0 where
+  pub stem : List Step
+  pub steps_are : steps ≡ stem ++ y.1
+  pub leads : (left : List Step) → find_head (stem ++ left) o ≡ Some (y.0, left)
 
 first_leads : (o : Outline) (f : FoundLine) → bare_line o ≡ Some f → (left : List Step) → find_head left o ≡ Some (f, left)
 first_leads end f e left = absurd (none-some _ e)
@@ -99,7 +99,7 @@ first_leads (row l u a) f e (s ∷ ss) = head_in_row s ss l u a ∙ go l.mark e
     go (Key k) e = absurd (none-some _ e)
     go Dash e = absurd (none-some _ e)
 
-stem_found : (steps : List Step) (o : Outline) (y : Reached) → find_head steps o ≡ Some y → HasStem steps o y
+pub stem_found : (steps : List Step) (o : Outline) (y : FoundLine × List Step) → find_head steps o ≡ Some y → HasStem steps o y
 stem_found [] o y e = go (bare_line o) refl e
   where
     go : (r : Option FoundLine) → bare_line o ≡ r → option_map {U = Reached} (λ f. (f, [])) r ≡ Some y → HasStem [] o y

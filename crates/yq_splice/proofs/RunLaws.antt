@@ -6,6 +6,10 @@ use Rattle.std.proofs.lemmas.Option.{same_Some}
 use Rattle.yq_flow_scalars.specs.Characters.{text_limit}
 use Rattle.yq_flow_scalars.specs.Paths.{Step}
 use Rattle.yq_flow_scalars.specs.Tree.{Node}
+use Rattle.yq_flow_scalars.specs.Answers.{◌>>=◌}
+use Rattle.yq_flow_scalars.proofs.Bools.{bind_some}
+use Rattle.yq_inline.specs.Collections.{CollPieces}
+use Rattle.yq_inline.specs.Entries.{item_at}
 use Rattle.yq_inline.specs.Nodes.{node_text}
 use Rattle.yq_inline.proofs.WrittenLaws.{node_then}
 use Rattle.yq_inline.specs.Trees.{tree_of}
@@ -31,9 +35,8 @@ use Rattle.yq_edits.specs.Replacing.{is_kept}
 use Rattle.yq_flow_edits.specs.PartPuts.{IsPart, IsPlaceOf, put_edit}
 use Rattle.yq_flow_edits.proofs.CutLaws.{text_read}
 use Rattle.yq_flow_edits.proofs.FlowPartNodes.{part_node}
-use Rattle.yq_flow_edits.proofs.FlowPutLaws.{replaced_reads}
+use Rattle.yq_flow_edits.proofs.FlowPutLaws.{head_behind, next, part_behind, replaced_reads}
 use Rattle.yq_flow_edits.proofs.FlowStandings.{EntryAt, entry_found}
-use Rattle.yq_flow_edits.proofs.PartsStay.{leads_behind, next, part_behind}
 use Rattle.yq_splice.specs.Carried.{carried}
 use Rattle.yq_splice.specs.Edit.{edit_of_segments, gives, refuses}
 use Rattle.yq_splice.specs.Runs.{EndsIn, IsRun, run_text}
@@ -93,7 +96,7 @@ module _ (c : Cut) (n : ℕ) (stem path : List Step) (v : Node) (out : List ℕ)
   steps_are = ap (λ (y : List Step × Step). y.0) (same_Some _ _ (sym b.last ∙ ends.1.1))
 
   first : IsPart c n (stem ++ left) b.step b.item
-  first = record { coll = b.coll; found = ap (λ (ss : List Step). flow_collection n ss c) (sym steps_are) ∙ b.found; at = b.at }
+  first = ap (λ (o : Option CollPieces). o >>= λ w. item_at w.close b.step w.items w.rest) (ap (λ (ss : List Step). flow_collection n ss c) (sym steps_are) ∙ b.found) ∙ b.at
 
   content_is : length (e.old ++ e.behind) ≡ length (node_text (content_node b.item.node) b.item.rest)
   content_is = ap length (sym (node_then (content_node b.item.node) b.item.rest))
@@ -102,15 +105,9 @@ module _ (c : Cut) (n : ℕ) (stem path : List Step) (v : Node) (out : List ℕ)
   stays = run.stays left b.step b.item first (omega (arith, passes, finish_is, size)) (omega (arith, behind, start_is, content_is, size, run.within, length-append e.old e.behind))
 
   abbrev a : EntryAt run.cut n path
-  a = record {
-    init = stem ++ left;
-    step = b.step;
-    last = b.last ∙ ap (λ (ss : List Step). Some (ss, b.step)) steps_are;
-    coll = stays.coll;
-    found = stays.found;
-    item = b.item;
-    at = stays.at;
-  }
+  a =
+      let there = bind_some (flow_collection n (stem ++ left) run.cut) stays in
+      record { init = stem ++ left; step = b.step; last = b.last ∙ ap (λ (ss : List Step). Some (ss, b.step)) steps_are; coll = there.0; found = there.1; item = b.item; at = there.2 }
 
   text : cut_text run.cut ≡ now
   text = text_read now run.cut run.read
@@ -195,7 +192,7 @@ module _ (c : Cut) (n : ℕ) (stem path : List Step) (v : Node) (out : List ℕ)
           edge = at.lies.end;
           cut = next run.cut n path v read a stem left refl run.leads;
           read = ap read_at (sym new_bytes) ∙ reads;
-          leads = leads_behind run.cut n path v read a stem left refl run.leads;
+          leads = head_behind run.cut n path v read a stem left refl run.leads;
           stays = λ ss r y there less begins.
               part_behind run.cut n path v read a stem left refl run.leads ss r y
               (run.stays ss r y there (omega (arith, less, passes)) (omega (arith, begins, passes))) (omega (arith, less, finish_is, size)) (omega (arith, begins, finish_is, size));
