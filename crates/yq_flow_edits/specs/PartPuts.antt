@@ -1,6 +1,7 @@
 -- Values put in the place of contents in a flow collection, whose row's head was read once (YAML 1.2.2, 7.4; own).
 use Rattle.std.specs.Prelude.{◌≡◌, ℕ, List, [], ◌∷◌, ◌++◌, length, Option, Some, None, option_map, Bool, true, false, if◌then◌else◌, String, string_bytes}
 use Rattle.std.specs.declared.alloc.Global.{Global}
+use Rattle.yq_flow_scalars.specs.Answers.{◌>>=◌}
 use Rattle.yq_flow_scalars.specs.Paths.{Step}
 use Rattle.yq_flow_scalars.specs.Tree.{Node}
 use Rattle.yq_inline.specs.Entries.{EntryPieces, item_at}
