@@ -1,13 +1,14 @@
-use Rattle.std.proofs.Common.{ℕ, List, length, map, Some, None, refl, sym, ap, ◌∙◌}
+use Rattle.std.proofs.Common.{ℕ, List, length, map, Some, None, refl, sym, ap, ◌∙◌, subst}
 use Rattle.yq_inline.specs.Entries.{step_of}
 use Rattle.yq_lines.specs.View.{head_flow}
 use Rattle.yq_places.specs.FlowNodes.{flow_collection}
+use Rattle.yq_places.specs.FlowViews.{FlowAgrees}
 use Rattle.yq_places.specs.NodeReading.{place_view}
 use Rattle.yq_walk.specs.RowWalk.{line_number}
 use Rattle.yq_flow_scalars.specs.Paths.{Step}
 use Rattle.yq_walk.specs.Lines.{lines_of}
 use Rattle.yq_documents.specs.Reading.{cut_of}
-use Rattle.yq_places.proofs.FlowNodeLaws.{collection_is, head_line_at, head_agrees_at, head_for, no_collection, no_flow_agrees, no_head_at, other_head, rows_collection}
+use Rattle.yq_places.proofs.FlowNodeLaws.{collection_is, head_line_at, head_for, no_collection, no_flow_agrees, no_head_at, other_head, rows_collection}
 use Rattle.yq_places.proofs.RowHeads.{line_fit, line_within, row_start, row_text}
 use Rattle.yq_places.proofs.WalkDocuments.{found_document, found_in_cut, place_found}
 use Rattle.yq_places.proofs.WalkNodes.{row_is, row_in_cut}
@@ -83,28 +84,6 @@ returns-in-Scalar-clause-found c =
     let head = c.in_ok-head.ensures (row_is rows d (cut_of t) k q at) (row_in_cut rows d (cut_of t) k q at) in
     other_head t rows (cut_of t) c.args.doc d cut c.rows-rows.ensures f q at steps left (sym leads) (length c.in_ok-head.field-0.text.now) (ap head_flow (sym c.in-Scalar.is) ∙ head.flow)
 
-pub returns-clause-found : goal.returns-clause-found
-returns-clause-found c =
-    let t : List ℕ = c.args.self.now in
-    let steps : List Step = map step_of c.args.steps.now in
-    let left : List Step = map step_of c.in-Some-node_place.left.now in
-    let rows = c.rows-rows.result.now in
-    let d = c.in-Some.document in
-    let q = c.in-Some-place_line.at in
-    let at = c.in-Some-place_line.ensures.within in
-    let cut = c.whole-whole.ensures.cut in
-    let f = found_document t rows (cut_of t) c.args.doc d cut c.rows-rows.ensures c.in-Some.ensures.place c.in-Some.ensures.sound in
-    let k = (found_in_cut t rows (cut_of t) c.args.doc d cut c.rows-rows.ensures f).0 in
-    let leads = head_line_at (lines_of k.document.stand.rows) steps left (place_view d k.document.stand.rows c.in-Some-node_place.place) (Some (line_number d k.document.stand.rows q)) (c.in-Some-node_place.ensures.found k.document) (c.in-Some-place_line.ensures.found k.document.stand) in
-    let row = row_is rows d (cut_of t) k q at in
-    let there = row_in_cut rows d (cut_of t) k q at in
-    let head = c.in_ok-head.ensures row there in
-    head_agrees_at t rows (cut_of t) c.args.doc d cut c.rows-rows.ensures f q at steps left (sym leads) _ refl
-    (row_text t (cut_of t) q.row row c.in_ok-head.field-0.before c.whole-whole.ensures.utf8 cut there head.before c.in_ok-head.field-0.text.now head.text)
-    (row_start t (cut_of t) q.row row c.in_ok-head.field-0.before c.whole-whole.ensures.utf8 cut there head.before)
-    head.text
-    (ap head_flow (sym c.in-Inline.is) ∙ head.flow)
-
 pub returns-clause-whole : goal.returns-clause-whole
 returns-clause-whole c =
     let t : List ℕ = c.args.self.now in
@@ -126,3 +105,8 @@ returns-clause-whole c =
     (row_start t (cut_of t) q.row row c.in_ok-head.field-0.before c.whole-whole.ensures.utf8 cut there head.before)
     head.text
     (ap head_flow (sym c.in-Inline.is) ∙ head.flow)
+
+pub returns-clause-found : goal.returns-clause-found
+returns-clause-found c =
+    let head = returns-clause-whole c in
+    subst (λ (ss : List Step). FlowAgrees c.args.self.now (flow_collection c.args.doc ss (cut_of c.args.self.now)) (Some _)) (sym head.1) (head.2.tells _ refl refl refl)
