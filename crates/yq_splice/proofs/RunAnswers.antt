@@ -54,7 +54,7 @@ run_begins t n stem read leads =
 
 -- the same of a run that the code begins
 module _ (t : List ℕ) (n : ℕ) (stem : List Step) (r : Run) (read : read_at t ≡ Some (cut_of t)) (leads : LeadsToHead (cut_of t) n stem) (text : string_bytes r.text ≡ []) (done : r.done ≡ 0) where
-  pub begins : Runs (cut_of t) n steps r
+  pub begins : Runs (cut_of t) n stem r
   begins = subst (λ (d : ℕ). IsRun (cut_of t) n stem (string_bytes r.text) d) (sym done) (subst (λ (l : List ℕ). IsRun (cut_of t) n stem l 0) (sym text) (run_begins t n stem read leads))
 
   pub begins_with : now_text (cut_of t) r ≡ t
