@@ -311,3 +311,6 @@ module _ (t : List ℕ) (s : RowsView) (c : Cut) (n : ℕ) (d : Stretch) (cut : 
             (is_text ∙ ends)
             ((λ i. Some (view (node i).value)) ∙ (e ∙ λ i. row_flow (length (sym is_text i)) (row_is s d c there q at) []));
       })
+
+pub agrees_for : (t : List ℕ) (c : Cut) (n : ℕ) (steps : List Step) (x : FlowHead) → IsHeadFor t c n steps x → FlowAgrees t (flow_collection n steps c) (Some x)
+agrees_for t c n steps x h = subst (λ (ss : List Step). FlowAgrees t (flow_collection n ss c) (Some x)) (sym h.1) (h.2.tells x refl refl refl)

@@ -89,6 +89,10 @@ pub record HasStem (steps : List Step) (o : Outline) (y : FoundLine × List Step
   pub steps_are : steps ≡ stem ++ y.1
   pub leads : (left : List Step) → find_head (stem ++ left) o ≡ Some (y.0, left)
 
+-- the same of all heads to which steps lead
+abbrev Stems : List Step → Type 0
+Stems ss = (o : Outline) (x : Reached) → find_head ss o ≡ Some x → HasStem ss o x
+
 first_leads : (o : Outline) (f : FoundLine) → bare_line o ≡ Some f → (left : List Step) → find_head left o ≡ Some (f, left)
 first_leads end f e left = absurd (none-some _ e)
 first_leads (row l u a) f e [] = ap (option_map {U = Reached} (λ g. (g, []))) e
@@ -108,14 +112,10 @@ stem_found [] o y e = go (bare_line o) refl e
 stem_found (s ∷ ss) end y e = absurd (none-some _ e)
 stem_found (s ∷ ss) (row l u a) y e = go l.mark refl (find_row s (row l u a)) refl (λ o x is. stem_found ss o x is) (sym (head_in_row s ss l u a) ∙ e)
   where
-    Again : Type 0
-    Again = (o : Outline) (x : Reached) → find_head ss o ≡ Some x → HasStem ss o x
-
-    under : (f : FoundLine) → ((rest : List Step) → find_head (s ∷ rest) (row l u a) ≡ on_from rest f) → f.line.head ≡ None → (r : Option Reached) → find_head ss f.under ≡ r → Again → option_map (within f) r ≡ Some y → HasStem (s ∷ ss) (row l u a) y
-    unfolding Again
-    under f all is None below again e = absurd (none-some _ e)
-    under f all is (Some x) below again e =
-        let deeper = again f.under x below in
+    under : (f : FoundLine) → ((rest : List Step) → find_head (s ∷ rest) (row l u a) ≡ on_from rest f) → f.line.head ≡ None → (r : Option Reached) → find_head ss f.under ≡ r → Stems ss → option_map (within f) r ≡ Some y → HasStem (s ∷ ss) (row l u a) y
+    under f all is None found again e = absurd (none-some _ e)
+    under f all is (Some x) found again e =
+        let deeper = again f.under x found in
         subst (HasStem (s ∷ ss) (row l u a)) (same_Some _ _ e) (record {
           stem = s ∷ deeper.stem;
           steps_are = ap (λ (ts : List Step). s ∷ ts) deeper.steps_are;
@@ -125,7 +125,7 @@ stem_found (s ∷ ss) (row l u a) y e = go l.mark refl (find_row s (row l u a)) 
               ∙ ap (option_map (within f)) (deeper.leads left));
         })
 
-    entry : (f : FoundLine) → ((rest : List Step) → find_head (s ∷ rest) (row l u a) ≡ on_from rest f) → (h : Option Node) → f.line.head ≡ h → Again → in_head h (Some (f, ss)) (option_map (within f) (find_head ss f.under)) ≡ Some y → HasStem (s ∷ ss) (row l u a) y
+    entry : (f : FoundLine) → ((rest : List Step) → find_head (s ∷ rest) (row l u a) ≡ on_from rest f) → (h : Option Node) → f.line.head ≡ h → Stems ss → in_head h (Some (f, ss)) (option_map (within f) (find_head ss f.under)) ≡ Some y → HasStem (s ∷ ss) (row l u a) y
     entry f all (Some n) is again e = subst (HasStem (s ∷ ss) (row l u a)) (same_Some _ _ e) (record {
       stem = s ∷ [];
       steps_are = refl;
@@ -133,7 +133,7 @@ stem_found (s ∷ ss) (row l u a) y e = go l.mark refl (find_row s (row l u a)) 
     })
     entry f all None is again e = under f all is (find_head ss f.under) refl again e
 
-    go : (m : Mark) → l.mark ≡ m → (r : Option FoundLine) → find_row s (row l u a) ≡ r → Again → bare_or m (Some (first l u a, s ∷ ss)) (option_and_then (on_from ss) r) ≡ Some y → HasStem (s ∷ ss) (row l u a) y
+    go : (m : Mark) → l.mark ≡ m → (r : Option FoundLine) → find_row s (row l u a) ≡ r → Stems ss → bare_or m (Some (first l u a, s ∷ ss)) (option_and_then (on_from ss) r) ≡ Some y → HasStem (s ∷ ss) (row l u a) y
     go Bare is r found again e = subst (HasStem (s ∷ ss) (row l u a)) (same_Some _ _ e) (record {
       stem = [];
       steps_are = refl;

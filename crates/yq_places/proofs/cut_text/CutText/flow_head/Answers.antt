@@ -1,14 +1,13 @@
-use Rattle.std.proofs.Common.{ℕ, List, length, map, Some, None, refl, sym, ap, ◌∙◌, subst}
+use Rattle.std.proofs.Common.{ℕ, List, length, map, Some, None, refl, sym, ap, ◌∙◌}
 use Rattle.yq_inline.specs.Entries.{step_of}
 use Rattle.yq_lines.specs.View.{head_flow}
 use Rattle.yq_places.specs.FlowNodes.{flow_collection}
-use Rattle.yq_places.specs.FlowViews.{FlowAgrees}
 use Rattle.yq_places.specs.NodeReading.{place_view}
 use Rattle.yq_walk.specs.RowWalk.{line_number}
 use Rattle.yq_flow_scalars.specs.Paths.{Step}
 use Rattle.yq_walk.specs.Lines.{lines_of}
 use Rattle.yq_documents.specs.Reading.{cut_of}
-use Rattle.yq_places.proofs.FlowNodeLaws.{collection_is, head_line_at, head_for, no_collection, no_flow_agrees, no_head_at, other_head, rows_collection}
+use Rattle.yq_places.proofs.FlowNodeLaws.{collection_is, agrees_for, head_line_at, head_for, no_collection, no_flow_agrees, no_head_at, other_head, rows_collection}
 use Rattle.yq_places.proofs.RowHeads.{line_fit, line_within, row_start, row_text}
 use Rattle.yq_places.proofs.WalkDocuments.{found_document, found_in_cut, place_found}
 use Rattle.yq_places.proofs.WalkNodes.{row_is, row_in_cut}
@@ -107,6 +106,4 @@ returns-clause-whole c =
     (ap head_flow (sym c.in-Inline.is) ∙ head.flow)
 
 pub returns-clause-found : goal.returns-clause-found
-returns-clause-found c =
-    let head = returns-clause-whole c in
-    subst (λ (ss : List Step). FlowAgrees c.args.self.now (flow_collection c.args.doc ss (cut_of c.args.self.now)) (Some _)) (sym head.1) (head.2.tells _ refl refl refl)
+returns-clause-found c = agrees_for c.args.self.now (cut_of c.args.self.now) c.args.doc (map step_of c.args.steps.now) _ (returns-clause-whole c)
