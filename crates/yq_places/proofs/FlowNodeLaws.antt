@@ -295,22 +295,25 @@ module _ (t : List ℕ) (s : RowsView) (c : Cut) (n : ℕ) (d : Stretch) (cut : 
 
   pub head_for : (x : FlowHead) → left ≡ map step_of x.left.now → t ≡ take x.before t ++ (x.text.now ++ behind_row q.row c) → x.before ≡ length (take x.before t) → x.text.now ≡ from_head (slices (row_is s d c there q at)) [] →
       Some (view x.node.value) ≡ row_flow (length x.text.now) (row_is s d c there q at) [] → IsHeadFor t c n steps x
-  head_for x own stands begins ends e =
-      (stem.stem, stem.steps_are ∙ ap (λ (ss : List Step). stem.stem ++ ss) own, record {
-        leads = record {
-          part = f.part;
-          there = f.there;
-          number = line_number d there.document.stand.rows q;
-          leads = λ ss. ap (λ (rs : List Row). head_at (stem.stem ++ ss) (lines_of rs)) (sym (found_in_cut t s c n d cut is f).1) ∙ stem.leads ss;
-        };
-        tells = λ y node text before.
-            let is_text : y.text.now ≡ x.text.now = λ i. (text i).now in
-            head_agrees_at t s c n d cut is f q at (stem.stem ++ map step_of y.left.now) (map step_of y.left.now) (stem.leads (map step_of y.left.now)) y refl
-            (stands ∙ λ i. take (sym before i) t ++ (sym is_text i ++ behind_row q.row c))
-            (before ∙ (begins ∙ λ i. length (take (sym before i) t)))
-            (is_text ∙ ends)
-            ((λ i. Some (view (node i).value)) ∙ (e ∙ λ i. row_flow (length (sym is_text i)) (row_is s d c there q at) []));
-      })
+  head_for x own stands begins ends e = (
+    stem.stem,
+    stem.steps_are ∙ ap (λ (ss : List Step). stem.stem ++ ss) own,
+    record {
+      leads = record {
+        part = f.part;
+        there = f.there;
+        number = line_number d there.document.stand.rows q;
+        leads = λ ss. ap (λ (rs : List Row). head_at (stem.stem ++ ss) (lines_of rs)) (sym (found_in_cut t s c n d cut is f).1) ∙ stem.leads ss;
+      };
+      tells = λ y node text before.
+          let is_text : y.text.now ≡ x.text.now = λ i. (text i).now in
+          head_agrees_at t s c n d cut is f q at (stem.stem ++ map step_of y.left.now) (map step_of y.left.now) (stem.leads (map step_of y.left.now)) y refl
+          (stands ∙ λ i. take (sym before i) t ++ (sym is_text i ++ behind_row q.row c))
+          (before ∙ (begins ∙ λ i. length (take (sym before i) t)))
+          (is_text ∙ ends)
+          ((λ i. Some (view (node i).value)) ∙ (e ∙ λ i. row_flow (length (sym is_text i)) (row_is s d c there q at) []));
+    },
+  )
 
 pub agrees_for : (t : List ℕ) (c : Cut) (n : ℕ) (steps : List Step) (x : FlowHead) → IsHeadFor t c n steps x → FlowAgrees t (flow_collection n steps c) (Some x)
 agrees_for t c n steps x h = subst (λ (ss : List Step). FlowAgrees t (flow_collection n ss c) (Some x)) (sym h.1) (h.2.tells x refl refl refl)
