@@ -1,6 +1,6 @@
 //! Values that an update puts in the flow collections of one head: they are carried out together, and the
 //! head is read once.
-ghost use Rattle.std.specs.Prelude.{◌≡◌, ◌++◌, true, map, IfErr, IfOk, IfSome, string_bytes};
+ghost use Rattle.std.specs.Prelude.{◌≡◌, true, map, IfErr, IfOk, IfSome, string_bytes};
 ghost use Rattle.yq_inline.specs.Entries.{step_of};
 ghost use Rattle.yq_documents.specs.Located.{steps_of};
 ghost use Rattle.yq_documents.specs.Reading.{cut_of};
@@ -50,34 +50,26 @@ fn are_same_steps(some: &[Step], others: &[Step]) -> bool
     true
 }
 
-/// The steps of a path behind others with which it begins, if it does.
-fn steps_behind<'s>(steps: &'s [Step], stem: &[Step]) -> Option<&'s [Step]>
-    ensures { IfSome result (λ left. map step_of steps.now ≡
-        map step_of stem.now ++ map step_of left.now) }
-{
-    if steps.len() < stem.len() {
-        return None;
-    }
-    let (front, left) = steps.split_at(stem.len());
-    if are_same_steps(front, stem) {
-        Some(left)
-    } else {
-        None
-    }
-}
-
-/// The steps that go on in a head to the collection in which a path ends, if the path leads there as the
-/// first one does.
+/// The steps that go on in a head to the collection in which a path ends, if it leads there by the steps
+/// that lead to the head.
 fn steps_in_head<'s>(path: &'s Path, doc: usize, stem: &[Step]) -> Option<&'s [Step]>
     ensures { IfSome result (λ left. (path.now.doc ≡ doc) ×
         spec.EndsAt (map step_of stem.now) (map step_of left.now) (steps_of path.now)) }
 {
-    let (above, _) = last_step(&path.steps)?;
-    if path.doc == doc {
-        steps_behind(above, stem)
-    } else {
-        None
+    let Some((above, _)) = last_step(&path.steps) else {
+        return None;
+    };
+    if path.doc != doc {
+        return None;
     }
+    if above.len() < stem.len() {
+        return None;
+    }
+    let (front, left) = above.split_at(stem.len());
+    if !are_same_steps(front, stem) {
+        return None;
+    }
+    Some(left)
 }
 
 /// What it comes to that an operation puts a value in a collection of a head; nothing, where it does
