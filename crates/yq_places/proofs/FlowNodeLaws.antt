@@ -305,7 +305,7 @@ module _ (t : List ℕ) (s : RowsView) (c : Cut) (n : ℕ) (d : Stretch) (cut : 
         number = line_number d there.document.stand.rows q;
         leads = λ ss. ap (λ (rs : List Row). head_at (stem.stem ++ ss) (lines_of rs)) (sym (found_in_cut t s c n d cut is f).1) ∙ stem.leads ss;
       };
-      tells = λ y node text before.
+      reports = λ y node text before.
           let is_text : y.text.now ≡ x.text.now = λ i. (text i).now in
           head_agrees_at t s c n d cut is f q at (stem.stem ++ map step_of y.left.now) (map step_of y.left.now) (stem.leads (map step_of y.left.now)) y refl
           (stands ∙ λ i. take (sym before i) t ++ (sym is_text i ++ behind_row q.row c))
@@ -316,4 +316,4 @@ module _ (t : List ℕ) (s : RowsView) (c : Cut) (n : ℕ) (d : Stretch) (cut : 
   )
 
 pub agrees_for : (t : List ℕ) (c : Cut) (n : ℕ) (steps : List Step) (x : FlowHead) → IsHeadFor t c n steps x → FlowAgrees t (flow_collection n steps c) (Some x)
-agrees_for t c n steps x h = subst (λ (ss : List Step). FlowAgrees t (flow_collection n ss c) (Some x)) (sym h.1) (h.2.tells x refl refl refl)
+agrees_for t c n steps x h = subst (λ (ss : List Step). FlowAgrees t (flow_collection n ss c) (Some x)) (sym h.1) (h.2.reports x refl refl refl)

@@ -73,10 +73,10 @@ pub record LeadsToHead (c : Cut) (n : ℕ) (stem : List Step) : Type 0 where
 
 -- The code tells with a node all flow collections of the head to which steps lead in document n of a text with its cut: with other steps in the node it
 -- tells the one to which these lead (7.4; own).
-pub record TellsHead (t : List ℕ) (c : Cut) (n : ℕ) (stem : List Step) (x : FlowHead) : Type 0 where
+pub record ReportsHead (t : List ℕ) (c : Cut) (n : ℕ) (stem : List Step) (x : FlowHead) : Type 0 where
   pub leads : LeadsToHead c n stem
-  pub tells : (y : FlowHead) → y.node ≡ x.node → y.text ≡ x.text → y.before ≡ x.before → FlowAgrees t (flow_collection n (stem ++ map step_of y.left.now) c) (Some y)
+  pub reports : (y : FlowHead) → y.node ≡ x.node → y.text ≡ x.text → y.before ≡ x.before → FlowAgrees t (flow_collection n (stem ++ map step_of y.left.now) c) (Some y)
 
 -- the same of the head that was found for a path: the steps that the code tells go on in it (own)
 abbrev pub IsHeadFor : List ℕ → Cut → ℕ → List Step → FlowHead → Type 0
-IsHeadFor t c n steps x = (stem : List Step) × (steps ≡ stem ++ map step_of x.left.now) × TellsHead t c n stem x
+IsHeadFor t c n steps x = (stem : List Step) × (steps ≡ stem ++ map step_of x.left.now) × ReportsHead t c n stem x

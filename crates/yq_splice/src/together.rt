@@ -4,7 +4,7 @@ ghost use Rattle.std.specs.Prelude.{◌≡◌, true, map, IfErr, IfOk, IfSome, s
 ghost use Rattle.yq_inline.specs.Entries.{step_of};
 ghost use Rattle.yq_documents.specs.Located.{steps_of};
 ghost use Rattle.yq_documents.specs.Reading.{cut_of};
-ghost use Rattle.yq_places.specs.FlowViews.{TellsHead};
+ghost use Rattle.yq_places.specs.FlowViews.{ReportsHead};
 ghost use Rattle.yq_meaning.specs.Operations.{operation_of, operations_of};
 ghost use Rattle.yq_splice.specs.Answers.{EditFails};
 ghost use Rattle.yq_splice.specs.Carried.{carry_all, carried};
@@ -82,8 +82,8 @@ fn part_put<'s>(
     head: &mut FlowHead<'s, '_>,
     op: &'s Op,
 ) -> Result<Option<PartPut>, AllocError>
-    requires { TellsHead cut.now (cut_of cut.now) doc (map step_of stem.now) head.old }
-    ensures head { TellsHead cut.now (cut_of cut.now) doc (map step_of stem.now) head.new }
+    requires { ReportsHead cut.now (cut_of cut.now) doc (map step_of stem.now) head.old }
+    ensures head { ReportsHead cut.now (cut_of cut.now) doc (map step_of stem.now) head.new }
     ensures put { IfOk result (λ o. IfSome o (λ p. spec.PutsAt (operation_of op.now) cut.now doc
         (map step_of stem.now) head.new p)) }
 {
@@ -109,10 +109,10 @@ fn put_one<'s>(
     op: &'s Op,
     run: &mut Run,
 ) -> Result<bool, EditError>
-    requires head { TellsHead cut.now (cut_of cut.now) doc (map step_of stem.now) head.old }
+    requires head { ReportsHead cut.now (cut_of cut.now) doc (map step_of stem.now) head.old }
     requires run { spec.Runs (cut_of cut.now) doc (map step_of stem.now) run.old }
     requires fits { IsFitting (operation_of op.now) (spec.now_text (cut_of cut.now) run.old) }
-    ensures head { TellsHead cut.now (cut_of cut.now) doc (map step_of stem.now) head.new }
+    ensures head { ReportsHead cut.now (cut_of cut.now) doc (map step_of stem.now) head.new }
     ensures ok { IfOk result (λ b. b ≡ true → spec.RunsOn (operation_of op.now) (cut_of cut.now) doc
         (map step_of stem.now) run.old run.new) }
     ensures err { IfErr result (λ e. EditFails e (carried (operation_of op.now)
@@ -145,7 +145,7 @@ fn put_each<'s>(
     head: &mut FlowHead<'s, '_>,
     ops: &'s [Op],
 ) -> Result<Option<Edited>, EditError>
-    requires head { TellsHead cut.now (cut_of cut.now) doc (map step_of stem.now) head.old }
+    requires head { ReportsHead cut.now (cut_of cut.now) doc (map step_of stem.now) head.old }
     requires serves { AreServed (operations_of ops.now) cut.now }
     ensures ok { IfOk result (λ o. IfSome o (λ e. carry_all (operations_of ops.now) cut.now ≡
         gives (string_bytes e.text) e.splices.items)) }

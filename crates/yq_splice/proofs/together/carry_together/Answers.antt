@@ -4,7 +4,7 @@ use Rattle.std.specs.Prelude.{IfSome}
 use Rattle.yq_flow_scalars.specs.Paths.{Step}
 use Rattle.yq_inline.specs.Entries.{step_of}
 use Rattle.yq_documents.specs.Reading.{cut_of}
-use Rattle.yq_places.specs.FlowViews.{IsHeadFor, TellsHead}
+use Rattle.yq_places.specs.FlowViews.{IsHeadFor, ReportsHead}
 use Rattle.yq_places.specs.declared.places.flow_node.FlowHead.{FlowHead}
 use Rattle.yq_splice.proofs.RunAnswers.{stem_is}
 use Rattle.yq_splice.proofs.together.carry_together.Goals as goal
@@ -17,5 +17,5 @@ overflow_sub c =
 pub put_each-requires-clause-head : goal.put_each-requires-clause-head
 put_each-requires-clause-head c =
     let h = subst (λ (o : Option FlowHead). IfSome o (IsHeadFor c.args.cut.now (cut_of c.args.cut.now) c.in-Replace.first.doc (map step_of c.in-Some.above.now))) c.in-Some-found.is c.in_ok-found.ensures.whole in
-    subst (λ (ss : List Step). TellsHead c.args.cut.now (cut_of c.args.cut.now) c.in-Replace.first.doc ss c.in-Some-found.head)
+    subst (λ (ss : List Step). ReportsHead c.args.cut.now (cut_of c.args.cut.now) c.in-Replace.first.doc ss c.in-Some-found.head)
     (sym (ap (map step_of) c.split_at.ensures.front ∙ stem_is c.in-Some.above.now c.in-Some-found.head.left.now h.0 _ h.1 refl)) h.2

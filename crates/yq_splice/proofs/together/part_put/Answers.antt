@@ -13,7 +13,7 @@ pub put_at_part-requires : goal.put_at_part-requires
 put_at_part-requires c =
     let ends = c.in-Some.ensures in
     subst (λ (n : ℕ). IsHeadOf n (last_step (steps_of c.in-Replace.path)) c.args.cut.now c.head) (sym ends.0)
-    (subst (λ (o : Option (List Step × Step)). IsHeadOf c.args.doc o c.args.cut.now c.head) (sym ends.1.1) (c.requires.tells c.head refl refl refl))
+    (subst (λ (o : Option (List Step × Step)). IsHeadOf c.args.doc o c.args.cut.now c.head) (sym ends.1.1) (c.requires.reports c.head refl refl refl))
 
 pub returns-clause-put : goal.returns-clause-put
 returns-clause-put c =

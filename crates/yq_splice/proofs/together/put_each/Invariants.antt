@@ -1,7 +1,7 @@
 use Rattle.std.proofs.Common.{◌≡◌, length, map}
 use Rattle.yq_inline.specs.Entries.{step_of}
 use Rattle.yq_documents.specs.Reading.{cut_of}
-use Rattle.yq_places.specs.FlowViews.{TellsHead}
+use Rattle.yq_places.specs.FlowViews.{ReportsHead}
 use Rattle.yq_meaning.specs.Operations.{operations_of}
 use Rattle.yq_splice.specs.Carried.{carry_all}
 use Rattle.yq_splice.specs.Edit.{behind}
@@ -11,7 +11,7 @@ use Rattle.yq_splice.proofs.together.put_each.Given as goal
 
 abbrev pub invariant-operations : goal.invariant-operations
 invariant-operations l = record {
-  head : TellsHead l.fn.cut (cut_of l.fn.cut) l.fn.doc (map step_of l.fn.stem) l.head;
+  head : ReportsHead l.fn.cut (cut_of l.fn.cut) l.fn.doc (map step_of l.fn.stem) l.head;
   whole : behind l.run.splices.items (carry_all (operations_of l.rest) (now_text (cut_of l.fn.cut) l.run)) ≡ carry_all (operations_of l.fn.ops) l.fn.cut;
   serves : AreServed (operations_of l.rest) (now_text (cut_of l.fn.cut) l.run);
   runs : Runs (cut_of l.fn.cut) l.fn.doc (map step_of l.fn.stem) l.run;
