@@ -16,7 +16,6 @@ use Rattle.yq_rows.proofs.splices.SpliceTexts.{own_gap, own_end}
 use Rattle.yq_documents.specs.Documents.{HasFitKeys, lead_of}
 use Rattle.yq_documents.specs.Reading.{read_at, root_of}
 use Rattle.yq_places.specs.RowPaths.{IsReadable}
-use Rattle.yq_places.specs.FlowNodes.{flow_collection}
 use Rattle.yq_change.specs.Changed.{IsChanged, put_document}
 use Rattle.yq_change.specs.DocumentRows.{behind_document}
 use Rattle.yq_change.specs.FlowRows.{behind_node, coll_at, with_node, FlowAt}

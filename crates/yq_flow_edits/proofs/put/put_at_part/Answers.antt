@@ -13,7 +13,6 @@ use Rattle.yq_edits.specs.Replacing.{is_kept}
 use Rattle.yq_edits.specs.WrittenValues.{value_text}
 use Rattle.yq_flow_edits.specs.PartPuts.{IsHeadOf}
 use Rattle.yq_flow_edits.proofs.FlowAnswers.{coll_found}
-use Rattle.yq_flow_edits.proofs.FlowPutLaws.{head_behind, part_behind}
 use Rattle.yq_flow_edits.proofs.PutAnswers.{content_missing, no_collection, node_there, place_found, standing_there, text_found}
 use Rattle.yq_flow_edits.proofs.put.put_at_part.Goals as goal
 

@@ -1,4 +1,4 @@
-use Rattle.std.proofs.Common.{ℕ, List, Option, Some, map, refl, sym, ap, subst}
+use Rattle.std.proofs.Common.{ℕ, List, Option, map, refl, sym, ap, subst}
 use Rattle.yq_flow_scalars.specs.Paths.{Step}
 use Rattle.yq_inline.specs.Entries.{step_of}
 use Rattle.yq_inline.specs.Values.{node_of}
