@@ -13,7 +13,7 @@ use Rattle.yq_inline.specs.declared.path.Step as declared
 use Rattle.yq_flow.specs.FlowPlaces.{edit_view}
 use Rattle.yq_rows.specs.Rows.{Cut, cut_text}
 use Rattle.yq_documents.specs.Reading.{cut_of, read_at}
-use Rattle.yq_places.specs.FlowViews.{LeadsToHead}
+use Rattle.yq_places.specs.FlowViews.{LeadsToHead, ReportsHead}
 use Rattle.yq_places.specs.NodesAt.{node_in}
 use Rattle.yq_places.specs.Standings.{last_step}
 use Rattle.yq_places.specs.declared.places.flow_node.FlowHead.{FlowHead}
@@ -23,7 +23,7 @@ use Rattle.yq_script.specs.Splice.{Splice}
 use Rattle.yq_edits.specs.Operands.{HasOperand}
 use Rattle.yq_edits.specs.Replacing.{is_kept}
 use Rattle.yq_flow_edits.specs.EditPlaces.{LiesIn, moved_on}
-use Rattle.yq_flow_edits.specs.PartPuts.{ArePuts, IsWritten, put_edit}
+use Rattle.yq_flow_edits.specs.PartPuts.{IsHeadOf, ArePuts, IsWritten, put_edit}
 use Rattle.yq_flow_edits.specs.declared.put.PartPut.{PartPut}
 use Rattle.yq_flow_edits.proofs.CutLaws.{text_read}
 use Rattle.yq_flow_edits.proofs.FlowAnswers.{whole_text}
@@ -69,6 +69,11 @@ pub stem_is : (above left : List declared.Step) (stem : List Step) (n : ℕ) →
 stem_is above left stem n same size =
     let long : length stem ≡ n = omega (arith, size, ap length same, length-append stem (map step_of left), length-map above step_of, length-map left step_of) in
     sym (take-map step_of n above) ∙ ((λ i. take (sym long i) (same i)) ∙ take-append_seam stem (map step_of left))
+
+-- the head is that of the collection there, once it has the steps that go on to it
+pub head_there : (t : List ℕ) (m n : ℕ) (stem path : List Step) (x y : FlowHead) → ReportsHead t (cut_of t) n stem x → (m ≡ n) × EndsAt stem (map step_of y.left.now) path → y.node ≡ x.node → y.text ≡ x.text → y.before ≡ x.before → IsHeadOf m (last_step path) t y
+head_there t m n stem path x y head ends node text before =
+    subst (λ (k : ℕ). IsHeadOf k (last_step path) t y) (sym ends.0) (subst (λ (o : Option (List Step × Step)). IsHeadOf n o t y) (sym ends.1.1) (head.reports y node text before))
 
 -- a value is put at a part in that collection
 pub puts_at : {E : Type 0} (t : List ℕ) (m n : ℕ) (stem : List Step) (op : Operation) (path : List Step) (v : Node) (x : FlowHead) →

@@ -9,8 +9,8 @@ use Rattle.yq_places.specs.declared.places.flow_node.FlowHead.{FlowHead}
 use Rattle.yq_splice.proofs.RunAnswers.{stem_is}
 use Rattle.yq_splice.proofs.together.carry_together.Goals as goal
 
-pub overflow_sub : goal.overflow_sub
-overflow_sub c =
+pub overflow_sub-above : goal.overflow_sub-above
+overflow_sub-above c =
     let h = subst (λ (o : Option FlowHead). IfSome o (IsHeadFor c.args.cut.now (cut_of c.args.cut.now) c.in-Replace.first.doc (map step_of c.in-Some.above.now))) c.in-Some-found.is c.in_ok-found.ensures.whole in
     omega (arith, ap length h.1, length-append h.0 (map step_of c.in-Some-found.head.left.now), length-map c.in-Some.above.now step_of, length-map c.in-Some-found.head.left.now step_of)
 

@@ -1,21 +1,16 @@
-use Rattle.std.proofs.Common.{ℕ, List, Option, map, refl, sym, ap, subst}
-use Rattle.yq_flow_scalars.specs.Paths.{Step}
+use Rattle.std.proofs.Common.{map, refl, ap}
 use Rattle.yq_inline.specs.Entries.{step_of}
 use Rattle.yq_inline.specs.Values.{node_of}
 use Rattle.yq_documents.specs.Located.{steps_of}
-use Rattle.yq_places.specs.Standings.{last_step}
 use Rattle.yq_meaning.specs.Operations.{operation_of}
-use Rattle.yq_flow_edits.specs.PartPuts.{IsHeadOf}
-use Rattle.yq_splice.proofs.RunAnswers.{puts_at}
+use Rattle.yq_splice.proofs.RunAnswers.{head_there, puts_at}
 use Rattle.yq_splice.proofs.together.part_put.Goals as goal
 
 pub put_at_part-requires : goal.put_at_part-requires
 put_at_part-requires c =
-    let ends = c.in-Some.ensures in
-    subst (λ (n : ℕ). IsHeadOf n (last_step (steps_of c.in-Replace.path)) c.args.cut.now c.head) (sym ends.0)
-    (subst (λ (o : Option (List Step × Step)). IsHeadOf c.args.doc o c.args.cut.now c.head) (sym ends.1.1) (c.requires.reports c.head refl refl refl))
+    head_there c.args.cut.now c.in-Replace.path.doc c.args.doc (map step_of c.args.stem.now) (steps_of c.in-Replace.path) c.args.head.now _ c.requires c.in-Some.ensures refl refl refl
 
 pub returns-clause-put : goal.returns-clause-put
 returns-clause-put c =
-    puts_at c.args.cut.now c.in-Replace.path.doc c.args.doc (map step_of c.args.stem.now) (operation_of c.args.op.now) (steps_of c.in-Replace.path) (node_of c.in-Replace.value) c.head
+    puts_at c.args.cut.now c.in-Replace.path.doc c.args.doc (map step_of c.args.stem.now) (operation_of c.args.op.now) (steps_of c.in-Replace.path) (node_of c.in-Replace.value) _
     (ap operation_of c.in-Replace.is) c.operand_holds.ensures (c.in-Some.ensures.0, (map step_of c.in-Some.left.now, c.in-Some.ensures.1)) c.put_at_part.result c.put_at_part.ensures
