@@ -18,14 +18,14 @@ use Rattle.yq_flow_edits.proofs.append.append_in_flow.Goals as goal
 pub returns-then-not-takes : goal.returns-then-not-takes
 returns-then-not-takes c =
     let q = view c.in-Some-collection_in.node.now in
-    let agrees = subst (λ ss. FlowAgrees c.args.cut.now (flow_collection c.args.path.now.doc (map step_of ss) (cut_of c.args.cut.now)) c.in_ok-found.found) c.deref.ensures.value c.in_ok-found.ensures in
+    let agrees = subst (λ ss. FlowAgrees c.args.cut.now (flow_collection c.args.path.now.doc (map step_of ss) (cut_of c.args.cut.now)) c.in_ok-found.found) c.deref.ensures.value c.in_ok-found.ensures.found in
     let f = coll_found c.args.cut.now c.args.path.now.doc (steps_of c.args.path.now) _ c.in-Some.head q c.text-text.ensures.read agrees c.in-Some.is c.in-Some-collection_in.ensures in
     more_apart _ _ _ (borrowed c.args.key) (node_of c.args.value.now) c.in-Some.head q f (sym c.takes.ensures ∙ c.if-not-takes.true)
 
 pub edit_at-requires : goal.edit_at-requires
 edit_at-requires c =
     let q = view c.in-Some-collection_in.node.now in
-    let agrees = subst (λ ss. FlowAgrees c.args.cut.now (flow_collection c.args.path.now.doc (map step_of ss) (cut_of c.args.cut.now)) c.in_ok-found.found) c.deref.ensures.value c.in_ok-found.ensures in
+    let agrees = subst (λ ss. FlowAgrees c.args.cut.now (flow_collection c.args.path.now.doc (map step_of ss) (cut_of c.args.cut.now)) c.in_ok-found.found) c.deref.ensures.value c.in_ok-found.ensures.found in
     let f = coll_found c.args.cut.now c.args.path.now.doc (steps_of c.args.path.now) _ c.in-Some.head q c.text-text.ensures.read agrees c.in-Some.is c.in-Some-collection_in.ensures in
     let all = whole_text c.args.cut.now (whole c.text-text.result) c.text-text.ensures.read c.text-text.ensures.text in
     let w = more_found _ _ _ (borrowed c.args.key) (node_of c.args.value.now) c.in-Some.head q f (whole c.text-text.result) (edit_view c.in-Some-append_place.place) all (sym c.takes.ensures ∙ c.if-not-takes.false) c.in-Some-append_place.ensures in
@@ -34,7 +34,7 @@ edit_at-requires c =
 pub returns : goal.returns
 returns c =
     let q = view c.in-Some-collection_in.node.now in
-    let agrees = subst (λ ss. FlowAgrees c.args.cut.now (flow_collection c.args.path.now.doc (map step_of ss) (cut_of c.args.cut.now)) c.in_ok-found.found) c.deref.ensures.value c.in_ok-found.ensures in
+    let agrees = subst (λ ss. FlowAgrees c.args.cut.now (flow_collection c.args.path.now.doc (map step_of ss) (cut_of c.args.cut.now)) c.in_ok-found.found) c.deref.ensures.value c.in_ok-found.ensures.found in
     let f = coll_found c.args.cut.now c.args.path.now.doc (steps_of c.args.path.now) _ c.in-Some.head q c.text-text.ensures.read agrees c.in-Some.is c.in-Some-collection_in.ensures in
     let all = whole_text c.args.cut.now (whole c.text-text.result) c.text-text.ensures.read c.text-text.ensures.text in
     let w = more_found _ _ _ (borrowed c.args.key) (node_of c.args.value.now) c.in-Some.head q f (whole c.text-text.result) (edit_view c.in-Some-append_place.place) all (sym c.takes.ensures ∙ c.if-not-takes.false) c.in-Some-append_place.ensures in

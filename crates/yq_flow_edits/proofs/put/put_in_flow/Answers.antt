@@ -18,7 +18,7 @@ use Rattle.yq_flow_edits.proofs.put.put_in_flow.Goals as goal
 pub put_at_part-requires : goal.put_at_part-requires
 put_at_part-requires c =
     let last = c.in-Some.ensures ∙ ap (λ ss. last_step (map step_of ss)) c.deref.ensures.value in
-    let agrees = subst (FlowAgrees c.args.cut.now (flow_collection c.args.path.now.doc (map step_of c.in-Some.above.now) (cut_of c.args.cut.now))) c.in-Some-found.is c.in_ok-found.ensures in
+    let agrees = subst (FlowAgrees c.args.cut.now (flow_collection c.args.path.now.doc (map step_of c.in-Some.above.now) (cut_of c.args.cut.now))) c.in-Some-found.is c.in_ok-found.ensures.found in
     subst (λ o. IsHeadOf c.args.path.now.doc o c.args.cut.now c.in-Some-found.head) last agrees
 
 pub returns-in_default-put : goal.returns-in_default-put
