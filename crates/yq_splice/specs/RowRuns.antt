@@ -62,6 +62,10 @@ pub record IsRowsRun (c : Cut) (o : Option (ℕ × ℕ)) (r : Run) : Type 0 wher
 abbrev pub rows_still : {m : ℕ} {steps : List Step} {d : Cut} → (e : RowsOfEntry) → StandsStill e m steps d → RowsOfEntry
 rows_still e s = record e { start = s.start; front = s.front }
 
+-- where what an operation makes fits, it changes one row (own)
+abbrev pub ChangesIfFit : Operation → Cut → RowsOfEntry → List Segment → Type 0
+ChangesIfFit op d e ss = HasOperand op → Fits (room_of (cut_text d)) op (documents d) → length (new_text ss) ≤ text_limit → ChangesRow (document_of op) d e ss
+
 -- An operation puts one text in the place of another, and changes one row (own).
 pub record PutsText (op : Operation) (d : Cut) (e : RowsOfEntry) (old new behind : List ℕ) : Type 0 where
   pub segments : List Segment
@@ -69,7 +73,7 @@ pub record PutsText (op : Operation) (d : Cut) (e : RowsOfEntry) (old new behind
   pub edited : edits op d ≡ Some segments
   pub whole : old_text segments ≡ cut_text d
   pub puts : PutsOne segments front old new behind
-  pub changes : HasOperand op → Fits (room_of (cut_text d)) op (documents d) → length (new_text segments) ≤ text_limit → ChangesRow (document_of op) d e segments
+  pub changes : ChangesIfFit op d e segments
 
 -- an operation puts this text, or leaves all bytes alone, if there is none (own)
 abbrev pub PutsSo : Operation → Cut → RowsOfEntry → (old behind : List ℕ) → Option (List ℕ) → Type 0
@@ -90,6 +94,11 @@ IsWrittenSo old v head (Some w) = (is_kept old v ≡ false) × (w ≡ value_text
 abbrev pub line_to_comment : Held → List ℕ
 line_to_comment h = h.before ++ (h.space ++ (h.head ++ (h.white ++ h.comment)))
 
+-- an operation puts a text, or leaves all bytes alone, wherever the item or entry stands still (own)
+abbrev pub PutsWhereStill : Operation → RowsOfEntry → List Step → (old behind : List ℕ) → Option (List ℕ) → Type 0
+PutsWhereStill op e steps old behind new =
+    (d : Cut) → read_at (cut_text d) ≡ Some d → (s : StandsStill e (document_of op) steps d) → PutsSo op d (rows_still e s) old behind new
+
 -- An operation puts a text in a row, or leaves it alone, wherever the item or entry stands still (own).
 pub record PutsInRow (op : Operation) (c : Cut) (x : RowPut) : Type 0 where
   pub steps : List Step
@@ -106,7 +115,7 @@ pub record PutsInRow (op : Operation) (c : Cut) (x : RowPut) : Type 0 where
   pub finish : x.end ≡ length before + length old
   pub starts : IsCharBoundary (cut_text c) x.start
   pub ends : IsCharBoundary (cut_text c) x.end
-  pub there : (d : Cut) → read_at (cut_text d) ≡ Some d → (s : StandsStill entry (document_of op) steps d) → PutsSo op d (rows_still entry s) old behind (bytes_in string_bytes x.written)
+  pub there : PutsWhereStill op entry steps old behind (bytes_in string_bytes x.written)
 
 -- An operation is carried out on the text of a run, which goes on behind it, and behind the row that was changed last then (own).
 pub record RowsGoOn (op : Operation) (c : Cut) (before : Run) (last : Option (ℕ × ℕ)) (after : Run) : Type 0 where

@@ -9,7 +9,7 @@ use Rattle.yq_splice.specs.Runs.{now_text}
 use Rattle.yq_splice.specs.Valid.{AreServed}
 use Rattle.yq_splice.proofs.OperationsLaws.{others_come, others_served}
 use Rattle.yq_splice.proofs.OrderLaws.{behind_none}
-use Rattle.yq_splice.proofs.RowRunLaws.{rows_begin}
+use Rattle.yq_splice.proofs.RowRunAnswers.{rows_begin}
 use Rattle.yq_splice.proofs.RunAnswers.{begins_with}
 use Rattle.yq_splice.proofs.in_rows.carry_in_rows.Goals as goal
 

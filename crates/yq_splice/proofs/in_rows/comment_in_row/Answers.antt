@@ -1,6 +1,6 @@
 use Rattle.std.proofs.Common.{Some, refl, ap}
 use Rattle.yq_documents.specs.Located.{steps_of}
-use Rattle.yq_splice.proofs.RowPutLaws.{comment_fits, comment_puts_there}
+use Rattle.yq_splice.proofs.RowCommentLaws.{comment_fits, comment_puts_there}
 use Rattle.yq_splice.proofs.in_rows.comment_in_row.Goals as goal
 
 pub comment_place-start-requires : goal.comment_place-start-requires

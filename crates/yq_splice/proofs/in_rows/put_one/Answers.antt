@@ -7,7 +7,7 @@ use Rattle.yq_meaning.specs.Operations.{operation_of}
 use Rattle.yq_splice.specs.RowRuns.{PutsInRow}
 use Rattle.yq_splice.specs.Runs.{HasPut, PutFails}
 use Rattle.yq_splice.specs.declared.in_rows.RowPut.{RowPut}
-use Rattle.yq_splice.proofs.RowRunLaws.{row_edge, row_ends, row_kept_on, row_put_fails, row_put_on, row_starts}
+use Rattle.yq_splice.proofs.RowRunAnswers.{row_edge, row_ends, row_kept_on, row_put_fails, row_put_on, row_starts}
 use Rattle.yq_splice.proofs.in_rows.put_one.Goals as goal
 
 pub returns-in_default-written-clause-ok : goal.returns-in_default-written-clause-ok
