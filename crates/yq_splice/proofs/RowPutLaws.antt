@@ -1,10 +1,8 @@
 -- Values that operations put in rows, wherever their items and entries stand still.
 use Rattle.std.proofs.Common.{◌≡◌, ℕ, ◌+◌, ◌≤◌, Bool, true, false, cond, is_some, List, [], ◌∷◌, ◌++◌, length, Option, Some, None, option_map, refl, sym, ap, ◌∙◌, subst, arith, append_assoc, string_bytes, length-append}
 use Rattle.std.proofs.lemmas.Bool.{false≢true}
-use Rattle.std.proofs.lemmas.Option.{none-some}
 use Rattle.std.proofs.lemmas.Str.{IsCharBoundary-at_seam}
 use Rattle.std.specs.Str.{IsCharBoundary}
-use Rattle.yq_flow_scalars.specs.Answers.{◌>>=◌}
 use Rattle.yq_flow_scalars.specs.Characters.{text_limit}
 use Rattle.yq_flow_scalars.specs.Paths.{Step}
 use Rattle.yq_flow_scalars.specs.Text.{is_empty}
@@ -14,15 +12,14 @@ use Rattle.yq_lines.specs.Outline.{anchored}
 use Rattle.yq_rows.specs.Rows.{Cut, cut_text, parent_indent, rows_text}
 use Rattle.yq_rows.specs.View.{slices}
 use Rattle.yq_walk.specs.Lines.{content_anchor, head_of}
-use Rattle.yq_documents.specs.LinesInRows.{row_line_of}
 use Rattle.yq_documents.specs.Reading.{cut_of, read_at}
 use Rattle.yq_places.specs.CommentPlaces.{end_before}
-use Rattle.yq_places.specs.StandingViews.{IsHeldRow, held_view}
+use Rattle.yq_places.specs.StandingViews.{IsHeldRow}
 use Rattle.yq_places.specs.declared.places.held_row.HeldRow.{HeldRow}
 use Rattle.yq_places.specs.NodesAt.{node_in}
-use Rattle.yq_places.specs.PlacedRows.{PlacedPart, placed_document}
 use Rattle.yq_places.specs.PrintedLines.{less_break}
-use Rattle.yq_places.specs.Standings.{Held, RowsOfEntry, behind_entry, entry_rows_at, held, rows_of_entry}
+use Rattle.yq_places.specs.Standings.{Held, RowsOfEntry, behind_entry, held, rows_of_entry}
+use Rattle.yq_places.proofs.HeldRowLaws.{no_root_rows}
 use Rattle.yq_change.specs.RowStays.{StandsStill}
 use Rattle.yq_change.specs.StandingLaws.{HoldsPieces, StandsThere}
 use Rattle.yq_change.specs.TextPieces.{IsPiece}
@@ -51,14 +48,6 @@ use Rattle.yq_splice.proofs.EditsHold.{edit_is}
 is_there : (o : Option Node) → is_some o ≡ true → (x : Node) × (o ≡ Some x)
 is_there None e = absurd (false≢true e)
 is_there (Some x) e = (x, refl)
-
--- the root has no rows of an item or entry
-pub no_root_rows : (n : ℕ) (c : Cut) (e : RowsOfEntry) → rows_of_entry n [] c ≡ Some e → ⊥
-no_root_rows n c e is = go (placed_document n c) is
-  where
-    go : (o : Option PlacedPart) → (o >>= λ d. option_map (entry_rows_at d) (row_line_of [] d.part.rows)) ≡ Some e → ⊥
-    go None h = none-some _ h
-    go (Some d) h = none-some _ h
 
 module _ (m : ℕ) (s : Step) (ss : List Step) (d : Cut) (e : RowsOfEntry) (read : read_at (cut_text d) ≡ Some d) (at : rows_of_entry m (s ∷ ss) d ≡ Some e) (h : HoldsInline e) where
   there : StandsThere m s ss d e
@@ -143,8 +132,7 @@ module _ (m : ℕ) (s : Step) (ss : List Step) (v : Node) (c : Cut) (e : RowsOfE
       subst (IsCharBoundary (cut_text c)) (length-append (w.before ++ w.space) w.head) (IsCharBoundary-at_seam (cut_text c) ((w.before ++ w.space) ++ w.head) _ apart left.utf8)
 
 -- the text of a value that is put in a row, up to its end, is no longer than a text may be
-pub value_fits : (t : List ℕ) (n : ℕ) (steps : List Step) (v : Node) (x : HeldRow) → read_at t ≡ Some (cut_of t) → IsHeldRow n steps (cut_of t) x → x.inline ≡ true → is_filled v ≡ false →
-    length (held_view x.held).before + length (held_view x.held).space + length (held_view x.held).head ≤ text_limit
+pub value_fits : (t : List ℕ) (n : ℕ) (steps : List Step) (v : Node) (x : HeldRow) → read_at t ≡ Some (cut_of t) → IsHeldRow n steps (cut_of t) x → x.inline ≡ true → is_filled v ≡ false → x.start + length x.head.now ≤ text_limit
 value_fits t n [] v x read is inline plain = absurd (no_root_rows n (cut_of t) is.entry is.found)
 value_fits t n (s ∷ ss) v x read is inline plain =
     let c : Cut = cut_of t in
@@ -153,21 +141,20 @@ value_fits t n (s ∷ ss) v x read is inline plain =
     let w : Held = held is.entry in
     let text = ap length (value_text_is n s ss v c is.entry again is.found h plain) in
     let size = (cut_read (cut_text c) c again).size in
-    let sizes : length (held_view x.held).before + length (held_view x.held).space + length (held_view x.held).head ≡ length w.before + length w.space + length w.head = ap (λ (y : Held). length y.before + length y.space + length y.head) is.held_is in
-    omega (arith, size, text, sizes, length-append (w.before ++ w.space) (w.head ++ (w.white ++ (w.comment ++ (w.last ++ w.behind)))), length-append w.before w.space, length-append w.head (w.white ++ (w.comment ++ (w.last ++ w.behind))))
+    omega (arith, size, text, is.start, ap length is.head, length-append (w.before ++ w.space) (w.head ++ (w.white ++ (w.comment ++ (w.last ++ w.behind)))), length-append w.before w.space, length-append w.head (w.white ++ (w.comment ++ (w.last ++ w.behind))))
 
 -- what the code tells of a value that is put in a row
 pub value_puts : (t : List ℕ) (n : ℕ) (steps : List Step) (v : Node) (x : HeldRow) (put : RowPut) → read_at t ≡ Some (cut_of t) → IsHeldRow n steps (cut_of t) x → x.inline ≡ true → is_filled v ≡ false → HasOperand (replace n steps v) →
-    put.doc ≡ n → put.row ≡ x.row → put.start ≡ length (held_view x.held).before + length (held_view x.held).space → put.end ≡ put.start + length (held_view x.held).head →
-    IsWrittenSo (node_in n steps (cut_of t)) v (held_view x.held).head (bytes_in string_bytes put.written) → PutsInRow (replace n steps v) (cut_of t) put
+    put.doc ≡ n → put.row ≡ x.row → put.start ≡ x.start → put.end ≡ x.start + length x.head.now → IsWrittenSo (node_in n steps (cut_of t)) v x.head.now (bytes_in string_bytes put.written) → PutsInRow (replace n steps v) (cut_of t) put
 value_puts t n [] v x put read is inline plain operand doc row start finish written = absurd (no_root_rows n (cut_of t) is.entry is.found)
 value_puts t n (s ∷ ss) v x put read is inline plain operand doc row start finish written =
     let c : Cut = cut_of t in
     let again : read_at (cut_text c) ≡ Some c = ap read_at (text_read t c read) ∙ read in
     let e : RowsOfEntry = is.entry in
     let h : HoldsInline e = record { last = is.last; block = (is.inline inline).0; some = (is.inline inline).1 } in
-    let place : put.start ≡ length ((held e).before ++ (held e).space) = start ∙ (ap (λ (y : Held). length y.before + length y.space) is.held_is ∙ sym (length-append (held e).before (held e).space)) in
-    let stop : put.end ≡ length ((held e).before ++ (held e).space) + length (held e).head = finish ∙ λ i. place i + length (is.held_is i).head in
+    let there : x.start ≡ length ((held e).before ++ (held e).space) = is.start ∙ sym (length-append (held e).before (held e).space) in
+    let place : put.start ≡ length ((held e).before ++ (held e).space) = start ∙ there in
+    let stop : put.end ≡ length ((held e).before ++ (held e).space) + length (held e).head = finish ∙ λ i. there i + length (is.head i) in
     record {
       steps = s ∷ ss;
       entry = e;
@@ -183,7 +170,7 @@ value_puts t n (s ∷ ss) v x put read is inline plain operand doc row start fin
       finish = stop;
       starts = subst (IsCharBoundary (cut_text c)) (sym place) (value_starts n s ss v c e again is.found h plain);
       ends = subst (IsCharBoundary (cut_text c)) (sym stop) (value_ends n s ss v c e again is.found h plain);
-      there = λ d there still. there_so d there still again h (bytes_in string_bytes put.written) (subst (λ (y : Held). IsWrittenSo (node_in n (s ∷ ss) c) v y.head (bytes_in string_bytes put.written)) is.held_is written);
+      there = λ d there still. there_so d there still again h (bytes_in string_bytes put.written) (subst (λ (y : List ℕ). IsWrittenSo (node_in n (s ∷ ss) c) v y (bytes_in string_bytes put.written)) is.head written);
     }
   where
     there_so : (d : Cut) → read_at (cut_text d) ≡ Some d → (still : StandsStill is.entry n (s ∷ ss) d) → read_at (cut_text (cut_of t)) ≡ Some (cut_of t) → (h : HoldsInline is.entry) (w : Option (List ℕ)) → IsWrittenSo (node_in n (s ∷ ss) (cut_of t)) v (held is.entry).head w →

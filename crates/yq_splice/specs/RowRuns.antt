@@ -1,14 +1,15 @@
 -- Operations that change one row each, one behind the other, on the rows as they were read (YAML 1.2.2, 8; own).
-use Rattle.std.specs.Prelude.{◌≡◌, ⊤, ◌⊎◌, ℕ, ◌+◌, ◌<◌, ◌≤◌, List, [], ◌∷◌, ◌++◌, length, Option, Some, None, true, false, string_bytes}
+use Rattle.std.specs.Prelude.{◌≡◌, ⊤, ◌⊎◌, ◌&&◌, not, if◌then◌else◌, ℕ, ◌+◌, ◌<◌, ◌≤◌, List, [], ◌∷◌, ◌++◌, length, Option, Some, None, true, false, string_bytes}
 use Rattle.std.specs.Str.{IsCharBoundary}
 use Rattle.yq_flow_scalars.specs.Characters.{text_limit}
 use Rattle.yq_flow_scalars.specs.Paths.{Step}
+use Rattle.yq_flow_scalars.specs.Text.{is_empty}
 use Rattle.yq_flow_scalars.specs.Tree.{Node}
 use Rattle.yq_flow_scalars.specs.declared.style.Place.TheVariants.{Block as InBlock}
 use Rattle.yq_rows.specs.Rows.{Cut, cut_text}
 use Rattle.yq_documents.specs.LinesInRows.{document_row}
 use Rattle.yq_documents.specs.Reading.{documents, read_at}
-use Rattle.yq_places.specs.Standings.{Held, RowsOfEntry, rows_of_entry}
+use Rattle.yq_places.specs.Standings.{RowsOfEntry, rows_of_entry}
 use Rattle.yq_change.specs.RowStays.{IsBehind, StandsStill}
 use Rattle.yq_meaning.specs.After.{document_of}
 use Rattle.yq_meaning.specs.Fits.{Fits}
@@ -90,9 +91,9 @@ abbrev pub IsWrittenSo : Option Node → Node → List ℕ → Option (List ℕ)
 IsWrittenSo old v head None = is_kept old v ≡ true
 IsWrittenSo old v head (Some w) = (is_kept old v ≡ false) × (w ≡ value_text InBlock head v)
 
--- the text up to the end of a line comment (own)
-abbrev pub line_to_comment : Held → List ℕ
-line_to_comment h = h.before ++ (h.space ++ (h.head ++ (h.white ++ h.comment)))
+-- the white space that stays before a line comment, in the place of one that is there or of none (own)
+abbrev pub white_left : (text white comment : List ℕ) → List ℕ
+white_left text white comment = if is_empty text && not (is_empty comment) then [] else white
 
 -- an operation puts a text, or leaves all bytes alone, wherever the item or entry stands still (own)
 abbrev pub PutsWhereStill : Operation → RowsOfEntry → List Step → (old behind : List ℕ) → Option (List ℕ) → Type 0
