@@ -1,5 +1,5 @@
 -- Whether a value is the scalar in the row of a key or dash.
-use Rattle.std.proofs.Common.{◌≡◌, ℕ, ℤ, Bool, true, false, cond, not, ◌&&◌, ◌||◌, eqb, List, [], ◌∷◌, Option, Some, None, refl, sym, ap, ◌∙◌}
+use Rattle.std.proofs.Common.{◌≡◌, ℕ, ℤ, Bool, true, false, cond, not, ◌&&◌, ◌||◌, eqb, List, [], ◌∷◌, ◌++◌, Option, Some, None, refl, sym, ap, ◌∙◌}
 use Rattle.std.proofs.lemmas.Bool.{and_parts, false≢true}
 use Rattle.std.proofs.lemmas.Option.{none-some, same_Some}
 use Rattle.std.specs.Str.{bytes_eq}
@@ -28,6 +28,7 @@ use Rattle.yq_places.specs.NodesAt.{node_in, scalar_in}
 use Rattle.yq_places.specs.StandingViews.{IsHeldRow}
 use Rattle.yq_places.specs.Standings.{RowsOfEntry, behind_entry}
 use Rattle.yq_places.specs.declared.places.held_row.HeldRow.{HeldRow}
+use Rattle.yq_places.proofs.ExactReading.{exact_reading}
 use Rattle.yq_places.proofs.HeadEnds.{node_begins}
 use Rattle.yq_places.proofs.HeldRowLaws.{no_root_rows, not_so}
 use Rattle.yq_change.specs.StandingLaws.{StandsThere}
@@ -93,6 +94,10 @@ plain_there n x rest h plain some short =
     let p : List ℕ = (content_cut x).3 in
     let whole : List ℕ = head_text x rest in
     fitted (content_is_fit x) (head_of x) (scalar_node (plain_of p)) (sym (head_is whole n x rest ([], refl) h) ∙ by_plain whole n p whole some (no_mark n x rest h plain some) (no_quotes p short) short)
+
+-- the text of a cut reads as that
+read_again : (t : List ℕ) → read_at t ≡ Some (cut_of t) → read_at (cut_text (cut_of t)) ≡ Some (cut_of t)
+read_again t read = let r = (exact_reading t (cut_of t)).0 read in ap read_at (sym (r.0.cut.text ∙ ap cut_text r.1)) ∙ read
 
 -- whether a value is the scalar that is there
 pub kept_in_row : (t : List ℕ) (n : ℕ) (steps : List Step) (v : Node) (x : HeldRow) → read_at t ≡ Some (cut_of t) → IsHeldRow n steps (cut_of t) x → x.inline ≡ true → is_short_plain x.head.now ≡ true → are_same (Some (plain_of x.head.now)) (scalar_in v) ≡ is_kept (node_in n steps (cut_of t)) v

@@ -8,6 +8,7 @@ ghost use Rattle.yq_documents.specs.Reading.{cut_of};
 ghost use Rattle.yq_documents.specs.RowReading as reading;
 ghost use Rattle.yq_places.specs.StandingViews.{IsHeldRow};
 ghost use Rattle.yq_edits.specs.Replacing as spec;
+ghost use Rattle.yq_edits.specs.Style as style;
 
 use crate::style::is_same;
 use std::alloc::{AllocError, Global};
@@ -77,6 +78,19 @@ fn may_spell(text: &str, scalar: &Scalar) -> bool
     scalar.kind() == Kind::Null || text == scalar.text()
 }
 
+/// Whether a plain text on one line stands for a scalar.
+fn spells(text: &str, scalar: &Scalar) -> bool
+    ensures { result ≡ style.is_same (plain_of text.now) scalar.now }
+{
+    if !may_spell(text, scalar) {
+        return false;
+    }
+    match resolve(text) {
+        Kind::Null => is_same(Kind::Null, "null", scalar),
+        kind => is_same(kind, text, scalar),
+    }
+}
+
 /// Whether a value is the scalar for which a plain text on one line stands.
 fn is_plain(text: &str, value: &Value) -> bool
     ensures { result ≡ spec.are_same (Some (plain_of text.now))
@@ -85,13 +99,7 @@ fn is_plain(text: &str, value: &Value) -> bool
     let Value::Scalar(scalar) = value else {
         return false;
     };
-    if !may_spell(text, scalar) {
-        return false;
-    }
-    match resolve(text) {
-        Kind::Null => is_same(Kind::Null, "null", scalar),
-        kind => is_same(kind, text, scalar),
-    }
+    spells(text, scalar)
 }
 
 /// Whether a value is a scalar equal to the node at a path, which is inline, in the row of a key or dash.
