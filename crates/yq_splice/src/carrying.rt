@@ -26,7 +26,7 @@ use yq_tree::{Documents, read};
 use yq_walk::KnownItems;
 
 /// The same text, where what stands on the way of an operation is known.
-fn on_the_way<'d, 't>(cut: &CutText<'d, 't>, op: &'d Op) -> CutText<'d, 't>
+pub(crate) fn on_the_way<'d, 't>(cut: &CutText<'d, 't>, op: &'d Op) -> CutText<'d, 't>
     ensures { result ≡ cut.now }
 {
     match op {
@@ -158,7 +158,7 @@ fn carry_by_rows(
     ensures { Edits result (behind splices.items (spec.carry_all (operations_of ops.now)
         text.now)) }
 {
-    let in_rows = carry_in_rows(alloc, documents.cut(), ops)?;
+    let in_rows = carry_in_rows(alloc, &documents.cut(), ops)?;
     if let Some(edited) = in_rows {
         return Ok(edited_behind(splices, edited)?);
     }

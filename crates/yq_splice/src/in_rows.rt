@@ -17,6 +17,7 @@ ghost use Rattle.yq_splice.specs.Runs.{now_text};
 ghost use Rattle.yq_splice.specs.Theorems.{IsFitting};
 ghost use Rattle.yq_splice.specs.Valid.{AreServed};
 
+use crate::carrying::on_the_way;
 use crate::edit_error::EditError;
 use crate::operands::operand_holds;
 use crate::run::Run;
@@ -214,15 +215,15 @@ fn may_change_row(op: &Op) -> bool {
 
 /// Carries out operations together that change one row each, one behind the other; nothing, where one of
 /// them does more, or stands in front of one before it.
-pub(crate) fn carry_in_rows(
+pub(crate) fn carry_in_rows<'d>(
     alloc: Global,
-    cut: CutText<'_, '_>,
-    ops: &[Op],
+    cut: &CutText<'d, '_>,
+    ops: &'d [Op],
 ) -> Result<Option<Edited>, EditError>
-    requires { AreServed (operations_of ops.now) cut }
-    ensures ok { IfOk result (λ o. IfSome o (λ e. carry_all (operations_of ops.now) cut ≡
+    requires { AreServed (operations_of ops.now) cut.now }
+    ensures ok { IfOk result (λ o. IfSome o (λ e. carry_all (operations_of ops.now) cut.now ≡
         gives (string_bytes e.text) e.splices.items)) }
-    ensures err { IfErr result (λ e. EditFails e (carry_all (operations_of ops.now) cut)) }
+    ensures err { IfErr result (λ e. EditFails e (carry_all (operations_of ops.now) cut.now)) }
 {
     let [first, _, ..] = ops else {
         return Ok(None);
@@ -231,7 +232,7 @@ pub(crate) fn carry_in_rows(
         return Ok(None);
     }
     let text = cut.text();
-    let mut way = cut;
+    let mut way = on_the_way(cut, first);
     let mut run = Run::with_room(alloc, text.len(), ops.len())?;
     let mut last = None;
     let mut rest = ops;

@@ -1,7 +1,12 @@
-use Rattle.std.proofs.Common.{Some, refl, ap}
+use Rattle.std.proofs.Common.{Some, refl, ap, arith}
 use Rattle.yq_documents.specs.Located.{steps_of}
 use Rattle.yq_splice.proofs.RowCommentLaws.{comment_fits, comment_puts_there}
 use Rattle.yq_splice.proofs.in_rows.comment_in_row.Goals as goal
+
+pub overflow_add-start : goal.overflow_add-start
+overflow_add-start c =
+    let fits = comment_fits c.args.cut.now c.args.path.now.doc (steps_of c.args.path.now) c.line_end-white.result.0.now c.line_end-white.result.1.now c.args.at.now c.text-text.ensures.read c.requires.row c.line_end-white.ensures.white c.line_end-white.ensures.comment in
+    omega (arith, fits)
 
 pub comment_place-start-requires : goal.comment_place-start-requires
 comment_place-start-requires c =

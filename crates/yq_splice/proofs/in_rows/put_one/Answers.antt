@@ -6,7 +6,7 @@ use Rattle.yq_documents.specs.Reading.{cut_of}
 use Rattle.yq_meaning.specs.Operations.{operation_of}
 use Rattle.yq_splice.specs.RowRuns.{PutsInRow}
 use Rattle.yq_splice.specs.declared.in_rows.RowPut.{RowPut}
-use Rattle.yq_splice.proofs.RowRunAnswers.{row_edge, row_ends, row_kept_on, row_put_fails, row_put_on, row_starts}
+use Rattle.yq_splice.proofs.RowRunAnswers.{row_edge, row_ends, row_kept_on, row_order, row_put_fails, row_put_on, row_starts}
 use Rattle.yq_splice.proofs.in_rows.put_one.Goals as goal
 
 pub returns-in_default-written-clause-ok : goal.returns-in_default-written-clause-ok
@@ -17,6 +17,11 @@ returns-in_default-written-clause-ok c =
 
 pub put_text-requires-clause-edge : goal.put_text-requires-clause-edge
 put_text-requires-clause-edge c = row_edge c.args.cut.now (whole c.text-text.result) c.text-text.ensures.read c.text-text.ensures.text c.args.last c.args.run.now c.requires.run
+
+pub put_text-requires-clause-order : goal.put_text-requires-clause-order
+put_text-requires-clause-order c =
+    let h = subst (λ (o : Option RowPut). IfSome o (PutsInRow (operation_of c.args.op.now) (cut_of c.args.cut.now))) c.in-Some.is c.in_ok-found.ensures.puts in
+    row_order c.args.cut.now (whole c.text-text.result) c.text-text.ensures.read c.text-text.ensures.text (operation_of c.args.op.now) c.in-Some.put h
 
 pub put_text-requires-clause-start : goal.put_text-requires-clause-start
 put_text-requires-clause-start c =

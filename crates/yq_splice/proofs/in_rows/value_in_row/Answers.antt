@@ -8,7 +8,7 @@ pub overflow_add-result : goal.overflow_add-result
 overflow_add-result c =
     let plain = sym c.is_filled.ensures ∙ c.if-is_filled.false in
     let fits = value_fits c.args.cut.now c.args.path.now.doc (steps_of c.args.path.now) (node_of c.args.value.now) c.args.at.now c.text-text.ensures.read c.requires.row c.if-not-at.false plain in
-    omega (arith, fits, c.len.ensures)
+    omega (arith, fits)
 
 pub returns : goal.returns
 returns c =
