@@ -1,6 +1,7 @@
-use Rattle.std.proofs.Common.{◌≡◌, ◌∙◌, ℕ, [], List, Option, sym, ap, subst}
+use Rattle.std.proofs.Common.{◌≡◌, ◌∙◌, ℕ, ◌<◌, ◌^◌, [], List, length, Option, sym, ap, subst}
 use Rattle.std.specs.Prelude.{IfSome}
 use Rattle.yq_documents.specs.Reading.{cut_of}
+use Rattle.yq_flow_edits.proofs.CutLaws.{text_small}
 use Rattle.yq_meaning.specs.Operations.{operation_of, operations_of}
 use Rattle.yq_splice.specs.Carried.{carry_all}
 use Rattle.yq_splice.specs.Edit.{behind}
@@ -12,6 +13,9 @@ use Rattle.yq_splice.proofs.OrderLaws.{behind_none}
 use Rattle.yq_splice.proofs.RowRunAnswers.{rows_begin}
 use Rattle.yq_splice.proofs.RunAnswers.{begins_with}
 use Rattle.yq_splice.proofs.in_rows.carry_in_rows.Goals as goal
+
+pub len-requires : goal.len-requires
+len-requires c = subst (λ (l : List ℕ). length l < 2 ^ 64) (sym c.text-text.ensures.text) (text_small c.args.cut.now (cut_of c.args.cut.now) c.text-text.ensures.read)
 
 pub operations-init : goal.operations-init
 operations-init c =
