@@ -51,3 +51,4 @@ pub mod AboveLaws
 pub mod ScalarAnswers
 pub mod OnePutLaws
 pub mod RowEditLaws
+pub mod RowKeptLaws

@@ -1,10 +1,12 @@
 -- Whether a value is the scalar that is there (YAML 1.2.2, 3.2.1; own).
-use Rattle.std.specs.Prelude.{Option, Some, None, Bool, false}
+use Rattle.std.specs.Prelude.{ℕ, ◌==◌, ◌||◌, List, Option, Some, None, Bool, false}
+use Rattle.std.specs.Str.{bytes_eq}
 use Rattle.yq_flow_scalars.specs.Answers.{◌>>=◌}
 use Rattle.yq_flow_scalars.specs.Scalar.{ScalarText}
 use Rattle.yq_flow_scalars.specs.Tree.{Node}
+use Rattle.yq_flow_scalars.specs.declared.kind.Kind.TheVariants.{Null}
 use Rattle.yq_places.specs.NodesAt.{scalar_in}
-use Rattle.yq_edits.specs.Style.{is_same}
+use Rattle.yq_edits.specs.Style.{is_same, table_row}
 
 -- whether there are two scalars, and they are equal (own)
 abbrev pub are_same : Option ScalarText → Option ScalarText → Bool
@@ -15,3 +17,7 @@ are_same (Some a) (Some b) = is_same a b
 -- whether a value is a scalar equal to the node that is there, if one is (own)
 abbrev pub is_kept : Option Node → Node → Bool
 is_kept old v = are_same (old >>= scalar_in) (scalar_in v)
+
+-- whether a plain text on one line may stand for a scalar: that is null, or its text (own)
+abbrev pub may_spell : List ℕ → ScalarText → Bool
+may_spell t s = table_row s.kind == table_row Null || bytes_eq t s.text

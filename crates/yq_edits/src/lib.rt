@@ -15,7 +15,7 @@ mod written_value;
 
 pub use append::more_at;
 pub use head_comment::head_comment_at;
-pub use kept::is_kept;
+pub use kept::{is_kept, is_kept_in_row};
 pub use line_comment::{comment_written, line_comment_at};
 pub use removing::one_removed;
 pub use replace::value_put_at;

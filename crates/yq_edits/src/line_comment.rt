@@ -31,10 +31,10 @@ fn white_put<'t>(alloc: Global, text: &str, held: &Held<'t>) -> Segment<'t>
 pub fn comment_written(alloc: Global, text: &str, old: &str) -> Result<String, AllocError>
     ensures { IfOk result (λ s. string_bytes s ≡ spec.comment_written text.now old.now) }
 {
-    let mut out = String::new(alloc);
     if text.is_empty() {
-        return Ok(out);
+        return Ok(String::new(alloc));
     }
+    let mut out = String::with_capacity(alloc, text.len().saturating_add(3))?;
     if old.is_empty() {
         out.push(' ')?;
     }

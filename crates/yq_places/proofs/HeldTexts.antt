@@ -55,7 +55,7 @@ head_front x s u a b d = go s.anchor refl
         (λ i. s.space ++ (e i ++ (apart i ++ u))) ∙ sym (λ i. cond (is_empty (e i)) [] (s.space ++ s.anchor) ++ (cond (is_empty (e i)) s.space s.apart ++ u))
     go (b ∷ bs) e = sym (append_assoc s.space s.anchor (s.apart ++ u)) ∙ sym (λ i. cond (is_empty (e i)) [] (s.space ++ s.anchor) ++ (cond (is_empty (e i)) s.space s.apart ++ u))
 
-line_is : (r : Row) → line_text r ≡ (row_front r ++ anchor_before (slices r)) ++ (space_before (slices r) ++ (slices r).head)
+pub line_is : (r : Row) → line_text r ≡ (row_front r ++ anchor_before (slices r)) ++ (space_before (slices r) ++ (slices r).head)
 line_is r =
     let s : Slices = slices r in
     ap (λ (x : List ℕ). row_front r ++ x) (head_front r.content s s.head refl refl refl) ∙ sym (append_assoc (row_front r) (anchor_before s) (space_before s ++ s.head))

@@ -79,6 +79,7 @@ mod EntryNumbers
 mod LinesCutLaws
 mod EntryRowLaws
 mod HeldTexts
+pub mod HeldRowLaws
 mod StandingViewLaws
 mod LoneLaws
 mod RootStandingLaws

@@ -1,13 +1,16 @@
 -- What the code tells of what stands at a place (own).
-use Rattle.std.specs.Prelude.{◌≡◌, ℕ, ◌+◌, ◌==◌, true, false, List, length, Option, Some, None, if◌then◌else◌}
+use Rattle.std.specs.Prelude.{◌≡◌, ℕ, ◌+◌, ◌==◌, ◌&&◌, not, true, false, List, length, Option, Some, None, if◌then◌else◌}
 use Rattle.yq_text.specs.Halves.{whole}
 use Rattle.yq_flow_scalars.specs.Answers.{◌>>=◌}
 use Rattle.yq_flow_scalars.specs.Paths.{Step}
 use Rattle.yq_flow_scalars.specs.Text.{is_empty}
-use Rattle.yq_rows.specs.Rows.{Cut}
+use Rattle.yq_rows.specs.Rows.{Cut, Row}
 use Rattle.yq_rows.specs.Seams.{is_block}
 use Rattle.yq_rows.specs.View.{slices}
 use Rattle.yq_documents.specs.LinesInRows.{document_row}
+use Rattle.yq_documents.specs.RowReading.{is_block_head}
+use Rattle.yq_walk.specs.Extents.{head_place, lines_before_mark}
+use Rattle.yq_walk.specs.declared.position.Position.{Position}
 use Rattle.yq_places.specs.Standings.{Mark, Held, Lone, Compact, BlockRoot, NoRows, Standing, RowsOfEntry, alone, beside, under, compact, block, root, no_rows, held, rows_of_entry}
 use Rattle.yq_places.specs.declared.places.held.Held as declared_held
 use Rattle.yq_places.specs.declared.places.held_row.HeldRow as declared_row
@@ -71,12 +74,23 @@ held_if_last e = if e.line == length e.row.dashes then Some (held e) else None
 abbrev pub held_at : ℕ → List Step → Cut → Option Held
 held_at n steps c = rows_of_entry n steps c >>= held_if_last
 
--- A row that the code tells is that of the item or entry to which steps lead in document n, whose line is its last one; with what its key or dash holds, and
--- that this is an inline node, if it tells that (own).
+-- The row that the code tells is that of a line in a cut, which is its last one: where its head begins, that, and the end of its first line (own).
+pub record IsLastOf (c : Cut) (q : Position) (r : Row) (x : declared_row.HeldRow) : Type 0 where
+  pub row : x.row ≡ q.row
+  pub last : q.line ≡ lines_before_mark (slices r)
+  pub start : x.start ≡ (head_place q.row c r).0
+  pub head : x.head.now ≡ (slices r).head
+  pub tail : x.tail.now ≡ (slices r).tail
+  pub inline : x.inline ≡ (not (is_empty (slices r).head) && not (is_block_head (slices r).head))
+
+-- A row that the code tells is that of the item or entry to which steps lead in document n, whose line is its last one; with where what its key or dash
+-- holds begins, that and the end of its line, and that it is an inline node, if the code tells that (own).
 pub record IsHeldRow (n : ℕ) (steps : List Step) (c : Cut) (x : declared_row.HeldRow) : Type 0 where
   pub entry : RowsOfEntry
   pub found : rows_of_entry n steps c ≡ Some entry
   pub last : entry.line ≡ length entry.row.dashes
   pub row : x.row ≡ document_row n c + length entry.front
-  pub held_is : held_view x.held ≡ held entry
+  pub start : x.start ≡ length (held entry).before + length (held entry).space
+  pub head : x.head.now ≡ (held entry).head
+  pub tail : x.tail.now ≡ (slices entry.row).tail
   pub inline : x.inline ≡ true → (is_block entry.row.content ≡ false) × (is_empty (slices entry.row).head ≡ false)

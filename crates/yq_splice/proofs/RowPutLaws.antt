@@ -1,10 +1,8 @@
--- What operations put in rows, wherever their items and entries stand still.
-use Rattle.std.proofs.Common.{◌≡◌, ℕ, suc, ◌+◌, ◌≤◌, Bool, true, false, cond, is_some, List, [], ◌∷◌, ◌++◌, length, Option, Some, None, option_map, refl, sym, ap, ◌∙◌, subst, arith, append_assoc, append-nil, string_bytes, length-append}
+-- Values that operations put in rows, wherever their items and entries stand still.
+use Rattle.std.proofs.Common.{◌≡◌, ℕ, ◌+◌, ◌≤◌, Bool, true, false, cond, is_some, List, [], ◌∷◌, ◌++◌, length, Option, Some, None, refl, sym, ap, ◌∙◌, subst, arith, append_assoc, string_bytes, length-append}
 use Rattle.std.proofs.lemmas.Bool.{false≢true}
-use Rattle.std.proofs.lemmas.Option.{none-some}
 use Rattle.std.proofs.lemmas.Str.{IsCharBoundary-at_seam}
-use Rattle.std.specs.Str.{IsCharBoundary, IsUtf8}
-use Rattle.yq_flow_scalars.specs.Answers.{◌>>=◌}
+use Rattle.std.specs.Str.{IsCharBoundary}
 use Rattle.yq_flow_scalars.specs.Characters.{text_limit}
 use Rattle.yq_flow_scalars.specs.Paths.{Step}
 use Rattle.yq_flow_scalars.specs.Text.{is_empty}
@@ -14,56 +12,42 @@ use Rattle.yq_lines.specs.Outline.{anchored}
 use Rattle.yq_rows.specs.Rows.{Cut, cut_text, parent_indent, rows_text}
 use Rattle.yq_rows.specs.View.{slices}
 use Rattle.yq_walk.specs.Lines.{content_anchor, head_of}
-use Rattle.yq_documents.specs.LinesInRows.{document_row, row_line_of}
 use Rattle.yq_documents.specs.Reading.{cut_of, read_at}
-use Rattle.yq_places.specs.CommentPlaces.{LineEnd, end_before}
-use Rattle.yq_places.specs.StandingViews.{IsHeldRow, held_view}
+use Rattle.yq_places.specs.CommentPlaces.{end_before}
+use Rattle.yq_places.specs.StandingViews.{IsHeldRow}
 use Rattle.yq_places.specs.declared.places.held_row.HeldRow.{HeldRow}
 use Rattle.yq_places.specs.NodesAt.{node_in}
-use Rattle.yq_places.specs.PlacedRows.{PlacedPart, placed_document}
 use Rattle.yq_places.specs.PrintedLines.{less_break}
-use Rattle.yq_places.specs.Standings.{Held, RowsOfEntry, behind_entry, entry_rows_at, held, rows_of_entry}
+use Rattle.yq_places.specs.Standings.{Held, RowsOfEntry, behind_entry, held, rows_of_entry}
+use Rattle.yq_places.proofs.HeldRowLaws.{no_root_rows}
 use Rattle.yq_change.specs.RowStays.{StandsStill}
 use Rattle.yq_change.specs.StandingLaws.{HoldsPieces, StandsThere}
 use Rattle.yq_change.specs.TextPieces.{IsPiece}
 use Rattle.yq_change.proofs.RowStayLaws.{rows_stay_there}
 use Rattle.yq_change.proofs.StandingMarks.{row_there}
 use Rattle.yq_change.proofs.StandingRows.{rows_stand}
-use Rattle.yq_change.proofs.TextPieceLaws.{piece_back, pieces_joined}
+use Rattle.yq_change.proofs.TextPieceLaws.{pieces_joined}
 use Rattle.yq_block.specs.BlockReading.{is_filled}
-use Rattle.yq_meaning.specs.Operations.{line_comment, replace}
+use Rattle.yq_meaning.specs.Operations.{replace}
 use Rattle.yq_script.specs.Script.{keep}
-use Rattle.yq_edits.specs.CommentEdits.{comment_put, comment_written}
 use Rattle.yq_edits.specs.Edits.{edits}
 use Rattle.yq_edits.specs.Operands.{HasOperand}
 use Rattle.yq_edits.specs.Replacing.{is_kept}
-use Rattle.yq_edits.specs.RowChanges.{HoldsInline, comment_front, comment_old, inline_put, takes_white}
+use Rattle.yq_edits.specs.RowChanges.{HoldsInline, inline_put}
 use Rattle.yq_edits.specs.WrittenValues.{value_text}
 use Rattle.yq_edits.proofs.HeldPieces.{held_spells}
-use Rattle.yq_edits.proofs.LineCommentLaws.{line_comments_change_rows}
 use Rattle.yq_edits.proofs.RowEditLaws.{row_edits}
-use Rattle.yq_edits.proofs.TailPieces.{white_piece}
 use Rattle.yq_flow_edits.proofs.CutLaws.{cut_read, text_read}
-use Rattle.yq_block_edits.proofs.HeldRows.{head_there, headless_there, mark_end, mark_tail}
+use Rattle.yq_block_edits.proofs.HeldRows.{head_there, headless_there}
 use Rattle.yq_block_edits.proofs.InlineChangeLaws.{inline_values_change_rows}
 use Rattle.yq_block_edits.proofs.MarkHeads.{no_raw}
-use Rattle.yq_splice.specs.RowRuns.{IsWrittenSo, PutsInRow, PutsSo, PutsText, bytes_in, line_to_comment, rows_still}
+use Rattle.yq_splice.specs.RowRuns.{IsWrittenSo, PutsInRow, PutsSo, PutsText, bytes_in, rows_still}
 use Rattle.yq_splice.specs.declared.in_rows.RowPut.{RowPut}
 use Rattle.yq_splice.proofs.EditsHold.{edit_is}
-
--- ---- an inline node
 
 is_there : (o : Option Node) → is_some o ≡ true → (x : Node) × (o ≡ Some x)
 is_there None e = absurd (false≢true e)
 is_there (Some x) e = (x, refl)
-
--- the root has no rows of an item or entry
-pub no_root_rows : (n : ℕ) (c : Cut) (e : RowsOfEntry) → rows_of_entry n [] c ≡ Some e → ⊥
-no_root_rows n c e is = go (placed_document n c) is
-  where
-    go : (o : Option PlacedPart) → (o >>= λ d. option_map (entry_rows_at d) (row_line_of [] d.part.rows)) ≡ Some e → ⊥
-    go None h = none-some _ h
-    go (Some d) h = none-some _ h
 
 module _ (m : ℕ) (s : Step) (ss : List Step) (d : Cut) (e : RowsOfEntry) (read : read_at (cut_text d) ≡ Some d) (at : rows_of_entry m (s ∷ ss) d ≡ Some e) (h : HoldsInline e) where
   there : StandsThere m s ss d e
@@ -148,8 +132,7 @@ module _ (m : ℕ) (s : Step) (ss : List Step) (v : Node) (c : Cut) (e : RowsOfE
       subst (IsCharBoundary (cut_text c)) (length-append (w.before ++ w.space) w.head) (IsCharBoundary-at_seam (cut_text c) ((w.before ++ w.space) ++ w.head) _ apart left.utf8)
 
 -- the text of a value that is put in a row, up to its end, is no longer than a text may be
-pub value_fits : (t : List ℕ) (n : ℕ) (steps : List Step) (v : Node) (x : HeldRow) → read_at t ≡ Some (cut_of t) → IsHeldRow n steps (cut_of t) x → x.inline ≡ true → is_filled v ≡ false →
-    length (held_view x.held).before + length (held_view x.held).space + length (held_view x.held).head ≤ text_limit
+pub value_fits : (t : List ℕ) (n : ℕ) (steps : List Step) (v : Node) (x : HeldRow) → read_at t ≡ Some (cut_of t) → IsHeldRow n steps (cut_of t) x → x.inline ≡ true → is_filled v ≡ false → x.start + length x.head.now ≤ text_limit
 value_fits t n [] v x read is inline plain = absurd (no_root_rows n (cut_of t) is.entry is.found)
 value_fits t n (s ∷ ss) v x read is inline plain =
     let c : Cut = cut_of t in
@@ -158,21 +141,20 @@ value_fits t n (s ∷ ss) v x read is inline plain =
     let w : Held = held is.entry in
     let text = ap length (value_text_is n s ss v c is.entry again is.found h plain) in
     let size = (cut_read (cut_text c) c again).size in
-    let sizes : length (held_view x.held).before + length (held_view x.held).space + length (held_view x.held).head ≡ length w.before + length w.space + length w.head = ap (λ (y : Held). length y.before + length y.space + length y.head) is.held_is in
-    omega (arith, size, text, sizes, length-append (w.before ++ w.space) (w.head ++ (w.white ++ (w.comment ++ (w.last ++ w.behind)))), length-append w.before w.space, length-append w.head (w.white ++ (w.comment ++ (w.last ++ w.behind))))
+    omega (arith, size, text, is.start, ap length is.head, length-append (w.before ++ w.space) (w.head ++ (w.white ++ (w.comment ++ (w.last ++ w.behind)))), length-append w.before w.space, length-append w.head (w.white ++ (w.comment ++ (w.last ++ w.behind))))
 
 -- what the code tells of a value that is put in a row
 pub value_puts : (t : List ℕ) (n : ℕ) (steps : List Step) (v : Node) (x : HeldRow) (put : RowPut) → read_at t ≡ Some (cut_of t) → IsHeldRow n steps (cut_of t) x → x.inline ≡ true → is_filled v ≡ false → HasOperand (replace n steps v) →
-    put.doc ≡ n → put.row ≡ x.row → put.start ≡ length (held_view x.held).before + length (held_view x.held).space → put.end ≡ put.start + length (held_view x.held).head →
-    IsWrittenSo (node_in n steps (cut_of t)) v (held_view x.held).head (bytes_in string_bytes put.written) → PutsInRow (replace n steps v) (cut_of t) put
+    put.doc ≡ n → put.row ≡ x.row → put.start ≡ x.start → put.end ≡ x.start + length x.head.now → IsWrittenSo (node_in n steps (cut_of t)) v x.head.now (bytes_in string_bytes put.written) → PutsInRow (replace n steps v) (cut_of t) put
 value_puts t n [] v x put read is inline plain operand doc row start finish written = absurd (no_root_rows n (cut_of t) is.entry is.found)
 value_puts t n (s ∷ ss) v x put read is inline plain operand doc row start finish written =
     let c : Cut = cut_of t in
     let again : read_at (cut_text c) ≡ Some c = ap read_at (text_read t c read) ∙ read in
     let e : RowsOfEntry = is.entry in
     let h : HoldsInline e = record { last = is.last; block = (is.inline inline).0; some = (is.inline inline).1 } in
-    let place : put.start ≡ length ((held e).before ++ (held e).space) = start ∙ (ap (λ (y : Held). length y.before + length y.space) is.held_is ∙ sym (length-append (held e).before (held e).space)) in
-    let stop : put.end ≡ length ((held e).before ++ (held e).space) + length (held e).head = finish ∙ λ i. place i + length (is.held_is i).head in
+    let there : x.start ≡ length ((held e).before ++ (held e).space) = is.start ∙ sym (length-append (held e).before (held e).space) in
+    let place : put.start ≡ length ((held e).before ++ (held e).space) = start ∙ there in
+    let stop : put.end ≡ length ((held e).before ++ (held e).space) + length (held e).head = finish ∙ λ i. there i + length (is.head i) in
     record {
       steps = s ∷ ss;
       entry = e;
@@ -188,7 +170,7 @@ value_puts t n (s ∷ ss) v x put read is inline plain operand doc row start fin
       finish = stop;
       starts = subst (IsCharBoundary (cut_text c)) (sym place) (value_starts n s ss v c e again is.found h plain);
       ends = subst (IsCharBoundary (cut_text c)) (sym stop) (value_ends n s ss v c e again is.found h plain);
-      there = λ d there still. there_so d there still again h (bytes_in string_bytes put.written) (subst (λ (y : Held). IsWrittenSo (node_in n (s ∷ ss) c) v y.head (bytes_in string_bytes put.written)) is.held_is written);
+      there = λ d there still. there_so d there still again h (bytes_in string_bytes put.written) (subst (λ (y : List ℕ). IsWrittenSo (node_in n (s ∷ ss) c) v y (bytes_in string_bytes put.written)) is.head written);
     }
   where
     there_so : (d : Cut) → read_at (cut_text d) ≡ Some d → (still : StandsStill is.entry n (s ∷ ss) d) → read_at (cut_text (cut_of t)) ≡ Some (cut_of t) → (h : HoldsInline is.entry) (w : Option (List ℕ)) → IsWrittenSo (node_in n (s ∷ ss) (cut_of t)) v (held is.entry).head w →
@@ -197,98 +179,3 @@ value_puts t n (s ∷ ss) v x put read is inline plain operand doc row start fin
     there_so d there still again h (Some w) other =
         subst (λ (l : List ℕ). PutsText (replace n (s ∷ ss) v) d (rows_still is.entry still) (held is.entry).head l ((held is.entry).white ++ ((held is.entry).comment ++ ((held is.entry).last ++ (held is.entry).behind)))) (sym other.1)
         (value_comes n s ss v (cut_of t) is.entry again is.found h plain d there still other.0)
-
--- ---- a line comment
-
-module _ (n : ℕ) (s : Step) (ss : List Step) (text : List ℕ) (c : Cut) (e : RowsOfEntry) (read : read_at (cut_text c) ≡ Some c) (at : rows_of_entry n (s ∷ ss) c ≡ Some e) (last : e.line ≡ length e.row.dashes) where
-  abbrev lower : List ℕ
-  lower = (held e).break ++ ((held e).lines ++ ((held e).last ++ (held e).behind))
-
-  pub comment_comes : (d : Cut) → read_at (cut_text d) ≡ Some d → (still : StandsStill e n (s ∷ ss) d) → PutsText (line_comment n (s ∷ ss) text) d (rows_still e still) (comment_old text (held e)) (comment_written text (held e).comment) ((held e).break ++ ((held e).lines ++ ((held e).last ++ (held e).behind)))
-  comment_comes d read_d still =
-      let now : RowsOfEntry = rows_still e still in
-      let edited = row_edits.comment n (s ∷ ss) text d now still.found last in
-      record {
-        segments = comment_put text (held now);
-        front = comment_front text (held now);
-        edited = edited;
-        whole = (edit_is (line_comment n (s ∷ ss) text) d (comment_put text (held now)) read_d edited).old;
-        puts = row_edits.comment_puts text (held now);
-        changes = λ operand fit size. line_comments_change_rows n (s ∷ ss) text d now read_d still.found last operand fit size;
-      }
-
-  own : StandsStill e n (s ∷ ss) c
-  own = record { start = e.start; front = e.front; found = at; size = refl }
-
-  pub comment_text_is : cut_text c ≡ comment_front text (held e) ++ (comment_old text (held e) ++ lower)
-  unfolding comment_comes own
-  comment_text_is = sym (comment_comes c read own).whole ∙ (comment_comes c read own).puts.old_is
-
-  pieces_of : HoldsPieces (held e)
-  pieces_of = (held_spells n s ss c e read at last).1
-
-  below : IsPiece lower
-  below = pieces_joined (held e).break _ pieces_of.break (pieces_joined (held e).lines _ pieces_of.lines (pieces_joined (held e).last (held e).behind pieces_of.last pieces_of.behind))
-
-  stands : StandsThere n s ss c e
-  stands = rows_stand n s ss c e read at
-
-  white : IsPiece (held e).white
-  white =
-      let tail = mark_tail n s ss c e stands last in
-      subst (λ (x : LineEnd). IsPiece x.white) (sym (mark_end n s ss c e stands last)) (white_piece tail.white tail.line.blank)
-
-  gone : (b : Bool) → IsPiece (cond b (held e).white [] ++ (held e).comment)
-  gone true = pieces_of.line
-  gone false = piece_back (held e).white (held e).comment white.utf8 pieces_of.line
-
-  pub comment_starts : IsCharBoundary (cut_text c) (length (comment_front text (held e)))
-  comment_starts = IsCharBoundary-at_seam (cut_text c) (comment_front text (held e)) _ comment_text_is (pieces_joined (comment_old text (held e)) lower (gone (takes_white text (held e))) below).utf8
-
-  pub comment_ends : IsCharBoundary (cut_text c) (length (comment_front text (held e)) + length (comment_old text (held e)))
-  comment_ends =
-      let apart : cut_text c ≡ (comment_front text (held e) ++ comment_old text (held e)) ++ lower = comment_text_is ∙ sym (append_assoc (comment_front text (held e)) (comment_old text (held e)) lower) in
-      subst (IsCharBoundary (cut_text c)) (length-append (comment_front text (held e)) (comment_old text (held e))) (IsCharBoundary-at_seam (cut_text c) (comment_front text (held e) ++ comment_old text (held e)) _ apart below.utf8)
-
--- what the code tells of a line comment that is put in a row
-pub comment_puts_there : (t : List ℕ) (n : ℕ) (steps : List Step) (text : List ℕ) (x : HeldRow) (put : RowPut) → read_at t ≡ Some (cut_of t) → IsHeldRow n steps (cut_of t) x → HasOperand (line_comment n steps text) →
-    put.doc ≡ n → put.row ≡ x.row → put.start ≡ length (comment_front text (held_view x.held)) → put.end ≡ put.start + length (comment_old text (held_view x.held)) →
-    bytes_in string_bytes put.written ≡ Some (comment_written text (held_view x.held).comment) → PutsInRow (line_comment n steps text) (cut_of t) put
-comment_puts_there t n [] text x put read is operand doc row start finish written = absurd (no_root_rows n (cut_of t) is.entry is.found)
-comment_puts_there t n (s ∷ ss) text x put read is operand doc row start finish written =
-    let c : Cut = cut_of t in
-    let again : read_at (cut_text c) ≡ Some c = ap read_at (text_read t c read) ∙ read in
-    let e : RowsOfEntry = is.entry in
-    let place : put.start ≡ length (comment_front text (held e)) = start ∙ ap (λ (y : Held). length (comment_front text y)) is.held_is in
-    let stop : put.end ≡ length (comment_front text (held e)) + length (comment_old text (held e)) = finish ∙ λ i. place i + length (comment_old text (is.held_is i)) in
-    let new : bytes_in string_bytes put.written ≡ Some (comment_written text (held e).comment) = written ∙ ap (λ (y : Held). Some (comment_written text y.comment)) is.held_is in
-    record {
-      steps = s ∷ ss;
-      entry = e;
-      found = is.found;
-      document = doc;
-      row = row ∙ is.row;
-      valid = operand;
-      before = comment_front text (held e);
-      old = comment_old text (held e);
-      behind = (held e).break ++ ((held e).lines ++ ((held e).last ++ (held e).behind));
-      text = comment_text_is n s ss text c e again is.found is.last;
-      start = place;
-      finish = stop;
-      starts = subst (IsCharBoundary (cut_text c)) (sym place) (comment_starts n s ss text c e again is.found is.last);
-      ends = subst (IsCharBoundary (cut_text c)) (sym stop) (comment_ends n s ss text c e again is.found is.last);
-      there = λ d there still. subst (PutsSo (line_comment n (s ∷ ss) text) d (rows_still e still) (comment_old text (held e)) ((held e).break ++ ((held e).lines ++ ((held e).last ++ (held e).behind)))) (sym new) (comment_comes n s ss text c e again is.found is.last d there still);
-    }
-
--- the text up to the end of a line comment is no longer than a text may be
-pub comment_fits : (t : List ℕ) (n : ℕ) (steps : List Step) (x : HeldRow) → read_at t ≡ Some (cut_of t) → IsHeldRow n steps (cut_of t) x → length (line_to_comment (held_view x.held)) ≤ text_limit
-comment_fits t n [] x read is = absurd (no_root_rows n (cut_of t) is.entry is.found)
-comment_fits t n (s ∷ ss) x read is =
-    let c : Cut = cut_of t in
-    let again : read_at (cut_text c) ≡ Some c = ap read_at (text_read t c read) ∙ read in
-    let w : Held = held is.entry in
-    let lower : List ℕ = w.break ++ (w.lines ++ (w.last ++ w.behind)) in
-    let parts : w.before ++ (w.space ++ (w.head ++ (w.white ++ (w.comment ++ lower)))) ≡ line_to_comment w ++ lower = simp append_assoc refl in
-    let text = ap length ((held_spells n s ss c is.entry again is.found is.last).0 ∙ parts) in
-    let size = (cut_read (cut_text c) c again).size in
-    omega (arith, size, text, ap (λ (y : Held). length (line_to_comment y)) is.held_is, length-append (line_to_comment w) lower)

@@ -1,14 +1,15 @@
 -- Operations that change one row each, one behind the other, on the rows as they were read (YAML 1.2.2, 8; own).
-use Rattle.std.specs.Prelude.{◌≡◌, ⊤, ◌⊎◌, ℕ, ◌+◌, ◌<◌, ◌≤◌, List, [], ◌∷◌, ◌++◌, length, Option, Some, None, true, false, string_bytes}
+use Rattle.std.specs.Prelude.{◌≡◌, ⊤, ◌⊎◌, ◌&&◌, not, if◌then◌else◌, ℕ, ◌+◌, ◌<◌, ◌≤◌, List, [], ◌∷◌, ◌++◌, length, Option, Some, None, true, false, string_bytes}
 use Rattle.std.specs.Str.{IsCharBoundary}
 use Rattle.yq_flow_scalars.specs.Characters.{text_limit}
 use Rattle.yq_flow_scalars.specs.Paths.{Step}
+use Rattle.yq_flow_scalars.specs.Text.{is_empty}
 use Rattle.yq_flow_scalars.specs.Tree.{Node}
 use Rattle.yq_flow_scalars.specs.declared.style.Place.TheVariants.{Block as InBlock}
 use Rattle.yq_rows.specs.Rows.{Cut, cut_text}
 use Rattle.yq_documents.specs.LinesInRows.{document_row}
 use Rattle.yq_documents.specs.Reading.{documents, read_at}
-use Rattle.yq_places.specs.Standings.{Held, RowsOfEntry, rows_of_entry}
+use Rattle.yq_places.specs.Standings.{RowsOfEntry, rows_of_entry}
 use Rattle.yq_change.specs.RowStays.{IsBehind, StandsStill}
 use Rattle.yq_meaning.specs.After.{document_of}
 use Rattle.yq_meaning.specs.Fits.{Fits}
@@ -62,6 +63,10 @@ pub record IsRowsRun (c : Cut) (o : Option (ℕ × ℕ)) (r : Run) : Type 0 wher
 abbrev pub rows_still : {m : ℕ} {steps : List Step} {d : Cut} → (e : RowsOfEntry) → StandsStill e m steps d → RowsOfEntry
 rows_still e s = record e { start = s.start; front = s.front }
 
+-- where what an operation makes fits, it changes one row (own)
+abbrev pub ChangesIfFit : Operation → Cut → RowsOfEntry → List Segment → Type 0
+ChangesIfFit op d e ss = HasOperand op → Fits (room_of (cut_text d)) op (documents d) → length (new_text ss) ≤ text_limit → ChangesRow (document_of op) d e ss
+
 -- An operation puts one text in the place of another, and changes one row (own).
 pub record PutsText (op : Operation) (d : Cut) (e : RowsOfEntry) (old new behind : List ℕ) : Type 0 where
   pub segments : List Segment
@@ -69,7 +74,7 @@ pub record PutsText (op : Operation) (d : Cut) (e : RowsOfEntry) (old new behind
   pub edited : edits op d ≡ Some segments
   pub whole : old_text segments ≡ cut_text d
   pub puts : PutsOne segments front old new behind
-  pub changes : HasOperand op → Fits (room_of (cut_text d)) op (documents d) → length (new_text segments) ≤ text_limit → ChangesRow (document_of op) d e segments
+  pub changes : ChangesIfFit op d e segments
 
 -- an operation puts this text, or leaves all bytes alone, if there is none (own)
 abbrev pub PutsSo : Operation → Cut → RowsOfEntry → (old behind : List ℕ) → Option (List ℕ) → Type 0
@@ -86,9 +91,14 @@ abbrev pub IsWrittenSo : Option Node → Node → List ℕ → Option (List ℕ)
 IsWrittenSo old v head None = is_kept old v ≡ true
 IsWrittenSo old v head (Some w) = (is_kept old v ≡ false) × (w ≡ value_text InBlock head v)
 
--- the text up to the end of a line comment (own)
-abbrev pub line_to_comment : Held → List ℕ
-line_to_comment h = h.before ++ (h.space ++ (h.head ++ (h.white ++ h.comment)))
+-- the white space that stays before a line comment, in the place of one that is there or of none (own)
+abbrev pub white_left : (text white comment : List ℕ) → List ℕ
+white_left text white comment = if is_empty text && not (is_empty comment) then [] else white
+
+-- an operation puts a text, or leaves all bytes alone, wherever the item or entry stands still (own)
+abbrev pub PutsWhereStill : Operation → RowsOfEntry → List Step → (old behind : List ℕ) → Option (List ℕ) → Type 0
+PutsWhereStill op e steps old behind new =
+    (d : Cut) → read_at (cut_text d) ≡ Some d → (s : StandsStill e (document_of op) steps d) → PutsSo op d (rows_still e s) old behind new
 
 -- An operation puts a text in a row, or leaves it alone, wherever the item or entry stands still (own).
 pub record PutsInRow (op : Operation) (c : Cut) (x : RowPut) : Type 0 where
@@ -106,7 +116,7 @@ pub record PutsInRow (op : Operation) (c : Cut) (x : RowPut) : Type 0 where
   pub finish : x.end ≡ length before + length old
   pub starts : IsCharBoundary (cut_text c) x.start
   pub ends : IsCharBoundary (cut_text c) x.end
-  pub there : (d : Cut) → read_at (cut_text d) ≡ Some d → (s : StandsStill entry (document_of op) steps d) → PutsSo op d (rows_still entry s) old behind (bytes_in string_bytes x.written)
+  pub there : PutsWhereStill op entry steps old behind (bytes_in string_bytes x.written)
 
 -- An operation is carried out on the text of a run, which goes on behind it, and behind the row that was changed last then (own).
 pub record RowsGoOn (op : Operation) (c : Cut) (before : Run) (last : Option (ℕ × ℕ)) (after : Run) : Type 0 where

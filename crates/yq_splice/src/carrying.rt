@@ -131,6 +131,9 @@ pub(crate) fn edited_behind(splices: Vec<Splice>, edited: Edited) -> Result<Edit
     ensures { IfOk result (λ e. (e.text ≡ edited.text) ×
         (e.splices.items ≡ splices.items ++ edited.splices.items)) }
 {
+    if splices.is_empty() {
+        return Ok(edited);
+    }
     let Edited {
         text,
         splices: mut last,

@@ -6,10 +6,9 @@ ghost use Rattle.yq_inline.specs.Values.{node_of};
 ghost use Rattle.yq_documents.specs.Located.{steps_of};
 ghost use Rattle.yq_documents.specs.Reading.{cut_of};
 ghost use Rattle.yq_places.specs.NodesAt.{node_in};
-ghost use Rattle.yq_places.specs.StandingViews.{held_view};
+ghost use Rattle.yq_places.specs.StandingViews.{IsHeldRow};
 ghost use Rattle.yq_meaning.specs.Operations.{line_comment, operation_of, operations_of, replace};
 ghost use Rattle.yq_edits.specs.Operands.{HasOperand};
-ghost use Rattle.yq_edits.specs.RowChanges.{comment_front, comment_old};
 ghost use Rattle.yq_splice.specs.Answers.{EditFails};
 ghost use Rattle.yq_splice.specs.Carried.{carry_all, carried};
 ghost use Rattle.yq_splice.specs.Edit.{gives};
@@ -25,10 +24,10 @@ use crate::run::Run;
 use std::alloc::{AllocError, Global};
 use yq_block::is_filled;
 use yq_documents::Path;
-use yq_edits::{comment_written, is_kept, value_text};
+use yq_edits::{comment_written, is_kept_in_row, value_text};
 use yq_expr::{Op, Value};
 use yq_flow_scalars::Place;
-use yq_places::{CutText, Held};
+use yq_places::{CutText, HeldRow};
 use yq_script::Edited;
 
 /// A text that an operation puts in a row, in the place of what stands between two places.
@@ -44,22 +43,25 @@ pub(crate) struct RowPut {
     pub(crate) written: Option<String>,
 }
 
-/// What is written for a value on one line; nothing, where it is the scalar at the path.
+/// What is written for a value on one line in the place of an inline node; nothing, where it is the scalar
+/// that is there.
 fn value_written(
     alloc: Global,
     cut: &CutText<'_, '_>,
     path: &Path,
+    at: &HeldRow<'_>,
     value: &Value,
-    old: &str,
 ) -> Result<Option<String>, AllocError>
+    requires row { IsHeldRow path.now.doc (steps_of path.now) (cut_of cut.now) at.now }
+    requires inline { at.now.inline ≡ true }
     ensures { IfOk result (λ o. spec.IsWrittenSo (node_in path.now.doc (steps_of path.now)
-        (cut_of cut.now)) (node_of value.now) old.now (spec.bytes_in string_bytes o)) }
+        (cut_of cut.now)) (node_of value.now) at.now.head.now (spec.bytes_in string_bytes o)) }
 {
-    let stays = is_kept(alloc, cut, path, value)?;
+    let stays = is_kept_in_row(alloc, cut, path, at, value)?;
     if stays {
         return Ok(None);
     }
-    let written = value_text(alloc, Place::Block, old.as_bytes(), value)?;
+    let written = value_text(alloc, Place::Block, at.head.as_bytes(), value)?;
     Ok(Some(written))
 }
 
@@ -68,44 +70,38 @@ fn value_in_row(
     alloc: Global,
     cut: &CutText<'_, '_>,
     path: &Path,
+    at: &HeldRow<'_>,
     value: &Value,
 ) -> Result<Option<RowPut>, AllocError>
-    requires { HasOperand (replace path.now.doc (steps_of path.now) (node_of value.now)) }
+    requires operand { HasOperand (replace path.now.doc (steps_of path.now) (node_of value.now)) }
+    requires row { IsHeldRow path.now.doc (steps_of path.now) (cut_of cut.now) at.now }
     ensures { IfOk result (λ o. IfSome o (spec.PutsInRow
         (replace path.now.doc (steps_of path.now) (node_of value.now)) (cut_of cut.now))) }
 {
-    if is_filled(value) {
-        return Ok(None);
-    }
-    let Some(place) = cut.held_row(path) else {
-        return Ok(None);
-    };
-    if !place.inline {
+    if !at.inline || is_filled(value) {
         return Ok(None);
     }
     let _text = cut.text();
-    let held = place.held;
-    let start = held.before.len() + held.space.len();
-    let written = value_written(alloc, cut, path, value, held.head)?;
+    let written = value_written(alloc, cut, path, at, value)?;
     Ok(Some(RowPut {
         doc: path.doc,
-        row: place.row,
-        start,
-        end: start + held.head.len(),
+        row: at.row,
+        start: at.start,
+        end: at.start + at.head.len(),
         written,
     }))
 }
 
-/// Where what gives way to a line comment begins and ends.
-fn comment_place(text: &str, held: &Held<'_>) -> (usize, usize)
-    requires { length (spec.line_to_comment (held_view held.now)) ≤ text_limit }
-    ensures start { result.0 ≡ length (comment_front text.now (held_view held.now)) }
-    ensures end { result.1 ≡ result.0 + length (comment_old text.now (held_view held.now)) }
+/// Where what gives way to a line comment begins and ends, behind so many bytes, by the white space and the
+/// comment that stand there.
+fn comment_place(text: &str, front: usize, white: &str, comment: &str) -> (usize, usize)
+    requires { front + (length white.now + length comment.now) ≤ text_limit }
+    ensures start { result.0 ≡ front + length (spec.white_left text.now white.now comment.now) }
+    ensures end { result.1 ≡ front + (length white.now + length comment.now) }
 {
-    let front = held.before.len() + held.space.len() + held.head.len();
-    let behind = front + held.white.len();
-    let end = behind + held.comment.len();
-    if text.is_empty() && !held.comment.is_empty() {
+    let behind = front + white.len();
+    let end = behind + comment.len();
+    if text.is_empty() && !comment.is_empty() {
         (front, end)
     } else {
         (behind, end)
@@ -117,36 +113,44 @@ fn comment_in_row(
     alloc: Global,
     cut: &CutText<'_, '_>,
     path: &Path,
+    at: &HeldRow<'_>,
     text: &str,
 ) -> Result<Option<RowPut>, AllocError>
-    requires { HasOperand (line_comment path.now.doc (steps_of path.now) text.now) }
+    requires operand { HasOperand (line_comment path.now.doc (steps_of path.now) text.now) }
+    requires row { IsHeldRow path.now.doc (steps_of path.now) (cut_of cut.now) at.now }
     ensures { IfOk result (λ o. IfSome o (spec.PutsInRow
         (line_comment path.now.doc (steps_of path.now) text.now) (cut_of cut.now))) }
 {
-    let Some(place) = cut.held_row(path) else {
-        return Ok(None);
-    };
     let _text = cut.text();
-    let held = place.held;
-    let (start, end) = comment_place(text, &held);
-    let written = comment_written(alloc, text, held.comment)?;
+    let (white, comment) = at.line_end();
+    let (start, end) = comment_place(text, at.start + at.head.len(), white, comment);
+    let written = comment_written(alloc, text, comment)?;
     Ok(Some(RowPut {
         doc: path.doc,
-        row: place.row,
+        row: at.row,
         start,
         end,
         written: Some(written),
     }))
 }
 
-/// What an operation puts in a row, if it does no more than that.
-fn row_put(alloc: Global, cut: &CutText<'_, '_>, op: &Op) -> Result<Option<RowPut>, AllocError>
-    ensures { IfOk result (λ o. IfSome o (spec.PutsInRow (operation_of op.now) (cut_of cut.now))) }
+/// What an operation puts in a row, if it does no more than that. From then on it is known what stands on
+/// its way.
+fn row_put(alloc: Global, cut: &mut CutText<'_, '_>, op: &Op) -> Result<Option<RowPut>, AllocError>
+    ensures same { cut.new ≡ cut.old }
+    ensures puts { IfOk result (λ o. IfSome o (spec.PutsInRow (operation_of op.now)
+        (cut_of cut.old))) }
 {
     operand_holds(op);
     match op {
-        Op::Replace(path, value) => value_in_row(alloc, cut, path, value),
-        Op::LineComment(path, text) => comment_in_row(alloc, cut, path, text),
+        Op::Replace(path, value) => match cut.to_held_row(path) {
+            Some(at) => value_in_row(alloc, cut, path, &at, value),
+            None => Ok(None),
+        },
+        Op::LineComment(path, text) => match cut.to_held_row(path) {
+            Some(at) => comment_in_row(alloc, cut, path, &at, text),
+            None => Ok(None),
+        },
         Op::Append(_, _, _) | Op::Remove(_) | Op::HeadComment(_, _) => Ok(None),
     }
 }
@@ -166,17 +170,18 @@ fn is_behind(last: Option<(usize, usize)>, doc: usize, row: usize) -> bool
 /// changed; and tells which one that is then.
 fn put_one(
     alloc: Global,
-    cut: &CutText<'_, '_>,
+    cut: &mut CutText<'_, '_>,
     op: &Op,
     last: Option<(usize, usize)>,
     run: &mut Run,
 ) -> Result<Option<Option<(usize, usize)>>, EditError>
-    requires run { spec.IsRowsRun (cut_of cut.now) last run.old }
-    requires fits { IsFitting (operation_of op.now) (now_text (cut_of cut.now) run.old) }
+    requires run { spec.IsRowsRun (cut_of cut.old) last run.old }
+    requires fits { IsFitting (operation_of op.now) (now_text (cut_of cut.old) run.old) }
+    ensures same { cut.new ≡ cut.old }
     ensures ok { IfOk result (λ o. IfSome o (λ next. spec.RowsGoOn (operation_of op.now)
-        (cut_of cut.now) run.old next run.new)) }
+        (cut_of cut.old) run.old next run.new)) }
     ensures err { IfErr result (λ e. EditFails e (carried (operation_of op.now)
-        (now_text (cut_of cut.now) run.old))) }
+        (now_text (cut_of cut.old) run.old))) }
 {
     let text = cut.text();
     let found = row_put(alloc, cut, op)?;
@@ -196,8 +201,16 @@ fn put_one(
     let Some(written) = written else {
         return Ok(Some(last));
     };
-    run.put(alloc, text, start, end, "", &written)?;
+    run.put_text(alloc, text, start, end, written)?;
     Ok(Some(Some((doc, row))))
+}
+
+/// Whether an operation may be one that changes one row.
+fn may_change_row(op: &Op) -> bool {
+    match op {
+        Op::Replace(_, _) | Op::LineComment(_, _) => true,
+        Op::Append(_, _, _) | Op::Remove(_) | Op::HeadComment(_, _) => false,
+    }
 }
 
 /// Carries out operations together that change one row each, one behind the other; nothing, where one of
@@ -215,17 +228,18 @@ pub(crate) fn carry_in_rows<'d>(
     let [first, _, ..] = ops else {
         return Ok(None);
     };
+    if !may_change_row(first) {
+        return Ok(None);
+    }
     let text = cut.text();
-    let mut now = on_the_way(cut, first);
-    let mut run = Run::new(alloc);
+    let mut way = on_the_way(cut, first);
+    let mut run = Run::with_room(alloc, text.len(), ops.len())?;
     let mut last = None;
     let mut rest = ops;
     'operations: while let [op, after @ ..] = rest {
-        let there = on_the_way(&now, op);
-        let Some(next) = put_one(alloc, &there, op, last, &mut run)? else {
+        let Some(next) = put_one(alloc, &mut way, op, last, &mut run)? else {
             return Ok(None);
         };
-        now = there;
         last = next;
         rest = after;
     }

@@ -74,6 +74,19 @@ impl Run {
         }
     }
 
+    /// Nothing yet, with room for a text of so many bytes and so many splices.
+    pub(crate) fn with_room(alloc: Global, size: usize, count: usize) -> Result<Run, AllocError>
+        ensures text { IfOk result (λ r. string_bytes r.text ≡ []) }
+        ensures done { IfOk result (λ r. r.done ≡ 0) }
+        ensures splices { IfOk result (λ r. r.splices.items ≡ []) }
+    {
+        Ok(Run {
+            text: String::with_capacity(alloc, size)?,
+            done: 0,
+            splices: Vec::with_capacity(alloc, count)?,
+        })
+    }
+
     /// Whether what stands between two places of the old text is behind all that gave way.
     pub(crate) fn ends_before(&self, start: usize, end: usize) -> bool
         ensures { result ≡ true → (self.now.done ≤ start) × (self.now.done < end) }
@@ -81,7 +94,40 @@ impl Run {
         self.done <= start && self.done < end
     }
 
-    /// A text comes behind a lead in the place of what stands between two places.
+    /// A text comes in the place of what stands between two places.
+    pub(crate) fn put_text(
+        &mut self,
+        alloc: Global,
+        text: Halves<'_>,
+        start: usize,
+        end: usize,
+        written: String,
+    ) -> Result<(), EditError>
+        requires done { self.old.done ≤ start }
+        requires order { start ≤ end }
+        requires edge { IsCharBoundary (whole text) self.old.done }
+        requires start { IsCharBoundary (whole text) start }
+        requires end { IsCharBoundary (whole text) end }
+        ensures ok { OnOk result (spec.HasPut (whole text.entry) start end (string_bytes written)
+            self.old self.new) }
+        ensures err { IfErr result (λ e. spec.PutFails e (whole text.entry) start end
+            (string_bytes written) self.old) }
+    {
+        let kept = between(text, self.done, start);
+        let old = bytes_of(alloc, between(text, start, end))?;
+        self.text.push_str(kept.front)?;
+        self.text.push_str(kept.back)?;
+        let at = self.text.len();
+        self.text.push_str(&written)?;
+        self.done = end;
+        let rest = text.split_at(end).1.len();
+        if rest > TEXT_LIMIT || self.text.len() > TEXT_LIMIT - rest {
+            return Err(EditError::Refused(Refusal::TooLarge));
+        }
+        Ok(push_splice(&mut self.splices, at, old, written.into_bytes())?)
+    }
+
+    /// The same of a text behind a lead.
     pub(crate) fn put(
         &mut self,
         alloc: Global,
@@ -101,22 +147,9 @@ impl Run {
         ensures err { IfErr result (λ e. spec.PutFails e (whole text.entry) start end
             (lead.now ++ written.now) self.old) }
     {
-        let kept = between(text, self.done, start);
-        let old = bytes_of(alloc, between(text, start, end))?;
-        self.text.push_str(kept.front)?;
-        self.text.push_str(kept.back)?;
-        let at = self.text.len();
-        self.text.push_str(lead)?;
-        self.text.push_str(written)?;
-        self.done = end;
-        let rest = text.split_at(end).1.len();
-        if rest > TEXT_LIMIT || self.text.len() > TEXT_LIMIT - rest {
-            return Err(EditError::Refused(Refusal::TooLarge));
-        }
-        let mut new = Vec::new(alloc);
-        new.extend_from_slice(lead.as_bytes())?;
-        new.extend_from_slice(written.as_bytes())?;
-        Ok(push_splice(&mut self.splices, at, old, new)?)
+        let mut new = String::from_str(alloc, lead)?;
+        new.push_str(written)?;
+        self.put_text(alloc, text, start, end, new)
     }
 
     /// The text that it made, with all that is left of the old one, and its splices.

@@ -1,62 +1,91 @@
-//! Keys and dashes whose line is the last one of its row, with what they hold and their row.
-ghost use Rattle.std.specs.Prelude.{◌≡◌, ◌<◌, true, false, ℕ, List, Some, length, slice_get, IfSome};
+//! Keys and dashes whose line is the last one of its row, with that row and what it holds behind them.
+ghost use Rattle.std.specs.Prelude.{[], ◌≡◌, ◌<◌, ◌&&◌, length, not, slice_get, IfSome, Some};
 ghost use Rattle.yq_flow_scalars.specs.Text.{is_empty};
-ghost use Rattle.yq_rows.specs.Grammar.{IsCut};
 ghost use Rattle.yq_rows.specs.Rows.{Cut, Row as RowOf};
-ghost use Rattle.yq_rows.specs.Seams.{is_block};
 ghost use Rattle.yq_rows.specs.View.{rows_of, rows_view};
 ghost use Rattle.yq_documents.specs.Located.{steps_of};
 ghost use Rattle.yq_documents.specs.Reading.{cut_of};
+ghost use Rattle.yq_documents.specs.RowReading.{is_block_head};
+ghost use Rattle.yq_walk.specs.Extents.{IsRowsView};
+ghost use Rattle.yq_places.specs.CommentPlaces.{end_before};
 ghost use Rattle.yq_places.specs.StandingViews as row_agrees;
 
 use crate::cut_text::CutText;
-use crate::places::held::{Held, held_in};
-use yq_documents::Path;
+use crate::places::known_at::known_along;
+use yq_documents::{Path, is_block_head};
+use yq_flow_scalars::lines::split_at_break;
+use yq_flow_scalars::text::split_white;
 use yq_rows::Rows;
+use yq_walk::{Position, front_len, lines_before_mark};
 
-/// A key or dash of a text with what it holds, and the row of which its line is the last one.
+/// A key or dash of a text whose line is the last one of its row, with what that row holds behind it.
 #[derive(Clone, Copy, Debug)]
 pub struct HeldRow<'t> {
     /// How many rows of the text stand before it.
     pub row: usize,
     /// Whether an inline node is written there.
     pub inline: bool,
-    /// The key or dash, with what it holds.
-    pub held: Held<'t>,
+    /// How many bytes of the text stand before what is written there.
+    pub start: usize,
+    /// What is written there: an inline node, the header of a block scalar or nothing.
+    pub head: &'t str,
+    /// The end of the line behind that, with its break.
+    pub tail: &'t str,
 }
 
-/// Whether the head of row `i`, which is this one, is an inline node.
-fn is_inline(rows: &Rows<'_>, i: usize, head: &str) -> bool
-    requires { i < length rows.now.rows }
-    ensures { result ≡ true → (t : List ℕ) (c : Cut) (r : RowOf) → IsCut t c →
-        rows.now ≡ rows_view c → slice_get (rows_of c) i ≡ Some r →
-        (is_block r.content ≡ false) × (is_empty head.now ≡ false) }
-{
-    match rows.block(i) {
-        Some(_) => false,
-        None => !head.is_empty(),
+impl<'t> HeldRow<'t> {
+    /// The white space that ends its line, or stands before the line's comment, and that comment, if the
+    /// line has one.
+    pub fn line_end(&self) -> (&'t str, &'t str)
+        ensures white { result.0.now ≡ (end_before [] self.now.tail.now).white }
+        ensures comment { result.1.now ≡ (end_before [] self.now.tail.now).comment }
+    {
+        let (white, line) = split_white(self.tail);
+        (white, split_at_break(line).0)
     }
 }
 
-impl<'t> CutText<'_, 't> {
-    /// The key or dash of the item or entry at a path with what it holds, and its row, where the row ends
-    /// in its line.
-    pub fn held_row(&self, path: &Path) -> Option<HeldRow<'t>>
-        ensures { IfSome result (row_agrees.IsHeldRow path.now.doc (steps_of path.now)
-            (cut_of self.now)) }
+/// Whether the head of a row is an inline node.
+fn is_inline(head: &str) -> bool
+    ensures { result ≡ (not (is_empty head.now) && not (is_block_head head.now)) }
+{
+    !(head.is_empty() || is_block_head(head.as_bytes()))
+}
+
+/// The row of a line, with what it holds behind that, if it is its last one.
+fn row_of_last<'t>(rows: &Rows<'t>, at: Position) -> Option<HeldRow<'t>>
+    requires within { at.row < length rows.now.rows }
+    requires rows_view { IsRowsView rows.now }
+    ensures { IfSome result (λ x. (c : Cut) → rows.now ≡ rows_view c → (r : RowOf) →
+        slice_get (rows_of c) at.row ≡ Some r → row_agrees.IsLastOf c at r x) }
+{
+    if at.line != lines_before_mark(rows, at.row) {
+        return None;
+    }
+    let row = rows.row(at.row);
+    let head = row.head();
+    Some(HeldRow {
+        row: at.row,
+        inline: is_inline(head),
+        start: rows.start(at.row) + front_len(&row),
+        head,
+        tail: row.tail(),
+    })
+}
+
+impl<'d, 't> CutText<'d, 't> {
+    /// The key or dash of the item or entry at a path with its row, where the row ends in its line. From
+    /// then on it is known what stands on the way of the path.
+    pub fn to_held_row(&mut self, path: &Path) -> Option<HeldRow<'t>>
+        ensures same { self.new ≡ self.old }
+        ensures row { IfSome result (row_agrees.IsHeldRow path.now.doc (steps_of path.now)
+            (cut_of self.old)) }
     {
         let text = self.whole();
-        let entry = self.entry(path)?;
-        if entry.line != entry.dashes {
-            return None;
-        }
         let rows = self.rows();
-        let held = held_in(rows, text, entry);
-        let inline = is_inline(rows, entry.row, held.head);
-        Some(HeldRow {
-            row: entry.row,
-            inline,
-            held,
-        })
+        let document = self.stretch(path.doc)?;
+        let (known, at) = known_along(rows, document, self.known(), &path.steps);
+        *self = CutText::resumed(text, rows, known);
+        row_of_last(rows, at?)
     }
 }

@@ -1,11 +1,12 @@
 //! The item on the way of a path from which a later walk may go on.
-ghost use Rattle.std.specs.Prelude.{◌≡◌, IfSome};
+ghost use Rattle.std.specs.Prelude.{◌≡◌, map, IfSome};
+ghost use Rattle.yq_inline.specs.Entries.{step_of};
 ghost use Rattle.yq_rows.specs.Rows.{Cut};
 ghost use Rattle.yq_rows.specs.View.{rows_view};
 ghost use Rattle.yq_documents.specs.Reading.{cut_of};
 ghost use Rattle.yq_walk.specs.Extents.{IsRowsView};
 ghost use Rattle.yq_walk.specs.RowWalk.{AreKnown, HasDocument, IsKnown, IsLine};
-ghost use Rattle.yq_places.specs.RowWalk.{IsKnownLine, StayKnown, StaysKnown};
+ghost use Rattle.yq_places.specs.RowWalk.{IsKnownLine, IsLineAt, StayKnown, StaysKnown};
 
 use crate::cut_text::CutText;
 use crate::places::known_end::known_end;
@@ -101,17 +102,17 @@ fn known_by(
 /// The items on the way of steps that passed most rows, as items that are known, and the line to which
 /// the steps lead, if none goes on in the head of one.
 #[inline(always)]
-fn known_along<'s>(
+pub(crate) fn known_along(
     rows: &Rows<'_>,
     document: Stretch,
     known: KnownItems,
-    steps: &'s [Step],
-) -> (KnownItems, Option<KnownLine<'s>>)
+    steps: &[Step],
+) -> (KnownItems, Option<Position>)
     requires rows_view { IsRowsView rows.now }
     requires document { HasDocument rows.now document }
     requires known { AreKnown rows.now.rows known }
     ensures known { AreKnown rows.now.rows result.0 }
-    ensures line { IfSome result.1 (IsKnownLine rows.now) }
+    ensures line { IfSome result.1 (IsLineAt rows.now document (map step_of steps.now)) }
 {
     let mut from = None;
     let mut found = KnownItems::none();
@@ -124,15 +125,30 @@ fn known_along<'s>(
         from = Some(at);
         left = others;
     }
-    let Some(at) = from else {
-        return (found, None);
-    };
-    let line = KnownLine {
+    match from {
+        Some(at) => (found, Some(at)),
+        None => (found, None),
+    }
+}
+
+/// The line to which steps lead, as one that is known.
+#[inline(always)]
+fn line_known<'s>(
+    rows: &Rows<'_>,
+    document: Stretch,
+    steps: &'s [Step],
+    at: Option<Position>,
+) -> Option<KnownLine<'s>>
+    requires line { IfSome at (IsLineAt rows.now document (map step_of steps.now)) }
+    ensures { IfSome result (IsKnownLine rows.now) }
+{
+    let _rows = rows;
+    let at = at?;
+    Some(KnownLine {
         document,
         steps,
         at,
-    };
-    (found, Some(line))
+    })
 }
 
 /// A known item, or the one before it, if its row begins in front of so many bytes.
@@ -193,8 +209,13 @@ impl<'d, 't> CutText<'d, 't> {
         let Some(document) = self.stretch(path.doc) else {
             return CutText::resumed(text, rows, KnownItems::none());
         };
-        let (known, line) = known_along(rows, document, self.known(), &path.steps);
-        CutText::with_line(text, rows, known, line)
+        let (known, at) = known_along(rows, document, self.known(), &path.steps);
+        CutText::with_line(
+            text,
+            rows,
+            known,
+            line_known(rows, document, &path.steps, at),
+        )
     }
 
     /// The same text, where the end of the collection at a path is known as well.

@@ -10,7 +10,7 @@ use Rattle.yq_splice.proofs.in_rows.carry_in_rows.Given as goal
 
 abbrev pub invariant-operations : goal.invariant-operations
 invariant-operations l = record {
-  same : l.now ≡ l.fn.cut;
+  same : l.way ≡ l.fn.cut;
   whole : behind l.run.splices.items (carry_all (operations_of l.rest) (now_text (cut_of l.fn.cut) l.run)) ≡ carry_all (operations_of l.fn.ops) l.fn.cut;
   serves : AreServed (operations_of l.rest) (now_text (cut_of l.fn.cut) l.run);
   runs : IsRowsRun (cut_of l.fn.cut) l.last l.run;
