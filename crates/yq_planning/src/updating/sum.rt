@@ -22,7 +22,7 @@ fn int(alloc: Global, number: i64) -> Result<Value, AllocError>
     ensures { IfOk result (λ v. node_of v ≡ scalar None Int (signed_decimal number)) }
 {
     let text = number.to_string(alloc)?;
-    Ok(Value::Scalar(Scalar::plain(alloc, text.as_str())?))
+    Ok(Value::Scalar(Scalar::of_kind(Kind::Int, text)))
 }
 
 /// The sum of two ints.
