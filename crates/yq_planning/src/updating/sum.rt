@@ -49,12 +49,7 @@ fn text_sum(alloc: Global, one: &str, other: &str) -> Result<Value, AllocError>
 }
 
 /// The sum of two scalars, neither of which is null.
-pub(crate) fn scalar_sum(
-    alloc: Global,
-    kind: Kind,
-    text: &str,
-    other: &Scalar,
-) -> Result<Value, ExprError>
+pub fn scalar_sum(alloc: Global, kind: Kind, text: &str, other: &Scalar) -> Result<Value, ExprError>
     ensures { Judges node_of result (spec.scalar_sum kind text.now other.now.kind other.now.text) }
 {
     match (kind, other.kind()) {
