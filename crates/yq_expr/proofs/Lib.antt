@@ -1,2 +1,4 @@
 pub mod ChangeLaws
 pub mod AllChanges
+pub mod ChildPlaces
+pub mod SummandLaws

@@ -1,9 +1,10 @@
 //! What an update does at one place.
-ghost use Rattle.std.specs.Prelude.{◌≡◌, IfOk, map};
+ghost use Rattle.std.specs.Prelude.{◌≡◌, map};
 ghost use Rattle.yq_planning.specs.ChangeView.{placed};
 ghost use Rattle.yq_expr.specs.EffectView.{effect_at};
 ghost use Rattle.yq_meaning.specs.Judgement.{Judges};
-ghost use Rattle.yq_matching.specs.PlaceView.{place_of};
+ghost use Rattle.yq_documents.specs.Located.{steps_of};
+ghost use Rattle.yq_matching.specs.PlaceView.{path_of, place_of};
 ghost use Rattle.yq_meaning.specs.Changes as spec;
 ghost use Rattle.yq_meaning.specs.Rooms.{comment_part, room_of};
 ghost use Rattle.yq_matching.specs.TreeScalars.{HasScalars};
@@ -11,8 +12,7 @@ ghost use Rattle.yq_inline.specs.Values.{node_of};
 
 use crate::put::put;
 use crate::right_value::right_value;
-use crate::steps::path_steps;
-use std::alloc::{AllocError, Global};
+use std::alloc::Global;
 use yq_documents::{Part, Path};
 use yq_inline::Value;
 use yq_matching::{Missing, NodePath, Place};
@@ -73,42 +73,32 @@ fn part(place: CommentPlace) -> Part
 
 /// Whether the text has room for a comment of what is at a place of document `doc`. What is on the way
 /// there is known then, so that the next place of the text is near.
-fn has_room(
-    alloc: Global,
-    cut: &mut CutText<'_, '_>,
-    doc: usize,
-    comment: CommentPlace,
-    place: Place<'_, '_>,
-) -> Result<bool, AllocError>
+fn has_room(cut: &mut CutText<'_, '_>, path: &Path, comment: CommentPlace) -> bool
     ensures same { cut.new ≡ cut.old }
-    ensures room { IfOk result (λ b. b ≡ (room_of cut.old doc).has comment
-        (place_of place.entry).path) }
+    ensures room { result ≡ (room_of cut.old path.now.doc).has comment (steps_of path.now) }
 {
-    let path = Path {
-        doc,
-        steps: path_steps(alloc, place.path)?,
-    };
-    *cut = cut.along(&path);
-    Ok(cut.has_room(&path, part(comment)))
+    *cut = cut.along(path);
+    cut.has_room(path, part(comment))
 }
 
 /// The text of a comment that is set at a place.
 fn set_comment(
     alloc: Global,
     cut: &mut CutText<'_, '_>,
-    doc: usize,
+    path: &Path,
     comment: CommentPlace,
     text: &str,
     place: Place<'_, '_>,
 ) -> Result<Option<Change>, ExprError>
+    requires { steps_of path.now ≡ path_of place.path }
     ensures same { cut.new ≡ cut.old }
     ensures change { Judges (placed (place_of place.entry)) result
-        (spec.comment_at (room_of cut.old doc) comment text.now (place_of place.entry)) }
+        (spec.comment_at (room_of cut.old path.now.doc) comment text.now (place_of place.entry)) }
 {
     if let Missing::Further(..) = place.missing {
         return Err(ExprError::Refused(Refusal::NoPlaceForComment));
     }
-    if !has_room(alloc, cut, doc, comment, place)? {
+    if !has_room(cut, path, comment) {
         return Err(ExprError::Refused(Refusal::NoPlaceForComment));
     }
     let text = String::from_str(alloc, text)?;
@@ -119,23 +109,25 @@ fn set_comment(
 pub(crate) fn change_at<'a, 't>(
     alloc: Global,
     cut: &mut CutText<'_, '_>,
-    doc: usize,
+    path: &Path,
     effect: Action<'a, '_>,
     place: Place<'a, 't>,
 ) -> Result<Option<Change>, ExprError>
-    requires { HasScalars (place_of place).node }
+    requires scalars { HasScalars (place_of place).node }
+    requires path { steps_of path.now ≡ path_of place.path }
     ensures same { cut.new ≡ cut.old }
     ensures change { Judges (placed (place_of place.entry)) result
-        (effect_at doc (room_of cut.old doc) effect.entry (place_of place.entry)) }
+        (effect_at path.now.doc (room_of cut.old path.now.doc) effect.entry
+        (place_of place.entry)) }
 {
     match effect {
         Action::Put(value) => Ok(Some(put(alloc, place, copied(alloc, value)?)?)),
         Action::Modify(terms) => {
-            let value = right_value(alloc, doc, terms, place)?;
+            let value = right_value(alloc, path.doc, terms, place)?;
             Ok(Some(put(alloc, place, value)?))
         }
         Action::Add(value) => add(alloc, place, value),
         Action::Remove => remove(place),
-        Action::SetComment(comment, text) => { set_comment(alloc, cut, doc, comment, text, place) }
+        Action::SetComment(comment, text) => { set_comment(alloc, cut, path, comment, text, place) }
     }
 }

@@ -17,7 +17,7 @@ use crate::steps::missing_steps;
 use std::alloc::{AllocError, Global};
 use yq_documents::{Node, NodeKind};
 use yq_inline::Value;
-use yq_matching::Place;
+use yq_matching::{Missing, Place};
 use yq_meaning::{ExprError, Refusal};
 use yq_planning::{Addition, Change};
 use yq_program::{Step, is_index};
@@ -124,6 +124,9 @@ pub fn put(alloc: Global, place: Place<'_, '_>, value: Value) -> Result<Change, 
     ensures { Judges (placed_change (place_of place.entry)) result
         (spec.put_at (place_of place.entry) (value_node value)) }
 {
+    if let Missing::Nothing = place.missing {
+        return Ok(Change::Replaces(value));
+    }
     let missing = missing_steps(alloc, place.missing)?;
     put_below(alloc, place.node, &missing, value)
 }

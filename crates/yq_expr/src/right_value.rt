@@ -1,21 +1,24 @@
 //! Right sides: sums of terms, from a place.
-ghost use Rattle.std.specs.Prelude.{◌≡◌, ◌∷◌, [], map};
+ghost use Rattle.std.specs.Prelude.{◌≡◌, ◌∷◌, ℕ, [], IfSome, map, true};
 ghost use Rattle.yq_inline.specs.Values.{node_of};
 ghost use Rattle.yq_meaning.specs.Judgement.{Judges, and_then};
 ghost use Rattle.yq_meaning.specs.Pipes.{pipe_on};
+ghost use Rattle.yq_expr.specs.Summand.{IsSummand};
 ghost use Rattle.yq_matching.specs.PlaceView.{place_of, places_of};
-ghost use Rattle.yq_meaning.specs.Places.{chained};
+ghost use Rattle.yq_meaning.specs.Places.{Place as SpecPlace, chained};
 ghost use Rattle.yq_meaning.specs.RightValues as spec;
 ghost use Rattle.yq_matching.specs.TreeScalars.{HasScalars, HaveScalars};
+ghost use Rattle.yq_program.specs.Program.{path};
 ghost use Rattle.yq_program.specs.View.{stage_of, term_of};
 
 use bumpalo::Bump;
 use std::alloc::Global;
-use yq_flow_scalars::Scalar;
+use yq_documents::NodeKind;
+use yq_flow_scalars::{Kind, Scalar};
 use yq_inline::Value;
 use yq_matching::{Place, copy_at, pipe_on};
 use yq_meaning::{ExprError, Refusal};
-use yq_planning::{copied, sum};
+use yq_planning::{copied, scalar_sum, sum};
 use yq_program::{Stage, Term};
 
 /// A copy of the value at the one place that there is.
@@ -98,6 +101,66 @@ fn with_terms<'a, 't>(
     Ok(total)
 }
 
+/// Whether a pipe leads nowhere else.
+fn stays(pipe: &[Stage]) -> bool
+    ensures { result ≡ true → map stage_of pipe.now ≡ path [] ∷ [] }
+{
+    match pipe {
+        [Stage::Path(steps)] => steps.is_empty(),
+        _ => false,
+    }
+}
+
+/// The scalar at a place, but for null, if that is what a term finds.
+fn scalar_there<'a>(term: &Term, place: Place<'a, '_>) -> Option<(Kind, &'a str)>
+    ensures { IfSome result (λ x. (doc : ℕ) → IsSummand x.0 x.1.now
+        (spec.term_value doc (place_of place.entry) (term_of term.now))) }
+{
+    let Term::Pipe(stages) = term else {
+        return None;
+    };
+    if !stays(stages) {
+        return None;
+    }
+    let node = place.found()?;
+    match node.kind() {
+        NodeKind::Scalar(Kind::Null) => None,
+        NodeKind::Scalar(kind) => Some((kind, node.text())),
+        NodeKind::Alias | NodeKind::List | NodeKind::Map => None,
+    }
+}
+
+/// The scalar that a term is, but for null, if it is a literal one.
+fn scalar_literal(term: &Term) -> Option<&Scalar>
+    ensures { IfSome result (λ s. (doc : ℕ) (p : SpecPlace) → IsSummand s.now.kind s.now.text
+        (spec.term_value doc p (term_of term.now))) }
+{
+    match term {
+        Term::Literal(Value::Scalar(scalar)) => {
+            if scalar.kind() == Kind::Null {
+                None
+            } else {
+                Some(scalar)
+            }
+        }
+        Term::Literal(Value::List(_) | Value::Map(_)) | Term::Pipe(_) => None,
+    }
+}
+
+/// The kind and text of a scalar at a place and a literal one, if terms are these and neither is null.
+fn scalar_terms<'a>(terms: &'a [Term], place: Place<'a, '_>) -> Option<(Kind, &'a str, &'a Scalar)>
+    ensures { IfSome result (λ x. (doc : ℕ) →
+        spec.right_value doc (map term_of terms.now) (place_of place.entry) ≡
+        spec.scalar_sum x.0 x.1.now x.2.now.kind x.2.now.text) }
+{
+    let [one, other] = terms else {
+        return None;
+    };
+    let (kind, text) = scalar_there(one, place)?;
+    let added = scalar_literal(other)?;
+    Some((kind, text, added))
+}
+
 /// The value of a sum of terms, from a place in document `doc`.
 pub fn right_value<'a, 't>(
     alloc: Global,
@@ -109,6 +172,9 @@ pub fn right_value<'a, 't>(
     ensures { Judges node_of result (spec.right_value doc (map term_of terms.now)
         (place_of place.entry)) }
 {
+    if let Some((kind, text, added)) = scalar_terms(terms, place) {
+        return scalar_sum(alloc, kind, text, added);
+    }
     let [term, others @ ..] = terms else {
         return Ok(Value::Scalar(Scalar::null(alloc)?));
     };

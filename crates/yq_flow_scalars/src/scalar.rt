@@ -46,6 +46,15 @@ impl Scalar {
         }
     }
 
+    /// The scalar of a kind and a text that go together.
+    pub fn of_kind(kind: Kind, text: String) -> Self
+        requires { IsScalar kind (string_bytes text) }
+        ensures kind { result.kind ≡ kind }
+        ensures text { result.text ≡ string_bytes text }
+    {
+        Scalar { kind, text }
+    }
+
     /// A string of that text.
     pub fn string(text: String) -> Self
         ensures { result ≡ spec.string_of (string_bytes text) }

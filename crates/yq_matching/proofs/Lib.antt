@@ -3,3 +3,4 @@ pub mod EachLaws
 pub mod CopyLaws
 pub mod TreeScalarLaws
 pub mod MatchLaws
+pub mod FoundLaws

@@ -5,6 +5,7 @@ ghost use Rattle.yq_matching.specs.PlaceView.{node_step_of};
 
 mod condition;
 pub(crate) mod copy;
+pub(crate) mod found;
 pub(crate) mod pipe;
 pub(crate) mod place;
 mod step;

@@ -12,11 +12,9 @@ use Rattle.yq_inline.specs.Values.{items, entries}
 use Rattle.yq_flow_scalars.specs.Numbers as numbers
 use Rattle.yq_flow_scalars.specs.Numbers.{unsigned, minus}
 use Rattle.yq_flow_scalars.specs.Paths.{To, child_at, change_child, append_child, append_children}
-use Rattle.yq_flow_scalars.specs.Scalar.{of_kind, plain_of}
 use Rattle.yq_flow_scalars.specs.SchemaReading.{resolve}
 use Rattle.yq_flow_scalars.specs.Tree as tree
 use Rattle.yq_flow_scalars.specs.Tree.{Node, Children, none, child}
-use Rattle.yq_flow_scalars.specs.declared.kind.Kind.{Kind}
 use Rattle.yq_flow_scalars.specs.declared.kind.Kind.TheVariants as kinds
 use Rattle.yq_flow_scalars.proofs.SchemaLaws.{resolve_again}
 use Rattle.yq_documents.specs.TreeEdits.{new_label}
@@ -29,17 +27,13 @@ use Rattle.yq_meaning.specs.RightValues.{as_items, with_entry, with_entries, val
 -- ---- ints
 
 -- a number of 64 bits is written as an int
-int_written : (z : ℤ) → FitsSigned w64 z → resolve (signed_decimal z) ≡ kinds.Int
+pub int_written : (z : ℤ) → FitsSigned w64 z → resolve (signed_decimal z) ≡ kinds.Int
 int_written (pos n) h =
     let small : n < 2 ^ 63 = h.sfits in
     resolve_again (decimal n) kinds.Int (_, (numbers.decimal unsigned (decimal n), refl, (decimal_is_IsNumeral n (omega (arith, small))).0, refl))
 int_written (negsuc n) h =
     let small : n < 2 ^ 63 = h.sfits in
     resolve_again (signed_decimal (negsuc n)) kinds.Int (_, (numbers.decimal minus (decimal (suc n)), refl, (decimal_is_IsNumeral (suc n) (omega (arith, small))).0, refl))
-
--- so a scalar of that text is one
-pub int_plain : (z : ℤ) → FitsSigned w64 z → plain_of (signed_decimal z) ≡ record { kind = kinds.Int; text = signed_decimal z }
-int_plain z h = ap (λ (k : Kind). of_kind k (signed_decimal z)) (int_written z h)
 
 -- a number that is passed on is the same
 pub int_agrees : (z : ℤ) (t : List ℕ) → FitsSigned w64 z → t ≡ signed_decimal (to_z w64 (of_z w64 z)) → t ≡ signed_decimal z

@@ -10,4 +10,4 @@ pub use updating::change::{Addition, Change, Changed};
 pub use updating::comment_text::has_comment;
 pub use updating::copied::copied;
 pub use updating::operations::operations;
-pub use updating::sum::{is_null, sum};
+pub use updating::sum::{is_null, scalar_sum, sum};

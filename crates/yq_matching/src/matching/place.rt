@@ -1,7 +1,7 @@
 //! Places to which steps lead. Paths share their fronts in an arena, so that a
 //! place takes one link, however deep it lies.
 ghost use Rattle.std.specs.Prelude.{◌≡◌, ◌++◌, ◌∷◌, [], IfOk};
-ghost use Rattle.yq_documents.specs.Nodes.{node_of};
+ghost use Rattle.yq_documents.specs.Nodes.{label_of, node_of};
 ghost use Rattle.yq_meaning.specs.Conditions as conditions;
 ghost use Rattle.yq_matching.specs.PlaceView.{missing_of, node_step_of, path_of, node_or_null, place_of};
 ghost use Rattle.yq_meaning.specs.Places as spec;
@@ -55,6 +55,16 @@ impl<'a> Missing<'a> {
     }
 }
 
+/// The step to an item or entry before which so many stand.
+fn step_to<'a>(child: Node<'a, '_>, before: usize) -> NodeStep<'a>
+    ensures { node_step_of result ≡ spec.step_by before (label_of child.entry).key }
+{
+    match child.key() {
+        Some(key) => NodeStep::Key(key),
+        None => NodeStep::Index(before),
+    }
+}
+
 impl<'a, 't> Place<'a, 't> {
     /// The place of a root.
     pub fn of_root(node: Node<'a, 't>) -> Place<'a, 't>
@@ -81,6 +91,17 @@ impl<'a, 't> Place<'a, 't> {
             node,
             missing: Missing::Nothing,
         }
+    }
+
+    /// The place of an item or entry one step below a path, before which so many stand.
+    pub fn nth_below(path: &'a NodePath<'a>, before: usize, child: Node<'a, 't>) -> Place<'a, 't>
+        ensures { (p : spec.Place) → p.path ≡ path_of path.now → place_of result ≡
+            spec.child_place p (
+              spec.step_by before (label_of child.entry).key,
+              node_of child.entry,
+            ) }
+    {
+        Place::below(path, step_to(child, before), child)
     }
 
     /// The place of an item or entry of its node.

@@ -2,9 +2,9 @@
 //! does.
 ghost use Rattle.std.specs.Prelude.{◌≡◌, ◌++◌, map, IfOk, OnOk};
 ghost use Rattle.yq_flow_scalars.specs.Tree.{children_of};
-ghost use Rattle.yq_documents.specs.Nodes.{label_of, node_of};
+ghost use Rattle.yq_documents.specs.Nodes.{node_of};
 ghost use Rattle.yq_meaning.specs.Judgement.{Judges};
-ghost use Rattle.yq_matching.specs.PlaceView.{found_of, node_step_of, place_of, places_of, put_behind};
+ghost use Rattle.yq_matching.specs.PlaceView.{found_of, place_of, places_of, put_behind};
 ghost use Rattle.yq_meaning.specs.Places as spec;
 ghost use Rattle.yq_program.specs.Program.{each};
 ghost use Rattle.yq_program.specs.View.{step_of};
@@ -60,16 +60,6 @@ fn push_found<'a, 't>(
     }
 }
 
-/// The step to an item or entry before which so many stand.
-fn step_to<'a>(child: Node<'a, '_>, before: usize) -> NodeStep<'a>
-    ensures { node_step_of result ≡ spec.step_by before (label_of child.entry).key }
-{
-    match child.key() {
-        Some(key) => NodeStep::Key(key),
-        None => NodeStep::Index(before),
-    }
-}
-
 /// Puts the places of all items or values of a place's node behind others.
 fn push_children<'a, 't>(
     bump: &'a Bump,
@@ -88,7 +78,7 @@ fn push_children<'a, 't>(
         let Some(child) = children.next() else {
             return Ok(());
         };
-        places.push(Place::below(path, step_to(child, before), child))?;
+        places.push(Place::nth_below(path, before, child))?;
         before += 1;
     }
     Ok(())
@@ -140,7 +130,7 @@ fn push_step<'a, 't>(
 }
 
 /// Where a step leads from places, one after the other.
-fn step_each<'a, 't>(
+pub(crate) fn step_each<'a, 't>(
     alloc: Global,
     bump: &'a Bump,
     step: &'a Step,

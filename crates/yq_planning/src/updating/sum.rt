@@ -22,7 +22,7 @@ fn int(alloc: Global, number: i64) -> Result<Value, AllocError>
     ensures { IfOk result (λ v. node_of v ≡ scalar None Int (signed_decimal number)) }
 {
     let text = number.to_string(alloc)?;
-    Ok(Value::Scalar(Scalar::plain(alloc, text.as_str())?))
+    Ok(Value::Scalar(Scalar::of_kind(Kind::Int, text)))
 }
 
 /// The sum of two ints.
@@ -49,12 +49,7 @@ fn text_sum(alloc: Global, one: &str, other: &str) -> Result<Value, AllocError>
 }
 
 /// The sum of two scalars, neither of which is null.
-pub(crate) fn scalar_sum(
-    alloc: Global,
-    kind: Kind,
-    text: &str,
-    other: &Scalar,
-) -> Result<Value, ExprError>
+pub fn scalar_sum(alloc: Global, kind: Kind, text: &str, other: &Scalar) -> Result<Value, ExprError>
     ensures { Judges node_of result (spec.scalar_sum kind text.now other.now.kind other.now.text) }
 {
     match (kind, other.kind()) {

@@ -3,7 +3,7 @@ use Rattle.std.specs.declared.alloc.Global.{Global}
 use Rattle.yq_documents.specs.Nodes.{node_of}
 use Rattle.yq_planning.specs.ChangeView.{changed_of}
 use Rattle.yq_meaning.specs.Judgement.{Judges}
-use Rattle.yq_matching.specs.PlaceView.{places_of}
+use Rattle.yq_matching.specs.FoundView.{found_places}
 use Rattle.yq_meaning.specs.Rooms.{room_of}
 use Rattle.yq_program.specs.View.{stage_of, term_of}
 use Rattle.yq_planning.specs.declared.updating.change.Changed.{Changed}
@@ -12,6 +12,6 @@ use Rattle.yq_expr.proofs.changes.assign.Goals as goal
 
 pub returns-in-Modify : goal.returns-in-Modify
 returns-in-Modify c =
-    subst (Judges (λ (v : Vec Changed Global). map changed_of v.items) c.at_each.result)
-    (modified c.args.doc (room_of c.args.documents.now c.args.doc) (node_of c.args.root) (map stage_of c.args.assignment.now.left.items) c.args.assignment.now.operator (map term_of c.args.assignment.now.right.items) (map term_of c.deref-right.result.now) (places_of c.args.places.now) c.in-Modify.is (ap (map term_of) c.deref-right.ensures.value))
-    (c.at_each.ensures (node_of c.args.root) c.requires.aliases c.requires.within)
+    subst (Judges (λ (v : Vec Changed Global). map changed_of v.items) c.at_found.result)
+    (modified c.args.doc (room_of c.args.documents.now c.args.doc) (node_of c.args.root) (map stage_of c.args.assignment.now.left.items) c.args.assignment.now.operator (map term_of c.args.assignment.now.right.items) (map term_of c.deref-right.result.now) (found_places c.args.places.now) c.in-Modify.is (ap (map term_of) c.deref-right.ensures.value))
+    (c.at_found.ensures (node_of c.args.root) c.requires.aliases c.requires.within)

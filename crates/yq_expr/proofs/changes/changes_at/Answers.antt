@@ -4,7 +4,7 @@ use Rattle.yq_documents.specs.Nodes.{node_of}
 use Rattle.yq_meaning.specs.Changes.{at_each, changes_at, comment_at}
 use Rattle.yq_planning.specs.ChangeView.{changed_of}
 use Rattle.yq_meaning.specs.Judgement.{Judges}
-use Rattle.yq_matching.specs.PlaceView.{places_of}
+use Rattle.yq_matching.specs.FoundView.{found_places}
 use Rattle.yq_meaning.specs.Rooms.{room_of}
 use Rattle.yq_program.specs.View.{update_of}
 use Rattle.yq_planning.specs.declared.updating.change.Changed.{Changed}
@@ -15,8 +15,8 @@ pub returns : goal.returns
 returns c =
     let root = node_of c.args.root in
     let room = room_of c.args.documents.now c.args.doc in
-    let ps = places_of c.args.places.now in
-    subst (Judges (λ (v : Vec Changed Global). map changed_of v.items) c.at_each-in-Comment.result)
+    let ps = found_places c.args.places.now in
+    subst (Judges (λ (v : Vec Changed Global). map changed_of v.items) c.at_found-in-Comment.result)
     (ap (λ (t : List ℕ). at_each root (comment_at room c.in-Comment.comment.place t) ps) c.as_str.ensures.value
     ∙ ap (λ (u : Update). changes_at c.args.doc room root (update_of u) ps) (sym c.in-Comment.is))
-    (c.at_each-in-Comment.ensures root c.in_ok-aliases.ensures c.requires.within)
+    (c.at_found-in-Comment.ensures root c.in_ok-aliases.ensures c.requires.within)

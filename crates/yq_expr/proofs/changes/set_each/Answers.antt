@@ -6,12 +6,13 @@ use Rattle.yq_documents.specs.Nodes.{node_of}
 use Rattle.yq_meaning.specs.Changes.{put_at}
 use Rattle.yq_planning.specs.ChangeView.{changed_of}
 use Rattle.yq_meaning.specs.Judgement.{MatchFails, Judges}
-use Rattle.yq_matching.specs.PlaceView.{place_of, places_of}
+use Rattle.yq_matching.specs.FoundView.{found_places}
+use Rattle.yq_matching.specs.PlaceView.{place_of}
 use Rattle.yq_meaning.specs.Places.{root_place}
 use Rattle.yq_meaning.specs.RightValues.{right_value}
 use Rattle.yq_program.specs.View.{term_of}
 use Rattle.yq_planning.specs.declared.updating.change.Changed.{Changed}
-use Rattle.yq_expr.proofs.AllChanges.{from_root, some_places, value_there, value_fails}
+use Rattle.yq_expr.proofs.AllChanges.{from_root, value_there, value_fails}
 use Rattle.yq_matching.proofs.EachLaws.{failed}
 use Rattle.yq_expr.proofs.changes.set_each.Goals as goal
 
@@ -21,14 +22,14 @@ returns-in_err-value c =
     let ts = map term_of c.args.right.now in
     let p = err_from_is_err_and c.from_residual.result c.from_residual.ensures.1 in
     failed _ _ _ _ (p.1 ∙ ap Err p.2)
-    (value_fails root (right_value c.args.doc ts (root_place root)) put_at (places_of c.args.places.now) _ (some_places c.args.places.now c.requires.some)
+    (value_fails root (right_value c.args.doc ts (root_place root)) put_at (found_places c.args.places.now) _ c.requires.some
     (subst (MatchFails _) (from_root c.args.doc root ts (place_of c.of_root.result) c.of_root.ensures) c.in_err-value.ensures))
 
 pub returns : goal.returns
 returns c =
     let root = node_of c.args.root in
     let ts = map term_of c.args.right.now in
-    subst (Judges (λ (v : Vec Changed Global). map changed_of v.items) c.at_each.result)
-    (sym (value_there root (right_value c.args.doc ts (root_place root)) put_at (places_of c.args.places.now) (value_node c.in_ok-value.value) (some_places c.args.places.now c.requires.some)
+    subst (Judges (λ (v : Vec Changed Global). map changed_of v.items) c.at_found.result)
+    (sym (value_there root (right_value c.args.doc ts (root_place root)) put_at (found_places c.args.places.now) (value_node c.in_ok-value.value) c.requires.some
     (sym (from_root c.args.doc root ts (place_of c.of_root.result) c.of_root.ensures) ∙ c.in_ok-value.ensures)))
-    (c.at_each.ensures root c.requires.aliases c.requires.within)
+    (c.at_found.ensures root c.requires.aliases c.requires.within)

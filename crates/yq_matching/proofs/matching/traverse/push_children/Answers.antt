@@ -1,6 +1,5 @@
 use Rattle.std.proofs.Common.{◌≡◌, ◌+◌, ◌++◌, map, sym, ap, ◌∙◌, append-nil, arith}
 use Rattle.yq_flow_scalars.specs.Tree.{Children}
-use Rattle.yq_flow_scalars.specs.Paths as paths
 use Rattle.yq_documents.specs.Children.{left_of}
 use Rattle.yq_lines.specs.Counts.{count}
 use Rattle.yq_documents.specs.Nodes.{label_of, node_of}
@@ -13,13 +12,13 @@ pub each-preserved : goal.each-preserved
 each-preserved c =
     let p : Place = place_of c.args.place in
     let counted = ap count c.in-Some.ensures.steps in
-    let place = c.below.ensures p (sym c.each.invariant.path) ∙ ap (λ (s : paths.Step). child_place p (s, node_of c.in-Some.child)) c.step_to.ensures in
+    let place = c.nth_below.ensures p (sym c.each.invariant.path) in
     record {
       path = c.each.invariant.path;
       counted = omega (arith, counted);
       so_far =
           ap (λ (is : _). places_of is ++ map (child_place p) (stepped (c.each.before + 1) (left_of c.next.new.self))) (c.in_ok-push.ensures.items)
-          ∙ children_more p c.each.before (left_of c.each.children) (left_of c.next.new.self) (label_of c.in-Some.child) (node_of c.in-Some.child) c.each.places.items c.below.result _ c.in-Some.ensures.steps place c.each.invariant.so_far;
+          ∙ children_more p c.each.before (left_of c.each.children) (left_of c.next.new.self) (label_of c.in-Some.child) (node_of c.in-Some.child) c.each.places.items c.nth_below.result _ c.in-Some.ensures.steps place c.each.invariant.so_far;
     }
 
 pub returns : goal.returns

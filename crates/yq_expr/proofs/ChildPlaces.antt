@@ -1,0 +1,38 @@
+-- What is changed at the items or values of a node, one after the other.
+use Rattle.std.proofs.Common.{◌≡◌, ℕ, suc, ◌+◌, List, [], ◌∷◌, map, refl, sym, ap, ◌∙◌, add-one, append-nil, arith}
+use Rattle.yq_flow_scalars.specs.Paths as paths
+use Rattle.yq_flow_scalars.specs.Tree.{Label, Node, Children, none, child}
+use Rattle.yq_matching.specs.PlaceView.{put_behind}
+use Rattle.yq_matching.proofs.EachLaws.{each_more, each_fails}
+use Rattle.yq_meaning.specs.Judgement.{MatchFails, Judgement, gives}
+use Rattle.yq_meaning.specs.Places.{Place, child_place, for_each, step_by, stepped}
+use Rattle.yq_meaning.specs.declared.expr_error.ExprError.{ExprError}
+
+-- the places of items or entries, the first one apart
+pub first_child : (p : Place) (b : ℕ) (cs rest : Children) (label : Label) (n : Node) → cs ≡ child label n rest →
+    map (child_place p) (stepped b cs) ≡ child_place p (step_by b label.key, n) ∷ map (child_place p) (stepped (b + 1) rest)
+first_child p b cs rest label n is =
+    ap (λ (ds : Children). map (child_place p) (stepped b ds)) is
+    ∙ ap (λ (i : ℕ). child_place p (step_by b label.key, n) ∷ map (child_place p) (stepped i rest)) (sym (add-one b))
+
+module _ {B : Type 0} (f : Place → Judgement (List B)) (p : Place) (b : ℕ) (cs rest : Children) (label : Label) (n : Node) where
+  -- one item or entry more
+  pub child_more : (before after : List B) (all : Judgement (List B)) → cs ≡ child label n rest → put_behind before (f (child_place p (step_by b label.key, n))) ≡ gives after →
+      put_behind before (for_each f (map (child_place p) (stepped b cs))) ≡ all → put_behind after (for_each f (map (child_place p) (stepped (b + 1) rest))) ≡ all
+  child_more before after all is h so_far =
+      ap (λ (i : ℕ). put_behind after (for_each f (map (child_place p) (stepped i rest)))) (add-one b)
+      ∙ each_more (child_place p) f before after ((step_by b label.key, n) ∷ stepped (suc b) rest) 0 (step_by b label.key, n) all (omega arith) refl h
+      (ap (λ (ds : Children). put_behind before (for_each f (map (child_place p) (stepped b ds)))) (sym is) ∙ so_far)
+
+  -- an error at one is one of all
+  pub child_fails : (before : List B) (all : Judgement (List B)) (e : ExprError) → cs ≡ child label n rest → MatchFails e (put_behind before (f (child_place p (step_by b label.key, n)))) →
+      put_behind before (for_each f (map (child_place p) (stepped b cs))) ≡ all → MatchFails e all
+  child_fails before all e is h so_far =
+      each_fails (child_place p) f before ((step_by b label.key, n) ∷ stepped (suc b) rest) 0 (step_by b label.key, n) all e (omega arith) refl h
+      (ap (λ (ds : Children). put_behind before (for_each f (map (child_place p) (stepped b ds)))) (sym is) ∙ so_far)
+
+-- behind the last one nothing more comes
+pub children_done : {B : Type 0} (f : Place → Judgement (List B)) (p : Place) (b : ℕ) (cs : Children) (before : List B) (all : Judgement (List B)) → cs ≡ none →
+    put_behind before (for_each f (map (child_place p) (stepped b cs))) ≡ all → all ≡ gives before
+children_done f p b cs before all is so_far =
+    sym so_far ∙ (ap (λ (ds : Children). put_behind before (for_each f (map (child_place p) (stepped b ds)))) is ∙ ap gives (append-nil before))

@@ -1,0 +1,55 @@
+-- The sum of two scalars with which a right side begins.
+use Rattle.std.proofs.Common.{◌≡◌, ℕ, cond, false, List, [], ◌∷◌, length, map, get_or, None, refl, sym, ap, ◌∙◌, arith}
+use Rattle.yq_flow_scalars.specs.declared.kind.Kind.{Kind}
+use Rattle.yq_flow_scalars.specs.declared.kind.Kind.TheVariants as scalars
+use Rattle.yq_flow_scalars.specs.Tree as tree
+use Rattle.yq_flow_scalars.specs.Tree.{Node, alias, scalar, list}
+use Rattle.yq_documents.specs.Nodes.{kind_of, text_of}
+use Rattle.yq_documents.specs.declared.nodes.node.NodeKind.TheVariants as kinds
+use Rattle.yq_expr.specs.Summand.{IsSummand}
+use Rattle.yq_meaning.specs.Copies.{copy}
+use Rattle.yq_meaning.specs.Judgement.{Judgement, and_then, gives, refuses}
+use Rattle.yq_meaning.specs.Places.{Place}
+use Rattle.yq_meaning.specs.RightValues.{is_null, scalar_sum, value_sum, sum, term_value, right_value}
+use Rattle.yq_program.specs.Program.{Term}
+
+-- nothing more comes of a last step that gives what it has
+then_same : (j : Judgement Node) → and_then (λ (u : Node). gives u) j ≡ j
+then_same (gives x) = refl
+then_same (refuses why) = refl
+
+-- the sum of two scalars that are not null
+scalars_added : (k l : Kind) (s r : List ℕ) → is_null (scalar None k s) ≡ false → is_null (scalar None l r) ≡ false → sum (scalar None k s) (scalar None l r) ≡ scalar_sum k s l r
+scalars_added k l s r some other =
+    let n : Node = scalar None k s in
+    let v : Node = scalar None l r in
+    ap (λ b. cond b (gives v) (cond (is_null v) (gives n) (value_sum n v))) some ∙ ap (λ b. cond b (gives n) (value_sum n v)) other
+
+-- two terms that are scalars
+pub two_added : {X : Type 0} (view : X → Term) (doc : ℕ) (p : Place) (xs : List X) (x y : X) (k l : Kind) (s r : List ℕ) → length xs ≡ 2 → x ≡ get_or xs 0 x → y ≡ get_or xs 1 y →
+    IsSummand k s (term_value doc p (view x)) → IsSummand l r (term_value doc p (view y)) → right_value doc (map view xs) p ≡ scalar_sum k s l r
+two_added view doc p [] x y k l s r long is at one two = absurd (omega (arith, long))
+two_added view doc p (a ∷ []) x y k l s r long is at one two = absurd (omega (arith, long))
+two_added {X} view doc p (a ∷ (b ∷ [])) x y k l s r long is at one two =
+    let added = λ (v w : Node). and_then (λ (u : Node). gives u) (sum v w) in
+    ap (λ (z : X). and_then (λ v. and_then (added v) (term_value doc p (view b))) (term_value doc p (view z))) (sym is)
+    ∙ (ap (λ (z : X). and_then (λ v. and_then (added v) (term_value doc p (view z))) (term_value doc p (view x))) (sym at)
+    ∙ (ap (and_then (λ v. and_then (added v) (term_value doc p (view y)))) one.0
+    ∙ (ap (and_then (added (scalar None k s))) two.0
+    ∙ (then_same (sum (scalar None k s) (scalar None l r)) ∙ scalars_added k l s r one.1 two.1))))
+two_added view doc p (a ∷ (b ∷ (c ∷ cs))) x y k l s r long is at one two = absurd (omega (arith, long))
+
+-- a scalar is copied as it is
+pub scalar_copied : (n : Node) (k : Kind) → kind_of n ≡ kinds.Scalar k → copy n ≡ gives (scalar None k (text_of n))
+scalar_copied (alias name) k e = absurd (cc)
+scalar_copied (scalar anchor kind text) k e = cc
+scalar_copied (list anchor cs) k e = absurd (cc)
+scalar_copied (tree.map anchor cs) k e = absurd (cc)
+
+-- no kind but null is that of null
+pub is_some : (k : Kind) (t : List ℕ) → ¬ (k ≡ scalars.Null) → is_null (scalar None k t) ≡ false
+is_some scalars.Null t other = absurd (other refl)
+is_some scalars.Bool t other = refl
+is_some scalars.Int t other = refl
+is_some scalars.Float t other = refl
+is_some scalars.Text t other = refl

@@ -1,0 +1,64 @@
+use Rattle.std.proofs.Common.{◌≡◌, Err, List, map, refl, sym, ap, ◌∙◌, subst, arith}
+use Rattle.std.proofs.lemmas.Result.{err_from_is_err_and}
+use Rattle.yq_documents.specs.Children.{left_of}
+use Rattle.yq_documents.specs.Nodes.{label_of, node_of}
+use Rattle.yq_lines.specs.Counts.{count}
+use Rattle.yq_meaning.specs.Changes.{Changed, all_allowed}
+use Rattle.yq_planning.specs.ChangeView.{changed_of}
+use Rattle.yq_expr.specs.EffectView.{effect_at}
+use Rattle.yq_meaning.specs.Judgement.{MatchFails, Judgement, and_then, gives}
+use Rattle.yq_matching.specs.FoundView.{node_place}
+use Rattle.yq_matching.specs.PlaceView.{path_of, put_behind}
+use Rattle.yq_meaning.specs.PlacesApart.{AreIn, IsIn}
+use Rattle.yq_meaning.specs.Places.{Place}
+use Rattle.yq_meaning.specs.Rooms.{room_of}
+use Rattle.yq_matching.specs.TreeScalars.{HasScalars, HaveScalars}
+use Rattle.yq_expr.proofs.ChildPlaces.{first_child, child_more, child_fails, children_done}
+use Rattle.yq_matching.proofs.EachLaws.{failed}
+use Rattle.yq_matching.proofs.PlaceLaws.{none_counted}
+use Rattle.yq_expr.proofs.changes.at_children.Goals as goal
+
+pub push_effect-requires : goal.push_effect-requires
+push_effect-requires c =
+    let p : Place = node_place (path_of c.args.path.now) (node_of c.args.node) in
+    let first = first_child p c.children.before (left_of c.children.children) (left_of c.next.new.self) (label_of c.in-Some.child) (node_of c.in-Some.child) c.in-Some.ensures.steps in
+    subst (λ (q : Place). HasScalars q.node) (sym (c.nth_below-place.ensures p refl)) (subst HaveScalars first c.children.invariant.scalars).0
+
+pub returns-in_err-push_effect : goal.returns-in_err-push_effect
+returns-in_err-push_effect c = λ root named within.
+    let e = err_from_is_err_and c.from_residual-in_err-push_effect.result c.from_residual-in_err-push_effect.ensures.1 in
+    let p : Place = node_place (path_of c.args.path.now) (node_of c.args.node) in
+    let f : Place → Judgement (List Changed) = λ q. and_then (all_allowed root) (effect_at c.args.doc (room_of c.args.documents.now c.args.doc) c.args.effect q) in
+    let first = first_child p c.children.before (left_of c.children.children) (left_of c.next.new.self) (label_of c.in-Some.child) (node_of c.in-Some.child) c.in-Some.ensures.steps in
+    let here = c.nth_below-place.ensures p refl in
+    failed _ _ _ _ (e.1 ∙ ap Err e.2)
+    (child_fails f p c.children.before (left_of c.children.children) (left_of c.next.new.self) (label_of c.in-Some.child) (node_of c.in-Some.child) (map changed_of c.children.changes.items) _ _ c.in-Some.ensures.steps
+    (subst (λ (q : Place). MatchFails c.in_err-push_effect.field-0.0 (put_behind (map changed_of c.children.changes.items) (f q))) here
+    ((rw c.children.invariant.same at c.in_err-push_effect.ensures.change) root named (subst (IsIn root) (sym here) (subst (AreIn root) first (c.children.invariant.within root within)).0)))
+    (c.children.invariant.so_far root named within))
+
+pub children-preserved : goal.children-preserved
+children-preserved c =
+    let p : Place = node_place (path_of c.args.path.now) (node_of c.args.node) in
+    let first = first_child p c.children.before (left_of c.children.children) (left_of c.next.new.self) (label_of c.in-Some.child) (node_of c.in-Some.child) c.in-Some.ensures.steps in
+    let here = c.nth_below-place.ensures p refl in
+    let counted = ap count c.in-Some.ensures.steps in
+    record {
+      same = c.push_effect.ensures.same ∙ c.children.invariant.same;
+      counted = omega (arith, counted);
+      scalars = (subst HaveScalars first c.children.invariant.scalars).1;
+      within = λ root within. (subst (AreIn root) first (c.children.invariant.within root within)).1;
+      so_far = λ root named within.
+          let f : Place → Judgement (List Changed) = λ q. and_then (all_allowed root) (effect_at c.args.doc (room_of c.args.documents.now c.args.doc) c.args.effect q) in
+          child_more f p c.children.before (left_of c.children.children) (left_of c.next.new.self) (label_of c.in-Some.child) (node_of c.in-Some.child) (map changed_of c.children.changes.items) (map changed_of c.push_effect.new.changes.items) _ c.in-Some.ensures.steps
+          (subst (λ (q : Place). put_behind (map changed_of c.children.changes.items) (f q) ≡ gives (map changed_of c.push_effect.new.changes.items)) here
+          ((rw c.children.invariant.same at c.in_ok-push_effect.ensures.change) root named (subst (IsIn root) (sym here) (subst (AreIn root) first (c.children.invariant.within root within)).0)))
+          (c.children.invariant.so_far root named within);
+    }
+
+pub returns : goal.returns
+returns c = λ root named within.
+    let p : Place = node_place (path_of c.args.path.now) (node_of c.args.node) in
+    let f : Place → Judgement (List Changed) = λ q. and_then (all_allowed root) (effect_at c.args.doc (room_of c.args.documents.now c.args.doc) c.args.effect q) in
+    let zero : count (left_of c.children.children) ≡ 0 = omega (arith, c.children.invariant.counted, c.children-test.false) in
+    children_done f p c.children.before (left_of c.children.children) (map changed_of c.children.changes.items) _ (none_counted (left_of c.children.children) zero) (c.children.invariant.so_far root named within)

@@ -1,0 +1,33 @@
+use Rattle.std.proofs.Common.{◌≡◌, ◌+◌, ◌-◌, map}
+use Rattle.yq_flow_scalars.specs.Tree.{Node}
+use Rattle.yq_flow_scalars.specs.Anchors.{names_of}
+use Rattle.yq_documents.specs.Children.{left_of}
+use Rattle.yq_documents.specs.Nodes.{node_of}
+use Rattle.yq_lines.specs.Counts.{count}
+use Rattle.yq_meaning.specs.Changes.{at_each}
+use Rattle.yq_planning.specs.ChangeView.{changed_of}
+use Rattle.yq_expr.specs.EffectView.{effect_at}
+use Rattle.yq_planning.specs.Indexes.{HasAliases}
+use Rattle.yq_matching.specs.FoundView.{child_places, node_place}
+use Rattle.yq_matching.specs.PlaceView.{path_of, put_behind}
+use Rattle.yq_meaning.specs.Places.{child_place, stepped}
+use Rattle.yq_meaning.specs.PlacesApart.{AreIn}
+use Rattle.yq_meaning.specs.Rooms.{room_of}
+use Rattle.yq_matching.specs.TreeScalars.{HaveScalars}
+use Rattle.yq_expr.proofs.changes.at_children.Given as goal
+
+abbrev pub invariant-children : goal.invariant-children
+invariant-children l =
+    let left = map (child_place (node_place (path_of l.path) (node_of l.fn.node))) (stepped l.before (left_of l.children)) in
+    record {
+      same : l.cut ≡ l.documents;
+      counted : l.before + count (left_of l.children) ≡ l.count;
+      scalars : HaveScalars left;
+      within : (root : Node) → AreIn root (child_places (path_of l.path) (node_of l.fn.node)) → AreIn root left;
+      so_far : (root : Node) → HasAliases (names_of root) l.aliases → AreIn root (child_places (path_of l.path) (node_of l.fn.node)) →
+          put_behind (map changed_of l.changes.items) (at_each root (effect_at l.doc (room_of l.documents l.doc) l.effect) left)
+          ≡ at_each root (effect_at l.doc (room_of l.documents l.doc) l.effect) (child_places (path_of l.path) (node_of l.fn.node));
+    }
+
+abbrev pub decreases-children : goal.decreases-children
+decreases-children l = l.count - l.before

@@ -1,0 +1,18 @@
+use Rattle.std.proofs.Common.{List, Vec, map, sym, ap, subst}
+use Rattle.std.specs.declared.alloc.Global.{Global}
+use Rattle.yq_expr.specs.EffectView.{effect_at}
+use Rattle.yq_matching.specs.FoundView.{found_places}
+use Rattle.yq_meaning.specs.Changes.{at_each}
+use Rattle.yq_meaning.specs.Judgement.{Judges}
+use Rattle.yq_meaning.specs.Places.{Place}
+use Rattle.yq_meaning.specs.PlacesApart.{AreIn}
+use Rattle.yq_meaning.specs.Rooms.{room_of}
+use Rattle.yq_planning.specs.ChangeView.{changed_of}
+use Rattle.yq_planning.specs.declared.updating.change.Changed.{Changed}
+use Rattle.yq_expr.proofs.changes.at_found.Goals as goal
+
+pub returns-in-Children : goal.returns-in-Children
+returns-in-Children c = λ root named within.
+    subst (λ (ps : List Place). Judges (λ (v : Vec Changed Global). map changed_of v.items) c.at_children.result (at_each root (effect_at c.args.doc (room_of c.args.documents.now c.args.doc) c.args.effect) ps))
+    (sym (ap found_places c.in-Children.is))
+    (c.at_children.ensures root named (subst (AreIn root) (ap found_places c.in-Children.is) within))
