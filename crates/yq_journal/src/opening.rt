@@ -92,8 +92,8 @@ impl Journal {
     /// Finishes an open move of which it is known that it leads to this text, as [`Journal::settle`]
     /// does beside it, which makes that text once more and compares it.
     pub fn finish(&mut self, _text: &[u8]) -> Result<(), JournalError>
-        requires { IfSome self.old.pending (λ p. moved_text self.old.records self.old.at p.step p.from ≡
-            Some _text.now) }
+        requires { IfSome self.old.pending (λ p. moved_text self.old.records self.old.at p.step
+            p.from ≡ Some _text.now) }
         ensures ok { OnOk result (settled self.old _text.now ≡ Some self.new) }
         ensures fault { IfErr result (λ e. e ≡ JournalError.Memory) }
         ensures err { OnErr result (self.new ≡ self.old) }

@@ -1,7 +1,7 @@
 use Rattle.std.proofs.Common.{inl, inr}
 use Rattle.yq_history.proofs.MoveLaws.{first_write, second_write, third_write, same_content, moved_journal, on_err, on_ok_map, on_err_map, either}
 use Rattle.std.proofs.Common.{refl, ap, ◌∙◌}
-use Rattle.yq_history.proofs.CutLaws.{cut_unwritten, cut_opened, cut_changed, cut_finishd}
+use Rattle.yq_history.proofs.CutLaws.{cut_unwritten, cut_opened, cut_changed, cut_settled}
 use Rattle.std.specs.FinMap.{get}
 use Rattle.yq_store.specs.FileMap.{get_written}
 use Rattle.yq_history.proofs.EffectLaws.{on_ok}
@@ -65,7 +65,7 @@ returns-clause-cut g c = λ keeps apart.
     on_err_map _ (c.write_journal-2.ensures.err keeps)
     (λ x. either x
     (λ same. cut_changed _ _ _ _ _ _ apart _ _ c.in_ok-start_with.ensures.ok (c.in_ok-write_journal.ensures.ok keeps) _ (same ∙ put))
-    (λ w. cut_finishd _ _ _ _ _ _ _ file
+    (λ w. cut_settled _ _ _ _ _ _ _ file
     (moved_journal _ c.args.state.now _ _ c.args.step _ _ _ _ c.requires.moves c.requires.changes c.in_ok-start_with.ensures.ok c.in_ok-finish.ensures.ok w)))
 
 pub returns-clause-moved : goal.returns-clause-moved
