@@ -70,21 +70,17 @@ unfolding encode_symbols
 kept_symbols [] h = tt
 kept_symbols (a ∷ []) h =
     let x : a < 256 = h 0 in
-    (kept_symbol (a / 4) (omega arith), kept_symbol (a % 4 * 16) (omega arith), tt)
+    (kept_symbol (a / 4) (omega arith), (kept_symbol (a % 4 * 16) (omega arith), tt))
 kept_symbols (a ∷ b ∷ []) h =
     let x : a < 256 = h 0 in
     let y : b < 256 = h 1 in
-    (kept_symbol (a / 4) (omega arith), kept_symbol (a % 4 * 16 + b / 16) (omega arith), kept_symbol (b % 16 * 4) (omega arith), tt)
+    (kept_symbol (a / 4) (omega arith), (kept_symbol (a % 4 * 16 + b / 16) (omega arith), (kept_symbol (b % 16 * 4) (omega arith), tt)))
 kept_symbols (a ∷ b ∷ c ∷ rest) h =
     let x : a < 256 = h 0 in
     let y : b < 256 = h 1 in
-    let z : c < 256 = h 2 in (
-      kept_symbol (a / 4) (omega arith),
-      kept_symbol (a % 4 * 16 + b / 16) (omega arith),
-      kept_symbol (b % 16 * 4 + c / 64) (omega arith),
-      kept_symbol (c % 64) (omega arith),
-      kept_symbols rest (λ i. h (suc (suc (suc i)))),
-    )
+    let z : c < 256 = h 2 in
+    let last : AreKept (slice_index symbols (c % 64) ∷ encode_symbols symbols rest) = (kept_symbol (c % 64) (omega arith), kept_symbols rest (λ i. h (suc (suc (suc i))))) in
+    (kept_symbol (a / 4) (omega arith), (kept_symbol (a % 4 * 16 + b / 16) (omega arith), (kept_symbol (b % 16 * 4 + c / 64) (omega arith), last)))
 
 padding_is_kept : escape_byte 61 ≡ 61 ∷ []
 unfolding escape_byte
@@ -192,7 +188,7 @@ reads_back s p held records k u =
     let d = journal_data s in
     let same : journal_object s.at (pending_data (Some p)) (list_data record_data s.records) ≡ d = ap (λ o. journal_object s.at (pending_data o) (list_data record_data s.records)) (sym k.is_open) in
     let numbers : HasNumbers (outline d) = subst (λ x. HasNumbers (outline x)) same
-    (IsNumber-decimal s.at k.fits, (tt, tt, k.held_is.numbers, tt), k.records_are.numbers, IsNumber-decimal 2 (omega arith), tt) in
+    (IsNumber-decimal s.at k.fits, ((tt, (tt, (k.held_is.numbers, tt))), (k.records_are.numbers, (IsNumber-decimal 2 (omega arith), tt)))) in
     let value : of_json (outline d) ≡ Some d = subst (λ x. of_json (outline x) ≡ Some x) same
     (object_reads s.at (pending_data (Some p)) (list_data record_data s.records) k.fits (pending_reads p k.held_is.reads) k.records_are.reads) in
     let opened : pending_of true (pending_data s.pending) ≡ Some s.pending = subst (λ o. pending_of true (pending_data o) ≡ Some o) (sym k.is_open) (open_reads p k.step_reads k.from_reads) in

@@ -40,6 +40,17 @@ fn move_text(alloc: Global, step: &Move) -> Result<String, AllocError>
     Ok(text)
 }
 
+/// Records as a value.
+fn records_value(alloc: Global, records: &[Record]) -> Result<Value, AllocError>
+    ensures written { IfOk result (λ v. view v ≡
+        array (json.list_data json.record_data records.now)) }
+    ensures reads_back { IfOk result (λ _. json.all_of (json.record_of true)
+        (json.list_data json.record_data records.now) ≡ Some records.now) }
+{
+    let values = record_values(alloc, records)?;
+    Ok(Value::Array(values))
+}
+
 /// The text of records.
 fn records_text(alloc: Global, records: &[Record]) -> Result<String, AllocError>
     ensures written { IfOk result (λ s. spec.IsWritten (string_bytes s)
@@ -47,7 +58,7 @@ fn records_text(alloc: Global, records: &[Record]) -> Result<String, AllocError>
     ensures reads_back { IfOk result (λ _. json.all_of (json.record_of true)
         (json.list_data json.record_data records.now) ≡ Some records.now) }
 {
-    let values = Value::Array(record_values(alloc, records)?);
+    let values = records_value(alloc, records)?;
     let text = value_text(alloc, &values)?;
     Ok(text)
 }
