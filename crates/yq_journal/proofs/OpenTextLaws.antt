@@ -1,5 +1,5 @@
 -- The text of a journal with an open move, written in pieces, is that of its value, and is read back.
-use Rattle.std.proofs.Common.{◌≡◌, ◌≤◌, ◌<◌, ◌/◌, ◌%◌, ◌*◌, ◌+◌, ◌^◌, ℕ, zero, suc, List, [], ◌∷◌, ◌++◌, Bool, true, false, Option, Some, None, Ok, codes, length, replicate, slice_index, decimal, refl, sym, ap, ap₂, ◌∙◌, subst, arith, append_assoc, append-nil, if◌then◌else◌}
+use Rattle.std.proofs.Common.{◌≡◌, ◌≤◌, ◌<◌, ◌/◌, ◌%◌, ◌*◌, ◌+◌, ◌^◌, ℕ, zero, suc, List, [], ◌∷◌, ◌++◌, Bool, true, false, Option, Some, None, Ok, codes, replicate, slice_index, decimal, refl, sym, ap, ap₂, ◌∙◌, subst, arith, append_assoc, append-nil, if◌then◌else◌}
 use Rattle.std.specs.Prelude.{max, option_and_then, option_map, ⊤}
 use Rattle.std.specs.Result.{result_ok}
 use Rattle.std.specs.Str.{IsUtf8, bytes_eq}
@@ -12,7 +12,7 @@ use Rattle.base64.specs.Rfc4648.{encode_symbols}
 use Rattle.base64.specs.Tables.{all_below}
 use Rattle.base64.proofs.Tables.{all_below_at}
 use Rattle.json.specs.Lex.{tokens}
-use Rattle.json.specs.Print.{print, escape, escape_byte, ArePrintable, ArePrintableOrBad}
+use Rattle.json.specs.Print.{escape, escape_byte, ArePrintableOrBad}
 use Rattle.json.specs.Json as json
 use Rattle.json.specs.Token.{Token}
 use Rattle.json.specs.Tree as tree
@@ -30,9 +30,8 @@ use Rattle.yq_journal.specs.declared.moves.Move.{Move}
 use Rattle.yq_journal.specs.declared.moves.Move.TheVariants.{Edit, Undo, Redo}
 use Rattle.yq_journal.specs.Json.{all_of, bytes_data, journal_data, journal_in, journal_object, journal_of, journal_text, kind_text, list_data, move_data, move_of, open_from, open_of, pending_data, pending_of, record_data, record_of}
 use Rattle.yq_journal.specs.OpenText.{IsWritten, text_before, text_behind}
-use Rattle.yq_journal.specs.Record.{Record}
 use Rattle.yq_journal.specs.Refusals.{IsSound}
-use Rattle.yq_journal.specs.State.{Pending, State, state}
+use Rattle.yq_journal.specs.State.{Pending, State}
 use Rattle.yq_journal.proofs.JsonLaws.{journal_reads}
 use Rattle.yq_journal.proofs.LineFeed.{tokens-line_feed}
 use Rattle.yq_journal.proofs.WriteLaws.{shallow}

@@ -1,4 +1,4 @@
-use Rattle.std.proofs.Common.{◌≡◌, ◌++◌, ◌<◌, ℕ, true, Some, Ok, Vec, Global, IsUtf8, string_bytes, sym, ap, ap₂, ◌∙◌, subst, arith}
+use Rattle.std.proofs.Common.{◌≡◌, ◌++◌, ℕ, true, Some, Ok, Vec, Global, IsUtf8, string_bytes, sym, ap, ap₂, ◌∙◌, subst, arith}
 use Rattle.std.proofs.str.Laws.{IsUtf8-had}
 use Rattle.base64.specs.Engines.{standard}
 use Rattle.base64.specs.GeneralPurpose.{decode_of, encode_of}
@@ -39,9 +39,9 @@ whole c =
     let records = string_bytes c.in_ok-records.records in
     let front = c.in_ok-push_base64.ensures.added ∙ ap₂ (λ x y. x ++ escape (encode_of standard y)) c.in_ok-text.ensures c.deref-2.ensures.value in
     let text : string_bytes c.push_behind.new.text ≡ text_behind (text_before (seen c).at ++ escape (encode_of standard (move_seen c).from)) (kind_text (move_seen c).step) held records =
-        c.in_ok-push_behind.ensures
-        ∙ ap₂ (λ x k. text_behind x k c.deref-3.result.now c.deref-4.result.now) front c.kind.ensures
-        ∙ ap₂ (λ h r. text_behind (text_before (seen c).at ++ escape (encode_of standard (move_seen c).from)) (kind_text (move_seen c).step) h r) c.deref-3.ensures c.deref-4.ensures in
+    c.in_ok-push_behind.ensures
+    ∙ ap₂ (λ x k. text_behind x k c.deref-3.result.now c.deref-4.result.now) front c.kind.ensures
+    ∙ ap₂ (λ h r. text_behind (text_before (seen c).at ++ escape (encode_of standard (move_seen c).from)) (kind_text (move_seen c).step) h r) c.deref-3.ensures c.deref-4.ensures in
     ap (λ (v : Vec ℕ Global). v.items) c.into_bytes.ensures.value
     ∙ whole_text (seen c) (move_seen c) held records (string_bytes c.push_behind.new.text) (pieces c) text
 
