@@ -64,7 +64,7 @@ pub fn carry_out<D: Store>(
     state.start_with(step, old)?;
     write_journal(alloc, store, journal, state)?;
     store.replace(file, new)?;
-    state.settle(new)?;
+    state.finish(new)?;
     write_journal(alloc, store, journal, state)
 }
 

@@ -5,6 +5,7 @@ pub mod JoinLaws
 pub mod JsonLaws
 pub mod LineFeed
 pub mod MoveLaws
+pub mod OpenTextLaws
 pub mod RecordLaws
 pub mod RunLaws
 pub mod SquashLaws

@@ -87,7 +87,7 @@ nothing_lexes : lex between [] ≡ []
 unfolding lex
 nothing_lexes = refl
 
-tokens-line_feed : (ts : List Token) → ArePrintable ts → tokens (print ts ++ 10 ∷ []) ≡ tokens (print ts)
+pub tokens-line_feed : (ts : List Token) → ArePrintable ts → tokens (print ts ++ 10 ∷ []) ≡ tokens (print ts)
 tokens-line_feed ts h =
     ap (punctuate fresh) (lex-print_from false ts (10 ∷ []) h refl line_feed_lexes ∙ sym (lex-print_from false ts [] h refl nothing_lexes) ∙ ap (lex between) (append-nil (print ts)))
 

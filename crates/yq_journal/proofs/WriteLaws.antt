@@ -7,13 +7,14 @@ use Rattle.std.proofs.lemmas.Str.{is_utf8-from_IsUtf8, IsUtf8-append, IsUtf8-fro
 use Rattle.json.specs.Lex.{tokens}
 use Rattle.json.specs.Print.{print}
 use Rattle.json.specs.Json as json
-use Rattle.serde_json.specs.Data.{Data, depth, items_depth}
+use Rattle.serde_json.specs.Data.{Data, array, depth, items_depth}
 use Rattle.serde_json.specs.Read.{read, max_depth, of_json}
 use Rattle.serde_json.specs.View.{items_of}
 use Rattle.serde_json.specs.Written.{IsInOrder, has_float, items_have_float}
 use Rattle.yq_script.specs.Splice.{Splice}
+use Rattle.yq_journal.specs.declared.moves.Move.{Move}
 use Rattle.yq_journal.specs.declared.moves.Move.TheVariants.{Edit, Undo, Redo}
-use Rattle.yq_journal.specs.Json.{change_data, record_data, pending_data, journal_data, journal_of, journal_in}
+use Rattle.yq_journal.specs.Json.{change_data, record_data, move_data, pending_data, journal_data, journal_of, journal_in}
 use Rattle.yq_journal.specs.Record.{Record}
 use Rattle.yq_journal.specs.State.{Pending, State}
 use Rattle.yq_journal.proofs.LineFeed.{tokens_of_line}
@@ -25,9 +26,16 @@ no_float_changes (c ∷ cs) = no_float_changes cs
 no_float_record : (r : Record) → has_float (record_data r) ≡ false
 no_float_record r = ap (λ b. b || false) (no_float_changes r.changes)
 
-no_float_records : (rs : List Record) → items_have_float (items_of (map record_data rs)) ≡ false
+-- nor has that of its records
+pub no_float_records : (rs : List Record) → items_have_float (items_of (map record_data rs)) ≡ false
 no_float_records [] = refl
 no_float_records (r ∷ rs) = ap (λ b. b || items_have_float (items_of (map record_data rs))) (no_float_record r) ∙ no_float_records rs
+
+-- nor has that of a move
+pub no_float_move : (step : Move) → has_float (move_data step) ≡ false
+no_float_move (Edit r) = no_float_record r
+no_float_move Undo = refl
+no_float_move Redo = refl
 
 no_float_pending : (o : Option Pending) → has_float (pending_data o) ≡ false
 no_float_pending None = refl
@@ -56,6 +64,15 @@ flat_records (r ∷ rs) =
     let first : depth (record_data r) ≤ 3 = flat_record r in
     let more : items_depth (items_of (map record_data rs)) ≤ 3 = flat_records rs in
     omega arith
+
+-- a move's value and that of records are shallow
+pub shallow_move : (step : Move) → depth (move_data step) ≤ max_depth
+shallow_move (Edit r) = let f : depth (record_data r) ≤ 3 = flat_record r in omega arith
+shallow_move Undo = omega arith
+shallow_move Redo = omega arith
+
+pub shallow_records : (rs : List Record) → depth (array (items_of (map record_data rs))) ≤ max_depth
+shallow_records rs = let f : items_depth (items_of (map record_data rs)) ≤ 3 = flat_records rs in omega arith
 
 flat_pending : (o : Option Pending) → depth (pending_data o) ≤ 4
 flat_pending None = omega arith

@@ -2,6 +2,7 @@ pub mod GapBuffer
 pub mod Good
 pub mod History
 pub mod Json
+pub mod OpenText
 pub mod Record
 pub mod Refusals
 pub mod State

@@ -6,6 +6,7 @@ mod gap;
 mod journal;
 mod laws;
 mod moves;
+mod open_text;
 mod opening;
 mod read;
 mod record;

@@ -5,10 +5,14 @@ ghost use Rattle.yq_journal.specs.State.{moved, moved_text, state};
 
 use crate::fault::{JournalError, JournalFault};
 use crate::record::{Record, redo_record, undo_record};
+use crate::stands::stands_before;
 use std::alloc::Global;
 
 /// How many records a journal may hold.
 pub const MAX_RECORDS: usize = 4096;
+
+/// How many bytes a sole splice may take out that are compared one by one.
+const FEW_BYTES: usize = 4096;
 
 /// A step through a history.
 #[derive(Drop)]
@@ -82,6 +86,60 @@ pub(crate) fn target(
         return Err(JournalError::Fault(fault));
     }
     lead(alloc, records, at, step, text)
+}
+
+/// Whether a record has one splice, which takes out few bytes.
+fn is_small(patch: &Record) -> bool {
+    match patch.splices.as_slice() {
+        [splice] => splice.old.len() <= FEW_BYTES,
+        _ => false,
+    }
+}
+
+/// Whether a move leads to a text. This isn't made for a small edit, of 16 MB as of 1 KB.
+fn check_lead(
+    alloc: Global,
+    records: &[Record],
+    at: usize,
+    step: &Move,
+    text: &[u8],
+) -> Result<(), JournalError>
+    ensures free { OnOk result (if_moves (moved_text records.now at step.now text.now) ≡ None) }
+    ensures err { IfErr result (λ e. ErrorIs e (if_moves (moved_text records.now at step.now
+        text.now))) }
+{
+    match step {
+        Move::Edit(patch) if is_small(patch) => {
+            if stands_before(patch, text) {
+                Ok(())
+            } else {
+                Err(JournalError::Fault(JournalFault::DoesNotStand))
+            }
+        }
+        _ => {
+            let _target = lead(alloc, records, at, step, text)?;
+            Ok(())
+        }
+    }
+}
+
+/// The first fault of a move on a text, where no move is open.
+pub(crate) fn check_way(
+    alloc: Global,
+    records: &[Record],
+    at: usize,
+    step: &Move,
+    text: &[u8],
+) -> Result<(), JournalError>
+    ensures free { OnOk result (way_fault records.now at step.now text.now ≡ None) }
+    ensures err { IfErr result (λ e. ErrorIs e (way_fault records.now at step.now text.now)) }
+    ensures memory { IfErr result (λ e. e ≡ JournalError.Memory →
+        no_way records.now at step.now ≡ None) }
+{
+    if let Some(fault) = obstacle(records, at, step) {
+        return Err(JournalError::Fault(fault));
+    }
+    check_lead(alloc, records, at, step, text)
 }
 
 /// Makes a move that has room: an edit drops the records past the cursor.

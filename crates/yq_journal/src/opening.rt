@@ -1,14 +1,14 @@
 //! The open move of a journal: opened on a text, and settled beside it or the text to which it leads.
-ghost use Rattle.std.specs.Prelude.{◌≡◌, ◌≢◌, ◌⊎◌, None, Some, IfErr, OnOk, OnErr, IsNone, IsOk};
+ghost use Rattle.std.specs.Prelude.{◌≡◌, ◌≢◌, ◌⊎◌, None, Some, IfErr, IfSome, OnOk, OnErr, IsNone, IsOk};
 ghost use Rattle.yq_journal.specs.Refusals.{ErrorIs, move_fault, no_way};
 ghost use Rattle.yq_journal.specs.State.{moved_text, opened, settled};
 
 use crate::fault::{JournalError, JournalFault};
 use crate::journal::{Journal, Open};
-use crate::moves::{Move, lead, make, target};
+use crate::moves::{Move, check_way, lead, make};
 
 impl Journal {
-    /// The first fault of a move that is to be opened on a text. The text to which it leads is given back.
+    /// The first fault of a move that is to be opened on a text. The text to which it leads is not kept.
     fn check_start(&self, step: &Move, text: &[u8]) -> Result<(), JournalError>
         ensures free { OnOk result (move_fault self.now step.now text.now ≡ None) }
         ensures fault { IfErr result (λ e. ErrorIs e (move_fault self.now step.now text.now)) }
@@ -18,8 +18,7 @@ impl Journal {
         if self.open.is_some() {
             return Err(JournalError::Fault(JournalFault::Unsettled));
         }
-        let _target = target(self.alloc, &self.records, self.at, step, text)?;
-        Ok(())
+        check_way(self.alloc, &self.records, self.at, step, text)
     }
 
     /// Opens a move and keeps the whole text from which it starts. Refused,
@@ -87,6 +86,18 @@ impl Journal {
             Err(JournalError::Memory) => return Err(JournalError::Memory),
             _ => return Err(JournalError::Fault(JournalFault::Unsettled)),
         }
+        self.finish(text)
+    }
+
+    /// Finishes an open move of which it is known that it leads to this text, as [`Journal::settle`]
+    /// does beside it, which makes that text once more and compares it.
+    pub fn finish(&mut self, _text: &[u8]) -> Result<(), JournalError>
+        requires { IfSome self.old.pending (λ p. moved_text self.old.records self.old.at p.step
+            p.from ≡ Some _text.now) }
+        ensures ok { OnOk result (settled self.old _text.now ≡ Some self.new) }
+        ensures fault { IfErr result (λ e. e ≡ JournalError.Memory) }
+        ensures err { OnErr result (self.new ≡ self.old) }
+    {
         if let Some(taken) = self.open.take() {
             let Open { step, from } = taken;
             if let Err(step) = make(&mut self.records, &mut self.at, step) {

@@ -54,7 +54,7 @@ fn record_value(alloc: Global, patch: &Record) -> Result<Value, AllocError>
     })
 }
 
-fn record_values(alloc: Global, records: &[Record]) -> Result<Vec<Value>, AllocError>
+pub(crate) fn record_values(alloc: Global, records: &[Record]) -> Result<Vec<Value>, AllocError>
     ensures written { IfOk result (λ vs. items_view vs.items ≡
         spec.list_data spec.record_data records.now) }
     ensures reads_back { IfOk result (λ vs. spec.all_of (spec.record_of true)
@@ -68,7 +68,7 @@ fn record_values(alloc: Global, records: &[Record]) -> Result<Vec<Value>, AllocE
 }
 
 /// The kind of a move.
-fn kind(step: &Move) -> &'static str
+pub(crate) fn kind(step: &Move) -> &'static str
     ensures { result.now ≡ spec.kind_text step.now }
 {
     match step {
@@ -80,7 +80,7 @@ fn kind(step: &Move) -> &'static str
 
 /// The record of a move, null where it has none.
 #[tactic(auto, unfolding(crate::specs::Json::move_of))]
-fn move_value(alloc: Global, step: &Move) -> Result<Value, AllocError>
+pub(crate) fn move_value(alloc: Global, step: &Move) -> Result<Value, AllocError>
     ensures written { IfOk result (λ v. view v ≡ spec.move_data step.now) }
     ensures reads_back { IfOk result (λ v. spec.move_of true (spec.kind_text step.now) (view v) ≡
         Some step.now) }
@@ -139,9 +139,8 @@ fn journal_value(alloc: Global, journal: &Journal) -> Result<Value, AllocError>
 }
 
 impl Journal {
-    /// The journal's text in version 2: compact JSON, keys in byte order, and
-    /// a line feed.
-    pub fn to_json(&self, alloc: Global) -> Result<Vec<u8>, AllocError>
+    /// The journal's text, made of its value.
+    fn text_of_value(&self, alloc: Global) -> Result<Vec<u8>, AllocError>
         ensures text { IfOk result (λ v. v.items ≡ spec.journal_text self.now) }
         ensures reads_back { IfOk result (λ v. spec.journal_in v.items ≡ Some self.now) }
     {
@@ -149,5 +148,17 @@ impl Journal {
         let mut bytes = value.to_vec(alloc)?;
         bytes.push(b'\n')?;
         Ok(bytes)
+    }
+
+    /// The journal's text in version 2: compact JSON, keys in byte order, and
+    /// a line feed.
+    pub fn to_json(&self, alloc: Global) -> Result<Vec<u8>, AllocError>
+        ensures text { IfOk result (λ v. v.items ≡ spec.journal_text self.now) }
+        ensures reads_back { IfOk result (λ v. spec.journal_in v.items ≡ Some self.now) }
+    {
+        match &self.open {
+            Some(open) => self.open_text(alloc, open),
+            None => self.text_of_value(alloc),
+        }
     }
 }

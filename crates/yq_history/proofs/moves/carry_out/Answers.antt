@@ -21,15 +21,15 @@ returns-in_err-replace-clause-err g c = λ keeps apart h k.
     (λ same. inl (same_content _ _ _ _ _ same (first_write _ _ apart _ _ _ _ _ _ _ k c.requires.moves _ c.requires.changes c.in_ok-start_with.ensures.ok w)))
     (λ put. inr (second_write _ _ apart _ _ _ _ _ _ _ k c.requires.moves _ _ c.requires.changes c.in_ok-start_with.ensures.ok w put)))
 
-pub returns-in_err-settle-clause-err : goal.returns-in_err-settle-clause-err
-returns-in_err-settle-clause-err g c = λ keeps apart h k.
+pub returns-in_err-finish-clause-err : goal.returns-in_err-finish-clause-err
+returns-in_err-finish-clause-err g c = λ keeps apart h k.
     on_err _ (inr (second_write _ _ apart _ _ _ _ _ _ _ k c.requires.moves _ _ c.requires.changes c.in_ok-start_with.ensures.ok
     (c.in_ok-write_journal.ensures.ok keeps) (c.in_ok-replace.ensures.written keeps)))
 
 pub returns-clause-ok : goal.returns-clause-ok
 returns-clause-ok g c = λ keeps apart h k.
     on_ok_map _ (c.write_journal-2.ensures.ok keeps)
-    (third_write _ _ apart _ _ _ _ _ _ _ k c.requires.moves _ _ _ _ c.requires.changes c.in_ok-start_with.ensures.ok (c.in_ok-replace.ensures.written keeps) c.in_ok-settle.ensures.ok)
+    (third_write _ _ apart _ _ _ _ _ _ _ k c.requires.moves _ _ _ _ c.requires.changes c.in_ok-start_with.ensures.ok (c.in_ok-replace.ensures.written keeps) c.in_ok-finish.ensures.ok)
 
 pub returns-clause-err : goal.returns-clause-err
 returns-clause-err g c = λ keeps apart h k.
@@ -37,7 +37,7 @@ returns-clause-err g c = λ keeps apart h k.
     on_err_map _ (c.write_journal-2.ensures.err keeps)
     (λ x. inr (either x
     (λ same. same_content _ _ _ _ _ same (second_write _ _ apart _ _ _ _ _ _ _ k c.requires.moves _ _ c.requires.changes c.in_ok-start_with.ensures.ok (c.in_ok-write_journal.ensures.ok keeps) put))
-    (third_write _ _ apart _ _ _ _ _ _ _ k c.requires.moves _ _ _ _ c.requires.changes c.in_ok-start_with.ensures.ok put c.in_ok-settle.ensures.ok)))
+    (third_write _ _ apart _ _ _ _ _ _ _ k c.requires.moves _ _ _ _ c.requires.changes c.in_ok-start_with.ensures.ok put c.in_ok-finish.ensures.ok)))
 
 pub returns-in_err-write_journal-clause-cut : goal.returns-in_err-write_journal-clause-cut
 returns-in_err-write_journal-clause-cut g c = λ keeps apart.
@@ -54,8 +54,8 @@ returns-in_err-replace-clause-cut g c = λ keeps apart.
     (cut_opened _ _ _ _ _ _ apart _ _ c.in_ok-start_with.ensures.ok w _)
     (cut_changed _ _ _ _ _ _ apart _ _ c.in_ok-start_with.ensures.ok w _))
 
-pub returns-in_err-settle-clause-cut : goal.returns-in_err-settle-clause-cut
-returns-in_err-settle-clause-cut g c = λ keeps apart.
+pub returns-in_err-finish-clause-cut : goal.returns-in_err-finish-clause-cut
+returns-in_err-finish-clause-cut g c = λ keeps apart.
     on_err _ (cut_changed _ _ _ _ _ _ apart _ _ c.in_ok-start_with.ensures.ok (c.in_ok-write_journal.ensures.ok keeps) _ (c.in_ok-replace.ensures.written keeps))
 
 pub returns-clause-cut : goal.returns-clause-cut
@@ -66,11 +66,11 @@ returns-clause-cut g c = λ keeps apart.
     (λ x. either x
     (λ same. cut_changed _ _ _ _ _ _ apart _ _ c.in_ok-start_with.ensures.ok (c.in_ok-write_journal.ensures.ok keeps) _ (same ∙ put))
     (λ w. cut_settled _ _ _ _ _ _ _ file
-    (moved_journal _ c.args.state.now _ _ c.args.step _ _ _ _ c.requires.moves c.requires.changes c.in_ok-start_with.ensures.ok c.in_ok-settle.ensures.ok w)))
+    (moved_journal _ c.args.state.now _ _ c.args.step _ _ _ _ c.requires.moves c.requires.changes c.in_ok-start_with.ensures.ok c.in_ok-finish.ensures.ok w)))
 
 pub returns-clause-moved : goal.returns-clause-moved
 returns-clause-moved g c = λ keeps. on_ok_map _ (c.write_journal-2.ensures.ok keeps)
-    (moved_journal _ c.args.state.now _ _ c.args.step _ _ _ _ c.requires.moves c.requires.changes c.in_ok-start_with.ensures.ok c.in_ok-settle.ensures.ok)
+    (moved_journal _ c.args.state.now _ _ c.args.step _ _ _ _ c.requires.moves c.requires.changes c.in_ok-start_with.ensures.ok c.in_ok-finish.ensures.ok)
 
 pub returns-clause-text : goal.returns-clause-text
 returns-clause-text g c = λ keeps apart.

@@ -5,7 +5,7 @@ use Rattle.serde_json.specs.View.{view}
 use Rattle.serde_json.specs.Written.{compact_text, has_float}
 use Rattle.yq_journal.specs.Json.{journal_in}
 use Rattle.yq_journal.proofs.WriteLaws.{no_float, shallow, line_reads}
-use Rattle.yq_journal.proofs.journal.Journal.to_json.Goals as goal
+use Rattle.yq_journal.proofs.journal.Journal.text_of_value.Goals as goal
 
 pub returns-clause-text : goal.returns-clause-text
 returns-clause-text c =
