@@ -270,6 +270,7 @@ module _ (t new : List ℕ) (kept : Kept) (p : Places) (x : Touched) (h : Follow
     front_rows = ap (λ (n : ℕ). take n p.front.items) (ap (λ (s : Side). s.rows) front_is) ∙ front_taken p xs kept.front at_xs here (omega (arith, fits));
     back_rows = back_taken p xs kept.front kept.back at_xs here fits;
     edges = edges;
+    old_items = λ c is. sym h.touches.old_are ∙ ap items_of (one_cut t h.old_cut c h.old_is is);
     items = λ d is. sym h.touches.new_are ∙ ap items_of (one_cut (exchanged kept t new) h.new_cut d h.new_is is);
     small = omega (arith, new_size, h.new_is.size, joined_long f (w ++ z), joined_long w z);
     once = once;

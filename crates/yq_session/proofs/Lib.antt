@@ -16,3 +16,4 @@ pub mod MarkerLaws
 pub mod KeptSides
 pub mod FollowLaws
 pub mod DoneLaws
+pub mod DropLaws

@@ -48,6 +48,7 @@ pub record TextChange (t new : List ℕ) (kept : Kept) (p : Places) (x : Touched
   pub front_rows : take x.front.rows p.front.items ≡ near 0 before
   pub back_rows : reverse (take (length (near 0 read.behind)) p.behind.items) ≡ far read.behind
   pub edges : AreEdges t x kept
+  pub old_items : (c : Cut) → IsCut t c → before ++ (touched ++ read.behind) ≡ items_of c
   pub items : (d : Cut) → IsCut (exchanged kept t new) d → before ++ (read.written ++ read.behind) ≡ items_of d
   pub small : text_length (before ++ (read.written ++ read.behind)) < 2 ^ 32
   pub once : (c d : Cut) → IsCut t c → IsCut (exchanged kept t new) d → (h : TouchesOnly kept.front kept.back c d) →

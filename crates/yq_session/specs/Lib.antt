@@ -2,3 +2,4 @@ pub mod Sides
 pub mod Following
 pub mod Reading
 pub mod Exchanging
+pub mod Dropping

@@ -4,6 +4,7 @@ ghost use Rattle.std.specs.Str.{IsCharBoundary};
 ghost use Rattle.yq_text.specs.Split.{joined};
 ghost use Rattle.yq_session.specs.Following.{ArePlacesOf, CountsWritten, Follows, exchanged};
 
+use crate::dropping::{drop_rows, drop_text, end_dropped};
 use crate::exchanging::exchange;
 use crate::kept::Kept;
 use crate::reading::{read, region};
@@ -51,6 +52,13 @@ pub fn follow(
 {
     move_split(text, places, kept.front)?;
     let touched = find_touched(places, text.len(), kept);
+    if new.is_empty()
+        && let Some(end) = end_dropped(places, text.len(), touched, kept)
+    {
+        drop_text(text, touched.front.bytes, kept.front, meter);
+        drop_rows(places, end, kept.front);
+        return Ok(());
+    }
     let region = region(alloc, text.halves(), touched, kept, new)?;
     let come = read(alloc, region.as_str(), touched, meter)?;
     text.reserve(new.len())?;

@@ -79,7 +79,7 @@ fn move_rows(places: &mut Places, len: usize, at: usize) -> Result<(), AllocErro
 }
 
 /// Where the first of the rows behind the split begins in a text of so many bytes, or where that ends.
-fn begin_of(behind: &[Offsets], len: usize) -> usize
+pub(crate) fn begin_of(behind: &[Offsets], len: usize) -> usize
     ensures { result ≡ first_byte len (reverse behind.now) }
 {
     match behind {

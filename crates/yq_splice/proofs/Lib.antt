@@ -13,6 +13,7 @@ pub mod PrintLaws
 pub mod CarryOutLaws
 pub mod FittingExists
 pub mod ChoiceLaws
+pub mod RowsGoneLaws
 pub mod EditsHold
 pub mod RemoveExists
 pub mod PrintedDocuments

@@ -5,5 +5,6 @@ pub mod Valid
 pub mod Runs
 pub mod Theorems
 pub mod Session
+pub mod RowsGone
 pub mod Print
 pub mod RowRuns

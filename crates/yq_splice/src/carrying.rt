@@ -15,13 +15,14 @@ use crate::edit_error::EditError;
 use crate::in_rows::carry_in_rows;
 use crate::op_segments::op_segments;
 use crate::operands::operand_holds;
+use crate::rows_gone::change;
 use crate::session::Session;
 use crate::together::carry_together;
 use std::alloc::{AllocError, Global};
 use yq_expr::Op;
 use yq_places::CutText;
 use yq_rows::Places;
-use yq_script::{Changed, Edited, Splice, changes, exchange};
+use yq_script::{Changed, Edited, Splice, exchange};
 use yq_tree::{Documents, read};
 use yq_walk::KnownItems;
 
@@ -51,9 +52,7 @@ pub(crate) fn change_one<'d>(
         (cut_of cut.now))) }
 {
     let cut = on_the_way(cut, op);
-    let segments = op_segments(alloc, &cut, op)?;
-    let _text = cut.text();
-    let changed = changes(alloc, &segments)?;
+    let changed = change(alloc, &cut, op)?;
     let known = cut.known_in_front(changed.front);
     Ok((changed, known))
 }

@@ -9,6 +9,7 @@ mod in_rows;
 mod op_segments;
 mod operands;
 mod printing;
+mod rows_gone;
 mod run;
 mod session;
 mod together;

@@ -1,11 +1,14 @@
-use Rattle.std.proofs.Common.{◌∙◌, ◌++◌, List, ℕ, refl, sym, ap, subst}
+use Rattle.std.proofs.Common.{◌≡◌, ◌∙◌, ◌++◌, List, [], ℕ, eqb-true, length, refl, sym, ap, subst}
+use Rattle.std.proofs.lemmas.List.{nil_from_length}
 use Rattle.yq_text.specs.Split.{joined}
 use Rattle.yq_rows.specs.Grammar.{IsCut}
 use Rattle.yq_rows.specs.Meter.{counted, line_count}
+use Rattle.yq_session.specs.Dropping.{DropsLast}
 use Rattle.yq_session.specs.Exchanging.{TextChange}
-use Rattle.yq_session.specs.Following.{exchanged}
+use Rattle.yq_session.specs.Following.{Follows, exchanged}
 use Rattle.yq_session.specs.Reading.{AreEdges, Comes, IsRead, read_part, region_text}
 use Rattle.yq_session.proofs.DoneLaws.{gives_way, moved_follows, new_places, placed_before, same_places, still_placed}
+use Rattle.yq_session.proofs.DropLaws.{dropped_places, dropped_text, kept_text}
 use Rattle.yq_session.proofs.following.follow.Goals as goal
 
 pub move_split-requires : goal.move_split-requires
@@ -54,8 +57,36 @@ exchange-requires c =
 pub returns-in_err-exchange-clause-placed : goal.returns-in_err-exchange-clause-placed
 returns-in_err-exchange-clause-placed c = same_places (joined c.args.text.now) _ c.move_split.new.places _ ((λ i. c.reserve.ensures.front i ++ c.reserve.ensures.back i) ∙ refl) c.move_split.ensures.placed c.in_err-exchange.ensures.err
 
+pub drop_text-requires-clause-begin : goal.drop_text-requires-clause-begin
+drop_text-requires-clause-begin c =
+    let t = joined c.args.text.now in
+    let k : TextChange t c.args.new.now c.args.kept c.move_split.new.places c.find_touched-touched.result = c.find_touched-touched.ensures t c.args.new.now c.len.ensures (moved_follows t c.args.places.now c.move_split.new.places c.args.kept c.args.new.now c.requires c.move_split.ensures.placed) in
+    k.edges.begin
+
 pub returns-clause-placed : goal.returns-clause-placed
 returns-clause-placed c =
+    let t = joined c.args.text.now in
+    let p = c.move_split.new.places in
+    let x = c.find_touched-touched.result in
+    let empty : c.args.new.now ≡ [] = nil_from_length c.args.new.now (eqb-true (length c.args.new.now) 0 (sym c.is_empty.ensures ∙ c.if-is_empty.true)) in
+    let h : Follows t c.args.places.now c.args.kept [] = subst (Follows t c.args.places.now c.args.kept) empty c.requires in
+    let k : TextChange t [] c.args.kept p x = c.find_touched-touched.ensures t [] c.len.ensures (moved_follows t c.args.places.now p c.args.kept [] h c.move_split.ensures.placed) in
+    let d = subst (λ (n : ℕ). DropsLast p n x c.args.kept c.in-Some.end) c.len-2.ensures c.in-Some.ensures in
+    dropped_places t c.args.kept p x c.in-Some.end k d h.old_cut h.old_is _ c.drop_rows.new.places h.new_cut h.new_is c.drop_text.ensures.text c.drop_rows.ensures.front c.drop_rows.ensures.behind c.drop_rows.ensures.ends c.drop_rows.ensures.split
+
+pub returns-clause-counted : goal.returns-clause-counted
+returns-clause-counted c old d was is j =
+    let t = joined c.args.text.now in
+    let p = c.move_split.new.places in
+    let x = c.find_touched-touched.result in
+    let empty : c.args.new.now ≡ [] = nil_from_length c.args.new.now (eqb-true (length c.args.new.now) 0 (sym c.is_empty.ensures ∙ c.if-is_empty.true)) in
+    let h : Follows t c.args.places.now c.args.kept [] = subst (Follows t c.args.places.now c.args.kept) empty c.requires in
+    let k : TextChange t [] c.args.kept p x = c.find_touched-touched.ensures t [] c.len.ensures (moved_follows t c.args.places.now p c.args.kept [] h c.move_split.ensures.placed) in
+    let drops = subst (λ (n : ℕ). DropsLast p n x c.args.kept c.in-Some.end) c.len-2.ensures c.in-Some.ensures in
+    c.drop_text.ensures.counted ∙ ap (λ (u : List ℕ). counted (line_count u) c.args.meter.now) (dropped_text t c.args.kept p x c.in-Some.end k drops h.old_cut h.old_is old d was (subst (λ (u : List ℕ). IsCut u d) (c.drop_text.ensures.text ∙ kept_text t c.args.kept p x c.in-Some.end k drops h.old_cut h.old_is) is) j)
+
+pub returns-2-clause-placed : goal.returns-2-clause-placed
+returns-2-clause-placed c =
     let t = joined c.args.text.now in
     let p = c.move_split.new.places in
     let x = c.find_touched-touched.result in
@@ -65,8 +96,8 @@ returns-clause-placed c =
     let same = (λ i. c.reserve.ensures.front i ++ c.reserve.ensures.back i) ∙ refl in
     new_places t _ _ c.args.new.now c.args.kept p c.exchange.new.places x c.in_ok-come.come c.requires.new_cut same c.write.ensures k (subst (λ (u : List ℕ). Comes u x c.in_ok-come.come) part c.in_ok-come.ensures.come k.read) c.in_ok-exchange.ensures.ok c.requires.new_is
 
-pub returns-clause-counted : goal.returns-clause-counted
-returns-clause-counted c old d was is h =
+pub returns-2-clause-counted : goal.returns-2-clause-counted
+returns-2-clause-counted c old d was is h =
     let t = joined c.args.text.now in
     let p = c.move_split.new.places in
     let x = c.find_touched-touched.result in
