@@ -1,10 +1,5 @@
 //! Items and entries taken out of a text.
-ghost use Rattle.yq_change.specs.RemovalChanges.{FirstStands, OwnRowsStand, RemovalStands};
-
-/// Which rows an item or entry has.
-pub fn rows_in_text()
-    ensures { OwnRowsStand }
-{}
+ghost use Rattle.yq_change.specs.RemovalChanges.{FirstStands, RemovalStands};
 
 /// One of several items or entries, with whole rows, taken out of a text.
 pub fn taken_out()
