@@ -14,6 +14,8 @@ ghost use Rattle.yq_change.specs.Replaces.{DocumentReplaced, DocumentRooted, Fir
 ghost use Rattle.yq_change.specs.LineRows.{EntriesApart, EvenClosed, LinesApart, RowBegins, RowLineSplits};
 
 /// Rows of a document exchanged, by the document's number among the parts.
+#[tactic(auto, using(crate::proofs::PartLaws::part_numbered, crate::proofs::PartLaws::rows_put,
+    crate::proofs::PartLaws::document_spliced))]
 pub fn rows_put()
     ensures numbered { PartNumbered }
     ensures put { RowsPut }
@@ -22,6 +24,8 @@ pub fn rows_put()
 {}
 
 /// Lines by their rows.
+#[tactic(auto, using(crate::proofs::LineLaws::row_line_splits, crate::proofs::ApartLaws::row_begins,
+    crate::proofs::ApartLaws::even_closed))]
 pub fn lines_in_rows()
     ensures equal_room { RowLineSplits }
     ensures begins { RowBegins }
@@ -37,6 +41,8 @@ pub fn commented()
 {}
 
 /// Where rows may stand, by the levels of lines.
+#[tactic(auto, using(crate::proofs::ColumnLaws::next_allowed, crate::proofs::ColumnLaws::next_stays,
+    crate::proofs::ColumnLaws::block_is_deeper, crate::proofs::ColumnLaws::closed_stands_less))]
 pub fn rows_by_levels()
     ensures next { NextAllowed }
     ensures stays { NextStays }
@@ -58,6 +64,7 @@ pub fn at_paths()
 {}
 
 /// The rows of a collection's items or entries, and of one of them.
+#[tactic(auto, using(crate::proofs::RowsLaws::entry_rows))]
 pub fn rows_of_entries()
     ensures { EntryRows }
 {}
@@ -97,6 +104,8 @@ pub fn content_replaced()
 {}
 
 /// A flow collection at a path, and its items or entries changed.
+#[tactic(auto, using(crate::proofs::FlowRowLaws::flow_stands,
+    crate::proofs::FlowPathLaws::flow_found, crate::proofs::FlowPathLaws::row_texts))]
 pub fn flow_changed()
     ensures found { FlowFound }
     ensures texts { RowTexts }

@@ -2,6 +2,7 @@
 ghost use Rattle.yq_change.specs.StandingLaws.{RowsStand};
 
 /// The rows of an item or entry are those of its line, with the lines under it.
+#[tactic(auto, using(crate::proofs::StandingRows::rows_stand))]
 pub fn rows_stand()
     ensures { RowsStand }
 {}
