@@ -23,8 +23,7 @@ pub fn collection_changed()
 {}
 
 /// What is asked of a whole document holds where it holds of the changed part.
-#[tactic(auto, using(crate::proofs::BoundLaws::bound_stays, crate::proofs::BoundLaws::names_around,
-    crate::proofs::BoundLaws::bound_changed, crate::proofs::TreeLaws::unique_changed))]
+#[tactic(auto, using(crate::proofs::BoundLaws::bound_stays, crate::proofs::BoundLaws::names_around, crate::proofs::BoundLaws::bound_changed, crate::proofs::TreeLaws::unique_changed))]
 pub fn conditions_changed()
     ensures stays { BoundStays }
     ensures around { NamesAround }
@@ -34,8 +33,7 @@ pub fn conditions_changed()
 {}
 
 /// A text with another part for one document reads as the same documents but for that one.
-#[tactic(auto, using(crate::proofs::ChangedLaws::document_put,
-    crate::proofs::ChangedLaws::part_stands, crate::proofs::ChangedLaws::lead_is_first))]
+#[tactic(auto, using(crate::proofs::ChangedLaws::document_put, crate::proofs::ChangedLaws::part_stands, crate::proofs::ChangedLaws::lead_is_first))]
 pub fn document_changed()
     ensures put { DocumentPut }
     ensures part { PartStands }
@@ -57,8 +55,7 @@ pub fn rows_moved()
 {}
 
 /// The operations leave a document's root as is asked.
-#[tactic(auto, using(crate::proofs::SoundRootLaws::replace_keeps,
-    crate::proofs::SoundRootLaws::append_keeps, crate::proofs::SoundRootLess::remove_keeps))]
+#[tactic(auto, using(crate::proofs::SoundRootLaws::replace_keeps, crate::proofs::SoundRootLaws::append_keeps, crate::proofs::SoundRootLess::remove_keeps))]
 pub fn operations_keep()
     ensures replaced { ReplaceKeeps }
     ensures appended { AppendKeeps }
@@ -76,8 +73,7 @@ pub fn text_changed()
 {}
 
 /// What is known of a document before the change.
-#[tactic(auto, using(crate::proofs::EditedLaws::old_is_sound,
-    crate::proofs::EditedLaws::lines_are_there, crate::proofs::EditedLaws::old_is_even))]
+#[tactic(auto, using(crate::proofs::EditedLaws::old_is_sound, crate::proofs::EditedLaws::lines_are_there, crate::proofs::EditedLaws::old_is_even))]
 pub fn document_known()
     ensures sound { OldIsSound }
     ensures even { OldIsEven }
@@ -85,8 +81,7 @@ pub fn document_known()
 {}
 
 /// Leads and first lines.
-#[tactic(auto, using(crate::proofs::EditedLaws::lead_is_above,
-    crate::proofs::EditedLaws::root_has_lead))]
+#[tactic(auto, using(crate::proofs::EditedLaws::lead_is_above, crate::proofs::EditedLaws::root_has_lead))]
 pub fn leads()
     ensures above { LeadIsAbove }
     ensures root { RootHasLead }
@@ -104,9 +99,7 @@ pub fn operations_read()
 {}
 
 /// Where lines at a path stand among the lines of rows.
-#[tactic(auto, using(crate::proofs::PlacedLaws::same_parts,
-    crate::proofs::PlacedLaws::rows_in_parts, crate::proofs::PlacedLaws::line_placed,
-    crate::proofs::PlacedLaws::entry_placed, crate::proofs::PlacedLaws::found_is_entry))]
+#[tactic(auto, using(crate::proofs::PlacedLaws::same_parts, crate::proofs::PlacedLaws::rows_in_parts, crate::proofs::PlacedLaws::line_placed, crate::proofs::PlacedLaws::entry_placed, crate::proofs::PlacedLaws::found_is_entry))]
 pub fn lines_placed()
     ensures parts { SameParts }
     ensures rows { RowsInParts }

@@ -14,8 +14,7 @@ ghost use Rattle.yq_change.specs.Replaces.{DocumentReplaced, DocumentRooted, Fir
 ghost use Rattle.yq_change.specs.LineRows.{EntriesApart, EvenClosed, LinesApart, RowBegins, RowLineSplits};
 
 /// Rows of a document exchanged, by the document's number among the parts.
-#[tactic(auto, using(crate::proofs::PartLaws::part_numbered, crate::proofs::PartLaws::rows_put,
-    crate::proofs::PartLaws::document_spliced))]
+#[tactic(auto, using(crate::proofs::PartLaws::part_numbered, crate::proofs::PartLaws::rows_put, crate::proofs::PartLaws::document_spliced))]
 pub fn rows_put()
     ensures numbered { PartNumbered }
     ensures put { RowsPut }
@@ -24,8 +23,7 @@ pub fn rows_put()
 {}
 
 /// Lines by their rows.
-#[tactic(auto, using(crate::proofs::LineLaws::row_line_splits, crate::proofs::ApartLaws::row_begins,
-    crate::proofs::ApartLaws::even_closed))]
+#[tactic(auto, using(crate::proofs::LineLaws::row_line_splits, crate::proofs::ApartLaws::row_begins, crate::proofs::ApartLaws::even_closed))]
 pub fn lines_in_rows()
     ensures equal_room { RowLineSplits }
     ensures begins { RowBegins }
@@ -41,8 +39,7 @@ pub fn commented()
 {}
 
 /// Where rows may stand, by the levels of lines.
-#[tactic(auto, using(crate::proofs::ColumnLaws::next_allowed, crate::proofs::ColumnLaws::next_stays,
-    crate::proofs::ColumnLaws::block_is_deeper, crate::proofs::ColumnLaws::closed_stands_less))]
+#[tactic(auto, using(crate::proofs::ColumnLaws::next_allowed, crate::proofs::ColumnLaws::next_stays, crate::proofs::ColumnLaws::block_is_deeper, crate::proofs::ColumnLaws::closed_stands_less))]
 pub fn rows_by_levels()
     ensures next { NextAllowed }
     ensures stays { NextStays }
@@ -104,8 +101,7 @@ pub fn content_replaced()
 {}
 
 /// A flow collection at a path, and its items or entries changed.
-#[tactic(auto, using(crate::proofs::FlowRowLaws::flow_stands,
-    crate::proofs::FlowPathLaws::flow_found, crate::proofs::FlowPathLaws::row_texts))]
+#[tactic(auto, using(crate::proofs::FlowRowLaws::flow_stands, crate::proofs::FlowPathLaws::flow_found, crate::proofs::FlowPathLaws::row_texts))]
 pub fn flow_changed()
     ensures found { FlowFound }
     ensures texts { RowTexts }
