@@ -23,7 +23,6 @@ pub fn collection_changed()
 {}
 
 /// What is asked of a whole document holds where it holds of the changed part.
-#[tactic(auto, using(crate::proofs::BoundLaws::bound_stays, crate::proofs::BoundLaws::names_around, crate::proofs::BoundLaws::bound_changed, crate::proofs::TreeLaws::unique_changed))]
 pub fn conditions_changed()
     ensures stays { BoundStays }
     ensures around { NamesAround }
@@ -99,7 +98,6 @@ pub fn operations_read()
 {}
 
 /// Where lines at a path stand among the lines of rows.
-#[tactic(auto, using(crate::proofs::PlacedLaws::same_parts, crate::proofs::PlacedLaws::rows_in_parts, crate::proofs::PlacedLaws::line_placed, crate::proofs::PlacedLaws::entry_placed, crate::proofs::PlacedLaws::found_is_entry))]
 pub fn lines_placed()
     ensures parts { SameParts }
     ensures rows { RowsInParts }

@@ -39,7 +39,6 @@ pub fn commented()
 {}
 
 /// Where rows may stand, by the levels of lines.
-#[tactic(auto, using(crate::proofs::ColumnLaws::next_allowed, crate::proofs::ColumnLaws::next_stays, crate::proofs::ColumnLaws::block_is_deeper, crate::proofs::ColumnLaws::closed_stands_less))]
 pub fn rows_by_levels()
     ensures next { NextAllowed }
     ensures stays { NextStays }
