@@ -1,10 +1,10 @@
 -- A collection that begins on the line of a dash.
-use Rattle.std.proofs.Common.{◌≡◌, ℕ, List, [], ◌∷◌, ◌++◌, replicate, refl, sym, ap, ◌∙◌, append_assoc}
+use Rattle.std.proofs.Common.{◌≡◌, ℕ, List, [], ◌∷◌, ◌++◌, replicate, refl, sym, ap, ◌∙◌, append_assoc, rules}
 use Rattle.std.proofs.lemmas.List.{append_cancel_left}
 use Rattle.yq_rows.specs.Exchange.{row_front}
 use Rattle.yq_rows.specs.Joined.{compact_row}
 use Rattle.yq_rows.specs.Rows as rows
-use Rattle.yq_rows.specs.Rows.{Row, behind_dashes, behind_indent, dashes_text, mark_text, rows_text}
+use Rattle.yq_rows.specs.Rows.{Row, behind_indent, dashes_text, mark_text, rows_text}
 use Rattle.yq_rows.proofs.seams.JoinLaws.{dashes_text-append}
 use Rattle.yq_rows.proofs.PlaceLaws.{dashes_then}
 use Rattle.yq_documents.specs.Documents.{HaveFitKeys}
@@ -44,12 +44,7 @@ dash_front row u is =
     ∙ (ap (λ l. row.gap ++ l) (sym (append_assoc (replicate row.column 32) front u)) ∙ (sym (append_assoc row.gap (replicate row.column 32 ++ front) u) ∙ ap (λ l. l ++ u) (sym own)))
 
 pub behind_text : (column : ℕ) (row : Row) (rs : List Row) (u z : List ℕ) → BeginAt column rs → row.mark ≡ rows.Dash → rows_text rs z ≡ replicate column 32 ++ u → rows_text (compact_rows row rs) z ≡ row_front row ++ (32 ∷ u)
-behind_text column row [] u z b is e = absurd b
-behind_text column row (q ∷ qs) u z b is e =
-    let inner : behind_indent q (rows_text qs z) ≡ u =
-    append_cancel_left (replicate column 32) (behind_indent q (rows_text qs z)) u (sym (λ i. b.0 i ++ (replicate (b.1 i) 32 ++ behind_indent q (rows_text qs z))) ∙ e) in
-    ap (λ l. row.gap ++ (replicate row.column 32 ++ l)) (dashes_text-append row.dashes (1 ∷ q.dashes) (behind_dashes q (rows_text qs z)))
-    ∙ (ap (λ l. row.gap ++ (replicate row.column 32 ++ dashes_text row.dashes (45 ∷ (32 ∷ l)))) inner ∙ dash_front row (32 ∷ u) is)
+behind_text column row rs u z h1 h2 h3 = search (rules, append_cancel_left, dashes_text-append, dash_front)
 
 -- the first of them begins as the row does up to its dash
 pub behind_lead : (column : ℕ) (row : Row) (rs : List Row) → BeginAt column rs → row.mark ≡ rows.Dash → InFirst (row_front row) (rows_items (compact_rows row rs) [])

@@ -1,8 +1,7 @@
 -- Another content behind a key or dash stands for a value in the place of what an item or entry holds.
-use Rattle.std.proofs.Common.{◌≡◌, ℕ, suc, ◌≤◌, Bool, true, false, cond, List, [], ◌∷◌, ◌++◌, Some, refl, sym, ap, subst, arith}
+use Rattle.std.proofs.Common.{◌≡◌, ℕ, suc, ◌≤◌, true, List, [], ◌∷◌, ◌++◌, Some, refl, sym, ap, subst, arith, rules}
 use Rattle.std.proofs.lemmas.Bool.{lt-ltb}
 use Rattle.yq_flow_scalars.specs.Paths.{Step}
-use Rattle.yq_flow_scalars.specs.Piece.{deeper}
 use Rattle.yq_flow_scalars.specs.Text.{separates}
 use Rattle.yq_flow_scalars.specs.Tree.{Node}
 use Rattle.yq_lines.specs.Comments.{line_comment}
@@ -10,8 +9,8 @@ use Rattle.yq_lines.specs.Outline as outline
 use Rattle.yq_lines.specs.Outline.{end, IsOpen, head_or, value}
 use Rattle.yq_lines.specs.Places.{content}
 use Rattle.yq_rows.specs.Exchange.{with_content}
-use Rattle.yq_rows.specs.Grammar.{is_plain, unlimited, allows, limit_behind, IsContent}
-use Rattle.yq_rows.specs.Rows.{Content, Nothing, Inline, Block, content_text, Row, mark_column, parent_indent, rows_text, Cut, cut_text}
+use Rattle.yq_rows.specs.Grammar.{allows, limit_behind, IsContent}
+use Rattle.yq_rows.specs.Rows.{Content, content_text, Row, mark_column, parent_indent, rows_text, Cut, cut_text}
 use Rattle.yq_documents.specs.Documents.{MarkIsFit, ContentHasFitKeys, HaveFitKeys}
 use Rattle.yq_walk.specs.Lines.{content_anchor, head_of, tail_of}
 use Rattle.yq_documents.specs.Nodes.{anchor_of}
@@ -53,13 +52,7 @@ module _ (doc : ℕ) (s : Step) (ss : List Step) (c : Cut) (h : NodeRows doc s s
 
   -- what is behind it may begin at any column up to that of the key or dash
   follow : (x : Content) (k : ℕ) → k ≤ mark_column h.mark → allows (limit_behind (parent_indent h.mark) x) k ≡ true
-  follow (Nothing tail) k less = refl
-  follow (Inline space node tail) k less = go (is_plain node)
-    where
-      go : (b : Bool) → allows (cond b (record { column = Some (deeper (parent_indent h.mark)) }) unlimited) k ≡ true
-      go true = subst (λ n. allows (record { column = Some n }) k ≡ true) (sym (deeper_entry h.mark.mark (mark_column h.mark) (entry doc s ss c h))) (within (mark_column h.mark) k less)
-      go false = refl
-  follow (Block space anchor block) k less = refl
+  follow x k h1 = search (rules, deeper_entry, entry, within)
 
   module _ (v : Node) (new : Content) (is : IsContentFor v new) where
     replaces : Replaces (limit doc s ss c h) (mark_column h.mark) h.row (rows_text (h.under ++ h.back) (h.p.end ++ behind_document doc c)) (with_content new h.mark ∷ []) (rest doc s ss c h)

@@ -1,17 +1,17 @@
 -- A value in rows on the line of an item's dash.
-use Rattle.std.proofs.Common.{◌≡◌, ℕ, ◌*◌, ◌+◌, ◌<◌, ◌≤◌, List, [], ◌∷◌, ◌++◌, None, refl, sym, ap, ◌∙◌, subst, arith, append_assoc}
+use Rattle.std.proofs.Common.{◌≡◌, ℕ, ◌*◌, ◌+◌, ◌<◌, ◌≤◌, List, [], ◌∷◌, ◌++◌, None, refl, sym, ap, ◌∙◌, subst, arith, append_assoc, rules}
 use Rattle.yq_flow_scalars.specs.Paths.{Step}
 use Rattle.yq_flow_scalars.specs.Text.{upto}
 use Rattle.yq_flow_scalars.specs.Tree.{Node}
 use Rattle.yq_lines.specs.LineAnchors.{HaveOneAnchorEach}
-use Rattle.yq_lines.specs.Comments.{head_comment, line_comment}
-use Rattle.yq_lines.specs.Outline.{Line, level, flatten, Stands}
+use Rattle.yq_lines.specs.Comments.{line_comment}
+use Rattle.yq_lines.specs.Outline.{level, flatten, Stands}
 use Rattle.yq_lines.specs.Places.{content}
 use Rattle.yq_lines.proofs.ByRules.{rules_give}
 use Rattle.yq_rows.specs.Exchange.{row_front}
 use Rattle.yq_rows.specs.Rows as rows
 use Rattle.yq_rows.specs.Rows.{Nothing, Row, mark_column, rows_text, Cut}
-use Rattle.yq_walk.specs.Lines.{mark_line, lines_of, tail_of}
+use Rattle.yq_walk.specs.Lines.{lines_of, tail_of}
 use Rattle.yq_documents.specs.Nodes.{anchor_of}
 use Rattle.yq_change.specs.DocumentRows.{behind_document}
 use Rattle.yq_change.proofs.LineLaws.{above_mark, mark_behind}
@@ -68,13 +68,7 @@ module _ (doc : ℕ) (s : Step) (ss : List Step) (c : Cut) (h : NodeRows doc s s
   dash_level = ap (λ m. 3 * mark_column h.mark + Rattle.yq_lines.specs.Outline.rank (Rattle.yq_walk.specs.Lines.mark_of m)) dash
 
   new_lines : lines_of behind_rows ≡ dashes_of h.mark ++ (line_with h.mark (Nothing []) ∷ flatten stands.outline)
-  new_lines =
-      let lines : List Line = dashes_of h.mark in
-      let above : List (List ℕ) = above_mark (head_comment h.mark.gap) h.mark.dashes in
-      compact_lines h.mark rs begun
-      ∙ (ap (λ ls. ls ++ lines_of rs) (mark_behind (head_comment h.mark.gap) h.mark.column h.mark.dashes rows.Dash (Nothing []))
-      ∙ (append_assoc lines (mark_line above (mark_column h.mark) rows.Dash (Nothing []) ∷ []) (lines_of rs)
-      ∙ (λ i. lines ++ (mark_line above (mark_column h.mark) (sym dash i) (Nothing []) ∷ sym stands.lines_are i))))
+  new_lines = search (rules, dashes_of, above_mark, compact_lines, begun, mark_behind, append_assoc)
 
   pub takes_behind : TakesNode doc s ss c h v behind_rows
   takes_behind =

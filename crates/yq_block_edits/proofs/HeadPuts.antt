@@ -1,5 +1,5 @@
 -- A value on one line takes the place of what is written on the line of a key or dash, with another content of the row.
-use Rattle.std.proofs.Common.{◌≡◌, ℕ, ◌≤◌, false, true, List, [], ◌∷◌, ◌++◌, length, Some, refl, sym, ap, ◌∙◌, subst, append_assoc, append-nil}
+use Rattle.std.proofs.Common.{◌≡◌, ℕ, ◌≤◌, false, true, List, [], ◌∷◌, ◌++◌, length, Some, refl, sym, ap, ◌∙◌, subst, append_assoc, append-nil, rules}
 use Rattle.yq_scalar.specs.BlockWritten.{break_text}
 use Rattle.yq_flow_scalars.specs.Characters.{text_limit}
 use Rattle.yq_flow_scalars.specs.Paths.{Step}
@@ -76,12 +76,7 @@ module _ (n : ℕ) (s : Step) (ss : List Step) (c : Cut) (e : RowsOfEntry) (ther
   new = with_content x e.row ∷ []
 
   text : e.start ++ (front ++ rows_text new (rest n s ss c (mark_node n s ss c e there last))) ≡ new_text us
-  text =
-      let z : List ℕ = rest n s ss c (mark_node n s ss c e there last) in
-      let ends : (w.white ++ (w.comment ++ w.last)) ++ w.behind ≡ w.white ++ (w.comment ++ (w.last ++ (w.behind ++ []))) = simp (append_assoc, append-nil) refl in
-      spelled z
-      ∙ (ap (λ r. w.before ++ (w.space ++ apart w.head r)) (node_then for.node (tail ++ z) ∙ ap (λ r. r ++ (tail ++ z)) for.text)
-      ∙ ap (λ r. w.before ++ (w.space ++ r)) (apart_then w.head t (tail ++ z) ∙ ap (λ r. apart w.head t ++ r) (ap (λ r. tail ++ r) (sym (behind_is n s ss c e there last)) ∙ ends)))
+  text = search (rules, rest, mark_node, append_assoc, append-nil, node_then, apart_then, behind_is)
 
   abbrev lead : List ℕ
   lead = row_front e.row ++ (anchor_before (slices e.row) ++ space_before (slices e.row))

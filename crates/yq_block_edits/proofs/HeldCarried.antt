@@ -1,5 +1,5 @@
 -- What is put in the place of what a key or dash holds carries out a replacement, where rows for the value spell it.
-use Rattle.std.proofs.Common.{◌≡◌, ℕ, ◌≤◌, true, false, List, [], ◌∷◌, ◌++◌, length, Some, refl, sym, ap, ◌∙◌, subst, append_assoc, append-nil}
+use Rattle.std.proofs.Common.{◌≡◌, ℕ, ◌≤◌, true, false, List, [], ◌∷◌, ◌++◌, length, Some, refl, sym, ap, ◌∙◌, subst, append_assoc, append-nil, rules}
 use Rattle.std.proofs.lemmas.Option.{same_Some}
 use Rattle.yq_scalar.specs.BlockWritten.{break_text}
 use Rattle.yq_flow_scalars.specs.Characters.{text_limit}
@@ -38,23 +38,13 @@ use Rattle.yq_block_edits.proofs.StandingNodes.{behind_is, mark_node}
 -- ---- the segments
 
 pub held_old : (br : List ℕ) (h : Held) (w : Written) → old_text (held_put br h w) ≡ held_text h
-held_old br h (inline t) = ap (λ b. h.before ++ (h.space ++ (h.head ++ (h.white ++ (h.comment ++ (h.break ++ (h.lines ++ (h.last ++ b)))))))) (append-nil h.behind)
-held_old br h (compact_text t) =
-    ap (λ b. h.before ++ ((h.space ++ h.head) ++ (h.white ++ (h.comment ++ (h.break ++ (h.lines ++ (h.last ++ b))))))) (append-nil h.behind)
-    ∙ ap (λ b. h.before ++ b) (append_assoc h.space h.head (h.white ++ (h.comment ++ (h.break ++ (h.lines ++ (h.last ++ h.behind))))))
-held_old br h (lines t) =
-    ap (λ b. h.before ++ ((h.space ++ h.head) ++ (h.white ++ (h.comment ++ (h.break ++ (h.lines ++ (h.last ++ b))))))) (append-nil h.behind)
-    ∙ ap (λ b. h.before ++ b) (append_assoc h.space h.head (h.white ++ (h.comment ++ (h.break ++ (h.lines ++ (h.last ++ h.behind))))))
+held_old br h w = search (rules, append-nil, append_assoc)
 
 held_back : (br : List ℕ) (h : Held) (w : Written) → kept_back (held_put br h w) ≡ h.last ++ h.behind
-held_back br h (inline t) = ap (λ b. h.last ++ b) (append-nil h.behind)
-held_back br h (compact_text t) = ap (λ b. h.last ++ b) (append-nil h.behind)
-held_back br h (lines t) = ap (λ b. h.last ++ b) (append-nil h.behind)
+held_back br h w = search (rules, append-nil)
 
 held_puts : (br : List ℕ) (h : Held) (w : Written) → are_kept (held_put br h w) ≡ false
-held_puts br h (inline t) = refl
-held_puts br h (compact_text t) = refl
-held_puts br h (lines t) = refl
+held_puts br h w = search rules
 
 -- the text of a value as it is written
 abbrev pub text_of : Written → List ℕ
@@ -71,10 +61,7 @@ module _ (n : ℕ) (s : Step) (ss : List Step) (c : Cut) (e : RowsOfEntry) (ther
   apart_piece (b ∷ old) t p = p
 
   held_pieces : (br : Break) (w : Written) → IsPiece (text_of w) → ArePieces (held_put (break_text br) h w)
-  held_pieces br (inline t) p =
-      (k.pieces.before, (k.pieces.space, (apart_piece h.head t p, (k.white, (k.comment, (nothing, (nothing, (k.pieces.last, (k.pieces.behind, tt)))))))))
-  held_pieces br (compact_text t) p = (k.pieces.before, (byte_then 32 t refl p, (k.white, (k.comment, (nothing, (nothing, (k.pieces.last, (k.pieces.behind, tt))))))))
-  held_pieces br (lines t) p = (k.pieces.before, (nothing, (k.white, (k.comment, (nothing, (pieces_joined (break_text br) t (break_piece br) p, (k.pieces.last, (k.pieces.behind, tt))))))))
+  held_pieces br w h1 = search (rules, apart_piece, nothing, byte_then, pieces_joined, break_piece)
 
   -- ---- rows for the value
 

@@ -1,13 +1,11 @@
 -- What is known of what the key or dash of rows holds.
-use Rattle.std.proofs.Common.{◌≡◌, ◌⊎◌, inl, inr, ℕ, ℤ, true, false, cond, ◌&&◌, List, [], ◌∷◌, ◌++◌, length, Option, Some, None, is_some, refl, sym, ap, ◌∙◌, subst, arith, append_assoc, length-append}
+use Rattle.std.proofs.Common.{◌≡◌, inl, inr, ℕ, ℤ, true, false, cond, ◌&&◌, List, [], ◌∷◌, ◌++◌, length, Option, Some, None, is_some, refl, sym, ap, ◌∙◌, subst, arith, append_assoc, length-append, rules}
 use Rattle.std.proofs.lemmas.Bool.{false≢true, and_parts}
-use mathlib.Core.List.{head-eq_of_cons-eq}
 use Rattle.yq_scalar.specs.BlockWritten.{break_text}
 use Rattle.yq_flow_scalars.specs.Characters.{pairs_returns}
 use Rattle.yq_flow_scalars.specs.Paths.{Step}
 use Rattle.yq_flow_scalars.specs.Text.{is_break, is_empty, is_line}
 use Rattle.yq_flow_scalars.specs.Tree.{Node}
-use Rattle.yq_inline.specs.Nodes as inline
 use Rattle.yq_inline.specs.Nodes.{node_text, IsNode}
 use Rattle.yq_lines.specs.Comments.{line_comment}
 use Rattle.yq_lines.specs.Outline as outline
@@ -16,11 +14,10 @@ use Rattle.yq_lines.specs.Places.{content}
 use Rattle.yq_rows.specs.Exchange.{asked_behind}
 use Rattle.yq_rows.specs.Gap.{IsBreak}
 use Rattle.yq_rows.specs.Grammar.{IsContent, IsRow, IsTail, unlimited}
-use Rattle.yq_rows.specs.Rows as rows
-use Rattle.yq_rows.specs.Rows.{Content, Nothing, Inline, Block, Cut, Row, cut_text, parent_indent, rows_text}
+use Rattle.yq_rows.specs.Rows.{Content, Cut, Row, cut_text, parent_indent, rows_text}
 use Rattle.yq_rows.specs.View.{Slices, content_cut, slices}
 use Rattle.yq_rows.proofs.CharacterLaws.{pairs_back}
-use Rattle.yq_walk.specs.Lines.{content_anchor, head_of, lines_of, mark_of, row_lines}
+use Rattle.yq_walk.specs.Lines.{content_anchor, head_of, lines_of, row_lines}
 use Rattle.yq_documents.specs.Nodes.{anchor_of}
 use Rattle.yq_documents.specs.Reading.{outline_of, read_at}
 use Rattle.yq_places.specs.CommentPlaces.{LineEnd, end_before, line_text}
@@ -64,39 +61,18 @@ no_line = refl
 
 -- what ends a text that itself ends so, is a break, or nothing at the end of all
 pub last_ends : (own more : List ℕ) → Ended own more → IsBreak (last_break own) more
-last_ends own more (inl lf) = go (last_is own)
-  where
-    go : (last_break own ≡ []) ⊎ IsLfOrCrLf (last_break own) → IsBreak (last_break own) more
-    go (inl e) = absurd (false≢true (sym no_line ∙ (sym (ap is_line e) ∙ lf_last own lf)))
-    go (inr b) = inl (break_line (last_break own) b)
-last_ends own more (inr none) = go (last_is own)
-  where
-    go : (last_break own ≡ []) ⊎ IsLfOrCrLf (last_break own) → IsBreak (last_break own) more
-    go (inl e) = inr (e, none)
-    go (inr b) = inl (break_line (last_break own) b)
+last_ends own more h1 = search (rules, last_is, false≢true, no_line, lf_last, break_line)
 
 -- ---- heads and anchors
 
 -- what is written for a head is one
 pub head_there : (n : ℤ) (x : Content) (more : List ℕ) → IsContent n x more → is_empty (content_cut x).3 ≡ false → is_some (head_of x) ≡ true
 unfolding IsNode node_text
-head_there n (Nothing z) more h e = absurd (false≢true (sym e))
-head_there n (Inline space inline.empty z) more h e = absurd (false≢true (sym e))
-head_there n (Inline space (inline.alias m) z) more h e = refl
-head_there n (Inline space (inline.scalar p) z) more h e = refl
-head_there n (Inline space (inline.coll k g is) z) more h e = refl
-head_there n (Inline space (inline.anchored m g inline.empty) z) more h e = absurd (false≢true (sym e))
-head_there n (Inline space (inline.anchored m g (inline.alias k)) z) more h e = refl
-head_there n (Inline space (inline.anchored m g (inline.scalar p)) z) more h e = refl
-head_there n (Inline space (inline.anchored m g (inline.coll k y is)) z) more h e = refl
-head_there n (Inline space (inline.anchored m g (inline.anchored k y node)) z) more h e = absurd (false≢true h.1.valid.3)
-head_there n (Block space anchor block) more h e = refl
+head_there n x more h1 h2 = search (rules, false≢true)
 
 -- behind a head nothing is under it
 closed : (o : Option Node) (u : Outline) → IsOpen o u → is_some o ≡ true → flatten u ≡ []
-closed None u h e = absurd (false≢true e)
-closed (Some n) outline.end h e = refl
-closed (Some n) (outline.row l u a) h e = absurd h
+closed o u h1 h2 = search (rules, false≢true)
 
 no_rows_there : (rs : List Row) → lines_of rs ≡ [] → rs ≡ []
 no_rows_there [] e = refl
@@ -104,27 +80,11 @@ no_rows_there (r ∷ rs) e = absurd (omega (arith, ap length e, length-append (r
 
 -- a block collection has no anchor of its own
 pub value_unnamed : (o : Outline) → HasEntries o → (a : Option (List ℕ)) → anchor_of (anchored a (value o)) ≡ a
-value_unnamed outline.end h a = absurd h
-value_unnamed (outline.row l u after) h a = go l.mark h a
-  where
-    go : (m : outline.Mark) → siblings.IsEntry m → (a : Option (List ℕ)) → anchor_of (anchored a (outline.collection m (outline.children (outline.row l u after)))) ≡ a
-    go outline.Bare e a = absurd e
-    go (outline.Key k) e None = refl
-    go (outline.Key k) e (Some x) = refl
-    go outline.Dash e None = refl
-    go outline.Dash e (Some x) = refl
+value_unnamed o h1 a = search rules
 
 -- rows of which none is alone begin with an item or entry
 entries_first : (rs : List Row) → first_alone rs ≡ false → (l : Line) (u after : Outline) → lines_of rs ≡ l ∷ (flatten u ++ flatten after) → siblings.IsEntry l.mark
-entries_first [] beside l u after e = absurd (let no : [] ≡ l ∷ (flatten u ++ flatten after) = e in cc)
-entries_first (r ∷ rs) beside l u after e = go r.dashes r.mark (Rattle.yq_lines.specs.Comments.head_comment r.gap) beside e
-  where
-    go : (ns : List ℕ) (m : rows.Mark) (above : List (List ℕ)) → (is_empty ns && Rattle.yq_lines.specs.Positions.is_bare (mark_of m)) ≡ false → Rattle.yq_walk.specs.Lines.lines_from above r.column ns m r.content ++ lines_of rs ≡ l ∷ (flatten u ++ flatten after) →
-        siblings.IsEntry l.mark
-    go [] rows.Bare above beside e = absurd (false≢true (sym beside))
-    go [] rows.Dash above beside e = subst (λ (k : Line). siblings.IsEntry k.mark) (head-eq_of_cons-eq e) tt
-    go [] (rows.Key key colon) above beside e = subst (λ (k : Line). siblings.IsEntry k.mark) (head-eq_of_cons-eq e) tt
-    go (n ∷ ns) m above beside e = subst (λ (k : Line). siblings.IsEntry k.mark) (head-eq_of_cons-eq e) tt
+entries_first rs h1 l u after h2 = search (rules, false≢true)
 
 -- ---- the rows
 

@@ -1,22 +1,17 @@
 -- What literal block scalars hold and how they are written: line breaks alone without a known indentation, pieces of a text.
-use Rattle.std.proofs.Common.{◌≡◌, ◌⊎◌, inl, inr, ℕ, zero, suc, ◌+◌, ◌≤◌, cond, eqb, not, ◌&&◌, ◌||◌, List, [], ◌∷◌, ◌++◌, length, replicate, Option, Some, None, Bool, true, false, refl, sym, ap, ◌∙◌, subst, arith, append-nil, eqb-true}
+use Rattle.std.proofs.Common.{◌≡◌, ◌⊎◌, inl, inr, ℕ, zero, suc, ◌+◌, ◌≤◌, cond, eqb, not, ◌&&◌, List, [], ◌∷◌, ◌++◌, length, replicate, Option, Some, None, Bool, true, false, refl, sym, ap, ◌∙◌, subst, arith, append-nil, eqb-true, rules}
 use Rattle.std.proofs.lemmas.Bool.{false≢true, and_parts, cases_Bool}
 use Rattle.std.proofs.lemmas.List.Folds.{list_all-append}
 use Rattle.std.specs.List.{list_all, list_any}
 use Rattle.std.specs.Str.{IsUtf8, chars}
-use Rattle.yq_scalar.specs.Block.{BlockText, is_text_line, no_lines, Lines, AreRaw, IsDetected, IsDigit, IsRawLine, IsTextIndent, ends_block, is_empty_line, is_less_indented}
-use Rattle.yq_scalar.specs.BlockContent.{block_content, content_of, broken, ending, folded, kind_of, joint, literal, line_text, part_of, strips, unindented}
+use Rattle.yq_scalar.specs.Block.{BlockText, no_lines, Lines, AreRaw, IsDetected, IsDigit, IsRawLine, IsTextIndent, ends_block}
+use Rattle.yq_scalar.specs.BlockContent.{block_content, broken, ending, folded, kind_of, joint, literal, line_text, part_of}
 use Rattle.yq_scalar.specs.BlockWritten.{break_text, header_text, indented, written, written_line}
 use Rattle.yq_flow_scalars.specs.Characters.{is_text_char}
-use Rattle.yq_flow_scalars.specs.Lines.{behind_spaces}
-use Rattle.yq_flow_scalars.specs.PlainText.{is_plain_char}
 use Rattle.yq_flow_scalars.specs.Scalar.{ScalarText}
 use Rattle.yq_flow_scalars.specs.Text.{ends_line, front, is_white, is_feed, is_line, joined, lines_of, upto}
 use Rattle.yq_flow_scalars.specs.Writable.{can_write, is_literal_char, is_literal_text, is_string}
 use Rattle.yq_scalar.specs.declared.block_content.Before.{Before}
-use Rattle.yq_scalar.specs.declared.block_content.Before.TheVariants as before
-use Rattle.yq_scalar.specs.declared.block_header.BlockStyle.{BlockStyle}
-use Rattle.yq_scalar.specs.declared.block_header.BlockStyle.TheVariants as block_styles
 use Rattle.yq_scalar.specs.declared.block_header.Chomping.{Chomping}
 use Rattle.yq_scalar.specs.declared.block_header.Chomping.TheVariants as chompings
 use Rattle.yq_scalar.specs.declared.block_lines.TextIndent.{TextIndent}
@@ -40,13 +35,7 @@ no_part [] h = refl
 no_part (b ∷ t) h = rw h refl
 
 part_none : (f : TextIndent) (l : List ℕ) → f.known ≡ false → IsRawLine f l → part_of f l ≡ []
-part_none f l known raw =
-    let own : unindented f l ≡ behind_spaces l = rw known refl in
-    ap line_text own ∙ no_part (behind_spaces l) (go raw.1)
-  where
-    go : (is_empty_line f l ≡ true) ⊎ (is_text_line f l ≡ true) → ends_line (behind_spaces l) ≡ true
-    go (inl e) = (and_parts (ends_line (behind_spaces l)) _ e).0
-    go (inr e) = absurd (false≢true (sym known ∙ (and_parts (not (is_empty_line f l)) f.known (and_parts (not (is_empty_line f l) && f.known) _ e).0).1))
+part_none f l known raw = search (rules, no_part, and_parts, false≢true)
 
 feeds : (k : ℕ) → list_all is_feed (replicate k 10) ≡ true
 feeds zero = refl
@@ -65,13 +54,7 @@ literal_feeds strip f (l ∷ ls) known raw =
     ∙ (list_all-append is_feed (broken b) (literal strip f ls) ∙ rw (broken_feeds b, literal_feeds strip f ls known raw.1) refl)
 
 ending_feeds : (c : Chomping) (b : Before) (k : ℕ) → list_all is_feed (ending c b k) ≡ true
-ending_feeds chompings.Strip b k = refl
-ending_feeds chompings.Clip before.Nothing k = refl
-ending_feeds chompings.Clip before.Spaced k = refl
-ending_feeds chompings.Clip before.Text k = refl
-ending_feeds chompings.Keep before.Nothing k = feeds k
-ending_feeds chompings.Keep before.Spaced k = feeds k
-ending_feeds chompings.Keep before.Text k = feeds k
+ending_feeds c b k = search (rules, feeds)
 
 folded_feeds : (c : Chomping) (f : TextIndent) (b : Before) (k : ℕ) (ls : Lines) → f.known ≡ false → AreRaw f ls → list_all is_feed (folded c f b k ls) ≡ true
 unfolding folded
@@ -81,22 +64,14 @@ folded_feeds c f b k (l ∷ ls) known raw =
     ∙ folded_feeds c f b (k + 1) ls known raw.1
 
 content_feeds : (b : BlockText) → b.indent.known ≡ false → AreRaw b.indent b.raw → list_all is_feed (block_content b) ≡ true
-content_feeds b known raw = go b.style
-  where
-    go : (s : BlockStyle) → list_all is_feed (content_of s b.chomping b.indent b.raw) ≡ true
-    go block_styles.Literal = literal_feeds (strips b.chomping) b.indent b.raw known raw
-    go block_styles.Folded = folded_feeds b.chomping b.indent before.Nothing 0 b.raw known raw
+content_feeds b known raw = search (rules, literal_feeds, folded_feeds)
 
 no_others : (t : List ℕ) → list_all is_feed t ≡ true → list_any (λ b. not (is_feed b)) t ≡ false
 no_others [] h = refl
 no_others (b ∷ t) h = let both = and_parts (is_feed b) (list_all is_feed t) h in rw (both.0, no_others t both.1) refl
 
 pub known_text : (b : BlockText) → AreRaw b.indent b.raw → list_any (λ x. not (is_feed x)) (block_content b) ≡ true → b.indent.known ≡ true
-known_text b raw h = go (cases_Bool b.indent.known)
-  where
-    go : (b.indent.known ≡ true) ⊎ (b.indent.known ≡ false) → b.indent.known ≡ true
-    go (inl e) = e
-    go (inr e) = absurd (false≢true (sym (no_others (block_content b) (content_feeds b e raw)) ∙ h))
+known_text b raw h = search (rules, cases_Bool, false≢true, no_others, content_feeds)
 
 -- ---- its indentation, and what stands behind it
 
@@ -113,11 +88,7 @@ pub loose : (keep : Bool) (f : TextIndent) (ls : Lines) → ends_block keep f ls
 unfolding ends_block
 loose false f ls h = h
 loose true f [] h = refl
-loose true f (l ∷ ls) h = go (is_empty_line f l) h
-  where
-    go : (b : Bool) → cond b (false && ends_block true f ls) (is_less_indented f l) ≡ true → cond b (true && ends_block false f ls) (is_less_indented f l) ≡ true
-    go true e = absurd (false≢true e)
-    go false e = e
+loose true f (l ∷ ls) h = search (rules, false≢true)
 
 -- ---- pieces
 
@@ -130,13 +101,7 @@ whole_no_return [] h = tt
 whole_no_return (b ∷ t) h = (ap not h.0, whole_no_return t h.1)
 
 literal_is_text : (c : ℕ) → is_literal_char c ≡ true → is_text_char c ≡ true
-literal_is_text c h = go (is_plain_char c) refl (eqb c 9) refl (is_feed c) refl h
-  where
-    go : (x : Bool) → is_plain_char c ≡ x → (y : Bool) → eqb c 9 ≡ y → (w : Bool) → is_feed c ≡ w → ((x || y) || w) ≡ true → is_text_char c ≡ true
-    go true e y f w g h = (and_parts (is_text_char c) _ e).0
-    go false e true f w g h = ap is_text_char (eqb-true c 9 f)
-    go false e false f true g h = ap is_text_char (eqb-true c 10 g)
-    go false e false f false g h = absurd (false≢true h)
+literal_is_text c h = search (rules, and_parts, eqb-true, false≢true)
 
 string_piece : (s : ScalarText) → IsUtf8 s.text → can_write s styles.Literal places.Block ≡ true → IsPiece s.text
 string_piece s u can =

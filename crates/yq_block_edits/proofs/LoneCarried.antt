@@ -1,5 +1,5 @@
 -- A value in the place of a node alone on its line.
-use Rattle.std.proofs.Common.{◌≡◌, ◌⊎◌, inl, inr, ℕ, ◌≤◌, not, ◌||◌, true, false, cond, List, [], ◌∷◌, ◌++◌, length, replicate, Some, refl, sym, ap, ◌∙◌, subst, append_assoc, append-nil}
+use Rattle.std.proofs.Common.{◌≡◌, ◌⊎◌, inl, inr, ℕ, ◌≤◌, true, cond, List, [], ◌∷◌, ◌++◌, length, replicate, Some, refl, sym, ap, ◌∙◌, subst, append_assoc, append-nil, rules}
 use Rattle.std.proofs.lemmas.Bool.{false≢true}
 use Rattle.yq_flow_scalars.specs.Characters.{text_limit}
 use Rattle.yq_flow_scalars.specs.Paths.{Step, change}
@@ -10,7 +10,7 @@ use Rattle.yq_inline.proofs.WrittenLaws.{node_then}
 use Rattle.yq_flow.specs.Valued.{IsValueTree}
 use Rattle.yq_rows.specs.Exchange.{asked_behind, row_front, with_content}
 use Rattle.yq_rows.specs.Grammar.{IsMark, IsRow, IsTail, may_be_alone, unlimited}
-use Rattle.yq_rows.specs.Rows.{Bare, Row, behind_gap, dashes_text, mark_text, parent_indent, print_row, rows_text, Cut, cut_text, Part, part_text}
+use Rattle.yq_rows.specs.Rows.{Bare, Row, behind_gap, parent_indent, print_row, rows_text, Cut, cut_text, Part, part_text}
 use Rattle.yq_rows.specs.View.{slices}
 use Rattle.yq_rows.proofs.CharacterLaws.{ends_after}
 use Rattle.yq_rows.proofs.NodePieces.{ends_behind}
@@ -18,7 +18,6 @@ use Rattle.yq_rows.proofs.seams.SeamLaws.{rows_text-append}
 use Rattle.yq_documents.specs.Documents.{lead_of}
 use Rattle.yq_documents.specs.Reading.{documents, read_at, root_of}
 use Rattle.yq_documents.specs.TreeEdits.{replaced}
-use Rattle.yq_places.specs.CommentPlaces.{line_text}
 use Rattle.yq_places.specs.PlacedRows.{PlacedPart, PlacedRow, placed_document}
 use Rattle.yq_places.specs.RowPaths.{IsReadable}
 use Rattle.yq_places.specs.Standings.{Lone, lone}
@@ -105,10 +104,7 @@ module _ (n : ℕ) (steps : List Step) (v : Node) (c : Cut) (read : read_at (cut
   text = stands.text ∙ (ap (λ u. d.before ++ u) rows_there ∙ sym (append_assoc d.before (rows_text front []) (print_row r z)))
 
   whole : cut_text c ≡ w.before ++ (w.head ++ w.behind)
-  whole =
-      let s = slices r in
-      let parts : base ++ ((row_front r ++ (s.space ++ (s.anchor ++ (s.apart ++ s.head)))) ++ (s.tail ++ z)) ≡ (base ++ (row_front r ++ (s.space ++ (s.anchor ++ s.apart)))) ++ (s.head ++ (s.tail ++ z)) = simp append_assoc refl in
-      text ∙ (ap (λ u. base ++ u) (row_text_parts r z) ∙ (ap (λ u. base ++ (line_text r ++ (s.tail ++ (u ++ z)))) raw ∙ parts))
+  whole = simp (append_assoc, text, row_text_parts, raw)
 
   old_is : old_text us ≡ cut_text c
   old_is = ap (λ u. w.before ++ (w.head ++ u)) (append-nil w.behind) ∙ sym whole
@@ -133,11 +129,7 @@ module _ (n : ℕ) (steps : List Step) (v : Node) (c : Cut) (read : read_at (cut
       (spaces_piece r.column)
 
   before_is : w.before ≡ indent ++ before_head r.content
-  before_is =
-      let s = slices r in
-      let bare : row_front r ≡ r.gap ++ (replicate r.column 32 ++ []) = λ i. r.gap ++ (replicate r.column 32 ++ dashes_text (no_dashes i) (mark_text (mark i) [])) in
-      let parts : base ++ ((r.gap ++ (replicate r.column 32 ++ [])) ++ (s.space ++ (s.anchor ++ s.apart))) ≡ ((base ++ r.gap) ++ replicate r.column 32) ++ (s.space ++ (s.anchor ++ s.apart)) = simp (append_assoc, append-nil) refl in
-      ap (λ u. base ++ (u ++ (s.space ++ (s.anchor ++ s.apart)))) bare ∙ parts
+  before_is = search (rules, append_assoc, append-nil)
 
   before_piece : IsPiece w.before
   before_piece = subst IsPiece (sym before_is) (go place.front)
@@ -177,8 +169,7 @@ module _ (n : ℕ) (steps : List Step) (v : Node) (c : Cut) (read : read_at (cut
       let f : FitsReplace n steps v c p = fits_replace n steps v c p stands.there tree fits in
       let x : IsWrittenFor v t = value_for (slices r).head v tree f.deep f.long in
       let q : Part = contents.q c n p old front r back rows_are mark no_dashes steps leads v x.node x.is in
-      let spelled : node_text x.node ((slices r).tail ++ rows_text back (p.end ++ behind_document n c)) ≡ t ++ w.behind =
-      node_then x.node ((slices r).tail ++ rows_text back (p.end ++ behind_document n c)) ∙ (λ i. x.text i ++ ((slices r).tail ++ rows_text back (p.end ++ stands.behind i))) in
+      let spelled : node_text x.node ((slices r).tail ++ rows_text back (p.end ++ behind_document n c)) ≡ t ++ w.behind = search (rules, node_then, x, p) in
       let same : cut_text (put_document n q c) ≡ new_text us =
       contents.text c n p old front r back rows_are mark no_dashes steps leads v x.node x.is d.before put ∙ (ap (λ u. w.before ++ u) spelled ∙ sym new_is) in
       let readable : IsReadable (new_text us) = segments_readable us (before_piece, (subst IsPiece (sym some_head) x.piece, (behind_piece, tt))) size in

@@ -1,5 +1,5 @@
 -- The document in which the node of a value is put in a row that is alone on its line.
-use Rattle.std.proofs.Common.{refl, ◌≡◌, ℕ, eqb, List, [], ◌∷◌, ◌++◌, length, Some, true, false, sym, ap, ◌∙◌, subst, append_assoc}
+use Rattle.std.proofs.Common.{refl, ◌≡◌, ℕ, eqb, List, [], ◌∷◌, ◌++◌, length, Some, true, false, sym, ap, ◌∙◌, subst, append_assoc, rules}
 use Rattle.std.proofs.lemmas.Bool.{and_right, false≢true}
 use Rattle.std.proofs.lemmas.Option.{same_Some}
 use Rattle.std.specs.Str.{is_utf8}
@@ -18,7 +18,7 @@ use Rattle.yq_lines.specs.Sound.{is_entry}
 use Rattle.yq_lines.proofs.Finding.{FoundNode, path_node}
 use Rattle.yq_rows.specs.Exchange.{allows_first, asked_behind, row_front, with_content}
 use Rattle.yq_rows.specs.Grammar.{Limit, unlimited, AreRows, IsContent, IsMark, IsRow, limit_after, may_be_alone, no_rows}
-use Rattle.yq_rows.specs.Rows.{Bare, Content, Nothing, Inline, Block, Row, behind_gap, content_text, dashes_text, mark_column, mark_text, parent_indent, print_row, rows_text, Part, part_text, Cut, cut_text}
+use Rattle.yq_rows.specs.Rows.{Bare, Content, Row, behind_gap, content_text, dashes_text, mark_column, mark_text, parent_indent, print_row, rows_text, Part, part_text, Cut, cut_text}
 use Rattle.yq_rows.specs.Seams.{is_block}
 use Rattle.yq_rows.specs.View.{content_cut}
 use Rattle.yq_rows.proofs.NothingLaws.{gap_other}
@@ -107,9 +107,7 @@ module _ (c : Cut) (n : ℕ) (p : Part) (old : IsDocumentPart (cut_text c) c n p
   }
 
   next_new : (x : Content) → is_block x ≡ false → allows_first (limit_after (with_content (put_core node x) r)) back ≡ true
-  next_new (Nothing tail) block = may_follow r (32 ∷ []) node tail back near
-  next_new (Inline space old tail) block = may_follow r space (recore node old) tail back near
-  next_new (Block space anchor b) block = absurd (false≢true (sym block))
+  next_new x h1 = search (rules, may_follow, near, recore, false≢true)
 
   pub there : q.rows ≡ front ++ (with_content new r ∷ back)
   there = ap (λ (rs : List Row). front ++ (with_content new r ∷ rs)) (own_gap back p.end)
@@ -168,9 +166,7 @@ module _ (c : Cut) (n : ℕ) (p : Part) (old : IsDocumentPart (cut_text c) c n p
   line x = mark_line (above_mark (head_comment r.gap) r.dashes) (mark_column r) r.mark x
 
   pub same_block : is_block_root q ≡ is_block_root p
-  same_block =
-      ap begins_no_node (ap lines_of there ∙ last_lines front r back new)
-      ∙ (no_node_first above (line new) (line r.content) (lines_of back) (lines_of back) refl ∙ sym (ap begins_no_node (ap lines_of rows_are ∙ last_lines front r back r.content)))
+  same_block = search (rules, there, last_lines, no_node_first)
 
   pub rooted : steps ≡ [] → is_block_root p ≡ false
   rooted e =

@@ -1,5 +1,5 @@
 -- What is written in a row that is alone on its line.
-use Rattle.std.proofs.Common.{◌≡◌, ◌⊎◌, inl, inr, ℕ, ℤ, ◌<◌, eqb, ◌||◌, Bool, true, false, not, List, [], ◌∷◌, ◌++◌, refl, sym, ap, ◌∙◌, subst, arith, append_assoc, append-nil, eqb-true}
+use Rattle.std.proofs.Common.{◌≡◌, ◌⊎◌, ℕ, ℤ, ◌<◌, eqb, ◌||◌, Bool, true, false, not, List, [], ◌∷◌, ◌++◌, refl, sym, ap, ◌∙◌, subst, arith, append_assoc, append-nil, eqb-true, rules}
 use Rattle.std.proofs.lemmas.Bool.{false≢true, not-true}
 use Rattle.yq_flow_scalars.specs.Text.{is_empty, is_return, is_white}
 use Rattle.yq_inline.specs.Nodes as inline
@@ -7,7 +7,7 @@ use Rattle.yq_inline.specs.Nodes.{node_text, IsNode}
 use Rattle.yq_inline.proofs.PieceLaws.{scalar_some}
 use Rattle.yq_rows.specs.Gap.{IsWhite}
 use Rattle.yq_rows.specs.Grammar.{IsContent, may_be_alone}
-use Rattle.yq_rows.specs.Rows.{Content, Nothing, Inline, Block, content_text}
+use Rattle.yq_rows.specs.Rows.{Content, Inline, content_text}
 use Rattle.yq_rows.specs.Seams.{is_block}
 use Rattle.yq_rows.specs.View.{content_cut}
 use Rattle.yq_rows.proofs.CharacterLaws.{EndsBlack}
@@ -57,19 +57,4 @@ anchor_front n m g node tail rest h full =
 
 pub lone_head : (n : ℤ) (x : Content) (rest : List ℕ) → IsContent n x rest → may_be_alone x ≡ true → IsLoneHead x
 unfolding IsNode node_text
-lone_head n (Nothing tail) rest h alone = absurd (false≢true alone)
-lone_head n (Inline (b ∷ space) node tail) rest h alone = absurd (false≢true alone)
-lone_head n (Inline [] inline.empty tail) rest h alone = absurd (false≢true alone)
-lone_head n (Inline [] (inline.alias m) tail) rest h alone = record { block = refl; some = refl; front = inl refl; text = λ b core z. ap (λ l. l ++ node_text core (tail ++ z)) (sym (append-nil b)) }
-lone_head n (Inline [] (inline.scalar []) tail) rest h alone = absurd (omega (arith, scalar_some false _ [] (tail ++ rest) h.1.valid))
-lone_head n (Inline [] (inline.scalar (d ∷ p)) tail) rest h alone = record { block = refl; some = refl; front = inl refl; text = λ b core z. ap (λ l. l ++ node_text core (tail ++ z)) (sym (append-nil b)) }
-lone_head n (Inline [] (inline.coll k g is) tail) rest h alone = record { block = refl; some = refl; front = inl refl; text = λ b core z. ap (λ l. l ++ node_text core (tail ++ z)) (sym (append-nil b)) }
-lone_head n (Inline [] (inline.anchored m g inline.empty) tail) rest h alone = absurd (false≢true alone)
-lone_head n (Inline [] (inline.anchored m g (inline.alias k)) tail) rest h alone = absurd (false≢true h.1.valid.3)
-lone_head n (Inline [] (inline.anchored m g (inline.scalar [])) tail) rest h alone = absurd (omega (arith, scalar_some false _ [] (tail ++ rest) h.1.valid.4))
-lone_head n (Inline [] (inline.anchored m g (inline.scalar (d ∷ p))) tail) rest h alone =
-    record { block = refl; some = refl; front = inr (anchor_front n m g (inline.scalar (d ∷ p)) tail rest h refl); text = λ b core z. regroup b m g (node_text core (tail ++ z)) }
-lone_head n (Inline [] (inline.anchored m g (inline.coll k y is)) tail) rest h alone =
-    record { block = refl; some = refl; front = inr (anchor_front n m g (inline.coll k y is) tail rest h refl); text = λ b core z. regroup b m g (node_text core (tail ++ z)) }
-lone_head n (Inline [] (inline.anchored m g (inline.anchored k y node)) tail) rest h alone = absurd (false≢true h.1.valid.3)
-lone_head n (Block space anchor block) rest h alone = absurd (false≢true alone)
+lone_head n x rest h1 h2 = search (rules, false≢true, append-nil, scalar_some, anchor_front, regroup)

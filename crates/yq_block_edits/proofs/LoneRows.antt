@@ -1,8 +1,7 @@
 -- Rows that are alone on their lines: under a key or dash, and as roots.
-use Rattle.std.proofs.Common.{option_map, append-nil, ◌≡◌, inl, inr, ℕ, true, List, [], ◌∷◌, ◌++◌, length, Option, Some, None, refl, sym, ap, ◌∙◌, subst, arith, append_assoc, length-append}
+use Rattle.std.proofs.Common.{option_map, append-nil, ◌≡◌, inl, inr, ℕ, true, List, [], ◌∷◌, ◌++◌, length, Option, Some, None, refl, sym, ap, ◌∙◌, subst, arith, append_assoc, length-append, rules}
 use Rattle.std.proofs.lemmas.Bool.{and_parts, false≢true}
 use Rattle.std.proofs.lemmas.Option.{same_Some}
-use mathlib.Core.List.{head-eq_of_cons-eq}
 use Rattle.yq_flow_scalars.specs.Answers.{◌>>=◌}
 use Rattle.yq_flow_scalars.specs.Paths.{Step}
 use Rattle.yq_flow_scalars.specs.Text.{is_empty}
@@ -51,9 +50,7 @@ use Rattle.yq_lines.proofs.Plug.{headless}
 -- ---- a row alone
 
 bare_mark : (m : rows.Mark) → is_bare (mark_of m) ≡ true → m ≡ rows.Bare
-bare_mark rows.Bare h = refl
-bare_mark rows.Dash h = absurd (false≢true h)
-bare_mark (rows.Key key colon) h = absurd (false≢true h)
+bare_mark m h1 = search (rules, false≢true)
 
 -- such a row has neither dashes nor a mark
 alone_row : (r : Row) → is_alone r ≡ true → (r.mark ≡ rows.Bare) × (r.dashes ≡ [])
@@ -79,9 +76,7 @@ whole_bare outline.Dash h a b e o w = absurd (cc)
 -- an outline of lines of which the first one is bare is of one line
 one_line : (m : ℕ) (o : Outline) (l : Line) (ls : List Line) → IsEven m o → l ∷ ls ≡ flatten o → l.mark ≡ outline.Bare → length (flatten o) ≡ 1
 one_line m end l ls even e bare = absurd (let no : l ∷ ls ≡ [] = e in cc)
-one_line m (row x u a) l ls even e bare =
-    let one = whole_bare x.mark x.head u a (ap (λ (k : Line). k.mark) (sym (head-eq_of_cons-eq e)) ∙ bare) even.1 even.2 in
-    λ i. length (flatten (row x (one.0 i) (one.1 i)))
+one_line m (row x u a) l ls even e bare = search (rules, whole_bare)
 
 -- ---- under a key or dash
 
@@ -147,9 +142,7 @@ module _ (n : ℕ) (s : Step) (ss : List Step) (v : Node) (c : Cut) (read : read
   }
 
   rows_are : d.part.rows ≡ front ++ (r ∷ (rs ++ e.back))
-  rows_are =
-      subst (λ (p : Part). p.rows ≡ e.front ++ (e.row ∷ (e.under ++ e.back))) same there.rows_are
-      ∙ (ap (λ (us : List Row). e.front ++ (e.row ∷ (us ++ e.back))) under ∙ sym (append_assoc e.front (e.row ∷ []) (r ∷ (rs ++ e.back))))
+  rows_are = search (rules, same, append_assoc)
 
   ended : LineSeam (rows_text front []) (rows_text (r ∷ (rs ++ e.back)) (d.part.end ++ d.behind))
   ended =

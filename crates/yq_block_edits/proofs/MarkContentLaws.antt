@@ -1,7 +1,6 @@
 -- What is left behind a key or dash where nothing but the anchor stays.
-use Rattle.std.proofs.Common.{◌≡◌, ℕ, ℤ, true, false, cond, List, [], ◌∷◌, ◌++◌, Option, Some, None, refl, sym, ap, ◌∙◌, append_assoc, append-nil}
+use Rattle.std.proofs.Common.{◌≡◌, ℕ, ℤ, true, false, cond, List, [], ◌∷◌, ◌++◌, Option, Some, None, refl, sym, ap, ◌∙◌, append_assoc, append-nil, rules}
 use Rattle.std.proofs.lemmas.Bool.{false≢true, or_parts}
-use Rattle.yq_scalar.specs.Block.{block_text}
 use Rattle.yq_flow_scalars.specs.Text.{is_empty, separates}
 use Rattle.yq_inline.specs.Nodes as inline
 use Rattle.yq_inline.specs.Nodes.{begins_content, first_is, node_text, IsName, IsNode}
@@ -11,7 +10,7 @@ use Rattle.yq_rows.specs.Alone.{holds_nothing}
 use Rattle.yq_rows.specs.Gap.{IsWhite}
 use Rattle.yq_rows.specs.Grammar.{IsContent, IsTail, is_entry}
 use Rattle.yq_rows.specs.Rows as rows
-use Rattle.yq_rows.specs.Rows.{Content, Nothing, Inline, Block, Row, content_text}
+use Rattle.yq_rows.specs.Rows.{Content, Nothing, Inline, Row, content_text}
 use Rattle.yq_rows.specs.View.{content_cut}
 use Rattle.yq_rows.proofs.NodeExchange.{space_apart}
 use Rattle.yq_rows.proofs.NothingLaws.{tail_apart, tail_lead, tail_no_node}
@@ -28,22 +27,11 @@ name_text None = []
 name_text (Some m) = 38 ∷ m
 
 name_is : (x : Content) → (content_cut x).1 ≡ name_text (content_anchor x)
-name_is (Nothing old) = refl
-name_is (Inline space inline.empty old) = refl
-name_is (Inline space (inline.alias n) old) = refl
-name_is (Inline space (inline.scalar p) old) = refl
-name_is (Inline space (inline.coll k g is) old) = refl
-name_is (Inline space (inline.anchored n g node) old) = refl
-name_is (Block space None block) = refl
-name_is (Block space (Some a) block) = refl
+name_is x = search rules
 
 -- without an anchor there is no name
 pub unnamed : (x : Content) → is_empty (content_cut x).1 ≡ true → content_anchor x ≡ None
-unnamed x e = go (content_anchor x) (sym (ap is_empty (name_is x)) ∙ e)
-  where
-    go : (a : Option (List ℕ)) → is_empty (name_text a) ≡ true → a ≡ None
-    go None e = refl
-    go (Some m) e = absurd (false≢true e)
+unnamed x e = search (rules, name_is, false≢true)
 
 -- a text begins with white space and this anchor
 abbrev Named : List ℕ → Option (List ℕ) → List ℕ → Type 0
@@ -53,14 +41,7 @@ Named space (Some m) text = IsWhite space × (more : List ℕ) × (text ≡ spac
 -- a content does with its own
 pub content_named : (n : ℤ) (x : Content) (old : List ℕ) → IsContent n x old → Named (content_cut x).0 (content_anchor x) (content_text x old)
 unfolding IsNode node_text
-content_named n (Nothing z) old h = tt
-content_named n (Inline space inline.empty z) old h = tt
-content_named n (Inline space (inline.alias m) z) old h = tt
-content_named n (Inline space (inline.scalar p) z) old h = tt
-content_named n (Inline space (inline.coll k g is) z) old h = tt
-content_named n (Inline space (inline.anchored m g node) z) old h = (h.0, g ++ node_text node (z ++ old), refl, h.1.valid.0)
-content_named n (Block space None block) old h = tt
-content_named n (Block space (Some a) block) old h = (h.0, a.gap ++ block_text block old, refl, h.1.0)
+content_named n x old h1 = search rules
 
 -- ---- the content
 
@@ -103,23 +84,12 @@ left_apart space (Some m) text tail rest h old t = space_apart space (38 ∷ (m 
 pub left_text : (before : List ℕ) (x : Content) (tail rest : List ℕ) →
     before ++ content_text (anchor_left x tail) rest ≡ (before ++ cond (is_empty (content_cut x).1) [] ((content_cut x).0 ++ (content_cut x).1)) ++ (tail ++ rest)
 unfolding node_text
-left_text before x tail rest =
-    go (content_cut x).0 (content_anchor x) ∙ ap (λ y. (before ++ cond (is_empty y) [] ((content_cut x).0 ++ y)) ++ (tail ++ rest)) (sym (name_is x))
-  where
-    go : (space : List ℕ) (a : Option (List ℕ)) → before ++ content_text (left space a tail) rest ≡ (before ++ cond (is_empty (name_text a)) [] (space ++ name_text a)) ++ (tail ++ rest)
-    go space None = ap (λ b. b ++ (tail ++ rest)) (sym (append-nil before))
-    go space (Some m) = simp append_assoc refl
+left_text before x tail rest = search (rules, name_is, append-nil, append_assoc)
 
 pub left_core_text : (before : List ℕ) (core : inline.Node) (x : Content) (tail rest : List ℕ) →
     before ++ content_text (put_core core (anchor_left x tail)) rest ≡ (before ++ cond (is_empty (content_cut x).1) [] ((content_cut x).0 ++ (content_cut x).1)) ++ (32 ∷ node_text core (tail ++ rest))
 unfolding node_text
-left_core_text before core x tail rest =
-    go (content_cut x).0 (content_anchor x) ∙ ap (λ y. (before ++ cond (is_empty y) [] ((content_cut x).0 ++ y)) ++ (32 ∷ node_text core (tail ++ rest))) (sym (name_is x))
-  where
-    go : (space : List ℕ) (a : Option (List ℕ)) →
-        before ++ content_text (put_core core (left space a tail)) rest ≡ (before ++ cond (is_empty (name_text a)) [] (space ++ name_text a)) ++ (32 ∷ node_text core (tail ++ rest))
-    go space None = ap (λ b. b ++ (32 ∷ node_text core (tail ++ rest))) (sym (append-nil before))
-    go space (Some m) = simp append_assoc refl
+left_core_text before core x tail rest = search (rules, name_is, put_core, append-nil, append_assoc)
 
 -- ---- rows under it
 
@@ -131,6 +101,4 @@ entry_free a above column [] (rows.Key key colon) x ls e = tt
 entry_free a above column (n ∷ ns) m x ls e = tt
 
 pub laid_free : (a : Option (List ℕ)) (column : ℕ) (rs : List Row) (rest : List ℕ) → AreLaid column rs rest → IsFree a (lines_of rs)
-laid_free None column rs rest h = tt
-laid_free (Some a) column [] rest h = absurd h
-laid_free (Some a) column (q ∷ qs) rest h = entry_free a (Rattle.yq_lines.specs.Comments.head_comment q.gap) q.column q.dashes q.mark q.content (lines_of qs) h.entry
+laid_free a column rs rest h1 = search (rules, entry_free)

@@ -1,5 +1,5 @@
 -- The rows of an item or entry in the text of a cut, and their lines.
-use Rattle.std.proofs.Common.{◌≡◌, ℕ, suc, ◌+◌, ◌≤◌, true, List, [], ◌∷◌, ◌++◌, length, Some, refl, sym, ap, ◌∙◌, subst, arith, length-append}
+use Rattle.std.proofs.Common.{◌≡◌, ℕ, suc, ◌+◌, ◌≤◌, true, List, [], ◌∷◌, ◌++◌, length, Some, sym, ap, ◌∙◌, subst, arith, length-append, rules}
 use mathlib.Core.List.{head-eq_of_cons-eq}
 use Rattle.std.specs.Str.{is_utf8}
 use Rattle.yq_flow_scalars.specs.Paths.{Step}
@@ -12,7 +12,6 @@ use Rattle.yq_lines.specs.Places.{lines_before, lines_after, FoundLine, find}
 use Rattle.yq_lines.proofs.Decides.{flatten-group}
 use Rattle.yq_rows.specs.Exchange.{allows_first, asked_behind}
 use Rattle.yq_rows.specs.Grammar.{Limit, unlimited, limit_after, AreRows, is_entry}
-use Rattle.yq_rows.specs.Rows as rows
 use Rattle.yq_rows.specs.Rows.{Row, mark_column, rows_text, Part, part_text, Cut, cut_text}
 use Rattle.yq_documents.specs.Documents.{document_parts}
 use Rattle.yq_walk.specs.Lines.{mark_of, lines_of}
@@ -24,7 +23,6 @@ use Rattle.yq_places.proofs.RowPathLaws.{document_fine}
 use Rattle.yq_change.specs.Changed.{put_document}
 use Rattle.yq_change.specs.DocumentRows.{IsDocumentPart, behind_document}
 use Rattle.yq_change.specs.LineRows.{Begins}
-use Rattle.yq_change.specs.Siblings.{IsEntry}
 use Rattle.yq_change.proofs.AppendLaws.{around}
 use Rattle.yq_change.proofs.InlineReplaceLaws.{next_by, own_rows}
 use Rattle.yq_change.proofs.LineLaws.{dashes_count}
@@ -67,8 +65,7 @@ module _ (doc : ℕ) (s : Step) (ss : List Step) (c : Cut) (h : NodeRows doc s s
   before_are = ap (λ (n : ℕ). length (lines_of h.front) + n) (dashes_count (head_comment h.mark.gap) h.mark.column h.mark.dashes) ∙ h.number
 
   pub size_is : suc (length (lines_upto h.upto h.under).0) ≡ suc (length (flatten h.found.under))
-  size_is =
-      omega (arith, h.count, ap length known_lines, length-append (dashes_of h.mark) (line_with h.mark h.mark.content ∷ (lines_upto h.upto h.under).0), dashes_count (head_comment h.mark.gap) h.mark.column h.mark.dashes)
+  size_is = search (rules, known_lines, length-append, dashes_of, line_with, lines_upto, dashes_count)
 
   pub old_lines : lines_of h.p.rows ≡ (lines_of h.front ++ dashes_of h.mark) ++ ((line_with h.mark h.mark.content ∷ (lines_upto h.upto h.under).0) ++ lines_of h.back)
   old_lines =
@@ -94,12 +91,7 @@ module _ (doc : ℕ) (s : Step) (ss : List Step) (c : Cut) (h : NodeRows doc s s
   fine = document_fine h.p (each (document_parts c) (text_takes (cut_text c) c (guard_then (is_utf8 (cut_text c)) h.old.read).1).1 doc h.p h.old.there)
 
   pub entry : is_entry h.mark.mark ≡ true
-  entry = go h.mark.mark (subst (λ (l : Line). IsEntry l.mark) (sym line_is) (found_is_entry (level_or 0 (outline_of h.p)) h.p s ss h.found even h.is))
-    where
-      go : (m : rows.Mark) → IsEntry (mark_of m) → is_entry m ≡ true
-      go rows.Bare e = absurd e
-      go rows.Dash e = refl
-      go (rows.Key key colon) e = refl
+  entry = search (rules, line_is, found_is_entry, even)
 
   -- the next row stands where no further line of what is behind the mark does
   pub near : allows_first (record { column = Some (suc (mark_column h.mark)) }) h.back ≡ true

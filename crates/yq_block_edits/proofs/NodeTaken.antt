@@ -1,5 +1,5 @@
 -- The rows of an item or entry give way to rows that are written for a value: the document with that value there.
-use Rattle.std.proofs.Common.{◌≡◌, ℕ, suc, ◌<◌, ◌≤◌, Bool, true, false, List, [], ◌∷◌, ◌++◌, length, Option, Some, refl, sym, ap, ◌∙◌, subst, arith, append-nil}
+use Rattle.std.proofs.Common.{◌≡◌, ℕ, suc, ◌<◌, ◌≤◌, Bool, true, false, List, [], ◌∷◌, ◌++◌, length, Option, Some, refl, sym, ap, ◌∙◌, subst, arith, append-nil, rules}
 use Rattle.std.proofs.lemmas.Bool.{false≢true, ltb-true}
 use Rattle.yq_flow_scalars.specs.Paths.{Step, change}
 use Rattle.yq_flow_scalars.specs.Tree.{Node}
@@ -123,16 +123,10 @@ module _ (doc : ℕ) (s : Step) (ss : List Step) (c : Cut) (h : NodeRows doc s s
 
   -- the text
   pub q_text : cut_text (put_document doc (inserted h.front new h.back h.p) c) ≡ h.start ++ (rows_text h.front [] ++ rows_text new (rest doc s ss c h))
-  q_text =
-      h.put q
-      ∙ ap (λ u. h.start ++ u)
-      ((λ i. rows_text (q_rows i) (own_end h.back h.p.end i ++ z))
-      ∙ (rows_text-append h.front (new ++ h.back) (h.p.end ++ z) ∙ (rows_then h.front (rows_text (new ++ h.back) (h.p.end ++ z)) ∙ ap (λ u. rows_text h.front [] ++ u) (rows_text-append new h.back (h.p.end ++ z)))))
+  q_text = search (rules, q_rows, own_end, rows_text-append, rows_then)
 
   same_lead : lead_of q ≡ lead_of h.p
-  same_lead =
-      ap (λ rs. head_comment (first_gap rs q.end)) (q_rows ∙ ap (λ rs. h.front ++ (rs ++ h.back)) t.new_is)
-      ∙ (ap head_comment (gap_same h.front t.first h.row (t.more ++ h.back) (h.under ++ h.back) q.end h.p.end t.gap_is) ∙ sym (ap (λ rs. head_comment (first_gap rs h.p.end)) h.rows_are))
+  same_lead = search (rules, q_rows, gap_same)
 
   same_block : is_block_root q ≡ is_block_root h.p
   same_block =

@@ -1,5 +1,5 @@
 -- The rows that are written for a value in the place of those of an item or entry: behind its key or dash, or under it.
-use Rattle.std.proofs.Common.{◌≡◌, ℕ, ℤ, suc, ◌+◌, ◌*◌, ◌<◌, ◌≤◌, true, false, List, [], ◌∷◌, ◌++◌, Option, Some, None, refl, sym, ap, ◌∙◌, subst, arith}
+use Rattle.std.proofs.Common.{◌≡◌, ℕ, ℤ, suc, ◌+◌, ◌*◌, ◌<◌, ◌≤◌, true, false, List, [], ◌∷◌, ◌++◌, Option, Some, None, refl, sym, ap, ◌∙◌, subst, rules}
 use Rattle.std.proofs.lemmas.Bool.{false≢true}
 use Rattle.yq_flow_scalars.specs.Paths.{Step}
 use Rattle.yq_flow_scalars.specs.Piece.{deeper}
@@ -7,7 +7,6 @@ use Rattle.yq_flow_scalars.specs.Plain.{ends_plain}
 use Rattle.yq_flow_scalars.specs.Text.{separates}
 use Rattle.yq_flow_scalars.specs.Tree.{Node}
 use Rattle.yq_inline.specs.Nodes as inline
-use Rattle.yq_inline.specs.Nodes.{node_text}
 use Rattle.yq_lines.specs.LineAnchors.{HaveOneAnchorEach}
 use Rattle.yq_lines.specs.Comments.{line_comment}
 use Rattle.yq_lines.specs.Outline as outline
@@ -18,7 +17,7 @@ use Rattle.yq_rows.specs.Alone.{holds_nothing}
 use Rattle.yq_rows.specs.Exchange.{with_content}
 use Rattle.yq_rows.specs.Grammar.{IsContent, IsTail, is_entry}
 use Rattle.yq_rows.specs.Rows as rows
-use Rattle.yq_rows.specs.Rows.{Content, Nothing, Inline, Block, content_text, Row, mark_column, parent_indent, rows_text, Cut, cut_text}
+use Rattle.yq_rows.specs.Rows.{Content, content_text, Row, mark_column, parent_indent, rows_text, Cut, cut_text}
 use Rattle.yq_rows.specs.Seams.{is_block}
 use Rattle.yq_rows.proofs.NodeExchange.{inline_starts, space_apart}
 use Rattle.yq_rows.proofs.splices.PartPlaces.{part_ends}
@@ -56,36 +55,20 @@ mark_key rows.Dash = None
 mark_key (rows.Key key colon) = Some key
 
 below_deep : (m : rows.Mark) (l : Layout) (v : Node) (n : ℕ) → n ≤ column_below l n (mark_key m) v
-below_deep rows.Bare l v n = omega arith
-below_deep rows.Dash l v n = omega arith
-below_deep (rows.Key key colon) l v n = omega arith
+below_deep m l v n = search rules
 
 mark_level : (m : rows.Mark) (n : ℕ) → is_entry m ≡ true → 3 * n + outline.rank (mark_of m) ≡ entry_level (mark_key m) n
-mark_level rows.Bare n e = absurd (false≢true e)
-mark_level rows.Dash n e = refl
-mark_level (rows.Key key colon) n e = refl
+mark_level m n h1 = search (rules, false≢true)
 
 -- ---- nothing but an anchor behind a mark
 
 -- it has no head and no key that is too long, and is no block scalar
 nothing_is : (x : Content) → holds_nothing x ≡ true → (head_of x ≡ None) × ContentHasFitKeys x × (is_block x ≡ false)
-nothing_is (Nothing tail) h = (refl, tt, refl)
-nothing_is (Inline space inline.empty tail) h = (refl, tt, refl)
-nothing_is (Inline space (inline.alias name) tail) h = absurd (false≢true h)
-nothing_is (Inline space (inline.scalar p) tail) h = absurd (false≢true h)
-nothing_is (Inline space (inline.coll close gap is) tail) h = absurd (false≢true h)
-nothing_is (Inline space (inline.anchored n gap inline.empty) tail) h = (refl, tt, refl)
-nothing_is (Inline space (inline.anchored n gap (inline.alias m)) tail) h = absurd (false≢true h)
-nothing_is (Inline space (inline.anchored n gap (inline.scalar p)) tail) h = absurd (false≢true h)
-nothing_is (Inline space (inline.anchored n gap (inline.coll close g is)) tail) h = absurd (false≢true h)
-nothing_is (Inline space (inline.anchored n gap (inline.anchored m g node)) tail) h = absurd (false≢true h)
-nothing_is (Block space anchor block) h = absurd (false≢true h)
+nothing_is x h1 = search (rules, false≢true)
 
 -- white space stands before another node there, where it does before the old one
 core_apart : (core : inline.Node) (n : ℤ) (x : Content) (rest : List ℕ) → IsContent n x rest → separates (content_text x rest) ≡ true → separates (content_text (put_core core x) rest) ≡ true
-core_apart core n (Nothing tail) _ h a = refl
-core_apart core n (Inline space old tail) rest h a = space_apart space (node_text old (tail ++ rest)) (node_text (recore core old) (tail ++ rest)) h.0 a (inline_starts n old (tail ++ rest) h.1).joined
-core_apart core n (Block space anchor block) rest h a = a
+core_apart core n x rest h1 h2 = search (rules, space_apart, recore, inline_starts)
 
 module _ (doc : ℕ) (s : Step) (ss : List Step) (c : Cut) (h : NodeRows doc s ss c) where
   -- the end of a line before the rows behind ends what is written in the place
@@ -142,9 +125,7 @@ module _ (doc : ℕ) (s : Step) (ss : List Step) (c : Cut) (h : NodeRows doc s s
 
     deep : outline.level (line_with h.mark x) < level_at below v
     unfolding level
-    deep =
-        subst (λ n. n < level_at below v) (sym (mark_level h.mark.mark (mark_column h.mark) (entry doc s ss c h)))
-        (lines_deeper v l (mark_column h.mark) (mark_key h.mark.mark) step filled.filled)
+    deep = search (rules, mark_level, entry, lines_deeper)
 
     pub takes_under : TakesNode doc s ss c h v rows_under
     takes_under =

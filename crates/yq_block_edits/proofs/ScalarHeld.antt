@@ -1,5 +1,5 @@
 -- What a key or dash holds that has a block scalar: its header's line, and the lines below.
-use Rattle.std.proofs.Common.{◌≡◌, inl, inr, ℕ, cond, List, [], ◌∷◌, ◌++◌, length, Option, None, Some, true, false, ◌&&◌, ◌||◌, refl, sym, ap, ◌∙◌, subst, append_assoc, append-nil}
+use Rattle.std.proofs.Common.{◌≡◌, inl, inr, ℕ, cond, List, [], ◌∷◌, ◌++◌, length, Option, None, Some, true, false, ◌&&◌, ◌||◌, refl, sym, ap, ◌∙◌, subst, append_assoc, append-nil, rules}
 use Rattle.std.proofs.lemmas.Bool.{false≢true, and_parts}
 use Rattle.yq_scalar.specs.Block.{BlockText, block_text}
 use Rattle.yq_flow_scalars.specs.Lines.{is_blank, is_hash}
@@ -56,9 +56,7 @@ abbrev final_of : List ℕ → List ℕ → List ℕ
 final_of b below = cond (is_empty below) b (last_break below)
 
 line_of : (b below : List ℕ) → IsLfOrCrLf b → cond (is_empty (gone_of b below)) (final_of b below) (gone_of b below) ≡ b
-line_of b [] h = refl
-line_of b (x ∷ below) (inl e) = subst (λ q. cond (is_empty q) (last_break (x ∷ below)) q ≡ q) (sym e) refl
-line_of b (x ∷ below) (inr e) = subst (λ q. cond (is_empty q) (last_break (x ∷ below)) q ≡ q) (sym e) refl
+line_of b below h1 = search rules
 
 no_break : less_break [] ≡ []
 unfolding less_break
@@ -66,9 +64,7 @@ no_break = refl
 
 lines_old : (b below u : List ℕ) → IsLfOrCrLf b →
     b ++ (less_break below ++ (cond (is_empty (gone_of b below)) [] (final_of b below) ++ u)) ≡ gone_of b below ++ (less_break below ++ (final_of b below ++ u))
-lines_old b [] u h = (λ i. b ++ (no_break i ++ u)) ∙ sym (ap (λ x. x ++ (b ++ u)) no_break)
-lines_old b (x ∷ below) u (inl e) = subst (λ q. q ++ (less_break (x ∷ below) ++ (cond (is_empty q) [] (last_break (x ∷ below)) ++ u)) ≡ q ++ (less_break (x ∷ below) ++ (last_break (x ∷ below) ++ u))) (sym e) refl
-lines_old b (x ∷ below) u (inr e) = subst (λ q. q ++ (less_break (x ∷ below) ++ (cond (is_empty q) [] (last_break (x ∷ below)) ++ u)) ≡ q ++ (less_break (x ∷ below) ++ (last_break (x ∷ below) ++ u))) (sym e) refl
+lines_old b below u h1 = search (rules, no_break)
 
 -- ---- the text up to a header
 

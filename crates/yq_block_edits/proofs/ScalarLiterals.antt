@@ -1,5 +1,5 @@
 -- A string takes the place of a block scalar as a literal one: header and lines give way.
-use Rattle.std.proofs.Common.{◌≡◌, ℕ, ◌≤◌, ◌&&◌, List, [], ◌∷◌, ◌++◌, length, Option, Some, None, true, false, refl, sym, ap, ◌∙◌, subst, append_assoc, append-nil}
+use Rattle.std.proofs.Common.{◌≡◌, ℕ, ◌≤◌, List, [], ◌∷◌, ◌++◌, length, Option, Some, None, true, false, refl, sym, ap, ◌∙◌, subst, append_assoc, append-nil, rules}
 use Rattle.std.proofs.lemmas.Bool.{and_parts}
 use Rattle.std.specs.Str.{IsUtf8}
 use Rattle.yq_scalar.specs.Block.{BlockText, IsBlock, block_text, ends_block, keeps}
@@ -13,7 +13,7 @@ use Rattle.yq_flow_scalars.specs.Scalar.{ScalarText}
 use Rattle.yq_flow_scalars.specs.Text.{joined, lines_of}
 use Rattle.yq_flow_scalars.specs.Tree as tree
 use Rattle.yq_flow_scalars.specs.Tree.{Node}
-use Rattle.yq_flow_scalars.specs.Writable.{can_write, is_literal_text, is_string}
+use Rattle.yq_flow_scalars.specs.Writable.{can_write}
 use Rattle.yq_scalar.specs.declared.block_written.Break.{Break}
 use Rattle.yq_flow_scalars.specs.declared.kind.Kind.{Kind}
 use Rattle.yq_flow_scalars.specs.declared.kind.Kind.TheVariants as kinds
@@ -54,9 +54,7 @@ use Rattle.yq_block_edits.proofs.StandingNodes.{behind_is, mark_node}
 
 -- a scalar that a literal block scalar can write is a string without an anchor
 string_is : (a : Option (List ℕ)) (kind : Kind) (t : List ℕ) → IsValueTree (tree.scalar a kind t) → can_write (record { kind = kind; text = t }) styles.Literal places.Block ≡ true → tree.scalar a kind t ≡ tree.scalar None kinds.Text t
-string_is a kind t h can =
-    let string : is_string kind ≡ true = (and_parts (is_string kind) true (and_parts (is_string kind && true) (is_literal_text t) can).0).0 in
-    λ i. tree.scalar (h.0 i) (string_kind kind string i) t
+string_is a kind t h can = search (rules, and_parts, string_kind)
 
 module _ (n : ℕ) (s : Step) (ss : List Step) (c : Cut) (e : RowsOfEntry) (there : StandsThere n s ss c e) (last : e.line ≡ length e.row.dashes) (k : KnowsHeld n s ss c e there last)
     (space : List ℕ) (anchor : Option Anchor) (block : BlockText) (content_is : e.row.content ≡ Block space anchor block) where
@@ -139,12 +137,7 @@ module _ (n : ℕ) (s : Step) (ss : List Step) (c : Cut) (e : RowsOfEntry) (ther
     lead = row_front e.row ++ (anchor_before (slices e.row) ++ space_before (slices e.row))
 
     before_is : w.before ++ (w.space ++ []) ≡ (e.start ++ rows_text e.front []) ++ lead
-    before_is =
-        let a : List ℕ = e.start ++ rows_text e.front [] in
-        let f : List ℕ = row_front e.row in
-        let q : List ℕ = anchor_before (slices e.row) in
-        let parts : ((a ++ f) ++ q) ++ (w.space ++ []) ≡ a ++ (f ++ (q ++ w.space)) = simp (append_assoc, append-nil) refl in
-        parts
+    before_is = simp (append_assoc, append-nil)
 
     spells : Spells n s ss c e there last k v us (with_content new e.row ∷ [])
     spells = record {

@@ -1,11 +1,10 @@
 -- Anchors of lines, and keys of rows, where some give way to others.
-use Rattle.std.proofs.Common.{◌≡◌, ℕ, List, [], ◌∷◌, ◌++◌, Option, Some, None, refl, sym, ap, ◌∙◌, subst}
+use Rattle.std.proofs.Common.{◌≡◌, ℕ, List, [], ◌∷◌, ◌++◌, Option, Some, None, refl, sym, ap, ◌∙◌, subst, rules}
 use Rattle.std.proofs.lemmas.Option.{same_Some}
-use Rattle.yq_flow_scalars.specs.Tree.{Node}
 use Rattle.yq_rows.specs.Rows.{Row}
-use Rattle.yq_lines.specs.LineAnchors.{MayTake, IsFree, HaveOneAnchorEach}
+use Rattle.yq_lines.specs.LineAnchors.{IsFree, HaveOneAnchorEach}
 use Rattle.yq_documents.specs.Documents.{HaveFitKeys}
-use Rattle.yq_lines.specs.Outline.{Mark, Bare, Key, Dash, Line, level, Outline, end, row, flatten}
+use Rattle.yq_lines.specs.Outline.{Line, level, Outline, end, row, flatten}
 use Rattle.yq_lines.specs.Places.{Context, here, below, beside, lines_before, lines_after, FoundLine}
 use Rattle.yq_lines.proofs.Allowing as allowing
 use Rattle.yq_lines.proofs.Allowing.{Allows, IsCollection}
@@ -19,15 +18,7 @@ use Rattle.yq_change.proofs.SiblingLaws.{next, entry_out}
 
 -- an anchor before lines, where more follow
 free_longer : (a : Option (List ℕ)) (xs ys : List Line) → IsFree a xs → BeginsEntry ys → IsFree a (xs ++ ys)
-free_longer None xs ys h e = tt
-free_longer (Some a) (l ∷ xs) ys h e = h
-free_longer (Some a) [] [] h e = tt
-free_longer (Some a) [] (k ∷ ys) h e = takes k.mark k.anchor k.head e
-  where
-    takes : (m : Mark) (b : Option (List ℕ)) (n : Option Node) → IsEntry m → MayTake m b n
-    takes Bare b n e = absurd e
-    takes (Key x) b n e = tt
-    takes Dash b n e = tt
+free_longer a xs ys h1 h2 = search rules
 
 each_join : (xs ys : List Line) → HaveOneAnchorEach xs → HaveOneAnchorEach ys → IsFree (last_anchor xs) ys → HaveOneAnchorEach (xs ++ ys)
 each_join [] ys h k f = k

@@ -1,15 +1,14 @@
 -- One item or entry more in a block collection that has some.
-use Rattle.std.proofs.Common.{◌≡◌, ℕ, ◌<◌, List, [], ◌∷◌, ◌++◌, Option, Some, None, true, false, refl, sym, ap, ◌∙◌, subst, arith, append_assoc, length-append}
+use Rattle.std.proofs.Common.{◌≡◌, ℕ, ◌<◌, List, [], ◌∷◌, ◌++◌, Option, Some, None, true, false, refl, sym, ap, ◌∙◌, subst, arith, append_assoc, length-append, rules}
 use Rattle.std.proofs.lemmas.Bool.{false≢true}
 use mathlib.Core.List.{head-eq_of_cons-eq}
 use Rattle.yq_scalar.specs.Block.{BlockText, ends_block, keeps}
 use Rattle.yq_flow_scalars.specs.Text.{lines_of as text_lines}
 use Rattle.yq_scalar.proofs.BlockRepairLaws.{ends_behind}
-use Rattle.yq_lines.specs.Comments.{head_comment}
 use Rattle.yq_rows.specs.Exchange.{asked_behind}
 use Rattle.yq_rows.specs.Grammar.{Limit, unlimited, AreRows, no_rows}
 use Rattle.yq_rows.specs.Rows as rows
-use Rattle.yq_rows.specs.Rows.{Content, Nothing, Inline, Block, Row, behind_gap, behind_indent, rows_text, Part}
+use Rattle.yq_rows.specs.Rows.{Content, Row, rows_text, Part}
 use Rattle.yq_rows.specs.Seams.{are_seamed, ends_in_block, ends_in_line, is_seam}
 use Rattle.yq_rows.specs.Splices.{behind_first, first_gap}
 use Rattle.yq_rows.specs.Removal.{block_of, last_block}
@@ -43,9 +42,7 @@ use Rattle.yq_change.proofs.PartLaws.{part_numbered, document_known, document_sp
 
 -- seams
 seam_of : (c : Content) (b : BlockText) (u : List ℕ) → block_of c ≡ Some b → ends_block (keeps b.chomping) b.indent (text_lines u) ≡ true → is_seam c u ≡ true
-seam_of (Nothing tail) b u e h = absurd (cc)
-seam_of (Inline space node tail) b u e h = absurd (cc)
-seam_of (Block space anchor block) b u e h = let same : block ≡ b = cc in subst (λ (x : BlockText). ends_block (keeps x.chomping) x.indent (text_lines u) ≡ true) (sym same) h
+seam_of c b u h1 h2 = search rules
 
 pub block_seam : (front : List Row) (b : BlockText) (u : List ℕ) → last_block front ≡ Some b → ends_block (keeps b.chomping) b.indent (text_lines u) ≡ true → are_seamed front u ≡ true
 block_seam [] b u e h = refl
@@ -62,12 +59,7 @@ first_column above column (n ∷ ns) m c rest l ls e = ap (λ (x : Line). x.colu
 less_rows : (new : List Row) (limit : Limit) (gap rest : List ℕ) (b : BlockText) (l : Line) (ls : List Line) → AreRows limit new gap rest → first_gap new [] ≡ [] → lines_of new ≡ l ∷ ls →
     l.column < b.indent.columns → ends_block (keeps b.chomping) b.indent (text_lines (rows_text new (gap ++ rest))) ≡ true
 less_rows [] limit gap rest b l ls h bare e less = absurd (cc)
-less_rows (r ∷ more) limit gap rest b l ls h bare e less =
-    let x : List ℕ = rows_text more (gap ++ rest) in
-    let same = first_column (head_comment r.gap) r.column r.dashes r.mark r.content (lines_of more) l ls e in
-    let here = starts_less b.indent r.column (behind_indent r x) (row_starts limit r x h.0) (omega (arith, same, less)) in
-    let text : rows_text (r ∷ more) (gap ++ rest) ≡ behind_gap r x = ap (λ (g : List ℕ). g ++ behind_gap r x) bare in
-    ap (λ (y : List ℕ). ends_block (keeps b.chomping) b.indent (text_lines y)) text ∙ ends_behind (keeps b.chomping) b.indent (text_lines (behind_gap r x)) here
+less_rows (r ∷ more) limit gap rest b l ls h bare e less = search (rules, first_column, starts_less, row_starts, ends_behind)
 
 pub append_seam : (front back new : List Row) (end rest gap behind : List ℕ) (l : Line) (ls : List Line) → AreRows unlimited (front ++ back) end rest →
     AreRows (asked_behind unlimited front) new gap behind → first_gap new [] ≡ [] → lines_of new ≡ l ∷ ls →
@@ -135,9 +127,7 @@ block_appended t c k p steps h front back new m l u old there_is size w takes te
     let put =
     is_put t c k p q old (ap no_rows there ∙ more front (new ++ back) some) text cut (subst HaveFitKeys (sym there) (fit_from front (new ++ back) keys.0 (fit_from new back w.keys keys.1)))
     (subst HasShortRoot (sym there) (short_stays front back (new ++ back) some (subst HasShortRoot takes.rows_are known.document.short))) in
-    let lines : lines_of q.rows ≡ put_lines h (flatten h.lines ++ (l ∷ flatten u)) =
-    ap lines_of there ∙ (lines_append front (new ++ back) ∙ ((λ i. parts.0 i ++ lines_append new back i)
-    ∙ ((λ i. (lines_before h.place ++ flatten h.lines) ++ (w.lines i ++ parts.2 i)) ∙ around (lines_before h.place) (flatten h.lines) (l ∷ flatten u) (lines_after h.place)))) in
+    let lines : lines_of q.rows ≡ put_lines h (flatten h.lines ++ (l ∷ flatten u)) = search (rules, lines_append, around, there, parts) in
     entry_appended t c k p q steps h m l u put there_is w.fits w.anchors lines w.value_is w.key
   where
     more : (a b : List Row) → no_rows a ≡ false → no_rows (a ++ b) ≡ false

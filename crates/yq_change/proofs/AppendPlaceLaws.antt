@@ -1,11 +1,10 @@
 -- What may stand at the end of a block collection.
-use Rattle.std.proofs.Common.{◌≡◌, ℕ, suc, ◌+◌, ◌*◌, ◌<◌, ◌≤◌, List, [], ◌∷◌, ◌++◌, Option, Some, None, true, refl, sym, ap, ◌∙◌, subst, arith, append_assoc, append-nil, length-append}
+use Rattle.std.proofs.Common.{◌≡◌, ℕ, suc, ◌+◌, ◌*◌, ◌<◌, ◌≤◌, List, [], ◌∷◌, ◌++◌, Option, Some, None, true, refl, sym, ap, ◌∙◌, subst, arith, append_assoc, append-nil, length-append, rules}
 use Rattle.std.proofs.lemmas.Bool.{lt-ltb}
 use Rattle.std.proofs.lemmas.Option.{same_Some}
-use Rattle.yq_flow_scalars.specs.Piece.{deeper}
 use Rattle.yq_lines.specs.Comments.{head_comment}
 use Rattle.yq_lines.specs.Group.{level_or}
-use Rattle.yq_lines.specs.Outline.{Mark, Bare, Key, Dash, Line, level, rank, Outline, end, row, flatten}
+use Rattle.yq_lines.specs.Outline.{Bare, Line, level, Outline, end, flatten}
 use Rattle.yq_flow_scalars.specs.Paths.{Step}
 use Rattle.yq_lines.specs.Places.{lines_before, lines_after}
 use Rattle.yq_lines.proofs.Decides.{flatten-group}
@@ -13,7 +12,7 @@ use Rattle.yq_rows.specs.Exchange.{allows_first, asked_behind}
 use Rattle.yq_rows.specs.Gap.{IsGap}
 use Rattle.yq_rows.specs.Grammar.{Limit, unlimited, allows, limit_after, AreRows}
 use Rattle.yq_rows.specs.Rows as rows
-use Rattle.yq_rows.specs.Rows.{Content, Row, mark_column, parent_of, parent_indent, Part, Cut}
+use Rattle.yq_rows.specs.Rows.{Content, Row, mark_column, Part, Cut}
 use Rattle.yq_rows.specs.Splices.{first_gap, behind_first}
 use Rattle.yq_rows.proofs.PlainEnds.{AtLine, rows_line}
 use Rattle.yq_rows.proofs.seams.SeamLaws.{part_line}
@@ -28,7 +27,7 @@ use Rattle.yq_change.specs.DocumentRows.{IsDocumentPart, behind_document}
 use Rattle.yq_documents.specs.PartNumbers.{part_number}
 use Rattle.yq_change.specs.LineRows.{Begins, AreDeep}
 use Rattle.yq_change.specs.Moved.{dash_lines}
-use Rattle.yq_change.specs.Siblings.{HasEntries, IsEntry}
+use Rattle.yq_change.specs.Siblings.{HasEntries}
 use Rattle.yq_change.proofs.ApartLaws.{even_deep, lines_apart, block_some}
 use Rattle.yq_change.proofs.ColumnLaws.{allowed_content, below_entry, below_node, high_level, next_low}
 use Rattle.yq_change.proofs.LineLaws.{above_mark, mark_behind}
@@ -62,21 +61,7 @@ bare_level above column c = refl
 
 -- an entry or item in a column less deep than the last line of a row may stand behind that row
 mark_limit : (n column : ℕ) (r : Row) → 3 * column + 1 < n → n ≤ level (mark_line (above_mark (head_comment r.gap) r.dashes) (mark_column r) r.mark r.content) → allows (limit_after r) column ≡ true
-mark_limit n column r low deep = allowed_content (parent_indent r) r.content column (go r.mark refl)
-  where
-    at : (m : rows.Mark) → r.mark ≡ m → n ≤ level (mark_line (above_mark (head_comment r.gap) r.dashes) (mark_column r) m r.content)
-    at m e = subst (λ (x : rows.Mark). n ≤ level (mark_line (above_mark (head_comment r.gap) r.dashes) (mark_column r) x r.content)) e deep
-
-    bare : n ≤ level (mark_line (above_mark (head_comment r.gap) r.dashes) (mark_column r) rows.Bare r.content) → column < mark_column r
-    bare h = omega (arith, h, low, bare_level (above_mark (head_comment r.gap) r.dashes) (mark_column r) r.content)
-
-    entry : (m : rows.Mark) → n ≤ level (mark_line (above_mark (head_comment r.gap) r.dashes) (mark_column r) m r.content) → column ≤ mark_column r
-    entry m h = omega (arith, h, low, high_level (mark_line (above_mark (head_comment r.gap) r.dashes) (mark_column r) m r.content))
-
-    go : (m : rows.Mark) → r.mark ≡ m → column < deeper (parent_of r.mark (mark_column r))
-    go rows.Bare e = subst (λ (x : rows.Mark). column < deeper (parent_of x (mark_column r))) (sym e) (below_node column (mark_column r) (bare (at rows.Bare e)))
-    go rows.Dash e = subst (λ (x : rows.Mark). column < deeper (parent_of x (mark_column r))) (sym e) (below_entry column (mark_column r) (entry rows.Dash (at rows.Dash e)))
-    go (rows.Key key colon) e = subst (λ (x : rows.Mark). column < deeper (parent_of x (mark_column r))) (sym e) (below_entry column (mark_column r) (entry (rows.Key key colon) (at (rows.Key key colon) e)))
+mark_limit n column r low deep = search (rules, allowed_content, above_mark, bare_level, high_level, below_node, below_entry)
 
 -- behind the last of rows
 pub last_limit : (limit : Limit) (others : List Row) (r : Row) → asked_behind limit (others ++ (r ∷ [])) ≡ limit_after r
@@ -104,13 +89,7 @@ ends_some xs (y ∷ ys) some = last_of xs y ys
 -- the level of a collection's lines
 entry_level : (column : ℕ) (o : Outline) → HasEntries o → BeginsAt column o → (3 * column + 1 < level_or 0 o) × (level_or 0 o ≤ 3 * column + 3)
 unfolding level
-entry_level column end b e = absurd b
-entry_level column (row l u a) b e = by l.mark b
-  where
-    by : (m : Mark) → IsEntry m → (3 * column + 1 < 3 * l.column + rank m) × (3 * l.column + rank m ≤ 3 * column + 3)
-    by Bare b = absurd b
-    by (Key k) b = (omega (arith, e), omega (arith, e))
-    by Dash b = (omega (arith, e), omega (arith, e))
+entry_level column o h1 h2 = search rules
 
 -- the next rows stand no deeper
 low_first : (n column : ℕ) (back : List Row) → n ≤ 3 * column + 3 → (m : ℕ) → m < n → Begins m (lines_of back) → allows_first (record { column = Some (suc column) }) back ≡ true

@@ -1,11 +1,11 @@
 -- The operations on block nodes, by the lines that they exchange, add or drop.
-use Rattle.std.proofs.Common.{◌≡◌, ℕ, ◌+◌, List, [], ◌∷◌, ◌++◌, length, Option, Some, option_map, refl, sym, ap, ◌∙◌, subst, arith, append-nil, length-append}
+use Rattle.std.proofs.Common.{◌≡◌, ℕ, ◌+◌, List, [], ◌∷◌, ◌++◌, length, Option, Some, refl, sym, ap, ◌∙◌, subst, arith, append-nil, length-append, rules}
 use Rattle.yq_flow_scalars.specs.Keys.{keys_of}
 use Rattle.yq_flow_scalars.specs.Paths.{child_at, node_at}
-use Rattle.yq_flow_scalars.specs.Tree.{Node, Children, children_of}
+use Rattle.yq_flow_scalars.specs.Tree.{Node, children_of}
 use Rattle.yq_lines.specs.Group.{level_or}
 use Rattle.yq_walk.specs.Lines.{lines_from, lines_of}
-use Rattle.yq_lines.specs.Outline.{Mark, Bare, Key, Dash, Line, Outline, end, row, flatten, anchored, label, collection, children, value}
+use Rattle.yq_lines.specs.Outline.{Line, Outline, flatten, anchored, label, children, value}
 use Rattle.yq_lines.specs.Places.{lines_before, content}
 use Rattle.yq_documents.specs.Reading.{outline_of, root_of}
 use Rattle.yq_lines.specs.Comments.{head_comment}
@@ -17,7 +17,7 @@ use Rattle.yq_change.specs.Conditions.{last_anchor}
 use Rattle.yq_change.specs.BlockChanges.{NodeReplaced, RootReplaced, EntryAppended, EntryRemoved, EntryRelabelled, FirstRemoved, FirstDropped}
 use Rattle.yq_change.specs.Moved.{dash_lines}
 use Rattle.yq_change.specs.SoundRoots.{IsNewKey}
-use Rattle.yq_change.specs.Siblings.{IsEntry, HasEntries}
+use Rattle.yq_change.specs.Siblings.{HasEntries}
 use Rattle.yq_change.proofs.EditedLaws.{old_is_sound, old_is_even, lines_are_there, line_exchanged, lines_exchanged, lines_appended, lines_removed, line_relabelled}
 use Rattle.yq_change.proofs.AnchorLaws.{any_free}
 use Rattle.yq_change.proofs.MovedLaws.{first_moved, first_emptied}
@@ -47,13 +47,7 @@ root_replaced t c k p q v m u put fits lines may =
 
 -- the items or entries of a block collection behind an anchor
 block_children : (a : Option (List ℕ)) (o : Outline) → HasEntries o → children_of (anchored a (value o)) ≡ children o
-block_children a end b = absurd b
-block_children a (row l u c) b = kind l.mark b (children (row l u c))
-  where
-    kind : (m : Mark) → IsEntry m → (cs : Children) → children_of (anchored a (collection m cs)) ≡ cs
-    kind Bare e cs = absurd e
-    kind (Key j) e cs = refl
-    kind Dash e cs = refl
+block_children a o h1 = search rules
 
 pub entry_appended : EntryAppended
 entry_appended t c k p q steps h m l u put in_it fits each lines value_is new =
@@ -67,8 +61,7 @@ pub entry_removed : EntryRemoved
 entry_removed t c k p q steps h s f put entry left lines spared =
     let old : Node = anchored h.anchor (value h.lines) in
     let there = lines_are_there steps (outline_of p) h entry.place_is in
-    let at : child_at s (children_of old) ≡ Some (content f.line f.under) =
-    ap (child_at s) (block_children h.anchor h.lines entry.block) ∙ (row_child s h.lines ∙ ap (option_map (λ x. content x.line x.under)) entry.found) in
+    let at : child_at s (children_of old) ≡ Some (content f.line f.under) = search (rules, block_children, row_child) in
     let sound = remove_keeps steps (root_of p) old (content f.line f.under) s (old_is_sound t c k p q put) there at spared in
     lines_removed t c k p q steps h s f put entry left lines sound
 

@@ -1,5 +1,5 @@
 -- Anchors and aliases of a document in which a node is changed.
-use Rattle.std.proofs.Common.{◌≡◌, ◌⊎◌, ℕ, List, [], ◌∷◌, ◌++◌, Option, Some, None, option_and_then, Bool, true, false, cond, refl, sym, ap, ◌∙◌, subst, inl, inr, ⊎_elim, append_assoc, append-nil}
+use Rattle.std.proofs.Common.{◌≡◌, ◌⊎◌, ℕ, List, [], ◌∷◌, ◌++◌, Option, Some, None, option_and_then, Bool, true, false, cond, refl, sym, ap, ◌∙◌, subst, inl, inr, ⊎_elim, append_assoc, append-nil, rules}
 use Rattle.std.proofs.lemmas.Option.{none-some, same_Some}
 use mathlib.Core.List.{cons≢nil}
 use Rattle.yq_flow_scalars.specs.Paths.{Step, is_here, further, child_at, node_at, change_child, within, change}
@@ -132,8 +132,7 @@ pub bound_changed : BoundChanged
 bound_changed steps n old f front gone come back there names spared bound =
     let r = names_around steps n old there in
     let whole : names_of n ≡ (r.before ++ front) ++ (gone ++ (back ++ r.after)) = r.old_names ∙ (ap (λ x. r.before ++ (x ++ r.after)) names.old_names ∙ split r.before front gone back r.after) in
-    let changed : names_of (change steps f n) ≡ (r.before ++ front) ++ (come ++ (back ++ r.after)) =
-    r.new_names f ∙ (ap (λ x. r.before ++ (x ++ r.after)) names.new_names ∙ split r.before front come back r.after) in
+    let changed : names_of (change steps f n) ≡ (r.before ++ front) ++ (come ++ (back ++ r.after)) = search (rules, split, r) in
     let used : (a : List ℕ) → IsAmong a (aliases_in (back ++ r.after)) → IsAmong a (aliases_in (names_of n)) =
     λ a h. subst (λ x. IsAmong a (aliases_in x)) (sym whole) (used_last a (r.before ++ front) (gone ++ (back ++ r.after)) (used_last a gone (back ++ r.after) h)) in
     subst (AreBound []) (sym changed) (bound_stays [] (r.before ++ front) gone come (back ++ r.after) (subst (AreBound []) whole bound) (no_alias_bound _ come names.bare) (λ a g u. spared a g (used a u)))

@@ -1,18 +1,17 @@
 -- Texts in which one document has another part.
-use Rattle.std.proofs.Common.{◌≡◌, ℕ, zero, suc, List, [], ◌∷◌, ◌++◌, map, Bool, true, false, not, ◌||◌, Some, refl, sym, ap, ◌∙◌}
+use Rattle.std.proofs.Common.{◌≡◌, ℕ, zero, suc, List, [], ◌∷◌, ◌++◌, map, Bool, true, false, not, ◌||◌, Some, refl, sym, ap, ◌∙◌, rules}
 use Rattle.std.proofs.lemmas.Bool.{and_parts, and_from, cond-true}
 use Rattle.std.proofs.lemmas.Option.{same_Some}
-use mathlib.Core.List.{cons≢nil}
 use Rattle.std.specs.List.{slice_get, list_all}
 use Rattle.yq_flow_scalars.specs.Tree.{Node}
 use Rattle.yq_lines.specs.Comments.{head_comment}
-use Rattle.yq_rows.specs.Grammar.{no_rows, begins_document}
+use Rattle.yq_rows.specs.Grammar.{begins_document}
 use Rattle.yq_rows.specs.Rows.{Row, Part, Cut, last, marked, cut_text}
 use Rattle.yq_documents.specs.Documents.{Document, IsRoot, parts_from, has_begin, begins_bare, document_parts, lead_of}
 use Rattle.yq_documents.specs.PartNumbers.{number_from}
 use Rattle.yq_rows.specs.Splices.{first_gap}
 use Rattle.yq_walk.specs.Lines.{lines_from, lines_of}
-use Rattle.yq_lines.specs.Outline.{Line, Outline, end, row, flatten, value, null_node}
+use Rattle.yq_lines.specs.Outline.{Line, end}
 use Rattle.yq_documents.specs.Reading.{root_of, document_of, is_document, all_documents, read_at}
 use Rattle.yq_lines.proofs.ByRules.{rules_from}
 use Rattle.yq_places.proofs.DocumentLaws.{is_document_of}
@@ -38,23 +37,11 @@ begin_stays (suc i) q (marked p marker c) = ap (λ b. begins_document marker || 
 
 -- whether the first part is a document stays
 kept : (b r s : Bool) → (not r || b) ≡ true → (s ≡ true → r ≡ true) → (not s || b) ≡ true
-kept b r false e h = refl
-kept true r true e h = refl
-kept false r true e h = absurd (wrong r e (h refl))
-  where
-    wrong : (r : Bool) → (not r || false) ≡ true → r ≡ true → ⊥
-    wrong true e f = cc
-    wrong false e f = cc
+kept b r s h1 h2 = search rules
 
 first_is : (is : Bool) (k : ℕ) (p q : Part) (c : Cut) → (begins_bare c || not (has_begin c)) ≡ is → slice_get (parts_from is c) k ≡ Some p → KeepsRows p q →
     (begins_bare (put_part (number_from is k c) q c) || not (has_begin (put_part (number_from is k c) q c))) ≡ is
-first_is true zero p q (last x) e there keeps = kept true (no_rows x.rows) (no_rows q.rows) e (λ h. ap (λ (y : Part). no_rows y.rows) (same_Some _ _ there) ∙ keeps h)
-first_is true (suc k) p q (last x) e there keeps = absurd (cc)
-first_is false k p q (last x) e there keeps = absurd (cc)
-first_is true zero p q (marked x marker c) e there keeps =
-    kept (not (has_begin (marked x marker c))) (no_rows x.rows) (no_rows q.rows) e (λ h. ap (λ (y : Part). no_rows y.rows) (same_Some _ _ there) ∙ keeps h)
-first_is true (suc k) p q (marked x marker c) e there keeps = ap (λ b. not (no_rows x.rows) || not (begins_document marker || b)) (begin_stays (number_from (begins_document marker) k c) q c) ∙ e
-first_is false k p q (marked x marker c) e there keeps = ap (λ b. not (no_rows x.rows) || not (begins_document marker || b)) (begin_stays (number_from (begins_document marker) k c) q c) ∙ e
+first_is is k p q c h1 h2 h3 = search (rules, kept, same_Some, begin_stays)
 
 pub first_stays : (c : Cut) (k : ℕ) (p q : Part) → slice_get (document_parts c) k ≡ Some p → KeepsRows p q → (begins_bare (put_document k q c) || not (has_begin (put_document k q c))) ≡ (begins_bare c || not (has_begin c))
 first_stays c k p q there keeps = first_is (begins_bare c || not (has_begin c)) k p q c refl there keeps
@@ -64,12 +51,7 @@ document_put c k p q there keeps = ap (λ b. parts_from b (put_document k q c)) 
 
 -- the root of lines
 root_of_lines : (ls : List Line) (root : Node) → StandsSomewhere ls root → IsRoot ls root
-root_of_lines [] root h = go h.1.outline h.1.lines_are h.1.node_is
-  where
-    go : (o : Outline) → flatten o ≡ [] → value o ≡ root → root ≡ null_node
-    go end e is = sym is
-    go (row l u a) e is = absurd (cons≢nil e)
-root_of_lines (l ∷ ls) root h = (h.0, rules_from h.0 (l ∷ ls) root h.1 l ls refl)
+root_of_lines ls root h1 = search (rules, rules_from)
 
 pub part_stands : PartStands
 part_stands q root h = record {

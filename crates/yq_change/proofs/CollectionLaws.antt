@@ -1,5 +1,5 @@
 -- Items or entries of the collection at a path, added, taken out and relabelled.
-use Rattle.std.proofs.Common.{◌≡◌, ℕ, ◌<◌, List, [], ◌∷◌, ◌++◌, Option, Some, None, option_map, Bool, true, false, cond, refl, sym, ap, ◌∙◌, subst, append_assoc, append-nil}
+use Rattle.std.proofs.Common.{◌≡◌, ℕ, ◌<◌, List, [], ◌∷◌, ◌++◌, Option, Some, None, option_map, Bool, true, false, cond, refl, sym, ap, ◌∙◌, subst, append_assoc, append-nil, rules}
 use Rattle.yq_flow_scalars.specs.Paths.{Step, is_here, further, append_child, change, relabel_child, remove_child, within, append_children}
 use Rattle.yq_flow_scalars.specs.Tree.{Label, child}
 use Rattle.yq_lines.specs.Group.{level_or}
@@ -89,8 +89,7 @@ relabelled n o steps h s f g l even entry new_line =
     (new_line.level_is ∙ here.0, subst (λ x. IsOpen x f.under) (sym new_line.head_is) here.1, entry_whole l.mark l.head end (mark w.front m whole old'), here.3, tt) in
     let new : IsEven m u = even_replaced m w.front (row f.line f.under end) f.after (row l f.under end) whole one old' block in
     let node : content l f.under ≡ content f.line f.under = λ i. anchored (new_line.anchor_is i) (head_or (new_line.head_is i) (value f.under)) in
-    let kids : children u ≡ relabel_child s g (children h.lines) =
-    children-append w.front (row l f.under f.after) ∙ ((λ i. append_children (children w.front) (child (new_line.label_is i) (node i) (children f.after))) ∙ w.relabelled g) in
+    let kids : children u ≡ relabel_child s g (children h.lines) = search (rules, children-append, w, node) in
     let law = collection_replaced n o u steps h (relabel_child s g) even (collection_of entry) block new kids in
     let lines : flatten u ≡ with_lines f (l ∷ flatten f.under) = flatten-append w.front (row l f.under f.after) ∙ sym (w.lines (l ∷ flatten f.under)) in
     let olds : flatten h.lines ≡ with_lines f (f.line ∷ flatten f.under) =

@@ -1,16 +1,16 @@
 -- Where rows may stand, by the levels of lines.
-use Rattle.std.proofs.Common.{◌≡◌, ℕ, zero, suc, ◌+◌, ◌*◌, ◌-◌, ◌<◌, ◌≤◌, ℤ, pos, List, [], ◌∷◌, ◌++◌, Option, Some, None, is_some, Bool, true, false, cond, refl, sym, ap}
+use Rattle.std.proofs.Common.{◌≡◌, ℕ, zero, suc, ◌+◌, ◌*◌, ◌-◌, ◌<◌, ◌≤◌, ℤ, pos, List, [], ◌∷◌, ◌++◌, Option, Some, None, is_some, true, refl, sym, ap, rules}
 use Rattle.std.proofs.Common.{◌∙◌, subst, arith, ⊎_elim, append_assoc}
 use Rattle.std.proofs.lemmas.Bool.{false≢true, lt-ltb, ltb-true}
 use Rattle.std.proofs.lemmas.Option.{none-some, same_Some}
 use mathlib.Core.List.{head-eq_of_cons-eq}
-use Rattle.yq_scalar.specs.Block.{BlockText, Lines, IsBlock, IsDigit, IsTextIndent}
+use Rattle.yq_scalar.specs.Block.{BlockText, Lines, IsDigit, IsTextIndent}
 use Rattle.yq_scalar.specs.declared.block_lines.TextIndent.{TextIndent}
 use Rattle.yq_flow_scalars.specs.Piece.{deeper}
 use Rattle.yq_lines.specs.Comments.{head_comment}
-use Rattle.yq_rows.specs.Grammar.{Limit, allows, is_within, unlimited, limit_after, limit_behind, is_plain, is_entry, AreDashes, IsMark, IsRow}
+use Rattle.yq_rows.specs.Grammar.{Limit, allows, limit_after, limit_behind, AreDashes, IsRow}
 use Rattle.yq_rows.specs.Rows as rows
-use Rattle.yq_rows.specs.Rows.{Content, Nothing, Inline, Block, Row, behind_columns, before_column, mark_column, parent_of, parent_indent, rows_text}
+use Rattle.yq_rows.specs.Rows.{Content, Row, behind_columns, before_column, mark_column, parent_of, parent_indent, rows_text}
 use Rattle.yq_rows.specs.Removal.{block_of, last_block, next_column, StandsLess}
 use Rattle.yq_walk.specs.Lines.{mark_line, lines_from, row_lines, lines_of, head_of}
 use Rattle.yq_lines.specs.Outline.{Line, level}
@@ -48,13 +48,7 @@ bare_high n above column c rest h = h.0
 
 -- limits
 pub allowed_content : (n : ℤ) (c : Content) (column : ℕ) → column < deeper n → allows (limit_behind n c) column ≡ true
-allowed_content n (Nothing tail) column h = refl
-allowed_content n (Inline space node tail) column h = go (is_plain node)
-  where
-    go : (b : Bool) → allows (cond b (record { column = Some (deeper n) }) unlimited) column ≡ true
-    go true = lt-ltb column (deeper n) h
-    go false = refl
-allowed_content n (Block space anchor block) column h = refl
+allowed_content n c column h1 = search (rules, lt-ltb)
 
 pub below_entry : (column n : ℕ) → column ≤ n → column < deeper (pos n)
 below_entry column n h = omega (arith, h)
@@ -103,11 +97,7 @@ next_allowed n limit (r ∷ (q ∷ new)) back end rest h some deep m less next =
 
 -- a column less than one that is allowed
 allowed_less : (limit : Limit) (a b : ℕ) → a ≤ b → allows limit b ≡ true → allows limit a ≡ true
-allowed_less limit a b e h = go limit.column h
-  where
-    go : (o : Option ℕ) → is_within o b ≡ true → is_within o a ≡ true
-    go None h = refl
-    go (Some bound) h = lt-ltb a bound (omega (arith, e, ltb-true b bound h))
+allowed_less limit a b e h = search (rules, lt-ltb, ltb-true)
 
 pub next_stays : NextStays
 next_stays limit [] back end rest l ls h e next = absurd (cc)
@@ -126,25 +116,7 @@ indent_least least None f (l ∷ raw) small h =
 
 -- the last row, where it holds a block scalar
 row_block : (limit : Limit) (r : Row) (t : List ℕ) (b : BlockText) → IsRow limit r t → block_of r.content ≡ Some b → mark_column r < b.indent.columns
-row_block limit r t b h e = go r.content refl r.mark refl
-  where
-    entry : (space : List ℕ) (anchor : Option rows.Anchor) (block : BlockText) → r.content ≡ Block space anchor block → deeper (parent_indent r) ≤ b.indent.columns
-    entry space anchor block is =
-        let own : IsBlock (deeper (parent_indent r)) block t = (subst (λ (x : Content). Rattle.yq_rows.specs.Grammar.IsContent (parent_indent r) x t) is h.content).2 in
-        let same : block ≡ b = same_Some _ _ (sym (ap block_of is) ∙ e) in
-        subst (λ (x : BlockText). deeper (parent_indent r) ≤ x.indent.columns) same (indent_least (deeper (parent_indent r)) block.digit block.indent block.raw own.indicators.small own.indent)
-
-    by : (c : Content) (m : rows.Mark) → r.content ≡ c → r.mark ≡ m → is_entry m ≡ true → deeper (parent_indent r) ≤ b.indent.columns → mark_column r < b.indent.columns
-    by c rows.Bare is mark k d = absurd (false≢true k)
-    by c rows.Dash is mark k d = let same : deeper (parent_indent r) ≡ suc (mark_column r) = ap (λ (x : rows.Mark). deeper (parent_of x (mark_column r))) mark in omega (arith, d, same)
-    by c (rows.Key key colon) is mark k d = let same : deeper (parent_indent r) ≡ suc (mark_column r) = ap (λ (x : rows.Mark). deeper (parent_of x (mark_column r))) mark in omega (arith, d, same)
-
-    go : (c : Content) → r.content ≡ c → (m : rows.Mark) → r.mark ≡ m → mark_column r < b.indent.columns
-    go (Nothing tail) is m mark = absurd (none-some _ (sym (ap block_of is) ∙ e))
-    go (Inline space node tail) is m mark = absurd (none-some _ (sym (ap block_of is) ∙ e))
-    go (Block space anchor block) is rows.Bare mark = absurd (false≢true (subst (λ (x : Content). IsMark rows.Bare x t) is (subst (λ (x : rows.Mark). IsMark x r.content t) mark h.mark)))
-    go (Block space anchor block) is rows.Dash mark = by (Block space anchor block) rows.Dash is mark refl (entry space anchor block is)
-    go (Block space anchor block) is (rows.Key key colon) mark = by (Block space anchor block) (rows.Key key colon) is mark refl (entry space anchor block is)
+row_block limit r t b h e = search (rules, same_Some, indent_least, false≢true, none-some)
 
 -- the last line of rows
 abbrev last_line : Row → Line
@@ -186,9 +158,7 @@ block_is_deeper limit (r ∷ (q ∷ front)) rows end rest b l h e apart = block_
 
 -- behind a block scalar closed lines stand apart
 block_head : (c : Content) (b : BlockText) → block_of c ≡ Some b → is_some (head_of c) ≡ true
-block_head (Nothing tail) b e = absurd (cc)
-block_head (Inline space node tail) b e = absurd (cc)
-block_head (Block space anchor block) b e = refl
+block_head c b h1 = search rules
 
 pub last_closed : (front : List Row) (b : BlockText) (zs : List Line) → last_block front ≡ Some b → AreClosed (lines_of front ++ zs) → StandApart (lines_of front) zs
 last_closed [] b zs e h = absurd (cc)

@@ -1,11 +1,11 @@
 -- Comments of items and entries, put and taken away.
-use Rattle.std.proofs.Common.{◌≡◌, ℕ, ◌+◌, ◌≤◌, List, [], ◌∷◌, ◌++◌, length, true, false, Option, refl, sym, ap, ◌∙◌, subst, append_assoc, length-append, arith}
+use Rattle.std.proofs.Common.{◌≡◌, ℕ, ◌+◌, ◌≤◌, List, [], ◌∷◌, ◌++◌, length, false, Option, refl, sym, ap, ◌∙◌, subst, append_assoc, length-append, arith, rules}
 use Rattle.std.proofs.lemmas.Bool.{false≢true}
 use mathlib.Core.List.{head-eq_of_cons-eq}
 use Rattle.yq_flow_scalars.specs.Characters.{is_text, text_limit}
 use Rattle.yq_lines.specs.Comments.{head_comment, line_comment}
 use Rattle.yq_rows.specs.Grammar.{IsCut}
-use Rattle.yq_rows.specs.Rows.{Content, Nothing, Inline, Block, Row, mark_column, parent_indent, rows_text, Part, Cut, cut_text}
+use Rattle.yq_rows.specs.Rows.{Content, Row, mark_column, parent_indent, rows_text, Part, Cut, cut_text}
 use Rattle.yq_rows.specs.Seams.{TailFits, is_block, retail, with_tail}
 use Rattle.yq_rows.specs.Splices.{first_gap, nth_part, splice}
 use Rattle.yq_rows.proofs.splices.RowReplaced.{tail_replaced}
@@ -51,8 +51,7 @@ pub one_line : (t : List ℕ) (c : Cut) (p : Part) (steps : List Rattle.yq_flow_
 one_line t c p steps s h f a x z old e lines size =
     let b : List Line = lines_before h.place ++ lines_before f.place in
     let w : List Line = flatten f.under ++ ((flatten f.after ++ lines_after f.place) ++ lines_after h.place) in
-    let place : (l : Line) → put_lines h (with_lines f (l ∷ flatten f.under)) ≡ b ++ (l ∷ w) =
-    λ l. around (lines_before h.place) (lines_before f.place) (l ∷ flatten f.under) (flatten f.after ++ lines_after f.place) (lines_after h.place) in
+    let place : (l : Line) → put_lines h (with_lines f (l ∷ flatten f.under)) ≡ b ++ (l ∷ w) = search (rules, around) in
     let olds = (relabelled (level_or 0 (outline_of p)) (outline_of p) steps h s f (λ y. y) f.line old.even e (record { level_is = refl; head_is = refl; anchor_is = refl; label_is = refl })).0 in
     let parts =
     same_parts a (x ∷ []) z b (f.line ∷ []) w (sym lines ∙ (sym (flatten-group (lines_of p.rows)) ∙ (olds ∙ place f.line))) (size ∙ sym (length-append (lines_before h.place) (lines_before f.place))) refl in
@@ -60,29 +59,19 @@ one_line t c p steps s h f a x z old e lines size =
 
 -- a content with another tail
 head_stays : (c : Content) (tail : List ℕ) → head_of (with_tail tail c) ≡ head_of c
-head_stays (Nothing x) tail = refl
-head_stays (Inline space node x) tail = refl
-head_stays (Block space anchor block) tail = refl
+head_stays c tail = search rules
 
 anchor_stays : (c : Content) (tail : List ℕ) → content_anchor (with_tail tail c) ≡ content_anchor c
-anchor_stays (Nothing x) tail = refl
-anchor_stays (Inline space node x) tail = refl
-anchor_stays (Block space anchor block) tail = refl
+anchor_stays c tail = search rules
 
 tail_is : (c : Content) (tail : List ℕ) → is_block c ≡ false → tail_of (with_tail tail c) ≡ tail
-tail_is (Nothing x) tail e = refl
-tail_is (Inline space node x) tail e = refl
-tail_is (Block space anchor block) tail e = absurd (false≢true (sym e))
+tail_is c tail h1 = search (rules, false≢true)
 
 fit_tail : (c : Content) (tail : List ℕ) → ContentHasFitKeys c → ContentHasFitKeys (with_tail tail c)
-fit_tail (Nothing x) tail h = h
-fit_tail (Inline space node x) tail h = h
-fit_tail (Block space anchor block) tail h = h
+fit_tail c tail h1 = search rules
 
 lines_tail : (c : Content) (tail : List ℕ) → has_lines (with_tail tail c) ≡ has_lines c
-lines_tail (Nothing x) tail = refl
-lines_tail (Inline space node x) tail = refl
-lines_tail (Block space anchor block) tail = refl
+lines_tail c tail = search rules
 
 -- a row with another tail
 pub fit_retail : (front : List Row) (r : Row) (back : List Row) (tail : List ℕ) → HaveFitKeys (front ++ (r ∷ back)) → HaveFitKeys (front ++ (retail tail r ∷ back))
@@ -91,9 +80,7 @@ fit_retail front r back tail h =
     fit_from front (retail tail r ∷ back) parts.0 (parts.1.0, fit_tail r.content tail parts.1.1, parts.1.2)
 
 long_tail : (m : Rattle.yq_rows.specs.Rows.Mark) (c : Content) (tail : List ℕ) → is_long_plain m (with_tail tail c) ≡ is_long_plain m c
-long_tail Rattle.yq_rows.specs.Rows.Bare c tail = lines_tail c tail
-long_tail Rattle.yq_rows.specs.Rows.Dash c tail = refl
-long_tail (Rattle.yq_rows.specs.Rows.Key key colon) c tail = refl
+long_tail m c tail = search (rules, lines_tail)
 
 pub short_retail : (front : List Row) (r : Row) (back : List Row) (tail : List ℕ) → HasShortRoot (front ++ (r ∷ back)) → HasShortRoot (front ++ (retail tail r ∷ back))
 short_retail [] r back tail h = long_tail r.mark r.content tail ∙ h
@@ -106,12 +93,7 @@ lead_retail (x ∷ front) r back tail p q e n = ap (λ (rs : List Row). head_com
 -- the lines of rows, of which one has another tail
 pub last_lines : (front : List Row) (r : Row) (back : List Row) (c : Content) →
     lines_of (front ++ (record r { content = c } ∷ back)) ≡ (lines_of front ++ dash_lines (head_comment r.gap) r.column r.dashes) ++ (mark_line (above_mark (head_comment r.gap) r.dashes) (mark_column r) r.mark c ∷ lines_of back)
-last_lines front r back c =
-    let d : List Line = dash_lines (head_comment r.gap) r.column r.dashes in
-    let l : Line = mark_line (above_mark (head_comment r.gap) r.dashes) (mark_column r) r.mark c in
-    lines_append front (record r { content = c } ∷ back)
-    ∙ (ap (λ (x : List Line). lines_of front ++ (x ++ lines_of back)) (mark_behind (head_comment r.gap) r.column r.dashes r.mark c)
-    ∙ (ap (λ (x : List Line). lines_of front ++ x) (append_assoc d (l ∷ []) (lines_of back)) ∙ sym (append_assoc (lines_of front) d (l ∷ lines_of back))))
+last_lines front r back c = simp (above_mark, lines_append, mark_behind, append_assoc)
 
 -- the cut
 tail_cut : (t : List ℕ) (c : Cut) (k : ℕ) (p : Part) (front back : List Row) (r : Row) (tail : List ℕ) → IsDocumentPart t c k p → IsCut t c → p.rows ≡ front ++ (r ∷ back) →
@@ -142,8 +124,7 @@ line_commented t c k p steps s h f front back r tail old at takes number new =
     let a : List Line = lines_of front ++ dash_lines (head_comment r.gap) r.column r.dashes in
     let x : Line = mark_line (above_mark (head_comment r.gap) r.dashes) (mark_column r) r.mark r.content in
     let l : Line = mark_line (above_mark (head_comment r.gap) r.dashes) (mark_column r) r.mark (with_tail tail r.content) in
-    let size : length a ≡ line_number h f =
-    length-append (lines_of front) (dash_lines (head_comment r.gap) r.column r.dashes) ∙ (ap (λ (n : ℕ). length (lines_of front) + n) (dashes_count (head_comment r.gap) r.column r.dashes) ∙ number) in
+    let size : length a ≡ line_number h f = search (rules, length-append, dashes_count) in
     let one = one_line t c p steps s h f a x (lines_of back) is at (ap lines_of takes.rows_are ∙ last_lines front r back r.content) size in
     let lines : lines_of q.rows ≡ put_lines h (with_lines f (l ∷ flatten f.under)) = ap lines_of there ∙ (last_lines front r back (with_tail tail r.content) ∙ sym (one.put l)) in
     let comment : line_comment (tail_of (with_tail tail r.content)) ≡ line_comment tail = ap line_comment (tail_is r.content tail takes.inline) in

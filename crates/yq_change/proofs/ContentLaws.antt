@@ -1,5 +1,5 @@
 -- What is written behind the mark of one row gives way to a value.
-use Rattle.std.proofs.Common.{◌≡◌, ◌⊎◌, inl, inr, ℕ, ℤ, suc, ◌+◌, ◌≤◌, ◌++◌, eqb, Bool, true, List, [], ◌∷◌, length, take, Option, Some, None, refl, sym, ap, ◌∙◌, subst, arith, length-append, append_assoc, append-nil}
+use Rattle.std.proofs.Common.{◌≡◌, ◌⊎◌, inl, inr, ℕ, ℤ, suc, ◌+◌, ◌≤◌, ◌++◌, eqb, Bool, true, List, [], ◌∷◌, length, take, Option, Some, None, refl, sym, ap, ◌∙◌, subst, arith, length-append, append_assoc, append-nil, rules}
 use Rattle.std.proofs.lemmas.Bool.{cond_both, false≢true}
 use mathlib.Core.List.{head-eq_of_cons-eq, tail-eq_of_cons-eq}
 use Rattle.yq_flow_scalars.specs.Characters.{is_text, text_limit}
@@ -9,7 +9,7 @@ use Rattle.yq_flow_scalars.specs.Tree.{Node, Children}
 use Rattle.yq_inline.specs.Nodes as inline
 use Rattle.yq_inline.specs.Nodes.{takes_anchor, IsNode}
 use Rattle.yq_inline.specs.Trees as trees
-use Rattle.yq_inline.specs.Trees.{tree_of, node_anchor, node_head, items_tree}
+use Rattle.yq_inline.specs.Trees.{tree_of, node_anchor, node_head}
 use Rattle.yq_flow_scalars.specs.Anchors.{IsNoAlias, names_of}
 use Rattle.yq_lines.specs.LineAnchors.{IsFree, MayTake, HaveOneAnchorEach}
 use Rattle.yq_lines.specs.Comments.{head_comment}
@@ -21,7 +21,7 @@ use Rattle.yq_lines.specs.Places.{lines_before, lines_after, FoundLine, find, co
 use Rattle.yq_rows.specs.Exchange.{asked_behind, with_content}
 use Rattle.yq_rows.specs.Grammar.{unlimited, IsContent, IsCut, no_rows}
 use Rattle.yq_rows.specs.Rows as rows
-use Rattle.yq_rows.specs.Rows.{Content, Nothing, Inline, Block, Row, mark_column, parent_indent, rows_text, Part, Cut, cut_text}
+use Rattle.yq_rows.specs.Rows.{Content, Row, mark_column, parent_indent, rows_text, Part, Cut, cut_text}
 use Rattle.yq_rows.specs.SpliceFits.{StandsFor}
 use Rattle.yq_rows.specs.Splices.{asked_at, first_gap, nth_part, rest_behind, splice}
 use Rattle.yq_rows.proofs.splices.RowReplaced.{row_exchanged}
@@ -66,19 +66,11 @@ coll_named k a cs = cond_both (eqb k 125) (tree.map None cs) (tree.list None cs)
 
 core_named : (name : List ℕ) (node : inline.Node) → takes_anchor node ≡ true → anchor_of (anchored (Some name) (head_or (node_head node) null_node)) ≡ Some name
 unfolding tree_of
-core_named name inline.empty h = refl
-core_named name (inline.alias n) h = absurd (false≢true h)
-core_named name (inline.scalar p) h = refl
-core_named name (inline.coll k g is) h = coll_named k (Some name) (items_tree is)
-core_named name (inline.anchored n g node) h = absurd (false≢true h)
+core_named name node h1 = search (rules, false≢true, coll_named)
 
 node_named : (flow : Bool) (spaces : Option ℕ) (d : ℕ) (node : inline.Node) (rest : List ℕ) → IsNode flow spaces d node rest → anchor_of (anchored (node_anchor node) (head_or (node_head node) null_node)) ≡ node_anchor node
 unfolding tree_of IsNode
-node_named flow spaces d inline.empty rest h = refl
-node_named flow spaces d (inline.alias n) rest h = refl
-node_named flow spaces d (inline.scalar p) rest h = refl
-node_named flow spaces d (inline.coll k g is) rest h = coll_named k None (items_tree is)
-node_named flow spaces d (inline.anchored n g node) rest h = core_named n node h.3
+node_named flow spaces d node rest h1 = search (rules, coll_named, core_named)
 
 block_named : (a : Option rows.Anchor) → first_anchor (block_anchor a) None ≡ block_anchor a
 block_named None = refl
@@ -86,9 +78,7 @@ block_named (Some a) = refl
 
 -- the anchor in a row is that of the node
 pub content_named : (n : ℤ) (x : Content) (rest : List ℕ) → IsContent n x rest → anchor_of (spelled x) ≡ content_anchor x
-content_named n (Nothing tail) rest h = refl
-content_named n (Inline space node tail) rest h = node_named _ _ _ node (tail ++ rest) h.1.valid
-content_named n (Block space anchor block) rest h = block_named anchor
+content_named n x rest h1 = search (rules, node_named, block_named)
 
 -- the same behind another anchor, if it may take that
 under_named : (a b : Option (List ℕ)) (n : Node) → anchor_of n ≡ b → (a ≡ None) ⊎ IsNoAlias (Some n) → anchor_of (anchored a n) ≡ first_anchor a b
@@ -232,15 +222,12 @@ module _ (t : List ℕ) (c : Cut) (k : ℕ) (p : Part) (front : List Row) (r : R
   pub lower_is : (s : Step) (ss : List Step) (f : FoundLine) → find s ss (outline_of p) ≡ Some (f, []) → f.line.head ≡ None → length (flatten f.under) ≡ 1 → r.mark ≡ rows.Bare → length (lines_of front) + length r.dashes ≡ suc (length (lines_before f.place)) →
       MayReplace v (content f.line f.under) (root_of p) (length (s ∷ ss)) → IsChanged c (put_document k q c) k (lead_of p) (change (s ∷ ss) (replaced v))
   lower_is s ss f found open' count mark number may =
-      let size : length a ≡ length (lines_before f.place ++ (f.line ∷ [])) =
-      length-append (lines_of front) (dash_lines (head_comment r.gap) r.column r.dashes) ∙ (ap (λ (n : ℕ). length (lines_of front) + n) (dashes_count (head_comment r.gap) r.column r.dashes)
-      ∙ omega (arith, number, length-append (lines_before f.place) (f.line ∷ []))) in
+      let size : length a ≡ length (lines_before f.place ++ (f.line ∷ [])) = search (rules, length-append, dashes_count) in
       let rest : List Line = flatten f.after ++ lines_after f.place in
       let whole : lines_of p.rows ≡ (lines_before f.place ++ (f.line ∷ [])) ++ (flatten f.under ++ rest) =
       sym (flatten-group (lines_of p.rows)) ∙ (whole_line (outline_of p) s ss [] f found ∙ sym (append_assoc (lines_before f.place) (f.line ∷ []) (flatten f.under ++ rest))) in
       let parts = same_parts a (x ∷ []) (lines_of back) (lines_before f.place ++ (f.line ∷ [])) (flatten f.under) rest (sym old_lines ∙ whole) size (sym count) in
-      let lines : lines_of q.rows ≡ with_lines f (f.line ∷ (l ∷ [])) =
-      new_lines ∙ ((λ i. parts.0 i ++ (l ∷ parts.2 i)) ∙ append_assoc (lines_before f.place) (f.line ∷ []) (l ∷ rest)) in
+      let lines : lines_of q.rows ≡ with_lines f (f.line ∷ (l ∷ [])) = search (rules, new_lines, append_assoc, parts, rest) in
       let alone : f.under ≡ row x end end = single f.under x (sym parts.1) in
       let bare : mark_of r.mark ≡ outline.Bare = bare_line r.mark mark in
       let old = under_even (level_or 0 (outline_of p)) (outline_of p) s ss f even found in

@@ -1,10 +1,10 @@
 -- Another inline node behind the anchor of what is written behind a mark.
-use Rattle.std.proofs.Common.{◌≡◌, inl, inr, ℕ, ◌||◌, not, eqb, List, [], ◌∷◌, ◌++◌, Option, None, Bool, true, false, refl, sym, ap, ◌∙◌}
+use Rattle.std.proofs.Common.{◌≡◌, inl, inr, ℕ, ◌||◌, not, List, [], ◌∷◌, ◌++◌, Option, None, Bool, true, false, refl, sym, ap, ◌∙◌, rules}
 use Rattle.std.proofs.lemmas.Bool.{cond_both, false≢true, or_right}
 use Rattle.yq_flow_scalars.specs.Text.{is_empty, no_white, unless, NoneIn}
 use Rattle.yq_inline.specs.Nodes.{Node, empty, alias, scalar, coll, anchored, node_text, items_text, open_of, first_is, in_name, begins_content, takes_anchor, is_bare, IsName, IsLead, IsNode}
 use Rattle.yq_inline.specs.Trees.{node_anchor, node_head}
-use Rattle.yq_inline.specs.Scalars.{IsScalarAt, begins_scalar}
+use Rattle.yq_inline.specs.Scalars.{IsScalarAt}
 use Rattle.yq_inline.proofs.PieceLaws.{scalar_begins}
 use Rattle.yq_rows.specs.Grammar.{is_more}
 use Rattle.yq_rows.specs.Rows.{Content, Nothing, Inline, Block}
@@ -37,11 +37,7 @@ core_head core (coll k g is) = refl
 core_head core (anchored n g node) = core_head core node
 
 pub core_anchor : (core node : Node) → node_anchor core ≡ None → node_anchor (recore core node) ≡ node_anchor node
-core_anchor core empty h = h
-core_anchor core (alias n) h = h
-core_anchor core (scalar p) h = h
-core_anchor core (coll k g is) h = h
-core_anchor core (anchored n g node) h = refl
+core_anchor core node h1 = search rules
 
 pub core_keys : (core node : Node) → HasFitKeys core → HasFitKeys (recore core node)
 core_keys core empty h = h
@@ -68,17 +64,11 @@ core_more core (anchored n g node) h b = ap not (core_bare core node b)
 
 -- a node that is no anchor begins as content, and may stand behind an anchor, if it is no alias
 scalar_content_begins : (spaces : Option ℕ) (p rest : List ℕ) → IsScalarAt false spaces p rest → begins_content false (p ++ rest) ≡ true
-scalar_content_begins spaces p rest h =
-    let t = p ++ rest in or_right (first_is 42 t) _ (or_right (first_is 91 t) _ (or_right (first_is 123 t) (begins_scalar false t) (scalar_begins false spaces p rest h)))
+scalar_content_begins spaces p rest h = search (rules, or_right, scalar_begins)
 
 begins : (spaces : Option ℕ) (d : ℕ) (core : Node) (rest : List ℕ) → node_anchor core ≡ None → is_bare core ≡ false → IsNode false spaces d core rest → begins_content false (node_text core rest) ≡ true
 unfolding IsNode node_text
-begins spaces d empty rest u b h = absurd (false≢true (sym b))
-begins spaces d (alias n) rest u b h = refl
-begins spaces d (scalar p) rest u b h = scalar_content_begins spaces p rest h
-begins spaces d (coll k g is) rest u b h =
-    cond_both (eqb k 125) 123 91 (λ o. begins_content false (o ∷ (g ++ items_text k is rest)) ≡ true) (λ _. refl) (λ _. refl)
-begins spaces d (anchored n g node) rest u b h = absurd (cc)
+begins spaces d core rest h1 h2 h3 = search (rules, false≢true, scalar_content_begins, cond_both)
 
 no_empty_gap : (g : List ℕ) → (false || not (is_empty g)) ≡ true → is_empty g ≡ false
 no_empty_gap [] h = absurd (cc)

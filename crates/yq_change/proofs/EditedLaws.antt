@@ -1,9 +1,9 @@
 -- Texts with other lines in one document.
-use Rattle.std.proofs.Common.{◌≡◌, ℕ, List, [], ◌∷◌, ◌++◌, Option, Some, None, true, refl, sym, ap, ◌∙◌, subst, append_assoc}
+use Rattle.std.proofs.Common.{◌≡◌, ℕ, List, [], ◌∷◌, ◌++◌, Option, Some, None, true, refl, sym, ap, ◌∙◌, subst, append_assoc, rules}
 use Rattle.std.proofs.lemmas.Option.{same_Some}
 use Rattle.yq_flow_scalars.specs.Keys.{HasUniqueKeys, depth}
 use Rattle.yq_flow_scalars.specs.Paths.{Step, append_child, change, node_at, relabel_child, remove_child, within}
-use Rattle.yq_flow_scalars.specs.Tree.{Label, Node, alias, scalar, list, map, Children, none, child, children_of}
+use Rattle.yq_flow_scalars.specs.Tree.{Label, Node, Children, child, children_of}
 use Rattle.yq_flow_scalars.proofs.Bools.{guard_then}
 use Rattle.yq_lines.specs.Comments.{head_comment}
 use Rattle.yq_rows.specs.Rows.{Part, Cut}
@@ -94,8 +94,7 @@ first_same d e (k ∷ before) l m ls ms same = refl
 
 pub lead_from : (p q : Part) (before : List Line) (l m : Line) (ls ms : List Line) → lines_of p.rows ≡ before ++ (l ∷ ls) → lines_of q.rows ≡ before ++ (m ∷ ms) → m.head_comment ≡ l.head_comment →
     lead_of q ≡ lead_of p
-lead_from p q before l m ls ms old new same =
-    lead_is_first q ∙ (ap (first_comment (head_comment q.end)) new ∙ (first_same (head_comment q.end) (head_comment p.end) before l m ls ms same ∙ sym (lead_is_first p ∙ ap (first_comment (head_comment p.end)) old)))
+lead_from p q before l m ls ms old new same = search (rules, lead_is_first, first_same)
 
 pub led_as : (c : Cut) (new : Cut) (k : ℕ) (a b : List (List ℕ)) (f : Node → Node) → a ≡ b → IsChanged c new k a f → IsChanged c new k b f
 led_as c new k a b f e h = subst (λ x. IsChanged c new k x f) e h
@@ -155,8 +154,7 @@ lines_appended t c k p q steps h m l v put there fits each lines sound =
     let among = lines_among n o steps h w.even there.place_is in
     let was : lines_of p.rows ≡ put_lines h old = sym w.lines ∙ law.0 in
     let mark = entry_out l.mark (level_mark l h.lines there.block fits.level_is) in
-    let split : put_lines h (old ++ d) ≡ (lines_before h.place ++ old) ++ (d ++ lines_after h.place) =
-    ap (λ x. lines_before h.place ++ x) (append_assoc old d (lines_after h.place)) ∙ sym (append_assoc (lines_before h.place) old (d ++ lines_after h.place)) in
+    let split : put_lines h (old ++ d) ≡ (lines_before h.place ++ old) ++ (d ++ lines_after h.place) = simp (append_assoc, old, d) in
     let one : HaveOneAnchorEach (put_lines h (old ++ d)) =
     subst HaveOneAnchorEach (sym split) (anchors_stay (lines_before h.place ++ old) [] d (lines_after h.place)
     (subst HaveOneAnchorEach (was ∙ sym (append_assoc (lines_before h.place) old (lines_after h.place))) w.each) each (any_free (last_anchor (lines_before h.place ++ old)) d mark) among.0) in
@@ -252,9 +250,4 @@ root_has_lead p block = go (outline_of p) block refl ∙ ap Some (sym (lead_is_f
 -- a root under a lead is as deep, and has the same names and keys
 pub led_same : (above : List (List ℕ)) (n : Node) →
     (names_of (within (headed above) n) ≡ names_of n) × (depth (within (headed above) n) ≡ depth n) × (HasUniqueKeys n → HasUniqueKeys (within (headed above) n))
-led_same above (alias name) = (refl, refl, λ h. h)
-led_same above (scalar a k t) = (refl, refl, λ h. h)
-led_same above (list a none) = (refl, refl, λ h. h)
-led_same above (list a (child l n cs)) = (refl, refl, λ h. h)
-led_same above (map a none) = (refl, refl, λ h. h)
-led_same above (map a (child l n cs)) = (refl, refl, λ h. h)
+led_same above n = search rules

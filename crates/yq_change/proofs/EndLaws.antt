@@ -1,10 +1,8 @@
 -- One item or entry more at the end of a text without a final break.
-use Rattle.std.proofs.Common.{◌≡◌, inl, inr, ℕ, suc, ◌+◌, ◌≤◌, List, [], ◌∷◌, ◌++◌, length, drop, eqb, ◌&&◌, Option, Some, None, true, false, cond, refl, sym, ap, ◌∙◌, subst}
+use Rattle.std.proofs.Common.{◌≡◌, inl, inr, ℕ, suc, ◌+◌, ◌≤◌, List, [], ◌∷◌, ◌++◌, length, drop, eqb, ◌&&◌, Option, Some, None, true, false, cond, refl, sym, ap, ◌∙◌, subst, rules}
 use Rattle.std.proofs.Common.{arith, ⊎_elim, append_assoc, append-nil, length-append}
 use Rattle.std.proofs.lemmas.Bool.{false≢true, cond-true, cond-false, and_parts}
-use Rattle.std.specs.List.{list_all}
-use Rattle.std.specs.Str.{chars}
-use Rattle.yq_flow_scalars.specs.Characters.{is_text, is_text_char, pairs_returns, text_limit}
+use Rattle.yq_flow_scalars.specs.Characters.{is_text, pairs_returns, text_limit}
 use Rattle.yq_flow_scalars.specs.Lines.{is_hash}
 use Rattle.yq_flow_scalars.specs.Text.{cut, ends_line, is_break, is_line, no_white, past_white}
 use Rattle.yq_flow_scalars.proofs.Upto.{cut-append}
@@ -12,7 +10,7 @@ use Rattle.yq_lines.specs.Comments.{comment_text, head_comment, less_space, line
 use Rattle.yq_rows.specs.Exchange.{row_front}
 use Rattle.yq_rows.specs.Gap.{IsBreak, IsComment, IsWhite}
 use Rattle.yq_rows.specs.Grammar.{Limit, IsTail, unlimited, AreRows, IsCut, no_rows}
-use Rattle.yq_rows.specs.Rows.{Content, Nothing, Inline, Block, Row, content_text, mark_column, parent_indent, print_row, rows_text, Part, Cut, cut_text}
+use Rattle.yq_rows.specs.Rows.{Content, Row, content_text, mark_column, parent_indent, print_row, rows_text, Part, Cut, cut_text}
 use Rattle.yq_rows.specs.Splices.{before_rows, behind_part, nth_part, splice}
 use Rattle.yq_rows.specs.Appending.{closed_by}
 use Rattle.yq_rows.specs.Seams.{is_block, tail_behind, with_tail}
@@ -28,7 +26,6 @@ use Rattle.yq_rows.proofs.seams.TailLaws.{comment_closed, no_end_return, content
 use Rattle.yq_documents.specs.Documents.{HaveFitKeys, HasShortRoot}
 use Rattle.yq_lines.specs.Group.{level_or}
 use Rattle.yq_walk.specs.Lines.{mark_line, lines_of}
-use Rattle.yq_inline.specs.Trees as trees
 use Rattle.yq_walk.specs.Lines as lines
 use Rattle.yq_lines.specs.Outline.{Line, flatten}
 use Rattle.yq_lines.specs.Places.{lines_before, lines_after}
@@ -91,9 +88,7 @@ comment_stays tail break b bare pairs h = ⊎_elim {0, 0, 0}
 -- the line of a row that gets a break
 line_stays : (above : List (List ℕ)) (column : ℕ) (mark : Rattle.yq_rows.specs.Rows.Mark) (c : Content) (tail : List ℕ) → is_block c ≡ false → line_comment tail ≡ line_comment (tail_behind c) →
     mark_line above column mark (with_tail tail c) ≡ mark_line above column mark c
-line_stays above column mark (Nothing x) tail b e = λ i. record { column = column; mark = lines.mark_of mark; anchor = None; head = None; head_comment = above; line_comment = e i }
-line_stays above column mark (Inline space node x) tail b e = λ i. record { column = column; mark = lines.mark_of mark; anchor = trees.node_anchor node; head = trees.node_head node; head_comment = above; line_comment = e i }
-line_stays above column mark (Block space anchor block) tail b e = absurd (false≢true (sym b))
+line_stays above column mark c tail h1 h2 = search (rules, false≢true)
 
 -- the cut
 end_cut : (t : List ℕ) (c : Cut) (k : ℕ) (p : Part) (front new : List Row) (r : Row) (break : List ℕ) → IsDocumentPart t c k p → IsCut t c → TakesRowsLast p front r break new (behind_document k c) →
@@ -118,11 +113,9 @@ last_comment t c k p front new r break old cut takes =
     let i : ℕ = length front in
     let here : nth_part j c ≡ p = (part_numbered c k p old.there).0 in
     let end_is : drop i p.rows ≡ r ∷ [] = drop_front p front (r ∷ []) takes.rows_are in
-    let place : rows_text (drop i (nth_part j c).rows) ((nth_part j c).end ++ behind_part j c) ≡ print_row r [] =
-    ap (λ (x : Part). rows_text (drop i x.rows) (x.end ++ behind_part j c)) here ∙ (λ v. rows_text (end_is v) (takes.end_is v ++ takes.rest_is v)) in
+    let place : rows_text (drop i (nth_part j c).rows) ((nth_part j c).end ++ behind_part j c) ≡ print_row r [] = search (rules, i, j, here, end_is) in
     let whole : cut_text c ≡ before_rows j i c ++ print_row r [] = front_text c j i ∙ ap (λ (x : List ℕ). before_rows j i c ++ x) place in
-    let pairs : pairs_returns (print_row r []) ≡ true =
-    pairs_back (before_rows j i c) (print_row r []) (ap pairs_returns (sym whole) ∙ (ap pairs_returns (sym cut.text) ∙ (and_parts (list_all is_text_char (chars t)) (pairs_returns t) cut.characters).1)) in
+    let pairs : pairs_returns (print_row r []) ≡ true = search (rules, pairs_back, and_parts, whole, i, j) in
     let content : pairs_returns (content_text r.content []) ≡ true = pairs_back (row_front r) (content_text r.content []) (ap pairs_returns (sym (row_front-append r [])) ∙ pairs) in
     let tail : pairs_returns (tail_behind r.content) ≡ true = ap pairs_returns (sym (append-nil (tail_behind r.content))) ∙ tail_pairs r.content [] takes.takes.inline content in
     let own = rows_drop i p.rows unlimited p.end (behind_part j c) (subst (λ (x : Part). AreRows unlimited x.rows x.end (behind_part j c)) here (part_in c j true cut.parts).rows) in
@@ -150,8 +143,7 @@ end_of_text_appended t c k p steps h front new r break m l u old there_is size w
     append-nil (lines_of p.rows) ∙ (sym (flatten-group (lines_of p.rows)) ∙ (olds ∙ sym (append_assoc (lines_before h.place) (flatten h.lines) (lines_after h.place)))) in
     let parts =
     same_parts (lines_of p.rows) [] [] (lines_before h.place ++ flatten h.lines) [] (lines_after h.place) whole (size ∙ sym (length-append (lines_before h.place) (flatten h.lines))) refl in
-    let split : lines_of (front ++ (r ∷ new)) ≡ lines_of p.rows ++ lines_of new =
-    ap lines_of (sym (append_assoc front (r ∷ []) new)) ∙ (lines_append (front ++ (r ∷ [])) new ∙ ap (λ (rs : List Row). lines_of rs ++ lines_of new) (sym takes.rows_are)) in
+    let split : lines_of (front ++ (r ∷ new)) ≡ lines_of p.rows ++ lines_of new = search (rules, append_assoc, lines_append) in
     let lines : lines_of q.rows ≡ put_lines h (flatten h.lines ++ (l ∷ flatten u)) =
     ap lines_of there ∙ (stays new ∙ (split ∙ ((λ i. parts.0 i ++ w.lines i)
     ∙ (ap (λ (x : List Line). (lines_before h.place ++ flatten h.lines) ++ x) (sym (append-nil (l ∷ flatten u)) ∙ ap (λ (x : List Line). (l ∷ flatten u) ++ x) parts.2)

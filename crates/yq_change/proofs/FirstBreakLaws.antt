@@ -1,5 +1,5 @@
 -- The break behind the lines of an item or entry.
-use Rattle.std.proofs.Common.{◌≡◌, ◌⊎◌, inl, inr, ℕ, ℤ, ◌<◌, eqb, Bool, true, false, cond, List, [], ◌∷◌, ◌++◌, length, drop, None, refl, sym, ap, ◌∙◌, subst, arith, append-nil}
+use Rattle.std.proofs.Common.{◌≡◌, ◌⊎◌, inl, inr, ℕ, ℤ, ◌<◌, Bool, true, false, cond, List, [], ◌∷◌, ◌++◌, length, drop, None, refl, sym, ap, ◌∙◌, subst, arith, append-nil, rules}
 use Rattle.std.proofs.lemmas.Bool.{false≢true, eqb-true, and_parts}
 use Rattle.yq_flow_scalars.specs.Text.{cut_line, is_empty, separates}
 use Rattle.yq_scalar.proofs.BlockPieceLaws.{IsLf, line_lf, raw_lf}
@@ -22,13 +22,7 @@ IsOneBreak t = (t ≡ 10 ∷ []) ⊎ (t ≡ 13 ∷ (10 ∷ []))
 -- ---- the break that ends a text
 
 lone_break : (b : ℕ) (bs : List ℕ) → is_last_break (b ∷ bs) ≡ true → IsOneBreak (b ∷ bs)
-lone_break b [] e = inl (ap (λ (x : ℕ). x ∷ []) (eqb-true b 10 e))
-lone_break b (d ∷ []) e =
-    let x = and_parts (eqb b 13) (eqb d 10) e in
-    let first : b ≡ 13 = eqb-true b 13 x.0 in
-    let last : d ≡ 10 = eqb-true d 10 x.1 in
-    inr (λ i. first i ∷ (last i ∷ []))
-lone_break b (d ∷ (x ∷ bs)) e = absurd (false≢true e)
+lone_break b bs h1 = search (rules, eqb-true, and_parts, false≢true)
 
 no_lf : IsLf [] → ⊥
 no_lf h = go h.0 h.1

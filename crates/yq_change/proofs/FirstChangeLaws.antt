@@ -1,5 +1,5 @@
 -- The text without the first item or entry of a compact collection, and what it reads as.
-use Rattle.std.proofs.Common.{◌≡◌, ℕ, zero, suc, ◌+◌, ◌&&◌, eqb, Bool, true, false, cond, List, [], ◌∷◌, ◌++◌, length, replicate, take, drop, refl, sym, ap, ◌∙◌, arith, append_assoc, append-nil}
+use Rattle.std.proofs.Common.{◌≡◌, ℕ, zero, suc, ◌+◌, ◌&&◌, eqb, Bool, true, false, cond, List, [], ◌∷◌, ◌++◌, length, replicate, take, drop, refl, sym, ap, ◌∙◌, arith, append_assoc, append-nil, rules}
 use Rattle.yq_flow_scalars.specs.Paths.{Step, change, remove_child, within}
 use Rattle.yq_flow_scalars.specs.Text.{cut, no_space}
 use Rattle.yq_flow_scalars.specs.Anchors.{names_of}
@@ -37,8 +37,7 @@ use Rattle.yq_change.proofs.PartLaws.{document_known, part_rows}
 
 pub inserted_text : (front back : List Row) (new : Row) (p : Part) (rest : List ℕ) →
     part_text (inserted front (new ∷ []) back p) rest ≡ rows_text front (print_row new (rows_text back (p.end ++ rest)))
-inserted_text front back new p rest =
-    (λ i. rows_text (front ++ (new ∷ own_gap back p.end i)) (own_end back p.end i ++ rest)) ∙ rows_text-append front (new ∷ back) (p.end ++ rest)
+inserted_text front back new p rest = simp (own_gap, own_end, rows_text-append)
 
 dashes_then : (ns t : List ℕ) → dashes_text ns t ≡ dashes_text ns [] ++ t
 dashes_then [] t = refl
@@ -49,14 +48,10 @@ abbrev pub dashes_front : Row → List ℕ → List ℕ
 dashes_front r ns = r.gap ++ (replicate r.column 32 ++ dashes_text ns [])
 
 front_then : (r : Row) (ns t : List ℕ) → r.gap ++ (replicate r.column 32 ++ dashes_text ns t) ≡ dashes_front r ns ++ t
-front_then r ns t =
-    ap (λ (x : List ℕ). r.gap ++ (replicate r.column 32 ++ x)) (dashes_then ns t)
-    ∙ (ap (λ (x : List ℕ). r.gap ++ x) (sym (append_assoc (replicate r.column 32) (dashes_text ns []) t)) ∙ sym (append_assoc r.gap (replicate r.column 32 ++ dashes_text ns []) t))
+front_then r ns t = search (rules, dashes_then, append_assoc)
 
 pub row_from : (r : Row) (ns es u : List ℕ) → r.dashes ≡ ns ++ es → print_row r u ≡ dashes_front r ns ++ dashes_text es (behind_dashes r u)
-row_from r ns es u e =
-    ap (λ (ds : List ℕ). r.gap ++ (replicate r.column 32 ++ dashes_text ds (behind_dashes r u))) e
-    ∙ (ap (λ (x : List ℕ). r.gap ++ (replicate r.column 32 ++ x)) (dashes_text-append ns es (behind_dashes r u)) ∙ front_then r ns (dashes_text es (behind_dashes r u)))
+row_from r ns es u e = search (rules, dashes_text-append, front_then)
 
 pub moved_text : (r b : Row) (ns u : List ℕ) → print_row (moved_up r ns b) u ≡ dashes_front r ns ++ behind_indent b u
 moved_text r b ns u = ap (λ (x : List ℕ). r.gap ++ (replicate r.column 32 ++ x)) (dashes_text-append ns b.dashes (behind_dashes b u)) ∙ front_then r ns (behind_indent b u)
@@ -66,9 +61,7 @@ dropped_text r ns tail u = front_then r ns (45 ∷ (tail ++ u))
 
 -- what ends in a dash and spaces
 pub dash_front : (r : Row) (ns : List ℕ) (n : ℕ) → dashes_front r (ns ++ (n ∷ [])) ≡ dashes_front r ns ++ (45 ∷ replicate n 32)
-dash_front r ns n =
-    ap (λ (x : List ℕ). r.gap ++ (replicate r.column 32 ++ x)) (dashes_text-append ns (n ∷ []) [] ∙ ap (λ (x : List ℕ). dashes_text ns (45 ∷ x)) (append-nil (replicate n 32)))
-    ∙ front_then r ns (45 ∷ replicate n 32)
+dash_front r ns n = search (rules, dashes_text-append, append-nil, front_then)
 
 pub front_text : (start : List ℕ) (front : List Row) (t u : List ℕ) → start ++ rows_text front (t ++ u) ≡ (start ++ rows_text front t) ++ u
 front_text start front t u = ap (λ (x : List ℕ). start ++ x) (texts_then front t u) ∙ sym (append_assoc start (rows_text front t) u)

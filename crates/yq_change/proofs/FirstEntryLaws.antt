@@ -1,5 +1,5 @@
 -- The rows of the first item or entry of a compact collection, by its lines.
-use Rattle.std.proofs.Common.{◌≡◌, ℕ, suc, ◌+◌, ◌<◌, ◌≤◌, true, List, [], ◌∷◌, ◌++◌, length, take, drop, Some, refl, sym, ap, ◌∙◌, subst, arith, append_assoc, length-append}
+use Rattle.std.proofs.Common.{◌≡◌, ℕ, suc, ◌+◌, ◌<◌, ◌≤◌, true, List, [], ◌∷◌, ◌++◌, length, take, drop, Some, refl, sym, ap, ◌∙◌, subst, arith, append_assoc, length-append, rules}
 use Rattle.std.proofs.lemmas.List.{take-append-drop, length-take-le}
 use mathlib.Core.List.{head-eq_of_cons-eq, tail-eq_of_cons-eq}
 use Rattle.yq_flow_scalars.specs.Paths.{Step}
@@ -56,9 +56,7 @@ apart_dashes a above column (n ∷ (k ∷ ns)) es m c rest some h =
     (sym (append_assoc a (dash_line above column ∷ []) (dash_lines [] (suc (column + n)) (k ∷ ns)))) h)
 
 entry_mark : (m : rows.Mark) (above : List (List ℕ)) (column : ℕ) (c : Content) → IsEntry (mark_line above column m c).mark → is_entry m ≡ true
-entry_mark rows.Bare above column c h = absurd h
-entry_mark rows.Dash above column c h = refl
-entry_mark (rows.Key key colon) above column c h = refl
+entry_mark m above column c h1 = search rules
 
 -- the first line of a row
 first_column : (above : List (List ℕ)) (column : ℕ) (ns : List ℕ) (m : rows.Mark) (c : Content) (rest : List Line) (l : Line) (ls : List Line) → lines_from above column ns m c ++ rest ≡ l ∷ ls →

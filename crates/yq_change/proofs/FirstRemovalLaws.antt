@@ -167,9 +167,7 @@ module _ (c : Cut) (k : ℕ) (y : Step) (ys ss : List Step) (s : Step) (x : Firs
   dash_piece : IsPiece (upto_dash ++ (45 ∷ []))
   dash_piece =
       let more : List ℕ = replicate dash.1 32 ++ (e.piece.text ++ e.piece.behind) in
-      let text : t ≡ (upto_dash ++ (45 ∷ [])) ++ more =
-      whole ∙ (ap (λ (u : List ℕ). u ++ (e.piece.text ++ e.piece.behind)) before_is
-      ∙ (append_assoc upto_dash (45 ∷ replicate dash.1 32) (e.piece.text ++ e.piece.behind) ∙ sym (append_assoc upto_dash (45 ∷ []) more))) in
+      let text : t ≡ (upto_dash ++ (45 ∷ [])) ++ more = simp (whole, before_is, append_assoc, more) in
       (cut_behind (upto_dash ++ (45 ∷ [])) more (subst IsPiece text (text_is_piece c read)) (record { front = upto_dash; last = 45; is = refl; ascii = omega arith })
       (record { front = upto_dash; last = 45; is = refl; no_return = refl })).0
 

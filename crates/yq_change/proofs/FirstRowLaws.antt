@@ -1,8 +1,7 @@
 -- The first item or entry of a compact collection taken out, by its rows.
-use Rattle.std.proofs.Common.{◌≡◌, ℕ, List, [], ◌∷◌, ◌++◌, false, refl, sym, ap, ◌∙◌, subst, append_assoc}
+use Rattle.std.proofs.Common.{◌≡◌, ℕ, List, [], ◌∷◌, ◌++◌, false, refl, sym, ap, ◌∙◌, subst, append_assoc, rules}
 use Rattle.std.proofs.lemmas.Bool.{false≢true}
 use Rattle.yq_rows.specs.Grammar.{AreDashes, no_rows}
-use Rattle.yq_rows.specs.Rows as rows
 use Rattle.yq_rows.specs.Rows.{Row, Part}
 use Rattle.yq_rows.specs.Splices.{first_gap}
 use Rattle.yq_rows.proofs.splices.SpliceTexts.{own_gap}
@@ -17,12 +16,7 @@ use Rattle.yq_change.proofs.ReplaceLaws.{document_replaced, rows_before_some}
 
 -- a row with dashes is an entry's, so no plain scalar alone
 dashed_short : (r : Row) (n : ℕ) (ns : List ℕ) → r.dashes ≡ n ∷ ns → AreDashes r.dashes r.mark → is_long_plain r.mark r.content ≡ false
-dashed_short r n ns e d = go r.mark (subst (λ (x : List ℕ). AreDashes x r.mark) e d)
-  where
-    go : (m : rows.Mark) → AreDashes (n ∷ ns) m → is_long_plain m r.content ≡ false
-    go rows.Bare d = absurd (false≢true d.1)
-    go rows.Dash d = refl
-    go (rows.Key key colon) d = refl
+dashed_short r n ns e d = search (rules, false≢true)
 
 pub short_first : (front back old : List Row) (q : Row) → HasShortRoot (front ++ old) → is_long_plain q.mark q.content ≡ false → HasShortRoot (front ++ (q ∷ back))
 short_first [] back old q h e = e

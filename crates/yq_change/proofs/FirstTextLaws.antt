@@ -1,5 +1,5 @@
 -- The text around the first item or entry of a compact collection.
-use Rattle.std.proofs.Common.{◌≡◌, ℕ, suc, ◌+◌, ◌-◌, ◌<◌, List, [], ◌∷◌, ◌++◌, length, take, drop, map, Option, Some, option_and_then, replicate, true, refl, sym, ap, ◌∙◌, subst, arith, append_assoc, length-append}
+use Rattle.std.proofs.Common.{◌≡◌, ℕ, suc, ◌+◌, ◌-◌, ◌<◌, List, [], ◌∷◌, ◌++◌, length, take, drop, map, Option, Some, option_and_then, replicate, true, refl, sym, ap, ◌∙◌, subst, arith, append_assoc, length-append, rules}
 use Rattle.std.proofs.Math.Seq.{take-append_seam, drop-append_seam}
 use Rattle.std.proofs.lemmas.List.{take-append-drop, length-take-le}
 use Rattle.std.proofs.lemmas.Option.{none-some, same_Some}
@@ -130,30 +130,13 @@ module _ (p : Part) (start rest : List ℕ) (h : NodeLines) (f : FoundLine) (q :
   above = printed_lines fr.front ++ dashes.lines
 
   parts_are : ls ≡ above ++ (own ++ printed_lines back)
-  parts_are =
-      ap printed_lines fr.rows_are
-      ∙ (printed_parts fr.front (r ∷ (fr.gone ++ back))
-      ∙ ((λ i. printed_lines fr.front ++ ((ap (λ ds. printed_from r.gap (replicate r.column 32) r.column ds r.mark r.content) (sym (take-append-drop q.line r.dashes))
-      ∙ dashes.is) i ++ printed_parts fr.gone back i))
-      ∙ (ap (λ (x : List PrintedLine). printed_lines fr.front ++ x)
-      (append_assoc dashes.lines (printed_from [] [] column es r.mark r.content) (printed_lines fr.gone ++ printed_lines back)
-      ∙ ap (λ (x : List PrintedLine). dashes.lines ++ x) (sym (append_assoc (printed_from [] [] column es r.mark r.content) (printed_lines fr.gone) (printed_lines back))))
-      ∙ sym (append_assoc (printed_lines fr.front) dashes.lines (own ++ printed_lines back)))))
+  parts_are = search (rules, printed_parts, take-append-drop, append_assoc)
 
   above_count : n ≡ length above
   above_count = omega (arith, number, fr.before, length-append (printed_lines fr.front) dashes.lines, printed_count fr.front, dashes.count)
 
   own_count : length own ≡ length (f.line ∷ flatten f.under)
-  own_count =
-      omega (
-        arith,
-        fr.size,
-        length-append (printed_from [] [] column es r.mark r.content) (printed_lines fr.gone),
-        length-append (lines_from [] column es r.mark r.content) (lines_of fr.gone),
-        row_count [] [] column es r.mark r.content,
-        lines_count_from [] column es r.mark r.content,
-        printed_count fr.gone,
-      )
+  own_count = search (rules, length-append, row_count, lines_count_from, printed_count)
 
   front_is : take q.before p.rows ≡ fr.front
   front_is = ap (λ (k : ℕ). take k p.rows) (sym fr.number) ∙ take_front p fr.front (r ∷ (fr.gone ++ back)) fr.rows_are

@@ -1,16 +1,16 @@
 -- The operations inside flow collections, by the head of one line.
-use Rattle.std.proofs.Common.{◌≡◌, ℕ, ◌+◌, List, [], ◌∷◌, ◌++◌, Option, Some, None, refl, sym, ap, ◌∙◌, subst, arith}
+use Rattle.std.proofs.Common.{◌≡◌, ℕ, ◌+◌, List, [], ◌∷◌, ◌++◌, Option, Some, None, refl, sym, ap, ◌∙◌, subst, arith, rules}
 use Rattle.std.proofs.lemmas.Option.{none-some}
 use Rattle.yq_flow_scalars.specs.Paths.{Step, change}
 use Rattle.yq_flow_scalars.specs.Tree.{Node}
 use Rattle.yq_rows.specs.Rows.{Part, Cut}
 use Rattle.yq_flow_scalars.specs.Anchors.{IsNoAlias}
-use Rattle.yq_lines.specs.LineAnchors.{MayTake, IsFree, HaveOneAnchorEach}
+use Rattle.yq_lines.specs.LineAnchors.{IsFree, HaveOneAnchorEach}
 use Rattle.yq_documents.specs.Documents.{lead_of}
 use Rattle.yq_lines.specs.Group.{level_or}
 use Rattle.yq_lines.specs.Laws.{with_lines}
 use Rattle.yq_walk.specs.Lines.{lines_of}
-use Rattle.yq_lines.specs.Outline.{Mark, Bare, Key, Dash, Line, level, Outline, end, row, flatten, IsOpen, IsWhole, IsEven, anchored, head_or, value}
+use Rattle.yq_lines.specs.Outline.{Mark, Line, level, Outline, end, row, flatten, IsOpen, IsWhole, IsEven, anchored, head_or, value}
 use Rattle.yq_lines.specs.Places.{lines_before, plug, FoundLine, find, content}
 use Rattle.yq_documents.specs.Reading.{outline_of, root_of}
 use Rattle.yq_lines.proofs.Finding.{IsFoundIn, path_whole}
@@ -36,26 +36,13 @@ free_before (k ∷ (m ∷ before)) l ls h = free_before (m ∷ before) l ls h.1
 
 -- a line with another head takes the anchor that the old one takes
 pub other_head : (a : Option (List ℕ)) (l : Line) (n m : Node) (ls ms : List Line) → l.head ≡ Some n → NoNewAlias n m → IsFree a (l ∷ ls) → IsFree a (with_head m l ∷ ms)
-other_head None l n m ls ms e new h = tt
-other_head (Some a) l n m ls ms e new h = go l.mark l.anchor (subst (MayTake l.mark l.anchor) e h)
-  where
-    go : (k : Mark) (b : Option (List ℕ)) → MayTake k b (Some n) → MayTake k b (Some m)
-    go Bare None h = new h
-    go Bare (Some b) h = h
-    go (Key j) b h = tt
-    go Dash b h = tt
+other_head a l n m ls ms h1 h2 h3 = search rules
 
 pub none_under : (h : Option Node) (n : Node) (u : Outline) → h ≡ Some n → IsOpen h u → u ≡ end
-none_under None n u e o = absurd (none-some _ e)
-none_under (Some x) n end e o = refl
-none_under (Some x) n (row l u a) e o = absurd o
+none_under h n u h1 h2 = search (rules, none-some)
 
 still_whole : (m : Mark) (h : Option Node) (n v : Node) (o : Outline) → h ≡ Some n → IsWhole m h o → IsWhole m (Some v) o
-still_whole Bare None n v o e w = absurd w
-still_whole Bare (Some x) n v end e w = tt
-still_whole Bare (Some x) n v (row l u a) e w = w
-still_whole (Key k) h n v o e w = tt
-still_whole Dash h n v o e w = tt
+still_whole m h n v o h1 h2 = search rules
 
 -- a line with another head
 pub changed_head : (t : List ℕ) (c : Cut) (k : ℕ) (p q : Part) (s : Step) (ss rest : List Step) (f : FoundLine) (n m : Node) (g : Node → Node) → IsPut t c k p q →

@@ -1,20 +1,19 @@
 -- What stays of a document in which a flow collection has other items or entries.
-use Rattle.std.proofs.Common.{◌≡◌, ◌⊎◌, inl, inr, ℕ, Bool, true, false, cond, List, [], ◌∷◌, ◌++◌, map, Some, None, option_and_then, option_map, sym, ap, ◌∙◌, subst}
+use Rattle.std.proofs.Common.{◌≡◌, ◌⊎◌, inl, inr, ℕ, Bool, true, false, cond, List, [], ◌∷◌, ◌++◌, map, Some, option_and_then, option_map, sym, ap, ◌∙◌, subst, rules}
 use Rattle.std.specs.Option.{option_or}
 use Rattle.std.proofs.lemmas.Bool.{cond_both}
 use Rattle.std.proofs.lemmas.Option.{none-some, same_Some}
 use Rattle.std.specs.Prelude.{is_some}
 use Rattle.yq_flow_scalars.specs.Paths.{Step, is_here, further}
-use Rattle.yq_inline.specs.Alike.{fresh}
 use Rattle.yq_inline.specs.Collections.{CollPieces, coll_along, put_at, change_item}
 use Rattle.yq_inline.specs.Entries.{EntryPieces, item_at}
 use Rattle.yq_flow.specs.FlowEdits.{FlowEdit}
-use Rattle.yq_inline.specs.Nodes.{Key, Node, empty, alias, scalar, coll, anchored, Sep, last, comma, Items, none, item, key_text, sep_text, node_text, items_text}
-use Rattle.yq_flow.specs.Removals.{before_next, behind_item, comma_left, ends_marked, gap_of, last_gone, last_out, last_removed, removing_from}
+use Rattle.yq_inline.specs.Nodes.{Key, Node, empty, alias, scalar, coll, anchored, Sep, Items, none, item, sep_text, items_text}
+use Rattle.yq_flow.specs.Removals.{before_next, behind_item, gap_of, last_out, removing_from}
 use Rattle.yq_flow.proofs.RemoveTexts.{either, option_some}
 use Rattle.yq_inline.specs.Trees.{inner, key_content}
 use Rattle.yq_rows.specs.Exchange.{with_content}
-use Rattle.yq_rows.specs.Rows.{Content, Inline, Row, Part}
+use Rattle.yq_rows.specs.Rows.{Inline, Row, Part}
 use Rattle.yq_rows.proofs.splices.SpliceTexts.{own_gap}
 use Rattle.yq_documents.specs.Documents.{ContentHasFitKeys, EachHasFitKeys, HasFitKey, HasFitKeys, HaveFitKeys}
 use Rattle.yq_walk.specs.Lines.{head_of}
@@ -57,19 +56,7 @@ flow_keys t c k p steps f rest i w gap is old at fits =
     fit_at rest i.node _ w gap is at.along (subst ContentHasFitKeys at.content_is row.1) fits
 
 last_fit : (k : ℕ) (rest : List ℕ) (s : Step) (g : List ℕ) (key : Key) (n : Node) (sep : Sep) (os : Items) (e : FlowEdit) → last_out k rest s g key n sep os ≡ Some e → HasFitKey key → HasFitKeys n → EachHasFitKeys e.items
-last_fit k rest s g key n sep none e at a b = absurd (none-some _ at)
-last_fit k rest s g key n sep (item key2 n2 sep2 (item key3 n3 sep3 os)) e at a b = absurd (none-some _ at)
-last_fit k rest s g key n sep (item key2 n2 sep2 none) e at a b = go (is_here s (inner (key_content key2))) at
-  where
-    commas : (sep2 : Sep) → EachHasFitKeys (comma_left k rest g key n sep key2 n2 sep2).items
-    commas (last q) = (a, b, tt)
-    commas (comma q h) = (a, b, tt)
-
-    go : (c : Bool) → cond c (Some (last_removed k rest g key n sep key2 n2 sep2)) None ≡ Some e → EachHasFitKeys e.items
-    go true at =
-        subst (λ (x : FlowEdit). EachHasFitKeys x.items) (same_Some _ _ at)
-        (cond_both (ends_marked (fresh false g) (key_text key (node_text n []))) (comma_left k rest g key n sep key2 n2 sep2) (last_gone k rest g key n sep key2 n2 sep2) (λ (x : FlowEdit). EachHasFitKeys x.items) (λ _. commas sep2) (λ _. (a, b, tt)))
-    go false at = absurd (none-some _ at)
+last_fit k rest s g key n sep os e h1 h2 h3 = search (rules, none-some, same_Some, cond_both)
 
 before_fit : (k : ℕ) (rest g : List ℕ) (key : Key) (n : Node) (sep : Sep) (os : Items) (e : FlowEdit) → before_next k rest g key n sep os ≡ Some e → EachHasFitKeys os → EachHasFitKeys e.items
 before_fit k rest g key n sep none e at h = absurd (none-some _ at)
@@ -106,8 +93,7 @@ flow_rooms c k p steps f rest i w gap is at =
     let holds = node_holds rest i.node _ w gap is at.along in
     let b : Row = with_content (Inline i.space (put_at rest gap is i.node) i.tail) i.row in
     let there : q.rows ≡ i.front ++ (b ∷ i.back) = ap (λ (rs : List Row). i.front ++ (b ∷ rs)) (own_gap i.back p.end) in
-    let headed : is_some (head_of b.content) ≡ is_some (head_of i.row.content) =
-    ap is_some holds.head.1 ∙ (sym (ap is_some holds.old_head.1) ∙ sym (ap (λ (x : Content). is_some (head_of x)) at.content_is)) in
+    let headed : is_some (head_of b.content) ≡ is_some (head_of i.row.content) = search (rules, holds) in
     let shape : row_shape b ≡ row_shape i.row = λ j. record { column = i.row.column; dashes = i.row.dashes; mark = i.row.mark; headed = headed j } in
     let reports = shapes_are_alike p q (ap (map row_shape) there ∙ (one_other i.front b i.row i.back shape ∙ sym (ap (map row_shape) at.rows_are))) in
     (reports.0, reports.1, lead_content i.front i.row (Inline i.space (put_at rest gap is i.node) i.tail) i.back p q at.rows_are there)

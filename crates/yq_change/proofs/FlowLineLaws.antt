@@ -1,5 +1,5 @@
 -- The line in whose head a node at a path stands, and a document in which that line has another head.
-use Rattle.std.proofs.Common.{◌≡◌, ◌⊎◌, inl, inr, ℕ, suc, ◌+◌, ◌<◌, List, [], ◌∷◌, ◌++◌, Option, Some, None, option_map, option_and_then, refl, sym, ap, ◌∙◌, subst, arith}
+use Rattle.std.proofs.Common.{◌≡◌, ◌⊎◌, inl, inr, ℕ, suc, ◌+◌, ◌<◌, List, [], ◌∷◌, ◌++◌, Option, Some, None, option_map, option_and_then, refl, sym, ap, ◌∙◌, subst, arith, rules}
 use Rattle.std.proofs.lemmas.Option.{none-some, same_Some}
 use Rattle.std.specs.Prelude.{is_some}
 use Rattle.yq_flow_scalars.specs.Answers.{◌>>=◌}
@@ -8,7 +8,7 @@ use Rattle.yq_flow_scalars.specs.Tree.{Node, Children, none, child}
 use Rattle.yq_lines.specs.LineAnchors.{IsFree, HaveOneAnchorEach}
 use Rattle.yq_lines.specs.Group.{level_or}
 use Rattle.yq_lines.specs.Laws.{with_lines}
-use Rattle.yq_lines.specs.Outline.{Mark, Bare, Key, Dash, Line, level, Outline, end, row, flatten, IsWhole, IsEven, anchored, head_or, label, collection, value}
+use Rattle.yq_lines.specs.Outline.{Mark, Bare, Key, Dash, Line, level, Outline, end, row, flatten, IsWhole, IsEven, anchored, label, collection, value}
 use Rattle.yq_lines.specs.Places.{here, below, compose, lines_before, lines_after, plug, FoundLine, find, in_head, inside, content}
 use Rattle.yq_lines.specs.Positions.{is_bare}
 use Rattle.yq_lines.proofs.Finding.{IsFoundIn, path_whole}
@@ -130,16 +130,10 @@ head_takes n o steps f rest even e = go (head_cases n o steps f rest even e)
 
 -- a node itself has nothing behind it
 bare_after : (k : Mark) (h : Option Node) (o : Outline) → k ≡ Bare → IsWhole k h o → o ≡ end
-bare_after Bare None o e w = absurd w
-bare_after Bare (Some x) end e w = refl
-bare_after Bare (Some x) (row l u a) e w = absurd w
-bare_after (Key j) h o e w = absurd (cc)
-bare_after Dash h o e w = absurd (cc)
+bare_after k h o h1 h2 = search rules
 
 whole_end : (k : Mark) (m : Node) → IsWhole k (Some m) end
-whole_end Bare m = tt
-whole_end (Key j) m = tt
-whole_end Dash m = tt
+whole_end k m = search rules
 
 bare_value : (x : Line) → x.mark ≡ Bare → value (row x end end) ≡ content x end
 bare_value x e = ap (λ y. collection y (child (label x) (content x end) none)) e
@@ -158,8 +152,7 @@ line_changed t c k p q steps rest f n m h put on head new is lines sound =
     let old : IsEven on.even.0 (row l f.under f.after) = subst (IsEven on.even.0) on.outline on.even.2 in
     let under : f.under ≡ end = none_under l.head n f.under head old.1 in
     let after : f.after ≡ end = bare_after l.mark l.head f.after on.bare old.2 in
-    let node : value a.lines ≡ anchored l.anchor n =
-    ap value on.outline ∙ ((λ i. value (row l (under i) (after i))) ∙ (bare_value l on.bare ∙ ap (λ x. anchored l.anchor (head_or x (value end))) head)) in
+    let node : value a.lines ≡ anchored l.anchor n = search (rules, bare_value, under, after, l) in
     let whole_is : value (row other end end) ≡ within h (anchored l.anchor n) = bare_value other on.bare ∙ (is ∙ ap (λ x. change x (within h) (anchored l.anchor n)) on.left) in
     let news : lines_of q.rows ≡ put_lines a (other ∷ []) = lines ∙ on.put after (other ∷ []) in
     let olds : lines_of p.rows ≡ put_lines a (l ∷ []) =

@@ -1,5 +1,5 @@
 -- From paths to the rows in which flow collections stand, and the text outside them.
-use Rattle.std.proofs.Common.{◌≡◌, ℕ, zero, suc, ◌+◌, ◌-◌, ◌<◌, List, [], ◌∷◌, ◌++◌, length, Some, refl, sym, ap, ◌∙◌, subst, arith, append_assoc, length-append}
+use Rattle.std.proofs.Common.{◌≡◌, ℕ, zero, suc, ◌+◌, ◌-◌, ◌<◌, List, [], ◌∷◌, ◌++◌, length, Some, refl, sym, ap, ◌∙◌, subst, arith, append_assoc, length-append, rules}
 use Rattle.std.proofs.lemmas.Bool.{lt-ltb, le-ltb, cond-true, cond-false}
 use Rattle.std.proofs.lemmas.Option.{none-some, same_Some}
 use Rattle.std.specs.List.{slice_get}
@@ -13,7 +13,7 @@ use Rattle.yq_lines.specs.Places.{lines_before, lines_after, FoundLine}
 use Rattle.yq_lines.proofs.Decides.{flatten-group}
 use Rattle.yq_lines.proofs.PlaceLaws.{placed}
 use Rattle.yq_rows.specs.Exchange.{before_content, behind_at, behind_row, exchange, with_content, with_content_at}
-use Rattle.yq_rows.specs.Rows.{Content, Nothing, Inline, Block, Row, content_text, rows_text, Part, Cut, last, marked, cut_text}
+use Rattle.yq_rows.specs.Rows.{Content, Inline, Row, content_text, rows_text, Part, Cut, last, marked, cut_text}
 use Rattle.yq_rows.specs.Splices.{behind_part, nth_part}
 use Rattle.yq_rows.specs.View.{rows_of}
 use Rattle.yq_rows.proofs.PlaceLaws.{place, new_place}
@@ -65,10 +65,7 @@ pub record InCut (i : ℕ) (c : Cut) (p : Part) (front : List Row) (r : Row) (ba
 
 part_content : (front : List Row) (r : Row) (back : List Row) (end : List ℕ) (x : Content) →
     record { rows = with_content_at (length front) x (front ++ (r ∷ back)); end = end } ≡ inserted front (with_content x r ∷ []) back (record { rows = front ++ (r ∷ back); end = end })
-part_content front r back end x = λ i. record {
-  rows = (content_there front r back x ∙ ap (λ (rs : List Row). front ++ (with_content x r ∷ rs)) (sym (own_gap back end))) i;
-  end = sym (own_end back end) i;
-}
+part_content front r back end x = simp (content_there, own_gap, own_end)
 
 last_row : (i : ℕ) (front : List Row) (r : Row) (back : List Row) (end : List ℕ) → InCut i (last (record { rows = front ++ (r ∷ back); end = end })) (record { rows = front ++ (r ∷ back); end = end }) front r back
 last_row i front r back end =
@@ -139,9 +136,7 @@ record InContent (steps : List Step) (x : Content) (rest : List ℕ) (w : CollPi
   along : coll_along steps node (tail ++ rest) ≡ Some w
 
 in_content : (steps : List Step) (x : Content) (rest : List ℕ) (w : CollPieces) → content_flow steps x rest ≡ Some w → InContent steps x rest w
-in_content steps (Nothing tail) rest w e = absurd (none-some _ e)
-in_content steps (Inline space node tail) rest w e = record { space = space; node = node; tail = tail; is = refl; along = e }
-in_content steps (Block space anchor block) rest w e = absurd (none-some _ e)
+in_content steps x rest w h1 = search (rules, none-some)
 
 pub flow_found : FlowFound
 flow_found t c k steps w read e =

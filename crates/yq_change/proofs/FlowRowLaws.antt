@@ -1,10 +1,10 @@
 -- A flow collection whose items or entries are changed, by the row in which it stands.
-use Rattle.std.proofs.Common.{◌≡◌, ℕ, ◌+◌, Bool, true, false, ◌&&◌, cond, eqb, List, [], ◌∷◌, ◌++◌, length, Option, Some, None, refl, sym, ap, ◌∙◌, subst, length-append, ℤ}
+use Rattle.std.proofs.Common.{◌≡◌, ℕ, ◌+◌, Bool, true, false, cond, eqb, List, [], ◌∷◌, ◌++◌, length, Option, Some, None, refl, sym, ap, ◌∙◌, subst, length-append, ℤ, rules}
 use Rattle.std.proofs.lemmas.Bool.{and_parts, cond_both}
 use Rattle.std.proofs.lemmas.Option.{none-some, same_Some}
 use mathlib.Core.List.{head-eq_of_cons-eq}
 use Rattle.yq_flow_scalars.specs.Paths.{Step, change, within}
-use Rattle.yq_flow_scalars.specs.Text.{is_empty, separates}
+use Rattle.yq_flow_scalars.specs.Text.{separates}
 use Rattle.yq_flow_scalars.specs.Tree as tree
 use Rattle.yq_inline.specs.Alike.{Alike, stop, after}
 use Rattle.yq_inline.specs.Collections.{CollPieces, coll_along, put_at}
@@ -136,13 +136,7 @@ mark_alike (rows.Key key colon) t u h = alike_append (Some false) key _ _ (alike
 
 mark_stays : (mark : rows.Mark) (space tail : List ℕ) (node m : Node) (u : List ℕ) → is_more m ≡ true → separates (content_text (Inline space m tail) u) ≡ separates (content_text (Inline space node tail) u) →
     IsMark mark (Inline space node tail) u → IsMark mark (Inline space m tail) u
-mark_stays rows.Bare space tail node m u more apart h = ap (λ b. is_empty space && b) more ∙ both (is_empty space) (and_parts (is_empty space) (is_more node) h).0
-  where
-    both : (b : Bool) → b ≡ true → (b && true) ≡ true
-    both b e = ap (λ x. x && true) e
-mark_stays rows.Dash space tail node m u more apart h = apart ∙ h
-mark_stays (rows.Key key colon) space tail node m u more apart h =
-    mark_kept (rows.Key key colon) (Inline space node tail) (Inline space m tail) u u refl h (apart ∙ h.colon_is.separated)
+mark_stays mark space tail node m u h1 h2 h3 = search (rules, and_parts, mark_kept)
 
 row_takes : (limit : Limit) (i : InlineRow) (m : Node) (u : List ℕ) → IsRow limit i.row u → i.row.content ≡ Inline i.space i.node i.tail → HoldsColl i.node m (i.tail ++ u) →
     IsInline Rattle.yq_flow_scalars.specs.declared.style.Place.TheVariants.Block (parent_indent i.row) 0 m (i.tail ++ u) → TakesPlace limit i.row u (with_content (Inline i.space m i.tail) i.row) u
@@ -161,9 +155,7 @@ plain_next n space tail m [] e = refl
 plain_next n space tail m (b ∷ back) e = ap (λ (x : Bool). Rattle.yq_rows.specs.Grammar.allows (cond x (record { column = Some (Rattle.yq_flow_scalars.specs.Piece.deeper n) }) unlimited) b.column) e
 
 short_node : (mark : rows.Mark) (space tail : List ℕ) (m : Node) → is_plain m ≡ false → is_long_plain mark (Inline space m tail) ≡ false
-short_node rows.Bare space tail m e = ap (λ (b : Bool). b && Rattle.yq_flow_scalars.specs.Plain.holds_break (node_text m [])) e
-short_node rows.Dash space tail m e = refl
-short_node (rows.Key key colon) space tail m e = refl
+short_node mark space tail m h1 = search rules
 
 -- The line of the row's mark is the one at the path, and the document's lines with another line there.
 record LineIs (p : Part) (f : FoundLine) (i : InlineRow) : Type 0 where
@@ -178,8 +170,7 @@ line_is t c k p steps f rest i w n known at head =
     let a : List Line = lines_of i.front ++ dash_lines (head_comment r.gap) r.column r.dashes in
     let line : Content → Line = λ x. mark_line (above_mark (head_comment r.gap) r.dashes) (mark_column r) r.mark x in
     let tail : List Line = flatten f.after ++ lines_after f.place in
-    let size : length a ≡ length (lines_before f.place) =
-    length-append (lines_of i.front) (dash_lines (head_comment r.gap) r.column r.dashes) ∙ (ap (λ (m : ℕ). length (lines_of i.front) + m) (dashes_count (head_comment r.gap) r.column r.dashes) ∙ at.number) in
+    let size : length a ≡ length (lines_before f.place) = search (rules, length-append, dashes_count, r) in
     let olds : a ++ (line r.content ∷ lines_of i.back) ≡ lines_before f.place ++ (f.line ∷ (flatten f.under ++ tail)) =
     sym (ap lines_of at.rows_are ∙ last_lines i.front r i.back r.content) ∙ (sym (flatten-group (lines_of p.rows)) ∙ (ap flatten (sym whole) ∙ placed f f.line f.under)) in
     let parts = same_parts a (line r.content ∷ []) (lines_of i.back) (lines_before f.place) (f.line ∷ []) (flatten f.under ++ tail) olds size refl in

@@ -1,20 +1,18 @@
 -- Head comments of items and entries, put and taken away.
-use Rattle.std.proofs.Common.{◌≡◌, ℕ, zero, suc, ◌+◌, ◌<◌, List, [], ◌∷◌, ◌++◌, length, take, drop, eqb, not, Option, Some, None, true, false, refl, sym, ap, ◌∙◌, subst, arith}
+use Rattle.std.proofs.Common.{◌≡◌, ℕ, zero, suc, ◌+◌, ◌<◌, List, [], ◌∷◌, ◌++◌, length, take, Option, Some, None, true, false, refl, sym, ap, ◌∙◌, subst, arith, rules}
 use Rattle.std.proofs.Common.{⊎_elim, append_assoc, replicate}
-use Rattle.std.proofs.Math.Dec.{ltb}
 use Rattle.std.proofs.lemmas.Bool.{lt-ltb, and_from, cases_Bool}
 use Rattle.yq_scalar.specs.Block.{BlockText, Lines, ends_block, is_less_indented, keeps}
 use Rattle.yq_scalar.specs.BlockRepair.{is_behind}
 use Rattle.yq_scalar.specs.declared.block_lines.TextIndent.{TextIndent}
-use Rattle.yq_flow_scalars.specs.Lines.{spaces, behind_spaces, is_tab}
-use Rattle.yq_flow_scalars.specs.Text.{ends_line, is_empty, joined, put_byte, lines_of as text_lines}
+use Rattle.yq_flow_scalars.specs.Text.{is_empty, joined, put_byte, lines_of as text_lines}
 use Rattle.yq_scalar.proofs.BlockRepairLaws.{ends_behind}
 use Rattle.yq_scalar.proofs.SpaceLaws.{prefix_none, spaces_front, drop_front as spaces_drop}
 use Rattle.yq_lines.specs.Comments.{head_comment, last_comments}
 use Rattle.yq_rows.specs.Exchange.{asked_behind}
 use Rattle.yq_rows.specs.Gap.{AreGapLines, IsGap}
 use Rattle.yq_rows.specs.Grammar.{Limit, unlimited, AreRows, no_rows}
-use Rattle.yq_rows.specs.Rows.{Content, Nothing, Inline, Block, Row, behind_gap, behind_indent, rows_text, Part}
+use Rattle.yq_rows.specs.Rows.{Content, Row, behind_gap, behind_indent, rows_text, Part}
 use Rattle.yq_rows.specs.Seams.{are_seamed, is_seam}
 use Rattle.yq_rows.specs.Removal.{block_of, hold_comment, last_block}
 use Rattle.yq_rows.proofs.AlikeBlocks.{put_first}
@@ -66,21 +64,14 @@ first zero t = let p = put_first 35 t in record { line = p.line; lines = p.lines
 first (suc n) t = let p = first n t in record { line = p.line; lines = p.lines; is = ap (put_byte 32) p.is }
 
 less_line : (f : TextIndent) (n : ℕ) (l : List ℕ) → n < f.columns → is_less_indented f (replicate n 32 ++ (35 ∷ l)) ≡ true
-less_line f n l less =
-    let none : spaces (35 ∷ l) ≡ 0 = prefix_none (λ x. eqb x 32) 35 l refl in
-    let deep : spaces (replicate n 32 ++ (35 ∷ l)) ≡ n + 0 = spaces_front n (35 ∷ l) ∙ ap (λ k. n + k) none in
-    let behind : behind_spaces (replicate n 32 ++ (35 ∷ l)) ≡ 35 ∷ l = ap (λ k. drop k (replicate n 32 ++ (35 ∷ l))) deep ∙ spaces_drop n 0 (35 ∷ l) in
-    let low : ltb (spaces (replicate n 32 ++ (35 ∷ l))) f.columns ≡ true = lt-ltb (spaces (replicate n 32 ++ (35 ∷ l))) f.columns (omega (arith, deep, less)) in
-    and_from _ _ (and_from _ _ (ap (λ x. not (ends_line x)) behind) low) (ap (λ x. not (is_tab x)) behind)
+less_line f n l less = search (rules, prefix_none, spaces_front, spaces_drop, lt-ltb, and_from)
 
 hash_less : (f : TextIndent) (n : ℕ) (t : List ℕ) → n < f.columns → is_behind f (text_lines (replicate n 32 ++ (35 ∷ t))) ≡ true
 hash_less f n t less = let p = first n t in ap (is_behind f) p.is ∙ less_line f n p.line less
 
 -- what a block scalar asks, by its rows
 seam_was : (c : Content) (b : BlockText) (u : List ℕ) → block_of c ≡ Some b → is_seam c u ≡ true → ends_block (keeps b.chomping) b.indent (text_lines u) ≡ true
-seam_was (Nothing tail) b u e h = absurd (cc)
-seam_was (Inline space node tail) b u e h = absurd (cc)
-seam_was (Block space anchor block) b u e h = let same : block ≡ b = cc in subst (λ (x : BlockText). ends_block (keeps x.chomping) x.indent (text_lines u) ≡ true) same h
+seam_was c b u h1 h2 = search rules
 
 block_was : (front : List Row) (b : BlockText) (u : List ℕ) → last_block front ≡ Some b → are_seamed front u ≡ true → ends_block (keeps b.chomping) b.indent (text_lines u) ≡ true
 block_was [] b u e h = absurd (cc)

@@ -1,5 +1,5 @@
 -- What stands behind a row that is alone on its line.
-use Rattle.std.proofs.Common.{◌≡◌, ℕ, ℤ, zero, suc, ◌+◌, ◌*◌, ◌<◌, List, [], ◌∷◌, ◌++◌, length, take, Some, true, false, refl, sym, ap, ◌∙◌, subst, arith, append_assoc, length-append}
+use Rattle.std.proofs.Common.{◌≡◌, ℕ, ℤ, zero, suc, ◌+◌, ◌*◌, ◌<◌, List, [], ◌∷◌, ◌++◌, length, take, Some, true, false, refl, sym, ap, ◌∙◌, subst, arith, append_assoc, length-append, rules}
 use Rattle.std.proofs.lemmas.Bool.{false≢true, lt-ltb}
 use Rattle.yq_flow_scalars.specs.Paths.{Step}
 use Rattle.yq_flow_scalars.specs.Piece.{deeper}
@@ -41,9 +41,7 @@ own_rows t c k p front r back old e =
 
 -- what is asked behind a mark
 pub deeper_entry : (m : rows.Mark) (column : ℕ) → is_entry m ≡ true → deeper (parent_of m column) ≡ suc column
-deeper_entry rows.Bare column e = absurd (false≢true e)
-deeper_entry rows.Dash column e = refl
-deeper_entry (rows.Key key colon) column e = refl
+deeper_entry m column h1 = search (rules, false≢true)
 
 deeper_bare : (column : ℕ) → deeper (parent_of rows.Bare column) ≡ column
 deeper_bare zero = refl

@@ -1,9 +1,9 @@
 -- The lead that goes with the root of a part in the place of another one.
-use Rattle.std.proofs.Common.{inl, inr, ◌⊎◌, ◌≡◌, List, [], ◌∷◌, Bool, true, false, refl, sym, ap, ◌∙◌}
+use Rattle.std.proofs.Common.{inl, inr, ◌⊎◌, ◌≡◌, List, [], ◌∷◌, Bool, true, false, refl, sym, ap, ◌∙◌, rules}
 use Rattle.std.proofs.lemmas.Bool.{false≢true}
 use Rattle.yq_flow_scalars.specs.Tree.{none, children_of}
 use Rattle.yq_lines.specs.Group.{group}
-use Rattle.yq_lines.specs.Outline.{Mark, Bare, Key, Dash, Line, value}
+use Rattle.yq_lines.specs.Outline.{Mark, Line, value}
 use Rattle.yq_lines.specs.Sound.{is_entry}
 use Rattle.yq_documents.specs.Documents.{lead_of}
 use Rattle.yq_walk.specs.Lines.{lines_of}
@@ -23,9 +23,7 @@ pub kept_lead_goes : KeptLeadGoes
 kept_lead_goes p q same empty = same ∙ sym (none_kept (is_block_root p) (children_of (root_of q)) (lead_of p) empty)
 
 entry_mark : (m : Mark) → is_entry m ≡ true → IsEntry m
-entry_mark Bare h = absurd (false≢true h)
-entry_mark (Key k) h = tt
-entry_mark Dash h = tt
+entry_mark m h1 = search (rules, false≢true)
 
 -- a root that is block has items or entries, or no lines
 pub block_entries : (ls : List Line) → begins_no_node ls ≡ true → (HasEntries (group ls)) ⊎ (ls ≡ [])

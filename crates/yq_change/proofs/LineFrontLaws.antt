@@ -1,5 +1,5 @@
 -- A text cut before the end of a line: no CR stands before the break.
-use Rattle.std.proofs.Common.{inl, inr, ◌⊎◌, ◌≡◌, ℕ, zero, suc, ◌+◌, ℤ, true, false, not, List, [], ◌∷◌, ◌++◌, replicate, refl, sym, ap, ◌∙◌, append_assoc, append-nil, ⊎_elim, arith}
+use Rattle.std.proofs.Common.{inl, inr, ◌⊎◌, ◌≡◌, ℕ, zero, suc, ◌+◌, ℤ, true, false, not, List, [], ◌∷◌, ◌++◌, replicate, refl, sym, ap, ◌∙◌, append_assoc, append-nil, ⊎_elim, rules}
 use Rattle.std.proofs.lemmas.Bool.{false≢true, or_right, and_from, and_parts, cases_Bool}
 use Rattle.yq_scalar.specs.Block.{digit_text, sign_text, IsDigit, IsIndicators}
 use Rattle.yq_flow_scalars.specs.Characters.{pairs_returns}
@@ -7,10 +7,9 @@ use Rattle.yq_flow_scalars.specs.Text.{front, is_white, is_feed, is_return, is_e
 use Rattle.yq_scalar.specs.declared.block_header.BlockStyle.{BlockStyle}
 use Rattle.yq_scalar.specs.declared.block_header.BlockStyle.TheVariants as styles
 use Rattle.yq_scalar.specs.declared.block_header.Chomping.{Chomping}
-use Rattle.yq_scalar.specs.declared.block_header.Chomping.TheVariants as chompings
 use Rattle.yq_flow_scalars.proofs.Bools.{at_byte}
 use Rattle.yq_inline.specs.Nodes as nodes
-use Rattle.yq_inline.specs.Nodes.{Node, empty, alias, scalar, coll, anchored, Items, none, item, Key, in_name, is_close, open_of, key_text, sep_text, node_text, items_text, IsNode}
+use Rattle.yq_inline.specs.Nodes.{Node, empty, alias, scalar, coll, anchored, Items, none, item, in_name, is_close, open_of, key_text, sep_text, node_text, items_text, IsNode}
 use Rattle.yq_inline.proofs.WrittenLaws.{key_append, sep_append, node_append}
 use Rattle.yq_rows.specs.Gap.{IsWhite, IsGap}
 use Rattle.yq_rows.specs.Grammar.{IsContent, IsMark}
@@ -57,24 +56,14 @@ last_byte p q = ends_more p (q ∷ []) refl
 -- ---- a node
 
 name_byte : (b : ℕ) → unless in_name (b ∷ []) ≡ false → is_return b ≡ false
-name_byte b h = go (cases_Bool (is_return b))
-  where
-    go : (is_return b ≡ true) ⊎ (is_return b ≡ false) → is_return b ≡ false
-    go (inr e) = e
-    go (inl e) =
-        let out : in_name b ≡ false = rw (e, or_right (is_feed b) true refl) (rw (or_right (is_white b) true refl) refl) in
-        absurd (false≢true (sym h ∙ ap not out))
+name_byte b h = search (rules, cases_Bool, or_right, false≢true)
 
 clean_name : (n rest : List ℕ) → NoneIn (unless in_name) n rest → ends_return n ≡ false
 clean_name [] rest h = refl
 clean_name (b ∷ n) rest h = clean_byte b n (name_byte b h.0) (clean_name n rest h.1)
 
 white_byte : (b : ℕ) → not (is_white b) ≡ false → is_return b ≡ false
-white_byte b h = go (cases_Bool (is_white b))
-  where
-    go : (is_white b ≡ true) ⊎ (is_white b ≡ false) → is_return b ≡ false
-    go (inl e) = at_byte is_white b 13 e refl
-    go (inr e) = absurd (false≢true (sym h ∙ ap not e))
+white_byte b h = search (rules, cases_Bool, at_byte, false≢true)
 
 clean_gap : (g rest : List ℕ) → NoneIn no_white g rest → ends_return g ≡ false
 clean_gap [] rest h = refl
@@ -120,11 +109,7 @@ written c = (content_cut c).0 ++ ((content_cut c).1 ++ ((content_cut c).2 ++ (co
 
 node_cut : (node : Node) → (anchor_cut node).0 ++ ((anchor_cut node).1 ++ (anchor_cut node).2) ≡ node_text node []
 unfolding node_text
-node_cut empty = refl
-node_cut (alias n) = refl
-node_cut (scalar p) = refl
-node_cut (coll k g is) = refl
-node_cut (anchored n g node) = refl
+node_cut node = search rules
 
 -- no CR at the end of a plain scalar, before an LF
 plain_clean : (n : ℤ) (space : List ℕ) (node : Node) (tail rest : List ℕ) → IsContent n (Inline space node tail) rest → pairs_returns (content_text (Inline space node tail) rest) ≡ true → front is_feed (tail ++ rest) ≡ true → ends_return (plain_text node) ≡ false
@@ -135,24 +120,13 @@ plain_clean n space node tail rest h pairs feed = go (content_joined n (Inline s
     go (inr e) = e
 
 digit_clean : (d : Rattle.std.proofs.Common.Option ℕ) → IsDigit d → ends_return (digit_text d) ≡ false
-digit_clean Rattle.std.proofs.Common.None h = refl
-digit_clean (Rattle.std.proofs.Common.Some d) h = go (cases_Bool (is_return (48 + d)))
-  where
-    go : (is_return (48 + d) ≡ true) ⊎ (is_return (48 + d) ≡ false) → is_return (48 + d) ≡ false
-    go (inr e) = e
-    go (inl e) = absurd (let same = Rattle.std.proofs.Common.eqb-true (48 + d) 13 e in omega (arith, same))
+digit_clean d h1 = search (rules, cases_Bool)
 
 sign_clean : (c : Chomping) → ends_return (sign_text c) ≡ false
-sign_clean chompings.Strip = refl
-sign_clean chompings.Clip = refl
-sign_clean chompings.Keep = refl
+sign_clean c = search rules
 
 indicators_clean : (d : Rattle.std.proofs.Common.Option ℕ) (c : Chomping) (p : List ℕ) → IsIndicators d c p → ends_return p ≡ false
-indicators_clean d c p h = go h.spelled
-  where
-    go : (p ≡ digit_text d ++ sign_text c) ⊎ (p ≡ sign_text c ++ digit_text d) → ends_return p ≡ false
-    go (inl e) = ap ends_return e ∙ clean_joined (digit_text d) (sign_text c) (digit_clean d h.small) (sign_clean c)
-    go (inr e) = ap ends_return e ∙ clean_joined (sign_text c) (digit_text d) (sign_clean c) (digit_clean d h.small)
+indicators_clean d c p h = search (rules, ends_return, clean_joined, digit_clean, sign_clean)
 
 style_clean : (style : BlockStyle) → is_return (Rattle.yq_scalar.specs.Block.mark_of style) ≡ false
 style_clean styles.Literal = refl
@@ -175,13 +149,10 @@ dashes_clean [] t h = h
 dashes_clean (n ∷ ns) t h = clean_byte 45 (replicate n 32 ++ dashes_text ns t) refl (clean_joined (replicate n 32) (dashes_text ns t) (clean_spaces n) (dashes_clean ns t h))
 
 colon_clean : (key white : List ℕ) → ends_return (key ++ ((white ++ 58 ∷ []) ++ [])) ≡ false
-colon_clean key white =
-    ends_more key ((white ++ 58 ∷ []) ++ []) (ap is_empty (append-nil (white ++ 58 ∷ [])) ∙ some_behind white (58 ∷ []) refl) ∙ (ap ends_return (append-nil (white ++ 58 ∷ [])) ∙ last_byte white 58)
+colon_clean key white = simp (ends_more, append-nil, some_behind, ends_return, last_byte)
 
 mark_clean : (m : rows.Mark) (c : Content) (rest : List ℕ) → IsMark m c rest → ends_return (mark_text m []) ≡ false
-mark_clean rows.Bare c rest h = refl
-mark_clean rows.Dash c rest h = refl
-mark_clean (rows.Key key colon) c rest h = ap (λ t. ends_return (key ++ (t ++ []))) h.colon_is.spelled ∙ colon_clean key h.colon_is.white
+mark_clean m c rest h1 = search (rules, ends_return, colon_clean)
 
 gap_clean : (gap rest : List ℕ) → IsGap gap rest → is_empty rest ≡ false → ends_return gap ≡ false
 gap_clean gap rest h some = go (gap_end gap rest h)

@@ -1,5 +1,5 @@
 -- Rows whose first dashes are those of another.
-use Rattle.std.proofs.Common.{◌≡◌, ℕ, suc, ◌+◌, List, [], ◌∷◌, ◌++◌, Option, None, refl, sym, ap, ◌∙◌, append_assoc}
+use Rattle.std.proofs.Common.{◌≡◌, ℕ, suc, ◌+◌, List, [], ◌∷◌, ◌++◌, None, refl, sym, ap, ◌∙◌, append_assoc, rules}
 use Rattle.yq_lines.specs.Comments.{head_comment, line_comment}
 use Rattle.yq_rows.specs.Rows as rows
 use Rattle.yq_rows.specs.Rows.{Content, Nothing, behind_columns}
@@ -38,8 +38,7 @@ first_moved before gone behind r b n ns es dashes column bare =
 
 -- a row with nothing behind its last dash has the lines of its dashes
 from_last : (above : List (List ℕ)) (column n : ℕ) (ns tail : List ℕ) → line_comment tail ≡ None → lines_from above column ns rows.Dash (Nothing tail) ≡ dash_lines above column (ns ++ (n ∷ []))
-from_last above column n [] tail e =
-    let put : Option (List ℕ) → List Line = λ c. record { column = column; mark = Dash; anchor = None; head = None; head_comment = above; line_comment = c } ∷ [] in ap put e
+from_last above column n [] tail e = search rules
 from_last above column n (k ∷ ns) tail e = ap (λ ls. dash_line above column ∷ ls) (from_last [] (suc (column + k)) n ns tail e)
 
 split_dashes : (above : List (List ℕ)) (column n : ℕ) (ns es : List ℕ) (mark : rows.Mark) (c : Content) →

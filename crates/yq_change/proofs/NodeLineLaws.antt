@@ -1,12 +1,12 @@
 -- The lines of a node at a path, exchanged.
-use Rattle.std.proofs.Common.{◌≡◌, ℕ, ◌<◌, ◌≤◌, List, [], ◌∷◌, ◌++◌, Option, Some, None, refl, sym, ap, ◌∙◌, subst, arith, append_assoc, append-nil}
+use Rattle.std.proofs.Common.{◌≡◌, ℕ, ◌<◌, ◌≤◌, List, [], ◌∷◌, ◌++◌, Option, Some, None, refl, sym, ap, ◌∙◌, subst, arith, append_assoc, append-nil, rules}
 use Rattle.std.proofs.lemmas.Option.{none-some, same_Some}
 use Rattle.yq_flow_scalars.specs.Paths.{Step, change}
 use Rattle.yq_flow_scalars.specs.Tree.{Node}
 use Rattle.yq_lines.specs.Group.{level_or}
 use Rattle.yq_lines.specs.Laws.{with_lines}
 use Rattle.yq_lines.specs.Outline.{Line, level, Outline, end, row, flatten, IsEven, anchored, value, Stands}
-use Rattle.yq_lines.specs.Places.{Context, here, below, beside, plug, lines_before, lines_after, compose, FoundLine, find, content}
+use Rattle.yq_lines.specs.Places.{Context, here, below, beside, plug, lines_after, compose, FoundLine, find, content}
 use Rattle.yq_lines.proofs.Allowing.{Allows}
 use Rattle.yq_lines.proofs.Finding.{IsFoundIn, path_whole}
 use Rattle.yq_lines.proofs.PlaceLaws.{at, exchanged}
@@ -24,9 +24,7 @@ after_under (beside k v p) l a = after_under p l a
 
 -- the lines of an outline with others under a line
 pub put_under : (f : FoundLine) (ls : List Line) → put_lines (under_line f) ls ≡ with_lines f (f.line ∷ ls)
-put_under f ls =
-    (λ i. before_under f.place f.line f.after i ++ (ls ++ after_under f.place f.line f.after i))
-    ∙ append_assoc (lines_before f.place) (f.line ∷ []) (ls ++ (flatten f.after ++ lines_after f.place))
+put_under f ls = simp (before_under, after_under, append_assoc)
 
 -- A node's lines were found under a line.
 pub record Under (s : Step) (ss : List Step) (o : Outline) (h : NodeLines) : Type 0 where
@@ -110,8 +108,7 @@ lines_replaced n m o u (s ∷ ss) h g even e fit = found (lines_found s ss o h e
         let f : FoundLine = w.found in
         let old = under_even n o s ss f even w.is in
         let deep' : level f.line < m = subst (λ (x : NodeLines). x.above < m) (sym w.place_is) fit.deep in
-        let is' : anchored f.line.anchor (value u) ≡ g (anchored f.line.anchor (value f.under)) =
-        subst (λ (x : NodeLines). anchored x.anchor (value u) ≡ g (anchored x.anchor (value x.lines))) (sym w.place_is) fit.node_is in
+        let is' : anchored f.line.anchor (value u) ≡ g (anchored f.line.anchor (value f.under)) = search rules in
         let same : content f.line u ≡ g (content f.line f.under) = rw w.open' is' in
         let law = exchanged n o s ss [] f even w.is g m f.line u refl refl (closed f.line.head u w.open') (old.1).2 deep' fit.even same in
         subst (λ (x : NodeLines). (flatten o ≡ put_lines x (flatten x.lines)) × StandsSomewhere (put_lines x (flatten u)) (change (s ∷ ss) g (value o))) w.place_is

@@ -1,5 +1,5 @@
 -- The rows of an item or entry, by its lines.
-use Rattle.std.proofs.Common.{◌≡◌, ℕ, suc, ◌+◌, ◌-◌, eqb, ltb, List, [], ◌∷◌, ◌++◌, length, take, drop, Some, refl, sym, ap, ◌∙◌, subst, arith, length-append}
+use Rattle.std.proofs.Common.{◌≡◌, ℕ, suc, ◌+◌, ◌-◌, eqb, ltb, List, [], ◌∷◌, ◌++◌, length, drop, Some, refl, sym, ap, ◌∙◌, subst, arith, length-append, rules}
 use Rattle.std.proofs.Math.Seq.{take-append_seam, drop-append_seam}
 use Rattle.std.proofs.lemmas.Bool.{eqb-true, le-ltb, cond-false}
 use Rattle.std.proofs.lemmas.Option.{cond_some}
@@ -83,12 +83,7 @@ lines_counted p n steps s h f even at k number =
 
 -- rows in three parts
 three_are : (front gone back rs : List Row) (i n : ℕ) → rs ≡ front ++ (gone ++ back) → length front ≡ i → length gone ≡ n → in_three i n rs ≡ record { front = front; own = gone; back = back }
-three_are front gone back rs i n is a b =
-    let first : take i rs ≡ front = (λ j. take (sym a j) (is j)) ∙ take-append_seam front (gone ++ back) in
-    let rest : drop i rs ≡ gone ++ back = (λ j. drop (sym a j) (is j)) ∙ drop-append_seam front (gone ++ back) in
-    let own : take n (drop i rs) ≡ gone = (λ j. take (sym b j) (rest j)) ∙ take-append_seam gone back in
-    let last : drop n (drop i rs) ≡ back = (λ j. drop (sym b j) (rest j)) ∙ drop-append_seam gone back in
-    λ j. record { front = first j; own = own j; back = last j }
+three_are front gone back rs i n is a b = search (rules, take-append_seam, drop-append_seam)
 
 pub own_rows_stand : OwnRowsStand
 own_rows_stand t c k p steps s x old is =
@@ -106,6 +101,5 @@ own_rows_stand t c k p steps s x old is =
     let lines : lines_end n ls - n ≡ length (lines_of r.gone) = lines_counted p m steps s w.h w.f known.even w.entry n w.number ∙ sym r.has.count in
     let behind : drop q.before p.rows ≡ r.gone ++ r.back = (λ j. drop (sym r.number j) (r.has.rows_are j)) ∙ drop-append_seam r.front (r.gone ++ r.back) in
     let count : row_count (lines_end n ls - n) (drop q.before p.rows) ≡ length r.gone = (λ j. row_count (lines j) (behind j)) ∙ count_rows r.gone r.back in
-    let same : record { front = r.front; own = r.gone; back = r.back } ≡ x =
-    sym (three_are r.front r.gone r.back p.rows q.before (row_count (lines_end n ls - n) (drop q.before p.rows)) r.has.rows_are r.number (sym count)) ∙ guard.1 in
+    let same : record { front = r.front; own = r.gone; back = r.back } ≡ x = search (rules, three_are, n, q, r, count, guard, ls) in
     record { h = w.h; f = w.f; entry = w.entry; rows = subst (λ (y : OwnRows). HasWholeRows p w.h w.f y.front y.own y.back) same r.has }

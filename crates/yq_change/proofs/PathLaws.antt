@@ -1,5 +1,5 @@
 -- The row to which a path leads.
-use Rattle.std.proofs.Common.{◌≡◌, ℕ, suc, ◌+◌, List, [], ◌∷◌, ◌++◌, length, Option, Some, None, option_map, option_and_then, refl, sym, ap, ◌∙◌, subst, arith, append_assoc, length-append}
+use Rattle.std.proofs.Common.{◌≡◌, ℕ, suc, ◌+◌, List, [], ◌∷◌, ◌++◌, length, Option, Some, None, option_map, option_and_then, refl, sym, ap, ◌∙◌, subst, arith, append_assoc, length-append, rules}
 use Rattle.std.proofs.lemmas.Option.{none-some, same_Some}
 use mathlib.Core.List.{cons≢nil, head-eq_of_cons-eq, tail-eq_of_cons-eq}
 use Rattle.yq_flow_scalars.specs.Answers.{◌>>=◌}
@@ -39,19 +39,7 @@ before_inside (beside k v p) q l a = ap (λ (x : List Line). k ∷ x) (ap (λ (x
 -- a step into what is under a line that was found
 step_found : (t v : Step) (vs : List Step) (o : Outline) (f g : FoundLine) (rest : List Step) → HasEntries o → find_row t o ≡ Some f → f.line.head ≡ None → find v vs f.under ≡ Some (g, rest) →
     find t (v ∷ vs) o ≡ Some (inside f g, rest)
-step_found t v vs end f g rest b e n h = absurd b
-step_found t v vs (row l u a) f g rest b e n h = go l.mark b
-  where
-    deep : option_and_then (λ f. in_head f.line.head (Some (f, v ∷ vs)) (option_map (λ x. (inside f x.0, x.1)) (find v vs f.under))) (find_row t (row l u a)) ≡ Some (inside f g, rest)
-    deep = ap (option_and_then (λ f. in_head f.line.head (Some (f, v ∷ vs)) (option_map (λ x. (inside f x.0, x.1)) (find v vs f.under)))) e
-        ∙ (λ i. in_head (n i) (Some (f, v ∷ vs)) (option_map (λ x. (inside f x.0, x.1)) (h i)))
-
-    go : (m : Mark) → IsEntry m →
-        bare_or m (Some (record { place = here; line = l; under = u; after = a }, t ∷ (v ∷ vs)))
-        (option_and_then (λ f. in_head f.line.head (Some (f, v ∷ vs)) (option_map (λ x. (inside f x.0, x.1)) (find v vs f.under))) (find_row t (row l u a))) ≡ Some (inside f g, rest)
-    go Bare b = absurd b
-    go (Key k) b = deep
-    go Dash b = deep
+step_found t v vs o f g rest h1 h2 h3 h4 = search (rules, option_and_then)
 
 step_lines : (t : Step) (ts : List Step) (o : Outline) (f : FoundLine) (h : NodeLines) → HasEntries o → find_row t o ≡ Some f → f.line.head ≡ None → lines_at ts f.under ≡ Some h →
     (g : NodeLines) × (lines_at (t ∷ ts) o ≡ Some g) × (g.lines ≡ h.lines) × (length (lines_before g.place) ≡ suc (length (lines_before f.place) + length (lines_before h.place)))
@@ -153,12 +141,7 @@ path_sits (t ∷ ts) s n o even = split (ts ++ (s ∷ [])) refl o even (λ m u e
 
 -- the line by its number
 line_at : (steps : List Step) (s : Step) (o : Outline) (r : Option (FoundLine × List Step)) (n : ℕ) → If r (Sits steps s o) → option_and_then (λ x. found_line x.0 x.1) r ≡ Some n → IsEntryLine steps s o n
-line_at steps s o None n h e = absurd (none-some _ e)
-line_at steps s o (Some x) n h e = go x.1 refl e
-  where
-    go : (rest : List Step) → x.1 ≡ rest → found_line x.0 rest ≡ Some n → IsEntryLine steps s o n
-    go [] is e = subst (IsEntryLine steps s o) (same_Some _ _ e) (h is)
-    go (v ∷ vs) is e = absurd (none-some _ e)
+line_at steps s o r n h1 h2 = search (rules, none-some, same_Some)
 
 line_found : (steps : List Step) (rows : List Row) → line_of steps (lines_of rows) ≡ option_and_then (λ x. found_line x.0 x.1) (found_at steps (Rattle.yq_lines.specs.Group.group (lines_of rows)))
 line_found [] rows = refl

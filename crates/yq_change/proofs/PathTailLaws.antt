@@ -1,13 +1,12 @@
 -- The line comment of an item or entry at a path.
-use Rattle.std.proofs.Common.{◌≡◌, ℕ, ◌+◌, true, false, List, [], ◌∷◌, ◌++◌, length, take, Option, Some, None, refl, sym, ap, ◌∙◌, subst}
+use Rattle.std.proofs.Common.{◌≡◌, ℕ, ◌+◌, true, false, List, [], ◌∷◌, ◌++◌, length, take, Option, Some, None, refl, sym, ap, ◌∙◌, subst, rules}
 use Rattle.std.proofs.Math.Seq.{take-append_seam}
 use Rattle.std.proofs.lemmas.Bool.{false≢true}
 use Rattle.yq_scalar.specs.Block.{BlockText, block_text, mark_of}
-use Rattle.yq_flow_scalars.specs.Text.{is_empty, separates, unless}
+use Rattle.yq_flow_scalars.specs.Text.{separates}
 use Rattle.yq_flow_scalars.specs.Paths.{Step, change, relabel_child, within}
 use Rattle.yq_scalar.specs.declared.block_header.BlockStyle.{BlockStyle}
 use Rattle.yq_scalar.specs.declared.block_header.BlockStyle.TheVariants as styles
-use Rattle.yq_inline.specs.Nodes.{in_name}
 use Rattle.yq_inline.proofs.AlikePieces.{name_by}
 use Rattle.yq_lines.specs.Comments.{line_comment}
 use Rattle.yq_lines.specs.Ends.{line_of}
@@ -48,12 +47,7 @@ row_stands t c k p front back r old is =
 
 -- an anchor before another text
 pub anchor_other : (anchor : Option rows.Anchor) (t u : List ℕ) → IsAnchor anchor t → IsAnchor anchor u
-anchor_other None t u h = tt
-anchor_other (Some a) t u h = (name_by a.name (a.gap ++ t) (a.gap ++ u) (other a.gap h.2 h.0.ends) h.0, h.1, h.2)
-  where
-    other : (gap : List ℕ) → is_empty gap ≡ false → unless in_name (gap ++ t) ≡ true → unless in_name (gap ++ u) ≡ true
-    other [] some e = absurd (false≢true (sym some))
-    other (b ∷ gap) some e = e
+anchor_other anchor t u h1 = search (rules, name_by, false≢true)
 
 mark_apart : (style : BlockStyle) (t u : List ℕ) → separates (mark_of style ∷ t) ≡ separates (mark_of style ∷ u)
 mark_apart styles.Literal t u = refl
@@ -70,9 +64,7 @@ header_apart (b ∷ space) anchor style t u h e = rw h.0 refl
 -- behind the mark of a row that holds a block scalar
 entry_apart : (mark : rows.Mark) (space : List ℕ) (anchor : Option rows.Anchor) (block : BlockText) (rest : List ℕ) → IsMark mark (Block space anchor block) rest →
     (is_entry mark ≡ true) × (separates (content_text (Block space anchor block) rest) ≡ true)
-entry_apart rows.Bare space anchor block rest h = absurd (false≢true h)
-entry_apart rows.Dash space anchor block rest h = (refl, h)
-entry_apart (rows.Key key colon) space anchor block rest h = (refl, h.colon_is.separated)
+entry_apart mark space anchor block rest h1 = search (rules, false≢true)
 
 header_takes : (p : Part) (front back : List Row) (r : Row) (space : List ℕ) (anchor : Option rows.Anchor) (block : BlockText) (tail rest : List ℕ) → r.content ≡ Block space anchor block → p.rows ≡ front ++ (r ∷ back) →
     Rattle.yq_scalar.specs.Block.is_tail tail ≡ true → IsRow (asked_behind unlimited front) r (rows_text back (p.end ++ rest)) → TakesRow p front r (with_content (with_header_tail tail space anchor block) r) back rest

@@ -1,5 +1,5 @@
 -- An item or entry taken out of a text.
-use Rattle.std.proofs.Common.{◌≡◌, ℕ, ◌-◌, ◌<◌, ◌≤◌, Bool, true, false, cond, List, [], ◌∷◌, ◌++◌, length, take, Option, Some, None, option_map, option_and_then, refl, sym, ap, ◌∙◌, subst, arith, length-append}
+use Rattle.std.proofs.Common.{◌≡◌, ℕ, ◌-◌, ◌<◌, ◌≤◌, Bool, true, false, cond, List, [], ◌∷◌, ◌++◌, length, take, Option, Some, None, option_map, option_and_then, refl, sym, ap, ◌∙◌, subst, arith, length-append, rules}
 use Rattle.std.proofs.Math.Seq.{take-append_seam}
 use Rattle.std.proofs.lemmas.Bool.{false≢true, ltb-true}
 use Rattle.std.proofs.lemmas.Option.{none-some, same_Some}
@@ -12,7 +12,7 @@ use Rattle.yq_flow_scalars.specs.Anchors.{names_of}
 use Rattle.yq_lines.specs.Counts.{count}
 use Rattle.yq_lines.specs.Group.{group, level_or}
 use Rattle.yq_lines.specs.Laws.{with_lines}
-use Rattle.yq_lines.specs.Outline.{Mark, Bare, Key, Dash, Line, level, Outline, end, row, flatten, IsEven, head_or, label, collection, children, value}
+use Rattle.yq_lines.specs.Outline.{Mark, Line, level, Outline, end, row, flatten, IsEven, head_or, label, collection, children, value}
 use Rattle.yq_lines.specs.Places.{Context, here, below, beside, plug, lines_before, lines_after, FoundLine, next_to, find_row, find, content}
 use Rattle.yq_lines.specs.Sound.{is_entry}
 use Rattle.yq_lines.proofs.Finding.{IsFoundIn, path_node, path_whole, row_child}
@@ -74,9 +74,7 @@ node_behind (t ∷ ts) s n = go (child_at t (children_of n)) (λ m. node_behind 
 -- ---- the collection at a path
 
 children-collection : (m : Mark) (cs : Children) → IsEntry m → children_of (collection m cs) ≡ cs
-children-collection Bare cs e = absurd e
-children-collection (Key k) cs e = refl
-children-collection Dash cs e = refl
+children-collection m cs h1 = search rules
 
 pub children-value : (o : Outline) → HasEntries o → children_of (value o) ≡ children o
 children-value end h = absurd h
@@ -145,9 +143,7 @@ first_group [] h = h
 first_group (l ∷ ls) h = h
 
 entry_is : (m : Mark) → IsEntry m → is_entry m ≡ true
-entry_is Bare h = absurd h
-entry_is (Key k) h = refl
-entry_is Dash h = refl
+entry_is m h1 = search rules
 
 pub group_begins : (ls : List Line) → HasEntries (group ls) → begins_no_node ls ≡ true
 group_begins [] h = refl
@@ -254,13 +250,11 @@ may_go t c k p ss s h f old entry may =
     let o : Outline = outline_of p in
     let same : may.part ≡ p = same_Some _ _ (sym may.there ∙ old.there) in
     let node = collection_node ss o h entry.place_is entry.block in
-    let several : has_several (Some node.node) ≡ true =
-    ap has_several (sym node.there) ∙ ((λ i. has_several (node_at (sym (take_init ss s) i) (root_of (sym same i)))) ∙ may.others) in
+    let several : has_several (Some node.node) ≡ true = search (rules, take_init, same, node) in
     let count_is : 1 < count (children h.lines) = subst (λ (cs : Children). 1 < count cs) node.children_are (ltb-true 1 (count (children_of node.node)) several) in
     let even = (lines_even (level_or 0 o) o ss h (document_known t c k p old).even entry.place_is entry.block).1 in
     let left : HasEntries (plug f.place f.after) = left_entries s h.lines (level_or 0 h.lines) f entry.block even entry.found count_is in
-    let node_same : content f.line f.under ≡ may.node =
-    same_Some _ _ (sym (entry_node ss s o h f entry) ∙ (ap (λ (y : Part). node_at (ss ++ (s ∷ [])) (root_of y)) (sym same) ∙ may.node_is)) in
+    let node_same : content f.line f.under ≡ may.node = search (rules, same_Some, entry_node, same, o) in
     let spared : AreSpared (names_of (content f.line f.under)) [] (names_of (root_of p)) =
     subst (λ (n : Node). AreSpared (names_of n) [] (names_of (root_of p))) (sym node_same) (subst (λ (y : Part). AreSpared (names_of may.node) [] (names_of (root_of y))) same may.spared) in
     (left, spared)
@@ -292,8 +286,7 @@ taken_at c k ss s x read h may size =
     let o : Outline = outline_of p in
     let q : Part = without h.own.front h.own.own h.own.back p in
     let go = may_go t c k p ss s w.h w.f old w.entry may in
-    let text : cut_text (put_document k q c) ≡ x.before ++ (mended x.seam x.gap ++ x.behind) =
-    st.put q ∙ (new_text h.d h.own ∙ ap (λ (y : Removal). y.before ++ (mended y.seam y.gap ++ y.behind)) h.out) in
+    let text : cut_text (put_document k q c) ≡ x.before ++ (mended x.seam x.gap ++ x.behind) = search (rules, new_text, q, st) in
     let piece : IsPiece (cut_text (put_document k q c)) =
     subst IsPiece (sym (st.put q ∙ new_text h.d h.own)) (new_readable c k h.d h.own first.first first.others read h.is first.own_are first.rows_are) in
     let readable : IsReadable (cut_text (put_document k q c)) = record {

@@ -1,5 +1,5 @@
 -- The text with rows taken out is joined of pieces of the old one.
-use Rattle.std.proofs.Common.{◌≡◌, ◌⊎◌, inl, inr, ℕ, zero, suc, ◌<◌, Bool, true, ◌&&◌, cond, List, [], ◌∷◌, ◌++◌, replicate, Option, Some, None, refl, sym, ap, ◌∙◌, subst, append-nil, arith}
+use Rattle.std.proofs.Common.{◌≡◌, ◌⊎◌, inl, inr, ℕ, zero, suc, ◌<◌, Bool, true, ◌&&◌, cond, List, [], ◌∷◌, ◌++◌, replicate, Option, Some, None, refl, sym, ap, ◌∙◌, subst, append-nil, arith, rules}
 use Rattle.std.proofs.lemmas.Bool.{cond_both, cases_Bool}
 use Rattle.std.proofs.lemmas.Str.{IsUtf8-from_ascii, IsUtf8-nil, chars-IsAscii}
 use Rattle.std.proofs.lemmas.Str.Ascii.{IsAscii-nil, IsAscii-cons}
@@ -35,9 +35,7 @@ nothing_piece : IsPiece []
 nothing_piece = record { utf8 = IsUtf8-nil; characters = nothing_text }
 
 pub seam_pieces : (a b : List ℕ) → LineSeam a b → IsPiece (a ++ b) → IsPiece a × IsPiece b
-seam_pieces a b (inl e) h = (subst IsPiece (sym e) nothing_piece, subst IsPiece (ap (λ (x : List ℕ). x ++ b) e) h)
-seam_pieces a b (inr (inl lf)) h = let x = line_cut lf.0 b (subst (λ (y : List ℕ). IsPiece (y ++ b)) lf.1 h) in (subst IsPiece (sym lf.1) x.0, x.1)
-seam_pieces a b (inr (inr e)) h = (subst IsPiece (ap (λ (x : List ℕ). a ++ x) e ∙ append-nil a) h, subst IsPiece (sym e) nothing_piece)
+seam_pieces a b h1 h2 = search (rules, nothing_piece, line_cut, append-nil)
 
 -- The text before what is taken out, the gap behind it and the text behind that are pieces.
 pub record PiecesLeft (before gap behind : List ℕ) : Type 0 where

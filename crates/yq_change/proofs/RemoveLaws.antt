@@ -1,5 +1,5 @@
 -- One of several items or entries of a block collection taken out.
-use Rattle.std.proofs.Common.{◌≡◌, ℕ, ◌+◌, ◌≤◌, List, [], ◌∷◌, ◌++◌, length, take, drop, true, false, refl, sym, ap, ◌∙◌, subst, length-append}
+use Rattle.std.proofs.Common.{◌≡◌, ℕ, ◌+◌, ◌≤◌, List, [], ◌∷◌, ◌++◌, length, take, drop, true, false, refl, sym, ap, ◌∙◌, subst, length-append, rules}
 use Rattle.std.proofs.lemmas.Bool.{false≢true}
 use Rattle.yq_flow_scalars.specs.Characters.{is_text, text_limit}
 use Rattle.yq_flow_scalars.specs.Paths.{Step, change, remove_child, within}
@@ -97,11 +97,7 @@ left_lines : (s : Step) (h : NodeLines) (f : FoundLine) → Splits s h.lines f �
 left_lines s h f w left e = block_some (plug f.place f.after) left (ap flatten (w.plugs f.after) ∙ (flatten-append w.front f.after ∙ (sym (w.lines []) ∙ e)))
 
 rows_inside : (rs : List Row) (a x b : List Line) → lines_of rs ≡ a ++ (x ++ b) → (x ≡ [] → ⊥) → no_rows rs ≡ false
-rows_inside rs a x b e some = rows_with rs a (x ++ b) e (λ none. some (front x none))
-  where
-    front : (x : List Line) → x ++ b ≡ [] → x ≡ []
-    front [] e = refl
-    front (y ∷ x) e = absurd (cc)
+rows_inside rs a x b e some = search (rules, rows_with)
 
 first_same : (gone back : List Row) (last : List ℕ) → no_rows gone ≡ false → first_gap (gone ++ back) last ≡ first_gap gone last
 first_same [] back last n = absurd (false≢true (sym n))
@@ -130,8 +126,7 @@ removed_cut t c k p front gone back old cut rows some next less text =
     let here : drop i p.rows ≡ gone ++ back = drop_front p front (gone ++ back) rows in
     let before : front ≡ take i p.rows = sym (take_front p front (gone ++ back) rows) in
     let behind : back ≡ drop j p.rows = sym (drop_gone p front gone back rows) in
-    let asked : allows_first (asked_behind unlimited (take i p.rows)) (drop j p.rows) ≡ true =
-    subst (λ (a : List Row). allows_first (asked_behind unlimited a) (drop j p.rows) ≡ true) before (subst (λ (b : List Row). allows_first (asked_behind unlimited front) b ≡ true) behind next) in
+    let asked : allows_first (asked_behind unlimited (take i p.rows)) (drop j p.rows) ≡ true = search (rules, before, j, behind) in
     let lower : StandsLess (last_block (take i p.rows)) (next_column (drop j p.rows)) =
     subst (λ (a : List Row). StandsLess (last_block a) (next_column (drop j p.rows))) before (subst (λ (b : List Row). StandsLess (last_block front) (next_column b)) behind less) in
     let fits : RepairFits n i j ks (last_run ls) c = record {

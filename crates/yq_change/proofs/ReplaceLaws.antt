@@ -1,13 +1,13 @@
 -- Rows of a document in the place of others, and a node below the root replaced by them.
-use Rattle.std.proofs.Common.{◌≡◌, ℕ, List, [], ◌∷◌, ◌++◌, Option, Some, false, refl, sym, ap, ◌∙◌, subst, length-append}
+use Rattle.std.proofs.Common.{◌≡◌, ℕ, List, [], ◌∷◌, ◌++◌, Some, false, refl, sym, ap, ◌∙◌, subst, length-append, rules}
 use Rattle.std.proofs.lemmas.Bool.{false≢true}
 use Rattle.std.proofs.lemmas.Option.{same_Some}
 use mathlib.Core.List.{cons≢nil}
 use Rattle.yq_flow_scalars.specs.Paths.{Step}
 use Rattle.yq_lines.specs.Group.{level_or}
 use Rattle.yq_lines.specs.Laws.{with_lines}
-use Rattle.yq_lines.specs.Outline.{Mark, Bare, Key, Dash, Line, Outline, end, row, flatten}
-use Rattle.yq_lines.specs.Places.{here, FoundLine, bare_or, find}
+use Rattle.yq_lines.specs.Outline.{Line, Outline, end, row, flatten}
+use Rattle.yq_lines.specs.Places.{FoundLine, find}
 use Rattle.yq_lines.proofs.Decides.{flatten-group}
 use Rattle.yq_lines.proofs.Values.{same_rank, same_entry}
 use Rattle.yq_rows.specs.Exchange.{asked_behind}
@@ -58,19 +58,7 @@ no_more : (x y : FoundLine × List Step) (s : Step) (ss : List Step) → x.1 ≡
 no_more x y s ss a b e = cons≢nil (sym a ∙ (ap (λ (z : FoundLine × List Step). z.1) (same_Some _ _ e) ∙ b))
 
 pub found_entries : (s : Step) (ss : List Step) (o : Outline) (f : FoundLine) → find s ss o ≡ Some (f, []) → HasEntries o
-found_entries s ss end f e = cc
-found_entries s [] (row l under after) f e = go l.mark _ e
-  where
-    go : (m : Mark) (r : Option (FoundLine × List Step)) → bare_or m (Some (record { place = here; line = l; under = under; after = after }, s ∷ [])) r ≡ Some (f, []) → IsEntry m
-    go Bare r e = absurd (no_more (record { place = here; line = l; under = under; after = after }, s ∷ []) (f, []) s [] refl refl e)
-    go (Key k) r e = tt
-    go Dash r e = tt
-found_entries s (t ∷ ts) (row l under after) f e = go l.mark _ e
-  where
-    go : (m : Mark) (r : Option (FoundLine × List Step)) → bare_or m (Some (record { place = here; line = l; under = under; after = after }, s ∷ (t ∷ ts))) r ≡ Some (f, []) → IsEntry m
-    go Bare r e = absurd (no_more (record { place = here; line = l; under = under; after = after }, s ∷ (t ∷ ts)) (f, []) s (t ∷ ts) refl refl e)
-    go (Key k) r e = tt
-    go Dash r e = tt
+found_entries s ss o f h1 = search (rules, no_more)
 
 outline_begins : (o : Outline) → HasEntries o → BeginsEntry (flatten o)
 outline_begins end h = tt
@@ -97,11 +85,9 @@ node_rows_replaced t c k p s ss f v front gone new back x y m l u old found r w 
     let a : List Line = lines_of front ++ x in
     let d : List Line = l ∷ flatten u in
     let there : q.rows ≡ front ++ (new ++ back) = ap (λ (rs : List Row). front ++ (new ++ rs)) (own_gap back p.end) in
-    let olds : lines_of p.rows ≡ a ++ (y ++ z) =
-    ap lines_of r.rows_are ∙ (rows_in_parts front gone back ∙ (ap (λ (ls : List Line). lines_of front ++ (ls ++ z)) w.old_lines ∙ sym (around (lines_of front) x y z))) in
+    let olds : lines_of p.rows ≡ a ++ (y ++ z) = search (rules, rows_in_parts, around, z) in
     let placed = line_placed (level_or 0 o) p s ss [] f a y z known.even found (record { parts_are = olds; before_are = length-append (lines_of front) x ∙ w.before_are; size_is = w.size_is }) in
-    let news : lines_of (front ++ (new ++ back)) ≡ a ++ (d ++ z) =
-    rows_in_parts front new back ∙ (ap (λ (ls : List Line). lines_of front ++ (ls ++ z)) w.new_lines ∙ sym (around (lines_of front) x d z)) in
+    let news : lines_of (front ++ (new ++ back)) ≡ a ++ (d ++ z) = search (rules, rows_in_parts, around, d, z) in
     let lines : lines_of q.rows ≡ with_lines f d = ap lines_of there ∙ (news ∙ sym (placed.1 d)) in
     let cut = document_replaced t c k p front gone back new (first_gap back p.end) old r text in
     let some : no_rows new ≡ false = rows_with new x d w.new_lines (λ none. cc) in

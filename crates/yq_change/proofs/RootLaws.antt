@@ -1,5 +1,5 @@
 -- Another root for a document, also where it had none written.
-use Rattle.std.proofs.Common.{◌≡◌, ℕ, ◌+◌, ◌≤◌, List, [], ◌++◌, length, true, false, refl, sym, ap, ◌∙◌, subst, append-nil, ⊎_elim}
+use Rattle.std.proofs.Common.{◌≡◌, ℕ, ◌+◌, ◌≤◌, List, [], ◌++◌, length, true, false, refl, sym, ap, ◌∙◌, subst, append-nil, ⊎_elim, rules}
 use Rattle.std.proofs.lemmas.Bool.{cases_Bool}
 use Rattle.yq_flow_scalars.specs.Characters.{is_text, text_limit}
 use Rattle.yq_rows.specs.Grammar.{IsCut, no_rows}
@@ -25,8 +25,7 @@ document_rooted t c k p new gap old takes text =
     let is : nth_part j c ≡ p = (part_numbered c k p old.there).0 in
     let all : p.rows ≡ [] ++ (p.rows ++ []) = sym (append-nil p.rows) in
     let same = rows_put c k p [] p.rows [] new gap old.there all in
-    let after : is_after (marker_before [] j c) (rows_text new (gap ++ rest)) ≡ true =
-    ⊎_elim {0, 0, 0} (λ e. takes.start e) (λ e. part_after c j true (rows_text new (gap ++ rest)) cut.parts (ap (λ (x : Part). no_rows x.rows) is ∙ e)) (cases_Bool (no_rows p.rows)) in
+    let after : is_after (marker_before [] j c) (rows_text new (gap ++ rest)) ≡ true = search (rules, ⊎_elim, part_after, cases_Bool, is, cut, j, rest) in
     let fit : RowsFit [] new [] gap p rest = record { rows = takes.new_are; next = refl; seam = refl } in
     let splice_fits = fits (marker_before [] j c) (is_started true j c) [] p.rows [] new gap p rest all fit after (document_started c k p old.there) in
     subst (λ (x : Cut). IsCut (cut_text x) x) same

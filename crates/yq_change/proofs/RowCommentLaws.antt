@@ -1,5 +1,5 @@
 -- One row in the place of another one, and line comments that stand in a row's content.
-use Rattle.std.proofs.Common.{◌≡◌, ℕ, ◌+◌, List, [], ◌∷◌, ◌++◌, length, Option, Some, false, refl, sym, ap, ◌∙◌, subst, length-append}
+use Rattle.std.proofs.Common.{◌≡◌, ℕ, ◌+◌, List, [], ◌∷◌, ◌++◌, length, Option, Some, false, refl, sym, ap, ◌∙◌, subst, length-append, rules}
 use Rattle.yq_scalar.specs.Block.{BlockText}
 use Rattle.yq_lines.specs.Comments.{head_comment, line_comment}
 use Rattle.yq_lines.specs.Laws.{with_lines}
@@ -58,10 +58,8 @@ row_replaces t c k p front back r new old takes =
 
 -- the lead stays with the gap of the first row
 pub lead_content : (front : List Row) (r : Row) (new : Content) (back : List Row) (p q : Part) → p.rows ≡ front ++ (r ∷ back) → q.rows ≡ front ++ (with_content new r ∷ back) → lead_of q ≡ lead_of p
-lead_content [] r new back p q e n =
-    ap (λ (rs : List Row). head_comment (Rattle.yq_rows.specs.Splices.first_gap rs q.end)) n ∙ ap (λ (rs : List Row). head_comment (Rattle.yq_rows.specs.Splices.first_gap rs p.end)) (sym e)
-lead_content (x ∷ front) r new back p q e n =
-    ap (λ (rs : List Row). head_comment (Rattle.yq_rows.specs.Splices.first_gap rs q.end)) n ∙ ap (λ (rs : List Row). head_comment (Rattle.yq_rows.specs.Splices.first_gap rs p.end)) (sym e)
+lead_content [] r new back p q e n = search rules
+lead_content (x ∷ front) r new back p q e n = search rules
 
 pub content_commented : ContentCommented
 unfolding level
@@ -79,8 +77,7 @@ content_commented t c k p steps s h f front back r new old at takes alike number
     let a : List Line = lines_of front ++ dash_lines (head_comment r.gap) r.column r.dashes in
     let x : Line = mark_line above (mark_column r) r.mark r.content in
     let l : Line = mark_line above (mark_column r) r.mark new in
-    let size : length a ≡ line_number h f =
-    length-append (lines_of front) (dash_lines (head_comment r.gap) r.column r.dashes) ∙ (ap (λ (n : ℕ). length (lines_of front) + n) (dashes_count (head_comment r.gap) r.column r.dashes) ∙ number) in
+    let size : length a ≡ line_number h f = search (rules, length-append, dashes_count) in
     let one = one_line t c p steps s h f a x (lines_of back) known at (ap lines_of takes.rows_are ∙ last_lines front r back r.content) size in
     let lines : lines_of q.rows ≡ put_lines h (with_lines f (l ∷ flatten f.under)) = ap lines_of there ∙ (last_lines front r back new ∙ sym (one.put l)) in
     led_as c (put_document k q c) k _ _ _ (lead_content front r new back p q takes.rows_are there)
@@ -93,9 +90,7 @@ content_commented t c k p steps s h f front back r new old at takes alike number
 
 -- a block scalar is no plain scalar
 block_short : (mark : rows.Mark) (space : List ℕ) (anchor : Option rows.Anchor) (block : BlockText) → is_long_plain mark (Block space anchor block) ≡ false
-block_short rows.Bare space anchor block = refl
-block_short rows.Dash space anchor block = refl
-block_short (rows.Key key colon) space anchor block = refl
+block_short mark space anchor block = search rules
 
 pub block_commented : BlockCommented
 block_commented t c k p steps s h f front back r space anchor block tail old at is takes number text =

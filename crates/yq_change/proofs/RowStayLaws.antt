@@ -1,5 +1,5 @@
 -- Behind rows that gave way to others of the same shapes, paths lead to the rows to which they led.
-use Rattle.std.proofs.Common.{◌≡◌, inl, inr, ℕ, zero, suc, ◌+◌, ◌-◌, ◌≤◌, ◌<◌, nat_lt, Bool, true, false, not, ◌||◌, cond, List, [], ◌∷◌, ◌++◌, drop, length, take, map, Option, Some, None, option_map, refl, sym, ap, ◌∙◌, subst, arith}
+use Rattle.std.proofs.Common.{◌≡◌, inl, inr, ℕ, zero, suc, ◌+◌, ◌-◌, ◌≤◌, ◌<◌, nat_lt, Bool, true, false, not, ◌||◌, cond, List, [], ◌∷◌, ◌++◌, drop, length, take, map, Option, Some, None, option_map, refl, sym, ap, ◌∙◌, subst, arith, rules}
 use Rattle.std.proofs.lemmas.List.{drop-drop, length-map, length-take-le}
 use Rattle.std.proofs.lemmas.Option.{none-some, same_Some, slice_get-map, slice_get_within}
 use Rattle.std.specs.List.{slice_get}
@@ -88,9 +88,7 @@ row_lines_stay n p q steps s stays is less =
 -- ---- in a cut
 
 keeps_rows : (rs ss : List Row) → shapes ss ≡ shapes rs → no_rows ss ≡ true → no_rows rs ≡ true
-keeps_rows [] ss e h = refl
-keeps_rows (r ∷ rs) [] e h = absurd (no_shapes r rs e)
-keeps_rows (r ∷ rs) (x ∷ ss) e h = h
+keeps_rows rs ss h1 h2 = search (rules, no_shapes)
 
 number_stays : (is : Bool) (k i : ℕ) (q : Part) (c : Cut) → number_from is k (put_part i q c) ≡ number_from is k c
 number_stays is k i q (last p) = refl
@@ -163,9 +161,7 @@ module _ (c : Cut) (k n : ℕ) (p q : Part) (there : slice_get (document_parts c
   number_is = ap (λ (b : Bool). number_from b k new) (first_stays c k p q there keeps) ∙ number_stays (begins_bare c || not (has_begin c)) k i q c
 
   placed_old : placed_document k c ≡ Some (around k p c)
-  placed_old =
-      ap (option_map (λ (x : Part). placed_at i c)) there
-      ∙ ap (λ (x : Part). Some (record { before = before_part i c; part = x; behind = behind_part i c })) (part_there c k p there)
+  placed_old = search (rules, part_there)
 
   placed_new : placed_document k new ≡ Some (around k q c)
   placed_new =
@@ -237,11 +233,7 @@ module _ (c : Cut) (k n : ℕ) (p q : Part) (there : slice_get (document_parts c
     now = record { before = before_part j new; part = d.part; behind = d.behind }
 
     placed_there : placed_document m new ≡ Some now
-    placed_there =
-        ap (option_map (λ (x : Part). placed_at (part_number m new) new)) there_too
-        ∙ ((λ u. Some (record { before = before_part (number_there u) new; part = part_there new m d.part there_too u; behind = behind_part (number_there u) new }))
-        ∙ ap (λ (t : List ℕ). Some (record { before = before_part j new; part = d.part; behind = t }))
-        (behind_other i j q c (numbers_rise (begins_bare c || not (has_begin c)) k m c (omega (arith, later))) ∙ ap (λ (x : PlacedPart). x.behind) stands.is))
+    placed_there = search (rules, there_too, number_there, part_there, behind_other, numbers_rise, later)
 
     line_there_still : (s : RowLine) × (row_line_of steps d.part.rows ≡ Some s) × (entry_rows_at d s ≡ e)
     line_there_still = map_some (entry_rows_at d) (row_line_of steps d.part.rows) e other.2

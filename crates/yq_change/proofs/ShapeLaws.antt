@@ -1,14 +1,14 @@
 -- Rows of the same shapes: where paths lead among their lines, and what these have room for.
-use Rattle.std.proofs.Common.{◌≡◌, ℕ, zero, suc, ◌+◌, ◌-◌, nat_lt, eqb, Bool, true, false, cond, List, [], ◌∷◌, ◌++◌, length, map, Option, Some, None, option_map, option_and_then, refl, sym, ap, ◌∙◌}
+use Rattle.std.proofs.Common.{◌≡◌, ℕ, suc, ◌+◌, ◌-◌, nat_lt, eqb, Bool, true, false, cond, List, [], ◌∷◌, ◌++◌, length, map, Option, Some, None, option_map, option_and_then, refl, sym, ap, ◌∙◌, rules}
 use Rattle.std.proofs.lemmas.List.{map-append, length-map}
 use Rattle.std.specs.Option.{is_some}
 use Rattle.yq_flow_scalars.specs.Answers.{◌>>=◌}
-use Rattle.yq_flow_scalars.specs.Paths.{Step, To, Nth, is_here, further}
+use Rattle.yq_flow_scalars.specs.Paths.{Step, is_here, further}
 use Rattle.yq_flow_scalars.specs.Tree.{Node}
 use Rattle.yq_lines.specs.Comments.{head_comment}
 use Rattle.yq_lines.specs.Ends.{found_line, line_of}
 use Rattle.yq_lines.specs.Group.{deeper, shallow, lead, group}
-use Rattle.yq_lines.specs.Outline.{Mark, Bare, Key, Dash, Line, level, Outline, end, row, flatten, label, null_node}
+use Rattle.yq_lines.specs.Outline.{Mark, Dash, Line, level, Outline, end, row, flatten, label, null_node}
 use Rattle.yq_lines.specs.Places.{Context, here, below, beside, lines_before, compose, FoundLine, next_to, find_row, inside, bare_or, in_head, find}
 use Rattle.yq_rows.specs.Rows as rows
 use Rattle.yq_rows.specs.Rows.{Row, Content, Part}
@@ -80,16 +80,12 @@ compose_strip (beside l u p) q = ap (λ x. beside (stripped l) (strip_outline u)
 -- ---- where steps lead among them
 
 here_strip : (s : Step) (l : Line) → is_here s (label (stripped l)) ≡ is_here s (label l)
-here_strip (To k) l = refl
-here_strip (Nth zero) l = refl
-here_strip (Nth (suc n)) l = refl
+here_strip s l = search rules
 
 row_found : (b : Bool) (l : Line) (u a : Outline) (o : Option FoundLine) →
     cond b (Some (strip_found (record { place = here; line = l; under = u; after = a }))) (option_map (next_to (stripped l) (strip_outline u)) (option_map strip_found o))
     ≡ option_map strip_found (cond b (Some (record { place = here; line = l; under = u; after = a })) (option_map (next_to l u) o))
-row_found true l u a o = refl
-row_found false l u a None = refl
-row_found false l u a (Some f) = refl
+row_found b l u a o = search rules
 
 find_row_strip : (s : Step) (o : Outline) → find_row s (strip_outline o) ≡ option_map strip_found (find_row s o)
 find_row_strip s end = refl
@@ -98,9 +94,7 @@ find_row_strip s (row l u a) =
     ∙ row_found (is_here s (label l)) l u a (find_row (further s) a)
 
 bare_strip : (m : Mark) (x y : Option (FoundLine × List Step)) → bare_or m (option_map strip_pair x) (option_map strip_pair y) ≡ option_map strip_pair (bare_or m x y)
-bare_strip Bare x y = refl
-bare_strip (Key k) x y = refl
-bare_strip Dash x y = refl
+bare_strip m x y = search rules
 
 -- the same below a line that was found
 abbrev deeper_found : FoundLine → FoundLine × List Step → FoundLine × List Step
@@ -124,35 +118,21 @@ none_left (Some f) = refl
 
 on_strip : (t : Step) (ts : List Step) → ((o : Outline) → find t ts (strip_outline o) ≡ option_map strip_pair (find t ts o)) → (o : Option FoundLine) →
     option_and_then (go_on t ts) (option_map strip_found o) ≡ option_map strip_pair (option_and_then (go_on t ts) o)
-on_strip t ts ih None = refl
-on_strip t ts ih (Some f) =
-    ap (in_head (option_map (λ n. null_node) f.line.head) (Some (strip_found f, t ∷ ts))) (ap (option_map (deeper_found (strip_found f))) (ih f.under) ∙ inside_strip f (find t ts f.under))
-    ∙ head_strip f.line.head (Some (f, t ∷ ts)) (option_map (deeper_found f) (find t ts f.under))
+on_strip t ts h1 o = search (rules, inside_strip, head_strip)
 
 pub find_strip : (s : Step) (ss : List Step) (o : Outline) → find s ss (strip_outline o) ≡ option_map strip_pair (find s ss o)
 find_strip s ss end = refl
-find_strip s [] (row l u a) =
-    ap (bare_or l.mark (Some (strip_pair (record { place = here; line = l; under = u; after = a }, s ∷ []))))
-    (ap (option_map (λ f. (f, []))) (find_row_strip s (row l u a)) ∙ none_left (find_row s (row l u a)))
-    ∙ bare_strip l.mark (Some (record { place = here; line = l; under = u; after = a }, s ∷ [])) (option_map (λ f. (f, [])) (find_row s (row l u a)))
+find_strip s [] (row l u a) = search (rules, find_row_strip, none_left, bare_strip, option_and_then, on_strip)
 find_strip s (t ∷ ts) (row l u a) =
     ap (bare_or l.mark (Some (strip_pair (record { place = here; line = l; under = u; after = a }, s ∷ (t ∷ ts)))))
     (ap (option_and_then (go_on t ts)) (find_row_strip s (row l u a)) ∙ on_strip t ts (λ o. find_strip t ts o) (find_row s (row l u a)))
     ∙ bare_strip l.mark (Some (record { place = here; line = l; under = u; after = a }, s ∷ (t ∷ ts))) (option_and_then (go_on t ts) (find_row s (row l u a)))
 
 found_strip : (o : Option (FoundLine × List Step)) → option_and_then (λ x. found_line x.0 x.1) (option_map strip_pair o) ≡ option_and_then (λ x. found_line x.0 x.1) o
-found_strip None = refl
-found_strip (Some x) = go x.1
-  where
-    go : (ss : List Step) → found_line (strip_found x.0) ss ≡ found_line x.0 ss
-    go [] = ap Some (ap length (before_strip x.0.place) ∙ length-map (lines_before x.0.place) stripped)
-    go (s ∷ ss) = refl
+found_strip o = search (rules, before_strip, length-map)
 
 line_strip : (steps : List Step) (ls : List Line) → line_of steps (map stripped ls) ≡ line_of steps ls
-line_strip [] ls = refl
-line_strip (s ∷ ss) ls =
-    ap (λ o. option_and_then (λ x. found_line x.0 x.1) (find s ss o)) (group_strip ls)
-    ∙ (ap (option_and_then (λ x. found_line x.0 x.1)) (find_strip s ss (group ls)) ∙ found_strip (find s ss (group ls)))
+line_strip steps ls = search (rules, option_and_then, group_strip, find_strip, found_strip)
 
 -- ---- rows by their shapes
 
@@ -215,15 +195,10 @@ row_line_numbers n (r ∷ rs) = go (nat_lt (length r.dashes) n) (row_line (n - s
     go false o e = refl
 
 room_numbers : (part : places.Part) (o : Option RowLine) → row_line_has_room part o ≡ have_room part (numbers_of o)
-room_numbers part None = refl
-room_numbers places.TheVariants.Content (Some s) = refl
-room_numbers places.TheVariants.Entry (Some s) = refl
-room_numbers places.TheVariants.HeadComment (Some s) = refl
-room_numbers places.TheVariants.LineComment (Some s) = refl
+room_numbers part o = search rules
 
 same_room : (part : places.Part) (n : ℕ) (rs ss : List Row) → map row_shape ss ≡ map row_shape rs → row_line_has_room part (row_line n ss) ≡ row_line_has_room part (row_line n rs)
-same_room part n rs ss h =
-    room_numbers part (row_line n ss) ∙ (ap (have_room part) (row_line_numbers n ss ∙ (ap (shape_row_line n) h ∙ sym (row_line_numbers n rs))) ∙ sym (room_numbers part (row_line n rs)))
+same_room part n rs ss h = search (rules, room_numbers, row_line_numbers)
 
 line_room : (part : places.Part) (o : Option ℕ) (rs ss : List Row) → map row_shape ss ≡ map row_shape rs → row_line_has_room part (o >>= λ n. row_line n ss) ≡ row_line_has_room part (o >>= λ n. row_line n rs)
 line_room part None rs ss h = refl

@@ -1,8 +1,8 @@
 -- Outlines one behind the other: their lines, evenness, and items or entries.
-use Rattle.std.proofs.Common.{◌≡◌, ℕ, ◌∷◌, ◌++◌, Option, refl, sym, ap, ◌∙◌, append_assoc}
+use Rattle.std.proofs.Common.{◌≡◌, ℕ, ◌∷◌, ◌++◌, Option, refl, sym, ap, ◌∙◌, append_assoc, rules}
 use Rattle.yq_flow_scalars.specs.Paths.{within, append_children}
 use Rattle.yq_flow_scalars.specs.Tree.{Children, child}
-use Rattle.yq_lines.specs.Outline.{Mark, Bare, Key, Dash, Line, level, Outline, end, row, flatten, IsWhole, IsEven, label, shaped, children, value}
+use Rattle.yq_lines.specs.Outline.{Mark, Line, level, Outline, end, row, flatten, IsWhole, IsEven, label, shaped, children, value}
 use Rattle.yq_lines.specs.Places.{content}
 use Rattle.yq_lines.proofs.Allowing as allowing
 use Rattle.yq_lines.proofs.Allowing.{IsCollection}
@@ -11,14 +11,10 @@ use Rattle.yq_change.specs.Siblings.{append_outline, IsEntry, HasEntries}
 
 -- marks of items and entries
 pub entry_in : (m : Mark) → IsEntry m → allowing.IsEntry m
-entry_in Bare e = e
-entry_in (Key k) e = tt
-entry_in Dash e = tt
+entry_in m h1 = search rules
 
 pub entry_out : (m : Mark) → allowing.IsEntry m → IsEntry m
-entry_out Bare e = e
-entry_out (Key k) e = tt
-entry_out Dash e = tt
+entry_out m h1 = search rules
 
 pub entries : (o : Outline) → HasEntries o → IsCollection o
 entries end b = absurd b
@@ -40,9 +36,7 @@ next n l end e h even = tt
 next n l (row k v b) e h even = same_entry l.mark k.mark e (same_rank l k (h ∙ sym even.0))
 
 whole_any : (m : Mark) (h : Option _) (o : Outline) → allowing.IsEntry m → IsWhole m h o
-whole_any Bare h o e = absurd e
-whole_any (Key k) h o e = tt
-whole_any Dash h o e = tt
+whole_any m h o h1 = search rules
 
 -- evenness
 pub even_right : (n : ℕ) (a b : Outline) → IsEven n (append_outline a b) → IsEven n b
@@ -68,13 +62,10 @@ rest_entries n (row l u a) b c e = rest_entries n a b (next n l (append_outline 
 
 -- two collections at one level are of one kind
 pub block_shape : (n : ℕ) (o p : Outline) (cs : Children) → HasEntries o → HasEntries p → IsEven n o → IsEven n p → shaped o cs ≡ shaped p cs
-block_shape n end p cs b c d e = absurd b
-block_shape n (row l u a) end cs b c d e = absurd c
-block_shape n (row l u a) (row k v w) cs b c d e = same_collection l.mark k.mark cs (same_rank l k (d.0 ∙ sym e.0))
+block_shape n o p cs h1 h2 h3 h4 = search (rules, same_collection, same_rank)
 
 pub block_value : (n : ℕ) (o p : Outline) (g : Children → Children) → HasEntries o → HasEntries p → IsEven n o → IsEven n p → children p ≡ g (children o) → value p ≡ within g (value o)
-block_value n o p g b c d e kids =
-    ap (shaped p) kids ∙ (block_shape n p o (g (children o)) c b e d ∙ within-shaped o g (children o) (entries o b))
+block_value n o p g b c d e kids = search (rules, block_shape, within-shaped, entries)
 
 -- items or entries that give way keep the others even
 pub even_replaced : (n : ℕ) (a b c d : Outline) → IsEven n (append_outline a (append_outline b c)) → IsEven n d → HasEntries (append_outline a (append_outline b c)) →

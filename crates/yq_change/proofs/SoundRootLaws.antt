@@ -1,15 +1,14 @@
 -- What a value put in, or one more, leaves of what is asked of a document's root.
-use Rattle.std.proofs.Common.{◌≡◌, ℕ, suc, ◌+◌, ◌-◌, ◌≤◌, max, List, [], ◌∷◌, ◌++◌, length, Option, Some, None, option_and_then, Bool, true, false, cond, refl, sym, ap, ◌∙◌}
+use Rattle.std.proofs.Common.{◌≡◌, ℕ, suc, ◌+◌, ◌-◌, ◌≤◌, max, List, [], ◌∷◌, ◌++◌, length, Option, Some, None, option_and_then, Bool, true, false, cond, refl, sym, ap, ◌∙◌, rules}
 use Rattle.std.proofs.Common.{subst, inl, inr, arith, append-nil, not, bytes_eq}
 use Rattle.std.proofs.lemmas.Bool.{and_parts, and_from, or_parts, or_from, not-true}
 use Rattle.std.proofs.lemmas.Option.{none-some, same_Some}
-use mathlib.Core.List.{cons≢nil}
 use Rattle.std.specs.List.{list_any}
 use Rattle.yq_flow_scalars.specs.Keys.{AreDistinct, with_key, keys_of, HasUniqueKeys, EachHasUniqueKeys, depth, deepest}
 use Rattle.yq_flow_scalars.specs.Paths.{Step, is_here, further, append_child, change, child_at, node_at, within}
-use Rattle.yq_flow_scalars.specs.Tree.{Label, Node, alias, scalar, list, map, Children, none, child, children_of}
+use Rattle.yq_flow_scalars.specs.Tree.{Label, Node, Children, none, child, children_of}
 use Rattle.yq_inline.specs.Inline.{depth_limit}
-use Rattle.yq_flow_scalars.specs.Anchors.{Name, Anchors, with_anchor, names_of, names_in, IsAmong}
+use Rattle.yq_flow_scalars.specs.Anchors.{Name, with_anchor, names_of, names_in, IsAmong}
 use Rattle.yq_lines.specs.Outline.{anchored}
 use Rattle.yq_flow_scalars.specs.Keys.{are_distinct}
 use Rattle.yq_lines.proofs.KeyLaws.{differs, distinct_is, is_distinct}
@@ -31,10 +30,7 @@ child_unique s (child l n cs) k e h = go (is_here s l) e (λ d. child_unique (fu
     go false e ih = ih e
 
 each_of : (n : Node) → HasUniqueKeys n → EachHasUniqueKeys (children_of n)
-each_of (alias name) h = tt
-each_of (scalar a k t) h = tt
-each_of (list a cs) h = h
-each_of (map a cs) h = h.1
+each_of n h1 = search rules
 
 pub unique_at : (steps : List Step) (n old : Node) → node_at steps n ≡ Some old → HasUniqueKeys n → HasUniqueKeys old
 unique_at [] n old e h = subst HasUniqueKeys (same_Some _ _ e) h
@@ -54,10 +50,7 @@ child_depth s (child l n cs) k e = go (is_here s l) e (λ d. child_depth (furthe
     go false e ih = let low = ih e in omega (arith, low, max_right (depth n) (deepest cs))
 
 inner_depth : (s : Step) (n k : Node) → child_at s (children_of n) ≡ Some k → suc (depth k) ≤ depth n
-inner_depth s (alias name) k e = absurd (none-some _ e)
-inner_depth s (scalar a i t) k e = absurd (none-some _ e)
-inner_depth s (list a cs) k e = let low = child_depth s cs k e in omega (arith, low)
-inner_depth s (map a cs) k e = let low = child_depth s cs k e in omega (arith, low)
+inner_depth s n k h1 = search (rules, none-some, child_depth)
 
 pub depth_at : (steps : List Step) (n old : Node) → node_at steps n ≡ Some old → length steps + depth old ≤ depth n
 depth_at [] n old e = let same : depth n ≡ depth old = ap depth (same_Some _ _ e) in omega (arith, same)
@@ -80,27 +73,13 @@ sound steps root old f front gone come back h there unique nested is new bare sp
 
 -- replaced
 own_names : (n : Node) → names_of n ≡ with_anchor (anchor_of n) [] ++ (inner_names n ++ [])
-own_names (alias name) = refl
-own_names (scalar a k t) = sym (append-nil (with_anchor a []))
-own_names (list a cs) = anchor_front a (names_in cs) ∙ ap (λ x. with_anchor a [] ++ x) (sym (append-nil (names_in cs)))
-own_names (map a cs) = anchor_front a (names_in cs) ∙ ap (λ x. with_anchor a [] ++ x) (sym (append-nil (names_in cs)))
+own_names n = search (rules, append-nil, anchor_front)
 
 nameless : (a : Option (List ℕ)) (v : Node) → names_of v ≡ [] → names_of (anchored a v) ≡ with_anchor a [] ++ ([] ++ [])
-nameless a (alias name) e = absurd (cons≢nil e)
-nameless None (scalar b k t) e = e
-nameless (Some a) (scalar b k t) e = refl
-nameless None (list b cs) e = e
-nameless (Some a) (list None cs) e = ap (λ x. Anchors a ∷ x) e
-nameless (Some a) (list (Some b) cs) e = absurd (cons≢nil e)
-nameless None (map b cs) e = e
-nameless (Some a) (map None cs) e = ap (λ x. Anchors a ∷ x) e
-nameless (Some a) (map (Some b) cs) e = absurd (cons≢nil e)
+nameless a v h1 = search rules
 
 anchored_unique : (a : Option (List ℕ)) (v : Node) → HasUniqueKeys v → HasUniqueKeys (anchored a v)
-anchored_unique a (alias name) h = h
-anchored_unique a (scalar b k t) h = h
-anchored_unique a (list b cs) h = h
-anchored_unique a (map b cs) h = h
+anchored_unique a v h1 = search rules
 
 pub replace_keeps : ReplaceKeeps
 replace_keeps steps root old v h there may =
@@ -114,10 +93,7 @@ names_more l v none e = ap (λ x. x ++ []) e
 names_more l v (child k n cs) e = ap (λ x. names_of n ++ x) (names_more l v cs e)
 
 append_names : (l : Label) (v n : Node) → names_of v ≡ [] → names_of (within (append_child l v) n) ≡ names_of n
-append_names l v (alias name) e = refl
-append_names l v (scalar a k t) e = refl
-append_names l v (list a cs) e = ap (with_anchor a) (names_more l v cs e)
-append_names l v (map a cs) e = ap (with_anchor a) (names_more l v cs e)
+append_names l v n h1 = search (rules, names_more)
 
 each_more : (l : Label) (v : Node) (cs : Children) → HasUniqueKeys v → EachHasUniqueKeys cs → EachHasUniqueKeys (append_child l v cs)
 each_more l v none h k = (h, tt)
@@ -136,10 +112,7 @@ deepest_more l v (child i n cs) =
     max_least (depth n) (deepest (append_child l v cs)) top (omega (arith, a, c)) (omega (arith, low, e))
 
 append_depth : (d : ℕ) (l : Label) (v n : Node) → depth n ≤ d → suc (depth v) ≤ d → depth (within (append_child l v) n) ≤ d
-append_depth d l v (alias name) h k = h
-append_depth d l v (scalar a i t) h k = h
-append_depth d l v (list a cs) h k = let low = deepest_more l v cs in let top = max_least (deepest cs) (depth v) (d - 1) (omega (arith, h)) (omega (arith, k)) in omega (arith, low, top, h)
-append_depth d l v (map a cs) h k = let low = deepest_more l v cs in let top = max_least (deepest cs) (depth v) (d - 1) (omega (arith, h)) (omega (arith, k)) in omega (arith, low, top, h)
+append_depth d l v n h1 h2 = search (rules, deepest_more, max_least)
 
 -- keys in order, with one more at the end
 with_append : (k : Option (List ℕ)) (xs ys : List (List ℕ)) → with_key k (xs ++ ys) ≡ with_key k xs ++ ys
@@ -166,10 +139,7 @@ key_more ks None h new = subst AreDistinct (sym (append-nil ks)) h
 key_more ks (Some x) h new = distinct_is (ks ++ (x ∷ [])) (distinct_more ks x (is_distinct ks h) new)
 
 append_unique : (l : Label) (v n : Node) → HasUniqueKeys n → HasUniqueKeys v → IsNewKey l.key (keys_of (children_of n)) → HasUniqueKeys (within (append_child l v) n)
-append_unique l v (alias name) h k new = h
-append_unique l v (scalar a i t) h k new = h
-append_unique l v (list a cs) h k new = each_more l v cs k h
-append_unique l v (map a cs) h k new = (subst AreDistinct (sym (keys_more l v cs)) (key_more (keys_of cs) l.key h.0 new), each_more l v cs k h.1)
+append_unique l v n h1 h2 h3 = search (rules, each_more, keys_more, key_more)
 
 -- a change that leaves the names as they are
 pub same_names : (steps : List Step) (root old : Node) (f : Node → Node) → IsSoundRoot root → node_at steps root ≡ Some old → HasUniqueKeys (f old) → length steps + depth (f old) ≤ depth_limit →

@@ -1,5 +1,5 @@
 -- What one less, or another label, leaves of what is asked of a document's root.
-use Rattle.std.proofs.Common.{◌≡◌, ℕ, suc, ◌≤◌, max, List, [], ◌++◌, Option, Some, None, Bool, true, false, cond, refl, sym, ap, ◌∙◌}
+use Rattle.std.proofs.Common.{◌≡◌, ℕ, suc, ◌≤◌, max, List, [], ◌++◌, Option, Some, None, Bool, true, false, cond, refl, sym, ap, ◌∙◌, rules}
 use Rattle.std.proofs.Common.{subst, arith, append_assoc, not, bytes_eq}
 use Rattle.std.proofs.lemmas.Bool.{and_parts, and_from, or_parts, or_from, not-true}
 use Rattle.std.proofs.lemmas.Option.{none-some, same_Some}
@@ -65,10 +65,7 @@ remove_unique s (list a cs) h = each_less s cs h
 remove_unique s (map a cs) h = (distinct_is (keys_of (remove_child s cs)) (distinct_less s cs (is_distinct (keys_of cs) h.0)), each_less s cs h.1)
 
 remove_depth : (s : Step) (n : Node) → depth (within (remove_child s) n) ≤ depth n
-remove_depth s (alias name) = omega arith
-remove_depth s (scalar a i t) = omega arith
-remove_depth s (list a cs) = let low = deepest_less s cs in omega (arith, low)
-remove_depth s (map a cs) = let low = deepest_less s cs in omega (arith, low)
+remove_depth s n = search (rules, deepest_less)
 
 -- the names around a node that is taken out
 record Without (s : Step) (cs : Children) (x : Node) : Type 0 where

@@ -1,5 +1,5 @@
 -- The rows of an item or entry that are found are those of the line to which steps lead, with the lines under it.
-use Rattle.std.proofs.Common.{◌≡◌, ◌≤◌, true, ℕ, zero, suc, ◌+◌, List, [], ◌∷◌, ◌++◌, take, drop, length, map, Option, Some, None, option_map, option_and_then, refl, sym, ap, ◌∙◌, subst, arith, length-append}
+use Rattle.std.proofs.Common.{◌≡◌, ◌≤◌, true, ℕ, zero, suc, ◌+◌, List, [], ◌∷◌, ◌++◌, take, drop, length, map, Option, Some, option_map, option_and_then, refl, sym, ap, ◌∙◌, subst, arith, length-append, rules}
 use Rattle.std.proofs.lemmas.List.{take-append-drop}
 use Rattle.std.proofs.lemmas.Option.{none-some, same_Some}
 use Rattle.std.specs.List.{slice_get}
@@ -49,12 +49,7 @@ row_agrees_at (x ∷ rs) (suc i) r h e = row_agrees_at rs i r h.1 e
 
 -- the line that was found, where it has a number
 found_of : (o : Option (FoundLine × List Step)) (m : ℕ) → option_and_then (λ x. found_line x.0 x.1) o ≡ Some m → (f : FoundLine) × (o ≡ Some (f, [])) × (length (lines_before f.place) ≡ m)
-found_of None m e = absurd (none-some _ e)
-found_of (Some y) m e = go y.0 y.1 e
-  where
-    go : (f : FoundLine) (left : List Step) → found_line f left ≡ Some m → (g : FoundLine) × (◌≡◌ {A = Option (FoundLine × List Step)} (Some (f, left)) (Some (g, []))) × (length (lines_before g.place) ≡ m)
-    go f [] e = (f, refl, same_Some _ _ e)
-    go f (t ∷ ts) e = absurd (none-some _ e)
+found_of o m h1 = search (rules, none-some, same_Some)
 
 module _ (n : ℕ) (s : Step) (ss : List Step) (c : Cut) (read : read_at (cut_text c) ≡ Some c) (d : PlacedPart) (at : placed_document n c ≡ Some d) (x : RowLine) (printed_line : row_line_of (s ∷ ss) d.part.rows ≡ Some x) where
   abbrev rs : List Row
@@ -147,6 +142,5 @@ pub entry_within : (n : ℕ) (s : Step) (ss : List Step) (c : Cut) (e : RowsOfEn
 entry_within n s ss c e is =
     let d = bind_some (placed_document n c) is in
     let x = map_some (row_line_of (s ∷ ss) d.0.part.rows) d.2 in
-    let row : row_of_path n (s ∷ ss) c ≡ Some (placed_row d.0 x.0) =
-    ap (λ (o : Option PlacedPart). o >>= λ q. option_map (placed_row q) (row_line_of (s ∷ ss) q.part.rows)) d.1 ∙ ap (option_map (placed_row d.0)) x.1 in
+    let row : row_of_path n (s ∷ ss) c ≡ Some (placed_row d.0 x.0) = search (rules, x, d) in
     subst (λ (q : RowsOfEntry). q.line ≤ length q.row.dashes) x.2 (line_within n (s ∷ ss) c (placed_row d.0 x.0) row)

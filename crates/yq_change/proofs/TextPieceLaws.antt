@@ -1,5 +1,5 @@
 -- Pieces of a text, joined and cut.
-use Rattle.std.proofs.Common.{arith, ◌≡◌, ℕ, true, false, List, [], ◌∷◌, ◌++◌, length, refl, sym, ap, ◌∙◌, subst, append_assoc, length-append}
+use Rattle.std.proofs.Common.{arith, ◌≡◌, ℕ, true, false, List, [], ◌∷◌, ◌++◌, length, refl, sym, ◌∙◌, subst, append_assoc, length-append, rules}
 use Rattle.std.proofs.Math.Seq.{take-append_seam, drop-append_seam}
 use Rattle.std.proofs.lemmas.Str.{IsCharBoundary-from_take, IsUtf8-append, IsUtf8-drop, IsUtf8-from_is_utf8, IsUtf8-take}
 use Rattle.std.proofs.lemmas.Bool.{and_from, and_parts}
@@ -38,10 +38,7 @@ data MayCut : List ℕ → List ℕ → Type 0 where
   behind : {a b : List ℕ} → EndsBlack a → MayCut a b
 
 pairs_cut_at : (a b : List ℕ) → MayCut a b → pairs_returns (a ++ b) ≡ true → pairs_returns a ≡ true
-pairs_cut_at a b (before n) h = pairs_front a b n h
-pairs_cut_at a b (behind e) h =
-    let split : a ++ b ≡ e.front ++ (e.last ∷ b) = ap (λ (q : List ℕ). q ++ b) e.is ∙ append_assoc e.front (e.last ∷ []) b in
-    ap pairs_returns e.is ∙ pairs_cut e.front b e.last e.no_return (ap pairs_returns (sym split) ∙ h)
+pairs_cut_at a b h1 h2 = search (rules, pairs_front, append_assoc, pairs_cut)
 
 -- behind a text that is UTF-8
 pub piece_back : (a b : List ℕ) → IsUtf8 a → IsPiece (a ++ b) → IsPiece b

@@ -1,5 +1,5 @@
 -- The rows under an item or entry, and their lines, where what is written behind its mark gives way to another content.
-use Rattle.std.proofs.Common.{◌≡◌, ℕ, suc, ◌+◌, List, [], ◌∷◌, ◌++◌, length, true, refl, sym, ap, ◌∙◌, subst, append_assoc, length-append}
+use Rattle.std.proofs.Common.{◌≡◌, ℕ, suc, ◌+◌, List, [], ◌∷◌, ◌++◌, length, true, sym, ap, ◌∙◌, append_assoc, length-append, rules}
 use mathlib.Core.List.{head-eq_of_cons-eq, tail-eq_of_cons-eq}
 use Rattle.yq_flow_scalars.specs.Paths.{Step}
 use Rattle.yq_lines.specs.Comments.{head_comment}
@@ -8,12 +8,10 @@ use Rattle.yq_lines.specs.Outline.{Line, flatten, IsEven}
 use Rattle.yq_lines.specs.Places.{lines_before, lines_after}
 use Rattle.yq_lines.proofs.Decides.{flatten-group}
 use Rattle.yq_rows.specs.Grammar.{is_entry}
-use Rattle.yq_rows.specs.Rows as rows
 use Rattle.yq_rows.specs.Rows.{Content, Row, mark_column, Part}
-use Rattle.yq_walk.specs.Lines.{mark_of, mark_line, lines_of}
+use Rattle.yq_walk.specs.Lines.{mark_line, lines_of}
 use Rattle.yq_documents.specs.Reading.{outline_of}
 use Rattle.yq_change.specs.Moved.{dash_lines}
-use Rattle.yq_change.specs.Siblings.{IsEntry}
 use Rattle.yq_change.specs.Unders.{HasUnder}
 use Rattle.yq_change.proofs.AppendLaws.{around}
 use Rattle.yq_change.proofs.LineLaws.{above_mark, dashes_count, mark_behind}
@@ -56,9 +54,4 @@ module _ (p : Part) (s : Step) (ss : List Step) (front : List Row) (r : Row) (un
   under_is = tail-eq_of_cons-eq parts.1
 
   pub is_mark : is_entry r.mark ≡ true
-  is_mark = go r.mark (subst (λ (l : Line). IsEntry l.mark) (sym line_is) (found_is_entry (level_or 0 (outline_of p)) p s ss w.found even w.is))
-    where
-      go : (m : rows.Mark) → IsEntry (mark_of m) → is_entry m ≡ true
-      go rows.Bare e = absurd e
-      go rows.Dash e = refl
-      go (rows.Key key colon) e = refl
+  is_mark = search (rules, line_is, found_is_entry)

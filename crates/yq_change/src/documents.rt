@@ -32,6 +32,7 @@ pub fn conditions_changed()
 {}
 
 /// A text with another part for one document reads as the same documents but for that one.
+#[tactic(auto, using(crate::proofs::ChangedLaws::document_put, crate::proofs::ChangedLaws::part_stands, crate::proofs::ChangedLaws::lead_is_first))]
 pub fn document_changed()
     ensures put { DocumentPut }
     ensures part { PartStands }
@@ -53,6 +54,7 @@ pub fn rows_moved()
 {}
 
 /// The operations leave a document's root as is asked.
+#[tactic(auto, using(crate::proofs::SoundRootLaws::replace_keeps, crate::proofs::SoundRootLaws::append_keeps, crate::proofs::SoundRootLess::remove_keeps))]
 pub fn operations_keep()
     ensures replaced { ReplaceKeeps }
     ensures appended { AppendKeeps }
@@ -70,6 +72,7 @@ pub fn text_changed()
 {}
 
 /// What is known of a document before the change.
+#[tactic(auto, using(crate::proofs::EditedLaws::old_is_sound, crate::proofs::EditedLaws::lines_are_there, crate::proofs::EditedLaws::old_is_even))]
 pub fn document_known()
     ensures sound { OldIsSound }
     ensures even { OldIsEven }
@@ -77,6 +80,7 @@ pub fn document_known()
 {}
 
 /// Leads and first lines.
+#[tactic(auto, using(crate::proofs::EditedLaws::lead_is_above, crate::proofs::EditedLaws::root_has_lead))]
 pub fn leads()
     ensures above { LeadIsAbove }
     ensures root { RootHasLead }
@@ -103,6 +107,7 @@ pub fn lines_placed()
 {}
 
 /// A changed text, told as a tree with the lead that goes with it.
+#[tactic(auto, using(crate::proofs::AfterLaws::end_is_change))]
 pub fn tree_after()
     ensures { EndIsChange }
 {}

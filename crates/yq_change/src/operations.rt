@@ -7,17 +7,14 @@ ghost use Rattle.yq_change.specs.Contents.{LowerContentReplaced, RootContentRepl
 ghost use Rattle.yq_change.specs.DocumentRows.{DocumentKnown, DocumentSpliced, PartNumbered, RowsPut};
 ghost use Rattle.yq_change.specs.LineComments.{LineCommented};
 ghost use Rattle.yq_change.specs.PathRows.{PathHeadCommented, PathIsEntry, PathLineCommented};
-ghost use Rattle.yq_change.specs.PathTails.{PathTailPut};
-ghost use Rattle.yq_change.specs.PlacedParts.{DocumentStandsAt};
 ghost use Rattle.yq_change.specs.RowComments.{BlockCommented, ContentCommented, RowReplaces};
 ghost use Rattle.yq_change.specs.EntryRows.{EntryRows};
-ghost use Rattle.yq_change.specs.FlowKept.{FlowKeys, FlowRooms, LeftKeys};
 ghost use Rattle.yq_change.specs.FlowRows.{FlowEdited, FlowFound, FlowStands, RowTexts};
 ghost use Rattle.yq_change.specs.Replaces.{DocumentReplaced, DocumentRooted, FirstRowDropped, FirstRowMoved, NodeRowsReplaced, RootRowsReplaced};
-ghost use Rattle.yq_change.specs.LineFronts.{CleanCut, LineEndsClean};
 ghost use Rattle.yq_change.specs.LineRows.{EntriesApart, EvenClosed, LinesApart, RowBegins, RowLineSplits};
 
 /// Rows of a document exchanged, by the document's number among the parts.
+#[tactic(auto, using(crate::proofs::PartLaws::part_numbered, crate::proofs::PartLaws::rows_put, crate::proofs::PartLaws::document_spliced))]
 pub fn rows_put()
     ensures numbered { PartNumbered }
     ensures put { RowsPut }
@@ -26,6 +23,7 @@ pub fn rows_put()
 {}
 
 /// Lines by their rows.
+#[tactic(auto, using(crate::proofs::LineLaws::row_line_splits, crate::proofs::ApartLaws::row_begins, crate::proofs::ApartLaws::even_closed))]
 pub fn lines_in_rows()
     ensures equal_room { RowLineSplits }
     ensures begins { RowBegins }
@@ -62,6 +60,7 @@ pub fn at_paths()
 {}
 
 /// The rows of a collection's items or entries, and of one of them.
+#[tactic(auto, using(crate::proofs::RowsLaws::entry_rows))]
 pub fn rows_of_entries()
     ensures { EntryRows }
 {}
@@ -93,19 +92,6 @@ pub fn row_commented()
     ensures block { BlockCommented }
 {}
 
-/// The end of the line of an item or entry exchanged, also in the header of a block scalar; and where
-/// a document stands in its text.
-pub fn line_commented()
-    ensures tail { PathTailPut }
-    ensures stands { DocumentStandsAt }
-{}
-
-/// A text cut before the end of a line.
-pub fn line_fronts()
-    ensures cut { CleanCut }
-    ensures clean { LineEndsClean }
-{}
-
 /// What is written in a row that is alone on its line gives way to a value: under a key or dash, or
 /// as a root.
 pub fn content_replaced()
@@ -114,16 +100,10 @@ pub fn content_replaced()
 {}
 
 /// A flow collection at a path, and its items or entries changed.
+#[tactic(auto, using(crate::proofs::FlowRowLaws::flow_stands, crate::proofs::FlowPathLaws::flow_found, crate::proofs::FlowPathLaws::row_texts))]
 pub fn flow_changed()
     ensures found { FlowFound }
     ensures texts { RowTexts }
     ensures stands { FlowStands }
     ensures edited { FlowEdited }
-{}
-
-/// What stays of the document.
-pub fn flow_kept()
-    ensures rooms { FlowRooms }
-    ensures keys { FlowKeys }
-    ensures left { LeftKeys }
 {}

@@ -1,13 +1,8 @@
 //! Laws on the rows in which items and entries stand.
-ghost use Rattle.yq_change.specs.RowStays.{RowsBehindStay};
 ghost use Rattle.yq_change.specs.StandingLaws.{RowsStand};
 
 /// The rows of an item or entry are those of its line, with the lines under it.
+#[tactic(auto, using(crate::proofs::StandingRows::rows_stand))]
 pub fn rows_stand()
     ensures { RowsStand }
-{}
-
-/// Rows behind some that gave way to others of the same shapes are as they were, and paths lead to them still.
-pub fn rows_behind_stay()
-    ensures { RowsBehindStay }
 {}

@@ -1,5 +1,5 @@
 -- The collection of a node, exchanged for another one.
-use Rattle.std.proofs.Common.{◌≡◌, inl, inr, ℕ, zero, suc, ◌+◌, ◌≤◌, Bool, true, false, not, eqb, cond, List, [], ◌∷◌, ◌++◌, length, Option, Some, None, refl, sym, ap, ◌∙◌, subst, arith, append_assoc}
+use Rattle.std.proofs.Common.{◌≡◌, inl, inr, ℕ, zero, suc, ◌+◌, ◌≤◌, Bool, true, false, not, eqb, cond, List, [], ◌∷◌, ◌++◌, length, Option, Some, None, refl, sym, ap, ◌∙◌, subst, arith, append_assoc, rules}
 use Rattle.std.proofs.lemmas.Bool.{false≢true, cond_both}
 use Rattle.std.proofs.lemmas.Option.{same_Some}
 use Rattle.yq_flow_scalars.specs.Paths.{within}
@@ -40,10 +40,7 @@ collection_within : (k : ℕ) (h : tree.Children → tree.Children) (cs ds : tre
 collection_within k h cs ds e = elim (eqb k 125) as (λ c. cond c (tree.map None ds) (tree.list None ds) ≡ within h (cond c (tree.map None cs) (tree.list None cs))) [ true ↦ ap (tree.map None) e | false ↦ ap (tree.list None) e ]
 
 named_within : (n : List ℕ) (h : tree.Children → tree.Children) (v : tree.Node) → with_name n (within h v) ≡ within h (with_name n v)
-named_within n h (tree.alias m) = refl
-named_within n h (tree.scalar a kind t) = refl
-named_within n h (tree.list a cs) = refl
-named_within n h (tree.map a cs) = refl
+named_within n h v = search rules
 
 -- behind an anchor
 name_open : (n g : List ℕ) (k : ℕ) (t u : List ℕ) → IsName n (g ++ (open_of k ∷ t)) → IsName n (g ++ (open_of k ∷ u))

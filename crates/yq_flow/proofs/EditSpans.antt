@@ -1,5 +1,5 @@
 -- The bytes of an edit of a flow collection go from one whole character to another.
-use Rattle.std.proofs.Common.{◌≡◌, ◌⊎◌, inl, inr, ⊎_elim, ℕ, zero, suc, ◌-◌, ◌<◌, Bool, true, false, ◌&&◌, ◌||◌, eqb, cond, eqb-true, eq-eqb, List, [], ◌∷◌, ◌++◌, length, drop, Option, Some, None, option_map, refl, ap, ◌∙◌, subst, arith}
+use Rattle.std.proofs.Common.{◌≡◌, ◌⊎◌, inl, inr, ⊎_elim, ℕ, zero, suc, ◌-◌, ◌<◌, Bool, true, false, cond, eqb-true, eq-eqb, List, [], ◌∷◌, ◌++◌, length, drop, Option, Some, None, option_map, refl, ap, ◌∙◌, subst, arith, rules}
 use Rattle.std.proofs.lemmas.Bool.{false≢true, and_parts, or_cases}
 use Rattle.std.proofs.lemmas.Option.{none-some, same_Some}
 use Rattle.std.proofs.lemmas.Str.{IsCharBoundary-before_ascii}
@@ -7,13 +7,13 @@ use Rattle.std.specs.Option.{option_or}
 use Rattle.std.specs.Prelude.{get_or}
 use Rattle.std.specs.Str.{IsCharBoundary}
 use Rattle.yq_flow_scalars.specs.Paths.{Step, is_here, further}
-use Rattle.yq_flow_scalars.specs.Text.{front, is_feed, is_space}
+use Rattle.yq_flow_scalars.specs.Text.{is_space}
 use Rattle.yq_flow_scalars.specs.declared.piece.Piece.{Piece}
 use Rattle.yq_inline.specs.Alike.{EndsItem}
 use Rattle.yq_inline.specs.Entries.{end_of, entry_start, parts_in}
 use Rattle.yq_flow.specs.FlowPlaces.{PlacedEdit, first_start, marks_before, only_end, past_gap, remove_before, remove_end, remove_part, remove_place, replace_place}
 use Rattle.yq_inline.specs.Nodes.{first_is, is_close}
-use Rattle.yq_inline.specs.Places.{Placed, placed, Content, nothing, name, text, sequence, mapping, Parts, end, part}
+use Rattle.yq_inline.specs.Places.{Placed, placed, Content, Parts, end, part}
 use Rattle.yq_inline.specs.Spans.{ContentHasSpans, HasKeySpan, HasSpans, PartsHaveSpans}
 use Rattle.yq_inline.specs.Trees.{inner, unplaced_key}
 use Rattle.yq_inline.proofs.EndLaws.{ends_by}
@@ -26,11 +26,7 @@ EditIsSpan t e = IsCharBoundary t e.start × IsCharBoundary t e.end
 
 -- another content
 pub replace_spans : (t : List ℕ) (p : Placed) → HasSpans t p → EditIsSpan t (replace_place p)
-replace_spans t (placed a s c e nothing) h = (h.1.ends, h.1.ends)
-replace_spans t (placed a s c e (name n)) h = (h.0.ends, h.1.ends)
-replace_spans t (placed a s c e (text y piece)) h = (h.0.ends, h.1.ends)
-replace_spans t (placed a s c e (sequence parts)) h = (h.0.ends, h.1.ends)
-replace_spans t (placed a s c e (mapping parts)) h = (h.0.ends, h.1.ends)
+replace_spans t p h1 = search rules
 
 -- before an ASCII byte
 ascii_boundary : (t : List ℕ) (n k : ℕ) → k < 128 → first_is k (drop n t) ≡ true → IsCharBoundary t n
@@ -44,10 +40,7 @@ ascii_boundary t n k low h = let x = there t n h in IsCharBoundary-before_ascii 
 
 -- where an item or entry ends
 space_low : (b : ℕ) (r : List ℕ) → is_space (b ∷ r) ≡ true → b < 128
-space_low b r h = ⊎_elim {0, 0, 0}
-    (λ w. ⊎_elim {0, 0, 0} (λ e. omega (arith, eqb-true b 32 e)) (λ e. omega (arith, eqb-true b 9 e)) (or_cases (eqb b 32) (eqb b 9) w))
-    (λ w. ⊎_elim {0, 0, 0} (λ e. omega (arith, eqb-true b 10 e)) (λ e. omega (arith, eqb-true b 13 (and_parts (eqb b 13) (front is_feed r) e).0)) (or_cases (eqb b 10) (eqb b 13 && front is_feed r) w))
-    (or_cases (eqb b 32 || eqb b 9) (eqb b 10 || (eqb b 13 && front is_feed r)) h)
+space_low b r h = search (rules, ⊎_elim, eqb-true, or_cases, and_parts)
 
 pub ends_bound : (k : ℕ) (t a u : List ℕ) → is_close k ≡ true → EndsItem k u → t ≡ a ++ u → IsCharBoundary t (length t - length u)
 ends_bound k t a u c ends is =
@@ -79,13 +72,7 @@ before_spans t start end e b h is = absurd (none-some _ is)
 before_spans t start (part key n ps) e b h is = subst (EditIsSpan t) (same_Some _ _ is) (b, entry_begins t key n h.0 h.1)
 
 only_spans : (t : List ℕ) (from before : ℕ) (s : Step) (ps : Parts) (e : PlacedEdit) → IsCharBoundary t before → PartsHaveSpans t ps → option_map (remove_end t from before) (only_end s ps) ≡ Some e → EditIsSpan t e
-only_spans t from before s end e b h is = absurd (none-some _ is)
-only_spans t from before s (part key n (part j m ps)) e b h is = absurd (none-some _ is)
-only_spans t from before s (part key n end) e b h is = go (is_here s (inner (unplaced_key key))) is
-  where
-    go : (c : Bool) → option_map (remove_end t from before) (cond c (Some (end_of n)) None) ≡ Some e → EditIsSpan t e
-    go true is = subst (EditIsSpan t) (same_Some _ _ is) (end_spans t from before (end_of n) b (node_ends t n h.1))
-    go false is = absurd (none-some _ is)
+only_spans t from before s ps e h1 h2 h3 = search (rules, none-some, same_Some, end_spans, node_ends)
 
 part_spans : (t : List ℕ) (s : Step) (ps : Parts) (e : PlacedEdit) → PartsHaveSpans t ps → remove_part t s ps ≡ Some e → EditIsSpan t e
 part_spans t s end e h is = absurd (none-some _ is)
@@ -101,11 +88,7 @@ part_spans t s (part key n ps) e h is = go (is_here s (inner (unplaced_key key))
     go false again is = other again (either _ _ is)
 
 content_spans : (t : List ℕ) (f : Content) → ContentHasSpans t f → PartsHaveSpans t (parts_in f)
-content_spans t nothing h = tt
-content_spans t (name n) h = tt
-content_spans t (text y piece) h = tt
-content_spans t (sequence parts) h = h
-content_spans t (mapping parts) h = h
+content_spans t f h1 = search rules
 
 pub remove_spans : (t : List ℕ) (s : Step) (p : Placed) (e : PlacedEdit) → HasSpans t p → remove_place t s p ≡ Some e → EditIsSpan t e
 remove_spans t s (placed a b c x f) e h is = part_spans t s (parts_in f) e (content_spans t f h.2) is

@@ -1,5 +1,5 @@
 -- An item replaced, and one added behind the last.
-use Rattle.std.proofs.Common.{◌≡◌, ℕ, Bool, true, false, not, ◌&&◌, ◌||◌, eqb, cond, List, [], ◌∷◌, ◌++◌, Some, None, refl, sym, ap, ◌∙◌, subst, arith, append_assoc}
+use Rattle.std.proofs.Common.{◌≡◌, ℕ, Bool, true, false, not, ◌&&◌, ◌||◌, cond, List, [], ◌∷◌, ◌++◌, Some, None, refl, sym, ap, ◌∙◌, subst, arith, append_assoc, rules}
 use Rattle.std.proofs.Math.Bool.{and-false}
 use Rattle.std.proofs.lemmas.Bool.{false≢true, or_right, not-true, or_parts}
 use Rattle.std.proofs.lemmas.Option.{same_Some}
@@ -9,11 +9,10 @@ use Rattle.yq_flow_scalars.specs.Text.{front, is_white, is_feed, is_return, is_s
 use Rattle.yq_flow_scalars.proofs.Bools.{at_byte}
 use Rattle.yq_inline.specs.Alike.{Alike, stop, EndsItem, fresh, KeepsApart}
 use Rattle.yq_inline.specs.Gaps.{IsInlineGap}
-use Rattle.yq_inline.specs.Nodes.{Key, bare, keyed, Sep, last, comma, Node, Items, none, item, key_text, sep_text, node_text, items_text, first_is, begins_content, begins_node, is_close, IsInlineKey, IsSep, is_bare, is_keyed, IsNode, AreItems}
+use Rattle.yq_inline.specs.Nodes.{Key, bare, keyed, Sep, last, comma, Node, Items, none, item, key_text, sep_text, node_text, items_text, first_is, begins_node, is_close, IsInlineKey, IsSep, is_bare, is_keyed, IsNode, AreItems}
 use Rattle.yq_inline.specs.Entries.{EntryPieces, item_at}
 use Rattle.yq_flow.specs.FlowEdits.{Becomes, content_node, space_for, put_content, put_item, put_value, FitsNode, add_item, is_none, behind_last, FitsItem}
 use Rattle.yq_flow.specs.Removals.{is_marks, ends_marked, ends_return, IsApartFrom}
-use Rattle.yq_inline.specs.Scalars.{begins_scalar}
 use Rattle.yq_inline.specs.Trees.{inner, key_content, tree_of, items_tree}
 use Rattle.yq_inline.proofs.Alikes.{no_first, no_second, no_third, alike_append}
 use Rattle.yq_inline.proofs.AlikePieces.{gap_alike}
@@ -57,10 +56,7 @@ item_keeps d k f key n t u c e h keeps x y =
 
 -- an item's text begins as a node
 pub item_begins : (d k : ℕ) (key : Key) (n : Node) (r : List ℕ) → IsInlineKey k key (node_text n r) → (is_keyed key || not (is_bare n)) ≡ true → IsNode true (Some 0) d n r → begins_node true (key_text key (node_text n r)) ≡ true
-item_begins d k bare n r h s x = some_begins true (Some 0) d n r (not-true (is_bare n) s) x
-item_begins d k (keyed p b g) n r h s x =
-    let t : List ℕ = p ++ (b ++ (58 ∷ (g ++ node_text n r))) in
-    or_right (first_is 38 t) (begins_content true t) (or_right (first_is 42 t) _ (or_right (first_is 91 t) _ (or_right (first_is 123 t) (begins_scalar true t) (scalar_begins true None p (b ++ (58 ∷ (g ++ node_text n r))) h.1))))
+item_begins d k key n r h1 h2 h3 = search (rules, some_begins, not-true, or_right, scalar_begins)
 
 -- bytes before an item's text
 pub put_before : (p t u old new behind : List ℕ) → Becomes t u old new behind → Becomes (p ++ t) (p ++ u) old new behind
@@ -143,26 +139,11 @@ ends_mark k t c e = ends_by Unmarked k t c e (λ r. record { dash = refl; dot = 
 
 -- no document marker is in front
 pub marker_append : (t rest : List ℕ) → begins_marker t ≡ false → Unmarked rest → is_marker (t ++ rest) ≡ false
-marker_append [] [] h m = refl
-marker_append [] (b ∷ rest) h m = no_first b rest m.dash m.dot
-marker_append (a ∷ []) [] h m = refl
-marker_append (a ∷ []) (b ∷ rest) h m = no_second a b rest m.dash m.dot
-marker_append (a ∷ b ∷ []) [] h m = refl
-marker_append (a ∷ b ∷ []) (c ∷ rest) h m = no_third a b c rest m.dash m.dot
-marker_append (a ∷ b ∷ c ∷ t) rest h m = rw h refl
+marker_append t rest h1 h2 = search (rules, no_first, no_second, no_third)
 
 -- whether a marker is in front is told by a text before what begins with neither
 pub marks_own : (t rest : List ℕ) → Unmarked rest → begins_marker (t ++ rest) ≡ begins_marker t
-marks_own [] [] m = refl
-marks_own [] (a ∷ []) m = refl
-marks_own [] (a ∷ b ∷ []) m = refl
-marks_own [] (a ∷ b ∷ c ∷ rest) m = rw (m.dash, m.dot) refl
-marks_own (a ∷ []) [] m = refl
-marks_own (a ∷ []) (b ∷ []) m = refl
-marks_own (a ∷ []) (b ∷ c ∷ rest) m = rw (m.dash, m.dot, and-false (eqb a 45), and-false (eqb a 46)) refl
-marks_own (a ∷ b ∷ []) [] m = refl
-marks_own (a ∷ b ∷ []) (c ∷ rest) m = rw (m.dash, m.dot, and-false (eqb a 45 && eqb b 45), and-false (eqb a 46 && eqb b 46)) refl
-marks_own (a ∷ b ∷ c ∷ t) rest m = refl
+marks_own t rest h1 = search (rules, and-false)
 
 byte_on : (b : ℕ) (t u : List ℕ) → (is_return b && front is_feed u) ≡ false → is_space (b ∷ t) ≡ false → is_space (b ∷ u) ≡ false
 byte_on b t u r h = let x = or_parts (is_white b) (is_feed b || (is_return b && front is_feed t)) h in let y = or_parts (is_feed b) (is_return b && front is_feed t) x.1 in rw (x.0, y.0, r) refl
@@ -174,10 +155,7 @@ marker_on line b [] t (x ∷ u) m n on r l h = no_second b x u m.dash m.dot
 marker_on line b (c ∷ []) t [] m n on r l h = refl
 marker_on line b (c ∷ []) t (x ∷ u) m n on r l h = no_third b c x u m.dash m.dot
 marker_on line b (c ∷ e ∷ []) t u m n on r l h = subst (λ (v : Bool). ((v && is_marks (b ∷ c ∷ e ∷ [])) && separates u) ≡ false) l n
-marker_on line b (c ∷ e ∷ x ∷ []) t u m n on r l h = go ((eqb b 45 && eqb c 45 && eqb e 45) || (eqb b 46 && eqb c 46 && eqb e 46)) h where
-  go : (v : Bool) → (v && is_space (x ∷ t)) ≡ false → (v && is_space (x ∷ u)) ≡ false
-  go true y = on x r y
-  go false y = refl
+marker_on line b (c ∷ e ∷ x ∷ []) t u m n on r l h = search (rules, no_second, no_third)
 marker_on line b (c ∷ e ∷ x ∷ y ∷ p) t u m n on r l h = h
 
 pub keeps_from : (line : Bool) (p t u : List ℕ) → Unmarked u → IsApartFrom line p u → KeepsApart line p t u

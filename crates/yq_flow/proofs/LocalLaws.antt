@@ -1,5 +1,5 @@
 -- Items of one collection, edited.
-use Rattle.std.proofs.Common.{◌≡◌, inl, ℕ, true, false, not, ◌&&◌, ◌||◌, eqb, cond, List, [], ◌∷◌, ◌++◌, Option, Some, None, refl, sym, ap, ◌∙◌, subst, append_assoc, Bool}
+use Rattle.std.proofs.Common.{◌≡◌, inl, ℕ, true, false, not, ◌&&◌, ◌||◌, eqb, cond, List, [], ◌∷◌, ◌++◌, Option, Some, None, refl, sym, ap, ◌∙◌, subst, append_assoc, Bool, rules}
 use Rattle.std.proofs.Math.Bool.{and-false, or-true}
 use Rattle.std.proofs.lemmas.Bool.{false≢true, or_from}
 use Rattle.yq_flow_scalars.specs.Plain.{is_safe}
@@ -86,8 +86,7 @@ swap_text key n m rest = record {
 }
 
 anchor_text : (key : Key) (n g h : List ℕ) (x : List ℕ) → key_text key (38 ∷ (n ++ (g ++ x))) ≡ (key_text key [] ++ (38 ∷ (n ++ g))) ++ x
-anchor_text key n g h x =
-    key_append key [] (38 ∷ (n ++ (g ++ x))) ∙ (ap (λ l. key_text key [] ++ (38 ∷ l)) (sym (append_assoc n g x)) ∙ sym (append_assoc (key_text key []) (38 ∷ (n ++ g)) x))
+anchor_text key n g h x = search (rules, key_append, append_assoc)
 
 name_again : (n g x y : List ℕ) → not (is_empty g) ≡ true → IsName n (g ++ x) → IsName n (g ++ y)
 name_again n [] x y s h = absurd (false≢true s)

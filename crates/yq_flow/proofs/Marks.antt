@@ -1,5 +1,5 @@
 -- Lines and document markers before a place of a text, and in its pieces.
-use Rattle.std.proofs.Common.{◌≡◌, ℕ, suc, ◌+◌, ◌-◌, Bool, true, false, ◌&&◌, ◌||◌, nat_le, nat_lt, List, [], ◌∷◌, ◌++◌, length, drop, refl, sym, ap, ◌∙◌, arith, append_assoc, length-append}
+use Rattle.std.proofs.Common.{◌≡◌, ℕ, suc, ◌+◌, ◌-◌, Bool, true, false, ◌&&◌, ◌||◌, nat_le, nat_lt, List, [], ◌∷◌, ◌++◌, length, drop, refl, sym, ap, ◌∙◌, arith, append_assoc, length-append, rules}
 use Rattle.std.proofs.Math.Seq.{drop-append_seam}
 use Rattle.std.proofs.lemmas.Bool.{le-leb, lt-ltb}
 use Rattle.yq_flow_scalars.specs.PlainText.{begins_marker}
@@ -23,17 +23,10 @@ line_behind (c ∷ g) w b x at h =
     ap (λ t. behind_feed t at) moved ∙ line_behind g (w ++ (b ∷ [])) c x at (omega (arith, h, length-append w (b ∷ [])))
 
 no_more : (z a b : Bool) → z ≡ (z || ((a && false) || ((b && false) || false)))
-no_more true a b = refl
-no_more false true true = refl
-no_more false true false = refl
-no_more false false true = refl
-no_more false false false = refl
+no_more z a b = search rules
 
 no_two : (z a : Bool) → false ≡ ((z && false) || ((a && false) || false))
-no_two true true = refl
-no_two true false = refl
-no_two false true = refl
-no_two false false = refl
+no_two z a = search rules
 
 no_one : (z : Bool) → false ≡ ((z && false) || false)
 no_one true = refl

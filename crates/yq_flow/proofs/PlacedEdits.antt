@@ -1,5 +1,5 @@
 -- Where another content, and one more item or entry, are written: in the bytes of the edit.
-use Rattle.std.proofs.Common.{◌≡◌, ℕ, suc, ◌+◌, ◌-◌, ◌≤◌, min, Bool, true, false, eqb, cond, List, [], ◌∷◌, ◌++◌, length, Option, Some, None, refl, sym, ap, ◌∙◌, subst, arith}
+use Rattle.std.proofs.Common.{◌≡◌, ℕ, suc, ◌+◌, ◌-◌, ◌≤◌, min, Bool, true, false, eqb, cond, List, [], ◌∷◌, ◌++◌, length, Option, Some, None, refl, sym, ap, ◌∙◌, subst, arith, rules}
 use Rattle.std.proofs.lemmas.Bool.{false≢true}
 use Rattle.std.proofs.lemmas.Option.{same_Some}
 use Rattle.yq_flow_scalars.specs.Paths.{Step}
@@ -21,8 +21,7 @@ old_edit total t rest = record { start = total - length t; end = total - length 
 
 coll_placed : (total : ℕ) (k : ℕ) (t rest : List ℕ) (parts : Parts) (e : ℕ) → e ≡ total - length rest → replace_at e (place_in (holder k parts) (total - length t) (total - length rest)) ≡ old_edit total t rest
 unfolding old_edit
-coll_placed total k t rest parts e h =
-    elim (eqb k 125) as (λ b. replace_at e (place_in (cond b (mapping parts) (sequence parts)) (total - length t) (total - length rest)) ≡ old_edit total t rest) [ true ↦ refl | false ↦ refl ]
+coll_placed total k t rest parts e h = search (rules, old_edit)
 
 content_edited : (flow : Bool) (spaces : Option ℕ) (d total : ℕ) (n : Node) (rest : List ℕ) → IsNode flow spaces d n rest → replace_place (locate total n rest) ≡ content_edit total (content_node n) rest
 unfolding locate IsNode content_edit old_edit node_text

@@ -1,5 +1,5 @@
 -- Edits of a collection inside an inline node: an item or entry taken out.
-use Rattle.std.proofs.Common.{◌≡◌, ◌⊎◌, inl, inr, ℕ, Bool, true, false, ◌&&◌, cond, List, [], ◌∷◌, ◌++◌, Some, None, option_map, refl, sym, ap, ◌∙◌, subst, append_assoc, append-nil}
+use Rattle.std.proofs.Common.{◌≡◌, ◌⊎◌, inl, inr, ℕ, Bool, true, false, ◌&&◌, cond, List, [], ◌∷◌, ◌++◌, Some, None, option_map, refl, sym, ap, ◌∙◌, subst, append_assoc, append-nil, rules}
 use Rattle.std.proofs.lemmas.Bool.{false≢true, and_parts}
 use Rattle.std.proofs.lemmas.List.{append_cancel_right}
 use Rattle.std.proofs.lemmas.Option.{none-some, same_Some}
@@ -9,7 +9,7 @@ use Rattle.yq_flow_scalars.specs.Paths.{Step, is_here, further, remove_child, wi
 use Rattle.yq_flow_scalars.specs.PlainText.{begins_marker}
 use Rattle.yq_flow_scalars.specs.Text.{front, is_feed, is_marker}
 use Rattle.yq_inline.specs.declared.gap.Before.{Before}
-use Rattle.yq_inline.specs.declared.gap.Before.TheVariants.{Token, White, Break, Comment}
+use Rattle.yq_inline.specs.declared.gap.Before.TheVariants.{Token, White, Break}
 use Rattle.yq_inline.specs.Alike.{stop, fresh}
 use Rattle.yq_inline.specs.Collections.{CollAt, IsCollAt}
 use Rattle.yq_inline.specs.Gaps.{goes, next, behind, is_break as at_break, AllGo, IsInlineGap}
@@ -41,10 +41,7 @@ behind_append s [] b = refl
 behind_append s (c ∷ g) b = behind_append (next s c) g b
 
 break_is : (s : Before) → at_break s ≡ true → s ≡ Break
-break_is Token h = absurd (false≢true h)
-break_is White h = absurd (false≢true h)
-break_is Break h = refl
-break_is Comment h = absurd (false≢true h)
+break_is s h1 = search (rules, false≢true)
 
 gap_moves : (g x own u : List ℕ) → begins_node true x ≡ true → begins_node true (own ++ u) ≡ true → Unmarked u → IsInlineGap g x → IsInlineGap (gap_to g own) (own ++ u)
 gap_moves g x own u bx by m h = go (fresh false g && begins_marker own) refl where
@@ -117,8 +114,7 @@ last_left d k s g key n sep key2 n2 sep2 left rest old lead behind_ c here there
       gap = gap_before d k key n t u g a.0 a.1 a.2 keeps gap;
       tree = rw (here, there) refl;
       whole = λ z b same.
-          let cut : z ++ (g ++ key_text key (node_text n t)) ≡ ((z ++ g) ++ own) ++ (old ++ behind_) =
-          ap (λ l. z ++ (g ++ l)) (text_cut key n t) ∙ (sym (append_assoc z g (own ++ t)) ∙ (sym (append_assoc (z ++ g) own t) ∙ ap (λ l. ((z ++ g) ++ own) ++ l) (sym bytes.was))) in
+          let cut : z ++ (g ++ key_text key (node_text n t)) ≡ ((z ++ g) ++ own) ++ (old ++ behind_) = search (rules, text_cut, append_assoc, own, t) in
           whole_by b (old ++ behind_) (ap ends_return (append_cancel_right b ((z ++ g) ++ own) (old ++ behind_) (sym same ∙ cut)) ∙ (return_some (z ++ g) own some ∙ ends));
     }
 
@@ -201,10 +197,7 @@ left d k s g (item key n sep is) rest e c pairs gap a at = go (is_here s (inner 
 
 module _ (x : CollAt) (s : Step) (e : FlowEdit) (h : IsCollAt x) (at : removing s x.coll ≡ Some e) where
   behind_open : (text : List ℕ) → text ++ node_text x.node x.rest ≡ (text ++ ((around_is x h).before ++ (open_of x.coll.close ∷ []))) ++ (x.coll.gap ++ items_text x.coll.close x.coll.items x.coll.rest)
-  behind_open text =
-      let b : List ℕ = (around_is x h).before in
-      let t : List ℕ = x.coll.gap ++ items_text x.coll.close x.coll.items x.coll.rest in
-      ap (λ l. text ++ l) ((around_is x h).text ∙ sym (append_assoc b (open_of x.coll.close ∷ []) t)) ∙ sym (append_assoc text (b ++ (open_of x.coll.close ∷ [])) t)
+  behind_open text = search (rules, around_is, append_assoc)
 
   left_in : (text : List ℕ) → pairs_returns (text ++ node_text x.node x.rest) ≡ true → Left (around_is x h).inner_depth x.coll.close s x.coll.gap x.coll.items x.coll.rest e
   left_in text pairs =

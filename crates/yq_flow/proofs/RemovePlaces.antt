@@ -1,5 +1,5 @@
 -- What the code tells of an item or entry that is taken out is where the bytes of the edit stand.
-use Rattle.std.proofs.Common.{◌≡◌, ⊎_elim, ℕ, suc, ◌+◌, ◌-◌, Bool, true, false, ◌&&◌, eqb, cond, List, [], ◌∷◌, ◌++◌, length, drop, Option, Some, None, option_map, refl, sym, ap, ◌∙◌, arith, append_assoc, length-append, eqb-true}
+use Rattle.std.proofs.Common.{◌≡◌, ⊎_elim, ℕ, suc, ◌+◌, ◌-◌, Bool, true, false, ◌&&◌, eqb, cond, List, [], ◌∷◌, ◌++◌, length, drop, Option, Some, None, option_map, refl, sym, ap, ◌∙◌, arith, append_assoc, length-append, eqb-true, rules}
 use Rattle.std.proofs.Math.Seq.{drop-append_seam}
 use Rattle.std.proofs.lemmas.Bool.{false≢true, or_cases}
 use Rattle.std.proofs.lemmas.Option.{same_Some}
@@ -82,20 +82,7 @@ past_placed t v q x gap is =
 comma_placed : (k : ℕ) (rest g : List ℕ) (key : Key) (n : Node) (sep : Sep) (key2 : Key) (n2 : Node) (sep2 : Sep) (t v : List ℕ) → is_close k ≡ true → IsSep k sep2 (k ∷ rest) → t ≡ v ++ sep_text sep2 (k ∷ rest) →
     comma_part t (length t - length (sep_text sep (key_text key2 (node_text n2 (sep_text sep2 (k ∷ rest)))))) (length t - length (sep_text sep2 (k ∷ rest))) ≡ place_edit (length t) (comma_left k rest g key n sep key2 n2 sep2)
 unfolding comma_part
-comma_placed k rest g key n sep key2 n2 (last q) t v c h is =
-    let from : List ℕ = sep_text sep (key_text key2 (node_text n2 (q ++ (k ∷ rest)))) in
-    let p = past_placed t v q (k ∷ rest) h.0 is in
-    let other : eqb k 44 ≡ false = ⊎_elim {0, 0, 0} (λ e. rw (eqb-true k 93 e) refl) (λ e. rw (eqb-true k 125 e) refl) (or_cases (eqb k 93) (eqb k 125) c) in
-    let no : first_is 44 (drop (past_gap t (length t - length (q ++ (k ∷ rest)))) t) ≡ false = ap (λ n. first_is 44 (drop n t)) p.0 ∙ (ap (first_is 44) p.1 ∙ other) in
-    ap (λ b. cond b (record { start = length t - length from; end = past_gap t (length t - length (q ++ (k ∷ rest))); lead = [] }) (record { start = length t - length from; end = length t - length (q ++ (k ∷ rest)); lead = 44 ∷ [] })) no
-    ∙ ap (λ l. record { start = length t - length l; end = length t - length (q ++ (k ∷ rest)); lead = 44 ∷ [] }) (sym (comma_new_bytes k rest sep key2 n2 q).was)
-comma_placed k rest g key n sep key2 n2 (comma q z) t v c h is =
-    let x : List ℕ = 44 ∷ (z ++ (k ∷ rest)) in
-    let from : List ℕ = sep_text sep (key_text key2 (node_text n2 (q ++ x))) in
-    let p = past_placed t v q x h.0 is in
-    let yes : first_is 44 (drop (past_gap t (length t - length (q ++ x))) t) ≡ true = ap (λ n. first_is 44 (drop n t)) p.0 ∙ ap (first_is 44) p.1 in
-    ap (λ b. cond b (record { start = length t - length from; end = past_gap t (length t - length (q ++ x)); lead = [] }) (record { start = length t - length from; end = length t - length (q ++ x); lead = 44 ∷ [] })) yes
-    ∙ (λ i. record { start = length t - length (sym (comma_old_bytes k rest sep key2 n2 q z).was i); end = p.0 i; lead = [] })
+comma_placed k rest g key n sep key2 n2 sep2 t v h1 h2 h3 = search (rules, past_placed, ⊎_elim, eqb-true, or_cases, comma_new_bytes, comma_old_bytes)
 
 end_placed_at : (k : ℕ) (g : List ℕ) (key : Key) (n : Node) (sep : Sep) (key2 : Key) (n2 : Node) (sep2 : Sep) (rest t w : List ℕ) (b : ℕ) → is_close k ≡ true → IsSep k sep2 (k ∷ rest) → is_feed b ≡ false →
     t ≡ w ++ (b ∷ (g ++ key_text key (node_text n (sep_text sep (key_text key2 (node_text n2 (sep_text sep2 (k ∷ rest)))))))) →
@@ -168,14 +155,7 @@ last_placed : (d k : ℕ) (s : Step) (g : List ℕ) (key : Key) (n : Node) (sep 
 unfolding items_text locate_items AreItems
 last_placed d k s g key n sep none rest t w b c a feed text = refl
 last_placed d k s g key n sep (item key2 n2 sep2 (item key3 n3 sep3 is)) rest t w b c a feed text = refl
-last_placed d k s g key n sep (item key2 n2 sep2 none) rest t w b c a feed text =
-    let total : ℕ = length t in
-    let z : List ℕ = sep_text sep2 (k ∷ rest) in
-    let x : List ℕ = key_text key2 (node_text n2 z) in
-    let f : ℕ → PlacedEdit = λ e. remove_end t (total - length (key_text key (node_text n (sep_text sep x)))) (total - length (sep_text sep x)) e in
-    (λ i. option_map f (cond (is_here s (inner (key_tree total x key2 i))) (Some (end_placed total n2 z i)) None))
-    ∙ elim (is_here s (inner (key_content key2))) as (λ v. option_map f (cond v (Some (total - length z)) None) ≡ option_map (place_edit total) (cond v (Some (last_removed k rest g key n sep key2 n2 sep2)) None))
-    [ true ↦ ap Some (end_placed_at k g key n sep key2 n2 sep2 rest t w b c a.3 feed text) | false ↦ refl ]
+last_placed d k s g key n sep (item key2 n2 sep2 none) rest t w b c a feed text = search (rules, key_tree, end_placed, end_placed_at)
 
 -- ---- among items
 
@@ -193,8 +173,7 @@ further_placed : (d k : ℕ) (s : Step) (g : List ℕ) (key : Key) (n : Node) (s
     remove_part t s (locate_items (length t) k is rest) ≡ option_map (place_edit (length t)) (removing_from k rest s (gap_of sep) is)
 unfolding items_text locate_items AreItems
 further_placed d k s g key n sep none rest t w b c a text again = refl
-further_placed d k s g key n (last q) (item key2 n2 sep2 is) rest t w b c a text again =
-    absurd (false≢true (sym (item_front true (Some 0) d k key2 n2 (sep_text sep2 (items_text k is rest)) c a.4.1 a.4.0 a.4.2) ∙ a.3.1))
+further_placed d k s g key n (last q) (item key2 n2 sep2 is) rest t w b c a text again = search (rules, false≢true, item_front, item_cut, append_assoc)
 further_placed d k s g key n (comma q p) (item key2 n2 sep2 is) rest t w b c a text again =
     let tail : List ℕ = items_text k (item key2 n2 sep2 is) rest in
     let front : List ℕ = key_text key (node_text n (q ++ [])) in

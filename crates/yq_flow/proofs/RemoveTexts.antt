@@ -1,5 +1,5 @@
 -- The bytes of an item that is taken out.
-use Rattle.std.proofs.Common.{◌≡◌, ◌⊎◌, inl, inr, ℕ, ◌≤◌, Bool, true, false, ◌&&◌, cond, List, [], ◌∷◌, ◌++◌, length, Option, Some, None, option_map, refl, sym, ap, ◌∙◌, subst, arith, append_assoc, append-nil, length-append}
+use Rattle.std.proofs.Common.{◌≡◌, ◌⊎◌, inl, inr, ℕ, ◌≤◌, Bool, true, false, ◌&&◌, cond, List, [], ◌∷◌, ◌++◌, length, Option, Some, None, option_map, refl, sym, ap, ◌∙◌, subst, arith, append_assoc, append-nil, length-append, rules}
 use Rattle.std.proofs.lemmas.Bool.{cond_both}
 use Rattle.std.proofs.lemmas.Option.{none-some, same_Some}
 use Rattle.std.specs.Option.{option_or}
@@ -44,8 +44,7 @@ sep_own (comma b g) x = sym (append_assoc b (44 ∷ []) (g ++ x))
 
 -- the text of items behind a gap, from the gap before the next one on
 front_cut : (g : List ℕ) (key : Key) (n : Node) (f z : List ℕ) → g ++ key_text key (node_text n (f ++ z)) ≡ (g ++ (key_text key (node_text n []) ++ f)) ++ z
-front_cut g key n f z =
-    ap (λ l. g ++ l) (text_cut key n (f ++ z) ∙ sym (append_assoc (key_text key (node_text n [])) f z)) ∙ sym (append_assoc g (key_text key (node_text n []) ++ f) z)
+front_cut g key n f z = search (rules, text_cut, append_assoc)
 
 pub behind_cut : (g : List ℕ) (key : Key) (n : Node) (sep : Sep) (x : List ℕ) → g ++ key_text key (node_text n (sep_text sep x)) ≡ (g ++ (key_text key (node_text n []) ++ sep_front sep)) ++ (gap_of sep ++ x)
 behind_cut g key n sep x = ap (λ l. g ++ key_text key (node_text n l)) (sep_own sep x) ∙ front_cut g key n (sep_front sep) (gap_of sep ++ x)

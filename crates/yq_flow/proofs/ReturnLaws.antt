@@ -1,9 +1,8 @@
 -- In a text with whole breaks no CR ends an item before an LF.
-use Rattle.std.proofs.Common.{◌≡◌, ◌⊎◌, inl, inr, ℕ, Bool, true, false, ◌&&◌, ◌||◌, eqb, cond, List, [], ◌∷◌, ◌++◌, Some, refl, sym, ap, ◌∙◌, subst, append_assoc, append-nil, eq-eqb}
+use Rattle.std.proofs.Common.{◌≡◌, ◌⊎◌, inl, inr, ℕ, Bool, true, false, ◌&&◌, ◌||◌, eqb, cond, List, [], ◌∷◌, ◌++◌, Some, refl, sym, ap, ◌∙◌, subst, append_assoc, append-nil, eq-eqb, rules}
 use Rattle.std.proofs.Math.Bool.{and-false}
 use Rattle.std.proofs.lemmas.Bool.{false≢true, not-false, or_right, and_parts, cases_Bool, or_parts}
 use Rattle.yq_flow_scalars.specs.Characters.{pairs_returns}
-use Rattle.yq_flow_scalars.specs.Quoted.{spell_lines}
 use Rattle.yq_flow_scalars.specs.Text.{NoneIn, unless, front, is_white, is_feed, is_return}
 use Rattle.yq_flow_scalars.proofs.Bools.{at_byte}
 use Rattle.yq_inline.specs.Alike.{EndsItem}
@@ -61,10 +60,7 @@ quote_return q (inl e) = rw e refl
 quote_return q (inr e) = rw e refl
 
 scalar_return : (k : ℕ) (p t : List ℕ) → is_close k ≡ true → EndsItem k t → IsScalarAt true (Some 0) p t → Whole p t
-scalar_return k p t c e (inl h) = plain_return k p t c e h.inside
-scalar_return k p t c e (inr h) =
-    let q = h.0.1.1 in
-    whole_by p t (ap ends_return q.spelled ∙ (return_append (h.0.0 ∷ spell_lines h.0.1.0) h.0.0 [] ∙ quote_return h.0.0 q.quotes))
+scalar_return k p t h1 h2 h3 = search (rules, plain_return, whole_by, return_append, quote_return)
 
 -- items end in their closing bracket
 items_return : (k : ℕ) (is : Items) → is_close k ≡ true → NotEmpty (items_text k is []) × (ends_return (items_text k is []) ≡ false)

@@ -1,5 +1,5 @@
 -- What is written in flow style is a node that stands for its tree.
-use Rattle.std.proofs.Common.{◌≡◌, ℕ, zero, suc, ◌-◌, ◌≤◌, Bool, true, false, not, ◌||◌, eqb, List, [], ◌∷◌, ◌++◌, drop, Option, Some, None, refl, ap, inl, arith, eq-eqb, ⊎_elim}
+use Rattle.std.proofs.Common.{◌≡◌, ℕ, zero, suc, ◌-◌, ◌≤◌, Bool, true, false, not, ◌||◌, eqb, List, [], ◌∷◌, ◌++◌, drop, Option, Some, None, refl, ap, inl, arith, eq-eqb, ⊎_elim, rules}
 use Rattle.std.proofs.Math.Nat.{le-max_left, le-max_right}
 use Rattle.std.proofs.lemmas.Bool.{or_cases, or_right}
 use Rattle.std.specs.Str.{IsUtf8}
@@ -57,9 +57,7 @@ content_gap : (t : List ℕ) → begins_content true t ≡ true → IsInlineGap 
 content_gap t h = none_gap t (no_token_gap t (no_gap t h))
 
 scalar_content : (t : List ℕ) → begins_scalar true t ≡ true → begins_content true t ≡ true
-scalar_content t h =
-    let last : (first_is 123 t || begins_scalar true t) ≡ true = or_right (first_is 123 t) (begins_scalar true t) h in
-    or_right (first_is 42 t) (first_is 91 t || (first_is 123 t || begins_scalar true t)) (or_right (first_is 91 t) (first_is 123 t || begins_scalar true t) last)
+scalar_content t h = simp (or_right)
 
 -- scalars and keys as they are written
 flow_scalar : (s : ScalarText) → IsValid s → IsWritten s (scalar_text s places.Flow)
@@ -131,8 +129,7 @@ sep_ends k keyed fits (tree.child label n cs) rest = refl
 
 items_begin : (k : ℕ) (keyed : Bool) → Fits k keyed → (label : tree.Label) (n : tree.Node) (cs : tree.Children) (rest : List ℕ) → AreValueTrees keyed (tree.child label n cs) → begins_content true (items_text k (flow_items (tree.child label n cs)) rest) ≡ true
 unfolding items_text flow_items
-items_begin k keyed fits label n cs rest h =
-    (fits.key label h.0 (node_text (flow_of n) (sep_text (flow_sep cs) (items_text k (flow_items cs) rest))) (node_begins n (sep_text (flow_sep cs) (items_text k (flow_items cs) rest)) h.1 (sep_ends k keyed fits cs rest))).1
+items_begin k keyed fits label n cs rest h = search (rules, node_begins, sep_ends)
 
 items_gap : (k : ℕ) (keyed : Bool) → Fits k keyed → (cs : tree.Children) (rest : List ℕ) → AreValueTrees keyed cs → IsInlineGap [] (items_text k (flow_items cs) rest)
 unfolding items_text flow_items

@@ -1,11 +1,11 @@
 -- Scalars that are written are read as they were.
-use Rattle.std.proofs.Common.{◌≡◌, ℕ, Bool, true, false, cond, not, ◌&&◌, ◌||◌, eqb, List, [], ◌∷◌, ◌++◌, Option, Some, None, refl, sym, ap, ◌∙◌, inl, inr, ⊎_elim, append_assoc, append-nil, eqb-true}
+use Rattle.std.proofs.Common.{◌≡◌, ℕ, Bool, true, false, cond, not, ◌&&◌, ◌||◌, List, [], ◌∷◌, ◌++◌, Option, Some, None, refl, sym, ap, ◌∙◌, inl, inr, ⊎_elim, append_assoc, append-nil, eqb-true, rules}
 use Rattle.std.proofs.Math.Bool.{and-false}
 use Rattle.std.proofs.lemmas.Bool.{false≢true, cond_both, or_cases, and_parts, not-true, or_parts}
 use Rattle.yq_flow_scalars.specs.declared.kind.Kind.{Kind}
 use Rattle.yq_flow_scalars.specs.declared.style.Style.TheVariants as styles
 use Rattle.yq_flow_scalars.specs.ContentReading.{within, broken, content_on}
-use Rattle.yq_flow_scalars.specs.Plain.{ends_plain, holds_break, is_indicator, is_flow_indicator}
+use Rattle.yq_flow_scalars.specs.Plain.{ends_plain, holds_break, is_indicator}
 use Rattle.yq_flow_scalars.specs.PlainText.{is_plain_text, begins_plainly, needs_quotes, no_rest, is_merge, begins_marker}
 use Rattle.yq_flow_scalars.specs.Quoted.{last}
 use Rattle.yq_flow_scalars.specs.QuotedReading.{is_quote}
@@ -28,9 +28,7 @@ front_none [] h = refl
 front_none (b ∷ t) h = (or_parts (is_feed b) (holds_break t) h).0
 
 chosen_last : {A : Type 0} (f k : Bool) (y z u : A) → f ≡ false → k ≡ false → cond f y (cond k z u) ≡ u
-chosen_last true k y z u p q = absurd (false≢true (sym p))
-chosen_last false true y z u p q = absurd (false≢true (sym q))
-chosen_last false false y z u p q = refl
+chosen_last f k y z u h1 h2 = search (rules, false≢true)
 
 pub line_on : (white t : List ℕ) → holds_break t ≡ false → content_on 0 0 within white t ≡ white ++ t
 unfolding content_on
@@ -46,13 +44,7 @@ line_on white (b ∷ t) h =
     (λ _. here ∙ ap (λ l. white ++ (b ∷ l)) (line_on [] t p.1))
 
 needs_less : (flow : Bool) (t : List ℕ) → needs_quotes true t ≡ false → needs_quotes flow t ≡ false
-needs_less flow [] h = refl
-needs_less flow (b ∷ t) h = go _ _ h where
-  go : (x y : Bool) → ((is_flow_indicator b || x) || y) ≡ false → (((flow && is_flow_indicator b) || x) || y) ≡ false
-  go x y e =
-      let outer = or_parts (is_flow_indicator b || x) y e in
-      let both = or_parts (is_flow_indicator b) x outer.0 in
-      rw (both.0, both.1, outer.1) (rw (and-false flow) refl)
+needs_less flow t h1 = search (rules, or_parts, and-false)
 
 no_rest_less : (flow : Bool) (t : List ℕ) → no_rest (needs_quotes true) t ≡ true → no_rest (needs_quotes flow) t ≡ true
 no_rest_less flow [] h = refl
@@ -82,10 +74,7 @@ plain_anywhere s flow h = go (not (is_string s.kind)) (is_string (resolve s.text
 
 -- a plain text
 pub quote_indicates : (b : ℕ) → is_quote b ≡ true → is_indicator b ≡ true
-quote_indicates b h = ⊎_elim {0, 0, 0}
-    (λ e. let same : b ≡ 34 = eqb-true b 34 e in rw same refl)
-    (λ e. let same : b ≡ 39 = eqb-true b 39 e in rw same refl)
-    (or_cases (eqb b 34) (eqb b 39) h)
+quote_indicates b h = search (rules, ⊎_elim, eqb-true, or_cases)
 
 plain_unquoted : (s : ScalarText) → IsValid s → can_write_plain s true ≡ true → is_quoted s.text ≡ false
 plain_unquoted s v h = plain_opens is_quote s.text quote_indicates refl (plain_text_parts true s.text (writable_text s.kind s.text true v.kind h)).1

@@ -1,5 +1,5 @@
 -- Scalars that are written outside flow collections, in each style of one line, are read as they were.
-use Rattle.std.proofs.Common.{◌≡◌, ℕ, Bool, true, false, eqb, List, [], ◌∷◌, Option, Some, None, refl, sym, ap, ◌∙◌, inl, inr, subst, eqb-true}
+use Rattle.std.proofs.Common.{◌≡◌, ℕ, true, false, eqb, List, [], Option, Some, None, refl, sym, ap, ◌∙◌, inl, inr, eqb-true, rules}
 use Rattle.std.proofs.lemmas.Bool.{false≢true, and_parts}
 use Rattle.std.specs.List.{list_all}
 use Rattle.std.specs.Str.{chars}
@@ -28,14 +28,7 @@ string_is s h = ap (λ k. record { kind = k; text = s.text }) (sym (string_kind 
 
 -- a plain scalar doesn't end at a quote
 no_quote : (spaces : Option ℕ) (rest : List ℕ) → ends_plain false spaces rest ≡ true → front (λ b. eqb b 39) rest ≡ false
-no_quote spaces [] h = refl
-no_quote spaces (b ∷ rest) h = go (eqb b 39) refl
-  where
-    go : (x : Bool) → eqb b 39 ≡ x → eqb b 39 ≡ false
-    go false e = e
-    go true e =
-        let same : b ≡ 39 = eqb-true b 39 e in
-        absurd (false≢true (subst (λ (k : ℕ). ends_plain false spaces (k ∷ rest) ≡ true) same h))
+no_quote spaces rest h1 = search (rules, eqb-true, false≢true)
 
 -- one line has its lines
 one_line : (spaces : Option ℕ) (p : List ℕ) → holds_break p ≡ false → has_its_lines spaces p ≡ true

@@ -1,5 +1,5 @@
 -- What is written in flow style fits into a flow collection.
-use Rattle.std.proofs.Common.{◌≡◌, inl, inr, ⊎_elim, ℕ, ◌≤◌, Bool, true, false, not, eqb, cond, List, ◌++◌, Some, refl, sym, ap, subst, eqb-true}
+use Rattle.std.proofs.Common.{◌≡◌, inl, inr, ⊎_elim, ℕ, ◌≤◌, Bool, true, false, not, eqb, cond, List, ◌++◌, Some, refl, sym, ap, subst, eqb-true, rules}
 use Rattle.std.proofs.lemmas.Bool.{or_right, or_cases, not-true, and_parts}
 use Rattle.std.specs.List.{list_all}
 use Rattle.std.specs.Str.{chars}
@@ -85,11 +85,7 @@ scalar_fits k e s styles.Literal rest c ends v i h = absurd i
 scalar_fits k e s styles.Folded rest c ends v i h = absurd i
 
 pub scalar_block : (s : ScalarText) (style : Style) → scalars.IsOneLine style → can_write s style places.Flow ≡ true → can_write s style places.Block ≡ true
-scalar_block s styles.Plain i h = plain_anywhere s false h
-scalar_block s styles.Single i h = h
-scalar_block s styles.Double i h = h
-scalar_block s styles.Literal i h = absurd i
-scalar_block s styles.Folded i h = absurd i
+scalar_block s style h1 h2 = search (rules, plain_anywhere)
 
 pub scalar_same : (s : ScalarText) (style : Style) → IsValid s → scalars.IsOneLine style → can_write s style places.Flow ≡ true → tree_of (scalar (written style s.text)) ≡ scalar_node s
 unfolding tree_of

@@ -1,15 +1,15 @@
 -- Aliases of a node stand in heads of its lines.
-use Rattle.std.proofs.Common.{◌≡◌, ℕ, zero, suc, ◌+◌, ltb, Bool, true, false, ◌||◌, cond, List, [], ◌∷◌, ◌++◌, drop, Option, Some, None, refl, sym, ap, ◌∙◌}
+use Rattle.std.proofs.Common.{◌≡◌, ℕ, zero, suc, ◌+◌, ltb, Bool, true, false, ◌||◌, cond, List, [], ◌∷◌, ◌++◌, drop, Option, Some, None, refl, sym, ap, ◌∙◌, rules}
 use Rattle.std.specs.List.{list_any}
 use Rattle.std.proofs.lemmas.Bool.{false≢true, or_parts}
 use Rattle.std.proofs.lemmas.List.Folds.{list_any-append}
-use Rattle.yq_flow_scalars.specs.Tree.{Node, alias, scalar, list, map, Children, none, child}
+use Rattle.yq_flow_scalars.specs.Tree.{Node, Children}
 use Rattle.yq_flow_scalars.specs.Anchors.{Name, Anchors, Refers, with_anchor, names_of, names_in}
 use Rattle.yq_lines.specs.Ends.{part}
-use Rattle.yq_lines.specs.Group.{deeper, group}
+use Rattle.yq_lines.specs.Group.{deeper}
 use Rattle.yq_lines.specs.LinesReading.{are_bound}
 use Rattle.yq_lines.specs.Names.{is_reference, head_names, line_names}
-use Rattle.yq_lines.specs.Outline.{Mark, Bare, Key, Dash, Line, level, Outline, end, row, flatten, first_anchor, anchored, head_or, collection, shaped, children}
+use Rattle.yq_lines.specs.Outline.{Mark, Line, level, Outline, end, row, flatten, anchored, head_or, collection, shaped, children}
 use Rattle.yq_lines.proofs.Decides.{flatten-group}
 use Rattle.yq_lines.proofs.NameLaws.{line_names-append}
 
@@ -25,10 +25,7 @@ refer-anchor None ns = refl
 refer-anchor (Some a) ns = refl
 
 refer-anchored : (a : Option (List ℕ)) (n : Node) → refer (names_of (anchored a n)) ≡ refer (names_of n)
-refer-anchored a (alias n) = refl
-refer-anchored a (scalar b k t) = refer-anchor (first_anchor a b) [] ∙ sym (refer-anchor b [])
-refer-anchored a (list b cs) = refer-anchor (first_anchor a b) (names_in cs) ∙ sym (refer-anchor b (names_in cs))
-refer-anchored a (map b cs) = refer-anchor (first_anchor a b) (names_in cs) ∙ sym (refer-anchor b (names_in cs))
+refer-anchored a n = search (rules, refer-anchor)
 
 -- parts of lines without aliases
 pub none_line : (l : Line) (ls : List Line) → refer (line_names (l ∷ ls)) ≡ false → (refer (head_names l.head) ≡ false) × (refer (line_names ls) ≡ false)
@@ -44,10 +41,7 @@ none_drop (suc k) (l ∷ ls) h = none_drop k ls (none_line l ls h).1
 
 -- the node of items or entries without aliases
 none_collection : (m : Mark) (cs : Children) → refer (names_in cs) ≡ false → refer (names_of (collection m cs)) ≡ false
-none_collection Bare none h = refl
-none_collection Bare (child l n cs) h = (or_parts (refer (names_of n)) (refer (names_in cs)) (sym (refer-append (names_of n) (names_in cs)) ∙ h)).0
-none_collection (Key k) cs h = h
-none_collection Dash cs h = h
+none_collection m cs h1 = search (rules, or_parts, refer-append)
 
 none_shaped : (o : Outline) (cs : Children) → refer (names_in cs) ≡ false → refer (names_of (shaped o cs)) ≡ false
 none_shaped end cs h = refl
@@ -84,9 +78,7 @@ none_deeper n (row l u a) h = go (none_deeper n a (none_entries l u a h).1) (ltb
 
 -- items or entries of lines without aliases
 pub none_part : (ls : List Line) (first floor : ℕ) → refer (line_names ls) ≡ false → refer (names_in (children (part ls first floor))) ≡ false
-none_part ls first floor h =
-    let ds = drop first ls in
-    none_deeper floor (group ds) (none_children (group ds) (ap (λ x. refer (line_names x)) (flatten-group ds) ∙ none_drop first ls h))
+none_part ls first floor h = simp (none_deeper, none_children, flatten-group, none_drop)
 
 -- a node with an anchor before it
 pub none_anchored : (a : Option (List ℕ)) (n : Node) → list_any is_reference (names_of n) ≡ false → list_any is_reference (names_of (anchored a n)) ≡ false

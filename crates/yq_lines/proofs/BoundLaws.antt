@@ -1,5 +1,5 @@
 -- Aliases and the anchors before them.
-use Rattle.std.proofs.Common.{◌≡◌, ℕ, List, ◌∷◌, Option, Some, is_some, Bool, true, false, ◌||◌, ◌&&◌, cond, refl, sym, ap, ◌∙◌, bytes_eq}
+use Rattle.std.proofs.Common.{◌≡◌, ℕ, List, ◌∷◌, Option, Some, is_some, Bool, true, false, ◌||◌, ◌&&◌, cond, refl, sym, ap, ◌∙◌, bytes_eq, rules}
 use Rattle.std.proofs.lemmas.Bool.{false≢true}
 use Rattle.std.proofs.lemmas.Map.Text.{btree_map_updates_str}
 use Rattle.std.proofs.lemmas.Slice.Eq.{bytes_eq-Decides}
@@ -23,13 +23,7 @@ pub record Known {X : Type 0} (m : BTreeMap (Bor (List ℕ)) X) (names : List Na
   pub so_far : all ≡ are_bound known names
 
 pub equal_back : (a b : List ℕ) → bytes_eq a b ≡ bytes_eq b a
-equal_back a b = go (bytes_eq a b) (bytes_eq b a) refl refl
-  where
-    go : (x y : Bool) → bytes_eq a b ≡ x → bytes_eq b a ≡ y → x ≡ y
-    go true true e f = refl
-    go true false e f = sym ((bytes_eq-Decides b a).1 (sym ((bytes_eq-Decides a b).0 e))) ∙ f
-    go false true e f = absurd (false≢true (sym e ∙ (bytes_eq-Decides a b).1 (sym ((bytes_eq-Decides b a).0 f))))
-    go false false e f = refl
+equal_back a b = search (rules, bytes_eq, bytes_eq-Decides, false≢true)
 
 some_or : {X : Type 0} (b : Bool) (v : X) (o : Option X) → is_some (cond b (Some v) o) ≡ (b || is_some o)
 some_or true v o = refl

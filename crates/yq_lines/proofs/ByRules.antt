@@ -1,9 +1,9 @@
 -- The rules of the grammar and outlines say the same.
-use Rattle.std.proofs.Common.{◌≡◌, ℕ, ◌+◌, ◌<◌, List, [], ◌∷◌, ◌++◌, Option, Some, None, refl, sym, ap, ◌∙◌, subst, arith}
+use Rattle.std.proofs.Common.{◌≡◌, ℕ, ◌+◌, ◌<◌, List, [], ◌∷◌, ◌++◌, Option, Some, None, refl, sym, ◌∙◌, subst, arith, rules}
 use Rattle.std.proofs.lemmas.Option.{none-some}
-use mathlib.Core.List.{head-eq_of_cons-eq, nil≢cons}
+use mathlib.Core.List.{nil≢cons}
 use Rattle.yq_flow_scalars.specs.Tree.{Node, Children, none, child}
-use Rattle.yq_lines.specs.Outline.{Mark, Bare, Key, Dash, Line, level, Outline, end, row, flatten, IsOpen, IsWhole, IsEven, anchored, head_or, null_node, label, collection, shaped, children, value, Stands}
+use Rattle.yq_lines.specs.Outline.{Mark, Bare, Key, Dash, Line, level, Outline, end, row, flatten, IsOpen, IsWhole, IsEven, anchored, head_or, null_node, label, collection, children, value, Stands}
 use Rattle.yq_lines.specs.Grammar.{IsNode, alone, mapping, sequence, AreEntries, no_more, entry, IsUnder, headed, missing, deeper_lines}
 use Rattle.yq_lines.proofs.Allowing.{IsEntry, IsCollection}
 use Rattle.yq_lines.proofs.Values.{same_entry, same_rank}
@@ -23,22 +23,13 @@ record Held (l : Line) (lines : List Line) (v : Node) : Type 0 where
   node_is : head_or l.head (value outline) ≡ v
 
 not_bare : (m : Mark) (h : Option Node) (o : Outline) → (m ≡ Bare → ⊥) → IsWhole m h o
-not_bare Bare h o e = absurd (e refl)
-not_bare (Key k) h o e = tt
-not_bare Dash h o e = tt
+not_bare m h o h1 = search rules
 
 alone_whole : (m : Mark) (h : Option Node) (v : Node) → m ≡ Bare → h ≡ Some v → IsWhole m h end
-alone_whole (Key k) h v e f = tt
-alone_whole Dash h v e f = tt
-alone_whole Bare (Some n) v e f = tt
-alone_whole Bare None v e f = none-some _ f
+alone_whole m h v h1 h2 = search (rules, none-some)
 
 kind : (m : Mark) (n : ℕ) (l : Line) (ls : List Line) (cs : Children) → l.mark ≡ m → (x : Listed n (l ∷ ls) cs) → value x.outline ≡ collection m cs
-kind m n l ls cs e x = go x.outline x.lines_are x.children_are
-  where
-    go : (o : Outline) → flatten o ≡ l ∷ ls → children o ≡ cs → value o ≡ collection m cs
-    go end p q = absurd (nil≢cons p)
-    go (row k u a) p q = ap (shaped (row k u a)) q ∙ ap (λ m. collection m cs) (ap (λ l. l.mark) (head-eq_of_cons-eq p) ∙ e)
+kind m n l ls cs e x = search rules
 
 mutual
   from_node : {n : ℕ} {ls : List Line} {v : Node} → IsNode n ls v → Stands ls v n
@@ -72,15 +63,7 @@ next_entries k n end c e h = tt
 next_entries k n (row l u b) c e h = same_entry k.mark l.mark c (same_rank k l (e ∙ sym h.0))
 
 entry_mark : (m : Mark) → IsEntry m → m ≡ Bare → ⊥
-entry_mark Bare e p = e
-entry_mark (Key k) e p = key_bare p
-  where
-    key_bare : {k : List ℕ} → Key k ≡ Bare → ⊥
-    key_bare e = cc
-entry_mark Dash e p = dash_bare p
-  where
-    dash_bare : Dash ≡ Bare → ⊥
-    dash_bare e = cc
+entry_mark m h1 h2 = search rules
 
 node_of : (n : ℕ) (k : Line) (u a : Outline) (m : Mark) (h : Option Node) → k.mark ≡ m → k.head ≡ h → level k ≡ n → IsOpen h u → IsWhole m h a →
     (IsCollection (row k u a) → AreEntries n (flatten (row k u a)) (children (row k u a))) → IsNode n (flatten (row k u a)) (value (row k u a))

@@ -1,30 +1,23 @@
 -- The items or entries of nodes.
-use Rattle.std.proofs.Common.{◌≡◌, ℕ, ◌+◌, List, Option, Some, None, option_map, true, not, refl, sym, ap, ◌∙◌}
+use Rattle.std.proofs.Common.{◌≡◌, ℕ, ◌+◌, List, Option, Some, option_map, true, not, ap, rules}
 use Rattle.std.specs.List.{slice_get}
-use Rattle.yq_flow_scalars.specs.Tree.{Label, Node, alias, scalar, list, map, child, children_of}
+use Rattle.yq_flow_scalars.specs.Tree.{Label, Node, child, children_of}
 use Rattle.yq_inline.specs.Trees.{named}
 use Rattle.yq_lines.specs.Ends.{part, is_end, IsEndOf}
 use Rattle.yq_flow_scalars.specs.Paths.{Step}
 use Rattle.yq_lines.specs.Labelled.{labelled_at}
 use Rattle.yq_lines.specs.Outline.{Line, level, Outline, anchored, label, children}
-use Rattle.yq_lines.specs.Places.{FoundLine, find_row, content}
+use Rattle.yq_lines.specs.Places.{find_row, content}
 use Rattle.yq_lines.specs.Positions.{position, line_here}
 use Rattle.yq_lines.proofs.EndsLaws.{deeper_line, not_end}
 use Rattle.yq_lines.proofs.Finding.{entry_of, row_labelled}
 use Rattle.yq_lines.proofs.Parts.{row_parts}
 
 pub anchored_children : (a : Option (List ℕ)) (n : Node) → children_of (anchored a n) ≡ children_of n
-anchored_children a (alias n) = refl
-anchored_children a (scalar b k t) = refl
-anchored_children a (list b cs) = refl
-anchored_children a (map b cs) = refl
+anchored_children a n = search rules
 
 pub inline_children : (a : Option (List ℕ)) (n : Node) → children_of (named a n) ≡ children_of n
-inline_children None n = refl
-inline_children (Some a) (alias n) = refl
-inline_children (Some a) (scalar b k t) = refl
-inline_children (Some a) (list b cs) = refl
-inline_children (Some a) (map b cs) = refl
+inline_children a n = search rules
 
 pub first_child : (ls : List Line) (at floor next : ℕ) (l : Line) → slice_get ls at ≡ Some l → true ≡ not (is_end (part ls at floor)) → IsEndOf ls at next →
     children (part ls at floor) ≡ child (label l) (content l (part ls (at + 1) (level l))) (children (part ls next floor))
@@ -32,13 +25,8 @@ first_child ls at floor next l is deep ends = ap children (row_parts ls at floor
 
 -- where a step leads among lines, by the line that was found
 pub child_position : (s : Step) (u : Outline) (start : ℕ) (x : Option (ℕ × Line × Outline)) → position start (find_row s u) ≡ x → labelled_at s (children u) ≡ option_map (λ y. entry_of y.1 y.2) x
-child_position s u start x e = row_labelled s u ∙ (same (find_row s u) ∙ ap (option_map (λ y. entry_of y.1 y.2)) e)
-  where
-    same : (r : Option FoundLine) → option_map (λ f. entry_of f.line f.under) r ≡ option_map (λ y. entry_of y.1 y.2) (position start r)
-    same None = refl
-    same (Some f) = refl
+child_position s u start x e = search (rules, row_labelled, entry_of)
 
 pub child_found : (s : Step) (ls : List Line) (first floor at : ℕ) (l : Line) (x : Label) (n : Node) → slice_get ls at ≡ Some l → position first (find_row s (part ls first floor)) ≡ line_here ls (Some at) →
     x ≡ label l → n ≡ content l (part ls (at + 1) (level l)) → Some (x, n) ≡ labelled_at s (children (part ls first floor))
-child_found s ls first floor at l x n is e agrees same =
-    rw (agrees, same) (sym (child_position s (part ls first floor) first (Some (at, l, part ls (at + 1) (level l))) (e ∙ ap (option_map (λ m. (at, m, part ls (at + 1) (level m)))) is)))
+child_found s ls first floor at l x n is e agrees same = search (rules, child_position)

@@ -1,9 +1,9 @@
 -- `stand` tells exactly what lines stand for.
-use Rattle.std.proofs.Common.{◌≡◌, ℕ, ◌+◌, ◌<◌, ltb, List, [], ◌∷◌, ◌++◌, Option, Some, None, Bool, true, false, cond, refl, sym, ap, ◌∙◌, arith, append_assoc}
+use Rattle.std.proofs.Common.{◌≡◌, ℕ, ◌+◌, ◌<◌, ltb, List, [], ◌∷◌, ◌++◌, Option, Some, None, Bool, true, false, cond, refl, ap, ◌∙◌, arith, append_assoc, rules}
 use Rattle.std.proofs.lemmas.Bool.{lt-ltb, ltb-true, eqb-true, eq-eqb, cond-true, and_parts, and_from, false≢true}
 use Rattle.std.proofs.lemmas.Option.{none-some, same_Some}
 use Rattle.yq_flow_scalars.specs.Tree.{Node}
-use Rattle.yq_lines.specs.Outline.{Mark, Bare, Key, Dash, Line, level, Outline, end, row, flatten, IsOpen, IsWhole, IsEven, value, Stands}
+use Rattle.yq_lines.specs.Outline.{Mark, Line, level, Outline, end, row, flatten, IsOpen, IsWhole, IsEven, value, Stands}
 use Rattle.yq_lines.specs.Group.{deeper, shallow, group}
 use Rattle.yq_lines.specs.Group.{is_open, is_whole, level_or, is_even, stand}
 use Rattle.yq_lines.proofs.Unique.{group_even}
@@ -23,28 +23,16 @@ flatten-group [] = refl
 flatten-group (l ∷ ls) = ap (λ x. l ∷ x) (flatten-parts (level l) (group ls) ∙ flatten-group ls)
 
 open_from : (h : Option Node) (o : Outline) → is_open h o ≡ true → IsOpen h o
-open_from None o e = tt
-open_from (Some n) end e = tt
-open_from (Some n) (row l u a) e = false≢true e
+open_from h o h1 = search (rules, false≢true)
 
 to_open : (h : Option Node) (o : Outline) → IsOpen h o → is_open h o ≡ true
-to_open None o e = refl
-to_open (Some n) end e = refl
-to_open (Some n) (row l u a) e = absurd e
+to_open h o h1 = search rules
 
 whole_from : (m : Mark) (h : Option Node) (o : Outline) → is_whole m h o ≡ true → IsWhole m h o
-whole_from Bare None o e = false≢true e
-whole_from Bare (Some n) end e = tt
-whole_from Bare (Some n) (row l u a) e = false≢true e
-whole_from (Key k) h o e = tt
-whole_from Dash h o e = tt
+whole_from m h o h1 = search (rules, false≢true)
 
 to_whole : (m : Mark) (h : Option Node) (o : Outline) → IsWhole m h o → is_whole m h o ≡ true
-to_whole Bare None o e = absurd e
-to_whole Bare (Some n) end e = refl
-to_whole Bare (Some n) (row l u a) e = absurd e
-to_whole (Key k) h o e = refl
-to_whole Dash h o e = refl
+to_whole m h o h1 = search rules
 
 pub even_from : (n : ℕ) (o : Outline) → is_even n o ≡ true → IsEven n o
 even_from n end e = tt
@@ -80,6 +68,4 @@ stand-sound ls node e = go (is_even (level_or 0 (group ls)) (group ls)) refl e
     go false h e = absurd (none-some _ e)
 
 pub stand-complete : (ls : List Line) (node : Node) (n : ℕ) → Stands ls node n → stand ls ≡ Some node
-stand-complete ls node n s =
-    let same : group ls ≡ s.outline = ap group (sym s.lines_are) ∙ group_even n s.outline s.even in
-    cond-true _ _ _ (ap (λ o. is_even (level_or 0 o) o) same ∙ to_even _ s.outline (first_even n 0 s.outline s.even)) ∙ ap Some (ap value same ∙ s.node_is)
+stand-complete ls node n s = search (rules, group_even, cond-true, to_even, first_even)

@@ -1,5 +1,5 @@
 -- Lines that are deeper than a level.
-use Rattle.std.proofs.Common.{◌≡◌, ℕ, ◌<◌, ◌≤◌, ltb, List, length, get_or, Some, None, Bool, true, false, not, ◌⊎◌, inl, inr, refl, sym, ap, ◌∙◌, arith}
+use Rattle.std.proofs.Common.{◌≡◌, ℕ, ◌<◌, ◌≤◌, ltb, List, length, get_or, Some, None, Bool, true, false, not, ◌⊎◌, inl, inr, refl, sym, ap, ◌∙◌, arith, rules}
 use Rattle.std.proofs.lemmas.Bool.{lt-ltb, le-ltb, cases_lt, false≢true}
 use Rattle.std.proofs.lemmas.Option.{slice_get_cases}
 use Rattle.std.specs.List.{slice_get}
@@ -32,8 +32,4 @@ is_at_end false h = h
 
 -- a line that is no end is deeper
 pub deeper_line : (ls : List Line) (i floor : ℕ) (l : Line) → slice_get ls i ≡ Some l → is_end (part ls i floor) ≡ false → floor < level l
-deeper_line ls i floor l is h = go (cases_lt floor (level l))
-  where
-    go : (floor < level l) ⊎ (level l ≤ floor) → floor < level l
-    go (inl lt) = lt
-    go (inr le) = absurd (false≢true (sym h ∙ ap is_end (part_stop ls i floor l is le)))
+deeper_line ls i floor l is h = search (rules, cases_lt, false≢true, part_stop)

@@ -1,5 +1,5 @@
 -- What is asked of the lines of a collection, by their indexes.
-use Rattle.std.proofs.Common.{◌≡◌, ℕ, suc, ◌+◌, ◌<◌, ltb, List, [], Some, is_some, Bool, true, false, not, ◌&&◌, cond, refl, sym, ap, ◌∙◌, arith, append-nil}
+use Rattle.std.proofs.Common.{◌≡◌, ℕ, suc, ◌+◌, ◌<◌, List, [], Some, is_some, Bool, true, false, not, ◌&&◌, refl, sym, ap, ◌∙◌, arith, append-nil, rules}
 use Rattle.std.proofs.lemmas.Bool.{ltb-true, le-leb, false≢true}
 use Rattle.std.specs.List.{slice_get}
 use Rattle.yq_lines.specs.Outline.{Bare, Line, level, Outline, end, row}
@@ -13,11 +13,7 @@ use Rattle.yq_lines.proofs.SoundLaws.{asked, keys_with, IsEntryLevel, asked_line
 
 first_deeper : (n d : ℕ) (o : Outline) → n < d → n < level_or d (deeper n o)
 first_deeper n d end h = h
-first_deeper n d (row l u a) h = go (ltb n (level l)) refl
-  where
-    go : (b : Bool) → ltb n (level l) ≡ b → n < level_or d (cond b (row l u (deeper n a)) end)
-    go true e = ltb-true n (level l) e
-    go false e = h
+first_deeper n d (row l u a) h = search (rules, ltb-true)
 
 -- the first line of a collection
 module _ (ls : List Line) (start floor depth : ℕ) (l : Line) (is : slice_get ls start ≡ Some l) (deep : true ≡ not (is_end (part ls start floor))) where
@@ -47,9 +43,7 @@ one_line ls at floor next d n keys l is deep ends entries =
 
 -- a line that fails, or under which lines fail
 both_fail : (all x y z : Bool) → all ≡ (x && (y && z)) → false ≡ (x && y) → false ≡ all
-both_fail all true true z is e = absurd (false≢true e)
-both_fail all true false z is e = sym is
-both_fail all false y z is e = sym is
+both_fail all x y z h1 h2 = search (rules, false≢true)
 
 pub one_fails : (ls : List Line) (at floor next d n : ℕ) (keys : List (List ℕ)) (l : Line) → slice_get ls at ≡ Some l → true ≡ not (is_end (part ls at floor)) → IsEndOf ls at next → IsEntryLevel n →
     (all : Bool) → all ≡ asked d n keys (part ls at floor) → false ≡ (line_is_sound d n l (part ls (at + 1) (level l)) && is_sound d (part ls (at + 1) (level l))) → false ≡ all
@@ -58,9 +52,7 @@ one_fails ls at floor next d n keys l is deep ends entries all so_far e =
 
 -- a line that passes, under which lines pass
 both_pass : (all x y z : Bool) → all ≡ (x && (y && z)) → true ≡ (x && y) → all ≡ z
-both_pass all true true z is e = is
-both_pass all true false z is e = absurd (false≢true (sym e))
-both_pass all false y z is e = absurd (false≢true (sym e))
+both_pass all x y z h1 h2 = search (rules, false≢true)
 
 pub one_passes : (ls : List Line) (at floor next d n : ℕ) (keys : List (List ℕ)) (l : Line) → slice_get ls at ≡ Some l → true ≡ not (is_end (part ls at floor)) → IsEndOf ls at next → IsEntryLevel n →
     (all : Bool) → all ≡ asked d n keys (part ls at floor) → true ≡ (line_is_sound d n l (part ls (at + 1) (level l)) && is_sound d (part ls (at + 1) (level l))) → all ≡ asked d n (keys_with keys l.mark) (part ls next floor)

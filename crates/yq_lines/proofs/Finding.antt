@@ -1,6 +1,6 @@
 -- Where a path leads.
-use Rattle.std.proofs.Common.{◌≡◌, ℕ, List, [], ◌∷◌, Option, Some, None, option_map, option_and_then, Bool, true, false, cond, refl, sym, ap, ◌∙◌}
-use Rattle.yq_flow_scalars.specs.Tree.{Node, alias, scalar, list, map, Children, children_of}
+use Rattle.std.proofs.Common.{◌≡◌, ℕ, List, [], ◌∷◌, Option, Some, None, option_map, option_and_then, Bool, true, false, cond, refl, sym, ap, ◌∙◌, rules}
+use Rattle.yq_flow_scalars.specs.Tree.{Node, Children, children_of}
 use Rattle.yq_lines.specs.Outline.{Mark, Bare, Key, Dash, Line, Outline, end, row, anchored, head_or, label, collection, children, value}
 use Rattle.yq_flow_scalars.specs.Paths.{Step, is_here, further, child_at, node_at}
 use Rattle.yq_lines.specs.Places.{here, below, plug, FoundLine, next_to, find_row, inside, bare_or, in_head, find, content}
@@ -44,35 +44,18 @@ row_child s o = sym (labelled_child s (children o)) ∙ (ap (option_map (λ x. x
     same (Some f) = refl
 
 pub node-anchored : (a : Option (List ℕ)) (s : Step) (ss : List Step) (n : Node) → node_at (s ∷ ss) (anchored a n) ≡ node_at (s ∷ ss) n
-node-anchored a s ss (alias n) = refl
-node-anchored a s ss (scalar b k t) = refl
-node-anchored a s ss (list b cs) = refl
-node-anchored a s ss (map b cs) = refl
+node-anchored a s ss n = search rules
 
 abbrev pub FoundNode : Option (FoundLine × List Step) → Option Node
 FoundNode r = option_and_then (λ x. node_at x.1 (content x.0.line x.0.under)) r
 
 pub children-collection : (m : Mark) (cs : Children) → IsEntry m → children_of (collection m cs) ≡ cs
-children-collection Bare cs e = absurd e
-children-collection (Key k) cs e = refl
-children-collection Dash cs e = refl
+children-collection m cs h1 = search rules
 
 -- the node at a path is the one that its line stands for
 pub path_node : (s : Step) (ss : List Step) (o : Outline) → node_at (s ∷ ss) (value o) ≡ FoundNode (find s ss o)
 path_node s ss end = refl
-path_node s [] (row k v a) = go k.mark refl
-  where
-    found : (r : Option FoundLine) → option_and_then (node_at []) (option_map (λ f. content f.line f.under) r) ≡ FoundNode (option_map (λ f. (f, [])) r)
-    found None = refl
-    found (Some f) = refl
-
-    entry : (m : Mark) → IsEntry m → node_at (s ∷ []) (collection m (children (row k v a))) ≡ FoundNode (option_map (λ f. (f, [])) (find_row s (row k v a)))
-    entry m c = ap (λ cs. option_and_then (node_at []) (child_at s cs)) (children-collection m (children (row k v a)) c) ∙ (ap (option_and_then (node_at [])) (row_child s (row k v a)) ∙ found (find_row s (row k v a)))
-
-    go : (m : Mark) → k.mark ≡ m → node_at (s ∷ []) (collection m (children (row k v a))) ≡ FoundNode (bare_or m (Some (record { place = here; line = k; under = v; after = a }, s ∷ [])) (option_map (λ f. (f, [])) (find_row s (row k v a))))
-    go Bare e = refl
-    go (Key j) e = entry (Key j) tt
-    go Dash e = entry Dash tt
+path_node s [] (row k v a) = search (rules, option_and_then, children-collection, row_child, node-anchored)
 path_node s (t ∷ ts) (row k v a) = go (λ u. path_node t ts u) k.mark
   where
     deep : (f : FoundLine) (q : Option (FoundLine × List Step)) → FoundNode (option_map (λ x. (inside f x.0, x.1)) q) ≡ FoundNode q

@@ -1,5 +1,5 @@
 -- The comment lines that end lines, behind others, or where the lines are repaired.
-use Rattle.std.proofs.Common.{◌≡◌, ℕ, Bool, true, false, ◌&&◌, eqb, List, [], ◌∷◌, ◌++◌, Option, Some, None, refl, sym, ap, ◌∙◌, subst, ⊎_elim, replicate, eqb-true, drop}
+use Rattle.std.proofs.Common.{◌≡◌, ℕ, Bool, true, false, ◌&&◌, eqb, List, [], ◌∷◌, ◌++◌, Option, Some, None, refl, sym, ap, ◌∙◌, subst, ⊎_elim, replicate, eqb-true, drop, rules}
 use Rattle.std.proofs.lemmas.Bool.{false≢true, cond_both, cond-true, cond-false, false_from_ne_true, and_parts, cases_Bool}
 use Rattle.yq_scalar.specs.Block.{Lines}
 use Rattle.yq_scalar.specs.BlockRepair.{AreGap, is_short, is_outside, repaired_blank, repaired_comment, repair}
@@ -25,9 +25,7 @@ some_text None t ts e h = absurd (cc)
 some_text (Some x) t ts e h = absurd (cc)
 
 no_run : (l : List ℕ) (ls : Lines) → last_comments (l ∷ ls) ≡ [] → are_comments (l ∷ ls) ≡ false
-no_run l ls h = false_from_ne_true (are_comments (l ∷ ls)) (λ e.
-    let text = hash_text l (and_parts (is_hash (past_white l)) (are_comments ls) e).0 in
-    some_text (comment_text l) text.0 (last_comments ls) text.1 (sym (cond-true _ _ _ e) ∙ h))
+no_run l ls h = search (rules, false_from_ne_true, hash_text, and_parts, some_text, cond-true)
 
 pub comments_behind : (ls ms : Lines) → last_comments ls ≡ [] → last_comments (ls ++ ms) ≡ last_comments ms
 comments_behind [] ms h = refl

@@ -1,6 +1,6 @@
 -- Where steps lead in what lines stand for, with the label there.
-use Rattle.std.proofs.Common.{◌≡◌, ℕ, List, [], ◌∷◌, Option, Some, None, option_map, option_and_then, refl, sym, ap, ◌∙◌, subst}
-use Rattle.yq_flow_scalars.specs.Tree.{Node, alias, scalar, list, map, children_of}
+use Rattle.std.proofs.Common.{◌≡◌, ℕ, List, [], ◌∷◌, Option, Some, None, option_map, option_and_then, refl, sym, ap, ◌∙◌, subst, rules}
+use Rattle.yq_flow_scalars.specs.Tree.{Node, children_of}
 use Rattle.yq_flow_scalars.specs.Paths.{Step}
 use Rattle.yq_lines.specs.Labelled.{Labelled, labelled_at, labelled_from}
 use Rattle.yq_lines.specs.Outline.{Mark, Bare, Key, Dash, Outline, end, row, anchored, head_or, collection, children, value}
@@ -14,10 +14,7 @@ abbrev pub reach : Step → List Step → Node → Option Labelled
 reach s ss n = option_and_then (labelled_from ss) (labelled_at s (children_of n))
 
 reach-anchored : (a : Option (List ℕ)) (s : Step) (ss : List Step) (n : Node) → reach s ss (anchored a n) ≡ reach s ss n
-reach-anchored a s ss (alias n) = refl
-reach-anchored a s ss (scalar b k t) = refl
-reach-anchored a s ss (list b cs) = refl
-reach-anchored a s ss (map b cs) = refl
+reach-anchored a s ss n = search rules
 
 abbrev pub FoundEntry : Option (FoundLine × List Step) → Option Labelled
 FoundEntry r = option_and_then (λ x. labelled_from x.1 (entry_of x.0.line x.0.under)) r
@@ -25,21 +22,7 @@ FoundEntry r = option_and_then (λ x. labelled_from x.1 (entry_of x.0.line x.0.u
 -- the entry or item at a path is that of its line
 pub path_entry : (s : Step) (ss : List Step) (o : Outline) → reach s ss (value o) ≡ FoundEntry (find s ss o)
 path_entry s ss end = refl
-path_entry s [] (row k v a) = go k.mark
-  where
-    found : (r : Option FoundLine) → option_and_then (labelled_from []) (option_map (λ f. entry_of f.line f.under) r) ≡ FoundEntry (option_map (λ f. (f, [])) r)
-    found None = refl
-    found (Some f) = refl
-
-    entry : (m : Mark) → IsEntry m → reach s [] (collection m (children (row k v a))) ≡ FoundEntry (option_map (λ f. (f, [])) (find_row s (row k v a)))
-    entry m c =
-        ap (λ cs. option_and_then (labelled_from []) (labelled_at s cs)) (children-collection m (children (row k v a)) c)
-        ∙ (ap (option_and_then (labelled_from [])) (row_labelled s (row k v a)) ∙ found (find_row s (row k v a)))
-
-    go : (m : Mark) → reach s [] (collection m (children (row k v a))) ≡ FoundEntry (bare_or m (Some (record { place = here; line = k; under = v; after = a }, s ∷ [])) (option_map (λ f. (f, [])) (find_row s (row k v a))))
-    go Bare = refl
-    go (Key j) = entry (Key j) tt
-    go Dash = entry Dash tt
+path_entry s [] (row k v a) = search (rules, option_and_then, entry_of, children-collection, row_labelled, reach-anchored)
 path_entry s (t ∷ ts) (row k v a) = go (λ u. path_entry t ts u) k.mark
   where
     deep : (f : FoundLine) (q : Option (FoundLine × List Step)) → FoundEntry (option_map (λ x. (inside f x.0, x.1)) q) ≡ FoundEntry q
@@ -80,9 +63,7 @@ HasHead (t ∷ ts) Dash None = ⊥
 HasHead (t ∷ ts) Dash (Some n) = Unit {0}
 
 with_head : (t : Step) (ts : List Step) (m : Mark) (n : Node) → HasHead (t ∷ ts) m (Some n)
-with_head t ts Bare n = tt
-with_head t ts (Key k) n = tt
-with_head t ts Dash n = tt
+with_head t ts m n = search rules
 
 pub rest_head : (s : Step) (ss : List Step) (o : Outline) → If (find s ss o) (λ x. HasHead x.1 x.0.line.mark x.0.line.head)
 rest_head s ss end = tt

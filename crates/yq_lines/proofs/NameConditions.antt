@@ -1,51 +1,33 @@
 -- What is asked of anchors and aliases, as a test and as a fact.
-use Rattle.std.proofs.Common.{◌≡◌, ℕ, List, [], ◌∷◌, true, Option, Some, None, refl, inl, inr, ⊎_elim, bytes_eq}
+use Rattle.std.proofs.Common.{◌≡◌, ℕ, List, [], ◌∷◌, true, Option, refl, inl, inr, ⊎_elim, bytes_eq, rules}
 use Rattle.std.proofs.Math.Bool.{or-true}
 use Rattle.std.proofs.lemmas.Bool.{and_parts, and_from, or_cases}
 use Rattle.std.proofs.lemmas.Slice.Eq.{bytes_eq-Decides}
 use Rattle.std.specs.List.{list_any}
-use Rattle.yq_flow_scalars.specs.Tree.{Node, alias, scalar, list, map}
+use Rattle.yq_flow_scalars.specs.Tree.{Node}
 use Rattle.yq_flow_scalars.specs.Anchors.{Name, Anchors, Refers, IsAmong, AreBound, IsNoAlias}
 use Rattle.yq_lines.specs.LineAnchors.{MayTake, IsFree, HaveOneAnchorEach}
 use Rattle.yq_lines.specs.LinesReading.{is_no_alias, may_take, is_free, have_one_anchor_each, are_bound}
-use Rattle.yq_lines.specs.Outline.{Mark, Bare, Key, Dash, Line}
+use Rattle.yq_lines.specs.Outline.{Mark, Line}
 
 -- anchors
 no_alias_is : (h : Option Node) → is_no_alias h ≡ true → IsNoAlias h
-no_alias_is None e = tt
-no_alias_is (Some (alias name)) e = cc
-no_alias_is (Some (scalar a k t)) e = tt
-no_alias_is (Some (list a cs)) e = tt
-no_alias_is (Some (map a cs)) e = tt
+no_alias_is h h1 = search rules
 
 is_no_alias_of : (h : Option Node) → IsNoAlias h → is_no_alias h ≡ true
-is_no_alias_of None h = refl
-is_no_alias_of (Some (alias name)) h = absurd h
-is_no_alias_of (Some (scalar a k t)) h = refl
-is_no_alias_of (Some (list a cs)) h = refl
-is_no_alias_of (Some (map a cs)) h = refl
+is_no_alias_of h h1 = search rules
 
 take_is : (m : Mark) (a : Option (List ℕ)) (h : Option Node) → may_take m a h ≡ true → MayTake m a h
-take_is Bare None h e = no_alias_is h e
-take_is Bare (Some a) h e = cc
-take_is (Key k) a h e = tt
-take_is Dash a h e = tt
+take_is m a h h1 = search (rules, no_alias_is)
 
 is_take : (m : Mark) (a : Option (List ℕ)) (h : Option Node) → MayTake m a h → may_take m a h ≡ true
-is_take Bare None h t = is_no_alias_of h t
-is_take Bare (Some a) h t = absurd t
-is_take (Key k) a h t = refl
-is_take Dash a h t = refl
+is_take m a h h1 = search (rules, is_no_alias_of)
 
 free_is : (a : Option (List ℕ)) (ls : List Line) → is_free a ls ≡ true → IsFree a ls
-free_is None ls e = tt
-free_is (Some a) [] e = tt
-free_is (Some a) (l ∷ ls) e = take_is l.mark l.anchor l.head e
+free_is a ls h1 = search (rules, take_is)
 
 is_free_of : (a : Option (List ℕ)) (ls : List Line) → IsFree a ls → is_free a ls ≡ true
-is_free_of None ls h = refl
-is_free_of (Some a) [] h = refl
-is_free_of (Some a) (l ∷ ls) h = is_take l.mark l.anchor l.head h
+is_free_of a ls h1 = search (rules, is_take)
 
 pub anchors_are : (ls : List Line) → have_one_anchor_each ls ≡ true → HaveOneAnchorEach ls
 anchors_are [] e = tt

@@ -1,11 +1,11 @@
 -- The anchors and aliases of a node, as those of its lines.
-use Rattle.std.proofs.Common.{◌≡◌, ℕ, ◌+◌, List, [], ◌∷◌, ◌++◌, Option, Some, None, true, refl, sym, ap, ◌∙◌, subst, append_assoc, append-nil}
-use Rattle.yq_flow_scalars.specs.Tree.{Label, Node, alias, scalar, list, map, Children, child}
+use Rattle.std.proofs.Common.{◌≡◌, ℕ, ◌+◌, List, [], ◌∷◌, ◌++◌, Option, Some, None, true, refl, sym, ap, ◌∙◌, subst, append_assoc, append-nil, rules}
+use Rattle.yq_flow_scalars.specs.Tree.{Label, Node, Children, child}
 use Rattle.yq_flow_scalars.specs.Anchors.{Name, with_anchor, names_of, names_in, IsNoAlias}
 use Rattle.yq_lines.specs.LineAnchors.{MayTake, IsFree, HaveOneAnchorEach}
 use Rattle.yq_lines.specs.Group.{group, level_or, is_fine}
 use Rattle.yq_lines.specs.Names.{head_names, line_names, IsUnnamed, MayBeNamed, HaveHeadsApart}
-use Rattle.yq_lines.specs.Outline.{Mark, Bare, Key, Dash, Line, Outline, end, row, flatten, IsOpen, IsWhole, IsEven, anchored, head_or, label, collection, children, value}
+use Rattle.yq_lines.specs.Outline.{Mark, Bare, Line, Outline, end, row, flatten, IsOpen, IsWhole, IsEven, anchored, head_or, label, collection, children, value}
 use Rattle.yq_lines.proofs.Decides.{flatten-group, even_from}
 use Rattle.yq_lines.proofs.NodeLaws.{anchored_none}
 
@@ -25,54 +25,32 @@ NodeTakes None n = Unit {0}
 NodeTakes (Some a) n = IsNoAlias (Some n) × IsUnnamed (Some n)
 
 named_node : (a : Option (List ℕ)) (n : Node) → NodeTakes a n → names_of (anchored a n) ≡ with_anchor a (names_of n)
-named_node None (alias n) h = refl
-named_node None (scalar b k t) h = refl
-named_node None (list b cs) h = refl
-named_node None (map b cs) h = refl
-named_node (Some a) (alias n) h = absurd h.0
-named_node (Some a) (scalar None k t) h = refl
-named_node (Some a) (scalar (Some b) k t) h = absurd h.1
-named_node (Some a) (list None cs) h = refl
-named_node (Some a) (list (Some b) cs) h = absurd h.1
-named_node (Some a) (map None cs) h = refl
-named_node (Some a) (map (Some b) cs) h = absurd h.1
+named_node a n h1 = search rules
 
 head_takes : (a : Option (List ℕ)) (h : Node) → IsUnnamed (Some h) → MayBeNamed a (Some h) → NodeTakes a h
 head_takes None h u m = tt
 head_takes (Some a) h u m = (m, u)
 
 bare_takes : (x : List ℕ) (k : Option (List ℕ)) (h : Option Node) (v w : Outline) → MayTake Bare k h → IsUnnamed h → IsWhole Bare h w → NodeTakes (Some x) (anchored k (head_or h (value v)))
-bare_takes x None None v w take unnamed whole = absurd whole
-bare_takes x None (Some h) v w take unnamed whole = subst (NodeTakes (Some x)) (sym (anchored_none h)) (take, unnamed)
-bare_takes x (Some a) h v w take unnamed whole = absurd take
+bare_takes x k h v w h1 h2 h3 = search (rules, anchored_none)
 
 collection_takes : (x : List ℕ) (m : Mark) (k : Option (List ℕ)) (h : Option Node) (v w : Outline) (lbl : Label) (cs : Children) → MayTake m k h → IsUnnamed h → IsWhole m h w →
     NodeTakes (Some x) (collection m (child lbl (anchored k (head_or h (value v))) cs))
-collection_takes x Bare k h v w lbl cs take unnamed whole = bare_takes x k h v w take unnamed whole
-collection_takes x (Key i) k h v w lbl cs take unnamed whole = (tt, tt)
-collection_takes x Dash k h v w lbl cs take unnamed whole = (tt, tt)
+collection_takes x m k h v w lbl cs h1 h2 h3 = search (rules, bare_takes)
 
 -- an anchor before lines can be that of their node
 value_takes : (a : Option (List ℕ)) (n : ℕ) (o : Outline) → IsEven n o → IsFree a (flatten o) → HaveHeadsApart (flatten o) → NodeTakes a (value o)
-value_takes None n o even free apart = tt
-value_takes (Some x) n end even free apart = (tt, tt)
-value_takes (Some x) n (row m v w) even free apart = collection_takes x m.mark m.anchor m.head v w (label m) (children w) free apart.0.0 even.2
+value_takes a n o h1 h2 h3 = search (rules, collection_takes)
 
 collection_names : (m : Mark) (h : Option Node) (w : Outline) (lbl : Label) (n : Node) → IsWhole m h w → names_of (collection m (child lbl n (children w))) ≡ names_of n ++ names_in (children w)
-collection_names Bare None w lbl n whole = absurd whole
-collection_names Bare (Some h) end lbl n whole = sym (append-nil (names_of n))
-collection_names Bare (Some h) (row l u a) lbl n whole = absurd whole
-collection_names (Key k) h w lbl n whole = refl
-collection_names Dash h w lbl n whole = refl
+collection_names m h w lbl n h1 = search (rules, append-nil)
 
 names_value : (n : ℕ) (o : Outline) → IsEven n o → names_of (value o) ≡ names_in (children o)
 names_value n end even = refl
 names_value n (row m v w) even = collection_names m.mark m.head w (label m) _ even.2
 
 pub free_front : (a : Option (List ℕ)) (xs ys : List Line) → IsFree a (xs ++ ys) → IsFree a xs
-free_front None xs ys h = tt
-free_front (Some a) [] ys h = tt
-free_front (Some a) (l ∷ xs) ys h = h
+free_front a xs ys h1 = search rules
 
 pub each_front : (xs ys : List Line) → HaveOneAnchorEach (xs ++ ys) → HaveOneAnchorEach xs
 each_front [] ys h = tt
@@ -93,9 +71,7 @@ apart_back (l ∷ xs) ys h = apart_back xs ys h.1
 -- the names of one item or entry
 entry_names : (a : Option (List ℕ)) (h : Option Node) (n : ℕ) (u : Outline) → IsOpen h u → IsUnnamed h → MayBeNamed a h → IsEven n u → IsFree a (flatten u) → HaveHeadsApart (flatten u) →
     names_in (children u) ≡ line_names (flatten u) → names_of (anchored a (head_or h (value u))) ≡ with_anchor a (head_names h ++ line_names (flatten u))
-entry_names a None n u open' unnamed may even free apart under = named_node a (value u) (value_takes a n u even free apart) ∙ ap (with_anchor a) (names_value n u even ∙ under)
-entry_names a (Some h) n end open' unnamed may even free apart under = named_node a h (head_takes a h unnamed may) ∙ ap (with_anchor a) (sym (append-nil (names_of h)))
-entry_names a (Some h) n (row l v w) open' unnamed may even free apart under = absurd open'
+entry_names a h n u h1 h2 h3 h4 h5 h6 h7 = search (rules, named_node, value_takes, names_value, head_takes, append-nil)
 
 names_children : (n : ℕ) (o : Outline) → IsEven n o → HaveOneAnchorEach (flatten o) → HaveHeadsApart (flatten o) → names_in (children o) ≡ line_names (flatten o)
 names_children n end even each apart = refl

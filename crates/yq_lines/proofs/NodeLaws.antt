@@ -1,21 +1,14 @@
 -- The nodes that lines stand for.
-use Rattle.std.proofs.Common.{◌≡◌, ℕ, ◌+◌, ◌<◌, List, Option, Some, None, refl, sym, ap, ◌∙◌}
+use Rattle.std.proofs.Common.{◌≡◌, ℕ, ◌+◌, ◌<◌, List, Option, Some, None, refl, sym, ap, ◌∙◌, rules}
 use Rattle.std.specs.List.{slice_get}
-use Rattle.yq_flow_scalars.specs.Tree.{Node, alias, scalar, list, map}
+use Rattle.yq_flow_scalars.specs.Tree.{Node, list, map}
 use Rattle.yq_lines.specs.Ends.{part, rest}
 use Rattle.yq_lines.specs.Group.{deeper}
 use Rattle.yq_lines.specs.Outline.{Bare, Key, Dash, Line, level, Outline, row, first_anchor, anchored, head_or, collection, children, value}
 use Rattle.yq_lines.proofs.Parts.{part_row}
 
 pub anchored_twice : (a b : Option (List ℕ)) (n : Node) → anchored a (anchored b n) ≡ anchored (first_anchor a b) n
-anchored_twice None b (alias n) = refl
-anchored_twice (Some a) b (alias n) = refl
-anchored_twice None b (scalar c k t) = ap (λ x. scalar x k t) refl
-anchored_twice (Some a) b (scalar c k t) = refl
-anchored_twice None b (list c cs) = refl
-anchored_twice (Some a) b (list c cs) = refl
-anchored_twice None b (map c cs) = refl
-anchored_twice (Some a) b (map c cs) = refl
+anchored_twice a b n = search rules
 
 module _ (ls : List Line) (at floor : ℕ) (l : Line) (is : slice_get ls at ≡ Some l) (deep : floor < level l) where
   value_row : value (part ls at floor) ≡ collection l.mark (children (part ls at floor))
@@ -35,10 +28,7 @@ module _ (ls : List Line) (at floor : ℕ) (l : Line) (is : slice_get ls at ≡ 
       ∙ anchored_twice a l.anchor (head_or l.head (value (part ls (at + 1) (level l))))
 
 pub anchored_none : (n : Node) → anchored None n ≡ n
-anchored_none (alias n) = refl
-anchored_none (scalar c k t) = refl
-anchored_none (list c cs) = refl
-anchored_none (map c cs) = refl
+anchored_none n = search rules
 
 pub first_none : (a : Option (List ℕ)) → first_anchor a None ≡ a
 first_none None = refl

@@ -1,8 +1,8 @@
 -- What exchanging the lines in a place does to the lines, to evenness and to the tree.
-use Rattle.std.proofs.Common.{◌≡◌, ℕ, ◌∷◌, ◌++◌, Option, Some, None, refl, sym, ap, ◌∙◌, subst, append_assoc, append-nil}
+use Rattle.std.proofs.Common.{◌≡◌, ℕ, ◌∷◌, ◌++◌, Option, Some, None, refl, sym, ap, ◌∙◌, subst, append_assoc, append-nil, rules}
 use Rattle.std.proofs.lemmas.Option.{none-some}
 use Rattle.yq_flow_scalars.specs.Tree.{Node}
-use Rattle.yq_lines.specs.Outline.{Mark, Bare, Key, Dash, Line, level, Outline, end, row, flatten, IsOpen, IsWhole, IsEven}
+use Rattle.yq_lines.specs.Outline.{Mark, Line, level, Outline, row, flatten, IsOpen, IsWhole, IsEven}
 use Rattle.yq_lines.specs.Places.{Context, here, below, beside, plug, lines_before, lines_after, compose}
 use Rattle.yq_lines.proofs.Allowing.{IsEntry, Allows}
 
@@ -20,14 +20,10 @@ plug-compose (below l p a) q o = ap (λ x. row l x a) (plug-compose p q o)
 plug-compose (beside l u p) q o = ap (row l u) (plug-compose p q o)
 
 pub closed : (h : Option Node) (o : Outline) → h ≡ None → IsOpen h o
-closed None o e = tt
-closed (Some n) end e = tt
-closed (Some n) (row l u a) e = absurd (none-some _ (sym e))
+closed h o h1 = search (rules, none-some)
 
 pub entry_whole : (m : Mark) (h : Option Node) (o : Outline) → IsEntry m → IsWhole m h o
-entry_whole Bare h o e = absurd e
-entry_whole (Key k) h o e = tt
-entry_whole Dash h o e = tt
+entry_whole m h o h1 = search rules
 
 -- what stands in a place at the level that it allows makes an even outline
 pub plug-even : (n m : ℕ) (p : Context) (o : Outline) → Allows n p m → IsEven m o → IsEven n (plug p o)
@@ -48,16 +44,10 @@ headless None k v b e = refl
 headless (Some n) k v b e = absurd e
 
 pub headless_entry : (m : Mark) (h : Option Node) (b : Outline) → h ≡ None → IsWhole m h b → IsEntry m
-headless_entry (Key k) h b e w = tt
-headless_entry Dash h b e w = tt
-headless_entry Bare None b e w = w
-headless_entry Bare (Some n) b e w = none-some _ (sym e)
+headless_entry m h b h1 h2 = search (rules, none-some)
 
 followed_entry : (m : Mark) (h : Option Node) (k : Line) (v b : Outline) → IsWhole m h (row k v b) → IsEntry m
-followed_entry (Key j) h k v b w = tt
-followed_entry Dash h k v b w = tt
-followed_entry Bare None k v b w = w
-followed_entry Bare (Some n) k v b w = w
+followed_entry m h k v b h1 = search rules
 
 -- a place that holds a line allows its level, and what is there is even
 pub allows_from : (n : ℕ) (p : Context) (l : Line) (u a : Outline) → IsEven n (plug p (row l u a)) → Allows n p (level l) × IsEven (level l) (row l u a)

@@ -1,12 +1,12 @@
 -- Where a step leads among lines, one line after the other.
-use Rattle.std.proofs.Common.{◌≡◌, ℕ, zero, suc, ◌+◌, ◌-◌, ◌<◌, eqb, List, ◌++◌, length, drop, Option, Some, None, option_map, true, false, not, ◌&&◌, refl, sym, ap, ◌∙◌, arith, length-append, length-drop}
+use Rattle.std.proofs.Common.{◌≡◌, ℕ, zero, suc, ◌+◌, ◌-◌, ◌<◌, eqb, List, ◌++◌, length, drop, Option, Some, None, option_map, true, false, not, ◌&&◌, refl, sym, ap, ◌∙◌, arith, length-append, length-drop, rules}
 use Rattle.std.proofs.lemmas.Bool.{cond-true, cond-false, ne_eqb, false≢true}
 use Rattle.std.specs.List.{slice_get}
 use Rattle.yq_flow_scalars.specs.Paths.{Step, Nth, is_here, further, is_item}
 use Rattle.yq_lines.specs.Ends.{part, is_end, IsEndOf}
 use Rattle.yq_lines.specs.Group.{deeper, shallow, group}
 use Rattle.yq_lines.specs.Outline.{Line, level, Outline, end, row, flatten, key_of, label}
-use Rattle.yq_lines.specs.Places.{lines_before, FoundLine, next_to, find_row}
+use Rattle.yq_lines.specs.Places.{FoundLine, next_to, find_row}
 use Rattle.yq_lines.specs.Positions.{position, line_here}
 use Rattle.yq_lines.proofs.Decides.{flatten-parts, flatten-group}
 use Rattle.yq_lines.proofs.EndsLaws.{deeper_line, not_end}
@@ -18,14 +18,11 @@ under-length ls i next l is ends =
     let o : Outline = group (drop (i + 1) ls) in
     let parts : flatten (deeper (level l) o) ++ flatten (shallow (level l) o) ≡ drop (i + 1) ls = flatten-parts (level l) o ∙ flatten-group (drop (i + 1) ls) in
     let behind : flatten (shallow (level l) o) ≡ drop next ls = ap flatten (ends.2 l is) ∙ flatten-group (drop next ls) in
-    let sum : length (flatten (deeper (level l) o)) + length (drop next ls) ≡ length (drop (i + 1) ls) =
-    ap (λ x. length (flatten (deeper (level l) o)) + length x) (sym behind) ∙ (sym (length-append (flatten (deeper (level l) o)) (flatten (shallow (level l) o))) ∙ ap length parts) in
+    let sum : length (flatten (deeper (level l) o)) + length (drop next ls) ≡ length (drop (i + 1) ls) = search (rules, length-append, o, behind, parts) in
     omega (arith, sum, length-drop next ls, length-drop (i + 1) ls, ends.0, ends.1)
 
 position-next : (at next : ℕ) (l : Line) (u : Outline) (r : Option FoundLine) → suc at + length (flatten u) ≡ next → position at (option_map (next_to l u) r) ≡ position next r
-position-next at next l u None e = refl
-position-next at next l u (Some f) e =
-    ap (λ i. Some (i, f.line, f.under)) (omega (arith, e, length-append (flatten u) (lines_before f.place)))
+position-next at next l u r h1 = search (rules, length-append)
 
 module _ (ls : List Line) (at floor : ℕ) (l : Line) (is : slice_get ls at ≡ Some l) (deep : true ≡ not (is_end (part ls at floor))) where
   lt : floor < level l

@@ -1,5 +1,5 @@
 -- The node for which lines stand is a tree.
-use Rattle.std.proofs.Common.{◌≡◌, ◌≢◌, ℕ, zero, suc, ◌+◌, ◌*◌, List, [], ◌∷◌, ◌++◌, Option, Some, None, refl, sym, ap, ◌∙◌, subst, arith}
+use Rattle.std.proofs.Common.{◌≡◌, ◌≢◌, ℕ, zero, suc, ◌+◌, ◌*◌, List, [], ◌∷◌, ◌++◌, Option, Some, None, refl, sym, ap, ◌∙◌, subst, arith, rules}
 use Rattle.std.proofs.lemmas.Option.{same_Some}
 use Rattle.std.specs.List.{All}
 use Rattle.yq_flow_scalars.specs.Keys.{with_key, keys_of, AreDistinct, HasUniqueKeys, EachHasUniqueKeys}
@@ -12,10 +12,7 @@ use Rattle.yq_lines.specs.ShapedLines.{HeadIsShaped, HeadsAreShaped}
 -- ---- items and keys
 
 anchored_shaped : (a : Option (List ℕ)) (n : Node) → IsShaped n → IsShaped (anchored a n)
-anchored_shaped a (alias name) h = h
-anchored_shaped a (scalar b kind text) h = h
-anchored_shaped a (list b cs) h = h
-anchored_shaped a (map b cs) h = h
+anchored_shaped a n h1 = search rules
 
 front_shaped : (ls ms : List Line) → HeadsAreShaped (ls ++ ms) → HeadsAreShaped ls
 front_shaped [] ms h = tt
@@ -33,9 +30,7 @@ is_key Dash some b c e = absurd (omega (arith, e))
 
 -- the rank of a dash: what stands at its level has no key
 is_item : (m : Mark) → (m ≡ Bare → ⊥) → (b c : ℕ) → 3 * b + rank m ≡ 3 * c + 3 → key_of m ≡ None
-is_item Bare some b c e = absurd (some refl)
-is_item (Key k) some b c e = absurd (omega (arith, e))
-is_item Dash some b c e = refl
+is_item m h1 b c h2 = search rules
 
 all_keyed : {n : ℕ} {ls : List Line} {cs : Children} (c : ℕ) → n ≡ 3 * c + 2 → AreEntries n ls cs → AreKeyed cs
 unfolding level

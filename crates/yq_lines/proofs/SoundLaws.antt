@@ -1,8 +1,8 @@
 -- What is asked of the items or entries of a collection, line by line.
-use Rattle.std.proofs.Common.{◌≡◌, ℕ, suc, ◌+◌, ◌*◌, ◌<◌, ◌≤◌, max, leb, ltb, eqb, List, [], ◌∷◌, ◌++◌, Option, Some, None, is_some, Bool, true, false, ◌&&◌, cond, ◌⊎◌, inl, inr, refl, sym, ap, ◌∙◌, subst, arith, append_assoc}
+use Rattle.std.proofs.Common.{◌≡◌, ℕ, suc, ◌+◌, ◌<◌, ◌≤◌, max, leb, ltb, eqb, List, [], ◌∷◌, ◌++◌, Option, Some, None, is_some, Bool, true, false, ◌&&◌, cond, ◌⊎◌, inl, inr, refl, sym, ap, ◌∙◌, arith, append_assoc, rules}
 use Rattle.std.proofs.lemmas.Bool.{lt-ltb, eq-eqb, ne_eqb, leb-true, le-leb, ltb-true, cases_eq, and_parts, false_from_ne_true, false≢true}
 use Rattle.std.proofs.Math.Bool.{and-false, and-true, and_comm}
-use Rattle.yq_flow_scalars.specs.Tree.{Node, alias, scalar, list, map}
+use Rattle.yq_flow_scalars.specs.Tree.{Node}
 use Rattle.yq_flow_scalars.specs.Keys.{with_key, keys_of, depth, deepest, are_distinct}
 use Rattle.yq_lines.specs.Outline.{Mark, Bare, Key, Dash, rank, Line, level, Outline, end, row, anchored, head_or, key_of, collection, children, value}
 use Rattle.yq_lines.specs.Group.{deeper, shallow, is_open, is_whole, level_or, is_even, is_fine}
@@ -35,71 +35,44 @@ head_parts d None = refl
 head_parts d (Some h) = refl
 
 pub depth-anchored : (a : Option (List ℕ)) (n : Node) → depth (anchored a n) ≡ depth n
-depth-anchored a (alias n) = refl
-depth-anchored a (scalar b k t) = refl
-depth-anchored a (list b cs) = refl
-depth-anchored a (map b cs) = refl
+depth-anchored a n = search rules
 
 unique-anchored : (a : Option (List ℕ)) (n : Node) → has_unique_keys (anchored a n) ≡ has_unique_keys n
-unique-anchored a (alias n) = refl
-unique-anchored a (scalar b k t) = refl
-unique-anchored a (list b cs) = refl
-unique-anchored a (map b cs) = refl
+unique-anchored a n = search rules
 
 depth-head : (d : ℕ) (h : Option Node) (o : Outline) → is_open h o ≡ true → leb (depth (head_or h (value o))) d ≡ (leb (depth (value o)) d && head_depth d h)
-depth-head d None o e = sym (and-true (leb (depth (value o)) d))
-depth-head d (Some h) end e = sym (ap (λ b. b && leb (depth h) d) (le-leb 0 d (omega arith)))
-depth-head d (Some h) (row l u a) e = absurd (false≢true e)
+depth-head d h o h1 = search (rules, and-true, le-leb, false≢true)
 
 unique-head : (h : Option Node) (o : Outline) → is_open h o ≡ true → has_unique_keys (head_or h (value o)) ≡ (has_unique_keys (value o) && head_unique h)
-unique-head None o e = sym (and-true (has_unique_keys (value o)))
-unique-head (Some h) end e = refl
-unique-head (Some h) (row l u a) e = absurd (false≢true e)
+unique-head h o h1 = search (rules, and-true, false≢true)
 
 no_leb : (a b : ℕ) → (a ≤ b → ⊥) → leb a b ≡ false
 no_leb a b h = false_from_ne_true (leb a b) (λ e. h (leb-true a b e))
 
 leb-max : (a b d : ℕ) → leb (max a b) d ≡ (leb a d && leb b d)
-leb-max a b d = go (leb a d) (leb b d) refl refl
-  where
-    go : (x y : Bool) → leb a d ≡ x → leb b d ≡ y → leb (max a b) d ≡ (x && y)
-    go true true e f = le-leb (max a b) d (omega (arith, leb-true a d e, leb-true b d f))
-    go true false e f = no_leb (max a b) d (λ h. false≢true (sym f ∙ le-leb b d (omega arith)))
-    go false y e f = no_leb (max a b) d (λ h. false≢true (sym e ∙ le-leb a d (omega arith)))
+leb-max a b d = search (rules, max, le-leb, leb-true, no_leb, false≢true)
 
 leb-suc : (a d : ℕ) → leb (suc a) (suc d) ≡ leb a d
-leb-suc a d = go (leb a d) refl
-  where
-    go : (x : Bool) → leb a d ≡ x → leb (suc a) (suc d) ≡ x
-    go true e = le-leb (suc a) (suc d) (omega (arith, leb-true a d e))
-    go false e = no_leb (suc a) (suc d) (λ h. false≢true (sym e ∙ le-leb a d (omega arith)))
+leb-suc a d = search (rules, le-leb, leb-true, no_leb, false≢true)
 
 leb-zero : (a : ℕ) → leb (suc a) 0 ≡ false
 leb-zero a = no_leb (suc a) 0 (λ h. omega arith)
 
 -- nine facts in two orders
 sorted : (f e l h x u g y z : Bool) → (f && e) && (((l && h) && x) && (((u && g) && y) && z)) ≡ (h && g) && ((f && (l && u)) && (e && (x && (y && z))))
-sorted f e l false x u g y z = (ap (λ b. (f && e) && ((b && x) && (((u && g) && y) && z))) (and-false l)) ∙ and-false (f && e)
-sorted f e l true x u false y z = ap (λ b. (f && e) && (((l && true) && x) && ((b && y) && z))) (and-false u) ∙ (ap (λ b. (f && e) && b) (and-false ((l && true) && x)) ∙ and-false (f && e))
-sorted false e l true x u true y z = refl
-sorted true e false true x u true y z = and-false e
-sorted true e true true x false true y z = ap (λ b. e && b) (and-false x) ∙ and-false e
-sorted true e true true x true true y z = refl
+sorted f e l h x u g y z = search (rules, and-false)
 
 even_any : (d : ℕ) (o : Outline) → is_even (level_or d o) o ≡ is_fine o
 even_any d end = refl
 even_any d (row l u a) = refl
 
 whole_entry : (m : Mark) (h : Option Node) (o : Outline) → is_entry m ≡ true → is_whole m h o ≡ true
-whole_entry Bare h o e = absurd (false≢true e)
-whole_entry (Key k) h o e = refl
-whole_entry Dash h o e = refl
+whole_entry m h o h1 = search (rules, false≢true)
 
 -- a line at the level of its collection, with what is under it
 even_row : (n : ℕ) (l : Line) (u a : Outline) → is_entry l.mark ≡ true → level l ≡ n → is_open l.head u ≡ true → level l < level_or (level l + 1) u →
     is_even n (row l u a) ≡ (is_fine u && is_even n a)
-even_row n l u a entry lev open' deep =
-    rw (eq-eqb (level l) n lev, open', whole_entry l.mark l.head a entry, lt-ltb n (level_or (level l + 1) u) (subst (λ m. m < level_or (level l + 1) u) lev deep), even_any (level l + 1) u) refl
+even_row n l u a entry lev open' deep = search (rules, eq-eqb, whole_entry, lt-ltb, even_any)
 
 keys_again : (keys : List (List ℕ)) (k : Option (List ℕ)) (more : List (List ℕ)) → keys ++ with_key k more ≡ (keys ++ with_key k []) ++ more
 keys_again keys None more = sym (append_assoc keys [] more)
@@ -143,35 +116,16 @@ asked_line d n keys l u a entries deep = go (cases_eq (level l) n)
 -- lines at one level begin in one way
 same_rank : (l m : Line) → level l ≡ level m → rank l.mark ≡ rank m.mark
 unfolding level
-same_rank l m e = go l.mark m.mark e
-  where
-    go : (a b : Mark) → 3 * l.column + rank a ≡ 3 * m.column + rank b → rank a ≡ rank b
-    go Bare Bare e = refl
-    go Bare (Key k) e = absurd (omega (arith, e))
-    go Bare Dash e = absurd (omega (arith, e))
-    go (Key k) Bare e = absurd (omega (arith, e))
-    go (Key k) (Key j) e = refl
-    go (Key k) Dash e = absurd (omega (arith, e))
-    go Dash Bare e = absurd (omega (arith, e))
-    go Dash (Key k) e = absurd (omega (arith, e))
-    go Dash Dash e = refl
+same_rank l m e = search rules
 
 entry_by_rank : (a b : Mark) → rank a ≡ rank b → is_entry b ≡ true → is_entry a ≡ true
-entry_by_rank a Bare e h = absurd (false≢true h)
-entry_by_rank Bare (Key k) e h = absurd (omega (arith, e))
-entry_by_rank (Key j) (Key k) e h = refl
-entry_by_rank Dash (Key k) e h = refl
-entry_by_rank Bare Dash e h = absurd (omega (arith, e))
-entry_by_rank (Key j) Dash e h = refl
-entry_by_rank Dash Dash e h = refl
+entry_by_rank a b h1 h2 = search (rules, false≢true)
 
 pub entry_level : (l : Line) → is_entry l.mark ≡ true → IsEntryLevel (level l)
 entry_level l h m e = entry_by_rank m.mark l.mark (same_rank m l e) h
 
 no_key : (a : Mark) → rank a ≡ 3 → key_of a ≡ None
-no_key Bare e = refl
-no_key (Key k) e = absurd (omega (arith, e))
-no_key Dash e = refl
+no_key a h1 = search rules
 
 -- items have no keys
 no_keys : (l : Line) (o : Outline) → l.mark ≡ Dash → is_even (level l) o ≡ true → keys_of (children o) ≡ []
@@ -209,37 +163,17 @@ sound_entries d l u a entry = go l.mark refl entry
         (λ e. ap are_distinct (no_keys l (row l u a) mark e))
 
 pub too_deep : (l : Line) (u a : Outline) → is_entry l.mark ≡ true → is_sound 0 (row l u a) ≡ false
-too_deep l u a entry = go l.mark refl entry
-  where
-    deep : (m : Mark) → is_entry m ≡ true → leb (depth (collection m (children (row l u a)))) 0 ≡ false
-    deep Bare h = absurd (false≢true h)
-    deep (Key k) h = leb-zero (deepest (children (row l u a)))
-    deep Dash h = leb-zero (deepest (children (row l u a)))
-
-    go : (m : Mark) → l.mark ≡ m → is_entry m ≡ true → is_sound 0 (row l u a) ≡ false
-    go m mark h =
-        ap (λ b. is_even (level l) (row l u a) && (b && has_unique_keys (value (row l u a)))) (ap (λ x. leb (depth (collection x (children (row l u a)))) 0) mark ∙ deep m h)
-        ∙ and-false (is_even (level l) (row l u a))
+too_deep l u a entry = search (rules, false≢true, leb-zero, and-false)
 
 -- a node on a line of its own, with what is under it and behind it
 alone : (d n : ℕ) (h : Option Node) (u a : Outline) → n < n + 1 →
     ((is_open h u && (is_whole Bare h a && (ltb n (level_or (n + 1) u) && (is_even (level_or (n + 1) u) u && is_even n a)))) && (leb (depth (head_or h (value u))) d && has_unique_keys (head_or h (value u))))
     ≡ ((is_some h && (is_end u && is_end a)) && head_is_sound d h)
-alone d n None u a lt = refl
-alone d n (Some h) end end lt = ap (λ b. (b && true) && (leb (depth h) d && has_unique_keys h)) (lt-ltb n (n + 1) lt)
-alone d n (Some h) end (row l u a) lt = refl
-alone d n (Some h) (row l u b) a lt = refl
+alone d n h u a h1 = search (rules, lt-ltb)
 
 -- what is asked of a node on a line of its own
 pub sound_bare : (d : ℕ) (l : Line) (u a : Outline) → l.mark ≡ Bare → is_sound d (row l u a) ≡ ((is_some l.head && (is_end u && is_end a)) && head_is_sound d l.head)
-sound_bare d l u a mark =
-    let n = level l in
-    let c = head_or l.head (value u) in
-    (λ i. (eq-eqb n n refl i && (is_open l.head u && (is_whole (mark i) l.head a && (ltb n (level_or (n + 1) u) && (is_even (level_or (n + 1) u) u && is_even n a)))))
-    && (leb (depth (collection (mark i) (children (row l u a)))) d && has_unique_keys (collection (mark i) (children (row l u a)))))
-    ∙ (ap (λ m. (is_open l.head u && (is_whole Bare l.head a && (ltb n (level_or (n + 1) u) && (is_even (level_or (n + 1) u) u && is_even n a)))) && (leb m d && has_unique_keys (anchored l.anchor c))) (depth-anchored l.anchor c)
-    ∙ (ap (λ b. (is_open l.head u && (is_whole Bare l.head a && (ltb n (level_or (n + 1) u) && (is_even (level_or (n + 1) u) u && is_even n a)))) && (leb (depth c) d && b)) (unique-anchored l.anchor c)
-    ∙ alone d n l.head u a (omega arith)))
+sound_bare d l u a mark = search (rules, eq-eqb, depth-anchored, unique-anchored, alone)
 
 -- nothing is under a line and nothing behind it, where the next one is not deeper than a lower level
 pub lone : (n floor : ℕ) (o : Outline) → floor < n → (is_end (deeper n o) && is_end (deeper floor (shallow n o))) ≡ is_end (deeper floor o)

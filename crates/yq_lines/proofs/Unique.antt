@@ -1,8 +1,8 @@
 -- An even outline is the one that its lines group to.
-use Rattle.std.proofs.Common.{◌≡◌, ℕ, ◌<◌, ◌≤◌, List, [], ◌++◌, refl, sym, ap, ◌∙◌, arith, append_assoc, append-nil}
+use Rattle.std.proofs.Common.{◌≡◌, ℕ, ◌<◌, ◌≤◌, List, [], ◌++◌, refl, sym, ap, ◌∙◌, arith, append_assoc, append-nil, rules}
 use Rattle.std.proofs.lemmas.Bool.{lt-ltb, le-ltb, cond-true, cond-false}
 use Rattle.yq_flow_scalars.specs.Tree.{Node}
-use Rattle.yq_lines.specs.Outline.{Line, level, Outline, end, row, flatten, IsEven, value, Stands}
+use Rattle.yq_lines.specs.Outline.{Line, level, Outline, end, row, flatten, IsEven, Stands}
 use Rattle.yq_lines.specs.Group.{deeper, shallow, lead, group}
 
 -- one outline behind another
@@ -66,6 +66,4 @@ pub group_even : (n : ℕ) (o : Outline) → IsEven n o → group (flatten o) �
 group_even n o e = ap group (sym (append-nil (flatten o))) ∙ (group-flatten n o [] e tt ∙ join-end o)
 
 pub one_node : (lines : List Line) (a b : Node) (m n : ℕ) → Stands lines a m → Stands lines b n → a ≡ b
-one_node lines a b m n s t =
-    let same : s.outline ≡ t.outline = sym (group_even m s.outline s.even) ∙ (ap group (s.lines_are ∙ sym t.lines_are) ∙ group_even n t.outline t.even) in
-    sym s.node_is ∙ (ap value same ∙ t.node_is)
+one_node lines a b m n s t = search (rules, group_even)

@@ -1,6 +1,6 @@
 -- What exchanging the lines in a place does to the tree.
-use Rattle.std.proofs.Common.{◌≡◌, ℕ, ◌≤◌, List, [], ◌∷◌, Option, Some, None, option_map, option_and_then, Bool, true, false, cond, refl, sym, ap, ◌∙◌, subst, arith}
-use Rattle.yq_flow_scalars.specs.Tree.{Node, alias, scalar, list, map, Children, child}
+use Rattle.std.proofs.Common.{◌≡◌, ℕ, ◌≤◌, List, [], ◌∷◌, Option, Some, None, option_map, option_and_then, Bool, true, false, cond, refl, sym, ap, ◌∙◌, subst, arith, rules}
+use Rattle.yq_flow_scalars.specs.Tree.{Node, Children, child}
 use Rattle.yq_lines.specs.Outline.{Mark, Bare, Key, Dash, rank, Line, level, Outline, end, row, anchored, label, collection, shaped, children, value}
 use Rattle.yq_flow_scalars.specs.Paths.{Step, is_here, further, change_child, within, change}
 use Rattle.yq_lines.specs.Places.{here, below, plug, FoundLine, next_to, find_row, inside, bare_or, in_head, find, content}
@@ -12,33 +12,17 @@ If None P = Unit {0}
 If (Some x) P = P x
 
 pub rank_small : (m : Mark) → (1 ≤ rank m) × (rank m ≤ 3)
-rank_small Bare = omega arith
-rank_small (Key k) = omega arith
-rank_small Dash = omega arith
+rank_small m = search rules
 
 pub same_rank : (l k : Line) → level l ≡ level k → rank l.mark ≡ rank k.mark
 unfolding level
 same_rank l k e = omega (arith, rank_small l.mark, rank_small k.mark)
 
 pub same_collection : (m k : Mark) (cs : Children) → rank m ≡ rank k → collection m cs ≡ collection k cs
-same_collection Bare Bare cs e = refl
-same_collection Bare (Key k) cs e = absurd (omega arith)
-same_collection Bare Dash cs e = absurd (omega arith)
-same_collection (Key j) Bare cs e = absurd (omega arith)
-same_collection (Key j) (Key k) cs e = refl
-same_collection (Key j) Dash cs e = absurd (omega arith)
-same_collection Dash Bare cs e = absurd (omega arith)
-same_collection Dash (Key k) cs e = absurd (omega arith)
-same_collection Dash Dash cs e = refl
+same_collection m k cs h1 = search rules
 
 pub same_entry : (i j : Mark) → IsEntry i → rank i ≡ rank j → IsEntry j
-same_entry Bare j c e = absurd c
-same_entry (Key x) Bare c e = absurd (omega arith)
-same_entry Dash Bare c e = absurd (omega arith)
-same_entry (Key x) (Key y) c e = tt
-same_entry (Key x) Dash c e = tt
-same_entry Dash (Key y) c e = tt
-same_entry Dash Dash c e = tt
+same_entry i j h1 h2 = search rules
 
 -- the node with its line and what is under it exchanged
 row_change : (s : Step) (h : Node → Node) (o : Outline) →
@@ -58,20 +42,10 @@ row_change s h (row k v a) = go (is_here s (label k)) (find_row (further s) a) (
 
 pub row_shape : (s : Step) (o : Outline) →
     If (find_row s o) (λ f. (l : Line) (u : Outline) (cs : Children) → level l ≡ level f.line → shaped (plug f.place (row l u f.after)) cs ≡ shaped o cs)
-row_shape s end = tt
-row_shape s (row k v a) = go (is_here s (label k)) (find_row (further s) a)
-  where
-    go : (b : Bool) (r : Option FoundLine) →
-        If (cond b (Some (record { place = here; line = k; under = v; after = a })) (option_map (next_to k v) r))
-        (λ f. (l : Line) (u : Outline) (cs : Children) → level l ≡ level f.line → shaped (plug f.place (row l u f.after)) cs ≡ shaped (row k v a) cs)
-    go true r = λ l u cs e. same_collection l.mark k.mark cs (same_rank l k e)
-    go false None = tt
-    go false (Some f) = λ l u cs e. refl
+row_shape s o = search (rules, same_collection, same_rank)
 
 within-collection : (m : Mark) (g : Children → Children) (cs : Children) → IsEntry m → collection m (g cs) ≡ within g (collection m cs)
-within-collection Bare g cs e = absurd e
-within-collection (Key k) g cs e = refl
-within-collection Dash g cs e = refl
+within-collection m g cs h1 = search rules
 
 pub within-shaped : (o : Outline) (g : Children → Children) (cs : Children) → IsCollection o → shaped o (g cs) ≡ within g (shaped o cs)
 within-shaped end g cs e = refl
@@ -95,10 +69,7 @@ row_value s o c = go (find_row s o) (λ h. row_change s h o) (row_shape s o)
     go (Some f) p q = λ h l u same lev new. ap (shaped (plug f.place (row l u f.after))) (p h l u same new) ∙ (q l u (change_child s h (children o)) lev ∙ within-shaped o (change_child s h) (children o) c)
 
 pub anchored-within : (a : Option (List ℕ)) (g : Children → Children) (n : Node) → anchored a (within g n) ≡ within g (anchored a n)
-anchored-within a g (alias n) = refl
-anchored-within a g (scalar b k t) = refl
-anchored-within a g (list b cs) = refl
-anchored-within a g (map b cs) = refl
+anchored-within a g n = search rules
 
 abbrev pub PathChanges : Step → List Step → Outline → (FoundLine × List Step) → Type 0
 PathChanges s ss o x =

@@ -1,5 +1,5 @@
 -- Matches of documents that are ready: trees with no more collections nested than in these.
-use Rattle.std.proofs.Common.{◌≡◌, ◌≤◌, ℕ, suc, Bool, true, false, cond, List, [], ◌∷◌, ◌++◌, max, Option, Some, None, option_and_then, Result, Ok, Err, IfOk, slice_get, refl, subst, arith}
+use Rattle.std.proofs.Common.{◌≡◌, ◌≤◌, ℕ, suc, Bool, true, false, cond, List, [], ◌∷◌, ◌++◌, max, Option, Some, None, option_and_then, Result, Ok, Err, IfOk, slice_get, refl, subst, arith, rules}
 use Rattle.std.proofs.lemmas.Option.{none-some, same_Some}
 use Rattle.yq_flow_scalars.specs.Keys.{depth, deepest}
 use Rattle.yq_flow_scalars.specs.Paths as paths
@@ -27,10 +27,7 @@ use Rattle.yq_plans.proofs.updates.Each.{joined_gives}
 -- ---- how deep collections are nested below a node
 
 children_depth : (n : Node) → deepest (children_of n) ≤ depth n
-children_depth (alias name) = omega arith
-children_depth (scalar anchor kind text) = omega arith
-children_depth (list anchor cs) = omega arith
-children_depth (tree.map anchor cs) = omega arith
+children_depth n = search rules
 
 child_depth : (s : paths.Step) (cs : Children) (n : Node) → child_at s cs ≡ Some n → depth n ≤ deepest cs
 child_depth s none n h = absurd (none-some _ h)

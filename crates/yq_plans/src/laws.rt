@@ -27,6 +27,7 @@ pub fn one_program()
 {}
 
 /// The documents of a text that reads are ready for updates, with the room that the text has.
+#[tactic(auto, using(crate::proofs::RoomLaws::rooms_are_ready))]
 pub fn rooms_ready()
     ensures { RoomsAreReady }
 {}
@@ -40,6 +41,7 @@ pub fn places_apart()
 
 /// A change of one node leaves the node at a path that is apart as it is, and
 /// two such changes may be made in either order.
+#[tactic(auto, using(crate::proofs::updates::Apart::node_apart, crate::proofs::updates::Apart::changes_commute))]
 pub fn changes_apart()
     ensures kept { (p q : List TreeStep) (g : Node → Node) (n : Node) → IsTree n → Apart p q →
         node_at p (change q g n) ≡ node_at p n }
@@ -49,6 +51,7 @@ pub fn changes_apart()
 
 /// The operations of a plan, one after the other, make of documents what the
 /// update means.
+#[tactic(auto, using(crate::proofs::updates::PlanMeans::plan_means))]
 pub fn plan_means()
     ensures { (u : Change) (rooms : ℕ → Room) (docs : List Document) (ops : List Operation) →
         AreReady rooms 0 docs → plans.plan u rooms docs ≡ gives ops → meaning u rooms docs ≡
@@ -56,6 +59,7 @@ pub fn plan_means()
 {}
 
 /// A plan is refused as the update is, and only then.
+#[tactic(auto, using(crate::proofs::updates::PlanMeans::plan_refused, crate::proofs::updates::PlanMeans::meaning_refused))]
 pub fn plan_refused()
     ensures refused { (u : Change) (rooms : ℕ → Room) (docs : List Document) (why : Why) →
         plans.plan u rooms docs ≡ refuses why → meaning u rooms docs ≡ refuses why }
@@ -65,6 +69,7 @@ pub fn plan_refused()
 
 /// Each operation of a plan fits at its turn, where each literal is a value, as
 /// those of a parsed expression are.
+#[tactic(auto, using(crate::proofs::updates::PlanFits::plan_fits))]
 pub fn plan_fits()
     ensures { (u : Change) (rooms : ℕ → Room) (docs : List Document) (ops : List Operation) →
         AreReady rooms 0 docs → UpdatesHold (u ∷ []) → plans.plan u rooms docs ≡ gives ops →
@@ -81,6 +86,7 @@ pub fn plan_rooms()
 
 /// By rooms that are alike for an operation it fits the same documents, and
 /// makes the same of them.
+#[tactic(auto, using(crate::proofs::updates::AlikeRooms::fits_alike, crate::proofs::updates::AlikeRooms::after_alike))]
 pub fn rooms_alike()
     ensures fits { (old new : ℕ → Room) (op : Operation) (docs : List Document) →
         AlikeFor op (old (document_of op)) (new (document_of op)) → Fits old op docs →

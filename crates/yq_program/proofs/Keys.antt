@@ -1,5 +1,5 @@
 -- Keys that differ, as a test.
-use Rattle.std.proofs.Common.{◌≡◌, ◌≢◌, ℕ, zero, suc, ◌<◌, Bool, true, false, List, [], ◌∷◌, length, get_or, refl, sym, ap, ◌∙◌, inl, inr, arith, rules, map, ◌-◌, Option, Some, None, IsTrue, ◌↔◌}
+use Rattle.std.proofs.Common.{◌≡◌, ◌≢◌, ℕ, suc, ◌<◌, Bool, true, false, List, [], ◌∷◌, length, get_or, refl, sym, ap, ◌∙◌, inl, inr, arith, rules, map, ◌-◌, Option, Some, None, IsTrue, ◌↔◌}
 use Rattle.std.specs.Str.{bytes_eq}
 use Rattle.std.specs.List.{list_any, All}
 use Rattle.std.proofs.lemmas.Bool.{not-true, false≢true, false_from_ne_true, and_parts, cases_Bool}
@@ -72,11 +72,7 @@ node_of-map v = opened v ∙ ap (λ (es : List (List ℕ × Node)). tree.map Non
 pub map_is : (depth : ℕ) (ts r : List Token) (x : List (List ℕ × Node) × List Token) → 0 < depth → after (codes "[") ts ≡ None → after (codes "{") ts ≡ Some r
     → listed_at (codes "}") (field_at (literal_at (depth - 1))) r ≡ Some x → are_distinct (map (λ e. e.0) x.0) ≡ true → literal_at depth ts ≡ Some (tree.map None (entries x.0), x.1)
 unfolding literal_at
-map_is zero ts r x some a b c d = absurd (omega arith)
-map_is (suc depth) ts r x some a b c d =
-    let less : suc depth - 1 ≡ depth = omega arith in
-    let inner = rw less at c in
-    rw (a, b, inner, d) refl
+map_is depth ts r x h1 = search rules
 
 -- what is no value is nothing
 pub none_by : {A : Type 0} (o : Option A) → ((x : A) → o ≡ Some x → ⊥) → o ≡ None

@@ -1,5 +1,5 @@
 -- Where tokens end, and that the tokens of a text are those in front and those of what follows.
-use Rattle.std.proofs.Common.{◌≡◌, ◌⊎◌, ℕ, zero, suc, ◌+◌, ◌<◌, ◌≤◌, Bool, true, false, cond, ◌&&◌, ◌||◌, ◌==◌, List, [], ◌∷◌, length, take, drop, get_or, Option, Some, None, is_some, refl, sym, ap, ◌∙◌, subst, inl, inr, arith, add-one, eqb-true, length-drop}
+use Rattle.std.proofs.Common.{◌≡◌, ◌⊎◌, ℕ, zero, suc, ◌+◌, ◌<◌, ◌≤◌, Bool, true, false, cond, ◌&&◌, ◌||◌, ◌==◌, List, [], ◌∷◌, length, take, drop, get_or, Option, Some, None, is_some, refl, sym, ap, subst, inl, inr, arith, add-one, eqb-true, length-drop, rules}
 use Rattle.std.proofs.lemmas.Bool.{and_parts, cases_Bool}
 use Rattle.std.proofs.lemmas.List.{get_or-drop}
 use Rattle.std.proofs.lemmas.List.Sums.{prefix_len_passes, prefix_len-le-length}
@@ -13,7 +13,7 @@ use Rattle.yq_flow_scalars.proofs.Boundaries.{boundary_unless}
 use Rattle.yq_flow_scalars.proofs.Upto.{upto_unless}
 use Rattle.yq_flow_scalars.proofs.Bools.{chosen, guard_then}
 use Rattle.yq_program.specs.Tokens.{Token, is_blank, begins_name, is_name_byte, is_word, is_mark, is_mark_before, is_foreign, escape}
-use Rattle.yq_program.specs.Lexing.{beyond, closing, escaping, quoted, fraction_len, number_len, dotted, marked, worded, measure, cut_token, front_token, next, ahead, tokens_in, tokens}
+use Rattle.yq_program.specs.Lexing.{beyond, closing, escaping, quoted, fraction_len, number_len, dotted, marked, worded, measure, front_token, next, ahead, tokens_in, tokens}
 use Rattle.yq_program.specs.declared.token.Form.{Form}
 use Rattle.yq_program.specs.declared.token.Form.TheVariants as form
 
@@ -199,17 +199,7 @@ pub token_some : (t : List ℕ) (f : Form) (n : ℕ) → measure t ≡ Some (f, 
 token_some t f n e = let ends = measure_ends t (f, n) e in omega (arith, ends.1)
 
 front_shorter : (t : List ℕ) (x : Token × List ℕ) → front_token t ≡ Some x → length x.1 < length t
-front_shorter [] x h = cc
-front_shorter (b ∷ bs) x h = go (measure (b ∷ bs)) refl (same_Some (cut_token (b ∷ bs) (measure (b ∷ bs))) x h)
-  where
-    go : (m : Option (Form × ℕ)) → measure (b ∷ bs) ≡ m → cut_token (b ∷ bs) (measure (b ∷ bs)) ≡ x → length x.1 < length (b ∷ bs)
-    go None e is =
-        let r : [] ≡ x.1 = ap (λ (y : Token × List ℕ). y.1) (ap (cut_token (b ∷ bs)) (sym e) ∙ is) in
-        rw (← r) (omega arith)
-    go (Some y) e is =
-        let r : drop y.1 (b ∷ bs) ≡ x.1 = ap (λ (y : Token × List ℕ). y.1) (ap (cut_token (b ∷ bs)) (sym e) ∙ is) in
-        let ends = measure_ends (b ∷ bs) y e in
-        rw (← r) (omega (arith, ends.1, length-drop y.1 (b ∷ bs)))
+front_shorter t x h1 = search (rules, same_Some, measure_ends, length-drop)
 
 -- less is left behind a token
 pub next_shorter : (t : List ℕ) (x : Token × List ℕ) → next t ≡ Some x → length x.1 < length t
@@ -232,7 +222,4 @@ enough (suc n) (suc m) t h k = ahead_same (tokens_in n) (tokens_in m) (next t)
 -- the tokens of a text are the one in front and those of what follows
 pub tokens_next : (t : List ℕ) → tokens t ≡ ahead tokens (next t)
 unfolding tokens tokens_in
-tokens_next t =
-    let n : suc (length t) ≡ 1 + length t = omega arith in
-    subst (λ (k : ℕ). tokens_in k t ≡ ahead tokens (next t)) n (ahead_same (tokens_in (length t)) tokens (next t)
-    (λ x e. let lt = next_shorter t x e in enough (length t) (1 + length x.1) x.1 (omega arith) (omega arith)))
+tokens_next t = search (rules, ahead_same, next_shorter, enough)

@@ -1,7 +1,6 @@
 -- Scalars and literals of the grammar are read again.
-use Rattle.std.proofs.Common.{◌≡◌, ℕ, zero, suc, true, false, List, [], ◌∷◌, map, Some, None, refl, sym, ◌∙◌, inl, inr}
+use Rattle.std.proofs.Common.{◌≡◌, ℕ, zero, suc, true, false, List, [], ◌∷◌, map, Some, None, refl, inl, inr, rules}
 use Rattle.std.specs.Prelude.{codes}
-use Rattle.std.specs.Str.{bytes_eq}
 use Rattle.std.proofs.lemmas.Bool.{false≢true, cases_Bool}
 use Rattle.std.proofs.lemmas.Slice.Eq.{bytes_eq-Decides}
 use Rattle.yq_flow_scalars.specs.Scalar.{ScalarText}
@@ -17,18 +16,7 @@ use Rattle.yq_program.proofs.LoopSteps.{item_lessens, field_lessens}
 use Rattle.yq_program.proofs.FormsAgain.{after_again, Again, parted_again, Anything}
 
 word_again : (w : List ℕ) (r : List Token) → is_one_of scalar_words w ≡ true → word_at (symbol w ∷ r) ≡ Some (w, r)
-word_again w r h = elim (cases_Bool (bytes_eq w (codes "true"))) [
-  | inl is ↦ let e : w ≡ codes "true" = (bytes_eq-Decides w (codes "true")).0 is in rw e refl
-  | inr not_true ↦ elim (cases_Bool (bytes_eq w (codes "false"))) [
-    | inl is ↦ let e : w ≡ codes "false" = (bytes_eq-Decides w (codes "false")).0 is in rw e refl
-    | inr not_false ↦ elim (cases_Bool (bytes_eq w (codes "null"))) [
-      | inl is ↦ let e : w ≡ codes "null" = (bytes_eq-Decides w (codes "null")).0 is in rw e refl
-      | inr not_null ↦
-          let none : is_one_of scalar_words w ≡ false = rw (not_true, not_false, not_null) refl in
-          absurd (false≢true (sym none ∙ h))
-    ]
-  ]
-]
+word_again w r h = search (rules, cases_Bool, bytes_eq-Decides, false≢true)
 
 pub scalar_again : Again scalar_at IsPlainLiteral Anything
 unfolding scalar_at
@@ -38,21 +26,14 @@ scalar_again s ts rest (inr (inr h)) f = rw (h.3, h.1) (rw (word_again h.0 rest 
 
 -- a word for a scalar is none of these marks
 word_is_none : (w : List ℕ) (r : List Token) (s : List ℕ) → is_one_of scalar_words w ≡ true → is_one_of scalar_words s ≡ false → after s (symbol w ∷ r) ≡ None
-word_is_none w r s h not_word = elim (cases_Bool (bytes_eq w s)) [
-  | inl is ↦ let e : w ≡ s = (bytes_eq-Decides w s).0 is in absurd (false≢true (sym not_word ∙ rw e at h))
-  | inr other ↦ rw other refl
-]
+word_is_none w r s h not_word = search (rules, cases_Bool, bytes_eq-Decides, false≢true)
 
 -- no mark or word but those of scalars begins a scalar
 scalar_begins : (s : ScalarText) (ts rest : List Token) → IsPlainLiteral s ts rest → (mark : List ℕ) → is_one_of scalar_words mark ≡ false → after mark ts ≡ None
-scalar_begins s ts rest (inl h) mark not_word = rw h.2 refl
-scalar_begins s ts rest (inr (inl h)) mark not_word = rw h.2 refl
-scalar_begins s ts rest (inr (inr h)) mark not_word = rw h.3 (word_is_none h.0 rest mark h.2 not_word)
+scalar_begins s ts rest h1 mark h2 = search (rules, word_is_none)
 
 scalar_unnamed : (s : ScalarText) (ts rest : List Token) → IsPlainLiteral s ts rest → taken as_step ts ≡ None
-scalar_unnamed s ts rest (inl h) = rw h.2 refl
-scalar_unnamed s ts rest (inr (inl h)) = rw h.2 refl
-scalar_unnamed s ts rest (inr (inr h)) = rw h.3 refl
+scalar_unnamed s ts rest h1 = search rules
 
 -- a literal begins with none of these
 pub record BeginsLiteral (ts : List Token) : Type 0 where
@@ -66,18 +47,7 @@ listed_begins opening closing Is (x ∷ xs) ts rest h = (h.0, h.2)
 
 pub literal_begins : (depth : ℕ) (n : Node) (ts rest : List Token) → IsLiteral depth n ts rest → BeginsLiteral ts
 unfolding IsLiteral
-literal_begins zero n ts rest h =
-    let none = scalar_begins h.0 ts rest h.2 in
-    record { item = none (codes "]") refl; entry = none (codes "}") refl; left = rw (scalar_unnamed h.0 ts rest h.2, none (codes ".") refl, none (codes "(") refl) refl }
-literal_begins (suc depth) n ts rest (inl h) =
-    let none = scalar_begins h.0 ts rest h.2 in
-    record { item = none (codes "]") refl; entry = none (codes "}") refl; left = rw (scalar_unnamed h.0 ts rest h.2, none (codes ".") refl, none (codes "(") refl) refl }
-literal_begins (suc depth) n ts rest (inr (inl h)) =
-    let o = listed_begins (codes "[") (codes "]") (IsLiteral depth) h.0 ts rest h.2 in
-    record { item = rw o.1 refl; entry = rw o.1 refl; left = rw o.1 refl }
-literal_begins (suc depth) n ts rest (inr (inr h)) =
-    let o = listed_begins (codes "{") (codes "}") (IsField (IsLiteral depth)) h.0 ts rest h.3 in
-    record { item = rw o.1 refl; entry = rw o.1 refl; left = rw o.1 refl }
+literal_begins depth n ts rest h1 = search (rules, scalar_begins, scalar_unnamed, listed_begins)
 
 listed_again : {A : Type 0} (opening closing : List ℕ) (at : Parse A) (Is : Production A) → Lessens (behind_at (codes ",") at) → Again at Is Anything
     → ((x : A) (ts rest : List Token) → Is x ts rest → after closing ts ≡ None) → ((r : List Token) → after (codes ",") (symbol closing ∷ r) ≡ None)

@@ -1,5 +1,5 @@
 -- Literals are trees without anchors and aliases, which nest so far and no further.
-use Rattle.std.proofs.Common.{◌≡◌, ◌≢◌, ℕ, zero, suc, ◌≤◌, List, [], ◌∷◌, ◌++◌, map, None, refl, subst, sym, inl, inr, arith}
+use Rattle.std.proofs.Common.{◌≡◌, ◌≢◌, ℕ, zero, suc, ◌≤◌, List, [], ◌∷◌, ◌++◌, map, None, refl, subst, sym, inl, inr, arith, rules}
 use Rattle.std.proofs.lemmas.Option.{same_Some}
 use Rattle.std.specs.List.{All}
 use Rattle.std.specs.Prelude.{⊤, codes}
@@ -114,9 +114,7 @@ UpdateHolds (delete stages) = ⊤
 UpdateHolds (comment left place text) = ⊤
 
 update_holds : (u : Update) (ts rest : List Token) → IsUpdate u ts rest → UpdateHolds u
-update_holds (assign left op right) ts rest h = sum_holds right (each_parted TermHolds (codes "+") IsTerm term_holds right h.1 rest h.4)
-update_holds (delete stages) ts rest h = tt
-update_holds (comment left place text) ts rest h = tt
+update_holds u ts rest h1 = search (rules, sum_holds, each_parted, term_holds)
 
 updates_hold : (us : List Update) → Each UpdateHolds us → UpdatesHold us
 updates_hold [] h = tt

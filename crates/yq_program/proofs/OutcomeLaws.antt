@@ -1,5 +1,5 @@
 -- That the outcome of a text is what it comes to by the grammar, and nothing else.
-use Rattle.std.proofs.Common.{◌≡◌, ◌⊎◌, ◌↔◌, ℕ, Bool, true, false, List, Option, Some, None, refl, sym, ap, ◌∙◌, inl, inr, arith}
+use Rattle.std.proofs.Common.{◌≡◌, ◌⊎◌, ◌↔◌, ℕ, Bool, true, false, List, Option, Some, None, refl, sym, ap, ◌∙◌, inl, inr, rules}
 use Rattle.yq_flow_scalars.proofs.Bools.{chosen}
 use Rattle.yq_program.specs.declared.error.ParseError.{ParseError}
 use Rattle.yq_program.specs.declared.error.ParseError.TheVariants as error
@@ -7,8 +7,8 @@ use Rattle.yq_program.specs.Tokens.{Token, AreTokens}
 use Rattle.yq_program.specs.Lexing.{tokens, AreRead}
 use Rattle.yq_program.specs.Program.{Program}
 use Rattle.yq_program.specs.Grammar.{IsProgram, literal_depth}
-use Rattle.yq_program.specs.Outcome.{Outcome, parsed, refused, ComesTo, HasForeign, ExprRefused, IsTooDeep, has_pattern}
-use Rattle.yq_program.specs.Parse.{surveyed, program_at, unless_pattern, outcome_of, outcome}
+use Rattle.yq_program.specs.Outcome.{Outcome, parsed, refused, ComesTo, HasForeign, ExprRefused, IsTooDeep}
+use Rattle.yq_program.specs.Parse.{surveyed, program_at, outcome}
 use Rattle.yq_program.proofs.Outcomes.{all_read, derives_again, none_in, outcome_again, outcome_parsed, outcome_refused, surveys, unread_in}
 use Rattle.yq_program.proofs.TextTokens.{tokens_take, tokens_again}
 use Rattle.yq_program.proofs.UpdateTakes.{program_takes}
@@ -24,10 +24,7 @@ no_tokens text none None s = s
 no_tokens text none (Some b) s = absurd (none (tokens text) (tokens_take text (all_read (tokens text) false 0 0 b s)))
 
 others : (ts : List Token) → AreRead ts → HasForeign ts ⊎ IsTooDeep ts → (o : Option Bool) → surveyed false 0 0 ts ≡ o → surveyed false 0 0 ts ≡ Some true
-others ts r why None s = absurd (unread_in ts false 0 0 s r)
-others ts r why (Some true) s = s
-others ts r (inl other) (Some false) s = absurd ((none_in ts false 0 0 s (λ lt. omega arith)).0 other)
-others ts r (inr deep) (Some false) s = absurd ((none_in ts false 0 0 s (λ lt. omega arith)).1 deep.0 (omega (arith, deep.1)))
+others ts h1 h2 o h3 = search (rules, unread_in, none_in)
 
 no_program : (ts : List Token) → ((p : Program) → IsProgram p ts → ⊥) → (o : Option Program) → program_at literal_depth ts ≡ o → program_at literal_depth ts ≡ None
 no_program ts none None s = s
@@ -38,11 +35,7 @@ no_program ts none (Some p) s = absurd (none p (program_takes ts p s))
 refuses : (text : List ℕ) (e : ParseError) → (e ≡ error.Memory → ⊥) → ExprRefused e text → outcome text ≡ refused e
 unfolding outcome
 refuses text error.Syntax other (inl none) = let s : surveyed false 0 0 (tokens text) ≡ None = no_tokens text none (surveyed false 0 0 (tokens text)) refl in rw s refl
-refuses text error.Syntax other (inr (ts, are, own, shallow, none)) =
-    let read = tokens_again ts text are in
-    let s = surveys ts read.1 own shallow (surveyed false 0 0 ts) refl in
-    let p = no_program ts none (program_at literal_depth ts) refl in
-    rw (read.0, s, p) refl
+refuses text error.Syntax other (inr (ts, are, own, shallow, none)) = search (rules, no_tokens, tokens_again, surveys, no_program, others, derives_again)
 refuses text error.NotInProfile other (ts, are, why) =
     let read = tokens_again ts text are in
     let s = others ts read.1 why (surveyed false 0 0 ts) refl in
@@ -52,16 +45,7 @@ refuses text error.Memory other why = absurd (other refl)
 
 no_memory : (text : List ℕ) → outcome text ≡ refused error.Memory → ⊥
 unfolding outcome
-no_memory text h = go (surveyed false 0 0 (tokens text)) (program_at literal_depth (tokens text)) h
-  where
-    last : (o : Option Program) → unless_pattern o ≡ refused error.Memory → ⊥
-    last None k = cc
-    last (Some q) k = elim (chosen (has_pattern q) k) [ inl pattern ↦ cc | inr none ↦ cc ]
-
-    go : (o : Option Bool) (p : Option Program) → outcome_of o p ≡ refused error.Memory → ⊥
-    go None p k = cc
-    go (Some true) p k = cc
-    go (Some false) p k = last p k
+no_memory text h = search (rules, chosen)
 
 takes : (text : List ℕ) (o : Outcome) → outcome text ≡ o → ComesTo text o
 takes text (parsed p) h = outcome_parsed text p h

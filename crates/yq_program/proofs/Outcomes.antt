@@ -1,12 +1,12 @@
 -- What the survey of a text tells, and that outcomes are as the order of refusals says.
-use Rattle.std.proofs.Common.{◌≡◌, ◌⊎◌, ℕ, zero, suc, ◌+◌, ◌<◌, Bool, true, false, ◌||◌, nat_lt, List, [], ◌∷◌, take, Option, Some, None, Result, Ok, Err, refl, sym, ap, ◌∙◌, subst, inl, inr, arith, ltb-true}
+use Rattle.std.proofs.Common.{◌≡◌, ◌⊎◌, ℕ, zero, suc, ◌+◌, ◌<◌, Bool, true, false, ◌||◌, nat_lt, List, [], ◌∷◌, take, Option, Some, None, Result, Ok, Err, refl, sym, ap, ◌∙◌, subst, inl, inr, arith, ltb-true, rules}
 use Rattle.std.proofs.lemmas.Bool.{false≢true, or_cases, lt-ltb, or_parts}
 use Rattle.std.proofs.lemmas.Option.{none-some}
 use Rattle.std.specs.Prelude.{IfOk, IfErr}
 use Rattle.yq_flow_scalars.proofs.Bools.{chosen}
 use Rattle.yq_program.specs.declared.error.ParseError.{ParseError}
 use Rattle.yq_program.specs.declared.error.ParseError.TheVariants as error
-use Rattle.yq_program.specs.Tokens.{Token, string, number, step, symbol, foreign, unread, AreTokens}
+use Rattle.yq_program.specs.Tokens.{Token, foreign, unread, AreTokens}
 use Rattle.yq_program.specs.Lexing.{tokens, AreRead}
 use Rattle.yq_program.specs.Program.{Program, LiteralsHold}
 use Rattle.yq_program.specs.Grammar.{literal_depth}
@@ -18,23 +18,13 @@ use Rattle.yq_program.proofs.UpdateTakes.{program_takes}
 use Rattle.yq_program.proofs.ProgramAgain.{program_again}
 
 unread_is : (t : Token) → is_unread t ≡ true → t ≡ unread
-unread_is unread h = refl
-unread_is (string c) h = cc
-unread_is (number w) h = cc
-unread_is (step k) h = cc
-unread_is (symbol w) h = cc
-unread_is foreign h = cc
+unread_is t h1 = search rules
 
 read_is : (t : Token) → is_unread t ≡ false → t ≡ unread → ⊥
 read_is t h e = false≢true (sym h ∙ ap is_unread e)
 
 foreign_is : (t : Token) → is_foreign_token t ≡ true → t ≡ foreign
-foreign_is unread h = cc
-foreign_is (string c) h = cc
-foreign_is (number w) h = cc
-foreign_is (step k) h = cc
-foreign_is (symbol w) h = cc
-foreign_is foreign h = refl
+foreign_is t h1 = search rules
 
 no_foreign : (t : Token) → is_foreign_token t ≡ false → t ≡ foreign → ⊥
 no_foreign t h e = false≢true (sym h ∙ ap is_foreign_token e)
@@ -156,9 +146,7 @@ survey_fails text h ts are = unread_in (tokens text) false 0 0 h (let read = tok
 
 -- the tokens are this language's, and don't nest too deep
 pub survey_passes : (text : List ℕ) → surveyed false 0 0 (tokens text) ≡ Some false → AreTokens (tokens text) text × (HasForeign (tokens text) → ⊥) × (IsTooDeep (tokens text) → ⊥)
-survey_passes text h =
-    let none = none_in (tokens text) false 0 0 h (λ lt. omega arith) in
-    (tokens_take text (all_read (tokens text) false 0 0 false h), none.0, λ deep. none.1 deep.0 (omega (arith, deep.1)))
+survey_passes text h = search (rules, none_in, tokens_take, all_read)
 
 pub derives_in : (text : List ℕ) (p : Program) → surveyed false 0 0 (tokens text) ≡ Some false → program_at literal_depth (tokens text) ≡ Some p → Derives text p
 derives_in text p h k =
@@ -166,12 +154,7 @@ derives_in text p h k =
     (tokens text, passes.0, passes.1, passes.2, program_takes (tokens text) p k)
 
 pub surveys : (ts : List Token) → AreRead ts → (HasForeign ts → ⊥) → (IsTooDeep ts → ⊥) → (o : Option Bool) → surveyed false 0 0 ts ≡ o → surveyed false 0 0 ts ≡ Some false
-surveys ts r f d None e = absurd (unread_in ts false 0 0 e r)
-surveys ts r f d (Some false) e = e
-surveys ts r f d (Some true) e = elim (refused_in ts false 0 0 e) [
-  | inl before ↦ cc
-  | inr found ↦ elim found [ inl other ↦ absurd (f other) | inr deep ↦ absurd (d (too_deep ts deep.0 deep.1)) ]
-]
+surveys ts h1 h2 h3 o h4 = search (rules, unread_in, refused_in, too_deep)
 
 pub derives_again : (text : List ℕ) (p : Program) → Derives text p → (surveyed false 0 0 (tokens text) ≡ Some false) × (program_at literal_depth (tokens text) ≡ Some p)
 derives_again text p h =
@@ -187,19 +170,7 @@ one_of text p q h k = let a = (derives_again text p h).1 in let b = (derives_aga
 
 pub outcome_parsed : (text : List ℕ) (p : Program) → outcome text ≡ parsed p → Derives text p × (has_pattern p ≡ false)
 unfolding outcome
-outcome_parsed text p h = go (surveyed false 0 0 (tokens text)) refl h
-  where
-    last : (o : Option Program) → program_at literal_depth (tokens text) ≡ o → surveyed false 0 0 (tokens text) ≡ Some false → unless_pattern o ≡ parsed p → Derives text p × (has_pattern p ≡ false)
-    last None e s k = cc
-    last (Some q) e s k = elim (chosen (has_pattern q) k) [
-      | inl pattern ↦ cc
-      | inr none ↦ let same : q ≡ p = cc in subst (λ (x : Program). Derives text x × (has_pattern x ≡ false)) same (derives_in text q s e, none.0)
-    ]
-
-    go : (o : Option Bool) → surveyed false 0 0 (tokens text) ≡ o → outcome_of o (program_at literal_depth (tokens text)) ≡ parsed p → Derives text p × (has_pattern p ≡ false)
-    go None s k = cc
-    go (Some true) s k = cc
-    go (Some false) s k = last (program_at literal_depth (tokens text)) refl s k
+outcome_parsed text p h = search (rules, chosen, derives_in)
 
 pub outcome_refused : (text : List ℕ) (e : ParseError) → outcome text ≡ refused e → ExprRefused e text
 unfolding outcome
@@ -231,11 +202,7 @@ found_by view text (Ok x) h = outcome_parsed text (view x) h
 found_by view text (Err e) h = tt
 
 pub refused_by : {X : Type 0} (view : X → Program) (text : List ℕ) (r : Result X ParseError) → Answers view r (outcome text) → IfErr r (λ e. ExprRefused e text)
-refused_by view text (Ok x) h = tt
-refused_by view text (Err error.Syntax) h = outcome_refused text error.Syntax h
-refused_by view text (Err error.NotInProfile) h = outcome_refused text error.NotInProfile h
-refused_by view text (Err error.Pattern) h = outcome_refused text error.Pattern h
-refused_by view text (Err error.Memory) h = tt
+refused_by view text r h1 = search (rules, outcome_refused)
 
 pub only_by : {X : Type 0} (view : X → Program) (text : List ℕ) (r : Result X ParseError) → Answers view r (outcome text)
     → (p : Program) → Derives text p → has_pattern p ≡ false → Answers view r (parsed p)

@@ -1,7 +1,7 @@
 -- Steps and paths of the grammar are read again.
-use Rattle.std.proofs.Common.{◌≡◌, ◌⊎◌, ℕ, List, [], ◌∷◌, Some, None, refl, inl, inr}
+use Rattle.std.proofs.Common.{◌≡◌, ◌⊎◌, ℕ, List, [], ◌∷◌, Some, None, refl, inl, inr, rules}
 use Rattle.std.specs.Prelude.{codes}
-use Rattle.yq_program.specs.Program.{Step, key, index, each}
+use Rattle.yq_program.specs.Program.{Step}
 use Rattle.yq_program.specs.Tokens.{Token, step}
 use Rattle.yq_program.specs.Lexing.{after, taken, as_step}
 use Rattle.yq_program.specs.Grammar.{HasSymbol, IsBracket, IsNamed, IsFirst, IsNext, Are, IsPath}
@@ -11,20 +11,14 @@ use Rattle.yq_program.proofs.FormsAgain.{Again, AgainMaybe, many_again, Anything
 
 bracket_again : (s : Step) (ts rest : List Token) → IsBracket s ts rest → bracket_at ts ≡ Some (Some (s, rest))
 unfolding bracketed_at
-bracket_again (key k) ts rest h = rw h refl
-bracket_again (index n) ts rest h = rw h.2 (rw h.1 refl)
-bracket_again each ts rest h = rw h refl
+bracket_again s ts rest h1 = search rules
 
 unnamed : (s : Step) (ts rest : List Token) → IsBracket s ts rest → (taken as_step ts ≡ None) × (after (codes ".") ts ≡ None)
-unnamed (key k) ts rest h = (rw h refl, rw h refl)
-unnamed (index n) ts rest h = (rw h.2 refl, rw h.2 refl)
-unnamed each ts rest h = (rw h refl, rw h refl)
+unnamed s ts rest h1 = search rules
 
 named_again : (s : Step) (ts rest : List Token) → IsNamed s ts rest → step_at ts ≡ Some (Some (s, rest))
 unfolding step_at
-named_again (key k) ts rest h = rw h refl
-named_again (index n) ts rest h = absurd h
-named_again each ts rest h = absurd h
+named_again s ts rest h1 = search rules
 
 step_again : AgainMaybe step_at IsNext Anything
 unfolding step_at
@@ -44,10 +38,7 @@ abbrev pub BeginsPath : List Token → Type 0
 BeginsPath ts = ((k : List ℕ) × (r : List Token) × (ts ≡ step k ∷ r)) ⊎ ((r : List Token) × HasSymbol (codes ".") ts r)
 
 first_begins : (s : Step) (ts rest : List Token) → IsFirst s ts rest → BeginsPath ts
-first_begins (key k) ts rest (inl h) = inl (k, rest, h)
-first_begins (index n) ts rest (inl h) = absurd h
-first_begins each ts rest (inl h) = absurd h
-first_begins s ts rest (inr h) = inr (h.0, h.1)
+first_begins s ts rest h1 = search rules
 
 pub path_begins : (steps : List Step) (ts rest : List Token) → IsPath steps ts rest → BeginsPath ts
 path_begins [] ts rest h = inr (rest, h)

@@ -1,5 +1,5 @@
 -- The steps and paths that are read are those of the grammar, and each has a token at least.
-use Rattle.std.proofs.Common.{◌≡◌, true, false, List, [], ◌∷◌, length, Some, is_some, refl, ap, ◌∙◌, inl, inr, arith}
+use Rattle.std.proofs.Common.{◌≡◌, false, List, [], ◌∷◌, length, Some, is_some, ap, inl, inr, arith, rules}
 use Rattle.std.proofs.lemmas.Option.{same_Some}
 use Rattle.std.specs.Prelude.{codes}
 use Rattle.yq_flow_scalars.specs.SchemaReading.{int_value}
@@ -74,20 +74,7 @@ next_shortens s ts rest (inr (inl h)) = bracket_shortens s ts rest h
 next_shortens s ts rest (inr (inr h)) = dotted_shortens s ts rest h
 
 path_takes_of : (ts : List Token) (y x : List Step × List Token) → is_some (after (codes "[") ts) ≡ false → Are IsNext y.0 ts y.1 → path_of y ≡ Some x → IsPath x.0 ts x.1
-path_takes_of ts ([], end) x closed are h =
-    let r = bind_some (after (codes ".") end) h in
-    same_form IsPath ts r.2 (are ∙ after_takes (codes ".") end r.0 r.1)
-path_takes_of ts (s ∷ steps, end) x closed are h = same_form IsPath ts h (are.0, go _ are.1, are.2)
-  where
-    opens : (s : Step) (mid : List Token) → IsBracket s ts mid → is_some (after (codes "[") ts) ≡ true
-    opens (key k) mid h = rw h refl
-    opens (index n) mid h = rw h.2 refl
-    opens each mid h = rw h refl
-
-    go : (mid : List Token) → IsNext s ts mid → IsFirst s ts mid
-    go mid (inl h) = inl h
-    go mid (inr (inl h)) = let opened = opens s _ h in cc
-    go mid (inr (inr h)) = inr h
+path_takes_of ts y x = search (rules, bind_some, same_form, after_takes)
 
 pub path_takes : Takes path_at IsPath
 unfolding path_at

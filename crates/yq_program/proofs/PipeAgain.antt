@@ -1,5 +1,5 @@
 -- Conditions, stages and pipes of the grammar are read again.
-use Rattle.std.proofs.Common.{◌≡◌, Bool, true, false, List, [], ◌∷◌, Some, None, refl, sym, subst, inl, inr}
+use Rattle.std.proofs.Common.{◌≡◌, Bool, true, false, List, [], ◌∷◌, Some, None, refl, sym, subst, inl, inr, rules}
 use Rattle.std.specs.Prelude.{codes}
 use Rattle.yq_program.specs.Program.{is_simple, Step, key, index, each, Operand, value_at, document_index, compares, has, Stage, path, select}
 use Rattle.yq_program.specs.Tokens.{Token, symbol}
@@ -8,7 +8,7 @@ use Rattle.yq_program.specs.Grammar.{Production, HasSymbol, IsSimple, IsOperand,
 use Rattle.yq_program.specs.Parse.{Parse, parenthesized_at, operand_at, comparison_at, condition_at, stage_at, pipe_at, left_at, begins_left}
 use Rattle.yq_program.proofs.LoopSteps.{stage_lessens}
 use Rattle.yq_program.proofs.FormsAgain.{after_again, Again, parted_again, Anything, Ends}
-use Rattle.yq_program.proofs.PathAgain.{BeginsPath, path_begins, path_again}
+use Rattle.yq_program.proofs.PathAgain.{path_begins, path_again}
 use Rattle.yq_program.proofs.LiteralAgain.{scalar_again}
 
 simple_again : (steps : List Step) → IsSimple steps → is_simple steps ≡ true
@@ -30,13 +30,7 @@ operand_again document_index ts rest (inl h) f = rw h refl
 operand_again document_index ts rest (inr h) f = rw h refl
 
 operand_begins : (o : Operand) (ts rest : List Token) → IsOperand o ts rest → after (codes "has") ts ≡ None
-operand_begins (value_at steps) ts rest h = go (path_begins steps ts rest h.1)
-  where
-    go : BeginsPath ts → after (codes "has") ts ≡ None
-    go (inl b) = rw b.2 refl
-    go (inr b) = rw b.1 refl
-operand_begins document_index ts rest (inl h) = rw h refl
-operand_begins document_index ts rest (inr h) = rw h refl
+operand_begins o ts rest h1 = search (rules, path_begins)
 
 comparison_again : (equal : Bool) (ts rest : List Token) → HasSymbol (comparison equal) ts rest → (comparison_at ts ≡ Some (equal, rest)) × Ends ts
 comparison_again true ts rest h = (rw h refl, (rw h refl, rw h refl, rw h refl))
@@ -98,9 +92,4 @@ left_again stages ts rest (inr h) f =
 
 -- a left side begins with a path or a parenthesis
 pub left_begins : (stages : List Stage) (ts rest : List Token) → IsLeft stages ts rest → (begins_left ts ≡ true) × (after (codes "del") ts ≡ None)
-left_begins stages ts rest (inl h) = go (path_begins h.0 ts rest h.2)
-  where
-    go : BeginsPath ts → (begins_left ts ≡ true) × (after (codes "del") ts ≡ None)
-    go (inl b) = (rw b.2 refl, rw b.2 refl)
-    go (inr b) = (rw b.1 refl, rw b.1 refl)
-left_begins stages ts rest (inr h) = (rw h.2 refl, rw h.2 refl)
+left_begins stages ts rest h1 = search (rules, path_begins)

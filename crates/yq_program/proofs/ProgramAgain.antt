@@ -1,11 +1,10 @@
 -- Programs of the grammar are read again: no tokens are both a pipe and updates.
-use Rattle.std.proofs.Common.{◌≡◌, ◌⊎◌, ℕ, false, List, [], ◌∷◌, Option, Some, None, refl, sym, ◌∙◌, subst, inl, inr}
+use Rattle.std.proofs.Common.{◌≡◌, ◌⊎◌, ℕ, false, List, [], ◌∷◌, Option, Some, None, refl, inl, inr, rules}
 use Rattle.std.specs.Prelude.{codes}
 use Rattle.std.specs.Str.{bytes_eq}
 use Rattle.std.proofs.lemmas.Bool.{false≢true}
 use Rattle.std.proofs.lemmas.Slice.Eq.{bytes_eq-Decides}
 use Rattle.yq_program.specs.declared.program.Operator.{Operator}
-use Rattle.yq_program.specs.declared.program.Operator.TheVariants as operator
 use Rattle.yq_program.specs.declared.program.CommentPlace.{CommentPlace}
 use Rattle.yq_program.specs.declared.program.CommentPlace.TheVariants as place
 use Rattle.yq_program.specs.Program.{Stage, path, select, Update, assign, delete, comment, Program, read, updates}
@@ -35,18 +34,14 @@ acts_ends ts (inr h) = (place_again h.0 ts h.1 h.2).2.0
 
 -- two marks that differ
 two_marks : (ts : List Token) (w v : List ℕ) (r q : List Token) → HasSymbol w ts r → HasSymbol v ts q → bytes_eq w v ≡ false → ⊥
-two_marks ts w v r q h k differ =
-    let same : w ≡ v = cc in
-    false≢true (sym differ ∙ (bytes_eq-Decides w v).1 same)
+two_marks ts w v r q h k differ = search (rules, false≢true, bytes_eq-Decides)
 
 mark_alone : (ts : List Token) (w : List ℕ) (r : List Token) → HasSymbol w ts r → bytes_eq w (codes "|") ≡ false → ((ts ≡ []) ⊎ ((r : List Token) × HasSymbol (codes "|") ts r)) → ⊥
 mark_alone ts w r h other (inl e) = cc
 mark_alone ts w r h other (inr e) = two_marks ts w (codes "|") r e.0 h e.1 other
 
 no_operator : (op : Operator) → bytes_eq (operator_mark op) (codes "|") ≡ false
-no_operator operator.Set = refl
-no_operator operator.Modify = refl
-no_operator operator.Add = refl
+no_operator op = search rules
 
 no_place : (p : CommentPlace) → bytes_eq (place_word p) (codes "|") ≡ false
 no_place place.Line = refl
@@ -63,15 +58,7 @@ begins_other ts w r (inr b) e other = two_marks ts w (codes ".") r b.0 e b.1 oth
 
 -- no tokens are both a pipe and updates
 no_stage : (s : Stage) (ts end sign : List Token) (left : List Stage) → IsStage s ts end → ((end ≡ []) ⊎ ((r : List Token) × HasSymbol (codes "|") end r)) → IsLeft left ts sign → Acts sign → ⊥
-no_stage (path steps) ts end sign left h on (inl l) acts =
-    let ends : Ends end = elim on [ inl e ↦ rw e (refl, refl, refl) | inr m ↦ rw m.1 (refl, refl, refl) ] in
-    let a = path_again steps ts end h ends in
-    let b = path_again l.0 ts sign l.2 (acts_ends sign acts) in
-    let same : end ≡ sign = second (sym a ∙ b) in
-    acts_alone sign acts (subst (λ (t : List Token). (t ≡ []) ⊎ ((r : List Token) × HasSymbol (codes "|") t r)) same on)
-no_stage (path steps) ts end sign left h on (inr l) acts = begins_other ts (codes "(") l.0 (path_begins steps ts end h) l.2 refl
-no_stage (select c) ts end sign left h on (inl l) acts = begins_other ts (codes "select") h.0 (path_begins l.0 ts sign l.2) h.1 refl
-no_stage (select c) ts end sign left h on (inr l) acts = two_marks ts (codes "select") (codes "(") h.0 l.0 h.1 l.2 refl
+no_stage s ts end sign left h1 h2 h3 h4 = search (rules, path_again, acts_ends, second, acts_alone, begins_other, path_begins, two_marks)
 
 no_delete : (s : Stage) (ts end r : List Token) → IsStage s ts end → HasSymbol (codes "del") ts r → ⊥
 no_delete (path steps) ts end r h d = begins_other ts (codes "del") r (path_begins steps ts end h) d refl

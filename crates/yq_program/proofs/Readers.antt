@@ -1,11 +1,10 @@
 -- Steps of reading functions, forms one after the other, and when both tell the same.
-use Rattle.std.proofs.Common.{◌≡◌, ◌⊎◌, ℕ, zero, suc, ◌+◌, ◌<◌, ◌≤◌, true, List, [], ◌∷◌, length, Option, Some, None, refl, sym, ap, ◌∙◌, subst, inl, inr, arith}
+use Rattle.std.proofs.Common.{◌≡◌, ◌⊎◌, ℕ, zero, suc, ◌+◌, ◌<◌, ◌≤◌, true, List, [], ◌∷◌, length, Option, Some, None, refl, ap, ◌∙◌, subst, inl, inr, arith, rules}
 use Rattle.std.proofs.lemmas.Option.{cond_some, same_Some}
-use Rattle.std.specs.Cmp.Lexicographic.{same_text}
 use Rattle.std.specs.Prelude.{option_map}
 use Rattle.yq_flow_scalars.specs.Answers.{◌>>=◌}
 use Rattle.yq_flow_scalars.proofs.Bools.{bind_some}
-use Rattle.yq_program.specs.Tokens.{Token, is_symbol, string, number, step, symbol, foreign, unread}
+use Rattle.yq_program.specs.Tokens.{Token, is_symbol, string, number, step, symbol}
 use Rattle.yq_program.specs.Lexing.{after, taken, as_number, as_string, as_step}
 use Rattle.yq_program.specs.Grammar.{Production, HasSymbol, Are, Behind, AreParted, Between}
 use Rattle.yq_program.specs.Parse.{Parse, either, with_front, many_in, many, behind_at, parted_at, closed_at}
@@ -22,43 +21,19 @@ pub second : {A B : Type 0} {x y : A × B} → Some x ≡ Some y → x.1 ≡ y.1
 second h = ap (λ p. p.1) (same_Some _ _ h)
 
 symbol_is : (s : List ℕ) (t : Token) → is_symbol s t ≡ true → t ≡ symbol s
-symbol_is s (symbol w) h = ap symbol (same_text w s (sym h))
-symbol_is s (string c) h = cc
-symbol_is s (number w) h = cc
-symbol_is s (step k) h = cc
-symbol_is s foreign h = cc
-symbol_is s unread h = cc
+symbol_is s t h1 = search rules
 
 pub after_takes : (s : List ℕ) (ts r : List Token) → after s ts ≡ Some r → HasSymbol s ts r
-after_takes s [] r h = cc
-after_takes s (t ∷ ts) r h =
-    let g = cond_some (is_symbol s t) _ _ h in
-    let e : t ≡ symbol s = symbol_is s t g.0 in
-    cc
+after_takes s ts r h1 = search (rules, cond_some, symbol_is)
 
 as_string_is : (t : Token) (c : List ℕ) → as_string t ≡ Some c → t ≡ string c
-as_string_is (string d) c h = cc
-as_string_is (symbol w) c h = cc
-as_string_is (number w) c h = cc
-as_string_is (step k) c h = cc
-as_string_is foreign c h = cc
-as_string_is unread c h = cc
+as_string_is t c h1 = search rules
 
 as_number_is : (t : Token) (c : List ℕ) → as_number t ≡ Some c → t ≡ number c
-as_number_is (string d) c h = cc
-as_number_is (symbol w) c h = cc
-as_number_is (number w) c h = cc
-as_number_is (step k) c h = cc
-as_number_is foreign c h = cc
-as_number_is unread c h = cc
+as_number_is t c h1 = search rules
 
 as_step_is : (t : Token) (c : List ℕ) → as_step t ≡ Some c → t ≡ step c
-as_step_is (string d) c h = cc
-as_step_is (symbol w) c h = cc
-as_step_is (number w) c h = cc
-as_step_is (step k) c h = cc
-as_step_is foreign c h = cc
-as_step_is unread c h = cc
+as_step_is t c h1 = search rules
 
 taken_is : (view : Token → Option (List ℕ)) (make : List ℕ → Token) → ((t : Token) (c : List ℕ) → view t ≡ Some c → t ≡ make c)
     → (ts : List Token) (x : List ℕ × List Token) → taken view ts ≡ Some x → ts ≡ make x.0 ∷ x.1
@@ -159,11 +134,7 @@ behind_shortens s Is less x ts rest h =
     omega (arith, ap length h.1)
 
 pub parted_shortens : {A : Type 0} (s : List ℕ) (Is : Production A) → Shortens Is → Shortens (AreParted s Is)
-parted_shortens s Is less [] ts rest h = absurd h
-parted_shortens s Is less (x ∷ xs) ts rest h =
-    let one = less x ts h.0 h.1 in
-    let others = many_shortens (Behind s Is) (behind_shortens s Is less) xs h.0 rest h.2 in
-    omega arith
+parted_shortens s Is h1 = search (rules, many_shortens, behind_shortens)
 
 pub between_shortens : {A : Type 0} (opening closing : List ℕ) (Is : Production A) → Shortens Is → Shortens (Between opening closing Is)
 between_shortens opening closing Is less x ts rest h =
@@ -196,9 +167,4 @@ enough next less (suc n) (suc m) ts h k =
 pub many_next : {A : Type 0} (next : List Token → Option (Option (A × List Token))) → Lessens next → (ts : List Token)
     → many next ts ≡ (next ts >>= λ o. either o (λ x. with_front x.0 (many next x.1)) (Some ([], ts)))
 unfolding many many_in
-many_next next less ts =
-    let n : 1 + length ts ≡ suc (length ts) = omega arith in
-    ap (λ (k : ℕ). many_in next k ts) n
-    ∙ bind_same (next ts) _ _ λ o is. either_same o _ _ _ λ x some.
-    let lt = less ts x (is ∙ ap Some some) in
-    ap (with_front x.0) (enough next less (length ts) (1 + length x.1) x.1 (omega arith) (omega arith))
+many_next next less ts = search (rules, bind_same, either_same, enough)

@@ -1,5 +1,5 @@
 -- The tokens of a text are those that the grammar has.
-use Rattle.std.proofs.Common.{◌≡◌, ℕ, zero, suc, ◌+◌, ◌<◌, Bool, true, false, cond, ◌||◌, ◌==◌, List, [], ◌∷◌, ◌++◌, length, take, drop, Option, Some, None, refl, sym, ap, ◌∙◌, subst, inl, inr, arith, append-nil, eqb-true}
+use Rattle.std.proofs.Common.{◌≡◌, ℕ, zero, suc, ◌+◌, ◌<◌, Bool, true, false, cond, List, [], ◌∷◌, ◌++◌, length, take, drop, Option, Some, None, refl, sym, ap, ◌∙◌, subst, arith, append-nil, eqb-true, rules}
 use Rattle.std.proofs.lemmas.Bool.{or_cases, false_from_ne_true, and_parts}
 use Rattle.std.proofs.lemmas.List.{take-append-drop}
 use Rattle.std.proofs.Math.Seq.{take-append_seam, drop-append_seam}
@@ -7,7 +7,7 @@ use Rattle.std.proofs.lemmas.Option.{none-some}
 use Rattle.std.specs.List.{prefix_len, list_all}
 use Rattle.yq_flow_scalars.specs.Text.{unless}
 use Rattle.yq_program.specs.declared.token.Form.{Form}
-use Rattle.yq_program.specs.Tokens.{Token, string, step, symbol, foreign, unread, is_blank, is_word, interpolates, IsToken, AreTokens}
+use Rattle.yq_program.specs.Tokens.{Token, symbol, foreign, unread, is_blank, IsToken, AreTokens}
 use Rattle.yq_program.specs.Lexing.{measure, token_of, cut_token, front_token, next, ahead, tokens, AreRead}
 use Rattle.yq_program.proofs.Lexing.{tokens_next, next_shorter}
 use Rattle.yq_program.proofs.RunLaws.{run_len, run_passes}
@@ -18,21 +18,12 @@ use Rattle.yq_program.proofs.TokenAgain.{measure_again}
 
 pub blank_no_token : (b : ℕ) (bs : List ℕ) → is_blank b ≡ true → measure (b ∷ bs) ≡ None
 unfolding measure
-blank_no_token b bs h = elim (or_cases (b == 32 || b == 9) (b == 10) h) [
-  | inl x ↦ elim (or_cases (b == 32) (b == 9) x) [
-    | inl y ↦ let e : b ≡ 32 = eqb-true b 32 y in rw e refl
-    | inr y ↦ let e : b ≡ 9 = eqb-true b 9 y in rw e refl
-  ]
-  | inr x ↦ let e : b ≡ 10 = eqb-true b 10 x in rw e refl
-]
+blank_no_token b bs h = search (rules, or_cases, eqb-true)
 
 -- no white space is in front of a token
 pub token_front : (u : List ℕ) (y : Form × ℕ) → measure u ≡ Some y → (unless is_blank u ≡ true) × (front_token u ≡ Some (cut_token u (Some y)))
 unfolding measure
-token_front [] y h = cc
-token_front (b ∷ bs) y h =
-    let dark : is_blank b ≡ false = false_from_ne_true (is_blank b) (λ k. none-some _ (sym (blank_no_token b bs k) ∙ h)) in
-    (rw dark refl, ap (λ m. Some (cut_token (b ∷ bs) m)) h)
+token_front u y h1 = search (rules, false_from_ne_true, none-some, blank_no_token)
 
 pub token_next : (t : Token) (white piece rest : List ℕ) → list_all is_blank white ≡ true → IsToken t piece rest → next (white ++ (piece ++ rest)) ≡ Some (t, rest)
 token_next t white piece rest blank is =
@@ -54,13 +45,7 @@ of_word t w true h e = cc
 of_word t w false h e = cc
 
 pub not_unread : (t : Token) (piece rest : List ℕ) → IsToken t piece rest → t ≡ unread → ⊥
-not_unread t piece rest (inl h) e = of_string string (λ c k. cc) t (interpolates h.0) _ h.3 e
-not_unread t piece rest (inr (inl h)) e = of_string step (λ c k. cc) t (interpolates h.2.0) _ h.2.3 e
-not_unread t piece rest (inr (inr (inl h))) e = let k = h.3 in cc
-not_unread t piece rest (inr (inr (inr (inl h)))) e = let k = h.1 in cc
-not_unread t piece rest (inr (inr (inr (inr (inl h))))) e = of_word t piece (is_word piece) h.1 e
-not_unread t piece rest (inr (inr (inr (inr (inr (inl h)))))) e = let k = h.1 in cc
-not_unread t piece rest (inr (inr (inr (inr (inr (inr h)))))) e = let k = h.1 in cc
+not_unread t piece rest h1 h2 = search (rules, of_string, of_word)
 
 pub run_drops : (p : ℕ → Bool) (t : List ℕ) → list_all p t ≡ true → drop (prefix_len p t) t ≡ []
 run_drops p [] h = refl

@@ -1,5 +1,5 @@
 -- Every token is what measuring finds.
-use Rattle.std.proofs.Common.{◌≡◌, ℕ, suc, ◌+◌, Bool, true, false, cond, ◌&&◌, ◌||◌, ◌==◌, List, [], ◌∷◌, ◌++◌, length, take, drop, Some, refl, sym, ap, ◌∙◌, subst, inl, inr, arith, append_assoc, eqb-true, length-append}
+use Rattle.std.proofs.Common.{◌≡◌, ℕ, suc, ◌+◌, Bool, true, false, cond, ◌&&◌, ◌==◌, List, [], ◌∷◌, ◌++◌, length, take, Some, refl, sym, ap, ◌∙◌, subst, inl, inr, arith, append_assoc, eqb-true, length-append, rules}
 use Rattle.std.proofs.lemmas.Bool.{false≢true, false_from_ne_true, cases_Bool, or_parts}
 use Rattle.std.proofs.Math.Bool.{and-false}
 use Rattle.std.proofs.Math.Seq.{take-append_seam, drop-append_seam}
@@ -17,9 +17,7 @@ use Rattle.yq_program.proofs.TokenTakes.{Measures}
 
 -- a string before the rest
 pub string_again : (cs : List Character) (rest : List ℕ) → AreCharacters cs → closing ((spelling cs ++ 34 ∷ []) ++ rest) ≡ Some (interpolates cs, length (spelling cs ++ 34 ∷ []))
-string_again cs rest are =
-    let n : suc (length (spelling cs)) ≡ length (spelling cs ++ 34 ∷ []) = omega (arith, length-append (spelling cs) (34 ∷ [])) in
-    ap closing (append_assoc (spelling cs) (34 ∷ []) rest) ∙ (closing_again cs rest are ∙ ap (λ (k : ℕ). Some (interpolates cs, k)) n)
+string_again cs rest are = search (rules, length-append, append_assoc, closing_again)
 
 pub make_again : (make : List ℕ → Token) (cs : List Character) → AreCharacters cs → (t : Token) → t ≡ cond (interpolates cs) foreign (make (said cs)) → cond (interpolates cs) foreign (make (content (spelling cs ++ 34 ∷ []))) ≡ t
 make_again make cs are t is = rw (content_again cs [] are) (sym is)
@@ -74,10 +72,7 @@ word_again t (b ∷ w) rest h is =
     let no = name_first b h.0 in
     let len : prefix_len is_name_byte ((b ∷ w) ++ rest) ≡ suc (length w) = run_len is_name_byte (b ∷ w) rest h.1 h.2 in
     let cut : take (suc (length w)) ((b ∷ w) ++ rest) ≡ b ∷ w = take-append_seam (b ∷ w) rest in
-    let m : measure ((b ∷ w) ++ rest) ≡ Some (cond (is_word (b ∷ w)) form.Symbol form.Foreign, length (b ∷ w)) =
-    name_first_in b (w ++ rest) h.0
-    ∙ (ap (λ (k : ℕ). Some (cond (is_word (take k ((b ∷ w) ++ rest))) form.Symbol form.Foreign, k)) len
-    ∙ ap (λ (p : List ℕ). Some (cond (is_word p) form.Symbol form.Foreign, suc (length w))) cut) in
+    let m : measure ((b ∷ w) ++ rest) ≡ Some (cond (is_word (b ∷ w)) form.Symbol form.Foreign, length (b ∷ w)) = search (rules, name_first_in, len, cut) in
     (cond (is_word (b ∷ w)) form.Symbol form.Foreign, m, form_word (is_word (b ∷ w)) (b ∷ w) ∙ sym is)
   where
     form_word : (c : Bool) (w : List ℕ) → token_of (cond c form.Symbol form.Foreign) w ≡ cond c (symbol w) foreign
@@ -89,23 +84,7 @@ no_fraction [] h = refl
 no_fraction (b ∷ bs) h = rw h refl
 
 pub unsigned_again : (piece rest : List ℕ) → IsUnsigned piece rest → (number_len (piece ++ rest) ≡ length piece) × (front is_ascii_digit piece ≡ true)
-unsigned_again piece rest (inl h) =
-    let len = run_len is_ascii_digit piece rest h.0.1 h.0.2 in
-    let behind : drop (length piece) (piece ++ rest) ≡ rest = drop-append_seam piece rest in
-    let none = no_fraction rest h.1 in
-    (rw len (rw behind (rw none (omega arith))), h.0.0)
-unsigned_again piece rest (inr (digits, fraction, is, ds, fs)) =
-    let whole : piece ++ rest ≡ digits ++ 46 ∷ (fraction ++ rest) = ap (λ (p : List ℕ). p ++ rest) is ∙ append_assoc digits (46 ∷ fraction) rest in
-    let len = run_len is_ascii_digit digits (46 ∷ (fraction ++ rest)) ds.1 refl in
-    let behind : drop (length digits) (digits ++ 46 ∷ (fraction ++ rest)) ≡ 46 ∷ (fraction ++ rest) = drop-append_seam digits (46 ∷ (fraction ++ rest)) in
-    let more = run_len is_ascii_digit fraction rest fs.1 fs.2 in
-    let begins : front is_ascii_digit (fraction ++ rest) ≡ true = front_more fraction rest fs.0 in
-    let n : length digits + (1 + length fraction) ≡ length piece = omega (arith, ap length is, length-append digits (46 ∷ fraction)) in
-    (ap number_len whole ∙ rw len (rw behind (rw (begins, more) n)), rw is (front_more digits (46 ∷ fraction) ds.0))
-  where
-    front_more : (w rest : List ℕ) → front is_ascii_digit w ≡ true → front is_ascii_digit (w ++ rest) ≡ true
-    front_more [] rest h = cc
-    front_more (b ∷ w) rest h = h
+unsigned_again piece rest h1 = search (rules, run_len, drop-append_seam, no_fraction, append_assoc, length-append)
 
 pub number_again : (piece rest : List ℕ) → IsNumberToken piece rest → Measures (number piece) piece rest
 unfolding measure
@@ -133,11 +112,7 @@ plain_first b rest q d m n w = rw (q, d, m, n, w) refl
 
 pub dot_alone : (rest : List ℕ) → goes_on rest ≡ false → measure (46 ∷ rest) ≡ Some (form.Symbol, 1)
 unfolding measure
-dot_alone [] h = refl
-dot_alone (b ∷ bs) h =
-    let x = or_parts (b == 46 || b == 34) (begins_name b) h in
-    let y = or_parts (b == 46) (b == 34) x.0 in
-    rw (y.0, y.1, x.1) refl
+dot_alone rest h1 = search (rules, or_parts)
 
 -- marks, foreign characters, digits and the first bytes of names are apart
 pub name_no_mark : (b : ℕ) → begins_name b ≡ true → is_mark b ≡ false
@@ -170,9 +145,7 @@ foreign_not_before b h other = rw (at_byte is_foreign b 124 h refl, at_byte is_f
 
 pub mark_again : (piece rest : List ℕ) → IsMark piece rest → Measures (symbol piece) piece rest
 mark_again piece rest (inl (b, is, h)) =
-    let m : measure (b ∷ (61 ∷ rest)) ≡ Some (form.Symbol, 2) =
-    plain_first b (61 ∷ rest) (at_byte is_mark_before b 34 h refl) (at_byte is_mark_before b 46 h refl) (rw (at_byte is_mark_before b 45 h refl) refl)
-    (apart is_mark_before is_ascii_digit b digit_not_before h) (apart is_mark_before begins_name b name_not_before h) ∙ rw h refl in
+    let m : measure (b ∷ (61 ∷ rest)) ≡ Some (form.Symbol, 2) = search (rules, plain_first, at_byte, apart, digit_not_before, name_not_before) in
     subst (λ (p : List ℕ). Measures (symbol p) p rest) (sym is) (form.Symbol, m, refl)
 mark_again piece rest (inr (b, is, h, no_equals, no_dot)) = subst (λ (p : List ℕ). Measures (symbol p) p rest) (sym is) (form.Symbol, m, refl)
   where

@@ -1,5 +1,5 @@
 -- What measuring finds in front is a token.
-use Rattle.std.proofs.Common.{◌≡◌, ◌⊎◌, ℕ, suc, ◌+◌, Bool, true, false, cond, ◌&&◌, ◌||◌, ◌==◌, List, [], ◌∷◌, ◌++◌, length, take, drop, Some, refl, sym, ap, ◌∙◌, subst, inl, inr, arith, eqb-true}
+use Rattle.std.proofs.Common.{◌≡◌, ◌⊎◌, ℕ, suc, ◌+◌, Bool, true, false, cond, ◌&&◌, ◌||◌, ◌==◌, List, [], ◌∷◌, ◌++◌, length, take, drop, Some, refl, sym, ap, ◌∙◌, subst, inl, inr, arith, eqb-true, rules}
 use Rattle.std.proofs.lemmas.List.{drop-drop}
 use Rattle.std.proofs.Math.Seq.{take-add}
 use Rattle.std.proofs.lemmas.Bool.{and_parts, cases_Bool}
@@ -39,14 +39,7 @@ digits_in b bs h = (run_front is_ascii_digit is_ascii_digit b bs h h, run_passes
 
 -- a fraction in front, or none
 pub fraction_in : (t : List ℕ) → ((begins_fraction t ≡ false) × (fraction_len t ≡ 0)) ⊎ ((d : ℕ) × (ds : List ℕ) × (t ≡ 46 ∷ (d ∷ ds)) × (is_ascii_digit d ≡ true) × (fraction_len t ≡ 1 + prefix_len is_ascii_digit (d ∷ ds)))
-fraction_in [] = inl (refl, refl)
-fraction_in (b ∷ []) = elim (cases_Bool (b == 46)) [ inl is ↦ inl (rw is refl, rw is refl) | inr other ↦ inl (rw other refl, rw other refl) ]
-fraction_in (b ∷ (d ∷ ds)) = elim (cases_Bool (b == 46 && is_ascii_digit d)) [
-  | inl is ↦
-      let b_is : b ≡ 46 = eqb-true b 46 (and_parts (b == 46) _ is).0 in
-      inr (d, ds, ap (λ (c : ℕ). c ∷ (d ∷ ds)) b_is, (and_parts (b == 46) _ is).1, rw is refl)
-  | inr other ↦ inl (other, rw other refl)
-]
+fraction_in t = search (rules, cases_Bool, eqb-true, and_parts)
 
 pub with_fraction : (t : List ℕ) (n d : ℕ) (ds : List ℕ) → AreDigits (take n t) (drop n t) → drop n t ≡ 46 ∷ (d ∷ ds) → is_ascii_digit d ≡ true
     → (m : ℕ) → m ≡ prefix_len is_ascii_digit (d ∷ ds) → IsUnsigned (take (n + (1 + m)) t) (drop (n + (1 + m)) t)
@@ -57,15 +50,7 @@ with_fraction t n d ds digits point h m is =
     rw (front_is, rest_is) (inr (take n t, take m (d ∷ ds), refl, (digits.0, digits.1, refl), rw is (digits_in d ds h)))
 
 pub unsigned_in : (t : List ℕ) → front is_ascii_digit t ≡ true → IsUnsigned (take (number_len t) t) (drop (number_len t) t)
-unsigned_in [] h = cc
-unsigned_in (b ∷ bs) h =
-    let t = b ∷ bs in
-    let n = prefix_len is_ascii_digit t in
-    let digits = digits_in b bs h in
-    elim (fraction_in (drop n t)) [
-      | inl none ↦ let e : n + fraction_len (drop n t) ≡ n = omega arith in rw e (inl (digits, none.0))
-      | inr some ↦ rw some.4 (with_fraction t n some.0 some.1 digits some.2 some.3 (prefix_len is_ascii_digit (some.0 ∷ some.1)) refl)
-    ]
+unsigned_in t h1 = search (rules, digits_in, fraction_in, with_fraction)
 
 -- ---- measuring finds each token
 

@@ -1,8 +1,7 @@
 -- Updates of the grammar are read again.
-use Rattle.std.proofs.Common.{◌≡◌, List, [], ◌∷◌, Some, None, refl}
+use Rattle.std.proofs.Common.{◌≡◌, List, [], ◌∷◌, Some, None, refl, rules}
 use Rattle.std.specs.Prelude.{codes}
 use Rattle.yq_program.specs.declared.program.Operator.{Operator}
-use Rattle.yq_program.specs.declared.program.Operator.TheVariants as operator
 use Rattle.yq_program.specs.declared.program.CommentPlace.{CommentPlace}
 use Rattle.yq_program.specs.declared.program.CommentPlace.TheVariants as place
 use Rattle.yq_program.specs.Program.{literal, found, Update, assign, delete, comment}
@@ -33,9 +32,7 @@ unfolding right_at
 right_again terms ts rest h f = parted_again (codes "+") (term_at literal_depth) IsTerm Ends term_lessens term_again (λ r. (refl, refl, refl)) terms ts rest h f.0 f.1
 
 pub operator_again : (op : Operator) (ts rest : List Token) → HasSymbol (operator_mark op) ts rest → (operator_at ts ≡ Some (op, rest)) × EndsPipe ts
-operator_again operator.Set ts rest h = (rw h refl, ((rw h refl, rw h refl, rw h refl), rw h refl))
-operator_again operator.Modify ts rest h = (rw h refl, ((rw h refl, rw h refl, rw h refl), rw h refl))
-operator_again operator.Add ts rest h = (rw h refl, ((rw h refl, rw h refl, rw h refl), rw h refl))
+operator_again op ts rest h1 = search rules
 
 pub place_again : (p : CommentPlace) (ts rest : List Token) → HasSymbol (place_word p) ts rest → (operator_at ts ≡ None) × (place_at ts ≡ Some (p, rest)) × EndsPipe ts
 place_again place.Line ts rest h = (rw h refl, rw h refl, ((rw h refl, rw h refl, rw h refl), rw h refl))

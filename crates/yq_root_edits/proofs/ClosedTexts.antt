@@ -1,5 +1,5 @@
 -- Texts that end in a break, and those that don't.
-use Rattle.std.proofs.Common.{◌≡◌, inl, inr, ℕ, List, [], ◌∷◌, ◌++◌, Bool, true, false, cond, refl, sym, ap}
+use Rattle.std.proofs.Common.{◌≡◌, inl, inr, ℕ, List, [], ◌∷◌, ◌++◌, Bool, true, false, cond, refl, sym, ap, rules}
 use Rattle.std.proofs.lemmas.Bool.{false≢true}
 use Rattle.yq_flow_scalars.specs.Text.{is_empty, is_feed, is_line}
 use Rattle.yq_edits.specs.ClosedTexts.{is_closed_text}
@@ -26,11 +26,7 @@ closed_end (x ∷ (y ∷ a)) b h = closed_end (y ∷ a) b h
 pub closed_line : (m : List ℕ) → is_line m ≡ true → is_closed_text m ≡ true
 unfolding is_line is_closed_text
 closed_line [] h = refl
-closed_line (b ∷ []) h = go (is_feed b) h
-  where
-    go : (x : Bool) → cond x true false ≡ true → x ≡ true
-    go true e = refl
-    go false e = e
+closed_line (b ∷ []) h = search (rules, false≢true)
 closed_line (b ∷ (d ∷ t)) h = go (is_feed b) h (closed_line (d ∷ t))
   where
     go : (x : Bool) → cond x false (is_line (d ∷ t)) ≡ true → (is_line (d ∷ t) ≡ true → is_closed_text (d ∷ t) ≡ true) → is_closed_text (d ∷ t) ≡ true

@@ -1,5 +1,5 @@
 -- A gap without a final break, with one behind it: it is a gap before any text, and ends in the same comment.
-use Rattle.std.proofs.Common.{◌≡◌, ◌&&◌, inl, inr, eqb, List, [], ◌∷◌, ◌++◌, ℕ, Some, None, is_some, Bool, true, false, cond, refl, sym, ap, ◌∙◌, subst, append_assoc, append-nil, ⊎_elim}
+use Rattle.std.proofs.Common.{◌≡◌, ◌&&◌, inl, inr, eqb, List, [], ◌∷◌, ◌++◌, ℕ, is_some, true, false, cond, refl, sym, ap, ◌∙◌, subst, append_assoc, append-nil, ⊎_elim, rules}
 use Rattle.std.proofs.lemmas.Bool.{false≢true}
 use Rattle.yq_scalar.specs.BlockWritten.{break_text}
 use Rattle.yq_flow_scalars.specs.Characters.{pairs_returns}
@@ -62,18 +62,11 @@ module _ (l : List ℕ) (h : IsGapLine l []) (open' : is_closed_text l ≡ false
   }
 
   same_text : comment_text (l ++ break_text br) ≡ comment_text l
-  same_text =
-      ap comment_text spelled
-      ∙ (comment_is h.white h.comment (break_text br) h.line.blank as_comment (inl (break_is br))
-      ∙ (sym (comment_is h.white h.comment [] h.line.blank old_comment (inr (refl, refl))) ∙ ap comment_text (ap (λ x. h.white ++ x) (append-nil h.comment) ∙ sym bare)))
+  same_text = search (rules, spelled, comment_is, as_comment, break_is, old_comment, append-nil, bare)
 
 -- a line is a comment line where it has the text of one
 text_there : (l : List ℕ) → is_some (comment_text l) ≡ front (λ b. eqb b 35) (past_white l)
-text_there l = go (front (λ b. eqb b 35) (past_white l)) _
-  where
-    go : (b : Bool) (x : List ℕ) → is_some (cond b (Some x) None) ≡ b
-    go true x = refl
-    go false x = refl
+text_there l = search rules
 
 -- ---- its lines
 

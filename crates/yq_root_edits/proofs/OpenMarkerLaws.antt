@@ -1,5 +1,5 @@
 -- A document without rows behind a last marker that has no break: the cut in which the marker gets one has the same documents.
-use Rattle.std.proofs.Common.{◌≡◌, ℕ, zero, suc, ◌≤◌, ◌||◌, not, Bool, true, false, List, [], ◌∷◌, ◌++◌, length, Some, option_map, refl, sym, ap, ◌∙◌, subst, arith, append_assoc, append-nil}
+use Rattle.std.proofs.Common.{◌≡◌, ℕ, zero, suc, ◌≤◌, ◌||◌, not, Bool, true, false, List, [], ◌∷◌, ◌++◌, length, Some, option_map, refl, sym, ap, ◌∙◌, subst, arith, append_assoc, append-nil, rules}
 use Rattle.std.proofs.lemmas.Bool.{false≢true}
 use Rattle.std.specs.List.{slice_get}
 use Rattle.yq_flow_scalars.specs.Text.{is_empty}
@@ -46,14 +46,10 @@ marker_some (b ∷ m) t h e = cc
 
 -- the numbers of documents behind a part
 numbers_later : (p : Part) (m : List ℕ) (a b : Cut) → ((is : Bool) (n : ℕ) → number_from is n a ≡ number_from is n b) → (is : Bool) (n : ℕ) → number_from is n (marked p m a) ≡ number_from is n (marked p m b)
-numbers_later p m a b h true zero = refl
-numbers_later p m a b h true (suc n) = ap suc (h (begins_document m) n)
-numbers_later p m a b h false n = ap suc (h (begins_document m) n)
+numbers_later p m a b h1 is n = search rules
 
 numbers_same : (p q : Part) (m break : List ℕ) (is : Bool) (n : ℕ) → number_from is n (marked p (m ++ break) (last q)) ≡ number_from is n (marked p m (last q))
-numbers_same p q m break true zero = refl
-numbers_same p q m break true (suc n) = refl
-numbers_same p q m break false n = refl
+numbers_same p q m break is n = search rules
 
 is_last : (break : List ℕ) (i : ℕ) (c : Cut) (started : Bool) (p : Part) (m : List ℕ) → AreParts started (marked p m c) → behind_part i c ≡ [] → IsLast break (suc i) (marked p m c)
 is_last break i (last q) started p m h none =

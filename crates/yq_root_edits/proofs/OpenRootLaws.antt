@@ -1,5 +1,5 @@
 -- Where the root of a document comes that has no rows, behind a text that doesn't end in a break: on a line of its own, behind a break that comes first.
-use Rattle.std.proofs.Common.{◌≡◌, ◌⊎◌, inl, inr, ℕ, ◌≤◌, List, [], ◌∷◌, ◌++◌, length, Some, true, false, refl, sym, ap, ◌∙◌, subst, arith, append_assoc, append-nil, length-append}
+use Rattle.std.proofs.Common.{◌≡◌, ◌⊎◌, inl, inr, ℕ, ◌≤◌, List, [], ◌∷◌, ◌++◌, length, Some, true, false, refl, sym, ap, ◌∙◌, subst, arith, append_assoc, append-nil, length-append, rules}
 use Rattle.std.proofs.lemmas.Bool.{false≢true, cond-true, false_from_ne_true, and_parts}
 use Rattle.std.proofs.lemmas.Str.{is_utf8-from_IsUtf8}
 use Rattle.std.specs.List.{list_all}
@@ -185,10 +185,7 @@ module _ (n : ℕ) (c : Cut) (w : NoRows) (read : read_at (cut_text c) ≡ Some 
     -- the marker gets a break, and rows come behind it
     carried_behind_marker : h.d.part.end ≡ [] → CarriedOut (replace n [] v) c ss
     carried_behind_marker none =
-        let text : (h.d.before ++ break_text br) ++ (h.d.part.end ++ (block_value l 0 v ++ [])) ≡ new_text ss =
-        (λ i. (h.d.before ++ break_text br) ++ (none i ++ (block_value l 0 v ++ [])))
-        ∙ (append_assoc h.d.before (break_text br) (block_value l 0 v ++ [])
-        ∙ sym (is ∙ (λ i. h.d.before ++ (none i ++ (break_text br ++ (block_value l 0 v ++ nothing_behind i)))))) in
+        let text : (h.d.before ++ break_text br) ++ (h.d.part.end ++ (block_value l 0 v ++ [])) ≡ new_text ss = search (rules, append_assoc, nothing_behind) in
         let size : length (h.d.before ++ break_text br) ≤ text_limit =
         front_short (h.d.before ++ break_text br) (h.d.part.end ++ (block_value l 0 v ++ [])) text_limit (subst (λ t. length t ≤ text_limit) (sym text) readable.size) in
         let takes = takes_behind_marker none size in
@@ -202,10 +199,7 @@ module _ (n : ℕ) (c : Cut) (w : NoRows) (read : read_at (cut_text c) ≡ Some 
         let last : List Item = rows_items rs (end_item [] [] ∷ []) in
         let front : List Item = m.above in
         let lead : List ℕ = m.gap ++ last_marker c in
-        let old_are : items_of c ≡ front ++ (end_item m.gap (last_marker c) ∷ (end_item [] [] ∷ [])) =
-        m.old_are
-        ∙ (ap (λ xs. front ++ (end_item m.gap (last_marker c) ∷ rows_items xs (end_item h.d.part.end [] ∷ []))) h.rows_are
-        ∙ ap (λ e. front ++ (end_item m.gap (last_marker c) ∷ (end_item e [] ∷ []))) none) in
+        let old_are : items_of c ≡ front ++ (end_item m.gap (last_marker c) ∷ (end_item [] [] ∷ [])) = search (rules, front, m) in
         let front_text : items_text (front ++ (end_item m.gap (last_marker c) ∷ (end_item [] [] ∷ []))) [] ≡ items_text front lead =
         items_text-append front (end_item m.gap (last_marker c) ∷ (end_item [] [] ∷ [])) [] ∙ ap (λ t. items_text front (m.gap ++ t)) (append-nil (last_marker c)) in
         let local : IsLocal ss c (put_document n q c2) = record {

@@ -1,5 +1,5 @@
 -- A value put in the place of a root that is a block collection, or where none is written, carries out its operation.
-use Rattle.std.proofs.Common.{arith, length-append, ◌≡◌, ◌⊎◌, inl, inr, ℕ, ◌≤◌, Bool, true, false, List, [], ◌∷◌, ◌++◌, length, replicate, Some, refl, sym, ap, ◌∙◌, subst, append_assoc, append-nil}
+use Rattle.std.proofs.Common.{arith, length-append, ◌≡◌, ◌⊎◌, inl, inr, ℕ, ◌≤◌, Bool, true, false, List, [], ◌∷◌, ◌++◌, length, replicate, Some, refl, sym, ap, ◌∙◌, subst, append_assoc, append-nil, rules}
 use Rattle.yq_scalar.specs.BlockWritten.{break_text}
 use Rattle.yq_flow_scalars.specs.Characters.{text_limit}
 use Rattle.yq_flow_scalars.specs.Paths.{Step}
@@ -53,13 +53,7 @@ module _ (n : ℕ) (v : Node) (c : Cut) (w : BlockRoot) (read : read_at (cut_tex
 
   module _ (value_tree : IsValueTree v) (fits : Fits (room_of (cut_text c)) (replace n [] v) (documents c)) where
     text_there : h.d.before ++ (h.row.gap ++ (replicate w.column 32 ++ (block_value (layout_of n c) w.column v ++ (w.last ++ (h.d.part.end ++ h.d.behind))))) ≡ new_text (root_put (layout_of n c) v w)
-    text_there =
-        sym (append_assoc h.d.before h.row.gap (replicate w.column 32 ++ (block_value l w.column v ++ (w.last ++ (h.d.part.end ++ h.d.behind)))))
-        ∙ (sym (append_assoc (h.d.before ++ h.row.gap) (replicate w.column 32) (block_value l w.column v ++ (w.last ++ (h.d.part.end ++ h.d.behind))))
-        ∙ (λ i. front_is i ++ (block_value l w.column v ++ (w.last ++ (sym h.behind_is ∙ sym (append-nil w.behind)) i))))
-      where
-        front_is : (h.d.before ++ h.row.gap) ++ replicate w.column 32 ≡ w.before
-        front_is = ap (λ k. (h.d.before ++ h.row.gap) ++ replicate k 32) h.column_is ∙ (append_assoc h.d.before h.row.gap (replicate h.row.column 32) ∙ sym h.before_is)
+    text_there = search (rules, append_assoc, append-nil)
 
     local : LocalRoot n c h.d (root_rows (layout_of n c) h.row.gap w.column w.last v) h.d.part.end (root_put (layout_of n c) v w)
     local new there =
@@ -130,9 +124,7 @@ module _ (n : ℕ) (v : Node) (c : Cut) (w : NoRows) (read : read_at (cut_text c
     there = fits_part n v c h.d.part (stands n c w read h).there value_tree fits
 
     new_is : new_text (no_rows_put (layout_of n c) v w) ≡ h.d.before ++ (h.d.part.end ++ (lines_put_behind (is_closed_text w.before) (break_text (layout_of n c).br) (block_value (layout_of n c) 0 v) ++ h.d.behind))
-    new_is =
-        (λ i. h.before_is i ++ (lines_put_behind (is_closed_text w.before) br (block_value (layout_of n c) 0 v) ++ (append-nil w.behind ∙ h.behind_is) i))
-        ∙ append_assoc h.d.before h.d.part.end (lines_put_behind (is_closed_text w.before) br lines ++ h.d.behind)
+    new_is = search (rules, append-nil, append_assoc)
 
     by_break : (closed : Bool) → is_closed_text w.before ≡ closed → IsReadable (new_text (no_rows_put (layout_of n c) v w)) → CarriedOut (replace n [] v) c (no_rows_put (layout_of n c) v w)
     by_break true e readable =

@@ -1,8 +1,7 @@
 -- Rows of a root come in the place of others, or behind the gap of a document that has none: which items they exchange.
-use Rattle.std.proofs.Common.{◌≡◌, ℕ, false, List, [], ◌∷◌, ◌++◌, length, replicate, sym, ap, ◌∙◌, append-nil, arith}
+use Rattle.std.proofs.Common.{◌≡◌, ℕ, false, List, [], ◌∷◌, ◌++◌, length, replicate, sym, ap, ◌∙◌, append-nil, arith, rules}
 use Rattle.std.proofs.lemmas.Bool.{false≢true}
 use Rattle.std.proofs.lemmas.List.{length-append}
-use Rattle.yq_flow_scalars.specs.Tree as tree
 use Rattle.yq_flow_scalars.specs.Tree.{Node}
 use Rattle.yq_flow.specs.Valued.{IsValueTree}
 use Rattle.yq_rows.specs.Grammar.{no_rows}
@@ -13,7 +12,6 @@ use Rattle.yq_change.specs.Changed.{put_document}
 use Rattle.yq_change.specs.DocumentRows.{behind_document}
 use Rattle.yq_rows.specs.Items.{end_item, rows_items}
 use Rattle.yq_change.specs.Replaces.{rooted}
-use Rattle.yq_block.specs.BlockRows.{node_rows}
 use Rattle.yq_block.specs.declared.layout.Layout.{Layout}
 use Rattle.yq_block.proofs.LineLaws.{BeginAt, node_begun}
 use Rattle.yq_script.specs.Script.{Segment, kept_front, kept_back}
@@ -30,15 +28,7 @@ use Rattle.std.proofs.Common.{Some}
 -- ---- the first row
 
 begun_first : (gap : List ℕ) (column : ℕ) (rs : List Row) → BeginAt column rs → InFirst (gap ++ replicate column 32) (rows_items (with_first_gap gap rs) [])
-begun_first gap column [] b = absurd b
-begun_first gap column (q ∷ qs) b =
-    omega (
-      arith,
-      ap (λ (n : ℕ). length (replicate {A = ℕ} n 32)) b.1,
-      length-append gap (behind_gap q []),
-      length-append (replicate q.column 32) (behind_indent q []),
-      length-append gap (replicate {A = ℕ} column 32),
-    )
+begun_first gap column rs h1 = search (rules, length-append)
 
 lone_first : (gap : List ℕ) (column : ℕ) (node : inline.Node) (last : List ℕ) → InFirst (gap ++ replicate column 32) (rows_items (lone_row gap column node last ∷ []) [])
 lone_first gap column node last =
@@ -50,14 +40,7 @@ lone_first gap column node last =
     )
 
 pub root_first : (v : Node) (l : Layout) (gap : List ℕ) (column : ℕ) (last : List ℕ) → IsValueTree v → InFirst (gap ++ replicate column 32) (rows_items (root_rows l gap column last v) [])
-root_first (tree.alias n) l gap column last h = absurd h
-root_first (tree.scalar a kind t) l gap column last h = lone_first gap column _ last
-root_first (tree.list a tree.none) l gap column last h = lone_first gap column _ last
-root_first (tree.list a (tree.child label n cs)) l gap column last h =
-    begun_first gap column (node_rows l column last (tree.list a (tree.child label n cs))) (node_begun (tree.list a (tree.child label n cs)) l column last tt h)
-root_first (tree.map a tree.none) l gap column last h = lone_first gap column _ last
-root_first (tree.map a (tree.child label n cs)) l gap column last h =
-    begun_first gap column (node_rows l column last (tree.map a (tree.child label n cs))) (node_begun (tree.map a (tree.child label n cs)) l column last tt h)
+root_first v l gap column last h1 = search (rules, h, lone_first, begun_first, node_begun)
 
 -- bytes that begin its gap
 gap_first : (rs : List Row) (xs : List Item) (g u : List ℕ) → no_rows rs ≡ false → first_gap rs [] ≡ g ++ u → InFirst g (rows_items rs xs)

@@ -1,17 +1,14 @@
 -- A value as the root of a document in which that is a block collection, or isn't written: what the text then reads as.
-use Rattle.std.proofs.Common.{Some, ◌≡◌, ℕ, ◌+◌, ◌≤◌, List, [], ◌∷◌, ◌++◌, map, replicate, None, true, false, refl, sym, ap, ◌∙◌, subst, append-nil}
+use Rattle.std.proofs.Common.{Some, ◌≡◌, ℕ, ◌+◌, ◌≤◌, List, [], ◌∷◌, ◌++◌, map, replicate, None, true, false, sym, ap, ◌∙◌, subst, append-nil, rules}
 use Rattle.std.proofs.lemmas.Bool.{false≢true}
 use Rattle.yq_flow_scalars.specs.Paths.{within}
-use Rattle.yq_flow_scalars.specs.Tree as tree
-use Rattle.yq_flow_scalars.specs.Tree.{Node, none, child, children_of}
+use Rattle.yq_flow_scalars.specs.Tree.{Node, children_of}
 use Rattle.yq_inline.specs.Inline.{depth_limit}
 use Rattle.yq_flow.specs.Valued.{IsValueTree}
 use Rattle.yq_flow_scalars.specs.Anchors.{names_of}
 use Rattle.yq_lines.specs.Comments.{head_comment}
 use Rattle.yq_lines.specs.Group.{group}
-use Rattle.yq_lines.specs.Outline as outline
-use Rattle.yq_lines.specs.Outline.{Line, Mark, anchored, value}
-use Rattle.yq_lines.specs.Sound.{is_entry}
+use Rattle.yq_lines.specs.Outline.{Line, anchored, value}
 use Rattle.yq_lines.proofs.NodeLaws.{anchored_none}
 use Rattle.yq_rows.specs.Grammar.{unlimited, AreRows, no_rows}
 use Rattle.yq_rows.specs.Rows.{Row, rows_text, Part, Cut, cut_text}
@@ -49,13 +46,7 @@ use Rattle.yq_root_edits.proofs.RootValues.{value_root_rows}
 
 -- a block root, or one that isn't written, has no anchor
 unnamed_lines : (ls : List Line) → begins_no_node ls ≡ true → anchor_of (value (group ls)) ≡ None
-unnamed_lines [] h = refl
-unnamed_lines (l ∷ ls) h = go l.mark h
-  where
-    go : (m : Mark) → is_entry m ≡ true → anchor_of (outline.collection m (outline.children (group (l ∷ ls)))) ≡ None
-    go outline.Bare e = absurd (false≢true e)
-    go (outline.Key k) e = refl
-    go outline.Dash e = refl
+unnamed_lines ls h1 = search (rules, false≢true)
 
 block_unnamed : (p : Part) → is_block_root p ≡ true → anchor_of (root_of p) ≡ None
 block_unnamed p h = unnamed_lines (lines_of p.rows) h
@@ -68,12 +59,7 @@ headed_new above v h =
 
 -- its lead is that of its first item or entry
 headed_lead : (lead : List (List ℕ)) (v : Node) → lead_by true (children_of (within (headed lead) v)) lead ≡ lead
-headed_lead lead (tree.alias n) = refl
-headed_lead lead (tree.scalar a k t) = refl
-headed_lead lead (tree.list a none) = refl
-headed_lead lead (tree.list a (child l n cs)) = refl
-headed_lead lead (tree.map a none) = refl
-headed_lead lead (tree.map a (child l n cs)) = refl
+headed_lead lead v = search rules
 
 -- A value may come as the root of document n, between a gap that tells its lead and the end of the document.
 pub record TakesValue (n : ℕ) (c : Cut) (d : PlacedPart) (gap last back : List ℕ) : Type 0 where

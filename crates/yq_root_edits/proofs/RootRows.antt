@@ -1,5 +1,5 @@
 -- The rows in which a value is written as a root.
-use Rattle.std.proofs.Common.{◌≡◌, ℕ, zero, suc, eqb, ◌&&◌, ◌+◌, ◌*◌, ◌<◌, ◌≤◌, Bool, true, false, List, [], ◌∷◌, ◌++◌, replicate, Option, Some, None, refl, sym, ap, ◌∙◌, subst, arith}
+use Rattle.std.proofs.Common.{◌≡◌, ℕ, zero, suc, eqb, ◌&&◌, ◌+◌, ◌*◌, ◌<◌, ◌≤◌, Bool, true, false, List, [], ◌∷◌, ◌++◌, replicate, Option, Some, None, refl, sym, ap, ◌∙◌, subst, arith, rules}
 use Rattle.std.proofs.Math.Bool.{and-false}
 use Rattle.std.proofs.lemmas.Bool.{false≢true}
 use Rattle.yq_flow_scalars.specs.Paths.{within}
@@ -140,10 +140,7 @@ module _ (v : Node) (l : Layout) (gap : List ℕ) (column : ℕ) (last back rest
         go outline.Dash e = tt
 
     level_some : (v : Node) → IsFilled v → 0 < level_at column v
-    level_some (tree.alias n) f = absurd f
-    level_some (tree.scalar b k t) f = absurd f
-    level_some (tree.list b cs) f = omega arith
-    level_some (tree.map b cs) f = omega arith
+    level_some v h1 = search rules
 
     laid_first : (rs : List Row) → AreLaid column rs (back ++ rest) → AreRows unlimited rs [] (back ++ rest) → (o : Outline) → flatten o ≡ lines_of rs → IsEven (level_at column v) o → HasEntries o → value o ≡ v → RowsAreFit rs →
         rows_text rs (back ++ rest) ≡ replicate column 32 ++ (block_node l column v ++ (last ++ (back ++ rest))) →

@@ -1,14 +1,10 @@
 -- Where a block collection stands that is a root, or no rows.
-use Rattle.std.proofs.Common.{◌≡◌, ℕ, List, [], ◌∷◌, ◌++◌, Some, Bool, true, false, cond, refl, sym, ap, ◌∙◌}
+use Rattle.std.proofs.Common.{◌≡◌, ℕ, List, [], ◌∷◌, ◌++◌, Some, Bool, true, false, refl, sym, ap, ◌∙◌, rules}
 use Rattle.std.proofs.lemmas.Bool.{cond_both, false≢true}
-use Rattle.std.specs.Prelude.{◌==◌, length}
 use Rattle.yq_flow_scalars.specs.Paths.{Step}
-use Rattle.yq_flow_scalars.specs.Text.{is_empty}
-use Rattle.yq_rows.specs.Rows as rows
-use Rattle.yq_rows.specs.Rows.{Content, Nothing, Inline, Row, print_row, rows_text, Cut}
-use Rattle.yq_rows.specs.View.{slices}
+use Rattle.yq_rows.specs.Rows.{Content, Row, rows_text, Cut}
 use Rattle.yq_places.specs.PlacedRows.{PlacedPart, placed_document}
-use Rattle.yq_places.specs.Standings.{BlockRoot, NoRows, RowsOfEntry, Standing, alone, beside, under, compact, block, root, no_rows, behind_mark, below, block_root, compact_in, entry_standing, held, is_alone, lone, before_entry, behind_entry, rows_of_entry, root_standing, standing_at}
+use Rattle.yq_places.specs.Standings.{BlockRoot, NoRows, RowsOfEntry, Standing, alone, beside, under, compact, block, root, no_rows, behind_mark, below, block_root, entry_standing, is_alone, lone, rows_of_entry, root_standing, standing_at}
 use Rattle.yq_places.proofs.PlacedPartLaws.{map_some}
 
 -- whether what stands somewhere is a root that is a block collection, or no rows
@@ -23,18 +19,13 @@ is_root (no_rows w) = true
 
 -- nothing of that kind stands at an item or entry
 below_other : (e : RowsOfEntry) (rs : List Row) → is_root (below e rs) ≡ false
-below_other e [] = refl
-below_other e (r ∷ rs) =
-    cond_both (is_alone r) (alone (lone (before_entry e ++ print_row e.row []) r (rows_text rs (behind_entry e)))) (under (held e) r.column) (λ t. is_root t ≡ false) (λ bare. refl) (λ other. refl)
+below_other e rs = search (rules, cond_both)
 
 behind_other : (e : RowsOfEntry) (x : Content) → is_root (behind_mark e x) ≡ false
-behind_other e (Nothing tail) = below_other e e.under
-behind_other e (Inline space node tail) = cond_both (is_empty (slices e.row).head) (below e e.under) (beside (held e)) (λ t. is_root t ≡ false) (λ none. below_other e e.under) (λ some. refl)
-behind_other e (rows.Block space anchor b) = refl
+behind_other e x = search (rules, below_other, cond_both)
 
 entry_other : (e : RowsOfEntry) → is_root (entry_standing e) ≡ false
-entry_other e =
-    cond_both (e.line == length e.row.dashes) (behind_mark e e.row.content) (compact (compact_in e)) (λ t. is_root t ≡ false) (λ last. behind_other e e.row.content) (λ other. refl)
+entry_other e = search (rules, cond_both, behind_other)
 
 -- no steps lead to what is of that kind
 root_found : (n : ℕ) (steps : List Step) (c : Cut) (t : Standing) → standing_at n steps c ≡ Some t → is_root t ≡ true → (steps ≡ []) × (d : PlacedPart) × (placed_document n c ≡ Some d) × (root_standing d d.part.rows ≡ t)
@@ -64,22 +55,10 @@ module _ (n : ℕ) (c : Cut) (d : PlacedPart) (placed : placed_document n c ≡ 
   first rs r = alone (lone d.before r (rows_text rs (d.part.end ++ d.behind)))
 
   rooted_there : (w : BlockRoot) (rs : List Row) → d.part.rows ≡ rs → root_standing d rs ≡ root w → HasRoot n c w
-  rooted_there w [] rows e = absurd (let x = e in cc)
-  rooted_there w (r ∷ rs) rows e = go (is_alone r) refl e
-    where
-      go : (b : Bool) → is_alone r ≡ b → cond b (first rs r) (root (block_root d r rs)) ≡ root w → HasRoot n c w
-      go true bare x = absurd (let y = x in cc)
-      go false bare x = record { d = d; placed = placed; row = r; others = rs; rows_are = rows; block = bare; is = let y : block_root d r rs ≡ w = cc in y }
+  rooted_there w rs h1 h2 = search rules
 
   unwritten_there : (w : NoRows) (rs : List Row) → d.part.rows ≡ rs → root_standing d rs ≡ no_rows w → IsUnwrittenRoot n c w
-  unwritten_there w [] rows e =
-      let y : record { before = d.before ++ d.part.end; behind = d.behind } ≡ w = cc in
-      record { d = d; placed = placed; rows_are = rows; before_is = ap (λ (z : NoRows). z.before) (sym y); behind_is = ap (λ (z : NoRows). z.behind) (sym y) }
-  unwritten_there w (r ∷ rs) rows e = absurd (go (is_alone r) e)
-    where
-      go : (b : Bool) → cond b (first rs r) (root (block_root d r rs)) ≡ no_rows w → ⊥
-      go true x = let y = x in cc
-      go false x = let y = x in cc
+  unwritten_there w rs h1 h2 = search rules
 
 pub has_root : (n : ℕ) (steps : List Step) (c : Cut) (w : BlockRoot) → standing_at n steps c ≡ Some (root w) → (steps ≡ []) × HasRoot n c w
 has_root n steps c w at = let x = root_found n steps c (root w) at refl in (x.0, rooted_there n c x.1 x.2 w x.1.part.rows refl x.3)

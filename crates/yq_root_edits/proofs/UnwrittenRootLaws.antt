@@ -1,5 +1,5 @@
 -- Where the root of a document comes that has no rows: in general, and behind a text that ends in a break.
-use Rattle.std.proofs.Common.{◌≡◌, ◌⊎◌, inl, inr, ℕ, zero, suc, ◌≤◌, List, [], ◌∷◌, ◌++◌, length, Some, Bool, true, false, not, ◌||◌, refl, sym, ap, ◌∙◌, subst, arith, append_assoc, append-nil, ⊎_elim, length-append}
+use Rattle.std.proofs.Common.{◌≡◌, ◌⊎◌, inl, inr, ℕ, zero, suc, ◌≤◌, List, [], ◌∷◌, ◌++◌, length, Some, Bool, true, false, refl, sym, ap, ◌∙◌, subst, arith, append_assoc, append-nil, ⊎_elim, length-append, rules}
 use Rattle.std.proofs.lemmas.List.{nil_from_length}
 use Rattle.std.proofs.lemmas.Bool.{false≢true, or_right, and_parts, or_parts}
 use Rattle.yq_scalar.specs.BlockWritten.{break_text}
@@ -85,10 +85,7 @@ closed_lines (l ∷ (k ∷ ls)) x h e =
     )
 
 closed_gap : (p rest x : List ℕ) → IsGap p rest → (p ≡ []) ⊎ (is_closed_text p ≡ true) → (rest ≡ []) ⊎ (is_empty rest ≡ false) → IsGap p x
-closed_gap p rest x h (inl e) k = subst (λ g. IsGap g x) (sym e) (no_gap_here x)
-closed_gap p rest x h (inr closed) (inr some) = gap_other p rest x some h
-closed_gap p rest x h (inr closed) (inl e) =
-    let g : IsGap p [] = subst (IsGap p) e h in record { lines = g.lines; spelled = g.spelled; each = closed_lines g.lines x g.each (ap is_closed_text (sym g.spelled) ∙ closed) }
+closed_gap p rest x h1 h2 h3 = search (rules, no_gap_here, gap_other, closed_lines)
 
 -- ---- the marker in front
 
@@ -131,14 +128,7 @@ closed_tail a b c p feed t closed = ⊎_elim {0, 0, 0}
     t.line.ends
 
 closed_marker : (m : List ℕ) → IsMarkerLine m [] → is_closed_text m ≡ true → is_line m ≡ true
-closed_marker [] h closed = absurd (let l = h.long in omega (arith, l))
-closed_marker (a ∷ []) h closed = absurd (let l = h.long in omega (arith, l))
-closed_marker (a ∷ (b ∷ [])) h closed = absurd (let l = h.long in omega (arith, l))
-closed_marker (a ∷ (b ∷ (c ∷ p))) h closed =
-    ⊎_elim {0, 0, 0}
-    (λ e. three_lines a b c p (rw e.0 refl) (rw e.1 refl) (rw e.2 refl) ∙ closed_tail a b c p (rw e.2 refl) h.tail closed)
-    (λ e. three_lines a b c p (rw e.0 refl) (rw e.1 refl) (rw e.2 refl) ∙ closed_tail a b c p (rw e.2 refl) h.tail closed)
-    (marker_byte a b c (p ++ []) h.marker)
+closed_marker m h1 h2 = search (rules, ⊎_elim, three_lines, closed_tail, marker_byte)
 
 after_closed : (m t u : List ℕ) → IsMarkerLine m t → (t ≡ []) ⊎ (is_empty t ≡ false) → (t ≡ [] → is_closed_text m ≡ true) → is_after m u ≡ true
 after_closed m t u h (inr some) closed = after_some m t u h some

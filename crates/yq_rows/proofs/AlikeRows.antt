@@ -1,5 +1,5 @@
 -- A row, and rows, before one text are rows before a text that is alike.
-use Rattle.std.proofs.Common.{inl, ℕ, ℤ, Bool, false, ◌&&◌, eqb, List, [], ◌∷◌, ◌++◌, Option, Some, None, drop, sym, ap, ◌∙◌, ⊎_elim, replicate, ◌≡◌}
+use Rattle.std.proofs.Common.{inl, ℕ, ℤ, Bool, false, ◌&&◌, eqb, List, [], ◌∷◌, ◌++◌, Option, Some, None, drop, sym, ap, ◌∙◌, ⊎_elim, replicate, ◌≡◌, rules}
 use Rattle.yq_scalar.specs.Block.{BlockText, block_text}
 use Rattle.yq_flow_scalars.specs.Piece.{deeper}
 use Rattle.yq_flow_scalars.specs.Text.{joined}
@@ -7,8 +7,7 @@ use Rattle.yq_inline.specs.Inline.{depth_limit}
 use Rattle.yq_rows.specs.Gap.{IsBreak, IsLineEnd, AreGapLines, IsGap}
 use Rattle.yq_rows.specs.Grammar.{IsColon, IsKey, IsTail, IsAnchor, IsContent, IsMark, IsRow, Limit, limit_after, AreRows, IsPart, IsMarkerLine}
 use Rattle.yq_rows.specs.Rows.{Mark, Bare, Dash, Key, Anchor, Content, Nothing, Inline, Block, dashes_text, mark_text, anchor_text, content_text, Row, behind_indent, behind_gap, parent_indent, print_row, rows_text, Part, part_text}
-use Rattle.yq_inline.specs.Alike as texts
-use Rattle.yq_inline.specs.Alike.{Alike, stop, byte, after}
+use Rattle.yq_inline.specs.Alike.{Alike, after}
 use Rattle.yq_inline.proofs.Alikes.{alike_append, alike_separates, alike_marker}
 use Rattle.yq_rows.proofs.AlikeBlocks.{block_alike}
 use Rattle.yq_inline.proofs.LineNodes.{line_node_alike}
@@ -17,10 +16,7 @@ use Rattle.yq_inline.proofs.AlikePieces.{scalar_alike, name_alike}
 
 -- ends of lines and gaps
 alike_some : (t u : List ℕ) → Alike (Some false) t u → t ≡ [] → ⊥
-alike_some _ _ (stop {b = b} {t = t} {u = u} x) e = cc
-alike_some _ _ (texts.colon {t = t} {u = u} x y) e = cc
-alike_some _ _ (byte {b = b} {t = t} {u = u} v w x y) e = cc
-alike_some _ _ (after {b = b} {t = t} {u = u} h) e = cc
+alike_some t u h1 h2 = search rules
 
 break_alike : (p t u : List ℕ) → Alike (Some false) t u → IsBreak p t → IsBreak p u
 break_alike p t u h g = ⊎_elim {0, 0, 0} (λ e. inl e) (λ e. absurd (alike_some t u h e.1)) g
@@ -54,9 +50,7 @@ anchor_alike None t u h g = g
 anchor_alike (Some a) t u h g = (name_alike (Some false) a.name (a.gap ++ t) (a.gap ++ u) (alike_append (Some false) a.gap t u h) g.0, g.1, g.2)
 
 content_text_alike : (c : Content) (t u : List ℕ) → Alike (Some false) t u → Alike (Some false) (content_text c t) (content_text c u)
-content_text_alike (Nothing tail) t u h = alike_append (Some false) tail t u h
-content_text_alike (Inline space node tail) t u h = alike_append (Some false) space _ _ (node_text_alike (Some false) node (tail ++ t) (tail ++ u) (alike_append (Some false) tail t u h))
-content_text_alike (Block space anchor block) t u h = alike_append (Some false) space _ _ (anchor_text_alike anchor (block_text block t) (block_text block u) (block_text_alike block t u h))
+content_text_alike c t u h1 = search (rules, alike_append, node_text_alike, anchor_text_alike, block_text_alike)
 
 content_alike : (n : ℤ) (c : Content) (t u : List ℕ) → Alike (Some false) t u → IsContent n c t → IsContent n c u
 content_alike n (Nothing tail) t u h g = tail_alike tail t u h g
@@ -73,9 +67,7 @@ key_alike : (key colon t u : List ℕ) → Alike (Some false) t u → IsKey key 
 key_alike key colon t u h g = record { scalar = scalar_alike false None key (colon ++ t) (colon ++ u) (alike_append (Some false) colon t u h) g.scalar; colon_is = colon_alike colon t u h g.colon_is; near = g.near }
 
 mark_alike : (mark : Mark) (c : Content) (t u : List ℕ) → Alike (Some false) (content_text c t) (content_text c u) → IsMark mark c t → IsMark mark c u
-mark_alike Bare c t u h g = g
-mark_alike Dash c t u h g = sym (alike_separates (Some false) (content_text c t) (content_text c u) h) ∙ g
-mark_alike (Key key colon) c t u h g = key_alike key colon (content_text c t) (content_text c u) h g
+mark_alike mark c t u h1 h2 = search (rules, alike_separates, key_alike)
 
 mark_text_alike : (mark : Mark) (t u : List ℕ) → Alike (Some false) t u → Alike (Some false) (mark_text mark t) (mark_text mark u)
 mark_text_alike Bare t u h = h

@@ -1,10 +1,10 @@
 -- Behind a mark no dash and no key begins.
-use Rattle.std.proofs.Common.{◌≡◌, ℕ, ℤ, suc, true, false, not, eqb, List, [], ◌∷◌, ◌++◌, drop, Option, Some, None, refl}
+use Rattle.std.proofs.Common.{◌≡◌, ℕ, ℤ, suc, true, false, not, eqb, List, [], ◌∷◌, ◌++◌, drop, Option, Some, None, refl, rules}
 use Rattle.std.proofs.Math.Bool.{and-false}
 use Rattle.std.proofs.lemmas.Bool.{cond_both}
 use Rattle.yq_scalar.specs.Block.{BlockText, block_text}
 use Rattle.yq_flow_scalars.specs.Piece.{deeper}
-use Rattle.yq_flow_scalars.specs.Text.{cut, upto, no_space, is_empty, is_white}
+use Rattle.yq_flow_scalars.specs.Text.{cut, upto, no_space, is_white}
 use Rattle.yq_flow_scalars.proofs.Bools.{at_byte}
 use Rattle.yq_flow_scalars.proofs.Upto.{upto_here}
 use Rattle.yq_inline.specs.Inline.{depth_limit}
@@ -13,7 +13,7 @@ use Rattle.yq_inline.specs.Scalars.{begins_scalar}
 use Rattle.yq_rows.specs.Gap.{IsWhite}
 use Rattle.yq_rows.specs.Grammar.{IsContent, may_be_alone, IsMark}
 use Rattle.yq_rows.specs.Reading.{begins_entry}
-use Rattle.yq_rows.specs.Rows.{Mark, Bare, Dash, Key, Anchor, Content, Nothing, Inline, Block, content_text, anchor_text}
+use Rattle.yq_rows.specs.Rows.{Mark, Anchor, Content, Nothing, Inline, Block, content_text, anchor_text}
 use Rattle.yq_rows.proofs.Fronts.{tail_front, node_starts}
 use Rattle.yq_rows.proofs.MarkAgain.{Ended}
 use Rattle.yq_rows.proofs.NodeFronts.{node_begins, block_front}
@@ -62,19 +62,8 @@ content_no_entry n (Block space anchor block) rest h =
 
 -- what stands alone on a line
 pub alone_no_entry : (n : ℤ) (c : Content) (rest : List ℕ) → may_be_alone c ≡ true → IsContent n c rest → NoEntry (content_text c rest) × (begins_node false (content_text c rest) ≡ true)
-alone_no_entry n (Nothing tail) rest alone h = cc
-alone_no_entry n (Inline [] node tail) rest alone h = (
-  node_no_entry (deeper n) depth_limit node (tail ++ rest) h.1.valid h.1.something (tail_no_colon tail rest h.2),
-  node_begins (Some (deeper n)) depth_limit node (tail ++ rest) h.1.valid h.1.something,
-)
-alone_no_entry n (Inline (b ∷ space) node tail) rest alone h = cc
-alone_no_entry n (Block space anchor block) rest alone h = cc
+alone_no_entry n c rest h1 h2 = search (rules, node_no_entry, tail_no_colon, node_begins)
 
 -- a mark before its content is read, and no more
 pub mark_ended : (mark : Mark) (n : ℤ) (c : Content) (rest : List ℕ) → IsMark mark c rest → IsContent n c rest → Ended mark (content_text c rest)
-mark_ended Bare n c rest m h = (alone_no_entry n c rest m h).0
-mark_ended Dash n c rest m h =
-    let f = content_no_entry n c rest h in
-    let no : begins_entry (cut no_space (content_text c rest)).1 ≡ false = rw f.is (entry_behind f.white f.behind f.blank f.no_space f.none) in
-    (m, rw no (and-false (not (is_empty (cut no_space (content_text c rest)).0))))
-mark_ended (Key key colon) n c rest m h = m
+mark_ended mark n c rest h1 h2 = search (rules, alone_no_entry, content_no_entry, entry_behind, and-false)

@@ -1,5 +1,5 @@
 -- What stands behind a mark, read and spelled.
-use Rattle.std.proofs.Common.{◌≡◌, ℕ, ℤ, true, false, cond, not, eqb, List, [], ◌∷◌, ◌++◌, drop, Option, Some, None, refl, sym, ap, ◌∙◌, subst, ⊎_elim, eqb-true}
+use Rattle.std.proofs.Common.{◌≡◌, ℕ, ℤ, true, false, cond, not, List, ◌∷◌, ◌++◌, drop, Option, Some, refl, sym, ap, ◌∙◌, subst, ⊎_elim, eqb-true, rules}
 use Rattle.std.proofs.lemmas.Bool.{false≢true, or_cases}
 use Rattle.std.proofs.lemmas.Option.{same_Some}
 use Rattle.yq_flow_scalars.specs.Answers.{◌>>=◌}
@@ -27,12 +27,7 @@ use Rattle.yq_rows.proofs.PieceLaws.{tail_takes, tail_again}
 
 -- an anchor before a block scalar
 apart_some : (gap rest : List ℕ) → unless in_name (gap ++ rest) ≡ true → front is_block_mark rest ≡ true → is_empty gap ≡ false
-apart_some (b ∷ gap) rest h mark = refl
-apart_some [] [] h mark = absurd (false≢true mark)
-apart_some [] (b ∷ rest) h mark = absurd (⊎_elim {0, 0, 0}
-    (λ e. false≢true (subst (λ (x : ℕ). unless in_name (x ∷ rest) ≡ true) (eqb-true b 124 e) h))
-    (λ e. false≢true (subst (λ (x : ℕ). unless in_name (x ∷ rest) ≡ true) (eqb-true b 62 e) h))
-    (or_cases (eqb b 124) (eqb b 62) mark))
+apart_some gap rest h1 h2 = search (rules, false≢true, ⊎_elim, eqb-true, or_cases)
 
 abbrev AnchorCut : List ℕ → Option Anchor × List ℕ → Type 0
 AnchorCut t x = (t ≡ anchor_text x.0 x.1) × IsAnchor x.0 x.1
@@ -123,23 +118,7 @@ then_block n space anchor = block_at (deeper n) anchor.1 >>= λ block. Some (Blo
 
 block_again_here : (n : ℤ) (space : List ℕ) (anchor : Option Anchor) (block : BlockText) (rest : List ℕ) → IsWhite space → IsAnchor anchor (block_text block rest) → IsBlock (deeper n) block rest → content_at n (content_text (Block space anchor block) rest) ≡ Some (Block space anchor block, rest)
 unfolding content_at block_content_at anchor_at
-block_again_here n space None block rest blank a b =
-    let u = block_text block rest in
-    let front = block_front block rest in
-    ap (content_from n (space ++ u)) (white_again space u blank front.no_white)
-    ∙ rw (front.no_anchor, front.mark) (rw (block_again (deeper n) block rest b) refl)
-block_again_here n space (Some a) block rest blank h b =
-    let u = block_text block rest in
-    let t : List ℕ = 38 ∷ (a.name ++ (a.gap ++ u)) in
-    let front = block_front block rest in
-    let gap : cut no_white (a.gap ++ u) ≡ (a.gap, u) = white_again a.gap u h.1 front.no_white in
-    let past : past_white (a.gap ++ u) ≡ u = ap (λ (y : List ℕ × List ℕ). y.1) gap in
-    let begins : begins_block t ≡ true = rw (name_cut a.name (a.gap ++ u) h.0, past) front.mark in
-    let anchor : anchor_at t ≡ Some (Some a, u) = rw (name_again a.name (a.gap ++ u) h.0) (ap (λ (c : List ℕ × List ℕ). Some (Some (record { name = a.name; gap = c.0 }), c.1)) gap) in
-    ap (content_from n (space ++ t)) (white_again space t blank refl)
-    ∙ rw begins (ap (λ o. o >>= then_block n space) anchor ∙ rw (block_again (deeper n) block rest b) refl)
+block_again_here n space anchor block rest h1 h2 h3 = search (rules, block_front, white_again, block_again, name_cut, name_again)
 
 pub content_again : (n : ℤ) (c : Content) (rest : List ℕ) → IsContent n c rest → content_at n (content_text c rest) ≡ Some (c, rest)
-content_again n (Nothing tail) rest h = nothing_again n tail rest h
-content_again n (Inline space node tail) rest h = inline_again_here n space node tail rest h.0 h.1 h.2
-content_again n (Block space anchor block) rest h = block_again_here n space anchor block rest h.0 h.1 h.2
+content_again n c rest h1 = search (rules, nothing_again, inline_again_here, block_again_here)

@@ -1,5 +1,5 @@
 -- Gaps, read and spelled.
-use Rattle.std.proofs.Common.{◌≡◌, ℕ, zero, suc, ◌+◌, ◌<◌, ◌≤◌, true, false, cond, not, ◌||◌, List, [], ◌∷◌, ◌++◌, length, take, drop, refl, sym, ap, ◌∙◌, subst, arith, append_assoc, length-append, length-drop, length-take}
+use Rattle.std.proofs.Common.{◌≡◌, ℕ, zero, suc, ◌+◌, ◌<◌, ◌≤◌, true, false, cond, not, ◌||◌, List, [], ◌∷◌, ◌++◌, length, take, drop, refl, sym, ap, ◌∙◌, subst, arith, append_assoc, length-append, length-drop, length-take, rules}
 use Rattle.std.proofs.lemmas.Bool.{false≢true, cond_both, not-true, and_parts}
 use Rattle.std.proofs.lemmas.List.{take-append-drop, drop-drop}
 use Rattle.std.proofs.Math.Seq.{take-append_seam, drop-append_seam, take-add}
@@ -59,12 +59,7 @@ gap_fuel (suc n) (suc m) (x ∷ t) a b =
 
 pub gap_step : (t : List ℕ) → begins_gap t ≡ true → gap_len t ≡ line_len t + gap_len (drop (line_len t) t)
 unfolding gap_lines
-gap_step [] h = absurd (false≢true h)
-gap_step (x ∷ t) h =
-    let s : List ℕ = x ∷ t in
-    let less : length (drop (line_len s) s) ≤ length t = omega (arith, length-drop (line_len s) s, line_len_pos x t) in
-    let again = gap_fuel (length t) (length (drop (line_len s) s)) (drop (line_len s) s) less (omega arith) in
-    rw h (ap (λ k. line_len s + k) again)
+gap_step t h1 = search (rules, false≢true, length-drop, line_len_pos, gap_fuel)
 
 pub gap_stop : (t : List ℕ) → begins_gap t ≡ false → gap_len t ≡ 0
 unfolding gap_lines
@@ -112,9 +107,7 @@ gap_len-lines (l ∷ ls) rest h stop =
     rw regroup (gap_step t one.0 ∙ (rw behind (omega (arith, long, again, length-append l (joined ls)))))
 
 pub gap_again : (p rest : List ℕ) → IsGapCut p rest → cut_gap (p ++ rest) ≡ (p, rest)
-gap_again p rest h =
-    let n : gap_len (p ++ rest) ≡ length p = rw h.0.spelled (gap_len-lines h.0.lines rest h.0.each h.1) in
-    rw n (rw (take-append_seam, drop-append_seam) refl)
+gap_again p rest h = search (rules, gap_len-lines, take-append_seam, drop-append_seam)
 
 -- where the text is cut behind its gap
 boundary_lines : (n : ℕ) (t : List ℕ) → IsUtf8 t → IsCharBoundary t (gap_lines n t)

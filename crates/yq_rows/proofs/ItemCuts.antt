@@ -1,5 +1,5 @@
 -- The cut of items.
-use Rattle.std.proofs.Common.{◌≡◌, ◌⊎◌, inl, inr, ℕ, suc, Bool, true, false, ◌||◌, List, [], ◌∷◌, ◌++◌, length, Some, if◌then◌else◌, refl, sym, ap, ◌∙◌, subst, ⊎_elim, arith}
+use Rattle.std.proofs.Common.{◌≡◌, ◌⊎◌, inl, inr, ℕ, Bool, true, false, ◌||◌, List, [], ◌∷◌, ◌++◌, Some, if◌then◌else◌, refl, sym, ap, ◌∙◌, subst, ⊎_elim, arith, rules}
 use Rattle.std.proofs.lemmas.Bool.{false≢true, or_right}
 use Rattle.yq_flow_scalars.specs.Text.{is_empty}
 use Rattle.yq_rows.specs.Exchange.{allows_first}
@@ -90,9 +90,7 @@ cut_of_items (end_item gap marker ∷ xs) asked h = cut_of_end asked gap marker 
 
 -- read alone
 pub alone_read : (xs : List Item) (asked : Asked) → AreRowItems asked xs [] → all_parts true (items_text xs []) ≡ Some (cut_of xs)
-alone_read xs asked h =
-    let cut_is = cut_of_items xs asked h in
-    subst (λ (t : List ℕ). all_parts true t ≡ Some (cut_of xs)) cut_is.1 (parts_again (cut_of xs) true (suc (length (cut_text (cut_of xs)))) (unasked asked.limit asked.started (cut_of xs) cut_is.0) (omega arith))
+alone_read xs asked h = search (rules, cut_of_items, parts_again, unasked)
 
 -- the items of that cut
 row_items : (r : Row) (c : Cut) → items_of (row_before r c) ≡ row_item r ∷ items_of c

@@ -1,5 +1,5 @@
 -- Splices of a cut, by its items.
-use Rattle.std.proofs.Common.{◌≡◌, ℕ, zero, suc, ◌≤◌, List, [], ◌∷◌, ◌++◌, take, drop, refl, sym, ap, ◌∙◌, arith, append_assoc}
+use Rattle.std.proofs.Common.{◌≡◌, ℕ, zero, suc, ◌≤◌, List, [], ◌∷◌, ◌++◌, take, drop, refl, sym, ap, ◌∙◌, arith, append_assoc, rules}
 use Rattle.yq_rows.specs.Items.{Item, row_item, end_item, rows_items, items_of}
 use Rattle.yq_rows.specs.ItemSplices.{items_before, first_item, regapped, SplicedItems}
 use Rattle.yq_rows.specs.Rows.{Row, Cut, last, marked}
@@ -49,12 +49,7 @@ gap_later (r ∷ rs) new_gap gap marker xs = refl
 
 part_new : (i j : ℕ) (rs new : List Row) (new_gap gap marker : List ℕ) (xs : List Item) →
     rows_items (take i rs ++ (new ++ with_first_gap new_gap (drop j rs))) (end_item (end_gap new_gap (drop j rs) gap) marker ∷ xs) ≡ rows_items (take i rs) [] ++ (rows_items new (regapped new_gap (drop j rs) marker ∷ []) ++ later_items (drop j rs) gap marker xs)
-part_new i j rs new new_gap gap marker xs =
-    let tail : List Item = end_item (end_gap new_gap (drop j rs) gap) marker ∷ xs in
-    rows_joined (take i rs) (new ++ with_first_gap new_gap (drop j rs)) tail
-    ∙ (ap (rows_items (take i rs)) (rows_joined new (with_first_gap new_gap (drop j rs)) tail ∙ ap (rows_items new) (gap_later (drop j rs) new_gap gap marker xs))
-    ∙ (rows_front (take i rs) (rows_items new (regapped new_gap (drop j rs) marker ∷ later_items (drop j rs) gap marker xs))
-    ∙ ap (λ l. rows_items (take i rs) [] ++ l) (rows_then new (regapped new_gap (drop j rs) marker) (later_items (drop j rs) gap marker xs))))
+part_new i j rs new new_gap gap marker xs = search (rules, rows_joined, gap_later, rows_front, rows_then)
 
 -- a cut
 behind_part : (rs : List Row) (gap marker : List ℕ) (a b : List Item) → rows_items rs (end_item gap marker ∷ (a ++ b)) ≡ rows_items rs (end_item gap marker ∷ a) ++ b

@@ -1,8 +1,7 @@
 -- Dashes and the mark behind them are read again.
-use Rattle.std.proofs.Common.{◌≡◌, ℕ, zero, suc, ◌≤◌, ◌<◌, inl, inr, true, false, cond, not, ◌&&◌, eqb, List, [], ◌∷◌, ◌++◌, length, None, refl, ap, ◌∙◌, subst, arith, eqb-true, replicate, length-append}
+use Rattle.std.proofs.Common.{◌≡◌, ℕ, zero, suc, ◌≤◌, ◌<◌, true, false, not, ◌&&◌, List, [], ◌∷◌, ◌++◌, length, None, refl, ap, arith, eqb-true, replicate, length-append, rules}
 use Rattle.std.proofs.lemmas.Bool.{false≢true, not-true, or_right, and_parts, cases_Bool}
 use Rattle.std.proofs.lemmas.List.{length-replicate}
-use Rattle.yq_flow_scalars.specs.Plain.{is_safe}
 use Rattle.yq_flow_scalars.specs.Text.{cut, no_space, is_empty, separates}
 use Rattle.yq_inline.specs.Nodes.{begins_node, first_is, begins_content}
 use Rattle.yq_inline.specs.Scalars.{begins_scalar}
@@ -16,13 +15,7 @@ use Rattle.yq_rows.proofs.PieceLaws.{key_again}
 
 -- a scalar is no dash
 pub scalar_no_dash : (t : List ℕ) → begins_scalar false t ≡ true → is_dash t ≡ false
-scalar_no_dash [] h = refl
-scalar_no_dash (b ∷ bs) h = elim (cases_Bool (eqb b 45)) [
-  | inl e ↦ (
-      let safe : is_safe false bs ≡ true = subst (λ (x : ℕ). begins_scalar false (x ∷ bs) ≡ true) (eqb-true b 45 e) h in
-      rw e (not-true (separates bs) (and_parts (not (separates bs)) true safe).0))
-  | inr e ↦ rw e refl
-]
+scalar_no_dash t h1 = search (rules, cases_Bool, eqb-true, not-true, and_parts)
 
 pub scalar_node : (t : List ℕ) → begins_scalar false t ≡ true → begins_node false t ≡ true
 scalar_node t h = or_right (first_is 38 t) (begins_content false t) (or_right (first_is 42 t) _ (or_right (first_is 91 t) _ (or_right (first_is 123 t) (begins_scalar false t) h)))
@@ -54,11 +47,7 @@ length_less n t = omega (arith, length-append {A = ℕ} (replicate n 32) t)
 -- one dash before an entry
 dash_again : (f n : ℕ) (t : List ℕ) (m : Marks) → 1 ≤ n → EntryFront t → dashes_at f t ≡ m → dashes_at (suc f) (45 ∷ (replicate n 32 ++ t)) ≡ with_dash n m
 unfolding dashes_at
-dash_again f zero t m some h e = absurd (omega arith)
-dash_again f (suc n) t m some h e =
-    let s : cut no_space (replicate (suc n) 32 ++ t) ≡ (replicate (suc n) 32, t) = spaces_again (suc n) t h.0 in
-    ap (λ (c : List ℕ × List ℕ). cond (not (is_empty c.0) && begins_entry c.1) (with_dash (length c.0) (dashes_at f c.1)) ([], Dash, replicate (suc n) 32 ++ t)) s
-    ∙ rw (h.1, e, length-replicate {A = ℕ} n 32) refl
+dash_again f n t m h1 h2 h3 = search (rules, spaces_again, length-replicate)
 
 mark_again : (mark : Mark) (rest : List ℕ) (f : ℕ) → Ended mark rest → length (mark_text mark rest) ≤ f → dashes_at f (mark_text mark rest) ≡ ([], mark, rest)
 unfolding dashes_at

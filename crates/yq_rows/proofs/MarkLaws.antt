@@ -1,5 +1,5 @@
 -- Dashes and the mark behind them, read and spelled.
-use Rattle.std.proofs.Common.{◌≡◌, ℕ, zero, suc, ◌≤◌, true, false, cond, not, ◌&&◌, eqb, List, [], ◌∷◌, ◌++◌, length, take, drop, Option, Some, None, refl, ap, ◌∙◌, arith, eqb-true, replicate, length-drop}
+use Rattle.std.proofs.Common.{◌≡◌, ℕ, zero, suc, ◌≤◌, true, false, cond, not, ◌&&◌, eqb, List, [], ◌∷◌, ◌++◌, length, take, drop, Option, Some, None, refl, ap, ◌∙◌, arith, eqb-true, replicate, length-drop, rules}
 use Rattle.std.proofs.lemmas.Bool.{false≢true, cond_both, not-false, and_parts}
 use Rattle.yq_flow_scalars.specs.Text.{upto, cut, NoneIn, no_space, is_empty, separates}
 use Rattle.yq_flow_scalars.proofs.Upto.{cut-append, cut_takes}
@@ -44,10 +44,7 @@ dashes_fuel (suc n) (suc m) (x ∷ t) a b =
 -- one more dash
 pub marks_more : (t : List ℕ) → is_dash t ≡ true → (not (is_empty (cut no_space (drop 1 t)).0) && begins_entry (cut no_space (drop 1 t)).1) ≡ true → marks_at t ≡ with_dash (length (cut no_space (drop 1 t)).0) (marks_at (cut no_space (drop 1 t)).1)
 unfolding dashes_at
-marks_more [] h more = absurd (false≢true h)
-marks_more (x ∷ t) h more =
-    let less = behind_spaces t in
-    rw (h, more) (ap (with_dash (length (cut no_space t).0)) (dashes_fuel (length t) (length (cut no_space t).1) (cut no_space t).1 less (omega arith)))
+marks_more t h1 h2 = search (rules, false≢true, behind_spaces, dashes_fuel)
 
 -- the last one
 pub marks_dash : (t : List ℕ) → is_dash t ≡ true → (not (is_empty (cut no_space (drop 1 t)).0) && begins_entry (cut no_space (drop 1 t)).1) ≡ false → marks_at t ≡ ([], Dash, drop 1 t)

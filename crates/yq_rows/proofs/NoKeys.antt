@@ -1,19 +1,18 @@
 -- Before a tail, what stands behind a mark is no key and no dash.
-use Rattle.std.proofs.Common.{◌≡◌, inl, inr, ℕ, suc, ◌+◌, Bool, true, false, cond, not, ◌&&◌, ◌||◌, eqb, leb, List, [], ◌∷◌, ◌++◌, length, drop, Option, Some, None, refl, sym, ap, ◌∙◌}
+use Rattle.std.proofs.Common.{◌≡◌, inl, inr, ℕ, suc, ◌+◌, Bool, true, false, cond, not, ◌&&◌, eqb, leb, List, [], ◌∷◌, ◌++◌, length, drop, Option, Some, None, refl, sym, ap, rules}
 use Rattle.std.proofs.lemmas.Bool.{false≢true, cond_both, not-true, not-false, and_parts, cases_Bool, or_parts}
 use Rattle.std.specs.Option.{option_or}
 use Rattle.std.specs.Str.{chars}
 use Rattle.yq_flow_scalars.specs.Answers.{◌>>=◌}
 use Rattle.yq_flow_scalars.specs.Plain.{begins_plain, ends_plain, ends_text, follows, may_follow, last_line, no_gap, plain_at}
-use Rattle.yq_flow_scalars.specs.QuotedReading.{is_quote}
-use Rattle.yq_flow_scalars.specs.Text.{upto, cut, NoneIn, is_white, is_break, is_space, is_empty, front, past_white}
+use Rattle.yq_flow_scalars.specs.Text.{upto, cut, NoneIn, is_white, is_break, is_empty, front, past_white}
 use Rattle.yq_flow_scalars.proofs.Bools.{at_byte}
 use Rattle.yq_flow_scalars.proofs.QuotedFound.{quoted_again}
 use Rattle.yq_flow_scalars.proofs.Upto.{upto_here}
 use Rattle.yq_flow_scalars.proofs.QuotedLaws.{of_quotes}
 use Rattle.yq_inline.specs.Nodes.{Node, empty, alias, scalar, coll, anchored, node_text, is_bare, IsNode}
 use Rattle.yq_inline.specs.Reading.{scalar_at}
-use Rattle.yq_inline.specs.Scalars.{is_quoted, has_its_lines, IsScalarAt, begins_scalar}
+use Rattle.yq_inline.specs.Scalars.{is_quoted, IsScalarAt, begins_scalar}
 use Rattle.yq_inline.proofs.PieceLaws.{front_not, scalar_begins}
 use Rattle.yq_rows.specs.Grammar.{IsTail, key_limit}
 use Rattle.yq_rows.specs.Reading.{is_colon, colon_at, key_at, is_dash}
@@ -67,19 +66,10 @@ may_none d None text h = refl
 may_none d (Some l) text h = absurd (false≢true h)
 
 follows_none : (d : ℕ) (gap text : List ℕ) → follows false (Some d) gap text ≡ false → follows false None gap text ≡ false
-follows_none d gap text h = elim (cases_Bool (follows false None gap text)) [
-  | inl e ↦ absurd (
-      let parts = and_parts (goes_on text) (may_follow None (last_line gap) text) e in
-      let on : follows false (Some d) gap text ≡ true = rw parts.0 (may_none d (last_line gap) text parts.1) in
-      false≢true (sym h ∙ on))
-  | inr e ↦ e
-]
+follows_none d gap text h = search (rules, cases_Bool, and_parts, may_none, false≢true)
 
 one_ends : (d : ℕ) (t : List ℕ) → ends_plain false (Some d) t ≡ true → ends_plain false None t ≡ true
-one_ends d t h = elim (cases_Bool (is_space t)) [
-  | inl e ↦ (let no : follows false (Some d) (cut no_gap t).0 (cut no_gap t).1 ≡ false = not-true _ (rw e at h) in rw e (rw (follows_none d (cut no_gap t).0 (cut no_gap t).1 no) refl))
-  | inr e ↦ (let same : (is_empty t || ends_text false t) ≡ true = rw e at h in rw e same)
-]
+one_ends d t h = search (rules, cases_Bool, not-true, follows_none)
 
 line_between : (d : ℕ) (line : Option (List ℕ)) (text : List ℕ) → may_follow None line text ≡ false → (l : List ℕ) × (line ≡ Some l)
 line_between d None text h = absurd (false≢true (sym h))
@@ -87,18 +77,7 @@ line_between d (Some l) text h = (l, refl)
 
 broken : (d : ℕ) (t : List ℕ) → ends_plain false None t ≡ true → ends_plain false (Some d) t ≡ false → colon_at t ≡ None
 unfolding colon_at
-broken d t one more = elim (cases_Bool (is_space t)) [
-  | inl e ↦ (
-      let no : follows false None (cut no_gap t).0 (cut no_gap t).1 ≡ false = not-true _ (rw e at one) in
-      let on : follows false (Some d) (cut no_gap t).0 (cut no_gap t).1 ≡ true = not-false _ (rw e at more) in
-      let text : goes_on (cut no_gap t).1 ≡ true = (and_parts (goes_on (cut no_gap t).1) (may_follow (Some d) (last_line (cut no_gap t).0) (cut no_gap t).1) on).0 in
-      let line = line_between d (last_line (cut no_gap t).0) (cut no_gap t).1 (rw text at no) in
-      rw (line_no_colon t line.0 line.1) refl)
-  | inr e ↦ absurd (
-      let a : (is_empty t || ends_text false t) ≡ true = rw e at one in
-      let b : (is_empty t || ends_text false t) ≡ false = rw e at more in
-      false≢true (sym b ∙ a))
-]
+broken d t one more = search (rules, cases_Bool, not-true, not-false, and_parts, line_between, line_no_colon, false≢true)
 
 plain_no_colon : (d : ℕ) (p rest : List ℕ) → NoneIn (ends_plain false (Some d)) p rest → ends_plain false (Some d) rest ≡ true → colon_at rest ≡ None → colon_at (drop (upto (ends_plain false None) (p ++ rest)) (p ++ rest)) ≡ None
 unfolding upto
@@ -109,10 +88,7 @@ plain_no_colon d (b ∷ p) rest n e c =
     (λ _. plain_no_colon d p rest n.1 e c)
 
 plain_no_quote : (t : List ℕ) → begins_plain false t ≡ true → is_quoted t ≡ false
-plain_no_quote [] h = refl
-plain_no_quote (b ∷ t) h =
-    let isnt : (k : ℕ) → ((cs : List ℕ) → begins_plain false (k ∷ cs) ≡ false) → eqb b k ≡ false = λ k never. front_not (begins_plain false) k never (b ∷ t) h in
-    rw (isnt 34 (λ cs. refl), isnt 39 (λ cs. refl)) refl
+plain_no_quote t h1 = search (rules, front_not)
 
 -- a key that was read up to its `:`
 abbrev then_colon : Option (List ℕ × List ℕ) → Option (List ℕ × List ℕ × List ℕ)
@@ -120,11 +96,7 @@ then_colon o = o >>= λ key. colon_at key.1 >>= λ colon. cond (leb (length (cha
 
 scalar_no_key : (d : ℕ) (p rest : List ℕ) → IsScalarAt false (Some d) p rest → colon_at rest ≡ None → key_at (p ++ rest) ≡ None
 unfolding key_at scalar_at plain_at
-scalar_no_key d p rest (inl h) c = rw (plain_no_quote (p ++ rest) h.begins, h.begins, plain_no_colon d p rest h.inside h.ends c) refl
-scalar_no_key d p rest (inr h) c =
-    let q = h.0.1.1 in
-    let quoted : is_quoted (p ++ rest) ≡ true = rw q.spelled (of_quotes (λ x. is_quote x ≡ true) h.0.0 q.quotes refl refl) in
-    rw quoted (rw (quoted_again h.0.0 h.0.1.0 p rest q) (cond_both (has_its_lines None p) (Some (p, rest)) None (λ o. then_colon o ≡ None) (λ _. rw c refl) (λ _. refl)))
+scalar_no_key d p rest h1 h2 = search (rules, plain_no_quote, plain_no_colon, of_quotes, quoted_again, cond_both)
 
 -- what is no key and no dash
 abbrev pub NoEntry : List ℕ → Type 0

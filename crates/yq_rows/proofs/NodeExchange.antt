@@ -1,5 +1,5 @@
 -- An inline node behind a dash or a key, exchanged for another one.
-use Rattle.std.proofs.Common.{◌≡◌, ℕ, ℤ, true, false, List, [], ◌∷◌, ◌++◌, Some, refl, sym, ap, ◌∙◌, subst, append_assoc}
+use Rattle.std.proofs.Common.{◌≡◌, ℕ, ℤ, true, false, List, [], ◌∷◌, ◌++◌, Some, refl, sym, ap, ◌∙◌, subst, append_assoc, rules}
 use Rattle.std.proofs.lemmas.Bool.{false≢true, or_parts}
 use Rattle.std.specs.List.{slice_get}
 use Rattle.std.specs.Str.{IsUtf8}
@@ -13,7 +13,7 @@ use Rattle.yq_inline.proofs.WrittenLaws.{node_then}
 use Rattle.yq_rows.specs.Exchange.{with_content, exchange, before_content, behind_row, rows_behind, allows_first, FitsRow}
 use Rattle.yq_rows.specs.Gap.{IsWhite}
 use Rattle.yq_rows.specs.Grammar.{IsTail, IsContent, IsMark, is_entry, limit_after, IsCut}
-use Rattle.yq_rows.specs.Rows.{Mark, Bare, Dash, Key, Content, Inline, content_text, Row, parent_indent, Cut, cut_text}
+use Rattle.yq_rows.specs.Rows.{Mark, Content, Inline, content_text, Row, parent_indent, Cut, cut_text}
 use Rattle.yq_rows.specs.View.{rows_of}
 use Rattle.yq_rows.proofs.CharacterLaws.{text_exchanged}
 use Rattle.yq_rows.proofs.Fronts.{Starts, node_starts}
@@ -25,9 +25,7 @@ pub inline_starts : (n : ℤ) (node : Node) (rest : List ℕ) → IsInline place
 inline_starts n node rest h = node_starts (node_text node rest) (node_begins (Some (deeper n)) depth_limit node rest h.valid h.something)
 
 pub mark_apart : (mark : Mark) (c : Content) (rest : List ℕ) → is_entry mark ≡ true → IsMark mark c rest → separates (content_text c rest) ≡ true
-mark_apart Bare c rest e m = absurd (false≢true e)
-mark_apart Dash c rest e m = m
-mark_apart (Key key colon) c rest e m = m.colon_is.separated
+mark_apart mark c rest h1 h2 = search (rules, false≢true)
 
 pub space_apart : (space old new : List ℕ) → IsWhite space → separates (space ++ old) ≡ true → separates old ≡ false → separates (space ++ new) ≡ true
 space_apart [] old new blank h none = absurd (false≢true (sym none ∙ h))
@@ -68,8 +66,7 @@ node_place c i r space node tail is content =
     place c i r is ∙ (ap (λ (x : Content). before_content i c ++ content_text x (behind_row i c)) content ∙ regroup (before_content i c) space node (tail ++ behind_row i c))
 
 pub new_node_place : (c : Cut) (i : ℕ) (r : Row) (space : List ℕ) (new : Node) (tail : List ℕ) → slice_get (rows_of c) i ≡ Some r → cut_text (exchange i (Inline space new tail) c) ≡ (before_content i c ++ space) ++ (node_text new [] ++ (tail ++ behind_row i c))
-new_node_place c i r space new tail is =
-    new_place c i r (Inline space new tail) is ∙ regroup (before_content i c) space new (tail ++ behind_row i c)
+new_node_place c i r space new tail is = search (rules, new_place, regroup)
 
 -- the characters of the new text
 pub starts_no_feed : (t : List ℕ) → Starts t → front is_feed t ≡ false

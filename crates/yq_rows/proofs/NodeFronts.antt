@@ -1,5 +1,5 @@
 -- What is in front of an inline node and of a block scalar.
-use Rattle.std.proofs.Common.{◌≡◌, inl, inr, ℕ, Bool, true, false, not, ◌||◌, eqb, List, [], ◌∷◌, ◌++◌, drop, Option, refl, sym, ap, ◌∙◌}
+use Rattle.std.proofs.Common.{◌≡◌, inl, inr, ℕ, Bool, true, false, not, ◌||◌, eqb, List, [], ◌∷◌, ◌++◌, drop, Option, refl, ap, rules}
 use Rattle.std.proofs.lemmas.Bool.{false≢true, cond_both, or_right}
 use Rattle.yq_scalar.specs.Block.{mark_of, BlockText, block_text}
 use Rattle.yq_scalar.specs.declared.block_header.BlockStyle.{BlockStyle}
@@ -20,20 +20,12 @@ is_block_mark b = eqb b 124 || eqb b 62
 -- a node begins as one
 pub node_begins : (spaces : Option ℕ) (k : ℕ) (node : Node) (rest : List ℕ) → IsNode false spaces k node rest → not (is_bare node) ≡ true → begins_node false (node_text node rest) ≡ true
 unfolding node_text IsNode
-node_begins spaces k empty rest h some = absurd (false≢true some)
-node_begins spaces k (alias n) rest h some = refl
-node_begins spaces k (scalar p) rest h some = scalar_node (p ++ rest) (scalar_begins false spaces p rest h)
-node_begins spaces k (coll close gap items) rest h some = cond_both (eqb close 125) 123 91 (λ (b : ℕ). (t : List ℕ) → begins_node false (b ∷ t) ≡ true) (λ _ t. refl) (λ _ t. refl) (gap ++ items_text close items rest)
-node_begins spaces k (anchored n g node) rest h some = refl
+node_begins spaces k node rest h1 h2 = search (rules, false≢true, scalar_node, scalar_begins, cond_both)
 
 -- nothing is before a rest what nothing may be before
 pub bare_node : (spaces : Option ℕ) (k : ℕ) (node : Node) (rest : List ℕ) → IsNode false spaces k node rest → begins_node false (node_text node rest) ≡ true → not (is_bare node) ≡ true
 unfolding node_text IsNode
-bare_node spaces k empty rest h begins = absurd (let no : begins_node false rest ≡ false = rw (h.0, h.1) refl in false≢true (sym no ∙ begins))
-bare_node spaces k (alias n) rest h begins = refl
-bare_node spaces k (scalar p) rest h begins = refl
-bare_node spaces k (coll close gap items) rest h begins = refl
-bare_node spaces k (anchored n g node) rest h begins = refl
+bare_node spaces k node rest h1 h2 = search (rules, false≢true)
 
 -- a test of the byte in front
 front_first : (t : List ℕ) → first_is 124 t ≡ false → first_is 62 t ≡ false → front is_block_mark t ≡ false
@@ -56,11 +48,7 @@ pub name_cut : (n t : List ℕ) → IsName n t → drop (upto (unless in_name) (
 name_cut n t h = ap (λ (y : List ℕ × List ℕ). y.1) (cut-append (unless in_name) n t h.inside h.ends)
 
 pub bare_or : (node : Node) (g : List ℕ) → (is_bare node || not (is_empty g)) ≡ true → g ≡ [] → is_bare node ≡ true
-bare_or empty g h e = refl
-bare_or (alias n) g h e = rw e at h
-bare_or (scalar p) g h e = rw e at h
-bare_or (coll close gap items) g h e = rw e at h
-bare_or (anchored n gap node) g h e = rw e at h
+bare_or node g h1 h2 = search rules
 
 anchored_no_mark : (g : List ℕ) (node : Node) (rest : List ℕ) → IsLead false (begins_content false) g (node_text node rest) → (is_bare node || not (is_empty g)) ≡ true → front is_block_mark (past_white rest) ≡ false → front is_block_mark (past_white (g ++ node_text node rest)) ≡ false
 anchored_no_mark g node rest (inl h) some c = rw (past_is g (node_text node rest) h.0.0 h.0.1) (content_no_mark (node_text node rest) h.1)

@@ -1,11 +1,11 @@
 -- Whole characters stand before, in and behind a node.
-use Rattle.std.proofs.Common.{◌≡◌, ◌⊎◌, inl, inr, ℕ, zero, suc, ◌+◌, ◌-◌, ◌<◌, ◌≤◌, replicate, true, false, ◌&&◌, ◌||◌, List, [], ◌∷◌, ◌++◌, length, take, drop, get_or, Some, refl, sym, ap, ◌∙◌, subst, arith, ⊎_elim, eqb-true, append_assoc, append-nil, length-append}
+use Rattle.std.proofs.Common.{◌≡◌, ◌⊎◌, inl, inr, ℕ, zero, suc, ◌+◌, ◌-◌, ◌<◌, ◌≤◌, replicate, true, false, ◌||◌, List, [], ◌∷◌, ◌++◌, length, take, drop, get_or, Some, refl, sym, ap, ◌∙◌, subst, arith, ⊎_elim, eqb-true, append_assoc, append-nil, length-append, rules}
 use Rattle.std.proofs.Math.Seq.{take-append_seam, drop-append_seam, get_or-append_seam}
 use Rattle.std.proofs.lemmas.Bool.{false≢true, or_cases, and_parts, cases_Bool}
-use Rattle.std.proofs.lemmas.Str.{IsCharBoundary-after_ascii, IsCharBoundary-before_ascii, IsCharBoundary-end, IsUtf8-take, IsUtf8-between}
+use Rattle.std.proofs.lemmas.Str.{IsCharBoundary-after_ascii, IsUtf8-take, IsUtf8-between}
 use Rattle.std.specs.List.{slice_get}
 use Rattle.std.specs.Str.{IsUtf8, IsCharBoundary}
-use Rattle.yq_flow_scalars.specs.Text.{front, is_feed, is_return, ends_line, separates}
+use Rattle.yq_flow_scalars.specs.Text.{front, ends_line, separates}
 use Rattle.yq_flow_scalars.proofs.Boundaries.{white_ascii}
 use Rattle.yq_flow_scalars.specs.Lines.{is_hash}
 use Rattle.yq_inline.specs.Nodes.{Node, node_text}
@@ -52,14 +52,7 @@ BeginsAscii [] = Unit {0}
 BeginsAscii (b ∷ t) = b < 128
 
 stop_ascii : (t : List ℕ) → (ends_line t || is_hash t) ≡ true → BeginsAscii t
-stop_ascii [] h = tt
-stop_ascii (b ∷ bs) h = ⊎_elim {0, 0, 0}
-    (λ e. ⊎_elim {0, 0, 0}
-    (λ f. omega (arith, eqb-true b 10 f))
-    (λ f. omega (arith, eqb-true b 13 (and_parts (is_return b) (front is_feed bs) f).0))
-    (or_cases (is_feed b) (is_return b && front is_feed bs) e))
-    (λ e. omega (arith, eqb-true b 35 e))
-    (or_cases (ends_line (b ∷ bs)) (is_hash (b ∷ bs)) h)
+stop_ascii t h1 = search (rules, ⊎_elim, eqb-true, and_parts, or_cases)
 
 white_before : (w t : List ℕ) → IsWhite w → BeginsAscii t → BeginsAscii (w ++ t)
 white_before [] t blank h = h
@@ -71,10 +64,7 @@ tail_ascii tail rest h =
     subst BeginsAscii (sym u.1) (white_before h.white u.0 h.line.blank (stop_ascii u.0 u.3))
 
 pub before_ascii : (p rest : List ℕ) → BeginsAscii rest → IsCharBoundary (p ++ rest) (length p)
-before_ascii p [] h = subst (λ (q : List ℕ). IsCharBoundary q (length p)) (sym (append-nil p)) (IsCharBoundary-end p)
-before_ascii p (b ∷ rest) h =
-    let small : get_or (p ++ (b ∷ rest)) (length p) 0 < 128 = subst (λ (n : ℕ). n < 128) (sym (get_or-append_seam p b rest 0)) h in
-    IsCharBoundary-before_ascii (p ++ (b ∷ rest)) (length p) (omega (arith, length-append p (b ∷ rest))) small
+before_ascii p rest h1 = search (rules, append-nil, get_or-append_seam, length-append)
 
 pub pieces_of : (before old behind : List ℕ) → IsUtf8 (before ++ (old ++ behind)) → EndsAscii before → BeginsAscii behind → HasPieces (before ++ (old ++ behind)) before old behind
 pieces_of before old behind u e h =

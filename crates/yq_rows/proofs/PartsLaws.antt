@@ -1,5 +1,5 @@
 -- The parts of a text and the markers between them, read and spelled.
-use Rattle.std.proofs.Common.{◌≡◌, inl, inr, ℕ, zero, suc, ◌<◌, ◌≤◌, Bool, true, false, cond, ◌||◌, List, [], ◌∷◌, ◌++◌, length, Option, Some, None, refl, sym, ap, ◌∙◌, subst, arith}
+use Rattle.std.proofs.Common.{◌≡◌, ℕ, zero, suc, ◌<◌, ◌≤◌, Bool, true, false, cond, ◌||◌, List, [], ◌∷◌, ◌++◌, length, Option, Some, None, refl, sym, ap, ◌∙◌, subst, arith, rules}
 use Rattle.std.proofs.lemmas.Bool.{false≢true, cases_Bool}
 use Rattle.std.proofs.lemmas.Option.{cond_some, same_Some}
 use Rattle.yq_flow_scalars.specs.Answers.{◌>>=◌}
@@ -29,8 +29,7 @@ part_takes started t x h =
 
 pub part_again : (started : Bool) (p : Part) (rest : List ℕ) → IsPart started p rest → ends_part rest ≡ true → part_at started (part_text p rest) ≡ Some (p, rest)
 unfolding part_at
-part_again started p rest h ends =
-    rw (rows_again p.rows unlimited p.end rest (suc (length (part_text p rest))) h.rows ends (omega arith), h.inside) refl
+part_again started p rest h ends = search (rules, rows_again)
 
 -- the line of a marker
 abbrev MarkerCut : List ℕ → List ℕ × List ℕ → Type 0
@@ -50,10 +49,7 @@ marker_takes (a ∷ (b ∷ (c ∷ t))) x is h =
 
 pub marker_again : (p rest : List ℕ) → IsMarkerLine p rest → (marker_at (p ++ rest) ≡ Some (p, rest)) × (length rest < length (p ++ rest))
 unfolding marker_at
-marker_again [] rest h = absurd (omega (arith, h.long))
-marker_again (a ∷ []) rest h = absurd (omega (arith, h.long))
-marker_again (a ∷ (b ∷ [])) rest h = absurd (omega (arith, h.long))
-marker_again (a ∷ (b ∷ (c ∷ p))) rest h = (rw (tail_again p rest h.tail) refl, omega (arith, suffix_le p rest))
+marker_again p rest h1 = search (rules, tail_again, suffix_le)
 
 marker_shorter : (t : List ℕ) (x : List ℕ × List ℕ) → is_marker t ≡ true → marker_at t ≡ Some x → length x.1 < length t
 marker_shorter t x is h =
@@ -91,11 +87,7 @@ abbrev parts_by : ℕ → Part × List ℕ → Option Cut
 parts_by n part = cond (is_empty part.1) (Some (last part.0)) (marker_at part.1 >>= λ marker. then_cut part.0 marker.0 (parts_at n (begins_document marker.0) marker.1))
 
 marked_fuel : (n m : ℕ) (part : Part × List ℕ) → ends_part part.1 ≡ true → ((marker : List ℕ × List ℕ) → length marker.1 < length part.1 → parts_at n (begins_document marker.0) marker.1 ≡ parts_at m (begins_document marker.0) marker.1) → parts_by n part ≡ parts_by m part
-marked_fuel n m part ends h = elim (cases_Bool (is_empty part.1)) [
-  | inl e ↦ rw e refl
-  | inr e ↦ rw e (bind_same (λ marker. then_cut part.0 marker.0 (parts_at n (begins_document marker.0) marker.1)) (λ marker. then_cut part.0 marker.0 (parts_at m (begins_document marker.0) marker.1)) (marker_at part.1)
-      (λ marker f. ap (then_cut part.0 marker.0) (h marker (marker_shorter part.1 marker (ends_marker part.1 ends e) f))))
-]
+marked_fuel n m part ends h = search (rules, cases_Bool, bind_same, marker_shorter, ends_marker)
 
 parts_fuel : (n m : ℕ) (started : Bool) (t : List ℕ) → length t < n → length t < m → parts_at n started t ≡ parts_at m started t
 unfolding parts_at
@@ -111,13 +103,7 @@ abbrev pub parts_behind : Part × List ℕ → Option Cut
 parts_behind part = cond (is_empty part.1) (Some (last part.0)) (marker_at part.1 >>= λ marker. then_cut part.0 marker.0 (all_parts (begins_document marker.0) marker.1))
 
 marked_all : (n : ℕ) (part : Part × List ℕ) → ends_part part.1 ≡ true → length part.1 ≤ n → parts_by n part ≡ parts_behind part
-marked_all n part ends h = elim (cases_Bool (is_empty part.1)) [
-  | inl e ↦ rw e refl
-  | inr e ↦ rw e (bind_same (λ marker. then_cut part.0 marker.0 (parts_at n (begins_document marker.0) marker.1)) (λ marker. then_cut part.0 marker.0 (all_parts (begins_document marker.0) marker.1)) (marker_at part.1)
-      (λ marker f.
-      let short = marker_shorter part.1 marker (ends_marker part.1 ends e) f in
-      ap (then_cut part.0 marker.0) (parts_fuel n (suc (length marker.1)) (begins_document marker.0) marker.1 (omega arith) (omega arith))))
-]
+marked_all n part ends h = search (rules, cases_Bool, bind_same, marker_shorter, ends_marker, parts_fuel)
 
 pub parts_step : (started : Bool) (t : List ℕ) → all_parts started t ≡ (part_at started t >>= parts_behind)
 unfolding parts_at

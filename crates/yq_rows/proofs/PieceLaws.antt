@@ -1,5 +1,5 @@
 -- Keys and tails, read and spelled.
-use Rattle.std.proofs.Common.{◌≡◌, ℕ, zero, suc, ◌+◌, Bool, true, false, cond, not, ◌&&◌, ◌||◌, eqb, leb, List, [], ◌∷◌, ◌++◌, length, take, drop, Option, Some, None, refl, sym, ap, ◌∙◌, subst, ⊎_elim, eqb-true, append_assoc}
+use Rattle.std.proofs.Common.{◌≡◌, ℕ, zero, suc, ◌+◌, Bool, true, false, cond, not, ◌&&◌, ◌||◌, eqb, leb, List, [], ◌∷◌, ◌++◌, length, take, drop, Option, Some, None, refl, sym, ap, ◌∙◌, subst, ⊎_elim, eqb-true, append_assoc, rules}
 use Rattle.std.proofs.lemmas.Bool.{false≢true, or_cases, leb-true, le-leb, or_right, and_from, and_parts}
 use Rattle.std.proofs.lemmas.List.{take-append-drop}
 use Rattle.std.proofs.Math.Seq.{take-append_seam, drop-append_seam}
@@ -40,17 +40,10 @@ colon_takes t x h =
 
 colon_behind : (w rest : List ℕ) → IsWhite w → separates rest ≡ true → colon_at (w ++ (58 ∷ rest)) ≡ Some (w ++ 58 ∷ [], rest)
 unfolding colon_at
-colon_behind w rest blank sep =
-    let t : List ℕ = w ++ (58 ∷ rest) in
-    let n : upto no_white t ≡ length w = upto-append no_white w (58 ∷ rest) (none_in_white w (58 ∷ rest) blank) refl in
-    let front = byte_at t rest (length w) 58 (drop-append_seam w (58 ∷ rest)) in
-    let is : is_colon (drop (length w) t) ≡ true = rw (drop-append_seam) sep in
-    rw n (rw is (rw (front.0, front.1, take-append_seam) refl))
+colon_behind w rest blank sep = search (rules, upto-append, none_in_white, byte_at, drop-append_seam, take-append_seam)
 
 colon_again : (p rest : List ℕ) → IsColon p rest → colon_at (p ++ rest) ≡ Some (p, rest)
-colon_again p rest h =
-    let text : p ++ rest ≡ h.white ++ (58 ∷ rest) = rw h.spelled (append_assoc h.white (58 ∷ []) rest) in
-    ap colon_at text ∙ (colon_behind h.white rest h.blank h.separated ∙ ap (λ q. Some (q, rest)) (sym h.spelled))
+colon_again p rest h = search (rules, append_assoc, colon_behind)
 
 -- a key, with its `:`
 pub key_takes : (t : List ℕ) (x : List ℕ × List ℕ × List ℕ) → key_at t ≡ Some x → (t ≡ x.0 ++ (x.1 ++ x.2)) × IsKey x.0 x.1 x.2
@@ -66,8 +59,7 @@ key_takes t x h =
 
 pub key_again : (key colon rest : List ℕ) → IsKey key colon rest → key_at (key ++ (colon ++ rest)) ≡ Some (key, colon, rest)
 unfolding key_at
-key_again key colon rest h =
-    rw (scalar_again false None key (colon ++ rest) h.scalar, colon_again colon rest h.colon_is, le-leb _ _ h.near) refl
+key_again key colon rest h = search (rules, scalar_again, colon_again, le-leb)
 
 -- a tail, by how the text is cut behind its white space and behind its line
 abbrev ends_tail : List ℕ × List ℕ → Bool
@@ -82,9 +74,7 @@ tail_cases w u h = ⊎_elim {0, 0, 0} (λ e. (rw e refl, rw e refl))
     (or_cases (ends_line u) (not (is_empty w) && is_hash u) h)
 
 tail_test : (w u : List ℕ) → ((ends_line u || is_hash u) ≡ true) → ((ends_line u || not (is_empty w)) ≡ true) → ends_tail (w, u) ≡ true
-tail_test w u h apart = ⊎_elim {0, 0, 0} (λ e. rw e refl)
-    (λ e. ⊎_elim {0, 0, 0} (λ f. rw f refl) (λ f. or_right (ends_line u) (not (is_empty w) && is_hash u) (and_from (not (is_empty w)) (is_hash u) e f)) (or_cases (ends_line u) (is_hash u) h))
-    (or_cases (ends_line u) (not (is_empty w)) apart)
+tail_test w u h apart = search (rules, ⊎_elim, or_right, and_from, or_cases)
 
 pub tail_takes : (t : List ℕ) (x : List ℕ × List ℕ) → tail_at t ≡ Some x → (t ≡ x.0 ++ x.1) × IsTail x.0 x.1
 unfolding tail_at

@@ -1,13 +1,12 @@
 -- Where the content of a row stands in a text.
-use Rattle.std.proofs.Common.{◌≡◌, inl, inr, ℕ, zero, suc, ◌-◌, Bool, true, List, [], ◌∷◌, ◌++◌, length, drop, Some, None, refl, sym, ap, ◌∙◌, subst, append_assoc, replicate}
+use Rattle.std.proofs.Common.{◌≡◌, inl, inr, ℕ, zero, suc, ◌-◌, Bool, true, List, [], ◌∷◌, ◌++◌, length, drop, Some, refl, sym, ap, ◌∙◌, subst, append_assoc, replicate, rules}
 use Rattle.std.proofs.Math.Dec.{ltb}
 use Rattle.std.proofs.lemmas.Bool.{ltb-true, ltb-false, cases_Bool}
 use Rattle.std.specs.List.{slice_get}
-use Rattle.yq_inline.specs.Nodes.{node_text}
 use Rattle.yq_inline.proofs.WrittenLaws.{node_append}
 use Rattle.yq_rows.specs.Exchange.{with_content, with_content_at, exchange, row_front, before_at, behind_at, before_content, behind_row, rows_behind, allows_first}
 use Rattle.yq_rows.specs.Grammar.{IsRow, Limit, unlimited, limit_after, AreRows, begins_document, AreParts}
-use Rattle.yq_rows.specs.Rows.{Mark, Bare, Dash, Key, Content, Nothing, Inline, Block, mark_text, dashes_text, content_text, Row, print_row, rows_text, Part, part_text, Cut, last, marked, cut_text}
+use Rattle.yq_rows.specs.Rows.{Mark, Content, mark_text, dashes_text, content_text, Row, print_row, rows_text, Part, part_text, Cut, last, marked, cut_text}
 use Rattle.yq_rows.specs.View.{rows_of}
 use Rattle.yq_rows.proofs.ExchangeLaws.{slice_front, slice_back}
 
@@ -17,16 +16,10 @@ dashes_then [] t u = refl
 dashes_then (n ∷ ns) t u = ap (λ l. 45 ∷ l) (ap (λ l. replicate n 32 ++ l) (dashes_then ns t u) ∙ sym (append_assoc (replicate n 32) (dashes_text ns t) u))
 
 mark_then : (mark : Mark) (t u : List ℕ) → mark_text mark (t ++ u) ≡ mark_text mark t ++ u
-mark_then Bare t u = refl
-mark_then Dash t u = refl
-mark_then (Key key colon) t u = simp append_assoc refl
+mark_then mark t u = search (rules, append_assoc)
 
 pub content_then : (c : Content) (t u : List ℕ) → content_text c (t ++ u) ≡ content_text c t ++ u
-content_then (Nothing tail) t u = sym (append_assoc tail t u)
-content_then (Inline space node tail) t u =
-    ap (λ l. space ++ l) (ap (node_text node) (sym (append_assoc tail t u)) ∙ node_append node (tail ++ t) u) ∙ sym (append_assoc space (node_text node (tail ++ t)) u)
-content_then (Block space None block) t u = simp append_assoc refl
-content_then (Block space (Some a) block) t u = simp append_assoc refl
+content_then c t u = search (rules, append_assoc, node_append)
 
 pub row_front-append : (r : Row) (rest : List ℕ) → print_row r rest ≡ row_front r ++ content_text r.content rest
 row_front-append r rest =
@@ -36,9 +29,7 @@ row_front-append r rest =
     ∙ (ap (λ l. r.gap ++ l) (sym (append_assoc (replicate r.column 32) front t)) ∙ sym (append_assoc r.gap (replicate r.column 32 ++ front) t))
 
 pub row_then : (r : Row) (t u : List ℕ) → print_row r (t ++ u) ≡ print_row r t ++ u
-row_then r t u =
-    row_front-append r (t ++ u) ∙ (ap (λ l. row_front r ++ l) (content_then r.content t u)
-    ∙ (sym (append_assoc (row_front r) (content_text r.content t) u) ∙ ap (λ l. l ++ u) (sym (row_front-append r t))))
+row_then r t u = search (rules, row_front-append, content_then, append_assoc)
 
 rows_then : (rs : List Row) (t u : List ℕ) → rows_text rs (t ++ u) ≡ rows_text rs t ++ u
 rows_then [] t u = refl
@@ -50,9 +41,7 @@ part_then p t u = ap (rows_text p.rows) (sym (append_assoc p.end t u)) ∙ rows_
 -- the place of a row's content
 place_at : (rows : List Row) (i : ℕ) (r : Row) (rest : List ℕ) → slice_get rows i ≡ Some r → rows_text rows rest ≡ before_at i rows ++ content_text r.content (behind_at i rows rest)
 place_at [] i r rest h = cc
-place_at (x ∷ rows) zero r rest h =
-    let is : x ≡ r = cc in
-    subst (λ (y : Row). rows_text (x ∷ rows) rest ≡ row_front x ++ content_text y.content (rows_text rows rest)) is (row_front-append x (rows_text rows rest))
+place_at (x ∷ rows) zero r rest h = search (rules, row_front-append, row_then)
 place_at (x ∷ rows) (suc i) r rest h =
     ap (print_row x) (place_at rows i r rest h) ∙ row_then x (before_at i rows) (content_text r.content (behind_at i rows rest))
 

@@ -1,16 +1,16 @@
 -- The law of regions where one ends in front of a marker: the marker's line isn't read.
-use Rattle.std.proofs.Common.{◌≡◌, inl, inr, ℕ, ℤ, Bool, true, false, not, List, [], ◌∷◌, ◌++◌, Some, refl, sym, ap, ◌∙◌, subst, ⊎_elim, append-nil, append_assoc}
+use Rattle.std.proofs.Common.{◌≡◌, inl, inr, ℕ, ℤ, Bool, true, false, not, List, [], ◌∷◌, ◌++◌, Some, refl, sym, ap, ◌∙◌, subst, ⊎_elim, append-nil, append_assoc, rules}
 use Rattle.std.proofs.lemmas.Bool.{false≢true, and_parts, cases_Bool}
-use Rattle.yq_scalar.specs.Block.{ends_block, is_empty_line, keeps}
+use Rattle.yq_scalar.specs.Block.{ends_block, is_empty_line}
 use Rattle.yq_scalar.specs.declared.block_lines.TextIndent.{TextIndent}
-use Rattle.yq_flow_scalars.specs.Text.{is_empty, is_line, lines_of}
+use Rattle.yq_flow_scalars.specs.Text.{is_empty, is_line}
 use Rattle.yq_inline.specs.Alike.{Alike}
 use Rattle.yq_inline.proofs.Alikes.{alike_append}
 use Rattle.yq_rows.specs.Gap.{IsGap}
 use Rattle.yq_rows.specs.Grammar.{Limit, IsTail, IsContent, IsRow, IsMarkerLine}
 use Rattle.yq_rows.specs.Items.{Item, row_item, end_item, items_of, items_text, Asked, nothing_asked, asked_by, asked_of, AreRowItems}
 use Rattle.yq_rows.specs.Regions.{StandIn, ended, IsReadAlone}
-use Rattle.yq_rows.specs.Rows.{Content, Nothing, Inline, Block, Row, parent_indent}
+use Rattle.yq_rows.specs.Rows.{Content, Row, parent_indent}
 use Rattle.yq_rows.specs.Seams.{is_closed, is_seam, TakesPlace}
 use Rattle.yq_rows.proofs.AlikeRows.{marker_line_alike, row_alike, row_gap_alike, row_text_alike}
 use Rattle.yq_rows.proofs.EmptyTexts.{none_is}
@@ -34,14 +34,7 @@ tail_cut : (tail t u : List ℕ) → is_empty t ≡ false → IsTail tail t → 
 tail_cut tail t u some h = ⊎_elim {0, 0, 0} (λ e. rw e refl) (λ e. absurd (none_is t some e)) (tail_line tail t h)
 
 seam_cut : (n : ℤ) (c : Content) (gap t : List ℕ) → is_empty t ≡ false → IsGap gap t → IsContent n c (gap ++ t) → is_seam c (gap ++ []) ≡ true
-seam_cut n (Nothing tail) gap t some g h = tail_cut tail (gap ++ t) (gap ++ []) (some_behind gap t some) h
-seam_cut n (Inline space node tail) gap t some g h = tail_cut tail (gap ++ t) (gap ++ []) (some_behind gap t some) h.2
-seam_cut n (Block space anchor block) gap t some g h =
-    let keep = keeps block.chomping in
-    let lines : lines_of (gap ++ t) ≡ g.lines ++ lines_of t = ap (λ p. lines_of (p ++ t)) g.spelled ∙ lines_before g.lines t t some g.each in
-    let was : ends_block keep block.indent (g.lines ++ lines_of t) ≡ true = ap (ends_block keep block.indent) (sym lines) ∙ h.2.behind in
-    let own : lines_of (gap ++ []) ≡ g.lines = ap lines_of (append-nil gap ∙ g.spelled) ∙ gap_lines_of g.lines t g.each in
-    ap (ends_block keep block.indent) own ∙ ends_front keep block.indent g.lines (lines_of t) was
+seam_cut n c gap t h1 h2 h3 = search (rules, tail_cut, some_behind, lines_before, append-nil, gap_lines_of, ends_front)
 
 row_cut : (limit : Limit) (r : Row) (gap t : List ℕ) → is_empty t ≡ false → IsGap gap t → IsGap gap [] → IsRow limit r (gap ++ t) → TakesPlace limit r (gap ++ t) r (gap ++ [])
 row_cut limit r gap t some g last h = row_seam limit r (gap ++ t) (gap ++ []) h (seam_cut (parent_indent r) r.content gap t some g h.content) (plain_before (parent_indent r) r.content [] gap [] last refl)

@@ -1,9 +1,9 @@
 -- The law of regions: items between others, read alone.
-use Rattle.std.proofs.Common.{◌≡◌, inl, ℕ, Bool, true, false, List, [], ◌∷◌, ◌++◌, Option, Some, Result, refl, sym, ap, ◌∙◌, subst, ⊎_elim, append-nil}
+use Rattle.std.proofs.Common.{◌≡◌, inl, ℕ, Bool, true, false, List, [], ◌∷◌, ◌++◌, Option, Some, Result, refl, sym, ap, ◌∙◌, subst, ⊎_elim, append-nil, rules}
 use Rattle.std.proofs.lemmas.Bool.{or_right}
 use Rattle.yq_flow_scalars.specs.Answers.{Gives}
 use Rattle.yq_flow_scalars.specs.declared.fault.ReadError.{ReadError}
-use Rattle.yq_scalar.specs.Block.{ends_block, keeps}
+use Rattle.yq_scalar.specs.Block.{ends_block}
 use Rattle.yq_scalar.specs.declared.block_lines.TextIndent.{TextIndent}
 use Rattle.yq_flow_scalars.specs.Text.{is_line, lines_of}
 use Rattle.yq_inline.specs.Alike.{Alike}
@@ -13,7 +13,7 @@ use Rattle.yq_rows.specs.Items.{Item, row_item, end_item, items_text, Asked, not
 use Rattle.yq_rows.specs.Regions.{StandIn, alone, IsReadAlone}
 use Rattle.yq_rows.specs.Slicing.{read_view}
 use Rattle.yq_rows.specs.Reading.{all_parts}
-use Rattle.yq_rows.specs.Rows.{Content, Nothing, Inline, Block, Row, parent_indent}
+use Rattle.yq_rows.specs.Rows.{Content, Row, parent_indent}
 use Rattle.yq_rows.specs.View.{RowsView, rows_view}
 use Rattle.yq_rows.specs.Seams.{is_closed, is_seam, TakesPlace}
 use Rattle.yq_rows.proofs.AlikeRows.{row_alike, row_gap_alike, row_text_alike, marker_line_alike}
@@ -31,9 +31,7 @@ closed_end : (tail : List ℕ) → is_closed tail [] ≡ true
 closed_end tail = or_right (is_line tail) true refl
 
 seam_end : (c : Content) → is_seam c [] ≡ true
-seam_end (Nothing tail) = closed_end tail
-seam_end (Inline space node tail) = closed_end tail
-seam_end (Block space anchor block) = none_ends (keeps block.chomping) block.indent
+seam_end c = search (rules, closed_end, none_ends)
 
 row_end : (limit : Limit) (r : Row) (t : List ℕ) → IsRow limit r t → TakesPlace limit r t r []
 row_end limit r t h = row_seam limit r t [] h (seam_end r.content) (plain_before (parent_indent r) r.content [] [] [] no_gap refl)

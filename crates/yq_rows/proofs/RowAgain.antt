@@ -1,5 +1,5 @@
 -- A row is read again, and where its gap ends.
-use Rattle.std.proofs.Common.{◌≡◌, ℕ, ℤ, zero, suc, true, false, cond, not, ◌&&◌, eqb, List, [], ◌∷◌, ◌++◌, length, Some, None, refl, ap, ◌∙◌, replicate}
+use Rattle.std.proofs.Common.{◌≡◌, ℕ, ℤ, zero, suc, true, false, cond, not, ◌&&◌, eqb, List, [], ◌∷◌, ◌++◌, length, Some, None, refl, ap, ◌∙◌, replicate, rules}
 use Rattle.std.proofs.Math.Bool.{and-false}
 use Rattle.std.proofs.lemmas.List.{length-replicate}
 use Rattle.yq_flow_scalars.specs.Text.{past_white, is_empty, is_marker}
@@ -42,9 +42,7 @@ row_no_gap limit r rest h = no_gap_line r.column (behind_indent r rest) (row_sta
 
 -- and no marker
 space_no_marker : (t : List ℕ) → is_marker (32 ∷ t) ≡ false
-space_no_marker [] = refl
-space_no_marker (a ∷ []) = refl
-space_no_marker (a ∷ (b ∷ t)) = refl
+space_no_marker t = search rules
 
 no_end : (n : ℕ) (t : List ℕ) → (eqb n 0 && is_marker t) ≡ false → is_empty t ≡ false → ends_part (replicate n 32 ++ t) ≡ false
 no_end zero t h some = rw (some, h) refl
@@ -55,16 +53,11 @@ row_no_end limit r rest h = no_end r.column (behind_indent r rest) h.unmarked (r
 
 -- the row again
 mark_fits : (mark : Mark) (c : Content) (rest : List ℕ) → IsMark mark c rest → fits mark c ≡ true
-mark_fits Bare c rest m = m
-mark_fits Dash c rest m = refl
-mark_fits (Key key colon) c rest m = refl
+mark_fits mark c rest h1 = search rules
 
 marked_again : (limit : Limit) (r : Row) (rest : List ℕ) → IsRow limit r rest → marked_row_at r.gap r.column (marks_at (behind_indent r rest)) ≡ Some (r, rest)
 unfolding marked_row_at
-marked_again limit r rest h =
-    let t = content_text r.content rest in
-    let marks : marks_at (behind_indent r rest) ≡ (r.dashes, r.mark, t) = marks_again r.dashes r.mark t h.dashes (mark_ended r.mark (parent_indent r) r.content rest h.mark h.content) in
-    ap (marked_row_at r.gap r.column) marks ∙ rw (content_again (parent_indent r) r.content rest h.content, mark_fits r.mark r.content rest h.mark) refl
+marked_again limit r rest h = search (rules, marks_again, mark_ended, content_again, mark_fits)
 
 pub row_again : (limit : Limit) (r : Row) (rest : List ℕ) → IsRow limit r rest → row_at limit r.gap (behind_gap r rest) ≡ Some (r, rest)
 unfolding row_at

@@ -1,10 +1,9 @@
 -- A row, read and spelled.
-use Rattle.std.proofs.Common.{◌≡◌, ℕ, ℤ, ◌<◌, ◌≤◌, true, false, not, ◌&&◌, eqb, List, [], ◌∷◌, ◌++◌, length, Option, Some, None, refl, ap, ◌∙◌, subst, arith, replicate, length-append}
+use Rattle.std.proofs.Common.{◌≡◌, ℕ, ℤ, ◌<◌, ◌≤◌, true, false, not, ◌&&◌, eqb, List, [], ◌∷◌, ◌++◌, length, Option, Some, None, refl, ap, ◌∙◌, subst, arith, replicate, length-append, rules}
 use Rattle.std.proofs.lemmas.Bool.{not-true, and_parts}
 use Rattle.std.proofs.lemmas.Option.{cond_some}
-use Rattle.yq_scalar.specs.Block.{block_text}
 use Rattle.yq_flow_scalars.specs.Piece.{deeper}
-use Rattle.yq_flow_scalars.specs.Text.{cut, no_space, is_marker, separates, joined}
+use Rattle.yq_flow_scalars.specs.Text.{cut, no_space, is_marker}
 use Rattle.yq_flow_scalars.proofs.Bools.{guard_then, bind_some}
 use Rattle.yq_flow_scalars.proofs.Upto.{cut_takes}
 use Rattle.yq_inline.specs.Inline.{depth_limit}
@@ -13,7 +12,7 @@ use Rattle.yq_inline.proofs.NodeAgain.{item_longer}
 use Rattle.yq_rows.specs.Gap.{IsGap}
 use Rattle.yq_rows.specs.Grammar.{IsRow, IsContent, IsMark, AreDashes, may_be_alone, Limit, allows}
 use Rattle.yq_rows.specs.Reading.{marks_at, content_at, fits, marked_row_at, row_at}
-use Rattle.yq_rows.specs.Rows.{Mark, Bare, Dash, Key, Anchor, Content, Nothing, Inline, Block, dashes_text, mark_text, anchor_text, content_text, Row, behind_dashes, behind_indent, behind_gap, behind_columns, parent_of, parent_indent}
+use Rattle.yq_rows.specs.Rows.{Mark, Anchor, Content, Inline, dashes_text, mark_text, anchor_text, content_text, Row, behind_indent, behind_gap, behind_columns, parent_of, parent_indent}
 use Rattle.yq_rows.proofs.ContentLaws.{content_takes}
 use Rattle.yq_rows.proofs.MarkLaws.{spaces_are, IsMarked, marks_take}
 
@@ -27,9 +26,7 @@ pub record Marked (gap : List ℕ) (column : ℕ) (t : List ℕ) (r : Row) (rest
   pub content : IsContent (parent_indent r) r.content rest
 
 mark_holds : (mark : Mark) (c : Content) (t rest : List ℕ) → t ≡ content_text c rest → IsMarked mark t → fits mark c ≡ true → IsMark mark c rest
-mark_holds Bare c t rest e h f = f
-mark_holds Dash c t rest e h f = subst (λ (s : List ℕ). separates s ≡ true) e h
-mark_holds (Key key colon) c t rest e h f = subst (λ (s : List ℕ). IsMarked (Key key colon) s) e h
+mark_holds mark c t rest h1 h2 h3 = search rules
 
 marked_takes : (gap : List ℕ) (column : ℕ) (t : List ℕ) (x : Row × List ℕ) → marked_row_at gap column (marks_at t) ≡ Some x → Marked gap column t x.0 x.1
 unfolding marked_row_at
@@ -104,36 +101,20 @@ inline_longer n space node tail rest h =
     omega (arith, suffix_le tail rest, suffix_le space (node_text node (tail ++ rest)))
 
 content_le : (n : ℤ) (c : Content) (rest : List ℕ) → IsContent n c rest → length rest ≤ length (content_text c rest)
-content_le n (Nothing tail) rest h = suffix_le tail rest
-content_le n (Inline space node tail) rest h = let longer = inline_longer n space node tail rest h in omega arith
-content_le n (Block space anchor block) rest h =
-    let a = joined block.raw ++ rest in let b = block.tail ++ a in
-    omega (arith, suffix_le (joined block.raw) rest, suffix_le block.tail a, suffix_le block.indicators b, anchor_le anchor (block_text block rest), suffix_le space (anchor_text anchor (block_text block rest)))
+content_le n c rest h1 = search (rules, suffix_le, inline_longer, anchor_le)
 
 alone_longer : (n : ℤ) (c : Content) (rest : List ℕ) → may_be_alone c ≡ true → IsContent n c rest → length rest < length (content_text c rest)
-alone_longer n (Nothing tail) rest alone h = cc
-alone_longer n (Inline space node tail) rest alone h = inline_longer n space node tail rest h
-alone_longer n (Block space anchor block) rest alone h = cc
+alone_longer n c rest h1 h2 = search (rules, inline_longer)
 
 mark_longer : (mark : Mark) (n : ℤ) (c : Content) (rest : List ℕ) → IsMark mark c rest → IsContent n c rest → length rest < length (mark_text mark (content_text c rest))
-mark_longer Bare n c rest m h = alone_longer n c rest m h
-mark_longer Dash n c rest m h = let less = content_le n c rest h in omega arith
-mark_longer (Key key colon) n c rest m h =
-    let t = content_text c rest in
-    let less = content_le n c rest h in
-    let long : 0 < length colon = rw m.colon_is.spelled (omega (arith, length-append m.colon_is.white (58 ∷ []))) in
-    omega (arith, length-append colon t, suffix_le key (colon ++ t))
+mark_longer mark n c rest h1 h2 = search (rules, alone_longer, content_le, length-append, suffix_le)
 
 dashes_le : (ns t : List ℕ) → length t ≤ length (dashes_text ns t)
 dashes_le [] t = omega arith
 dashes_le (n ∷ ns) t = let less = dashes_le ns t in omega (arith, suffix_le (replicate n 32) (dashes_text ns t))
 
 pub row_longer : (r : Row) (rest : List ℕ) → IsMark r.mark r.content rest → IsContent (parent_indent r) r.content rest → length rest < length (behind_gap r rest)
-row_longer r rest m h =
-    let longer = mark_longer r.mark (parent_indent r) r.content rest m h in
-    let dashes = dashes_le r.dashes (behind_dashes r rest) in
-    let spaces = suffix_le (replicate r.column 32) (behind_indent r rest) in
-    omega arith
+row_longer r rest m h = search (rules, mark_longer, dashes_le, suffix_le)
 
 pub row_shorter : (limit : Limit) (gap t : List ℕ) (x : Row × List ℕ) → row_at limit gap t ≡ Some x → length x.1 < length t
 row_shorter limit gap t x h = let l = row_takes limit gap t x h in rw l.text (row_longer x.0 x.1 l.mark l.content)

@@ -1,5 +1,5 @@
 -- The rows of a part, read and spelled.
-use Rattle.std.proofs.Common.{◌≡◌, ℕ, zero, suc, ◌<◌, Bool, true, false, cond, List, [], ◌∷◌, ◌++◌, length, Option, Some, refl, sym, ⊎_elim, ap, ◌∙◌, subst, arith}
+use Rattle.std.proofs.Common.{◌≡◌, ℕ, zero, suc, ◌<◌, true, false, cond, List, [], ◌∷◌, ◌++◌, length, Option, Some, refl, sym, ⊎_elim, ap, ◌∙◌, subst, arith, rules}
 use Rattle.std.proofs.lemmas.Bool.{false≢true}
 use Rattle.std.proofs.lemmas.List.{take-append-drop}
 use Rattle.std.proofs.lemmas.Option.{same_Some}
@@ -18,12 +18,7 @@ use Rattle.yq_rows.proofs.RowsLaws.{then_rows, no_more}
 
 -- what a marker begins with
 pub marker_starts : (t : List ℕ) → is_marker t ≡ true → Starts t
-marker_starts [] h = absurd (false≢true h)
-marker_starts (a ∷ []) h = absurd (false≢true h)
-marker_starts (a ∷ (b ∷ [])) h = absurd (false≢true h)
-marker_starts (a ∷ (b ∷ (c ∷ t))) h =
-    let test : ℕ → Bool = λ x. is_marker (x ∷ (b ∷ (c ∷ t))) in
-    starts_by a (b ∷ (c ∷ t)) (at_byte test a 32 h refl) (at_byte test a 9 h refl) (rw (at_byte test a 10 h refl, at_byte test a 13 h refl) refl) (at_byte test a 35 h refl)
+marker_starts t h1 = search (rules, false≢true, starts_by, at_byte)
 
 pub end_no_gap : (t : List ℕ) → ends_part t ≡ true → begins_gap t ≡ false
 end_no_gap [] h = refl
@@ -72,8 +67,7 @@ rows_by n limit g = cond (ends_part g.1) (no_more g) (row_at limit g.0 g.1 >>= t
 pub rows_again : (rs : List Row) (limit : Limit) (end rest : List ℕ) (n : ℕ) → AreRows limit rs end rest → ends_part rest ≡ true → length (rows_text rs (end ++ rest)) < n → rows_at n limit (rows_text rs (end ++ rest)) ≡ Some (record { rows = rs; end = end }, rest)
 unfolding rows_at
 rows_again rs limit end rest zero h ends short = absurd (omega arith)
-rows_again [] limit end rest (suc n) h ends short =
-    ap (rows_by n limit) (gap_again end rest (h, end_no_gap rest ends)) ∙ rw ends refl
+rows_again [] limit end rest (suc n) h ends short = search (rules, gap_again, end_no_gap, row_no_gap, row_longer, suffix_le, row_no_end, row_again)
 rows_again (r ∷ rs) limit end rest (suc n) h ends short =
     let t = rows_text rs (end ++ rest) in
     let gap : cut_gap (print_row r t) ≡ (r.gap, behind_gap r t) = gap_again r.gap (behind_gap r t) (h.0.gap, row_no_gap limit r t h.0) in

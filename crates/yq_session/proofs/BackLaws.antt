@@ -1,5 +1,5 @@
 -- What stands in front of the items that are near the end of a text, by the places that are kept.
-use Rattle.std.proofs.Common.{◌≡◌, ◌⊎◌, inl, inr, ⊎_elim, ℕ, ◌+◌, ◌-◌, ◌<◌, ◌≤◌, min, List, [], ◌∷◌, ◌++◌, length, map, reverse, get_or, take, refl, sym, ap, ◌∙◌, subst, arith, append_assoc, append-nil, length-append}
+use Rattle.std.proofs.Common.{◌≡◌, ◌⊎◌, inl, inr, ⊎_elim, ℕ, ◌+◌, ◌-◌, ◌<◌, ◌≤◌, min, List, [], ◌∷◌, ◌++◌, length, map, reverse, get_or, take, refl, sym, ap, ◌∙◌, subst, arith, append_assoc, append-nil, length-append, rules}
 use Rattle.std.proofs.lemmas.List.{get_or_at, length-map, length-reverse, reverse-append, reverse-reverse, take_at}
 use Rattle.std.proofs.lemmas.List.Elements.{All-cons, All-head, All-nil, All-tail, All-weaker}
 use Rattle.std.specs.List.{All}
@@ -188,8 +188,7 @@ behind_is p xs at back rows ends before bytes placed gap apart many count by_row
     let in_ends : ends ≡ length (ends_near 0 0 h.front) = count ∙ k.count_is in
     let all_ends : length p.ends.items ≡ length (ends_near 0 0 h.front) + length (ends_near m j h.behind) = ap length k.ends_are ∙ length-append (ends_near 0 0 h.front) (ends_near m j h.behind) in
     let later : length p.ends.items - ends ≡ length (ends_near m j h.behind) = omega (arith, all_ends, in_ends) in
-    let in_front : length p.front.items + (length p.behind.items - rows) ≡ j =
-    omega (arith, ap length k.front_rows, length-append p.front.items (map (turned len) k.before), length-map k.before (turned len), ap length k.split, length-append k.before k.rows, length-reverse p.behind.items, many, ap length k.rows_are) in
+    let in_front : length p.front.items + (length p.behind.items - rows) ≡ j = search (rules, length-append, length-map, length-reverse, len, k) in
     let first : FirstBytes m len j h.behind rows (length p.ends.items - ends) bytes = record {
       rows_are = there;
       ends_are = later;

@@ -1,5 +1,5 @@
 -- The text of what comes in the place of what a change touches, and where a text may be cut for it.
-use Rattle.std.proofs.Common.{◌≡◌, ℕ, ◌+◌, ◌-◌, ◌≤◌, List, ◌++◌, length, take, drop, drop_at, sym, ap, ◌∙◌, subst, arith, append_assoc, length-append, length-take, take-append-drop, take-take}
+use Rattle.std.proofs.Common.{◌≡◌, ℕ, ◌+◌, ◌-◌, ◌≤◌, List, ◌++◌, length, take, drop, drop_at, sym, ap, ◌∙◌, subst, arith, append_assoc, length-append, length-take, take-append-drop, take-take, rules}
 use Rattle.std.proofs.lemmas.List.{append_cancel_left, append_cancel_right, drop-append-le, get_or-take, take_at}
 use Rattle.std.proofs.lemmas.Str.{IsCharBoundary-at_seam, IsCharBoundary-from_take, IsUtf8-take}
 use Rattle.std.specs.Str.{IsCharBoundary, IsUtf8}
@@ -60,7 +60,4 @@ module _ (t f m z : List ℕ) (front back : ℕ) (h : Pieces t f m z front back)
 
   -- how what comes ends, where the touched bytes end with those that are kept
   pub region_ends : (new y x : List ℕ) (b e : ℕ) → e ≡ length f + length m → f ++ m ≡ y ++ x → length t - back ≤ length y → drop b (take front t) ++ (new ++ drop (length t - back) (take e t)) ≡ (drop b (take front t) ++ (new ++ drop (length t - back) y)) ++ x
-  region_ends new y x b e is ends low =
-      let lead = drop b (take front t) in
-      let last : drop (length t - back) (take e t) ≡ drop (length t - back) y ++ x = ap (drop (length t - back)) (touched_end e is ∙ ends) ∙ drop-append-le (length t - back) y x low in
-      ap (λ l. lead ++ (new ++ l)) last ∙ (ap (λ l. lead ++ l) (sym (append_assoc new (drop (length t - back) y) x)) ∙ sym (append_assoc lead (new ++ drop (length t - back) y) x))
+  region_ends new y x b e is ends low = search (rules, touched_end, drop-append-le, append_assoc)

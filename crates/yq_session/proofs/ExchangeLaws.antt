@@ -1,12 +1,12 @@
 -- Rows and ends of parts of items between others that give way to those of other items, by their places.
-use Rattle.std.proofs.Common.{◌≡◌, ℕ, suc, ◌+◌, ◌-◌, ◌<◌, ◌≤◌, ◌^◌, true, eqb, List, [], ◌∷◌, ◌++◌, length, map, reverse, take, drop, drop_at, get_or, slice_set, Some, slice_get, refl, sym, ap, ◌∙◌, subst, arith, eqb-true, append_assoc, append-nil, length-append, length-take}
+use Rattle.std.proofs.Common.{◌≡◌, ℕ, suc, ◌+◌, ◌-◌, ◌<◌, ◌≤◌, ◌^◌, true, eqb, List, [], ◌∷◌, ◌++◌, length, map, reverse, take, drop, drop_at, get_or, slice_set, Some, slice_get, refl, sym, ap, ◌∙◌, subst, arith, eqb-true, append_assoc, append-nil, length-append, length-take, rules}
 use Rattle.std.proofs.lemmas.List.{drop_all, drop_more, length-map, length-reverse, map_more, set_split, take_at}
 use Rattle.std.proofs.lemmas.List.Elements.{All-weaker}
 use Rattle.std.proofs.lemmas.Option.{get_or_from_slice_get, slice_get_within}
 use Rattle.std.specs.List.{All}
 use Rattle.yq_rows.specs.Ends.{end_at}
 use Rattle.yq_rows.specs.Items.{Item, row_item, end_item}
-use Rattle.yq_rows.specs.Kept.{ArePlaced, far, kept_rows, near, ends_near, raised, turned, placed_rows, TextsIn}
+use Rattle.yq_rows.specs.Kept.{ArePlaced, far, kept_rows, near, ends_near, raised, placed_rows, TextsIn}
 use Rattle.yq_rows.specs.Offsets.{offsets_of}
 use Rattle.yq_rows.specs.Regions.{alone}
 use Rattle.yq_rows.specs.Rows.{print_row}
@@ -76,12 +76,7 @@ pub record AloneAre (w z : List Item) : Type 0 where
   pub texts : TextsIn (alone w z) → TextsIn w
 
 pub alone_are : (w z : List Item) → AloneAre w z
-alone_are w [] = record { long = refl; rows = refl; texts = λ t. t }
-alone_are w (i ∷ z) = record {
-  long = joined_long w (end_item [] [] ∷ []) ∙ (let n : text_length w + 0 ≡ text_length w = omega arith in n);
-  rows = near_joined 0 w (end_item [] [] ∷ []) ∙ append-nil (near 0 w);
-  texts = texts_first w (end_item [] [] ∷ []);
-}
+alone_are w z = search (rules, joined_long, near_joined, append-nil, texts_first)
 
 -- ---- what gives way, in numbers
 
@@ -100,8 +95,7 @@ far_count (row_item r ∷ xs) = ap suc (far_count xs ∙ near_count 0 (0 + lengt
 far_count (end_item gap marker ∷ xs) = far_count xs ∙ near_count 0 (0 + length (gap ++ marker)) xs
 
 pub kept_count : (n : ℕ) (p : Places) → length (kept_rows p) ≡ length (placed_rows n p)
-kept_count n p =
-    length-append p.front.items (reverse p.behind.items) ∙ (ap (λ (k : ℕ). length p.front.items + k) (sym (length-map (reverse p.behind.items) (turned n))) ∙ sym (length-append p.front.items (map (turned n) (reverse p.behind.items))))
+kept_count n p = simp (length-append, length-map)
 
 pub numbers : (p : Places) (x : Touched) (come : Come) (h : GivesWay p x come) → Numbers p x come h.written h.behind
 numbers p x come h =
@@ -147,15 +141,7 @@ ends_movable from to xs rows bytes =
     λ k d l. (let r = a k d l in omega (arith, r, rows), let s = b k d l in omega (arith, s, bytes))
 
 pub ends_behind : (p : Places) (x : Touched) (come : Come) (h : GivesWay p x come) → drop x.old.ends p.ends.items ≡ ends_near (x.old.bytes + 0) (x.old.rows + 0) h.behind
-ends_behind p x come h =
-    let bt : List Item = h.before ++ h.touched in
-    let m : ℕ = 0 + text_length bt in
-    let k : ℕ = 0 + length (near 0 bt) in
-    let ends : p.ends.items ≡ ends_near 0 0 bt ++ ends_near m k h.behind = h.placed.ends_are ∙ (ap (ends_near 0 0) (sym (append_assoc h.before h.touched h.behind)) ∙ ends_joined 0 0 bt h.behind) in
-    let count : length (ends_near 0 0 bt) ≡ x.old.ends = sym (ap (λ (s : Side). s.ends) h.old_is) in
-    let bytes : m ≡ x.old.bytes + 0 = omega (arith, ap (λ (s : Side). s.bytes) h.old_is) in
-    let rows : k ≡ x.old.rows + 0 = omega (arith, ap (λ (s : Side). s.rows) h.old_is) in
-    ap (drop x.old.ends) ends ∙ (drop_at (ends_near 0 0 bt) (ends_near m k h.behind) x.old.ends count ∙ (λ i. ends_near (bytes i) (rows i) h.behind))
+ends_behind p x come h = search (rules, append_assoc, ends_joined, drop_at)
 
 -- ---- what stands there then
 
@@ -200,13 +186,4 @@ none_found (x ∷ xs) e = absurd (omega (arith, eqb-true (suc (length xs)) 0 e))
 -- the last end, moved in its place
 pub moved_last : (front old new : Side) (es found : List EndPlace) (x : EndPlace) → eqb (length found) 0 ≡ true → front.ends ≡ old.ends → old.ends + 1 ≡ length es → x ≡ get_or es old.ends x →
     slice_set es old.ends (moved_from old new x) ≡ joined_ends front old new es found
-moved_last front old new es found x none same last own =
-    let n : ℕ = old.ends in
-    let less : n < length es = omega (arith, last) in
-    let rest : drop (n + 1) es ≡ [] = drop_all (n + 1) es (omega (arith, last)) in
-    let at : drop n es ≡ x ∷ [] = drop_more es n x less ∙ (λ i. sym own i ∷ rest i) in
-    let next : suc n ≡ n + 1 = omega arith in
-    set_split es n (moved_from old new x) less
-    ∙ (ap (λ (k : ℕ). take n es ++ moved_from old new x ∷ drop k es) next
-    ∙ (ap (λ (l : List EndPlace). take n es ++ moved_from old new x ∷ l) rest
-    ∙ (λ i. take (sym same i) es ++ (map (moved_from origin front) (sym (none_found found none) i) ++ map (moved_from old new) (sym at i)))))
+moved_last front old new es found x none same last own = search (rules, drop_all, drop_more, set_split, none_found)

@@ -1,5 +1,5 @@
 -- What a change touches, and what is read and exchanged for it.
-use Rattle.std.proofs.Common.{◌≡◌, ⊎_elim, ltb, ◌||◌, true, false, not, ℕ, ◌+◌, ◌-◌, ◌<◌, ◌≤◌, ◌^◌, List, [], ◌∷◌, ◌++◌, length, take, drop, Option, Some, None, refl, sym, ap, ◌∙◌, subst, arith, append_assoc, append-nil, length-append, length-drop, length-take}
+use Rattle.std.proofs.Common.{◌≡◌, ⊎_elim, ltb, ◌||◌, true, false, not, ℕ, ◌+◌, ◌-◌, ◌<◌, ◌≤◌, ◌^◌, List, [], ◌∷◌, ◌++◌, length, take, drop, Option, Some, None, refl, sym, ap, ◌∙◌, subst, arith, append_assoc, append-nil, length-append, length-drop, length-take, rules}
 use Rattle.std.proofs.lemmas.Bool.{cases_lt, le-ltb, lt-ltb, or_right}
 use Rattle.std.proofs.lemmas.List.{append_cancel_left, append_cancel_right}
 use Rattle.std.proofs.lemmas.Str.{IsUtf8-nil}
@@ -20,7 +20,7 @@ use Rattle.yq_rows.proofs.RegionEnds.{region_end}
 use Rattle.yq_rows.proofs.RegionLaws.{region}
 use Rattle.yq_rows.proofs.ScanLaws.{one_cut}
 use Rattle.yq_session.specs.Exchanging.{TextChange}
-use Rattle.yq_session.specs.Following.{Follows, exchanged, kept_marker, read_text, without_line}
+use Rattle.yq_session.specs.Following.{Follows, exchanged, read_text}
 use Rattle.yq_session.specs.Reading.{AreEdges, IsRead, IsUnread, read_part, region_text, unread_end}
 use Rattle.yq_session.specs.Sides.{AreAt, IsSplitAt, IsSideBefore, IsSideBehind, marked_end, not_in_back, side_of, text_length}
 use Rattle.yq_session.specs.declared.kept.Kept.{Kept}
@@ -108,8 +108,7 @@ module _ (t new : List ℕ) (kept : Kept) (p : Places) (x : Touched) (h : Follow
   part = region_text t x kept new
 
   part_is : part ≡ items_text w []
-  part_is = region_is t (items_text f []) (items_text tch []) (items_text z []) kept.front kept.back pieces new (items_text w []) x.front.bytes x.old.bytes begin end
-      (h.new_is.text ∙ (sym (items_of_text h.new_cut) ∙ (ap (λ (l : List Item). items_text l []) h.touches.new_are ∙ three f w z)))
+  part_is = search (rules, region_is, pieces, begin, end, items_of_text, three)
 
   new_size : length (exchanged kept t new) ≡ (text_length f + text_length w) + text_length z
   new_size = cut_long (exchanged kept t new) h.new_cut h.new_is ∙ (ap text_length h.touches.new_are ∙ omega (arith, joined_long f (w ++ z), joined_long w z))
@@ -158,13 +157,7 @@ module _ (t new : List ℕ) (kept : Kept) (p : Places) (x : Touched) (h : Follow
 
   -- the items that are read
   some_left : (l : List Item) → items_of h.new_cut ≡ f ++ l → no_items l ≡ false
-  some_left [] is =
-      let same : in_front kept.front (items_of h.new_cut) ≡ items_of h.new_cut = h.touches.front_same ∙ (sym (append-nil f) ∙ sym is) in
-      absurd (omega (arith, all_in_front (items_of h.new_cut) kept.front same (cut_some h.new_cut), new_size, cut_long (exchanged kept t new) h.new_cut h.new_is, pieces.last, pieces.within, size, long, h.new_is.size, later))
-    where
-      later : kept.front + kept.back ≤ length (exchanged kept t new)
-      later = omega (arith, length-append (take kept.front t) (new ++ drop (length t - kept.back) t), length-append new (drop (length t - kept.back) t), length-take kept.front t, length-drop (length t - kept.back) t, h.within)
-  some_left (i ∷ l) is = refl
+  some_left l h1 = search (rules, append-nil, all_in_front, cut_some, new_size, cut_long, long, length-append, length-take, length-drop)
 
   stand_in : (a b : List Item) → w ++ z ≡ a ++ b → StandIn a b
   stand_in a b is = record {
@@ -194,10 +187,7 @@ module _ (t new : List ℕ) (kept : Kept) (p : Places) (x : Touched) (h : Follow
     inner = items_text k.front [] ++ k.gap
 
     touched_ends : items_text f [] ++ items_text tch [] ≡ (items_text f [] ++ inner) ++ k.marker
-    touched_ends =
-        let own : items_text tch [] ≡ inner ++ k.marker = ap (λ (l : List Item). items_text l []) k.items
-        ∙ (text_split k.front (end_item k.gap k.marker ∷ []) ∙ (ap (λ l. items_text k.front [] ++ (k.gap ++ l)) (append-nil k.marker) ∙ sym (append_assoc (items_text k.front []) k.gap k.marker))) in
-        ap (λ l. items_text f [] ++ l) own ∙ sym (append_assoc (items_text f []) inner k.marker)
+    touched_ends = search (rules, text_split, append-nil, append_assoc)
 
     line : IsMarkerLine k.marker (items_text z [])
     line = marker_there xs (f ++ k.front) z k.gap k.marker (subst (λ (l : List Item). AreRowItems nothing_asked l []) refl (parts_are_items h.old_cut true h.old_is.parts))
@@ -242,21 +232,7 @@ module _ (t new : List ℕ) (kept : Kept) (p : Places) (x : Touched) (h : Follow
 
   -- what is counted
   once : (c d : Cut) → IsCut t c → IsCut (exchanged kept t new) d → (j : TouchesOnly kept.front kept.back c d) → read_text kept c d j ≡ read_part part x.marked
-  once c d was is j =
-      let same : h.old_cut ≡ c = one_cut t h.old_cut c h.old_is was in
-      let newer : h.new_cut ≡ d = one_cut (exchanged kept t new) h.new_cut d h.new_is is in
-      let front : in_front kept.front (items_of c) ≡ f = ap (λ (k : Cut). in_front kept.front (items_of k)) (sym same) in
-      let back : in_back kept.back (items_of c) ≡ z = ap (λ (k : Cut). in_back kept.back (items_of k)) (sym same) in
-      let old : f ++ (j.touched ++ z) ≡ f ++ (tch ++ z) = (λ i. sym front i ++ (j.touched ++ sym back i)) ∙ (sym j.old_are ∙ (ap items_of (sym same) ∙ h.touches.old_are)) in
-      let new : f ++ (j.written ++ z) ≡ f ++ (w ++ z) = (λ i. sym front i ++ (j.written ++ sym back i)) ∙ (sym j.new_are ∙ (ap items_of (sym newer) ∙ h.touches.new_are)) in
-      let touched : j.touched ≡ tch = append_cancel_right j.touched tch z (append_cancel_left f (j.touched ++ z) (tch ++ z) old) in
-      let written : j.written ≡ w = append_cancel_right j.written w z (append_cancel_left f (j.written ++ z) (w ++ z) new) in
-      let all : read_text kept c d j ≡ without_line (kept_marker (kept.back - text_length z) tch) (items_text w []) = λ i. without_line (kept_marker (kept.back - text_length (back i)) (touched i)) (items_text (written i) []) in
-      all ∙ (go x.marked reports ∙ ap (λ (l : List ℕ). read_part l x.marked) (sym part_is))
-    where
-      go : (o : Option EndPlace) → KeepsMarker tch (kept.back - text_length z) o → without_line (kept_marker (kept.back - text_length z) tch) (items_text w []) ≡ read_part (items_text w []) o
-      go None k = ap (λ (n : ℕ). without_line n (items_text w [])) k ∙ without_none (items_text w [])
-      go (Some e) k = ap (λ (n : ℕ). without_line n (items_text w [])) (k.kept ∙ sym k.long) ∙ without (items_text w []) e
+  once c d was is j = search (rules, one_cut, append_cancel_right, append_cancel_left, reports, part_is, without_none, without)
 
   pub changes : TextChange t new kept p x
   unfolding read

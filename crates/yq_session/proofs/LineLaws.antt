@@ -1,13 +1,11 @@
 -- No line begins with a document marker inside the pieces of a row.
-use Rattle.std.proofs.Common.{◌≡◌, ⊎_elim, ℕ, ◌<◌, Bool, true, false, not, ◌&&◌, eqb, List, [], ◌∷◌, ◌++◌, length, Option, Some, None, refl, sym, ap, ◌∙◌, subst, arith, append_assoc, eqb-true, if◌then◌else◌}
+use Rattle.std.proofs.Common.{◌≡◌, ⊎_elim, ℕ, ◌<◌, Bool, true, false, eqb, List, [], ◌∷◌, ◌++◌, Option, Some, None, refl, sym, ap, ◌∙◌, subst, arith, append_assoc, eqb-true, if◌then◌else◌, rules}
 use Rattle.std.proofs.lemmas.Bool.{and_parts, cases_Bool, false≢true, not-false, not-true, or_cases}
 use Rattle.std.specs.Str.Parse.{AllDigits}
-use Rattle.std.specs.Prelude.{nat_le}
 use Rattle.std.specs.Char.{digit_value}
-use Rattle.yq_flow_scalars.specs.Lines.{spaces as spaces_of}
-use Rattle.yq_flow_scalars.specs.Plain.{begins_deep, ends_plain, follows, last_line, may_follow, no_gap}
-use Rattle.yq_flow_scalars.specs.Quoted.{Break, line_feed, return_feed, Char, itself, doubled, escape, code, Lines, last, line, spell_char, spell_chars, spell_end, spell_lines, AreChars, AreLines, IsChar, beside, letters, digit_counts}
-use Rattle.yq_flow_scalars.specs.Text.{cut, is_break, is_empty, is_feed, is_line, is_marker, is_return, is_space, is_white, front, upto, NoneIn}
+use Rattle.yq_flow_scalars.specs.Plain.{ends_plain}
+use Rattle.yq_flow_scalars.specs.Quoted.{Break, Char, Lines, last, line, spell_char, spell_chars, spell_end, spell_lines, AreChars, AreLines, IsChar, beside}
+use Rattle.yq_flow_scalars.specs.Text.{is_empty, is_feed, is_line, is_marker, is_space, upto, NoneIn}
 
 -- No line but the first begins with a marker in a piece before a rest, nor does the first, where the piece begins a line.
 abbrev pub Unmarked : Bool → List ℕ → List ℕ → Type 0
@@ -58,40 +56,16 @@ upto_piece (b ∷ p) t rest h k = upto_byte b (p ++ t) rest h.0 (upto_piece p t 
 -- ---- bytes with which no marker begins
 
 pub no_marker_byte : (b : ℕ) (t : List ℕ) → eqb b 45 ≡ false → eqb b 46 ≡ false → is_marker (b ∷ t) ≡ false
-no_marker_byte b [] h k = refl
-no_marker_byte b (x ∷ []) h k = refl
-no_marker_byte b (x ∷ (y ∷ t)) h k = rw (h, k) refl
+no_marker_byte b t h1 h2 = search rules
 
 pub space_no_marker : (b : ℕ) (t : List ℕ) → is_space (b ∷ t) ≡ true → is_marker (b ∷ t) ≡ false
-space_no_marker b t h = ⊎_elim {0, 0, 0}
-    (λ w. ⊎_elim {0, 0, 0} (λ (e : eqb b 32 ≡ true). by 32 refl refl (eqb-true b 32 e)) (λ (e : eqb b 9 ≡ true). by 9 refl refl (eqb-true b 9 e)) (or_cases (eqb b 32) (eqb b 9) w))
-    (λ w. ⊎_elim {0, 0, 0} (λ (e : is_feed b ≡ true). by 10 refl refl (eqb-true b 10 e)) (λ e. by 13 refl refl (eqb-true b 13 (and_parts (is_return b) (front is_feed t) e).0)) (or_cases (is_feed b) (is_return b && front is_feed t) w))
-    (or_cases (is_white b) (is_break (b ∷ t)) h)
-  where
-    by : (n : ℕ) → eqb n 45 ≡ false → eqb n 46 ≡ false → b ≡ n → is_marker (b ∷ t) ≡ false
-    by n x y e = no_marker_byte b t (ap (λ (m : ℕ). eqb m 45) e ∙ x) (ap (λ (m : ℕ). eqb m 46) e ∙ y)
+space_no_marker b t h = search (rules, ⊎_elim, eqb-true, or_cases, and_parts, no_marker_byte)
 
 -- ---- plain scalars
 
 feed_plain : (flow : Bool) (spaces : Option ℕ) (b : ℕ) (s : List ℕ) → is_feed b ≡ true → ends_plain flow spaces (b ∷ s) ≡ false → is_marker s ≡ false
 unfolding upto
-feed_plain flow spaces b [] e h = refl
-feed_plain flow spaces b (c ∷ s) e h = ⊎_elim {0, 0, 0}
-    (λ (w : is_space (c ∷ s) ≡ true). space_no_marker c s w)
-    (λ (w : is_space (c ∷ s) ≡ false). further spaces (here w))
-    (cases_Bool (is_space (c ∷ s)))
-  where
-    further : (o : Option ℕ) → begins_deep o (c ∷ s) ≡ true → is_marker (c ∷ s) ≡ false
-    further None d = absurd (false≢true d)
-    further (Some n) d = not-true (is_marker (c ∷ s)) (and_parts (nat_le n (spaces_of (c ∷ s))) (not (is_marker (c ∷ s))) d).1
-
-    here : is_space (c ∷ s) ≡ false → begins_deep spaces (c ∷ s) ≡ true
-    here w =
-        let is : b ≡ 10 = eqb-true b 10 e in
-        let now : ends_plain flow spaces (10 ∷ (c ∷ s)) ≡ false = subst (λ (n : ℕ). ends_plain flow spaces (n ∷ (c ∷ s)) ≡ false) is h in
-        let gap : cut no_gap (10 ∷ (c ∷ s)) ≡ (10 ∷ [], c ∷ s) = rw w refl in
-        let go : follows flow spaces (10 ∷ []) (c ∷ s) ≡ true = sym (ap (λ (x : List ℕ × List ℕ). follows flow spaces x.0 x.1) gap) ∙ not-false (follows flow spaces (cut no_gap (10 ∷ (c ∷ s))).0 (cut no_gap (10 ∷ (c ∷ s))).1) now in
-        (and_parts _ (may_follow spaces (last_line (10 ∷ [])) (c ∷ s)) go).1
+feed_plain flow spaces b s h1 h2 = search (rules, ⊎_elim, space_no_marker, cases_Bool, false≢true, not-true, and_parts, eqb-true, not-false)
 
 pub plain_lines : (flow : Bool) (spaces : Option ℕ) (p t rest : List ℕ) → NoneIn (ends_plain flow spaces) p t → Upto false t rest → Upto false (p ++ t) rest
 plain_lines flow spaces [] t rest h k = k
@@ -103,10 +77,7 @@ plain_lines flow spaces (b ∷ p) t rest h k = go (is_feed b) refl (plain_lines 
 -- ---- quoted scalars
 
 letter_no_feed : (table : List (ℕ × ℕ)) (letter c : ℕ) → beside 10 table ≡ None → beside letter table ≡ Some c → is_feed letter ≡ false
-letter_no_feed table letter c none h = ⊎_elim {0, 0, 0}
-    (λ (e : is_feed letter ≡ true). let x : Some c ≡ None = sym h ∙ (ap (λ (n : ℕ). beside n table) (eqb-true letter 10 e) ∙ none) in absurd cc)
-    (λ (e : is_feed letter ≡ false). e)
-    (cases_Bool (is_feed letter))
+letter_no_feed table letter c none h = search (rules, ⊎_elim, eqb-true, cases_Bool)
 
 digits_no_feed : (ds : List ℕ) → AllDigits 16 ds → NoFeed ds
 digits_no_feed [] h = tt
@@ -115,10 +86,7 @@ digits_no_feed (d ∷ ds) h = (⊎_elim {0, 0, 0} (λ (e : is_feed d ≡ true). 
   ten e = let x : digit_value 10 < 16 = subst (λ (n : ℕ). digit_value n < 16) e h.0 in omega (arith, x)
 
 char_no_feed : (quote : ℕ) (c : Char) (rest : List ℕ) → IsChar quote c rest → NoFeed (spell_char c)
-char_no_feed quote (itself b) rest h = (⊎_elim {0, 0, 0} (λ (e : is_feed b ≡ true). absurd (false≢true (sym h.1 ∙ rw e refl))) (λ (e : is_feed b ≡ false). e) (cases_Bool (is_feed b)), tt)
-char_no_feed quote doubled rest h = (refl, (refl, tt))
-char_no_feed quote (escape letter) rest h = (refl, (letter_no_feed letters letter h.1.0 refl h.1.1, tt))
-char_no_feed quote (code letter digits) rest h = (refl, (letter_no_feed digit_counts letter (length digits) refl h.1, digits_no_feed digits h.2))
+char_no_feed quote c rest h1 = search (rules, ⊎_elim, false≢true, cases_Bool, letter_no_feed, digits_no_feed)
 
 both_no_feed : (p q : List ℕ) → NoFeed p → NoFeed q → NoFeed (p ++ q)
 both_no_feed [] q h k = k
@@ -129,10 +97,7 @@ chars_no_feed quote [] rest h = tt
 chars_no_feed quote (c ∷ cs) rest h = both_no_feed (spell_char c) (spell_chars cs) (char_no_feed quote c (spell_chars cs ++ rest) h.0) (chars_no_feed quote cs rest h.1)
 
 break_lines : (escaped : Bool) (b : Break) (t rest : List ℕ) → Upto true t rest → Upto false (spell_end escaped b ++ t) rest
-break_lines true line_feed t rest k = upto_byte 92 (10 ∷ t) rest refl (upto_more false 10 t rest (λ e. absurd (false≢true e)) k)
-break_lines true return_feed t rest k = upto_byte 92 (13 ∷ (10 ∷ t)) rest refl (upto_byte 13 (10 ∷ t) rest refl (upto_more false 10 t rest (λ e. absurd (false≢true e)) k))
-break_lines false line_feed t rest k = upto_more false 10 t rest (λ e. absurd (false≢true e)) k
-break_lines false return_feed t rest k = upto_byte 13 (10 ∷ t) rest refl (upto_more false 10 t rest (λ e. absurd (false≢true e)) k)
+break_lines escaped b t rest h1 = search (rules, upto_byte, upto_more, false≢true)
 
 pub quoted_lines : (quote : ℕ) (ls : Lines) (t rest : List ℕ) → AreLines quote ls t → Upto false t rest → Upto false (spell_lines ls ++ t) rest
 quoted_lines quote (last cs) t rest h k = upto_piece (spell_chars cs) t rest (chars_no_feed quote cs t h) k

@@ -1,12 +1,12 @@
 -- No line begins with a document marker inside a node.
-use Rattle.std.proofs.Common.{◌≡◌, ◌⊎◌, ⊎_elim, if◌then◌else◌, ℕ, zero, suc, Bool, true, false, ◌&&◌, ◌||◌, eqb, List, [], ◌∷◌, ◌++◌, Option, refl, sym, ap, ◌∙◌, subst, append_assoc, eqb-true}
+use Rattle.std.proofs.Common.{◌≡◌, ◌⊎◌, ⊎_elim, ℕ, zero, suc, Bool, true, false, ◌&&◌, ◌||◌, eqb, List, [], ◌∷◌, ◌++◌, Option, refl, sym, ap, ◌∙◌, subst, append_assoc, eqb-true, rules}
 use Rattle.std.proofs.lemmas.Bool.{cases_Bool, false≢true, not-false, or_cases}
 use Rattle.yq_flow_scalars.specs.Plain.{IsPlain}
 use Rattle.yq_flow_scalars.specs.Quoted.{Lines, IsQuoted, spell_lines}
-use Rattle.yq_flow_scalars.specs.Text.{is_feed, is_marker, is_space, is_white, no_white, unless, NoneIn}
+use Rattle.yq_flow_scalars.specs.Text.{is_feed, is_marker, is_white, no_white, unless, NoneIn}
 use Rattle.yq_inline.specs.declared.gap.Before.{Before}
-use Rattle.yq_inline.specs.declared.gap.Before.TheVariants.{Token, White, Break, Comment}
-use Rattle.yq_inline.specs.Gaps.{goes, next, behind, is_break, is_comment, AllGo, IsInlineGap}
+use Rattle.yq_inline.specs.declared.gap.Before.TheVariants.{Token}
+use Rattle.yq_inline.specs.Gaps.{goes, next, behind, is_break, AllGo, IsInlineGap}
 use Rattle.yq_inline.specs.Nodes.{Node, empty, alias, scalar, coll, anchored, Items, none, item, Key, bare, keyed, Sep, last, comma, key_text, sep_text, node_text, items_text, open_of, is_close, in_name, begins_node, begins_content, IsApart, IsLead, IsInlineKey, IsSep, IsNode, AreItems}
 use Rattle.yq_inline.specs.Scalars.{IsScalarAt}
 use Rattle.yq_session.proofs.LineLaws.{NoFeed, Upto, no_marker_byte, plain_lines, quoted_lines, space_no_marker, upto_byte, upto_line, upto_more, upto_piece}
@@ -33,10 +33,7 @@ scalar_lines flow spaces p t rest h k = ⊎_elim {0, 0, 0}
         subst (λ (l : List ℕ). Upto false l rest) (ap (λ l. q ∷ l) (sym (append_assoc (spell_lines ls) (q ∷ []) t)) ∙ ap (λ l. l ++ t) (sym a.spelled)) own
 
 name_byte : (b : ℕ) (t : List ℕ) → unless in_name (b ∷ t) ≡ false → is_feed b ≡ false
-name_byte b t h = ⊎_elim {0, 0, 0}
-    (λ (e : is_feed b ≡ true). absurd (false≢true (sym (ap in_name (eqb-true b 10 e)) ∙ not-false (in_name b) h)))
-    (λ (e : is_feed b ≡ false). e)
-    (cases_Bool (is_feed b))
+name_byte b t h = search (rules, ⊎_elim, false≢true, eqb-true, not-false, cases_Bool)
 
 pub name_no_feed : (p t : List ℕ) → NoneIn (unless in_name) p t → NoFeed p
 name_no_feed [] t h = tt
@@ -50,29 +47,13 @@ white_no_feed [] t h = tt
 white_no_feed (b ∷ p) t h = (white_byte b (not-false (is_white b) h.0), white_no_feed p t h.1)
 
 next_break : (s : Before) (b : ℕ) → is_break (next s b) ≡ is_feed b
-next_break s b = go (is_feed b) (eqb b 35 || is_comment s) where
-  inner : (y : Bool) → is_break (if y then Comment else White) ≡ false
-  inner true = refl
-  inner false = refl
-
-  go : (x y : Bool) → is_break (if x then Break else (if y then Comment else White)) ≡ x
-  go true y = refl
-  go false y = inner y
+next_break s b = search rules
 
 goes_no_marker : (s : Before) (b : ℕ) (t : List ℕ) → goes s b t ≡ true → is_break s ≡ true → is_marker (b ∷ t) ≡ false
-goes_no_marker Token b t h e = absurd (false≢true e)
-goes_no_marker White b t h e = absurd (false≢true e)
-goes_no_marker Comment b t h e = absurd (false≢true e)
-goes_no_marker Break b t h e = ⊎_elim {0, 0, 0}
-    (λ (w : is_space (b ∷ t) ≡ true). space_no_marker b t w)
-    (λ (w : eqb b 35 ≡ true). let is : b ≡ 35 = eqb-true b 35 w in no_marker_byte b t (ap (λ (n : ℕ). eqb n 45) is) (ap (λ (n : ℕ). eqb n 46) is))
-    (or_cases (is_space (b ∷ t)) (eqb b 35) h)
+goes_no_marker s b t h1 h2 = search (rules, false≢true, ⊎_elim, space_no_marker, eqb-true, no_marker_byte, or_cases)
 
 gap_ends : (s : Before) (t rest : List ℕ) → (is_break s && is_marker t) ≡ false → Upto false t rest → Upto (is_break s) t rest
-gap_ends Token t rest h k = k
-gap_ends White t rest h k = k
-gap_ends Comment t rest h k = k
-gap_ends Break t rest h k = upto_line true t rest h k
+gap_ends s t rest h1 h2 = search (rules, upto_line)
 
 gap_goes : (s : Before) (p t rest : List ℕ) → AllGo s p t → (is_break (behind s p) && is_marker t) ≡ false → Upto false t rest → Upto (is_break s) (p ++ t) rest
 gap_goes s [] t rest h u k = gap_ends s t rest u k
@@ -94,10 +75,7 @@ lead_lines flow begins p t rest h k = ⊎_elim {0, 0, 0}
 -- ---- nodes
 
 open_byte : (k : ℕ) → is_feed (open_of k) ≡ false
-open_byte k = go (eqb k 125) where
-  go : (x : Bool) → is_feed (if x then 123 else 91) ≡ false
-  go true = refl
-  go false = refl
+open_byte k = search rules
 
 key_lines : (k : ℕ) (key : Key) (t rest : List ℕ) → IsInlineKey k key t → Upto false t rest → Upto false (key_text key t) rest
 key_lines k bare t rest h u = u

@@ -1,5 +1,5 @@
 -- One row more, moved over the gap.
-use Rattle.std.proofs.Common.{◌≡◌, ℕ, ◌-◌, ◌<◌, Option, Some, List, [], ◌∷◌, ◌++◌, map, reverse, slice_index_or, option_to_list, sym, ap, ◌∙◌, subst, append_assoc}
+use Rattle.std.proofs.Common.{◌≡◌, ℕ, ◌-◌, ◌<◌, Option, Some, List, [], ◌∷◌, ◌++◌, map, reverse, slice_index_or, option_to_list, sym, ap, ◌∙◌, subst, append_assoc, rules}
 use Rattle.std.proofs.lemmas.List.{reverse-append}
 use Rattle.std.proofs.lemmas.List.Elements.{All-pop}
 use Rattle.std.specs.List.{All}
@@ -10,9 +10,7 @@ use Rattle.yq_session.proofs.SplitLaws.{Within, last_of_joined, turned_one}
 
 pub popped : (old new : List declared.Offsets) (n m : ℕ) (r : Option declared.Offsets) (o : declared.Offsets) → old ≡ new ++ option_to_list r → ((d : declared.Offsets) → 0 < n → r ≡ Some (slice_index_or old (n - 1) d)) →
     m ≡ n → 0 < n → o ≡ slice_index_or old (m - 1) o → old ≡ new ++ o ∷ []
-popped old new n m r o all last same some own =
-    let is : r ≡ Some o = last o some ∙ ap Some (ap (λ (k : ℕ). slice_index_or old (k - 1) o) (sym same) ∙ sym own) in
-    all ∙ ap (λ (r : Option declared.Offsets). new ++ option_to_list r) is
+popped old new n m r o all last same some own = search (rules, slice_index_or, option_to_list)
 
 pub passed_front : (n : ℕ) (front behind : List declared.Offsets) (o : declared.Offsets) → both_sides n (front ++ turned n o ∷ []) behind ≡ both_sides n front (behind ++ o ∷ [])
 passed_front n front behind o = append_assoc front (turned n o ∷ []) (map (turned n) (reverse behind)) ∙ ap (λ l. front ++ map (turned n) l) (sym (reverse-append behind (o ∷ [])))

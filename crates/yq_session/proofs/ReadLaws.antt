@@ -1,5 +1,5 @@
 -- What is read of a region, and the places that come of it.
-use Rattle.std.proofs.Common.{◌≡◌, ℕ, ◌+◌, ◌-◌, ◌<◌, ◌≤◌, Bool, true, false, not, List, [], ◌∷◌, ◌++◌, length, map, take, drop, drop_at, get_or, slice_set, suc, Option, Some, None, IfSome, if◌then◌else◌, ⊎_elim, take_all, refl, sym, ap, ◌∙◌, subst, arith, append-nil, append_assoc, length-append, length-take}
+use Rattle.std.proofs.Common.{◌≡◌, ℕ, ◌+◌, ◌-◌, ◌≤◌, Bool, true, false, not, List, [], ◌∷◌, ◌++◌, length, take, drop_at, get_or, slice_set, Option, Some, None, IfSome, if◌then◌else◌, ⊎_elim, take_all, refl, sym, ap, ◌∙◌, subst, arith, append-nil, append_assoc, length-append, length-take, rules}
 use Rattle.std.proofs.lemmas.Bool.{cases_Bool}
 use Rattle.std.proofs.lemmas.Option.{same_Some}
 use Rattle.std.proofs.lemmas.List.{drop_all, drop_more, set_split, take_at}
@@ -48,29 +48,17 @@ settled_more : (es : List EndPlace) (e : EndPlace) → settled (es ++ e ∷ []) 
 settled_more es e = take_at es (e ∷ []) (length (es ++ e ∷ []) - 1) (sym (last_more es e))
 
 settled_marked : (es : List EndPlace) (x e : EndPlace) (more : Bool) → settled (es ++ x ∷ []) (Some e) more ≡ es ++ marked_as e x ∷ []
-settled_marked es x e more =
-    let n : ℕ = length (es ++ x ∷ []) - 1 in
-    let long : length es ≡ n = sym (last_more es x) in
-    λ i. take_at es (x ∷ []) n long i ++ map (marked_as e) (drop_at es (x ∷ []) n long i)
+settled_marked es x e more = simp (last_more, take_at, drop_at)
 
 some_more : (es : List EndPlace) (e : EndPlace) → 1 ≤ length (es ++ e ∷ [])
 some_more es e = omega (arith, length-append es (e ∷ []))
 
 -- the last end, marked
 pub settled_set : (es : List EndPlace) (e x : EndPlace) (n : ℕ) (more : Bool) → n ≡ length es - 1 → 1 ≤ length es → x ≡ get_or es n x → slice_set es n (marked_as e x) ≡ settled es (Some e) more
-settled_set es e x n more is some own =
-    let less : n < length es = omega (arith, is, some) in
-    let rest : drop (n + 1) es ≡ [] = drop_all (n + 1) es (omega (arith, is, some)) in
-    let at : drop n es ≡ x ∷ [] = drop_more es n x less ∙ (λ i. sym own i ∷ rest i) in
-    let next : suc n ≡ n + 1 = omega arith in
-    set_split es n (marked_as e x) less
-    ∙ (ap (λ (k : ℕ). take n es ++ marked_as e x ∷ drop k es) next
-    ∙ (ap (λ l. take n es ++ marked_as e x ∷ l) rest
-    ∙ (ap (λ l. take n es ++ map (marked_as e) l) (sym at) ∙ ap (λ (k : ℕ). take k es ++ map (marked_as e) (drop k es)) is)))
+settled_set es e x n more is some own = search (rules, drop_all, drop_more, set_split)
 
 marked_text : (xs : List Item) (e : EndPlace) (h : IsUnread xs e) → items_text xs [] ≡ (items_text h.front [] ++ h.gap) ++ h.marker
-marked_text xs e h = ap (λ (l : List Item). items_text l []) h.items
-    ∙ (text_split h.front (end_item h.gap h.marker ∷ []) ∙ (ap (λ l. items_text h.front [] ++ (h.gap ++ l)) (append-nil h.marker) ∙ sym (append_assoc (items_text h.front []) h.gap h.marker)))
+marked_text xs e h = search (rules, text_split, append-nil, append_assoc)
 
 -- a part's end with its marker
 marked_parted : (region : List ℕ) (written : List Item) (e : EndPlace) (more : Bool) → region ≡ items_text written [] → IsUnread written e → Parted (take (length region - e.marker) region) written (Some e) more
@@ -168,9 +156,7 @@ pub without : (w : List ℕ) (e : EndPlace) → without_line e.marker w ≡ read
 without w e = ⊎_elim {0, 0, 0} (λ (t : begins_line w (length w - e.marker) ≡ true). rw t refl) (λ (t : begins_line w (length w - e.marker) ≡ false). rw t refl) (cases_Bool (begins_line w (length w - e.marker)))
 
 pub without_none : (w : List ℕ) → without_line 0 w ≡ w
-without_none w =
-    let all : take (length w - 0) w ≡ w = take_all (length w - 0) w (omega arith) in
-    ⊎_elim {0, 0, 0} (λ (t : begins_line w (length w - 0) ≡ true). rw t all) (λ (t : begins_line w (length w - 0) ≡ false). rw t refl) (cases_Bool (begins_line w (length w - 0)))
+without_none w = search (rules, take_all, ⊎_elim, cases_Bool)
 
 pub unread_is : (w : List ℕ) (e d : EndPlace) → unread_end w (Some e) ≡ Some d → (e ≡ d) × (begins_line w (length w - e.marker) ≡ true)
 unread_is w e d is = go (begins_line w (length w - e.marker)) refl is

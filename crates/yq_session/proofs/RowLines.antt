@@ -1,19 +1,17 @@
 -- No line begins with a document marker inside a row.
-use Rattle.std.proofs.Common.{◌≡◌, ◌⊎◌, ⊎_elim, ℕ, zero, suc, ◌+◌, ◌≤◌, true, false, not, ◌&&◌, ◌||◌, eqb, leb, List, [], ◌∷◌, ◌++◌, length, drop, Option, Some, None, refl, sym, ap, ◌∙◌, subst, arith, append_assoc, eqb-true, replicate}
+use Rattle.std.proofs.Common.{◌≡◌, ◌⊎◌, ⊎_elim, ℕ, zero, suc, ◌+◌, ◌≤◌, true, false, ◌&&◌, eqb, List, [], ◌∷◌, ◌++◌, length, drop, Option, Some, None, refl, sym, ap, ◌∙◌, subst, arith, append_assoc, eqb-true, replicate, rules}
 use Rattle.std.proofs.lemmas.Bool.{and_from, and_parts, cases_Bool, false≢true, leb-true, ne_eqb, or_cases, or_right}
-use Rattle.yq_scalar.specs.Block.{BlockText, IsBlock, IsDetected, IsDigit, IsIndicators, IsRawLine, IsTextIndent, AreRaw, block_text, digit_text, is_empty_line, is_text_line, mark_of, sign_text}
+use Rattle.yq_scalar.specs.Block.{BlockText, IsBlock, IsDetected, IsDigit, IsIndicators, IsRawLine, IsTextIndent, AreRaw, block_text, digit_text, mark_of, sign_text}
 use Rattle.yq_scalar.specs.declared.block_header.BlockStyle.{BlockStyle}
 use Rattle.yq_scalar.specs.declared.block_header.BlockStyle.TheVariants as styles
 use Rattle.yq_scalar.specs.declared.block_header.Chomping.{Chomping}
-use Rattle.yq_scalar.specs.declared.block_header.Chomping.TheVariants as chompings
 use Rattle.yq_scalar.specs.declared.block_lines.TextIndent.{TextIndent}
-use Rattle.yq_flow_scalars.specs.Lines.{behind_spaces, spaces}
 use Rattle.yq_flow_scalars.specs.Piece.{deeper}
-use Rattle.yq_flow_scalars.specs.Text.{ends_line, front, is_break, is_empty, is_feed, is_line, is_marker, is_return, is_space, is_white, joined, NoneIn}
+use Rattle.yq_flow_scalars.specs.Text.{ends_line, is_break, is_empty, is_feed, is_line, is_marker, joined, NoneIn}
 use Rattle.yq_inline.specs.Nodes.{node_text}
 use Rattle.yq_rows.specs.Gap.{AreGapLines, IsBreak, IsComment, IsGap, IsLineEnd, IsWhite}
 use Rattle.yq_rows.specs.Grammar.{IsAnchor, IsContent, IsMark, IsMarkerLine, IsRow, IsTail, Limit, may_be_alone}
-use Rattle.yq_rows.specs.Rows.{Anchor, Bare, Content, Dash, Inline, Key, Mark, Nothing, Row, anchor_text, behind_gap, behind_indent, content_text, dashes_text, mark_column, mark_text, parent_indent, parent_of, print_row}
+use Rattle.yq_rows.specs.Rows.{Anchor, Bare, Content, Dash, Inline, Key, Mark, Nothing, Row, anchor_text, behind_gap, behind_indent, content_text, dashes_text, mark_column, mark_text, parent_of, print_row}
 use Rattle.yq_rows.specs.Rows as rows
 use Rattle.yq_rows.proofs.seams.MarkerSeams.{marker_byte}
 use Rattle.yq_session.proofs.LineLaws.{NoFeed, Upto, line_lines, no_marker_byte, space_no_marker, upto_byte, upto_inside, upto_line, upto_none, upto_piece}
@@ -52,20 +50,7 @@ tail_lines tail rest h = end_lines h.white h.comment tail rest rest h.line (upto
 end_no_marker : (white comment p t : List ℕ) → IsLineEnd white comment p t → is_empty p ≡ false → is_marker (p ++ t) ≡ false
 end_no_marker (b ∷ white) comment p t h some = subst (λ (l : List ℕ). is_marker (l ++ t) ≡ false) (sym h.spelled) (space_no_marker b _ (rw h.blank.0 refl))
 end_no_marker [] (b ∷ comment) p t h some = subst (λ (l : List ℕ). is_marker (l ++ t) ≡ false) (sym h.spelled) (no_marker_byte b _ (ap (λ (n : ℕ). eqb n 45) h.as_comment.0) (ap (λ (n : ℕ). eqb n 46) h.as_comment.0))
-end_no_marker [] [] p t h some = ⊎_elim {0, 0, 0} (λ a. go p h.break h.spelled a) (λ a. absurd (false≢true (sym some ∙ ap is_empty (h.spelled ∙ a.0)))) h.ends where
-  space : (b : ℕ) (q : List ℕ) → is_break (b ∷ q) ≡ true → is_space (b ∷ (q ++ t)) ≡ true
-  space b q e = ⊎_elim {0, 0, 0}
-      (λ (f : is_feed b ≡ true). or_right (is_white b) (is_break (b ∷ (q ++ t))) (rw f refl))
-      (λ f. or_right (is_white b) (is_break (b ∷ (q ++ t))) (or_right (is_feed b) (is_return b && front is_feed (q ++ t)) (let a = and_parts (is_return b) (front is_feed q) f in and_from (is_return b) (front is_feed (q ++ t)) a.0 (fed q a.1))))
-      (or_cases (is_feed b) (is_return b && front is_feed q) e)
-    where
-      fed : (q : List ℕ) → front is_feed q ≡ true → front is_feed (q ++ t) ≡ true
-      fed [] e = absurd (false≢true e)
-      fed (x ∷ q) e = e
-
-  go : (p b : List ℕ) → p ≡ b → (is_break b && is_line b) ≡ true → is_marker (p ++ t) ≡ false
-  go p [] is e = absurd (false≢true e)
-  go p (x ∷ b) is e = subst (λ (l : List ℕ). is_marker (l ++ t) ≡ false) (sym is) (space_no_marker x (b ++ t) (space x b (and_parts (is_break (x ∷ b)) (is_line (x ∷ b)) e).0))
+end_no_marker [] [] p t h some = search (rules, space_no_marker, no_marker_byte, ⊎_elim, false≢true, or_right, and_parts, and_from, or_cases)
 
 gap_all : (ls : List (List ℕ)) (t rest : List ℕ) → AreGapLines ls t → Upto true t rest → Upto true (joined ls ++ t) rest
 gap_all [] t rest h k = k
@@ -84,9 +69,7 @@ digit_all None h = tt
 digit_all (Some d) h = (ne_eqb (48 + d) 10 (λ e. omega (arith, e)), tt)
 
 sign_all : (c : Chomping) → NoFeed (sign_text c)
-sign_all chompings.Strip = (refl, tt)
-sign_all chompings.Clip = tt
-sign_all chompings.Keep = (refl, tt)
+sign_all c = search rules
 
 both_all : (p q : List ℕ) → NoFeed p → NoFeed q → NoFeed (p ++ q)
 both_all [] q h k = k
@@ -113,21 +96,7 @@ indent_some least (Some d) f ls small h = omega (arith, small.0, ap (λ (x : Tex
 raw_no_marker : (f : TextIndent) (l t : List ℕ) → 1 ≤ f.columns → IsRawLine f l → is_marker (l ++ t) ≡ false
 unfolding is_line
 raw_no_marker f [] t some h = absurd (false≢true h.0)
-raw_no_marker f (b ∷ l) t some h = no_marker_byte b (l ++ t) (other 45 refl refl refl) (other 46 refl refl refl) where
-  first : (n : ℕ) → eqb n 32 ≡ false → is_feed n ≡ false → is_return n ≡ false → (is_empty_line f (n ∷ l) ≡ true) ⊎ (is_text_line f (n ∷ l) ≡ true) → ⊥
-  first n x y z k =
-      let none : spaces (n ∷ l) ≡ 0 = rw x refl in
-      let text : ends_line (behind_spaces (n ∷ l)) ≡ false = rw (x, y, z) refl in
-      ⊎_elim {0, 0, 0}
-      (λ (e : is_empty_line f (n ∷ l) ≡ true). false≢true (sym text ∙ (and_parts (ends_line (behind_spaces (n ∷ l))) (not f.known || leb (spaces (n ∷ l)) f.columns) e).0))
-      (λ (e : is_text_line f (n ∷ l) ≡ true). let a : f.columns ≤ spaces (n ∷ l) = leb-true f.columns (spaces (n ∷ l)) (and_parts (not (is_empty_line f (n ∷ l)) && f.known) (leb f.columns (spaces (n ∷ l))) e).1 in omega (arith, a, none, some))
-      k
-
-  other : (n : ℕ) → eqb n 32 ≡ false → is_feed n ≡ false → is_return n ≡ false → eqb b n ≡ false
-  other n x y z = ⊎_elim {0, 0, 0}
-      (λ (e : eqb b n ≡ true). absurd (first n x y z (subst (λ (m : ℕ). (is_empty_line f (m ∷ l) ≡ true) ⊎ (is_text_line f (m ∷ l) ≡ true)) (eqb-true b n e) h.1)))
-      (λ (e : eqb b n ≡ false). e)
-      (cases_Bool (eqb b n))
+raw_no_marker f (b ∷ l) t some h = search (rules, false≢true, no_marker_byte, ⊎_elim, and_parts, leb-true, eqb-true, cases_Bool)
 
 raw_lines : (f : TextIndent) (ls : List (List ℕ)) (rest : List ℕ) → 1 ≤ f.columns → AreRaw f ls → Upto true (joined ls ++ rest) rest
 raw_lines f [] rest some h = upto_none true rest
@@ -154,9 +123,7 @@ anchor_lines None t rest h k = k
 anchor_lines (Some a) t rest h k = upto_byte 38 (a.name ++ (a.gap ++ t)) rest refl (upto_piece a.name (a.gap ++ t) rest (name_no_feed a.name (a.gap ++ t) h.0.inside) (upto_piece a.gap t rest (white_all a.gap h.1) k))
 
 deep_mark : (m : Mark) (c : Content) (column : ℕ) (rest : List ℕ) → IsMark m c rest → may_be_alone c ≡ false → 1 ≤ deeper (parent_of m column)
-deep_mark Bare c column rest h none = absurd (false≢true (sym none ∙ h))
-deep_mark Dash c column rest h none = omega arith
-deep_mark (Key key colon) c column rest h none = omega arith
+deep_mark m c column rest h1 h2 = search (rules, false≢true)
 
 content_lines : (m : Mark) (c : Content) (column : ℕ) (rest : List ℕ) → IsMark m c rest → IsContent (parent_of m column) c rest → Upto false (content_text c rest) rest
 content_lines m (Nothing tail) column rest mark h = tail_lines tail rest h

@@ -1,7 +1,6 @@
 -- What stands in front of the items that a change touches, by the places that are kept.
-use Rattle.std.proofs.Common.{◌≡◌, ◌⊎◌, inl, inr, ⊎_elim, le-ltb, ℕ, zero, suc, ◌+◌, ◌-◌, ◌<◌, ◌≤◌, List, [], ◌∷◌, ◌++◌, length, map, reverse, get_or, refl, sym, ap, ◌∙◌, subst, arith, append_assoc, append-nil, length-append, take, take_at}
+use Rattle.std.proofs.Common.{◌≡◌, ◌⊎◌, inl, inr, ⊎_elim, le-ltb, ℕ, zero, suc, ◌+◌, ◌-◌, ◌<◌, ◌≤◌, List, [], ◌∷◌, ◌++◌, length, map, reverse, get_or, refl, sym, ap, ◌∙◌, subst, arith, append_assoc, append-nil, length-append, take, take_at, rules}
 use Rattle.std.proofs.lemmas.List.{get_or_append_left, get_or_at}
-use Rattle.std.proofs.lemmas.List.Elements.{All-get_or}
 use Rattle.std.proofs.lemmas.Option.{slice_get-get_or}
 use Rattle.yq_rows.specs.Ends.{end_at}
 use Rattle.yq_rows.specs.Items.{Item, row_item, end_item}
@@ -57,21 +56,14 @@ pub rows_end : (front : List Item) (gap marker : List ℕ) → near 0 (front ++ 
 rows_end front gap marker = near_joined 0 front (end_item gap marker ∷ []) ∙ append-nil (near 0 front)
 
 pub ends_end : (front : List Item) (gap marker : List ℕ) → ends_near 0 0 (front ++ (end_item gap marker ∷ [])) ≡ ends_near 0 0 front ++ end_at (text_length front) (length (near 0 front)) gap marker ∷ []
-ends_end front gap marker =
-    ends_joined 0 0 front (end_item gap marker ∷ [])
-    ∙ (ap (λ (n : ℕ). ends_near 0 0 front ++ end_at n (0 + length (near 0 front)) gap marker ∷ []) (let n : 0 + text_length front ≡ text_length front = omega arith in n)
-    ∙ ap (λ (k : ℕ). ends_near 0 0 front ++ end_at (text_length front) k gap marker ∷ []) (let k : 0 + length (near 0 front) ≡ length (near 0 front) = omega arith in k))
+ends_end front gap marker = search (rules, ends_joined)
 
 pub sides_same : (a b c : ℕ) (s : Side) → a ≡ s.rows → b ≡ s.ends → c ≡ s.bytes → record { rows = a; ends = b; bytes = c } ≡ s
 sides_same a b c s p q r = λ i. record { rows = p i; ends = q i; bytes = r i }
 
 -- the last end of a part that begins in front of an offset, where the last item there is a row
 end_in_front : (front : List Item) (rest es : List EndPlace) (e : EndPlace) (count : ℕ) → es ≡ ends_near 0 0 front ++ rest → count ≡ length (ends_near 0 0 front) → 0 < count → e ≡ get_or es (count - 1) e → e.rows ≤ length (near 0 front)
-end_in_front front rest es e count all is some own =
-    let less : count - 1 < length (ends_near 0 0 front) = omega (arith, is, some) in
-    let at : e ≡ get_or (ends_near 0 0 front) (count - 1) e = own ∙ (ap (λ (l : List EndPlace). get_or l (count - 1) e) all ∙ get_or_append_left (ends_near 0 0 front) rest e (count - 1) less) in
-    let bound = All-get_or (λ (e : EndPlace). e.rows ≤ length (near 0 front)) (ends_near 0 0 front) (count - 1) e less (ends_rows 0 0 (length (near 0 front)) front (omega arith)) in
-    subst (λ (x : EndPlace). x.rows ≤ length (near 0 front)) (sym at) bound
+end_in_front front rest es e count all is some own = search (rules, get_or_append_left, ends_rows)
 
 -- where it is that end of a part
 end_there : (front : List Item) (gap marker : List ℕ) (rest es : List EndPlace) (e : EndPlace) (count : ℕ) → es ≡ ends_near 0 0 (front ++ (end_item gap marker ∷ [])) ++ rest → count ≡ length (ends_near 0 0 (front ++ (end_item gap marker ∷ []))) → e ≡ get_or es (count - 1) e →
@@ -97,22 +89,11 @@ abbrev pub NoEndBehind : ℕ → List EndPlace → ℕ → Type 0
 NoEndBehind n es count = 0 < count → (e : EndPlace) × (e ≡ get_or es (count - 1) e) × (e.rows < n)
 
 no_end : (front : List Item) (gap marker : List ℕ) (rows : List declared.Offsets) (es : List EndPlace) (n count : ℕ) → FrontKept front (end_item gap marker) rows es count → n ≡ length rows → NoEndBehind n es count → ⊥
-no_end front gap marker rows es n count h long none =
-    let many : count ≡ length (ends_near 0 0 front) + 1 = h.count_is ∙ (ap length (ends_end front gap marker) ∙ length-append (ends_near 0 0 front) (end_at (text_length front) (length (near 0 front)) gap marker ∷ [])) in
-    let some : 0 < count = omega (arith, many) in
-    let e = none some in
-    let there = end_there front gap marker h.rest es e.0 count h.ends_are h.count_is e.1 in
-    omega (arith, e.2, long, ap length h.rows_are, ap length (rows_end front gap marker), ap (λ (x : EndPlace). x.rows) there.0)
+no_end front gap marker rows es n count h long none = search (rules, ends_end, length-append, end_there, rows_end)
 
 pub at_row : (front : List Item) (first : Item) (rows : List declared.Offsets) (es : List EndPlace) (o : declared.Offsets) (n count : ℕ) → FrontKept front first rows es count → n ≡ length rows → NoEndBehind n es count → o ≡ get_or rows (n - 1) o →
     record { rows = n - 1; ends = count; bytes = o.start } ≡ side_of front
-at_row front (row_item r) rows es o n count h long none own =
-    let x = offsets_of (text_length front) (slices r) in
-    let list : rows ≡ near 0 front ++ x ∷ [] = h.rows_are ∙ rows_row front r in
-    let size : n ≡ length (near 0 front) + 1 = long ∙ (ap length list ∙ length-append (near 0 front) (x ∷ [])) in
-    let place : length (near 0 front) ≡ n - 1 = omega (arith, size) in
-    let there : o ≡ x = own ∙ (ap (λ (l : List declared.Offsets). get_or l (n - 1) o) list ∙ get_or_at (near 0 front) x [] o (n - 1) place) in
-    sides_same (n - 1) count o.start (side_of front) (sym place) (h.count_is ∙ ap length (ends_row front r)) (ap (λ (y : declared.Offsets). y.start) there)
+at_row front (row_item r) rows es o n count h long none own = search (rules, rows_row, length-append, get_or_at, sides_same, ends_row, no_end)
 at_row front (end_item gap marker) rows es o n count h long none own = absurd (no_end front gap marker rows es n count h long none)
 
 -- nothing begins in front

@@ -1,5 +1,5 @@
 -- No change brings an alias that was not there.
-use Rattle.std.proofs.Common.{◌≡◌, ℕ, suc, ◌⊎◌, Bool, true, false, cond, List, [], ◌∷◌, map, Option, Some, None, refl, subst, inl, inr}
+use Rattle.std.proofs.Common.{◌≡◌, ℕ, suc, ◌⊎◌, Bool, true, false, cond, List, [], ◌∷◌, map, Option, Some, None, refl, subst, inl, inr, rules}
 use Rattle.std.proofs.lemmas.Bool.{cond_both}
 use Rattle.std.proofs.lemmas.Option.{none-some, same_Some}
 use Rattle.yq_flow_scalars.specs.Tree as tree
@@ -9,7 +9,6 @@ use Rattle.yq_meaning.specs.Changes.{Addition, appends, overwrites, Change, repl
 use Rattle.yq_meaning.specs.NodeEdits.{NodeEdit, becomes, line, head, goes, NodeEdits, step_to, under, done_at, child_by, inside, each_at_once, at_once, same_path, done_by}
 use Rattle.yq_meaning.specs.Meaning.{add_to, add_all, placed_edit, node_edit_of}
 use Rattle.yq_documents.specs.TreeEdits.{replaced, headed, led, new_label}
-use Rattle.yq_program.specs.declared.program.CommentPlace.TheVariants as comments
 use Rattle.yq_meaning.specs.Changes as changes
 use Rattle.yq_plans.proofs.updates.Mentions.{Mentions, AnyMentions, HasNoAlias, MentionsNoMore}
 use Rattle.yq_plans.proofs.updates.Each.{Each}
@@ -58,22 +57,14 @@ at_once_no_more f b n a h = done_no_more a (f []) (b []) n (inside f n) (inside_
 -- ---- changes
 
 replaced_mentions : (a : List ℕ) (v old : Node) → Mentions a (replaced v old) → Mentions a v
-replaced_mentions a (alias name) old h = h
-replaced_mentions a (scalar anchor kind text) old h = h
-replaced_mentions a (list anchor cs) old h = h
-replaced_mentions a (tree.map anchor cs) old h = h
+replaced_mentions a v old h1 = search rules
 
 headed_mentions : (a : List ℕ) (texts : List (List ℕ)) (cs : Children) → AnyMentions a (headed texts cs) → AnyMentions a cs
 headed_mentions a texts none h = h
 headed_mentions a texts (child label n cs) h = h
 
 led_mentions : (a : List ℕ) (block : Bool) (lead : List (List ℕ)) (p : List Step) (v : Node) → Mentions a (led block lead p v) → Mentions a v
-led_mentions a true lead [] (alias name) h = h
-led_mentions a true lead [] (scalar anchor kind text) h = h
-led_mentions a true lead [] (list anchor cs) h = headed_mentions a lead cs h
-led_mentions a true lead [] (tree.map anchor cs) h = headed_mentions a lead cs h
-led_mentions a false lead [] v h = h
-led_mentions a block lead (s ∷ p) v h = h
+led_mentions a block lead p v h1 = search (rules, headed_mentions)
 
 append_mentions : (a : List ℕ) (label : Label) (v : Node) (cs : Children) → AnyMentions a (append_child label v cs) → Mentions a v ⊎ AnyMentions a cs
 append_mentions a label v none (inl h) = inl h
@@ -97,10 +88,7 @@ add_mentions a (appends k v) cs h = append_mentions a (new_label k) v cs h
 add_mentions a (overwrites k v) cs h = change_mentions a (To k) v cs h
 
 added_mentions : (a : List ℕ) (x : Addition) (n : Node) → Mentions a (within (add_to x) n) → Mentions a (value_in x) ⊎ Mentions a n
-added_mentions a x (alias name) h = inr h
-added_mentions a x (scalar anchor kind text) h = inr h
-added_mentions a x (list anchor cs) h = add_mentions a x cs h
-added_mentions a x (tree.map anchor cs) h = add_mentions a x cs h
+added_mentions a x n h1 = search (rules, add_mentions)
 
 -- values without aliases are added
 abbrev pub AddNone : List Addition → Type 0
@@ -124,11 +112,7 @@ abbrev pub AllWriteNone : List Changed → Type 0
 AllWriteNone cs = Each (λ (c : Changed). WritesNone c.1) cs
 
 node_edit_brings : (block : Bool) (lead : List (List ℕ)) (c : Changed) → WritesNone c.1 → BringsNone (node_edit_of block lead c)
-node_edit_brings block lead (p, replaces v) w = λ m a h. absurd (w a (led_mentions a block lead p v (replaced_mentions a (led block lead p v) m h)))
-node_edit_brings block lead (p, adds xs) w = λ m. all_no_more xs w m
-node_edit_brings block lead (p, changes.removes) w = tt
-node_edit_brings block lead (p, sets_comment comments.Line text) w = tt
-node_edit_brings block lead (p, sets_comment comments.Head text) w = tt
+node_edit_brings block lead c h1 = search (rules, led_mentions, replaced_mentions, all_no_more)
 
 -- what a list of changes does brings none
 pub all_bring : (block : Bool) (lead : List (List ℕ)) (cs : List Changed) → AllWriteNone cs → BringNone (done_by (map (placed_edit block lead) cs))

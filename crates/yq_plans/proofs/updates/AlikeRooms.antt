@@ -1,5 +1,5 @@
 -- Rooms that are alike for operations say the same of them.
-use Rattle.std.proofs.Common.{◌≡◌, ◌⊎◌, ℕ, zero, suc, Bool, true, false, ◌==◌, List, [], ◌∷◌, refl, sym, ap, subst, ◌∙◌, inl, inr, Some, option_map}
+use Rattle.std.proofs.Common.{◌≡◌, ◌⊎◌, ℕ, zero, suc, Bool, true, false, ◌==◌, List, [], ◌∷◌, refl, sym, ap, subst, ◌∙◌, inl, inr, Some, option_map, rules}
 use Rattle.std.specs.List.{slice_get}
 use Rattle.std.proofs.lemmas.Bool.{eqb-true, eqb-false}
 use Rattle.yq_flow_scalars.specs.Tree.{Node}
@@ -9,15 +9,11 @@ use Rattle.yq_program.specs.declared.program.CommentPlace.TheVariants as comment
 use Rattle.yq_meaning.specs.After.{document_of, done_to, after_op, all_after}
 use Rattle.yq_meaning.specs.Changes.{Room}
 use Rattle.yq_meaning.specs.Fits.{FitsRoot, Fits, AllFit}
-use Rattle.yq_meaning.specs.Operations.{Operation, replace, append, remove, line_comment, head_comment}
+use Rattle.yq_meaning.specs.Operations.{Operation}
 use Rattle.yq_meaning.specs.RoomsKept.{KeepsBlockIn, SetsComment, NoneOn, BlockLasts, SetComments, SetNoComment, MayFollow, SameRoom, LeavesRooms, AlikeFor, AreAlike}
 
 root_alike : (old new : Room) (op : Operation) (root : Node) → AlikeFor op old new → FitsRoot old op root → FitsRoot new op root
-root_alike old new (replace doc path v) root a h = h
-root_alike old new (append doc path k v) root a h = h
-root_alike old new (remove doc path) root a h = h
-root_alike old new (line_comment doc path text) root a h = (a.has tt comments.Line path ∙ h.0, h.1, h.2)
-root_alike old new (head_comment doc path text) root a h = (a.has tt comments.Head path ∙ h.0, h.1, h.2)
+root_alike old new op root h1 h2 = search rules
 
 module _ (old new : ℕ → Room) where
   -- an operation fits by either
@@ -87,9 +83,7 @@ module _ (op : Operation) (old new : ℕ → Room) (docs : List Document) (left 
 
 -- the rooms that an operation leaves are alike for the later ones
 next_alike : (op : Operation) (ops : List Operation) (old new : ℕ → Room) (after : List Document) → LeavesRooms op old new after → ((d : Document) × (slice_get after (document_of op) ≡ Some d)) → (KeepsBlockIn op after ⊎ NoneOn (document_of op) ops) → SetComments (op ∷ ops) ⊎ SetNoComment (op ∷ ops) → AreAlike old new ops
-next_alike op ops old new after left there lasts (inl set) = all_same op old new after left there set.0 ops
-next_alike op ops old new after left there (inl kept) (inr none) = same_block op old new after left there kept ops none.1
-next_alike op ops old new after left there (inr apart) (inr none) = same_others op old new after left there ops apart none.1
+next_alike op ops old new after h1 h2 h3 h4 = search (rules, all_same, same_block, same_others)
 
 rest_comments : (op : Operation) (ops : List Operation) → SetComments (op ∷ ops) ⊎ SetNoComment (op ∷ ops) → SetComments ops ⊎ SetNoComment ops
 rest_comments op ops (inl h) = inl h.1

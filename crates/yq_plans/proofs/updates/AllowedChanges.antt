@@ -1,5 +1,5 @@
 -- What is allowed may be done.
-use Rattle.std.proofs.Common.{◌≡◌, ◌≢◌, ℕ, suc, Bool, true, false, cond, ◌||◌, List, [], ◌∷◌, ◌++◌, length, map, Option, Some, None, is_some, option_map, refl, sym, ap, subst, ◌∙◌}
+use Rattle.std.proofs.Common.{◌≡◌, ◌≢◌, ℕ, suc, Bool, true, false, cond, ◌||◌, List, [], ◌∷◌, ◌++◌, length, map, Option, Some, None, is_some, refl, sym, ap, subst, ◌∙◌, rules}
 use Rattle.std.specs.Prelude.{ℤ}
 use Rattle.std.specs.List.{list_any}
 use Rattle.yq_flow_scalars.specs.Tree as tree
@@ -8,14 +8,14 @@ use Rattle.yq_flow_scalars.specs.Paths as paths
 use Rattle.yq_flow_scalars.specs.Paths.{To, key_is, child_at, node_at, change_child, append_child}
 use Rattle.yq_flow_scalars.specs.Anchors.{names_of}
 use Rattle.yq_meaning.specs.Judgement.{Judgement, gives}
-use Rattle.yq_meaning.specs.Matching.{ChildFound, find, key_step, index_step}
+use Rattle.yq_meaning.specs.Matching.{find, key_step, index_step}
 use Rattle.yq_meaning.specs.Changes.{Addition, appends, overwrites, addition, additions, is_long, has_long_key, writes_long_key, value_in, is_deep, is_used_inside, overwrites_used}
 use Rattle.yq_meaning.specs.Conditions.{holds}
 use Rattle.yq_meaning.specs.Meaning.{add_to}
 use Rattle.yq_meaning.specs.Pipes.{kept, places, select_on}
-use Rattle.yq_meaning.specs.Places.{Place, root_place, child_place, for_each, miss, found_place, all_steps, step_there, step_from, step_on}
+use Rattle.yq_meaning.specs.Places.{Place, root_place, child_place, for_each, miss, step_there, step_from, step_on}
 use Rattle.yq_flow_scalars.specs.Shapes.{IsNew, AreItems, AreEntries, IsTree, AreTrees}
-use Rattle.yq_documents.specs.TreeEdits.{replaced, new_label}
+use Rattle.yq_documents.specs.TreeEdits.{new_label}
 use Rattle.yq_program.specs.Program.{Step, key, index, each, Condition, Stage}
 use Rattle.yq_meaning.proofs.JudgementLaws.{then_gives, gives_same}
 use Rattle.yq_meaning.proofs.ChildPlaces.{node_further}
@@ -56,23 +56,13 @@ children_missed p [] = tt
 children_missed p (x ∷ xs) = (tt, children_missed p xs)
 
 find_none : (s : paths.Step) (cs : Children) → find s cs ≡ None → child_at s cs ≡ None
-find_none s cs h = go (child_at s cs) h
-  where
-    go : (o : Option Node) → option_map {U = paths.Step × Node} (λ n. (s, n)) o ≡ None → o ≡ None
-    go None e = refl
-    go (Some n) e = absurd (none-some _ (sym e))
+find_none s cs h = search (rules, none-some)
 
 key_lacks : (k : List ℕ) (n : Node) → key_step k n ≡ gives None → Lacks (key k) n
-key_lacks k (alias name) h = tt
-key_lacks k (scalar anchor kind text) h = tt
-key_lacks k (list anchor cs) h = tt
-key_lacks k (tree.map anchor cs) h = find_none (To k) cs (gives_same h)
+key_lacks k n h1 = search (rules, find_none, gives_same)
 
 index_lacks : (i : ℤ) (n : Node) → index_step i n ≡ gives None → Lacks (index i) n
-index_lacks i (alias name) h = tt
-index_lacks i (scalar anchor kind text) h = tt
-index_lacks i (list anchor cs) h = tt
-index_lacks i (tree.map anchor cs) h = absurd (cc)
+index_lacks i n h1 = search rules
 
 -- one more step is missing
 more_missed : (missing : List Step) (s : Step) (n : Node) → IsMissed missing n → (missing ≡ [] → Lacks s n) → IsMissed (missing ++ s ∷ []) n
@@ -80,25 +70,10 @@ more_missed [] s n h k = k refl
 more_missed (m ∷ ms) s n h k = h
 
 miss_missed : (s : Step) (p : Place) → IsMissed p.missing p.node → (p.missing ≡ [] → Lacks s p.node) → AreMissed (miss s p)
-miss_missed (key k) p h l = (more_missed p.missing (key k) p.node h l, tt)
-miss_missed (index i) p h l = (more_missed p.missing (index i) p.node h l, tt)
-miss_missed each p h l = tt
+miss_missed s p h1 h2 = search (rules, more_missed)
 
 there_missed : (s : Step) → Keeps (step_there s)
-there_missed (key k) p qs m h =
-    let x = then_gives (λ (x : ChildFound). gives (found_place (key k) p x)) (key_step k p.node) qs h in subst AreMissed (gives_same x.2) (go x.0 x.1)
-  where
-    go : (x : ChildFound) → key_step k p.node ≡ gives x → AreMissed (found_place (key k) p x)
-    go None e = miss_missed (key k) p m (λ there. key_lacks k p.node e)
-    go (Some y) e = (tt, tt)
-there_missed (index i) p qs m h =
-    let x = then_gives (λ (x : ChildFound). gives (found_place (index i) p x)) (index_step i p.node) qs h in subst AreMissed (gives_same x.2) (go x.0 x.1)
-  where
-    go : (x : ChildFound) → index_step i p.node ≡ gives x → AreMissed (found_place (index i) p x)
-    go None e = miss_missed (index i) p m (λ there. index_lacks i p.node e)
-    go (Some y) e = (tt, tt)
-there_missed each p qs m h =
-    let x = then_gives (λ (xs : List (paths.Step × Node)). gives (map (child_place p) xs)) (all_steps p.node) qs h in subst AreMissed (gives_same x.2) (children_missed p x.0)
+there_missed s = search (rules, then_gives, gives_same, miss_missed, key_lacks, index_lacks, children_missed)
 
 step_missed : (s : Step) → Keeps (step_on s)
 step_missed s p qs m h = go p.missing refl h
@@ -161,11 +136,7 @@ other_change j k f (child label n es) d = go (key_is j label.key) refl (other_ch
     go false is ih = ap (λ (o : Option Node). cond (key_is k label.key) (Some n) o) ih
 
 other_add : (cs : Children) (j k : List ℕ) (v : Node) (es : Children) → j ≢ k → child_at (To k) (add_to (addition cs (Some j) v) es) ≡ child_at (To k) es
-other_add cs j k v es d = go (is_some (child_at (To j) cs))
-  where
-    go : (b : Bool) → child_at (To k) (add_to (cond b (overwrites j v) (appends (Some j) v)) es) ≡ child_at (To k) es
-    go true = other_change j k (replaced v) es d
-    go false = other_append j k v es d
+other_add cs j k v es d = search (rules, other_change, other_append)
 
 module _ (root : Node) (p : List paths.Step) (a first : Option (List ℕ)) (cs : Children) (at : node_at p root ≡ Some (tree.map first cs)) where
   entry_fits : (k : List ℕ) (v : Node) (es : Children) (xs : List Addition) → IsTree v → child_at (To k) es ≡ child_at (To k) cs → Unrefused root p (addition cs (Some k) v ∷ xs) →

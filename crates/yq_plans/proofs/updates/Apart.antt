@@ -1,11 +1,11 @@
 -- What is done at one place leaves the node of another as it is, and two such changes may be made in either order.
-use Rattle.std.proofs.Common.{◌≡◌, ◌≢◌, ℕ, zero, suc, ◌+◌, ◌<◌, ◌⊎◌, Bool, true, false, cond, List, [], ◌∷◌, Option, Some, None, option_map, option_and_then, refl, sym, ap, subst, ◌∙◌, inl, inr, arith}
+use Rattle.std.proofs.Common.{◌≡◌, ◌≢◌, ℕ, zero, suc, ◌+◌, ◌<◌, ◌⊎◌, Bool, true, false, cond, List, [], ◌∷◌, Option, Some, None, option_map, option_and_then, refl, sym, ap, subst, ◌∙◌, inl, inr, arith, rules}
 use Rattle.std.proofs.lemmas.Bool.{cases_Bool, cond-false, cond-true, cond_both}
 use Rattle.std.specs.Str.{bytes_eq}
 use Rattle.yq_flow_scalars.specs.Tree as tree
-use Rattle.yq_flow_scalars.specs.Tree.{Label, Node, alias, scalar, list, Children, none, child, children_of}
+use Rattle.yq_flow_scalars.specs.Tree.{Label, Node, Children, none, child, children_of}
 use Rattle.yq_flow_scalars.specs.Paths.{Step, To, Nth, key_is, is_item, child_at, node_at, change}
-use Rattle.yq_meaning.specs.NodeEdits.{NodeEdit, becomes, goes, NodeEdits, under, done_at, child_by, inside, each_at_once, at_once, same_path, and_at, done_by, one_at}
+use Rattle.yq_meaning.specs.NodeEdits.{NodeEdit, becomes, goes, NodeEdits, under, done_at, child_by, inside, each_at_once, at_once, same_path, and_at, done_by}
 use Rattle.yq_meaning.specs.Places.{step_by}
 use Rattle.yq_flow_scalars.specs.PathOrder.{Before, Apart}
 use Rattle.yq_flow_scalars.specs.Shapes.{AreItems, AreEntries, IsTree}
@@ -23,12 +23,10 @@ abbrev first_by : Option NodeEdit → Option (List ℕ) → List (List ℕ) → 
 first_by d o hc lc m rest = child_by d (record { key = o; head_comment = hc; line_comment = lc }) m rest
 
 find_past_key : (k : List ℕ) (o : Option (List ℕ)) (hc : List (List ℕ)) (lc : Option (List ℕ)) → key_is k o ≡ false → (d : Option NodeEdit) (m : Node) (rest : Children) → child_at (To k) (first_by d o hc lc m rest) ≡ child_at (To k) rest
-find_past_key k o hc lc e d m rest =
-    child_kept_or_gone (λ f. child_at (To k) (f rest) ≡ child_at (To k) rest) d (record { key = o; head_comment = hc; line_comment = lc }) m (λ hd ld. cond-false (key_is k o) _ _ e) (λ gone. refl)
+find_past_key k o hc lc e d m rest = search (rules, child_kept_or_gone, cond-false)
 
 find_past_item : (r : ℕ) (d : Option NodeEdit) → d ≢ Some goes → (label : Label) (m : Node) (rest : Children) → child_at (Nth (suc r)) (child_by d label m rest) ≡ child_at (Nth r) rest
-find_past_item r d stays label m rest =
-    child_kept_or_gone (λ f. child_at (Nth (suc r)) (f rest) ≡ child_at (Nth r) rest) d label m (λ hd ld. refl) (λ gone. absurd (stays gone))
+find_past_item r d stays label m rest = search (rules, child_kept_or_gone)
 
 -- an item is no entry
 no_entry : (r : ℕ) (cs : Children) → AreEntries cs → child_at (Nth r) cs ≡ None
@@ -37,11 +35,7 @@ no_entry zero (child label n cs) h = ap (λ (o : Option (List ℕ)). cond (is_it
 no_entry (suc r) (child label n cs) h = no_entry r cs h.1
 
 find_past_entry : (r : ℕ) (k : List ℕ) (hc : List (List ℕ)) (lc : Option (List ℕ)) (d : Option NodeEdit) (m : Node) (rest : Children) → ((j : ℕ) → child_at (Nth j) rest ≡ None) → child_at (Nth r) (first_by d (Some k) hc lc m rest) ≡ None
-find_past_entry r k hc lc d m rest ih = child_kept_or_gone (λ f. child_at (Nth r) (f rest) ≡ None) d (record { key = Some k; head_comment = hc; line_comment = lc }) m (kept r) (λ gone. ih r)
-  where
-    kept : (r : ℕ) (hd : List (List ℕ)) (ld : Option (List ℕ)) → child_at (Nth r) (child (record { key = Some k; head_comment = hd; line_comment = ld }) m rest) ≡ None
-    kept zero hd ld = ih 0
-    kept (suc r) hd ld = ih r
+find_past_entry r k hc lc d m rest ih = search (rules, child_kept_or_gone)
 
 no_entry_done : (f : NodeEdits) (i r : ℕ) (cs : Children) → AreEntries cs → child_at (Nth r) (each_at_once f i cs) ≡ None
 no_entry_done f i r none h = refl
@@ -82,12 +76,7 @@ find_key k f free i (child label n cs) = go label.key label.head_comment label.l
 find_item : (r m : ℕ) (f : NodeEdits) → f (Nth m ∷ []) ≡ None → ((i : ℕ) → f (Nth i ∷ []) ≡ Some goes → m < i) → (i : ℕ) → i + r ≡ m → (cs : Children) → AreItems cs → child_at (Nth r)
     (each_at_once f i cs) ≡ done_child (Nth m) f (child_at (Nth r) cs)
 find_item r m f free behind i is none items = refl
-find_item zero m f free behind i is (child label n cs) items =
-    let same : m ≡ i = omega (arith, is) in
-    subst (λ (j : ℕ). child_at (Nth 0) (each_at_once f i (child label n cs)) ≡ done_child (Nth j) f (child_at (Nth 0) (child label n cs))) (sym same)
-    (subst (λ (o : Option (List ℕ)). child_at (Nth 0) (child_done (under (step_by i o) f) (record { key = o; head_comment = label.head_comment; line_comment = label.line_comment }) n (each_at_once f (suc i) cs)) ≡
-    done_child (Nth i) f (cond (is_item o) (Some n) (child_at (Nth 0) cs))) (sym items.0)
-    (ap (λ (d : Option NodeEdit). child_at (Nth 0) (first_by d None label.head_comment label.line_comment (at_once (under (Nth i) f) n) (each_at_once f (suc i) cs))) (subst (λ (j : ℕ). f (Nth j ∷ []) ≡ None) same free)))
+find_item zero m f free behind i is (child label n cs) items = search (rules, child_done, find_past_item)
 find_item (suc r) m f free behind i is (child label n cs) items =
     let next : suc i + r ≡ m = omega (arith, is) in
     subst (λ (o : Option (List ℕ)). child_at (Nth (suc r)) (child_done (under (step_by i o) f)
@@ -97,15 +86,10 @@ find_item (suc r) m f free behind i is (child label n cs) items =
     ∙ find_item r m f free behind (suc i) next cs items.1)
 
 find_each : (s : Step) (f : NodeEdits) → f (s ∷ []) ≡ None → ((m i : ℕ) → s ≡ Nth m → f (Nth i ∷ []) ≡ Some goes → m < i) → (cs : Children) → AreItems cs ⊎ AreEntries cs → child_at s (each_at_once f 0 cs) ≡ done_child s f (child_at s cs)
-find_each (To k) f free behind cs kind = find_key k f free 0 cs
-find_each (Nth m) f free behind cs (inl items) = find_item m m f free (λ i e. behind m i refl e) 0 (omega arith) cs items
-find_each (Nth m) f free behind cs (inr entries) = no_entry_done f 0 m cs entries ∙ sym (ap (λ (o : Option Node). done_child (Nth m) f o) (no_entry m cs entries))
+find_each s f h1 h2 cs h3 = search (rules, find_key, find_item, no_entry_done, no_entry)
 
 find_inside : (s : Step) (f : NodeEdits) → f (s ∷ []) ≡ None → ((m i : ℕ) → s ≡ Nth m → f (Nth i ∷ []) ≡ Some goes → m < i) → (n : Node) → IsTree n → child_at s (children_of (inside f n)) ≡ done_child s f (child_at s (children_of n))
-find_inside s f free behind (alias name) tree = refl
-find_inside s f free behind (scalar anchor kind text) tree = refl
-find_inside s f free behind (list anchor cs) tree = find_each s f free behind cs (inl tree.0)
-find_inside s f free behind (tree.map anchor cs) tree = find_each s f free behind cs (inr tree.0)
+find_inside s f h1 h2 n h3 = search (rules, find_each)
 
 -- what is done elsewhere leaves the node at a path as it is
 pub node_spared : (p : List Step) (f : NodeEdits) (n : Node) → IsTree n → Spares f p → node_at p (at_once f n) ≡ node_at p n
@@ -132,16 +116,14 @@ spares_alone : (p q : List Step) (g : Node → Node) → Apart p q → Spares (a
 spares_alone p q g h r = cond_both (same_path q r) (Some (becomes g)) None (λ d. IsSpared d p r) (λ e. subst (Apart p) (path_same q r e) h) (λ e. tt)
 
 alone_is : (p : List Step) (g : Node → Node) (n : Node) → IsTree n → at_once (alone p g) n ≡ change p g n
-alone_is p g n tree =
-    one_more p (becomes g) (done_by []) n tree (λ q. tt) ∙ (ap (one_at p (becomes g)) (idle (done_by []) n (λ q. refl)) ∙ one_becomes p g n)
+alone_is p g n tree = search (rules, one_more, idle, one_becomes)
 
 -- a change of one node leaves the node at a path that is apart as it is
 pub node_apart : (p q : List Step) (g : Node → Node) (n : Node) → IsTree n → Apart p q → node_at p (change q g n) ≡ node_at p n
 node_apart p q g n tree h = ap (node_at p) (sym (alone_is q g n tree)) ∙ node_spared p (alone q g) n tree (spares_alone p q g h)
 
 both : (p q : List Step) (f g : Node → Node) (n : Node) → IsTree n → Apart p q → at_once (and_at p (becomes f) (alone q g)) n ≡ change p f (change q g n)
-both p q f g n tree h =
-    one_more p (becomes f) (alone q g) n tree (spares_alone p q g h) ∙ (one_becomes p f (at_once (alone q g) n) ∙ ap (change p f) (alone_is q g n tree))
+both p q f g n tree h = simp (one_more, spares_alone, one_becomes, alone_is)
 
 -- two changes at paths that are apart may be made in either order
 pub changes_commute : (p q : List Step) (f g : Node → Node) (n : Node) → IsTree n → Apart p q → change p f (change q g n) ≡ change q g (change p f n)

@@ -1,14 +1,13 @@
 -- What is done at once is one thing more done to what the rest makes.
-use Rattle.std.proofs.Common.{◌≡◌, ◌≢◌, ℕ, suc, ◌+◌, ◌<◌, ◌⊎◌, Bool, true, false, cond, List, [], ◌∷◌, Option, Some, None, refl, sym, ap, subst, ◌∙◌, inl, inr, arith, zero, ◌&&◌}
+use Rattle.std.proofs.Common.{◌≡◌, ◌≢◌, ℕ, suc, ◌+◌, ◌<◌, ◌⊎◌, Bool, true, false, cond, List, [], ◌∷◌, Option, Some, None, refl, sym, ap, subst, ◌∙◌, inl, inr, arith, zero, ◌&&◌, rules}
 use Rattle.std.proofs.lemmas.Bool.{cases_Bool, cond-false, cond-true}
 use Rattle.std.proofs.lemmas.Option.{none-some, same_Some}
 use Rattle.yq_flow_scalars.specs.Tree.{Label, Node, alias, scalar, list, Children, none, child, map}
 use Rattle.yq_flow_scalars.specs.Paths.{To, Nth, key_is, is_here, further, Step, within}
-use Rattle.yq_meaning.specs.NodeEdits.{step_to, NodeEdit, becomes, line, head, goes, NodeEdits, under, done_at, child_by, inside, each_at_once, at_once, same_path, and_at, at_child, here, one_at}
+use Rattle.yq_meaning.specs.NodeEdits.{step_to, NodeEdit, goes, NodeEdits, under, done_at, child_by, inside, each_at_once, at_once, same_path, and_at, at_child, here, one_at}
 use Rattle.yq_meaning.specs.Places.{step_by}
 use Rattle.yq_flow_scalars.specs.PathOrder.{Before}
 use Rattle.yq_flow_scalars.specs.Shapes.{IsNew, AreItems, AreEntries, IsTree, AreTrees}
-use Rattle.std.specs.Str.{bytes_eq}
 use Rattle.yq_meaning.proofs.PathLaws.{bytes_refl, bytes_same, bytes_other, to_nth, step_refl, step_other, apart_root}
 use Rattle.yq_plans.proofs.updates.Spares.{node_edits_same, IsSpared, Spares, spares_under, nothing, spares_root, spares_behind, child_done, idle, child_kept_or_gone}
 
@@ -45,12 +44,7 @@ past_item r h d stays label m rest =
 -- a step to an item leads past what has a key
 past_entry : (r : ℕ) (h : Label → Node → Children → Children) (k : List ℕ) (hc : List (List ℕ)) (lc : Option (List ℕ)) (d : Option NodeEdit) (m : Node) (rest : Children) →
     ((j : ℕ) → at_child (Nth j) h rest ≡ rest) → at_child (Nth r) h (child_by d (record { key = Some k; head_comment = hc; line_comment = lc }) m rest) ≡ child_by d (record { key = Some k; head_comment = hc; line_comment = lc }) m rest
-past_entry r h k hc lc d m rest ih = child_kept_or_gone (λ f. at_child (Nth r) h (f rest) ≡ f rest) d (record { key = Some k; head_comment = hc; line_comment = lc }) m (kept r) (λ gone. ih r)
-  where
-    kept : (r : ℕ) (hd : List (List ℕ)) (ld : Option (List ℕ)) →
-        at_child (Nth r) h (child (record { key = Some k; head_comment = hd; line_comment = ld }) m rest) ≡ child (record { key = Some k; head_comment = hd; line_comment = ld }) m rest
-    kept zero hd ld = ap (child (record { key = Some k; head_comment = hd; line_comment = ld }) m) (ih 0)
-    kept (suc r) hd ld = ap (child (record { key = Some k; head_comment = hd; line_comment = ld }) m) (ih r)
+past_entry r h k hc lc d m rest ih = search (rules, child_kept_or_gone)
 
 -- one thing more is done under a step
 record More (s : Step) (x : NodeEdit) (p : List Step) (f g : NodeEdits) : Type 0 where
@@ -67,12 +61,7 @@ there x p label m cs = child_by (here x p) label (one_at p x m) cs
 -- at the child where the step leads
 more_here : (s t : Step) (x : NodeEdit) (p : List Step) (f g : NodeEdits) → More s x p f g → (label : Label) (n : Node) → IsTree n → is_here t label ≡ true → (fs gs : Children) → fs ≡ gs →
     child_done (under s f) label n fs ≡ at_child t (there x p) (child_done (under s g) label n gs)
-more_here s t x p f g more label n tree is fs gs same =
-    ap (child_done (under s f) label n) same
-    ∙ (ap (λ (m : Node). child_by (f (s ∷ [])) label m gs) (more.within_it n tree)
-    ∙ (ap (λ (d : Option NodeEdit). child_by d label (one_at p x (at_once (under s g) n)) gs) more.at
-    ∙ (sym (cond-true (is_here t label) (there x p label (at_once (under s g) n) gs) _ is)
-    ∙ ap (λ (d : Option NodeEdit). at_child t (there x p) (child_by d label (at_once (under s g) n) gs)) (sym more.free))))
+more_here s t x p f g more label n tree is fs gs same = search (rules, child_done, cond-true)
 
 new_none : (k : List ℕ) (i : ℕ) (cs : Children) → IsNew k cs → HasNone (To k) i cs
 new_none k i none h = tt
@@ -112,44 +101,28 @@ module _ (x : NodeEdit) (p : List Step) (f g : NodeEdits) (i : ℕ) (n : Node) (
   key_other : (k : List ℕ) → More (To k) x p f g → each_at_once f (suc i) cs ≡ at_child (To k) (there x p) (each_at_once g (suc i) cs) →
       (o : Option (List ℕ)) (hc : List (List ℕ)) (lc : Option (List ℕ)) → key_is k o ≡ false → step_by i o ≢ To k →
       first_done f i o hc lc n (each_at_once f (suc i) cs) ≡ at_child (To k) (there x p) (first_done g i o hc lc n (each_at_once g (suc i) cs))
-  key_other k more rest o hc lc e differs =
-      let label : Label = record { key = o; head_comment = hc; line_comment = lc } in
-      ap (λ (j : NodeEdits). child_done j label n (each_at_once f (suc i) cs)) (node_edits_same (under (step_by i o) f) (under (step_by i o) g) (more.agree (step_by i o) differs))
-      ∙ (ap (child_done (under (step_by i o) g) label n) rest
-      ∙ sym (past_key k (there x p) o hc lc e (g (step_by i o ∷ [])) (at_once (under (step_by i o) g) n) (each_at_once g (suc i) cs)))
+  key_other k more rest o hc lc e differs = search (rules, child_done, node_edits_same, past_key)
 
   -- the step is to this key
   key_this : (k : List ℕ) → More (To k) x p f g → (hc : List (List ℕ)) (lc : Option (List ℕ)) → IsNew k cs →
       first_done f i (Some k) hc lc n (each_at_once f (suc i) cs) ≡ at_child (To k) (there x p) (first_done g i (Some k) hc lc n (each_at_once g (suc i) cs))
-  key_this k more hc lc new = more_here (To k) (To k) x p f g more (record { key = Some k; head_comment = hc; line_comment = lc }) n tree (bytes_refl k) (each_at_once f (suc i) cs) (each_at_once g (suc i) cs)
-      (each_same (To k) f g more.agree (suc i) cs (new_none k (suc i) cs new))
+  key_this k more hc lc new = search (rules, more_here, bytes_refl, each_same, new_none)
 
   key_once : (k : List ℕ) → More (To k) x p f g → each_at_once f (suc i) cs ≡ at_child (To k) (there x p) (each_at_once g (suc i) cs) →
       (o : Option (List ℕ)) (hc : List (List ℕ)) (lc : Option (List ℕ)) → ((j : List ℕ) → o ≡ Some j → IsNew j cs) →
       first_done f i o hc lc n (each_at_once f (suc i) cs) ≡ at_child (To k) (there x p) (first_done g i o hc lc n (each_at_once g (suc i) cs))
-  key_once k more rest None hc lc new = key_other k more rest None hc lc refl (λ e. to_nth k i (sym e))
-  key_once k more rest (Some j) hc lc new = elim (cases_Bool (bytes_eq j k)) [
-    | inl same ↦ subst (λ (c : List ℕ). first_done f i (Some c) hc lc n (each_at_once f (suc i) cs) ≡ at_child (To k) (there x p) (first_done g i (Some c) hc lc n (each_at_once g (suc i) cs)))
-        (sym (bytes_same j k same)) (key_this k more hc lc (subst (λ c. IsNew c cs) (bytes_same j k same) (new j refl)))
-    | inr differs ↦ key_other k more rest (Some j) hc lc differs (λ e. bytes_other j k differs (let same : j ≡ k = cc in same))
-  ]
+  key_once k h1 h2 o hc lc h3 = search (rules, key_other, to_nth, cases_Bool, bytes_same, key_this, bytes_other)
 
   -- the step is to this item
   item_this : More (Nth i) x p f g → (hc : List (List ℕ)) (lc : Option (List ℕ)) →
       first_done f i None hc lc n (each_at_once f (suc i) cs) ≡ at_child (Nth 0) (there x p) (first_done g i None hc lc n (each_at_once g (suc i) cs))
-  item_this more hc lc =
-      more_here (Nth i) (Nth 0) x p f g more (record { key = None; head_comment = hc; line_comment = lc }) n tree refl (each_at_once f (suc i) cs) (each_at_once g (suc i) cs)
-      (each_same (Nth i) f g more.agree (suc i) cs (later_none i (suc i) cs (omega arith)))
+  item_this more hc lc = search (rules, more_here, each_same, later_none)
 
   -- the step is to a later item
   item_later : (r m : ℕ) → i + suc r ≡ m → More (Nth m) x p f g → each_at_once f (suc i) cs ≡ at_child (Nth r) (there x p) (each_at_once g (suc i) cs) →
       (hc : List (List ℕ)) (lc : Option (List ℕ)) →
       first_done f i None hc lc n (each_at_once f (suc i) cs) ≡ at_child (Nth (suc r)) (there x p) (first_done g i None hc lc n (each_at_once g (suc i) cs))
-  item_later r m is more rest hc lc =
-      let label : Label = record { key = None; head_comment = hc; line_comment = lc } in
-      ap (λ (j : NodeEdits). child_done j label n (each_at_once f (suc i) cs)) (node_edits_same (under (Nth i) f) (under (Nth i) g) (more.agree (Nth i) (λ e. let same : i ≡ m = cc in absurd (omega (arith, is, same)))))
-      ∙ (ap (child_done (under (Nth i) g) label n) rest
-      ∙ sym (past_item r (there x p) (g (Nth i ∷ [])) (λ e. let behind : m < i = more.behind m i refl e in absurd (omega (arith, is, behind))) label (at_once (under (Nth i) g) n) (each_at_once g (suc i) cs)))
+  item_later r m is more rest hc lc = search (rules, child_done, node_edits_same, past_item)
 
 -- under a key
 more_key : (k : List ℕ) (x : NodeEdit) (p : List Step) (f g : NodeEdits) → More (To k) x p f g → (i : ℕ) (cs : Children) → AreDistinct cs → AreTrees cs →
@@ -193,15 +166,11 @@ more_each : (s : Step) (x : NodeEdit) (p : List Step) (f g : NodeEdits) → More
 more_each (To k) x p f g more cs (inl items) trees = more_key k x p f g more 0 cs (items_distinct cs items) trees
 more_each (To k) x p f g more cs (inr entries) trees = more_key k x p f g more 0 cs (entries_distinct cs entries) trees
 more_each (Nth m) x p f g more cs (inl items) trees = more_item m m x p f g more 0 (omega arith) cs items trees
-more_each (Nth m) x p f g more cs (inr entries) trees =
-    each_same (Nth m) f g more.agree 0 cs (no_nth m 0 cs entries) ∙ sym (no_item (there x p) g 0 m cs entries)
+more_each (Nth m) x p f g more cs (inr entries) trees = search (rules, more_key, items_distinct, entries_distinct, more_item, each_same, no_nth, no_item)
 
 -- a node by what is done at it is one of these two
 done_one : (x : NodeEdit) (n m : Node) → done_at (Some x) n m ≡ done_at (Some x) n n
-done_one (becomes g) n m = refl
-done_one (line text) n m = refl
-done_one (head texts) n m = refl
-done_one goes n m = refl
+done_one x n m = search rules
 
 and_other : (s t : Step) (p q : List Step) (x : NodeEdit) (f : NodeEdits) → t ≢ s → and_at (s ∷ p) x f (t ∷ q) ≡ f (t ∷ q)
 and_other s t p q x f d = ap (λ (b : Bool). cond (b && same_path p q) (Some x) (f (t ∷ q))) (step_other s t (λ e. d (sym e)))

@@ -1,5 +1,5 @@
 -- Of the places to which a pipe leads, none but the first one is at the first item or entry of the root.
-use Rattle.std.proofs.Common.{◌≡◌, ◌≢◌, ℕ, ◌⊎◌, Bool, true, false, List, [], ◌∷◌, ◌++◌, map, Some, None, refl, sym, ap, subst, ◌∙◌, inl, inr}
+use Rattle.std.proofs.Common.{◌≡◌, ◌≢◌, ℕ, ◌⊎◌, Bool, true, false, List, [], ◌∷◌, ◌++◌, map, Some, None, refl, sym, ap, subst, ◌∙◌, inl, inr, rules}
 use Rattle.std.proofs.lemmas.Option.{same_Some}
 use mathlib.Core.List.{head-eq_of_cons-eq, tail-eq_of_cons-eq}
 use Rattle.yq_flow_scalars.specs.Tree as tree
@@ -75,10 +75,7 @@ each_at_none root f so s x ps qs b t n h =
     (λ p more r. ((λ rs e. lying_none s x p.path rs r.0.0 r.2.0 (so p rs r.1.0.0 r.1.0.1 e).inside), (r.0.1, r.1.1, r.2.1))) ps qs (b, t, n) h
 
 each_first : (root : Node) (f : Place → Judgement (List Place)) → LeadsSo root f → (s : paths.Step) → LeadsFirst root s f → (ps qs : List Place) → AreGood root ps → NoPlaceLater s ps → for_each f ps ≡ gives qs → NoPlaceLater s qs
-each_first root f so s first [] qs good n h = subst (NoPlaceLater s) (gives_same h) tt
-each_first root f so s first (p ∷ ps) qs good n h =
-    let w = joined_gives (f p) (for_each f ps) qs h in
-    subst (NoPlaceLater s) w.4 (later_join s w.0 w.1 (first p w.0 good.sound.0.0 good.sound.0.1 w.2) (each_at_none root f so s p.path ps w.1 good.apart.0 good.sound.1 n w.3))
+each_first root f h1 s h2 ps qs h3 h4 h5 = search (rules, gives_same, joined_gives, later_join, each_at_none)
 
 -- of the children of the root, the first one is first
 root_children : (s : paths.Step) (p : Place) (xs : List (paths.Step × Node)) → p.path ≡ [] → StepsBefore s xs → NoPlaceAt s (map (child_place p) xs)
@@ -112,9 +109,7 @@ first_children root s first p at (child label n cs) is kind = go p.path refl
     go (t ∷ r) top = other_children s t r p (stepped 1 cs) top
 
 miss_later : (s : paths.Step) (step : Step) (p : Place) → NoPlaceLater s (miss step p)
-miss_later s (key k) p = tt
-miss_later s (index i) p = tt
-miss_later s each p = tt
+miss_later s step p = search rules
 
 found_later : (s : paths.Step) (step : Step) (p : Place) (j : Judgement ChildFound) (qs : List Place) → and_then (λ x. gives (found_place step p x)) j ≡ gives qs → NoPlaceLater s qs
 found_later s step p j qs h =

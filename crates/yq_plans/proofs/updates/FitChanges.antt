@@ -1,17 +1,17 @@
 -- Each operation of a plan fits at its turn.
-use Rattle.std.proofs.Common.{◌≡◌, ℕ, suc, Bool, true, false, cond, ◌&&◌, ◌||◌, List, [], ◌∷◌, length, Option, Some, None, is_some, refl, sym, ap, subst, ◌∙◌, inl, inr}
+use Rattle.std.proofs.Common.{◌≡◌, ℕ, Bool, true, false, cond, ◌&&◌, List, [], ◌∷◌, length, Option, Some, None, refl, sym, ap, subst, ◌∙◌, inl, inr, rules}
 use Rattle.std.proofs.lemmas.Bool.{and_parts, or_parts}
 use Rattle.std.specs.List.{list_any}
 use Rattle.yq_flow_scalars.specs.Tree as tree
 use Rattle.yq_flow_scalars.specs.Tree.{Node, alias, scalar, list, Children, none, child}
 use Rattle.yq_flow_scalars.specs.Paths as paths
-use Rattle.yq_flow_scalars.specs.Paths.{To, child_at, node_at}
+use Rattle.yq_flow_scalars.specs.Paths.{node_at}
 use Rattle.yq_flow_scalars.specs.Anchors.{names_of}
 use Rattle.yq_program.specs.declared.program.CommentPlace.{CommentPlace}
 use Rattle.yq_program.specs.declared.program.Operator.TheVariants as operator
 use Rattle.yq_meaning.specs.declared.refusal.Refusal.TheVariants.{IndexOutOfRange, NoPlaceForComment, AnchorInUse, TooDeep, KeyTooLong}
 use Rattle.yq_meaning.specs.Judgement.{Judgement, and_then, gives, refuses}
-use Rattle.yq_meaning.specs.Changes.{appends, overwrites, Change, replaces, adds, sets_comment, Changed, Room, is_long, has_long_key, is_deep, nested, created, put_below, put_at, addition, additions, added, add_below, add_at}
+use Rattle.yq_meaning.specs.Changes.{Change, replaces, sets_comment, Changed, Room, nested, created, put_below, put_at, addition, additions, added, add_below, add_at}
 use Rattle.yq_meaning.specs.Changes.{remove_below, remove_at, is_there, comment_at, is_too_long, is_too_deep, is_used_inside, is_used_in, takes_used, allowed, all_allowed, at_each, with_value, changes_at, left_of, changes_in}
 use Rattle.yq_meaning.specs.Changes.{is_comment, has_comment, value_in}
 use Rattle.yq_plans.proofs.updates.Mentions.{HasNoAlias, IsPure}
@@ -23,7 +23,7 @@ use Rattle.yq_flow_scalars.specs.Shapes.{IsTree}
 use Rattle.yq_program.specs.Program.{is_index, SumHolds, UpdatesHold, Step, key, index, each, Term, Update, assign, delete, comment}
 use Rattle.yq_plans.proofs.updates.Aliases.{AddNone, WritesNone}
 use Rattle.yq_plans.proofs.updates.AllowedChanges.{IsMissed, AreMissed, places_missed, list_fits, entries_fit}
-use Rattle.yq_plans.proofs.updates.FitsInOrder.{FitAdds, MayChange, AreFit}
+use Rattle.yq_plans.proofs.updates.FitsInOrder.{MayChange, AreFit}
 use Rattle.yq_meaning.proofs.JudgementLaws.{then_gives, gives_same}
 use Rattle.yq_meaning.proofs.GoodPlaces.{AreSound}
 use Rattle.yq_plans.proofs.updates.PipePlaces.{places_apart}
@@ -97,18 +97,7 @@ nested_pure : (ms : List Step) (v : Node) → IsPure v → IsPure (nested ms v)
 nested_pure ms v h = (nested_tree ms v h.0, nested_free ms v h.1)
 
 created_fit : (room : Room) (root : Node) (p : Place) (v : Node) (m : Step) (ms : List Step) (n : Node) → p.node ≡ n → IsIn root p → IsMissed (m ∷ ms) n → IsPure v → IfFree room root (p.path, created n m ms v)
-created_fit room root p v m ms (alias name) is at miss pure = puts_fit room root p (nested (m ∷ ms) v) at (nested_pure (m ∷ ms) v pure)
-created_fit room root p v m ms (scalar anchor kind text) is at miss pure = puts_fit room root p (nested (m ∷ ms) v) at (nested_pure (m ∷ ms) v pure)
-created_fit room root p v m ms (list anchor cs) is at miss pure = puts_fit room root p (nested (m ∷ ms) v) at (nested_pure (m ∷ ms) v pure)
-created_fit room root p v (key k) ms (tree.map anchor cs) is at miss pure =
-    ((nested_free ms v pure.1, tt), λ f. (tree.map anchor cs, at ∙ ap Some is, (added_one f)))
-  where
-    added_one : IsFree root (p.path, adds (appends (Some k) (nested ms v) ∷ [])) → FitAdds root p.path (tree.map anchor cs) (appends (Some k) (nested ms v) ∷ [])
-    added_one f =
-        let long = or_parts (is_long (Some k)) (has_long_key (nested ms v)) (or_parts (is_long (Some k) || has_long_key (nested ms v)) false f.0).0 in
-        ((long.0, (nested_tree ms v pure.0, long.1, (or_parts (is_deep (suc (length p.path)) (nested ms v)) false f.1).0), (anchor, cs, refl, miss)), tt)
-created_fit room root p v (index i) ms (tree.map anchor cs) is at miss pure = absurd miss
-created_fit room root p v each ms (tree.map anchor cs) is at miss pure = absurd miss
+created_fit room root p v m ms n h1 h2 h3 h4 = search (rules, puts_fit, nested_pure, nested_free, or_parts, nested_tree)
 
 put_fits : (room : Room) (root : Node) (v : Node) → IsPure v → SoFits room root (λ p. put_at p v)
 put_fits room root v pure p cs tree at miss h =
@@ -124,12 +113,7 @@ put_fits room root v pure p cs tree at miss h =
         by false k = subst (λ (d : Change). IfFree room root (p.path, d)) (gives_same k) (created_fit room root p v y ys p.node refl at m pure)
 
 addition_value : (cs : Children) (o : Option (List ℕ)) (v : Node) → value_in (addition cs o v) ≡ v
-addition_value cs None v = refl
-addition_value cs (Some k) v = go (is_some (child_at (To k) cs))
-  where
-    go : (b : Bool) → value_in (cond b (overwrites k v) (appends (Some k) v)) ≡ v
-    go true = refl
-    go false = refl
+addition_value cs o v = search rules
 
 adds_none : (cs ds : Children) → HaveNoAlias ds → AddNone (additions cs ds)
 adds_none cs none free = tt

@@ -1,5 +1,5 @@
 -- Each operation of changes that are allowed fits at its turn.
-use Rattle.std.proofs.Common.{◌≡◌, ℕ, suc, Bool, true, false, cond, List, [], ◌∷◌, ◌++◌, length, map, reverse, Option, Some, None, option_and_then, refl, sym, ap, subst, ◌∙◌, inl, inr, append-nil, arith, length-append}
+use Rattle.std.proofs.Common.{◌≡◌, ℕ, suc, Bool, true, false, cond, List, [], ◌∷◌, ◌++◌, length, map, reverse, Option, Some, None, option_and_then, refl, sym, ap, subst, ◌∙◌, inl, inr, append-nil, arith, length-append, rules}
 use Rattle.std.proofs.lemmas.List.{reverse-reverse}
 use Rattle.std.proofs.lemmas.Option.{same_Some}
 use Rattle.yq_flow_scalars.specs.Tree as tree
@@ -66,10 +66,7 @@ child_changed s f (child label m cs) n h = go (is_here s label) refl (child_chan
     go false is ih e = ap (λ (b : Bool). cond b (Some m) (child_at (further s) (change_child (further s) f cs))) is ∙ ih e
 
 children_within : (s : Step) (f : Node → Node) (r n : Node) → child_at s (children_of r) ≡ Some n → child_at s (children_of (within (change_child s f) r)) ≡ Some (f n)
-children_within s f (alias name) n h = absurd (cc)
-children_within s f (scalar anchor kind text) n h = absurd (cc)
-children_within s f (list anchor cs) n h = child_changed s f cs n h
-children_within s f (tree.map anchor cs) n h = child_changed s f cs n h
+children_within s f r n h1 = search (rules, child_changed)
 
 -- the node at a path, changed
 node_change : (p : List Step) (f : Node → Node) (r n : Node) → node_at p r ≡ Some n → node_at p (change p f r) ≡ Some (f n)

@@ -1,10 +1,10 @@
 -- Operations on a root, one after the other, make all changes at once.
-use Rattle.std.proofs.Common.{◌≡◌, ℕ, Bool, true, false, cond, List, [], ◌∷◌, ◌++◌, map, reverse, Some, refl, sym, ap, subst, ◌∙◌, inl, inr, append-nil, append_assoc}
+use Rattle.std.proofs.Common.{◌≡◌, ℕ, Bool, true, false, cond, List, [], ◌∷◌, ◌++◌, map, reverse, Some, refl, sym, ap, subst, ◌∙◌, inl, inr, append-nil, append_assoc, rules}
 use Rattle.std.proofs.lemmas.List.{reverse-reverse}
 use Rattle.yq_flow_scalars.specs.Tree.{Node}
 use Rattle.yq_flow_scalars.specs.Paths.{Step}
 use Rattle.yq_meaning.specs.Changes.{Change, replaces, adds, sets_comment, Changed}
-use Rattle.yq_meaning.specs.NodeEdits.{NodeEdit, becomes, line, head, goes, NodeEdits, at_once, same_step, same_path, and_at, done_by}
+use Rattle.yq_meaning.specs.NodeEdits.{NodeEdit, NodeEdits, at_once, same_step, same_path, and_at, done_by}
 use Rattle.yq_meaning.specs.Meaning.{placed_edit, node_edit_of}
 use Rattle.yq_meaning.specs.Operations.{Operation}
 use Rattle.yq_meaning.specs.Plans.{change_ops, ops_of, is_removal, ordered}
@@ -12,22 +12,17 @@ use Rattle.yq_program.specs.Program.{Update, assign, delete, comment}
 use Rattle.yq_flow_scalars.specs.PathOrder.{Before, Apart}
 use Rattle.yq_flow_scalars.specs.Shapes.{IsTree}
 use Rattle.yq_meaning.specs.Changes as changes
-use Rattle.yq_program.specs.declared.program.CommentPlace.TheVariants as comments
 use Rattle.yq_plans.proofs.updates.AtOnce.{one_more}
 use Rattle.yq_meaning.proofs.PathLaws.{bytes_same, parts_not}
 use Rattle.yq_plans.proofs.updates.Spares.{idle, IsSpared, Spares, node_edits_same}
 use Rattle.yq_plans.proofs.updates.OneAt.{roots_after, roots_join, change_after}
 use Rattle.std.proofs.lemmas.Bool.{false≢true, eqb-true, and_parts, cond_both}
-use Rattle.yq_flow_scalars.specs.Paths.{To, Nth}
 use Rattle.yq_plans.proofs.updates.Each.{Each, each_join, each_reverse, each_weaker, reverse-cons}
 
 -- ---- which path is which
 
 step_same : (s t : Step) → same_step s t ≡ true → s ≡ t
-step_same (To k) (To j) h = ap To (bytes_same k j h)
-step_same (To k) (Nth n) h = absurd (false≢true h)
-step_same (Nth m) (To j) h = absurd (false≢true h)
-step_same (Nth m) (Nth n) h = ap Nth (eqb-true m n h)
+step_same s t h1 = search (rules, bytes_same, false≢true, eqb-true)
 
 pub path_same : (p q : List Step) → same_path p q ≡ true → p ≡ q
 path_same [] [] h = refl
@@ -114,16 +109,10 @@ IsSaid changes.removes = ⊥
 IsSaid (sets_comment place text) = Unit {0}
 
 written_kept : (c : Change) → IsWritten c → IsKept c
-written_kept (replaces v) h = tt
-written_kept (adds xs) h = tt
-written_kept changes.removes h = absurd h
-written_kept (sets_comment place text) h = tt
+written_kept c h1 = search rules
 
 said_kept : (c : Change) → IsSaid c → IsKept c
-said_kept (replaces v) h = tt
-said_kept (adds xs) h = tt
-said_kept changes.removes h = absurd h
-said_kept (sets_comment place text) h = tt
+said_kept c h1 = search rules
 
 -- each is of the kind of the update
 abbrev pub IsOf : Update → Change → Type 0
@@ -137,9 +126,7 @@ MayFold true cs = AreGone cs
 MayFold false cs = AreKept cs
 
 pub of_may_fold : (u : Update) (cs : List Changed) → AllAre (IsOf u) cs → MayFold (is_removal u) cs
-of_may_fold (assign left operator right) cs h = each_weaker (λ (c : Changed). IsWritten c.1) (λ c. IsKept c.1) (λ c w. written_kept c.1 w) cs h
-of_may_fold (delete left) cs h = h
-of_may_fold (comment left place text) cs h = each_weaker (λ (c : Changed). IsSaid c.1) (λ c. IsKept c.1) (λ c w. said_kept c.1 w) cs h
+of_may_fold u cs h1 = search (rules, each_weaker, written_kept, said_kept)
 
 -- ---- what is done is the same in any order
 
@@ -177,10 +164,7 @@ module _ (block : Bool) (lead : List (List ℕ)) where
   AreSpared (c ∷ cs) = Spares (node_edits_of cs) c.0 × AreSpared cs
 
   spared_before : (x : NodeEdit) (p q : List Step) → Before p q → IsSpared (Some x) p q
-  spared_before (becomes g) p q h = inl h
-  spared_before (line text) p q h = inl h
-  spared_before (head texts) p q h = inl h
-  spared_before goes p q h = h
+  spared_before x p q h1 = search rules
 
   spared_by : (p : List Step) (x : NodeEdit) (r : List Step) (f : NodeEdits) → IsSpared (Some x) p r → Spares f p → Spares (and_at r x f) p
   spared_by p x r f h k q = cond_both (same_path r q) (Some x) (f q) (λ d. IsSpared d p q) (λ e. subst (IsSpared (Some x) p) (path_same r q e) h) (λ e. k q)
@@ -210,11 +194,7 @@ module _ (block : Bool) (lead : List (List ℕ)) where
       ∙ sym (one_more c.0 (node_edit_of block lead c) (node_edits_of cs) n tree h.0))))))
 
   spared_kept : (c : Changed) → IsKept c.1 → (p : List Step) → Apart p c.0 → IsSpared (Some (node_edit_of block lead c)) p c.0
-  spared_kept (path, replaces v) k p h = h
-  spared_kept (path, adds xs) k p h = h
-  spared_kept (path, changes.removes) k p h = absurd k
-  spared_kept (path, sets_comment comments.Line text) k p h = h
-  spared_kept (path, sets_comment comments.Head text) k p h = h
+  spared_kept c h1 p h2 = search rules
 
   spares_kept : (p : List Step) (cs : List Changed) → AreKept cs → ToEach Apart p cs → Spares (node_edits_of cs) p
   spares_kept p [] k h = λ q. tt

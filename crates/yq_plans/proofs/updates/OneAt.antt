@@ -1,8 +1,7 @@
 -- What operations do, one after the other, is what is done at single places.
-use Rattle.std.proofs.Common.{◌≡◌, ℕ, Bool, true, false, cond, List, [], ◌∷◌, ◌++◌, map, Option, Some, refl, sym, ap, ◌∙◌}
-use Rattle.yq_flow_scalars.specs.Tree as tree
-use Rattle.yq_flow_scalars.specs.Tree.{Label, Node, alias, scalar, list, Children, none, child}
-use Rattle.yq_flow_scalars.specs.Paths.{Step, To, is_here, further, change_child, relabel_child, remove_child, within, change}
+use Rattle.std.proofs.Common.{◌≡◌, ℕ, Bool, true, false, cond, List, [], ◌∷◌, ◌++◌, map, Option, Some, refl, sym, ap, ◌∙◌, rules}
+use Rattle.yq_flow_scalars.specs.Tree.{Label, Node, Children, none, child}
+use Rattle.yq_flow_scalars.specs.Paths.{Step, is_here, further, change_child, relabel_child, remove_child, within, change}
 use Rattle.yq_program.specs.declared.program.CommentPlace.TheVariants as comments
 use Rattle.yq_meaning.specs.After.{root_after}
 use Rattle.yq_meaning.specs.Changes.{Addition, appends, overwrites, replaces, adds, sets_comment, Changed}
@@ -16,22 +15,13 @@ use Rattle.yq_meaning.specs.Changes as changes
 -- ---- changes of one node
 
 within_same : (g h : Children → Children) → ((cs : Children) → g cs ≡ h cs) → (n : Node) → within g n ≡ within h n
-within_same g h same (alias name) = refl
-within_same g h same (scalar anchor kind text) = refl
-within_same g h same (list anchor cs) = ap (list anchor) (same cs)
-within_same g h same (tree.map anchor cs) = ap (tree.map anchor) (same cs)
+within_same g h h1 n = search rules
 
 within_twice : (g h : Children → Children) (n : Node) → within g (within h n) ≡ within (λ cs. g (h cs)) n
-within_twice g h (alias name) = refl
-within_twice g h (scalar anchor kind text) = refl
-within_twice g h (list anchor cs) = refl
-within_twice g h (tree.map anchor cs) = refl
+within_twice g h n = search rules
 
 within_none : (n : Node) → within (λ cs. cs) n ≡ n
-within_none (alias name) = refl
-within_none (scalar anchor kind text) = refl
-within_none (list anchor cs) = refl
-within_none (tree.map anchor cs) = refl
+within_none n = search rules
 
 child_none : (s : Step) (cs : Children) → change_child s (λ n. n) cs ≡ cs
 child_none s none = refl
@@ -131,8 +121,7 @@ led_below block lead (t ∷ p) s v = refl
 
 pub add_after : (block : Bool) (lead : List (List ℕ)) (doc : ℕ) (p : List Step) (x : Addition) (n : Node) → root_after block lead (add_op doc p x) n ≡ change p (within (add_to x)) n
 add_after block lead doc p (appends k v) n = refl
-add_after block lead doc p (overwrites k v) n =
-    ap (λ w. change (p ++ To k ∷ []) (replaced w) n) (led_below block lead p (To k) v) ∙ change_join p (To k ∷ []) (replaced v) n
+add_after block lead doc p (overwrites k v) n = simp (led_below, change_join)
 
 adds_after : (block : Bool) (lead : List (List ℕ)) (doc : ℕ) (p : List Step) (xs : List Addition) (n : Node) → roots_after block lead (map (add_op doc p) xs) n ≡ change p (add_all xs) n
 adds_after block lead doc p [] n = sym (change_none p n)

@@ -1,19 +1,18 @@
 -- Each operation of a plan fits at its turn.
-use Rattle.std.proofs.Common.{◌≡◌, ℕ, suc, Bool, true, false, cond, List, [], ◌∷◌, ◌++◌, length, reverse, Some, refl, sym, ap, subst, ◌∙◌, inl, inr, append_assoc, arith, length-append}
+use Rattle.std.proofs.Common.{◌≡◌, ℕ, suc, Bool, true, false, cond, List, [], ◌∷◌, ◌++◌, length, reverse, Some, refl, sym, ap, subst, ◌∙◌, inl, inr, append_assoc, arith, length-append, rules}
 use Rattle.std.specs.List.{slice_get}
 use Rattle.yq_flow_scalars.specs.Tree.{Node}
 use Rattle.yq_documents.specs.Documents.{Document}
 use Rattle.yq_meaning.specs.declared.refusal.Refusal.TheVariants.{BadCommentText}
 use Rattle.yq_meaning.specs.Judgement.{and_then, gives, refuses}
 use Rattle.yq_meaning.specs.After.{root_after, done_to, after_op, all_after}
-use Rattle.yq_meaning.specs.Changes.{replaces, adds, sets_comment, Changed, Room, created, changes_in, has_comment, changes_from, changes_of}
+use Rattle.yq_meaning.specs.Changes.{Changed, Room, created, changes_in, has_comment, changes_from, changes_of}
 use Rattle.yq_meaning.specs.Fits.{FitsRoot, AllFit}
 use Rattle.yq_meaning.specs.Meaning.{changed_at_once, roots_of, AreReady}
 use Rattle.yq_meaning.specs.Operations.{Operation}
 use Rattle.yq_meaning.specs.Plans.{change_ops, ops_of, is_removal, ordered, all_ops, plan}
 use Rattle.yq_flow_scalars.specs.PathOrder.{Before}
 use Rattle.yq_program.specs.Program.{UpdatesHold, Update}
-use Rattle.yq_meaning.specs.Changes as changes
 use Rattle.yq_plans.proofs.updates.FitsInOrder.{AllFitRoot, all_fit, AreFit}
 use Rattle.yq_plans.proofs.updates.Folds.{InPairs, IsGone, AreGone, MayFold}
 use Rattle.yq_plans.proofs.updates.RootLeads.{document_after, document_folds, AllKeepSome, op_any_lead, PutsOrKeeps, puts_or_keeps, KeepsSome}
@@ -39,10 +38,7 @@ leave_any : (block : Bool) (ops : List Operation) → AllKeepSome ops → AllAny
 leave_any block ops l = each_weaker KeepsSome (AnyLead block) (λ op one lead other n. op_any_lead block lead other op one n) ops l
 
 gone_any : (block : Bool) (doc : ℕ) (c : Changed) → IsGone c.1 → AllAnyLead block (change_ops doc c)
-gone_any block doc (p, replaces v) g = absurd g
-gone_any block doc (p, adds xs) g = absurd g
-gone_any block doc (p, changes.removes) g = ((λ lead other n. refl), tt)
-gone_any block doc (p, sets_comment place text) g = absurd g
+gone_any block doc c h1 = search rules
 
 all_gone_any : (block : Bool) (doc : ℕ) (cs : List Changed) → AreGone cs → AllAnyLead block (ops_of doc cs)
 all_gone_any block doc cs g = each_op doc (λ (c : Changed). IsGone c.1) (AnyLead block) (gone_any block doc) cs g
@@ -91,8 +87,7 @@ from_fits u rooms n (d ∷ ds) front css is ready pure good h =
     let ops : List Operation = ops_of n (ordered (is_removal u) one.0) in
     let new : Document = changed_at_once (rooms n).block one.0 d in
     let are_of : AreOf (length front) ops = subst (λ (m : ℕ). AreOf m ops) (sym is) (ops_are_of n (ordered (is_removal u) one.0)) in
-    let created : document_after (rooms n).block ops d ≡ new =
-    document_folds (rooms n).block n d ready.0.1 ready.0.0 (is_removal u) one.0 order.0 order.1 (λ removal. removal_first u n (rooms n) d.root one.0 removal ready.0.0 one.1) in
+    let created : document_after (rooms n).block ops d ≡ new = search (rules, document_folds, removal_first, one, order) in
     let at : all_after rooms ops (front ++ d ∷ ds) ≡ (front ++ new ∷ []) ++ ds =
     all_after_at rooms ops front d ds are_of
     ∙ (ap (λ (m : ℕ). front ++ document_after (rooms m).block ops d ∷ ds) is ∙ (ap (λ (e : Document). front ++ e ∷ ds) created ∙ sym (append_assoc front (new ∷ []) ds))) in

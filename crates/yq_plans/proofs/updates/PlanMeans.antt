@@ -1,5 +1,5 @@
 -- What is planned leads to what is meant.
-use Rattle.std.proofs.Common.{◌≡◌, ℕ, suc, Bool, true, false, cond, List, [], ◌∷◌, ◌++◌, length, map, refl, sym, ap, subst, ◌∙◌, append_assoc, arith, length-append}
+use Rattle.std.proofs.Common.{◌≡◌, ℕ, suc, Bool, true, false, cond, List, [], ◌∷◌, ◌++◌, length, map, refl, sym, ap, subst, ◌∙◌, append_assoc, arith, length-append, rules}
 use Rattle.yq_flow_scalars.specs.Paths as paths
 use Rattle.yq_documents.specs.Documents.{Document}
 use Rattle.yq_program.specs.declared.program.CommentPlace.TheVariants as comments
@@ -69,11 +69,8 @@ from_means u rooms n (d ∷ ds) front css is ready h =
     let order : AreOrdered (is_removal u) one.0 = update_ordered u n (rooms n) d.root one.0 ready.0.0 one.1 in
     let ops : List Operation = ops_of n (ordered (is_removal u) one.0) in
     let new : Document = changed_at_once (rooms n).block one.0 d in
-    let created : document_after (rooms n).block ops d ≡ new =
-    document_folds (rooms n).block n d ready.0.1 ready.0.0 (is_removal u) one.0 order.0 order.1 (λ removal. removal_first u n (rooms n) d.root one.0 removal ready.0.0 one.1) in
-    let at : all_after rooms ops (front ++ d ∷ ds) ≡ front ++ new ∷ ds =
-    all_after_at rooms ops front d ds (subst (λ (m : ℕ). AreOf m ops) (sym is) (ops_are_of n (ordered (is_removal u) one.0)))
-    ∙ (ap (λ (m : ℕ). front ++ document_after (rooms m).block ops d ∷ ds) is ∙ ap (λ (e : Document). front ++ e ∷ ds) created) in
+    let created : document_after (rooms n).block ops d ≡ new = search (rules, document_folds, removal_first, one, order) in
+    let at : all_after rooms ops (front ++ d ∷ ds) ≡ front ++ new ∷ ds = search (rules, all_after_at, ops_are_of, document_after, ops, one, created) in
     let longer : length (front ++ new ∷ []) ≡ suc n = length-append front (new ∷ []) ∙ (omega (arith, is)) in
     subst (λ (xs : List (List Changed)). all_after rooms (all_ops (is_removal u) n xs) (front ++ d ∷ ds) ≡ front ++ all_changed rooms n xs (d ∷ ds)) (gives_same two.2)
     (after_join rooms ops (all_ops (is_removal u) (suc n) two.0) (front ++ d ∷ ds)

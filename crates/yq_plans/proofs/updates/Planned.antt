@@ -1,22 +1,21 @@
 -- What an update changes stands in order.
-use Rattle.std.proofs.Common.{◌≡◌, ◌≢◌, ℕ, Bool, true, false, cond, ◌&&◌, List, [], ◌∷◌, ◌++◌, length, None, refl, sym, ap, subst, ◌∙◌}
-use Rattle.std.specs.List.{list_any}
+use Rattle.std.proofs.Common.{◌≡◌, ◌≢◌, ℕ, Bool, true, false, cond, ◌&&◌, List, [], ◌∷◌, ◌++◌, refl, sym, ap, subst, ◌∙◌, rules}
 use Rattle.yq_flow_scalars.specs.Tree as tree
-use Rattle.yq_flow_scalars.specs.Tree.{Node, alias, scalar, list, Children, none, child, children_of}
+use Rattle.yq_flow_scalars.specs.Tree.{Node, Children, none, child, children_of}
 use Rattle.yq_flow_scalars.specs.Paths as paths
 use Rattle.yq_program.specs.declared.program.CommentPlace.{CommentPlace}
 use Rattle.yq_program.specs.declared.program.Operator.TheVariants as operator
-use Rattle.yq_meaning.specs.declared.refusal.Refusal.TheVariants.{IndexOutOfRange, NoPlaceForComment, AnchorInUse, TooDeep, KeyTooLong}
+use Rattle.yq_meaning.specs.declared.refusal.Refusal.TheVariants.{NoPlaceForComment}
 use Rattle.yq_meaning.specs.Judgement.{Judgement, and_then, gives, refuses}
-use Rattle.yq_program.specs.Program.{is_index, Step, Term, Update, assign, delete, comment}
-use Rattle.yq_meaning.specs.Changes.{Change, replaces, sets_comment, Changed, Room, created, put_below, put_at, added_entries, added, add_below, add_at, remove_below, remove_at, is_there, comment_at, is_too_long, is_too_deep}
-use Rattle.yq_meaning.specs.Changes.{takes_used, allowed, all_allowed, at_each, with_value, changes_at, left_of, changes_in}
+use Rattle.yq_program.specs.Program.{Step, Term, Update, assign, delete, comment}
+use Rattle.yq_meaning.specs.Changes.{Change, sets_comment, Changed, Room, created, put_below, put_at, added_entries, added, add_below, add_at, remove_below, remove_at, is_there, comment_at}
+use Rattle.yq_meaning.specs.Changes.{allowed, all_allowed, at_each, with_value, changes_at, left_of, changes_in}
 use Rattle.yq_meaning.specs.NodeEdits.{step_to}
 use Rattle.yq_meaning.specs.Pipes.{places}
 use Rattle.yq_meaning.specs.Places.{Place, root_place, for_each}
 use Rattle.yq_meaning.specs.PlacesApart.{IsBeforeAll, AreApart}
 use Rattle.yq_meaning.specs.Plans.{is_removal}
-use Rattle.yq_meaning.specs.RightValues.{is_null, sum, right_value}
+use Rattle.yq_meaning.specs.RightValues.{is_null, right_value}
 use Rattle.yq_flow_scalars.specs.PathOrder.{Before}
 use Rattle.yq_flow_scalars.specs.Shapes.{IsTree}
 use Rattle.yq_plans.proofs.updates.Folds.{ToEach, InPairs, AllAre, IsGone, IsWritten, IsSaid, IsOf, MayFold, of_may_fold}
@@ -37,26 +36,16 @@ abbrev FromPlace : (Change → Type 0) → Place → List Changed → Type 0
 FromPlace P p cs = AtOne p.path cs × AllAre P cs
 
 one_before : (x p : List paths.Step) (cs : List Changed) → Before x p → AtOne p cs → ToEach Before x cs
-one_before x p [] h k = tt
-one_before x p (c ∷ []) h k = (subst (Before x) (sym k) h, tt)
-one_before x p (c ∷ (d ∷ ds)) h k = absurd k
+one_before x p cs h1 h2 = search rules
 
 one_pairs : (p : List paths.Step) (cs ds : List Changed) → AtOne p cs → ToEach Before p ds → InPairs Before ds → InPairs Before (cs ++ ds)
-one_pairs p [] ds k h q = q
-one_pairs p (c ∷ []) ds k h q = (subst (λ (x : List paths.Step). ToEach Before x ds) (sym k) h, q)
-one_pairs p (c ∷ (d ∷ more)) ds k h q = absurd k
+one_pairs p cs ds h1 h2 h3 = search rules
 
 -- ---- at several places
 
 -- what is allowed is the change itself
 allowed_same : (root : Node) (c d : Changed) → allowed root c ≡ gives d → c ≡ d
-allowed_same root c d h = go (is_too_long c.1) (is_too_deep (length c.0) c.1) (takes_used root c.0 c.1) h
-  where
-    go : (x y z : Bool) → cond x (refuses KeyTooLong) (cond y (refuses TooDeep) (cond z (refuses AnchorInUse) (gives c))) ≡ gives d → c ≡ d
-    go true y z e = absurd (cc)
-    go false true z e = absurd (cc)
-    go false false true e = absurd (cc)
-    go false false false e = gives_same e
+allowed_same root c d h = search (rules, gives_same)
 
 all_same : (root : Node) (cs ds : List Changed) → all_allowed root cs ≡ gives ds → cs ≡ ds
 all_same root [] ds h = gives_same h
@@ -98,18 +87,10 @@ single : (P : Change → Type 0) (p : Place) (c : Change) (cs : List Changed) �
 single P p c cs k h = subst (FromPlace P p) (gives_same h) (refl, (k, tt))
 
 created_written : (n : Node) (m : Step) (ms : List Step) (v : Node) → IsWritten (created n m ms v)
-created_written (alias name) m ms v = tt
-created_written (scalar anchor kind text) m ms v = tt
-created_written (list anchor cs) m ms v = tt
-created_written (tree.map anchor cs) m ms v = tt
+created_written n m ms v = search rules
 
 put_written : (n : Node) (missing : List Step) (v : Node) (c : Change) → put_below n missing v ≡ gives c → IsWritten c
-put_written n [] v c h = subst IsWritten (gives_same h) tt
-put_written n (m ∷ ms) v c h = go (list_any is_index (m ∷ ms)) h
-  where
-    go : (b : Bool) → cond b (refuses IndexOutOfRange) (gives (created n m ms v)) ≡ gives c → IsWritten c
-    go true e = absurd (cc)
-    go false e = subst IsWritten (gives_same e) (created_written n m ms v)
+put_written n missing v c h1 = search (rules, gives_same, created_written)
 
 put_so : (v : Node) → IsSo IsWritten (λ p. put_at p v)
 put_so v p cs h =
@@ -120,17 +101,10 @@ modify_so : (doc : ℕ) (right : List Term) → IsSo IsWritten (λ p. and_then (
 modify_so doc right p cs h = let x = then_gives (put_at p) (right_value doc right p) cs h in put_so x.0 p cs x.2
 
 entries_written : (cs : Children) (v : Node) (c : Change) → added_entries cs v ≡ gives c → IsWritten c
-entries_written cs (alias name) c h = absurd (cc)
-entries_written cs (scalar anchor kind text) c h = absurd (cc)
-entries_written cs (list anchor ds) c h = absurd (cc)
-entries_written cs (tree.map anchor ds) c h = subst IsWritten (gives_same h) tt
+entries_written cs v c h1 = search (rules, gives_same)
 
 added_written : (n v : Node) (c : Change) → added n v ≡ gives c → IsWritten c
-added_written (alias name) v c h = absurd (cc)
-added_written (scalar anchor kind text) v c h =
-    let x = then_gives (λ (w : Node). gives (replaces w)) (sum (scalar None kind text) v) c h in subst IsWritten (gives_same x.2) tt
-added_written (list anchor cs) v c h = subst IsWritten (gives_same h) tt
-added_written (tree.map anchor cs) v c h = entries_written cs v c h
+added_written n v c h1 = search (rules, then_gives, gives_same, entries_written)
 
 add_so : (v : Node) → IsSo IsWritten (λ p. add_at p v)
 add_so v p cs h = go (is_null v) h
@@ -194,14 +168,10 @@ none_later s [] h = tt
 none_later s (c ∷ cs) h = h.1
 
 one_none : (s : paths.Step) (p : List paths.Step) (cs : List Changed) → p ≢ s ∷ [] → AtOne p cs → NoneAt s cs
-one_none s p [] d h = tt
-one_none s p (c ∷ []) d h = ((λ e. d (sym h ∙ e)), tt)
-one_none s p (c ∷ (e ∷ es)) d h = absurd h
+one_none s p cs h1 h2 = search rules
 
 one_later : (s : paths.Step) (p : List paths.Step) (cs ds : List Changed) → AtOne p cs → NoneAt s ds → NoneLater s (cs ++ ds)
-one_later s p [] ds h k = none_later s ds k
-one_later s p (c ∷ []) ds h k = k
-one_later s p (c ∷ (e ∷ es)) ds h k = absurd h
+one_later s p cs ds h1 h2 = search (rules, none_later)
 
 each_none : (P : Change → Type 0) (f : Place → Judgement (List Changed)) → IsSo P f → (s : paths.Step) (ps : List Place) (cs : List Changed) → NoPlaceAt s ps → for_each f ps ≡ gives cs → NoneAt s cs
 each_none P f so s ps cs n h = each_given (NoPlaceAt s) (λ (c : Changed). c.0 ≢ s ∷ []) f (λ p more none. ((λ ds e. one_none s p.path ds none.0 (so p ds e).0), none.1)) ps cs n h

@@ -1,9 +1,9 @@
 -- The room that the operations of a plan ask for lasts.
-use Rattle.std.proofs.Common.{◌≡◌, ◌<◌, ◌⊎◌, ℕ, suc, Bool, true, false, cond, List, [], ◌∷◌, ◌++◌, map, reverse, option_and_then, Some, refl, sym, subst, ◌∙◌, inl, inr, arith}
+use Rattle.std.proofs.Common.{◌≡◌, ◌<◌, ◌⊎◌, ℕ, suc, Bool, true, false, cond, List, [], ◌∷◌, ◌++◌, map, option_and_then, Some, refl, sym, subst, ◌∙◌, inl, inr, arith, rules}
 use Rattle.std.proofs.lemmas.Option.{same_Some}
 use Rattle.yq_flow_scalars.specs.PathOrder.{Before}
-use Rattle.yq_flow_scalars.specs.Paths.{Step, child_at, node_at}
-use Rattle.yq_flow_scalars.specs.Tree.{Node, Children, none, child, children_of}
+use Rattle.yq_flow_scalars.specs.Paths.{Step, node_at}
+use Rattle.yq_flow_scalars.specs.Tree.{Node, children_of}
 use Rattle.yq_documents.specs.Documents.{Document}
 use Rattle.yq_program.specs.declared.program.CommentPlace.TheVariants as comments
 use Rattle.yq_meaning.specs.declared.refusal.Refusal.TheVariants.{BadCommentText}
@@ -18,7 +18,7 @@ use Rattle.yq_meaning.specs.Plans.{add_op, ops_of, is_removal, ordered, all_ops,
 use Rattle.yq_program.specs.Program.{UpdatesHold, Update, assign, delete, comment}
 use Rattle.yq_meaning.specs.RoomsKept.{HasSome, KeepsBlock, KeepsBlockIn, NoneOn, BlockLasts, SetComments, SetNoComment, RoomsLast, MayFollow}
 use Rattle.yq_meaning.proofs.JudgementLaws.{then_gives, gives_same}
-use Rattle.yq_plans.proofs.updates.Folds.{InPairs, AllAre, AreGone, IsWritten, IsSaid, IsOf, MayFold, of_may_fold, IsGone}
+use Rattle.yq_plans.proofs.updates.Folds.{InPairs, AllAre, AreGone, IsWritten, IsSaid, IsOf, MayFold, of_may_fold}
 use Rattle.yq_plans.proofs.updates.Planned.{update_kind}
 use Rattle.yq_plans.proofs.updates.PlanFits.{plan_fits}
 use Rattle.yq_plans.proofs.updates.PlanMeans.{AreOf, ops_are_of}
@@ -28,11 +28,7 @@ use Rattle.yq_plans.proofs.updates.Each.{each_reverse}
 -- ---- by turns
 
 some_keeps_block : (op : Operation) → KeepsSome op → (root : Node) → KeepsBlock op root
-some_keeps_block (replace doc path v) l root = subst IsBelow (sym l.2) tt
-some_keeps_block (append doc path k v) l root = tt
-some_keeps_block (remove doc path) l root = absurd l
-some_keeps_block (line_comment doc path text) l root = tt
-some_keeps_block (head_comment doc path text) l root = tt
+some_keeps_block op h1 root = search rules
 
 -- an operation removes something, and the next one does too, in the same document
 abbrev RemovesMore : Operation → List Operation → Type 0
@@ -49,22 +45,10 @@ KeepBlocks (op ∷ ops) = (KeepsSome op ⊎ (NoneOn (document_of op) ops ⊎ Rem
 
 -- where a path leads below a root, there are items or entries
 some_below : (path : List Step) (root n : Node) → IsBelow path → node_at path root ≡ Some n → HasSome (children_of root)
-some_below [] root n b h = absurd b
-some_below (s ∷ path) root n b h = go (children_of root) h
-  where
-    go : (cs : Children) → option_and_then (node_at path) (child_at s cs) ≡ Some n → HasSome cs
-    go none e = absurd (cc)
-    go (child label m cs) e = tt
+some_below path root n h1 h2 = search (rules, option_and_then)
 
 removes_keeps : (rooms : ℕ → Room) (op : Operation) (ops : List Operation) (docs : List Document) → RemovesMore op ops → AllFit rooms ops docs → KeepsBlockIn op docs
-removes_keeps rooms (replace doc path v) ops docs r f = absurd r
-removes_keeps rooms (append doc path k v) ops docs r f = absurd r
-removes_keeps rooms (remove doc path) ops docs r f = go (subst (λ (os : List Operation). AllFit rooms os docs) r.2 f)
-  where
-    go : AllFit rooms (remove doc r.0 ∷ r.1) docs → KeepsBlockIn (remove doc path) docs
-    go (fits, rest) e at = subst (λ (x : Document). HasSome (children_of x.root)) (same_Some _ _ (sym fits.1 ∙ at)) (some_below r.0 fits.0.root fits.2.1.0 fits.2.0 fits.2.1.1)
-removes_keeps rooms (line_comment doc path text) ops docs r f = absurd r
-removes_keeps rooms (head_comment doc path text) ops docs r f = absurd r
+removes_keeps rooms op ops docs h1 h2 = search (rules, same_Some, some_below)
 
 keep_last : (rooms : ℕ → Room) (ops : List Operation) (docs : List Document) → KeepBlocks ops → AllFit rooms ops docs → BlockLasts rooms ops docs
 keep_last rooms [] docs t f = tt
@@ -110,11 +94,7 @@ keep_gone n ((p, changes.removes) ∷ ((q, sets_comment place text) ∷ cs)) oth
 keep_gone n ((p, sets_comment place text) ∷ cs) others g away t = absurd g.0
 
 document_keep : (removal : Bool) (n : ℕ) (cs : List Changed) (others : List Operation) → InPairs Before cs → MayFold removal cs → NoneOn n others → KeepBlocks others → KeepBlocks (ops_of n (ordered removal cs) ++ others)
-document_keep true n cs others order g away t = keep_gone n (reverse cs) others (each_reverse (λ (c : Changed). IsGone c.1) cs g) away t
-document_keep false n cs others order k away t = elim (puts_or_keeps n cs order k) [
-  | inl x ↦ subst (λ (xs : List Changed). KeepBlocks (ops_of n xs ++ others)) (sym x.1) (inr (inl away), t)
-  | inr l ↦ keep_leave (ops_of n cs) others l t
-]
+document_keep removal n cs others h1 h2 h3 h4 = search (rules, keep_gone, each_reverse, puts_or_keeps, keep_leave)
 
 -- ---- which set comments
 
@@ -160,19 +140,13 @@ Say (delete left) ops = SetNoComment ops
 Say (comment left place text) ops = SetComments ops
 
 say_none : (u : Update) → Say u []
-say_none (assign left operator right) = tt
-say_none (delete left) = tt
-say_none (comment left place text) = tt
+say_none u = search rules
 
 say_join : (u : Update) (n : ℕ) (cs : List Changed) (others : List Operation) → AllAre (IsOf u) cs → Say u others → Say u (ops_of n (ordered (is_removal u) cs) ++ others)
-say_join (assign left operator right) n cs others h k = no_join (ops_of n cs) others (written_no n cs h) k
-say_join (delete left) n cs others h k = no_join (ops_of n (reverse cs)) others (gone_no n (reverse cs) (each_reverse (λ (c : Changed). IsGone c.1) cs h)) k
-say_join (comment left place text) n cs others h k = set_join (ops_of n cs) others (said_set n cs h) k
+say_join u n cs others h1 h2 = search (rules, no_join, written_no, gone_no, each_reverse, set_join, said_set)
 
 say_alone : (u : Update) (ops : List Operation) → Say u ops → SetComments ops ⊎ SetNoComment ops
-say_alone (assign left operator right) ops h = inr h
-say_alone (delete left) ops h = inr h
-say_alone (comment left place text) ops h = inl h
+say_alone u ops h1 = search rules
 
 -- ---- the operations of an update
 

@@ -1,15 +1,15 @@
 -- Operations on a document, one after the other: the root, and the lead.
-use Rattle.std.proofs.Common.{◌≡◌, ◌≢◌, ℕ, ◌⊎◌, Bool, true, false, List, [], ◌∷◌, ◌++◌, map, reverse, Option, Some, None, refl, sym, ap, subst, ◌∙◌, inl, inr, append-nil}
+use Rattle.std.proofs.Common.{◌≡◌, ◌≢◌, ℕ, ◌⊎◌, Bool, true, List, [], ◌∷◌, ◌++◌, map, reverse, Some, None, refl, sym, ap, ◌∙◌, inl, inr, append-nil, rules}
 use Rattle.std.proofs.lemmas.Bool.{cond_both}
 use mathlib.Core.List.{nil≢cons}
 use Rattle.yq_flow_scalars.specs.Tree as tree
-use Rattle.yq_flow_scalars.specs.Tree.{Label, Node, alias, scalar, list, Children, none, child, children_of}
+use Rattle.yq_flow_scalars.specs.Tree.{Label, Node, Children, none, child, children_of}
 use Rattle.yq_flow_scalars.specs.Paths.{Step, To, is_here, further, change_child, relabel_child, append_child, within, change}
 use Rattle.yq_documents.specs.Documents.{Document}
 use Rattle.yq_program.specs.declared.program.CommentPlace.TheVariants as comments
 use Rattle.yq_meaning.specs.After.{root_after, done_to}
 use Rattle.yq_meaning.specs.Changes.{Addition, appends, overwrites, replaces, adds, sets_comment, Changed}
-use Rattle.yq_meaning.specs.NodeEdits.{NodeEdit, NodeEdits, same_path, step_to, done_at, child_by, under, inside, each_at_once, at_once}
+use Rattle.yq_meaning.specs.NodeEdits.{NodeEdits, same_path, step_to, each_at_once, at_once}
 use Rattle.yq_meaning.specs.Meaning.{head_of, line_of, node_edit_of, changed_at_once, IsLed}
 use Rattle.yq_meaning.specs.Operations.{Operation, replace, append, remove, line_comment, head_comment}
 use Rattle.yq_meaning.specs.Plans.{add_op, change_ops, ops_of, ordered}
@@ -51,10 +51,7 @@ abbrev pub AllKeepSome : List Operation → Type 0
 AllKeepSome ops = Each KeepsSome ops
 
 within_keeps : (g : Children → Children) → ((cs : Children) → IsNone (g cs) → IsNone cs) → (n : Node) → IsNone (children_of (within g n)) → IsNone (children_of n)
-within_keeps g so (alias name) h = tt
-within_keeps g so (scalar anchor kind text) h = tt
-within_keeps g so (list anchor cs) h = so cs h
-within_keeps g so (tree.map anchor cs) h = so cs h
+within_keeps g h1 n h2 = search rules
 
 change_keeps : (s : Step) (f : Node → Node) (cs : Children) → IsNone (change_child s f cs) → IsNone cs
 change_keeps s f none h = tt
@@ -91,11 +88,7 @@ led_under block lead other [] v l = absurd (nil≢cons l.2)
 led_under block lead other (s ∷ p) v l = refl
 
 pub op_any_lead : (block : Bool) (lead other : List (List ℕ)) (op : Operation) → KeepsSome op → (n : Node) → root_after block lead op n ≡ root_after block other op n
-op_any_lead block lead other (replace doc path v) l n = ap (λ w. change path (replaced w) n) (led_under block lead other path v l)
-op_any_lead block lead other (append doc path k v) l n = refl
-op_any_lead block lead other (remove doc path) l n = refl
-op_any_lead block lead other (line_comment doc path text) l n = refl
-op_any_lead block lead other (head_comment doc path text) l n = refl
+op_any_lead block lead other op h1 n = search (rules, led_under)
 
 ops_any_lead : (block : Bool) (lead other : List (List ℕ)) (ops : List Operation) → AllKeepSome ops → (n : Node) → roots_after block lead ops n ≡ roots_after block other ops n
 ops_any_lead block lead other [] l n = refl
@@ -103,10 +96,7 @@ ops_any_lead block lead other (op ∷ ops) l n = ap (roots_after block lead ops)
 
 -- a lead by one tree and then by another
 lead_twice : (block : Bool) (cs ds : Children) (lead : List (List ℕ)) → (IsNone ds → IsNone cs) → lead_by block ds (lead_by block cs lead) ≡ lead_by block ds lead
-lead_twice true cs (child label n ds) lead so = refl
-lead_twice true none none lead so = refl
-lead_twice true (child label n cs) none lead so = absurd (so tt)
-lead_twice false cs ds lead so = refl
+lead_twice block cs ds lead h1 = search rules
 
 leaving : (block : Bool) (ops : List Operation) → AllKeepSome ops → (d : Document) → IsLed block d → document_after block ops d ≡ with_tree block (roots_after block d.lead ops d.root) d
 leaving block [] l d is = ap (λ (lead : List (List ℕ)). record d { lead = lead }) (sym is)
@@ -169,10 +159,7 @@ puts_or_keeps doc (c ∷ (d ∷ ds)) h k =
 
 kept_document : (block : Bool) (doc : ℕ) (cs : List Changed) (d : Document) → IsLed block d → InPairs Before cs → AreKept cs →
     document_after block (ops_of doc cs) d ≡ with_tree block (roots_after block d.lead (ops_of doc cs) d.root) d
-kept_document block doc cs d is h k = elim (puts_or_keeps doc cs h k) [
-  | inl x ↦ subst (λ (xs : List Changed). document_after block (ops_of doc xs) d ≡ with_tree block (roots_after block d.lead (ops_of doc xs) d.root) d) (sym x.1) refl
-  | inr l ↦ leaving block (ops_of doc cs) l d is
-]
+kept_document block doc cs d is h k = search (rules, puts_or_keeps, roots_after, leaving)
 
 -- ---- where entries or items are removed
 
@@ -200,23 +187,10 @@ FirstFree f (child label n cs) = f (step_to 0 label ∷ []) ≡ None
 
 -- the lead that one tree gives is that of another which has the same first item or entry
 lead_kept : (block : Bool) (f : NodeEdits) (lead : List (List ℕ)) (cs ds : Children) → FirstFree f cs → ds ≡ each_at_once f 0 cs → lead_by block ds lead ≡ lead_by block cs lead
-lead_kept block f lead none ds h is = ap (λ k. lead_by block k lead) is
-lead_kept block f lead (child label n cs) ds h is =
-    ap (λ k. lead_by block k lead) is
-    ∙ (ap (λ (d : Option NodeEdit). lead_by block (child_by d label (done_at d n (inside (under (step_to 0 label) f) n)) (each_at_once f 1 cs)) lead) h ∙ same block)
-  where
-    same : (b : Bool) → lead_by b (child label (inside (under (step_to 0 label) f) n) (each_at_once f 1 cs)) lead ≡ lead_by b (child label n cs) lead
-    same true = refl
-    same false = refl
+lead_kept block f lead cs ds h1 h2 = search rules
 
 root_kept : (block : Bool) (f : NodeEdits) (lead : List (List ℕ)) (root : Node) → f [] ≡ None → FirstFree f (children_of root) → lead_by block (children_of (at_once f root)) lead ≡ lead_by block (children_of root) lead
-root_kept block f lead root free h = ap (λ (d : Option NodeEdit). lead_by block (children_of (done_at d root (inside f root))) lead) free ∙ go root h
-  where
-    go : (n : Node) → FirstFree f (children_of n) → lead_by block (children_of (inside f n)) lead ≡ lead_by block (children_of n) lead
-    go (alias name) h = refl
-    go (scalar anchor kind text) h = refl
-    go (list anchor cs) h = lead_kept block f lead cs (each_at_once f 0 cs) h refl
-    go (tree.map anchor cs) h = lead_kept block f lead cs (each_at_once f 0 cs) h refl
+root_kept block f lead root free h = search (rules, lead_kept)
 
 module _ (block : Bool) (doc : ℕ) (d : Document) (is : IsLed block d) (tree : IsTree d.root) where
   -- nothing is done at a path at which there is no change
@@ -230,16 +204,11 @@ module _ (block : Bool) (doc : ℕ) (d : Document) (is : IsLed block d) (tree : 
   first_free (child label n ds) c cs h = not_done (step_to 0 label) cs h
 
   first_rest : (kids : Children) (c : Changed) (cs : List Changed) → FirstIn kids (c ∷ cs) → FirstIn kids cs
-  first_rest none c cs h = tt
-  first_rest (child label n ds) c [] h = tt
-  first_rest (child label n ds) c (e ∷ es) h = h.1
+  first_rest kids c cs h1 = search rules
 
   gone_ops : (c : Changed) (lead : List (List ℕ)) → IsGone c.1 → (n : Node) → document_after block (change_ops doc c)
       (record { lead = lead; root = n }) ≡ record { lead = lead_by block (children_of (roots_after block lead (change_ops doc c) n)) lead; root = roots_after block lead (change_ops doc c) n }
-  gone_ops (p, replaces v) lead g n = absurd g
-  gone_ops (p, adds xs) lead g n = absurd g
-  gone_ops (p, changes.removes) lead g n = refl
-  gone_ops (p, sets_comment place text) lead g n = absurd g
+  gone_ops c lead h1 n = search rules
 
   removed_document : (cs : List Changed) → InPairs Before cs → AreGone cs → IsFirst d.root cs → document_after block (ops_of doc (reverse cs)) d ≡ changed_at_once block cs d
   removed_document [] h g f =
@@ -262,6 +231,4 @@ module _ (block : Bool) (doc : ℕ) (d : Document) (is : IsLed block d) (tree : 
 
   -- the operations of changes, one after the other, make all of them in a document
   pub document_folds : (removal : Bool) (cs : List Changed) → InPairs Before cs → MayFold removal cs → (removal ≡ true → IsFirst d.root cs) → document_after block (ops_of doc (ordered removal cs)) d ≡ changed_at_once block cs d
-  document_folds true cs h k f = removed_document cs h k (f refl)
-  document_folds false cs h k f =
-      kept_document block doc cs d is h k ∙ ap (λ (n : Node). with_tree block n d) (folds block d.lead doc d.root tree false cs h k)
+  document_folds removal cs h1 h2 h3 = search (rules, removed_document, kept_document, folds)

@@ -1,5 +1,5 @@
 -- What is done spares a path: it is apart from it, and what goes stands behind.
-use Rattle.std.proofs.Common.{◌≡◌, ℕ, suc, ◌<◌, List, [], ◌∷◌, Option, Some, None, refl, ap, ◌∙◌, inl, inr}
+use Rattle.std.proofs.Common.{◌≡◌, ℕ, suc, ◌<◌, List, [], ◌∷◌, Option, Some, None, refl, ap, ◌∙◌, inl, inr, rules}
 use Rattle.yq_flow_scalars.specs.Tree.{Label, Node, alias, scalar, list, Children, none, child, map}
 use Rattle.yq_flow_scalars.specs.Paths.{Nth, Step}
 use Rattle.yq_meaning.specs.NodeEdits.{step_to, NodeEdit, becomes, line, head, goes, NodeEdits, under, done_at, child_by, inside, each_at_once, at_once}
@@ -32,17 +32,10 @@ abbrev pub Spares : NodeEdits → List Step → Type 0
 Spares f p = (q : List Step) → IsSpared (f q) p q
 
 spared_apart : (x : NodeEdit) (p q : List Step) → IsSpared (Some x) p q → Apart p q
-spared_apart (becomes g) p q h = h
-spared_apart (line text) p q h = h
-spared_apart (head texts) p q h = h
-spared_apart goes p q h = inl h
+spared_apart x p q h1 = search rules
 
 spared_under : (s : Step) (p q : List Step) (d : Option NodeEdit) → IsSpared d (s ∷ p) (s ∷ q) → IsSpared d p q
-spared_under s p q None h = tt
-spared_under s p q (Some (becomes g)) h = apart_under s p q h
-spared_under s p q (Some (line text)) h = apart_under s p q h
-spared_under s p q (Some (head texts)) h = apart_under s p q h
-spared_under s p q (Some goes) h = before_under s p q h
+spared_under s p q d h1 = search (rules, apart_under, before_under)
 
 pub spares_under : (f : NodeEdits) (s : Step) (p : List Step) → Spares f (s ∷ p) → Spares (under s f) p
 spares_under f s p h q = spared_under s p q (f (s ∷ q)) (h (s ∷ q))

@@ -1,17 +1,15 @@
 -- From a place by a step.
-use Rattle.std.proofs.Common.{◌≡◌, ℕ, List, [], ◌∷◌, map, Option, Some, None, option_map, refl, sym, ap, subst, ◌∙◌, inl, inr}
+use Rattle.std.proofs.Common.{◌≡◌, ℕ, List, [], ◌∷◌, map, Option, Some, None, option_map, refl, sym, ap, subst, ◌∙◌, rules}
 use Rattle.std.proofs.lemmas.Option.{none-some, same_Some}
 use Rattle.std.specs.Prelude.{ℤ}
 use Rattle.yq_flow_scalars.specs.declared.kind.Kind.{Kind}
-use Rattle.yq_flow_scalars.specs.declared.kind.Kind.TheVariants as kinds
 use Rattle.yq_flow_scalars.specs.Tree as tree
-use Rattle.yq_flow_scalars.specs.Tree.{Node, alias, scalar, list, child, children_of}
+use Rattle.yq_flow_scalars.specs.Tree.{Node, children_of}
 use Rattle.yq_flow_scalars.specs.Paths as paths
-use Rattle.yq_flow_scalars.specs.Paths.{To, Nth, child_at}
+use Rattle.yq_flow_scalars.specs.Paths.{child_at}
 use Rattle.yq_meaning.specs.declared.refusal.Refusal.{Refusal}
-use Rattle.yq_meaning.specs.declared.refusal.Refusal.TheVariants.{NotAMap, NotASequence}
 use Rattle.yq_meaning.specs.Judgement.{Judgement, and_then, gives}
-use Rattle.yq_meaning.specs.Matching.{ChildFound, find, in_scalar, key_step, item_number, index_step}
+use Rattle.yq_meaning.specs.Matching.{ChildFound, find, in_scalar, key_step, index_step}
 use Rattle.yq_program.specs.Program.{Step, key, index, each}
 use Rattle.yq_meaning.specs.Places.{Place, child_place, found_place, all_steps, step_there, step_from, step_on}
 use Rattle.yq_meaning.specs.PlacesApart.{IsIn}
@@ -25,11 +23,7 @@ abbrev IsFound : Node → Judgement ChildFound → Type 0
 IsFound n j = (x : ChildFound) → j ≡ gives x → (y : paths.Step × Node) → x ≡ Some y → child_at y.0 (children_of n) ≡ Some y.1
 
 found_scalar : (why : Refusal) (kind : Kind) (n : Node) → IsFound n (in_scalar why kind)
-found_scalar why kinds.Null n x e y is = absurd (none-some _ (gives_same e ∙ is))
-found_scalar why kinds.Bool n x e y is = absurd (cc)
-found_scalar why kinds.Int n x e y is = absurd (cc)
-found_scalar why kinds.Float n x e y is = absurd (cc)
-found_scalar why kinds.Text n x e y is = absurd (cc)
+found_scalar why kind n = search (rules, none-some, gives_same)
 
 found_find : (s : paths.Step) (n : Node) → IsFound n (gives (find s (children_of n)))
 found_find s n x e y is = go (child_at s (children_of n)) refl (gives_same e ∙ is)
@@ -39,17 +33,10 @@ found_find s n x e y is = go (child_at s (children_of n)) refl (gives_same e ∙
     go (Some m) at h = let same : ◌≡◌ {A = paths.Step × Node} (s, m) y = same_Some _ _ h in ap (λ (z : paths.Step × Node). child_at z.0 (children_of n)) (sym same) ∙ (at ∙ ap (λ (z : paths.Step × Node). Some z.1) same)
 
 found_key : (k : List ℕ) (n : Node) → IsFound n (key_step k n)
-found_key k (alias name) x e y is = absurd (cc)
-found_key k (scalar anchor kind text) x e y is = found_scalar NotAMap kind (scalar anchor kind text) x e y is
-found_key k (list anchor cs) x e y is = absurd (cc)
-found_key k (tree.map anchor cs) x e y is = found_find (To k) (tree.map anchor cs) x e y is
+found_key k n = search (rules, found_scalar, found_find)
 
 found_index : (i : ℤ) (n : Node) → IsFound n (index_step i n)
-found_index i (alias name) x e y is = absurd (cc)
-found_index i (scalar anchor kind text) x e y is = found_scalar NotASequence kind (scalar anchor kind text) x e y is
-found_index i (list anchor cs) x e y is =
-    let at = then_gives (λ (n : ℕ). gives (find (Nth n) cs)) (item_number i cs) x e in found_find (Nth at.0) (list anchor cs) x at.2 y is
-found_index i (tree.map anchor cs) x e y is = absurd (cc)
+found_index i n = search (rules, found_scalar, then_gives, found_find)
 
 leads_found : (root : Node) (p : Place) (s : Step) (j : Judgement ChildFound) (qs : List Place) → IsTree p.node → IsIn root p → IsFound p.node j → and_then (λ x. gives (found_place s p x)) j ≡ gives qs → LeadsInto root p qs
 leads_found root p s j qs tree at found h =
@@ -61,15 +48,7 @@ leads_found root p s j qs tree at found h =
     go (Some y) f = leads_child root p y.0 y.1 tree at (f y refl)
 
 leads_all : (root : Node) (p : Place) (n : Node) → p.node ≡ n → IsTree p.node → IsIn root p → (qs : List Place) → and_then (λ xs. gives (map (child_place p) xs)) (all_steps n) ≡ gives qs → LeadsInto root p qs
-leads_all root p (alias name) is tree at qs h = absurd (cc)
-leads_all root p (scalar anchor kind text) is tree at qs h =
-    let x = then_gives (λ (xs : List (paths.Step × Node)). gives (map (child_place p) xs)) (all_steps (scalar anchor kind text)) qs h in
-    let y = then_gives (λ (nothing : ChildFound). gives []) (in_scalar NotASequence kind) x.0 x.1 in
-    subst (LeadsInto root p) (gives_same x.2) (subst (λ (xs : List (paths.Step × Node)). LeadsInto root p (map (child_place p) xs)) (gives_same y.2) (leads_none root p))
-leads_all root p (list anchor cs) is tree at qs h =
-    subst (LeadsInto root p) (gives_same h) (leads_children root p cs tree at (ap children_of is) (inl (subst IsTree is tree).0))
-leads_all root p (tree.map anchor cs) is tree at qs h =
-    subst (LeadsInto root p) (gives_same h) (leads_children root p cs tree at (ap children_of is) (inr (subst IsTree is tree).0))
+leads_all root p n h1 h2 h3 qs h4 = search (rules, then_gives, gives_same, leads_none, leads_children)
 
 leads_there : (root : Node) (s : Step) → LeadsSo root (step_there s)
 leads_there root (key k) p qs tree at h = leads_found root p (key k) (key_step k p.node) qs tree at (found_key k p.node) h

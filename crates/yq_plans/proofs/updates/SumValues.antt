@@ -1,18 +1,13 @@
 -- Sums are trees without aliases.
-use Rattle.std.proofs.Common.{◌≡◌, ◌≢◌, ℕ, Bool, true, false, cond, List, [], ◌∷◌, Option, Some, None, is_some, refl, sym, ap, subst, ◌∙◌, inl, inr}
-use Rattle.std.specs.Prelude.{ℤ, ◌+ℤ◌}
-use Rattle.std.specs.Fmt.{signed_decimal}
+use Rattle.std.proofs.Common.{◌≡◌, ◌≢◌, ℕ, Bool, true, false, cond, List, [], ◌∷◌, Option, Some, None, is_some, refl, sym, ap, subst, ◌∙◌, inl, inr, rules}
+use Rattle.std.specs.Prelude.{ℤ}
 use Rattle.std.proofs.lemmas.Bool.{false≢true}
 use Rattle.std.proofs.lemmas.Option.{none-some}
 use Rattle.yq_flow_scalars.specs.declared.kind.Kind.{Kind}
-use Rattle.yq_flow_scalars.specs.declared.kind.Kind.TheVariants as kinds
-use Rattle.yq_flow_scalars.specs.Numbers.{is_i64}
-use Rattle.yq_flow_scalars.specs.SchemaReading.{int_value}
 use Rattle.yq_flow_scalars.specs.Tree as tree
 use Rattle.yq_flow_scalars.specs.Tree.{Label, Node, alias, scalar, list, Children, none, child}
 use Rattle.yq_flow_scalars.specs.Paths.{To, key_is, child_at, change_child, append_child, append_children}
-use Rattle.yq_meaning.specs.declared.refusal.Refusal.TheVariants.{IntegerRange}
-use Rattle.yq_meaning.specs.Judgement.{and_then, gives, refuses}
+use Rattle.yq_meaning.specs.Judgement.{and_then, gives}
 use Rattle.yq_program.specs.Program.{SumHolds, Step, Term, literal, found}
 use Rattle.yq_meaning.specs.Conditions.{node_there, value_of}
 use Rattle.yq_meaning.specs.Copies.{copy_at}
@@ -47,10 +42,7 @@ items_join none ds h k = k
 items_join (child label n cs) ds h k = (h.0, items_join cs ds h.1 k)
 
 pub items_items : (v : Node) → IsPure v → AreItems (as_items v)
-items_items (alias name) p = (refl, tt)
-items_items (scalar anchor kind text) p = (refl, tt)
-items_items (list anchor cs) p = p.0.0
-items_items (tree.map anchor cs) p = (refl, tt)
+items_items v h1 = search rules
 
 pub items_free : (v : Node) → IsPure v → AreFree (as_items v)
 items_free (alias name) p = free_child (new_label None) (alias name) none p free_none
@@ -123,32 +115,10 @@ with_all cs (child label v ds) m n =
     (n.0.1, free_rest label v ds n.1)
 
 int_pure : (m n : Option ℤ) (w : Node) → int_sum m n ≡ gives w → IsPure w
-int_pure (Some m) (Some n) w h = go (is_i64 (m +ℤ n)) h
-  where
-    go : (b : Bool) → cond b (gives (scalar None kinds.Int (signed_decimal (m +ℤ n)))) (refuses IntegerRange) ≡ gives w → IsPure w
-    go true e = subst IsPure (gives_same e) (tt, λ a x. x)
-    go false e = absurd (cc)
-int_pure (Some m) None w h = absurd (cc)
-int_pure None n w h = absurd (cc)
+int_pure m n w h1 = search (rules, gives_same)
 
 scalar_pure : (k : Kind) (t : List ℕ) (j : Kind) (u : List ℕ) (w : Node) → scalar_sum k t j u ≡ gives w → IsPure w
-scalar_pure kinds.Null t j u w h = absurd (cc)
-scalar_pure kinds.Bool t j u w h = absurd (cc)
-scalar_pure kinds.Int t kinds.Null u w h = absurd (cc)
-scalar_pure kinds.Int t kinds.Bool u w h = absurd (cc)
-scalar_pure kinds.Int t kinds.Int u w h = int_pure (int_value t) (int_value u) w h
-scalar_pure kinds.Int t kinds.Float u w h = absurd (cc)
-scalar_pure kinds.Int t kinds.Text u w h = absurd (cc)
-scalar_pure kinds.Float t kinds.Null u w h = absurd (cc)
-scalar_pure kinds.Float t kinds.Bool u w h = absurd (cc)
-scalar_pure kinds.Float t kinds.Int u w h = absurd (cc)
-scalar_pure kinds.Float t kinds.Float u w h = absurd (cc)
-scalar_pure kinds.Float t kinds.Text u w h = absurd (cc)
-scalar_pure kinds.Text t kinds.Null u w h = absurd (cc)
-scalar_pure kinds.Text t kinds.Bool u w h = absurd (cc)
-scalar_pure kinds.Text t kinds.Int u w h = absurd (cc)
-scalar_pure kinds.Text t kinds.Float u w h = absurd (cc)
-scalar_pure kinds.Text t kinds.Text u w h = subst IsPure (gives_same h) (tt, λ a x. x)
+scalar_pure k t j u w h1 = search (rules, int_pure, gives_same)
 
 value_pure : (n v w : Node) → IsPure n → IsPure v → value_sum n v ≡ gives w → IsPure w
 value_pure (alias name) v w p q h = absurd (cc)

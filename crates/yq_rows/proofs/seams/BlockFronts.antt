@@ -1,5 +1,5 @@
 -- A gap that stands behind a block scalar in the place of another one, repaired.
-use Rattle.std.proofs.Common.{◌≡◌, ◌⊎◌, ℕ, ◌<◌, true, false, List, [], ◌∷◌, ◌++◌, Option, Some, None, refl, sym, ap, ◌∙◌, subst, ⊎_elim, append_assoc}
+use Rattle.std.proofs.Common.{◌≡◌, ◌⊎◌, ℕ, ◌<◌, true, false, List, [], ◌∷◌, ◌++◌, Option, Some, None, refl, sym, ap, ◌∙◌, subst, ⊎_elim, append_assoc, rules}
 use Rattle.std.proofs.lemmas.Bool.{cond_both, cases_Bool}
 use Rattle.yq_scalar.specs.Block.{Lines, BlockText, IsBlock, ends_block, keeps}
 use Rattle.yq_scalar.specs.BlockRepair.{AreGap, repair, is_behind}
@@ -52,13 +52,7 @@ block_seam least column b ks x next rest h k some n less behind =
     (cases_Bool (hold_comment ks))
 
 pub seam_gap_is : (o : Option BlockText) (column : ℕ) (ks : Lines) (x next rest : List ℕ) → AreGapLines ks x → is_empty x ≡ false → IsGap next rest → IsGap (seam_gap o column (joined ks) next) rest
-seam_gap_is None column ks x next rest k some n = gap_joined (joined ks) next x rest some (record { lines = ks; spelled = refl; each = k }) n
-seam_gap_is (Some b) column ks x next rest k some n =
-    let kept : IsGap (joined ks) x = record { lines = ks; spelled = refl; each = k } in
-    let mended : IsGap (joined (repair (keeps b.chomping) b.indent.columns column (lines_of next))) rest = gap_repaired (keeps b.chomping) b.indent.columns column next rest n in
-    cond_both (hold_comment (lines_of (joined ks))) (joined ks ++ next) (joined ks ++ joined (repair (keeps b.chomping) b.indent.columns column (lines_of next))) (λ g. IsGap g rest)
-    (λ _. gap_joined (joined ks) next x rest some kept n)
-    (λ _. gap_joined (joined ks) (joined (repair (keeps b.chomping) b.indent.columns column (lines_of next))) x rest some kept mended)
+seam_gap_is o column ks x next rest h1 h2 h3 = search (rules, gap_joined, gap_repaired, cond_both)
 
 -- the block scalar before it
 pub record LastBlock (front : List Row) (b : BlockText) (t : List ℕ) : Type 0 where
@@ -85,9 +79,7 @@ last_is_block (r ∷ (q ∷ front)) rows limit end rest b h e =
     record { least = more.least; block = more.block; seam = more.seam }
 
 pub content_none : (c : Content) → block_of c ≡ None → is_block c ≡ false
-content_none (Nothing tail) e = refl
-content_none (Inline space node tail) e = refl
-content_none (Block space anchor block) e = absurd (cc)
+content_none c h1 = search rules
 
 pub last_none : (front : List Row) → last_block front ≡ None → ends_in_block front ≡ false
 last_none [] e = refl

@@ -1,11 +1,10 @@
 -- What rows in front ask of a text that stands behind them in the place of another one.
-use Rattle.std.proofs.Common.{◌≡◌, ℕ, ℤ, true, false, ◌||◌, List, [], ◌∷◌, ◌++◌, refl, sym, ap, ◌∙◌, ⊎_elim, replicate, Some, subst}
+use Rattle.std.proofs.Common.{◌≡◌, ℕ, ℤ, true, false, ◌||◌, List, [], ◌∷◌, ◌++◌, refl, sym, ap, ◌∙◌, ⊎_elim, replicate, Some, rules}
 use Rattle.std.proofs.lemmas.Bool.{false≢true, or_right}
-use Rattle.yq_scalar.specs.Block.{keeps}
 use Rattle.yq_flow_scalars.specs.Text.{is_empty, is_line, lines_of}
 use Rattle.yq_inline.specs.Alike.{Alike}
 use Rattle.yq_rows.specs.Grammar.{IsTail, IsContent, IsRow, Limit, limit_after, AreRows, no_rows}
-use Rattle.yq_rows.specs.Rows.{Content, Nothing, Inline, Block, Row, behind_indent, behind_gap, parent_indent, print_row, rows_text}
+use Rattle.yq_rows.specs.Rows.{Content, Row, behind_indent, behind_gap, parent_indent, print_row, rows_text}
 use Rattle.yq_rows.specs.Seams.{is_closed, is_seam, are_seamed, is_block, ends_in_block, ends_in_line, tail_behind}
 use Rattle.yq_inline.proofs.Alikes.{alike_empty}
 use Rattle.yq_rows.proofs.AlikeBlocks.{LinesAlike, lines_after, lines_alike, starts_alike, ends_alike}
@@ -37,23 +36,17 @@ tail_any tail t u some h = ⊎_elim {0, 0, 0} (λ e. closed_line tail u e) (λ e
 
 -- the seam that a content has
 content_was : (n : ℤ) (c : Content) (t : List ℕ) → IsContent n c t → is_seam c t ≡ true
-content_was n (Nothing tail) t h = tail_was tail t h
-content_was n (Inline space node tail) t h = tail_was tail t h.2
-content_was n (Block space anchor block) t h = h.2.behind
+content_was n c t h1 = search (rules, tail_was)
 
 -- where text is behind it, and it is no block scalar, any other text may be
 content_any : (n : ℤ) (c : Content) (t u : List ℕ) → is_block c ≡ false → is_empty t ≡ false → IsContent n c t → is_seam c u ≡ true
-content_any n (Nothing tail) t u b some h = tail_any tail t u some h
-content_any n (Inline space node tail) t u b some h = tail_any tail t u some h.2
-content_any n (Block space anchor block) t u b some h = absurd (false≢true (sym b))
+content_any n c t u h1 h2 h3 = search (rules, tail_any, false≢true)
 
 closed_same : (tail t u : List ℕ) → is_empty t ≡ is_empty u → is_closed tail t ≡ true → is_closed tail u ≡ true
 closed_same tail t u e h = ap (λ x. is_line tail || x) (sym e) ∙ h
 
 seam_same : (c : Content) (t u : List ℕ) → is_empty t ≡ is_empty u → LinesAlike (lines_of t) (lines_of u) → is_seam c t ≡ true → is_seam c u ≡ true
-seam_same (Nothing tail) t u e a h = closed_same tail t u e h
-seam_same (Inline space node tail) t u e a h = closed_same tail t u e h
-seam_same (Block space anchor block) t u e a h = sym (ends_alike (keeps block.chomping) block.indent (lines_of t) (lines_of u) a) ∙ h
+seam_same c t u h1 h2 h3 = search (rules, closed_same, ends_alike)
 
 -- the same of rows
 pub seams_were : (front rows : List Row) (limit : Limit) (end rest : List ℕ) → AreRows limit (front ++ rows) end rest → are_seamed front (rows_text rows (end ++ rest)) ≡ true
@@ -76,18 +69,11 @@ seams_alike front t u a h = seams_same front t u (alike_empty (Some false) t u a
 
 -- Of a row they ask for its gap and its column alone.
 pub seams_row : (front : List Row) (limit other : Limit) (r s : Row) (t u : List ℕ) → IsRow limit r t → IsRow other s u → s.gap ≡ r.gap → s.column ≡ r.column → are_seamed front (print_row r t) ≡ true → are_seamed front (print_row s u) ≡ true
-seams_row front limit other r s t u h k gap column was =
-    let starts = starts_alike (behind_indent r t) (behind_indent s u) (row_starts limit r t h) (row_starts other s u k) in
-    let lines = lines_after r.gap _ _ (lines_after (replicate r.column 32) _ _ starts) in
-    let text : print_row s u ≡ r.gap ++ (replicate r.column 32 ++ behind_indent s u) = rw (gap, column) refl in
-    let new : LinesAlike (lines_of (print_row r t)) (lines_of (print_row s u)) = subst (λ (x : List ℕ). LinesAlike (lines_of (print_row r t)) (lines_of x)) (sym text) lines in
-    seams_same front (print_row r t) (print_row s u) (row_some limit r t h ∙ sym (row_some other s u k)) new was
+seams_row front limit other r s t u h k gap column was = search (rules, starts_alike, row_starts, lines_after, seams_same, row_some)
 
 -- where a break is behind the tail
 content_line : (c : Content) (u : List ℕ) → is_block c ≡ false → is_line (tail_behind c) ≡ true → is_seam c u ≡ true
-content_line (Nothing tail) u b e = closed_line tail u e
-content_line (Inline space node tail) u b e = closed_line tail u e
-content_line (Block space anchor block) u b e = absurd (false≢true (sym b))
+content_line c u h1 h2 = search (rules, closed_line, false≢true)
 
 -- Behind rows of which the last one ends in a break and holds no block scalar, any text may stand.
 pub seams_line : (front : List Row) (u : List ℕ) → ends_in_line front ≡ true → ends_in_block front ≡ false → are_seamed front u ≡ true

@@ -1,9 +1,9 @@
 -- Gaps one behind the other, and what stays in front of a gap behind a block scalar.
-use Rattle.std.proofs.Common.{◌≡◌, ℕ, Bool, true, false, not, List, [], ◌∷◌, ◌++◌, refl, sym, ap, ◌∙◌, subst, ⊎_elim}
+use Rattle.std.proofs.Common.{◌≡◌, ℕ, Bool, true, false, not, List, [], ◌∷◌, ◌++◌, refl, sym, ap, ◌∙◌, subst, ⊎_elim, rules}
 use Rattle.std.proofs.lemmas.Bool.{false≢true, not-false, not-true, and_parts, cases_Bool, or_parts}
 use Rattle.yq_scalar.specs.Block.{Lines, ends_block, is_empty_line, is_less_indented}
 use Rattle.yq_scalar.specs.declared.block_lines.TextIndent.{TextIndent}
-use Rattle.yq_flow_scalars.specs.Lines.{behind_spaces, is_tab, is_blank}
+use Rattle.yq_flow_scalars.specs.Lines.{behind_spaces, is_blank}
 use Rattle.yq_flow_scalars.specs.Text.{is_empty, ends_line, joined, lines_of}
 use Rattle.yq_scalar.specs.BlockRepair.{repair}
 use Rattle.yq_scalar.proofs.SpaceLaws.{char_not_blank}
@@ -40,10 +40,7 @@ gap_repaired keep m column gap rest h = subst (λ (ls : Lines). IsGap (joined (r
 
 -- what stays in front
 blank_not_less : (f : TextIndent) (l : List ℕ) → is_blank l ≡ true → is_less_indented f l ≡ true → ⊥
-blank_not_less f l b h =
-    let both = and_parts _ (not (is_tab (behind_spaces l))) h in
-    let first = and_parts (not (ends_line (behind_spaces l))) _ both.0 in
-    false≢true (sym (char_not_blank l (not-true (ends_line (behind_spaces l)) first.0) (not-true (is_tab (behind_spaces l)) both.1)) ∙ b)
+blank_not_less f l b h = search (rules, and_parts, false≢true, char_not_blank, not-true)
 
 pub ends_blank : (keep : Bool) (f : TextIndent) (ls old new : Lines) → hold_comment ls ≡ false → ends_block keep f (ls ++ old) ≡ true → ends_block keep f new ≡ true → ends_block keep f (ls ++ new) ≡ true
 unfolding ends_block

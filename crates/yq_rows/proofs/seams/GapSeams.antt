@@ -1,5 +1,5 @@
 -- Gaps joined, and repaired behind a block scalar.
-use Rattle.std.proofs.Common.{◌≡◌, ◌⊎◌, inl, inr, ℕ, Bool, true, false, ◌&&◌, ◌||◌, List, [], ◌∷◌, ◌++◌, refl, sym, ap, ◌∙◌, subst, ⊎_elim, append_assoc, append-nil, replicate}
+use Rattle.std.proofs.Common.{◌≡◌, ◌⊎◌, inl, inr, ℕ, Bool, true, false, ◌&&◌, ◌||◌, List, [], ◌∷◌, ◌++◌, refl, sym, ap, ◌∙◌, subst, ⊎_elim, append_assoc, append-nil, replicate, rules}
 use Rattle.std.proofs.lemmas.Bool.{false≢true, cond_both, and_parts, cases_Bool, or_parts}
 use Rattle.yq_scalar.specs.Block.{Lines}
 use Rattle.yq_scalar.specs.BlockRepair.{AreGap, is_short, is_outside, repaired_blank, repaired_comment, repair}
@@ -32,11 +32,7 @@ gap_kinds (l ∷ ls) rest h = (line_kind l (joined ls ++ rest) h.0, gap_kinds ls
 
 joined_some : (ls : Lines) (rest : List ℕ) → AreGapLines ls rest → joined ls ++ rest ≡ [] → ls ≡ []
 joined_some [] rest h e = refl
-joined_some (l ∷ ls) rest h e = absurd (none_is ((l ++ joined ls) ++ rest) (ap is_empty (append_assoc l (joined ls) rest) ∙ front_some l (joined ls ++ rest) h.0.some) e)
-  where
-    front_some : (p t : List ℕ) → is_empty p ≡ false → is_empty (p ++ t) ≡ false
-    front_some [] t h = absurd (false≢true (sym h))
-    front_some (b ∷ p) t h = refl
+joined_some (l ∷ ls) rest h e = search (rules, none_is, append_assoc, false≢true)
 
 line_is : (l rest : List ℕ) → IsGapLine l rest → (is_line l ≡ true) ⊎ ((rest ≡ []) × NoneIn ends_line l [])
 line_is l rest h = ⊎_elim {0, 0, 0}
@@ -95,10 +91,7 @@ put_gap white comment p g rest h k = ⊎_elim {0, 0, 0}
 
 nothing_left : (keep : Bool) (m column : ℕ) (ls : Lines) (rest : List ℕ) → AreGapLines ls rest → joined ls ++ rest ≡ [] → joined (repair keep m column ls) ++ rest ≡ []
 unfolding repair
-nothing_left keep m column ls rest h e =
-    let none : ls ≡ [] = joined_some ls rest h e in
-    let end : rest ≡ [] = sym (ap (λ x. joined x ++ rest) none) ∙ e in
-    ap (λ x. joined (repair keep m column x) ++ rest) none ∙ end
+nothing_left keep m column ls rest h e = search (rules, joined_some)
 
 abbrev EndOf : List ℕ → List ℕ → Type 0
 EndOf p rest = (white comment : List ℕ) × IsLineEnd white comment p rest

@@ -1,11 +1,9 @@
 -- What stands behind a gap is less indented than a block scalar's text.
-use Rattle.std.proofs.Common.{◌≡◌, ℕ, zero, suc, ◌+◌, ◌<◌, true, false, not, ◌&&◌, eqb, List, [], ◌∷◌, ◌++◌, drop, refl, sym, ap, ◌∙◌, ⊎_elim, arith, replicate}
-use Rattle.std.proofs.Math.Dec.{ltb}
+use Rattle.std.proofs.Common.{◌≡◌, ℕ, zero, suc, ◌+◌, ◌<◌, true, false, ◌&&◌, eqb, List, [], ◌∷◌, ◌++◌, refl, sym, ap, ◌∙◌, ⊎_elim, replicate, rules}
 use Rattle.std.proofs.lemmas.Bool.{false≢true, lt-ltb, not-true, or_cases, and_from, or_parts}
 use Rattle.yq_scalar.specs.Block.{is_less_indented}
 use Rattle.yq_scalar.specs.BlockRepair.{is_behind}
 use Rattle.yq_scalar.specs.declared.block_lines.TextIndent.{TextIndent}
-use Rattle.yq_flow_scalars.specs.Lines.{spaces, behind_spaces, is_tab}
 use Rattle.yq_flow_scalars.specs.Text.{front, is_white, is_feed, is_return, is_empty, is_marker, ends_line, put_byte, lines_of}
 use Rattle.yq_scalar.proofs.SpaceLaws.{prefix_none, spaces_front, drop_front}
 use Rattle.yq_rows.specs.Grammar.{Limit, AreRows, ends_part}
@@ -31,14 +29,7 @@ first zero b t e = let p = put_first b t in record { line = p.line; lines = p.li
 first (suc n) b t e = let p = first n b t e in record { line = p.line; lines = p.lines; is = ap (put_byte 32) p.is; front_is = p.front_is }
 
 less_line : (f : TextIndent) (n b : ℕ) (l : List ℕ) → eqb b 32 ≡ false → eqb b 9 ≡ false → ends_line (b ∷ l) ≡ false → n < f.columns → is_less_indented f (replicate n 32 ++ (b ∷ l)) ≡ true
-less_line f n b l space tab end less =
-    let none : spaces (b ∷ l) ≡ 0 = prefix_none (λ x. eqb x 32) b l space in
-    let deep : spaces (replicate n 32 ++ (b ∷ l)) ≡ n + 0 = spaces_front n (b ∷ l) ∙ ap (λ k. n + k) none in
-    let behind : behind_spaces (replicate n 32 ++ (b ∷ l)) ≡ b ∷ l = ap (λ k. drop k (replicate n 32 ++ (b ∷ l))) deep ∙ drop_front n 0 (b ∷ l) in
-    let low : ltb (spaces (replicate n 32 ++ (b ∷ l))) f.columns ≡ true = lt-ltb (spaces (replicate n 32 ++ (b ∷ l))) f.columns (omega (arith, deep, less)) in
-    let ends : not (ends_line (behind_spaces (replicate n 32 ++ (b ∷ l)))) ≡ true = ap (λ x. not (ends_line x)) behind ∙ ap not end in
-    let tabs : not (is_tab (behind_spaces (replicate n 32 ++ (b ∷ l)))) ≡ true = ap (λ x. not (is_tab x)) behind ∙ ap not tab in
-    and_from _ _ (and_from _ _ ends low) tabs
+less_line f n b l space tab end less = search (rules, prefix_none, spaces_front, drop_front, lt-ltb, and_from)
 
 pub starts_less : (f : TextIndent) (n : ℕ) (t : List ℕ) → Starts t → n < f.columns → is_behind f (lines_of (replicate n 32 ++ t)) ≡ true
 starts_less f n [] h less = absurd (false≢true (sym h.some))

@@ -1,5 +1,5 @@
 -- An inline node before a text is one before another text, where white space, a break or the end is in front of both.
-use Rattle.std.proofs.Common.{◌≡◌, inl, inr, ℕ, zero, suc, true, false, not, ◌||◌, eqb, List, [], ◌∷◌, ◌++◌, Option, refl, sym, ap, ◌∙◌, subst, ⊎_elim, eqb-true, Some}
+use Rattle.std.proofs.Common.{◌≡◌, inl, inr, ℕ, zero, suc, true, false, not, ◌||◌, eqb, List, [], ◌∷◌, ◌++◌, Option, refl, sym, ap, ◌∙◌, subst, ⊎_elim, eqb-true, Some, rules}
 use Rattle.std.proofs.lemmas.Bool.{false≢true, not-true, or_cases, cases_Bool, or_parts}
 use Rattle.yq_flow_scalars.specs.Plain.{ends_plain}
 use Rattle.yq_flow_scalars.specs.Text.{is_empty, is_white, is_space, separates, unless, NoneIn, no_white}
@@ -67,11 +67,7 @@ items_seam k (item key n s is) t u c x y =
 
 -- anchors
 bare_is : (node : Node) → is_bare node ≡ true → node ≡ empty
-bare_is empty h = refl
-bare_is (alias n) h = absurd (false≢true h)
-bare_is (scalar p) h = absurd (false≢true h)
-bare_is (coll close gap items) h = absurd (false≢true h)
-bare_is (anchored n g node) h = absurd (false≢true h)
+bare_is node h1 = search (rules, false≢true)
 
 no_content : (t : List ℕ) → separates t ≡ true → begins_content false t ≡ false
 no_content t h = (or_parts (first_is 38 t) (begins_content false t) (apart_no_node t h)).1
@@ -88,15 +84,10 @@ name_front [] t u some h = absurd (false≢true (sym some))
 name_front (b ∷ gap) t u some h = h
 
 some_gap : (gap : List ℕ) (node : Node) → is_bare node ≡ false → (is_bare node || not (is_empty gap)) ≡ true → is_empty gap ≡ false
-some_gap gap node e h =
-    let some : not (is_empty gap) ≡ true = rw e at h in
-    not-true (is_empty gap) some
+some_gap gap node e h = search (rules, not-true)
 
 lead_seam : (gap t u : List ℕ) → is_empty gap ≡ false → begins_content false u ≡ true → IsLead false (begins_content false) gap t → IsLead false (begins_content false) gap u
-lead_seam gap t u some begins (inl h) =
-    let starts = node_starts u (Rattle.std.proofs.lemmas.Bool.or_right (first_is 38 u) (begins_content false u) begins) in
-    inl ((white_again gap t u h.0.0, starts.no_white), begins)
-lead_seam gap t u some begins (inr h) = absurd (false≢true (sym some ∙ ap is_empty h.0))
+lead_seam gap t u h1 h2 h3 = search (rules, node_starts, white_again, false≢true)
 
 bare_seam : (spaces : Option ℕ) (d : ℕ) (name gap t u : List ℕ) → Behind spaces (anchored name gap empty) t u → IsNode false spaces d (anchored name gap empty) t → Kept spaces d (anchored name gap empty) t u
 unfolding node_text IsNode

@@ -1,5 +1,5 @@
 -- A row before one text is a row before another one.
-use Rattle.std.proofs.Common.{◌≡◌, inl, inr, ℕ, ℤ, Bool, true, false, not, ◌||◌, List, [], ◌∷◌, ◌++◌, Option, Some, None, refl, sym}
+use Rattle.std.proofs.Common.{◌≡◌, inl, inr, ℕ, ℤ, Bool, true, false, not, ◌||◌, List, [], ◌∷◌, ◌++◌, Option, Some, None, refl, rules}
 use Rattle.std.proofs.lemmas.Bool.{false≢true, cases_Bool}
 use Rattle.yq_scalar.specs.Block.{BlockText, block_text, mark_of, IsBlock, ends_block, keeps}
 use Rattle.yq_scalar.specs.declared.block_header.BlockStyle.{BlockStyle}
@@ -10,7 +10,7 @@ use Rattle.yq_inline.specs.Inline.{depth_limit}
 use Rattle.yq_inline.specs.Nodes.{Node, node_text, in_name, is_bare}
 use Rattle.yq_inline.specs.Alike.{Alike}
 use Rattle.yq_rows.specs.Grammar.{IsAnchor, IsContent, IsMark, may_be_alone, is_entry, IsRow, Limit}
-use Rattle.yq_rows.specs.Rows.{Mark, Bare, Dash, Key, Anchor, Content, Nothing, Inline, Block, anchor_text, mark_text, content_text, Row, parent_indent}
+use Rattle.yq_rows.specs.Rows.{Mark, Anchor, Content, Nothing, Inline, Block, anchor_text, mark_text, content_text, Row, parent_indent}
 use Rattle.yq_rows.specs.Seams.{TakesPlace, with_tail, retail, TailFits}
 use Rattle.yq_inline.proofs.Alikes.{alike_append}
 use Rattle.yq_rows.proofs.AlikeRows.{dashes_text_alike}
@@ -78,30 +78,20 @@ content_seam n (Inline space node tail) t new u h f j = (inline_seam n space nod
 content_seam n (Block space anchor block) t new u h f j = (h.0, anchor_seam anchor (block_text block t) (block_text block u) h.1, block_seam (deeper n) block t u f h.2)
 
 content_front : (n : ℤ) (c : Content) (t new u : List ℕ) → IsContent n c t → TailFits n new c u → separates (content_text c t) ≡ true → separates (content_text (with_tail new c) u) ≡ true
-content_front n (Nothing tail) t new u h f s = tail_apart new u f
-content_front n (Inline space node tail) t new u h f s = space_apart space (node_text node (tail ++ t)) (node_text node (new ++ u)) h.0 s (inline_starts n node (tail ++ t) h.1).joined
-content_front n (Block space anchor block) t new u h f s = space_apart space (anchor_text anchor (block_text block t)) (anchor_text anchor (block_text block u)) h.0 s (block_no_space anchor block t)
+content_front n c t new u h1 h2 h3 = search (rules, tail_apart, space_apart, inline_starts, block_no_space)
 
 -- rows
 alone_tail : (c : Content) (new : List ℕ) → may_be_alone c ≡ true → may_be_alone (with_tail new c) ≡ true
-alone_tail (Nothing tail) new h = h
-alone_tail (Inline space node tail) new h = h
-alone_tail (Block space anchor block) new h = h
+alone_tail c new h1 = search rules
 
 bare_mark : (m : Mark) (c : Content) (t : List ℕ) (new : Content) (u : List ℕ) → is_entry m ≡ false → IsMark m c t → (may_be_alone c ≡ true → may_be_alone new ≡ true) → IsMark m new u
-bare_mark Bare c t new u e h a = a h
-bare_mark Dash c t new u e h a = absurd (false≢true (sym e))
-bare_mark (Key key colon) c t new u e h a = absurd (false≢true (sym e))
+bare_mark m c t new u h1 h2 h3 = search (rules, false≢true)
 
 bare_alone : (m : Mark) (c : Content) (t : List ℕ) → is_entry m ≡ false → IsMark m c t → may_be_alone c ≡ true
-bare_alone Bare c t e h = h
-bare_alone Dash c t e h = absurd (false≢true (sym e))
-bare_alone (Key key colon) c t e h = absurd (false≢true (sym e))
+bare_alone m c t h1 h2 = search (rules, false≢true)
 
 bare_text : (m : Mark) (t u : List ℕ) → is_entry m ≡ false → Alike (Some false) t u → Alike (Some false) (mark_text m t) (mark_text m u)
-bare_text Bare t u e h = h
-bare_text Dash t u e h = absurd (false≢true (sym e))
-bare_text (Key key colon) t u e h = absurd (false≢true (sym e))
+bare_text m t u h1 h2 = search (rules, false≢true)
 
 -- the texts of what is alone on its line
 alone_text : (n : ℤ) (c : Content) (t new u : List ℕ) → may_be_alone c ≡ true → IsContent n c t → TailFits n new c u → Joined c t new u → Alike (Some false) (content_text c t) (content_text (with_tail new c) u)

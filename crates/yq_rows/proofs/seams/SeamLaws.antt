@@ -1,5 +1,5 @@
 -- Rows before rows that stand in the place of others.
-use Rattle.std.proofs.Common.{◌≡◌, ◌⊎◌, inl, inr, ℕ, zero, suc, ℤ, Bool, true, false, ◌||◌, if◌then◌else◌, List, [], ◌∷◌, ◌++◌, Some, take, drop, refl, sym, ap, ◌∙◌, subst, ⊎_elim, append_assoc}
+use Rattle.std.proofs.Common.{◌≡◌, ◌⊎◌, inl, inr, ℕ, zero, suc, ℤ, Bool, true, false, ◌||◌, if◌then◌else◌, List, [], ◌∷◌, ◌++◌, Some, take, drop, refl, sym, ap, ◌∙◌, subst, ⊎_elim, append_assoc, rules}
 use Rattle.std.proofs.lemmas.Bool.{false≢true, or_cases, and_parts}
 use Rattle.std.proofs.lemmas.List.{take-append-drop}
 use Rattle.yq_flow_scalars.specs.Piece.{deeper}
@@ -52,11 +52,7 @@ tail_kept tail t u c h =
     record { white = h.white; comment = h.comment; line = record { break = h.line.break; spelled = h.line.spelled; blank = h.line.blank; as_comment = h.line.as_comment; ends = ends }; apart = h.apart }
 
 joint_tail : (p tail t u : List ℕ) → is_closed tail u ≡ true → IsTail tail t → Joint p (tail ++ t) (tail ++ u)
-joint_tail p (b ∷ tail) t u c h = inl refl
-joint_tail p [] t u c h =
-    let end : u ≡ [] = closed_end (is_line []) u c no_line in
-    let start : t ≡ [] = ⊎_elim {0, 0, 0} (λ e. absurd (no_tail t e h)) (λ e. e) (empty_or t) in
-    inl (rw (end, start) refl)
+joint_tail p tail t u h1 h2 = search (rules, closed_end, no_line, ⊎_elim, no_tail, empty_or)
 
 -- behind a plain scalar the lines are not deep
 abbrev pub PlainEnds : ℤ → Content → List ℕ → Type 0
@@ -70,14 +66,10 @@ own_fits n (Inline space node tail) t u h s e = let kept = tail_kept tail t u s 
 own_fits n (Block space anchor block) t u h s e = s
 
 own_joined : (n : ℤ) (c : Content) (t u : List ℕ) → IsContent n c t → is_seam c u ≡ true → Joined c t (tail_behind c) u
-own_joined n (Nothing tail) t u h s = inr refl
-own_joined n (Inline space node tail) t u h s = joint_tail (plain_text node) tail t u s h.2
-own_joined n (Block space anchor block) t u h s = inr refl
+own_joined n c t u h1 h2 = search (rules, joint_tail, plain_text)
 
 own_tail : (c : Content) → with_tail (tail_behind c) c ≡ c
-own_tail (Nothing tail) = refl
-own_tail (Inline space node tail) = refl
-own_tail (Block space anchor block) = refl
+own_tail c = search rules
 
 -- a row before another text
 pub row_seam : (limit : Limit) (r : Row) (t u : List ℕ) → IsRow limit r t → is_seam r.content u ≡ true → PlainEnds (parent_indent r) r.content u → TakesPlace limit r t r u

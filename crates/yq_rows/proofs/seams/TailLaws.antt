@@ -1,5 +1,5 @@
 -- Another tail behind a row's content, in a text in which an LF stands behind each CR.
-use Rattle.std.proofs.Common.{◌≡◌, ◌⊎◌, inl, inr, ℕ, ℤ, true, false, ◌&&◌, List, [], ◌∷◌, ◌++◌, Option, refl, sym, ap, ◌∙◌, subst, ⊎_elim, append_assoc, append-nil, length, take}
+use Rattle.std.proofs.Common.{◌≡◌, ◌⊎◌, inl, inr, ℕ, ℤ, true, false, ◌&&◌, List, [], ◌∷◌, ◌++◌, Option, refl, sym, ap, ◌∙◌, subst, ⊎_elim, append_assoc, append-nil, length, take, rules}
 use Rattle.std.proofs.lemmas.Bool.{false≢true, false_from_ne_true, or_right, and_parts, or_parts}
 use Rattle.std.proofs.Math.Seq.{take-append_seam, drop-append_seam}
 use Rattle.yq_flow_scalars.specs.Characters.{pairs_returns}
@@ -57,9 +57,7 @@ node_no_return spaces (coll close gap items) d t h pairs = refl
 node_no_return spaces (anchored n g node) d t h pairs = node_no_return spaces node d t h.4 (pairs_back g (node_text node t) (pairs_back n (g ++ node_text node t) (pairs_back (38 ∷ []) (n ++ (g ++ node_text node t)) pairs)))
 
 pub content_joined : (n : ℤ) (c : Content) (t new u : List ℕ) → IsContent n c t → pairs_returns (content_text c t) ≡ true → Joined c t new u
-content_joined n (Nothing tail) t new u h pairs = inr refl
-content_joined n (Inline space node tail) t new u h pairs = inr (node_no_return _ node _ (tail ++ t) h.1.valid (pairs_back space (node_text node (tail ++ t)) pairs))
-content_joined n (Block space anchor block) t new u h pairs = inr refl
+content_joined n c t new u h1 h2 = search (rules, node_no_return, pairs_back)
 
 -- a row with another tail
 pub row_retailed : (limit : Limit) (r : Row) (t new u : List ℕ) → IsRow limit r t → pairs_returns (print_row r t) ≡ true → TailFits (parent_indent r) new r.content u → TakesPlace limit r t (retail new r) u
@@ -75,9 +73,7 @@ none_closed b [] break h e =
 none_closed b (c ∷ p) break h e = (h.0, none_closed c p break h.1 e)
 
 pub comment_closed : (c break : List ℕ) → IsComment c [] → ends_return c ≡ false → IsComment c break
-comment_closed [] break h e = tt
-comment_closed (b ∷ []) break h e = (h.0, tt)
-comment_closed (b ∷ (c ∷ bs)) break h e = (h.0, none_closed c bs break h.1 e)
+comment_closed c break h1 h2 = search (rules, none_closed)
 
 pub no_end_return : (p : List ℕ) → pairs_returns p ≡ true → ends_return p ≡ false
 no_end_return p h = false_from_ne_true (ends_return p) (λ e.
@@ -108,14 +104,10 @@ fits_by n (Inline space node tail) new rs end rest b t h e = (t, λ plain. plain
 fits_by n (Block space anchor block) new rs end rest b t h e = absurd (false≢true (sym b))
 
 pub content_tail : (n : ℤ) (c : Content) (t : List ℕ) → is_block c ≡ false → IsContent n c t → IsTail (tail_behind c) t
-content_tail n (Nothing tail) t b h = h
-content_tail n (Inline space node tail) t b h = h.2
-content_tail n (Block space anchor block) t b h = absurd (false≢true (sym b))
+content_tail n c t h1 h2 = search (rules, false≢true)
 
 pub tail_pairs : (c : Content) (t : List ℕ) → is_block c ≡ false → pairs_returns (content_text c t) ≡ true → pairs_returns (tail_behind c ++ t) ≡ true
-tail_pairs (Nothing tail) t b h = h
-tail_pairs (Inline space node tail) t b h = pairs_back (node_text node []) (tail ++ t) (ap pairs_returns (sym (node_then node (tail ++ t))) ∙ pairs_back space (node_text node (tail ++ t)) h)
-tail_pairs (Block space anchor block) t b h = absurd (false≢true (sym b))
+tail_pairs c t h1 h2 = search (rules, pairs_back, node_then, false≢true)
 
 -- A row at the end of the text, without a break, gets one, and rows stand behind it.
 pub row_closed : (limit : Limit) (r : Row) (break : List ℕ) (new : List Row) (end rest : List ℕ) → IsRow limit r [] → TakesBreak r break → pairs_returns (print_row r []) ≡ true → AreRows (limit_after r) new end rest → ends_part rest ≡ true →
@@ -127,9 +119,7 @@ row_closed limit r break new end rest h f pairs n e =
     row_retailed limit r [] (tail_behind r.content ++ break) (rows_text new (end ++ rest)) h pairs (fits_by (parent_indent r) r.content (tail_behind r.content ++ break) new end rest f.inline closed n e)
 
 pub limit_tail : (n : ℤ) (c : Content) (new : List ℕ) → limit_behind n (with_tail new c) ≡ limit_behind n c
-limit_tail n (Nothing tail) new = refl
-limit_tail n (Inline space node tail) new = refl
-limit_tail n (Block space anchor block) new = refl
+limit_tail n c new = search rules
 
 pub limit_closed : (break : List ℕ) (r : Row) → limit_after (closed_by break r) ≡ limit_after r
 limit_closed break r = limit_tail (parent_indent r) r.content (tail_behind r.content ++ break)

@@ -1,13 +1,13 @@
 -- A row counted through all parts stands in one of them, and there its content is exchanged.
-use Rattle.std.proofs.Common.{◌≡◌, inl, inr, ℕ, zero, suc, ◌-◌, true, List, [], ◌∷◌, ◌++◌, length, take, drop, Some, refl, sym, ap, ◌∙◌, subst, false}
+use Rattle.std.proofs.Common.{◌≡◌, inl, inr, ℕ, zero, suc, ◌-◌, true, List, [], ◌∷◌, ◌++◌, length, take, drop, Some, refl, sym, ap, ◌∙◌, subst, false, rules}
 use Rattle.std.proofs.Math.Dec.{ltb}
 use Rattle.std.proofs.lemmas.Bool.{false≢true, ltb-true, ltb-false, cases_Bool}
 use Rattle.std.specs.List.{slice_get}
 use Rattle.yq_rows.specs.Counted.{RowPlace}
 use Rattle.yq_rows.specs.Exchange.{with_content, with_content_at, with_content_in, exchange, behind_at, behind_row, rows_behind, allows_first, FitsRow}
 use Rattle.yq_rows.specs.Grammar.{IsMark, may_be_alone, is_entry, IsRow, Limit, limit_after, IsCut}
-use Rattle.yq_rows.specs.Rows.{Mark, Bare, Dash, Key, Content, Row, behind_gap, rows_text, Part, Cut, last, marked, cut_text}
-use Rattle.yq_rows.specs.Splices.{with_first_gap, first_gap, splice_part, asked_at, rest_behind, CutsItsText}
+use Rattle.yq_rows.specs.Rows.{Mark, Content, Row, behind_gap, rows_text, Part, Cut, last, marked, cut_text}
+use Rattle.yq_rows.specs.Splices.{first_gap, splice_part, asked_at, rest_behind, CutsItsText}
 use Rattle.yq_rows.specs.View.{rows_of}
 use Rattle.yq_rows.proofs.ExchangeLaws.{one_row, slice_front, slice_back}
 use Rattle.yq_rows.proofs.splices.PartPlaces.{row_stands}
@@ -40,14 +40,7 @@ behind_is (x ∷ rows) (suc i) rest = behind_is rows i rest
 
 part_content : (p : Part) (i : ℕ) (r : Row) (new : Content) → slice_get p.rows i ≡ Some r →
     with_content_in i new p ≡ splice_part (length (take i p.rows)) (suc (length (take i p.rows))) (with_content new r ∷ []) (first_gap (drop (suc i) p.rows) p.end) p
-part_content p i r new h =
-    let s : Row = with_content new r in
-    let back = drop (suc i) p.rows in
-    let gap = first_gap back p.end in
-    let rows : with_content_at i new p.rows ≡ take i p.rows ++ (s ∷ with_first_gap gap back) = content_around p.rows i r new h ∙ ap (λ (b : List Row). take i p.rows ++ (s ∷ b)) (sym (own_gap back p.end)) in
-    let own : with_content_in i new p ≡ splice_part i (suc i) (s ∷ []) gap p =
-    ap (λ (rs : List Row). record { rows = rs; end = p.end }) rows ∙ ap (λ (e : List ℕ). record { rows = take i p.rows ++ (s ∷ with_first_gap gap back); end = e }) (sym (own_end back p.end)) in
-    subst (λ (n : ℕ). with_content_in i new p ≡ splice_part n (suc n) (s ∷ []) gap p) (sym (count_front p.rows i r h)) own
+part_content p i r new h = search (rules, content_around, own_gap, own_end, count_front)
 
 pub row_placed : (c : Cut) (i : ℕ) (r : Row) → slice_get (rows_of c) i ≡ Some r → RowPlace i r c
 row_placed (last p) i r h = record {
@@ -101,9 +94,7 @@ content_exchanged t c i r new h is f = exchanged_by t c i r new h is (λ limit r
 
 -- a row with neither a dash nor a key
 bare_mark : (m : Mark) (new : Content) (rest : List ℕ) → is_entry m ≡ false → may_be_alone new ≡ true → IsMark m new rest
-bare_mark Bare new rest e alone = alone
-bare_mark Dash new rest e alone = absurd (false≢true (sym e))
-bare_mark (Key key colon) new rest e alone = absurd (false≢true (sym e))
+bare_mark m new rest h1 h2 = search (rules, false≢true)
 
 bare_row : (limit : Limit) (r : Row) (new : Content) (rest : List ℕ) (behind : List Row) → IsRow limit r rest → FitsAlone new r rest behind → IsRow limit (with_content new r) rest
 bare_row limit r new rest behind h f = record {

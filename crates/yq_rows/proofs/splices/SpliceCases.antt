@@ -1,5 +1,5 @@
 -- Rows put in, taken away, or exchanged for others that begin like them.
-use Rattle.std.proofs.Common.{◌≡◌, ℕ, zero, suc, Bool, true, false, not, ◌||◌, List, [], ◌∷◌, ◌++◌, take, drop, refl, sym, ap, ◌∙◌, ⊎_elim}
+use Rattle.std.proofs.Common.{◌≡◌, ℕ, Bool, true, false, not, ◌||◌, List, [], ◌++◌, take, drop, refl, sym, ap, ◌∙◌, ⊎_elim, rules}
 use Rattle.std.proofs.lemmas.Bool.{false≢true, or_right, cases_Bool}
 use Rattle.yq_rows.specs.Exchange.{allows_first, asked_behind}
 use Rattle.yq_rows.specs.Grammar.{unlimited, no_rows, IsPart, IsCut, AreRows}
@@ -13,14 +13,10 @@ use Rattle.yq_rows.proofs.splices.PartPlaces.{part_after, part_in}
 use Rattle.yq_rows.proofs.splices.SpliceLaws.{spliced}
 
 more_of : (i : ℕ) (rs : List Row) → no_rows (drop i rs) ≡ false → no_rows rs ≡ false
-more_of zero rs h = h
-more_of (suc i) [] h = h
-more_of (suc i) (r ∷ rs) h = refl
+more_of i rs h1 = search rules
 
 more_front : (i : ℕ) (rs : List Row) → no_rows (take i rs) ≡ false → no_rows rs ≡ false
-more_front zero rs h = absurd (false≢true (sym h))
-more_front (suc i) [] h = h
-more_front (suc i) (r ∷ rs) h = refl
+more_front i rs h1 = search (rules, false≢true)
 
 -- where rows are, a document is open
 pub open_part : (started b : Bool) → (started || b) ≡ true → b ≡ false → started ≡ true

@@ -1,5 +1,5 @@
 -- Rows in the place of others, in a part and in a cut.
-use Rattle.std.proofs.Common.{◌≡◌, ◌⊎◌, inl, inr, ℕ, zero, suc, Bool, true, false, not, ◌||◌, List, [], ◌∷◌, ◌++◌, take, drop, refl, ap, ◌∙◌, subst, ⊎_elim, arith, Some}
+use Rattle.std.proofs.Common.{◌≡◌, ◌⊎◌, inl, inr, ℕ, zero, suc, Bool, true, false, not, ◌||◌, List, [], ◌∷◌, ◌++◌, take, drop, refl, ap, ◌∙◌, subst, ⊎_elim, arith, Some, rules}
 use Rattle.std.proofs.lemmas.Bool.{false≢true, or_right}
 use Rattle.std.proofs.lemmas.List.{take-append-drop}
 use Rattle.yq_flow_scalars.specs.Text.{is_empty, is_marker}
@@ -21,19 +21,13 @@ Fronts marker t u = Alike (Some false) t u ⊎ (is_after marker u ≡ true)
 
 -- parts
 no_more : (a b c : List Row) → no_rows a ≡ true → no_rows b ≡ true → no_rows c ≡ true → no_rows (a ++ (b ++ c)) ≡ true
-no_more [] [] c x y z = z
-no_more [] (r ∷ b) c x y z = absurd (false≢true y)
-no_more (r ∷ a) b c x y z = absurd (false≢true x)
+no_more a b c h1 h2 h3 = search (rules, false≢true)
 
 no_take : (i : ℕ) (rs : List Row) → no_rows rs ≡ true → no_rows (take i rs) ≡ true
-no_take zero rs h = refl
-no_take (suc i) [] h = refl
-no_take (suc i) (r ∷ rs) h = absurd (false≢true h)
+no_take i rs h1 = search (rules, false≢true)
 
 no_drop : (gap : List ℕ) (j : ℕ) (rs : List Row) → no_rows rs ≡ true → no_rows (with_first_gap gap (drop j rs)) ≡ true
-no_drop gap zero [] h = refl
-no_drop gap (suc j) [] h = refl
-no_drop gap j (r ∷ rs) h = absurd (false≢true h)
+no_drop gap j rs h1 = search (rules, false≢true)
 
 part_open : (started : Bool) (i j : ℕ) (new : List Row) (gap : List ℕ) (rs : List Row) → (started || no_rows rs) ≡ true → (started || no_rows new) ≡ true → (started || no_rows (take i rs ++ (new ++ with_first_gap gap (drop j rs)))) ≡ true
 part_open true i j new gap rs h k = refl

@@ -1,5 +1,5 @@
 -- The text of a cut at rows, and of a cut in which other rows stand there.
-use Rattle.std.proofs.Common.{◌≡◌, ℕ, zero, suc, ◌≤◌, true, List, [], ◌∷◌, ◌++◌, take, drop, refl, sym, ap, ◌∙◌, arith, append_assoc}
+use Rattle.std.proofs.Common.{◌≡◌, ℕ, zero, suc, ◌≤◌, true, List, [], ◌∷◌, ◌++◌, take, drop, refl, sym, ap, ◌∙◌, arith, append_assoc, rules}
 use Rattle.std.proofs.lemmas.Bool.{and_parts}
 use Rattle.std.proofs.lemmas.List.{take-append-drop}
 use Rattle.yq_rows.specs.Gap.{IsGap}
@@ -22,10 +22,7 @@ nil_before [] t = refl
 nil_before (r ∷ rs) t = ap (print_row r) (nil_before rs t) ∙ row_then r (rows_text rs []) t
 
 rows_place : (i j : ℕ) (new : List Row) (gap : List ℕ) (p : Part) (rest : List ℕ) → part_text (splice_part i j new gap p) rest ≡ rows_text (take i p.rows) [] ++ rows_text new (gap ++ behind_first (drop j p.rows) p.end rest)
-rows_place i j new gap p rest =
-    rows_text-append (take i p.rows) (new ++ with_first_gap gap (drop j p.rows)) (end_gap gap (drop j p.rows) p.end ++ rest)
-    ∙ (ap (rows_text (take i p.rows)) (spliced_text new gap (drop j p.rows) p.end rest)
-    ∙ nil_before (take i p.rows) (rows_text new (gap ++ behind_first (drop j p.rows) p.end rest)))
+rows_place i j new gap p rest = search (rules, rows_text-append, spliced_text, nil_before)
 
 pub new_text : (c : Cut) (k i j : ℕ) (new : List Row) (gap : List ℕ) → cut_text (splice k i j new gap c) ≡ before_rows k i c ++ rows_text new (gap ++ behind_rows k j c)
 new_text (last p) k i j new gap = rows_place i j new gap p []
