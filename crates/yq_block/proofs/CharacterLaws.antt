@@ -6,16 +6,16 @@ use Rattle.std.proofs.lemmas.Str.{chars-append, IsUtf8-append, IsUtf8-nil}
 use Rattle.std.specs.List.{list_all}
 use Rattle.std.specs.Str.{chars, IsUtf8}
 use lib.Utf8.{encode}
-use Rattle.yq_scalar.specs.declared.block_written.Break.{Break}
-use Rattle.yq_scalar.specs.declared.block_written.Break.TheVariants as breaks
-use Rattle.yq_scalar.specs.BlockWritten.{break_text}
+use Rattle.yq_block_scalars.specs.declared.block_types.Break.{Break}
+use Rattle.yq_block_scalars.specs.declared.block_types.Break.TheVariants as breaks
+use Rattle.yq_block_scalars.specs.BlockWritten.{break_text}
 use Rattle.yq_flow_scalars.specs.Characters.{is_text, is_text_char, pairs_returns}
 use Rattle.yq_flow_scalars.specs.Tree as tree
 use Rattle.yq_flow_scalars.specs.Tree.{Children}
-use Rattle.yq_inline.specs.Nodes as inline
-use Rattle.yq_inline.specs.Nodes.{node_text}
+use Rattle.yq_nodes.specs.Nodes as inline
+use Rattle.yq_nodes.specs.Nodes.{node_text}
 use Rattle.yq_flow.specs.Valued.{IsLabel, IsValueTree, AreValueTrees}
-use Rattle.yq_rows.proofs.CharacterLaws.{pairs_join}
+use Rattle.yq_cut.proofs.CharacterLaws.{pairs_join}
 use Rattle.yq_block.specs.BlockRows.{block_key, column_below, inline_of}
 use Rattle.yq_block.specs.BlockText.{block_children, block_entry, block_node, then_lines}
 use Rattle.yq_block.specs.declared.layout.Layout.{Layout}

@@ -2,14 +2,14 @@
 use Rattle.std.proofs.Common.{◌≡◌, ℕ, suc, ◌≤◌, Bool, true, false, not, ◌&&◌, ◌||◌, eqb, List, ◌++◌, Option, Some, None, refl, sym, ◌∙◌, inl, inr, arith, []}
 use Rattle.std.proofs.lemmas.Bool.{false≢true, not-true, false_from_ne_true, le-leb, leb-true, and_parts, cases_Bool}
 use Rattle.std.specs.Prelude.{nat_le}
-use Rattle.yq_scalar.specs.declared.block_written.Break.{Break}
-use Rattle.yq_scalar.specs.declared.block_written.Break.TheVariants as breaks
-use Rattle.yq_scalar.specs.BlockWritten.{break_text}
+use Rattle.yq_block_scalars.specs.declared.block_types.Break.{Break}
+use Rattle.yq_block_scalars.specs.declared.block_types.Break.TheVariants as breaks
+use Rattle.yq_block_scalars.specs.BlockWritten.{break_text}
 use Rattle.yq_flow_scalars.specs.Lines.{spaces}
 use Rattle.yq_flow_scalars.specs.Plain.{no_gap, last_line, may_follow, follows, ends_plain, ends_text}
 use Rattle.yq_flow_scalars.specs.Text.{cut, is_space, is_empty, is_line, front, is_marker}
-use Rattle.yq_rows.specs.Grammar.{IsTail}
-use Rattle.yq_rows.proofs.PlainEnds.{AtLine, tail_ends}
+use Rattle.yq_cut.specs.Grammar.{IsTail}
+use Rattle.yq_cut.proofs.PlainEnds.{AtLine, tail_ends}
 use Rattle.yq_block.specs.BlockValues.{IsEnd}
 
 -- a break

@@ -2,14 +2,14 @@
 use Rattle.std.proofs.Common.{◌≡◌, ℕ, Bool, true, false, List, [], ◌∷◌, ◌++◌, Option, Some, None, refl, sym, subst}
 use Rattle.yq_flow_scalars.specs.Tree as tree
 use Rattle.yq_flow_scalars.specs.Tree.{Children}
-use Rattle.yq_inline.specs.Nodes as inline
+use Rattle.yq_nodes.specs.Nodes as inline
 use Rattle.yq_flow.specs.Valued.{IsValueTree, AreValueTrees}
-use Rattle.yq_rows.specs.Rows as rows
-use Rattle.yq_rows.specs.Rows.{Row}
+use Rattle.yq_cut.specs.Rows as rows
+use Rattle.yq_cut.specs.Rows.{Row}
 use Rattle.yq_flow_scalars.specs.Anchors.{names_of, names_in, AreBound}
 use Rattle.yq_lines.specs.LineAnchors.{HaveOneAnchorEach}
 use Rattle.yq_documents.specs.Documents.{MarkIsFit, ContentHasFitKeys, HaveFitKeys}
-use Rattle.yq_walk.specs.Lines.{content_anchor, lines_from, lines_of}
+use Rattle.yq_row_lines.specs.Lines.{content_anchor, lines_from, lines_of}
 use Rattle.yq_lines.specs.Outline.{Line}
 use Rattle.yq_block.specs.BlockRows.{behind_dash, children_rows, column_below, end_before, entry_rows, inline_of, node_rows}
 use Rattle.yq_block.specs.declared.layout.Layout.{Layout}

@@ -14,12 +14,12 @@ use Rattle.yq_flow_scalars.specs.Scalar.{string_of}
 use Rattle.yq_flow_scalars.specs.Writable.{can_write_plain}
 use Rattle.yq_flow_scalars.specs.Written.{written_letters, letter_of, double_by, in_double, written, double}
 use Rattle.yq_flow_scalars.proofs.Bools.{chosen}
-use Rattle.yq_scalar.proofs.PlainSpells.{writable_text}
-use Rattle.yq_scalar.proofs.PlainWritten.{plain_text_parts}
-use Rattle.yq_inline.specs.Written.{scalar_text}
+use Rattle.yq_block_scalars.proofs.PlainSpells.{writable_text}
+use Rattle.yq_block_scalars.proofs.PlainWritten.{plain_text_parts}
+use Rattle.yq_nodes.specs.Written.{scalar_text}
 use Rattle.yq_flow.proofs.SpelledScalars.{plain_anywhere}
-use Rattle.yq_inline.proofs.Alikes.{no_first, no_second, no_third}
-use Rattle.yq_scalar.proofs.WrittenText.{scalars_append}
+use Rattle.yq_nodes.proofs.Alikes.{no_first, no_second, no_third}
+use Rattle.yq_block_scalars.proofs.WrittenText.{scalars_append}
 use Rattle.std.specs.Prelude.{◌≢◌}
 use Rattle.std.proofs.Common.{codes}
 use Rattle.yq_flow_scalars.specs.Text.{front, is_marker}

@@ -1,13 +1,13 @@
 -- Rows that are written one behind the other.
 use Rattle.std.proofs.Common.{◌≡◌, ℕ, suc, ◌≤◌, true, eqb, List, [], ◌∷◌, ◌++◌, refl, sym, ap, subst, arith}
 use Rattle.std.proofs.Math.Bool.{and-false}
-use Rattle.yq_rows.specs.Exchange.{asked_behind}
-use Rattle.yq_rows.specs.Gap.{IsGap}
-use Rattle.yq_rows.specs.Grammar.{IsContent, is_entry, IsRow, Limit, unlimited, allows, limit_after, limit_behind, AreRows}
-use Rattle.yq_rows.specs.Rows.{dashes_text, behind_dashes, behind_gap, Row, behind_columns, parent_of, parent_indent, rows_text}
-use Rattle.yq_inline.proofs.Alikes.{sep_first}
-use Rattle.yq_rows.proofs.PlainEnds.{AtLine, row_at_line}
-use Rattle.yq_rows.proofs.seams.SeamLaws.{rows_text-append}
+use Rattle.yq_cut.specs.Exchange.{asked_behind}
+use Rattle.yq_cut.specs.Gap.{IsGap}
+use Rattle.yq_cut.specs.Grammar.{IsContent, is_entry, IsRow, Limit, unlimited, allows, limit_after, limit_behind, AreRows}
+use Rattle.yq_cut.specs.Rows.{dashes_text, behind_dashes, behind_gap, Row, behind_columns, parent_of, parent_indent, rows_text}
+use Rattle.yq_nodes.proofs.Alikes.{sep_first}
+use Rattle.yq_cut.proofs.PlainEnds.{AtLine, row_at_line}
+use Rattle.yq_cut.proofs.seams.SeamLaws.{rows_text-append}
 use Rattle.yq_block.specs.BlockRows.{item_column, behind_dash}
 
 -- Rows begin at a column, before a rest, behind any row that allows it; what stands behind them may begin at any column up to that.

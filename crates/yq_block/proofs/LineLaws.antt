@@ -1,20 +1,20 @@
 -- The lines of what is written in block style are those of its value.
 use Rattle.std.proofs.Common.{◌≡◌, ℕ, ◌+◌, ◌*◌, ◌<◌, ◌≤◌, Bool, true, false, List, [], ◌∷◌, ◌++◌, Option, Some, None, refl, sym, ap, ◌∙◌, subst, arith}
 use Rattle.std.specs.Str.{IsUtf8}
-use Rattle.yq_scalar.specs.declared.block_written.Break.{Break}
-use Rattle.yq_scalar.specs.declared.block_written.Break.TheVariants as breaks
-use Rattle.yq_scalar.specs.BlockWritten.{break_text}
+use Rattle.yq_block_scalars.specs.declared.block_types.Break.{Break}
+use Rattle.yq_block_scalars.specs.declared.block_types.Break.TheVariants as breaks
+use Rattle.yq_block_scalars.specs.BlockWritten.{break_text}
 use Rattle.yq_flow_scalars.specs.Text.{lines_of as text_lines, upto}
 use Rattle.yq_flow_scalars.specs.Tree as tree
 use Rattle.yq_flow_scalars.specs.Tree.{Children}
-use Rattle.yq_inline.specs.Nodes as inline
-use Rattle.yq_inline.specs.Trees.{inner}
+use Rattle.yq_nodes.specs.Nodes as inline
+use Rattle.yq_nodes.specs.Trees.{inner}
 use Rattle.yq_flow.specs.Valued.{IsLabel, IsValueTree, AreValueTrees}
 use Rattle.yq_lines.specs.Comments.{head_comment, line_comment}
-use Rattle.yq_rows.specs.Rows as rows
-use Rattle.yq_rows.specs.Rows.{Nothing, Inline, Row, behind_columns}
+use Rattle.yq_cut.specs.Rows as rows
+use Rattle.yq_cut.specs.Rows.{Nothing, Inline, Row, behind_columns}
 use Rattle.yq_lines.specs.Grammar.{IsNode, mapping, sequence, AreEntries, no_more, entry, IsUnder, headed, deeper_lines}
-use Rattle.yq_walk.specs.Lines.{mark_line, dash_line, lines_from, row_lines, lines_of}
+use Rattle.yq_row_lines.specs.Lines.{mark_line, dash_line, lines_from, row_lines, lines_of}
 use Rattle.yq_lines.specs.Outline.{Mark, Bare, Key, Dash, Line, rank, level, anchored, label}
 use Rattle.yq_lines.proofs.NodeLaws.{anchored_none}
 use Rattle.yq_places.proofs.UnderExchange.{lines_append}
@@ -104,10 +104,10 @@ under_dash column (tree.scalar a kind t) b = absurd b
 under_dash column (tree.list a cs) b = omega arith
 under_dash column (tree.map a cs) b = omega arith
 
-key_label : (k : List ℕ) (column : ℕ) (c : rows.Content) → IsUtf8 k → line_comment (Rattle.yq_walk.specs.Lines.tail_of c) ≡ None → label (mark_line (head_comment []) column (rows.Key (block_key k) (58 ∷ [])) c) ≡ inner (Some k)
+key_label : (k : List ℕ) (column : ℕ) (c : rows.Content) → IsUtf8 k → line_comment (Rattle.yq_row_lines.specs.Lines.tail_of c) ≡ None → label (mark_line (head_comment []) column (rows.Key (block_key k) (58 ∷ [])) c) ≡ inner (Some k)
 key_label k column c u uncommented = λ i. record { key = Some (key_content_is k u i); head_comment = no_head i; line_comment = uncommented i }
 
-dash_label : (column : ℕ) (c : rows.Content) → line_comment (Rattle.yq_walk.specs.Lines.tail_of c) ≡ None → label (mark_line (head_comment []) column rows.Dash c) ≡ inner None
+dash_label : (column : ℕ) (c : rows.Content) → line_comment (Rattle.yq_row_lines.specs.Lines.tail_of c) ≡ None → label (mark_line (head_comment []) column rows.Dash c) ≡ inner None
 dash_label column c uncommented = λ i. record { key = None; head_comment = no_head i; line_comment = uncommented i }
 
 entry_lines : (l : Layout) (column : ℕ) (end : List ℕ) (keyed : Bool) (own_label : tree.Label) (n : tree.Node) (node : Option inline.Node) (below : List Row) (after : List Line) (cs : Children) → 1 ≤ l.mapping →

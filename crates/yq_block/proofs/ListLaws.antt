@@ -6,14 +6,14 @@ use Rattle.std.specs.declared.alloc.Global.{Global}
 use Rattle.std.specs.Option.{is_none}
 use Rattle.std.specs.Prelude.{Vec, nat_eq}
 use Rattle.std.specs.Vec.{vec_len}
-use Rattle.yq_scalar.specs.BlockWritten.{break_text}
+use Rattle.yq_block_scalars.specs.BlockWritten.{break_text}
 use Rattle.yq_flow_scalars.specs.Tree as tree
-use Rattle.yq_inline.specs.declared.value.Value.{Value}
-use Rattle.yq_inline.specs.declared.value.Value.TheVariants as values
-use Rattle.yq_inline.specs.Nodes as inline
-use Rattle.yq_inline.specs.Nodes.{node_text}
-use Rattle.yq_inline.specs.Values.{node_of, field_of, items, entries}
-use Rattle.yq_inline.proofs.WrittenLaws.{node_list, node_map, map_twice}
+use Rattle.yq_nodes.specs.declared.value.Value.{Value}
+use Rattle.yq_nodes.specs.declared.value.Value.TheVariants as values
+use Rattle.yq_nodes.specs.Nodes as inline
+use Rattle.yq_nodes.specs.Nodes.{node_text}
+use Rattle.yq_nodes.specs.Values.{node_of, field_of, items, entries}
+use Rattle.yq_nodes.proofs.WrittenLaws.{node_list, node_map, map_twice}
 use Rattle.yq_block.specs.Alone.{alone}
 use Rattle.yq_block.specs.BlockReading.{block_front, block_item, block_list, block_map, block_pair, is_filled, line_front, parted}
 use Rattle.yq_block.specs.BlockRows.{block_key, indent_step, inline_of, item_column}

@@ -2,23 +2,23 @@
 use Rattle.std.proofs.Common.{◌≡◌, ℤ, ℕ, suc, ◌+◌, ◌≤◌, true, false, not, ◌&&◌, eqb, List, [], ◌∷◌, ◌++◌, None, refl, sym, ap, ◌∙◌, subst, arith, append_assoc, replicate, Some}
 use Rattle.std.proofs.lemmas.Bool.{false≢true}
 use Rattle.yq_flow_scalars.specs.Text.{separates, upto}
-use Rattle.yq_inline.specs.Alike.{Alike, byte}
+use Rattle.yq_nodes.specs.Alike.{Alike, byte}
 use Rattle.yq_lines.specs.Comments.{head_comment, line_comment}
-use Rattle.yq_rows.specs.Exchange.{asked_behind, with_content, allows_first}
-use Rattle.yq_inline.specs.Nodes as inline
-use Rattle.yq_rows.specs.Alone.{holds_nothing}
-use Rattle.yq_rows.specs.Grammar.{IsContent, IsMark, is_entry, is_more, is_plain, AreDashes, Limit, unlimited, allows, limit_after, limit_behind, IsRow, AreRows}
-use Rattle.yq_rows.specs.Rows.{Mark, Dash, Content, Nothing, Inline, Block, dashes_text, mark_text, content_text, behind_dashes, behind_indent, behind_gap, Row, behind_columns, mark_column, parent_of, parent_indent, print_row, rows_text}
-use Rattle.yq_rows.proofs.AlikeRows.{row_gap_alike, dashes_text_alike}
-use Rattle.yq_inline.proofs.Alikes.{alike_append, alike_marker}
-use Rattle.yq_rows.proofs.ExchangeLaws.{one_row, relimit, chain}
-use Rattle.yq_rows.proofs.NodeExchange.{mark_apart}
-use Rattle.yq_walk.specs.Lines.{dash_line, lines_from, row_lines, lines_of}
+use Rattle.yq_cut.specs.Exchange.{asked_behind, with_content, allows_first}
+use Rattle.yq_nodes.specs.Nodes as inline
+use Rattle.yq_cut.specs.Alone.{holds_nothing}
+use Rattle.yq_cut.specs.Grammar.{IsContent, IsMark, is_entry, is_more, is_plain, AreDashes, Limit, unlimited, allows, limit_after, limit_behind, IsRow, AreRows}
+use Rattle.yq_cut.specs.Rows.{Mark, Dash, Content, Nothing, Inline, Block, dashes_text, mark_text, content_text, behind_dashes, behind_indent, behind_gap, Row, behind_columns, mark_column, parent_of, parent_indent, print_row, rows_text}
+use Rattle.yq_cut.proofs.AlikeRows.{row_gap_alike, dashes_text_alike}
+use Rattle.yq_nodes.proofs.Alikes.{alike_append, alike_marker}
+use Rattle.yq_cut.proofs.ExchangeLaws.{one_row, relimit, chain}
+use Rattle.yq_cut.proofs.NodeExchange.{mark_apart}
+use Rattle.yq_row_lines.specs.Lines.{dash_line, lines_from, row_lines, lines_of}
 use Rattle.yq_lines.specs.Outline as outline
 use Rattle.yq_lines.specs.Outline.{Line}
-use Rattle.yq_rows.specs.Joined.{dashed_row, compact_row}
-use Rattle.yq_rows.proofs.seams.JoinLaws.{space_apart, dashes_text-append, behind_columns-append}
-use Rattle.yq_rows.proofs.seams.SeamLaws.{rows_text-append}
+use Rattle.yq_cut.specs.Joined.{dashed_row, compact_row}
+use Rattle.yq_cut.proofs.seams.JoinLaws.{space_apart, dashes_text-append, behind_columns-append}
+use Rattle.yq_cut.proofs.seams.SeamLaws.{rows_text-append}
 use Rattle.yq_block.specs.BlockPlaces.{compact_rows, IsUpto, at_mark, at_dash, IsAbove, Replaces, BeginsUpto}
 use Rattle.yq_block.specs.BlockRows.{item_column}
 use Rattle.yq_block.proofs.LaidRows.{AreLaid, IsLaid, rows_append}

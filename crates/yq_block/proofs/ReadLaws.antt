@@ -5,23 +5,23 @@ use Rattle.std.proofs.lemmas.Str.{is_utf8-from_IsUtf8}
 use Rattle.yq_flow_scalars.specs.Characters.{text_limit}
 use Rattle.yq_flow_scalars.specs.Text.{is_marker}
 use Rattle.yq_flow_scalars.specs.Tree as tree
-use Rattle.yq_inline.specs.Nodes as inline
-use Rattle.yq_inline.specs.Nodes.{node_text}
+use Rattle.yq_nodes.specs.Nodes as inline
+use Rattle.yq_nodes.specs.Nodes.{node_text}
 use Rattle.yq_flow.specs.Valued.{IsValueTree}
-use Rattle.yq_inline.proofs.WrittenLaws.{node_then}
+use Rattle.yq_nodes.proofs.WrittenLaws.{node_then}
 use Rattle.yq_lines.specs.Comments.{head_comment}
-use Rattle.yq_rows.specs.Grammar.{is_entry, is_plain, unlimited, AreRows, no_rows}
-use Rattle.yq_rows.specs.Rows as rows
-use Rattle.yq_rows.specs.Rows.{Bare, Inline, Row, rows_text, last, cut_text}
-use Rattle.yq_rows.specs.Splices.{first_gap}
+use Rattle.yq_cut.specs.Grammar.{is_entry, is_plain, unlimited, AreRows, no_rows}
+use Rattle.yq_cut.specs.Rows as rows
+use Rattle.yq_cut.specs.Rows.{Bare, Inline, Row, rows_text, last, cut_text}
+use Rattle.yq_cut.specs.Splices.{first_gap}
 use Rattle.yq_documents.specs.Documents.{IsRoot, HasShortRoot, is_long_plain, Reads, document_parts, AreDocuments}
 use Rattle.yq_lines.specs.Grammar.{IsNode, alone, mapping, sequence}
-use Rattle.yq_walk.specs.Lines.{lines_of}
+use Rattle.yq_row_lines.specs.Lines.{lines_of}
 use Rattle.yq_lines.specs.Outline.{Line}
 use Rattle.std.proofs.Common.{not}
-use Rattle.yq_scalar.specs.BlockWritten.{break_text}
-use Rattle.yq_rows.proofs.PlainEnds.{end_line}
-use Rattle.yq_inline.proofs.Alikes.{no_first}
+use Rattle.yq_block_scalars.specs.BlockWritten.{break_text}
+use Rattle.yq_cut.proofs.PlainEnds.{end_line}
+use Rattle.yq_nodes.proofs.Alikes.{no_first}
 use Rattle.yq_block.specs.BlockLaws.{ReadsAlone}
 use Rattle.yq_block.specs.BlockRows.{node_rows}
 use Rattle.yq_block.specs.BlockText.{block_node, block_value}

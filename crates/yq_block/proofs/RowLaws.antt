@@ -3,18 +3,18 @@ use Rattle.std.proofs.Common.{◌≡◌, ℕ, suc, ◌+◌, ◌≤◌, pos, Bool
 use Rattle.std.proofs.Math.Bool.{and-false}
 use Rattle.std.proofs.lemmas.Bool.{lt-ltb}
 use Rattle.std.specs.Str.{IsUtf8}
-use Rattle.yq_scalar.specs.declared.block_written.Break.{Break}
-use Rattle.yq_scalar.specs.declared.block_written.Break.TheVariants as breaks
-use Rattle.yq_scalar.specs.BlockWritten.{break_text}
+use Rattle.yq_block_scalars.specs.declared.block_types.Break.{Break}
+use Rattle.yq_block_scalars.specs.declared.block_types.Break.TheVariants as breaks
+use Rattle.yq_block_scalars.specs.BlockWritten.{break_text}
 use Rattle.yq_flow_scalars.specs.Text.{is_marker, separates}
 use Rattle.yq_flow_scalars.specs.Tree as tree
 use Rattle.yq_flow_scalars.specs.Tree.{Children}
-use Rattle.yq_inline.specs.Nodes as inline
-use Rattle.yq_inline.specs.Nodes.{node_text}
+use Rattle.yq_nodes.specs.Nodes as inline
+use Rattle.yq_nodes.specs.Nodes.{node_text}
 use Rattle.yq_flow.specs.Valued.{IsLabel, IsValueTree, AreValueTrees}
-use Rattle.yq_rows.specs.Grammar.{is_plain, unlimited, allows, limit_behind, Limit, is_entry, IsMark, IsContent, IsRow}
-use Rattle.yq_rows.specs.Rows.{Nothing, Inline, Row, rows_text, Mark, Dash, Key, Content, content_text, mark_text, parent_of}
-use Rattle.yq_inline.proofs.Alikes.{sep_first}
+use Rattle.yq_cut.specs.Grammar.{is_plain, unlimited, allows, limit_behind, Limit, is_entry, IsMark, IsContent, IsRow}
+use Rattle.yq_cut.specs.Rows.{Nothing, Inline, Row, rows_text, Mark, Dash, Key, Content, content_text, mark_text, parent_of}
+use Rattle.yq_nodes.proofs.Alikes.{sep_first}
 use Rattle.yq_block.specs.BlockRows.{block_key, children_rows, column_below, end_before, entry_rows, indent_step, inline_of, key_row, node_rows}
 use Rattle.yq_block.specs.BlockValues.{EachHasNearKeys, HasNearKeys, IsEnd, IsFilled, IsNear, IsWritable}
 use Rattle.yq_block.specs.declared.layout.Layout.{Layout}

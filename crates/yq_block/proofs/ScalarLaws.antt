@@ -15,16 +15,16 @@ use Rattle.yq_flow_scalars.specs.Text.{separates}
 use Rattle.yq_flow_scalars.specs.Tree as tree
 use Rattle.yq_flow_scalars.specs.Writable.{can_write, is_string}
 use Rattle.yq_flow_scalars.specs.Written.{written}
-use Rattle.yq_inline.specs.Nodes as inline
-use Rattle.yq_inline.specs.Nodes.{IsNode}
-use Rattle.yq_inline.specs.Scalars.{is_quoted, content_of, scalar_of}
-use Rattle.yq_inline.specs.Trees.{tree_of, scalar_node}
+use Rattle.yq_nodes.specs.Nodes as inline
+use Rattle.yq_nodes.specs.Nodes.{IsNode}
+use Rattle.yq_nodes.specs.Scalars.{is_quoted, content_of, scalar_of}
+use Rattle.yq_nodes.specs.Trees.{tree_of, scalar_node}
 use Rattle.yq_flow.specs.Valued.{IsValid, IsValueTree, SpellsScalar}
-use Rattle.yq_inline.specs.Written.{scalar_text}
-use Rattle.yq_inline.proofs.GapLaws.{none_gap}
+use Rattle.yq_nodes.specs.Written.{scalar_text}
+use Rattle.yq_nodes.proofs.GapLaws.{none_gap}
 use Rattle.yq_flow.proofs.StyledScalars.{styled_spells}
-use Rattle.yq_inline.proofs.WrittenLaws.{double_when}
-use Rattle.yq_rows.specs.Grammar.{IsKey}
+use Rattle.yq_nodes.proofs.WrittenLaws.{double_when}
+use Rattle.yq_cut.specs.Grammar.{IsKey}
 use Rattle.yq_block.specs.BlockRows.{block_key, inline_of}
 use Rattle.yq_block.specs.BlockValues.{IsFilled, IsNear}
 use Rattle.yq_block.specs.BlockLaws.{IsHead}

@@ -1,15 +1,15 @@
 -- The text of rows in block style.
 use Rattle.std.proofs.Common.{◌≡◌, ℕ, Bool, true, false, List, [], ◌∷◌, ◌++◌, Option, Some, None, refl, sym, ap, ◌∙◌, append_assoc, append-nil, replicate}
 use Rattle.std.proofs.lemmas.List.{append_cancel_left}
-use Rattle.yq_scalar.specs.BlockWritten.{break_text}
+use Rattle.yq_block_scalars.specs.BlockWritten.{break_text}
 use Rattle.yq_flow_scalars.specs.Tree as tree
 use Rattle.yq_flow_scalars.specs.Tree.{Children}
-use Rattle.yq_inline.specs.Nodes as inline
-use Rattle.yq_inline.specs.Nodes.{node_text}
+use Rattle.yq_nodes.specs.Nodes as inline
+use Rattle.yq_nodes.specs.Nodes.{node_text}
 use Rattle.yq_flow.specs.Valued.{IsValueTree, AreValueTrees}
-use Rattle.yq_inline.proofs.WrittenLaws.{node_then}
-use Rattle.yq_rows.specs.Rows.{Row, behind_indent, rows_text}
-use Rattle.yq_rows.proofs.seams.SeamLaws.{rows_text-append}
+use Rattle.yq_nodes.proofs.WrittenLaws.{node_then}
+use Rattle.yq_cut.specs.Rows.{Row, behind_indent, rows_text}
+use Rattle.yq_cut.proofs.seams.SeamLaws.{rows_text-append}
 use Rattle.yq_block.specs.BlockRows.{behind_dash, block_key, children_rows, column_below, end_before, entry_rows, inline_of, node_rows}
 use Rattle.yq_block.specs.BlockText.{block_children, block_entry, block_node, then_lines}
 use Rattle.yq_block.specs.BlockValues.{IsFilled}

@@ -2,24 +2,24 @@
 use Rattle.std.specs.Prelude.{◌≡◌, ℕ, ◌<◌, ◌≤◌, ℤ, Option, Some, List, [], ◌∷◌, ◌++◌, replicate, None, true, false, length}
 use Rattle.std.specs.Str.{IsUtf8, chars}
 use Rattle.yq_flow_scalars.specs.declared.style.Place.TheVariants.{Block, FlowKey}
-use Rattle.yq_scalar.specs.BlockWritten.{break_text}
+use Rattle.yq_block_scalars.specs.BlockWritten.{break_text}
 use Rattle.yq_flow_scalars.specs.Characters.{is_text, text_limit}
 use Rattle.yq_flow_scalars.specs.Piece.{deeper}
 use Rattle.yq_flow_scalars.specs.Plain.{ends_plain}
 use Rattle.yq_flow_scalars.specs.Scalar.{string_of}
 use Rattle.yq_flow_scalars.specs.Tree as tree
-use Rattle.yq_inline.specs.Inline.{IsInline}
-use Rattle.yq_inline.specs.Nodes as inline
+use Rattle.yq_nodes.specs.Inline.{IsInline}
+use Rattle.yq_nodes.specs.Nodes as inline
 use Rattle.yq_flow.specs.Valued.{IsValueTree}
-use Rattle.yq_inline.specs.Written.{scalar_text}
+use Rattle.yq_nodes.specs.Written.{scalar_text}
 use Rattle.yq_lines.specs.Comments.{line_comment}
-use Rattle.yq_rows.specs.Exchange.{asked_behind}
-use Rattle.yq_rows.specs.Grammar.{is_more, Limit, allows, AreRows, key_limit}
-use Rattle.yq_rows.specs.Rows.{rows_text}
+use Rattle.yq_cut.specs.Exchange.{asked_behind}
+use Rattle.yq_cut.specs.Grammar.{is_more, Limit, allows, AreRows, key_limit}
+use Rattle.yq_cut.specs.Rows.{rows_text}
 use Rattle.yq_lines.specs.LineAnchors.{HaveOneAnchorEach}
 use Rattle.yq_documents.specs.Documents.{HasFitKeys, HaveFitKeys, Reads}
-use Rattle.yq_inline.specs.Trees.{node_anchor, node_head}
-use Rattle.yq_walk.specs.Lines.{lines_of}
+use Rattle.yq_nodes.specs.Trees.{node_anchor, node_head}
+use Rattle.yq_row_lines.specs.Lines.{lines_of}
 use Rattle.yq_lines.specs.Outline.{Stands}
 use Rattle.yq_block.specs.declared.layout.Layout.{Layout}
 use Rattle.yq_block.specs.BlockRows.{inline_of, column_below, node_rows}

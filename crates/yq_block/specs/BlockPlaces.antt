@@ -2,13 +2,13 @@
 use Rattle.std.specs.Prelude.{◌≡◌, ℕ, ◌≤◌, List, [], ◌∷◌, ◌++◌, true, false, Some}
 use Rattle.yq_flow_scalars.specs.Text.{separates}
 use Rattle.yq_flow_scalars.specs.Tree as tree
-use Rattle.yq_inline.specs.Alike.{Alike}
-use Rattle.yq_rows.specs.Alone.{holds_nothing}
-use Rattle.yq_rows.specs.Exchange.{asked_behind, with_content}
-use Rattle.yq_rows.specs.Grammar.{IsContent, is_entry, Limit, allows, IsRow, AreRows}
-use Rattle.yq_rows.specs.Joined.{dashed_row, compact_row}
-use Rattle.yq_rows.specs.Rows.{Dash, Content, Nothing, content_text, Row, parent_indent, mark_column, print_row, rows_text}
-use Rattle.yq_walk.specs.Lines.{row_lines, lines_of}
+use Rattle.yq_nodes.specs.Alike.{Alike}
+use Rattle.yq_cut.specs.Alone.{holds_nothing}
+use Rattle.yq_cut.specs.Exchange.{asked_behind, with_content}
+use Rattle.yq_cut.specs.Grammar.{IsContent, is_entry, Limit, allows, IsRow, AreRows}
+use Rattle.yq_cut.specs.Joined.{dashed_row, compact_row}
+use Rattle.yq_cut.specs.Rows.{Dash, Content, Nothing, content_text, Row, parent_indent, mark_column, print_row, rows_text}
+use Rattle.yq_row_lines.specs.Lines.{row_lines, lines_of}
 use Rattle.yq_block.specs.declared.layout.Layout.{Layout}
 use Rattle.yq_block.specs.BlockRows.{item_column, node_rows}
 use Rattle.yq_block.specs.BlockValues.{IsFilledValue, IsWritable}

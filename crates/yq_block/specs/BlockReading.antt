@@ -1,7 +1,7 @@
 -- Reading (own; a reader may skip it): items and entries in block style, one behind the other.
 use Rattle.std.specs.Prelude.{ℕ, ◌+◌, List, [], ◌∷◌, ◌++◌, Bool, true, false, replicate, map, if◌then◌else◌}
 use Rattle.std.specs.Option.{is_none}
-use Rattle.yq_scalar.specs.BlockWritten.{break_text}
+use Rattle.yq_block_scalars.specs.BlockWritten.{break_text}
 use Rattle.yq_flow_scalars.specs.Tree as tree
 use Rattle.yq_block.specs.declared.layout.Layout.{Layout}
 use Rattle.yq_block.specs.BlockRows.{inline_of, block_key, indent_step, item_column}

@@ -1,13 +1,13 @@
 -- The rows in which values are written in block style (YAML 1.2.2, sections 8.2.1 and 8.2.2).
 use Rattle.std.specs.Prelude.{ℕ, ◌+◌, List, [], ◌∷◌, ◌++◌, Option, Some, None}
 use Rattle.yq_flow_scalars.specs.declared.style.Place.TheVariants as places
-use Rattle.yq_scalar.specs.BlockWritten.{break_text}
+use Rattle.yq_block_scalars.specs.BlockWritten.{break_text}
 use Rattle.yq_flow_scalars.specs.Scalar.{string_of}
 use Rattle.yq_flow_scalars.specs.Tree as tree
 use Rattle.yq_flow_scalars.specs.Tree.{Children}
-use Rattle.yq_inline.specs.Nodes as inline
-use Rattle.yq_inline.specs.Written.{scalar_text}
-use Rattle.yq_rows.specs.Rows.{Dash, Key, Content, Nothing, Inline, Row, behind_columns}
+use Rattle.yq_nodes.specs.Nodes as inline
+use Rattle.yq_nodes.specs.Written.{scalar_text}
+use Rattle.yq_cut.specs.Rows.{Dash, Key, Content, Nothing, Inline, Row, behind_columns}
 use Rattle.yq_block.specs.declared.layout.Layout.{Layout}
 
 -- the inline node as which a value is written: a scalar, plain if it can be, or an empty collection; others are written in rows (own)

@@ -5,9 +5,9 @@ use Rattle.yq_flow_scalars.specs.Keys.{HasUniqueKeys, depth}
 use Rattle.yq_flow_scalars.specs.Plain.{ends_plain}
 use Rattle.yq_flow_scalars.specs.Tree as tree
 use Rattle.yq_flow_scalars.specs.Tree.{Children}
-use Rattle.yq_inline.specs.Inline.{depth_limit}
+use Rattle.yq_nodes.specs.Inline.{depth_limit}
 use Rattle.yq_flow.specs.Valued.{IsValueTree}
-use Rattle.yq_rows.specs.Grammar.{IsTail, key_limit}
+use Rattle.yq_cut.specs.Grammar.{IsTail, key_limit}
 use Rattle.yq_block.specs.BlockRows.{block_key}
 
 -- a sequence or a mapping (YAML 1.2.2, section 3.2.1.1)

@@ -1,11 +1,11 @@
 pub use Rattle.yq_flow_scalars.specs.Keys
 pub use Rattle.yq_flow_scalars.specs.Tree
 pub use Rattle.yq_flow.specs.Valued
-pub use Rattle.yq_inline.specs.Values
-pub use Rattle.yq_inline.specs.Written
-pub use Rattle.yq_rows.specs.Exchange
-pub use Rattle.yq_rows.specs.Grammar
-pub use Rattle.yq_rows.specs.Rows
+pub use Rattle.yq_nodes.specs.Values
+pub use Rattle.yq_nodes.specs.Written
+pub use Rattle.yq_cut.specs.Exchange
+pub use Rattle.yq_cut.specs.Grammar
+pub use Rattle.yq_cut.specs.Rows
 pub use Rattle.yq_documents.specs.Documents
 pub use Rattle.yq_documents.specs.TreeEdits
 pub use Rattle.yq_lines.specs.Outline

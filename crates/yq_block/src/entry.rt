@@ -1,7 +1,7 @@
 //! An item or entry of a collection, written in block style.
 ghost use Rattle.std.specs.Prelude.{◌≡◌, ◌++◌, IfOk, OnOk, string_bytes};
 ghost use Rattle.yq_flow.specs.Valued.{IsValueTree};
-ghost use Rattle.yq_inline.specs.Values.{node_of};
+ghost use Rattle.yq_nodes.specs.Values.{node_of};
 ghost use Rattle.yq_lines.specs.Bodies.{borrowed};
 ghost use Rattle.yq_block.specs.Alone.{alone};
 ghost use Rattle.yq_block.specs.BlockReading as spec;
@@ -11,7 +11,7 @@ use crate::layout::Layout;
 use crate::pieces::{add, push_front};
 use crate::write::{indent_step, is_filled, push_block};
 use std::alloc::{AllocError, Global};
-use yq_inline::Value;
+use yq_nodes::Value;
 
 /// Adds an item, from its dash on.
 fn push_item(

@@ -1,6 +1,6 @@
 //! How block style looks.
 
-use yq_scalar::Break;
+use yq_block_scalars::Break;
 
 /// The break between lines, and by how many columns a mapping, and a sequence, stands deeper than
 /// its key (YAML 1.2.2, 8.2).

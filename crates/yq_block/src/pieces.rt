@@ -7,7 +7,8 @@ ghost use Rattle.yq_block.specs.BlockRows as rows;
 use crate::layout::Layout;
 use std::alloc::{AllocError, Global};
 use yq_flow::push_scalar;
-use yq_flow_scalars::{Place, Scalar, push_spaces};
+use yq_flow_reading::push_spaces;
+use yq_flow_scalars::{Place, Scalar};
 use yq_scalar::block_written::break_text;
 
 /// The sum of two columns, where there could be so many spaces.

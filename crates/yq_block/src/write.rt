@@ -1,7 +1,7 @@
 //! Values, written in block style.
 ghost use Rattle.std.specs.Prelude.{◌≡◌, ◌++◌, IfOk, OnOk, false, map, string_bytes, true};
 ghost use Rattle.yq_flow.specs.Valued.{AreValueTrees, IsValueTree};
-ghost use Rattle.yq_inline.specs.Values.{entries_of, field_of, items_of, node_of};
+ghost use Rattle.yq_nodes.specs.Values.{entries_of, field_of, items_of, node_of};
 ghost use Rattle.yq_block.specs.BlockReading as spec;
 ghost use Rattle.yq_block.specs.BlockRows as rows;
 ghost use Rattle.yq_block.specs.BlockText.{block_value};
@@ -11,7 +11,7 @@ use crate::pieces::{add, push_front, push_line};
 use std::alloc::{AllocError, Global};
 use yq_flow::push_scalar;
 use yq_flow_scalars::Place;
-use yq_inline::Value;
+use yq_nodes::Value;
 
 /// Whether a value is a collection with an item or entry, which is written in rows.
 #[tactic(auto, using(crate::proofs::ListLaws::list_agrees, crate::proofs::ListLaws::map_agrees))]
@@ -43,7 +43,7 @@ pub fn indent_step(layout: &Layout, value: &Value) -> usize
 /// It goes as deep as the value is nested. A column that has no place in a `usize` is want of
 /// memory, since so many spaces can't be had.
 #[cycle(write)]
-#[tactic(auto, unfolding(yq_inline::specs::Nodes::node_text), using(crate::proofs::ListLaws::list_value, crate::proofs::ListLaws::map_value, yq_flow::proofs::ValuedLaws::map_valid))]
+#[tactic(auto, unfolding(yq_nodes::specs::Nodes::node_text), using(crate::proofs::ListLaws::list_value, crate::proofs::ListLaws::map_value, yq_flow::proofs::ValuedLaws::map_valid))]
 pub fn push_block(
     alloc: Global,
     out: &mut String,

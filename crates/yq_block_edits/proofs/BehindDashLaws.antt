@@ -1,14 +1,14 @@
 -- A collection that begins on the line of a dash.
 use Rattle.std.proofs.Common.{◌≡◌, ℕ, List, [], ◌∷◌, ◌++◌, replicate, refl, sym, ap, ◌∙◌, append_assoc, rules}
 use Rattle.std.proofs.lemmas.List.{append_cancel_left}
-use Rattle.yq_rows.specs.Exchange.{row_front}
-use Rattle.yq_rows.specs.Joined.{compact_row}
-use Rattle.yq_rows.specs.Rows as rows
-use Rattle.yq_rows.specs.Rows.{Row, behind_indent, dashes_text, mark_text, rows_text}
-use Rattle.yq_rows.proofs.seams.JoinLaws.{dashes_text-append}
-use Rattle.yq_rows.proofs.PlaceLaws.{dashes_then}
+use Rattle.yq_cut.specs.Exchange.{row_front}
+use Rattle.yq_cut.specs.Joined.{compact_row}
+use Rattle.yq_cut.specs.Rows as rows
+use Rattle.yq_cut.specs.Rows.{Row, behind_indent, dashes_text, mark_text, rows_text}
+use Rattle.yq_cut.proofs.seams.JoinLaws.{dashes_text-append}
+use Rattle.yq_cut.proofs.PlaceLaws.{dashes_then}
 use Rattle.yq_documents.specs.Documents.{HaveFitKeys}
-use Rattle.yq_rows.specs.Items.{rows_items}
+use Rattle.yq_cut.specs.Items.{rows_items}
 use Rattle.yq_edits.specs.Local.{InFirst}
 use Rattle.yq_edits.proofs.ItemsLocal.{first_within}
 use Rattle.yq_block.specs.BlockPlaces.{compact_rows}

@@ -8,12 +8,12 @@ use Rattle.yq_lines.specs.Comments.{line_comment}
 use Rattle.yq_lines.specs.Outline as outline
 use Rattle.yq_lines.specs.Outline.{end, IsOpen, head_or, value}
 use Rattle.yq_lines.specs.Places.{content}
-use Rattle.yq_rows.specs.Exchange.{with_content}
-use Rattle.yq_rows.specs.Grammar.{allows, limit_behind, IsContent}
-use Rattle.yq_rows.specs.Rows.{Content, content_text, Row, mark_column, parent_indent, rows_text, Cut, cut_text}
+use Rattle.yq_cut.specs.Exchange.{with_content}
+use Rattle.yq_cut.specs.Grammar.{allows, limit_behind, IsContent}
+use Rattle.yq_cut.specs.Rows.{Content, content_text, Row, mark_column, parent_indent, rows_text, Cut, cut_text}
 use Rattle.yq_documents.specs.Documents.{MarkIsFit, ContentHasFitKeys, HaveFitKeys}
-use Rattle.yq_walk.specs.Lines.{content_anchor, head_of, tail_of}
-use Rattle.yq_documents.specs.Nodes.{anchor_of}
+use Rattle.yq_row_lines.specs.Lines.{content_anchor, head_of, tail_of}
+use Rattle.yq_documents.specs.TreeEdits.{anchor_of}
 use Rattle.yq_change.specs.DocumentRows.{behind_document}
 use Rattle.yq_change.proofs.AnchorLaws.{fit_parts}
 use Rattle.yq_change.proofs.ContentLaws.{free_alone}

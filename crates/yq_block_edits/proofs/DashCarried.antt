@@ -1,22 +1,22 @@
 -- A value behind a dash, in the place of the compact collection that begins there.
 use Rattle.std.proofs.Common.{◌≡◌, inl, ℕ, ◌<◌, ◌≤◌, Bool, true, false, cond, List, [], ◌∷◌, ◌++◌, length, replicate, None, Some, refl, sym, ap, ◌∙◌, subst, append_assoc, append-nil}
 use Rattle.std.proofs.lemmas.Option.{same_Some}
-use Rattle.yq_scalar.specs.BlockWritten.{break_text}
+use Rattle.yq_block_scalars.specs.BlockWritten.{break_text}
 use Rattle.yq_flow_scalars.specs.Characters.{text_limit}
 use Rattle.yq_flow_scalars.specs.Paths.{Step}
 use Rattle.yq_flow_scalars.specs.Tree.{Node}
 use Rattle.yq_flow_scalars.specs.declared.style.Place.TheVariants.{Block as InBlock}
 use Rattle.yq_flow.specs.Valued.{IsValueTree}
-use Rattle.yq_inline.proofs.WrittenLaws.{node_then}
+use Rattle.yq_nodes.proofs.WrittenLaws.{node_then}
 use Rattle.yq_lines.specs.Comments.{line_comment}
 use Rattle.yq_lines.specs.Places.{content}
 use Rattle.yq_lines.proofs.Finding.{FoundNode, path_node}
-use Rattle.yq_rows.specs.Exchange.{row_front, with_content}
-use Rattle.yq_rows.specs.Grammar.{IsTail}
-use Rattle.yq_rows.specs.Items.{rows_items}
-use Rattle.yq_rows.specs.Rows.{Cut, Nothing, Row, cut_text, mark_column, rows_text}
-use Rattle.yq_rows.proofs.NothingLaws.{tail_apart}
-use Rattle.yq_rows.proofs.PlaceLaws.{row_front-append}
+use Rattle.yq_cut.specs.Exchange.{row_front, with_content}
+use Rattle.yq_cut.specs.Grammar.{IsTail}
+use Rattle.yq_cut.specs.Items.{rows_items}
+use Rattle.yq_cut.specs.Rows.{Cut, Nothing, Row, cut_text, mark_column, rows_text}
+use Rattle.yq_cut.proofs.NothingLaws.{tail_apart}
+use Rattle.yq_cut.proofs.PlaceLaws.{row_front-append}
 use Rattle.yq_documents.specs.Reading.{outline_of, read_at, root_of}
 use Rattle.yq_places.specs.RowPieces.{upto_dash}
 use Rattle.yq_places.specs.PrintedLines.{last_break, less_break}

@@ -8,11 +8,11 @@ use Rattle.yq_lines.specs.Comments.{line_comment}
 use Rattle.yq_lines.specs.Outline.{level, flatten, Stands}
 use Rattle.yq_lines.specs.Places.{content}
 use Rattle.yq_lines.proofs.ByRules.{rules_give}
-use Rattle.yq_rows.specs.Exchange.{row_front}
-use Rattle.yq_rows.specs.Rows as rows
-use Rattle.yq_rows.specs.Rows.{Nothing, Row, mark_column, rows_text, Cut}
-use Rattle.yq_walk.specs.Lines.{lines_of, tail_of}
-use Rattle.yq_documents.specs.Nodes.{anchor_of}
+use Rattle.yq_cut.specs.Exchange.{row_front}
+use Rattle.yq_cut.specs.Rows as rows
+use Rattle.yq_cut.specs.Rows.{Nothing, Row, mark_column, rows_text, Cut}
+use Rattle.yq_row_lines.specs.Lines.{lines_of, tail_of}
+use Rattle.yq_documents.specs.TreeEdits.{anchor_of}
 use Rattle.yq_change.specs.DocumentRows.{behind_document}
 use Rattle.yq_change.proofs.LineLaws.{above_mark, mark_behind}
 use Rattle.yq_change.proofs.UnderLaws.{dashes_of, line_with}
@@ -26,7 +26,7 @@ use Rattle.yq_block.proofs.LineLaws.{BeginAt, lines_deeper, node_begun, node_sta
 use Rattle.yq_block.proofs.PlaceLaws.{behind_laid, compact_lines}
 use Rattle.yq_block.proofs.RowLaws.{deeper_laid}
 use Rattle.yq_block.proofs.TextLaws.{value_spelled}
-use Rattle.yq_rows.specs.Items.{rows_items}
+use Rattle.yq_cut.specs.Items.{rows_items}
 use Rattle.yq_edits.specs.Local.{InFirst}
 use Rattle.yq_block_edits.proofs.BehindDashLaws.{behind_lead, behind_text, first_row, gap_same, keys_same, more_rows, rows_are}
 use Rattle.yq_block_edits.proofs.ContentRows.{upto_gap}
@@ -65,7 +65,7 @@ module _ (doc : ℕ) (s : Step) (ss : List Step) (c : Cut) (h : NodeRows doc s s
 
   dash_level : level (line_with h.mark (Nothing [])) ≡ entry_level None (mark_column h.mark)
   unfolding level
-  dash_level = ap (λ m. 3 * mark_column h.mark + Rattle.yq_lines.specs.Outline.rank (Rattle.yq_walk.specs.Lines.mark_of m)) dash
+  dash_level = ap (λ m. 3 * mark_column h.mark + Rattle.yq_lines.specs.Outline.rank (Rattle.yq_row_lines.specs.Lines.mark_of m)) dash
 
   new_lines : lines_of behind_rows ≡ dashes_of h.mark ++ (line_with h.mark (Nothing []) ∷ flatten stands.outline)
   new_lines = search (rules, dashes_of, above_mark, compact_lines, begun, mark_behind, append_assoc)

@@ -1,18 +1,18 @@
 -- A value on one line takes the place of what is written on the line of a key or dash, with another content of the row.
 use Rattle.std.proofs.Common.{◌≡◌, ℕ, ◌≤◌, false, true, List, [], ◌∷◌, ◌++◌, length, Some, refl, sym, ap, ◌∙◌, subst, append_assoc, append-nil, rules}
-use Rattle.yq_scalar.specs.BlockWritten.{break_text}
+use Rattle.yq_block_scalars.specs.BlockWritten.{break_text}
 use Rattle.yq_flow_scalars.specs.Characters.{text_limit}
 use Rattle.yq_flow_scalars.specs.Paths.{Step}
 use Rattle.yq_flow_scalars.specs.Text.{is_empty, separates}
 use Rattle.yq_flow_scalars.specs.Tree.{Node}
-use Rattle.yq_scalar.specs.declared.block_written.Break.{Break}
-use Rattle.yq_inline.specs.Nodes.{node_text}
-use Rattle.yq_inline.proofs.WrittenLaws.{node_then}
-use Rattle.yq_rows.specs.Exchange.{row_front, with_content}
-use Rattle.yq_rows.specs.Grammar.{IsContent, IsMark}
-use Rattle.yq_rows.specs.Rows.{Content, Row, content_text, parent_indent, print_row, rows_text, Cut}
-use Rattle.yq_rows.specs.View.{slices}
-use Rattle.yq_rows.proofs.NodeExchange.{mark_apart}
+use Rattle.yq_block_scalars.specs.declared.block_types.Break.{Break}
+use Rattle.yq_nodes.specs.Nodes.{node_text}
+use Rattle.yq_nodes.proofs.WrittenLaws.{node_then}
+use Rattle.yq_cut.specs.Exchange.{row_front, with_content}
+use Rattle.yq_cut.specs.Grammar.{IsContent, IsMark}
+use Rattle.yq_cut.specs.Rows.{Content, Row, content_text, parent_indent, print_row, rows_text, Cut}
+use Rattle.yq_cut.specs.View.{slices}
+use Rattle.yq_cut.proofs.NodeExchange.{mark_apart}
 use Rattle.yq_places.specs.RowPieces.{anchor_before, space_before}
 use Rattle.yq_places.specs.Standings.{Held, RowsOfEntry, held}
 use Rattle.yq_documents.specs.Reading.{read_at}

@@ -1,15 +1,15 @@
 -- What is put in the place of what a key or dash holds carries out a replacement, where rows for the value spell it.
 use Rattle.std.proofs.Common.{◌≡◌, ℕ, ◌≤◌, true, false, List, [], ◌∷◌, ◌++◌, length, Some, refl, sym, ap, ◌∙◌, subst, append_assoc, append-nil, rules}
 use Rattle.std.proofs.lemmas.Option.{same_Some}
-use Rattle.yq_scalar.specs.BlockWritten.{break_text}
+use Rattle.yq_block_scalars.specs.BlockWritten.{break_text}
 use Rattle.yq_flow_scalars.specs.Characters.{text_limit}
 use Rattle.yq_flow_scalars.specs.Paths.{Step}
 use Rattle.yq_flow_scalars.specs.Tree.{Node}
-use Rattle.yq_scalar.specs.declared.block_written.Break.{Break}
+use Rattle.yq_block_scalars.specs.declared.block_types.Break.{Break}
 use Rattle.yq_lines.specs.Places.{content}
 use Rattle.yq_lines.proofs.Finding.{FoundNode, path_node}
-use Rattle.yq_rows.specs.Items.{rows_items}
-use Rattle.yq_rows.specs.Rows.{Row, print_row, rows_text, Cut, cut_text}
+use Rattle.yq_cut.specs.Items.{rows_items}
+use Rattle.yq_cut.specs.Rows.{Row, print_row, rows_text, Cut, cut_text}
 use Rattle.yq_documents.specs.Reading.{outline_of, read_at, root_of}
 use Rattle.yq_places.specs.Standings.{Held, RowsOfEntry, behind_entry, held}
 use Rattle.yq_change.specs.Appends.{inserted}

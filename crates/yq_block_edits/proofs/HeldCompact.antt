@@ -1,7 +1,7 @@
 -- A collection on the line of a dash, in the place of what this holds.
 use Rattle.std.proofs.Common.{◌≡◌, ℕ, ◌≤◌, not, ◌||◌, true, false, cond, List, [], ◌∷◌, ◌++◌, length, None, refl, sym, ap, ◌∙◌, append_assoc, append-nil}
 use Rattle.std.proofs.lemmas.Bool.{not-false, not-true, or_parts}
-use Rattle.yq_scalar.specs.BlockWritten.{break_text}
+use Rattle.yq_block_scalars.specs.BlockWritten.{break_text}
 use Rattle.yq_flow_scalars.specs.Characters.{text_limit}
 use Rattle.yq_flow_scalars.specs.Paths.{Step}
 use Rattle.yq_flow_scalars.specs.Text.{is_empty}
@@ -9,12 +9,12 @@ use Rattle.yq_flow_scalars.specs.Tree.{Node}
 use Rattle.yq_flow.specs.Valued.{IsValueTree}
 use Rattle.yq_lines.specs.Comments.{line_comment}
 use Rattle.yq_lines.specs.Places.{content}
-use Rattle.yq_rows.specs.Exchange.{row_front}
-use Rattle.yq_rows.specs.Rows as rows
-use Rattle.yq_rows.specs.Rows.{Row, mark_column, rows_text, Cut}
-use Rattle.yq_rows.specs.View.{slices}
-use Rattle.yq_walk.specs.Lines.{tail_of}
-use Rattle.yq_documents.specs.Nodes.{anchor_of}
+use Rattle.yq_cut.specs.Exchange.{row_front}
+use Rattle.yq_cut.specs.Rows as rows
+use Rattle.yq_cut.specs.Rows.{Row, mark_column, rows_text, Cut}
+use Rattle.yq_cut.specs.View.{slices}
+use Rattle.yq_row_lines.specs.Lines.{tail_of}
+use Rattle.yq_documents.specs.TreeEdits.{anchor_of}
 use Rattle.yq_documents.proofs.RowLineLaws.{tail_is}
 use Rattle.yq_places.specs.RowPieces.{anchor_before}
 use Rattle.yq_places.specs.Standings.{Held, RowsOfEntry, held}

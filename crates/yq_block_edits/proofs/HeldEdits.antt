@@ -1,14 +1,14 @@
 -- A value put in the place of what a key or dash holds is an edit.
 use Rattle.std.proofs.Common.{◌≡◌, ℕ, ◌≤◌, true, false, List, [], ◌∷◌, length, sym, ◌∙◌}
 use Rattle.std.proofs.lemmas.Bool.{cond_both}
-use Rattle.yq_scalar.specs.BlockWritten.{break_text}
+use Rattle.yq_block_scalars.specs.BlockWritten.{break_text}
 use Rattle.yq_flow_scalars.specs.Characters.{text_limit}
 use Rattle.yq_flow_scalars.specs.Paths.{Step}
 use Rattle.yq_flow_scalars.specs.Tree.{Node}
 use Rattle.yq_flow_scalars.specs.declared.style.Place.TheVariants.{Block as InBlock}
 use Rattle.yq_flow.specs.Valued.{IsValueTree}
-use Rattle.yq_rows.specs.Rows.{Cut}
-use Rattle.yq_rows.specs.Seams.{is_block}
+use Rattle.yq_cut.specs.Rows.{Cut}
+use Rattle.yq_cut.specs.Seams.{is_block}
 use Rattle.yq_places.specs.Standings.{Held, RowsOfEntry, held}
 use Rattle.yq_change.specs.StandingLaws.{StandsThere}
 use Rattle.yq_block.specs.declared.layout.Layout.{Layout}

@@ -1,21 +1,21 @@
 -- A value on the line of a key or dash, in the place of what this holds.
 use Rattle.std.proofs.Common.{◌≡◌, ⊎_elim, ℕ, ◌≤◌, true, false, cond, List, [], ◌∷◌, ◌++◌, length, Some, refl, sym, ap, ◌∙◌}
 use Rattle.std.proofs.lemmas.Bool.{cases_Bool}
-use Rattle.yq_scalar.specs.BlockWritten.{break_text}
+use Rattle.yq_block_scalars.specs.BlockWritten.{break_text}
 use Rattle.yq_flow_scalars.specs.Characters.{text_limit}
 use Rattle.yq_flow_scalars.specs.Paths.{Step}
 use Rattle.yq_flow_scalars.specs.Text.{is_empty}
 use Rattle.yq_flow_scalars.specs.Tree.{Node}
-use Rattle.yq_scalar.specs.declared.block_written.Break.{Break}
-use Rattle.yq_scalar.proofs.LineLaws.{is_empty_is}
-use Rattle.yq_inline.specs.Nodes.{node_text}
-use Rattle.yq_rows.specs.Exchange.{row_front, with_content}
-use Rattle.yq_rows.specs.Grammar.{IsContent}
-use Rattle.yq_rows.specs.Rows.{Content, Part, content_text, parent_indent, rows_text, Cut}
-use Rattle.yq_rows.specs.Seams.{is_block}
-use Rattle.yq_rows.specs.View.{slices}
-use Rattle.yq_rows.proofs.PlaceLaws.{row_front-append}
-use Rattle.yq_walk.specs.Lines.{head_of}
+use Rattle.yq_block_scalars.specs.declared.block_types.Break.{Break}
+use Rattle.yq_block_scalars.proofs.LineLaws.{is_empty_is}
+use Rattle.yq_nodes.specs.Nodes.{node_text}
+use Rattle.yq_cut.specs.Exchange.{row_front, with_content}
+use Rattle.yq_cut.specs.Grammar.{IsContent}
+use Rattle.yq_cut.specs.Rows.{Content, Part, content_text, parent_indent, rows_text, Cut}
+use Rattle.yq_cut.specs.Seams.{is_block}
+use Rattle.yq_cut.specs.View.{slices}
+use Rattle.yq_cut.proofs.PlaceLaws.{row_front-append}
+use Rattle.yq_row_lines.specs.Lines.{head_of}
 use Rattle.yq_documents.specs.Reading.{read_at}
 use Rattle.yq_places.specs.CommentPlaces.{LineEnd, end_before}
 use Rattle.yq_places.specs.PrintedLines.{last_break}

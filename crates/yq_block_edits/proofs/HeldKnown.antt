@@ -1,17 +1,17 @@
 -- What laws of values behind a key or dash ask of its rows.
 use Rattle.std.proofs.Common.{◌≡◌, ℕ, Bool, true, false, List, [], ◌∷◌, ◌++◌, length, None}
-use Rattle.yq_scalar.specs.BlockWritten.{break_text}
+use Rattle.yq_block_scalars.specs.BlockWritten.{break_text}
 use Rattle.yq_flow_scalars.specs.Paths.{Step}
 use Rattle.yq_flow_scalars.specs.Text.{is_empty}
-use Rattle.yq_scalar.specs.declared.block_written.Break.{Break}
+use Rattle.yq_block_scalars.specs.declared.block_types.Break.{Break}
 use Rattle.yq_lines.specs.Comments.{line_comment}
 use Rattle.yq_lines.specs.Places.{content}
-use Rattle.yq_rows.specs.Gap.{IsBreak}
-use Rattle.yq_rows.specs.Grammar.{IsTail}
-use Rattle.yq_rows.specs.Rows.{Row, Cut, cut_text}
-use Rattle.yq_rows.specs.View.{slices}
-use Rattle.yq_walk.specs.Lines.{content_anchor}
-use Rattle.yq_documents.specs.Nodes.{anchor_of}
+use Rattle.yq_cut.specs.Gap.{IsBreak}
+use Rattle.yq_cut.specs.Grammar.{IsTail}
+use Rattle.yq_cut.specs.Rows.{Row, Cut, cut_text}
+use Rattle.yq_cut.specs.View.{slices}
+use Rattle.yq_row_lines.specs.Lines.{content_anchor}
+use Rattle.yq_documents.specs.TreeEdits.{anchor_of}
 use Rattle.yq_places.specs.Standings.{RowsOfEntry, held, is_alone}
 use Rattle.yq_change.specs.TextPieces.{IsPiece}
 use Rattle.yq_change.specs.StandingLaws.{HoldsPieces, StandsThere, held_text}

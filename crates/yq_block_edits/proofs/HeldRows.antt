@@ -1,24 +1,24 @@
 -- What is known of what the key or dash of rows holds.
 use Rattle.std.proofs.Common.{◌≡◌, inl, inr, ℕ, ℤ, true, false, cond, ◌&&◌, List, [], ◌∷◌, ◌++◌, length, Option, Some, None, is_some, refl, sym, ap, ◌∙◌, subst, arith, append_assoc, length-append, rules}
 use Rattle.std.proofs.lemmas.Bool.{false≢true, and_parts}
-use Rattle.yq_scalar.specs.BlockWritten.{break_text}
+use Rattle.yq_block_scalars.specs.BlockWritten.{break_text}
 use Rattle.yq_flow_scalars.specs.Characters.{pairs_returns}
 use Rattle.yq_flow_scalars.specs.Paths.{Step}
 use Rattle.yq_flow_scalars.specs.Text.{is_break, is_empty, is_line}
 use Rattle.yq_flow_scalars.specs.Tree.{Node}
-use Rattle.yq_inline.specs.Nodes.{node_text, IsNode}
+use Rattle.yq_nodes.specs.Nodes.{node_text, IsNode}
 use Rattle.yq_lines.specs.Comments.{line_comment}
 use Rattle.yq_lines.specs.Outline as outline
 use Rattle.yq_lines.specs.Outline.{IsOpen, Line, Outline, anchored, flatten, head_or, value}
 use Rattle.yq_lines.specs.Places.{content}
-use Rattle.yq_rows.specs.Exchange.{asked_behind}
-use Rattle.yq_rows.specs.Gap.{IsBreak}
-use Rattle.yq_rows.specs.Grammar.{IsContent, IsRow, IsTail, unlimited}
-use Rattle.yq_rows.specs.Rows.{Content, Cut, Row, cut_text, parent_indent, rows_text}
-use Rattle.yq_rows.specs.View.{Slices, content_cut, slices}
-use Rattle.yq_rows.proofs.CharacterLaws.{pairs_back}
-use Rattle.yq_walk.specs.Lines.{content_anchor, head_of, lines_of, row_lines}
-use Rattle.yq_documents.specs.Nodes.{anchor_of}
+use Rattle.yq_cut.specs.Exchange.{asked_behind}
+use Rattle.yq_cut.specs.Gap.{IsBreak}
+use Rattle.yq_cut.specs.Grammar.{IsContent, IsRow, IsTail, unlimited}
+use Rattle.yq_cut.specs.Rows.{Content, Cut, Row, cut_text, parent_indent, rows_text}
+use Rattle.yq_cut.specs.View.{Slices, content_cut, slices}
+use Rattle.yq_cut.proofs.CharacterLaws.{pairs_back}
+use Rattle.yq_row_lines.specs.Lines.{content_anchor, head_of, lines_of, row_lines}
+use Rattle.yq_documents.specs.TreeEdits.{anchor_of}
 use Rattle.yq_documents.specs.Reading.{outline_of, read_at}
 use Rattle.yq_places.specs.CommentPlaces.{LineEnd, end_before, line_text}
 use Rattle.yq_places.specs.PrintedLines.{last_break}

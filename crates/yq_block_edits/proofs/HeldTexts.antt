@@ -1,16 +1,16 @@
 -- What is left on the line of the key or dash of rows in front of what is written for a value, and the text of that.
 use Rattle.std.proofs.Common.{◌≡◌, ℕ, List, [], ◌∷◌, ◌++◌, length, refl, sym, ap, ◌∙◌, append_assoc}
 use Rattle.yq_flow_scalars.specs.Paths.{Step}
-use Rattle.yq_inline.specs.Nodes as inline
-use Rattle.yq_inline.specs.Nodes.{node_text}
+use Rattle.yq_nodes.specs.Nodes as inline
+use Rattle.yq_nodes.specs.Nodes.{node_text}
 use Rattle.yq_lines.specs.Comments.{line_comment}
-use Rattle.yq_rows.specs.Exchange.{row_front, with_content}
-use Rattle.yq_rows.specs.Grammar.{IsRow, IsTail}
-use Rattle.yq_rows.specs.Rows.{Row, content_text, parent_indent, rows_text, Cut}
-use Rattle.yq_rows.specs.View.{content_cut, slices}
-use Rattle.yq_rows.proofs.NodeExchange.{mark_apart}
-use Rattle.yq_rows.proofs.PlaceLaws.{row_front-append}
-use Rattle.yq_walk.specs.Lines.{content_anchor}
+use Rattle.yq_cut.specs.Exchange.{row_front, with_content}
+use Rattle.yq_cut.specs.Grammar.{IsRow, IsTail}
+use Rattle.yq_cut.specs.Rows.{Row, content_text, parent_indent, rows_text, Cut}
+use Rattle.yq_cut.specs.View.{content_cut, slices}
+use Rattle.yq_cut.proofs.NodeExchange.{mark_apart}
+use Rattle.yq_cut.proofs.PlaceLaws.{row_front-append}
+use Rattle.yq_row_lines.specs.Lines.{content_anchor}
 use Rattle.yq_documents.proofs.RowLineLaws.{tail_is}
 use Rattle.yq_places.specs.Standings.{RowsOfEntry, before_entry, held}
 use Rattle.yq_change.specs.DocumentRows.{behind_document}

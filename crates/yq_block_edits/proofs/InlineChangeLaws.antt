@@ -1,8 +1,8 @@
 -- A value on one line in the place of an inline node changes its row alone, and leaves its shape.
 use Rattle.std.proofs.Common.{◌≡◌, List, [], ◌∷◌, ◌++◌, is_some, sym, ap, ◌∙◌, refl}
 use Rattle.yq_flow_scalars.specs.declared.style.Place.TheVariants.{Block as InBlock}
-use Rattle.yq_rows.specs.Exchange.{with_content}
-use Rattle.yq_rows.specs.Rows.{Row, parent_indent}
+use Rattle.yq_cut.specs.Exchange.{with_content}
+use Rattle.yq_cut.specs.Rows.{Row, parent_indent}
 use Rattle.yq_places.specs.Standings.{held}
 use Rattle.yq_change.proofs.StandingRows.{rows_stand}
 use Rattle.yq_edits.specs.Layouts.{layout_of}

@@ -4,24 +4,24 @@ use Rattle.std.proofs.lemmas.Bool.{false≢true, and_parts, cases_Bool}
 use Rattle.std.proofs.lemmas.List.Folds.{list_all-append}
 use Rattle.std.specs.List.{list_all, list_any}
 use Rattle.std.specs.Str.{IsUtf8, chars}
-use Rattle.yq_scalar.specs.Block.{BlockText, no_lines, Lines, AreRaw, IsDetected, IsDigit, IsRawLine, IsTextIndent, ends_block}
-use Rattle.yq_scalar.specs.BlockContent.{block_content, broken, ending, folded, kind_of, joint, literal, line_text, part_of}
-use Rattle.yq_scalar.specs.BlockWritten.{break_text, header_text, indented, written, written_line}
+use Rattle.yq_block_scalars.specs.Block.{BlockText, no_lines, Lines, AreRaw, IsDetected, IsDigit, IsRawLine, IsTextIndent, ends_block}
+use Rattle.yq_block_scalars.specs.BlockContent.{block_content, broken, ending, folded, kind_of, joint, literal, line_text, part_of}
+use Rattle.yq_block_scalars.specs.BlockWritten.{break_text, header_text, indented, written, written_line}
 use Rattle.yq_flow_scalars.specs.Characters.{is_text_char}
 use Rattle.yq_flow_scalars.specs.Scalar.{ScalarText}
 use Rattle.yq_flow_scalars.specs.Text.{ends_line, front, is_white, is_feed, is_line, joined, lines_of, upto}
 use Rattle.yq_flow_scalars.specs.Writable.{can_write, is_literal_char, is_literal_text, is_string}
-use Rattle.yq_scalar.specs.declared.block_content.Before.{Before}
-use Rattle.yq_scalar.specs.declared.block_header.Chomping.{Chomping}
-use Rattle.yq_scalar.specs.declared.block_header.Chomping.TheVariants as chompings
-use Rattle.yq_scalar.specs.declared.block_lines.TextIndent.{TextIndent}
-use Rattle.yq_scalar.specs.declared.block_written.Break.{Break}
+use Rattle.yq_block_scalars.specs.declared.block_types.Before.{Before}
+use Rattle.yq_block_scalars.specs.declared.block_header.Chomping.{Chomping}
+use Rattle.yq_block_scalars.specs.declared.block_header.Chomping.TheVariants as chompings
+use Rattle.yq_block_scalars.specs.declared.block_lines.TextIndent.{TextIndent}
+use Rattle.yq_block_scalars.specs.declared.block_types.Break.{Break}
 use Rattle.yq_flow_scalars.specs.declared.style.Place.TheVariants as places
 use Rattle.yq_flow_scalars.specs.declared.style.Style.TheVariants as styles
-use Rattle.yq_scalar.proofs.BlockWrittenLines.{Good, IsText, NoCr, indented_some, lines_good}
-use Rattle.yq_scalar.proofs.Bytes.{Each}
-use Rattle.yq_scalar.proofs.LineLaws.{AreLines, joined_lines, lines_are}
-use Rattle.yq_scalar.proofs.LiteralText.{literal_can}
+use Rattle.yq_block_scalars.proofs.BlockWrittenLines.{Good, IsText, NoCr, indented_some, lines_good}
+use Rattle.yq_block_scalars.proofs.Bytes.{Each}
+use Rattle.yq_block_scalars.proofs.LineLaws.{AreLines, joined_lines, lines_are}
+use Rattle.yq_block_scalars.proofs.LiteralText.{literal_can}
 use Rattle.yq_change.specs.TextPieces.{IsPiece}
 use Rattle.yq_change.proofs.TextPieceLaws.{line_cut, pieces_joined}
 use Rattle.yq_change.proofs.RemovalPieceLaws.{spaces_piece}

@@ -5,16 +5,16 @@ use Rattle.yq_flow_scalars.specs.Characters.{text_limit}
 use Rattle.yq_flow_scalars.specs.Paths.{Step, change}
 use Rattle.yq_flow_scalars.specs.Tree.{Node}
 use Rattle.yq_flow_scalars.specs.declared.style.Place.TheVariants.{Block as InBlock}
-use Rattle.yq_inline.specs.Nodes.{node_text}
-use Rattle.yq_inline.proofs.WrittenLaws.{node_then}
+use Rattle.yq_nodes.specs.Nodes.{node_text}
+use Rattle.yq_nodes.proofs.WrittenLaws.{node_then}
 use Rattle.yq_flow.specs.Valued.{IsValueTree}
-use Rattle.yq_rows.specs.Exchange.{asked_behind, row_front, with_content}
-use Rattle.yq_rows.specs.Grammar.{IsMark, IsRow, IsTail, may_be_alone, unlimited}
-use Rattle.yq_rows.specs.Rows.{Bare, Row, behind_gap, parent_indent, print_row, rows_text, Cut, cut_text, Part, part_text}
-use Rattle.yq_rows.specs.View.{slices}
-use Rattle.yq_rows.proofs.CharacterLaws.{ends_after}
-use Rattle.yq_rows.proofs.NodePieces.{ends_behind}
-use Rattle.yq_rows.proofs.seams.SeamLaws.{rows_text-append}
+use Rattle.yq_cut.specs.Exchange.{asked_behind, row_front, with_content}
+use Rattle.yq_cut.specs.Grammar.{IsMark, IsRow, IsTail, may_be_alone, unlimited}
+use Rattle.yq_cut.specs.Rows.{Bare, Row, behind_gap, parent_indent, print_row, rows_text, Cut, cut_text, Part, part_text}
+use Rattle.yq_cut.specs.View.{slices}
+use Rattle.yq_cut.proofs.CharacterLaws.{ends_after}
+use Rattle.yq_cut.proofs.NodePieces.{ends_behind}
+use Rattle.yq_cut.proofs.seams.SeamLaws.{rows_text-append}
 use Rattle.yq_documents.specs.Documents.{lead_of}
 use Rattle.yq_documents.specs.Reading.{documents, read_at, root_of}
 use Rattle.yq_documents.specs.TreeEdits.{replaced}

@@ -8,27 +8,27 @@ use Rattle.yq_flow_scalars.specs.Piece.{deeper}
 use Rattle.yq_flow_scalars.specs.Text.{is_marker}
 use Rattle.yq_flow_scalars.specs.Tree.{Node}
 use Rattle.yq_flow_scalars.proofs.Bools.{guard_then}
-use Rattle.yq_inline.specs.Nodes as inline
-use Rattle.yq_inline.specs.Nodes.{node_text}
+use Rattle.yq_nodes.specs.Nodes as inline
+use Rattle.yq_nodes.specs.Nodes.{node_text}
 use Rattle.yq_lines.specs.Comments.{head_comment}
 use Rattle.yq_lines.specs.Group.{group, is_fine}
 use Rattle.yq_lines.specs.Outline.{Line}
 use Rattle.yq_lines.specs.Places.{FoundLine, content}
 use Rattle.yq_lines.specs.Sound.{is_entry}
 use Rattle.yq_lines.proofs.Finding.{FoundNode, path_node}
-use Rattle.yq_rows.specs.Exchange.{allows_first, asked_behind, row_front, with_content}
-use Rattle.yq_rows.specs.Grammar.{Limit, unlimited, AreRows, IsContent, IsMark, IsRow, limit_after, may_be_alone, no_rows}
-use Rattle.yq_rows.specs.Rows.{Bare, Content, Row, behind_gap, content_text, dashes_text, mark_column, mark_text, parent_indent, print_row, rows_text, Part, part_text, Cut, cut_text}
-use Rattle.yq_rows.specs.Seams.{is_block}
-use Rattle.yq_rows.specs.View.{content_cut}
-use Rattle.yq_rows.proofs.NothingLaws.{gap_other}
-use Rattle.yq_rows.proofs.PlaceLaws.{row_front-append}
-use Rattle.yq_rows.proofs.seams.FrontSeams.{behind_row_some}
-use Rattle.yq_rows.proofs.seams.SeamLaws.{rows_text-append}
-use Rattle.yq_rows.proofs.splices.PartPlaces.{part_ends}
-use Rattle.yq_rows.proofs.splices.SpliceTexts.{own_gap, own_end}
+use Rattle.yq_cut.specs.Exchange.{allows_first, asked_behind, row_front, with_content}
+use Rattle.yq_cut.specs.Grammar.{Limit, unlimited, AreRows, IsContent, IsMark, IsRow, limit_after, may_be_alone, no_rows}
+use Rattle.yq_cut.specs.Rows.{Bare, Content, Row, behind_gap, content_text, dashes_text, mark_column, mark_text, parent_indent, print_row, rows_text, Part, part_text, Cut, cut_text}
+use Rattle.yq_cut.specs.Seams.{is_block}
+use Rattle.yq_cut.specs.View.{content_cut}
+use Rattle.yq_cut.proofs.NothingLaws.{gap_other}
+use Rattle.yq_cut.proofs.PlaceLaws.{row_front-append}
+use Rattle.yq_cut.proofs.seams.FrontSeams.{behind_row_some}
+use Rattle.yq_cut.proofs.seams.SeamLaws.{rows_text-append}
+use Rattle.yq_cut.proofs.splices.PartPlaces.{part_ends}
+use Rattle.yq_cut.proofs.splices.SpliceTexts.{own_gap, own_end}
 use Rattle.yq_documents.specs.Documents.{document_parts, lead_of}
-use Rattle.yq_walk.specs.Lines.{lines_of, mark_line, mark_of}
+use Rattle.yq_row_lines.specs.Lines.{lines_of, mark_line, mark_of}
 use Rattle.yq_documents.specs.Reading.{outline_of, read_at, root_of}
 use Rattle.yq_documents.specs.Ready.{begins_no_node}
 use Rattle.yq_documents.specs.TreeEdits.{replaced}

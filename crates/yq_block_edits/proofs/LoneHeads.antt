@@ -2,16 +2,16 @@
 use Rattle.std.proofs.Common.{◌≡◌, ◌⊎◌, ℕ, ℤ, ◌<◌, eqb, ◌||◌, Bool, true, false, not, List, [], ◌∷◌, ◌++◌, refl, sym, ap, ◌∙◌, subst, arith, append_assoc, append-nil, eqb-true, rules}
 use Rattle.std.proofs.lemmas.Bool.{false≢true, not-true}
 use Rattle.yq_flow_scalars.specs.Text.{is_empty, is_return, is_white}
-use Rattle.yq_inline.specs.Nodes as inline
-use Rattle.yq_inline.specs.Nodes.{node_text, IsNode}
-use Rattle.yq_inline.proofs.PieceLaws.{scalar_some}
-use Rattle.yq_rows.specs.Gap.{IsWhite}
-use Rattle.yq_rows.specs.Grammar.{IsContent, may_be_alone}
-use Rattle.yq_rows.specs.Rows.{Content, Inline, content_text}
-use Rattle.yq_rows.specs.Seams.{is_block}
-use Rattle.yq_rows.specs.View.{content_cut}
-use Rattle.yq_rows.proofs.CharacterLaws.{EndsBlack}
-use Rattle.yq_rows.proofs.NodePieces.{EndsAscii}
+use Rattle.yq_nodes.specs.Nodes as inline
+use Rattle.yq_nodes.specs.Nodes.{node_text, IsNode}
+use Rattle.yq_nodes.proofs.PieceLaws.{scalar_some}
+use Rattle.yq_cut.specs.Gap.{IsWhite}
+use Rattle.yq_cut.specs.Grammar.{IsContent, may_be_alone}
+use Rattle.yq_cut.specs.Rows.{Content, Inline, content_text}
+use Rattle.yq_cut.specs.Seams.{is_block}
+use Rattle.yq_cut.specs.View.{content_cut}
+use Rattle.yq_cut.proofs.CharacterLaws.{EndsBlack}
+use Rattle.yq_cut.proofs.NodePieces.{EndsAscii}
 use Rattle.yq_change.proofs.CoreLaws.{put_core}
 use Rattle.yq_edits.proofs.HeldCuts.{space_white}
 

@@ -14,11 +14,11 @@ use Rattle.yq_lines.specs.Outline.{Line, Outline, end, row, flatten, IsEven, IsO
 use Rattle.yq_lines.specs.Places.{find}
 use Rattle.yq_lines.specs.Positions.{is_bare}
 use Rattle.yq_lines.proofs.Decides.{flatten-group}
-use Rattle.yq_rows.specs.Grammar.{AreRows, unlimited}
-use Rattle.yq_rows.specs.Rows as rows
-use Rattle.yq_rows.specs.Rows.{Row, rows_text, print_row, Part, Cut, cut_text}
-use Rattle.yq_rows.proofs.seams.SeamLaws.{rows_text-append}
-use Rattle.yq_walk.specs.Lines.{lines_from, lines_of, mark_line, mark_of, row_lines}
+use Rattle.yq_cut.specs.Grammar.{AreRows, unlimited}
+use Rattle.yq_cut.specs.Rows as rows
+use Rattle.yq_cut.specs.Rows.{Row, rows_text, print_row, Part, Cut, cut_text}
+use Rattle.yq_cut.proofs.seams.SeamLaws.{rows_text-append}
+use Rattle.yq_row_lines.specs.Lines.{lines_from, lines_of, mark_line, mark_of, row_lines}
 use Rattle.yq_documents.specs.Reading.{outline_of, read_at}
 use Rattle.yq_documents.specs.LinesInRows.{RowLine, row_line_of}
 use Rattle.yq_places.specs.PlacedRows.{PlacedPart, placed_document}
@@ -44,7 +44,7 @@ use Rattle.yq_edits.specs.EditLaws.{IsEdit}
 use Rattle.yq_edits.specs.ReplaceEdits.{lone_put}
 use Rattle.yq_change.proofs.StandingMarks.{under_it}
 use Rattle.yq_block_edits.proofs.LoneCarried.{lone_carried}
-use Rattle.yq_scalar.proofs.LineLaws.{is_empty_is}
+use Rattle.yq_block_scalars.proofs.LineLaws.{is_empty_is}
 use Rattle.yq_lines.proofs.Plug.{headless}
 
 -- ---- a row alone

@@ -2,20 +2,20 @@
 use Rattle.std.proofs.Common.{◌≡◌, ℕ, ℤ, true, false, cond, List, [], ◌∷◌, ◌++◌, Option, Some, None, refl, sym, ap, ◌∙◌, append_assoc, append-nil, rules}
 use Rattle.std.proofs.lemmas.Bool.{false≢true, or_parts}
 use Rattle.yq_flow_scalars.specs.Text.{is_empty, separates}
-use Rattle.yq_inline.specs.Nodes as inline
-use Rattle.yq_inline.specs.Nodes.{begins_content, first_is, node_text, IsName, IsNode}
+use Rattle.yq_nodes.specs.Nodes as inline
+use Rattle.yq_nodes.specs.Nodes.{begins_content, first_is, node_text, IsName, IsNode}
 use Rattle.yq_lines.specs.LineAnchors.{IsFree}
 use Rattle.yq_lines.specs.Outline.{Line}
-use Rattle.yq_rows.specs.Alone.{holds_nothing}
-use Rattle.yq_rows.specs.Gap.{IsWhite}
-use Rattle.yq_rows.specs.Grammar.{IsContent, IsTail, is_entry}
-use Rattle.yq_rows.specs.Rows as rows
-use Rattle.yq_rows.specs.Rows.{Content, Nothing, Inline, Row, content_text}
-use Rattle.yq_rows.specs.View.{content_cut}
-use Rattle.yq_rows.proofs.NodeExchange.{space_apart}
-use Rattle.yq_rows.proofs.NothingLaws.{tail_apart, tail_lead, tail_no_node}
-use Rattle.yq_rows.proofs.seams.ScalarSeams.{name_seam}
-use Rattle.yq_walk.specs.Lines.{content_anchor, lines_from, lines_of, tail_of}
+use Rattle.yq_cut.specs.Alone.{holds_nothing}
+use Rattle.yq_cut.specs.Gap.{IsWhite}
+use Rattle.yq_cut.specs.Grammar.{IsContent, IsTail, is_entry}
+use Rattle.yq_cut.specs.Rows as rows
+use Rattle.yq_cut.specs.Rows.{Content, Nothing, Inline, Row, content_text}
+use Rattle.yq_cut.specs.View.{content_cut}
+use Rattle.yq_cut.proofs.NodeExchange.{space_apart}
+use Rattle.yq_cut.proofs.NothingLaws.{tail_apart, tail_lead, tail_no_node}
+use Rattle.yq_cut.proofs.seams.ScalarSeams.{name_seam}
+use Rattle.yq_row_lines.specs.Lines.{content_anchor, lines_from, lines_of, tail_of}
 use Rattle.yq_change.proofs.CoreLaws.{put_core}
 use Rattle.yq_block.proofs.LaidRows.{AreLaid}
 

@@ -3,14 +3,14 @@ use Rattle.std.proofs.Common.{inl, ◌≡◌, ℕ, ◌≤◌, true, false, List,
 use Rattle.yq_flow_scalars.specs.Paths.{Step}
 use Rattle.yq_flow_scalars.specs.Tree.{Node}
 use Rattle.yq_lines.specs.Places.{content}
-use Rattle.yq_rows.specs.Rows.{Row, print_row, rows_text, Cut, cut_text}
-use Rattle.yq_rows.proofs.splices.SpliceTexts.{own_end}
+use Rattle.yq_cut.specs.Rows.{Row, print_row, rows_text, Cut, cut_text}
+use Rattle.yq_cut.proofs.splices.SpliceTexts.{own_end}
 use Rattle.yq_documents.specs.Reading.{read_at, root_of}
 use Rattle.yq_places.specs.RowPaths.{IsReadable}
 use Rattle.yq_change.specs.Appends.{inserted}
 use Rattle.yq_change.specs.Changed.{put_document}
 use Rattle.yq_change.specs.DocumentRows.{behind_document}
-use Rattle.yq_rows.specs.Items.{rows_items}
+use Rattle.yq_cut.specs.Items.{rows_items}
 use Rattle.yq_change.specs.SoundRoots.{MayReplace}
 use Rattle.yq_meaning.specs.Operations.{replace}
 use Rattle.yq_script.specs.Script.{Segment, old_text, new_text, are_kept, kept_front, kept_back}

@@ -2,14 +2,14 @@
 use Rattle.std.proofs.Common.{◌≡◌, ℕ, ◌+◌, ◌≤◌, Bool, true, false, cond, List, [], ◌∷◌, ◌++◌, length, replicate, sym, ap, ◌∙◌, append_assoc, arith}
 use Rattle.std.proofs.lemmas.List.{length-append}
 use Rattle.yq_flow_scalars.specs.Text.{is_empty}
-use Rattle.yq_rows.specs.Exchange.{row_front, with_content}
-use Rattle.yq_rows.specs.Rows.{Content, content_text, Row, behind_dashes, behind_gap, behind_indent, dashes_text, print_row}
-use Rattle.yq_rows.specs.View.{content_cut, slices}
-use Rattle.yq_rows.proofs.PlaceLaws.{dashes_then, row_front-append}
-use Rattle.yq_rows.proofs.seams.JoinLaws.{dashes_text-append}
-use Rattle.yq_rows.proofs.SliceLaws.{content_slices}
+use Rattle.yq_cut.specs.Exchange.{row_front, with_content}
+use Rattle.yq_cut.specs.Rows.{Content, content_text, Row, behind_dashes, behind_gap, behind_indent, dashes_text, print_row}
+use Rattle.yq_cut.specs.View.{content_cut, slices}
+use Rattle.yq_cut.proofs.PlaceLaws.{dashes_then, row_front-append}
+use Rattle.yq_cut.proofs.seams.JoinLaws.{dashes_text-append}
+use Rattle.yq_cut.proofs.SliceLaws.{content_slices}
 use Rattle.yq_places.specs.RowPieces.{anchor_before, space_before}
-use Rattle.yq_rows.specs.Items.{rows_items}
+use Rattle.yq_cut.specs.Items.{rows_items}
 use Rattle.yq_block.specs.BlockPlaces.{IsUpto, at_mark, at_dash}
 use Rattle.yq_edits.specs.Local.{InFirst}
 use Rattle.yq_edits.proofs.ItemsLocal.{first_within}

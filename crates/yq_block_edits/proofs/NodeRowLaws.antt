@@ -10,11 +10,11 @@ use Rattle.yq_lines.specs.Outline as outline
 use Rattle.yq_lines.specs.Outline.{Line, level, flatten, IsEven}
 use Rattle.yq_lines.specs.Places.{lines_before, lines_after, FoundLine, find}
 use Rattle.yq_lines.proofs.Decides.{flatten-group}
-use Rattle.yq_rows.specs.Exchange.{allows_first, asked_behind}
-use Rattle.yq_rows.specs.Grammar.{Limit, unlimited, limit_after, AreRows, is_entry}
-use Rattle.yq_rows.specs.Rows.{Row, mark_column, rows_text, Part, part_text, Cut, cut_text}
+use Rattle.yq_cut.specs.Exchange.{allows_first, asked_behind}
+use Rattle.yq_cut.specs.Grammar.{Limit, unlimited, limit_after, AreRows, is_entry}
+use Rattle.yq_cut.specs.Rows.{Row, mark_column, rows_text, Part, part_text, Cut, cut_text}
 use Rattle.yq_documents.specs.Documents.{document_parts}
-use Rattle.yq_walk.specs.Lines.{mark_of, lines_of}
+use Rattle.yq_row_lines.specs.Lines.{mark_of, lines_of}
 use Rattle.yq_documents.specs.Reading.{outline_of, read_at}
 use Rattle.yq_documents.proofs.PartRows.{each}
 use Rattle.yq_places.proofs.NextLaws.{StartsAt, found_starts}

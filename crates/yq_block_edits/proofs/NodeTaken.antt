@@ -3,22 +3,22 @@ use Rattle.std.proofs.Common.{◌≡◌, ℕ, suc, ◌<◌, ◌≤◌, Bool, tru
 use Rattle.std.proofs.lemmas.Bool.{false≢true, ltb-true}
 use Rattle.yq_flow_scalars.specs.Paths.{Step, change}
 use Rattle.yq_flow_scalars.specs.Tree.{Node}
-use Rattle.yq_inline.specs.Alike.{Alike}
+use Rattle.yq_nodes.specs.Alike.{Alike}
 use Rattle.yq_lines.specs.LineAnchors.{HaveOneAnchorEach}
 use Rattle.yq_lines.specs.Comments.{head_comment, line_comment}
 use Rattle.yq_lines.specs.Outline as outline
 use Rattle.yq_lines.specs.Outline.{Line, level, Outline, flatten, IsEven, IsOpen, anchored, head_or, label, value}
 use Rattle.yq_lines.specs.Places.{content}
-use Rattle.yq_rows.specs.Exchange.{allows_first, asked_behind}
-use Rattle.yq_rows.specs.Gap.{IsGap}
-use Rattle.yq_rows.specs.Grammar.{Limit, allows, AreRows, no_rows}
-use Rattle.yq_rows.specs.Rows.{Content, Row, mark_column, print_row, rows_text, Part, Cut, cut_text}
-use Rattle.yq_rows.specs.Splices.{behind_first, first_gap}
-use Rattle.yq_rows.proofs.seams.SeamLaws.{rows_text-append}
-use Rattle.yq_rows.proofs.splices.SpliceTexts.{own_gap, own_end, first_text, first_is}
+use Rattle.yq_cut.specs.Exchange.{allows_first, asked_behind}
+use Rattle.yq_cut.specs.Gap.{IsGap}
+use Rattle.yq_cut.specs.Grammar.{Limit, allows, AreRows, no_rows}
+use Rattle.yq_cut.specs.Rows.{Content, Row, mark_column, print_row, rows_text, Part, Cut, cut_text}
+use Rattle.yq_cut.specs.Splices.{behind_first, first_gap}
+use Rattle.yq_cut.proofs.seams.SeamLaws.{rows_text-append}
+use Rattle.yq_cut.proofs.splices.SpliceTexts.{own_gap, own_end, first_text, first_is}
 use Rattle.yq_documents.specs.Documents.{HaveFitKeys, lead_of}
-use Rattle.yq_walk.specs.Lines.{content_anchor, head_of, tail_of, lines_of}
-use Rattle.yq_documents.specs.Nodes.{anchor_of}
+use Rattle.yq_row_lines.specs.Lines.{content_anchor, head_of, tail_of, lines_of}
+use Rattle.yq_documents.specs.TreeEdits.{anchor_of}
 use Rattle.yq_documents.specs.Ready.{begins_no_node}
 use Rattle.yq_documents.specs.Reading.{root_of}
 use Rattle.yq_places.specs.RowPaths.{IsReadable}

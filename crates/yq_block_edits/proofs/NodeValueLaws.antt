@@ -6,24 +6,24 @@ use Rattle.yq_flow_scalars.specs.Piece.{deeper}
 use Rattle.yq_flow_scalars.specs.Plain.{ends_plain}
 use Rattle.yq_flow_scalars.specs.Text.{separates}
 use Rattle.yq_flow_scalars.specs.Tree.{Node}
-use Rattle.yq_inline.specs.Nodes as inline
+use Rattle.yq_nodes.specs.Nodes as inline
 use Rattle.yq_lines.specs.LineAnchors.{HaveOneAnchorEach}
 use Rattle.yq_lines.specs.Comments.{line_comment}
 use Rattle.yq_lines.specs.Outline as outline
 use Rattle.yq_lines.specs.Outline.{end, IsOpen, level, head_or, Stands, value}
 use Rattle.yq_lines.specs.Places.{content}
 use Rattle.yq_lines.proofs.ByRules.{rules_give}
-use Rattle.yq_rows.specs.Alone.{holds_nothing}
-use Rattle.yq_rows.specs.Exchange.{with_content}
-use Rattle.yq_rows.specs.Grammar.{IsContent, IsTail, is_entry}
-use Rattle.yq_rows.specs.Rows as rows
-use Rattle.yq_rows.specs.Rows.{Content, content_text, Row, mark_column, parent_indent, rows_text, Cut, cut_text}
-use Rattle.yq_rows.specs.Seams.{is_block}
-use Rattle.yq_rows.proofs.NodeExchange.{inline_starts, space_apart}
-use Rattle.yq_rows.proofs.splices.PartPlaces.{part_ends}
+use Rattle.yq_cut.specs.Alone.{holds_nothing}
+use Rattle.yq_cut.specs.Exchange.{with_content}
+use Rattle.yq_cut.specs.Grammar.{IsContent, IsTail, is_entry}
+use Rattle.yq_cut.specs.Rows as rows
+use Rattle.yq_cut.specs.Rows.{Content, content_text, Row, mark_column, parent_indent, rows_text, Cut, cut_text}
+use Rattle.yq_cut.specs.Seams.{is_block}
+use Rattle.yq_cut.proofs.NodeExchange.{inline_starts, space_apart}
+use Rattle.yq_cut.proofs.splices.PartPlaces.{part_ends}
 use Rattle.yq_documents.specs.Documents.{ContentHasFitKeys}
-use Rattle.yq_walk.specs.Lines.{content_anchor, head_of, tail_of, lines_of, mark_of}
-use Rattle.yq_documents.specs.Nodes.{anchor_of}
+use Rattle.yq_row_lines.specs.Lines.{content_anchor, head_of, tail_of, lines_of, mark_of}
+use Rattle.yq_documents.specs.TreeEdits.{anchor_of}
 use Rattle.yq_change.specs.DocumentRows.{behind_document}
 use Rattle.yq_documents.specs.PartNumbers.{part_number}
 use Rattle.yq_change.specs.InlineRows.{IsValueNode}
@@ -79,7 +79,7 @@ module _ (doc : ℕ) (s : Step) (ss : List Step) (c : Cut) (h : NodeRows doc s s
         tail = ends;
         plain = subst (λ n. ends_plain false (Some n) (tail ++ rest doc s ss c h) ≡ true) below
             (tail_ends_plain (parent_indent h.mark) tail _ h.back h.p.end (behind_document doc c) ends (back_there doc s ss c h)
-            (subst (λ n. Rattle.yq_rows.specs.Exchange.allows_first (record { column = Some n }) h.back ≡ true) (sym below) (near doc s ss c h))
+            (subst (λ n. Rattle.yq_cut.specs.Exchange.allows_first (record { column = Some n }) h.back ≡ true) (sym below) (near doc s ss c h))
             (part_ends c (part_number doc c) true (document_known (cut_text c) c doc h.p h.old).cut.parts));
       }
 

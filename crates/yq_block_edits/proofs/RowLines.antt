@@ -6,10 +6,10 @@ use Rattle.yq_flow_scalars.specs.Text.{upto}
 use Rattle.yq_lines.specs.Comments.{head_comment, line_comment}
 use Rattle.yq_lines.specs.Outline as outline
 use Rattle.yq_lines.specs.Outline.{Line, Outline, flatten}
-use Rattle.yq_rows.specs.Grammar.{is_entry}
-use Rattle.yq_rows.specs.Rows as rows
-use Rattle.yq_rows.specs.Rows.{Content, Nothing, Row, behind_columns}
-use Rattle.yq_walk.specs.Lines.{dash_line, lines_from, mark_line, lines_of}
+use Rattle.yq_cut.specs.Grammar.{is_entry}
+use Rattle.yq_cut.specs.Rows as rows
+use Rattle.yq_cut.specs.Rows.{Content, Nothing, Row, behind_columns}
+use Rattle.yq_row_lines.specs.Lines.{dash_line, lines_from, mark_line, lines_of}
 use Rattle.yq_change.specs.Moved.{dash_lines}
 use Rattle.yq_change.specs.Siblings.{HasEntries, IsEntry}
 use Rattle.yq_change.proofs.LineLaws.{above_mark}

@@ -1,19 +1,19 @@
 -- What a key or dash holds that has a block scalar: its header's line, and the lines below.
 use Rattle.std.proofs.Common.{◌≡◌, inl, inr, ℕ, cond, List, [], ◌∷◌, ◌++◌, length, Option, None, Some, true, false, ◌&&◌, ◌||◌, refl, sym, ap, ◌∙◌, subst, append_assoc, append-nil, rules}
 use Rattle.std.proofs.lemmas.Bool.{false≢true, and_parts}
-use Rattle.yq_scalar.specs.Block.{BlockText, block_text}
+use Rattle.yq_block_scalars.specs.Block.{BlockText, block_text}
 use Rattle.yq_flow_scalars.specs.Lines.{is_blank, is_hash}
 use Rattle.yq_flow_scalars.specs.Paths.{Step}
 use Rattle.yq_flow_scalars.specs.Text.{front, is_empty, is_line, is_white, past_white, separates}
 use Rattle.yq_lines.specs.Places.{content}
-use Rattle.yq_rows.specs.Exchange.{row_front, with_content}
-use Rattle.yq_rows.specs.Gap.{IsBreak}
-use Rattle.yq_rows.specs.Grammar.{IsContent, IsTail}
-use Rattle.yq_rows.specs.Rows.{Anchor, Block, anchor_text, content_text, Row, parent_indent, rows_text, Cut, cut_text}
-use Rattle.yq_rows.specs.View.{slices}
-use Rattle.yq_rows.proofs.LineEnds.{comment_none, text_line, white_none}
-use Rattle.yq_walk.specs.Lines.{block_anchor, content_anchor}
-use Rattle.yq_documents.specs.Nodes.{anchor_of}
+use Rattle.yq_cut.specs.Exchange.{row_front, with_content}
+use Rattle.yq_cut.specs.Gap.{IsBreak}
+use Rattle.yq_cut.specs.Grammar.{IsContent, IsTail}
+use Rattle.yq_cut.specs.Rows.{Anchor, Block, anchor_text, content_text, Row, parent_indent, rows_text, Cut, cut_text}
+use Rattle.yq_cut.specs.View.{slices}
+use Rattle.yq_cut.proofs.LineEnds.{comment_none, text_line, white_none}
+use Rattle.yq_row_lines.specs.Lines.{block_anchor, content_anchor}
+use Rattle.yq_documents.specs.TreeEdits.{anchor_of}
 use Rattle.yq_places.specs.CommentPlaces.{LineEnd, end_before}
 use Rattle.yq_places.specs.PrintedLines.{last_break, less_break}
 use Rattle.yq_places.specs.RowPieces.{anchor_before, space_before}
@@ -24,7 +24,7 @@ use Rattle.yq_edits.specs.ReplaceEdits.{line_break, raw_last}
 use Rattle.yq_edits.proofs.BreakLaws.{IsLfOrCrLf, break_is}
 use Rattle.yq_edits.proofs.CommentPieceLaws.{break_piece}
 use Rattle.yq_edits.proofs.CommentRowLaws.{end_parts}
-use Rattle.yq_scalar.specs.declared.block_written.Break.TheVariants.{Lf, CrLf}
+use Rattle.yq_block_scalars.specs.declared.block_types.Break.TheVariants.{Lf, CrLf}
 use Rattle.yq_block_edits.proofs.HeadPuts.{apart_there, content_there}
 use Rattle.yq_block_edits.proofs.HeldKnown.{KnowsHeld}
 use Rattle.yq_block_edits.proofs.HeldRows.{mark_end, mark_tail}

@@ -1,25 +1,25 @@
 -- A block scalar gives way to a value on one line.
 use Rattle.std.proofs.Common.{◌≡◌, cond, inl, ℕ, ◌≤◌, not, List, [], ◌∷◌, ◌++◌, length, Option, Some, None, false, true, refl, sym, ap, ◌∙◌, subst}
-use Rattle.yq_scalar.specs.Block.{BlockText, block_text}
-use Rattle.yq_scalar.specs.BlockWritten.{break_text}
+use Rattle.yq_block_scalars.specs.Block.{BlockText, block_text}
+use Rattle.yq_block_scalars.specs.BlockWritten.{break_text}
 use Rattle.yq_flow_scalars.specs.Characters.{text_limit}
 use Rattle.yq_flow_scalars.specs.Paths.{Step}
 use Rattle.yq_flow_scalars.specs.Piece.{deeper}
 use Rattle.yq_flow_scalars.specs.Plain.{ends_plain}
 use Rattle.yq_flow_scalars.specs.Tree.{Node}
-use Rattle.yq_scalar.specs.declared.block_written.Break.{Break}
-use Rattle.yq_inline.specs.Nodes as inline
-use Rattle.yq_inline.specs.Nodes.{node_text, IsNode}
-use Rattle.yq_inline.specs.Trees.{node_anchor}
+use Rattle.yq_block_scalars.specs.declared.block_types.Break.{Break}
+use Rattle.yq_nodes.specs.Nodes as inline
+use Rattle.yq_nodes.specs.Nodes.{node_text, IsNode}
+use Rattle.yq_nodes.specs.Trees.{node_anchor}
 use Rattle.yq_lines.specs.Comments.{line_comment}
-use Rattle.yq_rows.specs.Exchange.{row_front, with_content}
-use Rattle.yq_rows.specs.Grammar.{IsAnchor}
-use Rattle.yq_rows.specs.Rows.{Anchor, Content, Inline, Block, anchor_text, content_text, mark_column, parent_indent, rows_text, Cut}
-use Rattle.yq_rows.proofs.LineEnds.{none_in_white}
-use Rattle.yq_rows.proofs.NodeExchange.{space_apart}
-use Rattle.yq_rows.proofs.PlaceLaws.{row_front-append}
-use Rattle.yq_rows.proofs.seams.RowSeams.{block_no_space}
-use Rattle.yq_walk.specs.Lines.{block_anchor}
+use Rattle.yq_cut.specs.Exchange.{row_front, with_content}
+use Rattle.yq_cut.specs.Grammar.{IsAnchor}
+use Rattle.yq_cut.specs.Rows.{Anchor, Content, Inline, Block, anchor_text, content_text, mark_column, parent_indent, rows_text, Cut}
+use Rattle.yq_cut.proofs.LineEnds.{none_in_white}
+use Rattle.yq_cut.proofs.NodeExchange.{space_apart}
+use Rattle.yq_cut.proofs.PlaceLaws.{row_front-append}
+use Rattle.yq_cut.proofs.seams.RowSeams.{block_no_space}
+use Rattle.yq_row_lines.specs.Lines.{block_anchor}
 use Rattle.yq_documents.proofs.RowLineLaws.{tail_is}
 use Rattle.yq_places.specs.Standings.{Held, RowsOfEntry, held}
 use Rattle.yq_change.specs.InlineRows.{IsValueNode}

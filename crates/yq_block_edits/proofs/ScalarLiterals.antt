@@ -2,10 +2,10 @@
 use Rattle.std.proofs.Common.{◌≡◌, ℕ, ◌≤◌, List, [], ◌∷◌, ◌++◌, length, Option, Some, None, true, false, refl, sym, ap, ◌∙◌, subst, append_assoc, append-nil, rules}
 use Rattle.std.proofs.lemmas.Bool.{and_parts}
 use Rattle.std.specs.Str.{IsUtf8}
-use Rattle.yq_scalar.specs.Block.{BlockText, IsBlock, block_text, ends_block, keeps}
-use Rattle.yq_scalar.specs.BlockContent.{block_content}
-use Rattle.yq_scalar.specs.BlockWritten as literal
-use Rattle.yq_scalar.specs.BlockWritten.{break_text, chomping_of, header_text, written_block}
+use Rattle.yq_block_scalars.specs.Block.{BlockText, IsBlock, block_text, ends_block, keeps}
+use Rattle.yq_block_scalars.specs.BlockContent.{block_content}
+use Rattle.yq_block_scalars.specs.BlockWritten as literal
+use Rattle.yq_block_scalars.specs.BlockWritten.{break_text, chomping_of, header_text, written_block}
 use Rattle.yq_flow_scalars.specs.Characters.{text_limit}
 use Rattle.yq_flow_scalars.specs.Paths.{Step}
 use Rattle.yq_flow_scalars.specs.Piece.{deeper}
@@ -14,22 +14,22 @@ use Rattle.yq_flow_scalars.specs.Text.{joined, lines_of}
 use Rattle.yq_flow_scalars.specs.Tree as tree
 use Rattle.yq_flow_scalars.specs.Tree.{Node}
 use Rattle.yq_flow_scalars.specs.Writable.{can_write}
-use Rattle.yq_scalar.specs.declared.block_written.Break.{Break}
+use Rattle.yq_block_scalars.specs.declared.block_types.Break.{Break}
 use Rattle.yq_flow_scalars.specs.declared.kind.Kind.{Kind}
 use Rattle.yq_flow_scalars.specs.declared.kind.Kind.TheVariants as kinds
 use Rattle.yq_flow_scalars.specs.declared.style.Place.TheVariants as places
 use Rattle.yq_flow_scalars.specs.declared.style.Style.TheVariants as styles
-use Rattle.yq_scalar.proofs.LiteralText.{literal_block, literal_content}
-use Rattle.yq_scalar.proofs.PlainSpells.{string_kind}
+use Rattle.yq_block_scalars.proofs.LiteralText.{literal_block, literal_content}
+use Rattle.yq_block_scalars.proofs.PlainSpells.{string_kind}
 use Rattle.yq_flow.specs.Valued.{IsValueTree}
 use Rattle.yq_lines.specs.Outline.{Line, anchored, head_or, value}
-use Rattle.yq_rows.specs.Exchange.{row_front, with_content}
-use Rattle.yq_rows.specs.Rows.{Anchor, Content, Block, anchor_text, Row, parent_indent, print_row, rows_text, Cut}
-use Rattle.yq_rows.specs.View.{slices}
-use Rattle.yq_rows.proofs.NodeExchange.{space_apart}
-use Rattle.yq_rows.proofs.PlaceLaws.{row_front-append}
-use Rattle.yq_rows.proofs.seams.RowSeams.{block_no_space}
-use Rattle.yq_walk.specs.Lines.{head_of, tail_of}
+use Rattle.yq_cut.specs.Exchange.{row_front, with_content}
+use Rattle.yq_cut.specs.Rows.{Anchor, Content, Block, anchor_text, Row, parent_indent, print_row, rows_text, Cut}
+use Rattle.yq_cut.specs.View.{slices}
+use Rattle.yq_cut.proofs.NodeExchange.{space_apart}
+use Rattle.yq_cut.proofs.PlaceLaws.{row_front-append}
+use Rattle.yq_cut.proofs.seams.RowSeams.{block_no_space}
+use Rattle.yq_row_lines.specs.Lines.{head_of, tail_of}
 use Rattle.yq_lines.specs.Comments.{line_comment}
 use Rattle.yq_places.specs.NodesAt.{node_in, scalar_in}
 use Rattle.yq_places.specs.RowPieces.{anchor_before, space_before}

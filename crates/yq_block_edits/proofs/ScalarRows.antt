@@ -1,15 +1,15 @@
 -- The lines of a block scalar give way to those of a collection, and its header goes.
 use Rattle.std.proofs.Common.{◌≡◌, inl, ℕ, ◌≤◌, List, [], ◌∷◌, ◌++◌, length, Option, true, refl, sym, ap, ◌∙◌, append_assoc, append-nil}
-use Rattle.yq_scalar.specs.Block.{BlockText}
-use Rattle.yq_scalar.specs.BlockWritten.{break_text}
+use Rattle.yq_block_scalars.specs.Block.{BlockText}
+use Rattle.yq_block_scalars.specs.BlockWritten.{break_text}
 use Rattle.yq_flow_scalars.specs.Characters.{text_limit}
 use Rattle.yq_flow_scalars.specs.Paths.{Step}
 use Rattle.yq_flow_scalars.specs.Tree.{Node}
 use Rattle.yq_flow.specs.Valued.{IsValueTree}
 use Rattle.yq_lines.specs.Comments.{line_comment}
-use Rattle.yq_rows.specs.Grammar.{IsTail}
-use Rattle.yq_rows.specs.Rows.{Anchor, Block, Cut}
-use Rattle.yq_rows.specs.View.{slices}
+use Rattle.yq_cut.specs.Grammar.{IsTail}
+use Rattle.yq_cut.specs.Rows.{Anchor, Block, Cut}
+use Rattle.yq_cut.specs.View.{slices}
 use Rattle.yq_places.specs.Standings.{Held, RowsOfEntry, held}
 use Rattle.yq_places.proofs.LineEndLaws.{header_tail}
 use Rattle.yq_change.specs.StandingLaws.{StandsThere}

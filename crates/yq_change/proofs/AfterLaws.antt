@@ -5,7 +5,7 @@ use mathlib.Core.List.{head-eq_of_cons-eq, tail-eq_of_cons-eq}
 use Rattle.std.specs.List.{slice_get}
 use Rattle.yq_flow_scalars.specs.Paths.{change_child, within}
 use Rattle.yq_flow_scalars.specs.Tree.{Node, Children, none, child}
-use Rattle.yq_rows.specs.Rows.{Part}
+use Rattle.yq_cut.specs.Rows.{Part}
 use Rattle.yq_documents.specs.Documents.{Document}
 use Rattle.yq_documents.specs.Reading.{document_of}
 use Rattle.yq_change.specs.After.{EndIsChange}

@@ -1,7 +1,7 @@
 -- Anchors of lines, and keys of rows, where some give way to others.
 use Rattle.std.proofs.Common.{◌≡◌, ℕ, List, [], ◌∷◌, ◌++◌, Option, Some, None, refl, sym, ap, ◌∙◌, subst, rules}
 use Rattle.std.proofs.lemmas.Option.{same_Some}
-use Rattle.yq_rows.specs.Rows.{Row}
+use Rattle.yq_cut.specs.Rows.{Row}
 use Rattle.yq_lines.specs.LineAnchors.{IsFree, HaveOneAnchorEach}
 use Rattle.yq_documents.specs.Documents.{HaveFitKeys}
 use Rattle.yq_lines.specs.Outline.{Line, level, Outline, end, row, flatten}

@@ -7,10 +7,10 @@ use mathlib.Core.List.{head-eq_of_cons-eq, tail-eq_of_cons-eq}
 use Rattle.yq_flow_scalars.specs.Paths.{Step, is_here, further}
 use Rattle.yq_flow_scalars.specs.Tree.{Node}
 use Rattle.yq_lines.specs.Comments.{head_comment}
-use Rattle.yq_rows.specs.Rows as rows
-use Rattle.yq_rows.specs.Rows.{Content, Row}
+use Rattle.yq_cut.specs.Rows as rows
+use Rattle.yq_cut.specs.Rows.{Content, Row}
 use Rattle.yq_lines.specs.Group.{level_or}
-use Rattle.yq_walk.specs.Lines.{mark_line, lines_from, row_lines, lines_of}
+use Rattle.yq_row_lines.specs.Lines.{mark_line, lines_from, row_lines, lines_of}
 use Rattle.yq_lines.specs.Outline.{Line, level, Outline, flatten, IsOpen, IsEven, label}
 use Rattle.yq_lines.specs.Outline.{end}
 use Rattle.yq_lines.specs.Outline.{row}

@@ -2,29 +2,29 @@
 use Rattle.std.proofs.Common.{◌≡◌, ℕ, ◌<◌, List, [], ◌∷◌, ◌++◌, Option, Some, None, true, false, refl, sym, ap, ◌∙◌, subst, arith, append_assoc, length-append, rules}
 use Rattle.std.proofs.lemmas.Bool.{false≢true}
 use mathlib.Core.List.{head-eq_of_cons-eq}
-use Rattle.yq_scalar.specs.Block.{BlockText, ends_block, keeps}
+use Rattle.yq_block_scalars.specs.Block.{BlockText, ends_block, keeps}
 use Rattle.yq_flow_scalars.specs.Text.{lines_of as text_lines}
-use Rattle.yq_scalar.proofs.BlockRepairLaws.{ends_behind}
-use Rattle.yq_rows.specs.Exchange.{asked_behind}
-use Rattle.yq_rows.specs.Grammar.{Limit, unlimited, AreRows, no_rows}
-use Rattle.yq_rows.specs.Rows as rows
-use Rattle.yq_rows.specs.Rows.{Content, Row, rows_text, Part}
-use Rattle.yq_rows.specs.Seams.{are_seamed, ends_in_block, ends_in_line, is_seam}
-use Rattle.yq_rows.specs.Splices.{behind_first, first_gap}
-use Rattle.yq_rows.specs.Removal.{block_of, last_block}
-use Rattle.yq_rows.proofs.seams.LessLaws.{starts_less}
-use Rattle.yq_rows.proofs.RowAgain.{row_starts}
-use Rattle.yq_rows.proofs.splices.PartPlaces.{part_in}
-use Rattle.yq_rows.proofs.seams.FrontSeams.{seams_any, seams_line}
+use Rattle.yq_block_scalars.proofs.BlockRepairLaws.{ends_behind}
+use Rattle.yq_cut.specs.Exchange.{asked_behind}
+use Rattle.yq_cut.specs.Grammar.{Limit, unlimited, AreRows, no_rows}
+use Rattle.yq_cut.specs.Rows as rows
+use Rattle.yq_cut.specs.Rows.{Content, Row, rows_text, Part}
+use Rattle.yq_cut.specs.Seams.{are_seamed, ends_in_block, ends_in_line, is_seam}
+use Rattle.yq_cut.specs.Splices.{behind_first, first_gap}
+use Rattle.yq_cut.specs.Removal.{block_of, last_block}
+use Rattle.yq_cut.proofs.seams.LessLaws.{starts_less}
+use Rattle.yq_cut.proofs.RowAgain.{row_starts}
+use Rattle.yq_cut.proofs.splices.PartPlaces.{part_in}
+use Rattle.yq_cut.proofs.seams.FrontSeams.{seams_any, seams_line}
 use Rattle.yq_documents.specs.Documents.{HaveFitKeys, HasShortRoot}
 use Rattle.yq_lines.specs.Group.{level_or}
-use Rattle.yq_walk.specs.Lines.{lines_from, lines_of}
+use Rattle.yq_row_lines.specs.Lines.{lines_from, lines_of}
 use Rattle.yq_lines.specs.Outline.{Line, Outline, flatten}
 use Rattle.yq_lines.specs.Places.{lines_before, lines_after}
 use Rattle.yq_documents.specs.Reading.{outline_of}
 use Rattle.yq_lines.proofs.Decides.{flatten-group}
-use Rattle.yq_rows.proofs.splices.SpliceTexts.{own_gap}
-use Rattle.yq_rows.proofs.seams.BlockFronts.{last_none}
+use Rattle.yq_cut.proofs.splices.SpliceTexts.{own_gap}
+use Rattle.yq_cut.proofs.seams.BlockFronts.{last_none}
 use Rattle.yq_places.proofs.UnderExchange.{lines_append}
 use Rattle.yq_change.specs.Siblings.{put_lines}
 use Rattle.yq_change.proofs.AnchorLaws.{fit_parts, fit_from}

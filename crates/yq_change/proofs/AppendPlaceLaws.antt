@@ -8,18 +8,18 @@ use Rattle.yq_lines.specs.Outline.{Bare, Line, level, Outline, end, flatten}
 use Rattle.yq_flow_scalars.specs.Paths.{Step}
 use Rattle.yq_lines.specs.Places.{lines_before, lines_after}
 use Rattle.yq_lines.proofs.Decides.{flatten-group}
-use Rattle.yq_rows.specs.Exchange.{allows_first, asked_behind}
-use Rattle.yq_rows.specs.Gap.{IsGap}
-use Rattle.yq_rows.specs.Grammar.{Limit, unlimited, allows, limit_after, AreRows}
-use Rattle.yq_rows.specs.Rows as rows
-use Rattle.yq_rows.specs.Rows.{Content, Row, mark_column, Part, Cut}
-use Rattle.yq_rows.specs.Splices.{first_gap, behind_first}
-use Rattle.yq_rows.proofs.PlainEnds.{AtLine, rows_line}
-use Rattle.yq_rows.proofs.seams.SeamLaws.{part_line}
-use Rattle.yq_rows.proofs.splices.PartPlaces.{part_in, part_ends}
-use Rattle.yq_rows.proofs.splices.SpliceTexts.{first_is}
+use Rattle.yq_cut.specs.Exchange.{allows_first, asked_behind}
+use Rattle.yq_cut.specs.Gap.{IsGap}
+use Rattle.yq_cut.specs.Grammar.{Limit, unlimited, allows, limit_after, AreRows}
+use Rattle.yq_cut.specs.Rows as rows
+use Rattle.yq_cut.specs.Rows.{Content, Row, mark_column, Part, Cut}
+use Rattle.yq_cut.specs.Splices.{first_gap, behind_first}
+use Rattle.yq_cut.proofs.PlainEnds.{AtLine, rows_line}
+use Rattle.yq_cut.proofs.seams.SeamLaws.{part_line}
+use Rattle.yq_cut.proofs.splices.PartPlaces.{part_in, part_ends}
+use Rattle.yq_cut.proofs.splices.SpliceTexts.{first_is}
 use Rattle.yq_places.specs.CollectionEnds.{CollectionEnd}
-use Rattle.yq_walk.specs.Lines.{mark_line, lines_from, row_lines, lines_of}
+use Rattle.yq_row_lines.specs.Lines.{mark_line, lines_from, row_lines, lines_of}
 use Rattle.yq_documents.specs.Reading.{outline_of}
 use Rattle.yq_places.proofs.UnderExchange.{lines_append}
 use Rattle.yq_change.specs.CollectionPlaces.{BeginsAt, IsCollectionEnd}

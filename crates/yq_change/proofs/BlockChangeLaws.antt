@@ -4,12 +4,12 @@ use Rattle.yq_flow_scalars.specs.Keys.{keys_of}
 use Rattle.yq_flow_scalars.specs.Paths.{child_at, node_at}
 use Rattle.yq_flow_scalars.specs.Tree.{Node, children_of}
 use Rattle.yq_lines.specs.Group.{level_or}
-use Rattle.yq_walk.specs.Lines.{lines_from, lines_of}
+use Rattle.yq_row_lines.specs.Lines.{lines_from, lines_of}
 use Rattle.yq_lines.specs.Outline.{Line, Outline, flatten, anchored, label, children, value}
 use Rattle.yq_lines.specs.Places.{lines_before, content}
 use Rattle.yq_documents.specs.Reading.{outline_of, root_of}
 use Rattle.yq_lines.specs.Comments.{head_comment}
-use Rattle.yq_rows.specs.Rows.{Row, behind_columns}
+use Rattle.yq_cut.specs.Rows.{Row, behind_columns}
 use Rattle.yq_lines.proofs.Finding.{FoundNode, path_node, row_child}
 use Rattle.yq_lines.proofs.Plug.{entry_whole}
 use Rattle.yq_lines.proofs.Values.{same_rank, same_entry}

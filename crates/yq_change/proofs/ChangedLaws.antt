@@ -5,12 +5,12 @@ use Rattle.std.proofs.lemmas.Option.{same_Some}
 use Rattle.std.specs.List.{slice_get, list_all}
 use Rattle.yq_flow_scalars.specs.Tree.{Node}
 use Rattle.yq_lines.specs.Comments.{head_comment}
-use Rattle.yq_rows.specs.Grammar.{begins_document}
-use Rattle.yq_rows.specs.Rows.{Row, Part, Cut, last, marked, cut_text}
+use Rattle.yq_cut.specs.Grammar.{begins_document}
+use Rattle.yq_cut.specs.Rows.{Row, Part, Cut, last, marked, cut_text}
 use Rattle.yq_documents.specs.Documents.{Document, IsRoot, parts_from, has_begin, begins_bare, document_parts, lead_of}
 use Rattle.yq_documents.specs.PartNumbers.{number_from}
-use Rattle.yq_rows.specs.Splices.{first_gap}
-use Rattle.yq_walk.specs.Lines.{lines_from, lines_of}
+use Rattle.yq_cut.specs.Splices.{first_gap}
+use Rattle.yq_row_lines.specs.Lines.{lines_from, lines_of}
 use Rattle.yq_lines.specs.Outline.{Line, end}
 use Rattle.yq_documents.specs.Reading.{root_of, document_of, is_document, all_documents, read_at}
 use Rattle.yq_lines.proofs.ByRules.{rules_from}

@@ -4,21 +4,21 @@ use Rattle.std.proofs.lemmas.Bool.{false≢true}
 use mathlib.Core.List.{head-eq_of_cons-eq}
 use Rattle.yq_flow_scalars.specs.Characters.{is_text, text_limit}
 use Rattle.yq_lines.specs.Comments.{head_comment, line_comment}
-use Rattle.yq_rows.specs.Grammar.{IsCut}
-use Rattle.yq_rows.specs.Rows.{Content, Row, mark_column, parent_indent, rows_text, Part, Cut, cut_text}
-use Rattle.yq_rows.specs.Seams.{TailFits, is_block, retail, with_tail}
-use Rattle.yq_rows.specs.Splices.{first_gap, nth_part, splice}
-use Rattle.yq_rows.proofs.splices.RowReplaced.{tail_replaced}
+use Rattle.yq_cut.specs.Grammar.{IsCut}
+use Rattle.yq_cut.specs.Rows.{Content, Row, mark_column, parent_indent, rows_text, Part, Cut, cut_text}
+use Rattle.yq_cut.specs.Seams.{TailFits, is_block, retail, with_tail}
+use Rattle.yq_cut.specs.Splices.{first_gap, nth_part, splice}
+use Rattle.yq_cut.proofs.splices.RowReplaced.{tail_replaced}
 use Rattle.yq_documents.specs.Documents.{HaveFitKeys, HasShortRoot, ContentHasFitKeys, has_lines, is_long_plain, lead_of}
 use Rattle.yq_lines.specs.Group.{level_or}
 use Rattle.yq_lines.specs.Laws.{with_lines}
-use Rattle.yq_walk.specs.Lines.{content_anchor, head_of, tail_of, mark_line, lines_of}
+use Rattle.yq_row_lines.specs.Lines.{content_anchor, head_of, tail_of, mark_line, lines_of}
 use Rattle.yq_lines.specs.Outline.{Line, level, flatten, label}
 use Rattle.yq_lines.specs.Places.{lines_before, lines_after, FoundLine}
 use Rattle.yq_documents.specs.Reading.{outline_of}
 use Rattle.yq_places.specs.RowPaths.{IsReadable}
 use Rattle.yq_lines.proofs.Decides.{flatten-group}
-use Rattle.yq_rows.proofs.splices.SpliceTexts.{own_gap}
+use Rattle.yq_cut.proofs.splices.SpliceTexts.{own_gap}
 use Rattle.yq_change.specs.Changed.{put_document}
 use Rattle.yq_change.specs.Moved.{dash_lines}
 use Rattle.yq_change.specs.Siblings.{IsEntryAt, NodeLines, put_lines}
@@ -79,7 +79,7 @@ fit_retail front r back tail h =
     let parts = fit_parts front (r ∷ back) h in
     fit_from front (retail tail r ∷ back) parts.0 (parts.1.0, fit_tail r.content tail parts.1.1, parts.1.2)
 
-long_tail : (m : Rattle.yq_rows.specs.Rows.Mark) (c : Content) (tail : List ℕ) → is_long_plain m (with_tail tail c) ≡ is_long_plain m c
+long_tail : (m : Rattle.yq_cut.specs.Rows.Mark) (c : Content) (tail : List ℕ) → is_long_plain m (with_tail tail c) ≡ is_long_plain m c
 long_tail m c tail = search (rules, lines_tail)
 
 pub short_retail : (front : List Row) (r : Row) (back : List Row) (tail : List ℕ) → HasShortRoot (front ++ (r ∷ back)) → HasShortRoot (front ++ (retail tail r ∷ back))
@@ -87,8 +87,8 @@ short_retail [] r back tail h = long_tail r.mark r.content tail ∙ h
 short_retail (q ∷ front) r back tail h = h
 
 pub lead_retail : (front : List Row) (r : Row) (back : List Row) (tail : List ℕ) (p q : Part) → p.rows ≡ front ++ (r ∷ back) → q.rows ≡ front ++ (retail tail r ∷ back) → lead_of q ≡ lead_of p
-lead_retail [] r back tail p q e n = ap (λ (rs : List Row). head_comment (Rattle.yq_rows.specs.Splices.first_gap rs q.end)) n ∙ ap (λ (rs : List Row). head_comment (Rattle.yq_rows.specs.Splices.first_gap rs p.end)) (sym e)
-lead_retail (x ∷ front) r back tail p q e n = ap (λ (rs : List Row). head_comment (Rattle.yq_rows.specs.Splices.first_gap rs q.end)) n ∙ ap (λ (rs : List Row). head_comment (Rattle.yq_rows.specs.Splices.first_gap rs p.end)) (sym e)
+lead_retail [] r back tail p q e n = ap (λ (rs : List Row). head_comment (Rattle.yq_cut.specs.Splices.first_gap rs q.end)) n ∙ ap (λ (rs : List Row). head_comment (Rattle.yq_cut.specs.Splices.first_gap rs p.end)) (sym e)
+lead_retail (x ∷ front) r back tail p q e n = ap (λ (rs : List Row). head_comment (Rattle.yq_cut.specs.Splices.first_gap rs q.end)) n ∙ ap (λ (rs : List Row). head_comment (Rattle.yq_cut.specs.Splices.first_gap rs p.end)) (sym e)
 
 -- the lines of rows, of which one has another tail
 pub last_lines : (front : List Row) (r : Row) (back : List Row) (c : Content) →
@@ -118,7 +118,7 @@ line_commented t c k p steps s h f front back r tail old at takes number new =
     let q : Part = retailed front r back tail p in
     let there : q.rows ≡ front ++ (retail tail r ∷ back) = ap (λ (rs : List Row). front ++ (retail tail r ∷ rs)) (own_gap back p.end) in
     let put =
-    is_put t c k p q old (ap Rattle.yq_rows.specs.Grammar.no_rows there ∙ front_some front (retail tail r) back) new (tail_cut t c k p front back r tail old is.cut takes.rows_are takes.fits new)
+    is_put t c k p q old (ap Rattle.yq_cut.specs.Grammar.no_rows there ∙ front_some front (retail tail r) back) new (tail_cut t c k p front back r tail old is.cut takes.rows_are takes.fits new)
     (subst HaveFitKeys (sym there) (fit_retail front r back tail (subst HaveFitKeys takes.rows_are is.document.keys)))
     (subst HasShortRoot (sym there) (short_retail front r back tail (subst HasShortRoot takes.rows_are is.document.short))) in
     let a : List Line = lines_of front ++ dash_lines (head_comment r.gap) r.column r.dashes in

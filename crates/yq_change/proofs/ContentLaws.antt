@@ -6,10 +6,10 @@ use Rattle.yq_flow_scalars.specs.Characters.{is_text, text_limit}
 use Rattle.yq_flow_scalars.specs.Paths.{Step, change}
 use Rattle.yq_flow_scalars.specs.Tree as tree
 use Rattle.yq_flow_scalars.specs.Tree.{Node, Children}
-use Rattle.yq_inline.specs.Nodes as inline
-use Rattle.yq_inline.specs.Nodes.{takes_anchor, IsNode}
-use Rattle.yq_inline.specs.Trees as trees
-use Rattle.yq_inline.specs.Trees.{tree_of, node_anchor, node_head}
+use Rattle.yq_nodes.specs.Nodes as inline
+use Rattle.yq_nodes.specs.Nodes.{takes_anchor, IsNode}
+use Rattle.yq_nodes.specs.Trees as trees
+use Rattle.yq_nodes.specs.Trees.{tree_of, node_anchor, node_head}
 use Rattle.yq_flow_scalars.specs.Anchors.{IsNoAlias, names_of}
 use Rattle.yq_lines.specs.LineAnchors.{IsFree, MayTake, HaveOneAnchorEach}
 use Rattle.yq_lines.specs.Comments.{head_comment}
@@ -18,16 +18,16 @@ use Rattle.yq_lines.specs.Laws.{with_lines}
 use Rattle.yq_lines.specs.Outline as outline
 use Rattle.yq_lines.specs.Outline.{Mark, Line, level, Outline, end, row, flatten, IsOpen, IsWhole, IsEven, first_anchor, anchored, head_or, null_node, value}
 use Rattle.yq_lines.specs.Places.{lines_before, lines_after, FoundLine, find, content}
-use Rattle.yq_rows.specs.Exchange.{asked_behind, with_content}
-use Rattle.yq_rows.specs.Grammar.{unlimited, IsContent, IsCut, no_rows}
-use Rattle.yq_rows.specs.Rows as rows
-use Rattle.yq_rows.specs.Rows.{Content, Row, mark_column, parent_indent, rows_text, Part, Cut, cut_text}
-use Rattle.yq_rows.specs.SpliceFits.{StandsFor}
-use Rattle.yq_rows.specs.Splices.{asked_at, first_gap, nth_part, rest_behind, splice}
-use Rattle.yq_rows.proofs.splices.RowReplaced.{row_exchanged}
+use Rattle.yq_cut.specs.Exchange.{asked_behind, with_content}
+use Rattle.yq_cut.specs.Grammar.{unlimited, IsContent, IsCut, no_rows}
+use Rattle.yq_cut.specs.Rows as rows
+use Rattle.yq_cut.specs.Rows.{Content, Row, mark_column, parent_indent, rows_text, Part, Cut, cut_text}
+use Rattle.yq_cut.specs.SpliceFits.{StandsFor}
+use Rattle.yq_cut.specs.Splices.{asked_at, first_gap, nth_part, rest_behind, splice}
+use Rattle.yq_cut.proofs.splices.RowReplaced.{row_exchanged}
 use Rattle.yq_documents.specs.Documents.{HaveFitKeys, HasShortRoot, lead_of}
-use Rattle.yq_walk.specs.Lines.{block_anchor, content_anchor, head_of, mark_of, mark_line, lines_of}
-use Rattle.yq_documents.specs.Nodes.{anchor_of}
+use Rattle.yq_row_lines.specs.Lines.{block_anchor, content_anchor, head_of, mark_of, mark_line, lines_of}
+use Rattle.yq_documents.specs.TreeEdits.{anchor_of}
 use Rattle.yq_documents.specs.Reading.{outline_of, root_of}
 use Rattle.yq_places.specs.RowPaths.{spelled, IsReadable}
 use Rattle.yq_documents.specs.TreeEdits.{replaced}
@@ -53,7 +53,7 @@ use Rattle.yq_change.proofs.RowCommentLaws.{rows_behind, lead_content}
 use Rattle.yq_lines.proofs.Decides.{flatten-group}
 use Rattle.yq_lines.proofs.NodeLaws.{anchored_twice}
 use Rattle.yq_lines.proofs.NameLaws.{each_back}
-use Rattle.yq_rows.proofs.splices.SpliceTexts.{own_gap}
+use Rattle.yq_cut.proofs.splices.SpliceTexts.{own_gap}
 
 -- ---- what a row spells, and its anchor
 

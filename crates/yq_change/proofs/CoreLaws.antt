@@ -2,14 +2,14 @@
 use Rattle.std.proofs.Common.{◌≡◌, inl, inr, ℕ, ◌||◌, not, List, [], ◌∷◌, ◌++◌, Option, None, Bool, true, false, refl, sym, ap, ◌∙◌, rules}
 use Rattle.std.proofs.lemmas.Bool.{cond_both, false≢true, or_right}
 use Rattle.yq_flow_scalars.specs.Text.{is_empty, no_white, unless, NoneIn}
-use Rattle.yq_inline.specs.Nodes.{Node, empty, alias, scalar, coll, anchored, node_text, items_text, open_of, first_is, in_name, begins_content, takes_anchor, is_bare, IsName, IsLead, IsNode}
-use Rattle.yq_inline.specs.Trees.{node_anchor, node_head}
-use Rattle.yq_inline.specs.Scalars.{IsScalarAt}
-use Rattle.yq_inline.proofs.PieceLaws.{scalar_begins}
-use Rattle.yq_rows.specs.Grammar.{is_more}
-use Rattle.yq_rows.specs.Rows.{Content, Nothing, Inline, Block}
-use Rattle.yq_rows.proofs.Fronts.{node_starts}
-use Rattle.yq_rows.proofs.EmptyTexts.{none_is}
+use Rattle.yq_nodes.specs.Nodes.{Node, empty, alias, scalar, coll, anchored, node_text, items_text, open_of, first_is, in_name, begins_content, takes_anchor, is_bare, IsName, IsLead, IsNode}
+use Rattle.yq_nodes.specs.Trees.{node_anchor, node_head}
+use Rattle.yq_nodes.specs.Scalars.{IsScalarAt}
+use Rattle.yq_nodes.proofs.PieceLaws.{scalar_begins}
+use Rattle.yq_cut.specs.Grammar.{is_more}
+use Rattle.yq_cut.specs.Rows.{Content, Nothing, Inline, Block}
+use Rattle.yq_cut.proofs.Fronts.{node_starts}
+use Rattle.yq_cut.proofs.EmptyTexts.{none_is}
 use Rattle.yq_documents.specs.Documents.{HasFitKeys}
 use Rattle.yq_places.specs.RowPaths.{apart}
 

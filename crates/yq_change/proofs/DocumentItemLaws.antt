@@ -1,9 +1,9 @@
 -- The items of a cut in which a document is exchanged.
 use Rattle.std.proofs.Common.{◌≡◌, ℕ, zero, suc, List, [], ◌∷◌, ◌++◌, refl, sym, ap, ◌∙◌}
-use Rattle.yq_rows.specs.Items.{Item, row_item, end_item, rows_items, items_of, items_text}
-use Rattle.yq_rows.specs.Rows.{Row, rows_text, Part, Cut, last, marked}
-use Rattle.yq_rows.specs.Splices.{behind_part, nth_part}
-use Rattle.yq_rows.proofs.ItemLaws.{items_of_text}
+use Rattle.yq_cut.specs.Items.{Item, row_item, end_item, rows_items, items_of, items_text}
+use Rattle.yq_cut.specs.Rows.{Row, rows_text, Part, Cut, last, marked}
+use Rattle.yq_cut.specs.Splices.{behind_part, nth_part}
+use Rattle.yq_cut.proofs.ItemLaws.{items_of_text}
 use Rattle.yq_change.specs.Changed.{put_part}
 use Rattle.yq_documents.specs.PartNumbers.{part_number}
 use Rattle.yq_documents.proofs.PartNumberLaws.{part_there}

@@ -6,13 +6,13 @@ use Rattle.yq_flow_scalars.specs.Paths.{Step, append_child, change, node_at, rel
 use Rattle.yq_flow_scalars.specs.Tree.{Label, Node, Children, child, children_of}
 use Rattle.yq_flow_scalars.proofs.Bools.{guard_then}
 use Rattle.yq_lines.specs.Comments.{head_comment}
-use Rattle.yq_rows.specs.Rows.{Part, Cut}
+use Rattle.yq_cut.specs.Rows.{Part, Cut}
 use Rattle.yq_flow_scalars.specs.Anchors.{names_of}
 use Rattle.yq_lines.specs.LineAnchors.{IsFree, HaveOneAnchorEach}
 use Rattle.yq_documents.specs.Documents.{document_parts, lead_of}
 use Rattle.yq_lines.specs.Group.{level_or}
 use Rattle.yq_lines.specs.Laws.{with_lines}
-use Rattle.yq_walk.specs.Lines.{lines_of}
+use Rattle.yq_row_lines.specs.Lines.{lines_of}
 use Rattle.yq_lines.specs.Outline.{Mark, Bare, Key, Dash, Line, level, Outline, end, row, flatten, IsWhole, IsEven, anchored, head_or, label, collection, children, value}
 use Rattle.yq_lines.specs.Places.{lines_before, lines_after, plug, FoundLine, find, content}
 use Rattle.yq_documents.specs.Reading.{is_document, outline_of, read_at, root_of}

@@ -7,26 +7,26 @@ use Rattle.yq_flow_scalars.specs.Lines.{is_hash}
 use Rattle.yq_flow_scalars.specs.Text.{cut, ends_line, is_break, is_line, no_white, past_white}
 use Rattle.yq_flow_scalars.proofs.Upto.{cut-append}
 use Rattle.yq_lines.specs.Comments.{comment_text, head_comment, less_space, line_comment}
-use Rattle.yq_rows.specs.Exchange.{row_front}
-use Rattle.yq_rows.specs.Gap.{IsBreak, IsComment, IsWhite}
-use Rattle.yq_rows.specs.Grammar.{Limit, IsTail, unlimited, AreRows, IsCut, no_rows}
-use Rattle.yq_rows.specs.Rows.{Content, Row, content_text, mark_column, parent_indent, print_row, rows_text, Part, Cut, cut_text}
-use Rattle.yq_rows.specs.Splices.{before_rows, behind_part, nth_part, splice}
-use Rattle.yq_rows.specs.Appending.{closed_by}
-use Rattle.yq_rows.specs.Seams.{is_block, tail_behind, with_tail}
-use Rattle.yq_rows.proofs.splices.AppendLaws.{end_appended}
-use Rattle.yq_rows.proofs.splices.SpliceTexts.{front_text}
-use Rattle.yq_rows.proofs.CharacterLaws.{pairs_back}
-use Rattle.yq_rows.proofs.LineEnds.{behind_comment, white_again}
-use Rattle.yq_rows.proofs.PlaceLaws.{row_front-append}
-use Rattle.yq_rows.proofs.seams.ScalarSeams.{ends_return}
-use Rattle.yq_rows.proofs.seams.SeamLaws.{line_by_break, rows_drop}
-use Rattle.yq_rows.proofs.splices.PartPlaces.{part_in}
-use Rattle.yq_rows.proofs.seams.TailLaws.{comment_closed, no_end_return, content_tail, tail_pairs}
+use Rattle.yq_cut.specs.Exchange.{row_front}
+use Rattle.yq_cut.specs.Gap.{IsBreak, IsComment, IsWhite}
+use Rattle.yq_cut.specs.Grammar.{Limit, IsTail, unlimited, AreRows, IsCut, no_rows}
+use Rattle.yq_cut.specs.Rows.{Content, Row, content_text, mark_column, parent_indent, print_row, rows_text, Part, Cut, cut_text}
+use Rattle.yq_cut.specs.Splices.{before_rows, behind_part, nth_part, splice}
+use Rattle.yq_cut.specs.Appending.{closed_by}
+use Rattle.yq_cut.specs.Seams.{is_block, tail_behind, with_tail}
+use Rattle.yq_cut.proofs.splices.AppendLaws.{end_appended}
+use Rattle.yq_cut.proofs.splices.SpliceTexts.{front_text}
+use Rattle.yq_cut.proofs.CharacterLaws.{pairs_back}
+use Rattle.yq_cut.proofs.LineEnds.{behind_comment, white_again}
+use Rattle.yq_cut.proofs.PlaceLaws.{row_front-append}
+use Rattle.yq_cut.proofs.seams.ScalarSeams.{ends_return}
+use Rattle.yq_cut.proofs.seams.SeamLaws.{line_by_break, rows_drop}
+use Rattle.yq_cut.proofs.splices.PartPlaces.{part_in}
+use Rattle.yq_cut.proofs.seams.TailLaws.{comment_closed, no_end_return, content_tail, tail_pairs}
 use Rattle.yq_documents.specs.Documents.{HaveFitKeys, HasShortRoot}
 use Rattle.yq_lines.specs.Group.{level_or}
-use Rattle.yq_walk.specs.Lines.{mark_line, lines_of}
-use Rattle.yq_walk.specs.Lines as lines
+use Rattle.yq_row_lines.specs.Lines.{mark_line, lines_of}
+use Rattle.yq_row_lines.specs.Lines as lines
 use Rattle.yq_lines.specs.Outline.{Line, flatten}
 use Rattle.yq_lines.specs.Places.{lines_before, lines_after}
 use Rattle.yq_documents.specs.Reading.{outline_of}
@@ -86,7 +86,7 @@ comment_stays tail break b bare pairs h = ⊎_elim {0, 0, 0}
     h.line.ends
 
 -- the line of a row that gets a break
-line_stays : (above : List (List ℕ)) (column : ℕ) (mark : Rattle.yq_rows.specs.Rows.Mark) (c : Content) (tail : List ℕ) → is_block c ≡ false → line_comment tail ≡ line_comment (tail_behind c) →
+line_stays : (above : List (List ℕ)) (column : ℕ) (mark : Rattle.yq_cut.specs.Rows.Mark) (c : Content) (tail : List ℕ) → is_block c ≡ false → line_comment tail ≡ line_comment (tail_behind c) →
     mark_line above column mark (with_tail tail c) ≡ mark_line above column mark c
 line_stays above column mark c tail h1 h2 = search (rules, false≢true)
 
@@ -119,7 +119,7 @@ last_comment t c k p front new r break old cut takes =
     let content : pairs_returns (content_text r.content []) ≡ true = pairs_back (row_front r) (content_text r.content []) (ap pairs_returns (sym (row_front-append r [])) ∙ pairs) in
     let tail : pairs_returns (tail_behind r.content) ≡ true = ap pairs_returns (sym (append-nil (tail_behind r.content))) ∙ tail_pairs r.content [] takes.takes.inline content in
     let own = rows_drop i p.rows unlimited p.end (behind_part j c) (subst (λ (x : Part). AreRows unlimited x.rows x.end (behind_part j c)) here (part_in c j true cut.parts).rows) in
-    let asked : Limit = Rattle.yq_rows.specs.Exchange.asked_behind unlimited (Rattle.std.specs.Prelude.take i p.rows) in
+    let asked : Limit = Rattle.yq_cut.specs.Exchange.asked_behind unlimited (Rattle.std.specs.Prelude.take i p.rows) in
     let row : AreRows asked (r ∷ []) [] [] =
     subst (λ (x : List ℕ). AreRows asked (r ∷ []) [] x) takes.rest_is (subst (λ (x : List ℕ). AreRows asked (r ∷ []) x (behind_part j c)) takes.end_is (subst (λ (x : List Row). AreRows asked x p.end (behind_part j c)) end_is own)) in
     comment_stays (tail_behind r.content) break takes.takes.break_is takes.takes.bare tail (content_tail (parent_indent r) r.content [] takes.takes.inline row.0.content)

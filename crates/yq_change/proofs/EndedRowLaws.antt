@@ -1,13 +1,13 @@
 -- Rows end in an LF, or nothing is behind them.
 use Rattle.std.proofs.Common.{inl, inr, ◌≡◌, ℕ, ℤ, List, [], ◌∷◌, ◌++◌, sym, ◌∙◌, subst}
-use Rattle.yq_scalar.proofs.BlockPieceLaws.{IsLf, append_lf}
-use Rattle.yq_rows.specs.Exchange.{row_front}
-use Rattle.yq_rows.specs.Grammar.{Limit, limit_after, IsContent, IsRow, AreRows}
-use Rattle.yq_rows.specs.Rows.{Content, content_text, Row, print_row, rows_text}
-use Rattle.yq_rows.specs.View.{content_cut}
-use Rattle.yq_rows.proofs.PlaceLaws.{part_then, row_front-append}
-use Rattle.yq_rows.proofs.seams.SeamLaws.{rows_text-append}
-use Rattle.yq_rows.proofs.SliceLaws.{content_slices}
+use Rattle.yq_block_scalars.proofs.BlockPieceLaws.{IsLf, append_lf}
+use Rattle.yq_cut.specs.Exchange.{row_front}
+use Rattle.yq_cut.specs.Grammar.{Limit, limit_after, IsContent, IsRow, AreRows}
+use Rattle.yq_cut.specs.Rows.{Content, content_text, Row, print_row, rows_text}
+use Rattle.yq_cut.specs.View.{content_cut}
+use Rattle.yq_cut.proofs.PlaceLaws.{part_then, row_front-append}
+use Rattle.yq_cut.proofs.seams.SeamLaws.{rows_text-append}
+use Rattle.yq_cut.proofs.SliceLaws.{content_slices}
 use Rattle.yq_places.proofs.CommentPieceLaws.{Ended, content_end}
 use Rattle.yq_places.proofs.SeamLaws.{raw_end, last_ended}
 

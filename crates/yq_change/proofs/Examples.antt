@@ -1,11 +1,11 @@
 -- The smallest lines and rows on which the laws can be seen.
 use Rattle.std.proofs.Common.{◌≡◌, ℕ, List, [], ◌∷◌, Some, None, refl, sym, ◌∙◌, codes, true, ⊎_elim, arith}
 use Rattle.std.proofs.lemmas.Bool.{false≢true, cond-true}
-use Rattle.yq_inline.specs.Scalars.{content_of}
-use Rattle.yq_inline.specs.Trees.{tree_of}
-use Rattle.yq_rows.specs.Grammar.{IsCut}
-use Rattle.yq_rows.proofs.ScanLaws.{scan_takes}
-use Rattle.yq_walk.specs.Lines.{mark_line}
+use Rattle.yq_nodes.specs.Scalars.{content_of}
+use Rattle.yq_nodes.specs.Trees.{tree_of}
+use Rattle.yq_cut.specs.Grammar.{IsCut}
+use Rattle.yq_cut.proofs.ScanLaws.{scan_takes}
+use Rattle.yq_row_lines.specs.Lines.{mark_line}
 use Rattle.yq_lines.specs.Places.{content, here, below, find_row}
 use Rattle.yq_documents.specs.Reading.{all_documents, outline_of, read_at, checked_at}
 use Rattle.yq_places.proofs.ReadLaws.{text_again}
@@ -17,19 +17,19 @@ use Rattle.yq_flow_scalars.specs.Keys.{AreDistinct}
 use Rattle.yq_flow_scalars.specs.declared.kind.Kind.TheVariants.{Text}
 use Rattle.yq_flow_scalars.specs.Text as text
 use Rattle.yq_flow_scalars.specs.Tree.{scalar, list, map, none, child}
-use Rattle.yq_inline.specs.Nodes as inline
+use Rattle.yq_nodes.specs.Nodes as inline
 use Rattle.yq_lines.specs.Comments.{head_comment}
-use Rattle.yq_rows.specs.Reading.{scan_at}
-use Rattle.yq_rows.specs.Reading.{parts_at, part_at, rows_at, gap_lines, row_at, marked_row_at, content_at, dashes_at, key_at, colon_at, inline_content_at, tail_at, marker_at, anchor_at}
-use Rattle.yq_inline.specs.Reading.{scalar_at, node_at, content_at as flow_at}
+use Rattle.yq_cut.specs.Reading.{scan_at}
+use Rattle.yq_cut.specs.Reading.{parts_at, part_at, rows_at, gap_lines, row_at, marked_row_at, content_at, dashes_at, key_at, colon_at, inline_content_at, tail_at, marker_at, anchor_at}
+use Rattle.yq_nodes.specs.Reading.{scalar_at, node_at, content_at as flow_at}
 use Rattle.yq_flow_scalars.specs.ContentReading as contents
 use Rattle.yq_flow_scalars.specs.Characters.{pairs_returns as pairs}
 use Rattle.yq_flow_scalars.specs.Plain.{plain_at}
 use Rattle.yq_flow_scalars.specs.Text.{is_line, line_len, lines_of, upto}
 use Rattle.std.specs.Str.{chars}
 use Rattle.std.specs.Str as strings
-use Rattle.yq_rows.specs.Rows as rows
-use Rattle.yq_rows.specs.Rows.{Inline, Row, Part, last, marked, cut_text, rows_text}
+use Rattle.yq_cut.specs.Rows as rows
+use Rattle.yq_cut.specs.Rows.{Inline, Row, Part, last, marked, cut_text, rows_text}
 use Rattle.yq_flow_scalars.specs.Anchors.{Refers, AreBound}
 use Rattle.yq_lines.specs.LineAnchors.{HaveOneAnchorEach}
 use Rattle.yq_documents.specs.Documents.{document_parts}

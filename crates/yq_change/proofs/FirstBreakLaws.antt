@@ -2,15 +2,15 @@
 use Rattle.std.proofs.Common.{◌≡◌, ◌⊎◌, inl, inr, ℕ, ℤ, ◌<◌, Bool, true, false, cond, List, [], ◌∷◌, ◌++◌, length, drop, None, refl, sym, ap, ◌∙◌, subst, arith, append-nil, rules}
 use Rattle.std.proofs.lemmas.Bool.{false≢true, eqb-true, and_parts}
 use Rattle.yq_flow_scalars.specs.Text.{cut_line, is_empty, separates}
-use Rattle.yq_scalar.proofs.BlockPieceLaws.{IsLf, line_lf, raw_lf}
+use Rattle.yq_block_scalars.proofs.BlockPieceLaws.{IsLf, line_lf, raw_lf}
 use Rattle.yq_flow_scalars.specs.Text.{is_line}
 use Rattle.yq_flow_scalars.specs.Text.{joined}
 use Rattle.yq_lines.specs.Comments.{line_comment}
-use Rattle.yq_rows.specs.Grammar.{IsContent, IsTail, AreRows, Limit, limit_after}
-use Rattle.yq_rows.specs.Rows as rows
-use Rattle.yq_rows.specs.Rows.{Content, Nothing, Inline, Block, Row, parent_indent, rows_text}
-use Rattle.yq_rows.proofs.NothingLaws.{some_behind}
-use Rattle.yq_rows.proofs.NodePieces.{BeginsAscii}
+use Rattle.yq_cut.specs.Grammar.{IsContent, IsTail, AreRows, Limit, limit_after}
+use Rattle.yq_cut.specs.Rows as rows
+use Rattle.yq_cut.specs.Rows.{Content, Nothing, Inline, Block, Row, parent_indent, rows_text}
+use Rattle.yq_cut.proofs.NothingLaws.{some_behind}
+use Rattle.yq_cut.proofs.NodePieces.{BeginsAscii}
 use Rattle.yq_places.specs.PrintedLines.{is_last_break, less_break, last_break, end_break, PrintedLine, printed_from, printed_row, printed_lines, run_break}
 use Rattle.yq_places.proofs.CommentPieceLaws.{Ended, tail_end}
 use Rattle.yq_places.proofs.FinishLaws.{lf_behind}

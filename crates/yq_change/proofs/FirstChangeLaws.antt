@@ -5,20 +5,20 @@ use Rattle.yq_flow_scalars.specs.Text.{cut, no_space}
 use Rattle.yq_flow_scalars.specs.Anchors.{names_of}
 use Rattle.yq_lines.specs.Comments.{head_comment}
 use Rattle.yq_lines.specs.Places.{plug, FoundLine, content}
-use Rattle.yq_rows.specs.Grammar.{IsRow, Limit, unlimited, AreRows}
-use Rattle.yq_rows.specs.Reading.{cut_gap, begins_gap}
-use Rattle.yq_rows.specs.Rows.{Row, behind_columns, behind_dashes, behind_gap, behind_indent, dashes_text, print_row, rows_text, Part, part_text, Cut, cut_text}
-use Rattle.yq_rows.proofs.GapLaws.{gap_again, gap_stop}
-use Rattle.yq_rows.proofs.MarkLaws.{spaces_again}
-use Rattle.yq_rows.proofs.RowAgain.{row_no_gap, row_starts}
-use Rattle.yq_rows.proofs.seams.SeamLaws.{rows_text-append}
-use Rattle.yq_rows.proofs.splices.SpliceTexts.{own_gap, own_end}
-use Rattle.yq_rows.proofs.seams.JoinLaws.{dashes_text-append}
+use Rattle.yq_cut.specs.Grammar.{IsRow, Limit, unlimited, AreRows}
+use Rattle.yq_cut.specs.Reading.{cut_gap, begins_gap}
+use Rattle.yq_cut.specs.Rows.{Row, behind_columns, behind_dashes, behind_gap, behind_indent, dashes_text, print_row, rows_text, Part, part_text, Cut, cut_text}
+use Rattle.yq_cut.proofs.GapLaws.{gap_again, gap_stop}
+use Rattle.yq_cut.proofs.MarkLaws.{spaces_again}
+use Rattle.yq_cut.proofs.RowAgain.{row_no_gap, row_starts}
+use Rattle.yq_cut.proofs.seams.SeamLaws.{rows_text-append}
+use Rattle.yq_cut.proofs.splices.SpliceTexts.{own_gap, own_end}
+use Rattle.yq_cut.proofs.seams.JoinLaws.{dashes_text-append}
 use Rattle.yq_documents.specs.Documents.{lead_of}
 use Rattle.yq_places.specs.FirstPlaces.{are_spaces, less_spaces}
-use Rattle.yq_walk.specs.Lines.{lines_from, lines_of}
+use Rattle.yq_row_lines.specs.Lines.{lines_from, lines_of}
 use Rattle.yq_documents.specs.Reading.{outline_of, root_of}
-use Rattle.yq_walk.proofs.RowLaws.{no_comments}
+use Rattle.yq_row_lines.proofs.RowLaws.{no_comments}
 use Rattle.yq_places.specs.RowPaths.{IsReadable}
 use Rattle.yq_places.proofs.RemovalTexts.{texts_then}
 use Rattle.yq_change.specs.Appends.{inserted}

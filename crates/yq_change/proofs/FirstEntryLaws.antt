@@ -9,13 +9,13 @@ use Rattle.yq_lines.specs.Outline.{Line, level, Outline, end, row, flatten, IsEv
 use Rattle.yq_lines.specs.Places.{Context, here, below, beside, plug, lines_before, lines_after, FoundLine, find_row}
 use Rattle.yq_lines.proofs.PlaceLaws.{at}
 use Rattle.yq_lines.proofs.Values.{rank_small}
-use Rattle.yq_rows.specs.Grammar.{AreDashes, is_entry}
-use Rattle.yq_rows.specs.Rows as rows
-use Rattle.yq_rows.specs.Rows.{Content, Row, behind_columns, Part}
-use Rattle.yq_walk.specs.Lines.{dash_line, mark_line, lines_from, row_lines, lines_of}
+use Rattle.yq_cut.specs.Grammar.{AreDashes, is_entry}
+use Rattle.yq_cut.specs.Rows as rows
+use Rattle.yq_cut.specs.Rows.{Content, Row, behind_columns, Part}
+use Rattle.yq_row_lines.specs.Lines.{dash_line, mark_line, lines_from, row_lines, lines_of}
 use Rattle.yq_documents.specs.Reading.{outline_of}
 use Rattle.yq_documents.specs.LinesInRows.{RowLine, row_line}
-use Rattle.yq_walk.proofs.RowLaws.{no_comments}
+use Rattle.yq_row_lines.proofs.RowLaws.{no_comments}
 use Rattle.yq_places.proofs.UnderExchange.{lines_append}
 use Rattle.yq_change.specs.LineRows.{Begins, StandApart, InRows, IsRowLine, line_number, lines_behind}
 use Rattle.yq_change.specs.Moved.{dash_lines}

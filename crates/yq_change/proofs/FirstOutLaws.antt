@@ -7,14 +7,14 @@ use Rattle.yq_flow_scalars.specs.Answers.{◌>>=◌}
 use Rattle.yq_flow_scalars.specs.Paths.{Step}
 use Rattle.yq_flow_scalars.specs.Text.{cut, cut_line, no_space, upto, line_len}
 use Rattle.yq_flow_scalars.proofs.Bools.{bind_some}
-use Rattle.yq_inline.proofs.Binds.{not_then}
+use Rattle.yq_nodes.proofs.Binds.{not_then}
 use Rattle.yq_lines.specs.Ends.{line_of}
-use Rattle.yq_rows.specs.Rows.{Part, Cut, cut_text}
-use Rattle.yq_rows.specs.Reading.{begins_gap}
+use Rattle.yq_cut.specs.Rows.{Part, Cut, cut_text}
+use Rattle.yq_cut.specs.Reading.{begins_gap}
 use Rattle.yq_documents.specs.declared.path.Part.TheVariants.{Entry}
 use Rattle.yq_documents.specs.Documents.{document_parts}
 use Rattle.yq_places.specs.FirstPlaces.{less_spaces, end_spaces, FirstOut, first_out, first_entry, first_removal}
-use Rattle.yq_walk.specs.Lines.{lines_of}
+use Rattle.yq_row_lines.specs.Lines.{lines_of}
 use Rattle.yq_places.specs.PathPieces.{printed_document, piece_in}
 use Rattle.yq_documents.specs.Pieces.{TextPiece}
 use Rattle.yq_documents.specs.LinesInRows.{RowLine, row_line, row_line_of}

@@ -13,17 +13,17 @@ use Rattle.yq_flow_scalars.specs.Anchors.{names_of}
 use Rattle.yq_lines.specs.Ends.{line_of}
 use Rattle.yq_lines.specs.Group.{group, level_or, is_fine}
 use Rattle.yq_lines.specs.Places.{plug, content}
-use Rattle.yq_rows.specs.Exchange.{asked_behind}
-use Rattle.yq_rows.specs.Grammar.{unlimited, AreRows, limit_after}
-use Rattle.yq_rows.specs.Rows.{Row, behind_columns, dashes_text, behind_dashes, behind_indent, behind_gap, print_row, rows_text, Part, part_text, Cut, cut_text}
-use Rattle.yq_rows.proofs.NodePieces.{BeginsAscii, before_ascii}
-use Rattle.yq_rows.proofs.PlaceLaws.{row_then}
-use Rattle.yq_rows.proofs.splices.SpliceTexts.{own_gap, own_end}
-use Rattle.yq_rows.specs.Reading.{begins_gap}
+use Rattle.yq_cut.specs.Exchange.{asked_behind}
+use Rattle.yq_cut.specs.Grammar.{unlimited, AreRows, limit_after}
+use Rattle.yq_cut.specs.Rows.{Row, behind_columns, dashes_text, behind_dashes, behind_indent, behind_gap, print_row, rows_text, Part, part_text, Cut, cut_text}
+use Rattle.yq_cut.proofs.NodePieces.{BeginsAscii, before_ascii}
+use Rattle.yq_cut.proofs.PlaceLaws.{row_then}
+use Rattle.yq_cut.proofs.splices.SpliceTexts.{own_gap, own_end}
+use Rattle.yq_cut.specs.Reading.{begins_gap}
 use Rattle.yq_documents.specs.declared.path.Part.TheVariants.{Entry}
 use Rattle.yq_documents.specs.Documents.{document_parts, lead_of}
 use Rattle.yq_places.specs.FirstPlaces.{less_spaces, end_spaces, FirstOut, first_out, first_removal}
-use Rattle.yq_walk.specs.Lines.{lines_from, lines_of}
+use Rattle.yq_row_lines.specs.Lines.{lines_from, lines_of}
 use Rattle.yq_places.specs.PathPieces.{PrintedDocument, piece_in}
 use Rattle.yq_documents.specs.Reading.{outline_of, read_at, root_of}
 use Rattle.yq_places.specs.RowPaths.{IsReadable}

@@ -1,18 +1,18 @@
 -- Rows that take the place of a compact collection's first item or entry.
 use Rattle.std.proofs.Common.{◌≡◌, ℕ, ◌+◌, ◌<◌, true, false, List, [], ◌∷◌, ◌++◌, length, Some, refl, sym, ap, ◌∙◌, subst, arith, append_assoc}
 use Rattle.yq_flow_scalars.specs.Text.{separates}
-use Rattle.yq_inline.specs.Alike.{Alike, byte}
-use Rattle.yq_rows.specs.Exchange.{allows_first, asked_behind}
-use Rattle.yq_rows.specs.Grammar.{IsContent, IsTail, AreDashes, is_entry, IsRow, Limit, unlimited, limit_after, limit_behind, AreRows}
-use Rattle.yq_rows.specs.Joined.{dashed_row}
-use Rattle.yq_rows.specs.Rows as rows
-use Rattle.yq_rows.specs.Rows.{Nothing, Row, behind_columns, behind_dashes, behind_indent, dashes_text, parent_indent, parent_of, print_row, rows_text, Part}
-use Rattle.yq_rows.specs.Seams.{TakesPlace}
-use Rattle.yq_rows.specs.Splices.{behind_first, first_gap}
-use Rattle.yq_rows.proofs.RowPlaces.{takes_place}
-use Rattle.yq_rows.proofs.seams.JoinLaws.{row_dashed, space_apart, dashes_text-append, behind_columns-append}
-use Rattle.yq_rows.proofs.splices.SpliceTexts.{first_is, first_text}
-use Rattle.yq_rows.proofs.PlaceLaws.{first_allowed}
+use Rattle.yq_nodes.specs.Alike.{Alike, byte}
+use Rattle.yq_cut.specs.Exchange.{allows_first, asked_behind}
+use Rattle.yq_cut.specs.Grammar.{IsContent, IsTail, AreDashes, is_entry, IsRow, Limit, unlimited, limit_after, limit_behind, AreRows}
+use Rattle.yq_cut.specs.Joined.{dashed_row}
+use Rattle.yq_cut.specs.Rows as rows
+use Rattle.yq_cut.specs.Rows.{Nothing, Row, behind_columns, behind_dashes, behind_indent, dashes_text, parent_indent, parent_of, print_row, rows_text, Part}
+use Rattle.yq_cut.specs.Seams.{TakesPlace}
+use Rattle.yq_cut.specs.Splices.{behind_first, first_gap}
+use Rattle.yq_cut.proofs.RowPlaces.{takes_place}
+use Rattle.yq_cut.proofs.seams.JoinLaws.{row_dashed, space_apart, dashes_text-append, behind_columns-append}
+use Rattle.yq_cut.proofs.splices.SpliceTexts.{first_is, first_text}
+use Rattle.yq_cut.proofs.PlaceLaws.{first_allowed}
 use Rattle.yq_change.specs.Moved.{emptied, moved_up}
 use Rattle.yq_change.specs.Replaces.{RowsReplace}
 

@@ -1,10 +1,10 @@
 -- The first item or entry of a compact collection taken out, by its rows.
 use Rattle.std.proofs.Common.{◌≡◌, ℕ, List, [], ◌∷◌, ◌++◌, false, refl, sym, ap, ◌∙◌, subst, append_assoc, rules}
 use Rattle.std.proofs.lemmas.Bool.{false≢true}
-use Rattle.yq_rows.specs.Grammar.{AreDashes, no_rows}
-use Rattle.yq_rows.specs.Rows.{Row, Part}
-use Rattle.yq_rows.specs.Splices.{first_gap}
-use Rattle.yq_rows.proofs.splices.SpliceTexts.{own_gap}
+use Rattle.yq_cut.specs.Grammar.{AreDashes, no_rows}
+use Rattle.yq_cut.specs.Rows.{Row, Part}
+use Rattle.yq_cut.specs.Splices.{first_gap}
+use Rattle.yq_cut.proofs.splices.SpliceTexts.{own_gap}
 use Rattle.yq_documents.specs.Documents.{HaveFitKeys, HasShortRoot, is_long_plain}
 use Rattle.yq_change.specs.Appends.{inserted}
 use Rattle.yq_change.specs.Moved.{emptied, moved_up}

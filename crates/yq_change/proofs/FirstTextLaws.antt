@@ -12,13 +12,13 @@ use Rattle.yq_lines.specs.Ends.{found_line, line_of, lines_end}
 use Rattle.yq_lines.specs.Group.{group, is_fine}
 use Rattle.yq_lines.specs.Outline.{flatten}
 use Rattle.yq_lines.specs.Places.{lines_before, FoundLine, find}
-use Rattle.yq_rows.specs.Grammar.{unlimited, AreRows, limit_after}
-use Rattle.yq_rows.specs.Exchange.{asked_behind}
-use Rattle.yq_rows.specs.Rows as rows
-use Rattle.yq_rows.specs.Rows.{Content, Nothing, Row, behind_columns, rows_text, Part}
-use Rattle.yq_rows.proofs.seams.FrontSeams.{rows_some}
+use Rattle.yq_cut.specs.Grammar.{unlimited, AreRows, limit_after}
+use Rattle.yq_cut.specs.Exchange.{asked_behind}
+use Rattle.yq_cut.specs.Rows as rows
+use Rattle.yq_cut.specs.Rows.{Content, Nothing, Row, behind_columns, rows_text, Part}
+use Rattle.yq_cut.proofs.seams.FrontSeams.{rows_some}
 use Rattle.yq_documents.specs.declared.path.Part.TheVariants.{Entry}
-use Rattle.yq_walk.specs.Lines.{dash_line, lines_from, lines_of}
+use Rattle.yq_row_lines.specs.Lines.{dash_line, lines_from, lines_of}
 use Rattle.yq_places.specs.PathPieces.{BlockEntry, found_entry, piece_in, piece_in_entry}
 use Rattle.yq_documents.specs.Pieces.{TextPiece}
 use Rattle.yq_places.specs.PrintedLines.{PrintedLine, line_front, print_lines, printed_from, printed_lines, printed_row, line_in, run_piece}

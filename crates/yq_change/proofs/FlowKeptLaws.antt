@@ -5,18 +5,18 @@ use Rattle.std.proofs.lemmas.Bool.{cond_both}
 use Rattle.std.proofs.lemmas.Option.{none-some, same_Some}
 use Rattle.std.specs.Prelude.{is_some}
 use Rattle.yq_flow_scalars.specs.Paths.{Step, is_here, further}
-use Rattle.yq_inline.specs.Collections.{CollPieces, coll_along, put_at, change_item}
-use Rattle.yq_inline.specs.Entries.{EntryPieces, item_at}
+use Rattle.yq_nodes.specs.Collections.{CollPieces, coll_along, put_at, change_item}
+use Rattle.yq_nodes.specs.Entries.{EntryPieces, item_at}
 use Rattle.yq_flow.specs.FlowEdits.{FlowEdit}
-use Rattle.yq_inline.specs.Nodes.{Key, Node, empty, alias, scalar, coll, anchored, Sep, Items, none, item, sep_text, items_text}
+use Rattle.yq_nodes.specs.Nodes.{Key, Node, empty, alias, scalar, coll, anchored, Sep, Items, none, item, sep_text, items_text}
 use Rattle.yq_flow.specs.Removals.{before_next, behind_item, gap_of, last_out, removing_from}
 use Rattle.yq_flow.proofs.RemoveTexts.{either, option_some}
-use Rattle.yq_inline.specs.Trees.{inner, key_content}
-use Rattle.yq_rows.specs.Exchange.{with_content}
-use Rattle.yq_rows.specs.Rows.{Inline, Row, Part}
-use Rattle.yq_rows.proofs.splices.SpliceTexts.{own_gap}
+use Rattle.yq_nodes.specs.Trees.{inner, key_content}
+use Rattle.yq_cut.specs.Exchange.{with_content}
+use Rattle.yq_cut.specs.Rows.{Inline, Row, Part}
+use Rattle.yq_cut.proofs.splices.SpliceTexts.{own_gap}
 use Rattle.yq_documents.specs.Documents.{ContentHasFitKeys, EachHasFitKeys, HasFitKey, HasFitKeys, HaveFitKeys}
-use Rattle.yq_walk.specs.Lines.{head_of}
+use Rattle.yq_row_lines.specs.Lines.{head_of}
 use Rattle.yq_change.specs.FlowKept.{with_items, FlowRooms, FlowKeys, LeftKeys}
 use Rattle.yq_change.specs.Rooms.{row_shape}
 use Rattle.yq_change.proofs.AnchorLaws.{fit_parts}

@@ -5,22 +5,22 @@ use Rattle.std.proofs.lemmas.Option.{none-some, same_Some}
 use Rattle.std.specs.List.{slice_get}
 use Rattle.yq_flow_scalars.specs.Paths.{Step}
 use Rattle.yq_flow_scalars.proofs.Bools.{bind_some}
-use Rattle.yq_inline.specs.Collections.{CollPieces, coll_along}
-use Rattle.yq_inline.specs.Nodes.{Node, node_text}
+use Rattle.yq_nodes.specs.Collections.{CollPieces, coll_along}
+use Rattle.yq_nodes.specs.Nodes.{Node, node_text}
 use Rattle.yq_lines.specs.Group.{level_or}
 use Rattle.yq_lines.specs.Outline.{Line, Outline, flatten}
 use Rattle.yq_lines.specs.Places.{lines_before, lines_after, FoundLine}
 use Rattle.yq_lines.proofs.Decides.{flatten-group}
 use Rattle.yq_lines.proofs.PlaceLaws.{placed}
-use Rattle.yq_rows.specs.Exchange.{before_content, behind_at, behind_row, exchange, with_content, with_content_at}
-use Rattle.yq_rows.specs.Rows.{Content, Inline, Row, content_text, rows_text, Part, Cut, last, marked, cut_text}
-use Rattle.yq_rows.specs.Splices.{behind_part, nth_part}
-use Rattle.yq_rows.specs.View.{rows_of}
-use Rattle.yq_rows.proofs.PlaceLaws.{place, new_place}
-use Rattle.yq_rows.proofs.splices.SpliceTexts.{own_gap, own_end}
+use Rattle.yq_cut.specs.Exchange.{before_content, behind_at, behind_row, exchange, with_content, with_content_at}
+use Rattle.yq_cut.specs.Rows.{Content, Inline, Row, content_text, rows_text, Part, Cut, last, marked, cut_text}
+use Rattle.yq_cut.specs.Splices.{behind_part, nth_part}
+use Rattle.yq_cut.specs.View.{rows_of}
+use Rattle.yq_cut.proofs.PlaceLaws.{place, new_place}
+use Rattle.yq_cut.proofs.splices.SpliceTexts.{own_gap, own_end}
 use Rattle.yq_documents.specs.Documents.{document_parts}
 use Rattle.yq_places.specs.FlowNodes.{content_flow, find_head}
-use Rattle.yq_walk.specs.Lines.{lines_of}
+use Rattle.yq_row_lines.specs.Lines.{lines_of}
 use Rattle.yq_documents.specs.Reading.{outline_of}
 use Rattle.yq_documents.specs.LinesInRows.{RowLine, row_line, document_row}
 use Rattle.yq_places.proofs.FlowPlaceLaws.{mark_row_line}

@@ -6,13 +6,13 @@ use mathlib.Core.List.{head-eq_of_cons-eq}
 use Rattle.yq_flow_scalars.specs.Paths.{Step, change, within}
 use Rattle.yq_flow_scalars.specs.Text.{separates}
 use Rattle.yq_flow_scalars.specs.Tree as tree
-use Rattle.yq_inline.specs.Alike.{Alike, stop, after}
-use Rattle.yq_inline.specs.Collections.{CollPieces, coll_along, put_at}
+use Rattle.yq_nodes.specs.Alike.{Alike, stop, after}
+use Rattle.yq_nodes.specs.Collections.{CollPieces, coll_along, put_at}
 use Rattle.yq_flow.specs.FlowEdits.{edited_node}
-use Rattle.yq_inline.specs.Inline.{IsInline}
-use Rattle.yq_inline.specs.Nodes.{Node, empty, alias, scalar, coll, anchored, Items, node_text}
-use Rattle.yq_inline.specs.Trees.{collection, items_tree, node_anchor, node_head, tree_of}
-use Rattle.yq_inline.proofs.Alikes.{alike_append, alike_separates}
+use Rattle.yq_nodes.specs.Inline.{IsInline}
+use Rattle.yq_nodes.specs.Nodes.{Node, empty, alias, scalar, coll, anchored, Items, node_text}
+use Rattle.yq_nodes.specs.Trees.{collection, items_tree, node_anchor, node_head, tree_of}
+use Rattle.yq_nodes.proofs.Alikes.{alike_append, alike_separates}
 use Rattle.yq_flow.proofs.CollLaws.{open_stop}
 use Rattle.yq_flow_scalars.specs.Anchors.{IsNoAlias}
 use Rattle.yq_lines.specs.Comments.{head_comment}
@@ -24,19 +24,19 @@ use Rattle.yq_lines.specs.Places.{lines_before, lines_after, FoundLine}
 use Rattle.yq_lines.proofs.Decides.{flatten-group}
 use Rattle.yq_lines.proofs.PlaceLaws.{placed}
 use Rattle.yq_lines.proofs.Plug.{allows_from}
-use Rattle.yq_rows.specs.Exchange.{allows_first, asked_behind, with_content}
-use Rattle.yq_rows.specs.Grammar.{IsContent, IsMark, IsRow, Limit, AreRows, unlimited, is_more, is_plain, no_rows}
-use Rattle.yq_rows.specs.Rows as rows
-use Rattle.yq_rows.specs.Rows.{Content, Inline, Row, content_text, mark_column, mark_text, parent_indent, rows_text, Part, Cut}
-use Rattle.yq_rows.specs.Seams.{TakesPlace}
-use Rattle.yq_rows.specs.Splices.{first_gap}
-use Rattle.yq_rows.proofs.AlikeRows.{dashes_text_alike}
-use Rattle.yq_rows.proofs.ExchangeLaws.{mark_kept}
-use Rattle.yq_rows.proofs.RowPlaces.{takes_place}
-use Rattle.yq_rows.proofs.seams.SeamLaws.{rows_drop}
-use Rattle.yq_rows.proofs.splices.SpliceTexts.{own_gap}
+use Rattle.yq_cut.specs.Exchange.{allows_first, asked_behind, with_content}
+use Rattle.yq_cut.specs.Grammar.{IsContent, IsMark, IsRow, Limit, AreRows, unlimited, is_more, is_plain, no_rows}
+use Rattle.yq_cut.specs.Rows as rows
+use Rattle.yq_cut.specs.Rows.{Content, Inline, Row, content_text, mark_column, mark_text, parent_indent, rows_text, Part, Cut}
+use Rattle.yq_cut.specs.Seams.{TakesPlace}
+use Rattle.yq_cut.specs.Splices.{first_gap}
+use Rattle.yq_cut.proofs.AlikeRows.{dashes_text_alike}
+use Rattle.yq_cut.proofs.ExchangeLaws.{mark_kept}
+use Rattle.yq_cut.proofs.RowPlaces.{takes_place}
+use Rattle.yq_cut.proofs.seams.SeamLaws.{rows_drop}
+use Rattle.yq_cut.proofs.splices.SpliceTexts.{own_gap}
 use Rattle.yq_documents.specs.Documents.{HaveFitKeys, HasShortRoot, is_long_plain}
-use Rattle.yq_walk.specs.Lines.{mark_line, lines_of}
+use Rattle.yq_row_lines.specs.Lines.{mark_line, lines_of}
 use Rattle.yq_documents.specs.Reading.{outline_of}
 use Rattle.yq_places.proofs.FlowPieces.{named_is, none_anchored, twice}
 use Rattle.yq_places.proofs.RemovalLines.{front_some}
@@ -61,7 +61,7 @@ pub record HoldsColl (node m : Node) (rest : List ℕ) : Type 0 where
   pub alike : Alike (Some false) (node_text node rest) (node_text m rest)
   pub plain : is_plain m ≡ false
   pub more : is_more m ≡ true
-  pub some : Rattle.yq_inline.specs.Nodes.is_bare m ≡ false
+  pub some : Rattle.yq_nodes.specs.Nodes.is_bare m ≡ false
   pub anchor : node_anchor m ≡ node_anchor node
   pub old_head : (n : tree.Node) × (node_head node ≡ Some n)
   pub head : (n : tree.Node) × (node_head m ≡ Some n) × IsNoAlias (Some n)
@@ -150,9 +150,9 @@ row_takes limit i m u h e holds inline =
     (mark_stays r.mark i.space i.tail i.node m u holds.more (sym (alike_separates (Some false) _ _ text)) (subst (λ (x : Content). IsMark r.mark x u) e h.mark))
     (old.0, inline, old.2)
 
-plain_next : (n : ℤ) (space tail : List ℕ) (m : Node) (back : List Row) → is_plain m ≡ false → allows_first (Rattle.yq_rows.specs.Grammar.limit_behind n (Inline space m tail)) back ≡ true
+plain_next : (n : ℤ) (space tail : List ℕ) (m : Node) (back : List Row) → is_plain m ≡ false → allows_first (Rattle.yq_cut.specs.Grammar.limit_behind n (Inline space m tail)) back ≡ true
 plain_next n space tail m [] e = refl
-plain_next n space tail m (b ∷ back) e = ap (λ (x : Bool). Rattle.yq_rows.specs.Grammar.allows (cond x (record { column = Some (Rattle.yq_flow_scalars.specs.Piece.deeper n) }) unlimited) b.column) e
+plain_next n space tail m (b ∷ back) e = ap (λ (x : Bool). Rattle.yq_cut.specs.Grammar.allows (cond x (record { column = Some (Rattle.yq_flow_scalars.specs.Piece.deeper n) }) unlimited) b.column) e
 
 short_node : (mark : rows.Mark) (space tail : List ℕ) (m : Node) → is_plain m ≡ false → is_long_plain mark (Inline space m tail) ≡ false
 short_node mark space tail m h1 = search rules

@@ -3,15 +3,15 @@ use Rattle.std.proofs.Common.{◌≡◌, ℕ, ◌+◌, Bool, true, List, [], ◌
 use Rattle.std.proofs.lemmas.Option.{same_Some}
 use Rattle.std.specs.Str.{IsUtf8}
 use Rattle.yq_flow_scalars.specs.Paths.{Step}
-use Rattle.yq_inline.specs.Collections.{CollPieces, coll_along, coll_in}
-use Rattle.yq_inline.specs.Entries.{EntryPieces, entry_pieces_at, inside, locate_entry, placed_entry_at}
-use Rattle.yq_inline.specs.Nodes.{bare, Node, key_text, node_text, IsNode}
-use Rattle.yq_inline.specs.Places.{locate}
-use Rattle.yq_inline.specs.Spans.{HasSpans}
-use Rattle.yq_inline.proofs.PathLaws.{path_holds, path_places, path_stands, then_some}
-use Rattle.yq_inline.proofs.WrittenLaws.{key_append}
-use Rattle.yq_rows.specs.Exchange.{behind_row}
-use Rattle.yq_rows.specs.Rows.{Cut, cut_text}
+use Rattle.yq_nodes.specs.Collections.{CollPieces, coll_along, coll_in}
+use Rattle.yq_nodes.specs.Entries.{EntryPieces, entry_pieces_at, inside, locate_entry, placed_entry_at}
+use Rattle.yq_nodes.specs.Nodes.{bare, Node, key_text, node_text, IsNode}
+use Rattle.yq_nodes.specs.Places.{locate}
+use Rattle.yq_nodes.specs.Spans.{HasSpans}
+use Rattle.yq_nodes.proofs.PathLaws.{path_holds, path_places, path_stands, then_some}
+use Rattle.yq_nodes.proofs.WrittenLaws.{key_append}
+use Rattle.yq_cut.specs.Exchange.{behind_row}
+use Rattle.yq_cut.specs.Rows.{Cut, cut_text}
 use Rattle.yq_documents.specs.Reading.{read_at}
 use Rattle.yq_documents.specs.LinesInRows.{document_row}
 use Rattle.yq_places.proofs.FlowSpanLaws.{entry_spans}

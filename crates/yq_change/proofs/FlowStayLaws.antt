@@ -8,23 +8,23 @@ use Rattle.std.specs.List.{slice_get}
 use Rattle.std.specs.Option.{is_some}
 use Rattle.yq_flow_scalars.specs.Answers.{◌>>=◌}
 use Rattle.yq_flow_scalars.specs.Paths.{Step}
-use Rattle.yq_inline.specs.Collections.{CollPieces, coll_along, put_at}
-use Rattle.yq_inline.specs.Nodes.{Node, Items}
+use Rattle.yq_nodes.specs.Collections.{CollPieces, coll_along, put_at}
+use Rattle.yq_nodes.specs.Nodes.{Node, Items}
 use Rattle.yq_lines.specs.Group.{group}
 use Rattle.yq_lines.specs.Outline.{Outline, end, row, null_node}
 use Rattle.yq_lines.specs.Places.{here, below, FoundLine, find, in_head, inside, lines_before}
 use Rattle.yq_lines.specs.Positions.{is_bare}
-use Rattle.yq_rows.specs.Exchange.{behind_row, with_content}
-use Rattle.yq_rows.specs.Grammar.{begins_document, no_rows}
-use Rattle.yq_rows.specs.Rows.{Content, Inline, Row, Part, Cut, last, marked, rows_text}
-use Rattle.yq_rows.specs.Splices.{behind_part}
-use Rattle.yq_rows.proofs.splices.SpliceTexts.{own_gap, own_end}
+use Rattle.yq_cut.specs.Exchange.{behind_row, with_content}
+use Rattle.yq_cut.specs.Grammar.{begins_document, no_rows}
+use Rattle.yq_cut.specs.Rows.{Content, Inline, Row, Part, Cut, last, marked, rows_text}
+use Rattle.yq_cut.specs.Splices.{behind_part}
+use Rattle.yq_cut.proofs.splices.SpliceTexts.{own_gap, own_end}
 use Rattle.yq_documents.specs.Documents.{begins_bare, document_parts, has_begin}
 use Rattle.yq_documents.specs.PartNumbers.{number_from, part_number}
 use Rattle.yq_documents.specs.Reading.{outline_of}
 use Rattle.yq_documents.specs.LinesInRows.{RowLine, document_row, row_line}
 use Rattle.yq_documents.specs.TreeEdits.{change_nth}
-use Rattle.yq_walk.specs.Lines.{head_of, lines_of}
+use Rattle.yq_row_lines.specs.Lines.{head_of, lines_of}
 use Rattle.yq_places.specs.FlowNodes.{bare_line, content_flow, find_head, flow_collection, head_line, line_collection}
 use Rattle.yq_places.specs.FlowViews.{LeadsToHead}
 use Rattle.yq_places.specs.NodeReading.{head_at}

@@ -1,21 +1,21 @@
 -- The head comment of the gap that stays where rows are taken out.
 use Rattle.std.proofs.Common.{◌≡◌, ℕ, Bool, true, false, ◌&&◌, List, [], ◌∷◌, ◌++◌, Option, Some, None, refl, sym, ap, ◌∙◌, subst, ⊎_elim, replicate}
 use Rattle.std.proofs.lemmas.Bool.{false≢true, cond_both, cond-true, cond-false, and_parts, cases_Bool}
-use Rattle.yq_scalar.specs.Block.{BlockText, Lines, keeps}
-use Rattle.yq_scalar.specs.BlockRepair.{AreGap, is_short, is_outside, repair}
+use Rattle.yq_block_scalars.specs.Block.{BlockText, Lines, keeps}
+use Rattle.yq_block_scalars.specs.BlockRepair.{AreGap, is_short, is_outside, repair}
 use Rattle.yq_flow_scalars.specs.Lines.{is_hash, is_blank}
 use Rattle.yq_flow_scalars.specs.Text.{is_break, is_empty, is_line, joined, lines_of, past_white}
-use Rattle.yq_scalar.proofs.LineLaws.{lines_again}
-use Rattle.yq_scalar.proofs.BlockRepairText.{line_past, line_spaces}
+use Rattle.yq_block_scalars.proofs.LineLaws.{lines_again}
+use Rattle.yq_block_scalars.proofs.BlockRepairText.{line_past, line_spaces}
 use Rattle.yq_lines.specs.Comments.{are_comments, head_comment, last_comments}
-use Rattle.yq_rows.specs.Gap.{IsGapLine, AreGapLines, IsGap}
-use Rattle.yq_rows.specs.Removal.{hold_comment, seam_gap}
-use Rattle.yq_rows.proofs.seams.GapSeams.{gap_kinds, gap_lines_of}
+use Rattle.yq_cut.specs.Gap.{IsGapLine, AreGapLines, IsGap}
+use Rattle.yq_cut.specs.Removal.{hold_comment, seam_gap}
+use Rattle.yq_cut.proofs.seams.GapSeams.{gap_kinds, gap_lines_of}
 use Rattle.yq_lines.proofs.HeadLaws.{comments_behind, head_repaired}
-use Rattle.yq_rows.proofs.seams.GapFronts.{lines_joined_of}
-use Rattle.yq_rows.proofs.NothingLaws.{some_behind}
-use Rattle.yq_rows.proofs.seams.SeamLaws.{line_by_break}
-use Rattle.yq_rows.proofs.EmptyTexts.{none_is}
+use Rattle.yq_cut.proofs.seams.GapFronts.{lines_joined_of}
+use Rattle.yq_cut.proofs.NothingLaws.{some_behind}
+use Rattle.yq_cut.proofs.seams.SeamLaws.{line_by_break}
+use Rattle.yq_cut.proofs.EmptyTexts.{none_is}
 use Rattle.yq_documents.specs.Pieces.{before_run}
 
 -- the head comment of a gap, in front of which lines stand that end in no comment

@@ -2,36 +2,36 @@
 use Rattle.std.proofs.Common.{◌≡◌, ℕ, zero, suc, ◌+◌, ◌<◌, List, [], ◌∷◌, ◌++◌, length, take, Option, Some, None, true, false, refl, sym, ap, ◌∙◌, subst, arith, rules}
 use Rattle.std.proofs.Common.{⊎_elim, append_assoc, replicate}
 use Rattle.std.proofs.lemmas.Bool.{lt-ltb, and_from, cases_Bool}
-use Rattle.yq_scalar.specs.Block.{BlockText, Lines, ends_block, is_less_indented, keeps}
-use Rattle.yq_scalar.specs.BlockRepair.{is_behind}
-use Rattle.yq_scalar.specs.declared.block_lines.TextIndent.{TextIndent}
+use Rattle.yq_block_scalars.specs.Block.{BlockText, Lines, ends_block, is_less_indented, keeps}
+use Rattle.yq_block_scalars.specs.BlockRepair.{is_behind}
+use Rattle.yq_block_scalars.specs.declared.block_lines.TextIndent.{TextIndent}
 use Rattle.yq_flow_scalars.specs.Text.{is_empty, joined, put_byte, lines_of as text_lines}
-use Rattle.yq_scalar.proofs.BlockRepairLaws.{ends_behind}
-use Rattle.yq_scalar.proofs.SpaceLaws.{prefix_none, spaces_front, drop_front as spaces_drop}
+use Rattle.yq_block_scalars.proofs.BlockRepairLaws.{ends_behind}
+use Rattle.yq_block_scalars.proofs.SpaceLaws.{prefix_none, spaces_front, drop_front as spaces_drop}
 use Rattle.yq_lines.specs.Comments.{head_comment, last_comments}
-use Rattle.yq_rows.specs.Exchange.{asked_behind}
-use Rattle.yq_rows.specs.Gap.{AreGapLines, IsGap}
-use Rattle.yq_rows.specs.Grammar.{Limit, unlimited, AreRows, no_rows}
-use Rattle.yq_rows.specs.Rows.{Content, Row, behind_gap, behind_indent, rows_text, Part}
-use Rattle.yq_rows.specs.Seams.{are_seamed, is_seam}
-use Rattle.yq_rows.specs.Removal.{block_of, hold_comment, last_block}
-use Rattle.yq_rows.proofs.AlikeBlocks.{put_first}
-use Rattle.yq_rows.proofs.seams.GapSeams.{gap_lines_of, lines_before}
-use Rattle.yq_rows.proofs.seams.GapFronts.{ends_blank, ends_comment}
+use Rattle.yq_cut.specs.Exchange.{asked_behind}
+use Rattle.yq_cut.specs.Gap.{AreGapLines, IsGap}
+use Rattle.yq_cut.specs.Grammar.{Limit, unlimited, AreRows, no_rows}
+use Rattle.yq_cut.specs.Rows.{Content, Row, behind_gap, behind_indent, rows_text, Part}
+use Rattle.yq_cut.specs.Seams.{are_seamed, is_seam}
+use Rattle.yq_cut.specs.Removal.{block_of, hold_comment, last_block}
+use Rattle.yq_cut.proofs.AlikeBlocks.{put_first}
+use Rattle.yq_cut.proofs.seams.GapSeams.{gap_lines_of, lines_before}
+use Rattle.yq_cut.proofs.seams.GapFronts.{ends_blank, ends_comment}
 use Rattle.yq_change.proofs.GapLaws.{head_joined}
-use Rattle.yq_rows.proofs.seams.LessLaws.{starts_less}
-use Rattle.yq_rows.proofs.NothingLaws.{some_behind}
-use Rattle.yq_rows.proofs.seams.BlockFronts.{gap_front, last_none}
-use Rattle.yq_rows.proofs.RowAgain.{row_starts}
-use Rattle.yq_rows.proofs.seams.SeamLaws.{rows_drop}
-use Rattle.yq_rows.proofs.seams.FrontSeams.{behind_row_some, seams_any, seams_were}
-use Rattle.yq_rows.proofs.seams.GapFronts.{gap_joined}
-use Rattle.yq_rows.proofs.splices.PartPlaces.{part_in}
+use Rattle.yq_cut.proofs.seams.LessLaws.{starts_less}
+use Rattle.yq_cut.proofs.NothingLaws.{some_behind}
+use Rattle.yq_cut.proofs.seams.BlockFronts.{gap_front, last_none}
+use Rattle.yq_cut.proofs.RowAgain.{row_starts}
+use Rattle.yq_cut.proofs.seams.SeamLaws.{rows_drop}
+use Rattle.yq_cut.proofs.seams.FrontSeams.{behind_row_some, seams_any, seams_were}
+use Rattle.yq_cut.proofs.seams.GapFronts.{gap_joined}
+use Rattle.yq_cut.proofs.splices.PartPlaces.{part_in}
 use Rattle.yq_documents.specs.Pieces.{before_run, last_run}
 use Rattle.yq_documents.specs.Documents.{HaveFitKeys, HasShortRoot}
 use Rattle.yq_lines.specs.Group.{level_or}
 use Rattle.yq_lines.specs.Laws.{with_lines}
-use Rattle.yq_walk.specs.Lines.{mark_line, dash_line, lines_from, lines_of}
+use Rattle.yq_row_lines.specs.Lines.{mark_line, dash_line, lines_from, lines_of}
 use Rattle.yq_lines.specs.Outline.{Line, level, flatten, label}
 use Rattle.yq_documents.specs.Reading.{outline_of}
 use Rattle.yq_lines.proofs.Decides.{flatten-group}
@@ -101,8 +101,8 @@ run_seam front back r run last rest l old limit own is column apart = go (last_b
 
     gap_is : r.gap ++ x ≡ joined ks ++ y
     gap_is =
-        let lines : joined (text_lines r.gap) ≡ r.gap = Rattle.yq_scalar.proofs.LineLaws.joined_lines r.gap in
-        ap (λ (g : List ℕ). g ++ x) (sym lines ∙ (ap joined (run_parts (text_lines r.gap)) ∙ Rattle.yq_scalar.proofs.LineLaws.joined-append ks (last_run (text_lines r.gap))))
+        let lines : joined (text_lines r.gap) ≡ r.gap = Rattle.yq_block_scalars.proofs.LineLaws.joined_lines r.gap in
+        ap (λ (g : List ℕ). g ++ x) (sym lines ∙ (ap joined (run_parts (text_lines r.gap)) ∙ Rattle.yq_block_scalars.proofs.LineLaws.joined-append ks (last_run (text_lines r.gap))))
         ∙ append_assoc (joined ks) (joined (last_run (text_lines r.gap))) x
 
     new : (b : BlockText) → r.column < b.indent.columns → is_behind b.indent (text_lines (run ++ x)) ≡ true

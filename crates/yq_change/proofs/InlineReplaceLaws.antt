@@ -9,15 +9,15 @@ use Rattle.yq_lines.specs.Outline.{Line, level, rank, Outline, end, row, flatten
 use Rattle.yq_lines.specs.Places.{lines_before, lines_after, FoundLine}
 use Rattle.yq_lines.specs.Comments.{head_comment}
 use Rattle.yq_lines.proofs.Decides.{flatten-group}
-use Rattle.yq_rows.specs.Exchange.{allows_first, asked_behind}
-use Rattle.yq_inline.specs.Nodes.{scalar}
-use Rattle.yq_rows.specs.Grammar.{Limit, unlimited, AreRows, IsTail, is_entry, ends_part}
-use Rattle.yq_rows.specs.Rows as rows
-use Rattle.yq_rows.specs.Rows.{Inline, Row, mark_column, parent_of, parent_indent, rows_text, Part, Cut}
-use Rattle.yq_rows.proofs.ExchangeLaws.{relimit}
-use Rattle.yq_rows.proofs.seams.SeamLaws.{rows_drop}
-use Rattle.yq_rows.proofs.seams.TailLaws.{fits_by}
-use Rattle.yq_walk.specs.Lines.{mark_of, mark_line, row_lines, lines_of}
+use Rattle.yq_cut.specs.Exchange.{allows_first, asked_behind}
+use Rattle.yq_nodes.specs.Nodes.{scalar}
+use Rattle.yq_cut.specs.Grammar.{Limit, unlimited, AreRows, IsTail, is_entry, ends_part}
+use Rattle.yq_cut.specs.Rows as rows
+use Rattle.yq_cut.specs.Rows.{Inline, Row, mark_column, parent_of, parent_indent, rows_text, Part, Cut}
+use Rattle.yq_cut.proofs.ExchangeLaws.{relimit}
+use Rattle.yq_cut.proofs.seams.SeamLaws.{rows_drop}
+use Rattle.yq_cut.proofs.seams.TailLaws.{fits_by}
+use Rattle.yq_row_lines.specs.Lines.{mark_of, mark_line, row_lines, lines_of}
 use Rattle.yq_documents.specs.Reading.{outline_of}
 use Rattle.yq_places.proofs.NextLaws.{StartsAt, found_starts}
 use Rattle.yq_change.specs.DocumentRows.{IsDocumentPart, behind_document}

@@ -1,29 +1,29 @@
 -- A text cut before the end of a line: no CR stands before the break.
 use Rattle.std.proofs.Common.{inl, inr, ◌⊎◌, ◌≡◌, ℕ, zero, suc, ◌+◌, ℤ, true, false, not, List, [], ◌∷◌, ◌++◌, replicate, refl, sym, ap, ◌∙◌, append_assoc, append-nil, ⊎_elim, rules}
 use Rattle.std.proofs.lemmas.Bool.{false≢true, or_right, and_from, and_parts, cases_Bool}
-use Rattle.yq_scalar.specs.Block.{digit_text, sign_text, IsDigit, IsIndicators}
+use Rattle.yq_block_scalars.specs.Block.{digit_text, sign_text, IsDigit, IsIndicators}
 use Rattle.yq_flow_scalars.specs.Characters.{pairs_returns}
 use Rattle.yq_flow_scalars.specs.Text.{front, is_white, is_feed, is_return, is_empty, no_white, unless, NoneIn}
-use Rattle.yq_scalar.specs.declared.block_header.BlockStyle.{BlockStyle}
-use Rattle.yq_scalar.specs.declared.block_header.BlockStyle.TheVariants as styles
-use Rattle.yq_scalar.specs.declared.block_header.Chomping.{Chomping}
+use Rattle.yq_block_scalars.specs.declared.block_header.BlockStyle.{BlockStyle}
+use Rattle.yq_block_scalars.specs.declared.block_header.BlockStyle.TheVariants as styles
+use Rattle.yq_block_scalars.specs.declared.block_header.Chomping.{Chomping}
 use Rattle.yq_flow_scalars.proofs.Bools.{at_byte}
-use Rattle.yq_inline.specs.Nodes as nodes
-use Rattle.yq_inline.specs.Nodes.{Node, empty, alias, scalar, coll, anchored, Items, none, item, in_name, is_close, open_of, key_text, sep_text, node_text, items_text, IsNode}
-use Rattle.yq_inline.proofs.WrittenLaws.{key_append, sep_append, node_append}
-use Rattle.yq_rows.specs.Gap.{IsWhite, IsGap}
-use Rattle.yq_rows.specs.Grammar.{IsContent, IsMark}
-use Rattle.yq_rows.specs.Exchange.{row_front}
-use Rattle.yq_rows.specs.Rows as rows
-use Rattle.yq_rows.specs.Rows.{Content, Nothing, Inline, Block, behind_gap, behind_indent, content_text, dashes_text, mark_text, parent_indent}
-use Rattle.yq_rows.specs.View.{anchor_cut, anchor_of, apart_of, content_cut}
-use Rattle.yq_rows.proofs.CharacterLaws.{all_text, all_join, pairs_back}
-use Rattle.yq_rows.proofs.NothingLaws.{some_behind}
-use Rattle.yq_rows.proofs.PlaceLaws.{row_front-append}
-use Rattle.yq_rows.proofs.RowAgain.{row_starts}
-use Rattle.yq_rows.proofs.seams.NodeSeams.{plain_text}
-use Rattle.yq_rows.proofs.seams.ScalarSeams.{ends_return}
-use Rattle.yq_rows.proofs.seams.TailLaws.{content_joined}
+use Rattle.yq_nodes.specs.Nodes as nodes
+use Rattle.yq_nodes.specs.Nodes.{Node, empty, alias, scalar, coll, anchored, Items, none, item, in_name, is_close, open_of, key_text, sep_text, node_text, items_text, IsNode}
+use Rattle.yq_nodes.proofs.WrittenLaws.{key_append, sep_append, node_append}
+use Rattle.yq_cut.specs.Gap.{IsWhite, IsGap}
+use Rattle.yq_cut.specs.Grammar.{IsContent, IsMark}
+use Rattle.yq_cut.specs.Exchange.{row_front}
+use Rattle.yq_cut.specs.Rows as rows
+use Rattle.yq_cut.specs.Rows.{Content, Nothing, Inline, Block, behind_gap, behind_indent, content_text, dashes_text, mark_text, parent_indent}
+use Rattle.yq_cut.specs.View.{anchor_cut, anchor_of, apart_of, content_cut}
+use Rattle.yq_cut.proofs.CharacterLaws.{all_text, all_join, pairs_back}
+use Rattle.yq_cut.proofs.NothingLaws.{some_behind}
+use Rattle.yq_cut.proofs.PlaceLaws.{row_front-append}
+use Rattle.yq_cut.proofs.RowAgain.{row_starts}
+use Rattle.yq_cut.proofs.seams.NodeSeams.{plain_text}
+use Rattle.yq_cut.proofs.seams.ScalarSeams.{ends_return}
+use Rattle.yq_cut.proofs.seams.TailLaws.{content_joined}
 use Rattle.yq_places.proofs.CommentPieceLaws.{Ended, gap_end}
 use Rattle.yq_change.specs.LineFronts.{CleanCut, LineEndsClean}
 use Rattle.yq_change.proofs.TextPieceLaws.{piece_back}
@@ -128,7 +128,7 @@ sign_clean c = search rules
 indicators_clean : (d : Rattle.std.proofs.Common.Option ℕ) (c : Chomping) (p : List ℕ) → IsIndicators d c p → ends_return p ≡ false
 indicators_clean d c p h = search (rules, ends_return, clean_joined, digit_clean, sign_clean)
 
-style_clean : (style : BlockStyle) → is_return (Rattle.yq_scalar.specs.Block.mark_of style) ≡ false
+style_clean : (style : BlockStyle) → is_return (Rattle.yq_block_scalars.specs.Block.mark_of style) ≡ false
 style_clean styles.Literal = refl
 style_clean styles.Folded = refl
 
@@ -137,7 +137,7 @@ content_clean n (Nothing tail) rest h pairs feed = refl
 content_clean n (Inline space node tail) rest h pairs feed =
     clean_joined space _ (clean_white space h.0) (ap ends_return (node_cut node) ∙ clean_node _ node _ (tail ++ rest) h.1.valid (plain_clean n space node tail rest h pairs feed))
 content_clean n (Block space anchor block) rest h pairs feed =
-    let head : List ℕ = Rattle.yq_scalar.specs.Block.mark_of block.style ∷ block.indicators in
+    let head : List ℕ = Rattle.yq_block_scalars.specs.Block.mark_of block.style ∷ block.indicators in
     let clean : ends_return head ≡ false = clean_byte _ block.indicators (style_clean block.style) (indicators_clean block.digit block.chomping block.indicators h.2.indicators) in
     ends_more space (anchor_of anchor ++ (apart_of anchor ++ head)) (some_behind (anchor_of anchor) _ (some_behind (apart_of anchor) head refl))
     ∙ (ends_more (anchor_of anchor) (apart_of anchor ++ head) (some_behind (apart_of anchor) head refl) ∙ (ends_more (apart_of anchor) head refl ∙ clean))
@@ -186,5 +186,5 @@ pub clean_cut : CleanCut
 clean_cut a b h u clean =
     let x = and_parts (all_text (a ++ b)) (pairs_returns (a ++ b)) h.characters in
     let y = and_parts (all_text a) (all_text b) (sym (all_join a b u) ∙ x.0) in
-    let pairs : pairs_returns a ≡ true = ⊎_elim {0, 0, 0} (λ (e : front is_feed b ≡ true). pairs_clean a b (clean e) x.1) (λ e. Rattle.yq_rows.proofs.CharacterLaws.pairs_front a b e x.1) (cases_Bool (front is_feed b)) in
+    let pairs : pairs_returns a ≡ true = ⊎_elim {0, 0, 0} (λ (e : front is_feed b ≡ true). pairs_clean a b (clean e) x.1) (λ e. Rattle.yq_cut.proofs.CharacterLaws.pairs_front a b e x.1) (cases_Bool (front is_feed b)) in
     (record { utf8 = u; characters = and_from _ _ y.0 pairs }, piece_back a b u h)

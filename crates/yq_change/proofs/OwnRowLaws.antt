@@ -12,12 +12,12 @@ use Rattle.yq_lines.specs.Outline.{Line, level, flatten, IsEven}
 use Rattle.yq_lines.specs.Outline.{row}
 use Rattle.yq_lines.specs.Places.{lines_before, lines_after, FoundLine}
 use Rattle.yq_lines.proofs.Decides.{flatten-group}
-use Rattle.yq_rows.specs.Rows.{Row, Part}
-use Rattle.yq_walk.specs.Lines.{row_lines, lines_of}
+use Rattle.yq_cut.specs.Rows.{Row, Part}
+use Rattle.yq_row_lines.specs.Lines.{row_lines, lines_of}
 use Rattle.yq_documents.specs.Reading.{outline_of}
 use Rattle.yq_places.specs.RemovalPlaces.{OwnRows, row_count, in_three}
 use Rattle.yq_documents.specs.LinesInRows.{RowLine, row_line}
-use Rattle.yq_walk.proofs.RowLaws.{lines_count}
+use Rattle.yq_row_lines.proofs.RowLaws.{lines_count}
 use Rattle.yq_places.proofs.UnderCounts.{count_under}
 use Rattle.yq_change.specs.EntryRows.{HasWholeRows}
 use Rattle.yq_change.specs.LineRows.{Begins, lines_behind}

@@ -5,20 +5,20 @@ use Rattle.std.proofs.Math.Seq.{take-append_seam, drop-append_seam}
 use Rattle.std.proofs.lemmas.Option.{same_Some}
 use Rattle.std.specs.List.{slice_get, list_all}
 use Rattle.yq_flow_scalars.proofs.Bools.{guard_then}
-use Rattle.yq_rows.specs.Grammar.{unlimited, AreRows, IsCut, no_rows, begins_document}
-use Rattle.yq_rows.specs.Exchange.{allows_first, asked_behind}
-use Rattle.yq_rows.proofs.splices.PartPlaces.{part_in, part_after}
-use Rattle.yq_rows.proofs.splices.SpliceLaws.{spliced}
+use Rattle.yq_cut.specs.Grammar.{unlimited, AreRows, IsCut, no_rows, begins_document}
+use Rattle.yq_cut.specs.Exchange.{allows_first, asked_behind}
+use Rattle.yq_cut.proofs.splices.PartPlaces.{part_in, part_after}
+use Rattle.yq_cut.proofs.splices.SpliceLaws.{spliced}
 use Rattle.yq_flow_scalars.specs.Characters.{is_text, text_limit}
-use Rattle.yq_rows.specs.Rows.{Row, rows_text, Part, Cut, last, marked, cut_text}
-use Rattle.yq_rows.specs.Splices.{with_first_gap, end_gap, behind_first, splice_part, splice, nth_part, behind_part, is_started, marker_before}
-use Rattle.yq_rows.specs.Seams.{are_seamed}
-use Rattle.yq_rows.specs.SpliceFits.{is_after, SpliceFits}
+use Rattle.yq_cut.specs.Rows.{Row, rows_text, Part, Cut, last, marked, cut_text}
+use Rattle.yq_cut.specs.Splices.{with_first_gap, end_gap, behind_first, splice_part, splice, nth_part, behind_part, is_started, marker_before}
+use Rattle.yq_cut.specs.Seams.{are_seamed}
+use Rattle.yq_cut.specs.SpliceFits.{is_after, SpliceFits}
 use Rattle.yq_documents.specs.Documents.{HaveFitKeys, HasShortRoot, begins_bare, document_parts, has_begin, parts_from}
 use Rattle.yq_documents.specs.Reading.{is_document, read_at}
 use Rattle.yq_places.specs.RowPaths.{IsReadable}
 use Rattle.yq_lines.proofs.Decides.{even_from}
-use Rattle.yq_rows.proofs.splices.SpliceCases.{open_part}
+use Rattle.yq_cut.proofs.splices.SpliceCases.{open_part}
 use Rattle.yq_places.proofs.DocumentLaws.{document_is}
 use Rattle.yq_places.proofs.ReadLaws.{text_takes}
 use Rattle.yq_places.proofs.RowPathLaws.{document_fine}

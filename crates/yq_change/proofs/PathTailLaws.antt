@@ -2,27 +2,27 @@
 use Rattle.std.proofs.Common.{◌≡◌, ℕ, ◌+◌, true, false, List, [], ◌∷◌, ◌++◌, length, take, Option, Some, None, refl, sym, ap, ◌∙◌, subst, rules}
 use Rattle.std.proofs.Math.Seq.{take-append_seam}
 use Rattle.std.proofs.lemmas.Bool.{false≢true}
-use Rattle.yq_scalar.specs.Block.{BlockText, block_text, mark_of}
+use Rattle.yq_block_scalars.specs.Block.{BlockText, block_text, mark_of}
 use Rattle.yq_flow_scalars.specs.Text.{separates}
 use Rattle.yq_flow_scalars.specs.Paths.{Step, change, relabel_child, within}
-use Rattle.yq_scalar.specs.declared.block_header.BlockStyle.{BlockStyle}
-use Rattle.yq_scalar.specs.declared.block_header.BlockStyle.TheVariants as styles
-use Rattle.yq_inline.proofs.AlikePieces.{name_by}
+use Rattle.yq_block_scalars.specs.declared.block_header.BlockStyle.{BlockStyle}
+use Rattle.yq_block_scalars.specs.declared.block_header.BlockStyle.TheVariants as styles
+use Rattle.yq_nodes.proofs.AlikePieces.{name_by}
 use Rattle.yq_lines.specs.Comments.{line_comment}
 use Rattle.yq_lines.specs.Ends.{line_of}
 use Rattle.yq_lines.specs.Group.{level_or}
-use Rattle.yq_rows.specs.Exchange.{asked_behind, with_content}
-use Rattle.yq_rows.specs.Gap.{IsWhite}
-use Rattle.yq_rows.specs.Grammar.{unlimited, AreRows, IsAnchor, IsMark, IsRow, is_entry, ends_part}
-use Rattle.yq_rows.specs.Rows as rows
-use Rattle.yq_rows.specs.Rows.{Content, Nothing, Inline, Block, Row, anchor_text, content_text, parent_indent, rows_text, Part, Cut, cut_text}
-use Rattle.yq_rows.specs.Seams.{is_block, retail, with_tail}
-use Rattle.yq_rows.proofs.ExchangeLaws.{one_row}
-use Rattle.yq_rows.proofs.seams.SeamLaws.{rows_drop}
-use Rattle.yq_rows.proofs.seams.TailLaws.{fits_by}
-use Rattle.yq_rows.proofs.splices.PartPlaces.{part_ends}
+use Rattle.yq_cut.specs.Exchange.{asked_behind, with_content}
+use Rattle.yq_cut.specs.Gap.{IsWhite}
+use Rattle.yq_cut.specs.Grammar.{unlimited, AreRows, IsAnchor, IsMark, IsRow, is_entry, ends_part}
+use Rattle.yq_cut.specs.Rows as rows
+use Rattle.yq_cut.specs.Rows.{Content, Nothing, Inline, Block, Row, anchor_text, content_text, parent_indent, rows_text, Part, Cut, cut_text}
+use Rattle.yq_cut.specs.Seams.{is_block, retail, with_tail}
+use Rattle.yq_cut.proofs.ExchangeLaws.{one_row}
+use Rattle.yq_cut.proofs.seams.SeamLaws.{rows_drop}
+use Rattle.yq_cut.proofs.seams.TailLaws.{fits_by}
+use Rattle.yq_cut.proofs.splices.PartPlaces.{part_ends}
 use Rattle.yq_documents.specs.Documents.{lead_of}
-use Rattle.yq_walk.specs.Lines.{lines_of}
+use Rattle.yq_row_lines.specs.Lines.{lines_of}
 use Rattle.yq_documents.specs.Reading.{outline_of}
 use Rattle.yq_places.specs.RowPaths.{IsReadable}
 use Rattle.yq_documents.specs.LinesInRows.{RowLine, row_line_of}
@@ -67,12 +67,12 @@ entry_apart : (mark : rows.Mark) (space : List ℕ) (anchor : Option rows.Anchor
 entry_apart mark space anchor block rest h1 = search (rules, false≢true)
 
 header_takes : (p : Part) (front back : List Row) (r : Row) (space : List ℕ) (anchor : Option rows.Anchor) (block : BlockText) (tail rest : List ℕ) → r.content ≡ Block space anchor block → p.rows ≡ front ++ (r ∷ back) →
-    Rattle.yq_scalar.specs.Block.is_tail tail ≡ true → IsRow (asked_behind unlimited front) r (rows_text back (p.end ++ rest)) → TakesRow p front r (with_content (with_header_tail tail space anchor block) r) back rest
+    Rattle.yq_block_scalars.specs.Block.is_tail tail ≡ true → IsRow (asked_behind unlimited front) r (rows_text back (p.end ++ rest)) → TakesRow p front r (with_content (with_header_tail tail space anchor block) r) back rest
 header_takes p front back r space anchor block tail rest is there fits row =
     let u : List ℕ = rows_text back (p.end ++ rest) in
     let other : BlockText = record block { tail = tail } in
     let mark = entry_apart r.mark space anchor block u (subst (λ (x : Content). IsMark r.mark x u) is row.mark) in
-    let content = subst (λ (x : Content). Rattle.yq_rows.specs.Grammar.IsContent (parent_indent r) x u) is row.content in
+    let content = subst (λ (x : Content). Rattle.yq_cut.specs.Grammar.IsContent (parent_indent r) x u) is row.content in
     record {
       rows_are = there;
       takes = one_row (asked_behind unlimited front) r (with_header_tail tail space anchor block) u u row mark.0 (
@@ -95,13 +95,13 @@ module _ (t : List ℕ) (c : Cut) (k : ℕ) (p : Part) (steps : List Step) (s : 
   rest : List ℕ
   rest = rows_text back (p.end ++ behind_document k c)
 
-  behind_tail : is_block x.row.content ≡ false → Rattle.yq_rows.specs.Grammar.IsTail tail (rows_text back (p.end ++ behind_document k c)) → Commented c k p steps s front back tail (retail tail x.row)
+  behind_tail : is_block x.row.content ≡ false → Rattle.yq_cut.specs.Grammar.IsTail tail (rows_text back (p.end ++ behind_document k c)) → Commented c k p steps s front back tail (retail tail x.row)
   behind_tail inline h =
       let all = row_stands t c k p front back x.row old there in
       let ends : ends_part (behind_document k c) ≡ true = part_ends c (part_number k c) true (document_known t c k p old).cut.parts in
       path_line_commented t c k p steps s x front back tail old row_line_is last (record { rows_are = there; inline = inline; fits = fits_by (parent_indent x.row) x.row.content tail back p.end (behind_document k c) inline h all.1 ends }) before
 
-  in_header : (space : List ℕ) (anchor : Option rows.Anchor) (block : BlockText) → x.row.content ≡ Block space anchor block → Rattle.yq_scalar.specs.Block.is_tail tail ≡ true → Commented c k p steps s front back tail (with_content (with_header_tail tail space anchor block) x.row)
+  in_header : (space : List ℕ) (anchor : Option rows.Anchor) (block : BlockText) → x.row.content ≡ Block space anchor block → Rattle.yq_block_scalars.specs.Block.is_tail tail ≡ true → Commented c k p steps s front back tail (with_content (with_header_tail tail space anchor block) x.row)
   in_header space anchor block is h text =
       let l = row_line_found p.rows (line_of (steps ++ (s ∷ [])) (lines_of p.rows)) x row_line_is in
       let w = path_is_entry p (level_or 0 (outline_of p)) steps s l.0 (document_known t c k p old).even l.1 in

@@ -1,7 +1,7 @@
 -- The text around a document, and the lines that are printed there.
 use Rattle.std.proofs.Common.{◌≡◌, ℕ, List, ◌++◌, Some, option_map, ap, ◌∙◌}
 use Rattle.std.specs.List.{slice_get}
-use Rattle.yq_rows.specs.Rows.{Part, part_text, Cut, cut_text}
+use Rattle.yq_cut.specs.Rows.{Part, part_text, Cut, cut_text}
 use Rattle.yq_documents.specs.Documents.{document_parts}
 use Rattle.yq_documents.specs.PartNumbers.{part_number}
 use Rattle.yq_documents.proofs.PartNumberLaws.{part_there}

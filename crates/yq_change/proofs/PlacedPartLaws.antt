@@ -1,7 +1,7 @@
 -- Where a document that has other rows stands in its text.
 use Rattle.std.proofs.Common.{◌≡◌, ℕ, zero, suc, ◌++◌, refl, ap, subst}
-use Rattle.yq_rows.specs.Rows.{Part, part_text, Cut, last, marked, cut_text}
-use Rattle.yq_rows.specs.Splices.{behind_part}
+use Rattle.yq_cut.specs.Rows.{Part, part_text, Cut, last, marked, cut_text}
+use Rattle.yq_cut.specs.Splices.{behind_part}
 use Rattle.yq_documents.specs.PartNumbers.{part_number}
 use Rattle.yq_places.specs.PlacedRows.{PlacedPart, before_part}
 use Rattle.yq_places.proofs.PlacedPartLaws.{part_stands, text_behind}

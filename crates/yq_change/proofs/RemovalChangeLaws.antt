@@ -18,11 +18,11 @@ use Rattle.yq_lines.specs.Sound.{is_entry}
 use Rattle.yq_lines.proofs.Finding.{IsFoundIn, path_node, path_whole, row_child}
 use Rattle.yq_lines.proofs.PlaceLaws.{at}
 use Rattle.yq_lines.proofs.ChildLaws.{anchored_children}
-use Rattle.yq_rows.specs.Grammar.{no_rows}
-use Rattle.yq_rows.specs.Rows.{Row, rows_text, Part, part_text, Cut, cut_text}
-use Rattle.yq_rows.specs.Splices.{first_gap, behind_first}
+use Rattle.yq_cut.specs.Grammar.{no_rows}
+use Rattle.yq_cut.specs.Rows.{Row, rows_text, Part, part_text, Cut, cut_text}
+use Rattle.yq_cut.specs.Splices.{first_gap, behind_first}
 use Rattle.yq_documents.specs.Documents.{lead_of}
-use Rattle.yq_walk.specs.Lines.{lines_of}
+use Rattle.yq_row_lines.specs.Lines.{lines_of}
 use Rattle.yq_documents.specs.Reading.{outline_of, read_at, root_of}
 use Rattle.yq_documents.specs.Ready.{begins_no_node}
 use Rattle.yq_places.specs.PlacedRows.{PlacedPart, placed_document}

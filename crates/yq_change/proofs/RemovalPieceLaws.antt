@@ -5,18 +5,18 @@ use Rattle.std.proofs.lemmas.Str.{IsUtf8-from_ascii, IsUtf8-nil, chars-IsAscii}
 use Rattle.std.proofs.lemmas.Str.Ascii.{IsAscii-nil, IsAscii-cons}
 use Rattle.std.specs.List.{list_all}
 use Rattle.std.specs.Str.{chars, IsAscii}
-use Rattle.yq_scalar.specs.Block.{Lines}
-use Rattle.yq_scalar.specs.BlockRepair.{is_short, is_outside, repaired_blank, repaired_comment, repair}
+use Rattle.yq_block_scalars.specs.Block.{Lines}
+use Rattle.yq_block_scalars.specs.BlockRepair.{is_short, is_outside, repaired_blank, repaired_comment, repair}
 use Rattle.yq_flow_scalars.specs.Characters.{is_text, is_text_char, pairs_returns}
 use Rattle.yq_flow_scalars.specs.Lines.{is_blank}
 use Rattle.yq_flow_scalars.specs.Text.{is_white, joined, lines_of as text_lines, past_white}
 use Rattle.yq_flow_scalars.proofs.Boundaries.{white_ascii}
-use Rattle.yq_scalar.proofs.SpaceLaws.{white_drop}
-use Rattle.yq_rows.specs.Gap.{IsGap, IsGapLine, AreGapLines}
-use Rattle.yq_rows.specs.Grammar.{AreParts}
-use Rattle.yq_rows.specs.Rows.{Row, rows_text, Cut, cut_text}
-use Rattle.yq_rows.specs.Splices.{behind_first, first_gap}
-use Rattle.yq_rows.proofs.seams.GapFronts.{gap_lines}
+use Rattle.yq_block_scalars.proofs.SpaceLaws.{white_drop}
+use Rattle.yq_cut.specs.Gap.{IsGap, IsGapLine, AreGapLines}
+use Rattle.yq_cut.specs.Grammar.{AreParts}
+use Rattle.yq_cut.specs.Rows.{Row, rows_text, Cut, cut_text}
+use Rattle.yq_cut.specs.Splices.{behind_first, first_gap}
+use Rattle.yq_cut.proofs.seams.GapFronts.{gap_lines}
 use Rattle.yq_places.specs.PlacedRows.{PlacedPart, placed_document}
 use Rattle.yq_places.specs.RemovalPlaces.{Seam, kept_gap, rows_out}
 use Rattle.yq_places.proofs.CommentPieceLaws.{Ended, gap_end}

@@ -1,11 +1,11 @@
 -- The text of a document, of which rows are taken out.
 use Rattle.std.proofs.Common.{◌≡◌, Bool, true, false, cond, ℕ, List, ◌++◌, Option, Some, None, refl, append_assoc}
-use Rattle.yq_scalar.specs.Block.{BlockText, keeps}
-use Rattle.yq_scalar.specs.BlockRepair.{repair}
+use Rattle.yq_block_scalars.specs.Block.{BlockText, keeps}
+use Rattle.yq_block_scalars.specs.BlockRepair.{repair}
 use Rattle.yq_flow_scalars.specs.Text.{joined, lines_of as text_lines}
-use Rattle.yq_rows.specs.Removal.{hold_comment, seam_gap}
-use Rattle.yq_rows.specs.Rows.{part_text}
-use Rattle.yq_rows.proofs.seams.SeamLaws.{gap_text, rows_text-append}
+use Rattle.yq_cut.specs.Removal.{hold_comment, seam_gap}
+use Rattle.yq_cut.specs.Rows.{part_text}
+use Rattle.yq_cut.proofs.seams.SeamLaws.{gap_text, rows_text-append}
 use Rattle.yq_places.specs.PlacedRows.{PlacedPart}
 use Rattle.yq_places.specs.RemovalPlaces.{OwnRows, Seam, seam_behind, rows_out}
 use Rattle.yq_places.proofs.RemovalTexts.{texts_then}

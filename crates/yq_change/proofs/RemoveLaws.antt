@@ -5,26 +5,26 @@ use Rattle.yq_flow_scalars.specs.Characters.{is_text, text_limit}
 use Rattle.yq_flow_scalars.specs.Paths.{Step, change, remove_child, within}
 use Rattle.yq_flow_scalars.specs.Text.{is_empty, joined, lines_of as text_lines}
 use Rattle.yq_lines.specs.Comments.{head_comment}
-use Rattle.yq_rows.specs.Exchange.{allows_first, asked_behind}
-use Rattle.yq_rows.specs.Gap.{AreGapLines}
-use Rattle.yq_rows.specs.Grammar.{Limit, unlimited, AreDashes, AreRows, IsCut, no_rows}
-use Rattle.yq_rows.specs.Rows as rows
-use Rattle.yq_rows.specs.Rows.{Row, Part, Cut, cut_text}
-use Rattle.yq_rows.specs.Splices.{behind_first, first_gap, with_first_gap, nth_part, splice}
-use Rattle.yq_rows.specs.Removal.{RepairFits, last_block, next_column, removed_gap, seam_gap, StandsLess, without_rows}
-use Rattle.yq_rows.proofs.splices.SpliceTexts.{first_is}
-use Rattle.yq_rows.proofs.seams.BlockFronts.{gap_front}
-use Rattle.yq_rows.proofs.splices.RemoveLaws.{removed_repaired, behind_some}
-use Rattle.yq_rows.proofs.NothingLaws.{some_behind}
-use Rattle.yq_rows.proofs.seams.SeamLaws.{rows_drop}
-use Rattle.yq_rows.proofs.splices.PartPlaces.{part_in}
+use Rattle.yq_cut.specs.Exchange.{allows_first, asked_behind}
+use Rattle.yq_cut.specs.Gap.{AreGapLines}
+use Rattle.yq_cut.specs.Grammar.{Limit, unlimited, AreDashes, AreRows, IsCut, no_rows}
+use Rattle.yq_cut.specs.Rows as rows
+use Rattle.yq_cut.specs.Rows.{Row, Part, Cut, cut_text}
+use Rattle.yq_cut.specs.Splices.{behind_first, first_gap, with_first_gap, nth_part, splice}
+use Rattle.yq_cut.specs.Removal.{RepairFits, last_block, next_column, removed_gap, seam_gap, StandsLess, without_rows}
+use Rattle.yq_cut.proofs.splices.SpliceTexts.{first_is}
+use Rattle.yq_cut.proofs.seams.BlockFronts.{gap_front}
+use Rattle.yq_cut.proofs.splices.RemoveLaws.{removed_repaired, behind_some}
+use Rattle.yq_cut.proofs.NothingLaws.{some_behind}
+use Rattle.yq_cut.proofs.seams.SeamLaws.{rows_drop}
+use Rattle.yq_cut.proofs.splices.PartPlaces.{part_in}
 use Rattle.yq_documents.specs.Pieces.{before_run, last_run}
 use Rattle.yq_documents.specs.Documents.{HaveFitKeys, HasShortRoot, is_long_plain, lead_of}
 use Rattle.yq_flow_scalars.specs.Anchors.{names_of}
 use Rattle.yq_places.proofs.RemovalTexts.{run_parts}
 use Rattle.yq_lines.specs.Group.{level_or}
 use Rattle.yq_lines.specs.Laws.{with_lines}
-use Rattle.yq_walk.specs.Lines.{row_lines, lines_of}
+use Rattle.yq_row_lines.specs.Lines.{row_lines, lines_of}
 use Rattle.yq_lines.specs.Outline.{Line, level, Outline, flatten}
 use Rattle.yq_lines.specs.Outline.{row}
 use Rattle.yq_lines.specs.Places.{lines_before, lines_after, plug, FoundLine, content}
@@ -54,7 +54,7 @@ use Rattle.yq_change.proofs.PartLaws.{part_numbered, rows_put, document_known, i
 -- rows with another gap before them
 gap_lines : (gap : List ℕ) (back : List Row) (last : List ℕ) → (no_rows back ≡ false → head_comment gap ≡ head_comment (first_gap back last)) → lines_of (with_first_gap gap back) ≡ lines_of back
 gap_lines gap [] last h = refl
-gap_lines gap (r ∷ back) last h = ap (λ (above : List (List ℕ)). Rattle.yq_walk.specs.Lines.lines_from above r.column r.dashes r.mark r.content ++ lines_of back) (h refl)
+gap_lines gap (r ∷ back) last h = ap (λ (above : List (List ℕ)). Rattle.yq_row_lines.specs.Lines.lines_from above r.column r.dashes r.mark r.content ++ lines_of back) (h refl)
 
 gap_fit : (gap : List ℕ) (back : List Row) → HaveFitKeys back → HaveFitKeys (with_first_gap gap back)
 gap_fit gap [] h = h
@@ -67,8 +67,8 @@ entry_short r rest d h = go r.mark refl r.dashes refl
     go : (m : rows.Mark) → r.mark ≡ m → (ns : List ℕ) → r.dashes ≡ ns → is_long_plain r.mark r.content ≡ false
     go rows.Dash e ns f = ap (λ (m : rows.Mark). is_long_plain m r.content) e
     go (rows.Key key colon) e ns f = ap (λ (m : rows.Mark). is_long_plain m r.content) e
-    go rows.Bare e [] f = absurd (subst (λ (m : rows.Mark). BeginsEntry (Rattle.yq_walk.specs.Lines.lines_from (head_comment r.gap) r.column [] m r.content ++ rest)) e
-        (subst (λ (ns : List ℕ). BeginsEntry (Rattle.yq_walk.specs.Lines.lines_from (head_comment r.gap) r.column ns r.mark r.content ++ rest)) f h))
+    go rows.Bare e [] f = absurd (subst (λ (m : rows.Mark). BeginsEntry (Rattle.yq_row_lines.specs.Lines.lines_from (head_comment r.gap) r.column [] m r.content ++ rest)) e
+        (subst (λ (ns : List ℕ). BeginsEntry (Rattle.yq_row_lines.specs.Lines.lines_from (head_comment r.gap) r.column ns r.mark r.content ++ rest)) f h))
     go rows.Bare e (n ∷ ns) f = absurd (false≢true ((subst (λ (m : rows.Mark). AreDashes (n ∷ ns) m) e (subst (λ (x : List ℕ). AreDashes x r.mark) f d)).1))
 
 short_left : (front gone back : List Row) (gap : List ℕ) (limit : Limit) (last rest : List ℕ) → HasShortRoot (front ++ (gone ++ back)) → AreRows limit back last rest → BeginsEntry (lines_of back) →

@@ -10,14 +10,14 @@ use Rattle.yq_lines.specs.Outline.{Line, Outline, end, row, flatten}
 use Rattle.yq_lines.specs.Places.{FoundLine, find}
 use Rattle.yq_lines.proofs.Decides.{flatten-group}
 use Rattle.yq_lines.proofs.Values.{same_rank, same_entry}
-use Rattle.yq_rows.specs.Exchange.{asked_behind}
-use Rattle.yq_rows.specs.Grammar.{unlimited, AreRows, no_rows}
-use Rattle.yq_rows.specs.Rows.{Row, rows_text, Part}
-use Rattle.yq_rows.specs.Splices.{behind_first, first_gap}
-use Rattle.yq_rows.proofs.seams.FrontSeams.{seams_alike, seams_were}
-use Rattle.yq_rows.proofs.splices.SpliceTexts.{own_gap}
+use Rattle.yq_cut.specs.Exchange.{asked_behind}
+use Rattle.yq_cut.specs.Grammar.{unlimited, AreRows, no_rows}
+use Rattle.yq_cut.specs.Rows.{Row, rows_text, Part}
+use Rattle.yq_cut.specs.Splices.{behind_first, first_gap}
+use Rattle.yq_cut.proofs.seams.FrontSeams.{seams_alike, seams_were}
+use Rattle.yq_cut.proofs.splices.SpliceTexts.{own_gap}
 use Rattle.yq_documents.specs.Documents.{HaveFitKeys, HasShortRoot}
-use Rattle.yq_walk.specs.Lines.{lines_of}
+use Rattle.yq_row_lines.specs.Lines.{lines_of}
 use Rattle.yq_documents.specs.Reading.{outline_of}
 use Rattle.yq_change.specs.Appends.{inserted}
 use Rattle.yq_change.specs.Conditions.{BeginsEntry}

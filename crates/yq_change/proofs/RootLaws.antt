@@ -2,14 +2,14 @@
 use Rattle.std.proofs.Common.{◌≡◌, ℕ, ◌+◌, ◌≤◌, List, [], ◌++◌, length, true, false, refl, sym, ap, ◌∙◌, subst, append-nil, ⊎_elim, rules}
 use Rattle.std.proofs.lemmas.Bool.{cases_Bool}
 use Rattle.yq_flow_scalars.specs.Characters.{is_text, text_limit}
-use Rattle.yq_rows.specs.Grammar.{IsCut, no_rows}
-use Rattle.yq_rows.specs.Rows.{Row, rows_text, Part, Cut, cut_text}
-use Rattle.yq_rows.specs.SpliceFits.{SpliceFits, is_after}
-use Rattle.yq_rows.specs.Splices.{behind_part, is_started, marker_before, nth_part}
-use Rattle.yq_rows.proofs.splices.PartPlaces.{part_after}
-use Rattle.yq_rows.proofs.splices.SpliceLaws.{spliced}
+use Rattle.yq_cut.specs.Grammar.{IsCut, no_rows}
+use Rattle.yq_cut.specs.Rows.{Row, rows_text, Part, Cut, cut_text}
+use Rattle.yq_cut.specs.SpliceFits.{SpliceFits, is_after}
+use Rattle.yq_cut.specs.Splices.{behind_part, is_started, marker_before, nth_part}
+use Rattle.yq_cut.proofs.splices.PartPlaces.{part_after}
+use Rattle.yq_cut.proofs.splices.SpliceLaws.{spliced}
 use Rattle.yq_documents.specs.Documents.{HaveFitKeys, HasShortRoot}
-use Rattle.yq_walk.specs.Lines.{lines_of}
+use Rattle.yq_row_lines.specs.Lines.{lines_of}
 use Rattle.yq_change.specs.DocumentRows.{RowsFit}
 use Rattle.yq_documents.specs.PartNumbers.{part_number}
 use Rattle.yq_change.specs.Replaces.{DocumentRooted, RootRowsReplaced, rooted}

@@ -1,20 +1,20 @@
 -- One row in the place of another one, and line comments that stand in a row's content.
 use Rattle.std.proofs.Common.{◌≡◌, ℕ, ◌+◌, List, [], ◌∷◌, ◌++◌, length, Option, Some, false, refl, sym, ap, ◌∙◌, subst, length-append, rules}
-use Rattle.yq_scalar.specs.Block.{BlockText}
+use Rattle.yq_block_scalars.specs.Block.{BlockText}
 use Rattle.yq_lines.specs.Comments.{head_comment, line_comment}
 use Rattle.yq_lines.specs.Laws.{with_lines}
 use Rattle.yq_lines.specs.Outline.{Line, level, flatten, label}
-use Rattle.yq_inline.specs.Alike.{Alike}
-use Rattle.yq_rows.specs.Exchange.{asked_behind, with_content}
-use Rattle.yq_rows.specs.Gap.{IsGap}
-use Rattle.yq_rows.specs.Grammar.{unlimited, AreRows, IsRow, no_rows}
-use Rattle.yq_rows.specs.Rows as rows
-use Rattle.yq_rows.specs.Rows.{Content, Block, Row, mark_column, print_row, rows_text, Part}
-use Rattle.yq_rows.specs.Splices.{behind_first, first_gap}
-use Rattle.yq_rows.proofs.seams.SeamLaws.{rows_drop}
-use Rattle.yq_rows.proofs.splices.SpliceTexts.{first_is, first_text, own_gap}
+use Rattle.yq_nodes.specs.Alike.{Alike}
+use Rattle.yq_cut.specs.Exchange.{asked_behind, with_content}
+use Rattle.yq_cut.specs.Gap.{IsGap}
+use Rattle.yq_cut.specs.Grammar.{unlimited, AreRows, IsRow, no_rows}
+use Rattle.yq_cut.specs.Rows as rows
+use Rattle.yq_cut.specs.Rows.{Content, Block, Row, mark_column, print_row, rows_text, Part}
+use Rattle.yq_cut.specs.Splices.{behind_first, first_gap}
+use Rattle.yq_cut.proofs.seams.SeamLaws.{rows_drop}
+use Rattle.yq_cut.proofs.splices.SpliceTexts.{first_is, first_text, own_gap}
 use Rattle.yq_documents.specs.Documents.{HaveFitKeys, HasShortRoot, is_long_plain, lead_of}
-use Rattle.yq_walk.specs.Lines.{mark_line, tail_of, lines_of}
+use Rattle.yq_row_lines.specs.Lines.{mark_line, tail_of, lines_of}
 use Rattle.yq_documents.specs.TreeEdits.{with_line_comment}
 use Rattle.yq_change.specs.Appends.{inserted}
 use Rattle.yq_change.specs.Changed.{put_document}
@@ -96,8 +96,8 @@ pub block_commented : BlockCommented
 block_commented t c k p steps s h f front back r space anchor block tail old at is takes number text =
     let new : Content = with_header_tail tail space anchor block in
     content_commented t c k p steps s h f front back r new old at takes (record {
-      head_is = ap Rattle.yq_walk.specs.Lines.head_of (sym is);
-      anchor_is = ap Rattle.yq_walk.specs.Lines.content_anchor (sym is);
+      head_is = ap Rattle.yq_row_lines.specs.Lines.head_of (sym is);
+      anchor_is = ap Rattle.yq_row_lines.specs.Lines.content_anchor (sym is);
       keys = tt;
       short = block_short r.mark space anchor (record block { tail = tail });
     }) number text

@@ -3,12 +3,12 @@ use Rattle.std.proofs.Common.{false, ◌≡◌, [], ◌∷◌, ◌++◌, Some, N
 use Rattle.yq_flow_scalars.specs.ContentReading as contents
 use Rattle.yq_flow_scalars.specs.Paths.{append_child, change, within}
 use Rattle.yq_flow_scalars.specs.Text as text
-use Rattle.yq_inline.specs.Nodes as inline
-use Rattle.yq_inline.specs.Scalars.{content_of}
-use Rattle.yq_inline.specs.Trees.{tree_of}
-use Rattle.yq_rows.specs.Grammar.{IsCut}
-use Rattle.yq_rows.specs.Rows.{Row, Part, last, cut_text}
-use Rattle.yq_rows.proofs.ScanLaws.{scan_takes}
+use Rattle.yq_nodes.specs.Nodes as inline
+use Rattle.yq_nodes.specs.Scalars.{content_of}
+use Rattle.yq_nodes.specs.Trees.{tree_of}
+use Rattle.yq_cut.specs.Grammar.{IsCut}
+use Rattle.yq_cut.specs.Rows.{Row, Part, last, cut_text}
+use Rattle.yq_cut.proofs.ScanLaws.{scan_takes}
 use Rattle.yq_documents.specs.Reading.{outline_of}
 use Rattle.yq_places.specs.RowPaths.{IsReadable}
 use Rattle.yq_lines.specs.Outline.{level, end, label}
@@ -21,9 +21,9 @@ use Rattle.yq_change.proofs.AppendLaws.{block_appended}
 use Rattle.yq_lines.specs.Places.{FoundLine, find}
 use Rattle.yq_lines.specs.Outline.{Line}
 use Rattle.yq_flow_scalars.specs.Paths.{To}
-use Rattle.yq_inline.specs.Alike.{Alike, after, byte}
-use Rattle.yq_rows.specs.Rows.{rows_text}
-use Rattle.yq_walk.specs.Lines.{mark_line}
+use Rattle.yq_nodes.specs.Alike.{Alike, after, byte}
+use Rattle.yq_cut.specs.Rows.{rows_text}
+use Rattle.yq_row_lines.specs.Lines.{mark_line}
 use Rattle.yq_documents.specs.TreeEdits.{replaced}
 use Rattle.yq_change.proofs.ReplaceLaws.{node_rows_replaced}
 use Rattle.yq_change.proofs.Examples.{plain_row, scanned_y, y_bytes, a_entry, b_entry, old_part, b_end, new_bytes, read_old, new_cut, keys_apart}

@@ -10,17 +10,17 @@ use Rattle.yq_lines.specs.Ends.{line_of}
 use Rattle.yq_lines.specs.Outline.{anchored, head_or, value}
 use Rattle.yq_lines.specs.Places.{content}
 use Rattle.yq_lines.proofs.Finding.{FoundNode, path_node}
-use Rattle.yq_rows.specs.Grammar.{begins_document, no_rows}
-use Rattle.yq_rows.specs.Rows.{Row, Part, Cut, last, marked, part_text}
-use Rattle.yq_rows.specs.Splices.{behind_part, nth_part}
-use Rattle.yq_rows.proofs.splices.SpliceTexts.{own_gap, own_end}
+use Rattle.yq_cut.specs.Grammar.{begins_document, no_rows}
+use Rattle.yq_cut.specs.Rows.{Row, Part, Cut, last, marked, part_text}
+use Rattle.yq_cut.specs.Splices.{behind_part, nth_part}
+use Rattle.yq_cut.proofs.splices.SpliceTexts.{own_gap, own_end}
 use Rattle.yq_documents.specs.Documents.{Document, begins_bare, document_parts, has_begin}
 use Rattle.yq_documents.specs.LinesInRows.{RowLine, behind_one, row_line, row_line_of}
 use Rattle.yq_documents.specs.PartNumbers.{number_from, part_number}
 use Rattle.yq_documents.specs.Reading.{document_of, outline_of}
 use Rattle.yq_documents.specs.TreeEdits.{change_nth}
 use Rattle.yq_documents.proofs.PartNumberLaws.{part_there}
-use Rattle.yq_walk.specs.Lines.{content_anchor, lines_of}
+use Rattle.yq_row_lines.specs.Lines.{content_anchor, lines_of}
 use Rattle.yq_places.specs.PlacedRows.{PlacedPart, before_part, placed_at, placed_document}
 use Rattle.yq_places.specs.Standings.{RowsOfEntry, entry_rows_at, rows_of_entry, under_count}
 use Rattle.yq_places.proofs.PlacedPartLaws.{StandsIn, map_some, part_stands}

@@ -10,10 +10,10 @@ use Rattle.yq_lines.specs.Ends.{found_line, line_of}
 use Rattle.yq_lines.specs.Group.{deeper, shallow, lead, group}
 use Rattle.yq_lines.specs.Outline.{Mark, Dash, Line, level, Outline, end, row, flatten, label, null_node}
 use Rattle.yq_lines.specs.Places.{Context, here, below, beside, lines_before, compose, FoundLine, next_to, find_row, inside, bare_or, in_head, find}
-use Rattle.yq_rows.specs.Rows as rows
-use Rattle.yq_rows.specs.Rows.{Row, Content, Part}
+use Rattle.yq_cut.specs.Rows as rows
+use Rattle.yq_cut.specs.Rows.{Row, Content, Part}
 use Rattle.yq_documents.specs.declared.path.Part as places
-use Rattle.yq_walk.specs.Lines.{head_of, mark_of, lines_from, row_lines, lines_of}
+use Rattle.yq_row_lines.specs.Lines.{head_of, mark_of, lines_from, row_lines, lines_of}
 use Rattle.yq_documents.specs.Ready.{begins_no_node}
 use Rattle.yq_documents.specs.LinesInRows.{RowLine, behind_one, row_line, row_line_has_room}
 use Rattle.yq_change.specs.Rooms.{RowShape, row_shape, EqualRoom, ShapesAgree}

@@ -7,7 +7,7 @@ use Rattle.std.specs.List.{list_any}
 use Rattle.yq_flow_scalars.specs.Keys.{AreDistinct, with_key, keys_of, HasUniqueKeys, EachHasUniqueKeys, depth, deepest}
 use Rattle.yq_flow_scalars.specs.Paths.{Step, is_here, further, append_child, change, child_at, node_at, within}
 use Rattle.yq_flow_scalars.specs.Tree.{Label, Node, Children, none, child, children_of}
-use Rattle.yq_inline.specs.Inline.{depth_limit}
+use Rattle.yq_nodes.specs.Inline.{depth_limit}
 use Rattle.yq_flow_scalars.specs.Anchors.{Name, with_anchor, names_of, names_in, IsAmong}
 use Rattle.yq_lines.specs.Outline.{anchored}
 use Rattle.yq_flow_scalars.specs.Keys.{are_distinct}
@@ -18,7 +18,7 @@ use Rattle.yq_change.specs.SoundRoots.{IsSoundRoot, IsNewKey, inner_names, Repla
 use Rattle.yq_change.proofs.BoundLaws.{bound_changed, anchor_front}
 use Rattle.yq_change.proofs.TreeLaws.{unique_changed, depth_changed, max_least, max_left, max_right}
 use Rattle.yq_documents.specs.TreeEdits.{replaced}
-use Rattle.yq_documents.specs.Nodes.{anchor_of}
+use Rattle.yq_documents.specs.TreeEdits.{anchor_of}
 
 -- what holds of a whole holds of the node at a path
 child_unique : (s : Step) (cs : Children) (k : Node) → child_at s cs ≡ Some k → EachHasUniqueKeys cs → HasUniqueKeys k

@@ -1,15 +1,15 @@
 -- The rows of an item or entry among those of its document, and its key or dash.
 use Rattle.std.proofs.Common.{inl, inr, ◌≡◌, ℕ, true, List, [], ◌∷◌, ◌++◌, length, sym, ap, ◌∙◌, subst, arith, length-append}
 use Rattle.yq_flow_scalars.specs.Paths.{Step}
-use Rattle.yq_scalar.proofs.BlockPieceLaws.{IsLf, append_lf}
+use Rattle.yq_block_scalars.proofs.BlockPieceLaws.{IsLf, append_lf}
 use Rattle.yq_lines.specs.Group.{level_or}
 use Rattle.yq_lines.specs.Outline.{IsEven}
-use Rattle.yq_rows.specs.Exchange.{asked_behind}
-use Rattle.yq_rows.specs.Grammar.{AreRows, IsRow, Limit, is_entry, limit_after, unlimited}
-use Rattle.yq_rows.specs.Rows.{Cut, Row, cut_text, print_row, rows_text}
-use Rattle.yq_rows.proofs.PlaceLaws.{row_then}
-use Rattle.yq_rows.proofs.seams.SeamLaws.{rows_text-append}
-use Rattle.yq_walk.specs.Lines.{lines_of, row_lines}
+use Rattle.yq_cut.specs.Exchange.{asked_behind}
+use Rattle.yq_cut.specs.Grammar.{AreRows, IsRow, Limit, is_entry, limit_after, unlimited}
+use Rattle.yq_cut.specs.Rows.{Cut, Row, cut_text, print_row, rows_text}
+use Rattle.yq_cut.proofs.PlaceLaws.{row_then}
+use Rattle.yq_cut.proofs.seams.SeamLaws.{rows_text-append}
+use Rattle.yq_row_lines.specs.Lines.{lines_of, row_lines}
 use Rattle.yq_documents.specs.Reading.{outline_of}
 use Rattle.yq_places.specs.Standings.{RowsOfEntry, behind_entry}
 use Rattle.yq_places.proofs.CommentPieceLaws.{Ended}

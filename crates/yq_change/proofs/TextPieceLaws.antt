@@ -6,9 +6,9 @@ use Rattle.std.proofs.lemmas.Bool.{and_from, and_parts}
 use Rattle.std.specs.Str.{IsUtf8, IsCharBoundary}
 use Rattle.yq_flow_scalars.specs.Characters.{pairs_returns}
 use Rattle.yq_flow_scalars.specs.Text.{front, is_feed}
-use Rattle.yq_rows.specs.Rows.{cut_text}
-use Rattle.yq_rows.proofs.CharacterLaws.{all_text, all_join, pairs_join, pairs_back, pairs_front, pairs_cut, EndsBlack}
-use Rattle.yq_rows.proofs.NodePieces.{EndsAscii, BeginsAscii, behind_ascii, before_ascii}
+use Rattle.yq_cut.specs.Rows.{cut_text}
+use Rattle.yq_cut.proofs.CharacterLaws.{all_text, all_join, pairs_join, pairs_back, pairs_front, pairs_cut, EndsBlack}
+use Rattle.yq_cut.proofs.NodePieces.{EndsAscii, BeginsAscii, behind_ascii, before_ascii}
 use Rattle.yq_documents.specs.Reading.{read_at}
 use Rattle.yq_places.proofs.ReadLaws.{text_takes}
 use Rattle.yq_flow_scalars.proofs.Bools.{guard_then}

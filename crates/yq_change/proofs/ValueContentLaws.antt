@@ -6,18 +6,18 @@ use Rattle.yq_flow_scalars.specs.Piece.{deeper}
 use Rattle.yq_flow_scalars.specs.Plain.{ends_plain, holds_break}
 use Rattle.yq_flow_scalars.specs.Text.{is_feed, is_marker, is_white, no_white, separates, unless, NoneIn}
 use Rattle.yq_flow_scalars.specs.Tree.{Node}
-use Rattle.yq_inline.specs.Nodes as inline
-use Rattle.yq_inline.specs.Nodes.{empty, alias, scalar, coll, anchored, node_text, begins_content, in_name, is_bare, IsLead, IsNode}
-use Rattle.yq_rows.proofs.NothingLaws.{tail_apart}
+use Rattle.yq_nodes.specs.Nodes as inline
+use Rattle.yq_nodes.specs.Nodes.{empty, alias, scalar, coll, anchored, node_text, begins_content, in_name, is_bare, IsLead, IsNode}
+use Rattle.yq_cut.proofs.NothingLaws.{tail_apart}
 use Rattle.std.specs.List.{list_any}
-use Rattle.yq_inline.proofs.Alikes.{no_first}
+use Rattle.yq_nodes.proofs.Alikes.{no_first}
 use Rattle.yq_lines.specs.Comments.{line_comment}
-use Rattle.yq_rows.specs.Grammar.{IsContent, IsTail, is_more, is_plain, may_be_alone}
-use Rattle.yq_rows.specs.Rows as rows
-use Rattle.yq_rows.specs.Rows.{Content, content_text}
+use Rattle.yq_cut.specs.Grammar.{IsContent, IsTail, is_more, is_plain, may_be_alone}
+use Rattle.yq_cut.specs.Rows as rows
+use Rattle.yq_cut.specs.Rows.{Content, content_text}
 use Rattle.yq_documents.specs.Documents.{ContentHasFitKeys, is_long_plain}
-use Rattle.yq_rows.specs.Seams.{is_block}
-use Rattle.yq_walk.specs.Lines.{content_anchor, head_of, tail_of}
+use Rattle.yq_cut.specs.Seams.{is_block}
+use Rattle.yq_row_lines.specs.Lines.{content_anchor, head_of, tail_of}
 use Rattle.yq_change.specs.InlineRows.{IsValueNode}
 use Rattle.yq_change.proofs.CoreLaws.{recore, put_core, core_head, core_anchor, core_keys, core_bare, core_more, core_node}
 

@@ -2,14 +2,14 @@
 use Rattle.std.specs.Prelude.{◌≡◌, ℕ, suc, ◌+◌, List, [], ◌∷◌, ◌++◌, length, true, false}
 use Rattle.yq_flow_scalars.specs.Keys.{keys_of}
 use Rattle.yq_flow_scalars.specs.Paths.{Step, append_child, change, within}
-use Rattle.yq_rows.specs.Exchange.{asked_behind}
-use Rattle.yq_rows.specs.Grammar.{unlimited, AreRows, no_rows}
-use Rattle.yq_rows.specs.Rows.{Row, Part, Cut, cut_text}
-use Rattle.yq_rows.specs.Splices.{behind_first, first_gap}
-use Rattle.yq_rows.specs.Seams.{ends_in_block, ends_in_line}
+use Rattle.yq_cut.specs.Exchange.{asked_behind}
+use Rattle.yq_cut.specs.Grammar.{unlimited, AreRows, no_rows}
+use Rattle.yq_cut.specs.Rows.{Row, Part, Cut, cut_text}
+use Rattle.yq_cut.specs.Splices.{behind_first, first_gap}
+use Rattle.yq_cut.specs.Seams.{ends_in_block, ends_in_line}
 use Rattle.yq_lines.specs.LineAnchors.{HaveOneAnchorEach}
 use Rattle.yq_documents.specs.Documents.{HaveFitKeys, lead_of}
-use Rattle.yq_walk.specs.Lines.{lines_of}
+use Rattle.yq_row_lines.specs.Lines.{lines_of}
 use Rattle.yq_lines.specs.Outline.{Line, Outline, flatten, children, label}
 use Rattle.yq_lines.specs.Places.{lines_before, content}
 use Rattle.yq_documents.specs.Reading.{outline_of}

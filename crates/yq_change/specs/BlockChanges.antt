@@ -4,12 +4,12 @@ use Rattle.yq_flow_scalars.specs.Keys.{keys_of}
 use Rattle.yq_flow_scalars.specs.Paths.{Step, append_child, change, relabel_child, remove_child, within}
 use Rattle.yq_flow_scalars.specs.Tree.{Label, Node}
 use Rattle.yq_lines.specs.Comments.{head_comment, line_comment}
-use Rattle.yq_rows.specs.Rows.{Row, behind_columns, Part, Cut}
+use Rattle.yq_cut.specs.Rows.{Row, behind_columns, Part, Cut}
 use Rattle.yq_flow_scalars.specs.Anchors.{names_of}
 use Rattle.yq_lines.specs.LineAnchors.{HaveOneAnchorEach}
 use Rattle.yq_documents.specs.Documents.{lead_of}
 use Rattle.yq_lines.specs.Laws.{with_lines}
-use Rattle.yq_walk.specs.Lines.{lines_from, lines_of}
+use Rattle.yq_row_lines.specs.Lines.{lines_from, lines_of}
 use Rattle.yq_lines.specs.Outline.{Line, Outline, flatten, IsEven, label, children, value}
 use Rattle.yq_lines.specs.Places.{lines_before, plug, FoundLine, find, content}
 use Rattle.yq_documents.specs.Reading.{outline_of, root_of}

@@ -1,11 +1,11 @@
 -- The rows at the end of a block collection, by its place in a text (own).
 use Rattle.std.specs.Prelude.{◌≡◌, ℕ, ◌+◌, List, ◌∷◌, ◌++◌, [], length}
 use Rattle.yq_flow_scalars.specs.Paths.{Step}
-use Rattle.yq_rows.specs.Rows.{Row, rows_text, Part, part_text, Cut, cut_text}
+use Rattle.yq_cut.specs.Rows.{Row, rows_text, Part, part_text, Cut, cut_text}
 use Rattle.yq_lines.specs.Outline.{Outline, end, row, flatten}
 use Rattle.yq_lines.specs.Places.{lines_before}
 use Rattle.yq_places.specs.CollectionEnds.{CollectionEnd, is_broken}
-use Rattle.yq_walk.specs.Lines.{lines_of}
+use Rattle.yq_row_lines.specs.Lines.{lines_of}
 use Rattle.yq_documents.specs.Reading.{outline_of}
 use Rattle.yq_change.specs.Changed.{put_document}
 use Rattle.yq_change.specs.DocumentRows.{behind_document}

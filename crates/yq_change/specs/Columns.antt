@@ -1,11 +1,11 @@
 -- Where rows may stand, by the levels of lines (own).
 use Rattle.std.specs.Prelude.{◌≡◌, ℕ, ◌<◌, List, [], ◌∷◌, ◌++◌, Some, true, false}
-use Rattle.yq_scalar.specs.Block.{BlockText}
-use Rattle.yq_rows.specs.Exchange.{allows_first, asked_behind}
-use Rattle.yq_rows.specs.Grammar.{Limit, AreRows, no_rows}
-use Rattle.yq_rows.specs.Rows.{Row}
-use Rattle.yq_rows.specs.Removal.{last_block, next_column, StandsLess}
-use Rattle.yq_walk.specs.Lines.{lines_of}
+use Rattle.yq_block_scalars.specs.Block.{BlockText}
+use Rattle.yq_cut.specs.Exchange.{allows_first, asked_behind}
+use Rattle.yq_cut.specs.Grammar.{Limit, AreRows, no_rows}
+use Rattle.yq_cut.specs.Rows.{Row}
+use Rattle.yq_cut.specs.Removal.{last_block, next_column, StandsLess}
+use Rattle.yq_row_lines.specs.Lines.{lines_of}
 use Rattle.yq_lines.specs.Outline.{Line, level}
 use Rattle.yq_change.specs.LineRows.{AreClosed, AreDeep, Begins, StandApart}
 

@@ -5,12 +5,12 @@ use Rattle.yq_flow_scalars.specs.Tree.{Node}
 use Rattle.yq_lines.specs.Comments.{line_comment}
 use Rattle.yq_lines.specs.Outline.{flatten}
 use Rattle.yq_lines.specs.Places.{lines_before, FoundLine, find, content}
-use Rattle.yq_rows.specs.Exchange.{asked_behind, with_content}
-use Rattle.yq_rows.specs.Grammar.{unlimited}
-use Rattle.yq_rows.specs.Rows.{Bare, Content, Row, rows_text, Part, Cut, cut_text}
-use Rattle.yq_rows.specs.SpliceFits.{StandsFor}
+use Rattle.yq_cut.specs.Exchange.{asked_behind, with_content}
+use Rattle.yq_cut.specs.Grammar.{unlimited}
+use Rattle.yq_cut.specs.Rows.{Bare, Content, Row, rows_text, Part, Cut, cut_text}
+use Rattle.yq_cut.specs.SpliceFits.{StandsFor}
 use Rattle.yq_documents.specs.Documents.{ContentHasFitKeys, is_long_plain, lead_of}
-use Rattle.yq_walk.specs.Lines.{content_anchor, head_of, tail_of, lines_of}
+use Rattle.yq_row_lines.specs.Lines.{content_anchor, head_of, tail_of, lines_of}
 use Rattle.yq_documents.specs.Reading.{outline_of, root_of}
 use Rattle.yq_places.specs.RowPaths.{IsReadable}
 use Rattle.yq_documents.specs.TreeEdits.{replaced}

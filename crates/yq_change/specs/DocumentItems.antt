@@ -1,7 +1,7 @@
 -- A document of a cut among the items of that, which are its rows and the ends of its parts, in order (own).
 use Rattle.std.specs.Prelude.{◌≡◌, ℕ, List, [], ◌∷◌, ◌++◌, slice_get, Some}
-use Rattle.yq_rows.specs.Items.{Item, end_item, rows_items, items_of, items_text}
-use Rattle.yq_rows.specs.Rows.{Part, Cut}
+use Rattle.yq_cut.specs.Items.{Item, end_item, rows_items, items_of, items_text}
+use Rattle.yq_cut.specs.Rows.{Part, Cut}
 use Rattle.yq_documents.specs.Documents.{document_parts}
 use Rattle.yq_change.specs.Changed.{put_document}
 use Rattle.yq_change.specs.DocumentRows.{behind_document}

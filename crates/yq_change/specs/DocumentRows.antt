@@ -1,10 +1,10 @@
 -- Rows of one document exchanged in a cut (own).
 use Rattle.std.specs.Prelude.{◌≡◌, ℕ, ◌+◌, true, false, List, ◌++◌, length, slice_get, Some}
-use Rattle.yq_rows.specs.Exchange.{allows_first, asked_behind}
-use Rattle.yq_rows.specs.Grammar.{unlimited, AreRows, IsCut, no_rows}
-use Rattle.yq_rows.specs.Rows.{Row, rows_text, Part, Cut, cut_text}
-use Rattle.yq_rows.specs.Splices.{with_first_gap, end_gap, behind_first, splice_part, splice, nth_part, behind_part}
-use Rattle.yq_rows.specs.Seams.{are_seamed}
+use Rattle.yq_cut.specs.Exchange.{allows_first, asked_behind}
+use Rattle.yq_cut.specs.Grammar.{unlimited, AreRows, IsCut, no_rows}
+use Rattle.yq_cut.specs.Rows.{Row, rows_text, Part, Cut, cut_text}
+use Rattle.yq_cut.specs.Splices.{with_first_gap, end_gap, behind_first, splice_part, splice, nth_part, behind_part}
+use Rattle.yq_cut.specs.Seams.{are_seamed}
 use Rattle.yq_documents.specs.Documents.{IsDocument, document_parts}
 use Rattle.yq_documents.specs.PartNumbers.{part_number}
 use Rattle.yq_lines.specs.Group.{level_or}

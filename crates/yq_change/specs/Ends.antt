@@ -1,11 +1,11 @@
 -- One item or entry more at the end of a text without a final break (own).
 use Rattle.std.specs.Prelude.{◌≡◌, ℕ, ◌+◌, List, [], ◌∷◌, ◌++◌, length}
 use Rattle.yq_flow_scalars.specs.Paths.{Step, append_child, change, within}
-use Rattle.yq_rows.specs.Grammar.{AreRows, limit_after}
-use Rattle.yq_rows.specs.Rows.{Row, Part, Cut, cut_text}
-use Rattle.yq_rows.specs.Appending.{closed_by, TakesBreak}
+use Rattle.yq_cut.specs.Grammar.{AreRows, limit_after}
+use Rattle.yq_cut.specs.Rows.{Row, Part, Cut, cut_text}
+use Rattle.yq_cut.specs.Appending.{closed_by, TakesBreak}
 use Rattle.yq_documents.specs.Documents.{lead_of}
-use Rattle.yq_walk.specs.Lines.{lines_of}
+use Rattle.yq_row_lines.specs.Lines.{lines_of}
 use Rattle.yq_lines.specs.Outline.{Line, Outline, flatten, label}
 use Rattle.yq_lines.specs.Places.{lines_before, content}
 use Rattle.yq_documents.specs.Reading.{outline_of}

@@ -1,8 +1,8 @@
 -- The rows of a collection's items or entries, and of one of them (own).
 use Rattle.std.specs.Prelude.{◌≡◌, ℕ, List, ◌∷◌, ◌++◌, length, Some}
 use Rattle.yq_flow_scalars.specs.Paths.{Step}
-use Rattle.yq_rows.specs.Rows.{Row, Part}
-use Rattle.yq_walk.specs.Lines.{lines_of}
+use Rattle.yq_cut.specs.Rows.{Row, Part}
+use Rattle.yq_row_lines.specs.Lines.{lines_of}
 use Rattle.yq_lines.specs.Outline.{flatten, IsEven}
 use Rattle.yq_lines.specs.Places.{FoundLine}
 use Rattle.yq_documents.specs.Reading.{outline_of}

@@ -1,12 +1,12 @@
 -- What stays of a document in which a flow collection has other items or entries (7.4; own).
 use Rattle.std.specs.Prelude.{◌≡◌, ℕ, List, Some}
 use Rattle.yq_flow_scalars.specs.Paths.{Step}
-use Rattle.yq_inline.specs.Collections.{CollPieces, put_at}
-use Rattle.yq_inline.specs.Nodes.{Items}
+use Rattle.yq_nodes.specs.Collections.{CollPieces, put_at}
+use Rattle.yq_nodes.specs.Nodes.{Items}
 use Rattle.yq_flow.specs.FlowEdits.{FlowEdit}
 use Rattle.yq_flow.specs.Removals.{removing}
 use Rattle.yq_lines.specs.Places.{FoundLine}
-use Rattle.yq_rows.specs.Rows.{Part, Cut}
+use Rattle.yq_cut.specs.Rows.{Part, Cut}
 use Rattle.yq_documents.specs.Documents.{EachHasFitKeys, HasFitKeys, lead_of}
 use Rattle.yq_change.specs.DocumentRows.{IsDocumentPart}
 use Rattle.yq_change.specs.FlowRows.{InlineRow, IsFlowAt, with_node}

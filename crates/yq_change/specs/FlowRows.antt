@@ -3,15 +3,15 @@ use Rattle.std.specs.Prelude.{◌≡◌, ℕ, ◌+◌, List, [], ◌∷◌, ◌+
 use Rattle.yq_flow_scalars.specs.Paths.{Step, change, within}
 use Rattle.yq_flow_scalars.specs.Tree.{Children}
 use Rattle.yq_flow_scalars.specs.declared.style.Place.TheVariants as places
-use Rattle.yq_inline.specs.Collections.{CollAt, CollPieces, IsCollAt, coll_along}
+use Rattle.yq_nodes.specs.Collections.{CollAt, CollPieces, IsCollAt, coll_along}
 use Rattle.yq_flow.specs.FlowEdits.{FlowEdit, IsFlowEdited, edited_node}
-use Rattle.yq_inline.specs.Nodes.{Node, node_text}
+use Rattle.yq_nodes.specs.Nodes.{Node, node_text}
 use Rattle.yq_lines.specs.Places.{lines_before, FoundLine}
-use Rattle.yq_rows.specs.Exchange.{with_content}
-use Rattle.yq_rows.specs.Rows.{Inline, Row, parent_indent, rows_text, Part, Cut, cut_text}
+use Rattle.yq_cut.specs.Exchange.{with_content}
+use Rattle.yq_cut.specs.Rows.{Inline, Row, parent_indent, rows_text, Part, Cut, cut_text}
 use Rattle.yq_documents.specs.Documents.{HasFitKeys, document_parts, lead_of}
 use Rattle.yq_places.specs.FlowNodes.{find_head, flow_collection}
-use Rattle.yq_walk.specs.Lines.{lines_of}
+use Rattle.yq_row_lines.specs.Lines.{lines_of}
 use Rattle.yq_documents.specs.Reading.{outline_of, read_at, root_of}
 use Rattle.yq_places.specs.RowPaths.{IsReadable}
 use Rattle.yq_change.specs.Appends.{inserted}

@@ -3,10 +3,10 @@ use Rattle.std.specs.Prelude.{◌≡◌, ℕ, List, ◌++◌, true, false}
 use Rattle.std.specs.Str.{IsUtf8}
 use Rattle.yq_flow_scalars.specs.Characters.{pairs_returns}
 use Rattle.yq_flow_scalars.specs.Text.{front, is_feed}
-use Rattle.yq_rows.specs.Grammar.{IsRow, Limit}
-use Rattle.yq_rows.specs.Rows.{Row, print_row}
-use Rattle.yq_rows.specs.View.{slices}
-use Rattle.yq_rows.proofs.seams.ScalarSeams.{ends_return}
+use Rattle.yq_cut.specs.Grammar.{IsRow, Limit}
+use Rattle.yq_cut.specs.Rows.{Row, print_row}
+use Rattle.yq_cut.specs.View.{slices}
+use Rattle.yq_cut.proofs.seams.ScalarSeams.{ends_return}
 use Rattle.yq_places.specs.CommentPlaces.{line_text}
 use Rattle.yq_change.specs.TextPieces.{IsPiece}
 

@@ -1,9 +1,9 @@
 -- The first entry or item of a compact collection taken out: the next one's row stands behind the dash (8.2.1; own).
 use Rattle.std.specs.Prelude.{◌≡◌, ℕ, suc, ◌+◌, List, [], ◌∷◌, ◌++◌, None}
 use Rattle.yq_lines.specs.Comments.{head_comment, line_comment}
-use Rattle.yq_rows.specs.Rows as rows
-use Rattle.yq_rows.specs.Rows.{Content, Nothing, Row, behind_columns}
-use Rattle.yq_walk.specs.Lines.{dash_line, lines_from, lines_of}
+use Rattle.yq_cut.specs.Rows as rows
+use Rattle.yq_cut.specs.Rows.{Content, Nothing, Row, behind_columns}
+use Rattle.yq_row_lines.specs.Lines.{dash_line, lines_from, lines_of}
 use Rattle.yq_lines.specs.Outline.{Line}
 
 -- the lines of dashes, from a column on

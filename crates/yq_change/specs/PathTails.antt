@@ -1,11 +1,11 @@
 -- The line comment of an item or entry at a path, whatever its row holds: a tail behind what is written on its line, which for a block scalar is its header (6.6, 8.1.1; own).
 use Rattle.std.specs.Prelude.{◌≡◌, ℕ, List, [], ◌∷◌, ◌++◌, length, Some, true}
-use Rattle.yq_scalar.specs.Block.{is_tail}
+use Rattle.yq_block_scalars.specs.Block.{is_tail}
 use Rattle.yq_flow_scalars.specs.Paths.{Step, change, relabel_child, within}
 use Rattle.yq_lines.specs.Comments.{line_comment}
-use Rattle.yq_rows.specs.Exchange.{with_content}
-use Rattle.yq_rows.specs.Grammar.{IsTail}
-use Rattle.yq_rows.specs.Rows.{Content, Nothing, Inline, Block, Row, rows_text, Part, Cut, cut_text}
+use Rattle.yq_cut.specs.Exchange.{with_content}
+use Rattle.yq_cut.specs.Grammar.{IsTail}
+use Rattle.yq_cut.specs.Rows.{Content, Nothing, Inline, Block, Row, rows_text, Part, Cut, cut_text}
 use Rattle.yq_documents.specs.Documents.{lead_of}
 use Rattle.yq_places.specs.RowPaths.{IsReadable}
 use Rattle.yq_documents.specs.LinesInRows.{RowLine, row_line_of}

@@ -1,6 +1,6 @@
 -- Where a document that has other rows stands in its text (9.1; own).
 use Rattle.std.specs.Prelude.{◌≡◌, ℕ, ◌++◌, slice_get, Some}
-use Rattle.yq_rows.specs.Rows.{Part, part_text, Cut, cut_text}
+use Rattle.yq_cut.specs.Rows.{Part, part_text, Cut, cut_text}
 use Rattle.yq_documents.specs.Documents.{document_parts}
 use Rattle.yq_places.specs.PlacedRows.{PlacedPart, placed_document}
 use Rattle.yq_change.specs.Changed.{put_document}

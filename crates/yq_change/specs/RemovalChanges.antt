@@ -1,12 +1,12 @@
 -- What is taken out of a text with an item or entry, as rows taken out of a document (own).
 use Rattle.std.specs.Prelude.{◌≡◌, ℕ, List, [], ◌∷◌, ◌++◌, slice_get, Option, Some, None, true}
-use Rattle.yq_scalar.specs.BlockRepair.{repair}
+use Rattle.yq_block_scalars.specs.BlockRepair.{repair}
 use Rattle.yq_flow_scalars.specs.Paths.{Step, node_at, remove_child}
 use Rattle.yq_flow_scalars.specs.Text.{joined, lines_of as text_lines}
 use Rattle.yq_flow_scalars.specs.Tree.{Node}
 use Rattle.yq_flow_scalars.specs.Anchors.{names_of}
 use Rattle.yq_lines.specs.Places.{FoundLine}
-use Rattle.yq_rows.specs.Rows.{Part, Cut, cut_text}
+use Rattle.yq_cut.specs.Rows.{Part, Cut, cut_text}
 use Rattle.yq_documents.specs.Documents.{document_parts, lead_of}
 use Rattle.yq_places.specs.FirstPlaces.{FirstOut, first_removal}
 use Rattle.yq_documents.specs.Reading.{outline_of, read_at, root_of}

@@ -1,9 +1,9 @@
 -- One of several items or entries of a block collection taken out (own).
 use Rattle.std.specs.Prelude.{ℕ, List, []}
 use Rattle.yq_flow_scalars.specs.Text.{joined, lines_of as text_lines}
-use Rattle.yq_rows.specs.Rows.{Row, Part}
-use Rattle.yq_rows.specs.Splices.{first_gap}
-use Rattle.yq_rows.specs.Removal.{last_block, next_column, seam_gap}
+use Rattle.yq_cut.specs.Rows.{Row, Part}
+use Rattle.yq_cut.specs.Splices.{first_gap}
+use Rattle.yq_cut.specs.Removal.{last_block, next_column, seam_gap}
 use Rattle.yq_documents.specs.Pieces.{before_run}
 use Rattle.yq_change.specs.DocumentRows.{put_rows}
 

@@ -6,14 +6,14 @@ use Rattle.yq_flow_scalars.specs.Anchors.{names_of}
 use Rattle.yq_lines.specs.LineAnchors.{HaveOneAnchorEach}
 use Rattle.yq_lines.specs.Outline.{Line, Outline, flatten}
 use Rattle.yq_lines.specs.Places.{lines_before, plug, FoundLine, find, content}
-use Rattle.yq_inline.specs.Alike.{Alike}
-use Rattle.yq_rows.specs.Exchange.{allows_first, asked_behind}
-use Rattle.yq_rows.specs.Grammar.{unlimited, AreRows, IsCut, no_rows}
-use Rattle.yq_rows.specs.Rows.{Row, behind_columns, rows_text, Part, Cut, cut_text}
-use Rattle.yq_rows.specs.SpliceFits.{is_after}
-use Rattle.yq_rows.specs.Splices.{behind_first, first_gap, marker_before}
+use Rattle.yq_nodes.specs.Alike.{Alike}
+use Rattle.yq_cut.specs.Exchange.{allows_first, asked_behind}
+use Rattle.yq_cut.specs.Grammar.{unlimited, AreRows, IsCut, no_rows}
+use Rattle.yq_cut.specs.Rows.{Row, behind_columns, rows_text, Part, Cut, cut_text}
+use Rattle.yq_cut.specs.SpliceFits.{is_after}
+use Rattle.yq_cut.specs.Splices.{behind_first, first_gap, marker_before}
 use Rattle.yq_documents.specs.Documents.{HaveFitKeys, HasShortRoot, lead_of}
-use Rattle.yq_walk.specs.Lines.{lines_from, lines_of}
+use Rattle.yq_row_lines.specs.Lines.{lines_from, lines_of}
 use Rattle.yq_documents.specs.Reading.{outline_of, root_of}
 use Rattle.yq_places.specs.RowPaths.{IsReadable}
 use Rattle.yq_documents.specs.TreeEdits.{replaced}

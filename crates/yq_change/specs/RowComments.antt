@@ -1,17 +1,17 @@
 -- One row in the place of another one, and the line comments of rows of which a tail alone doesn't tell: block scalars have theirs in the header (8.1.1; own).
 use Rattle.std.specs.Prelude.{◌≡◌, ℕ, ◌+◌, List, [], ◌∷◌, ◌++◌, length, Option, true, false}
-use Rattle.yq_scalar.specs.Block.{BlockText}
+use Rattle.yq_block_scalars.specs.Block.{BlockText}
 use Rattle.yq_flow_scalars.specs.Paths.{Step, change, relabel_child, within}
 use Rattle.yq_lines.specs.Comments.{line_comment}
 use Rattle.yq_lines.specs.Places.{FoundLine}
-use Rattle.yq_rows.specs.Exchange.{allows_first, asked_behind, with_content}
-use Rattle.yq_rows.specs.Grammar.{unlimited, limit_after}
-use Rattle.yq_rows.specs.Rows as rows
-use Rattle.yq_rows.specs.Rows.{Content, Block, Row, rows_text, Part, Cut, cut_text}
-use Rattle.yq_rows.specs.Seams.{TakesPlace}
-use Rattle.yq_rows.specs.Splices.{first_gap}
+use Rattle.yq_cut.specs.Exchange.{allows_first, asked_behind, with_content}
+use Rattle.yq_cut.specs.Grammar.{unlimited, limit_after}
+use Rattle.yq_cut.specs.Rows as rows
+use Rattle.yq_cut.specs.Rows.{Content, Block, Row, rows_text, Part, Cut, cut_text}
+use Rattle.yq_cut.specs.Seams.{TakesPlace}
+use Rattle.yq_cut.specs.Splices.{first_gap}
 use Rattle.yq_documents.specs.Documents.{ContentHasFitKeys, is_long_plain, lead_of}
-use Rattle.yq_walk.specs.Lines.{content_anchor, head_of, tail_of, lines_of}
+use Rattle.yq_row_lines.specs.Lines.{content_anchor, head_of, tail_of, lines_of}
 use Rattle.yq_documents.specs.Reading.{outline_of}
 use Rattle.yq_places.specs.RowPaths.{IsReadable}
 use Rattle.yq_documents.specs.TreeEdits.{with_line_comment}

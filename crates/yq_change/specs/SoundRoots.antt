@@ -3,7 +3,7 @@ use Rattle.std.specs.Prelude.{◌≡◌, ℕ, suc, ◌+◌, ◌≤◌, List, [],
 use Rattle.yq_flow_scalars.specs.Keys.{HasUniqueKeys, depth, keys_of}
 use Rattle.yq_flow_scalars.specs.Paths.{Step, append_child, change, child_at, node_at, relabel_child, remove_child, within}
 use Rattle.yq_flow_scalars.specs.Tree.{Label, Node, alias, scalar, list, map, children_of}
-use Rattle.yq_inline.specs.Inline.{depth_limit}
+use Rattle.yq_nodes.specs.Inline.{depth_limit}
 use Rattle.yq_flow_scalars.specs.Anchors.{Name, Refers, names_of, names_in, IsAmong, AreBound}
 use Rattle.yq_change.specs.Conditions.{AreSpared}
 use Rattle.yq_documents.specs.TreeEdits.{replaced}

@@ -2,13 +2,13 @@
 use Rattle.std.specs.Prelude.{◌≡◌, ◌⊎◌, ℕ, suc, ◌+◌, List, [], ◌∷◌, ◌++◌, length, nat_lt, slice_get, Some}
 use Rattle.yq_flow_scalars.specs.Paths.{Step}
 use Rattle.yq_flow_scalars.specs.Tree.{Node}
-use Rattle.yq_inline.specs.Trees.{items_tree}
+use Rattle.yq_nodes.specs.Trees.{items_tree}
 use Rattle.yq_lines.specs.Counts.{count}
 use Rattle.yq_lines.specs.Outline.{flatten}
 use Rattle.yq_lines.specs.Places.{FoundLine, find, lines_before}
-use Rattle.yq_rows.specs.Rows.{Cut, Part, cut_text, part_text}
+use Rattle.yq_cut.specs.Rows.{Cut, Part, cut_text, part_text}
 use Rattle.yq_documents.specs.Documents.{document_parts}
-use Rattle.yq_walk.specs.Lines.{lines_of}
+use Rattle.yq_row_lines.specs.Lines.{lines_of}
 use Rattle.yq_documents.specs.Reading.{outline_of, read_at}
 use Rattle.yq_places.specs.NodesAt.{node_in}
 use Rattle.yq_places.specs.RemovalPlaces.{has_others_at}

@@ -3,7 +3,7 @@ use Rattle.std.specs.Prelude.{◌≡◌, ◌<◌, ℕ, List, [], ◌∷◌, ◌+
 use Rattle.std.specs.Str.{IsUtf8}
 use Rattle.yq_flow_scalars.specs.Characters.{is_text}
 use Rattle.yq_flow_scalars.specs.Text.{is_feed}
-use Rattle.yq_rows.specs.Rows.{Cut, cut_text}
+use Rattle.yq_cut.specs.Rows.{Cut, cut_text}
 use Rattle.yq_documents.specs.Reading.{read_at}
 
 -- A piece of a text: whole characters, which a text may hold, with an LF behind each CR (YAML 1.2.2, sections 5.1 and 5.4; own).

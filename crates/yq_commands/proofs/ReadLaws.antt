@@ -1,7 +1,7 @@
 -- Matches as they are printed, one after the other.
 use Rattle.std.proofs.Common.{◌≡◌, ◌&&◌, List, [], ◌∷◌, ap, refl}
 use Rattle.std.specs.List.{list_all}
-use Rattle.yq_inline.specs.Values.{node_of}
+use Rattle.yq_nodes.specs.Values.{node_of}
 use Rattle.yq_expr.specs.declared.matched.Match.{Match}
 use Rattle.yq_expr.specs.MatchView.{matches_of}
 use Rattle.yq_commands.specs.Reads.{is_no_match, have_no_match}

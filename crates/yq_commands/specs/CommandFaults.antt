@@ -1,6 +1,6 @@
 -- Faults of words and expressions as faults of a command (own).
-use Rattle.yq_program.specs.declared.error.ParseError.{ParseError}
-use Rattle.yq_program.specs.declared.error.ParseError.TheVariants as parse
+use Rattle.yq_parsing.specs.declared.error.ParseError.{ParseError}
+use Rattle.yq_parsing.specs.declared.error.ParseError.TheVariants as parse
 use Rattle.yq_meaning.specs.declared.expr_error.ExprError.{ExprError}
 use Rattle.yq_meaning.specs.declared.expr_error.ExprError.TheVariants as matching
 use Rattle.yq_meaning.specs.declared.refusal.Refusal.{Refusal}

@@ -1,8 +1,8 @@
 -- What an expression makes of a text.
 use Rattle.std.specs.Prelude.{◌≡◌, ℕ, List, Result, Ok, Err}
 use Rattle.yq_program.specs.Program.{Program}
-use Rattle.yq_program.specs.Parse.{outcome}
-use Rattle.yq_program.specs.Outcome as expr
+use Rattle.yq_parsing.specs.Parse.{outcome}
+use Rattle.yq_parsing.specs.Outcome as expr
 use Rattle.yq_script.specs.Splice.{Splice}
 use Rattle.yq_splice.specs.Carried.{edit_of}
 use Rattle.yq_splice.specs.Edit.{Edit}

@@ -2,7 +2,7 @@
 ghost use Rattle.std.specs.Prelude.{◌≡◌, ◌++◌, IfOk, OnOk, None};
 ghost use Rattle.std.specs.List.{list_all};
 ghost use Rattle.std.specs.String.{string_bytes};
-ghost use Rattle.yq_inline.specs.Values.{node_of};
+ghost use Rattle.yq_nodes.specs.Values.{node_of};
 ghost use Rattle.yq_expr.specs.MatchView.{matches_of};
 ghost use Rattle.yq_splice.specs.Print.{print_text};
 ghost use Rattle.yq_commands.specs.Reads as spec;

@@ -2,7 +2,7 @@
 use Rattle.std.proofs.Common.{◌≡◌, ℕ, true, false, eqb, List, [], ◌∷◌, drop, Some, None, refl, sym, ap, ◌∙◌}
 use Rattle.std.proofs.lemmas.Bool.{cond-true, cond-false, and_parts}
 use Rattle.yq_flow_scalars.specs.Text.{cut, front, ends_line, lines_of, past_white}
-use Rattle.yq_inline.specs.Nodes.{first_is}
+use Rattle.yq_nodes.specs.Nodes.{first_is}
 use Rattle.yq_lines.specs.Comments.{less_space, comment_text, are_comments, with_text, last_comments}
 use Rattle.yq_documents.specs.Texts.{text_then, texts}
 

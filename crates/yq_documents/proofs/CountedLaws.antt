@@ -1,8 +1,8 @@
 -- How many items and entries nodes have.
 use Rattle.std.proofs.Common.{◌≡◌, List, [], ◌∷◌, length, refl, ap, suc}
-use Rattle.yq_inline.specs.declared.inline.Inline.{Inline}
-use Rattle.yq_inline.specs.Trees.{parts_tree}
-use Rattle.yq_inline.specs.View.{items_end, entries_end}
+use Rattle.yq_nodes.specs.declared.inline.Inline.{Inline}
+use Rattle.yq_nodes.specs.Trees.{parts_tree}
+use Rattle.yq_nodes.specs.View.{items_end, entries_end}
 use Rattle.yq_lines.specs.Counts.{count}
 use Rattle.yq_documents.proofs.FlowLaws.{Field}
 

@@ -3,14 +3,14 @@ use Rattle.std.proofs.Common.{◌≡◌, ℕ, ◌+◌, ◌-◌, true, false, con
 use Rattle.std.specs.Prelude.{String}
 use Rattle.std.specs.declared.alloc.Global.{Global}
 use Rattle.yq_flow_scalars.specs.declared.piece.Piece.{Piece}
-use Rattle.yq_inline.specs.declared.inline.Inline.{Inline}
-use Rattle.yq_inline.specs.View.{view, items_end, entries_end}
+use Rattle.yq_nodes.specs.declared.inline.Inline.{Inline}
+use Rattle.yq_nodes.specs.View.{view, items_end, entries_end}
 use Rattle.std.proofs.lemmas.List.{take_at, drop_at, drop_more}
-use Rattle.yq_inline.specs.Nodes.{Key, bare, keyed, Sep, last, comma, Node, empty, alias, scalar, coll, anchored, Items, none, item, key_text, sep_text, node_text, items_text, open_of}
-use Rattle.yq_inline.specs.Places.{Placed, placed, sequence, mapping, Parts, holder, key_placed, with_anchor, locate, locate_items}
-use Rattle.yq_inline.proofs.WrittenLaws.{node_then}
+use Rattle.yq_nodes.specs.Nodes.{Key, bare, keyed, Sep, last, comma, Node, empty, alias, scalar, coll, anchored, Items, none, item, key_text, sep_text, node_text, items_text, open_of}
+use Rattle.yq_nodes.specs.Places.{Placed, placed, sequence, mapping, Parts, holder, key_placed, with_anchor, locate, locate_items}
+use Rattle.yq_nodes.proofs.WrittenLaws.{node_then}
 use Rattle.yq_documents.specs.Reading.{is_fit, has_fit_key, has_fit_keys, each_has_fit_keys}
-use Rattle.yq_inline.specs.Spans.{HasSpans, PartsHaveSpans}
+use Rattle.yq_nodes.specs.Spans.{HasSpans, PartsHaveSpans}
 use Rattle.yq_documents.specs.KeyReading.{EndsIn, key_place_fits, node_fits, form_fits, parts_fit}
 
 pub past : (whole a t : List ℕ) → EndsIn whole (a ++ t) → EndsIn whole t

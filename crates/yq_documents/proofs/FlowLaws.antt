@@ -7,9 +7,9 @@ use Rattle.std.specs.Str.{bytes_eq}
 use Rattle.yq_flow_scalars.specs.declared.piece.Piece.{Piece}
 use Rattle.yq_flow_scalars.specs.Paths.{To, Nth}
 use Rattle.yq_flow_scalars.specs.Tree.{Children}
-use Rattle.yq_inline.specs.declared.inline.Inline.{Inline}
-use Rattle.yq_inline.specs.Trees.{inner, placed_tree, parts_tree}
-use Rattle.yq_inline.specs.View.{view, items_end, entries_end}
+use Rattle.yq_nodes.specs.declared.inline.Inline.{Inline}
+use Rattle.yq_nodes.specs.Trees.{inner, placed_tree, parts_tree}
+use Rattle.yq_nodes.specs.View.{view, items_end, entries_end}
 use Rattle.yq_lines.specs.Labelled.{Labelled, labelled_at}
 
 abbrev pub items_tree : List Inline → Children

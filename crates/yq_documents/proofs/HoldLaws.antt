@@ -5,12 +5,12 @@ use Rattle.std.proofs.lemmas.Option.{same_Some, slice_get-map, slice_get_within}
 use Rattle.std.specs.List.{list_any, slice_get}
 use Rattle.yq_lines.specs.Comments.{head_comment}
 use Rattle.yq_lines.specs.Names.{is_reference, line_names}
-use Rattle.yq_rows.specs.Grammar.{IsCut}
-use Rattle.yq_rows.specs.Rows.{Row, Part}
-use Rattle.yq_rows.specs.View.{rows_of, RowsView, rows_view}
+use Rattle.yq_cut.specs.Grammar.{IsCut}
+use Rattle.yq_cut.specs.Rows.{Row, Part}
+use Rattle.yq_cut.specs.View.{rows_of, RowsView, rows_view}
 use Rattle.yq_flow_scalars.specs.Characters.{text_limit}
-use Rattle.yq_walk.specs.Extents.{IsRowsView}
-use Rattle.yq_walk.specs.declared.position.Stretch.{Stretch}
+use Rattle.yq_row_lines.specs.Extents.{IsRowsView}
+use Rattle.yq_row_lines.specs.declared.line_position.Stretch.{Stretch}
 use Rattle.yq_documents.specs.Documents.{Document, document_parts}
 use Rattle.yq_documents.specs.Holding.{Holds}
 use Rattle.yq_documents.specs.Located.{document_at}

@@ -6,14 +6,12 @@ pub mod FlowKeyLaws
 pub mod FlowLaws
 pub mod HeadLaws
 pub mod HoldLaws
-pub mod KindLaws
 pub mod LineWritten
 pub mod DecodedLaws
 pub mod NodeLines
 pub mod RowFlowLaws
 pub mod RowLineLaws
 pub mod RunLaws
-pub mod WalkLaws
 pub mod PartNumberLaws
 pub mod PartRows
 pub mod WalkedRows

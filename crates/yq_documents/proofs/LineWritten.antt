@@ -4,24 +4,24 @@ use Rattle.std.proofs.lemmas.Bool.{cases_lt, false≢true}
 use Rattle.std.proofs.lemmas.Option.{same_Some}
 use Rattle.std.specs.List.{slice_get}
 use Rattle.std.specs.Prelude.{is_some}
-use Rattle.yq_inline.specs.Scalars.{content_of, is_quoted}
+use Rattle.yq_nodes.specs.Scalars.{content_of, is_quoted}
 use Rattle.yq_lines.specs.Comments as comments
 use Rattle.yq_lines.specs.Outline.{Line, key_of}
-use Rattle.yq_rows.specs.Grammar.{AreRows, Limit, limit_after}
-use Rattle.yq_rows.specs.Rows.{Row, parent_indent, rows_text}
-use Rattle.yq_rows.specs.View.{RowsView, Slices, slices}
+use Rattle.yq_cut.specs.Grammar.{AreRows, Limit, limit_after}
+use Rattle.yq_cut.specs.Rows.{Row, parent_indent, rows_text}
+use Rattle.yq_cut.specs.View.{RowsView, Slices, slices}
 use Rattle.yq_flow_scalars.specs.Quoted.{IsQuotedText}
 use Rattle.yq_flow_scalars.specs.Text.{upto}
 use Rattle.yq_flow_scalars.specs.Tree.{Node}
-use Rattle.yq_walk.specs.Extents.{lines_before_mark}
-use Rattle.yq_walk.specs.Lines.{head_of}
-use Rattle.yq_walk.specs.RowWalk.{line_rank}
-use Rattle.yq_walk.specs.declared.position.Position.{Position}
-use Rattle.yq_walk.specs.declared.position.Stretch.{Stretch}
-use Rattle.yq_walk.proofs.BesideLaws.{IsBeside, beside_in}
-use Rattle.yq_walk.proofs.RowLaws.{no_comments}
-use Rattle.yq_walk.proofs.WalkMarks.{key_here, key_none}
-use Rattle.yq_walk.proofs.WalkPositions.{Located}
+use Rattle.yq_row_lines.specs.Extents.{lines_before_mark}
+use Rattle.yq_row_lines.specs.Lines.{head_of}
+use Rattle.yq_row_lines.specs.RowWalk.{line_rank}
+use Rattle.yq_row_lines.specs.declared.line_position.Position.{Position}
+use Rattle.yq_row_lines.specs.declared.line_position.Stretch.{Stretch}
+use Rattle.yq_row_lines.proofs.BesideLaws.{IsBeside, beside_in}
+use Rattle.yq_row_lines.proofs.RowLaws.{no_comments}
+use Rattle.yq_row_lines.proofs.WalkMarks.{key_here, key_none}
+use Rattle.yq_row_lines.proofs.WalkPositions.{Located}
 use Rattle.yq_documents.specs.RowReading.{name_in}
 use Rattle.yq_documents.specs.Stretches.{HasText, IsLineIn, document_lines, number_of}
 use Rattle.yq_documents.proofs.WalkedRows.{line_here, located_in, own_line, stands}

@@ -3,22 +3,22 @@ use Rattle.std.proofs.Common.{◌≡◌, ℕ, ℤ, ◌-◌, true, false, not, Li
 use Rattle.std.proofs.lemmas.Bool.{false≢true, cases_Bool}
 use Rattle.yq_flow_scalars.specs.Answers.{◌>>=◌}
 use Rattle.yq_flow_scalars.specs.declared.style.Place.TheVariants as places
-use Rattle.yq_scalar.specs.Block.{mark_of}
+use Rattle.yq_block_scalars.specs.Block.{mark_of}
 use Rattle.yq_flow_scalars.specs.Piece.{deeper}
 use Rattle.yq_flow_scalars.specs.Text.{is_empty}
-use Rattle.yq_inline.specs.Inline.{depth_limit, IsInlineAt}
-use Rattle.yq_inline.specs.Nodes.{Node, empty, alias, scalar, coll, anchored, node_text, items_text, is_bare, IsNode}
-use Rattle.yq_inline.specs.Places.{locate}
-use Rattle.yq_inline.specs.Scalars.{is_quoted}
-use Rattle.yq_inline.proofs.InlineLaws.{inline_again}
-use Rattle.yq_inline.proofs.NodeAgain.{is_anchored, takes_unanchored}
-use Rattle.yq_inline.proofs.WrittenLaws.{node_then}
-use Rattle.yq_rows.specs.Grammar.{IsContent}
-use Rattle.yq_rows.specs.Rows.{Content, Nothing, Inline, Block, parent_indent}
-use Rattle.yq_rows.specs.View.{Slices, anchor_cut, content_cut}
+use Rattle.yq_nodes.specs.Inline.{depth_limit, IsInlineAt}
+use Rattle.yq_nodes.specs.Nodes.{Node, empty, alias, scalar, coll, anchored, node_text, items_text, is_bare, IsNode}
+use Rattle.yq_nodes.specs.Places.{locate}
+use Rattle.yq_nodes.specs.Scalars.{is_quoted}
+use Rattle.yq_nodes.proofs.InlineLaws.{inline_again}
+use Rattle.yq_nodes.proofs.NodeAgain.{is_anchored, takes_unanchored}
+use Rattle.yq_nodes.proofs.WrittenLaws.{node_then}
+use Rattle.yq_cut.specs.Grammar.{IsContent}
+use Rattle.yq_cut.specs.Rows.{Content, Nothing, Inline, Block, parent_indent}
+use Rattle.yq_cut.specs.View.{Slices, anchor_cut, content_cut}
 use Rattle.yq_documents.specs.FlowReading.{kept, node_flow_at, head_flow_at, core, content_core, row_flow}
 use Rattle.yq_documents.specs.KeyReading.{EndsIn}
-use Rattle.yq_walk.specs.Lines.{tail_of}
+use Rattle.yq_row_lines.specs.Lines.{tail_of}
 use Rattle.yq_documents.specs.RowReading.{is_short_plain, is_block_head, HasHead}
 use Rattle.yq_documents.proofs.HeadLaws.{ends_drop, head_text, opens, block_marks, scalar_some_is}
 

@@ -1,22 +1,22 @@
 -- What a row's anchor, head and tail are by its pieces, and its head again.
 use Rattle.std.proofs.Common.{◌≡◌, ℕ, ℤ, true, false, List, [], ◌∷◌, ◌++◌, Some, None, refl, sym, ap, ◌∙◌, subst, append-nil}
 use Rattle.std.proofs.lemmas.Bool.{false≢true}
-use Rattle.yq_scalar.specs.declared.block_header.BlockStyle.{BlockStyle}
-use Rattle.yq_scalar.specs.declared.block_header.BlockStyle.TheVariants as styles
-use Rattle.yq_scalar.specs.Block.{mark_of as block_mark}
+use Rattle.yq_block_scalars.specs.declared.block_header.BlockStyle.{BlockStyle}
+use Rattle.yq_block_scalars.specs.declared.block_header.BlockStyle.TheVariants as styles
+use Rattle.yq_block_scalars.specs.Block.{mark_of as block_mark}
 use Rattle.yq_flow_scalars.specs.Piece.{deeper}
 use Rattle.yq_flow_scalars.specs.Quoted.{IsQuotedText}
-use Rattle.yq_inline.specs.Inline.{depth_limit}
-use Rattle.yq_inline.specs.Nodes.{Node, empty, alias, scalar, coll, anchored, node_text, items_text, IsNode}
-use Rattle.yq_inline.proofs.NodeAgain.{is_anchored, takes_unanchored}
-use Rattle.yq_inline.specs.Scalars.{is_quoted}
-use Rattle.yq_rows.specs.Grammar.{IsContent}
-use Rattle.yq_rows.specs.Rows.{Content, Nothing, Inline, Block, parent_indent}
-use Rattle.yq_rows.specs.View.{Slices, anchor_cut, content_cut}
-use Rattle.yq_walk.specs.Lines.{content_anchor, head_of, tail_of}
+use Rattle.yq_nodes.specs.Inline.{depth_limit}
+use Rattle.yq_nodes.specs.Nodes.{Node, empty, alias, scalar, coll, anchored, node_text, items_text, IsNode}
+use Rattle.yq_nodes.proofs.NodeAgain.{is_anchored, takes_unanchored}
+use Rattle.yq_nodes.specs.Scalars.{is_quoted}
+use Rattle.yq_cut.specs.Grammar.{IsContent}
+use Rattle.yq_cut.specs.Rows.{Content, Nothing, Inline, Block, parent_indent}
+use Rattle.yq_cut.specs.View.{Slices, anchor_cut, content_cut}
+use Rattle.yq_row_lines.specs.Lines.{content_anchor, head_of, tail_of}
 use Rattle.yq_documents.specs.KeyReading.{EndsIn}
 use Rattle.yq_documents.specs.RowReading.{name_in, head_at, HasHead}
-use Rattle.yq_walk.proofs.RowLaws.{scalar_quoted}
+use Rattle.yq_row_lines.proofs.RowLaws.{scalar_quoted}
 use Rattle.yq_documents.proofs.HeadLaws.{fitting, head_is, opens}
 
 -- the pieces of a row tell its anchor and its tail

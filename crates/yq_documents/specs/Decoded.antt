@@ -3,14 +3,14 @@ use Rattle.std.specs.Prelude.{◌≡◌, ℕ, suc, ◌-◌, ◌≤◌, ◌==◌,
 use Rattle.yq_flow_scalars.specs.Scalar.{plain_of}
 use Rattle.yq_flow_scalars.specs.Text.{is_empty}
 use Rattle.yq_flow_scalars.specs.Tree.{Node}
-use Rattle.yq_inline.specs.Places.{Placed}
-use Rattle.yq_inline.specs.Scalars.{is_quoted, content_of}
-use Rattle.yq_inline.specs.Trees.{scalar_node}
+use Rattle.yq_nodes.specs.Places.{Placed}
+use Rattle.yq_nodes.specs.Scalars.{is_quoted, content_of}
+use Rattle.yq_nodes.specs.Trees.{scalar_node}
 use Rattle.yq_lines.specs.View.{head_flow, head_view}
-use Rattle.yq_rows.specs.Exchange.{behind_row}
-use Rattle.yq_rows.specs.Rows.{Row, Cut}
-use Rattle.yq_rows.specs.View.{slices}
-use Rattle.yq_walk.specs.Lines.{head_of}
+use Rattle.yq_cut.specs.Exchange.{behind_row}
+use Rattle.yq_cut.specs.Rows.{Row, Cut}
+use Rattle.yq_cut.specs.View.{slices}
+use Rattle.yq_row_lines.specs.Lines.{head_of}
 use Rattle.yq_documents.specs.FlowReading.{row_flow}
 use Rattle.yq_documents.specs.RowReading.{string_head}
 use Rattle.yq_documents.specs.declared.decoded.Decoded.{Decoded}

@@ -4,18 +4,18 @@ use Rattle.std.specs.Str.{is_utf8, chars}
 use Rattle.yq_flow_scalars.specs.Plain.{holds_break}
 use Rattle.yq_flow_scalars.specs.Tree.{Node}
 use Rattle.yq_flow_scalars.specs.Keys.{HasUniqueKeys, depth}
-use Rattle.yq_inline.specs.Nodes as inline
-use Rattle.yq_inline.specs.Nodes.{Items, none, item}
-use Rattle.yq_inline.specs.Inline.{depth_limit}
+use Rattle.yq_nodes.specs.Nodes as inline
+use Rattle.yq_nodes.specs.Nodes.{Items, none, item}
+use Rattle.yq_nodes.specs.Inline.{depth_limit}
 use Rattle.yq_lines.specs.Comments.{head_comment}
-use Rattle.yq_rows.specs.Grammar.{IsCut, is_plain, no_rows, begins_document, key_limit}
-use Rattle.yq_rows.specs.Rows as rows
-use Rattle.yq_rows.specs.Rows.{Content, Nothing, Inline, Block, Row, Part, Cut, last, marked}
-use Rattle.yq_rows.specs.Splices.{first_gap}
+use Rattle.yq_cut.specs.Grammar.{IsCut, is_plain, no_rows, begins_document, key_limit}
+use Rattle.yq_cut.specs.Rows as rows
+use Rattle.yq_cut.specs.Rows.{Content, Nothing, Inline, Block, Row, Part, Cut, last, marked}
+use Rattle.yq_cut.specs.Splices.{first_gap}
 use Rattle.yq_flow_scalars.specs.Anchors.{names_of, AreBound}
 use Rattle.yq_lines.specs.LineAnchors.{HaveOneAnchorEach}
 use Rattle.yq_lines.specs.Grammar.{IsNode}
-use Rattle.yq_walk.specs.Lines.{lines_of}
+use Rattle.yq_row_lines.specs.Lines.{lines_of}
 use Rattle.yq_lines.specs.Outline.{Line, null_node}
 
 -- A document: the comment before it and its root node (9.1; own).

@@ -3,13 +3,13 @@ use Rattle.std.specs.Prelude.{ℕ, ◌-◌, List, ◌++◌, length, Option, Some
 use Rattle.yq_flow_scalars.specs.declared.style.Place.TheVariants as places
 use Rattle.yq_flow_scalars.specs.Answers.{◌>>=◌}
 use Rattle.yq_flow_scalars.specs.Text.{is_empty}
-use Rattle.yq_inline.specs.Inline.{inline_at}
-use Rattle.yq_inline.specs.Nodes.{Node, empty, alias, scalar, coll, anchored}
-use Rattle.yq_inline.specs.Places.{Placed, placed, Content, nothing, name, text, sequence, mapping, locate}
-use Rattle.yq_inline.specs.Scalars.{is_quoted}
-use Rattle.yq_rows.specs.Rows as rows
-use Rattle.yq_rows.specs.Rows.{Row}
-use Rattle.yq_walk.specs.Lines.{tail_of}
+use Rattle.yq_nodes.specs.Inline.{inline_at}
+use Rattle.yq_nodes.specs.Nodes.{Node, empty, alias, scalar, coll, anchored}
+use Rattle.yq_nodes.specs.Places.{Placed, placed, Content, nothing, name, text, sequence, mapping, locate}
+use Rattle.yq_nodes.specs.Scalars.{is_quoted}
+use Rattle.yq_cut.specs.Rows as rows
+use Rattle.yq_cut.specs.Rows.{Row}
+use Rattle.yq_row_lines.specs.Lines.{tail_of}
 use Rattle.yq_documents.specs.RowReading.{is_block_head, is_short_plain}
 
 -- a node by its content, if it is an alias or a flow collection (own)

@@ -17,7 +17,6 @@ pub use Rattle.yq_lines.specs.Comments
 pub use Rattle.yq_lines.specs.Laws
 pub use Rattle.yq_lines.specs.ShapedLines
 pub mod LinesInRows
-pub mod Children
 pub mod Documents
 pub mod PartNumbers
 pub mod Reading
@@ -27,8 +26,6 @@ pub mod RowReading
 pub mod PartReading
 pub mod KeyReading
 pub mod FlowReading
-pub mod Nodes
-pub mod Bodies
 pub mod Stretches
 pub mod Decoded
 pub mod Holding

@@ -1,6 +1,6 @@
 -- The documents of the code, and the nodes at paths in them.
 use Rattle.std.specs.Prelude.{List, [], ℕ, map, None, Option, option_and_then, slice_get}
-use Rattle.yq_inline.specs.Entries.{step_of}
+use Rattle.yq_nodes.specs.Entries.{step_of}
 use Rattle.yq_flow_scalars.specs.Paths.{Step, node_at}
 use Rattle.yq_flow_scalars.specs.Tree.{Label, Node}
 use Rattle.yq_documents.specs.declared.path.Path.{Path}

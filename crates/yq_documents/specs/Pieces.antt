@@ -1,11 +1,11 @@
 -- Pieces of a text: inline nodes, what is written behind a mark, and comments (YAML 1.2.2, 6.6, 7 and 8.1; own).
 use Rattle.std.specs.Prelude.{ℕ, ◌+◌, List, [], ◌∷◌, ◌++◌, length, Option, Some, None, if◌then◌else◌, ◌==◌}
-use Rattle.yq_scalar.specs.Block.{block_text}
+use Rattle.yq_block_scalars.specs.Block.{block_text}
 use Rattle.yq_flow_scalars.specs.Text.{is_empty, cut, front, ends_line, joined, lines_of, no_white, past_white}
-use Rattle.yq_inline.specs.Nodes.{Node, empty, alias, scalar, coll, anchored, node_text}
-use Rattle.yq_rows.specs.Exchange.{HasPieces}
-use Rattle.yq_rows.specs.Rows.{Content, Nothing, Inline, Block, anchor_text}
-use Rattle.yq_rows.specs.View.{content_cut}
+use Rattle.yq_nodes.specs.Nodes.{Node, empty, alias, scalar, coll, anchored, node_text}
+use Rattle.yq_cut.specs.Exchange.{HasPieces}
+use Rattle.yq_cut.specs.Rows.{Content, Nothing, Inline, Block, anchor_text}
+use Rattle.yq_cut.specs.View.{content_cut}
 use Rattle.yq_documents.specs.declared.path.Span.{Span}
 use Rattle.yq_lines.specs.Comments.{are_comments}
 

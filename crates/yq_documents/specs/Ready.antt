@@ -3,12 +3,12 @@ use Rattle.std.specs.Prelude.{◌≡◌, ℕ, ◌≤◌, List, [], ◌∷◌, Op
 use Rattle.yq_flow_scalars.specs.Keys.{depth}
 use Rattle.yq_flow_scalars.specs.Shapes.{IsTree}
 use Rattle.yq_flow_scalars.specs.Tree.{children_of}
-use Rattle.yq_inline.specs.Inline.{depth_limit}
+use Rattle.yq_nodes.specs.Inline.{depth_limit}
 use Rattle.yq_lines.specs.Outline.{Line}
 use Rattle.yq_lines.specs.Sound.{is_entry}
-use Rattle.yq_rows.specs.Rows.{Part}
+use Rattle.yq_cut.specs.Rows.{Part}
 use Rattle.yq_documents.specs.Documents.{Document, document_parts}
-use Rattle.yq_walk.specs.Lines.{lines_of}
+use Rattle.yq_row_lines.specs.Lines.{lines_of}
 use Rattle.yq_documents.specs.Located.{document_at}
 use Rattle.yq_documents.specs.Reading.{cut_of}
 use Rattle.yq_documents.specs.TreeEdits.{lead_by}

@@ -3,21 +3,21 @@ use Rattle.std.specs.Prelude.{◌≡◌, ℕ, ◌-◌, ◌==◌, Bool, true, ◌
 use Rattle.yq_flow_scalars.specs.declared.kind.Kind.TheVariants.{Text}
 use Rattle.yq_flow_scalars.specs.declared.style.Place.TheVariants as places
 use Rattle.yq_flow_scalars.specs.Answers.{◌>>=◌}
-use Rattle.yq_scalar.specs.BlockContent.{block_content}
-use Rattle.yq_scalar.specs.BlockReading.{block_at}
+use Rattle.yq_block_scalars.specs.BlockContent.{block_content}
+use Rattle.yq_block_scalars.specs.BlockReading.{block_at}
 use Rattle.yq_flow_scalars.specs.Piece.{deeper}
 use Rattle.yq_flow_scalars.specs.Plain.{holds_break}
 use Rattle.yq_flow_scalars.specs.Scalar.{plain_of}
 use Rattle.yq_flow_scalars.specs.Text.{front, is_empty}
 use Rattle.yq_flow_scalars.specs.Tree as tree
-use Rattle.yq_inline.specs.Inline.{inline_at}
-use Rattle.yq_inline.specs.Nodes.{first_is}
-use Rattle.yq_inline.specs.Places.{Placed, placed, Content, nothing, name, text, sequence, mapping}
-use Rattle.yq_inline.specs.Scalars.{is_quoted, content_of}
-use Rattle.yq_inline.specs.Trees.{scalar_node, placed_tree}
-use Rattle.yq_rows.specs.Grammar.{Limit, IsRow}
-use Rattle.yq_rows.specs.Rows.{Row}
-use Rattle.yq_rows.specs.View.{Slices, slices}
+use Rattle.yq_nodes.specs.Inline.{inline_at}
+use Rattle.yq_nodes.specs.Nodes.{first_is}
+use Rattle.yq_nodes.specs.Places.{Placed, placed, Content, nothing, name, text, sequence, mapping}
+use Rattle.yq_nodes.specs.Scalars.{is_quoted, content_of}
+use Rattle.yq_nodes.specs.Trees.{scalar_node, placed_tree}
+use Rattle.yq_cut.specs.Grammar.{Limit, IsRow}
+use Rattle.yq_cut.specs.Rows.{Row}
+use Rattle.yq_cut.specs.View.{Slices, slices}
 use Rattle.yq_documents.specs.KeyReading.{node_fits}
 use Rattle.yq_documents.specs.Reading.{mark_is_fit, content_is_fit}
 

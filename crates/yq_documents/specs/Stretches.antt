@@ -2,14 +2,14 @@
 use Rattle.std.specs.Prelude.{◌≡◌, ◌<◌, ℕ, ◌+◌, ◌-◌, List, [], length, slice_get, true, Option, Some, None}
 use Rattle.yq_lines.specs.Ends.{part}
 use Rattle.yq_lines.specs.Outline.{Line, Outline, level}
-use Rattle.yq_rows.specs.Grammar.{IsCut}
-use Rattle.yq_rows.specs.Rows.{Row, Part}
-use Rattle.yq_rows.specs.View.{RowsView, rows_view}
-use Rattle.yq_walk.specs.Extents.{IsRowsView}
-use Rattle.yq_walk.specs.Lines.{lines_of}
-use Rattle.yq_walk.specs.RowWalk.{IsLine, IsPosition, line_number}
-use Rattle.yq_walk.specs.declared.position.Position.{Position}
-use Rattle.yq_walk.specs.declared.position.Stretch.{Stretch}
+use Rattle.yq_cut.specs.Grammar.{IsCut}
+use Rattle.yq_cut.specs.Rows.{Row, Part}
+use Rattle.yq_cut.specs.View.{RowsView, rows_view}
+use Rattle.yq_row_lines.specs.Extents.{IsRowsView}
+use Rattle.yq_row_lines.specs.Lines.{lines_of}
+use Rattle.yq_row_lines.specs.RowWalk.{IsLine, IsPosition, line_number}
+use Rattle.yq_row_lines.specs.declared.line_position.Position.{Position}
+use Rattle.yq_row_lines.specs.declared.line_position.Stretch.{Stretch}
 use Rattle.yq_documents.specs.Documents.{document_parts}
 use Rattle.yq_documents.specs.Reading.{all_documents, cut_of, documents_of}
 use Rattle.yq_documents.specs.LinesInRows.{document_row}

@@ -3,7 +3,7 @@ use Rattle.std.specs.Prelude.{◌≡◌, List, [], ◌∷◌, Option, Some, None
 use denote.Bor.{Bor}
 use Rattle.yq_flow_scalars.specs.Text.{lines_of}
 use Rattle.yq_lines.specs.Comments.{comment_text}
-use Rattle.yq_documents.specs.declared.nodes.comments.Comments.{Comments}
+use Rattle.yq_documents.specs.declared.comment.Comments.{Comments}
 
 -- a text before others, or nothing where there is none (own)
 abbrev pub text_then : Option (List ℕ) → List (List ℕ) → List (List ℕ)

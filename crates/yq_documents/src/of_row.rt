@@ -23,7 +23,7 @@ pub fn decoded_at<'d, 't>(decoded: &'d [Decoded<'t>], row: usize) -> Option<&'d 
 }
 
 /// The head that is made of a row, if one is.
-pub(crate) fn head_decoded<'d, 't>(decoded: Option<&'d Decoded<'t>>) -> Option<&'d Head<'t>>
+pub fn head_decoded<'d, 't>(decoded: Option<&'d Decoded<'t>>) -> Option<&'d Head<'t>>
     ensures { option_map (λ h. head_view h.now) result ≡
         option_and_then (λ x. option_map head_view x.head) (option_map (λ m. m.now) decoded.entry) }
 {

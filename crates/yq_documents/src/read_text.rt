@@ -2,10 +2,10 @@
 ghost use Rattle.std.specs.Prelude.{◌≡◌, ◌<◌, ℕ, List, length, slice_get, Some, false, option_map, true};
 ghost use Rattle.std.specs.List.{list_any};
 ghost use Rattle.yq_lines.specs.Names.{is_reference, line_names};
-ghost use Rattle.yq_rows.specs.Grammar.{IsCut};
-ghost use Rattle.yq_rows.specs.Rows.{Row as RowOf};
-ghost use Rattle.yq_rows.specs.View.{rows_of, rows_view};
-ghost use Rattle.yq_walk.specs.Extents.{IsRowsView};
+ghost use Rattle.yq_cut.specs.Grammar.{IsCut};
+ghost use Rattle.yq_cut.specs.Rows.{Row as RowOf};
+ghost use Rattle.yq_cut.specs.View.{rows_of, rows_view};
+ghost use Rattle.yq_row_lines.specs.Extents.{IsRowsView};
 ghost use Rattle.yq_documents.specs.Documents.{Document};
 ghost use Rattle.yq_documents.specs.Decoded.{IsDecodedBy};
 ghost use Rattle.yq_documents.specs.Located.{document_at};
@@ -13,12 +13,12 @@ ghost use Rattle.yq_documents.specs.Reading.{all_documents, cut_of, documents_of
 ghost use Rattle.yq_documents.specs.Stretches.{HasText, document_lines};
 ghost use Rattle.yq_documents.specs.Texts.{texts_left};
 
+use crate::comment::Comments;
 use crate::decoded::Decoded;
-use crate::nodes::comments::Comments;
 use crate::of_row::decoded_at;
 use std::marker::Model;
-use yq_rows::Rows;
-use yq_walk::Stretch;
+use yq_cut::Rows;
+use yq_row_lines::Stretch;
 
 /// The rows of a document among those of a text, and the gap that its lead ends.
 #[derive(Clone, Copy, Debug)]
@@ -115,7 +115,7 @@ impl<'t> ReadText<'t> {
     }
 
     /// The rows of the text, and which of them are those of document `i`, counted from 0.
-    pub(crate) fn document_rows(&self, i: usize) -> (&Rows<'t>, Stretch)
+    pub fn document_rows(&self, i: usize) -> (&Rows<'t>, Stretch)
         requires { i < length (documents_of self.now) }
         ensures { HasText self.now i result.0.now result.1 }
     {
@@ -136,7 +136,7 @@ impl<'t> ReadText<'t> {
     }
 
     /// Whether an alias may stand in it.
-    pub(crate) fn may_refer(&self) -> bool
+    pub fn may_refer(&self) -> bool
         ensures { result ≡ false → (n : ℕ) →
             list_any is_reference (line_names (document_lines n self.now)) ≡ false }
     {

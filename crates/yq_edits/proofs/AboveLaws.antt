@@ -2,7 +2,7 @@
 use Rattle.std.proofs.Common.{◌≡◌, ℕ, Bool, true, false, cond, eqb, List, Option, Some, None, option_map, refl, sym, ap, ◌∙◌}
 use Rattle.yq_flow_scalars.specs.Answers.{◌>>=◌}
 use Rattle.yq_flow_scalars.specs.Paths.{Step}
-use Rattle.yq_rows.specs.Rows.{Cut}
+use Rattle.yq_cut.specs.Rows.{Cut}
 use Rattle.yq_places.specs.CommentPlaces.{LinesAbove, above_row, lines_above}
 use Rattle.yq_places.specs.PlacedRows.{PlacedRow}
 use Rattle.yq_places.specs.Standings.{RowsOfEntry, rows_of_entry}

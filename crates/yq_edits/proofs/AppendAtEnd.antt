@@ -1,16 +1,16 @@
 -- One item or entry more at the end of a text that has no final break: the break comes first.
 use Rattle.std.proofs.Common.{arith, inr, ◌≡◌, ℕ, ◌+◌, ◌≤◌, true, false, List, [], ◌∷◌, ◌++◌, length, Option, Some, refl, sym, ap, ◌∙◌, subst, append_assoc, append-nil, replicate}
-use Rattle.yq_scalar.specs.declared.block_written.Break.{Break}
-use Rattle.yq_scalar.specs.declared.block_written.Break.TheVariants as breaks
-use Rattle.yq_scalar.specs.BlockWritten.{break_text}
+use Rattle.yq_block_scalars.specs.declared.block_types.Break.{Break}
+use Rattle.yq_block_scalars.specs.declared.block_types.Break.TheVariants as breaks
+use Rattle.yq_block_scalars.specs.BlockWritten.{break_text}
 use Rattle.yq_flow_scalars.specs.Characters.{text_limit}
 use Rattle.yq_flow_scalars.specs.Paths.{Step}
 use Rattle.yq_flow_scalars.specs.Tree.{Node}
 use Rattle.yq_flow_scalars.specs.Text.{is_line}
 use Rattle.yq_lines.specs.Outline.{flatten}
-use Rattle.yq_rows.specs.Rows.{print_row, Row, rows_text, Part, Cut, cut_text}
+use Rattle.yq_cut.specs.Rows.{print_row, Row, rows_text, Part, Cut, cut_text}
 use Rattle.yq_places.specs.CollectionEnds.{CollectionEnd}
-use Rattle.yq_walk.specs.Lines.{lines_of}
+use Rattle.yq_row_lines.specs.Lines.{lines_of}
 use Rattle.yq_documents.specs.Reading.{read_at}
 use Rattle.yq_places.specs.RowPaths.{IsReadable}
 use Rattle.yq_block.specs.declared.layout.Layout.{Layout}
@@ -24,11 +24,11 @@ use Rattle.yq_change.specs.DocumentRows.{behind_document}
 use Rattle.yq_change.proofs.TextPieceLaws.{pieces_joined}
 use Rattle.yq_meaning.specs.Operations.{append}
 use Rattle.yq_script.specs.Script.{Segment, new_text}
-use Rattle.yq_rows.specs.Appending.{closed_by}
-use Rattle.yq_rows.proofs.PlaceLaws.{row_then}
-use Rattle.yq_rows.proofs.seams.SeamLaws.{rows_text-append}
+use Rattle.yq_cut.specs.Appending.{closed_by}
+use Rattle.yq_cut.proofs.PlaceLaws.{row_then}
+use Rattle.yq_cut.proofs.seams.SeamLaws.{rows_text-append}
 use Rattle.yq_places.proofs.RunSpans.{rows_then}
-use Rattle.yq_rows.specs.Items.{rows_items}
+use Rattle.yq_cut.specs.Items.{rows_items}
 use Rattle.yq_edits.specs.Local.{IsLocal, IsLocalTo}
 use Rattle.yq_edits.proofs.ItemsLocal.{first_within, last_nothing}
 use Rattle.yq_edits.proofs.LocalLaws.{cut_known, rows_local}
@@ -37,8 +37,8 @@ use Rattle.yq_edits.specs.EntryEdits.{entry_lines}
 use Rattle.yq_edits.specs.ReadsAfter.{ReadsAfter}
 use Rattle.yq_edits.proofs.CommentPieceLaws.{break_piece}
 use Rattle.yq_edits.proofs.SegmentLaws.{segments_readable}
-use Rattle.yq_rows.specs.Grammar.{IsTail, limit_after}
-use Rattle.yq_rows.specs.Appending.{is_one_break}
+use Rattle.yq_cut.specs.Grammar.{IsTail, limit_after}
+use Rattle.yq_cut.specs.Appending.{is_one_break}
 use Rattle.yq_block.specs.BlockValues.{IsEnd}
 use Rattle.yq_change.specs.Ends.{TakesRowsLast, closed_with}
 use Rattle.yq_change.proofs.EndLaws.{end_of_text_appended}

@@ -3,19 +3,19 @@ use Rattle.std.proofs.Common.{◌≡◌, ℕ, ◌+◌, ◌*◌, ◌<◌, ◌≤�
 use Rattle.yq_flow_scalars.specs.Text.{upto}
 use Rattle.yq_flow_scalars.specs.Tree as tree
 use Rattle.yq_flow_scalars.specs.Tree.{Node, Children, none, child}
-use Rattle.yq_inline.specs.Nodes as inline
+use Rattle.yq_nodes.specs.Nodes as inline
 use Rattle.yq_flow.specs.Valued.{IsValueTree}
 use Rattle.yq_lines.specs.LineAnchors.{HaveOneAnchorEach}
 use Rattle.yq_lines.specs.Comments.{line_comment}
 use Rattle.yq_lines.specs.Outline.{Mark, Bare, Key, Dash, Line, level, rank, Outline, end, row, flatten, IsOpen, IsEven, label, collection, children, value, Stands}
 use Rattle.yq_lines.specs.Places.{content}
 use Rattle.yq_lines.proofs.ByRules.{rules_give}
-use Rattle.yq_rows.specs.Gap.{IsGap}
-use Rattle.yq_rows.specs.Grammar.{Limit, limit_after, allows, AreRows}
-use Rattle.yq_rows.specs.Rows.{Row}
-use Rattle.yq_rows.specs.Splices.{first_gap}
+use Rattle.yq_cut.specs.Gap.{IsGap}
+use Rattle.yq_cut.specs.Grammar.{Limit, limit_after, allows, AreRows}
+use Rattle.yq_cut.specs.Rows.{Row}
+use Rattle.yq_cut.specs.Splices.{first_gap}
 use Rattle.yq_documents.specs.Documents.{HaveFitKeys}
-use Rattle.yq_walk.specs.Lines.{lines_of}
+use Rattle.yq_row_lines.specs.Lines.{lines_of}
 use Rattle.yq_documents.specs.TreeEdits.{new_label}
 use Rattle.yq_block.specs.declared.layout.Layout.{Layout}
 use Rattle.yq_block.specs.Alone.{alone}

@@ -1,23 +1,23 @@
 -- One item or entry more behind a line that has a break.
 use Rattle.std.proofs.Common.{◌≡◌, ℕ, suc, ◌≤◌, true, false, List, [], ◌∷◌, ◌++◌, length, Option, Some, refl, sym, ap, ◌∙◌, subst, append_assoc, append-nil, replicate}
 use Rattle.std.proofs.lemmas.Bool.{false≢true}
-use Rattle.yq_scalar.specs.BlockWritten.{break_text}
+use Rattle.yq_block_scalars.specs.BlockWritten.{break_text}
 use Rattle.yq_flow_scalars.specs.Characters.{text_limit}
 use Rattle.yq_flow_scalars.specs.Paths.{Step}
 use Rattle.yq_flow_scalars.specs.Tree.{Node}
 use Rattle.yq_flow_scalars.specs.Text.{is_line}
 use Rattle.yq_lines.specs.Comments as comments
-use Rattle.yq_rows.specs.Exchange.{asked_behind}
-use Rattle.yq_rows.specs.Grammar.{unlimited, no_rows}
-use Rattle.yq_rows.proofs.PlainEnds.{AtLine}
-use Rattle.yq_rows.specs.Rows.{Content, Nothing, Inline, Block, Row, rows_text, Part, Cut, cut_text}
-use Rattle.yq_rows.specs.Seams.{is_block, tail_behind, ends_in_block, ends_in_line}
-use Rattle.yq_rows.specs.Splices.{first_gap, behind_first}
-use Rattle.yq_rows.proofs.seams.SeamLaws.{rows_text-append}
-use Rattle.yq_rows.proofs.splices.SpliceTexts.{own_gap, own_end, first_text}
+use Rattle.yq_cut.specs.Exchange.{asked_behind}
+use Rattle.yq_cut.specs.Grammar.{unlimited, no_rows}
+use Rattle.yq_cut.proofs.PlainEnds.{AtLine}
+use Rattle.yq_cut.specs.Rows.{Content, Nothing, Inline, Block, Row, rows_text, Part, Cut, cut_text}
+use Rattle.yq_cut.specs.Seams.{is_block, tail_behind, ends_in_block, ends_in_line}
+use Rattle.yq_cut.specs.Splices.{first_gap, behind_first}
+use Rattle.yq_cut.proofs.seams.SeamLaws.{rows_text-append}
+use Rattle.yq_cut.proofs.splices.SpliceTexts.{own_gap, own_end, first_text}
 use Rattle.yq_places.specs.CollectionEnds.{CollectionEnd, is_broken}
 use Rattle.yq_documents.specs.Documents.{lead_of}
-use Rattle.yq_walk.specs.Lines.{lines_from, lines_of}
+use Rattle.yq_row_lines.specs.Lines.{lines_from, lines_of}
 use Rattle.yq_documents.specs.Ready.{begins_no_node}
 use Rattle.yq_documents.specs.Reading.{read_at}
 use Rattle.yq_places.specs.RowPaths.{IsReadable}
@@ -38,7 +38,7 @@ use Rattle.yq_change.proofs.TextPieceLaws.{pieces_joined}
 use Rattle.yq_block.proofs.LineLaws.{break_uncommented}
 use Rattle.yq_meaning.specs.Operations.{append}
 use Rattle.yq_script.specs.Script.{Segment, new_text}
-use Rattle.yq_rows.specs.Items.{rows_items}
+use Rattle.yq_cut.specs.Items.{rows_items}
 use Rattle.yq_edits.specs.Local.{IsLocal, IsLocalTo}
 use Rattle.yq_edits.proofs.ItemsLocal.{first_nothing, last_nothing}
 use Rattle.yq_edits.proofs.LocalLaws.{cut_known, rows_local}

@@ -11,9 +11,9 @@ use Rattle.yq_flow.specs.Valued.{IsValueTree}
 use Rattle.yq_lines.specs.LineAnchors.{HaveOneAnchorEach}
 use Rattle.yq_lines.specs.Outline.{children, label}
 use Rattle.yq_lines.specs.Places.{content}
-use Rattle.yq_rows.specs.Grammar.{unlimited, AreRows, no_rows, Limit, allows}
-use Rattle.yq_rows.specs.Rows.{rows_text, Part, Cut, cut_text}
-use Rattle.yq_rows.proofs.seams.SeamLaws.{rows_text-append}
+use Rattle.yq_cut.specs.Grammar.{unlimited, AreRows, no_rows, Limit, allows}
+use Rattle.yq_cut.specs.Rows.{rows_text, Part, Cut, cut_text}
+use Rattle.yq_cut.proofs.seams.SeamLaws.{rows_text-append}
 use Rattle.yq_places.specs.CollectionEnds.{CollectionEnd}
 use Rattle.yq_documents.specs.Documents.{document_parts, lead_of}
 use Rattle.yq_documents.specs.Reading.{outline_of, read_at, root_of}
@@ -49,7 +49,7 @@ use Rattle.yq_edits.proofs.DoneLaws.{document_done}
 use Rattle.yq_edits.proofs.FitLaws.{new_value, key_near, near_keys}
 use Rattle.yq_edits.proofs.CommentPieceLaws.{nothing}
 use Rattle.yq_lines.specs.Comments.{line_comment as said}
-use Rattle.yq_rows.specs.Gap.{IsGap}
+use Rattle.yq_cut.specs.Gap.{IsGap}
 use Rattle.yq_change.proofs.RemovalPieceLaws.{spaces_piece}
 use Rattle.yq_edits.proofs.AppendTakers.{IsTaker, taker}
 use Rattle.yq_edits.proofs.LayoutLaws.{steps_least}

@@ -2,7 +2,7 @@
 use Rattle.std.proofs.Common.{◌≡◌, ◌⊎◌, inl, inr, ℕ, List, [], ◌∷◌, length, drop, Bool, true, false, cond, ◌&&◌, ◌||◌, refl, sym, ap, ◌∙◌, eqb-true}
 use Rattle.std.proofs.lemmas.Bool.{false≢true, and_parts}
 use Rattle.yq_flow_scalars.specs.Text.{front, is_break, is_empty, is_feed, is_line, is_return}
-use Rattle.yq_rows.proofs.EmptyTexts.{empty_is}
+use Rattle.yq_cut.proofs.EmptyTexts.{empty_is}
 use Rattle.yq_places.specs.PrintedLines.{is_last_break, less_break, last_break}
 
 -- a break: LF or CR LF

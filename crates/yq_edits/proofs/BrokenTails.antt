@@ -4,10 +4,10 @@ use Rattle.std.proofs.lemmas.Bool.{false≢true, and_parts, cases_Bool, or_parts
 use Rattle.yq_flow_scalars.specs.Characters.{pairs_returns}
 use Rattle.yq_flow_scalars.specs.Text.{front, is_feed, is_return, is_empty, ends_line, NoneIn}
 use Rattle.yq_lines.specs.Comments.{line_comment}
-use Rattle.yq_rows.specs.Gap.{IsBreak, IsComment}
-use Rattle.yq_rows.specs.Grammar.{IsTail}
-use Rattle.yq_rows.proofs.CharacterLaws.{pairs_back}
-use Rattle.yq_rows.proofs.seams.ScalarSeams.{ends_return}
+use Rattle.yq_cut.specs.Gap.{IsBreak, IsComment}
+use Rattle.yq_cut.specs.Grammar.{IsTail}
+use Rattle.yq_cut.proofs.CharacterLaws.{pairs_back}
+use Rattle.yq_cut.proofs.seams.ScalarSeams.{ends_return}
 use Rattle.yq_change.proofs.EndLaws.{after_hash, comment_is}
 
 -- what stands in front of a break ends in no CR

@@ -7,14 +7,14 @@ use Rattle.yq_flow_scalars.specs.Text.{is_empty}
 use Rattle.yq_lines.specs.Outline.{Line}
 use Rattle.yq_lines.specs.Outline as outlines
 use Rattle.yq_lines.specs.Positions.{is_bare}
-use Rattle.yq_rows.specs.Grammar.{AreRows, unlimited}
-use Rattle.yq_rows.specs.Rows.{Row, behind_columns, dashes_text, print_row, rows_text}
+use Rattle.yq_cut.specs.Grammar.{AreRows, unlimited}
+use Rattle.yq_cut.specs.Rows.{Row, behind_columns, dashes_text, print_row, rows_text}
 use Rattle.yq_places.specs.CollectionEnds.{is_broken}
 use Rattle.yq_places.specs.PrintedLines.{last_break}
-use Rattle.yq_walk.proofs.WalkLevels.{RowsAgree, RowAgrees}
+use Rattle.yq_row_lines.proofs.WalkLevels.{RowsAgree, RowAgrees}
 use Rattle.yq_change.specs.Siblings.{IsEntry}
 use Rattle.yq_change.proofs.EndedRowLaws.{row_there, rows_then}
-use Rattle.yq_rows.proofs.seams.SeamLaws.{rows_text-append}
+use Rattle.yq_cut.proofs.seams.SeamLaws.{rows_text-append}
 use Rattle.yq_edits.proofs.FinalBreaks.{broken_is}
 
 pub get_behind : (a b : List Line) (j : ℕ) → slice_get (a ++ b) (length a + j) ≡ slice_get b j

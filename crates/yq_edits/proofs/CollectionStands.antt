@@ -12,20 +12,20 @@ use Rattle.yq_lines.specs.Outline.{Line, Outline, end, row, flatten}
 use Rattle.yq_lines.specs.Places.{FoundLine, here, lines_after, lines_before}
 use Rattle.yq_lines.specs.Positions.{is_bare}
 use Rattle.yq_lines.proofs.Decides.{flatten-group}
-use Rattle.yq_rows.specs.Grammar.{AreDashes, AreRows, IsRow, Limit, is_entry, unlimited}
-use Rattle.yq_rows.specs.Rows as rows
-use Rattle.yq_rows.specs.Rows.{Row, Part, Cut, behind_columns, cut_text, part_text, print_row, rows_text}
-use Rattle.yq_rows.specs.View.{slices}
+use Rattle.yq_cut.specs.Grammar.{AreDashes, AreRows, IsRow, Limit, is_entry, unlimited}
+use Rattle.yq_cut.specs.Rows as rows
+use Rattle.yq_cut.specs.Rows.{Row, Part, Cut, behind_columns, cut_text, part_text, print_row, rows_text}
+use Rattle.yq_cut.specs.View.{slices}
 use Rattle.yq_documents.specs.Documents.{document_parts}
-use Rattle.yq_walk.specs.Lines.{dash_line, head_of, lines_from, lines_of, mark_line, mark_of, row_lines}
+use Rattle.yq_row_lines.specs.Lines.{dash_line, head_of, lines_from, lines_of, mark_line, mark_of, row_lines}
 use Rattle.yq_documents.specs.Reading.{outline_of}
 use Rattle.yq_places.specs.CollectionEnds.{CollectionEnd, is_broken}
 use Rattle.yq_places.specs.Standings.{RowsOfEntry, before_entry, behind_entry, is_alone}
 use Rattle.yq_places.proofs.FlowViewLaws.{before_under}
 use Rattle.yq_places.proofs.RowPathLaws.{found_lines}
 use Rattle.yq_places.proofs.UnderExchange.{lines_append}
-use Rattle.yq_walk.proofs.WalkLevels.{RowsAgree, IsLineOf, RowAgrees, line_in}
-use Rattle.yq_walk.proofs.WalkRows.{rows_agree}
+use Rattle.yq_row_lines.proofs.WalkLevels.{RowsAgree, IsLineOf, RowAgrees, line_in}
+use Rattle.yq_row_lines.proofs.WalkRows.{rows_agree}
 use Rattle.yq_change.specs.Changed.{put_document}
 use Rattle.yq_change.specs.CollectionPlaces.{BeginsAt, IsCollectionEnd}
 use Rattle.yq_change.specs.DocumentRows.{behind_document}

@@ -6,16 +6,16 @@ use Rattle.std.proofs.Math.Seq.{take-append_seam}
 use Rattle.std.proofs.Math.Utf8.{encodes, encode, scalars, low_scalar}
 use Rattle.std.specs.List.{list_all}
 use Rattle.std.specs.Str.{chars, IsUtf8}
-use Rattle.yq_scalar.specs.BlockWritten.{break_text}
+use Rattle.yq_block_scalars.specs.BlockWritten.{break_text}
 use Rattle.yq_flow_scalars.specs.Characters.{is_text, is_text_char, pairs_returns}
 use Rattle.yq_flow_scalars.specs.Text.{front, is_feed, is_return, is_empty}
-use Rattle.yq_scalar.specs.declared.block_written.Break.{Break}
-use Rattle.yq_scalar.specs.declared.block_written.Break.TheVariants.{Lf, CrLf}
+use Rattle.yq_block_scalars.specs.declared.block_types.Break.{Break}
+use Rattle.yq_block_scalars.specs.declared.block_types.Break.TheVariants.{Lf, CrLf}
 use Rattle.yq_flow_scalars.proofs.Bools.{not_byte}
-use Rattle.yq_scalar.proofs.Bytes.{Each, each_byte}
-use Rattle.yq_scalar.proofs.WrittenText.{no_break, is_line_ascii, IsLine, line_is_text}
-use Rattle.yq_rows.proofs.NodePieces.{before_ascii}
-use Rattle.yq_rows.proofs.seams.ScalarSeams.{ends_return}
+use Rattle.yq_block_scalars.proofs.Bytes.{Each, each_byte}
+use Rattle.yq_block_scalars.proofs.WrittenText.{no_break, is_line_ascii, IsLine, line_is_text}
+use Rattle.yq_cut.proofs.NodePieces.{before_ascii}
+use Rattle.yq_cut.proofs.seams.ScalarSeams.{ends_return}
 use Rattle.yq_change.specs.TextPieces.{IsPiece}
 use Rattle.yq_change.proofs.LineFrontLaws.{clean_byte, clean_cut}
 use Rattle.yq_change.proofs.TextPieceLaws.{pieces_joined, line_cut}

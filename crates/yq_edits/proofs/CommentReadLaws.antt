@@ -1,19 +1,19 @@
 -- What is written for comments reads as their texts.
 use Rattle.std.proofs.Common.{◌≡◌, ◌⊎◌, inl, inr, ℕ, zero, suc, true, false, ◌&&◌, not, cond, eqb, List, [], ◌∷◌, ◌++◌, replicate, drop, Option, Some, None, refl, sym, ap, ◌∙◌, append-nil, append_assoc}
 use Rattle.std.proofs.lemmas.Bool.{and_parts, not-true}
-use Rattle.yq_scalar.specs.BlockWritten.{break_text}
+use Rattle.yq_block_scalars.specs.BlockWritten.{break_text}
 use Rattle.yq_flow_scalars.specs.Text as text
 use Rattle.yq_flow_scalars.specs.Text.{front, is_feed, is_return, is_empty, is_break, is_line, ends_line, past_white, joined, lines_of, NoneIn}
-use Rattle.yq_scalar.specs.declared.block_written.Break.{Break}
-use Rattle.yq_scalar.specs.declared.block_written.Break.TheVariants.{Lf, CrLf}
-use Rattle.yq_scalar.proofs.Bytes.{Each}
-use Rattle.yq_scalar.proofs.LineLaws.{lines_again}
+use Rattle.yq_block_scalars.specs.declared.block_types.Break.{Break}
+use Rattle.yq_block_scalars.specs.declared.block_types.Break.TheVariants.{Lf, CrLf}
+use Rattle.yq_block_scalars.proofs.Bytes.{Each}
+use Rattle.yq_block_scalars.proofs.LineLaws.{lines_again}
 use Rattle.yq_flow_scalars.proofs.Upto.{cut-append}
-use Rattle.yq_scalar.proofs.WrittenText.{no_break}
+use Rattle.yq_block_scalars.proofs.WrittenText.{no_break}
 use Rattle.yq_lines.specs.Comments.{less_space, comment_text, are_comments, with_text, last_comments, head_comment as head_texts}
-use Rattle.yq_rows.specs.Gap.{IsWhite, IsGap, IsGapLine, AreGapLines}
-use Rattle.yq_rows.proofs.LineEnds.{text_line, white_again, white_none}
-use Rattle.yq_rows.proofs.RowAgain.{white_spaces}
+use Rattle.yq_cut.specs.Gap.{IsWhite, IsGap, IsGapLine, AreGapLines}
+use Rattle.yq_cut.proofs.LineEnds.{text_line, white_again, white_none}
+use Rattle.yq_cut.proofs.RowAgain.{white_spaces}
 use Rattle.yq_edits.specs.CommentEdits.{comment_line, head_lines}
 use Rattle.yq_edits.proofs.CommentPieceLaws.{AreParts}
 

@@ -15,21 +15,21 @@ use Rattle.yq_lines.specs.Ends.{found_line, line_of}
 use Rattle.yq_lines.specs.Places.{FoundLine, bare_or}
 use Rattle.yq_lines.specs.Sound.{is_entry}
 use Rattle.yq_lines.specs.Outline.{Mark, Bare, Key, Dash, Line}
-use Rattle.yq_rows.specs.Exchange.{row_front}
-use Rattle.yq_rows.specs.Gap.{IsWhite}
-use Rattle.yq_rows.specs.Grammar.{IsCut, IsTail, IsRow, Limit}
-use Rattle.yq_rows.specs.Rows as rows
-use Rattle.yq_rows.specs.Rows.{Row, behind_indent, dashes_text, mark_text, print_row, rows_text, Cut, cut_text}
-use Rattle.yq_rows.specs.View.{slices}
-use Rattle.yq_rows.proofs.Fronts.{Starts}
-use Rattle.yq_rows.proofs.LineEnds.{line_end_behind}
-use Rattle.yq_rows.proofs.PlaceLaws.{row_then, row_in}
-use Rattle.yq_rows.proofs.RowAgain.{row_starts}
-use Rattle.yq_rows.proofs.EmptyTexts.{empty_is}
-use Rattle.yq_rows.proofs.seams.SeamLaws.{rows_text-append}
-use Rattle.yq_rows.proofs.splices.ContentPlaces.{rows_around}
+use Rattle.yq_cut.specs.Exchange.{row_front}
+use Rattle.yq_cut.specs.Gap.{IsWhite}
+use Rattle.yq_cut.specs.Grammar.{IsCut, IsTail, IsRow, Limit}
+use Rattle.yq_cut.specs.Rows as rows
+use Rattle.yq_cut.specs.Rows.{Row, behind_indent, dashes_text, mark_text, print_row, rows_text, Cut, cut_text}
+use Rattle.yq_cut.specs.View.{slices}
+use Rattle.yq_cut.proofs.Fronts.{Starts}
+use Rattle.yq_cut.proofs.LineEnds.{line_end_behind}
+use Rattle.yq_cut.proofs.PlaceLaws.{row_then, row_in}
+use Rattle.yq_cut.proofs.RowAgain.{row_starts}
+use Rattle.yq_cut.proofs.EmptyTexts.{empty_is}
+use Rattle.yq_cut.proofs.seams.SeamLaws.{rows_text-append}
+use Rattle.yq_cut.proofs.splices.ContentPlaces.{rows_around}
 use Rattle.yq_places.specs.CommentPlaces.{end_before, line_text}
-use Rattle.yq_walk.specs.Lines.{lines_from, lines_of}
+use Rattle.yq_row_lines.specs.Lines.{lines_from, lines_of}
 use Rattle.yq_places.specs.PlacedRows.{PlacedPart, PlacedRow, placed_document, placed_row, row_of_path}
 use Rattle.yq_documents.specs.Reading.{read_at}
 use Rattle.yq_documents.specs.Ready.{begins_no_node}

@@ -5,7 +5,7 @@ use Rattle.std.specs.List.{slice_get}
 use Rattle.yq_flow_scalars.specs.Tree.{Node, children_of}
 use Rattle.yq_flow_scalars.specs.Answers.{◌>>=◌}
 use Rattle.yq_flow_scalars.proofs.Bools.{guard_then}
-use Rattle.yq_rows.specs.Rows.{Part, Cut, cut_text}
+use Rattle.yq_cut.specs.Rows.{Part, Cut, cut_text}
 use Rattle.yq_documents.specs.Documents.{Document, document_parts, lead_of}
 use Rattle.yq_documents.specs.Reading as reading
 use Rattle.yq_documents.specs.Reading.{documents, read_at, cut_of, root_of}

@@ -5,24 +5,24 @@ use Rattle.yq_flow_scalars.specs.Plain.{IsPlain, ends_plain}
 use Rattle.yq_flow_scalars.specs.Quoted.{spell_lines}
 use Rattle.yq_flow_scalars.specs.Text.{front, joined, is_break, is_white, is_feed, is_return, is_line, is_empty, no_white, unless, NoneIn}
 use Rattle.yq_flow_scalars.proofs.Bools.{at_byte}
-use Rattle.yq_scalar.proofs.BlockPieceLaws.{IsLf, append_lf, line_lf, raw_lf}
-use Rattle.yq_inline.specs.Nodes as nodes
-use Rattle.yq_inline.specs.Nodes.{Node, empty, alias, scalar, coll, anchored, in_name, is_close, items_text, node_text, open_of, IsNode}
-use Rattle.yq_inline.specs.Scalars.{IsInQuotes}
-use Rattle.yq_inline.proofs.WrittenLaws.{node_append}
-use Rattle.yq_rows.specs.Exchange.{row_front}
-use Rattle.yq_rows.specs.Gap.{IsWhite}
-use Rattle.yq_rows.specs.Grammar.{IsContent, IsKey, IsMark, IsRow, Limit, is_entry}
-use Rattle.yq_rows.specs.Rows as rows
-use Rattle.yq_rows.specs.Rows.{Content, Nothing, Inline, Block, Row, behind_indent, content_text, dashes_text, mark_text, parent_indent, print_row}
-use Rattle.yq_rows.specs.View.{content_cut}
-use Rattle.yq_rows.proofs.NothingLaws.{some_behind}
-use Rattle.yq_rows.proofs.PlaceLaws.{row_front-append}
-use Rattle.yq_rows.proofs.RowAgain.{row_starts}
-use Rattle.yq_rows.proofs.SliceLaws.{content_slices}
-use Rattle.yq_rows.proofs.seams.ScalarSeams.{last_no_space}
+use Rattle.yq_block_scalars.proofs.BlockPieceLaws.{IsLf, append_lf, line_lf, raw_lf}
+use Rattle.yq_nodes.specs.Nodes as nodes
+use Rattle.yq_nodes.specs.Nodes.{Node, empty, alias, scalar, coll, anchored, in_name, is_close, items_text, node_text, open_of, IsNode}
+use Rattle.yq_nodes.specs.Scalars.{IsInQuotes}
+use Rattle.yq_nodes.proofs.WrittenLaws.{node_append}
+use Rattle.yq_cut.specs.Exchange.{row_front}
+use Rattle.yq_cut.specs.Gap.{IsWhite}
+use Rattle.yq_cut.specs.Grammar.{IsContent, IsKey, IsMark, IsRow, Limit, is_entry}
+use Rattle.yq_cut.specs.Rows as rows
+use Rattle.yq_cut.specs.Rows.{Content, Nothing, Inline, Block, Row, behind_indent, content_text, dashes_text, mark_text, parent_indent, print_row}
+use Rattle.yq_cut.specs.View.{content_cut}
+use Rattle.yq_cut.proofs.NothingLaws.{some_behind}
+use Rattle.yq_cut.proofs.PlaceLaws.{row_front-append}
+use Rattle.yq_cut.proofs.RowAgain.{row_starts}
+use Rattle.yq_cut.proofs.SliceLaws.{content_slices}
+use Rattle.yq_cut.proofs.seams.ScalarSeams.{last_no_space}
 use Rattle.yq_places.specs.CollectionEnds.{is_broken}
-use Rattle.yq_walk.specs.Lines.{mark_of}
+use Rattle.yq_row_lines.specs.Lines.{mark_of}
 use Rattle.yq_lines.specs.Positions.{is_bare}
 use Rattle.yq_places.specs.Standings.{is_alone}
 use Rattle.yq_places.specs.PrintedLines.{end_break, last_break, less_break}

@@ -16,12 +16,12 @@ use Rattle.yq_flow_scalars.specs.Shapes.{IsTree, AreTrees, AreEntries, IsNew}
 use Rattle.yq_flow_scalars.specs.Tree as tree
 use Rattle.yq_flow_scalars.specs.Tree.{Node, Children}
 use Rattle.yq_flow_scalars.specs.declared.style.Place.TheVariants.{FlowKey}
-use Rattle.yq_inline.specs.Inline.{depth_limit}
+use Rattle.yq_nodes.specs.Inline.{depth_limit}
 use Rattle.yq_flow.specs.Valued.{IsLabel, IsValueTree, AreValueTrees}
-use Rattle.yq_inline.specs.Written.{scalar_text}
+use Rattle.yq_nodes.specs.Written.{scalar_text}
 use Rattle.yq_flow_scalars.specs.Anchors.{Name, Anchors, Refers, names_of, names_in, IsAmong}
-use Rattle.yq_rows.specs.Grammar.{key_limit}
-use Rattle.yq_rows.specs.Rows.{Part, Cut, cut_text}
+use Rattle.yq_cut.specs.Grammar.{key_limit}
+use Rattle.yq_cut.specs.Rows.{Part, Cut, cut_text}
 use Rattle.yq_documents.specs.Documents.{Document, document_parts}
 use Rattle.yq_documents.specs.Reading as reading
 use Rattle.yq_documents.specs.Reading.{documents, root_of}

@@ -11,8 +11,8 @@ use Rattle.yq_flow_scalars.specs.Writable.{can_write_plain}
 use Rattle.yq_flow_scalars.specs.Written.{written}
 use Rattle.yq_flow_scalars.specs.declared.kind.Kind.TheVariants as kinds
 use Rattle.yq_flow_scalars.specs.declared.style.Style.TheVariants as styles
-use Rattle.yq_scalar.proofs.PlainSpells.{writable_text}
-use Rattle.yq_inline.specs.Written.{scalar_text, flow_key, flow_of, flow_items}
+use Rattle.yq_block_scalars.proofs.PlainSpells.{writable_text}
+use Rattle.yq_nodes.specs.Written.{scalar_text, flow_key, flow_of, flow_items}
 use Rattle.yq_documents.specs.Documents.{HasFitKey, HasFitKeys, EachHasFitKeys}
 use Rattle.yq_meaning.specs.Changes.{is_long, has_long_key, have_long_key}
 

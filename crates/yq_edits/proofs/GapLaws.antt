@@ -1,13 +1,13 @@
 -- Rows of a document taken out, and the gap behind them exchanged: the item that begins with that goes with them.
 use Rattle.std.proofs.Common.{◌≡◌, ℕ, ◌+◌, ◌≤◌, List, [], ◌∷◌, ◌++◌, length, refl, sym, ap, ◌∙◌, append_assoc, arith}
 use Rattle.std.proofs.lemmas.List.{length-append}
-use Rattle.yq_rows.specs.Items.{Item, end_item, rows_items, items_text}
-use Rattle.yq_rows.specs.ItemSplices.{first_item}
-use Rattle.yq_rows.specs.Rows.{Row, print_row, behind_gap, rows_text, Part, part_text, Cut, cut_text}
-use Rattle.yq_rows.specs.Splices.{with_row_gap, first_gap, with_first_gap, end_gap, behind_first}
-use Rattle.yq_rows.specs.Touched.{item_text}
-use Rattle.yq_rows.proofs.KeptLaws.{items_apart}
-use Rattle.yq_rows.proofs.PlaceLaws.{row_then}
+use Rattle.yq_cut.specs.Items.{Item, end_item, rows_items, items_text}
+use Rattle.yq_cut.specs.ItemSplices.{first_item}
+use Rattle.yq_cut.specs.Rows.{Row, print_row, behind_gap, rows_text, Part, part_text, Cut, cut_text}
+use Rattle.yq_cut.specs.Splices.{with_row_gap, first_gap, with_first_gap, end_gap, behind_first}
+use Rattle.yq_cut.specs.Touched.{item_text}
+use Rattle.yq_cut.proofs.KeptLaws.{items_apart}
+use Rattle.yq_cut.proofs.PlaceLaws.{row_then}
 use Rattle.yq_change.specs.Changed.{put_document}
 use Rattle.yq_change.specs.DocumentRows.{behind_document, put_rows}
 use Rattle.yq_change.proofs.DocumentItemLaws.{rows_before, rows_spell}

@@ -6,26 +6,26 @@ use Rattle.std.proofs.lemmas.List.{map-append}
 use Rattle.std.proofs.lemmas.Option.{same_Some}
 use Rattle.std.proofs.lemmas.Str.{IsUtf8-take}
 use Rattle.std.specs.Str.{IsUtf8}
-use Rattle.yq_scalar.specs.BlockWritten.{break_text}
+use Rattle.yq_block_scalars.specs.BlockWritten.{break_text}
 use Rattle.yq_flow_scalars.specs.Characters.{text_limit}
 use Rattle.yq_flow_scalars.specs.Paths.{Step, change, relabel_child, within}
 use Rattle.yq_flow_scalars.specs.Text.{front, is_feed, past_white, joined, lines_of}
 use Rattle.yq_flow_scalars.specs.Text as text
-use Rattle.yq_scalar.specs.declared.block_written.Break.{Break}
+use Rattle.yq_block_scalars.specs.declared.block_types.Break.{Break}
 use Rattle.yq_flow_scalars.proofs.Bools.{guard_then}
 use Rattle.yq_lines.specs.Comments.{are_comments}
 use Rattle.yq_lines.specs.Group.{group}
-use Rattle.yq_rows.specs.Grammar.{IsCut}
-use Rattle.yq_rows.specs.Rows.{Row, behind_gap, behind_indent, print_row, rows_text, Part, part_text, Cut, cut_text}
-use Rattle.yq_rows.specs.Splices.{with_row_gap}
-use Rattle.yq_rows.proofs.Fronts.{Starts}
-use Rattle.yq_rows.proofs.PlaceLaws.{row_then}
-use Rattle.yq_rows.proofs.NodePieces.{before_ascii}
-use Rattle.yq_rows.proofs.RowAgain.{row_starts}
+use Rattle.yq_cut.specs.Grammar.{IsCut}
+use Rattle.yq_cut.specs.Rows.{Row, behind_gap, behind_indent, print_row, rows_text, Part, part_text, Cut, cut_text}
+use Rattle.yq_cut.specs.Splices.{with_row_gap}
+use Rattle.yq_cut.proofs.Fronts.{Starts}
+use Rattle.yq_cut.proofs.PlaceLaws.{row_then}
+use Rattle.yq_cut.proofs.NodePieces.{before_ascii}
+use Rattle.yq_cut.proofs.RowAgain.{row_starts}
 use Rattle.yq_places.specs.CommentPlaces.{LinesAbove, above_row}
 use Rattle.yq_places.specs.FirstBreak.{first_break}
 use Rattle.yq_documents.specs.Documents.{lead_of}
-use Rattle.yq_walk.specs.Lines as lines
+use Rattle.yq_row_lines.specs.Lines as lines
 use Rattle.yq_documents.specs.Pieces.{before_run, last_run}
 use Rattle.yq_places.specs.PlacedRows.{PlacedRow, placed_row}
 use Rattle.yq_documents.specs.Reading.{read_at, root_of}
@@ -53,8 +53,8 @@ use Rattle.yq_meaning.specs.Changes.{is_comment}
 use Rattle.yq_meaning.specs.Meaning.{head_of}
 use Rattle.yq_meaning.specs.Operations.{head_comment}
 use Rattle.yq_program.specs.declared.program.CommentPlace.TheVariants as comments
-use Rattle.yq_rows.proofs.NodeExchange.{starts_no_feed}
-use Rattle.yq_rows.proofs.splices.ContentPlaces.{count_front}
+use Rattle.yq_cut.proofs.NodeExchange.{starts_no_feed}
+use Rattle.yq_cut.proofs.splices.ContentPlaces.{count_front}
 use Rattle.yq_script.specs.Script.{Segment, old_text, new_text}
 use Rattle.yq_edits.specs.CommentEdits.{above_rows}
 use Rattle.yq_edits.specs.CommentEdits.{head_lines, head_comment_segments}

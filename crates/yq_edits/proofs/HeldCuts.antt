@@ -6,23 +6,23 @@ use Rattle.std.proofs.lemmas.Str.{IsUtf8-take}
 use Rattle.std.specs.Str.{IsUtf8}
 use Rattle.yq_flow_scalars.specs.Text.{front, is_empty, is_feed, is_return, is_white, no_white, unless, NoneIn}
 use Rattle.yq_flow_scalars.proofs.Bools.{at_byte}
-use Rattle.yq_inline.specs.Nodes as inline
-use Rattle.yq_inline.specs.Nodes.{in_name, node_text, IsLead, IsName, IsNode}
-use Rattle.yq_inline.proofs.WrittenLaws.{node_then}
-use Rattle.yq_rows.specs.Gap.{IsWhite}
-use Rattle.yq_rows.specs.Grammar.{IsContent, IsMark, is_entry}
-use Rattle.yq_rows.specs.Rows as rows
-use Rattle.yq_rows.specs.Rows.{Content, Nothing, Inline, Block, dashes_text, mark_text}
-use Rattle.yq_rows.specs.View.{Slices, content_cut}
-use Rattle.yq_rows.proofs.NodePieces.{BeginsAscii, before_ascii, behind_ascii}
-use Rattle.yq_rows.proofs.seams.ScalarSeams.{ends_return}
+use Rattle.yq_nodes.specs.Nodes as inline
+use Rattle.yq_nodes.specs.Nodes.{in_name, node_text, IsLead, IsName, IsNode}
+use Rattle.yq_nodes.proofs.WrittenLaws.{node_then}
+use Rattle.yq_cut.specs.Gap.{IsWhite}
+use Rattle.yq_cut.specs.Grammar.{IsContent, IsMark, is_entry}
+use Rattle.yq_cut.specs.Rows as rows
+use Rattle.yq_cut.specs.Rows.{Content, Nothing, Inline, Block, dashes_text, mark_text}
+use Rattle.yq_cut.specs.View.{Slices, content_cut}
+use Rattle.yq_cut.proofs.NodePieces.{BeginsAscii, before_ascii, behind_ascii}
+use Rattle.yq_cut.proofs.seams.ScalarSeams.{ends_return}
 use Rattle.yq_places.specs.PrintedLines.{is_last_break, less_break, last_break}
 use Rattle.yq_places.specs.RowPieces.{anchor_before, space_before}
 use Rattle.yq_places.proofs.PrintedTexts.{less_is}
 use Rattle.yq_change.specs.TextPieces.{IsPiece}
 use Rattle.yq_change.proofs.LineFrontLaws.{clean_cut, ends_more}
 use Rattle.yq_change.proofs.TextPieceLaws.{byte_cut}
-use Rattle.yq_scalar.specs.declared.block_written.Break.TheVariants.{Lf, CrLf}
+use Rattle.yq_block_scalars.specs.declared.block_types.Break.TheVariants.{Lf, CrLf}
 use Rattle.yq_edits.proofs.BreakLaws.{IsLfOrCrLf, last_is}
 use Rattle.yq_edits.proofs.CommentPieceLaws.{nothing, break_piece}
 

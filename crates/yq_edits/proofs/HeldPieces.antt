@@ -3,12 +3,12 @@ use Rattle.std.proofs.Common.{inl, inr, ◌≡◌, ◌⊎◌, ℕ, false, cond, 
 use Rattle.std.proofs.lemmas.Bool.{false≢true}
 use Rattle.yq_flow_scalars.specs.Paths.{Step}
 use Rattle.yq_flow_scalars.specs.Text.{is_empty}
-use Rattle.yq_scalar.proofs.BlockPieceLaws.{IsLf}
-use Rattle.yq_rows.specs.Exchange.{asked_behind, row_front}
-use Rattle.yq_rows.specs.Gap.{IsBreak}
-use Rattle.yq_rows.specs.Grammar.{IsRow, IsTail, unlimited}
-use Rattle.yq_rows.specs.Rows.{Cut, cut_text, mark_text, parent_indent, rows_text}
-use Rattle.yq_rows.specs.View.{Slices, slices}
+use Rattle.yq_block_scalars.proofs.BlockPieceLaws.{IsLf}
+use Rattle.yq_cut.specs.Exchange.{asked_behind, row_front}
+use Rattle.yq_cut.specs.Gap.{IsBreak}
+use Rattle.yq_cut.specs.Grammar.{IsRow, IsTail, unlimited}
+use Rattle.yq_cut.specs.Rows.{Cut, cut_text, mark_text, parent_indent, rows_text}
+use Rattle.yq_cut.specs.View.{Slices, slices}
 use Rattle.yq_documents.specs.Reading.{read_at}
 use Rattle.yq_places.specs.CommentPlaces.{LineEnd, end_before, line_text}
 use Rattle.yq_places.specs.PrintedLines.{last_break, less_break}

@@ -4,11 +4,11 @@ use Rattle.std.proofs.lemmas.Bool.{or_parts}
 use Rattle.yq_flow_scalars.specs.Paths.{Step}
 use Rattle.yq_flow_scalars.specs.Text.{NoneIn, ends_line, front, is_empty, is_feed, is_return, is_white}
 use Rattle.yq_flow_scalars.proofs.Bools.{at_byte}
-use Rattle.yq_rows.specs.Exchange.{asked_behind}
-use Rattle.yq_rows.specs.Gap.{IsComment, IsWhite}
-use Rattle.yq_rows.specs.Grammar.{IsRow, IsTail, unlimited}
-use Rattle.yq_rows.specs.Rows.{Cut, cut_text, parent_indent, rows_text}
-use Rattle.yq_rows.specs.View.{slices}
+use Rattle.yq_cut.specs.Exchange.{asked_behind}
+use Rattle.yq_cut.specs.Gap.{IsComment, IsWhite}
+use Rattle.yq_cut.specs.Grammar.{IsRow, IsTail, unlimited}
+use Rattle.yq_cut.specs.Rows.{Cut, cut_text, parent_indent, rows_text}
+use Rattle.yq_cut.specs.View.{slices}
 use Rattle.yq_documents.specs.Reading.{read_at}
 use Rattle.yq_places.specs.CommentPlaces.{LineEnd, end_before}
 use Rattle.yq_places.specs.PrintedLines.{last_break}

@@ -4,13 +4,13 @@ use mathlib.Core.List.{head-eq_of_cons-eq, tail-eq_of_cons-eq}
 use Rattle.std.proofs.lemmas.Bool.{false≢true, ltb-false}
 use Rattle.std.proofs.lemmas.List.{length-append}
 use Rattle.yq_flow_scalars.specs.Text.{is_empty}
-use Rattle.yq_scalar.proofs.BlockPieceLaws.{IsLf, append_lf, line_lf}
-use Rattle.yq_rows.specs.Items.{Item, row_item, end_item, items_text, Asked, asked_by, IsPartEnd, IsItem, AreRowItems}
-use Rattle.yq_rows.specs.Touched.{item_text, in_back, in_front}
-use Rattle.yq_rows.proofs.ItemLaws.{items_text-append}
-use Rattle.yq_rows.proofs.KeptLaws.{items_apart}
-use Rattle.yq_rows.proofs.NothingLaws.{some_behind}
-use Rattle.yq_rows.proofs.seams.MarkerSeams.{marker_line_is}
+use Rattle.yq_block_scalars.proofs.BlockPieceLaws.{IsLf, append_lf, line_lf}
+use Rattle.yq_cut.specs.Items.{Item, row_item, end_item, items_text, Asked, asked_by, IsPartEnd, IsItem, AreRowItems}
+use Rattle.yq_cut.specs.Touched.{item_text, in_back, in_front}
+use Rattle.yq_cut.proofs.ItemLaws.{items_text-append}
+use Rattle.yq_cut.proofs.KeptLaws.{items_apart}
+use Rattle.yq_cut.proofs.NothingLaws.{some_behind}
+use Rattle.yq_cut.proofs.seams.MarkerSeams.{marker_line_is}
 use Rattle.yq_places.proofs.CommentPieceLaws.{Ended}
 use Rattle.yq_change.proofs.EndedRowLaws.{row_ended}
 use Rattle.yq_edits.proofs.ItemsLocal.{item_apart}

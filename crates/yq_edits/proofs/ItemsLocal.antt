@@ -1,12 +1,12 @@
 -- Items of a cut, exchanged for others: the bytes of those that are kept in part.
 use Rattle.std.proofs.Common.{◌≡◌, ℕ, ◌≤◌, List, [], ◌∷◌, ◌++◌, length, false, refl, sym, ap, ◌∙◌, subst, append_assoc, arith}
 use Rattle.std.proofs.lemmas.List.{append_cancel_left, append_cancel_right, length-append}
-use Rattle.yq_rows.specs.Items.{Item, row_item, end_item, rows_items, items_of, items_text}
-use Rattle.yq_rows.specs.Rows.{Row, Cut, cut_text}
-use Rattle.yq_rows.specs.Touched.{item_text}
-use Rattle.yq_rows.proofs.ItemLaws.{items_of_text, items_text-append}
-use Rattle.yq_rows.proofs.KeptLaws.{items_apart}
-use Rattle.yq_rows.proofs.PlaceLaws.{row_then}
+use Rattle.yq_cut.specs.Items.{Item, row_item, end_item, rows_items, items_of, items_text}
+use Rattle.yq_cut.specs.Rows.{Row, Cut, cut_text}
+use Rattle.yq_cut.specs.Touched.{item_text}
+use Rattle.yq_cut.proofs.ItemLaws.{items_of_text, items_text-append}
+use Rattle.yq_cut.proofs.KeptLaws.{items_apart}
+use Rattle.yq_cut.proofs.PlaceLaws.{row_then}
 use Rattle.yq_change.proofs.DocumentItemLaws.{rows_before}
 use Rattle.yq_script.specs.Script.{Segment, old_text, new_text, are_kept, kept_front, kept_back}
 use Rattle.yq_edits.specs.Local.{InFirst, InLast, IsLocal}

@@ -9,7 +9,7 @@ use Rattle.yq_flow_scalars.specs.Tree as tree
 use Rattle.yq_flow_scalars.specs.Tree.{Node}
 use Rattle.yq_flow.specs.Valued.{IsValueTree}
 use Rattle.yq_lines.specs.Outline.{first_anchor}
-use Rattle.yq_rows.specs.Rows.{Part, Cut, cut_text}
+use Rattle.yq_cut.specs.Rows.{Part, Cut, cut_text}
 use Rattle.yq_documents.specs.Documents.{Document, document_parts, lead_of}
 use Rattle.yq_documents.specs.Reading as reading
 use Rattle.yq_documents.specs.Reading.{documents, read_at, root_of}

@@ -4,16 +4,16 @@ use mathlib.Core.List.{tail-eq_of_cons-eq}
 use Rattle.std.proofs.lemmas.Bool.{false≢true, leb-true, leb-false}
 use Rattle.std.proofs.lemmas.List.{length-append}
 use Rattle.yq_flow_scalars.specs.Text.{is_empty}
-use Rattle.yq_scalar.proofs.BlockPieceLaws.{IsLf}
+use Rattle.yq_block_scalars.proofs.BlockPieceLaws.{IsLf}
 use Rattle.yq_flow_scalars.proofs.Bools.{guard_then}
-use Rattle.yq_rows.specs.Grammar.{Limit, limit_after, IsRow}
-use Rattle.yq_rows.specs.Items.{Item, row_item, rows_items, items_of, items_text, Asked, nothing_asked, asked_by, asked_of, AreRowItems}
-use Rattle.yq_rows.specs.Rows.{Row, print_row, behind_gap, rows_text, Part, Cut, cut_text}
-use Rattle.yq_rows.specs.Splices.{with_row_gap}
-use Rattle.yq_rows.proofs.ItemLaws.{items_joined, parts_are_items}
-use Rattle.yq_rows.proofs.PlaceLaws.{row_then}
-use Rattle.yq_rows.proofs.RowLaws.{row_longer}
-use Rattle.yq_rows.proofs.seams.FrontSeams.{row_some}
+use Rattle.yq_cut.specs.Grammar.{Limit, limit_after, IsRow}
+use Rattle.yq_cut.specs.Items.{Item, row_item, rows_items, items_of, items_text, Asked, nothing_asked, asked_by, asked_of, AreRowItems}
+use Rattle.yq_cut.specs.Rows.{Row, print_row, behind_gap, rows_text, Part, Cut, cut_text}
+use Rattle.yq_cut.specs.Splices.{with_row_gap}
+use Rattle.yq_cut.proofs.ItemLaws.{items_joined, parts_are_items}
+use Rattle.yq_cut.proofs.PlaceLaws.{row_then}
+use Rattle.yq_cut.proofs.RowLaws.{row_longer}
+use Rattle.yq_cut.proofs.seams.FrontSeams.{row_some}
 use Rattle.yq_documents.specs.Reading.{read_at}
 use Rattle.yq_places.proofs.CommentPieceLaws.{Ended}
 use Rattle.yq_places.proofs.ReadLaws.{text_takes}

@@ -3,14 +3,14 @@ use Rattle.std.proofs.Common.{◌≡◌, ℕ, ◌+◌, ◌*◌, ◌-◌, ◌<◌
 use Rattle.std.proofs.lemmas.Bool.{false≢true, ltb-true, and_parts}
 use Rattle.std.specs.Prelude.{nat_lt}
 use Rattle.std.specs.List.{slice_get}
-use Rattle.yq_scalar.specs.BlockWritten.{break_text}
+use Rattle.yq_block_scalars.specs.BlockWritten.{break_text}
 use Rattle.yq_flow_scalars.specs.Text.{is_empty}
 use Rattle.yq_flow_scalars.specs.Tree.{Node}
-use Rattle.yq_inline.specs.Nodes as inline
+use Rattle.yq_nodes.specs.Nodes as inline
 use Rattle.yq_lines.specs.Outline.{Mark, Bare, Key, Dash, Line, level, rank}
-use Rattle.yq_rows.specs.Rows.{Part, Cut}
+use Rattle.yq_cut.specs.Rows.{Part, Cut}
 use Rattle.yq_documents.specs.Documents.{document_parts}
-use Rattle.yq_walk.specs.Lines.{lines_of}
+use Rattle.yq_row_lines.specs.Lines.{lines_of}
 use Rattle.yq_places.specs.Steps.{is_key, is_kind, begins_under, first_step, steps_of_part}
 use Rattle.yq_block.specs.Alone.{alone}
 use Rattle.std.specs.Option.{is_none}

@@ -8,11 +8,11 @@ use Rattle.yq_flow_scalars.specs.Characters.{text_limit}
 use Rattle.yq_flow_scalars.specs.Paths.{Step, change, relabel_child, within}
 use Rattle.yq_flow_scalars.specs.Text.{is_empty}
 use Rattle.yq_flow_scalars.proofs.Bools.{guard_then}
-use Rattle.yq_rows.specs.Gap.{IsBreak}
-use Rattle.yq_rows.specs.Grammar.{IsTail, no_rows}
-use Rattle.yq_rows.specs.Rows.{Row, parent_indent, print_row, rows_text, Part, Cut, cut_text, part_text}
-use Rattle.yq_rows.specs.View.{slices}
-use Rattle.yq_rows.proofs.splices.SpliceTexts.{own_gap, own_end}
+use Rattle.yq_cut.specs.Gap.{IsBreak}
+use Rattle.yq_cut.specs.Grammar.{IsTail, no_rows}
+use Rattle.yq_cut.specs.Rows.{Row, parent_indent, print_row, rows_text, Part, Cut, cut_text, part_text}
+use Rattle.yq_cut.specs.View.{slices}
+use Rattle.yq_cut.proofs.splices.SpliceTexts.{own_gap, own_end}
 use Rattle.yq_places.specs.CommentPlaces.{LineEnd, end_before, line_text, end_of_line}
 use Rattle.yq_documents.specs.Documents.{lead_of}
 use Rattle.yq_documents.specs.LinesInRows.{row_line_of}
@@ -38,7 +38,7 @@ use Rattle.yq_meaning.specs.Changes.{is_comment}
 use Rattle.yq_meaning.specs.Meaning.{line_of}
 use Rattle.yq_meaning.specs.Operations.{line_comment}
 use Rattle.yq_program.specs.declared.program.CommentPlace.TheVariants as comments
-use Rattle.yq_rows.proofs.splices.ContentPlaces.{count_front}
+use Rattle.yq_cut.proofs.splices.ContentPlaces.{count_front}
 use Rattle.yq_script.specs.Script.{Segment, keep, put, old_text, new_text, are_kept, kept_front, kept_back}
 use Rattle.yq_edits.specs.CommentEdits.{comment_put, comment_written}
 use Rattle.yq_edits.specs.EditLaws.{CarriedOut, IsEdit, LineCommentIsPut}

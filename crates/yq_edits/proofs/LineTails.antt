@@ -2,17 +2,17 @@
 use Rattle.std.proofs.Common.{◌≡◌, ◌⊎◌, inl, inr, ⊎_elim, ℕ, Bool, true, false, ◌&&◌, ◌||◌, not, cond, eqb, List, [], ◌∷◌, ◌++◌, map, drop, Some, None, refl, sym, ap, ◌∙◌, subst, append_assoc, append-nil}
 use Rattle.std.proofs.lemmas.Bool.{false≢true, eqb-true, and_parts, cases_Bool, not-true}
 use Rattle.std.proofs.lemmas.List.{map-append}
-use Rattle.yq_scalar.specs.Block.{is_tail}
+use Rattle.yq_block_scalars.specs.Block.{is_tail}
 use Rattle.yq_flow_scalars.specs.Lines.{is_blank, is_hash}
 use Rattle.yq_flow_scalars.specs.Text.{front, is_white, is_line, is_empty, ends_line, no_white, past_white}
 use Rattle.yq_lines.specs.Comments.{line_comment as comment_in, head_comment as head_in}
-use Rattle.yq_rows.specs.Exchange.{with_content}
-use Rattle.yq_rows.specs.Gap.{IsWhite, IsBreak, IsComment}
-use Rattle.yq_rows.specs.Grammar.{IsTail, IsContent}
-use Rattle.yq_rows.specs.Rows.{Content, Nothing, Inline, Block, Row, print_row, Part}
-use Rattle.yq_rows.specs.Splices.{first_gap}
-use Rattle.yq_rows.specs.View.{content_cut, slices}
-use Rattle.yq_rows.proofs.LineEnds.{white_none, text_line, white_again, behind_comment}
+use Rattle.yq_cut.specs.Exchange.{with_content}
+use Rattle.yq_cut.specs.Gap.{IsWhite, IsBreak, IsComment}
+use Rattle.yq_cut.specs.Grammar.{IsTail, IsContent}
+use Rattle.yq_cut.specs.Rows.{Content, Nothing, Inline, Block, Row, print_row, Part}
+use Rattle.yq_cut.specs.Splices.{first_gap}
+use Rattle.yq_cut.specs.View.{content_cut, slices}
+use Rattle.yq_cut.proofs.LineEnds.{white_none, text_line, white_again, behind_comment}
 use Rattle.yq_places.specs.CommentPlaces.{line_text}
 use Rattle.yq_documents.specs.Documents.{lead_of}
 use Rattle.yq_places.proofs.CommentEndLaws.{row_text_parts}
@@ -43,7 +43,7 @@ some_more : (w : List ℕ) → is_empty (w ++ 32 ∷ []) ≡ false
 some_more [] = refl
 some_more (b ∷ w) = refl
 
-module _ (text tail more : List ℕ) (h : IsTail tail more) (no_breaks : Rattle.yq_scalar.proofs.Bytes.Each Rattle.yq_scalar.proofs.WrittenText.no_break text) where
+module _ (text tail more : List ℕ) (h : IsTail tail more) (no_breaks : Rattle.yq_block_scalars.proofs.Bytes.Each Rattle.yq_block_scalars.proofs.WrittenText.no_break text) where
   abbrev white : List ℕ
   white = new_white text h.white h.comment
 
@@ -109,7 +109,7 @@ module _ (text tail more : List ℕ) (h : IsTail tail more) (no_breaks : Rattle.
           let front_end : ends_line h.line.break ≡ true = ap ends_line (sym (append-nil h.line.break)) ∙ parts.2 in
           ap (λ t. comment_in (new_white text h.white h.comment ++ (new_comment t ++ h.line.break))) e
           ∙ (comment_behind (new_white text h.white h.comment) h.line.break (32 ∷ (b ∷ u)) blank
-          ∙ comment_is (32 ∷ (b ∷ u)) h.line.break (refl, no_breaks_none (b ∷ u) h.line.break (subst (Rattle.yq_scalar.proofs.Bytes.Each Rattle.yq_scalar.proofs.WrittenText.no_break) e no_breaks)) front_end)
+          ∙ comment_is (32 ∷ (b ∷ u)) h.line.break (refl, no_breaks_none (b ∷ u) h.line.break (subst (Rattle.yq_block_scalars.proofs.Bytes.Each Rattle.yq_block_scalars.proofs.WrittenText.no_break) e no_breaks)) front_end)
 
   -- it may end a header
   hash_front : (c : List ℕ) → IsComment c h.line.break → is_empty c ≡ false → is_hash (c ++ h.line.break) ≡ true
@@ -124,10 +124,10 @@ module _ (text tail more : List ℕ) (h : IsTail tail more) (no_breaks : Rattle.
   in_header line =
       let break_line : is_line h.line.break ≡ true =
       sym (ap is_line (h.line.spelled ∙ sym (append_assoc h.white h.comment h.line.break))
-      ∙ text_line (h.white ++ h.comment) h.line.break (white_none h.white h.comment h.line.break h.line.blank (Rattle.yq_rows.proofs.LineEnds.comment_none h.comment h.line.break h.line.as_comment))) ∙ line in
+      ∙ text_line (h.white ++ h.comment) h.line.break (white_none h.white h.comment h.line.break h.line.blank (Rattle.yq_cut.proofs.LineEnds.comment_none h.comment h.line.break h.line.as_comment))) ∙ line in
       let new_line : is_line tail_then ≡ true =
       ap is_line (sym (append_assoc (new_white text h.white h.comment) (new_comment text) h.line.break))
-      ∙ (text_line (new_white text h.white h.comment ++ new_comment text) h.line.break (white_none (new_white text h.white h.comment) (new_comment text) h.line.break blank (Rattle.yq_rows.proofs.LineEnds.comment_none (new_comment text) h.line.break as_comment)) ∙ break_line) in
+      ∙ (text_line (new_white text h.white h.comment ++ new_comment text) h.line.break (white_none (new_white text h.white h.comment) (new_comment text) h.line.break blank (Rattle.yq_cut.proofs.LineEnds.comment_none (new_comment text) h.line.break as_comment)) ∙ break_line) in
       let parts = behind_comment (new_comment text) h.line.break [] as_comment (alone h.line.ends) in
       let no_front : no_white (new_comment text ++ h.line.break) ≡ true = ap (λ x. no_white (new_comment text ++ x)) (sym (append-nil h.line.break)) ∙ parts.0 in
       let past : past_white tail_then ≡ new_comment text ++ h.line.break = ap (λ (x : List ℕ × List ℕ). x.1) (white_again (new_white text h.white h.comment) (new_comment text ++ h.line.break) blank no_front) in
@@ -141,7 +141,7 @@ module _ (text tail more : List ℕ) (h : IsTail tail more) (no_breaks : Rattle.
       (cases_Bool (is_empty (new_comment text)))
 
 -- a content with that end of its line
-pub line_tail_is : (n : Rattle.std.proofs.Common.ℤ) (text : List ℕ) (c : Content) (rest : List ℕ) (h : IsTail (content_cut c).4 ((content_cut c).5 ++ rest)) → IsContent n c rest → (no_breaks : Rattle.yq_scalar.proofs.Bytes.Each Rattle.yq_scalar.proofs.WrittenText.no_break text) →
+pub line_tail_is : (n : Rattle.std.proofs.Common.ℤ) (text : List ℕ) (c : Content) (rest : List ℕ) (h : IsTail (content_cut c).4 ((content_cut c).5 ++ rest)) → IsContent n c rest → (no_breaks : Rattle.yq_block_scalars.proofs.Bytes.Each Rattle.yq_block_scalars.proofs.WrittenText.no_break text) →
     IsLineTail (tail_then text (content_cut c).4 ((content_cut c).5 ++ rest) h no_breaks) c rest
 line_tail_is n text (Nothing tail) rest h k no_breaks = new_tail text tail rest h no_breaks
 line_tail_is n text (Inline space node tail) rest h k no_breaks = new_tail text tail rest h no_breaks
@@ -170,7 +170,7 @@ row_then_text r tail rest =
 pub shape_same : (r : Row) (tail : List ℕ) → row_shape (tailed tail r) ≡ row_shape r
 shape_same r tail = ap (λ (h : Bool). record { column = r.column; dashes = r.dashes; mark = r.mark; headed = h }) (go r.content)
   where
-    go : (c : Content) → Rattle.std.specs.Option.is_some (Rattle.yq_walk.specs.Lines.head_of (with_line_tail tail c)) ≡ Rattle.std.specs.Option.is_some (Rattle.yq_walk.specs.Lines.head_of c)
+    go : (c : Content) → Rattle.std.specs.Option.is_some (Rattle.yq_row_lines.specs.Lines.head_of (with_line_tail tail c)) ≡ Rattle.std.specs.Option.is_some (Rattle.yq_row_lines.specs.Lines.head_of c)
     go (Nothing e) = refl
     go (Inline space node e) = refl
     go (Block space anchor block) = refl

@@ -4,10 +4,10 @@ use mathlib.Core.List.{head-eq_of_cons-eq, tail-eq_of_cons-eq}
 use Rattle.std.proofs.lemmas.List.{append_cancel_right, length-append}
 use Rattle.std.proofs.lemmas.Option.{same_Some}
 use Rattle.std.specs.List.{slice_get}
-use Rattle.yq_rows.specs.Items.{Item, row_item, end_item, rows_items, items_text}
-use Rattle.yq_rows.specs.Rows.{Row, rows_text, Part, part_text, Cut, cut_text}
-use Rattle.yq_rows.proofs.ItemLaws.{items_of_text, items_text-append}
-use Rattle.yq_rows.proofs.KeptLaws.{items_apart}
+use Rattle.yq_cut.specs.Items.{Item, row_item, end_item, rows_items, items_text}
+use Rattle.yq_cut.specs.Rows.{Row, rows_text, Part, part_text, Cut, cut_text}
+use Rattle.yq_cut.proofs.ItemLaws.{items_of_text, items_text-append}
+use Rattle.yq_cut.proofs.KeptLaws.{items_apart}
 use Rattle.yq_documents.specs.Documents.{document_parts}
 use Rattle.yq_documents.specs.Reading.{read_at}
 use Rattle.yq_places.proofs.RunSpans.{rows_then}

@@ -5,11 +5,11 @@ use Rattle.std.proofs.lemmas.Option.{none-some, same_Some}
 use Rattle.yq_flow_scalars.specs.Paths.{Step}
 use Rattle.yq_flow_scalars.specs.Text.{is_empty}
 use Rattle.yq_flow_scalars.specs.Tree.{Node}
-use Rattle.yq_rows.specs.Exchange.{row_front}
-use Rattle.yq_rows.specs.Grammar.{AreDashes, AreRows, IsRow, Limit, unlimited}
-use Rattle.yq_rows.specs.Rows.{Content, Nothing, Inline, Block, Cut, Row, behind_dashes, behind_indent, cut_text, dashes_text, part_text, print_row, rows_text}
-use Rattle.yq_rows.specs.View.{content_cut, slices}
-use Rattle.yq_rows.proofs.NothingLaws.{some_behind}
+use Rattle.yq_cut.specs.Exchange.{row_front}
+use Rattle.yq_cut.specs.Grammar.{AreDashes, AreRows, IsRow, Limit, unlimited}
+use Rattle.yq_cut.specs.Rows.{Content, Nothing, Inline, Block, Cut, Row, behind_dashes, behind_indent, cut_text, dashes_text, part_text, print_row, rows_text}
+use Rattle.yq_cut.specs.View.{content_cut, slices}
+use Rattle.yq_cut.proofs.NothingLaws.{some_behind}
 use Rattle.yq_documents.specs.Reading.{read_at}
 use Rattle.yq_meaning.specs.Operations.{append}
 use Rattle.yq_script.specs.Script.{Segment}

@@ -1,11 +1,11 @@
 -- One item or entry more at the end of a block collection: the segments that put it there, and what they come to.
 use Rattle.std.proofs.Common.{inl, ◌≡◌, ℕ, ◌≤◌, Bool, true, false, List, [], ◌++◌, length, Option, Some, refl, sym, ap, ◌∙◌, subst, append_assoc, append-nil}
 use Rattle.std.proofs.lemmas.Option.{same_Some}
-use Rattle.yq_scalar.specs.BlockWritten.{break_text}
+use Rattle.yq_block_scalars.specs.BlockWritten.{break_text}
 use Rattle.yq_flow_scalars.specs.Characters.{text_limit}
 use Rattle.yq_flow_scalars.specs.Paths.{Step, node_at}
 use Rattle.yq_flow_scalars.specs.Tree.{Node}
-use Rattle.yq_rows.specs.Rows.{Cut, cut_text}
+use Rattle.yq_cut.specs.Rows.{Cut, cut_text}
 use Rattle.yq_documents.specs.Documents.{Document, document_parts}
 use Rattle.yq_documents.specs.Reading as reading
 use Rattle.yq_documents.specs.Reading.{documents, read_at}

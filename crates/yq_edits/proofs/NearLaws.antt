@@ -4,7 +4,7 @@ use Rattle.std.specs.Prelude.{⊤}
 use Rattle.std.proofs.lemmas.Option.{none-some, same_Some}
 use Rattle.std.specs.Option.{option_or}
 use Rattle.yq_flow_scalars.specs.Answers.{◌>>=◌}
-use Rattle.yq_scalar.specs.BlockWritten.{break_text}
+use Rattle.yq_block_scalars.specs.BlockWritten.{break_text}
 use Rattle.yq_flow_scalars.specs.Characters.{text_limit}
 use Rattle.yq_flow_scalars.specs.Paths.{Step}
 use Rattle.yq_flow_scalars.specs.Scalar.{ScalarText}
@@ -15,10 +15,10 @@ use Rattle.yq_flow_scalars.specs.Written.{double}
 use Rattle.yq_flow_scalars.specs.declared.style.Place.TheVariants.{Block as InBlock}
 use Rattle.yq_flow_scalars.specs.declared.style.Style.TheVariants.{Literal}
 use Rattle.yq_flow_scalars.proofs.Bools.{bind_some}
-use Rattle.yq_inline.specs.Collections.{CollPieces}
-use Rattle.yq_inline.specs.Written.{flow_key, flow_of}
-use Rattle.yq_rows.specs.Rows.{Content, Nothing, Inline, Block, Cut, Row, cut_text}
-use Rattle.yq_rows.specs.View.{slices}
+use Rattle.yq_nodes.specs.Collections.{CollPieces}
+use Rattle.yq_nodes.specs.Written.{flow_key, flow_of}
+use Rattle.yq_cut.specs.Rows.{Content, Nothing, Inline, Block, Cut, Row, cut_text}
+use Rattle.yq_cut.specs.View.{slices}
 use Rattle.yq_documents.specs.Reading.{documents, read_at}
 use Rattle.yq_flow.specs.FlowEdits.{FlowEdit, appending}
 use Rattle.yq_flow.specs.Removals.{removing}

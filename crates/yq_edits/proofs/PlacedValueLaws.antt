@@ -1,10 +1,10 @@
 -- What is put where something stands asks for no more than it writes.
 use Rattle.std.proofs.Common.{◌≡◌, ℕ, Bool, true, false, cond, List, [], ◌∷◌, Some, option_map, refl, sym, ap, ◌∙◌}
-use Rattle.yq_scalar.specs.BlockWritten.{break_text}
+use Rattle.yq_block_scalars.specs.BlockWritten.{break_text}
 use Rattle.yq_flow_scalars.specs.Paths.{Step}
 use Rattle.yq_flow_scalars.specs.Tree.{Node}
 use Rattle.yq_flow_scalars.specs.declared.style.Place.TheVariants.{Block as InBlock}
-use Rattle.yq_rows.specs.Rows.{Cut}
+use Rattle.yq_cut.specs.Rows.{Cut}
 use Rattle.yq_places.specs.NodesAt.{node_in, scalar_in}
 use Rattle.yq_places.specs.Standings.{Mark, Standing, alone, beside, under, compact, block, root, no_rows, standing_at}
 use Rattle.yq_block.specs.BlockReading.{is_filled}

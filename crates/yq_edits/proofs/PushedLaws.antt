@@ -1,10 +1,10 @@
 -- Segments added to others.
 use Rattle.std.proofs.Common.{◌≡◌, ℕ, true, false, List, [], ◌∷◌, ◌++◌, refl, sym, ap, ◌∙◌, append_assoc, append-nil}
-use Rattle.yq_scalar.specs.Block.{Lines}
-use Rattle.yq_scalar.specs.BlockRepair.{is_short}
+use Rattle.yq_block_scalars.specs.Block.{Lines}
+use Rattle.yq_block_scalars.specs.BlockRepair.{is_short}
 use Rattle.yq_flow_scalars.specs.Lines.{is_blank}
 use Rattle.yq_flow_scalars.specs.Text.{joined, lines_of}
-use Rattle.yq_scalar.proofs.LineLaws.{joined_lines}
+use Rattle.yq_block_scalars.proofs.LineLaws.{joined_lines}
 use Rattle.yq_places.specs.RemovalPlaces.{Seam}
 use Rattle.yq_script.specs.Script.{Segment, keep}
 use Rattle.yq_edits.specs.Removing.{indented, blank_mended, comment_mended, lines_mended}

@@ -3,8 +3,8 @@ use Rattle.std.proofs.Common.{◌≡◌, ◌⊎◌, inl, inr, ℕ, ◌+◌, ◌<
 use Rattle.std.proofs.lemmas.Bool.{cases_lt, false≢true}
 use Rattle.std.proofs.lemmas.List.{append_cancel_left, length-append}
 use Rattle.yq_flow_scalars.specs.Text.{is_empty, is_feed}
-use Rattle.yq_scalar.proofs.BlockPieceLaws.{IsLf}
-use Rattle.yq_rows.proofs.NothingLaws.{some_behind}
+use Rattle.yq_block_scalars.proofs.BlockPieceLaws.{IsLf}
+use Rattle.yq_cut.proofs.NothingLaws.{some_behind}
 use Rattle.yq_script.specs.Script.{Segment, keep, put, are_kept, extents, from_first, kept_back, kept_front, new_text, swapped_segments}
 use Rattle.yq_script.proofs.KeptSegments.{new_kept, one_kept}
 use Rattle.yq_edits.specs.TouchedRanges.{AreInLines, IsTouched, is_one_line}

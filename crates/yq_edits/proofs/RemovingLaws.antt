@@ -3,17 +3,17 @@ use Rattle.std.proofs.Common.{inl, arith, ◌≡◌, ℕ, ◌-◌, ◌≤◌, Bo
 use Rattle.std.proofs.lemmas.List.{take-append-drop, length-append}
 use Rattle.std.proofs.lemmas.Option.{same_Some}
 use Rattle.yq_flow_scalars.specs.Answers.{◌>>=◌}
-use Rattle.yq_scalar.specs.Block.{Lines}
-use Rattle.yq_scalar.specs.BlockRepair.{is_short, is_outside, repair}
+use Rattle.yq_block_scalars.specs.Block.{Lines}
+use Rattle.yq_block_scalars.specs.BlockRepair.{is_short, is_outside, repair}
 use Rattle.yq_flow_scalars.specs.Characters.{text_limit}
 use Rattle.yq_flow_scalars.specs.Lines.{is_blank}
 use Rattle.yq_flow_scalars.specs.Paths.{Step, node_at, remove_child}
 use Rattle.yq_flow_scalars.specs.Text.{cut, no_white, past_white, upto, joined, lines_of}
 use Rattle.yq_flow_scalars.specs.Tree.{Node}
-use Rattle.yq_scalar.proofs.LineLaws.{joined_lines}
+use Rattle.yq_block_scalars.proofs.LineLaws.{joined_lines}
 use Rattle.yq_flow_scalars.specs.Anchors.{names_of}
-use Rattle.yq_rows.specs.Rows.{Row, print_row, behind_gap, Part, Cut, cut_text}
-use Rattle.yq_rows.specs.Splices.{first_gap}
+use Rattle.yq_cut.specs.Rows.{Row, print_row, behind_gap, Part, Cut, cut_text}
+use Rattle.yq_cut.specs.Splices.{first_gap}
 use Rattle.yq_documents.specs.Documents.{Document, document_parts, lead_of}
 use Rattle.yq_documents.specs.Reading.{documents, read_at, root_of}
 use Rattle.yq_places.specs.RemovalPlaces.{kept_gap, Seam, Removal, removal_place, has_several, has_others, has_others_at}

@@ -5,10 +5,10 @@ use Rattle.std.specs.Option.{option_or}
 use Rattle.yq_flow_scalars.specs.Answers.{◌>>=◌}
 use Rattle.yq_flow_scalars.specs.Text.{is_empty}
 use Rattle.yq_flow_scalars.specs.declared.style.Place.TheVariants.{Block as InBlock}
-use Rattle.yq_scalar.specs.BlockWritten.{break_text}
-use Rattle.yq_rows.specs.Rows.{Content, Nothing, Inline, Block, cut_text}
-use Rattle.yq_rows.specs.Seams.{is_block}
-use Rattle.yq_rows.specs.View.{content_cut}
+use Rattle.yq_block_scalars.specs.BlockWritten.{break_text}
+use Rattle.yq_cut.specs.Rows.{Content, Nothing, Inline, Block, cut_text}
+use Rattle.yq_cut.specs.Seams.{is_block}
+use Rattle.yq_cut.specs.View.{content_cut}
 use Rattle.yq_places.specs.NodesAt.{node_in}
 use Rattle.yq_places.specs.Standings.{RowsOfEntry, behind_mark, below, beside, compact, compact_in, entry_standing, flow_standing, held, last_step, standing_at}
 use Rattle.yq_script.specs.Script.{Segment, keep}

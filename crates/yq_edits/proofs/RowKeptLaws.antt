@@ -12,15 +12,15 @@ use Rattle.yq_flow_scalars.specs.Text.{is_empty}
 use Rattle.yq_flow_scalars.specs.Tree.{Node}
 use Rattle.yq_flow_scalars.specs.declared.kind.Kind.{Kind}
 use Rattle.yq_flow_scalars.specs.declared.kind.Kind.TheVariants as kinds
-use Rattle.yq_inline.specs.Nodes.{first_is}
-use Rattle.yq_inline.specs.Scalars.{is_quoted}
-use Rattle.yq_inline.specs.Trees.{scalar_node}
+use Rattle.yq_nodes.specs.Nodes.{first_is}
+use Rattle.yq_nodes.specs.Scalars.{is_quoted}
+use Rattle.yq_nodes.specs.Trees.{scalar_node}
 use Rattle.yq_lines.specs.Outline.{anchored}
-use Rattle.yq_rows.specs.Grammar.{IsContent}
-use Rattle.yq_rows.specs.Rows.{Content, Nothing, Inline, Block, Cut, cut_text, parent_indent, rows_text}
-use Rattle.yq_rows.specs.Seams.{is_block}
-use Rattle.yq_rows.specs.View.{content_cut}
-use Rattle.yq_walk.specs.Lines.{content_anchor, head_of}
+use Rattle.yq_cut.specs.Grammar.{IsContent}
+use Rattle.yq_cut.specs.Rows.{Content, Nothing, Inline, Block, Cut, cut_text, parent_indent, rows_text}
+use Rattle.yq_cut.specs.Seams.{is_block}
+use Rattle.yq_cut.specs.View.{content_cut}
+use Rattle.yq_row_lines.specs.Lines.{content_anchor, head_of}
 use Rattle.yq_documents.specs.Reading.{content_is_fit, cut_of, read_at}
 use Rattle.yq_documents.specs.RowReading.{head_at, is_block_head, is_short_plain}
 use Rattle.yq_documents.proofs.HeadLaws.{fitting, head_is, head_text}

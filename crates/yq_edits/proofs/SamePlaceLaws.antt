@@ -5,8 +5,8 @@ use Rattle.std.specs.List.{slice_get}
 use Rattle.std.specs.Prelude.{option_and_then}
 use Rattle.yq_flow_scalars.specs.Paths.{Step, is_here, further, child_at, change_child, change, node_at}
 use Rattle.yq_flow_scalars.specs.Tree.{Node, alias, scalar, list, map, Children, none, child}
-use Rattle.yq_rows.specs.Rows.{Part, Cut, last, marked}
-use Rattle.yq_rows.specs.Splices.{nth_part}
+use Rattle.yq_cut.specs.Rows.{Part, Cut, last, marked}
+use Rattle.yq_cut.specs.Splices.{nth_part}
 use Rattle.yq_documents.specs.Documents.{document_parts}
 use Rattle.yq_documents.specs.PartNumbers.{part_number}
 use Rattle.yq_documents.proofs.PartNumberLaws.{part_there}

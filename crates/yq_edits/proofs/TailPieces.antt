@@ -6,15 +6,15 @@ use Rattle.std.proofs.lemmas.Str.{IsUtf8-take}
 use Rattle.std.specs.Str.{IsUtf8}
 use Rattle.yq_flow_scalars.specs.Characters.{pairs_returns}
 use Rattle.yq_flow_scalars.specs.Text.{front, is_feed, is_return, ends_line, NoneIn}
-use Rattle.yq_scalar.proofs.WrittenText.{is_line_ascii}
-use Rattle.yq_rows.specs.Gap.{IsWhite}
-use Rattle.yq_rows.specs.Grammar.{IsTail, IsRow, Limit}
-use Rattle.yq_rows.specs.Rows.{print_row}
-use Rattle.yq_rows.specs.View.{slices}
-use Rattle.yq_rows.proofs.CharacterLaws.{pairs_back}
-use Rattle.yq_rows.proofs.LineEnds.{white_none}
-use Rattle.yq_rows.proofs.NodePieces.{before_ascii, tail_ascii}
-use Rattle.yq_rows.proofs.seams.ScalarSeams.{ends_return}
+use Rattle.yq_block_scalars.proofs.WrittenText.{is_line_ascii}
+use Rattle.yq_cut.specs.Gap.{IsWhite}
+use Rattle.yq_cut.specs.Grammar.{IsTail, IsRow, Limit}
+use Rattle.yq_cut.specs.Rows.{print_row}
+use Rattle.yq_cut.specs.View.{slices}
+use Rattle.yq_cut.proofs.CharacterLaws.{pairs_back}
+use Rattle.yq_cut.proofs.LineEnds.{white_none}
+use Rattle.yq_cut.proofs.NodePieces.{before_ascii, tail_ascii}
+use Rattle.yq_cut.proofs.seams.ScalarSeams.{ends_return}
 use Rattle.yq_places.specs.CommentPlaces.{line_text}
 use Rattle.yq_places.specs.PlacedRows.{PlacedRow}
 use Rattle.yq_change.specs.TextPieces.{IsPiece}
@@ -42,7 +42,7 @@ pub record HasTailPieces (w : PlacedRow) (tail more : List ℕ) (h : IsTail tail
   pub line : IsPiece (h.white ++ h.comment)
   pub behind : IsPiece (h.line.break ++ more)
 
-front_utf8 : (a b : List ℕ) → IsPiece (a ++ b) → Rattle.yq_rows.proofs.NodePieces.BeginsAscii b → IsUtf8 a
+front_utf8 : (a b : List ℕ) → IsPiece (a ++ b) → Rattle.yq_cut.proofs.NodePieces.BeginsAscii b → IsUtf8 a
 front_utf8 a b h k = subst IsUtf8 (take-append_seam a b) (IsUtf8-take (a ++ b) (length a) h.utf8 (before_ascii a b k))
 
 pub pieces : (w : PlacedRow) (limit : Limit) → IsRow limit w.row w.behind → IsPiece (w.before ++ print_row w.row w.behind) → (h : IsTail (slices w.row).tail ((slices w.row).raw ++ w.behind)) → HasTailPieces w (slices w.row).tail ((slices w.row).raw ++ w.behind) h

@@ -2,11 +2,11 @@
 use Rattle.std.proofs.Common.{◌≡◌, ℕ, ◌+◌, ◌-◌, ◌≤◌, ltb, cond, Bool, true, false, List, [], ◌∷◌, ◌++◌, length, refl, sym, ap, ◌∙◌, subst, append_assoc, arith}
 use Rattle.std.proofs.lemmas.Bool.{le-ltb}
 use Rattle.std.proofs.lemmas.List.{length-append}
-use Rattle.yq_rows.specs.Items.{Item, items_of, items_text}
-use Rattle.yq_rows.proofs.ItemLaws.{items_text-append}
-use Rattle.yq_rows.proofs.KeptLaws.{items_apart}
+use Rattle.yq_cut.specs.Items.{Item, items_of, items_text}
+use Rattle.yq_cut.proofs.ItemLaws.{items_text-append}
+use Rattle.yq_cut.proofs.KeptLaws.{items_apart}
 use Rattle.yq_script.specs.Script.{kept_front, kept_back}
-use Rattle.yq_rows.specs.Touched.{item_text, in_front, in_back}
+use Rattle.yq_cut.specs.Touched.{item_text, in_front, in_back}
 use Rattle.yq_edits.specs.Local.{InFirst, InLast, LocalTouches}
 use Rattle.yq_edits.proofs.ItemsLocal.{first_nothing, item_apart}
 

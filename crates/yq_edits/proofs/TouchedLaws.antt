@@ -4,14 +4,14 @@ use mathlib.Core.List.{head-eq_of_cons-eq, tail-eq_of_cons-eq}
 use Rattle.std.proofs.lemmas.List.{length-append}
 use Rattle.std.specs.Str.{is_utf8}
 use Rattle.yq_flow_scalars.specs.Text.{is_empty}
-use Rattle.yq_scalar.proofs.BlockPieceLaws.{IsLf}
+use Rattle.yq_block_scalars.proofs.BlockPieceLaws.{IsLf}
 use Rattle.yq_flow_scalars.proofs.Bools.{guard_then}
-use Rattle.yq_rows.specs.Grammar.{IsCut}
-use Rattle.yq_rows.specs.Items.{Item, AreRowItems, items_of, items_text, nothing_asked}
-use Rattle.yq_rows.specs.Rows.{Cut}
-use Rattle.yq_rows.specs.Touched.{in_back, in_front, item_text}
-use Rattle.yq_rows.proofs.ItemLaws.{items_of_text, items_text-append, parts_are_items}
-use Rattle.yq_rows.proofs.KeptLaws.{items_apart}
+use Rattle.yq_cut.specs.Grammar.{IsCut}
+use Rattle.yq_cut.specs.Items.{Item, AreRowItems, items_of, items_text, nothing_asked}
+use Rattle.yq_cut.specs.Rows.{Cut}
+use Rattle.yq_cut.specs.Touched.{in_back, in_front, item_text}
+use Rattle.yq_cut.proofs.ItemLaws.{items_of_text, items_text-append, parts_are_items}
+use Rattle.yq_cut.proofs.KeptLaws.{items_apart}
 use Rattle.yq_documents.specs.Reading.{read_at}
 use Rattle.yq_places.proofs.ReadLaws.{text_takes}
 use Rattle.yq_script.specs.Script.{Segment, are_kept, kept_back, kept_front, new_text}

@@ -19,16 +19,16 @@ use Rattle.yq_flow_scalars.specs.declared.kind.Kind.{Kind}
 use Rattle.yq_flow_scalars.specs.declared.style.Place.TheVariants as places
 use Rattle.yq_flow_scalars.specs.declared.style.Style.{Style}
 use Rattle.yq_flow_scalars.specs.declared.style.Style.TheVariants as styles
-use Rattle.yq_scalar.proofs.PlainSpells.{plain_is_text, writable_text}
-use Rattle.yq_scalar.proofs.WrittenText.{double_is_line, line_is_text}
-use Rattle.yq_inline.specs.Inline.{depth_limit}
-use Rattle.yq_inline.specs.Nodes as inline
-use Rattle.yq_inline.specs.Nodes.{key_text, sep_text, node_text, items_text, IsNode}
-use Rattle.yq_inline.specs.Trees.{scalar_node, tree_of}
+use Rattle.yq_block_scalars.proofs.PlainSpells.{plain_is_text, writable_text}
+use Rattle.yq_block_scalars.proofs.WrittenText.{double_is_line, line_is_text}
+use Rattle.yq_nodes.specs.Inline.{depth_limit}
+use Rattle.yq_nodes.specs.Nodes as inline
+use Rattle.yq_nodes.specs.Nodes.{key_text, sep_text, node_text, items_text, IsNode}
+use Rattle.yq_nodes.specs.Trees.{scalar_node, tree_of}
 use Rattle.yq_flow.specs.Valued.{IsValid, IsLabel, IsValueTree, AreValueTrees, SpellsScalar}
-use Rattle.yq_inline.specs.Written.{scalar_text, flow_key, flow_sep, flow_of, flow_items, flow_text}
-use Rattle.yq_inline.proofs.Alikes.{no_first, no_second, no_third}
-use Rattle.yq_inline.proofs.PieceLaws.{front_not}
+use Rattle.yq_nodes.specs.Written.{scalar_text, flow_key, flow_sep, flow_of, flow_items, flow_text}
+use Rattle.yq_nodes.proofs.Alikes.{no_first, no_second, no_third}
+use Rattle.yq_nodes.proofs.PieceLaws.{front_not}
 use Rattle.yq_flow.proofs.SpelledLaws.{written_node, written_tree}
 use Rattle.yq_flow.proofs.StyledScalars.{styled_spells}
 use Rattle.yq_change.specs.InlineRows.{IsValueNode}

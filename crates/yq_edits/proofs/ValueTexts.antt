@@ -10,11 +10,11 @@ use Rattle.yq_flow_scalars.specs.Written.{written, IsOneLine}
 use Rattle.yq_flow_scalars.specs.declared.style.Place.TheVariants.{Block}
 use Rattle.yq_flow_scalars.specs.declared.style.Style.{Style}
 use Rattle.yq_flow_scalars.specs.declared.style.Style.TheVariants as styles
-use Rattle.yq_inline.specs.Inline.{depth_limit}
-use Rattle.yq_inline.specs.Nodes as inline
-use Rattle.yq_inline.specs.Nodes.{node_text}
-use Rattle.yq_inline.specs.Scalars.{style_of}
-use Rattle.yq_inline.specs.Written.{flow_of}
+use Rattle.yq_nodes.specs.Inline.{depth_limit}
+use Rattle.yq_nodes.specs.Nodes as inline
+use Rattle.yq_nodes.specs.Nodes.{node_text}
+use Rattle.yq_nodes.specs.Scalars.{style_of}
+use Rattle.yq_nodes.specs.Written.{flow_of}
 use Rattle.yq_flow.specs.Valued.{IsValueTree}
 use Rattle.yq_change.specs.InlineRows.{IsValueNode}
 use Rattle.yq_change.specs.TextPieces.{IsPiece}

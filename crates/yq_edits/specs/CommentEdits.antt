@@ -1,10 +1,10 @@
 -- LineComment and HeadComment: what is exchanged, by what stands at the place (YAML 1.2.2, 6.6; own).
 use Rattle.std.specs.Prelude.{ℕ, ◌==◌, ◌&&◌, not, List, [], ◌∷◌, ◌++◌, length, replicate, Option, Some, None, if◌then◌else◌}
 use Rattle.yq_flow_scalars.specs.Answers.{◌>>=◌}
-use Rattle.yq_scalar.specs.BlockWritten.{break_text}
+use Rattle.yq_block_scalars.specs.BlockWritten.{break_text}
 use Rattle.yq_flow_scalars.specs.Paths.{Step}
 use Rattle.yq_flow_scalars.specs.Text.{is_empty}
-use Rattle.yq_rows.specs.Rows.{Cut, behind_gap, cut_text, rows_text}
+use Rattle.yq_cut.specs.Rows.{Cut, behind_gap, cut_text, rows_text}
 use Rattle.yq_places.specs.CommentPlaces.{LinesAbove, gap_above}
 use Rattle.yq_places.specs.FirstBreak.{first_break}
 use Rattle.yq_places.specs.Standings.{Held, RowsOfEntry, before_entry, behind_entry, held, rows_of_entry}

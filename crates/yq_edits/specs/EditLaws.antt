@@ -1,12 +1,12 @@
 -- What is owed of the segments that an operation exchanges, by what stands at its place (own).
 use Rattle.std.specs.Prelude.{◌≡◌, ◌⊎◌, ℕ, ◌≤◌, List, [], ◌∷◌, length, Option, Some, true, false}
 use Rattle.yq_flow_scalars.specs.Answers.{◌>>=◌}
-use Rattle.yq_scalar.specs.BlockWritten.{break_text}
+use Rattle.yq_block_scalars.specs.BlockWritten.{break_text}
 use Rattle.yq_flow_scalars.specs.Characters.{text_limit}
 use Rattle.yq_flow_scalars.specs.Paths.{Step}
 use Rattle.yq_flow_scalars.specs.Tree.{Node}
-use Rattle.yq_inline.specs.Collections.{CollPieces}
-use Rattle.yq_rows.specs.Rows.{Cut, cut_text}
+use Rattle.yq_nodes.specs.Collections.{CollPieces}
+use Rattle.yq_cut.specs.Rows.{Cut, cut_text}
 use Rattle.yq_documents.specs.Reading.{documents, read_at}
 use Rattle.yq_places.specs.FirstBreak.{first_break}
 use Rattle.yq_places.specs.FlowNodes.{flow_collection}

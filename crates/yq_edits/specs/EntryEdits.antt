@@ -2,11 +2,11 @@
 use Rattle.std.specs.Option.{option_or}
 use Rattle.std.specs.Prelude.{ℕ, not, List, [], ◌∷◌, ◌++◌, replicate, Option, Some, None, option_map}
 use Rattle.yq_flow_scalars.specs.Answers.{◌>>=◌}
-use Rattle.yq_scalar.specs.BlockWritten.{break_text}
+use Rattle.yq_block_scalars.specs.BlockWritten.{break_text}
 use Rattle.yq_flow_scalars.specs.Paths.{Step}
 use Rattle.yq_flow_scalars.specs.Text.{is_empty}
 use Rattle.yq_flow_scalars.specs.Tree.{Node}
-use Rattle.yq_rows.specs.Rows.{Cut}
+use Rattle.yq_cut.specs.Rows.{Cut}
 use Rattle.yq_places.specs.FirstPlaces.{first_removal}
 use Rattle.yq_places.specs.RemovalPlaces.{removal_place}
 use Rattle.yq_places.specs.Standings.{Held, Standing, alone, beside, under, compact, block, root, no_rows, standing_at}

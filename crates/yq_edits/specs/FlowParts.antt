@@ -4,10 +4,10 @@ use Rattle.yq_flow_scalars.specs.Paths.{Step}
 use Rattle.yq_flow_scalars.specs.Tree as tree
 use Rattle.yq_flow_scalars.specs.Written.{written}
 use Rattle.yq_flow_scalars.specs.declared.style.Place.TheVariants.{Flow as InFlow}
-use Rattle.yq_inline.specs.Collections.{CollPieces}
-use Rattle.yq_inline.specs.Nodes.{Node, alias, scalar, node_text}
-use Rattle.yq_inline.specs.Scalars.{style_of}
-use Rattle.yq_inline.specs.Written.{flow_key, flow_of}
+use Rattle.yq_nodes.specs.Collections.{CollPieces}
+use Rattle.yq_nodes.specs.Nodes.{Node, alias, scalar, node_text}
+use Rattle.yq_nodes.specs.Scalars.{style_of}
+use Rattle.yq_nodes.specs.Written.{flow_key, flow_of}
 use Rattle.yq_flow.specs.FlowEdits.{FlowEdit, appending, content_node, replacing}
 use Rattle.yq_flow.specs.Removals.{removing}
 use Rattle.yq_places.specs.Standings.{FlowPart}

@@ -1,7 +1,7 @@
 -- How block style looks in a document of a text (own).
 use Rattle.std.specs.Prelude.{◌≡◌, ℕ, true}
 use Rattle.yq_flow_scalars.specs.Tree.{Node}
-use Rattle.yq_rows.specs.Rows.{Cut, cut_text}
+use Rattle.yq_cut.specs.Rows.{Cut, cut_text}
 use Rattle.yq_places.specs.FirstBreak.{first_break}
 use Rattle.yq_places.specs.Steps.{document_steps}
 use Rattle.yq_block.specs.BlockReading.{is_filled}

@@ -1,8 +1,8 @@
 -- Which rows and ends of parts of a text an operation exchanges: those that it touches (own).
 use Rattle.std.specs.Prelude.{◌≡◌, ℕ, ◌≤◌, List, [], ◌∷◌, ◌++◌, length, Some}
-use Rattle.yq_rows.specs.Items.{Item, items_of, items_text}
-use Rattle.yq_rows.specs.Rows.{Cut}
-use Rattle.yq_rows.specs.Touched.{item_text, TouchesOnly}
+use Rattle.yq_cut.specs.Items.{Item, items_of, items_text}
+use Rattle.yq_cut.specs.Rows.{Cut}
+use Rattle.yq_cut.specs.Touched.{item_text, TouchesOnly}
 use Rattle.yq_documents.specs.Reading.{read_at}
 use Rattle.yq_script.specs.Script.{Segment, new_text, kept_front, kept_back}
 

@@ -1,6 +1,6 @@
 -- What is exchanged where an item or entry is taken out with its rows (YAML 1.2.2, 8.2; own).
 use Rattle.std.specs.Prelude.{ℕ, List, [], ◌∷◌, ◌++◌, replicate, Option, Some, None, if◌then◌else◌}
-use Rattle.yq_scalar.specs.BlockRepair.{is_short, is_outside}
+use Rattle.yq_block_scalars.specs.BlockRepair.{is_short, is_outside}
 use Rattle.yq_flow_scalars.specs.Lines.{is_blank}
 use Rattle.yq_flow_scalars.specs.Text.{cut, no_white, past_white, joined, lines_of}
 use Rattle.yq_places.specs.RemovalPlaces.{Seam, Removal}

@@ -2,8 +2,8 @@
 use Rattle.std.specs.List.{list_any}
 use Rattle.std.specs.Prelude.{ℕ, ◌&&◌, not, List, [], ◌∷◌, ◌++◌, Option, Some, None, Bool, false, option_map, if◌then◌else◌}
 use Rattle.yq_flow_scalars.specs.Answers.{◌>>=◌}
-use Rattle.yq_scalar.specs.BlockWritten as literal
-use Rattle.yq_scalar.specs.BlockWritten.{break_text, chomping_of, header_text}
+use Rattle.yq_block_scalars.specs.BlockWritten as literal
+use Rattle.yq_block_scalars.specs.BlockWritten.{break_text, chomping_of, header_text}
 use Rattle.yq_flow_scalars.specs.Paths.{Step}
 use Rattle.yq_flow_scalars.specs.Scalar.{ScalarText}
 use Rattle.yq_flow_scalars.specs.Text.{is_empty, is_feed, joined, lines_of}
@@ -12,7 +12,7 @@ use Rattle.yq_flow_scalars.specs.Writable.{can_write, is_string}
 use Rattle.yq_flow_scalars.specs.Written.{double}
 use Rattle.yq_flow_scalars.specs.declared.style.Place.TheVariants.{Block as InBlock}
 use Rattle.yq_flow_scalars.specs.declared.style.Style.TheVariants.{Literal}
-use Rattle.yq_rows.specs.Rows.{Cut}
+use Rattle.yq_cut.specs.Rows.{Cut}
 use Rattle.yq_places.specs.NodesAt.{node_in, scalar_in}
 use Rattle.yq_places.specs.Standings.{Compact, Held, Lone, BlockRoot, NoRows, Standing, alone, beside, under, compact, block, root, no_rows, standing_at}
 use Rattle.yq_block.specs.declared.layout.Layout.{Layout}

@@ -5,9 +5,9 @@ use Rattle.yq_flow_scalars.specs.Paths.{Step}
 use Rattle.yq_flow_scalars.specs.Text.{is_empty}
 use Rattle.yq_flow_scalars.specs.Tree.{Node}
 use Rattle.yq_flow_scalars.specs.declared.style.Place.TheVariants.{Block as InBlock}
-use Rattle.yq_rows.specs.Rows.{Cut, Part, Row, cut_text}
-use Rattle.yq_rows.specs.Seams.{is_block}
-use Rattle.yq_rows.specs.View.{slices}
+use Rattle.yq_cut.specs.Rows.{Cut, Part, Row, cut_text}
+use Rattle.yq_cut.specs.Seams.{is_block}
+use Rattle.yq_cut.specs.View.{slices}
 use Rattle.yq_documents.specs.Documents.{document_parts}
 use Rattle.yq_documents.specs.Reading.{documents, read_at}
 use Rattle.yq_places.specs.Standings.{Held, RowsOfEntry, held, rows_of_entry}

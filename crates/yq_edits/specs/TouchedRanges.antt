@@ -2,9 +2,9 @@
 use Rattle.std.specs.Prelude.{◌≡◌, ◌⊎◌, ⊤, ℕ, ◌+◌, ◌≤◌, Bool, true, false, List, [], ◌∷◌, ◌++◌, length, Some, if◌then◌else◌}
 use Rattle.yq_flow_scalars.specs.Characters.{text_limit}
 use Rattle.yq_flow_scalars.specs.Text.{is_empty, is_feed}
-use Rattle.yq_rows.specs.Items.{Item, items_of, items_text}
-use Rattle.yq_rows.specs.Rows.{Cut, cut_text}
-use Rattle.yq_rows.specs.Touched.{TouchesOnly, in_front, item_text}
+use Rattle.yq_cut.specs.Items.{Item, items_of, items_text}
+use Rattle.yq_cut.specs.Rows.{Cut, cut_text}
+use Rattle.yq_cut.specs.Touched.{TouchesOnly, in_front, item_text}
 use Rattle.yq_documents.specs.Reading.{documents, read_at}
 use Rattle.yq_meaning.specs.Fits.{Fits}
 use Rattle.yq_meaning.specs.Operations.{Operation}

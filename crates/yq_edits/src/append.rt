@@ -1,6 +1,6 @@
 //! Append: one more item or entry at the end of a block collection.
 ghost use Rattle.std.specs.Prelude.{◌≡◌, ◌++◌, IfOk, OnOk, string_bytes};
-ghost use Rattle.yq_inline.specs.Values.{node_of};
+ghost use Rattle.yq_nodes.specs.Values.{node_of};
 ghost use Rattle.yq_lines.specs.Bodies.{borrowed};
 ghost use Rattle.yq_documents.specs.Located.{steps_of};
 ghost use Rattle.yq_documents.specs.Reading.{cut_of};
@@ -14,8 +14,8 @@ use crate::layout::layout_for;
 use std::alloc::{AllocError, Global};
 use yq_block::{Layout, push_entry};
 use yq_documents::Path;
-use yq_flow_scalars::push_spaces;
-use yq_inline::Value;
+use yq_flow_reading::push_spaces;
+use yq_nodes::Value;
 use yq_places::{CutText, Held, Standing};
 use yq_scalar::block_written::break_text;
 use yq_script::{Segment, Segments};

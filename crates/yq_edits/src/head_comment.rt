@@ -8,7 +8,7 @@ ghost use Rattle.yq_edits.specs.Answers.{GivesSegments};
 
 use std::alloc::{AllocError, Global};
 use yq_documents::Path;
-use yq_flow_scalars::push_spaces;
+use yq_flow_reading::push_spaces;
 use yq_places::CutText;
 use yq_scalar::block_written::break_text;
 use yq_script::{Segment, Segments};

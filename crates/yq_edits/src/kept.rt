@@ -1,7 +1,7 @@
 //! Whether a value is the scalar that stands at a path: such a Replace leaves the bytes alone.
 ghost use Rattle.std.specs.Prelude.{◌≡◌, IfOk, Some, is_some, true};
 ghost use Rattle.yq_flow_scalars.specs.Scalar.{plain_of};
-ghost use Rattle.yq_inline.specs.Values as values;
+ghost use Rattle.yq_nodes.specs.Values as values;
 ghost use Rattle.yq_places.specs.NodesAt.{node_in, scalar_in};
 ghost use Rattle.yq_documents.specs.Located.{steps_of};
 ghost use Rattle.yq_documents.specs.Reading.{cut_of};
@@ -13,10 +13,9 @@ ghost use Rattle.yq_edits.specs.Style as style;
 use crate::style::is_same;
 use std::alloc::{AllocError, Global};
 use yq_documents::Path;
-use yq_flow_scalars::plain::holds_break;
+use yq_flow_reading::plain::holds_break;
 use yq_flow_scalars::{Kind, Scalar, resolve};
-use yq_inline::Value;
-use yq_inline::pieces::{first_is, is_quoted};
+use yq_nodes::{Value, first_is, is_quoted};
 use yq_places::{CutText, HeldRow};
 
 /// Whether a value is a scalar.

@@ -1,11 +1,11 @@
 //! How block style looks in documents.
 ghost use Rattle.std.specs.Prelude.{◌≡◌};
-ghost use Rattle.yq_inline.specs.Values.{node_of};
+ghost use Rattle.yq_nodes.specs.Values.{node_of};
 ghost use Rattle.yq_documents.specs.Reading.{cut_of};
 ghost use Rattle.yq_edits.specs.Layouts as spec;
 
 use yq_block::{Layout, is_filled};
-use yq_inline::Value;
+use yq_nodes::Value;
 use yq_places::CutText;
 
 /// How block style looks in document `doc`: with the text's first break, and that document's steps,

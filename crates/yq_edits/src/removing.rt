@@ -12,8 +12,8 @@ ghost use Rattle.yq_edits.specs.Answers.{GivesSegments};
 
 use std::alloc::{AllocError, Global};
 use yq_documents::Path;
+use yq_flow_reading::push_spaces;
 use yq_flow_scalars::lines::split_line;
-use yq_flow_scalars::push_spaces;
 use yq_flow_scalars::text::{is_blank, split_white};
 use yq_places::{CutText, FirstRemoval, Removal, Seam};
 use yq_scalar::block_repair::{is_outside, is_short};

@@ -1,7 +1,7 @@
 //! Replace, outside flow collections: a value in the place of what stands there.
 ghost use Rattle.std.specs.List.{list_any};
 ghost use Rattle.std.specs.Prelude.{◌≡◌, IfOk, not};
-ghost use Rattle.yq_inline.specs.Values.{node_of};
+ghost use Rattle.yq_nodes.specs.Values.{node_of};
 ghost use Rattle.yq_flow_scalars.specs.Tree.{Node as NodeOf};
 ghost use Rattle.yq_flow_scalars.specs.Text.{is_feed};
 ghost use Rattle.yq_documents.specs.Located.{steps_of};
@@ -23,7 +23,7 @@ use lone::{lone_put, no_rows_put, root_put};
 use std::alloc::{AllocError, Global};
 use yq_block::{Layout, is_filled};
 use yq_documents::Path;
-use yq_inline::Value;
+use yq_nodes::Value;
 use yq_places::{CutText, Standing};
 use yq_script::Segments;
 

@@ -5,7 +5,8 @@ ghost use Rattle.yq_flow_scalars.specs.Written.{IsOneLine};
 ghost use Rattle.yq_flow.specs.Valued.{IsValid};
 ghost use Rattle.yq_edits.specs.Style as spec;
 
-use yq_flow_scalars::{Kind, Place, Scalar, Style, can_write};
+use yq_flow_reading::can_write;
+use yq_flow_scalars::{Kind, Place, Scalar, Style};
 
 /// Whether a scalar has that kind and that text.
 pub(crate) fn is_same(kind: Kind, text: &str, scalar: &Scalar) -> bool

@@ -1,7 +1,7 @@
 //! How a value is written at a place.
 ghost use Rattle.std.specs.Prelude.{◌≡◌, ◌∷◌, ◌++◌, IfOk, OnOk, string_bytes};
-ghost use Rattle.yq_inline.specs.Values.{node_of};
-ghost use Rattle.yq_scalar.specs.BlockWritten.{break_text};
+ghost use Rattle.yq_nodes.specs.Values.{node_of};
+ghost use Rattle.yq_block_scalars.specs.BlockWritten.{break_text};
 ghost use Rattle.yq_places.specs.StandingViews.{held_mark_view};
 ghost use Rattle.yq_block.specs.BlockRows.{item_column};
 ghost use Rattle.yq_block.specs.BlockText.{block_value};
@@ -11,8 +11,10 @@ use crate::style::style_in;
 use std::alloc::{AllocError, Global};
 use yq_block::{Layout, indent_step, push_block};
 use yq_flow::write_inline;
-use yq_flow_scalars::{Place, push_spaces};
-use yq_inline::{Value, style_of};
+use yq_flow_reading::push_spaces;
+use yq_flow_scalars::Place;
+use yq_inline::style_of;
+use yq_nodes::Value;
 use yq_places::Mark;
 use yq_scalar::block_written::break_text;
 use yq_scalar::write_scalar;

@@ -4,8 +4,8 @@ use Rattle.yq_flow_scalars.specs.declared.kind.Kind.{Kind}
 use Rattle.yq_flow_scalars.specs.declared.kind.Kind.TheVariants as scalars
 use Rattle.yq_flow_scalars.specs.Tree as tree
 use Rattle.yq_flow_scalars.specs.Tree.{Node, alias, scalar, list}
-use Rattle.yq_documents.specs.Nodes.{kind_of, text_of}
-use Rattle.yq_documents.specs.declared.nodes.node.NodeKind.TheVariants as kinds
+use Rattle.yq_document_nodes.specs.Nodes.{kind_of, text_of}
+use Rattle.yq_document_nodes.specs.declared.nodes.node.NodeKind.TheVariants as kinds
 use Rattle.yq_expr.specs.Summand.{IsSummand}
 use Rattle.yq_meaning.specs.Copies.{copy}
 use Rattle.yq_meaning.specs.Judgement.{Judgement, and_then, gives, refuses}

@@ -1,6 +1,6 @@
 -- What an update does at each place, as the code has it.
 use Rattle.std.specs.Prelude.{ℕ, List, map}
-use Rattle.yq_inline.specs.Values.{node_of}
+use Rattle.yq_nodes.specs.Values.{node_of}
 use Rattle.yq_expr.specs.declared.effect.Action as effect
 use Rattle.yq_meaning.specs.Changes.{Room, Changed, put_at, add_at, remove_at, comment_at}
 use Rattle.yq_meaning.specs.Judgement.{Judgement, and_then}

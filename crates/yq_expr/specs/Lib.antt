@@ -1,4 +1,4 @@
-pub use Rattle.yq_inline.specs.Values
+pub use Rattle.yq_nodes.specs.Values
 pub use Rattle.yq_flow_scalars.specs.Tree
 pub mod MatchView
 pub mod EffectView

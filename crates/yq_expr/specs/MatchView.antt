@@ -1,7 +1,7 @@
 -- The matches that those of the code stand for.
 use Rattle.std.specs.Prelude.{ℕ, List, map}
 use Rattle.yq_flow_scalars.specs.Tree.{Node}
-use Rattle.yq_inline.specs.Values.{node_of}
+use Rattle.yq_nodes.specs.Values.{node_of}
 use Rattle.yq_expr.specs.declared.matched.Match.{Match}
 
 -- the number of the document and the copy that a match of the code stands for (own)

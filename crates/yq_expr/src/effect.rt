@@ -8,15 +8,15 @@ ghost use Rattle.yq_matching.specs.PlaceView.{path_of, place_of};
 ghost use Rattle.yq_meaning.specs.Changes as spec;
 ghost use Rattle.yq_meaning.specs.Rooms.{comment_part, room_of};
 ghost use Rattle.yq_matching.specs.TreeScalars.{HasScalars};
-ghost use Rattle.yq_inline.specs.Values.{node_of};
+ghost use Rattle.yq_nodes.specs.Values.{node_of};
 
 use crate::put::put;
 use crate::right_value::right_value;
 use std::alloc::Global;
 use yq_documents::{Part, Path};
-use yq_inline::Value;
 use yq_matching::{Missing, NodePath, Place};
 use yq_meaning::{ExprError, Refusal};
+use yq_nodes::Value;
 use yq_planning::{Change, added, copied, is_null};
 use yq_program::{CommentPlace, Term};
 use yq_tree::CutText;

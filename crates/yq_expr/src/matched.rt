@@ -1,6 +1,6 @@
 //! Matches: copies of what a pipe finds in documents.
 ghost use Rattle.std.specs.Prelude.{◌≡◌, IfOk, List, map, true};
-ghost use Rattle.yq_documents.specs.Nodes.{node_of};
+ghost use Rattle.yq_document_nodes.specs.Nodes.{node_of};
 ghost use Rattle.yq_documents.specs.Reading.{documents_of};
 ghost use Rattle.yq_meaning.specs.Conditions.{value_of};
 ghost use Rattle.yq_meaning.specs.Copies as spec;
@@ -15,10 +15,10 @@ ghost use Rattle.yq_program.specs.View.{program_of, stage_of};
 
 use bumpalo::Bump;
 use std::alloc::Global;
-use yq_documents::Node;
-use yq_inline::Value;
+use yq_document_nodes::Node;
 use yq_matching::{Place, copy_at, find};
 use yq_meaning::ExprError;
+use yq_nodes::Value;
 use yq_program::{Program, Stage, Syntax};
 use yq_tree::Documents;
 

@@ -1,9 +1,9 @@
 //! A value that is put at a place.
 ghost use Rattle.std.specs.List.{list_any};
 ghost use Rattle.std.specs.Prelude.{◌≡◌, ◌∷◌, [], IfOk, map};
-ghost use Rattle.yq_inline.specs.Values.{node_of as value_node};
+ghost use Rattle.yq_nodes.specs.Values.{node_of as value_node};
 ghost use Rattle.yq_flow_scalars.specs.Tree as tree;
-ghost use Rattle.yq_documents.specs.Nodes.{node_of};
+ghost use Rattle.yq_document_nodes.specs.Nodes.{node_of};
 ghost use Rattle.yq_documents.specs.TreeEdits.{new_label};
 ghost use Rattle.yq_meaning.specs.Changes as spec;
 ghost use Rattle.yq_planning.specs.ChangeView.{change_of};
@@ -15,10 +15,10 @@ ghost use Rattle.yq_program.specs.View.{step_of};
 
 use crate::steps::missing_steps;
 use std::alloc::{AllocError, Global};
-use yq_documents::{Node, NodeKind};
-use yq_inline::Value;
+use yq_document_nodes::{Node, NodeKind};
 use yq_matching::{Missing, Place};
 use yq_meaning::{ExprError, Refusal};
+use yq_nodes::Value;
 use yq_planning::{Addition, Change};
 use yq_program::{Step, is_index};
 

@@ -1,6 +1,6 @@
 //! Right sides: sums of terms, from a place.
 ghost use Rattle.std.specs.Prelude.{◌≡◌, ◌∷◌, ℕ, [], IfSome, map, true};
-ghost use Rattle.yq_inline.specs.Values.{node_of};
+ghost use Rattle.yq_nodes.specs.Values.{node_of};
 ghost use Rattle.yq_meaning.specs.Judgement.{Judges, and_then};
 ghost use Rattle.yq_meaning.specs.Pipes.{pipe_on};
 ghost use Rattle.yq_expr.specs.Summand.{IsSummand};
@@ -13,11 +13,11 @@ ghost use Rattle.yq_program.specs.View.{stage_of, term_of};
 
 use bumpalo::Bump;
 use std::alloc::Global;
-use yq_documents::NodeKind;
+use yq_document_nodes::NodeKind;
 use yq_flow_scalars::{Kind, Scalar};
-use yq_inline::Value;
 use yq_matching::{Place, copy_at, pipe_on};
 use yq_meaning::{ExprError, Refusal};
+use yq_nodes::Value;
 use yq_planning::{copied, scalar_sum, sum};
 use yq_program::{Stage, Term};
 

@@ -1,6 +1,6 @@
 //! The steps of a place, in order.
 ghost use Rattle.std.specs.Prelude.{◌≡◌, IfOk, map};
-ghost use Rattle.yq_inline.specs.Entries.{step_of as tree_step};
+ghost use Rattle.yq_nodes.specs.Entries.{step_of as tree_step};
 ghost use Rattle.yq_matching.specs.PlaceView.{missing_of, path_of};
 ghost use Rattle.yq_program.specs.View.{step_of};
 
@@ -9,7 +9,7 @@ use yq_matching::{Missing, NodePath, owned};
 use yq_program::Step;
 
 /// The steps of a path.
-pub fn path_steps(alloc: Global, path: NodePath<'_>) -> Result<Vec<yq_inline::Step>, AllocError>
+pub fn path_steps(alloc: Global, path: NodePath<'_>) -> Result<Vec<yq_nodes::Step>, AllocError>
     ensures { IfOk result (λ v. map tree_step v.items ≡ path_of path.entry) }
 {
     let mut steps = Vec::with_capacity(alloc, 1)?;

@@ -4,12 +4,12 @@ use Rattle.std.proofs.lemmas.Bool.{false≢true, cond_both}
 use Rattle.std.proofs.lemmas.Option.{same_Some}
 use Rattle.yq_flow_scalars.specs.Paths.{within}
 use Rattle.yq_flow_scalars.specs.Text.{is_empty, is_white}
-use Rattle.yq_inline.specs.Alike.{is_stop, Alike, stop}
-use Rattle.yq_inline.specs.Gaps.{IsInlineGap}
-use Rattle.yq_inline.specs.Nodes.{Node, empty, alias, scalar, coll, anchored, Items, node_text, items_text, open_of, begins_content, is_close, IsApart, IsLead, IsName, is_bare, IsNode, AreItems}
-use Rattle.yq_inline.specs.Collections.{CollPieces, coll_text, coll_in, put_coll}
-use Rattle.yq_inline.specs.Trees.{collection, with_name, tree_of, items_tree}
-use Rattle.yq_inline.proofs.AlikePieces.{gap_alike, none_unless, name_by}
+use Rattle.yq_nodes.specs.Alike.{is_stop, Alike, stop}
+use Rattle.yq_nodes.specs.Gaps.{IsInlineGap}
+use Rattle.yq_nodes.specs.Nodes.{Node, empty, alias, scalar, coll, anchored, Items, node_text, items_text, open_of, begins_content, is_close, IsApart, IsLead, IsName, is_bare, IsNode, AreItems}
+use Rattle.yq_nodes.specs.Collections.{CollPieces, coll_text, coll_in, put_coll}
+use Rattle.yq_nodes.specs.Trees.{collection, with_name, tree_of, items_tree}
+use Rattle.yq_nodes.proofs.AlikePieces.{gap_alike, none_unless, name_by}
 use Rattle.yq_flow_scalars.specs.Tree as tree
 
 pub open_stop : (k : ℕ) → is_stop (open_of k) ≡ true

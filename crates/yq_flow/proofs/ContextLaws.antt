@@ -2,14 +2,14 @@
 use Rattle.std.proofs.Common.{◌≡◌, ℕ, Bool, true, false, List, [], ◌∷◌, ◌++◌, length, Option, Some, refl, sym, ap, ◌∙◌, subst, arith, append_assoc}
 use Rattle.std.proofs.lemmas.Option.{same_Some}
 use Rattle.yq_flow_scalars.specs.Paths.{Step, change_child, within, change}
-use Rattle.yq_inline.specs.Alike.{Alike}
-use Rattle.yq_inline.specs.Gaps.{IsInlineGap}
-use Rattle.yq_inline.specs.Nodes.{Node, empty, alias, scalar, coll, anchored, Items, node_text, items_text, open_of, is_bare, IsNode, AreItems}
-use Rattle.yq_inline.specs.Entries.{EntryPieces, item_at, inside}
-use Rattle.yq_inline.specs.Collections.{CollPieces, coll_text, coll_in, coll_along, put_coll, within_items, change_item, put_at}
-use Rattle.yq_inline.specs.Trees.{tree_of}
-use Rattle.yq_inline.proofs.AlikePieces.{gap_alike}
-use Rattle.yq_inline.proofs.PathLaws.{then_some, items_hold}
+use Rattle.yq_nodes.specs.Alike.{Alike}
+use Rattle.yq_nodes.specs.Gaps.{IsInlineGap}
+use Rattle.yq_nodes.specs.Nodes.{Node, empty, alias, scalar, coll, anchored, Items, node_text, items_text, open_of, is_bare, IsNode, AreItems}
+use Rattle.yq_nodes.specs.Entries.{EntryPieces, item_at, inside}
+use Rattle.yq_nodes.specs.Collections.{CollPieces, coll_text, coll_in, coll_along, put_coll, within_items, change_item, put_at}
+use Rattle.yq_nodes.specs.Trees.{tree_of}
+use Rattle.yq_nodes.proofs.AlikePieces.{gap_alike}
+use Rattle.yq_nodes.proofs.PathLaws.{then_some, items_hold}
 use Rattle.yq_flow.proofs.ItemPlaces.{item_rest}
 use Rattle.yq_flow.proofs.ItemSwaps.{items_change, in_items, Swapped, InItems, items_swap}
 use Rattle.yq_flow.proofs.CollLaws.{coll_stands, Stands}

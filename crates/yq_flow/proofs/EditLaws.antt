@@ -3,18 +3,18 @@ use Rattle.std.proofs.Common.{◌≡◌, ℕ, ◌-◌, Bool, true, not, List, []
 use Rattle.yq_flow_scalars.specs.Paths.{Step, change_child, append_child, within, change}
 use Rattle.yq_flow_scalars.specs.Piece.{further_spaces}
 use Rattle.yq_flow_scalars.specs.Writable.{in_flow}
-use Rattle.yq_inline.specs.Gaps.{IsInlineGap}
-use Rattle.yq_inline.specs.Inline.{depth_limit}
-use Rattle.yq_inline.specs.Nodes.{Key, Node, Items, none, item, key_text, node_text, items_text, open_of, is_close, AreItems}
-use Rattle.yq_inline.specs.Collections.{coll_text, put_at, room_in, CollAt, item_in, IsCollAt}
+use Rattle.yq_nodes.specs.Gaps.{IsInlineGap}
+use Rattle.yq_nodes.specs.Inline.{depth_limit}
+use Rattle.yq_nodes.specs.Nodes.{Key, Node, Items, none, item, key_text, node_text, items_text, open_of, is_close, AreItems}
+use Rattle.yq_nodes.specs.Collections.{coll_text, put_at, room_in, CollAt, item_in, IsCollAt}
 use Rattle.yq_flow.specs.FlowEdits.{Becomes, put_item, put_value, FitsNode, behind_last, FitsItem, replacing, appending, IsFlowEdited, FlowEdit, behind_appended}
-use Rattle.yq_inline.specs.Entries.{EntryPieces}
-use Rattle.yq_inline.specs.Trees.{inner, key_content, tree_of, items_tree}
+use Rattle.yq_nodes.specs.Entries.{EntryPieces}
+use Rattle.yq_nodes.specs.Trees.{inner, key_content, tree_of, items_tree}
 use Rattle.yq_flow.proofs.CollLaws.{Stands}
 use Rattle.yq_flow.proofs.ContextLaws.{path_stands}
 use Rattle.yq_flow.proofs.ItemLaws.{put_local, put_before, becomes_same, add_local, item_begins}
 use Rattle.yq_flow.proofs.LocalLaws.{no_gap_before}
-use Rattle.yq_inline.proofs.WrittenLaws.{node_then, key_append}
+use Rattle.yq_nodes.proofs.WrittenLaws.{node_then, key_append}
 use Rattle.yq_flow_scalars.specs.Tree as tree
 
 -- what is known of the collection, and of the node with another one there

@@ -9,14 +9,14 @@ use Rattle.std.specs.Str.{IsCharBoundary}
 use Rattle.yq_flow_scalars.specs.Paths.{Step, is_here, further}
 use Rattle.yq_flow_scalars.specs.Text.{is_space}
 use Rattle.yq_flow_scalars.specs.declared.piece.Piece.{Piece}
-use Rattle.yq_inline.specs.Alike.{EndsItem}
-use Rattle.yq_inline.specs.Entries.{end_of, entry_start, parts_in}
+use Rattle.yq_nodes.specs.Alike.{EndsItem}
+use Rattle.yq_nodes.specs.Entries.{end_of, entry_start, parts_in}
 use Rattle.yq_flow.specs.FlowPlaces.{PlacedEdit, first_start, marks_before, only_end, past_gap, remove_before, remove_end, remove_part, remove_place, replace_place}
-use Rattle.yq_inline.specs.Nodes.{first_is, is_close}
-use Rattle.yq_inline.specs.Places.{Placed, placed, Content, Parts, end, part}
-use Rattle.yq_inline.specs.Spans.{ContentHasSpans, HasKeySpan, HasSpans, PartsHaveSpans}
-use Rattle.yq_inline.specs.Trees.{inner, unplaced_key}
-use Rattle.yq_inline.proofs.EndLaws.{ends_by}
+use Rattle.yq_nodes.specs.Nodes.{first_is, is_close}
+use Rattle.yq_nodes.specs.Places.{Placed, placed, Content, Parts, end, part}
+use Rattle.yq_nodes.specs.Spans.{ContentHasSpans, HasKeySpan, HasSpans, PartsHaveSpans}
+use Rattle.yq_nodes.specs.Trees.{inner, unplaced_key}
+use Rattle.yq_nodes.proofs.EndLaws.{ends_by}
 use Rattle.yq_flow.proofs.RemovePlaces.{drop_end}
 use Rattle.yq_flow.proofs.RemoveTexts.{either}
 

@@ -4,12 +4,12 @@ use Rattle.std.proofs.lemmas.List.{take_all}
 use Rattle.std.specs.Option.{option_or}
 use Rattle.std.specs.declared.alloc.Global.{Global}
 use Rattle.yq_flow_scalars.specs.Paths.{To, Nth}
-use Rattle.yq_inline.specs.declared.inline.Inline.{Inline}
-use Rattle.yq_inline.specs.declared.path.Step as declared
-use Rattle.yq_inline.specs.Entries.{end_of, entry_start, step_of}
+use Rattle.yq_nodes.specs.declared.inline.Inline.{Inline}
+use Rattle.yq_nodes.specs.declared.path.Step as declared
+use Rattle.yq_nodes.specs.Entries.{end_of, entry_start, step_of}
 use Rattle.yq_flow.specs.FlowPlaces.{last_end, only_end, remove_end, remove_part}
-use Rattle.yq_inline.specs.View.{view, items_end, entries_end}
-use Rattle.yq_inline.proofs.PathLoops.{Field}
+use Rattle.yq_nodes.specs.View.{view, items_end, entries_end}
+use Rattle.yq_nodes.proofs.PathLoops.{Field}
 
 last_item : (is : List Inline) (x d : Inline) → last_end (items_end (x ∷ is)) ≡ Some (end_of (view (slice_index_or (x ∷ is) (length is) d)))
 last_item [] x d = refl

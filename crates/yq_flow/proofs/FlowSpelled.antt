@@ -8,13 +8,13 @@ use Rattle.yq_flow_scalars.specs.Tree as tree
 use Rattle.yq_flow_scalars.specs.Writable.{can_write}
 use Rattle.yq_flow_scalars.specs.Written as scalars
 use Rattle.yq_flow.specs.FlowValues.{SpellsEntry, SpellsInFlow}
-use Rattle.yq_inline.specs.Trees.{inner}
+use Rattle.yq_nodes.specs.Trees.{inner}
 use Rattle.yq_flow.specs.Valued.{IsValid, IsValueTree}
-use Rattle.yq_inline.specs.Written.{scalar_text, flow_key, flow_of, flow_text, entry_text}
+use Rattle.yq_nodes.specs.Written.{scalar_text, flow_key, flow_of, flow_text, entry_text}
 use Rattle.yq_flow.proofs.SpelledLaws.{written_tree, entries_fit}
 use Rattle.yq_flow.proofs.StyledScalars.{styled_spells}
 use Rattle.yq_flow.proofs.ValueFits.{item_fits, scalar_fits, scalar_block}
-use Rattle.yq_inline.proofs.WrittenLaws.{node_then}
+use Rattle.yq_nodes.proofs.WrittenLaws.{node_then}
 
 pub entry_spells : (k : List ℕ) (v : tree.Node) → IsUtf8 k → IsValueTree v → SpellsEntry k v (entry_text (k, v))
 entry_spells k v utf8 is = record {

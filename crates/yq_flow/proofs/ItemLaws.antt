@@ -7,25 +7,25 @@ use Rattle.yq_flow_scalars.specs.Paths.{Step, is_here, further, change_child, ap
 use Rattle.yq_flow_scalars.specs.PlainText.{begins_marker}
 use Rattle.yq_flow_scalars.specs.Text.{front, is_white, is_feed, is_return, is_space, is_marker, separates}
 use Rattle.yq_flow_scalars.proofs.Bools.{at_byte}
-use Rattle.yq_inline.specs.Alike.{Alike, stop, EndsItem, fresh, KeepsApart}
-use Rattle.yq_inline.specs.Gaps.{IsInlineGap}
-use Rattle.yq_inline.specs.Nodes.{Key, bare, keyed, Sep, last, comma, Node, Items, none, item, key_text, sep_text, node_text, items_text, first_is, begins_node, is_close, IsInlineKey, IsSep, is_bare, is_keyed, IsNode, AreItems}
-use Rattle.yq_inline.specs.Entries.{EntryPieces, item_at}
+use Rattle.yq_nodes.specs.Alike.{Alike, stop, EndsItem, fresh, KeepsApart}
+use Rattle.yq_nodes.specs.Gaps.{IsInlineGap}
+use Rattle.yq_nodes.specs.Nodes.{Key, bare, keyed, Sep, last, comma, Node, Items, none, item, key_text, sep_text, node_text, items_text, first_is, begins_node, is_close, IsInlineKey, IsSep, is_bare, is_keyed, IsNode, AreItems}
+use Rattle.yq_nodes.specs.Entries.{EntryPieces, item_at}
 use Rattle.yq_flow.specs.FlowEdits.{Becomes, content_node, space_for, put_content, put_item, put_value, FitsNode, add_item, is_none, behind_last, FitsItem}
 use Rattle.yq_flow.specs.Removals.{is_marks, ends_marked, ends_return, IsApartFrom}
-use Rattle.yq_inline.specs.Trees.{inner, key_content, tree_of, items_tree}
-use Rattle.yq_inline.proofs.Alikes.{no_first, no_second, no_third, alike_append}
-use Rattle.yq_inline.proofs.AlikePieces.{gap_alike}
+use Rattle.yq_nodes.specs.Trees.{inner, key_content, tree_of, items_tree}
+use Rattle.yq_nodes.proofs.Alikes.{no_first, no_second, no_third, alike_append}
+use Rattle.yq_nodes.proofs.AlikePieces.{gap_alike}
 use Rattle.yq_flow.proofs.ItemSwaps.{item_cut}
-use Rattle.yq_inline.proofs.EndLaws.{ends_by}
-use Rattle.yq_inline.proofs.GapLaws.{none_gap}
-use Rattle.yq_inline.proofs.KeepLaws.{NotEmpty, some_text, gap_some, keeps_append, keeps_alike, some_begins}
-use Rattle.yq_inline.proofs.KeyKeeps.{key_keeps}
-use Rattle.yq_inline.proofs.NodeKeeps.{node_keeps, sep_ends, key_text_alike, node_text_alike}
+use Rattle.yq_nodes.proofs.EndLaws.{ends_by}
+use Rattle.yq_nodes.proofs.GapLaws.{none_gap}
+use Rattle.yq_nodes.proofs.KeepLaws.{NotEmpty, some_text, gap_some, keeps_append, keeps_alike, some_begins}
+use Rattle.yq_nodes.proofs.KeyKeeps.{key_keeps}
+use Rattle.yq_nodes.proofs.NodeKeeps.{node_keeps, sep_ends, key_text_alike, node_text_alike}
 use Rattle.yq_flow.proofs.LocalLaws.{Front, filled, space_before}
-use Rattle.yq_inline.proofs.NodeAgain.{item_front}
-use Rattle.yq_inline.proofs.PieceLaws.{scalar_begins, scalar_some}
-use Rattle.yq_inline.proofs.WrittenLaws.{node_then, key_append}
+use Rattle.yq_nodes.proofs.NodeAgain.{item_front}
+use Rattle.yq_nodes.proofs.PieceLaws.{scalar_begins, scalar_some}
+use Rattle.yq_nodes.proofs.WrittenLaws.{node_then, key_append}
 use Rattle.yq_flow_scalars.specs.Tree as tree
 
 -- Items of a collection give way to others, with this tree: these stand before the same rest, a gap before the ones may stand before the others, and

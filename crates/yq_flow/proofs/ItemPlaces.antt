@@ -3,13 +3,13 @@ use Rattle.std.proofs.Common.{◌≡◌, ℕ, ◌≤◌, length, arith, length-a
 use Rattle.std.proofs.lemmas.Bool.{false≢true}
 use Rattle.std.proofs.lemmas.Option.{none-some, same_Some}
 use Rattle.yq_flow_scalars.specs.Paths.{Step, is_here, further}
-use Rattle.yq_inline.specs.Alike.{EndsItem}
-use Rattle.yq_inline.specs.Entries.{EntryPieces, item_at, pieces_text}
+use Rattle.yq_nodes.specs.Alike.{EndsItem}
+use Rattle.yq_nodes.specs.Entries.{EntryPieces, item_at, pieces_text}
 use Rattle.yq_flow.specs.FlowEdits.{FitsItem, behind_last, is_none}
-use Rattle.yq_inline.specs.Nodes.{Items, none, item, key_text, sep_text, node_text, items_text, AreItems}
-use Rattle.yq_inline.specs.Trees.{inner, key_content}
-use Rattle.yq_inline.proofs.NodeAgain.{items_longer, sep_longer}
-use Rattle.yq_inline.proofs.NodeKeeps.{sep_ends}
+use Rattle.yq_nodes.specs.Nodes.{Items, none, item, key_text, sep_text, node_text, items_text, AreItems}
+use Rattle.yq_nodes.specs.Trees.{inner, key_content}
+use Rattle.yq_nodes.proofs.NodeAgain.{items_longer, sep_longer}
+use Rattle.yq_nodes.proofs.NodeKeeps.{sep_ends}
 use Rattle.yq_flow.proofs.ItemSwaps.{item_cut}
 
 -- An item or entry stands behind a text, and what ends it behind that.

@@ -2,16 +2,16 @@
 use Rattle.std.proofs.Common.{◌≡◌, ℕ, Bool, true, false, not, ◌||◌, cond, List, [], ◌++◌, Some, refl, sym, ap, ◌∙◌, subst, append_assoc}
 use Rattle.std.proofs.lemmas.Option.{same_Some}
 use Rattle.yq_flow_scalars.specs.Paths.{Step, is_here, further, change_child}
-use Rattle.yq_inline.specs.Alike.{Alike}
-use Rattle.yq_inline.specs.Nodes.{Key, bare, keyed, Sep, Node, Items, none, item, key_text, sep_text, node_text, items_text, begins_node, is_close, IsInlineKey, IsSep, is_bare, is_keyed, IsNode, AreItems}
-use Rattle.yq_inline.specs.Entries.{EntryPieces, item_at}
-use Rattle.yq_inline.specs.Collections.{change_item}
-use Rattle.yq_inline.specs.Trees.{inner, key_content, tree_of, items_tree}
-use Rattle.yq_inline.proofs.AlikePieces.{gap_alike}
-use Rattle.yq_inline.proofs.KeepLaws.{keeps_alike, some_begins}
-use Rattle.yq_inline.proofs.KeyKeeps.{lead_gap, key_front, key_keeps}
-use Rattle.yq_inline.proofs.NodeKeeps.{node_keeps, sep_ends, sep_alike, sep_text_alike, key_text_alike, node_text_alike}
-use Rattle.yq_inline.proofs.WrittenLaws.{key_append, sep_append, node_append, node_then}
+use Rattle.yq_nodes.specs.Alike.{Alike}
+use Rattle.yq_nodes.specs.Nodes.{Key, bare, keyed, Sep, Node, Items, none, item, key_text, sep_text, node_text, items_text, begins_node, is_close, IsInlineKey, IsSep, is_bare, is_keyed, IsNode, AreItems}
+use Rattle.yq_nodes.specs.Entries.{EntryPieces, item_at}
+use Rattle.yq_nodes.specs.Collections.{change_item}
+use Rattle.yq_nodes.specs.Trees.{inner, key_content, tree_of, items_tree}
+use Rattle.yq_nodes.proofs.AlikePieces.{gap_alike}
+use Rattle.yq_nodes.proofs.KeepLaws.{keeps_alike, some_begins}
+use Rattle.yq_nodes.proofs.KeyKeeps.{lead_gap, key_front, key_keeps}
+use Rattle.yq_nodes.proofs.NodeKeeps.{node_keeps, sep_ends, sep_alike, sep_text_alike, key_text_alike, node_text_alike}
+use Rattle.yq_nodes.proofs.WrittenLaws.{key_append, sep_append, node_append, node_then}
 use Rattle.yq_flow_scalars.specs.Tree as tree
 
 -- an item before others that begin alike

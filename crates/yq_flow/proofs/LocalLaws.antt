@@ -3,23 +3,23 @@ use Rattle.std.proofs.Common.{◌≡◌, inl, ℕ, true, false, not, ◌&&◌, �
 use Rattle.std.proofs.Math.Bool.{and-false, or-true}
 use Rattle.std.proofs.lemmas.Bool.{false≢true, or_from}
 use Rattle.yq_flow_scalars.specs.Plain.{is_safe}
-use Rattle.yq_inline.specs.Scalars.{is_quoted}
+use Rattle.yq_nodes.specs.Scalars.{is_quoted}
 use Rattle.yq_flow_scalars.specs.Text.{front, is_feed, is_marker, is_empty}
-use Rattle.yq_inline.specs.declared.gap.Before.{Before}
-use Rattle.yq_inline.specs.declared.gap.Before.TheVariants.{Token, White, Break, Comment}
-use Rattle.yq_inline.specs.Alike.{Alike, colon, any_colon, EndsItem}
-use Rattle.yq_inline.specs.Gaps.{behind, is_break as at_break, stops, IsInlineGap}
-use Rattle.yq_inline.specs.Nodes.{Key, bare, keyed, Node, empty, alias, scalar, coll, anchored, key_text, node_text, first_is, begins_content, begins_node, is_close, IsName, IsInlineKey, is_bare, is_keyed, IsNode, takes_anchor}
+use Rattle.yq_nodes.specs.declared.gap.Before.{Before}
+use Rattle.yq_nodes.specs.declared.gap.Before.TheVariants.{Token, White, Break, Comment}
+use Rattle.yq_nodes.specs.Alike.{Alike, colon, any_colon, EndsItem}
+use Rattle.yq_nodes.specs.Gaps.{behind, is_break as at_break, stops, IsInlineGap}
+use Rattle.yq_nodes.specs.Nodes.{Key, bare, keyed, Node, empty, alias, scalar, coll, anchored, key_text, node_text, first_is, begins_content, begins_node, is_close, IsName, IsInlineKey, is_bare, is_keyed, IsNode, takes_anchor}
 use Rattle.yq_flow.specs.FlowEdits.{Becomes, content_node, space_for, put_content, anchor_in, put_value, FitsNode}
-use Rattle.yq_inline.specs.Trees.{collection, with_name, named, key_content, tree_of, items_tree}
-use Rattle.yq_inline.proofs.Alikes.{no_first, alike_append}
-use Rattle.yq_inline.proofs.AlikePieces.{scalar_alike, gap_alike, name_by}
-use Rattle.yq_inline.proofs.EndLaws.{ends_safe, node_no_space}
-use Rattle.yq_inline.proofs.GapLaws.{none_gap}
-use Rattle.yq_inline.proofs.KeepLaws.{go_front, some_begins, taken_begins}
-use Rattle.yq_inline.proofs.KeyKeeps.{lead_gap, lead_none, key_front}
-use Rattle.yq_inline.proofs.PieceLaws.{front_not}
-use Rattle.yq_inline.proofs.WrittenLaws.{node_then, key_append}
+use Rattle.yq_nodes.specs.Trees.{collection, with_name, named, key_content, tree_of, items_tree}
+use Rattle.yq_nodes.proofs.Alikes.{no_first, alike_append}
+use Rattle.yq_nodes.proofs.AlikePieces.{scalar_alike, gap_alike, name_by}
+use Rattle.yq_nodes.proofs.EndLaws.{ends_safe, node_no_space}
+use Rattle.yq_nodes.proofs.GapLaws.{none_gap}
+use Rattle.yq_nodes.proofs.KeepLaws.{go_front, some_begins, taken_begins}
+use Rattle.yq_nodes.proofs.KeyKeeps.{lead_gap, lead_none, key_front}
+use Rattle.yq_nodes.proofs.PieceLaws.{front_not}
+use Rattle.yq_nodes.proofs.WrittenLaws.{node_then, key_append}
 use Rattle.yq_flow_scalars.specs.Tree as tree
 
 -- gaps before what begins a node

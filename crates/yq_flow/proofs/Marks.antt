@@ -4,7 +4,7 @@ use Rattle.std.proofs.Math.Seq.{drop-append_seam}
 use Rattle.std.proofs.lemmas.Bool.{le-leb, lt-ltb}
 use Rattle.yq_flow_scalars.specs.PlainText.{begins_marker}
 use Rattle.yq_flow_scalars.specs.Text.{is_feed}
-use Rattle.yq_inline.specs.Alike.{fresh}
+use Rattle.yq_nodes.specs.Alike.{fresh}
 use Rattle.yq_flow.specs.FlowPlaces.{behind_feed, marks_before}
 use Rattle.yq_flow.specs.Removals.{is_marks, ends_marked}
 

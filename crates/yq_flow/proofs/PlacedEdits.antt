@@ -3,14 +3,14 @@ use Rattle.std.proofs.Common.{◌≡◌, ℕ, suc, ◌+◌, ◌-◌, ◌≤◌, 
 use Rattle.std.proofs.lemmas.Bool.{false≢true}
 use Rattle.std.proofs.lemmas.Option.{same_Some}
 use Rattle.yq_flow_scalars.specs.Paths.{Step}
-use Rattle.yq_inline.specs.Collections.{CollPieces, coll_in}
-use Rattle.yq_inline.specs.Entries.{EntryPieces, place_in}
+use Rattle.yq_nodes.specs.Collections.{CollPieces, coll_in}
+use Rattle.yq_nodes.specs.Entries.{EntryPieces, place_in}
 use Rattle.yq_flow.specs.FlowEdits.{content_node, space_for, replacing, is_none, appending, behind_last}
 use Rattle.yq_flow.specs.FlowPlaces.{PlacedEdit, place_edit, replace_at, replace_place, last_end, append_at, append_in, append_place}
-use Rattle.yq_inline.specs.Nodes.{Key, Node, empty, alias, scalar, coll, anchored, Items, none, item, sep_text, node_text, items_text, IsNode}
-use Rattle.yq_inline.specs.Places.{Placed, placed, sequence, mapping, Parts, holder, with_anchor, locate, locate_items}
-use Rattle.yq_inline.proofs.EditPlaces.{end_placed}
-use Rattle.yq_inline.proofs.WrittenLaws.{node_then}
+use Rattle.yq_nodes.specs.Nodes.{Key, Node, empty, alias, scalar, coll, anchored, Items, none, item, sep_text, node_text, items_text, IsNode}
+use Rattle.yq_nodes.specs.Places.{Placed, placed, sequence, mapping, Parts, holder, with_anchor, locate, locate_items}
+use Rattle.yq_nodes.proofs.EditPlaces.{end_placed}
+use Rattle.yq_nodes.proofs.WrittenLaws.{node_then}
 
 -- another content
 content_edit : ℕ → Node → List ℕ → PlacedEdit

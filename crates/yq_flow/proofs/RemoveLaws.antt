@@ -8,18 +8,18 @@ use Rattle.yq_flow_scalars.specs.Characters.{pairs_returns}
 use Rattle.yq_flow_scalars.specs.Paths.{Step, is_here, further, remove_child, within, change}
 use Rattle.yq_flow_scalars.specs.PlainText.{begins_marker}
 use Rattle.yq_flow_scalars.specs.Text.{front, is_feed, is_marker}
-use Rattle.yq_inline.specs.declared.gap.Before.{Before}
-use Rattle.yq_inline.specs.declared.gap.Before.TheVariants.{Token, White, Break}
-use Rattle.yq_inline.specs.Alike.{stop, fresh}
-use Rattle.yq_inline.specs.Collections.{CollAt, IsCollAt}
-use Rattle.yq_inline.specs.Gaps.{goes, next, behind, is_break as at_break, AllGo, IsInlineGap}
-use Rattle.yq_inline.specs.Nodes.{Key, Sep, last, comma, Node, Items, none, item, key_text, sep_text, node_text, items_text, open_of, begins_node, is_close, IsSep, AreItems}
-use Rattle.yq_inline.specs.Trees.{inner, key_content, tree_of, items_tree}
-use Rattle.yq_inline.proofs.AlikePieces.{gap_alike}
-use Rattle.yq_inline.proofs.GapLaws.{none_gap}
-use Rattle.yq_inline.proofs.KeepLaws.{behind_fresh, keeps_alike, go_front}
-use Rattle.yq_inline.proofs.NodeAgain.{item_front}
-use Rattle.yq_inline.proofs.NodeKeeps.{sep_ends, key_text_alike, node_text_alike}
+use Rattle.yq_nodes.specs.declared.gap.Before.{Before}
+use Rattle.yq_nodes.specs.declared.gap.Before.TheVariants.{Token, White, Break}
+use Rattle.yq_nodes.specs.Alike.{stop, fresh}
+use Rattle.yq_nodes.specs.Collections.{CollAt, IsCollAt}
+use Rattle.yq_nodes.specs.Gaps.{goes, next, behind, is_break as at_break, AllGo, IsInlineGap}
+use Rattle.yq_nodes.specs.Nodes.{Key, Sep, last, comma, Node, Items, none, item, key_text, sep_text, node_text, items_text, open_of, begins_node, is_close, IsSep, AreItems}
+use Rattle.yq_nodes.specs.Trees.{inner, key_content, tree_of, items_tree}
+use Rattle.yq_nodes.proofs.AlikePieces.{gap_alike}
+use Rattle.yq_nodes.proofs.GapLaws.{none_gap}
+use Rattle.yq_nodes.proofs.KeepLaws.{behind_fresh, keeps_alike, go_front}
+use Rattle.yq_nodes.proofs.NodeAgain.{item_front}
+use Rattle.yq_nodes.proofs.NodeKeeps.{sep_ends, key_text_alike, node_text_alike}
 use Rattle.yq_flow.specs.FlowEdits.{FlowEdit, IsFlowEdited}
 use Rattle.yq_flow.specs.Removals.{IsApartFrom, before_next, behind_item, comma_left, ends_marked, ends_return, gap_of, gap_to, last_gone, last_out, last_removed, removing, removing_from}
 use Rattle.yq_flow.proofs.EditLaws.{edited, around_is, opened}

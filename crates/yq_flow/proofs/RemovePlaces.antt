@@ -7,20 +7,20 @@ use Rattle.std.specs.Option.{option_or}
 use Rattle.yq_flow_scalars.specs.Paths.{Step, is_here, further}
 use Rattle.yq_flow_scalars.specs.PlainText.{begins_marker}
 use Rattle.yq_flow_scalars.specs.Text.{is_feed}
-use Rattle.yq_inline.specs.Alike.{fresh}
-use Rattle.yq_inline.specs.Collections.{CollPieces, coll_in}
-use Rattle.yq_inline.specs.Entries.{entry_start, parts_in, parts_of}
-use Rattle.yq_inline.specs.Gaps.{IsInlineGap}
-use Rattle.yq_inline.specs.declared.gap.Before.TheVariants.{Token}
-use Rattle.yq_inline.specs.Nodes.{Key, Sep, last, comma, Node, empty, alias, scalar, coll, anchored, Items, none, item, key_text, sep_text, node_text, items_text, first_is, open_of, is_close, IsNode, IsSep, AreItems}
-use Rattle.yq_inline.specs.Places.{Parts, Placed, placed, key_placed, holder, locate, locate_items, mapping, sequence, with_anchor}
-use Rattle.yq_inline.specs.Reading.{gap_len}
-use Rattle.yq_inline.specs.Trees.{inner, key_content}
-use Rattle.yq_inline.proofs.EditPlaces.{end_placed, entry_placed}
-use Rattle.yq_inline.proofs.GapLaws.{gap_append}
-use Rattle.yq_inline.proofs.NodeAgain.{item_front}
-use Rattle.yq_inline.proofs.NodeKeeps.{sep_ends}
-use Rattle.yq_inline.proofs.TreeLaws.{key_tree}
+use Rattle.yq_nodes.specs.Alike.{fresh}
+use Rattle.yq_nodes.specs.Collections.{CollPieces, coll_in}
+use Rattle.yq_nodes.specs.Entries.{entry_start, parts_in, parts_of}
+use Rattle.yq_nodes.specs.Gaps.{IsInlineGap}
+use Rattle.yq_nodes.specs.declared.gap.Before.TheVariants.{Token}
+use Rattle.yq_nodes.specs.Nodes.{Key, Sep, last, comma, Node, empty, alias, scalar, coll, anchored, Items, none, item, key_text, sep_text, node_text, items_text, first_is, open_of, is_close, IsNode, IsSep, AreItems}
+use Rattle.yq_nodes.specs.Places.{Parts, Placed, placed, key_placed, holder, locate, locate_items, mapping, sequence, with_anchor}
+use Rattle.yq_nodes.specs.Reading.{gap_len}
+use Rattle.yq_nodes.specs.Trees.{inner, key_content}
+use Rattle.yq_nodes.proofs.EditPlaces.{end_placed, entry_placed}
+use Rattle.yq_nodes.proofs.GapLaws.{gap_append}
+use Rattle.yq_nodes.proofs.NodeAgain.{item_front}
+use Rattle.yq_nodes.proofs.NodeKeeps.{sep_ends}
+use Rattle.yq_nodes.proofs.TreeLaws.{key_tree}
 use Rattle.yq_flow.specs.FlowEdits.{FlowEdit}
 use Rattle.yq_flow.specs.FlowPlaces.{PlacedEdit, behind_feed, first_start, marks_before, only_end, past_gap, place_edit, remove_before, remove_end, remove_part, remove_place, space_at}
 use Rattle.yq_flow.specs.Removals.{before_next, behind_item, comma_left, ends_marked, gap_of, last_gone, last_out, last_removed, removing, removing_from, space_to}

@@ -5,11 +5,11 @@ use Rattle.std.proofs.lemmas.Option.{none-some, same_Some}
 use Rattle.std.specs.Option.{option_or}
 use Rattle.yq_flow_scalars.specs.Paths.{Step, is_here, further}
 use Rattle.yq_flow_scalars.specs.PlainText.{begins_marker}
-use Rattle.yq_inline.specs.Alike.{fresh}
-use Rattle.yq_inline.specs.Nodes.{Key, Sep, last, comma, Node, Items, none, item, key_text, sep_text, node_text, items_text}
-use Rattle.yq_inline.specs.Trees.{inner, key_content}
-use Rattle.yq_inline.proofs.NodeAgain.{items_longer}
-use Rattle.yq_inline.proofs.WrittenLaws.{sep_append}
+use Rattle.yq_nodes.specs.Alike.{fresh}
+use Rattle.yq_nodes.specs.Nodes.{Key, Sep, last, comma, Node, Items, none, item, key_text, sep_text, node_text, items_text}
+use Rattle.yq_nodes.specs.Trees.{inner, key_content}
+use Rattle.yq_nodes.proofs.NodeAgain.{items_longer}
+use Rattle.yq_nodes.proofs.WrittenLaws.{sep_append}
 use Rattle.yq_flow.specs.FlowEdits.{Becomes, FlowEdit}
 use Rattle.yq_flow.specs.Removals.{before_next, behind_item, comma_left, ends_marked, gap_of, last_gone, last_out, last_removed, next_text, removing_from, space_to, with_gap}
 use Rattle.yq_flow.proofs.ItemLaws.{put_before, becomes_same}

@@ -5,14 +5,14 @@ use Rattle.std.proofs.lemmas.Bool.{false≢true, not-false, or_right, and_parts,
 use Rattle.yq_flow_scalars.specs.Characters.{pairs_returns}
 use Rattle.yq_flow_scalars.specs.Text.{NoneIn, unless, front, is_white, is_feed, is_return}
 use Rattle.yq_flow_scalars.proofs.Bools.{at_byte}
-use Rattle.yq_inline.specs.Alike.{EndsItem}
-use Rattle.yq_inline.specs.Nodes.{Key, bare, keyed, Node, empty, alias, scalar, coll, anchored, Items, none, item, key_text, sep_text, node_text, items_text, open_of, in_name, begins_content, begins_node, is_close, IsInlineKey, IsLead, is_bare, IsNode, first_is}
-use Rattle.yq_inline.specs.Scalars.{IsScalarAt}
+use Rattle.yq_nodes.specs.Alike.{EndsItem}
+use Rattle.yq_nodes.specs.Nodes.{Key, bare, keyed, Node, empty, alias, scalar, coll, anchored, Items, none, item, key_text, sep_text, node_text, items_text, open_of, in_name, begins_content, begins_node, is_close, IsInlineKey, IsLead, is_bare, IsNode, first_is}
+use Rattle.yq_nodes.specs.Scalars.{IsScalarAt}
 use Rattle.yq_flow.specs.Removals.{ends_return}
 use Rattle.yq_flow.proofs.ItemSwaps.{item_cut}
-use Rattle.yq_inline.proofs.EndLaws.{ends_node, stops_here, last_space, by_close}
-use Rattle.yq_inline.proofs.KeepLaws.{NotEmpty, some_text, bare_text}
-use Rattle.yq_inline.proofs.KeyKeeps.{lead_none}
+use Rattle.yq_nodes.proofs.EndLaws.{ends_node, stops_here, last_space, by_close}
+use Rattle.yq_nodes.proofs.KeepLaws.{NotEmpty, some_text, bare_text}
+use Rattle.yq_nodes.proofs.KeyKeeps.{lead_none}
 
 return_append : (x : List ℕ) (b : ℕ) (y : List ℕ) → ends_return (x ++ (b ∷ y)) ≡ ends_return (b ∷ y)
 return_append [] b y = refl

@@ -11,18 +11,18 @@ use Rattle.yq_flow_scalars.specs.Scalar.{ScalarText, string_of}
 use Rattle.yq_flow_scalars.specs.Text.{is_space}
 use Rattle.yq_flow_scalars.specs.Tree as tree
 use Rattle.yq_flow_scalars.specs.Writable.{can_write_plain, in_flow}
-use Rattle.yq_inline.specs.declared.gap.Before.TheVariants.{Token, White}
-use Rattle.yq_inline.specs.Gaps.{IsInlineGap, stops}
-use Rattle.yq_inline.specs.Inline.{depth_limit}
-use Rattle.yq_inline.specs.Nodes.{key_text, sep_text, node_text, items_text, first_is, begins_content, is_bare, is_keyed, IsInlineKey, IsSep, IsNode, AreItems}
-use Rattle.yq_inline.specs.Scalars.{is_quoted, begins_scalar, IsScalarAt}
-use Rattle.yq_inline.specs.Trees.{inner, scalar_node, key_content, tree_of, items_tree}
+use Rattle.yq_nodes.specs.declared.gap.Before.TheVariants.{Token, White}
+use Rattle.yq_nodes.specs.Gaps.{IsInlineGap, stops}
+use Rattle.yq_nodes.specs.Inline.{depth_limit}
+use Rattle.yq_nodes.specs.Nodes.{key_text, sep_text, node_text, items_text, first_is, begins_content, is_bare, is_keyed, IsInlineKey, IsSep, IsNode, AreItems}
+use Rattle.yq_nodes.specs.Scalars.{is_quoted, begins_scalar, IsScalarAt}
+use Rattle.yq_nodes.specs.Trees.{inner, scalar_node, key_content, tree_of, items_tree}
 use Rattle.yq_flow.specs.Valued.{IsValid, IsLabel, IsValueTree, AreValueTrees, Spells}
-use Rattle.yq_inline.specs.Written.{scalar_text, flow_key, flow_sep, flow_of, flow_items, flow_text}
-use Rattle.yq_inline.proofs.GapLaws.{none_gap}
-use Rattle.yq_inline.proofs.PieceLaws.{front_is, front_not, no_space, scalar_begins}
+use Rattle.yq_nodes.specs.Written.{scalar_text, flow_key, flow_sep, flow_of, flow_items, flow_text}
+use Rattle.yq_nodes.proofs.GapLaws.{none_gap}
+use Rattle.yq_nodes.proofs.PieceLaws.{front_is, front_not, no_space, scalar_begins}
 use Rattle.yq_flow.proofs.SpelledScalars.{IsWritten, written_by}
-use Rattle.yq_inline.proofs.WrittenLaws.{node_then}
+use Rattle.yq_nodes.proofs.WrittenLaws.{node_then}
 
 -- where a content begins there is no white space, no break and no comment
 begins_here : (k : ℕ) (t : List ℕ) → ((bs : List ℕ) → is_space (k ∷ bs) ≡ false) → first_is k t ≡ true → is_space t ≡ false

@@ -15,11 +15,11 @@ use Rattle.yq_flow_scalars.specs.Text.{is_white, is_feed, is_return, is_break, f
 use Rattle.yq_flow_scalars.specs.Writable.{can_write_plain, is_string}
 use Rattle.yq_flow_scalars.specs.Written.{written, double}
 use Rattle.yq_flow_scalars.proofs.ContentLaws.{quoted_content_is}
-use Rattle.yq_scalar.proofs.PlainSpells.{plain_line, plain_opens, writable_text, writable_same, writable_piece, string_kind}
-use Rattle.yq_scalar.proofs.PlainWritten.{plain_text_parts}
-use Rattle.yq_scalar.proofs.WrittenLaws.{double_spells}
-use Rattle.yq_scalar.proofs.WrittenText.{line_holds, double_is_line}
-use Rattle.yq_inline.specs.Scalars.{is_quoted, has_its_lines, IsScalarAt, content_of, scalar_of}
+use Rattle.yq_block_scalars.proofs.PlainSpells.{plain_line, plain_opens, writable_text, writable_same, writable_piece, string_kind}
+use Rattle.yq_block_scalars.proofs.PlainWritten.{plain_text_parts}
+use Rattle.yq_block_scalars.proofs.WrittenLaws.{double_spells}
+use Rattle.yq_block_scalars.proofs.WrittenText.{line_holds, double_is_line}
+use Rattle.yq_nodes.specs.Scalars.{is_quoted, has_its_lines, IsScalarAt, content_of, scalar_of}
 use Rattle.yq_flow.specs.Valued.{IsValid}
 
 -- the content of one line is the line

@@ -14,11 +14,11 @@ use Rattle.yq_flow_scalars.specs.Text.{front}
 use Rattle.yq_flow_scalars.specs.Writable.{can_write, can_write_plain, is_string, is_single_char}
 use Rattle.yq_flow_scalars.specs.Written.{written, single, double, IsOneLine}
 use Rattle.yq_flow_scalars.proofs.ContentLaws.{quoted_content_is}
-use Rattle.yq_scalar.proofs.PlainSpells.{plain_line, plain_is_text, plain_opens, writable_text, writable_same, writable_piece, string_kind}
-use Rattle.yq_scalar.proofs.PlainWritten.{plain_text_parts}
-use Rattle.yq_scalar.proofs.WrittenLaws.{double_spells, single_spells}
-use Rattle.yq_scalar.proofs.WrittenText.{line_holds, line_is_text, double_is_line, single_is_line}
-use Rattle.yq_inline.specs.Scalars.{is_quoted, has_its_lines, scalar_of}
+use Rattle.yq_block_scalars.proofs.PlainSpells.{plain_line, plain_is_text, plain_opens, writable_text, writable_same, writable_piece, string_kind}
+use Rattle.yq_block_scalars.proofs.PlainWritten.{plain_text_parts}
+use Rattle.yq_block_scalars.proofs.WrittenLaws.{double_spells, single_spells}
+use Rattle.yq_block_scalars.proofs.WrittenText.{line_holds, line_is_text, double_is_line, single_is_line}
+use Rattle.yq_nodes.specs.Scalars.{is_quoted, has_its_lines, scalar_of}
 use Rattle.yq_flow.specs.Valued.{IsValid, SpellsScalar}
 use Rattle.yq_flow.proofs.SpelledScalars.{line_on, quote_indicates}
 

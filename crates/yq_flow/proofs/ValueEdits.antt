@@ -7,19 +7,19 @@ use Rattle.yq_flow_scalars.specs.Paths.{Step, change_child, append_child, within
 use Rattle.yq_flow_scalars.specs.Scalar.{ScalarText}
 use Rattle.yq_flow_scalars.specs.Writable.{can_write}
 use Rattle.yq_flow_scalars.specs.Written.{written}
-use Rattle.yq_inline.specs.Alike.{EndsItem}
-use Rattle.yq_inline.specs.Gaps.{IsInlineGap}
+use Rattle.yq_nodes.specs.Alike.{EndsItem}
+use Rattle.yq_nodes.specs.Gaps.{IsInlineGap}
 use Rattle.yq_flow.specs.FlowEdits.{put_value, behind_last, replacing, appending, IsFlowEdited, FlowEdit, behind_appended}
-use Rattle.yq_inline.specs.Entries.{EntryPieces}
-use Rattle.yq_inline.specs.Nodes.{Node, scalar, Items, none, item, items_text, AreItems}
-use Rattle.yq_inline.specs.Trees.{inner, scalar_node, key_content, tree_of}
+use Rattle.yq_nodes.specs.Entries.{EntryPieces}
+use Rattle.yq_nodes.specs.Nodes.{Node, scalar, Items, none, item, items_text, AreItems}
+use Rattle.yq_nodes.specs.Trees.{inner, scalar_node, key_content, tree_of}
 use Rattle.yq_flow.specs.Valued.{IsValid, IsLabel, IsValueTree}
-use Rattle.yq_inline.specs.Written.{flow_key, flow_of}
+use Rattle.yq_nodes.specs.Written.{flow_key, flow_of}
 use Rattle.yq_flow.proofs.EditLaws.{appended, replaced, Around, around_is}
 use Rattle.yq_flow.proofs.ItemPlaces.{item_behind, last_behind}
 use Rattle.yq_flow.proofs.SpelledLaws.{written_tree}
 use Rattle.yq_flow.proofs.ValueFits.{value_fits, item_fits, fit_of, scalar_fits, scalar_same}
-use Rattle.yq_inline.specs.Collections.{room_in, CollAt, item_in, IsCollAt}
+use Rattle.yq_nodes.specs.Collections.{room_in, CollAt, item_in, IsCollAt}
 use Rattle.yq_flow_scalars.specs.declared.style.Place.TheVariants as places
 use Rattle.yq_flow_scalars.specs.Tree as tree
 use Rattle.yq_flow_scalars.specs.Written as scalars

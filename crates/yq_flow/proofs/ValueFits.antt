@@ -11,16 +11,16 @@ use Rattle.yq_flow_scalars.specs.Scalar.{ScalarText}
 use Rattle.yq_flow_scalars.specs.Text.{is_marker}
 use Rattle.yq_flow_scalars.specs.Writable.{can_write, can_write_plain, is_string, is_single_char}
 use Rattle.yq_flow_scalars.specs.Written.{written}
-use Rattle.yq_scalar.proofs.PlainSpells.{writable_text, writable_piece}
-use Rattle.yq_scalar.proofs.WrittenLaws.{double_spells, single_spells}
-use Rattle.yq_inline.specs.Alike.{EndsItem}
+use Rattle.yq_block_scalars.proofs.PlainSpells.{writable_text, writable_piece}
+use Rattle.yq_block_scalars.proofs.WrittenLaws.{double_spells, single_spells}
+use Rattle.yq_nodes.specs.Alike.{EndsItem}
 use Rattle.yq_flow.specs.FlowEdits.{FitsNode, FitsItem}
-use Rattle.yq_inline.specs.Nodes.{scalar, node_text, is_close, is_bare, is_keyed, takes_anchor, IsNode}
-use Rattle.yq_inline.specs.Trees.{scalar_node, tree_of}
+use Rattle.yq_nodes.specs.Nodes.{scalar, node_text, is_close, is_bare, is_keyed, takes_anchor, IsNode}
+use Rattle.yq_nodes.specs.Trees.{scalar_node, tree_of}
 use Rattle.yq_flow.specs.Valued.{IsValid, IsLabel, IsValueTree}
-use Rattle.yq_inline.specs.Written.{scalar_text, flow_key, flow_of}
-use Rattle.yq_inline.proofs.Alikes.{no_first}
-use Rattle.yq_inline.proofs.EndLaws.{ends_plainly, ends_quote}
+use Rattle.yq_nodes.specs.Written.{scalar_text, flow_key, flow_of}
+use Rattle.yq_nodes.proofs.Alikes.{no_first}
+use Rattle.yq_nodes.proofs.EndLaws.{ends_plainly, ends_quote}
 use Rattle.yq_flow.proofs.ItemLaws.{Unmarked, ends_mark, marker_append}
 use Rattle.yq_flow.proofs.SpelledLaws.{no_bare, node_begins, written_node, items_fit, entries_fit}
 use Rattle.yq_flow.proofs.SpelledScalars.{plain_anywhere}

@@ -2,12 +2,12 @@
 use Rattle.std.proofs.Common.{◌≡◌, ℕ, List, map, true, false, refl, sym, subst, String, string_bytes, Result, Ok, Err, IfOk}
 use Rattle.std.specs.declared.alloc.Global.{Global}
 use Rattle.std.specs.Prelude.{Vec}
-use Rattle.yq_inline.specs.declared.value.Value.{Value}
-use Rattle.yq_inline.specs.declared.value.Value.TheVariants as values
+use Rattle.yq_nodes.specs.declared.value.Value.{Value}
+use Rattle.yq_nodes.specs.declared.value.Value.TheVariants as values
 use Rattle.yq_flow.specs.Valued.{IsValueTree, AreValueTrees}
-use Rattle.yq_inline.specs.Values.{node_of, field_of, items_of, entries_of}
+use Rattle.yq_nodes.specs.Values.{node_of, field_of, items_of, entries_of}
 use Rattle.yq_flow_scalars.specs.Tree as tree
-use Rattle.yq_inline.proofs.WrittenLaws.{node_list, node_map, map_twice}
+use Rattle.yq_nodes.proofs.WrittenLaws.{node_list, node_map, map_twice}
 
 abbrev Entry : Type 0
 Entry = String Global × Value

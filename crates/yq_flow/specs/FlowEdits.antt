@@ -3,11 +3,11 @@ use Rattle.std.specs.Prelude.{◌≡◌, ℕ, Bool, true, false, not, ◌||◌, 
 use Rattle.yq_flow_scalars.specs.Paths.{Step, is_here, further}
 use Rattle.yq_flow_scalars.specs.Text.{is_marker}
 use Rattle.yq_flow_scalars.specs.Tree as tree
-use Rattle.yq_inline.specs.Collections.{CollPieces, CollAt, put_at}
-use Rattle.yq_inline.specs.Entries.{EntryPieces}
-use Rattle.yq_inline.specs.Inline.{IsInline}
-use Rattle.yq_inline.specs.Nodes.{Key, bare, keyed, last, comma, Node, empty, alias, scalar, coll, anchored, Items, none, item, key_text, sep_text, node_text, is_bare, takes_anchor, is_keyed, IsInlineKey, IsNode}
-use Rattle.yq_inline.specs.Trees.{inner, named, key_content, tree_of}
+use Rattle.yq_nodes.specs.Collections.{CollPieces, CollAt, put_at}
+use Rattle.yq_nodes.specs.Entries.{EntryPieces}
+use Rattle.yq_nodes.specs.Inline.{IsInline}
+use Rattle.yq_nodes.specs.Nodes.{Key, bare, keyed, last, comma, Node, empty, alias, scalar, coll, anchored, Items, none, item, key_text, sep_text, node_text, is_bare, takes_anchor, is_keyed, IsInlineKey, IsNode}
+use Rattle.yq_nodes.specs.Trees.{inner, named, key_content, tree_of}
 
 -- In a text the bytes `old` give way to `new`; behind them stands `behind` (own).
 pub record Becomes (t u old new behind : List ℕ) : Type 0 where

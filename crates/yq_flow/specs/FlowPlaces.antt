@@ -5,13 +5,13 @@ use Rattle.yq_flow_scalars.specs.Paths.{Step, is_here, further}
 use Rattle.yq_flow_scalars.specs.PlainText.{begins_marker}
 use Rattle.yq_flow_scalars.specs.Text.{is_feed, front}
 use Rattle.yq_flow.specs.declared.flow_place.EditPlace.{EditPlace}
-use Rattle.yq_inline.specs.declared.gap.Before.TheVariants.{Token}
-use Rattle.yq_inline.specs.Entries.{content_place, end_of, entry_start, parts_of}
+use Rattle.yq_nodes.specs.declared.gap.Before.TheVariants.{Token}
+use Rattle.yq_nodes.specs.Entries.{content_place, end_of, entry_start, parts_of}
 use Rattle.yq_flow.specs.FlowEdits.{FlowEdit}
-use Rattle.yq_inline.specs.Nodes.{first_is}
-use Rattle.yq_inline.specs.Places.{Placed, placed, Content, nothing, name, text, sequence, mapping, Parts, end, part}
-use Rattle.yq_inline.specs.Reading.{gap_len}
-use Rattle.yq_inline.specs.Trees.{inner, unplaced_key}
+use Rattle.yq_nodes.specs.Nodes.{first_is}
+use Rattle.yq_nodes.specs.Places.{Placed, placed, Content, nothing, name, text, sequence, mapping, Parts, end, part}
+use Rattle.yq_nodes.specs.Reading.{gap_len}
+use Rattle.yq_nodes.specs.Trees.{inner, unplaced_key}
 
 -- where bytes that give way begin and end, and what takes their place before that which is written (own)
 pub record PlacedEdit : Type 0 where

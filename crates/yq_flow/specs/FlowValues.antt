@@ -6,11 +6,11 @@ use Rattle.yq_flow_scalars.specs.Keys.{depth}
 use Rattle.yq_flow_scalars.specs.Plain.{holds_break}
 use Rattle.yq_flow_scalars.specs.Scalar.{ScalarText}
 use Rattle.yq_flow_scalars.specs.Tree as tree
-use Rattle.yq_inline.specs.Alike.{EndsItem}
+use Rattle.yq_nodes.specs.Alike.{EndsItem}
 use Rattle.yq_flow.specs.FlowEdits.{FitsItem, FitsNode}
-use Rattle.yq_inline.specs.Nodes.{Key, Node, scalar, key_text, node_text, is_close}
-use Rattle.yq_inline.specs.Scalars as scalars
-use Rattle.yq_inline.specs.Trees.{key_content, tree_of}
+use Rattle.yq_nodes.specs.Nodes.{Key, Node, scalar, key_text, node_text, is_close}
+use Rattle.yq_nodes.specs.Scalars as scalars
+use Rattle.yq_nodes.specs.Trees.{key_content, tree_of}
 
 -- A text spells an entry of a flow mapping: before what stands behind an entry, and where so many collections may be nested, it is the text of one
 -- with that key, whose node stands for the tree (YAML 1.2.2, section 7.4.2).

@@ -4,11 +4,11 @@ use Rattle.std.specs.Prelude.{◌≡◌, ℕ, Bool, false, ◌||◌, ◌&&◌, �
 use Rattle.yq_flow_scalars.specs.Paths.{Step, is_here, further}
 use Rattle.yq_flow_scalars.specs.PlainText.{begins_marker}
 use Rattle.yq_flow_scalars.specs.Text.{is_feed, is_return, front, separates}
-use Rattle.yq_inline.specs.Alike.{fresh}
-use Rattle.yq_inline.specs.Collections.{CollPieces}
+use Rattle.yq_nodes.specs.Alike.{fresh}
+use Rattle.yq_nodes.specs.Collections.{CollPieces}
 use Rattle.yq_flow.specs.FlowEdits.{FlowEdit}
-use Rattle.yq_inline.specs.Nodes.{Key, Node, Sep, last, comma, Items, none, item, key_text, sep_text, node_text, items_text}
-use Rattle.yq_inline.specs.Trees.{inner, key_content}
+use Rattle.yq_nodes.specs.Nodes.{Key, Node, Sep, last, comma, Items, none, item, key_text, sep_text, node_text, items_text}
+use Rattle.yq_nodes.specs.Trees.{inner, key_content}
 
 -- the text is `---` or `...` (YAML 1.2.2, sections 9.1.2 and 9.1.3)
 abbrev pub is_marks : List ℕ → Bool

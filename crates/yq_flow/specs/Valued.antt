@@ -9,10 +9,10 @@ use Rattle.yq_flow_scalars.specs.Plain.{ends_plain, holds_break}
 use Rattle.yq_flow_scalars.specs.Scalar.{ScalarText, IsScalar}
 use Rattle.yq_flow_scalars.specs.Tree as tree
 use Rattle.yq_flow_scalars.specs.Writable.{in_flow}
-use Rattle.yq_inline.specs.Inline.{IsInline, depth_limit}
-use Rattle.yq_inline.specs.Nodes.{Node, node_text}
-use Rattle.yq_inline.specs.Scalars as scalars
-use Rattle.yq_inline.specs.Trees.{inner, tree_of}
+use Rattle.yq_nodes.specs.Inline.{IsInline, depth_limit}
+use Rattle.yq_nodes.specs.Nodes.{Node, node_text}
+use Rattle.yq_nodes.specs.Scalars as scalars
+use Rattle.yq_nodes.specs.Trees.{inner, tree_of}
 
 -- a scalar's kind fits its text, which is UTF-8 (YAML 1.2.2, section 10.3.2)
 pub record IsValid (s : ScalarText) : Type 0 where

@@ -9,14 +9,14 @@ ghost use Rattle.yq_flow_scalars.specs.Writable.{can_write};
 ghost use Rattle.yq_flow_scalars.specs.Written as scalars;
 ghost use Rattle.yq_flow_scalars.specs.declared.style.Place.TheVariants.{Flow, Block};
 ghost use Rattle.yq_flow_scalars.specs.declared.style.Style.{Style};
-ghost use Rattle.yq_inline.specs.Collections.{CollAt, IsCollAt, item_in, room_in};
-ghost use Rattle.yq_inline.specs.Entries.{EntryPieces};
+ghost use Rattle.yq_nodes.specs.Collections.{CollAt, IsCollAt, item_in, room_in};
+ghost use Rattle.yq_nodes.specs.Entries.{EntryPieces};
 ghost use Rattle.yq_flow.specs.FlowEdits.{FitsItem, FitsNode, FlowEdit, IsFlowEdited, appending, behind_appended, put_value, replacing};
-ghost use Rattle.yq_inline.specs.Nodes.{Key, Node, node_text, scalar};
+ghost use Rattle.yq_nodes.specs.Nodes.{Key, Node, node_text, scalar};
 ghost use Rattle.yq_flow.specs.Removals.{removing};
-ghost use Rattle.yq_inline.specs.Trees.{inner, key_content, scalar_node, tree_of};
+ghost use Rattle.yq_nodes.specs.Trees.{inner, key_content, scalar_node, tree_of};
 ghost use Rattle.yq_flow.specs.Valued.{IsLabel, IsValid, IsValueTree, Spells, SpellsScalar};
-ghost use Rattle.yq_inline.specs.Written.{flow_key, flow_of, flow_text};
+ghost use Rattle.yq_nodes.specs.Written.{flow_key, flow_of, flow_text};
 ghost use Rattle.yq_flow.specs.FlowValues.{SpellsInFlow};
 
 /// The content of an item or entry of a flow collection gives way to another node, behind its own

@@ -1,12 +1,12 @@
 //! Where the bytes of an edit of a flow collection stand.
 ghost use Rattle.std.specs.Prelude.{◌≡◌, option_map};
-ghost use Rattle.yq_inline.specs.Entries as places;
-ghost use Rattle.yq_inline.specs.View as views;
-ghost use Rattle.yq_inline.specs.View.{view};
+ghost use Rattle.yq_nodes.specs.Entries as places;
+ghost use Rattle.yq_nodes.specs.View as views;
+ghost use Rattle.yq_nodes.specs.View.{view};
 ghost use Rattle.yq_flow.specs.FlowPlaces as spec;
 
 use yq_flow_scalars::Piece;
-use yq_inline::{Form, Inline};
+use yq_nodes::{Form, Inline};
 
 /// Where an edit changes a text, in bytes: what stands from `start` to `end` gives way to `lead` and,
 /// behind that, to what is written.

@@ -1,15 +1,15 @@
 //! Where the bytes of an item or entry of a flow collection stand that is taken out.
 ghost use Rattle.std.specs.Prelude.{◌≡◌, drop, option_map};
 ghost use Rattle.yq_flow_scalars.specs.Paths as paths;
-ghost use Rattle.yq_inline.specs.Entries as places;
-ghost use Rattle.yq_inline.specs.View as views;
-ghost use Rattle.yq_inline.specs.View.{view};
+ghost use Rattle.yq_nodes.specs.Entries as places;
+ghost use Rattle.yq_nodes.specs.View as views;
+ghost use Rattle.yq_nodes.specs.View.{view};
 ghost use Rattle.yq_flow.specs.FlowPlaces as spec;
 
 use crate::flow_place::{EditPlace, end_of};
+use yq_flow_reading::plain_text::begins_marker;
 use yq_flow_scalars::Piece;
-use yq_flow_scalars::plain_text::begins_marker;
-use yq_inline::{Form, Inline, Step, first_is, gap_len};
+use yq_nodes::{Form, Inline, Step, first_is, gap_len};
 
 /// What stands behind so many bytes.
 pub fn behind(text: &[u8], at: usize) -> &[u8]

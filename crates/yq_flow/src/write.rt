@@ -6,16 +6,17 @@ ghost use Rattle.yq_flow_scalars.specs.Writable as writable;
 ghost use Rattle.yq_flow_scalars.specs.declared.style.Style.TheVariants.{Plain};
 ghost use Rattle.yq_flow.specs.FlowValues.{SpellsEntry};
 ghost use Rattle.yq_flow.specs.Valued.{AreValueTrees, IsValid, IsValueTree, Spells};
-ghost use Rattle.yq_inline.specs.Values.{entries_of, items_of, node_of};
-ghost use Rattle.yq_inline.specs.Written as spec;
+ghost use Rattle.yq_nodes.specs.Values.{entries_of, items_of, node_of};
+ghost use Rattle.yq_nodes.specs.Written as spec;
 
 use std::alloc::{AllocError, Global};
-use yq_flow_scalars::{Kind, Place, Scalar, Style, can_write};
-use yq_inline::Value;
+use yq_flow_reading::can_write;
+use yq_flow_scalars::{Kind, Place, Scalar, Style};
+use yq_nodes::Value;
 use yq_scalar::write_scalar;
 
 /// Whether the scalar stands plain there.
-#[tactic(auto, unfolding(yq_flow_scalars::specs::Writable::can_write_plain), using(yq_inline::proofs::WrittenLaws::other_plain))]
+#[tactic(auto, unfolding(yq_flow_scalars::specs::Writable::can_write_plain), using(yq_nodes::proofs::WrittenLaws::other_plain))]
 fn is_plain(scalar: &Scalar, place: Place) -> bool
     ensures value { result ≡ writable.can_write scalar.now Plain place }
     ensures kind { IsScalar scalar.now.kind scalar.now.text }
@@ -24,7 +25,7 @@ fn is_plain(scalar: &Scalar, place: Place) -> bool
 }
 
 /// Adds a scalar, without quotes if it can be.
-#[tactic(auto, unfolding(yq_inline::specs::Written::scalar_text, yq_flow_scalars::specs::Writable::can_write_plain))]
+#[tactic(auto, unfolding(yq_nodes::specs::Written::scalar_text, yq_flow_scalars::specs::Writable::can_write_plain))]
 pub fn push_scalar(
     alloc: Global,
     out: &mut String,
@@ -56,7 +57,7 @@ fn push_key(alloc: Global, out: &mut String, key: &str) -> Result<(), AllocError
 
 /// Adds a value.
 #[cycle(write)]
-#[tactic(auto, unfolding(yq_inline::specs::Written::flow_of, yq_inline::specs::Nodes::node_text))]
+#[tactic(auto, unfolding(yq_nodes::specs::Written::flow_of, yq_nodes::specs::Nodes::node_text))]
 fn push_value(alloc: Global, out: &mut String, value: &Value) -> Result<(), AllocError>
     ensures text { OnOk result (string_bytes out.new ≡ string_bytes out.old ++
         spec.flow_text (node_of value.now)) }

@@ -5,13 +5,13 @@ use Rattle.std.specs.Prelude.{is_some}
 use Rattle.yq_flow_scalars.specs.Answers.{◌>>=◌}
 use Rattle.yq_flow_scalars.specs.Paths.{Step}
 use Rattle.yq_flow_scalars.specs.Tree.{Node}
-use Rattle.yq_inline.specs.Collections.{CollPieces}
+use Rattle.yq_nodes.specs.Collections.{CollPieces}
 use Rattle.yq_flow.specs.FlowEdits.{FlowEdit, appending}
 use Rattle.yq_flow.specs.FlowPlaces.{PlacedEdit, append_place, place_edit}
-use Rattle.yq_inline.specs.Nodes.{key_text}
-use Rattle.yq_inline.specs.Places.{Placed, placed, sequence, mapping, Parts, locate, locate_items}
-use Rattle.yq_inline.specs.Written.{flow_key, flow_of, flow_text}
-use Rattle.yq_rows.specs.Rows.{Cut, cut_text}
+use Rattle.yq_nodes.specs.Nodes.{key_text}
+use Rattle.yq_nodes.specs.Places.{Placed, placed, sequence, mapping, Parts, locate, locate_items}
+use Rattle.yq_nodes.specs.Written.{flow_key, flow_of, flow_text}
+use Rattle.yq_cut.specs.Rows.{Cut, cut_text}
 use Rattle.yq_places.specs.FlowNodes.{flow_collection}
 use Rattle.yq_places.specs.FlowViews.{behind_anchor, placed_collection}
 use Rattle.yq_places.specs.declared.places.flow_node.FlowHead.{FlowHead}

@@ -4,13 +4,13 @@ use Rattle.std.proofs.Math.Seq.{take-append_seam, drop-append_seam}
 use Rattle.std.specs.Str.{IsCharBoundary}
 use Rattle.yq_flow_scalars.specs.Answers.{◌>>=◌}
 use Rattle.yq_flow_scalars.specs.Paths.{Step}
-use Rattle.yq_inline.specs.Collections.{CollPieces}
-use Rattle.yq_inline.specs.Entries.{EntryPieces, item_at}
-use Rattle.yq_inline.specs.Nodes.{node_text}
-use Rattle.yq_inline.specs.Places.{Placed}
+use Rattle.yq_nodes.specs.Collections.{CollPieces}
+use Rattle.yq_nodes.specs.Entries.{EntryPieces, item_at}
+use Rattle.yq_nodes.specs.Nodes.{node_text}
+use Rattle.yq_nodes.specs.Places.{Placed}
 use Rattle.yq_flow.specs.FlowEdits.{FlowEdit}
 use Rattle.yq_flow.specs.FlowPlaces.{PlacedEdit, place_edit}
-use Rattle.yq_rows.specs.Rows.{Cut, cut_text}
+use Rattle.yq_cut.specs.Rows.{Cut, cut_text}
 use Rattle.yq_documents.specs.Reading.{cut_of, read_at}
 use Rattle.yq_places.specs.FlowNodes.{flow_collection}
 use Rattle.yq_places.specs.FlowViews.{IsHeadOf, FlowAgrees, behind_anchor, collection_view, placed_collection}

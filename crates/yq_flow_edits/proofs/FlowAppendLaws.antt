@@ -9,15 +9,15 @@ use Rattle.yq_flow_scalars.specs.Keys.{depth, keys_of}
 use Rattle.yq_flow_scalars.specs.Paths.{Step, append_child, node_at}
 use Rattle.yq_flow_scalars.specs.Tree as tree
 use Rattle.yq_flow_scalars.specs.Tree.{children_of}
-use Rattle.yq_inline.specs.Collections.{CollAt, CollPieces, IsCollAt, room_in}
+use Rattle.yq_nodes.specs.Collections.{CollAt, CollPieces, IsCollAt, room_in}
 use Rattle.yq_flow.specs.FlowEdits.{FlowEdit, add_item, appending, behind_appended, is_none}
-use Rattle.yq_inline.specs.Nodes.{Key, Node, Items, none, item, node_text}
+use Rattle.yq_nodes.specs.Nodes.{Key, Node, Items, none, item, node_text}
 use Rattle.yq_flow.specs.Valued.{IsLabel, IsValueTree}
-use Rattle.yq_inline.specs.Written.{flow_key, flow_of}
+use Rattle.yq_nodes.specs.Written.{flow_key, flow_of}
 use Rattle.yq_flow.proofs.EditLaws.{around_is}
 use Rattle.yq_flow.proofs.EditSpans.{ends_bound}
 use Rattle.yq_flow.proofs.ValueEdits.{appended_ends, value_appended}
-use Rattle.yq_rows.specs.Rows.{Cut, cut_text}
+use Rattle.yq_cut.specs.Rows.{Cut, cut_text}
 use Rattle.yq_documents.specs.Documents.{Document, EachHasFitKeys, HasFitKey, HasFitKeys, document_parts}
 use Rattle.yq_places.specs.FlowNodes.{flow_collection}
 use Rattle.yq_documents.specs.Reading as reading

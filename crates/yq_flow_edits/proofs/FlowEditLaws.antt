@@ -4,15 +4,15 @@ use Rattle.std.proofs.Math.Seq.{take-append_seam}
 use Rattle.yq_flow_scalars.specs.Characters.{text_limit}
 use Rattle.yq_flow_scalars.specs.Paths.{Step, change, within}
 use Rattle.yq_flow_scalars.specs.Tree.{Children}
-use Rattle.yq_inline.specs.Collections.{CollPieces}
+use Rattle.yq_nodes.specs.Collections.{CollPieces}
 use Rattle.yq_flow.specs.FlowEdits.{FlowEdit, IsFlowEdited, edited_node}
-use Rattle.yq_inline.specs.Nodes.{Node}
-use Rattle.yq_inline.specs.Nodes.{node_text}
-use Rattle.yq_rows.specs.Exchange.{row_front, with_content}
-use Rattle.yq_rows.specs.Rows.{Inline, content_text, print_row, rows_text, Part, Cut, cut_text}
-use Rattle.yq_rows.proofs.PlaceLaws.{row_front-append}
-use Rattle.yq_rows.proofs.seams.SeamLaws.{rows_text-append}
-use Rattle.yq_rows.proofs.splices.SpliceTexts.{own_gap, own_end}
+use Rattle.yq_nodes.specs.Nodes.{Node}
+use Rattle.yq_nodes.specs.Nodes.{node_text}
+use Rattle.yq_cut.specs.Exchange.{row_front, with_content}
+use Rattle.yq_cut.specs.Rows.{Inline, content_text, print_row, rows_text, Part, Cut, cut_text}
+use Rattle.yq_cut.proofs.PlaceLaws.{row_front-append}
+use Rattle.yq_cut.proofs.seams.SeamLaws.{rows_text-append}
+use Rattle.yq_cut.proofs.splices.SpliceTexts.{own_gap, own_end}
 use Rattle.yq_documents.specs.Documents.{HasFitKeys, lead_of}
 use Rattle.yq_documents.specs.Reading.{read_at, root_of}
 use Rattle.yq_places.specs.RowPaths.{IsReadable}

@@ -2,10 +2,10 @@
 use Rattle.std.proofs.Common.{◌≡◌, ℕ, ◌+◌, ◌≤◌, true, List, [], ◌++◌, length, Option, Some, None, option_map, refl, sym, ap, ◌∙◌, subst, arith, length-append}
 use Rattle.std.proofs.lemmas.Option.{none-some, same_Some}
 use Rattle.yq_flow_scalars.specs.Paths.{Step}
-use Rattle.yq_inline.specs.Collections.{CollAt, CollPieces, IsCollAt}
-use Rattle.yq_inline.specs.Entries.{EntryPieces, item_at}
-use Rattle.yq_inline.specs.Nodes.{Key, Node, coll, node_text, items_text, IsNode}
-use Rattle.yq_inline.specs.Places.{Placed, locate}
+use Rattle.yq_nodes.specs.Collections.{CollAt, CollPieces, IsCollAt}
+use Rattle.yq_nodes.specs.Entries.{EntryPieces, item_at}
+use Rattle.yq_nodes.specs.Nodes.{Key, Node, coll, node_text, items_text, IsNode}
+use Rattle.yq_nodes.specs.Places.{Placed, locate}
 use Rattle.yq_flow.specs.FlowEdits.{FlowEdit, appending, replacing}
 use Rattle.yq_flow.specs.FlowPlaces.{append_place, place_edit, remove_place, replace_place}
 use Rattle.yq_flow.specs.Removals.{removing}
@@ -13,7 +13,7 @@ use Rattle.yq_flow.proofs.EditLaws.{Around, around_is}
 use Rattle.yq_flow.proofs.PlacedEdits.{append_placed, replace_placed}
 use Rattle.yq_flow.proofs.RemovePlaces.{remove_placed}
 use Rattle.yq_flow.proofs.RemoveTexts.{removed_text}
-use Rattle.yq_inline.proofs.PathLaws.{items_hold}
+use Rattle.yq_nodes.proofs.PathLaws.{items_hold}
 use Rattle.yq_places.specs.FlowViews.{IsHeadOf, FlowAgrees, behind_anchor, collection_view, placed_collection}
 use Rattle.yq_places.specs.declared.places.flow_node.FlowHead.{FlowHead}
 use Rattle.yq_flow_edits.specs.EditPlaces.{moved_on}

@@ -8,8 +8,8 @@ use Rattle.std.specs.Prelude.{is_some, option_and_then}
 use Rattle.yq_flow_scalars.specs.Answers.{◌>>=◌}
 use Rattle.yq_flow_scalars.specs.Paths.{Step, node_at}
 use Rattle.yq_flow_scalars.specs.Tree as tree
-use Rattle.yq_inline.specs.Collections.{CollPieces}
-use Rattle.yq_inline.specs.Trees.{tree_of}
+use Rattle.yq_nodes.specs.Collections.{CollPieces}
+use Rattle.yq_nodes.specs.Trees.{tree_of}
 use Rattle.yq_lines.specs.Comments.{head_comment}
 use Rattle.yq_lines.specs.Group.{level_or}
 use Rattle.yq_lines.specs.Outline.{Mark, Bare, Key, Dash, Line, level, Outline, end, row, flatten, IsEven, IsWhole, anchored, collection, head_or, children, value}
@@ -19,11 +19,11 @@ use Rattle.yq_lines.proofs.Decides.{flatten-group}
 use Rattle.yq_lines.proofs.Finding.{path_node}
 use Rattle.yq_lines.proofs.PlaceLaws.{placed}
 use Rattle.yq_lines.proofs.Plug.{allows_from}
-use Rattle.yq_rows.specs.Exchange.{behind_row}
-use Rattle.yq_rows.specs.Rows.{Content, Nothing, Inline, Block, Row, Part, Cut, cut_text, mark_column}
+use Rattle.yq_cut.specs.Exchange.{behind_row}
+use Rattle.yq_cut.specs.Rows.{Content, Nothing, Inline, Block, Row, Part, Cut, cut_text, mark_column}
 use Rattle.yq_documents.specs.Documents.{document_parts}
 use Rattle.yq_places.specs.FlowNodes.{bare_line, content_flow, find_head, flow_collection, head_line, line_collection, part_collection}
-use Rattle.yq_walk.specs.Lines.{content_anchor, head_of, lines_of, mark_line}
+use Rattle.yq_row_lines.specs.Lines.{content_anchor, head_of, lines_of, mark_line}
 use Rattle.yq_documents.specs.Reading.{outline_of, read_at, root_of}
 use Rattle.yq_documents.specs.LinesInRows.{document_row, RowLine, row_line}
 use Rattle.yq_places.proofs.FlowPieces.{head_tree}

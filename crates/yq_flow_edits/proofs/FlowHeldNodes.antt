@@ -5,10 +5,10 @@ use Rattle.std.specs.Prelude.{option_and_then}
 use Rattle.yq_flow_scalars.specs.Paths.{Step, is_here, further, child_at, node_at}
 use Rattle.yq_flow_scalars.specs.Tree as tree
 use Rattle.yq_flow_scalars.specs.Tree.{Children, children_of}
-use Rattle.yq_inline.specs.Collections.{CollPieces, coll_along, coll_in}
-use Rattle.yq_inline.specs.Entries.{EntryPieces, inside, item_at}
-use Rattle.yq_inline.specs.Nodes.{Node, empty, alias, scalar, coll, anchored, Items, none, item, sep_text, items_text}
-use Rattle.yq_inline.specs.Trees.{collection, inner, items_tree, key_content, tree_of, with_name}
+use Rattle.yq_nodes.specs.Collections.{CollPieces, coll_along, coll_in}
+use Rattle.yq_nodes.specs.Entries.{EntryPieces, inside, item_at}
+use Rattle.yq_nodes.specs.Nodes.{Node, empty, alias, scalar, coll, anchored, Items, none, item, sep_text, items_text}
+use Rattle.yq_nodes.specs.Trees.{collection, inner, items_tree, key_content, tree_of, with_name}
 use Rattle.yq_lines.specs.Outline as outlines
 
 -- ---- what a collection holds

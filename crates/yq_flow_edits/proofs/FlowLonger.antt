@@ -2,16 +2,16 @@
 use Rattle.std.proofs.Common.{◌≡◌, ℕ, ◌+◌, ◌-◌, ◌≤◌, Bool, true, false, cond, List, [], ◌∷◌, ◌++◌, length, Option, Some, None, option_map, refl, sym, ap, ◌∙◌, arith, append_assoc, length-append}
 use Rattle.std.specs.Option.{option_or}
 use Rattle.yq_flow_scalars.specs.Paths.{Step, is_here, further}
-use Rattle.yq_inline.specs.Alike.{fresh}
-use Rattle.yq_inline.specs.Collections.{CollPieces}
-use Rattle.yq_inline.specs.Entries.{EntryPieces, item_at}
+use Rattle.yq_nodes.specs.Alike.{fresh}
+use Rattle.yq_nodes.specs.Collections.{CollPieces}
+use Rattle.yq_nodes.specs.Entries.{EntryPieces, item_at}
 use Rattle.yq_flow.specs.FlowEdits.{FlowEdit, appending, behind_last}
 use Rattle.yq_flow.specs.FlowPlaces.{place_edit}
-use Rattle.yq_inline.specs.Nodes.{Key, Sep, last, comma, Node, Items, none, item, items_text, key_text, node_text, sep_text}
+use Rattle.yq_nodes.specs.Nodes.{Key, Sep, last, comma, Node, Items, none, item, items_text, key_text, node_text, sep_text}
 use Rattle.yq_flow.specs.Removals.{before_next, behind_item, comma_left, ends_marked, gap_of, gap_to, last_gone, last_out, last_removed, next_text, removing_from, space_to}
-use Rattle.yq_inline.specs.Trees.{inner, key_content}
+use Rattle.yq_nodes.specs.Trees.{inner, key_content}
 use Rattle.yq_flow.proofs.RemovePlaces.{or_mapped}
-use Rattle.yq_inline.proofs.WrittenLaws.{items_append, sep_append}
+use Rattle.yq_nodes.proofs.WrittenLaws.{items_append, sep_append}
 use Rattle.yq_flow_edits.specs.EditPlaces.{moved_on}
 
 -- ---- more text behind a collection

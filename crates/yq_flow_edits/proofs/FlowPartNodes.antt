@@ -8,22 +8,22 @@ use Rattle.yq_flow_scalars.specs.Paths.{Step, child_at, node_at}
 use Rattle.yq_flow_scalars.specs.Tree as tree
 use Rattle.yq_flow_scalars.specs.Tree.{children_of}
 use Rattle.yq_flow_scalars.proofs.Bools.{bind_some}
-use Rattle.yq_inline.specs.Collections.{CollPieces, coll_along}
-use Rattle.yq_inline.specs.Entries.{EntryPieces, inside, item_at}
-use Rattle.yq_inline.specs.Nodes.{Node}
-use Rattle.yq_inline.specs.Trees.{tree_of}
+use Rattle.yq_nodes.specs.Collections.{CollPieces, coll_along}
+use Rattle.yq_nodes.specs.Entries.{EntryPieces, inside, item_at}
+use Rattle.yq_nodes.specs.Nodes.{Node}
+use Rattle.yq_nodes.specs.Trees.{tree_of}
 use Rattle.yq_lines.specs.Ends.{found_line}
 use Rattle.yq_lines.specs.Group.{level_or}
 use Rattle.yq_lines.specs.Outline.{Outline, IsEven, level, row, anchored, head_or, value}
 use Rattle.yq_lines.specs.Places.{FoundLine, content, lines_before}
 use Rattle.yq_lines.proofs.Finding.{FoundNode, node-anchored, path_node}
 use Rattle.yq_lines.proofs.Plug.{allows_from}
-use Rattle.yq_rows.specs.Exchange.{behind_row}
-use Rattle.yq_rows.specs.Rows.{Content, Nothing, Inline, Block, Part, Cut, cut_text}
+use Rattle.yq_cut.specs.Exchange.{behind_row}
+use Rattle.yq_cut.specs.Rows.{Content, Nothing, Inline, Block, Part, Cut, cut_text}
 use Rattle.yq_documents.specs.Documents.{Document, document_parts}
 use Rattle.yq_documents.specs.Reading.{document_of, outline_of, read_at}
 use Rattle.yq_documents.specs.LinesInRows.{RowLine, document_row, row_line, row_line_of}
-use Rattle.yq_walk.specs.Lines.{content_anchor, head_of}
+use Rattle.yq_row_lines.specs.Lines.{content_anchor, head_of}
 use Rattle.yq_places.specs.FlowNodes.{content_flow, find_head}
 use Rattle.yq_places.specs.NodesAt.{node_in}
 use Rattle.yq_places.specs.PlacedRows.{PlacedPart, placed_document}

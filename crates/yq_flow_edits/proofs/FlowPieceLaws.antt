@@ -9,7 +9,7 @@ use Rattle.yq_flow_scalars.specs.Characters.{pairs_returns}
 use Rattle.yq_flow_scalars.specs.Text.{front, is_feed, is_return}
 use Rattle.yq_flow.specs.FlowEdits.{FlowEdit}
 use Rattle.yq_flow.proofs.ReturnLaws.{Whole}
-use Rattle.yq_rows.proofs.CharacterLaws.{all_text, all_join, pairs_back}
+use Rattle.yq_cut.proofs.CharacterLaws.{all_text, all_join, pairs_back}
 use Rattle.yq_change.specs.TextPieces.{IsPiece}
 
 -- ---- a text cut in two

@@ -10,25 +10,25 @@ use Rattle.yq_flow_scalars.specs.Paths.{Step, change, change_child, is_here, fur
 use Rattle.yq_flow_scalars.specs.Scalar.{ScalarText}
 use Rattle.yq_flow_scalars.specs.Tree as tree
 use Rattle.yq_flow_scalars.specs.declared.style.Place.TheVariants.{Flow}
-use Rattle.yq_inline.specs.Collections.{CollAt, CollPieces, IsCollAt, item_in, put_at, room_in}
-use Rattle.yq_inline.specs.Entries.{EntryPieces, item_at}
+use Rattle.yq_nodes.specs.Collections.{CollAt, CollPieces, IsCollAt, item_in, put_at, room_in}
+use Rattle.yq_nodes.specs.Entries.{EntryPieces, item_at}
 use Rattle.yq_flow.specs.FlowEdits.{FlowEdit, IsFlowEdited, anchor_in, content_node, put_content, put_item, put_value, replacing, space_for, spaced_key}
-use Rattle.yq_inline.specs.Nodes as inline
-use Rattle.yq_inline.specs.Nodes.{Key, bare, keyed, Items, none, item, is_bare, node_text}
-use Rattle.yq_inline.specs.Places.{locate}
-use Rattle.yq_inline.specs.Scalars.{style_of}
-use Rattle.yq_inline.specs.Trees.{inner, key_content, named, scalar_node}
+use Rattle.yq_nodes.specs.Nodes as inline
+use Rattle.yq_nodes.specs.Nodes.{Key, bare, keyed, Items, none, item, is_bare, node_text}
+use Rattle.yq_nodes.specs.Places.{locate}
+use Rattle.yq_nodes.specs.Scalars.{style_of}
+use Rattle.yq_nodes.specs.Trees.{inner, key_content, named, scalar_node}
 use Rattle.yq_flow.specs.Valued.{IsValueTree}
 use Rattle.yq_flow.proofs.EditLaws.{around_is}
 use Rattle.yq_flow.proofs.EditSpans.{EditIsSpan, replace_spans}
-use Rattle.yq_inline.proofs.PathLaws.{items_hold}
+use Rattle.yq_nodes.proofs.PathLaws.{items_hold}
 use Rattle.yq_flow.proofs.PlacedEdits.{replace_placed}
 use Rattle.yq_flow.proofs.ValueEdits.{change_last, scalar_replaced, value_replaced}
 use Rattle.yq_flow.proofs.ValueFits.{scalar_block}
 use Rattle.yq_lines.specs.Outline.{anchored}
-use Rattle.yq_rows.specs.Rows.{Cut, cut_text}
+use Rattle.yq_cut.specs.Rows.{Cut, cut_text}
 use Rattle.yq_documents.specs.Documents.{EachHasFitKeys, HasFitKey, HasFitKeys, lead_of}
-use Rattle.yq_documents.specs.Nodes.{anchor_of}
+use Rattle.yq_documents.specs.TreeEdits.{anchor_of}
 use Rattle.yq_documents.specs.Reading.{documents, read_at, root_of}
 use Rattle.yq_documents.specs.TreeEdits.{replaced}
 use Rattle.yq_places.specs.FlowViews.{LeadsToHead}

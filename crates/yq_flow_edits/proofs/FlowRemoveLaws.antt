@@ -4,11 +4,11 @@ use Rattle.std.proofs.lemmas.Option.{same_Some}
 use Rattle.std.specs.Str.{IsCharBoundary}
 use Rattle.yq_flow_scalars.specs.Characters.{pairs_returns, text_limit}
 use Rattle.yq_flow_scalars.specs.Paths.{Step, change, remove_child, within}
-use Rattle.yq_inline.specs.Collections.{CollAt, CollPieces, IsCollAt}
+use Rattle.yq_nodes.specs.Collections.{CollAt, CollPieces, IsCollAt}
 use Rattle.yq_flow.specs.FlowEdits.{FlowEdit, IsFlowEdited}
 use Rattle.yq_flow.specs.FlowPlaces.{place_edit}
-use Rattle.yq_inline.specs.Nodes.{node_text}
-use Rattle.yq_inline.specs.Places.{locate}
+use Rattle.yq_nodes.specs.Nodes.{node_text}
+use Rattle.yq_nodes.specs.Places.{locate}
 use Rattle.yq_flow.specs.Removals.{removing}
 use Rattle.yq_flow.proofs.EditLaws.{around_is}
 use Rattle.yq_flow.proofs.EditSpans.{remove_spans}
@@ -16,7 +16,7 @@ use Rattle.yq_flow.proofs.RemoveLaws.{removed, removed_whole}
 use Rattle.yq_flow.proofs.RemovePlaces.{remove_placed}
 use Rattle.yq_flow.proofs.RemoveTexts.{RemovedText, option_some, removed_text}
 use Rattle.yq_flow.proofs.ReturnLaws.{pairs_behind}
-use Rattle.yq_rows.specs.Rows.{Cut, cut_text}
+use Rattle.yq_cut.specs.Rows.{Cut, cut_text}
 use Rattle.yq_documents.specs.Documents.{Document, document_parts}
 use Rattle.yq_documents.specs.Reading as reading
 use Rattle.yq_documents.specs.Reading.{documents, read_at, root_of}

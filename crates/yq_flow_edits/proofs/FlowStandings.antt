@@ -7,15 +7,15 @@ use Rattle.yq_flow_scalars.specs.Answers.{◌>>=◌}
 use Rattle.yq_flow_scalars.specs.Characters.{pairs_returns}
 use Rattle.yq_flow_scalars.specs.Paths.{Step}
 use Rattle.yq_flow_scalars.proofs.Bools.{bind_some}
-use Rattle.yq_inline.specs.Collections.{CollAt, CollPieces, IsCollAt, coll_in}
-use Rattle.yq_inline.specs.Entries.{EntryPieces, entry_pieces_at, inside, item_at, locate_entry, placed_entry_at}
-use Rattle.yq_inline.specs.Nodes as inline
-use Rattle.yq_inline.specs.Nodes.{bare, node_text}
-use Rattle.yq_inline.specs.Places.{locate}
-use Rattle.yq_inline.specs.Spans.{HasSpans}
-use Rattle.yq_inline.proofs.PathLaws.{path_places}
-use Rattle.yq_rows.specs.Rows.{Cut, cut_text}
-use Rattle.yq_rows.proofs.CharacterLaws.{all_text}
+use Rattle.yq_nodes.specs.Collections.{CollAt, CollPieces, IsCollAt, coll_in}
+use Rattle.yq_nodes.specs.Entries.{EntryPieces, entry_pieces_at, inside, item_at, locate_entry, placed_entry_at}
+use Rattle.yq_nodes.specs.Nodes as inline
+use Rattle.yq_nodes.specs.Nodes.{bare, node_text}
+use Rattle.yq_nodes.specs.Places.{locate}
+use Rattle.yq_nodes.specs.Spans.{HasSpans}
+use Rattle.yq_nodes.proofs.PathLaws.{path_places}
+use Rattle.yq_cut.specs.Rows.{Cut, cut_text}
+use Rattle.yq_cut.proofs.CharacterLaws.{all_text}
 use Rattle.yq_places.specs.FlowNodes.{flow_collection}
 use Rattle.yq_documents.specs.Reading.{outline_of, read_at}
 use Rattle.yq_places.specs.Standings.{FlowPart, flow_standing, last_step}

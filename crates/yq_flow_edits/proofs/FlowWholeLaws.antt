@@ -3,17 +3,17 @@ use Rattle.std.proofs.Common.{◌≡◌, ℕ, Bool, true, false, not, ◌&&◌, 
 use Rattle.std.proofs.lemmas.Bool.{false≢true}
 use Rattle.yq_flow_scalars.specs.Paths.{Step}
 use Rattle.yq_flow_scalars.specs.Text.{front, is_feed}
-use Rattle.yq_inline.specs.Collections.{CollAt, IsCollAt, item_in}
-use Rattle.yq_inline.specs.Entries.{EntryPieces, pieces_text}
+use Rattle.yq_nodes.specs.Collections.{CollAt, IsCollAt, item_in}
+use Rattle.yq_nodes.specs.Entries.{EntryPieces, pieces_text}
 use Rattle.yq_flow.specs.FlowEdits.{behind_appended, behind_last, content_node}
-use Rattle.yq_inline.specs.Nodes.{bare, Node, empty, alias, scalar, coll, anchored, Items, none, item, key_text, node_text, items_text, AreItems, is_close, is_bare, IsNode, open_of}
+use Rattle.yq_nodes.specs.Nodes.{bare, Node, empty, alias, scalar, coll, anchored, Items, none, item, key_text, node_text, items_text, AreItems, is_close, is_bare, IsNode, open_of}
 use Rattle.yq_flow.specs.Removals.{ends_return}
 use Rattle.yq_flow.proofs.EditLaws.{Around, around_is}
 use Rattle.yq_flow.proofs.ItemLaws.{item_begins, item_some}
 use Rattle.yq_flow.proofs.ItemPlaces.{Behind, further_behind, item_behind, last_behind}
 use Rattle.yq_flow.proofs.LocalLaws.{node_no_feed}
 use Rattle.yq_flow.proofs.ReturnLaws.{Whole, item_return, return_some, whole_by, whole_front}
-use Rattle.yq_inline.proofs.WrittenLaws.{key_append, node_then}
+use Rattle.yq_nodes.proofs.WrittenLaws.{key_append, node_then}
 
 -- Behind a text stands another one, and no CR before an LF.
 pub record StandsBefore (t behind : List ℕ) : Type 0 where

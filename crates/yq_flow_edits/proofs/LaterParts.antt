@@ -3,12 +3,12 @@ use Rattle.std.proofs.Common.{◌≡◌, ℕ, ◌<◌, ◌≤◌, Bool, true, fa
 use Rattle.std.proofs.lemmas.Option.{none-some, same_Some}
 use Rattle.yq_flow_scalars.specs.Answers.{◌>>=◌}
 use Rattle.yq_flow_scalars.specs.Paths.{Step, is_here, further}
-use Rattle.yq_inline.specs.Collections.{CollPieces, change_item, coll_along, coll_in, put_at, put_coll, within_items}
-use Rattle.yq_inline.specs.Entries.{EntryPieces, entry_pieces_at, inside, item_at}
-use Rattle.yq_inline.specs.Nodes.{Key, bare, keyed, Node, empty, alias, scalar, coll, anchored, Items, none, item, items_text, key_text, node_text, sep_text}
-use Rattle.yq_inline.specs.Trees.{inner, key_content}
-use Rattle.yq_inline.proofs.NodeAgain.{key_longer, node_longer, sep_longer}
-use Rattle.yq_inline.proofs.PathLaws.{then_some}
+use Rattle.yq_nodes.specs.Collections.{CollPieces, change_item, coll_along, coll_in, put_at, put_coll, within_items}
+use Rattle.yq_nodes.specs.Entries.{EntryPieces, entry_pieces_at, inside, item_at}
+use Rattle.yq_nodes.specs.Nodes.{Key, bare, keyed, Node, empty, alias, scalar, coll, anchored, Items, none, item, items_text, key_text, node_text, sep_text}
+use Rattle.yq_nodes.specs.Trees.{inner, key_content}
+use Rattle.yq_nodes.proofs.NodeAgain.{key_longer, node_longer, sep_longer}
+use Rattle.yq_nodes.proofs.PathLaws.{then_some}
 use Rattle.yq_flow.specs.FlowEdits.{content_node, put_content, put_item, spaced_key}
 use Rattle.yq_flow.proofs.ItemPlaces.{item_rest}
 use Rattle.yq_flow_edits.proofs.FlowStandings.{coll_entry, node_entry}

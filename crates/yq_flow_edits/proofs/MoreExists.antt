@@ -10,21 +10,21 @@ use Rattle.yq_flow_scalars.specs.Answers.{◌>>=◌}
 use Rattle.yq_flow_scalars.specs.Paths.{Step, node_at}
 use Rattle.yq_flow_scalars.specs.Text.{is_empty}
 use Rattle.yq_flow_scalars.specs.Tree as tree
-use Rattle.yq_inline.specs.Collections.{CollPieces}
-use Rattle.yq_inline.specs.Nodes.{IsNode, Node, empty, alias, scalar, coll, anchored, node_text, takes_anchor}
-use Rattle.yq_inline.specs.Trees.{node_head}
+use Rattle.yq_nodes.specs.Collections.{CollPieces}
+use Rattle.yq_nodes.specs.Nodes.{IsNode, Node, empty, alias, scalar, coll, anchored, node_text, takes_anchor}
+use Rattle.yq_nodes.specs.Trees.{node_head}
 use Rattle.yq_lines.specs.Comments.{head_comment}
 use Rattle.yq_lines.specs.Outline as outlines
 use Rattle.yq_lines.specs.Outline.{Line, Outline, flatten}
 use Rattle.yq_lines.specs.Places.{FoundLine, find}
 use Rattle.yq_lines.specs.Positions.{is_bare}
 use Rattle.yq_lines.proofs.Decides.{flatten-group}
-use Rattle.yq_rows.specs.Exchange.{asked_behind}
-use Rattle.yq_rows.specs.Grammar.{IsContent, IsRow, Limit, unlimited}
-use Rattle.yq_rows.specs.Rows.{Content, Nothing, Inline, Block, Cut, Part, Row, cut_text, parent_indent, rows_text}
-use Rattle.yq_rows.specs.View.{anchor_cut, content_cut, slices}
+use Rattle.yq_cut.specs.Exchange.{asked_behind}
+use Rattle.yq_cut.specs.Grammar.{IsContent, IsRow, Limit, unlimited}
+use Rattle.yq_cut.specs.Rows.{Content, Nothing, Inline, Block, Cut, Part, Row, cut_text, parent_indent, rows_text}
+use Rattle.yq_cut.specs.View.{anchor_cut, content_cut, slices}
 use Rattle.yq_documents.specs.Documents.{document_parts}
-use Rattle.yq_walk.specs.Lines.{head_of, lines_from, lines_of, mark_of}
+use Rattle.yq_row_lines.specs.Lines.{head_of, lines_from, lines_of, mark_of}
 use Rattle.yq_documents.specs.Reading.{outline_of, read_at, root_of}
 use Rattle.yq_places.specs.FlowNodes.{find_head, flow_collection}
 use Rattle.yq_places.specs.PlacedRows.{PlacedPart}

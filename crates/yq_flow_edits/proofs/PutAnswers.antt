@@ -7,19 +7,19 @@ use Rattle.std.specs.declared.alloc.Global.{Global}
 use Rattle.yq_flow_scalars.specs.Paths.{Step}
 use Rattle.yq_flow_scalars.specs.Tree as tree
 use Rattle.yq_flow_scalars.specs.declared.style.Place.TheVariants.{Flow as InFlow}
-use Rattle.yq_inline.specs.Collections.{CollPieces}
-use Rattle.yq_inline.specs.Entries.{EntryPieces, PlacedEntry, entry_pieces_at, item_at, locate_entry, part_at, parts_of, placed_entry_at}
+use Rattle.yq_nodes.specs.Collections.{CollPieces}
+use Rattle.yq_nodes.specs.Entries.{EntryPieces, PlacedEntry, entry_pieces_at, item_at, locate_entry, part_at, parts_of, placed_entry_at}
 use Rattle.yq_flow.specs.FlowEdits.{FlowEdit, replacing}
 use Rattle.yq_flow.specs.FlowPlaces.{edit_view, place_edit, replace_place}
 use Rattle.yq_flow.specs.declared.flow_place.EditPlace.{EditPlace}
-use Rattle.yq_inline.specs.Nodes as inline
-use Rattle.yq_inline.specs.Nodes.{bare, coll, node_text}
-use Rattle.yq_inline.specs.Places.{Placed, placed, locate}
-use Rattle.yq_inline.specs.Trees.{placed_tree}
-use Rattle.yq_inline.specs.Written.{flow_of}
-use Rattle.yq_inline.proofs.PathLaws.{path_places}
-use Rattle.yq_inline.proofs.TreeLaws.{node_tree}
-use Rattle.yq_rows.specs.Rows.{Cut, cut_text}
+use Rattle.yq_nodes.specs.Nodes as inline
+use Rattle.yq_nodes.specs.Nodes.{bare, coll, node_text}
+use Rattle.yq_nodes.specs.Places.{Placed, placed, locate}
+use Rattle.yq_nodes.specs.Trees.{placed_tree}
+use Rattle.yq_nodes.specs.Written.{flow_of}
+use Rattle.yq_nodes.proofs.PathLaws.{path_places}
+use Rattle.yq_nodes.proofs.TreeLaws.{node_tree}
+use Rattle.yq_cut.specs.Rows.{Cut, cut_text}
 use Rattle.yq_places.specs.FlowViews.{FlowAgrees, behind_anchor, collection_view, placed_collection}
 use Rattle.yq_places.specs.NodesAt.{node_in}
 use Rattle.yq_places.specs.Standings.{FlowPart, flow_standing, last_step}

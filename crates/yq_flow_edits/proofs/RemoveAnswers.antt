@@ -3,12 +3,12 @@ use Rattle.std.proofs.Common.{◌≡◌, ℕ, List, [], length, Option, Some, No
 use Rattle.std.proofs.lemmas.Option.{none-some, same_Some}
 use Rattle.yq_flow_scalars.specs.Answers.{◌>>=◌}
 use Rattle.yq_flow_scalars.specs.Paths.{Step}
-use Rattle.yq_inline.specs.Collections.{CollPieces}
+use Rattle.yq_nodes.specs.Collections.{CollPieces}
 use Rattle.yq_flow.specs.FlowEdits.{FlowEdit}
 use Rattle.yq_flow.specs.FlowPlaces.{PlacedEdit, place_edit, remove_place}
-use Rattle.yq_inline.specs.Places.{Placed, placed}
+use Rattle.yq_nodes.specs.Places.{Placed, placed}
 use Rattle.yq_flow.specs.Removals.{removing}
-use Rattle.yq_rows.specs.Rows.{Cut, cut_text}
+use Rattle.yq_cut.specs.Rows.{Cut, cut_text}
 use Rattle.yq_places.specs.FlowViews.{behind_anchor, placed_collection}
 use Rattle.yq_places.specs.Standings.{last_step}
 use Rattle.yq_places.specs.declared.places.flow_node.FlowHead.{FlowHead}

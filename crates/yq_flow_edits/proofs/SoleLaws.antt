@@ -10,11 +10,11 @@ use Rattle.yq_flow_scalars.specs.Shapes.{IsTree}
 use Rattle.yq_flow_scalars.specs.Tree as tree
 use Rattle.yq_flow_scalars.specs.Tree.{Label, Node, Children, none, child, children_of}
 use Rattle.yq_flow_scalars.proofs.Bools.{bind_some}
-use Rattle.yq_inline.specs.Inline.{depth_limit}
+use Rattle.yq_nodes.specs.Inline.{depth_limit}
 use Rattle.yq_flow.specs.Valued.{IsValueTree}
 use Rattle.yq_flow_scalars.specs.Anchors.{Name, names_in, names_of}
 use Rattle.yq_lines.specs.Counts.{count}
-use Rattle.yq_rows.specs.Rows.{Cut, cut_text}
+use Rattle.yq_cut.specs.Rows.{Cut, cut_text}
 use Rattle.yq_documents.specs.Documents.{Document}
 use Rattle.yq_documents.specs.Reading.{documents, documents_of, read_at, root_of}
 use Rattle.yq_places.specs.RemovalPlaces.{has_others_at, has_several}

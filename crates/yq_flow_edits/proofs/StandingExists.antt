@@ -7,18 +7,18 @@ use Rattle.yq_flow_scalars.specs.Paths.{Step, child_at, node_at}
 use Rattle.yq_flow_scalars.specs.Tree as tree
 use Rattle.yq_flow_scalars.specs.Tree.{Node, children_of}
 use Rattle.yq_flow_scalars.proofs.Bools.{bind_some}
-use Rattle.yq_inline.specs.Collections.{CollPieces}
-use Rattle.yq_inline.specs.Entries.{EntryPieces, item_at}
-use Rattle.yq_inline.specs.Trees.{items_tree}
+use Rattle.yq_nodes.specs.Collections.{CollPieces}
+use Rattle.yq_nodes.specs.Entries.{EntryPieces, item_at}
+use Rattle.yq_nodes.specs.Trees.{items_tree}
 use Rattle.yq_lines.specs.Counts.{count}
 use Rattle.yq_lines.specs.Ends.{found_line, line_of}
 use Rattle.yq_lines.specs.Outline.{Line, anchored, children, flatten, value}
 use Rattle.yq_lines.specs.Places.{FoundLine, content, find, find_row, lines_after, lines_before}
 use Rattle.yq_lines.proofs.ChildLaws.{anchored_children}
 use Rattle.yq_lines.proofs.Finding.{row_child}
-use Rattle.yq_rows.specs.Rows.{Part, Cut, cut_text}
+use Rattle.yq_cut.specs.Rows.{Part, Cut, cut_text}
 use Rattle.yq_documents.specs.Documents.{Document, document_parts}
-use Rattle.yq_walk.specs.Lines.{lines_of}
+use Rattle.yq_row_lines.specs.Lines.{lines_of}
 use Rattle.yq_documents.specs.Reading.{documents, outline_of, read_at, root_of}
 use Rattle.yq_documents.specs.LinesInRows.{row_line, row_line_of}
 use Rattle.yq_places.specs.FlowNodes.{find_head}

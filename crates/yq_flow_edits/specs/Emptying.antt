@@ -3,8 +3,8 @@ use Rattle.std.specs.Prelude.{◌≡◌, ℕ, List, Option, Some, None, option_m
 use Rattle.yq_flow_scalars.specs.Answers.{◌>>=◌}
 use Rattle.yq_flow_scalars.specs.Paths.{Step}
 use Rattle.yq_flow_scalars.specs.Tree.{Node, list, map, none}
-use Rattle.yq_inline.specs.Values.{node_of}
-use Rattle.yq_rows.specs.Rows.{Cut}
+use Rattle.yq_nodes.specs.Values.{node_of}
+use Rattle.yq_cut.specs.Rows.{Cut}
 use Rattle.yq_documents.specs.Located.{steps_of}
 use Rattle.yq_places.specs.NodesAt as nodes
 use Rattle.yq_places.specs.NodesAt.{NodeAt, node_in}

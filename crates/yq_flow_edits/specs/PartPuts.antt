@@ -4,11 +4,11 @@ use Rattle.std.specs.declared.alloc.Global.{Global}
 use Rattle.yq_flow_scalars.specs.Answers.{◌>>=◌}
 use Rattle.yq_flow_scalars.specs.Paths.{Step}
 use Rattle.yq_flow_scalars.specs.Tree.{Node}
-use Rattle.yq_inline.specs.Entries.{EntryPieces, item_at}
+use Rattle.yq_nodes.specs.Entries.{EntryPieces, item_at}
 use Rattle.yq_flow.specs.FlowEdits.{FlowEdit, replacing}
 use Rattle.yq_flow.specs.FlowPlaces.{edit_view, place_edit}
 use Rattle.yq_flow.specs.declared.flow_place.EditPlace.{EditPlace}
-use Rattle.yq_rows.specs.Rows.{Cut, cut_text}
+use Rattle.yq_cut.specs.Rows.{Cut, cut_text}
 use Rattle.yq_documents.specs.Reading.{cut_of}
 use Rattle.yq_places.specs.FlowNodes.{flow_collection}
 use Rattle.yq_places.specs.FlowViews.{FlowAgrees}

@@ -1,9 +1,9 @@
 //! Items and entries put into flow collections.
 ghost use Rattle.std.specs.Prelude.{◌≡◌, IfOk, string_bytes};
-ghost use Rattle.yq_inline.specs.Nodes.{key_text};
-ghost use Rattle.yq_inline.specs.Values.{node_of};
-ghost use Rattle.yq_inline.specs.View.{view};
-ghost use Rattle.yq_inline.specs.Written.{flow_key, flow_text};
+ghost use Rattle.yq_nodes.specs.Nodes.{key_text};
+ghost use Rattle.yq_nodes.specs.Values.{node_of};
+ghost use Rattle.yq_nodes.specs.View.{view};
+ghost use Rattle.yq_nodes.specs.Written.{flow_key, flow_text};
 ghost use Rattle.yq_lines.specs.Bodies.{borrowed};
 ghost use Rattle.yq_documents.specs.Located.{steps_of};
 ghost use Rattle.yq_documents.specs.Reading.{cut_of};
@@ -14,7 +14,7 @@ use crate::edit::{collection_in, edit_at};
 use std::alloc::{AllocError, Global};
 use yq_documents::Path;
 use yq_flow::{append_place, write_entry, write_inline};
-use yq_inline::{Form, Inline, Value};
+use yq_nodes::{Form, Inline, Value};
 use yq_places::CutText;
 use yq_script::Segments;
 

@@ -1,10 +1,10 @@
 //! Edits of flow collections, by their places in the text.
 ghost use Rattle.std.specs.Prelude.{◌≡◌, ◌∷◌, IfOk, [], Some, drop, map, option_map, string_bytes, take};
 ghost use Rattle.yq_text.specs.Halves.{whole};
-ghost use Rattle.yq_inline.specs.Entries.{step_of};
-ghost use Rattle.yq_inline.specs.View.{view};
+ghost use Rattle.yq_nodes.specs.Entries.{step_of};
+ghost use Rattle.yq_nodes.specs.View.{view};
 ghost use Rattle.yq_flow.specs.FlowPlaces.{edit_view};
-ghost use Rattle.yq_rows.specs.Rows.{cut_text};
+ghost use Rattle.yq_cut.specs.Rows.{cut_text};
 ghost use Rattle.yq_documents.specs.Reading.{cut_of};
 ghost use Rattle.yq_places.specs.FlowViews.{behind_anchor, collection_view};
 ghost use Rattle.yq_places.specs.Standings as standings;
@@ -14,7 +14,7 @@ ghost use Rattle.yq_flow_edits.specs.EditPlaces as spec;
 
 use std::alloc::{AllocError, Global};
 use yq_flow::{EditPlace, behind};
-use yq_inline::{Inline, Step};
+use yq_nodes::{Inline, Step};
 use yq_places::{CutText, FlowHead, collection_along};
 use yq_script::{Segment, Segments};
 use yq_text::Halves;

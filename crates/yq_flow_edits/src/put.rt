@@ -1,8 +1,8 @@
 //! Values put in flow collections.
 ghost use Rattle.std.specs.Prelude.{◌≡◌, IfOk, Some};
-ghost use Rattle.yq_inline.specs.Trees.{placed_tree};
-ghost use Rattle.yq_inline.specs.Values.{node_of};
-ghost use Rattle.yq_inline.specs.View.{view};
+ghost use Rattle.yq_nodes.specs.Trees.{placed_tree};
+ghost use Rattle.yq_nodes.specs.Values.{node_of};
+ghost use Rattle.yq_nodes.specs.View.{view};
 ghost use Rattle.yq_documents.specs.Located.{steps_of};
 ghost use Rattle.yq_documents.specs.Reading.{cut_of};
 ghost use Rattle.yq_places.specs.NodesAt.{scalar_in};
@@ -17,7 +17,7 @@ use yq_documents::Path;
 use yq_edits::value_text;
 use yq_flow::{EditPlace, replace_place};
 use yq_flow_scalars::{Kind, Place};
-use yq_inline::{Form, Inline, Value};
+use yq_nodes::{Form, Inline, Value};
 use yq_places::{CutText, FlowHead};
 use yq_script::Segments;
 

@@ -1,6 +1,6 @@
 //! The empty collection that is put in the place of one whose sole item or entry is removed.
 ghost use Rattle.std.specs.Prelude.{◌≡◌, IfOk, option_map};
-ghost use Rattle.yq_inline.specs.Values as values;
+ghost use Rattle.yq_nodes.specs.Values as values;
 ghost use Rattle.yq_documents.specs.Located.{steps_of};
 ghost use Rattle.yq_documents.specs.Reading.{cut_of};
 ghost use Rattle.yq_places.specs.NodesAt.{node_view};
@@ -10,8 +10,8 @@ ghost use Rattle.yq_flow_edits.specs.Emptying as spec;
 use crate::edit::last_step;
 use std::alloc::{AllocError, Global};
 use yq_documents::Path;
-use yq_inline::Value;
 use yq_meaning::copied_steps;
+use yq_nodes::Value;
 use yq_places::{CutText, NodeAt};
 
 /// An empty collection, and the place of the one that it takes.

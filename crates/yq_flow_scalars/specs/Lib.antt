@@ -23,4 +23,3 @@ pub mod ContentReading
 pub mod PlainContent
 pub mod Written
 pub mod Lines
-pub mod Folded

@@ -125,7 +125,7 @@ fn each_len(run: Run, text: &[u8]) -> usize
 
 /// How long the run in front is, in bytes.
 #[inline(always)]
-pub(crate) fn run_len(run: Run, text: &[u8]) -> usize
+pub fn run_len(run: Run, text: &[u8]) -> usize
     ensures value { result ≡ prefix_len (spec.goes_on run) text.now }
     ensures within { result ≤ length text.now }
 {

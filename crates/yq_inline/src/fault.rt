@@ -7,7 +7,7 @@ use yq_flow_scalars::text::{behind_spaces, spaces_len};
 use yq_flow_scalars::{FaultKind, ReadFault};
 
 /// A fault that begins where this rest of the whole text does.
-pub(crate) fn fault(kind: FaultKind, whole: &str, rest: &str) -> ReadFault
+pub fn fault(kind: FaultKind, whole: &str, rest: &str) -> ReadFault
     requires { kind ≢ NotUtf8 }
     ensures { result.kind ≢ NotUtf8 }
 {
@@ -44,7 +44,7 @@ fn is_unclosed(whole: &str, open: &str, rest: &str) -> bool {
 
 /// A fault in a flow collection behind whose bracket stood `open`: where this rest of the whole text
 /// begins, or, where the collection isn't closed before it, where that begins.
-pub(crate) fn flow_fault(kind: FaultKind, whole: &str, open: &str, rest: &str) -> ReadFault
+pub fn flow_fault(kind: FaultKind, whole: &str, open: &str, rest: &str) -> ReadFault
     requires { kind ≢ NotUtf8 }
     ensures { result.kind ≢ NotUtf8 }
 {

@@ -2,11 +2,11 @@
 ghost use Rattle.std.specs.Prelude.{◌≡◌, ◌+◌, ◌∷◌, length, Bool, List, Option, Some, option_map, true, ℕ, ℤ};
 ghost use Rattle.yq_flow_scalars.specs.Paths.{Step};
 ghost use Rattle.yq_flow_scalars.specs.declared.style.Place.{Place};
-ghost use Rattle.yq_inline.specs.Inline.{IsInline, IsInlineAt, inline_at};
-ghost use Rattle.yq_inline.specs.Nodes.{IsNode, Node, node_text};
-ghost use Rattle.yq_inline.specs.Entries.{EntryPieces, StandsIn, placed_entry_at, entry_pieces_at, locate_entry, pieces_text};
-ghost use Rattle.yq_inline.specs.Places.{Placed, locate};
-ghost use Rattle.yq_inline.specs.Trees.{placed_tree, tree_of};
+ghost use Rattle.yq_nodes.specs.Inline.{IsInline, IsInlineAt, inline_at};
+ghost use Rattle.yq_nodes.specs.Nodes.{IsNode, Node, node_text};
+ghost use Rattle.yq_nodes.specs.Entries.{EntryPieces, StandsIn, placed_entry_at, entry_pieces_at, locate_entry, pieces_text};
+ghost use Rattle.yq_nodes.specs.Places.{Placed, locate};
+ghost use Rattle.yq_nodes.specs.Trees.{placed_tree, tree_of};
 
 /// What is read as an inline node is one, what is one is read, and a text begins with one at most.
 pub fn one_inline()

@@ -1,44 +1,21 @@
 //! The pieces of inline nodes, read one behind the other.
-ghost use Rattle.std.specs.Prelude.{◌≡◌, ◌≢◌, ◌<◌, ◌≤◌, IfErr, IfOk, MatchOption, drop, false, length, true};
+ghost use Rattle.std.specs.Prelude.{◌≡◌, ◌≢◌, ◌<◌, ◌≤◌, IfErr, IfOk, length, true};
 ghost use Rattle.yq_flow_scalars.specs.Answers.{Reads};
 ghost use Rattle.yq_flow_scalars.specs.Quoted.{IsQuotedText};
 ghost use Rattle.yq_flow_scalars.specs.declared.fault.FaultKind.TheVariants.{NotUtf8};
-ghost use Rattle.yq_inline.specs.Nodes as nodes;
-ghost use Rattle.yq_inline.specs.PlacedReading as reading;
-ghost use Rattle.yq_inline.specs.Reading as spec;
-ghost use Rattle.yq_inline.specs.Scalars as scalars;
+ghost use Rattle.yq_nodes.specs.Nodes as nodes;
+ghost use Rattle.yq_nodes.specs.PlacedReading as reading;
+ghost use Rattle.yq_nodes.specs.Reading as spec;
+ghost use Rattle.yq_nodes.specs.Scalars as scalars;
 ghost use Rattle.std.specs.List.{prefix_len};
 
 use crate::fault::{fault, flow_fault};
-use crate::gap::read_gap;
-use yq_flow_scalars::plain::{begins_plain, holds_break, is_flow_indicator, split_plain};
-use yq_flow_scalars::quoted::split_quoted;
+use crate::lead::read_gap;
+use yq_flow_reading::plain::{begins_plain, holds_break, is_flow_indicator, split_plain};
+use yq_flow_reading::quoted::split_quoted;
 use yq_flow_scalars::text::{is_white, separates, split_white};
 use yq_flow_scalars::{FaultKind, ReadFault};
-
-/// Whether this byte is in front.
-pub fn first_is(k: u8, text: &[u8]) -> bool
-    ensures { result ≡ nodes.first_is k text.now }
-{
-    match text {
-        [] => false,
-        [first, ..] => *first == k,
-    }
-}
-
-/// What follows this ASCII byte in front.
-pub fn strip(k: u8, text: &str) -> Option<&str>
-    requires { k < 128 }
-    ensures { MatchOption result (nodes.first_is k text.now ≡ false)
-        (λ r. (nodes.first_is k text.now ≡ true) × (r.now ≡ drop 1 text.now) ×
-        (length r.now < length text.now)) }
-{
-    if first_is(k, text.as_bytes()) {
-        Some(text.split_at(1).1)
-    } else {
-        None
-    }
-}
+use yq_nodes::{first_is, is_quoted, strip};
 
 /// Whether a name holds this byte.
 fn in_name(b: u8) -> bool
@@ -55,7 +32,7 @@ pub fn name_len(text: &[u8]) -> usize
 }
 
 /// The name of an anchor or alias in front, and what follows it.
-#[tactic(auto, unfolding(crate::specs::Reading::name_at), using(yq_flow_scalars::proofs::Upto::upto_unless, crate::proofs::Bounds::name_none))]
+#[tactic(auto, unfolding(yq_nodes::specs::Reading::name_at), using(yq_flow_scalars::proofs::Upto::upto_unless, yq_nodes::proofs::Bounds::name_none))]
 pub fn read_name<'t>(whole: &str, text: &'t str) -> Result<(&'t str, &'t str), ReadFault>
     ensures read { Reads (λ x. (x.0.now, x.1.now)) result (spec.name_at text.now) }
     ensures shorter { IfOk result (λ x. length x.1.now ≤ length text.now) }
@@ -66,13 +43,6 @@ pub fn read_name<'t>(whole: &str, text: &'t str) -> Result<(&'t str, &'t str), R
         return Err(fault(FaultKind::BadScalar, whole, text));
     }
     Ok(text.split_at(n))
-}
-
-/// Whether a quote is in front.
-pub fn is_quoted(text: &[u8]) -> bool
-    ensures { result ≡ scalars.is_quoted text.now }
-{
-    matches!(text, [b'"' | b'\'', ..])
 }
 
 /// Whether a scalar may begin in front.
@@ -93,7 +63,7 @@ pub fn begins_content(flow: bool, text: &[u8]) -> bool
 }
 
 /// Why no node begins with this text, where nothing else is known.
-pub(crate) fn no_node(text: &[u8], otherwise: FaultKind) -> FaultKind
+pub fn no_node(text: &[u8], otherwise: FaultKind) -> FaultKind
     requires { otherwise ≢ NotUtf8 }
     ensures { result ≢ NotUtf8 }
 {
@@ -135,7 +105,7 @@ fn read_quoted<'t>(
 
 /// The scalar in front, and what follows it. A further line of it begins with so many spaces at least;
 /// without a number it has one line.
-#[tactic(auto, unfolding(crate::specs::Reading::scalar_at, yq_flow_scalars::specs::Plain::plain_at), using(crate::proofs::Bounds::plain_unquoted))]
+#[tactic(auto, unfolding(yq_nodes::specs::Reading::scalar_at, yq_flow_scalars::specs::Plain::plain_at), using(yq_nodes::proofs::Bounds::plain_unquoted))]
 pub fn read_scalar<'t>(
     flow: bool,
     spaces: Option<usize>,
@@ -170,8 +140,8 @@ fn read_apart<'t>(flow: bool, whole: &str, text: &'t str) -> Result<(&'t str, &'
 }
 
 /// The same, if a content begins behind it.
-#[tactic(auto, unfolding(crate::specs::Reading::lead_at))]
-pub(crate) fn read_lead<'t>(
+#[tactic(auto, unfolding(yq_nodes::specs::Reading::lead_at))]
+pub fn read_lead<'t>(
     flow: bool,
     whole: &str,
     text: &'t str,
@@ -190,7 +160,7 @@ pub(crate) fn read_lead<'t>(
 }
 
 /// The gap behind a `:`, if a node begins behind it.
-#[tactic(auto, unfolding(crate::specs::Reading::lead_at))]
+#[tactic(auto, unfolding(yq_nodes::specs::Reading::lead_at))]
 fn read_value_lead<'t>(whole: &str, text: &'t str) -> Result<(&'t str, &'t str), ReadFault>
     ensures read { Reads (λ x. (x.0.now, x.1.now)) result
         (spec.lead_at true (nodes.begins_node true) text.now) }
@@ -213,7 +183,7 @@ fn ends_key(piece: &str, text: &[u8]) -> bool
 }
 
 /// What follows the `:` of a key; behind the mapping's `{` stood `open`.
-#[tactic(auto, unfolding(crate::specs::Reading::colon_at))]
+#[tactic(auto, unfolding(yq_nodes::specs::Reading::colon_at))]
 fn read_colon<'t>(piece: &str, whole: &str, open: &str, text: &'t str) -> Result<&'t str, ReadFault>
     ensures read { Reads (λ x. x.now) result (spec.colon_at piece.now text.now) }
     ensures shorter { IfOk result (λ x. length x.now < length text.now) }
@@ -227,13 +197,8 @@ fn read_colon<'t>(piece: &str, whole: &str, open: &str, text: &'t str) -> Result
 
 /// What follows an item and the comma behind it, if there is one; behind the collection's bracket stood
 /// `open`.
-#[tactic(auto, unfolding(crate::specs::Reading::sep_at, crate::specs::Reading::sep_behind))]
-pub(crate) fn read_sep<'t>(
-    close: u8,
-    whole: &str,
-    open: &str,
-    text: &'t str,
-) -> Result<&'t str, ReadFault>
+#[tactic(auto, unfolding(yq_nodes::specs::Reading::sep_at, yq_nodes::specs::Reading::sep_behind))]
+pub fn read_sep<'t>(close: u8, whole: &str, open: &str, text: &'t str) -> Result<&'t str, ReadFault>
     ensures read { Reads (λ x. x.now) result (reading.past_sep close text.now) }
     ensures shorter { IfOk result (λ x. length x.now ≤ length text.now) }
     ensures fault { IfErr result (λ f. f.kind ≢ NotUtf8) }
@@ -253,12 +218,8 @@ pub(crate) fn read_sep<'t>(
 
 /// A key with what quotes it, and what follows its `:` and the gap behind it; behind the mapping's `{`
 /// stood `open`.
-#[tactic(auto, unfolding(crate::specs::Reading::key_at))]
-pub(crate) fn read_key<'t>(
-    whole: &str,
-    open: &str,
-    text: &'t str,
-) -> Result<(&'t str, &'t str), ReadFault>
+#[tactic(auto, unfolding(yq_nodes::specs::Reading::key_at))]
+pub fn read_key<'t>(whole: &str, open: &str, text: &'t str) -> Result<(&'t str, &'t str), ReadFault>
     ensures read { Reads (λ x. (x.0.now, x.1.now)) result (reading.split_key text.now) }
     ensures quoted { IfOk result (λ x. scalars.is_quoted x.0.now ≡ true → IsQuotedText x.0.now) }
     ensures shorter { IfOk result (λ x. length x.1.now < length text.now) }

@@ -3,20 +3,18 @@ ghost use Rattle.std.specs.Prelude.{◌≡◌, ◌⊎◌, IfErr, IfOk, Some};
 ghost use Rattle.std.specs.Str.{IsCharBoundary};
 ghost use Rattle.yq_flow_scalars.specs.Answers.{Gives, IsOfText};
 ghost use Rattle.yq_flow_scalars.specs.declared.style.Place.TheVariants.{Block, Flow};
-ghost use Rattle.yq_inline.specs.Inline as spec;
-ghost use Rattle.yq_inline.specs.Places.{Placed};
-ghost use Rattle.yq_inline.specs.Spans.{HasSpans, IsNested};
-ghost use Rattle.yq_inline.specs.View.{view};
+ghost use Rattle.yq_nodes.specs.Inline as spec;
+ghost use Rattle.yq_nodes.specs.Places.{Placed};
+ghost use Rattle.yq_nodes.specs.Spans.{HasSpans, IsNested};
+ghost use Rattle.yq_nodes.specs.View.{view};
 
 use crate::fault::fault;
-use crate::inline::Inline;
 use crate::pieces::no_node;
 use crate::reading::{is_bare, read_node};
 use std::alloc::Global;
-use yq_flow_scalars::{FaultKind, Place, ReadError, further_spaces, in_flow};
-
-/// How many collections may be nested.
-pub const DEPTH_LIMIT: usize = 64;
+use yq_flow_reading::in_flow;
+use yq_flow_scalars::{FaultKind, Place, ReadError, further_spaces};
+use yq_nodes::{DEPTH_LIMIT, Inline};
 
 fn inline_at<'t>(
     alloc: Global,
@@ -53,7 +51,7 @@ fn inline_at<'t>(
 /// The node is something, if only an anchor. Outside flow collections what an anchor stands before is on
 /// the anchor's line. A node with which more than 64 collections would be
 /// nested is refused, before it is read.
-#[tactic(auto, using(crate::proofs::InlineLaws::found_by, crate::proofs::InlineLaws::only_by, crate::proofs::SpanLaws::spans_by, crate::proofs::NestedLaws::nested_by))]
+#[tactic(auto, using(yq_nodes::proofs::InlineLaws::found_by, yq_nodes::proofs::InlineLaws::only_by, yq_nodes::proofs::SpanLaws::spans_by, yq_nodes::proofs::NestedLaws::nested_by))]
 pub fn read_inline<'t>(
     alloc: Global,
     text: &'t str,

@@ -2,17 +2,17 @@
 ghost use Rattle.std.specs.Prelude.{◌≡◌, ◌<◌, ◌≤◌, IfErr, IfOk, Some, length, true};
 ghost use Rattle.std.specs.String.{string_bytes};
 ghost use Rattle.yq_flow_scalars.specs.Answers.{Gives, IsOfText};
-ghost use Rattle.yq_inline.specs.Places as spec;
-ghost use Rattle.yq_inline.specs.PlacedReading as reading;
-ghost use Rattle.yq_inline.specs.View.{entries_end, form_view, items_end, view};
+ghost use Rattle.yq_nodes.specs.Places as spec;
+ghost use Rattle.yq_nodes.specs.PlacedReading as reading;
+ghost use Rattle.yq_nodes.specs.View.{entries_end, form_view, items_end, view};
 
 use crate::fault::{fault, flow_fault};
-use crate::gap::read_gap;
-use crate::inline::{Form, Inline};
-use crate::pieces::{begins_content, no_node, read_lead, read_name, read_sep, strip};
+use crate::lead::read_gap;
+use crate::pieces::{begins_content, no_node, read_lead, read_name, read_sep};
 use crate::scalar::{read_entry_key, read_text};
 use std::alloc::Global;
 use yq_flow_scalars::{FaultKind, Piece, ReadError};
+use yq_nodes::{Form, Inline, strip};
 
 /// A node without an anchor between two rests of the whole text.
 fn placed_between<'t>(whole: &str, text: &str, rest: &str, form: Form<'t>) -> Inline<'t>
@@ -84,7 +84,7 @@ fn put_anchor<'t>(
 
 /// The node in front, with at most `depth` collections nested, and what follows it.
 #[cycle(nodes)]
-#[tactic(auto, using(crate::proofs::Steps::node_plain, crate::proofs::Steps::node_fails, crate::proofs::Steps::node_gives, crate::proofs::Steps::node_no_name, crate::proofs::Steps::node_no_lead))]
+#[tactic(auto, using(yq_nodes::proofs::Steps::node_plain, yq_nodes::proofs::Steps::node_fails, yq_nodes::proofs::Steps::node_gives, yq_nodes::proofs::Steps::node_no_name, yq_nodes::proofs::Steps::node_no_lead))]
 pub fn read_node<'t>(
     alloc: Global,
     flow: bool,
@@ -112,7 +112,7 @@ pub fn read_node<'t>(
 
 /// The node in front, which has no anchor, and what follows it.
 #[cycle(nodes)]
-#[tactic(auto, unfolding(crate::specs::Reading::content_at, crate::specs::Reading::coll_at))]
+#[tactic(auto, unfolding(yq_nodes::specs::Reading::content_at, yq_nodes::specs::Reading::coll_at))]
 fn read_content<'t>(
     alloc: Global,
     flow: bool,
@@ -216,7 +216,7 @@ fn read_item<'t>(
 
 /// The items in front, and what follows their `]`; behind their `[` stood `open`.
 #[cycle(nodes)]
-#[tactic(auto, using(crate::proofs::Steps::items_more, crate::proofs::Steps::items_end))]
+#[tactic(auto, using(yq_nodes::proofs::Steps::items_more, yq_nodes::proofs::Steps::items_end))]
 fn read_items<'t>(
     alloc: Global,
     whole: &'t str,
@@ -266,7 +266,7 @@ fn read_entry<'t>(
 
 /// The entries in front, and what follows their `}`; behind their `{` stood `open`.
 #[cycle(nodes)]
-#[tactic(auto, using(crate::proofs::Steps::entries_more, crate::proofs::Steps::items_end))]
+#[tactic(auto, using(yq_nodes::proofs::Steps::entries_more, yq_nodes::proofs::Steps::items_end))]
 fn read_entries<'t>(
     alloc: Global,
     whole: &'t str,

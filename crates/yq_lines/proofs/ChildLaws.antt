@@ -2,7 +2,7 @@
 use Rattle.std.proofs.Common.{◌≡◌, ℕ, ◌+◌, List, Option, Some, option_map, true, not, ap, rules}
 use Rattle.std.specs.List.{slice_get}
 use Rattle.yq_flow_scalars.specs.Tree.{Label, Node, child, children_of}
-use Rattle.yq_inline.specs.Trees.{named}
+use Rattle.yq_nodes.specs.Trees.{named}
 use Rattle.yq_lines.specs.Ends.{part, is_end, IsEndOf}
 use Rattle.yq_flow_scalars.specs.Paths.{Step}
 use Rattle.yq_lines.specs.Labelled.{labelled_at}

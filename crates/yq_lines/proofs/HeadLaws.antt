@@ -1,12 +1,12 @@
 -- The comment lines that end lines, behind others, or where the lines are repaired.
 use Rattle.std.proofs.Common.{◌≡◌, ℕ, Bool, true, false, ◌&&◌, eqb, List, [], ◌∷◌, ◌++◌, Option, Some, None, refl, sym, ap, ◌∙◌, subst, ⊎_elim, replicate, eqb-true, drop, rules}
 use Rattle.std.proofs.lemmas.Bool.{false≢true, cond_both, cond-true, cond-false, false_from_ne_true, and_parts, cases_Bool}
-use Rattle.yq_scalar.specs.Block.{Lines}
-use Rattle.yq_scalar.specs.BlockRepair.{AreGap, is_short, is_outside, repaired_blank, repaired_comment, repair}
+use Rattle.yq_block_scalars.specs.Block.{Lines}
+use Rattle.yq_block_scalars.specs.BlockRepair.{AreGap, is_short, is_outside, repaired_blank, repaired_comment, repair}
 use Rattle.yq_flow_scalars.specs.Lines.{is_hash, is_blank}
 use Rattle.yq_flow_scalars.specs.Text.{upto, cut, is_white, ends_line, past_white}
-use Rattle.yq_scalar.proofs.SpaceLaws.{white_drop}
-use Rattle.yq_scalar.proofs.BlockRepairLaws.{white_front}
+use Rattle.yq_block_scalars.proofs.SpaceLaws.{white_drop}
+use Rattle.yq_block_scalars.proofs.BlockRepairLaws.{white_front}
 use Rattle.yq_lines.specs.Comments.{less_space, comment_text, are_comments, with_text, last_comments}
 
 -- lines behind lines

@@ -2,7 +2,7 @@
 use Rattle.std.proofs.Common.{◌≡◌, ◌<◌, List, None, true, false, refl, ap, ◌∙◌, arith, rules}
 use Rattle.std.proofs.lemmas.Bool.{lt-ltb, cond-true, and_parts}
 use Rattle.std.proofs.Math.Bool.{and-false}
-use Rattle.yq_inline.specs.Inline.{depth_limit}
+use Rattle.yq_nodes.specs.Inline.{depth_limit}
 use Rattle.yq_lines.specs.Ends.{part}
 use Rattle.yq_lines.specs.Group.{deeper, group}
 use Rattle.yq_lines.specs.LinesReading.{names_are_sound, lines_are_sound}

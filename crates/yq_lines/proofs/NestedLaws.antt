@@ -7,9 +7,9 @@ use Rattle.std.specs.Prelude.{String}
 use Rattle.std.specs.declared.alloc.Global.{Global}
 use Rattle.yq_flow_scalars.specs.declared.piece.Piece.{Piece}
 use Rattle.yq_flow_scalars.specs.Keys.{AreDistinct, keys_of, are_distinct}
-use Rattle.yq_inline.specs.declared.inline.Inline.{Inline}
-use Rattle.yq_inline.specs.Trees.{parts_tree}
-use Rattle.yq_inline.specs.View.{entries_end}
+use Rattle.yq_nodes.specs.declared.inline.Inline.{Inline}
+use Rattle.yq_nodes.specs.Trees.{parts_tree}
+use Rattle.yq_nodes.specs.View.{entries_end}
 use Rattle.yq_lines.specs.Sound.{are_sound}
 use Rattle.yq_lines.proofs.KeyLaws.{distinct_agrees}
 

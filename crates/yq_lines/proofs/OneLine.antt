@@ -6,7 +6,7 @@ use Rattle.yq_flow_scalars.specs.ContentReading.{within, item, item_len, item_be
 use Rattle.yq_flow_scalars.specs.Plain.{holds_break}
 use Rattle.yq_flow_scalars.specs.Quoted.{IsQuotedText}
 use Rattle.yq_flow_scalars.specs.Text.{is_white, is_feed, is_return, front}
-use Rattle.yq_inline.specs.Scalars.{is_quoted, content_of}
+use Rattle.yq_nodes.specs.Scalars.{is_quoted, content_of}
 
 -- no break is in front of a text without an LF
 no_break : (b : ℕ) (bs : List ℕ) → holds_break bs ≡ false → (is_return b && front is_feed bs) ≡ false

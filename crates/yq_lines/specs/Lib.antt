@@ -3,8 +3,8 @@ pub use Rattle.yq_flow_scalars.specs.Tree
 pub use Rattle.yq_flow_scalars.specs.Paths
 pub use Rattle.yq_flow_scalars.specs.Keys
 pub use Rattle.yq_flow_scalars.specs.Shapes
-pub use Rattle.yq_inline.specs.Inline
-pub use Rattle.yq_inline.specs.Trees
+pub use Rattle.yq_nodes.specs.Inline
+pub use Rattle.yq_nodes.specs.Trees
 pub mod Outline
 pub mod Grammar
 pub mod Group

@@ -4,7 +4,7 @@ use Rattle.std.specs.List.{list_any}
 use Rattle.std.specs.Str.{bytes_eq}
 use Rattle.yq_flow_scalars.specs.Tree as tree
 use Rattle.yq_flow_scalars.specs.Tree.{Node, alias, scalar, list}
-use Rattle.yq_inline.specs.Inline.{depth_limit}
+use Rattle.yq_nodes.specs.Inline.{depth_limit}
 use Rattle.yq_flow_scalars.specs.Anchors.{Name, Anchors, Refers, names_of}
 use Rattle.yq_lines.specs.Group.{group}
 use Rattle.yq_lines.specs.Names.{line_names}

@@ -1,9 +1,9 @@
 -- The texts and heads of the code, as those of lines.
 use Rattle.std.specs.Prelude.{ℕ, List, Option, Some, None, string_bytes}
 use Rattle.yq_flow_scalars.specs.Tree.{Node, scalar}
-use Rattle.yq_inline.specs.Places.{Placed}
-use Rattle.yq_inline.specs.Trees.{placed_tree}
-use Rattle.yq_inline.specs.View as inline
+use Rattle.yq_nodes.specs.Places.{Placed}
+use Rattle.yq_nodes.specs.Trees.{placed_tree}
+use Rattle.yq_nodes.specs.View as inline
 use Rattle.yq_lines.specs.declared.line.Content as contents
 use Rattle.yq_lines.specs.declared.line.Head as heads
 

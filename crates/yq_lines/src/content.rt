@@ -4,16 +4,16 @@ ghost use Rattle.std.specs.Prelude.{◌≡◌, ◌==◌, ◌-◌, IfOk, None, So
 ghost use Rattle.yq_flow_scalars.specs.ContentReading as reading;
 ghost use Rattle.yq_flow_scalars.specs.Quoted.{IsQuotedText};
 ghost use Rattle.yq_flow_scalars.specs.Scalar.{plain_of};
-ghost use Rattle.yq_inline.specs.Scalars as scalars;
-ghost use Rattle.yq_inline.specs.Trees.{scalar_node};
+ghost use Rattle.yq_nodes.specs.Scalars as scalars;
+ghost use Rattle.yq_nodes.specs.Trees.{scalar_node};
 ghost use Rattle.yq_lines.specs.View.{content_view, head_view, head_flow};
 
 use crate::line::{Content, Head};
 use std::alloc::{AllocError, Global};
-use yq_flow_scalars::folding::{plain_content, quoted_content};
-use yq_flow_scalars::plain::holds_break;
+use yq_flow_reading::folding::{plain_content, quoted_content};
+use yq_flow_reading::plain::holds_break;
 use yq_flow_scalars::{Kind, resolve};
-use yq_inline::pieces::is_quoted;
+use yq_nodes::is_quoted;
 
 /// What stands between the quotes of a quoted scalar.
 pub fn between_quotes(piece: &str) -> &str
@@ -46,7 +46,7 @@ fn quoted_text<'t>(alloc: Global, piece: &'t str) -> Result<Content<'t>, AllocEr
 }
 
 /// The text that a key or a scalar, as it is written, stands for: one on one line without escapes is borrowed.
-#[tactic(auto, unfolding(yq_inline::specs::Scalars::content_of), using(crate::proofs::OneLine::one_line))]
+#[tactic(auto, unfolding(yq_nodes::specs::Scalars::content_of), using(crate::proofs::OneLine::one_line))]
 pub fn content_of<'t>(alloc: Global, piece: &'t str) -> Result<Content<'t>, AllocError>
     requires { scalars.is_quoted piece.now ≡ true → IsQuotedText piece.now }
     ensures { IfOk result (λ c. content_view c ≡ scalars.content_of piece.now) }

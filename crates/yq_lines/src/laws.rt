@@ -1,6 +1,6 @@
 //! Laws on the lines of block nodes, for the crates above.
 ghost use Rattle.std.specs.Prelude.{◌≡◌, ℕ, Bool, List, [], ◌∷◌, ◌++◌};
-ghost use Rattle.yq_scalar.specs.BlockRepair.{AreGap, repair};
+ghost use Rattle.yq_block_scalars.specs.BlockRepair.{AreGap, repair};
 ghost use Rattle.yq_flow_scalars.specs.Tree.{Node};
 ghost use Rattle.yq_lines.specs.Comments.{last_comments};
 ghost use Rattle.yq_lines.specs.Outline.{Line, Stands};

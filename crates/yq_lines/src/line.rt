@@ -3,7 +3,7 @@ ghost use Rattle.std.specs.Prelude.{◌≡◌};
 ghost use Rattle.yq_lines.specs.View.{content_view};
 
 use yq_flow_scalars::Kind;
-use yq_inline::Inline;
+use yq_nodes::Inline;
 
 /// A text that a key or scalar stands for.
 #[derive(Debug, Drop)]

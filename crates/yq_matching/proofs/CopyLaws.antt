@@ -3,10 +3,10 @@ use Rattle.std.proofs.Common.{◌≡◌, ℕ, ◌<◌, ◌≤◌, List, [], ◌�
 use Rattle.yq_flow_scalars.specs.Keys.{depth, deepest}
 use Rattle.yq_flow_scalars.specs.Tree as tree
 use Rattle.yq_flow_scalars.specs.Tree.{Label, Node, alias, scalar, list, Children, child, children_of}
-use Rattle.yq_inline.specs.Values.{entries}
+use Rattle.yq_nodes.specs.Values.{entries}
 use Rattle.yq_lines.specs.Counts.{count}
-use Rattle.yq_documents.specs.Nodes.{kind_of}
-use Rattle.yq_documents.specs.declared.nodes.node.NodeKind.TheVariants as kinds
+use Rattle.yq_document_nodes.specs.Nodes.{kind_of}
+use Rattle.yq_document_nodes.specs.declared.nodes.node.NodeKind.TheVariants as kinds
 use Rattle.yq_meaning.specs.Copies.{and_others, keyed, copy, item_copies, entry_copies}
 use Rattle.yq_meaning.specs.Judgement.{Judgement, and_then, gives, refuses}
 use Rattle.yq_matching.specs.PlaceView.{put_behind}

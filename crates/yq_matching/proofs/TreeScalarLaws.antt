@@ -9,13 +9,13 @@ use Rattle.yq_flow_scalars.specs.ContentReading.{plain_content, quoted_content}
 use Rattle.yq_flow_scalars.specs.SchemaReading.{resolve}
 use Rattle.yq_flow_scalars.specs.Tree as tree
 use Rattle.yq_flow_scalars.specs.Tree.{Node, Children}
-use Rattle.yq_inline.specs.Nodes as inline
-use Rattle.yq_inline.specs.Scalars.{is_quoted, scalar_of}
-use Rattle.yq_inline.specs.Trees.{tree_of, items_tree, with_name, node_head}
-use Rattle.yq_rows.specs.Rows as rows
+use Rattle.yq_nodes.specs.Nodes as inline
+use Rattle.yq_nodes.specs.Scalars.{is_quoted, scalar_of}
+use Rattle.yq_nodes.specs.Trees.{tree_of, items_tree, with_name, node_head}
+use Rattle.yq_cut.specs.Rows as rows
 use Rattle.yq_documents.specs.Documents.{Document}
 use Rattle.yq_lines.specs.Group.{deeper, shallow, group}
-use Rattle.yq_walk.specs.Lines.{head_of, lines_from, row_lines, lines_of}
+use Rattle.yq_row_lines.specs.Lines.{head_of, lines_from, row_lines, lines_of}
 use Rattle.yq_lines.specs.Outline as outline
 use Rattle.yq_lines.specs.Outline.{Mark, Bare, Key, Dash, Line, level, Outline, end, row, anchored, head_or, shaped, children}
 use Rattle.yq_documents.specs.Reading.{document_of}

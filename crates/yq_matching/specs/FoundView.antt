@@ -2,7 +2,7 @@
 use Rattle.std.specs.Prelude.{List, [], map}
 use Rattle.yq_flow_scalars.specs.Paths as paths
 use Rattle.yq_flow_scalars.specs.Tree.{Node, children_of}
-use Rattle.yq_documents.specs.Nodes.{node_of}
+use Rattle.yq_document_nodes.specs.Nodes.{node_of}
 use Rattle.yq_matching.specs.declared.matching.found.FoundPlaces as found
 use Rattle.yq_matching.specs.PlaceView.{path_of, places_of}
 use Rattle.yq_meaning.specs.Places.{Place, child_place, stepped}

@@ -3,8 +3,8 @@ use Rattle.std.specs.Prelude.{List, [], ◌∷◌, ◌++◌, map, Option, Some, 
 use Rattle.yq_flow_scalars.specs.Paths as paths
 use Rattle.yq_flow_scalars.specs.Paths.{To, Nth}
 use Rattle.yq_flow_scalars.specs.Tree as tree
-use Rattle.yq_documents.specs.declared.nodes.node.Node as nodes
-use Rattle.yq_documents.specs.Nodes.{node_of}
+use Rattle.yq_document_nodes.specs.declared.nodes.node.Node as nodes
+use Rattle.yq_document_nodes.specs.Nodes.{node_of}
 use Rattle.yq_lines.specs.Outline.{null_node}
 use Rattle.yq_matching.specs.declared.matching.place.NodeStep as steps
 use Rattle.yq_matching.specs.declared.matching.place.NodePath.{NodePath, fold-NodePath}

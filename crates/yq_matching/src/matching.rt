@@ -1,6 +1,6 @@
 //! Matching: where pipes lead in a tree.
 ghost use Rattle.std.specs.Prelude.{◌≡◌, IfOk};
-ghost use Rattle.yq_inline.specs.Entries.{step_of as tree_step};
+ghost use Rattle.yq_nodes.specs.Entries.{step_of as tree_step};
 ghost use Rattle.yq_matching.specs.PlaceView.{node_step_of};
 
 mod condition;
@@ -15,11 +15,11 @@ use self::place::NodeStep;
 use std::alloc::{AllocError, Global};
 
 /// The same step, which owns its key.
-pub fn owned(alloc: Global, step: NodeStep<'_>) -> Result<yq_inline::Step, AllocError>
+pub fn owned(alloc: Global, step: NodeStep<'_>) -> Result<yq_nodes::Step, AllocError>
     ensures { IfOk result (λ s. tree_step s ≡ node_step_of step.entry) }
 {
     match step {
-        NodeStep::Key(key) => Ok(yq_inline::Step::Key(String::from_str(alloc, key)?)),
-        NodeStep::Index(index) => Ok(yq_inline::Step::Index(index)),
+        NodeStep::Key(key) => Ok(yq_nodes::Step::Key(String::from_str(alloc, key)?)),
+        NodeStep::Index(index) => Ok(yq_nodes::Step::Index(index)),
     }
 }

@@ -10,9 +10,9 @@ use Rattle.yq_flow_scalars.specs.Paths.{To, child_at, node_at}
 use Rattle.yq_flow_scalars.specs.Scalar.{string_of}
 use Rattle.yq_flow_scalars.specs.Tree as tree
 use Rattle.yq_flow_scalars.specs.Tree.{Node, alias, scalar, list, Children, none, child, children_of}
-use Rattle.yq_inline.specs.Inline.{depth_limit}
-use Rattle.yq_inline.specs.Written.{scalar_text}
-use Rattle.yq_rows.specs.Grammar.{key_limit}
+use Rattle.yq_nodes.specs.Inline.{depth_limit}
+use Rattle.yq_nodes.specs.Written.{scalar_text}
+use Rattle.yq_cut.specs.Grammar.{key_limit}
 use Rattle.yq_flow_scalars.specs.Anchors.{Name, Anchors, Refers, names_of, names_in}
 use Rattle.yq_program.specs.declared.program.CommentPlace.{CommentPlace}
 use Rattle.yq_program.specs.declared.program.CommentPlace.TheVariants as comments

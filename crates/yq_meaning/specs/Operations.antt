@@ -3,7 +3,7 @@ use Rattle.std.specs.Prelude.{ℕ, List, map, Option, option_map, string_bytes}
 use Rattle.yq_flow_scalars.specs.Tree.{Node}
 use Rattle.yq_flow_scalars.specs.Paths.{Step}
 use Rattle.yq_documents.specs.Located.{steps_of}
-use Rattle.yq_inline.specs.Values.{node_of}
+use Rattle.yq_nodes.specs.Values.{node_of}
 use Rattle.yq_meaning.specs.declared.op.Op as declared
 
 -- An operation, at the steps of a path in the document of a number: a node is exchanged, appended as an item or as the entry of a key, or removed; or the text

@@ -1,10 +1,10 @@
 //! Operations: what a program does to documents, one node at a time.
 ghost use Rattle.std.specs.Prelude.{◌≡◌, IfOk, map};
-ghost use Rattle.yq_inline.specs.Entries.{step_of};
+ghost use Rattle.yq_nodes.specs.Entries.{step_of};
 
 use std::alloc::{AllocError, Global};
 use yq_documents::Path;
-use yq_inline::{Step, Value};
+use yq_nodes::{Step, Value};
 
 /// An operation on documents. The keys of a mapping in its value differ.
 #[derive(Debug, Drop)]

@@ -7,18 +7,18 @@ use Rattle.std.specs.List.{slice_get}
 use Rattle.std.specs.Str.{IsUtf8, IsCharBoundary}
 use Rattle.yq_flow_scalars.specs.Answers.{◌>>=◌}
 use Rattle.yq_flow_scalars.specs.Text.{joined, lines_of}
-use Rattle.yq_scalar.proofs.LineLaws.{joined_lines}
-use Rattle.yq_rows.specs.Exchange.{row_front}
-use Rattle.yq_rows.specs.Gap.{IsGap}
-use Rattle.yq_rows.specs.Rows.{Row, behind_gap, print_row, Cut}
-use Rattle.yq_rows.specs.View.{Slices, slices, rows_of, RowsView}
-use Rattle.yq_rows.proofs.NodePieces.{BeginsAscii, before_ascii}
-use Rattle.yq_rows.proofs.PlaceLaws.{row_front-append, row_in}
-use Rattle.yq_rows.proofs.SliceLaws.{content_slices}
+use Rattle.yq_block_scalars.proofs.LineLaws.{joined_lines}
+use Rattle.yq_cut.specs.Exchange.{row_front}
+use Rattle.yq_cut.specs.Gap.{IsGap}
+use Rattle.yq_cut.specs.Rows.{Row, behind_gap, print_row, Cut}
+use Rattle.yq_cut.specs.View.{Slices, slices, rows_of, RowsView}
+use Rattle.yq_cut.proofs.NodePieces.{BeginsAscii, before_ascii}
+use Rattle.yq_cut.proofs.PlaceLaws.{row_front-append, row_in}
+use Rattle.yq_cut.proofs.SliceLaws.{content_slices}
 use Rattle.yq_documents.specs.declared.path.Path.{Path}
 use Rattle.yq_places.specs.CommentPlaces.{LinesAbove, line_text, gap_above, above_row, lines_above}
 use Rattle.yq_places.specs.CommentViews.{GapStands}
-use Rattle.yq_walk.specs.Extents.{row_start}
+use Rattle.yq_row_lines.specs.Extents.{row_start}
 use Rattle.yq_documents.specs.Located.{steps_of}
 use Rattle.yq_documents.specs.Pieces.{before_run, last_run}
 use Rattle.yq_places.specs.PlacedRows.{PlacedRow}

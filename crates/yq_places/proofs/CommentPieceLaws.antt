@@ -8,20 +8,20 @@ use Rattle.std.proofs.lemmas.Str.{IsUtf8-take, IsUtf8-between}
 use Rattle.std.specs.List.{slice_get}
 use Rattle.std.specs.Str.{IsUtf8, IsCharBoundary}
 use Rattle.yq_flow_scalars.specs.Text.{cut, front, ends_line, is_break, is_white, is_line, is_empty, joined, lines_of, no_white, past_white, upto}
-use Rattle.yq_scalar.proofs.BlockPieceLaws.{IsLf, line_lf, append_lf, cut_lf}
+use Rattle.yq_block_scalars.proofs.BlockPieceLaws.{IsLf, line_lf, append_lf, cut_lf}
 use Rattle.yq_flow_scalars.proofs.Boundaries.{white_ascii, break_ascii}
-use Rattle.yq_scalar.proofs.LineLaws.{joined_lines}
+use Rattle.yq_block_scalars.proofs.LineLaws.{joined_lines}
 use Rattle.yq_flow_scalars.proofs.Upto.{upto_ends}
 use Rattle.yq_lines.specs.Comments.{are_comments}
-use Rattle.yq_rows.specs.Exchange.{before_content, behind_at, behind_row, HasPieces}
-use Rattle.yq_rows.specs.Gap.{IsLineEnd, IsGap, AreGapLines}
-use Rattle.yq_rows.specs.Grammar.{IsTail, IsContent}
-use Rattle.yq_rows.specs.Rows.{Content, Nothing, Inline, Block, Row, print_row, rows_text, Part, part_text, Cut, last, marked, cut_text}
-use Rattle.yq_rows.specs.View.{content_cut, slices, rows_of}
-use Rattle.yq_rows.proofs.ExchangeLaws.{slice_front, slice_back}
-use Rattle.yq_rows.proofs.NodePieces.{BeginsAscii, before_ascii}
-use Rattle.yq_rows.proofs.PlaceLaws.{place, row_then, part_then}
-use Rattle.yq_rows.proofs.SliceLaws.{content_slices}
+use Rattle.yq_cut.specs.Exchange.{before_content, behind_at, behind_row, HasPieces}
+use Rattle.yq_cut.specs.Gap.{IsLineEnd, IsGap, AreGapLines}
+use Rattle.yq_cut.specs.Grammar.{IsTail, IsContent}
+use Rattle.yq_cut.specs.Rows.{Content, Nothing, Inline, Block, Row, print_row, rows_text, Part, part_text, Cut, last, marked, cut_text}
+use Rattle.yq_cut.specs.View.{content_cut, slices, rows_of}
+use Rattle.yq_cut.proofs.ExchangeLaws.{slice_front, slice_back}
+use Rattle.yq_cut.proofs.NodePieces.{BeginsAscii, before_ascii}
+use Rattle.yq_cut.proofs.PlaceLaws.{place, row_then, part_then}
+use Rattle.yq_cut.proofs.SliceLaws.{content_slices}
 use Rattle.yq_documents.specs.Pieces.{last_run, before_run, tail_comment, gap_comment, TextPiece, HoldsPiece}
 use Rattle.yq_places.specs.CommentReading.{before_row, before_tail}
 use Rattle.yq_documents.proofs.RunLaws.{run_split}

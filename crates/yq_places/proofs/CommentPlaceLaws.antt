@@ -3,16 +3,16 @@ use Rattle.std.proofs.Common.{◌≡◌, ℕ, ◌+◌, ◌-◌, ◌<◌, ◌≤�
 use Rattle.std.proofs.lemmas.Option.{slice_get-map}
 use Rattle.std.specs.List.{slice_get}
 use Rattle.yq_flow_scalars.specs.Text.{cut, front, ends_line, no_white, past_white, is_empty, joined, lines_of}
-use Rattle.yq_rows.specs.Exchange.{before_content, behind_row}
-use Rattle.yq_rows.specs.Rows.{Row, behind_gap, Cut}
-use Rattle.yq_rows.specs.View.{Slices, slices, rows_of, rows_view}
-use Rattle.yq_scalar.proofs.LineLaws.{joined_lines}
+use Rattle.yq_cut.specs.Exchange.{before_content, behind_row}
+use Rattle.yq_cut.specs.Rows.{Row, behind_gap, Cut}
+use Rattle.yq_cut.specs.View.{Slices, slices, rows_of, rows_view}
+use Rattle.yq_block_scalars.proofs.LineLaws.{joined_lines}
 use Rattle.yq_documents.specs.Pieces.{tail_comment, before_run, last_run, gap_comment, piece_span}
 use Rattle.yq_places.specs.CommentReading.{before_tail, line_comment_in, head_comment_in, tail_span, line_comment_span, gap_span, head_comment_span, before_row}
-use Rattle.yq_walk.specs.Extents.{row_start, front_length, head_place}
+use Rattle.yq_row_lines.specs.Extents.{row_start, front_length, head_place}
 use Rattle.yq_places.specs.RowLineReading.{numbers}
 use Rattle.yq_documents.specs.LinesInRows.{RowLine}
-use Rattle.yq_walk.proofs.LengthLaws.{head_agrees}
+use Rattle.yq_row_lines.proofs.LengthLaws.{head_agrees}
 use Rattle.yq_documents.proofs.RunLaws.{run_split}
 use Rattle.yq_places.proofs.StartLaws.{start_agrees}
 

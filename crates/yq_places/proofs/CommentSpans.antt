@@ -7,9 +7,9 @@ use Rattle.yq_flow_scalars.specs.Paths.{Step}
 use Rattle.yq_lines.specs.Ends.{found_line, line_of}
 use Rattle.yq_lines.specs.Group.{group}
 use Rattle.yq_lines.specs.Places.{lines_before, FoundLine, find}
-use Rattle.yq_rows.specs.Exchange.{before_content, behind_row}
-use Rattle.yq_rows.specs.Rows.{Nothing, dashes_text, behind_gap, Row, Part, Cut}
-use Rattle.yq_rows.specs.View.{content_cut, slices, rows_of}
+use Rattle.yq_cut.specs.Exchange.{before_content, behind_row}
+use Rattle.yq_cut.specs.Rows.{Nothing, dashes_text, behind_gap, Row, Part, Cut}
+use Rattle.yq_cut.specs.View.{content_cut, slices, rows_of}
 use Rattle.yq_documents.specs.declared.path.Part.TheVariants as parts
 use Rattle.yq_documents.specs.declared.path.Path.{Path}
 use Rattle.yq_places.specs.CommentReading.{before_row, before_tail, line_comment_in, head_comment_in}

@@ -7,16 +7,16 @@ use Rattle.yq_flow_scalars.specs.Answers.{◌>>=◌}
 use Rattle.yq_flow_scalars.specs.Paths.{Step}
 use Rattle.yq_flow_scalars.proofs.Bools.{guard_then}
 use Rattle.yq_lines.specs.Comments as comments
-use Rattle.yq_rows.specs.Grammar.{IsCut}
-use Rattle.yq_rows.specs.Rows.{Content, Cut}
-use Rattle.yq_rows.specs.View.{content_cut}
+use Rattle.yq_cut.specs.Grammar.{IsCut}
+use Rattle.yq_cut.specs.Rows.{Content, Cut}
+use Rattle.yq_cut.specs.View.{content_cut}
 use Rattle.yq_documents.specs.declared.path.Part.TheVariants as parts
 use Rattle.yq_documents.specs.declared.path.Path.{Path}
 use Rattle.yq_places.specs.CommentLaws.{comment_of, comments_of, head_comment_of, CommentsStand}
 use Rattle.yq_documents.specs.Documents.{document_parts}
 use Rattle.yq_lines.specs.Group.{group, is_fine}
 use Rattle.yq_lines.specs.Labelled.{Labelled, labelled_from}
-use Rattle.yq_walk.specs.Lines.{tail_of, lines_of}
+use Rattle.yq_row_lines.specs.Lines.{tail_of, lines_of}
 use Rattle.yq_documents.specs.Located.{steps_of, labelled_located, unlabelled}
 use Rattle.yq_lines.specs.Outline.{Line, anchored, head_or, value}
 use Rattle.yq_places.specs.PathPieces.{BlockEntry, PrintedDocument, printed_document, found_entry, piece_in_entry, piece_in}

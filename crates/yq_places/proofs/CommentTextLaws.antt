@@ -3,7 +3,7 @@ use Rattle.std.proofs.Common.{◌≡◌, ℕ, ◌<◌, eqb, List, [], ◌∷◌,
 use Rattle.std.proofs.lemmas.Bool.{eqb-true, cond-true, cond-false}
 use mathlib.Core.List.{tail-eq_of_cons-eq}
 use Rattle.yq_flow_scalars.specs.Text.{cut, front, ends_line, no_white, past_white, upto, is_empty, joined, lines_of, line_len}
-use Rattle.yq_scalar.proofs.LineLaws.{joined_lines, line_step}
+use Rattle.yq_block_scalars.proofs.LineLaws.{joined_lines, line_step}
 use Rattle.yq_lines.specs.Comments.{less_space, comment_text, are_comments, head_comment}
 use Rattle.yq_documents.specs.Pieces.{last_run, before_run, tail_comment, gap_comment}
 use Rattle.yq_places.specs.CommentLaws.{comment_of, comments_of}

@@ -2,11 +2,11 @@
 use Rattle.std.proofs.Common.{◌≡◌, ℕ, leb, List, [], ◌∷◌, length, true, not, ◌&&◌, refl, ap, bytes_eq, codes}
 use Rattle.std.proofs.lemmas.Bool.{and_parts, and_from, leb-true, le-leb, not-true}
 use Rattle.std.specs.Str.{chars}
-use Rattle.yq_inline.specs.Nodes as inline
-use Rattle.yq_inline.specs.Nodes.{Items, none, item}
-use Rattle.yq_rows.specs.Grammar.{key_limit}
-use Rattle.yq_rows.specs.Rows as rows
-use Rattle.yq_rows.specs.Rows.{Content, Nothing, Inline, Block, Row}
+use Rattle.yq_nodes.specs.Nodes as inline
+use Rattle.yq_nodes.specs.Nodes.{Items, none, item}
+use Rattle.yq_cut.specs.Grammar.{key_limit}
+use Rattle.yq_cut.specs.Rows as rows
+use Rattle.yq_cut.specs.Rows.{Content, Nothing, Inline, Block, Row}
 use Rattle.yq_documents.specs.Documents.{IsFit, HasFitKey, HasFitKeys, EachHasFitKeys, ContentHasFitKeys, MarkIsFit, HaveFitKeys, HasShortRoot}
 use Rattle.yq_documents.specs.Reading.{is_fit, has_fit_key, has_fit_keys, each_has_fit_keys, content_is_fit, mark_is_fit, have_fit_keys, has_short_root}
 use Rattle.yq_lines.proofs.KeyLaws.{differ, differs}

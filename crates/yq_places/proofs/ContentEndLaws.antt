@@ -2,10 +2,10 @@
 use Rattle.std.proofs.Common.{◌≡◌, ◌⊎◌, inl, inr, ℕ, ℤ, Bool, true, false, ◌&&◌, List, [], ◌∷◌, ◌++◌, refl, sym, ap, ◌∙◌, subst, append-nil}
 use Rattle.std.proofs.lemmas.Bool.{eqb-true, false_from_ne_true, false≢true, and_parts, or_parts}
 use Rattle.yq_flow_scalars.specs.Text.{front, is_white, is_feed, is_return, is_break, is_line, ends_line, NoneIn}
-use Rattle.yq_rows.specs.Gap.{IsBreak, IsComment, IsWhite}
-use Rattle.yq_rows.specs.Grammar.{IsContent, IsTail}
-use Rattle.yq_rows.specs.Rows.{Content, Nothing, Inline, Block}
-use Rattle.yq_rows.proofs.seams.SeamLaws.{line_by_break}
+use Rattle.yq_cut.specs.Gap.{IsBreak, IsComment, IsWhite}
+use Rattle.yq_cut.specs.Grammar.{IsContent, IsTail}
+use Rattle.yq_cut.specs.Rows.{Content, Nothing, Inline, Block}
+use Rattle.yq_cut.proofs.seams.SeamLaws.{line_by_break}
 use Rattle.yq_places.specs.CollectionEnds.{is_broken}
 use Rattle.yq_places.specs.PrintedLines.{last_break, end_break}
 use Rattle.yq_places.proofs.LastBreakLaws.{HasNoFeed, line_last, raw_last, no_last}

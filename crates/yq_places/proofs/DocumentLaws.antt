@@ -5,12 +5,12 @@ use Rattle.std.proofs.lemmas.Option.{cond_some}
 use Rattle.std.specs.List.{list_all}
 use Rattle.yq_flow_scalars.specs.Tree.{Node}
 use Rattle.yq_flow_scalars.specs.Keys.{depth}
-use Rattle.yq_inline.specs.Inline.{depth_limit}
-use Rattle.yq_rows.specs.Rows.{Part}
+use Rattle.yq_nodes.specs.Inline.{depth_limit}
+use Rattle.yq_cut.specs.Rows.{Part}
 use Rattle.yq_flow_scalars.specs.Anchors.{names_of}
 use Rattle.yq_documents.specs.Documents.{Document, IsRoot, IsDocument, AreDocuments}
 use Rattle.yq_lines.specs.Group.{group, is_fine}
-use Rattle.yq_walk.specs.Lines.{lines_of}
+use Rattle.yq_row_lines.specs.Lines.{lines_of}
 use Rattle.yq_lines.specs.Outline.{Line, value}
 use Rattle.yq_documents.specs.Reading.{outline_of, root_of, document_of, have_fit_keys, has_short_root, is_document}
 use Rattle.yq_lines.specs.LinesReading.{have_one_anchor_each, are_bound}

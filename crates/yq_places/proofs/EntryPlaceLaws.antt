@@ -5,11 +5,11 @@ use Rattle.std.proofs.lemmas.Option.{same_Some}
 use Rattle.std.specs.List.{slice_get}
 use Rattle.yq_flow_scalars.specs.Answers.{◌>>=◌}
 use Rattle.yq_flow_scalars.specs.Paths.{Step}
-use Rattle.yq_inline.specs.Entries.{PlacedEntry, entry_place, content_place}
-use Rattle.yq_inline.specs.Places.{Placed}
-use Rattle.yq_rows.specs.Exchange.{behind_row}
-use Rattle.yq_rows.specs.Rows.{Row, Part, Cut, cut_text}
-use Rattle.yq_rows.specs.View.{rows_of}
+use Rattle.yq_nodes.specs.Entries.{PlacedEntry, entry_place, content_place}
+use Rattle.yq_nodes.specs.Places.{Placed}
+use Rattle.yq_cut.specs.Exchange.{behind_row}
+use Rattle.yq_cut.specs.Rows.{Row, Part, Cut, cut_text}
+use Rattle.yq_cut.specs.View.{rows_of}
 use Rattle.yq_documents.specs.Documents.{document_parts}
 use Rattle.yq_documents.specs.FlowReading.{row_flow}
 use Rattle.yq_documents.specs.declared.path.Path.{Path}
@@ -18,13 +18,13 @@ use Rattle.yq_places.specs.EntryReading.{line_entry, line_content, entry_from, c
 use Rattle.yq_places.specs.EntryReading.{line_entry_of, line_content_of, flow_entry_from, flow_entry_of, line_entry_at, line_content_at, flow_entry_at}
 use Rattle.yq_lines.specs.Group.{group}
 use Rattle.yq_lines.specs.Places.{lines_before, FoundLine, find}
-use Rattle.yq_walk.specs.Lines.{lines_of}
+use Rattle.yq_row_lines.specs.Lines.{lines_of}
 use Rattle.yq_places.specs.RowLineReading.{Numbers, numbers}
 use Rattle.yq_documents.specs.LinesInRows.{RowLine, behind_one, row_line, row_line_of, row_line_at, document_row}
 use Rattle.yq_lines.specs.Ends.{found_line, reached}
 use Rattle.yq_places.proofs.FlowPlaceLaws.{flow_agrees}
 use Rattle.yq_lines.proofs.Values.{If}
-use Rattle.yq_walk.proofs.KnownLaws.{get_dropped, get_front}
+use Rattle.yq_row_lines.proofs.KnownLaws.{get_dropped, get_front}
 
 -- a line is one of its row, and that is one of the rows
 abbrev pub IsLineInRow : List Row → RowLine → Type 0

@@ -5,25 +5,25 @@ use Rattle.std.proofs.lemmas.Option.{slice_get-map, slice_get_within}
 use Rattle.std.specs.List.{slice_get}
 use Rattle.std.specs.Str.{IsUtf8, IsCharBoundary}
 use Rattle.yq_flow_scalars.specs.Characters.{text_limit}
-use Rattle.yq_rows.specs.Exchange.{before_content, behind_row, row_front, rows_behind}
-use Rattle.yq_rows.specs.Grammar.{AreRows, unlimited}
-use Rattle.yq_rows.specs.Offsets.{row_length}
-use Rattle.yq_rows.specs.Rows.{Row, parent_indent, print_row, rows_text, part_text, Cut}
-use Rattle.yq_rows.specs.View.{Slices, slices, rows_of, RowsView, rows_view}
-use Rattle.yq_rows.proofs.PlaceLaws.{RowIn, row_in}
-use Rattle.yq_rows.proofs.seams.SeamLaws.{rows_text-append}
-use Rattle.yq_rows.proofs.splices.SpliceTexts.{first_text}
+use Rattle.yq_cut.specs.Exchange.{before_content, behind_row, row_front, rows_behind}
+use Rattle.yq_cut.specs.Grammar.{AreRows, unlimited}
+use Rattle.yq_cut.specs.Offsets.{row_length}
+use Rattle.yq_cut.specs.Rows.{Row, parent_indent, print_row, rows_text, part_text, Cut}
+use Rattle.yq_cut.specs.View.{Slices, slices, rows_of, RowsView, rows_view}
+use Rattle.yq_cut.proofs.PlaceLaws.{RowIn, row_in}
+use Rattle.yq_cut.proofs.seams.SeamLaws.{rows_text-append}
+use Rattle.yq_cut.proofs.splices.SpliceTexts.{first_text}
 use Rattle.yq_documents.specs.Reading.{cut_of}
 use Rattle.yq_documents.specs.LinesInRows.{document_row}
 use Rattle.yq_places.specs.CommentPlaces.{line_text}
 use Rattle.yq_places.specs.CommentReading.{before_row}
-use Rattle.yq_walk.specs.Extents.{IsRowsView, head_place, row_start}
+use Rattle.yq_row_lines.specs.Extents.{IsRowsView, head_place, row_start}
 use Rattle.yq_places.specs.RemovalPlaces.{OwnRows, rows_out}
 use Rattle.yq_places.specs.Standings.{RowsOfEntry, before_entry, behind_entry}
 use Rattle.yq_places.specs.StandingReading.{AreRowsOf}
 use Rattle.yq_places.proofs.CommentEndLaws.{row_text_parts}
 use Rattle.yq_places.proofs.CommentPieceLaws.{Ended, content_end, row_place}
-use Rattle.yq_walk.proofs.LengthLaws.{row_fits, view_small}
+use Rattle.yq_row_lines.proofs.LengthLaws.{row_fits, view_small}
 use Rattle.yq_places.proofs.PlacedRowLaws.{IsAt, part_at}
 use Rattle.yq_places.proofs.RemovalLines.{LineSeam, lies_in, rows_seam, seam_join}
 use Rattle.yq_places.proofs.RemovalTexts.{texts_then}

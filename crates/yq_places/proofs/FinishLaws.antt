@@ -4,19 +4,19 @@ use Rattle.std.proofs.lemmas.Bool.{cases_lt, lt-ltb, le-ltb, cond-true, cond-fal
 use Rattle.std.specs.List.{slice_get}
 use Rattle.std.specs.Str.{IsCharBoundary}
 use Rattle.yq_flow_scalars.specs.Text.{is_empty, is_feed, is_return}
-use Rattle.yq_scalar.proofs.BlockPieceLaws.{IsLf}
-use Rattle.yq_rows.specs.Exchange.{row_front, before_at, before_content, behind_row}
-use Rattle.yq_rows.specs.Grammar.{AreParts}
-use Rattle.yq_rows.specs.Rows.{mark_text, dashes_text, content_text, Row, rows_text, parent_indent, part_text, Cut, last, marked, cut_text}
-use Rattle.yq_rows.specs.View.{Slices, slices, rows_of}
-use Rattle.yq_rows.proofs.ExchangeLaws.{slice_front, slice_back}
-use Rattle.yq_rows.proofs.NodePieces.{BeginsAscii, before_ascii}
-use Rattle.yq_rows.proofs.PlaceLaws.{row_front-append, row_in}
+use Rattle.yq_block_scalars.proofs.BlockPieceLaws.{IsLf}
+use Rattle.yq_cut.specs.Exchange.{row_front, before_at, before_content, behind_row}
+use Rattle.yq_cut.specs.Grammar.{AreParts}
+use Rattle.yq_cut.specs.Rows.{mark_text, dashes_text, content_text, Row, rows_text, parent_indent, part_text, Cut, last, marked, cut_text}
+use Rattle.yq_cut.specs.View.{Slices, slices, rows_of}
+use Rattle.yq_cut.proofs.ExchangeLaws.{slice_front, slice_back}
+use Rattle.yq_cut.proofs.NodePieces.{BeginsAscii, before_ascii}
+use Rattle.yq_cut.proofs.PlaceLaws.{row_front-append, row_in}
 use Rattle.yq_places.specs.CommentReading.{before_tail, before_row}
 use Rattle.yq_places.specs.EntryReading.{before_line, ending, through_row}
 use Rattle.yq_places.specs.PrintedLines.{is_last_break, less_break}
-use Rattle.yq_walk.proofs.LengthLaws.{part-length}
-use Rattle.yq_rows.proofs.SliceLaws.{print-length}
+use Rattle.yq_row_lines.proofs.LengthLaws.{part-length}
+use Rattle.yq_cut.proofs.SliceLaws.{print-length}
 use Rattle.yq_places.proofs.CommentPieceLaws.{Ended, content_end}
 use Rattle.yq_places.proofs.CommentPieceLaws.{tail_place}
 use Rattle.yq_places.proofs.SeamLaws.{raw_end, dashes_split}

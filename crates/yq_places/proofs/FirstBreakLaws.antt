@@ -3,7 +3,7 @@ use Rattle.std.proofs.Common.{◌≡◌, ℕ, suc, Bool, true, false, cond, ◌&
 use Rattle.std.proofs.lemmas.Bool.{and_parts, eq-eqb, eqb-true, ne_eqb}
 use Rattle.std.proofs.Math.Dec.{eqb}
 use Rattle.yq_flow_scalars.specs.Text.{cut, cut_line, ends_line, front, is_feed, is_return, line_len, upto}
-use Rattle.yq_scalar.specs.declared.block_written.Break.TheVariants.{Lf, CrLf}
+use Rattle.yq_block_scalars.specs.declared.block_types.Break.TheVariants.{Lf, CrLf}
 use Rattle.yq_places.specs.FirstBreak.{first_break}
 use Rattle.yq_places.specs.PrintedLines.{is_last_break, last_break, less_break}
 

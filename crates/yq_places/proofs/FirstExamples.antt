@@ -3,10 +3,10 @@ use Rattle.std.proofs.Common.{◌≡◌, ℕ, List, [], ◌∷◌, ◌++◌, Som
 use Rattle.yq_flow_scalars.specs.Paths.{Nth, To}
 use Rattle.yq_flow_scalars.specs.Text.{upto, line_len, lines_of}
 use Rattle.yq_flow_scalars.specs.ContentReading as reading
-use Rattle.yq_inline.specs.Nodes as inline
-use Rattle.yq_inline.specs.Scalars as scalars
+use Rattle.yq_nodes.specs.Nodes as inline
+use Rattle.yq_nodes.specs.Scalars as scalars
 use Rattle.yq_lines.specs.Outline.{level}
-use Rattle.yq_rows.specs.Rows.{Key, Inline, Row, Cut, last}
+use Rattle.yq_cut.specs.Rows.{Key, Inline, Row, Cut, last}
 use Rattle.yq_places.specs.FirstPlaces.{first_removal, less_spaces}
 use Rattle.yq_places.specs.PrintedLines.{less_break}
 

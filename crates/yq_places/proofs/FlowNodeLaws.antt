@@ -5,25 +5,25 @@ use Rattle.yq_flow_scalars.specs.Answers.{◌>>=◌}
 use Rattle.yq_flow_scalars.specs.Paths.{Step, is_here, further}
 use Rattle.yq_flow_scalars.specs.Piece.{deeper}
 use Rattle.yq_flow_scalars.specs.declared.style.Place.TheVariants.{Block}
-use Rattle.yq_inline.specs.Collections.{CollAt, CollPieces, IsCollAt, coll_along, coll_in}
-use Rattle.yq_inline.specs.Entries.{EntryPieces, inside, item_at, step_of}
-use Rattle.yq_inline.specs.Nodes.{Items, none, item, Key, Node, empty, alias, scalar, coll, anchored, items_text, sep_text, node_text, is_bare, IsNode}
-use Rattle.yq_inline.specs.Inline.{depth_limit}
-use Rattle.yq_inline.specs.Places.{Placed, placed, nothing, name, text, sequence, mapping, with_anchor, locate}
-use Rattle.yq_inline.specs.Trees.{inner, key_content}
-use Rattle.yq_inline.specs.View.{view}
-use Rattle.yq_inline.proofs.WrittenLaws.{items_append, node_then, sep_append}
-use Rattle.yq_rows.specs.Exchange.{behind_row}
-use Rattle.yq_rows.specs.Grammar.{IsContent, IsCut}
-use Rattle.yq_rows.specs.Rows as rows
-use Rattle.yq_rows.specs.Rows.{Content, Nothing, Inline, Row, Part, Cut, parent_indent}
-use Rattle.yq_rows.specs.View.{RowsView, anchor_cut, content_cut, rows_view, slices}
-use Rattle.yq_rows.proofs.PlaceLaws.{row_in}
+use Rattle.yq_nodes.specs.Collections.{CollAt, CollPieces, IsCollAt, coll_along, coll_in}
+use Rattle.yq_nodes.specs.Entries.{EntryPieces, inside, item_at, step_of}
+use Rattle.yq_nodes.specs.Nodes.{Items, none, item, Key, Node, empty, alias, scalar, coll, anchored, items_text, sep_text, node_text, is_bare, IsNode}
+use Rattle.yq_nodes.specs.Inline.{depth_limit}
+use Rattle.yq_nodes.specs.Places.{Placed, placed, nothing, name, text, sequence, mapping, with_anchor, locate}
+use Rattle.yq_nodes.specs.Trees.{inner, key_content}
+use Rattle.yq_nodes.specs.View.{view}
+use Rattle.yq_nodes.proofs.WrittenLaws.{items_append, node_then, sep_append}
+use Rattle.yq_cut.specs.Exchange.{behind_row}
+use Rattle.yq_cut.specs.Grammar.{IsContent, IsCut}
+use Rattle.yq_cut.specs.Rows as rows
+use Rattle.yq_cut.specs.Rows.{Content, Nothing, Inline, Row, Part, Cut, parent_indent}
+use Rattle.yq_cut.specs.View.{RowsView, anchor_cut, content_cut, rows_view, slices}
+use Rattle.yq_cut.proofs.PlaceLaws.{row_in}
 use Rattle.yq_lines.specs.Outline.{Line}
 use Rattle.yq_lines.specs.Places.{lines_before, FoundLine}
 use Rattle.yq_documents.specs.Documents.{document_parts}
 use Rattle.yq_documents.specs.FlowReading.{kept, core, content_core, row_flow}
-use Rattle.yq_walk.specs.Lines.{tail_of, lines_of}
+use Rattle.yq_row_lines.specs.Lines.{tail_of, lines_of}
 use Rattle.yq_documents.specs.Reading.{outline_of}
 use Rattle.yq_documents.specs.RowReading.{from_head}
 use Rattle.yq_documents.specs.LinesInRows.{RowLine, document_row}
@@ -32,10 +32,10 @@ use Rattle.yq_places.specs.FlowViews as views
 use Rattle.yq_places.specs.FlowViews.{FlowAgrees, IsHeadFor, placed_collection, collection_along}
 use Rattle.yq_places.specs.NodeReading.{NodePlace, with_steps, node_place, place_line, head_at}
 use Rattle.yq_places.specs.RowWalk.{InCut}
-use Rattle.yq_walk.specs.RowWalk.{IsLine, line_number}
+use Rattle.yq_row_lines.specs.RowWalk.{IsLine, line_number}
 use Rattle.yq_places.specs.declared.places.flow_node.FlowHead.{FlowHead}
-use Rattle.yq_walk.specs.declared.position.Position.{Position}
-use Rattle.yq_walk.specs.declared.position.Stretch.{Stretch}
+use Rattle.yq_row_lines.specs.declared.line_position.Position.{Position}
+use Rattle.yq_row_lines.specs.declared.line_position.Stretch.{Stretch}
 use Rattle.yq_places.proofs.FlowViewLaws.{collection_placed, head_found, numbered}
 use Rattle.yq_places.proofs.HeadSteps.{HasStemAt, stem_at}
 use Rattle.yq_places.proofs.WalkDocuments as documents

@@ -3,7 +3,7 @@ use Rattle.std.proofs.Common.{◌≡◌, ℕ, eqb, List, [], ◌∷◌, ◌++◌
 use Rattle.std.proofs.lemmas.Option.{none-some, same_Some}
 use Rattle.yq_flow_scalars.specs.declared.kind.Kind.TheVariants.{Text}
 use Rattle.yq_flow_scalars.specs.Answers.{◌>>=◌}
-use Rattle.yq_scalar.specs.BlockContent.{block_content}
+use Rattle.yq_block_scalars.specs.BlockContent.{block_content}
 use Rattle.yq_lines.specs.Group.{group, is_fine}
 use Rattle.yq_lines.specs.Labelled.{Labelled, labelled_at, labelled_from}
 use Rattle.yq_lines.proofs.Finding.{entry_of}
@@ -13,14 +13,14 @@ use Rattle.yq_places.proofs.FoundLines.{some_head}
 use Rattle.yq_places.proofs.RowPathLaws.{found_place}
 use Rattle.yq_flow_scalars.specs.Paths.{Step, is_here, further}
 use Rattle.yq_flow_scalars.specs.Tree as tree
-use Rattle.yq_inline.specs.Entries.{EntryPieces, entry_pieces_at, inside, locate_entry, placed_entry_at}
-use Rattle.yq_inline.specs.Entries as entries
-use Rattle.yq_inline.specs.Nodes.{bare, Node, empty, alias, scalar, coll, anchored, Items, none, item, key_text, sep_text, open_of, node_text, items_text, IsNode}
-use Rattle.yq_inline.specs.Trees.{inner, key_content, tree_of, items_tree, collection, with_name}
-use Rattle.yq_inline.proofs.PathLaws.{path_holds}
-use Rattle.yq_rows.specs.Rows.{Content, Nothing, Inline, Block}
-use Rattle.yq_walk.specs.Lines.{head_of}
-use Rattle.yq_inline.specs.Trees.{node_head}
+use Rattle.yq_nodes.specs.Entries.{EntryPieces, entry_pieces_at, inside, locate_entry, placed_entry_at}
+use Rattle.yq_nodes.specs.Entries as entries
+use Rattle.yq_nodes.specs.Nodes.{bare, Node, empty, alias, scalar, coll, anchored, Items, none, item, key_text, sep_text, open_of, node_text, items_text, IsNode}
+use Rattle.yq_nodes.specs.Trees.{inner, key_content, tree_of, items_tree, collection, with_name}
+use Rattle.yq_nodes.proofs.PathLaws.{path_holds}
+use Rattle.yq_cut.specs.Rows.{Content, Nothing, Inline, Block}
+use Rattle.yq_row_lines.specs.Lines.{head_of}
+use Rattle.yq_nodes.specs.Trees.{node_head}
 use Rattle.yq_lines.specs.Outline as outlines
 use Rattle.yq_lines.specs.Outline.{Mark, Line, level, Outline, end, row, flatten, IsEven, first_anchor, head_or, value}
 use Rattle.yq_lines.specs.Places.{FoundLine, find}

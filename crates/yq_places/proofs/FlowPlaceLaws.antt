@@ -6,15 +6,15 @@ use Rattle.std.specs.Prelude.{is_some}
 use Rattle.yq_flow_scalars.specs.Answers.{◌>>=◌}
 use Rattle.yq_flow_scalars.specs.Paths.{Step}
 use Rattle.yq_flow_scalars.specs.Tree as tree
-use Rattle.yq_inline.specs.Entries.{parts_of, part_at, placed_entry_at}
-use Rattle.yq_inline.specs.Nodes.{Node, empty, alias, scalar, coll, anchored}
-use Rattle.yq_inline.specs.Places.{Placed, placed, nothing, name, text, sequence, mapping, Parts, with_anchor, locate}
-use Rattle.yq_rows.specs.Exchange.{behind_row}
-use Rattle.yq_rows.specs.Rows.{Content, Nothing, Inline, Block, Row, Cut, cut_text}
+use Rattle.yq_nodes.specs.Entries.{parts_of, part_at, placed_entry_at}
+use Rattle.yq_nodes.specs.Nodes.{Node, empty, alias, scalar, coll, anchored}
+use Rattle.yq_nodes.specs.Places.{Placed, placed, nothing, name, text, sequence, mapping, Parts, with_anchor, locate}
+use Rattle.yq_cut.specs.Exchange.{behind_row}
+use Rattle.yq_cut.specs.Rows.{Content, Nothing, Inline, Block, Row, Cut, cut_text}
 use Rattle.yq_places.specs.EntryReading.{inline_node, placed_inline, flow_entry}
 use Rattle.yq_places.specs.EntryReading.{entry_within}
 use Rattle.yq_documents.specs.FlowReading.{kept, core, content_core, row_flow}
-use Rattle.yq_walk.specs.Lines.{tail_of, lines_of}
+use Rattle.yq_row_lines.specs.Lines.{tail_of, lines_of}
 use Rattle.yq_lines.specs.Outline.{Mark, Bare, Key, Dash, Line, Outline, end, row}
 use Rattle.yq_lines.specs.Places.{here, FoundLine, find_row, inside, bare_or, in_head, find}
 use Rattle.yq_documents.specs.LinesInRows.{RowLine, row_line}

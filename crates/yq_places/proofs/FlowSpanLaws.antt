@@ -4,20 +4,20 @@ use Rattle.std.proofs.lemmas.Option.{same_Some}
 use Rattle.std.specs.List.{slice_get}
 use Rattle.std.specs.Str.{IsUtf8}
 use Rattle.yq_flow_scalars.specs.Paths.{Step, is_here, further}
-use Rattle.yq_inline.specs.Entries.{PlacedEntry, EntryPieces, parts_of, part_at, placed_entry_at, content_place, end_of, entry_start, entry_place, locate_entry, entry_pieces_at}
-use Rattle.yq_inline.specs.Nodes.{Key, bare, keyed, empty, node_text, key_text}
-use Rattle.yq_inline.specs.Places.{Placed, placed, nothing, name, text, sequence, mapping, Parts, end, part, key_placed, locate}
-use Rattle.yq_inline.specs.Spans.{IsSpan, HasKeySpan, HasSpans, PartsHaveSpans}
-use Rattle.yq_inline.specs.Trees.{inner, unplaced_key}
-use Rattle.yq_inline.proofs.NodeAgain.{node_longer}
-use Rattle.yq_inline.proofs.PathLaws.{path_places}
-use Rattle.yq_inline.proofs.EditPlaces.{start_placed, end_placed}
-use Rattle.yq_rows.specs.Exchange.{behind_row}
-use Rattle.yq_rows.specs.Grammar.{IsCut}
-use Rattle.yq_rows.specs.Rows.{Content, Nothing, Inline, Block, Row, Cut, cut_text}
-use Rattle.yq_rows.specs.View.{rows_of}
+use Rattle.yq_nodes.specs.Entries.{PlacedEntry, EntryPieces, parts_of, part_at, placed_entry_at, content_place, end_of, entry_start, entry_place, locate_entry, entry_pieces_at}
+use Rattle.yq_nodes.specs.Nodes.{Key, bare, keyed, empty, node_text, key_text}
+use Rattle.yq_nodes.specs.Places.{Placed, placed, nothing, name, text, sequence, mapping, Parts, end, part, key_placed, locate}
+use Rattle.yq_nodes.specs.Spans.{IsSpan, HasKeySpan, HasSpans, PartsHaveSpans}
+use Rattle.yq_nodes.specs.Trees.{inner, unplaced_key}
+use Rattle.yq_nodes.proofs.NodeAgain.{node_longer}
+use Rattle.yq_nodes.proofs.PathLaws.{path_places}
+use Rattle.yq_nodes.proofs.EditPlaces.{start_placed, end_placed}
+use Rattle.yq_cut.specs.Exchange.{behind_row}
+use Rattle.yq_cut.specs.Grammar.{IsCut}
+use Rattle.yq_cut.specs.Rows.{Content, Nothing, Inline, Block, Row, Cut, cut_text}
+use Rattle.yq_cut.specs.View.{rows_of}
 use Rattle.yq_places.specs.EntryReading.{inline_node, placed_inline}
-use Rattle.yq_walk.specs.Lines.{tail_of}
+use Rattle.yq_row_lines.specs.Lines.{tail_of}
 use Rattle.yq_places.proofs.HeadSpanLaws.{node_spans}
 
 -- an item or entry with its key

@@ -1,10 +1,10 @@
 -- The spans of items and entries in flow.
 use Rattle.std.proofs.Common.{◌≡◌, ℕ, ◌+◌, ◌-◌, eqb, List, [], ◌∷◌, ◌++◌, length, Some, None, option_map, true, false, cond, refl, sym, ap, ◌∙◌, arith, append_assoc, length-append}
-use Rattle.yq_inline.specs.Entries.{entry_place, content_place, locate_entry}
-use Rattle.yq_inline.specs.Nodes.{Key, bare, keyed, Node, empty, alias, scalar, coll, anchored, key_text, node_text}
-use Rattle.yq_inline.specs.Places.{Placed, placed, sequence, mapping, holder, locate, locate_items, with_anchor}
-use Rattle.yq_inline.proofs.WrittenLaws.{key_append, node_then}
-use Rattle.yq_inline.proofs.EditPlaces.{start_placed, end_placed}
+use Rattle.yq_nodes.specs.Entries.{entry_place, content_place, locate_entry}
+use Rattle.yq_nodes.specs.Nodes.{Key, bare, keyed, Node, empty, alias, scalar, coll, anchored, key_text, node_text}
+use Rattle.yq_nodes.specs.Places.{Placed, placed, sequence, mapping, holder, locate, locate_items, with_anchor}
+use Rattle.yq_nodes.proofs.WrittenLaws.{key_append, node_then}
+use Rattle.yq_nodes.proofs.EditPlaces.{start_placed, end_placed}
 use Rattle.yq_documents.specs.Pieces.{piece_span, node_piece}
 use Rattle.yq_places.specs.PathPieces.{FlowEntry, flow_piece, flow_content}
 use Rattle.yq_places.proofs.PieceTexts.{item_text}

@@ -5,11 +5,11 @@ use Rattle.std.specs.Prelude.{is_some}
 use Rattle.yq_flow_scalars.specs.Answers.{◌>>=◌}
 use Rattle.yq_flow_scalars.specs.Paths.{Step}
 use Rattle.yq_flow_scalars.specs.Tree as tree
-use Rattle.yq_inline.specs.Collections.{coll_along, coll_in}
-use Rattle.yq_inline.specs.Entries.{EntryPieces, PlacedEntry, entry_pieces_at, inside, locate_entry}
-use Rattle.yq_inline.specs.Nodes.{bare, Node, empty, alias, scalar, coll, anchored}
-use Rattle.yq_inline.specs.Places.{Placed, placed, sequence, mapping, Parts, holder, locate, locate_items, with_anchor}
-use Rattle.yq_inline.proofs.PathLaws.{path_places}
+use Rattle.yq_nodes.specs.Collections.{coll_along, coll_in}
+use Rattle.yq_nodes.specs.Entries.{EntryPieces, PlacedEntry, entry_pieces_at, inside, locate_entry}
+use Rattle.yq_nodes.specs.Nodes.{bare, Node, empty, alias, scalar, coll, anchored}
+use Rattle.yq_nodes.specs.Places.{Placed, placed, sequence, mapping, Parts, holder, locate, locate_items, with_anchor}
+use Rattle.yq_nodes.proofs.PathLaws.{path_places}
 use Rattle.yq_lines.specs.Ends.{part}
 use Rattle.yq_lines.specs.Group.{group}
 use Rattle.yq_lines.specs.Outline.{Line, level, Outline, end, row}

@@ -2,7 +2,7 @@
 use Rattle.std.proofs.Common.{◌≡◌, ℕ, zero, suc, ◌-◌, ◌<◌, ◌≤◌, List, [], ◌∷◌, take, drop, Some, ap, ◌∙◌, arith}
 use Rattle.std.proofs.lemmas.Option.{same_Some}
 use Rattle.std.specs.List.{slice_get}
-use Rattle.yq_rows.specs.View.{Bound}
+use Rattle.yq_cut.specs.View.{Bound}
 
 first_taken : (bs : List Bound) (from k : ℕ) (b : Bound) → slice_get bs from ≡ Some b → take (suc k) (drop from bs) ≡ b ∷ take k (drop (suc from) bs)
 first_taken [] from k b h = cc

@@ -7,7 +7,7 @@ use Rattle.std.proofs.lemmas.List.Sums.{prefix_len-le-length}
 use Rattle.std.specs.List.{prefix_len}
 use Rattle.yq_flow_scalars.specs.Text.{front, is_break, is_empty, is_feed, is_line, is_return, is_white, line_len, past_white}
 use Rattle.yq_flow_scalars.proofs.Upto.{upto_unless}
-use Rattle.yq_rows.specs.Reading.{begins_gap}
+use Rattle.yq_cut.specs.Reading.{begins_gap}
 use Rattle.yq_places.specs.PrintedLines.{less_break}
 
 -- the byte at a place stands in the first half, or in the second one

@@ -6,21 +6,21 @@ use Rattle.std.specs.List.{slice_get}
 use Rattle.yq_flow_scalars.specs.Characters.{text_limit}
 use Rattle.yq_flow_scalars.specs.Piece.{deeper}
 use Rattle.yq_flow_scalars.specs.Text.{joined}
-use Rattle.yq_inline.specs.Inline.{depth_limit}
-use Rattle.yq_inline.specs.Nodes.{Node, empty, alias, scalar, coll, anchored, node_text, items_text, takes_anchor, IsNode}
-use Rattle.yq_inline.specs.Scalars.{IsScalarAt, begins_scalar}
-use Rattle.yq_inline.proofs.PieceLaws.{front_not, scalar_begins}
-use Rattle.yq_rows.specs.Exchange.{behind_row}
-use Rattle.yq_rows.specs.Grammar.{IsContent, IsCut}
-use Rattle.yq_rows.specs.Rows.{Content, Nothing, Inline, Block, Row, parent_indent, Cut}
-use Rattle.yq_rows.specs.View.{Slices, slices, anchor_cut, content_cut, rows_of, RowsView, rows_view}
-use Rattle.yq_rows.proofs.PlaceLaws.{row_in}
+use Rattle.yq_nodes.specs.Inline.{depth_limit}
+use Rattle.yq_nodes.specs.Nodes.{Node, empty, alias, scalar, coll, anchored, node_text, items_text, takes_anchor, IsNode}
+use Rattle.yq_nodes.specs.Scalars.{IsScalarAt, begins_scalar}
+use Rattle.yq_nodes.proofs.PieceLaws.{front_not, scalar_begins}
+use Rattle.yq_cut.specs.Exchange.{behind_row}
+use Rattle.yq_cut.specs.Grammar.{IsContent, IsCut}
+use Rattle.yq_cut.specs.Rows.{Content, Nothing, Inline, Block, Row, parent_indent, Cut}
+use Rattle.yq_cut.specs.View.{Slices, slices, anchor_cut, content_cut, rows_of, RowsView, rows_view}
+use Rattle.yq_cut.proofs.PlaceLaws.{row_in}
 use Rattle.yq_places.specs.EntryReading.{ending, head_end, head_extent, through_row}
 use Rattle.yq_places.specs.EntryReading.{head_finish}
-use Rattle.yq_walk.specs.Extents.{row_start, front_length, head_place, IsRowsView}
+use Rattle.yq_row_lines.specs.Extents.{row_start, front_length, head_place, IsRowsView}
 use Rattle.yq_documents.specs.RowReading.{is_block_head}
 use Rattle.yq_documents.proofs.HeadLaws.{block_marks}
-use Rattle.yq_walk.proofs.LengthLaws.{row_fits, view_small}
+use Rattle.yq_row_lines.proofs.LengthLaws.{row_fits, view_small}
 use Rattle.yq_places.proofs.RowStarts.{head_is, row_ends}
 use Rattle.yq_places.proofs.SpanLaws.{get_row}
 

@@ -4,28 +4,28 @@ use Rattle.std.proofs.Math.Seq.{drop-append_seam}
 use Rattle.std.proofs.lemmas.Bool.{false≢true, and_parts}
 use Rattle.std.specs.List.{slice_get}
 use Rattle.std.specs.Str.{IsUtf8, IsCharBoundary}
-use Rattle.yq_scalar.specs.declared.block_header.BlockStyle.{BlockStyle}
-use Rattle.yq_scalar.specs.declared.block_header.BlockStyle.TheVariants as styles
+use Rattle.yq_block_scalars.specs.declared.block_header.BlockStyle.{BlockStyle}
+use Rattle.yq_block_scalars.specs.declared.block_header.BlockStyle.TheVariants as styles
 use Rattle.yq_flow_scalars.specs.declared.style.Place.TheVariants as places
-use Rattle.yq_scalar.specs.Block.{mark_of}
+use Rattle.yq_block_scalars.specs.Block.{mark_of}
 use Rattle.yq_flow_scalars.specs.Text.{is_empty}
-use Rattle.yq_inline.specs.Entries.{end_of}
-use Rattle.yq_inline.specs.Inline.{IsInlineAt}
-use Rattle.yq_inline.specs.Nodes.{Node, empty, alias, scalar, coll, anchored, node_text, IsNode}
-use Rattle.yq_inline.specs.Places.{Placed, placed, with_anchor, locate}
-use Rattle.yq_inline.specs.Spans.{IsSpan, HasSpans}
-use Rattle.yq_inline.proofs.NodeAgain.{is_anchored, takes_unanchored}
-use Rattle.yq_inline.proofs.SpanLaws.{inline_spans}
-use Rattle.yq_inline.proofs.WrittenLaws.{node_then}
-use Rattle.yq_inline.proofs.EditPlaces.{end_placed}
-use Rattle.yq_rows.specs.Exchange.{before_content, behind_row}
-use Rattle.yq_rows.specs.Grammar.{IsContent, AreDashes, IsMark, is_entry, is_more, IsCut}
-use Rattle.yq_rows.specs.Rows as rows
-use Rattle.yq_rows.specs.Rows.{Mark, Content, Nothing, Inline, Block, content_text, mark_text, dashes_text, Row, parent_indent, Cut, cut_text}
-use Rattle.yq_rows.specs.View.{Slices, anchor_cut, content_cut, slices, rows_of}
-use Rattle.yq_rows.proofs.NodePieces.{BeginsAscii, tail_ascii, before_ascii, node_pieces}
-use Rattle.yq_rows.proofs.PlaceLaws.{place, row_in}
-use Rattle.yq_rows.proofs.EmptyTexts.{empty_is}
+use Rattle.yq_nodes.specs.Entries.{end_of}
+use Rattle.yq_nodes.specs.Inline.{IsInlineAt}
+use Rattle.yq_nodes.specs.Nodes.{Node, empty, alias, scalar, coll, anchored, node_text, IsNode}
+use Rattle.yq_nodes.specs.Places.{Placed, placed, with_anchor, locate}
+use Rattle.yq_nodes.specs.Spans.{IsSpan, HasSpans}
+use Rattle.yq_nodes.proofs.NodeAgain.{is_anchored, takes_unanchored}
+use Rattle.yq_nodes.proofs.SpanLaws.{inline_spans}
+use Rattle.yq_nodes.proofs.WrittenLaws.{node_then}
+use Rattle.yq_nodes.proofs.EditPlaces.{end_placed}
+use Rattle.yq_cut.specs.Exchange.{before_content, behind_row}
+use Rattle.yq_cut.specs.Grammar.{IsContent, AreDashes, IsMark, is_entry, is_more, IsCut}
+use Rattle.yq_cut.specs.Rows as rows
+use Rattle.yq_cut.specs.Rows.{Mark, Content, Nothing, Inline, Block, content_text, mark_text, dashes_text, Row, parent_indent, Cut, cut_text}
+use Rattle.yq_cut.specs.View.{Slices, anchor_cut, content_cut, slices, rows_of}
+use Rattle.yq_cut.proofs.NodePieces.{BeginsAscii, tail_ascii, before_ascii, node_pieces}
+use Rattle.yq_cut.proofs.PlaceLaws.{place, row_in}
+use Rattle.yq_cut.proofs.EmptyTexts.{empty_is}
 use Rattle.yq_documents.specs.RowReading.{from_head}
 use Rattle.yq_places.specs.CommentReading.{before_tail, before_row}
 use Rattle.yq_places.specs.EntryReading.{before_line, head_end, head_extent}

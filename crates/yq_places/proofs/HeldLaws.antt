@@ -1,9 +1,9 @@
 -- A text with its cut, and that it is not too long.
 use Rattle.std.proofs.Common.{◌≡◌, ◌≤◌, ℕ, List, length, true, sym, subst}
 use Rattle.yq_flow_scalars.specs.Characters.{text_limit}
-use Rattle.yq_rows.specs.Grammar.{IsCut}
-use Rattle.yq_rows.specs.View.{RowsView, rows_view}
-use Rattle.yq_walk.specs.Extents.{IsRowsView}
+use Rattle.yq_cut.specs.Grammar.{IsCut}
+use Rattle.yq_cut.specs.View.{RowsView, rows_view}
+use Rattle.yq_row_lines.specs.Extents.{IsRowsView}
 use Rattle.yq_places.specs.RowWalk.{HasCut}
 use Rattle.yq_documents.specs.Reading.{all_documents, cut_of}
 

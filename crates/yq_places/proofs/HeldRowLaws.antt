@@ -6,19 +6,19 @@ use Rattle.std.specs.List.{slice_get}
 use Rattle.yq_flow_scalars.specs.Answers.{◌>>=◌}
 use Rattle.yq_flow_scalars.specs.Paths.{Step}
 use Rattle.yq_flow_scalars.specs.Text.{is_empty}
-use Rattle.yq_rows.specs.Exchange.{row_front}
-use Rattle.yq_rows.specs.Grammar.{IsCut}
-use Rattle.yq_rows.specs.Rows.{Content, Nothing, Inline, Block, Row, Cut}
-use Rattle.yq_rows.specs.RowStarts.{row_start}
-use Rattle.yq_rows.specs.Seams.{is_block}
-use Rattle.yq_rows.specs.View.{Slices, slices, content_cut, rows_of, RowsView, rows_view}
+use Rattle.yq_cut.specs.Exchange.{row_front}
+use Rattle.yq_cut.specs.Grammar.{IsCut}
+use Rattle.yq_cut.specs.Rows.{Content, Nothing, Inline, Block, Row, Cut}
+use Rattle.yq_cut.specs.RowStarts.{row_start}
+use Rattle.yq_cut.specs.Seams.{is_block}
+use Rattle.yq_cut.specs.View.{Slices, slices, content_cut, rows_of, RowsView, rows_view}
 use Rattle.yq_lines.proofs.PathLines.{last_line}
-use Rattle.yq_walk.proofs.WalkPositions.{located}
-use Rattle.yq_walk.specs.Extents.{front_length, head_place, lines_before_mark}
-use Rattle.yq_walk.specs.Lines.{lines_of}
-use Rattle.yq_walk.specs.RowWalk.{HasRows, deeper_rows, line_level, line_number, stretch_view}
-use Rattle.yq_walk.specs.declared.position.Position.{Position}
-use Rattle.yq_walk.specs.declared.position.Stretch.{Stretch}
+use Rattle.yq_row_lines.proofs.WalkPositions.{located}
+use Rattle.yq_row_lines.specs.Extents.{front_length, head_place, lines_before_mark}
+use Rattle.yq_row_lines.specs.Lines.{lines_of}
+use Rattle.yq_row_lines.specs.RowWalk.{HasRows, deeper_rows, line_level, line_number, stretch_view}
+use Rattle.yq_row_lines.specs.declared.line_position.Position.{Position}
+use Rattle.yq_row_lines.specs.declared.line_position.Stretch.{Stretch}
 use Rattle.yq_documents.specs.LinesInRows.{row_line_of}
 use Rattle.yq_documents.specs.Reading.{all_documents, cut_of}
 use Rattle.yq_documents.specs.RowReading.{is_block_head}

@@ -8,21 +8,21 @@ use Rattle.std.specs.List.{slice_get}
 use Rattle.std.specs.Str.{IsUtf8, IsCharBoundary}
 use Rattle.yq_flow_scalars.specs.Characters.{text_limit}
 use Rattle.yq_flow_scalars.specs.Text.{is_empty}
-use Rattle.yq_inline.specs.Nodes.{empty, alias, scalar, coll, anchored}
-use Rattle.yq_rows.specs.Exchange.{row_front}
-use Rattle.yq_rows.specs.Offsets.{row_length}
-use Rattle.yq_rows.specs.Rows.{Content, Nothing, Inline, Block, Row, behind_columns, dashes_text, mark_column, print_row, rows_text, Cut}
-use Rattle.yq_rows.specs.View.{Slices, slices, content_cut, last_dash, rows_of, RowsView, rows_view}
+use Rattle.yq_nodes.specs.Nodes.{empty, alias, scalar, coll, anchored}
+use Rattle.yq_cut.specs.Exchange.{row_front}
+use Rattle.yq_cut.specs.Offsets.{row_length}
+use Rattle.yq_cut.specs.Rows.{Content, Nothing, Inline, Block, Row, behind_columns, dashes_text, mark_column, print_row, rows_text, Cut}
+use Rattle.yq_cut.specs.View.{Slices, slices, content_cut, last_dash, rows_of, RowsView, rows_view}
 use Rattle.yq_places.specs.CommentPlaces.{LineEnd, end_before, line_text}
-use Rattle.yq_walk.specs.Extents.{head_place, row_start}
+use Rattle.yq_row_lines.specs.Extents.{head_place, row_start}
 use Rattle.yq_places.specs.LineReading.{CutsLines, LinesIn, lines_between, lines_of}
 use Rattle.yq_places.specs.PrintedLines.{last_break}
-use Rattle.yq_walk.specs.RowWalk.{line_column}
+use Rattle.yq_row_lines.specs.RowWalk.{line_column}
 use Rattle.yq_places.specs.RowPieces.{anchor_before, space_before}
 use Rattle.yq_places.specs.Standings.{Held, RowsOfEntry, before_entry, behind_entry, held}
 use Rattle.yq_places.specs.StandingReading.{AreRowsOf}
 use Rattle.yq_places.proofs.EntryRowLaws.{head_ends, line_boundary_at, line_cut, pieces_at, stop_boundary, stop_is, through_is}
-use Rattle.yq_walk.proofs.ToDashes.{last_is, to_dash}
+use Rattle.yq_row_lines.proofs.ToDashes.{last_is, to_dash}
 
 -- the column behind dashes
 columns : (c : ℕ) (ns : List ℕ) → behind_columns c ns ≡ c + length (dashes_text ns [])

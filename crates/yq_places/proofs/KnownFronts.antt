@@ -4,20 +4,20 @@ use Rattle.std.proofs.lemmas.List.{take-append-le}
 use Rattle.std.proofs.lemmas.Option.{same_Some}
 use Rattle.std.specs.List.{slice_get, sum_by}
 use Rattle.std.specs.Prelude.{IfSome}
-use Rattle.yq_rows.specs.Items.{Item, row_item, end_item, items_of, rows_in_items, bounds_in_items, view_of_items}
-use Rattle.yq_rows.specs.Kept.{near}
-use Rattle.yq_rows.specs.Rows.{Cut}
-use Rattle.yq_rows.specs.Offsets.{row_length}
-use Rattle.yq_rows.specs.RowStarts.{passed_length, row_start}
-use Rattle.yq_rows.specs.Touched.{TouchesOnly, item_text, in_front}
-use Rattle.yq_rows.specs.View.{Slices, slices, RowsView, rows_view}
-use Rattle.yq_rows.specs.declared.offsets.Offsets as declared
-use Rattle.yq_rows.proofs.ItemLaws.{items_view_is}
-use Rattle.yq_rows.proofs.NearLaws.{near_at}
-use Rattle.yq_walk.specs.RowWalk.{ArePassed, IsKnown}
+use Rattle.yq_cut.specs.Items.{Item, row_item, end_item, items_of, rows_in_items, bounds_in_items, view_of_items}
+use Rattle.yq_cut.specs.Kept.{near}
+use Rattle.yq_cut.specs.Rows.{Cut}
+use Rattle.yq_cut.specs.Offsets.{row_length}
+use Rattle.yq_cut.specs.RowStarts.{passed_length, row_start}
+use Rattle.yq_cut.specs.Touched.{TouchesOnly, item_text, in_front}
+use Rattle.yq_cut.specs.View.{Slices, slices, RowsView, rows_view}
+use Rattle.yq_cut.specs.declared.offsets.Offsets as declared
+use Rattle.yq_cut.proofs.ItemLaws.{items_view_is}
+use Rattle.yq_cut.proofs.NearLaws.{near_at}
+use Rattle.yq_row_lines.specs.RowWalk.{ArePassed, IsKnown}
 use Rattle.yq_places.specs.RowWalk.{StaysKnown}
-use Rattle.yq_walk.specs.declared.position.KnownItem.{KnownItem}
-use Rattle.yq_walk.proofs.KnownLaws.{one_there}
+use Rattle.yq_row_lines.specs.declared.line_position.KnownItem.{KnownItem}
+use Rattle.yq_row_lines.proofs.KnownLaws.{one_there}
 
 begins_behind : (xs : List Item) (m i : ℕ) (o : declared.Offsets) → slice_get (near m xs) i ≡ Some o → m ≤ o.start
 begins_behind [] m i o e = absurd (cc)

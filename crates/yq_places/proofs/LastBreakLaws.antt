@@ -1,10 +1,10 @@
 -- The break that ends a text, and what stands behind the last line of a content.
 use Rattle.std.proofs.Common.{◌≡◌, ◌⊎◌, inl, inr, ℕ, Bool, true, false, ◌&&◌, cond, List, [], ◌∷◌, ◌++◌, length, drop, refl, ap, ◌∙◌}
 use Rattle.std.proofs.lemmas.Bool.{eqb-true}
-use Rattle.yq_scalar.specs.Block.{AreRaw}
+use Rattle.yq_block_scalars.specs.Block.{AreRaw}
 use Rattle.yq_flow_scalars.specs.Text.{is_empty, is_feed, is_return, is_line, joined}
-use Rattle.yq_scalar.specs.declared.block_lines.TextIndent.{TextIndent}
-use Rattle.yq_scalar.proofs.BlockPieceLaws.{IsLf, line_lf, raw_lf}
+use Rattle.yq_block_scalars.specs.declared.block_lines.TextIndent.{TextIndent}
+use Rattle.yq_block_scalars.proofs.BlockPieceLaws.{IsLf, line_lf, raw_lf}
 use Rattle.yq_places.specs.PrintedLines.{less_break, last_break}
 
 -- no byte of a text is an LF

@@ -1,16 +1,16 @@
 -- The end of a line, by its white space, its comment and its break.
 use Rattle.std.proofs.Common.{◌≡◌, ◌⊎◌, inl, inr, ℕ, ◌<◌, ℤ, true, false, ◌&&◌, ◌||◌, not, List, [], ◌∷◌, ◌++◌, length, refl, sym, ap, ◌∙◌, subst, arith, append_assoc, append-nil, ⊎_elim}
 use Rattle.std.proofs.lemmas.Bool.{false≢true, or_cases, and_parts}
-use Rattle.yq_scalar.specs.Block.{is_tail}
+use Rattle.yq_block_scalars.specs.Block.{is_tail}
 use Rattle.yq_flow_scalars.specs.Lines.{is_blank, is_hash}
 use Rattle.yq_flow_scalars.specs.Text as text
 use Rattle.yq_flow_scalars.specs.Text.{front, is_white, is_feed, is_return, is_break, is_line, is_empty, ends_line, no_white, past_white, NoneIn}
 use Rattle.yq_flow_scalars.proofs.Upto.{upto_ends, none_in_cut, cut-append, cut_takes}
-use Rattle.yq_rows.specs.Gap.{IsWhite, IsBreak, IsComment}
-use Rattle.yq_rows.specs.Grammar.{IsTail, IsContent}
-use Rattle.yq_rows.specs.Rows.{Content, Nothing, Inline, Block}
-use Rattle.yq_rows.specs.View.{content_cut}
-use Rattle.yq_rows.proofs.LineEnds.{white_cut, white_again, white_none, text_line, behind_comment, comment_none}
+use Rattle.yq_cut.specs.Gap.{IsWhite, IsBreak, IsComment}
+use Rattle.yq_cut.specs.Grammar.{IsTail, IsContent}
+use Rattle.yq_cut.specs.Rows.{Content, Nothing, Inline, Block}
+use Rattle.yq_cut.specs.View.{content_cut}
+use Rattle.yq_cut.proofs.LineEnds.{white_cut, white_again, white_none, text_line, behind_comment, comment_none}
 use Rattle.yq_places.specs.CommentPlaces.{LineEnd, end_before}
 
 -- more text behind a break

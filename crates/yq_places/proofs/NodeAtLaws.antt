@@ -11,12 +11,12 @@ use Rattle.yq_flow_scalars.specs.Answers.{◌>>=◌}
 use Rattle.yq_flow_scalars.specs.Paths.{Step, node_at, is_item}
 use Rattle.yq_flow_scalars.specs.Tree as tree
 use Rattle.yq_flow_scalars.specs.Tree.{Node}
-use Rattle.yq_inline.specs.declared.inline.Inline.{Inline}
-use Rattle.yq_inline.specs.declared.inline.Form as forms
-use Rattle.yq_inline.specs.declared.inline.Form.TheFolds.{the_lemmas}
-use Rattle.yq_inline.specs.Places.{Placed, placed, Content, sequence, mapping as entries_form}
-use Rattle.yq_inline.specs.Trees.{named, placed_tree, content_tree, parts_tree}
-use Rattle.yq_inline.specs.View.{anchor_name, view, form_view, items_end, entries_end}
+use Rattle.yq_nodes.specs.declared.inline.Inline.{Inline}
+use Rattle.yq_nodes.specs.declared.inline.Form as forms
+use Rattle.yq_nodes.specs.declared.inline.Form.TheFolds.{the_lemmas}
+use Rattle.yq_nodes.specs.Places.{Placed, placed, Content, sequence, mapping as entries_form}
+use Rattle.yq_nodes.specs.Trees.{named, placed_tree, content_tree, parts_tree}
+use Rattle.yq_nodes.specs.View.{anchor_name, view, form_view, items_end, entries_end}
 use Rattle.yq_documents.proofs.CountedLaws.{items_count, entries_count}
 use Rattle.yq_documents.proofs.FlowLaws.{Field}
 use Rattle.yq_lines.specs.Counts.{count}
@@ -28,18 +28,18 @@ use Rattle.yq_lines.specs.Positions.{is_bare, begins_with_node}
 use Rattle.yq_lines.proofs.EndsLaws.{deeper_line, not_end}
 use Rattle.yq_lines.proofs.Parts.{row_parts}
 use Rattle.yq_lines.proofs.PlaceLaws.{at}
-use Rattle.yq_rows.specs.Rows.{Row, Part, Cut}
-use Rattle.yq_rows.specs.View.{RowsView}
+use Rattle.yq_cut.specs.Rows.{Row, Part, Cut}
+use Rattle.yq_cut.specs.View.{RowsView}
 use Rattle.yq_documents.specs.Documents.{document_parts}
-use Rattle.yq_walk.specs.Lines.{head_of, lines_of}
+use Rattle.yq_row_lines.specs.Lines.{head_of, lines_of}
 use Rattle.yq_documents.specs.Reading.{all_documents, document_of}
 use Rattle.yq_places.specs.NodeReading.{NodePlace, at_head, at_lines, line_place, with_line, node_place, place_line, summary_in_head, summary_in_line, summary_of_lines, line_or, place_node}
 use Rattle.yq_places.specs.NodesAt.{NodeAt, list, map as mapping, node_summary, node_in, summary_several, scalar_in, summary_scalar}
 use Rattle.yq_places.specs.RemovalPlaces.{has_several}
-use Rattle.yq_walk.specs.RowWalk.{HasRows, IsLine, line_number}
+use Rattle.yq_row_lines.specs.RowWalk.{HasRows, IsLine, line_number}
 use Rattle.yq_places.specs.RowWalk.{InCut}
-use Rattle.yq_walk.specs.declared.position.Position.{Position}
-use Rattle.yq_walk.specs.declared.position.Stretch.{Stretch}
+use Rattle.yq_row_lines.specs.declared.line_position.Position.{Position}
+use Rattle.yq_row_lines.specs.declared.line_position.Stretch.{Stretch}
 use Rattle.yq_places.proofs.FlowPlaceLaws.{TakesSteps, Takes, takes_left}
 use Rattle.yq_places.proofs.FlowViewLaws.{numbered}
 use Rattle.yq_documents.proofs.PartRows.{each}
@@ -47,7 +47,7 @@ use Rattle.yq_places.proofs.NodePlaceLaws.{node_found}
 use Rattle.yq_places.proofs.RowPathLaws.{document_fine}
 use Rattle.yq_places.proofs.FoundLaws.{first_is, found_in_lines}
 use Rattle.yq_places.proofs.WalkNodes.{row_is}
-use Rattle.yq_walk.proofs.WalkPositions.{Located, located}
+use Rattle.yq_row_lines.proofs.WalkPositions.{Located, located}
 
 -- an anchor tells nothing of a node
 pub named_summary : (a : Option (List ℕ)) (n : Node) → node_summary (named a n) ≡ node_summary n

@@ -3,8 +3,8 @@ use Rattle.std.proofs.Common.{◌≡◌, ℕ, List, [], ◌∷◌, ◌++◌, map
 use Rattle.std.proofs.lemmas.Option.{none-some, same_Some}
 use Rattle.yq_flow_scalars.specs.Answers.{◌>>=◌}
 use Rattle.yq_flow_scalars.specs.Paths.{Step}
-use Rattle.yq_inline.specs.Nodes.{Node, empty, alias, scalar, coll, anchored, key_text}
-use Rattle.yq_rows.specs.Rows.{Content, Nothing, Inline, Block, anchor_text}
+use Rattle.yq_nodes.specs.Nodes.{Node, empty, alias, scalar, coll, anchored, key_text}
+use Rattle.yq_cut.specs.Rows.{Content, Nothing, Inline, Block, anchor_text}
 use Rattle.yq_documents.specs.declared.path.Part.TheVariants as parts
 use Rattle.yq_lines.specs.Group.{group}
 use Rattle.yq_documents.specs.Located.{steps_of}

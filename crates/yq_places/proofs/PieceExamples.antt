@@ -2,11 +2,11 @@
 use Rattle.std.proofs.Common.{◌≡◌, ℕ, List, [], ◌∷◌, ◌++◌, Option, Some, None, true, refl, codes}
 use Rattle.yq_flow_scalars.specs.Answers.{◌>>=◌}
 use Rattle.yq_flow_scalars.specs.Paths.{Step, Nth}
-use Rattle.yq_scalar.specs.declared.block_header.BlockStyle.TheVariants.{Literal}
-use Rattle.yq_scalar.specs.declared.block_header.Chomping.TheVariants.{Clip}
+use Rattle.yq_block_scalars.specs.declared.block_header.BlockStyle.TheVariants.{Literal}
+use Rattle.yq_block_scalars.specs.declared.block_header.Chomping.TheVariants.{Clip}
 use Rattle.yq_flow_scalars.specs.Text.{upto, lines_of}
-use Rattle.yq_inline.specs.Nodes as inline
-use Rattle.yq_rows.specs.Rows.{Dash, Content, Inline, Block, Row, Cut, last}
+use Rattle.yq_nodes.specs.Nodes as inline
+use Rattle.yq_cut.specs.Rows.{Dash, Content, Inline, Block, Row, Cut, last}
 use Rattle.yq_places.specs.PrintedLines.{less_break}
 use Rattle.yq_lines.specs.Outline.{level}
 use Rattle.yq_documents.specs.declared.path.Part.{Part}

@@ -8,14 +8,14 @@ use Rattle.yq_flow_scalars.specs.Answers.{◌>>=◌}
 use Rattle.yq_flow_scalars.specs.Paths.{Step, node_at}
 use Rattle.yq_flow_scalars.specs.Tree as tree
 use Rattle.yq_flow_scalars.proofs.Bools.{guard_then}
-use Rattle.yq_inline.specs.Nodes.{Node, empty, alias, scalar, coll, anchored}
-use Rattle.yq_rows.specs.Rows.{Content, Nothing, Inline, Block, Cut}
+use Rattle.yq_nodes.specs.Nodes.{Node, empty, alias, scalar, coll, anchored}
+use Rattle.yq_cut.specs.Rows.{Content, Nothing, Inline, Block, Cut}
 use Rattle.yq_documents.specs.declared.path.Path.{Path}
 use Rattle.yq_documents.specs.declared.path.Part.TheVariants as parts
 use Rattle.yq_documents.specs.Documents.{document_parts}
 use Rattle.yq_lines.specs.Group.{group, level_or, is_fine}
-use Rattle.yq_walk.specs.Lines.{head_of, lines_of}
-use Rattle.yq_inline.specs.Trees.{tree_of, with_name, node_head}
+use Rattle.yq_row_lines.specs.Lines.{head_of, lines_of}
+use Rattle.yq_nodes.specs.Trees.{tree_of, with_name, node_head}
 use Rattle.yq_documents.specs.Located.{steps_of, located}
 use Rattle.yq_lines.specs.Outline as outlines
 use Rattle.yq_lines.specs.Outline.{Mark, Line, Outline, end, row, flatten, IsEven, IsWhole, head_or, value}

@@ -8,21 +8,21 @@ use Rattle.std.specs.List.{slice_get}
 use Rattle.yq_flow_scalars.specs.Answers.{◌>>=◌}
 use Rattle.yq_flow_scalars.specs.Paths.{Step}
 use Rattle.yq_flow_scalars.specs.Tree as tree
-use Rattle.yq_inline.specs.Entries.{PlacedEntry, placed_entry_at, entry_place, content_place, locate_entry}
-use Rattle.yq_inline.specs.Nodes.{bare, node_text}
-use Rattle.yq_inline.specs.Places.{locate}
-use Rattle.yq_inline.proofs.PathLaws.{path_places}
-use Rattle.yq_rows.specs.Exchange.{before_content, behind_row}
-use Rattle.yq_rows.specs.Rows.{Content, Nothing, Inline, Block, content_text, Row, Part, Cut, cut_text}
-use Rattle.yq_rows.specs.View.{rows_of}
-use Rattle.yq_rows.proofs.PlaceLaws.{place, content_then}
+use Rattle.yq_nodes.specs.Entries.{PlacedEntry, placed_entry_at, entry_place, content_place, locate_entry}
+use Rattle.yq_nodes.specs.Nodes.{bare, node_text}
+use Rattle.yq_nodes.specs.Places.{locate}
+use Rattle.yq_nodes.proofs.PathLaws.{path_places}
+use Rattle.yq_cut.specs.Exchange.{before_content, behind_row}
+use Rattle.yq_cut.specs.Rows.{Content, Nothing, Inline, Block, content_text, Row, Part, Cut, cut_text}
+use Rattle.yq_cut.specs.View.{rows_of}
+use Rattle.yq_cut.proofs.PlaceLaws.{place, content_then}
 use Rattle.yq_documents.specs.declared.path.Part.TheVariants as parts
-use Rattle.yq_walk.proofs.KnownLaws.{get_dropped}
+use Rattle.yq_row_lines.proofs.KnownLaws.{get_dropped}
 use Rattle.yq_places.specs.EntryReading as places
 use Rattle.yq_places.specs.EntryReading.{lines_place, line_head, lines_content, line_content, line_entry, inline_node, placed_inline, flow_entry, entry_from, content_from}
 use Rattle.yq_lines.specs.Ends.{deeper_count, lines_end}
 use Rattle.yq_lines.specs.Group.{group, level_or, is_fine}
-use Rattle.yq_walk.specs.Lines.{head_of, tail_of, lines_of}
+use Rattle.yq_row_lines.specs.Lines.{head_of, tail_of, lines_of}
 use Rattle.yq_lines.specs.Outline as outlines
 use Rattle.yq_lines.specs.Outline.{Line, level, Outline, end, row, flatten, IsEven, IsWhole}
 use Rattle.yq_lines.specs.Places.{lines_before, lines_after, FoundLine, find}

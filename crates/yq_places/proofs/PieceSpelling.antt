@@ -4,21 +4,21 @@ use Rattle.std.proofs.lemmas.Option.{slice_get-map, none-some, same_Some}
 use Rattle.std.specs.List.{slice_get}
 use Rattle.std.specs.Str.{is_utf8}
 use Rattle.yq_flow_scalars.specs.Answers.{◌>>=◌}
-use Rattle.yq_scalar.specs.Block.{IsBlock}
+use Rattle.yq_block_scalars.specs.Block.{IsBlock}
 use Rattle.yq_flow_scalars.specs.Paths.{Step, node_at}
 use Rattle.yq_flow_scalars.specs.Tree as tree
 use Rattle.yq_flow_scalars.proofs.Bools.{bind_some, guard_then}
-use Rattle.yq_inline.specs.Entries.{inside}
-use Rattle.yq_inline.specs.Nodes.{Node, empty, alias, scalar, coll, anchored, key_text, IsNode}
-use Rattle.yq_inline.specs.Trees.{tree_of}
-use Rattle.yq_rows.specs.Rows.{Content, Nothing, Inline, Block, Cut}
+use Rattle.yq_nodes.specs.Entries.{inside}
+use Rattle.yq_nodes.specs.Nodes.{Node, empty, alias, scalar, coll, anchored, key_text, IsNode}
+use Rattle.yq_nodes.specs.Trees.{tree_of}
+use Rattle.yq_cut.specs.Rows.{Content, Nothing, Inline, Block, Cut}
 use Rattle.yq_documents.specs.declared.path.Part.{Part as WhichPart}
 use Rattle.yq_documents.specs.declared.path.Part.TheVariants as parts
 use Rattle.yq_documents.specs.declared.path.Path.{Path}
 use Rattle.yq_documents.specs.Documents.{document_parts}
 use Rattle.yq_lines.specs.Group.{group, level_or, is_fine}
-use Rattle.yq_walk.specs.Lines.{head_of, lines_of}
-use Rattle.yq_inline.specs.Trees.{node_head}
+use Rattle.yq_row_lines.specs.Lines.{head_of, lines_of}
+use Rattle.yq_nodes.specs.Trees.{node_head}
 use Rattle.yq_documents.specs.Documents.{Document}
 use Rattle.yq_lines.specs.Labelled.{Labelled, labelled_from}
 use Rattle.yq_lines.proofs.LabelledLaws.{labelled_path}

@@ -7,15 +7,15 @@ use Rattle.std.specs.Str.{is_utf8}
 use Rattle.yq_flow_scalars.specs.Answers.{◌>>=◌}
 use Rattle.yq_flow_scalars.specs.Paths.{Step, is_here, further}
 use Rattle.yq_flow_scalars.specs.Text.{cut, front, ends_line, is_empty, joined, lines_of, no_white, past_white, upto}
-use Rattle.yq_scalar.proofs.LineLaws.{joined_lines}
+use Rattle.yq_block_scalars.proofs.LineLaws.{joined_lines}
 use Rattle.yq_flow_scalars.proofs.Bools.{bind_some, guard_then}
-use Rattle.yq_inline.specs.Nodes.{Node, empty, alias, scalar, coll, anchored, Items, none, item, key_text, sep_text, open_of, node_text, items_text}
-use Rattle.yq_inline.specs.Trees.{inner, key_content}
-use Rattle.yq_inline.proofs.WrittenLaws.{key_append, sep_append, node_append, node_then}
-use Rattle.yq_inline.proofs.PathLaws.{then_some}
-use Rattle.yq_rows.specs.Rows.{Content, Nothing, Inline, Block, content_text, Part, Cut, cut_text}
-use Rattle.yq_rows.specs.View.{content_cut}
-use Rattle.yq_rows.proofs.SliceLaws.{content_slices}
+use Rattle.yq_nodes.specs.Nodes.{Node, empty, alias, scalar, coll, anchored, Items, none, item, key_text, sep_text, open_of, node_text, items_text}
+use Rattle.yq_nodes.specs.Trees.{inner, key_content}
+use Rattle.yq_nodes.proofs.WrittenLaws.{key_append, sep_append, node_append, node_then}
+use Rattle.yq_nodes.proofs.PathLaws.{then_some}
+use Rattle.yq_cut.specs.Rows.{Content, Nothing, Inline, Block, content_text, Part, Cut, cut_text}
+use Rattle.yq_cut.specs.View.{content_cut}
+use Rattle.yq_cut.proofs.SliceLaws.{content_slices}
 use Rattle.yq_documents.specs.declared.path.Part.{Part as WhichPart}
 use Rattle.yq_documents.specs.declared.path.Part.TheVariants as parts
 use Rattle.yq_documents.specs.declared.path.Path.{Path}

@@ -3,11 +3,11 @@ use Rattle.std.proofs.Common.{◌≡◌, ℕ, zero, suc, ◌+◌, ◌-◌, ◌<�
 use Rattle.std.proofs.lemmas.Bool.{lt-ltb, le-ltb, cond-true, cond-false}
 use Rattle.std.proofs.lemmas.Option.{same_Some}
 use Rattle.std.specs.List.{slice_get}
-use Rattle.yq_rows.specs.Grammar.{unlimited, AreRows, AreParts}
-use Rattle.yq_rows.specs.Rows.{rows_text, Part, part_text, Cut, last, marked, cut_text}
-use Rattle.yq_rows.specs.Splices.{nth_part, behind_part}
-use Rattle.yq_rows.proofs.PlaceLaws.{part_then}
-use Rattle.yq_rows.proofs.splices.PartPlaces.{part_in}
+use Rattle.yq_cut.specs.Grammar.{unlimited, AreRows, AreParts}
+use Rattle.yq_cut.specs.Rows.{rows_text, Part, part_text, Cut, last, marked, cut_text}
+use Rattle.yq_cut.specs.Splices.{nth_part, behind_part}
+use Rattle.yq_cut.proofs.PlaceLaws.{part_then}
+use Rattle.yq_cut.proofs.splices.PartPlaces.{part_in}
 use Rattle.yq_documents.specs.Documents.{document_parts}
 use Rattle.yq_documents.specs.PartNumbers.{part_number, rows_to}
 use Rattle.yq_documents.specs.LinesInRows.{document_row}

@@ -4,15 +4,15 @@ use Rattle.std.proofs.lemmas.Bool.{lt-ltb, le-ltb, cond-true, cond-false}
 use Rattle.std.proofs.lemmas.Option.{slice_get_within, none-some, same_Some}
 use Rattle.std.specs.List.{slice_get}
 use Rattle.yq_flow_scalars.specs.Answers.{◌>>=◌}
-use Rattle.yq_rows.specs.Exchange.{behind_at, behind_row}
-use Rattle.yq_rows.specs.Rows.{Row, rows_text, Part, Cut, last, marked, cut_text}
-use Rattle.yq_rows.specs.Splices.{nth_part, behind_part}
-use Rattle.yq_rows.specs.View.{rows_of}
+use Rattle.yq_cut.specs.Exchange.{behind_at, behind_row}
+use Rattle.yq_cut.specs.Rows.{Row, rows_text, Part, Cut, last, marked, cut_text}
+use Rattle.yq_cut.specs.Splices.{nth_part, behind_part}
+use Rattle.yq_cut.specs.View.{rows_of}
 use Rattle.yq_lines.specs.Ends.{line_of}
 use Rattle.yq_documents.specs.declared.path.Path.{Path}
 use Rattle.yq_places.specs.CommentReading.{before_row}
 use Rattle.yq_documents.specs.Documents.{document_parts}
-use Rattle.yq_walk.specs.Lines.{lines_of}
+use Rattle.yq_row_lines.specs.Lines.{lines_of}
 use Rattle.yq_documents.specs.Located.{steps_of}
 use Rattle.yq_places.specs.PlacedRows.{PlacedPart, PlacedRow, placed_at, placed_document, placed_row, row_of_path}
 use Rattle.yq_places.specs.RowLineReading.{Numbers, numbers}
@@ -20,7 +20,7 @@ use Rattle.yq_documents.specs.LinesInRows.{RowLine, row_line_of, row_line_at, do
 use Rattle.yq_documents.specs.PartNumbers.{part_number, rows_to}
 use Rattle.yq_documents.proofs.PartNumberLaws.{part_there}
 use Rattle.yq_places.proofs.PlacedPartLaws.{part_stands, row_before}
-use Rattle.yq_walk.proofs.KnownLaws.{get_front}
+use Rattle.yq_row_lines.proofs.KnownLaws.{get_front}
 use Rattle.yq_places.proofs.RowLineSpans.{steps_row}
 
 -- A row of a cut stands behind others, between these texts.

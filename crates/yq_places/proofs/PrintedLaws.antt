@@ -1,17 +1,17 @@
 -- What is told of lines with their texts, and the lines of a document.
 use Rattle.std.proofs.Common.{◌≡◌, ◌⊎◌, inl, inr, ℕ, suc, ◌+◌, List, [], ◌∷◌, ◌++◌, map, Option, Some, None, Bool, true, refl, sym, ap, ◌∙◌, subst, replicate, ℤ}
 use Rattle.std.specs.List.{slice_get}
-use Rattle.yq_scalar.specs.Block.{IsBlock}
+use Rattle.yq_block_scalars.specs.Block.{IsBlock}
 use Rattle.yq_flow_scalars.specs.Text.{upto}
-use Rattle.yq_inline.specs.Nodes.{Node, IsNode}
+use Rattle.yq_nodes.specs.Nodes.{Node, IsNode}
 use Rattle.yq_lines.specs.Comments as comments
-use Rattle.yq_rows.specs.Grammar.{Limit, unlimited, limit_after, IsContent, AreRows, AreParts}
-use Rattle.yq_rows.specs.Rows as rows
-use Rattle.yq_rows.specs.View.{content_cut}
-use Rattle.yq_rows.specs.Rows.{Content, Nothing, Inline, Block, content_text, mark_text, dashes_text, behind_gap, Row, rows_text, Part, Cut}
+use Rattle.yq_cut.specs.Grammar.{Limit, unlimited, limit_after, IsContent, AreRows, AreParts}
+use Rattle.yq_cut.specs.Rows as rows
+use Rattle.yq_cut.specs.View.{content_cut}
+use Rattle.yq_cut.specs.Rows.{Content, Nothing, Inline, Block, content_text, mark_text, dashes_text, behind_gap, Row, rows_text, Part, Cut}
 use Rattle.yq_documents.specs.Documents.{document_parts}
-use Rattle.yq_walk.specs.Lines.{head_of, tail_of, dash_line, lines_from, lines_of}
-use Rattle.yq_walk.proofs.RowLaws.{no_comments}
+use Rattle.yq_row_lines.specs.Lines.{head_of, tail_of, dash_line, lines_from, lines_of}
+use Rattle.yq_row_lines.proofs.RowLaws.{no_comments}
 use Rattle.yq_places.specs.PrintedLines.{behind_front, PrintedLine, print_lines, printed_from, printed_row, printed_lines, line_in}
 use Rattle.yq_places.specs.PathPieces.{PrintedDocument, printed_document}
 use Rattle.yq_places.specs.PlacedRows.{placed_document}

@@ -6,10 +6,10 @@ use Rattle.std.proofs.lemmas.List.{take-append-le}
 use Rattle.std.proofs.lemmas.Option.{none-some, same_Some}
 use Rattle.std.specs.List.{slice_get}
 use Rattle.yq_lines.specs.Comments.{head_comment}
-use Rattle.yq_rows.specs.Rows as rows
-use Rattle.yq_rows.specs.Rows.{Content, Nothing, Row, dashes_text, mark_text, rows_text, print_row, Part, Cut}
+use Rattle.yq_cut.specs.Rows as rows
+use Rattle.yq_cut.specs.Rows.{Content, Nothing, Row, dashes_text, mark_text, rows_text, print_row, Part, Cut}
 use Rattle.yq_documents.specs.Documents.{document_parts}
-use Rattle.yq_walk.specs.Lines.{mark_of, dash_line}
+use Rattle.yq_row_lines.specs.Lines.{mark_of, dash_line}
 use Rattle.yq_lines.specs.Outline.{level}
 use Rattle.yq_places.specs.CommentReading.{before_row}
 use Rattle.yq_documents.specs.LinesInRows.{RowLine, behind_one, row_line, document_row}

@@ -3,11 +3,11 @@ use Rattle.std.proofs.Common.{◌≡◌, ℕ, zero, suc, ◌+◌, List, [], ◌�
 use Rattle.std.proofs.lemmas.Option.{none-some, same_Some}
 use Rattle.std.specs.List.{slice_get}
 use Rattle.yq_flow_scalars.specs.Text.{is_empty}
-use Rattle.yq_rows.specs.Rows as rows
-use Rattle.yq_rows.specs.Rows.{Bare, Dash, Key as MarkKey, Content, dashes_text, mark_text, content_text, Row, print_row, rows_text}
-use Rattle.yq_rows.specs.View.{content_cut}
-use Rattle.yq_rows.proofs.SliceLaws.{content_slices}
-use Rattle.yq_rows.proofs.PlaceLaws.{content_then}
+use Rattle.yq_cut.specs.Rows as rows
+use Rattle.yq_cut.specs.Rows.{Bare, Dash, Key as MarkKey, Content, dashes_text, mark_text, content_text, Row, print_row, rows_text}
+use Rattle.yq_cut.specs.View.{content_cut}
+use Rattle.yq_cut.proofs.SliceLaws.{content_slices}
+use Rattle.yq_cut.proofs.PlaceLaws.{content_then}
 use Rattle.yq_places.specs.PrintedLines.{is_last_break, less_break, less_last, less_end, last_break, end_break, PrintedLine, line_front, behind_front, print_line, print_lines, printed_from, printed_row, printed_lines, run_text, run_break}
 
 -- a text less its last break, and that break

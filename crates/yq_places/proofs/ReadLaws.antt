@@ -7,11 +7,11 @@ use Rattle.yq_flow_scalars.specs.Answers.{◌>>=◌, ReadFails}
 use Rattle.yq_flow_scalars.specs.declared.fault.ReadError.{ReadError}
 use Rattle.yq_flow_scalars.specs.declared.fault.ReadError.TheVariants as errors
 use Rattle.yq_flow_scalars.proofs.Bools.{bind_some, guard_then}
-use Rattle.yq_rows.specs.Grammar.{IsCut}
-use Rattle.yq_rows.specs.Slicing.{read_view}
-use Rattle.yq_rows.specs.Reading.{scan_at}
-use Rattle.yq_rows.specs.Rows.{Cut}
-use Rattle.yq_rows.proofs.ScanLaws.{scan_takes, scan_again}
+use Rattle.yq_cut.specs.Grammar.{IsCut}
+use Rattle.yq_cut.specs.Slicing.{read_view}
+use Rattle.yq_cut.specs.Reading.{scan_at}
+use Rattle.yq_cut.specs.Rows.{Cut}
+use Rattle.yq_cut.proofs.ScanLaws.{scan_takes, scan_again}
 use Rattle.yq_documents.specs.Documents.{Document, document_parts, Reads}
 use Rattle.yq_documents.specs.Reading.{documents, all_documents, checked, checked_at, read_at, cut_or, cut_of}
 use Rattle.yq_places.proofs.DocumentLaws.{documents_take, documents_again}

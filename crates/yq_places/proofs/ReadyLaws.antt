@@ -6,18 +6,18 @@ use Rattle.std.proofs.lemmas.Option.{none-some}
 use Rattle.yq_flow_scalars.specs.Shapes.{IsShaped, AreShaped, AreItems, AreKeyed}
 use Rattle.yq_flow_scalars.specs.Tree as tree
 use Rattle.yq_flow_scalars.specs.Tree.{Node, Children, children_of}
-use Rattle.yq_inline.specs.Nodes as inline
-use Rattle.yq_inline.specs.Nodes.{Items, IsNode}
-use Rattle.yq_inline.specs.Trees.{tree_of, items_tree, with_name, node_head}
+use Rattle.yq_nodes.specs.Nodes as inline
+use Rattle.yq_nodes.specs.Nodes.{Items, IsNode}
+use Rattle.yq_nodes.specs.Trees.{tree_of, items_tree, with_name, node_head}
 use Rattle.yq_lines.specs.Grammar as lines
 use Rattle.yq_lines.specs.Outline.{Mark, Bare, Line}
 use Rattle.yq_lines.specs.ShapedLines.{HeadIsShaped, HeadsAreShaped, ShapedByLines, ShapedIsTree}
 use Rattle.yq_lines.specs.Sound.{is_entry}
-use Rattle.yq_rows.specs.Grammar.{Limit, limit_after, IsContent, AreRows, AreParts, IsCut, begins_document}
-use Rattle.yq_rows.specs.Rows as rows
-use Rattle.yq_rows.specs.Rows.{Content, Row, Part, Cut, last, marked, parent_indent}
+use Rattle.yq_cut.specs.Grammar.{Limit, limit_after, IsContent, AreRows, AreParts, IsCut, begins_document}
+use Rattle.yq_cut.specs.Rows as rows
+use Rattle.yq_cut.specs.Rows.{Content, Row, Part, Cut, last, marked, parent_indent}
 use Rattle.yq_documents.specs.Documents.{Document, IsRoot, IsDocument, Reads, with_part, parts_from, document_parts, lead_of}
-use Rattle.yq_walk.specs.Lines.{head_of, lines_from, row_lines, lines_of}
+use Rattle.yq_row_lines.specs.Lines.{head_of, lines_from, row_lines, lines_of}
 use Rattle.yq_documents.specs.Reading.{document_of, is_document, all_documents, cut_of}
 use Rattle.yq_documents.specs.TreeEdits.{lead_by}
 use Rattle.yq_documents.specs.Ready.{begins_no_node, part_is_block, IsReady, TextIsReady}

@@ -3,10 +3,10 @@ use Rattle.std.proofs.Common.{◌≡◌, ℕ, zero, suc, ◌+◌, ◌-◌, ◌<�
 use Rattle.std.proofs.lemmas.Bool.{cond-true, cond-false, eq-eqb, ne_eqb}
 use Rattle.std.proofs.lemmas.Option.{slice_get-map}
 use Rattle.std.specs.List.{slice_get}
-use Rattle.yq_rows.specs.Removal.{block_of, last_block, next_column}
-use Rattle.yq_rows.specs.Rows.{Row, Part, Cut, last, marked}
-use Rattle.yq_rows.specs.Splices.{first_gap, nth_part}
-use Rattle.yq_rows.specs.View.{slices, rows_of, Bound, bounds_from, bounds_of, bounds_at, rows_view}
+use Rattle.yq_cut.specs.Removal.{block_of, last_block, next_column}
+use Rattle.yq_cut.specs.Rows.{Row, Part, Cut, last, marked}
+use Rattle.yq_cut.specs.Splices.{first_gap, nth_part}
+use Rattle.yq_cut.specs.View.{slices, rows_of, Bound, bounds_from, bounds_of, bounds_at, rows_view}
 use Rattle.yq_places.specs.PlacedRows.{PlacedPart, placed_document}
 use Rattle.yq_places.specs.RemovalReading.{gap_at, gap_and_column}
 use Rattle.yq_documents.specs.LinesInRows.{document_row}

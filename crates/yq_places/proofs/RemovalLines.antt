@@ -3,23 +3,23 @@ use Rattle.std.proofs.Common.{◌≡◌, ◌⊎◌, inl, inr, ℕ, zero, suc, �
 use Rattle.std.proofs.Math.Seq.{drop-append_seam}
 use Rattle.std.proofs.lemmas.Bool.{and_parts}
 use Rattle.std.proofs.lemmas.List.{take-append-drop}
-use Rattle.yq_scalar.specs.Block.{Lines}
+use Rattle.yq_block_scalars.specs.Block.{Lines}
 use Rattle.yq_flow_scalars.specs.Text.{is_empty, is_line, joined, lines_of as text_lines}
-use Rattle.yq_scalar.proofs.BlockPieceLaws.{IsLf, line_lf, append_lf, raw_lf}
-use Rattle.yq_rows.specs.Exchange.{asked_behind}
-use Rattle.yq_rows.specs.Gap.{IsGap, AreGapLines}
-use Rattle.yq_rows.specs.Grammar.{begins_document, IsContent, Limit, unlimited, AreRows, no_rows, AreParts}
-use Rattle.yq_rows.specs.Rows.{Content, Nothing, Inline, Block, Row, behind_gap, parent_indent, print_row, rows_text, Part, part_text, Cut, last, marked, cut_text}
-use Rattle.yq_rows.specs.Splices.{behind_first, first_gap, with_row_gap}
-use Rattle.yq_rows.specs.View.{Slices, content_cut, slices}
-use Rattle.yq_rows.proofs.NothingLaws.{some_behind}
-use Rattle.yq_rows.proofs.PlaceLaws.{part_then, row_then}
-use Rattle.yq_rows.proofs.SliceLaws.{slices_are}
-use Rattle.yq_rows.proofs.seams.BlockFronts.{gap_front}
-use Rattle.yq_rows.proofs.seams.FrontSeams.{behind_row_some, rows_some}
-use Rattle.yq_rows.proofs.seams.SeamLaws.{rows_drop, rows_text-append}
-use Rattle.yq_rows.proofs.splices.SpliceTexts.{first_is, first_text}
-use Rattle.yq_rows.proofs.EmptyTexts.{none_is}
+use Rattle.yq_block_scalars.proofs.BlockPieceLaws.{IsLf, line_lf, append_lf, raw_lf}
+use Rattle.yq_cut.specs.Exchange.{asked_behind}
+use Rattle.yq_cut.specs.Gap.{IsGap, AreGapLines}
+use Rattle.yq_cut.specs.Grammar.{begins_document, IsContent, Limit, unlimited, AreRows, no_rows, AreParts}
+use Rattle.yq_cut.specs.Rows.{Content, Nothing, Inline, Block, Row, behind_gap, parent_indent, print_row, rows_text, Part, part_text, Cut, last, marked, cut_text}
+use Rattle.yq_cut.specs.Splices.{behind_first, first_gap, with_row_gap}
+use Rattle.yq_cut.specs.View.{Slices, content_cut, slices}
+use Rattle.yq_cut.proofs.NothingLaws.{some_behind}
+use Rattle.yq_cut.proofs.PlaceLaws.{part_then, row_then}
+use Rattle.yq_cut.proofs.SliceLaws.{slices_are}
+use Rattle.yq_cut.proofs.seams.BlockFronts.{gap_front}
+use Rattle.yq_cut.proofs.seams.FrontSeams.{behind_row_some, rows_some}
+use Rattle.yq_cut.proofs.seams.SeamLaws.{rows_drop, rows_text-append}
+use Rattle.yq_cut.proofs.splices.SpliceTexts.{first_is, first_text}
+use Rattle.yq_cut.proofs.EmptyTexts.{none_is}
 use Rattle.yq_documents.specs.PartNumbers.{part_number}
 use Rattle.yq_documents.specs.Pieces.{before_run, last_run}
 use Rattle.yq_places.specs.PlacedRows.{PlacedPart, placed_at, placed_document}

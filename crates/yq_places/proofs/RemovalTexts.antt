@@ -1,16 +1,16 @@
 -- The text of a document, by rows that are taken out of it.
 use Rattle.std.proofs.Common.{◌≡◌, Bool, true, false, cond, ℕ, List, [], ◌∷◌, ◌++◌, refl, sym, ap, ◌∙◌, append_assoc}
 use Rattle.std.proofs.lemmas.Bool.{false≢true}
-use Rattle.yq_scalar.specs.Block.{Lines}
+use Rattle.yq_block_scalars.specs.Block.{Lines}
 use Rattle.yq_flow_scalars.specs.Text.{joined, lines_of as text_lines}
-use Rattle.yq_scalar.proofs.LineLaws.{joined_lines}
+use Rattle.yq_block_scalars.proofs.LineLaws.{joined_lines}
 use Rattle.yq_lines.specs.Comments.{are_comments}
-use Rattle.yq_rows.specs.Grammar.{no_rows}
-use Rattle.yq_rows.specs.Rows.{Row, behind_gap, print_row, rows_text, part_text}
-use Rattle.yq_rows.specs.Splices.{behind_first, first_gap, with_row_gap}
-use Rattle.yq_rows.proofs.PlaceLaws.{row_then}
-use Rattle.yq_rows.proofs.seams.SeamLaws.{rows_text-append}
-use Rattle.yq_rows.proofs.splices.SpliceTexts.{first_text}
+use Rattle.yq_cut.specs.Grammar.{no_rows}
+use Rattle.yq_cut.specs.Rows.{Row, behind_gap, print_row, rows_text, part_text}
+use Rattle.yq_cut.specs.Splices.{behind_first, first_gap, with_row_gap}
+use Rattle.yq_cut.proofs.PlaceLaws.{row_then}
+use Rattle.yq_cut.proofs.seams.SeamLaws.{rows_text-append}
+use Rattle.yq_cut.proofs.splices.SpliceTexts.{first_text}
 use Rattle.yq_documents.specs.Pieces.{before_run, last_run}
 use Rattle.yq_places.specs.PlacedRows.{PlacedPart}
 use Rattle.yq_places.specs.RemovalPlaces.{OwnRows, kept_gap, comment_above, rows_out}

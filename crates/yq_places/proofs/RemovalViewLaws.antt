@@ -9,19 +9,19 @@ use Rattle.std.specs.Str.{IsUtf8, IsCharBoundary}
 use Rattle.yq_flow_scalars.specs.Answers.{◌>>=◌}
 use Rattle.yq_flow_scalars.specs.Paths.{Step}
 use Rattle.yq_flow_scalars.specs.Text.{joined, lines_of as text_lines}
-use Rattle.yq_scalar.proofs.BlockPieceLaws.{cut_lf}
+use Rattle.yq_block_scalars.proofs.BlockPieceLaws.{cut_lf}
 use Rattle.yq_flow_scalars.proofs.Bools.{bind_some}
-use Rattle.yq_rows.specs.Grammar.{IsCut, no_rows}
-use Rattle.yq_rows.specs.Offsets.{row_length}
-use Rattle.yq_rows.specs.Removal.{next_column}
-use Rattle.yq_rows.specs.Rows.{Row, rows_text, Part, Cut}
-use Rattle.yq_rows.specs.Splices.{first_gap}
-use Rattle.yq_rows.specs.View.{Slices, slices, rows_of, RowsView, rows_view}
-use Rattle.yq_rows.proofs.NodePieces.{BeginsAscii, before_ascii}
-use Rattle.yq_rows.proofs.seams.SeamLaws.{rows_text-append}
-use Rattle.yq_rows.proofs.splices.SpliceTexts.{first_text}
+use Rattle.yq_cut.specs.Grammar.{IsCut, no_rows}
+use Rattle.yq_cut.specs.Offsets.{row_length}
+use Rattle.yq_cut.specs.Removal.{next_column}
+use Rattle.yq_cut.specs.Rows.{Row, rows_text, Part, Cut}
+use Rattle.yq_cut.specs.Splices.{first_gap}
+use Rattle.yq_cut.specs.View.{Slices, slices, rows_of, RowsView, rows_view}
+use Rattle.yq_cut.proofs.NodePieces.{BeginsAscii, before_ascii}
+use Rattle.yq_cut.proofs.seams.SeamLaws.{rows_text-append}
+use Rattle.yq_cut.proofs.splices.SpliceTexts.{first_text}
 use Rattle.yq_documents.specs.Documents.{document_parts}
-use Rattle.yq_walk.specs.Extents.{row_start}
+use Rattle.yq_row_lines.specs.Extents.{row_start}
 use Rattle.yq_documents.specs.Pieces.{before_run}
 use Rattle.yq_documents.specs.Reading.{cut_of}
 use Rattle.yq_places.specs.PlacedRows.{PlacedPart, placed_document}
@@ -29,14 +29,14 @@ use Rattle.yq_places.specs.RemovalPlaces.{OwnRows, own_rows, Removal, kept_gap, 
 use Rattle.yq_places.specs.RemovalReading.{RowCounts, marks, marks_at, gap_at, IsOwn}
 use Rattle.yq_documents.specs.LinesInRows.{document_row}
 use Rattle.yq_places.proofs.CommentPieceLaws.{gap_end}
-use Rattle.yq_rows.proofs.SliceLaws.{print-length}
+use Rattle.yq_cut.proofs.SliceLaws.{print-length}
 use Rattle.yq_places.proofs.PlacedPartLaws.{map_some, part_stands, placed_is, text_before}
 use Rattle.yq_places.proofs.RemovalBounds.{gap_behind, last_row}
 use Rattle.yq_places.proofs.RemovalLines.{LineSeam, are_lines, lies_in, line_seam}
 use Rattle.yq_places.proofs.RemovalPlaceLaws.{own_stands}
 use Rattle.yq_places.proofs.RemovalTexts.{old_text, texts_then}
 use Rattle.yq_documents.proofs.PartRows.{part_begins}
-use Rattle.yq_walk.proofs.KnownLaws.{get_dropped, get_front}
+use Rattle.yq_row_lines.proofs.KnownLaws.{get_dropped, get_front}
 use Rattle.yq_places.proofs.StartLaws.{start_agrees}
 
 -- ---- a text cut between lines

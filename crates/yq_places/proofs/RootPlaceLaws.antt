@@ -9,21 +9,21 @@ use Rattle.std.specs.List.{slice_get, sum_by}
 use Rattle.std.specs.Str.{IsUtf8, IsCharBoundary}
 use Rattle.yq_flow_scalars.specs.Answers.{◌>>=◌}
 use Rattle.yq_flow_scalars.proofs.Bools.{bind_some, guard_then}
-use Rattle.yq_rows.specs.Grammar.{unlimited, AreRows, IsCut, no_rows}
-use Rattle.yq_rows.specs.Offsets.{row_length}
-use Rattle.yq_rows.specs.Rows.{Row, rows_text, Part, part_text, Cut, last, marked}
-use Rattle.yq_rows.specs.Splices.{nth_part}
-use Rattle.yq_rows.specs.View.{Slices, slices, Bound, bounds_from, bounds_of, rows_of, RowsView, rows_view}
-use Rattle.yq_walk.specs.Extents.{bound_length}
+use Rattle.yq_cut.specs.Grammar.{unlimited, AreRows, IsCut, no_rows}
+use Rattle.yq_cut.specs.Offsets.{row_length}
+use Rattle.yq_cut.specs.Rows.{Row, rows_text, Part, part_text, Cut, last, marked}
+use Rattle.yq_cut.specs.Splices.{nth_part}
+use Rattle.yq_cut.specs.View.{Slices, slices, Bound, bounds_from, bounds_of, rows_of, RowsView, rows_view}
+use Rattle.yq_row_lines.specs.Extents.{bound_length}
 use Rattle.yq_documents.specs.PartNumbers.{part_number, document_part, rows_to}
 use Rattle.yq_documents.proofs.PartNumberLaws.{document_found, document_missing, end_agrees}
 use Rattle.yq_places.specs.PlacedRows.{before_part, placed_at, placed_document}
 use Rattle.yq_documents.specs.Reading.{cut_of}
-use Rattle.yq_rows.specs.RowStarts.{part_end}
+use Rattle.yq_cut.specs.RowStarts.{part_end}
 use Rattle.yq_places.specs.RootReading.{if_rowless, rowless_place, rowless_at}
 use Rattle.yq_places.specs.Standings.{NoRows}
 use Rattle.yq_places.proofs.CommentPieceLaws.{gap_end}
-use Rattle.yq_walk.proofs.LengthLaws.{part-length}
+use Rattle.yq_row_lines.proofs.LengthLaws.{part-length}
 use Rattle.yq_places.proofs.PlacedPartLaws.{map_some, part_stands}
 use Rattle.yq_places.proofs.RemovalLines.{LineSeam, lies_in, seam_join}
 use Rattle.yq_places.proofs.RemovalViewLaws.{line_boundary}

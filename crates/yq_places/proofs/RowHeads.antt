@@ -7,30 +7,30 @@ use Rattle.std.proofs.lemmas.Option.{slice_get_within, slice_get-map, same_Some}
 use Rattle.std.proofs.lemmas.Str.{IsCharBoundary-from_take, IsUtf8-append, IsUtf8-drop}
 use Rattle.std.specs.List.{slice_get}
 use Rattle.std.specs.Str.{IsUtf8, IsCharBoundary}
-use Rattle.yq_scalar.specs.Block.{ends_block, keeps}
-use Rattle.yq_scalar.specs.declared.block_lines.TextIndent.{TextIndent}
+use Rattle.yq_block_scalars.specs.Block.{ends_block, keeps}
+use Rattle.yq_block_scalars.specs.declared.block_lines.TextIndent.{TextIndent}
 use Rattle.yq_flow_scalars.specs.Text.{is_line, lines_of}
-use Rattle.yq_rows.specs.Exchange.{before_content, behind_row}
-use Rattle.yq_rows.specs.Grammar.{IsCut, IsRow, Limit}
-use Rattle.yq_rows.specs.Rows.{Content, Nothing, Inline, Block, Row, Cut, cut_text, parent_indent}
-use Rattle.yq_rows.specs.Seams.{is_closed, is_seam}
-use Rattle.yq_rows.specs.View.{Slices, slices, rows_of, RowsView, rows_view}
-use Rattle.yq_rows.proofs.ItemCuts.{no_gap}
-use Rattle.yq_rows.proofs.PlaceLaws.{row_in}
-use Rattle.yq_rows.proofs.seams.SeamLaws.{row_seam, plain_before}
+use Rattle.yq_cut.specs.Exchange.{before_content, behind_row}
+use Rattle.yq_cut.specs.Grammar.{IsCut, IsRow, Limit}
+use Rattle.yq_cut.specs.Rows.{Content, Nothing, Inline, Block, Row, Cut, cut_text, parent_indent}
+use Rattle.yq_cut.specs.Seams.{is_closed, is_seam}
+use Rattle.yq_cut.specs.View.{Slices, slices, rows_of, RowsView, rows_view}
+use Rattle.yq_cut.proofs.ItemCuts.{no_gap}
+use Rattle.yq_cut.proofs.PlaceLaws.{row_in}
+use Rattle.yq_cut.proofs.seams.SeamLaws.{row_seam, plain_before}
 use Rattle.yq_documents.specs.Documents.{document_parts}
 use Rattle.yq_documents.specs.Reading.{mark_is_fit, content_is_fit, have_fit_keys, all_documents}
 use Rattle.yq_documents.specs.RowReading.{HasHead, from_head}
-use Rattle.yq_walk.specs.Extents.{head_place}
+use Rattle.yq_row_lines.specs.Extents.{head_place}
 use Rattle.yq_places.specs.RowWalk.{InCut}
-use Rattle.yq_walk.specs.RowWalk.{IsLine}
-use Rattle.yq_walk.specs.declared.position.Position.{Position}
-use Rattle.yq_walk.specs.declared.position.Stretch.{Stretch}
+use Rattle.yq_row_lines.specs.RowWalk.{IsLine}
+use Rattle.yq_row_lines.specs.declared.line_position.Position.{Position}
+use Rattle.yq_row_lines.specs.declared.line_position.Stretch.{Stretch}
 use Rattle.yq_documents.proofs.PartRows.{each}
 use Rattle.yq_places.proofs.HeadSpanLaws.{head_span, head_text}
 use Rattle.yq_places.proofs.WalkDocuments.{Found}
 use Rattle.yq_places.proofs.WalkNodes.{row_is as row_at, row_in_cut}
-use Rattle.yq_walk.proofs.WalkPositions.{located}
+use Rattle.yq_row_lines.proofs.WalkPositions.{located}
 
 -- the pieces of a row that is shown
 pub slices_are : (c : Cut) (s : RowsView) (i : ℕ) (x : Slices) (r : Row) → s ≡ rows_view c → slice_get s.rows i ≡ Some x → slice_get (rows_of c) i ≡ Some r → x ≡ slices r

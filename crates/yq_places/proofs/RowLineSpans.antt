@@ -3,12 +3,12 @@ use Rattle.std.proofs.Common.{◌≡◌, ℕ, suc, ◌+◌, ◌-◌, ◌<◌, lt
 use Rattle.std.proofs.lemmas.Option.{slice_get_within, slice_get-map, same_Some}
 use Rattle.std.specs.List.{slice_get}
 use Rattle.yq_flow_scalars.specs.Answers.{◌>>=◌}
-use Rattle.yq_rows.specs.Rows.{Row, Part, Cut}
-use Rattle.yq_rows.specs.View.{Slices, slices, rows_of, RowsView, rows_view}
+use Rattle.yq_cut.specs.Rows.{Row, Part, Cut}
+use Rattle.yq_cut.specs.View.{Slices, slices, rows_of, RowsView, rows_view}
 use Rattle.yq_documents.specs.declared.path.Path.{Path}
 use Rattle.yq_documents.specs.Documents.{document_parts}
-use Rattle.yq_walk.specs.Extents.{row_start}
-use Rattle.yq_walk.specs.Lines.{lines_of}
+use Rattle.yq_row_lines.specs.Extents.{row_start}
+use Rattle.yq_row_lines.specs.Lines.{lines_of}
 use Rattle.yq_documents.specs.Located.{steps_of}
 use Rattle.yq_documents.specs.Pieces.{TextPiece, piece_span}
 use Rattle.yq_documents.specs.Reading.{cut_of}
@@ -17,7 +17,7 @@ use Rattle.yq_places.specs.RowWalk.{HasCut}
 use Rattle.yq_places.specs.RowLineReading.{Numbers, numbers}
 use Rattle.yq_documents.specs.LinesInRows.{RowLine, behind_one, row_line, row_line_of, row_line_at, document_row}
 use Rattle.yq_documents.proofs.PartRows.{part_begins}
-use Rattle.yq_walk.proofs.KnownLaws.{get_dropped, get_front}
+use Rattle.yq_row_lines.proofs.KnownLaws.{get_dropped, get_front}
 use Rattle.yq_lines.proofs.Values.{If}
 
 -- the row of a line

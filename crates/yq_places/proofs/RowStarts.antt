@@ -1,16 +1,16 @@
 -- Where rows and their lines begin, by the pieces of rows.
-use Rattle.yq_walk.proofs.ToDashes.{to_dash, last_is}
+use Rattle.yq_row_lines.proofs.ToDashes.{to_dash, last_is}
 use Rattle.std.proofs.Common.{◌≡◌, ℕ, ◌+◌, ◌≤◌, [], ◌++◌, length, take, replicate, Some, option_map, refl, sym, ap, ◌∙◌, arith, length-append}
 use Rattle.std.proofs.lemmas.List.{length-replicate}
 use Rattle.std.proofs.lemmas.Option.{slice_get-map}
 use Rattle.std.specs.List.{slice_get}
-use Rattle.yq_rows.specs.Exchange.{before_content}
-use Rattle.yq_rows.specs.Rows.{Row, dashes_text, Cut}
-use Rattle.yq_rows.specs.View.{Slices, slices, last_dash, rows_of, rows_view}
+use Rattle.yq_cut.specs.Exchange.{before_content}
+use Rattle.yq_cut.specs.Rows.{Row, dashes_text, Cut}
+use Rattle.yq_cut.specs.View.{Slices, slices, last_dash, rows_of, rows_view}
 use Rattle.yq_places.specs.CommentReading.{before_tail, before_row}
 use Rattle.yq_places.specs.EntryReading.{before_line, ending, through_row, line_begin}
-use Rattle.yq_walk.specs.Extents.{row_start, front_length, head_place}
-use Rattle.yq_walk.proofs.LengthLaws.{head_agrees}
+use Rattle.yq_row_lines.specs.Extents.{row_start, front_length, head_place}
+use Rattle.yq_row_lines.proofs.LengthLaws.{head_agrees}
 use Rattle.yq_places.proofs.StartLaws.{start_agrees}
 
 -- where the head of a row stands, by where the row begins

@@ -7,16 +7,16 @@ use Rattle.std.specs.List.{slice_get}
 use Rattle.yq_flow_scalars.specs.Answers.{◌>>=◌}
 use Rattle.yq_flow_scalars.specs.Text.{joined}
 use Rattle.yq_flow_scalars.specs.Tree as tree
-use Rattle.yq_inline.specs.Nodes.{Node, empty, alias, scalar, coll, anchored, node_text, takes_anchor, IsNode}
-use Rattle.yq_rows.specs.Exchange.{row_front, before_content}
-use Rattle.yq_rows.specs.Rows as rows
-use Rattle.yq_rows.specs.Rows.{Content, Nothing, Inline, Block, dashes_text, mark_text, anchor_text, Row, rows_text, Part, Cut}
-use Rattle.yq_rows.specs.View.{anchor_cut, anchor_of, apart_of, content_cut, rows_of}
-use Rattle.yq_rows.proofs.PlaceLaws.{part_then}
-use Rattle.yq_walk.proofs.KnownLaws.{get_dropped}
+use Rattle.yq_nodes.specs.Nodes.{Node, empty, alias, scalar, coll, anchored, node_text, takes_anchor, IsNode}
+use Rattle.yq_cut.specs.Exchange.{row_front, before_content}
+use Rattle.yq_cut.specs.Rows as rows
+use Rattle.yq_cut.specs.Rows.{Content, Nothing, Inline, Block, dashes_text, mark_text, anchor_text, Row, rows_text, Part, Cut}
+use Rattle.yq_cut.specs.View.{anchor_cut, anchor_of, apart_of, content_cut, rows_of}
+use Rattle.yq_cut.proofs.PlaceLaws.{part_then}
+use Rattle.yq_row_lines.proofs.KnownLaws.{get_dropped}
 use Rattle.yq_places.specs.EntryReading.{before_line, through_row, lines_place, head_end, head_extent, line_head}
-use Rattle.yq_walk.specs.Lines.{head_of, lines_of}
-use Rattle.yq_inline.specs.Trees.{node_head}
+use Rattle.yq_row_lines.specs.Lines.{head_of, lines_of}
+use Rattle.yq_nodes.specs.Trees.{node_head}
 use Rattle.yq_places.specs.CommentReading.{before_row}
 use Rattle.yq_documents.specs.LinesInRows.{RowLine, row_line}
 use Rattle.yq_places.proofs.EntryPlaceLaws.{row_there}

@@ -5,16 +5,16 @@ use Rattle.std.proofs.lemmas.List.{take-append-drop}
 use Rattle.std.proofs.lemmas.Str.{IsCharBoundary-start}
 use Rattle.std.specs.List.{slice_get}
 use Rattle.std.specs.Str.{IsUtf8, IsCharBoundary}
-use Rattle.yq_scalar.proofs.BlockPieceLaws.{IsLf, append_lf, raw_lf}
-use Rattle.yq_rows.specs.Exchange.{behind_at, behind_row}
-use Rattle.yq_rows.specs.Gap.{IsGap}
-use Rattle.yq_rows.specs.Grammar.{IsContent, Limit, unlimited, limit_after, IsRow, AreRows, IsMarkerLine, AreParts, begins_document}
-use Rattle.yq_rows.specs.Rows.{Content, Nothing, Inline, Block, Row, behind_dashes, behind_gap, dashes_text, print_row, rows_text, parent_indent, part_text, Cut, last, marked, cut_text}
-use Rattle.yq_rows.specs.View.{content_cut, Slices, slices, rows_of}
-use Rattle.yq_rows.proofs.ExchangeLaws.{slice_front, slice_back}
-use Rattle.yq_rows.proofs.NodePieces.{EndsAscii, ends_behind, BeginsAscii, before_ascii, behind_ascii}
-use Rattle.yq_rows.proofs.PlaceLaws.{row_then, part_then, row_in}
-use Rattle.yq_rows.proofs.SliceLaws.{slices_are}
+use Rattle.yq_block_scalars.proofs.BlockPieceLaws.{IsLf, append_lf, raw_lf}
+use Rattle.yq_cut.specs.Exchange.{behind_at, behind_row}
+use Rattle.yq_cut.specs.Gap.{IsGap}
+use Rattle.yq_cut.specs.Grammar.{IsContent, Limit, unlimited, limit_after, IsRow, AreRows, IsMarkerLine, AreParts, begins_document}
+use Rattle.yq_cut.specs.Rows.{Content, Nothing, Inline, Block, Row, behind_dashes, behind_gap, dashes_text, print_row, rows_text, parent_indent, part_text, Cut, last, marked, cut_text}
+use Rattle.yq_cut.specs.View.{content_cut, Slices, slices, rows_of}
+use Rattle.yq_cut.proofs.ExchangeLaws.{slice_front, slice_back}
+use Rattle.yq_cut.proofs.NodePieces.{EndsAscii, ends_behind, BeginsAscii, before_ascii, behind_ascii}
+use Rattle.yq_cut.proofs.PlaceLaws.{row_then, part_then, row_in}
+use Rattle.yq_cut.proofs.SliceLaws.{slices_are}
 use Rattle.yq_places.specs.EntryReading.{before_line}
 use Rattle.yq_places.specs.CommentReading.{before_row}
 use Rattle.yq_places.proofs.CommentPieceLaws.{Ended, tail_end, content_end, gap_end, row_place}

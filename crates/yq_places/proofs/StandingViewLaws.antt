@@ -2,20 +2,20 @@
 use Rattle.std.proofs.Common.{◌≡◌, ℕ, suc, ◌+◌, ◌<◌, eqb, Bool, true, false, ◌&&◌, List, [], ◌∷◌, ◌++◌, length, length-append, map, Option, Some, None, option_map, refl, sym, ap, ◌∙◌, arith, append_assoc}
 use Rattle.std.proofs.lemmas.Bool.{cond-false, cond-true, eq-eqb, false≢true, ne_eqb}
 use Rattle.yq_flow_scalars.specs.Answers.{◌>>=◌}
-use Rattle.yq_scalar.specs.Block.{BlockText}
+use Rattle.yq_block_scalars.specs.Block.{BlockText}
 use Rattle.yq_flow_scalars.specs.Paths.{Step}
 use Rattle.yq_flow_scalars.specs.Text.{is_empty}
 use Rattle.yq_lines.specs.Positions.{is_bare}
-use Rattle.yq_rows.specs.Grammar.{IsMark}
-use Rattle.yq_rows.specs.Removal.{block_numbers, block_of}
-use Rattle.yq_rows.specs.Rows as rows
-use Rattle.yq_rows.specs.Rows.{Content, Nothing, Inline, Block, Row, dashes_text, print_row, rows_text, Cut}
-use Rattle.yq_rows.specs.Seams.{is_block}
-use Rattle.yq_rows.specs.View.{Slices, slices, colon_of, content_cut, last_dash, RowsView}
-use Rattle.yq_rows.proofs.seams.SeamLaws.{rows_text-append}
-use Rattle.yq_walk.specs.Lines.{mark_of}
+use Rattle.yq_cut.specs.Grammar.{IsMark}
+use Rattle.yq_cut.specs.Removal.{block_numbers, block_of}
+use Rattle.yq_cut.specs.Rows as rows
+use Rattle.yq_cut.specs.Rows.{Content, Nothing, Inline, Block, Row, dashes_text, print_row, rows_text, Cut}
+use Rattle.yq_cut.specs.Seams.{is_block}
+use Rattle.yq_cut.specs.View.{Slices, slices, colon_of, content_cut, last_dash, RowsView}
+use Rattle.yq_cut.proofs.seams.SeamLaws.{rows_text-append}
+use Rattle.yq_row_lines.specs.Lines.{mark_of}
 use Rattle.yq_documents.specs.Reading.{cut_of}
-use Rattle.yq_walk.proofs.RowLaws.{colon_some}
+use Rattle.yq_row_lines.proofs.RowLaws.{colon_some}
 use Rattle.yq_places.specs.Standings.{RowsOfEntry, alone, before_entry, behind_entry, behind_mark, below, beside, block, compact, compact_in, entry_standing, held, is_alone, lone, rows_of_entry, standing_at, under}
 use Rattle.yq_places.specs.StandingReading.{AreRowsOf, IsEntryIn, numbers_at}
 use Rattle.yq_places.specs.StandingViews.{held_at, held_if_last}

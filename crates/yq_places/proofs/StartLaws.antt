@@ -3,14 +3,14 @@ use Rattle.std.proofs.Common.{◌≡◌, ◌⊎◌, inl, inr, ℕ, zero, suc, �
 use Rattle.std.proofs.lemmas.Bool.{cases_lt, lt-ltb, le-ltb, cond-true, cond-false}
 use Rattle.std.proofs.lemmas.Option.{slice_get-map}
 use Rattle.std.specs.List.{slice_get}
-use Rattle.yq_rows.specs.Exchange.{row_front, before_at, before_content}
-use Rattle.yq_rows.specs.Rows.{Row, rows_text, part_text, Cut, last, marked}
-use Rattle.yq_rows.specs.View.{Slices, slices, rows_of, rows_view}
-use Rattle.yq_rows.proofs.ExchangeLaws.{slice_front, slice_back}
-use Rattle.yq_walk.specs.Extents.{row_start, front_length, head_place}
+use Rattle.yq_cut.specs.Exchange.{row_front, before_at, before_content}
+use Rattle.yq_cut.specs.Rows.{Row, rows_text, part_text, Cut, last, marked}
+use Rattle.yq_cut.specs.View.{Slices, slices, rows_of, rows_view}
+use Rattle.yq_cut.proofs.ExchangeLaws.{slice_front, slice_back}
+use Rattle.yq_row_lines.specs.Extents.{row_start, front_length, head_place}
 use Rattle.yq_places.specs.CommentReading.{before_row}
-use Rattle.yq_walk.proofs.LengthLaws.{part-length, front-length, head_agrees}
-use Rattle.yq_rows.proofs.SliceLaws.{print-length}
+use Rattle.yq_row_lines.proofs.LengthLaws.{part-length, front-length, head_agrees}
+use Rattle.yq_cut.proofs.SliceLaws.{print-length}
 
 -- the text before a row's content is that before the row, and the row's front
 front_at : (rows : List Row) (i : ℕ) (r : Row) → slice_get rows i ≡ Some r → length (before_at i rows) ≡ length (rows_text (take i rows) []) + length (row_front r)

@@ -2,12 +2,12 @@
 use Rattle.std.proofs.Common.{◌≡◌, ℕ, Bool, true, false, cond, eqb, List, [], ◌∷◌, Option, Some, None, option_and_then, refl}
 use Rattle.yq_flow_scalars.specs.Tree.{Label, Node, alias, scalar, list, map, Children, none, child, children_of}
 use Rattle.yq_flow_scalars.specs.Paths.{Step, is_here, further}
-use Rattle.yq_inline.specs.Nodes as inline
-use Rattle.yq_inline.specs.Nodes.{Items, item}
-use Rattle.yq_inline.specs.Trees.{tree_of, items_tree, collection, with_name, node_head}
-use Rattle.yq_rows.specs.Rows.{Content, Nothing, Inline, Block}
+use Rattle.yq_nodes.specs.Nodes as inline
+use Rattle.yq_nodes.specs.Nodes.{Items, item}
+use Rattle.yq_nodes.specs.Trees.{tree_of, items_tree, collection, with_name, node_head}
+use Rattle.yq_cut.specs.Rows.{Content, Nothing, Inline, Block}
 use Rattle.yq_lines.specs.Labelled.{Labelled, labelled_at, labelled_from}
-use Rattle.yq_walk.specs.Lines.{head_of}
+use Rattle.yq_row_lines.specs.Lines.{head_of}
 use Rattle.yq_lines.specs.Outline.{anchored}
 use Rattle.yq_lines.proofs.LabelPaths.{reach}
 use Rattle.yq_lines.proofs.Values.{If}

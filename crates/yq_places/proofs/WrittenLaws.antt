@@ -1,10 +1,10 @@
 -- Rows that may follow a row with another inline node.
 use Rattle.std.proofs.Common.{◌≡◌, ℕ, Bool, true, false, cond, List, [], ◌∷◌, Some, refl}
 use Rattle.yq_flow_scalars.specs.Piece.{deeper}
-use Rattle.yq_inline.specs.Nodes.{Node}
-use Rattle.yq_rows.specs.Exchange.{with_content, allows_first}
-use Rattle.yq_rows.specs.Grammar.{is_plain, unlimited, limit_after}
-use Rattle.yq_rows.specs.Rows.{Inline, Row, parent_indent}
+use Rattle.yq_nodes.specs.Nodes.{Node}
+use Rattle.yq_cut.specs.Exchange.{with_content, allows_first}
+use Rattle.yq_cut.specs.Grammar.{is_plain, unlimited, limit_after}
+use Rattle.yq_cut.specs.Rows.{Inline, Row, parent_indent}
 
 pub free_first : (rs : List Row) → allows_first unlimited rs ≡ true
 free_first [] = refl

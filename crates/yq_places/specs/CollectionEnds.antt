@@ -1,7 +1,7 @@
 -- Where one more item or entry of a block collection stands: behind the collection's last line (YAML 1.2.2, 8.2; own).
 use Rattle.std.specs.Prelude.{ℕ, List, Bool, true}
 use Rattle.yq_flow_scalars.specs.Text.{is_line}
-use Rattle.yq_rows.specs.Rows.{Content, Nothing, Inline, Block}
+use Rattle.yq_cut.specs.Rows.{Content, Nothing, Inline, Block}
 
 -- The end of a block collection in a text: the column of its items or entries, the text up to the end of its last line, with its break,
 -- whether that line has one, and the text behind.

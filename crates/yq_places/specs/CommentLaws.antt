@@ -2,7 +2,7 @@
 use Rattle.std.specs.Prelude.{ℕ, List, [], drop, Option, Some, None, option_map, ◌≡◌}
 use Rattle.yq_flow_scalars.specs.Answers.{◌>>=◌}
 use Rattle.yq_flow_scalars.specs.Text.{lines_of}
-use Rattle.yq_rows.specs.Rows.{Cut}
+use Rattle.yq_cut.specs.Rows.{Cut}
 use Rattle.yq_documents.specs.declared.path.Path.{Path}
 use Rattle.yq_documents.specs.Located.{labelled_located}
 use Rattle.yq_lines.specs.Comments.{less_space}

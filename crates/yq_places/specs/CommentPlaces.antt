@@ -4,9 +4,9 @@ use Rattle.yq_flow_scalars.specs.Answers.{◌>>=◌}
 use Rattle.yq_flow_scalars.specs.Paths.{Step}
 use Rattle.yq_flow_scalars.specs.Text as text
 use Rattle.yq_flow_scalars.specs.Text.{ends_line, joined, lines_of, no_white, past_white}
-use Rattle.yq_rows.specs.Exchange.{row_front}
-use Rattle.yq_rows.specs.Rows.{Row, behind_gap, Cut}
-use Rattle.yq_rows.specs.View.{slices}
+use Rattle.yq_cut.specs.Exchange.{row_front}
+use Rattle.yq_cut.specs.Rows.{Row, behind_gap, Cut}
+use Rattle.yq_cut.specs.View.{slices}
 use Rattle.yq_documents.specs.Pieces.{before_run, last_run}
 use Rattle.yq_places.specs.PlacedRows.{PlacedRow, row_of_path}
 

@@ -1,11 +1,11 @@
 -- Reading (own; a reader may skip it): where comments stand, by the pieces of rows.
 use Rattle.std.specs.Prelude.{ℕ, ◌+◌, ◌-◌, ◌==◌, List, length, Option, Some, None, if◌then◌else◌, [], ◌++◌, nat_lt, take}
 use Rattle.yq_flow_scalars.specs.Text.{cut, front, ends_line, is_empty, joined, lines_of, no_white, past_white}
-use Rattle.yq_rows.specs.View.{Slices, slices}
-use Rattle.yq_walk.specs.Extents.{front_length}
+use Rattle.yq_cut.specs.View.{Slices, slices}
+use Rattle.yq_row_lines.specs.Extents.{front_length}
 use Rattle.yq_places.specs.RowLineReading.{Numbers}
-use Rattle.yq_rows.specs.Exchange.{before_content, behind_row}
-use Rattle.yq_rows.specs.Rows.{Row, Cut, rows_text, part_text, last, marked, behind_gap}
+use Rattle.yq_cut.specs.Exchange.{before_content, behind_row}
+use Rattle.yq_cut.specs.Rows.{Row, Cut, rows_text, part_text, last, marked, behind_gap}
 use Rattle.yq_documents.specs.LinesInRows.{RowLine}
 use Rattle.yq_documents.specs.Pieces.{TextPiece, tail_comment, last_run, gap_comment}
 

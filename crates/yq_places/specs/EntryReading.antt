@@ -1,20 +1,20 @@
 -- Reading (own; a reader may skip it): where lines, entries and contents begin and end, by the rows of a text and their pieces, as the code counts.
-use Rattle.yq_walk.specs.Extents.{dash_at}
+use Rattle.yq_row_lines.specs.Extents.{dash_at}
 use Rattle.std.specs.Prelude.{ℕ, suc, ◌+◌, ◌-◌, ◌==◌, List, [], ◌∷◌, ◌++◌, length, replicate, slice_get, take, Option, Some, None, is_some, option_map, option_and_then, if◌then◌else◌}
 use Rattle.yq_flow_scalars.specs.Answers.{◌>>=◌}
 use Rattle.yq_flow_scalars.specs.Paths.{Step}
 use Rattle.yq_flow_scalars.specs.Text.{is_empty, joined}
-use Rattle.yq_inline.specs.Entries.{PlacedEntry, placed_entry_at, entry_place, content_place}
-use Rattle.yq_inline.specs.Nodes.{Node, empty}
-use Rattle.yq_inline.specs.Places.{Placed, locate}
-use Rattle.yq_rows.specs.Exchange.{behind_row}
-use Rattle.yq_rows.specs.Rows.{Content, Nothing, Inline, Block, Row, dashes_text, Cut, cut_text}
-use Rattle.yq_rows.specs.View.{Slices, slices}
+use Rattle.yq_nodes.specs.Entries.{PlacedEntry, placed_entry_at, entry_place, content_place}
+use Rattle.yq_nodes.specs.Nodes.{Node, empty}
+use Rattle.yq_nodes.specs.Places.{Placed, locate}
+use Rattle.yq_cut.specs.Exchange.{behind_row}
+use Rattle.yq_cut.specs.Rows.{Content, Nothing, Inline, Block, Row, dashes_text, Cut, cut_text}
+use Rattle.yq_cut.specs.View.{Slices, slices}
 use Rattle.yq_documents.specs.declared.path.Path.{Path}
 use Rattle.yq_places.specs.CommentReading.{before_tail, before_row}
 use Rattle.yq_documents.specs.Documents.{document_parts}
-use Rattle.yq_walk.specs.Extents.{head_place}
-use Rattle.yq_walk.specs.Lines.{tail_of, lines_of}
+use Rattle.yq_row_lines.specs.Extents.{head_place}
+use Rattle.yq_row_lines.specs.Lines.{tail_of, lines_of}
 use Rattle.yq_documents.specs.Located.{steps_of}
 use Rattle.yq_lines.specs.Ends.{line_of, reached, lines_end}
 use Rattle.yq_documents.specs.LinesInRows.{row_line, document_row}

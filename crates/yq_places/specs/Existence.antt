@@ -3,12 +3,12 @@ use Rattle.std.specs.Prelude.{◌≡◌, ◌&&◌, ◌||◌, not, List, [], ◌�
 use Rattle.yq_flow_scalars.specs.Answers.{◌>>=◌}
 use Rattle.yq_flow_scalars.specs.Paths.{Step}
 use Rattle.yq_flow_scalars.specs.Tree.{Node}
-use Rattle.yq_rows.specs.Rows.{Cut}
+use Rattle.yq_cut.specs.Rows.{Cut}
 use Rattle.yq_documents.specs.declared.path.Part.TheVariants as parts
 use Rattle.yq_documents.specs.declared.path.Path.{Path}
 use Rattle.yq_lines.specs.Group.{group}
 use Rattle.yq_lines.specs.Outline.{anchored, null_node}
-use Rattle.yq_inline.specs.Trees.{node_head}
+use Rattle.yq_nodes.specs.Trees.{node_head}
 use Rattle.yq_documents.specs.Located.{steps_of, located}
 use Rattle.yq_lines.specs.Places.{find}
 use Rattle.yq_documents.specs.Reading.{read_at}

@@ -3,8 +3,8 @@ use Rattle.std.specs.Prelude.{ℕ, ◌==◌, ◌&&◌, Bool, true, List, [], ◌
 use Rattle.yq_flow_scalars.specs.Answers.{◌>>=◌}
 use Rattle.yq_flow_scalars.specs.Paths.{Step}
 use Rattle.yq_flow_scalars.specs.Text.{cut, cut_line, no_space}
-use Rattle.yq_rows.specs.Rows.{Cut}
-use Rattle.yq_rows.specs.Reading.{begins_gap}
+use Rattle.yq_cut.specs.Rows.{Cut}
+use Rattle.yq_cut.specs.Reading.{begins_gap}
 use Rattle.yq_documents.specs.declared.path.Part.TheVariants.{Entry}
 use Rattle.yq_documents.specs.Documents.{document_parts}
 use Rattle.yq_places.specs.PathPieces.{printed_document, piece_in}

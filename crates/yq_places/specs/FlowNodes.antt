@@ -2,9 +2,9 @@
 use Rattle.std.specs.Prelude.{ℕ, ◌+◌, List, [], ◌∷◌, ◌++◌, length, slice_get, Option, Some, None, option_map, if◌then◌else◌}
 use Rattle.yq_flow_scalars.specs.Answers.{◌>>=◌}
 use Rattle.yq_flow_scalars.specs.Paths.{Step}
-use Rattle.yq_inline.specs.Collections.{CollPieces, coll_along}
-use Rattle.yq_rows.specs.Exchange.{behind_row}
-use Rattle.yq_rows.specs.Rows.{Content, Nothing, Inline, Block, Row, Part, Cut}
+use Rattle.yq_nodes.specs.Collections.{CollPieces, coll_along}
+use Rattle.yq_cut.specs.Exchange.{behind_row}
+use Rattle.yq_cut.specs.Rows.{Content, Nothing, Inline, Block, Row, Part, Cut}
 use Rattle.yq_lines.specs.Outline.{Outline, end, row}
 use Rattle.yq_lines.specs.Places.{here, lines_before, FoundLine, find, in_head, inside}
 use Rattle.yq_lines.specs.Positions.{is_bare}

@@ -2,17 +2,17 @@
 use Rattle.std.specs.Prelude.{◌≡◌, ℕ, List, ◌++◌, length, slice_get, map, Option, Some, None}
 use Rattle.yq_flow_scalars.specs.Answers.{◌>>=◌}
 use Rattle.yq_flow_scalars.specs.Paths.{Step}
-use Rattle.yq_inline.specs.Collections.{CollAt, CollPieces, IsCollAt}
-use Rattle.yq_inline.specs.Entries.{placed_entry_at, step_of}
-use Rattle.yq_inline.specs.Nodes.{coll, node_text}
-use Rattle.yq_inline.specs.View.{view}
-use Rattle.yq_rows.specs.Rows.{Part, Cut}
-use Rattle.yq_walk.specs.Lines.{lines_of}
+use Rattle.yq_nodes.specs.Collections.{CollAt, CollPieces, IsCollAt}
+use Rattle.yq_nodes.specs.Entries.{placed_entry_at, step_of}
+use Rattle.yq_nodes.specs.Nodes.{coll, node_text}
+use Rattle.yq_nodes.specs.View.{view}
+use Rattle.yq_cut.specs.Rows.{Part, Cut}
+use Rattle.yq_row_lines.specs.Lines.{lines_of}
 use Rattle.yq_documents.specs.Documents.{document_parts}
 use Rattle.yq_places.specs.FlowNodes.{flow_collection}
 use Rattle.yq_places.specs.NodeReading.{head_at}
 use Rattle.yq_places.specs.declared.places.flow_node.FlowHead.{FlowHead}
-use Rattle.yq_inline.specs.Places.{Placed, placed, Content, nothing, name, text, sequence, mapping, locate}
+use Rattle.yq_nodes.specs.Places.{Placed, placed, Content, nothing, name, text, sequence, mapping, locate}
 
 -- a collection with its places in a text so long (7.4)
 abbrev pub placed_collection : ℕ → CollPieces → Placed

@@ -1,20 +1,20 @@
 -- Reading (own; a reader may skip it): where the node at a path is written among lines, as the code finds it.
 use Rattle.std.specs.Prelude.{ℕ, ◌+◌, List, [], ◌∷◌, slice_get, map, Option, Some, None, is_some, option_map, if◌then◌else◌}
 use denote.Bor.{Bor}
-use Rattle.yq_inline.specs.declared.path.Step as steps
-use Rattle.yq_inline.specs.Entries.{step_of}
+use Rattle.yq_nodes.specs.declared.path.Step as steps
+use Rattle.yq_nodes.specs.Entries.{step_of}
 use Rattle.yq_flow_scalars.specs.Answers.{◌>>=◌}
 use Rattle.yq_flow_scalars.specs.Paths.{Step, node_at}
 use Rattle.yq_flow_scalars.specs.Tree as tree
 use Rattle.yq_lines.specs.Ends.{part, reached}
 use Rattle.yq_lines.specs.Outline.{Line, level, value}
 use Rattle.yq_lines.specs.Positions.{begins_with_node}
-use Rattle.yq_rows.specs.Rows.{Row}
-use Rattle.yq_rows.specs.View.{RowsView}
+use Rattle.yq_cut.specs.Rows.{Row}
+use Rattle.yq_cut.specs.View.{RowsView}
 use Rattle.yq_places.specs.NodesAt.{NodeAt, node_summary}
-use Rattle.yq_walk.specs.RowWalk.{IsLine, IsPosition, line_number, lines_stop}
+use Rattle.yq_row_lines.specs.RowWalk.{IsLine, IsPosition, line_number, lines_stop}
 use Rattle.yq_places.specs.declared.places.node_place.NodePlace as declared
-use Rattle.yq_walk.specs.declared.position.Stretch.{Stretch}
+use Rattle.yq_row_lines.specs.declared.line_position.Stretch.{Stretch}
 
 -- Where a node is written: in the head of a line, or on the lines from one on that are deeper than a level (8.2).
 pub data NodePlace : Type 0 where

@@ -8,7 +8,7 @@ use Rattle.yq_flow_scalars.specs.Paths.{Step, node_at}
 use Rattle.yq_lines.specs.Counts.{count}
 use Rattle.yq_lines.specs.declared.line.Content.{Content}
 use Rattle.yq_lines.specs.View.{content_view}
-use Rattle.yq_rows.specs.Rows.{Cut}
+use Rattle.yq_cut.specs.Rows.{Cut}
 use Rattle.yq_documents.specs.Reading.{documents}
 use Rattle.yq_places.specs.declared.places.node_at.NodeAt as declared
 

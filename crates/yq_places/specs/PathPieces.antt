@@ -2,9 +2,9 @@
 use Rattle.std.specs.Prelude.{ℕ, suc, List, [], ◌∷◌, ◌++◌, length, take, drop, map, slice_get, Option, Some, None, is_some, option_map, option_and_then, if◌then◌else◌}
 use Rattle.yq_flow_scalars.specs.Answers.{◌>>=◌}
 use Rattle.yq_flow_scalars.specs.Paths.{Step, is_here, further}
-use Rattle.yq_inline.specs.Nodes.{Key, bare, Node, empty, alias, scalar, coll, anchored, Items, none, item, key_text, sep_text, open_of, node_text, items_text}
-use Rattle.yq_inline.specs.Trees.{inner, key_content}
-use Rattle.yq_rows.specs.Rows.{Content, Nothing, Inline, Block, Cut}
+use Rattle.yq_nodes.specs.Nodes.{Key, bare, Node, empty, alias, scalar, coll, anchored, Items, none, item, key_text, sep_text, open_of, node_text, items_text}
+use Rattle.yq_nodes.specs.Trees.{inner, key_content}
+use Rattle.yq_cut.specs.Rows.{Content, Nothing, Inline, Block, Cut}
 use Rattle.yq_documents.specs.declared.path.Part.{Part}
 use Rattle.yq_documents.specs.declared.path.Path.{Path}
 use Rattle.yq_lines.specs.Group.{group}

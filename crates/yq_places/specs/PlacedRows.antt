@@ -2,8 +2,8 @@
 use Rattle.std.specs.Prelude.{ℕ, zero, suc, List, [], ◌++◌, take, drop, slice_get, Option, option_map}
 use Rattle.yq_flow_scalars.specs.Answers.{◌>>=◌}
 use Rattle.yq_flow_scalars.specs.Paths.{Step}
-use Rattle.yq_rows.specs.Rows.{Row, rows_text, Part, part_text, Cut, last, marked}
-use Rattle.yq_rows.specs.Splices.{nth_part, behind_part}
+use Rattle.yq_cut.specs.Rows.{Row, rows_text, Part, part_text, Cut, last, marked}
+use Rattle.yq_cut.specs.Splices.{nth_part, behind_part}
 use Rattle.yq_documents.specs.Documents.{document_parts}
 use Rattle.yq_documents.specs.PartNumbers.{part_number}
 use Rattle.yq_documents.specs.LinesInRows.{RowLine, row_line_of}

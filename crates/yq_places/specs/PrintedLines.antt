@@ -1,13 +1,13 @@
 -- The lines of a text with their texts, and runs of them (YAML 1.2.2, 8; own).
 use Rattle.std.specs.Prelude.{ℕ, suc, ◌+◌, ◌&&◌, List, [], ◌∷◌, ◌++◌, length, drop, replicate, Option, Some, None, Bool, false, if◌then◌else◌}
 use Rattle.yq_flow_scalars.specs.Text.{is_empty, is_feed, is_return}
-use Rattle.yq_rows.specs.Rows.{Content, Nothing, mark_text, content_text, Row, last}
-use Rattle.yq_rows.specs.View.{content_cut}
-use Rattle.yq_walk.specs.Lines.{mark_line, dash_line}
+use Rattle.yq_cut.specs.Rows.{Content, Nothing, mark_text, content_text, Row, last}
+use Rattle.yq_cut.specs.View.{content_cut}
+use Rattle.yq_row_lines.specs.Lines.{mark_line, dash_line}
 use Rattle.yq_lines.specs.Outline.{Line}
 use Rattle.yq_lines.specs.Positions.{is_bare}
 use Rattle.yq_lines.specs.Comments as comments
-use Rattle.yq_rows.specs.Rows as rows
+use Rattle.yq_cut.specs.Rows as rows
 use Rattle.yq_documents.specs.Pieces.{TextPiece, head_piece}
 
 -- a break, and nothing behind it (5.4)

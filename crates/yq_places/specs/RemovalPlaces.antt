@@ -1,16 +1,16 @@
 -- Where an item or entry of a block collection, with whole rows, is taken out of a text (YAML 1.2.2, 8.2 and 9.1; own).
 use Rattle.std.specs.Prelude.{ℕ, zero, suc, ◌-◌, ◌==◌, nat_lt, List, [], ◌∷◌, ◌++◌, length, slice_get, take, drop, Option, Some, None, option_map, Bool, false, if◌then◌else◌}
 use Rattle.yq_flow_scalars.specs.Answers.{◌>>=◌}
-use Rattle.yq_scalar.specs.Block.{BlockText, keeps}
+use Rattle.yq_block_scalars.specs.Block.{BlockText, keeps}
 use Rattle.yq_flow_scalars.specs.Paths.{Step, node_at}
 use Rattle.yq_flow_scalars.specs.Text.{joined, lines_of as text_lines}
 use Rattle.yq_flow_scalars.specs.Tree.{Node, children_of}
-use Rattle.yq_rows.specs.Removal.{hold_comment, last_block, next_column}
-use Rattle.yq_rows.specs.Rows.{Row, rows_text, Cut}
-use Rattle.yq_rows.specs.Splices.{behind_first, first_gap}
+use Rattle.yq_cut.specs.Removal.{hold_comment, last_block, next_column}
+use Rattle.yq_cut.specs.Rows.{Row, rows_text, Cut}
+use Rattle.yq_cut.specs.Splices.{behind_first, first_gap}
 use Rattle.yq_lines.specs.Counts.{count}
 use Rattle.yq_lines.specs.Ends.{line_of, lines_end}
-use Rattle.yq_walk.specs.Lines.{lines_of}
+use Rattle.yq_row_lines.specs.Lines.{lines_of}
 use Rattle.yq_documents.specs.Pieces.{before_run, last_run}
 use Rattle.yq_places.specs.PlacedRows.{PlacedPart, placed_document}
 use Rattle.yq_documents.specs.Reading.{documents}

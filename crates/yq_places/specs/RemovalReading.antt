@@ -3,9 +3,9 @@ use Rattle.std.specs.Prelude.{◌≡◌, ℕ, ◌+◌, false, List, [], ◌∷�
 use Rattle.yq_text.specs.Halves.{whole}
 use Rattle.yq_flow_scalars.specs.Answers.{◌>>=◌}
 use Rattle.yq_flow_scalars.specs.Paths.{Step}
-use Rattle.yq_rows.specs.Grammar.{IsCut, no_rows}
-use Rattle.yq_rows.specs.Rows.{Cut}
-use Rattle.yq_rows.specs.View.{Slices, Bound, bounds_at, RowsView, rows_view}
+use Rattle.yq_cut.specs.Grammar.{IsCut, no_rows}
+use Rattle.yq_cut.specs.Rows.{Cut}
+use Rattle.yq_cut.specs.View.{Slices, Bound, bounds_at, RowsView, rows_view}
 use Rattle.yq_documents.specs.Documents.{document_parts}
 use Rattle.yq_documents.specs.Reading.{cut_of}
 use Rattle.yq_places.specs.PlacedRows.{PlacedPart, placed_document}

@@ -3,9 +3,9 @@ use Rattle.std.specs.Prelude.{◌≡◌, ℕ, ◌≤◌, true, List, [], ◌∷�
 use Rattle.std.specs.Str.{is_utf8}
 use Rattle.yq_flow_scalars.specs.Characters.{is_text, text_limit}
 use Rattle.yq_flow_scalars.specs.Tree.{Node}
-use Rattle.yq_inline.specs.Nodes as inline
-use Rattle.yq_rows.specs.Rows.{Content}
-use Rattle.yq_walk.specs.Lines.{content_anchor, head_of}
+use Rattle.yq_nodes.specs.Nodes as inline
+use Rattle.yq_cut.specs.Rows.{Content}
+use Rattle.yq_row_lines.specs.Lines.{content_anchor, head_of}
 use Rattle.yq_lines.specs.Outline.{anchored, head_or, null_node}
 
 -- the node that a row spells behind its mark; where nothing is written but perhaps an anchor, a null (7.2)

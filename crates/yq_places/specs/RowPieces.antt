@@ -1,9 +1,9 @@
 -- The pieces of a row behind its mark, and of one that is cut behind a dash (YAML 1.2.2, 8.1 and 8.2.1; own).
 use Rattle.std.specs.Prelude.{ℕ, List, [], ◌∷◌, ◌++◌, replicate, take, if◌then◌else◌}
 use Rattle.yq_flow_scalars.specs.Text.{is_empty}
-use Rattle.yq_rows.specs.Joined.{dashed_row}
-use Rattle.yq_rows.specs.Rows.{Nothing, Row, dashes_text}
-use Rattle.yq_rows.specs.View.{Slices}
+use Rattle.yq_cut.specs.Joined.{dashed_row}
+use Rattle.yq_cut.specs.Rows.{Nothing, Row, dashes_text}
+use Rattle.yq_cut.specs.View.{Slices}
 
 -- the anchor of a row with the white space before it, if it has one
 abbrev pub anchor_before : Slices → List ℕ

@@ -1,21 +1,21 @@
 -- Reading (own; a reader may skip it): the rows of documents among those of a cut, and items that stay known in other cuts.
 use Rattle.std.specs.Prelude.{◌≡◌, ℕ, true, ◌+◌, List, [], ◌++◌, length, map, drop, slice_get, Option, Some, option_map}
-use Rattle.yq_rows.specs.Grammar.{IsCut}
-use Rattle.yq_rows.specs.Rows.{Row, Cut}
-use Rattle.yq_rows.specs.Touched.{TouchesOnly}
-use Rattle.yq_rows.specs.View.{rows_of, RowsView, rows_view}
+use Rattle.yq_cut.specs.Grammar.{IsCut}
+use Rattle.yq_cut.specs.Rows.{Row, Cut}
+use Rattle.yq_cut.specs.Touched.{TouchesOnly}
+use Rattle.yq_cut.specs.View.{rows_of, RowsView, rows_view}
 use Rattle.yq_documents.specs.Documents.{document_parts}
 use Rattle.yq_documents.specs.Reading.{all_documents, cut_of}
 use Rattle.yq_documents.specs.LinesInRows.{document_row}
-use Rattle.yq_inline.specs.Entries.{step_of}
+use Rattle.yq_nodes.specs.Entries.{step_of}
 use Rattle.yq_lines.specs.Ends.{reached}
 use Rattle.yq_flow_scalars.specs.Paths.{Step}
-use Rattle.yq_walk.specs.Lines.{lines_of}
-use Rattle.yq_walk.specs.RowWalk.{IsKnown, AreKnown, HasDocument, IsLine, line_number}
-use Rattle.yq_walk.specs.declared.position.KnownItem.{KnownItem}
-use Rattle.yq_walk.specs.declared.position.KnownItems.{KnownItems}
-use Rattle.yq_walk.specs.declared.position.Position.{Position}
-use Rattle.yq_walk.specs.declared.position.Stretch.{Stretch}
+use Rattle.yq_row_lines.specs.Lines.{lines_of}
+use Rattle.yq_row_lines.specs.RowWalk.{IsKnown, AreKnown, HasDocument, IsLine, line_number}
+use Rattle.yq_row_lines.specs.declared.line_position.KnownItem.{KnownItem}
+use Rattle.yq_row_lines.specs.declared.line_position.KnownItems.{KnownItems}
+use Rattle.yq_row_lines.specs.declared.line_position.Position.{Position}
+use Rattle.yq_row_lines.specs.declared.line_position.Stretch.{Stretch}
 use Rattle.yq_places.specs.declared.places.known_line.KnownLine.{KnownLine}
 
 -- An item stays known in each text in which the items of its cut stay that end in front of so many bytes.

@@ -2,16 +2,16 @@
 use Rattle.std.specs.Prelude.{◌≡◌, ℕ, suc, ◌+◌, ◌≤◌, List, [], ◌∷◌, ◌++◌, length, drop, slice_get, Option, Some, option_map}
 use Rattle.yq_flow_scalars.specs.Answers.{◌>>=◌}
 use Rattle.yq_flow_scalars.specs.Paths.{Step}
-use Rattle.yq_rows.specs.Grammar.{IsCut}
-use Rattle.yq_rows.specs.Rows.{Row, Cut}
-use Rattle.yq_rows.specs.View.{RowsView, rows_view}
+use Rattle.yq_cut.specs.Grammar.{IsCut}
+use Rattle.yq_cut.specs.Rows.{Row, Cut}
+use Rattle.yq_cut.specs.View.{RowsView, rows_view}
 use Rattle.yq_documents.specs.Documents.{document_parts}
 use Rattle.yq_documents.specs.Reading.{cut_of}
 use Rattle.yq_documents.specs.LinesInRows.{RowLine, document_row, row_line_of}
 use Rattle.yq_places.specs.PlacedRows.{PlacedPart, placed_document}
 use Rattle.yq_places.specs.Standings.{RowsOfEntry, under_count}
 use Rattle.yq_places.specs.declared.places.rows_of_entry.RowsOfEntry as declared
-use Rattle.yq_walk.specs.declared.position.Stretch.{Stretch}
+use Rattle.yq_row_lines.specs.declared.line_position.Stretch.{Stretch}
 
 -- how many rows stand before the first one, how many lines of that before the one of the key or dash and before that of its mark, and how
 -- many rows stand before what is behind

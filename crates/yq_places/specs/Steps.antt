@@ -1,9 +1,9 @@
 -- By how many columns the collections of a document stand deeper than their keys (own).
 use Rattle.std.specs.Prelude.{ℕ, ◌-◌, ◌&&◌, nat_lt, List, [], ◌∷◌, Option, Some, None, slice_get, Bool, true, false, not, if◌then◌else◌}
-use Rattle.yq_rows.specs.Rows.{Cut, Part}
+use Rattle.yq_cut.specs.Rows.{Cut, Part}
 use Rattle.yq_lines.specs.Outline.{Mark, Bare, Key, Dash, Line, level}
 use Rattle.yq_documents.specs.Documents.{document_parts}
-use Rattle.yq_walk.specs.Lines.{lines_of}
+use Rattle.yq_row_lines.specs.Lines.{lines_of}
 
 -- a line begins with a key (8.2.2)
 abbrev pub is_key : Mark → Bool

@@ -2,18 +2,18 @@
 ghost use Rattle.std.specs.Prelude.{◌≡◌, ℕ, IfSome, List, Some, true};
 ghost use Rattle.std.specs.Str.{IsUtf8};
 ghost use Rattle.yq_text.specs.Halves.{whole};
-ghost use Rattle.yq_rows.specs.Grammar.{IsCut};
-ghost use Rattle.yq_rows.specs.View.{rows_view};
+ghost use Rattle.yq_cut.specs.Grammar.{IsCut};
+ghost use Rattle.yq_cut.specs.View.{rows_view};
 ghost use Rattle.yq_documents.specs.Reading.{all_documents, cut_of, read_at};
-ghost use Rattle.yq_walk.specs.RowWalk.{AreKnown};
+ghost use Rattle.yq_row_lines.specs.RowWalk.{AreKnown};
 ghost use Rattle.yq_places.specs.RowWalk.{HasCut, IsKnownLine};
 
 use crate::places::halves::is_text;
 use crate::places::known_line::KnownLine;
 use std::marker::Model;
-use yq_rows::Rows;
+use yq_cut::Rows;
+use yq_row_lines::KnownItems;
 use yq_text::Halves;
-use yq_walk::KnownItems;
 
 /// A text that reads as documents, with its cut. It is known by its text.
 #[derive(Debug, Drop)]

@@ -8,7 +8,7 @@ use Rattle.std.proofs.lemmas.Fmt.{decimal_is_IsNumeral}
 use Rattle.std.proofs.lemmas.Int.{to_z-of_z}
 use Rattle.std.proofs.lemmas.List.{length-map, map_push, take_more, take_rest}
 use mir.Val.{to_z, of_z}
-use Rattle.yq_inline.specs.Values.{items, entries}
+use Rattle.yq_nodes.specs.Values.{items, entries}
 use Rattle.yq_flow_scalars.specs.Numbers as numbers
 use Rattle.yq_flow_scalars.specs.Numbers.{unsigned, minus}
 use Rattle.yq_flow_scalars.specs.Paths.{To, child_at, change_child, append_child, append_children}

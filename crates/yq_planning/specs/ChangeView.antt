@@ -1,8 +1,8 @@
 -- The changes that those of the code stand for.
 use Rattle.std.specs.Prelude.{List, [], ◌∷◌, map, Option, Some, None, option_map, string_bytes}
 use Rattle.std.specs.Global.{Vec}
-use Rattle.yq_inline.specs.Entries.{step_of}
-use Rattle.yq_inline.specs.Values.{node_of}
+use Rattle.yq_nodes.specs.Entries.{step_of}
+use Rattle.yq_nodes.specs.Values.{node_of}
 use Rattle.yq_planning.specs.declared.updating.change.Addition as addition
 use Rattle.yq_planning.specs.declared.updating.change.Change as change
 use Rattle.yq_planning.specs.declared.updating.change.Changed as changed

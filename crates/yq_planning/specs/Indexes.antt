@@ -8,8 +8,8 @@ use Rattle.std.specs.Ordering.{nat_cmp}
 use Rattle.yq_flow_scalars.specs.Paths.{To, child_at, key_is}
 use Rattle.yq_flow_scalars.specs.Tree.{Label, Node, Children}
 use Rattle.yq_flow_scalars.specs.Anchors.{Name}
-use Rattle.yq_documents.specs.Nodes.{node_of}
-use Rattle.yq_documents.specs.declared.nodes.node.Node as nodes
+use Rattle.yq_document_nodes.specs.Nodes.{node_of}
+use Rattle.yq_document_nodes.specs.declared.nodes.node.Node as nodes
 use Rattle.yq_meaning.specs.Changes.{refers_to}
 
 -- what a map has for a text (own)

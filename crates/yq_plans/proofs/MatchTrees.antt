@@ -7,7 +7,7 @@ use Rattle.yq_flow_scalars.specs.Paths.{is_here, further, child_at, node_at}
 use Rattle.yq_flow_scalars.specs.Shapes.{IsTree}
 use Rattle.yq_flow_scalars.specs.Tree as tree
 use Rattle.yq_flow_scalars.specs.Tree.{Node, alias, scalar, list, Children, none, child, children_of}
-use Rattle.yq_inline.specs.Values.{items, entries}
+use Rattle.yq_nodes.specs.Values.{items, entries}
 use Rattle.yq_documents.specs.Documents.{Document}
 use Rattle.yq_meaning.specs.Conditions.{node_there, value_of}
 use Rattle.yq_meaning.specs.Copies.{and_others, keyed, copy, item_copies, entry_copies, copy_at, match_at, matches_in, matches_from, matches}

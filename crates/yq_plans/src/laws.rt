@@ -11,7 +11,7 @@ ghost use Rattle.yq_meaning.specs.Fits.{Fits, AllFit};
 ghost use Rattle.yq_meaning.specs.Judgement.{gives, refuses};
 ghost use Rattle.yq_meaning.specs.Meaning.{AreReady, meaning};
 ghost use Rattle.yq_meaning.specs.Operations.{Operation};
-ghost use Rattle.yq_program.specs.Outcome.{Derives};
+ghost use Rattle.yq_parsing.specs.Outcome.{Derives};
 ghost use Rattle.yq_meaning.specs.Pipes.{places};
 ghost use Rattle.yq_meaning.specs.Places.{Place};
 ghost use Rattle.yq_meaning.specs.PlacesApart.{AreApart, AreIn};

@@ -10,7 +10,7 @@ use Rattle.yq_flow_scalars.specs.Tree.{Label, Node, list, Children, none, child}
 use Rattle.yq_flow_scalars.specs.Anchors.{names_of, names_in}
 use Rattle.yq_program.specs.Program.{Term, literal, found, Update, assign, delete, comment, Program, read, updates, IsValue, SumHolds, UpdatesHold, LiteralsHold}
 use Rattle.yq_program.specs.Tokens.{Token}
-use Rattle.yq_inline.specs.Values.{items, entries}
+use Rattle.yq_nodes.specs.Values.{items, entries}
 use Rattle.yq_program.specs.Grammar.{Production, Are, Behind, AreParted, AreListed, IsField, IsScalarNode, IsLiteral, literal_depth, IsTerm, IsUpdate, IsProgram}
 
 -- a fact of each element

@@ -11,7 +11,7 @@ use Rattle.yq_program.specs.declared.program.CommentPlace.{CommentPlace}
 use Rattle.yq_program.specs.declared.program.CommentPlace.TheVariants as place
 use Rattle.yq_program.specs.Program.{Step, key, index, each, Operand, value_at, document_index, Condition, compares, has, Stage, path, select, Term, literal, found, Update, assign, delete, comment, Program, read, updates}
 use Rattle.yq_program.specs.Tokens.{Token, string, number, step, symbol, scalar_words}
-use Rattle.yq_inline.specs.Values.{items, entries}
+use Rattle.yq_nodes.specs.Values.{items, entries}
 
 -- a form: what it says, its tokens with those that follow, and those that follow (own)
 abbrev pub Production : Type 0 → Type 1

@@ -1,11 +1,6 @@
-pub mod ReadAnswers
 pub mod Grammar
-pub mod Lexing
-pub mod Outcome
-pub mod Parse
 pub mod Program
-pub mod TokenView
 pub mod Tokens
-pub use Rattle.yq_inline.specs.Values
+pub use Rattle.yq_nodes.specs.Values
 pub mod View
 pub use Rattle.yq_flow_scalars.specs.Tree

@@ -1,7 +1,7 @@
 -- The program that a value of the code stands for.
 use Rattle.std.specs.Prelude.{map, string_bytes}
 use Rattle.yq_program.specs.Program.{Step, key, index, each, Operand, value_at, document_index, Condition, compares, has, Stage, path, select, Term, literal, found, Update, assign, delete, comment, Program, read, updates}
-use Rattle.yq_inline.specs.Values.{node_of}
+use Rattle.yq_nodes.specs.Values.{node_of}
 use Rattle.yq_program.specs.declared.program.Step as step
 use Rattle.yq_program.specs.declared.program.Operand as operand
 use Rattle.yq_program.specs.declared.program.Condition as condition

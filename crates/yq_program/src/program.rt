@@ -6,7 +6,7 @@ ghost use Rattle.yq_program.specs.View.{program_of, step_of};
 
 use std::marker::Model;
 use yq_flow_scalars::Scalar;
-use yq_inline::Value;
+use yq_nodes::Value;
 
 /// A program, known by its syntax tree. Each literal is a value as it may be written.
 #[derive(Debug, Drop)]
@@ -16,7 +16,7 @@ pub struct Program {
 
 impl Model for Program {
     ghost use Rattle.std.specs.Coded.{codes};
-    ghost use Rattle.yq_inline.specs.contracts.value.Value as value;
+    ghost use Rattle.yq_nodes.specs.contracts.value.Value as value;
     ghost use Rattle.yq_program.specs.Program as spec;
     ghost use Rattle.yq_program.specs.View.{program_of};
     ghost use Rattle.yq_program.specs.declared.program.Syntax.{Syntax};
@@ -152,7 +152,7 @@ pub fn is_index(step: &Step) -> bool
 }
 
 /// Whether each step leads to one item or value at most.
-pub(crate) fn is_simple(steps: &[Step]) -> bool
+pub fn is_simple(steps: &[Step]) -> bool
     ensures { result ≡ list_all (λ s. spec.is_single (step_of s)) steps.now }
 {
     steps.iter().all(|step| is_single(step))
@@ -160,7 +160,7 @@ pub(crate) fn is_simple(steps: &[Step]) -> bool
 
 impl Program {
     /// The program of a syntax tree whose literals are values.
-    pub(crate) fn new(syntax: Syntax) -> Program
+    pub fn new(syntax: Syntax) -> Program
         requires { spec.LiteralsHold (program_of syntax) }
         ensures { result ≡ syntax }
     {

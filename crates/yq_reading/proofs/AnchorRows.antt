@@ -4,26 +4,26 @@ use Rattle.std.proofs.lemmas.Bool.{false≢true, cond_both}
 use Rattle.std.proofs.lemmas.Option.{same_Some}
 use Rattle.std.specs.List.{slice_get}
 use Rattle.std.specs.Prelude.{is_none}
-use Rattle.yq_scalar.specs.declared.block_header.BlockStyle.{BlockStyle}
-use Rattle.yq_scalar.specs.declared.block_header.BlockStyle.TheVariants as styles
-use Rattle.yq_scalar.specs.Block.{mark_of as block_mark}
+use Rattle.yq_block_scalars.specs.declared.block_header.BlockStyle.{BlockStyle}
+use Rattle.yq_block_scalars.specs.declared.block_header.BlockStyle.TheVariants as styles
+use Rattle.yq_block_scalars.specs.Block.{mark_of as block_mark}
 use Rattle.yq_flow_scalars.specs.Piece.{deeper}
 use Rattle.yq_flow_scalars.specs.Text.{is_empty}
 use Rattle.yq_flow_scalars.specs.Tree as tree
-use Rattle.yq_inline.specs.Inline.{depth_limit}
-use Rattle.yq_inline.specs.Nodes.{Node, empty, alias, scalar, coll, anchored, node_text, items_text, IsNode, first_is}
-use Rattle.yq_inline.specs.Scalars.{IsScalarAt, begins_scalar}
-use Rattle.yq_inline.specs.Trees.{collection, items_tree, node_head, tree_of}
-use Rattle.yq_inline.proofs.NodeAgain.{is_anchored, takes_unanchored}
-use Rattle.yq_inline.proofs.PieceLaws.{front_not, scalar_begins}
+use Rattle.yq_nodes.specs.Inline.{depth_limit}
+use Rattle.yq_nodes.specs.Nodes.{Node, empty, alias, scalar, coll, anchored, node_text, items_text, IsNode, first_is}
+use Rattle.yq_nodes.specs.Scalars.{IsScalarAt, begins_scalar}
+use Rattle.yq_nodes.specs.Trees.{collection, items_tree, node_head, tree_of}
+use Rattle.yq_nodes.proofs.NodeAgain.{is_anchored, takes_unanchored}
+use Rattle.yq_nodes.proofs.PieceLaws.{front_not, scalar_begins}
 use Rattle.yq_lines.specs.LinesReading.{is_free, is_no_alias, may_take}
 use Rattle.yq_lines.specs.Outline.{Mark, Bare, Key, Dash, Line}
 use Rattle.yq_lines.specs.Positions.{is_bare}
-use Rattle.yq_rows.specs.Grammar.{IsContent}
-use Rattle.yq_rows.specs.Rows as rows
-use Rattle.yq_rows.specs.Rows.{Content, Nothing, Inline, Block, Row}
-use Rattle.yq_rows.specs.View.{anchor_cut, content_cut}
-use Rattle.yq_walk.specs.Lines.{content_anchor, head_of, lines_from, row_lines}
+use Rattle.yq_cut.specs.Grammar.{IsContent}
+use Rattle.yq_cut.specs.Rows as rows
+use Rattle.yq_cut.specs.Rows.{Content, Nothing, Inline, Block, Row}
+use Rattle.yq_cut.specs.View.{anchor_cut, content_cut}
+use Rattle.yq_row_lines.specs.Lines.{content_anchor, head_of, lines_from, row_lines}
 use Rattle.yq_documents.specs.RowReading.{name_in}
 
 -- whether a row has an anchor

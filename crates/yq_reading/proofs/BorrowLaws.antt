@@ -6,8 +6,8 @@ use Rattle.yq_flow_scalars.specs.ContentReading.{quoted_content}
 use Rattle.yq_flow_scalars.specs.Plain.{holds_break}
 use Rattle.yq_flow_scalars.specs.Quoted.{IsQuotedText}
 use Rattle.yq_flow_scalars.specs.Text.{is_empty, is_feed}
-use Rattle.yq_inline.specs.Nodes.{first_is}
-use Rattle.yq_inline.specs.Scalars.{content_of, is_quoted}
+use Rattle.yq_nodes.specs.Nodes.{first_is}
+use Rattle.yq_nodes.specs.Scalars.{content_of, is_quoted}
 use Rattle.yq_lines.proofs.OneLine.{kept, borrowed_quoted}
 use Rattle.yq_documents.specs.FlowReading.{head_flow_at}
 use Rattle.yq_documents.specs.Decoded.{borrowed_head, borrowed_text}

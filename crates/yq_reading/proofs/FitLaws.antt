@@ -4,29 +4,29 @@ use Rattle.std.proofs.lemmas.Bool.{false≢true, cond_both}
 use Rattle.std.proofs.lemmas.List.Folds.{list_any-append}
 use Rattle.std.proofs.lemmas.Option.{same_Some}
 use Rattle.std.specs.List.{slice_get}
-use Rattle.yq_scalar.specs.declared.block_header.BlockStyle.{BlockStyle}
-use Rattle.yq_scalar.specs.declared.block_header.BlockStyle.TheVariants as styles
-use Rattle.yq_scalar.specs.Block.{mark_of}
+use Rattle.yq_block_scalars.specs.declared.block_header.BlockStyle.{BlockStyle}
+use Rattle.yq_block_scalars.specs.declared.block_header.BlockStyle.TheVariants as styles
+use Rattle.yq_block_scalars.specs.Block.{mark_of}
 use Rattle.yq_flow_scalars.specs.Piece.{deeper}
 use Rattle.yq_flow_scalars.specs.Plain.{holds_break}
 use Rattle.yq_flow_scalars.specs.Text.{is_empty, is_feed}
-use Rattle.yq_inline.specs.Inline.{depth_limit}
-use Rattle.yq_inline.specs.Nodes.{Node, empty, alias, scalar, coll, anchored, node_text, items_text, IsNode}
-use Rattle.yq_inline.specs.Scalars.{IsScalarAt, is_quoted, begins_scalar}
-use Rattle.yq_inline.proofs.NodeAgain.{is_anchored, takes_unanchored}
-use Rattle.yq_inline.proofs.PieceLaws.{front_not, scalar_begins, scalar_some}
-use Rattle.yq_rows.specs.Grammar.{Limit, AreRows, IsRow, IsMark, IsContent, AreDashes, is_plain}
-use Rattle.yq_rows.specs.Rows as rows
-use Rattle.yq_rows.specs.Rows.{Content, Nothing, Inline, Block, Row, dashes_text}
-use Rattle.yq_rows.specs.View.{Slices, last_dash, colon_of, anchor_cut, content_cut, slices}
+use Rattle.yq_nodes.specs.Inline.{depth_limit}
+use Rattle.yq_nodes.specs.Nodes.{Node, empty, alias, scalar, coll, anchored, node_text, items_text, IsNode}
+use Rattle.yq_nodes.specs.Scalars.{IsScalarAt, is_quoted, begins_scalar}
+use Rattle.yq_nodes.proofs.NodeAgain.{is_anchored, takes_unanchored}
+use Rattle.yq_nodes.proofs.PieceLaws.{front_not, scalar_begins, scalar_some}
+use Rattle.yq_cut.specs.Grammar.{Limit, AreRows, IsRow, IsMark, IsContent, AreDashes, is_plain}
+use Rattle.yq_cut.specs.Rows as rows
+use Rattle.yq_cut.specs.Rows.{Content, Nothing, Inline, Block, Row, dashes_text}
+use Rattle.yq_cut.specs.View.{Slices, last_dash, colon_of, anchor_cut, content_cut, slices}
 use Rattle.yq_documents.specs.Documents.{has_lines, is_long_plain}
 use Rattle.yq_documents.specs.Reading.{has_short_root}
 use Rattle.yq_reading.specs.FitReading.{is_plain_head, is_long}
-use Rattle.yq_rows.specs.View.{RowsView}
-use Rattle.yq_walk.specs.RowWalk.{HasRows}
-use Rattle.yq_walk.specs.declared.position.Stretch.{Stretch}
-use Rattle.yq_walk.proofs.RowLaws.{colon_some}
-use Rattle.yq_walk.proofs.WalkRows.{row_of, rows_length}
+use Rattle.yq_cut.specs.View.{RowsView}
+use Rattle.yq_row_lines.specs.RowWalk.{HasRows}
+use Rattle.yq_row_lines.specs.declared.line_position.Stretch.{Stretch}
+use Rattle.yq_row_lines.proofs.RowLaws.{colon_some}
+use Rattle.yq_row_lines.proofs.WalkRows.{row_of, rows_length}
 
 or_none : (x : Bool) → not (x || false) ≡ not x
 or_none true = refl

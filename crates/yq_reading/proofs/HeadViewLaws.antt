@@ -7,21 +7,21 @@ use Rattle.std.specs.Prelude.{is_some, option_and_then, option_map}
 use Rattle.yq_flow_scalars.specs.Scalar.{plain_of}
 use Rattle.yq_flow_scalars.specs.Text.{is_empty}
 use Rattle.yq_flow_scalars.specs.Tree.{Node}
-use Rattle.yq_inline.specs.Places.{Placed}
-use Rattle.yq_inline.specs.Scalars.{is_quoted}
-use Rattle.yq_inline.specs.Trees.{placed_tree, scalar_node}
+use Rattle.yq_nodes.specs.Places.{Placed}
+use Rattle.yq_nodes.specs.Scalars.{is_quoted}
+use Rattle.yq_nodes.specs.Trees.{placed_tree, scalar_node}
 use Rattle.yq_lines.specs.declared.line.Head as heads
 use Rattle.yq_lines.specs.Outline.{Line}
 use Rattle.yq_lines.specs.Sound.{head_is_sound}
 use Rattle.yq_lines.specs.View.{head_flow, head_view}
-use Rattle.yq_rows.specs.Rows.{Row}
-use Rattle.yq_rows.specs.View.{RowsView, rows_of, slices}
-use Rattle.yq_walk.specs.Lines.{lines_of}
-use Rattle.yq_walk.specs.RowWalk.{IsLine, line_number}
-use Rattle.yq_walk.specs.declared.position.Position.{Position}
-use Rattle.yq_walk.specs.declared.position.Stretch.{Stretch}
-use Rattle.yq_walk.proofs.KnownLaws.{get_dropped}
-use Rattle.yq_walk.proofs.WalkPositions.{located}
+use Rattle.yq_cut.specs.Rows.{Row}
+use Rattle.yq_cut.specs.View.{RowsView, rows_of, slices}
+use Rattle.yq_row_lines.specs.Lines.{lines_of}
+use Rattle.yq_row_lines.specs.RowWalk.{IsLine, line_number}
+use Rattle.yq_row_lines.specs.declared.line_position.Position.{Position}
+use Rattle.yq_row_lines.specs.declared.line_position.Stretch.{Stretch}
+use Rattle.yq_row_lines.proofs.KnownLaws.{get_dropped}
+use Rattle.yq_row_lines.proofs.WalkPositions.{located}
 use Rattle.yq_documents.specs.Decoded.{borrowed_head, borrowed_text, decoded_at, decoded_or, decoded_flow, decoded_head}
 use Rattle.yq_documents.specs.RowReading.{string_head}
 use Rattle.yq_documents.specs.declared.decoded.Decoded.{Decoded}

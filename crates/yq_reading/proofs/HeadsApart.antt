@@ -3,14 +3,14 @@ use Rattle.std.proofs.Common.{◌≡◌, ℕ, ℤ, suc, ◌+◌, eqb, cond, List
 use Rattle.std.proofs.lemmas.Bool.{false≢true}
 use Rattle.yq_flow_scalars.specs.declared.kind.Kind.TheVariants.{Text}
 use Rattle.yq_flow_scalars.specs.Tree as tree
-use Rattle.yq_inline.specs.Nodes.{Node, empty, alias, scalar, coll, anchored, takes_anchor, IsNode}
-use Rattle.yq_inline.specs.Trees.{tree_of, items_tree, node_anchor, node_head}
+use Rattle.yq_nodes.specs.Nodes.{Node, empty, alias, scalar, coll, anchored, takes_anchor, IsNode}
+use Rattle.yq_nodes.specs.Trees.{tree_of, items_tree, node_anchor, node_head}
 use Rattle.yq_lines.specs.Comments.{head_comment}
-use Rattle.yq_rows.specs.Grammar.{Limit, limit_after, IsContent, AreRows}
-use Rattle.yq_rows.specs.Rows as rows
-use Rattle.yq_rows.specs.Rows.{Anchor, Content, Nothing, Inline, Row, parent_indent}
+use Rattle.yq_cut.specs.Grammar.{Limit, limit_after, IsContent, AreRows}
+use Rattle.yq_cut.specs.Rows as rows
+use Rattle.yq_cut.specs.Rows.{Anchor, Content, Nothing, Inline, Row, parent_indent}
 use Rattle.yq_flow_scalars.specs.Anchors.{IsNoAlias}
-use Rattle.yq_walk.specs.Lines.{block_anchor, content_anchor, head_of, lines_from, row_lines, lines_of}
+use Rattle.yq_row_lines.specs.Lines.{block_anchor, content_anchor, head_of, lines_from, row_lines, lines_of}
 use Rattle.yq_lines.specs.Names.{IsUnnamed, MayBeNamed, HaveHeadsApart}
 use Rattle.yq_lines.specs.Outline.{Line}
 

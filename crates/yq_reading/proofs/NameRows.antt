@@ -6,19 +6,19 @@ use Rattle.std.specs.Prelude.{option_and_then, option_map}
 use Rattle.yq_flow_scalars.specs.Anchors.{Name, with_anchor}
 use Rattle.yq_flow_scalars.specs.Scalar.{plain_of}
 use Rattle.yq_flow_scalars.specs.Text.{is_empty}
-use Rattle.yq_inline.specs.Scalars.{is_quoted}
-use Rattle.yq_inline.specs.Trees.{scalar_node}
+use Rattle.yq_nodes.specs.Scalars.{is_quoted}
+use Rattle.yq_nodes.specs.Trees.{scalar_node}
 use Rattle.yq_lines.specs.declared.line.Head as heads
 use Rattle.yq_lines.specs.Names.{head_names, line_names}
 use Rattle.yq_lines.specs.Outline.{Line}
 use Rattle.yq_lines.specs.View.{head_flow, head_view}
-use Rattle.yq_rows.specs.Rows.{Row}
-use Rattle.yq_walk.specs.Lines.{content_anchor, head_of, lines_of}
+use Rattle.yq_cut.specs.Rows.{Row}
+use Rattle.yq_row_lines.specs.Lines.{content_anchor, head_of, lines_of}
 use Rattle.yq_documents.specs.Decoded.{borrowed_head, borrowed_text, decoded_or, decoded_flow, decoded_head}
 use Rattle.yq_documents.specs.RowReading.{string_head}
 use Rattle.yq_documents.specs.declared.decoded.Decoded.{Decoded}
 use Rattle.yq_reading.specs.Named.{flow_names}
-use Rattle.yq_walk.proofs.LineNames.{names_row}
+use Rattle.yq_row_lines.proofs.LineNames.{names_row}
 use Rattle.yq_reading.proofs.RowContents.{lines_at}
 
 with-append : (a : Option (List ℕ)) (xs ys : List Name) → with_anchor a (xs ++ ys) ≡ with_anchor a xs ++ ys

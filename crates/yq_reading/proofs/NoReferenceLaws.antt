@@ -5,11 +5,11 @@ use Rattle.std.proofs.lemmas.List.Folds.{list_any-append}
 use Rattle.std.specs.List.{list_any, slice_get}
 use Rattle.yq_flow_scalars.specs.Anchors.{Name, with_anchor}
 use Rattle.yq_lines.specs.Names.{head_names, is_reference, line_names}
-use Rattle.yq_rows.specs.Rows.{Row}
-use Rattle.yq_rows.specs.View.{RowsView, slices}
-use Rattle.yq_walk.specs.Lines.{content_anchor, head_of, lines_of}
-use Rattle.yq_walk.specs.declared.position.Stretch.{Stretch}
-use Rattle.yq_walk.proofs.LineNames.{names_row}
+use Rattle.yq_cut.specs.Rows.{Row}
+use Rattle.yq_cut.specs.View.{RowsView, slices}
+use Rattle.yq_row_lines.specs.Lines.{content_anchor, head_of, lines_of}
+use Rattle.yq_row_lines.specs.declared.line_position.Stretch.{Stretch}
+use Rattle.yq_row_lines.proofs.LineNames.{names_row}
 use Rattle.yq_documents.specs.Decoded.{decoded_at, decoded_flow}
 use Rattle.yq_documents.specs.declared.decoded.Decoded.{Decoded}
 use Rattle.yq_reading.specs.Checking.{IsCheckable, decoded_refers, some_refer}

@@ -7,10 +7,10 @@ use Rattle.std.specs.List.{slice_get}
 use Rattle.std.specs.Prelude.{option_map}
 use Rattle.yq_lines.specs.Comments.{head_comment}
 use Rattle.yq_lines.proofs.Parts.{drop_at}
-use Rattle.yq_rows.specs.Grammar.{begins_document}
-use Rattle.yq_rows.specs.Rows.{Row, Part, Cut, last, marked}
-use Rattle.yq_rows.specs.Splices.{first_gap as gap_of}
-use Rattle.yq_rows.specs.View.{Bound, Slices, slices, bounds_from, rows_of, RowsView}
+use Rattle.yq_cut.specs.Grammar.{begins_document}
+use Rattle.yq_cut.specs.Rows.{Row, Part, Cut, last, marked}
+use Rattle.yq_cut.specs.Splices.{first_gap as gap_of}
+use Rattle.yq_cut.specs.View.{Bound, Slices, slices, bounds_from, rows_of, RowsView}
 use Rattle.yq_documents.specs.Documents.{begins_bare, has_begin, parts_from}
 use Rattle.yq_documents.specs.PartReading.{first_rows, some_begin}
 use Rattle.yq_documents.specs.Reading.{cut_of}

@@ -8,14 +8,14 @@ use Rattle.std.specs.Prelude.{is_some}
 use Rattle.yq_lines.specs.Outline.{Mark, Bare, Key, Dash, Line, key_of, level, rank}
 use Rattle.yq_lines.specs.Positions.{is_bare}
 use Rattle.yq_flow_scalars.specs.Paths.{is_item}
-use Rattle.yq_inline.specs.Scalars.{content_of}
-use Rattle.yq_walk.specs.Lines.{lines_of}
-use Rattle.yq_rows.specs.View.{Slices, slices, RowsView}
-use Rattle.yq_walk.specs.RowWalk.{HasRows, IsLine, IsPosition, line_level, line_number, line_rank}
-use Rattle.yq_walk.specs.declared.position.Position.{Position}
-use Rattle.yq_walk.specs.declared.position.Stretch.{Stretch}
-use Rattle.yq_walk.proofs.WalkMarks.{item_agrees, key_here}
-use Rattle.yq_walk.proofs.WalkPositions.{deeper_agrees, end_agrees, line_position, located}
+use Rattle.yq_nodes.specs.Scalars.{content_of}
+use Rattle.yq_row_lines.specs.Lines.{lines_of}
+use Rattle.yq_cut.specs.View.{Slices, slices, RowsView}
+use Rattle.yq_row_lines.specs.RowWalk.{HasRows, IsLine, IsPosition, line_level, line_number, line_rank}
+use Rattle.yq_row_lines.specs.declared.line_position.Position.{Position}
+use Rattle.yq_row_lines.specs.declared.line_position.Stretch.{Stretch}
+use Rattle.yq_row_lines.proofs.WalkMarks.{item_agrees, key_here}
+use Rattle.yq_row_lines.proofs.WalkPositions.{deeper_agrees, end_agrees, line_position, located}
 use Rattle.yq_documents.specs.declared.decoded.Decoded.{Decoded}
 use Rattle.yq_reading.specs.Ahead.{IsAhead}
 use Rattle.yq_reading.specs.Checking.{IsReached}

@@ -1,12 +1,12 @@
 -- What is told of the rows of a document that is checked.
 use Rattle.std.proofs.Common.{◌≡◌, ℕ, ◌<◌, ◌≤◌, List, length, Some, refl, sym, ap, ◌∙◌, arith}
 use Rattle.std.specs.List.{slice_get}
-use Rattle.yq_inline.specs.Scalars.{content_of}
-use Rattle.yq_rows.specs.Rows.{Row}
-use Rattle.yq_rows.specs.View.{Slices, slices, RowsView, rows_of}
-use Rattle.yq_walk.specs.RowWalk.{HasRows, IsLine, IsPosition}
-use Rattle.yq_walk.specs.declared.position.Position.{Position}
-use Rattle.yq_walk.specs.declared.position.Stretch.{Stretch}
+use Rattle.yq_nodes.specs.Scalars.{content_of}
+use Rattle.yq_cut.specs.Rows.{Row}
+use Rattle.yq_cut.specs.View.{Slices, slices, RowsView, rows_of}
+use Rattle.yq_row_lines.specs.RowWalk.{HasRows, IsLine, IsPosition}
+use Rattle.yq_row_lines.specs.declared.line_position.Position.{Position}
+use Rattle.yq_row_lines.specs.declared.line_position.Stretch.{Stretch}
 use Rattle.yq_documents.specs.Decoded.{IsDecodedBy, decoded_at, decoded_key}
 use Rattle.yq_documents.specs.declared.decoded.Decoded.{Decoded}
 use Rattle.yq_reading.specs.Checking.{IsCheckable}

@@ -1,18 +1,18 @@
 -- What a row's key begins with tells what it spells.
 use Rattle.std.proofs.Common.{◌≡◌, ℕ, true, false, List, [], ◌++◌, Some, refl, sym, ap, ◌∙◌, subst}
 use Rattle.std.specs.List.{slice_get}
-use Rattle.yq_inline.specs.Scalars.{content_of, is_quoted}
+use Rattle.yq_nodes.specs.Scalars.{content_of, is_quoted}
 use Rattle.yq_lines.proofs.OneLine.{kept as stands}
-use Rattle.yq_rows.specs.Exchange.{behind_row, rows_behind}
-use Rattle.yq_rows.specs.Grammar.{IsMark}
-use Rattle.yq_rows.specs.Rows as rows
-use Rattle.yq_rows.specs.Rows.{Content, Row, content_text}
-use Rattle.yq_rows.specs.View.{Slices, RowsView, key_of, rows_of, slices}
-use Rattle.yq_rows.proofs.KeyLines.{key_line}
-use Rattle.yq_rows.proofs.PlaceLaws.{RowIn, row_in}
+use Rattle.yq_cut.specs.Exchange.{behind_row, rows_behind}
+use Rattle.yq_cut.specs.Grammar.{IsMark}
+use Rattle.yq_cut.specs.Rows as rows
+use Rattle.yq_cut.specs.Rows.{Content, Row, content_text}
+use Rattle.yq_cut.specs.View.{Slices, RowsView, key_of, rows_of, slices}
+use Rattle.yq_cut.proofs.KeyLines.{key_line}
+use Rattle.yq_cut.proofs.PlaceLaws.{RowIn, row_in}
 use Rattle.yq_flow_scalars.specs.Quoted.{IsQuotedText}
-use Rattle.yq_walk.specs.declared.position.Stretch.{Stretch}
-use Rattle.yq_walk.proofs.RowLaws.{mark_quoted}
+use Rattle.yq_row_lines.specs.declared.line_position.Stretch.{Stretch}
+use Rattle.yq_row_lines.proofs.RowLaws.{mark_quoted}
 use Rattle.yq_documents.specs.declared.decoded.Decoded.{Decoded}
 use Rattle.yq_reading.specs.Checking.{IsCheckable}
 use Rattle.yq_reading.proofs.LineLevelLaws.{row_there}

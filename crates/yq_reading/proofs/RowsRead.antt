@@ -14,26 +14,26 @@ use Rattle.yq_flow_scalars.specs.Text.{is_empty}
 use Rattle.yq_flow_scalars.specs.Tree as trees
 use Rattle.yq_flow_scalars.specs.declared.fault.ReadError.{ReadError}
 use Rattle.yq_flow_scalars.specs.declared.fault.ReadError.TheVariants as errors
-use Rattle.yq_inline.specs.Scalars.{content_of, is_quoted}
+use Rattle.yq_nodes.specs.Scalars.{content_of, is_quoted}
 use Rattle.yq_lines.specs.declared.line.Head.{Head}
 use Rattle.yq_lines.specs.View.{head_flow, head_view}
-use Rattle.yq_rows.specs.Exchange.{before_content, behind_row, rows_behind}
-use Rattle.yq_rows.specs.Grammar.{IsMark}
-use Rattle.yq_rows.specs.Rows as rows
-use Rattle.yq_rows.specs.Rows.{Row, Cut, parent_indent}
-use Rattle.yq_rows.specs.View.{Slices, colon_of, key_of, slices, rows_of, RowsView}
-use Rattle.yq_rows.proofs.PlaceLaws.{RowIn, place, row_in}
-use Rattle.yq_rows.proofs.SliceLaws.{content_slices}
+use Rattle.yq_cut.specs.Exchange.{before_content, behind_row, rows_behind}
+use Rattle.yq_cut.specs.Grammar.{IsMark}
+use Rattle.yq_cut.specs.Rows as rows
+use Rattle.yq_cut.specs.Rows.{Row, Cut, parent_indent}
+use Rattle.yq_cut.specs.View.{Slices, colon_of, key_of, slices, rows_of, RowsView}
+use Rattle.yq_cut.proofs.PlaceLaws.{RowIn, place, row_in}
+use Rattle.yq_cut.proofs.SliceLaws.{content_slices}
 use Rattle.yq_documents.specs.FlowReading.{head_flow_at, row_flow}
 use Rattle.yq_documents.specs.KeyReading.{EndsIn}
 use Rattle.yq_documents.specs.Decoded.{borrowed_head, borrowed_text}
 use Rattle.yq_documents.specs.Reading.{content_is_fit, cut_of, mark_is_fit}
 use Rattle.yq_documents.specs.RowReading.{head_at}
-use Rattle.yq_walk.specs.Lines.{head_of}
+use Rattle.yq_row_lines.specs.Lines.{head_of}
 use Rattle.yq_documents.proofs.HeadLaws.{fitting, head_is, head_text}
 use Rattle.yq_documents.proofs.RowFlowLaws.{flow_is}
 use Rattle.yq_documents.proofs.RowLineLaws.{content_quoted}
-use Rattle.yq_walk.proofs.RowLaws.{colon_some, mark_quoted}
+use Rattle.yq_row_lines.proofs.RowLaws.{colon_some, mark_quoted}
 use Rattle.yq_lines.proofs.OneLine.{kept}
 use Rattle.yq_reading.specs.Checking.{borrows_head, borrows_text}
 use Rattle.yq_reading.specs.Deciding.{Denies}

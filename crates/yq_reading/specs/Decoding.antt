@@ -1,14 +1,14 @@
 -- Reading (own; a reader may skip it): what is made of the rows of a text.
 use Rattle.std.specs.Prelude.{◌≡◌, ℕ, List, [], ◌∷◌, length, slice_get, Option, Some, None, String, option_and_then, option_map, string_bytes}
 use Rattle.std.specs.declared.alloc.Global.{Global}
-use Rattle.yq_inline.specs.Scalars.{content_of}
+use Rattle.yq_nodes.specs.Scalars.{content_of}
 use Rattle.yq_lines.specs.declared.line.Head.{Head}
 use Rattle.yq_lines.specs.View.{head_flow, head_view}
-use Rattle.yq_rows.specs.Exchange.{behind_row}
-use Rattle.yq_rows.specs.Grammar.{IsCut}
-use Rattle.yq_rows.specs.Rows.{Row}
-use Rattle.yq_rows.specs.View.{rows_of, slices, RowsView, rows_view}
-use Rattle.yq_walk.specs.Lines.{head_of}
+use Rattle.yq_cut.specs.Exchange.{behind_row}
+use Rattle.yq_cut.specs.Grammar.{IsCut}
+use Rattle.yq_cut.specs.Rows.{Row}
+use Rattle.yq_cut.specs.View.{rows_of, slices, RowsView, rows_view}
+use Rattle.yq_row_lines.specs.Lines.{head_of}
 use Rattle.yq_documents.specs.FlowReading.{row_flow}
 use Rattle.yq_documents.specs.Decoded.{IsDecoded, Rise, borrowed_head, borrowed_text, decoded_or}
 use Rattle.yq_documents.specs.Reading.{cut_of}

@@ -3,9 +3,9 @@ use Rattle.std.specs.Prelude.{Bool, ◌||◌, ◌&&◌, not, List, ℕ, codes}
 use Rattle.std.specs.Str.{bytes_eq}
 use Rattle.yq_flow_scalars.specs.Plain.{holds_break}
 use Rattle.yq_flow_scalars.specs.Text.{is_empty}
-use Rattle.yq_inline.specs.Nodes.{first_is}
-use Rattle.yq_inline.specs.Scalars.{is_quoted}
-use Rattle.yq_rows.specs.View.{Slices}
+use Rattle.yq_nodes.specs.Nodes.{first_is}
+use Rattle.yq_nodes.specs.Scalars.{is_quoted}
+use Rattle.yq_cut.specs.View.{Slices}
 use Rattle.yq_documents.specs.RowReading.{is_block_head}
 
 -- a plain scalar, among heads (own)

@@ -1,7 +1,7 @@
 -- Reading (own; a reader may skip it): the anchors and aliases of the code.
 use Rattle.std.specs.Prelude.{List, [], map, Option, Some, None}
-use Rattle.yq_inline.specs.Places.{Placed}
-use Rattle.yq_inline.specs.Trees.{placed_tree}
+use Rattle.yq_nodes.specs.Places.{Placed}
+use Rattle.yq_nodes.specs.Trees.{placed_tree}
 use Rattle.yq_flow_scalars.specs.Anchors.{Name, Anchors, Refers, names_of}
 use Rattle.yq_reading.specs.declared.names.Name as declared
 

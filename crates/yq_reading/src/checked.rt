@@ -1,20 +1,21 @@
 //! A document whose rows are checked.
 ghost use Rattle.std.specs.Prelude.{◌≡◌, ◌≢◌, ◌<◌, Some, length, slice_get};
 ghost use Rattle.yq_flow_scalars.specs.declared.fault.FaultKind.TheVariants.{NotUtf8};
-ghost use Rattle.yq_inline.specs.Scalars.{content_of};
+ghost use Rattle.yq_nodes.specs.Scalars.{content_of};
 ghost use Rattle.yq_lines.specs.Bodies.{borrowed};
 ghost use Rattle.yq_lines.specs.Outline as outline;
-ghost use Rattle.yq_rows.specs.View.{Slices};
-ghost use Rattle.yq_walk.specs.RowWalk.{IsLine, OfLine};
+ghost use Rattle.yq_cut.specs.View.{Slices};
+ghost use Rattle.yq_row_lines.specs.RowWalk.{IsLine, OfLine};
 ghost use Rattle.yq_reading.specs.Ahead.{IsAhead};
 ghost use Rattle.yq_reading.specs.Checking.{IsChecked};
 
 use crate::ahead::{ahead_from, decoded_here};
+use yq_cut::Rows;
 use yq_documents::{Decoded, decoded_key, fault_at};
 use yq_flow_scalars::{FaultKind, ReadFault};
-use yq_inline::pieces::is_quoted;
-use yq_rows::Rows;
-use yq_walk::{Position, Stretch, rank_at};
+use yq_nodes::is_quoted;
+use yq_row_lines::{Position, Stretch};
+use yq_walk::rank_at;
 
 /// A document of a text whose rows are cut, with what is made of these.
 #[derive(Clone, Copy, Debug)]

@@ -3,9 +3,9 @@ ghost use Rattle.std.specs.List.{list_any};
 ghost use Rattle.std.specs.Prelude.{◌≡◌, ◌<◌, ◌++◌, ◌==◌, if◌then◌else◌, length, option_and_then, option_map, string_bytes, true, IfErr, IfOk, IfSome};
 ghost use Rattle.yq_flow_scalars.specs.Answers.{IsOfText};
 ghost use Rattle.yq_flow_scalars.specs.Quoted.{IsQuotedText};
-ghost use Rattle.yq_inline.specs.Scalars.{is_quoted as is_in_quotes};
+ghost use Rattle.yq_nodes.specs.Scalars.{is_quoted as is_in_quotes};
 ghost use Rattle.yq_lines.specs.View.{head_flow, head_view};
-ghost use Rattle.yq_rows.specs.View.{rows_of};
+ghost use Rattle.yq_cut.specs.View.{rows_of};
 ghost use Rattle.yq_documents.specs.Decoded.{IsDecodedBy};
 ghost use Rattle.yq_documents.specs.Reading.{content_is_fit, cut_of, have_fit_keys, mark_is_fit};
 ghost use Rattle.yq_documents.specs.RowReading.{row_fits};
@@ -16,13 +16,14 @@ ghost use Rattle.yq_reading.specs.Decoding.{AreDecoded, IsCutInto, IsHeadDecoded
 use crate::fit::key_fits;
 use crate::nested::flow_decoded;
 use std::alloc::{AllocError, Global};
-use yq_documents::{Decoded, borrowed_text, fault_at, node_refers, read_head};
-use yq_flow_scalars::folding::quoted_content;
-use yq_flow_scalars::plain::holds_break;
+use yq_cut::Rows;
+use yq_documents::{Decoded, borrowed_text, fault_at, node_refers};
+use yq_flow_reading::folding::quoted_content;
+use yq_flow_reading::plain::holds_break;
 use yq_flow_scalars::{FaultKind, ReadError};
-use yq_inline::pieces::{first_is, is_quoted};
+use yq_heads::read_head;
 use yq_lines::Head;
-use yq_rows::Rows;
+use yq_nodes::{first_is, is_quoted};
 use yq_walk::head_place;
 
 /// Whether a backslash stands in what is between double quotes, or a quote between single ones.

@@ -1,6 +1,6 @@
 //! The anchors and aliases of a document, in the order of the text.
 ghost use Rattle.std.specs.Prelude.{◌≡◌, ◌++◌, option_map, IfOk, OnOk};
-ghost use Rattle.yq_inline.specs.View.{view};
+ghost use Rattle.yq_nodes.specs.View.{view};
 ghost use Rattle.yq_lines.specs.Names.{line_names};
 ghost use Rattle.yq_reading.specs.Checking.{IsChecked, OfChecked};
 ghost use Rattle.yq_reading.specs.Named.{all_named, flow_names};
@@ -11,7 +11,7 @@ use crate::names::{Name, push_anchor, push_node};
 use crate::nested::row_flow;
 use std::alloc::{AllocError, Global};
 use yq_documents::anchor_name;
-use yq_inline::Inline;
+use yq_nodes::Inline;
 
 /// Adds the names in an alias or flow collection, if there is one.
 fn push_flow<'t>(names: &mut Vec<Name<'t>>, flow: Option<&Inline<'t>>) -> Result<(), AllocError>

@@ -1,15 +1,15 @@
 //! What is asked of the rows of a document, row by row.
 ghost use Rattle.std.specs.Prelude.{◌≡◌};
-ghost use Rattle.yq_rows.specs.View.{view as row_view};
+ghost use Rattle.yq_cut.specs.View.{view as row_view};
 ghost use Rattle.yq_reading.specs.FitReading as spec;
-ghost use Rattle.yq_walk.specs.RowWalk.{HasRows};
+ghost use Rattle.yq_row_lines.specs.RowWalk.{HasRows};
 ghost use Rattle.yq_documents.specs.Reading as reading;
 
+use yq_cut::{Row, Rows};
 use yq_documents::is_block_head;
-use yq_flow_scalars::plain::holds_break;
-use yq_inline::pieces::{first_is, is_quoted};
-use yq_rows::{Row, Rows};
-use yq_walk::Stretch;
+use yq_flow_reading::plain::holds_break;
+use yq_nodes::{first_is, is_quoted};
+use yq_row_lines::Stretch;
 
 /// Whether a head is a plain scalar.
 fn is_plain(head: &str) -> bool

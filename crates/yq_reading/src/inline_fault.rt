@@ -2,8 +2,8 @@
 ghost use Rattle.std.specs.Prelude.{◌&&◌, Some, IfErr};
 ghost use Rattle.yq_flow_scalars.specs.Answers.{IsOfText};
 ghost use Rattle.yq_flow_scalars.specs.Keys.{are_distinct, keys_of};
-ghost use Rattle.yq_inline.specs.Trees.{parts_tree, placed_tree};
-ghost use Rattle.yq_inline.specs.View.{entries_end, items_end, view};
+ghost use Rattle.yq_nodes.specs.Trees.{parts_tree, placed_tree};
+ghost use Rattle.yq_nodes.specs.View.{entries_end, items_end, view};
 ghost use Rattle.yq_lines.specs.Sound as spec;
 ghost use Rattle.yq_reading.specs.Deciding.{Decides};
 
@@ -11,9 +11,9 @@ use crate::keys::Keys;
 use std::alloc::{AllocError, Global};
 use std::collections::BTreeMap;
 use yq_documents::fault_at;
+use yq_flow_reading::are_distinct;
 use yq_flow_scalars::{FaultKind, Piece, ReadError};
-use yq_inline::{Form, Inline};
-use yq_scalar::are_distinct;
+use yq_nodes::{Form, Inline};
 
 /// An inline node of a text, in which at most so many collections may be nested.
 #[cycle(nested)]

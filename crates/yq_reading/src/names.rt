@@ -1,13 +1,13 @@
 //! The anchors and aliases in flow nodes, in the order of the text.
 ghost use Rattle.std.specs.Prelude.{◌≡◌, ◌++◌, [], option_map, OnOk};
-ghost use Rattle.yq_inline.specs.Trees.{parts_tree, placed_tree};
-ghost use Rattle.yq_inline.specs.View as inline;
+ghost use Rattle.yq_nodes.specs.Trees.{parts_tree, placed_tree};
+ghost use Rattle.yq_nodes.specs.View as inline;
 ghost use Rattle.yq_flow_scalars.specs.Anchors as spec;
 ghost use Rattle.yq_reading.specs.Named.{all_named};
 
 use std::alloc::AllocError;
 use yq_flow_scalars::Piece;
-use yq_inline::{Form, Inline};
+use yq_nodes::{Form, Inline};
 
 /// An anchor, or an alias, by its name; of an alias, the byte of the text where it begins.
 #[derive(Clone, Copy, Debug, PartialEq, Eq)]

@@ -1,9 +1,9 @@
 //! What is asked of a head: how deep collections are nested in it, and the keys of each.
 ghost use Rattle.std.specs.Prelude.{◌≡◌, List, option_map, IfErr, Some};
 ghost use Rattle.yq_flow_scalars.specs.Answers.{IsOfText};
-ghost use Rattle.yq_inline.specs.View.{view};
+ghost use Rattle.yq_nodes.specs.View.{view};
 ghost use Rattle.yq_lines.specs.Sound as spec;
-ghost use Rattle.yq_walk.specs.RowWalk.{IsLine};
+ghost use Rattle.yq_row_lines.specs.RowWalk.{IsLine};
 ghost use Rattle.yq_documents.specs.Decoded.{decoded_at, decoded_flow};
 ghost use Rattle.yq_documents.specs.declared.decoded.Decoded.{Decoded as DecodedOf};
 ghost use Rattle.yq_reading.specs.Ahead.{IsAhead};
@@ -17,8 +17,8 @@ use crate::reached::Reached;
 use std::alloc::Global;
 use yq_documents::Decoded;
 use yq_flow_scalars::ReadError;
-use yq_inline::Inline;
 use yq_lines::Head;
+use yq_nodes::Inline;
 use yq_walk::has_head;
 
 /// The alias or flow collection that is made of a row, if one is.

@@ -1,12 +1,12 @@
 //! Where the documents of a text stand among its rows.
 ghost use Rattle.std.specs.Prelude.{◌≡◌, ◌++◌, ◌||◌, not, IfOk};
-ghost use Rattle.yq_rows.specs.View.{bound_view};
+ghost use Rattle.yq_cut.specs.View.{bound_view};
 ghost use Rattle.yq_documents.specs.PartReading.{first_rows, some_begin};
 ghost use Rattle.yq_reading.specs.Places as spec;
 
 use std::alloc::{AllocError, Global};
+use yq_cut::{Bound, Rows, begins_document};
 use yq_documents::{DocumentRows, first_is_document};
-use yq_rows::{Bound, Rows, begins_document};
 
 /// The gap before the first row of a part, or that behind its rows where it has none.
 fn first_gap<'t>(rows: &Rows<'t>, from: usize, bound: Bound<'t>) -> &'t str

@@ -1,9 +1,9 @@
 //! A text that is cut into rows, read as documents.
 ghost use Rattle.std.specs.Prelude.{◌≡◌, IfErr, IfOk};
 ghost use Rattle.yq_flow_scalars.specs.Answers.{IsOfText};
-ghost use Rattle.yq_rows.specs.Grammar.{IsCut};
-ghost use Rattle.yq_rows.specs.Rows.{Cut};
-ghost use Rattle.yq_rows.specs.View.{rows_view};
+ghost use Rattle.yq_cut.specs.Grammar.{IsCut};
+ghost use Rattle.yq_cut.specs.Rows.{Cut};
+ghost use Rattle.yq_cut.specs.View.{rows_view};
 ghost use Rattle.yq_documents.specs.Documents.{document_parts};
 ghost use Rattle.yq_documents.specs.Reading.{all_documents, cut_of};
 ghost use Rattle.yq_reading.specs.Checking.{some_refer};
@@ -16,10 +16,10 @@ use crate::decoding::{decode_rows, some_refer};
 use crate::document::check_document;
 use crate::parts::document_rows;
 use std::alloc::Global;
+use yq_cut::Rows;
 use yq_documents::{Decoded, DocumentRows, ReadText};
 use yq_flow_scalars::ReadError;
-use yq_rows::Rows;
-use yq_walk::Stretch;
+use yq_row_lines::Stretch;
 
 /// The documents of a text, each checked by its rows. Whether an alias may stand in them is known.
 fn check_documents<'t>(

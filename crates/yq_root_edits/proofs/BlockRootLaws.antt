@@ -1,18 +1,18 @@
 -- Where the block collection stands that is the root of a document.
 use Rattle.std.proofs.Common.{◌≡◌, ◌⊎◌, inl, inr, ℕ, List, [], ◌∷◌, ◌++◌, replicate, Some, None, true, false, refl, sym, ap, ◌∙◌, subst, append_assoc, append-nil}
 use Rattle.std.proofs.lemmas.Bool.{false≢true}
-use Rattle.yq_scalar.specs.declared.block_written.Break.TheVariants as breaks
+use Rattle.yq_block_scalars.specs.declared.block_types.Break.TheVariants as breaks
 use Rattle.yq_flow_scalars.specs.Text.{separates}
-use Rattle.yq_scalar.proofs.BlockPieceLaws.{IsLf, append_lf}
+use Rattle.yq_block_scalars.proofs.BlockPieceLaws.{IsLf, append_lf}
 use Rattle.yq_lines.specs.Comments.{head_comment, line_comment}
-use Rattle.yq_rows.specs.Gap.{IsGap}
-use Rattle.yq_rows.specs.Grammar.{IsCut, IsTail, unlimited, AreRows, no_rows, ends_part}
-use Rattle.yq_rows.specs.Rows.{Row, behind_gap, behind_indent, rows_text, Cut, cut_text}
-use Rattle.yq_rows.specs.Splices.{first_gap}
-use Rattle.yq_rows.proofs.NothingLaws.{gap_other}
-use Rattle.yq_rows.proofs.seams.FrontSeams.{behind_row_some}
-use Rattle.yq_rows.proofs.splices.PartPlaces.{part_ends}
-use Rattle.yq_walk.specs.Lines.{lines_of}
+use Rattle.yq_cut.specs.Gap.{IsGap}
+use Rattle.yq_cut.specs.Grammar.{IsCut, IsTail, unlimited, AreRows, no_rows, ends_part}
+use Rattle.yq_cut.specs.Rows.{Row, behind_gap, behind_indent, rows_text, Cut, cut_text}
+use Rattle.yq_cut.specs.Splices.{first_gap}
+use Rattle.yq_cut.proofs.NothingLaws.{gap_other}
+use Rattle.yq_cut.proofs.seams.FrontSeams.{behind_row_some}
+use Rattle.yq_cut.proofs.splices.PartPlaces.{part_ends}
+use Rattle.yq_row_lines.specs.Lines.{lines_of}
 use Rattle.yq_documents.specs.Reading.{read_at}
 use Rattle.yq_documents.specs.Ready.{begins_no_node}
 use Rattle.yq_places.specs.PlacedRows.{PlacedPart, placed_document}

@@ -3,11 +3,11 @@ use Rattle.std.proofs.Common.{◌≡◌, ◌⊎◌, inl, inr, ℕ, ◌<◌, List
 use Rattle.std.proofs.lemmas.Bool.{false≢true}
 use Rattle.yq_flow_scalars.specs.Text.{is_empty, is_line}
 use Rattle.yq_lines.specs.Positions.{is_bare}
-use Rattle.yq_rows.specs.Grammar.{IsMark}
-use Rattle.yq_rows.specs.Rows as rows
-use Rattle.yq_rows.specs.Rows.{Content, Row, behind_indent, content_text, mark_text}
-use Rattle.yq_rows.proofs.PlaceLaws.{content_then}
-use Rattle.yq_walk.specs.Lines.{lines_of, mark_of}
+use Rattle.yq_cut.specs.Grammar.{IsMark}
+use Rattle.yq_cut.specs.Rows as rows
+use Rattle.yq_cut.specs.Rows.{Content, Row, behind_indent, content_text, mark_text}
+use Rattle.yq_cut.proofs.PlaceLaws.{content_then}
+use Rattle.yq_row_lines.specs.Lines.{lines_of, mark_of}
 use Rattle.yq_documents.specs.Ready.{begins_no_node}
 use Rattle.yq_places.specs.PrintedLines.{last_break}
 use Rattle.yq_places.specs.Standings.{is_alone}
@@ -15,8 +15,8 @@ use Rattle.yq_places.proofs.CommentPieceLaws.{Ended}
 use Rattle.yq_places.proofs.LastBreakLaws.{lf_last}
 use Rattle.yq_change.proofs.FirstBreakLaws.{IsOneBreak}
 use Rattle.yq_edits.proofs.BreakLaws.{last_is}
-use Rattle.yq_rows.proofs.NothingLaws.{some_behind}
-use Rattle.yq_rows.proofs.GapLaws.{some_more}
+use Rattle.yq_cut.proofs.NothingLaws.{some_behind}
+use Rattle.yq_cut.proofs.GapLaws.{some_more}
 
 no_line : is_line [] ≡ false
 unfolding is_line

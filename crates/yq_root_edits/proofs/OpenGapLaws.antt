@@ -1,16 +1,16 @@
 -- A gap without a final break, with one behind it: it is a gap before any text, and ends in the same comment.
 use Rattle.std.proofs.Common.{◌≡◌, ◌&&◌, inl, inr, eqb, List, [], ◌∷◌, ◌++◌, ℕ, is_some, true, false, cond, refl, sym, ap, ◌∙◌, subst, append_assoc, append-nil, ⊎_elim, rules}
 use Rattle.std.proofs.lemmas.Bool.{false≢true}
-use Rattle.yq_scalar.specs.BlockWritten.{break_text}
+use Rattle.yq_block_scalars.specs.BlockWritten.{break_text}
 use Rattle.yq_flow_scalars.specs.Characters.{pairs_returns}
 use Rattle.yq_flow_scalars.specs.Text.{front, is_empty, joined, past_white}
-use Rattle.yq_scalar.specs.declared.block_written.Break.{Break}
+use Rattle.yq_block_scalars.specs.declared.block_types.Break.{Break}
 use Rattle.yq_lines.specs.Comments.{comment_text, are_comments, with_text, last_comments, head_comment}
-use Rattle.yq_rows.specs.Gap.{IsComment, IsGapLine, AreGapLines, IsGap}
-use Rattle.yq_rows.proofs.CharacterLaws.{pairs_back}
-use Rattle.yq_rows.proofs.NothingLaws.{line_end_other}
-use Rattle.yq_rows.proofs.seams.GapFronts.{gap_lines}
-use Rattle.yq_rows.proofs.GapLaws.{some_more}
+use Rattle.yq_cut.specs.Gap.{IsComment, IsGapLine, AreGapLines, IsGap}
+use Rattle.yq_cut.proofs.CharacterLaws.{pairs_back}
+use Rattle.yq_cut.proofs.NothingLaws.{line_end_other}
+use Rattle.yq_cut.proofs.seams.GapFronts.{gap_lines}
+use Rattle.yq_cut.proofs.GapLaws.{some_more}
 use Rattle.yq_change.proofs.EndLaws.{comment_is}
 use Rattle.yq_edits.specs.ClosedTexts.{is_closed_text}
 use Rattle.yq_edits.proofs.BreakLaws.{break_is as break_kind}

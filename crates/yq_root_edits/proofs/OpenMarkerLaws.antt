@@ -3,17 +3,17 @@ use Rattle.std.proofs.Common.{◌≡◌, ℕ, zero, suc, ◌≤◌, ◌||◌, no
 use Rattle.std.proofs.lemmas.Bool.{false≢true}
 use Rattle.std.specs.List.{slice_get}
 use Rattle.yq_flow_scalars.specs.Text.{is_empty}
-use Rattle.yq_rows.specs.Appending.{last_marker, with_last_part}
-use Rattle.yq_rows.specs.Grammar.{IsPart, AreParts, begins_document}
-use Rattle.yq_rows.specs.Splices.{behind_part, nth_part}
-use Rattle.yq_rows.specs.Rows.{Part, part_text, Cut, last, marked, cut_text}
-use Rattle.yq_rows.proofs.PlaceLaws.{part_then}
+use Rattle.yq_cut.specs.Appending.{last_marker, with_last_part}
+use Rattle.yq_cut.specs.Grammar.{IsPart, AreParts, begins_document}
+use Rattle.yq_cut.specs.Splices.{behind_part, nth_part}
+use Rattle.yq_cut.specs.Rows.{Part, part_text, Cut, last, marked, cut_text}
+use Rattle.yq_cut.proofs.PlaceLaws.{part_then}
 use Rattle.yq_documents.specs.Documents.{begins_bare, has_begin, with_part, parts_from, document_parts}
 use Rattle.yq_documents.specs.PartNumbers.{number_from, part_number}
 use Rattle.yq_places.specs.PlacedRows.{PlacedPart, before_part, placed_at, placed_document}
 use Rattle.yq_places.proofs.PlacedPartLaws.{part_stands}
 use Rattle.yq_change.specs.Changed.{put_document, put_part}
-use Rattle.yq_rows.specs.Items.{Item, end_item, rows_items, items_of}
+use Rattle.yq_cut.specs.Items.{Item, end_item, rows_items, items_of}
 use Rattle.yq_change.proofs.DocumentItemLaws.{rows_before}
 
 -- a document behind a text with a break more, at the end of a text

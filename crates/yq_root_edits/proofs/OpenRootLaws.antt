@@ -4,21 +4,21 @@ use Rattle.std.proofs.lemmas.Bool.{false≢true, cond-true, false_from_ne_true, 
 use Rattle.std.proofs.lemmas.Str.{is_utf8-from_IsUtf8}
 use Rattle.std.specs.List.{list_all}
 use Rattle.std.specs.Str.{chars, is_utf8}
-use Rattle.yq_scalar.specs.BlockWritten.{break_text}
+use Rattle.yq_block_scalars.specs.BlockWritten.{break_text}
 use Rattle.yq_flow_scalars.specs.Characters.{is_text, is_text_char, pairs_returns, text_limit}
 use Rattle.yq_flow_scalars.specs.Text.{is_empty, is_line}
 use Rattle.yq_flow_scalars.specs.Tree.{Node}
-use Rattle.yq_scalar.specs.declared.block_written.Break.{Break}
+use Rattle.yq_block_scalars.specs.declared.block_types.Break.{Break}
 use Rattle.yq_flow_scalars.proofs.Bools.{guard_then}
 use Rattle.yq_flow.specs.Valued.{IsValueTree}
 use Rattle.yq_lines.specs.Comments.{head_comment}
-use Rattle.yq_rows.specs.Appending.{last_marker, with_last_part, PartFits}
-use Rattle.yq_rows.specs.Gap.{IsGap}
-use Rattle.yq_rows.specs.Grammar.{IsCut}
-use Rattle.yq_rows.specs.Rows.{Row, Part, part_text, Cut, cut_text}
-use Rattle.yq_rows.proofs.CharacterLaws.{pairs_back}
-use Rattle.yq_rows.proofs.splices.MarkerLaws.{marker_appended}
-use Rattle.yq_rows.proofs.GapLaws.{some_more}
+use Rattle.yq_cut.specs.Appending.{last_marker, with_last_part, PartFits}
+use Rattle.yq_cut.specs.Gap.{IsGap}
+use Rattle.yq_cut.specs.Grammar.{IsCut}
+use Rattle.yq_cut.specs.Rows.{Row, Part, part_text, Cut, cut_text}
+use Rattle.yq_cut.proofs.CharacterLaws.{pairs_back}
+use Rattle.yq_cut.proofs.splices.MarkerLaws.{marker_appended}
+use Rattle.yq_cut.proofs.GapLaws.{some_more}
 use Rattle.yq_places.specs.PlacedRows.{PlacedPart}
 use Rattle.yq_documents.specs.Reading.{all_documents, is_document, read_at}
 use Rattle.yq_places.specs.Standings.{NoRows}
@@ -35,9 +35,9 @@ use Rattle.yq_change.proofs.TextPieceLaws.{pieces_joined}
 use Rattle.yq_meaning.specs.Operations.{replace}
 use Rattle.yq_edits.specs.ClosedTexts.{is_closed_text}
 use Rattle.yq_change.specs.Changed.{put_document}
-use Rattle.yq_rows.specs.Items.{Item, end_item, rows_items, items_of, items_text}
+use Rattle.yq_cut.specs.Items.{Item, end_item, rows_items, items_of, items_text}
 use Rattle.yq_change.specs.Replaces.{rooted}
-use Rattle.yq_rows.proofs.ItemLaws.{items_of_text, items_text-append}
+use Rattle.yq_cut.proofs.ItemLaws.{items_of_text, items_text-append}
 use Rattle.yq_script.specs.Script.{Segment, new_text, kept_front, kept_back}
 use Rattle.yq_edits.specs.Local.{IsLocal}
 use Rattle.yq_edits.specs.ReadsAfter.{ReadsAfter}

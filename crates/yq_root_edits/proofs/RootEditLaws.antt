@@ -1,11 +1,11 @@
 -- A value put in the place of a root that is a block collection, or where none is written, carries out its operation.
 use Rattle.std.proofs.Common.{arith, length-append, ◌≡◌, ◌⊎◌, inl, inr, ℕ, ◌≤◌, Bool, true, false, List, [], ◌∷◌, ◌++◌, length, replicate, Some, refl, sym, ap, ◌∙◌, subst, append_assoc, append-nil, rules}
-use Rattle.yq_scalar.specs.BlockWritten.{break_text}
+use Rattle.yq_block_scalars.specs.BlockWritten.{break_text}
 use Rattle.yq_flow_scalars.specs.Characters.{text_limit}
 use Rattle.yq_flow_scalars.specs.Paths.{Step}
 use Rattle.yq_flow_scalars.specs.Tree.{Node}
 use Rattle.yq_flow.specs.Valued.{IsValueTree}
-use Rattle.yq_rows.specs.Rows.{behind_gap, behind_indent, print_row, part_text, Cut, cut_text}
+use Rattle.yq_cut.specs.Rows.{behind_gap, behind_indent, print_row, part_text, Cut, cut_text}
 use Rattle.yq_documents.specs.Reading.{documents, read_at}
 use Rattle.yq_places.specs.RowPaths.{IsReadable}
 use Rattle.yq_places.specs.Standings.{BlockRoot, NoRows}

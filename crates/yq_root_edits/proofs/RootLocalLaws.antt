@@ -4,13 +4,13 @@ use Rattle.std.proofs.lemmas.Bool.{false≢true}
 use Rattle.std.proofs.lemmas.List.{length-append}
 use Rattle.yq_flow_scalars.specs.Tree.{Node}
 use Rattle.yq_flow.specs.Valued.{IsValueTree}
-use Rattle.yq_rows.specs.Grammar.{no_rows}
-use Rattle.yq_rows.specs.Rows.{Row, behind_gap, behind_indent, Part, part_text, Cut, cut_text}
-use Rattle.yq_rows.specs.Splices.{first_gap, with_first_gap}
+use Rattle.yq_cut.specs.Grammar.{no_rows}
+use Rattle.yq_cut.specs.Rows.{Row, behind_gap, behind_indent, Part, part_text, Cut, cut_text}
+use Rattle.yq_cut.specs.Splices.{first_gap, with_first_gap}
 use Rattle.yq_documents.specs.Documents.{document_parts}
 use Rattle.yq_change.specs.Changed.{put_document}
 use Rattle.yq_change.specs.DocumentRows.{behind_document}
-use Rattle.yq_rows.specs.Items.{end_item, rows_items}
+use Rattle.yq_cut.specs.Items.{end_item, rows_items}
 use Rattle.yq_change.specs.Replaces.{rooted}
 use Rattle.yq_block.specs.declared.layout.Layout.{Layout}
 use Rattle.yq_block.proofs.LineLaws.{BeginAt, node_begun}
@@ -20,8 +20,8 @@ use Rattle.yq_edits.proofs.ItemsLocal.{rows_last}
 use Rattle.yq_edits.proofs.LocalLaws.{above_is, h}
 use Rattle.yq_root_edits.proofs.RootRows.{lone_row, root_rows}
 use Rattle.yq_change.proofs.DocumentItemLaws.{rows_before}
-use Rattle.yq_inline.specs.Nodes as inline
-use Rattle.yq_rows.specs.Items.{Item}
+use Rattle.yq_nodes.specs.Nodes as inline
+use Rattle.yq_cut.specs.Items.{Item}
 use Rattle.std.specs.List.{slice_get}
 use Rattle.std.proofs.Common.{Some}
 

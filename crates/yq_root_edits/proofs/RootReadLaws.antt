@@ -3,20 +3,20 @@ use Rattle.std.proofs.Common.{Some, ◌≡◌, ℕ, ◌+◌, ◌≤◌, List, []
 use Rattle.std.proofs.lemmas.Bool.{false≢true}
 use Rattle.yq_flow_scalars.specs.Paths.{within}
 use Rattle.yq_flow_scalars.specs.Tree.{Node, children_of}
-use Rattle.yq_inline.specs.Inline.{depth_limit}
+use Rattle.yq_nodes.specs.Inline.{depth_limit}
 use Rattle.yq_flow.specs.Valued.{IsValueTree}
 use Rattle.yq_flow_scalars.specs.Anchors.{names_of}
 use Rattle.yq_lines.specs.Comments.{head_comment}
 use Rattle.yq_lines.specs.Group.{group}
 use Rattle.yq_lines.specs.Outline.{Line, anchored, value}
 use Rattle.yq_lines.proofs.NodeLaws.{anchored_none}
-use Rattle.yq_rows.specs.Grammar.{unlimited, AreRows, no_rows}
-use Rattle.yq_rows.specs.Rows.{Row, rows_text, Part, Cut, cut_text}
-use Rattle.yq_rows.specs.SpliceFits.{is_after}
-use Rattle.yq_rows.specs.Splices.{first_gap, marker_before}
+use Rattle.yq_cut.specs.Grammar.{unlimited, AreRows, no_rows}
+use Rattle.yq_cut.specs.Rows.{Row, rows_text, Part, Cut, cut_text}
+use Rattle.yq_cut.specs.SpliceFits.{is_after}
+use Rattle.yq_cut.specs.Splices.{first_gap, marker_before}
 use Rattle.yq_documents.specs.Documents.{Document, document_parts, lead_of}
-use Rattle.yq_walk.specs.Lines.{lines_of}
-use Rattle.yq_documents.specs.Nodes.{anchor_of}
+use Rattle.yq_row_lines.specs.Lines.{lines_of}
+use Rattle.yq_documents.specs.TreeEdits.{anchor_of}
 use Rattle.yq_places.specs.PlacedRows.{PlacedPart}
 use Rattle.yq_documents.specs.Reading as reading
 use Rattle.yq_documents.specs.Reading.{root_of, read_at}

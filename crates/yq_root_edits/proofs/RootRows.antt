@@ -8,26 +8,26 @@ use Rattle.yq_flow_scalars.specs.Plain.{ends_plain, holds_break}
 use Rattle.yq_flow_scalars.specs.Text.{is_empty, separates}
 use Rattle.yq_flow_scalars.specs.Tree as tree
 use Rattle.yq_flow_scalars.specs.Tree.{Node}
-use Rattle.yq_inline.specs.Nodes as inline
-use Rattle.yq_inline.specs.Nodes.{node_text}
+use Rattle.yq_nodes.specs.Nodes as inline
+use Rattle.yq_nodes.specs.Nodes.{node_text}
 use Rattle.yq_flow.specs.Valued.{IsValueTree}
-use Rattle.yq_inline.proofs.WrittenLaws.{node_then}
+use Rattle.yq_nodes.proofs.WrittenLaws.{node_then}
 use Rattle.yq_lines.specs.LineAnchors.{HaveOneAnchorEach}
 use Rattle.yq_lines.specs.Comments.{head_comment, line_comment}
 use Rattle.yq_lines.specs.Outline as outline
 use Rattle.yq_lines.specs.Outline.{Line, level, rank, Mark, Outline, end, row, flatten, IsEven, Stands, value}
 use Rattle.yq_lines.proofs.ByRules.{rules_give}
 use Rattle.yq_lines.proofs.NodeLaws.{anchored_none}
-use Rattle.yq_rows.specs.Gap.{IsGap}
-use Rattle.yq_rows.specs.Grammar.{is_entry, is_plain, IsTail, IsRow, unlimited, AreRows, no_rows, ends_part}
-use Rattle.yq_rows.specs.Rows as rows
-use Rattle.yq_rows.specs.Rows.{Bare, Inline, Row, behind_gap, rows_text}
-use Rattle.yq_rows.specs.Splices.{with_first_gap, with_row_gap, first_gap}
-use Rattle.yq_rows.proofs.PlainEnds.{tail_ends, gap_line}
-use Rattle.yq_rows.proofs.seams.FrontSeams.{behind_row_some}
-use Rattle.yq_rows.proofs.seams.SeamLaws.{part_line}
+use Rattle.yq_cut.specs.Gap.{IsGap}
+use Rattle.yq_cut.specs.Grammar.{is_entry, is_plain, IsTail, IsRow, unlimited, AreRows, no_rows, ends_part}
+use Rattle.yq_cut.specs.Rows as rows
+use Rattle.yq_cut.specs.Rows.{Bare, Inline, Row, behind_gap, rows_text}
+use Rattle.yq_cut.specs.Splices.{with_first_gap, with_row_gap, first_gap}
+use Rattle.yq_cut.proofs.PlainEnds.{tail_ends, gap_line}
+use Rattle.yq_cut.proofs.seams.FrontSeams.{behind_row_some}
+use Rattle.yq_cut.proofs.seams.SeamLaws.{part_line}
 use Rattle.yq_documents.specs.Documents.{HaveFitKeys, HasShortRoot, is_long_plain}
-use Rattle.yq_walk.specs.Lines.{mark_line, lines_from, lines_of}
+use Rattle.yq_row_lines.specs.Lines.{mark_line, lines_from, lines_of}
 use Rattle.yq_documents.specs.TreeEdits.{headed}
 use Rattle.yq_block.specs.declared.layout.Layout.{Layout}
 use Rattle.yq_block.specs.BlockRows.{inline_of, node_rows}

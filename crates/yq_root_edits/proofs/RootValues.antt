@@ -7,10 +7,10 @@ use Rattle.yq_flow_scalars.specs.Tree as tree
 use Rattle.yq_flow_scalars.specs.Tree.{Node}
 use Rattle.yq_flow_scalars.specs.Writable.{can_write}
 use Rattle.yq_flow_scalars.specs.Written.{written}
-use Rattle.yq_inline.specs.Nodes as inline
+use Rattle.yq_nodes.specs.Nodes as inline
 use Rattle.yq_flow.specs.Valued.{IsValueTree}
-use Rattle.yq_inline.specs.Written.{scalar_text, flow_of, flow_items}
-use Rattle.yq_inline.proofs.WrittenLaws.{double_when}
+use Rattle.yq_nodes.specs.Written.{scalar_text, flow_of, flow_items}
+use Rattle.yq_nodes.proofs.WrittenLaws.{double_when}
 use Rattle.yq_block.specs.declared.layout.Layout.{Layout}
 use Rattle.yq_block.specs.BlockText.{block_value}
 use Rattle.yq_block.specs.BlockValues.{HasNearKeys}

@@ -2,7 +2,7 @@
 use Rattle.std.proofs.Common.{◌≡◌, ℕ, List, map, sym, ap, ◌∙◌, subst, Some}
 use Rattle.std.specs.List.{slice_get}
 use Rattle.yq_flow_scalars.specs.Answers.{◌>>=◌}
-use Rattle.yq_rows.specs.Rows.{Part, Cut, cut_text}
+use Rattle.yq_cut.specs.Rows.{Part, Cut, cut_text}
 use Rattle.yq_documents.specs.Documents.{document_parts}
 use Rattle.yq_documents.specs.Reading as reading
 use Rattle.yq_documents.specs.Reading.{documents_of, read_at}

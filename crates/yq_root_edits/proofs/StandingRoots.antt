@@ -2,7 +2,7 @@
 use Rattle.std.proofs.Common.{◌≡◌, ℕ, List, [], ◌∷◌, ◌++◌, Some, Bool, true, false, refl, sym, ap, ◌∙◌, rules}
 use Rattle.std.proofs.lemmas.Bool.{cond_both, false≢true}
 use Rattle.yq_flow_scalars.specs.Paths.{Step}
-use Rattle.yq_rows.specs.Rows.{Content, Row, rows_text, Cut}
+use Rattle.yq_cut.specs.Rows.{Content, Row, rows_text, Cut}
 use Rattle.yq_places.specs.PlacedRows.{PlacedPart, placed_document}
 use Rattle.yq_places.specs.Standings.{BlockRoot, NoRows, RowsOfEntry, Standing, alone, beside, under, compact, block, root, no_rows, behind_mark, below, block_root, entry_standing, is_alone, lone, rows_of_entry, root_standing, standing_at}
 use Rattle.yq_places.proofs.PlacedPartLaws.{map_some}

@@ -2,30 +2,30 @@
 use Rattle.std.proofs.Common.{◌≡◌, ◌⊎◌, inl, inr, ℕ, zero, suc, ◌≤◌, List, [], ◌∷◌, ◌++◌, length, Some, Bool, true, false, refl, sym, ap, ◌∙◌, subst, arith, append_assoc, append-nil, ⊎_elim, length-append, rules}
 use Rattle.std.proofs.lemmas.List.{nil_from_length}
 use Rattle.std.proofs.lemmas.Bool.{false≢true, or_right, and_parts, or_parts}
-use Rattle.yq_scalar.specs.BlockWritten.{break_text}
+use Rattle.yq_block_scalars.specs.BlockWritten.{break_text}
 use Rattle.yq_flow_scalars.specs.Text.{is_empty, is_feed, is_break, is_line, ends_line, separates, NoneIn, joined}
-use Rattle.yq_scalar.specs.declared.block_written.Break.{Break}
-use Rattle.yq_scalar.specs.declared.block_written.Break.TheVariants as breaks
+use Rattle.yq_block_scalars.specs.declared.block_types.Break.{Break}
+use Rattle.yq_block_scalars.specs.declared.block_types.Break.TheVariants as breaks
 use Rattle.yq_lines.specs.Comments.{head_comment}
-use Rattle.yq_rows.specs.Gap.{IsLineEnd, IsGapLine, AreGapLines, IsGap}
-use Rattle.yq_rows.specs.Grammar.{IsCut, IsMarkerLine, IsTail, unlimited, AreRows, AreParts, begins_document, ends_part}
-use Rattle.yq_rows.specs.Rows.{rows_text, part_text, Cut, last, marked, cut_text}
-use Rattle.yq_rows.specs.SpliceFits.{is_after}
-use Rattle.yq_rows.specs.Splices.{behind_part, first_gap, marker_before, nth_part}
-use Rattle.yq_rows.proofs.LineEnds.{white_none, comment_none}
-use Rattle.yq_rows.proofs.seams.SeamLaws.{line_by_break}
-use Rattle.yq_rows.proofs.NothingLaws.{gap_other, line_end_other}
-use Rattle.yq_rows.proofs.PlaceLaws.{part_then}
-use Rattle.yq_rows.proofs.seams.MarkerSeams.{marker_byte, three_lines, after_some}
-use Rattle.yq_rows.proofs.splices.PartPlaces.{part_ends}
-use Rattle.yq_rows.proofs.GapLaws.{some_more}
+use Rattle.yq_cut.specs.Gap.{IsLineEnd, IsGapLine, AreGapLines, IsGap}
+use Rattle.yq_cut.specs.Grammar.{IsCut, IsMarkerLine, IsTail, unlimited, AreRows, AreParts, begins_document, ends_part}
+use Rattle.yq_cut.specs.Rows.{rows_text, part_text, Cut, last, marked, cut_text}
+use Rattle.yq_cut.specs.SpliceFits.{is_after}
+use Rattle.yq_cut.specs.Splices.{behind_part, first_gap, marker_before, nth_part}
+use Rattle.yq_cut.proofs.LineEnds.{white_none, comment_none}
+use Rattle.yq_cut.proofs.seams.SeamLaws.{line_by_break}
+use Rattle.yq_cut.proofs.NothingLaws.{gap_other, line_end_other}
+use Rattle.yq_cut.proofs.PlaceLaws.{part_then}
+use Rattle.yq_cut.proofs.seams.MarkerSeams.{marker_byte, three_lines, after_some}
+use Rattle.yq_cut.proofs.splices.PartPlaces.{part_ends}
+use Rattle.yq_cut.proofs.GapLaws.{some_more}
 use Rattle.yq_block.proofs.EndLaws.{break_tail}
 use Rattle.yq_block.proofs.LaidRows.{no_gap_here}
 use Rattle.yq_documents.specs.Documents.{lead_of}
 use Rattle.yq_places.specs.PlacedRows.{PlacedPart, before_part, placed_document}
 use Rattle.yq_documents.specs.Reading.{read_at}
 use Rattle.yq_documents.specs.Ready.{begins_no_node}
-use Rattle.yq_walk.specs.Lines.{lines_of}
+use Rattle.yq_row_lines.specs.Lines.{lines_of}
 use Rattle.yq_places.specs.Standings.{NoRows}
 use Rattle.yq_places.proofs.CommentPieceLaws.{gap_end}
 use Rattle.yq_places.proofs.PlacedPartLaws.{part_stands}

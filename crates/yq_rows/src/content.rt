@@ -2,13 +2,15 @@
 ghost use Rattle.std.specs.Option.{option_map};
 ghost use Rattle.std.specs.Prelude.{◌≡◌, ◌≢◌, ◌≤◌, ◌==◌, ◌||◌, ◌&&◌, not, length, true, false, IfErr};
 ghost use Rattle.yq_flow_scalars.specs.Answers.{Gives, IsOfText};
-ghost use Rattle.yq_inline.specs.Measured as measured;
-ghost use Rattle.yq_inline.specs.Scalars as scalars;
-ghost use Rattle.yq_rows.specs.Slicing as slicing;
-ghost use Rattle.yq_rows.specs.Slicing.{filled_at, filling_view};
+ghost use Rattle.yq_measuring.specs.Measured as measured;
+ghost use Rattle.yq_nodes.specs.Scalars as scalars;
+ghost use Rattle.yq_cut.specs.Slicing as slicing;
+ghost use Rattle.yq_rows.specs.ReadPieces.{is_plain_kind};
+ghost use Rattle.yq_cut.specs.Slicing.{filled_at};
+ghost use Rattle.yq_rows.specs.ReadPieces.{filling_view};
 ghost use Rattle.yq_flow_scalars.specs.Text.{front, is_empty};
 ghost use Rattle.yq_flow_scalars.specs.declared.fault.FaultKind.TheVariants.{NotUtf8};
-ghost use Rattle.yq_rows.specs.Reading as spec;
+ghost use Rattle.yq_cut.specs.Reading as spec;
 
 use crate::fault::{block_fault, fault};
 use crate::gap::is_hash;
@@ -18,9 +20,9 @@ use crate::words::{begins_word, read_front};
 use yq_flow_scalars::lines::split_line;
 use yq_flow_scalars::text::{ends_line, split_white};
 use yq_flow_scalars::{FaultKind, Place, ReadError, ReadFault, further_spaces};
-use yq_inline::DEPTH_LIMIT;
-use yq_inline::measuring::{Measured, NodeKind, measure_node};
-use yq_inline::pieces::{begins_scalar, first_is, is_quoted, name_len, strip};
+use yq_inline::pieces::{begins_scalar, name_len};
+use yq_measuring::measuring::{Measured, NodeKind, measure_node};
+use yq_nodes::{DEPTH_LIMIT, first_is, is_quoted, strip};
 use yq_scalar::read_block;
 
 /// What stands behind a mark, by its pieces.
@@ -43,7 +45,7 @@ pub struct Filling<'t> {
 }
 
 /// The tail in front, and what follows.
-#[tactic(auto, unfolding(crate::specs::Reading::tail_at))]
+#[tactic(auto, unfolding(yq_cut::specs::Reading::tail_at))]
 pub(crate) fn find_tail(text: &str) -> Option<(&str, &str)>
     ensures { option_map (λ x. (x.0.now, x.1.now)) result ≡ spec.tail_at text.now }
 {
@@ -89,7 +91,7 @@ fn is_block_mark(text: &[u8]) -> bool
 }
 
 /// Whether a block scalar begins here, perhaps behind an anchor.
-#[tactic(auto, using(crate::proofs::BlockSlicing::block_begins))]
+#[tactic(auto, using(yq_cut::proofs::BlockSlicing::block_begins))]
 fn begins_block(text: &str) -> bool
     ensures { result ≡ spec.begins_block text.now }
 {
@@ -139,7 +141,7 @@ fn read_block_content<'t>(
 
 /// Whether the node is a plain scalar, perhaps behind an anchor.
 fn is_plain(node: Measured<'_>) -> bool
-    ensures { result ≡ slicing.is_plain_kind node.entry.kind }
+    ensures { result ≡ is_plain_kind node.entry.kind }
 {
     matches!(node.kind, NodeKind::Plain)
 }

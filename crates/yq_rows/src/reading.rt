@@ -3,22 +3,24 @@ ghost use Rattle.std.specs.Prelude.{◌≡◌, ◌≢◌, ◌<◌, ◌≤◌, �
 ghost use Rattle.yq_flow_scalars.specs.Answers.{Gives, IsOfText, Reads};
 ghost use Rattle.yq_flow_scalars.specs.Text;
 ghost use Rattle.yq_flow_scalars.specs.declared.fault.FaultKind.TheVariants.{NotUtf8};
-ghost use Rattle.yq_rows.specs.Grammar as grammar;
-ghost use Rattle.yq_rows.specs.Grammar.{unlimited, ends_part};
-ghost use Rattle.yq_rows.specs.Kept.{rows_placed};
-ghost use Rattle.yq_rows.specs.Slicing.{begin_view, filling_view, marked_sliced, row_sliced, row_of, rows_sliced};
-ghost use Rattle.yq_rows.specs.Offsets.{Ends, Stand, IsCutIn, offsets_of, rows_in, slices_in};
-ghost use Rattle.yq_rows.specs.Reading as spec;
-ghost use Rattle.yq_rows.specs.View.{limit_view};
+ghost use Rattle.yq_cut.specs.Grammar as grammar;
+ghost use Rattle.yq_cut.specs.Grammar.{unlimited, ends_part};
+ghost use Rattle.yq_cut.specs.Kept.{rows_placed};
+ghost use Rattle.yq_cut.specs.Slicing.{marked_sliced, row_sliced, row_of, rows_sliced};
+ghost use Rattle.yq_rows.specs.ReadPieces.{begin_view, filling_view};
+ghost use Rattle.yq_cut.specs.Offsets.{Ends, Stand, IsCutIn, offsets_of, rows_in, slices_in};
+ghost use Rattle.yq_cut.specs.Reading as spec;
+ghost use Rattle.yq_rows.specs.ReadPieces.{limit_view};
 
 use crate::content::{Filling, find_tail, read_content};
 use crate::fault::fault;
 use crate::gap::split_gap;
+use crate::lengths::offsets_of;
+use crate::limit::Limit;
 use crate::marks::{Begin, is_entry, parent_of, read_begin};
 use crate::naming::not_alone;
-use crate::offsets::{Offsets, offsets_of};
-use crate::row::Limit;
 use std::alloc::Global;
+use yq_cut::Offsets;
 use yq_flow_scalars::text::{is_marker, split_spaces};
 use yq_flow_scalars::{FaultKind, ReadError, ReadFault};
 
@@ -54,7 +56,7 @@ fn may_stand(limit: Limit, column: usize, text: &[u8]) -> bool
 
 /// Where the row in front stands, whose gap is read already, what it asks of the next one, and what
 /// follows.
-#[tactic(auto, unfolding(crate::specs::Reading::row_at))]
+#[tactic(auto, unfolding(yq_cut::specs::Reading::row_at))]
 #[inline]
 fn read_row<'t>(
     whole: &'t str,
@@ -153,7 +155,7 @@ fn may_begin(is_open: bool, text: &[u8]) -> bool
 
 /// Adds where the rows of a part stand; gives the gap behind them, and what follows. Where no document
 /// is open there may be no rows.
-#[tactic(auto, unfolding(crate::specs::Reading::part_at))]
+#[tactic(auto, unfolding(yq_cut::specs::Reading::part_at))]
 pub(crate) fn read_part<'t>(
     alloc: Global,
     rows: Vec<Offsets>,
@@ -182,7 +184,7 @@ pub(crate) fn read_part<'t>(
 }
 
 /// The line of the marker in front, and what follows.
-#[tactic(auto, unfolding(crate::specs::Reading::marker_at))]
+#[tactic(auto, unfolding(yq_cut::specs::Reading::marker_at))]
 pub(crate) fn read_marker<'t>(whole: &str, text: &'t str) -> Result<(&'t str, &'t str), ReadFault>
     requires { Text.is_marker text.now ≡ true }
     ensures read { Reads (λ x. (x.0.now, x.1.now)) result (spec.marker_at text.now) }

@@ -3,11 +3,11 @@ ghost use Rattle.std.specs.Prelude.{◌≡◌, ◌≢◌, IfErr, false};
 ghost use Rattle.yq_flow_scalars.specs.Answers.{Reads};
 ghost use Rattle.yq_flow_scalars.specs.Text.{front};
 ghost use Rattle.yq_flow_scalars.specs.declared.fault.FaultKind.TheVariants.{NotUtf8};
-ghost use Rattle.yq_inline.specs.Reading as inline;
-ghost use Rattle.yq_rows.specs.Reading as spec;
+ghost use Rattle.yq_nodes.specs.Reading as inline;
+ghost use Rattle.yq_cut.specs.Reading as spec;
 
+use yq_flow_reading::plain::split_plain;
 use yq_flow_scalars::ReadFault;
-use yq_flow_scalars::plain::split_plain;
 use yq_inline::pieces::read_scalar;
 
 /// Whether a letter or a digit is in front.

@@ -2,15 +2,15 @@
 ghost use Rattle.std.specs.Prelude.{◌≡◌, ◌<◌, ◌≤◌, ◌+◌, ◌^◌, length, drop, true, IfErr, IfOk, Ok};
 ghost use Rattle.std.specs.Str.{IsCharBoundary};
 ghost use Rattle.yq_flow_scalars.specs.Answers.{Reads};
-ghost use Rattle.yq_scalar.specs.Block as spec;
-ghost use Rattle.yq_scalar.specs.BlockReading as reading;
-ghost use Rattle.yq_scalar.specs.ScalarPiece.{IsReadPiece};
+ghost use Rattle.yq_block_scalars.specs.Block as spec;
+ghost use Rattle.yq_block_scalars.specs.BlockReading as reading;
+ghost use Rattle.yq_block_scalars.specs.ScalarPiece.{IsReadPiece};
 ghost use Rattle.yq_flow_scalars.specs.Piece.{deeper};
 ghost use Rattle.yq_flow_scalars.specs.Text.{lines_of};
 ghost use Rattle.yq_flow_scalars.specs.declared.piece.Piece.{Piece};
 
-use crate::block_header::{keeps, read_style, read_tail, split_indicators, style_of};
-use crate::block_lines::{TextIndent, detect_indent, raw_len};
+use yq_block_scalars::block_header::{keeps, read_style, read_tail, split_indicators, style_of};
+use yq_block_scalars::block_lines::{TextIndent, detect_indent, raw_len};
 use yq_flow_scalars::{FaultKind, Piece};
 
 /// One column more than the indentation of a parent.
@@ -22,7 +22,7 @@ fn least_indent(parent: i64) -> usize
 }
 
 /// The indentation of the text, by the digit or by the lines.
-#[tactic(auto, unfolding(crate::specs::BlockReading::indent_at))]
+#[tactic(auto, unfolding(yq_block_scalars::specs::BlockReading::indent_at))]
 fn read_indent(least: usize, digit: Option<u8>, text: &[u8]) -> Result<TextIndent, FaultKind>
     requires { least ≤ 2 ^ 63 }
     ensures read { Reads (λ f. f) result (reading.indent_at least digit (lines_of text.now)) }
@@ -38,7 +38,7 @@ fn read_indent(least: usize, digit: Option<u8>, text: &[u8]) -> Result<TextInden
 }
 
 /// The block scalar in front of a text that begins at an offset.
-#[tactic(auto, unfolding(crate::specs::BlockReading::block_at, crate::specs::BlockReading::block_behind))]
+#[tactic(auto, unfolding(yq_block_scalars::specs::BlockReading::block_at, yq_block_scalars::specs::BlockReading::block_behind))]
 fn read_at(text: &[u8], start: usize, least: usize) -> Result<Piece, FaultKind>
     requires small { least ≤ 2 ^ 63 }
     requires fits { start + length text.now < 2 ^ 64 }
@@ -72,7 +72,7 @@ fn read_at(text: &[u8], start: usize, least: usize) -> Result<Piece, FaultKind>
 /// longer than the indentation of the first text line, [`FaultKind::TabIndent`] where a tab stands in
 /// the indentation of a line, and [`FaultKind::NoFinalBreak`] where the text ends in a line of the
 /// scalar. No memory is taken.
-#[tactic(auto, using(crate::proofs::BlockFound::found_by))]
+#[tactic(auto, using(yq_block_scalars::proofs::BlockFound::found_by))]
 pub fn read_block(text: &str, at: usize, parent: i64) -> Result<Piece, FaultKind>
     requires { IsCharBoundary text.now at }
     ensures exact { Reads (λ p. p) result (reading.block_from parent at text.now) }
@@ -84,7 +84,7 @@ pub fn read_block(text: &str, at: usize, parent: i64) -> Result<Piece, FaultKind
     block_from(text, at, parent)
 }
 
-#[tactic(auto, unfolding(crate::specs::BlockReading::block_from))]
+#[tactic(auto, unfolding(yq_block_scalars::specs::BlockReading::block_from))]
 fn block_from(text: &str, at: usize, parent: i64) -> Result<Piece, FaultKind>
     requires { IsCharBoundary text.now at }
     ensures read { Reads (λ p. p) result (reading.block_from parent at text.now) }

@@ -1,30 +1,19 @@
 //! What a block scalar stands for (YAML 1.2.2, sections 8.1.1.2, 8.1.2 and 8.1.3).
-ghost use Rattle.std.specs.Prelude.{◌≡◌, ◌<◌, ◌≤◌, ◌==◌, ◌&&◌, not, ◌++◌, ℤ, length, take, drop, OnOk, IfOk};
+ghost use Rattle.std.specs.Prelude.{◌≡◌, ◌<◌, ◌≤◌, ◌==◌, ◌&&◌, not, ◌++◌, ℤ, length, OnOk, IfOk};
 ghost use Rattle.std.specs.Str.{IsCharBoundary};
 ghost use Rattle.std.specs.String.{string_bytes};
-ghost use Rattle.yq_scalar.specs.Block.{IsBlockPiece, IsBlockScalar};
-ghost use Rattle.yq_scalar.specs.BlockContent as spec;
-ghost use Rattle.yq_scalar.specs.BlockReading as reading;
-ghost use Rattle.yq_flow_scalars.specs.Text.{front, is_white, lines_of, cut_line};
-ghost use Rattle.yq_scalar.specs.declared.block_content.Before.TheVariants.{Nothing};
+ghost use Rattle.yq_block_scalars.specs.Block.{IsBlockPiece, IsBlockScalar};
+ghost use Rattle.yq_block_scalars.specs.BlockContent as spec;
+ghost use Rattle.yq_block_scalars.specs.BlockReading as reading;
+ghost use Rattle.yq_flow_scalars.specs.Text.{front, is_white, lines_of};
+ghost use Rattle.yq_block_scalars.specs.declared.block_types.Before.TheVariants.{Nothing};
 
-use crate::block_header::{BlockStyle, Chomping, split_indicators};
-use crate::block_lines::{TextIndent, detect_indent};
 use std::alloc::{AllocError, Global};
-use yq_flow_scalars::{
-    Piece, Style, is_white, push_breaks, spaces_len, split_at_break, split_line,
-};
-
-/// What stands before a line of folded text.
-#[derive(Clone, Copy, Debug, PartialEq, Eq)]
-pub enum Before {
-    /// Empty lines alone.
-    Nothing,
-    /// A line of text.
-    Text,
-    /// A line that begins with white space behind the indentation.
-    Spaced,
-}
+use yq_block_scalars::Before;
+use yq_block_scalars::block_header::{BlockStyle, Chomping, split_indicators};
+use yq_block_scalars::block_lines::{TextIndent, detect_indent};
+use yq_flow_reading::push_breaks;
+use yq_flow_scalars::{Piece, Style, is_white, spaces_len, split_at_break, split_line};
 
 /// The line without its indentation.
 fn unindented(indent: TextIndent, line: &str) -> &str
@@ -211,7 +200,7 @@ fn block_style(style: Style) -> BlockStyle
 }
 
 /// The indentation of raw lines whose text is indented by so many columns.
-#[tactic(auto, unfolding(crate::specs::BlockReading::indent_of))]
+#[tactic(auto, unfolding(yq_block_scalars::specs::BlockReading::indent_of))]
 fn indent_of(digit: Option<u8>, columns: usize, raw: &[u8]) -> TextIndent
     ensures { result ≡ reading.indent_of digit columns (lines_of raw.now) }
 {
@@ -228,7 +217,7 @@ fn indent_of(digit: Option<u8>, columns: usize, raw: &[u8]) -> TextIndent
     }
 }
 
-#[tactic(auto, unfolding(crate::specs::BlockReading::piece_content))]
+#[tactic(auto, unfolding(yq_block_scalars::specs::BlockReading::piece_content))]
 fn content_at(alloc: Global, text: &str, piece: &Piece) -> Result<String, AllocError>
     requires header { piece.now.start < length text.now }
     requires order { piece.now.raw_start ≤ piece.now.end }

@@ -1,16 +1,16 @@
 //! Laws of block scalars, each the contract of a function that does nothing.
 ghost use Rattle.std.specs.Prelude.{◌≡◌, ◌<◌, ◌≤◌, ◌++◌, ◌⊎◌, [], Bool, List, Some, false, true, ℕ};
 ghost use Rattle.std.specs.Str.{IsUtf8};
-ghost use Rattle.yq_scalar.specs.Block.{BlockText, IsBlock, Lines, block_text, ends_block, is_tail, keeps};
-ghost use Rattle.yq_scalar.specs.BlockContent.{block_content};
-ghost use Rattle.yq_scalar.specs.BlockReading.{block_at};
-ghost use Rattle.yq_scalar.specs.BlockRepair.{AreGap, is_behind, comment_lines, repair};
-ghost use Rattle.yq_scalar.specs.BlockWritten.{break_text, closed, written_block};
+ghost use Rattle.yq_block_scalars.specs.Block.{BlockText, IsBlock, Lines, block_text, ends_block, is_tail, keeps};
+ghost use Rattle.yq_block_scalars.specs.BlockContent.{block_content};
+ghost use Rattle.yq_block_scalars.specs.BlockReading.{block_at};
+ghost use Rattle.yq_block_scalars.specs.BlockRepair.{AreGap, is_behind, comment_lines, repair};
+ghost use Rattle.yq_block_scalars.specs.BlockWritten.{break_text, closed, written_block};
 ghost use Rattle.yq_flow_scalars.specs.Scalar.{ScalarText};
 ghost use Rattle.yq_flow_scalars.specs.Text.{joined, lines_of};
 ghost use Rattle.yq_flow_scalars.specs.Writable.{can_write};
-ghost use Rattle.yq_scalar.specs.declared.block_lines.TextIndent.{TextIndent};
-ghost use Rattle.yq_scalar.specs.declared.block_written.Break.{Break};
+ghost use Rattle.yq_block_scalars.specs.declared.block_lines.TextIndent.{TextIndent};
+ghost use Rattle.yq_block_scalars.specs.declared.block_types.Break.{Break};
 ghost use Rattle.yq_flow_scalars.specs.declared.style.Place.TheVariants.{Block};
 ghost use Rattle.yq_flow_scalars.specs.declared.style.Style.TheVariants.{Literal};
 

@@ -1,12 +1,13 @@
 //! A gap that comes to stand behind a block scalar.
 ghost use Rattle.std.specs.Prelude.{◌≡◌, ◌++◌, [], OnOk, IfOk, if◌then◌else◌};
 ghost use Rattle.std.specs.String.{string_bytes};
-ghost use Rattle.yq_scalar.specs.BlockRepair as spec;
+ghost use Rattle.yq_block_scalars.specs.BlockRepair as spec;
 ghost use Rattle.yq_flow_scalars.specs.Text.{joined, lines_of};
 
 use std::alloc::{AllocError, Global};
+use yq_flow_reading::push_spaces;
 use yq_flow_scalars::{
-    Piece, behind_spaces, ends_line, is_blank, push_spaces, spaces_len, split_line, split_white,
+    Piece, behind_spaces, ends_line, is_blank, spaces_len, split_line, split_white,
 };
 
 /// A line of spaces alone, so many at most.

@@ -1,19 +1,13 @@
 //! A text written as a literal block scalar.
 ghost use Rattle.std.specs.Prelude.{◌≡◌, ◌++◌, ◌-◌, ◌^◌, length, min, OnOk, IfOk};
 ghost use Rattle.std.specs.String.{string_bytes};
-ghost use Rattle.yq_scalar.specs.BlockContent.{line_text};
-ghost use Rattle.yq_scalar.specs.BlockWritten as spec;
+ghost use Rattle.yq_block_scalars.specs.BlockWritten as spec;
 ghost use Rattle.yq_flow_scalars.specs.Text.{joined, lines_of};
 
 use std::alloc::{AllocError, Global};
-use yq_flow_scalars::{push_spaces, split_at_break, split_line};
-
-/// The break that is written.
-#[derive(Clone, Copy, Debug, PartialEq, Eq)]
-pub enum Break {
-    Lf,
-    CrLf,
-}
+use yq_block_scalars::Break;
+use yq_flow_reading::push_spaces;
+use yq_flow_scalars::{split_at_break, split_line};
 
 /// The bytes of a break.
 pub fn break_text(br: Break) -> &'static str

@@ -3,33 +3,29 @@
 
 pub mod block;
 pub mod block_content;
-pub mod block_header;
 pub mod block_laws;
-pub mod block_lines;
 pub mod block_repair;
 pub mod block_written;
-mod integer;
-mod keys;
 mod piece_content;
 pub mod plain_laws;
 mod plain_piece;
 pub mod quoted_laws;
 mod quoted_piece;
-pub mod same_content;
 mod write;
 pub mod written_laws;
 
 pub use block::read_block;
 pub use block_repair::repair;
-pub use block_written::{Break, write_block};
-pub use integer::int_value;
-pub use keys::are_distinct;
+pub use block_written::write_block;
 pub use piece_content::content;
 pub use plain_piece::read_plain;
 pub use quoted_piece::read_quoted;
-pub use same_content::{is_plain_content, is_quoted_content};
 pub use write::write_scalar;
+pub use yq_block_scalars::Break;
+pub use yq_flow_reading::{
+    are_distinct, can_write, in_flow, int_value, is_plain_content, is_quoted_content, push_spaces,
+};
 pub use yq_flow_scalars::{
-    FaultKind, Kind, Piece, Place, ReadError, ReadFault, Scalar, Style, can_write, further_spaces,
-    in_flow, is_true_word, push_spaces, resolve,
+    FaultKind, Kind, Piece, Place, ReadError, ReadFault, Scalar, Style, further_spaces,
+    is_true_word, resolve,
 };

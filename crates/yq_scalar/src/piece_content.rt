@@ -1,17 +1,18 @@
 //! What the scalar of a piece stands for.
 ghost use Rattle.std.specs.Prelude.{◌≡◌, IfOk, string_bytes, ℕ, ℤ};
-ghost use Rattle.yq_scalar.specs.Block.{IsBlockPiece};
-ghost use Rattle.yq_scalar.specs.BlockContent as block;
-ghost use Rattle.yq_scalar.specs.ScalarPiece as spec;
+ghost use Rattle.yq_block_scalars.specs.Block.{IsBlockPiece};
+ghost use Rattle.yq_block_scalars.specs.BlockContent as block;
+ghost use Rattle.yq_block_scalars.specs.ScalarPiece as spec;
 ghost use Rattle.yq_flow_scalars.specs.Piece.{IsPlainPiece};
 ghost use Rattle.yq_flow_scalars.specs.PlainContent.{IsPlainLines};
 ghost use Rattle.yq_flow_scalars.specs.Quoted.{Lines, content as content_of};
-ghost use Rattle.yq_scalar.specs.QuotedPiece.{IsQuotedPiece};
+ghost use Rattle.yq_block_scalars.specs.QuotedPiece.{IsQuotedPiece};
 ghost use Rattle.yq_flow_scalars.specs.declared.style.Place.{Place};
 
 use crate::block_content::block_content;
 use std::alloc::{AllocError, Global};
-use yq_flow_scalars::{Piece, Style, plain_content, quoted_content};
+use yq_flow_reading::{plain_content, quoted_content};
+use yq_flow_scalars::{Piece, Style};
 
 /// What the scalar of a piece stands for, where the piece was given for this text: the lines of a plain
 /// or quoted scalar folded and its escapes read, those of a block scalar without their indentation.

@@ -2,22 +2,20 @@
 ghost use Rattle.std.specs.Prelude.{◌≡◌, IfErr, IfOk, Ok};
 ghost use Rattle.std.specs.Str.{IsCharBoundary};
 ghost use Rattle.yq_flow_scalars.specs.Answers.{Reads};
-ghost use Rattle.yq_scalar.specs.ScalarPiece.{IsReadPiece};
+ghost use Rattle.yq_block_scalars.specs.ScalarPiece.{IsReadPiece};
 ghost use Rattle.yq_flow_scalars.specs.Piece as spec;
 ghost use Rattle.yq_flow_scalars.specs.declared.fault.FaultKind.TheVariants.{BadScalar};
 ghost use Rattle.yq_flow_scalars.specs.declared.piece.Piece.{Piece};
 
-use yq_flow_scalars::{
-    FaultKind, Piece, Place, Style, begins_plain, further_spaces, in_flow, inline_piece,
-    split_plain,
-};
+use yq_flow_reading::{begins_plain, in_flow, split_plain};
+use yq_flow_scalars::{FaultKind, Piece, Place, Style, further_spaces, inline_piece};
 
 /// The plain scalar that begins at an offset, in bytes, of a text, going on as far as it may. `indent`
 /// is the indentation of its parent, in columns, and -1 below no parent.
 ///
 /// The error is [`FaultKind::BadScalar`], exactly where no plain scalar begins there. No memory is
 /// taken.
-#[tactic(auto, using(crate::proofs::PieceLaws::found_by))]
+#[tactic(auto, using(yq_block_scalars::proofs::PieceLaws::found_by))]
 pub fn read_plain(text: &str, at: usize, place: Place, indent: i64) -> Result<Piece, FaultKind>
     requires { IsCharBoundary text.now at }
     ensures exact { Reads (λ p. p) result (spec.plain_from place indent at text.now) }

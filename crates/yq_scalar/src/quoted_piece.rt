@@ -2,12 +2,13 @@
 ghost use Rattle.std.specs.Prelude.{◌≡◌, IfErr, IfOk, Ok};
 ghost use Rattle.std.specs.Str.{IsCharBoundary};
 ghost use Rattle.yq_flow_scalars.specs.Answers.{Reads};
-ghost use Rattle.yq_scalar.specs.ScalarPiece.{IsReadPiece};
-ghost use Rattle.yq_scalar.specs.QuotedPiece as spec;
+ghost use Rattle.yq_block_scalars.specs.ScalarPiece.{IsReadPiece};
+ghost use Rattle.yq_block_scalars.specs.QuotedPiece as spec;
 ghost use Rattle.yq_flow_scalars.specs.declared.fault.FaultKind.TheVariants.{BadScalar};
 ghost use Rattle.yq_flow_scalars.specs.declared.piece.Piece.{Piece};
 
-use yq_flow_scalars::{FaultKind, Piece, Style, inline_piece, split_quoted};
+use yq_flow_reading::split_quoted;
+use yq_flow_scalars::{FaultKind, Piece, Style, inline_piece};
 
 /// The style of a scalar in these quotes.
 fn style_of(quote: u8) -> Style
@@ -24,7 +25,7 @@ fn style_of(quote: u8) -> Style
 ///
 /// The error is [`FaultKind::BadScalar`], exactly where no quoted scalar begins there. No memory is
 /// taken.
-#[tactic(auto, using(crate::proofs::QuotedPieceLaws::found_by))]
+#[tactic(auto, using(yq_block_scalars::proofs::QuotedPieceLaws::found_by))]
 pub fn read_quoted(text: &str, at: usize) -> Result<Piece, FaultKind>
     requires { IsCharBoundary text.now at }
     ensures exact { Reads (λ p. p) result (spec.quoted_from at text.now) }
@@ -36,7 +37,7 @@ pub fn read_quoted(text: &str, at: usize) -> Result<Piece, FaultKind>
     quoted_from(text, at)
 }
 
-#[tactic(auto, unfolding(crate::specs::QuotedPiece::quoted_from))]
+#[tactic(auto, unfolding(yq_block_scalars::specs::QuotedPiece::quoted_from))]
 fn quoted_from(text: &str, at: usize) -> Result<Piece, FaultKind>
     requires { IsCharBoundary text.now at }
     ensures read { Reads (λ p. p) result (spec.quoted_from at text.now) }

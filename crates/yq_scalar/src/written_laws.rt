@@ -2,15 +2,15 @@
 //! give each of these pieces, since they give the one piece that there is.
 ghost use Rattle.std.specs.Prelude.{◌≡◌, ◌==◌, ◌≤◌, List, false, true, ℕ, ℤ};
 ghost use Rattle.std.specs.Str.{IsUtf8};
-ghost use Rattle.yq_scalar.specs.Block.{ends_block, is_tail};
+ghost use Rattle.yq_block_scalars.specs.Block.{ends_block, is_tail};
 ghost use Rattle.yq_flow_scalars.specs.Piece.{deeper, further_spaces};
 ghost use Rattle.yq_flow_scalars.specs.Plain.{ends_plain};
-ghost use Rattle.yq_scalar.specs.ReadBack as spec;
+ghost use Rattle.yq_block_scalars.specs.ReadBack as spec;
 ghost use Rattle.yq_flow_scalars.specs.Scalar.{IsScalar, ScalarText};
 ghost use Rattle.yq_flow_scalars.specs.Text.{front, lines_of};
 ghost use Rattle.yq_flow_scalars.specs.Writable.{can_write, in_flow};
-ghost use Rattle.yq_scalar.specs.declared.block_lines.TextIndent.{TextIndent};
-ghost use Rattle.yq_scalar.specs.declared.block_written.Break.{Break};
+ghost use Rattle.yq_block_scalars.specs.declared.block_lines.TextIndent.{TextIndent};
+ghost use Rattle.yq_block_scalars.specs.declared.block_types.Break.{Break};
 ghost use Rattle.yq_flow_scalars.specs.declared.style.Place.TheVariants.{Block};
 ghost use Rattle.yq_flow_scalars.specs.declared.style.Place.{Place};
 ghost use Rattle.yq_flow_scalars.specs.declared.style.Style.TheVariants.{Double, Literal, Plain, Single};

@@ -3,16 +3,16 @@ use Rattle.std.proofs.Common.{◌≡◌, ◌⊎◌, inl, inr, ⊎_elim, ℕ, ◌
 use Rattle.std.proofs.lemmas.List.{get_or_at, length-map, length-reverse, reverse-append, reverse-reverse, take_at}
 use Rattle.std.proofs.lemmas.List.Elements.{All-cons, All-head, All-nil, All-tail, All-weaker}
 use Rattle.std.specs.List.{All}
-use Rattle.yq_rows.specs.Items.{Item, row_item, end_item, items_text}
-use Rattle.yq_rows.specs.Kept.{far, near, ends_near, turned}
-use Rattle.yq_rows.specs.Offsets.{offsets_of}
-use Rattle.yq_rows.specs.Touched.{in_back}
-use Rattle.yq_rows.specs.View.{slices}
-use Rattle.yq_rows.specs.declared.ends.EndPlace.{EndPlace}
-use Rattle.yq_rows.specs.declared.offsets.Offsets as declared
-use Rattle.yq_rows.specs.declared.places.Places.{Places}
-use Rattle.yq_rows.proofs.ItemLaws.{items_text-append}
-use Rattle.yq_rows.proofs.KeptLaws.{far_near, items_apart, near_joined}
+use Rattle.yq_cut.specs.Items.{Item, row_item, end_item, items_text}
+use Rattle.yq_cut.specs.Kept.{far, near, ends_near, turned}
+use Rattle.yq_cut.specs.Offsets.{offsets_of}
+use Rattle.yq_cut.specs.Touched.{in_back}
+use Rattle.yq_cut.specs.View.{slices}
+use Rattle.yq_cut.specs.declared.ends.EndPlace.{EndPlace}
+use Rattle.yq_cut.specs.declared.offsets.Offsets as declared
+use Rattle.yq_cut.specs.declared.places.Places.{Places}
+use Rattle.yq_cut.proofs.ItemLaws.{items_text-append}
+use Rattle.yq_cut.proofs.KeptLaws.{far_near, items_apart, near_joined}
 use Rattle.yq_session.specs.Sides.{AreAt, IsSplitAt, ends_before, nearer, not_in_back, side_of, text_length}
 use Rattle.yq_session.proofs.BeginLaws.{BackFound, back_found, begin_from, begin_where, ends_begin, joined_long, rows_begin}
 use Rattle.yq_session.proofs.CountLaws.{ends_joined, near_count}

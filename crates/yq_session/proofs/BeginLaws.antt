@@ -2,17 +2,17 @@
 use Rattle.std.proofs.Common.{◌≡◌, ℕ, ◌+◌, ◌-◌, ◌<◌, ◌≤◌, ltb, cond, Bool, true, false, List, [], ◌∷◌, ◌++◌, length, refl, sym, ap, ◌∙◌, subst, arith, append_assoc, length-append, ltb-true, ltb-false}
 use Rattle.std.proofs.lemmas.List.Elements.{All-cons, All-nil}
 use Rattle.std.specs.List.{All}
-use Rattle.yq_rows.specs.Ends.{end_at}
-use Rattle.yq_rows.specs.Items.{Item, row_item, end_item, items_text}
-use Rattle.yq_rows.specs.Kept.{near, ends_near}
-use Rattle.yq_rows.specs.Offsets.{offsets_of}
-use Rattle.yq_rows.specs.Rows.{print_row}
-use Rattle.yq_rows.specs.Touched.{item_text, in_front, in_back}
-use Rattle.yq_rows.specs.View.{slices}
-use Rattle.yq_rows.specs.declared.ends.EndPlace.{EndPlace}
-use Rattle.yq_rows.specs.declared.offsets.Offsets as declared
-use Rattle.yq_rows.proofs.ItemLaws.{items_text-append}
-use Rattle.yq_rows.proofs.KeptLaws.{items_apart, print_then}
+use Rattle.yq_cut.specs.Ends.{end_at}
+use Rattle.yq_cut.specs.Items.{Item, row_item, end_item, items_text}
+use Rattle.yq_cut.specs.Kept.{near, ends_near}
+use Rattle.yq_cut.specs.Offsets.{offsets_of}
+use Rattle.yq_cut.specs.Rows.{print_row}
+use Rattle.yq_cut.specs.Touched.{item_text, in_front, in_back}
+use Rattle.yq_cut.specs.View.{slices}
+use Rattle.yq_cut.specs.declared.ends.EndPlace.{EndPlace}
+use Rattle.yq_cut.specs.declared.offsets.Offsets as declared
+use Rattle.yq_cut.proofs.ItemLaws.{items_text-append}
+use Rattle.yq_cut.proofs.KeptLaws.{items_apart, print_then}
 use Rattle.yq_session.specs.Sides.{not_in_back, text_length}
 
 -- lengths

@@ -2,11 +2,11 @@
 use Rattle.std.proofs.Common.{◌≡◌, ℕ, suc, ◌+◌, ◌≤◌, List, [], ◌∷◌, ◌++◌, length, refl, ap, ◌∙◌, arith}
 use Rattle.std.proofs.lemmas.List.Elements.{All-cons, All-nil}
 use Rattle.std.specs.List.{All}
-use Rattle.yq_rows.specs.Ends.{end_at}
-use Rattle.yq_rows.specs.Items.{Item, row_item, end_item}
-use Rattle.yq_rows.specs.Kept.{near, ends_near}
-use Rattle.yq_rows.specs.Rows.{print_row}
-use Rattle.yq_rows.specs.declared.ends.EndPlace.{EndPlace}
+use Rattle.yq_cut.specs.Ends.{end_at}
+use Rattle.yq_cut.specs.Items.{Item, row_item, end_item}
+use Rattle.yq_cut.specs.Kept.{near, ends_near}
+use Rattle.yq_cut.specs.Rows.{print_row}
+use Rattle.yq_cut.specs.declared.ends.EndPlace.{EndPlace}
 use Rattle.yq_session.specs.Sides.{text_length}
 use Rattle.yq_session.proofs.BeginLaws.{first_long}
 

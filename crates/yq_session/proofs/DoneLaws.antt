@@ -1,11 +1,11 @@
 -- What a change that was followed leaves.
 use Rattle.std.proofs.Common.{◌≡◌, ℕ, List, ◌++◌, reverse, refl, sym, ap, ◌∙◌, subst, append_assoc}
-use Rattle.yq_rows.specs.Grammar.{IsCut}
-use Rattle.yq_rows.specs.Items.{Item, items_of}
-use Rattle.yq_rows.specs.Kept.{ArePlaced, IsPlaced}
-use Rattle.yq_rows.specs.Rows.{Cut}
-use Rattle.yq_rows.specs.View.{rows_view}
-use Rattle.yq_rows.specs.declared.places.Places.{Places}
+use Rattle.yq_cut.specs.Grammar.{IsCut}
+use Rattle.yq_cut.specs.Items.{Item, items_of}
+use Rattle.yq_cut.specs.Kept.{ArePlaced, IsPlaced}
+use Rattle.yq_cut.specs.Rows.{Cut}
+use Rattle.yq_cut.specs.View.{rows_view}
+use Rattle.yq_cut.specs.declared.places.Places.{Places}
 use Rattle.yq_session.specs.Exchanging.{TextChange, RowsExchanged, GivesWay, SamePlaces}
 use Rattle.yq_session.specs.Following.{ArePlacesOf, Follows, IsPlacedIn, exchanged}
 use Rattle.yq_session.specs.Reading.{ArePlacesRead}

@@ -4,22 +4,22 @@ use Rattle.std.proofs.Math.Seq.{get_or-append_seam}
 use Rattle.std.proofs.lemmas.List.{drop_all, set_split, take_at}
 use Rattle.std.proofs.lemmas.Option.{get_or_from_slice_get, same_Some, slice_get_within}
 use Rattle.std.proofs.lemmas.Str.{IsUtf8-nil}
-use Rattle.yq_rows.specs.Ends.{end_at}
-use Rattle.yq_rows.specs.Grammar.{IsCut}
-use Rattle.yq_rows.specs.Items.{Item, row_item, end_item, items_of, items_text}
-use Rattle.yq_rows.specs.Kept.{ArePlaced, near, ends_near, turned, TextsIn}
-use Rattle.yq_rows.specs.Offsets.{offsets_of}
-use Rattle.yq_rows.specs.Reading.{all_parts}
-use Rattle.yq_rows.specs.Regions.{IsReadAlone, alone, no_items}
-use Rattle.yq_rows.specs.Rows.{Row, Cut}
-use Rattle.yq_rows.specs.Touched.{TouchesOnly}
-use Rattle.yq_rows.specs.View.{slices}
-use Rattle.yq_rows.specs.declared.ends.EndPlace.{EndPlace}
-use Rattle.yq_rows.specs.declared.offsets.Offsets as declared
-use Rattle.yq_rows.specs.declared.places.Places.{Places}
-use Rattle.yq_rows.proofs.ItemLaws.{items_of_text}
-use Rattle.yq_rows.proofs.KeptLaws.{near_joined, texts_joined}
-use Rattle.yq_rows.proofs.RegionLaws.{region}
+use Rattle.yq_cut.specs.Ends.{end_at}
+use Rattle.yq_cut.specs.Grammar.{IsCut}
+use Rattle.yq_cut.specs.Items.{Item, row_item, end_item, items_of, items_text}
+use Rattle.yq_cut.specs.Kept.{ArePlaced, near, ends_near, turned, TextsIn}
+use Rattle.yq_cut.specs.Offsets.{offsets_of}
+use Rattle.yq_cut.specs.Reading.{all_parts}
+use Rattle.yq_cut.specs.Regions.{IsReadAlone, alone, no_items}
+use Rattle.yq_cut.specs.Rows.{Row, Cut}
+use Rattle.yq_cut.specs.Touched.{TouchesOnly}
+use Rattle.yq_cut.specs.View.{slices}
+use Rattle.yq_cut.specs.declared.ends.EndPlace.{EndPlace}
+use Rattle.yq_cut.specs.declared.offsets.Offsets as declared
+use Rattle.yq_cut.specs.declared.places.Places.{Places}
+use Rattle.yq_cut.proofs.ItemLaws.{items_of_text}
+use Rattle.yq_cut.proofs.KeptLaws.{near_joined, texts_joined}
+use Rattle.yq_cut.proofs.RegionLaws.{region}
 use Rattle.yq_session.specs.Dropping.{DropsLast}
 use Rattle.yq_session.specs.Exchanging.{TextChange}
 use Rattle.yq_session.specs.Following.{ArePlacesOf, exchanged, read_text}

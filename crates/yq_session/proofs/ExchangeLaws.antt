@@ -4,17 +4,17 @@ use Rattle.std.proofs.lemmas.List.{drop_all, drop_more, length-map, length-rever
 use Rattle.std.proofs.lemmas.List.Elements.{All-weaker}
 use Rattle.std.proofs.lemmas.Option.{get_or_from_slice_get, slice_get_within}
 use Rattle.std.specs.List.{All}
-use Rattle.yq_rows.specs.Ends.{end_at}
-use Rattle.yq_rows.specs.Items.{Item, row_item, end_item}
-use Rattle.yq_rows.specs.Kept.{ArePlaced, far, kept_rows, near, ends_near, raised, placed_rows, TextsIn}
-use Rattle.yq_rows.specs.Offsets.{offsets_of}
-use Rattle.yq_rows.specs.Regions.{alone}
-use Rattle.yq_rows.specs.Rows.{print_row}
-use Rattle.yq_rows.specs.View.{slices}
-use Rattle.yq_rows.specs.declared.ends.EndPlace.{EndPlace}
-use Rattle.yq_rows.specs.declared.offsets.Offsets as declared
-use Rattle.yq_rows.specs.declared.places.Places.{Places}
-use Rattle.yq_rows.proofs.KeptLaws.{near_joined, texts_joined}
+use Rattle.yq_cut.specs.Ends.{end_at}
+use Rattle.yq_cut.specs.Items.{Item, row_item, end_item}
+use Rattle.yq_cut.specs.Kept.{ArePlaced, far, kept_rows, near, ends_near, raised, placed_rows, TextsIn}
+use Rattle.yq_cut.specs.Offsets.{offsets_of}
+use Rattle.yq_cut.specs.Regions.{alone}
+use Rattle.yq_cut.specs.Rows.{print_row}
+use Rattle.yq_cut.specs.View.{slices}
+use Rattle.yq_cut.specs.declared.ends.EndPlace.{EndPlace}
+use Rattle.yq_cut.specs.declared.offsets.Offsets as declared
+use Rattle.yq_cut.specs.declared.places.Places.{Places}
+use Rattle.yq_cut.proofs.KeptLaws.{near_joined, texts_joined}
 use Rattle.yq_session.specs.Exchanging.{GivesWay, IsMovable, joined_ends, moved_from}
 use Rattle.yq_session.specs.Sides.{origin, text_length}
 use Rattle.yq_session.specs.declared.reading.Come.{Come}

@@ -5,20 +5,20 @@ use Rattle.std.proofs.lemmas.List.{append_cancel_left, append_cancel_right}
 use Rattle.std.proofs.lemmas.Str.{IsUtf8-nil}
 use Rattle.std.specs.Str.{IsUtf8}
 use Rattle.yq_flow_scalars.specs.Characters.{text_limit}
-use Rattle.yq_rows.specs.Grammar.{IsCut, IsMarkerLine}
-use Rattle.yq_rows.specs.Items.{Item, end_item, items_of, items_text, nothing_asked, asked_of, AreRowItems}
-use Rattle.yq_rows.specs.Kept.{kept_rows, near, ends_near, TextsIn}
-use Rattle.yq_rows.specs.Meter.{begins_line}
-use Rattle.yq_rows.specs.Regions.{StandIn, ended, no_items}
-use Rattle.yq_rows.specs.Rows.{Cut}
-use Rattle.yq_rows.specs.Touched.{TouchesOnly, in_back, in_front}
-use Rattle.yq_rows.specs.declared.ends.EndPlace.{EndPlace}
-use Rattle.yq_rows.specs.declared.places.Places.{Places}
-use Rattle.yq_rows.proofs.ItemLaws.{items_joined, items_of_text, parts_are_items}
-use Rattle.yq_rows.proofs.KeptLaws.{items_texts, near_joined}
-use Rattle.yq_rows.proofs.RegionEnds.{region_end}
-use Rattle.yq_rows.proofs.RegionLaws.{region}
-use Rattle.yq_rows.proofs.ScanLaws.{one_cut}
+use Rattle.yq_cut.specs.Grammar.{IsCut, IsMarkerLine}
+use Rattle.yq_cut.specs.Items.{Item, end_item, items_of, items_text, nothing_asked, asked_of, AreRowItems}
+use Rattle.yq_cut.specs.Kept.{kept_rows, near, ends_near, TextsIn}
+use Rattle.yq_cut.specs.Meter.{begins_line}
+use Rattle.yq_cut.specs.Regions.{StandIn, ended, no_items}
+use Rattle.yq_cut.specs.Rows.{Cut}
+use Rattle.yq_cut.specs.Touched.{TouchesOnly, in_back, in_front}
+use Rattle.yq_cut.specs.declared.ends.EndPlace.{EndPlace}
+use Rattle.yq_cut.specs.declared.places.Places.{Places}
+use Rattle.yq_cut.proofs.ItemLaws.{items_joined, items_of_text, parts_are_items}
+use Rattle.yq_cut.proofs.KeptLaws.{items_texts, near_joined}
+use Rattle.yq_cut.proofs.RegionEnds.{region_end}
+use Rattle.yq_cut.proofs.RegionLaws.{region}
+use Rattle.yq_cut.proofs.ScanLaws.{one_cut}
 use Rattle.yq_session.specs.Exchanging.{TextChange}
 use Rattle.yq_session.specs.Following.{Follows, exchanged, read_text}
 use Rattle.yq_session.specs.Reading.{AreEdges, IsRead, IsUnread, read_part, region_text, unread_end}

@@ -3,18 +3,18 @@ use Rattle.std.proofs.Common.{◌≡◌, ℕ, ◌+◌, ◌<◌, ◌≤◌, ◌^�
 use Rattle.std.proofs.lemmas.List.{reverse-append, reverse-reverse}
 use Rattle.std.proofs.lemmas.List.Elements.{All-cons, All-head, All-nil, All-push, All-tail}
 use Rattle.std.specs.List.{All}
-use Rattle.yq_rows.specs.Grammar.{IsCut}
-use Rattle.yq_rows.specs.Items.{Item, row_item, end_item, items_of, items_text, view_of_items}
-use Rattle.yq_rows.specs.Kept.{ArePlaced, IsPlaced, far, near, ends_near, placed_rows, turned, TextsIn}
-use Rattle.yq_rows.specs.Offsets.{offsets_of}
-use Rattle.yq_rows.specs.Rows.{Cut, print_row}
-use Rattle.yq_rows.specs.View.{RowsView, rows_view, slices}
-use Rattle.yq_rows.specs.declared.offsets.Offsets as declared
-use Rattle.yq_rows.specs.declared.places.Places.{Places}
-use Rattle.yq_rows.proofs.ItemLaws.{items_of_text, items_view_is, items_text-append}
-use Rattle.yq_rows.proofs.KeptLaws.{far_near, items_apart, near_joined}
-use Rattle.yq_rows.proofs.PlacedLaws.{same_view}
-use Rattle.yq_rows.proofs.ScanLaws.{one_cut}
+use Rattle.yq_cut.specs.Grammar.{IsCut}
+use Rattle.yq_cut.specs.Items.{Item, row_item, end_item, items_of, items_text, view_of_items}
+use Rattle.yq_cut.specs.Kept.{ArePlaced, IsPlaced, far, near, ends_near, placed_rows, turned, TextsIn}
+use Rattle.yq_cut.specs.Offsets.{offsets_of}
+use Rattle.yq_cut.specs.Rows.{Cut, print_row}
+use Rattle.yq_cut.specs.View.{RowsView, rows_view, slices}
+use Rattle.yq_cut.specs.declared.offsets.Offsets as declared
+use Rattle.yq_cut.specs.declared.places.Places.{Places}
+use Rattle.yq_cut.proofs.ItemLaws.{items_of_text, items_view_is, items_text-append}
+use Rattle.yq_cut.proofs.KeptLaws.{far_near, items_apart, near_joined}
+use Rattle.yq_cut.proofs.PlacedLaws.{same_view}
+use Rattle.yq_cut.proofs.ScanLaws.{one_cut}
 use Rattle.yq_session.specs.Following.{ArePlacesOf, IsPlacedIn}
 use Rattle.yq_session.specs.Sides.{AreAt, first_byte, text_length}
 use Rattle.yq_session.proofs.BeginLaws.{begin_within, first_long, joined_long, rows_begin}

@@ -1,11 +1,11 @@
 -- How long what a change keeps on either side is.
 use Rattle.std.proofs.Common.{◌≡◌, ⊎_elim, ltb, cond, Bool, true, false, ℕ, ◌+◌, ◌-◌, ◌<◌, ◌≤◌, List, [], ◌∷◌, ◌++◌, length, refl, sym, ap, ◌∙◌, arith, append_assoc, length-append, ltb-true}
 use Rattle.std.proofs.lemmas.Bool.{cases_lt, lt-ltb}
-use Rattle.yq_rows.specs.Items.{Item, row_item, end_item, items_of, rows_items}
-use Rattle.yq_rows.specs.Kept.{near, ends_near}
-use Rattle.yq_rows.specs.Regions.{no_items}
-use Rattle.yq_rows.specs.Rows.{Row, Cut, last, marked}
-use Rattle.yq_rows.specs.Touched.{in_back, in_front, item_text}
+use Rattle.yq_cut.specs.Items.{Item, row_item, end_item, items_of, rows_items}
+use Rattle.yq_cut.specs.Kept.{near, ends_near}
+use Rattle.yq_cut.specs.Regions.{no_items}
+use Rattle.yq_cut.specs.Rows.{Row, Cut, last, marked}
+use Rattle.yq_cut.specs.Touched.{in_back, in_front, item_text}
 use Rattle.yq_session.specs.Sides.{text_length}
 use Rattle.yq_session.proofs.BeginLaws.{first_long}
 

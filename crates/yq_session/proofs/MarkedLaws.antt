@@ -4,14 +4,14 @@ use Rattle.std.proofs.lemmas.Bool.{and_from, and_parts, cases_Bool, cases_lt, eq
 use Rattle.std.proofs.lemmas.List.Elements.{All-get_or}
 use Rattle.std.proofs.lemmas.Option.{get_or_from_slice_get}
 use Rattle.yq_flow_scalars.specs.Answers.{◌>>=◌}
-use Rattle.yq_rows.specs.Ends.{end_at}
-use Rattle.yq_rows.specs.Items.{Item, row_item, end_item}
-use Rattle.yq_rows.specs.Kept.{near, ends_near}
-use Rattle.yq_rows.specs.Regions.{ended, no_items}
-use Rattle.yq_rows.specs.Offsets.{offsets_of}
-use Rattle.yq_rows.specs.Rows.{Row}
-use Rattle.yq_rows.specs.View.{slices}
-use Rattle.yq_rows.specs.declared.ends.EndPlace.{EndPlace}
+use Rattle.yq_cut.specs.Ends.{end_at}
+use Rattle.yq_cut.specs.Items.{Item, row_item, end_item}
+use Rattle.yq_cut.specs.Kept.{near, ends_near}
+use Rattle.yq_cut.specs.Regions.{ended, no_items}
+use Rattle.yq_cut.specs.Offsets.{offsets_of}
+use Rattle.yq_cut.specs.Rows.{Row}
+use Rattle.yq_cut.specs.View.{slices}
+use Rattle.yq_cut.specs.declared.ends.EndPlace.{EndPlace}
 use Rattle.yq_session.specs.Following.{kept_marker, last_marker, marker_of}
 use Rattle.yq_session.specs.Sides.{keeps_marker, marked_end, side_of, text_length}
 use Rattle.yq_session.specs.declared.sides.Side.{Side}

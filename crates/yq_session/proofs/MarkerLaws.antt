@@ -3,16 +3,16 @@ use Rattle.std.proofs.Common.{◌≡◌, ⊎_elim, ℕ, ◌<◌, ◌≤◌, Bool
 use Rattle.std.proofs.lemmas.Bool.{cases_lt, false≢true}
 use Rattle.std.proofs.lemmas.List.{append_cancel_right, nil_from_length}
 use Rattle.yq_flow_scalars.specs.Text.{front, is_feed, is_marker}
-use Rattle.yq_inline.specs.Alike.{fresh}
-use Rattle.yq_rows.specs.Gap.{IsGap}
-use Rattle.yq_rows.specs.Grammar.{IsMarkerLine, IsRow, Limit}
-use Rattle.yq_rows.specs.Items.{Item, row_item, end_item, items_text, Asked, asked_of, AreRowItems, IsPartEnd, nothing_asked}
-use Rattle.yq_rows.specs.Meter.{begins_line}
-use Rattle.yq_rows.specs.Regions.{ended}
-use Rattle.yq_rows.specs.Rows.{Row, print_row}
-use Rattle.yq_rows.specs.Touched.{item_text}
-use Rattle.yq_rows.proofs.ItemLaws.{items_joined}
-use Rattle.yq_rows.proofs.KeptLaws.{print_then}
+use Rattle.yq_nodes.specs.Alike.{fresh}
+use Rattle.yq_cut.specs.Gap.{IsGap}
+use Rattle.yq_cut.specs.Grammar.{IsMarkerLine, IsRow, Limit}
+use Rattle.yq_cut.specs.Items.{Item, row_item, end_item, items_text, Asked, asked_of, AreRowItems, IsPartEnd, nothing_asked}
+use Rattle.yq_cut.specs.Meter.{begins_line}
+use Rattle.yq_cut.specs.Regions.{ended}
+use Rattle.yq_cut.specs.Rows.{Row, print_row}
+use Rattle.yq_cut.specs.Touched.{item_text}
+use Rattle.yq_cut.proofs.ItemLaws.{items_joined}
+use Rattle.yq_cut.proofs.KeptLaws.{print_then}
 use Rattle.yq_session.proofs.ItemPlaces.{text_split}
 use Rattle.yq_session.proofs.LineLaws.{Unmarked, Upto, upto_none}
 use Rattle.yq_session.proofs.MarkedLaws.{last_of}

@@ -4,11 +4,11 @@ use Rattle.std.proofs.lemmas.Bool.{cases_Bool, false≢true, not-false, or_cases
 use Rattle.yq_flow_scalars.specs.Plain.{IsPlain}
 use Rattle.yq_flow_scalars.specs.Quoted.{Lines, IsQuoted, spell_lines}
 use Rattle.yq_flow_scalars.specs.Text.{is_feed, is_marker, is_white, no_white, unless, NoneIn}
-use Rattle.yq_inline.specs.declared.gap.Before.{Before}
-use Rattle.yq_inline.specs.declared.gap.Before.TheVariants.{Token}
-use Rattle.yq_inline.specs.Gaps.{goes, next, behind, is_break, AllGo, IsInlineGap}
-use Rattle.yq_inline.specs.Nodes.{Node, empty, alias, scalar, coll, anchored, Items, none, item, Key, bare, keyed, Sep, last, comma, key_text, sep_text, node_text, items_text, open_of, is_close, in_name, begins_node, begins_content, IsApart, IsLead, IsInlineKey, IsSep, IsNode, AreItems}
-use Rattle.yq_inline.specs.Scalars.{IsScalarAt}
+use Rattle.yq_nodes.specs.declared.gap.Before.{Before}
+use Rattle.yq_nodes.specs.declared.gap.Before.TheVariants.{Token}
+use Rattle.yq_nodes.specs.Gaps.{goes, next, behind, is_break, AllGo, IsInlineGap}
+use Rattle.yq_nodes.specs.Nodes.{Node, empty, alias, scalar, coll, anchored, Items, none, item, Key, bare, keyed, Sep, last, comma, key_text, sep_text, node_text, items_text, open_of, is_close, in_name, begins_node, begins_content, IsApart, IsLead, IsInlineKey, IsSep, IsNode, AreItems}
+use Rattle.yq_nodes.specs.Scalars.{IsScalarAt}
 use Rattle.yq_session.proofs.LineLaws.{NoFeed, Upto, no_marker_byte, plain_lines, quoted_lines, space_no_marker, upto_byte, upto_line, upto_more, upto_piece}
 
 -- a byte is one of two

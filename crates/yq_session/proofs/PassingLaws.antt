@@ -3,8 +3,8 @@ use Rattle.std.proofs.Common.{◌≡◌, ℕ, ◌-◌, ◌<◌, Option, Some, Li
 use Rattle.std.proofs.lemmas.List.{reverse-append}
 use Rattle.std.proofs.lemmas.List.Elements.{All-pop}
 use Rattle.std.specs.List.{All}
-use Rattle.yq_rows.specs.Kept.{turned}
-use Rattle.yq_rows.specs.declared.offsets.Offsets as declared
+use Rattle.yq_cut.specs.Kept.{turned}
+use Rattle.yq_cut.specs.declared.offsets.Offsets as declared
 use Rattle.yq_session.specs.Sides.{LastBefore, both_sides}
 use Rattle.yq_session.proofs.SplitLaws.{Within, last_of_joined, turned_one}
 

@@ -9,16 +9,16 @@ use Rattle.yq_flow_scalars.specs.Answers.{ReadFails}
 use Rattle.yq_flow_scalars.specs.declared.fault.ReadError.{ReadError}
 use Rattle.yq_flow_scalars.specs.declared.fault.ReadError.TheVariants as reading
 use Rattle.yq_flow_scalars.specs.declared.fault.ReadFault.{ReadFault}
-use Rattle.yq_rows.specs.Ends.{end_at}
-use Rattle.yq_rows.specs.Items.{Item, end_item, items_of, items_text, rows_items, view_of_items}
-use Rattle.yq_rows.specs.Kept.{IsPlaced, near, ends_near, TextsIn}
-use Rattle.yq_rows.specs.Meter.{begins_line}
-use Rattle.yq_rows.specs.Regions.{IsReadAlone, alone, ended, no_items}
-use Rattle.yq_rows.specs.Rows.{Row, Cut, last, marked, print_row}
-use Rattle.yq_rows.specs.View.{RowsView}
-use Rattle.yq_rows.specs.declared.ends.EndPlace.{EndPlace}
-use Rattle.yq_rows.specs.declared.places.Places.{Places}
-use Rattle.yq_rows.proofs.KeptLaws.{texts_joined}
+use Rattle.yq_cut.specs.Ends.{end_at}
+use Rattle.yq_cut.specs.Items.{Item, end_item, items_of, items_text, rows_items, view_of_items}
+use Rattle.yq_cut.specs.Kept.{IsPlaced, near, ends_near, TextsIn}
+use Rattle.yq_cut.specs.Meter.{begins_line}
+use Rattle.yq_cut.specs.Regions.{IsReadAlone, alone, ended, no_items}
+use Rattle.yq_cut.specs.Rows.{Row, Cut, last, marked, print_row}
+use Rattle.yq_cut.specs.View.{RowsView}
+use Rattle.yq_cut.specs.declared.ends.EndPlace.{EndPlace}
+use Rattle.yq_cut.specs.declared.places.Places.{Places}
+use Rattle.yq_cut.proofs.KeptLaws.{texts_joined}
 use Rattle.yq_session.specs.Following.{without_line}
 use Rattle.yq_session.specs.Reading.{ArePlacesRead, IsRead, IsUnread, marked_as, read_part, settled, unread_end, without_marker}
 use Rattle.yq_session.specs.Sides.{both_sides, text_length}

@@ -3,9 +3,9 @@ use Rattle.std.proofs.Common.{◌≡◌, ℕ, suc, ◌-◌, ◌<◌, ◌≤◌, 
 use Rattle.std.proofs.lemmas.List.{reverse-append, reverse-reverse}
 use Rattle.std.proofs.lemmas.List.Elements.{All-head, All-tail}
 use Rattle.std.specs.List.{All}
-use Rattle.yq_rows.specs.Kept.{turned}
-use Rattle.yq_rows.specs.declared.ends.EndPlace.{EndPlace}
-use Rattle.yq_rows.specs.declared.offsets.Offsets as declared
+use Rattle.yq_cut.specs.Kept.{turned}
+use Rattle.yq_cut.specs.declared.ends.EndPlace.{EndPlace}
+use Rattle.yq_cut.specs.declared.offsets.Offsets as declared
 use Rattle.yq_session.specs.Sides.{FirstFrom, ends_before, nearer}
 
 -- the last place of a list

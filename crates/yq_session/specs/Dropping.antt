@@ -1,8 +1,8 @@
 -- Rows that go from the end of a text, behind one that stays as it was read (own; a reader of the contracts may skip it).
 use Rattle.std.specs.Prelude.{◌≡◌, ℕ, ◌+◌, ◌<◌, false, length, reverse, None, Some, slice_get}
-use Rattle.yq_rows.specs.Kept.{moved}
-use Rattle.yq_rows.specs.declared.ends.EndPlace.{EndPlace}
-use Rattle.yq_rows.specs.declared.places.Places.{Places}
+use Rattle.yq_cut.specs.Kept.{moved}
+use Rattle.yq_cut.specs.declared.ends.EndPlace.{EndPlace}
+use Rattle.yq_cut.specs.declared.places.Places.{Places}
 use Rattle.yq_session.specs.Sides.{first_byte}
 use Rattle.yq_session.specs.declared.kept.Kept.{Kept}
 use Rattle.yq_session.specs.declared.sides.Touched.{Touched}

@@ -1,12 +1,12 @@
 -- What a change touches and what is written in its place, and rows and ends of parts that give way to others (own; a reader of the contracts may skip it).
 use Rattle.std.specs.Prelude.{◌≡◌, ℕ, ◌+◌, ◌-◌, ◌<◌, ◌^◌, List, ◌++◌, drop, length, map, reverse, take}
-use Rattle.yq_rows.specs.Grammar.{IsCut}
-use Rattle.yq_rows.specs.Items.{Item, items_of}
-use Rattle.yq_rows.specs.Kept.{near, far, moved, ArePlaced}
-use Rattle.yq_rows.specs.Rows.{Cut}
-use Rattle.yq_rows.specs.Touched.{TouchesOnly}
-use Rattle.yq_rows.specs.declared.ends.EndPlace.{EndPlace}
-use Rattle.yq_rows.specs.declared.places.Places.{Places}
+use Rattle.yq_cut.specs.Grammar.{IsCut}
+use Rattle.yq_cut.specs.Items.{Item, items_of}
+use Rattle.yq_cut.specs.Kept.{near, far, moved, ArePlaced}
+use Rattle.yq_cut.specs.Rows.{Cut}
+use Rattle.yq_cut.specs.Touched.{TouchesOnly}
+use Rattle.yq_cut.specs.declared.ends.EndPlace.{EndPlace}
+use Rattle.yq_cut.specs.declared.places.Places.{Places}
 use Rattle.yq_session.specs.Following.{exchanged, read_text}
 use Rattle.yq_session.specs.Reading.{ArePlacesRead, IsRead, AreEdges, read_part, region_text}
 use Rattle.yq_session.specs.Sides.{AreAt, origin, side_of, text_length}

@@ -1,15 +1,15 @@
 -- A text and the places of its rows and of the ends of its parts that follow a change (own).
 use Rattle.std.specs.Prelude.{◌≡◌, ℕ, ◌+◌, ◌-◌, ◌≤◌, nat_le, List, [], ◌∷◌, ◌++◌, length, take, drop, if◌then◌else◌}
 use Rattle.std.specs.Str.{IsCharBoundary}
-use Rattle.yq_rows.specs.Grammar.{IsCut}
-use Rattle.yq_rows.specs.Items.{Item, row_item, end_item, items_of, items_text}
-use Rattle.yq_rows.specs.Kept.{IsPlaced}
-use Rattle.yq_rows.specs.Meter.{begins_line, counted, line_count}
-use Rattle.yq_rows.specs.Regions.{no_items}
-use Rattle.yq_rows.specs.Rows.{Cut}
-use Rattle.yq_rows.specs.Touched.{TouchesOnly, in_back}
-use Rattle.yq_rows.specs.View.{rows_view}
-use Rattle.yq_rows.specs.declared.places.Places.{Places}
+use Rattle.yq_cut.specs.Grammar.{IsCut}
+use Rattle.yq_cut.specs.Items.{Item, row_item, end_item, items_of, items_text}
+use Rattle.yq_cut.specs.Kept.{IsPlaced}
+use Rattle.yq_cut.specs.Meter.{begins_line, counted, line_count}
+use Rattle.yq_cut.specs.Regions.{no_items}
+use Rattle.yq_cut.specs.Rows.{Cut}
+use Rattle.yq_cut.specs.Touched.{TouchesOnly, in_back}
+use Rattle.yq_cut.specs.View.{rows_view}
+use Rattle.yq_cut.specs.declared.places.Places.{Places}
 use Rattle.yq_session.specs.declared.kept.Kept.{Kept}
 
 -- what a text becomes where these bytes come in the place of those that aren't kept (own)

@@ -1,11 +1,11 @@
 -- What is read where rows and ends of parts are exchanged (own; a reader of the contracts may skip it).
 use Rattle.std.specs.Prelude.{◌≡◌, ℕ, ◌-◌, ◌<◌, ◌≤◌, ◌^◌, Bool, true, false, not, List, [], ◌++◌, length, map, take, drop, Option, Some, None, if◌then◌else◌}
 use Rattle.std.specs.Str.{IsCharBoundary, IsUtf8}
-use Rattle.yq_rows.specs.Items.{Item, items_text}
-use Rattle.yq_rows.specs.Kept.{near, ends_near, placed_rows, TextsIn}
-use Rattle.yq_rows.specs.Meter.{begins_line}
-use Rattle.yq_rows.specs.Regions.{IsReadAlone, ended, no_items}
-use Rattle.yq_rows.specs.declared.ends.EndPlace.{EndPlace}
+use Rattle.yq_cut.specs.Items.{Item, items_text}
+use Rattle.yq_cut.specs.Kept.{near, ends_near, placed_rows, TextsIn}
+use Rattle.yq_cut.specs.Meter.{begins_line}
+use Rattle.yq_cut.specs.Regions.{IsReadAlone, ended, no_items}
+use Rattle.yq_cut.specs.declared.ends.EndPlace.{EndPlace}
 use Rattle.yq_session.specs.declared.kept.Kept.{Kept}
 use Rattle.yq_session.specs.declared.reading.Come.{Come}
 use Rattle.yq_session.specs.declared.sides.Touched.{Touched}

@@ -1,12 +1,12 @@
 -- What stands in front of items that a change touches, and in front of those behind them, by places (own; a reader of the contracts may skip it).
 use Rattle.std.specs.Prelude.{◌≡◌, ◌==◌, ◌&&◌, Bool, ℕ, suc, ◌+◌, ◌-◌, ◌<◌, ◌≤◌, ◌^◌, nat_le, nat_lt, List, [], ◌∷◌, ◌++◌, length, map, reverse, Option, Some, None, slice_get, if◌then◌else◌}
 use Rattle.yq_flow_scalars.specs.Answers.{◌>>=◌}
-use Rattle.yq_rows.specs.Items.{Item, items_text}
-use Rattle.yq_rows.specs.Kept.{near, ends_near, placed_rows, turned, TextsIn}
-use Rattle.yq_rows.specs.Touched.{in_front}
-use Rattle.yq_rows.specs.declared.ends.EndPlace.{EndPlace}
-use Rattle.yq_rows.specs.declared.offsets.Offsets as declared
-use Rattle.yq_rows.specs.declared.places.Places.{Places}
+use Rattle.yq_cut.specs.Items.{Item, items_text}
+use Rattle.yq_cut.specs.Kept.{near, ends_near, placed_rows, turned, TextsIn}
+use Rattle.yq_cut.specs.Touched.{in_front}
+use Rattle.yq_cut.specs.declared.ends.EndPlace.{EndPlace}
+use Rattle.yq_cut.specs.declared.offsets.Offsets as declared
+use Rattle.yq_cut.specs.declared.places.Places.{Places}
 use Rattle.yq_session.specs.declared.sides.Side.{Side}
 
 -- how long the text of items is (own)

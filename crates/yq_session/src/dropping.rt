@@ -2,13 +2,14 @@
 ghost use Rattle.std.specs.Prelude.{◌≡◌, ◌≤◌, ◌<◌, ◌+◌, ◌-◌, ◌^◌, IfSome, IsTrue, None, [], drop, false, length, slice_set, take};
 ghost use Rattle.std.specs.Str.{IsCharBoundary};
 ghost use Rattle.yq_text.specs.Split.{joined};
-ghost use Rattle.yq_rows.specs.Meter.{counted, line_count};
+ghost use Rattle.yq_cut.specs.Meter.{counted, line_count};
 ghost use Rattle.yq_session.specs.Dropping.{DropsLast};
 
 use crate::kept::Kept;
 use crate::sides::Touched;
 use crate::split::begin_of;
-use yq_rows::{EndPlace, Meter, Places, count_lines};
+use yq_cut::{EndPlace, Places};
+use yq_rows::{Meter, count_lines};
 use yq_text::SplitText;
 
 /// Whether more than so many rows stand before the end of a text, and neither a gap nor a marker.

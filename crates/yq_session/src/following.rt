@@ -11,7 +11,8 @@ use crate::reading::{read, region};
 use crate::sides::find_touched;
 use crate::split::move_split;
 use std::alloc::{AllocError, Global};
-use yq_rows::{Meter, Places};
+use yq_cut::Places;
+use yq_rows::Meter;
 use yq_text::SplitText;
 
 /// Writes what comes into a text in the place of the bytes that aren't kept; there is room for it.

@@ -2,15 +2,16 @@
 ghost use Rattle.std.specs.Prelude.{◌≡◌, ◌-◌, ◌≤◌, ◌<◌, ◌^◌, IfOk, IfSome, OnOk, length, take, drop, string_bytes};
 ghost use Rattle.std.specs.Str.{IsCharBoundary};
 ghost use Rattle.yq_text.specs.Halves.{whole};
-ghost use Rattle.yq_rows.specs.Meter.{counted, line_count};
+ghost use Rattle.yq_cut.specs.Meter.{counted, line_count};
 ghost use Rattle.yq_session.specs.Reading.{Comes};
 ghost use Rattle.yq_session.specs.Reading as spec;
 
 use crate::kept::Kept;
 use crate::sides::Touched;
 use std::alloc::{AllocError, Global};
+use yq_cut::{EndPlace, Places};
 use yq_flow_scalars::ReadError;
-use yq_rows::{EndPlace, Meter, Places, read_region};
+use yq_rows::{Meter, read_region};
 use yq_text::Halves;
 
 /// Rows and ends of parts that come in the place of others.

@@ -1,12 +1,12 @@
 //! What stands in front of what a change touches, and in front of what stands behind that.
 ghost use Rattle.std.specs.Prelude.{◌≡◌, ◌<◌, ◌≤◌, ◌^◌, ◌||◌, List, ℕ, length, nat_lt, reverse};
-ghost use Rattle.yq_rows.specs.Kept.{kept_rows};
+ghost use Rattle.yq_cut.specs.Kept.{kept_rows};
 ghost use Rattle.yq_session.specs.Exchanging.{TextChange};
 ghost use Rattle.yq_session.specs.Following.{Follows};
 ghost use Rattle.yq_session.specs.Sides as spec;
 
 use crate::kept::Kept;
-use yq_rows::{EndPlace, Offsets, Places};
+use yq_cut::{EndPlace, Offsets, Places};
 
 /// How many rows, ends of parts and bytes stand in front of a place in a text.
 #[derive(Clone, Copy, Debug)]

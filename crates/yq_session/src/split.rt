@@ -6,7 +6,7 @@ ghost use Rattle.yq_session.specs.Following.{IsPlacedIn};
 ghost use Rattle.yq_session.specs.Sides.{IsSplitAt, LastBefore, FirstFrom, both_sides, first_byte};
 
 use std::alloc::AllocError;
-use yq_rows::{Offsets, Places};
+use yq_cut::{Offsets, Places};
 use yq_text::SplitText;
 
 /// Moves rows that begin at an offset or behind it to the other side of the split.

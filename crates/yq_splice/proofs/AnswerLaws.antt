@@ -1,7 +1,7 @@
 -- The promises of an accepted edit, and what a refused one tells.
 use Rattle.std.proofs.Common.{◌≡◌, ℕ, suc, false, ◌+◌, ◌<◌, ◌≤◌, List, [], ◌∷◌, ◌++◌, length, take, drop, Option, Some, None, Result, Ok, Err}
 use Rattle.std.proofs.Common.{IfOk, IfErr, string_bytes, refl, sym, ap, ◌∙◌, subst, take_all, arith}
-use Rattle.yq_rows.specs.Rows.{Cut}
+use Rattle.yq_cut.specs.Rows.{Cut}
 use Rattle.yq_documents.specs.Reading.{documents, read_at}
 use Rattle.yq_places.proofs.ReadLaws.{read_takes}
 use Rattle.yq_program.specs.Program.{Program, Update, read, updates, update_at, update_count, is_read}

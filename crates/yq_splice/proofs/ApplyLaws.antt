@@ -2,7 +2,7 @@
 use Rattle.std.proofs.Common.{◌≡◌, ℕ, ◌<◌, ◌≤◌, Bool, true, false, cond, leb, List, length, Option, Some, Result, Ok, Err, IfOk, IfErr, string_bytes, refl, sym, ap, ◌∙◌, subst}
 use Rattle.std.proofs.lemmas.Bool.{leb-true, leb-false}
 use Rattle.yq_flow_scalars.specs.Characters.{text_limit}
-use Rattle.yq_rows.specs.Rows.{Cut, cut_text}
+use Rattle.yq_cut.specs.Rows.{Cut, cut_text}
 use Rattle.yq_documents.specs.Documents.{Reads}
 use Rattle.yq_documents.specs.Reading.{documents, documents_of, read_at}
 use Rattle.yq_places.proofs.ReadLaws.{read_takes}

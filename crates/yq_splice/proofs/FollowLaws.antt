@@ -6,18 +6,18 @@ use Rattle.std.proofs.lemmas.Option.{same_Some}
 use Rattle.std.specs.Str.{IsCharBoundary, IsUtf8}
 use Rattle.std.specs.declared.alloc.Global.{Global}
 use Rattle.yq_flow_scalars.specs.Characters.{text_limit}
-use Rattle.yq_rows.specs.Grammar.{IsCut}
-use Rattle.yq_rows.specs.Meter.{counted, line_count}
-use Rattle.yq_rows.specs.Rows.{Cut, cut_text}
-use Rattle.yq_rows.specs.Touched.{TouchesOnly}
-use Rattle.yq_rows.specs.View.{rows_view}
-use Rattle.yq_rows.specs.declared.places.Places.{Places}
-use Rattle.yq_rows.proofs.MeterLaws.{counted_within}
+use Rattle.yq_cut.specs.Grammar.{IsCut}
+use Rattle.yq_cut.specs.Meter.{counted, line_count}
+use Rattle.yq_cut.specs.Rows.{Cut, cut_text}
+use Rattle.yq_cut.specs.Touched.{TouchesOnly}
+use Rattle.yq_cut.specs.View.{rows_view}
+use Rattle.yq_cut.specs.declared.places.Places.{Places}
+use Rattle.yq_cut.proofs.MeterLaws.{counted_within}
 use Rattle.yq_documents.specs.Documents.{Document, Reads}
 use Rattle.yq_documents.specs.Reading.{documents, cut_of, read_at}
-use Rattle.yq_walk.specs.RowWalk.{AreKnown}
+use Rattle.yq_row_lines.specs.RowWalk.{AreKnown}
 use Rattle.yq_places.specs.RowWalk.{StayKnown}
-use Rattle.yq_walk.specs.declared.position.KnownItems.{KnownItems}
+use Rattle.yq_row_lines.specs.declared.line_position.KnownItems.{KnownItems}
 use Rattle.yq_places.proofs.ExactReading.{parts_read}
 use Rattle.yq_meaning.specs.Fits.{Fits}
 use Rattle.yq_meaning.specs.Operations.{Operation}

@@ -1,6 +1,6 @@
 -- What an update comes to on a text that reads, once its operations are planned.
 use Rattle.std.proofs.Common.{◌≡◌, inl, inr, ℕ, List, [], ◌∷◌, Some, ap, subst}
-use Rattle.yq_rows.specs.Rows.{Cut}
+use Rattle.yq_cut.specs.Rows.{Cut}
 use Rattle.yq_documents.specs.Reading.{read_at, documents}
 use Rattle.yq_lines.proofs.ShapeLaws.{shaped_by_lines, shaped_is_tree}
 use Rattle.yq_places.proofs.ReadLaws.{read_takes}

@@ -1,7 +1,7 @@
 -- The lines of a document of a cut that has a reading.
 use Rattle.std.proofs.Common.{◌≡◌, ℕ, Some, refl}
 use Rattle.std.specs.List.{slice_get}
-use Rattle.yq_rows.specs.Rows.{Part, Cut, cut_text}
+use Rattle.yq_cut.specs.Rows.{Part, Cut, cut_text}
 use Rattle.yq_documents.specs.Documents.{document_parts}
 use Rattle.yq_places.specs.PathPieces.{PrintedDocument, printed_document}
 use Rattle.yq_documents.specs.Reading.{read_at}

@@ -9,9 +9,9 @@ use Rattle.yq_lines.specs.Ends.{found_line, line_of, lines_end}
 use Rattle.yq_lines.specs.Group.{group}
 use Rattle.yq_lines.specs.Outline.{Line, flatten}
 use Rattle.yq_lines.specs.Places.{FoundLine, find, lines_after, lines_before}
-use Rattle.yq_rows.specs.Rows.{Part, Cut, cut_text}
+use Rattle.yq_cut.specs.Rows.{Part, Cut, cut_text}
 use Rattle.yq_documents.specs.declared.path.Part.TheVariants.{Entry}
-use Rattle.yq_walk.specs.Lines.{lines_of}
+use Rattle.yq_row_lines.specs.Lines.{lines_of}
 use Rattle.yq_documents.specs.Pieces.{TextPiece}
 use Rattle.yq_documents.specs.Reading.{read_at}
 use Rattle.yq_documents.specs.LinesInRows.{RowLine, row_line, row_line_of}

@@ -9,9 +9,9 @@ use Rattle.yq_flow_scalars.specs.Text.{is_empty}
 use Rattle.yq_flow_scalars.specs.Tree.{Node}
 use Rattle.yq_flow_scalars.specs.declared.style.Place.TheVariants.{Block as InBlock}
 use Rattle.yq_lines.specs.Outline.{anchored}
-use Rattle.yq_rows.specs.Rows.{Cut, cut_text, parent_indent, rows_text}
-use Rattle.yq_rows.specs.View.{slices}
-use Rattle.yq_walk.specs.Lines.{content_anchor, head_of}
+use Rattle.yq_cut.specs.Rows.{Cut, cut_text, parent_indent, rows_text}
+use Rattle.yq_cut.specs.View.{slices}
+use Rattle.yq_row_lines.specs.Lines.{content_anchor, head_of}
 use Rattle.yq_documents.specs.Reading.{cut_of, read_at}
 use Rattle.yq_places.specs.CommentPlaces.{end_before}
 use Rattle.yq_places.specs.StandingViews.{IsHeldRow}

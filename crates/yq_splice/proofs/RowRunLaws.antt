@@ -7,7 +7,7 @@ use Rattle.std.proofs.lemmas.Option.{same_Some}
 use Rattle.std.specs.Str.{IsCharBoundary}
 use Rattle.yq_flow_scalars.specs.Characters.{text_limit}
 use Rattle.yq_flow_scalars.specs.Paths.{Step}
-use Rattle.yq_rows.specs.Rows.{Cut, cut_text}
+use Rattle.yq_cut.specs.Rows.{Cut, cut_text}
 use Rattle.yq_documents.specs.Reading.{documents, read_at}
 use Rattle.yq_places.specs.Standings.{RowsOfEntry, rows_of_entry}
 use Rattle.yq_places.proofs.ExactReading.{parts_read}

@@ -7,7 +7,7 @@ use Rattle.std.specs.Str.{IsUtf8}
 use Rattle.std.specs.String.{string_bytes}
 use Rattle.yq_flow_scalars.specs.Characters.{text_limit}
 use Rattle.yq_flow_scalars.specs.Paths.{Step}
-use Rattle.yq_rows.specs.Rows.{Cut}
+use Rattle.yq_cut.specs.Rows.{Cut}
 use Rattle.yq_documents.specs.Reading.{read_at}
 use Rattle.yq_places.specs.FirstPlaces.{first_removal}
 use Rattle.yq_places.specs.RemovalPlaces.{Removal, has_others_at, removal_place}

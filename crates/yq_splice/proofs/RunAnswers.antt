@@ -8,10 +8,10 @@ use Rattle.std.specs.Str.{IsCharBoundary}
 use Rattle.std.specs.declared.alloc.Global.{Global}
 use Rattle.yq_flow_scalars.specs.Paths.{Step}
 use Rattle.yq_flow_scalars.specs.Tree.{Node}
-use Rattle.yq_inline.specs.Entries.{step_of}
-use Rattle.yq_inline.specs.declared.path.Step as declared
+use Rattle.yq_nodes.specs.Entries.{step_of}
+use Rattle.yq_nodes.specs.declared.path.Step as declared
 use Rattle.yq_flow.specs.FlowPlaces.{edit_view}
-use Rattle.yq_rows.specs.Rows.{Cut, cut_text}
+use Rattle.yq_cut.specs.Rows.{Cut, cut_text}
 use Rattle.yq_documents.specs.Reading.{cut_of, read_at}
 use Rattle.yq_places.specs.FlowViews.{LeadsToHead, ReportsHead}
 use Rattle.yq_places.specs.NodesAt.{node_in}

@@ -8,16 +8,16 @@ use Rattle.yq_flow_scalars.specs.Paths.{Step}
 use Rattle.yq_flow_scalars.specs.Tree.{Node}
 use Rattle.yq_flow_scalars.specs.Answers.{◌>>=◌}
 use Rattle.yq_flow_scalars.proofs.Bools.{bind_some}
-use Rattle.yq_inline.specs.Collections.{CollPieces}
-use Rattle.yq_inline.specs.Entries.{item_at}
-use Rattle.yq_inline.specs.Nodes.{node_text}
-use Rattle.yq_inline.proofs.WrittenLaws.{node_then}
-use Rattle.yq_inline.specs.Trees.{tree_of}
+use Rattle.yq_nodes.specs.Collections.{CollPieces}
+use Rattle.yq_nodes.specs.Entries.{item_at}
+use Rattle.yq_nodes.specs.Nodes.{node_text}
+use Rattle.yq_nodes.proofs.WrittenLaws.{node_then}
+use Rattle.yq_nodes.specs.Trees.{tree_of}
 use Rattle.yq_flow.specs.FlowEdits.{FlowEdit, content_node}
 use Rattle.yq_flow.specs.FlowPlaces.{PlacedEdit}
 use Rattle.yq_flow.specs.Valued.{IsValueTree}
 use Rattle.yq_flow.specs.declared.flow_place.EditPlace.{EditPlace}
-use Rattle.yq_rows.specs.Rows.{Cut, cut_text}
+use Rattle.yq_cut.specs.Rows.{Cut, cut_text}
 use Rattle.yq_documents.specs.Reading.{documents, read_at}
 use Rattle.yq_places.specs.FlowNodes.{flow_collection}
 use Rattle.yq_places.specs.NodesAt.{node_in}

@@ -11,18 +11,18 @@ use Rattle.yq_flow_scalars.specs.declared.fault.ReadError.{ReadError}
 use Rattle.yq_flow_scalars.specs.declared.fault.ReadError.TheVariants as reading
 use Rattle.yq_flow_scalars.specs.Characters.{text_limit}
 use Rattle.yq_flow_scalars.proofs.Bools.{guard_then}
-use Rattle.yq_rows.specs.Grammar.{IsCut}
-use Rattle.yq_rows.specs.Items.{Item, items_of, items_text}
-use Rattle.yq_rows.specs.Kept.{IsPlaced}
-use Rattle.yq_rows.specs.Rows.{Cut, cut_text}
-use Rattle.yq_rows.specs.Touched.{TouchesOnly, in_back, in_front, item_text}
-use Rattle.yq_rows.specs.View.{RowsView, rows_view}
-use Rattle.yq_rows.specs.declared.places.Places.{Places}
-use Rattle.yq_rows.proofs.PlacedLaws.{split_boundary}
+use Rattle.yq_cut.specs.Grammar.{IsCut}
+use Rattle.yq_cut.specs.Items.{Item, items_of, items_text}
+use Rattle.yq_cut.specs.Kept.{IsPlaced}
+use Rattle.yq_cut.specs.Rows.{Cut, cut_text}
+use Rattle.yq_cut.specs.Touched.{TouchesOnly, in_back, in_front, item_text}
+use Rattle.yq_cut.specs.View.{RowsView, rows_view}
+use Rattle.yq_cut.specs.declared.places.Places.{Places}
+use Rattle.yq_cut.proofs.PlacedLaws.{split_boundary}
 use Rattle.yq_documents.specs.Reading.{all_documents, documents, cut_of, read_at}
-use Rattle.yq_walk.specs.RowWalk.{AreKnown}
+use Rattle.yq_row_lines.specs.RowWalk.{AreKnown}
 use Rattle.yq_places.specs.RowWalk.{HasCut, StayKnown}
-use Rattle.yq_walk.specs.declared.position.KnownItems.{KnownItems}
+use Rattle.yq_row_lines.specs.declared.line_position.KnownItems.{KnownItems}
 use Rattle.yq_places.proofs.ReadLaws.{text_takes, read_takes}
 use Rattle.yq_meaning.specs.Operations.{Operation}
 use Rattle.yq_script.specs.Changing.{IsChange}

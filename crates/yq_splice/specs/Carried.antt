@@ -1,6 +1,6 @@
 -- What operations, updates and programs make of a text.
 use Rattle.std.specs.Prelude.{ℕ, List}
-use Rattle.yq_rows.specs.Rows.{Cut}
+use Rattle.yq_cut.specs.Rows.{Cut}
 use Rattle.yq_documents.specs.Reading.{documents, read_at}
 use Rattle.yq_meaning.specs.Judgement.{Judgement}
 use Rattle.yq_meaning.specs.Judgement as judgement

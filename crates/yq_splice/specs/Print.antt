@@ -1,6 +1,6 @@
 -- How values are printed (own).
 use Rattle.std.specs.Prelude.{List, [], ◌∷◌, ◌++◌, ℕ}
-use Rattle.yq_scalar.specs.declared.block_written.Break.TheVariants as breaks
+use Rattle.yq_block_scalars.specs.declared.block_types.Break.TheVariants as breaks
 use Rattle.yq_flow_scalars.specs.Tree as tree
 use Rattle.yq_block.specs.declared.layout.Layout.{Layout}
 use Rattle.yq_block.specs.BlockText.{block_value}

@@ -4,11 +4,11 @@ use Rattle.std.specs.Str.{IsCharBoundary}
 use Rattle.yq_flow_scalars.specs.Characters.{text_limit}
 use Rattle.yq_flow_scalars.specs.Paths.{Step}
 use Rattle.yq_flow_scalars.specs.Tree.{Node}
-use Rattle.yq_inline.specs.Entries.{EntryPieces}
-use Rattle.yq_inline.specs.Nodes.{node_text}
+use Rattle.yq_nodes.specs.Entries.{EntryPieces}
+use Rattle.yq_nodes.specs.Nodes.{node_text}
 use Rattle.yq_flow.specs.FlowEdits.{content_node}
 use Rattle.yq_flow.specs.Valued.{IsValueTree}
-use Rattle.yq_rows.specs.Rows.{Cut, cut_text}
+use Rattle.yq_cut.specs.Rows.{Cut, cut_text}
 use Rattle.yq_documents.specs.Reading.{cut_of, read_at}
 use Rattle.yq_places.specs.FlowViews.{LeadsToHead}
 use Rattle.yq_places.specs.NodesAt.{node_in}

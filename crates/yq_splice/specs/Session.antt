@@ -3,15 +3,15 @@ use Rattle.std.specs.Prelude.{◌≡◌, ◌≢◌, ◌⊎◌, ⊤, ℕ, ◌+◌
 use Rattle.yq_flow_scalars.specs.declared.fault.FaultKind.TheVariants.{NotUtf8}
 use Rattle.yq_flow_scalars.specs.declared.fault.ReadError.{ReadError}
 use Rattle.yq_flow_scalars.specs.declared.fault.ReadError.TheVariants as reading
-use Rattle.yq_rows.specs.Kept.{IsPlaced}
-use Rattle.yq_rows.specs.Meter.{counted, line_count}
-use Rattle.yq_rows.specs.Rows.{Cut}
-use Rattle.yq_rows.specs.Touched.{TouchesOnly}
-use Rattle.yq_rows.specs.View.{rows_view}
-use Rattle.yq_rows.specs.declared.places.Places.{Places}
+use Rattle.yq_cut.specs.Kept.{IsPlaced}
+use Rattle.yq_cut.specs.Meter.{counted, line_count}
+use Rattle.yq_cut.specs.Rows.{Cut}
+use Rattle.yq_cut.specs.Touched.{TouchesOnly}
+use Rattle.yq_cut.specs.View.{rows_view}
+use Rattle.yq_cut.specs.declared.places.Places.{Places}
 use Rattle.yq_documents.specs.Reading.{cut_of, read_at}
-use Rattle.yq_walk.specs.RowWalk.{AreKnown}
-use Rattle.yq_walk.specs.declared.position.KnownItems.{KnownItems}
+use Rattle.yq_row_lines.specs.RowWalk.{AreKnown}
+use Rattle.yq_row_lines.specs.declared.line_position.KnownItems.{KnownItems}
 use Rattle.yq_meaning.specs.Operations.{Operation}
 use Rattle.yq_script.specs.Script.{Segment, kept_front, kept_back, new_text}
 use Rattle.yq_script.specs.Splice.{Splice}

@@ -19,12 +19,12 @@ use crate::rows_gone::change;
 use crate::session::Session;
 use crate::together::carry_together;
 use std::alloc::{AllocError, Global};
+use yq_cut::Places;
 use yq_expr::Op;
 use yq_places::CutText;
-use yq_rows::Places;
+use yq_row_lines::KnownItems;
 use yq_script::{Changed, Edited, Splice, exchange};
 use yq_tree::{Documents, read};
-use yq_walk::KnownItems;
 
 /// The same text, where what stands on the way of an operation is known.
 pub(crate) fn on_the_way<'d, 't>(cut: &CutText<'d, 't>, op: &'d Op) -> CutText<'d, 't>

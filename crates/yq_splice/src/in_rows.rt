@@ -2,7 +2,7 @@
 //! were read.
 ghost use Rattle.std.specs.Prelude.{◌≡◌, ◌+◌, ◌≤◌, length, true, IfErr, IfOk, IfSome, string_bytes};
 ghost use Rattle.yq_flow_scalars.specs.Characters.{text_limit};
-ghost use Rattle.yq_inline.specs.Values.{node_of};
+ghost use Rattle.yq_nodes.specs.Values.{node_of};
 ghost use Rattle.yq_documents.specs.Located.{steps_of};
 ghost use Rattle.yq_documents.specs.Reading.{cut_of};
 ghost use Rattle.yq_places.specs.NodesAt.{node_in};

@@ -1,8 +1,8 @@
 //! What an operation exchanges in a text, by its kind and by what stands at its place.
 ghost use Rattle.std.specs.Prelude.{◌≡◌, ◌∷◌, IfOk, [], Some, None, if◌then◌else◌};
-ghost use Rattle.yq_inline.specs.Values.{node_of};
+ghost use Rattle.yq_nodes.specs.Values.{node_of};
 ghost use Rattle.yq_lines.specs.Bodies.{borrowed};
-ghost use Rattle.yq_rows.specs.Rows.{cut_text};
+ghost use Rattle.yq_cut.specs.Rows.{cut_text};
 ghost use Rattle.yq_documents.specs.Located.{steps_of};
 ghost use Rattle.yq_documents.specs.Reading.{cut_of};
 ghost use Rattle.yq_places.specs.NodesAt.{node_in};
@@ -19,7 +19,7 @@ use yq_documents::Path;
 use yq_edits::{head_comment_at, is_kept, line_comment_at, more_at, one_removed, value_put_at};
 use yq_expr::Op;
 use yq_flow_edits::{append_in_flow, emptying, put_in_flow, remove_in_flow, unchanged};
-use yq_inline::Value;
+use yq_nodes::Value;
 use yq_places::CutText;
 use yq_script::Segments;
 

@@ -3,7 +3,7 @@
 ghost use Rattle.std.specs.Prelude.{option_map, string_bytes, true, false};
 ghost use Rattle.std.specs.Str.{IsUtf8};
 ghost use Rattle.yq_flow.specs.Valued.{AreValueTrees, IsValid, IsValueTree};
-ghost use Rattle.yq_inline.specs.Values.{entries_of, items_of, node_of};
+ghost use Rattle.yq_nodes.specs.Values.{entries_of, items_of, node_of};
 ghost use Rattle.yq_meaning.specs.Operations.{operation_of, operations_of};
 ghost use Rattle.yq_edits.specs.Operands.{HasOperand, KeyIsUtf8};
 ghost use Rattle.yq_splice.specs.Valid.{HaveOperands};

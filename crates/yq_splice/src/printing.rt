@@ -1,15 +1,15 @@
 //! Values, as a read prints them.
 ghost use Rattle.std.specs.Prelude.{◌≡◌, ◌++◌, IfOk, OnOk, string_bytes};
 ghost use Rattle.yq_flow.specs.Valued.{IsValueTree};
-ghost use Rattle.yq_inline.specs.Values.{node_of};
+ghost use Rattle.yq_nodes.specs.Values.{node_of};
 ghost use Rattle.yq_block.specs.BlockLaws.{ReadsAlone};
 ghost use Rattle.yq_block.specs.BlockValues.{IsCollection};
 ghost use Rattle.yq_splice.specs.Print as spec;
 
 use std::alloc::{AllocError, Global};
 use yq_block::{Layout, push_block};
+use yq_block_scalars::Break;
 use yq_expr::Value;
-use yq_scalar::Break;
 
 /// Steps of 2, and LF.
 fn print_layout() -> Layout

@@ -2,7 +2,7 @@
 ghost use Rattle.std.specs.Prelude.{◌≡◌, IfErr, IfOk, OnErr, string_bytes};
 ghost use Rattle.yq_documents.specs.Reading.{cut_of, read_at};
 ghost use Rattle.yq_meaning.specs.Operations.{operation_of};
-ghost use Rattle.yq_rows.specs.Meter.{counted, line_count};
+ghost use Rattle.yq_cut.specs.Meter.{counted, line_count};
 ghost use Rattle.yq_flow_scalars.specs.Answers.{Gives};
 ghost use Rattle.yq_script.specs.Changing.{IsChange};
 ghost use Rattle.yq_text.specs.Halves.{whole};
@@ -20,15 +20,16 @@ use crate::operands::operand_holds;
 use std::alloc::Global;
 use std::marker::Model;
 use std::mem;
+use yq_cut::Places;
 use yq_expr::Op;
 use yq_flow_scalars::ReadError;
 use yq_places::CutText;
-use yq_rows::{Meter, Places, count_lines};
+use yq_row_lines::KnownItems;
+use yq_rows::{Meter, count_lines};
 use yq_script::{Changed, Edited, Splice};
 use yq_session::{Kept, follow};
 use yq_text::{Halves, SplitText};
 use yq_tree::read;
-use yq_walk::KnownItems;
 
 /// A text that reads, kept with where its rows stand, both on two sides of where it was changed last: so that
 /// operations are applied to it one after the other, each passes what stands between its place and the last

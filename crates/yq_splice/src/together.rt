@@ -1,7 +1,7 @@
 //! Values that an update puts in the flow collections of one head: they are carried out together, and the
 //! head is read once.
 ghost use Rattle.std.specs.Prelude.{◌≡◌, true, map, IfErr, IfOk, IfSome, string_bytes};
-ghost use Rattle.yq_inline.specs.Entries.{step_of};
+ghost use Rattle.yq_nodes.specs.Entries.{step_of};
 ghost use Rattle.yq_documents.specs.Located.{steps_of};
 ghost use Rattle.yq_documents.specs.Reading.{cut_of};
 ghost use Rattle.yq_places.specs.FlowViews.{ReportsHead};
@@ -20,7 +20,7 @@ use std::alloc::{AllocError, Global};
 use yq_documents::Path;
 use yq_expr::Op;
 use yq_flow_edits::{PartPut, last_step, put_at_part};
-use yq_inline::Step;
+use yq_nodes::Step;
 use yq_places::{CutText, FlowHead};
 use yq_script::Edited;
 

@@ -4,13 +4,14 @@
 use crate::memory::all_memory;
 use std::alloc::{AllocError, Global};
 use std::test::Fail;
+use yq_block_scalars::Break;
 use yq_flow::write_inline;
-use yq_flow_scalars::{Place, ReadError, Scalar, Style, can_write};
-use yq_inline::{Value, read_inline};
+use yq_flow_reading::can_write;
+use yq_flow_scalars::{Place, ReadError, Scalar, Style};
+use yq_inline::read_inline;
+use yq_nodes::Value;
 use yq_rows::scan;
-use yq_scalar::{
-    Break, content, read_block, read_plain, read_quoted, repair, write_block, write_scalar,
-};
+use yq_scalar::{content, read_block, read_plain, read_quoted, repair, write_block, write_scalar};
 
 /// A call that takes memory: the content of the scalar in front of a text, the raw lines of a text, the
 /// text as a gap repaired behind a block scalar, the text in a style, a scalar that is made of it, the

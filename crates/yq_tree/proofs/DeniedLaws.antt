@@ -4,9 +4,9 @@ use Rattle.std.proofs.lemmas.Bool.{cond-false}
 use Rattle.yq_flow_scalars.specs.Answers.{◌>>=◌, ReadFails}
 use Rattle.yq_flow_scalars.specs.declared.fault.ReadError.{ReadError}
 use Rattle.yq_flow_scalars.specs.declared.fault.ReadError.TheVariants as errors
-use Rattle.yq_rows.specs.Grammar.{IsCut}
-use Rattle.yq_rows.specs.Rows.{Cut}
-use Rattle.yq_rows.proofs.ScanLaws.{scan_again}
+use Rattle.yq_cut.specs.Grammar.{IsCut}
+use Rattle.yq_cut.specs.Rows.{Cut}
+use Rattle.yq_cut.proofs.ScanLaws.{scan_again}
 use Rattle.yq_documents.specs.Reading.{all_documents, checked, checked_at}
 use Rattle.yq_reading.specs.Deciding.{Denies}
 

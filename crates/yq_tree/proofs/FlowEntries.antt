@@ -3,17 +3,17 @@ use Rattle.std.proofs.Common.{◌≡◌, ℕ, ◌+◌, ◌-◌, eqb, List, lengt
 use Rattle.std.specs.List.{slice_get}
 use Rattle.yq_flow_scalars.specs.Answers.{◌>>=◌}
 use Rattle.yq_flow_scalars.specs.Paths.{Step}
-use Rattle.yq_inline.specs.Entries.{PlacedEntry}
-use Rattle.yq_inline.specs.Places.{Placed}
+use Rattle.yq_nodes.specs.Entries.{PlacedEntry}
+use Rattle.yq_nodes.specs.Places.{Placed}
 use Rattle.yq_lines.specs.Ends.{reached}
-use Rattle.yq_rows.specs.Exchange.{behind_row}
-use Rattle.yq_rows.specs.Grammar.{IsCut}
-use Rattle.yq_rows.specs.Rows.{Row, cut_text}
-use Rattle.yq_rows.specs.View.{rows_of, RowsView, rows_view}
-use Rattle.yq_walk.specs.Lines.{lines_of}
-use Rattle.yq_walk.specs.RowWalk.{HasDocument, IsLine, line_number, stretch_view}
-use Rattle.yq_walk.specs.declared.position.Position.{Position}
-use Rattle.yq_walk.specs.declared.position.Stretch.{Stretch}
+use Rattle.yq_cut.specs.Exchange.{behind_row}
+use Rattle.yq_cut.specs.Grammar.{IsCut}
+use Rattle.yq_cut.specs.Rows.{Row, cut_text}
+use Rattle.yq_cut.specs.View.{rows_of, RowsView, rows_view}
+use Rattle.yq_row_lines.specs.Lines.{lines_of}
+use Rattle.yq_row_lines.specs.RowWalk.{HasDocument, IsLine, line_number, stretch_view}
+use Rattle.yq_row_lines.specs.declared.line_position.Position.{Position}
+use Rattle.yq_row_lines.specs.declared.line_position.Stretch.{Stretch}
 use Rattle.yq_documents.specs.Documents.{document_parts}
 use Rattle.yq_documents.specs.FlowReading.{row_flow}
 use Rattle.yq_documents.specs.Reading.{all_documents, cut_of}

@@ -1,6 +1,6 @@
 //! Where items and entries stand in flow collections, and their contents.
 ghost use Rattle.std.specs.Prelude.{◌≡◌, map, option_map};
-ghost use Rattle.yq_inline.specs.Entries.{content_place, entry_place, entry_view, step_of};
+ghost use Rattle.yq_nodes.specs.Entries.{content_place, entry_place, entry_view, step_of};
 ghost use Rattle.yq_lines.specs.View.{head_flow};
 ghost use Rattle.yq_documents.specs.Decoded.{decoded_flow};
 ghost use Rattle.yq_documents.specs.Pieces.{span};
@@ -9,8 +9,8 @@ ghost use Rattle.yq_places.specs.EntryReading as spec;
 
 use crate::document::Documents;
 use yq_documents::{Decoded, Path, Span};
-use yq_inline::{Entry, Step};
 use yq_lines::Head;
+use yq_nodes::{Entry, Step};
 use yq_walk::reach;
 
 /// The item or entry to which steps lead in a head.

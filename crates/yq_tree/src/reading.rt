@@ -3,8 +3,8 @@ ghost use Rattle.std.specs.Prelude.{◌≡◌, ◌↔◌, ℕ, List, IfErr, IfOk
 ghost use Rattle.std.specs.Str.{is_utf8};
 ghost use Rattle.yq_flow_scalars.specs.declared.fault.FaultKind.TheVariants.{NotUtf8};
 ghost use Rattle.yq_flow_scalars.specs.Answers.{Gives, IsOfText};
-ghost use Rattle.yq_rows.specs.Grammar.{IsCut};
-ghost use Rattle.yq_rows.specs.Rows.{Cut};
+ghost use Rattle.yq_cut.specs.Grammar.{IsCut};
+ghost use Rattle.yq_cut.specs.Rows.{Cut};
 ghost use Rattle.yq_places.specs.Answers.{IsNotUtf8};
 ghost use Rattle.yq_documents.specs.Documents.{Document, Reads};
 ghost use Rattle.yq_documents.specs.Reading as spec;

@@ -1,10 +1,11 @@
 //! Items and entries that are known, from which a walk over the rows of a collection goes on.
 ghost use Rattle.std.specs.Prelude.{◌≡◌, ◌<◌, ◌≤◌, ◌+◌, length, IfSome, IsTrue};
-ghost use Rattle.yq_walk.specs.Extents.{IsRowsView};
-ghost use Rattle.yq_walk.specs.RowWalk.{AreKnown, GoesOn, HasDocument, IsKnownIn, IsKnown, IsPosition};
+ghost use Rattle.yq_row_lines.specs.Extents.{IsRowsView};
+ghost use Rattle.yq_row_lines.specs.RowWalk.{AreKnown, GoesOn, HasDocument, IsKnownIn, IsKnown, IsPosition};
 
-use crate::position::{KnownItem, KnownItems, Position, Stretch, level_at};
-use yq_rows::Rows;
+use crate::position::level_at;
+use yq_cut::Rows;
+use yq_row_lines::{KnownItem, KnownItems, Position, Stretch};
 
 /// Whether an item is known among the lines from one on that are deeper than a level.
 #[inline(always)]

@@ -1,68 +1,18 @@
 //! Lines of a document by their rows, and how deep they are.
-ghost use Rattle.std.specs.Prelude.{◌≡◌, ◌<◌, ◌≤◌, ◌+◌, ◌-◌, ◌*◌, drop, length, nat_lt, not, slice_get, take, if◌then◌else◌, IsTrue, None, Some};
+ghost use Rattle.std.specs.Prelude.{◌≡◌, ◌<◌, ◌≤◌, ◌+◌, ◌-◌, ◌*◌, drop, length, nat_lt, not, slice_get, take, if◌then◌else◌, IsTrue, Some};
 ghost use Rattle.yq_lines.specs.Ends.{IsEndOf, is_end, part};
 ghost use Rattle.yq_lines.specs.Outline.{level};
-ghost use Rattle.yq_rows.specs.View.{view, Slices};
-ghost use Rattle.yq_walk.specs.Lines.{lines_of};
+ghost use Rattle.yq_cut.specs.View.{view, Slices};
+ghost use Rattle.yq_row_lines.specs.Lines.{lines_of};
 ghost use Rattle.yq_flow_scalars.specs.Characters.{text_limit};
-ghost use Rattle.yq_walk.specs.Extents as extents;
-ghost use Rattle.yq_walk.specs.Extents.{IsRowsView};
-ghost use Rattle.yq_walk.specs.RowWalk as spec;
-ghost use Rattle.yq_walk.specs.RowWalk.{HasRows, IsLine, IsPosition};
+ghost use Rattle.yq_row_lines.specs.Extents as extents;
+ghost use Rattle.yq_row_lines.specs.Extents.{IsRowsView};
+ghost use Rattle.yq_row_lines.specs.RowWalk as spec;
+ghost use Rattle.yq_row_lines.specs.RowWalk.{HasRows, IsLine, IsPosition};
 
 use crate::extent::{dash_at, lines_before_mark};
-use yq_rows::{Row, Rows};
-
-/// The rows of a document: those of a text from one up to another one.
-#[derive(Clone, Copy, Debug)]
-pub struct Stretch {
-    pub first: usize,
-    pub end: usize,
-}
-
-/// A line of a document by its row, of those of the text, and by how many lines of that row stand
-/// before it; or the end behind the document's rows.
-#[derive(Clone, Copy, Debug)]
-pub struct Position {
-    pub row: usize,
-    pub line: usize,
-}
-
-/// An item of a collection of rows, from which a walk over the items behind it may go on: how many
-/// of them stand before its row.
-#[derive(Clone, Copy, Debug)]
-pub struct KnownItem {
-    /// The line of the collection's first item.
-    pub under: Position,
-    /// How deep the collection is; its items are deeper.
-    pub floor: usize,
-    /// How deep its items are.
-    pub level: usize,
-    /// How many of its items begin before the row.
-    pub index: usize,
-    /// How many rows of the text stand before the item's.
-    pub row: usize,
-}
-
-/// Items from which walks over a text may go on: the two on the way of a path that passed most rows.
-#[derive(Clone, Copy, Debug)]
-pub struct KnownItems {
-    pub far: Option<KnownItem>,
-    pub near: Option<KnownItem>,
-}
-
-impl KnownItems {
-    /// No items.
-    pub fn none() -> KnownItems
-        ensures far { result.far ≡ None }
-        ensures near { result.near ≡ None }
-    {
-        KnownItems {
-            far: None,
-            near: None,
-        }
-    }
-}
+use yq_cut::{Row, Rows};
+use yq_row_lines::{Position, Stretch};
 
 /// The column of a line of a row.
 pub fn line_column(row: &Row<'_>, line: usize) -> usize

@@ -1,27 +1,19 @@
 //! The line of a document to which steps lead, and the steps that go on in its head, row by row.
 ghost use Rattle.std.specs.Prelude.{◌≡◌, ◌∷◌, map, option_map, IfSome, IsTrue, Some};
-ghost use Rattle.yq_inline.specs.Entries.{step_of};
+ghost use Rattle.yq_nodes.specs.Entries.{step_of};
 ghost use Rattle.yq_lines.specs.Ends.{line_of, part, reached};
 ghost use Rattle.yq_lines.specs.Positions as positions;
-ghost use Rattle.yq_walk.specs.Lines.{lines_of};
-ghost use Rattle.yq_walk.specs.Extents.{IsRowsView};
-ghost use Rattle.yq_walk.specs.RowWalk as spec;
-ghost use Rattle.yq_walk.specs.RowWalk.{AreKnown, HasDocument, HasRows, HaveKeys, IsLine, IsPosition, LeadsTo, line_number};
+ghost use Rattle.yq_row_lines.specs.Lines.{lines_of};
+ghost use Rattle.yq_row_lines.specs.Extents.{IsRowsView};
+ghost use Rattle.yq_row_lines.specs.RowWalk as spec;
+ghost use Rattle.yq_row_lines.specs.RowWalk.{AreKnown, HasDocument, HasRows, HaveKeys, IsLine, IsPosition, LeadsTo, line_number};
 
-use crate::position::{KnownItems, Position, Stretch, is_deeper, level_at, next};
+use crate::position::{is_deeper, level_at, next};
 use crate::position_find::find_step;
 use crate::position_marks::{has_head, is_bare};
-use yq_inline::Step;
-use yq_rows::Rows;
-
-/// Where a step leads.
-#[derive(Clone, Copy, Debug)]
-pub enum Next {
-    /// To a line.
-    Line(Position),
-    /// On in the head of a line.
-    Head(Position),
-}
+use yq_cut::Rows;
+use yq_nodes::Step;
+use yq_row_lines::{KnownItems, Next, Position, Stretch};
 
 /// Whether the first of the lines from one on that are deeper than a level is a node itself.
 #[inline(always)]

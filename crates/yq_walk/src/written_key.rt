@@ -2,14 +2,14 @@
 ghost use Rattle.std.specs.List.{list_any};
 ghost use Rattle.std.specs.Prelude.{◌≡◌, ◌==◌, false, if◌then◌else◌, true};
 ghost use Rattle.std.specs.Str.{bytes_eq};
-ghost use Rattle.yq_inline.specs.Scalars as scalars;
+ghost use Rattle.yq_nodes.specs.Scalars as scalars;
 ghost use Rattle.yq_flow_scalars.specs.ContentReading.{quoted_content};
 ghost use Rattle.yq_flow_scalars.specs.Plain.{holds_break};
 ghost use Rattle.yq_flow_scalars.specs.Quoted.{IsQuotedText};
 
-use yq_inline::pieces::{first_is, is_quoted};
+use yq_flow_reading::is_quoted_content;
 use yq_lines::between_quotes;
-use yq_scalar::is_quoted_content;
+use yq_nodes::{first_is, is_quoted};
 
 /// Whether a backslash stands in what is between double quotes, or a quote between single ones.
 #[inline(always)]
@@ -36,7 +36,7 @@ fn is_quoted_key(piece: &str, key: &str) -> bool
 
 /// Whether a key on one line that is written so is this one.
 #[inline(always)]
-#[tactic(auto, unfolding(yq_inline::specs::Scalars::content_of))]
+#[tactic(auto, unfolding(yq_nodes::specs::Scalars::content_of))]
 pub(crate) fn is_written(piece: &str, key: &str) -> bool
     requires quoted { scalars.is_quoted piece.now ≡ true → IsQuotedText piece.now }
     requires line { holds_break piece.now ≡ false }

@@ -1,7 +1,7 @@
 //! A value in the place of a block scalar.
 ghost use Rattle.std.specs.Prelude.{◌≡◌, [], IfOk, true};
-ghost use Rattle.yq_inline.specs.Values.{node_of};
-ghost use Rattle.yq_scalar.specs.BlockWritten.{break_text};
+ghost use Rattle.yq_nodes.specs.Values.{node_of};
+ghost use Rattle.yq_block_scalars.specs.BlockWritten.{break_text};
 ghost use Rattle.yq_flow_scalars.specs.Writable.{is_string};
 ghost use Rattle.yq_places.specs.NodesAt.{scalar_in};
 ghost use Rattle.yq_places.specs.StandingViews.{held_view, held_mark_view};
@@ -12,8 +12,9 @@ use crate::replace::held::{put_compact, put_inline};
 use crate::written_value::{lines_and_break, takes_compact, value_text};
 use std::alloc::{AllocError, Global};
 use yq_block::{Layout, is_filled};
-use yq_flow_scalars::{Kind, Place, Scalar, Style, can_write};
-use yq_inline::Value;
+use yq_flow_reading::can_write;
+use yq_flow_scalars::{Kind, Place, Scalar, Style};
+use yq_nodes::Value;
 use yq_places::Held;
 use yq_scalar::{write_block, write_scalar};
 use yq_script::{Segment, Segments};

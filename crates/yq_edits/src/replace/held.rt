@@ -1,7 +1,7 @@
 //! A value in the place of what a key or dash holds, or of a compact collection.
 ghost use Rattle.std.specs.Prelude.{◌≡◌, ℕ, List, [], false, IfOk, string_bytes};
-ghost use Rattle.yq_inline.specs.Values.{node_of};
-ghost use Rattle.yq_scalar.specs.BlockWritten.{break_text};
+ghost use Rattle.yq_nodes.specs.Values.{node_of};
+ghost use Rattle.yq_block_scalars.specs.BlockWritten.{break_text};
 ghost use Rattle.yq_places.specs.StandingViews.{compact_view, held_view, held_mark_view};
 ghost use Rattle.yq_block.specs.BlockReading.{is_filled as filled};
 ghost use Rattle.yq_block.specs.BlockRows.{item_column};
@@ -16,7 +16,7 @@ use crate::written_value::{
 use std::alloc::{AllocError, Global};
 use yq_block::{Layout, is_filled};
 use yq_flow_scalars::Place;
-use yq_inline::Value;
+use yq_nodes::Value;
 use yq_places::{Compact, Held};
 use yq_script::{Segment, Segments};
 use yq_text::Halves;

@@ -1,8 +1,8 @@
 //! A value in the place of a node that isn't behind a key or dash.
 ghost use Rattle.std.specs.Prelude.{◌≡◌, IfOk, string_bytes};
 ghost use Rattle.yq_text.specs.Halves.{whole};
-ghost use Rattle.yq_inline.specs.Values.{node_of};
-ghost use Rattle.yq_scalar.specs.BlockWritten.{break_text};
+ghost use Rattle.yq_nodes.specs.Values.{node_of};
+ghost use Rattle.yq_block_scalars.specs.BlockWritten.{break_text};
 ghost use Rattle.yq_places.specs.StandingViews.{lone_view, no_rows_view, root_view};
 ghost use Rattle.yq_block.specs.BlockText.{block_value};
 ghost use Rattle.yq_edits.specs.ClosedTexts as closed;
@@ -13,7 +13,7 @@ use crate::written_value::value_text;
 use std::alloc::{AllocError, Global};
 use yq_block::{Layout, push_block};
 use yq_flow_scalars::Place;
-use yq_inline::Value;
+use yq_nodes::Value;
 use yq_places::{BlockRoot, Lone, NoRows};
 use yq_scalar::block_written::break_text;
 use yq_script::{Segment, Segments};

@@ -1,7 +1,7 @@
 //! What `select` asks of a place.
 ghost use Rattle.std.specs.Prelude.{◌≡◌, map};
 ghost use Rattle.yq_flow_scalars.specs.SchemaReading as numbers;
-ghost use Rattle.yq_documents.specs.Nodes.{node_of};
+ghost use Rattle.yq_document_nodes.specs.Nodes.{node_of};
 ghost use Rattle.yq_meaning.specs.Conditions as spec;
 ghost use Rattle.yq_meaning.specs.Judgement.{Judges};
 ghost use Rattle.yq_matching.specs.PlaceView.{place_of, places_of};
@@ -12,11 +12,11 @@ use crate::matching::place::Place;
 use crate::matching::traverse::traverse;
 use bumpalo::Bump;
 use std::alloc::Global;
-use yq_documents::{Node, NodeKind};
+use yq_document_nodes::{Node, NodeKind};
+use yq_flow_reading::int_value;
 use yq_flow_scalars::{Kind, Scalar, is_true_word};
 use yq_meaning::{ExprError, Refusal};
 use yq_program::{Condition, Operand, Step};
-use yq_scalar::int_value;
 
 /// Whether two ints are the same: by their numbers, where both have one in 64
 /// bits, and else by their texts.

@@ -1,9 +1,9 @@
 //! Copies of nodes, as values.
 ghost use Rattle.std.specs.Prelude.{◌≡◌, map, IfOk, string_bytes};
-ghost use Rattle.yq_inline.specs.Values.{field_of, node_of as value_node};
+ghost use Rattle.yq_nodes.specs.Values.{field_of, node_of as value_node};
 ghost use Rattle.yq_flow_scalars.specs.Scalar.{IsScalar};
 ghost use Rattle.yq_flow_scalars.specs.Tree.{children_of};
-ghost use Rattle.yq_documents.specs.Nodes.{label_of, node_of};
+ghost use Rattle.yq_document_nodes.specs.Nodes.{label_of, node_of};
 ghost use Rattle.yq_meaning.specs.Copies as spec;
 ghost use Rattle.yq_meaning.specs.Judgement.{Judges};
 ghost use Rattle.yq_meaning.specs.Conditions.{value_of};
@@ -12,10 +12,10 @@ ghost use Rattle.yq_matching.specs.TreeScalars.{EachHasScalars, HasScalars};
 
 use crate::matching::place::Place;
 use std::alloc::{AllocError, Global};
-use yq_documents::{Node, NodeKind};
+use yq_document_nodes::{Node, NodeKind};
 use yq_flow_scalars::{Kind, Scalar};
-use yq_inline::Value;
 use yq_meaning::{ExprError, Refusal};
+use yq_nodes::Value;
 
 /// The scalar of that kind and text.
 fn scalar_of(alloc: Global, kind: Kind, text: &str) -> Result<Scalar, AllocError>

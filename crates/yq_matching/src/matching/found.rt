@@ -1,6 +1,6 @@
 //! What a pipe finds: places in a list, or the items or values of one node, which are not listed.
 ghost use Rattle.std.specs.Prelude.{◌≡◌, ◌++◌, ◌∷◌, ◌==◌, [], IfSome, length, map};
-ghost use Rattle.yq_documents.specs.Nodes.{node_of};
+ghost use Rattle.yq_document_nodes.specs.Nodes.{node_of};
 ghost use Rattle.yq_meaning.specs.Judgement.{Judges, gives};
 ghost use Rattle.yq_matching.specs.FoundView.{child_places, found_places};
 ghost use Rattle.yq_matching.specs.PlaceView.{path_of, places_of};
@@ -14,7 +14,7 @@ use crate::matching::place::{Missing, NodePath, Place};
 use crate::matching::traverse::{step_each, traverse};
 use bumpalo::Bump;
 use std::alloc::Global;
-use yq_documents::{Node, NodeKind};
+use yq_document_nodes::{Node, NodeKind};
 use yq_meaning::ExprError;
 use yq_program::{Stage, Step};
 

@@ -1,6 +1,6 @@
 //! Where a pipe leads: each stage acts on all places before the next one does.
 ghost use Rattle.std.specs.Prelude.{◌≡◌, map};
-ghost use Rattle.yq_documents.specs.Nodes.{node_of};
+ghost use Rattle.yq_document_nodes.specs.Nodes.{node_of};
 ghost use Rattle.yq_meaning.specs.Judgement.{Judges};
 ghost use Rattle.yq_meaning.specs.Pipes as spec;
 ghost use Rattle.yq_matching.specs.PlaceView.{place_of, places_of, put_behind};
@@ -12,7 +12,7 @@ use crate::matching::place::Place;
 use crate::matching::traverse::traverse;
 use bumpalo::Bump;
 use std::alloc::Global;
-use yq_documents::Node;
+use yq_document_nodes::Node;
 use yq_meaning::ExprError;
 use yq_program::{Condition, Stage};
 

@@ -1,7 +1,7 @@
 //! Places to which steps lead. Paths share their fronts in an arena, so that a
 //! place takes one link, however deep it lies.
 ghost use Rattle.std.specs.Prelude.{◌≡◌, ◌++◌, ◌∷◌, [], IfOk};
-ghost use Rattle.yq_documents.specs.Nodes.{label_of, node_of};
+ghost use Rattle.yq_document_nodes.specs.Nodes.{label_of, node_of};
 ghost use Rattle.yq_meaning.specs.Conditions as conditions;
 ghost use Rattle.yq_matching.specs.PlaceView.{missing_of, node_step_of, path_of, node_or_null, place_of};
 ghost use Rattle.yq_meaning.specs.Places as spec;
@@ -9,7 +9,7 @@ ghost use Rattle.yq_program.specs.View.{step_of};
 
 use bumpalo::Bump;
 use std::alloc::AllocError;
-use yq_documents::Node;
+use yq_document_nodes::Node;
 use yq_program::Step;
 
 /// A step to a node of a document.

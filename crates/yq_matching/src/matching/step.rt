@@ -2,13 +2,13 @@
 ghost use Rattle.std.specs.Prelude.{◌≡◌, option_map, Some};
 ghost use Rattle.yq_flow_scalars.specs.Paths.{To, Nth};
 ghost use Rattle.yq_flow_scalars.specs.Tree.{children_of};
-ghost use Rattle.yq_documents.specs.Nodes.{node_of};
+ghost use Rattle.yq_document_nodes.specs.Nodes.{node_of};
 ghost use Rattle.yq_meaning.specs.Judgement.{Judges};
 ghost use Rattle.yq_meaning.specs.Matching as spec;
 ghost use Rattle.yq_matching.specs.PlaceView.{found_of};
 
 use crate::matching::place::NodeStep;
-use yq_documents::{Node, NodeKind};
+use yq_document_nodes::{Node, NodeKind};
 use yq_flow_scalars::Kind;
 use yq_meaning::{ExprError, Refusal};
 

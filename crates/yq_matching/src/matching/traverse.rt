@@ -2,7 +2,7 @@
 //! does.
 ghost use Rattle.std.specs.Prelude.{◌≡◌, ◌++◌, map, IfOk, OnOk};
 ghost use Rattle.yq_flow_scalars.specs.Tree.{children_of};
-ghost use Rattle.yq_documents.specs.Nodes.{node_of};
+ghost use Rattle.yq_document_nodes.specs.Nodes.{node_of};
 ghost use Rattle.yq_meaning.specs.Judgement.{Judges};
 ghost use Rattle.yq_matching.specs.PlaceView.{found_of, place_of, places_of, put_behind};
 ghost use Rattle.yq_meaning.specs.Places as spec;
@@ -13,7 +13,7 @@ use crate::matching::place::{Missing, NodePath, NodeStep, Place};
 use crate::matching::step::{index_step, key_step};
 use bumpalo::Bump;
 use std::alloc::{AllocError, Global};
-use yq_documents::{Node, NodeKind};
+use yq_document_nodes::{Node, NodeKind};
 use yq_flow_scalars::Kind;
 use yq_meaning::{ExprError, Refusal};
 use yq_program::Step;

@@ -1,11 +1,11 @@
 //! Where the comments of entries and items stand.
 ghost use Rattle.std.specs.Prelude.{◌≡◌, ◌<◌, ◌≤◌, ◌+◌, length, option_map, slice_get, Some};
 ghost use Rattle.yq_flow_scalars.specs.Characters.{text_limit};
-ghost use Rattle.yq_rows.specs.View.{Slices};
+ghost use Rattle.yq_cut.specs.View.{Slices};
 ghost use Rattle.yq_places.specs.CommentReading as spec;
-ghost use Rattle.yq_walk.specs.Extents as extents;
+ghost use Rattle.yq_row_lines.specs.Extents as extents;
 ghost use Rattle.yq_documents.specs.Pieces.{piece_span, span};
-ghost use Rattle.yq_walk.specs.Extents.{IsRowsView};
+ghost use Rattle.yq_row_lines.specs.Extents.{IsRowsView};
 ghost use Rattle.yq_places.specs.PathPieces.{piece_at};
 ghost use Rattle.yq_documents.specs.Reading.{cut_of};
 ghost use Rattle.yq_places.specs.RowLineReading.{line_view};
@@ -13,10 +13,10 @@ ghost use Rattle.yq_documents.specs.declared.path.Part.TheVariants as parts;
 
 use crate::cut_text::CutText;
 use crate::places::stretch::RowLine;
+use yq_cut::Rows;
 use yq_documents::{Path, Span, is_comment, last_run};
 use yq_flow_scalars::lines::split_at_break;
 use yq_flow_scalars::text::split_white;
-use yq_rows::Rows;
 use yq_walk::{front_len, row_start};
 
 /// The place of the comment in a tail that begins at a place.

@@ -1,11 +1,11 @@
 //! Where the contents of nodes stand outside flow collections.
 ghost use Rattle.std.specs.Prelude.{◌≡◌, map, option_map};
-ghost use Rattle.yq_inline.specs.Entries.{step_of};
+ghost use Rattle.yq_nodes.specs.Entries.{step_of};
 ghost use Rattle.yq_places.specs.EntryReading as spec;
-ghost use Rattle.yq_walk.specs.Extents.{IsRowsView};
-ghost use Rattle.yq_walk.specs.RowWalk.{AreKnown, HasDocument, IsPosition, lines_stop};
+ghost use Rattle.yq_row_lines.specs.Extents.{IsRowsView};
+ghost use Rattle.yq_row_lines.specs.RowWalk.{AreKnown, HasDocument, IsPosition, lines_stop};
 ghost use Rattle.yq_places.specs.RowWalk.{InEach};
-ghost use Rattle.yq_walk.specs.Lines.{lines_of};
+ghost use Rattle.yq_row_lines.specs.Lines.{lines_of};
 ghost use Rattle.yq_documents.specs.Pieces.{span};
 ghost use Rattle.yq_documents.specs.Reading.{cut_of};
 
@@ -14,10 +14,11 @@ use crate::places::entry_place::lines_place;
 use crate::places::known_end::behind_all;
 use crate::places::node_place::{NodePlace, node_place};
 use crate::places::row_place::head_extent;
+use yq_cut::Rows;
 use yq_documents::{Path, Span};
-use yq_inline::Step;
-use yq_rows::Rows;
-use yq_walk::{KnownItems, Position, Stretch, is_bare, is_deeper};
+use yq_nodes::Step;
+use yq_row_lines::{KnownItems, Position, Stretch};
+use yq_walk::{is_bare, is_deeper};
 
 /// The place of the node for which the lines stand, from one on, that are deeper than a level.
 fn lines_content(

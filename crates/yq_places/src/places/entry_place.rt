@@ -1,19 +1,20 @@
 //! Where entries and items stand in block collections.
 ghost use Rattle.std.specs.Prelude.{◌≡◌, ◌<◌, ◌-◌, map, option_map, Some};
-ghost use Rattle.yq_inline.specs.Entries.{step_of};
+ghost use Rattle.yq_nodes.specs.Entries.{step_of};
 ghost use Rattle.yq_places.specs.EntryReading as spec;
-ghost use Rattle.yq_walk.specs.Extents.{IsRowsView};
-ghost use Rattle.yq_walk.specs.RowWalk.{AreKnown, AreLinesTo, HasDocument, IsLine};
+ghost use Rattle.yq_row_lines.specs.Extents.{IsRowsView};
+ghost use Rattle.yq_row_lines.specs.RowWalk.{AreKnown, AreLinesTo, HasDocument, IsLine};
 ghost use Rattle.yq_places.specs.RowWalk.{InEach};
 ghost use Rattle.yq_documents.specs.Pieces.{span};
 ghost use Rattle.yq_documents.specs.Reading.{cut_of};
 
 use crate::cut_text::CutText;
 use crate::places::row_place::{line_start, row_end};
+use yq_cut::Rows;
 use yq_documents::{Path, Span};
-use yq_inline::Step;
-use yq_rows::Rows;
-use yq_walk::{KnownItems, Position, Stretch, behind, line_at};
+use yq_nodes::Step;
+use yq_row_lines::{KnownItems, Position, Stretch};
+use yq_walk::{behind, line_at};
 
 /// The place from the beginning of a line of a document to the end of the last row before another one.
 pub(crate) fn lines_place(rows: &Rows<'_>, document: Stretch, from: Position, to: Position) -> Span

@@ -1,9 +1,9 @@
 //! What stands at items and entries, by their rows.
 ghost use Rattle.std.specs.Prelude.{◌≡◌, ◌<◌, true, List, ℕ};
 ghost use Rattle.yq_text.specs.Halves.{whole};
-ghost use Rattle.yq_rows.specs.Grammar.{IsMark};
-ghost use Rattle.yq_rows.specs.Rows.{Row as RowOf, rows_text};
-ghost use Rattle.yq_rows.specs.View.{slices, view};
+ghost use Rattle.yq_cut.specs.Grammar.{IsMark};
+ghost use Rattle.yq_cut.specs.Rows.{Row as RowOf, rows_text};
+ghost use Rattle.yq_cut.specs.View.{slices, view};
 ghost use Rattle.yq_places.specs.Standings as spec;
 ghost use Rattle.yq_places.specs.StandingReading.{AreRowsOf, HasEntry, BeginsRows, IsEntryIn};
 ghost use Rattle.yq_places.specs.StandingViews as row_agrees;
@@ -13,9 +13,10 @@ use crate::places::lines_cut::{cut_lines, cut_tail};
 use crate::places::row_place::{line_start, row_stop};
 use crate::places::rows_of_entry::RowsOfEntry;
 use crate::places::standing::{Compact, Lone, Standing};
-use yq_rows::{Row, Rows};
+use yq_cut::{Row, Rows};
+use yq_row_lines::Position;
 use yq_text::Halves;
-use yq_walk::{Position, head_place, line_column};
+use yq_walk::{head_place, line_column};
 
 /// Whether a row is a node that is alone on its line.
 pub(crate) fn is_alone(row: &Row<'_>) -> bool

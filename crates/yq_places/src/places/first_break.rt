@@ -1,13 +1,13 @@
 //! The break that is written in a text.
 ghost use Rattle.std.specs.Prelude.{◌≡◌};
 ghost use Rattle.yq_text.specs.Halves.{whole};
-ghost use Rattle.yq_rows.specs.Rows.{cut_text};
+ghost use Rattle.yq_cut.specs.Rows.{cut_text};
 ghost use Rattle.yq_places.specs.FirstBreak as spec;
 ghost use Rattle.yq_documents.specs.Reading.{cut_of};
 
 use crate::cut_text::CutText;
 use crate::places::halves::{split_break, split_line};
-use yq_scalar::Break;
+use yq_block_scalars::Break;
 use yq_text::Halves;
 
 /// The break at the end of the first line; LF where there is none.

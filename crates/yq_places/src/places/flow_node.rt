@@ -1,7 +1,7 @@
 //! Flow collections at paths, with their places.
 ghost use Rattle.std.specs.Prelude.{◌≡◌, map, option_map, IfOk, IfSome};
-ghost use Rattle.yq_inline.specs.Entries.{step_of};
-ghost use Rattle.yq_inline.specs.View.{view};
+ghost use Rattle.yq_nodes.specs.Entries.{step_of};
+ghost use Rattle.yq_nodes.specs.View.{view};
 ghost use Rattle.yq_documents.specs.Reading.{cut_of};
 ghost use Rattle.yq_places.specs.FlowNodes.{flow_collection};
 ghost use Rattle.yq_places.specs.FlowViews as spec;
@@ -10,8 +10,8 @@ use crate::cut_text::CutText;
 use crate::places::node_place::{node_place, place_line};
 use crate::places::row_head::RowHead;
 use std::alloc::{AllocError, Global};
-use yq_inline::{Form, Inline, Step};
 use yq_lines::Head;
+use yq_nodes::{Form, Inline, Step};
 
 /// The node in the head of a line, and the steps that lead in it to a flow collection.
 #[derive(Debug, Drop)]

@@ -3,7 +3,7 @@ ghost use Rattle.std.specs.List.{prefix_len};
 ghost use Rattle.std.specs.Prelude.{◌≡◌, ◌==◌, ◌≤◌, length, slice_index};
 ghost use Rattle.std.specs.Str.{IsUtf8};
 ghost use Rattle.yq_text.specs.Halves.{whole};
-ghost use Rattle.yq_rows.specs.Reading as reading;
+ghost use Rattle.yq_cut.specs.Reading as reading;
 ghost use Rattle.yq_flow_scalars.specs.Text as scan;
 ghost use Rattle.yq_places.specs.FirstPlaces as spaces;
 ghost use Rattle.yq_places.specs.PrintedLines as lines;

@@ -2,7 +2,7 @@
 ghost use Rattle.std.specs.Prelude.{◌≡◌, ◌||◌, not, option_map};
 ghost use Rattle.yq_text.specs.Halves.{whole};
 ghost use Rattle.yq_flow_scalars.specs.Text.{is_empty};
-ghost use Rattle.yq_rows.specs.View.{view};
+ghost use Rattle.yq_cut.specs.View.{view};
 ghost use Rattle.yq_documents.specs.Located.{steps_of};
 ghost use Rattle.yq_documents.specs.Reading.{cut_of};
 ghost use Rattle.yq_places.specs.RowPieces as pieces;
@@ -14,8 +14,8 @@ use crate::cut_text::CutText;
 use crate::places::lines_cut::{cut_lines, cut_tail, either};
 use crate::places::row_place::row_stop;
 use crate::places::rows_of_entry::RowsOfEntry;
+use yq_cut::{Row, Rows};
 use yq_documents::Path;
-use yq_rows::{Row, Rows};
 use yq_text::Halves;
 use yq_walk::{head_place, line_column};
 

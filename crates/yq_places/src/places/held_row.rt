@@ -1,22 +1,23 @@
 //! Keys and dashes whose line is the last one of its row, with that row and what it holds behind them.
 ghost use Rattle.std.specs.Prelude.{[], ◌≡◌, ◌<◌, ◌&&◌, length, not, slice_get, IfSome, Some};
 ghost use Rattle.yq_flow_scalars.specs.Text.{is_empty};
-ghost use Rattle.yq_rows.specs.Rows.{Cut, Row as RowOf};
-ghost use Rattle.yq_rows.specs.View.{rows_of, rows_view};
+ghost use Rattle.yq_cut.specs.Rows.{Cut, Row as RowOf};
+ghost use Rattle.yq_cut.specs.View.{rows_of, rows_view};
 ghost use Rattle.yq_documents.specs.Located.{steps_of};
 ghost use Rattle.yq_documents.specs.Reading.{cut_of};
 ghost use Rattle.yq_documents.specs.RowReading.{is_block_head};
-ghost use Rattle.yq_walk.specs.Extents.{IsRowsView};
+ghost use Rattle.yq_row_lines.specs.Extents.{IsRowsView};
 ghost use Rattle.yq_places.specs.CommentPlaces.{end_before};
 ghost use Rattle.yq_places.specs.StandingViews as row_agrees;
 
 use crate::cut_text::CutText;
 use crate::places::known_at::known_along;
+use yq_cut::Rows;
 use yq_documents::{Path, is_block_head};
 use yq_flow_scalars::lines::split_at_break;
 use yq_flow_scalars::text::split_white;
-use yq_rows::Rows;
-use yq_walk::{Position, front_len, lines_before_mark};
+use yq_row_lines::Position;
+use yq_walk::{front_len, lines_before_mark};
 
 /// A key or dash of a text whose line is the last one of its row, with what that row holds behind it.
 #[derive(Clone, Copy, Debug)]

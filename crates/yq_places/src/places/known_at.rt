@@ -1,22 +1,21 @@
 //! The item on the way of a path from which a later walk may go on.
 ghost use Rattle.std.specs.Prelude.{◌≡◌, map, IfSome};
-ghost use Rattle.yq_inline.specs.Entries.{step_of};
-ghost use Rattle.yq_rows.specs.Rows.{Cut};
-ghost use Rattle.yq_rows.specs.View.{rows_view};
+ghost use Rattle.yq_nodes.specs.Entries.{step_of};
+ghost use Rattle.yq_cut.specs.Rows.{Cut};
+ghost use Rattle.yq_cut.specs.View.{rows_view};
 ghost use Rattle.yq_documents.specs.Reading.{cut_of};
-ghost use Rattle.yq_walk.specs.Extents.{IsRowsView};
-ghost use Rattle.yq_walk.specs.RowWalk.{AreKnown, HasDocument, IsKnown, IsLine};
+ghost use Rattle.yq_row_lines.specs.Extents.{IsRowsView};
+ghost use Rattle.yq_row_lines.specs.RowWalk.{AreKnown, HasDocument, IsKnown, IsLine};
 ghost use Rattle.yq_places.specs.RowWalk.{IsKnownLine, IsLineAt, StayKnown, StaysKnown};
 
 use crate::cut_text::CutText;
 use crate::places::known_end::known_end;
 use crate::places::known_line::KnownLine;
+use yq_cut::Rows;
 use yq_documents::Path;
-use yq_inline::Step;
-use yq_rows::Rows;
-use yq_walk::{
-    KnownItem, KnownItems, Next, Position, Stretch, item_before, known_to, level_at, next, next_at,
-};
+use yq_nodes::Step;
+use yq_row_lines::{KnownItem, KnownItems, Next, Position, Stretch};
+use yq_walk::{item_before, known_to, level_at, next, next_at};
 
 /// Where what is under a line begins, or under the root, and how deep that line is.
 #[inline(always)]

@@ -1,17 +1,15 @@
 //! The end of a collection, looked for from an item that is known.
 ghost use Rattle.std.specs.Prelude.{◌≡◌, ◌<◌, ◌≤◌, ◌+◌, length, IfSome};
 ghost use Rattle.yq_lines.specs.Outline.{level};
-ghost use Rattle.yq_walk.specs.Extents.{IsRowsView};
-ghost use Rattle.yq_walk.specs.RowWalk as spec;
-ghost use Rattle.yq_walk.specs.RowWalk.{AreKnown, HasDocument, IsKnown, IsLine, IsPosition, OfLine, OfLines, lines_stop};
+ghost use Rattle.yq_row_lines.specs.Extents.{IsRowsView};
+ghost use Rattle.yq_row_lines.specs.RowWalk as spec;
+ghost use Rattle.yq_row_lines.specs.RowWalk.{AreKnown, HasDocument, IsKnown, IsLine, IsPosition, OfLine, OfLines, lines_stop};
 
 use crate::places::node_place::{NodePlace, node_place};
-use yq_inline::Step;
-use yq_rows::Rows;
-use yq_walk::{
-    KnownItem, KnownItems, Position, Stretch, counted, first_known, known_among, level_at,
-    rows_under,
-};
+use yq_cut::Rows;
+use yq_nodes::Step;
+use yq_row_lines::{KnownItem, KnownItems, Position, Stretch};
+use yq_walk::{counted, first_known, known_among, level_at, rows_under};
 
 /// The row from which on the end is looked for of the lines from one on that are deeper than a level: that
 /// of an item that is known, or the next one.

@@ -1,15 +1,15 @@
 //! Lines cut out of a text, and the ends of lines.
 ghost use Rattle.std.specs.Prelude.{[], ◌≡◌, if◌then◌else◌};
 ghost use Rattle.yq_text.specs.Halves.{whole};
-ghost use Rattle.yq_rows.specs.View.{view};
+ghost use Rattle.yq_cut.specs.View.{view};
 ghost use Rattle.yq_places.specs.CommentPlaces.{end_before};
 ghost use Rattle.yq_places.specs.LineReading as reading;
 
 use crate::places::halves::split_break;
 use crate::places::written::cut_at;
+use yq_cut::Row;
 use yq_flow_scalars::lines::split_at_break;
 use yq_flow_scalars::text::split_white;
-use yq_rows::Row;
 use yq_text::Halves;
 
 /// Lines of a text, less their last break, with what is before and behind them.

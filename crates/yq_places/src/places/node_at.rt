@@ -1,30 +1,31 @@
 //! What the nodes at paths are, each read from the rows that tell it.
 ghost use Rattle.std.specs.Prelude.{◌≡◌, map, option_and_then, option_map, false, IfOk, None};
-ghost use Rattle.yq_inline.specs.Entries.{step_of};
-ghost use Rattle.yq_inline.specs.Trees.{placed_tree};
-ghost use Rattle.yq_inline.specs.View as inline;
+ghost use Rattle.yq_nodes.specs.Entries.{step_of};
+ghost use Rattle.yq_nodes.specs.Trees.{placed_tree};
+ghost use Rattle.yq_nodes.specs.View as inline;
 ghost use Rattle.yq_lines.specs.Ends.{part};
 ghost use Rattle.yq_lines.specs.Outline.{value};
 ghost use Rattle.yq_lines.specs.Positions.{begins_with_node};
 ghost use Rattle.yq_lines.specs.View.{head_view};
-ghost use Rattle.yq_walk.specs.Lines.{lines_of};
+ghost use Rattle.yq_row_lines.specs.Lines.{lines_of};
 ghost use Rattle.yq_documents.specs.Located.{steps_of};
 ghost use Rattle.yq_documents.specs.Reading.{cut_of};
-ghost use Rattle.yq_walk.specs.Extents.{IsRowsView};
+ghost use Rattle.yq_row_lines.specs.Extents.{IsRowsView};
 ghost use Rattle.yq_places.specs.NodeReading as reading;
 ghost use Rattle.yq_places.specs.NodesAt as spec;
 ghost use Rattle.yq_places.specs.RemovalPlaces.{has_others_at};
-ghost use Rattle.yq_walk.specs.RowWalk.{HasRows, IsPosition, line_number};
+ghost use Rattle.yq_row_lines.specs.RowWalk.{HasRows, IsPosition, line_number};
 
 use crate::cut_text::CutText;
 use crate::places::node_place::{NodePlace, node_place, place_line};
 use std::alloc::{AllocError, Global};
+use yq_cut::Rows;
 use yq_documents::Path;
 use yq_flow_scalars::Kind;
-use yq_inline::{Form, Inline, Step};
 use yq_lines::{Content, Head};
-use yq_rows::Rows;
-use yq_walk::{Position, Stretch, behind, is_deeper, is_item_at};
+use yq_nodes::{Form, Inline, Step};
+use yq_row_lines::{Position, Stretch};
+use yq_walk::{behind, is_deeper, is_item_at};
 
 /// What a node is, as far as updates ask.
 #[derive(Debug, Drop)]

@@ -1,17 +1,18 @@
 //! Where the nodes at paths are written among the lines of a document, row by row.
 ghost use Rattle.std.specs.Prelude.{◌≡◌, map, option_map, slice_get, IfSome, Some};
-ghost use Rattle.yq_inline.specs.Entries.{step_of};
+ghost use Rattle.yq_nodes.specs.Entries.{step_of};
 ghost use Rattle.yq_lines.specs.Outline.{Line};
-ghost use Rattle.yq_walk.specs.Lines.{lines_of};
-ghost use Rattle.yq_walk.specs.Extents.{IsRowsView};
+ghost use Rattle.yq_row_lines.specs.Lines.{lines_of};
+ghost use Rattle.yq_row_lines.specs.Extents.{IsRowsView};
 ghost use Rattle.yq_places.specs.NodeReading as spec;
 ghost use Rattle.yq_places.specs.RowWalk.{IsKnownLine};
-ghost use Rattle.yq_walk.specs.RowWalk.{AreKnown, HasDocument, HasRows, IsLine, line_number};
+ghost use Rattle.yq_row_lines.specs.RowWalk.{AreKnown, HasDocument, HasRows, IsLine, line_number};
 
 use crate::places::known_line::{KnownLine, reach_by};
-use yq_inline::Step;
-use yq_rows::Rows;
-use yq_walk::{KnownItems, Position, Stretch, begins_with_node, has_head, level_at, next};
+use yq_cut::Rows;
+use yq_nodes::Step;
+use yq_row_lines::{KnownItems, Position, Stretch};
+use yq_walk::{begins_with_node, has_head, level_at, next};
 
 /// Where a node is written.
 #[derive(Clone, Copy, Debug)]

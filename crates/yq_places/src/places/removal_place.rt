@@ -1,14 +1,14 @@
 //! What is taken out of a text with an item or entry of a block collection.
 ghost use Rattle.std.specs.Prelude.{◌≡◌, ◌<◌, ◌≤◌, ◌+◌, ◌-◌, ◌++◌, ℕ, List, Option, drop, take, length, map, option_map, IfSome, Some};
 ghost use Rattle.yq_text.specs.Halves.{whole};
-ghost use Rattle.yq_inline.specs.Entries.{step_of};
-ghost use Rattle.yq_rows.specs.Grammar.{IsCut};
-ghost use Rattle.yq_rows.specs.Removal.{block_numbers, hold_comment, last_block};
-ghost use Rattle.yq_rows.specs.Rows.{Cut, Part, Row as RowOf};
-ghost use Rattle.yq_rows.specs.View.{rows_of, rows_view};
-ghost use Rattle.yq_scalar.specs.Block.{BlockText};
+ghost use Rattle.yq_nodes.specs.Entries.{step_of};
+ghost use Rattle.yq_cut.specs.Grammar.{IsCut};
+ghost use Rattle.yq_cut.specs.Removal.{block_numbers, hold_comment, last_block};
+ghost use Rattle.yq_cut.specs.Rows.{Cut, Part, Row as RowOf};
+ghost use Rattle.yq_cut.specs.View.{rows_of, rows_view};
+ghost use Rattle.yq_block_scalars.specs.Block.{BlockText};
 ghost use Rattle.yq_flow_scalars.specs.Text.{joined, lines_of as text_lines};
-ghost use Rattle.yq_walk.specs.Extents.{IsRowsView};
+ghost use Rattle.yq_row_lines.specs.Extents.{IsRowsView};
 ghost use Rattle.yq_documents.specs.Located.{steps_of};
 ghost use Rattle.yq_documents.specs.Pieces as pieces;
 ghost use Rattle.yq_documents.specs.Reading.{cut_of};
@@ -16,18 +16,19 @@ ghost use Rattle.yq_places.specs.PlacedRows.{PlacedPart};
 ghost use Rattle.yq_places.specs.RemovalPlaces as spec;
 ghost use Rattle.yq_places.specs.RemovalReading as reading;
 ghost use Rattle.yq_places.specs.RowWalk.{IsKnownLine};
-ghost use Rattle.yq_walk.specs.RowWalk.{AreKnown, HasDocument};
+ghost use Rattle.yq_row_lines.specs.RowWalk.{AreKnown, HasDocument};
 
 use crate::cut_text::CutText;
 use crate::places::known_line::{KnownLine, line_by};
 use crate::places::row_place::row_stop;
+use yq_cut::Rows;
 use yq_documents::{Path, last_run};
 use yq_flow_scalars::lines::split_line;
 use yq_flow_scalars::text::is_blank;
-use yq_inline::Step;
-use yq_rows::Rows;
+use yq_nodes::Step;
+use yq_row_lines::{KnownItems, Stretch};
 use yq_text::Halves;
-use yq_walk::{KnownItems, Stretch, behind, row_start};
+use yq_walk::{behind, row_start};
 
 /// What a gap that comes to stand behind a block scalar asks.
 #[derive(Clone, Copy, Debug)]

@@ -12,10 +12,10 @@ use crate::places::entry_standing::{is_alone, lone_in};
 use crate::places::lines_cut::cut_lines;
 use crate::places::row_place::{line_start, row_stop};
 use crate::places::standing::{BlockRoot, NoRows, Standing};
+use yq_cut::Rows;
 use yq_documents::{document_part, rows_to};
-use yq_rows::Rows;
+use yq_row_lines::{Position, Stretch};
 use yq_text::Halves;
-use yq_walk::{Position, Stretch};
 
 /// The root of a document as a block collection: from its first key or dash to its last line.
 fn block_root_in<'t>(rows: &Rows<'t>, text: Halves<'t>, document: Stretch) -> BlockRoot<'t>

@@ -1,14 +1,14 @@
 //! The heads of rows, read again.
 ghost use Rattle.std.specs.Prelude.{◌≡◌, ◌<◌, length, slice_get, true, IfOk, IfSome, Some};
 ghost use Rattle.yq_text.specs.Halves.{whole};
-ghost use Rattle.yq_rows.specs.Rows.{Row as RowOf};
-ghost use Rattle.yq_rows.specs.View.{rows_of};
+ghost use Rattle.yq_cut.specs.Rows.{Row as RowOf};
+ghost use Rattle.yq_cut.specs.View.{rows_of};
 ghost use Rattle.yq_documents.specs.Reading.{content_is_fit, cut_of};
 ghost use Rattle.yq_places.specs.HeadReading.{IsRowHead};
 
 use crate::cut_text::CutText;
 use std::alloc::{AllocError, Global};
-use yq_documents::row_head;
+use yq_heads::row_head;
 use yq_lines::Head;
 use yq_text::Halves;
 use yq_walk::head_place;

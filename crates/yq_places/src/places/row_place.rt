@@ -1,20 +1,21 @@
 //! Where rows and their lines begin and end.
 ghost use Rattle.std.specs.Prelude.{◌≡◌, ◌<◌, ◌≤◌, ◌+◌, ℕ, List, length, slice_get, Some};
 ghost use Rattle.yq_flow_scalars.specs.Characters.{text_limit};
-ghost use Rattle.yq_rows.specs.Grammar.{IsCut};
-ghost use Rattle.yq_rows.specs.Offsets.{row_length};
-ghost use Rattle.yq_rows.specs.Rows.{Cut, Row as RowOf};
-ghost use Rattle.yq_rows.specs.View.{rows_of, rows_view, Slices, view};
+ghost use Rattle.yq_cut.specs.Grammar.{IsCut};
+ghost use Rattle.yq_cut.specs.Offsets.{row_length};
+ghost use Rattle.yq_cut.specs.Rows.{Cut, Row as RowOf};
+ghost use Rattle.yq_cut.specs.View.{rows_of, rows_view, Slices, view};
 ghost use Rattle.yq_places.specs.EntryReading as spec;
-ghost use Rattle.yq_walk.specs.Extents as extents;
-ghost use Rattle.yq_walk.specs.Extents.{IsRowsView};
+ghost use Rattle.yq_row_lines.specs.Extents as extents;
+ghost use Rattle.yq_row_lines.specs.Extents.{IsRowsView};
 ghost use Rattle.yq_documents.specs.Pieces.{span};
 
 use crate::places::halves::less_break_len;
+use yq_cut::{Row, Rows};
 use yq_documents::{Span, is_block_head};
-use yq_rows::{Row, Rows};
+use yq_row_lines::Position;
 use yq_text::Halves;
-use yq_walk::{Position, dash_at, head_place, row_len, row_start};
+use yq_walk::{dash_at, head_place, row_len, row_start};
 
 /// Where a line begins, in bytes: at its dash, its key or its head.
 pub(crate) fn line_start(rows: &Rows<'_>, position: Position) -> usize

@@ -1,20 +1,21 @@
 //! The rows of items and entries among those of a text.
 ghost use Rattle.std.specs.Prelude.{◌≡◌, map, option_map, IfSome};
-ghost use Rattle.yq_inline.specs.Entries.{step_of};
+ghost use Rattle.yq_nodes.specs.Entries.{step_of};
 ghost use Rattle.yq_documents.specs.Located.{steps_of};
 ghost use Rattle.yq_documents.specs.Reading.{cut_of};
 ghost use Rattle.yq_documents.specs.LinesInRows.{row_line_of};
-ghost use Rattle.yq_walk.specs.Extents.{IsRowsView};
-ghost use Rattle.yq_walk.specs.RowWalk.{AreKnown, HasDocument};
+ghost use Rattle.yq_row_lines.specs.Extents.{IsRowsView};
+ghost use Rattle.yq_row_lines.specs.RowWalk.{AreKnown, HasDocument};
 ghost use Rattle.yq_places.specs.RowWalk.{IsKnownLine};
 ghost use Rattle.yq_places.specs.StandingReading as reading;
 
 use crate::cut_text::CutText;
 use crate::places::known_line::{KnownLine, line_by};
+use yq_cut::Rows;
 use yq_documents::Path;
-use yq_inline::Step;
-use yq_rows::Rows;
-use yq_walk::{KnownItems, Stretch, level_at, lines_before_mark, rows_under};
+use yq_nodes::Step;
+use yq_row_lines::{KnownItems, Stretch};
+use yq_walk::{level_at, lines_before_mark, rows_under};
 
 /// The rows of an item or entry.
 #[derive(Clone, Copy, Debug)]

@@ -1,15 +1,16 @@
 //! By how many columns the collections of a document stand deeper than their keys.
 ghost use Rattle.std.specs.Prelude.{◌≡◌};
-ghost use Rattle.yq_walk.specs.Lines.{lines_of};
+ghost use Rattle.yq_row_lines.specs.Lines.{lines_of};
 ghost use Rattle.yq_documents.specs.Reading.{cut_of};
-ghost use Rattle.yq_walk.specs.Extents.{IsRowsView};
-ghost use Rattle.yq_walk.specs.RowWalk.{HasRows};
+ghost use Rattle.yq_row_lines.specs.Extents.{IsRowsView};
+ghost use Rattle.yq_row_lines.specs.RowWalk.{HasRows};
 ghost use Rattle.yq_places.specs.StepReading as reading;
 ghost use Rattle.yq_places.specs.Steps as spec;
 
 use crate::cut_text::CutText;
-use yq_rows::Rows;
-use yq_walk::{Position, Stretch, level_at, lines_before_mark};
+use yq_cut::Rows;
+use yq_row_lines::{Position, Stretch};
+use yq_walk::{level_at, lines_before_mark};
 
 /// How much deeper than its key a mapping, and a sequence, stands in a document.
 #[derive(Clone, Copy, Debug)]

@@ -1,18 +1,19 @@
 //! The rows of documents among those of a text, and lines of them at paths.
 ghost use Rattle.std.specs.Prelude.{◌≡◌, ◌-◌, map, option_map, true};
-ghost use Rattle.yq_inline.specs.Entries.{step_of};
+ghost use Rattle.yq_nodes.specs.Entries.{step_of};
 ghost use Rattle.yq_documents.specs.Reading.{all_documents, cut_of};
 ghost use Rattle.yq_documents.specs.LinesInRows.{document_row, row_line_at, row_line_of};
-ghost use Rattle.yq_walk.specs.Extents.{IsRowsView};
+ghost use Rattle.yq_row_lines.specs.Extents.{IsRowsView};
 ghost use Rattle.yq_places.specs.RowWalk as spec;
-ghost use Rattle.yq_walk.specs.RowWalk.{AreKnown, HasDocument, stretch_view};
+ghost use Rattle.yq_row_lines.specs.RowWalk.{AreKnown, HasDocument, stretch_view};
 ghost use Rattle.yq_places.specs.RowLineReading.{numbers, line_view};
 
 use crate::cut_text::CutText;
+use yq_cut::Rows;
 use yq_documents::{Path, document_part, rows_to};
-use yq_inline::Step;
-use yq_rows::Rows;
-use yq_walk::{KnownItems, Stretch, line_at, lines_before_mark};
+use yq_nodes::Step;
+use yq_row_lines::{KnownItems, Stretch};
+use yq_walk::{line_at, lines_before_mark};
 
 /// A line of a row.
 #[derive(Clone, Copy, Debug)]

@@ -1,8 +1,8 @@
 //! A value that is added to a node.
 ghost use Rattle.std.specs.Prelude.{◌≡◌, IfOk, None, Some, map, false};
-ghost use Rattle.yq_inline.specs.Values.{entries_of, node_of as value_node, items_of};
+ghost use Rattle.yq_nodes.specs.Values.{entries_of, node_of as value_node, items_of};
 ghost use Rattle.yq_flow_scalars.specs.Tree.{Children, children_of, none, scalar};
-ghost use Rattle.yq_documents.specs.Nodes.{node_of};
+ghost use Rattle.yq_document_nodes.specs.Nodes.{node_of};
 ghost use Rattle.yq_meaning.specs.Changes as spec;
 ghost use Rattle.yq_planning.specs.ChangeView.{addition_of, change_of};
 ghost use Rattle.yq_planning.specs.Indexes.{IsIndex};
@@ -14,10 +14,10 @@ use crate::updating::copied::copied;
 use crate::updating::entry_index::{EntryIndex, find, index_of};
 use crate::updating::sum::scalar_sum;
 use std::alloc::{AllocError, Global};
-use yq_documents::{Node, NodeKind};
+use yq_document_nodes::{Node, NodeKind};
 use yq_flow_scalars::Kind;
-use yq_inline::Value;
 use yq_meaning::{ExprError, Refusal};
+use yq_nodes::Value;
 
 /// A value that is added to a scalar.
 fn to_scalar(alloc: Global, kind: Kind, text: &str, value: &Value) -> Result<Change, ExprError>

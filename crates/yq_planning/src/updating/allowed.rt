@@ -4,7 +4,7 @@ ghost use Rattle.std.specs.Prelude.{◌≡◌, ◌∷◌, [], IfOk, List, Some, 
 ghost use Rattle.yq_flow_scalars.specs.Paths.{Step as TreeStep, node_at};
 ghost use Rattle.yq_flow_scalars.specs.Tree.{Children, Node as TreeNode, children_of};
 ghost use Rattle.yq_flow_scalars.specs.Anchors.{Name, names_of};
-ghost use Rattle.yq_documents.specs.Nodes.{node_of};
+ghost use Rattle.yq_document_nodes.specs.Nodes.{node_of};
 ghost use Rattle.yq_meaning.specs.Changes as spec;
 ghost use Rattle.yq_planning.specs.ChangeView.{addition_of, change_of};
 ghost use Rattle.yq_planning.specs.Indexes.{HasAliases, IsIndex};
@@ -16,7 +16,7 @@ use crate::updating::change::{Addition, Change};
 use crate::updating::change_limits::{is_too_deep, is_too_long};
 use crate::updating::entry_index::{EntryIndex, find, index_of};
 use std::alloc::{AllocError, Global};
-use yq_documents::Node;
+use yq_document_nodes::Node;
 use yq_meaning::{ExprError, Refusal};
 
 /// Whether what is overwritten by an addition to a mapping holds an anchor that

@@ -3,14 +3,15 @@ ghost use Rattle.std.specs.List.{list_any};
 ghost use Rattle.std.specs.Prelude.{◌≡◌, ◌||◌, IfOk, List, OnOk, is_some, ℕ};
 ghost use Rattle.yq_flow_scalars.specs.Tree.{children_of};
 ghost use Rattle.yq_flow_scalars.specs.Anchors.{Name, names_in, names_of};
-ghost use Rattle.yq_documents.specs.Nodes.{anchor_of, node_of};
+ghost use Rattle.yq_document_nodes.specs.Nodes.{node_of};
+ghost use Rattle.yq_documents.specs.TreeEdits.{anchor_of};
 ghost use Rattle.yq_meaning.specs.Changes as spec;
 ghost use Rattle.yq_planning.specs.Indexes.{HasAliases, get_text};
 ghost use Rattle.yq_planning.specs.TakenNames.{is_used_anchor};
 
 use std::alloc::{AllocError, Global};
 use std::collections::BTreeMap;
-use yq_documents::{Node, NodeKind};
+use yq_document_nodes::{Node, NodeKind};
 
 /// The names of aliases.
 pub type Aliases<'d> = BTreeMap<&'d str, ()>;

@@ -1,6 +1,6 @@
 //! Changes: what an update changes at the nodes of documents.
 
-use yq_inline::{Step, Value};
+use yq_nodes::{Step, Value};
 use yq_program::CommentPlace;
 
 /// What a collection gets.

@@ -1,14 +1,14 @@
 //! Changes that can't be written: with too long a key, or nested too deep.
 ghost use Rattle.std.specs.List.{list_any};
 ghost use Rattle.std.specs.Prelude.{◌≡◌, ◌||◌, IfOk, Some, suc};
-ghost use Rattle.yq_inline.specs.Values.{node_of};
+ghost use Rattle.yq_nodes.specs.Values.{node_of};
 ghost use Rattle.yq_meaning.specs.Changes as spec;
 ghost use Rattle.yq_planning.specs.ChangeView.{addition_of, change_of};
 
 use crate::updating::change::{Addition, Change};
 use crate::updating::limits::{holds_long_key, is_deep, is_deep_inside, is_long_key};
 use std::alloc::{AllocError, Global};
-use yq_inline::Value;
+use yq_nodes::Value;
 
 /// Whether a key or one in a value is too long.
 fn is_long_entry(alloc: Global, key: &str, value: &Value) -> Result<bool, AllocError>

@@ -1,9 +1,9 @@
 //! Copies of values, which own all that they hold.
 ghost use Rattle.std.specs.Prelude.{◌≡◌, IfOk, map};
-ghost use Rattle.yq_inline.specs.Values.{field_of, node_of};
+ghost use Rattle.yq_nodes.specs.Values.{field_of, node_of};
 
 use std::alloc::{AllocError, Global};
-use yq_inline::Value;
+use yq_nodes::Value;
 
 /// The same value again.
 #[cycle(copied)]

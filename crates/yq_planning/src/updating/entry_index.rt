@@ -2,12 +2,12 @@
 ghost use Rattle.std.specs.Prelude.{◌≡◌, IfOk, List, OnOk, option_map, ℕ};
 ghost use Rattle.yq_flow_scalars.specs.Paths.{To, child_at};
 ghost use Rattle.yq_flow_scalars.specs.Tree.{Children, children_of};
-ghost use Rattle.yq_documents.specs.Nodes.{label_of, node_of};
+ghost use Rattle.yq_document_nodes.specs.Nodes.{label_of, node_of};
 ghost use Rattle.yq_planning.specs.Indexes.{IsIndex, kept_first, get_text};
 
 use std::alloc::{AllocError, Global};
 use std::collections::BTreeMap;
-use yq_documents::Node;
+use yq_document_nodes::Node;
 
 /// The first value of each key.
 pub(crate) type EntryIndex<'d, 't> = BTreeMap<&'d str, Node<'d, 't>>;

@@ -1,12 +1,12 @@
 //! The numbers of entries, by their keys.
 ghost use Rattle.std.specs.BTreeMap.{get_by_text};
 ghost use Rattle.std.specs.Prelude.{◌≡◌, IfOk, List, OnOk, map, ℕ};
-ghost use Rattle.yq_inline.specs.Values.{field_of};
+ghost use Rattle.yq_nodes.specs.Values.{field_of};
 ghost use Rattle.yq_planning.specs.EntryNumbers.{AreNumbered, number_kept};
 
 use std::alloc::{AllocError, Global};
 use std::collections::BTreeMap;
-use yq_inline::Value;
+use yq_nodes::Value;
 
 /// The number of the first entry of each key.
 pub(crate) type KeyNumbers = BTreeMap<String, usize>;

@@ -1,18 +1,19 @@
 //! What can't be written: values with too long a key, or nested too deep.
 ghost use Rattle.std.specs.Prelude.{◌≡◌, IfOk, nat_lt, suc};
-ghost use Rattle.yq_inline.specs.Values.{entries_of, items_of, node_of};
+ghost use Rattle.yq_nodes.specs.Values.{entries_of, items_of, node_of};
 ghost use Rattle.yq_flow_scalars.specs.Keys.{deepest, depth};
 ghost use Rattle.yq_meaning.specs.Changes as spec;
 
 use std::alloc::{AllocError, Global};
+use yq_cut::KEY_LIMIT;
+use yq_flow_reading::can_write;
 use yq_flow_scalars::characters::char_count;
-use yq_flow_scalars::{Place, Scalar, Style, can_write};
-use yq_inline::{DEPTH_LIMIT, Value};
-use yq_rows::KEY_LIMIT;
+use yq_flow_scalars::{Place, Scalar, Style};
+use yq_nodes::{DEPTH_LIMIT, Value};
 use yq_scalar::write_scalar;
 
 /// Whether a key has too many characters as it is written in flow mappings.
-#[tactic(auto, unfolding(yq_inline::specs::Written::scalar_text))]
+#[tactic(auto, unfolding(yq_nodes::specs::Written::scalar_text))]
 pub(crate) fn is_long_key(alloc: Global, key: &str) -> Result<bool, AllocError>
     ensures { IfOk result (λ b. b ≡ spec.is_long_key key.now) }
 {

@@ -8,8 +8,8 @@ ghost use Rattle.yq_meaning.specs.Plans as spec;
 use crate::updating::change::{Addition, Change, Changed};
 use std::alloc::{AllocError, Global};
 use yq_documents::Path;
-use yq_inline::Step;
 use yq_meaning::{Op, copied_steps};
+use yq_nodes::Step;
 use yq_program::CommentPlace;
 
 /// The operation of an addition at a path.

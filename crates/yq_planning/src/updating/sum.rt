@@ -1,7 +1,7 @@
 //! Sums of values (yq manual, `+`).
 ghost use Rattle.std.specs.Fmt.{signed_decimal};
 ghost use Rattle.std.specs.Prelude.{◌≡◌, ◌++◌, IfOk, None, OnOk, Some, map, option_map, string_bytes};
-ghost use Rattle.yq_inline.specs.Values.{entries_of, field_of, items_of, node_of};
+ghost use Rattle.yq_nodes.specs.Values.{entries_of, field_of, items_of, node_of};
 ghost use Rattle.yq_flow_scalars.specs.SchemaReading as numbers;
 ghost use Rattle.yq_flow_scalars.specs.Tree.{scalar};
 ghost use Rattle.yq_flow_scalars.specs.declared.kind.Kind.TheVariants.{Int, Text};
@@ -12,10 +12,10 @@ ghost use Rattle.yq_meaning.specs.RightValues as spec;
 
 use crate::updating::key_numbers::{KeyNumbers, keep_number, number_of, numbers_of};
 use std::alloc::{AllocError, Global};
+use yq_flow_reading::int_value;
 use yq_flow_scalars::{Kind, Scalar};
-use yq_inline::Value;
 use yq_meaning::{ExprError, Refusal};
-use yq_scalar::int_value;
+use yq_nodes::Value;
 
 /// The int of a number.
 fn int(alloc: Global, number: i64) -> Result<Value, AllocError>

@@ -7,7 +7,7 @@ use Rattle.yq_flow_scalars.specs.Paths.{To}
 use Rattle.yq_flow_scalars.specs.SchemaReading.{resolve, is_int, is_float}
 use Rattle.yq_flow_scalars.specs.Tree.{Node, alias, scalar, list, map, Children, none, child}
 use Rattle.yq_flow_scalars.specs.Writable.{can_write_plain}
-use Rattle.yq_inline.specs.Written.{scalar_text}
+use Rattle.yq_nodes.specs.Written.{scalar_text}
 use Rattle.yq_documents.specs.Documents.{Document}
 use Rattle.yq_documents.specs.TreeEdits.{new_label}
 use Rattle.yq_program.specs.declared.program.CommentPlace.TheVariants as comments

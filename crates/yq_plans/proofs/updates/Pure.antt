@@ -3,7 +3,7 @@ use Rattle.std.proofs.Common.{◌≡◌, ℕ, ◌⊎◌, List, [], ◌∷◌, Op
 use Rattle.yq_flow_scalars.specs.Shapes.{IsNew, AreItems, AreEntries, IsTree, AreTrees}
 use Rattle.yq_flow_scalars.specs.Tree as tree
 use Rattle.yq_flow_scalars.specs.Tree.{Label, Node, alias, scalar, list, Children, none, child}
-use Rattle.yq_inline.specs.Values.{item, entry, items, entries}
+use Rattle.yq_nodes.specs.Values.{item, entry, items, entries}
 use Rattle.yq_meaning.specs.Copies.{key_or_empty, and_others, keyed, copy, item_copies, entry_copies}
 use Rattle.yq_plans.proofs.updates.Mentions.{AnyMentions, IsPure}
 use Rattle.yq_meaning.specs.Judgement.{gives}

@@ -1,10 +1,10 @@
 //! Laws of what is put behind a text that has no final break.
 ghost use Rattle.std.specs.Prelude.{◌≡◌, ℕ, List, [], ◌∷◌, ◌++◌, true};
 ghost use Rattle.yq_flow_scalars.specs.Characters.{pairs_returns};
-ghost use Rattle.yq_rows.specs.Appending.{IsLastRow, PartFits, TakesBreak, closed_by, with_last_part};
-ghost use Rattle.yq_rows.specs.Grammar.{AreRows, IsCut, Limit, limit_after};
-ghost use Rattle.yq_rows.specs.Rows.{Cut, Part, Row, print_row};
-ghost use Rattle.yq_rows.specs.Splices.{CutsItsText, replace_row};
+ghost use Rattle.yq_cut.specs.Appending.{IsLastRow, PartFits, TakesBreak, closed_by, with_last_part};
+ghost use Rattle.yq_cut.specs.Grammar.{AreRows, IsCut, Limit, limit_after};
+ghost use Rattle.yq_cut.specs.Rows.{Cut, Part, Row, print_row};
+ghost use Rattle.yq_cut.specs.Splices.{CutsItsText, replace_row};
 
 /// Rows behind the last one of a text without a final break: that one gets a break, and the rows
 /// stand behind it.

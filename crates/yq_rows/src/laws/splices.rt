@@ -1,14 +1,14 @@
 //! Laws of splices: a cut, of which other rows stand in the place of some.
 ghost use Rattle.std.specs.Prelude.{◌≡◌, ◌≤◌, ℕ, List, [], ◌∷◌, ◌++◌, Some, false, length, slice_get, true};
-ghost use Rattle.yq_rows.specs.Counted.{RowPlace};
-ghost use Rattle.yq_rows.specs.Exchange.{allows_first};
-ghost use Rattle.yq_rows.specs.Grammar.{IsCut, limit_after};
-ghost use Rattle.yq_rows.specs.Removal.{RepairFits, without_rows};
-ghost use Rattle.yq_rows.specs.Rows.{Cut, Row, cut_text, parent_indent, rows_text};
-ghost use Rattle.yq_rows.specs.Seams.{TailFits, TakesPlace, are_seamed, ends_in_block, ends_in_line, retail};
-ghost use Rattle.yq_rows.specs.SpliceFits.{FitsIn, InsertFits, RemoveFits, ReplaceFits, StandsFor};
-ghost use Rattle.yq_rows.specs.Splices.{CutsItsText, StandsBetween, asked_at, before_rows, behind_rows, first_gap, gap_before, replace_row, nth_part, rows_between, splice, rest_behind};
-ghost use Rattle.yq_rows.specs.View.{rows_of};
+ghost use Rattle.yq_cut.specs.Counted.{RowPlace};
+ghost use Rattle.yq_cut.specs.Exchange.{allows_first};
+ghost use Rattle.yq_cut.specs.Grammar.{IsCut, limit_after};
+ghost use Rattle.yq_cut.specs.Removal.{RepairFits, without_rows};
+ghost use Rattle.yq_cut.specs.Rows.{Cut, Row, cut_text, parent_indent, rows_text};
+ghost use Rattle.yq_cut.specs.Seams.{TailFits, TakesPlace, are_seamed, ends_in_block, ends_in_line, retail};
+ghost use Rattle.yq_cut.specs.SpliceFits.{FitsIn, InsertFits, RemoveFits, ReplaceFits, StandsFor};
+ghost use Rattle.yq_cut.specs.Splices.{CutsItsText, StandsBetween, asked_at, before_rows, behind_rows, first_gap, gap_before, replace_row, nth_part, rows_between, splice, rest_behind};
+ghost use Rattle.yq_cut.specs.View.{rows_of};
 
 /// A cut, of which other rows stand in the place of some, is a cut where they fit and the new text
 /// may stand. Its text is that before those rows, the new rows with the gap behind them, and the

@@ -1,5 +1,5 @@
 use Rattle.std.proofs.Common.{arith}
-use Rattle.yq_rows.specs.Rows.{mark_column}
+use Rattle.yq_cut.specs.Rows.{mark_column}
 use Rattle.yq_block.specs.BlockRows.{item_column, node_rows}
 use Rattle.yq_block.proofs.LineLaws.{node_begun}
 use Rattle.yq_block.proofs.PlaceLaws.{under_laid, behind_laid, compact_lines, rows_replaced}

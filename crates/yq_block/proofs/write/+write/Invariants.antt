@@ -1,6 +1,6 @@
 use Rattle.std.proofs.Common.{◌≡◌, ◌++◌, drop, false, map, string_bytes, true}
 use Rattle.yq_flow.specs.Valued.{AreValueTrees}
-use Rattle.yq_inline.specs.Values.{node_of, field_of, items_of, entries_of}
+use Rattle.yq_nodes.specs.Values.{node_of, field_of, items_of, entries_of}
 use Rattle.yq_block.specs.BlockReading as spec
 use Rattle.yq_block.proofs.write.+write.Given as goal
 

@@ -1,5 +1,5 @@
 use Rattle.std.proofs.Common.{◌≡◌, IfOk, string_bytes, ℕ, List, subst}
-use Rattle.yq_inline.specs.Values.{node_of}
+use Rattle.yq_nodes.specs.Values.{node_of}
 use Rattle.yq_lines.specs.Bodies.{borrowed}
 use Rattle.yq_documents.specs.Reading.{cut_of}
 use Rattle.yq_edits.specs.Layouts.{layout_of}

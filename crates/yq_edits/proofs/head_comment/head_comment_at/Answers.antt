@@ -1,6 +1,6 @@
 use Rattle.std.proofs.Common.{rules, ◌≡◌, Some, option_map, sym, ap, ◌∙◌}
-use Rattle.yq_scalar.specs.BlockWritten.{break_text}
-use Rattle.yq_rows.specs.Rows.{cut_text}
+use Rattle.yq_block_scalars.specs.BlockWritten.{break_text}
+use Rattle.yq_cut.specs.Rows.{cut_text}
 use Rattle.yq_documents.specs.Located.{steps_of}
 use Rattle.yq_documents.specs.Reading.{cut_of}
 use Rattle.yq_places.specs.CommentPlaces.{lines_above}

@@ -1,6 +1,6 @@
 use Rattle.std.proofs.Common.{rules, string_bytes, arith}
 use Rattle.std.proofs.lemmas.Str.Pattern.{split_parts}
-use Rattle.yq_scalar.proofs.BlockSteps.{some_left}
+use Rattle.yq_block_scalars.proofs.BlockSteps.{some_left}
 use Rattle.yq_edits.proofs.CommentPieceLaws.{loop_more, loop_done}
 use Rattle.yq_edits.proofs.head_comment.head_lines.Goals as goal
 

@@ -1,5 +1,5 @@
 use Rattle.std.proofs.Common.{sym, ◌∙◌}
-use Rattle.yq_inline.specs.Values as values
+use Rattle.yq_nodes.specs.Values as values
 use Rattle.yq_documents.specs.Located.{steps_of}
 use Rattle.yq_edits.proofs.RowKeptLaws.{kept_in_row}
 use Rattle.yq_edits.proofs.kept.is_kept_in_row.Goals as goal

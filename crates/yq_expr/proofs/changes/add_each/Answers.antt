@@ -1,8 +1,8 @@
 use Rattle.std.proofs.Common.{Err, Vec, map, sym, ap, ◌∙◌, subst}
 use Rattle.std.proofs.lemmas.Result.{err_from_is_err_and}
 use Rattle.std.specs.declared.alloc.Global.{Global}
-use Rattle.yq_inline.specs.Values.{node_of as value_node}
-use Rattle.yq_documents.specs.Nodes.{node_of}
+use Rattle.yq_nodes.specs.Values.{node_of as value_node}
+use Rattle.yq_document_nodes.specs.Nodes.{node_of}
 use Rattle.yq_meaning.specs.Changes.{add_at}
 use Rattle.yq_planning.specs.ChangeView.{changed_of}
 use Rattle.yq_meaning.specs.Judgement.{MatchFails, Judges}

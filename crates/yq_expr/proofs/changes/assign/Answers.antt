@@ -1,6 +1,6 @@
 use Rattle.std.proofs.Common.{Vec, map, ap, subst}
 use Rattle.std.specs.declared.alloc.Global.{Global}
-use Rattle.yq_documents.specs.Nodes.{node_of}
+use Rattle.yq_document_nodes.specs.Nodes.{node_of}
 use Rattle.yq_planning.specs.ChangeView.{changed_of}
 use Rattle.yq_meaning.specs.Judgement.{Judges}
 use Rattle.yq_matching.specs.FoundView.{found_places}

@@ -1,7 +1,7 @@
 use Rattle.std.proofs.Common.{◌≡◌, Err, List, map, refl, sym, ap, ◌∙◌, subst, arith}
 use Rattle.std.proofs.lemmas.Result.{err_from_is_err_and}
-use Rattle.yq_documents.specs.Children.{left_of}
-use Rattle.yq_documents.specs.Nodes.{label_of, node_of}
+use Rattle.yq_document_nodes.specs.Children.{left_of}
+use Rattle.yq_document_nodes.specs.Nodes.{label_of, node_of}
 use Rattle.yq_lines.specs.Counts.{count}
 use Rattle.yq_meaning.specs.Changes.{Changed, all_allowed}
 use Rattle.yq_planning.specs.ChangeView.{changed_of}

@@ -1,8 +1,8 @@
 use Rattle.std.proofs.Common.{◌≡◌, ◌+◌, ◌-◌, map}
 use Rattle.yq_flow_scalars.specs.Tree.{Node}
 use Rattle.yq_flow_scalars.specs.Anchors.{names_of}
-use Rattle.yq_documents.specs.Children.{left_of}
-use Rattle.yq_documents.specs.Nodes.{node_of}
+use Rattle.yq_document_nodes.specs.Children.{left_of}
+use Rattle.yq_document_nodes.specs.Nodes.{node_of}
 use Rattle.yq_lines.specs.Counts.{count}
 use Rattle.yq_meaning.specs.Changes.{at_each}
 use Rattle.yq_planning.specs.ChangeView.{changed_of}

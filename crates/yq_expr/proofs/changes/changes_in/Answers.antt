@@ -1,5 +1,5 @@
 use Rattle.std.proofs.Common.{map}
-use Rattle.yq_documents.specs.Nodes.{node_of}
+use Rattle.yq_document_nodes.specs.Nodes.{node_of}
 use Rattle.yq_program.specs.View.{stage_of}
 use Rattle.yq_matching.specs.FoundView.{found_places}
 use Rattle.yq_matching.proofs.MatchLaws.{places_have}

@@ -1,5 +1,5 @@
 use Rattle.std.proofs.Common.{List, map, sym, subst}
-use Rattle.yq_documents.specs.Nodes.{node_of}
+use Rattle.yq_document_nodes.specs.Nodes.{node_of}
 use Rattle.yq_matching.specs.PlaceView.{places_of}
 use Rattle.yq_matching.specs.TreeScalars.{HaveScalars}
 use Rattle.yq_program.specs.View.{stage_of}

@@ -1,5 +1,5 @@
 use Rattle.std.proofs.Common.{◌≡◌, ◌≤◌, length, map}
-use Rattle.yq_inline.specs.Values.{node_of}
+use Rattle.yq_nodes.specs.Values.{node_of}
 use Rattle.yq_meaning.specs.Changes.{nested}
 use Rattle.yq_program.specs.View.{step_of}
 use Rattle.yq_expr.proofs.put.nested.Given as goal

@@ -1,6 +1,6 @@
 use Rattle.std.proofs.Common.{sym, ap, ◌∙◌}
-use Rattle.yq_inline.specs.Values.{node_of as value_node}
-use Rattle.yq_documents.specs.Nodes.{node_of}
+use Rattle.yq_nodes.specs.Values.{node_of as value_node}
+use Rattle.yq_document_nodes.specs.Nodes.{node_of}
 use Rattle.yq_meaning.specs.Judgement.{gives}
 use Rattle.yq_program.specs.View.{step_of}
 use Rattle.yq_expr.proofs.ChangeLaws.{put_created, put_no_item}

@@ -1,5 +1,5 @@
 use Rattle.std.proofs.Common.{sym, subst, arith}
-use Rattle.yq_inline.specs.Values.{node_of}
+use Rattle.yq_nodes.specs.Values.{node_of}
 use Rattle.yq_meaning.specs.Judgement.{Judges}
 use Rattle.yq_matching.specs.PlaceView.{place_of}
 use Rattle.yq_program.specs.View.{term_of}

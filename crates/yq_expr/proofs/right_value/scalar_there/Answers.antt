@@ -1,7 +1,7 @@
 use Rattle.std.proofs.Common.{rules, ◌≡◌, ℕ, List, [], ◌∷◌, false, map, None, sym, ap, ◌∙◌}
 use Rattle.yq_flow_scalars.specs.Tree.{scalar}
-use Rattle.yq_documents.specs.Nodes.{node_of, kind_of}
-use Rattle.yq_documents.specs.declared.nodes.node.NodeKind.TheVariants as kinds
+use Rattle.yq_document_nodes.specs.Nodes.{node_of, kind_of}
+use Rattle.yq_document_nodes.specs.declared.nodes.node.NodeKind.TheVariants as kinds
 use Rattle.yq_expr.proofs.SummandLaws.{scalar_copied}
 use Rattle.yq_matching.specs.PlaceView.{place_of}
 use Rattle.yq_meaning.specs.Conditions.{value_of}
@@ -18,8 +18,10 @@ returns-in-Scalar c = λ doc.
     let term : term_of c.args.term.now ≡ found (path [] ∷ []) = ap term_of c.in-Pipe.is ∙ ap found one in
     let there : node_of c.in_ok-node.node ≡ value_of (place_of c.args.place) = search rules in
     let kind : kind_of (node_of c.in_ok-node.node) ≡ kinds.Scalar c.in-Scalar.kind = search rules in
-    let some : is_null (scalar None c.in-Scalar.kind c.text.result.now) ≡ false = search rules in
-    (ap (term_value doc (place_of c.args.place)) term
-    ∙ (ap copy (sym there)
-    ∙ (scalar_copied (node_of c.in_ok-node.node) c.in-Scalar.kind kind
-    ∙ ap (λ (t : List ℕ). gives (scalar None c.in-Scalar.kind t)) (sym c.text.ensures))), some)
+    let some : is_null (scalar None c.in-Scalar.kind c.text.result.now) ≡ false = search rules in (
+      ap (term_value doc (place_of c.args.place)) term
+          ∙ (ap copy (sym there)
+          ∙ (scalar_copied (node_of c.in_ok-node.node) c.in-Scalar.kind kind
+          ∙ ap (λ (t : List ℕ). gives (scalar None c.in-Scalar.kind t)) (sym c.text.ensures))),
+      some,
+    )

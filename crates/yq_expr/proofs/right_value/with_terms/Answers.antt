@@ -1,6 +1,6 @@
 use Rattle.std.proofs.Common.{Err, ap, ◌∙◌}
 use Rattle.std.proofs.lemmas.Result.{err_from_is_err_and}
-use Rattle.yq_inline.specs.Values.{node_of}
+use Rattle.yq_nodes.specs.Values.{node_of}
 use Rattle.yq_meaning.specs.Judgement.{and_then}
 use Rattle.yq_matching.specs.PlaceView.{place_of}
 use Rattle.yq_meaning.specs.RightValues.{sum, term_value}

@@ -1,5 +1,5 @@
 use Rattle.std.proofs.Common.{◌≡◌, drop, map}
-use Rattle.yq_inline.specs.Values.{node_of}
+use Rattle.yq_nodes.specs.Values.{node_of}
 use Rattle.yq_meaning.specs.Judgement.{and_then}
 use Rattle.yq_matching.specs.PlaceView.{place_of}
 use Rattle.yq_meaning.specs.Places.{chained}

@@ -1,6 +1,6 @@
 use Rattle.std.proofs.Common.{◌≡◌, rules, List, [], map, reverse, sym, ap, ◌++◌, ◌∙◌}
 use Rattle.yq_flow_scalars.specs.Paths.{Step}
-use Rattle.yq_inline.specs.Entries.{step_of}
+use Rattle.yq_nodes.specs.Entries.{step_of}
 use Rattle.yq_matching.specs.PlaceView.{path_of}
 use Rattle.yq_matching.specs.declared.matching.place.NodePath.{Root, the_lemmas}
 use Rattle.yq_expr.proofs.ChangeLaws.{reverse_map}

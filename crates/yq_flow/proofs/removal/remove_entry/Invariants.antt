@@ -1,7 +1,7 @@
 use Rattle.std.proofs.Common.{◌≡◌, length}
 use Rattle.yq_flow_scalars.specs.Paths as paths
 use Rattle.yq_flow.specs.FlowPlaces as spec
-use Rattle.yq_inline.specs.View.{entries_end}
+use Rattle.yq_nodes.specs.View.{entries_end}
 use Rattle.yq_flow.proofs.removal.remove_entry.Given as goal
 
 abbrev pub invariant-each : goal.invariant-each

@@ -1,9 +1,9 @@
 use Rattle.std.proofs.Common.{ap, ◌∙◌, subst, sym}
 use Rattle.yq_flow.specs.Valued.{IsValueTree}
-use Rattle.yq_inline.specs.Values.{node_of}
-use Rattle.yq_inline.specs.Written.{flow_text}
+use Rattle.yq_nodes.specs.Values.{node_of}
+use Rattle.yq_nodes.specs.Written.{flow_text}
 use Rattle.yq_flow.proofs.ValuedLaws.{list_valid, map_valid, if_ok}
-use Rattle.yq_inline.proofs.WrittenLaws.{node_list, node_map, list_value, map_value, between_brackets}
+use Rattle.yq_nodes.proofs.WrittenLaws.{node_list, node_map, list_value, map_value, between_brackets}
 use Rattle.yq_flow.proofs.write.+write.Goals as goal
 
 pub push_value-returns-in_ok-push_items-in-List : goal.push_value-returns-in_ok-push_items-in-List

@@ -1,7 +1,7 @@
 use Rattle.std.proofs.Common.{◌≡◌, ◌++◌, drop, false, map, string_bytes, true}
 use Rattle.yq_flow.specs.Valued.{AreValueTrees}
-use Rattle.yq_inline.specs.Values.{node_of, items_of, entries_of}
-use Rattle.yq_inline.specs.Written as spec
+use Rattle.yq_nodes.specs.Values.{node_of, items_of, entries_of}
+use Rattle.yq_nodes.specs.Written as spec
 use Rattle.yq_flow.proofs.write.+write.Given as goal
 
 abbrev pub invariant-push_entries-each : goal.invariant-push_entries-each

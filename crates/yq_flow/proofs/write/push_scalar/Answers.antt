@@ -1,5 +1,5 @@
 use Rattle.std.proofs.Common.{sym, ◌∙◌}
-use Rattle.yq_inline.proofs.WrittenLaws.{double_when}
+use Rattle.yq_nodes.proofs.WrittenLaws.{double_when}
 use Rattle.yq_flow.proofs.write.push_scalar.Goals as goal
 
 pub write_scalar-requires-clause-can : goal.write_scalar-requires-clause-can

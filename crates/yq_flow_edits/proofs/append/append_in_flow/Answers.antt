@@ -1,8 +1,8 @@
 use Rattle.std.proofs.Common.{◌∙◌, ℕ, List, map, Some, sym, ap, subst}
 use Rattle.yq_text.specs.Halves.{whole}
-use Rattle.yq_inline.specs.Entries.{step_of}
-use Rattle.yq_inline.specs.Values.{node_of}
-use Rattle.yq_inline.specs.View.{view}
+use Rattle.yq_nodes.specs.Entries.{step_of}
+use Rattle.yq_nodes.specs.Values.{node_of}
+use Rattle.yq_nodes.specs.View.{view}
 use Rattle.yq_flow.specs.FlowPlaces.{edit_view}
 use Rattle.yq_lines.specs.Bodies.{borrowed}
 use Rattle.yq_documents.specs.Located.{steps_of}

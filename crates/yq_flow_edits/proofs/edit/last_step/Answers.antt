@@ -1,4 +1,4 @@
-use Rattle.yq_inline.specs.Entries.{step_of}
+use Rattle.yq_nodes.specs.Entries.{step_of}
 use Rattle.yq_flow_edits.proofs.FlowAnswers.{steps_last}
 use Rattle.yq_flow_edits.proofs.edit.last_step.Goals as goal
 

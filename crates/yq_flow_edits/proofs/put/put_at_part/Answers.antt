@@ -1,10 +1,10 @@
 use Rattle.std.proofs.Common.{◌∙◌, ℕ, List, Option, Some, map, refl, sym, ap, subst}
 use Rattle.yq_flow_scalars.specs.Answers.{◌>>=◌}
 use Rattle.yq_flow_scalars.specs.declared.style.Place.TheVariants.{Flow as InFlow}
-use Rattle.yq_inline.specs.Collections.{CollPieces}
-use Rattle.yq_inline.specs.Entries.{entry_view, step_of}
-use Rattle.yq_inline.specs.Values.{node_of}
-use Rattle.yq_inline.specs.View.{view}
+use Rattle.yq_nodes.specs.Collections.{CollPieces}
+use Rattle.yq_nodes.specs.Entries.{entry_view, step_of}
+use Rattle.yq_nodes.specs.Values.{node_of}
+use Rattle.yq_nodes.specs.View.{view}
 use Rattle.yq_flow_scalars.specs.Tree.{Node}
 use Rattle.yq_documents.specs.Located.{steps_of}
 use Rattle.yq_documents.specs.Reading.{cut_of}

@@ -1,7 +1,7 @@
 use Rattle.std.proofs.Common.{◌∙◌, List, ℕ, map, Some, sym, ap, subst}
 use Rattle.yq_text.specs.Halves.{whole}
-use Rattle.yq_inline.specs.Entries.{step_of}
-use Rattle.yq_inline.specs.View.{view}
+use Rattle.yq_nodes.specs.Entries.{step_of}
+use Rattle.yq_nodes.specs.View.{view}
 use Rattle.yq_flow.specs.FlowPlaces.{edit_view}
 use Rattle.yq_documents.specs.Located.{steps_of}
 use Rattle.yq_places.specs.Standings.{last_step}

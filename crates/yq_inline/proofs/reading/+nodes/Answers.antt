@@ -1,6 +1,6 @@
 use Rattle.std.proofs.Common.{rules, arith, sym, ◌∙◌, length}
-use Rattle.yq_inline.proofs.Loops.{node_shorter, items_on, entries_on}
-use Rattle.yq_inline.proofs.Steps.{node_gives}
+use Rattle.yq_nodes.proofs.Loops.{node_shorter, items_on, entries_on}
+use Rattle.yq_nodes.proofs.Steps.{node_gives}
 use Rattle.yq_inline.proofs.reading.+nodes.Goals as goal
 
 pub read_entries-each-preserved : goal.read_entries-each-preserved

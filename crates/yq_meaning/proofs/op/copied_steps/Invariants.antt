@@ -1,5 +1,5 @@
 use Rattle.std.proofs.Common.{◌≡◌, map, take}
-use Rattle.yq_inline.specs.Entries.{step_of}
+use Rattle.yq_nodes.specs.Entries.{step_of}
 use Rattle.yq_meaning.proofs.op.copied_steps.Given as goal
 
 abbrev pub invariant-each : goal.invariant-each

@@ -1,4 +1,4 @@
-use Rattle.yq_program.proofs.Outcomes.{one_of}
+use Rattle.yq_parsing.proofs.Outcomes.{one_of}
 use Rattle.yq_plans.proofs.laws.one_program.Goals as goal
 
 pub returns : goal.returns

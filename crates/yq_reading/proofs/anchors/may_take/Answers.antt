@@ -2,14 +2,14 @@ use Rattle.std.proofs.Common.{not, Some, ◌&&◌, sym, ap, ◌∙◌}
 use Rattle.std.proofs.lemmas.Option.{same_Some}
 use Rattle.std.specs.List.{slice_get}
 use Rattle.yq_flow_scalars.specs.Text.{is_empty}
-use Rattle.yq_inline.specs.Nodes.{first_is}
-use Rattle.yq_rows.specs.View.{slices}
-use Rattle.yq_walk.specs.Lines.{row_lines}
-use Rattle.yq_walk.proofs.WalkPositions.{located}
+use Rattle.yq_nodes.specs.Nodes.{first_is}
+use Rattle.yq_cut.specs.View.{slices}
+use Rattle.yq_row_lines.specs.Lines.{row_lines}
+use Rattle.yq_row_lines.proofs.WalkPositions.{located}
 use Rattle.yq_reading.proofs.AnchorRows.{bare_agrees, mark_takes}
 use Rattle.yq_reading.proofs.ReadyLaws.{row_within}
 use Rattle.yq_reading.proofs.RowContents.{row_content}
-use Rattle.yq_rows.specs.Rows.{parent_indent}
+use Rattle.yq_cut.specs.Rows.{parent_indent}
 use Rattle.yq_reading.proofs.anchors.may_take.Goals as goal
 
 pub returns-then-not-is_bare : goal.returns-then-not-is_bare

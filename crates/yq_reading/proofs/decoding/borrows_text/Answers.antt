@@ -1,7 +1,7 @@
 use Rattle.std.proofs.Common.{Bool, cond, eqb, sym, ap, ◌∙◌}
 use Rattle.std.specs.List.{list_any}
-use Rattle.yq_inline.specs.Nodes.{first_is}
-use Rattle.yq_inline.specs.Scalars.{is_quoted}
+use Rattle.yq_nodes.specs.Nodes.{first_is}
+use Rattle.yq_nodes.specs.Scalars.{is_quoted}
 use Rattle.yq_reading.proofs.BorrowLaws.{borrows_quoted}
 use Rattle.yq_reading.proofs.decoding.borrows_text.Goals as goal
 

@@ -3,7 +3,7 @@ use Rattle.std.proofs.lemmas.Bool.{not-false}
 use Rattle.yq_flow_scalars.specs.Text.{is_empty}
 use Rattle.std.proofs.lemmas.Int.{to_z-of_z}
 use Rattle.std.proofs.lemmas.Option.{same_Some}
-use Rattle.yq_rows.specs.View.{Slices, slices}
+use Rattle.yq_cut.specs.View.{Slices, slices}
 use Rattle.yq_documents.specs.Reading.{cut_of}
 use Rattle.yq_reading.proofs.RowsRead.{fit_agrees, head_quoted, head_read, borrowed_fit, none_decoded, no_head, pieces_there, place_whole, read_decoded, row_at, text_ends, unfit_agrees}
 use Rattle.yq_reading.proofs.decoding.decode_head.Goals as goal

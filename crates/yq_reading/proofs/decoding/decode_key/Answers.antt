@@ -1,8 +1,8 @@
 use Rattle.std.proofs.Common.{sym, ap, ◌∙◌}
 use Rattle.std.proofs.lemmas.Bool.{not-false}
 use Rattle.yq_flow_scalars.specs.Text.{is_empty}
-use Rattle.yq_inline.specs.Scalars.{content_of, is_quoted}
-use Rattle.yq_rows.specs.View.{slices}
+use Rattle.yq_nodes.specs.Scalars.{content_of, is_quoted}
+use Rattle.yq_cut.specs.View.{slices}
 use Rattle.yq_reading.proofs.BorrowLaws.{quoted_is}
 use Rattle.yq_reading.proofs.RowsRead.{key_fits_is, key_borrowed, key_quoted, key_unquoted, keyless, pieces_there, row_at}
 use Rattle.yq_reading.proofs.decoding.decode_key.Goals as goal

@@ -1,5 +1,5 @@
 use Rattle.std.proofs.Common.{arith}
-use Rattle.yq_rows.specs.View.{rows_of}
+use Rattle.yq_cut.specs.View.{rows_of}
 use Rattle.yq_documents.specs.Reading.{cut_of, have_fit_keys}
 use Rattle.yq_documents.specs.RowReading.{row_fits}
 use Rattle.yq_reading.proofs.AllOf.{all_fails}

@@ -1,7 +1,7 @@
 use Rattle.std.proofs.Common.{◌≡◌, ◌+◌, ◌*◌, ◌++◌, ◌&&◌, drop, map}
 use Rattle.yq_flow_scalars.specs.Keys.{keys_of, are_distinct}
-use Rattle.yq_inline.specs.Trees.{parts_tree}
-use Rattle.yq_inline.specs.View.{entries_end, items_end}
+use Rattle.yq_nodes.specs.Trees.{parts_tree}
+use Rattle.yq_nodes.specs.View.{entries_end, items_end}
 use Rattle.yq_lines.specs.Sound.{are_sound}
 use Rattle.yq_reading.proofs.inline_fault.+nested.Given as goal
 

@@ -1,5 +1,5 @@
 use Rattle.std.proofs.Common.{arith, ap}
-use Rattle.yq_inline.specs.View.{entries_end, items_end}
+use Rattle.yq_nodes.specs.View.{entries_end, items_end}
 use Rattle.yq_lines.proofs.SizeLaws.{entry_size, item_size, parts_size}
 use Rattle.yq_reading.proofs.names.+names.Goals as goal
 

@@ -1,6 +1,6 @@
 use Rattle.std.proofs.Common.{◌≡◌, ◌+◌, ◌*◌, ◌++◌, drop}
-use Rattle.yq_inline.specs.Trees.{parts_tree}
-use Rattle.yq_inline.specs.View.{view, items_end, entries_end}
+use Rattle.yq_nodes.specs.Trees.{parts_tree}
+use Rattle.yq_nodes.specs.View.{view, items_end, entries_end}
 use Rattle.yq_flow_scalars.specs.Anchors.{names_in}
 use Rattle.yq_reading.specs.Named.{all_named}
 use Rattle.yq_lines.proofs.SizeLaws.{node_size, parts_size}

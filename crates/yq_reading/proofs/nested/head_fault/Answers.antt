@@ -1,9 +1,9 @@
 use Rattle.std.proofs.Common.{sym, ap, ◌∙◌}
 use Rattle.std.specs.Prelude.{option_map}
-use Rattle.yq_inline.specs.View.{view}
+use Rattle.yq_nodes.specs.View.{view}
 use Rattle.yq_lines.specs.Sound.{head_is_sound}
-use Rattle.yq_rows.specs.View.{slices}
-use Rattle.yq_walk.proofs.WalkPositions.{located}
+use Rattle.yq_cut.specs.View.{slices}
+use Rattle.yq_row_lines.proofs.WalkPositions.{located}
 use Rattle.yq_documents.specs.Decoded.{decoded_at}
 use Rattle.yq_reading.proofs.DecidingLaws.{decides_as}
 use Rattle.yq_reading.proofs.HeadViewLaws.{head_free, head_line, head_some, headless}

@@ -1,6 +1,6 @@
 use Rattle.std.proofs.Common.{ap, ◌∙◌, arith}
-use Rattle.yq_rows.specs.Grammar.{begins_document}
-use Rattle.yq_rows.specs.View.{bound_view}
+use Rattle.yq_cut.specs.Grammar.{begins_document}
+use Rattle.yq_cut.specs.View.{bound_view}
 use Rattle.yq_reading.specs.Places.{documents_view}
 use Rattle.yq_reading.proofs.PartLaws.{part_done, part_step}
 use Rattle.yq_reading.proofs.parts.document_rows.Goals as goal

@@ -1,5 +1,5 @@
 use Rattle.std.proofs.Common.{◌&&◌, sym, ap, ◌∙◌, subst}
-use Rattle.yq_rows.specs.View.{rows_of}
+use Rattle.yq_cut.specs.View.{rows_of}
 use Rattle.yq_documents.specs.Documents.{document_parts}
 use Rattle.yq_documents.specs.Reading.{all_documents, cut_of, have_fit_keys}
 use Rattle.yq_reading.specs.Checking.{some_refer}

@@ -1,4 +1,4 @@
-use Rattle.yq_rows.proofs.PlaceLaws.{place, new_place}
+use Rattle.yq_cut.proofs.PlaceLaws.{place, new_place}
 use Rattle.yq_rows.proofs.laws.content_place.Goals as goal
 
 pub returns-clause-old : goal.returns-clause-old

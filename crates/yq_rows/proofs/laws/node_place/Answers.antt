@@ -1,4 +1,4 @@
-use Rattle.yq_rows.proofs.NodeExchange.{node_place, new_node_place}
+use Rattle.yq_cut.proofs.NodeExchange.{node_place, new_node_place}
 use Rattle.yq_rows.proofs.laws.node_place.Goals as goal
 
 pub returns-clause-old : goal.returns-clause-old

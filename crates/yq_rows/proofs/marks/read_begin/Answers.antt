@@ -1,8 +1,8 @@
 use Rattle.std.proofs.Common.{◌≡◌, ◌-◌, length, take, rules, sym, ap, ◌∙◌, true, false, arith}
-use Rattle.yq_rows.specs.Reading.{is_dash}
-use Rattle.yq_rows.proofs.BeginSteps.{dash_further, dash_boundary, dash_last, no_dash, mark_within}
-use Rattle.yq_rows.proofs.DashSteps.{dash_goes, none_goes, key_goes, dash_keyed}
-use Rattle.yq_rows.proofs.FrontLaws.{front_join, front_boundary}
+use Rattle.yq_cut.specs.Reading.{is_dash}
+use Rattle.yq_cut.proofs.BeginSteps.{dash_further, dash_boundary, dash_last, no_dash, mark_within}
+use Rattle.yq_cut.proofs.DashSteps.{dash_goes, none_goes, key_goes, dash_keyed}
+use Rattle.yq_cut.proofs.FrontLaws.{front_join, front_boundary}
 use Rattle.yq_rows.proofs.marks.read_begin.Goals as goal
 
 pub split_at-requires-in-Some : goal.split_at-requires-in-Some

@@ -1,7 +1,7 @@
 use Rattle.std.proofs.Common.{◌≡◌, ◌-◌, ◌≤◌, length, take, drop}
 use Rattle.std.specs.Str.{IsUtf8}
-use Rattle.yq_rows.specs.Slicing.{begun, behind_front}
-use Rattle.yq_rows.specs.Reading.{marks_at}
+use Rattle.yq_cut.specs.Slicing.{begun, behind_front}
+use Rattle.yq_cut.specs.Reading.{marks_at}
 use Rattle.yq_rows.proofs.marks.read_begin.Given as goal
 
 abbrev pub decreases-dashes : goal.decreases-dashes

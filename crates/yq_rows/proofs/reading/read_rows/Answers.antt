@@ -1,13 +1,13 @@
 use Rattle.std.proofs.Common.{◌≡◌, ◌-◌, length, true, false, refl, rules, sym, subst, ap, ◌∙◌}
 use Rattle.std.proofs.lemmas.List.Elements.{All-push}
-use Rattle.yq_rows.specs.Offsets.{Stand, IsCutIn, rows_in, slices_in}
-use Rattle.yq_rows.specs.View.{limit_view}
-use Rattle.yq_rows.proofs.Failing.{fails_by}
-use Rattle.yq_rows.proofs.NearLaws.{rows_placed_end, rows_placed_none, rows_placed_step}
-use Rattle.yq_rows.proofs.OffsetLaws.{ends_next, row_then, rows_push}
-use Rattle.yq_rows.proofs.RowSlicing.{at_gap, gap_joined, loop_smaller, loop_step, no_row, row_joined, rows_end}
+use Rattle.yq_cut.specs.Offsets.{Stand, IsCutIn, rows_in, slices_in}
+use Rattle.yq_rows.specs.ReadPieces.{limit_view}
+use Rattle.yq_cut.proofs.Failing.{fails_by}
+use Rattle.yq_cut.proofs.NearLaws.{rows_placed_end, rows_placed_none, rows_placed_step}
+use Rattle.yq_cut.proofs.OffsetLaws.{ends_next, row_then, rows_push}
+use Rattle.yq_cut.proofs.RowSlicing.{at_gap, gap_joined, loop_smaller, loop_step, no_row, row_joined, rows_end}
 use Rattle.yq_rows.proofs.reading.read_rows.Goals as goal
-use Rattle.yq_rows.specs.Grammar.{ends_part}
+use Rattle.yq_cut.specs.Grammar.{ends_part}
 
 pub returns-then-ends_part-clause-found : goal.returns-then-ends_part-clause-found
 returns-then-ends_part-clause-found c =

@@ -1,11 +1,11 @@
 use Rattle.std.proofs.Common.{◌≡◌, ◌-◌, length}
 use Rattle.std.specs.Str.{IsUtf8}
-use Rattle.yq_rows.specs.Grammar.{unlimited}
-use Rattle.yq_rows.specs.Kept.{rows_placed}
-use Rattle.yq_rows.specs.Slicing.{rows_sliced}
-use Rattle.yq_rows.specs.Offsets.{Ends, Stand, rows_in}
-use Rattle.yq_rows.specs.Reading.{all_rows}
-use Rattle.yq_rows.specs.View.{limit_view}
+use Rattle.yq_cut.specs.Grammar.{unlimited}
+use Rattle.yq_cut.specs.Kept.{rows_placed}
+use Rattle.yq_cut.specs.Slicing.{rows_sliced}
+use Rattle.yq_cut.specs.Offsets.{Ends, Stand, rows_in}
+use Rattle.yq_cut.specs.Reading.{all_rows}
+use Rattle.yq_rows.specs.ReadPieces.{limit_view}
 use Rattle.yq_rows.proofs.reading.read_rows.Given as goal
 
 abbrev pub decreases-rows : goal.decreases-rows

@@ -1,18 +1,19 @@
 use Rattle.std.proofs.Common.{◌≡◌, ℕ, ◌+◌, List, [], ◌++◌, true, false, ◌-◌, Some, length, rules, refl, sym, subst, ap, ◌∙◌}
 use Rattle.std.proofs.lemmas.List.Elements.{All-push}
 use Rattle.yq_flow_scalars.specs.Text.{is_empty}
-use Rattle.yq_rows.specs.Grammar.{begins_document}
-use Rattle.yq_rows.specs.Offsets.{Ends, rows_in}
-use Rattle.yq_rows.specs.Ends.{EndStands, EndsStand, bounds_in}
-use Rattle.yq_rows.specs.declared.places.Places.{Places}
-use Rattle.yq_rows.proofs.EndsNear.{ends_placed_end, ends_placed_step, kept_part}
-use Rattle.yq_rows.proofs.Failing.{fails_by}
-use Rattle.yq_rows.proofs.NearLaws.{near_read, parts_placed_end, parts_placed_step}
-use Rattle.yq_rows.proofs.OffsetLaws.{ends_next, rows_length}
-use Rattle.yq_rows.proofs.PartSlicing.{one_part, end_ends, empty_by, bounds_push, part_is_marker, part_smaller, parts_none, parts_unmarked, parts_end, parts_more}
-use Rattle.yq_rows.proofs.PartsLaws.{marker_takes}
-use Rattle.yq_rows.proofs.PlacedLaws.{Scanned, scanned_places, scanned_view}
+use Rattle.yq_cut.specs.Grammar.{begins_document}
+use Rattle.yq_cut.specs.Offsets.{Ends, rows_in}
+use Rattle.yq_cut.specs.Ends.{EndStands, EndsStand, bounds_in}
+use Rattle.yq_cut.specs.declared.places.Places.{Places}
+use Rattle.yq_cut.proofs.EndsNear.{ends_placed_end, ends_placed_step, kept_part}
+use Rattle.yq_cut.proofs.Failing.{fails_by}
+use Rattle.yq_cut.proofs.NearLaws.{near_read, parts_placed_end, parts_placed_step}
+use Rattle.yq_cut.proofs.OffsetLaws.{ends_next, rows_length}
+use Rattle.yq_cut.proofs.PartSlicing.{one_part, end_ends, empty_by, bounds_push, part_is_marker, part_smaller, parts_none, parts_unmarked, parts_end, parts_more}
+use Rattle.yq_cut.proofs.PartsLaws.{marker_takes}
+use Rattle.yq_cut.proofs.PlacedLaws.{Scanned, scanned_places, scanned_view}
 use Rattle.yq_rows.proofs.scanning.cut.Goals as goal
+use Rattle.yq_rows.proofs.scanning.cut.Goals.{After-of-text}
 
 pub returns-in-Err-clause-read : goal.returns-in-Err-clause-read
 returns-in-Err-clause-read c = fails_by c.in-Err.e _ _ c.in-Err.ensures.found (λ none. sym c.parts.invariant.so_far ∙ parts_none (rows_in c.args.text.now c.parts.rows.items) (bounds_in c.args.text.now c.parts.ends.items) c.parts.is_open c.parts.rest.now none)
@@ -48,8 +49,8 @@ scanned c =
       small = c.requires;
     }
 
-pub invariant_of-result : goal.invariant_of-result
-invariant_of-result c = scanned_places c.args.text.now c.of-text.result (record { front = c.in-Ok.part.0; behind = c.new-behind.result; ends = c.push.new.self; split = length c.args.text.now }) (scanned c)
+pub of-requires : goal.of-requires
+of-requires c = scanned_places c.args.text.now c.of-text.result (record { front = c.in-Ok.part.0; behind = c.new-behind.result; ends = c.push.new.self; split = length c.args.text.now }) (scanned c)
 
 pub returns-then-is_empty-clause-read : goal.returns-then-is_empty-clause-read
 returns-then-is_empty-clause-read c =
@@ -59,7 +60,7 @@ returns-then-is_empty-clause-read c =
     let count : c.len-count.result ≡ length (rows_in whole c.in-Ok.part.0.items) = c.len-count.ensures ∙ (c.in-Ok.part.0.ok.0 ∙ rows_length whole c.in-Ok.part.0.items) in
     let pushed = bounds_push whole c.parts.ends.items _ c.end_of.result _ c.in_ok-push.ensures.items c.end_of.ensures.same in
     parts_end _ (rows_in whole c.in-Ok.part.0.items) _ _ _ _ _ _ _ _ c.in-Ok.ensures.found none count pushed c.parts.invariant.so_far
-    ∙ ap Some (sym (scanned_view whole c.of-text.result p (scanned c)))
+    ∙ ap Some (sym (c.of.ensures ∙ scanned_view whole c.of-text.result p (scanned (goal.at.returns-then-is_empty-clause-read c).After-of-text)))
 
 pub read_marker-requires : goal.read_marker-requires
 read_marker-requires c =

@@ -1,10 +1,10 @@
 use Rattle.std.proofs.Common.{◌≡◌, ◌-◌, [], length, true}
 use Rattle.std.specs.Str.{IsUtf8}
-use Rattle.yq_rows.specs.Ends.{EndsStand, bounds_in}
-use Rattle.yq_rows.specs.Kept.{ends_placed, parts_placed}
-use Rattle.yq_rows.specs.Slicing.{read_view, parts_sliced}
-use Rattle.yq_rows.specs.Offsets.{Ends, Stand, rows_in}
-use Rattle.yq_rows.specs.Reading.{all_parts}
+use Rattle.yq_cut.specs.Ends.{EndsStand, bounds_in}
+use Rattle.yq_cut.specs.Kept.{ends_placed, parts_placed}
+use Rattle.yq_cut.specs.Slicing.{read_view, parts_sliced}
+use Rattle.yq_cut.specs.Offsets.{Ends, Stand, rows_in}
+use Rattle.yq_cut.specs.Reading.{all_parts}
 use Rattle.yq_rows.proofs.scanning.cut.Given as goal
 
 abbrev pub decreases-parts : goal.decreases-parts

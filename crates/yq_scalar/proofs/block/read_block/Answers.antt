@@ -1,7 +1,7 @@
 use Rattle.std.proofs.Common.{w64}
 use Rattle.std.proofs.lemmas.Int.{to_z-of_z}
-use Rattle.yq_scalar.proofs.BlockFound.{only_by}
-use Rattle.yq_scalar.proofs.ScalarPieceLaws.{block_is_piece}
+use Rattle.yq_block_scalars.proofs.BlockFound.{only_by}
+use Rattle.yq_block_scalars.proofs.ScalarPieceLaws.{block_is_piece}
 use Rattle.yq_scalar.proofs.block.read_block.Goals as goal
 
 pub returns-clause-only : goal.returns-clause-only

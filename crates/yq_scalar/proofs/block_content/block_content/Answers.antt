@@ -1,5 +1,5 @@
 use Rattle.std.proofs.Common.{string_bytes}
-use Rattle.yq_scalar.proofs.BlockPieceLaws.{stands, content_is}
+use Rattle.yq_block_scalars.proofs.BlockPieceLaws.{stands, content_is}
 use Rattle.yq_flow_scalars.proofs.ContentLaws.{if_ok_same}
 use Rattle.yq_scalar.proofs.block_content.block_content.Goals as goal
 

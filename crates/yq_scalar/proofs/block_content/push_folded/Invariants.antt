@@ -2,8 +2,8 @@ use Rattle.std.proofs.Common.{◌≡◌, ◌++◌, ◌+◌, ◌≤◌, length}
 use Rattle.std.specs.Str.{IsUtf8}
 use Rattle.std.specs.String.{string_bytes}
 use Rattle.yq_flow_scalars.specs.Text.{lines_of}
-use Rattle.yq_scalar.specs.BlockContent as spec
-use Rattle.yq_scalar.specs.declared.block_content.Before.TheVariants.{Nothing}
+use Rattle.yq_block_scalars.specs.BlockContent as spec
+use Rattle.yq_block_scalars.specs.declared.block_types.Before.TheVariants.{Nothing}
 use Rattle.yq_scalar.proofs.block_content.push_folded.Given as goal
 
 abbrev pub decreases-each : goal.decreases-each

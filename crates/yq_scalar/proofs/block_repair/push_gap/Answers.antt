@@ -1,6 +1,6 @@
 use Rattle.std.proofs.Common.{rules}
-use Rattle.yq_scalar.proofs.BlockSteps.{at_cut, at_end}
-use Rattle.yq_scalar.proofs.BlockRepairSteps.{blank_step, comment_step, repair_end}
+use Rattle.yq_block_scalars.proofs.BlockSteps.{at_cut, at_end}
+use Rattle.yq_block_scalars.proofs.BlockRepairSteps.{blank_step, comment_step, repair_end}
 use Rattle.yq_scalar.proofs.block_repair.push_gap.Goals as goal
 
 pub returns-then-not-is_blank : goal.returns-then-not-is_blank

@@ -1,7 +1,7 @@
 use Rattle.std.proofs.Common.{◌+◌, ◌-◌, ◌<◌, ◌^◌, List, ◌++◌, map, take, refl, ap, sym, subst, ◌∙◌, arith}
 use Rattle.std.specs.List.{All}
-use Rattle.yq_rows.specs.Kept.{raised, placed_rows}
-use Rattle.yq_rows.specs.declared.offsets.Offsets as declared
+use Rattle.yq_cut.specs.Kept.{raised, placed_rows}
+use Rattle.yq_cut.specs.declared.offsets.Offsets as declared
 use Rattle.yq_session.specs.Exchanging.{IsMovable, joined_ends}
 use Rattle.yq_session.specs.Sides.{origin}
 use Rattle.yq_session.specs.declared.sides.Side.{Side}

@@ -1,6 +1,6 @@
 use Rattle.std.proofs.Common.{◌≡◌, ◌+◌, ◌++◌, ◌∷◌, [], List, map, take, is_ok, true, vec_len, ap, sym, ◌∙◌, append_assoc, arith}
-use Rattle.yq_rows.specs.Kept.{placed_rows, raised}
-use Rattle.yq_rows.specs.declared.offsets.Offsets as declared
+use Rattle.yq_cut.specs.Kept.{placed_rows, raised}
+use Rattle.yq_cut.specs.declared.offsets.Offsets as declared
 use Rattle.yq_session.proofs.ExchangeLaws.{row_more}
 use Rattle.yq_session.proofs.exchanging.push_rows.Goals as goal
 

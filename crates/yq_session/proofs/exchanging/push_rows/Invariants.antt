@@ -1,5 +1,5 @@
 use Rattle.std.proofs.Common.{◌≡◌, ◌+◌, ◌-◌, ◌≤◌, ◌++◌, length, map, take, vec_len, vec_capacity}
-use Rattle.yq_rows.specs.Kept.{kept_rows, placed_rows, raised}
+use Rattle.yq_cut.specs.Kept.{kept_rows, placed_rows, raised}
 use Rattle.yq_session.proofs.exchanging.push_rows.Given as goal
 
 abbrev pub invariant-rows : goal.invariant-rows

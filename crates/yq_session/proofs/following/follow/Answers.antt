@@ -1,8 +1,8 @@
 use Rattle.std.proofs.Common.{◌≡◌, ◌∙◌, ◌++◌, List, [], ℕ, eqb-true, length, refl, sym, ap, subst}
 use Rattle.std.proofs.lemmas.List.{nil_from_length}
 use Rattle.yq_text.specs.Split.{joined}
-use Rattle.yq_rows.specs.Grammar.{IsCut}
-use Rattle.yq_rows.specs.Meter.{counted, line_count}
+use Rattle.yq_cut.specs.Grammar.{IsCut}
+use Rattle.yq_cut.specs.Meter.{counted, line_count}
 use Rattle.yq_session.specs.Dropping.{DropsLast}
 use Rattle.yq_session.specs.Exchanging.{TextChange}
 use Rattle.yq_session.specs.Following.{Follows, exchanged}

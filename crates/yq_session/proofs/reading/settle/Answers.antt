@@ -1,5 +1,5 @@
 use Rattle.std.proofs.Common.{◌≡◌, ◌∙◌, ◌-◌, sym, ap, take, length, Option, slice_set, refl, arith}
-use Rattle.yq_rows.specs.declared.ends.EndPlace.{EndPlace}
+use Rattle.yq_cut.specs.declared.ends.EndPlace.{EndPlace}
 use Rattle.yq_session.specs.Reading.{settled}
 use Rattle.yq_session.proofs.ReadLaws.{settled_set}
 use Rattle.yq_session.proofs.reading.settle.Goals as goal

@@ -1,5 +1,5 @@
 use Rattle.std.proofs.Common.{◌≡◌, inl, inr, ◌+◌, ◌-◌, ℕ, List, length, reverse, ap, subst, ◌∙◌, arith}
-use Rattle.yq_rows.specs.declared.offsets.Offsets as declared
+use Rattle.yq_cut.specs.declared.offsets.Offsets as declared
 use Rattle.yq_session.specs.Sides.{IsSplitAt, ends_before, nearer, not_in_back, side_of, text_length}
 use Rattle.yq_session.specs.declared.sides.Side.{Side}
 use Rattle.yq_session.proofs.BackLaws.{ByEnds, ByRows, behind_is}

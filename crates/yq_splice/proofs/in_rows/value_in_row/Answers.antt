@@ -1,5 +1,5 @@
 use Rattle.std.proofs.Common.{refl, sym, ◌∙◌, arith}
-use Rattle.yq_inline.specs.Values.{node_of}
+use Rattle.yq_nodes.specs.Values.{node_of}
 use Rattle.yq_documents.specs.Located.{steps_of}
 use Rattle.yq_splice.proofs.RowPutLaws.{value_fits, value_puts}
 use Rattle.yq_splice.proofs.in_rows.value_in_row.Goals as goal

@@ -1,6 +1,6 @@
 use Rattle.std.proofs.Common.{◌∙◌}
-use Rattle.yq_inline.specs.Values.{node_of}
-use Rattle.yq_rows.specs.Rows.{cut_text}
+use Rattle.yq_nodes.specs.Values.{node_of}
+use Rattle.yq_cut.specs.Rows.{cut_text}
 use Rattle.yq_documents.specs.Reading.{cut_of}
 use Rattle.yq_splice.proofs.ChoiceLaws.{put_inside, put_nowhere}
 use Rattle.yq_splice.proofs.op_segments.replaced_inside.Goals as goal

@@ -1,6 +1,6 @@
 use Rattle.std.proofs.Common.{sym, subst}
 use Rattle.yq_flow.specs.Valued.{IsValueTree}
-use Rattle.yq_inline.specs.Values.{node_of}
+use Rattle.yq_nodes.specs.Values.{node_of}
 use Rattle.yq_flow.proofs.ValuedLaws.{map_valid}
 use Rattle.yq_splice.proofs.operands.+values.Goals as goal
 

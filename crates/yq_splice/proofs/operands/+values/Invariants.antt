@@ -1,6 +1,6 @@
 use Rattle.std.proofs.Common.{drop, false, true}
 use Rattle.yq_flow.specs.Valued.{AreValueTrees}
-use Rattle.yq_inline.specs.Values.{items_of, entries_of}
+use Rattle.yq_nodes.specs.Values.{items_of, entries_of}
 use Rattle.yq_splice.proofs.operands.+values.Given as goal
 
 abbrev pub invariant-entries_hold-each : goal.invariant-entries_hold-each

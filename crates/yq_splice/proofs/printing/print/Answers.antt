@@ -1,5 +1,5 @@
 use Rattle.std.proofs.Common.{◌++◌, List, [], ◌∷◌, ℕ, ap, ◌∙◌, string_bytes}
-use Rattle.yq_inline.specs.Values.{node_of}
+use Rattle.yq_nodes.specs.Values.{node_of}
 use Rattle.yq_splice.specs.Print.{printed_value, print_text}
 use Rattle.yq_splice.proofs.PrintLaws.{printed_read}
 use Rattle.yq_splice.proofs.printing.print.Goals as goal

@@ -1,5 +1,5 @@
 use Rattle.std.proofs.Common.{◌≡◌, length, map, take}
-use Rattle.yq_inline.specs.Entries.{step_of}
+use Rattle.yq_nodes.specs.Entries.{step_of}
 use Rattle.yq_splice.proofs.together.are_same_steps.Given as goal
 
 abbrev pub invariant-steps : goal.invariant-steps

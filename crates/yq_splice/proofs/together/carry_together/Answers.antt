@@ -2,7 +2,7 @@ use Rattle.std.proofs.Common.{List, Option, length, map, refl, sym, ap, ◌∙�
 use Rattle.std.proofs.lemmas.List.{length-map}
 use Rattle.std.specs.Prelude.{IfSome}
 use Rattle.yq_flow_scalars.specs.Paths.{Step}
-use Rattle.yq_inline.specs.Entries.{step_of}
+use Rattle.yq_nodes.specs.Entries.{step_of}
 use Rattle.yq_documents.specs.Reading.{cut_of}
 use Rattle.yq_places.specs.FlowViews.{IsHeadFor, ReportsHead}
 use Rattle.yq_places.specs.declared.places.flow_node.FlowHead.{FlowHead}

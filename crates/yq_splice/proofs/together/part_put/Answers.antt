@@ -1,6 +1,6 @@
 use Rattle.std.proofs.Common.{map, refl, ap}
-use Rattle.yq_inline.specs.Entries.{step_of}
-use Rattle.yq_inline.specs.Values.{node_of}
+use Rattle.yq_nodes.specs.Entries.{step_of}
+use Rattle.yq_nodes.specs.Values.{node_of}
 use Rattle.yq_documents.specs.Located.{steps_of}
 use Rattle.yq_meaning.specs.Operations.{operation_of}
 use Rattle.yq_splice.proofs.RunAnswers.{head_there, puts_at}

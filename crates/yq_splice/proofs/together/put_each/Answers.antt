@@ -1,8 +1,8 @@
 use Rattle.std.proofs.Common.{◌≡◌, ◌∙◌, ℕ, List, map, sym, ap, subst, string_bytes, arith}
 use Rattle.std.proofs.lemmas.Result.{err_from_is_err_and}
 use Rattle.yq_text.specs.Halves.{whole}
-use Rattle.yq_rows.specs.Rows.{cut_text}
-use Rattle.yq_inline.specs.Entries.{step_of}
+use Rattle.yq_cut.specs.Rows.{cut_text}
+use Rattle.yq_nodes.specs.Entries.{step_of}
 use Rattle.yq_documents.specs.Reading.{cut_of}
 use Rattle.yq_meaning.specs.Operations.{operations_of}
 use Rattle.yq_flow_edits.proofs.FlowAnswers.{whole_text}

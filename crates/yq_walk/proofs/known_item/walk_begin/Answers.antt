@@ -1,5 +1,5 @@
 use Rattle.std.proofs.Common.{arith}
-use Rattle.yq_walk.proofs.KnownWalks.{goes_on}
+use Rattle.yq_row_lines.proofs.KnownWalks.{goes_on}
 use Rattle.yq_walk.proofs.known_item.walk_begin.Goals as goal
 
 pub returns-clause-found : goal.returns-clause-found

@@ -2,7 +2,7 @@ use Rattle.std.proofs.Common.{sym, ap, ◌&&◌, ◌∙◌}
 use Rattle.std.proofs.lemmas.Bool.{eq-eqb}
 use Rattle.yq_lines.specs.Outline.{key_of}
 use Rattle.yq_flow_scalars.specs.Paths.{is_item}
-use Rattle.yq_walk.proofs.WalkMarks.{item_agrees}
+use Rattle.yq_row_lines.proofs.WalkMarks.{item_agrees}
 use Rattle.yq_walk.proofs.position_marks.is_item_at.Goals as goal
 
 pub returns-then-index-eq0 : goal.returns-then-index-eq0

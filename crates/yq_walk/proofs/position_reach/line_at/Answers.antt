@@ -1,10 +1,10 @@
 use Rattle.std.proofs.Common.{eqb, map, sym, ap, ◌∙◌}
 use Rattle.std.proofs.lemmas.List.{length-map}
-use Rattle.yq_inline.specs.Entries.{step_of}
-use Rattle.yq_walk.specs.Lines.{lines_of}
+use Rattle.yq_nodes.specs.Entries.{step_of}
+use Rattle.yq_row_lines.specs.Lines.{lines_of}
 use Rattle.yq_lines.proofs.PathLines.{last_line, no_last_line}
-use Rattle.yq_walk.specs.RowWalk.{line_number}
-use Rattle.yq_walk.proofs.ReachLaws.{no_line}
+use Rattle.yq_row_lines.specs.RowWalk.{line_number}
+use Rattle.yq_row_lines.proofs.ReachLaws.{no_line}
 use Rattle.yq_walk.proofs.position_reach.line_at.Goals as goal
 
 pub returns-then-is_empty-clause-found : goal.returns-then-is_empty-clause-found

@@ -1,6 +1,6 @@
 use Rattle.std.proofs.Common.{map}
-use Rattle.yq_inline.specs.Entries.{step_of}
-use Rattle.yq_walk.specs.Lines.{lines_of}
+use Rattle.yq_nodes.specs.Entries.{step_of}
+use Rattle.yq_row_lines.specs.Lines.{lines_of}
 use Rattle.yq_lines.proofs.PathLines.{from_root}
 use Rattle.yq_walk.proofs.position_reach.reach.Goals as goal
 

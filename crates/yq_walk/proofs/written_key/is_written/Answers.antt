@@ -1,5 +1,5 @@
 use Rattle.std.proofs.Common.{sym, ap, ◌∙◌, bytes_eq}
-use Rattle.yq_inline.specs.Scalars.{is_quoted}
+use Rattle.yq_nodes.specs.Scalars.{is_quoted}
 use Rattle.yq_lines.proofs.OneLine.{kept}
 use Rattle.yq_walk.proofs.written_key.is_written.Goals as goal
 

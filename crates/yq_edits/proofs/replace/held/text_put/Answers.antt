@@ -1,7 +1,7 @@
 use Rattle.std.proofs.Common.{ℕ, List, IfOk, ◌≡◌, sym, ap, ◌∙◌, subst}
 use Rattle.yq_flow_scalars.specs.declared.style.Place.TheVariants.{Block as InBlock}
-use Rattle.yq_inline.specs.Values.{node_of}
-use Rattle.yq_scalar.specs.BlockWritten.{break_text}
+use Rattle.yq_nodes.specs.Values.{node_of}
+use Rattle.yq_block_scalars.specs.BlockWritten.{break_text}
 use Rattle.yq_places.specs.StandingViews.{held_view, held_mark_view}
 use Rattle.yq_edits.specs.ReplaceEdits.{held_put}
 use Rattle.yq_edits.specs.WrittenValues.{inline, value_text}

@@ -1,16 +1,16 @@
 use Rattle.std.proofs.Common.{ℕ, List, [], ◌∷◌, ◌++◌, map, refl, sym, ap, ◌∙◌, subst, arith}
 use Rattle.std.proofs.lemmas.List.{map_push}
-use Rattle.yq_inline.specs.Values.{field_of, node_of as value_node}
+use Rattle.yq_nodes.specs.Values.{field_of, node_of as value_node}
 use Rattle.yq_flow_scalars.specs.Keys.{deepest}
 use Rattle.yq_flow_scalars.specs.Tree.{Node}
-use Rattle.yq_documents.specs.Children.{left_of}
+use Rattle.yq_document_nodes.specs.Children.{left_of}
 use Rattle.yq_lines.specs.Counts.{count}
-use Rattle.yq_documents.specs.Nodes.{label_of, node_of}
+use Rattle.yq_document_nodes.specs.Nodes.{label_of, node_of}
 use Rattle.yq_meaning.specs.Copies.{item_copies, entry_copies}
 use Rattle.yq_matching.specs.PlaceView.{put_behind}
 use Rattle.yq_matching.specs.TreeScalars.{EachHasScalars}
 use Rattle.yq_matching.proofs.CopyLaws.{items_more, entries_more, map_copied, depth_below}
-use Rattle.yq_program.proofs.Keys.{node_of-map}
+use Rattle.yq_program.proofs.ValueMaps.{node_of-map}
 use Rattle.yq_matching.proofs.matching.copy.+copy.Goals as goal
 
 pub copy-returns-in_ok-entry_copies-in-Map : goal.copy-returns-in_ok-entry_copies-in-Map

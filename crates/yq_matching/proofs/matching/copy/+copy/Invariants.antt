@@ -1,10 +1,10 @@
 use Rattle.std.proofs.Common.{◌≡◌, ◌+◌, ◌*◌, ◌≤◌, map}
-use Rattle.yq_inline.specs.Values.{field_of, node_of as value_node}
+use Rattle.yq_nodes.specs.Values.{field_of, node_of as value_node}
 use Rattle.yq_flow_scalars.specs.Keys.{depth, deepest}
 use Rattle.yq_flow_scalars.specs.Tree.{children_of}
-use Rattle.yq_documents.specs.Children.{left_of}
+use Rattle.yq_document_nodes.specs.Children.{left_of}
 use Rattle.yq_lines.specs.Counts.{count}
-use Rattle.yq_documents.specs.Nodes.{node_of}
+use Rattle.yq_document_nodes.specs.Nodes.{node_of}
 use Rattle.yq_meaning.specs.Copies as spec
 use Rattle.yq_matching.specs.PlaceView.{put_behind}
 use Rattle.yq_matching.specs.TreeScalars.{EachHasScalars}

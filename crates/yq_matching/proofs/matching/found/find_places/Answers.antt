@@ -1,6 +1,6 @@
 use Rattle.std.proofs.Common.{rules, ◌≡◌, List, [], ◌∷◌, Err, map, sym, ap, ◌∙◌, subst}
 use Rattle.std.proofs.lemmas.Result.{err_from_is_err_and}
-use Rattle.yq_documents.specs.Nodes.{node_of}
+use Rattle.yq_document_nodes.specs.Nodes.{node_of}
 use Rattle.yq_matching.specs.FoundView.{found_places}
 use Rattle.yq_matching.specs.PlaceView.{places_of}
 use Rattle.yq_matching.specs.declared.matching.place.Place as declared

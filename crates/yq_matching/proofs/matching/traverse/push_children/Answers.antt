@@ -1,8 +1,8 @@
 use Rattle.std.proofs.Common.{◌≡◌, ◌+◌, ◌++◌, map, sym, ap, ◌∙◌, append-nil, arith}
 use Rattle.yq_flow_scalars.specs.Tree.{Children}
-use Rattle.yq_documents.specs.Children.{left_of}
+use Rattle.yq_document_nodes.specs.Children.{left_of}
 use Rattle.yq_lines.specs.Counts.{count}
-use Rattle.yq_documents.specs.Nodes.{label_of, node_of}
+use Rattle.yq_document_nodes.specs.Nodes.{label_of, node_of}
 use Rattle.yq_matching.specs.PlaceView.{place_of, places_of}
 use Rattle.yq_meaning.specs.Places.{Place, child_place, stepped}
 use Rattle.yq_matching.proofs.PlaceLaws.{children_more, none_counted}

@@ -1,8 +1,8 @@
 use Rattle.std.proofs.Common.{◌≡◌, ◌+◌, ◌-◌, ◌++◌, map}
 use Rattle.yq_flow_scalars.specs.Tree.{children_of}
-use Rattle.yq_documents.specs.Children.{left_of}
+use Rattle.yq_document_nodes.specs.Children.{left_of}
 use Rattle.yq_lines.specs.Counts.{count}
-use Rattle.yq_documents.specs.Nodes.{node_of}
+use Rattle.yq_document_nodes.specs.Nodes.{node_of}
 use Rattle.yq_matching.specs.PlaceView.{path_of, place_of, places_of}
 use Rattle.yq_meaning.specs.Places.{child_place, stepped}
 use Rattle.yq_matching.proofs.matching.traverse.push_children.Given as goal

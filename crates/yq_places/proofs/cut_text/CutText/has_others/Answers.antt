@@ -1,5 +1,5 @@
 use Rattle.std.proofs.Common.{◌≡◌, ◌-◌, length, map, take, option_map, sym, ap, ◌∙◌, arith}
-use Rattle.yq_inline.specs.Entries.{step_of}
+use Rattle.yq_nodes.specs.Entries.{step_of}
 use Rattle.yq_documents.specs.Reading.{cut_of}
 use Rattle.yq_places.specs.NodesAt.{node_in, node_view}
 use Rattle.yq_places.specs.RemovalPlaces.{has_several}

@@ -1,7 +1,7 @@
 use Rattle.std.proofs.Common.{Some, refl, sym, ap, ◌∙◌, subst}
 use Rattle.yq_text.specs.Halves.{whole}
-use Rattle.yq_rows.specs.Grammar.{IsCut}
-use Rattle.yq_rows.specs.View.{rows_view}
+use Rattle.yq_cut.specs.Grammar.{IsCut}
+use Rattle.yq_cut.specs.View.{rows_view}
 use Rattle.yq_documents.specs.Located.{steps_of}
 use Rattle.yq_documents.specs.Reading.{cut_of}
 use Rattle.yq_places.specs.StandingReading.{numbers_at}

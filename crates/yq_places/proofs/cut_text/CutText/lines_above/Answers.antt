@@ -8,7 +8,7 @@ use Rattle.yq_documents.specs.Located.{steps_of}
 use Rattle.yq_documents.specs.Reading.{cut_of}
 use Rattle.yq_places.specs.RowLineReading.{line_view, numbers}
 use Rattle.yq_documents.specs.LinesInRows.{document_row, row_line_at}
-use Rattle.yq_rows.specs.View.{Slices}
+use Rattle.yq_cut.specs.View.{Slices}
 use Rattle.yq_places.proofs.CommentEndLaws.{no_lines_above, other_lines_above, gap_stands, lines_above_is}
 use Rattle.yq_places.proofs.RowLineSpans.{row_within}
 use Rattle.yq_places.proofs.cut_text.CutText.lines_above.Goals as goal

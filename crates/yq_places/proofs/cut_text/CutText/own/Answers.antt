@@ -1,5 +1,5 @@
 use Rattle.std.proofs.Common.{List, ℕ, map, option_map, ap, ◌∙◌}
-use Rattle.yq_inline.specs.Entries.{step_of}
+use Rattle.yq_nodes.specs.Entries.{step_of}
 use Rattle.yq_documents.specs.Located.{steps_of}
 use Rattle.yq_documents.specs.Reading.{cut_of}
 use Rattle.yq_places.specs.RemovalPlaces.{own_rows}

@@ -1,11 +1,11 @@
 use Rattle.std.proofs.Common.{[], ◌≡◌, true, Some, None, option_map, sym, ap, ◌∙◌, subst}
 use Rattle.yq_text.specs.Halves.{whole}
-use Rattle.yq_rows.specs.Grammar.{IsCut}
-use Rattle.yq_rows.specs.View.{rows_view}
+use Rattle.yq_cut.specs.Grammar.{IsCut}
+use Rattle.yq_cut.specs.View.{rows_view}
 use Rattle.yq_documents.specs.Reading.{all_documents, cut_of}
 use Rattle.yq_places.specs.RootReading.{rowless_place}
 use Rattle.yq_places.specs.RowWalk.{document_rows}
-use Rattle.yq_walk.specs.RowWalk.{stretch_view}
+use Rattle.yq_row_lines.specs.RowWalk.{stretch_view}
 use Rattle.yq_places.specs.Standings.{standing_at}
 use Rattle.yq_places.specs.StandingViews.{no_rows_view}
 use Rattle.yq_places.proofs.RootStandingLaws.{bare_stands, none_stands, root_found}

@@ -1,5 +1,5 @@
 use Rattle.std.proofs.Common.{map, option_and_then, option_map, sym, ap, ◌∙◌}
-use Rattle.yq_inline.specs.Entries.{step_of}
+use Rattle.yq_nodes.specs.Entries.{step_of}
 use Rattle.yq_flow_scalars.specs.Answers.{◌>>=◌}
 use Rattle.yq_documents.specs.Reading.{cut_of}
 use Rattle.yq_places.specs.NodesAt.{node_in, node_view, scalar_in, summary_scalar}

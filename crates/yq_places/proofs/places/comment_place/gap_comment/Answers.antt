@@ -1,5 +1,5 @@
 use Rattle.std.proofs.Common.{arith}
-use Rattle.yq_scalar.proofs.BlockSteps.{at_end, some_left}
+use Rattle.yq_block_scalars.proofs.BlockSteps.{at_end, some_left}
 use Rattle.yq_places.proofs.CommentPlaceLaws.{no_run, run_within, some_run}
 use Rattle.yq_places.proofs.places.comment_place.gap_comment.Goals as goal
 

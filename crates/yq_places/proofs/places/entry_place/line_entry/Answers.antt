@@ -1,10 +1,10 @@
 use Rattle.std.proofs.Common.{◌-◌, ℕ, ap, ◌∙◌, arith}
 use Rattle.std.proofs.lemmas.Option.{slice_get_within}
-use Rattle.yq_walk.specs.Lines.{lines_of}
+use Rattle.yq_row_lines.specs.Lines.{lines_of}
 use Rattle.yq_lines.proofs.LineEnds.{end_agrees}
 use Rattle.yq_places.specs.EntryReading.{lines_place}
-use Rattle.yq_walk.specs.RowWalk.{line_number}
-use Rattle.yq_walk.proofs.WalkPositions.{line_position, located}
+use Rattle.yq_row_lines.specs.RowWalk.{line_number}
+use Rattle.yq_row_lines.proofs.WalkPositions.{line_position, located}
 use Rattle.yq_places.proofs.places.entry_place.line_entry.Goals as goal
 
 pub lines_place-requires-clause-lines : goal.lines_place-requires-clause-lines

@@ -1,8 +1,8 @@
 use Rattle.std.proofs.Common.{◌≡◌, ◌+◌, sym, ap, ◌∙◌}
 use Rattle.std.proofs.lemmas.Option.{same_Some}
 use Rattle.yq_text.specs.Halves.{whole}
-use Rattle.yq_rows.specs.Rows.{rows_text}
-use Rattle.yq_rows.specs.View.{Slices}
+use Rattle.yq_cut.specs.Rows.{rows_text}
+use Rattle.yq_cut.specs.View.{Slices}
 use Rattle.yq_places.specs.Standings as spec
 use Rattle.yq_places.specs.Standings.{behind_entry}
 use Rattle.yq_places.proofs.EntryRowLaws.{pieces_at, row_valid, row_within}

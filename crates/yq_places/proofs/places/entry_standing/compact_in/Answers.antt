@@ -3,10 +3,10 @@ use Rattle.std.proofs.lemmas.Option.{same_Some}
 use Rattle.std.proofs.lemmas.Str.{IsUtf8-append}
 use Rattle.yq_text.specs.Halves.{whole}
 use Rattle.yq_flow_scalars.specs.Text.{is_empty}
-use Rattle.yq_rows.specs.View.{Slices, view}
+use Rattle.yq_cut.specs.View.{Slices, view}
 use Rattle.yq_places.specs.CommentPlaces.{end_before}
 use Rattle.yq_places.specs.LineReading.{lines_view}
-use Rattle.yq_walk.specs.RowWalk.{line_column}
+use Rattle.yq_row_lines.specs.RowWalk.{line_column}
 use Rattle.yq_places.proofs.EntryRowLaws.{column_fits, last_within, pieces_at, row_within}
 use Rattle.yq_places.proofs.HeldTexts.{column_is}
 use Rattle.yq_places.proofs.LoneLaws.{dash_cut, dash_fits, dash_lines}

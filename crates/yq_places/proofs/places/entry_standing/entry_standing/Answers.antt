@@ -2,8 +2,8 @@ use Rattle.std.proofs.Common.{ℕ, Bool, option_map, sym, ap, ◌∙◌}
 use Rattle.std.proofs.lemmas.Option.{same_Some}
 use Rattle.yq_text.specs.Halves.{whole}
 use Rattle.yq_flow_scalars.specs.Text.{is_empty}
-use Rattle.yq_rows.specs.Removal.{block_of}
-use Rattle.yq_rows.specs.View.{Slices}
+use Rattle.yq_cut.specs.Removal.{block_of}
+use Rattle.yq_cut.specs.View.{Slices}
 use Rattle.yq_documents.specs.Reading.{cut_of}
 use Rattle.yq_places.specs.Standings as spec
 use Rattle.yq_places.proofs.EntryRowLaws.{first_at, pieces_at, row_within}

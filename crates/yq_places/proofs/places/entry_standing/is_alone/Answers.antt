@@ -1,5 +1,5 @@
 use Rattle.std.proofs.Common.{sym, ◌∙◌}
-use Rattle.yq_rows.specs.View.{view}
+use Rattle.yq_cut.specs.View.{view}
 use Rattle.yq_places.proofs.StandingViewLaws.{else_alone, then_alone}
 use Rattle.yq_places.proofs.places.entry_standing.is_alone.Goals as goal
 

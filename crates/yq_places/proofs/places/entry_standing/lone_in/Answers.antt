@@ -1,6 +1,6 @@
 use Rattle.std.proofs.Common.{refl}
 use Rattle.yq_text.specs.Halves.{whole}
-use Rattle.yq_rows.specs.View.{view}
+use Rattle.yq_cut.specs.View.{view}
 use Rattle.yq_places.proofs.EntryRowLaws.{row_within}
 use Rattle.yq_places.proofs.LoneLaws.{end_boundary, lone_is, start_boundary}
 use Rattle.yq_places.proofs.places.entry_standing.lone_in.Goals as goal

@@ -2,7 +2,7 @@ use Rattle.std.proofs.Common.{rules, ℕ, ◌+◌, ◌-◌, length, take, refl, 
 use Rattle.std.proofs.lemmas.Str.{IsUtf8-append}
 use Rattle.std.specs.Str.{IsUtf8}
 use Rattle.yq_text.specs.Halves.{whole}
-use Rattle.yq_rows.specs.View.{view}
+use Rattle.yq_cut.specs.View.{view}
 use Rattle.yq_places.specs.LineReading.{LinesIn, lines_view, tail_view}
 use Rattle.yq_places.proofs.EntryRowLaws.{column_fits, last_within, row_within}
 use Rattle.yq_places.proofs.HeldTexts.{before_boundary, held_is, lower_cut, lower_is, space_fits, tail_fits}

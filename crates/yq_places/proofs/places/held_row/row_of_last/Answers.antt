@@ -1,6 +1,6 @@
 use Rattle.std.proofs.Common.{◌+◌, refl, ◌∙◌, arith}
-use Rattle.yq_rows.specs.View.{view}
-use Rattle.yq_walk.proofs.LengthLaws.{row_fits, view_small}
+use Rattle.yq_cut.specs.View.{view}
+use Rattle.yq_row_lines.proofs.LengthLaws.{row_fits, view_small}
 use Rattle.yq_places.proofs.HeldRowLaws.{last_of}
 use Rattle.yq_places.proofs.places.held_row.row_of_last.Goals as goal
 

@@ -1,4 +1,4 @@
-use Rattle.yq_walk.proofs.KnownWalks.{end_later}
+use Rattle.yq_row_lines.proofs.KnownWalks.{end_later}
 use Rattle.yq_places.proofs.places.known_end.search_row.Goals as goal
 
 pub returns-in-Some-clause-value : goal.returns-in-Some-clause-value

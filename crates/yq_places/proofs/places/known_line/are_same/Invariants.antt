@@ -1,5 +1,5 @@
 use Rattle.std.proofs.Common.{◌≡◌, length, map}
-use Rattle.yq_inline.specs.Entries.{step_of}
+use Rattle.yq_nodes.specs.Entries.{step_of}
 use Rattle.yq_places.proofs.places.known_line.are_same.Given as goal
 
 abbrev pub decreases-steps : goal.decreases-steps

@@ -1,8 +1,8 @@
 use Rattle.std.proofs.Common.{[], map, refl, sym}
-use Rattle.yq_inline.specs.Entries.{step_of}
+use Rattle.yq_nodes.specs.Entries.{step_of}
 use Rattle.yq_lines.proofs.PathLines.{last_line}
-use Rattle.yq_walk.specs.Lines.{lines_of}
-use Rattle.yq_walk.specs.RowWalk.{line_number}
+use Rattle.yq_row_lines.specs.Lines.{lines_of}
+use Rattle.yq_row_lines.specs.RowWalk.{line_number}
 use Rattle.yq_places.proofs.places.known_line.line_by.Goals as goal
 
 pub returns-in-Some-clause-found : goal.returns-in-Some-clause-found

@@ -1,6 +1,6 @@
 use Rattle.std.proofs.Common.{sym, ap, eqb, map, ◌∙◌}
 use Rattle.std.proofs.lemmas.List.{length-map}
-use Rattle.yq_inline.specs.Entries.{step_of}
+use Rattle.yq_nodes.specs.Entries.{step_of}
 use Rattle.yq_lines.specs.View.{content_view}
 use Rattle.yq_places.proofs.NodeAtLaws.{scalar_steps}
 use Rattle.yq_places.proofs.places.node_at.head_node.Goals as goal

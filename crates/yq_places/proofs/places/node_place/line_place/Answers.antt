@@ -1,13 +1,13 @@
 use Rattle.std.proofs.Common.{◌≡◌, eqb, map, sym, ap, ◌∙◌}
 use Rattle.std.proofs.lemmas.List.{length-map}
 use Rattle.std.proofs.lemmas.Option.{same_Some}
-use Rattle.yq_inline.specs.Entries.{step_of}
+use Rattle.yq_nodes.specs.Entries.{step_of}
 use Rattle.yq_lines.specs.Outline.{level}
-use Rattle.yq_rows.specs.View.{slices}
-use Rattle.yq_walk.specs.RowWalk.{line_number}
+use Rattle.yq_cut.specs.View.{slices}
+use Rattle.yq_row_lines.specs.RowWalk.{line_number}
 use Rattle.yq_places.proofs.NodeAtLaws.{lines_place}
 use Rattle.yq_places.proofs.WalkNodes.{no_steps}
-use Rattle.yq_walk.proofs.WalkPositions.{located}
+use Rattle.yq_row_lines.proofs.WalkPositions.{located}
 use Rattle.yq_places.proofs.places.node_place.line_place.Goals as goal
 
 pub returns-clause-agrees : goal.returns-clause-agrees

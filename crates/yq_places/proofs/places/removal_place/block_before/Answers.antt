@@ -1,9 +1,9 @@
 use Rattle.std.proofs.Common.{◌≡◌, ◌<◌, ℕ, ◌+◌, ◌-◌, Some, option_map, sym, ap, ◌∙◌, arith}
 use Rattle.std.specs.List.{slice_get}
-use Rattle.yq_rows.specs.Removal.{block_numbers}
-use Rattle.yq_rows.specs.View.{rows_of}
+use Rattle.yq_cut.specs.Removal.{block_numbers}
+use Rattle.yq_cut.specs.View.{rows_of}
 use Rattle.yq_places.proofs.RemovalBounds.{last_row}
-use Rattle.yq_walk.proofs.KnownLaws.{get_dropped, get_front}
+use Rattle.yq_row_lines.proofs.KnownLaws.{get_dropped, get_front}
 use Rattle.yq_places.proofs.places.removal_place.block_before.Goals as goal
 
 pub returns-else-at-first : goal.returns-else-at-first

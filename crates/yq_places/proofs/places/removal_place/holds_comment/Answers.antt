@@ -1,8 +1,8 @@
 use Rattle.std.proofs.Common.{rules, sym, ap, ◌∙◌}
 use Rattle.yq_flow_scalars.specs.Lines.{is_blank}
 use Rattle.yq_flow_scalars.specs.Text.{lines_of}
-use Rattle.yq_scalar.proofs.BlockSteps.{at_cut, at_end}
-use Rattle.yq_rows.specs.Removal.{hold_comment}
+use Rattle.yq_block_scalars.proofs.BlockSteps.{at_cut, at_end}
+use Rattle.yq_cut.specs.Removal.{hold_comment}
 use Rattle.yq_places.proofs.RemovalPlaceLaws.{held_here, held_on, none_held}
 use Rattle.yq_places.proofs.places.removal_place.holds_comment.Goals as goal
 

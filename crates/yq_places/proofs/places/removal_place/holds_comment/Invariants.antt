@@ -1,7 +1,7 @@
 use Rattle.std.proofs.Common.{◌≡◌, length}
 use Rattle.std.specs.Str.{IsUtf8}
 use Rattle.yq_flow_scalars.specs.Text.{lines_of}
-use Rattle.yq_rows.specs.Removal.{hold_comment}
+use Rattle.yq_cut.specs.Removal.{hold_comment}
 use Rattle.yq_places.proofs.places.removal_place.holds_comment.Given as goal
 
 abbrev pub invariant-lines : goal.invariant-lines

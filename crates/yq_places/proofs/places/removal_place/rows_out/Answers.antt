@@ -2,8 +2,8 @@ use Rattle.std.proofs.Common.{rules, ◌+◌, ◌-◌, ℕ, ◌++◌, length, le
 use Rattle.std.proofs.lemmas.Str.{IsUtf8-append}
 use Rattle.yq_text.specs.Halves.{whole}
 use Rattle.yq_flow_scalars.specs.Text.{joined, lines_of}
-use Rattle.yq_rows.specs.Removal.{block_numbers, last_block}
-use Rattle.yq_rows.specs.View.{view}
+use Rattle.yq_cut.specs.Removal.{block_numbers, last_block}
+use Rattle.yq_cut.specs.View.{view}
 use Rattle.yq_documents.specs.Pieces.{before_run}
 use Rattle.yq_documents.specs.Reading.{cut_of}
 use Rattle.yq_places.specs.RemovalPlaces.{seam_behind, rows_out}

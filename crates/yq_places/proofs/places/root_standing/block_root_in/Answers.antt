@@ -2,7 +2,7 @@ use Rattle.std.proofs.Common.{rules, ◌∙◌, refl, sym, ap}
 use Rattle.std.proofs.lemmas.Option.{same_Some}
 use Rattle.std.proofs.lemmas.Str.{IsUtf8-append}
 use Rattle.yq_text.specs.Halves.{whole}
-use Rattle.yq_rows.specs.View.{Slices}
+use Rattle.yq_cut.specs.View.{Slices}
 use Rattle.yq_places.specs.LineReading.{lines_view}
 use Rattle.yq_places.specs.StandingReading.{root_entry}
 use Rattle.yq_places.proofs.EntryRowLaws.{last_within, pieces_at, row_within}

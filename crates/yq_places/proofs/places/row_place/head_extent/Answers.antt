@@ -1,4 +1,4 @@
-use Rattle.yq_rows.specs.View.{view}
+use Rattle.yq_cut.specs.View.{view}
 use Rattle.yq_places.proofs.HeadEnds.{head_fits, head_agrees}
 use Rattle.yq_places.proofs.places.row_place.head_extent.Goals as goal
 

@@ -1,5 +1,5 @@
 use Rattle.std.proofs.Common.{arith}
-use Rattle.yq_rows.specs.View.{view}
+use Rattle.yq_cut.specs.View.{view}
 use Rattle.yq_places.proofs.HeadEnds.{head_fits, end_agrees}
 use Rattle.yq_places.proofs.places.row_place.row_end.Goals as goal
 

@@ -1,6 +1,6 @@
 use Rattle.std.proofs.Common.{arith}
-use Rattle.yq_rows.specs.View.{view}
-use Rattle.yq_walk.proofs.LengthLaws.{row_fits, view_small}
+use Rattle.yq_cut.specs.View.{view}
+use Rattle.yq_row_lines.proofs.LengthLaws.{row_fits, view_small}
 use Rattle.yq_places.proofs.places.row_place.row_stop.Goals as goal
 
 pub row_len-requires : goal.row_len-requires

@@ -1,5 +1,5 @@
 use Rattle.std.proofs.Common.{map}
-use Rattle.yq_inline.specs.Entries.{step_of}
+use Rattle.yq_nodes.specs.Entries.{step_of}
 use Rattle.yq_places.proofs.EntryNumbers.{entry_row_agrees, none_along}
 use Rattle.yq_places.proofs.places.rows_of_entry.entry_along.Goals as goal
 

@@ -1,8 +1,8 @@
 use Rattle.std.proofs.Common.{◌≡◌, ◌-◌, ◌+◌, map, length, ◌∙◌, arith}
-use Rattle.yq_rows.specs.View.{slices}
-use Rattle.yq_inline.specs.Entries.{step_of}
+use Rattle.yq_cut.specs.View.{slices}
+use Rattle.yq_nodes.specs.Entries.{step_of}
 use Rattle.yq_places.proofs.WalkDocuments.{row_line_reached, none_reached}
-use Rattle.yq_walk.proofs.WalkPositions.{located}
+use Rattle.yq_row_lines.proofs.WalkPositions.{located}
 use Rattle.yq_places.proofs.places.stretch.row_line_along.Goals as goal
 
 pub returns-in_err-position : goal.returns-in_err-position

@@ -1,5 +1,5 @@
 use Rattle.std.proofs.Common.{◌≡◌, drop, ◌++◌, map}
-use Rattle.yq_inline.specs.Values.{entries_of}
+use Rattle.yq_nodes.specs.Values.{entries_of}
 use Rattle.yq_flow_scalars.specs.Tree.{Children}
 use Rattle.yq_meaning.specs.Changes.{additions}
 use Rattle.yq_planning.specs.ChangeView.{addition_of}

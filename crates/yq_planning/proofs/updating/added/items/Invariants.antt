@@ -1,5 +1,5 @@
 use Rattle.std.proofs.Common.{◌≡◌, drop, ◌++◌, map}
-use Rattle.yq_inline.specs.Values.{items_of}
+use Rattle.yq_nodes.specs.Values.{items_of}
 use Rattle.yq_flow_scalars.specs.Tree.{none}
 use Rattle.yq_meaning.specs.Changes.{additions}
 use Rattle.yq_planning.specs.ChangeView.{addition_of}

@@ -1,10 +1,10 @@
 use Rattle.std.proofs.Common.{List, sym, ap, ◌∙◌}
-use Rattle.yq_inline.specs.Values.{node_of as value_node}
+use Rattle.yq_nodes.specs.Values.{node_of as value_node}
 use Rattle.yq_flow_scalars.specs.Tree.{children_of}
-use Rattle.yq_documents.specs.Nodes.{node_of}
+use Rattle.yq_document_nodes.specs.Nodes.{node_of}
 use Rattle.yq_meaning.specs.Changes.{Addition, adds, added_entries}
 use Rattle.yq_meaning.specs.Judgement.{gives}
-use Rattle.yq_program.proofs.Keys.{node_of-map}
+use Rattle.yq_program.proofs.ValueMaps.{node_of-map}
 use Rattle.yq_planning.proofs.updating.added.to_map.Goals as goal
 
 pub returns : goal.returns

@@ -1,6 +1,6 @@
 use Rattle.std.proofs.Common.{sym, ap, ◌∙◌, cond}
 use Rattle.yq_flow_scalars.specs.Anchors.{names_of}
-use Rattle.yq_documents.specs.Nodes.{node_of}
+use Rattle.yq_document_nodes.specs.Nodes.{node_of}
 use Rattle.yq_meaning.specs.Changes.{is_too_deep}
 use Rattle.yq_planning.specs.ChangeView.{change_of}
 use Rattle.yq_meaning.specs.Judgement.{gives, refuses}

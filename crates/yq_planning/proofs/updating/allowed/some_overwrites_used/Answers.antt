@@ -1,6 +1,6 @@
 use Rattle.std.proofs.Common.{sym, ◌∙◌, ◌≤◌, length, arith}
 use Rattle.yq_flow_scalars.specs.Tree.{children_of}
-use Rattle.yq_documents.specs.Nodes.{node_of}
+use Rattle.yq_document_nodes.specs.Nodes.{node_of}
 use Rattle.yq_planning.specs.ChangeView.{addition_of}
 use Rattle.yq_planning.specs.TakenNames.{overwrites_at}
 use Rattle.yq_program.proofs.Lists.{any_here, any_further, any_done}

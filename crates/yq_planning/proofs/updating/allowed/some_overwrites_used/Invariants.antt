@@ -2,7 +2,7 @@ use Rattle.std.proofs.Common.{◌≡◌, List, drop}
 use Rattle.std.specs.List.{list_any}
 use Rattle.yq_flow_scalars.specs.Anchors.{Name}
 use Rattle.yq_flow_scalars.specs.Tree.{children_of}
-use Rattle.yq_documents.specs.Nodes.{node_of}
+use Rattle.yq_document_nodes.specs.Nodes.{node_of}
 use Rattle.yq_planning.specs.ChangeView.{addition_of}
 use Rattle.yq_planning.specs.Indexes.{HasAliases}
 use Rattle.yq_planning.specs.TakenNames.{overwrites_at}

@@ -2,7 +2,7 @@ use Rattle.std.proofs.Common.{sym, ap, ◌∙◌, subst, IfOk, ◌≡◌}
 use Rattle.std.proofs.lemmas.List.{nil_from_length}
 use Rattle.std.specs.List.{list_any}
 use Rattle.yq_flow_scalars.specs.Tree.{children_of}
-use Rattle.yq_documents.specs.Nodes.{node_of}
+use Rattle.yq_document_nodes.specs.Nodes.{node_of}
 use Rattle.yq_planning.specs.ChangeView.{addition_of, change_of}
 use Rattle.yq_planning.specs.TakenNames.{overwrites_at, takes_at}
 use Rattle.yq_planning.specs.declared.updating.change.Change.{Change}

@@ -1,6 +1,6 @@
 use Rattle.std.proofs.Common.{is_some, sym, ap, ◌∙◌}
 use Rattle.yq_flow_scalars.specs.Tree.{alias}
-use Rattle.yq_documents.specs.Nodes.{node_of}
+use Rattle.yq_document_nodes.specs.Nodes.{node_of}
 use Rattle.yq_planning.specs.Indexes.{get_text}
 use Rattle.yq_planning.proofs.IndexLaws.{put_text, alias_put}
 use Rattle.yq_planning.proofs.UsedLaws.{alias_is}

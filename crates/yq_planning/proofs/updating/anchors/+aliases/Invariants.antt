@@ -3,9 +3,9 @@ use Rattle.std.specs.List.{list_any}
 use Rattle.yq_flow_scalars.specs.Keys.{depth, deepest}
 use Rattle.yq_flow_scalars.specs.Tree.{children_of}
 use Rattle.yq_flow_scalars.specs.Anchors.{names_in}
-use Rattle.yq_documents.specs.Children.{left_of}
+use Rattle.yq_document_nodes.specs.Children.{left_of}
 use Rattle.yq_lines.specs.Counts.{count}
-use Rattle.yq_documents.specs.Nodes.{node_of}
+use Rattle.yq_document_nodes.specs.Nodes.{node_of}
 use Rattle.yq_meaning.specs.Changes.{refers_to}
 use Rattle.yq_planning.specs.Indexes.{get_text}
 use Rattle.yq_planning.proofs.updating.anchors.+aliases.Given as goal

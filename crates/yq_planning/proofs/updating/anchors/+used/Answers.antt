@@ -1,8 +1,8 @@
 use Rattle.std.proofs.Common.{sym, ap, ◌∙◌, arith}
 use Rattle.yq_flow_scalars.specs.Keys.{deepest}
-use Rattle.yq_documents.specs.Children.{left_of}
+use Rattle.yq_document_nodes.specs.Children.{left_of}
 use Rattle.yq_lines.specs.Counts.{count}
-use Rattle.yq_documents.specs.Nodes.{label_of, node_of}
+use Rattle.yq_document_nodes.specs.Nodes.{label_of, node_of}
 use Rattle.yq_planning.proofs.UsedLaws.{used_own, used_inside, used_more, used_here}
 use Rattle.yq_planning.proofs.updating.anchors.+used.Goals as goal
 

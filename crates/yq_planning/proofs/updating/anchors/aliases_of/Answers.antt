@@ -1,5 +1,5 @@
 use Rattle.yq_flow_scalars.specs.Anchors.{names_of}
-use Rattle.yq_documents.specs.Nodes.{node_of}
+use Rattle.yq_document_nodes.specs.Nodes.{node_of}
 use Rattle.yq_planning.proofs.IndexLaws.{without_aliases}
 use Rattle.yq_planning.proofs.UsedLaws.{none_refer}
 use Rattle.yq_planning.proofs.updating.anchors.aliases_of.Goals as goal

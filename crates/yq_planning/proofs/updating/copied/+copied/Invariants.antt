@@ -1,5 +1,5 @@
 use Rattle.std.proofs.Common.{◌≡◌, map, take}
-use Rattle.yq_inline.specs.Values.{field_of, node_of}
+use Rattle.yq_nodes.specs.Values.{field_of, node_of}
 use Rattle.yq_planning.proofs.updating.copied.+copied.Given as goal
 
 abbrev pub invariant-copied_entries-each : goal.invariant-copied_entries-each

@@ -2,9 +2,9 @@ use Rattle.std.proofs.Common.{◌≡◌, ℕ, List, option_map}
 use Rattle.std.specs.Option.{option_or}
 use Rattle.yq_flow_scalars.specs.Paths.{To, child_at}
 use Rattle.yq_flow_scalars.specs.Tree.{children_of}
-use Rattle.yq_documents.specs.Children.{left_of}
+use Rattle.yq_document_nodes.specs.Children.{left_of}
 use Rattle.yq_lines.specs.Counts.{count}
-use Rattle.yq_documents.specs.Nodes.{node_of}
+use Rattle.yq_document_nodes.specs.Nodes.{node_of}
 use Rattle.yq_planning.specs.Indexes.{get_text}
 use Rattle.yq_planning.proofs.updating.entry_index.index_of.Given as goal
 

@@ -1,5 +1,5 @@
 use Rattle.std.proofs.Common.{option_map, sym, ap, ◌∙◌, bytes_eq}
-use Rattle.yq_documents.specs.Nodes.{label_of, node_of}
+use Rattle.yq_document_nodes.specs.Nodes.{label_of, node_of}
 use Rattle.yq_planning.specs.Indexes.{get_text}
 use Rattle.yq_planning.proofs.IndexLaws.{put_text, map_put, new_kept, map_none}
 use Rattle.yq_planning.proofs.updating.entry_index.keep.Goals as goal

@@ -1,7 +1,7 @@
 use Rattle.std.proofs.Common.{String, string_bytes, sym, ap, ◌∙◌}
 use Rattle.std.specs.declared.alloc.Global.{Global}
-use Rattle.yq_inline.specs.Values.{field_of}
-use Rattle.yq_inline.specs.declared.value.Value.{Value}
+use Rattle.yq_nodes.specs.Values.{field_of}
+use Rattle.yq_nodes.specs.declared.value.Value.{Value}
 use Rattle.yq_planning.proofs.SumLaws.{numbered_more}
 use Rattle.yq_planning.proofs.updating.key_numbers.numbers_of.Goals as goal
 

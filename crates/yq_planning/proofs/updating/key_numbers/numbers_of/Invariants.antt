@@ -1,5 +1,5 @@
 use Rattle.std.proofs.Common.{map, take}
-use Rattle.yq_inline.specs.Values.{field_of}
+use Rattle.yq_nodes.specs.Values.{field_of}
 use Rattle.yq_planning.specs.EntryNumbers.{AreNumbered}
 use Rattle.yq_planning.proofs.updating.key_numbers.numbers_of.Given as goal
 

@@ -1,9 +1,9 @@
 use Rattle.std.proofs.Common.{◌<◌, ltb, sym, ap, ◌∙◌, arith}
 use Rattle.std.proofs.lemmas.Grind.{common_steps}
-use Rattle.yq_inline.specs.Values.{entries_of, node_of}
+use Rattle.yq_nodes.specs.Values.{entries_of, node_of}
 use Rattle.yq_flow_scalars.specs.Keys.{deepest, depth}
 use Rattle.yq_flow_scalars.specs.Tree.{Node}
-use Rattle.yq_program.proofs.Keys.{node_of-map}
+use Rattle.yq_program.proofs.ValueMaps.{node_of-map}
 use Rattle.yq_planning.proofs.LimitLaws.{one_deeper}
 use Rattle.yq_planning.proofs.updating.limits.+deeper.Goals as goal
 

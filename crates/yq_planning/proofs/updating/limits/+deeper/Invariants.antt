@@ -1,5 +1,5 @@
 use Rattle.std.proofs.Common.{◌≡◌, drop, nat_lt}
-use Rattle.yq_inline.specs.Values.{entries_of, items_of}
+use Rattle.yq_nodes.specs.Values.{entries_of, items_of}
 use Rattle.yq_flow_scalars.specs.Keys.{deepest}
 use Rattle.yq_planning.proofs.updating.limits.+deeper.Given as goal
 

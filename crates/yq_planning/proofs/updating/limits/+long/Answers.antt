@@ -1,7 +1,7 @@
 use Rattle.std.proofs.Common.{◌≡◌, Bool, IfOk, sym, ap, ◌∙◌, subst}
-use Rattle.yq_inline.specs.Values.{node_of}
+use Rattle.yq_nodes.specs.Values.{node_of}
 use Rattle.yq_meaning.specs.Changes.{has_long_key}
-use Rattle.yq_program.proofs.Keys.{node_of-map}
+use Rattle.yq_program.proofs.ValueMaps.{node_of-map}
 use Rattle.yq_planning.proofs.updating.limits.+long.Goals as goal
 
 pub holds_long_key-returns-in-Map : goal.holds_long_key-returns-in-Map

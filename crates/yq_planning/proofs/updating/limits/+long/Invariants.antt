@@ -1,5 +1,5 @@
 use Rattle.std.proofs.Common.{◌≡◌, drop}
-use Rattle.yq_inline.specs.Values.{entries_of, items_of}
+use Rattle.yq_nodes.specs.Values.{entries_of, items_of}
 use Rattle.yq_meaning.specs.Changes.{have_long_key}
 use Rattle.yq_planning.proofs.updating.limits.+long.Given as goal
 

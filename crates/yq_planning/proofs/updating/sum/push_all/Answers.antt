@@ -1,8 +1,8 @@
 use Rattle.std.proofs.Common.{◌≡◌, List, [], ◌∷◌, length, map, sym, ap, ◌∙◌, arith}
 use Rattle.std.proofs.lemmas.List.{map_push, nil_from_length}
 use Rattle.std.specs.Vec.Iter.{into_iter_items}
-use Rattle.yq_inline.specs.Values.{items, items_of, node_of}
-use Rattle.yq_inline.specs.declared.value.Value.{Value}
+use Rattle.yq_nodes.specs.Values.{items, items_of, node_of}
+use Rattle.yq_nodes.specs.declared.value.Value.{Value}
 use Rattle.yq_flow_scalars.specs.Tree.{Node}
 use Rattle.yq_flow_scalars.specs.Paths.{append_children}
 use Rattle.yq_planning.proofs.SumLaws.{followed_none, item_more}

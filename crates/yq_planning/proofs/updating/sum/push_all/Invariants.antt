@@ -1,7 +1,7 @@
 use Rattle.std.proofs.Common.{◌≡◌, length}
 use Rattle.std.specs.Vec.Iter.{into_iter_items, into_iter_len}
 use Rattle.yq_flow_scalars.specs.Paths.{append_children}
-use Rattle.yq_inline.specs.Values.{items_of}
+use Rattle.yq_nodes.specs.Values.{items_of}
 use Rattle.yq_planning.proofs.updating.sum.push_all.Given as goal
 
 abbrev pub invariant-each : goal.invariant-each

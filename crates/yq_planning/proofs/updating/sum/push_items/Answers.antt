@@ -1,9 +1,9 @@
 use Rattle.std.proofs.Common.{List, map, refl, ap, ◌∙◌}
 use Rattle.std.proofs.lemmas.List.{map_push}
-use Rattle.yq_inline.specs.Values.{items, node_of}
-use Rattle.yq_inline.specs.declared.value.Value.TheVariants as values
+use Rattle.yq_nodes.specs.Values.{items, node_of}
+use Rattle.yq_nodes.specs.declared.value.Value.TheVariants as values
 use Rattle.yq_flow_scalars.specs.Tree.{Node}
-use Rattle.yq_program.proofs.Keys.{node_of-map}
+use Rattle.yq_program.proofs.ValueMaps.{node_of-map}
 use Rattle.yq_planning.proofs.ScalarValues.{scalar_value}
 use Rattle.yq_planning.proofs.SumLaws.{one_item}
 use Rattle.yq_planning.proofs.updating.sum.push_items.Goals as goal

@@ -2,8 +2,8 @@ use Rattle.std.proofs.Common.{◌≡◌, List, [], ◌∷◌, String, length, sy
 use Rattle.std.proofs.lemmas.List.{nil_from_length}
 use Rattle.std.specs.Vec.Iter.{into_iter_items}
 use Rattle.std.specs.declared.alloc.Global.{Global}
-use Rattle.yq_inline.specs.Values.{entries_of}
-use Rattle.yq_inline.specs.declared.value.Value.{Value}
+use Rattle.yq_nodes.specs.Values.{entries_of}
+use Rattle.yq_nodes.specs.declared.value.Value.{Value}
 use Rattle.yq_flow_scalars.specs.Tree.{Children}
 use Rattle.yq_meaning.specs.RightValues.{with_entries}
 use Rattle.yq_planning.proofs.updating.sum.put_entries.Goals as goal

@@ -1,6 +1,6 @@
 use Rattle.std.proofs.Common.{◌≡◌, length, map}
 use Rattle.std.specs.Vec.Iter.{into_iter_items, into_iter_len}
-use Rattle.yq_inline.specs.Values.{entries_of, field_of}
+use Rattle.yq_nodes.specs.Values.{entries_of, field_of}
 use Rattle.yq_planning.specs.EntryNumbers.{AreNumbered}
 use Rattle.yq_meaning.specs.RightValues.{with_entries}
 use Rattle.yq_planning.proofs.updating.sum.put_entries.Given as goal

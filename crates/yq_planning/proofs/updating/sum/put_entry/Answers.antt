@@ -1,8 +1,8 @@
 use Rattle.std.proofs.Common.{◌≡◌, ℕ, List, Some, None, String, length, map, string_bytes, sym, ap, ◌∙◌, arith}
 use Rattle.std.proofs.lemmas.List.{map_push, length-map}
 use Rattle.std.specs.declared.alloc.Global.{Global}
-use Rattle.yq_inline.specs.Values.{entries, field_of, node_of}
-use Rattle.yq_inline.specs.declared.value.Value.{Value}
+use Rattle.yq_nodes.specs.Values.{entries, field_of, node_of}
+use Rattle.yq_nodes.specs.declared.value.Value.{Value}
 use Rattle.yq_flow_scalars.specs.Tree.{Node}
 use Rattle.yq_planning.specs.EntryNumbers.{entry_number}
 use Rattle.yq_planning.proofs.SumLaws.{map_get, number_same, numbered_push, number_within, map_set, with_absent, with_present}

@@ -1,9 +1,9 @@
 use Rattle.std.proofs.Common.{rules, ◌≡◌, map, sym, ap, ◌∙◌, arith}
 use Rattle.std.proofs.lemmas.Grind.{common_steps}
-use Rattle.yq_inline.specs.Values.{entries_of, field_of, node_of}
+use Rattle.yq_nodes.specs.Values.{entries_of, field_of, node_of}
 use Rattle.yq_meaning.specs.Judgement.{gives}
 use Rattle.yq_meaning.specs.RightValues.{with_entries}
-use Rattle.yq_program.proofs.Keys.{node_of-map}
+use Rattle.yq_program.proofs.ValueMaps.{node_of-map}
 use Rattle.yq_planning.proofs.SumLaws.{map_sum}
 use Rattle.yq_planning.proofs.updating.sum.value_sum.Goals as goal
 

@@ -1,6 +1,6 @@
 use Rattle.yq_rows.proofs.laws.splices.rows_inserted.Goals as goal
-use Rattle.yq_rows.proofs.seams.FrontSeams.{seams_line}
-use Rattle.yq_rows.proofs.splices.SpliceCases.{inserted}
+use Rattle.yq_cut.proofs.seams.FrontSeams.{seams_line}
+use Rattle.yq_cut.proofs.splices.SpliceCases.{inserted}
 
 pub returns-clause-cut : goal.returns-clause-cut
 returns-clause-cut c = inserted

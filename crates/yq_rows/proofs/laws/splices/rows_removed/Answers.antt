@@ -1,6 +1,6 @@
 use Rattle.yq_rows.proofs.laws.splices.rows_removed.Goals as goal
-use Rattle.yq_rows.proofs.splices.RemoveLaws.{removed_repaired}
-use Rattle.yq_rows.proofs.splices.SpliceCases.{removed}
+use Rattle.yq_cut.proofs.splices.RemoveLaws.{removed_repaired}
+use Rattle.yq_cut.proofs.splices.SpliceCases.{removed}
 
 pub returns-clause-any : goal.returns-clause-any
 returns-clause-any c = removed

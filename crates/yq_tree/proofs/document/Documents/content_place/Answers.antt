@@ -1,5 +1,5 @@
 use Rattle.std.proofs.Common.{option_and_then, sym, ap, ◌∙◌}
-use Rattle.yq_inline.specs.Entries.{PlacedEntry, content_place}
+use Rattle.yq_nodes.specs.Entries.{PlacedEntry, content_place}
 use Rattle.yq_documents.specs.Reading.{cut_of}
 use Rattle.yq_places.specs.EntryReading.{flow_entry_at, line_content_at}
 use Rattle.yq_places.proofs.EntryPlaceLaws.{TextSpan, or_flow, content_either}

@@ -1,5 +1,5 @@
 use Rattle.std.proofs.Common.{Some, option_map, sym, ap, ◌∙◌}
-use Rattle.yq_inline.specs.Entries.{entry_place}
+use Rattle.yq_nodes.specs.Entries.{entry_place}
 use Rattle.yq_documents.specs.Reading.{cut_of}
 use Rattle.yq_places.specs.EntryReading.{flow_entry_at, line_entry_at}
 use Rattle.yq_places.proofs.EntryPlaceLaws.{TextSpan, or_flow, entry_either}

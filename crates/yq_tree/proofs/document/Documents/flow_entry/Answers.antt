@@ -1,11 +1,11 @@
 use Rattle.std.proofs.Common.{◌≡◌, eqb, List, ℕ, Option, true, map, option_map, sym, ap, ◌∙◌, subst}
 use Rattle.std.proofs.lemmas.List.{length-map}
-use Rattle.yq_inline.specs.Entries.{step_of}
-use Rattle.yq_inline.specs.Places.{Placed}
+use Rattle.yq_nodes.specs.Entries.{step_of}
+use Rattle.yq_nodes.specs.Places.{Placed}
 use Rattle.yq_lines.specs.Ends.{reached}
-use Rattle.yq_rows.specs.Grammar.{IsCut}
-use Rattle.yq_rows.specs.View.{rows_view}
-use Rattle.yq_walk.specs.Lines.{lines_of}
+use Rattle.yq_cut.specs.Grammar.{IsCut}
+use Rattle.yq_cut.specs.View.{rows_view}
+use Rattle.yq_row_lines.specs.Lines.{lines_of}
 use Rattle.yq_documents.specs.Located.{steps_of}
 use Rattle.yq_documents.specs.Decoded.{decoded_flow}
 use Rattle.yq_documents.specs.Reading.{all_documents, cut_of}

@@ -1,0 +1,111 @@
+-- Before a tail, what stands behind a mark is no key and no dash.
+use Rattle.std.proofs.Common.{◌≡◌, inl, inr, ℕ, suc, ◌+◌, Bool, true, false, cond, not, ◌&&◌, eqb, leb, List, [], ◌∷◌, ◌++◌, length, drop, Option, Some, None, refl, sym, ap, rules}
+use Rattle.std.proofs.lemmas.Bool.{false≢true, cond_both, not-true, not-false, and_parts, cases_Bool, or_parts}
+use Rattle.std.specs.Option.{option_or}
+use Rattle.std.specs.Str.{chars}
+use Rattle.yq_flow_scalars.specs.Answers.{◌>>=◌}
+use Rattle.yq_flow_scalars.specs.Plain.{begins_plain, ends_plain, ends_text, follows, may_follow, last_line, no_gap, plain_at}
+use Rattle.yq_flow_scalars.specs.Text.{upto, cut, NoneIn, is_white, is_break, is_empty, front, past_white}
+use Rattle.yq_flow_scalars.proofs.Bools.{at_byte}
+use Rattle.yq_flow_scalars.proofs.QuotedFound.{quoted_again}
+use Rattle.yq_flow_scalars.proofs.Upto.{upto_here}
+use Rattle.yq_flow_scalars.proofs.QuotedLaws.{of_quotes}
+use Rattle.yq_nodes.specs.Nodes.{Node, empty, alias, scalar, coll, anchored, node_text, is_bare, IsNode}
+use Rattle.yq_nodes.specs.Reading.{scalar_at}
+use Rattle.yq_nodes.specs.Scalars.{is_quoted, IsScalarAt, begins_scalar}
+use Rattle.yq_nodes.proofs.PieceLaws.{front_not, scalar_begins}
+use Rattle.yq_cut.specs.Grammar.{IsTail, key_limit}
+use Rattle.yq_cut.specs.Reading.{is_colon, colon_at, key_at, is_dash}
+use Rattle.yq_cut.proofs.Fronts.{tail_front}
+use Rattle.yq_cut.proofs.MarkAgain.{scalar_no_dash}
+
+-- no scalar, no key
+no_scalar : (spaces : Option ℕ) (t : List ℕ) → begins_scalar false t ≡ false → scalar_at false spaces t ≡ None
+unfolding scalar_at plain_at
+no_scalar spaces t h = let parts = or_parts (is_quoted t) (begins_plain false t) h in rw (parts.0, parts.1) refl
+
+pub no_key : (t : List ℕ) → begins_scalar false t ≡ false → key_at t ≡ None
+unfolding key_at
+no_key t h = rw (no_scalar None t h) refl
+
+-- no `:` stands in front of a tail
+pub tail_no_colon : (tail rest : List ℕ) → IsTail tail rest → colon_at (tail ++ rest) ≡ None
+unfolding colon_at
+tail_no_colon tail rest h =
+    let f = tail_front tail rest h in
+    let past : past_white (tail ++ rest) ≡ f.behind = ap (λ (y : List ℕ × List ℕ). y.1) f.past in
+    rw (past, f.stops.no_colon) refl
+
+-- a plain scalar of one line ends before a break, where one of many lines goes on
+or_none : {A : Type 0} (o : Option A) {l : A} → option_or o None ≡ Some l → o ≡ Some l
+or_none None h = cc
+or_none (Some x) h = h
+
+break_no_colon : (b : ℕ) (bs : List ℕ) → is_break (b ∷ bs) ≡ true → is_colon (b ∷ bs) ≡ false
+break_no_colon b bs h = rw (at_byte (λ x. is_break (x ∷ bs)) b 58 h refl) refl
+
+line_no_colon : (t l : List ℕ) → last_line (cut no_gap t).0 ≡ Some l → is_colon (past_white t) ≡ false
+unfolding upto
+line_no_colon [] l h = cc
+line_no_colon (b ∷ bs) l h = elim (cases_Bool (is_white b)) [
+  | inl w ↦ (
+      let less : option_or (last_line (cut no_gap bs).0) None ≡ Some l = rw (w, at_byte is_white b 10 w refl) at h in
+      rw w (line_no_colon bs l (or_none (last_line (cut no_gap bs).0) less)))
+  | inr w ↦ elim (cases_Bool (is_break (b ∷ bs))) [
+    | inl e ↦ rw w (break_no_colon b bs e)
+    | inr e ↦ absurd (let none : last_line [] ≡ Some l = rw (w, e) at h in cc)
+  ]
+]
+
+-- whether text that doesn't end the scalar follows behind white space and breaks
+abbrev goes_on : List ℕ → Bool
+goes_on t = not (is_empty t) && not (front (λ b. eqb b 35) t) && not (ends_text false t)
+
+may_none : (d : ℕ) (line : Option (List ℕ)) (text : List ℕ) → may_follow None line text ≡ true → may_follow (Some d) line text ≡ true
+may_none d None text h = refl
+may_none d (Some l) text h = absurd (false≢true h)
+
+follows_none : (d : ℕ) (gap text : List ℕ) → follows false (Some d) gap text ≡ false → follows false None gap text ≡ false
+follows_none d gap text h = search (rules, cases_Bool, and_parts, may_none, false≢true)
+
+one_ends : (d : ℕ) (t : List ℕ) → ends_plain false (Some d) t ≡ true → ends_plain false None t ≡ true
+one_ends d t h = search (rules, cases_Bool, not-true, follows_none)
+
+line_between : (d : ℕ) (line : Option (List ℕ)) (text : List ℕ) → may_follow None line text ≡ false → (l : List ℕ) × (line ≡ Some l)
+line_between d None text h = absurd (false≢true (sym h))
+line_between d (Some l) text h = (l, refl)
+
+broken : (d : ℕ) (t : List ℕ) → ends_plain false None t ≡ true → ends_plain false (Some d) t ≡ false → colon_at t ≡ None
+unfolding colon_at
+broken d t one more = search (rules, cases_Bool, not-true, not-false, and_parts, line_between, line_no_colon, false≢true)
+
+plain_no_colon : (d : ℕ) (p rest : List ℕ) → NoneIn (ends_plain false (Some d)) p rest → ends_plain false (Some d) rest ≡ true → colon_at rest ≡ None → colon_at (drop (upto (ends_plain false None) (p ++ rest)) (p ++ rest)) ≡ None
+unfolding upto
+plain_no_colon d [] rest n e c = rw (upto_here (ends_plain false None) rest (one_ends d rest e)) c
+plain_no_colon d (b ∷ p) rest n e c =
+    cond_both (ends_plain false None (b ∷ (p ++ rest))) 0 (suc (upto (ends_plain false None) (p ++ rest))) (λ k. colon_at (drop k (b ∷ (p ++ rest))) ≡ None)
+    (λ one. broken d (b ∷ (p ++ rest)) one n.0)
+    (λ _. plain_no_colon d p rest n.1 e c)
+
+plain_no_quote : (t : List ℕ) → begins_plain false t ≡ true → is_quoted t ≡ false
+plain_no_quote t h1 = search (rules, front_not)
+
+-- a key that was read up to its `:`
+abbrev then_colon : Option (List ℕ × List ℕ) → Option (List ℕ × List ℕ × List ℕ)
+then_colon o = o >>= λ key. colon_at key.1 >>= λ colon. cond (leb (length (chars key.0) + length (chars colon.0)) (key_limit + 1)) (Some (key.0, colon.0, colon.1)) None
+
+scalar_no_key : (d : ℕ) (p rest : List ℕ) → IsScalarAt false (Some d) p rest → colon_at rest ≡ None → key_at (p ++ rest) ≡ None
+unfolding key_at scalar_at plain_at
+scalar_no_key d p rest h1 h2 = search (rules, plain_no_quote, plain_no_colon, of_quotes, quoted_again, cond_both)
+
+-- what is no key and no dash
+abbrev pub NoEntry : List ℕ → Type 0
+NoEntry t = (is_dash t ≡ false) × (key_at t ≡ None)
+
+pub node_no_entry : (d k : ℕ) (node : Node) (rest : List ℕ) → IsNode false (Some d) k node rest → not (is_bare node) ≡ true → colon_at rest ≡ None → NoEntry (node_text node rest)
+unfolding node_text IsNode
+node_no_entry d k empty rest h some c = absurd (false≢true some)
+node_no_entry d k (alias n) rest h some c = (refl, no_key (42 ∷ (n ++ rest)) refl)
+node_no_entry d k (scalar p) rest h some c = (scalar_no_dash (p ++ rest) (scalar_begins false (Some d) p rest h), scalar_no_key d p rest h c)
+node_no_entry d k (coll close gap items) rest h some c = cond_both (eqb close 125) 123 91 (λ (b : ℕ). (t : List ℕ) → NoEntry (b ∷ t)) (λ _ t. (refl, no_key (123 ∷ t) refl)) (λ _ t. (refl, no_key (91 ∷ t) refl)) _
+node_no_entry d k (anchored n g node) rest h some c = (refl, no_key (38 ∷ (n ++ (g ++ node_text node rest))) refl)

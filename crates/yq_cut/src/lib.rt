@@ -1,0 +1,18 @@
+//! Rows of a text: what a cut into rows is, its laws, and cuts kept by where their rows stand.
+#![tactic(auto)]
+
+mod block;
+mod bounds;
+mod ends;
+mod offsets;
+mod places;
+mod row;
+mod row_pieces;
+mod rows;
+
+pub use bounds::{KEY_LIMIT, before_column};
+pub use ends::{Bound, EndPlace, end_of};
+pub use offsets::Offsets;
+pub use places::Places;
+pub use row::Row;
+pub use rows::{Rows, begins_document};

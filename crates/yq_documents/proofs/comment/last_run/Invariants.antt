@@ -1,0 +1,17 @@
+use Rattle.std.proofs.Common.{◌≡◌, length}
+use Rattle.std.specs.Str.{IsUtf8}
+use Rattle.yq_flow_scalars.specs.Text.{lines_of}
+use Rattle.yq_documents.specs.Pieces as pieces
+use Rattle.yq_documents.proofs.RunLaws.{run_or}
+use Rattle.yq_documents.proofs.comment.last_run.Given as goal
+
+-- the run is what stands here, if the lines behind it are comments
+abbrev pub invariant-lines : goal.invariant-lines
+invariant-lines l = record {
+  run_text : IsUtf8 l.run;
+  rest_text : IsUtf8 l.rest;
+  so_far : pieces.last_run (lines_of l.gap) ≡ run_or (lines_of l.run) (lines_of l.rest);
+}
+
+abbrev pub decreases-lines : goal.decreases-lines
+decreases-lines l = length l.rest

@@ -1,0 +1,3 @@
+pub mod DistinctKeys
+pub mod IntegerLaws
+pub mod SameContentLaws

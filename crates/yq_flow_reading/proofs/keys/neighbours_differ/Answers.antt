@@ -1,0 +1,9 @@
+use Rattle.std.proofs.Common.{◌-◌, refl, arith}
+use Rattle.yq_flow_reading.proofs.DistinctKeys.{AreDistinct-from_places, DifferAt-from_distinct, DifferAt-from_sorted}
+use Rattle.yq_flow_reading.proofs.keys.neighbours_differ.Goals as goal
+
+pub returns-then-eq : goal.returns-then-eq
+returns-then-eq c = (λ never. absurd (cc), λ h. let differ = DifferAt-from_distinct c.args.keys.now (c.pairs.later - 1) c.pairs.later h (omega arith) c.pairs-test.true in grind arith)
+
+pub returns : goal.returns
+returns c = (λ _. AreDistinct-from_places c.args.keys.now (DifferAt-from_sorted c.args.keys.now c.requires (λ k h. c.pairs.invariant k (omega arith))), λ _. refl)

@@ -1,0 +1,7 @@
+//! The heads of rows, read.
+#![tactic(auto)]
+
+mod flow_keys;
+mod head;
+
+pub use head::{read_head, row_head};

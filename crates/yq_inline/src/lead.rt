@@ -1,0 +1,25 @@
+//! The gap between two tokens, read.
+ghost use Rattle.std.specs.Prelude.{◌≢◌, ◌≤◌, IfErr, IfOk, length};
+ghost use Rattle.yq_flow_scalars.specs.Answers.{Reads};
+ghost use Rattle.yq_flow_scalars.specs.declared.fault.FaultKind.TheVariants.{NotUtf8};
+ghost use Rattle.yq_nodes.specs.Reading as reading;
+
+use crate::fault::fault;
+use yq_flow_scalars::text::is_marker;
+use yq_flow_scalars::{FaultKind, ReadFault};
+use yq_nodes::gap_len;
+
+/// The gap in front, and what follows it.
+#[tactic(auto, unfolding(yq_nodes::specs::Reading::gap_at))]
+pub fn read_gap<'t>(whole: &str, text: &'t str) -> Result<(&'t str, &'t str), ReadFault>
+    ensures read { Reads (λ x. (x.0.now, x.1.now)) result (reading.gap_at text.now) }
+    ensures shorter { IfOk result (λ x. length x.1.now ≤ length text.now) }
+    ensures fault { IfErr result (λ f. f.kind ≢ NotUtf8) }
+{
+    let (n, line) = gap_len(text.as_bytes());
+    let (gap, rest) = text.split_at(n);
+    if line && is_marker(rest.as_bytes()) {
+        return Err(fault(FaultKind::BadFlow, whole, rest));
+    }
+    Ok((gap, rest))
+}

@@ -1,0 +1,11 @@
+pub use Rattle.yq_flow_scalars.specs.Answers
+pub use Rattle.yq_flow_scalars.specs.Plain
+pub use Rattle.yq_flow_scalars.specs.Piece
+pub use Rattle.yq_flow_scalars.specs.Quoted
+pub use Rattle.yq_flow_scalars.specs.Scalar
+pub use Rattle.yq_flow_scalars.specs.Text
+pub mod Measured
+pub use Rattle.yq_flow_scalars.specs.Keys
+pub use Rattle.yq_flow_scalars.specs.Paths
+pub use Rattle.yq_flow_scalars.specs.Tree
+pub use Rattle.yq_flow_scalars.specs.Writable

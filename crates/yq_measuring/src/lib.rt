@@ -1,0 +1,4 @@
+//! Where inline nodes of YAML end, found without memory.
+#![tactic(auto)]
+
+pub mod measuring;

@@ -1,0 +1,138 @@
+-- Reading (own; a reader may skip it: the grammar is what is believed, and the clauses `found` and `only` tie the two).
+use Rattle.std.specs.Prelude.{ℕ, zero, suc, Bool, true, false, ◌||◌, ◌&&◌, not, ◌==◌, List, [], ◌∷◌, length, take, drop, Option, Some, None, if◌then◌else◌}
+use Rattle.yq_flow_scalars.specs.Answers.{◌>>=◌}
+use Rattle.yq_flow_scalars.specs.Plain.{plain_at}
+use Rattle.yq_flow_scalars.specs.QuotedReading.{quoted_at}
+use Rattle.yq_flow_scalars.specs.Text.{is_empty, is_marker, cut, unless, no_white}
+use Rattle.yq_nodes.specs.declared.gap.Before.{Before}
+use Rattle.yq_nodes.specs.declared.gap.Before.TheVariants.{Token}
+use Rattle.yq_nodes.specs.Gaps.{goes, next, is_break}
+use Rattle.yq_nodes.specs.Nodes.{Key, bare, keyed, Sep, last, comma, Node, empty, alias, scalar, coll, anchored, Items, none, item, first_is, in_name, begins_content, begins_node, ends_key, is_bare, takes_anchor, is_keyed}
+use Rattle.yq_nodes.specs.Scalars.{is_quoted, has_its_lines}
+
+-- how long the gap in front is (own)
+unfoldable pub gap_len : Before → List ℕ → ℕ
+gap_len before [] = 0
+gap_len before (b ∷ bs) = if goes before b bs then suc (gap_len (next before b) bs) else 0
+
+-- what stands behind it (own)
+unfoldable pub gap_end : Before → List ℕ → Before
+gap_end before [] = before
+gap_end before (b ∷ bs) = if goes before b bs then gap_end (next before b) bs else before
+
+-- the gap in front and what follows it, unless this is a marker in column 0 (own)
+unfoldable pub gap_at : List ℕ → Option (List ℕ × List ℕ)
+gap_at t =
+    let n = gap_len Token t in
+    if is_break (gap_end Token t) && is_marker (drop n t) then None else Some (take n t, drop n t)
+
+-- a quoted scalar with the lines that it may have (own)
+abbrev pub with_its_lines : Option ℕ → List ℕ × List ℕ → Option (List ℕ × List ℕ)
+with_its_lines spaces x = if has_its_lines spaces x.0 then Some x else None
+
+-- the quoted scalar in front and what follows it (own)
+abbrev pub in_quotes_at : Option ℕ → List ℕ → Option (List ℕ × List ℕ)
+in_quotes_at spaces t = quoted_at t >>= with_its_lines spaces
+
+-- the scalar in front and what follows it (own)
+unfoldable pub scalar_at : Bool → Option ℕ → List ℕ → Option (List ℕ × List ℕ)
+scalar_at flow spaces t = if is_quoted t then in_quotes_at spaces t else plain_at flow spaces t
+
+-- the name in front and what follows it (own)
+unfoldable pub name_at : List ℕ → Option (List ℕ × List ℕ)
+name_at t = if unless in_name t then None else Some (cut (unless in_name) t)
+
+-- what stands between an anchor and its node, and what follows it (own)
+abbrev pub apart_at : Bool → List ℕ → Option (List ℕ × List ℕ)
+apart_at true t = gap_at t
+apart_at false t = Some (cut no_white t)
+
+-- the same, if something begins behind it (own)
+unfoldable pub lead_at : Bool → (List ℕ → Bool) → List ℕ → Option (List ℕ × List ℕ)
+lead_at flow begins t = do
+  g ← apart_at flow t
+  Some (if begins g.1 then g else ([], t))
+
+-- what follows the `:` of a key (own)
+unfoldable pub colon_at : List ℕ → List ℕ → Option (List ℕ)
+colon_at p t = if first_is 58 t && ends_key p (drop 1 t) then Some (drop 1 t) else None
+
+-- the key in front with its `:`, and what follows (own)
+unfoldable pub key_at : List ℕ → Option (Key × List ℕ)
+key_at t = do
+  key ← scalar_at true None t
+  before ← gap_at key.1
+  rest ← colon_at key.0 before.1
+  gap ← lead_at true (begins_node true) rest
+  Some (keyed key.0 before.0 gap.0, gap.1)
+
+-- a comma or the closing bracket behind a gap (own)
+unfoldable pub sep_behind : ℕ → List ℕ → List ℕ → Option (Sep × List ℕ)
+sep_behind k behind t =
+    if first_is 44 t then (do
+      h ← gap_at (drop 1 t)
+      Some (comma behind h.0, h.1))
+    else (if first_is k t then Some (last behind, t) else None)
+
+-- what stands behind an item, and what follows it (own)
+unfoldable pub sep_at : ℕ → List ℕ → Option (Sep × List ℕ)
+sep_at k t = do
+  g ← gap_at t
+  sep_behind k g.0 g.1
+
+-- what reads the items of a collection, by its closing bracket (own)
+abbrev pub Kids : Type 0
+Kids = ℕ → List ℕ → Option (Items × List ℕ)
+
+-- a collection behind its opening bracket (own)
+unfoldable pub coll_at : Kids → ℕ → List ℕ → Option (Node × List ℕ)
+coll_at kids k t = do
+  gap ← gap_at t
+  items ← kids k gap.1
+  Some (coll k gap.0 items.0, items.1)
+
+-- the node in front that has no anchor (own)
+unfoldable pub content_at : Bool → Option ℕ → Kids → List ℕ → Option (Node × List ℕ)
+content_at flow spaces kids t =
+    if first_is 42 t then (name_at (drop 1 t) >>= λ x. Some (alias x.0, x.1))
+    else (if first_is 91 t then coll_at kids 93 (drop 1 t)
+    else (if first_is 123 t then coll_at kids 125 (drop 1 t)
+    else (if begins_content flow t then (scalar_at flow spaces t >>= λ x. Some (scalar x.0, x.1)) else Some (empty, t))))
+
+-- the node in front (own)
+unfoldable pub node_at : Bool → Option ℕ → Kids → List ℕ → Option (Node × List ℕ)
+node_at flow spaces kids t =
+    if first_is 38 t then (do
+      name ← name_at (drop 1 t)
+      gap ← lead_at flow (begins_content flow) name.1
+      node ← content_at flow spaces kids gap.1
+      if (is_bare node.0 || not (is_empty gap.0)) && takes_anchor node.0 then Some (anchored name.0 gap.0 node.0, node.1) else None)
+    else content_at flow spaces kids t
+
+-- with one collection less that may be nested (own)
+abbrev pub deeper : {A : Type 0} → ℕ → (ℕ → Option A) → Option A
+deeper zero f = None
+deeper (suc d) f = f d
+
+-- the items in front, in at most n steps (own)
+unfoldable pub items_at : ℕ → ℕ → ℕ → List ℕ → Option (Items × List ℕ)
+items_at zero d k t = None
+items_at (suc n) d k t =
+    if first_is k t then Some (none, drop 1 t) else (do
+      key ← (if k == 125 then key_at t else Some (bare, t))
+      node ← node_at true (Some 0) (λ j r. deeper d (λ e. items_at n e j r)) key.1
+      sep ← (if is_keyed key.0 || not (is_bare node.0) then sep_at k node.1 else None)
+      rest ← items_at n d k sep.1
+      Some (item key.0 node.0 sep.0 rest.0, rest.1))
+
+-- the items in front (own)
+abbrev pub all_items : ℕ → ℕ → List ℕ → Option (Items × List ℕ)
+all_items d k t = items_at (suc (length t)) d k t
+
+-- what reads the items of a collection, with at most d collections nested (own)
+abbrev pub kids_of : ℕ → Kids
+kids_of d k t = deeper d (λ e. all_items e k t)
+
+-- the node in front, with at most d collections nested (own)
+abbrev pub all_node : Bool → Option ℕ → ℕ → List ℕ → Option (Node × List ℕ)
+all_node flow spaces d t = node_at flow spaces (kids_of d) t

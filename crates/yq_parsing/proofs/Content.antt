@@ -1,0 +1,84 @@
+-- The content of a string, run by run.
+use Rattle.std.proofs.Common.{◌≡◌, ℕ, ◌<◌, true, false, ◌==◌, not, List, [], ◌∷◌, ◌++◌, Option, Some, None, option_map, refl, sym, ap, ◌∙◌, subst, inl, inr, arith, eqb-true, append_assoc, append-nil}
+use Rattle.std.proofs.lemmas.Bool.{not-true, false≢true, and_parts, cases_Bool}
+use Rattle.std.specs.List.{prefix_len}
+use Rattle.std.specs.Str.{IsCharBoundary}
+use Rattle.yq_flow_scalars.specs.Text.{unless, upto, cut}
+use Rattle.yq_flow_scalars.proofs.Boundaries.{boundary_ends}
+use Rattle.yq_flow_scalars.proofs.Bools.{guard_then}
+use Rattle.yq_flow_scalars.proofs.Upto.{upto_ends, upto_unless}
+use Rattle.yq_program.specs.Tokens.{escape, put}
+use Rattle.yq_parsing.specs.Lexing.{content, content_escaped, is_plain, escape_front}
+
+plain_ends : (b : ℕ) (bs : List ℕ) → unless is_plain (b ∷ bs) ≡ true → b < 128
+plain_ends b bs h = grind arith
+
+pub boundary_plain : (t : List ℕ) (n : ℕ) → n ≡ prefix_len is_plain t → IsCharBoundary t n
+boundary_plain t n e = rw e (rw (← upto_unless) (boundary_ends (unless is_plain) t plain_ends refl))
+
+pub content_run : (t : List ℕ) → content t ≡ (cut (unless is_plain) t).0 ++ content (cut (unless is_plain) t).1
+unfolding content upto
+content_run [] = refl
+content_run (b ∷ bs) = elim (cases_Bool (is_plain b)) [
+  | inl plain ↦
+      let parts = and_parts (not (b == 34)) (not (b == 92)) plain in
+      let a : (b == 34) ≡ false = not-true _ parts.0 in
+      let c : (b == 92) ≡ false = not-true _ parts.1 in
+      rw (a, c) (ap (λ (s : List ℕ). b ∷ s) (content_run bs))
+  | inr other ↦ rw other refl
+]
+
+content_escape : (t c rest : List ℕ) → escape_front t ≡ Some (c, rest) → content t ≡ c ++ content rest
+unfolding content
+content_escape [] c rest h = cc
+content_escape (b ∷ []) c rest h = cc
+content_escape (b ∷ (d ∷ bs)) c rest h =
+    let g = guard_then (b == 92) h in
+    let b_is : b ≡ 92 = eqb-true b 92 g.0 in
+    rw b_is (go (escape d) g.1)
+  where
+    go : (e : Option ℕ) → option_map {U = List ℕ × List ℕ} (λ x. (x ∷ [], bs)) e ≡ Some (c, rest) → put e (content bs) ≡ c ++ content rest
+    go None k = cc
+    go (Some x) k =
+        let p : ◌≡◌ {A = List ℕ × List ℕ} (x ∷ [], bs) (c, rest) = cc in
+        subst (λ (y : List ℕ × List ℕ). x ∷ content bs ≡ y.0 ++ content y.1) p refl
+
+content_stops : (t : List ℕ) → unless is_plain t ≡ true → escape_front t ≡ None → content t ≡ []
+unfolding content
+content_stops [] u h = refl
+content_stops (b ∷ bs) u h = elim (cases_Bool (b == 34)) [
+  | inl quote ↦ rw quote refl
+  | inr on ↦ elim (cases_Bool (b == 92)) [
+    | inl back ↦ let e : b ≡ 92 = eqb-true b 92 back in rw e (go bs (subst (λ (x : ℕ). escape_front (x ∷ bs) ≡ None) e h))
+    | inr other ↦
+        let plain : is_plain b ≡ true = rw (on, other) refl in
+        let not_plain : unless is_plain (b ∷ bs) ≡ false = rw plain refl in
+        absurd (false≢true (sym not_plain ∙ u))
+  ]
+]
+  where
+    none : (bs : List ℕ) (e : Option ℕ) → option_map {U = List ℕ × List ℕ} (λ x. (x ∷ [], bs)) e ≡ None → put e (content bs) ≡ []
+    none bs None k = refl
+    none bs (Some x) k = cc
+
+    go : (bs : List ℕ) → escape_front (92 ∷ bs) ≡ None → content_escaped bs ≡ []
+    go [] k = refl
+    go (d ∷ bs) k = none bs (escape d) k
+
+cut_parts : (t run end : List ℕ) → (run, end) ≡ cut (unless is_plain) t → content t ≡ run ++ content end
+cut_parts t run end e = subst (λ (p : List ℕ × List ℕ). content t ≡ p.0 ++ content p.1) (sym e) (content_run t)
+
+-- a turn of the loop: a run and an escape
+pub content_next : (text out rest run end c behind : List ℕ) → out ++ content rest ≡ content text → (run, end) ≡ cut (unless is_plain) rest → escape_front end ≡ Some (c, behind)
+    → ((out ++ run) ++ c) ++ content behind ≡ content text
+content_next text out rest run end c behind whole parts escaped =
+    simp append_assoc (sym (ap (λ (s : List ℕ). out ++ s) (cut_parts rest run end parts ∙ ap (λ (s : List ℕ). run ++ s) (content_escape end c behind escaped))) ∙ whole)
+
+-- the last run
+pub content_done : (text out rest run end : List ℕ) → out ++ content rest ≡ content text → (run, end) ≡ cut (unless is_plain) rest → escape_front end ≡ None
+    → out ++ run ≡ content text
+content_done text out rest run end whole parts none =
+    let e : end ≡ (cut (unless is_plain) rest).1 = ap (λ (p : List ℕ × List ℕ). p.1) parts in
+    let stops : unless is_plain end ≡ true = rw e (upto_ends (unless is_plain) rest refl) in
+    let last : content rest ≡ run = cut_parts rest run end parts ∙ ap (λ (s : List ℕ). run ++ s) (content_stops end stops none) ∙ append-nil run in
+    ap (λ (s : List ℕ). out ++ s) (sym last) ∙ whole

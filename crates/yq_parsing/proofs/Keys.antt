@@ -1,0 +1,62 @@
+-- Keys that differ, as a test.
+use Rattle.std.proofs.Common.{◌≡◌, ◌≢◌, ℕ, suc, ◌<◌, Bool, true, false, List, [], ◌∷◌, length, get_or, refl, sym, ap, ◌∙◌, inl, inr, arith, rules, map, ◌-◌, Option, Some, None, IsTrue, ◌↔◌}
+use Rattle.std.specs.Str.{bytes_eq}
+use Rattle.std.specs.List.{list_any, All}
+use Rattle.std.proofs.lemmas.Bool.{not-true, false≢true, false_from_ne_true, and_parts, cases_Bool}
+use Rattle.std.proofs.lemmas.List.Folds.{list_any_at, Any-from_list_any}
+use Rattle.std.proofs.lemmas.List.Kept.{AllPairs-cons}
+use Rattle.std.proofs.lemmas.Slice.Eq.{bytes_eq-Decides}
+use Rattle.yq_flow_scalars.specs.Keys.{AreDistinct, are_distinct}
+use Rattle.std.specs.Prelude.{codes, string_bytes, String}
+use Rattle.std.specs.declared.alloc.Global.{Global}
+use Rattle.yq_flow_scalars.specs.Tree.{Node}
+use Rattle.yq_flow_scalars.specs.Tree as tree
+use Rattle.yq_nodes.specs.declared.value.Value.{Value}
+use Rattle.yq_parsing.specs.Lexing.{after}
+use Rattle.yq_program.specs.Tokens.{Token}
+use Rattle.yq_nodes.specs.Values.{field_of, entries}
+use Rattle.yq_parsing.specs.Parse.{listed_at, field_at, literal_at}
+
+others : (k : List ℕ) (ks : List (List ℕ)) → list_any (bytes_eq k) ks ≡ false → All (λ x. k ≢ x) ks
+others k ks none i d lt same =
+    let here : bytes_eq k (get_or ks i d) ≡ true = (bytes_eq-Decides k (get_or ks i d)).1 same in
+    false≢true (sym none ∙ list_any_at (bytes_eq k) ks i d lt here)
+
+pub distinct_keys : (ks : List (List ℕ)) → are_distinct ks ≡ true → AreDistinct ks
+distinct_keys [] h = λ i j d lt last. absurd (omega arith)
+distinct_keys (k ∷ ks) h =
+    let parts = and_parts _ (are_distinct ks) h in
+    AllPairs-cons (λ a b. a ≢ b) k ks (others k ks (not-true _ parts.0)) (distinct_keys ks parts.1)
+
+pub distinct_again : (ks : List (List ℕ)) → AreDistinct ks → are_distinct ks ≡ true
+distinct_again [] h = refl
+distinct_again (k ∷ ks) h =
+    let tail : AreDistinct ks = λ i j d lt last. h (suc i) (suc j) d (omega arith) (omega arith) in
+    elim (cases_Bool (list_any (bytes_eq k) ks)) [
+      | inl some ↦
+          let found = Any-from_list_any (bytes_eq k) ks some in
+          let lt : found.0 < length ks = found.2 in
+          let same : k ≡ get_or ks found.0 found.1 = (bytes_eq-Decides k found.1).0 found.4 ∙ sym found.3 in
+          absurd (h 0 (suc found.0) found.1 (omega arith) (omega arith) same)
+      | inr none ↦ rw none (distinct_again ks tail)
+    ]
+
+-- a test that tells whether they differ is that test
+pub tested : (b : Bool) (ks : List (List ℕ)) → IsTrue b ↔ AreDistinct ks → b ≡ are_distinct ks
+tested true ks h = sym (distinct_again ks (h.0 refl))
+tested false ks h = sym (false_from_ne_true (are_distinct ks) (λ passes. false≢true (h.1 (distinct_keys ks passes))))
+
+-- the keys of entries
+pub keys_of_fields : (es : List (String Global × Value)) → map (λ e. string_bytes e.0) es ≡ map (λ e. e.0) (map field_of es)
+keys_of_fields [] = refl
+keys_of_fields (e ∷ es) = ap (λ (ks : List (List ℕ)). string_bytes e.0 ∷ ks) (keys_of_fields es)
+
+pub map_is : (depth : ℕ) (ts r : List Token) (x : List (List ℕ × Node) × List Token) → 0 < depth → after (codes "[") ts ≡ None → after (codes "{") ts ≡ Some r
+    → listed_at (codes "}") (field_at (literal_at (depth - 1))) r ≡ Some x → are_distinct (map (λ e. e.0) x.0) ≡ true → literal_at depth ts ≡ Some (tree.map None (entries x.0), x.1)
+unfolding literal_at
+map_is depth ts r x h1 = search rules
+
+-- what is no value is nothing
+pub none_by : {A : Type 0} (o : Option A) → ((x : A) → o ≡ Some x → ⊥) → o ≡ None
+none_by None h = refl
+none_by (Some x) h = absurd (h x refl)

@@ -1,0 +1,111 @@
+-- The conditions, stages and pipes that are read are those of the grammar, and each has a token at least.
+use Rattle.std.proofs.Common.{◌≡◌, Bool, true, List, [], ◌∷◌, length, Some, refl, ap, subst, inl, inr, arith}
+use Rattle.std.proofs.lemmas.Option.{cond_some}
+use Rattle.std.specs.Prelude.{codes}
+use Rattle.yq_flow_scalars.proofs.Bools.{bind_some}
+use Rattle.yq_program.specs.Program.{is_simple, Step, key, index, each, Operand, value_at, document_index, compares, has, path, select}
+use Rattle.yq_program.specs.Tokens.{Token, string, symbol}
+use Rattle.yq_parsing.specs.Lexing.{after, taken, as_string}
+use Rattle.yq_program.specs.Grammar.{Production, HasSymbol, IsSimple, IsOperand, comparison, IsCondition, InParentheses, IsStage, IsPipe, IsLeft}
+use Rattle.yq_parsing.specs.Parse.{Parse, parenthesized_at, path_at, scalar_at, operand_at, comparison_at, condition_at, stage_at, pipe_at, left_at}
+use Rattle.yq_parsing.proofs.Readers.{either_cases, after_takes, string_takes, Takes, Shortens, same_form, parted_takes, closed_takes, behind_shortens, parted_shortens, between_shortens}
+use Rattle.yq_parsing.proofs.PathTakes.{path_takes, path_shortens}
+use Rattle.yq_parsing.proofs.LiteralTakes.{scalar_takes, scalar_shortens}
+
+simple_is : (steps : List Step) → is_simple steps ≡ true → IsSimple steps
+simple_is [] h = tt
+simple_is (key k ∷ steps) h = simple_is steps h
+simple_is (index n ∷ steps) h = simple_is steps h
+simple_is (each ∷ steps) h = cc
+
+pub operand_takes : Takes operand_at IsOperand
+unfolding operand_at
+operand_takes ts x h = elim (either_cases (after (codes "di") ts) h) [
+  | inl di ↦ same_form IsOperand ts di.2 (inl (after_takes (codes "di") ts di.0 di.1))
+  | inr on ↦ elim (either_cases (after (codes "document_index") ts) on.1) [
+    | inl word ↦ same_form IsOperand ts word.2 (inr (after_takes (codes "document_index") ts word.0 word.1))
+    | inr other ↦
+        let y = bind_some (path_at ts) other.1 in
+        let g = cond_some (is_simple y.0.0) _ _ y.2 in
+        subst (λ (p : Operand × List Token). IsOperand p.0 ts p.1) g.1 (simple_is y.0.0 g.0, path_takes ts y.0 y.1)
+  ]
+]
+
+comparison_takes : (ts : List Token) (x : Bool × List Token) → comparison_at ts ≡ Some x → HasSymbol (comparison x.0) ts x.1
+comparison_takes ts x h = elim (either_cases (after (codes "==") ts) h) [
+  | inl equal ↦ same_form (λ b. HasSymbol (comparison b)) ts equal.2 (after_takes (codes "==") ts equal.0 equal.1)
+  | inr on ↦
+      let r = bind_some (after (codes "!=") ts) on.1 in
+      same_form (λ b. HasSymbol (comparison b)) ts r.2 (after_takes (codes "!=") ts r.0 r.1)
+]
+
+pub parenthesized_takes : {A : Type 0} (at : Parse A) (Is : Production A) → Takes at Is → Takes (parenthesized_at at) (InParentheses Is)
+parenthesized_takes at Is takes ts x h =
+    let r = bind_some (after (codes "(") ts) h in
+    let y = closed_takes (codes ")") at Is takes r.0 x r.2 in
+    (r.0, y.0, after_takes (codes "(") ts r.0 r.1, y.1, y.2)
+
+pub condition_takes : Takes condition_at IsCondition
+unfolding condition_at
+condition_takes ts x h = elim (either_cases (after (codes "has") ts) h) [
+  | inl word ↦
+      let y = bind_some (parenthesized_at (taken as_string) word.0) word.2 in
+      let p = parenthesized_takes (taken as_string) (λ c ts rest. ts ≡ string c ∷ rest) string_takes word.0 y.0 y.1 in
+      let a : ts ≡ symbol (codes "has") ∷ word.0 = after_takes (codes "has") ts word.0 word.1 in
+      same_form IsCondition ts {x = (has y.0.0, y.0.1)} y.2 (let b = p.2 in let c = p.3 in let d = p.4 in cc)
+  | inr on ↦
+      let o = bind_some (operand_at ts) on.1 in
+      let c = bind_some (comparison_at o.0.1) o.2 in
+      let s = bind_some (scalar_at c.0.1) c.2 in
+      same_form IsCondition ts s.2 (o.0.1, c.0.1, operand_takes ts o.0 o.1, comparison_takes o.0.1 c.0 c.1, scalar_takes c.0.1 s.0 s.1)
+]
+
+pub stage_takes : Takes stage_at IsStage
+unfolding stage_at
+stage_takes ts x h = elim (either_cases (after (codes "select") ts) h) [
+  | inl word ↦
+      let y = bind_some (parenthesized_at condition_at word.0) word.2 in
+      same_form IsStage ts y.2 (word.0, after_takes (codes "select") ts word.0 word.1, parenthesized_takes condition_at IsCondition condition_takes word.0 y.0 y.1)
+  | inr on ↦
+      let y = bind_some (path_at ts) on.1 in
+      same_form IsStage ts y.2 (path_takes ts y.0 y.1)
+]
+
+operand_shortens : Shortens IsOperand
+operand_shortens (value_at steps) ts rest h = path_shortens steps ts rest h.1
+operand_shortens document_index ts rest (inl h) = omega (arith, ap length h)
+operand_shortens document_index ts rest (inr h) = omega (arith, ap length h)
+
+condition_shortens : Shortens IsCondition
+condition_shortens (compares o b k t) ts rest h =
+    let last = scalar_shortens (record { kind = k; text = t }) h.1 rest h.4 in
+    let mid = ap length h.3 in
+    let front = operand_shortens o ts h.0 h.2 in
+    omega arith
+condition_shortens (has k) ts rest h = omega (arith, ap length h)
+
+pub stage_shortens : Shortens IsStage
+stage_shortens (path steps) ts rest h = path_shortens steps ts rest h
+stage_shortens (select c) ts rest h = behind_shortens (codes "select") (InParentheses IsCondition) (between_shortens (codes "(") (codes ")") IsCondition condition_shortens) c ts rest h
+
+pub pipe_takes : Takes pipe_at IsPipe
+unfolding pipe_at
+pipe_takes = parted_takes (codes "|") stage_at IsStage stage_takes
+
+pub pipe_shortens : Shortens IsPipe
+pipe_shortens = parted_shortens (codes "|") IsStage stage_shortens
+
+pub left_takes : Takes left_at IsLeft
+unfolding left_at
+left_takes ts x h = elim (either_cases (after (codes "(") ts) h) [
+  | inl opened ↦
+      let y = closed_takes (codes ")") pipe_at IsPipe pipe_takes opened.0 x opened.2 in
+      inr (opened.0, y.0, after_takes (codes "(") ts opened.0 opened.1, y.1, y.2)
+  | inr on ↦
+      let y = bind_some (path_at ts) on.1 in
+      same_form IsLeft ts y.2 (inl (y.0.0, refl, path_takes ts y.0 y.1))
+]
+
+pub left_shortens : Shortens IsLeft
+left_shortens stages ts rest (inl h) = path_shortens h.0 ts rest h.2
+left_shortens stages ts rest (inr h) = between_shortens (codes "(") (codes ")") IsPipe pipe_shortens stages ts rest h

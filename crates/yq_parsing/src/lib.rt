@@ -1,0 +1,14 @@
+//! Expressions parsed into programs.
+#![tactic(auto)]
+
+mod error;
+mod front;
+mod laws;
+mod parse;
+mod pattern;
+mod survey;
+mod token;
+
+pub use error::ParseError;
+pub use laws::{one_outcome, one_token_list};
+pub use parse::parse_expr;

@@ -1,0 +1,226 @@
+//! Scalars and literals.
+ghost use Rattle.std.specs.Prelude.{◌≡◌, ◌<◌, codes, length, map, option_map, string_bytes, IfOk};
+ghost use Rattle.yq_parsing.specs.ReadAnswers.{ReadsForm, ReadsMaybe, Shortens, IsShorter, with_tokens};
+ghost use Rattle.yq_parsing.specs.Lexing.{tokens};
+ghost use Rattle.yq_parsing.specs.Parse as spec;
+ghost use Rattle.yq_nodes.specs.Values.{node_of, field_of};
+ghost use Rattle.yq_flow_scalars.specs.Keys.{are_distinct};
+
+use crate::error::ParseError;
+use crate::front::{after, expect, number, string};
+use std::alloc::{AllocError, Global};
+use yq_flow_reading::are_distinct;
+use yq_flow_scalars::Scalar;
+use yq_nodes::Value;
+
+/// A word for a scalar, if one is in front, and what follows it.
+fn word(text: &str) -> Option<(&'static str, &str)>
+    ensures value { option_map (with_tokens (λ s. s.now)) result ≡ spec.word_at (tokens text.now) }
+    ensures shorter { IsShorter text.now result }
+{
+    if let Some(rest) = after(text, "true") {
+        return Some(("true", rest));
+    }
+    if let Some(rest) = after(text, "false") {
+        return Some(("false", rest));
+    }
+    match after(text, "null") {
+        Some(rest) => Some(("null", rest)),
+        None => None,
+    }
+}
+
+/// A scalar.
+#[tactic(auto, unfolding(crate::specs::Parse::scalar_at))]
+pub(super) fn scalar(alloc: Global, text: &str) -> Result<(Scalar, &str), ParseError>
+    ensures value { ReadsForm (λ s. s) result (spec.scalar_at (tokens text.now)) }
+    ensures shorter { Shortens text.now result }
+{
+    if let Some((digits, rest)) = number(text) {
+        let scalar = Scalar::plain(alloc, digits)?;
+        return Ok((scalar, rest));
+    }
+    if let Some((word, rest)) = word(text) {
+        let scalar = Scalar::plain(alloc, word)?;
+        return Ok((scalar, rest));
+    }
+    let (content, rest) = string(alloc, text)?;
+    Ok((Scalar::string(content), rest))
+}
+
+fn keys<'v>(alloc: Global, fields: &'v Vec<(String, Value)>) -> Result<Vec<&'v str>, AllocError>
+    ensures { IfOk result (λ v. map (λ k. k.now) v.items ≡
+        map (λ e. string_bytes e.0) fields.now.items) }
+{
+    let mut keys = Vec::new(alloc);
+    for field in fields {
+        keys.push(field.0.as_str())?;
+    }
+    Ok(keys)
+}
+
+/// Whether no two fields have the same key.
+fn keys_differ(alloc: Global, fields: &Vec<(String, Value)>) -> Result<bool, AllocError>
+    ensures { IfOk result (λ b. b ≡ are_distinct (map (λ e. e.0) (map field_of fields.now.items))) }
+{
+    let mut keys = keys(alloc, fields)?;
+    Ok(are_distinct(&mut keys))
+}
+
+/// A scalar as a value.
+fn scalar_value(alloc: Global, text: &str) -> Result<(Value, &str), ParseError>
+    ensures value { ReadsForm node_of result (spec.scalar_node_at (tokens text.now)) }
+    ensures shorter { Shortens text.now result }
+{
+    let (scalar, rest) = scalar(alloc, text)?;
+    Ok((Value::Scalar(scalar), rest))
+}
+
+/// A literal in which `depth` collections are nested at most.
+#[cycle(literal)]
+#[tactic(auto, unfolding(crate::specs::Parse::literal_at))]
+pub(super) fn literal(alloc: Global, text: &str, depth: usize) -> Result<(Value, &str), ParseError>
+    ensures value { ReadsForm node_of result (spec.literal_at depth (tokens text.now)) }
+    ensures shorter { Shortens text.now result }
+{
+    if depth == 0 {
+        return scalar_value(alloc, text);
+    }
+    if let Some(rest) = after(text, "[") {
+        let (items, rest) = list(alloc, rest, depth - 1)?;
+        return Ok((Value::List(items), rest));
+    }
+    if let Some(rest) = after(text, "{") {
+        let (fields, rest) = mapping(alloc, rest, depth - 1)?;
+        if keys_differ(alloc, &fields)? {
+            return Ok((Value::Map(fields), rest));
+        }
+        return Err(ParseError::Syntax);
+    }
+    scalar_value(alloc, text)
+}
+
+/// The items of a list, from behind its opening bracket.
+#[cycle(literal)]
+fn list(alloc: Global, text: &str, depth: usize) -> Result<(Vec<Value>, &str), ParseError>
+    ensures value { ReadsForm (λ v. map node_of v.items) result (spec.listed_at (codes "]")
+        (spec.literal_at depth) (tokens text.now)) }
+    ensures shorter { Shortens text.now result }
+{
+    if let Some(rest) = after(text, "]") {
+        return Ok((Vec::new(alloc), rest));
+    }
+    let (items, rest) = items(alloc, text, depth)?;
+    let rest = expect(rest, "]")?;
+    Ok((items, rest))
+}
+
+#[cycle(literal)]
+fn items(alloc: Global, text: &str, depth: usize) -> Result<(Vec<Value>, &str), ParseError>
+    ensures value { ReadsForm (λ v. map node_of v.items) result
+        (spec.parted_at (codes ",") (spec.literal_at depth) (tokens text.now)) }
+    ensures shorter { Shortens text.now result }
+{
+    let (first, mut rest) = literal(alloc, text, depth)?;
+    let mut found = Vec::new(alloc);
+    found.push(first)?;
+    'items: loop {
+        match next_item(alloc, rest, depth)? {
+            Some((item, behind)) => {
+                found.push(item)?;
+                rest = behind;
+            }
+            None => return Ok((found, rest)),
+        }
+    }
+}
+
+/// A comma and an item, if a comma is in front.
+#[cycle(literal)]
+fn next_item(alloc: Global, text: &str, depth: usize) -> Result<Option<(Value, &str)>, ParseError>
+    ensures value { ReadsMaybe node_of result
+        (spec.behind_at (codes ",") (spec.literal_at depth) (tokens text.now)) }
+    ensures shorter { IfOk result (λ o. IsShorter text.now o) }
+{
+    match after(text, ",") {
+        Some(rest) => {
+            let item = literal(alloc, rest, depth)?;
+            Ok(Some(item))
+        }
+        None => Ok(None),
+    }
+}
+
+/// The fields of a mapping, from behind its opening brace.
+#[cycle(literal)]
+fn mapping(
+    alloc: Global,
+    text: &str,
+    depth: usize,
+) -> Result<(Vec<(String, Value)>, &str), ParseError>
+    ensures value { ReadsForm (λ v. map field_of v.items) result (spec.listed_at (codes "}") (spec.field_at (spec.literal_at depth)) (tokens text.now)) }
+    ensures shorter { Shortens text.now result }
+{
+    if let Some(rest) = after(text, "}") {
+        return Ok((Vec::new(alloc), rest));
+    }
+    let (fields, rest) = fields(alloc, text, depth)?;
+    let rest = expect(rest, "}")?;
+    Ok((fields, rest))
+}
+
+#[cycle(literal)]
+fn fields(
+    alloc: Global,
+    text: &str,
+    depth: usize,
+) -> Result<(Vec<(String, Value)>, &str), ParseError>
+    ensures value { ReadsForm (λ v. map field_of v.items) result
+        (spec.parted_at (codes ",") (spec.field_at (spec.literal_at depth)) (tokens text.now)) }
+    ensures shorter { Shortens text.now result }
+{
+    let (first, mut rest) = field(alloc, text, depth)?;
+    let mut found = Vec::new(alloc);
+    found.push(first)?;
+    'fields: loop {
+        match next_field(alloc, rest, depth)? {
+            Some((field, behind)) => {
+                found.push(field)?;
+                rest = behind;
+            }
+            None => return Ok((found, rest)),
+        }
+    }
+}
+
+/// A comma and a field, if a comma is in front.
+#[cycle(literal)]
+fn next_field(
+    alloc: Global,
+    text: &str,
+    depth: usize,
+) -> Result<Option<((String, Value), &str)>, ParseError>
+    ensures value { ReadsMaybe field_of result
+        (spec.behind_at (codes ",") (spec.field_at (spec.literal_at depth)) (tokens text.now)) }
+    ensures shorter { IfOk result (λ o. IsShorter text.now o) }
+{
+    match after(text, ",") {
+        Some(rest) => {
+            let field = field(alloc, rest, depth)?;
+            Ok(Some(field))
+        }
+        None => Ok(None),
+    }
+}
+
+/// A string, `:` and a literal.
+#[cycle(literal)]
+fn field(alloc: Global, text: &str, depth: usize) -> Result<((String, Value), &str), ParseError>
+    ensures value { ReadsForm field_of result (spec.field_at (spec.literal_at depth) (tokens text.now)) }
+    ensures shorter { Shortens text.now result }
+{
+    let (key, rest) = string(alloc, text)?;
+    let rest = expect(rest, ":")?;
+    let (value, rest) = literal(alloc, rest, depth)?;
+    Ok(((key, value), rest))
+}
