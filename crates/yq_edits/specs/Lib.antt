@@ -16,5 +16,4 @@ pub mod CommentEdits
 pub mod FlowParts
 pub mod Edits
 pub mod EditLaws
-pub mod TouchedRanges
 pub mod RowChanges

@@ -9,7 +9,7 @@ use yq_flow_reading::can_write;
 use yq_flow_scalars::{Kind, Place, Scalar, Style};
 
 /// Whether a scalar has that kind and that text.
-pub(crate) fn is_same(kind: Kind, text: &str, scalar: &Scalar) -> bool
+pub fn is_same(kind: Kind, text: &str, scalar: &Scalar) -> bool
     ensures value { result ≡ spec.is_same (record { kind = kind; text = text.now }) scalar.now }
     ensures valid { IsValid scalar.now }
 {

@@ -40,7 +40,7 @@ pub fn value_text(
 }
 
 /// A text behind a space.
-pub(crate) fn behind_space(alloc: Global, text: &str) -> Result<String, AllocError>
+pub fn behind_space(alloc: Global, text: &str) -> Result<String, AllocError>
     ensures { IfOk result (λ s. string_bytes s ≡ 32 ∷ text.now) }
 {
     let mut out = String::new(alloc);
@@ -50,7 +50,7 @@ pub(crate) fn behind_space(alloc: Global, text: &str) -> Result<String, AllocErr
 }
 
 /// Whether a collection may begin on the line of a key or dash.
-pub(crate) fn takes_compact(mark: Mark) -> bool
+pub fn takes_compact(mark: Mark) -> bool
     ensures { result ≡ spec.takes_compact (held_mark_view mark) }
 {
     !(mark.keyed || mark.noted)
@@ -87,7 +87,7 @@ fn column_under(layout: &Layout, mark: Mark, value: &Value) -> Result<usize, All
 }
 
 /// A space, and a collection that begins on the line of a dash.
-pub(crate) fn compact_text(
+pub fn compact_text(
     alloc: Global,
     layout: &Layout,
     mark: Mark,
@@ -122,7 +122,7 @@ fn push_lines_under(
 }
 
 /// A break, and a collection on lines below a key or dash.
-pub(crate) fn break_and_lines(
+pub fn break_and_lines(
     alloc: Global,
     layout: &Layout,
     mark: Mark,
@@ -140,7 +140,7 @@ pub(crate) fn break_and_lines(
 }
 
 /// A collection on lines below a key or dash, and a break.
-pub(crate) fn lines_and_break(
+pub fn lines_and_break(
     alloc: Global,
     layout: &Layout,
     mark: Mark,

@@ -2,11 +2,11 @@
 use Rattle.std.proofs.Common.{refl}
 use Rattle.yq_places.specs.Standings.{alone, beside, under, compact, block, root, no_rows}
 use Rattle.yq_edits.specs.EditLaws.{KindsCarryOut, EditsCarryOut, FittingHasEdit, ValuesArePut}
-use Rattle.yq_edits.proofs.HeadCommentLaws.{head_comment_is_put}
+use Rattle.yq_segments.proofs.HeadCommentLaws.{head_comment_is_put}
 use Rattle.yq_edits.proofs.KeptLaws.{equal_scalars_stay}
-use Rattle.yq_edits.proofs.LineCommentLaws.{line_comment_is_put}
-use Rattle.yq_edits.proofs.MoreLaws.{more_is_put}
-use Rattle.yq_edits.proofs.RemovingFirstLaws.{one_is_removed}
+use Rattle.yq_segments.proofs.LineCommentLaws.{line_comment_is_put}
+use Rattle.yq_segments.proofs.MoreLaws.{more_is_put}
+use Rattle.yq_segments.proofs.RemovingFirstLaws.{one_is_removed}
 use Rattle.yq_flow_edits.proofs.FlowAppendLaws.{flow_more_put}
 use Rattle.yq_flow_edits.proofs.FlowPutLaws.{flow_values_put}
 use Rattle.yq_flow_edits.proofs.FlowRemoveLaws.{flow_part_removed}

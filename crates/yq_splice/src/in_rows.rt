@@ -24,11 +24,12 @@ use crate::run::Run;
 use std::alloc::{AllocError, Global};
 use yq_block::is_filled;
 use yq_documents::Path;
-use yq_edits::{comment_written, is_kept_in_row, value_text};
+use yq_edits::value_text;
 use yq_expr::{Op, Value};
 use yq_flow_scalars::Place;
 use yq_places::{CutText, HeldRow};
 use yq_script::Edited;
+use yq_segments::{comment_written, is_kept_in_row};
 
 /// A text that an operation puts in a row, in the place of what stands between two places.
 #[derive(Debug, Drop)]

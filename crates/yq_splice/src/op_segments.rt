@@ -16,12 +16,12 @@ ghost use Rattle.yq_edits.specs.ReplaceEdits.{value_put_at as value_put_there};
 
 use std::alloc::{AllocError, Global};
 use yq_documents::Path;
-use yq_edits::{head_comment_at, is_kept, line_comment_at, more_at, one_removed, value_put_at};
 use yq_expr::Op;
 use yq_flow_edits::{append_in_flow, emptying, put_in_flow, remove_in_flow, unchanged};
 use yq_nodes::Value;
 use yq_places::CutText;
 use yq_script::Segments;
+use yq_segments::{head_comment_at, is_kept, line_comment_at, more_at, one_removed, value_put_at};
 
 /// Segments that put a value at a path, unless an equal scalar is there: then all bytes stay.
 #[tactic(auto, using(crate::proofs::ChoiceLaws::chosen, crate::proofs::ChoiceLaws::not_chosen))]

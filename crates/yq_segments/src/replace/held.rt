@@ -1,0 +1,210 @@
+//! A value in the place of what a key or dash holds, or of a compact collection.
+ghost use Rattle.std.specs.Prelude.{◌≡◌, ℕ, List, [], false, IfOk, string_bytes};
+ghost use Rattle.yq_nodes.specs.Values.{node_of};
+ghost use Rattle.yq_block_scalars.specs.BlockWritten.{break_text};
+ghost use Rattle.yq_places.specs.StandingViews.{compact_view, held_view, held_mark_view};
+ghost use Rattle.yq_block.specs.BlockReading.{is_filled as filled};
+ghost use Rattle.yq_block.specs.BlockRows.{item_column};
+ghost use Rattle.yq_block.specs.BlockText.{block_value};
+ghost use Rattle.yq_block.specs.declared.layout.Layout.{Layout as LayoutOf};
+ghost use Rattle.yq_edits.specs.ReplaceEdits as spec;
+ghost use Rattle.yq_edits.specs.WrittenValues as written;
+
+use std::alloc::{AllocError, Global};
+use yq_block::{Layout, is_filled};
+use yq_edits::{behind_space, break_and_lines, compact_text, takes_compact, value_text};
+use yq_flow_scalars::Place;
+use yq_nodes::Value;
+use yq_places::{Compact, Held};
+use yq_script::{Segment, Segments};
+use yq_text::Halves;
+
+/// A text as it is put in the place of another: behind a space, where none is there.
+pub(crate) fn apart(alloc: Global, old: &str, new: String) -> Result<String, AllocError>
+    ensures { IfOk result (λ s. string_bytes s ≡ spec.apart old.now (string_bytes new)) }
+{
+    if old.is_empty() {
+        return behind_space(alloc, &new);
+    }
+    Ok(new)
+}
+
+/// A text on one line in the place of the head; lines below go.
+pub(crate) fn put_inline<'t>(
+    alloc: Global,
+    held: &Held<'t>,
+    text: String,
+) -> Result<Segments<'t>, AllocError>
+    ensures { (br : List ℕ) → IfOk result (λ ss. ss ≡
+        spec.held_put br (held_view held.now) (written.inline (string_bytes text))) }
+{
+    let new = apart(alloc, held.head, text)?;
+    let segments = vec![in alloc;
+        Segment::Keep(held.before),
+        Segment::Keep(Halves::of(held.space)),
+        Segment::Put(Halves::of(held.head), new),
+        Segment::Keep(Halves::of(held.white)),
+        Segment::Keep(Halves::of(held.comment)),
+        Segment::Put(Halves::of(held.line_break), String::new(alloc)),
+        Segment::Put(held.lines, String::new(alloc)),
+        Segment::Keep(Halves::of(held.last)),
+        Segment::Keep(held.behind),
+    ]?;
+    Ok(Segments::new(segments))
+}
+
+/// A collection that begins on the line of a dash, in the place of the white space and the head;
+/// lines below go.
+pub(crate) fn put_compact<'t>(
+    alloc: Global,
+    layout: &Layout,
+    held: &Held<'t>,
+    value: &Value,
+) -> Result<Segments<'t>, AllocError>
+    ensures { IfOk result (λ ss. ss ≡
+        spec.held_put (break_text layout.now.br) (held_view held.now) (written.compact_text
+        (block_value layout.now (item_column held.now.mark.column) (node_of value.now)))) }
+{
+    let new = compact_text(alloc, layout, held.mark, value)?;
+    let gone = Halves {
+        front: held.space,
+        back: held.head,
+    };
+    let segments = vec![in alloc;
+        Segment::Keep(held.before),
+        Segment::Put(gone, new),
+        Segment::Keep(Halves::of(held.white)),
+        Segment::Keep(Halves::of(held.comment)),
+        Segment::Put(Halves::of(held.line_break), String::new(alloc)),
+        Segment::Put(held.lines, String::new(alloc)),
+        Segment::Keep(Halves::of(held.last)),
+        Segment::Keep(held.behind),
+    ]?;
+    Ok(Segments::new(segments))
+}
+
+/// A collection on lines in the place of those below; the white space and the head go.
+fn put_lines<'t>(
+    alloc: Global,
+    layout: &Layout,
+    held: &Held<'t>,
+    value: &Value,
+) -> Result<Segments<'t>, AllocError>
+    ensures { IfOk result (λ ss. ss ≡
+        spec.held_put (break_text layout.now.br) (held_view held.now)
+        (written.lines (written.lines_in layout.now
+        (written.column_under layout.now (held_mark_view held.now.mark) (node_of value.now))
+        (node_of value.now)))) }
+{
+    let new = break_and_lines(alloc, layout, held.mark, value)?;
+    let gone = Halves {
+        front: held.space,
+        back: held.head,
+    };
+    let segments = vec![in alloc;
+        Segment::Keep(held.before),
+        Segment::Put(gone, String::new(alloc)),
+        Segment::Keep(Halves::of(held.white)),
+        Segment::Keep(Halves::of(held.comment)),
+        Segment::Put(Halves::of(held.line_break), String::new(alloc)),
+        Segment::Put(held.lines, new),
+        Segment::Keep(Halves::of(held.last)),
+        Segment::Keep(held.behind),
+    ]?;
+    Ok(Segments::new(segments))
+}
+
+/// A value without items and entries on one line in the place of an inline node, or of nothing. It looks
+/// the same in each document.
+pub(crate) fn text_put<'t>(
+    alloc: Global,
+    held: &Held<'t>,
+    value: &Value,
+) -> Result<Segments<'t>, AllocError>
+    requires { filled (node_of value.now) ≡ false }
+    ensures { (l : LayoutOf) → IfOk result (λ ss. ss ≡
+        spec.held_put (break_text l.br) (held_view held.now) (written.written_at
+        l (held_mark_view held.now.mark) held.now.head.now (node_of value.now))) }
+{
+    let text = value_text(alloc, Place::Block, held.head.as_bytes(), value)?;
+    put_inline(alloc, held, text)
+}
+
+/// A value in the place of an inline node, or of nothing.
+pub(crate) fn beside_put<'t>(
+    alloc: Global,
+    layout: &Layout,
+    held: &Held<'t>,
+    value: &Value,
+) -> Result<Segments<'t>, AllocError>
+    ensures { IfOk result (λ ss. ss ≡
+        spec.held_put (break_text layout.now.br) (held_view held.now) (written.written_at
+        layout.now (held_mark_view held.now.mark) held.now.head.now (node_of value.now))) }
+{
+    if !is_filled(value) {
+        return text_put(alloc, held, value);
+    }
+    if takes_compact(held.mark) {
+        put_compact(alloc, layout, held, value)
+    } else {
+        put_lines(alloc, layout, held, value)
+    }
+}
+
+/// A value in the place of a block collection on lines below.
+pub(crate) fn under_put<'t>(
+    alloc: Global,
+    layout: &Layout,
+    held: &Held<'t>,
+    value: &Value,
+) -> Result<Segments<'t>, AllocError>
+    ensures { IfOk result (λ ss. ss ≡
+        spec.held_put (break_text layout.now.br) (held_view held.now) (written.written_under
+        layout.now (held_mark_view held.now.mark) (node_of value.now))) }
+{
+    if is_filled(value) {
+        return put_lines(alloc, layout, held, value);
+    }
+    let text = value_text(alloc, Place::Block, b"", value)?;
+    put_inline(alloc, held, text)
+}
+
+/// A text in the place of a compact collection.
+fn put_behind<'t>(
+    alloc: Global,
+    compact: &Compact<'t>,
+    text: String,
+) -> Result<Segments<'t>, AllocError>
+    ensures { IfOk result (λ ss. ss ≡
+        spec.behind_dash (compact_view compact.now) (string_bytes text)) }
+{
+    let segments = vec![in alloc;
+        Segment::Keep(compact.before),
+        Segment::Put(compact.old, text),
+        Segment::Keep(Halves::of(compact.last)),
+        Segment::Keep(compact.behind),
+    ]?;
+    Ok(Segments::new(segments))
+}
+
+/// A value behind a dash, in the place of a compact collection.
+pub(crate) fn compact_put<'t>(
+    alloc: Global,
+    layout: &Layout,
+    compact: &Compact<'t>,
+    value: &Value,
+) -> Result<Segments<'t>, AllocError>
+    ensures { IfOk result (λ ss. ss ≡
+        spec.compact_put (break_text layout.now.br) (compact_view compact.now) (written.written_at
+        layout.now (held_mark_view compact.now.mark) [] (node_of value.now))) }
+{
+    let text = if !is_filled(value) {
+        let text = value_text(alloc, Place::Block, b"", value)?;
+        behind_space(alloc, &text)?
+    } else if takes_compact(compact.mark) {
+        compact_text(alloc, layout, compact.mark, value)?
+    } else {
+        break_and_lines(alloc, layout, compact.mark, value)?
+    };
+    put_behind(alloc, compact, text)
+}
