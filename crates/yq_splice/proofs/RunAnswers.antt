@@ -53,12 +53,15 @@ run_begins t n stem read leads =
     }
 
 -- the same of a run that the code begins
-module _ (t : List ℕ) (n : ℕ) (stem : List Step) (r : Run) (read : read_at t ≡ Some (cut_of t)) (leads : LeadsToHead (cut_of t) n stem) (text : string_bytes r.text ≡ []) (done : r.done ≡ 0) where
-  pub begins : Runs (cut_of t) n stem r
-  begins = subst (λ (d : ℕ). IsRun (cut_of t) n stem (string_bytes r.text) d) (sym done) (subst (λ (l : List ℕ). IsRun (cut_of t) n stem l 0) (sym text) (run_begins t n stem read leads))
+pub begins : (t : List ℕ) (n : ℕ) (stem : List Step) (r : Run) → read_at t ≡ Some (cut_of t) → LeadsToHead (cut_of t) n stem →
+    string_bytes r.text ≡ [] → r.done ≡ 0 → Runs (cut_of t) n stem r
+begins t n stem r read leads text done =
+    subst (λ (d : ℕ). IsRun (cut_of t) n stem (string_bytes r.text) d) (sym done)
+    (subst (λ (l : List ℕ). IsRun (cut_of t) n stem l 0) (sym text) (run_begins t n stem read leads))
 
-  pub begins_with : now_text (cut_of t) r ≡ t
-  begins_with = (λ i. run_text (cut_text (cut_of t)) (text i) (done i)) ∙ text_read t (cut_of t) read
+-- the text of a run in which nothing was put
+pub begins_with : (t : List ℕ) (r : Run) → read_at t ≡ Some (cut_of t) → string_bytes r.text ≡ [] → r.done ≡ 0 → now_text (cut_of t) r ≡ t
+begins_with t r read text done = (λ i. run_text (cut_text (cut_of t)) (text i) (done i)) ∙ text_read t (cut_of t) read
 
 -- a path ends there, if the steps above its last one are those to the head and others
 pub ends_there : (path above stem left : List Step) (s : Step) → Some (above, s) ≡ last_step path → above ≡ stem ++ left → EndsAt stem left path

@@ -1,4 +1,4 @@
-use Rattle.std.proofs.Common.{◌≡◌, ◌∙◌, ℕ, ◌<◌, ◌^◌, [], List, length, Option, sym, subst}
+use Rattle.std.proofs.Common.{◌≡◌, ◌∙◌, ℕ, ◌<◌, ◌^◌, List, length, Option, sym, subst}
 use Rattle.std.specs.Prelude.{IfSome}
 use Rattle.yq_documents.specs.Reading.{cut_of}
 use Rattle.yq_flow_edits.proofs.CutLaws.{text_small}
@@ -21,7 +21,7 @@ pub operations-init : goal.operations-init
 operations-init c =
     let t : List ℕ = c.args.cut.now in
     let new = c.in_ok-run.ensures in
-    let text : now_text (cut_of t) c.in_ok-run.run' ≡ t = begins_with t 0 [] c.in_ok-run.run' c.text-text.ensures.read new.text new.done in
+    let text : now_text (cut_of t) c.in_ok-run.run' ≡ t = begins_with t c.in_ok-run.run' c.text-text.ensures.read new.text new.done in
     record {
       same = c.on_the_way-way.ensures;
       whole = (λ i. behind (new.splices i) (carry_all (operations_of c.args.ops.now) (text i))) ∙ behind_none (carry_all (operations_of c.args.ops.now) t);

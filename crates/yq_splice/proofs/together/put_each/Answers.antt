@@ -20,7 +20,7 @@ pub operations-init : goal.operations-init
 operations-init c =
     let t : List ℕ = c.args.cut.now in
     let steps = map step_of c.args.stem.now in
-    let text : now_text (cut_of t) c.new-run.result ≡ t = begins_with t c.args.doc steps c.new-run.result c.text-text.ensures.read c.requires.head.leads c.new-run.ensures.text c.new-run.ensures.done in
+    let text : now_text (cut_of t) c.new-run.result ≡ t = begins_with t c.new-run.result c.text-text.ensures.read c.new-run.ensures.text c.new-run.ensures.done in
     record {
       head = c.requires.head;
       whole = (λ i. behind (c.new-run.ensures.splices i) (carry_all (operations_of c.args.ops.now) (text i))) ∙ behind_none (carry_all (operations_of c.args.ops.now) t);
