@@ -1,4 +1,4 @@
-"""The crates of the repository, as crates.txt lists them, the command that proves them, and how many checks fit side by side."""
+"""The crates of the repository, as crates.txt lists them, the command that proves them, and what a run of it took."""
 
 import os
 import re
@@ -8,26 +8,23 @@ import time
 ROOT = os.path.dirname(os.path.dirname(os.path.abspath(__file__)))
 # The toolchain's command; another one may stand in the environment, as RT="nice rt".
 RT = os.environ.get("RT", "rt").split()
-# The limit of the control group on memory, in its two versions, and what of it is held and can't be given back.
-LIMITS = (
-    ("/sys/fs/cgroup/memory.max", "/sys/fs/cgroup/memory.stat", r"^anon (\d+)"),
-    ("/sys/fs/cgroup/memory/memory.limit_in_bytes", "/sys/fs/cgroup/memory/memory.stat", r"^total_rss (\d+)"),
-)
 
 
 def libraries():
     """For each crate, lowest first, the crates of the repository below it, lowest first."""
-    named = {}
     with open(os.path.join(ROOT, "crates.txt"), encoding="utf-8") as lines:
-        for line in lines:
-            name, colon, rest = line.partition("#")[0].partition(":")
-            if colon:
-                named[name.split()[0]] = rest.split()
+        named = {name_of(line): line.partition("#")[0].partition(":")[2].split() for line in lines if name_of(line)}
     below = {}
     for name, direct in named.items():
         known = {it for library in direct for it in [library, *below.get(library, ())] if it in named}
         below[name] = [it for it in below if it in known]
     return below
+
+
+def name_of(line):
+    """The crate that a line of crates.txt lists, or None."""
+    name, colon, _ = line.partition("#")[0].partition(":")
+    return name.split()[0] if colon else None
 
 
 def number_in(path, pattern):
@@ -38,21 +35,6 @@ def number_in(path, pattern):
     except OSError:
         return None
     return int(found[1]) if found else None
-
-
-def free_memory():
-    """How many bytes of memory are free, under the limit of the control group too."""
-    free = [1024 * number_in("/proc/meminfo", r"^MemAvailable:\s+(\d+)")]
-    for limit, held, pattern in LIMITS:
-        most, taken = number_in(limit, r"(\d+)"), number_in(held, pattern)
-        if most is not None and taken is not None:
-            free.append(most - taken)
-    return min(free)
-
-
-def that_fit(memory):
-    """How many checks of so much memory fit side by side, one a processor at most, and at least one."""
-    return max(1, min(len(os.sched_getaffinity(0)), free_memory() // memory))
 
 
 def folder(crate):

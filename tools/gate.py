@@ -76,10 +76,10 @@ def tell_times(tasks):
             say(f"the page of the gate isn't written: {why}")
 
 
-def prove(anew):
-    """Runs `rt ci`, passes its lines on, and gives its status, what was seen of its checks, and why it failed."""
-    how = {"cwd": ROOT, "stdout": subprocess.PIPE, "stderr": subprocess.STDOUT, "encoding": "utf-8", "errors": "replace"}
-    rt = subprocess.Popen([*RT, "ci", *anew], **how)
+def prove(top, words, hear=lambda line: None):
+    """Runs `rt ci` in a folder, passes its lines on, and gives its status, what was seen of its checks, and why it failed."""
+    how = {"cwd": top, "stdout": subprocess.PIPE, "stderr": subprocess.STDOUT, "encoding": "utf-8", "errors": "replace"}
+    rt = subprocess.Popen([*RT, "ci", *words], **how)
     watch, reasons = Watch(rt.pid, begins, ends), Reasons()
     try:
         for line in each_line(rt.stdout):
@@ -90,6 +90,7 @@ def prove(anew):
             if told:
                 watch.end(told[1], TESTS if told[2] else PROOF)
             reasons.hear(line)
+            hear(line)
             say(line)
         rt.wait()
     except KeyboardInterrupt:
@@ -127,7 +128,7 @@ def main(words):
         return 2
     sys.stdout.reconfigure(errors="replace")
     signal.signal(signal.SIGTERM, lambda *_: sys.exit(143))
-    status, tasks, reasons = prove(words[1:])
+    status, tasks, reasons = prove(ROOT, words[1:])
     end = reasons.told()
     if status == 0:
         tell_times(tasks)
