@@ -34,7 +34,7 @@ fn quoted_head(alloc: Global, head: &str) -> Result<Head<'_>, AllocError>
 }
 
 /// Whether a head is a plain scalar on one line.
-fn is_short_plain(head: &str) -> bool
+pub fn is_short_plain(head: &str) -> bool
     ensures { result ≡ spec.is_short_plain head.now }
 {
     let bytes = head.as_bytes();

@@ -4,4 +4,4 @@
 mod flow_keys;
 mod head;
 
-pub use head::{read_head, row_head};
+pub use head::{is_short_plain, read_head, row_head};

@@ -5,7 +5,6 @@ ghost use Rattle.yq_nodes.specs.Values as values;
 ghost use Rattle.yq_places.specs.NodesAt.{node_in, scalar_in};
 ghost use Rattle.yq_documents.specs.Located.{steps_of};
 ghost use Rattle.yq_documents.specs.Reading.{cut_of};
-ghost use Rattle.yq_documents.specs.RowReading as reading;
 ghost use Rattle.yq_places.specs.StandingViews.{IsHeldRow};
 ghost use Rattle.yq_edits.specs.Replacing as spec;
 ghost use Rattle.yq_edits.specs.Style as style;
@@ -13,9 +12,9 @@ ghost use Rattle.yq_edits.specs.Style as style;
 use std::alloc::{AllocError, Global};
 use yq_documents::Path;
 use yq_edits::is_same;
-use yq_flow_reading::plain::holds_break;
 use yq_flow_scalars::{Kind, Scalar, resolve};
-use yq_nodes::{Value, first_is, is_quoted};
+use yq_heads::is_short_plain;
+use yq_nodes::Value;
 use yq_places::{CutText, HeldRow};
 
 /// Whether a value is a scalar.
@@ -58,16 +57,6 @@ pub fn is_kept(
         return Ok(false);
     };
     Ok(is_scalar(kind, old.text(), value))
-}
-
-/// Whether a head is a plain scalar on one line.
-fn is_short_plain(head: &str) -> bool
-    ensures { result ≡ reading.is_short_plain head.now }
-{
-    let bytes = head.as_bytes();
-    let other = is_quoted(bytes)
-        || (first_is(b'*', bytes) || (first_is(b'[', bytes) || first_is(b'{', bytes)));
-    !other && !holds_break(head)
 }
 
 /// Whether a plain text on one line may stand for a scalar: that is null, or its text.
