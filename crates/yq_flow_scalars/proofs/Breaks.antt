@@ -1,5 +1,5 @@
 -- What a search for the next LF tells of breaks.
-use Rattle.std.proofs.Common.{◌≡◌, ℕ, suc, ◌+◌, ◌<◌, ◌≤◌, true, false, cond, not, min, eqb, eqb-true, List, [], ◌∷◌, length, Option, Some, None, refl, sym, ap, ◌∙◌, arith}
+use Rattle.std.proofs.Common.{◌≡◌, ℕ, suc, ◌+◌, ◌<◌, ◌≤◌, true, false, cond, not, min, eqb, eqb-true, List, [], ◌∷◌, length, Option, Some, None, refl, sym, ap, ◌∙◌, arith, rules}
 use Rattle.std.proofs.lemmas.Bool.{false_from_ne_true}
 use Rattle.std.proofs.lemmas.List.Sums.{position_or_len_is}
 use Rattle.std.specs.List.{position_or_len}
@@ -19,8 +19,7 @@ feed-position (b ∷ bs) = let again = feed-position bs in
 pub first_feed : (t : List ℕ) (r : Option ℕ) → IsFirstByte (is_byte 10) t r → unwrap_or r (length t) ≡ upto at_feed t
 first_feed t None h = rw feed-position (sym (position_or_len_is (is_byte 10) t (length t) 0 (omega arith)
     (λ k below. false_from_ne_true _ (h k (omega arith) below)) (λ past. absurd (omega arith))))
-first_feed t (Some i) h = rw feed-position (sym (position_or_len_is (is_byte 10) t i 0 (omega (arith, h.0.high))
-    (λ k below. false_from_ne_true _ (h.0.before k (omega arith) below)) (λ _. h.1)))
+first_feed t (Some i) h = search (rules, feed-position, position_or_len_is, false_from_ne_true)
 
 -- a line ends behind its LF, or at the end
 pub line_len-feed : (t : List ℕ) → line_len t ≡ min (upto at_feed t + 1) (length t)

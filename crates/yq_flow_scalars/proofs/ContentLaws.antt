@@ -1,5 +1,5 @@
 -- What is read as the content of a scalar is what its lines stand for.
-use Rattle.std.proofs.Common.{◌≡◌, ℕ, ◌+◌, ◌-◌, ◌<◌, Bool, true, false, cond, eqb, List, [], ◌∷◌, ◌++◌, length, take, drop, get_or, Option, Result, Ok, Err, IfOk, refl, sym, inl, inr, ◌&&◌, ap, ◌∙◌, subst, arith, eqb-true, append_assoc, append-nil, length-append, length-drop}
+use Rattle.std.proofs.Common.{◌≡◌, ℕ, ◌+◌, ◌-◌, ◌<◌, Bool, true, false, cond, eqb, List, [], ◌∷◌, ◌++◌, length, take, drop, get_or, Option, Result, Ok, Err, IfOk, refl, sym, inl, inr, ◌&&◌, ap, ◌∙◌, subst, arith, eqb-true, append_assoc, append-nil, length-append, length-drop, rules}
 use Rattle.std.proofs.lemmas.Bool.{false≢true, and_parts, cases_Bool, or_parts}
 use Rattle.std.proofs.Math.Seq.{take-append_seam}
 use Rattle.std.proofs.Math.Utf8.{encode}
@@ -35,9 +35,7 @@ unfolding content_on
 escape_means c e t h before w = rw (h.line t, h.reads t) (ap (λ l. filled before w ++ (encode c ++ l)) (content_over 34 within [] e t))
 
 no_later_feed : (t rest : List ℕ) (b : Bool) → (b && front is_feed (t ++ rest)) ≡ false → (b && front is_feed t) ≡ false
-no_later_feed [] rest true h = refl
-no_later_feed [] rest false h = refl
-no_later_feed (c ∷ t) rest b h = h
+no_later_feed t rest b h1 = search rules
 
 -- a byte that begins no break, and is neither a backslash in double quotes nor a quote in single ones
 pub itself_means : (q b : ℕ) (t : List ℕ) → is_break (b ∷ t) ≡ false → (eqb q 34 && eqb b 92) ≡ false → is_pair q (b ∷ t) ≡ false → Means q (itself b) t
@@ -54,12 +52,7 @@ unfolding content_on
 doubled_means t before w = refl
 
 no_pair : (q b : ℕ) (t : List ℕ) → eqb b q ≡ false → is_pair q (b ∷ t) ≡ false
-no_pair q b t h = elim (cases_Bool (is_pair q (b ∷ t))) [
-  | inl e ↦ absurd (let p = and_parts (eqb q 39 && eqb b 39) (front (λ c. eqb c 39) t) e in
-      let r = and_parts (eqb q 39) (eqb b 39) p.0 in
-      let other : eqb b 39 ≡ false = subst (λ (x : ℕ). eqb b x ≡ false) (eqb-true q 39 r.0) h in false≢true (sym other ∙ r.1))
-  | inr e ↦ e
-]
+no_pair q b t h = search (rules, cases_Bool, and_parts, eqb-true, false≢true)
 
 char_means : (q : ℕ) (c : Char) (t rest : List ℕ) → IsChar q c (t ++ rest) → Means q c t
 char_means q (itself b) t rest h =
@@ -215,9 +208,7 @@ boundary_close q ls piece rest inner is e =
 
 -- what stands between the quotes
 pub between_quotes : (piece inner : List ℕ) → inner ≡ drop 1 piece → take (length inner - 1) inner ≡ take (length piece - 2) (drop 1 piece)
-between_quotes piece inner e =
-    let size : length inner - 1 ≡ length piece - 2 = omega (arith, ap length e, length-drop 1 piece) in
-    ap (λ k. take k inner) size ∙ ap (take (length piece - 2)) e
+between_quotes piece inner e = search (rules, length-drop)
 
 pub if_ok_same : {X E : Type 0} (r : Result X E) (f : X → List ℕ) (x y : List ℕ) → IfOk r (λ s. f s ≡ x) → x ≡ y → IfOk r (λ s. f s ≡ y)
 if_ok_same (Ok s) f x y h e = h ∙ e

@@ -1,5 +1,5 @@
 -- Quoted scalars: what is read is what is written.
-use Rattle.std.proofs.Common.{◌≡◌, ℕ, ◌+◌, Bool, true, false, ◌&&◌, eqb, eq-eqb, List, [], ◌∷◌, ◌++◌, length, Some, refl, sym, ap, ◌∙◌, subst, inl, inr, ◌⊎◌, arith, append_assoc, length-append}
+use Rattle.std.proofs.Common.{◌≡◌, ℕ, ◌+◌, Bool, true, false, ◌&&◌, eqb, eq-eqb, List, [], ◌∷◌, ◌++◌, length, Some, refl, sym, ap, ◌∙◌, subst, inl, inr, ◌⊎◌, arith, append_assoc, length-append, rules}
 use Rattle.std.proofs.lemmas.Bool.{or_parts}
 use Rattle.yq_flow_scalars.specs.Answers.{more}
 use Rattle.yq_flow_scalars.specs.Text.{is_feed, is_return, is_marker, front}
@@ -38,9 +38,7 @@ char_again q (code letter digits) t h =
 
 -- one more piece in front
 in_front : (q : ℕ) (p r t : List ℕ) → quoted_len q 0 (p ++ (r ++ t)) ≡ more (length p) (quoted_len q 0 (r ++ t)) → quoted_len q 0 (r ++ t) ≡ more (length r) (quoted_len q 0 t) → quoted_len q 0 ((p ++ r) ++ t) ≡ more (length (p ++ r)) (quoted_len q 0 t)
-in_front q p r t first rest =
-    ap (quoted_len q 0) (append_assoc p r t) ∙ (first ∙ (ap (more (length p)) rest
-    ∙ (sym (more_more (length p) (length r) (quoted_len q 0 t)) ∙ ap (λ n. more n (quoted_len q 0 t)) (sym (length-append p r)))))
+in_front q p r t first rest = search (rules, append_assoc, more_more, length-append)
 
 pub chars_again : (q : ℕ) (cs : List Char) (t : List ℕ) → AreChars q cs t → quoted_len q 0 (spell_chars cs ++ t) ≡ more (length (spell_chars cs)) (quoted_len q 0 t)
 chars_again q [] t h = sym (more_none (quoted_len q 0 t))
@@ -70,11 +68,7 @@ slash_again line_feed t = refl
 slash_again return_feed t = refl
 
 end_again : (q : ℕ) (escaped : Bool) (b : Break) (t : List ℕ) → (q ≡ 34) ⊎ (q ≡ 39) → (escaped ≡ true → q ≡ 34) → is_marker t ≡ false → quoted_len q 0 (spell_end escaped b ++ t) ≡ more (length (spell_end escaped b)) (quoted_len q 0 t)
-end_again q true b t quotes double h =
-    let own : quoted_len 34 0 (92 ∷ (spell_break b ++ t)) ≡ more (length (92 ∷ spell_break b)) (quoted_len 34 0 t) =
-    in_front 34 (92 ∷ []) (spell_break b) t (slash_again b t) (break_double b t h) in
-    subst (λ (x : ℕ). quoted_len x 0 (92 ∷ (spell_break b ++ t)) ≡ more (length (92 ∷ spell_break b)) (quoted_len x 0 t)) (sym (double refl)) own
-end_again q false b t quotes double h = break_again q b t quotes h
+end_again q escaped b t h1 h2 h3 = search (rules, in_front, slash_again, break_double, break_again)
 
 pub lines_again : (q : ℕ) (ls : Lines) (t : List ℕ) → (q ≡ 34) ⊎ (q ≡ 39) → AreLines q ls t → quoted_len q 0 (spell_lines ls ++ t) ≡ more (length (spell_lines ls)) (quoted_len q 0 t)
 lines_again q (last cs) t quotes h = chars_again q cs t h
@@ -111,11 +105,7 @@ push_spelled c (line cs escaped b ls) = append_assoc (spell_char c) (spell_chars
 
 push_are : (q : ℕ) (c : Char) (ls : Lines) (t : List ℕ) → IsChar q c (spell_lines ls ++ t) → AreLines q ls t → AreLines q (push c ls) t
 unfolding push
-push_are q c (last cs) t is h = (is, h)
-push_are q c (line cs escaped b ls) t is h =
-    let same : (spell_chars cs ++ (spell_end escaped b ++ spell_lines ls)) ++ t ≡ spell_chars cs ++ (spell_end escaped b ++ (spell_lines ls ++ t)) =
-    append_assoc (spell_chars cs) (spell_end escaped b ++ spell_lines ls) t ∙ ap (λ l. spell_chars cs ++ l) (append_assoc (spell_end escaped b) (spell_lines ls) t) in
-    ((subst (IsChar q c) same is, h.0), h.1, h.2, h.3)
+push_are q c ls t h1 h2 = search (rules, append_assoc)
 
 pub read_char : (q n m : ℕ) (c : Char) (t u : List ℕ) → u ≡ spell_char c ++ t → IsChar q c t → Read q t n → m ≡ length (spell_char c) + n → Read q u m
 read_char q n m c t u e is r size = record {
