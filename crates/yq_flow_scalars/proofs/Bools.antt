@@ -40,3 +40,5 @@ not_byte b k lt = false_from_ne_true (eqb b k) (λ e. let same : b ≡ k = eqb-t
 
 pub none_of : (a b c : Bool) → not (a || b || c) ≡ true → (a ≡ false) × (b ≡ false) × (c ≡ false)
 none_of a b c h1 = search (rules, false≢true)
+
+pub ruleset more_steps = (more_more, more_none, more_zero)
