@@ -43,10 +43,6 @@ hex_takes (suc n) v w (b ∷ bs) h =
 letter_not : (letter c k : ℕ) → beside letter letters ≡ Some c → beside k letters ≡ None → eqb letter k ≡ false
 letter_not letter c k h none = search (rules, cases_Bool, eqb-true)
 
-letter_again : (letter c : ℕ) (rest : List ℕ) → beside letter letters ≡ Some c → escape (letter ∷ rest) ≡ Some (c, 1)
-unfolding escape
-letter_again letter c rest h = search (rules, letter_not)
-
 letter_line : (letter c : ℕ) (rest : List ℕ) → beside letter letters ≡ Some c → is_break (letter ∷ rest) ≡ false
 letter_line letter c rest h = rw (letter_not letter c 10 h refl, letter_not letter c 13 h refl) refl
 
@@ -68,23 +64,15 @@ pub record IsEscape (c : ℕ) (e : List ℕ) : Type 0 where
   pub reads : (t : List ℕ) → escape (e ++ t) ≡ Some (c, length e)
   pub line : (t : List ℕ) → is_break (e ++ t) ≡ false
 
-coded_again : (n letter : ℕ) (digits t : List ℕ) → n ≡ length digits → AllDigits 16 digits → is_unicode (digits_value 16 digits) ≡ true → coded n (hex n 0 (digits ++ t)) ≡ Some (digits_value 16 digits, suc (length digits))
-coded_again n letter digits t e all is = rw (e, hex_again 0 digits t all, is) refl
-
 -- digits behind their letter are an escape
 pub code_escape : (letter : ℕ) (digits : List ℕ) → beside letter digit_counts ≡ Some (length digits) → AllDigits 16 digits → is_unicode (digits_value 16 digits) ≡ true → IsEscape (digits_value 16 digits) (letter ∷ digits)
 unfolding escape
-code_escape letter digits h all is = elim (counted letter (length digits) h) [
-  | inl x ↦ record { reads = λ t. rw (x.0) (coded_again 2 letter digits t (sym x.1) all is); line = λ t. rw (x.0) refl }
-  | inr x ↦ elim x [
-    | inl y ↦ record { reads = λ t. rw (y.0) (coded_again 4 letter digits t (sym y.1) all is); line = λ t. rw (y.0) refl }
-    | inr y ↦ record { reads = λ t. rw (y.0) (coded_again 8 letter digits t (sym y.1) all is); line = λ t. rw (y.0) refl }
-  ]
-]
+code_escape letter digits h all is = search (rules, hex_again, counted)
 
 -- a letter of the table is an escape
 pub letter_is_escape : (letter c : ℕ) → beside letter letters ≡ Some c → IsEscape c (letter ∷ [])
-letter_is_escape letter c h = record { reads = λ t. letter_again letter c t h; line = λ t. letter_line letter c t h }
+unfolding escape
+letter_is_escape letter c h = search (rules, letter_not, letter_line)
 
 -- a character that was read behind a backslash
 pub record Escaped (c k : ℕ) (t : List ℕ) : Type 0 where

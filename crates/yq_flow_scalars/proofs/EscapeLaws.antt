@@ -85,12 +85,8 @@ go_item q k n [] z le opened h e = absurd (omega arith)
 go_item q k n (b ∷ bs) z le opened h e =
     rw (rest_is) (more_more n (k + 1) (quoted_len q 0 (drop k bs)) ∙ (ap (more n) (sym (length_item q b k bs opened (ap (behind q b) (sym (rest_is b bs)) ∙ h))) ∙ e))
 
--- escapes are ASCII
-value_ascii : (b : ℕ) → digit_value b < 16 → b < 128
-value_ascii b h = search (rules, cases_lt, le-ltb)
-
 digit_ascii : (b d : ℕ) → hex_digit b ≡ Some d → b < 128
-digit_ascii b d h = let g = cond_some (is_digit 16 b) _ _ h in value_ascii b (ltb-true (digit_value b) 16 g.0)
+digit_ascii b d h = search (rules, cases_lt, le-ltb, cond_some, ltb-true)
 
 hex_ascii : (n v w : ℕ) (t : List ℕ) → hex n v t ≡ Some w → (j : ℕ) → j < n → get_or t j 0 < 128
 unfolding hex

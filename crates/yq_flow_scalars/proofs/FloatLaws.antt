@@ -2,7 +2,7 @@
 use Rattle.std.proofs.Common.{◌≡◌, ℕ, Bool, true, false, eqb, ◌||◌, List, [], ◌∷◌, ◌++◌, refl, sym, ap, ◌∙◌, subst, arith, inl, inr, eqb-true, append_assoc, rules}
 use Rattle.std.specs.Str.Parse.{IsNumeral}
 use Rattle.std.proofs.lemmas.Bool.{false≢true, cases_Bool, and_parts, or_cases, or_left, or_right, lt-ltb}
-use Rattle.yq_flow_scalars.specs.Numbers.{Sign, spell_sign, Mantissa, fraction, whole, pointed, spell_mantissa, IsMantissa, Exponent, absent, lower, upper, spell_exponent, IsExponent}
+use Rattle.yq_flow_scalars.specs.Numbers.{spell_sign, Mantissa, fraction, whole, pointed, spell_mantissa, IsMantissa, Exponent, absent, lower, upper, spell_exponent, IsExponent}
 use Rattle.yq_flow_scalars.specs.Schema.{infinity_words, nan_words, IsOneOf, IsFloat}
 use Rattle.yq_flow_scalars.specs.SchemaReading.{past_digits, past_sign, sign_of, are_digits, is_exponent, front_digit, ends_number, is_number, is_one_of, is_float}
 use Rattle.yq_flow_scalars.proofs.WordLaws.{word_takes, word_again, word_among}
@@ -29,10 +29,6 @@ exponent_takes (b ∷ bs) h =
 
 exponent_again : (e : Exponent) → IsExponent e → is_exponent (spell_exponent e) ≡ true
 exponent_again e h1 = search (rules, past_spelled, digits_again)
-
--- no digit is in front of an exponent
-exponent_front : (e : Exponent) → front_digit (spell_exponent e) ≡ false
-exponent_front e = search rules
 
 front_numeral : (t : List ℕ) → front_digit t ≡ true → IsNumeral 10 (digits_in 10 t)
 front_numeral [] h = absurd (false≢true h)
@@ -97,7 +93,7 @@ ends_exponent : (e : Exponent) → IsExponent e → ends_number true (spell_expo
 ends_exponent e h1 = search (rules, exponent_again)
 
 pub number_again : (m : Mantissa) (e : Exponent) → IsMantissa m → IsExponent e → is_number (spell_mantissa m ++ spell_exponent e) ≡ true
-number_again m e h1 h2 = search (rules, numeral_front, past_append, exponent_front, exponent_again, ends_exponent, append_assoc)
+number_again m e h1 h2 = search (rules, numeral_front, past_append, exponent_again, ends_exponent, append_assoc)
 
 no_sign_before : (digits rest : List ℕ) → IsNumeral 10 digits → past_sign (digits ++ rest) ≡ digits ++ rest
 no_sign_before [] rest h = absurd (omega (arith, h.0))
@@ -106,9 +102,6 @@ no_sign_before (d ∷ ds) rest h = rw (not_digit d 43 h.1.0 refl, not_digit d 45
 -- a mantissa has no sign in front
 mantissa_no_sign : (m : Mantissa) (t : List ℕ) → IsMantissa m → past_sign (spell_mantissa m ++ t) ≡ spell_mantissa m ++ t
 mantissa_no_sign m t h1 = search (rules, no_sign_before, append_assoc)
-
-past_signed : (sign : Sign) (t : List ℕ) → past_sign t ≡ t → past_sign (spell_sign sign ++ t) ≡ t
-past_signed sign t h1 = search rules
 
 words_no_sign : (word : List ℕ) → IsOneOf infinity_words word → past_sign word ≡ word
 words_no_sign word h = word_among (λ w. past_sign w ≡ w) infinity_words word (refl, (refl, (refl, tt))) h
@@ -127,4 +120,4 @@ float_takes t h = elim (or_cases (is_number (past_sign t) || is_one_of infinity_
 
 pub float_again : (t : List ℕ) → IsFloat t → is_float t ≡ true
 unfolding is_float
-float_again t h1 = search (rules, past_signed, mantissa_no_sign, or_left, number_again, words_no_sign, or_right, word_again)
+float_again t h1 = search (rules, mantissa_no_sign, or_left, number_again, words_no_sign, or_right, word_again)

@@ -36,11 +36,6 @@ over_space q g w (b ∷ s) r h = elim (cases_Bool (is_white b)) [
   ]
 ]
 
--- where no space is in front, the gap is filled
-fill : (q : ℕ) (g : Before) (w r : List ℕ) → is_space r ≡ false → content_on q 0 g w r ≡ filled g w ++ content_on q 0 within [] r
-unfolding content_on
-fill q g w r h1 = search (rules, append-nil, or_parts)
-
 times_joined : (k n : ℕ) → times k (after (joined n)) ≡ after (joined (n + k))
 times_joined zero n = ap (λ (i : ℕ). after (joined i)) (omega arith)
 times_joined (suc k) n = times_joined k (suc n) ∙ ap (λ (i : ℕ). after (joined i)) (omega arith)
@@ -79,16 +74,14 @@ filled_is true s r h e = ap (λ g. filled g (since [] s)) (times_joined (breaks 
 filled_is false s r h e = spaced_is (breaks s) s r h e refl
 
 pub content_space : (q : ℕ) (j : Bool) (s r : List ℕ) → NoneIn no_gap s r → is_space r ≡ false → content_on q 0 (before_of j) [] (s ++ r) ≡ space_text j s ++ content_on q 0 within [] r
-content_space q j s r h e = over_space q (before_of j) [] s r h ∙ (fill q (times (breaks s) (before_of j)) (since [] s) r e ∙ ap (λ l. l ++ content_on q 0 within [] r) (filled_is j s r h e))
+unfolding content_on
+content_space q j s r h e = search (rules, append-nil, or_parts, over_space, filled_is)
 
 -- behind the white space and breaks in front stands none
 pub space_ends : (t : List ℕ) → is_space (drop (upto no_gap t) t) ≡ false
 unfolding upto
 space_ends [] = refl
-space_ends (b ∷ bs) = elim (cases_Bool (is_space (b ∷ bs))) [
-  | inl s ↦ rw s (space_ends bs)
-  | inr s ↦ rw s s
-]
+space_ends (b ∷ bs) = search (rules, cases_Bool, space_ends bs)
 
 -- a step of the loop: the run of white space and breaks in front
 pub content_gap : (q : ℕ) (j : Bool) (t : List ℕ) → content_on q 0 (before_of j) [] t ≡ space_text j (take (upto no_gap t) t) ++ content_on q 0 within [] (drop (upto no_gap t) t)

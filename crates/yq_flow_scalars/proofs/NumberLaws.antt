@@ -3,7 +3,7 @@ use Rattle.std.proofs.Common.{◌≡◌, ℕ, ◌<◌, Bool, true, false, cond, 
 use Rattle.std.specs.Char.{digit_value}
 use Rattle.std.specs.Str.Parse.{IsNumeral, digits_value}
 use Rattle.std.proofs.lemmas.Bool.{false≢true, cases_Bool, and_parts, and_right, ne_eqb, lt-ltb}
-use Rattle.yq_flow_scalars.specs.Numbers.{Sign, spell_sign, Integer, decimal, octal, hexadecimal, spell_integer, IsInteger, number_of, signed}
+use Rattle.yq_flow_scalars.specs.Numbers.{Sign, spell_sign, decimal, octal, hexadecimal, signed}
 use Rattle.yq_flow_scalars.specs.Schema.{IsIntOf}
 use Rattle.yq_flow_scalars.specs.SchemaReading.{has_base, past_sign, sign_of, are_digits, based_number, decimal_number, int_number, is_int}
 use Rattle.yq_flow_scalars.proofs.DigitLaws.{digits_takes, digits_again}
@@ -16,12 +16,8 @@ not_digit b k h e = ne_eqb b k (λ p. let q : ltb (digit_value k) 10 ≡ true = 
 base_cut : (letter : ℕ) (t : List ℕ) → has_base letter t ≡ true → t ≡ 48 ∷ letter ∷ drop 2 t
 base_cut letter t h1 = search (rules, false≢true, and_parts, eqb-true)
 
--- digits have no base in front
-no_base : (letter : ℕ) (digits : List ℕ) → ltb (digit_value letter) 10 ≡ false → IsNumeral 10 digits → has_base letter digits ≡ false
-no_base letter digits h1 h2 = search (rules, and_right, not_digit)
-
 no_signed_base : (letter : ℕ) (sign : Sign) (digits : List ℕ) → ltb (digit_value letter) 10 ≡ false → IsNumeral 10 digits → has_base letter (spell_sign sign ++ digits) ≡ false
-no_signed_base letter sign digits h1 h2 = search (rules, no_base)
+no_signed_base letter sign digits h1 h2 = search (rules, and_right, not_digit)
 
 -- digits have no sign in front
 pub past_no_sign : (digits : List ℕ) → IsNumeral 10 digits → past_sign digits ≡ digits
@@ -64,12 +60,9 @@ int_takes t n h = elim (cases_Bool (has_base 111 t)) [
   ]
 ]
 
-spelled_again : (i : Integer) → IsInteger i → int_number (spell_integer i) ≡ Some (number_of i)
-unfolding int_number
-spelled_again i h1 = search (rules, no_signed_base, past_spelled, sign_spelled, digits_again, based_again)
-
 pub int_again : (t : List ℕ) (n : ℤ) → IsIntOf t n → int_number t ≡ Some n
-int_again t n (i, spelled, is, value) = rw (spelled, value) (spelled_again i is)
+unfolding int_number
+int_again t n (i, spelled, is, value) = search (rules, no_signed_base, past_spelled, sign_spelled, digits_again, based_again)
 
 -- the test says whether there is a number
 pub int_has_number : (t : List ℕ) → is_int t ≡ is_some (int_number t)

@@ -15,9 +15,6 @@ use Rattle.yq_flow_scalars.proofs.QuotedLaws.{of_quotes}
 quote_is : (b : ℕ) → is_quote b ≡ true → (b ≡ 34) ⊎ (b ≡ 39)
 quote_is b h = elim (or_cases (eqb b 34) (eqb b 39) h) [ inl e ↦ inl (eqb-true b 34 e) | inr e ↦ inr (eqb-true b 39 e) ]
 
-is_quote_again : (q : ℕ) → (q ≡ 34) ⊎ (q ≡ 39) → is_quote q ≡ true
-is_quote_again q quotes = of_quotes (λ x. is_quote x ≡ true) q quotes refl refl
-
 cut_is : (t p r : List ℕ) (n : ℕ) → t ≡ p ++ r → n ≡ length p → cut_at t (Some n) ≡ Some (p, r)
 cut_is t p r n e size = rw (e, size, take-append_seam, drop-append_seam) refl
 
@@ -51,7 +48,7 @@ quoted_takes [] x h = absurd (let e : None ≡ Some x = h in cc)
 quoted_takes (b ∷ bs) x h = by_len b bs x (scalar_len (b ∷ bs)) refl h
 
 pub quoted_again : (q : ℕ) (ls : Lines) (piece rest : List ℕ) → IsQuoted q ls piece rest → quoted_at (piece ++ rest) ≡ Some (piece, rest)
-quoted_again q ls piece rest is = search (rules, append_assoc, is_quote_again, lines_are_read, cut_is, length-append)
+quoted_again q ls piece rest is = search (rules, of_quotes, append_assoc, lines_are_read, cut_is, length-append)
 
 -- a text begins with one quoted scalar at most
 pub quoted_one : (q r : ℕ) (ls ms : Lines) (p rest o other : List ℕ) → p ++ rest ≡ o ++ other → IsQuoted q ls p rest → IsQuoted r ms o other → (p ≡ o) × (rest ≡ other)

@@ -87,7 +87,6 @@ read_close : (q b n : ℕ) (bs : List ℕ) → closes q (b ∷ bs) ≡ true → 
 unfolding quoted_len
 read_close q b n bs e h =
     let p = and_parts (eqb b q) (not (eqb q 39 && front (λ c. eqb c 39) bs)) e in
-    let zero_is : Some 0 ≡ Some n = (rw e at h) in
     record {
       ls = last [];
       rest = bs;

@@ -45,5 +45,4 @@ unfolding quoted_len
 no_item q n [] le opened h e = absurd (omega arith)
 no_item q n (b ∷ bs) le opened h e =
     let none : behind q b bs ≡ None = ap (behind q b) (sym (rest_is b bs)) ∙ h in
-    let here : quoted_len q 0 (b ∷ bs) ≡ None = rw opened (rw none refl) in
-    ap (more n) (sym here) ∙ e
+    search (rules, none)

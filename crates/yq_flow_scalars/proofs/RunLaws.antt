@@ -1,5 +1,5 @@
 -- Runs of bytes: what lanes tell.
-use Rattle.std.proofs.Common.{◌≡◌, ℕ, suc, ◌+◌, ◌%◌, ◌^◌, ◌<◌, ◌≤◌, Bool, true, false, cond, ◌||◌, not, eqb, List, [], ◌∷◌, map, length, drop, Fits, w8, refl, ap, ap₂, ◌∙◌, inl, inr, arith, rules}
+use Rattle.std.proofs.Common.{◌≡◌, ℕ, ◌+◌, ◌%◌, ◌^◌, ◌<◌, ◌≤◌, Bool, true, false, cond, ◌||◌, not, eqb, List, [], ◌∷◌, map, length, drop, Fits, w8, refl, ap, ap₂, ◌∙◌, arith, rules}
 use Rattle.std.proofs.lemmas.Bool.{agree_below, agree_below_at, cases_Bool, cases_eq, eq-eqb, ne_eqb}
 use Rattle.std.proofs.lemmas.List.{length-map}
 use Rattle.std.proofs.lemmas.List.Folds.{prefix_len-append}
@@ -24,13 +24,10 @@ each_byte f p all (x ∷ xs) fits = ap₂ (λ a b. a ∷ b) (agree_below_at (λ 
 abbrev pub lane : Bool → ℕ
 lane b = cond b 255 0
 
-any_of : (a b c : Bool) → top 7 (bit_or (bit_or (lane a) (lane b)) (lane c)) ≡ (a || b || c)
-any_of a b c = search rules
-
 -- lanes that are any of three bytes
 pub any_byte : (a b c : ℕ) (v : List ℕ) → map (top 7) (map (λ x. bit_or (bit_or (lane (eqb x a)) (lane (eqb x b))) (lane (eqb x c))) v) ≡ map (λ x. eqb x a || eqb x b || eqb x c) v
 any_byte a b c [] = refl
-any_byte a b c (x ∷ xs) = ap₂ (λ y ys. y ∷ ys) (any_of (eqb x a) (eqb x b) (eqb x c)) (any_byte a b c xs)
+any_byte a b c (x ∷ xs) = search (rules, ap₂, any_byte a b c xs)
 
 -- a run that ends in sixteen bytes, and one that goes over them
 pub run_ends : (q : ℕ → Bool) (d : List ℕ) (i : ℕ) → i + 16 ≤ length d → prefix_len q (chunk i 16 d) < 16 → prefix_len q (drop i d) ≡ prefix_len q (chunk i 16 d)
@@ -52,13 +49,7 @@ pub spaces_run : (t : List ℕ) → prefix_len (goes_on Spaces) t ≡ prefix_len
 spaces_run [] = refl
 spaces_run (b ∷ bs) = ap₂ (λ c n. cond c (1 + n) 0) (not_not (eqb b 32)) (spaces_run bs)
 
-eqb_next : (n m : ℕ) → eqb (1 + n) (suc m) ≡ eqb n m
-eqb_next n m = search (rules, cases_eq, eq-eqb, ne_eqb)
-
 -- a run of bytes of a text goes over all of them
 pub text_run : (t : List ℕ) → eqb (prefix_len (goes_on Text) t) (length t) ≡ list_all is_text_byte t
 text_run [] = refl
-text_run (b ∷ bs) = elim (cases_Bool (is_text_byte b)) [
-  | inl i ↦ rw i (eqb_next (prefix_len (goes_on Text) bs) (length bs) ∙ text_run bs)
-  | inr i ↦ rw i (ne_eqb 0 (suc (length bs)) (λ (e : 0 ≡ suc (length bs)). omega arith))
-]
+text_run (b ∷ bs) = search (rules, cases_eq, eq-eqb, ne_eqb, cases_Bool, text_run bs)
