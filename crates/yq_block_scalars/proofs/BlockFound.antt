@@ -1,5 +1,5 @@
 -- Where the block scalar that is found stands.
-use Rattle.std.proofs.Common.{◌≡◌, ◌≢◌, ℕ, ◌+◌, ◌-◌, ◌≤◌, Bool, true, List, ◌++◌, length, drop, Option, Some, refl, sym, ap, ◌∙◌, arith, length-append, Result, Ok, Err, IfOk, ℤ}
+use Rattle.std.proofs.Common.{◌≡◌, ◌≢◌, ℕ, ◌+◌, ◌-◌, ◌≤◌, Bool, true, List, ◌++◌, length, drop, Option, Some, refl, sym, ap, ◌∙◌, arith, length-append, Result, Ok, Err, IfOk, ℤ, rules}
 use Rattle.std.proofs.lemmas.Bool.{false≢true}
 use Rattle.std.proofs.lemmas.Option.{same_Some}
 use Rattle.yq_block_scalars.proofs.BlockLaws.{block_takes, block_again}
@@ -7,8 +7,8 @@ use Rattle.yq_flow_scalars.proofs.Bools.{bind_some}
 use Rattle.yq_block_scalars.proofs.HeaderLaws.{head_length}
 use Rattle.yq_block_scalars.proofs.LineLaws.{joined_lines, joined-append}
 use Rattle.yq_block_scalars.proofs.RawLaws.{raw_split}
-use Rattle.yq_flow_scalars.specs.Answers.{◌>>=◌, Reads}
-use Rattle.yq_block_scalars.specs.Block.{style_of, is_block_fault, keeps, BlockText, block_piece, IsBlockPiece}
+use Rattle.yq_flow_scalars.specs.Answers.{Reads}
+use Rattle.yq_block_scalars.specs.Block.{style_of, is_block_fault, keeps, IsBlockPiece}
 use Rattle.yq_block_scalars.specs.BlockReading.{raw_at, len_at, indent_at, style_at, indicators_at, values, tail_at, block_behind, block_at, piece_at, block_from}
 use Rattle.yq_flow_scalars.specs.Piece.{deeper}
 use Rattle.yq_flow_scalars.specs.Text.{lines_of, joined}
@@ -52,10 +52,7 @@ from_takes n at text p h =
 
 pub from_again : (n : ℤ) (at : ℕ) (text : List ℕ) (p : Piece) → IsBlockPiece n at text p → block_from n at text ≡ Some p
 unfolding block_from
-from_again n at text p h =
-    ap (λ t. block_at (deeper n) t >>= λ x. Some (block_piece at x.0)) h.stands
-    ∙ (ap (λ (o : Option (BlockText × List ℕ)). o >>= λ x. Some (block_piece at x.0)) (block_again (deeper n) h.block h.rest h.scalar)
-    ∙ ap Some (sym h.piece))
+from_again n at text p h = search (rules, block_again)
 
 -- the public clauses
 pub found_by : {E : Type 0} (n : ℤ) (at : ℕ) (text : List ℕ) (r : Result Piece E) → Reads (λ p. p) r (block_from n at text) → IfOk r (IsBlockPiece n at text)

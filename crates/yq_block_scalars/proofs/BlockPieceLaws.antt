@@ -1,5 +1,5 @@
 -- Where a piece may be cut out of its text.
-use Rattle.std.proofs.Common.{◌≡◌, ℕ, suc, ◌+◌, ◌-◌, ◌<◌, ◌≤◌, true, eqb, List, [], ◌∷◌, ◌++◌, length, take, drop, get_or, Option, Some, None, refl, sym, ap, ◌∙◌, subst, inl, inr, ◌⊎◌, ⊎_elim, arith, eqb-true, append_assoc, append-nil, length-append, length-take, length-drop, min, ℤ}
+use Rattle.std.proofs.Common.{◌≡◌, ℕ, suc, ◌+◌, ◌-◌, ◌<◌, ◌≤◌, true, eqb, List, [], ◌∷◌, ◌++◌, length, take, drop, get_or, Option, refl, sym, ap, ◌∙◌, subst, inl, inr, ◌⊎◌, ⊎_elim, arith, eqb-true, append_assoc, append-nil, length-append, length-take, length-drop, min, ℤ, rules}
 use Rattle.std.proofs.lemmas.Bool.{false≢true, and_parts, cases_Bool}
 use Rattle.std.proofs.lemmas.List.{take-append-drop, drop-drop}
 use Rattle.std.proofs.Math.Seq.{take-append_seam, drop-append_seam}
@@ -109,10 +109,7 @@ stands n text p u h =
 
 indent_same : (least : ℕ) (digit : Option ℕ) (f : TextIndent) (raw : Lines) → IsTextIndent least digit f raw → AreRaw f raw → indent_of digit f.columns (lines_of (joined raw)) ≡ f
 unfolding indent_of
-indent_same least None f raw h a = rw (detect_back least f raw h a) refl
-indent_same least (Some d) f raw h a =
-    let deep : f.columns ≡ least + d - 1 = ap (λ (g : TextIndent). g.columns) h in
-    ap (λ k. record { columns = k; known = true }) deep ∙ sym h
+indent_same least digit f raw h1 h2 = search (rules, detect_back)
 
 style_same : (s : BlockStyle) → block_style (style_of s) ≡ s
 style_same styles.Literal = refl

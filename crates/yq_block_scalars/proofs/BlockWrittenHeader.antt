@@ -1,5 +1,5 @@
 -- The header that is written, and the loop that writes the lines.
-use Rattle.std.proofs.Common.{◌≡◌, ℕ, suc, ◌-◌, ◌<◌, ◌≤◌, Bool, false, cond, eqb, List, [], ◌∷◌, ◌++◌, length, take, drop, refl, sym, ap, ◌∙◌, ⊎_elim, arith, eqb-true, append_assoc, append-nil}
+use Rattle.std.proofs.Common.{◌≡◌, ℕ, suc, ◌-◌, ◌<◌, ◌≤◌, Bool, false, cond, eqb, List, [], ◌∷◌, ◌++◌, length, take, drop, refl, sym, ap, ◌∙◌, ⊎_elim, arith, eqb-true, append_assoc, append-nil, rules}
 use Rattle.std.proofs.lemmas.Bool.{false≢true, false_from_ne_true, cases_Bool}
 use Rattle.std.specs.List.{ends_with}
 use Rattle.std.specs.Cmp.Lexicographic.{pointwise}
@@ -14,9 +14,7 @@ use Rattle.yq_flow_scalars.specs.Text.{line_len, lines_of, put_byte, joined, is_
 pub write_step : (m : ℕ) (br t l a p out mid all : List ℕ) → lines_of t ≡ l ∷ lines_of a → p ≡ line_text l → mid ≡ out ++ (indented m p ++ br) →
     out ++ joined (written m br (lines_of t)) ≡ all → mid ++ joined (written m br (lines_of a)) ≡ all
 unfolding written
-write_step m br t l a p out mid all e is on so_far =
-    let step : joined (written m br (lines_of t)) ≡ (indented m p ++ br) ++ joined (written m br (lines_of a)) = rw (e, is) refl in
-    ap (λ x. x ++ joined (written m br (lines_of a))) on ∙ (append_assoc out (indented m p ++ br) (joined (written m br (lines_of a))) ∙ (ap (λ x. out ++ x) (sym step) ∙ so_far))
+write_step m br t l a p out mid all e is on so_far = search (rules, append_assoc)
 
 pub write_end : (m : ℕ) (br t out all : List ℕ) → t ≡ [] → out ++ joined (written m br (lines_of t)) ≡ all → out ≡ all
 unfolding written lines_of
@@ -39,10 +37,7 @@ unfolding closed
 closed_break b l ls = refl
 
 swap : (b k : ℕ) → eqb k b ≡ eqb b k
-swap b k = ⊎_elim {0, 0, 0}
-    (λ e. let same : b ≡ k = eqb-true b k e in ap (λ x. eqb k x) same ∙ ap (λ x. eqb x k) (sym same))
-    (λ e. false_from_ne_true (eqb k b) (λ f. let same : k ≡ b = eqb-true k b f in false≢true (sym e ∙ (ap (λ x. eqb x k) (sym same) ∙ (ap (λ x. eqb k x) same ∙ f)))) ∙ sym e)
-    (cases_Bool (eqb b k))
+swap b k = search (rules, ⊎_elim, eqb-true, false_from_ne_true, false≢true, cases_Bool)
 
 -- how a text ends, with a byte more in front
 pub ends_next : (b : ℕ) (s n : List ℕ) → length n ≤ length s → ends_with nat_eq (b ∷ s) n ≡ ends_with nat_eq s n

@@ -1,5 +1,5 @@
 -- What is written is a block scalar and stands for the text.
-use Rattle.std.proofs.Common.{◌≡◌, ℕ, ◌+◌, ◌≤◌, Bool, true, false, cond, not, ◌&&◌, eqb, List, [], ◌∷◌, ◌++◌, length, drop, replicate, refl, sym, ap, ◌∙◌, subst, inl, inr, ⊎_elim, arith}
+use Rattle.std.proofs.Common.{◌≡◌, ℕ, ◌+◌, ◌≤◌, Bool, true, false, cond, not, ◌&&◌, eqb, List, [], ◌∷◌, ◌++◌, length, drop, replicate, refl, sym, ap, ◌∙◌, subst, inl, inr, ⊎_elim, arith, rules}
 use Rattle.std.proofs.lemmas.Bool.{false≢true, not-true, and_parts, or_parts}
 use mathlib.Core.List.{cons≢nil}
 use Rattle.yq_block_scalars.proofs.BlockWrittenLines.{IsText, IsBreak, break_is, explicit_indent, not_end, some_text, line_regroup, indented_some, indented_raw, indented_part, NoCr, Good, text_next, lines_good}
@@ -55,10 +55,7 @@ never false = refl
 written_says : (m : ℕ) (br : List ℕ) (ls : Lines) → IsBreak br → Good ls → AreLines ls → literal (not (closed ls)) (explicit_indent m) (written m br ls) ≡ joined ls
 unfolding written literal closed
 written_says m br [] b h a = refl
-written_says m br (l ∷ []) b h a =
-    let same : broken (not (not (is_line l) && true)) ≡ broken (is_line l) = twice (is_line l) in
-    let say : part_of (explicit_indent m) (indented m (line_text l) ++ br) ≡ line_text l = indented_part m (line_text l) br h.0.0 b in
-    rw (say, same) (ap (λ x. x ++ []) (sym h.0.1))
+written_says m br (l ∷ []) b h a = search (rules, twice, explicit_indent, indented_part, ⊎_elim, never)
 written_says m br (l ∷ k ∷ ls) b h a =
     let line : is_line l ≡ true = ⊎_elim {0, 0, 0} (λ e. e) (λ e. absurd (cons≢nil e)) a.0 in
     let more : broken (not (not (closed (k ∷ ls)) && false)) ≡ broken (is_line l) = rw line (never (not (closed (k ∷ ls)))) in

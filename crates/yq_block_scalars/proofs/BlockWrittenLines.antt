@@ -1,5 +1,5 @@
 -- A line that is written, and what it stands for.
-use Rattle.std.proofs.Common.{◌≡◌, ℕ, zero, suc, ◌+◌, ◌≤◌, true, false, not, ◌&&◌, eqb, leb, min, List, [], ◌∷◌, ◌++◌, length, take, drop, replicate, refl, sym, ap, ◌∙◌, subst, inl, inr, ◌⊎◌, ⊎_elim, arith, eqb-true, append_assoc}
+use Rattle.std.proofs.Common.{◌≡◌, ℕ, zero, suc, ◌+◌, true, false, eqb, min, List, [], ◌∷◌, ◌++◌, length, take, drop, replicate, refl, sym, ap, ◌∙◌, subst, inl, inr, ◌⊎◌, ⊎_elim, arith, eqb-true, append_assoc, rules}
 use Rattle.std.proofs.lemmas.Bool.{false≢true, cond_both, false_from_ne_true, leb-true, le-leb, and_from, and_parts}
 use Rattle.std.proofs.Math.Seq.{take-append_seam}
 use Rattle.yq_block_scalars.specs.declared.block_types.Break.TheVariants as breaks
@@ -7,7 +7,7 @@ use Rattle.yq_block_scalars.proofs.SpaceLaws.{spaces_front, drop_front}
 use Rattle.yq_block_scalars.specs.Block.{Lines, is_empty_line, is_text_line, IsRawLine}
 use Rattle.yq_block_scalars.specs.BlockContent.{line_text, unindented, part_of, broken}
 use Rattle.yq_block_scalars.specs.BlockWritten.{break_text, indented}
-use Rattle.yq_flow_scalars.specs.Lines.{spaces, behind_spaces}
+use Rattle.yq_flow_scalars.specs.Lines.{spaces}
 use Rattle.yq_flow_scalars.specs.Text.{ends_line, lines_of, put_byte, is_line, upto}
 use Rattle.yq_block_scalars.specs.declared.block_lines.TextIndent.{TextIndent}
 use Rattle.yq_block_scalars.specs.declared.block_types.Break.{Break}
@@ -52,34 +52,19 @@ pub not_end : (b : ℕ) (t : List ℕ) → eqb b 10 ≡ false → eqb b 13 ≡ f
 not_end b t h k = rw (h, k) refl
 
 some_not_empty : (m b : ℕ) (p br : List ℕ) → IsText (b ∷ p) → is_empty_line (explicit_indent m) (replicate m 32 ++ ((b ∷ p) ++ br)) ≡ false
-some_not_empty m b p br h = false_from_ne_true _ (λ e.
-    let t : List ℕ = (b ∷ p) ++ br in
-    let parts = and_parts (ends_line (behind_spaces (replicate m 32 ++ t))) (leb (spaces (replicate m 32 ++ t)) m) e in
-    let low : spaces (replicate m 32 ++ t) ≤ m = leb-true _ _ parts.1 in
-    let n : spaces (replicate m 32 ++ t) ≡ m + spaces t = spaces_front m t in
-    let none : spaces t ≡ 0 = omega arith in
-    let behind : behind_spaces (replicate m 32 ++ t) ≡ t = ap (λ k. drop k (replicate m 32 ++ t)) (n ∙ ap (λ k. m + k) none) ∙ drop_front m 0 t in
-    false≢true (sym (not_end b (p ++ br) h.0 h.1) ∙ (ap ends_line (sym behind) ∙ parts.0)))
+some_not_empty m b p br h = search (rules, false_from_ne_true, and_parts, leb-true, spaces_front, drop_front, false≢true, not_end)
 
 pub some_text : (m b : ℕ) (p br : List ℕ) → IsText (b ∷ p) → is_text_line (explicit_indent m) (replicate m 32 ++ ((b ∷ p) ++ br)) ≡ true
-some_text m b p br h =
-    let t : List ℕ = (b ∷ p) ++ br in
-    let n : spaces (replicate m 32 ++ t) ≡ m + spaces t = spaces_front m t in
-    let deep : leb m (spaces (replicate m 32 ++ t)) ≡ true = le-leb m (spaces (replicate m 32 ++ t)) (omega arith) in
-    and_from (not (is_empty_line (explicit_indent m) (replicate m 32 ++ t)) && true) (leb m (spaces (replicate m 32 ++ t))) (rw (some_not_empty m b p br h) refl) deep
+some_text m b p br h = search (rules, spaces_front, le-leb, and_from, some_not_empty)
 
 break_empty : (m : ℕ) (br : List ℕ) → IsBreak br → is_empty_line (explicit_indent m) br ≡ true
-break_empty m br h =
-    let low : leb 0 m ≡ true = le-leb 0 m (omega arith) in
-    ⊎_elim {0, 0, 0} (λ e. rw e low) (λ e. rw e low) h
+break_empty m br h = search (rules, le-leb, ⊎_elim)
 
 pub line_regroup : (m : ℕ) (p br : List ℕ) → (replicate m 32 ++ p) ++ br ≡ replicate m 32 ++ (p ++ br)
 line_regroup m p br = append_assoc (replicate m 32) p br
 
 pub indented_some : (m x : ℕ) (p : List ℕ) → indented m (x ∷ p) ≡ replicate m 32 ++ (x ∷ p)
-indented_some m x p =
-    let some : eqb (suc (length p)) 0 ≡ false = false_from_ne_true _ (λ e. let z : suc (length p) ≡ 0 = eqb-true (suc (length p)) 0 e in absurd (omega arith)) in
-    rw some refl
+indented_some m x p = search (rules, false_from_ne_true, eqb-true)
 
 pub indented_raw : (m : ℕ) (p br : List ℕ) → IsText p → IsBreak br → IsRawLine (explicit_indent m) (indented m p ++ br)
 indented_raw m [] br h b = (break_line br b, inl (break_empty m br b))

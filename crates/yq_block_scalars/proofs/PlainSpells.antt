@@ -1,5 +1,5 @@
 -- What is written plain is read as the same scalar.
-use Rattle.std.proofs.Common.{◌≡◌, ℕ, Bool, true, false, not, ◌&&◌, ◌||◌, eqb, List, [], ◌∷◌, ◌++◌, Option, refl, sym, ap, ◌∙◌, subst, inl, codes}
+use Rattle.std.proofs.Common.{◌≡◌, ℕ, Bool, true, false, eqb, List, [], ◌∷◌, ◌++◌, Option, refl, sym, ap, ◌∙◌, subst, inl, codes, rules}
 use Rattle.std.proofs.lemmas.Bool.{false≢true, false_from_ne_true, and_parts}
 use Rattle.std.proofs.lemmas.Option.{same_Some}
 use Rattle.std.specs.List.{list_all}
@@ -54,18 +54,10 @@ plain_some flow (b ∷ t) h = refl
 
 -- it begins with no indicator but a `-`
 pub plain_opens : (test : ℕ → Bool) (t : List ℕ) → ((b : ℕ) → test b ≡ true → is_indicator b ≡ true) → test 45 ≡ false → begins_plainly t ≡ true → front test t ≡ false
-plain_opens test [] only dash h = refl
-plain_opens test (b ∷ t) only dash h = false_from_ne_true (test b) (λ e.
-    let p = and_parts (not (eqb b 32)) (not (is_indicator b) || (eqb b 45 && front (λ c. not (eqb c 32)) t)) h in
-    let d : (eqb b 45 && front (λ c. not (eqb c 32)) t) ≡ true = rw (only b e) at p.1 in
-    false≢true (sym (at_byte test b 45 e dash) ∙ (and_parts (eqb b 45) (front (λ c. not (eqb c 32)) t) d).0))
+plain_opens test t h1 h2 h3 = search (rules, false_from_ne_true, and_parts, false≢true, at_byte)
 
 pub string_kind : (k : Kind) → is_string k ≡ true → k ≡ kinds.Text
-string_kind kinds.Null h = absurd (false≢true h)
-string_kind kinds.Bool h = absurd (false≢true h)
-string_kind kinds.Int h = absurd (false≢true h)
-string_kind kinds.Float h = absurd (false≢true h)
-string_kind kinds.Text h = refl
+string_kind k h1 = search (rules, false≢true)
 
 resolved : (t : List ℕ) (k : Kind) → resolve t ≡ k → Resolves t k
 resolved t k e = subst (Resolves t) e (resolve_takes t)

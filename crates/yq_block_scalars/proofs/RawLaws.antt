@@ -1,13 +1,12 @@
 -- The raw lines of a block scalar, both ways.
-use Rattle.std.proofs.Common.{◌≡◌, ℕ, ◌<◌, ◌≤◌, Bool, true, false, not, ◌&&◌, ◌||◌, leb, ltb, List, [], ◌∷◌, ◌++◌, length, Some, refl, sym, ap, ◌∙◌, subst, inl, inr, ◌⊎◌, ⊎_elim, arith, append_assoc, append-nil, ltb-true}
+use Rattle.std.proofs.Common.{◌≡◌, ℕ, ◌<◌, Bool, true, false, not, ◌&&◌, ◌||◌, List, [], ◌∷◌, ◌++◌, length, Some, refl, sym, ap, ◌∙◌, subst, inl, inr, ◌⊎◌, ⊎_elim, arith, append_assoc, append-nil, ltb-true, rules}
 use Rattle.std.proofs.lemmas.Bool.{false≢true, false_from_ne_true, leb-true, not-true, or_right, and_from, and_parts}
 use Rattle.std.proofs.lemmas.Option.{same_Some}
 use Rattle.yq_flow_scalars.proofs.Bools.{chosen, bind_some}
 use Rattle.yq_block_scalars.proofs.LineLaws.{lines_again, AreLines, line_some}
 use Rattle.yq_block_scalars.specs.Block.{Lines, is_empty_line, is_text_line, is_less_indented, ends_block, AreRaw, no_lines, ends_in_text}
 use Rattle.yq_block_scalars.specs.BlockReading.{is_empty_at, is_text_at, with_empty, raw_at}
-use Rattle.yq_flow_scalars.specs.Lines.{spaces, behind_spaces, is_tab}
-use Rattle.yq_flow_scalars.specs.Text.{is_empty, ends_line, lines_of, joined, is_line}
+use Rattle.yq_flow_scalars.specs.Text.{is_empty, lines_of, joined, is_line}
 use Rattle.yq_block_scalars.specs.declared.block_lines.TextIndent.{TextIndent}
 
 -- the raw lines and what follows are the lines
@@ -51,26 +50,13 @@ joined_some f (l ∷ ls) a h = some_nil l (joined ls) (line_some l a.0.0)
 
 -- a line is of one kind
 pub next_not_empty : (f : TextIndent) (l : List ℕ) → is_less_indented f l ≡ true → is_empty_line f l ≡ false
-next_not_empty f l h =
-    let parts = and_parts (not (ends_line (behind_spaces l)) && ltb (spaces l) f.columns) (not (is_tab (behind_spaces l))) h in
-    let here = and_parts (not (ends_line (behind_spaces l))) (ltb (spaces l) f.columns) parts.0 in
-    rw (not-true (ends_line (behind_spaces l)) here.0) refl
+next_not_empty f l h = search (rules, and_parts, not-true)
 
 next_not_text : (f : TextIndent) (l : List ℕ) → is_less_indented f l ≡ true → is_text_line f l ≡ false
-next_not_text f l h =
-    let parts = and_parts (not (ends_line (behind_spaces l)) && ltb (spaces l) f.columns) (not (is_tab (behind_spaces l))) h in
-    let here = and_parts (not (ends_line (behind_spaces l))) (ltb (spaces l) f.columns) parts.0 in
-    let low : spaces l < f.columns = ltb-true (spaces l) f.columns here.1 in
-    false_from_ne_true (is_text_line f l) (λ e.
-    let deep = and_parts (not (is_empty_line f l) && f.known) (leb f.columns (spaces l)) e in
-    let high : f.columns ≤ spaces l = leb-true f.columns (spaces l) deep.1 in
-    absurd (omega arith))
+next_not_text f l h = search (rules, and_parts, ltb-true, false_from_ne_true, leb-true)
 
 text_not_empty : (f : TextIndent) (l : List ℕ) → is_text_line f l ≡ true → is_empty_line f l ≡ false
-text_not_empty f l h =
-    let deep = and_parts (not (is_empty_line f l) && f.known) (leb f.columns (spaces l)) h in
-    let here = and_parts (not (is_empty_line f l)) f.known deep.0 in
-    not-true (is_empty_line f l) here.0
+text_not_empty f l h = search (rules, and_parts, not-true)
 
 -- reading gives such lines
 ends_more : (f : TextIndent) (l : List ℕ) (ls : Lines) → no_lines ls ≡ false → ends_in_text f ls ≡ true → ends_in_text f (l ∷ ls) ≡ true
@@ -148,9 +134,7 @@ ends_behind keep f l [] e = inr refl
 ends_behind keep f l (k ∷ ls) e = e
 
 kept_is : (keep : Bool) (f : TextIndent) (l : List ℕ) (ls : Lines) → is_empty_line f l ≡ true → AreRaw f ls → (keep ≡ true) ⊎ (ends_in_text f (l ∷ ls) ≡ true) → (not keep && is_empty (joined ls)) ≡ false
-kept_is true f l ls is a e = refl
-kept_is false f l [] is a e = ⊎_elim {0, 0, 0} (λ k. absurd (false≢true k)) (λ k. absurd (false≢true (sym (text_not_empty f l k) ∙ is))) e
-kept_is false f l (k ∷ ls) is a e = joined_some f (k ∷ ls) a refl
+kept_is keep f l ls h1 h2 h3 = search (rules, ⊎_elim, false≢true, text_not_empty, joined_some)
 
 pub raw_again : (keep : Bool) (f : TextIndent) (raw rest : Lines) → AreRaw f raw → (keep ≡ true) ⊎ (ends_in_text f raw ≡ true) → ends_block keep f rest ≡ true → raw_at keep f (raw ++ rest) ≡ Some (raw, rest)
 unfolding raw_at
