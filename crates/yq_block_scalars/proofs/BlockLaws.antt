@@ -45,11 +45,7 @@ unfolding block_at block_behind
 block_again least b rest h =
     let behind = joined b.raw ++ rest in
     let indicators = indicators_again b.digit b.chomping b.indicators (b.tail ++ behind) h.indicators (tail_no_indicator b.tail behind h.tail) in
-    let lines : lines_of behind ≡ b.raw ++ lines_of rest = lines_raw b.indent b.raw rest h.lines in
-    let indent : indent_at least b.digit (lines_of behind) ≡ Some b.indent = ap (indent_at least b.digit) lines ∙ indent_again least b.digit (keeps b.chomping) b.indent b.raw (lines_of rest) h.indent h.behind in
-    let raw : raw_at (keeps b.chomping) b.indent (lines_of behind) ≡ Some (b.raw, lines_of rest) = ap (raw_at (keeps b.chomping) b.indent) lines ∙ raw_again (keeps b.chomping) b.indent b.raw (lines_of rest) h.lines h.ends h.behind in
-    rw (style_again b.style (b.indicators ++ (b.tail ++ behind)))
-    (ap (block_behind least b.style) indicators ∙ rw (tail_again b.tail behind h.tail, indent, raw) (ap (λ t. Some (b, t)) (joined_lines rest)))
+    search (rules, style_again, tail_again, joined_lines, lines_raw, indent_again, raw_again, indicators, behind)
 
 pub one_block : (least : ℕ) (a b : BlockText) (rest other : List ℕ) → block_text a rest ≡ block_text b other → IsBlock least a rest → IsBlock least b other → (a ≡ b) × (rest ≡ other)
 one_block least a b rest other e h k =

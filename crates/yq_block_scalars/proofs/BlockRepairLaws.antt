@@ -13,21 +13,15 @@ use Rattle.yq_block_scalars.specs.declared.block_lines.TextIndent.{TextIndent}
 no_spaces : (b : ℕ) (t : List ℕ) → eqb b 32 ≡ false → (spaces (b ∷ t) ≡ 0) × (behind_spaces (b ∷ t) ≡ b ∷ t)
 no_spaces b t h = let n = prefix_none (λ x. eqb x 32) b t h in (n, ap (λ k. drop k (b ∷ t)) n)
 
-end_empty : (f : TextIndent) (t : List ℕ) → ends_line t ≡ true → is_empty_line f t ≡ true
-end_empty f t h1 = search (rules, or_right, le-leb, false_from_ne_true, eqb-true, false≢true, no_spaces, and_from)
-
 short_empty : (f : TextIndent) (l : List ℕ) → is_short f.columns l ≡ true → is_empty_line f l ≡ true
 short_empty f l h = search (rules, and_parts, and_from, or_right)
 
 pub blank_empty : (f : TextIndent) (l : List ℕ) → is_blank l ≡ true → is_empty_line f (repaired_blank f.columns l) ≡ true
-blank_empty f l h = cond_both (is_short f.columns l) l (past_white l) (λ x. is_empty_line f x ≡ true) (λ k. short_empty f l k) (λ _. end_empty f (past_white l) h)
+blank_empty f l h = search (rules, or_right, le-leb, false_from_ne_true, eqb-true, false≢true, no_spaces, and_from, cond_both, short_empty)
 
 -- a comment line that is moved
 moved : (f : TextIndent) (column : ℕ) (t : List ℕ) → column < f.columns → is_hash t ≡ true → is_less_indented f (replicate column 32 ++ t) ≡ true
 moved f column t h1 h2 = search (rules, false≢true, eqb-true, no_spaces, spaces_front, drop_front, lt-ltb, and_from)
-
-stays : (f : TextIndent) (l : List ℕ) → is_blank l ≡ false → (is_outside f.columns l) ≡ true → is_less_indented f l ≡ true
-stays f l n h = search (rules, and_parts, false_from_ne_true, false≢true, spaces_blank, and_from)
 
 pub ends_less : (keep : Bool) (f : TextIndent) (l : List ℕ) (ls : Lines) → is_less_indented f l ≡ true → ends_block keep f (l ∷ ls) ≡ true
 unfolding ends_block
@@ -43,7 +37,7 @@ ends_behind keep f [] h = refl
 ends_behind keep f (l ∷ ls) h = ends_less keep f l ls h
 
 pub comment_less : (f : TextIndent) (column : ℕ) (l : List ℕ) → is_blank l ≡ false → (is_blank l || is_hash (past_white l)) ≡ true → column < f.columns → is_less_indented f (repaired_comment f.columns column l) ≡ true
-comment_less f column l n h lt = search (rules, ⊎_elim, false≢true, or_cases, cond_both, stays, moved)
+comment_less f column l n h lt = search (rules, and_parts, false_from_ne_true, false≢true, spaces_blank, and_from, ⊎_elim, or_cases, cond_both, moved)
 
 first_comment : (keep : Bool) (f : TextIndent) (column : ℕ) (l : List ℕ) (ls : Lines) → is_blank l ≡ false → (is_blank l || is_hash (past_white l)) ≡ true → column < f.columns →
     ends_block keep f (repaired_comment f.columns column l ∷ ls) ≡ true
@@ -53,10 +47,7 @@ first_comment keep f column l ls n h lt = ends_less keep f _ ls (comment_less f 
 pub repair_ends : (keep : Bool) (f : TextIndent) (column : ℕ) (gap rest : Lines) → AreGap gap → is_behind f rest ≡ true → column < f.columns → ends_block keep f (repair keep f.columns column gap ++ rest) ≡ true
 unfolding repair
 repair_ends keep f column [] rest h e lt = ends_behind keep f rest e
-repair_ends true f column (l ∷ ls) rest h e lt = ⊎_elim {0, 0, 0}
-    (λ b. rw b (repair_ends true f column ls rest h.1 e lt))
-    (λ b. rw b (first_comment true f column l (ls ++ rest) b h.0 lt))
-    (cases_Bool (is_blank l))
+repair_ends true f column (l ∷ ls) rest h e lt = search (rules, ⊎_elim, first_comment, cases_Bool, repair_ends true f column ls rest h.1 e lt)
 repair_ends false f column (l ∷ ls) rest h e lt = ⊎_elim {0, 0, 0}
     (λ b. rw b (ends_blank f (repaired_blank f.columns l) (repair false f.columns column ls ++ rest) (blank_empty f l b) (repair_ends false f column ls rest h.1 e lt)))
     (λ b. rw b (first_comment false f column l (ls ++ rest) b h.0 lt))
@@ -100,10 +91,7 @@ same_first l x ls h = rw h.0 (ap (λ y. y ∷ comment_lines ls) h.1)
 pub repair_comments : (keep : Bool) (f : TextIndent) (column : ℕ) (gap : Lines) → AreGap gap → comment_lines (repair keep f.columns column gap) ≡ comment_lines gap
 unfolding repair comment_lines
 repair_comments keep f column [] h = refl
-repair_comments true f column (l ∷ ls) h = ⊎_elim {0, 0, 0}
-    (λ b. rw b (repair_comments true f column ls h.1))
-    (λ b. rw b (same_first l (repaired_comment f.columns column l) ls (comment_same f column l b h.0)))
-    (cases_Bool (is_blank l))
+repair_comments true f column (l ∷ ls) h = search (rules, ⊎_elim, same_first, comment_same, cases_Bool, repair_comments true f column ls h.1)
 repair_comments false f column (l ∷ ls) h = ⊎_elim {0, 0, 0}
     (λ b. let stays_ : is_blank (repaired_blank f.columns l) ≡ true = cond_both (is_short f.columns l) l (past_white l) (λ x. is_blank x ≡ true) (λ _. b) (λ _. end_blank (past_white l) b) in
     rw b (rw stays_ (repair_comments false f column ls h.1)))

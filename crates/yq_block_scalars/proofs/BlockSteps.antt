@@ -78,11 +78,8 @@ some_length : (j : List ℕ) → is_empty j ≡ false → 0 < length j
 some_length [] h = absurd (false≢true (sym h))
 some_length (b ∷ j) h = omega arith
 
-front_loose : (w s k n : ℕ) → 0 < n → counted w s (Some (k + n)) ≡ counted w (s + k) (Some n)
-front_loose w s k n h = rw (some_not_zero (k + n) (omega arith), some_not_zero n h) (ap Some (omega arith))
-
 loose : (l : List ℕ) (ls : Lines) (w s : ℕ) (x : Lines × Lines) → 0 < length l → counted w s (raw_len (with_empty false l ls x)) ≡ counted w (s + length l) (Some (length (joined x.0)))
-loose l ls w s x some = search (rules, ⊎_elim, nil_length, length-append, front_loose, some_length, cases_Bool)
+loose l ls w s x some = search (rules, some_not_zero, ⊎_elim, nil_length, length-append, some_length, cases_Bool)
 
 pub len_kept : (l : List ℕ) (ls : Lines) (w s : ℕ) (o : Option (Lines × Lines)) → 0 < length l → counted w s (raw_len (o >>= with_empty true l ls)) ≡ counted (s + length l) (s + length l) (raw_len o)
 len_kept l ls w s None some = refl

@@ -1,5 +1,5 @@
 -- How long the raw lines are that are written.
-use Rattle.std.proofs.Common.{◌≡◌, ℕ, ◌+◌, ◌-◌, ◌≤◌, ◌^◌, List, [], ◌∷◌, ◌++◌, length, min, arith, length-append, rules}
+use Rattle.std.proofs.Common.{◌≡◌, ℕ, ◌+◌, ◌-◌, ◌≤◌, ◌^◌, List, [], ◌∷◌, ◌++◌, length, min, length-append, rules}
 use Rattle.yq_block_scalars.specs.BlockContent.{line_text}
 use Rattle.yq_block_scalars.specs.BlockWritten.{indented, written}
 use Rattle.yq_flow_scalars.specs.Text.{lines_of, joined}
@@ -8,13 +8,10 @@ use Rattle.yq_flow_scalars.specs.Text.{lines_of, joined}
 abbrev capped : ℕ → ℕ
 capped n = min n (2 ^ 64 - 1)
 
-capped_again : (a b c : ℕ) → capped (capped (a + capped b) + c) ≡ capped (a + (b + c))
-capped_again a b c = omega arith
-
 pub len_step : (m : ℕ) (br t l a p all : List ℕ) (n w k : ℕ) → lines_of t ≡ l ∷ lines_of a → p ≡ line_text l → w ≡ capped (length (indented m p ++ br)) → k ≡ capped (n + w) →
     capped (n + length (joined (written m br (lines_of t)))) ≡ capped (length all) → capped (k + length (joined (written m br (lines_of a)))) ≡ capped (length all)
 unfolding written
-len_step m br t l a p all n w k e is width sum so_far = search (rules, length-append, capped_again)
+len_step m br t l a p all n w k e is width sum so_far = search (rules, length-append)
 
 pub len_end : (m : ℕ) (br t all : List ℕ) (n : ℕ) → t ≡ [] → capped (n + length (joined (written m br (lines_of t)))) ≡ capped (length all) → n ≤ 2 ^ 64 - 1 → n ≡ capped (length all)
 unfolding written lines_of

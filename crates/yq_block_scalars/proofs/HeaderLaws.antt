@@ -10,7 +10,7 @@ use Rattle.yq_flow_scalars.proofs.Bools.{chosen}
 use Rattle.yq_block_scalars.proofs.LineLaws.{line_cut}
 use Rattle.yq_block_scalars.proofs.SpaceLaws.{white_drop}
 use Rattle.yq_block_scalars.specs.Block.{mark_of, IsDigit, digit_text, sign_text, IsIndicators, is_tail}
-use Rattle.yq_block_scalars.specs.BlockReading.{style_at, digit_at, sign_at, Indicators, indicators_behind, indicators_at, values, tail_at}
+use Rattle.yq_block_scalars.specs.BlockReading.{style_at, digit_at, sign_at, Indicators, indicators_at, values, tail_at}
 use Rattle.yq_flow_scalars.specs.Lines.{is_hash, is_blank}
 use Rattle.yq_flow_scalars.specs.Text.{is_white, front, past_white, line_len, is_line}
 use Rattle.yq_block_scalars.specs.declared.block_header.BlockStyle.{BlockStyle}
@@ -42,12 +42,9 @@ sign_takes t = search (rules, cond_both, eqb-true)
 abbrev pub IsIndicatorsCut : List ℕ → Indicators → Type 0
 IsIndicatorsCut t m = (t ≡ m.2 ++ m.3) × IsIndicators m.0 m.1 m.2
 
-behind_takes : (t : List ℕ) (d : Option ℕ × List ℕ) → IsDigitCut t d → IsIndicatorsCut t (indicators_behind d)
-behind_takes t d h1 = search (rules, digit_takes, sign_takes, append_assoc)
-
 pub indicators_takes : (t : List ℕ) → IsIndicatorsCut t (indicators_at t)
 unfolding indicators_at
-indicators_takes t = behind_takes t (digit_at t) (digit_takes t)
+indicators_takes t = search (rules, digit_takes, sign_takes, append_assoc)
 
 pub indicators_length : (t : List ℕ) → length t ≡ length (indicators_at t).2 + length (indicators_at t).3
 indicators_length t = ap length (indicators_takes t).0 ∙ length-append (indicators_at t).2 (indicators_at t).3
@@ -66,12 +63,8 @@ pub tail_again : (p rest : List ℕ) → is_tail p ≡ true → tail_at (p ++ re
 unfolding tail_at
 tail_again p rest h = search (rules, and_parts, line_cut, take-append_seam, drop-append_seam)
 
--- what the header's line begins with
-white_low : (b : ℕ) → is_white b ≡ true → b ≤ 32
-white_low b h = ⊎_elim {0, 0, 0} (λ e. let is : b ≡ 32 = eqb-true b 32 e in omega arith) (λ e. let is : b ≡ 9 = eqb-true b 9 e in omega arith) (or_cases (eqb b 32) (eqb b 9) h)
-
 tail_low : (b : ℕ) (l : List ℕ) → (is_blank (b ∷ l) || (front is_white (b ∷ l) && is_hash (past_white (b ∷ l)))) ≡ true → b ≤ 32
-tail_low b l h = search (rules, ⊎_elim, white_low, white_drop, eqb-true, and_parts, or_cases, cases_Bool)
+tail_low b l h = search (rules, ⊎_elim, eqb-true, or_cases, white_drop, and_parts, cases_Bool)
 
 -- no digit and no sign is in front
 abbrev pub NoIndicator : List ℕ → Type 0
@@ -93,26 +86,20 @@ tail_no_indicator (b ∷ p) t h = low_no_indicator b (p ++ t) (tail_low b p (and
 digit_again : (d : ℕ) (t : List ℕ) → 1 ≤ d → d ≤ 9 → digit_at ((48 + d) ∷ t) ≡ (Some d, t)
 digit_again d t a b = search (rules, le-leb)
 
-sign_again : (c : Chomping) (t : List ℕ) → sign_at t ≡ (chompings.Clip, t) → sign_at (sign_text c ++ t) ≡ (c, t)
-sign_again c t h1 = search rules
-
 abbrev behind_sign : Chomping × List ℕ → Indicators
 behind_sign c = let d = digit_at c.1 in (d.0, c.0, sign_text c.0 ++ digit_text d.0, d.1)
 
-none_again : (c : Chomping) (t : List ℕ) → NoIndicator t → indicators_at (sign_text c ++ t) ≡ (None, c, sign_text c ++ [], t)
-unfolding indicators_at
-none_again c t h1 = search rules
-
 first_again : (d : ℕ) (c : Chomping) (t : List ℕ) → 1 ≤ d → d ≤ 9 → NoIndicator t → indicators_at ((48 + d) ∷ (sign_text c ++ t)) ≡ (Some d, c, (48 + d) ∷ sign_text c, t)
 unfolding indicators_at
-first_again d c t a b h = ap indicators_behind (digit_again d (sign_text c ++ t) a b) ∙ ap (λ (x : Chomping × List ℕ). (Some d, x.0, (48 + d) ∷ sign_text x.0, x.1)) (sign_again c t h.1)
+first_again d c t a b h = search (rules, digit_again)
 
 behind_again : (d : ℕ) (c : Chomping) (t : List ℕ) → 1 ≤ d → d ≤ 9 → NoIndicator t → indicators_at (sign_text c ++ ((48 + d) ∷ t)) ≡ (Some d, c, sign_text c ++ (48 + d) ∷ [], t)
 unfolding indicators_at
 behind_again d c t h1 h2 h3 = search (rules, digit_again, first_again)
 
 pub indicators_again : (digit : Option ℕ) (c : Chomping) (p t : List ℕ) → IsIndicators digit c p → NoIndicator t → indicators_at (p ++ t) ≡ (digit, c, p, t)
-indicators_again digit c p t h1 h2 = search (rules, ⊎_elim, append-nil, none_again, first_again, append_assoc, behind_again)
+unfolding indicators_at
+indicators_again digit c p t h1 h2 = search (rules, ⊎_elim, append-nil, first_again, append_assoc, behind_again)
 
 -- where its pieces stand
 pub style_length : (t : List ℕ) (s : BlockStyle) (u : List ℕ) → style_at t ≡ Some (s, u) → length t ≡ suc (length u)

@@ -38,23 +38,17 @@ abbrev rest_of : Lines → Lines
 rest_of [] = []
 rest_of (l ∷ ls) = ls
 
-one_line : (c : ℕ) → rest_of (lines_of (c ∷ [])) ≡ []
-unfolding lines_of
-one_line c = ⊎_elim {0, 0, 0} (λ e. rw e refl) (λ e. rw e refl) (cases_Bool (eqb c 10))
-
 more_lines : (c : ℕ) (t l : List ℕ) (ls : Lines) → lines_of (c ∷ t) ≡ l ∷ ls → no_lines ls ≡ false → is_empty t ≡ false
-more_lines c [] l ls e k = let none : ls ≡ [] = sym (ap rest_of e) ∙ one_line c in absurd (false≢true (sym k ∙ ap no_lines none))
+unfolding lines_of
+more_lines c [] l ls e k = search (rules, ⊎_elim, cases_Bool, false≢true)
 more_lines c (x ∷ t) l ls e k = refl
 
 -- two LFs at the end
 abbrev feeds : List ℕ
 feeds = 10 ∷ 10 ∷ []
 
-one_byte : (c : ℕ) → ends_with nat_eq (c ∷ []) feeds ≡ false
-one_byte c = ⊎_elim {0, 0, 0} (λ e. rw e refl) (λ e. rw e refl) (cases_Bool (eqb 10 c))
-
 feeds_next : (b c : ℕ) (t : List ℕ) → ends_with nat_eq (b ∷ c ∷ t) feeds ≡ false → ends_with nat_eq (c ∷ t) feeds ≡ false
-feeds_next b c [] h = one_byte c
+feeds_next b c [] h = search (rules, ⊎_elim, cases_Bool)
 feeds_next b c (x ∷ t) h = sym (ends_next b (c ∷ x ∷ t) feeds (omega arith)) ∙ h
 
 feed_behind : (b c : ℕ) (t : List ℕ) → eqb b 10 ≡ true → ends_with nat_eq (b ∷ c ∷ t) feeds ≡ false → (eqb c 10 ≡ false) ⊎ (is_empty t ≡ false)

@@ -6,7 +6,7 @@ use Rattle.std.specs.Str.{chars, IsUtf8}
 use Rattle.std.specs.Option.{is_none}
 use Rattle.yq_flow_scalars.specs.Answers.{more}
 use Rattle.yq_flow_scalars.specs.Text.{NoneIn, is_empty, is_space, front}
-use Rattle.yq_flow_scalars.specs.Plain.{ends_plain, ends_text, is_flow_indicator, is_safe, begins_plain, IsPlain}
+use Rattle.yq_flow_scalars.specs.Plain.{ends_plain, ends_text, is_flow_indicator, is_safe, IsPlain}
 use Rattle.yq_flow_scalars.specs.PlainReading.{across}
 use Rattle.yq_flow_scalars.specs.PlainText.{is_plain_char, begins_plainly, needs_quotes, no_rest, is_plain_text, is_merge, begins_marker}
 use Rattle.yq_flow_scalars.proofs.Bools.{at_byte, not_byte}
@@ -88,9 +88,6 @@ behind_dash : (flow : Bool) (bs rest : List ℕ) → Each is_no_control bs → n
 behind_dash flow [] rest q h e = absurd (false≢true e)
 behind_dash flow (d ∷ bs) rest q h e = safe_next flow d bs rest q.0 h (not-true (eqb d 32) e)
 
-pub plain_begins : (flow : Bool) (t rest : List ℕ) → Each is_no_control t → begins_plainly t ≡ true → no_rest (needs_quotes flow) t ≡ true → begins_plain flow (t ++ rest) ≡ true
-plain_begins flow t rest h1 h2 h3 = search (rules, false≢true, and_parts, no_control_space, not-true, ⊎_elim, behind_dash, front_of, eqb-true, or_cases)
-
 pub plain_text_parts : (flow : Bool) (t : List ℕ) → is_plain_text flow t ≡ true → (list_all is_plain_char (chars t) ≡ true) × (begins_plainly t ≡ true) × (no_rest (needs_quotes flow) t ≡ true)
 plain_text_parts flow t h =
     let a = and_parts (list_all is_plain_char (chars t) && begins_plainly t && no_rest (needs_quotes flow) t && not (is_merge t)) (not (begins_marker t)) h in
@@ -104,4 +101,4 @@ pub plain_written : (flow : Bool) (spaces : Option ℕ) (t rest : List ℕ) → 
 plain_written flow spaces t rest u h e =
     let p = plain_text_parts flow t h in
     let q = no_controls t u p.0 in
-    record { begins = plain_begins flow t rest q p.1 p.2; inside = none_inside flow spaces t rest q p.2; ends = e }
+    search (rules, false≢true, and_parts, no_control_space, not-true, ⊎_elim, behind_dash, front_of, eqb-true, or_cases, none_inside, q, p)

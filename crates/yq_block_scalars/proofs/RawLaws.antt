@@ -1,5 +1,5 @@
 -- The raw lines of a block scalar, both ways.
-use Rattle.std.proofs.Common.{◌≡◌, ℕ, ◌<◌, Bool, true, false, not, ◌&&◌, ◌||◌, List, [], ◌∷◌, ◌++◌, length, Some, refl, sym, ap, ◌∙◌, subst, inl, inr, ◌⊎◌, ⊎_elim, arith, append_assoc, append-nil, ltb-true, rules}
+use Rattle.std.proofs.Common.{◌≡◌, ℕ, ◌<◌, Bool, true, false, not, ◌&&◌, List, [], ◌∷◌, ◌++◌, length, Some, refl, sym, ap, ◌∙◌, subst, inl, inr, ◌⊎◌, ⊎_elim, arith, append_assoc, append-nil, ltb-true, rules}
 use Rattle.std.proofs.lemmas.Bool.{false≢true, false_from_ne_true, leb-true, not-true, or_right, and_from, and_parts}
 use Rattle.std.proofs.lemmas.Option.{same_Some}
 use Rattle.yq_flow_scalars.proofs.Bools.{chosen, bind_some}
@@ -82,9 +82,7 @@ unfolding ends_block
 seam_empty f l ls is h = rw is h
 
 takes_empty : (keep : Bool) (f : TextIndent) (l : List ℕ) (ls : Lines) (x y : Lines × Lines) → is_empty_at keep f l ≡ true → (is_line l ≡ true) ⊎ (ls ≡ []) → Cut ls x → IsRaw keep f x → with_empty keep l ls x ≡ Some y → IsRaw keep f y
-takes_empty true f l ls x y is line cut h e =
-    let parts = and_parts (is_empty_line f l) (is_line l) is in
-    subst (IsRaw true f) (same_Some _ _ e) (record { lines = ((parts.1, inl parts.0), h.lines); ends = inl refl; behind = h.behind })
+takes_empty true f l ls x y is line cut h e = search (rules, same_Some, and_parts)
 takes_empty false f l ls x y is line cut h e =
     let parts = and_parts (is_empty_line f l) true is in
     ⊎_elim {0, 0, 0}
@@ -133,22 +131,12 @@ ends_behind : (keep : Bool) (f : TextIndent) (l : List ℕ) (ls : Lines) → (ke
 ends_behind keep f l [] e = inr refl
 ends_behind keep f l (k ∷ ls) e = e
 
-kept_is : (keep : Bool) (f : TextIndent) (l : List ℕ) (ls : Lines) → is_empty_line f l ≡ true → AreRaw f ls → (keep ≡ true) ⊎ (ends_in_text f (l ∷ ls) ≡ true) → (not keep && is_empty (joined ls)) ≡ false
-kept_is keep f l ls h1 h2 h3 = search (rules, ⊎_elim, false≢true, text_not_empty, joined_some)
-
 pub raw_again : (keep : Bool) (f : TextIndent) (raw rest : Lines) → AreRaw f raw → (keep ≡ true) ⊎ (ends_in_text f raw ≡ true) → ends_block keep f rest ≡ true → raw_at keep f (raw ++ rest) ≡ Some (raw, rest)
 unfolding raw_at
 raw_again keep f [] rest a e h = raw_none keep f rest h
 raw_again keep f (l ∷ ls) rest a e h =
     let again = raw_again keep f ls rest a.1 (ends_behind keep f l ls e) h in
-    ⊎_elim {0, 0, 0}
-    (λ is. let all : is_empty_at keep f l ≡ true = and_from (is_empty_line f l) (not keep || is_line l) is (or_right (not keep) (is_line l) a.0.0) in
-    let kept : (not keep && is_empty (joined ls)) ≡ false = kept_is keep f l ls is a.1 e in
-    rw (all, again, kept) refl)
-    (λ is. let text : is_text_at f l ≡ true = and_from (is_text_line f l) (is_line l) is a.0.0 in
-    let other : is_empty_at keep f l ≡ false = rw (text_not_empty f l is) refl in
-    rw (other, text, again) refl)
-    a.0.1
+    search (rules, ⊎_elim, false≢true, text_not_empty, joined_some, and_from, or_right, again)
 
 -- lines and their text
 pub lines_raw : (f : TextIndent) (raw : Lines) (t : List ℕ) → AreRaw f raw → lines_of (joined raw ++ t) ≡ raw ++ lines_of t

@@ -31,12 +31,9 @@ null_plain flow = spelling_plain flow (codes "null") refl
 digit_letter : (base b : ℕ) → base ≤ 36 → digit_value b < base → is_letter b ≡ true
 digit_letter base b le lt = lt-ltb (digit_value b) 36 (omega arith)
 
-letter_word : (b : ℕ) → is_letter b ≡ true → is_word b ≡ true
-letter_word b h = ap (λ x. x || eqb b 43 || eqb b 45 || eqb b 46) h
-
 digits_words : (base : ℕ) (ds : List ℕ) → base ≤ 36 → AllDigits base ds → list_all is_word ds ≡ true
 digits_words base [] le h = refl
-digits_words base (d ∷ ds) le h = rw (letter_word d (digit_letter base d le h.0), digits_words base ds le h.1) refl
+digits_words base (d ∷ ds) le h = search (rules, digit_letter, digits_words base ds le h.1)
 
 digits_begin : (base : ℕ) (ds rest : List ℕ) → base ≤ 36 → IsNumeral base ds → front is_letter (ds ++ rest) ≡ true
 digits_begin base [] rest le h = absurd (omega (arith, h.0))

@@ -32,17 +32,11 @@ begins_signed (b ∷ bs) = begins_unsigned (b ∷ bs) || eqb b 43 || (eqb b 45 &
 not_less : (a b : ℕ) → b ≤ a → nat_lt a b ≡ false
 not_less a b le = false_from_ne_true (nat_lt a b) (λ e. let f = ltb-true a b e in absurd (omega (arith, f)))
 
-letter_low : (b : ℕ) → is_letter b ≡ true → 48 ≤ b
-letter_low b h = ⊎_elim (λ lt. let e = lt-ltb b 48 lt in absurd (false≢true (rw e at h))) (λ le. le) (cases_lt b 48)
-
-letter_high : (b : ℕ) → is_letter b ≡ true → b < 123
-letter_high b h = search (rules, ⊎_elim, false≢true, not_less, cases_lt)
-
 word_low : (b : ℕ) → is_word b ≡ true → 43 ≤ b
-word_low b h = search (rules, ⊎_elim, letter_low, eqb-true, or_cases)
+word_low b h = search (rules, ⊎_elim, lt-ltb, false≢true, cases_lt, eqb-true, or_cases)
 
 word_high : (b : ℕ) → is_word b ≡ true → b < 123
-word_high b h = search (rules, ⊎_elim, letter_high, eqb-true, or_cases)
+word_high b h = search (rules, ⊎_elim, false≢true, not_less, cases_lt, eqb-true, or_cases)
 
 word_ascii : (t : List ℕ) → list_all is_word t ≡ true → IsAscii t
 word_ascii [] h i = omega arith
@@ -98,11 +92,8 @@ dot_marker b t h1 h2 = search (rules, at_byte, and-false)
 unsigned_dash : (c : ℕ) (t : List ℕ) → begins_unsigned (c ∷ t) ≡ true → eqb c 45 ≡ false
 unsigned_dash c t h = search (rules, ⊎_elim, at_byte, and_parts, or_cases)
 
-dash_marker : (b : ℕ) (t : List ℕ) → eqb b 45 ≡ true → begins_unsigned t ≡ true → begins_marker (b ∷ t) ≡ false
-dash_marker b t h1 h2 = search (rules, at_byte, unsigned_dash, and-false)
-
 no_marker : (t : List ℕ) → begins_signed t ≡ true → begins_marker t ≡ false
-no_marker t h1 = search (rules, false≢true, ⊎_elim, marker_free, and_parts, dot_marker, or_cases, dash_marker)
+no_marker t h1 = search (rules, at_byte, unsigned_dash, and-false, false≢true, ⊎_elim, marker_free, and_parts, dot_marker, or_cases)
 
 -- a text of such characters that begins so
 pub word_plain : (flow : Bool) (t : List ℕ) → list_all is_word t ≡ true → begins_signed t ≡ true → is_plain_text flow t ≡ true

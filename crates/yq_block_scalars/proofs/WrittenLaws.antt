@@ -40,9 +40,7 @@ text_append (c ∷ a) b = ap (λ l. char_text c ++ l) (text_append a b) ∙ sym 
 
 are_append : (q : ℕ) (a b : List Char) (rest : List ℕ) → AreChars q a (spell_chars b ++ rest) → AreChars q b rest → AreChars q (a ++ b) rest
 are_append q [] b rest h k = k
-are_append q (c ∷ a) b rest h k =
-    let same : spell_chars a ++ (spell_chars b ++ rest) ≡ spell_chars (a ++ b) ++ rest = sym (append_assoc (spell_chars a) (spell_chars b) rest) ∙ ap (λ l. l ++ rest) (sym (spell_append a b)) in
-    (subst (IsChar q c) same h.0, are_append q a b rest h.1 k)
+are_append q (c ∷ a) b rest h k = search (rules, append_assoc, spell_append, are_append q a b rest h.1 k)
 
 both : (q : ℕ) (t u p r : List ℕ) → Stands q t p → Stands q u r → Stands q (t ++ u) (p ++ r)
 both q t u p r a b = record {
@@ -63,9 +61,7 @@ ordinary_parts : (w x y z : Bool) → (not w && not x && not y && not z) ≡ tru
 ordinary_parts w x y z h1 = search (rules, false≢true)
 
 ordinary_is : (q b : ℕ) (rest : List ℕ) → is_ordinary q b ≡ true → IsChar q (itself b) rest
-ordinary_is q b rest h =
-    let p = ordinary_parts (eqb b q) (is_feed b) (is_return b) (eqb q 34 && eqb b 92) h in
-    (p.0, rw (p.1, p.2) refl, p.3)
+ordinary_is q b rest h = search (rules, ordinary_parts)
 
 bytes_stand : (q : ℕ) (t : List ℕ) → Each (is_ordinary q) t → Stands q t t
 bytes_stand q [] h = none_stands q
@@ -123,15 +119,12 @@ code_stands c h s = elim (cases_Bool (ltb c 256)) [
       (λ rest. (refl, refl, (digit_at (c / 4096 % 16) (omega arith), (digit_at (c / 256 % 16) (omega arith), (digit_at (c / 16 % 16) (omega arith), (digit_at (c % 16) (omega arith), tt)))), ap is_unicode (four_value c h) ∙ s)))
 ]
 
-unicode_most : (c : ℕ) → 65536 ≤ c → is_unicode c ≡ true → c < 1114112
-unicode_most c ge s = search (rules, or_cases, ltb-true, and_parts)
-
 high_text : (c : ℕ) → 65536 ≤ c → c < 1114112 → is_text_char c ≡ true
 high_text c ge lt = search (rules, and_from, le-leb, or_right, not_from_false, ne_eqb)
 
 -- a character that no text may hold is one of the first 65,536
 below : (c : ℕ) → is_text_char c ≡ false → is_unicode c ≡ true → c < 65536
-below c h s = search (rules, cases_lt, false≢true, high_text, unicode_most)
+below c h s = search (rules, or_cases, ltb-true, and_parts, cases_lt, false≢true, high_text)
 
 double_ordinary : (c : ℕ) → letter_of c written_letters ≡ None → is_ordinary 34 c ≡ true
 double_ordinary c h = search (rules, is_none, at_byte)

@@ -108,14 +108,8 @@ doubles_line (c ∷ cs) h =
     let p = and_parts (scalar c) (scalars cs) h in
     line_append (in_double c) (flat_map in_double cs) (double_line c (letter_of c written_letters) refl p.0) (doubles_line cs p.1)
 
-single_text : (c : ℕ) → is_single_char c ≡ true → is_text_char c ≡ true
-single_text c h = search (rules, or_cases, and_parts, eqb-true)
-
 single_line : (c : ℕ) → is_single_char c ≡ true → scalar c ≡ true → IsLine (in_single c)
-single_line c h s = elim (cases_Bool (eqb c 39)) [
-  | inl e ↦ rw e (ascii_more 39 (39 ∷ []) refl (ascii_line 39 refl))
-  | inr n ↦ rw n (char_line c s (single_text c h) (λ low. rw (at_byte is_single_char c 10 h refl, at_byte is_single_char c 13 h refl) refl))
-]
+single_line c h s = search (rules, or_cases, and_parts, eqb-true, cases_Bool, ascii_more, ascii_line, char_line, at_byte)
 
 singles_line : (cs : List ℕ) → list_all is_single_char cs ≡ true → scalars cs ≡ true → IsLine (flat_map in_single cs)
 singles_line [] h s = line_none
