@@ -1,7 +1,7 @@
 -- A repaired gap may stand behind a block scalar and keeps its comments.
 use Rattle.std.proofs.Common.{◌≡◌, ℕ, zero, suc, ◌+◌, ◌<◌, Bool, true, false, ◌||◌, eqb, List, [], ◌∷◌, ◌++◌, drop, replicate, refl, sym, ap, ◌∙◌, ⊎_elim, eqb-true, rules}
 use Rattle.std.proofs.lemmas.Bool.{false≢true, cond_both, or_cases, false_from_ne_true, le-leb, or_right, lt-ltb, and_from, and_parts, cases_Bool}
-use Rattle.yq_block_scalars.proofs.RawLaws.{next_not_empty}
+use Rattle.yq_block_scalars.proofs.RawLaws.{next_not_empty, ends_blank}
 use Rattle.yq_block_scalars.proofs.SpaceLaws.{white_drop, spaces_blank, prefix_none, spaces_front, drop_front}
 use Rattle.yq_block_scalars.specs.Block.{Lines, is_empty_line, is_less_indented, ends_block}
 use Rattle.yq_block_scalars.specs.BlockRepair.{AreGap, is_short, is_outside, repaired_blank, repaired_comment, repair, comment_lines, is_behind}
@@ -26,10 +26,6 @@ moved f column t h1 h2 = search (rules, false≢true, eqb-true, no_spaces, space
 pub ends_less : (keep : Bool) (f : TextIndent) (l : List ℕ) (ls : Lines) → is_less_indented f l ≡ true → ends_block keep f (l ∷ ls) ≡ true
 unfolding ends_block
 ends_less keep f l ls h = rw (next_not_empty f l h) h
-
-pub ends_blank : (f : TextIndent) (l : List ℕ) (ls : Lines) → is_empty_line f l ≡ true → ends_block false f ls ≡ true → ends_block false f (l ∷ ls) ≡ true
-unfolding ends_block
-ends_blank f l ls h k = rw h k
 
 pub ends_behind : (keep : Bool) (f : TextIndent) (rest : Lines) → is_behind f rest ≡ true → ends_block keep f rest ≡ true
 unfolding ends_block

@@ -1,7 +1,7 @@
 -- A repaired gap in front of a text.
 use Rattle.std.proofs.Common.{◌≡◌, ℕ, zero, suc, ◌<◌, Bool, true, false, cond, ◌||◌, eqb, List, [], ◌∷◌, ◌++◌, replicate, ◌⊎◌, inl, inr, refl, sym, ap, ◌∙◌, ⊎_elim, append_assoc, append-nil, rules}
 use Rattle.std.proofs.lemmas.Bool.{cond_both, cases_Bool}
-use Rattle.yq_block_scalars.proofs.BlockRepairLaws.{comment_less, blank_empty, ends_less, ends_blank, ends_behind}
+use Rattle.yq_block_scalars.proofs.BlockRepairLaws.{comment_less, blank_empty, ends_less, ends_behind}
 use Rattle.yq_flow_scalars.proofs.Bools.{at_byte}
 use Rattle.yq_block_scalars.proofs.LineLaws.{lines_again, joined_lines}
 use Rattle.yq_block_scalars.proofs.SpaceLaws.{white_drop}
@@ -11,6 +11,7 @@ use Rattle.yq_block_scalars.specs.BlockWritten.{closed}
 use Rattle.yq_flow_scalars.specs.Lines.{is_blank, is_hash}
 use Rattle.yq_flow_scalars.specs.Text.{is_white, past_white, upto, lines_of, put_byte, joined, is_line}
 use Rattle.yq_block_scalars.specs.declared.block_lines.TextIndent.{TextIndent}
+use Rattle.yq_block_scalars.proofs.RawLaws.{ends_blank}
 
 -- no LF is in the text
 abbrev NoFeed : List ℕ → Type 0

@@ -1,5 +1,5 @@
 -- A line that is written, and what it stands for.
-use Rattle.std.proofs.Common.{◌≡◌, ℕ, zero, suc, ◌+◌, true, false, eqb, min, List, [], ◌∷◌, ◌++◌, length, take, drop, replicate, refl, sym, ap, ◌∙◌, subst, inl, inr, ◌⊎◌, ⊎_elim, arith, eqb-true, append_assoc, rules}
+use Rattle.std.proofs.Common.{◌≡◌, ℕ, suc, ◌+◌, true, false, eqb, min, List, [], ◌∷◌, ◌++◌, length, take, drop, replicate, refl, sym, ap, ◌∙◌, subst, inl, inr, ◌⊎◌, ⊎_elim, arith, eqb-true, append_assoc, rules}
 use Rattle.std.proofs.lemmas.Bool.{false≢true, cond_both, false_from_ne_true, leb-true, le-leb, and_from, and_parts}
 use Rattle.std.proofs.Math.Seq.{take-append_seam}
 use Rattle.yq_block_scalars.specs.declared.block_types.Break.TheVariants as breaks
@@ -11,6 +11,7 @@ use Rattle.yq_flow_scalars.specs.Lines.{spaces}
 use Rattle.yq_flow_scalars.specs.Text.{ends_line, lines_of, put_byte, is_line, upto}
 use Rattle.yq_block_scalars.specs.declared.block_lines.TextIndent.{TextIndent}
 use Rattle.yq_block_scalars.specs.declared.block_types.Break.{Break}
+use Rattle.yq_block_scalars.proofs.BlockRepairText.{line_spaces}
 
 -- neither LF nor CR
 abbrev pub IsText : List ℕ → Type 0
@@ -33,11 +34,6 @@ text_line : (p br : List ℕ) → IsText p → IsBreak br → is_line (p ++ br) 
 unfolding is_line
 text_line [] br h b = break_line br b
 text_line (x ∷ p) br h b = rw h.0 (text_line p br h.2 b)
-
-spaces_line : (m : ℕ) (t : List ℕ) → is_line t ≡ true → is_line (replicate m 32 ++ t) ≡ true
-unfolding is_line
-spaces_line zero t h = h
-spaces_line (suc m) t h = spaces_line m t h
 
 body_text : (p br : List ℕ) → IsText p → IsBreak br → upto ends_line (p ++ br) ≡ length p
 unfolding upto
@@ -64,7 +60,7 @@ pub indented_raw : (m : ℕ) (p br : List ℕ) → IsText p → IsBreak br → I
 indented_raw m [] br h b = search (rules, le-leb, ⊎_elim, break_line)
 indented_raw m (x ∷ p) br h b =
     subst (IsRawLine (explicit_indent m)) (sym (ap (λ l. l ++ br) (indented_some m x p) ∙ line_regroup m (x ∷ p) br))
-    (spaces_line m ((x ∷ p) ++ br) (text_line (x ∷ p) br h b), inr (some_text m x p br h))
+    (line_spaces m ((x ∷ p) ++ br) (text_line (x ∷ p) br h b), inr (some_text m x p br h))
 
 -- it says its text
 min_zero : (m : ℕ) → min m 0 ≡ 0

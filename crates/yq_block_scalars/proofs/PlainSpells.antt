@@ -14,10 +14,10 @@ use Rattle.yq_flow_scalars.specs.Scalar.{ScalarText, IsScalar, plain_of, of_kind
 use Rattle.yq_flow_scalars.specs.Schema.{Resolves}
 use Rattle.yq_flow_scalars.specs.SchemaReading.{resolve}
 use Rattle.yq_flow_scalars.specs.Writable.{can_write_plain, is_string}
-use Rattle.yq_flow_scalars.proofs.Bools.{at_byte}
+use Rattle.yq_flow_scalars.proofs.Bools.{at_byte, none_of}
 use Rattle.yq_block_scalars.proofs.Bytes.{Each}
 use Rattle.yq_flow_scalars.proofs.PlainLaws.{plain_again}
-use Rattle.yq_block_scalars.proofs.PlainWritten.{is_no_control, no_controls, no_controls_parts, plain_text_parts, plain_written}
+use Rattle.yq_block_scalars.proofs.PlainWritten.{is_no_control, no_controls, plain_text_parts, plain_written}
 use Rattle.yq_flow_scalars.proofs.SchemaLaws.{resolve_takes, resolve_again}
 use Rattle.yq_block_scalars.proofs.SchemaPlain.{null_plain, bool_plain, int_plain, float_plain}
 
@@ -29,7 +29,7 @@ plain_one flow spaces p rest q other e a b =
 
 no_controls_line : (t : List ℕ) → Each is_no_control t → holds_break t ≡ false
 no_controls_line [] q = refl
-no_controls_line (b ∷ t) q = rw ((no_controls_parts (eqb b 9) (eqb b 10) (eqb b 13) q.0).1, no_controls_line t q.1) refl
+no_controls_line (b ∷ t) q = rw ((none_of (eqb b 9) (eqb b 10) (eqb b 13) q.0).1, no_controls_line t q.1) refl
 
 -- no break is in it
 pub plain_line : (flow : Bool) (t : List ℕ) → IsUtf8 t → is_plain_text flow t ≡ true → holds_break t ≡ false
@@ -42,7 +42,7 @@ text_chars (c ∷ cs) h = let p = and_parts (is_plain_char c) (list_all is_plain
 no_controls_pairs : (t : List ℕ) → Each is_no_control t → pairs_returns t ≡ true
 unfolding pairs_returns
 no_controls_pairs [] q = refl
-no_controls_pairs (b ∷ t) q = rw ((no_controls_parts (eqb b 9) (eqb b 10) (eqb b 13) q.0).2, no_controls_pairs t q.1) refl
+no_controls_pairs (b ∷ t) q = rw ((none_of (eqb b 9) (eqb b 10) (eqb b 13) q.0).2, no_controls_pairs t q.1) refl
 
 -- it is a text
 pub plain_is_text : (flow : Bool) (t : List ℕ) → IsUtf8 t → is_plain_text flow t ≡ true → is_text t ≡ true

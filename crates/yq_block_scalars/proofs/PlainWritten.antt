@@ -9,16 +9,13 @@ use Rattle.yq_flow_scalars.specs.Text.{NoneIn, is_empty, is_space, front}
 use Rattle.yq_flow_scalars.specs.Plain.{ends_plain, ends_text, is_flow_indicator, is_safe, IsPlain}
 use Rattle.yq_flow_scalars.specs.PlainReading.{across}
 use Rattle.yq_flow_scalars.specs.PlainText.{is_plain_char, begins_plainly, needs_quotes, no_rest, is_plain_text, is_merge, begins_marker}
-use Rattle.yq_flow_scalars.proofs.Bools.{at_byte, not_byte}
+use Rattle.yq_flow_scalars.proofs.Bools.{at_byte, not_byte, none_of}
 use Rattle.yq_flow_scalars.proofs.Across.{across_white, across_here, ends_space}
 use Rattle.yq_block_scalars.proofs.Bytes.{Each, each_byte}
 
 -- no control that white space and breaks are made of
 abbrev pub is_no_control : ℕ → Bool
 is_no_control b = not (eqb b 9 || eqb b 10 || eqb b 13)
-
-pub no_controls_parts : (x y z : Bool) → not (x || y || z) ≡ true → (x ≡ false) × (y ≡ false) × (z ≡ false)
-no_controls_parts x y z h1 = search (rules, false≢true)
 
 pub no_controls : (t : List ℕ) → IsUtf8 t → list_all is_plain_char (chars t) ≡ true → Each is_no_control t
 no_controls t u h = each_byte is_no_control is_plain_char t u h
@@ -43,7 +40,7 @@ front_of flow b bs h =
     record { flow_free = two.0; colon = two.1; space = none.1; rest = parts.1 }
 
 pub no_control_space : (b : ℕ) (bs : List ℕ) → is_no_control b ≡ true → eqb b 32 ≡ false → is_space (b ∷ bs) ≡ false
-no_control_space b bs q n = let p = no_controls_parts (eqb b 9) (eqb b 10) (eqb b 13) q in rw (n, p.0, p.1, p.2) refl
+no_control_space b bs q n = let p = none_of (eqb b 9) (eqb b 10) (eqb b 13) q in rw (n, p.0, p.1, p.2) refl
 
 safe_next : (flow : Bool) (d : ℕ) (q rest : List ℕ) → is_no_control d ≡ true → no_rest (needs_quotes flow) (d ∷ q) ≡ true → eqb d 32 ≡ false → is_safe flow (d ∷ (q ++ rest)) ≡ true
 safe_next flow d q rest no_controls h n = rw (no_control_space d (q ++ rest) no_controls n, (front_of flow d q h).flow_free) refl

@@ -77,9 +77,9 @@ none_split (l ∷ a) b h some = cc
 no_more : (ls : Lines) (x : Lines × Lines) → ls ≡ [] → Cut ls x → no_lines x.0 ≡ false → ⊥
 no_more ls x none cut some = none_split x.0 x.1 (sym none ∙ cut) some
 
-seam_empty : (f : TextIndent) (l : List ℕ) (ls : Lines) → is_empty_line f l ≡ true → ends_block false f ls ≡ true → ends_block false f (l ∷ ls) ≡ true
+pub ends_blank : (f : TextIndent) (l : List ℕ) (ls : Lines) → is_empty_line f l ≡ true → ends_block false f ls ≡ true → ends_block false f (l ∷ ls) ≡ true
 unfolding ends_block
-seam_empty f l ls is h = rw is h
+ends_blank f l ls is h = rw is h
 
 takes_empty : (keep : Bool) (f : TextIndent) (l : List ℕ) (ls : Lines) (x y : Lines × Lines) → is_empty_at keep f l ≡ true → (is_line l ≡ true) ⊎ (ls ≡ []) → Cut ls x → IsRaw keep f x → with_empty keep l ls x ≡ Some y → IsRaw keep f y
 takes_empty true f l ls x y is line cut h e = search (rules, same_Some, and_parts)
@@ -88,7 +88,7 @@ takes_empty false f l ls x y is line cut h e =
     ⊎_elim {0, 0, 0}
     (λ w. let none : x.0 ≡ [] = joined_none f x.0 h.lines w.0 in
     let behind : ls ≡ x.1 = cut ∙ ap (λ m. m ++ x.1) none in
-    subst (IsRaw false f) (same_Some _ _ w.1) (record { lines = tt; ends = inr refl; behind = seam_empty f l ls parts.0 (subst (λ m. ends_block false f m ≡ true) (sym behind) h.behind) }))
+    subst (IsRaw false f) (same_Some _ _ w.1) (record { lines = tt; ends = inr refl; behind = ends_blank f l ls parts.0 (subst (λ m. ends_block false f m ≡ true) (sym behind) h.behind) }))
     (λ w. let some = some_lines x.0 w.0 in
     let broken : is_line l ≡ true = ⊎_elim {0, 0, 0} (λ b. b) (λ none. absurd (no_more ls x none cut some)) line in
     subst (IsRaw false f) (same_Some _ _ w.1) (record {
