@@ -1,5 +1,5 @@
 -- A repaired gap may stand behind a block scalar and keeps its comments.
-use Rattle.std.proofs.Common.{◌≡◌, ℕ, zero, suc, ◌+◌, ◌<◌, Bool, true, false, ◌||◌, eqb, List, [], ◌∷◌, ◌++◌, drop, replicate, refl, sym, ap, ◌∙◌, ⊎_elim, eqb-true, rules}
+use Rattle.std.proofs.Common.{◌≡◌, ℕ, zero, suc, ◌<◌, Bool, true, false, ◌||◌, eqb, List, [], ◌∷◌, ◌++◌, drop, replicate, refl, sym, ap, ◌∙◌, ⊎_elim, eqb-true, rules}
 use Rattle.std.proofs.lemmas.Bool.{false≢true, cond_both, or_cases, false_from_ne_true, le-leb, or_right, lt-ltb, and_from, and_parts, cases_Bool}
 use Rattle.yq_block_scalars.proofs.RawLaws.{next_not_empty, ends_blank}
 use Rattle.yq_block_scalars.proofs.SpaceLaws.{white_drop, spaces_blank, prefix_none, spaces_front, drop_front}

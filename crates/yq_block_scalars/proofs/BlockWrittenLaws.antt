@@ -1,5 +1,5 @@
 -- What is written is a block scalar and stands for the text.
-use Rattle.std.proofs.Common.{◌≡◌, ℕ, ◌+◌, ◌≤◌, Bool, true, false, cond, not, ◌&&◌, eqb, List, [], ◌∷◌, ◌++◌, length, refl, sym, ap, ◌∙◌, subst, ⊎_elim, rules}
+use Rattle.std.proofs.Common.{◌≡◌, ℕ, ◌≤◌, Bool, true, false, cond, not, ◌&&◌, eqb, List, [], ◌∷◌, ◌++◌, length, refl, sym, ap, ◌∙◌, subst, ⊎_elim, rules}
 use Rattle.std.proofs.lemmas.Bool.{false≢true, not-true, and_parts, or_parts}
 use Rattle.yq_block_scalars.proofs.BlockWrittenLines.{IsText, IsBreak, break_is, explicit_indent, not_end, some_text, line_regroup, indented_some, indented_raw, indented_part, NoCr, Good, text_next, lines_good}
 use Rattle.yq_block_scalars.proofs.LineLaws.{joined_lines, AreLines, lines_are}

@@ -1,5 +1,5 @@
 -- What is written in quotes is a quoted scalar that stands for its string.
-use Rattle.std.proofs.Common.{◌≡◌, ℕ, ◌+◌, ◌/◌, ◌%◌, ◌<◌, ◌≤◌, Bool, true, false, cond, ◌&&◌, ◌||◌, not, eqb, leb, ltb, List, [], ◌∷◌, ◌++◌, Option, Some, None, is_none, flat_map, refl, sym, inl, inr, ap, ◌∙◌, subst, arith, eqb-true, append_assoc, append-nil, rules}
+use Rattle.std.proofs.Common.{◌≡◌, ℕ, ◌/◌, ◌%◌, ◌<◌, ◌≤◌, Bool, true, false, cond, ◌&&◌, ◌||◌, not, eqb, leb, ltb, List, [], ◌∷◌, ◌++◌, Option, Some, None, is_none, flat_map, refl, sym, inl, inr, ap, ◌∙◌, subst, arith, eqb-true, append_assoc, append-nil, rules}
 use Rattle.std.proofs.lemmas.Bool.{false≢true, cases_lt, cond_both, ltb-true, ltb-false, le-leb, lt-ltb, le-ltb, and_from, not_from_false, or_cases, or_right, ne_eqb, and_parts, cases_Bool}
 use Rattle.std.proofs.Math.Utf8.{encodes, encode, scalar, scalars}
 use Rattle.std.proofs.lemmas.Str.{encode_ascii, encodes-chars, scalars-chars}
