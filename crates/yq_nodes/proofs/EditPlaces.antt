@@ -1,7 +1,7 @@
 -- Where nodes, items and entries begin and end.
-use Rattle.std.proofs.Common.{◌≡◌, ℕ, ◌-◌, List, length, refl, ◌∙◌}
+use Rattle.std.proofs.Common.{◌≡◌, ℕ, ◌-◌, List, length, refl, ◌∙◌, rules}
 use Rattle.yq_nodes.specs.Entries.{EntryPieces, start_of, end_of, entry_start, locate_entry, pieces_text}
-use Rattle.yq_nodes.specs.Nodes.{Key, bare, keyed, Node, empty, alias, scalar, coll, anchored, key_text, node_text}
+use Rattle.yq_nodes.specs.Nodes.{Node, empty, alias, scalar, coll, anchored, node_text}
 use Rattle.yq_nodes.specs.Places.{Placed, placed, with_anchor, locate}
 
 -- where a node begins and ends
@@ -29,7 +29,4 @@ end_placed total (anchored n g node) rest = end_anchor n _ (locate total node re
 
 -- where an item or entry begins
 pub entry_placed : (total : ℕ) (x : EntryPieces) → entry_start (locate_entry total x) ≡ total - length (pieces_text x)
-entry_placed total x = go x.key where
-  go : (key : Key) → entry_start (locate_entry total (record { key = key; node = x.node; rest = x.rest })) ≡ total - length (key_text key (node_text x.node x.rest))
-  go bare = start_placed total x.node x.rest
-  go (keyed p b g) = refl
+entry_placed total x = search (rules, start_placed)

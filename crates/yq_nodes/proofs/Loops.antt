@@ -1,5 +1,5 @@
 -- The loops over items and entries.
-use Rattle.std.proofs.Common.{◌≡◌, ℕ, ◌<◌, true, false, List, [], ◌∷◌, ◌++◌, length, Option, Some, None, refl, sym, ap, ◌∙◌, arith, String, string_bytes}
+use Rattle.std.proofs.Common.{◌≡◌, ℕ, ◌<◌, true, false, List, [], ◌∷◌, ◌++◌, length, Option, Some, None, refl, sym, ap, ◌∙◌, arith, String, string_bytes, rules}
 use Rattle.std.proofs.lemmas.Option.{same_Some}
 use Rattle.std.specs.declared.alloc.Global.{Global}
 use Rattle.yq_flow_scalars.specs.declared.piece.Piece.{Piece}
@@ -37,9 +37,7 @@ behind_push is x None = refl
 -- one item more
 pub items_on : (total d : ℕ) (is items : List Inline) (x : Inline) (t s : List ℕ) (all : Option (Parts × List ℕ)) → first_is 93 t ≡ false → placed_item total d t ≡ Some (view x, s) →
     items ≡ is ++ x ∷ [] → behind_items is (placed_items total d 93 t) ≡ all → behind_items items (placed_items total d 93 s) ≡ all
-items_on total d is items x t s all opens item pushed so_far =
-    let step : placed_items total d 93 t ≡ then_entry total d 93 None (view x) s = items_more total d t opens ∙ rw item refl in
-    rw pushed (behind_push is x (placed_items total d 93 s) ∙ (ap (behind_items is) (sym step) ∙ so_far))
+items_on total d is items x t s all opens item pushed so_far = search (rules, then_entry, items_more, behind_push)
 
 abbrev Entry : Type 0
 Entry = String Global × Piece × Inline
@@ -55,6 +53,4 @@ behind_entry es e None = refl
 -- one entry more
 pub entries_on : (total d : ℕ) (es entries : List Entry) (e : Entry) (t s : List ℕ) (all : Option (Parts × List ℕ)) → first_is 125 t ≡ false → placed_entry total d t ≡ Some (((string_bytes e.0, e.1), view e.2), s) →
     entries ≡ es ++ e ∷ [] → behind_entries es (placed_items total d 125 t) ≡ all → behind_entries entries (placed_items total d 125 s) ≡ all
-entries_on total d es entries e t s all opens entry pushed so_far =
-    let step : placed_items total d 125 t ≡ then_entry total d 125 (Some (string_bytes e.0, e.1)) (view e.2) s = entries_more total d t opens ∙ rw entry refl in
-    rw pushed (behind_entry es e (placed_items total d 125 s) ∙ (ap (behind_entries es) (sym step) ∙ so_far))
+entries_on total d es entries e t s all opens entry pushed so_far = search (rules, then_entry, string_bytes, entries_more, behind_entry)

@@ -1,5 +1,5 @@
 -- What is read is a node.
-use Rattle.std.proofs.Common.{◌≡◌, ℕ, zero, suc, Bool, true, false, cond, not, ◌&&◌, ◌||◌, eqb, List, [], ◌∷◌, ◌++◌, drop, Option, Some, None, refl, ap, ◌∙◌, subst, inl, inr, ◌⊎◌, ⊎_elim, eqb-true}
+use Rattle.std.proofs.Common.{◌≡◌, ℕ, zero, suc, Bool, true, false, cond, not, ◌&&◌, ◌||◌, eqb, List, ◌∷◌, ◌++◌, drop, Option, Some, None, refl, ap, ◌∙◌, subst, inl, inr, ◌⊎◌, ⊎_elim, eqb-true, rules}
 use Rattle.std.proofs.lemmas.Bool.{false≢true, and_parts}
 use Rattle.std.proofs.lemmas.Option.{cond_some, same_Some}
 use Rattle.yq_flow_scalars.specs.Text.{unless, is_empty}
@@ -52,11 +52,7 @@ content_takes flow spaces kids d t x take_kids amp h = ⊎_elim {0, 0, 0}
 
 -- behind a name stands no `&`
 no_amp : (t : List ℕ) → unless in_name t ≡ true → first_is 38 t ≡ false
-no_amp [] h = refl
-no_amp (b ∷ t) h = elim (eqb b 38) as (λ c. eqb b 38 ≡ c → c ≡ false) [
-  | true ↦ (λ e. let same : b ≡ 38 = eqb-true b 38 e in absurd (false≢true (subst (λ (x : ℕ). unless in_name (x ∷ t) ≡ true) same h)))
-  | false ↦ (λ e. refl)
-] refl
+no_amp t h1 = search (rules, eqb-true, false≢true)
 
 content_no_amp : (flow : Bool) (t : List ℕ) → begins_content flow t ≡ true → first_is 38 t ≡ false
 content_no_amp flow t h = front_not (begins_content flow) 38 (λ bs. refl) t h

@@ -1,30 +1,22 @@
 -- Where a path leads in a node, in its tree, and in its text.
-use Rattle.std.proofs.Common.{arith, ◌+◌, length, ◌≡◌, ℕ, zero, suc, Bool, true, false, cond, eqb, List, [], ◌∷◌, ◌++◌, Option, Some, None, option_map, option_and_then, refl, sym, ap, ◌∙◌, subst, append_assoc}
+use Rattle.std.proofs.Common.{arith, ◌+◌, length, ◌≡◌, ℕ, zero, suc, Bool, true, false, cond, eqb, List, [], ◌∷◌, ◌++◌, Option, Some, None, option_map, option_and_then, refl, sym, ap, ◌∙◌, subst, append_assoc, rules}
 use Rattle.std.proofs.lemmas.Option.{same_Some}
 use Rattle.yq_flow_scalars.specs.Paths.{Step, is_here, further, child_at, node_at}
 use Rattle.yq_flow_scalars.specs.Tree.{children_of}
 use Rattle.yq_flow_scalars.specs.Tree as tree
 use Rattle.yq_nodes.specs.Nodes.{Node, empty, alias, scalar, coll, anchored, Items, none, item, key_text, sep_text, node_text, items_text, open_of, IsNode, AreItems}
 use Rattle.yq_nodes.specs.Entries.{PlacedEntry, EntryPieces, StandsIn, parts_in, parts_of, part_at, placed_entry_at, pieces_text, locate_entry, item_at, inside, entry_pieces_at}
-use Rattle.yq_nodes.specs.Places.{Placed, placed, Content, nothing, name, text, sequence, mapping, Parts, end, part, holder, locate, locate_items, with_anchor}
+use Rattle.yq_nodes.specs.Places.{Placed, placed, Content, text, sequence, mapping, Parts, end, part, holder, locate, locate_items, with_anchor}
 use Rattle.yq_nodes.specs.Trees.{inner, named, key_content, unplaced_key, placed_tree, content_tree, parts_tree}
 use Rattle.yq_nodes.proofs.TreeLaws.{key_tree}
 use Rattle.yq_nodes.proofs.WrittenLaws.{key_append, sep_append, node_append}
 
 -- in the tree
 named_children : (a : Option (List ℕ)) (v : tree.Node) → children_of (named a v) ≡ children_of v
-named_children None v = refl
-named_children (Some a) (tree.alias n) = refl
-named_children (Some a) (tree.scalar b kind t) = refl
-named_children (Some a) (tree.list b cs) = refl
-named_children (Some a) (tree.map b cs) = refl
+named_children a v = search rules
 
 content_children : (what : Content) → children_of (content_tree what) ≡ parts_tree (parts_in what)
-content_children nothing = refl
-content_children (name n) = refl
-content_children (text s piece) = refl
-content_children (sequence parts) = refl
-content_children (mapping parts) = refl
+content_children what = search rules
 
 placed_children : (p : Placed) → children_of (placed_tree p) ≡ parts_tree (parts_of p)
 placed_children (placed a s c e what) = named_children a (content_tree what) ∙ content_children what
