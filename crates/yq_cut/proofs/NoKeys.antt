@@ -57,10 +57,6 @@ line_no_colon (b ∷ bs) l h = elim (cases_Bool (is_white b)) [
   ]
 ]
 
--- whether text that doesn't end the scalar follows behind white space and breaks
-abbrev goes_on : List ℕ → Bool
-goes_on t = not (is_empty t) && not (front (λ b. eqb b 35) t) && not (ends_text false t)
-
 may_none : (d : ℕ) (line : Option (List ℕ)) (text : List ℕ) → may_follow None line text ≡ true → may_follow (Some d) line text ≡ true
 may_none d None text h = refl
 may_none d (Some l) text h = absurd (false≢true h)
@@ -89,10 +85,6 @@ plain_no_colon d (b ∷ p) rest n e c =
 
 plain_no_quote : (t : List ℕ) → begins_plain false t ≡ true → is_quoted t ≡ false
 plain_no_quote t h1 = search (rules, front_not)
-
--- a key that was read up to its `:`
-abbrev then_colon : Option (List ℕ × List ℕ) → Option (List ℕ × List ℕ × List ℕ)
-then_colon o = o >>= λ key. colon_at key.1 >>= λ colon. cond (leb (length (chars key.0) + length (chars colon.0)) (key_limit + 1)) (Some (key.0, colon.0, colon.1)) None
 
 scalar_no_key : (d : ℕ) (p rest : List ℕ) → IsScalarAt false (Some d) p rest → colon_at rest ≡ None → key_at (p ++ rest) ≡ None
 unfolding key_at scalar_at plain_at
