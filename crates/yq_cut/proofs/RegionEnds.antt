@@ -3,23 +3,22 @@ use Rattle.std.proofs.Common.{◌≡◌, inl, inr, ℕ, ℤ, Bool, true, false, 
 use Rattle.std.proofs.lemmas.Bool.{false≢true, and_parts, cases_Bool}
 use Rattle.yq_block_scalars.specs.Block.{ends_block, is_empty_line}
 use Rattle.yq_block_scalars.specs.declared.block_lines.TextIndent.{TextIndent}
-use Rattle.yq_flow_scalars.specs.Text.{is_empty, is_line}
+use Rattle.yq_flow_scalars.specs.Text.{is_empty}
 use Rattle.yq_nodes.specs.Alike.{Alike}
 use Rattle.yq_nodes.proofs.Alikes.{alike_append}
 use Rattle.yq_cut.specs.Gap.{IsGap}
-use Rattle.yq_cut.specs.Grammar.{Limit, IsTail, IsContent, IsRow, IsMarkerLine}
+use Rattle.yq_cut.specs.Grammar.{Limit, IsContent, IsRow, IsMarkerLine}
 use Rattle.yq_cut.specs.Items.{Item, row_item, end_item, items_of, items_text, Asked, nothing_asked, asked_by, asked_of, AreRowItems}
 use Rattle.yq_cut.specs.Regions.{StandIn, ended, IsReadAlone}
 use Rattle.yq_cut.specs.Rows.{Content, Row, parent_indent}
-use Rattle.yq_cut.specs.Seams.{is_closed, is_seam, TakesPlace}
+use Rattle.yq_cut.specs.Seams.{is_seam, TakesPlace}
 use Rattle.yq_cut.proofs.AlikeRows.{marker_line_alike, row_alike, row_gap_alike, row_text_alike}
-use Rattle.yq_cut.proofs.EmptyTexts.{none_is}
 use Rattle.yq_cut.proofs.ItemLaws.{items_joined, parts_are_items}
 use Rattle.yq_cut.proofs.NothingLaws.{gap_other, some_behind}
 use Rattle.yq_cut.proofs.ItemCuts.{Ended, alone_read, cut_of_items, cut_of, last_items, no_last, no_marker}
 use Rattle.yq_cut.proofs.seams.GapSeams.{gap_lines_of, lines_before}
 use Rattle.yq_cut.proofs.seams.MarkerSeams.{marker_line_is, marker_seam}
-use Rattle.yq_cut.proofs.seams.SeamLaws.{plain_before, row_seam, tail_line}
+use Rattle.yq_cut.proofs.seams.SeamLaws.{plain_before, row_seam}
 use Rattle.yq_cut.proofs.seams.FrontSeams.{closed_line, tail_any}
 
 -- a gap at the end of a text
