@@ -48,6 +48,7 @@ marked_ends es n k p marker (Some c) =
 -- where the end of a part begins
 end_place : (whole t : List ℕ) (p : Part) (after : List ℕ) → Ends t whole → t ≡ rows_text p.rows (p.end ++ after) → length whole - length (p.end ++ after) ≡ (length whole - length t) + length (rows_text p.rows [])
 end_place whole t p after h e = next_place whole t (rows_text p.rows []) (p.end ++ after) h (e ∙ nil_before p.rows (p.end ++ after))
+
 -- The end of a part that was read, as the code keeps it.
 pub record IsKeptEnd (whole t after marker rest : List ℕ) (rows : ℕ) (p : Part) (e : EndPlace) : Type 0 where
   pub ends : Ends t whole
