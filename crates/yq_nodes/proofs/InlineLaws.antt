@@ -1,5 +1,5 @@
 -- The inline node at an offset, read and spelled.
-use Rattle.std.proofs.Common.{◌≡◌, ℕ, ◌-◌, not, List, length, drop, Some, sym, ap, ◌∙◌, subst, ℤ, Result, Ok, Err, IfOk, rules}
+use Rattle.std.proofs.Common.{◌≡◌, ℕ, ◌-◌, not, List, length, drop, Some, subst, ℤ, Result, Ok, Err, IfOk, rules}
 use Rattle.std.proofs.lemmas.Option.{cond_some, same_Some}
 use Rattle.yq_flow_scalars.specs.declared.fault.ReadError.{ReadError}
 use Rattle.yq_flow_scalars.specs.declared.style.Place.{Place}
@@ -8,8 +8,7 @@ use Rattle.yq_flow_scalars.specs.Piece.{further_spaces}
 use Rattle.yq_flow_scalars.specs.Writable.{in_flow}
 use Rattle.yq_flow_scalars.proofs.Bools.{bind_some}
 use Rattle.yq_nodes.specs.Inline.{depth_limit, IsInlineAt, inline_at}
-use Rattle.yq_nodes.specs.Nodes.{is_bare}
-use Rattle.yq_nodes.specs.Places.{Placed, locate, bare_placed}
+use Rattle.yq_nodes.specs.Places.{Placed, bare_placed}
 use Rattle.yq_nodes.specs.PlacedReading.{placed_node}
 use Rattle.yq_nodes.specs.Reading.{all_node}
 use Rattle.yq_nodes.proofs.NodeLaws.{all_takes, all_again}
@@ -24,15 +23,7 @@ inline_takes place n depth at text p h =
     let y = bind_some (all_node flow spaces d (drop at text)) x.1 in
     let g = cond_some (not (bare_placed x.0.0)) _ _ x.2 in
     let a = all_takes flow spaces d (drop at text) y.0 y.1 in
-    let here : locate (length text) y.0.0 y.0.1 ≡ x.0.0 = ap (λ (z : Placed × List ℕ). z.0) (same_Some _ _ y.2) in
-    let bare : bare_placed x.0.0 ≡ is_bare y.0.0 = ap bare_placed (sym here) ∙ bare_locate (length text) y.0.0 y.0.1 in
-    record {
-      node = y.0.0;
-      rest = y.0.1;
-      stands = a.0;
-      inline = record { valid = a.1; something = ap not (sym bare) ∙ g.0 };
-      places = sym g.1 ∙ sym here;
-    }
+    search (rules, same_Some, bare_locate, y, a, g)
 
 pub inline_again : (place : Place) (n : ℤ) (depth at : ℕ) (text : List ℕ) (p : Placed) → IsInlineAt place n depth at text p → inline_at place n depth at text ≡ Some p
 inline_again place n depth at text p h = search (rules, all_again, bare_locate)

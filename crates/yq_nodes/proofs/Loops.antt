@@ -1,5 +1,5 @@
 -- The loops over items and entries.
-use Rattle.std.proofs.Common.{◌≡◌, ℕ, ◌<◌, true, false, List, [], ◌∷◌, ◌++◌, length, Option, Some, None, refl, sym, ap, ◌∙◌, arith, String, string_bytes, rules}
+use Rattle.std.proofs.Common.{◌≡◌, ℕ, ◌<◌, true, false, List, [], ◌∷◌, ◌++◌, length, Option, Some, None, refl, ap, String, string_bytes, rules}
 use Rattle.std.proofs.lemmas.Option.{same_Some}
 use Rattle.std.specs.declared.alloc.Global.{Global}
 use Rattle.yq_flow_scalars.specs.declared.piece.Piece.{Piece}
@@ -7,7 +7,7 @@ use Rattle.yq_flow_scalars.specs.Answers.{◌>>=◌}
 use Rattle.yq_flow_scalars.proofs.Bools.{bind_some}
 use Rattle.yq_nodes.specs.declared.inline.Inline.{Inline}
 use Rattle.yq_nodes.specs.Nodes.{first_is, bare, is_bare, node_text}
-use Rattle.yq_nodes.specs.Places.{Placed, Parts, part, locate, bare_placed}
+use Rattle.yq_nodes.specs.Places.{Placed, Parts, part, bare_placed}
 use Rattle.yq_nodes.specs.PlacedReading.{placed_node, placed_items, placed_item, placed_entry}
 use Rattle.yq_nodes.specs.Reading.{all_node}
 use Rattle.yq_nodes.specs.View.{view, items_view, entries_view, behind_items, behind_entries}
@@ -20,11 +20,9 @@ pub node_shorter : (total d : ℕ) (t : List ℕ) (s : Placed) (r : List ℕ) �
 node_shorter total d t s r h some =
     let x = bind_some (all_node true (Some 0) d t) h in
     let a = all_takes true (Some 0) d t x.0 x.1 in
-    let same : locate total x.0.0 x.0.1 ≡ s = ap (λ y. y.0) (same_Some _ _ x.2) in
-    let rest : x.0.1 ≡ r = ap (λ y. y.1) (same_Some _ _ x.2) in
-    let full : is_bare x.0.0 ≡ false = sym (bare_locate total x.0.0 x.0.1) ∙ (ap bare_placed same ∙ some) in
+    let full : is_bare x.0.0 ≡ false = search (rules, same_Some, bare_locate, x) in
     let less : length x.0.1 < length (node_text x.0.0 x.0.1) = item_longer true (Some 0) d bare x.0.0 x.0.1 (rw full refl) a.1 in
-    omega (arith, less, ap length a.0, ap length rest)
+    search (rules, same_Some, less, x, a)
 
 items_push : (is : List Inline) (x : Inline) (rest : Parts) → items_view (is ++ x ∷ []) rest ≡ items_view is (part None (view x) rest)
 items_push [] x rest = refl

@@ -1,5 +1,5 @@
 -- The parts of an inline node lie inside it, one behind the other.
-use Rattle.std.proofs.Common.{ℕ, suc, ◌+◌, ◌-◌, ◌≤◌, true, false, eqb, cond, List, ◌++◌, length, refl, sym, ap, subst, arith, length-append, ℤ, Result, Ok, Err, IfOk, rules}
+use Rattle.std.proofs.Common.{ℕ, suc, ◌-◌, ◌≤◌, true, false, eqb, cond, List, ◌++◌, length, refl, sym, ap, subst, arith, length-append, ℤ, Result, Ok, Err, IfOk, rules}
 use Rattle.std.proofs.lemmas.List.{length-drop}
 use Rattle.yq_flow_scalars.specs.declared.fault.ReadError.{ReadError}
 use Rattle.yq_flow_scalars.specs.declared.style.Place.{Place}

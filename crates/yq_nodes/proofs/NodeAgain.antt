@@ -100,12 +100,9 @@ close_letter k h = ⊎_elim (λ e. let same : k ≡ 93 = eqb-true k 93 e in rw s
 open_close : (j k : ℕ) → is_close k ≡ true → eqb (open_of j) k ≡ false
 open_close j k h = let c = close_letter k h in cond_both (eqb j 125) 123 91 (λ x. eqb x k ≡ false) (λ _. c.5) (λ _. c.4)
 
-node_front : (flow : Bool) (spaces : Option ℕ) (d k : ℕ) (node : Node) (rest : List ℕ) → is_close k ≡ true → is_bare node ≡ false → IsNode flow spaces d node rest → first_is k (node_text node rest) ≡ false
-unfolding node_text IsNode
-node_front flow spaces d k node rest h1 h2 h3 = search (rules, false≢true, close_letter, letter_front, scalar_begins, open_close)
-
 pub item_front : (flow : Bool) (spaces : Option ℕ) (d k : ℕ) (key : Key) (node : Node) (rest : List ℕ) → is_close k ≡ true → (is_keyed key || not (is_bare node)) ≡ true → IsInlineKey k key (node_text node rest) → IsNode flow spaces d node rest → first_is k (key_text key (node_text node rest)) ≡ false
-item_front flow spaces d k bare node rest c e a h = node_front flow spaces d k node rest c (not-true (is_bare node) e) h
+unfolding node_text IsNode
+item_front flow spaces d k bare node rest c e a h = search (rules, false≢true, close_letter, letter_front, scalar_begins, open_close, not-true)
 item_front flow spaces d k (keyed t b g) node rest c e a h = letter_front true k (t ++ (b ++ (58 ∷ (g ++ node_text node rest)))) ((close_letter k c).0 true) (scalar_begins true None t (b ++ (58 ∷ (g ++ node_text node rest))) a.1)
 
 pub key_in_again : (k : ℕ) (key : Key) (rest : List ℕ) → IsInlineKey k key rest → key_in k (key_text key rest) ≡ Some (key, rest)

@@ -4,7 +4,7 @@ use Rattle.std.proofs.lemmas.Option.{same_Some}
 use Rattle.yq_flow_scalars.specs.Text.{is_empty}
 use Rattle.yq_flow_scalars.specs.Answers.{◌>>=◌}
 use Rattle.yq_flow_scalars.proofs.Bools.{guard_then}
-use Rattle.yq_nodes.specs.Nodes.{first_is, key_text, Key, Sep, Node, coll, anchored, Items, none, item, node_text, begins_content, is_keyed, is_bare, takes_anchor, IsNode}
+use Rattle.yq_nodes.specs.Nodes.{first_is, Key, Sep, Node, coll, anchored, Items, none, item, node_text, begins_content, is_keyed, is_bare, takes_anchor, IsNode}
 use Rattle.yq_nodes.specs.Reading.{gap_at, name_at, lead_at, sep_at, Kids, coll_at, content_at, node_at, deeper, items_at, all_items, kids_of, all_node}
 use Rattle.yq_nodes.proofs.Binds.{bind_same}
 use Rattle.yq_nodes.proofs.GapLaws.{gap_takes}
@@ -63,10 +63,9 @@ left n d k t key node sep a b c =
     let x = key_in_takes k t key a in
     let y = node_takes true (Some 0) (kids_by n d) d key.1 node (kids_take n d (items_takes n)) b in
     let z = sep_takes k node.1 sep some.1 in
-    let whole : t ≡ key_text key.0 (node_text node.0 node.1) = x.0 ∙ ap (key_text key.0) y.0 in
     let less = item_longer true (Some 0) d key.0 node.0 node.1 some.0 y.1 in
     let more : length sep.1 ≤ length node.1 = rw z.0 (sep_longer sep.0 sep.1) in
-    rw whole (omega arith)
+    search (rules, y, x)
 
 deeper_same : {A : Type 0} (d : ℕ) (f g : ℕ → Option A) → ((e : ℕ) → f e ≡ g e) → deeper d f ≡ deeper d g
 deeper_same zero f g h = refl

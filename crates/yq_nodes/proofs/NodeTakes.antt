@@ -50,16 +50,12 @@ content_takes flow spaces kids d t x take_kids amp h = ⊎_elim {0, 0, 0}
     (chosen (first_is 91 t) e.1))
     (chosen (first_is 42 t) h)
 
--- behind a name stands no `&`
-no_amp : (t : List ℕ) → unless in_name t ≡ true → first_is 38 t ≡ false
-no_amp t h1 = search (rules, eqb-true, false≢true)
-
 content_no_amp : (flow : Bool) (t : List ℕ) → begins_content flow t ≡ true → first_is 38 t ≡ false
 content_no_amp flow t h = front_not (begins_content flow) 38 (λ bs. refl) t h
 
 pub lead_amp : (flow : Bool) (t g r : List ℕ) → unless in_name t ≡ true → t ≡ g ++ r → IsLead flow (begins_content flow) g r → first_is 38 r ≡ false
 lead_amp flow t g r ends is (inl e) = content_no_amp flow r e.1
-lead_amp flow t g r ends is (inr e) = let same : t ≡ r = is ∙ ap (λ l. l ++ r) e.0 in no_amp r (subst (λ (l : List ℕ). unless in_name l ≡ true) same ends)
+lead_amp flow t g r ends is (inr e) = search (rules, eqb-true, false≢true)
 
 pub node_takes : (flow : Bool) (spaces : Option ℕ) (kids : Kids) (d : ℕ) (t : List ℕ) (x : Node × List ℕ) → KidsTake kids d → node_at flow spaces kids t ≡ Some x → Nodal flow spaces d t x
 unfolding node_at node_text IsNode

@@ -64,5 +64,4 @@ index_in_entries es i s same = sym (ap (λ (t : declared.Step). part_at (step_of
 pub by_tree : (r : Option Entry) (ss : List Step) (n : Inline) → option_map entry_view r ≡ placed_entry_at ss (None, view n) → option_map (λ e. placed_tree (view e.node.now)) r ≡ node_at ss (placed_tree (view n))
 by_tree r ss n h = go r ∙ (ap (option_map entry_tree) h ∙ path_tree ss (None, view n)) where
   go : (r : Option Entry) → option_map (λ e. placed_tree (view e.node.now)) r ≡ option_map entry_tree (option_map entry_view r)
-  go None = refl
-  go (Some e) = refl
+  go r = search rules

@@ -4,7 +4,7 @@ use Rattle.std.proofs.Math.Bool.{and-false}
 use Rattle.std.proofs.lemmas.Bool.{false≢true, cond_both, not-true, false_from_ne_true, and_parts}
 use Rattle.std.proofs.lemmas.Option.{cond_some, same_Some}
 use Rattle.yq_flow_scalars.specs.Answers.{◌>>=◌}
-use Rattle.yq_flow_scalars.specs.Plain.{begins_plain, ends_plain, ends_text, is_flow_indicator}
+use Rattle.yq_flow_scalars.specs.Plain.{begins_plain, ends_plain, ends_text}
 use Rattle.yq_flow_scalars.specs.Quoted.{spell_lines}
 use Rattle.yq_flow_scalars.specs.QuotedReading.{quoted_at}
 use Rattle.yq_flow_scalars.specs.Text.{upto, cut, unless, is_empty, is_space, no_white}
@@ -29,12 +29,8 @@ pub front_is : (k : ℕ) (t : List ℕ) → first_is k t ≡ true → t ≡ k �
 front_is k [] h = absurd (false≢true h)
 front_is k (b ∷ t) h = ap (λ x. x ∷ t) (eqb-true b k h)
 
--- plain scalars
-no_flow : (flow : Bool) (b : ℕ) (bs : List ℕ) → begins_plain flow (b ∷ bs) ≡ true → is_flow_indicator b ≡ false
-no_flow flow b bs h = search (rules, front_not)
-
 goes_on : (flow : Bool) (b : ℕ) (bs : List ℕ) → begins_plain flow (b ∷ bs) ≡ true → ends_text flow (b ∷ bs) ≡ false
-goes_on flow b bs h = search (rules, eqb-true, no_flow, and-false)
+goes_on flow b bs h = search (rules, front_not, eqb-true, and-false)
 
 pub no_space : (flow : Bool) (b : ℕ) (bs : List ℕ) → begins_plain flow (b ∷ bs) ≡ true → is_space (b ∷ bs) ≡ false
 no_space flow b bs h = not-true (is_space (b ∷ bs)) (and_parts _ _ h).0
@@ -132,10 +128,6 @@ colon_takes p t r h =
     let tests = and_parts (first_is 58 t) (ends_key p (drop 1 t)) g.0 in
     subst (λ (y : List ℕ). (t ≡ 58 ∷ y) × (ends_key p y ≡ true)) g.1 (front_is 58 t tests.0, tests.1)
 
-colon_again : (p r : List ℕ) → ends_key p r ≡ true → colon_at p (58 ∷ r) ≡ Some r
-unfolding colon_at
-colon_again p r h = rw h refl
-
 -- keys
 pub key_takes : (t : List ℕ) (x : Key × List ℕ) → key_at t ≡ Some x → (t ≡ key_text x.0 x.1) × IsInlineKey 125 x.0 x.1
 unfolding key_at
@@ -154,8 +146,8 @@ key_takes t x h =
     (a.0 ∙ ap (λ l. key.0.0 ++ l) all, (refl, subst (IsScalarAt true None key.0.0) all a.1, subst (IsInlineGap before.0.0) behind b.1, subst (λ (r : List ℕ). ends_key key.0.0 r ≡ true) d.0 c.1, d.1))
 
 pub key_again : (key : Key) (rest : List ℕ) → is_keyed key ≡ true → IsInlineKey 125 key rest → key_at (key_text key rest) ≡ Some (key, rest)
-unfolding key_at
-key_again key rest h1 h2 = search (rules, false≢true, scalar_again, gap_again, colon_again, lead_again)
+unfolding key_at colon_at
+key_again key rest h1 h2 = search (rules, false≢true, scalar_again, gap_again, lead_again)
 
 -- what stands behind an item
 abbrev Sepd : ℕ → List ℕ → Sep × List ℕ → Type 0

@@ -8,7 +8,7 @@ use Rattle.yq_flow_scalars.specs.declared.piece.Piece.{Piece}
 use Rattle.yq_flow_scalars.specs.Answers.{◌>>=◌, ReadFails, Gives}
 use Rattle.yq_flow_scalars.specs.Text.{is_empty}
 use Rattle.yq_nodes.specs.Nodes.{first_is, Key, bare, keyed, Node, anchored, Items, item, key_text, sep_text, node_text, items_text, begins_content, is_keyed, is_bare, takes_anchor, IsInlineKey}
-use Rattle.yq_nodes.specs.Places.{Placed, placed, mapping, sequence, Parts, end, part, key_placed, key_here, locate, locate_items, placed_between, with_anchor, bare_in, bare_placed, holder}
+use Rattle.yq_nodes.specs.Places.{Placed, mapping, sequence, Parts, end, part, key_placed, key_here, locate, locate_items, placed_between, with_anchor, bare_in, bare_placed, holder}
 use Rattle.yq_nodes.specs.PlacedReading.{piece_of, content_in, placed_node, placed_items, placed_content, placed_key, past_sep, placed_item, placed_entry, takes_in, takes_placed, then_anchored}
 use Rattle.yq_nodes.specs.Reading.{name_at, lead_at, key_at, sep_at, Kids, coll_at, content_at, node_at, all_items, kids_of, all_node}
 use Rattle.yq_nodes.proofs.Binds.{bind_same, bind_bind}
@@ -17,15 +17,12 @@ use Rattle.yq_nodes.proofs.NodeTakes.{content_takes, lead_amp, KidsTake, items_t
 use Rattle.yq_nodes.proofs.NodeLaws.{items_step, items_done, all_takes, then_node, then_sep, then_items}
 use Rattle.yq_nodes.proofs.NodeAgain.{is_anchored}
 
-bare_with : (n : List ℕ) (start : ℕ) (s : Placed) → bare_placed (with_anchor n start s) ≡ false
-bare_with n start (placed a b c e f) = refl
-
 bare_holder : (k : ℕ) (s : Parts) → (bare_in None (holder k s) ≡ false) × (takes_in None (holder k s) ≡ true)
 bare_holder k s = elim (eqb k 125) as (λ c. (bare_in None (cond c (mapping s) (sequence s)) ≡ false) × (takes_in None (cond c (mapping s) (sequence s)) ≡ true)) [ true ↦ (refl, refl) | false ↦ (refl, refl) ]
 
 pub bare_locate : (total : ℕ) (node : Node) (rest : List ℕ) → bare_placed (locate total node rest) ≡ is_bare node
 unfolding locate
-bare_locate total node rest = search (rules, bare_holder, bare_with)
+bare_locate total node rest = search (rules, bare_holder)
 
 -- a node without an anchor looks as its content
 locate_content : (total : ℕ) (node : Node) (rest t : List ℕ) → is_anchored node ≡ false → t ≡ node_text node rest → locate total node rest ≡ placed_between total t rest (content_in total t node rest)
@@ -52,8 +49,7 @@ items_text_is d k t x h = (items_takes (suc (length t)) d k t x h).0
 key_keyed : (t : List ℕ) (x : Key × List ℕ) → key_at t ≡ Some x → is_keyed x.0 ≡ true
 key_keyed t x h = go x.0 x.1 (key_takes t x h).1 where
   go : (key : Key) (rest : List ℕ) → IsInlineKey 125 key rest → is_keyed key ≡ true
-  go bare rest h = absurd (false≢true (sym h))
-  go (keyed a b g) rest h = refl
+  go key rest h1 = search (rules, false≢true)
 
 -- behind a node
 sep_step : (total d k : ℕ) (t : List ℕ) (key : Key) (node : Node × List ℕ) → t ≡ key_text key (node_text node.0 node.1) → (is_keyed key || not (is_bare node.0)) ≡ true →
@@ -87,10 +83,7 @@ items_by_node total d t h =
     ∙ sym (bind_bind (all_node true (Some 0) d t) (λ x. Some (locate total x.0 x.1, x.1)) (λ x. cond (bare_placed x.0) None (then_value total d 93 None x)))))
 
 pub items_more : (total d : ℕ) (t : List ℕ) → first_is 93 t ≡ false → placed_items total d 93 t ≡ (placed_item total d t >>= λ x. then_entry total d 93 None x.0 x.1)
-items_more total d t h =
-    items_by_node total d t h
-    ∙ (bind_same (λ x. cond (bare_placed x.0) None (then_value total d 93 None x)) (λ x. item_behind x >>= whole_item) (placed_node true (Some 0) total d t) (λ x _. one x (bare_placed x.0))
-    ∙ sym (bind_bind (placed_node true (Some 0) total d t) item_behind whole_item))
+items_more total d t h = search (rules, items_by_node, bind_same, bind_bind, one, whole_item, item_behind)
   where
     whole_item : Placed × List ℕ → Option (Parts × List ℕ)
     whole_item x = then_entry total d 93 None x.0 x.1
@@ -102,8 +95,7 @@ items_more total d t h =
     item_behind x = cond (bare_placed x.0) None (past_item x)
 
     one : (x : Placed × List ℕ) (b : Bool) → cond b None (then_value total d 93 None x) ≡ (cond b None (past_item x) >>= whole_item)
-    one x true = refl
-    one x false = sym (bind_bind (past_sep 93 x.1) (λ r. Some (x.0, r)) whole_item)
+    one x b = search (rules, bind_bind, whole_item)
 
 -- a key's place
 keyed_place : (total : ℕ) (t : List ℕ) (key : Key) → is_keyed key ≡ true → key_placed total t key ≡ Some (key_here total t (piece_of key))
@@ -119,8 +111,7 @@ key_bind total t f = go (key_at t) where
   here x = Some (key_here total t x.0, x.1)
 
   go : (o : Option (Key × List ℕ)) → (((o >>= key_pieces) >>= here) >>= f) ≡ (o >>= λ key. f (key_here total t (piece_of key.0), key.1))
-  go (Some x) = refl
-  go None = refl
+  go o = search rules
 
 abbrev then_node_placed : ℕ → ℕ → (List ℕ × Piece) × List ℕ → Option (Parts × List ℕ)
 then_node_placed total d key = placed_node true (Some 0) total d key.1 >>= then_value total d 125 (Some key.0)

@@ -82,18 +82,12 @@ item_text k label n cs = ap (key_text (flow_key label.key)) (node_then (flow_of 
 items_rest : (k : ℕ) (ns : List tree.Node) → between (items ns) ++ rest_text k (items ns) ≡ listed false (map flow_text ns) ++ k ∷ []
 unfolding items_text flow_items
 items_rest k [] = refl
-items_rest k (n ∷ ns) =
-    ap (λ l. 44 ∷ 32 ∷ l) (item_text k an_item n (items ns) ∙ (ap (λ l. flow_text n ++ l) (items_rest k ns) ∙ sym (append_assoc (flow_text n) (listed false (map flow_text ns)) (k ∷ []))))
+items_rest k (n ∷ ns) = simp (item_text, append_assoc, items_rest k ns)
 
 items_all : (k : ℕ) (ns : List tree.Node) → rest_text k (items ns) ≡ listed true (map flow_text ns) ++ k ∷ []
 unfolding items_text flow_items
 items_all k [] = refl
 items_all k (n ∷ ns) = item_text k an_item n (items ns) ∙ (ap (λ l. flow_text n ++ l) (items_rest k ns) ∙ sym (append_assoc (flow_text n) (listed false (map flow_text ns)) (k ∷ [])))
-
--- a list as it is written
-pub list_text : (ns : List tree.Node) → flow_text (tree.list None (items ns)) ≡ 91 ∷ (listed true (map flow_text ns) ++ 93 ∷ [])
-unfolding node_text flow_of
-list_text ns = ap (λ l. 91 ∷ l) (items_all 93 ns)
 
 entry_is : (k : ℕ) (e : List ℕ × tree.Node) (cs : tree.Children) (r : List ℕ) → between cs ++ rest_text k cs ≡ r → rest_text k (tree.child (entry e.0) e.1 cs) ≡ entry_text e ++ r
 entry_is k e cs r h = search (rules, item_text, append_assoc)
@@ -101,18 +95,12 @@ entry_is k e cs r h = search (rules, item_text, append_assoc)
 entries_rest : (k : ℕ) (es : List (List ℕ × tree.Node)) → between (entries es) ++ rest_text k (entries es) ≡ listed false (map entry_text es) ++ k ∷ []
 unfolding items_text flow_items
 entries_rest k [] = refl
-entries_rest k (e ∷ es) =
-    ap (λ l. 44 ∷ 32 ∷ l) (entry_is k e (entries es) _ (entries_rest k es) ∙ sym (append_assoc (entry_text e) (listed false (map entry_text es)) (k ∷ [])))
+entries_rest k (e ∷ es) = search (rules, entry_is, append_assoc, entries_rest k es)
 
 entries_all : (k : ℕ) (es : List (List ℕ × tree.Node)) → rest_text k (entries es) ≡ listed true (map entry_text es) ++ k ∷ []
 unfolding items_text flow_items
 entries_all k [] = refl
 entries_all k (e ∷ es) = entry_is k e (entries es) _ (entries_rest k es) ∙ sym (append_assoc (entry_text e) (listed false (map entry_text es)) (k ∷ []))
-
--- a mapping as it is written
-pub map_text : (es : List (List ℕ × tree.Node)) → flow_text (tree.map None (entries es)) ≡ 123 ∷ (listed true (map entry_text es) ++ 125 ∷ [])
-unfolding node_text flow_of
-map_text es = ap (λ l. 123 ∷ l) (entries_all 125 es)
 
 pub map_twice : {A B C : Type 0} (f : A → B) (g : B → C) (xs : List A) → map g (map f xs) ≡ map (λ x. g (f x)) xs
 map_twice f g [] = refl
@@ -123,10 +111,12 @@ Entry = String Global × Value
 
 -- the text of a list's value, and of a mapping's
 pub list_value : (xs : List Value) → flow_text (tree.list None (items (map node_of xs))) ≡ 91 ∷ (listed true (map (λ v. flow_text (node_of v)) xs) ++ 93 ∷ [])
-list_value xs = list_text (map node_of xs) ∙ ap (λ (l : List (List ℕ)). 91 ∷ (listed true l ++ 93 ∷ [])) (map_twice node_of flow_text xs)
+unfolding node_text flow_of
+list_value xs = simp (items_all, map_twice)
 
 pub map_value : (es : List Entry) → flow_text (tree.map None (entries (map (λ (e : String Global × tree.Node). (string_bytes e.0, e.1)) (map (λ (e : Entry). (e.0, node_of e.1)) es)))) ≡ 123 ∷ (listed true (map (λ (e : Entry). entry_text (string_bytes e.0, node_of e.1)) es) ++ 125 ∷ [])
-map_value es = simp (string_bytes, map_text, map_twice)
+unfolding node_text flow_of
+map_value es = simp (entries_all, string_bytes, map_twice)
 
 -- a list's node, and a mapping's
 pub node_list : (v : Vec Value Global) → node_of (values.List v) ≡ tree.list None (items (map node_of v.items))
