@@ -22,7 +22,6 @@ pub fn items_are()
 
 /// Rows and ends of a cut, read alone, are the same, whatever stands in front of them and behind;
 /// so is the end of a part without the line of its marker.
-#[tactic(auto, using(yq_cut::proofs::RegionLaws::region, yq_cut::proofs::RegionEnds::region_end))]
 pub fn region_alone()
     ensures alone { (xs back : List Item) → StandIn xs back → IsReadAlone xs back }
     ensures unmarked { (xs back : List Item) (gap marker : List ℕ) →

@@ -11,7 +11,6 @@ ghost use Rattle.yq_cut.specs.Seams.{MayFollowRows, TailFits, TakesPlace, retail
 
 /// A row before one text is a row before another one that may stand behind it: rows that begin where
 /// the row allows, and what its tail or block scalar asks.
-#[tactic(auto, using(yq_cut::proofs::seams::SeamLaws::row_before))]
 pub fn row_seamed()
     ensures { (limit : Limit) (r : Row) (t : List ℕ) (behind : List Row) (end rest : List ℕ) →
         IsRow limit r t →
@@ -28,7 +27,6 @@ pub fn rows_seamed()
 {}
 
 /// A row with another tail, before another text, takes the place of the row, where that tail fits.
-#[tactic(auto, using(yq_cut::proofs::seams::TailLaws::row_retailed))]
 pub fn row_retailed()
     ensures { (limit : Limit) (r : Row) (t new u : List ℕ) → IsRow limit r t →
         pairs_returns (print_row r t) ≡ true →
@@ -36,7 +34,6 @@ pub fn row_retailed()
 {}
 
 /// What stands behind a row's dashes, exchanged for a row that begins in that column.
-#[tactic(auto, using(yq_cut::proofs::seams::JoinLaws::row_joined, yq_cut::proofs::seams::JoinLaws::limit_joined))]
 pub fn row_joined()
     ensures row { (limit other : Limit) (r q : Row) (t u : List ℕ) → IsRow limit r t →
         IsRow other q u → Joins r q → TakesPlace limit r t (joined_row r q) u }
@@ -46,7 +43,6 @@ pub fn row_joined()
 
 /// A row up to one of its dashes, with another content behind that; and a row behind whose dash
 /// stands a row in place of its content.
-#[tactic(auto, using(yq_cut::proofs::seams::JoinLaws::row_dashed, yq_cut::proofs::seams::JoinLaws::row_compact))]
 pub fn row_dashed()
     ensures cut { (limit : Limit) (r : Row) (dashes : List ℕ) (n : ℕ) (more : List ℕ)
         (new : Content) (t u : List ℕ) → IsRow limit r t → DashFits r dashes n more new u →

@@ -13,6 +13,7 @@ use Rattle.yq_cut.proofs.PartSlicing.{one_part, end_ends, empty_by, bounds_push,
 use Rattle.yq_cut.proofs.PartsLaws.{marker_takes}
 use Rattle.yq_cut.proofs.PlacedLaws.{Scanned, scanned_places, scanned_view}
 use Rattle.yq_rows.proofs.scanning.cut.Goals as goal
+use Rattle.yq_rows.proofs.scanning.cut.Goals.{After-of-text}
 
 pub returns-in-Err-clause-read : goal.returns-in-Err-clause-read
 returns-in-Err-clause-read c = fails_by c.in-Err.e _ _ c.in-Err.ensures.found (λ none. sym c.parts.invariant.so_far ∙ parts_none (rows_in c.args.text.now c.parts.rows.items) (bounds_in c.args.text.now c.parts.ends.items) c.parts.is_open c.parts.rest.now none)

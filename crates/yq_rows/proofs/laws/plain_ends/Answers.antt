@@ -1,0 +1,5 @@
+use Rattle.yq_cut.proofs.PlainEnds.{plain_ends}
+use Rattle.yq_rows.proofs.laws.plain_ends.Goals as goal
+
+pub returns : goal.returns
+returns c = plain_ends
