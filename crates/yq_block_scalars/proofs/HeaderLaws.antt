@@ -33,9 +33,6 @@ IsDigitCut t x = (t ≡ digit_text x.0 ++ x.1) × IsDigit x.0
 digit_takes : (t : List ℕ) → IsDigitCut t (digit_at t)
 digit_takes t = search (rules, cond_both, and_parts, leb-true)
 
-abbrev IsSignCut : List ℕ → Chomping × List ℕ → Type 0
-IsSignCut t x = t ≡ sign_text x.0 ++ x.1
-
 sign_takes : (t : List ℕ) → t ≡ sign_text (sign_at t).0 ++ (sign_at t).1
 sign_takes t = search (rules, cond_both, eqb-true)
 
@@ -85,9 +82,6 @@ tail_no_indicator (b ∷ p) t h = low_no_indicator b (p ++ t) (tail_low b p (and
 -- digit and sign
 digit_again : (d : ℕ) (t : List ℕ) → 1 ≤ d → d ≤ 9 → digit_at ((48 + d) ∷ t) ≡ (Some d, t)
 digit_again d t a b = search (rules, le-leb)
-
-abbrev behind_sign : Chomping × List ℕ → Indicators
-behind_sign c = let d = digit_at c.1 in (d.0, c.0, sign_text c.0 ++ digit_text d.0, d.1)
 
 first_again : (d : ℕ) (c : Chomping) (t : List ℕ) → 1 ≤ d → d ≤ 9 → NoIndicator t → indicators_at ((48 + d) ∷ (sign_text c ++ t)) ≡ (Some d, c, (48 + d) ∷ sign_text c, t)
 unfolding indicators_at

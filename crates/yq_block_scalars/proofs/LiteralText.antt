@@ -33,11 +33,6 @@ unfolding ends_some
 put_some b l [] e n h = byte_some b l e n
 put_some b l (k ∷ ls) e n h = h refl
 
--- a text with more than one line has more than one byte
-abbrev rest_of : Lines → Lines
-rest_of [] = []
-rest_of (l ∷ ls) = ls
-
 more_lines : (c : ℕ) (t l : List ℕ) (ls : Lines) → lines_of (c ∷ t) ≡ l ∷ ls → no_lines ls ≡ false → is_empty t ≡ false
 unfolding lines_of
 more_lines c [] l ls e k = search (rules, ⊎_elim, cases_Bool, false≢true)
