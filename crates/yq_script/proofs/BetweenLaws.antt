@@ -47,8 +47,7 @@ new_last [] = refl
 new_last (keep t ∷ ss) = go (are_kept ss) refl (new_last ss)
   where
     go : (b : Bool) → are_kept ss ≡ b → new_text ss ≡ new_text (to_last ss) ++ kept_back ss → t ++ new_text ss ≡ new_text (cond b [] (keep t ∷ to_last ss)) ++ cond b (t ++ kept_back ss) (kept_back ss)
-    go true e more = ap (λ u. t ++ u) (new_kept ss e)
-    go false e more = ap (λ u. t ++ u) more ∙ sym (append_assoc t (new_text (to_last ss)) (kept_back ss))
+    go b h1 h2 = search (rules, new_kept, append_assoc)
 new_last (put o w ∷ ss) = ap (λ u. w ++ u) (new_last ss) ∙ sym (append_assoc w (new_text (to_last ss)) (kept_back ss))
 
 pub back_first : (ss : List Segment) → are_kept ss ≡ false → kept_back (from_first ss) ≡ kept_back ss
@@ -65,9 +64,6 @@ run n o w (keep [] ∷ ss) = run n o w ss
 run n o w (keep (b ∷ t) ∷ ss) = splice_at n o w ++ run (n + length w + length (b ∷ t)) [] [] ss
 run n o w (put p x ∷ ss) = run n (o ++ p) (w ++ x) ss
 
-behind_kept : (n : ℕ) (t : List ℕ) (ss : List Segment) → splices_at n (keep_before t ss) ≡ splices_at (n + length t) ss
-behind_kept n t ss = search (rules, length-append)
-
 pub behind_nothing : (n : ℕ) (ss : List Segment) → splices_at n (put_before [] [] ss) ≡ splices_at n ss
 behind_nothing n ss = search rules
 
@@ -82,9 +78,7 @@ loop_kept done more whole n m o w t rest h1 h2 h3 h4 = search (rules, false≢tr
 run_is : (n : ℕ) (o w : List ℕ) (ss : List Segment) → splices_at n (put_before o w (merged ss)) ≡ run n o w ss
 run_is n o w [] = append-nil (splice_at n o w)
 run_is n o w (keep [] ∷ ss) = run_is n o w ss
-run_is n o w (keep (b ∷ t) ∷ ss) =
-    put_kept n o w b t (merged ss)
-    ∙ ap (λ x. splice_at n o w ++ x) (sym (behind_nothing (n + length w + length (b ∷ t)) (merged ss)) ∙ run_is (n + length w + length (b ∷ t)) [] [] ss)
+run_is n o w (keep (b ∷ t) ∷ ss) = search (rules, put_kept, behind_nothing, run_is (n + length w + length (b ∷ t)) [] [] ss)
 run_is n o w (put p x ∷ ss) = ap (splices_at n) (put_twice o w p x (merged ss)) ∙ run_is n (o ++ p) (w ++ x) ss
 
 run_of : (n : ℕ) (ss : List Segment) → changes_behind n ss ≡ run n [] [] ss
@@ -101,12 +95,10 @@ run_last n o w [] = refl
 run_last n o w (keep t ∷ ss) = go (are_kept ss) refl (λ k p x. run_last k p x ss)
   where
     one : (u : List ℕ) → ((k : ℕ) (p x : List ℕ) → run k p x (to_last ss) ≡ run k p x ss) → run n o w (keep u ∷ to_last ss) ≡ run n o w (keep u ∷ ss)
-    one [] more = more n o w
-    one (b ∷ u) more = ap (λ x. splice_at n o w ++ x) (more (n + length w + length (b ∷ u)) [] [])
+    one u h1 = search rules
 
     go : (b : Bool) → are_kept ss ≡ b → ((k : ℕ) (p x : List ℕ) → run k p x (to_last ss) ≡ run k p x ss) → run n o w (cond b [] (keep t ∷ to_last ss)) ≡ run n o w (keep t ∷ ss)
-    go true e more = sym (run_kept n o w (keep t ∷ ss) e)
-    go false e more = one t more
+    go b h1 h2 = search (rules, run_kept, one)
 run_last n o w (put p x ∷ ss) = run_last n (o ++ p) (w ++ x) ss
 
 pub changes_last : (n : ℕ) (ss : List Segment) → changes_behind n (to_last ss) ≡ changes_behind n ss
@@ -114,7 +106,5 @@ changes_last n ss = run_of n (to_last ss) ∙ (run_last n [] [] ss ∙ sym (run_
 
 pub changes_first : (n : ℕ) (ss : List Segment) → changes_behind (n + length (kept_front ss)) (from_first ss) ≡ changes_behind n ss
 changes_first n [] = refl
-changes_first n (keep t ∷ ss) =
-    ap (λ k. changes_behind k (from_first ss)) (omega (arith, length-append t (kept_front ss)))
-    ∙ (changes_first (n + length t) ss ∙ sym (behind_kept n t (merged ss)))
+changes_first n (keep t ∷ ss) = search (rules, length-append, changes_first (n + length t) ss)
 changes_first n (put o w ∷ ss) = ap (λ k. changes_behind k (put o w ∷ ss)) (omega arith)

@@ -76,6 +76,5 @@ back_last [] b = append-nil b
 back_last (keep t ∷ ss) b = one_kept t (ss ++ (keep b ∷ [])) (are_kept ss) (last_kept ss b) ∙ go (back_last ss b) (are_kept ss)
   where
     go : kept_back (ss ++ (keep b ∷ [])) ≡ kept_back ss ++ b → (x : Bool) → cond x (t ++ kept_back (ss ++ (keep b ∷ []))) (kept_back (ss ++ (keep b ∷ []))) ≡ cond x (t ++ kept_back ss) (kept_back ss) ++ b
-    go more true = ap (λ u. t ++ u) more ∙ sym (append_assoc t (kept_back ss) b)
-    go more false = more
+    go h1 x = search (rules, append_assoc)
 back_last (put o w ∷ ss) b = back_last ss b

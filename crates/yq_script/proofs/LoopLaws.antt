@@ -16,10 +16,6 @@ use Rattle.yq_script.specs.declared.segment.Segment.TheVariants as held
 use Rattle.yq_script.proofs.BetweenLaws.{back_gives, to_last_put, last_stays}
 use Rattle.yq_script.proofs.KeptSegments.{back_last}
 
--- the last exchange
-pub loop_last : (done all : List Splice) (n : ℕ) (o w : List ℕ) → all ≡ done ++ splice_at n o w → all ≡ done ++ splices_at n (put_before o w [])
-loop_last done all n o w e = e ∙ ap (λ x. done ++ x) (sym (append-nil (splice_at n o w)))
-
 -- no segment is left
 pub none_left : (ss : List Held) → length ss < 1 → segments_of ss ≡ []
 none_left [] h = refl
@@ -27,7 +23,7 @@ none_left (p ∷ ss) h = absurd (omega (arith, h))
 
 pub loop_done : (front : ℕ) (whole rest : List Segment) (bytes : List ℕ) (done all : List Splice) (n : ℕ) (o w : List ℕ) → rest ≡ [] → bytes ++ new_text rest ≡ new_text whole →
     done ++ splices_at n (put_before o w (merged rest)) ≡ changes_behind front whole → all ≡ done ++ splice_at n o w → gives (new_text whole) (changes_behind front whole) ≡ gives bytes all
-loop_done front whole rest bytes done all n o w none so_far found last = search (rules, append-nil, loop_last)
+loop_done front whole rest bytes done all n o w none so_far found last = search (rules, append-nil)
 
 -- segments with the last one behind the others
 module _ (xs : List Held) (x d : Held) (some : 1 ≤ length xs) (is : x ≡ get_or xs (length xs - 1) d) where

@@ -1,10 +1,6 @@
 -- Exchanges that touch are one.
-use Rattle.std.proofs.Common.{◌≡◌, ℕ, List, [], ◌∷◌, ◌++◌, refl, sym, ap, append_assoc, append-nil, rules}
+use Rattle.std.proofs.Common.{◌≡◌, ℕ, List, [], ◌∷◌, ◌++◌, refl, ap, append_assoc, append-nil, rules}
 use Rattle.yq_script.specs.Script.{Segment, keep, put, keep_before, put_before, merged, changes, splices_at}
-
--- bytes kept in two segments
-keep_twice : (t u : List ℕ) (ss : List Segment) → keep_before (t ++ u) ss ≡ keep_before t (keep_before u ss)
-keep_twice t u ss = search (rules, append-nil, append_assoc)
 
 -- segments that are merged alike have the same splices
 pub same_changes : (ss us : List Segment) → merged ss ≡ merged us → changes ss ≡ changes us
@@ -28,4 +24,4 @@ pub nothing_kept : (ss us : List Segment) → changes (ss ++ (keep [] ∷ us)) �
 nothing_kept ss us = same_changes _ _ (merged_behind ss (keep [] ∷ us) us refl)
 
 pub kept_in_two : (ss us : List Segment) (t u : List ℕ) → changes (ss ++ (keep t ∷ (keep u ∷ us))) ≡ changes (ss ++ (keep (t ++ u) ∷ us))
-kept_in_two ss us t u = same_changes _ _ (merged_behind ss (keep t ∷ (keep u ∷ us)) (keep (t ++ u) ∷ us) (sym (keep_twice t u (merged us))))
+kept_in_two ss us t u = search (rules, append-nil, append_assoc, same_changes, merged_behind)
