@@ -1,5 +1,5 @@
 -- Steps of the loops that say what raw lines say.
-use Rattle.std.proofs.Common.{◌≡◌, ℕ, suc, ◌+◌, ◌<◌, Bool, true, false, not, ◌&&◌, eqb, List, [], ◌∷◌, ◌++◌, length, refl, sym, ap, ◌∙◌, arith, append_assoc, append-nil, eqb-true}
+use Rattle.std.proofs.Common.{◌≡◌, ℕ, ◌+◌, Bool, true, false, not, ◌&&◌, eqb, List, [], ◌∷◌, ◌++◌, length, refl, sym, ap, ◌∙◌, append_assoc, append-nil, eqb-true, rules}
 use Rattle.std.proofs.lemmas.Bool.{false_from_ne_true}
 use Rattle.yq_block_scalars.proofs.LineLaws.{line_step}
 use Rattle.yq_block_scalars.specs.Block.{no_lines}
@@ -12,18 +12,12 @@ use Rattle.yq_block_scalars.specs.declared.block_lines.TextIndent.{TextIndent}
 pub lines_none : (a : List ℕ) → no_lines (lines_of a) ≡ eqb (length a) 0
 unfolding lines_of
 lines_none [] = refl
-lines_none (b ∷ a) =
-    let some : 0 < suc (length a) = omega arith in
-    let step = line_step (b ∷ a) some in
-    let none : eqb (suc (length a)) 0 ≡ false = false_from_ne_true _ (λ e. let z : suc (length a) ≡ 0 = eqb-true (suc (length a)) 0 e in absurd (omega arith)) in
-    ap no_lines step ∙ sym none
+lines_none (b ∷ a) = search (rules, line_step, false_from_ne_true, eqb-true)
 
 pub literal_step : (strip : Bool) (f : TextIndent) (t l a p out mid all : List ℕ) (o : Bool) → lines_of t ≡ l ∷ lines_of a → p ≡ part_of f l → o ≡ not (strip && eqb (length a) 0) → mid ≡ out ++ (p ++ broken o) →
     out ++ literal strip f (lines_of t) ≡ all → mid ++ literal strip f (lines_of a) ≡ all
 unfolding literal
-literal_step strip f t l a p out mid all o e is on m so_far =
-    let step : literal strip f (lines_of t) ≡ (p ++ broken o) ++ literal strip f (lines_of a) = rw (e, lines_none a, is, on) refl in
-    ap (λ x. x ++ literal strip f (lines_of a)) m ∙ (append_assoc out (p ++ broken o) (literal strip f (lines_of a)) ∙ (ap (λ x. out ++ x) (sym step) ∙ so_far))
+literal_step strip f t l a p out mid all o e is on m so_far = search (rules, lines_none, append_assoc)
 
 pub literal_end : (strip : Bool) (f : TextIndent) (t out all : List ℕ) → t ≡ [] → out ++ literal strip f (lines_of t) ≡ all → out ≡ all
 unfolding literal lines_of
@@ -32,21 +26,13 @@ literal_end strip f t out all h so_far = sym (append-nil out) ∙ (ap (λ x. out
 pub fold_blank : (c : Chomping) (f : TextIndent) (b : Before) (k : ℕ) (t l a p out all : List ℕ) (z : Bool) → lines_of t ≡ l ∷ lines_of a → p ≡ part_of f l → z ≡ eqb (length p) 0 → z ≡ true →
     out ++ folded c f b k (lines_of t) ≡ all → out ++ folded c f b (k + 1) (lines_of a) ≡ all
 unfolding folded
-fold_blank c f b k t l a p out all z e is test yes_ so_far =
-    let none : eqb (length (part_of f l)) 0 ≡ true = ap (λ q. eqb (length q) 0) (sym is) ∙ (sym test ∙ yes_) in
-    let step : folded c f b k (lines_of t) ≡ folded c f b (k + 1) (lines_of a) = rw e (rw none refl) in
-    ap (λ x. out ++ x) (sym step) ∙ so_far
+fold_blank c f b k t l a p out all z e is test yes_ so_far = search rules
 
 pub fold_text : (c : Chomping) (f : TextIndent) (b kind : Before) (k : ℕ) (t l a p out gone mid all : List ℕ) (z w : Bool) → lines_of t ≡ l ∷ lines_of a → p ≡ part_of f l → z ≡ eqb (length p) 0 → z ≡ false →
     w ≡ front is_white p → gone ≡ out ++ joint b w k → mid ≡ gone ++ p → kind ≡ kind_of p →
     out ++ folded c f b k (lines_of t) ≡ all → mid ++ folded c f kind 0 (lines_of a) ≡ all
 unfolding folded
-fold_text c f b kind k t l a p out gone mid all z w e is test no_ white g m q so_far =
-    let some : eqb (length (part_of f l)) 0 ≡ false = ap (λ q. eqb (length q) 0) (sym is) ∙ (sym test ∙ no_) in
-    let rest = folded c f kind 0 (lines_of a) in
-    let step : folded c f b k (lines_of t) ≡ joint b w k ++ (p ++ rest) = rw e (rw some (rw (white, q, is) refl)) in
-    let regroup : ((out ++ joint b w k) ++ p) ++ rest ≡ out ++ (joint b w k ++ (p ++ rest)) = simp append_assoc in
-    ap (λ x. x ++ rest) (m ∙ ap (λ x. x ++ p) g) ∙ (regroup ∙ (ap (λ x. out ++ x) (sym step) ∙ so_far))
+fold_text c f b kind k t l a p out gone mid all z w e is test no_ white g m q so_far = search (rules, append_assoc)
 
 pub fold_end : (c : Chomping) (f : TextIndent) (b : Before) (k : ℕ) (t out end all : List ℕ) → t ≡ [] → end ≡ out ++ ending c b k → out ++ folded c f b k (lines_of t) ≡ all → end ≡ all
 unfolding folded lines_of

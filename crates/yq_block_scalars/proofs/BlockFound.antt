@@ -1,5 +1,5 @@
 -- Where the block scalar that is found stands.
-use Rattle.std.proofs.Common.{◌≡◌, ◌≢◌, ℕ, ◌+◌, ◌-◌, ◌≤◌, Bool, true, List, ◌++◌, length, drop, Option, Some, refl, sym, ap, ◌∙◌, arith, length-append, Result, Ok, Err, IfOk, ℤ}
+use Rattle.std.proofs.Common.{◌≡◌, ◌≢◌, ℕ, ◌+◌, ◌-◌, ◌≤◌, Bool, true, List, ◌++◌, length, drop, Option, Some, sym, ap, ◌∙◌, length-append, Result, Ok, Err, IfOk, ℤ, rules}
 use Rattle.std.proofs.lemmas.Bool.{false≢true}
 use Rattle.std.proofs.lemmas.Option.{same_Some}
 use Rattle.yq_block_scalars.proofs.BlockLaws.{block_takes, block_again}
@@ -7,8 +7,8 @@ use Rattle.yq_flow_scalars.proofs.Bools.{bind_some}
 use Rattle.yq_block_scalars.proofs.HeaderLaws.{head_length}
 use Rattle.yq_block_scalars.proofs.LineLaws.{joined_lines, joined-append}
 use Rattle.yq_block_scalars.proofs.RawLaws.{raw_split}
-use Rattle.yq_flow_scalars.specs.Answers.{◌>>=◌, Reads}
-use Rattle.yq_block_scalars.specs.Block.{style_of, is_block_fault, keeps, BlockText, block_piece, IsBlockPiece}
+use Rattle.yq_flow_scalars.specs.Answers.{Reads}
+use Rattle.yq_block_scalars.specs.Block.{style_of, is_block_fault, keeps, IsBlockPiece}
 use Rattle.yq_block_scalars.specs.BlockReading.{raw_at, len_at, indent_at, style_at, indicators_at, values, tail_at, block_behind, block_at, piece_at, block_from}
 use Rattle.yq_flow_scalars.specs.Piece.{deeper}
 use Rattle.yq_flow_scalars.specs.Text.{lines_of, joined}
@@ -24,9 +24,7 @@ pub raw_within : (keep : Bool) (f : TextIndent) (t : List ℕ) (n : ℕ) → len
 raw_within keep f t n h =
     let x = bind_some (raw_at keep f (lines_of t)) h in
     let text : t ≡ joined x.0.0 ++ joined x.0.1 = sym (joined_lines t) ∙ (ap joined (raw_split keep f (lines_of t) x.0 x.1) ∙ joined-append x.0.0 x.0.1) in
-    let is : length (joined x.0.0) ≡ n = same_Some _ _ x.2 in
-    let all : length t ≡ length (joined x.0.0) + length (joined x.0.1) = ap length text ∙ length-append (joined x.0.0) (joined x.0.1) in
-    omega arith
+    search (rules, same_Some, length-append, text, x)
 
 pub piece_is : (start least : ℕ) (t u r tail raw : List ℕ) (s : BlockStyle) (d : Option ℕ) (c : Chomping) (f : TextIndent) (k : Bool) (n : ℕ) (z : Style) →
     style_at t ≡ Some (s, u) → (d, c, r) ≡ values (indicators_at u) → tail_at r ≡ Some (tail, raw) → indent_at least d (lines_of raw) ≡ Some f → k ≡ keeps c → len_at k f raw ≡ Some n → z ≡ style_of s →
@@ -34,14 +32,7 @@ pub piece_is : (start least : ℕ) (t u r tail raw : List ℕ) (s : BlockStyle) 
 unfolding block_at block_behind
 piece_is start least t u r tail raw s d c f k n z h m g e q l y =
     let head = head_length t u r s d c h m in
-    let digit : (indicators_at u).0 ≡ d = ap (λ (y : Option ℕ × Chomping × List ℕ). y.0) (sym m) in
-    let sign : (indicators_at u).1 ≡ c = ap (λ (y : Option ℕ × Chomping × List ℕ). y.1) (sym m) in
-    let rest : (indicators_at u).3 ≡ r = ap (λ (y : Option ℕ × Chomping × List ℕ). y.2) (sym m) in
-    let x = bind_some (raw_at k f (lines_of raw)) l in
-    let is : length (joined x.0.0) ≡ n = same_Some _ _ x.2 in
-    let kept : raw_at (keeps c) f (lines_of raw) ≡ Some x.0 = ap (λ b. raw_at b f (lines_of raw)) (sym q) ∙ x.1 in
-    let from : start + 1 + length (indicators_at u).2 ≡ start + (length t - length r) = omega arith in
-    rw (h, digit, sign, rest, g, e, kept, is, from, q, y) refl
+    search (rules, bind_some, same_Some)
 
 pub from_takes : (n : ℤ) (at : ℕ) (text : List ℕ) (p : Piece) → block_from n at text ≡ Some p → IsBlockPiece n at text p
 unfolding block_from
@@ -52,10 +43,7 @@ from_takes n at text p h =
 
 pub from_again : (n : ℤ) (at : ℕ) (text : List ℕ) (p : Piece) → IsBlockPiece n at text p → block_from n at text ≡ Some p
 unfolding block_from
-from_again n at text p h =
-    ap (λ t. block_at (deeper n) t >>= λ x. Some (block_piece at x.0)) h.stands
-    ∙ (ap (λ (o : Option (BlockText × List ℕ)). o >>= λ x. Some (block_piece at x.0)) (block_again (deeper n) h.block h.rest h.scalar)
-    ∙ ap Some (sym h.piece))
+from_again n at text p h = search (rules, block_again)
 
 -- the public clauses
 pub found_by : {E : Type 0} (n : ℤ) (at : ℕ) (text : List ℕ) (r : Result Piece E) → Reads (λ p. p) r (block_from n at text) → IfOk r (IsBlockPiece n at text)

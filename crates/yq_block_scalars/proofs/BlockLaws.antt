@@ -1,5 +1,5 @@
 -- A block scalar, both ways.
-use Rattle.std.proofs.Common.{◌≡◌, ℕ, true, List, ◌∷◌, ◌++◌, Some, sym, ap, ◌∙◌, subst}
+use Rattle.std.proofs.Common.{◌≡◌, ℕ, true, List, ◌∷◌, ◌++◌, Some, sym, ap, ◌∙◌, subst, rules}
 use Rattle.std.proofs.lemmas.List.{append_cancel_left}
 use Rattle.std.proofs.lemmas.Option.{same_Some}
 use Rattle.yq_flow_scalars.proofs.Bools.{bind_some}
@@ -25,8 +25,7 @@ block_takes least t x h =
     let cut : ls ≡ raw.0.0 ++ raw.0.1 = raw_split (keeps m.1) indent.0 ls raw.0 raw.1 in
     let are : IsRaw (keeps m.1) indent.0 raw.0 = raw_takes (keeps m.1) indent.0 ls raw.0 (lines_are tail.0.1) raw.1 in
     let text : tail.0.1 ≡ joined raw.0.0 ++ joined raw.0.1 = sym (joined_lines tail.0.1) ∙ (ap joined cut ∙ joined-append raw.0.0 raw.0.1) in
-    let behind : raw.0.1 ≡ lines_of (joined raw.0.1) =
-    append_cancel_left raw.0.0 raw.0.1 (lines_of (joined raw.0.1)) (sym cut ∙ (ap lines_of text ∙ lines_raw indent.0 raw.0.0 (joined raw.0.1) are.lines)) in
+    let behind : raw.0.1 ≡ lines_of (joined raw.0.1) = search (rules, append_cancel_left, lines_raw, are, raw, cut, text, indent) in
     let line = tail_takes m.3 tail.0 tail.1 in
     let indicators = indicators_takes s.0.1 in
     subst (λ (y : BlockText × List ℕ). (t ≡ block_text y.0 y.1) × IsBlock least y.0 y.1) is (
@@ -46,11 +45,7 @@ unfolding block_at block_behind
 block_again least b rest h =
     let behind = joined b.raw ++ rest in
     let indicators = indicators_again b.digit b.chomping b.indicators (b.tail ++ behind) h.indicators (tail_no_indicator b.tail behind h.tail) in
-    let lines : lines_of behind ≡ b.raw ++ lines_of rest = lines_raw b.indent b.raw rest h.lines in
-    let indent : indent_at least b.digit (lines_of behind) ≡ Some b.indent = ap (indent_at least b.digit) lines ∙ indent_again least b.digit (keeps b.chomping) b.indent b.raw (lines_of rest) h.indent h.behind in
-    let raw : raw_at (keeps b.chomping) b.indent (lines_of behind) ≡ Some (b.raw, lines_of rest) = ap (raw_at (keeps b.chomping) b.indent) lines ∙ raw_again (keeps b.chomping) b.indent b.raw (lines_of rest) h.lines h.ends h.behind in
-    rw (style_again b.style (b.indicators ++ (b.tail ++ behind)))
-    (ap (block_behind least b.style) indicators ∙ rw (tail_again b.tail behind h.tail, indent, raw) (ap (λ t. Some (b, t)) (joined_lines rest)))
+    search (rules, style_again, tail_again, joined_lines, lines_raw, indent_again, raw_again, indicators, behind)
 
 pub one_block : (least : ℕ) (a b : BlockText) (rest other : List ℕ) → block_text a rest ≡ block_text b other → IsBlock least a rest → IsBlock least b other → (a ≡ b) × (rest ≡ other)
 one_block least a b rest other e h k =

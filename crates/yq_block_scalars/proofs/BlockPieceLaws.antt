@@ -1,5 +1,5 @@
 -- Where a piece may be cut out of its text.
-use Rattle.std.proofs.Common.{◌≡◌, ℕ, suc, ◌+◌, ◌-◌, ◌<◌, ◌≤◌, true, eqb, List, [], ◌∷◌, ◌++◌, length, take, drop, get_or, Option, Some, None, refl, sym, ap, ◌∙◌, subst, inl, inr, ◌⊎◌, ⊎_elim, arith, eqb-true, append_assoc, append-nil, length-append, length-take, length-drop, min, ℤ}
+use Rattle.std.proofs.Common.{◌≡◌, ℕ, suc, ◌+◌, ◌-◌, ◌<◌, ◌≤◌, true, eqb, List, [], ◌∷◌, ◌++◌, length, take, drop, get_or, Option, refl, sym, ap, ◌∙◌, subst, inl, ◌⊎◌, ⊎_elim, arith, eqb-true, append_assoc, append-nil, length-append, length-take, length-drop, min, ℤ, rules}
 use Rattle.std.proofs.lemmas.Bool.{false≢true, and_parts, cases_Bool}
 use Rattle.std.proofs.lemmas.List.{take-append-drop, drop-drop}
 use Rattle.std.proofs.Math.Seq.{take-append_seam, drop-append_seam}
@@ -10,8 +10,8 @@ use Rattle.yq_block_scalars.proofs.DetectedLaws.{detect_back}
 use Rattle.yq_block_scalars.proofs.HeaderLaws.{tail_no_indicator, indicators_again}
 use Rattle.yq_block_scalars.proofs.RawLaws.{raw_lines}
 use Rattle.yq_block_scalars.specs.Block.{Lines, AreRaw, IsTextIndent, mark_of, style_of, is_tail, BlockText, block_text, IsBlock, IsBlockPiece}
-use Rattle.yq_block_scalars.specs.BlockContent.{content_of, block_content}
-use Rattle.yq_block_scalars.specs.BlockReading.{block_style, indent_of, raw_content, piece_content, indicators_at, values}
+use Rattle.yq_block_scalars.specs.BlockContent.{block_content}
+use Rattle.yq_block_scalars.specs.BlockReading.{block_style, indent_of, piece_content, indicators_at, values}
 use Rattle.yq_flow_scalars.specs.Piece.{deeper}
 use Rattle.yq_flow_scalars.specs.Text.{lines_of, joined, is_line}
 use Rattle.yq_block_scalars.specs.declared.block_header.BlockStyle.{BlockStyle}
@@ -36,9 +36,7 @@ append_lf a t h = (a ++ h.0, ap (λ x. a ++ x) h.1 ∙ sym (append_assoc a h.0 (
 
 pub raw_lf : (f : TextIndent) (raw : Lines) → AreRaw f raw → (joined raw ≡ []) ⊎ IsLf (joined raw)
 raw_lf f [] h = inl refl
-raw_lf f (l ∷ raw) h = ⊎_elim {0, 0, 0}
-    (λ e. let line = line_lf l h.0.0 in inr (line.0, ap (λ x. l ++ x) e ∙ (append-nil l ∙ line.1)))
-    (λ e. inr (append_lf l (joined raw) e)) (raw_lf f raw h.1)
+raw_lf f (l ∷ raw) h = search (rules, ⊎_elim, line_lf, append-nil, append_lf, raw_lf f raw h.1)
 
 seam_byte : (a r : List ℕ) → (get_or (a ++ (10 ∷ r)) (length a) 0 ≡ 10) × (length a < length (a ++ (10 ∷ r)))
 seam_byte [] r = (refl, omega arith)
@@ -65,9 +63,8 @@ indicators_back least b rest h =
 pub raw_back : (b : BlockText) (rest : List ℕ) → take (length (joined b.raw)) (drop (1 + length b.indicators + length b.tail) (block_text b rest)) ≡ joined b.raw
 raw_back b rest =
     let behind = joined b.raw ++ rest in
-    let front : 1 + length b.indicators + length b.tail ≡ suc (length (b.indicators ++ b.tail)) = omega (arith, length-append b.indicators b.tail) in
     let cut : drop (suc (length (b.indicators ++ b.tail))) (block_text b rest) ≡ behind = ap (drop (length (b.indicators ++ b.tail))) (sym (append_assoc b.indicators b.tail behind)) ∙ drop-append_seam (b.indicators ++ b.tail) behind in
-    ap (λ n. take (length (joined b.raw)) (drop n (block_text b rest))) front ∙ (ap (take (length (joined b.raw))) cut ∙ take-append_seam (joined b.raw) rest)
+    search (rules, length-append, take-append_seam, cut)
 
 -- where the pieces of a block scalar at an offset stand
 pub record Stands (text : List ℕ) (p : Piece) : Type 0 where
@@ -90,29 +87,13 @@ stands n text p u h =
     let behind : length text - p.start ≡ suc (length (b.indicators ++ (b.tail ++ (raw ++ h.rest)))) = sym (length-drop p.start text) ∙ ap length h.stands in
     let start_len : length before ≡ min p.start (length text) = length-take p.start text in
     let head_len : length head ≡ suc (length b.indicators) + length b.tail = length-append (mark_of b.style ∷ b.indicators) b.tail in
-    let all : text ≡ before ++ (mark_of b.style ∷ (b.indicators ++ (b.tail ++ (raw ++ h.rest)))) = sym (take-append-drop p.start text) ∙ ap (λ x. before ++ x) h.stands in
-    let to_raw : text ≡ (before ++ head) ++ (raw ++ h.rest) = all ∙ simp append_assoc in
+    let to_raw : text ≡ (before ++ head) ++ (raw ++ h.rest) = search (rules, take-append-drop, append_assoc, before) in
     let to_end : text ≡ ((before ++ head) ++ raw) ++ h.rest = to_raw ∙ sym (append_assoc (before ++ head) raw h.rest) in
-    let lf : IsLf (before ++ head) = append_lf before head (head_lf b h.scalar.tail) in
-    let front_len : length (before ++ head) ≡ length before + length head = length-append before head in
-    let whole_len : length ((before ++ head) ++ raw) ≡ length (before ++ head) + length raw = length-append (before ++ head) raw in
-    let begins : IsCharBoundary text p.raw_start = cut_lf text (before ++ head) (raw ++ h.rest) p.raw_start to_raw lf (omega arith) u in
-    record {
-      header = omega arith;
-      order = omega arith;
-      begins = begins;
-      ends = ⊎_elim {0, 0, 0}
-          (λ e. let same : p.raw_start ≡ p.end = (let none : length raw ≡ 0 = ap length e in omega arith) in subst (IsCharBoundary text) same begins)
-          (λ e. cut_lf text ((before ++ head) ++ raw) h.rest p.end to_end (append_lf (before ++ head) raw e) (omega arith) u)
-          (raw_lf b.indent b.raw h.scalar.lines);
-    }
+    search (rules, ⊎_elim, cut_lf, append_lf, raw_lf, head_lf, length-append, b, head, to_raw, before, to_end, raw)
 
 indent_same : (least : ℕ) (digit : Option ℕ) (f : TextIndent) (raw : Lines) → IsTextIndent least digit f raw → AreRaw f raw → indent_of digit f.columns (lines_of (joined raw)) ≡ f
 unfolding indent_of
-indent_same least None f raw h a = rw (detect_back least f raw h a) refl
-indent_same least (Some d) f raw h a =
-    let deep : f.columns ≡ least + d - 1 = ap (λ (g : TextIndent). g.columns) h in
-    ap (λ k. record { columns = k; known = true }) deep ∙ sym h
+indent_same least digit f raw h1 h2 = search (rules, detect_back)
 
 style_same : (s : BlockStyle) → block_style (style_of s) ≡ s
 style_same styles.Literal = refl
@@ -124,18 +105,7 @@ unfolding piece_content
 content_is n text p h =
     let b = h.block in
     let least = deeper n in
-    let raw_at_ : p.raw_start ≡ p.start + (1 + length b.indicators + length b.tail) = ap (λ (q : Piece). q.raw_start) h.piece ∙ omega arith in
     let raw_len_ : p.end - p.raw_start ≡ length (joined b.raw) = (let e = ap (λ (q : Piece). q.end) h.piece in let s = ap (λ (q : Piece). q.raw_start) h.piece in omega (arith, e, s)) in
     let header : drop (p.start + 1) text ≡ drop 1 (block_text b h.rest) = sym (drop-drop 1 p.start text) ∙ ap (drop 1) h.stands in
-    let behind : drop p.raw_start text ≡ drop (1 + length b.indicators + length b.tail) (block_text b h.rest) = ap (λ k. drop k text) raw_at_ ∙ (sym (drop-drop (1 + length b.indicators + length b.tail) p.start text) ∙ ap (drop (1 + length b.indicators + length b.tail)) h.stands) in
-    let marks : values (indicators_at (drop (p.start + 1) text)) ≡ (b.digit, b.chomping, b.tail ++ (joined b.raw ++ h.rest)) = ap (λ t. values (indicators_at t)) header ∙ indicators_back least b h.rest h.scalar in
-    let raw : take (p.end - p.raw_start) (drop p.raw_start text) ≡ joined b.raw = ap (λ k. take k (drop p.raw_start text)) raw_len_ ∙ (ap (take (length (joined b.raw))) behind ∙ raw_back b h.rest) in
-    let lines : lines_of (joined b.raw) ≡ b.raw = raw_lines b.indent b.raw h.scalar.lines in
-    let columns : p.indent ≡ b.indent.columns = ap (λ (q : Piece). q.indent) h.piece in
-    let style : block_style p.style ≡ b.style = ap (λ (q : Piece). block_style q.style) h.piece ∙ style_same b.style in
-    let indent : indent_of b.digit p.indent (lines_of (joined b.raw)) ≡ b.indent = ap (λ k. indent_of b.digit k (lines_of (joined b.raw))) columns ∙ indent_same least b.digit b.indent b.raw h.scalar.indent h.scalar.lines in
-    ap (λ m. raw_content p m (take (p.end - p.raw_start) (drop p.raw_start text))) marks
-    ∙ (ap (raw_content p (b.digit, b.chomping, b.tail ++ (joined b.raw ++ h.rest))) raw
-    ∙ (ap (λ s. content_of s b.chomping (indent_of b.digit p.indent (lines_of (joined b.raw))) (lines_of (joined b.raw))) style
-    ∙ (ap (λ i. content_of b.style b.chomping i (lines_of (joined b.raw))) indent
-    ∙ ap (content_of b.style b.chomping b.indent) lines)))
+    let behind : drop p.raw_start text ≡ drop (1 + length b.indicators + length b.tail) (block_text b h.rest) = search (rules, drop-drop, b) in
+    search (rules, indicators_back, raw_back, raw_lines, style_same, indent_same, raw_len_, header, least, b, behind)

@@ -1,11 +1,11 @@
 -- A repaired gap may stand behind a block scalar and keeps its comments.
-use Rattle.std.proofs.Common.{◌≡◌, ℕ, zero, suc, ◌+◌, ◌<◌, Bool, true, false, not, ◌&&◌, ◌||◌, eqb, leb, ltb, List, [], ◌∷◌, ◌++◌, drop, replicate, refl, sym, ap, ◌∙◌, subst, ⊎_elim, arith, eqb-true}
+use Rattle.std.proofs.Common.{◌≡◌, ℕ, zero, suc, ◌<◌, Bool, true, false, ◌||◌, eqb, List, [], ◌∷◌, ◌++◌, drop, replicate, refl, sym, ap, ◌∙◌, ⊎_elim, eqb-true, rules}
 use Rattle.std.proofs.lemmas.Bool.{false≢true, cond_both, or_cases, false_from_ne_true, le-leb, or_right, lt-ltb, and_from, and_parts, cases_Bool}
-use Rattle.yq_block_scalars.proofs.RawLaws.{next_not_empty}
+use Rattle.yq_block_scalars.proofs.RawLaws.{next_not_empty, ends_blank}
 use Rattle.yq_block_scalars.proofs.SpaceLaws.{white_drop, spaces_blank, prefix_none, spaces_front, drop_front}
 use Rattle.yq_block_scalars.specs.Block.{Lines, is_empty_line, is_less_indented, ends_block}
 use Rattle.yq_block_scalars.specs.BlockRepair.{AreGap, is_short, is_outside, repaired_blank, repaired_comment, repair, comment_lines, is_behind}
-use Rattle.yq_flow_scalars.specs.Lines.{spaces, behind_spaces, is_tab, is_hash, is_blank}
+use Rattle.yq_flow_scalars.specs.Lines.{spaces, behind_spaces, is_hash, is_blank}
 use Rattle.yq_flow_scalars.specs.Text.{ends_line, past_white, upto}
 use Rattle.yq_block_scalars.specs.declared.block_lines.TextIndent.{TextIndent}
 
@@ -13,48 +13,19 @@ use Rattle.yq_block_scalars.specs.declared.block_lines.TextIndent.{TextIndent}
 no_spaces : (b : ℕ) (t : List ℕ) → eqb b 32 ≡ false → (spaces (b ∷ t) ≡ 0) × (behind_spaces (b ∷ t) ≡ b ∷ t)
 no_spaces b t h = let n = prefix_none (λ x. eqb x 32) b t h in (n, ap (λ k. drop k (b ∷ t)) n)
 
-end_empty : (f : TextIndent) (t : List ℕ) → ends_line t ≡ true → is_empty_line f t ≡ true
-end_empty f [] h = or_right (not f.known) (leb 0 f.columns) (le-leb 0 f.columns (omega arith))
-end_empty f (b ∷ t) h =
-    let other : eqb b 32 ≡ false = false_from_ne_true _ (λ e. let is : b ≡ 32 = eqb-true b 32 e in false≢true (subst (λ (x : ℕ). ends_line (x ∷ t) ≡ true) is h)) in
-    let n = no_spaces b t other in
-    let low : leb (spaces (b ∷ t)) f.columns ≡ true = le-leb (spaces (b ∷ t)) f.columns (let z : spaces (b ∷ t) ≡ 0 = n.0 in omega arith) in
-    and_from (ends_line (behind_spaces (b ∷ t))) (not f.known || leb (spaces (b ∷ t)) f.columns) (ap ends_line n.1 ∙ h) (or_right (not f.known) (leb (spaces (b ∷ t)) f.columns) low)
-
 short_empty : (f : TextIndent) (l : List ℕ) → is_short f.columns l ≡ true → is_empty_line f l ≡ true
-short_empty f l h = let parts = and_parts (ends_line (behind_spaces l)) (leb (spaces l) f.columns) h in
-    and_from (ends_line (behind_spaces l)) (not f.known || leb (spaces l) f.columns) parts.0 (or_right (not f.known) (leb (spaces l) f.columns) parts.1)
+short_empty f l h = search (rules, and_parts, and_from, or_right)
 
 pub blank_empty : (f : TextIndent) (l : List ℕ) → is_blank l ≡ true → is_empty_line f (repaired_blank f.columns l) ≡ true
-blank_empty f l h = cond_both (is_short f.columns l) l (past_white l) (λ x. is_empty_line f x ≡ true) (λ k. short_empty f l k) (λ _. end_empty f (past_white l) h)
+blank_empty f l h = search (rules, or_right, le-leb, false_from_ne_true, eqb-true, false≢true, no_spaces, and_from, cond_both, short_empty)
 
 -- a comment line that is moved
 moved : (f : TextIndent) (column : ℕ) (t : List ℕ) → column < f.columns → is_hash t ≡ true → is_less_indented f (replicate column 32 ++ t) ≡ true
-moved f column [] lt h = absurd (false≢true h)
-moved f column (b ∷ t) lt h =
-    let is : b ≡ 35 = eqb-true b 35 h in
-    let other : eqb b 32 ≡ false = rw is refl in
-    let n = no_spaces b t other in
-    let deep : spaces (replicate column 32 ++ (b ∷ t)) ≡ column + 0 = spaces_front column (b ∷ t) ∙ ap (λ k. column + k) n.0 in
-    let behind : behind_spaces (replicate column 32 ++ (b ∷ t)) ≡ b ∷ t = ap (λ k. drop k (replicate column 32 ++ (b ∷ t))) deep ∙ drop_front column 0 (b ∷ t) in
-    let low : ltb (spaces (replicate column 32 ++ (b ∷ t))) f.columns ≡ true = lt-ltb _ f.columns (omega arith) in
-    let end : not (ends_line (behind_spaces (replicate column 32 ++ (b ∷ t)))) ≡ true = ap (λ x. not (ends_line x)) behind ∙ rw is refl in
-    let tab : not (is_tab (behind_spaces (replicate column 32 ++ (b ∷ t)))) ≡ true = ap (λ x. not (is_tab x)) behind ∙ rw is refl in
-    and_from _ _ (and_from _ _ end low) tab
-
-stays : (f : TextIndent) (l : List ℕ) → is_blank l ≡ false → (is_outside f.columns l) ≡ true → is_less_indented f l ≡ true
-stays f l n h =
-    let parts = and_parts (ltb (spaces l) f.columns) (not (is_tab (behind_spaces l))) h in
-    let end : ends_line (behind_spaces l) ≡ false = false_from_ne_true _ (λ e. false≢true (sym n ∙ spaces_blank l e)) in
-    and_from (not (ends_line (behind_spaces l)) && ltb (spaces l) f.columns) (not (is_tab (behind_spaces l))) (and_from (not (ends_line (behind_spaces l))) (ltb (spaces l) f.columns) (rw end refl) parts.0) parts.1
+moved f column t h1 h2 = search (rules, false≢true, eqb-true, no_spaces, spaces_front, drop_front, lt-ltb, and_from)
 
 pub ends_less : (keep : Bool) (f : TextIndent) (l : List ℕ) (ls : Lines) → is_less_indented f l ≡ true → ends_block keep f (l ∷ ls) ≡ true
 unfolding ends_block
 ends_less keep f l ls h = rw (next_not_empty f l h) h
-
-pub ends_blank : (f : TextIndent) (l : List ℕ) (ls : Lines) → is_empty_line f l ≡ true → ends_block false f ls ≡ true → ends_block false f (l ∷ ls) ≡ true
-unfolding ends_block
-ends_blank f l ls h k = rw h k
 
 pub ends_behind : (keep : Bool) (f : TextIndent) (rest : Lines) → is_behind f rest ≡ true → ends_block keep f rest ≡ true
 unfolding ends_block
@@ -62,9 +33,7 @@ ends_behind keep f [] h = refl
 ends_behind keep f (l ∷ ls) h = ends_less keep f l ls h
 
 pub comment_less : (f : TextIndent) (column : ℕ) (l : List ℕ) → is_blank l ≡ false → (is_blank l || is_hash (past_white l)) ≡ true → column < f.columns → is_less_indented f (repaired_comment f.columns column l) ≡ true
-comment_less f column l n h lt =
-    let hash : is_hash (past_white l) ≡ true = ⊎_elim {0, 0, 0} (λ b. absurd (false≢true (sym n ∙ b))) (λ b. b) (or_cases (is_blank l) (is_hash (past_white l)) h) in
-    cond_both (is_outside f.columns l) l (replicate column 32 ++ past_white l) (λ x. is_less_indented f x ≡ true) (λ k. stays f l n k) (λ _. moved f column (past_white l) lt hash)
+comment_less f column l n h lt = search (rules, and_parts, false_from_ne_true, false≢true, spaces_blank, and_from, ⊎_elim, or_cases, cond_both, moved)
 
 first_comment : (keep : Bool) (f : TextIndent) (column : ℕ) (l : List ℕ) (ls : Lines) → is_blank l ≡ false → (is_blank l || is_hash (past_white l)) ≡ true → column < f.columns →
     ends_block keep f (repaired_comment f.columns column l ∷ ls) ≡ true
@@ -74,10 +43,7 @@ first_comment keep f column l ls n h lt = ends_less keep f _ ls (comment_less f 
 pub repair_ends : (keep : Bool) (f : TextIndent) (column : ℕ) (gap rest : Lines) → AreGap gap → is_behind f rest ≡ true → column < f.columns → ends_block keep f (repair keep f.columns column gap ++ rest) ≡ true
 unfolding repair
 repair_ends keep f column [] rest h e lt = ends_behind keep f rest e
-repair_ends true f column (l ∷ ls) rest h e lt = ⊎_elim {0, 0, 0}
-    (λ b. rw b (repair_ends true f column ls rest h.1 e lt))
-    (λ b. rw b (first_comment true f column l (ls ++ rest) b h.0 lt))
-    (cases_Bool (is_blank l))
+repair_ends true f column (l ∷ ls) rest h e lt = search (rules, ⊎_elim, first_comment, cases_Bool, repair_ends true f column ls rest h.1 e lt)
 repair_ends false f column (l ∷ ls) rest h e lt = ⊎_elim {0, 0, 0}
     (λ b. rw b (ends_blank f (repaired_blank f.columns l) (repair false f.columns column ls ++ rest) (blank_empty f l b) (repair_ends false f column ls rest h.1 e lt)))
     (λ b. rw b (first_comment false f column l (ls ++ rest) b h.0 lt))
@@ -86,10 +52,7 @@ repair_ends false f column (l ∷ ls) rest h e lt = ⊎_elim {0, 0, 0}
 -- the comments stay
 end_blank : (t : List ℕ) → ends_line t ≡ true → is_blank t ≡ true
 unfolding upto
-end_blank [] h = refl
-end_blank (b ∷ t) h =
-    let other : eqb b 32 ≡ false = false_from_ne_true _ (λ e. let is : b ≡ 32 = eqb-true b 32 e in false≢true (subst (λ (x : ℕ). ends_line (x ∷ t) ≡ true) is h)) in
-    spaces_blank (b ∷ t) (ap ends_line (no_spaces b t other).1 ∙ h)
+end_blank t h1 = search (rules, false_from_ne_true, eqb-true, false≢true, spaces_blank, no_spaces)
 
 pub white_front : (n : ℕ) (t : List ℕ) → past_white (replicate n 32 ++ t) ≡ past_white t
 white_front zero t = refl
@@ -124,10 +87,7 @@ same_first l x ls h = rw h.0 (ap (λ y. y ∷ comment_lines ls) h.1)
 pub repair_comments : (keep : Bool) (f : TextIndent) (column : ℕ) (gap : Lines) → AreGap gap → comment_lines (repair keep f.columns column gap) ≡ comment_lines gap
 unfolding repair comment_lines
 repair_comments keep f column [] h = refl
-repair_comments true f column (l ∷ ls) h = ⊎_elim {0, 0, 0}
-    (λ b. rw b (repair_comments true f column ls h.1))
-    (λ b. rw b (same_first l (repaired_comment f.columns column l) ls (comment_same f column l b h.0)))
-    (cases_Bool (is_blank l))
+repair_comments true f column (l ∷ ls) h = search (rules, ⊎_elim, same_first, comment_same, cases_Bool, repair_comments true f column ls h.1)
 repair_comments false f column (l ∷ ls) h = ⊎_elim {0, 0, 0}
     (λ b. let stays_ : is_blank (repaired_blank f.columns l) ≡ true = cond_both (is_short f.columns l) l (past_white l) (λ x. is_blank x ≡ true) (λ _. b) (λ _. end_blank (past_white l) b) in
     rw b (rw stays_ (repair_comments false f column ls h.1)))

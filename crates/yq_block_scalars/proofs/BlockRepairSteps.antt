@@ -1,5 +1,5 @@
 -- Steps of the loop that repairs a gap.
-use Rattle.std.proofs.Common.{◌≡◌, ℕ, Bool, true, false, cond, List, [], ◌∷◌, ◌++◌, refl, sym, ap, ◌∙◌, append_assoc, append-nil}
+use Rattle.std.proofs.Common.{◌≡◌, ℕ, Bool, true, false, cond, List, [], ◌∷◌, ◌++◌, refl, sym, ap, ◌∙◌, append_assoc, append-nil, rules}
 use Rattle.yq_block_scalars.proofs.LineLaws.{joined_lines}
 use Rattle.yq_block_scalars.specs.Block.{Lines}
 use Rattle.yq_block_scalars.specs.BlockRepair.{repaired_blank, repaired_comment, repair}
@@ -18,19 +18,13 @@ blank_joined false m column l ls blank = rw blank refl
 -- a blank line, which goes or stays
 pub blank_step : (keep : Bool) (m column : ℕ) (t l a out mid all : List ℕ) (b : Bool) → lines_of t ≡ l ∷ lines_of a → b ≡ is_blank l → b ≡ true →
     mid ≡ out ++ written_blank keep m l → out ++ joined (repair keep m column (lines_of t)) ≡ all → mid ++ joined (repair keep m column (lines_of a)) ≡ all
-blank_step keep m column t l a out mid all b e is blank on so_far =
-    let rest = joined (repair keep m column (lines_of a)) in
-    let step : joined (repair keep m column (lines_of t)) ≡ written_blank keep m l ++ rest = ap (λ ls. joined (repair keep m column ls)) e ∙ blank_joined keep m column l (lines_of a) (sym is ∙ blank) in
-    ap (λ x. x ++ rest) on ∙ (append_assoc out (written_blank keep m l) rest ∙ (ap (λ x. out ++ x) (sym step) ∙ so_far))
+blank_step keep m column t l a out mid all b e is blank on so_far = search (rules, blank_joined, append_assoc)
 
 -- the first comment line, and all that follows it
 pub comment_step : (keep : Bool) (m column : ℕ) (t l a out mid end all : List ℕ) (b : Bool) → lines_of t ≡ l ∷ lines_of a → b ≡ is_blank l → b ≡ false →
     mid ≡ out ++ repaired_comment m column l → end ≡ mid ++ a → out ++ joined (repair keep m column (lines_of t)) ≡ all → end ≡ all
 unfolding repair
-comment_step keep m column t l a out mid end all b e is blank on behind so_far =
-    let line = repaired_comment m column l in
-    let step : joined (repair keep m column (lines_of t)) ≡ line ++ a = rw (e, sym is ∙ blank) (ap (λ x. line ++ x) (joined_lines a)) in
-    behind ∙ (ap (λ x. x ++ a) on ∙ (append_assoc out line a ∙ (ap (λ x. out ++ x) (sym step) ∙ so_far)))
+comment_step keep m column t l a out mid end all b e is blank on behind so_far = search (rules, joined_lines, append_assoc)
 
 pub repair_end : (keep : Bool) (m column : ℕ) (t out all : List ℕ) → t ≡ [] → out ++ joined (repair keep m column (lines_of t)) ≡ all → out ≡ all
 unfolding repair lines_of

@@ -1,7 +1,7 @@
 -- A repaired gap in front of a text.
-use Rattle.std.proofs.Common.{◌≡◌, ℕ, zero, suc, ◌<◌, Bool, true, false, cond, ◌||◌, eqb, List, [], ◌∷◌, ◌++◌, replicate, ◌⊎◌, inl, inr, refl, sym, ap, ◌∙◌, ⊎_elim, append_assoc, append-nil}
+use Rattle.std.proofs.Common.{◌≡◌, ℕ, zero, suc, ◌<◌, Bool, true, false, cond, ◌||◌, eqb, List, [], ◌∷◌, ◌++◌, replicate, ◌⊎◌, inl, inr, refl, sym, ap, ◌∙◌, ⊎_elim, append_assoc, append-nil, rules}
 use Rattle.std.proofs.lemmas.Bool.{cond_both, cases_Bool}
-use Rattle.yq_block_scalars.proofs.BlockRepairLaws.{comment_less, blank_empty, ends_less, ends_blank, ends_behind}
+use Rattle.yq_block_scalars.proofs.BlockRepairLaws.{comment_less, blank_empty, ends_less, ends_behind}
 use Rattle.yq_flow_scalars.proofs.Bools.{at_byte}
 use Rattle.yq_block_scalars.proofs.LineLaws.{lines_again, joined_lines}
 use Rattle.yq_block_scalars.proofs.SpaceLaws.{white_drop}
@@ -11,6 +11,7 @@ use Rattle.yq_block_scalars.specs.BlockWritten.{closed}
 use Rattle.yq_flow_scalars.specs.Lines.{is_blank, is_hash}
 use Rattle.yq_flow_scalars.specs.Text.{is_white, past_white, upto, lines_of, put_byte, joined, is_line}
 use Rattle.yq_block_scalars.specs.declared.block_lines.TextIndent.{TextIndent}
+use Rattle.yq_block_scalars.proofs.RawLaws.{ends_blank}
 
 -- no LF is in the text
 abbrev NoFeed : List ℕ → Type 0
@@ -104,10 +105,7 @@ open_lines : (l : List ℕ) → NoFeed l → (lines_of l ≡ []) ⊎ (lines_of l
 unfolding lines_of
 open_lines [] h = inl refl
 open_lines (b ∷ []) h = inr (rw h.0 refl)
-open_lines (b ∷ c ∷ l) h = ⊎_elim {0, 0, 0}
-    (λ none. absurd (let no : [] ≡ c ∷ l = ap joined (sym none) ∙ joined_lines (c ∷ l) in cc))
-    (λ one. inr (rw h.0 (ap (put_byte b) one)))
-    (open_lines (c ∷ l) h.1)
+open_lines (b ∷ c ∷ l) h = search (rules, ⊎_elim, joined_lines, open_lines (c ∷ l) h.1)
 
 abbrev Ends : Bool → TextIndent → List ℕ → Type 0
 Ends keep f t = ends_block keep f (lines_of t) ≡ true
@@ -159,11 +157,4 @@ gap_ends false f column (l ∷ ls) rest cut are behind lt = ⊎_elim {0, 0, 0}
 -- the block scalar in front of it
 pub repair_stands : (least column : ℕ) (b : BlockText) (old gap rest : List ℕ) → IsBlock least b old → AreGap (lines_of gap) → Closed (lines_of gap) rest → is_behind b.indent (lines_of rest) ≡ true → column < b.indent.columns →
     IsBlock least b (joined (repair (keeps b.chomping) b.indent.columns column (lines_of gap)) ++ rest)
-repair_stands least column b old gap rest is are shut behind lt = record {
-  indicators = is.indicators;
-  tail = is.tail;
-  indent = is.indent;
-  lines = is.lines;
-  ends = is.ends;
-  behind = gap_ends (keeps b.chomping) b.indent column (lines_of gap) rest (lines_cut gap rest shut) are behind lt;
-}
+repair_stands least column b old gap rest is are shut behind lt = search (rules, gap_ends, lines_cut)

@@ -1,5 +1,5 @@
 -- Steps of the loops over lines.
-use Rattle.std.proofs.Common.{◌≡◌, ℕ, zero, suc, ◌+◌, ◌<◌, ◌≤◌, Bool, true, false, cond, eqb, ltb, List, [], ◌∷◌, length, take, drop, Option, Some, None, refl, sym, ap, ◌∙◌, ⊎_elim, arith, eqb-true, length-append, length-take, length-drop}
+use Rattle.std.proofs.Common.{◌≡◌, ℕ, zero, suc, ◌+◌, ◌<◌, ◌≤◌, Bool, true, false, cond, eqb, ltb, List, [], ◌∷◌, length, take, drop, Option, Some, None, refl, sym, ap, ◌∙◌, ⊎_elim, arith, eqb-true, length-append, length-take, length-drop, rules}
 use Rattle.std.proofs.lemmas.Bool.{false≢true, lt-ltb, false_from_ne_true, cases_Bool, le-ltb}
 use Rattle.yq_block_scalars.proofs.LineLaws.{line_step, line_len_some, line_len_within}
 use Rattle.yq_flow_scalars.specs.Answers.{◌>>=◌}
@@ -11,11 +11,7 @@ use Rattle.yq_block_scalars.specs.declared.block_lines.TextIndent.{TextIndent}
 
 -- the line in front of a text that is not empty
 pub at_line : (t l a : List ℕ) (n : ℕ) (e : Bool) → e ≡ eqb (length t) 0 → e ≡ false → n ≡ line_len t → l ≡ take n t → a ≡ drop n t → (lines_of t ≡ l ∷ lines_of a) × (0 < n) × (length l ≡ n)
-at_line [] l a n e is none m f b = absurd (false≢true (sym none ∙ is))
-at_line (x ∷ t) l a n e is none m f b =
-    let s : List ℕ = x ∷ t in
-    let some : 0 < length s = omega arith in
-    (rw (f, b, m) (line_step s some), omega (arith, line_len_some s some), rw f (omega (arith, length-take n s, line_len_within s)))
+at_line t l a n e h1 h2 h3 h4 h5 = search (rules, false≢true, line_step, line_len_some, length-take, line_len_within)
 
 -- the same of the text cut behind its line
 pub at_cut : (t l a : List ℕ) (e : Bool) → e ≡ eqb (length t) 0 → e ≡ false → (l, a) ≡ cut_line t → (lines_of t ≡ l ∷ lines_of a) × (length a < length t)
@@ -82,14 +78,8 @@ some_length : (j : List ℕ) → is_empty j ≡ false → 0 < length j
 some_length [] h = absurd (false≢true (sym h))
 some_length (b ∷ j) h = omega arith
 
-front_loose : (w s k n : ℕ) → 0 < n → counted w s (Some (k + n)) ≡ counted w (s + k) (Some n)
-front_loose w s k n h = rw (some_not_zero (k + n) (omega arith), some_not_zero n h) (ap Some (omega arith))
-
 loose : (l : List ℕ) (ls : Lines) (w s : ℕ) (x : Lines × Lines) → 0 < length l → counted w s (raw_len (with_empty false l ls x)) ≡ counted w (s + length l) (Some (length (joined x.0)))
-loose l ls w s x some = ⊎_elim {0, 0, 0}
-    (λ h. rw h (rw (nil_length (joined x.0) h) refl))
-    (λ h. rw h (ap (λ n. counted w s (Some n)) (length-append l (joined x.0)) ∙ front_loose w s (length l) (length (joined x.0)) (some_length (joined x.0) h)))
-    (cases_Bool (is_empty (joined x.0)))
+loose l ls w s x some = search (rules, some_not_zero, ⊎_elim, nil_length, length-append, some_length, cases_Bool)
 
 pub len_kept : (l : List ℕ) (ls : Lines) (w s : ℕ) (o : Option (Lines × Lines)) → 0 < length l → counted w s (raw_len (o >>= with_empty true l ls)) ≡ counted (s + length l) (s + length l) (raw_len o)
 len_kept l ls w s None some = refl

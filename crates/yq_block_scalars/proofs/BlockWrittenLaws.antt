@@ -1,15 +1,14 @@
 -- What is written is a block scalar and stands for the text.
-use Rattle.std.proofs.Common.{◌≡◌, ℕ, ◌+◌, ◌≤◌, Bool, true, false, cond, not, ◌&&◌, eqb, List, [], ◌∷◌, ◌++◌, length, drop, replicate, refl, sym, ap, ◌∙◌, subst, inl, inr, ⊎_elim, arith}
+use Rattle.std.proofs.Common.{◌≡◌, ℕ, ◌≤◌, Bool, true, false, cond, not, ◌&&◌, eqb, List, [], ◌∷◌, ◌++◌, length, refl, sym, ap, ◌∙◌, subst, ⊎_elim, rules}
 use Rattle.std.proofs.lemmas.Bool.{false≢true, not-true, and_parts, or_parts}
-use mathlib.Core.List.{cons≢nil}
 use Rattle.yq_block_scalars.proofs.BlockWrittenLines.{IsText, IsBreak, break_is, explicit_indent, not_end, some_text, line_regroup, indented_some, indented_raw, indented_part, NoCr, Good, text_next, lines_good}
 use Rattle.yq_block_scalars.proofs.LineLaws.{joined_lines, AreLines, lines_are}
 use Rattle.yq_block_scalars.proofs.SpaceLaws.{char_not_blank, prefix_none, spaces_front, drop_front}
 use Rattle.yq_block_scalars.specs.Block.{Lines, is_text_line, ends_block, AreRaw, no_lines, ends_in_text, IsDetected, keeps, is_tail, IsBlock}
-use Rattle.yq_block_scalars.specs.BlockContent.{line_text, part_of, broken, literal, strips, block_content}
-use Rattle.yq_block_scalars.specs.BlockWritten.{break_text, indented, written_line, written, closed, chomping_by, written_block}
-use Rattle.yq_flow_scalars.specs.Lines.{spaces, behind_spaces, is_tab, is_blank}
-use Rattle.yq_flow_scalars.specs.Text.{is_white, ends_line, lines_of, put_byte, joined, is_line}
+use Rattle.yq_block_scalars.specs.BlockContent.{line_text, broken, literal, strips, block_content}
+use Rattle.yq_block_scalars.specs.BlockWritten.{break_text, indented, written, closed, chomping_by, written_block}
+use Rattle.yq_flow_scalars.specs.Lines.{spaces}
+use Rattle.yq_flow_scalars.specs.Text.{is_white, lines_of, put_byte, joined}
 use Rattle.yq_block_scalars.specs.declared.block_types.Break.{Break}
 
 -- the text of the last line is not empty
@@ -55,17 +54,8 @@ never false = refl
 written_says : (m : ℕ) (br : List ℕ) (ls : Lines) → IsBreak br → Good ls → AreLines ls → literal (not (closed ls)) (explicit_indent m) (written m br ls) ≡ joined ls
 unfolding written literal closed
 written_says m br [] b h a = refl
-written_says m br (l ∷ []) b h a =
-    let same : broken (not (not (is_line l) && true)) ≡ broken (is_line l) = twice (is_line l) in
-    let say : part_of (explicit_indent m) (indented m (line_text l) ++ br) ≡ line_text l = indented_part m (line_text l) br h.0.0 b in
-    rw (say, same) (ap (λ x. x ++ []) (sym h.0.1))
-written_says m br (l ∷ k ∷ ls) b h a =
-    let line : is_line l ≡ true = ⊎_elim {0, 0, 0} (λ e. e) (λ e. absurd (cons≢nil e)) a.0 in
-    let more : broken (not (not (closed (k ∷ ls)) && false)) ≡ broken (is_line l) = rw line (never (not (closed (k ∷ ls)))) in
-    let say : part_of (explicit_indent m) (indented m (line_text l) ++ br) ≡ line_text l = indented_part m (line_text l) br h.0.0 b in
-    let front : part_of (explicit_indent m) (indented m (line_text l) ++ br) ++ broken (not (not (closed (k ∷ ls)) && false)) ≡ l = ap (λ p. p ++ broken (not (not (closed (k ∷ ls)) && false))) say ∙ (ap (λ x. line_text l ++ x) more ∙ sym h.0.1) in
-    let again = written_says m br (k ∷ ls) b h.1 a.1 in
-    ap (λ x. x ++ literal (not (closed (k ∷ ls))) (explicit_indent m) (written m br (k ∷ ls))) front ∙ ap (λ x. l ++ x) again
+written_says m br (l ∷ []) b h a = search (rules, twice, explicit_indent, indented_part, ⊎_elim, never)
+written_says m br (l ∷ k ∷ ls) b h a = search (rules, explicit_indent, ⊎_elim, never, indented_part, written_says m br (k ∷ ls) b h.1 a.1)
 
 -- the first line gives the indentation
 put_first : (b : ℕ) (ls : Lines) → (l : List ℕ) × (rest : Lines) × (put_byte b ls ≡ (b ∷ l) ∷ rest)
@@ -86,13 +76,7 @@ written_detected least m b br l ls le white e n =
     let t : List ℕ = (b ∷ p) ++ br in
     let parts = white_parts b white in
     let none : spaces t ≡ 0 = prefix_none (λ x. eqb x 32) b (p ++ br) parts.0 in
-    let line : written_line m br (b ∷ l) ≡ replicate m 32 ++ t = ap (λ q. indented m q ++ br) (text_next b l e n) ∙ (ap (λ q. q ++ br) (indented_some m b p) ∙ line_regroup m (b ∷ p) br) in
-    let deep : spaces (replicate m 32 ++ t) ≡ m + 0 = spaces_front m t ∙ ap (λ k. m + k) none in
-    let is : spaces (replicate m 32 ++ t) ≡ m = omega arith in
-    let behind : behind_spaces (replicate m 32 ++ t) ≡ t = ap (λ k. drop k (replicate m 32 ++ t)) deep ∙ drop_front m 0 t in
-    let char : is_blank (replicate m 32 ++ t) ≡ false = char_not_blank (replicate m 32 ++ t) (ap ends_line behind ∙ not_end b (p ++ br) e n) (ap is_tab behind ∙ parts.1) in
-    let lead : (is_blank (replicate m 32 ++ t) ≡ false) × (explicit_indent m ≡ record { columns = spaces (replicate m 32 ++ t); known = true }) × (least ≤ spaces (replicate m 32 ++ t)) = (char, ap explicit_indent (sym is), omega arith) in
-    inr (subst (λ (x : List ℕ). (is_blank x ≡ false) × (explicit_indent m ≡ record { columns = spaces x; known = true }) × (least ≤ spaces x)) (sym line) lead)
+    search (rules, explicit_indent, text_next, indented_some, line_regroup, spaces_front, drop_front, char_not_blank, not_end, t, parts, none, p)
 
 written_indent : (least m : ℕ) (br s : List ℕ) → least ≤ m → begins_char s ≡ true → NoCr s → IsDetected least (explicit_indent m) (written m br (lines_of s))
 written_indent least m br [] le h n = absurd (false≢true h)
@@ -107,16 +91,7 @@ clips true = (refl, refl)
 clips false = (refl, refl)
 
 pub written_is : (least m : ℕ) (b : Break) (s tail rest : List ℕ) → CanWrite s → least ≤ m → is_tail tail ≡ true → ends_block false (explicit_indent m) (lines_of rest) ≡ true → IsBlock least (written_block s m (break_text b) tail) rest
-written_is least m b s tail rest can le line seam =
-    let good = lines_good s can.plain in
-    record {
-      indicators = record { small = tt; spelled = inl refl };
-      tail = line;
-      indent = written_indent least m (break_text b) s le can.begins can.plain;
-      lines = written_raw m (break_text b) (lines_of s) (break_is b) good;
-      ends = inr (written_ends m (break_text b) (lines_of s) good can.ends);
-      behind = rw (clips (closed (lines_of s))).0 seam;
-    }
+written_is least m b s tail rest can le line seam = search (rules, written_indent, written_raw, break_is, written_ends, clips, lines_good)
 
 pub written_content : (m : ℕ) (b : Break) (s tail : List ℕ) → CanWrite s → block_content (written_block s m (break_text b) tail) ≡ s
 written_content m b s tail can =

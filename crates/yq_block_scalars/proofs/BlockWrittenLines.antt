@@ -1,16 +1,17 @@
 -- A line that is written, and what it stands for.
-use Rattle.std.proofs.Common.{◌≡◌, ℕ, zero, suc, ◌+◌, ◌≤◌, true, false, not, ◌&&◌, eqb, leb, min, List, [], ◌∷◌, ◌++◌, length, take, drop, replicate, refl, sym, ap, ◌∙◌, subst, inl, inr, ◌⊎◌, ⊎_elim, arith, eqb-true, append_assoc}
+use Rattle.std.proofs.Common.{◌≡◌, ℕ, suc, ◌+◌, true, false, eqb, min, List, [], ◌∷◌, ◌++◌, length, take, drop, replicate, refl, sym, ap, ◌∙◌, subst, inl, inr, ◌⊎◌, ⊎_elim, arith, eqb-true, append_assoc, rules}
 use Rattle.std.proofs.lemmas.Bool.{false≢true, cond_both, false_from_ne_true, leb-true, le-leb, and_from, and_parts}
 use Rattle.std.proofs.Math.Seq.{take-append_seam}
 use Rattle.yq_block_scalars.specs.declared.block_types.Break.TheVariants as breaks
 use Rattle.yq_block_scalars.proofs.SpaceLaws.{spaces_front, drop_front}
-use Rattle.yq_block_scalars.specs.Block.{Lines, is_empty_line, is_text_line, IsRawLine}
-use Rattle.yq_block_scalars.specs.BlockContent.{line_text, unindented, part_of, broken}
+use Rattle.yq_block_scalars.specs.Block.{Lines, is_text_line, IsRawLine}
+use Rattle.yq_block_scalars.specs.BlockContent.{line_text, part_of, broken}
 use Rattle.yq_block_scalars.specs.BlockWritten.{break_text, indented}
-use Rattle.yq_flow_scalars.specs.Lines.{spaces, behind_spaces}
+use Rattle.yq_flow_scalars.specs.Lines.{spaces}
 use Rattle.yq_flow_scalars.specs.Text.{ends_line, lines_of, put_byte, is_line, upto}
 use Rattle.yq_block_scalars.specs.declared.block_lines.TextIndent.{TextIndent}
 use Rattle.yq_block_scalars.specs.declared.block_types.Break.{Break}
+use Rattle.yq_block_scalars.proofs.BlockRepairText.{line_spaces}
 
 -- neither LF nor CR
 abbrev pub IsText : List ℕ → Type 0
@@ -34,11 +35,6 @@ unfolding is_line
 text_line [] br h b = break_line br b
 text_line (x ∷ p) br h b = rw h.0 (text_line p br h.2 b)
 
-spaces_line : (m : ℕ) (t : List ℕ) → is_line t ≡ true → is_line (replicate m 32 ++ t) ≡ true
-unfolding is_line
-spaces_line zero t h = h
-spaces_line (suc m) t h = spaces_line m t h
-
 body_text : (p br : List ℕ) → IsText p → IsBreak br → upto ends_line (p ++ br) ≡ length p
 unfolding upto
 body_text [] br h b = ⊎_elim {0, 0, 0} (λ e. rw e refl) (λ e. rw e refl) b
@@ -51,41 +47,20 @@ explicit_indent m = record { columns = m; known = true }
 pub not_end : (b : ℕ) (t : List ℕ) → eqb b 10 ≡ false → eqb b 13 ≡ false → ends_line (b ∷ t) ≡ false
 not_end b t h k = rw (h, k) refl
 
-some_not_empty : (m b : ℕ) (p br : List ℕ) → IsText (b ∷ p) → is_empty_line (explicit_indent m) (replicate m 32 ++ ((b ∷ p) ++ br)) ≡ false
-some_not_empty m b p br h = false_from_ne_true _ (λ e.
-    let t : List ℕ = (b ∷ p) ++ br in
-    let parts = and_parts (ends_line (behind_spaces (replicate m 32 ++ t))) (leb (spaces (replicate m 32 ++ t)) m) e in
-    let low : spaces (replicate m 32 ++ t) ≤ m = leb-true _ _ parts.1 in
-    let n : spaces (replicate m 32 ++ t) ≡ m + spaces t = spaces_front m t in
-    let none : spaces t ≡ 0 = omega arith in
-    let behind : behind_spaces (replicate m 32 ++ t) ≡ t = ap (λ k. drop k (replicate m 32 ++ t)) (n ∙ ap (λ k. m + k) none) ∙ drop_front m 0 t in
-    false≢true (sym (not_end b (p ++ br) h.0 h.1) ∙ (ap ends_line (sym behind) ∙ parts.0)))
-
 pub some_text : (m b : ℕ) (p br : List ℕ) → IsText (b ∷ p) → is_text_line (explicit_indent m) (replicate m 32 ++ ((b ∷ p) ++ br)) ≡ true
-some_text m b p br h =
-    let t : List ℕ = (b ∷ p) ++ br in
-    let n : spaces (replicate m 32 ++ t) ≡ m + spaces t = spaces_front m t in
-    let deep : leb m (spaces (replicate m 32 ++ t)) ≡ true = le-leb m (spaces (replicate m 32 ++ t)) (omega arith) in
-    and_from (not (is_empty_line (explicit_indent m) (replicate m 32 ++ t)) && true) (leb m (spaces (replicate m 32 ++ t))) (rw (some_not_empty m b p br h) refl) deep
-
-break_empty : (m : ℕ) (br : List ℕ) → IsBreak br → is_empty_line (explicit_indent m) br ≡ true
-break_empty m br h =
-    let low : leb 0 m ≡ true = le-leb 0 m (omega arith) in
-    ⊎_elim {0, 0, 0} (λ e. rw e low) (λ e. rw e low) h
+some_text m b p br h = search (rules, false_from_ne_true, and_parts, leb-true, spaces_front, drop_front, false≢true, not_end, le-leb, and_from)
 
 pub line_regroup : (m : ℕ) (p br : List ℕ) → (replicate m 32 ++ p) ++ br ≡ replicate m 32 ++ (p ++ br)
 line_regroup m p br = append_assoc (replicate m 32) p br
 
 pub indented_some : (m x : ℕ) (p : List ℕ) → indented m (x ∷ p) ≡ replicate m 32 ++ (x ∷ p)
-indented_some m x p =
-    let some : eqb (suc (length p)) 0 ≡ false = false_from_ne_true _ (λ e. let z : suc (length p) ≡ 0 = eqb-true (suc (length p)) 0 e in absurd (omega arith)) in
-    rw some refl
+indented_some m x p = search (rules, false_from_ne_true, eqb-true)
 
 pub indented_raw : (m : ℕ) (p br : List ℕ) → IsText p → IsBreak br → IsRawLine (explicit_indent m) (indented m p ++ br)
-indented_raw m [] br h b = (break_line br b, inl (break_empty m br b))
+indented_raw m [] br h b = search (rules, le-leb, ⊎_elim, break_line)
 indented_raw m (x ∷ p) br h b =
     subst (IsRawLine (explicit_indent m)) (sym (ap (λ l. l ++ br) (indented_some m x p) ∙ line_regroup m (x ∷ p) br))
-    (spaces_line m ((x ∷ p) ++ br) (text_line (x ∷ p) br h b), inr (some_text m x p br h))
+    (line_spaces m ((x ∷ p) ++ br) (text_line (x ∷ p) br h b), inr (some_text m x p br h))
 
 -- it says its text
 min_zero : (m : ℕ) → min m 0 ≡ 0
@@ -95,19 +70,14 @@ part_lf : (m : ℕ) → part_of (explicit_indent m) (10 ∷ []) ≡ []
 unfolding upto
 part_lf m = ap (λ k. take (upto ends_line (drop k (10 ∷ []))) (drop k (10 ∷ []))) (min_zero m)
 
-part_crlf : (m : ℕ) → part_of (explicit_indent m) (13 ∷ 10 ∷ []) ≡ []
-unfolding upto
-part_crlf m = ap (λ k. take (upto ends_line (drop k (13 ∷ 10 ∷ []))) (drop k (13 ∷ 10 ∷ []))) (min_zero m)
-
 pub indented_part : (m : ℕ) (p br : List ℕ) → IsText p → IsBreak br → part_of (explicit_indent m) (indented m p ++ br) ≡ p
-indented_part m [] br h b = ⊎_elim {0, 0, 0} (λ e. rw e (part_lf m)) (λ e. rw e (part_crlf m)) b
+unfolding upto
+indented_part m [] br h b = search (rules, min_zero, ⊎_elim, part_lf)
 indented_part m (x ∷ p) br h b =
     let t : List ℕ = (x ∷ p) ++ br in
     let n : spaces (replicate m 32 ++ t) ≡ m + spaces t = spaces_front m t in
     let least : min m (spaces (replicate m 32 ++ t)) ≡ m + 0 = omega arith in
-    let bare : unindented (explicit_indent m) (replicate m 32 ++ t) ≡ t = ap (λ k. drop k (replicate m 32 ++ t)) least ∙ drop_front m 0 t in
-    let body : take (upto ends_line t) t ≡ x ∷ p = ap (λ k. take k t) (body_text (x ∷ p) br h b) ∙ take-append_seam (x ∷ p) br in
-    ap (part_of (explicit_indent m)) (ap (λ l. l ++ br) (indented_some m x p) ∙ line_regroup m (x ∷ p) br) ∙ (ap (λ u. take (upto ends_line u) u) bare ∙ body)
+    simp (indented_some, line_regroup, drop_front, body_text, take-append_seam, t, least)
 
 -- no CR is in it
 abbrev pub NoCr : List ℕ → Type 0

@@ -1,5 +1,5 @@
 -- The header of a block scalar, both ways.
-use Rattle.std.proofs.Common.{◌≡◌, ℕ, suc, ◌+◌, ◌-◌, ◌≤◌, true, false, cond, ◌&&◌, ◌||◌, eqb, leb, List, [], ◌∷◌, ◌++◌, length, take, Option, Some, None, refl, sym, ap, ◌∙◌, subst, inl, inr, ⊎_elim, arith, eqb-true, append_assoc, append-nil, length-append}
+use Rattle.std.proofs.Common.{◌≡◌, ℕ, suc, ◌+◌, ◌≤◌, true, false, ◌&&◌, ◌||◌, eqb, leb, List, [], ◌∷◌, ◌++◌, length, take, Option, Some, None, refl, sym, ap, ◌∙◌, subst, ⊎_elim, arith, eqb-true, append_assoc, append-nil, length-append, rules}
 use Rattle.std.proofs.lemmas.Bool.{false≢true, cond_both, or_cases, false_from_ne_true, leb-true, le-leb, and_parts, cases_Bool}
 use Rattle.std.proofs.lemmas.List.{take-append-drop}
 use Rattle.std.proofs.Math.Seq.{take-append_seam, drop-append_seam}
@@ -10,22 +10,16 @@ use Rattle.yq_flow_scalars.proofs.Bools.{chosen}
 use Rattle.yq_block_scalars.proofs.LineLaws.{line_cut}
 use Rattle.yq_block_scalars.proofs.SpaceLaws.{white_drop}
 use Rattle.yq_block_scalars.specs.Block.{mark_of, IsDigit, digit_text, sign_text, IsIndicators, is_tail}
-use Rattle.yq_block_scalars.specs.BlockReading.{style_at, digit_at, sign_at, Indicators, indicators_behind, indicators_at, values, tail_at}
+use Rattle.yq_block_scalars.specs.BlockReading.{style_at, digit_at, sign_at, Indicators, indicators_at, values, tail_at}
 use Rattle.yq_flow_scalars.specs.Lines.{is_hash, is_blank}
-use Rattle.yq_flow_scalars.specs.Text.{is_white, is_feed, front, ends_line, past_white, line_len, is_line}
+use Rattle.yq_flow_scalars.specs.Text.{is_white, front, past_white, line_len, is_line}
 use Rattle.yq_block_scalars.specs.declared.block_header.BlockStyle.{BlockStyle}
 use Rattle.yq_block_scalars.specs.declared.block_header.Chomping.{Chomping}
 
 -- the header's mark
 pub style_takes : (t : List ℕ) (x : BlockStyle × List ℕ) → style_at t ≡ Some x → t ≡ mark_of x.0 ∷ x.1
 unfolding style_at
-style_takes [] x h = cc
-style_takes (b ∷ t) x h = ⊎_elim {0, 0, 0}
-    (λ w. subst (λ (y : BlockStyle × List ℕ). (b ∷ t) ≡ mark_of y.0 ∷ y.1) (same_Some _ _ w.1) (ap (λ n. n ∷ t) (eqb-true b 124 w.0)))
-    (λ w. ⊎_elim {0, 0, 0}
-    (λ v. subst (λ (y : BlockStyle × List ℕ). (b ∷ t) ≡ mark_of y.0 ∷ y.1) (same_Some _ _ v.1) (ap (λ n. n ∷ t) (eqb-true b 62 v.0)))
-    (λ v. cc) (chosen (eqb b 62) w.1))
-    (chosen (eqb b 124) h)
+style_takes t x h1 = search (rules, ⊎_elim, same_Some, eqb-true, chosen)
 
 pub style_again : (s : BlockStyle) (t : List ℕ) → style_at (mark_of s ∷ t) ≡ Some (s, t)
 unfolding style_at
@@ -37,43 +31,17 @@ abbrev IsDigitCut : List ℕ → Option ℕ × List ℕ → Type 0
 IsDigitCut t x = (t ≡ digit_text x.0 ++ x.1) × IsDigit x.0
 
 digit_takes : (t : List ℕ) → IsDigitCut t (digit_at t)
-digit_takes [] = (refl, tt)
-digit_takes (b ∷ t) = cond_both (leb 49 b && leb b 57) (Some (b - 48), t) (None, b ∷ t) (IsDigitCut (b ∷ t))
-    (λ h. let parts = and_parts (leb 49 b) (leb b 57) h in
-    let low : 49 ≤ b = leb-true 49 b parts.0 in
-    let high : b ≤ 57 = leb-true b 57 parts.1 in
-    let same : b ≡ 48 + (b - 48) = omega arith in
-    (ap (λ n. n ∷ t) same, (omega arith, omega arith)))
-    (λ _. (refl, tt))
-
-abbrev IsSignCut : List ℕ → Chomping × List ℕ → Type 0
-IsSignCut t x = t ≡ sign_text x.0 ++ x.1
+digit_takes t = search (rules, cond_both, and_parts, leb-true)
 
 sign_takes : (t : List ℕ) → t ≡ sign_text (sign_at t).0 ++ (sign_at t).1
-sign_takes [] = refl
-sign_takes (b ∷ t) = cond_both (eqb b 45) (chompings.Strip, t) (cond (eqb b 43) (chompings.Keep, t) (chompings.Clip, b ∷ t)) (IsSignCut (b ∷ t))
-    (λ h. ap (λ n. n ∷ t) (eqb-true b 45 h))
-    (λ _. cond_both (eqb b 43) (chompings.Keep, t) (chompings.Clip, b ∷ t) (IsSignCut (b ∷ t)) (λ h. ap (λ n. n ∷ t) (eqb-true b 43 h)) (λ _. refl))
+sign_takes t = search (rules, cond_both, eqb-true)
 
 abbrev pub IsIndicatorsCut : List ℕ → Indicators → Type 0
 IsIndicatorsCut t m = (t ≡ m.2 ++ m.3) × IsIndicators m.0 m.1 m.2
 
-behind_takes : (t : List ℕ) (d : Option ℕ × List ℕ) → IsDigitCut t d → IsIndicatorsCut t (indicators_behind d)
-behind_takes t (None, u) h =
-    let c = sign_at u in
-    let e = digit_takes c.1 in (
-      h.0 ∙ (sign_takes u ∙ (ap (λ m. sign_text c.0 ++ m) e.0 ∙ sym (append_assoc (sign_text c.0) (digit_text (digit_at c.1).0) (digit_at c.1).1))),
-      record { small = e.1; spelled = inr refl },
-    )
-behind_takes t (Some n, u) h =
-    let c = sign_at u in (
-      h.0 ∙ (ap (λ m. digit_text (Some n) ++ m) (sign_takes u) ∙ sym (append_assoc (digit_text (Some n)) (sign_text c.0) c.1)),
-      record { small = h.1; spelled = inl refl },
-    )
-
 pub indicators_takes : (t : List ℕ) → IsIndicatorsCut t (indicators_at t)
 unfolding indicators_at
-indicators_takes t = behind_takes t (digit_at t) (digit_takes t)
+indicators_takes t = search (rules, digit_takes, sign_takes, append_assoc)
 
 pub indicators_length : (t : List ℕ) → length t ≡ length (indicators_at t).2 + length (indicators_at t).3
 indicators_length t = ap length (indicators_takes t).0 ∙ length-append (indicators_at t).2 (indicators_at t).3
@@ -90,23 +58,10 @@ tail_takes t x h = ⊎_elim {0, 0, 0}
 
 pub tail_again : (p rest : List ℕ) → is_tail p ≡ true → tail_at (p ++ rest) ≡ Some (p, rest)
 unfolding tail_at
-tail_again p rest h =
-    let parts = and_parts (is_line p) _ h in
-    rw (line_cut p rest parts.0) (rw (take-append_seam, drop-append_seam) (rw h refl))
-
--- what the header's line begins with
-white_low : (b : ℕ) → is_white b ≡ true → b ≤ 32
-white_low b h = ⊎_elim {0, 0, 0} (λ e. let is : b ≡ 32 = eqb-true b 32 e in omega arith) (λ e. let is : b ≡ 9 = eqb-true b 9 e in omega arith) (or_cases (eqb b 32) (eqb b 9) h)
+tail_again p rest h = search (rules, and_parts, line_cut, take-append_seam, drop-append_seam)
 
 tail_low : (b : ℕ) (l : List ℕ) → (is_blank (b ∷ l) || (front is_white (b ∷ l) && is_hash (past_white (b ∷ l)))) ≡ true → b ≤ 32
-tail_low b l h = ⊎_elim {0, 0, 0}
-    (λ e. ⊎_elim {0, 0, 0} (λ w. white_low b w)
-    (λ w. let here : ends_line (b ∷ l) ≡ true = rw w at (rw (white_drop b l) at e) in
-    ⊎_elim {0, 0, 0} (λ k. let is : b ≡ 10 = eqb-true b 10 k in omega arith)
-    (λ k. let is : b ≡ 13 = eqb-true b 13 (and_parts (eqb b 13) (front is_feed l) k).0 in omega arith) (or_cases (eqb b 10) (eqb b 13 && front is_feed l) here))
-    (cases_Bool (is_white b)))
-    (λ e. white_low b (and_parts (is_white b) (is_hash (past_white (b ∷ l))) e).0)
-    (or_cases (is_blank (b ∷ l)) (front is_white (b ∷ l) && is_hash (past_white (b ∷ l))) h)
+tail_low b l h = search (rules, ⊎_elim, eqb-true, or_cases, white_drop, and_parts, cases_Bool)
 
 -- no digit and no sign is in front
 abbrev pub NoIndicator : List ℕ → Type 0
@@ -126,54 +81,26 @@ tail_no_indicator (b ∷ p) t h = low_no_indicator b (p ++ t) (tail_low b p (and
 
 -- digit and sign
 digit_again : (d : ℕ) (t : List ℕ) → 1 ≤ d → d ≤ 9 → digit_at ((48 + d) ∷ t) ≡ (Some d, t)
-digit_again d t a b =
-    let low_ : leb 49 (48 + d) ≡ true = le-leb 49 (48 + d) (omega arith) in
-    let high : leb (48 + d) 57 ≡ true = le-leb (48 + d) 57 (omega arith) in
-    let same : 48 + d - 48 ≡ d = omega arith in
-    rw (low_, high) (ap (λ n. (Some n, t)) same)
-
-sign_again : (c : Chomping) (t : List ℕ) → sign_at t ≡ (chompings.Clip, t) → sign_at (sign_text c ++ t) ≡ (c, t)
-sign_again chompings.Strip t h = refl
-sign_again chompings.Clip t h = h
-sign_again chompings.Keep t h = refl
-
-abbrev behind_sign : Chomping × List ℕ → Indicators
-behind_sign c = let d = digit_at c.1 in (d.0, c.0, sign_text c.0 ++ digit_text d.0, d.1)
-
-none_again : (c : Chomping) (t : List ℕ) → NoIndicator t → indicators_at (sign_text c ++ t) ≡ (None, c, sign_text c ++ [], t)
-unfolding indicators_at
-none_again chompings.Strip t h = ap (λ (x : Option ℕ × List ℕ). (x.0, chompings.Strip, 45 ∷ digit_text x.0, x.1)) h.0
-none_again chompings.Clip t h = ap indicators_behind h.0 ∙ (ap behind_sign h.1 ∙ ap (λ (x : Option ℕ × List ℕ). (x.0, chompings.Clip, digit_text x.0, x.1)) h.0)
-none_again chompings.Keep t h = ap (λ (x : Option ℕ × List ℕ). (x.0, chompings.Keep, 43 ∷ digit_text x.0, x.1)) h.0
+digit_again d t a b = search (rules, le-leb)
 
 first_again : (d : ℕ) (c : Chomping) (t : List ℕ) → 1 ≤ d → d ≤ 9 → NoIndicator t → indicators_at ((48 + d) ∷ (sign_text c ++ t)) ≡ (Some d, c, (48 + d) ∷ sign_text c, t)
 unfolding indicators_at
-first_again d c t a b h = ap indicators_behind (digit_again d (sign_text c ++ t) a b) ∙ ap (λ (x : Chomping × List ℕ). (Some d, x.0, (48 + d) ∷ sign_text x.0, x.1)) (sign_again c t h.1)
+first_again d c t a b h = search (rules, digit_again)
 
 behind_again : (d : ℕ) (c : Chomping) (t : List ℕ) → 1 ≤ d → d ≤ 9 → NoIndicator t → indicators_at (sign_text c ++ ((48 + d) ∷ t)) ≡ (Some d, c, sign_text c ++ (48 + d) ∷ [], t)
 unfolding indicators_at
-behind_again d chompings.Strip t a b h = ap (λ (x : Option ℕ × List ℕ). (x.0, chompings.Strip, 45 ∷ digit_text x.0, x.1)) (digit_again d t a b)
-behind_again d chompings.Clip t a b h = first_again d chompings.Clip t a b h
-behind_again d chompings.Keep t a b h = ap (λ (x : Option ℕ × List ℕ). (x.0, chompings.Keep, 43 ∷ digit_text x.0, x.1)) (digit_again d t a b)
+behind_again d c t h1 h2 h3 = search (rules, digit_again, first_again)
 
 pub indicators_again : (digit : Option ℕ) (c : Chomping) (p t : List ℕ) → IsIndicators digit c p → NoIndicator t → indicators_at (p ++ t) ≡ (digit, c, p, t)
-indicators_again None c p t h n =
-    let is : p ≡ sign_text c ++ [] = ⊎_elim {0, 0, 0} (λ e. e ∙ sym (append-nil (sign_text c))) (λ e. e) h.spelled in
-    let plain : p ≡ sign_text c = is ∙ append-nil (sign_text c) in
-    ap (λ q. indicators_at (q ++ t)) plain ∙ (none_again c t n ∙ ap (λ (q : List ℕ). (None, c, q, t)) (sym is))
-indicators_again (Some d) c p t h n = ⊎_elim {0, 0, 0}
-    (λ e. ap (λ q. indicators_at (q ++ t)) e ∙ (first_again d c t h.small.0 h.small.1 n ∙ ap (λ (q : List ℕ). (Some d, c, q, t)) (sym e)))
-    (λ e. ap (λ q. indicators_at (q ++ t)) e ∙ (ap indicators_at (append_assoc (sign_text c) ((48 + d) ∷ []) t) ∙ (behind_again d c t h.small.0 h.small.1 n ∙ ap (λ (q : List ℕ). (Some d, c, q, t)) (sym e))))
-    h.spelled
+unfolding indicators_at
+indicators_again digit c p t h1 h2 = search (rules, ⊎_elim, append-nil, first_again, append_assoc, behind_again)
 
 -- where its pieces stand
 pub style_length : (t : List ℕ) (s : BlockStyle) (u : List ℕ) → style_at t ≡ Some (s, u) → length t ≡ suc (length u)
 style_length t s u h = ap length (style_takes t (s, u) h)
 
 pub head_length : (t u r : List ℕ) (s : BlockStyle) (d : Option ℕ) (c : Chomping) → style_at t ≡ Some (s, u) → (d, c, r) ≡ values (indicators_at u) → length t ≡ 1 + length (indicators_at u).2 + length r
-head_length t u r s d c h m =
-    let same : length r ≡ length (indicators_at u).3 = ap (λ (y : Option ℕ × Chomping × List ℕ). length y.2) m in
-    omega (arith, style_length t s u h, indicators_length u, same)
+head_length t u r s d c h m = search (rules, style_length, indicators_length)
 
 pub tail_length : (t p r : List ℕ) → tail_at t ≡ Some (p, r) → length t ≡ length p + length r
 tail_length t p r h = ap length (tail_takes t (p, r) h).0 ∙ length-append p r

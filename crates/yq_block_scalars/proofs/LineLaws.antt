@@ -1,15 +1,12 @@
 -- The lines of a text.
-use Rattle.std.proofs.Common.{◌≡◌, ℕ, suc, ◌<◌, ◌≤◌, true, false, List, [], ◌∷◌, ◌++◌, length, take, drop, refl, sym, ap, ◌∙◌, inl, inr, ◌⊎◌, ⊎_elim, arith, append_assoc}
+use Rattle.std.proofs.Common.{◌≡◌, ℕ, suc, ◌<◌, ◌≤◌, true, false, List, [], ◌∷◌, ◌++◌, length, take, drop, refl, sym, ap, ◌∙◌, inl, inr, ◌⊎◌, ⊎_elim, arith, append_assoc, rules}
 use Rattle.std.proofs.lemmas.Bool.{false≢true, cond_both, cases_Bool}
 use Rattle.yq_flow_scalars.specs.Text.{line_len, lines_of, put_byte, joined, is_line, is_empty, is_feed}
 
 pub line_first : (b : ℕ) (bs : List ℕ) → lines_of (b ∷ bs) ≡ take (line_len (b ∷ bs)) (b ∷ bs) ∷ lines_of (drop (line_len (b ∷ bs)) (b ∷ bs))
 unfolding lines_of line_len
 line_first b [] = ⊎_elim {0, 0, 0} (λ h. rw h refl) (λ h. rw h refl) (cases_Bool (is_feed b))
-line_first b (c ∷ cs) =
-    let again = line_first c cs in
-    ⊎_elim {0, 0, 0} (λ h. rw h refl)
-    (λ h. rw h (ap (put_byte b) again)) (cases_Bool (is_feed b))
+line_first b (c ∷ cs) = search (rules, ⊎_elim, cases_Bool, line_first c cs)
 
 pub line_step : (t : List ℕ) → 0 < length t → lines_of t ≡ take (line_len t) t ∷ lines_of (drop (line_len t) t)
 line_step [] h = absurd (omega arith)
@@ -32,10 +29,7 @@ joined_put b (l ∷ ls) = refl
 pub joined_lines : (t : List ℕ) → joined (lines_of t) ≡ t
 unfolding lines_of
 joined_lines [] = refl
-joined_lines (b ∷ bs) =
-    let again = joined_lines bs in
-    ⊎_elim {0, 0, 0} (λ h. rw h (ap (λ x. b ∷ x) again))
-    (λ h. rw h (joined_put b (lines_of bs) ∙ ap (λ x. b ∷ x) again)) (cases_Bool (is_feed b))
+joined_lines (b ∷ bs) = search (rules, ⊎_elim, joined_put, cases_Bool, joined_lines bs)
 
 -- each line but the last has a break
 abbrev pub AreLines : List (List ℕ) → Type 0

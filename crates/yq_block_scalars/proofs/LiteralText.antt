@@ -1,5 +1,5 @@
 -- What a literal scalar holds as it is can be written so.
-use Rattle.std.proofs.Common.{◌≡◌, ℕ, Bool, true, false, not, ◌&&◌, eqb, List, [], ◌∷◌, length, refl, sym, ap, ◌∙◌, inl, inr, ◌⊎◌, ⊎_elim, arith, eqb-true}
+use Rattle.std.proofs.Common.{◌≡◌, ℕ, Bool, true, false, not, ◌&&◌, eqb, List, [], ◌∷◌, length, refl, sym, ap, ◌∙◌, inl, inr, ◌⊎◌, ⊎_elim, arith, eqb-true, rules}
 use Rattle.std.proofs.lemmas.Bool.{false≢true, false_from_ne_true, not-true, and_parts, cases_Bool}
 use Rattle.std.specs.Str.{IsUtf8, chars}
 use Rattle.std.specs.List.{ends_with, list_all}
@@ -33,37 +33,21 @@ unfolding ends_some
 put_some b l [] e n h = byte_some b l e n
 put_some b l (k ∷ ls) e n h = h refl
 
--- a text with more than one line has more than one byte
-abbrev rest_of : Lines → Lines
-rest_of [] = []
-rest_of (l ∷ ls) = ls
-
-one_line : (c : ℕ) → rest_of (lines_of (c ∷ [])) ≡ []
-unfolding lines_of
-one_line c = ⊎_elim {0, 0, 0} (λ e. rw e refl) (λ e. rw e refl) (cases_Bool (eqb c 10))
-
 more_lines : (c : ℕ) (t l : List ℕ) (ls : Lines) → lines_of (c ∷ t) ≡ l ∷ ls → no_lines ls ≡ false → is_empty t ≡ false
-more_lines c [] l ls e k = let none : ls ≡ [] = sym (ap rest_of e) ∙ one_line c in absurd (false≢true (sym k ∙ ap no_lines none))
+unfolding lines_of
+more_lines c [] l ls e k = search (rules, ⊎_elim, cases_Bool, false≢true)
 more_lines c (x ∷ t) l ls e k = refl
 
 -- two LFs at the end
 abbrev feeds : List ℕ
 feeds = 10 ∷ 10 ∷ []
 
-one_byte : (c : ℕ) → ends_with nat_eq (c ∷ []) feeds ≡ false
-one_byte c = ⊎_elim {0, 0, 0} (λ e. rw e refl) (λ e. rw e refl) (cases_Bool (eqb 10 c))
-
 feeds_next : (b c : ℕ) (t : List ℕ) → ends_with nat_eq (b ∷ c ∷ t) feeds ≡ false → ends_with nat_eq (c ∷ t) feeds ≡ false
-feeds_next b c [] h = one_byte c
+feeds_next b c [] h = search (rules, ⊎_elim, cases_Bool)
 feeds_next b c (x ∷ t) h = sym (ends_next b (c ∷ x ∷ t) feeds (omega arith)) ∙ h
 
 feed_behind : (b c : ℕ) (t : List ℕ) → eqb b 10 ≡ true → ends_with nat_eq (b ∷ c ∷ t) feeds ≡ false → (eqb c 10 ≡ false) ⊎ (is_empty t ≡ false)
-feed_behind b c (x ∷ t) e h = inr refl
-feed_behind b c [] e h = inl (false_from_ne_true (eqb c 10) (λ f.
-    let first : b ≡ 10 = eqb-true b 10 e in
-    let second : c ≡ 10 = eqb-true c 10 f in
-    let both : ends_with nat_eq (b ∷ c ∷ []) feeds ≡ true = rw (first, second) refl in
-    false≢true (sym h ∙ both)))
+feed_behind b c t h1 h2 = search (rules, false_from_ne_true, eqb-true, false≢true)
 
 ends_is : (b : ℕ) (s : List ℕ) → NoCr (b ∷ s) → ends_with nat_eq (b ∷ s) feeds ≡ false → (eqb b 10 ≡ false) ⊎ (is_empty s ≡ false) → ends_some (lines_of (b ∷ s)) ≡ true
 unfolding lines_of ends_some

@@ -1,5 +1,5 @@
 -- The scalar of a piece, and where it may be cut off the text.
-use Rattle.std.proofs.Common.{◌≡◌, ℕ, ◌+◌, ◌-◌, ◌<◌, List, [], ◌∷◌, ◌++◌, length, take, drop, get_or, ◌⊎◌, inl, inr, refl, sym, ap, ◌∙◌, subst, arith, append_assoc, length-append, ℤ}
+use Rattle.std.proofs.Common.{◌≡◌, ℕ, ◌+◌, ◌-◌, ◌<◌, List, [], ◌∷◌, ◌++◌, length, take, drop, get_or, inl, inr, refl, sym, ap, ◌∙◌, subst, arith, append_assoc, length-append, ℤ, rules}
 use Rattle.std.proofs.Math.Seq.{take-append_seam}
 use Rattle.std.proofs.lemmas.Str.{IsCharBoundary-after_ascii}
 use Rattle.std.specs.Str.{IsUtf8, IsCharBoundary}
@@ -16,9 +16,8 @@ use Rattle.yq_flow_scalars.specs.Piece.{inline_piece, further_spaces, IsPlainPie
 use Rattle.yq_flow_scalars.specs.Plain.{ends_plain}
 use Rattle.yq_flow_scalars.specs.Quoted.{Lines, spell_lines, IsQuoted, content}
 use Rattle.yq_flow_scalars.specs.PlainContent.{IsPlainLines}
-use Rattle.yq_flow_scalars.specs.ContentReading.{plain_content, quoted_content}
 use Rattle.yq_block_scalars.specs.QuotedPiece.{style_of, IsQuotedPiece}
-use Rattle.yq_block_scalars.specs.ScalarPiece.{IsInlineScalar, piece_text, content_in, piece_content}
+use Rattle.yq_block_scalars.specs.ScalarPiece.{IsInlineScalar, content_in, piece_content}
 use Rattle.yq_flow_scalars.specs.Writable.{in_flow}
 use Rattle.yq_flow_scalars.proofs.ContentLaws.{quoted_content_is}
 use Rattle.yq_flow_scalars.proofs.PlainContentLaws.{plain_content_is}
@@ -52,9 +51,8 @@ behind_quote : (q : ℕ) (ls : Lines) (piece rest : List ℕ) → IsQuoted q ls 
 behind_quote q ls piece rest is u =
     let front = q ∷ spell_lines ls in
     let low : q < 128 = of_quotes (λ x. x < 128) q is.quotes (omega arith) (omega arith) in
-    let whole : piece ++ rest ≡ front ++ (q ∷ rest) = ap (λ l. l ++ rest) is.spelled ∙ append_assoc front (q ∷ []) rest in
     let size : length piece ≡ length front + 1 = ap length is.spelled ∙ length-append front (q ∷ []) in
-    let here : get_or (piece ++ rest) (length front) 0 ≡ q = ap (λ (l : List ℕ). get_or l (length front) 0) whole ∙ at_seam front rest q in
+    let here : get_or (piece ++ rest) (length front) 0 ≡ q = search (rules, append_assoc, at_seam, front) in
     let within : length front < length (piece ++ rest) = omega (arith, size, length-append piece rest) in
     subst (λ (k : ℕ). IsCharBoundary (piece ++ rest) k) (sym size) (IsCharBoundary-after_ascii (piece ++ rest) (length front) u within (omega (arith, here, low)))
 
@@ -76,31 +74,20 @@ scalar_of text p h = elim h.piece [
 ]
 
 pub boundary_end : (text rest : List ℕ) (p : Piece) (s : Scalar text p) → rest ≡ drop p.start text → IsUtf8 rest → IsCharBoundary rest (p.end - p.start)
-boundary_end text rest p s e u =
-    let same : rest ≡ s.scalar ++ s.rest = e ∙ s.stands in
-    let size : length s.scalar ≡ p.end - p.start = omega (arith, s.size) in
-    let here = s.cut (subst IsUtf8 same u) in
-    subst (λ (k : ℕ). IsCharBoundary rest k) size (subst (λ (l : List ℕ). IsCharBoundary l (length s.scalar)) (sym same) here)
-
--- what a quoted piece stands for
-quoted_by : (q : ℕ) (text : List ℕ) (p : Piece) → (q ≡ 34) ⊎ (q ≡ 39) → content_in (style_of q) text p ≡ quoted_content (piece_text text p)
-quoted_by q text p quotes = of_quotes (λ x. content_in (style_of x) text p ≡ quoted_content (piece_text text p)) q quotes refl refl
+boundary_end text rest p s e u = search rules
 
 pub quoted_piece_content : (at : ℕ) (text : List ℕ) (p : Piece) (h : IsQuotedPiece at text p) → piece_content text p ≡ content h.ls
 quoted_piece_content at text p h =
     let n = at + length h.scalar in
     let size : n - at ≡ length h.scalar = omega arith in
     let cut : take (n - at) (drop at text) ≡ h.scalar = rw (h.stands, size, take-append_seam) refl in
-    ap (piece_content text) h.piece
-    ∙ (quoted_by h.quote text (inline_piece (style_of h.quote) at n) h.quoted.quotes
-    ∙ (ap quoted_content cut ∙ quoted_content_is h.quote h.ls h.scalar h.rest h.quoted))
+    search (rules, of_quotes, quoted_content_is, cut, n)
 
 pub plain_piece_content : (place : Place) (n : ℤ) (at : ℕ) (text : List ℕ) (p : Piece) (h : IsPlainPiece place n at text p) (ls : Lines) → IsPlainLines ls h.scalar → piece_content text p ≡ content ls
 plain_piece_content place n at text p h ls is =
     let k = at + length h.scalar in
     let size : k - at ≡ length h.scalar = omega arith in
-    let cut : take (k - at) (drop at text) ≡ h.scalar = rw (h.stands, size, take-append_seam) refl in
-    ap (piece_content text) h.piece ∙ (ap plain_content cut ∙ plain_content_is ls h.scalar is)
+    search (rules, plain_content_is, take-append_seam, size)
 
 -- what the piece of a block scalar stands for
 block_style_content : (s : BlockStyle) (text : List ℕ) (p : Piece) → content_in (block.style_of s) text p ≡ blocks.piece_content text p

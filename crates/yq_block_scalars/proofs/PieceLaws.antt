@@ -1,11 +1,10 @@
 -- The piece of a plain scalar.
-use Rattle.std.proofs.Common.{◌≡◌, ℕ, ◌+◌, List, length, drop, Some, Result, Ok, Err, sym, ap, ◌∙◌, IfOk, ℤ}
+use Rattle.std.proofs.Common.{◌≡◌, ℕ, List, drop, Some, Result, Ok, Err, sym, ap, ◌∙◌, IfOk, ℤ, rules}
 use Rattle.std.proofs.lemmas.Option.{same_Some}
 use Rattle.yq_flow_scalars.specs.declared.piece.Piece.{Piece}
 use Rattle.yq_flow_scalars.specs.declared.style.Place.{Place}
-use Rattle.yq_flow_scalars.specs.declared.style.Style.TheVariants as styles
-use Rattle.yq_flow_scalars.specs.Answers.{◌>>=◌, Reads}
-use Rattle.yq_flow_scalars.specs.Piece.{inline_piece, further_spaces, IsPlainPiece, plain_from}
+use Rattle.yq_flow_scalars.specs.Answers.{Reads}
+use Rattle.yq_flow_scalars.specs.Piece.{further_spaces, IsPlainPiece, plain_from}
 use Rattle.yq_flow_scalars.specs.Plain.{plain_at}
 use Rattle.yq_flow_scalars.specs.Writable.{in_flow}
 use Rattle.yq_flow_scalars.proofs.Bools.{bind_some}
@@ -20,10 +19,7 @@ piece_takes place n at text p h =
 
 pub piece_again : (place : Place) (n : ℤ) (at : ℕ) (text : List ℕ) (p : Piece) → IsPlainPiece place n at text p → plain_from place n at text ≡ Some p
 unfolding plain_from
-piece_again place n at text p h =
-    ap (λ t. plain_at (in_flow place) (further_spaces place n) t >>= λ x. Some (inline_piece styles.Plain at (at + length x.0))) h.stands
-    ∙ (ap (λ o. o >>= λ (x : List ℕ × List ℕ). Some (inline_piece styles.Plain at (at + length x.0))) (plain_again (in_flow place) (further_spaces place n) h.scalar h.rest h.plain)
-    ∙ ap Some (sym h.piece))
+piece_again place n at text p h = search (rules, plain_again)
 
 pub found_by : {E : Type 0} (place : Place) (n : ℤ) (at : ℕ) (text : List ℕ) (r : Result Piece E) → Reads (λ p. p) r (plain_from place n at text) → IfOk r (IsPlainPiece place n at text)
 found_by place n at text (Ok p) h = piece_takes place n at text p h

@@ -1,5 +1,5 @@
 -- What is written plain is read as the same scalar.
-use Rattle.std.proofs.Common.{◌≡◌, ℕ, Bool, true, false, not, ◌&&◌, ◌||◌, eqb, List, [], ◌∷◌, ◌++◌, Option, refl, sym, ap, ◌∙◌, subst, inl, codes}
+use Rattle.std.proofs.Common.{◌≡◌, ℕ, Bool, true, false, eqb, List, [], ◌∷◌, ◌++◌, Option, refl, sym, ap, ◌∙◌, subst, inl, codes, rules}
 use Rattle.std.proofs.lemmas.Bool.{false≢true, false_from_ne_true, and_parts}
 use Rattle.std.proofs.lemmas.Option.{same_Some}
 use Rattle.std.specs.List.{list_all}
@@ -14,10 +14,10 @@ use Rattle.yq_flow_scalars.specs.Scalar.{ScalarText, IsScalar, plain_of, of_kind
 use Rattle.yq_flow_scalars.specs.Schema.{Resolves}
 use Rattle.yq_flow_scalars.specs.SchemaReading.{resolve}
 use Rattle.yq_flow_scalars.specs.Writable.{can_write_plain, is_string}
-use Rattle.yq_flow_scalars.proofs.Bools.{at_byte}
+use Rattle.yq_flow_scalars.proofs.Bools.{at_byte, none_of}
 use Rattle.yq_block_scalars.proofs.Bytes.{Each}
 use Rattle.yq_flow_scalars.proofs.PlainLaws.{plain_again}
-use Rattle.yq_block_scalars.proofs.PlainWritten.{is_no_control, no_controls, no_controls_parts, plain_text_parts, plain_written}
+use Rattle.yq_block_scalars.proofs.PlainWritten.{is_no_control, no_controls, plain_text_parts, plain_written}
 use Rattle.yq_flow_scalars.proofs.SchemaLaws.{resolve_takes, resolve_again}
 use Rattle.yq_block_scalars.proofs.SchemaPlain.{null_plain, bool_plain, int_plain, float_plain}
 
@@ -29,7 +29,7 @@ plain_one flow spaces p rest q other e a b =
 
 no_controls_line : (t : List ℕ) → Each is_no_control t → holds_break t ≡ false
 no_controls_line [] q = refl
-no_controls_line (b ∷ t) q = rw ((no_controls_parts (eqb b 9) (eqb b 10) (eqb b 13) q.0).1, no_controls_line t q.1) refl
+no_controls_line (b ∷ t) q = rw ((none_of (eqb b 9) (eqb b 10) (eqb b 13) q.0).1, no_controls_line t q.1) refl
 
 -- no break is in it
 pub plain_line : (flow : Bool) (t : List ℕ) → IsUtf8 t → is_plain_text flow t ≡ true → holds_break t ≡ false
@@ -42,7 +42,7 @@ text_chars (c ∷ cs) h = let p = and_parts (is_plain_char c) (list_all is_plain
 no_controls_pairs : (t : List ℕ) → Each is_no_control t → pairs_returns t ≡ true
 unfolding pairs_returns
 no_controls_pairs [] q = refl
-no_controls_pairs (b ∷ t) q = rw ((no_controls_parts (eqb b 9) (eqb b 10) (eqb b 13) q.0).2, no_controls_pairs t q.1) refl
+no_controls_pairs (b ∷ t) q = rw ((none_of (eqb b 9) (eqb b 10) (eqb b 13) q.0).2, no_controls_pairs t q.1) refl
 
 -- it is a text
 pub plain_is_text : (flow : Bool) (t : List ℕ) → IsUtf8 t → is_plain_text flow t ≡ true → is_text t ≡ true
@@ -54,18 +54,10 @@ plain_some flow (b ∷ t) h = refl
 
 -- it begins with no indicator but a `-`
 pub plain_opens : (test : ℕ → Bool) (t : List ℕ) → ((b : ℕ) → test b ≡ true → is_indicator b ≡ true) → test 45 ≡ false → begins_plainly t ≡ true → front test t ≡ false
-plain_opens test [] only dash h = refl
-plain_opens test (b ∷ t) only dash h = false_from_ne_true (test b) (λ e.
-    let p = and_parts (not (eqb b 32)) (not (is_indicator b) || (eqb b 45 && front (λ c. not (eqb c 32)) t)) h in
-    let d : (eqb b 45 && front (λ c. not (eqb c 32)) t) ≡ true = rw (only b e) at p.1 in
-    false≢true (sym (at_byte test b 45 e dash) ∙ (and_parts (eqb b 45) (front (λ c. not (eqb c 32)) t) d).0))
+plain_opens test t h1 h2 h3 = search (rules, false_from_ne_true, and_parts, false≢true, at_byte)
 
 pub string_kind : (k : Kind) → is_string k ≡ true → k ≡ kinds.Text
-string_kind kinds.Null h = absurd (false≢true h)
-string_kind kinds.Bool h = absurd (false≢true h)
-string_kind kinds.Int h = absurd (false≢true h)
-string_kind kinds.Float h = absurd (false≢true h)
-string_kind kinds.Text h = refl
+string_kind k h1 = search (rules, false≢true)
 
 resolved : (t : List ℕ) (k : Kind) → resolve t ≡ k → Resolves t k
 resolved t k e = subst (Resolves t) e (resolve_takes t)

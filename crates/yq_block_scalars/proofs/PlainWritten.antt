@@ -1,27 +1,21 @@
 -- What is written plain is a plain scalar.
-use Rattle.std.proofs.Common.{◌≡◌, ℕ, Bool, true, false, not, eqb, List, [], ◌∷◌, ◌++◌, Option, Some, None, refl, sym, inl, inr, ⊎_elim, ◌&&◌, ◌||◌, ap, ◌∙◌, subst, arith, eqb-true}
+use Rattle.std.proofs.Common.{◌≡◌, ℕ, Bool, true, false, not, eqb, List, [], ◌∷◌, ◌++◌, Option, Some, None, refl, sym, inl, inr, ⊎_elim, ◌&&◌, ◌||◌, ap, ◌∙◌, arith, eqb-true, rules}
 use Rattle.std.proofs.lemmas.Bool.{false≢true, or_cases, not-true, and_parts, cases_Bool, or_parts}
 use Rattle.std.specs.List.{list_all}
 use Rattle.std.specs.Str.{chars, IsUtf8}
 use Rattle.std.specs.Option.{is_none}
 use Rattle.yq_flow_scalars.specs.Answers.{more}
 use Rattle.yq_flow_scalars.specs.Text.{NoneIn, is_empty, is_space, front}
-use Rattle.yq_flow_scalars.specs.Plain.{ends_plain, ends_text, is_flow_indicator, is_indicator, is_safe, begins_plain, IsPlain}
+use Rattle.yq_flow_scalars.specs.Plain.{ends_plain, ends_text, is_flow_indicator, is_safe, IsPlain}
 use Rattle.yq_flow_scalars.specs.PlainReading.{across}
 use Rattle.yq_flow_scalars.specs.PlainText.{is_plain_char, begins_plainly, needs_quotes, no_rest, is_plain_text, is_merge, begins_marker}
-use Rattle.yq_flow_scalars.proofs.Bools.{at_byte, not_byte}
+use Rattle.yq_flow_scalars.proofs.Bools.{at_byte, not_byte, none_of}
 use Rattle.yq_flow_scalars.proofs.Across.{across_white, across_here, ends_space}
 use Rattle.yq_block_scalars.proofs.Bytes.{Each, each_byte}
 
 -- no control that white space and breaks are made of
 abbrev pub is_no_control : ℕ → Bool
 is_no_control b = not (eqb b 9 || eqb b 10 || eqb b 13)
-
-pub no_controls_parts : (x y z : Bool) → not (x || y || z) ≡ true → (x ≡ false) × (y ≡ false) × (z ≡ false)
-no_controls_parts false false false h = (refl, refl, refl)
-no_controls_parts true y z h = absurd (false≢true h)
-no_controls_parts false true z h = absurd (false≢true h)
-no_controls_parts false false true h = absurd (false≢true h)
 
 pub no_controls : (t : List ℕ) → IsUtf8 t → list_all is_plain_char (chars t) ≡ true → Each is_no_control t
 no_controls t u h = each_byte is_no_control is_plain_char t u h
@@ -46,7 +40,7 @@ front_of flow b bs h =
     record { flow_free = two.0; colon = two.1; space = none.1; rest = parts.1 }
 
 pub no_control_space : (b : ℕ) (bs : List ℕ) → is_no_control b ≡ true → eqb b 32 ≡ false → is_space (b ∷ bs) ≡ false
-no_control_space b bs q n = let p = no_controls_parts (eqb b 9) (eqb b 10) (eqb b 13) q in rw (n, p.0, p.1, p.2) refl
+no_control_space b bs q n = let p = none_of (eqb b 9) (eqb b 10) (eqb b 13) q in rw (n, p.0, p.1, p.2) refl
 
 safe_next : (flow : Bool) (d : ℕ) (q rest : List ℕ) → is_no_control d ≡ true → no_rest (needs_quotes flow) (d ∷ q) ≡ true → eqb d 32 ≡ false → is_safe flow (d ∷ (q ++ rest)) ≡ true
 safe_next flow d q rest no_controls h n = rw (no_control_space d (q ++ rest) no_controls n, (front_of flow d q h).flow_free) refl
@@ -56,13 +50,7 @@ behind_colon flow [] rest q h e = absurd (false≢true (sym e))
 behind_colon flow (d ∷ bs) rest q h e = safe_next flow d bs rest q.0 h e
 
 pub text_inside : (flow : Bool) (b : ℕ) (bs rest : List ℕ) → Each is_no_control (b ∷ bs) → no_rest (needs_quotes flow) (b ∷ bs) ≡ true → ends_text flow (b ∷ (bs ++ rest)) ≡ false
-text_inside flow b bs rest q h =
-    let f = front_of flow b bs h in
-    elim (cases_Bool (eqb b 58)) [
-      | inl e ↦ (let g : (is_empty bs || front (λ c. eqb c 32) bs) ≡ false = rw e at f.colon in
-          rw (e, f.flow_free, behind_colon flow bs rest q.1 f.rest g) refl)
-      | inr e ↦ rw (e, f.flow_free) refl
-    ]
+text_inside flow b bs rest q h = search (rules, front_of, cases_Bool, behind_colon)
 
 is_none_more : (o : Option ℕ) → is_none (more 1 o) ≡ is_none o
 is_none_more None = refl
@@ -97,19 +85,6 @@ behind_dash : (flow : Bool) (bs rest : List ℕ) → Each is_no_control bs → n
 behind_dash flow [] rest q h e = absurd (false≢true e)
 behind_dash flow (d ∷ bs) rest q h e = safe_next flow d bs rest q.0 h (not-true (eqb d 32) e)
 
-pub plain_begins : (flow : Bool) (t rest : List ℕ) → Each is_no_control t → begins_plainly t ≡ true → no_rest (needs_quotes flow) t ≡ true → begins_plain flow (t ++ rest) ≡ true
-plain_begins flow [] rest q s h = absurd (false≢true s)
-plain_begins flow (b ∷ bs) rest q s h =
-    let p = and_parts (not (eqb b 32)) (not (is_indicator b) || (eqb b 45 && front (λ c. not (eqb c 32)) bs)) s in
-    let n : is_space (b ∷ (bs ++ rest)) ≡ false = no_control_space b (bs ++ rest) q.0 (not-true (eqb b 32) p.0) in
-    ⊎_elim
-    (λ i. rw n (ap (λ (x : Bool). x || ((eqb b 45 || eqb b 63 || eqb b 58) && is_safe flow (bs ++ rest))) i))
-    (λ i. let d = and_parts (eqb b 45) (front (λ c. not (eqb c 32)) bs) i in
-    let u = behind_dash flow bs rest q.1 (front_of flow b bs h).rest d.1 in
-    let is : b ≡ 45 = eqb-true b 45 d.0 in
-    rw n (subst (λ (x : ℕ). (not (is_indicator x) || ((eqb x 45 || eqb x 63 || eqb x 58) && is_safe flow (bs ++ rest))) ≡ true) (sym is) (rw u refl)))
-    (or_cases (not (is_indicator b)) (eqb b 45 && front (λ c. not (eqb c 32)) bs) p.1)
-
 pub plain_text_parts : (flow : Bool) (t : List ℕ) → is_plain_text flow t ≡ true → (list_all is_plain_char (chars t) ≡ true) × (begins_plainly t ≡ true) × (no_rest (needs_quotes flow) t ≡ true)
 plain_text_parts flow t h =
     let a = and_parts (list_all is_plain_char (chars t) && begins_plainly t && no_rest (needs_quotes flow) t && not (is_merge t)) (not (begins_marker t)) h in
@@ -123,4 +98,4 @@ pub plain_written : (flow : Bool) (spaces : Option ℕ) (t rest : List ℕ) → 
 plain_written flow spaces t rest u h e =
     let p = plain_text_parts flow t h in
     let q = no_controls t u p.0 in
-    record { begins = plain_begins flow t rest q p.1 p.2; inside = none_inside flow spaces t rest q p.2; ends = e }
+    search (rules, false≢true, and_parts, no_control_space, not-true, ⊎_elim, behind_dash, front_of, eqb-true, or_cases, none_inside, q, p)

@@ -1,12 +1,11 @@
 -- The piece of a quoted scalar.
-use Rattle.std.proofs.Common.{◌≡◌, ℕ, ◌+◌, List, length, drop, slice_index, Some, None, Result, Ok, Err, sym, ap, ◌∙◌, IfOk}
+use Rattle.std.proofs.Common.{◌≡◌, ℕ, List, drop, slice_index, Some, None, Result, Ok, Err, sym, ap, ◌∙◌, IfOk, rules}
 use Rattle.std.proofs.lemmas.Option.{same_Some}
 use Rattle.yq_flow_scalars.specs.declared.piece.Piece.{Piece}
-use Rattle.yq_flow_scalars.specs.Answers.{◌>>=◌, Reads}
-use Rattle.yq_flow_scalars.specs.Piece.{inline_piece}
+use Rattle.yq_flow_scalars.specs.Answers.{Reads}
 use Rattle.yq_flow_scalars.specs.Quoted.{Lines, IsQuoted}
 use Rattle.yq_flow_scalars.specs.QuotedReading.{quoted_at}
-use Rattle.yq_block_scalars.specs.QuotedPiece.{style_of, IsQuotedPiece, piece_of, quoted_from}
+use Rattle.yq_block_scalars.specs.QuotedPiece.{IsQuotedPiece, quoted_from}
 use Rattle.yq_flow_scalars.proofs.Bools.{bind_some}
 use Rattle.yq_flow_scalars.proofs.QuotedFound.{quoted_takes, quoted_again}
 
@@ -18,22 +17,11 @@ unfolding quoted_from
 piece_takes at text p h =
     let b = bind_some (quoted_at (drop at text)) h in
     let t = quoted_takes (drop at text) b.0 b.1 in
-    record {
-      quote = t.quote;
-      ls = t.ls;
-      scalar = b.0.0;
-      rest = b.0.1;
-      stands = t.cut;
-      quoted = t.is;
-      piece = sym (same_Some _ _ b.2) ∙ ap (λ q. inline_piece (style_of q) at (at + length b.0.0)) (first_is t.quote t.ls b.0.0 b.0.1 t.is);
-    }
+    search (rules, same_Some, first_is, t, b)
 
 pub piece_again : (at : ℕ) (text : List ℕ) (p : Piece) → IsQuotedPiece at text p → quoted_from at text ≡ Some p
 unfolding quoted_from
-piece_again at text p h =
-    ap (λ t. quoted_at t >>= λ x. Some (piece_of at x)) h.stands
-    ∙ (ap (λ o. o >>= λ (x : List ℕ × List ℕ). Some (piece_of at x)) (quoted_again h.quote h.ls h.scalar h.rest h.quoted)
-    ∙ ap Some (ap (λ q. inline_piece (style_of q) at (at + length h.scalar)) (first_is h.quote h.ls h.scalar h.rest h.quoted) ∙ sym h.piece))
+piece_again at text p h = search (rules, quoted_again, first_is)
 
 pub found_by : {E : Type 0} (at : ℕ) (text : List ℕ) (r : Result Piece E) → Reads (λ p. p) r (quoted_from at text) → IfOk r (IsQuotedPiece at text)
 found_by at text (Ok p) h = piece_takes at text p h

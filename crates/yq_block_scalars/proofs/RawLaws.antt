@@ -1,13 +1,12 @@
 -- The raw lines of a block scalar, both ways.
-use Rattle.std.proofs.Common.{◌≡◌, ℕ, ◌<◌, ◌≤◌, Bool, true, false, not, ◌&&◌, ◌||◌, leb, ltb, List, [], ◌∷◌, ◌++◌, length, Some, refl, sym, ap, ◌∙◌, subst, inl, inr, ◌⊎◌, ⊎_elim, arith, append_assoc, append-nil, ltb-true}
+use Rattle.std.proofs.Common.{◌≡◌, ℕ, ◌<◌, Bool, true, false, not, ◌&&◌, List, [], ◌∷◌, ◌++◌, length, Some, refl, sym, ap, ◌∙◌, subst, inl, inr, ◌⊎◌, ⊎_elim, arith, append_assoc, append-nil, ltb-true, rules}
 use Rattle.std.proofs.lemmas.Bool.{false≢true, false_from_ne_true, leb-true, not-true, or_right, and_from, and_parts}
 use Rattle.std.proofs.lemmas.Option.{same_Some}
 use Rattle.yq_flow_scalars.proofs.Bools.{chosen, bind_some}
 use Rattle.yq_block_scalars.proofs.LineLaws.{lines_again, AreLines, line_some}
 use Rattle.yq_block_scalars.specs.Block.{Lines, is_empty_line, is_text_line, is_less_indented, ends_block, AreRaw, no_lines, ends_in_text}
 use Rattle.yq_block_scalars.specs.BlockReading.{is_empty_at, is_text_at, with_empty, raw_at}
-use Rattle.yq_flow_scalars.specs.Lines.{spaces, behind_spaces, is_tab}
-use Rattle.yq_flow_scalars.specs.Text.{is_empty, ends_line, lines_of, joined, is_line}
+use Rattle.yq_flow_scalars.specs.Text.{is_empty, lines_of, joined, is_line}
 use Rattle.yq_block_scalars.specs.declared.block_lines.TextIndent.{TextIndent}
 
 -- the raw lines and what follows are the lines
@@ -51,26 +50,13 @@ joined_some f (l ∷ ls) a h = some_nil l (joined ls) (line_some l a.0.0)
 
 -- a line is of one kind
 pub next_not_empty : (f : TextIndent) (l : List ℕ) → is_less_indented f l ≡ true → is_empty_line f l ≡ false
-next_not_empty f l h =
-    let parts = and_parts (not (ends_line (behind_spaces l)) && ltb (spaces l) f.columns) (not (is_tab (behind_spaces l))) h in
-    let here = and_parts (not (ends_line (behind_spaces l))) (ltb (spaces l) f.columns) parts.0 in
-    rw (not-true (ends_line (behind_spaces l)) here.0) refl
+next_not_empty f l h = search (rules, and_parts, not-true)
 
 next_not_text : (f : TextIndent) (l : List ℕ) → is_less_indented f l ≡ true → is_text_line f l ≡ false
-next_not_text f l h =
-    let parts = and_parts (not (ends_line (behind_spaces l)) && ltb (spaces l) f.columns) (not (is_tab (behind_spaces l))) h in
-    let here = and_parts (not (ends_line (behind_spaces l))) (ltb (spaces l) f.columns) parts.0 in
-    let low : spaces l < f.columns = ltb-true (spaces l) f.columns here.1 in
-    false_from_ne_true (is_text_line f l) (λ e.
-    let deep = and_parts (not (is_empty_line f l) && f.known) (leb f.columns (spaces l)) e in
-    let high : f.columns ≤ spaces l = leb-true f.columns (spaces l) deep.1 in
-    absurd (omega arith))
+next_not_text f l h = search (rules, and_parts, ltb-true, false_from_ne_true, leb-true)
 
 text_not_empty : (f : TextIndent) (l : List ℕ) → is_text_line f l ≡ true → is_empty_line f l ≡ false
-text_not_empty f l h =
-    let deep = and_parts (not (is_empty_line f l) && f.known) (leb f.columns (spaces l)) h in
-    let here = and_parts (not (is_empty_line f l)) f.known deep.0 in
-    not-true (is_empty_line f l) here.0
+text_not_empty f l h = search (rules, and_parts, not-true)
 
 -- reading gives such lines
 ends_more : (f : TextIndent) (l : List ℕ) (ls : Lines) → no_lines ls ≡ false → ends_in_text f ls ≡ true → ends_in_text f (l ∷ ls) ≡ true
@@ -91,20 +77,18 @@ none_split (l ∷ a) b h some = cc
 no_more : (ls : Lines) (x : Lines × Lines) → ls ≡ [] → Cut ls x → no_lines x.0 ≡ false → ⊥
 no_more ls x none cut some = none_split x.0 x.1 (sym none ∙ cut) some
 
-seam_empty : (f : TextIndent) (l : List ℕ) (ls : Lines) → is_empty_line f l ≡ true → ends_block false f ls ≡ true → ends_block false f (l ∷ ls) ≡ true
+pub ends_blank : (f : TextIndent) (l : List ℕ) (ls : Lines) → is_empty_line f l ≡ true → ends_block false f ls ≡ true → ends_block false f (l ∷ ls) ≡ true
 unfolding ends_block
-seam_empty f l ls is h = rw is h
+ends_blank f l ls is h = rw is h
 
 takes_empty : (keep : Bool) (f : TextIndent) (l : List ℕ) (ls : Lines) (x y : Lines × Lines) → is_empty_at keep f l ≡ true → (is_line l ≡ true) ⊎ (ls ≡ []) → Cut ls x → IsRaw keep f x → with_empty keep l ls x ≡ Some y → IsRaw keep f y
-takes_empty true f l ls x y is line cut h e =
-    let parts = and_parts (is_empty_line f l) (is_line l) is in
-    subst (IsRaw true f) (same_Some _ _ e) (record { lines = ((parts.1, inl parts.0), h.lines); ends = inl refl; behind = h.behind })
+takes_empty true f l ls x y is line cut h e = search (rules, same_Some, and_parts)
 takes_empty false f l ls x y is line cut h e =
     let parts = and_parts (is_empty_line f l) true is in
     ⊎_elim {0, 0, 0}
     (λ w. let none : x.0 ≡ [] = joined_none f x.0 h.lines w.0 in
     let behind : ls ≡ x.1 = cut ∙ ap (λ m. m ++ x.1) none in
-    subst (IsRaw false f) (same_Some _ _ w.1) (record { lines = tt; ends = inr refl; behind = seam_empty f l ls parts.0 (subst (λ m. ends_block false f m ≡ true) (sym behind) h.behind) }))
+    subst (IsRaw false f) (same_Some _ _ w.1) (record { lines = tt; ends = inr refl; behind = ends_blank f l ls parts.0 (subst (λ m. ends_block false f m ≡ true) (sym behind) h.behind) }))
     (λ w. let some = some_lines x.0 w.0 in
     let broken : is_line l ≡ true = ⊎_elim {0, 0, 0} (λ b. b) (λ none. absurd (no_more ls x none cut some)) line in
     subst (IsRaw false f) (same_Some _ _ w.1) (record {
@@ -147,24 +131,12 @@ ends_behind : (keep : Bool) (f : TextIndent) (l : List ℕ) (ls : Lines) → (ke
 ends_behind keep f l [] e = inr refl
 ends_behind keep f l (k ∷ ls) e = e
 
-kept_is : (keep : Bool) (f : TextIndent) (l : List ℕ) (ls : Lines) → is_empty_line f l ≡ true → AreRaw f ls → (keep ≡ true) ⊎ (ends_in_text f (l ∷ ls) ≡ true) → (not keep && is_empty (joined ls)) ≡ false
-kept_is true f l ls is a e = refl
-kept_is false f l [] is a e = ⊎_elim {0, 0, 0} (λ k. absurd (false≢true k)) (λ k. absurd (false≢true (sym (text_not_empty f l k) ∙ is))) e
-kept_is false f l (k ∷ ls) is a e = joined_some f (k ∷ ls) a refl
-
 pub raw_again : (keep : Bool) (f : TextIndent) (raw rest : Lines) → AreRaw f raw → (keep ≡ true) ⊎ (ends_in_text f raw ≡ true) → ends_block keep f rest ≡ true → raw_at keep f (raw ++ rest) ≡ Some (raw, rest)
 unfolding raw_at
 raw_again keep f [] rest a e h = raw_none keep f rest h
 raw_again keep f (l ∷ ls) rest a e h =
     let again = raw_again keep f ls rest a.1 (ends_behind keep f l ls e) h in
-    ⊎_elim {0, 0, 0}
-    (λ is. let all : is_empty_at keep f l ≡ true = and_from (is_empty_line f l) (not keep || is_line l) is (or_right (not keep) (is_line l) a.0.0) in
-    let kept : (not keep && is_empty (joined ls)) ≡ false = kept_is keep f l ls is a.1 e in
-    rw (all, again, kept) refl)
-    (λ is. let text : is_text_at f l ≡ true = and_from (is_text_line f l) (is_line l) is a.0.0 in
-    let other : is_empty_at keep f l ≡ false = rw (text_not_empty f l is) refl in
-    rw (other, text, again) refl)
-    a.0.1
+    search (rules, ⊎_elim, false≢true, text_not_empty, joined_some, and_from, or_right, again)
 
 -- lines and their text
 pub lines_raw : (f : TextIndent) (raw : Lines) (t : List ℕ) → AreRaw f raw → lines_of (joined raw ++ t) ≡ raw ++ lines_of t

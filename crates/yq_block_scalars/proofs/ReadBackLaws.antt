@@ -1,5 +1,5 @@
 -- What is written is read back.
-use Rattle.std.proofs.Common.{◌≡◌, ℕ, ◌≤◌, true, false, ◌&&◌, eqb, List, [], ◌∷◌, ◌++◌, length, refl, sym, ap, ◌∙◌, append-nil, ℤ}
+use Rattle.std.proofs.Common.{◌≡◌, ℕ, ◌≤◌, true, false, ◌&&◌, eqb, List, [], ◌∷◌, ◌++◌, length, refl, sym, ap, ◌∙◌, append-nil, ℤ, rules}
 use Rattle.std.proofs.Math.Bool.{and-false}
 use Rattle.std.proofs.Math.Seq.{drop-append_seam}
 use Rattle.std.proofs.lemmas.Bool.{and_parts, or_parts}
@@ -19,7 +19,7 @@ use Rattle.yq_flow_scalars.specs.Quoted.{Char, itself, spell_chars, chars_text, 
 use Rattle.yq_block_scalars.specs.QuotedPiece.{IsQuotedPiece}
 use Rattle.yq_block_scalars.specs.ReadBack.{put, put_piece, put_block, put_block_piece}
 use Rattle.yq_flow_scalars.specs.Scalar.{IsScalar, ScalarText, plain_of, string_of}
-use Rattle.yq_flow_scalars.specs.Text.{is_feed, is_return, is_break, front, lines_of}
+use Rattle.yq_flow_scalars.specs.Text.{is_feed, is_break, front, lines_of}
 use Rattle.yq_flow_scalars.specs.Writable.{can_write, in_flow, is_string, is_single_char}
 use Rattle.yq_flow_scalars.specs.Written.{single, double}
 use Rattle.yq_block_scalars.proofs.LiteralText.{literal_block, literal_content}
@@ -46,11 +46,7 @@ itselves_text [] = refl
 itselves_text (b ∷ t) = ap (λ x. b ∷ x) (itselves_text t)
 
 no_break : (b : ℕ) (t : List ℕ) → holds_break (b ∷ t) ≡ false → is_break (b ∷ t) ≡ false
-no_break b [] h = rw (or_parts (is_feed b) false h).0 (and-false (is_return b))
-no_break b (c ∷ t) h =
-    let here = or_parts (is_feed b) (holds_break (c ∷ t)) h in
-    let next = or_parts (is_feed c) (holds_break t) here.1 in
-    rw (here.0, next.0) (and-false (is_return b))
+no_break b t h1 = search (rules, or_parts, and-false)
 
 itselves_plain : (t : List ℕ) → holds_break t ≡ false → ArePlain (itselves t) []
 unfolding itselves

@@ -1,11 +1,11 @@
 -- The texts of null, bools, ints and floats may be written plain.
-use Rattle.std.proofs.Common.{◌≡◌, ℕ, ◌<◌, ◌≤◌, Bool, true, eqb, List, [], ◌∷◌, ◌++◌, refl, sym, inl, inr, ⊎_elim, ◌&&◌, ◌||◌, ap, subst, arith, append-nil, append_assoc, codes}
+use Rattle.std.proofs.Common.{◌≡◌, ℕ, ◌<◌, ◌≤◌, Bool, true, eqb, List, [], ◌∷◌, ◌++◌, refl, sym, inl, inr, ⊎_elim, ◌&&◌, ◌||◌, ap, subst, arith, append-nil, append_assoc, codes, rules}
 use Rattle.std.proofs.lemmas.Bool.{lt-ltb, and_parts}
 use Rattle.std.proofs.lemmas.List.Folds.{list_all-append}
 use Rattle.std.specs.Char.{digit_value}
 use Rattle.std.specs.List.{list_all}
 use Rattle.std.specs.Str.Parse.{AllDigits, IsNumeral}
-use Rattle.yq_flow_scalars.specs.Numbers.{Sign, unsigned, plus, minus, spell_sign, Integer, decimal, octal, hexadecimal, spell_integer, IsInteger, Mantissa, fraction, whole, pointed, spell_mantissa, IsMantissa, Exponent, absent, lower, upper, spell_exponent, IsExponent, Number, spell_number, IsNumber}
+use Rattle.yq_flow_scalars.specs.Numbers.{Sign, spell_sign, Integer, decimal, octal, hexadecimal, spell_integer, IsInteger, Mantissa, spell_mantissa, IsMantissa, Exponent, spell_exponent, IsExponent, Number, spell_number, IsNumber}
 use Rattle.yq_flow_scalars.specs.Schema.{bool_words, infinity_words, nan_words, IsOneOf, IsInt, IsFloat}
 use Rattle.yq_flow_scalars.specs.Text.{front}
 use Rattle.yq_flow_scalars.specs.PlainText.{is_plain_text}
@@ -31,12 +31,9 @@ null_plain flow = spelling_plain flow (codes "null") refl
 digit_letter : (base b : ℕ) → base ≤ 36 → digit_value b < base → is_letter b ≡ true
 digit_letter base b le lt = lt-ltb (digit_value b) 36 (omega arith)
 
-letter_word : (b : ℕ) → is_letter b ≡ true → is_word b ≡ true
-letter_word b h = ap (λ x. x || eqb b 43 || eqb b 45 || eqb b 46) h
-
 digits_words : (base : ℕ) (ds : List ℕ) → base ≤ 36 → AllDigits base ds → list_all is_word ds ≡ true
 digits_words base [] le h = refl
-digits_words base (d ∷ ds) le h = rw (letter_word d (digit_letter base d le h.0), digits_words base ds le h.1) refl
+digits_words base (d ∷ ds) le h = search (rules, digit_letter, digits_words base ds le h.1)
 
 digits_begin : (base : ℕ) (ds rest : List ℕ) → base ≤ 36 → IsNumeral base ds → front is_letter (ds ++ rest) ≡ true
 digits_begin base [] rest le h = absurd (omega (arith, h.0))
@@ -47,15 +44,10 @@ letter_begins [] h = h
 letter_begins (b ∷ t) h = ap (λ x. x || (eqb b 46 && front is_letter t)) h
 
 sign_words : (s : Sign) (t : List ℕ) → list_all is_word t ≡ true → list_all is_word (spell_sign s ++ t) ≡ true
-sign_words unsigned t h = h
-sign_words plus t h = h
-sign_words minus t h = h
+sign_words s t h1 = search rules
 
 sign_begins : (s : Sign) (t : List ℕ) → begins_unsigned t ≡ true → begins_signed (spell_sign s ++ t) ≡ true
-sign_begins unsigned [] h = h
-sign_begins unsigned (b ∷ t) h = ap (λ x. x || eqb b 43 || (eqb b 45 && begins_unsigned t)) h
-sign_begins plus t h = refl
-sign_begins minus t h = h
+sign_begins s t h1 = search (rules, begins_unsigned)
 
 both_words : (a b : List ℕ) → list_all is_word a ≡ true → list_all is_word b ≡ true → list_all is_word (a ++ b) ≡ true
 both_words a b g h = rw list_all-append (rw (g, h) refl)
@@ -67,25 +59,16 @@ integer_plain flow (octal ds) h = word_plain flow (codes "0o" ++ ds) (digits_wor
 integer_plain flow (hexadecimal ds) h = word_plain flow (codes "0x" ++ ds) (digits_words 16 ds (omega arith) h.1) refl
 
 mantissa_words : (m : Mantissa) → IsMantissa m → list_all is_word (spell_mantissa m) ≡ true
-mantissa_words (fraction ds) h = digits_words 10 ds (omega arith) h.1
-mantissa_words (whole ds) h = digits_words 10 ds (omega arith) h.1
-mantissa_words (pointed ds behind) h = both_words ds (46 ∷ behind) (digits_words 10 ds (omega arith) h.0.1) (digits_words 10 behind (omega arith) h.1)
+mantissa_words m h1 = search (rules, digits_words, both_words)
 
 mantissa_begins : (m : Mantissa) (rest : List ℕ) → IsMantissa m → begins_unsigned (spell_mantissa m ++ rest) ≡ true
-mantissa_begins (fraction ds) rest h = digits_begin 10 ds rest (omega arith) h
-mantissa_begins (whole ds) rest h = letter_begins (ds ++ rest) (digits_begin 10 ds rest (omega arith) h)
-mantissa_begins (pointed ds behind) rest h = rw append_assoc (letter_begins (ds ++ ((46 ∷ behind) ++ rest)) (digits_begin 10 ds ((46 ∷ behind) ++ rest) (omega arith) h.0))
+mantissa_begins m rest h1 = search (rules, digits_begin, letter_begins, append_assoc)
 
 exponent_words : (e : Exponent) → IsExponent e → list_all is_word (spell_exponent e) ≡ true
-exponent_words absent h = refl
-exponent_words (lower s ds) h = sign_words s ds (digits_words 10 ds (omega arith) h.1)
-exponent_words (upper s ds) h = sign_words s ds (digits_words 10 ds (omega arith) h.1)
+exponent_words e h1 = search (rules, sign_words, digits_words)
 
 number_plain : (flow : Bool) (d : Number) → IsNumber d → is_plain_text flow (spell_number d) ≡ true
-number_plain flow d h =
-    word_plain flow (spell_number d)
-    (sign_words d.sign _ (both_words (spell_mantissa d.mantissa) (spell_exponent d.exponent) (mantissa_words d.mantissa h.0) (exponent_words d.exponent h.1)))
-    (sign_begins d.sign (spell_mantissa d.mantissa ++ spell_exponent d.exponent) (mantissa_begins d.mantissa (spell_exponent d.exponent) h.0))
+number_plain flow d h = search (rules, word_plain, sign_words, both_words, mantissa_words, exponent_words, sign_begins, mantissa_begins)
 
 infinity_plain : (flow : Bool) (s : Sign) (word : List ℕ) → IsOneOf infinity_words word → is_plain_text flow (spell_sign s ++ word) ≡ true
 infinity_plain flow s word h =

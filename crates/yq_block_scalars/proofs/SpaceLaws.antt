@@ -1,5 +1,5 @@
 -- What stands behind the spaces in front of a line.
-use Rattle.std.proofs.Common.{◌≡◌, ℕ, zero, suc, ◌+◌, Bool, true, false, cond, not, eqb, List, [], ◌∷◌, ◌++◌, drop, replicate, refl, ap, ◌∙◌, ⊎_elim, arith}
+use Rattle.std.proofs.Common.{◌≡◌, ℕ, zero, suc, ◌+◌, Bool, true, false, cond, not, eqb, List, [], ◌∷◌, ◌++◌, drop, replicate, refl, ap, ◌∙◌, ⊎_elim, arith, rules}
 use Rattle.std.proofs.lemmas.Bool.{cases_Bool}
 use Rattle.std.specs.List.{prefix_len}
 use Rattle.yq_flow_scalars.proofs.Bools.{at_byte}
@@ -8,9 +8,7 @@ use Rattle.yq_flow_scalars.specs.Text.{is_white, ends_line, past_white, upto, no
 
 -- what stands behind a prefix, step by step
 pub prefix_drop : (p : ℕ → Bool) (b : ℕ) (l : List ℕ) → drop (prefix_len p (b ∷ l)) (b ∷ l) ≡ cond (p b) (drop (prefix_len p l) l) (b ∷ l)
-prefix_drop p b l =
-    let next : 1 + prefix_len p l ≡ suc (prefix_len p l) = omega arith in
-    elim (p b) as (λ c. drop (cond c (1 + prefix_len p l) 0) (b ∷ l) ≡ cond c (drop (prefix_len p l) l) (b ∷ l)) [ true ↦ ap (λ k. drop k (b ∷ l)) next | false ↦ refl ]
+prefix_drop p b l = search rules
 
 -- the same of white space
 pub white_drop : (b : ℕ) (l : List ℕ) → past_white (b ∷ l) ≡ cond (is_white b) (past_white l) (b ∷ l)

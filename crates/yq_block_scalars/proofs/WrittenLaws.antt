@@ -1,5 +1,5 @@
 -- What is written in quotes is a quoted scalar that stands for its string.
-use Rattle.std.proofs.Common.{◌≡◌, ℕ, ◌+◌, ◌/◌, ◌%◌, ◌<◌, ◌≤◌, Bool, true, false, cond, ◌&&◌, ◌||◌, not, eqb, leb, ltb, List, [], ◌∷◌, ◌++◌, Option, Some, None, is_none, flat_map, refl, sym, inl, inr, ap, ◌∙◌, subst, arith, eqb-true, append_assoc, append-nil}
+use Rattle.std.proofs.Common.{◌≡◌, ℕ, ◌/◌, ◌%◌, ◌<◌, ◌≤◌, Bool, true, false, cond, ◌&&◌, ◌||◌, not, eqb, leb, ltb, List, [], ◌∷◌, ◌++◌, Option, Some, None, is_none, flat_map, refl, sym, inl, inr, ap, ◌∙◌, subst, arith, eqb-true, append_assoc, append-nil, rules}
 use Rattle.std.proofs.lemmas.Bool.{false≢true, cases_lt, cond_both, ltb-true, ltb-false, le-leb, lt-ltb, le-ltb, and_from, not_from_false, or_cases, or_right, ne_eqb, and_parts, cases_Bool}
 use Rattle.std.proofs.Math.Utf8.{encodes, encode, scalar, scalars}
 use Rattle.std.proofs.lemmas.Str.{encode_ascii, encodes-chars, scalars-chars}
@@ -7,7 +7,7 @@ use Rattle.std.specs.Char.{digit_value}
 use Rattle.std.specs.List.{list_all}
 use Rattle.std.specs.Str.{chars, IsUtf8}
 use Rattle.std.specs.Str.Parse.{digits_value}
-use Rattle.yq_flow_scalars.specs.Characters.{is_text_char, is_printable, is_mark}
+use Rattle.yq_flow_scalars.specs.Characters.{is_text_char}
 use Rattle.yq_flow_scalars.specs.Text.{is_feed, is_return, front}
 use Rattle.yq_flow_scalars.specs.Quoted.{letters, beside, is_unicode, Char, itself, doubled, escape, code, spell_char, spell_chars, char_text, chars_text, bytes_of, IsChar, AreChars, last, content, IsQuoted}
 use Rattle.yq_flow_scalars.specs.Writable.{is_single_char}
@@ -40,9 +40,7 @@ text_append (c ∷ a) b = ap (λ l. char_text c ++ l) (text_append a b) ∙ sym 
 
 are_append : (q : ℕ) (a b : List Char) (rest : List ℕ) → AreChars q a (spell_chars b ++ rest) → AreChars q b rest → AreChars q (a ++ b) rest
 are_append q [] b rest h k = k
-are_append q (c ∷ a) b rest h k =
-    let same : spell_chars a ++ (spell_chars b ++ rest) ≡ spell_chars (a ++ b) ++ rest = sym (append_assoc (spell_chars a) (spell_chars b) rest) ∙ ap (λ l. l ++ rest) (sym (spell_append a b)) in
-    (subst (IsChar q c) same h.0, are_append q a b rest h.1 k)
+are_append q (c ∷ a) b rest h k = search (rules, append_assoc, spell_append, are_append q a b rest h.1 k)
 
 both : (q : ℕ) (t u p r : List ℕ) → Stands q t p → Stands q u r → Stands q (t ++ u) (p ++ r)
 both q t u p r a b = record {
@@ -60,16 +58,10 @@ abbrev pub is_ordinary : ℕ → ℕ → Bool
 is_ordinary q b = not (eqb b q) && not (is_feed b) && not (is_return b) && not (eqb q 34 && eqb b 92)
 
 ordinary_parts : (w x y z : Bool) → (not w && not x && not y && not z) ≡ true → (w ≡ false) × (x ≡ false) × (y ≡ false) × (z ≡ false)
-ordinary_parts false false false false h = (refl, refl, refl, refl)
-ordinary_parts true x y z h = absurd (false≢true h)
-ordinary_parts false true y z h = absurd (false≢true h)
-ordinary_parts false false true z h = absurd (false≢true h)
-ordinary_parts false false false true h = absurd (false≢true h)
+ordinary_parts w x y z h1 = search (rules, false≢true)
 
 ordinary_is : (q b : ℕ) (rest : List ℕ) → is_ordinary q b ≡ true → IsChar q (itself b) rest
-ordinary_is q b rest h =
-    let p = ordinary_parts (eqb b q) (is_feed b) (is_return b) (eqb q 34 && eqb b 92) h in
-    (p.0, rw (p.1, p.2) refl, p.3)
+ordinary_is q b rest h = search (rules, ordinary_parts)
 
 bytes_stand : (q : ℕ) (t : List ℕ) → Each (is_ordinary q) t → Stands q t t
 bytes_stand q [] h = none_stands q
@@ -108,9 +100,7 @@ letter_stands c l h =
 
 -- digits
 upper_value : (d : ℕ) → d < 16 → digit_value (upper d) ≡ d
-upper_value d h = cond_both (ltb d 10) (48 + d) (55 + d) (λ b. digit_value b ≡ d)
-    (λ lt. let low : d < 10 = ltb-true d 10 lt in rw (le-ltb (48 + d) 48 (omega arith), lt-ltb (48 + d) 58 (omega arith)) (omega arith))
-    (λ ge. let high : 10 ≤ d = ltb-false d 10 ge in rw (le-ltb (55 + d) 48 (omega arith), le-ltb (55 + d) 58 (omega arith), le-ltb (55 + d) 65 (omega arith), lt-ltb (55 + d) 91 (omega arith)) (omega arith))
+upper_value d h = search (rules, cond_both, ltb-true, le-ltb, lt-ltb, ltb-false)
 
 digit_at : (d : ℕ) → d < 16 → digit_value (upper d) < 16
 digit_at d h = omega (arith, upper_value d h)
@@ -129,30 +119,15 @@ code_stands c h s = elim (cases_Bool (ltb c 256)) [
       (λ rest. (refl, refl, (digit_at (c / 4096 % 16) (omega arith), (digit_at (c / 256 % 16) (omega arith), (digit_at (c / 16 % 16) (omega arith), (digit_at (c % 16) (omega arith), tt)))), ap is_unicode (four_value c h) ∙ s)))
 ]
 
-unicode_most : (c : ℕ) → 65536 ≤ c → is_unicode c ≡ true → c < 1114112
-unicode_most c ge s = elim (or_cases (ltb c 55296) (leb 57344 c && ltb c 1114112) s) [
-  | inl low ↦ absurd (omega (arith, ltb-true c 55296 low))
-  | inr high ↦ ltb-true c 1114112 (and_parts (leb 57344 c) (ltb c 1114112) high).1
-]
-
 high_text : (c : ℕ) → 65536 ≤ c → c < 1114112 → is_text_char c ≡ true
-high_text c ge lt =
-    let last_range : (leb 65536 c && leb c 1114111) ≡ true = and_from (leb 65536 c) (leb c 1114111) (le-leb 65536 c ge) (le-leb c 1114111 (omega arith)) in
-    let printable : is_printable c ≡ true = or_right _ (leb 65536 c && leb c 1114111) last_range in
-    and_from (is_printable c) (not (is_mark c)) printable (not_from_false (is_mark c) (ne_eqb c 65279 (λ e. absurd (omega (arith, e)))))
+high_text c ge lt = search (rules, and_from, le-leb, or_right, not_from_false, ne_eqb)
 
 -- a character that no text may hold is one of the first 65,536
 below : (c : ℕ) → is_text_char c ≡ false → is_unicode c ≡ true → c < 65536
-below c h s = elim (cases_lt c 65536) [
-  | inl lt ↦ lt
-  | inr ge ↦ absurd (false≢true (sym h ∙ high_text c ge (unicode_most c ge s)))
-]
+below c h s = search (rules, or_cases, ltb-true, and_parts, cases_lt, false≢true, high_text)
 
 double_ordinary : (c : ℕ) → letter_of c written_letters ≡ None → is_ordinary 34 c ≡ true
-double_ordinary c h =
-    let test : ℕ → Bool = λ x. is_none (letter_of x written_letters) in
-    let none : test c ≡ true = ap is_none h in
-    rw (at_byte test c 34 none refl, at_byte test c 10 none refl, at_byte test c 13 none refl, at_byte test c 92 none refl) refl
+double_ordinary c h = search (rules, is_none, at_byte)
 
 double_as : (c : ℕ) (o : Option ℕ) → letter_of c written_letters ≡ o → is_unicode c ≡ true → Stands 34 (encode c) (double_by o c)
 double_as c (Some l) h s = letter_stands c l h

@@ -1,5 +1,5 @@
 -- What is written in quotes is a text, and no break is in it.
-use Rattle.std.proofs.Common.{◌≡◌, ℕ, ◌/◌, ◌%◌, ◌<◌, Bool, true, false, ◌&&◌, not, eqb, ltb, List, [], ◌∷◌, ◌++◌, Option, Some, None, is_none, flat_map, refl, sym, inl, inr, ap, ◌∙◌, subst, arith, eqb-true, append-nil}
+use Rattle.std.proofs.Common.{◌≡◌, ℕ, ◌/◌, ◌%◌, ◌<◌, Bool, true, false, ◌&&◌, not, eqb, ltb, List, [], ◌∷◌, ◌++◌, Option, Some, None, is_none, flat_map, refl, inl, inr, ap, ◌∙◌, subst, arith, eqb-true, append-nil, rules}
 use Rattle.std.proofs.lemmas.Bool.{false≢true, agree_below_at, ltb-true, or_cases, and_from, and_parts, cases_Bool}
 use Rattle.std.proofs.Math.Utf8.{encodes, encode, scalar, scalars, low_scalar}
 use Rattle.std.proofs.lemmas.Str.{encode_ascii, encodes-append, chars-encodes, scalars-chars}
@@ -8,7 +8,6 @@ use Rattle.std.specs.Str.{chars, IsUtf8}
 use Rattle.yq_flow_scalars.specs.Characters.{is_text_char, is_text, pairs_returns}
 use Rattle.yq_flow_scalars.specs.Text.{is_feed, is_return}
 use Rattle.yq_flow_scalars.specs.Plain.{holds_break}
-use Rattle.yq_flow_scalars.specs.PlainText.{is_plain_char}
 use Rattle.yq_flow_scalars.specs.Writable.{is_single_char}
 use Rattle.yq_flow_scalars.specs.Written.{written_letters, letter_of, upper, two_digits, four_digits, code_escape, double_by, in_double, in_single, single, double}
 use Rattle.yq_flow_scalars.proofs.Bools.{chosen, at_byte, not_byte}
@@ -109,17 +108,8 @@ doubles_line (c ∷ cs) h =
     let p = and_parts (scalar c) (scalars cs) h in
     line_append (in_double c) (flat_map in_double cs) (double_line c (letter_of c written_letters) refl p.0) (doubles_line cs p.1)
 
-single_text : (c : ℕ) → is_single_char c ≡ true → is_text_char c ≡ true
-single_text c h = elim (or_cases (is_plain_char c) (eqb c 9) h) [
-  | inl p ↦ (and_parts (is_text_char c) _ p).0
-  | inr t ↦ subst (λ (x : ℕ). is_text_char x ≡ true) (sym (eqb-true c 9 t)) refl
-]
-
 single_line : (c : ℕ) → is_single_char c ≡ true → scalar c ≡ true → IsLine (in_single c)
-single_line c h s = elim (cases_Bool (eqb c 39)) [
-  | inl e ↦ rw e (ascii_more 39 (39 ∷ []) refl (ascii_line 39 refl))
-  | inr n ↦ rw n (char_line c s (single_text c h) (λ low. rw (at_byte is_single_char c 10 h refl, at_byte is_single_char c 13 h refl) refl))
-]
+single_line c h s = search (rules, or_cases, and_parts, eqb-true, cases_Bool, ascii_more, ascii_line, char_line, at_byte)
 
 singles_line : (cs : List ℕ) → list_all is_single_char cs ≡ true → scalars cs ≡ true → IsLine (flat_map in_single cs)
 singles_line [] h s = line_none
@@ -130,9 +120,7 @@ singles_line (c ∷ cs) h s =
 
 -- a line is a text
 parts : (x y : Bool) → (not x && not y) ≡ true → (x ≡ false) × (y ≡ false)
-parts false false h = (refl, refl)
-parts true y h = absurd (false≢true h)
-parts false true h = absurd (false≢true h)
+parts x y h1 = search (rules, false≢true)
 
 line_pairs : (p : List ℕ) → Each no_break p → pairs_returns p ≡ true
 unfolding pairs_returns
@@ -144,9 +132,7 @@ line_holds [] h = refl
 line_holds (b ∷ p) h = rw ((parts (is_feed b) (is_return b) h.0).0) (line_holds p h.1)
 
 pub line_is_text : (p : List ℕ) → IsLine p → is_text p ≡ true
-line_is_text p l =
-    let all : list_all is_text_char (chars p) ≡ true = subst (λ (t : List ℕ). list_all is_text_char (chars t) ≡ true) l.spelled (rw (chars-encodes l.chars l.valid) l.text) in
-    and_from (list_all is_text_char (chars p)) (pairs_returns p) all (line_pairs p l.bytes)
+line_is_text p l = search (rules, chars-encodes, and_from, line_pairs)
 
 pub double_is_line : (t : List ℕ) → IsUtf8 t → IsLine (double t)
 double_is_line t u = ascii_more 34 _ refl (line_append _ (34 ∷ []) (doubles_line (chars t) (scalars-chars t u)) (ascii_line 34 refl))

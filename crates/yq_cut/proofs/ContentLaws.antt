@@ -113,9 +113,6 @@ inline_again_here n space node tail rest blank h t =
     ap (content_from n (space ++ u)) (white_again space u blank (node_starts u begins).no_white)
     ∙ rw (no, begins) (rw (all_again false (Some (deeper n)) depth_limit node (tail ++ rest) h.valid, tail_again tail rest t) refl)
 
-abbrev then_block : ℤ → List ℕ → Option Anchor × List ℕ → Option (Content × List ℕ)
-then_block n space anchor = block_at (deeper n) anchor.1 >>= λ block. Some (Block space anchor.0 block.0, block.1)
-
 block_again_here : (n : ℤ) (space : List ℕ) (anchor : Option Anchor) (block : BlockText) (rest : List ℕ) → IsWhite space → IsAnchor anchor (block_text block rest) → IsBlock (deeper n) block rest → content_at n (content_text (Block space anchor block) rest) ≡ Some (Block space anchor block, rest)
 unfolding content_at block_content_at anchor_at
 block_again_here n space anchor block rest h1 h2 h3 = search (rules, block_front, white_again, block_again, name_cut, name_again)

@@ -19,6 +19,7 @@ use Rattle.yq_cut.proofs.KeptLaws.{print_then}
 use Rattle.yq_cut.proofs.NearLaws.{ReadMarked, next_place, part_apart}
 use Rattle.yq_cut.proofs.PartsLaws.{parts_last, parts_marked, part_takes}
 use Rattle.yq_cut.proofs.SliceLaws.{print-length}
+use Rattle.yq_cut.proofs.splices.SpliceTexts.{nil_before}
 
 -- the end of a part, behind its rows
 ends_part : (n k : ℕ) (rs : List Row) (end marker : List ℕ) (xs : List Item) →
@@ -46,10 +47,7 @@ marked_ends es n k p marker (Some c) =
 
 -- where the end of a part begins
 end_place : (whole t : List ℕ) (p : Part) (after : List ℕ) → Ends t whole → t ≡ rows_text p.rows (p.end ++ after) → length whole - length (p.end ++ after) ≡ (length whole - length t) + length (rows_text p.rows [])
-end_place whole t p after h e = next_place whole t (rows_text p.rows []) (p.end ++ after) h (e ∙ rows_apart p.rows (p.end ++ after)) where
-  rows_apart : (rs : List Row) (x : List ℕ) → rows_text rs x ≡ rows_text rs [] ++ x
-  rows_apart [] x = refl
-  rows_apart (r ∷ rs) x = ap (print_row r) (rows_apart rs x) ∙ (print_then r (rows_text rs [] ++ x) ∙ (sym (append_assoc (print_row r []) (rows_text rs []) x) ∙ ap (λ (l : List ℕ). l ++ x) (sym (print_then r (rows_text rs [])))))
+end_place whole t p after h e = next_place whole t (rows_text p.rows []) (p.end ++ after) h (e ∙ nil_before p.rows (p.end ++ after))
 
 -- The end of a part that was read, as the code keeps it.
 pub record IsKeptEnd (whole t after marker rest : List ℕ) (rows : ℕ) (p : Part) (e : EndPlace) : Type 0 where

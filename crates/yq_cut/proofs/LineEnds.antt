@@ -32,7 +32,7 @@ pub record IsLine (l rest : List ℕ) : Type 0 where
   pub inside : NoneIn ends_line text break
   pub ends : IsBreak break rest
 
-feed_is : (b : ℕ) → is_feed b ≡ true → b ≡ 10
+pub feed_is : (b : ℕ) → is_feed b ≡ true → b ≡ 10
 feed_is b h = eqb-true b 10 h
 
 -- the break in front of a line has a CR before it, or there is one more byte before the line

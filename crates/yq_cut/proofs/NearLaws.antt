@@ -24,7 +24,7 @@ use Rattle.yq_cut.proofs.ItemSpliceLaws.{rows_front}
 use Rattle.yq_cut.proofs.KeptLaws.{items_apart, near_joined}
 use Rattle.yq_cut.proofs.OffsetLaws.{row_then}
 use Rattle.yq_cut.proofs.PartsLaws.{parts_last, parts_marked, part_takes, marker_takes, part_marker}
-use Rattle.yq_cut.proofs.RowSlicing.{row_joined}
+use Rattle.yq_cut.proofs.RowSlicing.{row_joined, not_read}
 use Rattle.yq_cut.proofs.RowsLaws.{with_front, rows_from, rows_cut, rows_step, rows_refused, rows_done}
 use Rattle.yq_cut.proofs.ScanLaws.{parts_take}
 use Rattle.yq_cut.proofs.SliceLaws.{slices_are, print-length}
@@ -41,10 +41,6 @@ gap_read limit t g r e = rows_cut limit t ∙ ap (λ (y : List ℕ × List ℕ).
 
 pub rows_placed_end : (os : List declared.Offsets) (n : ℕ) (limit : Limit) (t g r : List ℕ) (all : Option (List declared.Offsets)) → (g, r) ≡ cut_gap t → ends_part r ≡ true → rows_placed os n (all_rows limit t) ≡ all → all ≡ Some os
 rows_placed_end os n limit t g r all e none so_far = sym so_far ∙ (ap (rows_placed os n) (gap_read limit t g r e ∙ rows_done limit g r none) ∙ ap Some (append-nil os))
-
-not_read : (o : Option (Row × List ℕ)) → (o >>= λ x. Some (sliced x)) ≡ None → o ≡ None
-not_read None h = refl
-not_read (Some x) h = cc
 
 pub rows_placed_none : (os : List declared.Offsets) (n : ℕ) (limit : Limit) (t g r : List ℕ) (all : Option (List declared.Offsets)) → (g, r) ≡ cut_gap t → ends_part r ≡ false → row_sliced limit g r ≡ None → rows_placed os n (all_rows limit t) ≡ all → all ≡ None
 rows_placed_none os n limit t g r all e more none so_far = sym so_far ∙ ap (rows_placed os n) (gap_read limit t g r e ∙ rows_refused limit g r more (not_read (row_at limit g r) none))

@@ -1,11 +1,9 @@
 -- Before a tail, what stands behind a mark is no key and no dash.
-use Rattle.std.proofs.Common.{◌≡◌, inl, inr, ℕ, suc, ◌+◌, Bool, true, false, cond, not, ◌&&◌, eqb, leb, List, [], ◌∷◌, ◌++◌, length, drop, Option, Some, None, refl, sym, ap, rules}
+use Rattle.std.proofs.Common.{◌≡◌, inl, inr, ℕ, suc, true, false, not, eqb, List, [], ◌∷◌, ◌++◌, drop, Option, Some, None, refl, sym, ap, rules}
 use Rattle.std.proofs.lemmas.Bool.{false≢true, cond_both, not-true, not-false, and_parts, cases_Bool, or_parts}
 use Rattle.std.specs.Option.{option_or}
-use Rattle.std.specs.Str.{chars}
-use Rattle.yq_flow_scalars.specs.Answers.{◌>>=◌}
-use Rattle.yq_flow_scalars.specs.Plain.{begins_plain, ends_plain, ends_text, follows, may_follow, last_line, no_gap, plain_at}
-use Rattle.yq_flow_scalars.specs.Text.{upto, cut, NoneIn, is_white, is_break, is_empty, front, past_white}
+use Rattle.yq_flow_scalars.specs.Plain.{begins_plain, ends_plain, follows, may_follow, last_line, no_gap, plain_at}
+use Rattle.yq_flow_scalars.specs.Text.{upto, cut, NoneIn, is_white, is_break, past_white}
 use Rattle.yq_flow_scalars.proofs.Bools.{at_byte}
 use Rattle.yq_flow_scalars.proofs.QuotedFound.{quoted_again}
 use Rattle.yq_flow_scalars.proofs.Upto.{upto_here}
@@ -14,7 +12,7 @@ use Rattle.yq_nodes.specs.Nodes.{Node, empty, alias, scalar, coll, anchored, nod
 use Rattle.yq_nodes.specs.Reading.{scalar_at}
 use Rattle.yq_nodes.specs.Scalars.{is_quoted, IsScalarAt, begins_scalar}
 use Rattle.yq_nodes.proofs.PieceLaws.{front_not, scalar_begins}
-use Rattle.yq_cut.specs.Grammar.{IsTail, key_limit}
+use Rattle.yq_cut.specs.Grammar.{IsTail}
 use Rattle.yq_cut.specs.Reading.{is_colon, colon_at, key_at, is_dash}
 use Rattle.yq_cut.proofs.Fronts.{tail_front}
 use Rattle.yq_cut.proofs.MarkAgain.{scalar_no_dash}
@@ -57,10 +55,6 @@ line_no_colon (b ∷ bs) l h = elim (cases_Bool (is_white b)) [
   ]
 ]
 
--- whether text that doesn't end the scalar follows behind white space and breaks
-abbrev goes_on : List ℕ → Bool
-goes_on t = not (is_empty t) && not (front (λ b. eqb b 35) t) && not (ends_text false t)
-
 may_none : (d : ℕ) (line : Option (List ℕ)) (text : List ℕ) → may_follow None line text ≡ true → may_follow (Some d) line text ≡ true
 may_none d None text h = refl
 may_none d (Some l) text h = absurd (false≢true h)
@@ -89,10 +83,6 @@ plain_no_colon d (b ∷ p) rest n e c =
 
 plain_no_quote : (t : List ℕ) → begins_plain false t ≡ true → is_quoted t ≡ false
 plain_no_quote t h1 = search (rules, front_not)
-
--- a key that was read up to its `:`
-abbrev then_colon : Option (List ℕ × List ℕ) → Option (List ℕ × List ℕ × List ℕ)
-then_colon o = o >>= λ key. colon_at key.1 >>= λ colon. cond (leb (length (chars key.0) + length (chars colon.0)) (key_limit + 1)) (Some (key.0, colon.0, colon.1)) None
 
 scalar_no_key : (d : ℕ) (p rest : List ℕ) → IsScalarAt false (Some d) p rest → colon_at rest ≡ None → key_at (p ++ rest) ≡ None
 unfolding key_at scalar_at plain_at

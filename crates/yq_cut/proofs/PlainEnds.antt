@@ -17,8 +17,9 @@ use Rattle.yq_cut.specs.Rows.{Row, behind_indent, behind_gap, rows_text, Cut, la
 use Rattle.yq_cut.specs.View.{rows_of}
 use Rattle.yq_cut.proofs.ExchangeLaws.{slice_front, slice_back}
 use Rattle.yq_cut.proofs.Fronts.{Starts}
-use Rattle.yq_cut.proofs.LineEnds.{one_feed}
+use Rattle.yq_cut.proofs.LineEnds.{one_feed, feed_is}
 use Rattle.yq_cut.proofs.RowAgain.{row_starts}
+use Rattle.yq_cut.proofs.EmptyTexts.{empty_is}
 
 -- the last line of white space that begins a line
 abbrev pub line_or : Option (List ℕ) → List ℕ → List ℕ
@@ -114,29 +115,22 @@ pub record Breaks (p : List ℕ) : Type 0 where
   pub spelled : p ≡ before ++ 10 ∷ []
   pub inside : (rest : List ℕ) → NoneIn no_gap before (10 ∷ rest)
 
-feed_ten : (b : ℕ) → is_feed b ≡ true → b ≡ 10
-feed_ten b h = eqb-true b 10 h
-
 breaks : (p : List ℕ) → is_break p ≡ true → is_line p ≡ true → Breaks p
 unfolding is_line
 breaks [] h k = absurd (false≢true h)
-breaks (b ∷ []) h k = record { before = []; spelled = ap (λ x. x ∷ []) (feed_ten b (one_feed b h)); inside = λ rest. tt }
+breaks (b ∷ []) h k = record { before = []; spelled = ap (λ x. x ∷ []) (feed_is b (one_feed b h)); inside = λ rest. tt }
 breaks (b ∷ (c ∷ p)) h k = elim (cases_Bool (is_feed b)) [
   | inl e ↦ absurd (false≢true (rw e at k))
   | inr e ↦ (
       let both : (is_return b && is_feed c) ≡ true = rw e at h in
       let parts = and_parts (is_return b) (is_feed c) both in
       let return : b ≡ 13 = eqb-true b 13 parts.0 in
-      let feed : c ≡ 10 = feed_ten c parts.1 in
+      let feed : c ≡ 10 = feed_is c parts.1 in
       let inner : is_line (c ∷ p) ≡ true = rw e at k in
       let nothing : is_empty p ≡ true = rw parts.1 at inner in
-      two b c p return feed (none p nothing))
+      two b c p return feed (empty_is p nothing))
 ]
   where
-    none : (q : List ℕ) → is_empty q ≡ true → q ≡ []
-    none [] e = refl
-    none (x ∷ q) e = absurd (false≢true e)
-
     two : (b c : ℕ) (q : List ℕ) → b ≡ 13 → c ≡ 10 → q ≡ [] → Breaks (b ∷ (c ∷ q))
     two b c q x y z = record { before = 13 ∷ []; spelled = ap (λ l. l ∷ (c ∷ q)) x ∙ (ap (λ l. 13 ∷ (l ∷ q)) y ∙ ap (λ l. 13 ∷ (10 ∷ l)) z); inside = λ rest. (refl, tt) }
 

@@ -3,23 +3,23 @@ use Rattle.std.proofs.Common.{◌≡◌, inl, inr, ℕ, ℤ, Bool, true, false, 
 use Rattle.std.proofs.lemmas.Bool.{false≢true, and_parts, cases_Bool}
 use Rattle.yq_block_scalars.specs.Block.{ends_block, is_empty_line}
 use Rattle.yq_block_scalars.specs.declared.block_lines.TextIndent.{TextIndent}
-use Rattle.yq_flow_scalars.specs.Text.{is_empty, is_line}
+use Rattle.yq_flow_scalars.specs.Text.{is_empty}
 use Rattle.yq_nodes.specs.Alike.{Alike}
 use Rattle.yq_nodes.proofs.Alikes.{alike_append}
 use Rattle.yq_cut.specs.Gap.{IsGap}
-use Rattle.yq_cut.specs.Grammar.{Limit, IsTail, IsContent, IsRow, IsMarkerLine}
+use Rattle.yq_cut.specs.Grammar.{Limit, IsContent, IsRow, IsMarkerLine}
 use Rattle.yq_cut.specs.Items.{Item, row_item, end_item, items_of, items_text, Asked, nothing_asked, asked_by, asked_of, AreRowItems}
 use Rattle.yq_cut.specs.Regions.{StandIn, ended, IsReadAlone}
 use Rattle.yq_cut.specs.Rows.{Content, Row, parent_indent}
-use Rattle.yq_cut.specs.Seams.{is_closed, is_seam, TakesPlace}
+use Rattle.yq_cut.specs.Seams.{is_seam, TakesPlace}
 use Rattle.yq_cut.proofs.AlikeRows.{marker_line_alike, row_alike, row_gap_alike, row_text_alike}
-use Rattle.yq_cut.proofs.EmptyTexts.{none_is}
 use Rattle.yq_cut.proofs.ItemLaws.{items_joined, parts_are_items}
 use Rattle.yq_cut.proofs.NothingLaws.{gap_other, some_behind}
 use Rattle.yq_cut.proofs.ItemCuts.{Ended, alone_read, cut_of_items, cut_of, last_items, no_last, no_marker}
 use Rattle.yq_cut.proofs.seams.GapSeams.{gap_lines_of, lines_before}
 use Rattle.yq_cut.proofs.seams.MarkerSeams.{marker_line_is, marker_seam}
-use Rattle.yq_cut.proofs.seams.SeamLaws.{plain_before, row_seam, tail_line}
+use Rattle.yq_cut.proofs.seams.SeamLaws.{plain_before, row_seam}
+use Rattle.yq_cut.proofs.seams.FrontSeams.{closed_line, tail_any}
 
 -- a gap at the end of a text
 ends_front : (keep : Bool) (f : TextIndent) (ls ms : List (List ℕ)) → ends_block keep f (ls ++ ms) ≡ true → ends_block keep f ls ≡ true
@@ -30,11 +30,8 @@ ends_front keep f (l ∷ ls) ms h = ⊎_elim {0, 0, 0}
     (λ e. rw e (rw e at h))
     (cases_Bool (is_empty_line f l))
 
-tail_cut : (tail t u : List ℕ) → is_empty t ≡ false → IsTail tail t → is_closed tail u ≡ true
-tail_cut tail t u some h = ⊎_elim {0, 0, 0} (λ e. rw e refl) (λ e. absurd (none_is t some e)) (tail_line tail t h)
-
 seam_cut : (n : ℤ) (c : Content) (gap t : List ℕ) → is_empty t ≡ false → IsGap gap t → IsContent n c (gap ++ t) → is_seam c (gap ++ []) ≡ true
-seam_cut n c gap t h1 h2 h3 = search (rules, tail_cut, some_behind, lines_before, append-nil, gap_lines_of, ends_front)
+seam_cut n c gap t h1 h2 h3 = search (rules, tail_any, some_behind, lines_before, append-nil, gap_lines_of, ends_front)
 
 row_cut : (limit : Limit) (r : Row) (gap t : List ℕ) → is_empty t ≡ false → IsGap gap t → IsGap gap [] → IsRow limit r (gap ++ t) → TakesPlace limit r (gap ++ t) r (gap ++ [])
 row_cut limit r gap t some g last h = row_seam limit r (gap ++ t) (gap ++ []) h (seam_cut (parent_indent r) r.content gap t some g h.content) (plain_before (parent_indent r) r.content [] gap [] last refl)
@@ -67,9 +64,6 @@ row_ended asked r (x ∷ xs) gap marker back b h a =
 
 abbrev LineEnded : List ℕ → List ℕ → List ℕ → Type 0
 LineEnded line t u = IsMarkerLine line u × Alike (Some false) (line ++ t) (line ++ u)
-
-closed_line : (line u : List ℕ) → is_line line ≡ true → is_closed line u ≡ true
-closed_line line u e = rw e refl
 
 line_ended : (line : List ℕ) (xs : List Item) (gap marker : List ℕ) (back : List Item) → Before gap marker back → IsMarkerLine line (items_text (xs ++ (end_item gap marker ∷ back)) []) → LikeBefore xs (items_text (xs ++ (end_item gap marker ∷ back)) []) (items_text (xs ++ cut_end gap) []) →
     LineEnded line (items_text (xs ++ (end_item gap marker ∷ back)) []) (items_text (xs ++ cut_end gap) [])

@@ -118,11 +118,12 @@ one_row front limit gap t s l after more h =
       step = ap (rows_sliced front) step ∙ sliced_front front x.0.0 _;
     })
 
+pub not_read : (o : Option (Row × List ℕ)) → (o >>= λ x. Some (sliced x)) ≡ None → o ≡ None
+not_read None h = refl
+not_read (Some x) h = cc
+
 pub no_row : (front : List Slices) (limit : Limit) (gap t : List ℕ) → ends_part t ≡ false → row_sliced limit gap t ≡ None → rows_sliced front (rows_from limit gap t) ≡ None
-no_row front limit gap t more h = ap (rows_sliced front) (rows_refused limit gap t more (none (row_at limit gap t) h)) where
-  none : (o : Option (Row × List ℕ)) → (o >>= λ x. Some (sliced x)) ≡ None → o ≡ None
-  none None h = refl
-  none (Some x) h = cc
+no_row front limit gap t more h = ap (rows_sliced front) (rows_refused limit gap t more (not_read (row_at limit gap t) h))
 
 pub rows_end : (front : List Slices) (limit : Limit) (gap t : List ℕ) → ends_part t ≡ true → rows_sliced front (rows_from limit gap t) ≡ Some (front, gap, t)
 rows_end front limit gap t none = ap (rows_sliced front) (rows_done limit gap t none) ∙ ap (λ (l : List Slices). Some (l, gap, t)) (append-nil front)

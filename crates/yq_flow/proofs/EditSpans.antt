@@ -9,6 +9,7 @@ use Rattle.std.specs.Str.{IsCharBoundary}
 use Rattle.yq_flow_scalars.specs.Paths.{Step, is_here, further}
 use Rattle.yq_flow_scalars.specs.Text.{is_space}
 use Rattle.yq_flow_scalars.specs.declared.piece.Piece.{Piece}
+use Rattle.yq_flow_scalars.proofs.Boundaries.{space_ascii}
 use Rattle.yq_nodes.specs.Alike.{EndsItem}
 use Rattle.yq_nodes.specs.Entries.{end_of, entry_start, parts_in}
 use Rattle.yq_flow.specs.FlowPlaces.{PlacedEdit, first_start, marks_before, only_end, past_gap, remove_before, remove_end, remove_part, remove_place, replace_place}
@@ -38,13 +39,9 @@ ascii_boundary t n k low h = let x = there t n h in IsCharBoundary-before_ascii 
     there (b ∷ t) zero h = (omega arith, eqb-true b k h)
     there (b ∷ t) (suc n) h = let x = there t n h in (omega (arith, x.0), x.1)
 
--- where an item or entry ends
-space_low : (b : ℕ) (r : List ℕ) → is_space (b ∷ r) ≡ true → b < 128
-space_low b r h = search (rules, ⊎_elim, eqb-true, or_cases, and_parts)
-
 pub ends_bound : (k : ℕ) (t a u : List ℕ) → is_close k ≡ true → EndsItem k u → t ≡ a ++ u → IsCharBoundary t (length t - length u)
 ends_bound k t a u c ends is =
-    let x = ends_by (λ (l : List ℕ). (b : ℕ) × (r : List ℕ) × (l ≡ b ∷ r) × (b < 128)) k u c ends (λ r. (44, r, refl, omega arith)) (λ r. (93, r, refl, omega arith)) (λ r. (125, r, refl, omega arith)) (λ b r s. (b, r, refl, space_low b r s)) in
+    let x = ends_by (λ (l : List ℕ). (b : ℕ) × (r : List ℕ) × (l ≡ b ∷ r) × (b < 128)) k u c ends (λ r. (44, r, refl, omega arith)) (λ r. (93, r, refl, omega arith)) (λ r. (125, r, refl, omega arith)) (λ b r s. (b, r, refl, space_ascii b r s)) in
     ascii_boundary t (length t - length u) x.0 x.3 (ap (first_is x.0) (drop_end t a u is ∙ x.2) ∙ eq-eqb x.0 x.0 refl)
 
 -- one that is taken out

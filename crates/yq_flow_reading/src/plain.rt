@@ -68,7 +68,7 @@ fn begins_deep(spaces: Option<usize>, indent: usize, line: &[u8]) -> bool
 }
 
 /// How far it is over white space and breaks to where the scalar goes on.
-#[tactic(auto, using(yq_flow_scalars::proofs::Bools::more_more, yq_flow_scalars::proofs::Bools::more_none, yq_flow_scalars::proofs::Bools::more_zero), unfolding(yq_flow_scalars::specs::PlainReading::across))]
+#[tactic(auto, using(yq_flow_scalars::proofs::Bools::more_steps), unfolding(yq_flow_scalars::specs::PlainReading::across))]
 fn across(flow: bool, spaces: Option<usize>, text: &[u8]) -> Option<usize>
     ensures { result ≡ reading.across flow spaces true text.now }
 {

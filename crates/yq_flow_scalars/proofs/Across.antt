@@ -1,13 +1,13 @@
 -- Over white space and breaks, to where a plain scalar goes on.
-use Rattle.std.proofs.Common.{◌≡◌, ℕ, suc, ◌+◌, ◌-◌, ◌<◌, ◌≤◌, Bool, true, false, cond, not, eqb, List, [], ◌∷◌, ◌++◌, length, take, drop, get_or, Option, Some, None, refl, sym, inl, inr, ◌&&◌, ◌||◌, ap, ◌∙◌, subst, arith, length-drop}
+use Rattle.std.proofs.Common.{◌≡◌, ℕ, suc, ◌+◌, ◌-◌, ◌<◌, ◌≤◌, Bool, true, false, cond, not, eqb, List, [], ◌∷◌, ◌++◌, length, take, drop, get_or, Option, Some, None, refl, sym, inl, inr, ◌&&◌, ap, ◌∙◌, subst, arith, length-drop, rules}
 use Rattle.std.proofs.lemmas.Bool.{false≢true, false_from_ne_true, and_parts, cases_Bool}
 use Rattle.std.proofs.lemmas.List.{take_rest, take-append-drop}
 use Rattle.std.proofs.lemmas.Option.{cond_some}
 use Rattle.std.specs.List.{prefix_len}
 use Rattle.std.specs.Option.{is_none, option_or}
 use Rattle.yq_flow_scalars.specs.Answers.{more}
-use Rattle.yq_flow_scalars.specs.Text.{upto, cut, is_empty, is_feed, is_white, is_break, is_return, is_space, front}
-use Rattle.yq_flow_scalars.specs.Plain.{begins_deep, ends_plain, ends_text, follows, last_line, may_follow, no_gap}
+use Rattle.yq_flow_scalars.specs.Text.{upto, cut, is_empty, is_feed, is_white, is_break, is_space, front}
+use Rattle.yq_flow_scalars.specs.Plain.{begins_deep, ends_plain, ends_text, last_line, may_follow, no_gap}
 use Rattle.yq_flow_scalars.specs.PlainReading.{across}
 use Rattle.yq_flow_scalars.proofs.Bools.{more_more, more_none, more_some, at_byte}
 
@@ -31,9 +31,7 @@ across_line flow spaces deep b bs h e = rw h (rw e refl)
 
 pub across_return : (flow : Bool) (spaces : Option ℕ) (deep : Bool) (b : ℕ) (bs : List ℕ) → is_white b ≡ false → is_feed b ≡ false → is_break (b ∷ bs) ≡ true → across flow spaces deep (b ∷ bs) ≡ more 1 (across flow spaces deep bs)
 unfolding across
-across_return flow spaces deep b bs h e f =
-    let g : (is_return b && front is_feed bs) ≡ true = rw e at f in
-    rw h (rw e (rw g refl))
+across_return flow spaces deep b bs h e f = search rules
 
 -- the loop's steps
 go : (n : ℕ) (x y z : Option ℕ) → x ≡ more 1 y → more n x ≡ z → more (n + 1) y ≡ z
@@ -73,9 +71,7 @@ whites_some (b ∷ bs) le w = rw w (omega arith)
 -- over a run of white space
 pub go_run : (test : ℕ → Bool) (flow : Bool) (spaces : Option ℕ) (deep : Bool) (n k : ℕ) (r : List ℕ) (z : Option ℕ) → AreWhite test → k ≡ prefix_len test r →
     more n (across flow spaces deep r) ≡ z → more (n + k) (across flow spaces deep (drop k r)) ≡ z
-go_run test flow spaces deep n k r z white is e =
-    subst (λ (j : ℕ). more (n + j) (across flow spaces deep (drop j r)) ≡ z) (sym is)
-    (more_more n (prefix_len test r) (across flow spaces deep (drop (prefix_len test r) r)) ∙ (ap (more n) (sym (over_run test flow spaces deep r white)) ∙ e))
+go_run test flow spaces deep n k r z white is e = search (rules, more_more, over_run)
 
 pub go_line : (flow : Bool) (spaces : Option ℕ) (deep next : Bool) (n : ℕ) (r : List ℕ) (z : Option ℕ) → 1 ≤ length r → is_white (get_or r 0 0) ≡ false → get_or r 0 0 ≡ 10 → next ≡ begins_deep spaces (rest_of r) →
     more n (across flow spaces deep r) ≡ z → more (n + 1) (across flow spaces next (rest_of r)) ≡ z
@@ -104,11 +100,7 @@ across_space flow spaces deep b bs h =
 pub across_here : (flow : Bool) (spaces : Option ℕ) (deep : Bool) (b : ℕ) (bs : List ℕ) → is_space (b ∷ bs) ≡ false →
     across flow spaces deep (b ∷ bs) ≡ cond (not (eqb b 35) && not (ends_text flow (b ∷ bs)) && deep) (Some 0) None
 unfolding across
-across_here flow spaces deep b bs h =
-    let w : is_white b ≡ false = false_from_ne_true _ (λ e. false≢true (sym h ∙ rw e refl)) in
-    let l : is_feed b ≡ false = false_from_ne_true _ (λ e. false≢true (sym h ∙ rw (w, e) refl)) in
-    let r : (is_return b && front is_feed bs) ≡ false = let g : is_space (b ∷ bs) ≡ false = h in rw (w, l) at g in
-    rw (w, l, r) refl
+across_here flow spaces deep b bs h = search (rules, false_from_ne_true, false≢true)
 
 -- whether text behind a gap may stand on its line; deep tells it of the line on which the gap begins
 abbrev stands : Bool → Option ℕ → Option (List ℕ) → List ℕ → Bool
@@ -133,8 +125,7 @@ over : (flow : Bool) (spaces : Option ℕ) (deep next : Bool) (b : ℕ) (bs : Li
     stands deep spaces (last_line (b ∷ gap_of bs)) (past_gap bs) ≡ stands next spaces (last_line (gap_of bs)) (past_gap bs) →
     across flow spaces deep (b ∷ bs) ≡ cond (goes flow spaces deep (gap_of (b ∷ bs)) (past_gap (b ∷ bs))) (Some (upto no_gap (b ∷ bs))) None
 unfolding upto
-over flow spaces deep next b bs s e again same =
-    rw s (e ∙ (ap (more 1) again ∙ (more_one _ _ ∙ ap (λ (x : Bool). cond (not (is_empty (past_gap bs)) && not (front (λ b. eqb b 35) (past_gap bs)) && not (ends_text flow (past_gap bs)) && x) (Some (suc (upto no_gap bs))) None) (sym same))))
+over flow spaces deep next b bs s e again same = search (rules, more_one)
 
 or_none : (o : Option (List ℕ)) → option_or o None ≡ o
 or_none None = refl
@@ -174,11 +165,7 @@ not_some false k = refl
 
 -- at white space or a break
 pub ends_space : (flow : Bool) (spaces : Option ℕ) (t : List ℕ) → is_space t ≡ true → ends_plain flow spaces t ≡ is_none (across flow spaces true t)
-ends_space flow spaces t s =
-    let same : follows flow spaces (gap_of t) (past_gap t) ≡ goes flow spaces true (gap_of t) (past_gap t) =
-    ap (λ (x : Bool). not (is_empty (past_gap t)) && not (front (λ b. eqb b 35) (past_gap t)) && not (ends_text flow (past_gap t)) && x) (may_stand spaces (last_line (gap_of t)) (past_gap t)) in
-    ap (λ (x : Bool). cond x (not (follows flow spaces (gap_of t) (past_gap t))) (is_empty t || ends_text flow t)) s
-    ∙ (ap not same ∙ (not_some _ _ ∙ ap is_none (sym (across_goes flow spaces true t))))
+ends_space flow spaces t s = search (rules, may_stand, not_some, across_goes)
 
 deeper : (flow : Bool) (spaces : Option ℕ) (t : List ℕ) (k : ℕ) → across flow spaces false t ≡ Some k → across flow spaces true t ≡ Some k
 unfolding across

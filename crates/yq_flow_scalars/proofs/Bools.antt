@@ -1,5 +1,5 @@
 -- Tests, options and the steps of readers.
-use Rattle.std.proofs.Common.{◌≡◌, ◌⊎◌, ℕ, ◌+◌, ◌<◌, Bool, true, false, cond, ◌||◌, not, eqb, Option, Some, None, refl, sym, ap, ◌∙◌, inl, inr, arith, eqb-true}
+use Rattle.std.proofs.Common.{◌≡◌, ◌⊎◌, ℕ, ◌+◌, ◌<◌, Bool, true, false, cond, ◌||◌, not, eqb, Option, Some, None, refl, sym, ap, ◌∙◌, inl, inr, arith, eqb-true, rules}
 use Rattle.std.proofs.lemmas.Bool.{false≢true, false_from_ne_true}
 use Rattle.yq_flow_scalars.specs.Answers.{◌>>=◌, more}
 
@@ -39,7 +39,6 @@ pub not_byte : (b k : ℕ) → k < b → eqb b k ≡ false
 not_byte b k lt = false_from_ne_true (eqb b k) (λ e. let same : b ≡ k = eqb-true b k e in absurd (omega (arith, same)))
 
 pub none_of : (a b c : Bool) → not (a || b || c) ≡ true → (a ≡ false) × (b ≡ false) × (c ≡ false)
-none_of true b c h = absurd (false≢true h)
-none_of false true c h = absurd (false≢true h)
-none_of false false true h = absurd (false≢true h)
-none_of false false false h = (refl, refl, refl)
+none_of a b c h1 = search (rules, false≢true)
+
+pub ruleset more_steps = (more_more, more_none, more_zero)

@@ -1,5 +1,5 @@
 -- What a search for the next LF tells of breaks.
-use Rattle.std.proofs.Common.{◌≡◌, ℕ, suc, ◌+◌, ◌<◌, ◌≤◌, true, false, cond, not, min, eqb, eqb-true, List, [], ◌∷◌, length, Option, Some, None, refl, sym, ap, ◌∙◌, arith}
+use Rattle.std.proofs.Common.{◌≡◌, ℕ, suc, ◌+◌, ◌<◌, ◌≤◌, false, min, eqb, eqb-true, List, [], ◌∷◌, length, Option, Some, None, refl, sym, ap, ◌∙◌, arith, rules}
 use Rattle.std.proofs.lemmas.Bool.{false_from_ne_true}
 use Rattle.std.proofs.lemmas.List.Sums.{position_or_len_is}
 use Rattle.std.specs.List.{position_or_len}
@@ -12,22 +12,19 @@ use Rattle.std.proofs.Math.Dec.{eqb-suc-suc, eqb-zero-suc}
 feed-position : (t : List ℕ) → upto at_feed t ≡ position_or_len (is_byte 10) t
 unfolding upto
 feed-position [] = refl
-feed-position (b ∷ bs) = let again = feed-position bs in
-    elim (eqb b 10) as (λ c. cond c 0 (suc (upto at_feed bs)) ≡ cond (not c) (1 + position_or_len (is_byte 10) bs) 0) [ true ↦ refl | false ↦ omega arith ]
+feed-position (b ∷ bs) = search (rules, feed-position bs)
 
 -- what a search for the LF found
 pub first_feed : (t : List ℕ) (r : Option ℕ) → IsFirstByte (is_byte 10) t r → unwrap_or r (length t) ≡ upto at_feed t
 first_feed t None h = rw feed-position (sym (position_or_len_is (is_byte 10) t (length t) 0 (omega arith)
     (λ k below. false_from_ne_true _ (h k (omega arith) below)) (λ past. absurd (omega arith))))
-first_feed t (Some i) h = rw feed-position (sym (position_or_len_is (is_byte 10) t i 0 (omega (arith, h.0.high))
-    (λ k below. false_from_ne_true _ (h.0.before k (omega arith) below)) (λ _. h.1)))
+first_feed t (Some i) h = search (rules, feed-position, position_or_len_is, false_from_ne_true)
 
 -- a line ends behind its LF, or at the end
 pub line_len-feed : (t : List ℕ) → line_len t ≡ min (upto at_feed t + 1) (length t)
 unfolding line_len upto
 line_len-feed [] = refl
-line_len-feed (b ∷ bs) = let again = line_len-feed bs in
-    elim (eqb b 10) as (λ c. cond c 1 (suc (line_len bs)) ≡ min (cond c 0 (suc (upto at_feed bs)) + 1) (suc (length bs))) [ true ↦ omega arith | false ↦ omega arith ]
+line_len-feed (b ∷ bs) = search (rules, min, line_len-feed bs)
 
 pub line_len_here : (t : List ℕ) (n : ℕ) → n ≡ upto at_feed t → n < length t → line_len t ≡ n + 1
 line_len_here t n e h = omega (arith, line_len-feed t)
@@ -43,10 +40,7 @@ empty-length (b ∷ t) = sym (eqb-zero-suc (length t))
 is_line-feed : (t : List ℕ) → is_line t ≡ eqb (suc (upto at_feed t)) (length t)
 unfolding is_line upto
 is_line-feed [] = refl
-is_line-feed (b ∷ bs) =
-    let again = is_line-feed bs ∙ sym (eqb-suc-suc (suc (upto at_feed bs)) (length bs)) in
-    let last = empty-length bs ∙ sym (eqb-suc-suc 0 (length bs)) in
-    elim (eqb b 10) as (λ c. cond c (is_empty bs) (is_line bs) ≡ eqb (suc (cond c 0 (suc (upto at_feed bs)))) (suc (length bs))) [ true ↦ last | false ↦ again ]
+is_line-feed (b ∷ bs) = search (rules, eqb-suc-suc, empty-length, is_line-feed bs)
 
 pub is_line_here : (t : List ℕ) (n : ℕ) → n ≡ upto at_feed t → n < length t → is_line t ≡ eqb (n + 1) (length t)
 is_line_here t n e h = let one : suc (upto at_feed t) ≡ n + 1 = omega arith in is_line-feed t ∙ ap (λ k. eqb k (length t)) one

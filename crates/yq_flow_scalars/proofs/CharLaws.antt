@@ -1,5 +1,5 @@
 -- The characters of quoted scalars: what is read is what is written.
-use Rattle.std.proofs.Common.{◌≡◌, ℕ, zero, suc, ◌+◌, ◌*◌, true, false, eqb, eqb-true, List, [], ◌∷◌, ◌++◌, length, take, drop, Option, Some, None, refl, sym, ap, ◌∙◌, subst, inl, inr, ◌⊎◌, arith}
+use Rattle.std.proofs.Common.{◌≡◌, ℕ, zero, suc, ◌+◌, ◌*◌, true, false, eqb, eqb-true, List, [], ◌∷◌, ◌++◌, length, take, drop, Option, Some, None, refl, sym, ap, ◌∙◌, subst, inl, inr, ◌⊎◌, arith, rules}
 use Rattle.std.proofs.lemmas.Bool.{ltb-true, lt-ltb, cases_Bool}
 use Rattle.std.proofs.Math.Utf8.{encode}
 use Rattle.std.proofs.lemmas.Option.{cond_some}
@@ -41,15 +41,7 @@ hex_takes (suc n) v w (b ∷ bs) h =
 
 -- a letter of the table isn't one that digits follow, and begins no break
 letter_not : (letter c k : ℕ) → beside letter letters ≡ Some c → beside k letters ≡ None → eqb letter k ≡ false
-letter_not letter c k h none = elim (cases_Bool (eqb letter k)) [
-  | inl e ↦ absurd (let same : beside k letters ≡ Some c = subst (λ (x : ℕ). beside x letters ≡ Some c) (eqb-true letter k e) h in let no : None ≡ Some c = sym none ∙ same in cc)
-  | inr e ↦ e
-]
-
-letter_again : (letter c : ℕ) (rest : List ℕ) → beside letter letters ≡ Some c → escape (letter ∷ rest) ≡ Some (c, 1)
-unfolding escape
-letter_again letter c rest h =
-    rw (letter_not letter c 120 h refl, letter_not letter c 117 h refl, letter_not letter c 85 h refl, h) refl
+letter_not letter c k h none = search (rules, cases_Bool, eqb-true)
 
 letter_line : (letter c : ℕ) (rest : List ℕ) → beside letter letters ≡ Some c → is_break (letter ∷ rest) ≡ false
 letter_line letter c rest h = rw (letter_not letter c 10 h refl, letter_not letter c 13 h refl) refl
@@ -72,23 +64,15 @@ pub record IsEscape (c : ℕ) (e : List ℕ) : Type 0 where
   pub reads : (t : List ℕ) → escape (e ++ t) ≡ Some (c, length e)
   pub line : (t : List ℕ) → is_break (e ++ t) ≡ false
 
-coded_again : (n letter : ℕ) (digits t : List ℕ) → n ≡ length digits → AllDigits 16 digits → is_unicode (digits_value 16 digits) ≡ true → coded n (hex n 0 (digits ++ t)) ≡ Some (digits_value 16 digits, suc (length digits))
-coded_again n letter digits t e all is = rw (e, hex_again 0 digits t all, is) refl
-
 -- digits behind their letter are an escape
 pub code_escape : (letter : ℕ) (digits : List ℕ) → beside letter digit_counts ≡ Some (length digits) → AllDigits 16 digits → is_unicode (digits_value 16 digits) ≡ true → IsEscape (digits_value 16 digits) (letter ∷ digits)
 unfolding escape
-code_escape letter digits h all is = elim (counted letter (length digits) h) [
-  | inl x ↦ record { reads = λ t. rw (x.0) (coded_again 2 letter digits t (sym x.1) all is); line = λ t. rw (x.0) refl }
-  | inr x ↦ elim x [
-    | inl y ↦ record { reads = λ t. rw (y.0) (coded_again 4 letter digits t (sym y.1) all is); line = λ t. rw (y.0) refl }
-    | inr y ↦ record { reads = λ t. rw (y.0) (coded_again 8 letter digits t (sym y.1) all is); line = λ t. rw (y.0) refl }
-  ]
-]
+code_escape letter digits h all is = search (rules, hex_again, counted)
 
 -- a letter of the table is an escape
 pub letter_is_escape : (letter c : ℕ) → beside letter letters ≡ Some c → IsEscape c (letter ∷ [])
-letter_is_escape letter c h = record { reads = λ t. letter_again letter c t h; line = λ t. letter_line letter c t h }
+unfolding escape
+letter_is_escape letter c h = search (rules, letter_not, letter_line)
 
 -- a character that was read behind a backslash
 pub record Escaped (c k : ℕ) (t : List ℕ) : Type 0 where
@@ -123,11 +107,7 @@ by_count letter n c k t count h =
     by_digits letter n c k v.0 t count v.1 (subst (λ (o : Option ℕ). coded n o ≡ Some (c, k)) v.1 h)
 
 lettered_some : (c k : ℕ) (o : Option ℕ) → lettered o ≡ Some (c, k) → (o ≡ Some c) × (1 ≡ k)
-lettered_some c k (Some v) h =
-    let e : Some (v, 1) ≡ Some (c, k) = h in
-    let p : ◌≡◌ {A = ℕ × ℕ} (v, 1) (c, k) = cc in
-    (ap (λ (p : ℕ × ℕ). Some p.0) p, ap (λ (p : ℕ × ℕ). p.1) p)
-lettered_some c k None h = absurd (let e : None ≡ Some (c, k) = h in cc)
+lettered_some c k o h1 = search rules
 
 by_letter : (letter c k : ℕ) (t : List ℕ) → lettered (beside letter letters) ≡ Some (c, k) → Escaped c k (letter ∷ t)
 by_letter letter c k t h =
@@ -142,14 +122,4 @@ by_letter letter c k t h =
 
 pub escape_takes : (t : List ℕ) (c k : ℕ) → escape t ≡ Some (c, k) → Escaped c k t
 unfolding escape
-escape_takes [] c k h = absurd (let e : None ≡ Some (c, k) = h in cc)
-escape_takes (b ∷ bs) c k h = elim (chosen (eqb b 120) h) [
-  | inl x ↦ by_count b 2 c k bs (rw (eqb-true b 120 x.0) refl) x.1
-  | inr x ↦ elim (chosen (eqb b 117) x.1) [
-    | inl y ↦ by_count b 4 c k bs (rw (eqb-true b 117 y.0) refl) y.1
-    | inr y ↦ elim (chosen (eqb b 85) y.1) [
-      | inl z ↦ by_count b 8 c k bs (rw (eqb-true b 85 z.0) refl) z.1
-      | inr z ↦ by_letter b c k bs z.1
-    ]
-  ]
-]
+escape_takes t c k h1 = search (rules, chosen, by_count, eqb-true, by_letter)

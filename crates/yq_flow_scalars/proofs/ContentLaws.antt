@@ -1,9 +1,9 @@
 -- What is read as the content of a scalar is what its lines stand for.
-use Rattle.std.proofs.Common.{◌≡◌, ℕ, ◌+◌, ◌-◌, ◌<◌, Bool, true, false, cond, eqb, List, [], ◌∷◌, ◌++◌, length, take, drop, get_or, Option, Result, Ok, Err, IfOk, refl, sym, inl, inr, ◌&&◌, ap, ◌∙◌, subst, arith, eqb-true, append_assoc, append-nil, length-append, length-drop}
+use Rattle.std.proofs.Common.{◌≡◌, ℕ, ◌+◌, ◌-◌, ◌<◌, Bool, true, false, cond, eqb, List, [], ◌∷◌, ◌++◌, length, take, drop, get_or, Option, Result, Ok, Err, IfOk, refl, sym, inl, inr, ◌&&◌, ap, ◌∙◌, subst, arith, eqb-true, append_assoc, append-nil, length-append, length-drop, rules}
 use Rattle.std.proofs.lemmas.Bool.{false≢true, and_parts, cases_Bool, or_parts}
 use Rattle.std.proofs.Math.Seq.{take-append_seam}
 use Rattle.std.proofs.Math.Utf8.{encode}
-use Rattle.std.proofs.lemmas.Str.{IsCharBoundary-after_ascii, IsCharBoundary-before_ascii}
+use Rattle.std.proofs.lemmas.Str.{IsCharBoundary-after_ascii}
 use Rattle.std.specs.Str.{IsUtf8, IsCharBoundary}
 use Rattle.yq_flow_scalars.specs.Text.{is_white, is_break, is_feed, is_return, front}
 use Rattle.yq_flow_scalars.specs.Quoted.{Char, itself, doubled, escape as letter_escape, code, spell_char, spell_chars, char_text, chars_text, bytes_of, IsChar, AreChars, Break, line_feed, return_feed, spell_break, spell_end, Lines, last, line, spell_lines, AreLines, is_blank, are_blank, past_blanks, before_blanks, Gap, folded, joined, one_more, gap_text, lines_text, content, IsQuoted}
@@ -34,11 +34,6 @@ escape_means : (c : ℕ) (e t : List ℕ) → IsEscape c e → (before : Before)
 unfolding content_on
 escape_means c e t h before w = rw (h.line t, h.reads t) (ap (λ l. filled before w ++ (encode c ++ l)) (content_over 34 within [] e t))
 
-no_later_feed : (t rest : List ℕ) (b : Bool) → (b && front is_feed (t ++ rest)) ≡ false → (b && front is_feed t) ≡ false
-no_later_feed [] rest true h = refl
-no_later_feed [] rest false h = refl
-no_later_feed (c ∷ t) rest b h = h
-
 -- a byte that begins no break, and is neither a backslash in double quotes nor a quote in single ones
 pub itself_means : (q b : ℕ) (t : List ℕ) → is_break (b ∷ t) ≡ false → (eqb q 34 && eqb b 92) ≡ false → is_pair q (b ∷ t) ≡ false → Means q (itself b) t
 unfolding content_on
@@ -54,17 +49,12 @@ unfolding content_on
 doubled_means t before w = refl
 
 no_pair : (q b : ℕ) (t : List ℕ) → eqb b q ≡ false → is_pair q (b ∷ t) ≡ false
-no_pair q b t h = elim (cases_Bool (is_pair q (b ∷ t))) [
-  | inl e ↦ absurd (let p = and_parts (eqb q 39 && eqb b 39) (front (λ c. eqb c 39) t) e in
-      let r = and_parts (eqb q 39) (eqb b 39) p.0 in
-      let other : eqb b 39 ≡ false = subst (λ (x : ℕ). eqb b x ≡ false) (eqb-true q 39 r.0) h in false≢true (sym other ∙ r.1))
-  | inr e ↦ e
-]
+no_pair q b t h = search (rules, cases_Bool, and_parts, eqb-true, false≢true)
 
 char_means : (q : ℕ) (c : Char) (t rest : List ℕ) → IsChar q c (t ++ rest) → Means q c t
 char_means q (itself b) t rest h =
     let n = or_parts (is_feed b) (is_return b && front is_feed (t ++ rest)) h.1 in
-    let brk : is_break (b ∷ t) ≡ false = rw (n.0, no_later_feed t rest (is_return b) n.1) refl in
+    let brk : is_break (b ∷ t) ≡ false = search (rules, n) in
     itself_means q b t brk h.2 (no_pair q b t h.0)
 char_means q doubled t rest h = subst (λ (x : ℕ). Means x doubled t) (sym h) (doubled_means t)
 char_means q (letter_escape letter) t rest h =
@@ -111,10 +101,7 @@ unfolding Fills
 within_fill q [] t x w h f = f within w
 within_fill q (c ∷ cs) t x w h f =
     let first = ap (content_on q 0 within w) (append_assoc (spell_char c) (spell_chars cs) t) ∙ h.0 within w in
-    elim (cases_Bool (is_blank c)) [
-      | inl e ↦ (rw e at first) ∙ (within_fill q cs t x (w ++ char_text c) h.1 f ∙ (append_assoc w (char_text c) (chars_text cs ++ x) ∙ ap (λ l. w ++ l) (sym (append_assoc (char_text c) (chars_text cs) x))))
-      | inr e ↦ (rw e at first) ∙ (ap (λ l. w ++ (char_text c ++ l)) (within_fill q cs t x [] h.1 f) ∙ ap (λ l. w ++ l) (sym (append_assoc (char_text c) (chars_text cs) x)))
-    ]
+    search (rules, cases_Bool, append_assoc, first, within_fill q cs t x (w ++ char_text c) h.1 f, within_fill q cs t x [] h.1 f)
 
 blank_before : (cs : List Char) → are_blank cs ≡ true → before_blanks cs ≡ []
 blank_before [] h = refl
@@ -129,15 +116,7 @@ unfolding Drops
 within_drop q [] t u w h d = d within w
 within_drop q (c ∷ cs) t u w h d =
     let x = content_on q 0 (after (folded 0)) [] u in
-    let first = ap (content_on q 0 within w) (append_assoc (spell_char c) (spell_chars cs) t) ∙ h.0 within w in
-    elim (cases_Bool (is_blank c)) [
-      | inl e ↦ (rw e at first) ∙ (within_drop q cs t u (w ++ char_text c) h.1 d ∙ elim (cases_Bool (are_blank cs)) [
-        | inl all ↦ rw (e, all, blank_before cs all) refl
-        | inr some ↦ rw (e, some) (append_assoc w (char_text c) (chars_text (before_blanks cs) ++ x) ∙ ap (λ l. w ++ l) (sym (append_assoc (char_text c) (chars_text (before_blanks cs)) x)))
-      ])
-      | inr e ↦ (rw e at first) ∙ (ap (λ l. w ++ (char_text c ++ l)) (within_drop q cs t u [] h.1 d ∙ ap (λ l. l ++ (chars_text (before_blanks cs) ++ x)) (cond_same (are_blank cs) []))
-          ∙ rw e (ap (λ l. w ++ l) (sym (append_assoc (char_text c) (chars_text (before_blanks cs)) x))))
-    ]
+    search (rules, cases_Bool, blank_before, append_assoc, cond_same, x, within_drop q cs t u (w ++ char_text c) h.1 d, within_drop q cs t u [] h.1 d)
 
 -- characters behind a gap
 after_fill : (q : ℕ) (g : Gap) (cs : List Char) (t x w : List ℕ) → AllMean q cs t → Fills q t x → content_on q 0 (after g) w (spell_chars cs ++ t) ≡ gap_text g ++ (chars_text (past_blanks cs) ++ x)
@@ -167,10 +146,7 @@ after_drop q g (c ∷ cs) t u w h d =
 lines_content : (q : ℕ) (g : Gap) (ls : Lines) → LinesMean q ls → content_on q 0 (after g) [] (spell_lines ls) ≡ lines_text g ls
 lines_content q g (last cs) h =
     ap (content_on q 0 (after g) []) (sym (append-nil (spell_chars cs))) ∙ (after_fill q g cs [] [] [] h (fills_end q) ∙ ap (λ l. gap_text g ++ l) (append-nil (chars_text (past_blanks cs))))
-lines_content q g (line cs true b ls) h =
-    let ends : Fills q (spell_end true b ++ spell_lines ls) (content_on q 0 (after (joined 0)) [] (spell_lines ls)) =
-    subst (λ (x : ℕ). Fills x (92 ∷ (spell_break b ++ spell_lines ls)) (content_on x 0 (after (joined 0)) [] (spell_lines ls))) (sym (h.1 refl)) (fills_joined b (spell_lines ls)) in
-    after_fill q g cs (spell_end true b ++ spell_lines ls) _ [] h.0 ends ∙ ap (λ l. gap_text g ++ (chars_text (past_blanks cs) ++ l)) (lines_content q (joined 0) ls h.2)
+lines_content q g (line cs true b ls) h = search (rules, after_fill, fills_joined, lines_content q (joined 0) ls h.2)
 lines_content q g (line cs false b ls) h =
     after_drop q g cs (spell_end false b ++ spell_lines ls) (spell_lines ls) [] h.0 (drops_break q b (spell_lines ls))
     ∙ (ap (λ l. cond (are_blank cs) l (gap_text g ++ (chars_text (before_blanks (past_blanks cs)) ++ content_on q 0 (after (folded 0)) [] (spell_lines ls)))) (lines_content q (one_more g) ls h.2)
@@ -193,8 +169,7 @@ pub quoted_content_is : (q : ℕ) (ls : Lines) (piece rest : List ℕ) → IsQuo
 quoted_content_is q ls piece rest is =
     let inner = spell_lines ls in
     let size : length (q ∷ (inner ++ q ∷ [])) - 2 ≡ length inner = omega (arith, length-append inner (q ∷ [])) in
-    let cut : take (length (q ∷ (inner ++ q ∷ [])) - 2) (inner ++ q ∷ []) ≡ inner = rw (size, take-append_seam) refl in
-    ap quoted_content is.spelled ∙ (ap (content_of q) cut ∙ content_is q ls (lines_mean q ls (q ∷ rest) is.lines))
+    search (rules, content_is, lines_mean, take-append_seam, size)
 
 -- where a quoted scalar may be cut: behind the quote that opens it, and before the quote that closes it
 pub boundary_open : (q : ℕ) (ls : Lines) (piece rest : List ℕ) → IsQuoted q ls piece rest → IsUtf8 piece → IsCharBoundary piece 1
@@ -209,15 +184,12 @@ boundary_close q ls piece rest inner is e =
     let text = spell_lines ls in
     let cut : inner ≡ text ++ q ∷ [] = e ∙ ap (drop 1) is.spelled in
     let size : length inner ≡ length text + 1 = ap length cut ∙ length-append text (q ∷ []) in
-    let place : length inner - 1 ≡ length text = omega arith in
     let at : get_or inner (length text) 0 ≡ q = ap (λ (l : List ℕ). get_or l (length text) 0) cut ∙ at_seam text [] q in
-    subst (λ (k : ℕ). IsCharBoundary inner k) (sym place) (IsCharBoundary-before_ascii inner (length text) (omega arith) (omega (arith, at, low)))
+    search (rules, text, at, low)
 
 -- what stands between the quotes
 pub between_quotes : (piece inner : List ℕ) → inner ≡ drop 1 piece → take (length inner - 1) inner ≡ take (length piece - 2) (drop 1 piece)
-between_quotes piece inner e =
-    let size : length inner - 1 ≡ length piece - 2 = omega (arith, ap length e, length-drop 1 piece) in
-    ap (λ k. take k inner) size ∙ ap (take (length piece - 2)) e
+between_quotes piece inner e = search (rules, length-drop)
 
 pub if_ok_same : {X E : Type 0} (r : Result X E) (f : X → List ℕ) (x y : List ℕ) → IfOk r (λ s. f s ≡ x) → x ≡ y → IfOk r (λ s. f s ≡ y)
 if_ok_same (Ok s) f x y h e = h ∙ e

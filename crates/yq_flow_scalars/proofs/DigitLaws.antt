@@ -1,5 +1,5 @@
 -- Digits in front of a text.
-use Rattle.std.proofs.Common.{◌≡◌, ℕ, ◌≤◌, true, false, List, [], ◌∷◌, ◌++◌, length, take, refl, ap, ◌∙◌, arith, one-add, inl, inr}
+use Rattle.std.proofs.Common.{◌≡◌, ℕ, ◌≤◌, true, false, List, [], ◌∷◌, ◌++◌, length, take, refl, ◌∙◌, arith, one-add, inl, inr, rules}
 use Rattle.std.specs.List.{prefix_len}
 use Rattle.std.specs.Str.Parse.{AllDigits, IsNumeral}
 use Rattle.std.proofs.lemmas.Bool.{false≢true, cases_Bool, ltb-true, lt-ltb}
@@ -28,17 +28,11 @@ digits_none base b bs h = rw h refl
 
 pub digits_cut : (base : ℕ) (t : List ℕ) → t ≡ digits_in base t ++ past_digits base t
 digits_cut base [] = refl
-digits_cut base (b ∷ bs) = elim (cases_Bool (is_digit base b)) [
-  | inl h ↦ rw (digits_digit base b bs h, past_digit base b bs h) (ap (λ t. b ∷ t) (digits_cut base bs))
-  | inr h ↦ rw (digits_none base b bs h, past_none base b bs h) refl
-]
+digits_cut base (b ∷ bs) = search (rules, cases_Bool, digits_digit, past_digit, digits_none, past_none, digits_cut base bs)
 
 pub digits_all : (base : ℕ) (t : List ℕ) → AllDigits base (digits_in base t)
 digits_all base [] = tt
-digits_all base (b ∷ bs) = elim (cases_Bool (is_digit base b)) [
-  | inl h ↦ rw (digits_digit base b bs h) (ltb-true _ _ h, digits_all base bs)
-  | inr h ↦ rw (digits_none base b bs h) tt
-]
+digits_all base (b ∷ bs) = search (rules, cases_Bool, digits_digit, ltb-true, digits_none, digits_all base bs)
 
 -- digits are read up to the first byte that is none
 pub past_append : (base : ℕ) (digits rest : List ℕ) → AllDigits base digits → front (is_digit base) rest ≡ false → past_digits base (digits ++ rest) ≡ rest

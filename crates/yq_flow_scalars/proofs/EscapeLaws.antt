@@ -1,12 +1,11 @@
 -- Escapes: how long they are, and that they are ASCII.
-use Rattle.std.proofs.Common.{◌≡◌, ℕ, zero, suc, ◌+◌, ◌*◌, ◌<◌, ◌≤◌, Bool, true, false, ◌&&◌, not, eqb, ltb, eqb-true, List, [], ◌∷◌, length, drop, get_or, Option, Some, None, refl, sym, ap, ◌∙◌, inl, inr, arith}
+use Rattle.std.proofs.Common.{◌≡◌, ℕ, zero, suc, ◌+◌, ◌*◌, ◌<◌, ◌≤◌, Bool, true, false, ◌&&◌, not, eqb, ltb, eqb-true, List, [], ◌∷◌, length, drop, get_or, Option, Some, None, refl, sym, ap, ◌∙◌, inl, inr, arith, rules}
 use Rattle.std.proofs.lemmas.Bool.{false≢true, ltb-true, cases_lt, le-ltb, and_parts}
 use Rattle.std.proofs.lemmas.Option.{cond_some, same_Some}
 use Rattle.std.specs.Char.{digit_value}
 use Rattle.std.specs.List.{list_all}
 use Rattle.yq_flow_scalars.specs.Answers.{◌>>=◌, more}
-use Rattle.yq_flow_scalars.specs.Text.{is_break, is_marker}
-use Rattle.yq_flow_scalars.specs.Quoted.{letters, beside, is_unicode}
+use Rattle.yq_flow_scalars.specs.Quoted.{beside, is_unicode}
 use Rattle.yq_flow_scalars.specs.SchemaReading.{is_digit}
 use Rattle.yq_flow_scalars.specs.QuotedReading.{hex, hex_digit, escape, behind, closes, coded, lettered, length_of, quoted_len}
 use Rattle.yq_flow_scalars.proofs.Bools.{chosen, bind_some, more_more, more_none}
@@ -23,13 +22,7 @@ bind_twice None f g = refl
 -- the first two digits, and the others
 pub hex_split : (m v : ℕ) (t : List ℕ) → hex (suc (suc m)) v t ≡ (hex 2 v t >>= (λ w. hex m w (drop 2 t)))
 unfolding hex
-hex_split m v [] = refl
-hex_split m v (b ∷ []) = elim (hex_digit b) as (λ o. (o >>= (λ d. hex (suc m) (v * 16 + d) [])) ≡ ((o >>= (λ d. hex 1 (v * 16 + d) [])) >>= (λ w. hex m w []))) [ Some d ↦ refl | None ↦ refl ]
-hex_split m v (b ∷ c ∷ t) =
-    elim (hex_digit b) as (λ o. (o >>= (λ d. hex (suc m) (v * 16 + d) (c ∷ t))) ≡ ((o >>= (λ d. hex 1 (v * 16 + d) (c ∷ t))) >>= (λ w. hex m w t))) [
-      | Some d ↦ sym (bind_twice (hex_digit c) (λ e. hex 0 ((v * 16 + d) * 16 + e) t) (λ w. hex m w t))
-      | None ↦ refl
-    ]
+hex_split m v t = search (rules, bind_twice)
 
 pub hex_none : (m v : ℕ) (t : List ℕ) → hex 2 v t ≡ None → hex (suc (suc m)) v t ≡ None
 hex_none m v t h = hex_split m v t ∙ ap (λ o. o >>= (λ w. hex m w (drop 2 t))) h
@@ -57,17 +50,7 @@ letter_len c k (Some v) h = ap (λ p. p.1) (same_Some (v, 1) (c, k) h)
 
 pub escape_within : (t : List ℕ) (c k : ℕ) → escape t ≡ Some (c, k) → k ≤ length t
 unfolding escape
-escape_within [] c k h = absurd (let e = h in cc)
-escape_within (b ∷ bs) c k h = elim (chosen (eqb b 120) h) [
-  | inl x ↦ (let s = scalar_len 2 c k (hex 2 0 bs) x.1 in omega (arith, s.2, hex_within 2 0 s.0 bs s.1))
-  | inr x ↦ elim (chosen (eqb b 117) x.1) [
-    | inl y ↦ (let s = scalar_len 4 c k (hex 4 0 bs) y.1 in omega (arith, s.2, hex_within 4 0 s.0 bs s.1))
-    | inr y ↦ elim (chosen (eqb b 85) y.1) [
-      | inl z ↦ (let s = scalar_len 8 c k (hex 8 0 bs) z.1 in omega (arith, s.2, hex_within 8 0 s.0 bs s.1))
-      | inr z ↦ omega (arith, letter_len c k (beside b letters) z.1)
-    ]
-  ]
-]
+escape_within t c k h1 = search (rules, chosen, scalar_len, hex_within, letter_len)
 
 next_quote : (q b : ℕ) (bs : List ℕ) → closes q (b ∷ bs) ≡ false → eqb b q ≡ true → 1 ≤ length bs
 next_quote q b [] opened e = let no : (eqb b q && not (eqb q 39 && false)) ≡ false = opened in absurd (false≢true (sym (rw e at no) ∙ quote_only (eqb q 39)))
@@ -79,19 +62,7 @@ length_of_some (Some e) k h = (e.0, let same : e.1 ≡ k = cc in ap (λ (x : ℕ
 
 -- what belongs to a byte stands behind it, unless the byte is a quote that closes
 pub behind_within : (q b k : ℕ) (bs : List ℕ) → closes q (b ∷ bs) ≡ false → behind q b bs ≡ Some k → k ≤ length bs
-behind_within q b k bs opened h = elim (chosen (eqb b 10 && is_marker bs) h) [
-  | inl x ↦ absurd (let e = x.1 in cc)
-  | inr x ↦ elim (chosen (eqb q 34 && eqb b 92) x.1) [
-    | inl y ↦ elim (chosen (is_break bs) y.1) [
-      | inl z ↦ (let e : 0 ≡ k = cc in omega (arith, e))
-      | inr z ↦ (let s = length_of_some (escape bs) k z.1 in escape_within bs s.0 k s.1)
-    ]
-    | inr y ↦ elim (chosen (eqb b q) y.1) [
-      | inl z ↦ (let e : 1 ≡ k = cc in omega (arith, e, next_quote q b bs opened z.0))
-      | inr z ↦ (let e : 0 ≡ k = cc in omega (arith, e))
-    ]
-  ]
-]
+behind_within q b k bs opened h = search (rules, chosen, length_of_some, escape_within, next_quote)
 
 -- how far it is behind bytes that are passed over
 pub length_skip : (q k : ℕ) (t : List ℕ) → k ≤ length t → quoted_len q k t ≡ more k (quoted_len q 0 (drop k t))
@@ -114,15 +85,8 @@ go_item q k n [] z le opened h e = absurd (omega arith)
 go_item q k n (b ∷ bs) z le opened h e =
     rw (rest_is) (more_more n (k + 1) (quoted_len q 0 (drop k bs)) ∙ (ap (more n) (sym (length_item q b k bs opened (ap (behind q b) (sym (rest_is b bs)) ∙ h))) ∙ e))
 
--- escapes are ASCII
-value_ascii : (b : ℕ) → digit_value b < 16 → b < 128
-value_ascii b h = elim (cases_lt b 123) [
-  | inl low ↦ omega arith
-  | inr high ↦ absurd (let far : digit_value b ≡ 36 = rw (le-ltb b 48 (omega arith), le-ltb b 58 (omega arith), le-ltb b 65 (omega arith), le-ltb b 91 (omega arith), le-ltb b 97 (omega arith), le-ltb b 123 (omega arith)) refl in omega (arith, far))
-]
-
 digit_ascii : (b d : ℕ) → hex_digit b ≡ Some d → b < 128
-digit_ascii b d h = let g = cond_some (is_digit 16 b) _ _ h in value_ascii b (ltb-true (digit_value b) 16 g.0)
+digit_ascii b d h = search (rules, cases_lt, le-ltb, cond_some, ltb-true)
 
 hex_ascii : (n v w : ℕ) (t : List ℕ) → hex n v t ≡ Some w → (j : ℕ) → j < n → get_or t j 0 < 128
 unfolding hex
@@ -146,24 +110,4 @@ letter_some c k (Some v) h = (v, refl)
 
 pub escape_ascii : (t : List ℕ) (c k : ℕ) → escape t ≡ Some (c, k) → (j : ℕ) → j < k → get_or t j 0 < 128
 unfolding escape
-escape_ascii [] c k h j lt = absurd (let e = h in cc)
-escape_ascii (b ∷ bs) c k h zero lt = elim (chosen (eqb b 120) h) [
-  | inl x ↦ omega (arith, eqb-true b 120 x.0)
-  | inr x ↦ elim (chosen (eqb b 117) x.1) [
-    | inl y ↦ omega (arith, eqb-true b 117 y.0)
-    | inr y ↦ elim (chosen (eqb b 85) y.1) [
-      | inl z ↦ omega (arith, eqb-true b 85 z.0)
-      | inr z ↦ (let l = letter_some c k (beside b letters) z.1 in letter_ascii b l.0 letters refl l.1)
-    ]
-  ]
-]
-escape_ascii (b ∷ bs) c k h (suc j) lt = elim (chosen (eqb b 120) h) [
-  | inl x ↦ (let s = scalar_len 2 c k (hex 2 0 bs) x.1 in hex_ascii 2 0 s.0 bs s.1 j (omega (arith, s.2)))
-  | inr x ↦ elim (chosen (eqb b 117) x.1) [
-    | inl y ↦ (let s = scalar_len 4 c k (hex 4 0 bs) y.1 in hex_ascii 4 0 s.0 bs s.1 j (omega (arith, s.2)))
-    | inr y ↦ elim (chosen (eqb b 85) y.1) [
-      | inl z ↦ (let s = scalar_len 8 c k (hex 8 0 bs) z.1 in hex_ascii 8 0 s.0 bs s.1 j (omega (arith, s.2)))
-      | inr z ↦ absurd (omega (arith, letter_len c k (beside b letters) z.1))
-    ]
-  ]
-]
+escape_ascii t c k h1 j h2 = search (rules, chosen, eqb-true, letter_some, letter_ascii, scalar_len, hex_ascii, letter_len)

@@ -1,8 +1,8 @@
 -- The floats of the core schema: what is read is what is written.
-use Rattle.std.proofs.Common.{◌≡◌, ℕ, Bool, true, false, eqb, ◌||◌, List, [], ◌∷◌, ◌++◌, refl, sym, ap, ◌∙◌, subst, arith, inl, inr, eqb-true, append_assoc}
+use Rattle.std.proofs.Common.{◌≡◌, ℕ, Bool, true, false, eqb, ◌||◌, List, [], ◌∷◌, ◌++◌, refl, sym, ap, ◌∙◌, subst, arith, inl, inr, eqb-true, append_assoc, rules}
 use Rattle.std.specs.Str.Parse.{IsNumeral}
 use Rattle.std.proofs.lemmas.Bool.{false≢true, cases_Bool, and_parts, or_cases, or_left, or_right, lt-ltb}
-use Rattle.yq_flow_scalars.specs.Numbers.{Sign, unsigned, plus, minus, spell_sign, Mantissa, fraction, whole, pointed, spell_mantissa, IsMantissa, Exponent, absent, lower, upper, spell_exponent, IsExponent}
+use Rattle.yq_flow_scalars.specs.Numbers.{spell_sign, Mantissa, fraction, whole, pointed, spell_mantissa, IsMantissa, Exponent, absent, lower, upper, spell_exponent, IsExponent}
 use Rattle.yq_flow_scalars.specs.Schema.{infinity_words, nan_words, IsOneOf, IsFloat}
 use Rattle.yq_flow_scalars.specs.SchemaReading.{past_digits, past_sign, sign_of, are_digits, is_exponent, front_digit, ends_number, is_number, is_one_of, is_float}
 use Rattle.yq_flow_scalars.proofs.WordLaws.{word_takes, word_again, word_among}
@@ -28,15 +28,7 @@ exponent_takes (b ∷ bs) h =
     ]
 
 exponent_again : (e : Exponent) → IsExponent e → is_exponent (spell_exponent e) ≡ true
-exponent_again absent h = refl
-exponent_again (lower sign digits) h = rw (past_spelled sign digits h) (digits_again 10 digits h)
-exponent_again (upper sign digits) h = rw (past_spelled sign digits h) (digits_again 10 digits h)
-
--- no digit is in front of an exponent
-exponent_front : (e : Exponent) → front_digit (spell_exponent e) ≡ false
-exponent_front absent = refl
-exponent_front (lower sign digits) = refl
-exponent_front (upper sign digits) = refl
+exponent_again e h1 = search (rules, past_spelled, digits_again)
 
 front_numeral : (t : List ℕ) → front_digit t ≡ true → IsNumeral 10 (digits_in 10 t)
 front_numeral [] h = absurd (false≢true h)
@@ -98,18 +90,10 @@ number_takes t h =
     subst (λ (u : List ℕ). IsUnsigned u) (sym (digits_cut 10 t)) took
 
 ends_exponent : (e : Exponent) → IsExponent e → ends_number true (spell_exponent e) ≡ true
-ends_exponent absent h = refl
-ends_exponent (lower sign digits) h = exponent_again (lower sign digits) h
-ends_exponent (upper sign digits) h = exponent_again (upper sign digits) h
+ends_exponent e h1 = search (rules, exponent_again)
 
 pub number_again : (m : Mantissa) (e : Exponent) → IsMantissa m → IsExponent e → is_number (spell_mantissa m ++ spell_exponent e) ≡ true
-number_again (fraction digits) e is h =
-    rw (numeral_front digits (spell_exponent e) is, past_append 10 digits (spell_exponent e) is.1 (exponent_front e)) (exponent_again e h)
-number_again (whole digits) e is h =
-    rw (numeral_front digits (spell_exponent e) is, past_append 10 digits (spell_exponent e) is.1 (exponent_front e)) (ends_exponent e h)
-number_again (pointed digits behind) e is h =
-    let rest = behind ++ spell_exponent e in
-    rw (append_assoc digits (46 ∷ behind) (spell_exponent e), numeral_front digits (46 ∷ rest) is.0, past_append 10 digits (46 ∷ rest) is.0.1 refl, past_append 10 behind (spell_exponent e) is.1 (exponent_front e)) (exponent_again e h)
+number_again m e h1 h2 = search (rules, numeral_front, past_append, exponent_again, ends_exponent, append_assoc)
 
 no_sign_before : (digits rest : List ℕ) → IsNumeral 10 digits → past_sign (digits ++ rest) ≡ digits ++ rest
 no_sign_before [] rest h = absurd (omega (arith, h.0))
@@ -117,14 +101,7 @@ no_sign_before (d ∷ ds) rest h = rw (not_digit d 43 h.1.0 refl, not_digit d 45
 
 -- a mantissa has no sign in front
 mantissa_no_sign : (m : Mantissa) (t : List ℕ) → IsMantissa m → past_sign (spell_mantissa m ++ t) ≡ spell_mantissa m ++ t
-mantissa_no_sign (fraction digits) t h = refl
-mantissa_no_sign (whole digits) t h = no_sign_before digits t h
-mantissa_no_sign (pointed digits behind) t h = rw (append_assoc digits (46 ∷ behind) t) (no_sign_before digits (46 ∷ (behind ++ t)) h.0)
-
-past_signed : (sign : Sign) (t : List ℕ) → past_sign t ≡ t → past_sign (spell_sign sign ++ t) ≡ t
-past_signed unsigned t h = h
-past_signed plus t h = refl
-past_signed minus t h = refl
+mantissa_no_sign m t h1 = search (rules, no_sign_before, append_assoc)
 
 words_no_sign : (word : List ℕ) → IsOneOf infinity_words word → past_sign word ≡ word
 words_no_sign word h = word_among (λ w. past_sign w ≡ w) infinity_words word (refl, (refl, (refl, tt))) h
@@ -143,14 +120,4 @@ float_takes t h = elim (or_cases (is_number (past_sign t) || is_one_of infinity_
 
 pub float_again : (t : List ℕ) → IsFloat t → is_float t ≡ true
 unfolding is_float
-float_again t (inl (d, spelled, is)) =
-    let rest = spell_mantissa d.mantissa ++ spell_exponent d.exponent in
-    let behind : past_sign t ≡ rest = ap past_sign spelled ∙ past_signed d.sign rest (mantissa_no_sign d.mantissa (spell_exponent d.exponent) is.0) in
-    or_left (is_number (past_sign t) || is_one_of infinity_words (past_sign t)) (is_one_of nan_words t)
-    (or_left (is_number (past_sign t)) (is_one_of infinity_words (past_sign t)) (rw behind (number_again d.mantissa d.exponent is.0 is.1)))
-float_again t (inr (inl (sign, word, spelled, is))) =
-    let behind : past_sign t ≡ word = ap past_sign spelled ∙ past_signed sign word (words_no_sign word is) in
-    or_left (is_number (past_sign t) || is_one_of infinity_words (past_sign t)) (is_one_of nan_words t)
-    (or_right (is_number (past_sign t)) (is_one_of infinity_words (past_sign t)) (rw behind (word_again infinity_words word is)))
-float_again t (inr (inr is)) =
-    or_right (is_number (past_sign t) || is_one_of infinity_words (past_sign t)) (is_one_of nan_words t) (word_again nan_words t is)
+float_again t h1 = search (rules, mantissa_no_sign, or_left, number_again, words_no_sign, or_right, word_again)

@@ -1,9 +1,9 @@
 -- What white space and breaks stand for.
-use Rattle.std.proofs.Common.{◌≡◌, ℕ, zero, suc, ◌+◌, Bool, true, false, cond, not, List, [], ◌∷◌, ◌++◌, take, drop, replicate, refl, sym, inl, inr, ◌&&◌, ap, ◌∙◌, arith, append_assoc, append-nil}
+use Rattle.std.proofs.Common.{◌≡◌, ℕ, zero, suc, ◌+◌, Bool, true, false, cond, not, List, [], ◌∷◌, ◌++◌, take, drop, replicate, refl, sym, inl, inr, ◌&&◌, ap, ◌∙◌, arith, append_assoc, append-nil, rules}
 use Rattle.std.proofs.Math.Bool.{or-true}
 use Rattle.std.proofs.lemmas.Bool.{false≢true, not-false, and_parts, cases_Bool, or_parts}
 use Rattle.std.proofs.lemmas.List.{take-append-drop}
-use Rattle.yq_flow_scalars.specs.Text.{is_white, is_break, is_feed, is_return, is_space, front, upto, cut, NoneIn}
+use Rattle.yq_flow_scalars.specs.Text.{is_white, is_feed, is_return, is_space, front, upto, cut, NoneIn}
 use Rattle.yq_flow_scalars.specs.Quoted.{folded, joined, gap_text}
 use Rattle.yq_flow_scalars.specs.ContentReading.{Before, within, after, filled, broken, content_on, breaks, spaced, space_text, before_of}
 use Rattle.yq_flow_scalars.specs.Plain.{no_gap}
@@ -35,15 +35,6 @@ over_space q g w (b ∷ s) r h = elim (cases_Bool (is_white b)) [
         rw (y, e, x) (over_space q g w s r h.1))
   ]
 ]
-
--- where no space is in front, the gap is filled
-fill : (q : ℕ) (g : Before) (w r : List ℕ) → is_space r ≡ false → content_on q 0 g w r ≡ filled g w ++ content_on q 0 within [] r
-unfolding content_on
-fill q g w [] h = sym (append-nil (filled g w))
-fill q g w (b ∷ r) h =
-    let p = or_parts (is_white b) (is_break (b ∷ r)) h in
-    let n = or_parts (is_feed b) (is_return b && front is_feed r) p.1 in
-    rw (p.0, n.0, n.1) refl
 
 times_joined : (k n : ℕ) → times k (after (joined n)) ≡ after (joined (n + k))
 times_joined zero n = ap (λ (i : ℕ). after (joined i)) (omega arith)
@@ -83,16 +74,14 @@ filled_is true s r h e = ap (λ g. filled g (since [] s)) (times_joined (breaks 
 filled_is false s r h e = spaced_is (breaks s) s r h e refl
 
 pub content_space : (q : ℕ) (j : Bool) (s r : List ℕ) → NoneIn no_gap s r → is_space r ≡ false → content_on q 0 (before_of j) [] (s ++ r) ≡ space_text j s ++ content_on q 0 within [] r
-content_space q j s r h e = over_space q (before_of j) [] s r h ∙ (fill q (times (breaks s) (before_of j)) (since [] s) r e ∙ ap (λ l. l ++ content_on q 0 within [] r) (filled_is j s r h e))
+unfolding content_on
+content_space q j s r h e = search (rules, append-nil, or_parts, over_space, filled_is)
 
 -- behind the white space and breaks in front stands none
 pub space_ends : (t : List ℕ) → is_space (drop (upto no_gap t) t) ≡ false
 unfolding upto
 space_ends [] = refl
-space_ends (b ∷ bs) = elim (cases_Bool (is_space (b ∷ bs))) [
-  | inl s ↦ rw s (space_ends bs)
-  | inr s ↦ rw s s
-]
+space_ends (b ∷ bs) = search (rules, cases_Bool, space_ends bs)
 
 -- a step of the loop: the run of white space and breaks in front
 pub content_gap : (q : ℕ) (j : Bool) (t : List ℕ) → content_on q 0 (before_of j) [] t ≡ space_text j (take (upto no_gap t) t) ++ content_on q 0 within [] (drop (upto no_gap t) t)
@@ -101,10 +90,7 @@ content_gap q j t = ap (content_on q 0 (before_of j) []) (sym (take-append-drop 
 
 -- what white space and breaks in front stand for, and what follows
 pub gap_next : (q : ℕ) (j : Bool) (t space next gap : List ℕ) → (space, next) ≡ cut no_gap t → gap ≡ space_text j space → content_on q 0 (before_of j) [] t ≡ gap ++ content_on q 0 within [] next
-gap_next q j t space next gap parts is =
-    content_gap q j t
-    ∙ ((λ i. space_text j (sym (ap (λ (y : List ℕ × List ℕ). y.0) parts) i) ++ content_on q 0 within [] (sym (ap (λ (y : List ℕ × List ℕ). y.1) parts) i))
-    ∙ ap (λ l. l ++ content_on q 0 within [] next) (sym is))
+gap_next q j t space next gap parts is = search (rules, content_gap)
 
 -- what these and the item behind them stand for, and what follows
 pub content_next : (q : ℕ) (j k : Bool) (t space next rest gap front : List ℕ) → (space, next) ≡ cut no_gap t → gap ≡ space_text j space → content_on q 0 within [] next ≡ front ++ content_on q 0 (before_of k) [] rest →

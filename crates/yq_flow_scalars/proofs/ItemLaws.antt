@@ -1,5 +1,5 @@
 -- What the items of a scalar stand for, and where a text may be cut.
-use Rattle.std.proofs.Common.{◌≡◌, ℕ, zero, suc, ◌<◌, ◌≤◌, Bool, true, false, eqb, List, [], ◌∷◌, ◌++◌, length, take, drop, get_or, Some, None, Result, Ok, Err, IfOk, refl, sym, inl, inr, ◌&&◌, ◌||◌, ap, ◌∙◌, subst, arith, eqb-true, append-nil, length-drop}
+use Rattle.std.proofs.Common.{◌≡◌, ℕ, zero, suc, ◌<◌, ◌≤◌, Bool, true, false, eqb, List, [], ◌∷◌, ◌++◌, length, take, drop, get_or, Some, None, refl, sym, inl, inr, ◌&&◌, ◌||◌, ap, ◌∙◌, subst, arith, eqb-true, append-nil, length-drop, rules}
 use Rattle.std.proofs.lemmas.Bool.{false≢true, or_cases, cases_lt, and_parts, cases_Bool, or_parts}
 use Rattle.std.proofs.lemmas.List.{take-append-drop}
 use Rattle.std.proofs.Math.Utf8.{encode}
@@ -34,13 +34,7 @@ pub boundary_space : (t : List ℕ) (n : ℕ) → n ≡ upto no_gap t → IsUtf8
 boundary_space t n e u = rw e (boundary_behind t (upto no_gap t) u (upto_le_length no_gap t) (space_low t))
 
 run_ascii : (q b : ℕ) (bs : List ℕ) → ends_run q (b ∷ bs) ≡ true → b < 128
-run_ascii q b bs h = elim (or_cases (is_space (b ∷ bs) || is_pair q (b ∷ bs)) (is_slash q (b ∷ bs)) h) [
-  | inl x ↦ elim (or_cases (is_space (b ∷ bs)) (is_pair q (b ∷ bs)) x) [
-    | inl y ↦ space_ascii b bs y
-    | inr y ↦ omega (arith, eqb-true b 39 (and_parts (eqb q 39) (eqb b 39) (and_parts (eqb q 39 && eqb b 39) (front (λ c. eqb c 39) bs) y).0).1)
-  ]
-  | inr x ↦ omega (arith, eqb-true b 92 (and_parts (eqb q 34) (eqb b 92) x).1)
-]
+run_ascii q b bs h = search (rules, or_cases, space_ascii, eqb-true, and_parts)
 
 pub boundary_run : (q : ℕ) (t : List ℕ) (n : ℕ) → n ≡ upto (ends_run q) t → IsCharBoundary t n
 boundary_run q t n e = rw e (boundary_ends (ends_run q) t (run_ascii q) refl)
@@ -83,26 +77,10 @@ boundary_slash [] h u = absurd (false≢true h)
 boundary_slash (b ∷ bs) h u = boundary_behind (b ∷ bs) 1 u (omega arith) (λ k lt. first_low b bs k (omega (arith, eqb-true b 92 h)) lt)
 
 break_within : (t : List ℕ) → is_break t ≡ true → break_len t ≤ length t
-break_within [] h = absurd (false≢true h)
-break_within (b ∷ []) h = elim (cases_Bool (is_feed b)) [
-  | inl e ↦ rw e (omega arith)
-  | inr e ↦ absurd (let g : (is_return b && false) ≡ true = rw e at h in false≢true (and_parts (is_return b) false g).1)
-]
-break_within (b ∷ c ∷ bs) h = elim (cases_Bool (is_feed b)) [ inl e ↦ rw e (omega arith) | inr e ↦ rw e (omega arith) ]
+break_within t h1 = search (rules, false≢true, cases_Bool, and_parts)
 
 break_low : (t : List ℕ) → is_break t ≡ true → (k : ℕ) → k < break_len t → get_or t k 0 < 128
-break_low [] h k lt = absurd (false≢true h)
-break_low (b ∷ []) h zero lt = break_ascii b [] h
-break_low (b ∷ []) h (suc k) lt = absurd (let w = break_within (b ∷ []) h in omega (arith, w, lt))
-break_low (b ∷ c ∷ bs) h zero lt = break_ascii b (c ∷ bs) h
-break_low (b ∷ c ∷ bs) h (suc zero) lt = elim (cases_Bool (is_feed b)) [
-  | inl e ↦ absurd (let n : suc zero < 1 = rw e at lt in omega (arith, n))
-  | inr e ↦ (let g : (is_return b && is_feed c) ≡ true = rw e at h in omega (arith, eqb-true c 10 (and_parts (is_return b) (is_feed c) g).1))
-]
-break_low (b ∷ c ∷ bs) h (suc (suc k)) lt = absurd (elim (cases_Bool (is_feed b)) [
-  | inl e ↦ (let n : suc (suc k) < 1 = rw e at lt in omega (arith, n))
-  | inr e ↦ (let n : suc (suc k) < 2 = rw e at lt in omega (arith, n))
-])
+break_low t h1 k h2 = search (rules, false≢true, break_ascii, break_within, cases_Bool, eqb-true, and_parts)
 
 pub boundary_break : (t : List ℕ) → is_break t ≡ true → IsUtf8 t → IsCharBoundary t (break_len t)
 boundary_break t h u = boundary_behind t (break_len t) u (break_within t h) (break_low t h)
@@ -127,24 +105,13 @@ unfolding content_on
 pair_front before w bs = refl
 
 pub content_pair : (q : ℕ) (t : List ℕ) → is_pair q t ≡ true → content_on q 0 within [] t ≡ 39 ∷ content_on q 0 within [] (drop 2 t)
-content_pair q [] h = absurd (false≢true h)
-content_pair q (b ∷ []) h = absurd (false≢true (and_parts (eqb q 39 && eqb b 39) false h).1)
-content_pair q (b ∷ c ∷ bs) h =
-    let p = and_parts (eqb q 39 && eqb b 39) (eqb c 39) h in
-    let r = and_parts (eqb q 39) (eqb b 39) p.0 in
-    rw (eqb-true q 39 r.0, eqb-true b 39 r.1, eqb-true c 39 p.1) (pair_front within [] bs)
+content_pair q t h1 = search (rules, false≢true, and_parts, eqb-true, pair_front)
 
 pair_low : (q : ℕ) (t : List ℕ) → is_pair q t ≡ true → (k : ℕ) → k < 2 → get_or t k 0 < 128
-pair_low q [] h k lt = absurd (false≢true h)
-pair_low q (b ∷ []) h k lt = absurd (false≢true (and_parts (eqb q 39 && eqb b 39) false h).1)
-pair_low q (b ∷ c ∷ bs) h zero lt = omega (arith, eqb-true b 39 (and_parts (eqb q 39) (eqb b 39) (and_parts (eqb q 39 && eqb b 39) (eqb c 39) h).0).1)
-pair_low q (b ∷ c ∷ bs) h (suc zero) lt = omega (arith, eqb-true c 39 (and_parts (eqb q 39 && eqb b 39) (eqb c 39) h).1)
-pair_low q (b ∷ c ∷ bs) h (suc (suc k)) lt = absurd (omega arith)
+pair_low q t h1 k h2 = search (rules, false≢true, and_parts, eqb-true)
 
 pair_within : (q : ℕ) (t : List ℕ) → is_pair q t ≡ true → 2 ≤ length t
-pair_within q [] h = absurd (false≢true h)
-pair_within q (b ∷ []) h = absurd (false≢true (and_parts (eqb q 39 && eqb b 39) false h).1)
-pair_within q (b ∷ c ∷ bs) h = omega arith
+pair_within q t h1 = search (rules, false≢true, and_parts)
 
 pub boundary_pair : (q : ℕ) (t : List ℕ) → is_pair q t ≡ true → IsUtf8 t → IsCharBoundary t 2
 boundary_pair q t h u = boundary_behind t 2 u (pair_within q t h) (pair_low q t h)
@@ -159,9 +126,7 @@ cut_within ends t r e = omega (arith, ap length e, length-drop (upto ends t) t)
 pub cut_shorter : (ends : List ℕ → Bool) (t r : List ℕ) → r ≡ drop (upto ends t) t → 0 < length t → ends t ≡ false → length r < length t
 unfolding upto
 cut_shorter ends [] r e some h = absurd (omega arith)
-cut_shorter ends (b ∷ bs) r e some h =
-    let rest : r ≡ drop (upto ends bs) bs = rw h at e in
-    omega (arith, ap length rest, length-drop (upto ends bs) bs)
+cut_shorter ends (b ∷ bs) r e some h = search (rules, length-drop)
 
 -- a run begins where neither white space, a break, two quotes nor a backslash is in front
 pub runs_on : (q : ℕ) (t : List ℕ) → 0 < length t → is_space t ≡ false → is_pair q t ≡ false → is_slash q t ≡ false → ends_run q t ≡ false
@@ -170,14 +135,7 @@ runs_on q (b ∷ bs) some space pair slash = rw (space, pair, slash) refl
 
 -- what is shorter than a text that is no longer
 pub shorter_still : (x next all : ℕ) → next ≤ all → x ≤ next → (0 < next → x < next) → 0 < all → x < all
-shorter_still x next all no_longer le lt some = elim (cases_lt 0 next) [
-  | inl more ↦ omega (arith, lt more)
-  | inr none ↦ omega arith
-]
-
-pub both_if_ok : {X E : Type 0} (r : Result X E) (P Q R : X → Type 0) → ((x : X) → P x → Q x → R x) → IfOk r P → IfOk r Q → IfOk r R
-both_if_ok (Ok x) P Q R f p q = f x p q
-both_if_ok (Err e) P Q R f p q = tt
+shorter_still x next all no_longer le lt some = search (rules, cases_lt)
 
 -- at the end all is there
 pub all_folded : (q : ℕ) (j : Bool) (out rest all : List ℕ) → eqb (length rest) 0 ≡ true → out ++ content_on q 0 (before_of j) [] rest ≡ all → out ≡ all

@@ -1,9 +1,9 @@
 -- The ints of the core schema: what is read is what is written.
-use Rattle.std.proofs.Common.{◌≡◌, ℕ, ◌<◌, Bool, true, false, cond, eqb, ltb, List, [], ◌∷◌, ◌++◌, drop, Some, None, is_some, ℤ, pos, refl, sym, ap, ◌∙◌, subst, inl, inr, eqb-true}
+use Rattle.std.proofs.Common.{◌≡◌, ℕ, ◌<◌, Bool, true, false, cond, eqb, ltb, List, [], ◌∷◌, ◌++◌, drop, Some, None, is_some, ℤ, pos, refl, sym, ◌∙◌, subst, inl, inr, eqb-true, rules}
 use Rattle.std.specs.Char.{digit_value}
 use Rattle.std.specs.Str.Parse.{IsNumeral, digits_value}
 use Rattle.std.proofs.lemmas.Bool.{false≢true, cases_Bool, and_parts, and_right, ne_eqb, lt-ltb}
-use Rattle.yq_flow_scalars.specs.Numbers.{Sign, unsigned, plus, minus, spell_sign, Integer, decimal, octal, hexadecimal, spell_integer, IsInteger, number_of, signed}
+use Rattle.yq_flow_scalars.specs.Numbers.{Sign, spell_sign, decimal, octal, hexadecimal, signed}
 use Rattle.yq_flow_scalars.specs.Schema.{IsIntOf}
 use Rattle.yq_flow_scalars.specs.SchemaReading.{has_base, past_sign, sign_of, are_digits, based_number, decimal_number, int_number, is_int}
 use Rattle.yq_flow_scalars.proofs.DigitLaws.{digits_takes, digits_again}
@@ -14,22 +14,10 @@ not_digit b k h e = ne_eqb b k (λ p. let q : ltb (digit_value k) 10 ≡ true = 
 
 -- a base in front is `0` and its letter
 base_cut : (letter : ℕ) (t : List ℕ) → has_base letter t ≡ true → t ≡ 48 ∷ letter ∷ drop 2 t
-base_cut letter [] h = absurd (false≢true h)
-base_cut letter (a ∷ []) h = absurd (false≢true h)
-base_cut letter (a ∷ b ∷ bs) h = let p = and_parts (eqb a 48) (eqb b letter) h in cc (eqb-true a 48 p.0, eqb-true b letter p.1)
-
--- digits have no base in front
-no_base : (letter : ℕ) (digits : List ℕ) → ltb (digit_value letter) 10 ≡ false → IsNumeral 10 digits → has_base letter digits ≡ false
-no_base letter [] e h = refl
-no_base letter (a ∷ []) e h = refl
-no_base letter (a ∷ b ∷ bs) e h = and_right (eqb a 48) (eqb b letter) (not_digit b letter h.1.1.0 e)
+base_cut letter t h1 = search (rules, false≢true, and_parts, eqb-true)
 
 no_signed_base : (letter : ℕ) (sign : Sign) (digits : List ℕ) → ltb (digit_value letter) 10 ≡ false → IsNumeral 10 digits → has_base letter (spell_sign sign ++ digits) ≡ false
-no_signed_base letter unsigned digits e h = no_base letter digits e h
-no_signed_base letter plus (d ∷ ds) e h = refl
-no_signed_base letter plus [] e h = refl
-no_signed_base letter minus (d ∷ ds) e h = refl
-no_signed_base letter minus [] e h = refl
+no_signed_base letter sign digits h1 h2 = search (rules, and_right, not_digit)
 
 -- digits have no sign in front
 pub past_no_sign : (digits : List ℕ) → IsNumeral 10 digits → past_sign digits ≡ digits
@@ -37,26 +25,14 @@ past_no_sign [] h = refl
 past_no_sign (d ∷ ds) h = rw (not_digit d 43 h.1.0 refl, not_digit d 45 h.1.0 refl) refl
 
 pub past_spelled : (sign : Sign) (digits : List ℕ) → IsNumeral 10 digits → past_sign (spell_sign sign ++ digits) ≡ digits
-past_spelled unsigned digits h = past_no_sign digits h
-past_spelled plus digits h = refl
-past_spelled minus digits h = refl
+past_spelled sign digits h1 = search (rules, past_no_sign)
 
 pub sign_spelled : (sign : Sign) (digits : List ℕ) → IsNumeral 10 digits → sign_of (spell_sign sign ++ digits) ≡ sign
-sign_spelled unsigned [] h = refl
-sign_spelled unsigned (d ∷ ds) h = rw (not_digit d 43 h.1.0 refl, not_digit d 45 h.1.0 refl) refl
-sign_spelled plus digits h = refl
-sign_spelled minus digits h = refl
+sign_spelled sign digits h1 = search (rules, not_digit)
 
 -- a text is its sign and what is behind it
 pub sign_cut : (t : List ℕ) → t ≡ spell_sign (sign_of t) ++ past_sign t
-sign_cut [] = refl
-sign_cut (b ∷ bs) = elim (cases_Bool (eqb b 43)) [
-  | inl e ↦ rw e (ap (λ a. a ∷ bs) (eqb-true b 43 e))
-  | inr e ↦ elim (cases_Bool (eqb b 45)) [
-    | inl f ↦ rw (e, f) (ap (λ a. a ∷ bs) (eqb-true b 45 f))
-    | inr f ↦ rw (e, f) refl
-  ]
-]
+sign_cut t = search (rules, cases_Bool, eqb-true)
 
 decimal_takes : (t : List ℕ) (n : ℤ) → decimal_number t ≡ Some n → IsIntOf t n
 decimal_takes t n h = elim (cases_Bool (are_digits 10 (past_sign t))) [
@@ -65,10 +41,7 @@ decimal_takes t n h = elim (cases_Bool (are_digits 10 (past_sign t))) [
 ]
 
 based_takes : (base : ℕ) (digits : List ℕ) (n : ℤ) → based_number base digits ≡ Some n → IsNumeral base digits × (n ≡ pos (digits_value base digits))
-based_takes base digits n h = elim (cases_Bool (are_digits base digits)) [
-  | inl e ↦ (digits_takes base digits e, let g : Some (pos (digits_value base digits)) ≡ Some n = (rw e at h) in cc)
-  | inr e ↦ let g : None ≡ Some n = (rw e at h) in cc
-]
+based_takes base digits n h = search (rules, cases_Bool, digits_takes, pos)
 
 based_again : (base : ℕ) (digits : List ℕ) → IsNumeral base digits → based_number base digits ≡ Some (pos (digits_value base digits))
 based_again base digits h = rw (digits_again base digits h) refl
@@ -87,23 +60,11 @@ int_takes t n h = elim (cases_Bool (has_base 111 t)) [
   ]
 ]
 
-spelled_again : (i : Integer) → IsInteger i → int_number (spell_integer i) ≡ Some (number_of i)
-unfolding int_number
-spelled_again (decimal sign digits) h =
-    rw (no_signed_base 111 sign digits refl h, no_signed_base 120 sign digits refl h, past_spelled sign digits h, sign_spelled sign digits h, digits_again 10 digits h) refl
-spelled_again (octal digits) h = based_again 8 digits h
-spelled_again (hexadecimal digits) h = based_again 16 digits h
-
 pub int_again : (t : List ℕ) (n : ℤ) → IsIntOf t n → int_number t ≡ Some n
-int_again t n (i, spelled, is, value) = rw (spelled, value) (spelled_again i is)
+unfolding int_number
+int_again t n (i, spelled, is, value) = search (rules, no_signed_base, past_spelled, sign_spelled, digits_again, based_again)
 
 -- the test says whether there is a number
 pub int_has_number : (t : List ℕ) → is_int t ≡ is_some (int_number t)
 unfolding int_number is_int
-int_has_number t = elim (cases_Bool (has_base 111 t)) [
-  | inl e ↦ rw e (some_agrees (are_digits 8 (drop 2 t)) _)
-  | inr e ↦ elim (cases_Bool (has_base 120 t)) [
-    | inl f ↦ rw (e, f) (some_agrees (are_digits 16 (drop 2 t)) _)
-    | inr f ↦ rw (e, f) (some_agrees (are_digits 10 (past_sign t)) _)
-  ]
-]
+int_has_number t = search (rules, cases_Bool, some_agrees)

@@ -1,5 +1,5 @@
 -- What is read as the content of a plain scalar is what its lines stand for.
-use Rattle.std.proofs.Common.{◌≡◌, ℕ, true, false, List, [], ◌∷◌, ◌++◌, refl, sym, inl, inr, ◌&&◌, ap, ◌∙◌, subst, eqb-true, append-nil}
+use Rattle.std.proofs.Common.{◌≡◌, ℕ, true, false, List, [], ◌∷◌, ◌++◌, refl, sym, inl, inr, ◌&&◌, ap, ◌∙◌, subst, eqb-true, append-nil, rules}
 use Rattle.std.proofs.lemmas.Bool.{false≢true, and_parts, cases_Bool}
 use Rattle.std.proofs.Math.Bool.{and-false}
 use Rattle.yq_flow_scalars.specs.Text.{is_break, is_feed, is_return}
@@ -35,9 +35,7 @@ push_spelled b (line cs escaped k ls) = refl
 
 push_plain : (b : ℕ) (ls : Lines) → is_break (b ∷ spell_lines ls) ≡ false → ArePlainLines ls → ArePlainLines (push b ls)
 unfolding push
-push_plain b (last cs) brk h = (subst (λ (u : List ℕ). is_break (b ∷ u) ≡ false) (sym (append-nil (spell_chars cs))) brk, h)
-push_plain b (line cs true k ls) brk h = absurd (false≢true (sym h.1))
-push_plain b (line cs false k ls) brk h = ((brk, h.0), h.1, h.2)
+push_plain b ls h1 h2 = search (rules, append-nil, false≢true)
 
 pushed : (b : ℕ) (t : List ℕ) → is_break (b ∷ t) ≡ false → ((ls : Lines) × IsPlainLines ls t) → (ls : Lines) × IsPlainLines ls (b ∷ t)
 pushed b t brk (ls, is) = (

@@ -1,11 +1,11 @@
 -- A plain scalar, read and spelled.
-use Rattle.std.proofs.Common.{◌≡◌, ℕ, ◌<◌, Bool, true, not, eqb, List, ◌∷◌, ◌++◌, Option, Some, refl, ⊎_elim, ◌&&◌, ◌||◌, ap, subst, arith, eqb-true}
+use Rattle.std.proofs.Common.{◌≡◌, ℕ, ◌<◌, Bool, true, eqb, List, ◌∷◌, ◌++◌, Option, Some, refl, ⊎_elim, ◌||◌, ap, subst, arith, eqb-true, rules}
 use Rattle.std.proofs.lemmas.Bool.{or_cases, and_parts}
 use Rattle.std.proofs.lemmas.List.{take-append-drop}
 use Rattle.std.proofs.lemmas.Option.{cond_some}
 use Rattle.std.specs.Str.{IsCharBoundary}
 use Rattle.yq_flow_scalars.specs.Text.{upto, cut}
-use Rattle.yq_flow_scalars.specs.Plain.{ends_plain, ends_text, is_flow_indicator, is_safe, begins_plain, IsPlain, plain_at}
+use Rattle.yq_flow_scalars.specs.Plain.{ends_plain, ends_text, is_flow_indicator, begins_plain, IsPlain, plain_at}
 use Rattle.yq_flow_scalars.proofs.Bools.{chosen}
 use Rattle.yq_flow_scalars.proofs.Boundaries.{boundary_ends, space_ascii}
 use Rattle.yq_flow_scalars.proofs.Upto.{cut-append, cut_takes, none_in_cut, upto_ends}
@@ -14,12 +14,10 @@ pub byte_or : (b k : ℕ) (more : Bool) → k < 128 → (more ≡ true → b < 1
 byte_or b k more low f h = ⊎_elim f (λ e. omega (arith, eqb-true b k e)) (or_cases more (eqb b k) h)
 
 pub flow_ascii : (b : ℕ) → is_flow_indicator b ≡ true → b < 128
-flow_ascii b = byte_or b 125 (eqb b 44 || eqb b 91 || eqb b 93 || eqb b 123) (omega arith) (byte_or b 123 (eqb b 44 || eqb b 91 || eqb b 93) (omega arith)
-    (byte_or b 93 (eqb b 44 || eqb b 91) (omega arith) (byte_or b 91 (eqb b 44) (omega arith) (λ e. omega (arith, eqb-true b 44 e)))))
+flow_ascii b = search (rules, byte_or, eqb-true)
 
 pub text_ascii : (flow : Bool) (b : ℕ) (bs : List ℕ) → ends_text flow (b ∷ bs) ≡ true → b < 128
-text_ascii flow b bs h = ⊎_elim (λ e. omega (arith, eqb-true b 58 (and_parts (eqb b 58) (not (is_safe flow bs)) e).0)) (λ e. flow_ascii b (and_parts flow (is_flow_indicator b) e).1)
-    (or_cases (eqb b 58 && not (is_safe flow bs)) (flow && is_flow_indicator b) h)
+text_ascii flow b bs h = search (rules, ⊎_elim, eqb-true, and_parts, flow_ascii, or_cases)
 
 pub plain_ascii : (flow : Bool) (spaces : Option ℕ) (b : ℕ) (bs : List ℕ) → ends_plain flow spaces (b ∷ bs) ≡ true → b < 128
 plain_ascii flow spaces b bs h = ⊎_elim (λ w. space_ascii b bs w.0) (λ w. text_ascii flow b bs w.1) (chosen _ h)

@@ -1,22 +1,15 @@
 -- Bytes at which no plain scalar ends.
-use Rattle.std.proofs.Common.{◌≡◌, ℕ, suc, ◌+◌, ◌≤◌, nat_le, Bool, true, false, eqb, Option, List, [], ◌∷◌, drop, refl, sym, inl, inr, subst, arith}
+use Rattle.std.proofs.Common.{◌≡◌, ℕ, suc, ◌+◌, Bool, true, false, Option, List, [], ◌∷◌, drop, refl, inl, inr, subst, arith, rules}
 use Rattle.std.proofs.lemmas.Bool.{and_right, cases_Bool, leb-false, ne_eqb}
 use Rattle.std.specs.List.{prefix_len}
-use Rattle.yq_flow_scalars.specs.Text.{upto, is_space}
-use Rattle.yq_flow_scalars.specs.Plain.{ends_plain, ends_text, is_flow_indicator}
+use Rattle.yq_flow_scalars.specs.Text.{upto}
+use Rattle.yq_flow_scalars.specs.Plain.{ends_plain}
 use Rattle.yq_flow_scalars.specs.Runs.{goes_on}
 use Rattle.yq_flow_scalars.specs.declared.runs.Run.TheVariants.{Plain}
 use Rattle.yq_flow_scalars.proofs.Bools.{none_of}
 
-above : (b k : ℕ) → nat_le b 32 ≡ false → k ≤ 32 → eqb b k ≡ false
-above b k h le = ne_eqb b k (λ (e : b ≡ k). omega (arith, leb-false b 32 h))
-
 inside_goes_on : (flow : Bool) (spaces : Option ℕ) (b : ℕ) (bs : List ℕ) → goes_on Plain b ≡ true → ends_plain flow spaces (b ∷ bs) ≡ false
-inside_goes_on flow spaces b bs h =
-    let p = none_of (nat_le b 32) (eqb b 58) (is_flow_indicator b) h in
-    let s : is_space (b ∷ bs) ≡ false = rw (above b 32 p.0 (omega arith), above b 9 p.0 (omega arith), above b 10 p.0 (omega arith), above b 13 p.0 (omega arith)) refl in
-    let e : ends_text flow (b ∷ bs) ≡ false = rw p.1 (and_right flow (is_flow_indicator b) p.2) in
-    rw (s, e) refl
+inside_goes_on flow spaces b bs h = search (rules, ne_eqb, leb-false, none_of, and_right)
 
 run_over : (flow : Bool) (spaces : Option ℕ) (t : List ℕ) → upto (ends_plain flow spaces) t ≡ prefix_len (goes_on Plain) t + upto (ends_plain flow spaces) (drop (prefix_len (goes_on Plain) t) t)
 unfolding upto
@@ -32,9 +25,5 @@ run_over flow spaces (b ∷ bs) = elim (cases_Bool (goes_on Plain b)) [
       subst (λ (n : ℕ). upto (ends_plain flow spaces) (b ∷ bs) ≡ n + upto (ends_plain flow spaces) (drop n (b ∷ bs))) same (omega arith)
 ]
 
--- over so many of them the scalar has no end
-pub plain_run : (flow : Bool) (spaces : Option ℕ) (t : List ℕ) (n : ℕ) → n ≡ prefix_len (goes_on Plain) t → upto (ends_plain flow spaces) t ≡ n + upto (ends_plain flow spaces) (drop n t)
-plain_run flow spaces t n e = subst (λ (k : ℕ). upto (ends_plain flow spaces) t ≡ k + upto (ends_plain flow spaces) (drop k t)) (sym e) (run_over flow spaces t)
-
 pub run_behind : (flow : Bool) (spaces : Option ℕ) (r s : List ℕ) (n k z : ℕ) → k ≡ prefix_len (goes_on Plain) r → s ≡ drop k r → n + upto (ends_plain flow spaces) r ≡ z → n + k + upto (ends_plain flow spaces) s ≡ z
-run_behind flow spaces r s n k z e back so_far = rw back (omega (arith, plain_run flow spaces r k e, so_far))
+run_behind flow spaces r s n k z e back so_far = search (rules, run_over)

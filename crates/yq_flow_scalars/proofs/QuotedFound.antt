@@ -1,5 +1,5 @@
 -- Quoted scalars: the two laws, and where one may be cut off.
-use Rattle.std.proofs.Common.{◌≡◌, ℕ, suc, ◌+◌, ◌<◌, true, eqb, eqb-true, List, [], ◌∷◌, ◌++◌, length, get_or, Option, Some, None, refl, sym, ap, ◌∙◌, subst, inl, inr, ◌⊎◌, arith, append_assoc, length-append}
+use Rattle.std.proofs.Common.{◌≡◌, ℕ, suc, ◌+◌, ◌<◌, true, eqb, eqb-true, List, [], ◌∷◌, ◌++◌, length, get_or, Option, Some, None, refl, sym, ap, ◌∙◌, subst, inl, inr, ◌⊎◌, arith, append_assoc, length-append, rules}
 use Rattle.std.proofs.lemmas.Bool.{or_cases}
 use Rattle.std.proofs.Math.Seq.{take-append_seam, drop-append_seam}
 use Rattle.std.proofs.lemmas.Option.{same_Some}
@@ -14,9 +14,6 @@ use Rattle.yq_flow_scalars.proofs.QuotedLaws.{of_quotes}
 -- a quote in front
 quote_is : (b : ℕ) → is_quote b ≡ true → (b ≡ 34) ⊎ (b ≡ 39)
 quote_is b h = elim (or_cases (eqb b 34) (eqb b 39) h) [ inl e ↦ inl (eqb-true b 34 e) | inr e ↦ inr (eqb-true b 39 e) ]
-
-is_quote_again : (q : ℕ) → (q ≡ 34) ⊎ (q ≡ 39) → is_quote q ≡ true
-is_quote_again q quotes = of_quotes (λ x. is_quote x ≡ true) q quotes refl refl
 
 cut_is : (t p r : List ℕ) (n : ℕ) → t ≡ p ++ r → n ≡ length p → cut_at t (Some n) ≡ Some (p, r)
 cut_is t p r n e size = rw (e, size, take-append_seam, drop-append_seam) refl
@@ -44,23 +41,14 @@ found b n bs x quote read h =
     })
 
 by_len : (b : ℕ) (bs : List ℕ) (x : List ℕ × List ℕ) (o : Option ℕ) → scalar_len (b ∷ bs) ≡ o → cut_at (b ∷ bs) o ≡ Some x → Found (b ∷ bs) x.0 x.1
-by_len b bs x None e h = absurd (let no : None ≡ Some x = h in cc)
-by_len b bs x (Some k) e h =
-    let g = guard_then (is_quote b) e in
-    let m = more_some 2 k (quoted_len b 0 bs) g.1 in
-    found b m.0 bs x g.0 m.1 (ap (λ (j : ℕ). cut_at (b ∷ bs) (Some j)) m.2 ∙ h)
+by_len b bs x o h1 h2 = search (rules, guard_then, more_some, found)
 
 pub quoted_takes : (t : List ℕ) (x : List ℕ × List ℕ) → quoted_at t ≡ Some x → Found t x.0 x.1
 quoted_takes [] x h = absurd (let e : None ≡ Some x = h in cc)
 quoted_takes (b ∷ bs) x h = by_len b bs x (scalar_len (b ∷ bs)) refl h
 
 pub quoted_again : (q : ℕ) (ls : Lines) (piece rest : List ℕ) → IsQuoted q ls piece rest → quoted_at (piece ++ rest) ≡ Some (piece, rest)
-quoted_again q ls piece rest is =
-    let inner = spell_lines ls in
-    let whole : piece ++ rest ≡ q ∷ (inner ++ (q ∷ rest)) = ap (λ p. p ++ rest) is.spelled ∙ ap (λ l. q ∷ l) (append_assoc inner (q ∷ []) rest) in
-    let size : scalar_len (q ∷ (inner ++ (q ∷ rest))) ≡ Some (2 + length inner) = rw (is_quote_again q is.quotes, lines_are_read q ls rest is.quotes is.lines is.closed) refl in
-    let read : scalar_len (piece ++ rest) ≡ Some (2 + length inner) = ap scalar_len whole ∙ size in
-    ap (cut_at (piece ++ rest)) read ∙ cut_is (piece ++ rest) piece rest (2 + length inner) refl (omega (arith, ap length is.spelled, length-append inner (q ∷ [])))
+quoted_again q ls piece rest is = search (rules, of_quotes, append_assoc, lines_are_read, cut_is, length-append)
 
 -- a text begins with one quoted scalar at most
 pub quoted_one : (q r : ℕ) (ls ms : Lines) (p rest o other : List ℕ) → p ++ rest ≡ o ++ other → IsQuoted q ls p rest → IsQuoted r ms o other → (p ≡ o) × (rest ≡ other)

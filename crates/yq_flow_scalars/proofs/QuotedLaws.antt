@@ -1,8 +1,8 @@
 -- Quoted scalars: what is read is what is written.
-use Rattle.std.proofs.Common.{◌≡◌, ℕ, ◌+◌, Bool, true, false, ◌&&◌, eqb, eq-eqb, List, [], ◌∷◌, ◌++◌, length, Some, refl, sym, ap, ◌∙◌, subst, inl, inr, ◌⊎◌, arith, append_assoc, length-append}
+use Rattle.std.proofs.Common.{◌≡◌, ℕ, ◌+◌, Bool, true, false, ◌&&◌, eqb, eq-eqb, List, [], ◌∷◌, ◌++◌, length, Some, refl, sym, ap, ◌∙◌, subst, inl, inr, ◌⊎◌, arith, append_assoc, length-append, rules}
 use Rattle.std.proofs.lemmas.Bool.{or_parts}
 use Rattle.yq_flow_scalars.specs.Answers.{more}
-use Rattle.yq_flow_scalars.specs.Text.{is_feed, is_return, is_marker, front}
+use Rattle.yq_flow_scalars.specs.Text.{is_marker, front}
 use Rattle.yq_flow_scalars.specs.Quoted.{Char, itself, doubled, escape as letter_escape, code, spell_char, spell_chars, IsChar, AreChars, Break, line_feed, return_feed, spell_break, spell_end, Lines, last, line, spell_lines, AreLines}
 use Rattle.yq_flow_scalars.specs.QuotedReading.{quoted_len}
 use Rattle.yq_flow_scalars.proofs.Bools.{more_more, more_none}
@@ -19,17 +19,13 @@ pub escape_again : (c : ℕ) (e t : List ℕ) → IsEscape c e → quoted_len 34
 unfolding quoted_len
 escape_again c e t h = rw (h.line t, h.reads t) (ap (more 1) (length_over 34 e t) ∙ (sym (more_more 1 (length e) (quoted_len 34 0 t)) ∙ ap (λ n. more n (quoted_len 34 0 t)) (omega arith)))
 
--- a byte that stands for itself
-itself_again : (q b : ℕ) (t : List ℕ) → IsChar q (itself b) t → quoted_len q 0 (b ∷ t) ≡ more 1 (quoted_len q 0 t)
-unfolding quoted_len
-itself_again q b t h = let n = or_parts (is_feed b) (is_return b && front is_feed t) h.1 in rw (h.0, n.0, h.2) refl
-
 doubled_again : (t : List ℕ) → quoted_len 39 0 (39 ∷ 39 ∷ t) ≡ more 2 (quoted_len 39 0 t)
 unfolding quoted_len
 doubled_again t = sym (more_more 1 1 (quoted_len 39 0 t))
 
 pub char_again : (q : ℕ) (c : Char) (t : List ℕ) → IsChar q c t → quoted_len q 0 (spell_char c ++ t) ≡ more (length (spell_char c)) (quoted_len q 0 t)
-char_again q (itself b) t h = itself_again q b t h
+unfolding quoted_len
+char_again q (itself b) t h = search (rules, or_parts)
 char_again q doubled t h = subst (λ (x : ℕ). quoted_len x 0 (39 ∷ 39 ∷ t) ≡ more 2 (quoted_len x 0 t)) (sym h) (doubled_again t)
 char_again q (letter_escape letter) t h =
     subst (λ (x : ℕ). quoted_len x 0 (92 ∷ letter ∷ t) ≡ more 2 (quoted_len x 0 t)) (sym h.0) (escape_again h.1.0 (letter ∷ []) t (letter_is_escape letter h.1.0 h.1.1))
@@ -38,9 +34,7 @@ char_again q (code letter digits) t h =
 
 -- one more piece in front
 in_front : (q : ℕ) (p r t : List ℕ) → quoted_len q 0 (p ++ (r ++ t)) ≡ more (length p) (quoted_len q 0 (r ++ t)) → quoted_len q 0 (r ++ t) ≡ more (length r) (quoted_len q 0 t) → quoted_len q 0 ((p ++ r) ++ t) ≡ more (length (p ++ r)) (quoted_len q 0 t)
-in_front q p r t first rest =
-    ap (quoted_len q 0) (append_assoc p r t) ∙ (first ∙ (ap (more (length p)) rest
-    ∙ (sym (more_more (length p) (length r) (quoted_len q 0 t)) ∙ ap (λ n. more n (quoted_len q 0 t)) (sym (length-append p r)))))
+in_front q p r t first rest = search (rules, append_assoc, more_more, length-append)
 
 pub chars_again : (q : ℕ) (cs : List Char) (t : List ℕ) → AreChars q cs t → quoted_len q 0 (spell_chars cs ++ t) ≡ more (length (spell_chars cs)) (quoted_len q 0 t)
 chars_again q [] t h = sym (more_none (quoted_len q 0 t))
@@ -61,30 +55,17 @@ unfolding quoted_len
 break_single line_feed t h = rw h refl
 break_single return_feed t h = rw h (sym (more_more 1 1 (quoted_len 39 0 t)))
 
-break_again : (q : ℕ) (b : Break) (t : List ℕ) → (q ≡ 34) ⊎ (q ≡ 39) → is_marker t ≡ false → quoted_len q 0 (spell_break b ++ t) ≡ more (length (spell_break b)) (quoted_len q 0 t)
-break_again q b t quotes h = of_quotes (λ x. quoted_len x 0 (spell_break b ++ t) ≡ more (length (spell_break b)) (quoted_len x 0 t)) q quotes (break_double b t h) (break_single b t h)
-
 slash_again : (b : Break) (t : List ℕ) → quoted_len 34 0 (92 ∷ (spell_break b ++ t)) ≡ more 1 (quoted_len 34 0 (spell_break b ++ t))
 unfolding quoted_len
 slash_again line_feed t = refl
 slash_again return_feed t = refl
 
 end_again : (q : ℕ) (escaped : Bool) (b : Break) (t : List ℕ) → (q ≡ 34) ⊎ (q ≡ 39) → (escaped ≡ true → q ≡ 34) → is_marker t ≡ false → quoted_len q 0 (spell_end escaped b ++ t) ≡ more (length (spell_end escaped b)) (quoted_len q 0 t)
-end_again q true b t quotes double h =
-    let own : quoted_len 34 0 (92 ∷ (spell_break b ++ t)) ≡ more (length (92 ∷ spell_break b)) (quoted_len 34 0 t) =
-    in_front 34 (92 ∷ []) (spell_break b) t (slash_again b t) (break_double b t h) in
-    subst (λ (x : ℕ). quoted_len x 0 (92 ∷ (spell_break b ++ t)) ≡ more (length (92 ∷ spell_break b)) (quoted_len x 0 t)) (sym (double refl)) own
-end_again q false b t quotes double h = break_again q b t quotes h
+end_again q escaped b t h1 h2 h3 = search (rules, of_quotes, break_double, break_single, in_front, slash_again)
 
 pub lines_again : (q : ℕ) (ls : Lines) (t : List ℕ) → (q ≡ 34) ⊎ (q ≡ 39) → AreLines q ls t → quoted_len q 0 (spell_lines ls ++ t) ≡ more (length (spell_lines ls)) (quoted_len q 0 t)
 lines_again q (last cs) t quotes h = chars_again q cs t h
-lines_again q (line cs escaped b ls) t quotes h =
-    let ending = end_again q escaped b (spell_lines ls ++ t) quotes h.1 h.2 in
-    let tail = in_front q (spell_end escaped b) (spell_lines ls) t ending (lines_again q ls t quotes h.3) in
-    let same : (spell_end escaped b ++ spell_lines ls) ++ t ≡ spell_end escaped b ++ (spell_lines ls ++ t) = append_assoc (spell_end escaped b) (spell_lines ls) t in
-    let chars = chars_again q cs (spell_end escaped b ++ (spell_lines ls ++ t)) h.0 in
-    in_front q (spell_chars cs) (spell_end escaped b ++ spell_lines ls) t
-    (subst (λ (u : List ℕ). quoted_len q 0 (spell_chars cs ++ u) ≡ more (length (spell_chars cs)) (quoted_len q 0 u)) (sym same) chars) tail
+lines_again q (line cs escaped b ls) t quotes h = search (rules, in_front, end_again, append_assoc, chars_again, lines_again q ls t quotes h.3)
 
 pub closed_here : (q : ℕ) (rest : List ℕ) → (eqb q 39 && front (λ b. eqb b 39) rest) ≡ false → quoted_len q 0 (q ∷ rest) ≡ Some 0
 unfolding quoted_len
@@ -111,11 +92,7 @@ push_spelled c (line cs escaped b ls) = append_assoc (spell_char c) (spell_chars
 
 push_are : (q : ℕ) (c : Char) (ls : Lines) (t : List ℕ) → IsChar q c (spell_lines ls ++ t) → AreLines q ls t → AreLines q (push c ls) t
 unfolding push
-push_are q c (last cs) t is h = (is, h)
-push_are q c (line cs escaped b ls) t is h =
-    let same : (spell_chars cs ++ (spell_end escaped b ++ spell_lines ls)) ++ t ≡ spell_chars cs ++ (spell_end escaped b ++ (spell_lines ls ++ t)) =
-    append_assoc (spell_chars cs) (spell_end escaped b ++ spell_lines ls) t ∙ ap (λ l. spell_chars cs ++ l) (append_assoc (spell_end escaped b) (spell_lines ls) t) in
-    ((subst (IsChar q c) same is, h.0), h.1, h.2, h.3)
+push_are q c ls t h1 h2 = search (rules, append_assoc)
 
 pub read_char : (q n m : ℕ) (c : Char) (t u : List ℕ) → u ≡ spell_char c ++ t → IsChar q c t → Read q t n → m ≡ length (spell_char c) + n → Read q u m
 read_char q n m c t u e is r size = record {

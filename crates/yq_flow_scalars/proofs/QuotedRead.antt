@@ -1,7 +1,6 @@
 -- Quoted scalars: the lines that are read.
-use Rattle.std.proofs.Common.{◌≡◌, ℕ, zero, suc, ◌+◌, ◌<◌, ◌≤◌, Bool, true, false, ◌&&◌, not, eqb, eqb-true, List, [], ◌∷◌, ◌++◌, length, drop, Some, None, refl, sym, ap, ◌∙◌, subst, inl, inr, ◌⊎◌, arith, length-append, length-drop}
+use Rattle.std.proofs.Common.{◌≡◌, ℕ, zero, suc, ◌+◌, ◌<◌, ◌≤◌, Bool, true, false, ◌&&◌, not, eqb, eqb-true, List, [], ◌∷◌, ◌++◌, length, drop, Some, None, refl, sym, ap, ◌∙◌, subst, inl, inr, ◌⊎◌, arith, length-append, length-drop, rules}
 use Rattle.std.proofs.lemmas.Bool.{false≢true, or_cases, not-true, not-false, and_parts, cases_Bool, or_parts}
-use Rattle.yq_flow_scalars.specs.Answers.{more}
 use Rattle.yq_flow_scalars.specs.Text.{is_break, is_feed, is_return, is_marker, front}
 use Rattle.yq_flow_scalars.specs.Quoted.{itself, doubled, IsChar, Break, line_feed, return_feed, spell_break, Lines, last, spell_lines, AreLines}
 use Rattle.yq_flow_scalars.specs.QuotedReading.{escape, behind, closes, quoted_len}
@@ -81,24 +80,13 @@ by_return q n t quotes h =
     record { kind = return_feed; rest = t; cut = refl; begins = x.0; m = x.1.m; read = x.1.rest; size = omega (arith, r.size, x.1.size) }
 
 break_back : (q n : ℕ) (t : List ℕ) → (q ≡ 34) ⊎ (q ≡ 39) → is_break t ≡ true → quoted_len q 0 t ≡ Some n → Broken q t n
-break_back q n [] quotes brk h = absurd (false≢true brk)
-break_back q n (b ∷ []) quotes brk h = elim (or_cases (is_feed b) (is_return b && false) brk) [
-  | inl e ↦ subst (λ (x : ℕ). quoted_len q 0 (x ∷ []) ≡ Some n → Broken q (x ∷ []) n) (sym (eqb-true b 10 e)) (by_feed q n [] quotes) h
-  | inr e ↦ absurd (false≢true (and_parts (is_return b) false e).1)
-]
-break_back q n (b ∷ c ∷ t) quotes brk h = elim (or_cases (is_feed b) (is_return b && is_feed c) brk) [
-  | inl e ↦ subst (λ (x : ℕ). quoted_len q 0 (x ∷ c ∷ t) ≡ Some n → Broken q (x ∷ c ∷ t) n) (sym (eqb-true b 10 e)) (by_feed q n (c ∷ t) quotes) h
-  | inr e ↦ let p = and_parts (is_return b) (is_feed c) e in
-      subst (λ (x : ℕ). quoted_len q 0 (x ∷ c ∷ t) ≡ Some n → Broken q (x ∷ c ∷ t) n) (sym (eqb-true b 13 p.0))
-      (subst (λ (y : ℕ). quoted_len q 0 (13 ∷ y ∷ t) ≡ Some n → Broken q (13 ∷ y ∷ t) n) (sym (eqb-true c 10 p.1)) (by_return q n t quotes)) h
-]
+break_back q n t h1 h2 h3 = search (rules, false≢true, or_cases, eqb-true, by_feed, and_parts, by_return)
 
 -- the quote that closes
 read_close : (q b n : ℕ) (bs : List ℕ) → closes q (b ∷ bs) ≡ true → quoted_len q 0 (b ∷ bs) ≡ Some n → Read q (b ∷ bs) n
 unfolding quoted_len
 read_close q b n bs e h =
     let p = and_parts (eqb b q) (not (eqb q 39 && front (λ c. eqb c 39) bs)) e in
-    let zero_is : Some 0 ≡ Some n = (rw e at h) in
     record {
       ls = last [];
       rest = bs;
@@ -214,5 +202,4 @@ lines_takes (suc fuel) q n (b ∷ bs) le quotes h = elim (cases_Bool (closes q (
 ]
 
 pub lines_are_read : (q : ℕ) (ls : Lines) (rest : List ℕ) → (q ≡ 34) ⊎ (q ≡ 39) → AreLines q ls (q ∷ rest) → (eqb q 39 && front (λ b. eqb b 39) rest) ≡ false → quoted_len q 0 (spell_lines ls ++ (q ∷ rest)) ≡ Some (length (spell_lines ls))
-lines_are_read q ls rest quotes are closed =
-    lines_again q ls (q ∷ rest) quotes are ∙ (ap (more (length (spell_lines ls))) (closed_here q rest closed) ∙ ap (λ (k : ℕ). Some k) (omega arith))
+lines_are_read q ls rest quotes are closed = search (rules, lines_again, closed_here)

@@ -1,20 +1,17 @@
 -- Bytes between quotes at which no scalar is closed.
-use Rattle.std.proofs.Common.{◌≡◌, ℕ, suc, ◌+◌, ◌<◌, ◌≤◌, true, false, eqb, length, get_or, Option, None, Some, List, [], ◌∷◌, drop, refl, sym, ap, ◌∙◌, inl, inr, subst, arith}
+use Rattle.std.proofs.Common.{◌≡◌, ℕ, suc, ◌+◌, ◌<◌, ◌≤◌, true, false, length, get_or, Option, None, Some, List, [], ◌∷◌, drop, refl, sym, ap, ◌∙◌, inl, inr, subst, arith, rules}
 use Rattle.std.proofs.lemmas.Bool.{and_right, cases_Bool, false≢true}
 use Rattle.std.specs.List.{prefix_len}
 use Rattle.yq_flow_scalars.specs.Answers.{more}
 use Rattle.yq_flow_scalars.specs.QuotedReading.{behind, closes, quoted_len}
 use Rattle.yq_flow_scalars.specs.Runs.{goes_on}
-use Rattle.yq_flow_scalars.specs.Text.{is_feed}
 use Rattle.yq_flow_scalars.specs.declared.runs.Run.TheVariants.{Quoted}
 use Rattle.yq_flow_scalars.proofs.Bools.{more_more, more_none, more_zero, none_of}
 use Rattle.yq_flow_scalars.proofs.Across.{rest_of, rest_is}
 
 quoted_step : (q b : ℕ) (bs : List ℕ) → goes_on (Quoted q) b ≡ true → quoted_len q 0 (b ∷ bs) ≡ more 1 (quoted_len q 0 bs)
 unfolding quoted_len
-quoted_step q b bs h =
-    let n = none_of (eqb b q) (eqb b 92) (is_feed b) h in
-    rw (n.0, n.1, n.2) (rw (and_right (eqb q 34) false refl) refl)
+quoted_step q b bs h = search (rules, none_of, and_right)
 
 quoted_over : (q : ℕ) (t : List ℕ) → quoted_len q 0 t ≡ more (prefix_len (goes_on (Quoted q)) t) (quoted_len q 0 (drop (prefix_len (goes_on (Quoted q)) t) t))
 quoted_over q [] = sym (more_none _)
@@ -31,16 +28,12 @@ quoted_over q (b ∷ bs) = elim (cases_Bool (goes_on (Quoted q) b)) [
 ]
 
 pub quoted_behind : (q : ℕ) (r s : List ℕ) (n k : ℕ) {z : Option ℕ} → k ≡ prefix_len (goes_on (Quoted q)) r → s ≡ drop k r → more n (quoted_len q 0 r) ≡ z → more (n + k) (quoted_len q 0 s) ≡ z
-quoted_behind q r s n k e back so_far =
-    rw back (more_more n k _ ∙ ap (more n) (sym (subst (λ (j : ℕ). quoted_len q 0 r ≡ more j (quoted_len q 0 (drop j r))) (sym e) (quoted_over q r))) ∙ so_far)
+quoted_behind q r s n k e back so_far = search (rules, more_more, quoted_over)
 
 -- where the scalar is closed behind a run, where the text ends, and where an escape is none
 pub closed_here : (q n : ℕ) (t : List ℕ) {z : Option ℕ} → closes q t ≡ true → more n (quoted_len q 0 t) ≡ z → Some n ≡ z
 unfolding quoted_len
-closed_here q n [] h e = absurd (false≢true h)
-closed_here q n (b ∷ bs) h e =
-    let here : quoted_len q 0 (b ∷ bs) ≡ Some 0 = rw h refl in
-    sym (more_zero n) ∙ ap (more n) (sym here) ∙ e
+closed_here q n t h1 h2 = search (rules, false≢true, more_zero)
 
 pub unclosed : (q n : ℕ) (t : List ℕ) {z : Option ℕ} → length t < 1 → more n (quoted_len q 0 t) ≡ z → None ≡ z
 unfolding quoted_len
@@ -52,5 +45,4 @@ unfolding quoted_len
 no_item q n [] le opened h e = absurd (omega arith)
 no_item q n (b ∷ bs) le opened h e =
     let none : behind q b bs ≡ None = ap (behind q b) (sym (rest_is b bs)) ∙ h in
-    let here : quoted_len q 0 (b ∷ bs) ≡ None = rw opened (rw none refl) in
-    ap (more n) (sym here) ∙ e
+    search (rules, none)

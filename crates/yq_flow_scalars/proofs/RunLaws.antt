@@ -1,5 +1,5 @@
 -- Runs of bytes: what lanes tell.
-use Rattle.std.proofs.Common.{◌≡◌, ℕ, suc, ◌+◌, ◌%◌, ◌^◌, ◌<◌, ◌≤◌, Bool, true, false, cond, ◌||◌, not, eqb, List, [], ◌∷◌, map, length, drop, Fits, w8, refl, sym, ap, ap₂, ◌∙◌, inl, inr, arith}
+use Rattle.std.proofs.Common.{◌≡◌, ℕ, ◌+◌, ◌%◌, ◌^◌, ◌<◌, ◌≤◌, Bool, true, false, cond, ◌||◌, not, eqb, List, [], ◌∷◌, map, length, drop, Fits, w8, refl, ap, ap₂, ◌∙◌, arith, rules}
 use Rattle.std.proofs.lemmas.Bool.{agree_below, agree_below_at, cases_Bool, cases_eq, eq-eqb, ne_eqb}
 use Rattle.std.proofs.lemmas.List.{length-map}
 use Rattle.std.proofs.lemmas.List.Folds.{prefix_len-append}
@@ -24,27 +24,14 @@ each_byte f p all (x ∷ xs) fits = ap₂ (λ a b. a ∷ b) (agree_below_at (λ 
 abbrev pub lane : Bool → ℕ
 lane b = cond b 255 0
 
-any_of : (a b c : Bool) → top 7 (bit_or (bit_or (lane a) (lane b)) (lane c)) ≡ (a || b || c)
-any_of true true true = refl
-any_of true true false = refl
-any_of true false true = refl
-any_of true false false = refl
-any_of false true true = refl
-any_of false true false = refl
-any_of false false true = refl
-any_of false false false = refl
-
 -- lanes that are any of three bytes
 pub any_byte : (a b c : ℕ) (v : List ℕ) → map (top 7) (map (λ x. bit_or (bit_or (lane (eqb x a)) (lane (eqb x b))) (lane (eqb x c))) v) ≡ map (λ x. eqb x a || eqb x b || eqb x c) v
 any_byte a b c [] = refl
-any_byte a b c (x ∷ xs) = ap₂ (λ y ys. y ∷ ys) (any_of (eqb x a) (eqb x b) (eqb x c)) (any_byte a b c xs)
+any_byte a b c (x ∷ xs) = search (rules, ap₂, any_byte a b c xs)
 
 -- a run that ends in sixteen bytes, and one that goes over them
 pub run_ends : (q : ℕ → Bool) (d : List ℕ) (i : ℕ) → i + 16 ≤ length d → prefix_len q (chunk i 16 d) < 16 → prefix_len q (drop i d) ≡ prefix_len q (chunk i 16 d)
-run_ends q d i room short =
-    let c = chunk i 16 d in
-    let other : eqb (prefix_len q c) (length c) ≡ false = ne_eqb _ _ (λ (e : prefix_len q c ≡ length c). omega (arith, e, length-chunk i 16 d room)) in
-    ap (prefix_len q) (chunk-drop i 16 d) ∙ prefix_len-append q c (drop (i + 16) d) ∙ rw other refl
+run_ends q d i room short = search (rules, ne_eqb, length-chunk, chunk-drop, prefix_len-append)
 
 pub run_over : (q : ℕ → Bool) (d : List ℕ) (i : ℕ) → i + 16 ≤ length d → 16 ≤ prefix_len q (chunk i 16 d) → prefix_len q (drop i d) ≡ 16 + prefix_len q (drop (i + 16) d)
 run_over q d i room whole =
@@ -62,16 +49,7 @@ pub spaces_run : (t : List ℕ) → prefix_len (goes_on Spaces) t ≡ prefix_len
 spaces_run [] = refl
 spaces_run (b ∷ bs) = ap₂ (λ c n. cond c (1 + n) 0) (not_not (eqb b 32)) (spaces_run bs)
 
-eqb_next : (n m : ℕ) → eqb (1 + n) (suc m) ≡ eqb n m
-eqb_next n m = elim (cases_eq n m) [
-  | inl e ↦ eq-eqb _ _ (omega (arith, e)) ∙ sym (eq-eqb n m e)
-  | inr d ↦ ne_eqb _ _ (λ (e : 1 + n ≡ suc m). d (omega (arith, e))) ∙ sym (ne_eqb n m d)
-]
-
 -- a run of bytes of a text goes over all of them
 pub text_run : (t : List ℕ) → eqb (prefix_len (goes_on Text) t) (length t) ≡ list_all is_text_byte t
 text_run [] = refl
-text_run (b ∷ bs) = elim (cases_Bool (is_text_byte b)) [
-  | inl i ↦ rw i (eqb_next (prefix_len (goes_on Text) bs) (length bs) ∙ text_run bs)
-  | inr i ↦ rw i (ne_eqb 0 (suc (length bs)) (λ (e : 0 ≡ suc (length bs)). omega arith))
-]
+text_run (b ∷ bs) = search (rules, cases_eq, eq-eqb, ne_eqb, cases_Bool, text_run bs)

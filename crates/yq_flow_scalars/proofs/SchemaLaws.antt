@@ -1,5 +1,5 @@
 -- The table of the core schema: the kind that is read is the one that the table gives.
-use Rattle.std.proofs.Common.{◌≡◌, ℕ, Bool, true, false, List, Option, Some, None, is_some, refl, sym, ap, ◌∙◌, inl, inr}
+use Rattle.std.proofs.Common.{◌≡◌, ℕ, Bool, true, false, List, Option, Some, None, is_some, refl, sym, ap, ◌∙◌, inl, inr, rules}
 use Rattle.std.proofs.lemmas.Bool.{false≢true, cases_Bool, false_from_ne_true}
 use Rattle.yq_flow_scalars.specs.declared.kind.Kind.{Kind}
 use Rattle.yq_flow_scalars.specs.declared.kind.Kind.TheVariants as kinds
@@ -39,11 +39,6 @@ resolve_takes t = elim (cases_Bool (is_one_of null_words t)) [
   ]
 ]
 
--- no word for null or for a bool is a number
-null_is_no_int : (t : List ℕ) → is_int t ≡ true → is_one_of null_words t ≡ false
-unfolding is_int
-null_is_no_int t h = false_from_ne_true _ (λ e. false≢true (sym (word_fails is_int null_words t refl (word_takes null_words t e)) ∙ h))
-
 bool_is_no_int : (t : List ℕ) → is_int t ≡ true → is_one_of bool_words t ≡ false
 unfolding is_int
 bool_is_no_int t h = false_from_ne_true _ (λ e. false≢true (sym (word_fails is_int bool_words t refl (word_takes bool_words t e)) ∙ h))
@@ -60,10 +55,10 @@ not_so : {P : Type 0} (b : Bool) → (b ≡ true → P) → (P → ⊥) → b �
 not_so b takes no_such = false_from_ne_true b (λ e. no_such (takes e))
 
 pub resolve_again : (t : List ℕ) (k : Kind) → Resolves t k → resolve t ≡ k
-unfolding resolve
+unfolding resolve is_int
 resolve_again t kinds.Null h = rw (word_again null_words t h) refl
 resolve_again t kinds.Bool h = rw (word_fails (is_one_of null_words) bool_words t refl h, word_again bool_words t h) refl
-resolve_again t kinds.Int h = let e = is_int_again t h in rw (null_is_no_int t e, bool_is_no_int t e, e) refl
+resolve_again t kinds.Int h = search (rules, false_from_ne_true, false≢true, word_fails, word_takes, is_int_again, bool_is_no_int)
 resolve_again t kinds.Float h =
     let e = float_again t h.0 in
     rw (null_is_no_float t e, bool_is_no_float t e, not_so (is_int t) (is_int_takes t) h.1, e) refl

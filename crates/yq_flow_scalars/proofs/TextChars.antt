@@ -1,5 +1,5 @@
 -- What bytes tell of characters, and what a search for the next CR tells.
-use Rattle.std.proofs.Common.{◌≡◌, ◌&&◌, ℕ, zero, suc, ◌+◌, ◌<◌, ◌≤◌, ◌/◌, Bool, true, false, eqb, List, [], ◌∷◌, length, drop, get_or, Some, None, refl, sym, ap, ◌∙◌, inl, inr, arith}
+use Rattle.std.proofs.Common.{◌≡◌, ◌&&◌, ℕ, zero, suc, ◌+◌, ◌<◌, ◌≤◌, ◌/◌, Bool, true, false, eqb, List, [], ◌∷◌, length, drop, get_or, Some, None, refl, sym, ap, ◌∙◌, inl, inr, arith, rules}
 use Rattle.std.proofs.lemmas.Bool.{lt-ltb, le-ltb, eqb-false, not-true, cases_lt, and_parts, and_from, false_from_ne_true}
 use Rattle.std.proofs.lemmas.List.Folds.{list_all-append}
 use Rattle.std.proofs.lemmas.Str.{scalars-chars, encodes-chars}
@@ -15,14 +15,10 @@ lead_ascii : (c : ℕ) → c < 128 → is_text_byte c ≡ true → is_text_char 
 lead_ascii c l h = grind arith
 
 lead_two : (c : ℕ) → 128 ≤ c → c < 2048 → is_text_byte (192 + c / 64) ≡ true → is_text_char c ≡ true
-lead_two c l m h =
-    let above : 192 ≤ c = omega (arith, eqb-false (192 + c / 64) 194 (not-true _ (grind arith))) in
-    grind arith
+lead_two c l m h = search (rules, eqb-false, not-true)
 
 lead_three : (c : ℕ) → scalar c ≡ true → 2048 ≤ c → c < 65536 → is_text_byte (224 + c / 4096) ≡ true → is_text_char c ≡ true
-lead_three c s l m h =
-    let below : c < 61440 = omega (arith, eqb-false (224 + c / 4096) 239 (not-true _ (grind arith))) in
-    grind arith
+lead_three c s l m h = search (rules, eqb-false, not-true)
 
 lead_four : (c : ℕ) → scalar c ≡ true → 65536 ≤ c → is_text_char c ≡ true
 lead_four c s l = grind arith
@@ -66,10 +62,7 @@ pub pairs_none : (t : List ℕ) → IsFirstByte (is_byte 13) t None → pairs_re
 pairs_none t h = no_return t (λ k l. false_from_ne_true _ (h k (omega arith) l))
 
 pairs_some : (t u : List ℕ) (i : ℕ) → IsFirstByte (is_byte 13) t (Some i) → u ≡ drop (i + 1) t → pairs_returns t ≡ (front is_feed u && pairs_returns u)
-pairs_some t u i h e =
-    let one : suc i ≡ i + 1 = omega arith in
-    let same : drop (suc i) t ≡ u = ap (λ (k : ℕ). drop k t) one ∙ sym e in
-    at_return t i h.0.high (λ k l. false_from_ne_true _ (h.0.before k (omega arith) l)) h.1 ∙ ap (λ (v : List ℕ). front is_feed v && pairs_returns v) same
+pairs_some t u i h e = search (rules, at_return, false_from_ne_true)
 
 -- a CR without an LF behind it
 pub pairs_alone : (t u : List ℕ) (i : ℕ) → IsFirstByte (is_byte 13) t (Some i) → u ≡ drop (i + 1) t → front is_feed u ≡ false → pairs_returns t ≡ false

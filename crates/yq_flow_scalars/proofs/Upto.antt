@@ -1,5 +1,5 @@
 -- How far it is to a rest that passes a test.
-use Rattle.std.proofs.Common.{◌≡◌, ℕ, suc, ◌+◌, ◌≤◌, Bool, true, false, cond, not, List, [], ◌∷◌, ◌++◌, length, take, drop, refl, sym, ap, arith}
+use Rattle.std.proofs.Common.{◌≡◌, ℕ, suc, ◌≤◌, Bool, true, List, [], ◌∷◌, ◌++◌, length, take, drop, refl, sym, ap, arith, rules}
 use Rattle.std.proofs.lemmas.Bool.{cond_both}
 use Rattle.std.proofs.lemmas.List.{take-append-drop}
 use Rattle.std.proofs.Math.Seq.{take-append_seam, drop-append_seam}
@@ -9,15 +9,13 @@ use Rattle.yq_flow_scalars.specs.Text.{upto, cut, NoneIn, unless}
 pub upto_le_length : (ends : List ℕ → Bool) (t : List ℕ) → upto ends t ≤ length t
 unfolding upto
 upto_le_length ends [] = omega arith
-upto_le_length ends (b ∷ bs) = let h = upto_le_length ends bs in
-    cond_both (ends (b ∷ bs)) 0 (suc (upto ends bs)) (λ n. n ≤ length (b ∷ bs)) (λ _. omega arith) (λ _. omega arith)
+upto_le_length ends (b ∷ bs) = search (rules, cond_both, upto_le_length ends bs)
 
 -- the rest there passes, unless it is the end
 pub upto_ends : (ends : List ℕ → Bool) (t : List ℕ) → ends [] ≡ true → ends (drop (upto ends t) t) ≡ true
 unfolding upto
 upto_ends ends [] e = e
-upto_ends ends (b ∷ bs) e =
-    cond_both (ends (b ∷ bs)) 0 (suc (upto ends bs)) (λ n. ends (drop n (b ∷ bs)) ≡ true) (λ h. h) (λ _. upto_ends ends bs e)
+upto_ends ends (b ∷ bs) e = search (rules, cond_both, upto_ends ends bs e)
 
 pub none_in_cut : (ends : List ℕ → Bool) (t : List ℕ) → NoneIn ends (take (upto ends t) t) (drop (upto ends t) t)
 unfolding upto
@@ -40,8 +38,7 @@ cut_takes ends t = sym (take-append-drop (upto ends t) t)
 pub upto_unless : (p : ℕ → Bool) (t : List ℕ) → upto (unless p) t ≡ prefix_len p t
 unfolding upto
 upto_unless p [] = refl
-upto_unless p (b ∷ bs) = let again = upto_unless p bs in
-    elim (p b) as (λ c. cond (not c) 0 (suc (upto (unless p) bs)) ≡ cond c (1 + prefix_len p bs) 0) [ true ↦ omega arith | false ↦ refl ]
+upto_unless p (b ∷ bs) = search (rules, upto_unless p bs)
 
 -- steps of a loop
 pub upto_here : (ends : List ℕ → Bool) (t : List ℕ) → ends t ≡ true → upto ends t ≡ 0

@@ -20,6 +20,7 @@ pub fn one_inline()
 {}
 
 /// The tree of an inline node with its places is that of its pieces.
+#[tactic(auto, using(yq_nodes::proofs::TreeLaws::node_tree))]
 pub fn one_tree()
     ensures { (total : ℕ) (node : Node) (rest : List ℕ) →
         placed_tree (locate total node rest) ≡ tree_of node }

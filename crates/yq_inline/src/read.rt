@@ -51,7 +51,7 @@ fn inline_at<'t>(
 /// The node is something, if only an anchor. Outside flow collections what an anchor stands before is on
 /// the anchor's line. A node with which more than 64 collections would be
 /// nested is refused, before it is read.
-#[tactic(auto, using(yq_nodes::proofs::InlineLaws::found_by, yq_nodes::proofs::InlineLaws::only_by, yq_nodes::proofs::SpanLaws::spans_by, yq_nodes::proofs::NestedLaws::nested_by))]
+#[tactic(auto, using(yq_nodes::proofs::InlineLaws::inline_laws, yq_nodes::proofs::SpanLaws::spans_by, yq_nodes::proofs::NestedLaws::nested_by))]
 pub fn read_inline<'t>(
     alloc: Global,
     text: &'t str,

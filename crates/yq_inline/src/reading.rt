@@ -84,7 +84,7 @@ fn put_anchor<'t>(
 
 /// The node in front, with at most `depth` collections nested, and what follows it.
 #[cycle(nodes)]
-#[tactic(auto, using(yq_nodes::proofs::Steps::node_plain, yq_nodes::proofs::Steps::node_fails, yq_nodes::proofs::Steps::node_gives, yq_nodes::proofs::Steps::node_no_name, yq_nodes::proofs::Steps::node_no_lead))]
+#[tactic(auto, using(yq_nodes::proofs::Steps::node_steps))]
 pub fn read_node<'t>(
     alloc: Global,
     flow: bool,

@@ -287,3 +287,8 @@ entries_none d t h e = entries_are d t h ∙ ap (λ o. o >>= λ r. past (placed_
 
 pub entries_some : (d : ℕ) (t r : List ℕ) → first_is 125 t ≡ false → past (placed_entry 0 d t) ≡ Some r → past (placed_items 0 d 125 t) ≡ past (placed_items 0 d 125 r)
 entries_some d t r h e = entries_are d t h ∙ ap (λ o. o >>= λ r. past (placed_items 0 d 125 r)) e
+
+-- the steps of measuring a node, and a node without an anchor
+pub ruleset node_steps = (node_content, node_nameless, node_leadless, node_none, node_apart, node_some)
+
+pub ruleset content_steps = (named_none, named_some, sequence_none, sequence_some, mapping_none, mapping_some, scalar_none, scalar_some, nothing_here)

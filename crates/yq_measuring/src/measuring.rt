@@ -77,7 +77,7 @@ fn unanchored(kind: NodeKind, rest: &str) -> Measured<'_>
 
 /// The node in front, with at most `depth` collections nested.
 #[cycle(ends)]
-#[tactic(auto, using(crate::proofs::MeasureSteps::node_content, crate::proofs::MeasureSteps::node_nameless, crate::proofs::MeasureSteps::node_leadless, crate::proofs::MeasureSteps::node_none, crate::proofs::MeasureSteps::node_apart, crate::proofs::MeasureSteps::node_some))]
+#[tactic(auto, using(crate::proofs::MeasureSteps::node_steps))]
 pub fn measure_node<'t>(
     flow: bool,
     spaces: Option<usize>,
@@ -108,7 +108,7 @@ pub fn measure_node<'t>(
 
 /// The node in front, which has no anchor.
 #[cycle(ends)]
-#[tactic(auto, using(crate::proofs::MeasureSteps::named_none, crate::proofs::MeasureSteps::named_some, crate::proofs::MeasureSteps::sequence_none, crate::proofs::MeasureSteps::sequence_some, crate::proofs::MeasureSteps::mapping_none, crate::proofs::MeasureSteps::mapping_some, crate::proofs::MeasureSteps::scalar_none, crate::proofs::MeasureSteps::scalar_some, crate::proofs::MeasureSteps::nothing_here))]
+#[tactic(auto, using(crate::proofs::MeasureSteps::content_steps))]
 fn measure_content<'t>(
     flow: bool,
     spaces: Option<usize>,

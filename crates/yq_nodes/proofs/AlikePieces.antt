@@ -1,11 +1,11 @@
 -- A piece of a node before one text is one before a text that is alike.
-use Rattle.std.proofs.Common.{◌≡◌, ◌⊎◌, inl, inr, ℕ, Bool, true, false, eqb, List, [], ◌∷◌, ◌++◌, Option, Some, None, refl, sym, ap, ◌∙◌, not, ◌&&◌, ◌||◌}
+use Rattle.std.proofs.Common.{◌≡◌, ◌⊎◌, inl, inr, ℕ, Bool, true, false, eqb, List, [], ◌∷◌, ◌++◌, Option, Some, None, refl, sym, ap, ◌∙◌, not, ◌&&◌, ◌||◌, rules}
 use Rattle.std.proofs.Math.Bool.{and-false}
-use Rattle.yq_flow_scalars.specs.Quoted.{Char, itself, doubled, escape, code, spell_chars, IsChar, AreChars, Lines, last, line, spell_end, spell_lines, AreLines, IsQuoted}
+use Rattle.yq_flow_scalars.specs.Quoted.{Char, spell_chars, IsChar, AreChars, Lines, last, line, spell_end, spell_lines, AreLines, IsQuoted}
 use Rattle.yq_flow_scalars.specs.Text.{NoneIn, front, unless, is_break}
 use Rattle.yq_nodes.specs.declared.gap.Before.{Before}
 use Rattle.yq_nodes.specs.declared.gap.Before.TheVariants.{Token, White, Break, Comment}
-use Rattle.yq_nodes.specs.Gaps.{goes, next, behind, is_break as at_break, AllGo, stops, IsInlineGap}
+use Rattle.yq_nodes.specs.Gaps.{goes, next, AllGo, stops, IsInlineGap}
 use Rattle.yq_nodes.specs.Nodes.{in_name, IsName}
 use Rattle.yq_nodes.specs.Alike.{is_stop, Alike, stop, colon, any_colon, byte, after}
 use Rattle.yq_nodes.specs.Scalars.{IsScalarAt}
@@ -13,10 +13,7 @@ use Rattle.yq_nodes.proofs.Alikes.{alike_append, alike_front, alike_unless, stop
 
 -- quoted scalars
 char_alike : (f : Option Bool) (q : ℕ) (c : Char) (t u : List ℕ) → Alike f t u → IsChar q c t → IsChar q c u
-char_alike f q (itself b) t u h g = (g.0, sym (alike_break f (b ∷ t) (b ∷ u) (after h)) ∙ g.1, g.2)
-char_alike f q doubled t u h g = g
-char_alike f q (escape letter) t u h g = g
-char_alike f q (code letter digits) t u h g = g
+char_alike f q c t u h1 h2 = search (rules, alike_break)
 
 chars_alike : (f : Option Bool) (q : ℕ) (cs : List Char) (t u : List ℕ) → Alike f t u → AreChars q cs t → AreChars q cs u
 chars_alike f q [] t u h g = tt
@@ -80,10 +77,7 @@ all_go_alike f before [] t u h g = tt
 all_go_alike f before (b ∷ p) t u h g = (sym (goes_alike f before b (p ++ t) (p ++ u) (alike_append f p t u h)) ∙ g.0, all_go_alike f (next before b) p t u h g.1)
 
 byte_stops : (before : Before) (b : ℕ) (t u : List ℕ) → is_break (b ∷ t) ≡ is_break (b ∷ u) → stops before (b ∷ t) ≡ stops before (b ∷ u)
-byte_stops Token b t u e = rw e refl
-byte_stops White b t u e = rw e refl
-byte_stops Break b t u e = rw e refl
-byte_stops Comment b t u e = refl
+byte_stops before b t u h1 = search rules
 
 stops_alike : (f : Option Bool) (before : Before) (t u : List ℕ) → Alike f t u → stops before t ≡ stops before u
 stops_alike _ before _ _ (stop {f} {b} {t} {u} x) = byte_stops before b t u (stop_break b t x ∙ sym (stop_break b u x))
@@ -93,8 +87,4 @@ stops_alike _ before _ _ (byte {f} {b} {t} {u} v w x y) = byte_stops before b t 
 stops_alike _ before _ _ (after {f} {b} {t} {u} h) = ap not (goes_alike f before b t u h)
 
 pub gap_alike : (f : Option Bool) (p t u : List ℕ) → Alike f t u → IsInlineGap p t → IsInlineGap p u
-gap_alike f p t u h g = record {
-  inside = all_go_alike f Token p t u h g.inside;
-  ends = sym (stops_alike f (behind Token p) t u h) ∙ g.ends;
-  unmarked = ap (λ b. at_break (behind Token p) && b) (sym (alike_marker f t u h)) ∙ g.unmarked;
-}
+gap_alike f p t u h g = search (rules, all_go_alike, stops_alike, alike_marker)

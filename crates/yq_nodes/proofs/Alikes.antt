@@ -1,5 +1,5 @@
 -- Two texts that are the same up to a byte behind which nobody looks: the tests of what is in front.
-use Rattle.std.proofs.Common.{◌≡◌, inl, inr, ℕ, Bool, true, false, eqb, List, [], ◌∷◌, ◌++◌, Option, Some, None, refl, sym, ap, ◌∙◌}
+use Rattle.std.proofs.Common.{◌≡◌, inl, inr, ℕ, Bool, true, false, eqb, List, [], ◌∷◌, ◌++◌, Option, Some, None, refl, sym, ap, ◌∙◌, rules}
 use Rattle.std.proofs.Math.Bool.{and-false}
 use Rattle.std.proofs.lemmas.Bool.{cases_Bool, or_parts}
 use Rattle.std.specs.List.{prefix_len}
@@ -16,32 +16,16 @@ alike_append f (b ∷ p) t u h = after (alike_append f p t u h)
 
 -- each test of what stands in front
 pub alike_front : (p : ℕ → Bool) (f : Option Bool) (t u : List ℕ) → Alike f t u → front p t ≡ front p u
-alike_front p _ _ _ (stop {f} {b} {t} {u} x) = refl
-alike_front p _ _ _ (colon {flow} {t} {u} x y) = refl
-alike_front p _ _ _ (any_colon {t} {u}) = refl
-alike_front p _ _ _ (byte {f} {b} {t} {u} v w x y) = refl
-alike_front p _ _ _ (after {f} {b} {t} {u} h) = refl
+alike_front p f t u h1 = search rules
 
 pub alike_unless : (p : ℕ → Bool) (f : Option Bool) (t u : List ℕ) → Alike f t u → unless p t ≡ unless p u
-alike_unless p _ _ _ (stop {f} {b} {t} {u} x) = refl
-alike_unless p _ _ _ (colon {flow} {t} {u} x y) = refl
-alike_unless p _ _ _ (any_colon {t} {u}) = refl
-alike_unless p _ _ _ (byte {f} {b} {t} {u} v w x y) = refl
-alike_unless p _ _ _ (after {f} {b} {t} {u} h) = refl
+alike_unless p f t u h1 = search rules
 
 pub alike_first : (k : ℕ) (f : Option Bool) (t u : List ℕ) → Alike f t u → first_is k t ≡ first_is k u
-alike_first k _ _ _ (stop {f} {b} {t} {u} x) = refl
-alike_first k _ _ _ (colon {flow} {t} {u} x y) = refl
-alike_first k _ _ _ (any_colon {t} {u}) = refl
-alike_first k _ _ _ (byte {f} {b} {t} {u} v w x y) = refl
-alike_first k _ _ _ (after {f} {b} {t} {u} h) = refl
+alike_first k f t u h1 = search rules
 
 pub alike_empty : (f : Option Bool) (t u : List ℕ) → Alike f t u → is_empty t ≡ is_empty u
-alike_empty _ _ _ (stop {f} {b} {t} {u} x) = refl
-alike_empty _ _ _ (colon {flow} {t} {u} x y) = refl
-alike_empty _ _ _ (any_colon {t} {u}) = refl
-alike_empty _ _ _ (byte {f} {b} {t} {u} v w x y) = refl
-alike_empty _ _ _ (after {f} {b} {t} {u} h) = refl
+alike_empty f t u h1 = search rules
 
 pub stop_break : (b : ℕ) (t : List ℕ) → is_stop b ≡ true → is_break (b ∷ t) ≡ false
 stop_break b t h = rw (at_byte is_stop b 10 h refl, at_byte is_stop b 13 h refl) refl
@@ -57,20 +41,14 @@ pub alike_space : (f : Option Bool) (t u : List ℕ) → Alike f t u → is_spac
 alike_space f t u h = rw (alike_front is_white f t u h, alike_break f t u h) refl
 
 pub alike_separates : (f : Option Bool) (t u : List ℕ) → Alike f t u → separates t ≡ separates u
-alike_separates _ _ _ (stop {f} {b} {t} {u} x) = alike_space f (b ∷ t) (b ∷ u) (stop {f = f} x)
-alike_separates _ _ _ (colon {flow} {t} {u} x y) = refl
-alike_separates _ _ _ (any_colon {t} {u}) = refl
-alike_separates _ _ _ (byte {f} {b} {t} {u} v w x y) = v ∙ sym w
-alike_separates _ _ _ (after {f} {b} {t} {u} h) = alike_space f (b ∷ t) (b ∷ u) (after h)
+alike_separates f t u h1 = search (rules, alike_space)
 
 alike_safe : (flow : Bool) (f : Option Bool) (t u : List ℕ) → Alike f t u → is_safe flow t ≡ is_safe flow u
 alike_safe flow f t u h = rw (alike_separates f t u h, alike_front is_flow_indicator f t u h) refl
 
 -- markers
 pub no_first : (b : ℕ) (t : List ℕ) → eqb b 45 ≡ false → eqb b 46 ≡ false → is_marker (b ∷ t) ≡ false
-no_first b [] x y = refl
-no_first b (c ∷ []) x y = refl
-no_first b (c ∷ (d ∷ t)) x y = rw (x, y) refl
+no_first b t h1 h2 = search rules
 
 pub no_second : (a b : ℕ) (t : List ℕ) → eqb b 45 ≡ false → eqb b 46 ≡ false → is_marker (a ∷ (b ∷ t)) ≡ false
 no_second a b [] x y = refl
@@ -88,8 +66,7 @@ sep_second a b [] h = refl
 sep_second a b (c ∷ t) h = no_third a b c t (at_byte (λ x. separates (x ∷ t)) c 45 h refl) (at_byte (λ x. separates (x ∷ t)) c 46 h refl)
 
 pub alike_marker : (f : Option Bool) (t u : List ℕ) → Alike f t u → is_marker t ≡ is_marker u
-alike_marker _ _ _ (stop {f} {b} {t} {u} x) =
-    let p = at_byte is_stop b 45 x refl in let q = at_byte is_stop b 46 x refl in no_first b t p q ∙ sym (no_first b u p q)
+alike_marker _ _ _ (stop {f} {b} {t} {u} x) = search (rules, at_byte, no_first, sep_first, no_second, sep_second, no_third, alike_separates)
 alike_marker _ _ _ (colon {flow} {t} {u} x y) = no_first 58 t refl refl ∙ sym (no_first 58 u refl refl)
 alike_marker _ _ _ (any_colon {t} {u}) = no_first 58 t refl refl ∙ sym (no_first 58 u refl refl)
 alike_marker _ _ _ (byte {f} {b} {t} {u} v w x y) = sep_first b t x ∙ sym (sep_first b u y)
@@ -109,9 +86,7 @@ pub alike_spaces : (f : Option Bool) (t u : List ℕ) → Alike f t u → prefix
 alike_spaces _ _ _ (stop {f} {b} {t} {u} x) = rw (at_byte is_stop b 32 x refl) refl
 alike_spaces _ _ _ (colon {flow} {t} {u} x y) = refl
 alike_spaces _ _ _ (any_colon {t} {u}) = refl
-alike_spaces _ _ _ (byte {f} {b} {t} {u} v w x y) =
-    let none : eqb b 32 ≡ false = (or_parts (eqb b 32) (eqb b 9) (or_parts (is_white b) (is_break (b ∷ t)) v).0).0 in
-    rw none refl
+alike_spaces _ _ _ (byte {f} {b} {t} {u} v w x y) = search (rules, at_byte, or_parts)
 alike_spaces _ _ _ (after {f} {b} {t} {u} h) = rw (alike_spaces f t u h) refl
 
 -- where plain scalars begin and end
@@ -161,9 +136,7 @@ alike_cut flow _ _ (after {b = b} {t = t} {u = u} h) =
 pub alike_ends : (spaces : Option ℕ) (flow : Bool) (t u : List ℕ) → Alike (Some flow) t u → ends_plain flow spaces t ≡ ends_plain flow spaces u
 alike_ends spaces flow t u h =
     let c = alike_cut flow t u h in
-    let on : follows flow spaces (cut no_gap t).0 (cut no_gap t).1 ≡ follows flow spaces (cut no_gap u).0 (cut no_gap u).1 =
-    rw c.0 (alike_follows spaces (cut no_gap u).0 flow (cut no_gap t).1 (cut no_gap u).1 c.1) in
-    rw (alike_space (Some flow) t u h, on, alike_empty (Some flow) t u h, alike_text flow t u h) refl
+    search (rules, alike_space, alike_empty, alike_text, alike_follows, c)
 
 pub alike_none : (ends : List ℕ → Bool) (f : Option Bool) → ((t u : List ℕ) → Alike f t u → ends t ≡ ends u) → (p t u : List ℕ) → Alike f t u → NoneIn ends p t → NoneIn ends p u
 alike_none ends f same [] t u h n = tt

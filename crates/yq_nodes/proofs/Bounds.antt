@@ -1,11 +1,11 @@
 -- Where a text may be cut.
-use Rattle.std.proofs.Common.{◌≡◌, ◌⊎◌, ℕ, zero, suc, ◌+◌, ◌<◌, true, false, cond, not, ◌||◌, eqb, List, [], ◌∷◌, length, take, get_or, refl, sym, ap, ◌∙◌, subst, inl, inr, ⊎_elim, arith, eqb-true}
+use Rattle.std.proofs.Common.{◌≡◌, ◌⊎◌, ℕ, suc, ◌+◌, ◌<◌, true, false, cond, not, ◌||◌, eqb, List, [], ◌∷◌, length, take, get_or, refl, sym, ap, subst, inl, inr, ⊎_elim, arith, eqb-true, rules}
 use Rattle.std.proofs.lemmas.Bool.{false≢true, cond_both, or_cases, cases_lt, false_from_ne_true}
 use Rattle.std.proofs.lemmas.Str.{IsCharBoundary-start, IsCharBoundary-end, IsCharBoundary-after_ascii}
 use Rattle.std.specs.List.{prefix_len}
 use Rattle.std.specs.Str.{IsUtf8, IsCharBoundary}
 use Rattle.yq_flow_scalars.specs.Quoted.{IsQuotedText}
-use Rattle.yq_flow_scalars.specs.Text.{unless, is_space}
+use Rattle.yq_flow_scalars.specs.Text.{unless}
 use Rattle.yq_flow_scalars.proofs.Boundaries.{boundary_ends, space_ascii}
 use Rattle.yq_flow_scalars.proofs.Upto.{upto_unless}
 use Rattle.yq_nodes.specs.declared.gap.Before.{Before}
@@ -21,14 +21,8 @@ data Ends (t : List ℕ) (n : ℕ) : Type 0 where
   at_end : n ≡ length t → Ends t n
   behind_ascii : (k : ℕ) → n ≡ k + 1 → k < length t → get_or t k 0 < 128 → Ends t n
 
-space_or_hash : (b : ℕ) (bs : List ℕ) → (is_space (b ∷ bs) || eqb b 35) ≡ true → b < 128
-space_or_hash b bs h = ⊎_elim (λ e. space_ascii b bs e) (λ e. omega (arith, eqb-true b 35 e)) (or_cases (is_space (b ∷ bs)) (eqb b 35) h)
-
 goes_ascii : (s : Before) (b : ℕ) (bs : List ℕ) → goes s b bs ≡ true → (is_comment s ≡ true) ⊎ (b < 128)
-goes_ascii Comment b bs h = inl refl
-goes_ascii Token b bs h = inr (space_ascii b bs h)
-goes_ascii White b bs h = inr (space_or_hash b bs h)
-goes_ascii Break b bs h = inr (space_or_hash b bs h)
+goes_ascii s b bs h1 = search (rules, ⊎_elim, space_ascii, eqb-true, or_cases)
 
 after_comment : (s : Before) (b : ℕ) → is_comment s ≡ true → (b < 128) ⊎ (next s b ≡ Comment)
 after_comment s b h = elim (eqb b 10) as (λ c. eqb b 10 ≡ c → (b < 128) ⊎ (cond c Break (cond (eqb b 35 || is_comment s) Comment White) ≡ Comment)) [
@@ -68,25 +62,13 @@ pub boundary_first : (t : List ℕ) (k : ℕ) → k < 128 → first_is k t ≡ t
 boundary_first [] k low h u = absurd (false≢true h)
 boundary_first (b ∷ t) k low h u = IsCharBoundary-after_ascii (b ∷ t) 0 u (omega arith) (omega (arith, eqb-true b k h))
 
-name_ascii : (b : ℕ) (bs : List ℕ) → unless in_name (b ∷ bs) ≡ true → b < 128
-name_ascii b bs h = ⊎_elim (λ lt. lt) (λ le.
-    let isnt : (k : ℕ) → k < 128 → eqb b k ≡ false = λ k small. false_from_ne_true (eqb b k) (λ e. absurd (omega (arith, eqb-true b k e))) in
-    let inside : unless in_name (b ∷ bs) ≡ false = rw (isnt 32 (omega arith), isnt 9 (omega arith), isnt 10 (omega arith), isnt 13 (omega arith), isnt 44 (omega arith), isnt 91 (omega arith), isnt 93 (omega arith), isnt 123 (omega arith), isnt 125 (omega arith)) refl in
-    absurd (false≢true (sym inside ∙ h)))
-    (cases_lt b 128)
-
 pub boundary_name : (t : List ℕ) (n : ℕ) → n ≡ prefix_len in_name t → IsCharBoundary t n
-boundary_name t n e = rw e (rw (← upto_unless) (boundary_ends (unless in_name) t name_ascii refl))
+boundary_name t n e = search (rules, ⊎_elim, false_from_ne_true, eqb-true, false≢true, cases_lt, upto_unless, boundary_ends)
 
 pub name_none : (t : List ℕ) → unless in_name t ≡ eqb (prefix_len in_name t) 0
 name_none [] = refl
 name_none (b ∷ t) = elim (in_name b) as (λ c. not c ≡ eqb (cond c (1 + prefix_len in_name t) 0) 0) [ true ↦ sym (false_from_ne_true (eqb (1 + prefix_len in_name t) 0) (λ e. absurd (omega (arith, eqb-true (1 + prefix_len in_name t) 0 e)))) | false ↦ refl ]
 
-quoted_take : (n : ℕ) (t : List ℕ) → is_quoted (take n t) ≡ true → is_quoted t ≡ true
-quoted_take zero t h = absurd (false≢true h)
-quoted_take (suc n) [] h = absurd (false≢true h)
-quoted_take (suc n) (b ∷ t) h = h
-
 -- a cut of a text without a quote in front has none
 pub plain_unquoted : (t : List ℕ) (n : ℕ) → is_quoted t ≡ false → is_quoted (take n t) ≡ true → IsQuotedText (take n t)
-plain_unquoted t n e h = absurd (false≢true (sym e ∙ quoted_take n t h))
+plain_unquoted t n e h = search (rules, false≢true)

@@ -1,15 +1,8 @@
 -- Where nodes, items and entries begin and end.
-use Rattle.std.proofs.Common.{◌≡◌, ℕ, ◌-◌, List, length, refl, ◌∙◌}
+use Rattle.std.proofs.Common.{◌≡◌, ℕ, ◌-◌, List, length, refl, rules}
 use Rattle.yq_nodes.specs.Entries.{EntryPieces, start_of, end_of, entry_start, locate_entry, pieces_text}
-use Rattle.yq_nodes.specs.Nodes.{Key, bare, keyed, Node, empty, alias, scalar, coll, anchored, key_text, node_text}
-use Rattle.yq_nodes.specs.Places.{Placed, placed, with_anchor, locate}
-
--- where a node begins and ends
-pub start_anchor : (n : List ℕ) (start : ℕ) (p : Placed) → start_of (with_anchor n start p) ≡ start
-start_anchor n start (placed a s c e f) = refl
-
-pub end_anchor : (n : List ℕ) (start : ℕ) (p : Placed) → end_of (with_anchor n start p) ≡ end_of p
-end_anchor n start (placed a s c e f) = refl
+use Rattle.yq_nodes.specs.Nodes.{Node, empty, alias, scalar, coll, anchored, node_text}
+use Rattle.yq_nodes.specs.Places.{locate}
 
 pub start_placed : (total : ℕ) (n : Node) (rest : List ℕ) → start_of (locate total n rest) ≡ total - length (node_text n rest)
 unfolding locate
@@ -17,7 +10,7 @@ start_placed total empty rest = refl
 start_placed total (alias n) rest = refl
 start_placed total (scalar p) rest = refl
 start_placed total (coll k g is) rest = refl
-start_placed total (anchored n g node) rest = start_anchor n _ (locate total node rest)
+start_placed total (anchored n g node) rest = search rules
 
 pub end_placed : (total : ℕ) (n : Node) (rest : List ℕ) → end_of (locate total n rest) ≡ total - length rest
 unfolding locate
@@ -25,11 +18,8 @@ end_placed total empty rest = refl
 end_placed total (alias n) rest = refl
 end_placed total (scalar p) rest = refl
 end_placed total (coll k g is) rest = refl
-end_placed total (anchored n g node) rest = end_anchor n _ (locate total node rest) ∙ end_placed total node rest
+end_placed total (anchored n g node) rest = search (rules, end_placed total node rest)
 
 -- where an item or entry begins
 pub entry_placed : (total : ℕ) (x : EntryPieces) → entry_start (locate_entry total x) ≡ total - length (pieces_text x)
-entry_placed total x = go x.key where
-  go : (key : Key) → entry_start (locate_entry total (record { key = key; node = x.node; rest = x.rest })) ≡ total - length (key_text key (node_text x.node x.rest))
-  go bare = start_placed total x.node x.rest
-  go (keyed p b g) = refl
+entry_placed total x = search (rules, start_placed)

@@ -1,13 +1,13 @@
 -- What stands behind an item, and plain scalars before it.
-use Rattle.std.proofs.Common.{◌≡◌, ◌⊎◌, inl, inr, ⊎_elim, ℕ, Bool, true, false, not, ◌&&◌, ◌||◌, eqb, List, [], ◌∷◌, ◌++◌, Option, Some, None, refl, sym, ap, ◌∙◌, subst, cond, arith, eqb-true}
+use Rattle.std.proofs.Common.{◌≡◌, ◌⊎◌, inl, inr, ⊎_elim, ℕ, Bool, true, false, not, ◌&&◌, ◌||◌, eqb, List, [], ◌∷◌, ◌++◌, Option, Some, None, refl, sym, ap, ◌∙◌, subst, cond, arith, eqb-true, rules}
 use Rattle.std.proofs.lemmas.Bool.{false≢true, or_cases, or_right, not-false, not-true, false_from_ne_true, and_from, le-leb, and_parts, cases_Bool}
 use Rattle.std.proofs.lemmas.Option.{cond_some}
 use Rattle.std.specs.Option.{option_or}
-use Rattle.yq_flow_scalars.specs.Plain.{begins_plain, ends_plain, ends_text, is_flow_indicator, is_safe, no_gap, last_line, may_follow, follows, IsPlain}
-use Rattle.yq_flow_scalars.specs.Text.{upto, cut, NoneIn, front, unless, is_empty, is_white, is_feed, is_return, is_break, is_space, is_marker}
+use Rattle.yq_flow_scalars.specs.Plain.{begins_plain, ends_plain, ends_text, is_safe, no_gap, last_line, may_follow, follows, IsPlain}
+use Rattle.yq_flow_scalars.specs.Text.{upto, cut, NoneIn, front, unless, is_empty, is_feed, is_space}
 use Rattle.yq_flow_scalars.proofs.Bools.{at_byte}
 use Rattle.yq_nodes.specs.declared.gap.Before.{Before}
-use Rattle.yq_nodes.specs.declared.gap.Before.TheVariants.{Token, White, Break, Comment}
+use Rattle.yq_nodes.specs.declared.gap.Before.TheVariants.{White, Break}
 use Rattle.yq_nodes.specs.Alike.{EndsItem, fresh, KeepsApart}
 use Rattle.yq_nodes.specs.Gaps.{goes, next, is_comment, AllGo, IsInlineGap}
 use Rattle.yq_nodes.specs.Nodes.{in_name, begins_node, is_close}
@@ -37,29 +37,14 @@ pub ends_safe : (k : ℕ) (t : List ℕ) → is_close k ≡ true → EndsItem k 
 ends_safe k t h e = ends_by (λ t. is_safe true t ≡ false) k t h e (λ r. refl) (λ r. refl) (λ r. refl) (λ b r s. rw s refl)
 
 space_name : (b : ℕ) (r : List ℕ) → is_space (b ∷ r) ≡ true → unless in_name (b ∷ r) ≡ true
-space_name b r s = go (is_white b) (is_feed b) (is_return b) (is_flow_indicator b) (front is_feed r) s where
-  go : (w f c i m : Bool) → (w || (f || (c && m))) ≡ true → not (not (w || (f || c) || i)) ≡ true
-  go true f c i m h = refl
-  go false true c i m h = refl
-  go false false true i m h = refl
-  go false false false i m h = absurd (false≢true h)
+space_name b r s = search (rules, false≢true)
 
 pub ends_name : (k : ℕ) (t : List ℕ) → is_close k ≡ true → EndsItem k t → unless in_name t ≡ true
 ends_name k t h e = ends_by (λ t. unless in_name t ≡ true) k t h e (λ r. refl) (λ r. refl) (λ r. refl) space_name
 
 -- what begins a node is no gap
 pub node_no_space : (b : ℕ) (bs : List ℕ) → begins_node true (b ∷ bs) ≡ true → is_space (b ∷ bs) ≡ false
-node_no_space b bs h =
-    let isnt : (k : ℕ) → ((cs : List ℕ) → begins_node true (k ∷ cs) ≡ false) → eqb b k ≡ false = λ k never. front_not (begins_node true) k never (b ∷ bs) h in
-    let no : is_break (b ∷ bs) ≡ false = false_from_ne_true (is_break (b ∷ bs)) (λ e. ⊎_elim {0, 0, 0}
-    (λ (f : is_feed b ≡ true). false≢true (sym (isnt 10 (λ cs. refl)) ∙ f))
-    (λ f.
-    let parts = and_parts (is_return b) (front is_feed bs) f in
-    let here : begins_node true (13 ∷ bs) ≡ true = subst (λ (x : ℕ). begins_node true (x ∷ bs) ≡ true) (eqb-true b 13 parts.0) h in
-    let never : begins_node true (13 ∷ bs) ≡ false = rw parts.1 refl in
-    false≢true (sym never ∙ here))
-    (or_cases (is_feed b) (is_return b && front is_feed bs) e)) in
-    rw (isnt 32 (λ cs. refl), isnt 9 (λ cs. refl)) no
+node_no_space b bs h = search (rules, front_not, false_from_ne_true, ⊎_elim, false≢true, and_parts, eqb-true, or_cases)
 
 pub ends_node : (k : ℕ) (t : List ℕ) → is_close k ≡ true → EndsItem k t → begins_node true t ≡ false
 ends_node k t h e = ends_by (λ t. begins_node true t ≡ false) k t h e (λ r. refl) (λ r. refl) (λ r. refl) (λ b r s. false_from_ne_true (begins_node true (b ∷ r)) (λ n. false≢true (sym (node_no_space b r n) ∙ s)))
@@ -72,21 +57,13 @@ abbrev pub dead : List ℕ → Bool
 dead t = is_empty t || (front (λ b. eqb b 35) t || ends_text true t)
 
 not_follow : (spaces : Option ℕ) (gap t : List ℕ) → dead t ≡ true → follows true spaces gap t ≡ false
-not_follow spaces gap t h = go (is_empty t) (front (λ b. eqb b 35) t) (ends_text true t) (may_follow spaces (last_line gap) t) h where
-  go : (a b c d : Bool) → (a || (b || c)) ≡ true → (not a && not b && not c && d) ≡ false
-  go true b c d h = refl
-  go false true c d h = refl
-  go false false true d h = refl
-  go false false false d h = absurd (false≢true h)
+not_follow spaces gap t h = search (rules, false≢true)
 
 next_comment : (s : Before) (b : ℕ) (x : List ℕ) → is_comment s ≡ false → is_space (b ∷ x) ≡ true → is_comment (next s b) ≡ false
 next_comment s b x none h = rw (at_byte (λ y. is_space (y ∷ x)) b 35 h refl, none) (elim (is_feed b) as (λ c. is_comment (cond c Break White) ≡ false) [ true ↦ refl | false ↦ refl ])
 
 goes_hash : (s : Before) (b : ℕ) (x : List ℕ) → is_comment s ≡ false → goes s b x ≡ true → is_space (b ∷ x) ≡ false → eqb b 35 ≡ true
-goes_hash Token b x none h e = absurd (false≢true (sym e ∙ h))
-goes_hash White b x none h e = rw e at h
-goes_hash Break b x none h e = rw e at h
-goes_hash Comment b x none h e = absurd (false≢true (sym none))
+goes_hash s b x h1 h2 h3 = search (rules, false≢true)
 
 dead_gap : (s : Before) (g : List ℕ) (c : ℕ) (r : List ℕ) → is_comment s ≡ false → AllGo s g (c ∷ r) → is_space (c ∷ r) ≡ false → ends_text true (c ∷ r) ≡ true → dead (cut no_gap (g ++ (c ∷ r))).1 ≡ true
 unfolding upto
@@ -97,10 +74,7 @@ dead_gap s (b ∷ g) c r none all h e = elim (cases_Bool (is_space (b ∷ (g ++ 
 ]
 
 dead_ends : (k : ℕ) (t : List ℕ) → is_close k ≡ true → EndsItem k t → dead (cut no_gap t).1 ≡ true
-dead_ends k t h e =
-    let space : is_space (e.close ∷ e.rest) ≡ false = by_close (λ c. is_space (c ∷ e.rest) ≡ false) k e.close h e.ends refl refl refl in
-    let text : ends_text true (e.close ∷ e.rest) ≡ true = by_close (λ c. ends_text true (c ∷ e.rest) ≡ true) k e.close h e.ends refl refl refl in
-    subst (λ (l : List ℕ). dead (cut no_gap l).1 ≡ true) (sym e.spelled) (dead_gap Token e.gap e.close e.rest refl e.is_gap.inside space text)
+dead_ends k t h e = search (rules, by_close, dead_gap)
 
 -- a plain scalar ends there
 pub ends_plainly : (spaces : Option ℕ) (k : ℕ) (t : List ℕ) → is_close k ≡ true → EndsItem k t → ends_plain true spaces t ≡ true
@@ -175,8 +149,7 @@ last_fresh : (f : Bool) (gap : List ℕ) → last_line gap ≡ Some [] → fresh
 last_fresh f [] h = cc
 last_fresh f (b ∷ gap) h = go (last_line gap) refl (last_fresh (is_feed b) gap) h where
   go : (o : Option (List ℕ)) → last_line gap ≡ o → (last_line gap ≡ Some [] → fresh (is_feed b) gap ≡ true) → option_or o (cond (is_feed b) (Some gap) None) ≡ Some [] → fresh (is_feed b) gap ≡ true
-  go None is again e = let x = cond_some (is_feed b) gap [] e in subst (λ (g : List ℕ). fresh (is_feed b) g ≡ true) (sym x.1) x.0
-  go (Some l) is again e = again (is ∙ e)
+  go o h1 h2 h3 = search (rules, cond_some)
 
 last_mark : (gap : List ℕ) (c : ℕ) (l : List ℕ) → NoMark gap → last_line gap ≡ Some (c ∷ l) → (eqb c 45 ≡ false) × (eqb c 46 ≡ false)
 last_mark [] c l w h = cc
@@ -189,12 +162,8 @@ may_same : (f : Bool) (gap : List ℕ) (b : ℕ) (p t u : List ℕ) → NoMark g
 may_same f gap b p t u w keeps h = go (last_line gap) refl h where
   go : (o : Option (List ℕ)) → last_line gap ≡ o → may_follow (Some 0) o (b ∷ (p ++ t)) ≡ true → may_follow (Some 0) o (b ∷ (p ++ u)) ≡ true
   go None is e = refl
-  go (Some []) is e =
-      let m : is_marker (b ∷ (p ++ t)) ≡ false = not-true (is_marker (b ∷ (p ++ t))) (and_parts _ (not (is_marker (b ∷ (p ++ t)))) e).1 in
-      let n : is_marker (b ∷ (p ++ u)) ≡ false = keeps.1 (last_fresh f gap is) m in
-      and_from _ (not (is_marker (b ∷ (p ++ u)))) (le-leb 0 _ (omega arith)) (rw n refl)
-  go (Some (c ∷ l)) is e = let m = last_mark gap c l w is in
-      and_from _ (not (is_marker (c ∷ (l ++ (b ∷ (p ++ u)))))) (le-leb 0 _ (omega arith)) (rw (no_first c (l ++ (b ∷ (p ++ u))) m.0 m.1) refl)
+  go (Some []) is e = search (rules, and_from, le-leb, not-true, and_parts, last_fresh)
+  go (Some (c ∷ l)) is e = search (rules, last_mark, and_from, le-leb, no_first)
 
 none_keeps : (k : ℕ) (f : Bool) (p t u : List ℕ) → is_close k ≡ true → EndsItem k t → EndsItem k u → NoneIn stops_here p t → KeepsApart f p t u → NoneIn stops_here p u
 none_keeps k f [] t u h e d none keeps = tt

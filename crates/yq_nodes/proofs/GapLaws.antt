@@ -1,5 +1,5 @@
 -- A gap, read and spelled.
-use Rattle.std.proofs.Common.{◌≡◌, ℕ, suc, true, false, ◌&&◌, List, [], ◌∷◌, ◌++◌, length, take, drop, Some, refl, sym, ap, subst}
+use Rattle.std.proofs.Common.{◌≡◌, ℕ, suc, true, false, ◌&&◌, List, [], ◌∷◌, ◌++◌, length, take, drop, Some, refl, sym, ap, subst, rules}
 use Rattle.std.proofs.lemmas.Bool.{cond_both, not-true}
 use Rattle.std.proofs.lemmas.List.{take-append-drop}
 use Rattle.std.proofs.Math.Seq.{take-append_seam, drop-append_seam}
@@ -39,9 +39,7 @@ gap_append s (b ∷ p) rest h e = let again = gap_append (next s b) p rest h.1 e
 
 pub gap_again : (p rest : List ℕ) → IsInlineGap p rest → gap_at (p ++ rest) ≡ Some (p, rest)
 unfolding gap_at
-gap_again p rest h =
-    let g = gap_append Token p rest h.inside h.ends in
-    rw (g.0, g.1) (rw (drop-append_seam, take-append_seam) (rw h.unmarked refl))
+gap_again p rest h = search (rules, gap_append, drop-append_seam, take-append_seam)
 
 -- no gap
 pub none_gap : (rest : List ℕ) → stops Token rest ≡ true → IsInlineGap [] rest

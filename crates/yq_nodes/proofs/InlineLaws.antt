@@ -1,15 +1,14 @@
 -- The inline node at an offset, read and spelled.
-use Rattle.std.proofs.Common.{◌≡◌, ℕ, ◌-◌, true, not, List, length, drop, Some, sym, ap, ◌∙◌, subst, ℤ, Result, Ok, Err, IfOk}
+use Rattle.std.proofs.Common.{◌≡◌, ℕ, ◌-◌, not, List, length, drop, Some, subst, ℤ, Result, Ok, Err, IfOk, rules}
 use Rattle.std.proofs.lemmas.Option.{cond_some, same_Some}
 use Rattle.yq_flow_scalars.specs.declared.fault.ReadError.{ReadError}
 use Rattle.yq_flow_scalars.specs.declared.style.Place.{Place}
-use Rattle.yq_flow_scalars.specs.Answers.{◌>>=◌, Gives}
+use Rattle.yq_flow_scalars.specs.Answers.{Gives}
 use Rattle.yq_flow_scalars.specs.Piece.{further_spaces}
 use Rattle.yq_flow_scalars.specs.Writable.{in_flow}
 use Rattle.yq_flow_scalars.proofs.Bools.{bind_some}
-use Rattle.yq_nodes.specs.Inline.{depth_limit, IsInlineAt, inline_at, if_something}
-use Rattle.yq_nodes.specs.Nodes.{Node, is_bare}
-use Rattle.yq_nodes.specs.Places.{Placed, locate, bare_placed}
+use Rattle.yq_nodes.specs.Inline.{depth_limit, IsInlineAt, inline_at}
+use Rattle.yq_nodes.specs.Places.{Placed, bare_placed}
 use Rattle.yq_nodes.specs.PlacedReading.{placed_node}
 use Rattle.yq_nodes.specs.Reading.{all_node}
 use Rattle.yq_nodes.proofs.NodeLaws.{all_takes, all_again}
@@ -24,25 +23,10 @@ inline_takes place n depth at text p h =
     let y = bind_some (all_node flow spaces d (drop at text)) x.1 in
     let g = cond_some (not (bare_placed x.0.0)) _ _ x.2 in
     let a = all_takes flow spaces d (drop at text) y.0 y.1 in
-    let here : locate (length text) y.0.0 y.0.1 ≡ x.0.0 = ap (λ (z : Placed × List ℕ). z.0) (same_Some _ _ y.2) in
-    let bare : bare_placed x.0.0 ≡ is_bare y.0.0 = ap bare_placed (sym here) ∙ bare_locate (length text) y.0.0 y.0.1 in
-    record {
-      node = y.0.0;
-      rest = y.0.1;
-      stands = a.0;
-      inline = record { valid = a.1; something = ap not (sym bare) ∙ g.0 };
-      places = sym g.1 ∙ sym here;
-    }
+    search (rules, same_Some, bare_locate, y, a, g)
 
 pub inline_again : (place : Place) (n : ℤ) (depth at : ℕ) (text : List ℕ) (p : Placed) → IsInlineAt place n depth at text p → inline_at place n depth at text ≡ Some p
-inline_again place n depth at text p h =
-    let flow = in_flow place in
-    let spaces = further_spaces place n in
-    let d = depth_limit - depth in
-    let read : all_node flow spaces d (drop at text) ≡ Some (h.node, h.rest) = ap (all_node flow spaces d) h.stands ∙ all_again flow spaces d h.node h.rest h.inline.valid in
-    let here : placed_node flow spaces (length text) d (drop at text) ≡ Some (locate (length text) h.node h.rest, h.rest) = ap (λ o. o >>= λ (x : Node × List ℕ). Some (locate (length text) x.0 x.1, x.1)) read in
-    let some : not (bare_placed (locate (length text) h.node h.rest)) ≡ true = ap not (bare_locate (length text) h.node h.rest) ∙ h.inline.something in
-    ap (λ o. o >>= if_something) here ∙ (rw some (ap Some (sym h.places)))
+inline_again place n depth at text p h = search (rules, all_again, bare_locate)
 
 pub found_by : {X : Type 0} (v : X → Placed) (place : Place) (n : ℤ) (depth at : ℕ) (text : List ℕ) (r : Result X ReadError) → Gives v r (inline_at place n depth at text) → IfOk r (λ x. IsInlineAt place n depth at text (v x))
 found_by v place n depth at text (Ok x) h = inline_takes place n depth at text (v x) h
@@ -50,3 +34,6 @@ found_by v place n depth at text (Err e) h = tt
 
 pub only_by : {X : Type 0} (v : X → Placed) (place : Place) (n : ℤ) (depth at : ℕ) (text : List ℕ) (r : Result X ReadError) → Gives v r (inline_at place n depth at text) → (p : Placed) → IsInlineAt place n depth at text p → Gives v r (Some p)
 only_by v place n depth at text r h p a = subst (Gives v r) (inline_again place n depth at text p a) h
+
+-- what is read is what is there, and nothing else
+pub ruleset inline_laws = (found_by, only_by)

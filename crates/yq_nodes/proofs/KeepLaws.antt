@@ -1,14 +1,14 @@
 -- Bytes that keep apart from the text behind them: gaps, and nodes that are something.
-use Rattle.std.proofs.Common.{◌≡◌, inl, inr, ℕ, Bool, true, false, ◌||◌, eqb, cond, List, [], ◌∷◌, ◌++◌, Some, refl, sym, ap, ◌∙◌, subst, arith, Option}
+use Rattle.std.proofs.Common.{◌≡◌, inl, inr, ℕ, Bool, true, false, List, [], ◌∷◌, ◌++◌, Some, refl, sym, ◌∙◌, subst, arith, Option, rules}
 use Rattle.std.proofs.Math.Bool.{and-false}
 use Rattle.std.proofs.lemmas.Bool.{false≢true, or_right, not-true, cond_both, cases_Bool, or_parts}
 use Rattle.yq_flow_scalars.specs.Text.{front, is_feed, is_space, is_marker}
 use Rattle.yq_nodes.specs.declared.gap.Before.{Before}
-use Rattle.yq_nodes.specs.declared.gap.Before.TheVariants.{Token, White, Break, Comment}
+use Rattle.yq_nodes.specs.declared.gap.Before.TheVariants.{Token}
 use Rattle.yq_nodes.specs.Alike.{Alike, after, fresh, KeepsApart}
-use Rattle.yq_nodes.specs.Gaps.{goes, next, behind, is_comment, is_break as at_break, AllGo, stops, IsInlineGap}
-use Rattle.yq_nodes.specs.Nodes.{Node, empty, alias, scalar, coll, anchored, node_text, items_text, open_of, first_is, begins_content, begins_node, is_bare, takes_anchor, IsNode}
-use Rattle.yq_nodes.specs.Scalars.{begins_scalar, IsScalarAt}
+use Rattle.yq_nodes.specs.Gaps.{goes, next, behind, is_break as at_break, AllGo, stops, IsInlineGap}
+use Rattle.yq_nodes.specs.Nodes.{Node, empty, alias, scalar, coll, anchored, node_text, items_text, open_of, begins_content, begins_node, is_bare, takes_anchor, IsNode}
+use Rattle.yq_nodes.specs.Scalars.{IsScalarAt}
 use Rattle.yq_nodes.proofs.Alikes.{alike_append, alike_space, alike_marker}
 use Rattle.yq_nodes.proofs.PieceLaws.{scalar_begins, scalar_some}
 use Rattle.yq_nodes.proofs.WrittenLaws.{node_then}
@@ -23,36 +23,23 @@ keeps_alike g f (b ∷ p) t u h =
     let whole : Alike g (b ∷ (p ++ t)) (b ∷ (p ++ u)) = after (alike_append g p t u h) in
     (λ e. sym (alike_space g (b ∷ (p ++ t)) (b ∷ (p ++ u)) whole) ∙ e, λ _ e. sym (alike_marker g (b ∷ (p ++ t)) (b ∷ (p ++ u)) whole) ∙ e, keeps_alike g (is_feed b) p t u h)
 
--- gaps
-next_break : (s : Before) (b : ℕ) → at_break (next s b) ≡ is_feed b
-next_break s b = elim (is_feed b) as (λ c. at_break (cond c Break (cond (eqb b 35 || is_comment s) Comment White)) ≡ c) [
-  | true ↦ refl
-  | false ↦ elim (eqb b 35 || is_comment s) as (λ c. at_break (cond c Comment White) ≡ false) [ true ↦ refl | false ↦ refl ]
-]
-
 pub behind_fresh : (s : Before) (g : List ℕ) → at_break (behind s g) ≡ fresh (at_break s) g
 behind_fresh s [] = refl
-behind_fresh s (b ∷ g) = behind_fresh (next s b) g ∙ ap (λ f. fresh f g) (next_break s b)
+behind_fresh s (b ∷ g) = search (rules, behind_fresh (next s b) g)
 
 front_append : (g x y : List ℕ) → front is_feed x ≡ front is_feed y → front is_feed (g ++ x) ≡ front is_feed (g ++ y)
 front_append [] x y h = h
 front_append (b ∷ g) x y h = refl
 
 goes_front : (s : Before) (b : ℕ) (x y : List ℕ) → front is_feed x ≡ front is_feed y → goes s b x ≡ goes s b y
-goes_front Token b x y h = rw h refl
-goes_front White b x y h = rw h refl
-goes_front Break b x y h = rw h refl
-goes_front Comment b x y h = refl
+goes_front s b x y h1 = search rules
 
 pub go_front : (s : Before) (g x y : List ℕ) → front is_feed x ≡ front is_feed y → AllGo s g x → AllGo s g y
 go_front s [] x y h a = tt
 go_front s (b ∷ g) x y h a = (sym (goes_front s b (g ++ x) (g ++ y) (front_append g x y h)) ∙ a.0, go_front (next s b) g x y h a.1)
 
 stops_keeps : (s : Before) (b : ℕ) (x y : List ℕ) → (is_space (b ∷ x) ≡ false → is_space (b ∷ y) ≡ false) → stops s (b ∷ x) ≡ true → stops s (b ∷ y) ≡ true
-stops_keeps Token b x y k h = rw (k (not-true (is_space (b ∷ x)) h)) refl
-stops_keeps White b x y k h = let q = or_parts (is_space (b ∷ x)) (eqb b 35) (not-true (is_space (b ∷ x) || eqb b 35) h) in rw (k q.0, q.1) refl
-stops_keeps Break b x y k h = let q = or_parts (is_space (b ∷ x)) (eqb b 35) (not-true (is_space (b ∷ x) || eqb b 35) h) in rw (k q.0, q.1) refl
-stops_keeps Comment b x y k h = absurd (false≢true h)
+stops_keeps s b x y h1 h2 = search (rules, not-true, or_parts, false≢true)
 
 pub gap_keeps : (g : List ℕ) (b : ℕ) (p t u : List ℕ) → KeepsApart (fresh false g) (b ∷ p) t u → IsInlineGap g (b ∷ (p ++ t)) → IsInlineGap g (b ∷ (p ++ u))
 gap_keeps g b p t u keeps h = record {
@@ -66,33 +53,19 @@ gap_keeps g b p t u keeps h = record {
 
 -- a node that is something
 content_begins : (flow : Bool) (spaces : Option ℕ) (p rest : List ℕ) → IsScalarAt flow spaces p rest → begins_content flow (p ++ rest) ≡ true
-content_begins flow spaces p rest h =
-    let t : List ℕ = p ++ rest in
-    or_right (first_is 42 t) _ (or_right (first_is 91 t) _ (or_right (first_is 123 t) (begins_scalar flow t) (scalar_begins flow spaces p rest h)))
+content_begins flow spaces p rest h = search (rules, or_right, scalar_begins)
 
 pub some_begins : (flow : Bool) (spaces : Option ℕ) (d : ℕ) (node : Node) (rest : List ℕ) → is_bare node ≡ false → IsNode flow spaces d node rest → begins_node flow (node_text node rest) ≡ true
 unfolding node_text IsNode
-some_begins flow spaces d empty rest e h = absurd (false≢true (sym e))
-some_begins flow spaces d (alias n) rest e h = refl
-some_begins flow spaces d (scalar p) rest e h = or_right (first_is 38 (p ++ rest)) (begins_content flow (p ++ rest)) (content_begins flow spaces p rest h)
-some_begins flow spaces d (coll k g is) rest e h = cond_both (eqb k 125) 123 91 (λ (b : ℕ). (t : List ℕ) → begins_node flow (b ∷ t) ≡ true) (λ _ t. refl) (λ _ t. refl) (g ++ items_text k is rest)
-some_begins flow spaces d (anchored n g node) rest e h = refl
+some_begins flow spaces d node rest h1 h2 = search (rules, false≢true, or_right, content_begins, cond_both)
 
 pub bare_text : (node : Node) (rest : List ℕ) → is_bare node ≡ true → node_text node rest ≡ rest
 unfolding node_text
-bare_text empty rest h = refl
-bare_text (alias n) rest h = absurd (false≢true h)
-bare_text (scalar p) rest h = absurd (false≢true h)
-bare_text (coll close gap items) rest h = absurd (false≢true h)
-bare_text (anchored n g node) rest h = absurd (false≢true h)
+bare_text node rest h1 = search (rules, false≢true)
 
 pub taken_begins : (flow : Bool) (spaces : Option ℕ) (d : ℕ) (node : Node) (rest : List ℕ) → is_bare node ≡ false → takes_anchor node ≡ true → IsNode flow spaces d node rest → begins_content flow (node_text node rest) ≡ true
 unfolding node_text IsNode
-taken_begins flow spaces d empty rest e a h = absurd (false≢true (sym e))
-taken_begins flow spaces d (alias n) rest e a h = absurd (false≢true a)
-taken_begins flow spaces d (scalar p) rest e a h = content_begins flow spaces p rest h
-taken_begins flow spaces d (coll k g is) rest e a h = cond_both (eqb k 125) 123 91 (λ (b : ℕ). (t : List ℕ) → begins_content flow (b ∷ t) ≡ true) (λ _ t. refl) (λ _ t. refl) (g ++ items_text k is rest)
-taken_begins flow spaces d (anchored n g node) rest e a h = absurd (false≢true a)
+taken_begins flow spaces d node rest h1 h2 h3 = search (rules, false≢true, content_begins, cond_both)
 
 -- a text that isn't empty
 abbrev pub NotEmpty : List ℕ → Type 0
@@ -115,5 +88,4 @@ gap_some g x t u s keeps h =
     subst (λ (l : List ℕ). IsInlineGap g (l ++ u)) (sym s.1.1) (gap_keeps g s.0 s.1.0 t u k old)
 
 pub gap_node : (g : List ℕ) (d : ℕ) (n : Node) (t u : List ℕ) → is_bare n ≡ false → IsNode true (Some 0) d n t → KeepsApart (fresh false g) (node_text n []) t u → IsInlineGap g (node_text n t) → IsInlineGap g (node_text n u)
-gap_node g d n t u some h keeps gap =
-    subst (λ (l : List ℕ). IsInlineGap g l) (sym (node_then n u)) (gap_some g (node_text n []) t u (some_text d n t some h) keeps (subst (λ (l : List ℕ). IsInlineGap g l) (node_then n t) gap))
+gap_node g d n t u some h keeps gap = search (rules, node_then, gap_some, some_text)

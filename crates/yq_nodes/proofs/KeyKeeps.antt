@@ -1,8 +1,7 @@
 -- What stands behind an anchor or a `:`, and keys, before another text.
-use Rattle.std.proofs.Common.{◌≡◌, inl, inr, ℕ, Bool, true, false, ◌||◌, eqb, List, [], ◌∷◌, ◌++◌, Some, None, refl, sym, ◌∙◌, subst, eqb-true}
+use Rattle.std.proofs.Common.{◌≡◌, inl, inr, ℕ, Bool, true, false, ◌||◌, eqb, List, [], ◌∷◌, ◌++◌, Some, None, refl, sym, ◌∙◌, subst, eqb-true, rules}
 use Rattle.std.proofs.lemmas.Bool.{false≢true, or_right, false_from_ne_true, cases_Bool}
 use Rattle.yq_flow_scalars.specs.Plain.{begins_plain, is_safe}
-use Rattle.yq_flow_scalars.specs.QuotedReading.{is_quote}
 use Rattle.yq_flow_scalars.specs.Text.{front, is_space, separates}
 use Rattle.yq_flow_scalars.proofs.Bools.{at_byte}
 use Rattle.yq_nodes.specs.Alike.{Alike, colon, any_colon, EndsItem, fresh, KeepsApart}
@@ -30,11 +29,7 @@ lead_none begins g x b (inr h) = h.0
 
 -- keys
 no_quote : (p r : List ℕ) → is_quoted p ≡ true → begins_plain true (p ++ r) ≡ false
-no_quote [] r h = absurd (false≢true h)
-no_quote (b ∷ p) r h = false_from_ne_true (begins_plain true (b ∷ (p ++ r))) (λ e.
-    let isnt : (k : ℕ) → ((cs : List ℕ) → begins_plain true (k ∷ cs) ≡ false) → eqb b k ≡ false = λ k never. front_not (begins_plain true) k never (b ∷ (p ++ r)) e in
-    let no : is_quote b ≡ false = rw (isnt 34 (λ cs. refl), isnt 39 (λ cs. refl)) refl in
-    false≢true (sym no ∙ h))
+no_quote p r h1 = search (rules, false≢true, false_from_ne_true, front_not)
 
 gap_quote : (b : List ℕ) (x y : List ℕ) → IsInlineGap b (58 ∷ x) → front (λ c. eqb c 39) (b ++ (58 ∷ y)) ≡ false
 gap_quote [] x y h = refl
@@ -88,13 +83,7 @@ key_bare k p b g t u c e d h = subst (λ (l : List ℕ). IsInlineKey k (keyed p 
   like = colon (ends_safe k t c e) (ends_safe k u c d)
 
   fixed : IsInlineKey k (keyed p b []) u
-  fixed = (
-    old.0,
-    scalar_alike true None p (b ++ (58 ∷ t)) (b ++ (58 ∷ u)) (alike_append (Some true) b (58 ∷ t) (58 ∷ u) like) old.1,
-    gap_alike (Some true) b (58 ∷ t) (58 ∷ u) like old.2,
-    or_right (is_quoted p) _ (ends_key_here k u old.0 d),
-    ends_lead (begins_node true) k u c d (λ r. refl) (λ r. refl) (λ r. refl),
-  )
+  fixed = search (rules, scalar_alike, alike_append, gap_alike, or_right, ends_key_here, ends_lead, like, old)
 
 pub key_keeps : (k d : ℕ) (f : Bool) (key : Key) (n : Node) (t u : List ℕ) → is_close k ≡ true → EndsItem k t → EndsItem k u → KeepsApart f (key_text key (node_text n [])) t u → IsNode true (Some 0) d n t → IsNode true (Some 0) d n u →
     IsInlineKey k key (node_text n t) → IsInlineKey k key (node_text n u)

@@ -1,7 +1,7 @@
 -- A node outside flow collections before one text is one before a text that is alike.
-use Rattle.std.proofs.Common.{◌≡◌, inl, inr, ℕ, zero, suc, true, false, not, List, [], ◌∷◌, ◌++◌, Option, Some, refl, sym, ap, ◌∙◌, subst}
+use Rattle.std.proofs.Common.{◌≡◌, inl, inr, ℕ, zero, suc, true, false, not, List, [], ◌∷◌, ◌++◌, Option, Some, refl, sym, ap, ◌∙◌, subst, rules}
 use Rattle.std.proofs.lemmas.Bool.{false≢true, not-false, or_parts}
-use Rattle.yq_flow_scalars.specs.Text.{is_white, is_break, no_white}
+use Rattle.yq_flow_scalars.specs.Text.{is_white, is_break}
 use Rattle.yq_flow_scalars.proofs.Bools.{at_byte}
 use Rattle.yq_nodes.specs.Alike.{is_stop, Alike, stop, colon, byte, after}
 use Rattle.yq_nodes.specs.Nodes.{Node, empty, alias, scalar, coll, anchored, node_text, items_text, begins_content, IsApart, IsLead, IsNode}
@@ -21,13 +21,7 @@ black : (b c : ℕ) → b ≡ c → is_white c ≡ false → not (is_white b) �
 black b c is none h = false≢true (sym none ∙ subst (λ (k : ℕ). is_white k ≡ true) is (not-false (is_white b) h))
 
 none_kept : (t u : List ℕ) → Alike (Some false) t u → (g r : List ℕ) → t ≡ g ++ r → IsApart false g r → begins_content false r ≡ false → HasNone u
-none_kept t u h [] r e a none_here = record {
-  gap = [];
-  rest = u;
-  text = refl;
-  apart = (tt, sym (alike_unless is_white (Some false) t u h) ∙ subst (λ (s : List ℕ). no_white s ≡ true) (sym e) a.1);
-  none = sym (alike_content false t u h) ∙ subst (λ (s : List ℕ). begins_content false s ≡ false) (sym e) none_here;
-}
+none_kept t u h [] r e a none_here = search (rules, alike_unless, alike_content)
 none_kept _ _ (stop {b = c} x) (b ∷ g) r e a none_here =
     let none : is_white c ≡ false = rw (at_byte is_stop c 32 x refl, at_byte is_stop c 9 x refl) refl in
     absurd (black b c (cc) none a.0.0)
@@ -39,11 +33,8 @@ none_kept _ _ (after {b = c} {t = t} {u = u} h) (b ∷ g) r e a none_here =
     let again = none_kept t u h g r behind (a.0.1, a.1) none_here in
     record { gap = b ∷ again.gap; rest = again.rest; text = rw (← is) (ap (λ l. b ∷ l) again.text); apart = ((a.0.0, again.apart.0), again.apart.1); none = again.none }
 
-apart_alike : (p t u : List ℕ) → Alike (Some false) t u → IsApart false p t → IsApart false p u
-apart_alike p t u h g = (alike_none no_white (Some false) (alike_unless is_white (Some false)) p t u h g.0, sym (alike_unless is_white (Some false) t u h) ∙ g.1)
-
 lead_alike : (p t u : List ℕ) → Alike (Some false) t u → IsLead false (begins_content false) p t → IsLead false (begins_content false) p u
-lead_alike p t u h (inl g) = inl (apart_alike p t u h g.0, sym (alike_content false t u h) ∙ g.1)
+lead_alike p t u h (inl g) = search (rules, alike_none, alike_unless, alike_content)
 lead_alike p t u h (inr g) = let none = none_kept t u h g.1.0 g.1.1 g.1.2 g.1.3 g.1.4 in inr (g.0, (none.gap, none.rest, none.text, none.apart, none.none))
 
 pub line_node_alike : (spaces : Option ℕ) (node : Node) (d : ℕ) (t u : List ℕ) → Alike (Some false) t u → IsNode false spaces d node t → IsNode false spaces d node u

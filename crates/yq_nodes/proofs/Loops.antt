@@ -1,5 +1,5 @@
 -- The loops over items and entries.
-use Rattle.std.proofs.Common.{◌≡◌, ℕ, ◌<◌, true, false, List, [], ◌∷◌, ◌++◌, length, Option, Some, None, refl, sym, ap, ◌∙◌, arith, String, string_bytes}
+use Rattle.std.proofs.Common.{◌≡◌, ℕ, ◌<◌, true, false, List, [], ◌∷◌, ◌++◌, length, Option, Some, None, refl, ap, String, string_bytes, rules}
 use Rattle.std.proofs.lemmas.Option.{same_Some}
 use Rattle.std.specs.declared.alloc.Global.{Global}
 use Rattle.yq_flow_scalars.specs.declared.piece.Piece.{Piece}
@@ -7,7 +7,7 @@ use Rattle.yq_flow_scalars.specs.Answers.{◌>>=◌}
 use Rattle.yq_flow_scalars.proofs.Bools.{bind_some}
 use Rattle.yq_nodes.specs.declared.inline.Inline.{Inline}
 use Rattle.yq_nodes.specs.Nodes.{first_is, bare, is_bare, node_text}
-use Rattle.yq_nodes.specs.Places.{Placed, Parts, part, locate, bare_placed}
+use Rattle.yq_nodes.specs.Places.{Placed, Parts, part, bare_placed}
 use Rattle.yq_nodes.specs.PlacedReading.{placed_node, placed_items, placed_item, placed_entry}
 use Rattle.yq_nodes.specs.Reading.{all_node}
 use Rattle.yq_nodes.specs.View.{view, items_view, entries_view, behind_items, behind_entries}
@@ -20,11 +20,9 @@ pub node_shorter : (total d : ℕ) (t : List ℕ) (s : Placed) (r : List ℕ) �
 node_shorter total d t s r h some =
     let x = bind_some (all_node true (Some 0) d t) h in
     let a = all_takes true (Some 0) d t x.0 x.1 in
-    let same : locate total x.0.0 x.0.1 ≡ s = ap (λ y. y.0) (same_Some _ _ x.2) in
-    let rest : x.0.1 ≡ r = ap (λ y. y.1) (same_Some _ _ x.2) in
-    let full : is_bare x.0.0 ≡ false = sym (bare_locate total x.0.0 x.0.1) ∙ (ap bare_placed same ∙ some) in
+    let full : is_bare x.0.0 ≡ false = search (rules, same_Some, bare_locate, x) in
     let less : length x.0.1 < length (node_text x.0.0 x.0.1) = item_longer true (Some 0) d bare x.0.0 x.0.1 (rw full refl) a.1 in
-    omega (arith, less, ap length a.0, ap length rest)
+    search (rules, same_Some, less, x, a)
 
 items_push : (is : List Inline) (x : Inline) (rest : Parts) → items_view (is ++ x ∷ []) rest ≡ items_view is (part None (view x) rest)
 items_push [] x rest = refl
@@ -37,9 +35,7 @@ behind_push is x None = refl
 -- one item more
 pub items_on : (total d : ℕ) (is items : List Inline) (x : Inline) (t s : List ℕ) (all : Option (Parts × List ℕ)) → first_is 93 t ≡ false → placed_item total d t ≡ Some (view x, s) →
     items ≡ is ++ x ∷ [] → behind_items is (placed_items total d 93 t) ≡ all → behind_items items (placed_items total d 93 s) ≡ all
-items_on total d is items x t s all opens item pushed so_far =
-    let step : placed_items total d 93 t ≡ then_entry total d 93 None (view x) s = items_more total d t opens ∙ rw item refl in
-    rw pushed (behind_push is x (placed_items total d 93 s) ∙ (ap (behind_items is) (sym step) ∙ so_far))
+items_on total d is items x t s all opens item pushed so_far = search (rules, then_entry, items_more, behind_push)
 
 abbrev Entry : Type 0
 Entry = String Global × Piece × Inline
@@ -55,6 +51,4 @@ behind_entry es e None = refl
 -- one entry more
 pub entries_on : (total d : ℕ) (es entries : List Entry) (e : Entry) (t s : List ℕ) (all : Option (Parts × List ℕ)) → first_is 125 t ≡ false → placed_entry total d t ≡ Some (((string_bytes e.0, e.1), view e.2), s) →
     entries ≡ es ++ e ∷ [] → behind_entries es (placed_items total d 125 t) ≡ all → behind_entries entries (placed_items total d 125 s) ≡ all
-entries_on total d es entries e t s all opens entry pushed so_far =
-    let step : placed_items total d 125 t ≡ then_entry total d 125 (Some (string_bytes e.0, e.1)) (view e.2) s = entries_more total d t opens ∙ rw entry refl in
-    rw pushed (behind_entry es e (placed_items total d 125 s) ∙ (ap (behind_entries es) (sym step) ∙ so_far))
+entries_on total d es entries e t s all opens entry pushed so_far = search (rules, then_entry, string_bytes, entries_more, behind_entry)

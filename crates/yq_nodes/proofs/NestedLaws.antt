@@ -1,12 +1,12 @@
 -- The parts of an inline node lie inside it, one behind the other.
-use Rattle.std.proofs.Common.{ℕ, suc, ◌+◌, ◌-◌, ◌≤◌, true, false, eqb, cond, List, ◌∷◌, ◌++◌, length, refl, sym, ap, subst, arith, length-append, ℤ, Result, Ok, Err, IfOk}
+use Rattle.std.proofs.Common.{ℕ, suc, ◌-◌, ◌≤◌, true, false, eqb, cond, List, ◌++◌, length, refl, sym, ap, subst, arith, length-append, ℤ, Result, Ok, Err, IfOk, rules}
 use Rattle.std.proofs.lemmas.List.{length-drop}
 use Rattle.yq_flow_scalars.specs.declared.fault.ReadError.{ReadError}
 use Rattle.yq_flow_scalars.specs.declared.style.Place.{Place}
 use Rattle.yq_flow_scalars.specs.Answers.{Gives}
 use Rattle.yq_nodes.specs.Entries.{EntryPieces, end_of}
 use Rattle.yq_nodes.specs.Inline.{IsInlineAt, inline_at}
-use Rattle.yq_nodes.specs.Nodes.{Key, bare, keyed, Node, empty, alias, scalar, coll, anchored, Items, none, item, key_text, sep_text, node_text, items_text}
+use Rattle.yq_nodes.specs.Nodes.{Key, Node, empty, alias, scalar, coll, anchored, Items, none, item, key_text, sep_text, node_text, items_text}
 use Rattle.yq_nodes.specs.Places.{Placed, placed, sequence, mapping, Parts, holder, with_anchor, key_placed, locate, locate_items}
 use Rattle.yq_nodes.specs.Spans.{IsBefore, IsNested, LiesInside, LieInside}
 use Rattle.yq_nodes.proofs.EditPlaces.{entry_placed, start_placed, end_placed}
@@ -20,12 +20,7 @@ anchor_nested : (n : List ℕ) (start : ℕ) (p : Placed) → IsNested p → IsN
 anchor_nested n start (placed a s c e f) h = h
 
 key_before : (total : ℕ) (key : Key) (n : Node) (r : List ℕ) → length (key_text key (node_text n r)) ≤ total → IsBefore (key_placed total (key_text key (node_text n r)) key) (locate total n r)
-key_before total bare n r h = tt
-key_before total (keyed p b g) n r h =
-    let x : List ℕ = node_text n r in
-    let more : List ℕ = b ++ (58 ∷ (g ++ x)) in
-    subst (λ at. (total - length (p ++ more)) + length p ≤ at) (sym (start_placed total n r))
-    (omega (arith, h, length-append p more, length-append b (58 ∷ (g ++ x)), length-append g x))
+key_before total key n r h1 = search (rules, start_placed, length-append)
 
 mutual
   unfolding locate locate_items node_text items_text

@@ -1,5 +1,5 @@
 -- A node is read again.
-use Rattle.std.proofs.Common.{◌≡◌, ℕ, zero, suc, ◌≤◌, ◌<◌, Bool, true, false, cond, not, ◌||◌, eqb, List, ◌∷◌, ◌++◌, length, Option, Some, None, refl, sym, ap, ◌∙◌, subst, ⊎_elim, arith, length-append, eqb-true, eq-eqb}
+use Rattle.std.proofs.Common.{◌≡◌, ℕ, zero, suc, ◌≤◌, ◌<◌, Bool, true, false, cond, not, ◌||◌, eqb, List, ◌∷◌, ◌++◌, length, Option, Some, None, refl, sym, ap, ◌∙◌, ⊎_elim, arith, length-append, eqb-true, eq-eqb, rules}
 use Rattle.std.proofs.lemmas.Bool.{false≢true, cond_both, not-true, or_cases}
 use Rattle.yq_flow_scalars.specs.Text.{is_empty}
 use Rattle.yq_flow_scalars.specs.Answers.{◌>>=◌}
@@ -34,23 +34,12 @@ alias_content flow spaces kids n rest h = rw (name_again n rest h) refl
 
 scalar_content : (flow : Bool) (spaces : Option ℕ) (kids : Kids) (p rest : List ℕ) → IsScalarAt flow spaces p rest → content_at flow spaces kids (p ++ rest) ≡ Some (scalar p, rest)
 unfolding content_at
-scalar_content flow spaces kids p rest h =
-    let t = p ++ rest in
-    let b = scalar_begins flow spaces p rest h in
-    rw (letter_front flow 42 t (λ bs. refl) b, letter_front flow 91 t (λ bs. refl) b, letter_front flow 123 t (λ bs. refl) b)
-    (rw b (rw (scalar_again flow spaces p rest h) refl))
+scalar_content flow spaces kids p rest h = search (rules, scalar_begins, letter_front, scalar_again)
 
 coll_content : (flow : Bool) (spaces : Option ℕ) (kids : Kids) (k : ℕ) (g : List ℕ) (is : Items) (rest : List ℕ) → is_close k ≡ true → IsInlineGap g (items_text k is rest) → kids k (items_text k is rest) ≡ Some (is, rest) →
     content_at flow spaces kids (open_of k ∷ (g ++ items_text k is rest)) ≡ Some (coll k g is, rest)
 unfolding content_at coll_at
-coll_content flow spaces kids k g is rest close gap h = ⊎_elim {0, 0, 0}
-    (λ e. let same : k ≡ 93 = eqb-true k 93 e in
-    subst (λ (c : ℕ). (kids c (items_text c is rest) ≡ Some (is, rest)) → IsInlineGap g (items_text c is rest) → content_at flow spaces kids (open_of c ∷ (g ++ items_text c is rest)) ≡ Some (coll c g is, rest))
-    (sym same) (λ h gap. rw (gap_again g (items_text 93 is rest) gap) (rw h refl)) h gap)
-    (λ e. let same : k ≡ 125 = eqb-true k 125 e in
-    subst (λ (c : ℕ). (kids c (items_text c is rest) ≡ Some (is, rest)) → IsInlineGap g (items_text c is rest) → content_at flow spaces kids (open_of c ∷ (g ++ items_text c is rest)) ≡ Some (coll c g is, rest))
-    (sym same) (λ h gap. rw (gap_again g (items_text 125 is rest) gap) (rw h refl)) h gap)
-    (or_cases (eqb k 93) (eqb k 125) close)
+coll_content flow spaces kids k g is rest close gap h = search (rules, ⊎_elim, eqb-true, gap_again, or_cases)
 
 node_of_content : (flow : Bool) (spaces : Option ℕ) (kids : Kids) (t : List ℕ) (x : Node × List ℕ) → first_is 38 t ≡ false → content_at flow spaces kids t ≡ Some x → node_at flow spaces kids t ≡ Some x
 unfolding node_at
@@ -59,8 +48,7 @@ node_of_content flow spaces kids t x e h = rw e h
 anchored_node : (flow : Bool) (spaces : Option ℕ) (kids : Kids) (n g : List ℕ) (node : Node) (rest : List ℕ) → IsName n (g ++ node_text node rest) → IsLead flow (begins_content flow) g (node_text node rest) → (is_bare node || not (is_empty g)) ≡ true → takes_anchor node ≡ true →
     content_at flow spaces kids (node_text node rest) ≡ Some (node, rest) → node_at flow spaces kids (38 ∷ (n ++ (g ++ node_text node rest))) ≡ Some (anchored n g node, rest)
 unfolding node_at
-anchored_node flow spaces kids n g node rest name lead apart takes h =
-    rw (name_again n (g ++ node_text node rest) name) (rw (lead_again flow (begins_content flow) g (node_text node rest) lead) (rw h (rw (apart, takes) refl)))
+anchored_node flow spaces kids n g node rest name lead apart takes h = search (rules, name_again, lead_again)
 
 -- what follows is shorter
 pub sep_longer : (s : Sep) (rest : List ℕ) → length rest ≤ length (sep_text s rest)
@@ -112,16 +100,9 @@ close_letter k h = ⊎_elim (λ e. let same : k ≡ 93 = eqb-true k 93 e in rw s
 open_close : (j k : ℕ) → is_close k ≡ true → eqb (open_of j) k ≡ false
 open_close j k h = let c = close_letter k h in cond_both (eqb j 125) 123 91 (λ x. eqb x k ≡ false) (λ _. c.5) (λ _. c.4)
 
-node_front : (flow : Bool) (spaces : Option ℕ) (d k : ℕ) (node : Node) (rest : List ℕ) → is_close k ≡ true → is_bare node ≡ false → IsNode flow spaces d node rest → first_is k (node_text node rest) ≡ false
-unfolding node_text IsNode
-node_front flow spaces d k empty rest c e h = absurd (false≢true (sym e))
-node_front flow spaces d k (alias n) rest c e h = (close_letter k c).2
-node_front flow spaces d k (scalar p) rest c e h = letter_front flow k (p ++ rest) ((close_letter k c).0 flow) (scalar_begins flow spaces p rest h)
-node_front flow spaces d k (coll j g is) rest c e h = open_close j k c
-node_front flow spaces d k (anchored n g node) rest c e h = (close_letter k c).3
-
 pub item_front : (flow : Bool) (spaces : Option ℕ) (d k : ℕ) (key : Key) (node : Node) (rest : List ℕ) → is_close k ≡ true → (is_keyed key || not (is_bare node)) ≡ true → IsInlineKey k key (node_text node rest) → IsNode flow spaces d node rest → first_is k (key_text key (node_text node rest)) ≡ false
-item_front flow spaces d k bare node rest c e a h = node_front flow spaces d k node rest c (not-true (is_bare node) e) h
+unfolding node_text IsNode
+item_front flow spaces d k bare node rest c e a h = search (rules, false≢true, close_letter, letter_front, scalar_begins, open_close, not-true)
 item_front flow spaces d k (keyed t b g) node rest c e a h = letter_front true k (t ++ (b ++ (58 ∷ (g ++ node_text node rest)))) ((close_letter k c).0 true) (scalar_begins true None t (b ++ (58 ∷ (g ++ node_text node rest))) a.1)
 
 pub key_in_again : (k : ℕ) (key : Key) (rest : List ℕ) → IsInlineKey k key rest → key_in k (key_text key rest) ≡ Some (key, rest)
@@ -140,11 +121,7 @@ is_anchored (coll k g is) = false
 is_anchored (anchored n g node) = true
 
 pub takes_unanchored : (node : Node) → takes_anchor node ≡ true → is_anchored node ≡ false
-takes_unanchored empty h = refl
-takes_unanchored (alias n) h = refl
-takes_unanchored (scalar p) h = refl
-takes_unanchored (coll k g is) h = refl
-takes_unanchored (anchored n g node) h = absurd (false≢true h)
+takes_unanchored node h1 = search (rules, false≢true)
 
 mutual
   unfolding node_text IsNode items_text AreItems items_at

@@ -1,10 +1,9 @@
 -- A node of a flow collection before what stands behind an item is one before another such text, if its bytes keep apart from that.
-use Rattle.std.proofs.Common.{◌≡◌, inl, inr, ⊎_elim, ℕ, zero, suc, drop, eq-eqb, Bool, true, false, not, ◌||◌, eqb, List, [], ◌∷◌, ◌++◌, Option, Some, refl, sym, ap, ◌∙◌, subst, eqb-true, append-nil}
+use Rattle.std.proofs.Common.{◌≡◌, inl, inr, ⊎_elim, ℕ, zero, suc, eq-eqb, Bool, true, false, not, ◌||◌, eqb, List, [], ◌∷◌, ◌++◌, Option, Some, refl, sym, ◌∙◌, subst, eqb-true, append-nil, rules}
 use Rattle.std.proofs.lemmas.Bool.{or_cases, or_right, not-false, cases_Bool, or_parts}
 use Rattle.yq_flow_scalars.specs.Text.{NoneIn, unless, is_empty, is_feed}
 use Rattle.yq_flow_scalars.proofs.Bools.{at_byte}
 use Rattle.yq_nodes.specs.Alike.{Alike, stop, after, EndsItem, fresh, KeepsApart}
-use Rattle.yq_nodes.specs.Gaps.{IsInlineGap}
 use Rattle.yq_nodes.specs.Nodes.{Key, bare, keyed, Sep, last, comma, Node, empty, alias, scalar, coll, anchored, Items, none, item, key_text, sep_text, node_text, items_text, first_is, in_name, begins_content, is_close, IsLead, IsName, IsSep, is_bare, takes_anchor, IsNode, AreItems}
 use Rattle.yq_nodes.proofs.Alikes.{alike_append, alike_first}
 use Rattle.yq_nodes.proofs.AlikePieces.{gap_alike, name_by}
@@ -16,10 +15,7 @@ use Rattle.yq_nodes.proofs.KeepLaws.{keeps_alike, keeps_append, bare_text, taken
 
 -- what stands behind an item
 pub sep_ends : (k : ℕ) (s : Sep) (r : List ℕ) → IsSep k s r → EndsItem k (sep_text s r)
-sep_ends k (last b) r h =
-    let is = front_is k r h.1 in
-    record { gap = b; close = k; rest = drop 1 r; spelled = ap (λ l. b ++ l) is; is_gap = subst (IsInlineGap b) is h.0; ends = or_right (eqb k 44) (eqb k k) (eq-eqb k k refl) }
-sep_ends k (comma b g) r h = record { gap = b; close = 44; rest = g ++ r; spelled = refl; is_gap = h.0; ends = refl }
+sep_ends k s r h1 = search (rules, front_is, or_right, eq-eqb)
 
 pub sep_alike : (k : ℕ) (s : Sep) (t u : List ℕ) → Alike (Some true) t u → IsSep k s t → IsSep k s u
 sep_alike k (last b) t u h g = (gap_alike (Some true) b t u h g.0, sym (alike_first k (Some true) t u h) ∙ g.1)

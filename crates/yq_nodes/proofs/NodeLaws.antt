@@ -1,11 +1,11 @@
 -- How many steps are allowed makes no difference.
-use Rattle.std.proofs.Common.{◌≡◌, ℕ, zero, suc, ◌≤◌, ◌<◌, Bool, true, false, cond, not, ◌&&◌, ◌||◌, eqb, List, [], ◌∷◌, ◌++◌, length, drop, Option, Some, None, refl, sym, ap, ◌∙◌, arith, length-append}
+use Rattle.std.proofs.Common.{◌≡◌, ℕ, zero, suc, ◌≤◌, ◌<◌, Bool, true, false, cond, not, ◌&&◌, ◌||◌, eqb, List, [], ◌∷◌, ◌++◌, length, drop, Option, Some, None, refl, sym, ap, ◌∙◌, arith, length-append, rules}
 use Rattle.std.proofs.lemmas.Option.{same_Some}
 use Rattle.yq_flow_scalars.specs.Text.{is_empty}
 use Rattle.yq_flow_scalars.specs.Answers.{◌>>=◌}
 use Rattle.yq_flow_scalars.proofs.Bools.{guard_then}
-use Rattle.yq_nodes.specs.Nodes.{first_is, key_text, Key, Sep, Node, empty, alias, scalar, coll, anchored, Items, none, item, node_text, begins_content, is_keyed, is_bare, takes_anchor, IsNode}
-use Rattle.yq_nodes.specs.Reading.{gap_at, scalar_at, name_at, lead_at, sep_at, Kids, coll_at, content_at, node_at, deeper, items_at, all_items, kids_of, all_node}
+use Rattle.yq_nodes.specs.Nodes.{first_is, Key, Sep, Node, coll, anchored, Items, none, item, node_text, begins_content, is_keyed, is_bare, takes_anchor, IsNode}
+use Rattle.yq_nodes.specs.Reading.{gap_at, name_at, lead_at, sep_at, Kids, coll_at, content_at, node_at, deeper, items_at, all_items, kids_of, all_node}
 use Rattle.yq_nodes.proofs.Binds.{bind_same}
 use Rattle.yq_nodes.proofs.GapLaws.{gap_takes}
 use Rattle.yq_nodes.proofs.PieceLaws.{name_takes, lead_takes, sep_takes}
@@ -26,15 +26,7 @@ coll_same kids others k n t short h =
 
 content_same : (flow : Bool) (spaces : Option ℕ) (kids others : Kids) (t : List ℕ) → Same kids others (length t) → content_at flow spaces kids t ≡ content_at flow spaces others t
 unfolding content_at
-content_same flow spaces kids others [] h = refl
-content_same flow spaces kids others (b ∷ t) h =
-    let s : List ℕ = b ∷ t in
-    let last = cond (begins_content flow s) (scalar_at flow spaces s >>= λ x. Some (scalar x.0, x.1)) (Some (empty, s)) in
-    let first = name_at t >>= λ x. Some (alias x.0, x.1) in
-    let one = coll_same kids others 93 (length s) t (omega arith) h in
-    let two = coll_same kids others 125 (length s) t (omega arith) h in
-    ap (λ o. cond (eqb b 42) first (cond (eqb b 91) o (cond (eqb b 123) (coll_at kids 125 t) last))) one
-    ∙ ap (λ o. cond (eqb b 42) first (cond (eqb b 91) (coll_at others 93 t) (cond (eqb b 123) o last))) two
+content_same flow spaces kids others t h1 = search (rules, coll_same)
 
 abbrev after_gap : Bool → Option ℕ → Kids → List ℕ → List ℕ × List ℕ → Option (Node × List ℕ)
 after_gap flow spaces kids name gap = content_at flow spaces kids gap.1 >>= λ node. cond ((is_bare node.0 || not (is_empty gap.0)) && takes_anchor node.0) (Some (anchored name gap.0 node.0, node.1)) None
@@ -71,10 +63,9 @@ left n d k t key node sep a b c =
     let x = key_in_takes k t key a in
     let y = node_takes true (Some 0) (kids_by n d) d key.1 node (kids_take n d (items_takes n)) b in
     let z = sep_takes k node.1 sep some.1 in
-    let whole : t ≡ key_text key.0 (node_text node.0 node.1) = x.0 ∙ ap (key_text key.0) y.0 in
     let less = item_longer true (Some 0) d key.0 node.0 node.1 some.0 y.1 in
     let more : length sep.1 ≤ length node.1 = rw z.0 (sep_longer sep.0 sep.1) in
-    rw whole (omega arith)
+    search (rules, y, x)
 
 deeper_same : {A : Type 0} (d : ℕ) (f g : ℕ → Option A) → ((e : ℕ) → f e ≡ g e) → deeper d f ≡ deeper d g
 deeper_same zero f g h = refl

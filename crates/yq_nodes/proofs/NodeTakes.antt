@@ -1,5 +1,5 @@
 -- What is read is a node.
-use Rattle.std.proofs.Common.{◌≡◌, ℕ, zero, suc, Bool, true, false, cond, not, ◌&&◌, ◌||◌, eqb, List, [], ◌∷◌, ◌++◌, drop, Option, Some, None, refl, ap, ◌∙◌, subst, inl, inr, ◌⊎◌, ⊎_elim, eqb-true}
+use Rattle.std.proofs.Common.{◌≡◌, ℕ, zero, suc, Bool, true, false, cond, not, ◌&&◌, ◌||◌, eqb, List, ◌∷◌, ◌++◌, drop, Option, Some, None, refl, ap, ◌∙◌, subst, inl, inr, ◌⊎◌, ⊎_elim, eqb-true, rules}
 use Rattle.std.proofs.lemmas.Bool.{false≢true, and_parts}
 use Rattle.std.proofs.lemmas.Option.{cond_some, same_Some}
 use Rattle.yq_flow_scalars.specs.Text.{unless, is_empty}
@@ -50,20 +50,12 @@ content_takes flow spaces kids d t x take_kids amp h = ⊎_elim {0, 0, 0}
     (chosen (first_is 91 t) e.1))
     (chosen (first_is 42 t) h)
 
--- behind a name stands no `&`
-no_amp : (t : List ℕ) → unless in_name t ≡ true → first_is 38 t ≡ false
-no_amp [] h = refl
-no_amp (b ∷ t) h = elim (eqb b 38) as (λ c. eqb b 38 ≡ c → c ≡ false) [
-  | true ↦ (λ e. let same : b ≡ 38 = eqb-true b 38 e in absurd (false≢true (subst (λ (x : ℕ). unless in_name (x ∷ t) ≡ true) same h)))
-  | false ↦ (λ e. refl)
-] refl
-
 content_no_amp : (flow : Bool) (t : List ℕ) → begins_content flow t ≡ true → first_is 38 t ≡ false
 content_no_amp flow t h = front_not (begins_content flow) 38 (λ bs. refl) t h
 
 pub lead_amp : (flow : Bool) (t g r : List ℕ) → unless in_name t ≡ true → t ≡ g ++ r → IsLead flow (begins_content flow) g r → first_is 38 r ≡ false
 lead_amp flow t g r ends is (inl e) = content_no_amp flow r e.1
-lead_amp flow t g r ends is (inr e) = let same : t ≡ r = is ∙ ap (λ l. l ++ r) e.0 in no_amp r (subst (λ (l : List ℕ). unless in_name l ≡ true) same ends)
+lead_amp flow t g r ends is (inr e) = search (rules, eqb-true, false≢true)
 
 pub node_takes : (flow : Bool) (spaces : Option ℕ) (kids : Kids) (d : ℕ) (t : List ℕ) (x : Node × List ℕ) → KidsTake kids d → node_at flow spaces kids t ≡ Some x → Nodal flow spaces d t x
 unfolding node_at node_text IsNode

@@ -1,5 +1,5 @@
 -- The items and entries of the code, one after the other.
-use Rattle.std.proofs.Common.{◌≡◌, ℕ, zero, suc, ◌+◌, ◌<◌, ◌≤◌, true, false, ltb, List, [], ◌∷◌, length, drop, get_or, Option, Some, None, option_map, refl, sym, ap, ◌∙◌, ⊎_elim, arith, String, string_bytes}
+use Rattle.std.proofs.Common.{◌≡◌, ℕ, zero, suc, ◌+◌, ◌<◌, ◌≤◌, true, false, ltb, List, [], ◌∷◌, length, drop, get_or, Option, Some, None, option_map, refl, sym, ap, ◌∙◌, ⊎_elim, arith, String, string_bytes, rules}
 use Rattle.std.proofs.lemmas.Bool.{false≢true, ltb-true, lt-ltb, cases_lt}
 use Rattle.std.proofs.lemmas.List.{drop_more, drop_all}
 use Rattle.std.specs.declared.alloc.Global.{Global}
@@ -29,25 +29,16 @@ pub item_found : (is all : List Inline) (i : ℕ) (x d : Inline) → is ≡ all 
 item_found is all i x d same lt at = ap (λ (y : Inline). Some (None, view y)) at ∙ (sym (item_part is i d (ltb-true i (length is) (sym lt))) ∙ ap (λ (l : List Inline). part_at (Nth i) (items_end l)) same)
 
 pub item_missing : (is all : List Inline) (i : ℕ) → is ≡ all → false ≡ ltb i (length is) → None ≡ part_at (Nth i) (items_end all)
-item_missing is all i same ge = ⊎_elim
-    (λ lt. absurd (false≢true (ge ∙ lt-ltb i (length is) lt)))
-    (λ le. sym (no_item is i le) ∙ ap (λ (l : List Inline). part_at (Nth i) (items_end l)) same)
-    (cases_lt i (length is))
+item_missing is all i same ge = search (rules, ⊎_elim, false≢true, lt-ltb, no_item, cases_lt)
 
 abbrev pub Field : Type 0
 Field = String Global × Piece × Inline
 
 pub entry_found : (key : List ℕ) (es : List Field) (i : ℕ) (e d : Field) (s : List ℕ) (all : Option PlacedEntry) → i < length es → e ≡ get_or es i d → s ≡ string_bytes e.0 → bytes_eq s key ≡ true → part_at (To key) (entries_end (drop i es)) ≡ all → Some (Some (s, e.1), view e.2) ≡ all
-entry_found key es i e d s all lt at text same so_far =
-    let next : drop i es ≡ e ∷ drop (i + 1) es = drop_more es i d lt ∙ ap (λ (f : Field). f ∷ drop (i + 1) es) (sym at) in
-    let here : part_at (To key) (entries_end (e ∷ drop (i + 1) es)) ≡ Some (Some (string_bytes e.0, e.1), view e.2) = rw (rw text at same) refl in
-    ap (λ (k : List ℕ). Some (Some (k, e.1), view e.2)) text ∙ (sym here ∙ (ap (λ (l : List Field). part_at (To key) (entries_end l)) (sym next) ∙ so_far))
+entry_found key es i e d s all lt at text same so_far = search (rules, drop_more, string_bytes)
 
 pub entry_past : (key : List ℕ) (es : List Field) (i : ℕ) (e d : Field) (s : List ℕ) (all : Option PlacedEntry) → i < length es → e ≡ get_or es i d → s ≡ string_bytes e.0 → bytes_eq s key ≡ false → part_at (To key) (entries_end (drop i es)) ≡ all → part_at (To key) (entries_end (drop (i + 1) es)) ≡ all
-entry_past key es i e d s all lt at text other so_far =
-    let next : drop i es ≡ e ∷ drop (i + 1) es = drop_more es i d lt ∙ ap (λ (f : Field). f ∷ drop (i + 1) es) (sym at) in
-    let on : part_at (To key) (entries_end (e ∷ drop (i + 1) es)) ≡ part_at (To key) (entries_end (drop (i + 1) es)) = rw (rw text at other) refl in
-    sym on ∙ (ap (λ (l : List Field). part_at (To key) (entries_end l)) (sym next) ∙ so_far)
+entry_past key es i e d s all lt at text other so_far = search (rules, drop_more)
 
 pub entry_missing : (key : List ℕ) (es : List Field) (i : ℕ) (all : Option PlacedEntry) → length es ≤ i → part_at (To key) (entries_end (drop i es)) ≡ all → None ≡ all
 entry_missing key es i all ge so_far = ap (λ (l : List Field). part_at (To key) (entries_end l)) (sym (drop_all i es ge)) ∙ so_far
@@ -73,5 +64,4 @@ index_in_entries es i s same = sym (ap (λ (t : declared.Step). part_at (step_of
 pub by_tree : (r : Option Entry) (ss : List Step) (n : Inline) → option_map entry_view r ≡ placed_entry_at ss (None, view n) → option_map (λ e. placed_tree (view e.node.now)) r ≡ node_at ss (placed_tree (view n))
 by_tree r ss n h = go r ∙ (ap (option_map entry_tree) h ∙ path_tree ss (None, view n)) where
   go : (r : Option Entry) → option_map (λ e. placed_tree (view e.node.now)) r ≡ option_map entry_tree (option_map entry_view r)
-  go None = refl
-  go (Some e) = refl
+  go r = search rules

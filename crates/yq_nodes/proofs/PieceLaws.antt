@@ -1,12 +1,12 @@
 -- The pieces of a node, read and spelled.
-use Rattle.std.proofs.Common.{◌≡◌, ℕ, ◌<◌, Bool, true, false, not, ◌&&◌, ◌||◌, eqb, List, [], ◌∷◌, ◌++◌, length, drop, Option, Some, None, refl, sym, ap, ◌∙◌, subst, inl, inr, ⊎_elim, arith, eqb-true}
+use Rattle.std.proofs.Common.{◌≡◌, ℕ, ◌<◌, Bool, true, false, ◌&&◌, ◌||◌, eqb, List, [], ◌∷◌, ◌++◌, length, drop, Option, Some, None, refl, sym, ap, ◌∙◌, subst, inl, inr, ⊎_elim, arith, eqb-true, rules}
 use Rattle.std.proofs.Math.Bool.{and-false}
 use Rattle.std.proofs.lemmas.Bool.{false≢true, cond_both, not-true, false_from_ne_true, and_parts}
 use Rattle.std.proofs.lemmas.Option.{cond_some, same_Some}
 use Rattle.yq_flow_scalars.specs.Answers.{◌>>=◌}
-use Rattle.yq_flow_scalars.specs.Plain.{begins_plain, ends_plain, ends_text, is_flow_indicator, is_safe}
+use Rattle.yq_flow_scalars.specs.Plain.{begins_plain, ends_plain, ends_text}
 use Rattle.yq_flow_scalars.specs.Quoted.{spell_lines}
-use Rattle.yq_flow_scalars.specs.QuotedReading.{is_quote, quoted_at}
+use Rattle.yq_flow_scalars.specs.QuotedReading.{quoted_at}
 use Rattle.yq_flow_scalars.specs.Text.{upto, cut, unless, is_empty, is_space, no_white}
 use Rattle.yq_flow_scalars.proofs.Bools.{bind_some, chosen}
 use Rattle.yq_flow_scalars.proofs.PlainLaws.{plain_takes, plain_again}
@@ -14,7 +14,7 @@ use Rattle.yq_flow_scalars.proofs.QuotedFound.{quoted_takes, quoted_again}
 use Rattle.yq_flow_scalars.proofs.Upto.{upto_ends, none_in_cut, cut-append, cut_takes}
 use Rattle.yq_flow_scalars.proofs.QuotedLaws.{of_quotes}
 use Rattle.yq_nodes.specs.Gaps.{IsInlineGap}
-use Rattle.yq_nodes.specs.Nodes.{Key, bare, keyed, Sep, last, comma, key_text, sep_text, first_is, in_name, begins_node, IsApart, IsLead, IsName, ends_key, IsInlineKey, IsSep, is_keyed}
+use Rattle.yq_nodes.specs.Nodes.{Key, Sep, last, comma, key_text, sep_text, first_is, in_name, begins_node, IsApart, IsLead, IsName, ends_key, IsInlineKey, IsSep, is_keyed}
 use Rattle.yq_nodes.specs.Reading.{gap_at, scalar_at, with_its_lines, name_at, apart_at, lead_at, colon_at, key_at, sep_at, sep_behind}
 use Rattle.yq_nodes.specs.Scalars.{is_quoted, has_its_lines, IsScalarAt, begins_scalar}
 use Rattle.yq_nodes.proofs.Binds.{not_then}
@@ -29,20 +29,8 @@ pub front_is : (k : ℕ) (t : List ℕ) → first_is k t ≡ true → t ≡ k �
 front_is k [] h = absurd (false≢true h)
 front_is k (b ∷ t) h = ap (λ x. x ∷ t) (eqb-true b k h)
 
--- plain scalars
-no_flow : (flow : Bool) (b : ℕ) (bs : List ℕ) → begins_plain flow (b ∷ bs) ≡ true → is_flow_indicator b ≡ false
-no_flow flow b bs h =
-    let isnt : (k : ℕ) → ((cs : List ℕ) → begins_plain flow (k ∷ cs) ≡ false) → eqb b k ≡ false = λ k never. front_not (begins_plain flow) k never (b ∷ bs) h in
-    rw (isnt 44 (λ cs. refl), isnt 91 (λ cs. refl), isnt 93 (λ cs. refl), isnt 123 (λ cs. refl), isnt 125 (λ cs. refl)) refl
-
 goes_on : (flow : Bool) (b : ℕ) (bs : List ℕ) → begins_plain flow (b ∷ bs) ≡ true → ends_text flow (b ∷ bs) ≡ false
-goes_on flow b bs h = elim (eqb b 58) as (λ c. eqb b 58 ≡ c → ((c && not (is_safe flow bs)) || (flow && is_flow_indicator b)) ≡ false) [
-  | true ↦ (λ e.
-      let colon : begins_plain flow (58 ∷ bs) ≡ true = subst (λ (x : ℕ). begins_plain flow (x ∷ bs) ≡ true) (eqb-true b 58 e) h in
-      let safe : is_safe flow bs ≡ true = colon in
-      rw (safe, no_flow flow b bs h) (and-false flow))
-  | false ↦ (λ e. rw (no_flow flow b bs h) (and-false flow))
-] refl
+goes_on flow b bs h = search (rules, front_not, eqb-true, and-false)
 
 pub no_space : (flow : Bool) (b : ℕ) (bs : List ℕ) → begins_plain flow (b ∷ bs) ≡ true → is_space (b ∷ bs) ≡ false
 no_space flow b bs h = not-true (is_space (b ∷ bs)) (and_parts _ _ h).0
@@ -54,9 +42,7 @@ plain_no_end flow spaces (b ∷ bs) h = rw (no_space flow b bs h) (goes_on flow 
 -- scalars
 pub scalar_begins : (flow : Bool) (spaces : Option ℕ) (p rest : List ℕ) → IsScalarAt flow spaces p rest → begins_scalar flow (p ++ rest) ≡ true
 scalar_begins flow spaces p rest (inl h) = rw h.begins (elim (is_quoted (p ++ rest)) as (λ b. (b || true) ≡ true) [ true ↦ refl | false ↦ refl ])
-scalar_begins flow spaces p rest (inr h) =
-    let q = h.0.1.1 in
-    rw q.spelled (of_quotes (λ x. (is_quote x || begins_plain flow (x ∷ ((spell_lines h.0.1.0 ++ (x ∷ [])) ++ rest))) ≡ true) h.0.0 q.quotes refl refl)
+scalar_begins flow spaces p rest (inr h) = search (rules, of_quotes)
 
 pub scalar_some : (flow : Bool) (spaces : Option ℕ) (p rest : List ℕ) → IsScalarAt flow spaces p rest → 0 < length p
 scalar_some flow spaces (b ∷ p) rest h = omega arith
@@ -78,18 +64,11 @@ scalar_takes flow spaces t x h = ⊎_elim {0, 0, 0}
     (chosen (is_quoted t) h)
 
 plain_no_quote : (flow : Bool) (t : List ℕ) → begins_plain flow t ≡ true → is_quoted t ≡ false
-plain_no_quote flow [] h = refl
-plain_no_quote flow (b ∷ t) h =
-    let isnt : (k : ℕ) → ((cs : List ℕ) → begins_plain flow (k ∷ cs) ≡ false) → eqb b k ≡ false = λ k never. front_not (begins_plain flow) k never (b ∷ t) h in
-    rw (isnt 34 (λ cs. refl), isnt 39 (λ cs. refl)) refl
+plain_no_quote flow t h1 = search (rules, front_not)
 
 pub scalar_again : (flow : Bool) (spaces : Option ℕ) (p rest : List ℕ) → IsScalarAt flow spaces p rest → scalar_at flow spaces (p ++ rest) ≡ Some (p, rest)
 unfolding scalar_at
-scalar_again flow spaces p rest (inl h) = rw (plain_no_quote flow (p ++ rest) h.begins) (plain_again flow spaces p rest h)
-scalar_again flow spaces p rest (inr h) =
-    let q = h.0.1.1 in
-    let quoted : is_quoted (p ++ rest) ≡ true = rw q.spelled (of_quotes (λ x. is_quote x ≡ true) h.0.0 q.quotes refl refl) in
-    rw quoted (rw (quoted_again h.0.0 h.0.1.0 p rest q) (rw h.1 refl))
+scalar_again flow spaces p rest h1 = search (rules, plain_no_quote, plain_again, of_quotes, quoted_again)
 
 -- names
 name_some : (t : List ℕ) → unless in_name t ≡ false → is_empty (cut (unless in_name) t).0 ≡ false
@@ -139,12 +118,7 @@ lead_takes flow begins t x h =
 
 pub lead_again : (flow : Bool) (begins : List ℕ → Bool) (p rest : List ℕ) → IsLead flow begins p rest → lead_at flow begins (p ++ rest) ≡ Some (p, rest)
 unfolding lead_at
-lead_again flow begins p rest h = ⊎_elim {0, 0, 0}
-    (λ (e : IsApart flow p rest × (begins rest ≡ true)). rw (apart_again flow p rest e.0) (rw e.1 refl))
-    (λ e. let t = e.1 in
-    let gap : apart_at flow rest ≡ Some (t.0, t.1) = ap (apart_at flow) t.2 ∙ apart_again flow t.0 t.1 t.3 in
-    rw e.0 (rw gap (rw t.4 refl)))
-    h
+lead_again flow begins p rest h = search (rules, ⊎_elim, apart_again)
 
 -- the `:` of a key
 colon_takes : (p t r : List ℕ) → colon_at p t ≡ Some r → (t ≡ 58 ∷ r) × (ends_key p r ≡ true)
@@ -153,10 +127,6 @@ colon_takes p t r h =
     let g = cond_some (first_is 58 t && ends_key p (drop 1 t)) _ _ h in
     let tests = and_parts (first_is 58 t) (ends_key p (drop 1 t)) g.0 in
     subst (λ (y : List ℕ). (t ≡ 58 ∷ y) × (ends_key p y ≡ true)) g.1 (front_is 58 t tests.0, tests.1)
-
-colon_again : (p r : List ℕ) → ends_key p r ≡ true → colon_at p (58 ∷ r) ≡ Some r
-unfolding colon_at
-colon_again p r h = rw h refl
 
 -- keys
 pub key_takes : (t : List ℕ) (x : Key × List ℕ) → key_at t ≡ Some x → (t ≡ key_text x.0 x.1) × IsInlineKey 125 x.0 x.1
@@ -176,10 +146,8 @@ key_takes t x h =
     (a.0 ∙ ap (λ l. key.0.0 ++ l) all, (refl, subst (IsScalarAt true None key.0.0) all a.1, subst (IsInlineGap before.0.0) behind b.1, subst (λ (r : List ℕ). ends_key key.0.0 r ≡ true) d.0 c.1, d.1))
 
 pub key_again : (key : Key) (rest : List ℕ) → is_keyed key ≡ true → IsInlineKey 125 key rest → key_at (key_text key rest) ≡ Some (key, rest)
-unfolding key_at
-key_again bare rest e h = absurd (false≢true e)
-key_again (keyed t b g) rest e h =
-    rw (scalar_again true None t (b ++ (58 ∷ (g ++ rest))) h.1) (rw (gap_again b (58 ∷ (g ++ rest)) h.2) (rw (colon_again t (g ++ rest) h.3) (rw (lead_again true (begins_node true) g rest h.4) refl)))
+unfolding key_at colon_at
+key_again key rest h1 h2 = search (rules, false≢true, scalar_again, gap_again, lead_again)
 
 -- what stands behind an item
 abbrev Sepd : ℕ → List ℕ → Sep × List ℕ → Type 0

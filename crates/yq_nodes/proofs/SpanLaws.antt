@@ -1,5 +1,5 @@
 -- The places of a node lie in order, at whole characters.
-use Rattle.std.proofs.Common.{◌≡◌, ℕ, zero, suc, ◌+◌, ◌-◌, ◌≤◌, Bool, true, false, cond, eqb, List, [], ◌∷◌, ◌++◌, length, take, Option, Some, None, refl, sym, ap, ◌∙◌, subst, append_assoc, arith, length-append, ℤ, Result, Ok, Err, IfOk}
+use Rattle.std.proofs.Common.{◌≡◌, ℕ, zero, suc, ◌+◌, ◌-◌, ◌≤◌, Bool, true, false, cond, eqb, List, [], ◌∷◌, ◌++◌, length, take, Option, Some, None, refl, sym, ap, ◌∙◌, subst, append_assoc, arith, length-append, ℤ, Result, Ok, Err, IfOk, rules}
 use Rattle.std.proofs.lemmas.Str.{IsCharBoundary-at_seam, IsUtf8-drop}
 use Rattle.std.proofs.lemmas.List.{take-append-drop}
 use Rattle.std.specs.Str.{IsUtf8, IsCharBoundary}
@@ -22,9 +22,6 @@ record IsLeft (t r : List ℕ) : Type 0 where
   before : List ℕ
   is : t ≡ before ++ r
   utf8 : IsUtf8 r
-
-left_within : (t r : List ℕ) → IsLeft t r → length r ≤ length t
-left_within t r h = omega (arith, ap length h.is, length-append h.before r)
 
 boundary : (t r : List ℕ) → IsLeft t r → IsCharBoundary t (length t - length r)
 boundary t r h =
@@ -51,10 +48,6 @@ content_of (placed a s c e f) = c
 anchor_spans : (t n : List ℕ) (start : ℕ) (p : Placed) → IsSpan t start (content_of p) → HasSpans t p → HasSpans t (with_anchor n start p)
 anchor_spans t n start (placed a s c e f) first h = (first, h.1, h.2)
 
--- a node's content begins no earlier than the node
-anchor_content : (n : List ℕ) (start : ℕ) (p : Placed) → content_of (with_anchor n start p) ≡ content_of p
-anchor_content n start (placed a s c e f) = refl
-
 content_from : (total : ℕ) (node : Node) (rest : List ℕ) → total - length (node_text node rest) ≤ content_of (locate total node rest)
 unfolding locate node_text
 content_from total empty rest = omega arith
@@ -63,7 +56,7 @@ content_from total (scalar p) rest = omega arith
 content_from total (coll k g is) rest = omega arith
 content_from total (anchored n g node) rest =
     let a : List ℕ = 38 ∷ (n ++ (g ++ node_text node rest)) in
-    omega (arith, anchor_content n (total - length a) (locate total node rest), content_from total node rest, length-append n (g ++ node_text node rest), length-append g (node_text node rest))
+    search (rules, length-append, a, content_from total node rest)
 
 content_ends : (t : List ℕ) (p : Placed) → HasSpans t p → IsCharBoundary t (content_of p)
 content_ends t (placed a s c e f) h = h.0.ends
@@ -73,7 +66,7 @@ key_spans t k bare r h x = tt
 key_spans t k (keyed p b g) r h x =
     let more : List ℕ = b ++ (58 ∷ (g ++ r)) in
     let behind = less t (p ++ more) p more refl x (scalar_past true None p more h.1 x.utf8) in
-    let there : length t - length (p ++ more) + length p ≡ length t - length more = omega (arith, length-append p more, left_within t (p ++ more) x) in
+    let there : length t - length (p ++ more) + length p ≡ length t - length more = search (rules, length-append, more) in
     subst (λ (n : ℕ). IsSpan t (length t - length (p ++ more)) n) (sym there) (span t (p ++ more) more x behind (omega (arith, length-append p more)))
 
 past_key : (t : List ℕ) (k : ℕ) (key : Key) (r : List ℕ) → IsInlineKey k key r → IsLeft t (key_text key r) → IsLeft t r

@@ -1,5 +1,5 @@
 -- Steps of reading, as the code takes them.
-use Rattle.std.proofs.Common.{◌≡◌, ℕ, zero, suc, ◌-◌, Bool, true, false, cond, not, ◌&&◌, ◌||◌, eqb, List, ◌∷◌, ◌++◌, length, drop, Option, Some, None, refl, sym, ap, ◌∙◌, subst, Result}
+use Rattle.std.proofs.Common.{◌≡◌, ℕ, zero, suc, ◌-◌, Bool, true, false, cond, not, ◌&&◌, ◌||◌, eqb, List, ◌∷◌, ◌++◌, length, drop, Option, Some, None, refl, sym, ap, ◌∙◌, subst, Result, rules}
 use Rattle.std.proofs.lemmas.Bool.{false≢true}
 use Rattle.std.proofs.lemmas.Option.{same_Some}
 use Rattle.yq_flow_scalars.specs.declared.fault.ReadError.{ReadError}
@@ -7,45 +7,30 @@ use Rattle.yq_flow_scalars.specs.declared.fault.ReadError.TheVariants as errors
 use Rattle.yq_flow_scalars.specs.declared.piece.Piece.{Piece}
 use Rattle.yq_flow_scalars.specs.Answers.{◌>>=◌, ReadFails, Gives}
 use Rattle.yq_flow_scalars.specs.Text.{is_empty}
-use Rattle.yq_nodes.specs.Nodes.{first_is, Key, bare, keyed, Node, empty, alias, scalar, coll, anchored, Items, item, key_text, sep_text, node_text, items_text, begins_content, is_keyed, is_bare, takes_anchor, IsInlineKey}
-use Rattle.yq_nodes.specs.Places.{Placed, placed, mapping, sequence, Parts, end, part, key_placed, key_here, locate, locate_items, placed_between, with_anchor, bare_in, bare_placed, holder}
+use Rattle.yq_nodes.specs.Nodes.{first_is, Key, bare, keyed, Node, anchored, Items, item, key_text, sep_text, node_text, items_text, begins_content, is_keyed, is_bare, takes_anchor, IsInlineKey}
+use Rattle.yq_nodes.specs.Places.{Placed, mapping, sequence, Parts, end, part, key_placed, key_here, locate, locate_items, placed_between, with_anchor, bare_in, bare_placed, holder}
 use Rattle.yq_nodes.specs.PlacedReading.{piece_of, content_in, placed_node, placed_items, placed_content, placed_key, past_sep, placed_item, placed_entry, takes_in, takes_placed, then_anchored}
-use Rattle.yq_nodes.specs.Reading.{gap_at, scalar_at, name_at, lead_at, key_at, sep_at, Kids, coll_at, content_at, node_at, all_items, kids_of, all_node}
+use Rattle.yq_nodes.specs.Reading.{name_at, lead_at, key_at, sep_at, Kids, coll_at, content_at, node_at, all_items, kids_of, all_node}
 use Rattle.yq_nodes.proofs.Binds.{bind_same, bind_bind}
 use Rattle.yq_nodes.proofs.PieceLaws.{name_takes, lead_takes, key_takes, sep_takes, front_is}
 use Rattle.yq_nodes.proofs.NodeTakes.{content_takes, lead_amp, KidsTake, items_takes}
 use Rattle.yq_nodes.proofs.NodeLaws.{items_step, items_done, all_takes, then_node, then_sep, then_items}
 use Rattle.yq_nodes.proofs.NodeAgain.{is_anchored}
 
-bare_with : (n : List ℕ) (start : ℕ) (s : Placed) → bare_placed (with_anchor n start s) ≡ false
-bare_with n start (placed a b c e f) = refl
-
 bare_holder : (k : ℕ) (s : Parts) → (bare_in None (holder k s) ≡ false) × (takes_in None (holder k s) ≡ true)
 bare_holder k s = elim (eqb k 125) as (λ c. (bare_in None (cond c (mapping s) (sequence s)) ≡ false) × (takes_in None (cond c (mapping s) (sequence s)) ≡ true)) [ true ↦ (refl, refl) | false ↦ (refl, refl) ]
 
 pub bare_locate : (total : ℕ) (node : Node) (rest : List ℕ) → bare_placed (locate total node rest) ≡ is_bare node
 unfolding locate
-bare_locate total empty rest = refl
-bare_locate total (alias n) rest = refl
-bare_locate total (scalar p) rest = refl
-bare_locate total (coll k g is) rest = (bare_holder k (locate_items total k is rest)).0
-bare_locate total (anchored n g node) rest = bare_with n _ (locate total node rest)
+bare_locate total node rest = search (rules, bare_holder)
 
 -- a node without an anchor looks as its content
 locate_content : (total : ℕ) (node : Node) (rest t : List ℕ) → is_anchored node ≡ false → t ≡ node_text node rest → locate total node rest ≡ placed_between total t rest (content_in total t node rest)
 unfolding locate
-locate_content total empty rest t a e = rw e refl
-locate_content total (alias n) rest t a e = rw e refl
-locate_content total (scalar p) rest t a e = rw e refl
-locate_content total (coll k g is) rest t a e = rw e refl
-locate_content total (anchored n g node) rest t a e = absurd (false≢true (sym a))
+locate_content total node rest t h1 h2 = search (rules, false≢true)
 
 bare_in_place : (total : ℕ) (node : Node) (rest t : List ℕ) → is_anchored node ≡ false → (bare_placed (placed_between total t rest (content_in total t node rest)) ≡ is_bare node) × (takes_placed (placed_between total t rest (content_in total t node rest)) ≡ takes_anchor node)
-bare_in_place total empty rest t a = (refl, refl)
-bare_in_place total (alias n) rest t a = (refl, refl)
-bare_in_place total (scalar p) rest t a = (refl, refl)
-bare_in_place total (coll k g is) rest t a = bare_holder k (locate_items total k is rest)
-bare_in_place total (anchored n g node) rest t a = absurd (false≢true (sym a))
+bare_in_place total node rest t h1 = search (rules, bare_holder, false≢true)
 
 -- items
 pub items_end : (total d k : ℕ) (t : List ℕ) → first_is k t ≡ true → placed_items total d k t ≡ Some (end, drop 1 t)
@@ -64,8 +49,7 @@ items_text_is d k t x h = (items_takes (suc (length t)) d k t x h).0
 key_keyed : (t : List ℕ) (x : Key × List ℕ) → key_at t ≡ Some x → is_keyed x.0 ≡ true
 key_keyed t x h = go x.0 x.1 (key_takes t x h).1 where
   go : (key : Key) (rest : List ℕ) → IsInlineKey 125 key rest → is_keyed key ≡ true
-  go bare rest h = absurd (false≢true (sym h))
-  go (keyed a b g) rest h = refl
+  go key rest h1 = search (rules, false≢true)
 
 -- behind a node
 sep_step : (total d k : ℕ) (t : List ℕ) (key : Key) (node : Node × List ℕ) → t ≡ key_text key (node_text node.0 node.1) → (is_keyed key || not (is_bare node.0)) ≡ true →
@@ -99,10 +83,7 @@ items_by_node total d t h =
     ∙ sym (bind_bind (all_node true (Some 0) d t) (λ x. Some (locate total x.0 x.1, x.1)) (λ x. cond (bare_placed x.0) None (then_value total d 93 None x)))))
 
 pub items_more : (total d : ℕ) (t : List ℕ) → first_is 93 t ≡ false → placed_items total d 93 t ≡ (placed_item total d t >>= λ x. then_entry total d 93 None x.0 x.1)
-items_more total d t h =
-    items_by_node total d t h
-    ∙ (bind_same (λ x. cond (bare_placed x.0) None (then_value total d 93 None x)) (λ x. item_behind x >>= whole_item) (placed_node true (Some 0) total d t) (λ x _. one x (bare_placed x.0))
-    ∙ sym (bind_bind (placed_node true (Some 0) total d t) item_behind whole_item))
+items_more total d t h = search (rules, items_by_node, bind_same, bind_bind, one, whole_item, item_behind)
   where
     whole_item : Placed × List ℕ → Option (Parts × List ℕ)
     whole_item x = then_entry total d 93 None x.0 x.1
@@ -114,8 +95,7 @@ items_more total d t h =
     item_behind x = cond (bare_placed x.0) None (past_item x)
 
     one : (x : Placed × List ℕ) (b : Bool) → cond b None (then_value total d 93 None x) ≡ (cond b None (past_item x) >>= whole_item)
-    one x true = refl
-    one x false = sym (bind_bind (past_sep 93 x.1) (λ r. Some (x.0, r)) whole_item)
+    one x b = search (rules, bind_bind, whole_item)
 
 -- a key's place
 keyed_place : (total : ℕ) (t : List ℕ) (key : Key) → is_keyed key ≡ true → key_placed total t key ≡ Some (key_here total t (piece_of key))
@@ -131,8 +111,7 @@ key_bind total t f = go (key_at t) where
   here x = Some (key_here total t x.0, x.1)
 
   go : (o : Option (Key × List ℕ)) → (((o >>= key_pieces) >>= here) >>= f) ≡ (o >>= λ key. f (key_here total t (piece_of key.0), key.1))
-  go (Some x) = refl
-  go None = refl
+  go o = search rules
 
 abbrev then_node_placed : ℕ → ℕ → (List ℕ × Piece) × List ℕ → Option (Parts × List ℕ)
 then_node_placed total d key = placed_node true (Some 0) total d key.1 >>= then_value total d 125 (Some key.0)
@@ -149,32 +128,10 @@ entry_step total d t key e =
     ∙ sym (bind_bind (all_node true (Some 0) d key.1) (λ x. Some (locate total x.0 x.1, x.1)) (then_value total d 125 (Some (key_here total t (piece_of key.0))))))
 
 entries_by_key : (total d : ℕ) (t : List ℕ) → first_is 125 t ≡ false → placed_items total d 125 t ≡ (placed_key total t >>= λ key. placed_node true (Some 0) total d key.1 >>= then_value total d 125 (Some key.0))
-entries_by_key total d t h =
-    ap (λ o. o >>= λ x. Some (locate_items total 125 x.0 x.1, x.1)) (items_step d 125 t h)
-    ∙ (bind_bind (key_at t) (then_node d 125) (λ x. Some (locate_items total 125 x.0 x.1, x.1))
-    ∙ (bind_same (λ key. then_node d 125 key >>= λ x. Some (locate_items total 125 x.0 x.1, x.1)) (λ key. then_node_placed total d (key_here total t (piece_of key.0), key.1)) (key_at t)
-    (entry_step total d t)
-    ∙ sym (key_bind total t (then_node_placed total d))))
+entries_by_key total d t h = search (rules, items_step, bind_bind, then_node, bind_same, entry_step, key_bind)
 
 pub entries_more : (total d : ℕ) (t : List ℕ) → first_is 125 t ≡ false → placed_items total d 125 t ≡ (placed_entry total d t >>= λ x. then_entry total d 125 (Some x.0.0) x.0.1 x.1)
-entries_more total d t h =
-    entries_by_key total d t h
-    ∙ (bind_same (then_node_placed total d) (λ key. value_behind key >>= whole_entry) (placed_key total t) (λ key _. by_value key)
-    ∙ sym (bind_bind (placed_key total t) value_behind whole_entry))
-  where
-    whole_entry : ((List ℕ × Piece) × Placed) × List ℕ → Option (Parts × List ℕ)
-    whole_entry x = then_entry total d 125 (Some x.0.0) x.0.1 x.1
-
-    sep_behind : List ℕ × Piece → Placed × List ℕ → Option (((List ℕ × Piece) × Placed) × List ℕ)
-    sep_behind key x = past_sep 125 x.1 >>= λ r. Some ((key, x.0), r)
-
-    value_behind : (List ℕ × Piece) × List ℕ → Option (((List ℕ × Piece) × Placed) × List ℕ)
-    value_behind key = placed_node true (Some 0) total d key.1 >>= sep_behind key.0
-
-    by_value : (key : (List ℕ × Piece) × List ℕ) → then_node_placed total d key ≡ (value_behind key >>= whole_entry)
-    by_value key =
-        bind_same (then_value total d 125 (Some key.0)) (λ x. sep_behind key.0 x >>= whole_entry) (placed_node true (Some 0) total d key.1) (λ x _. sym (bind_bind (past_sep 125 x.1) (λ r. Some ((key.0, x.0), r)) whole_entry))
-        ∙ sym (bind_bind (placed_node true (Some 0) total d key.1) (sep_behind key.0) whole_entry)
+entries_more total d t h = simp (entries_by_key, bind_same, bind_bind)
 
 -- nodes
 kids_all : (d n : ℕ) → KidsTake (kids_of d) d
@@ -183,29 +140,7 @@ kids_all (suc d) n k t y h = items_takes (suc (length t)) d k t y h
 
 not_anchored : (flow : Bool) (spaces : Option ℕ) (kids : Kids) (t : List ℕ) (x : Node × List ℕ) → content_at flow spaces kids t ≡ Some x → is_anchored x.0 ≡ false
 unfolding content_at coll_at
-not_anchored flow spaces kids t x h = go (first_is 42 t) (first_is 91 t) (first_is 123 t) (begins_content flow t) h where
-  named : (r : Option (List ℕ × List ℕ)) → (r >>= λ x. Some (alias x.0, x.1)) ≡ Some x → is_anchored x.0 ≡ false
-  named (Some y) e = subst (λ (z : Node × List ℕ). is_anchored z.0 ≡ false) (same_Some _ _ e) refl
-  named None e = cc
-
-  piece : (r : Option (List ℕ × List ℕ)) → (r >>= λ x. Some (scalar x.0, x.1)) ≡ Some x → is_anchored x.0 ≡ false
-  piece (Some y) e = subst (λ (z : Node × List ℕ). is_anchored z.0 ≡ false) (same_Some _ _ e) refl
-  piece None e = cc
-
-  inner : (k : ℕ) (g : List ℕ) (r : Option (Items × List ℕ)) → (r >>= λ items. Some (coll k g items.0, items.1)) ≡ Some x → is_anchored x.0 ≡ false
-  inner k g (Some y) e = subst (λ (z : Node × List ℕ). is_anchored z.0 ≡ false) (same_Some _ _ e) refl
-  inner k g None e = cc
-
-  bracket : (k : ℕ) (r : Option (List ℕ × List ℕ)) → (r >>= λ gap. kids k gap.1 >>= λ items. Some (coll k gap.0 items.0, items.1)) ≡ Some x → is_anchored x.0 ≡ false
-  bracket k (Some g) e = inner k g.0 (kids k g.1) e
-  bracket k None e = cc
-
-  go : (a b c d : Bool) → cond a (name_at (drop 1 t) >>= λ x. Some (alias x.0, x.1)) (cond b (gap_at (drop 1 t) >>= λ gap. kids 93 gap.1 >>= λ items. Some (coll 93 gap.0 items.0, items.1)) (cond c (gap_at (drop 1 t) >>= λ gap. kids 125 gap.1 >>= λ items. Some (coll 125 gap.0 items.0, items.1)) (cond d (scalar_at flow spaces t >>= λ x. Some (scalar x.0, x.1)) (Some (empty, t))))) ≡ Some x → is_anchored x.0 ≡ false
-  go true b c d e = named (name_at (drop 1 t)) e
-  go false true c d e = bracket 93 (gap_at (drop 1 t)) e
-  go false false true d e = bracket 125 (gap_at (drop 1 t)) e
-  go false false false true e = piece (scalar_at flow spaces t) e
-  go false false false false e = subst (λ (z : Node × List ℕ). is_anchored z.0 ≡ false) (same_Some _ _ e) refl
+not_anchored flow spaces kids t x h = search (rules, is_anchored, same_Some)
 
 pub node_plain : (flow : Bool) (spaces : Option ℕ) (total d : ℕ) (t : List ℕ) → first_is 38 t ≡ false → placed_node flow spaces total d t ≡ placed_content flow spaces total d t
 unfolding node_at
@@ -216,9 +151,7 @@ node_plain flow spaces total d t h = rw h
 locate_anchored : (total d : ℕ) (t n r g s : List ℕ) (x : Node × List ℕ) → t ≡ 38 ∷ (n ++ r) → r ≡ g ++ s → s ≡ node_text x.0 x.1 → is_anchored x.0 ≡ false →
     locate total (anchored n g x.0) x.1 ≡ with_anchor n (total - length t) (placed_between total s x.1 (content_in total s x.0 x.1))
 unfolding locate node_text
-locate_anchored total d t n r g s x e f h a =
-    let whole : t ≡ 38 ∷ (n ++ (g ++ node_text x.0 x.1)) = e ∙ ap (λ l. 38 ∷ (n ++ l)) (f ∙ ap (λ l. g ++ l) h) in
-    ap (λ (l : List ℕ). with_anchor n (total - length l) (locate total x.0 x.1)) (sym whole) ∙ ap (with_anchor n (total - length t)) (locate_content total x.0 x.1 s a h)
+locate_anchored total d t n r g s x e f h a = search (rules, locate_content)
 
 anchored_step : (total d : ℕ) (t n r g s : List ℕ) (x : Node × List ℕ) → t ≡ 38 ∷ (n ++ r) → r ≡ g ++ s → s ≡ node_text x.0 x.1 → is_anchored x.0 ≡ false →
     (◌>>=◌ {A = Node × List ℕ} {B = Placed × List ℕ} (cond ((is_bare x.0 || not (is_empty g)) && takes_anchor x.0) (Some (anchored n g x.0, x.1)) None) (λ x. Some (locate total x.0 x.1, x.1))) ≡ then_anchored total t n g (placed_between total s x.1 (content_in total s x.0 x.1), x.1)
@@ -259,3 +192,6 @@ pub node_gives : {X : Type 0} (v : X → Placed × List ℕ) (o : Result X ReadE
 node_gives v o flow spaces total d t n r g s x amp name lead h answer =
     let is : placed_node flow spaces total d t ≡ then_anchored total t n g x = node_anchored flow spaces total d t n r g s amp name lead ∙ rw h refl in
     subst (Gives v o) (sym is) answer
+
+-- the steps of reading a node
+pub ruleset node_steps = (node_plain, node_fails, node_gives, node_no_name, node_no_lead)

@@ -1,22 +1,15 @@
 -- The tree of a node with its places is that of its pieces.
-use Rattle.std.proofs.Common.{◌≡◌, ℕ, true, false, cond, eqb, List, Option, Some, None, refl, sym, ap, ◌∙◌}
+use Rattle.std.proofs.Common.{◌≡◌, ℕ, true, false, cond, eqb, List, None, refl, ap, ◌∙◌, rules}
 use Rattle.yq_flow_scalars.specs.Tree as tree
 use Rattle.yq_nodes.specs.Nodes.{Key, bare, keyed, Node, empty, alias, scalar, coll, anchored, Items, none, item, key_text, sep_text, node_text, items_text}
 use Rattle.yq_nodes.specs.Places.{Placed, placed, sequence, mapping, Parts, holder, key_placed, locate, locate_items, with_anchor}
-use Rattle.yq_nodes.specs.Trees.{inner, collection, with_name, named, key_content, tree_of, items_tree, unplaced_key, placed_tree, content_tree, parts_tree}
+use Rattle.yq_nodes.specs.Trees.{inner, collection, with_name, key_content, tree_of, items_tree, unplaced_key, placed_tree, content_tree, parts_tree}
 
 holder_tree : (k : ℕ) (parts : Parts) → content_tree (holder k parts) ≡ collection k (parts_tree parts)
 holder_tree k parts = elim (eqb k 125) as (λ c. content_tree (cond c (mapping parts) (sequence parts)) ≡ cond c (tree.map None (parts_tree parts)) (tree.list None (parts_tree parts))) [ true ↦ refl | false ↦ refl ]
 
-named_again : (n : List ℕ) (a : Option (List ℕ)) (v : tree.Node) → with_name n (named a v) ≡ with_name n v
-named_again n None v = refl
-named_again n (Some a) (tree.alias m) = refl
-named_again n (Some a) (tree.scalar b kind t) = refl
-named_again n (Some a) (tree.list b cs) = refl
-named_again n (Some a) (tree.map b cs) = refl
-
 anchor_tree : (n : List ℕ) (start : ℕ) (p : Placed) → placed_tree (with_anchor n start p) ≡ with_name n (placed_tree p)
-anchor_tree n start (placed a s c e what) = sym (named_again n a (content_tree what))
+anchor_tree n start (placed a s c e what) = search rules
 
 pub key_tree : (total : ℕ) (t : List ℕ) (key : Key) → unplaced_key (key_placed total t key) ≡ key_content key
 key_tree total t bare = refl

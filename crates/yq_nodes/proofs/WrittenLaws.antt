@@ -1,12 +1,11 @@
 -- What is written in flow style.
-use Rattle.std.proofs.Common.{◌≡◌, ℕ, Bool, true, false, cond, not, ◌&&◌, ◌||◌, List, [], ◌∷◌, ◌++◌, map, Some, None, refl, sym, ap, ◌∙◌, append_assoc, rules, String, string_bytes, Result, Ok, Err, is_ok, OnOk}
+use Rattle.std.proofs.Common.{◌≡◌, ℕ, Bool, true, false, cond, not, ◌&&◌, ◌||◌, List, [], ◌∷◌, ◌++◌, map, None, refl, sym, ap, ◌∙◌, append_assoc, rules, String, string_bytes, Result, is_ok, OnOk}
 use Rattle.std.specs.declared.alloc.Global.{Global}
 use Rattle.std.specs.Prelude.{Vec}
 use Rattle.yq_nodes.specs.declared.value.Value.{Value}
 use Rattle.yq_nodes.specs.declared.value.Value.TheVariants as values
 use Rattle.yq_nodes.specs.declared.value.Value.TheFolds.{the_lemmas}
 use Rattle.std.proofs.lemmas.Bool.{false≢true}
-use Rattle.yq_flow_scalars.specs.declared.kind.Kind.{Kind}
 use Rattle.yq_flow_scalars.specs.declared.kind.Kind.TheVariants as kinds
 use Rattle.yq_flow_scalars.specs.declared.style.Place.{Place}
 use Rattle.yq_flow_scalars.specs.declared.style.Style.TheVariants as styles
@@ -15,9 +14,9 @@ use Rattle.yq_flow_scalars.specs.Scalar.{ScalarText}
 use Rattle.yq_flow_scalars.specs.SchemaReading.{resolve}
 use Rattle.yq_flow_scalars.specs.Tree as tree
 use Rattle.yq_flow_scalars.specs.Writable.{can_write, can_write_plain, in_flow, is_string}
-use Rattle.yq_nodes.specs.Nodes.{Key, bare, keyed, Sep, last, comma, Node, empty, alias, scalar, coll, anchored, Items, none, item, key_text, sep_text, node_text, items_text, open_of}
+use Rattle.yq_nodes.specs.Nodes.{Key, Sep, Node, empty, alias, scalar, coll, anchored, Items, none, item, key_text, sep_text, node_text, items_text, open_of}
 use Rattle.yq_nodes.specs.Values.{node_of, items, entries, item as an_item, entry}
-use Rattle.yq_nodes.specs.Written.{flow_of, flow_items, flow_sep, flow_key, flow_text, key_front, listed, entry_text}
+use Rattle.yq_nodes.specs.Written.{flow_of, flow_items, flow_sep, flow_key, flow_text, listed, entry_text}
 
 -- the style of a scalar can write it
 double_can : (string resolved plain : Bool) → (not string || (resolved && plain)) ≡ false → string ≡ true
@@ -32,25 +31,13 @@ double_when s place h = double_can (is_string s.kind) (is_string (resolve s.text
 -- what is no string stands plain
 pub other_plain : (s : ScalarText) (place : Place) → (s.kind ≡ kinds.Text → ⊥) → can_write s styles.Plain place ≡ true
 unfolding can_write_plain
-other_plain s place h = go s.kind h where
-  go : (k : Kind) → (k ≡ kinds.Text → ⊥) → (not (is_string k) || (is_string (resolve s.text) && is_plain_text (in_flow place) s.text)) ≡ true
-  go kinds.Null e = refl
-  go kinds.Bool e = refl
-  go kinds.Int e = refl
-  go kinds.Float e = refl
-  go kinds.Text e = absurd (e refl)
+other_plain s place h = search rules
 
 pub key_append : (key : Key) (r s : List ℕ) → key_text key (r ++ s) ≡ key_text key r ++ s
-key_append bare r s = refl
-key_append (keyed t b g) r s =
-    let inner : g ++ (r ++ s) ≡ (g ++ r) ++ s = sym (append_assoc g r s) in
-    ap (λ l. t ++ (b ++ (58 ∷ l))) inner
-    ∙ (ap (λ l. t ++ l) (sym (append_assoc b (58 ∷ (g ++ r)) s)) ∙ sym (append_assoc t (b ++ (58 ∷ (g ++ r))) s))
+key_append key r s = search (rules, append_assoc)
 
 pub sep_append : (sep : Sep) (r s : List ℕ) → sep_text sep (r ++ s) ≡ sep_text sep r ++ s
-sep_append (last b) r s = sym (append_assoc b r s)
-sep_append (comma b g) r s =
-    ap (λ l. b ++ (44 ∷ l)) (sym (append_assoc g r s)) ∙ sym (append_assoc b (44 ∷ (g ++ r)) s)
+sep_append sep r s = search (rules, append_assoc)
 
 mutual
   unfolding node_text items_text
@@ -95,41 +82,25 @@ item_text k label n cs = ap (key_text (flow_key label.key)) (node_then (flow_of 
 items_rest : (k : ℕ) (ns : List tree.Node) → between (items ns) ++ rest_text k (items ns) ≡ listed false (map flow_text ns) ++ k ∷ []
 unfolding items_text flow_items
 items_rest k [] = refl
-items_rest k (n ∷ ns) =
-    ap (λ l. 44 ∷ 32 ∷ l) (item_text k an_item n (items ns) ∙ (ap (λ l. flow_text n ++ l) (items_rest k ns) ∙ sym (append_assoc (flow_text n) (listed false (map flow_text ns)) (k ∷ []))))
+items_rest k (n ∷ ns) = simp (item_text, append_assoc, items_rest k ns)
 
 items_all : (k : ℕ) (ns : List tree.Node) → rest_text k (items ns) ≡ listed true (map flow_text ns) ++ k ∷ []
 unfolding items_text flow_items
 items_all k [] = refl
 items_all k (n ∷ ns) = item_text k an_item n (items ns) ∙ (ap (λ l. flow_text n ++ l) (items_rest k ns) ∙ sym (append_assoc (flow_text n) (listed false (map flow_text ns)) (k ∷ [])))
 
--- a list as it is written
-pub list_text : (ns : List tree.Node) → flow_text (tree.list None (items ns)) ≡ 91 ∷ (listed true (map flow_text ns) ++ 93 ∷ [])
-unfolding node_text flow_of
-list_text ns = ap (λ l. 91 ∷ l) (items_all 93 ns)
-
 entry_is : (k : ℕ) (e : List ℕ × tree.Node) (cs : tree.Children) (r : List ℕ) → between cs ++ rest_text k cs ≡ r → rest_text k (tree.child (entry e.0) e.1 cs) ≡ entry_text e ++ r
-entry_is k e cs r h =
-    item_text k (entry e.0) e.1 cs
-    ∙ (ap (λ l. key_text (flow_key (Some e.0)) (flow_text e.1 ++ l)) h
-    ∙ (sym (append_assoc (Rattle.yq_nodes.specs.Written.scalar_text (Rattle.yq_flow_scalars.specs.Scalar.string_of e.0) Rattle.yq_flow_scalars.specs.declared.style.Place.TheVariants.FlowKey) (58 ∷ 32 ∷ []) (flow_text e.1 ++ r))
-    ∙ sym (append_assoc (key_front e.0) (flow_text e.1) r)))
+entry_is k e cs r h = search (rules, item_text, append_assoc)
 
 entries_rest : (k : ℕ) (es : List (List ℕ × tree.Node)) → between (entries es) ++ rest_text k (entries es) ≡ listed false (map entry_text es) ++ k ∷ []
 unfolding items_text flow_items
 entries_rest k [] = refl
-entries_rest k (e ∷ es) =
-    ap (λ l. 44 ∷ 32 ∷ l) (entry_is k e (entries es) _ (entries_rest k es) ∙ sym (append_assoc (entry_text e) (listed false (map entry_text es)) (k ∷ [])))
+entries_rest k (e ∷ es) = search (rules, entry_is, append_assoc, entries_rest k es)
 
 entries_all : (k : ℕ) (es : List (List ℕ × tree.Node)) → rest_text k (entries es) ≡ listed true (map entry_text es) ++ k ∷ []
 unfolding items_text flow_items
 entries_all k [] = refl
 entries_all k (e ∷ es) = entry_is k e (entries es) _ (entries_rest k es) ∙ sym (append_assoc (entry_text e) (listed false (map entry_text es)) (k ∷ []))
-
--- a mapping as it is written
-pub map_text : (es : List (List ℕ × tree.Node)) → flow_text (tree.map None (entries es)) ≡ 123 ∷ (listed true (map entry_text es) ++ 125 ∷ [])
-unfolding node_text flow_of
-map_text es = ap (λ l. 123 ∷ l) (entries_all 125 es)
 
 pub map_twice : {A B C : Type 0} (f : A → B) (g : B → C) (xs : List A) → map g (map f xs) ≡ map (λ x. g (f x)) xs
 map_twice f g [] = refl
@@ -140,14 +111,12 @@ Entry = String Global × Value
 
 -- the text of a list's value, and of a mapping's
 pub list_value : (xs : List Value) → flow_text (tree.list None (items (map node_of xs))) ≡ 91 ∷ (listed true (map (λ v. flow_text (node_of v)) xs) ++ 93 ∷ [])
-list_value xs = list_text (map node_of xs) ∙ ap (λ (l : List (List ℕ)). 91 ∷ (listed true l ++ 93 ∷ [])) (map_twice node_of flow_text xs)
+unfolding node_text flow_of
+list_value xs = simp (items_all, map_twice)
 
 pub map_value : (es : List Entry) → flow_text (tree.map None (entries (map (λ (e : String Global × tree.Node). (string_bytes e.0, e.1)) (map (λ (e : Entry). (e.0, node_of e.1)) es)))) ≡ 123 ∷ (listed true (map (λ (e : Entry). entry_text (string_bytes e.0, node_of e.1)) es) ++ 125 ∷ [])
-map_value es =
-    let pair : String Global × tree.Node → List ℕ × tree.Node = λ e. (string_bytes e.0, e.1) in
-    let as_pair : Entry → String Global × tree.Node = λ e. (e.0, node_of e.1) in
-    map_text (map pair (map as_pair es))
-    ∙ ap (λ (l : List (List ℕ)). 123 ∷ (listed true l ++ 125 ∷ [])) (map_twice pair entry_text (map as_pair es) ∙ map_twice as_pair (λ e. entry_text (pair e)) es)
+unfolding node_text flow_of
+map_value es = simp (entries_all, string_bytes, map_twice)
 
 -- a list's node, and a mapping's
 pub node_list : (v : Vec Value Global) → node_of (values.List v) ≡ tree.list None (items (map node_of v.items))
@@ -158,6 +127,4 @@ node_map v = search (rules, the_lemmas)
 
 -- a text between its brackets, added to others
 pub between_brackets : {A E : Type 0} (r : Result A E) (open_ close : ℕ) (old a b new text all : List ℕ) → a ≡ old ++ open_ ∷ [] → b ≡ a ++ text → new ≡ cond (is_ok r) (b ++ close ∷ []) b → all ≡ open_ ∷ (text ++ close ∷ []) → OnOk r (new ≡ old ++ all)
-between_brackets (Ok x) open_ close old a b new text all first then_ last_ is =
-    last_ ∙ (ap (λ l. l ++ close ∷ []) (then_ ∙ ap (λ l. l ++ text) first) ∙ (append_assoc (old ++ open_ ∷ []) text (close ∷ []) ∙ (append_assoc old (open_ ∷ []) (text ++ close ∷ []) ∙ ap (λ l. old ++ l) (sym is))))
-between_brackets (Err e) open_ close old a b new text all first then_ last_ is = tt
+between_brackets r open_ close old a b new text all h1 h2 h3 h4 = search (rules, append_assoc)

@@ -1,5 +1,5 @@
 -- What stands between the segments that are kept at both ends.
-use Rattle.std.proofs.Common.{◌≡◌, ℕ, ◌+◌, Bool, true, false, cond, List, [], ◌∷◌, ◌++◌, length, nat_eq, refl, sym, ap, ◌∙◌, arith, append_assoc, append-nil, length-append}
+use Rattle.std.proofs.Common.{◌≡◌, ℕ, ◌+◌, Bool, true, false, cond, List, [], ◌∷◌, ◌++◌, length, nat_eq, refl, sym, ap, ◌∙◌, arith, append_assoc, append-nil, length-append, rules}
 use Rattle.std.proofs.lemmas.Bool.{false≢true}
 use Rattle.yq_script.specs.Splice.{Splice}
 use Rattle.yq_script.specs.Script.{Segment, keep, put, old_text, new_text, keep_before, put_before, merged, splice_at, splices_at, changes_behind, are_kept, kept_front, kept_back, from_first, to_last}
@@ -25,15 +25,6 @@ to_last_put (put p x ∷ ss) o w = ap (λ s. put p x ∷ s) (to_last_put ss o w)
 
 -- ---- what is kept behind it
 
-pub back_stays : (ss : List Segment) (t : List ℕ) → kept_back (ss ++ (keep t ∷ [])) ≡ kept_back ss ++ t
-back_stays [] t = append-nil t
-back_stays (keep u ∷ ss) t = (λ i. cond (last_kept ss t i) (u ++ back_stays ss t i) (back_stays ss t i)) ∙ go (are_kept ss)
-  where
-    go : (b : Bool) → cond b (u ++ (kept_back ss ++ t)) (kept_back ss ++ t) ≡ cond b (u ++ kept_back ss) (kept_back ss) ++ t
-    go true = sym (append_assoc u (kept_back ss) t)
-    go false = refl
-back_stays (put o w ∷ ss) t = back_stays ss t
-
 pub back_gives : (ss : List Segment) (o w : List ℕ) → kept_back (ss ++ (put o w ∷ [])) ≡ []
 back_gives [] o w = refl
 back_gives (keep u ∷ ss) o w = (λ i. cond (last_gives ss o w i) (u ++ back_gives ss o w i) (back_gives ss o w i))
@@ -56,8 +47,7 @@ new_last [] = refl
 new_last (keep t ∷ ss) = go (are_kept ss) refl (new_last ss)
   where
     go : (b : Bool) → are_kept ss ≡ b → new_text ss ≡ new_text (to_last ss) ++ kept_back ss → t ++ new_text ss ≡ new_text (cond b [] (keep t ∷ to_last ss)) ++ cond b (t ++ kept_back ss) (kept_back ss)
-    go true e more = ap (λ u. t ++ u) (new_kept ss e)
-    go false e more = ap (λ u. t ++ u) more ∙ sym (append_assoc t (new_text (to_last ss)) (kept_back ss))
+    go b h1 h2 = search (rules, new_kept, append_assoc)
 new_last (put o w ∷ ss) = ap (λ u. w ++ u) (new_last ss) ∙ sym (append_assoc w (new_text (to_last ss)) (kept_back ss))
 
 pub back_first : (ss : List Segment) → are_kept ss ≡ false → kept_back (from_first ss) ≡ kept_back ss
@@ -74,38 +64,21 @@ run n o w (keep [] ∷ ss) = run n o w ss
 run n o w (keep (b ∷ t) ∷ ss) = splice_at n o w ++ run (n + length w + length (b ∷ t)) [] [] ss
 run n o w (put p x ∷ ss) = run n (o ++ p) (w ++ x) ss
 
-behind_kept : (n : ℕ) (t : List ℕ) (ss : List Segment) → splices_at n (keep_before t ss) ≡ splices_at (n + length t) ss
-behind_kept n [] ss = ap (λ k. splices_at k ss) (omega arith)
-behind_kept n (b ∷ t) [] = refl
-behind_kept n (b ∷ t) (keep u ∷ ss) = ap (λ k. splices_at k ss) (omega (arith, length-append t u))
-behind_kept n (b ∷ t) (put o w ∷ ss) = refl
-
 pub behind_nothing : (n : ℕ) (ss : List Segment) → splices_at n (put_before [] [] ss) ≡ splices_at n ss
-behind_nothing n [] = refl
-behind_nothing n (keep t ∷ ss) = ap (λ k. splices_at (k + length t) ss) (omega arith)
-behind_nothing n (put o w ∷ ss) = refl
+behind_nothing n ss = search rules
 
 put_kept : (n : ℕ) (o w : List ℕ) (b : ℕ) (t : List ℕ) (ss : List Segment) → splices_at n (put_before o w (keep_before (b ∷ t) ss)) ≡ splice_at n o w ++ splices_at (n + length w + length (b ∷ t)) ss
-put_kept n o w b t [] = refl
-put_kept n o w b t (keep u ∷ ss) = ap (λ k. splice_at n o w ++ splices_at k ss) (omega (arith, length-append t u))
-put_kept n o w b t (put p x ∷ ss) = refl
+put_kept n o w b t ss = search (rules, length-append)
 
 -- what is kept ends the exchange in front of it
 pub loop_kept : (done more whole : List Splice) (n m : ℕ) (o w t : List ℕ) (rest : List Segment) → nat_eq (length t) 0 ≡ false → done ++ splices_at n (put_before o w (merged (keep t ∷ rest))) ≡ whole →
     more ≡ done ++ splice_at n o w → m ≡ n + length w + length t → more ++ splices_at m (put_before [] [] (merged rest)) ≡ whole
-loop_kept done more whole n m o w [] rest some found is at = absurd (false≢true (sym some))
-loop_kept done more whole n m o w (b ∷ t) rest some found is at =
-    ap (λ k. more ++ k) (behind_nothing m (merged rest) ∙ ap (λ k. splices_at k (merged rest)) at)
-    ∙ (ap (λ k. k ++ splices_at (n + length w + length (b ∷ t)) (merged rest)) is
-    ∙ (append_assoc done (splice_at n o w) (splices_at (n + length w + length (b ∷ t)) (merged rest))
-    ∙ (ap (λ k. done ++ k) (sym (put_kept n o w b t (merged rest))) ∙ found)))
+loop_kept done more whole n m o w t rest h1 h2 h3 h4 = search (rules, false≢true, behind_nothing, append_assoc, put_kept)
 
 run_is : (n : ℕ) (o w : List ℕ) (ss : List Segment) → splices_at n (put_before o w (merged ss)) ≡ run n o w ss
 run_is n o w [] = append-nil (splice_at n o w)
 run_is n o w (keep [] ∷ ss) = run_is n o w ss
-run_is n o w (keep (b ∷ t) ∷ ss) =
-    put_kept n o w b t (merged ss)
-    ∙ ap (λ x. splice_at n o w ++ x) (sym (behind_nothing (n + length w + length (b ∷ t)) (merged ss)) ∙ run_is (n + length w + length (b ∷ t)) [] [] ss)
+run_is n o w (keep (b ∷ t) ∷ ss) = search (rules, put_kept, behind_nothing, run_is (n + length w + length (b ∷ t)) [] [] ss)
 run_is n o w (put p x ∷ ss) = ap (splices_at n) (put_twice o w p x (merged ss)) ∙ run_is n (o ++ p) (w ++ x) ss
 
 run_of : (n : ℕ) (ss : List Segment) → changes_behind n ss ≡ run n [] [] ss
@@ -122,12 +95,10 @@ run_last n o w [] = refl
 run_last n o w (keep t ∷ ss) = go (are_kept ss) refl (λ k p x. run_last k p x ss)
   where
     one : (u : List ℕ) → ((k : ℕ) (p x : List ℕ) → run k p x (to_last ss) ≡ run k p x ss) → run n o w (keep u ∷ to_last ss) ≡ run n o w (keep u ∷ ss)
-    one [] more = more n o w
-    one (b ∷ u) more = ap (λ x. splice_at n o w ++ x) (more (n + length w + length (b ∷ u)) [] [])
+    one u h1 = search rules
 
     go : (b : Bool) → are_kept ss ≡ b → ((k : ℕ) (p x : List ℕ) → run k p x (to_last ss) ≡ run k p x ss) → run n o w (cond b [] (keep t ∷ to_last ss)) ≡ run n o w (keep t ∷ ss)
-    go true e more = sym (run_kept n o w (keep t ∷ ss) e)
-    go false e more = one t more
+    go b h1 h2 = search (rules, run_kept, one)
 run_last n o w (put p x ∷ ss) = run_last n (o ++ p) (w ++ x) ss
 
 pub changes_last : (n : ℕ) (ss : List Segment) → changes_behind n (to_last ss) ≡ changes_behind n ss
@@ -135,7 +106,5 @@ changes_last n ss = run_of n (to_last ss) ∙ (run_last n [] [] ss ∙ sym (run_
 
 pub changes_first : (n : ℕ) (ss : List Segment) → changes_behind (n + length (kept_front ss)) (from_first ss) ≡ changes_behind n ss
 changes_first n [] = refl
-changes_first n (keep t ∷ ss) =
-    ap (λ k. changes_behind k (from_first ss)) (omega (arith, length-append t (kept_front ss)))
-    ∙ (changes_first (n + length t) ss ∙ sym (behind_kept n t (merged ss)))
+changes_first n (keep t ∷ ss) = search (rules, length-append, changes_first (n + length t) ss)
 changes_first n (put o w ∷ ss) = ap (λ k. changes_behind k (put o w ∷ ss)) (omega arith)

@@ -1,5 +1,5 @@
 -- What segments change of their text.
-use Rattle.std.proofs.Common.{◌≡◌, ℕ, ◌+◌, ◌-◌, ◌^◌, ◌<◌, ◌≤◌, Bool, true, false, cond, List, [], ◌∷◌, ◌++◌, length, take, drop, nat_le, Some, None, refl, sym, ap, ◌∙◌, subst, arith, append_assoc, length-append}
+use Rattle.std.proofs.Common.{◌≡◌, ℕ, ◌+◌, ◌-◌, ◌^◌, ◌<◌, true, false, List, [], ◌++◌, length, take, drop, nat_le, Some, sym, ap, ◌∙◌, subst, arith, append_assoc, length-append, rules}
 use Rattle.std.proofs.Math.Seq.{drop-append_seam, take-append_seam}
 use Rattle.std.proofs.lemmas.Bool.{leb-true}
 use Rattle.std.proofs.lemmas.Str.{IsCharBoundary-from_drop, IsCharBoundary-from_take}
@@ -7,7 +7,7 @@ use Rattle.std.specs.Str.{IsCharBoundary, IsUtf8}
 use Rattle.std.specs.String.{string_bytes}
 use Rattle.yq_flow_scalars.specs.Characters.{text_limit}
 use Rattle.yq_script.specs.Changing.{IsChange}
-use Rattle.yq_script.specs.Exchanging.{Exchange, exchange_of, gives, too_large, within_limit}
+use Rattle.yq_script.specs.Exchanging.{Exchange, gives, too_large, within_limit}
 use Rattle.yq_script.specs.Splice.{Splice}
 use Rattle.yq_script.specs.Script.{Segment, old_text, new_text, changes, changes_behind, are_kept, kept_front, kept_back, from_first, to_last}
 use Rattle.yq_script.specs.declared.changed.Changed.{Changed}
@@ -16,11 +16,7 @@ use Rattle.yq_script.proofs.KeptSegments.{behind, between}
 
 -- a new text that may be so long
 limit_kept : (ss : List Segment) (n : ℕ) → within_limit (length (new_text ss)) ≡ Some n → nat_le (length (new_text ss)) text_limit ≡ true
-limit_kept ss n is = go (nat_le (length (new_text ss)) text_limit) refl
-  where
-    go : (b : Bool) → nat_le (length (new_text ss)) text_limit ≡ b → nat_le (length (new_text ss)) text_limit ≡ true
-    go true e = e
-    go false e = absurd (cc)
+limit_kept ss n is = search rules
 
 -- what an exchange gives
 abbrev exchange_text : Exchange → List ℕ
@@ -35,15 +31,8 @@ module _ (ss : List Segment) where
   abbrev inner : List Segment
   inner = to_last (from_first ss)
 
-  -- it is longer than what stands between
-  inner_within : length (new_text ss) ≡ length (kept_front ss) + (length (new_text inner) + length (kept_back (from_first ss)))
-  inner_within =
-      omega (arith, ap length (new_first ss), ap length (new_last (from_first ss)), length-append (kept_front ss) (new_text (from_first ss)), length-append (new_text inner) (kept_back (from_first ss)))
-
   pub inner_small : (n : ℕ) (held : List Segment) → within_limit (length (new_text ss)) ≡ Some n → held ≡ inner → (front : ℕ) → front ≡ length (kept_front ss) → front + length (new_text held) < 2 ^ 64
-  inner_small n held limit is front at =
-      let most : length (new_text ss) ≤ text_limit = leb-true (length (new_text ss)) text_limit (limit_kept ss n limit) in
-      omega (arith, most, inner_within, ap (λ s. length (new_text s)) is, at)
+  inner_small n held limit is front at = search (rules, new_first, new_last, length-append, leb-true, limit_kept)
 
   -- the text with another one between what stays
   inner_text : are_kept ss ≡ false → new_text ss ≡ take (length (kept_front ss)) (old_text ss) ++ (new_text inner ++ drop (length (old_text ss) - length (kept_back ss)) (old_text ss))
@@ -52,26 +41,12 @@ module _ (ss : List Segment) where
       let old : old_text ss ≡ (kept_front ss ++ h.old) ++ kept_back ss = h.old_is ∙ sym (append_assoc (kept_front ss) h.old (kept_back ss)) in
       let front : take (length (kept_front ss)) (old_text ss) ≡ kept_front ss = ap (take (length (kept_front ss))) h.old_is ∙ take-append_seam (kept_front ss) (h.old ++ kept_back ss) in
       let at : length (old_text ss) - length (kept_back ss) ≡ length (kept_front ss ++ h.old) = omega (arith, ap length old, length-append (kept_front ss ++ h.old) (kept_back ss)) in
-      let back : drop (length (old_text ss) - length (kept_back ss)) (old_text ss) ≡ kept_back ss =
-      ap (λ n. drop n (old_text ss)) at ∙ (ap (drop (length (kept_front ss ++ h.old))) old ∙ drop-append_seam (kept_front ss ++ h.old) (kept_back ss)) in
-      new_first ss
-      ∙ (ap (λ u. kept_front ss ++ u) (new_last (from_first ss) ∙ ap (λ u. new_text inner ++ u) (back_first ss puts))
-      ∙ sym (λ i. front i ++ (new_text inner ++ back i)))
-
-  inner_changes : changes_behind (length (kept_front ss)) inner ≡ changes ss
-  unfolding changes
-  inner_changes = changes_last (length (kept_front ss)) (from_first ss) ∙ (ap (λ n. changes_behind n (from_first ss)) (omega arith) ∙ changes_first 0 ss)
+      search (rules, new_first, new_last, back_first, drop-append_seam, at, front, h, old)
 
   pub change_is : (c : Changed) (n : ℕ) (held : List Segment) → within_limit (length (new_text ss)) ≡ Some n → held ≡ inner → c.front ≡ length (kept_front ss) → c.back ≡ length (kept_back ss) →
       IsUtf8 (kept_front ss) → IsUtf8 (kept_back ss) → gives (new_text held) (changes_behind c.front held) ≡ gives (string_bytes c.new) c.splices.items → IsChange ss c
-  change_is c n held limit is front back front_text back_text so_far = record {
-    front = front;
-    back = back;
-    front_text = front_text;
-    back_text = back_text;
-    exact = ap (λ b. cond b (gives (new_text ss) (changes ss)) too_large) (limit_kept ss n limit) ∙ ap (gives (new_text ss)) (sym inner_changes ∙ (λ i. changes_behind (sym front i) (sym is i)) ∙ ap exchange_splices so_far);
-    text = λ puts. inner_text puts ∙ λ i. take (sym front i) (old_text ss) ++ ((ap new_text (sym is) ∙ ap exchange_text so_far) i ++ drop (length (old_text ss) - sym back i) (old_text ss));
-  }
+  unfolding changes
+  change_is c n held limit is front back front_text back_text so_far = search (rules, changes_last, changes_first, limit_kept, inner_text)
 
 -- a text may be cut where what stays at its ends does
 pub cut_front : (ss : List Segment) → IsUtf8 (old_text ss) → IsUtf8 (kept_front ss) → IsCharBoundary (old_text ss) (length (kept_front ss))

@@ -1,5 +1,5 @@
 -- Outside its extents an edit keeps each byte, in order.
-use Rattle.std.proofs.Common.{◌≡◌, ℕ, ◌+◌, ◌-◌, ◌≤◌, List, [], ◌∷◌, ◌++◌, length, take, drop, refl, sym, ap, ◌∙◌, arith, append_assoc}
+use Rattle.std.proofs.Common.{◌≡◌, ℕ, ◌+◌, ◌-◌, ◌≤◌, List, [], ◌∷◌, ◌++◌, length, refl, sym, ap, ◌∙◌, arith, append_assoc, rules}
 use Rattle.std.specs.Prelude.{⊤}
 use Rattle.std.proofs.Math.Seq.{drop-append_seam, take-append-add, drop-append-add}
 use Rattle.yq_script.specs.Script.{Segment, keep, put, old_text, new_text, swapped_segments, kept_text, Extent, extents, outside}
@@ -23,25 +23,14 @@ outside_before : (n : ℕ) (t x : List ℕ) (es : List Extent) → StartFrom (n 
 outside_before n t x [] h = refl
 outside_before n t x (e ∷ es) h =
     let from : e.from - n ≡ length t + (e.from - (n + length t)) = omega (arith, h.0) in
-    let to : e.to - n ≡ length t + (e.to - (n + length t)) = omega (arith, h.0, h.1) in
-    ap (λ k. take k (t ++ x) ++ outside e.to es (drop (e.to - n) (t ++ x))) from
-    ∙ ap (λ k. take (length t + (e.from - (n + length t))) (t ++ x) ++ outside e.to es (drop k (t ++ x))) to
-    ∙ ap (λ y. y ++ outside e.to es (drop (length t + (e.to - (n + length t))) (t ++ x))) (take-append-add t x (e.from - (n + length t)))
-    ∙ append_assoc t (take (e.from - (n + length t)) x) (outside e.to es (drop (length t + (e.to - (n + length t))) (t ++ x)))
-    ∙ ap (λ y. t ++ (take (e.from - (n + length t)) x ++ outside e.to es y)) (drop-append-add t x (e.to - (n + length t)))
+    search (rules, take-append-add, append_assoc, drop-append-add, from)
 
 outside_old : (n : ℕ) (ss : List Segment) → outside n (extents n ss) (old_text ss) ≡ kept_text ss
 outside_old n [] = refl
-outside_old n (keep t ∷ ss) =
-    outside_before n t (old_text ss) (extents (n + length t) ss) (extents_start (n + length t) ss)
-    ∙ ap (λ x. t ++ x) (outside_old (n + length t) ss)
+outside_old n (keep t ∷ ss) = search (rules, outside_before, extents_start, outside_old (n + length t) ss)
 outside_old n (put o w ∷ ss) =
-    let none : n - n ≡ 0 = omega arith in
     let all : n + length o - n ≡ length o = omega arith in
-    ap (λ k. take k (o ++ old_text ss) ++ outside (n + length o) (extents (n + length o) ss) (drop (n + length o - n) (o ++ old_text ss))) none
-    ∙ ap (λ k. outside (n + length o) (extents (n + length o) ss) (drop k (o ++ old_text ss))) all
-    ∙ ap (outside (n + length o) (extents (n + length o) ss)) (drop-append_seam o (old_text ss))
-    ∙ outside_old (n + length o) ss
+    search (rules, drop-append_seam, all, outside_old (n + length o) ss)
 
 old-swapped_segments : (ss : List Segment) → old_text (swapped_segments ss) ≡ new_text ss
 old-swapped_segments [] = refl

@@ -1,5 +1,5 @@
 -- What segments keep in front and behind.
-use Rattle.std.proofs.Common.{◌≡◌, ℕ, ◌≤◌, Bool, true, false, cond, List, [], ◌∷◌, ◌++◌, length, refl, sym, ap, ◌∙◌, arith, append_assoc, append-nil, length-append}
+use Rattle.std.proofs.Common.{◌≡◌, ℕ, ◌≤◌, Bool, true, false, cond, List, [], ◌∷◌, ◌++◌, length, refl, sym, ap, ◌∙◌, arith, append_assoc, append-nil, length-append, rules}
 use Rattle.std.proofs.lemmas.Bool.{false≢true}
 use Rattle.yq_script.specs.Script.{Segment, keep, put, old_text, new_text, are_kept, kept_front, kept_back}
 
@@ -57,8 +57,7 @@ pub record IsBetween (ss : List Segment) : Type 0 where
   pub new_is : new_text ss ≡ kept_front ss ++ (new ++ kept_back ss)
 
 one_between : (t front own all : List ℕ) (ss : List Segment) → are_kept ss ≡ false → all ≡ front ++ (own ++ kept_back ss) → t ++ all ≡ (t ++ front) ++ (own ++ kept_back (keep t ∷ ss))
-one_between t front own all ss e is =
-    ap (λ u. t ++ u) is ∙ (sym (append_assoc t front (own ++ kept_back ss)) ∙ ap (λ u. (t ++ front) ++ (own ++ u)) (sym (one_kept t ss false e)))
+one_between t front own all ss e is = search (rules, append_assoc, one_kept)
 
 pub between : (ss : List Segment) → are_kept ss ≡ false → IsBetween ss
 between [] e = absurd (false≢true (sym e))
@@ -72,25 +71,10 @@ last_kept [] b = refl
 last_kept (keep t ∷ ss) b = last_kept ss b
 last_kept (put o w ∷ ss) b = refl
 
-front_last : (ss : List Segment) (b : List ℕ) → are_kept ss ≡ false → kept_front (ss ++ (keep b ∷ [])) ≡ kept_front ss
-front_last [] b e = absurd (false≢true (sym e))
-front_last (keep t ∷ ss) b e = ap (λ u. t ++ u) (front_last ss b e)
-front_last (put o w ∷ ss) b e = refl
-
 pub back_last : (ss : List Segment) (b : List ℕ) → kept_back (ss ++ (keep b ∷ [])) ≡ kept_back ss ++ b
 back_last [] b = append-nil b
 back_last (keep t ∷ ss) b = one_kept t (ss ++ (keep b ∷ [])) (are_kept ss) (last_kept ss b) ∙ go (back_last ss b) (are_kept ss)
   where
     go : kept_back (ss ++ (keep b ∷ [])) ≡ kept_back ss ++ b → (x : Bool) → cond x (t ++ kept_back (ss ++ (keep b ∷ []))) (kept_back (ss ++ (keep b ∷ []))) ≡ cond x (t ++ kept_back ss) (kept_back ss) ++ b
-    go more true = ap (λ u. t ++ u) more ∙ sym (append_assoc t (kept_back ss) b)
-    go more false = more
+    go h1 x = search (rules, append_assoc)
 back_last (put o w ∷ ss) b = back_last ss b
-
-pub round_puts : (a : List ℕ) (ss : List Segment) (b : List ℕ) → are_kept ss ≡ false → are_kept (keep a ∷ (ss ++ (keep b ∷ []))) ≡ false
-round_puts a ss b e = last_kept ss b ∙ e
-
-pub front_round : (a : List ℕ) (ss : List Segment) (b : List ℕ) → are_kept ss ≡ false → kept_front (keep a ∷ (ss ++ (keep b ∷ []))) ≡ a ++ kept_front ss
-front_round a ss b e = ap (λ u. a ++ u) (front_last ss b e)
-
-pub back_round : (a : List ℕ) (ss : List Segment) (b : List ℕ) → are_kept ss ≡ false → kept_back (keep a ∷ (ss ++ (keep b ∷ []))) ≡ kept_back ss ++ b
-back_round a ss b e = one_kept a (ss ++ (keep b ∷ [])) false (round_puts a ss b e) ∙ back_last ss b

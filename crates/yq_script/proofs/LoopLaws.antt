@@ -1,5 +1,5 @@
 -- The segments so far and one more.
-use Rattle.std.proofs.Common.{◌≡◌, ℕ, ◌+◌, ◌<◌, List, [], ◌∷◌, ◌++◌, ◌-◌, ◌≤◌, length, take, get_or, refl, sym, ap, ◌∙◌, arith, append-nil}
+use Rattle.std.proofs.Common.{◌≡◌, ℕ, ◌+◌, ◌<◌, List, [], ◌∷◌, ◌++◌, ◌-◌, ◌≤◌, length, take, get_or, refl, sym, ap, ◌∙◌, arith, append-nil, rules}
 use Rattle.std.proofs.lemmas.List.{map-append, take_all, take_more}
 use Rattle.std.proofs.Common.{subst, String, Global}
 use Rattle.std.proofs.lemmas.Str.{IsUtf8-append}
@@ -13,11 +13,8 @@ use Rattle.yq_script.specs.Script.{Segment, keep, kept_front, kept_back, new_tex
 use Rattle.yq_script.specs.Segments.{segment_of, segments_of}
 use Rattle.yq_script.specs.declared.segment.Segment.{Segment as Held}
 use Rattle.yq_script.specs.declared.segment.Segment.TheVariants as held
-use Rattle.yq_script.proofs.BetweenLaws.{back_gives, back_stays, to_last_put, last_stays}
-
--- the last exchange
-pub loop_last : (done all : List Splice) (n : ℕ) (o w : List ℕ) → all ≡ done ++ splice_at n o w → all ≡ done ++ splices_at n (put_before o w [])
-loop_last done all n o w e = e ∙ ap (λ x. done ++ x) (sym (append-nil (splice_at n o w)))
+use Rattle.yq_script.proofs.BetweenLaws.{back_gives, to_last_put, last_stays}
+use Rattle.yq_script.proofs.KeptSegments.{back_last}
 
 -- no segment is left
 pub none_left : (ss : List Held) → length ss < 1 → segments_of ss ≡ []
@@ -26,11 +23,7 @@ none_left (p ∷ ss) h = absurd (omega (arith, h))
 
 pub loop_done : (front : ℕ) (whole rest : List Segment) (bytes : List ℕ) (done all : List Splice) (n : ℕ) (o w : List ℕ) → rest ≡ [] → bytes ++ new_text rest ≡ new_text whole →
     done ++ splices_at n (put_before o w (merged rest)) ≡ changes_behind front whole → all ≡ done ++ splice_at n o w → gives (new_text whole) (changes_behind front whole) ≡ gives bytes all
-loop_done front whole rest bytes done all n o w none so_far found last =
-    let text : new_text whole ≡ bytes = sym so_far ∙ ap (λ ss. bytes ++ new_text ss) none ∙ append-nil bytes in
-    let splices_are : changes_behind front whole ≡ all =
-    sym found ∙ ap (λ ss. done ++ splices_at n (put_before o w (merged ss))) none ∙ sym (loop_last done all n o w last) in
-    λ i. gives (text i) (splices_are i)
+loop_done front whole rest bytes done all n o w none so_far found last = search (rules, append-nil)
 
 -- segments with the last one behind the others
 module _ (xs : List Held) (x d : Held) (some : 1 ≤ length xs) (is : x ≡ get_or xs (length xs - 1) d) where
@@ -46,12 +39,10 @@ module _ (xs : List Held) (x d : Held) (some : 1 ≤ length xs) (is : x ≡ get_
   last_kept_goes t keeps = sym (ap to_last (with_last ∙ ap (λ y. segments_of but_last ++ (segment_of y ∷ [])) keeps) ∙ last_stays (segments_of but_last) (whole t))
 
   pub last_put_is : (o : Halves) (w : String Global) → x ≡ held.Put o w → segments_of xs ≡ to_last (segments_of xs)
-  last_put_is o w puts =
-      let all : segments_of xs ≡ segments_of but_last ++ (segment_of (held.Put o w) ∷ []) = with_last ∙ ap (λ y. segments_of but_last ++ (segment_of y ∷ [])) puts in
-      all ∙ sym (ap to_last all ∙ to_last_put (segments_of but_last) (whole o) (string_bytes w))
+  last_put_is o w puts = search (rules, with_last, to_last_put)
 
   pub back_kept : (t : Halves) → x ≡ held.Keep t → kept_back (segments_of xs) ≡ kept_back (segments_of but_last) ++ whole t
-  back_kept t keeps = ap kept_back (with_last ∙ ap (λ y. segments_of but_last ++ (segment_of y ∷ [])) keeps) ∙ back_stays (segments_of but_last) (whole t)
+  back_kept t keeps = ap kept_back (with_last ∙ ap (λ y. segments_of but_last ++ (segment_of y ∷ [])) keeps) ∙ back_last (segments_of but_last) (whole t)
 
   pub back_put : (o : Halves) (w : String Global) → x ≡ held.Put o w → kept_back (segments_of xs) ≡ []
   back_put o w puts = ap kept_back (with_last ∙ ap (λ y. segments_of but_last ++ (segment_of y ∷ [])) puts) ∙ back_gives (segments_of but_last) (whole o) (string_bytes w)

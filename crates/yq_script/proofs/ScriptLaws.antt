@@ -1,47 +1,22 @@
 -- The splices of segments lead from their old text to their new one.
-use Rattle.std.proofs.Common.{◌≡◌, ℕ, ◌+◌, ◌-◌, ◌^◌, ◌<◌, Bool, true, false, List, [], ◌∷◌, ◌++◌, length, Some, None, refl, sym, ap, ◌∙◌, arith, cond, append_assoc, length-append}
-use Rattle.std.specs.Prelude.{option_and_then, nat_le, nat_lt}
+use Rattle.std.proofs.Common.{◌≡◌, ℕ, ◌+◌, ◌^◌, ◌<◌, Bool, true, false, List, [], ◌∷◌, ◌++◌, length, Some, refl, sym, ap, ◌∙◌, arith, cond, append_assoc, length-append, rules}
+use Rattle.std.specs.Prelude.{option_and_then}
 use Rattle.std.specs.Str.{bytes_eq}
 use Rattle.std.proofs.lemmas.Bool.{le-leb, lt-ltb}
-use Rattle.std.specs.Cmp.Derive.{both_true}
 use Rattle.std.proofs.lemmas.Slice.Eq.{bytes_eq-Decides}
 use Rattle.yq_script.specs.Splice.{all_done, length_done, lengths_done}
 use Rattle.yq_script.proofs.SpliceLaws.{done-from_exchanges, all_done-append, lengths_done-append}
-use Rattle.yq_script.specs.Script.{Segment, keep, put, old_text, new_text, keep_before, put_before, merged, splice_at, splices_at, changes, AllStay}
-
--- merged segments are of the same text
-old-keep_before : (t : List ℕ) (ss : List Segment) → old_text (keep_before t ss) ≡ t ++ old_text ss
-old-keep_before [] ss = refl
-old-keep_before (b ∷ t) [] = refl
-old-keep_before (b ∷ t) (keep u ∷ ss) = ap (λ x. b ∷ x) (append_assoc t u (old_text ss))
-old-keep_before (b ∷ t) (put o w ∷ ss) = refl
-
-old-put_before : (o w : List ℕ) (ss : List Segment) → old_text (put_before o w ss) ≡ o ++ old_text ss
-old-put_before o w [] = refl
-old-put_before o w (keep t ∷ ss) = refl
-old-put_before o w (put p x ∷ ss) = append_assoc o p (old_text ss)
+use Rattle.yq_script.specs.Script.{Segment, keep, put, old_text, new_text, merged, splice_at, splices_at, changes, AllStay}
 
 pub old-merged : (ss : List Segment) → old_text (merged ss) ≡ old_text ss
 old-merged [] = refl
-old-merged (keep t ∷ ss) = old-keep_before t (merged ss) ∙ ap (λ x. t ++ x) (old-merged ss)
-old-merged (put o w ∷ ss) = old-put_before o w (merged ss) ∙ ap (λ x. o ++ x) (old-merged ss)
-
--- and make the same text
-new-keep_before : (t : List ℕ) (ss : List Segment) → new_text (keep_before t ss) ≡ t ++ new_text ss
-new-keep_before [] ss = refl
-new-keep_before (b ∷ t) [] = refl
-new-keep_before (b ∷ t) (keep u ∷ ss) = ap (λ x. b ∷ x) (append_assoc t u (new_text ss))
-new-keep_before (b ∷ t) (put o w ∷ ss) = refl
-
-new-put_before : (o w : List ℕ) (ss : List Segment) → new_text (put_before o w ss) ≡ w ++ new_text ss
-new-put_before o w [] = refl
-new-put_before o w (keep t ∷ ss) = refl
-new-put_before o w (put p x ∷ ss) = append_assoc w x (new_text ss)
+old-merged (keep t ∷ ss) = search (rules, append_assoc, old-merged ss)
+old-merged (put o w ∷ ss) = search (rules, append_assoc, old-merged ss)
 
 pub new-merged : (ss : List Segment) → new_text (merged ss) ≡ new_text ss
 new-merged [] = refl
-new-merged (keep t ∷ ss) = new-keep_before t (merged ss) ∙ ap (λ x. t ++ x) (new-merged ss)
-new-merged (put o w ∷ ss) = new-put_before o w (merged ss) ∙ ap (λ x. w ++ x) (new-merged ss)
+new-merged (keep t ∷ ss) = search (rules, append_assoc, new-merged ss)
+new-merged (put o w ∷ ss) = search (rules, append_assoc, new-merged ss)
 
 -- bytes exchanged at an offset
 splice_leads : (front o w rest : List ℕ) (n : ℕ) → length front ≡ n → all_done (splice_at n o w) (front ++ (o ++ rest)) ≡ Some (front ++ (w ++ rest))
@@ -76,21 +51,9 @@ changes_lead ss =
     ∙ splices_lead [] 0 (merged ss) refl
     ∙ ap Some (new-merged ss)
 
--- the length that one leaves
-length_led : (n : ℕ) (o w : List ℕ) (m : ℕ) → n + length o + m < 2 ^ 64 → n + length w + m < 2 ^ 64 → length_done (record { at = n; old = o; new = w }) (n + length o + m) ≡ Some (n + length w + m)
-unfolding length_done
-length_led n o w m old new =
-    let left : n + length o + m - length o + length w ≡ n + length w + m = omega arith in
-    let fits : nat_le (n + length o) (n + length o + m) ≡ true = le-leb (n + length o) (n + length o + m) (omega arith) in
-    let small : nat_lt (n + length o + m - length o + length w) (2 ^ 64) ≡ true = lt-ltb (n + length o + m - length o + length w) (2 ^ 64) (omega (arith, left)) in
-    ap (λ b. cond b (Some (n + length o + m - length o + length w)) None) (both_true fits small) ∙ ap Some left
-
 splice_lengths : (n : ℕ) (o w : List ℕ) (m : ℕ) → n + length o + m < 2 ^ 64 → n + length w + m < 2 ^ 64 → lengths_done (splice_at n o w) (n + length o + m) ≡ Some (n + length w + m)
-splice_lengths n o w m old new = go (bytes_eq o w) refl
-  where
-    go : (b : Bool) → bytes_eq o w ≡ b → lengths_done (cond b [] (record { at = n; old = o; new = w } ∷ [])) (n + length o + m) ≡ Some (n + length w + m)
-    go true is = ap (λ (x : List ℕ). Some (n + length x + m)) ((bytes_eq-Decides o w).0 is)
-    go false is = ap (option_and_then (λ k. Some k)) (length_led n o w m old new)
+unfolding length_done
+splice_lengths n o w m old new = search (rules, le-leb, lt-ltb, bytes_eq-Decides)
 
 -- lengths reached behind n bytes
 pub splices_lengths : (n : ℕ) (ss : List Segment) → n + length (old_text ss) + length (new_text ss) < 2 ^ 64 → lengths_done (splices_at n ss) (n + length (old_text ss)) ≡ Some (n + length (new_text ss))
@@ -98,9 +61,7 @@ splices_lengths n [] h = refl
 splices_lengths n (keep t ∷ ss) h =
     let old = length-append t (old_text ss) in
     let new = length-append t (new_text ss) in
-    ap (lengths_done (splices_at (n + length t) ss)) (omega (arith, old))
-    ∙ splices_lengths (n + length t) ss (omega (arith, old, new, h))
-    ∙ ap Some (omega (arith, new))
+    search (rules, new, old, splices_lengths (n + length t) ss (omega (arith, old, new, h)))
 splices_lengths n (put o w ∷ ss) h =
     let old = length-append o (old_text ss) in
     let new = length-append w (new_text ss) in
@@ -117,10 +78,7 @@ changes_lengths ss h =
     let old : List ℕ = old_text (merged ss) in
     let new : List ℕ = new_text (merged ss) in
     let first : length (old_text ss) ≡ 0 + length old = omega (arith, ap length (old-merged ss)) in
-    let last : 0 + length new ≡ length (new_text ss) = omega (arith, ap length (new-merged ss)) in
-    ap (lengths_done (splices_at 0 (merged ss))) first
-    ∙ splices_lengths 0 (merged ss) (omega (arith, ap length (old-merged ss), ap length (new-merged ss), h))
-    ∙ ap Some last
+    search (rules, splices_lengths, old-merged, new-merged, first)
 
 -- segments that all stay make the text that they are of
 pub kept_same : (ss : List Segment) → AllStay ss → new_text ss ≡ old_text ss
@@ -128,29 +86,15 @@ kept_same [] h = refl
 kept_same (keep t ∷ ss) h = ap (λ x. t ++ x) (kept_same ss h.1)
 kept_same (put o w ∷ ss) h = ap (λ x. x ++ new_text ss) (sym h.0) ∙ ap (λ x. o ++ x) (kept_same ss h.1)
 
-kept-keep_before : (t : List ℕ) (ss : List Segment) → AllStay ss → AllStay (keep_before t ss)
-kept-keep_before [] ss h = h
-kept-keep_before (b ∷ t) [] h = (tt, h)
-kept-keep_before (b ∷ t) (keep u ∷ ss) h = (tt, h.1)
-kept-keep_before (b ∷ t) (put o w ∷ ss) h = (tt, h)
-
-kept-put_before : (o w : List ℕ) (ss : List Segment) → o ≡ w → AllStay ss → AllStay (put_before o w ss)
-kept-put_before o w [] e h = (e, h)
-kept-put_before o w (keep t ∷ ss) e h = (e, h)
-kept-put_before o w (put p x ∷ ss) e h = (λ i. e i ++ h.0 i, h.1)
-
 kept-merged : (ss : List Segment) → AllStay ss → AllStay (merged ss)
 kept-merged [] h = tt
-kept-merged (keep t ∷ ss) h = kept-keep_before t (merged ss) (kept-merged ss h.1)
-kept-merged (put o w ∷ ss) h = kept-put_before o w (merged ss) h.0 (kept-merged ss h.1)
-
-no_splice : (n : ℕ) (o w : List ℕ) → o ≡ w → splice_at n o w ≡ []
-no_splice n o w e = ap (λ b. cond b [] (record { at = n; old = o; new = w } ∷ [])) ((bytes_eq-Decides o w).1 e)
+kept-merged (keep t ∷ ss) h = search (rules, kept-merged ss h.1)
+kept-merged (put o w ∷ ss) h = search (rules, kept-merged ss h.1)
 
 no_splices : (n : ℕ) (ss : List Segment) → AllStay ss → splices_at n ss ≡ []
 no_splices n [] h = refl
 no_splices n (keep t ∷ ss) h = no_splices (n + length t) ss h.1
-no_splices n (put o w ∷ ss) h = ap (λ x. x ++ splices_at (n + length w) ss) (no_splice n o w h.0) ∙ no_splices (n + length w) ss h.1
+no_splices n (put o w ∷ ss) h = search (rules, bytes_eq-Decides, no_splices (n + length w) ss h.1)
 
 -- and there is no splice of them
 pub kept_changes : (ss : List Segment) → AllStay ss → changes ss ≡ []

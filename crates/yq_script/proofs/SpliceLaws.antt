@@ -1,11 +1,8 @@
 -- A splice exchanges bytes in one place, and what splices do is taken back by the flipped ones.
-use Rattle.std.proofs.Common.{◌≡◌, ℕ, ◌≤◌, Bool, true, false, List, [], ◌∷◌, ◌++◌, length, take, drop, nat_le, nat_eq, Some, None, refl, sym, ap, ◌∙◌, arith, cond, append_assoc, append-nil, length-append, length-take-le}
+use Rattle.std.proofs.Common.{◌≡◌, ℕ, Bool, List, [], ◌∷◌, ◌++◌, length, take, drop, nat_eq, Some, None, refl, sym, ap, ◌∙◌, cond, append_assoc, append-nil, length-append, length-take-le, rules}
 use Rattle.std.specs.Prelude.{option_and_then}
-use Rattle.std.specs.List.{starts_with}
-use Rattle.std.specs.Cmp.Derive.{both_true}
 use Rattle.std.proofs.Math.Seq.{drop-append_seam, take-append_seam}
 use Rattle.std.proofs.lemmas.Bool.{le-leb, leb-true, and_parts}
-use Rattle.std.proofs.lemmas.Bool.Decides.{Decides-eqb}
 use Rattle.std.proofs.lemmas.List.{take-append-drop}
 use Rattle.std.proofs.lemmas.Slice.Eq.{starts_is}
 use Rattle.yq_script.specs.Splice.{Splice, swapped, Exchanges, is_found, change_done, all_done, flipped, lengths_done, length_done}
@@ -15,36 +12,11 @@ pub done-from_exchanges : (s : Splice) (b c : List ℕ) → Exchanges s b c → 
 unfolding change_done
 done-from_exchanges s b c p =
     let whole : b ≡ p.front ++ (s.old ++ p.rest) = p.before in
-    let at_front : drop s.at b ≡ s.old ++ p.rest =
-    ap (λ n. drop n b) (sym p.offset) ∙ ap (drop (length p.front)) whole ∙ drop-append_seam p.front (s.old ++ p.rest) in
-    let front : take s.at b ≡ p.front =
-    ap (λ n. take n b) (sym p.offset) ∙ ap (take (length p.front)) whole ∙ take-append_seam p.front (s.old ++ p.rest) in
-    let fits : nat_le s.at (length b) ≡ true =
-    le-leb s.at (length b) (omega (arith, ap length whole, length-append p.front (s.old ++ p.rest), p.offset)) in
-    let stands : starts_with nat_eq (drop s.at b) s.old ≡ true =
-    (starts_is Decides-eqb (drop s.at b) s.old (starts_with nat_eq (drop s.at b) s.old) refl).1 p.rest at_front in
-    let tail : drop (length s.old) (drop s.at b) ≡ p.rest =
-    ap (drop (length s.old)) at_front ∙ drop-append_seam s.old p.rest in
-    ap (λ t. cond t (Some (take s.at b ++ s.new ++ drop (length s.old) (drop s.at b))) None) (both_true fits stands)
-    ∙ ap Some (ap (λ x. x ++ s.new ++ drop (length s.old) (drop s.at b)) front ∙ ap (λ x. p.front ++ s.new ++ x) tail ∙ append_assoc p.front s.new p.rest ∙ sym p.after)
+    search (rules, append_assoc, drop-append_seam, take-append_seam, le-leb, length-append, starts_is, nat_eq, whole)
 
 -- the parts, where the test held
 exchanges_if : (s : Splice) (b c : List ℕ) (t : Bool) → is_found s b ≡ t → cond t (Some (take s.at b ++ s.new ++ drop (length s.old) (drop s.at b))) None ≡ Some c → Exchanges s b c
-exchanges_if s b c false is e = cc
-exchanges_if s b c true is e =
-    let parts = and_parts (nat_le s.at (length b)) (starts_with nat_eq (drop s.at b) s.old) is in
-    let fits : s.at ≤ length b = leb-true s.at (length b) parts.0 in
-    let stands : starts_with nat_eq (drop s.at b) s.old ≡ true = parts.1 in
-    let rest : drop s.at b ≡ s.old ++ drop (length s.old) (drop s.at b) =
-    (starts_is Decides-eqb (drop s.at b) s.old (starts_with nat_eq (drop s.at b) s.old) refl).0 stands in
-    let value : take s.at b ++ s.new ++ drop (length s.old) (drop s.at b) ≡ c = cc in
-    record {
-      front = take s.at b;
-      rest = drop (length s.old) (drop s.at b);
-      offset = length-take-le s.at b fits;
-      before = sym (take-append-drop s.at b) ∙ ap (λ x. take s.at b ++ x) rest;
-      after = sym value ∙ append_assoc (take s.at b) s.new (drop (length s.old) (drop s.at b));
-    }
+exchanges_if s b c t h1 h2 = search (rules, and_parts, nat_eq, leb-true, starts_is, length-take-le, take-append-drop, append_assoc)
 
 -- a splice done has exchanged bytes in one place
 pub exchanges-from_done : (s : Splice) (b c : List ℕ) → change_done s b ≡ Some c → Exchanges s b c

@@ -1,16 +1,6 @@
 -- Exchanges that touch are one.
-use Rattle.std.proofs.Common.{◌≡◌, ℕ, List, [], ◌∷◌, ◌++◌, refl, sym, ap, append_assoc, append-nil}
+use Rattle.std.proofs.Common.{◌≡◌, ℕ, List, [], ◌∷◌, ◌++◌, refl, ap, append_assoc, append-nil, rules}
 use Rattle.yq_script.specs.Script.{Segment, keep, put, keep_before, put_before, merged, changes, splices_at}
-
--- bytes kept in two segments
-keep_twice : (t u : List ℕ) (ss : List Segment) → keep_before (t ++ u) ss ≡ keep_before t (keep_before u ss)
-keep_twice [] u ss = refl
-keep_twice (b ∷ t) [] [] = ap (λ x. keep (b ∷ x) ∷ []) (append-nil t)
-keep_twice (b ∷ t) [] (keep x ∷ ss) = ap (λ y. keep (b ∷ (y ++ x)) ∷ ss) (append-nil t)
-keep_twice (b ∷ t) [] (put o w ∷ ss) = ap (λ x. keep (b ∷ x) ∷ (put o w ∷ ss)) (append-nil t)
-keep_twice (b ∷ t) (d ∷ u) [] = refl
-keep_twice (b ∷ t) (d ∷ u) (keep x ∷ ss) = ap (λ y. keep (b ∷ y) ∷ ss) (append_assoc t (d ∷ u) x)
-keep_twice (b ∷ t) (d ∷ u) (put o w ∷ ss) = refl
 
 -- segments that are merged alike have the same splices
 pub same_changes : (ss us : List Segment) → merged ss ≡ merged us → changes ss ≡ changes us
@@ -25,9 +15,7 @@ merged_behind (put o w ∷ ss) us rs e = ap (put_before o w) (merged_behind ss u
 
 -- exchanges that touch
 pub put_twice : (o w p x : List ℕ) (ss : List Segment) → put_before o w (put_before p x ss) ≡ put_before (o ++ p) (w ++ x) ss
-put_twice o w p x [] = refl
-put_twice o w p x (keep t ∷ ss) = refl
-put_twice o w p x (put q y ∷ ss) = λ i. put (sym (append_assoc o p q) i) (sym (append_assoc w x y) i) ∷ ss
+put_twice o w p x ss = search (rules, append_assoc)
 
 pub touching : (ss us : List Segment) (o p w x : List ℕ) → changes (ss ++ (put o w ∷ (put p x ∷ us))) ≡ changes (ss ++ (put (o ++ p) (w ++ x) ∷ us))
 touching ss us o p w x = same_changes _ _ (merged_behind ss (put o w ∷ (put p x ∷ us)) (put (o ++ p) (w ++ x) ∷ us) (put_twice o w p x (merged us)))
@@ -36,4 +24,4 @@ pub nothing_kept : (ss us : List Segment) → changes (ss ++ (keep [] ∷ us)) �
 nothing_kept ss us = same_changes _ _ (merged_behind ss (keep [] ∷ us) us refl)
 
 pub kept_in_two : (ss us : List Segment) (t u : List ℕ) → changes (ss ++ (keep t ∷ (keep u ∷ us))) ≡ changes (ss ++ (keep (t ++ u) ∷ us))
-kept_in_two ss us t u = same_changes _ _ (merged_behind ss (keep t ∷ (keep u ∷ us)) (keep (t ++ u) ∷ us) (sym (keep_twice t u (merged us))))
+kept_in_two ss us t u = search (rules, append-nil, append_assoc, same_changes, merged_behind)

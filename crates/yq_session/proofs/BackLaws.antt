@@ -5,9 +5,7 @@ use Rattle.std.proofs.lemmas.List.Elements.{All-cons, All-head, All-nil, All-tai
 use Rattle.std.specs.List.{All}
 use Rattle.yq_cut.specs.Items.{Item, row_item, end_item, items_text}
 use Rattle.yq_cut.specs.Kept.{far, near, ends_near, turned}
-use Rattle.yq_cut.specs.Offsets.{offsets_of}
 use Rattle.yq_cut.specs.Touched.{in_back}
-use Rattle.yq_cut.specs.View.{slices}
 use Rattle.yq_cut.specs.declared.ends.EndPlace.{EndPlace}
 use Rattle.yq_cut.specs.declared.offsets.Offsets as declared
 use Rattle.yq_cut.specs.declared.places.Places.{Places}
@@ -108,8 +106,7 @@ first_row p front behind len back count o h many some own = go h.rows (h.split) 
   go (q ∷ rows) split long is =
       let all : p.behind.items ≡ reverse rows ++ q ∷ reverse h.before =
       sym (reverse-reverse p.behind.items) ∙ (ap reverse split ∙ (reverse-append h.before (q ∷ rows) ∙ (ap (λ l. l ++ reverse h.before) (reverse-append (q ∷ []) rows) ∙ append_assoc (reverse rows) (q ∷ []) (reverse h.before)))) in
-      let place : length (reverse rows) ≡ count - 1 = omega (arith, length-reverse rows, long) in
-      let same : o ≡ q = own ∙ (ap (λ (l : List declared.Offsets). get_or l (count - 1) o) all ∙ get_or_at (reverse rows) q (reverse h.before) o (count - 1) place) in
+      let same : o ≡ q = search (rules, length-reverse, get_or_at, all) in
       (map (turned len) rows, sym is ∙ ap (λ (x : declared.Offsets). turned len x ∷ map (turned len) rows) (sym same))
 
 pub first_end : (p : Places) (front behind : List Item) (len back count : ℕ) (e : EndPlace) → BackKept p front behind len back → count ≡ length (ends_near 0 0 front) → count < length p.ends.items → e ≡ get_or p.ends.items count e →
@@ -142,22 +139,15 @@ first_bytes m len k z rows ends bytes long h = go z long h.rows_are h.ends_are h
   end_low z e rest is = All-head (λ (x : EndPlace). m ≤ x.start) e rest (subst (All (λ (x : EndPlace). m ≤ x.start)) is (ends_begin (λ s. m ≤ s) m k z (begin_from m m z (omega arith))))
 
   low : (z : List Item) → m + text_length z ≡ len → AtRow z → m ≤ h.row_bytes
-  low z long (inl r) = omega (arith, r.1, long)
-  low z long (inr r) = omega (arith, row_low z r.0 r.1 r.2, r.3)
+  low z h1 h2 = search (rules, row_low)
 
   go : (z : List Item) → m + text_length z ≡ len → rows ≡ length (near m z) → ends ≡ length (ends_near m k z) → AtRow z → AtEnd z → bytes ≡ m
   go [] long some_rows some_ends (inl r) (inl e) = omega (arith, long, r.1, e.1)
   go [] long some_rows some_ends (inl r) (inr e) = absurd (let x = e.2 in cc)
   go [] long some_rows some_ends (inr r) e = absurd (let x = r.2 in cc)
   go (row_item r ∷ z) long some_rows some_ends (inl n) e = absurd (omega (arith, some_rows, n.0))
-  go (row_item r ∷ z) long some_rows some_ends (inr o) (inl e) =
-      let first : offsets_of m (slices r) ≡ turned len o.0 = let x = o.2 in cc in
-      let place : m ≡ len - o.0.start = ap (λ (x : declared.Offsets). x.start) first in
-      omega (arith, place, o.3, e.1)
-  go (row_item r ∷ z) long some_rows some_ends (inr o) (inr e) =
-      let first : offsets_of m (slices r) ≡ turned len o.0 = let x = o.2 in cc in
-      let place : m ≡ len - o.0.start = ap (λ (x : declared.Offsets). x.start) first in
-      omega (arith, place, o.3, e.3, end_low (row_item r ∷ z) e.0 e.1 e.2)
+  go (row_item r ∷ z) long some_rows some_ends (inr o) (inl e) = search rules
+  go (row_item r ∷ z) long some_rows some_ends (inr o) (inr e) = search (rules, end_low)
   go (end_item gap marker ∷ z) long some_rows some_ends r (inl e) = absurd (omega (arith, some_ends, e.0))
   go (end_item gap marker ∷ z) long some_rows some_ends r (inr e) =
       let place : m ≡ e.0.start = ap first_start e.2 in
@@ -186,8 +176,7 @@ behind_is p xs at back rows ends before bytes placed gap apart many count by_row
     let long : m + text_length h.behind ≡ len = omega (arith, ap text_length h.split, joined_long h.front h.behind) in
     let there : rows ≡ length (near m h.behind) = many ∙ (ap length k.rows_are ∙ (sym (length-map k.rows (turned len)) ∙ ap length k.back_rows)) in
     let in_ends : ends ≡ length (ends_near 0 0 h.front) = count ∙ k.count_is in
-    let all_ends : length p.ends.items ≡ length (ends_near 0 0 h.front) + length (ends_near m j h.behind) = ap length k.ends_are ∙ length-append (ends_near 0 0 h.front) (ends_near m j h.behind) in
-    let later : length p.ends.items - ends ≡ length (ends_near m j h.behind) = omega (arith, all_ends, in_ends) in
+    let later : length p.ends.items - ends ≡ length (ends_near m j h.behind) = search (rules, length-append, m, k, j, in_ends, h) in
     let in_front : length p.front.items + (length p.behind.items - rows) ≡ j = search (rules, length-append, length-map, length-reverse, len, k) in
     let first : FirstBytes m len j h.behind rows (length p.ends.items - ends) bytes = record {
       rows_are = there;
@@ -210,8 +199,4 @@ back_taken p xs at back placed gap apart =
     let h = back_found xs 0 back in
     let k = back_kept p xs at back placed gap apart h in
     let all : p.behind.items ≡ reverse k.rows ++ reverse k.before = sym (reverse-reverse p.behind.items) ∙ (ap reverse k.split ∙ reverse-append k.before k.rows) in
-    let count : length (reverse k.rows) ≡ length (near 0 h.behind) = length-reverse k.rows ∙ (sym (length-map k.rows (turned (text_length xs))) ∙ (ap length k.back_rows ∙ near_count (text_length h.front) 0 h.behind)) in
-    ap (λ (z : List Item). reverse (take (length (near 0 z)) p.behind.items)) h.is_behind
-    ∙ (ap (λ (l : List declared.Offsets). reverse (take (length (near 0 h.behind)) l)) all
-    ∙ (ap reverse (take_at (reverse k.rows) (reverse k.before) (length (near 0 h.behind)) count)
-    ∙ (reverse-reverse k.rows ∙ (k.far_rows ∙ ap far (sym h.is_behind)))))
+    search (rules, take_at, reverse-reverse, length-reverse, length-map, near_count, all, k, h)

@@ -1,5 +1,5 @@
 -- How many rows and ends of parts items have, and how many rows stand in front of an end.
-use Rattle.std.proofs.Common.{◌≡◌, ℕ, suc, ◌+◌, ◌≤◌, List, [], ◌∷◌, ◌++◌, length, refl, ap, ◌∙◌, arith}
+use Rattle.std.proofs.Common.{◌≡◌, ℕ, suc, ◌+◌, ◌≤◌, List, [], ◌∷◌, ◌++◌, length, refl, ap, ◌∙◌, arith, rules}
 use Rattle.std.proofs.lemmas.List.Elements.{All-cons, All-nil}
 use Rattle.std.specs.List.{All}
 use Rattle.yq_cut.specs.Ends.{end_at}
@@ -16,8 +16,7 @@ ends_joined n k [] ys = ap (λ (m : ℕ). ends_near m k ys) (let m : n ≡ n + t
 ends_joined n k (row_item r ∷ xs) ys =
     let own = length (print_row r []) in
     let bytes : (n + own) + text_length xs ≡ n + text_length (row_item r ∷ xs) = omega (arith, first_long (row_item r) xs) in
-    let rows : (k + 1) + length (near (n + own) xs) ≡ k + length (near n (row_item r ∷ xs)) = omega arith in
-    ends_joined (n + own) (k + 1) xs ys ∙ ap (λ l. ends_near (n + own) (k + 1) xs ++ l) (ap (λ (m : ℕ). ends_near m ((k + 1) + length (near (n + own) xs)) ys) bytes ∙ ap (λ (j : ℕ). ends_near (n + text_length (row_item r ∷ xs)) j ys) rows)
+    search (rules, bytes, own, ends_joined (n + own) (k + 1) xs ys)
 ends_joined n k (end_item gap marker ∷ xs) ys =
     let own = length (gap ++ marker) in
     let bytes : (n + own) + text_length xs ≡ n + text_length (end_item gap marker ∷ xs) = omega (arith, first_long (end_item gap marker) xs) in

@@ -1,8 +1,8 @@
 -- What a change that was followed leaves.
-use Rattle.std.proofs.Common.{◌≡◌, ℕ, List, ◌++◌, reverse, refl, sym, ap, ◌∙◌, subst, append_assoc}
+use Rattle.std.proofs.Common.{◌≡◌, ℕ, List, ◌++◌, refl, sym, ap, ◌∙◌, subst, append_assoc, rules}
 use Rattle.yq_cut.specs.Grammar.{IsCut}
-use Rattle.yq_cut.specs.Items.{Item, items_of}
-use Rattle.yq_cut.specs.Kept.{ArePlaced, IsPlaced}
+use Rattle.yq_cut.specs.Items.{items_of}
+use Rattle.yq_cut.specs.Kept.{IsPlaced}
 use Rattle.yq_cut.specs.Rows.{Cut}
 use Rattle.yq_cut.specs.View.{rows_view}
 use Rattle.yq_cut.specs.declared.places.Places.{Places}
@@ -31,20 +31,9 @@ moved_follows t p q kept new h placed = record {
   back_edge = h.back_edge;
 }
 
--- places that are the same
-same_sides : (p q : Places) (b z : List Item) → SamePlaces p q → ArePlaced p b z → ArePlaced q b z
-same_sides p q b z same h = record {
-  split_is = same.3 ∙ h.split_is;
-  front_are = same.0 ∙ h.front_are;
-  behind_are = ap reverse same.1 ∙ h.behind_are;
-  ends_are = same.2 ∙ h.ends_are;
-  texts = h.texts;
-  small = h.small;
-}
-
 pub same_places : (t u : List ℕ) (p q : Places) → u ≡ t → IsPlacedIn t p → SamePlaces p q → ArePlacesOf u q
 same_places t u p q text h same =
-    let placed : IsPlaced q (rows_view h.cut) = record { before = h.placed.before; behind = h.placed.behind; placed = same_sides p q h.placed.before h.placed.behind same h.placed.placed; rows_view_is = h.placed.rows_view_is } in
+    let placed : IsPlaced q (rows_view h.cut) = search rules in
     subst (λ (x : List ℕ). ArePlacesOf x q) (sym text) (places_of t q (record { cut = h.cut; is_cut = h.is_cut; placed = placed }))
 
 pub still_placed : (t u : List ℕ) (p : Places) → u ≡ t → IsPlacedIn t p → ArePlacesOf u p

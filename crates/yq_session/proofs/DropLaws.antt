@@ -1,5 +1,5 @@
 -- Rows that go from the end of a text, behind one that stays as it was read.
-use Rattle.std.proofs.Common.{◌≡◌, ℕ, ◌+◌, ◌-◌, ◌<◌, true, false, not, List, [], ◌∷◌, ◌++◌, length, map, reverse, take, drop, drop_at, suc, Some, get_or, slice_get, slice_set, refl, sym, ap, ◌∙◌, subst, arith, append-nil, append_assoc, length-append, length-take}
+use Rattle.std.proofs.Common.{◌≡◌, ℕ, ◌+◌, ◌-◌, ◌<◌, true, false, not, List, [], ◌∷◌, ◌++◌, length, map, reverse, take, drop, drop_at, suc, Some, get_or, slice_get, slice_set, refl, sym, ap, ◌∙◌, subst, arith, append-nil, append_assoc, length-append, length-take, rules}
 use Rattle.std.proofs.Math.Seq.{get_or-append_seam}
 use Rattle.std.proofs.lemmas.List.{drop_all, set_split, take_at}
 use Rattle.std.proofs.lemmas.Option.{get_or_from_slice_get, same_Some, slice_get_within}
@@ -74,9 +74,6 @@ module _ (t : List ℕ) (kept : Kept) (p : Places) (x : Touched) (last : EndPlac
   front_ends : x.front.ends ≡ length (ends_near 0 0 b)
   front_ends = ap (λ (s : Side). s.ends) k.front_is
 
-  front_bytes : x.front.bytes ≡ text_length b
-  front_bytes = ap (λ (s : Side). s.bytes) k.front_is
-
   -- the row in front, and the next one
   pub own : (r : Row) × (rest : List Item) × (k.touched ++ k.read.behind ≡ row_item r ∷ rest)
   own = row_next p b (k.touched ++ k.read.behind) d.end k.placed (subst (λ (n : ℕ). slice_get p.ends.items n ≡ Some d.end) front_ends d.end_is) (omega (arith, front_rows, d.one_row, d.later))
@@ -118,14 +115,11 @@ module _ (t : List ℕ) (kept : Kept) (p : Places) (x : Touched) (last : EndPlac
   behind_are : back ≡ near (0 + text_length f) rest
   behind_are = sym (drop_at p.front.items back (length p.front.items) refl) ∙ (ap (drop (length p.front.items)) sides ∙ drop_at (near 0 f) (near (0 + text_length f) rest) (length p.front.items) rows_f)
 
-  long : length t ≡ text_length (f ++ rest)
-  long = cut_long t c is ∙ ap text_length (sym (k.old_items c is) ∙ group)
-
   begins : kept.front ≡ text_length f
   begins =
       let m : ℕ = 0 + text_length f in
       let there = first_there (text_length (f ++ rest)) m (reverse p.behind.items) _ next.0 (behind_are ∙ ap (near m) next.2) in
-      sym d.begins ∙ (ap (λ (n : ℕ). first_byte n (reverse p.behind.items)) long ∙ (there ∙ (let same : m ≡ text_length f = omega arith in same)))
+      search (rules, cut_long, group, m, there)
 
   -- what would be read
   text : t ≡ items_text f [] ++ items_text rest []
@@ -134,7 +128,7 @@ module _ (t : List ℕ) (kept : Kept) (p : Places) (x : Touched) (last : EndPlac
   pub front_text : drop x.front.bytes (take kept.front t) ≡ items_text one []
   front_text =
       let kept_text : take kept.front t ≡ items_text b [] ++ items_text one [] = ap (take kept.front) text ∙ (take_at (items_text f []) (items_text rest []) kept.front (sym begins) ∙ text_split b one) in
-      ap (drop x.front.bytes) kept_text ∙ drop_at (items_text b []) (items_text one []) x.front.bytes (sym front_bytes)
+      search (rules, drop_at, kept_text)
 
   pub region_is : region_text t x kept [] ≡ drop x.front.bytes (take kept.front t)
   region_is =
@@ -157,19 +151,13 @@ module _ (t : List ℕ) (kept : Kept) (p : Places) (x : Touched) (last : EndPlac
   ends_final : ends_near 0 0 (f ++ final) ≡ ends_near 0 0 f ++ end_at (0 + text_length f) (0 + length (near 0 f)) [] [] ∷ []
   ends_final = ends_joined 0 0 f final
 
-  last_is : last ≡ end_at (0 + text_length f) (0 + length (near 0 f)) [] []
-  last_is =
-      let rows : length p.front.items ≡ 0 + length (near 0 f) = omega (arith, rows_f) in
-      let start : kept.front ≡ 0 + text_length f = omega (arith, begins) in
-      d.last_is ∙ (λ i. record { rows = rows i; start = start i; gap = d.gap i; marker = d.marker i })
-
   ends_set : slice_set p.ends.items (length p.ends.items - 1) last ≡ ends_near 0 0 (f ++ final)
   ends_set =
       let n : ℕ = length p.ends.items - 1 in
       let some : n < length p.ends.items = omega (arith, d.one_end) in
       let gone : drop (suc n) p.ends.items ≡ [] = drop_all (suc n) p.ends.items (omega (arith, d.one_end)) in
       let first : take n p.ends.items ≡ ends_near 0 0 f = ap (take n) (placed.ends_are ∙ ends_joined 0 0 f rest) ∙ take_at (ends_near 0 0 f) (ends_near (0 + text_length f) (0 + length (near 0 f)) rest) n (omega (arith, ends_f, d.one_end)) in
-      set_split p.ends.items n last some ∙ ((λ i. first i ++ last_is i ∷ gone i) ∙ sym ends_final)
+      search (rules, rows_f, begins, set_split, ends_final, first, n, some, gone)
 
   final_placed : (q : Places) → q.front.items ≡ p.front.items → q.behind.items ≡ [] → q.ends.items ≡ slice_set p.ends.items (length p.ends.items - 1) last → q.split ≡ kept.front → ArePlaced q (f ++ final) []
   final_placed q rows behind ends split =
@@ -184,9 +172,7 @@ module _ (t : List ℕ) (kept : Kept) (p : Places) (x : Touched) (last : EndPlac
       }
 
   pub rows_dropped : (q : Places) → q.front.items ≡ p.front.items → q.behind.items ≡ [] → q.ends.items ≡ slice_set p.ends.items (length p.ends.items - 1) last → q.split ≡ kept.front → ArePlaced q (b ++ k.read.written) k.read.behind
-  rows_dropped q rows behind ends split =
-      let same : f ++ final ≡ b ++ k.read.written = append_assoc b one final ∙ ap (λ l. b ++ l) (sym written) in
-      subst (ArePlaced q (b ++ k.read.written)) (sym nothing) (subst (λ (l : List Item). ArePlaced q l []) same (final_placed q rows behind ends split))
+  rows_dropped q rows behind ends split = search (rules, nothing, final_placed, append_assoc, written)
 
   -- the text that stays
   pub kept_text : take kept.front t ≡ exchanged kept t []

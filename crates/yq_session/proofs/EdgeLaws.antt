@@ -18,9 +18,6 @@ module _ (t f m z : List ℕ) (front back : ℕ) (h : Pieces t f m z front back)
   long : length t ≡ (length f + length m) + length z
   long = ap length grouped ∙ (length-append (f ++ m) z ∙ ap (λ (n : ℕ). n + length z) (length-append f m))
 
-  pub touched_end : (e : ℕ) → e ≡ length f + length m → take e t ≡ f ++ m
-  touched_end e is = ap (take e) grouped ∙ take_at (f ++ m) z e (length-append f m ∙ sym is)
-
   kept_front : (b : ℕ) → b ≡ length f → take front t ≡ f ++ drop b (take front t)
   kept_front b is =
       let one : take b (take front t) ≡ f = take-take b front t (omega (arith, is, h.first)) ∙ (ap (take b) h.text ∙ take_at f (m ++ z) b (sym is)) in
@@ -53,11 +50,8 @@ module _ (t f m z : List ℕ) (front back : ℕ) (h : Pieces t f m z front back)
   end_edge e is utf8 = subst (IsCharBoundary t) (length-append f m ∙ sym is) (IsCharBoundary-at_seam t (f ++ m) z grouped utf8)
 
   pub back_edge : (e : ℕ) → e ≡ length f + length m → IsCharBoundary t (length t - back) → IsCharBoundary (take e t) (length t - back)
-  back_edge e is edge =
-      let n : ℕ = length t - back in
-      let size : length (take e t) ≡ e = omega (arith, length-take e t, long, is) in
-      (omega (arith, size, long, h.last, is), λ less high. let same = get_or-take e t n 0 (omega (arith, less, size)) in subst (λ (b : ℕ). 192 ≤ b) (sym same) (edge.1 (omega (arith, less, size, long, is)) (subst (λ (b : ℕ). 128 ≤ b) same high)))
+  back_edge e is edge = search (rules, long, get_or-take, length-take)
 
   -- how what comes ends, where the touched bytes end with those that are kept
   pub region_ends : (new y x : List ℕ) (b e : ℕ) → e ≡ length f + length m → f ++ m ≡ y ++ x → length t - back ≤ length y → drop b (take front t) ++ (new ++ drop (length t - back) (take e t)) ≡ (drop b (take front t) ++ (new ++ drop (length t - back) y)) ++ x
-  region_ends new y x b e is ends low = search (rules, touched_end, drop-append-le, append_assoc)
+  region_ends new y x b e is ends low = search (rules, grouped, take_at, length-append, drop-append-le, append_assoc)

@@ -1,16 +1,13 @@
 -- Rows and ends of parts of items between others that give way to those of other items, by their places.
-use Rattle.std.proofs.Common.{◌≡◌, ℕ, suc, ◌+◌, ◌-◌, ◌<◌, ◌≤◌, ◌^◌, true, eqb, List, [], ◌∷◌, ◌++◌, length, map, reverse, take, drop, drop_at, get_or, slice_set, Some, slice_get, refl, sym, ap, ◌∙◌, subst, arith, eqb-true, append_assoc, append-nil, length-append, length-take, rules}
+use Rattle.std.proofs.Common.{◌≡◌, ℕ, suc, ◌+◌, ◌<◌, ◌≤◌, ◌^◌, true, eqb, List, [], ◌∷◌, ◌++◌, length, map, reverse, take, drop, drop_at, get_or, slice_set, Some, slice_get, refl, sym, ap, ◌∙◌, subst, arith, eqb-true, append_assoc, append-nil, length-append, length-take, rules}
 use Rattle.std.proofs.lemmas.List.{drop_all, drop_more, length-map, length-reverse, map_more, set_split, take_at}
 use Rattle.std.proofs.lemmas.List.Elements.{All-weaker}
 use Rattle.std.proofs.lemmas.Option.{get_or_from_slice_get, slice_get_within}
 use Rattle.std.specs.List.{All}
-use Rattle.yq_cut.specs.Ends.{end_at}
 use Rattle.yq_cut.specs.Items.{Item, row_item, end_item}
 use Rattle.yq_cut.specs.Kept.{ArePlaced, far, kept_rows, near, ends_near, raised, placed_rows, TextsIn}
-use Rattle.yq_cut.specs.Offsets.{offsets_of}
 use Rattle.yq_cut.specs.Regions.{alone}
 use Rattle.yq_cut.specs.Rows.{print_row}
-use Rattle.yq_cut.specs.View.{slices}
 use Rattle.yq_cut.specs.declared.ends.EndPlace.{EndPlace}
 use Rattle.yq_cut.specs.declared.offsets.Offsets as declared
 use Rattle.yq_cut.specs.declared.places.Places.{Places}
@@ -33,30 +30,19 @@ pub raised_near : (by n : ℕ) (xs : List Item) → map (raised by) (near n xs) 
 raised_near by n [] = refl
 raised_near by n (row_item r ∷ xs) =
     let own = length (print_row r []) in
-    let next : (n + own) + by ≡ (n + by) + own = omega arith in
-    ap (λ l. offsets_of (n + by) (slices r) ∷ l) (raised_near by (n + own) xs ∙ ap (λ (m : ℕ). near m xs) next)
+    search (rules, own, raised_near by (n + own) xs)
 raised_near by n (end_item gap marker ∷ xs) =
     let own = length (gap ++ marker) in
-    let next : (n + own) + by ≡ (n + by) + own = omega arith in
-    raised_near by (n + own) xs ∙ ap (λ (m : ℕ). near m xs) next
+    search (rules, own, raised_near by (n + own) xs)
 
 pub moved_near : (from to : Side) (n k : ℕ) (xs : List Item) → map (moved_from from to) (ends_near (from.bytes + n) (from.rows + k) xs) ≡ ends_near (to.bytes + n) (to.rows + k) xs
 moved_near from to n k [] = refl
 moved_near from to n k (row_item r ∷ xs) =
     let own = length (print_row r []) in
-    let a : (from.bytes + n) + own ≡ from.bytes + (n + own) = omega arith in
-    let b : (from.rows + k) + 1 ≡ from.rows + (k + 1) = omega arith in
-    let c : to.bytes + (n + own) ≡ (to.bytes + n) + own = omega arith in
-    let d : to.rows + (k + 1) ≡ (to.rows + k) + 1 = omega arith in
-    ap (map (moved_from from to)) (λ i. ends_near (a i) (b i) xs) ∙ (moved_near from to (n + own) (k + 1) xs ∙ (λ i. ends_near (c i) (d i) xs))
+    search (rules, own, moved_near from to (n + own) (k + 1) xs)
 moved_near from to n k (end_item gap marker ∷ xs) =
     let own = length (gap ++ marker) in
-    let a : (from.bytes + n) + own ≡ from.bytes + (n + own) = omega arith in
-    let c : to.bytes + (n + own) ≡ (to.bytes + n) + own = omega arith in
-    let start : ((from.bytes + n) - from.bytes) + to.bytes ≡ to.bytes + n = omega arith in
-    let rows : ((from.rows + k) - from.rows) + to.rows ≡ to.rows + k = omega arith in
-    let one : moved_from from to (end_at (from.bytes + n) (from.rows + k) gap marker) ≡ end_at (to.bytes + n) (to.rows + k) gap marker = λ i. end_at (start i) (rows i) gap marker in
-    (λ i. one i ∷ map (moved_from from to) (ends_near (a i) (from.rows + k) xs)) ∙ ap (λ l. end_at (to.bytes + n) (to.rows + k) gap marker ∷ l) (moved_near from to (n + own) k xs ∙ ap (λ (m : ℕ). ends_near m (to.rows + k) xs) c)
+    search (rules, own, moved_near from to (n + own) k xs)
 
 -- texts
 pub texts_first : (xs ys : List Item) → TextsIn (xs ++ ys) → TextsIn xs
@@ -136,9 +122,8 @@ ends_movable from to xs rows bytes =
     let high : ℕ = from.rows + length (near 0 xs) in
     let last : ℕ = from.bytes + text_length xs in
     let all : List EndPlace = ends_near (from.bytes + 0) (from.rows + 0) xs in
-    let a = ends_rows (from.bytes + 0) (from.rows + 0) high xs (omega (arith, near_count (from.bytes + 0) 0 xs)) in
     let b = ends_begin (λ s. s ≤ last) (from.bytes + 0) (from.rows + 0) xs (begin_within last (from.bytes + 0) xs (omega arith)) in
-    λ k d l. (let r = a k d l in omega (arith, r, rows), let s = b k d l in omega (arith, s, bytes))
+    search (rules, ends_rows, near_count, high, b)
 
 pub ends_behind : (p : Places) (x : Touched) (come : Come) (h : GivesWay p x come) → drop x.old.ends p.ends.items ≡ ends_near (x.old.bytes + 0) (x.old.rows + 0) h.behind
 ends_behind p x come h = search (rules, append_assoc, ends_joined, drop_at)
@@ -155,7 +140,6 @@ exchanged p new x come next kept h kept_is rows_is bytes_is front_now behind_now
     let n : ℕ = 0 + text_length b in
     let k : ℕ = 0 + length (near 0 b) in
     let front_rows : x.front.rows ≡ length (near 0 b) = ap (λ (s : Side). s.rows) h.front_is in
-    let front_ends : x.front.ends ≡ length (ends_near 0 0 b) = ap (λ (s : Side). s.ends) h.front_is in
     let front_bytes : x.front.bytes ≡ text_length b = ap (λ (s : Side). s.bytes) h.front_is in
     let came : map (raised x.front.bytes) (placed_rows come.read come.places) ≡ near n w = ap (map (raised x.front.bytes)) h.are_read.rows ∙ (raised_near x.front.bytes 0 w ∙ ap (λ (m : ℕ). near (0 + m) w) front_bytes) in
     let back : reverse new.behind.items ≡ far z = ap reverse behind_now ∙ (ap (λ (m : ℕ). reverse (take m p.behind.items)) kept_is ∙ h.back_rows) in
@@ -168,7 +152,7 @@ exchanged p new x come next kept h kept_is rows_is bytes_is front_now behind_now
     let ends_last : map (moved_from x.old next) (drop x.old.ends p.ends.items) ≡ ends_near (n + text_length w) (k + length (near n w)) z = ap (map (moved_from x.old next)) (ends_behind p x come h) ∙ (moved_near x.old next 0 0 z ∙ (λ i. ends_near (three i) (four i) z)) in
     let tail : List Item = h.touched ++ z in
     let old_ends : p.ends.items ≡ ends_near 0 0 b ++ ends_near n k tail = h.placed.ends_are ∙ ends_joined 0 0 b tail in
-    let ends_first : take x.front.ends p.ends.items ≡ ends_near 0 0 b = ap (take x.front.ends) old_ends ∙ take_at (ends_near 0 0 b) (ends_near n k tail) x.front.ends (sym front_ends) in
+    let ends_first : take x.front.ends p.ends.items ≡ ends_near 0 0 b = search (rules, take_at, k, n, old_ends, tail, b) in
     let group : (b ++ w) ++ z ≡ b ++ (w ++ z) = append_assoc b w z in
     record {
       split_is = split_now ∙ omega (arith, bytes_is, front_bytes, h.are_read.long, joined_long b w);

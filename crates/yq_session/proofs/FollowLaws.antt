@@ -1,10 +1,9 @@
 -- What a change touches, and what is read and exchanged for it.
-use Rattle.std.proofs.Common.{◌≡◌, ⊎_elim, ltb, ◌||◌, true, false, not, ℕ, ◌+◌, ◌-◌, ◌<◌, ◌≤◌, ◌^◌, List, [], ◌∷◌, ◌++◌, length, take, drop, Option, Some, None, refl, sym, ap, ◌∙◌, subst, arith, append_assoc, append-nil, length-append, length-drop, length-take, rules}
+use Rattle.std.proofs.Common.{◌≡◌, ⊎_elim, ltb, ◌||◌, true, false, not, ℕ, ◌+◌, ◌-◌, ◌≤◌, List, [], ◌∷◌, ◌++◌, length, take, drop, Option, Some, refl, sym, ap, ◌∙◌, subst, arith, append_assoc, append-nil, length-append, length-drop, length-take, rules}
 use Rattle.std.proofs.lemmas.Bool.{cases_lt, le-ltb, lt-ltb, or_right}
 use Rattle.std.proofs.lemmas.List.{append_cancel_left, append_cancel_right}
 use Rattle.std.proofs.lemmas.Str.{IsUtf8-nil}
 use Rattle.std.specs.Str.{IsUtf8}
-use Rattle.yq_flow_scalars.specs.Characters.{text_limit}
 use Rattle.yq_cut.specs.Grammar.{IsCut, IsMarkerLine}
 use Rattle.yq_cut.specs.Items.{Item, end_item, items_of, items_text, nothing_asked, asked_of, AreRowItems}
 use Rattle.yq_cut.specs.Kept.{kept_rows, near, ends_near, TextsIn}
@@ -147,13 +146,7 @@ module _ (t new : List ℕ) (kept : Kept) (p : Places) (x : Touched) (h : Follow
           ap length at_xs.ends_are ∙ (ap (λ (l : List Item). length (ends_near 0 0 l)) group ∙ (ap length (ends_joined 0 0 (f ++ tch) z) ∙ (length-append (ends_near 0 0 (f ++ tch)) (ends_near m k z) ∙ ap (λ (n : ℕ). length (ends_near 0 0 (f ++ tch)) + n) (ends_count m k 0 0 z))))
 
       go : (l : List Item) → length (kept_rows p) ≡ x.old.rows + length (near 0 l) → length p.ends.items ≡ x.old.ends + length (ends_near 0 0 l) → (ltb x.old.rows (length (kept_rows p)) || ltb x.old.ends (length p.ends.items)) ≡ not (no_items l)
-      go [] a b = rw (le-ltb x.old.rows (length (kept_rows p)) (omega (arith, a)), le-ltb x.old.ends (length p.ends.items) (omega (arith, b))) refl
-      go (i ∷ l) a b = ⊎_elim {0, 0, 0}
-          (λ (less : x.old.rows < length (kept_rows p)). rw (lt-ltb x.old.rows (length (kept_rows p)) less) refl)
-          (λ (no : length (kept_rows p) ≤ x.old.rows).
-          let less : x.old.ends < length p.ends.items = ⊎_elim {0, 0, 0} (λ (l : x.old.ends < length p.ends.items). l) (λ (n : length p.ends.items ≤ x.old.ends). absurd (some_behind i l (omega (arith, a, b, no, n)))) (cases_lt x.old.ends (length p.ends.items)) in
-          rw (lt-ltb x.old.ends (length p.ends.items) less) (or_right (ltb x.old.rows (length (kept_rows p))) true refl))
-          (cases_lt x.old.rows (length (kept_rows p)))
+      go l h1 h2 = search (rules, le-ltb, ⊎_elim, lt-ltb, some_behind, cases_lt, or_right)
 
   -- the items that are read
   some_left : (l : List Item) → items_of h.new_cut ≡ f ++ l → no_items l ≡ false
@@ -214,21 +207,9 @@ module _ (t new : List ℕ) (kept : Kept) (p : Places) (x : Touched) (h : Follow
         record { front = s.0; gap = s.1; marker = k.marker; items = s.2; long = k.long; text = texts.1; read = region_end s.0 z s.1 k.marker (stand_in (ended s.0 s.1 k.marker) z (ap (λ (l : List Item). l ++ z) s.2)) }
 
   read : IsRead part x
-  read = record {
-    written = w;
-    behind = z;
-    text = part_is;
-    read = region w z (stand_in w z refl);
-    more = more;
-    unread = λ d is. go x.marked reports d (subst (λ (l : List ℕ). unread_end l x.marked ≡ Some d) part_is is);
-    small = omega (arith, ap length part_is, new_size, h.new_is.size, limit);
-  } where
-    limit : text_limit < 2 ^ 32
-    limit = omega arith
-
+  read = search (rules, part_is, region, stand_in, more, unread, reports, new_size, go) where
     go : (o : Option EndPlace) → KeepsMarker tch (kept.back - text_length z) o → (d : EndPlace) → unread_end (items_text w []) o ≡ Some d → IsUnread w d
-    go None k d is = absurd cc
-    go (Some e) k d is = let u = unread_is (items_text w []) e d is in subst (IsUnread w) u.0 (unread e k u.1)
+    go o h1 d h2 = search (rules, unread_is, unread)
 
   -- what is counted
   once : (c d : Cut) → IsCut t c → IsCut (exchanged kept t new) d → (j : TouchesOnly kept.front kept.back c d) → read_text kept c d j ≡ read_part part x.marked

@@ -1,5 +1,5 @@
 -- Places of the items of a cut, by what is borrowed of them, and on both sides of a split.
-use Rattle.std.proofs.Common.{◌≡◌, ℕ, ◌+◌, ◌<◌, ◌≤◌, ◌^◌, List, [], ◌∷◌, ◌++◌, length, map, reverse, refl, sym, ap, ◌∙◌, subst, arith}
+use Rattle.std.proofs.Common.{◌≡◌, ℕ, ◌+◌, ◌<◌, ◌≤◌, ◌^◌, List, [], ◌∷◌, ◌++◌, length, map, reverse, refl, sym, ap, ◌∙◌, subst, arith, rules}
 use Rattle.std.proofs.lemmas.List.{reverse-append, reverse-reverse}
 use Rattle.std.proofs.lemmas.List.Elements.{All-cons, All-head, All-nil, All-push, All-tail}
 use Rattle.std.specs.List.{All}
@@ -29,19 +29,12 @@ placed_at p b z h =
     let n = text_length (b ++ z) in
     let front : p.front.items ≡ near 0 b = h.front_are in
     let back : map (turned n) (reverse p.behind.items) ≡ near (text_length b) z = ap (map (turned n)) h.behind_are ∙ far_near z (items_text b []) (items_text (b ++ z) []) (text_split b z) in
-    let begin : text_length b ≡ 0 + text_length b = omega arith in
-    record { rows_are = (λ i. front i ++ back i) ∙ (ap (λ (m : ℕ). near 0 b ++ near m z) begin ∙ sym (near_joined 0 b z)); ends_are = h.ends_are; texts = h.texts; small = h.small }
+    search (rules, near_joined, front, back)
 
 pub places_are : (p : Places) (s : RowsView) (xs : List Item) → IsPlaced p s → s ≡ view_of_items xs → AreAt p xs
 places_are p s xs h e =
-    let all = placed_at p h.before h.behind h.placed in
     let same = same_view (h.before ++ h.behind) xs 0 [] (sym h.rows_view_is ∙ e) in
-    record {
-      rows_are = ap (λ (t : List ℕ). placed_rows (length t) p) (sym same.text) ∙ (all.rows_are ∙ same.near);
-      ends_are = all.ends_are ∙ same.ends;
-      texts = same.texts all.texts;
-      small = subst (λ (t : List ℕ). length t < 2 ^ 32) same.text all.small;
-    }
+    search (rules, placed_at, same)
 
 pub cut_places : (p : Places) (c : Cut) → IsPlaced p (rows_view c) → AreAt p (items_of c)
 cut_places p c h = places_are p (rows_view c) (items_of c) h (sym (items_view_is c))
@@ -138,12 +131,7 @@ places_of t p h c cut = subst (λ (x : Cut). IsPlaced p (rows_view x)) (one_cut 
 
 -- the same rows and ends of parts, on other sides of the split
 pub still_at : (p q : Places) (xs : List Item) (len : ℕ) → len ≡ text_length xs → placed_rows len q ≡ placed_rows len p → q.ends.items ≡ p.ends.items → AreAt p xs → AreAt q xs
-still_at p q xs len long rows ends h = record {
-  rows_are = subst (λ (n : ℕ). placed_rows n q ≡ placed_rows n p) long rows ∙ h.rows_are;
-  ends_are = ends ∙ h.ends_are;
-  texts = h.texts;
-  small = h.small;
-}
+still_at p q xs len long rows ends h = search rules
 
 -- ---- the split of a text
 

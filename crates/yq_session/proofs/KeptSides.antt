@@ -1,5 +1,5 @@
 -- How long what a change keeps on either side is.
-use Rattle.std.proofs.Common.{◌≡◌, ⊎_elim, ltb, cond, Bool, true, false, ℕ, ◌+◌, ◌-◌, ◌<◌, ◌≤◌, List, [], ◌∷◌, ◌++◌, length, refl, sym, ap, ◌∙◌, arith, append_assoc, length-append, ltb-true}
+use Rattle.std.proofs.Common.{◌≡◌, ⊎_elim, ltb, cond, Bool, true, false, ℕ, ◌+◌, ◌-◌, ◌<◌, ◌≤◌, List, [], ◌∷◌, ◌++◌, length, refl, sym, ap, ◌∙◌, arith, append_assoc, length-append, ltb-true, rules}
 use Rattle.std.proofs.lemmas.Bool.{cases_lt, lt-ltb}
 use Rattle.yq_cut.specs.Items.{Item, row_item, end_item, items_of, rows_items}
 use Rattle.yq_cut.specs.Kept.{near, ends_near}
@@ -17,17 +17,10 @@ all_in_front (i ∷ xs) n all some = go (λ rest more. all_in_front xs (n - leng
   tail j k ys zs e = cc
 
   one : (ys : List Item) → (no_items ys ≡ false → text_length ys < n - length (item_text i)) → length (item_text i) < n → text_length (i ∷ ys) < n
-  one [] more less = omega (arith, less, first_long i [])
-  one (j ∷ ys) more less = omega (arith, more refl, less, first_long i (j ∷ ys))
+  one ys h1 h2 = search (rules, first_long)
 
   go : (in_front (n - length (item_text i)) xs ≡ xs → no_items xs ≡ false → text_length xs < n - length (item_text i)) → (b : Bool) → ltb (length (item_text i)) n ≡ b → text_length (i ∷ xs) < n
-  go next true e =
-      let is : i ∷ in_front (n - length (item_text i)) xs ≡ i ∷ xs = sym (ap (λ (b : Bool). cond b (i ∷ in_front (n - length (item_text i)) xs) []) e) ∙ all in
-      let rest : in_front (n - length (item_text i)) xs ≡ xs = tail i i (in_front (n - length (item_text i)) xs) xs is in
-      one xs (next rest) (ltb-true (length (item_text i)) n e)
-  go next false e =
-      let is : [] ≡ i ∷ xs = sym (ap (λ (b : Bool). cond b (i ∷ in_front (n - length (item_text i)) xs) []) e) ∙ all in
-      absurd cc
+  go h1 b h2 = search (rules, ltb-true, tail, one)
 
 rows_some : (rs : List Row) (i : Item) (xs : List Item) → no_items (rows_items rs (i ∷ xs)) ≡ false
 rows_some [] i xs = refl
@@ -43,16 +36,14 @@ front_long n [] = omega arith
 front_long n (i ∷ xs) = go (front_long (n - length (item_text i)) xs) (ltb (length (item_text i)) n) refl
   where
     go : text_length (in_front (n - length (item_text i)) xs) ≤ n - length (item_text i) → (b : Bool) → ltb (length (item_text i)) n ≡ b → text_length (cond b (i ∷ in_front (n - length (item_text i)) xs) []) ≤ n
-    go more true e = omega (arith, more, first_long i (in_front (n - length (item_text i)) xs), ltb-true (length (item_text i)) n e)
-    go more false e = omega arith
+    go h1 b h2 = search (rules, first_long, ltb-true)
 
 pub back_long : (n : ℕ) (xs : List Item) → text_length (in_back n xs) ≤ n
 back_long n [] = omega arith
 back_long n (i ∷ xs) = go (back_long n xs) (ltb (text_length (i ∷ xs)) n) refl
   where
     go : text_length (in_back n xs) ≤ n → (b : Bool) → ltb (text_length (i ∷ xs)) n ≡ b → text_length (cond b (i ∷ xs) (in_back n xs)) ≤ n
-    go more true e = omega (arith, ltb-true (text_length (i ∷ xs)) n e)
-    go more false e = more
+    go h1 b h2 = search (rules, ltb-true)
 
 -- something stands behind, as a row or as the end of a part
 pub some_behind : (i : Item) (z : List Item) → length (near 0 (i ∷ z)) + length (ends_near 0 0 (i ∷ z)) ≡ 0 → ⊥

@@ -1,5 +1,5 @@
 -- The last end of a part among the touched items, and whether its marker is kept.
-use Rattle.std.proofs.Common.{◌≡◌, ◌⊎◌, inl, inr, ⊎_elim, ℕ, zero, suc, ◌+◌, ◌-◌, ◌<◌, ◌≤◌, Bool, true, false, eqb, ltb, leb, get_or, if◌then◌else◌, ◌&&◌, List, [], ◌∷◌, ◌++◌, length, Option, Some, None, slice_get, refl, sym, ap, ◌∙◌, subst, arith, append_assoc, append-nil, length-append}
+use Rattle.std.proofs.Common.{◌≡◌, ◌⊎◌, inl, inr, ⊎_elim, ℕ, zero, suc, ◌+◌, ◌-◌, ◌<◌, ◌≤◌, Bool, true, false, eqb, ltb, leb, if◌then◌else◌, ◌&&◌, List, [], ◌∷◌, ◌++◌, length, Option, Some, None, slice_get, refl, sym, ap, ◌∙◌, arith, append_assoc, append-nil, length-append, rules}
 use Rattle.std.proofs.lemmas.Bool.{and_from, and_parts, cases_Bool, cases_lt, eq-eqb, false≢true, leb-true, le-leb, lt-leb, lt-ltb, ltb-true, ne_eqb}
 use Rattle.std.proofs.lemmas.List.Elements.{All-get_or}
 use Rattle.std.proofs.lemmas.Option.{get_or_from_slice_get}
@@ -76,9 +76,6 @@ test old at e = if keeps_marker e old.rows at then Some e else None
 chosen : (es : List EndPlace) (front old : Side) (at : ℕ) (o : Option EndPlace) → front.ends < old.ends → slice_get es (old.ends - 1) ≡ o → marked_end es front old at ≡ (o >>= test old at)
 chosen es front old at o h is = rw (lt-leb old.ends front.ends h, is) refl
 
-refused : (e : EndPlace) (rows at : ℕ) → (e.rows ≡ rows → ⊥) → keeps_marker e rows at ≡ false
-refused e rows at h = rw (ne_eqb e.rows rows h) refl
-
 -- What stands before, among and behind the touched items, and how many bytes are kept behind.
 pub record Stretch (f touched z : List Item) (es : List EndPlace) (front old : Side) (len back : ℕ) : Type 0 where
   pub rest : List EndPlace
@@ -90,24 +87,17 @@ pub record Stretch (f touched z : List Item) (es : List EndPlace) (front old : S
   pub within : back ≤ len
 
 agrees_none : (f touched z : List Item) (es : List EndPlace) (front old : Side) (len back : ℕ) → Stretch f touched z es front old len back → touched ≡ [] → KeepsMarker touched (back - text_length z) (marked_end es front old (len - back))
-agrees_none f touched z es front old len back h none =
-    let n : ℕ = back - text_length z in
-    let same : old.ends ≡ front.ends = ap (λ (s : Side). s.ends) (h.old_is ∙ (ap (λ (l : List Item). side_of (f ++ l)) none ∙ (ap side_of (append-nil f) ∙ sym h.front_is))) in
-    subst (KeepsMarker touched n) (sym (none_chosen es front old (len - back) (omega (arith, same)))) (kept_none n touched (ap last_marker none))
+agrees_none f touched z es front old len back h none = search (rules, none_chosen, kept_none, append-nil)
 
 -- the last touched item is a row
 row_there : (g : List Item) (r : Row) (rest es : List EndPlace) (i : ℕ) (e : EndPlace) → es ≡ ends_near 0 0 (g ++ (row_item r ∷ [])) ++ rest → i < length (ends_near 0 0 g) → slice_get es i ≡ Some e → e.rows ≤ length (near 0 g)
 row_there g r rest es i e ends less is =
     let own : slice_get (ends_near 0 0 g) i ≡ Some e = sym (slice_left (ends_near 0 0 g) rest i less) ∙ (ap (λ (l : List EndPlace). slice_get l i) (sym (ends ∙ ap (λ (l : List EndPlace). l ++ rest) (ends_row g r))) ∙ is) in
-    let at : e ≡ get_or (ends_near 0 0 g) i e = sym (get_or_from_slice_get (ends_near 0 0 g) i e e own) in
     let bound = All-get_or (λ (x : EndPlace). x.rows ≤ length (near 0 g)) (ends_near 0 0 g) i e less (ends_rows 0 0 (length (near 0 g)) g (omega arith)) in
-    subst (λ (x : EndPlace). x.rows ≤ length (near 0 g)) (sym at) bound
+    search (rules, get_or_from_slice_get, bound, own)
 
 agrees_row : (f touched z : List Item) (es : List EndPlace) (front old : Side) (len back : ℕ) (u : List Item) (r : Row) → Stretch f touched z es front old len back → touched ≡ u ++ (row_item r ∷ []) → KeepsMarker touched (back - text_length z) (marked_end es front old (len - back))
-agrees_row f touched z es front old len back u r h is = ⊎_elim {0, 0, 0}
-    (λ (low : front.ends < old.ends). subst (KeepsMarker touched n) (sym (chosen es front old (len - back) (slice_get es (old.ends - 1)) low refl)) (go low (slice_get es (old.ends - 1)) refl))
-    (λ (high : old.ends ≤ front.ends). subst (KeepsMarker touched n) (sym (none_chosen es front old (len - back) high)) zero)
-    (cases_lt front.ends old.ends)
+agrees_row f touched z es front old len back u r h is = search (rules, ⊎_elim, chosen, none_chosen, cases_lt, go, n, zero)
   where
     n : ℕ
     n = back - text_length z
@@ -131,12 +121,11 @@ agrees_row f touched z es front old len back u r h is = ⊎_elim {0, 0, 0}
     go low None at = zero
     go low (Some e) at =
         let few = row_there g r h.rest es (old.ends - 1) e (h.ends ∙ ap (λ (l : List Item). ends_near 0 0 l ++ h.rest) all) (omega (arith, ends, low)) at in
-        rw (refused e old.rows (len - back) (λ same. omega (arith, same, few, rows))) zero
+        search (rules, ne_eqb, few, rows, zero)
 
 -- the last touched item is the end of a part
 agrees_end : (f touched z : List Item) (es : List EndPlace) (front old : Side) (len back : ℕ) (u : List Item) (gap marker : List ℕ) → Stretch f touched z es front old len back → touched ≡ ended u gap marker → KeepsMarker touched (back - text_length z) (marked_end es front old (len - back))
-agrees_end f touched z es front old len back u gap marker h is =
-    subst (KeepsMarker touched n) (sym (chosen es front old at (Some e) low there)) (go (keeps_marker e old.rows at) refl)
+agrees_end f touched z es front old len back u gap marker h is = search (rules, slice_joined, chosen, at, e, ends, g, go, list, low, n)
   where
     n : ℕ
     n = back - text_length z
@@ -165,9 +154,6 @@ agrees_end f touched z es front old len back u gap marker h is =
     low : front.ends < old.ends
     low = omega (arith, ends, ap (λ (s : Side). s.ends) h.front_is, ap length (ends_joined 0 0 f u), length-append (ends_near 0 0 f) (ends_near (0 + text_length f) (0 + length (near 0 f)) u))
 
-    there : slice_get es (old.ends - 1) ≡ Some e
-    there = ap (λ (l : List EndPlace). slice_get l (old.ends - 1)) list ∙ slice_joined (ends_near 0 0 g) h.rest (old.ends - 1) e (omega (arith, ends))
-
     own : last_marker touched ≡ marker
     own = ap last_marker is ∙ last_marker_is u (end_item gap marker)
 
@@ -175,16 +161,8 @@ agrees_end f touched z es front old len back u gap marker h is =
     size = h.long ∙ omega (arith, ap text_length all, joined_long g (end_item gap marker ∷ []), first_long (end_item gap marker) [], length-append gap marker)
 
     go : (b : Bool) → keeps_marker e old.rows at ≡ b → KeepsMarker touched n (if b then Some e else None)
-    go true t =
-        let a = and_parts (eqb e.rows old.rows && ltb 0 e.marker) (leb at (e.start + e.gap)) t in
-        let some : 0 < length marker = ltb-true 0 (length marker) (and_parts (eqb e.rows old.rows) (ltb 0 e.marker) a.0).1 in
-        let begins : at ≤ text_length g + length gap = leb-true at (text_length g + length gap) a.1 in
-        let within : length marker ≤ n = omega (arith, begins, size, h.last, h.within) in
-        record { front = u; gap = gap; marker = marker; items = is; long = refl; some = some; within = within; kept = rw (own, le-leb (length marker) n within) refl }
-    go false t = ⊎_elim {0, 0, 0}
-        (λ (l : leb (length marker) n ≡ true). rw (own, l) (⊎_elim {0, 0, 0} (λ (some : 0 < length marker). absurd (both some (leb-true (length marker) n l))) (λ (no : length marker ≤ 0). let x : length marker ≡ 0 = omega (arith, no) in x) (cases_lt 0 (length marker))))
-        (λ (l : leb (length marker) n ≡ false). rw (own, l) refl)
-        (cases_Bool (leb (length marker) n))
+    go true t = search (rules, le-leb, and_parts, ltb-true, leb-true, at, e, g, n, own, size)
+    go false t = search (rules, ⊎_elim, leb-true, cases_lt, cases_Bool, both, n, own)
       where
         both : 0 < length marker → length marker ≤ n → ⊥
         both some within = false≢true (sym t ∙ and_from (eqb e.rows old.rows && ltb 0 e.marker) (leb at (e.start + e.gap)) (and_from (eqb e.rows old.rows) (ltb 0 e.marker) (eq-eqb e.rows old.rows (sym rows)) (lt-ltb 0 (length marker) some)) (le-leb at (text_length g + length gap) (omega (arith, within, some, size, h.last, h.within))))

@@ -1,5 +1,5 @@
 -- The line of a marker that begins a line is a marker in every cut.
-use Rattle.std.proofs.Common.{◌≡◌, ⊎_elim, ℕ, ◌<◌, ◌≤◌, Bool, true, false, List, [], ◌∷◌, ◌++◌, length, drop, refl, sym, ap, ◌∙◌, subst, arith, append_assoc, append-nil, length-append}
+use Rattle.std.proofs.Common.{◌≡◌, ⊎_elim, ℕ, ◌<◌, ◌≤◌, Bool, true, false, List, [], ◌∷◌, ◌++◌, length, drop, refl, sym, ap, ◌∙◌, subst, arith, append_assoc, append-nil, length-append, rules}
 use Rattle.std.proofs.lemmas.Bool.{cases_lt, false≢true}
 use Rattle.std.proofs.lemmas.List.{append_cancel_right, nil_from_length}
 use Rattle.yq_flow_scalars.specs.Text.{front, is_feed, is_marker}
@@ -20,13 +20,7 @@ use Rattle.yq_session.proofs.RowLines.{gap_lines, marker_lines, row_lines}
 
 -- the marker of an end among items
 pub marker_there : (xs u z : List Item) (gap marker : List ℕ) → AreRowItems nothing_asked xs [] → xs ≡ ended u gap marker ++ z → 0 < length marker → IsMarkerLine marker (items_text z [])
-marker_there xs u z gap marker h is some =
-    let group : ended u gap marker ++ z ≡ u ++ (end_item gap marker ∷ z) = append_assoc u (end_item gap marker ∷ []) z in
-    let all : AreRowItems nothing_asked (u ++ (end_item gap marker ∷ z)) [] = subst (λ (l : List Item). AreRowItems nothing_asked l []) (is ∙ group) h in
-    ⊎_elim {0, 0, 0}
-    (λ (line : IsMarkerLine marker (items_text z [])). line)
-    (λ none. absurd (omega (arith, some, ap length none.0)))
-    (items_joined u (end_item gap marker ∷ z) nothing_asked [] all).0.1
+marker_there xs u z gap marker h is some = search (rules, ⊎_elim, items_joined, append_assoc)
 
 -- ---- where lines begin
 
@@ -117,18 +111,14 @@ marker_stays asked w z lead marker h line text begins some last = ⊎_elim {0, 0
     (λ (l : (u : List Item) × (i : Item) × (w ≡ u ++ (i ∷ []))). by_last l.0 l.1 l.2)
     (last_of w)
   where
-    fresh_lead : fresh true lead ≡ true
-    fresh_lead = begins_fresh lead marker (subst (λ (l : List ℕ). begins_line l (length lead) ≡ true) text begins)
-
     own_text : (i : Item) → items_text (i ∷ []) [] ≡ item_text i
-    own_text (row_item r) = refl
-    own_text (end_item gap m) = ap (λ l. gap ++ l) (append-nil m)
+    own_text i = search (rules, append-nil)
 
     cut_last : (u : List Item) (i : Item) → w ≡ u ++ (i ∷ []) → Cuts (items_text u []) (item_text i) lead marker
     cut_last u i is = two_cuts (items_text u []) (item_text i) lead marker (ap (λ l. items_text u [] ++ l) (sym (own_text i)) ∙ (sym (text_split u (i ∷ [])) ∙ (ap (λ (l : List Item). items_text l []) (sym is) ∙ text))) (last u i is)
 
     fresh_last : (u : List Item) (i : Item) → (c : Cuts (items_text u []) (item_text i) lead marker) → fresh true c.0 ≡ true
-    fresh_last u i c = fresh_any (fresh true (items_text u [])) c.0 (sym (fresh_joined true (items_text u []) c.0) ∙ (ap (fresh true) (sym c.2) ∙ fresh_lead))
+    fresh_last u i c = search (rules, begins_fresh, fresh_any, fresh_joined)
 
     behind : (u : List Item) (i : Item) → w ≡ u ++ (i ∷ []) → AreRowItems (asked_of asked u) (i ∷ z) []
     behind u i is = items_joined u (i ∷ z) asked [] (subst (λ (l : List Item). AreRowItems asked l []) (ap (λ (l : List Item). l ++ z) is ∙ append_assoc u (i ∷ []) z) h)

@@ -21,7 +21,7 @@ use Rattle.yq_cut.specs.declared.places.Places.{Places}
 use Rattle.yq_cut.proofs.KeptLaws.{texts_joined}
 use Rattle.yq_session.specs.Following.{without_line}
 use Rattle.yq_session.specs.Reading.{ArePlacesRead, IsRead, IsUnread, marked_as, read_part, settled, unread_end, without_marker}
-use Rattle.yq_session.specs.Sides.{both_sides, text_length}
+use Rattle.yq_session.specs.Sides.{text_length}
 use Rattle.yq_session.specs.declared.reading.Come.{Come}
 use Rattle.yq_session.specs.declared.sides.Touched.{Touched}
 use Rattle.yq_session.proofs.CountLaws.{ends_joined}
@@ -125,14 +125,7 @@ pub comes : (region text : List ℕ) (x : Touched) (u : Option EndPlace) (p : Pl
     ends ≡ settled p.ends.items u x.more → come.places.front.items ≡ p.front.items → come.places.behind.items ≡ p.behind.items → come.places.ends.items ≡ ends → come.read ≡ length text → come.len ≡ length region → text ≡ without_marker region u → ArePlacesRead h.written come
 comes region text x u p s ends come h k placed shows ends_are front behind own read long part =
     let at = places_are p s (alone k.items k.back) placed shows in
-    let size : come.read ≡ text_length (alone k.items k.back) = read ∙ (ap length k.text_is ∙ sym (alone_are k.items k.back).long) in
-    record {
-      rows = (λ i. both_sides (size i) (front i) (behind i)) ∙ (at.rows_are ∙ k.rows);
-      ends = own ∙ (ends_are ∙ (ap (λ l. settled l u x.more) at.ends_are ∙ k.ends));
-      long = long ∙ ap length h.text;
-      short = omega (arith, read, long, ap length part, part_short region u);
-      texts = k.texts at.texts;
-    }
+    search (rules, part_short, alone_are, at)
 
 -- how many ends were read
 pub ends_read : (region text : List ℕ) (x : Touched) (u : Option EndPlace) (p : Places) (s : RowsView) (h : IsRead region x) → (k : Parted text h.written u x.more) → IsPlaced p s → s ≡ view_of_items (alone k.items k.back) → 1 ≤ length p.ends.items

@@ -1,5 +1,5 @@
 -- A list of places that is split in two ways.
-use Rattle.std.proofs.Common.{◌≡◌, ℕ, suc, ◌-◌, ◌<◌, ◌≤◌, Some, List, [], ◌∷◌, ◌++◌, length, map, reverse, slice_get, refl, sym, ap, ◌∙◌, subst, arith, append-nil, length-append, lt-ltb, le-ltb}
+use Rattle.std.proofs.Common.{◌≡◌, ℕ, suc, ◌-◌, ◌<◌, ◌≤◌, Some, List, [], ◌∷◌, ◌++◌, length, map, reverse, slice_get, refl, sym, ap, ◌∙◌, subst, arith, append-nil, length-append, lt-ltb, le-ltb, rules}
 use Rattle.std.proofs.lemmas.List.{reverse-append, reverse-reverse}
 use Rattle.std.proofs.lemmas.List.Elements.{All-head, All-tail}
 use Rattle.std.specs.List.{All}
@@ -16,11 +16,8 @@ LastIs P os = (o : declared.Offsets) → slice_get os (length os - 1) ≡ Some o
 abbrev pub FirstIs : (declared.Offsets → Type 0) → List declared.Offsets → Type 0
 FirstIs P os = (o : declared.Offsets) → slice_get os 0 ≡ Some o → P o
 
-one_less : (n : ℕ) → suc (suc n) - 1 ≡ suc (suc n - 1)
-one_less n = omega arith
-
 last_deeper : (o p : declared.Offsets) (os : List declared.Offsets) → slice_get (o ∷ (p ∷ os)) (length (o ∷ (p ∷ os)) - 1) ≡ slice_get (p ∷ os) (length (p ∷ os) - 1)
-last_deeper o p os = ap (λ (n : ℕ). slice_get (o ∷ (p ∷ os)) n) (one_less (length os))
+last_deeper o p os = search rules
 
 last_found : (Q : declared.Offsets → Type 0) (o : declared.Offsets) (os rest : List declared.Offsets) → All Q ((o ∷ os) ++ rest) → (x : declared.Offsets) × (slice_get (o ∷ os) (length (o ∷ os) - 1) ≡ Some x) × Q x
 last_found Q o [] rest h = (o, refl, All-head Q o rest h)
@@ -32,9 +29,6 @@ pub record IsPrefix (a b c d : List declared.Offsets) : Type 0 where
   pub first : c ≡ a ++ more
   pub second : b ≡ more ++ d
 
-longer : (o : declared.Offsets) (a b c d : List declared.Offsets) → IsPrefix a b c d → IsPrefix (o ∷ a) b (o ∷ c) d
-longer o a b c d h = record { more = h.more; first = ap (λ l. o ∷ l) h.first; second = h.second }
-
 last_later : (P : declared.Offsets → Type 0) (o : declared.Offsets) (a : List declared.Offsets) → LastIs P (o ∷ a) → LastIs P a
 last_later P o [] h x e = absurd cc
 last_later P o (p ∷ a) h x e = h x (last_deeper o p a ∙ e)
@@ -45,7 +39,7 @@ prefix P Q apart (o ∷ a) b [] d e last all = let x = last_found Q o a b (subst
 prefix P Q apart (o ∷ a) b (p ∷ c) d e last all =
     let same : o ≡ p = cc in
     let rest : a ++ b ≡ c ++ d = cc in
-    subst (λ (q : declared.Offsets). IsPrefix (o ∷ a) b (q ∷ c) d) same (longer o a b c d (prefix P Q apart a b c d rest (last_later P o a last) all))
+    search (rules, last_later, rest, same, prefix P Q apart a b c d rest (last_later P o a last) all)
 
 -- The two splits are one where the second part begins with a place that the other's first part has not.
 pub one_split : (P Q : declared.Offsets → Type 0) → ((o : declared.Offsets) → P o → Q o → ⊥) → (a b c d : List declared.Offsets) → a ++ b ≡ c ++ d → LastIs P a → FirstIs Q b → All P c → All Q d → a ≡ c
@@ -74,9 +68,7 @@ first_turned at len behind h = go (reverse behind) (sym (reverse-reverse behind)
   go [] is o e = absurd cc
   go (p ∷ back) is o e =
       let all : behind ≡ reverse back ++ (p ∷ []) = is ∙ reverse-append (p ∷ []) back in
-      let own : slice_get behind (length behind - 1) ≡ Some p = ap (λ (l : List declared.Offsets). slice_get l (length l - 1)) all ∙ last_of_joined (reverse back) p in
-      let same : turned len p ≡ o = cc in
-      subst (λ (q : declared.Offsets). at ≤ q.start) same (h p own)
+      search (rules, last_of_joined, all)
 
 -- counts up to a place
 pub ends_counted : (at : ℕ) (a b : List EndPlace) → All (λ e. e.start < at) a → All (λ e. at ≤ e.start) b → ends_before at (a ++ b) ≡ length a

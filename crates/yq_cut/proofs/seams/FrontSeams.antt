@@ -25,13 +25,13 @@ rows_some limit [] end rest n h = absurd (false≢true (sym n))
 rows_some limit (r ∷ rs) end rest n h = row_some limit r (rows_text rs (end ++ rest)) h.0
 
 -- what stands behind a content
-closed_line : (tail u : List ℕ) → is_line tail ≡ true → is_closed tail u ≡ true
+pub closed_line : (tail u : List ℕ) → is_line tail ≡ true → is_closed tail u ≡ true
 closed_line tail u h = rw h refl
 
 tail_was : (tail t : List ℕ) → IsTail tail t → is_closed tail t ≡ true
 tail_was tail t h = ⊎_elim {0, 0, 0} (λ e. closed_line tail t e) (λ e. rw e (or_right (is_line tail) true refl)) (tail_line tail t h)
 
-tail_any : (tail t u : List ℕ) → is_empty t ≡ false → IsTail tail t → is_closed tail u ≡ true
+pub tail_any : (tail t u : List ℕ) → is_empty t ≡ false → IsTail tail t → is_closed tail u ≡ true
 tail_any tail t u some h = ⊎_elim {0, 0, 0} (λ e. closed_line tail u e) (λ e. absurd (none_is t some e)) (tail_line tail t h)
 
 -- the seam that a content has

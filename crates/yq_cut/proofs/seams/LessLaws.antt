@@ -1,5 +1,5 @@
 -- What stands behind a gap is less indented than a block scalar's text.
-use Rattle.std.proofs.Common.{◌≡◌, ℕ, zero, suc, ◌+◌, ◌<◌, true, false, ◌&&◌, eqb, List, [], ◌∷◌, ◌++◌, refl, sym, ap, ◌∙◌, ⊎_elim, replicate, rules}
+use Rattle.std.proofs.Common.{◌≡◌, ℕ, zero, suc, ◌<◌, true, false, ◌&&◌, eqb, List, [], ◌∷◌, ◌++◌, refl, sym, ap, ◌∙◌, ⊎_elim, replicate, rules}
 use Rattle.std.proofs.lemmas.Bool.{false≢true, lt-ltb, not-true, or_cases, and_from, or_parts}
 use Rattle.yq_block_scalars.specs.Block.{is_less_indented}
 use Rattle.yq_block_scalars.specs.BlockRepair.{is_behind}

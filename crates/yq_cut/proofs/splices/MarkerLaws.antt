@@ -19,6 +19,7 @@ use Rattle.yq_cut.proofs.PlaceLaws.{part_then}
 use Rattle.yq_cut.proofs.seams.SeamLaws.{tail_line}
 use Rattle.yq_cut.proofs.seams.MarkerSeams.{three_lines, marker_byte}
 use Rattle.yq_cut.proofs.seams.TailLaws.{tail_closed}
+use Rattle.yq_cut.proofs.ItemCuts.{no_marker}
 
 abbrev MarkerClosed : List ℕ → List ℕ → List ℕ → Type 0
 MarkerClosed p break u = IsMarkerLine (p ++ break) u × Alike (Some false) (p ++ []) ((p ++ break) ++ u)
@@ -57,10 +58,6 @@ begins_same : (p break : List ℕ) → is_empty p ≡ false → begins_document 
 begins_same [] break h = absurd (false≢true (sym h))
 begins_same (b ∷ p) break h = refl
 
-marker_some : (p t : List ℕ) → IsMarkerLine p t → is_empty p ≡ false
-marker_some [] t h = absurd (let l = h.long in omega (arith, l))
-marker_some (b ∷ p) t h = refl
-
 -- cuts
 one_closed : (started : Bool) (p : Part) (marker : List ℕ) (q new : Part) (break : List ℕ) → AreParts started (marked p marker (last q)) → is_line marker ≡ false → is_one_break break ≡ true → pairs_returns (cut_text (marked p marker (last q))) ≡ true →
     IsPart (begins_document marker) new [] → CutExchanged started (marked p marker (last q)) (marked p (marker ++ break) (last new))
@@ -73,7 +70,7 @@ one_closed started p marker q new break h bare is pairs n =
     let own : pairs_returns marker ≡ true = pairs_back (part_text p []) marker (ap pairs_returns (sym texts) ∙ pairs) in
     let closed = marker_closed marker break u line bare is own in
     let alike : Alike (Some false) (marker ++ part_text q []) ((marker ++ break) ++ u) = subst (λ (x : List ℕ). Alike (Some false) (marker ++ x) ((marker ++ break) ++ u)) (sym none) closed.1 in
-    let part : IsPart (begins_document (marker ++ break)) new [] = subst (λ (b : Bool). IsPart b new []) (sym (begins_same marker break (marker_some marker [] line))) n in
+    let part : IsPart (begins_document (marker ++ break)) new [] = subst (λ (b : Bool). IsPart b new []) (sym (begins_same marker break (no_marker marker [] line))) n in
     ((part_alike started p (marker ++ part_text q []) ((marker ++ break) ++ u) alike h.0, closed.0, part), part_text_alike p (marker ++ part_text q []) ((marker ++ break) ++ u) alike)
 
 parts_closed : (c : Cut) (started : Bool) (p : Part) (marker : List ℕ) (new : Part) (break : List ℕ) → AreParts started (marked p marker c) → is_line (last_marker (marked p marker c)) ≡ false → is_one_break break ≡ true → pairs_returns (cut_text (marked p marker c)) ≡ true →

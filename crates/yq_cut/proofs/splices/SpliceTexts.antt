@@ -17,7 +17,7 @@ use Rattle.yq_cut.proofs.PlaceLaws.{row_then}
 use Rattle.yq_cut.proofs.seams.SeamLaws.{rows_text-append}
 
 -- the texts
-nil_before : (rs : List Row) (t : List ℕ) → rows_text rs t ≡ rows_text rs [] ++ t
+pub nil_before : (rs : List Row) (t : List ℕ) → rows_text rs t ≡ rows_text rs [] ++ t
 nil_before [] t = refl
 nil_before (r ∷ rs) t = ap (print_row r) (nil_before rs t) ∙ row_then r (rows_text rs []) t
 

@@ -8,6 +8,7 @@ ghost use Rattle.yq_cut.specs.Splices.{CutsItsText, replace_row};
 
 /// Rows behind the last one of a text without a final break: that one gets a break, and the rows
 /// stand behind it.
+#[tactic(auto, using(yq_cut::proofs::seams::TailLaws::rows_appended))]
 pub fn rows_appended()
     ensures { (front : List Row) (r : Row) (break : List ℕ) (new : List Row) (limit : Limit)
         (end : List ℕ) → AreRows limit (front ++ (r ∷ [])) [] [] → TakesBreak r break →
@@ -16,6 +17,7 @@ pub fn rows_appended()
 {}
 
 /// The same in a cut.
+#[tactic(auto, using(yq_cut::proofs::splices::AppendLaws::end_appended))]
 pub fn end_appended()
     ensures { (t : List ℕ) (c : Cut) (k : ℕ) (front : List Row) (r : Row) (break : List ℕ)
         (new : List Row) (gap : List ℕ) → IsCut t c → IsLastRow k front r c → TakesBreak r break →
@@ -24,6 +26,7 @@ pub fn end_appended()
 {}
 
 /// A part behind the last marker of a text, which has no break: the marker gets one.
+#[tactic(auto, using(yq_cut::proofs::splices::MarkerLaws::marker_appended))]
 pub fn marker_appended()
     ensures { (t : List ℕ) (c : Cut) (break : List ℕ) (new : Part) → IsCut t c →
         PartFits break new c → CutsItsText (with_last_part break new c) }

@@ -1,4 +1,4 @@
-use Rattle.std.proofs.Common.{◌≡◌, ℕ, ◌+◌, ◌<◌, ap, arith, drop, get_or, length, length-drop, slice_set, subst, sym, ◌∙◌}
+use Rattle.std.proofs.Common.{◌≡◌, ◌+◌, ◌<◌, ap, arith, drop, get_or, length, length-drop, slice_set, subst, sym, ◌∙◌, rules}
 use Rattle.std.proofs.lemmas.List.{get_or-drop}
 use Rattle.std.proofs.lemmas.List.Elements.{All-get_or}
 use Rattle.yq_session.specs.Exchanging.{IsMovable}
@@ -11,8 +11,7 @@ moved_end-requires c =
     let n = c.args.old.ends in
     let e = c.index.result.now in
     let less : 0 < length (drop n es) = omega (arith, c.if-old-len.true, c.len.ensures, c.args.ends.now.ok.0, length-drop n es) in
-    let at : n + 0 ≡ n = omega arith in
-    let own : get_or (drop n es) 0 e ≡ e = get_or-drop n es 0 e ∙ (ap (λ (k : ℕ). get_or es k e) at ∙ sym c.index.ensures) in
+    let own : get_or (drop n es) 0 e ≡ e = search (rules, get_or-drop, e, es, n) in
     subst (IsMovable c.args.old c.args.new) own (All-get_or (IsMovable c.args.old c.args.new) (drop n es) 0 e less c.requires.behind)
 
 pub returns-then-old-len-clause-ok : goal.returns-then-old-len-clause-ok

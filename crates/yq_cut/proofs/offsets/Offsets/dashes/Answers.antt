@@ -1,16 +1,13 @@
-use Rattle.std.proofs.Common.{◌∷◌, [], ◌∙◌, ap, sym, take}
+use Rattle.std.proofs.Common.{◌∙◌, arith, refl}
 use Rattle.yq_cut.specs.Offsets.{pieces_of}
-use Rattle.yq_cut.proofs.PieceCuts.{behind_sum, piece_cut}
+use Rattle.yq_cut.proofs.PieceCuts.{piece_at}
 use Rattle.yq_cut.proofs.offsets.Offsets.dashes.Goals as goal
 
-pub piece-requires-clause-before : goal.piece-requires-clause-before
-piece-requires-clause-before c = let o = c.args.self.now in (piece_cut o.gap (o.column ∷ []) o.dashes (o.key ∷ o.colon ∷ o.space ∷ o.anchor ∷ o.apart ∷ o.head ∷ o.tail ∷ o.raw ∷ []) c.args.text.now c.requires).0
-
-pub piece-requires-clause-behind : goal.piece-requires-clause-behind
-piece-requires-clause-behind c = let o = c.args.self.now in (piece_cut o.gap (o.column ∷ []) o.dashes (o.key ∷ o.colon ∷ o.space ∷ o.anchor ∷ o.apart ∷ o.head ∷ o.tail ∷ o.raw ∷ []) c.args.text.now c.requires).1
+pub piece-requires : goal.piece-requires
+piece-requires c =
+    let p = piece_at c.args.self.now 1 c.args.text.now _ (omega arith) c.requires refl in
+    record { before = p.before; behind = p.len }
 
 pub returns : goal.returns
 unfolding pieces_of
-returns c =
-    let o = c.args.self.now in
-    c.piece.ensures ∙ ap (take o.dashes) (sym (behind_sum o.gap (o.column ∷ []) c.args.text.now))
+returns c = c.piece.ensures ∙ (piece_at c.args.self.now 1 c.args.text.now _ (omega arith) c.requires refl).is
