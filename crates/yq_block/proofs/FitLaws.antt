@@ -11,7 +11,7 @@ use Rattle.yq_lines.specs.LineAnchors.{HaveOneAnchorEach}
 use Rattle.yq_documents.specs.Documents.{MarkIsFit, ContentHasFitKeys, HaveFitKeys}
 use Rattle.yq_row_lines.specs.Lines.{content_anchor, lines_from, lines_of}
 use Rattle.yq_lines.specs.Outline.{Line}
-use Rattle.yq_block.specs.BlockRows.{behind_dash, children_rows, column_below, end_before, entry_rows, inline_of, node_rows}
+use Rattle.yq_block.specs.BlockRows.{children_rows, column_below, end_before, entry_rows, inline_of, node_rows}
 use Rattle.yq_block.specs.declared.layout.Layout.{Layout}
 use Rattle.yq_block.proofs.KeyLaws.{key_apart}
 use Rattle.yq_block.proofs.ScalarLaws.{Heads, heads}
@@ -28,11 +28,8 @@ fit_append : (xs ys : List Row) → RowsAreFit xs → RowsAreFit ys → RowsAreF
 fit_append [] ys h k = k
 fit_append (x ∷ xs) ys h k = (h.0, fit_append xs ys h.1 k)
 
-behind_fit : (column : ℕ) (rs : List Row) → RowsAreFit rs → RowsAreFit (behind_dash column rs)
-behind_fit column rs h1 = search rules
-
 entry_fit : (l : Layout) (column : ℕ) (end : List ℕ) (key : Option (List ℕ)) (n : tree.Node) (node : Option inline.Node) (below : List Row) → Heads n node → RowsAreFit below → RowsAreFit (entry_rows l column end key node below)
-entry_fit l column end key n node below h1 h2 = search (rules, key_apart, behind_fit)
+entry_fit l column end key n node below h1 h2 = search (rules, key_apart)
 
 mutual
   unfolding node_rows children_rows

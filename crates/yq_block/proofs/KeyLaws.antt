@@ -10,7 +10,6 @@ use Rattle.yq_flow_scalars.specs.declared.style.Style.TheVariants as styles
 use Rattle.yq_flow_scalars.specs.Characters.{is_text_char}
 use Rattle.yq_flow_scalars.specs.PlainText.{is_plain_char, is_plain_text, begins_marker}
 use Rattle.yq_flow_scalars.specs.Scalar.{string_of}
-use Rattle.yq_flow_scalars.specs.Writable.{can_write_plain}
 use Rattle.yq_flow_scalars.specs.Written.{written_letters, letter_of, double_by, in_double, written, double}
 use Rattle.yq_flow_scalars.proofs.Bools.{chosen}
 use Rattle.yq_block_scalars.proofs.PlainSpells.{writable_text}
@@ -107,11 +106,6 @@ longer k u h =
     let whole = counts_append (34 ∷ []) (x ++ 34 ∷ []) 1 (length (chars k) + 1) (counts_byte 34 (omega arith)) behind in
     search (rules, chars-encodes, whole)
 
--- a key
-near_by : (k : List ℕ) (n : ℕ) (flow block : Bool) → IsUtf8 k → can_write_plain (string_of k) true ≡ flow → can_write_plain (string_of k) false ≡ block →
-    length (chars (written (cond flow styles.Plain styles.Double) k)) ≤ n → length (chars (written (cond block styles.Plain styles.Double) k)) ≤ n
-near_by k n flow block h1 h2 h3 h4 = search (rules, false≢true, plain_anywhere, plain_text_parts, writable_text, longer)
-
 pub near_key : (k : List ℕ) (n : ℕ) → IsUtf8 k → length (chars (scalar_text (string_of k) places.FlowKey)) ≤ n → length (chars (block_key k)) ≤ n
 unfolding scalar_text
-near_key k n u h = near_by k n (can_write_plain (string_of k) true) (can_write_plain (string_of k) false) u refl refl h
+near_key k n u h = search (rules, false≢true, plain_anywhere, plain_text_parts, writable_text, longer, u)

@@ -39,11 +39,8 @@ BeginAt column (r ∷ rs) = (r.gap ≡ []) × (r.column ≡ column)
 begun_append : (column : ℕ) (xs ys : List Row) → BeginAt column xs → BeginAt column (xs ++ ys)
 begun_append column xs ys h1 = search rules
 
-behind_begun : (column below : ℕ) (rs : List Row) → BeginAt below rs → BeginAt column (behind_dash column rs)
-behind_begun column below rs h1 = search rules
-
 entry_begun : (l : Layout) (column : ℕ) (end : List ℕ) (key : Option (List ℕ)) (n : tree.Node) (node : Option inline.Node) (below : List Row) → Heads n node → (IsFilled n → BeginAt (column_below l column key n) below) → BeginAt column (entry_rows l column end key node below)
-entry_begun l column end key n node below h1 h2 = search (rules, behind_begun)
+entry_begun l column end key n node below h1 h2 = search rules
 
 abbrev ChildrenBegun : ℕ → Children → List Row → Type 0
 ChildrenBegun column tree.none rs = Unit {0}
@@ -127,9 +124,6 @@ is_key Bare c column h = absurd (omega (arith, h))
 is_key (Key k) c column h = (k, refl)
 is_key Dash c column h = absurd (omega (arith, h))
 
-is_dash : (m : Mark) (c column : ℕ) → 3 * c + rank m ≡ 3 * column + 3 → m ≡ Dash
-is_dash m c column h1 = search rules
-
 as_map : {n : ℕ} {ls : List Line} {cs : Children} (column : ℕ) → n ≡ 3 * column + 2 → IsFilled (tree.map None cs) → AreEntries n ls cs → IsNode n ls (tree.map None cs)
 unfolding level
 as_map column e b no_more = absurd b
@@ -138,7 +132,7 @@ as_map column e b (entry {l} lev mark under more all) = let k = is_key l.mark l.
 as_list : {n : ℕ} {ls : List Line} {cs : Children} (column : ℕ) → n ≡ 3 * column + 3 → IsFilled (tree.list None cs) → AreEntries n ls cs → IsNode n ls (tree.list None cs)
 unfolding level
 as_list column e b no_more = absurd b
-as_list column e b (entry {l} lev mark under more all) = sequence (is_dash l.mark l.column column (lev ∙ e)) (entry lev mark under more all)
+as_list column e b (entry {l} lev mark under more all) = sequence (search (rules, lev ∙ e)) (entry lev mark under more all)
 
 mutual
   unfolding node_rows children_rows

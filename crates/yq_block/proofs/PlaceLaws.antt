@@ -1,13 +1,13 @@
 -- Rows that are written behind a key or dash of a text.
-use Rattle.std.proofs.Common.{◌≡◌, ℤ, ℕ, suc, ◌+◌, ◌≤◌, true, false, not, ◌&&◌, eqb, List, [], ◌∷◌, ◌++◌, None, refl, sym, ap, ◌∙◌, subst, arith, append_assoc, replicate, Some, rules}
+use Rattle.std.proofs.Common.{◌≡◌, ℤ, ℕ, suc, ◌+◌, true, false, not, ◌&&◌, eqb, List, [], ◌∷◌, ◌++◌, None, refl, sym, ap, ◌∙◌, subst, arith, append_assoc, replicate, Some, rules}
 use Rattle.std.proofs.lemmas.Bool.{false≢true}
 use Rattle.yq_flow_scalars.specs.Text.{separates, upto}
 use Rattle.yq_nodes.specs.Alike.{Alike, byte}
 use Rattle.yq_lines.specs.Comments.{head_comment, line_comment}
-use Rattle.yq_cut.specs.Exchange.{asked_behind, with_content, allows_first}
+use Rattle.yq_cut.specs.Exchange.{asked_behind, with_content}
 use Rattle.yq_nodes.specs.Nodes as inline
 use Rattle.yq_cut.specs.Alone.{holds_nothing}
-use Rattle.yq_cut.specs.Grammar.{IsContent, IsMark, is_entry, is_more, is_plain, AreDashes, Limit, unlimited, allows, limit_after, limit_behind, IsRow, AreRows}
+use Rattle.yq_cut.specs.Grammar.{IsContent, IsMark, is_entry, is_more, is_plain, AreDashes, Limit, unlimited, limit_after, limit_behind, IsRow, AreRows}
 use Rattle.yq_cut.specs.Rows.{Mark, Dash, Content, Nothing, dashes_text, mark_text, content_text, behind_dashes, behind_indent, behind_gap, Row, behind_columns, mark_column, parent_of, parent_indent, print_row, rows_text}
 use Rattle.yq_cut.proofs.AlikeRows.{row_gap_alike, dashes_text_alike}
 use Rattle.yq_nodes.proofs.Alikes.{alike_append, alike_marker}
@@ -79,11 +79,6 @@ nothing_plain (inline.anchored name gap (inline.anchored m g node)) h = absurd (
 nothing_limit : (n : ℤ) (x : Content) → holds_nothing x ≡ true → limit_behind n x ≡ unlimited
 nothing_limit n x h1 = search (rules, nothing_plain, false≢true)
 
--- rows on the lines behind a key or dash
-under_any : (limit : Limit) (row : Row) (below column : ℕ) (x : Content) (rs : List Row) (rest : List ℕ) → holds_nothing x ≡ true → AreLaid below rs rest → column ≤ below →
-    AreRows (limit_after (with_content x row)) rs [] rest × ((c : ℕ) → c ≤ column → allows (asked_behind limit (with_content x row ∷ rs)) c ≡ true)
-under_any limit row below column x rs rest h1 h2 h3 = search (rules, nothing_limit)
-
 pub upto_row : {limit : Limit} {r s : Row} {old : List ℕ} (x : Content) (t : List ℕ) → IsRow limit r old → IsUpto s r → IsContent (parent_indent s) x t → separates (content_text x t) ≡ true →
     IsRow limit (with_content x s) t × Alike (Some false) (print_row r old) (print_row (with_content x s) t)
 upto_row {limit} {old} x t h (at_mark {r} entry) content apart =
@@ -95,7 +90,7 @@ pub under_laid : (limit : Limit) (r s : Row) (old : List ℕ) (x : Content) (bel
     AreLaid below rs rest → Replaces limit (mark_column s) r old (with_content x s ∷ rs) rest
 under_laid limit r s old x below rs rest h laid =
     let first = upto_row x (rows_text rs rest) h.row h.upto h.content h.apart in
-    search (rules, under_any, first)
+    search (rules, nothing_limit, first)
 
 -- rows on the line of a dash
 on_line : (limit : Limit) (r : Row) (old ds : List ℕ) (q : Row) (rs : List Row) (rest : List ℕ) → IsRow limit r old →
@@ -141,14 +136,11 @@ rows_split : (limit : Limit) (xs ys : List Row) (end rest : List ℕ) → AreRow
 rows_split limit [] ys end rest h = h
 rows_split limit (x ∷ xs) ys end rest h = rows_split (limit_after x) xs ys end rest h.1
 
-allowed_upto : (limit : Limit) (column : ℕ) (rs : List Row) → ((c : ℕ) → c ≤ column → allows limit c ≡ true) → BeginsUpto column rs → allows_first limit rs ≡ true
-allowed_upto limit column rs h1 h2 = search rules
-
 pub rows_replaced : (limit : Limit) (column : ℕ) (before under after new : List Row) (r : Row) (end rest : List ℕ) → AreRows limit (before ++ (r ∷ (under ++ after))) end rest → BeginsUpto column after →
     Replaces (asked_behind limit before) column r (rows_text (under ++ after) (end ++ rest)) new (rows_text after (end ++ rest)) → AreRows limit (before ++ (new ++ after)) end rest
 rows_replaced limit column before under after new r end rest h upto by =
     let asked : Limit = asked_behind limit before in
     let tail : AreRows (limit_after r) (under ++ after) end rest = (rows_split limit before (r ∷ (under ++ after)) end rest h).1 in
     let left : AreRows (asked_behind (limit_after r) under) after end rest = rows_split (limit_after r) under after end rest tail in
-    let again : AreRows (asked_behind asked new) after end rest = relimit _ (asked_behind asked new) after end rest (allowed_upto (asked_behind asked new) column after by.follow upto) left in
+    let again : AreRows (asked_behind asked new) after end rest = relimit _ (asked_behind asked new) after end rest (search (rules, by.follow, upto)) left in
     search (rules, rows_text-append, chain, rows_append, asked, again)

@@ -12,7 +12,7 @@ use Rattle.yq_nodes.proofs.WrittenLaws.{node_then}
 use Rattle.yq_lines.specs.Comments.{head_comment}
 use Rattle.yq_cut.specs.Grammar.{is_entry, is_plain, unlimited, AreRows, no_rows}
 use Rattle.yq_cut.specs.Rows as rows
-use Rattle.yq_cut.specs.Rows.{Bare, Inline, Row, rows_text, last, cut_text}
+use Rattle.yq_cut.specs.Rows.{Bare, Inline, Row, rows_text, last}
 use Rattle.yq_cut.specs.Splices.{first_gap}
 use Rattle.yq_documents.specs.Documents.{IsRoot, HasShortRoot, is_long_plain, Reads, document_parts, AreDocuments}
 use Rattle.yq_lines.specs.Grammar.{IsNode, alone, mapping, sequence}
@@ -107,9 +107,6 @@ block_all v l step b h near =
 abbrev empty_row : Layout → inline.Node → Row
 empty_row l node = record { gap = []; column = 0; dashes = []; mark = rows.Bare; content = Inline [] node (break_text l.br) }
 
-empty_root : (v : tree.Node) (l : Layout) (node : inline.Node) → IsHead v node → IsRoot (lines_of (empty_row l node ∷ [])) v
-empty_root v l node h = (_, subst (IsNode _ (lines_of (empty_row l node ∷ []))) (unanchored _ v h.unnamed) (alone refl refl h.same))
-
 empty_all : (v : tree.Node) (l : Layout) (node : inline.Node) → IsHead v node → ((t : List ℕ) → is_marker (node_text node t) ≡ false) → is_plain node ≡ false → IsAllOf v (node_text node [] ++ break_text l.br) (empty_row l node ∷ [])
 empty_all v l node h unmarked plain = record {
   laid = (
@@ -124,7 +121,7 @@ empty_all v l node h unmarked plain = record {
     no_gap_here [],
   );
   spelled = node_then node (break_text l.br ++ []) ∙ ap (λ (t : List ℕ). node_text node [] ++ t) (append-nil (break_text l.br));
-  root = empty_root v l node h;
+  root = (_, subst (IsNode _ (lines_of (empty_row l node ∷ []))) (unanchored _ v h.unnamed) (alone refl refl h.same));
   fit = ((tt, h.keys, h.unnamed), tt);
   gap = refl;
   short = rw plain refl;

@@ -6,7 +6,6 @@ use Rattle.yq_flow_scalars.specs.declared.kind.Kind.{Kind}
 use Rattle.yq_flow_scalars.specs.declared.style.Place.TheVariants as places
 use Rattle.yq_flow_scalars.specs.declared.style.Style.TheVariants as styles
 use Rattle.yq_flow_scalars.specs.Piece.{deeper}
-use Rattle.yq_flow_scalars.specs.Plain.{ends_plain}
 use Rattle.yq_flow_scalars.specs.Scalar.{ScalarText, string_of, of_kind}
 use Rattle.yq_flow_scalars.specs.Text.{separates}
 use Rattle.yq_flow_scalars.specs.Tree as tree
@@ -50,15 +49,12 @@ content_by p k h = search (rules, text_of)
 pub key_content_is : (k : List ℕ) → IsUtf8 k → content_of (block_key k) ≡ k
 key_content_is k u = content_by (block_key k) k (key_spelled k u).same
 
-colon_ends : (rest : List ℕ) → separates rest ≡ true → ends_plain false None (58 ∷ rest) ≡ true
-colon_ends rest h = rw h refl
-
 pub key_is : (k rest : List ℕ) → IsUtf8 k → IsNear (Some k) → separates rest ≡ true → IsKey (block_key k) (58 ∷ []) rest
 unfolding chars
 key_is k rest u near h =
     let one : length (chars (58 ∷ [])) ≡ 1 = refl in
     record {
-      scalar = (key_spelled k u).stands None (58 ∷ rest) (colon_ends rest h);
+      scalar = (key_spelled k u).stands None (58 ∷ rest) (rw h refl);
       colon_is = record { white = []; spelled = refl; blank = tt; separated = h };
       near = omega (arith, near, one);
     }

@@ -1,5 +1,5 @@
 -- The text of rows in block style.
-use Rattle.std.proofs.Common.{◌≡◌, ℕ, Bool, true, false, List, ◌∷◌, ◌++◌, Option, refl, ap, ◌∙◌, append_assoc, append-nil, replicate, rules}
+use Rattle.std.proofs.Common.{◌≡◌, ℕ, Bool, true, false, List, ◌++◌, Option, refl, ap, ◌∙◌, append_assoc, append-nil, replicate, rules}
 use Rattle.std.proofs.lemmas.List.{append_cancel_left}
 use Rattle.yq_flow_scalars.specs.Tree as tree
 use Rattle.yq_flow_scalars.specs.Tree.{Children}
@@ -8,7 +8,7 @@ use Rattle.yq_flow.specs.Valued.{IsValueTree, AreValueTrees}
 use Rattle.yq_nodes.proofs.WrittenLaws.{node_then}
 use Rattle.yq_cut.specs.Rows.{Row, rows_text}
 use Rattle.yq_cut.proofs.seams.SeamLaws.{rows_text-append}
-use Rattle.yq_block.specs.BlockRows.{behind_dash, children_rows, column_below, end_before, entry_rows, inline_of, node_rows}
+use Rattle.yq_block.specs.BlockRows.{children_rows, column_below, end_before, entry_rows, inline_of, node_rows}
 use Rattle.yq_block.specs.BlockText.{block_children, block_entry, block_node, then_lines}
 use Rattle.yq_block.specs.BlockValues.{IsFilled}
 use Rattle.yq_block.specs.declared.layout.Layout.{Layout}
@@ -20,15 +20,11 @@ use Rattle.yq_block.specs.BlockText.{block_value}
 abbrev indented : ℕ → List ℕ → List ℕ → List ℕ
 indented column t rest = replicate column 32 ++ (t ++ rest)
 
--- rows behind a dash
-dash_spelled : (column below : ℕ) (rs : List Row) (t rest more : List ℕ) → BeginAt below rs → rows_text rs rest ≡ indented below t more → rows_text (behind_dash column rs) rest ≡ indented column (45 ∷ 32 ∷ t) more
-dash_spelled column below rs t rest more h1 h2 = search (rules, append_cancel_left)
-
 -- an entry or item
 entry_spelled : (l : Layout) (column below : ℕ) (end : List ℕ) (key : Option (List ℕ)) (n : tree.Node) (node : Option inline.Node) (rs : List Row) (t rest : List ℕ) →
     Heads n node → (IsFilled n → BeginAt below rs × (rows_text rs rest ≡ indented below t (end ++ rest))) →
     rows_text (entry_rows l column end key node rs) rest ≡ indented column (block_entry l below key node t) (end ++ rest)
-entry_spelled l column below end key n node rs t rest h1 h2 = search (rules, node_then, append_assoc, dash_spelled)
+entry_spelled l column below end key n node rs t rest h1 h2 = search (rules, node_then, append_assoc, append_cancel_left)
 
 -- what stands behind an entry or item
 abbrev behind_text : Layout → ℕ → Children → List ℕ → List ℕ → List ℕ
