@@ -54,9 +54,6 @@ mark_key rows.Bare = None
 mark_key rows.Dash = None
 mark_key (rows.Key key colon) = Some key
 
-below_deep : (m : rows.Mark) (l : Layout) (v : Node) (n : ℕ) → n ≤ column_below l n (mark_key m) v
-below_deep m l v n = search rules
-
 mark_level : (m : rows.Mark) (n : ℕ) → is_entry m ≡ true → 3 * n + outline.rank (mark_of m) ≡ entry_level (mark_key m) n
 mark_level m n h1 = search (rules, false≢true)
 
@@ -104,13 +101,13 @@ module _ (doc : ℕ) (s : Step) (ss : List Step) (c : Cut) (h : NodeRows doc s s
     z = rest doc s ss c h
 
     laid : AreLaid below rs z
-    laid = deeper_laid v l (mark_column h.mark) below last z (below_deep h.mark.mark l v (mark_column h.mark)) (record { rows = filled; near = near_keys; ends = ends })
+    laid = deeper_laid v l (mark_column h.mark) below last z (search rules) (record { rows = filled; near = near_keys; ends = ends })
 
     above : IsAbove (limit doc s ss c h) h.row (rows_text (h.under ++ h.back) (h.p.end ++ behind_document doc c)) h.mark x below (rows_text rs z)
     above = record {
       row = (rows_there doc s ss c h).0;
       upto = h.upto;
-      deep = below_deep h.mark.mark l v (mark_column h.mark);
+      deep = search rules;
       nothing = held.holds;
       content = held.stands;
       apart = held.apart;
