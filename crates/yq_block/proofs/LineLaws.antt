@@ -83,9 +83,6 @@ keyed_level false column = 3 * column + 3
 under_key : (l : Layout) (column : ℕ) (n : tree.Node) → 1 ≤ l.mapping → IsFilled n → keyed_level true column < level_at (column + indent_step l n) n
 under_key l column n h1 h2 = search rules
 
-under_dash : (column : ℕ) (n : tree.Node) → IsFilled n → keyed_level false column < level_at (item_column column) n
-under_dash column n h1 = search rules
-
 key_label : (k : List ℕ) (column : ℕ) (c : rows.Content) → IsUtf8 k → line_comment (Rattle.yq_row_lines.specs.Lines.tail_of c) ≡ None → label (mark_line (head_comment []) column (rows.Key (block_key k) (58 ∷ [])) c) ≡ inner (Some k)
 key_label k column c u uncommented = λ i. record { key = Some (key_content_is k u i); head_comment = no_head i; line_comment = uncommented i }
 
@@ -113,7 +110,7 @@ entry_lines l column end false own_label n None below after cs step is h uncomme
     let under : IsNode (level_at at n) (lines_of below) n = subst (λ (x : tree.Label). IsNode (level_at (column_below l column x.key n) n) (lines_of below) n) is (held h).1 in
     subst (λ (x : tree.Label). AreEntries (keyed_level false column) (lines_of (entry_rows l column end x.key None below) ++ after) (tree.child x n cs)) (sym is)
     (subst (λ (ls : List Line). AreEntries (keyed_level false column) (ls ++ after) (tree.child (inner None) n cs)) (sym (behind_lines column below begun))
-    (one_more _ (dash_line [] column) (lines_of below) after n _ cs (omega arith) (λ e. cc) (deeper_lines refl (under_dash column n h) under) rest refl refl))
+    (one_more _ (dash_line [] column) (lines_of below) after n _ cs (omega arith) (λ e. cc) (deeper_lines refl (search rules) under) rest refl refl))
 
 -- all of them
 end_uncommented : (l : Layout) (end : List ℕ) (cs : Children) → line_comment end ≡ None → line_comment (end_before l end cs) ≡ None
@@ -160,4 +157,4 @@ mutual
       (children_stand cs l column end keyed step h.2 uncommented))
 
 pub lines_deeper : (v : tree.Node) (l : Layout) (column : ℕ) (key : Option (List ℕ)) → 1 ≤ l.mapping → IsFilled v → entry_level key column < level_at (column_below l column key v) v
-lines_deeper v l column key h1 h2 = search (rules, under_key, under_dash)
+lines_deeper v l column key h1 h2 = search (rules, under_key)
