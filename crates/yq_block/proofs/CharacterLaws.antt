@@ -1,5 +1,5 @@
 -- What is written in block style is made of the characters of a text.
-use Rattle.std.proofs.Common.{◌≡◌, ℕ, zero, suc, Bool, true, false, List, [], ◌∷◌, ◌++◌, Option, Some, None, refl, sym, ap, ◌∙◌, subst, append-nil, replicate}
+use Rattle.std.proofs.Common.{◌≡◌, ℕ, zero, suc, Bool, true, false, List, [], ◌∷◌, ◌++◌, Option, Some, None, refl, sym, subst, append-nil, replicate, rules}
 use Rattle.std.proofs.lemmas.Bool.{and_from, and_parts}
 use Rattle.std.proofs.lemmas.List.Folds.{list_all-append}
 use Rattle.std.proofs.lemmas.Str.{chars-append, IsUtf8-append, IsUtf8-nil}
@@ -30,8 +30,7 @@ pub sound_join : (a b : List ℕ) → IsUtf8Text a → IsUtf8Text b → IsUtf8Te
 sound_join a b h k =
     let p = and_parts (list_all is_text_char (chars a)) (pairs_returns a) h.1 in
     let q = and_parts (list_all is_text_char (chars b)) (pairs_returns b) k.1 in
-    let all : list_all is_text_char (chars (a ++ b)) ≡ true =
-    ap (list_all is_text_char) (chars-append a b h.0) ∙ (list_all-append is_text_char (chars a) (chars b) ∙ and_from _ _ p.0 q.0) in
+    let all : list_all is_text_char (chars (a ++ b)) ≡ true = search (rules, chars-append, list_all-append, and_from, p, q) in
     (IsUtf8-append a b h.0 k.0, and_from _ _ all (pairs_join a b p.1 q.1))
 
 sound_none : IsUtf8Text []

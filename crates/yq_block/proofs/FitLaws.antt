@@ -1,5 +1,5 @@
 -- What is written in block style has no anchors, and no keys that would merge mappings.
-use Rattle.std.proofs.Common.{◌≡◌, ℕ, Bool, true, false, List, [], ◌∷◌, ◌++◌, Option, Some, None, refl, sym, subst}
+use Rattle.std.proofs.Common.{◌≡◌, ℕ, Bool, true, false, List, [], ◌∷◌, ◌++◌, Option, None, refl, sym, subst, rules}
 use Rattle.yq_flow_scalars.specs.Tree as tree
 use Rattle.yq_flow_scalars.specs.Tree.{Children}
 use Rattle.yq_nodes.specs.Nodes as inline
@@ -11,7 +11,7 @@ use Rattle.yq_lines.specs.LineAnchors.{HaveOneAnchorEach}
 use Rattle.yq_documents.specs.Documents.{MarkIsFit, ContentHasFitKeys, HaveFitKeys}
 use Rattle.yq_row_lines.specs.Lines.{content_anchor, lines_from, lines_of}
 use Rattle.yq_lines.specs.Outline.{Line}
-use Rattle.yq_block.specs.BlockRows.{behind_dash, children_rows, column_below, end_before, entry_rows, inline_of, node_rows}
+use Rattle.yq_block.specs.BlockRows.{children_rows, column_below, end_before, entry_rows, inline_of, node_rows}
 use Rattle.yq_block.specs.declared.layout.Layout.{Layout}
 use Rattle.yq_block.proofs.KeyLaws.{key_apart}
 use Rattle.yq_block.proofs.ScalarLaws.{Heads, heads}
@@ -28,15 +28,8 @@ fit_append : (xs ys : List Row) → RowsAreFit xs → RowsAreFit ys → RowsAreF
 fit_append [] ys h k = k
 fit_append (x ∷ xs) ys h k = (h.0, fit_append xs ys h.1 k)
 
-behind_fit : (column : ℕ) (rs : List Row) → RowsAreFit rs → RowsAreFit (behind_dash column rs)
-behind_fit column [] h = tt
-behind_fit column (r ∷ rs) h = h
-
 entry_fit : (l : Layout) (column : ℕ) (end : List ℕ) (key : Option (List ℕ)) (n : tree.Node) (node : Option inline.Node) (below : List Row) → Heads n node → RowsAreFit below → RowsAreFit (entry_rows l column end key node below)
-entry_fit l column end (Some k) n (Some node) below h b = ((key_apart k, h.keys, h.unnamed), tt)
-entry_fit l column end (Some k) n None below h b = ((key_apart k, tt, refl), b)
-entry_fit l column end None n (Some node) below h b = ((tt, h.keys, h.unnamed), tt)
-entry_fit l column end None n None below h b = behind_fit column below b
+entry_fit l column end key n node below h1 h2 = search (rules, key_apart)
 
 mutual
   unfolding node_rows children_rows

@@ -1,17 +1,15 @@
 -- A key as it is written in block style: no marker, no merge key, and no longer than in a flow collection.
-use Rattle.std.proofs.Common.{◌≡◌, ℕ, ◌+◌, ◌<◌, ◌≤◌, Bool, true, false, cond, not, eqb, ltb, List, [], ◌∷◌, ◌++◌, length, Option, Some, None, flat_map, refl, sym, ap, ◌∙◌, inl, inr, subst, arith, append-nil, length-append}
+use Rattle.std.proofs.Common.{◌≡◌, ℕ, ◌+◌, ◌<◌, ◌≤◌, Bool, true, false, cond, not, eqb, ltb, List, [], ◌∷◌, ◌++◌, length, Option, Some, None, flat_map, refl, sym, ap, ◌∙◌, inl, inr, subst, arith, append-nil, length-append, rules}
 use Rattle.std.proofs.Math.Utf8.{encodes, encode, scalar, scalars}
 use Rattle.std.proofs.lemmas.Bool.{false≢true, ltb-true, not-true, and_parts}
 use Rattle.std.proofs.lemmas.Str.{encode_ascii, scalars-chars, chars-encodes, encodes-append}
 use Rattle.std.specs.List.{list_all}
 use Rattle.std.specs.Str.{chars, IsUtf8}
-use Rattle.yq_flow_scalars.specs.declared.kind.Kind.TheVariants as kinds
 use Rattle.yq_flow_scalars.specs.declared.style.Place.TheVariants as places
 use Rattle.yq_flow_scalars.specs.declared.style.Style.TheVariants as styles
 use Rattle.yq_flow_scalars.specs.Characters.{is_text_char}
 use Rattle.yq_flow_scalars.specs.PlainText.{is_plain_char, is_plain_text, begins_marker}
 use Rattle.yq_flow_scalars.specs.Scalar.{string_of}
-use Rattle.yq_flow_scalars.specs.Writable.{can_write_plain}
 use Rattle.yq_flow_scalars.specs.Written.{written_letters, letter_of, double_by, in_double, written, double}
 use Rattle.yq_flow_scalars.proofs.Bools.{chosen}
 use Rattle.yq_block_scalars.proofs.PlainSpells.{writable_text}
@@ -28,15 +26,11 @@ use Rattle.yq_block.specs.BlockRows.{block_key}
 
 -- a key begins with no marker
 plain_unmarked : (k t : List ℕ) → begins_marker k ≡ false → is_marker (k ++ (58 ∷ t)) ≡ false
-plain_unmarked [] t h = no_first 58 t refl refl
-plain_unmarked (a ∷ []) t h = no_second a 58 t refl refl
-plain_unmarked (a ∷ (b ∷ [])) t h = no_third a b 58 t refl refl
-plain_unmarked (a ∷ (b ∷ (c ∷ k))) t h = rw h refl
+plain_unmarked k t h1 = search (rules, no_first, no_second, no_third)
 
 -- what holds of a key in both styles in which it may be written
 styled_by : (P : List ℕ → Type 0) (k : List ℕ) (plain : Bool) → can_write (string_of k) styles.Plain places.Block ≡ plain → (is_plain_text false k ≡ true → P k) → ((t : List ℕ) → P (34 ∷ t)) → P (written (cond plain styles.Plain styles.Double) k)
-styled_by P k true h plain quoted = plain (writable_text kinds.Text k false tt h)
-styled_by P k false h plain quoted = quoted _
+styled_by P k plain h1 h2 h3 = search (rules, writable_text)
 
 key_by : (P : List ℕ → Type 0) (k : List ℕ) → (is_plain_text false k ≡ true → P k) → ((t : List ℕ) → P (34 ∷ t)) → P (block_key k)
 unfolding scalar_text
@@ -50,9 +44,7 @@ key_unmarked k t = key_by (λ p. is_marker (p ++ (58 ∷ t)) ≡ false) k
 -- a key doesn't merge
 plain_apart : (k : List ℕ) → is_plain_text false k ≡ true → k ≡ 60 ∷ 60 ∷ [] → ⊥
 unfolding chars
-plain_apart k h e =
-    let text : is_plain_text false (60 ∷ 60 ∷ []) ≡ true = subst (λ (t : List ℕ). is_plain_text false t ≡ true) e h in
-    false≢true text
+plain_apart k h e = search (rules, false≢true)
 
 pub key_apart : (k : List ℕ) → block_key k ≢ codes "<<"
 key_apart k =
@@ -112,18 +104,8 @@ longer k u h =
     let inner = counts_doubles (chars k) (scalars-chars k u) h in
     let behind = counts_append x (34 ∷ []) (length (chars k)) 1 inner (counts_byte 34 (omega arith)) in
     let whole = counts_append (34 ∷ []) (x ++ 34 ∷ []) 1 (length (chars k) + 1) (counts_byte 34 (omega arith)) behind in
-    let same : chars (double k) ≡ whole.chars = ap chars (sym whole.spelled) ∙ chars-encodes whole.chars whole.valid in
-    let count : length (chars (double k)) ≡ length whole.chars = ap (λ (l : List ℕ). length l) same in
-    omega (arith, count, whole.many)
-
--- a key
-near_by : (k : List ℕ) (n : ℕ) (flow block : Bool) → IsUtf8 k → can_write_plain (string_of k) true ≡ flow → can_write_plain (string_of k) false ≡ block →
-    length (chars (written (cond flow styles.Plain styles.Double) k)) ≤ n → length (chars (written (cond block styles.Plain styles.Double) k)) ≤ n
-near_by k n true true u f b h = h
-near_by k n true false u f b h = absurd (false≢true (sym b ∙ plain_anywhere (string_of k) false f))
-near_by k n false false u f b h = h
-near_by k n false true u f b h = let text = plain_text_parts false k (writable_text kinds.Text k false tt b) in omega (arith, h, longer k u text.0)
+    search (rules, chars-encodes, whole)
 
 pub near_key : (k : List ℕ) (n : ℕ) → IsUtf8 k → length (chars (scalar_text (string_of k) places.FlowKey)) ≤ n → length (chars (block_key k)) ≤ n
 unfolding scalar_text
-near_key k n u h = near_by k n (can_write_plain (string_of k) true) (can_write_plain (string_of k) false) u refl refl h
+near_key k n u h = search (rules, false≢true, plain_anywhere, plain_text_parts, writable_text, longer, u)

@@ -1,10 +1,10 @@
 -- Rows that are written one behind the other.
-use Rattle.std.proofs.Common.{◌≡◌, ℕ, suc, ◌≤◌, true, eqb, List, [], ◌∷◌, ◌++◌, refl, sym, ap, subst, arith}
+use Rattle.std.proofs.Common.{◌≡◌, ℕ, suc, ◌≤◌, true, List, [], ◌∷◌, ◌++◌, refl, sym, subst, arith, rules}
 use Rattle.std.proofs.Math.Bool.{and-false}
 use Rattle.yq_cut.specs.Exchange.{asked_behind}
 use Rattle.yq_cut.specs.Gap.{IsGap}
-use Rattle.yq_cut.specs.Grammar.{IsContent, is_entry, IsRow, Limit, unlimited, allows, limit_after, limit_behind, AreRows}
-use Rattle.yq_cut.specs.Rows.{dashes_text, behind_dashes, behind_gap, Row, behind_columns, parent_of, parent_indent, rows_text}
+use Rattle.yq_cut.specs.Grammar.{is_entry, IsRow, Limit, allows, limit_after, AreRows}
+use Rattle.yq_cut.specs.Rows.{Row, rows_text}
 use Rattle.yq_nodes.proofs.Alikes.{sep_first}
 use Rattle.yq_cut.proofs.PlainEnds.{AtLine, row_at_line}
 use Rattle.yq_cut.proofs.seams.SeamLaws.{rows_text-append}
@@ -46,42 +46,15 @@ laid_append column (x ∷ xs) (y ∷ ys) rest h k = record {
 }
 
 pub laid_rows : (column : ℕ) (rs : List Row) (rest : List ℕ) (limit : Limit) → AreLaid column rs rest → allows limit column ≡ true → AreRows limit rs [] rest
-laid_rows column [] rest limit h allowed = absurd h
-laid_rows column (r ∷ rs) rest limit h allowed = h.laid limit allowed
+laid_rows column rs rest limit h1 h2 = search rules
 
 pub laid_follow : (column : ℕ) (rs : List Row) (rest : List ℕ) (limit : Limit) (c : ℕ) → AreLaid column rs rest → c ≤ column → allows (asked_behind limit rs) c ≡ true
-laid_follow column [] rest limit c h within = absurd h
-laid_follow column (r ∷ rs) rest limit c h within = h.follows c within
+laid_follow column rs rest limit c h1 h2 = search rules
 
 -- no plain scalar deeper than their column goes on with them
 pub laid_line : (column : ℕ) (rs : List Row) (rest : List ℕ) → AreLaid column rs rest → AtLine (suc column) (rows_text rs rest)
-laid_line column [] rest h = absurd h
-laid_line column (r ∷ rs) rest h =
-    let behind : List ℕ = rows_text rs rest in
-    subst (λ (gap : List ℕ). AtLine (suc column) (gap ++ behind_gap r behind)) (sym h.gap) (row_at_line (suc column) unlimited r behind (h.laid unlimited refl).0 (omega (arith, h.at)))
+laid_line column rs rest h1 = search (rules, row_at_line)
 
 -- rows of which the first one stands behind a dash
 pub laid_behind : (column : ℕ) (rs : List Row) (rest : List ℕ) → AreLaid (item_column column) rs rest → AreLaid column (behind_dash column rs) rest
-laid_behind column [] rest h = absurd h
-laid_behind column (r ∷ rs) rest h =
-    let new : Row = record r { column = column; dashes = 1 ∷ r.dashes } in
-    let same : parent_indent r ≡ parent_indent new = ap (λ (k : ℕ). parent_of r.mark (behind_columns k r.dashes)) h.at in
-    let limits : limit_after r ≡ limit_after new = ap (λ n. limit_behind n r.content) same in
-    let t : List ℕ = rows_text rs rest in
-    record {
-      gap = h.gap;
-      at = refl;
-      entry = h.entry;
-      laid = λ limit allowed. let old = h.laid unlimited refl in (
-        record {
-          gap = subst (λ (g : List ℕ). IsGap g (behind_gap new t)) (sym h.gap) (no_gap_here (behind_gap new t));
-          allowed = allowed;
-          unmarked = rw (sep_first 45 (32 ∷ dashes_text r.dashes (behind_dashes r t)) refl) (and-false (eqb column 0));
-          dashes = (omega arith, h.entry, old.0.dashes);
-          mark = old.0.mark;
-          content = subst (λ n. IsContent n r.content t) same old.0.content;
-        },
-        subst (λ (l : Limit). AreRows l rs [] rest) limits old.1,
-      );
-      follows = λ c within. subst (λ (l : Limit). allows (asked_behind l rs) c ≡ true) limits (h.follows c (omega (arith, within)));
-    }
+laid_behind column rs rest h1 = search (rules, no_gap_here, sep_first, and-false)

@@ -1,8 +1,7 @@
 -- The lines of what is written in block style are those of its value.
-use Rattle.std.proofs.Common.{◌≡◌, ℕ, ◌+◌, ◌*◌, ◌<◌, ◌≤◌, Bool, true, false, List, [], ◌∷◌, ◌++◌, Option, Some, None, refl, sym, ap, ◌∙◌, subst, arith}
+use Rattle.std.proofs.Common.{◌≡◌, ℕ, ◌+◌, ◌*◌, ◌<◌, ◌≤◌, Bool, true, false, List, [], ◌∷◌, ◌++◌, Option, Some, None, refl, sym, ap, ◌∙◌, subst, arith, rules}
 use Rattle.std.specs.Str.{IsUtf8}
 use Rattle.yq_block_scalars.specs.declared.block_types.Break.{Break}
-use Rattle.yq_block_scalars.specs.declared.block_types.Break.TheVariants as breaks
 use Rattle.yq_block_scalars.specs.BlockWritten.{break_text}
 use Rattle.yq_flow_scalars.specs.Text.{lines_of as text_lines, upto}
 use Rattle.yq_flow_scalars.specs.Tree as tree
@@ -12,9 +11,9 @@ use Rattle.yq_nodes.specs.Trees.{inner}
 use Rattle.yq_flow.specs.Valued.{IsLabel, IsValueTree, AreValueTrees}
 use Rattle.yq_lines.specs.Comments.{head_comment, line_comment}
 use Rattle.yq_cut.specs.Rows as rows
-use Rattle.yq_cut.specs.Rows.{Nothing, Inline, Row, behind_columns}
+use Rattle.yq_cut.specs.Rows.{Nothing, Inline, Row}
 use Rattle.yq_lines.specs.Grammar.{IsNode, mapping, sequence, AreEntries, no_more, entry, IsUnder, headed, deeper_lines}
-use Rattle.yq_row_lines.specs.Lines.{mark_line, dash_line, lines_from, row_lines, lines_of}
+use Rattle.yq_row_lines.specs.Lines.{mark_line, dash_line, lines_of}
 use Rattle.yq_lines.specs.Outline.{Mark, Bare, Key, Dash, Line, rank, level, anchored, label}
 use Rattle.yq_lines.proofs.NodeLaws.{anchored_none}
 use Rattle.yq_places.proofs.UnderExchange.{lines_append}
@@ -30,8 +29,7 @@ no_head = refl
 
 pub break_uncommented : (br : Break) → line_comment (break_text br) ≡ None
 unfolding upto
-break_uncommented breaks.Lf = refl
-break_uncommented breaks.CrLf = refl
+break_uncommented br = search rules
 
 -- rows that begin at a column
 abbrev pub BeginAt : ℕ → List Row → Type 0
@@ -39,18 +37,10 @@ BeginAt column [] = ⊥
 BeginAt column (r ∷ rs) = (r.gap ≡ []) × (r.column ≡ column)
 
 begun_append : (column : ℕ) (xs ys : List Row) → BeginAt column xs → BeginAt column (xs ++ ys)
-begun_append column [] ys h = absurd h
-begun_append column (x ∷ xs) ys h = h
-
-behind_begun : (column below : ℕ) (rs : List Row) → BeginAt below rs → BeginAt column (behind_dash column rs)
-behind_begun column below [] h = absurd h
-behind_begun column below (r ∷ rs) h = (h.0, refl)
+begun_append column xs ys h1 = search rules
 
 entry_begun : (l : Layout) (column : ℕ) (end : List ℕ) (key : Option (List ℕ)) (n : tree.Node) (node : Option inline.Node) (below : List Row) → Heads n node → (IsFilled n → BeginAt (column_below l column key n) below) → BeginAt column (entry_rows l column end key node below)
-entry_begun l column end (Some k) n (Some node) below h b = (refl, refl)
-entry_begun l column end (Some k) n None below h b = (refl, refl)
-entry_begun l column end None n (Some node) below h b = (refl, refl)
-entry_begun l column end None n None below h b = behind_begun column (item_column column) below (b h)
+entry_begun l column end key n node below h1 h2 = search rules
 
 abbrev ChildrenBegun : ℕ → Children → List Row → Type 0
 ChildrenBegun column tree.none rs = Unit {0}
@@ -75,9 +65,7 @@ mutual
 
 -- a dash before rows is a line more
 behind_lines : (column : ℕ) (rs : List Row) → BeginAt (item_column column) rs → lines_of (behind_dash column rs) ≡ dash_line [] column ∷ lines_of rs
-behind_lines column [] h = absurd h
-behind_lines column (r ∷ rs) h =
-    λ i. dash_line ((ap head_comment h.0 ∙ no_head) i) column ∷ (lines_from ((sym no_head ∙ ap head_comment (sym h.0)) i) (sym h.1 i) r.dashes r.mark r.content ++ lines_of rs)
+behind_lines column rs h1 = search (rules, no_head)
 
 -- an entry or item
 pub unanchored : (a : Option (List ℕ)) (n : tree.Node) → a ≡ None → anchored a n ≡ n
@@ -93,16 +81,7 @@ keyed_level true column = 3 * column + 2
 keyed_level false column = 3 * column + 3
 
 under_key : (l : Layout) (column : ℕ) (n : tree.Node) → 1 ≤ l.mapping → IsFilled n → keyed_level true column < level_at (column + indent_step l n) n
-under_key l column (tree.alias name) h b = absurd b
-under_key l column (tree.scalar a kind t) h b = absurd b
-under_key l column (tree.list a cs) h b = omega arith
-under_key l column (tree.map a cs) h b = omega (arith, h)
-
-under_dash : (column : ℕ) (n : tree.Node) → IsFilled n → keyed_level false column < level_at (item_column column) n
-under_dash column (tree.alias name) b = absurd b
-under_dash column (tree.scalar a kind t) b = absurd b
-under_dash column (tree.list a cs) b = omega arith
-under_dash column (tree.map a cs) b = omega arith
+under_key l column n h1 h2 = search rules
 
 key_label : (k : List ℕ) (column : ℕ) (c : rows.Content) → IsUtf8 k → line_comment (Rattle.yq_row_lines.specs.Lines.tail_of c) ≡ None → label (mark_line (head_comment []) column (rows.Key (block_key k) (58 ∷ [])) c) ≡ inner (Some k)
 key_label k column c u uncommented = λ i. record { key = Some (key_content_is k u i); head_comment = no_head i; line_comment = uncommented i }
@@ -131,22 +110,16 @@ entry_lines l column end false own_label n None below after cs step is h uncomme
     let under : IsNode (level_at at n) (lines_of below) n = subst (λ (x : tree.Label). IsNode (level_at (column_below l column x.key n) n) (lines_of below) n) is (held h).1 in
     subst (λ (x : tree.Label). AreEntries (keyed_level false column) (lines_of (entry_rows l column end x.key None below) ++ after) (tree.child x n cs)) (sym is)
     (subst (λ (ls : List Line). AreEntries (keyed_level false column) (ls ++ after) (tree.child (inner None) n cs)) (sym (behind_lines column below begun))
-    (one_more _ (dash_line [] column) (lines_of below) after n _ cs (omega arith) (λ e. cc) (deeper_lines refl (under_dash column n h) under) rest refl refl))
+    (one_more _ (dash_line [] column) (lines_of below) after n _ cs (omega arith) (λ e. cc) (deeper_lines refl (search rules) under) rest refl refl))
 
 -- all of them
 end_uncommented : (l : Layout) (end : List ℕ) (cs : Children) → line_comment end ≡ None → line_comment (end_before l end cs) ≡ None
-end_uncommented l end tree.none h = h
-end_uncommented l end (tree.child label n cs) h = break_uncommented l.br
+end_uncommented l end cs h1 = search (rules, break_uncommented)
 
 is_key : (m : Mark) (c column : ℕ) → 3 * c + rank m ≡ 3 * column + 2 → (k : List ℕ) × (m ≡ Key k)
 is_key Bare c column h = absurd (omega (arith, h))
 is_key (Key k) c column h = (k, refl)
 is_key Dash c column h = absurd (omega (arith, h))
-
-is_dash : (m : Mark) (c column : ℕ) → 3 * c + rank m ≡ 3 * column + 3 → m ≡ Dash
-is_dash Bare c column h = absurd (omega (arith, h))
-is_dash (Key k) c column h = absurd (omega (arith, h))
-is_dash Dash c column h = refl
 
 as_map : {n : ℕ} {ls : List Line} {cs : Children} (column : ℕ) → n ≡ 3 * column + 2 → IsFilled (tree.map None cs) → AreEntries n ls cs → IsNode n ls (tree.map None cs)
 unfolding level
@@ -156,7 +129,7 @@ as_map column e b (entry {l} lev mark under more all) = let k = is_key l.mark l.
 as_list : {n : ℕ} {ls : List Line} {cs : Children} (column : ℕ) → n ≡ 3 * column + 3 → IsFilled (tree.list None cs) → AreEntries n ls cs → IsNode n ls (tree.list None cs)
 unfolding level
 as_list column e b no_more = absurd b
-as_list column e b (entry {l} lev mark under more all) = sequence (is_dash l.mark l.column column (lev ∙ e)) (entry lev mark under more all)
+as_list column e b (entry {l} lev mark under more all) = sequence (search (rules, lev ∙ e)) (entry lev mark under more all)
 
 mutual
   unfolding node_rows children_rows
@@ -184,5 +157,4 @@ mutual
       (children_stand cs l column end keyed step h.2 uncommented))
 
 pub lines_deeper : (v : tree.Node) (l : Layout) (column : ℕ) (key : Option (List ℕ)) → 1 ≤ l.mapping → IsFilled v → entry_level key column < level_at (column_below l column key v) v
-lines_deeper v l column (Some k) step b = under_key l column v step b
-lines_deeper v l column None step b = under_dash column v b
+lines_deeper v l column key h1 h2 = search (rules, under_key)

@@ -1,5 +1,5 @@
 -- Items and entries that are written one behind the other.
-use Rattle.std.proofs.Common.{◌≡◌, ℕ, ◌+◌, Bool, true, false, not, eqb, List, [], ◌∷◌, ◌++◌, length, map, Option, Some, None, refl, sym, ap, ◌∙◌, append_assoc, append-nil, replicate, String, string_bytes, arith}
+use Rattle.std.proofs.Common.{◌≡◌, ℕ, ◌+◌, Bool, true, false, not, eqb, List, [], ◌∷◌, ◌++◌, length, map, Option, Some, None, refl, sym, ap, ◌∙◌, append_assoc, append-nil, replicate, String, string_bytes, arith, rules}
 use Rattle.std.proofs.lemmas.Bool.{ne_eqb}
 use Rattle.std.proofs.lemmas.List.{length-map}
 use Rattle.std.specs.declared.alloc.Global.{Global}
@@ -16,7 +16,7 @@ use Rattle.yq_nodes.specs.Values.{node_of, field_of, items, entries}
 use Rattle.yq_nodes.proofs.WrittenLaws.{node_list, node_map, map_twice}
 use Rattle.yq_block.specs.Alone.{alone}
 use Rattle.yq_block.specs.BlockReading.{block_front, block_item, block_list, block_map, block_pair, is_filled, line_front, parted}
-use Rattle.yq_block.specs.BlockRows.{block_key, indent_step, inline_of, item_column}
+use Rattle.yq_block.specs.BlockRows.{indent_step, inline_of, item_column}
 use Rattle.yq_block.specs.BlockText.{block_children, block_entry, block_node, block_value, inline_or, then_lines}
 use Rattle.yq_block.specs.declared.layout.Layout.{Layout}
 
@@ -25,13 +25,10 @@ Entry = String Global × Value
 
 -- one item, and one entry
 item_is : (l : Layout) (below : ℕ) (node : Option inline.Node) (t : List ℕ) → block_entry l below None node t ≡ 45 ∷ 32 ∷ inline_or node t
-item_is l below None t = refl
-item_is l below (Some node) t = refl
+item_is l below node t = search rules
 
 pair_is : (l : Layout) (below : ℕ) (k : List ℕ) (node : Option inline.Node) (t : List ℕ) → block_entry l below (Some k) node t ≡ block_front l below k (is_none node) ++ inline_or node t
-pair_is l below k None t =
-    ap (λ (x : List ℕ). block_key k ++ (58 ∷ x)) (sym (append_assoc (break_text l.br) (replicate below 32) t)) ∙ sym (append_assoc (block_key k) (58 ∷ line_front l below) t)
-pair_is l below k (Some node) t = sym (append_assoc (block_key k) (58 ∷ 32 ∷ []) (node_text node []))
+pair_is l below k node t = search (rules, append_assoc)
 
 -- those behind it
 then_items : (l : Layout) (column : ℕ) (vs : List tree.Node) → then_lines l column (items vs) (block_children l column (items vs)) ≡ parted (line_front l column) false (map (block_item l column) vs)
@@ -53,20 +50,15 @@ then_entries l column (e ∷ es) =
 -- the text of a sequence, and of a mapping
 list_is : (l : Layout) (column : ℕ) (vs : List tree.Node) → block_value l column (tree.list None (items vs)) ≡ block_list l column vs
 unfolding block_node block_children node_text inline.items_text
-list_is l column [] = refl
-list_is l column (v ∷ vs) = let at : ℕ = item_column column in λ i. item_is l at (inline_of v) (block_node l at v) i ++ then_items l column vs i
+list_is l column vs = search (rules, item_is, then_items)
 
 map_is : (l : Layout) (column : ℕ) (es : List (List ℕ × tree.Node)) → block_value l column (tree.map None (entries es)) ≡ block_map l column es
 unfolding block_node block_children node_text inline.items_text
-map_is l column [] = refl
-map_is l column (e ∷ es) = let at : ℕ = column + indent_step l e.1 in λ i. pair_is l at e.0 (inline_of e.1) (block_node l at e.1) i ++ then_entries l column es i
+map_is l column es = search (rules, pair_is, then_entries)
 
 -- the code's values
 map_node : (v : Vec Entry Global) → node_of (values.Map v) ≡ tree.map None (entries (map field_of v.items))
-map_node v =
-    let pair : String Global × tree.Node → List ℕ × tree.Node = λ e. (string_bytes e.0, e.1) in
-    let as_pair : Entry → String Global × tree.Node = λ e. (e.0, node_of e.1) in
-    node_map v ∙ ap (λ es. tree.map None (entries es)) (map_twice as_pair pair v.items)
+map_node v = simp (string_bytes, node_map, map_twice)
 
 pub list_value : (l : Layout) (column : ℕ) (v : Vec Value Global) → block_value l column (node_of (values.List v)) ≡ block_list l column (map node_of v.items)
 list_value l column v = ap (block_value l column) (node_list v) ∙ list_is l column (map node_of v.items)
@@ -87,16 +79,10 @@ map_block [] = refl
 map_block (e ∷ es) = sym (is_some e es)
 
 pub list_agrees : (v : Vec Value Global) (empty : Bool) → empty ≡ eqb (vec_len v) 0 → not empty ≡ is_filled (node_of (values.List v))
-list_agrees v empty h =
-    ap not h
-    ∙ (ap (λ (n : ℕ). not (eqb n 0)) (v.ok.0 ∙ sym (length-map v.items node_of))
-    ∙ (sym (list_block (map node_of v.items)) ∙ ap is_filled (sym (node_list v))))
+list_agrees v empty h = search (rules, length-map, list_block, node_list)
 
 pub map_agrees : (v : Vec Entry Global) (empty : Bool) → empty ≡ eqb (vec_len v) 0 → not empty ≡ is_filled (node_of (values.Map v))
-map_agrees v empty h =
-    ap not h
-    ∙ (ap (λ (n : ℕ). not (eqb n 0)) (v.ok.0 ∙ sym (length-map v.items field_of))
-    ∙ (sym (map_block (map field_of v.items)) ∙ ap is_filled (sym (map_node v))))
+map_agrees v empty h = search (rules, length-map, map_block, map_node)
 
 -- a collection of one item, or of one entry
 pub item_alone : (l : Layout) (column : ℕ) (v : tree.Node) → block_value l column (alone None v) ≡ block_item l column v

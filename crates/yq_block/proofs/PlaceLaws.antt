@@ -1,21 +1,20 @@
 -- Rows that are written behind a key or dash of a text.
-use Rattle.std.proofs.Common.{◌≡◌, ℤ, ℕ, suc, ◌+◌, ◌≤◌, true, false, not, ◌&&◌, eqb, List, [], ◌∷◌, ◌++◌, None, refl, sym, ap, ◌∙◌, subst, arith, append_assoc, replicate, Some}
+use Rattle.std.proofs.Common.{◌≡◌, ℤ, ℕ, suc, ◌+◌, true, false, not, ◌&&◌, eqb, List, [], ◌∷◌, ◌++◌, None, refl, sym, ap, ◌∙◌, subst, arith, append_assoc, replicate, Some, rules}
 use Rattle.std.proofs.lemmas.Bool.{false≢true}
 use Rattle.yq_flow_scalars.specs.Text.{separates, upto}
 use Rattle.yq_nodes.specs.Alike.{Alike, byte}
 use Rattle.yq_lines.specs.Comments.{head_comment, line_comment}
-use Rattle.yq_cut.specs.Exchange.{asked_behind, with_content, allows_first}
+use Rattle.yq_cut.specs.Exchange.{asked_behind, with_content}
 use Rattle.yq_nodes.specs.Nodes as inline
 use Rattle.yq_cut.specs.Alone.{holds_nothing}
-use Rattle.yq_cut.specs.Grammar.{IsContent, IsMark, is_entry, is_more, is_plain, AreDashes, Limit, unlimited, allows, limit_after, limit_behind, IsRow, AreRows}
-use Rattle.yq_cut.specs.Rows.{Mark, Dash, Content, Nothing, Inline, Block, dashes_text, mark_text, content_text, behind_dashes, behind_indent, behind_gap, Row, behind_columns, mark_column, parent_of, parent_indent, print_row, rows_text}
+use Rattle.yq_cut.specs.Grammar.{IsContent, IsMark, is_entry, is_more, is_plain, AreDashes, Limit, unlimited, limit_after, limit_behind, IsRow, AreRows}
+use Rattle.yq_cut.specs.Rows.{Mark, Dash, Content, Nothing, dashes_text, mark_text, content_text, behind_dashes, behind_indent, behind_gap, Row, behind_columns, mark_column, parent_of, parent_indent, print_row, rows_text}
 use Rattle.yq_cut.proofs.AlikeRows.{row_gap_alike, dashes_text_alike}
 use Rattle.yq_nodes.proofs.Alikes.{alike_append, alike_marker}
 use Rattle.yq_cut.proofs.ExchangeLaws.{one_row, relimit, chain}
 use Rattle.yq_cut.proofs.NodeExchange.{mark_apart}
 use Rattle.yq_row_lines.specs.Lines.{dash_line, lines_from, row_lines, lines_of}
 use Rattle.yq_lines.specs.Outline as outline
-use Rattle.yq_lines.specs.Outline.{Line}
 use Rattle.yq_cut.specs.Joined.{dashed_row, compact_row}
 use Rattle.yq_cut.proofs.seams.JoinLaws.{space_apart, dashes_text-append, behind_columns-append}
 use Rattle.yq_cut.proofs.seams.SeamLaws.{rows_text-append}
@@ -43,8 +42,7 @@ dash_seam {limit} {old} u h (at_dash {r} {ns} n ms is) last apart =
     let t : List ℕ = dashes_text ms (behind_dashes r old) in
     let split = first_dashes ns (n ∷ ms) r.mark (subst (λ (ks : List ℕ). AreDashes ks r.mark) is h.dashes) in
     let seam : Alike (Some false) (45 ∷ (replicate n 32 ++ t)) (45 ∷ u) = byte refl refl (space_apart n t split.1.0) apart in
-    let joined : behind_indent r old ≡ dashes_text ns (45 ∷ (replicate n 32 ++ t)) = ap (λ (ks : List ℕ). dashes_text ks (behind_dashes r old)) is ∙ dashes_text-append ns (n ∷ ms) (behind_dashes r old) in
-    (subst (λ (l : List ℕ). Alike (Some false) l (dashes_text ns (45 ∷ u))) (sym joined) (dashes_text_alike ns _ _ seam), split.0)
+    search (rules, dashes_text-append, dashes_text_alike, split, seam, t)
 
 -- a row that begins where another one does
 abbrev lined : Row → List ℕ → Mark → Content → Row
@@ -79,16 +77,7 @@ nothing_plain (inline.anchored name gap (inline.coll close g is)) h = refl
 nothing_plain (inline.anchored name gap (inline.anchored m g node)) h = absurd (false≢true h)
 
 nothing_limit : (n : ℤ) (x : Content) → holds_nothing x ≡ true → limit_behind n x ≡ unlimited
-nothing_limit n (Nothing tail) h = refl
-nothing_limit n (Inline space node tail) h = rw (nothing_plain node h) refl
-nothing_limit n (Block space anchor block) h = absurd (false≢true h)
-
--- rows on the lines behind a key or dash
-under_any : (limit : Limit) (row : Row) (below column : ℕ) (x : Content) (rs : List Row) (rest : List ℕ) → holds_nothing x ≡ true → AreLaid below rs rest → column ≤ below →
-    AreRows (limit_after (with_content x row)) rs [] rest × ((c : ℕ) → c ≤ column → allows (asked_behind limit (with_content x row ∷ rs)) c ≡ true)
-under_any limit row below column x [] rest none laid deep = absurd laid
-under_any limit row below column x (y ∷ rs) rest none laid deep =
-    (subst (λ (l : Limit). AreRows l (y ∷ rs) [] rest) (sym (nothing_limit (parent_indent row) x none)) (laid.laid unlimited refl), λ c within. laid.follows c (omega (arith, within, deep)))
+nothing_limit n x h1 = search (rules, nothing_plain, false≢true)
 
 pub upto_row : {limit : Limit} {r s : Row} {old : List ℕ} (x : Content) (t : List ℕ) → IsRow limit r old → IsUpto s r → IsContent (parent_indent s) x t → separates (content_text x t) ≡ true →
     IsRow limit (with_content x s) t × Alike (Some false) (print_row r old) (print_row (with_content x s) t)
@@ -101,8 +90,7 @@ pub under_laid : (limit : Limit) (r s : Row) (old : List ℕ) (x : Content) (bel
     AreLaid below rs rest → Replaces limit (mark_column s) r old (with_content x s ∷ rs) rest
 under_laid limit r s old x below rs rest h laid =
     let first = upto_row x (rows_text rs rest) h.row h.upto h.content h.apart in
-    let behind = under_any limit s below (mark_column s) x rs rest h.nothing laid h.deep in
-    record { rows = (first.0, behind.0); alike = first.1; follow = behind.1 }
+    search (rules, nothing_limit, first)
 
 -- rows on the line of a dash
 on_line : (limit : Limit) (r : Row) (old ds : List ℕ) (q : Row) (rs : List Row) (rest : List ℕ) → IsRow limit r old →
@@ -120,11 +108,7 @@ on_line limit r old ds q rs rest h seams laid =
     let alone = laid.laid unlimited refl in
     let dashes = are_dashes ds q.dashes Dash q.mark laid.entry seam.1 (omega arith, laid.entry, alone.0.dashes) in
     let first = like_row limit r old (ds ++ 1 ∷ q.dashes) q.mark q.content t h (subst (λ (l : List ℕ). Alike (Some false) (behind_indent r old) l) joined seam.0) dashes alone.0.mark (subst (λ n. IsContent n q.content t) same alone.0.content) in
-    record {
-      rows = (first.0, subst (λ (l : Limit). AreRows l rs [] rest) limits alone.1);
-      alike = first.1;
-      follow = λ c within. subst (λ (l : Limit). allows (asked_behind l rs) c ≡ true) limits (laid.follows c (omega (arith, within)));
-    }
+    search (rules, first, limits, alone)
 
 upto_line : {limit : Limit} {r s : Row} {old : List ℕ} (q : Row) (rs : List Row) (rest : List ℕ) → IsRow limit r old → IsUpto s r → s.mark ≡ Dash → IsLaid (item_column (mark_column s)) q rs rest → Replaces limit (mark_column s) r old (compact_row 1 s q ∷ rs) rest
 upto_line {limit} {old} q rs rest h (at_mark {r} entry) last laid = on_line limit r old r.dashes q rs rest h (λ u apart. dash_seam u h (at_mark entry) last apart) laid
@@ -145,22 +129,12 @@ lines_behind above column [] ms m c = λ i. record { column = column; mark = out
 lines_behind above column (n ∷ ns) ms m c = ap (λ ls. dash_line above column ∷ ls) (lines_behind [] (suc (column + n)) ns ms m c)
 
 pub compact_lines : (s : Row) (rs : List Row) → BeginAt (item_column (mark_column s)) rs → lines_of (compact_rows s rs) ≡ row_lines (dashed_row s.dashes (Nothing []) s) ++ lines_of rs
-compact_lines s [] h = absurd h
-compact_lines s (q ∷ rs) h =
-    let front : List Line = lines_from (head_comment s.gap) s.column s.dashes Dash (Nothing []) in
-    let at : ℕ = item_column (mark_column s) in
-    ap (λ ls. ls ++ lines_of rs) (lines_behind (head_comment s.gap) s.column s.dashes q.dashes q.mark q.content)
-    ∙ (append_assoc front (lines_from [] at q.dashes q.mark q.content) (lines_of rs)
-    ∙ (λ i. front ++ (lines_from ((sym no_head ∙ ap head_comment (sym h.0)) i) (sym h.1 i) q.dashes q.mark q.content ++ lines_of rs)))
+compact_lines s rs h1 = search (rules, lines_behind, append_assoc, no_head)
 
 -- rows in the place of a row and those under it
 rows_split : (limit : Limit) (xs ys : List Row) (end rest : List ℕ) → AreRows limit (xs ++ ys) end rest → AreRows (asked_behind limit xs) ys end rest
 rows_split limit [] ys end rest h = h
 rows_split limit (x ∷ xs) ys end rest h = rows_split (limit_after x) xs ys end rest h.1
-
-allowed_upto : (limit : Limit) (column : ℕ) (rs : List Row) → ((c : ℕ) → c ≤ column → allows limit c ≡ true) → BeginsUpto column rs → allows_first limit rs ≡ true
-allowed_upto limit column [] h b = refl
-allowed_upto limit column (r ∷ rs) h b = h r.column b
 
 pub rows_replaced : (limit : Limit) (column : ℕ) (before under after new : List Row) (r : Row) (end rest : List ℕ) → AreRows limit (before ++ (r ∷ (under ++ after))) end rest → BeginsUpto column after →
     Replaces (asked_behind limit before) column r (rows_text (under ++ after) (end ++ rest)) new (rows_text after (end ++ rest)) → AreRows limit (before ++ (new ++ after)) end rest
@@ -168,6 +142,5 @@ rows_replaced limit column before under after new r end rest h upto by =
     let asked : Limit = asked_behind limit before in
     let tail : AreRows (limit_after r) (under ++ after) end rest = (rows_split limit before (r ∷ (under ++ after)) end rest h).1 in
     let left : AreRows (asked_behind (limit_after r) under) after end rest = rows_split (limit_after r) under after end rest tail in
-    let again : AreRows (asked_behind asked new) after end rest = relimit _ (asked_behind asked new) after end rest (allowed_upto (asked_behind asked new) column after by.follow upto) left in
-    let alike = subst (λ (t : List ℕ). Alike (Some false) (print_row r (rows_text (under ++ after) (end ++ rest))) t) (sym (rows_text-append new after (end ++ rest))) by.alike in
-    (chain before (r ∷ (under ++ after)) (new ++ after) limit end rest end rest h (rows_append asked new after end rest by.rows again) alike).0
+    let again : AreRows (asked_behind asked new) after end rest = relimit _ (asked_behind asked new) after end rest (search (rules, by.follow, upto)) left in
+    search (rules, rows_text-append, chain, rows_append, asked, again)

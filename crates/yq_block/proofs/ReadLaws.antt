@@ -1,5 +1,5 @@
 -- A collection that is written alone is read as one document.
-use Rattle.std.proofs.Common.{◌≡◌, ℕ, ◌≤◌, true, false, List, [], ◌∷◌, ◌++◌, length, refl, sym, ap, ◌∙◌, subst, append-nil}
+use Rattle.std.proofs.Common.{◌≡◌, ℕ, ◌≤◌, true, false, List, [], ◌∷◌, ◌++◌, length, refl, subst, append-nil, rules, sym, ap, ◌∙◌, not}
 use Rattle.std.proofs.lemmas.Bool.{or_right}
 use Rattle.std.proofs.lemmas.Str.{is_utf8-from_IsUtf8}
 use Rattle.yq_flow_scalars.specs.Characters.{text_limit}
@@ -9,16 +9,14 @@ use Rattle.yq_nodes.specs.Nodes as inline
 use Rattle.yq_nodes.specs.Nodes.{node_text}
 use Rattle.yq_flow.specs.Valued.{IsValueTree}
 use Rattle.yq_nodes.proofs.WrittenLaws.{node_then}
-use Rattle.yq_lines.specs.Comments.{head_comment}
 use Rattle.yq_cut.specs.Grammar.{is_entry, is_plain, unlimited, AreRows, no_rows}
 use Rattle.yq_cut.specs.Rows as rows
-use Rattle.yq_cut.specs.Rows.{Bare, Inline, Row, rows_text, last, cut_text}
+use Rattle.yq_cut.specs.Rows.{Bare, Inline, Row, rows_text, last}
 use Rattle.yq_cut.specs.Splices.{first_gap}
 use Rattle.yq_documents.specs.Documents.{IsRoot, HasShortRoot, is_long_plain, Reads, document_parts, AreDocuments}
-use Rattle.yq_lines.specs.Grammar.{IsNode, alone, mapping, sequence}
+use Rattle.yq_lines.specs.Grammar.{IsNode, alone, mapping}
 use Rattle.yq_row_lines.specs.Lines.{lines_of}
 use Rattle.yq_lines.specs.Outline.{Line}
-use Rattle.std.proofs.Common.{not}
 use Rattle.yq_block_scalars.specs.BlockWritten.{break_text}
 use Rattle.yq_cut.proofs.PlainEnds.{end_line}
 use Rattle.yq_nodes.proofs.Alikes.{no_first}
@@ -36,6 +34,7 @@ use Rattle.yq_block.proofs.RowLaws.{node_laid}
 use Rattle.yq_block.proofs.ScalarLaws.{heads}
 use Rattle.yq_block.proofs.TextLaws.{node_spelled}
 use Rattle.yq_block.specs.BlockLaws.{IsHead}
+use Rattle.yq_lines.specs.Comments.{head_comment}
 
 -- What is asked of rows that are all of a text, and stand for a node.
 record IsAllOf (v : tree.Node) (text : List ℕ) (rs : List Row) : Type 0 where
@@ -72,22 +71,16 @@ all_read v text rs w s size h root =
 
 -- the lines of a node are a root
 root_of : {n : ℕ} {ls : List Line} {v : tree.Node} → IsNode n ls v → IsRoot ls v
-root_of (alone {n} lev bare head) = (n, alone lev bare head)
-root_of (mapping {n} mark es) = (n, mapping mark es)
-root_of (sequence {n} mark es) = (n, sequence mark es)
+root_of h1 = search rules
 
 first_gap_none : (column : ℕ) (rs : List Row) → AreLaid column rs [] → first_gap rs [] ≡ []
-first_gap_none column [] h = refl
-first_gap_none column (r ∷ rs) h = h.gap
+first_gap_none column rs h1 = search rules
 
 entry_short : (mark : rows.Mark) (c : rows.Content) → is_entry mark ≡ true → is_long_plain mark c ≡ false
-entry_short rows.Bare c h = cc
-entry_short rows.Dash c h = refl
-entry_short (rows.Key k colon) c h = refl
+entry_short mark c h1 = search rules
 
 laid_short : (column : ℕ) (rs : List Row) → AreLaid column rs [] → HasShortRoot rs
-laid_short column [] h = tt
-laid_short column (r ∷ rs) h = entry_short r.mark r.content h.entry
+laid_short column rs h1 = search (rules, entry_short)
 
 -- a collection with items or entries
 block_all : (v : tree.Node) (l : Layout) → 1 ≤ l.mapping → IsFilled v → IsValueTree v → HasNearKeys v → IsAllOf v (block_node l 0 v ++ break_text l.br) (node_rows l 0 (break_text l.br) v)

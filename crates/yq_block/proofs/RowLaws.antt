@@ -1,10 +1,9 @@
 -- What is written in block style is rows.
-use Rattle.std.proofs.Common.{◌≡◌, ℕ, suc, ◌+◌, ◌≤◌, pos, Bool, true, false, cond, eqb, List, [], ◌∷◌, ◌++◌, Option, Some, None, refl, sym, ap, subst, arith, append-nil}
+use Rattle.std.proofs.Common.{◌≡◌, ℕ, ◌+◌, ◌≤◌, pos, Bool, true, false, List, [], ◌∷◌, ◌++◌, Option, Some, refl, arith, append-nil, rules, suc, cond, None, ap, subst}
 use Rattle.std.proofs.Math.Bool.{and-false}
 use Rattle.std.proofs.lemmas.Bool.{lt-ltb}
 use Rattle.std.specs.Str.{IsUtf8}
 use Rattle.yq_block_scalars.specs.declared.block_types.Break.{Break}
-use Rattle.yq_block_scalars.specs.declared.block_types.Break.TheVariants as breaks
 use Rattle.yq_block_scalars.specs.BlockWritten.{break_text}
 use Rattle.yq_flow_scalars.specs.Text.{is_marker, separates}
 use Rattle.yq_flow_scalars.specs.Tree as tree
@@ -12,10 +11,10 @@ use Rattle.yq_flow_scalars.specs.Tree.{Children}
 use Rattle.yq_nodes.specs.Nodes as inline
 use Rattle.yq_nodes.specs.Nodes.{node_text}
 use Rattle.yq_flow.specs.Valued.{IsLabel, IsValueTree, AreValueTrees}
-use Rattle.yq_cut.specs.Grammar.{is_plain, unlimited, allows, limit_behind, Limit, is_entry, IsMark, IsContent, IsRow}
+use Rattle.yq_cut.specs.Grammar.{allows, limit_behind, Limit, is_entry, IsMark, IsContent, IsRow, is_plain, unlimited}
 use Rattle.yq_cut.specs.Rows.{Nothing, Inline, Row, rows_text, Mark, Dash, Key, Content, content_text, mark_text, parent_of}
 use Rattle.yq_nodes.proofs.Alikes.{sep_first}
-use Rattle.yq_block.specs.BlockRows.{block_key, children_rows, column_below, end_before, entry_rows, indent_step, inline_of, key_row, node_rows}
+use Rattle.yq_block.specs.BlockRows.{block_key, children_rows, column_below, end_before, entry_rows, inline_of, key_row, node_rows, indent_step}
 use Rattle.yq_block.specs.BlockValues.{EachHasNearKeys, HasNearKeys, IsEnd, IsFilled, IsNear, IsWritable}
 use Rattle.yq_block.specs.declared.layout.Layout.{Layout}
 use Rattle.yq_block.proofs.EndLaws.{break_tail, deeper_end, line_ends}
@@ -36,21 +35,13 @@ record IsFront (column : ℕ) (m : Mark) (content : Content) (rest : List ℕ) :
   indent : parent_of m column ≡ pos column
 
 key_front : (column : ℕ) (k : List ℕ) (content : Content) (rest : List ℕ) → IsUtf8 k → IsNear (Some k) → separates (content_text content rest) ≡ true → IsFront column (Key (block_key k) (58 ∷ [])) content rest
-key_front column k content rest u near apart =
-    let t : List ℕ = content_text content rest in record { entry = refl; unmarked = key_unmarked k t; mark = key_is k t u near apart; indent = refl }
+key_front column k content rest u near apart = search (rules, key_unmarked, key_is)
 
 dash_front : (column : ℕ) (node : inline.Node) (end rest : List ℕ) → IsFront column Dash (Inline (32 ∷ []) node end) rest
 dash_front column node end rest = record { entry = refl; unmarked = sep_first 45 (32 ∷ node_text node (end ++ rest)) refl; mark = refl; indent = refl }
 
 front_is : (limit : Limit) (column : ℕ) (m : Mark) (content : Content) (rest : List ℕ) → allows limit column ≡ true → IsFront column m content rest → IsContent (pos column) content rest → IsRow limit (front_row column m content) rest
-front_is limit column m content rest allowed f c = record {
-  gap = no_gap_here _;
-  allowed = allowed;
-  unmarked = rw f.unmarked (and-false (eqb column 0));
-  dashes = tt;
-  mark = f.mark;
-  content = subst (λ n. IsContent n content rest) (sym f.indent) c;
-}
+front_is limit column m content rest allowed f c = search (rules, no_gap_here, and-false)
 
 -- a key or dash, and an inline node
 row_follows : (column c : ℕ) (node : inline.Node) (end : List ℕ) → c ≤ column → allows (limit_behind (pos column) (Inline (32 ∷ []) node end)) c ≡ true
@@ -60,18 +51,11 @@ row_follows column c node end within = go (is_plain node) where
   go false = refl
 
 inline_laid : (column : ℕ) (m : Mark) (end : List ℕ) (n : tree.Node) (node : inline.Node) (rest : List ℕ) → IsFront column m (Inline (32 ∷ []) node end) rest → IsHead n node → IsEnd column end rest → AreLaid column (front_row column m (Inline (32 ∷ []) node end) ∷ []) rest
-inline_laid column m end n node rest f h e = record {
-  gap = refl;
-  at = refl;
-  entry = f.entry;
-  laid = λ limit allowed. (front_is limit column m _ rest allowed f ((refl, tt), h.stands (pos column) (end ++ rest) e.plain, e.tail), no_gap_here rest);
-  follows = λ c within. subst (λ k. allows (limit_behind k (Inline (32 ∷ []) node end)) c ≡ true) (sym f.indent) (row_follows column c node end within);
-}
+inline_laid column m end n node rest f h e = search (rules, front_is, pos, no_gap_here, row_follows)
 
 -- a key, and the rows below it
 break_apart : (br : Break) (rest : List ℕ) → separates (break_text br ++ rest) ≡ true
-break_apart breaks.Lf rest = refl
-break_apart breaks.CrLf rest = refl
+break_apart br rest = search rules
 
 above_laid : (column below : ℕ) (br : Break) (k : List ℕ) (rs : List Row) (rest : List ℕ) → IsUtf8 k → IsNear (Some k) → column ≤ below → AreLaid below rs rest → AreLaid column (key_row column k (Nothing (break_text br)) ∷ rs) rest
 above_laid column below br k [] rest u near deep h = absurd h
@@ -110,8 +94,7 @@ ChildrenLaid column (tree.child label n cs) rs rest = AreLaid column rs rest
 
 join : (l : Layout) (column : ℕ) (end : List ℕ) (cs : Children) (xs : List Row) (rest : List ℕ) → AreLaid column xs (rows_text (children_rows l column end cs) rest) → ChildrenLaid column cs (children_rows l column end cs) rest → AreLaid column (xs ++ children_rows l column end cs) rest
 unfolding children_rows
-join l column end tree.none xs rest h k = subst (λ (rs : List Row). AreLaid column rs rest) (sym (append-nil xs)) h
-join l column end (tree.child label n cs) xs rest h k = laid_append column xs _ rest h k
+join l column end cs xs rest h1 h2 = search (rules, append-nil, laid_append)
 
 end_laid : (l : Layout) (column : ℕ) (end : List ℕ) (cs : Children) (rest : List ℕ) → IsEnd column end rest → ChildrenLaid column cs (children_rows l column end cs) rest → IsEnd column (end_before l end cs) (rows_text (children_rows l column end cs) rest)
 unfolding children_rows

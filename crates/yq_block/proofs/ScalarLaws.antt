@@ -1,23 +1,19 @@
 -- Scalars, keys and empty collections as they are written in block style.
-use Rattle.std.proofs.Common.{◌≡◌, ℕ, Bool, true, false, cond, List, [], ◌∷◌, length, Option, Some, None, refl, sym, ap, subst, arith}
+use Rattle.std.proofs.Common.{◌≡◌, ℕ, Bool, true, false, cond, List, [], ◌∷◌, length, Option, Some, None, refl, ap, arith, rules}
 use Rattle.std.proofs.lemmas.Bool.{false≢true}
 use Rattle.std.specs.Str.{chars, IsUtf8}
 use Rattle.yq_flow_scalars.specs.declared.kind.Kind.{Kind}
-use Rattle.yq_flow_scalars.specs.declared.kind.Kind.TheVariants as kinds
 use Rattle.yq_flow_scalars.specs.declared.style.Place.TheVariants as places
 use Rattle.yq_flow_scalars.specs.declared.style.Style.TheVariants as styles
-use Rattle.yq_flow_scalars.specs.ContentReading.{plain_content, quoted_content}
 use Rattle.yq_flow_scalars.specs.Piece.{deeper}
-use Rattle.yq_flow_scalars.specs.Plain.{ends_plain}
-use Rattle.yq_flow_scalars.specs.Scalar.{ScalarText, string_of, of_kind, plain_of}
-use Rattle.yq_flow_scalars.specs.SchemaReading.{resolve}
+use Rattle.yq_flow_scalars.specs.Scalar.{ScalarText, string_of, of_kind}
 use Rattle.yq_flow_scalars.specs.Text.{separates}
 use Rattle.yq_flow_scalars.specs.Tree as tree
-use Rattle.yq_flow_scalars.specs.Writable.{can_write, is_string}
+use Rattle.yq_flow_scalars.specs.Writable.{can_write}
 use Rattle.yq_flow_scalars.specs.Written.{written}
 use Rattle.yq_nodes.specs.Nodes as inline
 use Rattle.yq_nodes.specs.Nodes.{IsNode}
-use Rattle.yq_nodes.specs.Scalars.{is_quoted, content_of, scalar_of}
+use Rattle.yq_nodes.specs.Scalars.{content_of, scalar_of}
 use Rattle.yq_nodes.specs.Trees.{tree_of, scalar_node}
 use Rattle.yq_flow.specs.Valued.{IsValid, IsValueTree, SpellsScalar}
 use Rattle.yq_nodes.specs.Written.{scalar_text}
@@ -44,31 +40,21 @@ unfolding scalar_text
 key_spelled k u = styled (string_of k) (record { kind = tt; utf8 = u }) (can_write (string_of k) styles.Plain places.Block) refl
 
 text_of : (kind : Kind) (t k : List ℕ) → of_kind kind t ≡ string_of k → t ≡ k
-text_of kinds.Null t k e = absurd (false≢true (ap (λ s. is_string s.kind) e))
-text_of kinds.Bool t k e = ap (λ s. s.text) e
-text_of kinds.Int t k e = ap (λ s. s.text) e
-text_of kinds.Float t k e = ap (λ s. s.text) e
-text_of kinds.Text t k e = ap (λ s. s.text) e
+text_of kind t k h1 = search (rules, false≢true)
 
 content_by : (p k : List ℕ) → scalar_of p ≡ string_of k → content_of p ≡ k
 unfolding scalar_of content_of
-content_by p k h = go (is_quoted p) h where
-  go : (b : Bool) → cond b (string_of (quoted_content p)) (plain_of (plain_content p)) ≡ string_of k → cond b (quoted_content p) (plain_content p) ≡ k
-  go true e = ap (λ s. s.text) e
-  go false e = text_of (resolve (plain_content p)) (plain_content p) k e
+content_by p k h = search (rules, text_of)
 
 pub key_content_is : (k : List ℕ) → IsUtf8 k → content_of (block_key k) ≡ k
 key_content_is k u = content_by (block_key k) k (key_spelled k u).same
-
-colon_ends : (rest : List ℕ) → separates rest ≡ true → ends_plain false None (58 ∷ rest) ≡ true
-colon_ends rest h = rw h refl
 
 pub key_is : (k rest : List ℕ) → IsUtf8 k → IsNear (Some k) → separates rest ≡ true → IsKey (block_key k) (58 ∷ []) rest
 unfolding chars
 key_is k rest u near h =
     let one : length (chars (58 ∷ [])) ≡ 1 = refl in
     record {
-      scalar = (key_spelled k u).stands None (58 ∷ rest) (colon_ends rest h);
+      scalar = (key_spelled k u).stands None (58 ∷ rest) (rw h refl);
       colon_is = record { white = []; spelled = refl; blank = tt; separated = h };
       near = omega (arith, near, one);
     }
@@ -80,23 +66,11 @@ Heads v (Some node) = IsHead v node
 
 empty_list : IsHead (tree.list None tree.none) (inline.coll 93 [] inline.none)
 unfolding tree_of IsNode inline.items_text
-empty_list = record {
-  stands = λ n rest h. record { valid = (refl, none_gap (93 ∷ rest) refl, tt); something = refl };
-  same = refl;
-  unnamed = refl;
-  more = refl;
-  keys = tt;
-}
+empty_list = search (rules, none_gap)
 
 empty_map : IsHead (tree.map None tree.none) (inline.coll 125 [] inline.none)
 unfolding tree_of IsNode inline.items_text
-empty_map = record {
-  stands = λ n rest h. record { valid = (refl, none_gap (125 ∷ rest) refl, tt); something = refl };
-  same = refl;
-  unnamed = refl;
-  more = refl;
-  keys = tt;
-}
+empty_map = search (rules, none_gap)
 
 scalar_head : (s : ScalarText) → IsValid s → IsHead (scalar_node s) (inline.scalar (scalar_text s places.Block))
 unfolding tree_of IsNode
@@ -109,9 +83,4 @@ scalar_head s v = let w = scalar_spelled s v in record {
 }
 
 pub heads : (v : tree.Node) → IsValueTree v → Heads v (inline_of v)
-heads (tree.alias name) h = absurd h
-heads (tree.scalar a kind t) h = subst (λ (x : Option (List ℕ)). IsHead (tree.scalar x kind t) (inline.scalar (scalar_text (record { kind = kind; text = t }) places.Block))) (sym h.0) (scalar_head (record { kind = kind; text = t }) h.1)
-heads (tree.list a tree.none) h = subst (λ (x : Option (List ℕ)). IsHead (tree.list x tree.none) (inline.coll 93 [] inline.none)) (sym h.0) empty_list
-heads (tree.list a (tree.child label n cs)) h = tt
-heads (tree.map a tree.none) h = subst (λ (x : Option (List ℕ)). IsHead (tree.map x tree.none) (inline.coll 125 [] inline.none)) (sym h.0) empty_map
-heads (tree.map a (tree.child label n cs)) h = tt
+heads v h1 = search (rules, scalar_head, empty_list, empty_map)

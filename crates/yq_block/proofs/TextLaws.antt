@@ -1,16 +1,14 @@
 -- The text of rows in block style.
-use Rattle.std.proofs.Common.{◌≡◌, ℕ, Bool, true, false, List, [], ◌∷◌, ◌++◌, Option, Some, None, refl, sym, ap, ◌∙◌, append_assoc, append-nil, replicate}
+use Rattle.std.proofs.Common.{◌≡◌, ℕ, Bool, true, false, List, ◌++◌, Option, refl, ap, ◌∙◌, append_assoc, append-nil, replicate, rules}
 use Rattle.std.proofs.lemmas.List.{append_cancel_left}
-use Rattle.yq_block_scalars.specs.BlockWritten.{break_text}
 use Rattle.yq_flow_scalars.specs.Tree as tree
 use Rattle.yq_flow_scalars.specs.Tree.{Children}
 use Rattle.yq_nodes.specs.Nodes as inline
-use Rattle.yq_nodes.specs.Nodes.{node_text}
 use Rattle.yq_flow.specs.Valued.{IsValueTree, AreValueTrees}
 use Rattle.yq_nodes.proofs.WrittenLaws.{node_then}
-use Rattle.yq_cut.specs.Rows.{Row, behind_indent, rows_text}
+use Rattle.yq_cut.specs.Rows.{Row, rows_text}
 use Rattle.yq_cut.proofs.seams.SeamLaws.{rows_text-append}
-use Rattle.yq_block.specs.BlockRows.{behind_dash, block_key, children_rows, column_below, end_before, entry_rows, inline_of, node_rows}
+use Rattle.yq_block.specs.BlockRows.{children_rows, column_below, end_before, entry_rows, inline_of, node_rows}
 use Rattle.yq_block.specs.BlockText.{block_children, block_entry, block_node, then_lines}
 use Rattle.yq_block.specs.BlockValues.{IsFilled}
 use Rattle.yq_block.specs.declared.layout.Layout.{Layout}
@@ -22,31 +20,11 @@ use Rattle.yq_block.specs.BlockText.{block_value}
 abbrev indented : ℕ → List ℕ → List ℕ → List ℕ
 indented column t rest = replicate column 32 ++ (t ++ rest)
 
--- rows behind a dash
-dash_spelled : (column below : ℕ) (rs : List Row) (t rest more : List ℕ) → BeginAt below rs → rows_text rs rest ≡ indented below t more → rows_text (behind_dash column rs) rest ≡ indented column (45 ∷ 32 ∷ t) more
-dash_spelled column below [] t rest more b h = absurd b
-dash_spelled column below (r ∷ rs) t rest more b h =
-    let x : List ℕ = behind_indent r (rows_text rs rest) in
-    let at : rows_text (r ∷ rs) rest ≡ replicate below 32 ++ x = λ i. b.0 i ++ (replicate (b.1 i) 32 ++ x) in
-    let same : x ≡ t ++ more = append_cancel_left (replicate below 32) x (t ++ more) (sym at ∙ h) in
-    λ i. b.0 i ++ (replicate column 32 ++ (45 ∷ 32 ∷ same i))
-
 -- an entry or item
 entry_spelled : (l : Layout) (column below : ℕ) (end : List ℕ) (key : Option (List ℕ)) (n : tree.Node) (node : Option inline.Node) (rs : List Row) (t rest : List ℕ) →
     Heads n node → (IsFilled n → BeginAt below rs × (rows_text rs rest ≡ indented below t (end ++ rest))) →
     rows_text (entry_rows l column end key node rs) rest ≡ indented column (block_entry l below key node t) (end ++ rest)
-entry_spelled l column below end (Some k) n (Some node) rs t rest h held =
-    ap (λ (x : List ℕ). replicate column 32 ++ (block_key k ++ (58 ∷ 32 ∷ x))) (node_then node (end ++ rest))
-    ∙ ap (λ (x : List ℕ). replicate column 32 ++ x) (sym (append_assoc (block_key k) (58 ∷ 32 ∷ node_text node []) (end ++ rest)))
-entry_spelled l column below end (Some k) n None rs t rest h held =
-    let br : List ℕ = break_text l.br in
-    let sp : List ℕ = replicate below 32 in
-    let inner : br ++ rows_text rs rest ≡ (br ++ (sp ++ t)) ++ (end ++ rest) =
-    ap (λ (x : List ℕ). br ++ x) ((held h).1 ∙ sym (append_assoc sp t (end ++ rest))) ∙ sym (append_assoc br (sp ++ t) (end ++ rest)) in
-    ap (λ (x : List ℕ). replicate column 32 ++ (block_key k ++ (58 ∷ x))) inner
-    ∙ ap (λ (x : List ℕ). replicate column 32 ++ x) (sym (append_assoc (block_key k) (58 ∷ (br ++ (sp ++ t))) (end ++ rest)))
-entry_spelled l column below end None n (Some node) rs t rest h held = ap (λ (x : List ℕ). replicate column 32 ++ (45 ∷ 32 ∷ x)) (node_then node (end ++ rest))
-entry_spelled l column below end None n None rs t rest h held = dash_spelled column below rs t rest (end ++ rest) (held h).0 (held h).1
+entry_spelled l column below end key n node rs t rest h1 h2 = search (rules, node_then, append_assoc, append_cancel_left)
 
 -- what stands behind an entry or item
 abbrev behind_text : Layout → ℕ → Children → List ℕ → List ℕ → List ℕ
@@ -54,13 +32,7 @@ behind_text l column tree.none end rest = rest
 behind_text l column (tree.child label n cs) end rest = indented column (block_children l column (tree.child label n cs)) (end ++ rest)
 
 then_spelled : (l : Layout) (column : ℕ) (end : List ℕ) (cs : Children) (t rest : List ℕ) → indented column t (end_before l end cs ++ behind_text l column cs end rest) ≡ indented column (t ++ then_lines l column cs (block_children l column cs)) (end ++ rest)
-then_spelled l column end tree.none t rest = ap (λ (x : List ℕ). indented column x (end ++ rest)) (sym (append-nil t))
-then_spelled l column end (tree.child label n cs) t rest =
-    let br : List ℕ = break_text l.br in
-    let sp : List ℕ = replicate column 32 in
-    let w : List ℕ = block_children l column (tree.child label n cs) in
-    ap (λ (x : List ℕ). sp ++ (t ++ x)) (ap (λ (x : List ℕ). br ++ x) (sym (append_assoc sp w (end ++ rest))) ∙ sym (append_assoc br (sp ++ w) (end ++ rest)))
-    ∙ ap (λ (x : List ℕ). sp ++ x) (sym (append_assoc t (br ++ (sp ++ w)) (end ++ rest)))
+then_spelled l column end cs t rest = search (rules, append-nil, append_assoc)
 
 mutual
   unfolding node_rows children_rows block_node block_children

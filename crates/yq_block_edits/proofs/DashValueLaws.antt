@@ -5,7 +5,7 @@ use Rattle.yq_flow_scalars.specs.Text.{upto}
 use Rattle.yq_flow_scalars.specs.Tree.{Node}
 use Rattle.yq_lines.specs.LineAnchors.{HaveOneAnchorEach}
 use Rattle.yq_lines.specs.Comments.{line_comment}
-use Rattle.yq_lines.specs.Outline.{level, flatten, Stands}
+use Rattle.yq_lines.specs.Outline.{level, Stands}
 use Rattle.yq_lines.specs.Places.{content}
 use Rattle.yq_lines.proofs.ByRules.{rules_give}
 use Rattle.yq_cut.specs.Exchange.{row_front}
@@ -67,9 +67,6 @@ module _ (doc : ℕ) (s : Step) (ss : List Step) (c : Cut) (h : NodeRows doc s s
   unfolding level
   dash_level = ap (λ m. 3 * mark_column h.mark + Rattle.yq_lines.specs.Outline.rank (Rattle.yq_row_lines.specs.Lines.mark_of m)) dash
 
-  new_lines : lines_of behind_rows ≡ dashes_of h.mark ++ (line_with h.mark (Nothing []) ∷ flatten stands.outline)
-  new_lines = search (rules, dashes_of, above_mark, compact_lines, begun, mark_behind, append_assoc)
-
   pub takes_behind : TakesNode doc s ss c h v behind_rows
   takes_behind =
       let fit = node_fit v l below last filled.value in
@@ -88,7 +85,7 @@ module _ (doc : ℕ) (s : Step) (ss : List Step) (c : Cut) (h : NodeRows doc s s
         value_is = stands.node_is;
         even = stands.even;
         deep = subst (λ n. n < level_at below v) (sym dash_level) (lines_deeper v l (mark_column h.mark) None step filled.filled);
-        lines = new_lines;
+        lines = search (rules, dashes_of, above_mark, compact_lines, begun, mark_behind, append_assoc);
         keys = keys_same h.mark rs (keys_fit rs fit);
         anchors = subst (λ ls. HaveOneAnchorEach (line_with h.mark (Nothing []) ∷ ls)) (sym stands.lines_are) (tt, anchors_fit rs fit);
       }

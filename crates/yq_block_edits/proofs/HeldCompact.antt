@@ -74,20 +74,14 @@ module _ (n : ℕ) (s : Step) (ss : List Step) (c : Cut) (e : RowsOfEntry) (ther
   notes : (not (is_empty (slices e.row).anchor) ≡ false) × (not (is_empty w.comment) ≡ false)
   notes = or_parts (not (is_empty (slices e.row).anchor)) (not (is_empty w.comment)) parts.1
 
-  bare : is_empty (slices e.row).anchor ≡ true
-  bare = not-false (is_empty (slices e.row).anchor) notes.0
-
   dash : e.row.mark ≡ rows.Dash
   dash = dash_is e.row.mark e.row.content _ (entry_there n s ss c e there last) (rows_there n s ss c h).0.mark parts.0
 
-  no_comment : line_comment (slices e.row).tail ≡ None
-  no_comment = k.uncommented (not-false (is_empty w.comment) notes.1)
-
   none : line_comment (tail_of e.row.content) ≡ None
-  none = ap line_comment (sym (tail_is e.row.content)) ∙ no_comment
+  none = ap line_comment (sym (tail_is e.row.content)) ∙ (k.uncommented (not-false (is_empty w.comment) notes.1))
 
   no_name : anchor_of (content there.found.line there.found.under) ≡ None
-  no_name = k.named ∙ unnamed e.row.content bare
+  no_name = k.named ∙ unnamed e.row.content (not-false (is_empty (slices e.row).anchor) notes.0)
 
   abbrev tail : List ℕ
   tail = w.white ++ (w.comment ++ w.last)
@@ -96,13 +90,13 @@ module _ (n : ℕ) (s : Step) (ss : List Step) (c : Cut) (e : RowsOfEntry) (ther
   ends = end_is n s ss c h (w.white ++ (w.comment ++ w.last)) k.ended
 
   uncommented : line_comment (w.white ++ (w.comment ++ w.last)) ≡ None
-  uncommented = k.ended_comment ∙ no_comment
+  uncommented = k.ended_comment ∙ (k.uncommented (not-false (is_empty w.comment) notes.1))
 
   abbrev new : List Row
   new = behind_rows n s ss c h l (mapping_least n c) v filled f.near tail dash ends uncommented none no_name
 
   nothing_before : anchor_before (slices e.row) ≡ []
-  nothing_before = ap (λ b. cond b [] ((slices e.row).space ++ (slices e.row).anchor)) bare
+  nothing_before = ap (λ b. cond b [] ((slices e.row).space ++ (slices e.row).anchor)) (not-false (is_empty (slices e.row).anchor) notes.0)
 
   before_is : w.before ≡ (e.start ++ rows_text e.front []) ++ row_front e.row
   before_is = ap (λ a. ((e.start ++ rows_text e.front []) ++ row_front e.row) ++ a) nothing_before ∙ append-nil ((e.start ++ rows_text e.front []) ++ row_front e.row)

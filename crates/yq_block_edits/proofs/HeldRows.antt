@@ -27,7 +27,6 @@ use Rattle.yq_places.proofs.CommentPieceLaws.{Ended}
 use Rattle.yq_places.proofs.LastBreakLaws.{lf_last}
 use Rattle.yq_places.proofs.LineEndLaws.{line_tail}
 use Rattle.yq_places.proofs.RunSpans.{rows_then}
-use Rattle.yq_change.specs.Siblings as siblings
 use Rattle.yq_change.specs.Siblings.{HasEntries}
 use Rattle.yq_change.specs.StandingLaws.{StandsThere}
 use Rattle.yq_change.specs.TextPieces.{IsPiece}
@@ -70,10 +69,6 @@ pub head_there : (n : ℤ) (x : Content) (more : List ℕ) → IsContent n x mor
 unfolding IsNode node_text
 head_there n x more h1 h2 = search (rules, false≢true)
 
--- behind a head nothing is under it
-closed : (o : Option Node) (u : Outline) → IsOpen o u → is_some o ≡ true → flatten u ≡ []
-closed o u h1 h2 = search (rules, false≢true)
-
 no_rows_there : (rs : List Row) → lines_of rs ≡ [] → rs ≡ []
 no_rows_there [] e = refl
 no_rows_there (r ∷ rs) e = absurd (omega (arith, ap length e, length-append (row_lines r) (lines_of rs), row_count r))
@@ -81,10 +76,6 @@ no_rows_there (r ∷ rs) e = absurd (omega (arith, ap length e, length-append (r
 -- a block collection has no anchor of its own
 pub value_unnamed : (o : Outline) → HasEntries o → (a : Option (List ℕ)) → anchor_of (anchored a (value o)) ≡ a
 value_unnamed o h1 a = search rules
-
--- rows of which none is alone begin with an item or entry
-entries_first : (rs : List Row) → first_alone rs ≡ false → (l : Line) (u after : Outline) → lines_of rs ≡ l ∷ (flatten u ++ flatten after) → siblings.IsEntry l.mark
-entries_first rs h1 l u after h2 = search (rules, false≢true)
 
 -- ---- the rows
 
@@ -130,7 +121,7 @@ module _ (n : ℕ) (s : Step) (ss : List Step) (c : Cut) (e : RowsOfEntry) (ther
   pub headless_there : is_empty (slices e.row).head ≡ false → e.under ≡ []
   headless_there some =
       let head : is_some there.found.line.head ≡ true = ap (λ (l : Line). is_some l.head) (sym line_there) ∙ head_there (parent_indent e.row) e.row.content _ row.content some in
-      no_rows_there e.under (lines_there ∙ closed there.found.line.head there.found.under open' head)
+      no_rows_there e.under (lines_there ∙ (search (rules, false≢true, open', head)))
 
   named_there : first_alone e.under ≡ false → anchor_of (content there.found.line there.found.under) ≡ content_anchor e.row.content
   named_there beside = go there.found.under refl
@@ -143,7 +134,7 @@ module _ (n : ℕ) (s : Step) (ss : List Step) (c : Cut) (e : RowsOfEntry) (ther
       go outline.end is = (λ i. anchor_of (content (sym line_there i) (is i))) ∙ content_named (parent_indent e.row) e.row.content _ row.content
       go (outline.row l u after) is =
           let none : there.found.line.head ≡ None = open_row there.found.line.head l u after (subst (IsOpen there.found.line.head) is open') in
-          let entries : HasEntries (outline.row l u after) = entries_first e.under beside l u after (lines_there ∙ ap flatten is) in
+          let entries : HasEntries (outline.row l u after) = search (rules, false≢true, beside, lines_there ∙ ap flatten is) in
           (λ i. anchor_of (anchored there.found.line.anchor (head_or (none i) (value (is i)))))
           ∙ (value_unnamed (outline.row l u after) entries there.found.line.anchor ∙ ap (λ (k : Line). k.anchor) (sym line_there))
 

@@ -5,7 +5,7 @@ use Rattle.std.proofs.lemmas.List.Folds.{list_all-append}
 use Rattle.std.specs.List.{list_all, list_any}
 use Rattle.std.specs.Str.{IsUtf8, chars}
 use Rattle.yq_block_scalars.specs.Block.{BlockText, no_lines, Lines, AreRaw, IsDetected, IsDigit, IsRawLine, IsTextIndent, ends_block}
-use Rattle.yq_block_scalars.specs.BlockContent.{block_content, broken, ending, folded, kind_of, joint, literal, line_text, part_of}
+use Rattle.yq_block_scalars.specs.BlockContent.{block_content, broken, folded, kind_of, joint, literal, line_text, part_of}
 use Rattle.yq_block_scalars.specs.BlockWritten.{break_text, header_text, indented, written, written_line}
 use Rattle.yq_flow_scalars.specs.Characters.{is_text_char}
 use Rattle.yq_flow_scalars.specs.Scalar.{ScalarText}
@@ -53,25 +53,19 @@ literal_feeds strip f (l ∷ ls) known raw =
     ap (λ x. list_all is_feed ((x ++ broken b) ++ literal strip f ls)) (part_none f l known raw.0)
     ∙ (list_all-append is_feed (broken b) (literal strip f ls) ∙ rw (broken_feeds b, literal_feeds strip f ls known raw.1) refl)
 
-ending_feeds : (c : Chomping) (b : Before) (k : ℕ) → list_all is_feed (ending c b k) ≡ true
-ending_feeds c b k = search (rules, feeds)
-
 folded_feeds : (c : Chomping) (f : TextIndent) (b : Before) (k : ℕ) (ls : Lines) → f.known ≡ false → AreRaw f ls → list_all is_feed (folded c f b k ls) ≡ true
 unfolding folded
-folded_feeds c f b k [] known raw = ending_feeds c b k
+folded_feeds c f b k [] known raw = search (rules, feeds)
 folded_feeds c f b k (l ∷ ls) known raw =
     ap (λ x. list_all is_feed (cond (eqb (length x) 0) (folded c f b (k + 1) ls) (joint b (front is_white x) k ++ (x ++ folded c f (kind_of x) 0 ls)))) (part_none f l known raw.0)
     ∙ folded_feeds c f b (k + 1) ls known raw.1
-
-content_feeds : (b : BlockText) → b.indent.known ≡ false → AreRaw b.indent b.raw → list_all is_feed (block_content b) ≡ true
-content_feeds b known raw = search (rules, literal_feeds, folded_feeds)
 
 no_others : (t : List ℕ) → list_all is_feed t ≡ true → list_any (λ b. not (is_feed b)) t ≡ false
 no_others [] h = refl
 no_others (b ∷ t) h = let both = and_parts (is_feed b) (list_all is_feed t) h in rw (both.0, no_others t both.1) refl
 
 pub known_text : (b : BlockText) → AreRaw b.indent b.raw → list_any (λ x. not (is_feed x)) (block_content b) ≡ true → b.indent.known ≡ true
-known_text b raw h = search (rules, cases_Bool, false≢true, no_others, content_feeds)
+known_text b raw h = search (rules, cases_Bool, false≢true, no_others, literal_feeds, folded_feeds)
 
 -- ---- its indentation, and what stands behind it
 

@@ -1,5 +1,5 @@
 -- A value in the place of a node alone on its line.
-use Rattle.std.proofs.Common.{◌≡◌, ◌⊎◌, inl, inr, ℕ, ◌≤◌, true, cond, List, [], ◌∷◌, ◌++◌, length, replicate, Some, refl, sym, ap, ◌∙◌, subst, append_assoc, append-nil, rules}
+use Rattle.std.proofs.Common.{◌≡◌, ◌⊎◌, inl, inr, ℕ, ◌≤◌, cond, List, [], ◌∷◌, ◌++◌, length, replicate, Some, refl, sym, ap, ◌∙◌, subst, append_assoc, append-nil, rules}
 use Rattle.std.proofs.lemmas.Bool.{false≢true}
 use Rattle.yq_flow_scalars.specs.Characters.{text_limit}
 use Rattle.yq_flow_scalars.specs.Paths.{Step, change}
@@ -9,7 +9,7 @@ use Rattle.yq_nodes.specs.Nodes.{node_text}
 use Rattle.yq_nodes.proofs.WrittenLaws.{node_then}
 use Rattle.yq_flow.specs.Valued.{IsValueTree}
 use Rattle.yq_cut.specs.Exchange.{asked_behind, row_front, with_content}
-use Rattle.yq_cut.specs.Grammar.{IsMark, IsRow, IsTail, may_be_alone, unlimited}
+use Rattle.yq_cut.specs.Grammar.{IsMark, IsRow, IsTail, unlimited}
 use Rattle.yq_cut.specs.Rows.{Bare, Row, behind_gap, parent_indent, print_row, rows_text, Cut, cut_text, Part, part_text}
 use Rattle.yq_cut.specs.View.{slices}
 use Rattle.yq_cut.proofs.CharacterLaws.{ends_after}
@@ -86,11 +86,8 @@ module _ (n : ℕ) (steps : List Step) (v : Node) (c : Cut) (read : read_at (cut
   row : IsRow (asked_behind unlimited front) r z
   row = subst (λ u. IsRow (asked_behind unlimited front) r (rows_text back (d.part.end ++ u))) stands.behind (own_rows (cut_text c) c n d.part front r back old rows_are).0
 
-  alone : may_be_alone r.content ≡ true
-  alone = subst (λ m. IsMark m r.content z) mark row.mark
-
   place : IsLoneHead r.content
-  place = lone_head (parent_indent r) r.content z row.content alone
+  place = lone_head (parent_indent r) r.content z row.content (subst (λ m. IsMark m r.content z) mark row.mark)
 
   raw : (slices r).raw ≡ []
   raw = no_raw r.content place.block

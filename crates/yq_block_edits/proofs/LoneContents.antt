@@ -19,7 +19,6 @@ use Rattle.yq_lines.proofs.Finding.{FoundNode, path_node}
 use Rattle.yq_cut.specs.Exchange.{allows_first, asked_behind, row_front, with_content}
 use Rattle.yq_cut.specs.Grammar.{Limit, unlimited, AreRows, IsContent, IsMark, IsRow, limit_after, may_be_alone, no_rows}
 use Rattle.yq_cut.specs.Rows.{Bare, Content, Row, behind_gap, content_text, dashes_text, mark_column, mark_text, parent_indent, print_row, rows_text, Part, part_text, Cut, cut_text}
-use Rattle.yq_cut.specs.Seams.{is_block}
 use Rattle.yq_cut.specs.View.{content_cut}
 use Rattle.yq_cut.proofs.NothingLaws.{gap_other}
 use Rattle.yq_cut.proofs.PlaceLaws.{row_front-append}
@@ -106,9 +105,6 @@ module _ (c : Cut) (n : ℕ) (p : Part) (old : IsDocumentPart (cut_text c) c n p
     content = content_new;
   }
 
-  next_new : (x : Content) → is_block x ≡ false → allows_first (limit_after (with_content (put_core node x) r)) back ≡ true
-  next_new x h1 = search (rules, may_follow, near, recore, false≢true)
-
   pub there : q.rows ≡ front ++ (with_content new r ∷ back)
   there = ap (λ (rs : List Row). front ++ (with_content new r ∷ rs)) (own_gap back p.end)
 
@@ -134,7 +130,7 @@ module _ (c : Cut) (n : ℕ) (p : Part) (old : IsDocumentPart (cut_text c) c n p
   takes readable = record {
     old = old;
     rows_are = rows_are;
-    row = record { gap = refl; column = refl; row = row_new; next = next_new r.content head.block };
+    row = record { gap = refl; column = refl; row = row_new; next = (search (rules, may_follow, near, recore, false≢true, head.block)) };
     head_is = content_head v node is r.content head.block;
     anchor_is = content_named v node is r.content;
     comment_is = content_tail v node is r.content;

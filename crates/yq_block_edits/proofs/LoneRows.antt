@@ -49,12 +49,9 @@ use Rattle.yq_lines.proofs.Plug.{headless}
 
 -- ---- a row alone
 
-bare_mark : (m : rows.Mark) → is_bare (mark_of m) ≡ true → m ≡ rows.Bare
-bare_mark m h1 = search (rules, false≢true)
-
 -- such a row has neither dashes nor a mark
 alone_row : (r : Row) → is_alone r ≡ true → (r.mark ≡ rows.Bare) × (r.dashes ≡ [])
-alone_row r h = let p = and_parts (is_empty r.dashes) (is_bare (mark_of r.mark)) h in (bare_mark r.mark p.1, is_empty_is r.dashes p.0)
+alone_row r h = let p = and_parts (is_empty r.dashes) (is_bare (mark_of r.mark)) h in ((search (rules, false≢true, p.1)), is_empty_is r.dashes p.0)
 
 -- it is one line
 alone_line : (r : Row) → is_alone r ≡ true → (l : Line) × (row_lines r ≡ l ∷ []) × (l.mark ≡ outline.Bare)

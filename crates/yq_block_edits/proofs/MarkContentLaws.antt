@@ -26,12 +26,9 @@ abbrev name_text : Option (List ℕ) → List ℕ
 name_text None = []
 name_text (Some m) = 38 ∷ m
 
-name_is : (x : Content) → (content_cut x).1 ≡ name_text (content_anchor x)
-name_is x = search rules
-
 -- without an anchor there is no name
 pub unnamed : (x : Content) → is_empty (content_cut x).1 ≡ true → content_anchor x ≡ None
-unnamed x e = search (rules, name_is, false≢true)
+unnamed x e = search (rules, false≢true)
 
 -- a text begins with white space and this anchor
 abbrev Named : List ℕ → Option (List ℕ) → List ℕ → Type 0
@@ -84,12 +81,12 @@ left_apart space (Some m) text tail rest h old t = space_apart space (38 ∷ (m 
 pub left_text : (before : List ℕ) (x : Content) (tail rest : List ℕ) →
     before ++ content_text (anchor_left x tail) rest ≡ (before ++ cond (is_empty (content_cut x).1) [] ((content_cut x).0 ++ (content_cut x).1)) ++ (tail ++ rest)
 unfolding node_text
-left_text before x tail rest = search (rules, name_is, append-nil, append_assoc)
+left_text before x tail rest = search (rules, append-nil, append_assoc)
 
 pub left_core_text : (before : List ℕ) (core : inline.Node) (x : Content) (tail rest : List ℕ) →
     before ++ content_text (put_core core (anchor_left x tail)) rest ≡ (before ++ cond (is_empty (content_cut x).1) [] ((content_cut x).0 ++ (content_cut x).1)) ++ (32 ∷ node_text core (tail ++ rest))
 unfolding node_text
-left_core_text before core x tail rest = search (rules, name_is, put_core, append-nil, append_assoc)
+left_core_text before core x tail rest = search (rules, put_core, append-nil, append_assoc)
 
 -- ---- rows under it
 

@@ -125,9 +125,6 @@ module _ (doc : ℕ) (s : Step) (ss : List Step) (c : Cut) (h : NodeRows doc s s
   pub q_text : cut_text (put_document doc (inserted h.front new h.back h.p) c) ≡ h.start ++ (rows_text h.front [] ++ rows_text new (rest doc s ss c h))
   q_text = search (rules, q_rows, own_end, rows_text-append, rows_then)
 
-  same_lead : lead_of q ≡ lead_of h.p
-  same_lead = search (rules, q_rows, gap_same)
-
   same_block : is_block_root q ≡ is_block_root h.p
   same_block =
       let now : Line = line_with h.mark t.content in
@@ -154,7 +151,7 @@ module _ (doc : ℕ) (s : Step) (ss : List Step) (c : Cut) (h : NodeRows doc s s
         rows = λ none. absurd (false≢true (sym (ap no_rows q_rows ∙ rows_before_some h.front (new ++ h.back) (ap (λ rs. no_rows (rs ++ h.back)) t.new_is)) ∙ none));
         changed = changed;
         root = ap (λ m. change (s ∷ ss) (replaced m) (root_of h.p)) (sym (led_below (is_block_root h.p) (lead_of h.p) s ss v));
-        lead_goes = same_lead_goes h.p q same_lead same_block;
+        lead_goes = same_lead_goes h.p q (search (rules, q_rows, gap_same)) same_block;
         block = λ keeps. same_block;
         equal_room = λ sets. absurd sets;
       })

@@ -1,5 +1,5 @@
 -- The rows that are written for a value in the place of those of an item or entry: behind its key or dash, or under it.
-use Rattle.std.proofs.Common.{◌≡◌, ℕ, ℤ, suc, ◌+◌, ◌*◌, ◌<◌, ◌≤◌, true, false, List, [], ◌∷◌, ◌++◌, Option, Some, None, refl, sym, ap, ◌∙◌, subst, rules}
+use Rattle.std.proofs.Common.{◌≡◌, ℕ, suc, ◌+◌, ◌*◌, ◌<◌, ◌≤◌, true, false, List, [], ◌∷◌, ◌++◌, Option, Some, None, refl, sym, ap, ◌∙◌, subst, rules}
 use Rattle.std.proofs.lemmas.Bool.{false≢true}
 use Rattle.yq_flow_scalars.specs.Paths.{Step}
 use Rattle.yq_flow_scalars.specs.Piece.{deeper}
@@ -54,9 +54,6 @@ mark_key rows.Bare = None
 mark_key rows.Dash = None
 mark_key (rows.Key key colon) = Some key
 
-below_deep : (m : rows.Mark) (l : Layout) (v : Node) (n : ℕ) → n ≤ column_below l n (mark_key m) v
-below_deep m l v n = search rules
-
 mark_level : (m : rows.Mark) (n : ℕ) → is_entry m ≡ true → 3 * n + outline.rank (mark_of m) ≡ entry_level (mark_key m) n
 mark_level m n h1 = search (rules, false≢true)
 
@@ -65,10 +62,6 @@ mark_level m n h1 = search (rules, false≢true)
 -- it has no head and no key that is too long, and is no block scalar
 nothing_is : (x : Content) → holds_nothing x ≡ true → (head_of x ≡ None) × ContentHasFitKeys x × (is_block x ≡ false)
 nothing_is x h1 = search (rules, false≢true)
-
--- white space stands before another node there, where it does before the old one
-core_apart : (core : inline.Node) (n : ℤ) (x : Content) (rest : List ℕ) → IsContent n x rest → separates (content_text x rest) ≡ true → separates (content_text (put_core core x) rest) ≡ true
-core_apart core n x rest h1 h2 = search (rules, space_apart, recore, inline_starts)
 
 module _ (doc : ℕ) (s : Step) (ss : List Step) (c : Cut) (h : NodeRows doc s ss c) where
   -- the end of a line before the rows behind ends what is written in the place
@@ -108,13 +101,13 @@ module _ (doc : ℕ) (s : Step) (ss : List Step) (c : Cut) (h : NodeRows doc s s
     z = rest doc s ss c h
 
     laid : AreLaid below rs z
-    laid = deeper_laid v l (mark_column h.mark) below last z (below_deep h.mark.mark l v (mark_column h.mark)) (record { rows = filled; near = near_keys; ends = ends })
+    laid = deeper_laid v l (mark_column h.mark) below last z (search rules) (record { rows = filled; near = near_keys; ends = ends })
 
     above : IsAbove (limit doc s ss c h) h.row (rows_text (h.under ++ h.back) (h.p.end ++ behind_document doc c)) h.mark x below (rows_text rs z)
     above = record {
       row = (rows_there doc s ss c h).0;
       upto = h.upto;
-      deep = below_deep h.mark.mark l v (mark_column h.mark);
+      deep = search rules;
       nothing = held.holds;
       content = held.stands;
       apart = held.apart;
@@ -159,7 +152,7 @@ module _ (doc : ℕ) (s : Step) (ss : List Step) (c : Cut) (h : NodeRows doc s s
     content_for stands apart comment anchor = record {
       stands = content_is v node is (parent_indent h.mark) x (rest doc s ss c h) block stands
           (λ tail ends. subst (λ n. ends_plain false (Some n) (tail ++ rest doc s ss c h) ≡ true) (sym (deeper_entry h.mark.mark (mark_column h.mark) (entry doc s ss c h))) (end_is tail ends).plain);
-      apart = core_apart node (parent_indent h.mark) x (rest doc s ss c h) stands apart;
+      apart = search (rules, space_apart, recore, inline_starts, stands, apart);
       head = content_head v node is x block;
       comment = content_tail v node is x ∙ comment;
       anchor = content_named v node is x ∙ anchor;

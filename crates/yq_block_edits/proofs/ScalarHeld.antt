@@ -1,5 +1,5 @@
 -- What a key or dash holds that has a block scalar: its header's line, and the lines below.
-use Rattle.std.proofs.Common.{◌≡◌, inl, inr, ℕ, cond, List, [], ◌∷◌, ◌++◌, length, Option, None, Some, true, false, ◌&&◌, ◌||◌, refl, sym, ap, ◌∙◌, subst, append_assoc, append-nil, rules}
+use Rattle.std.proofs.Common.{◌≡◌, inl, inr, ℕ, cond, List, [], ◌++◌, length, Option, None, Some, true, false, ◌&&◌, ◌||◌, refl, sym, ap, ◌∙◌, subst, append_assoc, append-nil, rules}
 use Rattle.std.proofs.lemmas.Bool.{false≢true, and_parts}
 use Rattle.yq_block_scalars.specs.Block.{BlockText, block_text}
 use Rattle.yq_flow_scalars.specs.Lines.{is_blank, is_hash}
@@ -55,9 +55,6 @@ gone_of b below = cond (is_empty below) [] b
 abbrev final_of : List ℕ → List ℕ → List ℕ
 final_of b below = cond (is_empty below) b (last_break below)
 
-line_of : (b below : List ℕ) → IsLfOrCrLf b → cond (is_empty (gone_of b below)) (final_of b below) (gone_of b below) ≡ b
-line_of b below h1 = search rules
-
 no_break : less_break [] ≡ []
 unfolding less_break
 no_break = refl
@@ -68,13 +65,10 @@ lines_old b below u h1 = search (rules, no_break)
 
 -- ---- the text up to a header
 
-joined_front : (base space : List ℕ) (a : Anchor) (u : List ℕ) → (base ++ (space ++ 38 ∷ a.name)) ++ (a.gap ++ u) ≡ base ++ (space ++ (38 ∷ (a.name ++ (a.gap ++ u))))
-joined_front base space a u = simp append_assoc refl
-
 front_with : (base space : List ℕ) (anchor : Option Anchor) (block : BlockText) (r : Row) (u : List ℕ) → let s = slices (with_content (Block space anchor block) r) in
     (base ++ anchor_before s) ++ (space_before s ++ u) ≡ base ++ (space ++ anchor_text anchor u)
 front_with base space None block r u = ap (λ t. t ++ (space ++ u)) (append-nil base)
-front_with base space (Some a) block r u = joined_front base space a u
+front_with base space (Some a) block r u = simp append_assoc refl
 
 -- ---- a key or dash
 
@@ -118,7 +112,7 @@ module _ (n : ℕ) (s : Step) (ss : List Step) (c : Cut) (e : RowsOfEntry) (ther
       subst (λ (x : LineEnd). IsLfOrCrLf x.behind) (sym (mark_end n s ss c e there last)) (has_break (slices e.row).tail _ (ap is_line tail_is ∙ line) (mark_tail n s ss c e there last))
 
   line_is : line_break (held e) ≡ (end_before [] (slices e.row).tail).behind
-  line_is = line_of (end_before [] (slices e.row).tail).behind below break_there
+  line_is = search (rules, break_there)
 
   pub line_piece : IsPiece (line_break (held e))
   line_piece = broken_line (line_break (held e)) (subst IsLfOrCrLf (sym line_is) break_there)

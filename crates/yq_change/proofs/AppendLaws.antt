@@ -9,9 +9,9 @@ use Rattle.yq_cut.specs.Exchange.{asked_behind}
 use Rattle.yq_cut.specs.Grammar.{Limit, unlimited, AreRows, no_rows}
 use Rattle.yq_cut.specs.Rows as rows
 use Rattle.yq_cut.specs.Rows.{Content, Row, rows_text, Part}
-use Rattle.yq_cut.specs.Seams.{are_seamed, ends_in_block, ends_in_line, is_seam}
+use Rattle.yq_cut.specs.Seams.{are_seamed, ends_in_block, ends_in_line}
 use Rattle.yq_cut.specs.Splices.{behind_first, first_gap}
-use Rattle.yq_cut.specs.Removal.{block_of, last_block}
+use Rattle.yq_cut.specs.Removal.{last_block}
 use Rattle.yq_cut.proofs.seams.LessLaws.{starts_less}
 use Rattle.yq_cut.proofs.RowAgain.{row_starts}
 use Rattle.yq_cut.proofs.splices.PartPlaces.{part_in}
@@ -40,17 +40,13 @@ use Rattle.yq_change.proofs.ApartLaws.{apart_skip, apart_deep, deep_less, even_d
 use Rattle.yq_change.proofs.ColumnLaws.{block_is_deeper, next_allowed}
 use Rattle.yq_change.proofs.PartLaws.{part_numbered, document_known, document_spliced, is_put, short_stays}
 
--- seams
-seam_of : (c : Content) (b : BlockText) (u : List ℕ) → block_of c ≡ Some b → ends_block (keeps b.chomping) b.indent (text_lines u) ≡ true → is_seam c u ≡ true
-seam_of c b u h1 h2 = search rules
-
 pub block_seam : (front : List Row) (b : BlockText) (u : List ℕ) → last_block front ≡ Some b → ends_block (keeps b.chomping) b.indent (text_lines u) ≡ true → are_seamed front u ≡ true
 block_seam [] b u e h = refl
-block_seam (r ∷ []) b u e h = seam_of r.content b u e h
+block_seam (r ∷ []) b u e h = search (rules, e)
 block_seam (r ∷ (q ∷ front)) b u e h = block_seam (q ∷ front) b u e h
 
 -- rows begin in the column of their first line
-first_column : (above : List (List ℕ)) (column : ℕ) (ns : List ℕ) (m : rows.Mark) (c : Content) (rest : List Line) (l : Line) (ls : List Line) → lines_from above column ns m c ++ rest ≡ l ∷ ls →
+pub first_column : (above : List (List ℕ)) (column : ℕ) (ns : List ℕ) (m : rows.Mark) (c : Content) (rest : List Line) (l : Line) (ls : List Line) → lines_from above column ns m c ++ rest ≡ l ∷ ls →
     l.column ≡ column
 first_column above column [] m c rest l ls e = ap (λ (x : Line). x.column) (sym (head-eq_of_cons-eq e))
 first_column above column (n ∷ ns) m c rest l ls e = ap (λ (x : Line). x.column) (sym (head-eq_of_cons-eq e))
@@ -85,6 +81,10 @@ rows_with [] a b e some = absurd (some (none a b e))
     none [] b e = sym e
     none (x ∷ a) b e = absurd (cc)
 rows_with (r ∷ front) a b e some = refl
+
+pub rows_behind_some : (a b : List Row) → no_rows a ≡ false → no_rows (a ++ b) ≡ false
+rows_behind_some [] b n = absurd (false≢true (sym n))
+rows_behind_some (x ∷ a) b n = refl
 
 pub around : (a x y z : List Line) → (a ++ x) ++ (y ++ z) ≡ a ++ ((x ++ y) ++ z)
 around a x y z = append_assoc a x (y ++ z) ∙ ap (λ (v : List Line). a ++ v) (sym (append_assoc x y z))
@@ -121,15 +121,11 @@ block_appended t c k p steps h front back new m l u old there_is size w takes te
       next = next_allowed n (asked_behind unlimited front) new back gap behind takes.new_are (rows_with new [] (l ∷ flatten u) w.lines (λ none. cc)) new_deep h.above above (subst (Begins h.above) (sym parts.2) apart.1);
       seam = append_seam front back new p.end rest gap behind l (flatten u) part takes.new_are w.bare w.lines first takes.closed;
     } in
-    let has : no_rows p.rows ≡ false = ap no_rows takes.rows_are ∙ more front back some in
+    let has : no_rows p.rows ≡ false = ap no_rows takes.rows_are ∙ rows_behind_some front back some in
     let cut = document_spliced t c k p front [] back new gap old known.cut takes.rows_are has fits text in
     let keys = fit_parts front back (subst HaveFitKeys takes.rows_are known.document.keys) in
     let put =
-    is_put t c k p q old (ap no_rows there ∙ more front (new ++ back) some) text cut (subst HaveFitKeys (sym there) (fit_from front (new ++ back) keys.0 (fit_from new back w.keys keys.1)))
+    is_put t c k p q old (ap no_rows there ∙ rows_behind_some front (new ++ back) some) text cut (subst HaveFitKeys (sym there) (fit_from front (new ++ back) keys.0 (fit_from new back w.keys keys.1)))
     (subst HasShortRoot (sym there) (short_stays front back (new ++ back) some (subst HasShortRoot takes.rows_are known.document.short))) in
     let lines : lines_of q.rows ≡ put_lines h (flatten h.lines ++ (l ∷ flatten u)) = search (rules, lines_append, around, there, parts) in
     entry_appended t c k p q steps h m l u put there_is w.fits w.anchors lines w.value_is w.key
-  where
-    more : (a b : List Row) → no_rows a ≡ false → no_rows (a ++ b) ≡ false
-    more [] b n = absurd (false≢true (sym n))
-    more (x ∷ a) b n = refl

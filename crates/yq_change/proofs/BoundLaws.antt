@@ -136,3 +136,6 @@ bound_changed steps n old f front gone come back there names spared bound =
     let used : (a : List ℕ) → IsAmong a (aliases_in (back ++ r.after)) → IsAmong a (aliases_in (names_of n)) =
     λ a h. subst (λ x. IsAmong a (aliases_in x)) (sym whole) (used_last a (r.before ++ front) (gone ++ (back ++ r.after)) (used_last a gone (back ++ r.after) h)) in
     subst (AreBound []) (sym changed) (bound_stays [] (r.before ++ front) gone come (back ++ r.after) (subst (AreBound []) whole bound) (no_alias_bound _ come names.bare) (λ a g u. spared a g (used a u)))
+
+-- anchors and aliases where a node is changed
+pub ruleset bounds = (bound_stays, names_around, bound_changed)

@@ -3,11 +3,10 @@ use Rattle.std.proofs.Common.{◌≡◌, ℕ, zero, suc, List, [], ◌∷◌, �
 use Rattle.std.proofs.lemmas.Bool.{and_parts, and_from, cond-true}
 use Rattle.std.proofs.lemmas.Option.{same_Some}
 use Rattle.std.specs.List.{slice_get, list_all}
-use Rattle.yq_flow_scalars.specs.Tree.{Node}
 use Rattle.yq_lines.specs.Comments.{head_comment}
 use Rattle.yq_cut.specs.Grammar.{begins_document}
 use Rattle.yq_cut.specs.Rows.{Row, Part, Cut, last, marked, cut_text}
-use Rattle.yq_documents.specs.Documents.{Document, IsRoot, parts_from, has_begin, begins_bare, document_parts, lead_of}
+use Rattle.yq_documents.specs.Documents.{Document, parts_from, has_begin, begins_bare, document_parts, lead_of}
 use Rattle.yq_documents.specs.PartNumbers.{number_from}
 use Rattle.yq_cut.specs.Splices.{first_gap}
 use Rattle.yq_row_lines.specs.Lines.{lines_from, lines_of}
@@ -17,7 +16,6 @@ use Rattle.yq_lines.proofs.ByRules.{rules_from}
 use Rattle.yq_places.proofs.DocumentLaws.{is_document_of}
 use Rattle.yq_places.proofs.ReadLaws.{text_takes, text_again}
 use Rattle.yq_flow_scalars.proofs.Bools.{guard_then}
-use Rattle.yq_change.specs.Siblings.{StandsSomewhere}
 use Rattle.yq_change.specs.Changed.{put_part, put_document, KeepsRows, DocumentPut, changed, PartStands, DocumentChanged, first_comment, LeadIsFirst}
 use Rattle.yq_documents.specs.TreeEdits.{change_nth}
 
@@ -30,18 +28,19 @@ from_put true zero p q (marked x marker c) e = refl
 from_put true (suc k) p q (marked x marker c) e = ap (λ ps. x ∷ ps) (from_put (begins_document marker) k p q c e)
 from_put false k p q (marked x marker c) e = from_put (begins_document marker) k p q c e
 
+pub nth_changed : (k : ℕ) (p q : Part) (ps : List Part) → slice_get ps k ≡ Some p → slice_get (change_nth k (λ x. q) ps) k ≡ Some q
+nth_changed k p q [] e = absurd (cc)
+nth_changed zero p q (x ∷ ps) e = refl
+nth_changed (suc k) p q (x ∷ ps) e = nth_changed k p q ps e
+
 begin_stays : (i : ℕ) (q : Part) (c : Cut) → has_begin (put_part i q c) ≡ has_begin c
 begin_stays i q (last p) = refl
 begin_stays zero q (marked p marker c) = refl
 begin_stays (suc i) q (marked p marker c) = ap (λ b. begins_document marker || b) (begin_stays i q c)
 
--- whether the first part is a document stays
-kept : (b r s : Bool) → (not r || b) ≡ true → (s ≡ true → r ≡ true) → (not s || b) ≡ true
-kept b r s h1 h2 = search rules
-
 first_is : (is : Bool) (k : ℕ) (p q : Part) (c : Cut) → (begins_bare c || not (has_begin c)) ≡ is → slice_get (parts_from is c) k ≡ Some p → KeepsRows p q →
     (begins_bare (put_part (number_from is k c) q c) || not (has_begin (put_part (number_from is k c) q c))) ≡ is
-first_is is k p q c h1 h2 h3 = search (rules, kept, same_Some, begin_stays)
+first_is is k p q c h1 h2 h3 = search (rules, same_Some, begin_stays)
 
 pub first_stays : (c : Cut) (k : ℕ) (p q : Part) → slice_get (document_parts c) k ≡ Some p → KeepsRows p q → (begins_bare (put_document k q c) || not (has_begin (put_document k q c))) ≡ (begins_bare c || not (has_begin c))
 first_stays c k p q there keeps = first_is (begins_bare c || not (has_begin c)) k p q c refl there keeps
@@ -49,14 +48,10 @@ first_stays c k p q there keeps = first_is (begins_bare c || not (has_begin c)) 
 pub document_put : DocumentPut
 document_put c k p q there keeps = ap (λ b. parts_from b (put_document k q c)) (first_stays c k p q there keeps) ∙ from_put (begins_bare c || not (has_begin c)) k p q c there
 
--- the root of lines
-root_of_lines : (ls : List Line) (root : Node) → StandsSomewhere ls root → IsRoot ls root
-root_of_lines ls root h1 = search (rules, rules_from)
-
 pub part_stands : PartStands
 part_stands q root h = record {
   lead = refl;
-  root = root_of_lines (lines_of q.rows) root h.stands;
+  root = search (rules, rules_from, h.stands);
   keys = h.keys;
   unique = h.unique;
   nested = h.nested;

@@ -193,3 +193,6 @@ closed_stands_less limit front gone back end rest l ls h closed next = go (last_
         let deep =
         block_is_deeper limit front gone end rest b (record l { column = r.column; mark = Rattle.yq_lines.specs.Outline.Bare }) h e (bare l r.column (lines_of front) apart (next_low (level l) (r ∷ rs) r rs refl n)) in
         deep
+
+-- where rows may stand
+pub ruleset columns = (next_allowed, next_stays, block_is_deeper, closed_stands_less)

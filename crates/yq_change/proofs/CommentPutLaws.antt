@@ -1,18 +1,18 @@
 -- Comments of items and entries, put and taken away.
-use Rattle.std.proofs.Common.{◌≡◌, ℕ, ◌+◌, ◌≤◌, List, [], ◌∷◌, ◌++◌, length, false, Option, refl, sym, ap, ◌∙◌, subst, append_assoc, length-append, arith, rules}
+use Rattle.std.proofs.Common.{◌≡◌, ℕ, ◌+◌, ◌≤◌, List, [], ◌∷◌, ◌++◌, length, Option, refl, sym, ap, ◌∙◌, subst, append_assoc, length-append, arith, rules}
 use Rattle.std.proofs.lemmas.Bool.{false≢true}
 use mathlib.Core.List.{head-eq_of_cons-eq}
 use Rattle.yq_flow_scalars.specs.Characters.{is_text, text_limit}
 use Rattle.yq_lines.specs.Comments.{head_comment, line_comment}
 use Rattle.yq_cut.specs.Grammar.{IsCut}
 use Rattle.yq_cut.specs.Rows.{Content, Row, mark_column, parent_indent, rows_text, Part, Cut, cut_text}
-use Rattle.yq_cut.specs.Seams.{TailFits, is_block, retail, with_tail}
+use Rattle.yq_cut.specs.Seams.{TailFits, retail, with_tail}
 use Rattle.yq_cut.specs.Splices.{first_gap, nth_part, splice}
 use Rattle.yq_cut.proofs.splices.RowReplaced.{tail_replaced}
-use Rattle.yq_documents.specs.Documents.{HaveFitKeys, HasShortRoot, ContentHasFitKeys, has_lines, is_long_plain, lead_of}
+use Rattle.yq_documents.specs.Documents.{HaveFitKeys, HasShortRoot, lead_of}
 use Rattle.yq_lines.specs.Group.{level_or}
 use Rattle.yq_lines.specs.Laws.{with_lines}
-use Rattle.yq_row_lines.specs.Lines.{content_anchor, head_of, tail_of, mark_line, lines_of}
+use Rattle.yq_row_lines.specs.Lines.{tail_of, mark_line, lines_of}
 use Rattle.yq_lines.specs.Outline.{Line, level, flatten, label}
 use Rattle.yq_lines.specs.Places.{lines_before, lines_after, FoundLine}
 use Rattle.yq_documents.specs.Reading.{outline_of}
@@ -26,7 +26,7 @@ use Rattle.yq_change.proofs.AnchorLaws.{fit_parts, fit_from}
 use Rattle.yq_change.proofs.CollectionLaws.{relabelled}
 use Rattle.yq_change.proofs.EditedLaws.{led_as}
 use Rattle.yq_change.proofs.BlockChangeLaws.{entry_relabelled}
-use Rattle.yq_change.proofs.PlacedLaws.{same_parts}
+use Rattle.yq_change.proofs.PlacedLaws.{around, same_parts}
 use Rattle.yq_change.specs.LineRows.{line_number}
 use Rattle.yq_change.specs.DocumentRows.{IsDocumentPart, Known, behind_document}
 use Rattle.yq_documents.specs.PartNumbers.{part_number}
@@ -42,9 +42,6 @@ pub record OneLine (p : Part) (h : NodeLines) (f : FoundLine) (a : List Line) (x
   pub is : x ≡ f.line
   pub put : (l : Line) → put_lines h (with_lines f (l ∷ flatten f.under)) ≡ a ++ (l ∷ z)
 
-pub around : (a x e y z : List Line) → a ++ ((x ++ (e ++ y)) ++ z) ≡ (a ++ x) ++ (e ++ (y ++ z))
-around a x e y z = ap (λ v. a ++ v) (append_assoc x (e ++ y) z ∙ ap (λ v. x ++ v) (append_assoc e y z)) ∙ sym (append_assoc a x (e ++ (y ++ z)))
-
 pub one_line : (t : List ℕ) (c : Cut) (p : Part) (steps : List Rattle.yq_flow_scalars.specs.Paths.Step) (s : Rattle.yq_flow_scalars.specs.Paths.Step) (h : NodeLines) (f : FoundLine) (a : List Line) (x : Line) (z : List Line) →
     Known t c p → IsEntryAt steps s (outline_of p) h f →
     lines_of p.rows ≡ a ++ (x ∷ z) → length a ≡ line_number h f → OneLine p h f a x z
@@ -57,33 +54,14 @@ one_line t c p steps s h f a x z old e lines size =
     same_parts a (x ∷ []) z b (f.line ∷ []) w (sym lines ∙ (sym (flatten-group (lines_of p.rows)) ∙ (olds ∙ place f.line))) (size ∙ sym (length-append (lines_before h.place) (lines_before f.place))) refl in
     record { is = head-eq_of_cons-eq parts.1; put = λ l. place l ∙ (λ i. sym parts.0 i ++ (l ∷ sym parts.2 i)) }
 
--- a content with another tail
-head_stays : (c : Content) (tail : List ℕ) → head_of (with_tail tail c) ≡ head_of c
-head_stays c tail = search rules
-
-anchor_stays : (c : Content) (tail : List ℕ) → content_anchor (with_tail tail c) ≡ content_anchor c
-anchor_stays c tail = search rules
-
-tail_is : (c : Content) (tail : List ℕ) → is_block c ≡ false → tail_of (with_tail tail c) ≡ tail
-tail_is c tail h1 = search (rules, false≢true)
-
-fit_tail : (c : Content) (tail : List ℕ) → ContentHasFitKeys c → ContentHasFitKeys (with_tail tail c)
-fit_tail c tail h1 = search rules
-
-lines_tail : (c : Content) (tail : List ℕ) → has_lines (with_tail tail c) ≡ has_lines c
-lines_tail c tail = search rules
-
 -- a row with another tail
 pub fit_retail : (front : List Row) (r : Row) (back : List Row) (tail : List ℕ) → HaveFitKeys (front ++ (r ∷ back)) → HaveFitKeys (front ++ (retail tail r ∷ back))
 fit_retail front r back tail h =
     let parts = fit_parts front (r ∷ back) h in
-    fit_from front (retail tail r ∷ back) parts.0 (parts.1.0, fit_tail r.content tail parts.1.1, parts.1.2)
-
-long_tail : (m : Rattle.yq_cut.specs.Rows.Mark) (c : Content) (tail : List ℕ) → is_long_plain m (with_tail tail c) ≡ is_long_plain m c
-long_tail m c tail = search (rules, lines_tail)
+    fit_from front (retail tail r ∷ back) parts.0 (parts.1.0, (search (rules, parts.1.1)), parts.1.2)
 
 pub short_retail : (front : List Row) (r : Row) (back : List Row) (tail : List ℕ) → HasShortRoot (front ++ (r ∷ back)) → HasShortRoot (front ++ (retail tail r ∷ back))
-short_retail [] r back tail h = long_tail r.mark r.content tail ∙ h
+short_retail [] r back tail h = (search rules) ∙ h
 short_retail (q ∷ front) r back tail h = h
 
 pub lead_retail : (front : List Row) (r : Row) (back : List Row) (tail : List ℕ) (p q : Part) → p.rows ≡ front ++ (r ∷ back) → q.rows ≡ front ++ (retail tail r ∷ back) → lead_of q ≡ lead_of p
@@ -127,12 +105,12 @@ line_commented t c k p steps s h f front back r tail old at takes number new =
     let size : length a ≡ line_number h f = search (rules, length-append, dashes_count) in
     let one = one_line t c p steps s h f a x (lines_of back) is at (ap lines_of takes.rows_are ∙ last_lines front r back r.content) size in
     let lines : lines_of q.rows ≡ put_lines h (with_lines f (l ∷ flatten f.under)) = ap lines_of there ∙ (last_lines front r back (with_tail tail r.content) ∙ sym (one.put l)) in
-    let comment : line_comment (tail_of (with_tail tail r.content)) ≡ line_comment tail = ap line_comment (tail_is r.content tail takes.inline) in
+    let comment : line_comment (tail_of (with_tail tail r.content)) ≡ line_comment tail = ap line_comment (search (rules, false≢true, takes.inline)) in
     let agrees : label l ≡ with_line_comment (line_comment tail) (label x) = ap (λ (y : Option (List ℕ)). with_line_comment y (label x)) comment in
     led_as c (put_document k q c) k _ _ _ (lead_retail front r back tail p q takes.rows_are there)
     (entry_relabelled t c k p q steps h s f (with_line_comment (line_comment tail)) l put at (record {
       level_is = ap level one.is;
-      head_is = head_stays r.content tail ∙ ap (λ (y : Line). y.head) one.is;
-      anchor_is = anchor_stays r.content tail ∙ ap (λ (y : Line). y.anchor) one.is;
+      head_is = (search rules) ∙ ap (λ (y : Line). y.head) one.is;
+      anchor_is = (search rules) ∙ ap (λ (y : Line). y.anchor) one.is;
       label_is = agrees ∙ ap (λ (y : Line). with_line_comment (line_comment tail) (label y)) one.is;
     }) (λ y. refl) lines)

@@ -198,9 +198,6 @@ module _ (t : List ℕ) (c : Cut) (k : ℕ) (p : Part) (front : List Row) (r : R
       let short : HasShortRoot (front ++ (b ∷ back)) = short_first front back (r ∷ back) b (subst HasShortRoot h.rows_are known.document.short) h.short in
       is_put t c k p q h.old (ap no_rows there ∙ rows_before_some front (b ∷ back) refl) h.text cut (subst HaveFitKeys (sym there) fit) (subst HasShortRoot (sym there) short)
 
-  lead_is : lead_of q ≡ lead_of p
-  lead_is = lead_content front r new back p q h.rows_are there
-
   old_lines : lines_of p.rows ≡ a ++ (x ∷ lines_of back)
   old_lines = ap lines_of h.rows_are ∙ last_lines front r back r.content
 
@@ -275,7 +272,7 @@ module _ (t : List ℕ) (c : Cut) (k : ℕ) (p : Part) (front : List Row) (r : R
       let old : lines_of p.rows ≡ x ∷ [] = sym one.1 in
       let lines : lines_of q.rows ≡ l ∷ [] = new_lines ∙ (λ i. one.0 i ++ (l ∷ one.2 i)) in
       let root : root_of p ≡ spelled r.content = ap (λ ls. value (group ls)) old ∙ alone_value x bare in
-      led_as c (put_document k q c) k (lead_of q) (lead_of p) (replaced v) lead_is
+      led_as c (put_document k q c) k (lead_of q) (lead_of p) (replaced v) (lead_content front r new back p q h.rows_are there)
       (root_replaced t c k p q v (level l) (row l end end) is_it
       (record {
         deep = low_level l;

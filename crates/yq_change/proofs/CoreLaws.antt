@@ -1,10 +1,9 @@
 -- Another inline node behind the anchor of what is written behind a mark.
 use Rattle.std.proofs.Common.{◌≡◌, inl, inr, ℕ, ◌||◌, not, List, [], ◌∷◌, ◌++◌, Option, None, Bool, true, false, refl, sym, ap, ◌∙◌, rules}
 use Rattle.std.proofs.lemmas.Bool.{cond_both, false≢true, or_right}
-use Rattle.yq_flow_scalars.specs.Text.{is_empty, no_white, unless, NoneIn}
+use Rattle.yq_flow_scalars.specs.Text.{is_empty, no_white, unless}
 use Rattle.yq_nodes.specs.Nodes.{Node, empty, alias, scalar, coll, anchored, node_text, items_text, open_of, first_is, in_name, begins_content, takes_anchor, is_bare, IsName, IsLead, IsNode}
 use Rattle.yq_nodes.specs.Trees.{node_anchor, node_head}
-use Rattle.yq_nodes.specs.Scalars.{IsScalarAt}
 use Rattle.yq_nodes.proofs.PieceLaws.{scalar_begins}
 use Rattle.yq_cut.specs.Grammar.{is_more}
 use Rattle.yq_cut.specs.Rows.{Content, Nothing, Inline, Block}
@@ -12,6 +11,7 @@ use Rattle.yq_cut.proofs.Fronts.{node_starts}
 use Rattle.yq_cut.proofs.EmptyTexts.{none_is}
 use Rattle.yq_documents.specs.Documents.{HasFitKeys}
 use Rattle.yq_places.specs.RowPaths.{apart}
+use Rattle.yq_nodes.proofs.AlikePieces.{none_unless}
 
 -- a node in the place of another one, behind its anchor
 abbrev pub recore : Node → Node → Node
@@ -62,38 +62,30 @@ core_more core (anchored n g node) h b = ap not (core_bare core node b)
 
 -- ---- it is a node
 
--- a node that is no anchor begins as content, and may stand behind an anchor, if it is no alias
-scalar_content_begins : (spaces : Option ℕ) (p rest : List ℕ) → IsScalarAt false spaces p rest → begins_content false (p ++ rest) ≡ true
-scalar_content_begins spaces p rest h = search (rules, or_right, scalar_begins)
-
 begins : (spaces : Option ℕ) (d : ℕ) (core : Node) (rest : List ℕ) → node_anchor core ≡ None → is_bare core ≡ false → IsNode false spaces d core rest → begins_content false (node_text core rest) ≡ true
 unfolding IsNode node_text
-begins spaces d core rest h1 h2 h3 = search (rules, false≢true, scalar_content_begins, cond_both)
+begins spaces d core rest h1 h2 h3 = search (rules, false≢true, or_right, scalar_begins, cond_both)
 
 no_empty_gap : (g : List ℕ) → (false || not (is_empty g)) ≡ true → is_empty g ≡ false
 no_empty_gap [] h = absurd (cc)
 no_empty_gap (b ∷ g) h = refl
 
-none_again : (q : ℕ → Bool) (p t u : List ℕ) → NoneIn (unless q) p t → NoneIn (unless q) p u
-none_again q [] t u h = tt
-none_again q (b ∷ p) t u h = (h.0, none_again q p t u h.1)
-
 name_space : (n t u : List ℕ) → IsName n t → IsName n (32 ∷ u)
-name_space n t u h = record { some = h.some; inside = none_again in_name n t (32 ∷ u) h.inside; ends = refl }
+name_space n t u h = record { some = h.some; inside = none_unless in_name n t (32 ∷ u) h.inside; ends = refl }
 
 front_again : (q : ℕ → Bool) (g t u : List ℕ) → is_empty g ≡ false → unless q (g ++ t) ≡ true → unless q (g ++ u) ≡ true
 front_again q [] t u some h = absurd (cc)
 front_again q (b ∷ g) t u some h = h
 
 name_again : (n g t u : List ℕ) → is_empty g ≡ false → IsName n (g ++ t) → IsName n (g ++ u)
-name_again n g t u some h = record { some = h.some; inside = none_again in_name n (g ++ t) (g ++ u) h.inside; ends = front_again in_name g t u some h.ends }
+name_again n g t u some h = record { some = h.some; inside = none_unless in_name n (g ++ t) (g ++ u) h.inside; ends = front_again in_name g t u some h.ends }
 
 module _ (spaces : Option ℕ) (d : ℕ) (core : Node) (rest : List ℕ) (unnamed : node_anchor core ≡ None) (some : is_bare core ≡ false) (takes : takes_anchor core ≡ true) (stands : IsNode false spaces d core rest) where
   starts : no_white (node_text core rest) ≡ true
   starts = (node_starts (node_text core rest) (or_right (first_is 38 (node_text core rest)) (begins_content false (node_text core rest)) (begins spaces d core rest unnamed some stands))).no_white
 
   lead_again : (g t : List ℕ) → is_empty g ≡ false → IsLead false (begins_content false) g t → IsLead false (begins_content false) g (node_text core rest)
-  lead_again g t gap (inl h) = inl ((none_again _ g t (node_text core rest) h.0.0, starts), begins spaces d core rest unnamed some stands)
+  lead_again g t gap (inl h) = inl ((none_unless _ g t (node_text core rest) h.0.0, starts), begins spaces d core rest unnamed some stands)
   lead_again g t gap (inr h) = absurd (none_is g gap h.0)
 
   -- behind an anchor

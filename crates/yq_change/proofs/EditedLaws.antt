@@ -41,6 +41,7 @@ use Rattle.yq_change.proofs.NodeLineLaws.{Under, lines_found, lines_even, lines_
 use Rattle.yq_change.proofs.SiblingLaws.{entry_out, entries, even_right, next, rest_entries}
 use Rattle.yq_documents.specs.TreeEdits.{headed}
 use Rattle.yq_change.proofs.PartLaws.{all_at}
+use Rattle.yq_change.proofs.PlacedLaws.{around}
 
 -- What is known of a part that is a document.
 pub record Known (p : Part) : Type 0 where
@@ -137,10 +138,6 @@ lines_exchanged t c k p q steps h g m u put is fits anchors lines sound =
     let one : HaveOneAnchorEach (put_lines h (flatten u)) =
     anchors_stay (lines_before h.place) (flatten h.lines) (flatten u) (lines_after h.place) (subst HaveOneAnchorEach was w.each) anchors.each (subst (λ a. IsFree a (flatten u)) (sym among.1) anchors.free) among.0 in
     finish t c k p q (change steps g) put (subst (λ ls. StandsSomewhere ls (change steps g (root_of p))) (sym lines) law.1) (subst HaveOneAnchorEach (sym lines) one) sound
-
--- lines around a part of those of a node
-around : (a x e y z : List Line) → a ++ ((x ++ (e ++ y)) ++ z) ≡ (a ++ x) ++ (e ++ (y ++ z))
-around a x e y z = ap (λ v. a ++ v) (append_assoc x (e ++ y) z ∙ ap (λ v. x ++ v) (append_assoc e y z)) ∙ sym (append_assoc a x (e ++ (y ++ z)))
 
 pub lines_appended : LinesAppended
 lines_appended t c k p q steps h m l v put there fits each lines sound =

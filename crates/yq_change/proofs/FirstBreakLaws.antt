@@ -21,9 +21,6 @@ IsOneBreak t = (t ≡ 10 ∷ []) ⊎ (t ≡ 13 ∷ (10 ∷ []))
 
 -- ---- the break that ends a text
 
-lone_break : (b : ℕ) (bs : List ℕ) → is_last_break (b ∷ bs) ≡ true → IsOneBreak (b ∷ bs)
-lone_break b bs h1 = search (rules, eqb-true, and_parts, false≢true)
-
 no_lf : IsLf [] → ⊥
 no_lf h = go h.0 h.1
   where
@@ -37,7 +34,7 @@ last_lf [] h = absurd (no_lf h)
 last_lf (b ∷ bs) h = go (is_last_break (b ∷ bs)) refl (λ lf. last_lf bs lf)
   where
     go : (c : Bool) → is_last_break (b ∷ bs) ≡ c → (IsLf bs → IsOneBreak (last_break bs)) → IsOneBreak (drop (length (cond c [] (b ∷ less_break bs))) (b ∷ bs))
-    go true e again = lone_break b bs e
+    go true e again = search (rules, eqb-true, and_parts, false≢true, e)
     go false e again = again (lf_behind b bs e h)
 
 content_break : (n : ℤ) (x : Content) (rest : List ℕ) → IsContent n x rest → is_empty rest ≡ false → IsOneBreak (end_break x)

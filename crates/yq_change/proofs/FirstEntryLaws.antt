@@ -12,7 +12,7 @@ use Rattle.yq_lines.proofs.Values.{rank_small}
 use Rattle.yq_cut.specs.Grammar.{AreDashes, is_entry}
 use Rattle.yq_cut.specs.Rows as rows
 use Rattle.yq_cut.specs.Rows.{Content, Row, behind_columns, Part}
-use Rattle.yq_row_lines.specs.Lines.{dash_line, mark_line, lines_from, row_lines, lines_of}
+use Rattle.yq_row_lines.specs.Lines.{dash_line, lines_from, row_lines, lines_of}
 use Rattle.yq_documents.specs.Reading.{outline_of}
 use Rattle.yq_documents.specs.LinesInRows.{RowLine, row_line}
 use Rattle.yq_row_lines.proofs.RowLaws.{no_comments}
@@ -26,6 +26,7 @@ use Rattle.yq_change.proofs.LineLaws.{dashes_count, row_line_splits}
 use Rattle.yq_change.proofs.NodeLineLaws.{lines_even}
 use Rattle.yq_change.proofs.OwnRowLaws.{lines_are}
 use Rattle.yq_change.proofs.PlacedLaws.{same_parts}
+use Rattle.yq_change.proofs.AppendLaws.{first_column}
 
 -- ---- the lines of dashes
 
@@ -55,19 +56,10 @@ apart_dashes a above column (n ∷ (k ∷ ns)) es m c rest some h =
     (subst (λ (x : List Line). StandApart x (lines_from [] (behind_columns column (n ∷ (k ∷ ns))) es m c ++ rest))
     (sym (append_assoc a (dash_line above column ∷ []) (dash_lines [] (suc (column + n)) (k ∷ ns)))) h)
 
-entry_mark : (m : rows.Mark) (above : List (List ℕ)) (column : ℕ) (c : Content) → IsEntry (mark_line above column m c).mark → is_entry m ≡ true
-entry_mark m above column c h1 = search rules
-
--- the first line of a row
-first_column : (above : List (List ℕ)) (column : ℕ) (ns : List ℕ) (m : rows.Mark) (c : Content) (rest : List Line) (l : Line) (ls : List Line) → lines_from above column ns m c ++ rest ≡ l ∷ ls →
-    l.column ≡ column
-first_column above column [] m c rest l ls e = ap (λ (x : Line). x.column) (sym (head-eq_of_cons-eq e))
-first_column above column (n ∷ ns) m c rest l ls e = ap (λ (x : Line). x.column) (sym (head-eq_of_cons-eq e))
-
 first_entry : (above : List (List ℕ)) (column : ℕ) (ns : List ℕ) (m : rows.Mark) (c : Content) (rest : List Line) (l : Line) (ls : List Line) → lines_from above column ns m c ++ rest ≡ l ∷ ls →
     AreDashes ns m → IsEntry l.mark →
     is_entry m ≡ true
-first_entry above column [] m c rest l ls e d h = entry_mark m above column c (subst (λ (x : Line). IsEntry x.mark) (sym (head-eq_of_cons-eq e)) h)
+first_entry above column [] m c rest l ls e d h = search (rules, subst (λ (x : Line). IsEntry x.mark) (sym (head-eq_of_cons-eq e)) h)
 first_entry above column (n ∷ ns) m c rest l ls e d h = d.1
 
 same_column : (l k : Line) → level l ≡ level k → l.column ≡ k.column

@@ -42,10 +42,6 @@ first_row_moved t c k p steps s h f front gone back r b n ns es old entry left r
     let put = is_put t c k p q old (ap no_rows there ∙ rows_before_some front (new ∷ back) refl) text cut (subst HaveFitKeys (sym there) fit) (subst HasShortRoot (sym there) short) in
     first_removed t c k p q steps h s f front gone back r b n ns es put entry left was there moves counts spared
 
--- nothing is written behind the last dash
-emptied_fit : (r : Row) (gone back : List Row) (ns tail : List ℕ) → HaveFitKeys (r ∷ (gone ++ back)) → HaveFitKeys (emptied r ns tail ∷ back)
-emptied_fit r gone back ns tail h = (tt, tt, (fit_parts gone back h.2).1)
-
 pub first_row_dropped : FirstRowDropped
 first_row_dropped t c k p steps s h f front gone back r n ns es tail old entry left replaces stays counts spared text =
     let known = document_known t c k p old in
@@ -54,7 +50,7 @@ first_row_dropped t c k p steps s h f front gone back r n ns es tail old entry l
     let there : q.rows ≡ front ++ (new ∷ back) = ap (λ (rs : List Row). front ++ (new ∷ rs)) (own_gap back p.end) in
     let cut = document_replaced t c k p front (r ∷ gone) back (new ∷ []) (first_gap back p.end) old replaces text in
     let keys = fit_parts front (r ∷ (gone ++ back)) (subst HaveFitKeys replaces.rows_are known.document.keys) in
-    let fit : HaveFitKeys (front ++ (new ∷ back)) = fit_from front (new ∷ back) keys.0 (emptied_fit r gone back ns tail keys.1) in
+    let fit : HaveFitKeys (front ++ (new ∷ back)) = fit_from front (new ∷ back) keys.0 ((tt, tt, (fit_parts gone back keys.1.2).1)) in
     let short : HasShortRoot (front ++ (new ∷ back)) = short_first front back (r ∷ (gone ++ back)) new (subst HasShortRoot replaces.rows_are known.document.short) refl in
     let put = is_put t c k p q old (ap no_rows there ∙ rows_before_some front (new ∷ back) refl) text cut (subst HaveFitKeys (sym there) fit) (subst HasShortRoot (sym there) short) in
     first_dropped t c k p q steps h s f front gone back r n ns es tail put entry left replaces.rows_are there stays counts spared

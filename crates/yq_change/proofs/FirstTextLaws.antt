@@ -18,7 +18,8 @@ use Rattle.yq_cut.specs.Rows as rows
 use Rattle.yq_cut.specs.Rows.{Content, Nothing, Row, behind_columns, rows_text, Part}
 use Rattle.yq_cut.proofs.seams.FrontSeams.{rows_some}
 use Rattle.yq_documents.specs.declared.path.Part.TheVariants.{Entry}
-use Rattle.yq_row_lines.specs.Lines.{dash_line, lines_from, lines_of}
+use Rattle.yq_row_lines.specs.Lines.{dash_line, lines_of}
+use Rattle.yq_row_lines.proofs.RowLaws.{lines_count as lines_count_from}
 use Rattle.yq_places.specs.PathPieces.{BlockEntry, found_entry, piece_in, piece_in_entry}
 use Rattle.yq_documents.specs.Pieces.{TextPiece}
 use Rattle.yq_places.specs.PrintedLines.{PrintedLine, line_front, print_lines, printed_from, printed_lines, printed_row, line_in, run_piece}
@@ -43,10 +44,6 @@ printed_parts (r ∷ front) back = ap (λ ls. printed_row r ++ ls) (printed_part
 
 printed_count : (rs : List Row) → length (printed_lines rs) ≡ length (lines_of rs)
 printed_count rs = omega (arith, lines_count (printed_lines rs), ap length (lines_are rs))
-
-lines_count_from : (above : List (List ℕ)) (column : ℕ) (ns : List ℕ) (m : rows.Mark) (c : Content) → length (lines_from above column ns m c) ≡ suc (length ns)
-lines_count_from above column [] m c = refl
-lines_count_from above column (n ∷ ns) m c = ap suc (lines_count_from [] (suc (column + n)) ns m c)
 
 -- the line of a dash
 abbrev dash_printed : List ℕ → List ℕ → ℕ → ℕ → PrintedLine
@@ -129,9 +126,6 @@ module _ (p : Part) (start rest : List ℕ) (h : NodeLines) (f : FoundLine) (q :
   abbrev above : List PrintedLine
   above = printed_lines fr.front ++ dashes.lines
 
-  parts_are : ls ≡ above ++ (own ++ printed_lines back)
-  parts_are = search (rules, printed_parts, take-append-drop, append_assoc)
-
   above_count : n ≡ length above
   above_count = omega (arith, number, fr.before, length-append (printed_lines fr.front) dashes.lines, printed_count fr.front, dashes.count)
 
@@ -161,7 +155,7 @@ module _ (p : Part) (start rest : List ℕ) (h : NodeLines) (f : FoundLine) (q :
       let ends = (end_is (lines_of p.rows) y ys [] g found fine).1 in
       let ends_at : lines_end n (lines_of p.rows) ≡ suc n + m = subst (λ (k : ℕ). lines_end k (lines_of p.rows) ≡ suc k + m) at ends in
       let count : suc m ≡ length own = omega (arith, size, ends_at, own_count) in
-      let parts = parts_at above own (printed_lines back) ls n m l parts_are above_count count there in
+      let parts = parts_at above own (printed_lines back) ls n m l (search (rules, printed_parts, take-append-drop, append_assoc)) above_count count there in
       let d = printed_line p.rows n q row_line_is in
       let same : d.line ≡ l = same_Some _ _ (sym d.there ∙ there) in
       record {

@@ -10,7 +10,7 @@ use Rattle.yq_documents.specs.Documents.{lead_of}
 use Rattle.yq_lines.specs.Group.{level_or}
 use Rattle.yq_lines.specs.Laws.{with_lines}
 use Rattle.yq_row_lines.specs.Lines.{lines_of}
-use Rattle.yq_lines.specs.Outline.{Mark, Line, level, Outline, end, row, flatten, IsOpen, IsWhole, IsEven, anchored, head_or, value}
+use Rattle.yq_lines.specs.Outline.{Line, level, Outline, end, row, flatten, IsOpen, IsEven, anchored, head_or, value}
 use Rattle.yq_lines.specs.Places.{lines_before, plug, FoundLine, find, content}
 use Rattle.yq_documents.specs.Reading.{outline_of, root_of}
 use Rattle.yq_lines.proofs.Finding.{IsFoundIn, path_whole}
@@ -41,9 +41,6 @@ other_head a l n m ls ms h1 h2 h3 = search rules
 pub none_under : (h : Option Node) (n : Node) (u : Outline) → h ≡ Some n → IsOpen h u → u ≡ end
 none_under h n u h1 h2 = search (rules, none-some)
 
-still_whole : (m : Mark) (h : Option Node) (n v : Node) (o : Outline) → h ≡ Some n → IsWhole m h o → IsWhole m (Some v) o
-still_whole m h n v o h1 h2 = search rules
-
 -- a line with another head
 pub changed_head : (t : List ℕ) (c : Cut) (k : ℕ) (p q : Part) (s : Step) (ss rest : List Step) (f : FoundLine) (n m : Node) (g : Node → Node) → IsPut t c k p q →
     find s ss (outline_of p) ≡ Some (f, rest) → f.line.head ≡ Some n → NoNewAlias n m → anchored f.line.anchor m ≡ change rest g (anchored f.line.anchor n) →
@@ -60,7 +57,7 @@ changed_head t c k p q s ss rest f n m g put found head new is lines sound =
     let free = other_head (last_anchor (lines_before f.place)) f.line n m _ [] head new (free_before (lines_before f.place) f.line _ was) in
     line_exchanged t c k p q s ss rest f g (level f.line + 1) (with_head m f.line) end put found
     (record { label_is = refl; level_is = refl; headless = tt; deep = omega arith; even = tt; node_is = is ∙ ap (change rest g) (sym node) })
-    (still_whole f.line.mark f.line.head n m f.after head old.2) (record { each = (none_free f.line.anchor, tt); free = free }) lines sound
+    (search (rules, head, old.2)) (record { each = (none_free f.line.anchor, tt); free = free }) lines sound
   where
     none_free : (a : Option (List ℕ)) → IsFree a []
     none_free None = tt

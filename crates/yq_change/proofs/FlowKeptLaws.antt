@@ -15,7 +15,7 @@ use Rattle.yq_nodes.specs.Trees.{inner, key_content}
 use Rattle.yq_cut.specs.Exchange.{with_content}
 use Rattle.yq_cut.specs.Rows.{Inline, Row, Part}
 use Rattle.yq_cut.proofs.splices.SpliceTexts.{own_gap}
-use Rattle.yq_documents.specs.Documents.{ContentHasFitKeys, EachHasFitKeys, HasFitKey, HasFitKeys, HaveFitKeys}
+use Rattle.yq_documents.specs.Documents.{ContentHasFitKeys, EachHasFitKeys, HasFitKeys, HaveFitKeys}
 use Rattle.yq_row_lines.specs.Lines.{head_of}
 use Rattle.yq_change.specs.FlowKept.{with_items, FlowRooms, FlowKeys, LeftKeys}
 use Rattle.yq_change.specs.Rooms.{row_shape}
@@ -55,9 +55,6 @@ flow_keys t c k p steps f rest i w gap is old at fits =
     let row = (fit_parts i.front (i.row ∷ i.back) (subst HaveFitKeys at.rows_are known.document.keys)).1 in
     fit_at rest i.node _ w gap is at.along (subst ContentHasFitKeys at.content_is row.1) fits
 
-last_fit : (k : ℕ) (rest : List ℕ) (s : Step) (g : List ℕ) (key : Key) (n : Node) (sep : Sep) (os : Items) (e : FlowEdit) → last_out k rest s g key n sep os ≡ Some e → HasFitKey key → HasFitKeys n → EachHasFitKeys e.items
-last_fit k rest s g key n sep os e h1 h2 h3 = search (rules, none-some, same_Some, cond_both)
-
 before_fit : (k : ℕ) (rest g : List ℕ) (key : Key) (n : Node) (sep : Sep) (os : Items) (e : FlowEdit) → before_next k rest g key n sep os ≡ Some e → EachHasFitKeys os → EachHasFitKeys e.items
 before_fit k rest g key n sep none e at h = absurd (none-some _ at)
 before_fit k rest g key n sep (item key2 n2 sep2 os) e at h = subst (λ (x : FlowEdit). EachHasFitKeys x.items) (same_Some _ _ at) h
@@ -68,7 +65,7 @@ left_fit k rest s g (item key n sep os) e at h = go (is_here s (inner (key_conte
   where
     behind : ((x : FlowEdit) → removing_from k rest (further s) (gap_of sep) os ≡ Some x → EachHasFitKeys x.items) →
         (last_out k rest (further s) g key n sep os ≡ Some e) ⊎ (option_map (behind_item g key n sep) (removing_from k rest (further s) (gap_of sep) os) ≡ Some e) → EachHasFitKeys e.items
-    behind again (inl at) = last_fit k rest (further s) g key n sep os e at h.0 h.1
+    behind again (inl at) = search (rules, none-some, same_Some, cond_both, at, h.0, h.1)
     behind again (inr at) =
         let x = option_some (behind_item g key n sep) (removing_from k rest (further s) (gap_of sep) os) e at in
         subst (λ (y : FlowEdit). EachHasFitKeys y.items) x.2 (h.0, h.1, again x.0 x.1)

@@ -8,7 +8,7 @@ use Rattle.yq_flow_scalars.specs.Tree.{Node, Children, none, child}
 use Rattle.yq_lines.specs.LineAnchors.{IsFree, HaveOneAnchorEach}
 use Rattle.yq_lines.specs.Group.{level_or}
 use Rattle.yq_lines.specs.Laws.{with_lines}
-use Rattle.yq_lines.specs.Outline.{Mark, Bare, Key, Dash, Line, level, Outline, end, row, flatten, IsWhole, IsEven, anchored, label, collection, value}
+use Rattle.yq_lines.specs.Outline.{Mark, Bare, Key, Dash, Line, level, Outline, end, row, flatten, IsEven, anchored, label, collection, value}
 use Rattle.yq_lines.specs.Places.{here, below, compose, lines_before, lines_after, plug, FoundLine, find, in_head, inside, content}
 use Rattle.yq_lines.specs.Positions.{is_bare}
 use Rattle.yq_lines.proofs.Finding.{IsFoundIn, path_whole}
@@ -128,13 +128,6 @@ head_takes n o steps f rest even e = go (head_cases n o steps f rest even e)
     go (inl c) = c.takes
     go (inr c) = inl (ap is_bare c.bare)
 
--- a node itself has nothing behind it
-bare_after : (k : Mark) (h : Option Node) (o : Outline) → k ≡ Bare → IsWhole k h o → o ≡ end
-bare_after k h o h1 h2 = search rules
-
-whole_end : (k : Mark) (m : Node) → IsWhole k (Some m) end
-whole_end k m = search rules
-
 bare_value : (x : Line) → x.mark ≡ Bare → value (row x end end) ≡ content x end
 bare_value x e = ap (λ y. collection y (child (label x) (content x end) none)) e
 
@@ -151,7 +144,7 @@ line_changed t c k p q steps rest f n m h put on head new is lines sound =
     let other : Line = with_head m l in
     let old : IsEven on.even.0 (row l f.under f.after) = subst (IsEven on.even.0) on.outline on.even.2 in
     let under : f.under ≡ end = none_under l.head n f.under head old.1 in
-    let after : f.after ≡ end = bare_after l.mark l.head f.after on.bare old.2 in
+    let after : f.after ≡ end = search (rules, on.bare, old.2) in
     let node : value a.lines ≡ anchored l.anchor n = search (rules, bare_value, under, after, l) in
     let whole_is : value (row other end end) ≡ within h (anchored l.anchor n) = bare_value other on.bare ∙ (is ∙ ap (λ x. change x (within h) (anchored l.anchor n)) on.left) in
     let news : lines_of q.rows ≡ put_lines a (other ∷ []) = lines ∙ on.put after (other ∷ []) in
@@ -164,7 +157,7 @@ line_changed t c k p q steps rest f n m h put on head new is lines sound =
     (lines_exchanged t c k p q steps a (within h) on.even.0 (row other end end) put on.is
     (record {
       deep = on.even.1;
-      even = (old.0, tt, whole_end l.mark m, (suc on.even.0, omega arith, tt), tt);
+      even = (old.0, tt, (search rules), (suc on.even.0, omega arith, tt), tt);
       node_is = ap (anchored a.anchor) whole_is ∙ (anchored-within a.anchor h (anchored l.anchor n) ∙ ap (λ x. within h (anchored a.anchor x)) (sym node));
     })
     (record { each = (free_alone l.anchor, tt); free = subst (λ b. IsFree b (other ∷ [])) among.1 free }) news sound)

@@ -1,5 +1,5 @@
 -- From paths to the rows in which flow collections stand, and the text outside them.
-use Rattle.std.proofs.Common.{◌≡◌, ℕ, zero, suc, ◌+◌, ◌-◌, ◌<◌, List, [], ◌∷◌, ◌++◌, length, Some, refl, sym, ap, ◌∙◌, subst, arith, append_assoc, length-append, rules}
+use Rattle.std.proofs.Common.{◌≡◌, ℕ, zero, suc, ◌+◌, ◌-◌, List, [], ◌∷◌, ◌++◌, length, Some, refl, sym, ap, ◌∙◌, subst, arith, append_assoc, length-append, rules}
 use Rattle.std.proofs.lemmas.Bool.{lt-ltb, le-ltb, cond-true, cond-false}
 use Rattle.std.proofs.lemmas.Option.{none-some, same_Some}
 use Rattle.std.specs.List.{slice_get}
@@ -49,9 +49,6 @@ content_there : (front : List Row) (r : Row) (back : List Row) (x : Content) →
 content_there [] r back x = refl
 content_there (y ∷ front) r back x = ap (λ (rs : List Row). y ∷ rs) (content_there front r back x)
 
-count_there : (front : List Row) (r : Row) (back : List Row) → length front < length (front ++ (r ∷ back))
-count_there front r back = omega (arith, length-append front (r ∷ back))
-
 more_there : (xs ys : List Row) (a b : ℕ) → slice_get (xs ++ ys) ((length xs + a) + b) ≡ slice_get ys (a + b)
 more_there [] ys a b = let same : (length {A = Row} [] + a) + b ≡ a + b = omega arith in ap (slice_get ys) same
 more_there (x ∷ xs) ys a b = let same : (length (x ∷ xs) + a) + b ≡ suc ((length xs + a) + b) = omega arith in ap (slice_get (x ∷ (xs ++ ys))) same ∙ more_there xs ys a b
@@ -81,7 +78,7 @@ first_row : (front : List Row) (r : Row) (back : List Row) (end marker : List �
 first_row front r back end marker c =
     let j : 0 + length front ≡ length front = omega arith in
     let p : Part = record { rows = front ++ (r ∷ back); end = end } in
-    let less = lt-ltb (length front) (length (front ++ (r ∷ back))) (count_there front r back) in
+    let less = lt-ltb (length front) (length (front ++ (r ∷ back))) (omega (arith, length-append front (r ∷ back))) in
     record {
       there = ap (slice_get ((front ++ (r ∷ back)) ++ rows_of c)) j ∙ row_there front r back (rows_of c);
       behind = ap (λ n. behind_row n (marked p marker c)) j ∙ (cond-true _ _ _ less ∙ behind_there front r back (end ++ (marker ++ cut_text c)));

@@ -4,7 +4,6 @@ use Rattle.std.proofs.lemmas.Bool.{and_parts, cond_both}
 use Rattle.std.proofs.lemmas.Option.{none-some, same_Some}
 use mathlib.Core.List.{head-eq_of_cons-eq}
 use Rattle.yq_flow_scalars.specs.Paths.{Step, change, within}
-use Rattle.yq_flow_scalars.specs.Text.{separates}
 use Rattle.yq_flow_scalars.specs.Tree as tree
 use Rattle.yq_nodes.specs.Alike.{Alike, stop, after}
 use Rattle.yq_nodes.specs.Collections.{CollPieces, coll_along, put_at}
@@ -134,10 +133,6 @@ mark_alike rows.Bare t u h = h
 mark_alike rows.Dash t u h = after h
 mark_alike (rows.Key key colon) t u h = alike_append (Some false) key _ _ (alike_append (Some false) colon t u h)
 
-mark_stays : (mark : rows.Mark) (space tail : List ℕ) (node m : Node) (u : List ℕ) → is_more m ≡ true → separates (content_text (Inline space m tail) u) ≡ separates (content_text (Inline space node tail) u) →
-    IsMark mark (Inline space node tail) u → IsMark mark (Inline space m tail) u
-mark_stays mark space tail node m u h1 h2 h3 = search (rules, and_parts, mark_kept)
-
 row_takes : (limit : Limit) (i : InlineRow) (m : Node) (u : List ℕ) → IsRow limit i.row u → i.row.content ≡ Inline i.space i.node i.tail → HoldsColl i.node m (i.tail ++ u) →
     IsInline Rattle.yq_flow_scalars.specs.declared.style.Place.TheVariants.Block (parent_indent i.row) 0 m (i.tail ++ u) → TakesPlace limit i.row u (with_content (Inline i.space m i.tail) i.row) u
 row_takes limit i m u h e holds inline =
@@ -147,7 +142,7 @@ row_takes limit i m u h e holds inline =
     let old = inline_is i limit u h e in
     takes_place limit r u r.dashes r.mark (Inline i.space m i.tail) u h
     (dashes_text_alike r.dashes _ _ (mark_alike r.mark _ _ same)) h.dashes
-    (mark_stays r.mark i.space i.tail i.node m u holds.more (sym (alike_separates (Some false) _ _ text)) (subst (λ (x : Content). IsMark r.mark x u) e h.mark))
+    (search (rules, and_parts, mark_kept, holds.more, sym (alike_separates (Some false) _ _ text), subst (λ (x : Content). IsMark r.mark x u) e h.mark))
     (old.0, inline, old.2)
 
 plain_next : (n : ℤ) (space tail : List ℕ) (m : Node) (back : List Row) → is_plain m ≡ false → allows_first (Rattle.yq_cut.specs.Grammar.limit_behind n (Inline space m tail)) back ≡ true

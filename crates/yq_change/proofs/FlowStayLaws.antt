@@ -3,7 +3,7 @@ use Rattle.std.proofs.Common.{◌≡◌, ℕ, zero, suc, ◌+◌, Bool, true, fa
 use Rattle.std.proofs.Math.Seq.{take-append_seam}
 use Rattle.std.proofs.lemmas.Bool.{false≢true}
 use Rattle.std.proofs.lemmas.List.{length-map}
-use Rattle.std.proofs.lemmas.Option.{none-some, same_Some}
+use Rattle.std.proofs.lemmas.Option.{same_Some}
 use Rattle.std.specs.List.{slice_get}
 use Rattle.std.specs.Option.{is_some}
 use Rattle.yq_flow_scalars.specs.Answers.{◌>>=◌}
@@ -23,7 +23,6 @@ use Rattle.yq_documents.specs.Documents.{begins_bare, document_parts, has_begin}
 use Rattle.yq_documents.specs.PartNumbers.{number_from, part_number}
 use Rattle.yq_documents.specs.Reading.{outline_of}
 use Rattle.yq_documents.specs.LinesInRows.{RowLine, document_row, row_line}
-use Rattle.yq_documents.specs.TreeEdits.{change_nth}
 use Rattle.yq_row_lines.specs.Lines.{head_of, lines_of}
 use Rattle.yq_places.specs.FlowNodes.{bare_line, content_flow, find_head, flow_collection, head_line, line_collection}
 use Rattle.yq_places.specs.FlowViews.{LeadsToHead}
@@ -36,11 +35,12 @@ use Rattle.yq_change.specs.Changed.{put_document, put_part}
 use Rattle.yq_change.specs.DocumentRows.{behind_document}
 use Rattle.yq_change.specs.FlowRows.{FlowAt, InlineRow, behind_node, with_node}
 use Rattle.yq_change.specs.Rooms.{row_shape}
-use Rattle.yq_change.proofs.ChangedLaws.{document_put, first_stays}
+use Rattle.yq_change.proofs.ChangedLaws.{document_put, first_stays, nth_changed}
 use Rattle.yq_change.proofs.FlowKeptLaws.{one_other}
 use Rattle.yq_change.proofs.FlowPathLaws.{InCut, row_in_cut}
 use Rattle.yq_change.proofs.FlowRowLaws.{node_holds}
 use Rattle.yq_change.proofs.ShapeLaws.{before_strip, find_strip, group_strip, head_strip, rows_strip, strip_found, strip_outline, strip_pair, compose_strip, shapes_lines, stripped}
+use Rattle.yq_places.proofs.RemovalViewLaws.{slice_seam}
 
 -- ---- among lines
 
@@ -104,15 +104,6 @@ behind_stays true zero q (marked p marker c) = refl
 behind_stays true (suc k) q (marked p marker c) = behind_stays (begins_document marker) k q c
 behind_stays false k q (marked p marker c) = behind_stays (begins_document marker) k q c
 
-nth_changed : (k : ℕ) (p q : Part) (ps : List Part) → slice_get ps k ≡ Some p → slice_get (change_nth k (λ x. q) ps) k ≡ Some q
-nth_changed k p q [] e = absurd (none-some _ e)
-nth_changed zero p q (x ∷ ps) e = refl
-nth_changed (suc k) p q (x ∷ ps) e = nth_changed k p q ps e
-
-nth_behind : (front : List Row) (r : Row) (back : List Row) → slice_get (front ++ (r ∷ back)) (length front) ≡ Some r
-nth_behind [] r back = refl
-nth_behind (x ∷ front) r back = nth_behind front r back
-
 module _ (c : Cut) (k : ℕ) (steps : List Step) (w : CollPieces) (at : FlowAt c k steps w) (gap : List ℕ) (is : Items) where
   abbrev i : InlineRow
   i = at.row
@@ -145,9 +136,6 @@ module _ (c : Cut) (k : ℕ) (steps : List Step) (w : CollPieces) (at : FlowAt c
   same_behind =
       ap (λ (b : Bool). behind_part (number_from b k new) new) (first_stays c k at.part q at.there keeps) ∙ behind_stays (begins_bare c || not (has_begin c)) k q c
 
-  behind_row_is : behind_row (document_row k new + length i.front) new ≡ rows_text i.back (at.part.end ++ behind_document k c)
-  behind_row_is = in_new.behind ∙ (λ j. rows_text i.back (own_end i.back at.part.end j ++ same_behind j))
-
   headed : is_some (head_of (Inline i.space m i.tail)) ≡ is_some (head_of i.row.content)
   headed =
       let holds = node_holds at.rest i.node (behind_node c k at.part i) w gap is at.at.along in
@@ -167,15 +155,12 @@ module _ (c : Cut) (k : ℕ) (steps : List Step) (w : CollPieces) (at : FlowAt c
       let front : take (length i.front) rows ≡ i.front = ap (take (length i.front)) are ∙ take-append_seam i.front (with_content y i.row ∷ i.back) in
       let is : number ≡ length (lines_of (take (length i.front) rows)) + length i.row.dashes = sym at.at.number ∙ ap (λ (rs : List Row). length (lines_of rs) + length i.row.dashes) (sym front) in
       ap (λ (n : ℕ). row_line n rows) is
-      ∙ row_line_number rows (length i.front) (length i.row.dashes) (with_content y i.row) (ap (λ (rs : List Row). slice_get rs (length i.front)) are ∙ nth_behind i.front (with_content y i.row) i.back) (omega arith)
+      ∙ row_line_number rows (length i.front) (length i.row.dashes) (with_content y i.row) (ap (λ (rs : List Row). slice_get rs (length i.front)) are ∙ slice_seam i.front (with_content y i.row) i.back) (omega arith)
 
   -- other steps lead to other collections of the same head
   module _ (stem left : List Step) (init : steps ≡ stem ++ left) (h : LeadsToHead c k stem) where
-    same_part : at.part ≡ h.part
-    same_part = same_Some _ _ (sym at.there ∙ h.there)
-
     leads : (ss : List Step) → head_at (stem ++ ss) (lines_of at.part.rows) ≡ Some (h.number, ss)
-    leads ss = ap (λ (p : Part). head_at (stem ++ ss) (lines_of p.rows)) same_part ∙ h.leads ss
+    leads ss = ap (λ (p : Part). head_at (stem ++ ss) (lines_of p.rows)) (same_Some _ _ (sym at.there ∙ h.there)) ∙ h.leads ss
 
     same_number : h.number ≡ number
     same_number =
@@ -205,4 +190,4 @@ module _ (c : Cut) (k : ℕ) (steps : List Step) (w : CollPieces) (at : FlowAt c
         ∙ (ap (λ (o : Option Part). o >>= λ p. rows_collection (document_row k new) new p.rows (stem ++ ss)) there
         ∙ (ap (λ (o : Option (ℕ × List Step)). o >>= λ x. line_collection (document_row k new) new q.rows x.0 x.1) (leads_behind ss)
         ∙ (ap (λ (o : Option RowLine). o >>= λ s. content_flow ss s.row.content (behind_row (document_row k new + s.before) new)) (line_there q.rows (Inline i.space m i.tail) rows_are)
-        ∙ λ j. coll_along ss m (i.tail ++ behind_row_is j))))
+        ∙ λ j. coll_along ss m (i.tail ++ (in_new.behind ∙ (λ j. rows_text i.back (own_end i.back at.part.end j ++ same_behind j))) j))))

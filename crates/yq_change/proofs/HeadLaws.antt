@@ -2,7 +2,7 @@
 use Rattle.std.proofs.Common.{◌≡◌, ℕ, zero, suc, ◌+◌, ◌<◌, List, [], ◌∷◌, ◌++◌, length, take, Option, Some, None, true, false, refl, sym, ap, ◌∙◌, subst, arith, rules}
 use Rattle.std.proofs.Common.{⊎_elim, append_assoc, replicate}
 use Rattle.std.proofs.lemmas.Bool.{lt-ltb, and_from, cases_Bool}
-use Rattle.yq_block_scalars.specs.Block.{BlockText, Lines, ends_block, is_less_indented, keeps}
+use Rattle.yq_block_scalars.specs.Block.{BlockText, Lines, ends_block, keeps}
 use Rattle.yq_block_scalars.specs.BlockRepair.{is_behind}
 use Rattle.yq_block_scalars.specs.declared.block_lines.TextIndent.{TextIndent}
 use Rattle.yq_flow_scalars.specs.Text.{is_empty, joined, put_byte, lines_of as text_lines}
@@ -12,9 +12,9 @@ use Rattle.yq_lines.specs.Comments.{head_comment, last_comments}
 use Rattle.yq_cut.specs.Exchange.{asked_behind}
 use Rattle.yq_cut.specs.Gap.{AreGapLines, IsGap}
 use Rattle.yq_cut.specs.Grammar.{Limit, unlimited, AreRows, no_rows}
-use Rattle.yq_cut.specs.Rows.{Content, Row, behind_gap, behind_indent, rows_text, Part}
-use Rattle.yq_cut.specs.Seams.{are_seamed, is_seam}
-use Rattle.yq_cut.specs.Removal.{block_of, hold_comment, last_block}
+use Rattle.yq_cut.specs.Rows.{Row, behind_gap, behind_indent, rows_text, Part}
+use Rattle.yq_cut.specs.Seams.{are_seamed}
+use Rattle.yq_cut.specs.Removal.{hold_comment, last_block}
 use Rattle.yq_cut.proofs.AlikeBlocks.{put_first}
 use Rattle.yq_cut.proofs.seams.GapSeams.{gap_lines_of, lines_before}
 use Rattle.yq_cut.proofs.seams.GapFronts.{ends_blank, ends_comment}
@@ -63,19 +63,12 @@ unfolding text_lines
 first zero t = let p = put_first 35 t in record { line = p.line; lines = p.lines; is = p.is }
 first (suc n) t = let p = first n t in record { line = p.line; lines = p.lines; is = ap (put_byte 32) p.is }
 
-less_line : (f : TextIndent) (n : ℕ) (l : List ℕ) → n < f.columns → is_less_indented f (replicate n 32 ++ (35 ∷ l)) ≡ true
-less_line f n l less = search (rules, prefix_none, spaces_front, spaces_drop, lt-ltb, and_from)
-
 hash_less : (f : TextIndent) (n : ℕ) (t : List ℕ) → n < f.columns → is_behind f (text_lines (replicate n 32 ++ (35 ∷ t))) ≡ true
-hash_less f n t less = let p = first n t in ap (is_behind f) p.is ∙ less_line f n p.line less
-
--- what a block scalar asks, by its rows
-seam_was : (c : Content) (b : BlockText) (u : List ℕ) → block_of c ≡ Some b → is_seam c u ≡ true → ends_block (keeps b.chomping) b.indent (text_lines u) ≡ true
-seam_was c b u h1 h2 = search rules
+hash_less f n t less = let p = first n t in ap (is_behind f) p.is ∙ (search (rules, prefix_none, spaces_front, spaces_drop, lt-ltb, and_from, less))
 
 block_was : (front : List Row) (b : BlockText) (u : List ℕ) → last_block front ≡ Some b → are_seamed front u ≡ true → ends_block (keeps b.chomping) b.indent (text_lines u) ≡ true
 block_was [] b u e h = absurd (cc)
-block_was (r ∷ []) b u e h = seam_was r.content b u e h
+block_was (r ∷ []) b u e h = search (rules, e)
 block_was (r ∷ (q ∷ front)) b u e h = block_was (q ∷ front) b u e h
 
 -- the seam before a row with another run

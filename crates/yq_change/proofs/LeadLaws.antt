@@ -1,16 +1,15 @@
 -- The lead that goes with the root of a part in the place of another one.
 use Rattle.std.proofs.Common.{inl, inr, ◌⊎◌, ◌≡◌, List, [], ◌∷◌, Bool, true, false, refl, sym, ap, ◌∙◌, rules}
 use Rattle.std.proofs.lemmas.Bool.{false≢true}
-use Rattle.yq_flow_scalars.specs.Tree.{none, children_of}
+use Rattle.yq_flow_scalars.specs.Tree.{children_of}
 use Rattle.yq_lines.specs.Group.{group}
-use Rattle.yq_lines.specs.Outline.{Mark, Line, value}
-use Rattle.yq_lines.specs.Sound.{is_entry}
+use Rattle.yq_lines.specs.Outline.{Line, value}
 use Rattle.yq_documents.specs.Documents.{lead_of}
 use Rattle.yq_row_lines.specs.Lines.{lines_of}
 use Rattle.yq_documents.specs.Reading.{root_of}
 use Rattle.yq_documents.specs.Ready.{begins_no_node}
 use Rattle.yq_documents.specs.TreeEdits.{lead_by}
-use Rattle.yq_change.specs.Siblings.{IsEntry, HasEntries}
+use Rattle.yq_change.specs.Siblings.{HasEntries}
 use Rattle.yq_change.proofs.AfterLaws.{by_first, none_kept}
 use Rattle.yq_change.proofs.EditedLaws.{root_has_lead}
 use Rattle.yq_change.specs.Rooms.{is_block_root, LeadGoes, SameLeadGoes, BlockLeadGoes, KeptLeadGoes}
@@ -22,16 +21,10 @@ block_lead_goes p q block has =
 pub kept_lead_goes : KeptLeadGoes
 kept_lead_goes p q same empty = same ∙ sym (none_kept (is_block_root p) (children_of (root_of q)) (lead_of p) empty)
 
-entry_mark : (m : Mark) → is_entry m ≡ true → IsEntry m
-entry_mark m h1 = search (rules, false≢true)
-
 -- a root that is block has items or entries, or no lines
 pub block_entries : (ls : List Line) → begins_no_node ls ≡ true → (HasEntries (group ls)) ⊎ (ls ≡ [])
 block_entries [] h = inr refl
-block_entries (l ∷ ls) h = inl (entry_mark l.mark h)
-
-no_lines : (ls : List Line) → ls ≡ [] → children_of (value (group ls)) ≡ none
-no_lines ls h = ap (λ x. children_of (value (group x))) h
+block_entries (l ∷ ls) h = inl (search (rules, false≢true))
 
 pub same_lead_goes : SameLeadGoes
 same_lead_goes p q same block = go (is_block_root p) refl
@@ -40,5 +33,5 @@ same_lead_goes p q same block = go (is_block_root p) refl
     go false e = kept_lead_goes p q same (λ h. absurd (false≢true (sym e ∙ h)))
     go true e = elim (block_entries (lines_of q.rows) (block ∙ e)) [
       | inl has ↦ block_lead_goes p q e has
-      | inr none_left ↦ kept_lead_goes p q same (λ h. no_lines (lines_of q.rows) none_left)
+      | inr none_left ↦ kept_lead_goes p q same (λ h. (ap (λ x. children_of (value (group x))) none_left))
     ]

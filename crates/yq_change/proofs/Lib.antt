@@ -10,7 +10,6 @@ pub mod SoundRootLaws
 pub mod SoundRootLess
 pub mod EditedLaws
 pub mod BlockChangeLaws
-pub mod Examples
 pub mod PlacedLaws
 pub mod AfterLaws
 pub mod FlowChangeLaws
@@ -41,7 +40,6 @@ pub mod CoreLaws
 pub mod ValueContentLaws
 pub mod InlineReplaceLaws
 pub mod MarkFirst
-pub mod RowExamples
 pub mod LeadLaws
 pub mod TextPieceLaws
 pub mod ShapeLaws

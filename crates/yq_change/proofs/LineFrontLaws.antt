@@ -1,7 +1,7 @@
 -- A text cut before the end of a line: no CR stands before the break.
-use Rattle.std.proofs.Common.{inl, inr, ◌⊎◌, ◌≡◌, ℕ, zero, suc, ◌+◌, ℤ, true, false, not, List, [], ◌∷◌, ◌++◌, replicate, refl, sym, ap, ◌∙◌, append_assoc, append-nil, ⊎_elim, rules}
+use Rattle.std.proofs.Common.{inl, inr, ◌⊎◌, ◌≡◌, ℕ, zero, suc, ◌+◌, ℤ, true, false, List, [], ◌∷◌, ◌++◌, replicate, refl, sym, ap, ◌∙◌, append_assoc, append-nil, ⊎_elim, rules}
 use Rattle.std.proofs.lemmas.Bool.{false≢true, or_right, and_from, and_parts, cases_Bool}
-use Rattle.yq_block_scalars.specs.Block.{digit_text, sign_text, IsDigit, IsIndicators}
+use Rattle.yq_block_scalars.specs.Block.{IsIndicators}
 use Rattle.yq_flow_scalars.specs.Characters.{pairs_returns}
 use Rattle.yq_flow_scalars.specs.Text.{front, is_white, is_feed, is_return, is_empty, no_white, unless, NoneIn}
 use Rattle.yq_block_scalars.specs.declared.block_header.BlockStyle.{BlockStyle}
@@ -55,19 +55,13 @@ last_byte p q = ends_more p (q ∷ []) refl
 
 -- ---- a node
 
-name_byte : (b : ℕ) → unless in_name (b ∷ []) ≡ false → is_return b ≡ false
-name_byte b h = search (rules, cases_Bool, or_right, false≢true)
-
 clean_name : (n rest : List ℕ) → NoneIn (unless in_name) n rest → ends_return n ≡ false
 clean_name [] rest h = refl
-clean_name (b ∷ n) rest h = clean_byte b n (name_byte b h.0) (clean_name n rest h.1)
-
-white_byte : (b : ℕ) → not (is_white b) ≡ false → is_return b ≡ false
-white_byte b h = search (rules, cases_Bool, at_byte, false≢true)
+clean_name (b ∷ n) rest h = clean_byte b n (search (rules, cases_Bool, or_right, false≢true, h.0)) (clean_name n rest h.1)
 
 clean_gap : (g rest : List ℕ) → NoneIn no_white g rest → ends_return g ≡ false
 clean_gap [] rest h = refl
-clean_gap (b ∷ g) rest h = clean_byte b g (white_byte b h.0) (clean_gap g rest h.1)
+clean_gap (b ∷ g) rest h = clean_byte b g (search (rules, cases_Bool, at_byte, false≢true, h.0)) (clean_gap g rest h.1)
 
 -- items end in their closing bracket
 pub items_close : (k : ℕ) (is : Items) → (front : List ℕ) × (items_text k is [] ≡ front ++ k ∷ [])
@@ -81,9 +75,6 @@ items_close k (item key n s is) =
           ∙ (ap (key_text key) (node_append n (sep_text s x.0) (k ∷ [])) ∙ key_append key (node_text n (sep_text s x.0)) (k ∷ []))),
     )
 
-no_close : (k : ℕ) → is_close k ≡ true → is_return k ≡ false
-no_close k h = at_byte is_close k 13 h refl
-
 clean_node : (spaces : Rattle.std.proofs.Common.Option ℕ) (node : Node) (d : ℕ) (rest : List ℕ) → IsNode false spaces d node rest → ends_return (plain_text node) ≡ false → ends_return (node_text node []) ≡ false
 unfolding node_text IsNode
 clean_node spaces empty d rest h e = refl
@@ -92,7 +83,7 @@ clean_node spaces (scalar p) d rest h e = ap ends_return (append-nil p) ∙ e
 clean_node spaces (coll k g is) d rest h e =
     let x = items_close k is in
     let whole : open_of k ∷ (g ++ items_text k is []) ≡ (open_of k ∷ (g ++ x.0)) ++ k ∷ [] = ap (λ t. open_of k ∷ (g ++ t)) x.1 ∙ ap (λ t. open_of k ∷ t) (sym (append_assoc g x.0 (k ∷ []))) in
-    ap ends_return whole ∙ (last_byte (open_of k ∷ (g ++ x.0)) k ∙ no_close k h.0)
+    ap ends_return whole ∙ (last_byte (open_of k ∷ (g ++ x.0)) k ∙ (at_byte is_close k 13 h.0 refl))
 clean_node spaces (anchored n g node) d rest h e =
     clean_byte 38 (n ++ (g ++ node_text node [])) refl
     (clean_joined n (g ++ node_text node []) (clean_name n (g ++ node_text node rest) h.0.inside) (clean_joined g (node_text node []) (gap h.1) (clean_node spaces node d rest h.4 e)))
@@ -119,14 +110,8 @@ plain_clean n space node tail rest h pairs feed = go (content_joined n (Inline s
     go (inl e) = absurd (false≢true (sym e ∙ feed))
     go (inr e) = e
 
-digit_clean : (d : Rattle.std.proofs.Common.Option ℕ) → IsDigit d → ends_return (digit_text d) ≡ false
-digit_clean d h1 = search (rules, cases_Bool)
-
-sign_clean : (c : Chomping) → ends_return (sign_text c) ≡ false
-sign_clean c = search rules
-
 indicators_clean : (d : Rattle.std.proofs.Common.Option ℕ) (c : Chomping) (p : List ℕ) → IsIndicators d c p → ends_return p ≡ false
-indicators_clean d c p h = search (rules, ends_return, clean_joined, digit_clean, sign_clean)
+indicators_clean d c p h = search (rules, ends_return, clean_joined, cases_Bool)
 
 style_clean : (style : BlockStyle) → is_return (Rattle.yq_block_scalars.specs.Block.mark_of style) ≡ false
 style_clean styles.Literal = refl

@@ -15,7 +15,7 @@ use Rattle.yq_lines.proofs.Decides.{flatten-group}
 use Rattle.yq_cut.specs.Rows.{Row, Part}
 use Rattle.yq_row_lines.specs.Lines.{row_lines, lines_of}
 use Rattle.yq_documents.specs.Reading.{outline_of}
-use Rattle.yq_places.specs.RemovalPlaces.{OwnRows, row_count, in_three}
+use Rattle.yq_places.specs.RemovalPlaces.{OwnRows, row_count}
 use Rattle.yq_documents.specs.LinesInRows.{RowLine, row_line}
 use Rattle.yq_row_lines.proofs.RowLaws.{lines_count}
 use Rattle.yq_places.proofs.UnderCounts.{count_under}
@@ -28,7 +28,7 @@ use Rattle.yq_change.proofs.CollectionLaws.{relabelled, some_at}
 use Rattle.yq_change.proofs.NodeLineLaws.{lines_even}
 use Rattle.yq_change.proofs.PartLaws.{document_known}
 use Rattle.yq_change.proofs.PathLaws.{path_is_entry}
-use Rattle.yq_change.proofs.CommentPutLaws.{around}
+use Rattle.yq_change.proofs.PlacedLaws.{around}
 use Rattle.yq_change.proofs.RowsLaws.{entry_rows}
 use Rattle.yq_change.proofs.SiblingLaws.{even_right}
 
@@ -81,10 +81,6 @@ lines_counted p n steps s h f even at k number =
     (λ i. lines_end (sym size i) (lines_are p n steps s h f even at i)) ∙ end_at b f.line (flatten f.under ++ lines_behind h f) in
     omega (arith, size, count, end, begins_none (level f.line) (lines_behind h f) next)
 
--- rows in three parts
-three_are : (front gone back rs : List Row) (i n : ℕ) → rs ≡ front ++ (gone ++ back) → length front ≡ i → length gone ≡ n → in_three i n rs ≡ record { front = front; own = gone; back = back }
-three_are front gone back rs i n is a b = search (rules, take-append_seam, drop-append_seam)
-
 pub own_rows_stand : OwnRowsStand
 own_rows_stand t c k p steps s x old is =
     let ls : List Line = lines_of p.rows in
@@ -101,5 +97,5 @@ own_rows_stand t c k p steps s x old is =
     let lines : lines_end n ls - n ≡ length (lines_of r.gone) = lines_counted p m steps s w.h w.f known.even w.entry n w.number ∙ sym r.has.count in
     let behind : drop q.before p.rows ≡ r.gone ++ r.back = (λ j. drop (sym r.number j) (r.has.rows_are j)) ∙ drop-append_seam r.front (r.gone ++ r.back) in
     let count : row_count (lines_end n ls - n) (drop q.before p.rows) ≡ length r.gone = (λ j. row_count (lines j) (behind j)) ∙ count_rows r.gone r.back in
-    let same : record { front = r.front; own = r.gone; back = r.back } ≡ x = search (rules, three_are, n, q, r, count, guard, ls) in
+    let same : record { front = r.front; own = r.gone; back = r.back } ≡ x = search (rules, take-append_seam, drop-append_seam, n, q, r, count, guard, ls) in
     record { h = w.h; f = w.f; entry = w.entry; rows = subst (λ (y : OwnRows). HasWholeRows p w.h w.f y.front y.own y.back) same r.has }

@@ -1,5 +1,5 @@
 -- The row to which a path leads.
-use Rattle.std.proofs.Common.{◌≡◌, ℕ, suc, ◌+◌, List, [], ◌∷◌, ◌++◌, length, Option, Some, None, option_map, option_and_then, refl, sym, ap, ◌∙◌, subst, arith, append_assoc, length-append, rules}
+use Rattle.std.proofs.Common.{◌≡◌, ℕ, suc, ◌+◌, List, [], ◌∷◌, ◌++◌, length, Option, Some, None, option_map, option_and_then, refl, sym, ap, ◌∙◌, subst, arith, length-append, rules}
 use Rattle.std.proofs.lemmas.Option.{none-some, same_Some}
 use mathlib.Core.List.{cons≢nil, head-eq_of_cons-eq, tail-eq_of_cons-eq}
 use Rattle.yq_flow_scalars.specs.Answers.{◌>>=◌}
@@ -8,10 +8,10 @@ use Rattle.yq_flow_scalars.specs.Tree.{Node}
 use Rattle.yq_cut.specs.Rows.{Row}
 use Rattle.yq_lines.specs.Group.{level_or}
 use Rattle.yq_row_lines.specs.Lines.{lines_of}
-use Rattle.yq_lines.specs.Outline.{Mark, Bare, Key, Dash, Line, Outline, flatten, IsEven}
+use Rattle.yq_lines.specs.Outline.{Mark, Bare, Key, Dash, Outline, IsEven}
 use Rattle.yq_lines.specs.Outline.{end}
 use Rattle.yq_lines.specs.Outline.{row}
-use Rattle.yq_lines.specs.Places.{Context, here, below, beside, compose, lines_before, FoundLine, find_row, inside, bare_or, in_head, find}
+use Rattle.yq_lines.specs.Places.{here, lines_before, FoundLine, find_row, inside, bare_or, in_head, find}
 use Rattle.yq_documents.specs.Reading.{outline_of}
 use Rattle.yq_lines.specs.Ends.{found_line, line_of}
 use Rattle.yq_documents.specs.LinesInRows.{RowLine, row_line}
@@ -25,16 +25,12 @@ use Rattle.yq_change.proofs.HeadLaws.{head_commented}
 use Rattle.yq_change.proofs.LineLaws.{row_line_splits}
 use Rattle.yq_change.proofs.PartLaws.{document_known}
 use Rattle.yq_change.proofs.CommentPutLaws.{line_commented}
+use Rattle.yq_places.proofs.FoundLaws.{before_inside}
 
 -- the line to which steps lead; the root has none
 abbrev found_at : List Step → Outline → Option (FoundLine × List Step)
 found_at [] o = None
 found_at (s ∷ ss) o = find s ss o
-
-before_inside : (p q : Context) (l : Line) (a : Outline) → lines_before (compose p (below l q a)) ≡ lines_before p ++ (l ∷ lines_before q)
-before_inside here q l a = refl
-before_inside (below k p b) q l a = ap (λ (x : List Line). k ∷ x) (before_inside p q l a)
-before_inside (beside k v p) q l a = ap (λ (x : List Line). k ∷ x) (ap (λ (x : List Line). flatten v ++ x) (before_inside p q l a) ∙ sym (append_assoc (flatten v) (lines_before p) (l ∷ lines_before q)))
 
 -- a step into what is under a line that was found
 step_found : (t v : Step) (vs : List Step) (o : Outline) (f g : FoundLine) (rest : List Step) → HasEntries o → find_row t o ≡ Some f → f.line.head ≡ None → find v vs f.under ≡ Some (g, rest) →

@@ -55,7 +55,7 @@ whole_lines o (s ∷ ss) h e = found (lines_found s ss o h e)
     found : Under s ss o h → flatten o ≡ put_lines h (flatten h.lines)
     found w = subst (λ (x : NodeLines). flatten o ≡ put_lines x (flatten x.lines)) w.place_is (whole_line o s ss [] w.found w.is ∙ sym (put_under w.found (flatten w.found.under)))
 
-around : (a x e y z : List Line) → a ++ ((x ++ (e ++ y)) ++ z) ≡ (a ++ x) ++ (e ++ (y ++ z))
+pub around : (a x e y z : List Line) → a ++ ((x ++ (e ++ y)) ++ z) ≡ (a ++ x) ++ (e ++ (y ++ z))
 around a x e y z = ap (λ v. a ++ v) (append_assoc x (e ++ y) z ∙ ap (λ v. x ++ v) (append_assoc e y z)) ∙ sym (append_assoc a x (e ++ (y ++ z)))
 
 pub entry_placed : EntryPlaced
@@ -125,3 +125,6 @@ path_entry n s (t ∷ ts) (row k v a) e = go (λ m u f. path_entry m t ts u f) k
 
 pub found_is_entry : FoundIsEntry
 found_is_entry n p s ss f even found = entry_out f.line.mark (at Ending (find s ss (outline_of p)) (f, []) found (path_entry n s ss (outline_of p) even))
+
+-- where lines at a path stand
+pub ruleset places = (same_parts, rows_in_parts, line_placed, entry_placed, found_is_entry)

@@ -12,10 +12,9 @@ use Rattle.yq_flow_scalars.specs.Anchors.{names_of}
 use Rattle.yq_lines.specs.Counts.{count}
 use Rattle.yq_lines.specs.Group.{group, level_or}
 use Rattle.yq_lines.specs.Laws.{with_lines}
-use Rattle.yq_lines.specs.Outline.{Mark, Line, level, Outline, end, row, flatten, IsEven, head_or, label, collection, children, value}
+use Rattle.yq_lines.specs.Outline.{Line, level, Outline, end, row, flatten, IsEven, head_or, label, children, value}
 use Rattle.yq_lines.specs.Places.{Context, here, below, beside, plug, lines_before, lines_after, FoundLine, next_to, find_row, find, content}
-use Rattle.yq_lines.specs.Sound.{is_entry}
-use Rattle.yq_lines.proofs.Finding.{IsFoundIn, path_node, path_whole, row_child}
+use Rattle.yq_lines.proofs.Finding.{IsFoundIn, children-collection, path_node, path_whole, row_child}
 use Rattle.yq_lines.proofs.PlaceLaws.{at}
 use Rattle.yq_lines.proofs.ChildLaws.{anchored_children}
 use Rattle.yq_cut.specs.Grammar.{no_rows}
@@ -72,9 +71,6 @@ node_behind (t ∷ ts) s n = go (child_at t (children_of n)) (λ m. node_behind 
     go (Some m) h = h m
 
 -- ---- the collection at a path
-
-children-collection : (m : Mark) (cs : Children) → IsEntry m → children_of (collection m cs) ≡ cs
-children-collection m cs h1 = search rules
 
 pub children-value : (o : Outline) → HasEntries o → children_of (value o) ≡ children o
 children-value end h = absurd h
@@ -142,12 +138,9 @@ pub first_group : (ls : List Line) → FirstEntry ls → HasEntries (group ls)
 first_group [] h = h
 first_group (l ∷ ls) h = h
 
-entry_is : (m : Mark) → IsEntry m → is_entry m ≡ true
-entry_is m h1 = search rules
-
 pub group_begins : (ls : List Line) → HasEntries (group ls) → begins_no_node ls ≡ true
 group_begins [] h = refl
-group_begins (l ∷ ls) h = entry_is l.mark h
+group_begins (l ∷ ls) h = search rules
 
 first_flatten : (o : Outline) (ls : List Line) → HasEntries o → FirstEntry (flatten o ++ ls)
 first_flatten end ls h = absurd h

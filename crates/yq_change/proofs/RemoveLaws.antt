@@ -39,14 +39,14 @@ use Rattle.yq_change.proofs.AnchorLaws.{both_anew, collection_anew, fit_parts, f
 use Rattle.yq_change.proofs.CollectionLaws.{Splits, some_at}
 use Rattle.yq_change.proofs.NodeLineLaws.{lines_even}
 use Rattle.yq_change.proofs.BlockChangeLaws.{entry_removed}
-use Rattle.yq_change.proofs.PlacedLaws.{entry_placed, same_parts}
+use Rattle.yq_change.proofs.PlacedLaws.{around, entry_placed, same_parts}
 use Rattle.yq_change.proofs.SiblingLaws.{entries, even_right, flatten-append, next, rest_entries}
 use Rattle.yq_change.specs.LineRows.{lines_behind, Begins, AreClosed}
 use Rattle.yq_change.specs.DocumentRows.{IsDocumentPart, behind_document}
 use Rattle.yq_documents.specs.PartNumbers.{part_number}
 use Rattle.yq_change.specs.Removes.{left_gap, without}
 use Rattle.yq_change.proofs.ApartLaws.{entries_apart, even_closed, block_some}
-use Rattle.yq_change.proofs.AppendLaws.{rows_with}
+use Rattle.yq_change.proofs.AppendLaws.{rows_behind_some, rows_with}
 use Rattle.yq_change.proofs.ColumnLaws.{closed_stands_less, next_stays}
 use Rattle.yq_change.proofs.GapLaws.{head_left, none_before}
 use Rattle.yq_change.proofs.PartLaws.{part_numbered, rows_put, document_known, is_put, take_front, drop_front, drop_gone}
@@ -103,10 +103,6 @@ first_same : (gone back : List Row) (last : List ℕ) → no_rows gone ≡ false
 first_same [] back last n = absurd (false≢true (sym n))
 first_same (r ∷ gone) back last n = refl
 
-some_rows : (gone back : List Row) → no_rows gone ≡ false → no_rows (gone ++ back) ≡ false
-some_rows [] back n = absurd (false≢true (sym n))
-some_rows (r ∷ gone) back n = refl
-
 next_more : (limit : Limit) (gone back more : List Row) (last rest : List ℕ) (l : Line) (ls : List Line) → AreRows limit (gone ++ more) last rest → lines_of gone ≡ l ∷ ls →
     Begins (level l) (lines_of back) → allows_first limit back ≡ true
 next_more limit [] back more last rest l ls h e b = absurd (cc)
@@ -130,7 +126,7 @@ removed_cut t c k p front gone back old cut rows some next less text =
     let lower : StandsLess (last_block (take i p.rows)) (next_column (drop j p.rows)) =
     subst (λ (a : List Row). StandsLess (last_block a) (next_column (drop j p.rows))) before (subst (λ (b : List Row). StandsLess (last_block front) (next_column b)) behind less) in
     let fits : RepairFits n i j ks (last_run ls) c = record {
-      some = ap (λ (x : Part). no_rows (drop i x.rows)) is ∙ (ap no_rows here ∙ some_rows gone back some);
+      some = ap (λ (x : Part). no_rows (drop i x.rows)) is ∙ (ap no_rows here ∙ rows_behind_some gone back some);
       lines = ap (λ (x : Part). text_lines (first_gap (drop i x.rows) x.end)) is ∙ (ap (λ (rs : List Row). text_lines (first_gap rs p.end)) here ∙ (ap text_lines (first_same gone back p.end some) ∙ run_parts ls));
       next = subst (λ (x : Part). allows_first (asked_behind unlimited (take i x.rows)) (drop j x.rows) ≡ true) (sym is) asked;
       less = subst (λ (x : Part). StandsLess (last_block (take i x.rows)) (next_column (drop j x.rows))) (sym is) lower;
@@ -164,7 +160,7 @@ block_gone t c k p steps s h f front gone back old at left has spared text =
     entry_placed (level_or 0 o) p steps h s f (lines_of front) (lines_of gone) (lines_of back) known.even at (record { parts_are = old_lines; before_are = has.number; size_is = has.count }) in
     let whole : lines_of front ++ (lines_of gone ++ lines_of back) ≡ b ++ (e ++ lines_behind h f) =
     sym (place.1 (lines_of gone)) ∙ (ap (λ (x : List Line). put_lines h (with_lines f x)) place.0
-    ∙ Rattle.yq_change.proofs.CommentPutLaws.around (lines_before h.place) (lines_before f.place) e (flatten f.after ++ lines_after f.place) (lines_after h.place)) in
+    ∙ around (lines_before h.place) (lines_before f.place) e (flatten f.after ++ lines_after f.place) (lines_after h.place)) in
     let parts = same_parts (lines_of front) (lines_of gone) (lines_of back) b e (lines_behind h f) whole (has.number ∙ sym (length-append (lines_before h.place) (lines_before f.place))) has.count in
     let some : no_rows gone ≡ false = rows_with gone [] e place.0 (λ none. cc) in
     let part : AreRows unlimited (front ++ (gone ++ back)) p.end rest =
@@ -188,7 +184,7 @@ block_gone t c k p steps s h f front gone back old at left has spared text =
     let x : List ℕ = joined (last_run ls) ++ behind_first (gone ++ back) p.end rest in
     let kept : AreGapLines (before_run ls) x =
     gap_front (first_gap (gone ++ back) p.end) (behind_first (gone ++ back) p.end rest) (before_run ls) (last_run ls) (first_is asked (gone ++ back) p.end rest own) (ap text_lines (first_same gone back p.end some) ∙ run_parts ls) in
-    let x_some : is_empty x ≡ false = some_behind (joined (last_run ls)) (behind_first (gone ++ back) p.end rest) (behind_some asked (gone ++ back) p.end rest (some_rows gone back some) own) in
+    let x_some : is_empty x ≡ false = some_behind (joined (last_run ls)) (behind_first (gone ++ back) p.end rest) (behind_some asked (gone ++ back) p.end rest (rows_behind_some gone back some) own) in
     let head : no_rows back ≡ false → head_comment gap ≡ head_comment (first_gap back p.end) =
     λ n. head_left (last_block front) (next_column back) (before_run ls) x (first_gap back p.end) (behind_first back p.end rest) kept x_some (none_before ls)
     (first_is limit back p.end rest further) (behind_some limit back p.end rest n further) in

@@ -25,17 +25,12 @@ use Rattle.yq_change.specs.DocumentRows.{RowsFit, behind_document}
 use Rattle.yq_change.specs.Replaces.{DocumentReplaced, NodeRowsReplaced}
 use Rattle.yq_change.specs.Siblings.{IsEntry, HasEntries}
 use Rattle.yq_change.proofs.AnchorLaws.{fit_parts, fit_from}
-use Rattle.yq_change.proofs.AppendLaws.{around, rows_with}
+use Rattle.yq_change.proofs.AppendLaws.{around, rows_behind_some, rows_with}
 use Rattle.yq_change.proofs.BlockChangeLaws.{node_replaced}
 use Rattle.yq_change.proofs.PartLaws.{document_known, document_spliced, is_put, part_rows}
 use Rattle.yq_change.proofs.PlacedLaws.{found_is_entry, line_placed, rows_in_parts}
 use Rattle.yq_change.proofs.RemoveLaws.{entry_short}
 use Rattle.yq_change.proofs.SiblingLaws.{entry_in, entry_out}
-
--- rows with some among them
-pub rows_behind_some : (a b : List Row) → no_rows a ≡ false → no_rows (a ++ b) ≡ false
-rows_behind_some [] b n = absurd (false≢true (sym n))
-rows_behind_some (r ∷ a) b n = refl
 
 pub rows_before_some : (a b : List Row) → no_rows b ≡ false → no_rows (a ++ b) ≡ false
 rows_before_some [] b n = n

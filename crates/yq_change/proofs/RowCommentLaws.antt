@@ -1,6 +1,5 @@
 -- One row in the place of another one, and line comments that stand in a row's content.
-use Rattle.std.proofs.Common.{◌≡◌, ℕ, ◌+◌, List, [], ◌∷◌, ◌++◌, length, Option, Some, false, refl, sym, ap, ◌∙◌, subst, length-append, rules}
-use Rattle.yq_block_scalars.specs.Block.{BlockText}
+use Rattle.std.proofs.Common.{◌≡◌, ℕ, ◌+◌, List, [], ◌∷◌, ◌++◌, length, Some, false, refl, sym, ap, ◌∙◌, subst, length-append, rules}
 use Rattle.yq_lines.specs.Comments.{head_comment, line_comment}
 use Rattle.yq_lines.specs.Laws.{with_lines}
 use Rattle.yq_lines.specs.Outline.{Line, level, flatten, label}
@@ -8,12 +7,11 @@ use Rattle.yq_nodes.specs.Alike.{Alike}
 use Rattle.yq_cut.specs.Exchange.{asked_behind, with_content}
 use Rattle.yq_cut.specs.Gap.{IsGap}
 use Rattle.yq_cut.specs.Grammar.{unlimited, AreRows, IsRow, no_rows}
-use Rattle.yq_cut.specs.Rows as rows
-use Rattle.yq_cut.specs.Rows.{Content, Block, Row, mark_column, print_row, rows_text, Part}
+use Rattle.yq_cut.specs.Rows.{Content, Row, mark_column, print_row, rows_text, Part}
 use Rattle.yq_cut.specs.Splices.{behind_first, first_gap}
 use Rattle.yq_cut.proofs.seams.SeamLaws.{rows_drop}
 use Rattle.yq_cut.proofs.splices.SpliceTexts.{first_is, first_text, own_gap}
-use Rattle.yq_documents.specs.Documents.{HaveFitKeys, HasShortRoot, is_long_plain, lead_of}
+use Rattle.yq_documents.specs.Documents.{HaveFitKeys, HasShortRoot, lead_of}
 use Rattle.yq_row_lines.specs.Lines.{mark_line, tail_of, lines_of}
 use Rattle.yq_documents.specs.TreeEdits.{with_line_comment}
 use Rattle.yq_change.specs.Appends.{inserted}
@@ -88,10 +86,6 @@ content_commented t c k p steps s h f front back r new old at takes alike number
       label_is = ap (λ (y : Line). with_line_comment (line_comment (tail_of new)) (label y)) one.is;
     }) (λ y. refl) lines)
 
--- a block scalar is no plain scalar
-block_short : (mark : rows.Mark) (space : List ℕ) (anchor : Option rows.Anchor) (block : BlockText) → is_long_plain mark (Block space anchor block) ≡ false
-block_short mark space anchor block = search rules
-
 pub block_commented : BlockCommented
 block_commented t c k p steps s h f front back r space anchor block tail old at is takes number text =
     let new : Content = with_header_tail tail space anchor block in
@@ -99,5 +93,5 @@ block_commented t c k p steps s h f front back r space anchor block tail old at 
       head_is = ap Rattle.yq_row_lines.specs.Lines.head_of (sym is);
       anchor_is = ap Rattle.yq_row_lines.specs.Lines.content_anchor (sym is);
       keys = tt;
-      short = block_short r.mark space anchor (record block { tail = tail });
+      short = search rules;
     }) number text

@@ -29,7 +29,7 @@ use Rattle.yq_change.specs.Appends.{inserted}
 use Rattle.yq_change.specs.Changed.{KeepsRows, put_document, put_part}
 use Rattle.yq_change.specs.Rooms.{RowShape, row_shape}
 use Rattle.yq_change.specs.RowStays.{EntriesStay, ExchangesStay, HeadNodes, RowLinesStay, RowsBehindStay, StandsStill, StaysFrom}
-use Rattle.yq_change.proofs.ChangedLaws.{document_put, first_stays}
+use Rattle.yq_change.proofs.ChangedLaws.{document_put, first_stays, nth_changed}
 use Rattle.yq_change.proofs.FlowKeptLaws.{one_other}
 use Rattle.yq_change.proofs.ShapeLaws.{line_by_shape}
 use Rattle.yq_change.proofs.StandingMarks.{even_there, under_it}
@@ -127,11 +127,6 @@ behind_put : (i : ℕ) (q : Part) (c : Cut) → behind_part i (put_part i q c) �
 behind_put i q (last p) = refl
 behind_put zero q (marked p marker c) = refl
 behind_put (suc i) q (marked p marker c) = behind_put i q c
-
-nth_changed : (k : ℕ) (p q : Part) (ps : List Part) → slice_get ps k ≡ Some p → slice_get (change_nth k (λ x. q) ps) k ≡ Some q
-nth_changed k p q [] e = absurd (none-some _ e)
-nth_changed zero p q (x ∷ ps) e = refl
-nth_changed (suc k) p q (x ∷ ps) e = nth_changed k p q ps e
 
 nth_other : (k m : ℕ) (q : Part) (ps : List Part) → k < m → slice_get (change_nth k (λ x. q) ps) m ≡ slice_get ps m
 nth_other k m q [] less = refl

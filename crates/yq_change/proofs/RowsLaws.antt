@@ -7,13 +7,12 @@ use Rattle.yq_documents.specs.Reading.{outline_of}
 use Rattle.yq_lines.proofs.Decides.{flatten-group}
 use Rattle.yq_places.proofs.UnderExchange.{lines_append}
 use Rattle.yq_change.proofs.CollectionLaws.{relabelled}
-use Rattle.yq_change.proofs.PlacedLaws.{same_parts}
+use Rattle.yq_change.proofs.PlacedLaws.{around, same_parts}
 use Rattle.yq_change.specs.LineRows.{lines_behind}
 use Rattle.yq_change.specs.EntryRows.{EntryRows}
 use Rattle.yq_change.proofs.ApartLaws.{entries_apart, row_begins}
 use Rattle.yq_change.proofs.ColumnLaws.{apart_later}
 use Rattle.yq_change.proofs.LineLaws.{row_line_splits}
-use Rattle.yq_change.proofs.CommentPutLaws.{around}
 
 pub entry_rows : EntryRows
 entry_rows p n steps s h f x even at is first =

@@ -2,7 +2,7 @@
 use Rattle.std.proofs.Common.{◌≡◌, ℕ, ◌∷◌, ◌++◌, Option, refl, sym, ap, ◌∙◌, append_assoc, rules}
 use Rattle.yq_flow_scalars.specs.Paths.{within, append_children}
 use Rattle.yq_flow_scalars.specs.Tree.{Children, child}
-use Rattle.yq_lines.specs.Outline.{Mark, Line, level, Outline, end, row, flatten, IsWhole, IsEven, label, shaped, children, value}
+use Rattle.yq_lines.specs.Outline.{Mark, Line, level, Outline, end, row, flatten, IsWhole, IsEven, label, children, value}
 use Rattle.yq_lines.specs.Places.{content}
 use Rattle.yq_lines.proofs.Allowing as allowing
 use Rattle.yq_lines.proofs.Allowing.{IsCollection}
@@ -60,12 +60,8 @@ pub rest_entries : (n : ℕ) (a b : Outline) → IsCollection (append_outline a 
 rest_entries n end b c e = c
 rest_entries n (row l u a) b c e = rest_entries n a b (next n l (append_outline a b) c e.0 e.4) e.4
 
--- two collections at one level are of one kind
-pub block_shape : (n : ℕ) (o p : Outline) (cs : Children) → HasEntries o → HasEntries p → IsEven n o → IsEven n p → shaped o cs ≡ shaped p cs
-block_shape n o p cs h1 h2 h3 h4 = search (rules, same_collection, same_rank)
-
 pub block_value : (n : ℕ) (o p : Outline) (g : Children → Children) → HasEntries o → HasEntries p → IsEven n o → IsEven n p → children p ≡ g (children o) → value p ≡ within g (value o)
-block_value n o p g b c d e kids = search (rules, block_shape, within-shaped, entries)
+block_value n o p g b c d e kids = search (rules, same_collection, same_rank, within-shaped, entries)
 
 -- items or entries that give way keep the others even
 pub even_replaced : (n : ℕ) (a b c d : Outline) → IsEven n (append_outline a (append_outline b c)) → IsEven n d → HasEntries (append_outline a (append_outline b c)) →

@@ -29,9 +29,6 @@ child_unique s (child l n cs) k e h = go (is_here s l) e (λ d. child_unique (fu
     go true e ih = subst HasUniqueKeys (same_Some _ _ e) h.0
     go false e ih = ih e
 
-each_of : (n : Node) → HasUniqueKeys n → EachHasUniqueKeys (children_of n)
-each_of n h1 = search rules
-
 pub unique_at : (steps : List Step) (n old : Node) → node_at steps n ≡ Some old → HasUniqueKeys n → HasUniqueKeys old
 unique_at [] n old e h = subst HasUniqueKeys (same_Some _ _ e) h
 unique_at (s ∷ ss) n old e h = go (child_at s (children_of n)) refl e (λ k d u. unique_at ss k old d u)
@@ -39,7 +36,7 @@ unique_at (s ∷ ss) n old e h = go (child_at s (children_of n)) refl e (λ k d 
     go : (r : Option Node) → child_at s (children_of n) ≡ r → option_and_then (node_at ss) r ≡ Some old → ((k : Node) → node_at ss k ≡ Some old → HasUniqueKeys k → HasUniqueKeys old) →
         HasUniqueKeys old
     go None is e ih = absurd (none-some _ e)
-    go (Some k) is e ih = ih k e (child_unique s (children_of n) k is (each_of n h))
+    go (Some k) is e ih = ih k e (child_unique s (children_of n) k is (search rules))
 
 child_depth : (s : Step) (cs : Children) (k : Node) → child_at s cs ≡ Some k → depth k ≤ deepest cs
 child_depth s none k e = absurd (none-some _ e)

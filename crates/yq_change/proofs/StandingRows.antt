@@ -1,5 +1,5 @@
 -- The rows of an item or entry that are found are those of the line to which steps lead, with the lines under it.
-use Rattle.std.proofs.Common.{◌≡◌, ◌≤◌, true, ℕ, zero, suc, ◌+◌, List, [], ◌∷◌, ◌++◌, take, drop, length, map, Option, Some, option_map, option_and_then, refl, sym, ap, ◌∙◌, subst, arith, length-append, rules}
+use Rattle.std.proofs.Common.{◌≡◌, ◌≤◌, true, ℕ, zero, suc, ◌+◌, List, [], ◌∷◌, ◌++◌, take, drop, length, map, Option, Some, option_map, refl, sym, ap, ◌∙◌, subst, arith, length-append, rules}
 use Rattle.std.proofs.lemmas.List.{take-append-drop}
 use Rattle.std.proofs.lemmas.Option.{none-some, same_Some}
 use Rattle.std.specs.List.{slice_get}
@@ -8,7 +8,7 @@ use Rattle.yq_flow_scalars.specs.Answers.{◌>>=◌}
 use Rattle.yq_flow_scalars.specs.Paths.{Step}
 use Rattle.yq_flow_scalars.proofs.Bools.{bind_some, guard_then}
 use Rattle.yq_lines.specs.Comments.{head_comment}
-use Rattle.yq_lines.specs.Ends.{IsEndOf, found_line, lines_end, line_of}
+use Rattle.yq_lines.specs.Ends.{IsEndOf, lines_end, line_of}
 use Rattle.yq_lines.specs.Group.{group, is_fine}
 use Rattle.yq_lines.specs.Outline.{Line, flatten, level}
 use Rattle.yq_lines.specs.Places.{FoundLine, find, lines_before}
@@ -47,10 +47,6 @@ row_agrees_at [] i r h e = absurd (cc)
 row_agrees_at (x ∷ rs) zero r h e = subst RowAgrees (same_Some _ _ e) h.0
 row_agrees_at (x ∷ rs) (suc i) r h e = row_agrees_at rs i r h.1 e
 
--- the line that was found, where it has a number
-found_of : (o : Option (FoundLine × List Step)) (m : ℕ) → option_and_then (λ x. found_line x.0 x.1) o ≡ Some m → (f : FoundLine) × (o ≡ Some (f, [])) × (length (lines_before f.place) ≡ m)
-found_of o m h1 = search (rules, none-some, same_Some)
-
 module _ (n : ℕ) (s : Step) (ss : List Step) (c : Cut) (read : read_at (cut_text c) ≡ Some c) (d : PlacedPart) (at : placed_document n c ≡ Some d) (x : RowLine) (printed_line : row_line_of (s ∷ ss) d.part.rows ≡ Some x) where
   abbrev rs : List Row
   rs = d.part.rows
@@ -81,7 +77,7 @@ module _ (n : ℕ) (s : Step) (ss : List Step) (c : Cut) (read : read_at (cut_te
   numbered = bind_some (line_of (s ∷ ss) (lines_of d.part.rows)) printed_line
 
   found : (f : FoundLine) × (find s ss (group (lines_of d.part.rows)) ≡ Some (f, [])) × (length (lines_before f.place) ≡ numbered.0)
-  found = found_of (find s ss (group (lines_of d.part.rows))) numbered.0 numbered.1
+  found = search (rules, none-some, same_Some, numbered.1)
 
   rows_are : d.part.rows ≡ take x.before d.part.rows ++ (x.row ∷ drop (suc x.before) d.part.rows)
   rows_are = rows_around d.part.rows x.before x.row row

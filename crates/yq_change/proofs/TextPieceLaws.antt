@@ -1,5 +1,5 @@
 -- Pieces of a text, joined and cut.
-use Rattle.std.proofs.Common.{arith, ◌≡◌, ℕ, true, false, List, [], ◌∷◌, ◌++◌, length, refl, sym, ◌∙◌, subst, append_assoc, length-append, rules}
+use Rattle.std.proofs.Common.{arith, ◌≡◌, ℕ, false, List, [], ◌∷◌, ◌++◌, length, refl, sym, ◌∙◌, subst, append_assoc, length-append, rules}
 use Rattle.std.proofs.Math.Seq.{take-append_seam, drop-append_seam}
 use Rattle.std.proofs.lemmas.Str.{IsCharBoundary-from_take, IsUtf8-append, IsUtf8-drop, IsUtf8-from_is_utf8, IsUtf8-take}
 use Rattle.std.proofs.lemmas.Bool.{and_from, and_parts}
@@ -37,9 +37,6 @@ data MayCut : List ℕ → List ℕ → Type 0 where
   before : {a b : List ℕ} → front is_feed b ≡ false → MayCut a b
   behind : {a b : List ℕ} → EndsBlack a → MayCut a b
 
-pairs_cut_at : (a b : List ℕ) → MayCut a b → pairs_returns (a ++ b) ≡ true → pairs_returns a ≡ true
-pairs_cut_at a b h1 h2 = search (rules, pairs_front, append_assoc, pairs_cut)
-
 -- behind a text that is UTF-8
 pub piece_back : (a b : List ℕ) → IsUtf8 a → IsPiece (a ++ b) → IsPiece b
 piece_back a b u h =
@@ -52,7 +49,7 @@ pieces_cut : (a b : List ℕ) → IsPiece (a ++ b) → IsUtf8 a → MayCut a b �
 pieces_cut a b h u may =
     let x = and_parts (all_text (a ++ b)) (pairs_returns (a ++ b)) h.characters in
     let y = and_parts (all_text a) (all_text b) (sym (all_join a b u) ∙ x.0) in
-    (record { utf8 = u; characters = and_from _ _ y.0 (pairs_cut_at a b may x.1) }, piece_back a b u h)
+    (record { utf8 = u; characters = and_from _ _ y.0 (search (rules, pairs_front, append_assoc, pairs_cut, may, x.1)) }, piece_back a b u h)
 
 -- behind an ASCII byte that is no CR
 pub cut_behind : (a b : List ℕ) → IsPiece (a ++ b) → EndsAscii a → EndsBlack a → IsPiece a × IsPiece b

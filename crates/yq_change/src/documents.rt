@@ -23,6 +23,7 @@ pub fn collection_changed()
 {}
 
 /// What is asked of a whole document holds where it holds of the changed part.
+#[tactic(auto, using(crate::proofs::BoundLaws::bounds, crate::proofs::TreeLaws::unique_changed, crate::proofs::TreeLaws::depth_changed))]
 pub fn conditions_changed()
     ensures stays { BoundStays }
     ensures around { NamesAround }
@@ -98,6 +99,7 @@ pub fn operations_read()
 {}
 
 /// Where lines at a path stand among the lines of rows.
+#[tactic(auto, using(crate::proofs::PlacedLaws::places))]
 pub fn lines_placed()
     ensures parts { SameParts }
     ensures rows { RowsInParts }

@@ -39,6 +39,7 @@ pub fn commented()
 {}
 
 /// Where rows may stand, by the levels of lines.
+#[tactic(auto, using(crate::proofs::ColumnLaws::columns))]
 pub fn rows_by_levels()
     ensures next { NextAllowed }
     ensures stays { NextStays }

@@ -125,9 +125,6 @@ module _ (doc : ℕ) (steps : List Step) (key : Option (List ℕ)) (v : Node) (c
   longer : length (print_row place.last []) ≤ length (print_row (closed_by (break_text l.br) place.last) [])
   longer = first_within _ (print_row place.last []) (break_text l.br) (closed_row place.last (break_text l.br) [] ends.inline ∙ (ap (print_row place.last) (append-nil (break_text l.br)) ∙ row_then place.last [] (break_text l.br)))
 
-  nothing_behind : x.behind ≡ [] ++ rows_text [] (part.end ++ behind_document doc c)
-  nothing_behind = ends.behind_is ∙ sym (λ i. ends.end_is i ++ ends.rest_is i)
-
   pub end_both : length (new_text (put_segments x (break_text l.br ++ lines))) ≤ text_limit →
       ReadsAfter (append doc steps key v) c (new_text (put_segments x (break_text l.br ++ lines))) × IsLocalTo (put_segments x (break_text l.br ++ lines)) c
   end_both size =
@@ -152,7 +149,7 @@ module _ (doc : ℕ) (steps : List Step) (key : Option (List ℕ)) (v : Node) (c
         lead = print_row place.last [];
         trail = [];
         before_is = append-nil x.before ∙ before_last;
-        behind_is = append-nil x.behind ∙ nothing_behind;
+        behind_is = append-nil x.behind ∙ (ends.behind_is ∙ sym (λ i. ends.end_is i ++ ends.rest_is i));
         puts = refl;
         old_is = ap (λ z. x.before ++ z) (append-nil x.behind) ∙ old_is doc steps c x read at;
         new_is = sym new_is;

@@ -1,5 +1,5 @@
 -- The rows of one item or entry that is written.
-use Rattle.std.proofs.Common.{◌≡◌, ℕ, ◌+◌, ◌*◌, ◌<◌, ◌≤◌, true, List, [], ◌∷◌, ◌++◌, Option, Some, None, refl, sym, ap, ◌∙◌, subst, arith, append-nil}
+use Rattle.std.proofs.Common.{◌≡◌, ℕ, ◌+◌, ◌*◌, ◌<◌, ◌≤◌, true, List, [], ◌∷◌, ◌++◌, Option, Some, None, refl, subst, append-nil, rules}
 use Rattle.yq_flow_scalars.specs.Text.{upto}
 use Rattle.yq_flow_scalars.specs.Tree as tree
 use Rattle.yq_flow_scalars.specs.Tree.{Node, Children, none, child}
@@ -7,7 +7,7 @@ use Rattle.yq_nodes.specs.Nodes as inline
 use Rattle.yq_flow.specs.Valued.{IsValueTree}
 use Rattle.yq_lines.specs.LineAnchors.{HaveOneAnchorEach}
 use Rattle.yq_lines.specs.Comments.{line_comment}
-use Rattle.yq_lines.specs.Outline.{Mark, Bare, Key, Dash, Line, level, rank, Outline, end, row, flatten, IsOpen, IsEven, label, collection, children, value, Stands}
+use Rattle.yq_lines.specs.Outline.{Mark, Line, level, rank, Outline, end, row, flatten, IsOpen, IsEven, label, collection, children, value, Stands}
 use Rattle.yq_lines.specs.Places.{content}
 use Rattle.yq_lines.proofs.ByRules.{rules_give}
 use Rattle.yq_cut.specs.Gap.{IsGap}
@@ -29,24 +29,15 @@ use Rattle.yq_edits.specs.Operands.{KeyIsUtf8}
 
 -- a collection of one item or entry is a value that is written in rows
 pub alone_value : (key : Option (List ℕ)) (v : Node) → KeyIsUtf8 key → IsValueTree v → IsFilledValue (alone key v)
-alone_value None v u h = record { filled = tt; value = (refl, (refl, h, tt)) }
-alone_value (Some k) v u h = record { filled = tt; value = (refl, ((k, refl, u), h, tt)) }
-
-alone_near : (key : Option (List ℕ)) (v : Node) → IsNear key → HasNearKeys v → HasNearKeys (alone key v)
-alone_near None v near h = (tt, h, tt)
-alone_near (Some k) v near h = (near, h, tt)
+alone_value key v h1 h2 = search rules
 
 pub alone_writable : (key : Option (List ℕ)) (v : Node) (column : ℕ) (last rest : List ℕ) → KeyIsUtf8 key → IsValueTree v → IsNear key → HasNearKeys v → IsEnd column last rest → IsWritable (alone key v) column last rest
-alone_writable key v column last rest u h near keys e = record { rows = alone_value key v u h; near = alone_near key v near keys; ends = e }
+alone_writable key v column last rest u h near keys e = record { rows = alone_value key v u h; near = (search (rules, near, keys)); ends = e }
 
 -- the level of its line
 abbrev pub entry_level : Option (List ℕ) → ℕ → ℕ
 entry_level None column = 3 * column + 3
 entry_level (Some k) column = 3 * column + 2
-
-alone_level : (key : Option (List ℕ)) (v : Node) (column : ℕ) → level_at column (alone key v) ≡ entry_level key column
-alone_level None v column = refl
-alone_level (Some k) v column = refl
 
 -- An item or entry, by its line and the lines under it.
 pub record IsEntryOf (key : Option (List ℕ)) (v : Node) (column : ℕ) (rs : List Row) : Type 0 where
@@ -81,30 +72,12 @@ is_child k v l u a e = let x = children_same (label l) (new_label k) (content l 
 
 -- its mark, by its level
 is_one : (k : Option (List ℕ)) (v : Node) (column : ℕ) (l : Line) (u a : Outline) (m : Mark) → l.mark ≡ m → 3 * l.column + rank m ≡ entry_level k column → collection m (child (label l) (content l u) (children a)) ≡ alone k v → IsOne k v l u a
-is_one None v column l u a Bare is lev e = absurd (omega (arith, lev))
-is_one None v column l u a (Key j) is lev e = absurd (omega (arith, lev))
-is_one None v column l u a Dash is lev e = is_child None v l u a (list_same _ _ e)
-is_one (Some k) v column l u a Bare is lev e = absurd (omega (arith, lev))
-is_one (Some k) v column l u a (Key j) is lev e = is_child (Some k) v l u a (map_same _ _ e)
-is_one (Some k) v column l u a Dash is lev e = absurd (omega (arith, lev))
+is_one k v column l u a m h1 h2 h3 = search (rules, is_child, list_same, map_same)
 
 -- the outline of a collection of one item or entry
 one_row : (key : Option (List ℕ)) (v : Node) (column : ℕ) (o : Outline) (rs : List Row) → IsEven (entry_level key column) o → flatten o ≡ lines_of rs → value o ≡ alone key v → IsEntryOf key v column rs
 unfolding level
-one_row None v column end rs even lines same = absurd (cc)
-one_row (Some k) v column end rs even lines same = absurd (cc)
-one_row key v column (row l u a) rs even lines same =
-    let only : IsOne key v l u a = is_one key v column l u a l.mark refl even.0 same in
-    record {
-      line = l;
-      under = u;
-      lines = sym lines ∙ (ap (λ x. l ∷ (flatten u ++ flatten x)) only.2 ∙ ap (λ x. l ∷ x) (append-nil (flatten u)));
-      level_is = even.0;
-      headless = even.1;
-      deep = (even.3.0, subst (λ n. n < even.3.0) (sym even.0) even.3.1, even.3.2);
-      label_is = only.0;
-      node_is = only.1;
-    }
+one_row key v column o rs h1 h2 h3 = search (rules, is_one, append-nil)
 
 -- nothing is no comment
 pub none_uncommented : line_comment [] ≡ None
@@ -116,7 +89,7 @@ entry_of key v l column last uncommented step u h =
     let w = alone_value key v u h in
     let rs : List Row = node_rows l column last (alone key v) in
     let s : Stands (lines_of rs) (alone key v) (level_at column (alone key v)) = rules_give (level_at column (alone key v)) (lines_of rs) (alone key v) (node_stands (alone key v) l column last step w.filled w.value uncommented) in
-    one_row key v column s.outline rs (subst (λ n. IsEven n s.outline) (alone_level key v column) s.even) s.lines_are s.node_is
+    one_row key v column s.outline rs (subst (λ n. IsEven n s.outline) (search rules) s.even) s.lines_are s.node_is
 
 -- its keys and anchors
 pub entry_keys : (key : Option (List ℕ)) (v : Node) (l : Layout) (column : ℕ) (last : List ℕ) → KeyIsUtf8 key → IsValueTree v → HaveFitKeys (node_rows l column last (alone key v))
@@ -127,12 +100,10 @@ entry_anchors key v l column last u h = anchors_fit (node_rows l column last (al
 
 -- no gap is before it
 first_bare : (rs more : List Row) → first_gap rs [] ≡ [] → (rs ≡ [] → first_gap more [] ≡ []) → first_gap (rs ++ more) [] ≡ []
-first_bare [] more e f = f refl
-first_bare (r ∷ rs) more e f = e
+first_bare rs more h1 h2 = search rules
 
 dash_bare : (column : ℕ) (rs : List Row) → first_gap rs [] ≡ [] → first_gap (behind_dash column rs) [] ≡ []
-dash_bare column [] e = e
-dash_bare column (r ∷ rs) e = e
+dash_bare column rs h1 = search rules
 
 mutual
   unfolding node_rows children_rows
@@ -165,5 +136,4 @@ rows_gap limit (r ∷ rs) gap rest h g = (h.0, rows_gap (limit_after r) rs gap r
 
 pub entry_rows_are : (key : Option (List ℕ)) (v : Node) (l : Layout) (column : ℕ) (last gap rest : List ℕ) (limit : Limit) → IsWritable (alone key v) column last (gap ++ rest) → allows limit column ≡ true → IsGap gap rest →
     AreRows limit (node_rows l column last (alone key v)) gap rest
-entry_rows_are key v l column last gap rest limit w allowed g =
-    rows_gap limit (node_rows l column last (alone key v)) gap rest (laid_rows column (node_rows l column last (alone key v)) (gap ++ rest) limit (value_laid (alone key v) l column last (gap ++ rest) w) allowed) g
+entry_rows_are key v l column last gap rest limit w allowed g = search (rules, rows_gap, laid_rows, value_laid)

@@ -1,5 +1,5 @@
 -- The place of one more item or entry in a text, and its rows there.
-use Rattle.std.proofs.Common.{inl, inr, ◌≡◌, ℕ, suc, true, false, List, [], ◌∷◌, ◌++◌, length, Option, Some, None, sym, ap, ◌∙◌, subst, append_assoc, append-nil, replicate}
+use Rattle.std.proofs.Common.{inl, inr, ◌≡◌, ℕ, suc, true, false, List, [], ◌∷◌, ◌++◌, length, Option, Some, None, sym, ap, ◌∙◌, subst, append_assoc, append-nil, replicate, rules}
 use Rattle.std.proofs.lemmas.Bool.{false≢true}
 use Rattle.std.proofs.lemmas.Option.{same_Some}
 use Rattle.std.specs.List.{slice_get}
@@ -85,11 +85,7 @@ module _ (doc : ℕ) (steps : List Step) (c : Cut) (x : CollectionEnd) (read : r
 
   -- the old text
   pub old_is : x.before ++ x.behind ≡ t
-  old_is =
-      (λ i. e.before_is i ++ e.behind_is i)
-      ∙ (append_assoc e.start (rows_text e.front []) (rows_text e.back (p.end ++ rest))
-      ∙ (ap (λ z. e.start ++ z) (sym (rows_then e.front (rows_text e.back (p.end ++ rest))) ∙ (sym (rows_text-append e.front e.back (p.end ++ rest)) ∙ ap (λ rs. rows_text rs (p.end ++ rest)) (sym e.rows_are)))
-      ∙ sym e.old_text))
+  old_is = search (rules, append_assoc, rows_then, rows_text-append)
 
   pub kept_pieces : IsPiece x.before × IsPiece x.behind
   kept_pieces = go (subst (λ z. Ended z (rows_text e.back (p.end ++ rest))) (ap (λ rs. rows_text rs []) (sym e.front_is)) (rows_ended unlimited e.others e.last e.back p.end rest rows_there))
@@ -160,9 +156,7 @@ module _ (doc : ℕ) (steps : List Step) (key : Option (List ℕ)) (v : Node) (c
       }
 
   pub new_rows_are : (last gap rest : List ℕ) (limit : Limit) → IsEnd x.column last (gap ++ rest) → allows limit x.column ≡ true → IsGap gap rest → AreRows limit (node_rows l x.column last (alone key v)) gap rest
-  new_rows_are last gap rest limit ends allowed h =
-      entry_rows_are key v l x.column last gap rest limit
-      (alone_writable key v x.column last (gap ++ rest) g.key_utf8 g.value_tree (key_near key g.key_utf8 g.short) (near_keys v g.value_tree g.near) ends) allowed h
+  new_rows_are last gap rest limit ends allowed h = search (rules, entry_rows_are, alone_writable, key_near, near_keys)
 
   -- a part with such rows, in which the first row stays, is what the operation asks
   pub finished : (q : Part) (last : List ℕ) (uncommented : said last ≡ None) →

@@ -1,11 +1,10 @@
 -- Which collection takes one more item or entry.
-use Rattle.std.proofs.Common.{◌≡◌, ℕ, ◌+◌, ◌*◌, List, Option, Some, None, refl, sym, ap, ◌∙◌}
+use Rattle.std.proofs.Common.{◌≡◌, ℕ, List, Option, refl, rules}
 use Rattle.yq_flow_scalars.specs.Keys.{keys_of}
-use Rattle.yq_flow_scalars.specs.Paths.{To, child_at}
 use Rattle.yq_flow_scalars.specs.Tree as tree
 use Rattle.yq_flow_scalars.specs.Tree.{Node, Children}
 use Rattle.yq_lines.specs.Group.{level_or}
-use Rattle.yq_lines.specs.Outline.{Mark, Bare, Key, Dash, Line, level, rank, Outline, end, row, anchored, children, collection, value}
+use Rattle.yq_lines.specs.Outline.{Mark, Line, level, Outline, end, row, anchored, children, collection, value}
 use Rattle.yq_change.specs.CollectionPlaces.{BeginsAt}
 use Rattle.yq_change.specs.Siblings.{IsEntry, HasEntries}
 use Rattle.yq_change.specs.SoundRoots.{IsNewKey}
@@ -29,12 +28,7 @@ pub record IsTaker (key : Option (List ℕ)) (o : Outline) (column : ℕ) : Type
 taker_of : (key : Option (List ℕ)) (n : Node) (a : Option (List ℕ)) (l : Line) (cs : Children) (column : ℕ) (m : Mark) → l.mark ≡ m → IsEntry m → Takes key n → n ≡ anchored a (collection m cs) → l.column ≡ column →
     (level l ≡ entry_level key column) × IsNewKey key (keys_of cs)
 unfolding level
-taker_of key n a l cs column Bare is b t same at = absurd b
-taker_of None n a l cs column (Key j) is b t same at = absurd (map_list (sym same ∙ t.2))
-taker_of None n a l cs column Dash is b t same at = (ap (λ m. 3 * l.column + rank m) is ∙ ap (λ k. 3 * k + 3) at, tt)
-taker_of (Some k) n a l cs column (Key j) is b t same at =
-    (ap (λ m. 3 * l.column + rank m) is ∙ ap (λ i. 3 * i + 2) at, new_key k cs (ap (child_at (To k)) (map_same (sym same ∙ t.2)) ∙ t.3))
-taker_of (Some k) n a l cs column Dash is b t same at = absurd (map_list (sym t.2 ∙ same))
+taker_of key n a l cs column m h1 h2 h3 h4 h5 = search (rules, map_list, new_key, map_same)
 
 pub taker : (key : Option (List ℕ)) (n : Node) (a : Option (List ℕ)) (o : Outline) (column : ℕ) → Takes key n → n ≡ anchored a (value o) → HasEntries o → BeginsAt column o → IsTaker key o column
 taker key n a end column t same b at = absurd b

@@ -1,5 +1,5 @@
 -- The end of a line with another break.
-use Rattle.std.proofs.Common.{◌≡◌, ◌⊎◌, inl, inr, ℕ, true, false, ◌&&◌, List, [], ◌∷◌, ◌++◌, refl, sym, ap, ◌∙◌, append_assoc}
+use Rattle.std.proofs.Common.{◌≡◌, ◌⊎◌, ℕ, true, false, ◌&&◌, List, [], ◌∷◌, ◌++◌, refl, sym, ap, ◌∙◌, append_assoc, rules}
 use Rattle.std.proofs.lemmas.Bool.{false≢true, and_parts, cases_Bool, or_parts}
 use Rattle.yq_flow_scalars.specs.Characters.{pairs_returns}
 use Rattle.yq_flow_scalars.specs.Text.{front, is_feed, is_return, is_empty, ends_line, NoneIn}
@@ -17,11 +17,7 @@ front_clean [] rest h n = refl
 front_clean (b ∷ []) rest h n = go (cases_Bool (is_return b))
   where
     go : (is_return b ≡ true) ⊎ (is_return b ≡ false) → is_return b ≡ false
-    go (inr e) = e
-    go (inl e) =
-        let pairs : (front is_feed rest && pairs_returns rest) ≡ true = rw e at h in
-        let none = (or_parts (is_feed b) (is_return b && front is_feed rest) n.0).1 in
-        absurd (false≢true (sym none ∙ rw (e, (and_parts (front is_feed rest) (pairs_returns rest) pairs).0) refl))
+    go h1 = search (rules, or_parts, false≢true, and_parts)
 front_clean (b ∷ (d ∷ c)) rest h n = front_clean (d ∷ c) rest (pairs_back (b ∷ []) (d ∷ (c ++ rest)) h) n.1
 
 none_other : (c old new : List ℕ) → NoneIn ends_line c old → ends_return c ≡ false → NoneIn ends_line c new
@@ -41,8 +37,7 @@ comment_other (b ∷ c) old rest new p h e =
 -- the end of a line, with another break behind its white space and its comment
 module _ (tail more : List ℕ) (h : IsTail tail more) (pairs : pairs_returns (tail ++ more) ≡ true) (break behind : List ℕ) (ends : IsBreak break behind) where
   alone : (b z : List ℕ) → IsBreak b z → IsBreak b []
-  alone b z (inl e) = inl e
-  alone b z (inr e) = inr (e.0, refl)
+  alone b z h1 = search rules
 
   split : tail ++ more ≡ h.white ++ (h.comment ++ (h.line.break ++ more))
   split = ap (λ x. x ++ more) h.line.spelled ∙ (append_assoc h.white (h.comment ++ h.line.break) more ∙ ap (λ x. h.white ++ x) (append_assoc h.comment h.line.break more))
@@ -55,18 +50,8 @@ module _ (tail more : List ℕ) (h : IsTail tail more) (pairs : pairs_returns (t
 
   -- it has the same comment
   pub other_comment : line_comment (h.white ++ (h.comment ++ break)) ≡ line_comment tail
-  other_comment =
-      comment_is h.white h.comment break h.line.blank as_comment (alone break behind ends)
-      ∙ (sym (comment_is h.white h.comment h.line.break h.line.blank h.line.as_comment (alone h.line.break more h.line.ends)) ∙ ap line_comment (sym h.line.spelled))
+  other_comment = search (rules, comment_is, as_comment, alone)
 
 -- a tail without a comment has none
 pub uncommented_tail : (tail rest : List ℕ) (h : IsTail tail rest) → is_empty h.comment ≡ true → line_comment tail ≡ Rattle.std.proofs.Common.None
-uncommented_tail tail rest h e = ap line_comment h.line.spelled ∙ (comment_is h.white h.comment h.line.break h.line.blank h.line.as_comment (alone h.line.ends) ∙ ap after_hash (none h.comment e))
-  where
-    alone : IsBreak h.line.break rest → IsBreak h.line.break []
-    alone (inl e) = inl e
-    alone (inr e) = inr (e.0, refl)
-
-    none : (c : List ℕ) → is_empty c ≡ true → c ≡ []
-    none [] e = refl
-    none (b ∷ c) e = absurd (false≢true e)
+uncommented_tail tail rest h e = search (rules, comment_is, alone, after_hash, false≢true)

@@ -1,5 +1,5 @@
 -- What is written for comments is made of pieces of texts.
-use Rattle.std.proofs.Common.{◌≡◌, ◌≢◌, get_or, ◌⊎◌, inl, inr, ℕ, zero, suc, ◌+◌, ◌<◌, ◌≤◌, Bool, true, false, ◌&&◌, not, cond, eqb, List, [], ◌∷◌, ◌++◌, length, replicate, refl, sym, ap, ◌∙◌, subst, arith, append-nil, append_assoc, length-append}
+use Rattle.std.proofs.Common.{◌≡◌, ◌≢◌, get_or, ◌⊎◌, inl, inr, ℕ, zero, suc, ◌+◌, ◌<◌, ◌≤◌, Bool, true, false, ◌&&◌, not, cond, List, [], ◌∷◌, ◌++◌, length, replicate, refl, sym, ap, ◌∙◌, subst, arith, append-nil, append_assoc, length-append, rules}
 use Rattle.std.proofs.lemmas.Bool.{false≢true, ltb-true, and_parts, cases_Bool}
 use Rattle.std.proofs.lemmas.Str.{encode_ascii, IsUtf8-nil, IsUtf8-take}
 use Rattle.std.proofs.Math.Seq.{take-append_seam}
@@ -8,9 +8,8 @@ use Rattle.std.specs.List.{list_all}
 use Rattle.std.specs.Str.{chars, IsUtf8}
 use Rattle.yq_block_scalars.specs.BlockWritten.{break_text}
 use Rattle.yq_flow_scalars.specs.Characters.{is_text, is_text_char, pairs_returns}
-use Rattle.yq_flow_scalars.specs.Text.{front, is_feed, is_return, is_empty}
+use Rattle.yq_flow_scalars.specs.Text.{is_feed, is_return, is_empty}
 use Rattle.yq_block_scalars.specs.declared.block_types.Break.{Break}
-use Rattle.yq_block_scalars.specs.declared.block_types.Break.TheVariants.{Lf, CrLf}
 use Rattle.yq_flow_scalars.proofs.Bools.{not_byte}
 use Rattle.yq_block_scalars.proofs.Bytes.{Each, each_byte}
 use Rattle.yq_block_scalars.proofs.WrittenText.{no_break, is_line_ascii, IsLine, line_is_text}
@@ -22,7 +21,7 @@ use Rattle.yq_change.proofs.TextPieceLaws.{pieces_joined, line_cut}
 use Rattle.yq_meaning.specs.Changes.{is_comment}
 use Rattle.yq_program.specs.declared.program.CommentPlace.TheVariants as comments
 use Rattle.yq_change.proofs.RemovalPieceLaws.{spaces_piece}
-use Rattle.yq_meaning.specs.Meaning.{head_of, onto_first, parted}
+use Rattle.yq_meaning.specs.Meaning.{head_of, parted}
 use Rattle.yq_edits.specs.CommentEdits.{comment_line, head_lines}
 
 -- ---- single bytes
@@ -43,16 +42,12 @@ low_line b h =
     let valid : scalars (b ∷ []) ≡ true = rw (low_scalar b (omega (arith, low))) refl in
     (record { chars = b ∷ []; spelled = spelled; valid = valid; text = rw r.1 refl; bytes = (p.1, tt) }, (b ∷ [], (valid, spelled)))
 
-ascii_piece : (b : ℕ) → is_line_ascii b ≡ true → IsPiece (b ∷ [])
-ascii_piece b h = let x = low_line b h in record { utf8 = x.1; characters = line_is_text (b ∷ []) x.0 }
-
 pub byte_then : (b : ℕ) (t : List ℕ) → is_line_ascii b ≡ true → IsPiece t → IsPiece (b ∷ t)
-byte_then b t h k = pieces_joined (b ∷ []) t (ascii_piece b h) k
+byte_then b t h k = pieces_joined (b ∷ []) t (let x = low_line b h in record { utf8 = x.1; characters = line_is_text (b ∷ []) x.0 }) k
 
 break_chars : (br : Break) → (encodes (break_text br) ≡ break_text br) × (scalars (break_text br) ≡ true) × (list_all is_text_char (break_text br) ≡ true) × (pairs_returns (break_text br) ≡ true)
 unfolding pairs_returns
-break_chars Lf = (append-nil (encode 10) ∙ encode_ascii 10 (omega arith), refl, refl, refl)
-break_chars CrLf = ((λ i. encode_ascii 13 (omega arith) i ++ (append-nil (encode 10) ∙ encode_ascii 10 (omega arith)) i), refl, refl, refl)
+break_chars br = search (rules, append-nil, encode, encode_ascii)
 
 pub break_piece : (br : Break) → IsPiece (break_text br)
 break_piece br =
@@ -75,31 +70,18 @@ all_weaker p q f (c ∷ cs) h = let x = and_parts (p c) (list_all p cs) h in rw 
 no_pairs : (t : List ℕ) → Each no_return t → pairs_returns t ≡ true
 unfolding pairs_returns
 no_pairs [] h = refl
-no_pairs (b ∷ t) h = go (cases_Bool (is_return b)) (no_pairs t h.1)
-  where
-    go : (is_return b ≡ true) ⊎ (is_return b ≡ false) → pairs_returns t ≡ true → cond (is_return b) (front is_feed t && pairs_returns t) (pairs_returns t) ≡ true
-    go (inl e) k = absurd (false≢true (ap not (sym e) ∙ h.0))
-    go (inr e) k = rw e k
+no_pairs (b ∷ t) h = search (rules, cases_Bool, false≢true, no_pairs t h.1)
 
 pub text_piece : (p : ℕ → Bool) (t : List ℕ) → IsUtf8 t → ((c : ℕ) → p c ≡ true → is_text_char c ≡ true) → list_all p (chars t) ≡ true → Each no_return t → IsPiece t
 text_piece p t u f h e = record { utf8 = u; characters = rw (all_weaker p is_text_char f (chars t) h) (no_pairs t e) }
 
 -- a text of a line comment
 pub line_text_is : (t : List ℕ) → IsUtf8 t → is_comment comments.Line t ≡ true → Each no_break t × IsPiece t
-line_text_is t u h =
-    let none : Each no_break t = each_byte no_break (λ c. is_text_char c && (not (eqb c 10) && not (eqb c 13))) t u h (λ c low p. (and_parts (is_text_char c) (not (eqb c 10) && not (eqb c 13)) p).1)
-    (λ b high. rw (not_byte b 10 (omega arith), not_byte b 13 (omega arith)) refl) in
-    (none, text_piece (λ c. is_text_char c && (not (eqb c 10) && not (eqb c 13))) t u (λ c p. (and_parts (is_text_char c) (not (eqb c 10) && not (eqb c 13)) p).0) h (go t none))
-  where
-    go : (t : List ℕ) → Each no_break t → Each no_return t
-    go [] e = tt
-    go (b ∷ t) e = ((and_parts (not (is_feed b)) (not (is_return b)) e.0).1, go t e.1)
+line_text_is t u h = search (rules, no_break, each_byte, and_parts, not_byte, text_piece)
 
 -- a text of a head comment
 head_text_is : (t : List ℕ) → IsUtf8 t → is_comment comments.Head t ≡ true → Each no_return t × IsPiece t
-head_text_is t u h =
-    let none : Each no_return t = each_byte no_return (λ c. is_text_char c && not (eqb c 13)) t u h (λ c low p. (and_parts (is_text_char c) (not (eqb c 13)) p).1) (λ b high. rw (not_byte b 13 (omega arith)) refl) in
-    (none, text_piece (λ c. is_text_char c && not (eqb c 13)) t u (λ c p. (and_parts (is_text_char c) (not (eqb c 13)) p).0) h none)
+head_text_is t u h = search (rules, each_byte, and_parts, not_byte, text_piece)
 
 -- ---- the parts of a text
 
@@ -124,19 +106,11 @@ lines (b ∷ t) = go (lines t) (cases_Bool (is_feed b))
 
 one_part : (t : List ℕ) → Each (λ b. not (is_feed b)) t → parted t ≡ t ∷ []
 one_part [] h = refl
-one_part (b ∷ t) h = go (cases_Bool (is_feed b)) (one_part t h.1)
-  where
-    go : (is_feed b ≡ true) ⊎ (is_feed b ≡ false) → parted t ≡ t ∷ [] → cond (eqb b 10) ([] ∷ parted t) (onto_first b (parted t)) ≡ (b ∷ t) ∷ []
-    go (inl e) k = absurd (false≢true (ap not (sym e) ∙ h.0))
-    go (inr e) k = rw e (ap (onto_first b) k)
+one_part (b ∷ t) h = search (rules, cases_Bool, false≢true, one_part t h.1)
 
 more_parts : (a b : List ℕ) → Each (λ b. not (is_feed b)) a → parted (a ++ 10 ∷ b) ≡ a ∷ parted b
 more_parts [] b h = refl
-more_parts (x ∷ a) b h = go (cases_Bool (is_feed x)) (more_parts a b h.1)
-  where
-    go : (is_feed x ≡ true) ⊎ (is_feed x ≡ false) → parted (a ++ 10 ∷ b) ≡ a ∷ parted b → cond (eqb x 10) ([] ∷ parted (a ++ 10 ∷ b)) (onto_first x (parted (a ++ 10 ∷ b))) ≡ (x ∷ a) ∷ parted b
-    go (inl e) k = absurd (false≢true (ap not (sym e) ∙ h.0))
-    go (inr e) k = rw e (ap (onto_first x) k)
+more_parts (x ∷ a) b h = search (rules, cases_Bool, false≢true, more_parts a b h.1)
 
 both : (t : List ℕ) → Each (λ b. not (is_feed b)) t → Each no_return t → Each no_break t
 both [] h k = tt
@@ -148,11 +122,7 @@ each_cut p (x ∷ a) b h = let y = each_cut p a b h.1 in ((h.0, y.0), y.1)
 
 no_return_end : (t : List ℕ) → Each no_return t → ends_return t ≡ false
 no_return_end [] h = refl
-no_return_end (b ∷ t) h = clean_byte b t (go (cases_Bool (is_return b))) (no_return_end t h.1)
-  where
-    go : (is_return b ≡ true) ⊎ (is_return b ≡ false) → is_return b ≡ false
-    go (inl e) = absurd (false≢true (ap not (sym e) ∙ h.0))
-    go (inr e) = e
+no_return_end (b ∷ t) h = search (rules, clean_byte, cases_Bool, false≢true, no_return_end t h.1)
 
 pub front_piece : (a : List ℕ) → IsPiece (a ++ 10 ∷ []) → Each no_return a → IsPiece a
 front_piece a h e =
@@ -163,8 +133,7 @@ parts_of : (n : ℕ) (t : List ℕ) → length t ≤ n → IsPiece t → Each no
 parts_of zero t small h e = go (lines t)
   where
     go : Lines t → AreParts (parted t)
-    go (one f) = subst AreParts (sym (one_part t f)) (both t f e, h, tt)
-    go (more a b f is) = absurd (omega (arith, small, ap length is, length-append a (10 ∷ b)))
+    go h1 = search (rules, one_part, both, length-append)
 parts_of (suc n) t small h e = go (lines t) (λ b less k f. parts_of n b less k f)
   where
     go : Lines t → ((b : List ℕ) → length b ≤ n → IsPiece b → Each no_return b → AreParts (parted b)) → AreParts (parted t)
@@ -183,28 +152,17 @@ no_breaks_by [] h = tt
 no_breaks_by (b ∷ t) h = (go (cases_Bool (is_feed b)), no_breaks_by t (λ i less. h (suc i) (omega (arith, less))))
   where
     go : (is_feed b ≡ true) ⊎ (is_feed b ≡ false) → not (is_feed b) ≡ true
-    go (inl e) = absurd (h 0 (omega arith) (Rattle.std.proofs.Common.eqb-true b 10 e))
-    go (inr e) = ap not e
+    go h1 = search rules
 
 -- a line more of a head comment
 pub loop_more : (column : ℕ) (br out outs text rest line after : List ℕ) → rest ≡ line ++ 10 ∷ after → ((i : ℕ) → i < length line → get_or line i 0 ≢ 10) →
     out ++ head_lines column br (parted rest) ≡ head_lines column br (parted text) → outs ≡ out ++ comment_line column br line → outs ++ head_lines column br (parted after) ≡ head_lines column br (parted text)
-loop_more column br out outs text rest line after is none before pushed =
-    ap (λ o. o ++ head_lines column br (parted after)) pushed
-    ∙ (append_assoc out (comment_line column br line) (head_lines column br (parted after))
-    ∙ (ap (λ ts. out ++ head_lines column br ts) (sym (ap parted is ∙ more_parts line after (no_breaks_by line none))) ∙ before))
+loop_more column br out outs text rest line after is none before pushed = search (rules, append_assoc, more_parts, no_breaks_by)
 
 -- the last one
 pub loop_done : (column : ℕ) (br out outs text rest : List ℕ) → ((i : ℕ) → i < length rest → get_or rest i 0 ≢ 10) →
     out ++ head_lines column br (parted rest) ≡ head_lines column br (parted text) → outs ≡ out ++ comment_line column br rest → 0 < length text → outs ≡ head_lines column br (head_of text)
-loop_done column br out outs text rest none before pushed some =
-    pushed
-    ∙ (ap (λ l. out ++ l) (sym (append-nil (comment_line column br rest)) ∙ ap (head_lines column br) (sym (one_part rest (no_breaks_by rest none))))
-    ∙ (before ∙ ap (head_lines column br) (whole text some)))
-  where
-    whole : (t : List ℕ) → 0 < length t → parted t ≡ head_of t
-    whole [] k = absurd (omega (arith, k))
-    whole (b ∷ t) k = refl
+loop_done column br out outs text rest none before pushed some = search (rules, append-nil, one_part, no_breaks_by)
 
 pub head_parts : (t : List ℕ) → IsUtf8 t → is_comment comments.Head t ≡ true → AreParts (head_of t)
 head_parts [] u h = tt

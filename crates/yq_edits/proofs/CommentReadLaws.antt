@@ -1,16 +1,15 @@
 -- What is written for comments reads as their texts.
-use Rattle.std.proofs.Common.{◌≡◌, ◌⊎◌, inl, inr, ℕ, zero, suc, true, false, ◌&&◌, not, cond, eqb, List, [], ◌∷◌, ◌++◌, replicate, drop, Option, Some, None, refl, sym, ap, ◌∙◌, append-nil, append_assoc}
+use Rattle.std.proofs.Common.{◌≡◌, ◌⊎◌, inl, inr, ℕ, true, ◌&&◌, cond, eqb, List, [], ◌∷◌, ◌++◌, replicate, drop, Option, Some, None, refl, sym, ap, ◌∙◌, append-nil, append_assoc, rules}
 use Rattle.std.proofs.lemmas.Bool.{and_parts, not-true}
 use Rattle.yq_block_scalars.specs.BlockWritten.{break_text}
 use Rattle.yq_flow_scalars.specs.Text as text
-use Rattle.yq_flow_scalars.specs.Text.{front, is_feed, is_return, is_empty, is_break, is_line, ends_line, past_white, joined, lines_of, NoneIn}
+use Rattle.yq_flow_scalars.specs.Text.{front, is_empty, is_break, is_line, ends_line, past_white, joined, lines_of, NoneIn}
 use Rattle.yq_block_scalars.specs.declared.block_types.Break.{Break}
-use Rattle.yq_block_scalars.specs.declared.block_types.Break.TheVariants.{Lf, CrLf}
 use Rattle.yq_block_scalars.proofs.Bytes.{Each}
 use Rattle.yq_block_scalars.proofs.LineLaws.{lines_again}
 use Rattle.yq_flow_scalars.proofs.Upto.{cut-append}
 use Rattle.yq_block_scalars.proofs.WrittenText.{no_break}
-use Rattle.yq_lines.specs.Comments.{less_space, comment_text, are_comments, with_text, last_comments, head_comment as head_texts}
+use Rattle.yq_lines.specs.Comments.{less_space, comment_text, are_comments, last_comments, head_comment as head_texts}
 use Rattle.yq_cut.specs.Gap.{IsWhite, IsGap, IsGapLine, AreGapLines}
 use Rattle.yq_cut.proofs.LineEnds.{text_line, white_again, white_none}
 use Rattle.yq_cut.proofs.RowAgain.{white_spaces}
@@ -20,9 +19,7 @@ use Rattle.yq_edits.proofs.CommentPieceLaws.{AreParts}
 -- a text without breaks, before more
 pub no_breaks_none : (t rest : List ℕ) → Each no_break t → NoneIn ends_line t rest
 no_breaks_none [] rest h = tt
-no_breaks_none (b ∷ t) rest h =
-    let x = and_parts (not (is_feed b)) (not (is_return b)) h.0 in
-    (rw (not-true (is_feed b) x.0, not-true (is_return b) x.1) refl, no_breaks_none t rest h.1)
+no_breaks_none (b ∷ t) rest h = search (rules, and_parts, not-true, no_breaks_none t rest h.1)
 
 -- the comment behind white space
 no_white_there : (r : List ℕ) → past_white (35 ∷ r) ≡ 35 ∷ r
@@ -47,21 +44,17 @@ abbrev behind_hash : List ℕ → List ℕ
 behind_hash t = cond (is_empty t) [] (32 ∷ t)
 
 hash_none : (t rest : List ℕ) → Each no_break t → NoneIn ends_line (behind_hash t) rest
-hash_none [] rest h = tt
-hash_none (b ∷ t) rest h = (refl, no_breaks_none (b ∷ t) rest h)
+hash_none t rest h1 = search (rules, no_breaks_none)
 
 less_is : (t : List ℕ) → less_space (behind_hash t) ≡ t
-less_is [] = refl
-less_is (b ∷ t) = refl
+less_is t = search rules
 
 break_ends : (br : Break) (rest : List ℕ) → ends_line (break_text br ++ rest) ≡ true
-break_ends Lf rest = refl
-break_ends CrLf rest = refl
+break_ends br rest = search rules
 
 pub break_is : (br : Break) → (is_break (break_text br) && is_line (break_text br)) ≡ true
 unfolding is_line
-break_is Lf = refl
-break_is CrLf = refl
+break_is br = search rules
 
 -- a line of a head comment
 line_is : (column : ℕ) (br : Break) (t : List ℕ) → Each no_break t → is_line (comment_line column (break_text br) t) ≡ true
@@ -73,9 +66,7 @@ line_is column br t h =
     ∙ (text_line (white ++ comment) (break_text br) (white_none white comment (break_text br) (white_spaces column) none) ∙ (and_parts (is_break (break_text br)) (is_line (break_text br)) (break_is br)).1)
 
 line_agrees_with : (column : ℕ) (br : Break) (t : List ℕ) → Each no_break t → comment_text (comment_line column (break_text br) t) ≡ Some t
-line_agrees_with column br t h =
-    comment_behind (replicate column 32) (break_text br) (behind_hash t) (white_spaces column)
-    ∙ (comment_is (behind_hash t) (break_text br) (hash_none t (break_text br) h) (ap ends_line (sym (append-nil (break_text br))) ∙ break_ends br []) ∙ ap Some (less_is t))
+line_agrees_with column br t h = search (rules, comment_behind, white_spaces, comment_is, hash_none, append-nil, break_ends, less_is)
 
 line_begins : (column : ℕ) (br : Break) (t : List ℕ) → front (λ b. eqb b 35) (past_white (comment_line column (break_text br) t)) ≡ true
 line_begins column br t = ap (λ (x : List ℕ × List ℕ). front (λ b. eqb b 35) x.1) (white_again (replicate column 32) (35 ∷ (behind_hash t ++ break_text br)) (white_spaces column) refl)
@@ -93,11 +84,7 @@ all_comments column br (t ∷ ts) h = ap are_comments (lines_are column br t ts 
 
 pub lines_agree : (column : ℕ) (br : Break) (ts : List (List ℕ)) → AreParts ts → head_texts (head_lines column (break_text br) ts) ≡ ts
 lines_agree column br [] h = ap last_comments no_lines
-lines_agree column br (t ∷ ts) h =
-    let all : are_comments (comment_line column (break_text br) t ∷ lines_of (head_lines column (break_text br) ts)) ≡ true = sym (ap are_comments (lines_are column br t ts h.0)) ∙ all_comments column br (t ∷ ts) h in
-    ap last_comments (lines_are column br t ts h.0)
-    ∙ (ap (λ b. cond b (with_text (comment_text (comment_line column (break_text br) t)) (last_comments (lines_of (head_lines column (break_text br) ts)))) (last_comments (lines_of (head_lines column (break_text br) ts)))) all
-    ∙ (ap (λ c. with_text c (last_comments (lines_of (head_lines column (break_text br) ts)))) (line_agrees_with column br t h.0) ∙ ap (λ l. t ∷ l) (lines_agree column br ts h.2)))
+lines_agree column br (t ∷ ts) h = search (rules, lines_are, all_comments, line_agrees_with, lines_agree column br ts h.2)
 
 -- such lines are a gap
 abbrev all_lines : ℕ → List ℕ → List (List ℕ) → List (List ℕ)
@@ -108,16 +95,12 @@ lines_joined : (column : ℕ) (br : List ℕ) (ts : List (List ℕ)) → head_li
 lines_joined column br [] = refl
 lines_joined column br (t ∷ ts) = ap (λ l. comment_line column br t ++ l) (lines_joined column br ts)
 
-some_line : (column : ℕ) (t : List ℕ) → is_empty (replicate column 32 ++ (35 ∷ t)) ≡ false
-some_line zero t = refl
-some_line (suc column) t = refl
-
 gap_line : (column : ℕ) (br : Break) (t rest : List ℕ) → Each no_break t → IsGapLine (comment_line column (break_text br) t) rest
 gap_line column br t rest h = record {
   white = replicate column 32;
   comment = 35 ∷ behind_hash t;
   line = record { break = break_text br; spelled = refl; blank = white_spaces column; as_comment = (refl, hash_none t (break_text br) h); ends = inl (break_is br) };
-  some = some_line column (behind_hash t ++ break_text br);
+  some = search rules;
 }
 
 gap_lines : (column : ℕ) (br : Break) (ts : List (List ℕ)) (rest : List ℕ) → AreParts ts → AreGapLines (all_lines column (break_text br) ts) rest

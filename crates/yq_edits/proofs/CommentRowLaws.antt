@@ -1,5 +1,5 @@
 -- The row of the line to which steps lead, in its document and in the text.
-use Rattle.std.proofs.Common.{◌≡◌, ◌⊎◌, inl, inr, ⊎_elim, ℕ, suc, ◌+◌, ◌||◌, not, true, false, List, [], ◌∷◌, ◌++◌, take, drop, replicate, Option, Some, None, option_and_then, option_map, refl, sym, ap, ◌∙◌, subst, append_assoc}
+use Rattle.std.proofs.Common.{◌≡◌, ◌⊎◌, ⊎_elim, ℕ, suc, ◌+◌, true, false, List, [], ◌∷◌, ◌++◌, take, drop, replicate, Option, Some, None, option_and_then, option_map, refl, sym, ap, ◌∙◌, subst, append_assoc, rules}
 use Rattle.std.proofs.lemmas.List.{take-append-drop}
 use Rattle.std.proofs.lemmas.Bool.{false≢true, or_cases, cases_Bool}
 use Rattle.std.proofs.lemmas.Option.{none-some}
@@ -8,15 +8,12 @@ use Rattle.yq_flow_scalars.specs.Answers.{◌>>=◌}
 use Rattle.yq_flow_scalars.specs.Paths.{Step}
 use Rattle.yq_flow_scalars.specs.Text.{is_empty, ends_line, no_white, past_white}
 use Rattle.yq_flow_scalars.specs.Text as text
-use Rattle.yq_flow_scalars.specs.Lines.{is_hash}
 use Rattle.yq_flow_scalars.proofs.Bools.{bind_some, guard_then}
 use Rattle.yq_flow_scalars.proofs.Upto.{cut_takes}
 use Rattle.yq_lines.specs.Ends.{found_line, line_of}
 use Rattle.yq_lines.specs.Places.{FoundLine, bare_or}
-use Rattle.yq_lines.specs.Sound.{is_entry}
-use Rattle.yq_lines.specs.Outline.{Mark, Bare, Key, Dash, Line}
+use Rattle.yq_lines.specs.Outline.{Mark, Bare, Line}
 use Rattle.yq_cut.specs.Exchange.{row_front}
-use Rattle.yq_cut.specs.Gap.{IsWhite}
 use Rattle.yq_cut.specs.Grammar.{IsCut, IsTail, IsRow, Limit}
 use Rattle.yq_cut.specs.Rows as rows
 use Rattle.yq_cut.specs.Rows.{Row, behind_indent, dashes_text, mark_text, print_row, rows_text, Cut, cut_text}
@@ -96,8 +93,7 @@ rows_same n steps c = go (placed_document n c)
         ap (λ t. Some (record { before = d.before ++ rows_text (take x.before d.part.rows) []; row = x.row; line = x.line; behind = t })) split
 
     go : (o : Option PlacedPart) → (o >>= λ d. option_map (placed_row d) (row_line_of steps d.part.rows)) ≡ option_map entry_row (o >>= λ d. option_map (entry_rows_at d) (row_line_of steps d.part.rows))
-    go None = refl
-    go (Some d) = printed_line d (row_line_of steps d.part.rows)
+    go o = search (rules, printed_line)
 
 pub entry_is_row : (n : ℕ) (steps : List Step) (c : Cut) (e : RowsOfEntry) → rows_of_entry n steps c ≡ Some e → row_of_path n steps c ≡ Some (entry_row e)
 entry_is_row n steps c e is = rows_same n steps c ∙ ap (option_map entry_row) is
@@ -133,11 +129,7 @@ left_none [] b e = refl
 left_none (x ∷ a) b e = absurd (let bad : x ∷ (a ++ b) ≡ [] = e in cc)
 
 no_start : (tail more : List ℕ) → IsTail tail more → Starts (tail ++ more) → ⊥
-no_start tail more h s = let u = line_end_behind h.white h.comment tail more h.line in go h.white u.0 u.1 h.line.blank u.3
-  where
-    go : (w v : List ℕ) → tail ++ more ≡ w ++ v → IsWhite w → (ends_line v || is_hash v) ≡ true → ⊥
-    go (b ∷ w) v e blank f = false≢true (sym (ap not blank.0) ∙ (sym (ap no_white e) ∙ s.no_white))
-    go [] v e blank f = ⊎_elim {0, 0, 0} (λ k. false≢true (sym s.no_end ∙ (ap ends_line e ∙ k))) (λ k. false≢true (sym s.no_hash ∙ (ap is_hash e ∙ k))) (or_cases (ends_line v) (is_hash v) f)
+no_start tail more h s = search (rules, line_end_behind, false≢true, ⊎_elim, or_cases)
 
 pub line_some : (limit : Limit) (r : Row) (rest : List ℕ) → IsRow limit r rest → IsTail (slices r).tail ((slices r).raw ++ rest) → is_empty (line_text r) ≡ false
 line_some limit r rest h tail = go (cases_Bool (is_empty (line_text r)))
@@ -153,8 +145,7 @@ line_some limit r rest h tail = go (cases_Bool (is_empty (line_text r)))
         subst Starts whole (row_starts limit r rest h)
 
     go : (is_empty (line_text r) ≡ true) ⊎ (is_empty (line_text r) ≡ false) → is_empty (line_text r) ≡ false
-    go (inr e) = e
-    go (inl e) = absurd (no_start (slices r).tail ((slices r).raw ++ rest) tail (starts (empty_is (line_text r) e)))
+    go h1 = search (rules, no_start, empty_is, starts)
 
 -- ---- a path to a line
 
@@ -170,22 +161,8 @@ some_steps (s ∷ ss) rs x e = split_last s ss
 bare_none : (m : Mark) → m ≡ Bare → (f : FoundLine) (s : Step) (ss : List Step) (y : Option (FoundLine × List Step)) → option_and_then (λ x. found_line x.0 x.1) (bare_or m (Some (f, s ∷ ss)) y) ≡ None
 bare_none m is f s ss y = ap (λ k. option_and_then (λ x. found_line x.0 x.1) (bare_or k (Some (f, s ∷ ss)) y)) is
 
-bare_line : (s : Step) (ss : List Step) (l : Line) (ls : List Line) → l.mark ≡ Bare → line_of (s ∷ ss) (l ∷ ls) ≡ None
-bare_line s [] l ls is = bare_none l.mark is _ s [] _
-bare_line s (t ∷ ts) l ls is = bare_none l.mark is _ s (t ∷ ts) _
-
-no_bare : (s : Step) (ss : List Step) (l : Line) (ls : List Line) (m : Mark) → l.mark ≡ m → (n : ℕ) → line_of (s ∷ ss) (l ∷ ls) ≡ Some n → begins_no_node (l ∷ ls) ≡ true
-no_bare s ss l ls (Key k) is n e = ap is_entry is
-no_bare s ss l ls Dash is n e = ap is_entry is
-no_bare s ss l ls Bare is n e = absurd (none-some _ (sym (bare_line s ss l ls is) ∙ e))
-
-line_is_block : (steps : List Step) (ls : List Line) (n : ℕ) → line_of steps ls ≡ Some n → begins_no_node ls ≡ true
-line_is_block [] ls n e = absurd (none-some _ e)
-line_is_block (s ∷ ss) [] n e = refl
-line_is_block (s ∷ ss) (l ∷ ls) n e = no_bare s ss l ls l.mark refl n e
-
 pub row_line_is_block : (steps : List Step) (rs : List Row) (x : RowLine) → row_line_of steps rs ≡ Some x → begins_no_node (lines_of rs) ≡ true
-row_line_is_block steps rs x e = let n = bind_some (line_of steps (lines_of rs)) e in line_is_block steps (lines_of rs) n.0 n.1
+row_line_is_block steps rs x e = let n = bind_some (line_of steps (lines_of rs)) e in (search (rules, none-some, bare_none, n.1))
 
 -- rows have lines
 row_some : (above : List (List ℕ)) (column : ℕ) (ns : List ℕ) (m : rows.Mark) (c : rows.Content) (more : List Line) → lines_from above column ns m c ++ more ≡ [] → ⊥

@@ -1,5 +1,5 @@
 -- One document of a text in the place of another, as an operation makes it: the text reads as the documents after that, and leaves the room that it has to.
-use Rattle.std.proofs.Common.{◌≡◌, ℕ, zero, suc, List, [], ◌∷◌, map, Option, Some, refl, sym, ap, ◌∙◌, subst}
+use Rattle.std.proofs.Common.{◌≡◌, ℕ, zero, suc, List, [], ◌∷◌, map, Option, Some, refl, sym, ap, ◌∙◌, subst, rules}
 use Rattle.std.proofs.lemmas.Option.{same_Some}
 use Rattle.std.specs.List.{slice_get}
 use Rattle.yq_flow_scalars.specs.Tree.{Node, children_of}
@@ -17,9 +17,9 @@ use Rattle.yq_change.specs.Changed.{changed, put_document}
 use Rattle.yq_change.proofs.AfterLaws.{nth_is, nth_same}
 use Rattle.yq_change.proofs.ChangedLaws.{document_put}
 use Rattle.yq_meaning.specs.After.{document_of, root_after, done_to, after_op}
-use Rattle.yq_meaning.specs.Operations.{Operation, replace, append, remove, line_comment, head_comment}
+use Rattle.yq_meaning.specs.Operations.{Operation}
 use Rattle.yq_meaning.specs.Rooms.{comment_part, room_of}
-use Rattle.yq_meaning.specs.RoomsKept.{SameRoom, KeepsBlock, SetsComment}
+use Rattle.yq_meaning.specs.RoomsKept.{KeepsBlock}
 use Rattle.yq_change.specs.Rooms.{is_block_root}
 use Rattle.yq_edits.specs.Done.{IsDone, DocumentDone}
 use Rattle.yq_edits.specs.ReadsAfter.{RoomStays}
@@ -60,19 +60,6 @@ part_of (p ∷ ps) (suc n) d e = part_of ps n d e
 abbrev part_in : List ℕ → ℕ → Option Part
 part_in t i = slice_get (document_parts (cut_of t)) i
 
-room_by_part : (t u : List ℕ) (i : ℕ) → part_in u i ≡ part_in t i → SameRoom (room_of t i) (room_of u i)
-room_by_part t u i h = record {
-  block = ap part_is_block h;
-  has = λ place steps. ap (λ o. row_line_has_room (comment_part place) (o >>= λ p. row_line_of steps p.rows)) h;
-}
-
-keeps_block : (op : Operation) (root : Node) → SetsComment op → KeepsBlock op root
-keeps_block (replace doc steps v) root h = absurd h
-keeps_block (append doc steps key v) root h = absurd h
-keeps_block (remove doc steps) root h = absurd h
-keeps_block (line_comment doc steps text) root h = tt
-keeps_block (head_comment doc steps text) root h = tt
-
 module _ (op : Operation) (c : Cut) (p q : Part) (lead : List (List ℕ)) (f : Node → Node) (h : IsDone op c p q lead f) where
   abbrev k : ℕ
   k = document_of op
@@ -102,9 +89,7 @@ module _ (op : Operation) (c : Cut) (p q : Part) (lead : List (List ℕ)) (f : N
   new_part = ap (λ x. slice_get (document_parts x) k) new_cut ∙ (ap (λ ps. slice_get ps k) parts_are ∙ nth_put k p q (document_parts c) h.there)
 
   other_part : (i : ℕ) → (i ≡ k → ⊥) → part_in u i ≡ part_in t i
-  other_part i apart =
-      ap (λ x. slice_get (document_parts x) i) new_cut
-      ∙ (ap (λ ps. slice_get ps i) parts_are ∙ (nth_stays k i (λ x. q) (document_parts c) apart ∙ ap (λ x. slice_get (document_parts x) i) (sym old_cut)))
+  other_part i apart = simp (new_cut, parts_are, nth_stays, old_cut)
 
   document_is : reading.document_of q ≡ changed lead f (reading.document_of p)
   document_is = nth_is k p q (changed lead f) (document_parts c) h.there (sym (ap (map reading.document_of) parts_are) ∙ h.changed.documents_are)
@@ -122,18 +107,16 @@ module _ (op : Operation) (c : Cut) (p q : Part) (lead : List (List ℕ)) (f : N
   block_is = ap part_is_block old_part
 
   documents_are : documents new ≡ after_op (room_of t) op (documents c)
-  documents_are =
-      h.changed.documents_are
-      ∙ (nth_same k p (changed lead f) (done_to (is_block_root p) op) (document_parts c) h.there same ∙ ap (λ b. change_nth k (done_to b op) (documents c)) (sym block_is))
+  documents_are = search (rules, nth_same, same, block_is)
 
   block_stays : KeepsBlock op (root_of q) → (room_of u k).block ≡ (room_of t k).block
   block_stays keeps = ap part_is_block new_part ∙ (h.block keeps ∙ sym block_is)
 
   room_stays : RoomStays op t u
   room_stays = record {
-    others = λ i apart. room_by_part t u i (other_part i apart);
+    others = λ i apart. (search (rules, other_part i apart));
     comments = λ sets. record {
-      block = block_stays (keeps_block op (root_of q) sets);
+      block = block_stays (search (rules, sets));
       has = λ place steps.
           ap (λ o. row_line_has_room (comment_part place) (o >>= λ x. row_line_of steps x.rows)) new_part
           ∙ (h.equal_room sets (comment_part place) steps ∙ ap (λ o. row_line_has_room (comment_part place) (o >>= λ x. row_line_of steps x.rows)) (sym old_part));
@@ -144,9 +127,4 @@ module _ (op : Operation) (c : Cut) (p q : Part) (lead : List (List ℕ)) (f : N
   }
 
 pub document_done : DocumentDone
-document_done op c p q lead f h = record {
-  cut = put_document (document_of op) q c;
-  read = h.changed.read;
-  documents_are = documents_are op c p q lead f h;
-  room = room_stays op c p q lead f h;
-}
+document_done op c p q lead f h = search (rules, documents_are, room_stays)

@@ -1,26 +1,19 @@
 -- What an operation that fits says of its value, its key, the anchors that go, and the node that gives way.
-use Rattle.std.proofs.Common.{inl, inr, ◌≡◌, ℕ, ◌+◌, ◌≤◌, Bool, true, false, ◌||◌, cond, List, [], ◌∷◌, ◌++◌, length, Option, Some, None, refl, sym, ap, ◌∙◌, subst, arith}
+use Rattle.std.proofs.Common.{inl, inr, ◌≡◌, ℕ, ◌+◌, ◌≤◌, Bool, true, false, ◌||◌, List, [], ◌∷◌, ◌++◌, length, Option, Some, None, refl, sym, ap, ◌∙◌, subst, arith, rules}
 use Rattle.std.proofs.lemmas.Bool.{false≢true, ltb-false, or_parts}
-use Rattle.std.proofs.lemmas.Slice.Eq.{bytes_eq-Decides}
 use Rattle.std.specs.List.{list_any, slice_get}
-use Rattle.std.proofs.lemmas.List.Elements.{All-cons}
-use Rattle.std.proofs.lemmas.List.Kept.{AllPairs-cons}
 use Rattle.std.proofs.lemmas.Option.{none-some, same_Some}
-use Rattle.std.specs.Prelude.{◌≢◌, All, AllPairs}
-use Rattle.std.specs.Str.{bytes_eq, chars}
+use Rattle.std.specs.Prelude.{◌≢◌, All}
+use Rattle.std.specs.Str.{bytes_eq}
 use Rattle.yq_flow_scalars.specs.Answers.{◌>>=◌}
 use Rattle.yq_flow_scalars.specs.Keys.{HasUniqueKeys, EachHasUniqueKeys, AreDistinct, with_key, keys_of, depth}
 use Rattle.yq_flow_scalars.specs.Paths.{Step, To, key_is, child_at, node_at}
-use Rattle.yq_flow_scalars.specs.Scalar.{string_of}
 use Rattle.yq_flow_scalars.specs.Shapes.{IsTree, AreTrees, AreEntries, IsNew}
 use Rattle.yq_flow_scalars.specs.Tree as tree
 use Rattle.yq_flow_scalars.specs.Tree.{Node, Children}
-use Rattle.yq_flow_scalars.specs.declared.style.Place.TheVariants.{FlowKey}
 use Rattle.yq_nodes.specs.Inline.{depth_limit}
 use Rattle.yq_flow.specs.Valued.{IsLabel, IsValueTree, AreValueTrees}
-use Rattle.yq_nodes.specs.Written.{scalar_text}
 use Rattle.yq_flow_scalars.specs.Anchors.{Name, Anchors, Refers, names_of, names_in, IsAmong}
-use Rattle.yq_cut.specs.Grammar.{key_limit}
 use Rattle.yq_cut.specs.Rows.{Part, Cut, cut_text}
 use Rattle.yq_documents.specs.Documents.{Document, document_parts}
 use Rattle.yq_documents.specs.Reading as reading
@@ -28,7 +21,7 @@ use Rattle.yq_documents.specs.Reading.{documents, root_of}
 use Rattle.yq_block.specs.BlockValues.{IsNear, HasNearKeys, EachHasNearKeys}
 use Rattle.yq_block.proofs.KeyLaws.{near_key}
 use Rattle.yq_change.specs.Conditions.{aliases_in, AreSpared}
-use Rattle.yq_change.specs.SoundRoots.{inner_names, IsNewValue, MayReplace}
+use Rattle.yq_change.specs.SoundRoots.{IsNewValue, MayReplace}
 use Rattle.yq_meaning.specs.Changes.{is_long, has_long_key, have_long_key, is_deep, is_used, refers_to, is_used_inside}
 use Rattle.yq_meaning.specs.Fits.{Fits}
 use Rattle.yq_meaning.specs.Operations.{replace}
@@ -36,6 +29,7 @@ use Rattle.yq_meaning.specs.Rooms.{room_of}
 use Rattle.yq_edits.specs.Operands.{KeyIsUtf8}
 use Rattle.yq_places.specs.NodesAt.{node_in}
 use Rattle.yq_edits.proofs.DoneLaws.{nth_map}
+use Rattle.yq_meaning.proofs.PathLaws.{bytes_refl}
 
 -- ---- values
 
@@ -50,22 +44,13 @@ mutual
   values_names keyed tree.none h = refl
   values_names keyed (tree.child label n cs) h = λ i. value_names n h.1 i ++ values_names keyed cs h.2 i
 
--- keys that differ
-key_differs : (k : List ℕ) (o : Option (List ℕ)) (ks : List (List ℕ)) → (o ≢ Some k) → All (λ j. k ≢ j) ks → All (λ j. k ≢ j) (with_key o ks)
-key_differs k None ks h others = others
-key_differs k (Some j) ks h others = All-cons (λ x. k ≢ x) j ks (λ same. h (ap Some (sym same))) others
-
 other_keys : (k : List ℕ) (cs : Children) → IsNew k cs → All (λ j. k ≢ j) (keys_of cs)
 other_keys k tree.none h = λ i d within. absurd (omega (arith, within))
-other_keys k (tree.child label n cs) h = key_differs k label.key (keys_of cs) h.0 (other_keys k cs h.1)
-
-no_pairs : AllPairs (λ (a b : List ℕ). a ≢ b) []
-no_pairs = λ i j d less within. absurd (omega (arith, within))
+other_keys k (tree.child label n cs) h = search (rules, h.0, other_keys k cs h.1)
 
 distinct : (cs : Children) → AreEntries cs → AreDistinct (keys_of cs)
-distinct tree.none h = no_pairs
-distinct (tree.child label n cs) h =
-    subst (λ (o : Option (List ℕ)). AreDistinct (with_key o (keys_of cs))) (sym h.0.1) (AllPairs-cons (λ a b. a ≢ b) h.0.0 (keys_of cs) (other_keys h.0.0 cs h.0.2) (distinct cs h.1))
+distinct tree.none h = λ i j d less within. absurd (omega (arith, within))
+distinct (tree.child label n cs) h = search (rules, other_keys, distinct cs h.1)
 
 mutual
   pub tree_unique : (n : Node) → IsTree n → HasUniqueKeys n
@@ -84,12 +69,10 @@ new_value above v h unique deep = record { bare = value_names v h; unique = uniq
 -- ---- keys
 
 pub key_near : (key : Option (List ℕ)) → KeyIsUtf8 key → is_long key ≡ false → IsNear key
-key_near None u h = tt
-key_near (Some k) u h = near_key k key_limit u (ltb-false key_limit (length (chars (scalar_text (string_of k) FlowKey))) h)
+key_near key h1 h2 = search (rules, near_key, ltb-false)
 
 label_near : (keyed : Bool) (label : tree.Label) → IsLabel keyed label → is_long label.key ≡ false → IsNear label.key
-label_near true label h long = key_near label.key (subst KeyIsUtf8 (ap (λ (l : tree.Label). l.key) (sym h.1)) h.2) long
-label_near false label h long = subst IsNear (ap (λ (l : tree.Label). l.key) (sym h)) tt
+label_near keyed label h1 h2 = search (rules, key_near)
 
 mutual
   pub near_keys : (v : Node) → IsValueTree v → has_long_key v ≡ false → HasNearKeys v
@@ -107,29 +90,19 @@ mutual
         each_near keyed cs h.2 (or_parts (has_long_key n) (have_long_key cs) others).1,
       )
 
--- a key that a mapping hasn't
-same_bytes : (a : List ℕ) → bytes_eq a a ≡ true
-same_bytes a = (bytes_eq-Decides a a).1 refl
-
 key_other : (k : List ℕ) (o : Option (List ℕ)) (ks : List (List ℕ)) → key_is k o ≡ false → (IsAmong k ks → ⊥) → IsAmong k (with_key o ks) → ⊥
-key_other k None ks e others among = others among
-key_other k (Some j) ks e others (inl same) = false≢true (sym e ∙ (ap (λ x. bytes_eq j x) same ∙ same_bytes j))
-key_other k (Some j) ks e others (inr more) = others more
+key_other k o ks h1 h2 h3 = search (rules, false≢true, bytes_refl)
 
 pub new_key : (k : List ℕ) (cs : Children) → child_at (To k) cs ≡ None → IsAmong k (keys_of cs) → ⊥
 new_key k tree.none e among = among
-new_key k (tree.child label n cs) e among = go (key_is k label.key) refl (new_key k cs)
-  where
-    go : (b : Bool) → key_is k label.key ≡ b → (child_at (To k) cs ≡ None → IsAmong k (keys_of cs) → ⊥) → ⊥
-    go true here ih = none-some _ (sym (ap (λ x. cond x (Some n) (child_at (To k) cs)) (sym here) ∙ e))
-    go false here ih = key_other k label.key (keys_of cs) here (ih (ap (λ x. cond x (Some n) (child_at (To k) cs)) (sym here) ∙ e)) among
+new_key k (tree.child label n cs) e among = search (rules, none-some, key_other, new_key k cs)
 
 -- ---- anchors that go
 
 pub none_refers : (a : List ℕ) (names : List Name) → list_any (refers_to a) names ≡ false → IsAmong a (aliases_in names) → ⊥
 none_refers a [] h among = among
 none_refers a (Anchors b ∷ names) h among = none_refers a names h among
-none_refers a (Refers b ∷ names) h (inl same) = absurd (false≢true (sym (or_parts (bytes_eq a b) (list_any (refers_to a) names) h).0 ∙ (ap (bytes_eq a) (sym same) ∙ same_bytes a)))
+none_refers a (Refers b ∷ names) h (inl same) = absurd (false≢true (sym (or_parts (bytes_eq a b) (list_any (refers_to a) names) h).0 ∙ (ap (bytes_eq a) (sym same) ∙ bytes_refl a)))
 none_refers a (Refers b ∷ names) h (inr more) = none_refers a names (or_parts (bytes_eq a b) (list_any (refers_to a) names) h).1 more
 
 pub not_used : (names gone : List Name) → list_any (is_used names) gone ≡ false → AreSpared gone [] names
@@ -138,13 +111,6 @@ not_used names (Anchors b ∷ gone) h a (inl same) others =
     none_refers b names (or_parts (list_any (refers_to b) names) (list_any (is_used names) gone) h).0 (subst (λ (x : List ℕ). IsAmong x (aliases_in names)) same others)
 not_used names (Anchors b ∷ gone) h a (inr more) others = not_used names gone (or_parts (list_any (refers_to b) names) (list_any (is_used names) gone) h).1 a more others
 not_used names (Refers b ∷ gone) h a among others = not_used names gone h a among others
-
--- what goes with a node that is exchanged, and with one that is removed
-inside_spared : (names : List Name) (n : Node) → is_used_inside names (Some n) ≡ false → AreSpared (inner_names n) [] names
-inside_spared names (tree.alias name) h = λ a among others. among
-inside_spared names (tree.scalar b kind text) h = λ a among others. among
-inside_spared names (tree.list b cs) h = not_used names (names_in cs) h
-inside_spared names (tree.map b cs) h = not_used names (names_in cs) h
 
 -- ---- a node that gives way
 
@@ -169,7 +135,7 @@ fits_replace doc steps v c p at h fits =
       node = n;
       there = ap (node_at steps) root ∙ fits.2.1.1;
       known = ap (λ (o : Option Document). o >>= λ d. node_at steps d.root) fits.1 ∙ fits.2.1.1;
-      may = record { value_is = new; spared = inside_spared (names_of (root_of p)) n used };
+      may = record { value_is = new; spared = (search (rules, not_used, used)) };
       near = near_keys v h fits.2.0.1;
       long = fits.2.0.1;
       deep = omega (arith, new.nested);

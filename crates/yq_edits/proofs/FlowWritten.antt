@@ -1,5 +1,5 @@
 -- What is written of a value in flow style is the inline node of that value, and a piece of a text.
-use Rattle.std.proofs.Common.{◌≡◌, ◌≢◌, ℕ, ◌||◌, eqb, List, [], ◌∷◌, Option, Some, None, Bool, true, false, cond, refl, sym, ap, ◌∙◌, subst}
+use Rattle.std.proofs.Common.{◌≡◌, ◌≢◌, ℕ, ◌||◌, List, [], ◌∷◌, Option, Bool, true, false, cond, subst, rules}
 use Rattle.std.proofs.lemmas.Bool.{false≢true, ltb-false, or_parts}
 use Rattle.std.specs.Prelude.{codes}
 use Rattle.std.specs.Str.{chars}
@@ -9,7 +9,6 @@ use Rattle.yq_flow_scalars.specs.Tree as tree
 use Rattle.yq_flow_scalars.specs.Tree.{Children}
 use Rattle.yq_flow_scalars.specs.Writable.{can_write_plain}
 use Rattle.yq_flow_scalars.specs.Written.{written}
-use Rattle.yq_flow_scalars.specs.declared.kind.Kind.TheVariants as kinds
 use Rattle.yq_flow_scalars.specs.declared.style.Style.TheVariants as styles
 use Rattle.yq_block_scalars.proofs.PlainSpells.{writable_text}
 use Rattle.yq_nodes.specs.Written.{scalar_text, flow_key, flow_of, flow_items}
@@ -22,15 +21,11 @@ unfolding chars
 plain_apart k h e = let text : is_plain_text true (60 ∷ 60 ∷ []) ≡ true = subst (λ (t : List ℕ). is_plain_text true t ≡ true) e h in false≢true text
 
 key_apart_by : (k : List ℕ) (plain : Bool) → can_write_plain (string_of k) true ≡ plain → written (cond plain styles.Plain styles.Double) k ≢ codes "<<"
-key_apart_by k true h e = let merge : codes "<<" ≡ 60 ∷ 60 ∷ [] = refl in plain_apart k (writable_text kinds.Text k true tt h) (e ∙ merge)
-key_apart_by k false h e =
-    let merge : codes "<<" ≡ 60 ∷ 60 ∷ [] = refl in
-    false≢true (sym (ap (Rattle.yq_flow_scalars.specs.Text.front (λ b. eqb b 34)) (e ∙ merge)))
+key_apart_by k plain h1 = search (rules, plain_apart, writable_text, false≢true)
 
 pub key_fits : (k : Option (List ℕ)) → is_long k ≡ false → HasFitKey (flow_key k)
 unfolding scalar_text
-key_fits None h = tt
-key_fits (Some k) h = (key_apart_by k (can_write_plain (string_of k) true) refl, ltb-false _ _ h)
+key_fits k h1 = search (rules, key_apart_by, ltb-false)
 
 mutual
   unfolding flow_of flow_items

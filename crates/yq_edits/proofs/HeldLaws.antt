@@ -1,12 +1,11 @@
 -- What a key or dash holds spells the text of its rows.
-use Rattle.std.proofs.Common.{◌≡◌, ℕ, Bool, true, false, cond, List, [], ◌∷◌, ◌++◌, Some, None, refl, sym, ap, ◌∙◌, append_assoc, append-nil}
+use Rattle.std.proofs.Common.{◌≡◌, ℕ, true, cond, List, [], ◌∷◌, ◌++◌, Some, refl, sym, ap, ◌∙◌, append_assoc, append-nil, rules}
 use Rattle.std.proofs.lemmas.Bool.{false≢true}
 use Rattle.yq_flow_scalars.specs.Paths.{Step}
 use Rattle.yq_flow_scalars.specs.Text.{is_empty}
-use Rattle.yq_nodes.specs.Nodes as inline
 use Rattle.yq_cut.specs.Exchange.{row_front}
-use Rattle.yq_cut.specs.Rows.{Content, Nothing, Inline, Block, Row, Cut, cut_text, print_row, rows_text}
-use Rattle.yq_cut.specs.View.{Slices, content_cut, slices}
+use Rattle.yq_cut.specs.Rows.{Row, Cut, cut_text, print_row, rows_text}
+use Rattle.yq_cut.specs.View.{Slices, slices}
 use Rattle.yq_places.specs.CommentPlaces.{LineEnd, end_before, line_text}
 use Rattle.yq_places.specs.PrintedLines.{last_break, less_break}
 use Rattle.yq_places.specs.RowPieces.{anchor_before, space_before}
@@ -15,38 +14,17 @@ use Rattle.yq_places.proofs.RunSpans.{rows_then}
 use Rattle.yq_edits.proofs.CommentRowLaws.{end_parts, entry_is_row, entry_row, found_text, line_whole, row_found}
 use Rattle.yq_change.specs.StandingLaws.{held_text}
 use Rattle.yq_places.specs.Standings.{RowsOfEntry, before_entry, behind_entry, rows_of_entry, held}
+use Rattle.yq_cut.proofs.EmptyTexts.{empty_is}
 
 -- ---- the pieces of a row
 
-nothing_there : (t : List ℕ) → is_empty t ≡ true → t ≡ []
-nothing_there [] e = refl
-nothing_there (b ∷ t) e = absurd (false≢true e)
-
 -- a row without an anchor has no white space behind one
 no_apart : (r : Row) → is_empty (slices r).anchor ≡ true → (slices r).apart ≡ []
-no_apart r = go r.content
-  where
-    go : (x : Content) → is_empty (content_cut x).1 ≡ true → (content_cut x).2 ≡ []
-    go (Nothing tail) e = refl
-    go (Inline space inline.empty tail) e = refl
-    go (Inline space (inline.alias name) tail) e = refl
-    go (Inline space (inline.scalar p) tail) e = refl
-    go (Inline space (inline.coll close gap items) tail) e = refl
-    go (Inline space (inline.anchored name gap node) tail) e = absurd (false≢true e)
-    go (Block space None b) e = refl
-    go (Block space (Some a) b) e = absurd (false≢true e)
+no_apart r = search (rules, false≢true)
 
 -- the text of a line up to its tail: the key or dash with its anchor, the white space behind that, and the head
 pub front_is : (b : List ℕ) (r : Row) → b ++ line_text r ≡ ((b ++ row_front r) ++ anchor_before (slices r)) ++ (space_before (slices r) ++ (slices r).head)
-front_is b r = go (is_empty (slices r).anchor) refl
-  where
-    go : (x : Bool) → is_empty (slices r).anchor ≡ x →
-        b ++ (row_front r ++ ((slices r).space ++ ((slices r).anchor ++ ((slices r).apart ++ (slices r).head))))
-        ≡ ((b ++ row_front r) ++ cond x [] ((slices r).space ++ (slices r).anchor)) ++ (cond x (slices r).space (slices r).apart ++ (slices r).head)
-    go true e =
-        (λ i. b ++ (row_front r ++ ((slices r).space ++ (nothing_there (slices r).anchor e i ++ (no_apart r e i ++ (slices r).head)))))
-        ∙ simp (append_assoc, append-nil) refl
-    go false e = simp append_assoc refl
+front_is b r = search (rules, empty_is, no_apart, append_assoc, append-nil)
 
 -- ---- the lines below
 
@@ -91,8 +69,7 @@ module _ (e : RowsOfEntry) where
   pub held_spelled : before_entry e ++ print_row e.row (rows_text e.under (behind_entry e)) ≡ held_text (held e)
   held_spelled =
       let rest : List ℕ = t.white ++ (t.comment ++ tail_text) in
-      let apart : (lead ++ (space_before s ++ s.head)) ++ rest ≡ lead ++ (space_before s ++ (s.head ++ rest)) =
-      append_assoc lead (space_before s ++ s.head) rest ∙ ap (λ x. lead ++ x) (append_assoc (space_before s) s.head rest) in
+      let apart : (lead ++ (space_before s ++ s.head)) ++ rest ≡ lead ++ (space_before s ++ (s.head ++ rest)) = search (rules, append_assoc, rest) in
       line_whole (entry_row e) ∙ ((λ i. front_is (before_entry e) e.row i ++ rest_is i) ∙ apart)
 
 -- ---- the text of a cut

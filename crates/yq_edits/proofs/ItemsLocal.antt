@@ -1,5 +1,5 @@
 -- Items of a cut, exchanged for others: the bytes of those that are kept in part.
-use Rattle.std.proofs.Common.{◌≡◌, ℕ, ◌≤◌, List, [], ◌∷◌, ◌++◌, length, false, refl, sym, ap, ◌∙◌, subst, append_assoc, arith}
+use Rattle.std.proofs.Common.{◌≡◌, ℕ, ◌≤◌, List, [], ◌∷◌, ◌++◌, length, false, refl, sym, ap, ◌∙◌, subst, append_assoc, arith, rules}
 use Rattle.std.proofs.lemmas.List.{append_cancel_left, append_cancel_right, length-append}
 use Rattle.yq_cut.specs.Items.{Item, row_item, end_item, rows_items, items_of, items_text}
 use Rattle.yq_cut.specs.Rows.{Row, Cut, cut_text}
@@ -15,8 +15,7 @@ use Rattle.yq_script.proofs.KeptSegments.{IsBetween, between}
 -- ---- bytes in items
 
 pub first_nothing : (is : List Item) → InFirst [] is
-first_nothing [] = refl
-first_nothing (i ∷ is) = omega arith
+first_nothing is = search rules
 
 pub last_nothing : (is : List Item) → InLast [] is
 last_nothing [] = refl
@@ -45,10 +44,7 @@ item_apart (end_item gap marker) is rest = sym (append_assoc gap marker (items_t
 
 -- the text between what segments keep
 inside : (f r lead m trail z : List ℕ) → f ++ (r ++ z) ≡ (f ++ lead) ++ (m ++ (trail ++ z)) → r ≡ lead ++ (m ++ trail)
-inside f r lead m trail z e =
-    append_cancel_right r (lead ++ (m ++ trail)) z
-    (append_cancel_left f (r ++ z) ((lead ++ (m ++ trail)) ++ z)
-    (e ∙ (append_assoc f lead (m ++ (trail ++ z)) ∙ ap (λ t. f ++ t) (ap (λ t. lead ++ t) (sym (append_assoc m trail z)) ∙ sym (append_assoc lead (m ++ trail) z)))))
+inside f r lead m trail z e = search (rules, append_cancel_right, append_cancel_left, append_assoc)
 
 -- The text of items begins with bytes, and ends with others.
 pub record IsInside (is : List Item) (lead trail : List ℕ) : Type 0 where
@@ -93,25 +89,11 @@ module _ (ss : List Segment) (c new : Cut) (e : ItemsGiveWay ss c new) where
       (sym (ap (λ is. items_text is []) e.new_are) ∙ (items_of_text new ∙ (sym e.new_is ∙ (b.new_is ∙ (λ j. e.before_is j ++ (b.new ++ e.behind_is j))))))
 
   pub items_local : InFirst e.lead e.gone → InFirst e.lead e.come → InLast e.trail e.gone → InLast e.trail e.come → IsLocal ss c new
-  items_local b0 b1 e0 e1 = record {
-    front = e.front;
-    gone = e.gone;
-    come = e.come;
-    back = e.back;
-    lead = e.lead;
-    trail = e.trail;
-    old_are = e.old_are;
-    new_are = e.new_are;
-    before_is = e.before_is;
-    behind_is = e.behind_is;
-    begins = (b0, b1);
-    ends = (e0, e1);
-  }
+  items_local b0 b1 e0 e1 = search rules
 
 -- bytes of one item
 pub one_first : (i : Item) (lead trail : List ℕ) → IsInside (i ∷ []) lead trail → length lead ≤ length (item_text i)
 one_first i lead trail h = omega (arith, ap length h.text, ap length (item_apart i [] []), length-append (item_text i) [], length-append lead (h.middle ++ trail))
 
 pub one_last : (i : Item) (lead trail : List ℕ) → IsInside (i ∷ []) lead trail → length trail ≤ length (item_text i)
-one_last i lead trail h =
-    omega (arith, ap length h.text, ap length (item_apart i [] []), length-append (item_text i) [], length-append lead (h.middle ++ trail), length-append h.middle trail)
+one_last i lead trail h = search (rules, item_apart, length-append)

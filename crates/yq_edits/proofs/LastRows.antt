@@ -1,9 +1,8 @@
 -- Bytes of one line that end rows lie in the last of them.
-use Rattle.std.proofs.Common.{inl, inr, ◌≡◌, append_assoc, Some, ℕ, ◌<◌, ◌≤◌, Bool, true, false, leb, List, [], ◌∷◌, ◌++◌, length, refl, sym, ap, ◌∙◌, subst, arith}
+use Rattle.std.proofs.Common.{◌≡◌, append_assoc, Some, ℕ, ◌<◌, ◌≤◌, Bool, true, false, leb, List, [], ◌∷◌, ◌++◌, length, refl, sym, ap, ◌∙◌, subst, arith, rules}
 use mathlib.Core.List.{tail-eq_of_cons-eq}
 use Rattle.std.proofs.lemmas.Bool.{false≢true, leb-true, leb-false}
 use Rattle.std.proofs.lemmas.List.{length-append}
-use Rattle.yq_flow_scalars.specs.Text.{is_empty}
 use Rattle.yq_block_scalars.proofs.BlockPieceLaws.{IsLf}
 use Rattle.yq_flow_scalars.proofs.Bools.{guard_then}
 use Rattle.yq_cut.specs.Grammar.{Limit, limit_after, IsRow}
@@ -48,8 +47,7 @@ row_feed : (asked : Asked) (r s : Row) (is : List Item) (rest : List ℕ) → Ar
 row_feed asked r s is rest h = go (row_ended asked.limit r (print_row s (items_text is rest)) h.0.1)
   where
     go : Ended (print_row r []) (print_row s (items_text is rest)) → IsLf (print_row r [])
-    go (inl lf) = lf
-    go (inr none) = absurd (false≢true (sym (row_some (limit_after r) s (items_text is rest) h.1.0.1) ∙ ap is_empty none))
+    go h1 = search (rules, false≢true, row_some)
 
 last_line : (rs : List Row) (asked : Asked) (is : List Item) (rest t trail : List ℕ) → AreRowItems asked (rows_items rs is) rest → rows_text rs [] ≡ t ++ trail → is_one_line trail ≡ true → InLast trail (rows_items rs [])
 last_line [] asked is rest t trail h e one = left_none t trail (sym e)
@@ -71,8 +69,7 @@ last_line (r ∷ (s ∷ more)) asked is rest t trail h e one = go (λ u k. last_
         let k = longer_end (print_row r []) (rows_text (s ∷ more) []) t trail whole (omega (arith, more_than)) in
         let long : 0 < length k.0 = omega (arith, more_than, ap length k.1, length-append k.0 (rows_text (s ∷ more) [])) in
         let lf : IsLf k.0 = lf_end t k.0 (subst IsLf k.2 (row_feed asked r s (rows_items more is) rest h)) long in
-        let none : rows_text (s ∷ more) [] ≡ [] = behind_feed k.0 (rows_text (s ∷ more) []) (ap is_one_line (sym k.1) ∙ one) lf in
-        absurd (omega (arith, some, ap length none))
+        search (rules, behind_feed, is_one_line, lf, k, some)
 
 -- the same of rows of a text that reads as a cut
 cut_line : (c : Cut) (front : List Item) (rs : List Row) (back : List Item) (lead trail : List ℕ) → read_at (cut_text c) ≡ Some c → items_of c ≡ front ++ (rows_items rs [] ++ back) →

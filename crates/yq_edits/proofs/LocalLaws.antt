@@ -1,5 +1,5 @@
 -- Items of a cut, and rows of a document, exchanged for others.
-use Rattle.std.proofs.Common.{◌≡◌, ℕ, ◌≤◌, List, [], ◌∷◌, ◌++◌, length, Some, false, refl, sym, ap, ◌∙◌, subst, append_assoc, arith}
+use Rattle.std.proofs.Common.{◌≡◌, ℕ, ◌≤◌, List, [], ◌∷◌, ◌++◌, length, Some, false, refl, sym, ap, ◌∙◌, subst, append_assoc, arith, rules}
 use mathlib.Core.List.{head-eq_of_cons-eq, tail-eq_of_cons-eq}
 use Rattle.std.proofs.lemmas.List.{append_cancel_right, length-append}
 use Rattle.std.proofs.lemmas.Option.{same_Some}
@@ -63,9 +63,7 @@ module _ (c : Cut) (k : ℕ) (p : Part) (there : slice_get (document_parts c) k 
       ∙ (items_text-append h.above (rows_items q.rows tail) [] ∙ ap (items_text h.above) (rows_spell q.rows tail [] ∙ ap (λ t. rows_text q.rows (q.end ++ t)) (sym h.behind))))
 
   pub above_is : (t : List ℕ) → items_text h.above t ≡ start ++ t
-  above_is t =
-      items_apart h.above t
-      ∙ ap (λ s. s ++ t) (append_cancel_right (items_text h.above []) start (part_text p (behind_document k c)) (sym (items_apart h.above (part_text p (behind_document k c))) ∙ (sym (put_text p) ∙ put p)))
+  above_is t = search (rules, items_apart, append_cancel_right, put_text)
 
   abbrev pub front_items : List Row → List Item
   front_items front = h.above ++ rows_items front []

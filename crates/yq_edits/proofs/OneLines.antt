@@ -1,8 +1,8 @@
 -- Texts of one line: no line feed stands in them, but perhaps as the last byte.
-use Rattle.std.proofs.Common.{inl, inr, ◌≡◌, ℕ, Bool, true, false, cond, List, [], ◌∷◌, ◌++◌, refl, sym, ap, ◌∙◌}
+use Rattle.std.proofs.Common.{◌≡◌, ℕ, Bool, true, false, cond, List, [], ◌∷◌, ◌++◌, refl, sym, ap, ◌∙◌, rules}
 use mathlib.Core.List.{head-eq_of_cons-eq, tail-eq_of_cons-eq}
 use Rattle.std.proofs.lemmas.Bool.{false≢true, and_parts}
-use Rattle.yq_flow_scalars.specs.Text.{is_break, is_empty, is_feed, is_line}
+use Rattle.yq_flow_scalars.specs.Text.{is_empty, is_feed, is_line}
 use Rattle.yq_block_scalars.proofs.BlockPieceLaws.{IsLf}
 use Rattle.yq_block_scalars.proofs.LineLaws.{is_empty_is}
 use Rattle.yq_cut.specs.Gap.{IsBreak}
@@ -30,8 +30,7 @@ behind_feed (b ∷ u) w h lf = go (behind_feed u w) (is_feed b) refl
     more e (x ∷ f) is = (f, tail-eq_of_cons-eq is)
 
     go : (is_one_line (u ++ w) ≡ true → IsLf u → w ≡ []) → (x : Bool) → is_feed b ≡ x → w ≡ []
-    go again true e = left_none u w (is_empty_is (u ++ w) (sym (ap (λ x. cond x (is_empty (u ++ w)) (is_one_line (u ++ w))) e) ∙ h))
-    go again false e = again (sym (ap (λ x. cond x (is_empty (u ++ w)) (is_one_line (u ++ w))) e) ∙ h) (more e lf.0 lf.1)
+    go h1 x h2 = search (rules, left_none, is_empty_is, more)
 
 -- ---- ends of lines
 
@@ -42,12 +41,7 @@ one_more b t e h = ap (λ x. cond x (is_empty t) (is_one_line t)) e ∙ h
 line_is_one : (t : List ℕ) → is_line t ≡ true → is_one_line t ≡ true
 unfolding is_line
 line_is_one [] h = refl
-line_is_one (b ∷ t) h = go (line_is_one t) (is_feed b) refl
-  where
-    go : (is_line t ≡ true → is_one_line t ≡ true) → (x : Bool) → is_feed b ≡ x → is_one_line (b ∷ t) ≡ true
-    go again true e = ap (λ x. cond x (is_empty t) (is_one_line t)) e ∙ (sym (ap (λ x. cond x (is_empty t) (is_line t)) e) ∙ h)
-    go again false e = one_more b t e (again (sym (ap (λ x. cond x (is_empty t) (is_line t)) e) ∙ h))
+line_is_one (b ∷ t) h = search (rules, one_more, line_is_one t)
 
 pub break_line : (b rest : List ℕ) → IsBreak b rest → is_one_line b ≡ true
-break_line b rest (inl e) = line_is_one b (and_parts (is_break b) (is_line b) e).1
-break_line b rest (inr e) = ap is_one_line e.0
+break_line b rest h1 = search (rules, line_is_one, and_parts)

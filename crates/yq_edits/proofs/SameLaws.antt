@@ -1,8 +1,7 @@
 -- Scalars that are tested to be equal are.
-use Rattle.std.proofs.Common.{◌≡◌, true, eqb, refl, eqb-true}
+use Rattle.std.proofs.Common.{◌≡◌, true, refl, eqb-true, rules}
 use Rattle.std.proofs.lemmas.Bool.{and_parts}
 use Rattle.std.proofs.lemmas.Slice.Eq.{bytes_eq-Decides}
-use Rattle.std.specs.Str.{bytes_eq}
 use Rattle.yq_flow_scalars.specs.Scalar.{ScalarText}
 use Rattle.yq_flow_scalars.specs.declared.kind.Kind.{Kind}
 use Rattle.yq_flow_scalars.specs.declared.kind.Kind.TheVariants as kinds
@@ -37,8 +36,4 @@ same_kind kinds.Text kinds.Text h = refl
 
 -- scalars that are tested to be equal are
 pub same_is : (a b : ScalarText) → is_same a b ≡ true → a ≡ b
-same_is a b h =
-    let p = and_parts (eqb (table_row a.kind) (table_row b.kind)) (bytes_eq a.text b.text) h in
-    let kind : a.kind ≡ b.kind = same_kind a.kind b.kind (eqb-true (table_row a.kind) (table_row b.kind) p.0) in
-    let text : a.text ≡ b.text = (bytes_eq-Decides a.text b.text).0 p.1 in
-    λ i. record { kind = kind i; text = text i }
+same_is a b h = search (rules, and_parts, same_kind, eqb-true, bytes_eq-Decides)

@@ -1,9 +1,9 @@
 -- A document of which one node is exchanged for itself is the same.
-use Rattle.std.proofs.Common.{◌≡◌, ℕ, zero, suc, cond, List, [], ◌∷◌, Option, Some, Bool, true, false, refl, sym, ap, ◌∙◌, subst}
+use Rattle.std.proofs.Common.{◌≡◌, ℕ, zero, suc, List, [], ◌∷◌, Option, Some, refl, sym, ap, ◌∙◌, subst, rules}
 use Rattle.std.proofs.lemmas.Option.{same_Some}
 use Rattle.std.specs.List.{slice_get}
 use Rattle.std.specs.Prelude.{option_and_then}
-use Rattle.yq_flow_scalars.specs.Paths.{Step, is_here, further, child_at, change_child, change, node_at}
+use Rattle.yq_flow_scalars.specs.Paths.{Step, further, child_at, change_child, change, node_at}
 use Rattle.yq_flow_scalars.specs.Tree.{Node, alias, scalar, list, map, Children, none, child}
 use Rattle.yq_cut.specs.Rows.{Part, Cut, last, marked}
 use Rattle.yq_cut.specs.Splices.{nth_part}
@@ -31,12 +31,7 @@ nth_own (suc k) x f (y ∷ xs) e h = ap (λ zs. y ∷ zs) (nth_own k x f xs e h)
 -- a node at a step
 child_own : (s : Step) (g : Node → Node) (at : Node → Option Node) (cs : Children) (n : Node) → ((m : Node) → at m ≡ Some n → g m ≡ m) → option_and_then at (child_at s cs) ≡ Some n → change_child s g cs ≡ cs
 child_own s g at none n h e = refl
-child_own s g at (child label m cs) n h e = go (is_here s label) (child_own (further s) g at cs n h) e
-  where
-    go : (b : Bool) → (option_and_then at (child_at (further s) cs) ≡ Some n → change_child (further s) g cs ≡ cs) → option_and_then at (cond b (Some m) (child_at (further s) cs)) ≡ Some n →
-        cond b (child label (g m) cs) (child label m (change_child (further s) g cs)) ≡ child label m cs
-    go true later e = ap (λ x. child label x cs) (h m e)
-    go false later e = ap (child label m) (later e)
+child_own s g at (child label m cs) n h e = search (rules, child_own (further s) g at cs n h)
 
 -- a node at a path
 pub change_own : (ss : List Step) (f : Node → Node) (root n : Node) → node_at ss root ≡ Some n → f n ≡ n → change ss f root ≡ root

@@ -1,11 +1,11 @@
 -- The text at the end of a line, in pieces that can be read.
-use Rattle.std.proofs.Common.{◌≡◌, ◌⊎◌, inl, inr, ⊎_elim, ℕ, true, false, eqb, List, [], ◌∷◌, ◌++◌, length, refl, sym, ap, ◌∙◌, subst, append_assoc}
+use Rattle.std.proofs.Common.{◌≡◌, ◌⊎◌, ⊎_elim, ℕ, true, false, eqb, List, [], ◌∷◌, ◌++◌, length, refl, ap, ◌∙◌, subst, append_assoc, rules}
 use Rattle.std.proofs.Math.Seq.{take-append_seam}
 use Rattle.std.proofs.lemmas.Bool.{false≢true, or_cases, eqb-true, and_parts, cases_Bool}
 use Rattle.std.proofs.lemmas.Str.{IsUtf8-take}
 use Rattle.std.specs.Str.{IsUtf8}
 use Rattle.yq_flow_scalars.specs.Characters.{pairs_returns}
-use Rattle.yq_flow_scalars.specs.Text.{front, is_feed, is_return, ends_line, NoneIn}
+use Rattle.yq_flow_scalars.specs.Text.{front, is_feed, ends_line, NoneIn}
 use Rattle.yq_block_scalars.proofs.WrittenText.{is_line_ascii}
 use Rattle.yq_cut.specs.Gap.{IsWhite}
 use Rattle.yq_cut.specs.Grammar.{IsTail, IsRow, Limit}
@@ -24,11 +24,7 @@ use Rattle.yq_edits.proofs.CommentRowLaws.{line_whole, line_some}
 
 none_clean : (c rest : List ℕ) → NoneIn ends_line c rest → front is_feed rest ≡ true → ends_return c ≡ false
 none_clean [] rest h f = refl
-none_clean (b ∷ []) rest h f = go (cases_Bool (is_return b))
-  where
-    go : (is_return b ≡ true) ⊎ (is_return b ≡ false) → is_return b ≡ false
-    go (inr e) = e
-    go (inl e) = absurd (false≢true (sym h.0 ∙ rw (e, f) (Rattle.std.proofs.lemmas.Bool.or_right (is_feed b) true refl)))
+none_clean (b ∷ []) rest h f = search (rules, cases_Bool, false≢true)
 none_clean (b ∷ (d ∷ c)) rest h f = none_clean (d ∷ c) rest h.1 f
 
 pub white_piece : (w : List ℕ) → IsWhite w → IsPiece w
@@ -56,8 +52,7 @@ pieces w limit row whole h =
     let pairs : pairs_returns (print_row w.row w.behind) ≡ true = pairs_back w.before (print_row w.row w.behind) (and_parts _ (pairs_returns (w.before ++ print_row w.row w.behind)) whole.characters).1 in
     let first = clean_cut front_text (tail ++ more) text (front_utf8 front_text (tail ++ more) text (tail_ascii tail more h))
     (λ f. ends_more w.before (line_text w.row) (line_some limit w.row w.behind row h) ∙ line_ends_clean limit w.row w.behind row pairs f) in
-    let split : tail ++ more ≡ line ++ behind =
-    ap (λ l. l ++ more) (h.line.spelled ∙ sym (append_assoc h.white h.comment h.line.break)) ∙ append_assoc line h.line.break more in
+    let split : tail ++ more ≡ line ++ behind = search (rules, append_assoc, more, line) in
     let rest : IsPiece (line ++ behind) = subst IsPiece split first.1 in
     let ends : IsTail h.line.break more = record { white = []; comment = []; line = record { break = h.line.break; spelled = refl; blank = tt; as_comment = tt; ends = h.line.ends }; apart = refl } in
     let none : NoneIn ends_line line behind = white_none h.white h.comment behind h.line.blank (Rattle.yq_places.proofs.LineEndLaws.comment_more h.comment h.line.break more h.line.as_comment h.line.ends) in

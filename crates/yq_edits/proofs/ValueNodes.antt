@@ -1,5 +1,5 @@
 -- The inline nodes of values: scalars in a style of one line, and collections in flow style.
-use Rattle.std.proofs.Common.{◌≡◌, ℕ, ◌≤◌, eqb, not, cond, List, [], ◌∷◌, ◌++◌, Option, Some, Bool, true, false, refl, sym, ap, ◌∙◌, subst, append-nil}
+use Rattle.std.proofs.Common.{◌≡◌, ℕ, ◌≤◌, eqb, not, cond, List, [], ◌∷◌, ◌++◌, Option, Some, Bool, true, false, refl, sym, ap, ◌∙◌, subst, append-nil, rules}
 use Rattle.std.proofs.lemmas.Bool.{false≢true, not-true, and_parts}
 use Rattle.std.proofs.lemmas.Str.{IsUtf8-nil}
 use Rattle.std.specs.Str.{chars, IsUtf8}
@@ -44,13 +44,7 @@ first_other : (k b : ℕ) (t : List ℕ) → ((bs : List ℕ) → separates (k �
 first_other k b t never h = front_not separates k never (b ∷ t) h
 
 marker_behind : (t rest : List ℕ) → begins_marker t ≡ false → separates rest ≡ true → is_marker (t ++ rest) ≡ false
-marker_behind [] [] h s = refl
-marker_behind [] (b ∷ rest) h s = no_first b rest (first_other 45 b rest (λ bs. refl) s) (first_other 46 b rest (λ bs. refl) s)
-marker_behind (a ∷ []) [] h s = refl
-marker_behind (a ∷ []) (b ∷ rest) h s = no_second a b rest (first_other 45 b rest (λ bs. refl) s) (first_other 46 b rest (λ bs. refl) s)
-marker_behind (a ∷ b ∷ []) [] h s = refl
-marker_behind (a ∷ b ∷ []) (c ∷ rest) h s = no_third a b c rest (first_other 45 c rest (λ bs. refl) s) (first_other 46 c rest (λ bs. refl) s)
-marker_behind (a ∷ b ∷ c ∷ t) rest h s = rw h refl
+marker_behind t rest h1 h2 = search (rules, no_first, first_other, no_second, no_third)
 
 style_unmarked : (s : ScalarText) (style : Style) (rest : List ℕ) → IsValid s → IsOneLine style → can_write s style places.Block ≡ true → separates rest ≡ true → is_marker (written style s.text ++ rest) ≡ false
 style_unmarked s styles.Plain rest v i h sep = marker_behind s.text rest (not-true (begins_marker s.text) (and_parts _ (not (begins_marker s.text)) (writable_text s.kind s.text false v.kind h)).1) sep

@@ -1,15 +1,13 @@
 -- The text of a value that is written on one line is that of its inline node.
-use Rattle.std.proofs.Common.{◌≡◌, ℕ, ◌≤◌, Bool, true, false, cond, List, [], Option, eqb, refl, append-nil}
+use Rattle.std.proofs.Common.{◌≡◌, ℕ, ◌≤◌, true, false, List, [], Option, refl, append-nil, rules}
 use Rattle.yq_flow_scalars.specs.Keys.{depth}
 use Rattle.yq_flow_scalars.specs.Scalar.{ScalarText}
-use Rattle.yq_flow_scalars.specs.Text.{front}
 use Rattle.yq_flow_scalars.specs.Tree as tree
 use Rattle.yq_flow_scalars.specs.Tree.{Node}
 use Rattle.yq_flow_scalars.specs.Writable.{can_write}
 use Rattle.yq_flow_scalars.specs.Written.{written, IsOneLine}
 use Rattle.yq_flow_scalars.specs.declared.style.Place.TheVariants.{Block}
 use Rattle.yq_flow_scalars.specs.declared.style.Style.{Style}
-use Rattle.yq_flow_scalars.specs.declared.style.Style.TheVariants as styles
 use Rattle.yq_nodes.specs.Inline.{depth_limit}
 use Rattle.yq_nodes.specs.Nodes as inline
 use Rattle.yq_nodes.specs.Nodes.{node_text}
@@ -32,12 +30,7 @@ pub record IsWrittenFor (v : Node) (t : List ℕ) : Type 0 where
   pub piece : IsPiece t
 
 pub style_line : (p : List ℕ) → IsOneLine (style_of p)
-style_line p = go (front (λ b. eqb b 39) p) (front (λ b. eqb b 34) p)
-  where
-    go : (a b : Bool) → IsOneLine (cond a styles.Single (cond b styles.Double styles.Plain))
-    go true b = tt
-    go false true = tt
-    go false false = tt
+style_line p = search rules
 
 pub scalar_for : (a : Option (List ℕ)) (s : ScalarText) (style : Style) → IsValueTree (tree.scalar a s.kind s.text) → IsOneLine style → can_write s style Block ≡ true → IsWrittenFor (tree.scalar a s.kind s.text) (written style s.text)
 unfolding node_text

@@ -6,14 +6,14 @@ use Rattle.yq_flow_scalars.specs.Tree.{Node}
 use Rattle.yq_flow.specs.Valued.{IsValueTree}
 use Rattle.yq_cut.specs.Grammar.{no_rows}
 use Rattle.yq_cut.specs.Rows.{Row, behind_gap, behind_indent, Part, part_text, Cut, cut_text}
-use Rattle.yq_cut.specs.Splices.{first_gap, with_first_gap}
+use Rattle.yq_cut.specs.Splices.{first_gap}
 use Rattle.yq_documents.specs.Documents.{document_parts}
 use Rattle.yq_change.specs.Changed.{put_document}
 use Rattle.yq_change.specs.DocumentRows.{behind_document}
 use Rattle.yq_cut.specs.Items.{end_item, rows_items}
 use Rattle.yq_change.specs.Replaces.{rooted}
 use Rattle.yq_block.specs.declared.layout.Layout.{Layout}
-use Rattle.yq_block.proofs.LineLaws.{BeginAt, node_begun}
+use Rattle.yq_block.proofs.LineLaws.{node_begun}
 use Rattle.yq_script.specs.Script.{Segment, kept_front, kept_back}
 use Rattle.yq_edits.specs.Local.{InFirst, IsLocal}
 use Rattle.yq_edits.proofs.ItemsLocal.{rows_last}
@@ -27,9 +27,6 @@ use Rattle.std.proofs.Common.{Some}
 
 -- ---- the first row
 
-begun_first : (gap : List ℕ) (column : ℕ) (rs : List Row) → BeginAt column rs → InFirst (gap ++ replicate column 32) (rows_items (with_first_gap gap rs) [])
-begun_first gap column rs h1 = search (rules, length-append)
-
 lone_first : (gap : List ℕ) (column : ℕ) (node : inline.Node) (last : List ℕ) → InFirst (gap ++ replicate column 32) (rows_items (lone_row gap column node last ∷ []) [])
 lone_first gap column node last =
     omega (
@@ -40,7 +37,7 @@ lone_first gap column node last =
     )
 
 pub root_first : (v : Node) (l : Layout) (gap : List ℕ) (column : ℕ) (last : List ℕ) → IsValueTree v → InFirst (gap ++ replicate column 32) (rows_items (root_rows l gap column last v) [])
-root_first v l gap column last h1 = search (rules, h, lone_first, begun_first, node_begun)
+root_first v l gap column last h1 = search (rules, h, lone_first, length-append, node_begun)
 
 -- bytes that begin its gap
 gap_first : (rs : List Row) (xs : List Item) (g u : List ℕ) → no_rows rs ≡ false → first_gap rs [] ≡ g ++ u → InFirst g (rows_items rs xs)

@@ -7,20 +7,17 @@ use Rattle.yq_nodes.specs.Inline.{depth_limit}
 use Rattle.yq_flow.specs.Valued.{IsValueTree}
 use Rattle.yq_flow_scalars.specs.Anchors.{names_of}
 use Rattle.yq_lines.specs.Comments.{head_comment}
-use Rattle.yq_lines.specs.Group.{group}
-use Rattle.yq_lines.specs.Outline.{Line, anchored, value}
+use Rattle.yq_lines.specs.Outline.{anchored}
 use Rattle.yq_lines.proofs.NodeLaws.{anchored_none}
 use Rattle.yq_cut.specs.Grammar.{unlimited, AreRows, no_rows}
 use Rattle.yq_cut.specs.Rows.{Row, rows_text, Part, Cut, cut_text}
 use Rattle.yq_cut.specs.SpliceFits.{is_after}
 use Rattle.yq_cut.specs.Splices.{first_gap, marker_before}
 use Rattle.yq_documents.specs.Documents.{Document, document_parts, lead_of}
-use Rattle.yq_row_lines.specs.Lines.{lines_of}
 use Rattle.yq_documents.specs.TreeEdits.{anchor_of}
 use Rattle.yq_places.specs.PlacedRows.{PlacedPart}
 use Rattle.yq_documents.specs.Reading as reading
 use Rattle.yq_documents.specs.Reading.{root_of, read_at}
-use Rattle.yq_documents.specs.Ready.{begins_no_node}
 use Rattle.yq_places.specs.RowPaths.{IsReadable}
 use Rattle.yq_documents.specs.TreeEdits.{headed, lead_by, led, replaced}
 use Rattle.yq_block.specs.declared.layout.Layout.{Layout}
@@ -44,22 +41,14 @@ use Rattle.yq_edits.proofs.DoneLaws.{document_done}
 use Rattle.yq_root_edits.proofs.RootRows.{root_rows, HasRoom, AreRootRows}
 use Rattle.yq_root_edits.proofs.RootValues.{value_root_rows}
 
--- a block root, or one that isn't written, has no anchor
-unnamed_lines : (ls : List Line) → begins_no_node ls ≡ true → anchor_of (value (group ls)) ≡ None
-unnamed_lines ls h1 = search (rules, false≢true)
-
 block_unnamed : (p : Part) → is_block_root p ≡ true → anchor_of (root_of p) ≡ None
-block_unnamed p h = unnamed_lines (lines_of p.rows) h
+block_unnamed p h = search (rules, false≢true)
 
 -- a new value under a lead
 headed_new : (above : List (List ℕ)) (v : Node) → IsNewValue v 0 → IsNewValue (within (headed above) v) 0
 headed_new above v h =
     let w = led_same above v in
     record { bare = w.0 ∙ h.bare; unique = w.2 h.unique; nested = subst (λ k. k ≤ depth_limit) (ap (λ d. 0 + d) (sym w.1)) h.nested }
-
--- its lead is that of its first item or entry
-headed_lead : (lead : List (List ℕ)) (v : Node) → lead_by true (children_of (within (headed lead) v)) lead ≡ lead
-headed_lead lead v = search rules
 
 -- A value may come as the root of document n, between a gap that tells its lead and the end of the document.
 pub record TakesValue (n : ℕ) (c : Cut) (d : PlacedPart) (gap last back : List ℕ) : Type 0 where
@@ -131,7 +120,7 @@ module _ (n : ℕ) (c : Cut) (d : PlacedPart) (gap last back : List ℕ) (h : Ta
         ∙ (ap (λ a. anchored a new) (block_unnamed p h.block) ∙ anchored_none new)
 
     lead_goes : LeadGoes p q
-    lead_goes = lead_is ∙ (sym (headed_lead lead v) ∙ (λ i. lead_by (sym h.block i) (children_of (sym root_is i)) lead))
+    lead_goes = lead_is ∙ (sym (search rules) ∙ (λ i. lead_by (sym h.block i) (children_of (sym root_is i)) lead))
 
     pub root_read : read_at (cut_text (put_document n q c)) ≡ Some (put_document n q c)
     root_read = changed.read

@@ -139,9 +139,6 @@ module _ (v : Node) (l : Layout) (gap : List ℕ) (column : ℕ) (last back rest
         go (outline.Key k) e = tt
         go outline.Dash e = tt
 
-    level_some : (v : Node) → IsFilled v → 0 < level_at column v
-    level_some v h1 = search rules
-
     laid_first : (rs : List Row) → AreLaid column rs (back ++ rest) → AreRows unlimited rs [] (back ++ rest) → (o : Outline) → flatten o ≡ lines_of rs → IsEven (level_at column v) o → HasEntries o → value o ≡ v → RowsAreFit rs →
         rows_text rs (back ++ rest) ≡ replicate column 32 ++ (block_node l column v ++ (last ++ (back ++ rest))) →
         AreRootRows v gap (replicate column 32 ++ (block_node l column v ++ (last ++ (back ++ rest)))) (with_first_gap gap rs) back rest
@@ -170,7 +167,7 @@ module _ (v : Node) (l : Layout) (gap : List ℕ) (column : ℕ) (last back rest
           short = entry_short r.mark r.content h.entry;
           first = refl;
           level = level_at column v;
-          deep = level_some v filled;
+          deep = search (rules, filled);
           lines = with_lead above o;
           even = w.0;
           value_is = w.1 ∙ ap (within (headed above)) same;
@@ -215,13 +212,10 @@ module _ (v : Node) (l : Layout) (gap : List ℕ) (column : ℕ) (last back rest
         before_deeper zero = plain _
         before_deeper (suc k) = plain _
 
-    some_text : is_empty (behind_gap lone (back ++ rest)) ≡ false
-    some_text = behind_row_some unlimited (lone_row [] column node last) (back ++ rest) (row_is [] (no_gap_here _))
-
     pub lone_root_rows : AreRootRows v gap (replicate column 32 ++ (node_text node [] ++ (last ++ (back ++ rest)))) (lone ∷ []) back rest
     lone_root_rows = record {
       some = refl;
-      rows = (row_is gap (room.front _ some_text), room.back_is);
+      rows = (row_is gap (room.front _ (behind_row_some unlimited (lone_row [] column node last) (back ++ rest) (row_is [] (no_gap_here _)))), room.back_is);
       spelled = ap (λ t. gap ++ (replicate column 32 ++ t)) (node_then node (last ++ (back ++ rest)));
       keys = (tt, is.keys, tt);
       short = line_short;

@@ -2,9 +2,9 @@
 use Rattle.std.proofs.Common.{◌≡◌, ℕ, List, [], ◌∷◌, ◌++◌, Some, Bool, true, false, refl, sym, ap, ◌∙◌, rules}
 use Rattle.std.proofs.lemmas.Bool.{cond_both, false≢true}
 use Rattle.yq_flow_scalars.specs.Paths.{Step}
-use Rattle.yq_cut.specs.Rows.{Content, Row, rows_text, Cut}
+use Rattle.yq_cut.specs.Rows.{Row, rows_text, Cut}
 use Rattle.yq_places.specs.PlacedRows.{PlacedPart, placed_document}
-use Rattle.yq_places.specs.Standings.{BlockRoot, NoRows, RowsOfEntry, Standing, alone, beside, under, compact, block, root, no_rows, behind_mark, below, block_root, entry_standing, is_alone, lone, rows_of_entry, root_standing, standing_at}
+use Rattle.yq_places.specs.Standings.{BlockRoot, NoRows, RowsOfEntry, Standing, alone, beside, under, compact, block, root, no_rows, block_root, entry_standing, is_alone, lone, rows_of_entry, root_standing, standing_at}
 use Rattle.yq_places.proofs.PlacedPartLaws.{map_some}
 
 -- whether what stands somewhere is a root that is a block collection, or no rows
@@ -17,15 +17,8 @@ is_root (block h indent) = false
 is_root (root w) = true
 is_root (no_rows w) = true
 
--- nothing of that kind stands at an item or entry
-below_other : (e : RowsOfEntry) (rs : List Row) → is_root (below e rs) ≡ false
-below_other e rs = search (rules, cond_both)
-
-behind_other : (e : RowsOfEntry) (x : Content) → is_root (behind_mark e x) ≡ false
-behind_other e x = search (rules, below_other, cond_both)
-
 entry_other : (e : RowsOfEntry) → is_root (entry_standing e) ≡ false
-entry_other e = search (rules, cond_both, behind_other)
+entry_other e = search (rules, cond_both)
 
 -- no steps lead to what is of that kind
 root_found : (n : ℕ) (steps : List Step) (c : Cut) (t : Standing) → standing_at n steps c ≡ Some t → is_root t ≡ true → (steps ≡ []) × (d : PlacedPart) × (placed_document n c ≡ Some d) × (root_standing d d.part.rows ≡ t)

@@ -84,9 +84,6 @@ closed_lines (l ∷ (k ∷ ls)) x h e =
       closed_lines (k ∷ ls) x h.1 (sym (closed_behind l (k ++ joined ls) some) ∙ e),
     )
 
-closed_gap : (p rest x : List ℕ) → IsGap p rest → (p ≡ []) ⊎ (is_closed_text p ≡ true) → (rest ≡ []) ⊎ (is_empty rest ≡ false) → IsGap p x
-closed_gap p rest x h1 h2 h3 = search (rules, no_gap_here, gap_other, closed_lines)
-
 -- ---- the marker in front
 
 marker_at : (c : Cut) (k : ℕ) (started : Bool) → AreParts started c → (marker_before [] k c ≡ []) ⊎ IsMarkerLine (marker_before [] k c) (part_text (nth_part k c) (behind_part k c))
@@ -211,7 +208,7 @@ module _ (n : ℕ) (c : Cut) (w : NoRows) (read : read_at (cut_text c) ≡ Some 
 
     room : HasRoom h.d.part.end (break_text br) [] h.d.behind
     room = record {
-      front = λ x some. closed_gap h.d.part.end h.d.behind x gap_is (gap_closed (empty_cases h.d.part.end)) (empty_cases h.d.behind);
+      front = λ x some. (search (rules, no_gap_here, gap_other, closed_lines, gap_is, gap_closed (empty_cases h.d.part.end), empty_cases h.d.behind));
       tail = break_tail br h.d.behind;
       apart = apart br;
       uncommented = break_uncommented br;
