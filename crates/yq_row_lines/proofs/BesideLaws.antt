@@ -1,5 +1,5 @@
 -- The anchor and the comments of each line of a row.
-use Rattle.std.proofs.Common.{◌≡◌, ◌⊎◌, inl, inr, ℕ, zero, suc, ◌+◌, ◌<◌, ◌≤◌, List, [], ◌∷◌, length, Some, None, refl, subst, arith}
+use Rattle.std.proofs.Common.{◌≡◌, ℕ, zero, suc, ◌+◌, ◌<◌, ◌≤◌, List, [], ◌∷◌, length, Some, None, arith, rules}
 use Rattle.std.proofs.lemmas.Bool.{cases_lt}
 use Rattle.std.proofs.lemmas.Option.{same_Some}
 use Rattle.std.specs.List.{slice_get}
@@ -17,15 +17,9 @@ pub record IsBeside (above : List (List ℕ)) (ns : List ℕ) (c : Content) (k :
   pub other : 0 < k → l.head_comment ≡ []
 
 pub beside_in : (above : List (List ℕ)) (column : ℕ) (ns : List ℕ) (m : rows.Mark) (c : Content) (k : ℕ) (l : Line) → k ≤ length ns → slice_get (lines_from above column ns m c) k ≡ Some l → IsBeside above ns c k l
-beside_in above column [] m c zero l h e =
-    subst (IsBeside above [] c 0) (same_Some _ _ e) (record { dash = λ p. absurd (omega (arith, p)); mark = λ q. (refl, refl); first = λ q. refl; other = λ p. absurd (omega (arith, p)) })
+beside_in above column [] m c zero l h e = search (rules, same_Some)
 beside_in above column [] m c (suc k) l h e = absurd (omega (arith, h))
-beside_in above column (n ∷ ns) m c zero l h e =
-    subst (IsBeside above (n ∷ ns) c 0) (same_Some _ _ e) (record { dash = λ p. (refl, refl); mark = λ q. absurd (omega (arith, q)); first = λ q. refl; other = λ p. absurd (omega (arith, p)) })
+beside_in above column (n ∷ ns) m c zero l h e = search (rules, same_Some)
 beside_in above column (n ∷ ns) m c (suc k) l h e =
     let x = beside_in [] (suc (column + n)) ns m c k l (omega (arith, h)) e in
-    record { dash = λ p. x.dash (omega (arith, p)); mark = λ q. x.mark (omega (arith, q)); first = λ q. absurd (omega (arith, q)); other = λ p. none x (cases_lt 0 k) }
-  where
-    none : IsBeside [] ns c k l → (0 < k) ⊎ (k ≤ 0) → l.head_comment ≡ []
-    none x (inl p) = x.other p
-    none x (inr q) = x.first (omega (arith, q))
+    search (rules, cases_lt, x)

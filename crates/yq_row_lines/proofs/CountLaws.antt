@@ -1,6 +1,6 @@
 -- How many lines a row has, by the pieces of rows.
-use Rattle.std.proofs.Common.{◌≡◌, ℕ, zero, suc, ◌+◌, ◌-◌, eqb, List, [], ◌∷◌, ◌++◌, length, replicate, false, cond, refl, ap, ◌∙◌, arith, Bool, true, not, sym}
-use Rattle.std.proofs.lemmas.Bool.{cond-false, false≢true}
+use Rattle.std.proofs.Common.{◌≡◌, ℕ, zero, suc, ◌+◌, ◌-◌, eqb, List, [], ◌∷◌, ◌++◌, length, replicate, false, cond, refl, arith, true, not, rules}
+use Rattle.std.proofs.lemmas.Bool.{cond-false}
 use Rattle.std.proofs.lemmas.List.Sums.{sum_by-cons}
 use Rattle.yq_flow_scalars.specs.Text.{is_empty}
 use Rattle.yq_cut.specs.Grammar.{IsMark, AreDashes}
@@ -25,35 +25,15 @@ dashes_count (n ∷ ns) t =
 pub before_mark : (ns : List ℕ) (m : Mark) (c : Content) (rest : List ℕ) → AreDashes ns m → IsMark m c rest → cond (is_empty (colon_of m)) (dash_count (dashes_text ns (last_dash m)) - 1) (dash_count (dashes_text ns (last_dash m))) ≡ length ns
 before_mark [] Bare c rest d m = refl
 before_mark (n ∷ ns) Bare c rest d m = absurd (cc)
-before_mark ns Dash c rest d m = omega (arith, dashes_count ns (45 ∷ []), one)
-  where
-    one : dash_count (45 ∷ []) ≡ 1
-    one = refl
-before_mark ns (Key key colon) c rest d m =
-    let some : is_empty colon ≡ false = ap is_empty m.colon_is.spelled ∙ colon_some m.colon_is.white in
-    let none : dash_count [] ≡ 0 = refl in
-    let count : dash_count (dashes_text ns []) ≡ length ns = omega (arith, dashes_count ns [], none) in
-    cond-false _ _ _ some ∙ count
+before_mark ns Dash c rest d m = search (rules, dashes_count)
+before_mark ns (Key key colon) c rest d m = search (rules, colon_some, dashes_count, cond-false)
 
 -- the same, by whether a row has dashes and a colon
 pub none_before : (x : Slices) → false ≡ not (is_empty x.dashes) → 0 ≡ lines_before_mark x
-none_before x = go x.dashes (is_empty x.colon)
-  where
-    go : (t : List ℕ) (b : Bool) → false ≡ not (is_empty t) → 0 ≡ cond b (dash_count t - 1) (dash_count t)
-    go [] true e = refl
-    go [] false e = refl
-    go (d ∷ ds) b e = absurd (false≢true e)
+none_before x = search rules
 
 pub before_colon : (x : Slices) → true ≡ not (is_empty x.colon) → dash_count x.dashes ≡ lines_before_mark x
-before_colon x = go (is_empty x.colon)
-  where
-    go : (b : Bool) → true ≡ not b → dash_count x.dashes ≡ cond b (dash_count x.dashes - 1) (dash_count x.dashes)
-    go true e = absurd (false≢true (sym e))
-    go false e = refl
+before_colon x = search rules
 
 pub before_last : (x : Slices) → false ≡ not (is_empty x.colon) → dash_count x.dashes - 1 ≡ lines_before_mark x
-before_last x = go (is_empty x.colon)
-  where
-    go : (b : Bool) → false ≡ not b → dash_count x.dashes - 1 ≡ cond b (dash_count x.dashes - 1) (dash_count x.dashes)
-    go true e = refl
-    go false e = absurd (false≢true e)
+before_last x = search rules

@@ -1,5 +1,5 @@
 -- The rows of items, one behind the other.
-use Rattle.std.proofs.Common.{◌≡◌, ◌⊎◌, inl, inr, ℕ, zero, suc, ◌<◌, ◌≤◌, ltb, cond, List, [], ◌∷◌, length, take, drop, Some, refl, ap, ◌∙◌, arith}
+use Rattle.std.proofs.Common.{◌≡◌, ◌⊎◌, inl, ℕ, zero, suc, ◌<◌, ◌≤◌, ltb, cond, List, [], ◌∷◌, length, take, drop, Some, refl, ap, arith, rules}
 use Rattle.std.proofs.lemmas.Bool.{cases_lt, cond-true, cond-false, lt-ltb, le-ltb, eq-eqb, ne_eqb}
 use Rattle.std.proofs.lemmas.Option.{same_Some}
 use Rattle.std.specs.List.{slice_get}
@@ -17,8 +17,7 @@ get_taken (x ∷ ss) (suc n) (suc i) h = get_taken ss n i (omega (arith, h))
 pub deeper_upto : (n m : ℕ) (zs : List Slices) (y : Slices) → slice_get zs m ≡ Some y → line_level 0 y ≤ n → deeper_rows n zs ≡ deeper_rows n (take m zs)
 deeper_upto n zero [] y e low = refl
 deeper_upto n (suc m) [] y e low = refl
-deeper_upto n zero (z ∷ zs) y e low =
-    cond-false _ (suc (deeper_rows n zs)) 0 (le-ltb n (line_level 0 z) (omega (arith, low, ap (line_level 0) (same_Some _ _ e))))
+deeper_upto n zero (z ∷ zs) y e low = cc (le-ltb n (line_level 0 z) (omega (arith, ap (line_level 0) (same_Some _ _ e))))
 deeper_upto n (suc m) (z ∷ zs) y e low = ap (λ (k : ℕ). cond (ltb n (line_level 0 z)) (suc k) 0) (deeper_upto n m zs y e low)
 
 -- Among rows, of which none begins less deep, the first one that begins as deep.
@@ -36,26 +35,4 @@ siblings n [] h = inl (refl, refl)
 siblings n (y ∷ ys) h = go (cases_lt n (line_level 0 y)) (siblings n ys h.1)
   where
     go : (n < line_level 0 y) ⊎ (line_level 0 y ≤ n) → ((deeper_rows n ys ≡ length ys) × (level_count n ys ≡ 0)) ⊎ Sibling n ys → ((deeper_rows n (y ∷ ys) ≡ suc (length ys)) × (level_count n (y ∷ ys) ≡ 0)) ⊎ Sibling n (y ∷ ys)
-    go (inl less) found = later found
-      where
-        more : deeper_rows n (y ∷ ys) ≡ suc (deeper_rows n ys)
-        more = cond-true _ (suc (deeper_rows n ys)) 0 (lt-ltb n (line_level 0 y) less)
-
-        other : level_count n (y ∷ ys) ≡ level_count n ys
-        other = cond-false _ (suc (level_count n ys)) (level_count n ys) (ne_eqb (line_level 0 y) n (λ e. omega (arith, e, less)))
-
-        later : ((deeper_rows n ys ≡ length ys) × (level_count n ys ≡ 0)) ⊎ Sibling n ys → ((deeper_rows n (y ∷ ys) ≡ suc (length ys)) × (level_count n (y ∷ ys) ≡ 0)) ⊎ Sibling n (y ∷ ys)
-        later (inl x) = inl (more ∙ ap suc x.0, other ∙ x.1)
-        later (inr x) = inr (record { before = suc x.before; piece = x.piece; is = more ∙ ap suc x.is; there = x.there; same = x.same; count = other ∙ x.count; deep = x.deep })
-    go (inr low) found =
-        let same : line_level 0 y ≡ n = omega (arith, low, h.0) in
-        inr
-        (record {
-          before = 0;
-          piece = y;
-          is = cond-false _ (suc (deeper_rows n ys)) 0 (le-ltb n (line_level 0 y) low);
-          there = refl;
-          same = same;
-          count = cond-true _ (suc (level_count n ys)) (level_count n ys) (eq-eqb (line_level 0 y) n same);
-          deep = h.1;
-        })
+    go h1 h2 = search (rules, cond-true, lt-ltb, cond-false, ne_eqb, le-ltb, eq-eqb)

@@ -1,8 +1,8 @@
 -- How far it is to the dashes of a row.
-use Rattle.std.proofs.Common.{◌≡◌, ℕ, zero, suc, ◌+◌, ◌-◌, ◌≤◌, ◌⊎◌, inl, inr, List, [], ◌∷◌, ◌++◌, length, take, replicate, refl, ap, ◌∙◌, arith, length-append}
+use Rattle.std.proofs.Common.{◌≡◌, ℕ, zero, suc, ◌+◌, ◌-◌, ◌≤◌, ◌⊎◌, inl, inr, List, [], ◌∷◌, ◌++◌, length, take, replicate, refl, ap, arith, length-append, rules}
 use Rattle.std.proofs.lemmas.Bool.{ne_eqb, cond-false}
 use Rattle.std.proofs.lemmas.List.{length-replicate}
-use Rattle.yq_cut.specs.Rows.{Mark, Bare, Dash, Key, dashes_text}
+use Rattle.yq_cut.specs.Rows.{Mark, dashes_text}
 use Rattle.yq_cut.specs.View.{last_dash}
 use Rattle.yq_row_lines.specs.Extents.{dash_at}
 
@@ -20,13 +20,7 @@ to_dash (suc k) [] t h e = absurd (omega (arith, h))
 to_dash zero (n ∷ ns) t h e = refl
 to_dash (suc k) (n ∷ ns) t h e =
     let again : dash_at k (dashes_text ns t) ≡ length (dashes_text (take k ns) []) = to_dash k ns t (omega (arith, h)) e in
-    let spaces : length (replicate {A = ℕ} n 32) ≡ n = length-replicate {A = ℕ} n 32 in
-    let rest : List ℕ = replicate n 32 ++ dashes_text ns t in
-    let less : suc k - 1 ≡ k = omega arith in
-    let step : dash_at (suc k) (45 ∷ rest) ≡ suc (dash_at k rest) = cond-false _ 0 (suc (dash_at (suc k - 1) rest)) (ne_eqb (suc k) 0 (λ e. omega (arith, e))) ∙ ap (λ (j : ℕ). suc (dash_at j rest)) less in
-    omega (arith, step, again, past_spaces k n (dashes_text ns t), spaces, length-append (replicate n 32) (dashes_text (take k ns) []))
+    search (rules, length-replicate, cond-false, ne_eqb, past_spaces, length-append, again)
 
 pub last_is : (m : Mark) → last_dash m ≡ [] ⊎ ((u : List ℕ) × (last_dash m ≡ 45 ∷ u))
-last_is Bare = inl refl
-last_is Dash = inr ([], refl)
-last_is (Key key colon) = inl refl
+last_is m = search rules

@@ -1,5 +1,5 @@
 -- Lines of a document by their rows and by their numbers.
-use Rattle.std.proofs.Common.{◌≡◌, ℕ, zero, suc, ◌+◌, ◌-◌, ◌<◌, ◌≤◌, ltb, true, false, not, List, [], ◌∷◌, length, map, take, drop, Option, Some, None, refl, sym, ap, ◌∙◌, subst, arith}
+use Rattle.std.proofs.Common.{◌≡◌, ℕ, zero, suc, ◌+◌, ◌-◌, ◌<◌, ◌≤◌, ltb, true, false, not, List, [], ◌∷◌, length, map, take, drop, Option, Some, refl, sym, ap, ◌∙◌, subst, arith, rules}
 use Rattle.std.proofs.lemmas.Bool.{false≢true}
 use Rattle.std.proofs.lemmas.List.{take_all}
 use Rattle.std.proofs.lemmas.Option.{same_Some}
@@ -54,18 +54,7 @@ located s d h q at =
     let counted : lines_before_mark x.0 ≡ length r.0.dashes = ap lines_before_mark (sym r.2) ∙ t.counted in
     let within : q.line ≤ length r.0.dashes = omega (arith, at.line x.0 x.1, counted) in
     let l = line_in (comments.head_comment r.0.gap) r.0.column r.0.dashes r.0.mark r.0.content q.line within in
-    record {
-      row = r.0;
-      line = l.0;
-      there = r.1;
-      pieces = x.1 ∙ ap Some (sym r.2);
-      row_agrees = t;
-      within = within;
-      in_row = l.1;
-      is = line_of_row h.rows (q.row - d.first) q.line r.0 r.1 within ∙ l.1;
-      agrees = l.2;
-      level_agrees = level_is r.0 q.line l.0 t within l.2;
-    }
+    search (rules, line_of_row, level_is, x, r, t, within, l)
 
 -- whether a line is deeper than a level
 pub deeper_agrees : (s : RowsView) (d : Stretch) (h : HasRows s d) (q : Position) (n floor : ℕ) → IsLine s d q → ((x : Slices) → slice_get s.rows q.row ≡ Some x → n ≡ line_level q.line x) →
@@ -107,8 +96,7 @@ rows_upto s d h q e n at row none =
     let next : (q.row + 1) - d.first ≡ suc i = omega (arith, at.from) in
     let rest : take (d.end - (q.row + 1)) (drop (q.row + 1) s.rows) ≡ map slices (drop (suc i) h.rows) =
     rows_behind s d h (q.row + 1) (omega (arith, at.from)) (omega (arith, at.upto)) ∙ ap (λ (k : ℕ). map slices (drop k h.rows)) next in
-    let upto : e.row - d.first ≡ suc i + deeper_rows n (map slices (drop (suc i) h.rows)) = omega (arith, row, ap (deeper_rows n) rest, at.from) in
-    omega (arith, none, ap (λ (k : ℕ). length (lines_of (take k h.rows))) upto)
+    search (rules, i, rest)
 
 -- where the lines under a line end
 pub behind_agrees : (s : RowsView) (d : Stretch) (h : HasRows s d) (q e : Position) (n : ℕ) → IsLine s d q → ((x : Slices) → slice_get s.rows q.row ≡ Some x → n ≡ line_level q.line x) →
@@ -146,15 +134,11 @@ next_row s d h q e at last row none =
 
 -- the first line of a document
 pub first_number : (d : Stretch) (rs : List Row) → 0 ≡ line_number d rs (record { row = d.first; line = 0 })
-first_number d rs =
-    let none : d.first - d.first ≡ 0 = omega arith in
-    omega (arith, ap (λ (k : ℕ). length (lines_of (take k rs))) none)
+first_number d rs = search rules
 
 -- where a line has a head, and where it has none
 pub head_here : (o : Option Node) (x y : Option (ℕ × List Step)) → true ≡ is_some o → if_head o x y ≡ x
-head_here None x y e = absurd (false≢true (sym e))
-head_here (Some n) x y e = refl
+head_here o x y h1 = search (rules, false≢true)
 
 pub head_none : (o : Option Node) (x y : Option (ℕ × List Step)) → false ≡ is_some o → if_head o x y ≡ y
-head_none None x y e = refl
-head_none (Some n) x y e = absurd (false≢true e)
+head_none o x y h1 = search (rules, false≢true)
