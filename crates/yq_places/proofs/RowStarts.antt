@@ -1,5 +1,5 @@
 -- Where rows and their lines begin, by the pieces of rows.
-use Rattle.yq_row_lines.proofs.ToDashes.{to_dash, last_is}
+use Rattle.yq_row_lines.proofs.WalkLevels.{to_dash, last_is}
 use Rattle.std.proofs.Common.{◌≡◌, ℕ, ◌+◌, ◌≤◌, [], ◌++◌, length, take, replicate, Some, option_map, refl, sym, ap, ◌∙◌, arith, length-append}
 use Rattle.std.proofs.lemmas.List.{length-replicate}
 use Rattle.std.proofs.lemmas.Option.{slice_get-map}

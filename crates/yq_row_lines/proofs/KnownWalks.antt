@@ -19,9 +19,8 @@ use Rattle.yq_row_lines.specs.declared.line_position.Position.{Position}
 use Rattle.yq_row_lines.specs.declared.line_position.Stretch.{Stretch}
 use Rattle.yq_row_lines.proofs.EntryKeys.{keys_behind, other_key}
 use Rattle.yq_row_lines.proofs.KnownLaws.{get_dropped, one_there}
-use Rattle.yq_row_lines.proofs.Siblings.{Sibling, deeper_upto, get_taken, siblings}
 use Rattle.yq_row_lines.proofs.WalkRows.{under_more}
-use Rattle.yq_row_lines.proofs.WalkPositions.{Located, located, deeper_agrees, behind_agrees, position_line}
+use Rattle.yq_row_lines.proofs.WalkPositions.{Located, Sibling, behind_agrees, deeper_agrees, deeper_upto, get_taken, located, position_line, siblings}
 
 module _ (s : RowsView) (d : Stretch) (h : HasRows s d) (floor row n : ℕ) (y : Slices) (within : row < d.end) (last : slice_get s.rows row ≡ Some y) (low : line_level 0 y ≤ n) (deeper : floor < n) where
   -- where a step leads

@@ -1,6 +1,6 @@
 -- How deep the lines of rows are, by the pieces of rows.
-use Rattle.std.proofs.Common.{◌≡◌, ◌⊎◌, ℕ, zero, suc, ◌+◌, ◌%◌, ◌<◌, ◌≤◌, ltb, true, false, cond, List, [], ◌∷◌, length, take, replicate, Some, None, refl, arith, length-append, rules}
-use Rattle.std.proofs.lemmas.Bool.{cases_lt, lt-ltb, le-ltb, cond-true, cond-false}
+use Rattle.std.proofs.Common.{◌≡◌, ◌⊎◌, ℕ, zero, suc, ◌+◌, ◌%◌, ◌<◌, ◌≤◌, ltb, true, false, cond, List, [], ◌∷◌, length, take, replicate, Some, None, refl, arith, length-append, rules, ◌-◌, inl, inr, ◌++◌, ap, ◌&&◌}
+use Rattle.std.proofs.lemmas.Bool.{cases_lt, lt-ltb, le-ltb, cond-true, cond-false, ne_eqb}
 use Rattle.std.proofs.lemmas.List.{length-replicate, take_all}
 use Rattle.std.specs.List.{slice_get}
 use Rattle.std.specs.Prelude.{is_none}
@@ -10,14 +10,39 @@ use Rattle.yq_flow_scalars.specs.Plain.{holds_break}
 use Rattle.yq_flow_scalars.specs.Quoted.{IsQuotedText}
 use Rattle.yq_flow_scalars.specs.Text.{is_empty}
 use Rattle.yq_lines.specs.Outline.{Dash, Line, key_of, level, rank}
-use Rattle.yq_cut.specs.Rows as rows
-use Rattle.yq_cut.specs.Rows.{Content, Row, dashes_text}
+use Rattle.yq_cut.specs.Rows.{Content, Row, dashes_text, Mark}
 use Rattle.yq_cut.specs.View.{Slices, slices, last_dash, colon_of, content_cut}
-use Rattle.yq_row_lines.specs.Lines.{head_of, mark_of, mark_line, dash_line, lines_from}
-use Rattle.yq_row_lines.specs.Extents.{dash_at}
-use Rattle.yq_row_lines.specs.Extents.{lines_before_mark}
+use Rattle.yq_flow_scalars.specs.Anchors.{with_anchor}
+use Rattle.yq_lines.specs.LinesReading.{is_free, have_one_anchor_each}
+use Rattle.yq_lines.specs.Names.{head_names, line_names}
+use Rattle.yq_cut.specs.Rows as rows
+use Rattle.yq_lines.specs.Comments as comments
+use Rattle.yq_row_lines.specs.Lines.{head_of, mark_of, mark_line, dash_line, lines_from, content_anchor, row_lines}
+use Rattle.yq_row_lines.specs.Extents.{dash_at, lines_before_mark}
 use Rattle.yq_row_lines.specs.RowWalk.{line_rank, line_level}
-use Rattle.yq_row_lines.proofs.ToDashes.{to_dash, last_is}
+
+-- ---- how far it is to the dashes of a row
+
+-- how far it is to a dash
+past_spaces : (k n : ℕ) (t : List ℕ) → dash_at k (replicate n 32 ++ t) ≡ n + dash_at k t
+unfolding dash_at
+past_spaces k zero t = omega arith
+past_spaces k (suc n) t = let step : dash_at k (replicate (suc n) 32 ++ t) ≡ suc (dash_at k (replicate n 32 ++ t)) = refl in omega (arith, step, past_spaces k n t)
+
+pub to_dash : (k : ℕ) (ns t : List ℕ) → k ≤ length ns → t ≡ [] ⊎ ((u : List ℕ) × (t ≡ 45 ∷ u)) → dash_at k (dashes_text ns t) ≡ length (dashes_text (take k ns) [])
+unfolding dash_at
+to_dash zero [] t h (inl e) = ap (dash_at 0) e
+to_dash zero [] t h (inr e) = ap (dash_at 0) e.1
+to_dash (suc k) [] t h e = absurd (omega (arith, h))
+to_dash zero (n ∷ ns) t h e = refl
+to_dash (suc k) (n ∷ ns) t h e =
+    let again : dash_at k (dashes_text ns t) ≡ length (dashes_text (take k ns) []) = to_dash k ns t (omega (arith, h)) e in
+    search (rules, length-replicate, cond-false, ne_eqb, past_spaces, length-append, again)
+
+pub last_is : (m : Mark) → last_dash m ≡ [] ⊎ ((u : List ℕ) × (last_dash m ≡ 45 ∷ u))
+last_is m = search rules
+
+-- ---- how deep the lines of rows are, by the pieces of rows
 
 -- What is asked of a row, for its pieces to tell its lines.
 pub record RowAgrees (r : Row) : Type 0 where
@@ -76,3 +101,23 @@ level_is r k l t h is = search (rules, to_dash, last_is, rank_is)
 -- what a line of a row begins with, by how deep it is
 pub rank_of_level : (k : ℕ) (x : Slices) (n : ℕ) → n ≡ line_level k x → (n % 3 ≡ 0 → 3 ≡ line_rank k x) × ((n % 3 ≡ 0 → ⊥) → n % 3 ≡ line_rank k x)
 rank_of_level k x n e = search rules
+
+-- ---- what is asked of the anchors and names of all lines of rows, row by row
+
+-- a row's anchor stands before the row's last line's node, and no other one does
+free_from : (above : List (List ℕ)) (column : ℕ) (ns : List ℕ) (m : rows.Mark) (c : Content) (ls : List Line) →
+    have_one_anchor_each (lines_from above column ns m c ++ ls) ≡ (is_free (content_anchor c) ls && have_one_anchor_each ls)
+free_from above column [] m c ls = refl
+free_from above column (n ∷ ns) m c ls = free_from [] (suc (column + n)) ns m c ls
+
+pub free_row : (r : Row) (ls : List Line) → have_one_anchor_each (row_lines r ++ ls) ≡ (is_free (content_anchor r.content) ls && have_one_anchor_each ls)
+free_row r ls = free_from (comments.head_comment r.gap) r.column r.dashes r.mark r.content ls
+
+-- the names in a row: its anchor, and those in its head
+names_from : (above : List (List ℕ)) (column : ℕ) (ns : List ℕ) (m : rows.Mark) (c : Content) (ls : List Line) →
+    line_names (lines_from above column ns m c ++ ls) ≡ with_anchor (content_anchor c) (head_names (head_of c) ++ line_names ls)
+names_from above column [] m c ls = refl
+names_from above column (n ∷ ns) m c ls = names_from [] (suc (column + n)) ns m c ls
+
+pub names_row : (r : Row) (ls : List Line) → line_names (row_lines r ++ ls) ≡ with_anchor (content_anchor r.content) (head_names (head_of r.content) ++ line_names ls)
+names_row r ls = names_from (comments.head_comment r.gap) r.column r.dashes r.mark r.content ls

@@ -1,12 +1,11 @@
 -- Lines of a document by their rows and by their numbers.
-use Rattle.std.proofs.Common.{◌≡◌, ℕ, zero, suc, ◌+◌, ◌-◌, ◌<◌, ◌≤◌, ltb, true, false, not, List, [], ◌∷◌, length, map, take, drop, Option, Some, refl, sym, ap, ◌∙◌, subst, arith, rules}
-use Rattle.std.proofs.lemmas.Bool.{false≢true}
+use Rattle.std.proofs.Common.{◌≡◌, ℕ, zero, suc, ◌+◌, ◌-◌, ◌<◌, ◌≤◌, ltb, true, false, not, List, [], ◌∷◌, length, map, take, drop, Option, Some, refl, sym, ap, ◌∙◌, subst, arith, rules, None, option_and_then, ◌⊎◌, inl, cond}
+use Rattle.std.proofs.lemmas.Bool.{false≢true, cases_lt, cond-true, cond-false, lt-ltb, le-ltb, eq-eqb, ne_eqb}
 use Rattle.std.proofs.lemmas.List.{take_all}
 use Rattle.std.proofs.lemmas.Option.{same_Some}
 use Rattle.std.specs.List.{slice_get}
 use Rattle.std.specs.Prelude.{is_some}
-use Rattle.yq_lines.specs.Comments as comments
-use Rattle.yq_lines.specs.Ends.{IsEndOf, is_end, part}
+use Rattle.yq_lines.specs.Ends.{IsEndOf, is_end, part, line_of, reached}
 use Rattle.yq_lines.specs.Outline.{Line, level}
 use Rattle.yq_lines.specs.Positions.{if_head}
 use Rattle.yq_flow_scalars.specs.Paths.{Step}
@@ -14,9 +13,10 @@ use Rattle.yq_flow_scalars.specs.Tree.{Node}
 use Rattle.yq_lines.proofs.EndsLaws.{deeper_at}
 use Rattle.yq_cut.specs.Rows.{Row}
 use Rattle.yq_cut.specs.View.{Slices, slices, RowsView}
+use Rattle.yq_lines.specs.Comments as comments
 use Rattle.yq_row_lines.specs.Lines.{row_lines, lines_of}
 use Rattle.yq_row_lines.specs.Extents.{lines_before_mark}
-use Rattle.yq_row_lines.specs.RowWalk.{line_level, deeper_rows, HasRows, IsPosition, IsLine, line_number, lines_stop}
+use Rattle.yq_row_lines.specs.RowWalk.{line_level, deeper_rows, HasRows, IsPosition, IsLine, line_number, lines_stop, level_count, AreRowsDeep}
 use Rattle.yq_row_lines.specs.declared.line_position.Position.{Position}
 use Rattle.yq_row_lines.specs.declared.line_position.Stretch.{Stretch}
 use Rattle.yq_row_lines.proofs.WalkEnds.{line_of_row, lines_upto, ends_at, stops_at}
@@ -142,3 +142,42 @@ head_here o x y h1 = search (rules, false≢true)
 
 pub head_none : (o : Option Node) (x y : Option (ℕ × List Step)) → false ≡ is_some o → if_head o x y ≡ y
 head_none o x y h1 = search (rules, false≢true)
+
+-- ---- steps that lead nowhere
+
+-- where steps lead nowhere, no line is
+pub no_line : (steps : List Step) (ls : List Line) → None ≡ reached steps ls → None ≡ line_of steps ls
+no_line steps ls h1 = search (rules, option_and_then)
+
+-- ---- the rows of items, one behind the other
+
+pub get_taken : (ss : List Slices) (n i : ℕ) → i < n → slice_get (take n ss) i ≡ slice_get ss i
+get_taken [] zero i h = refl
+get_taken [] (suc n) i h = refl
+get_taken (x ∷ ss) zero i h = absurd (omega (arith, h))
+get_taken (x ∷ ss) (suc n) zero h = refl
+get_taken (x ∷ ss) (suc n) (suc i) h = get_taken ss n i (omega (arith, h))
+
+-- rows are counted up to one that is not deeper
+pub deeper_upto : (n m : ℕ) (zs : List Slices) (y : Slices) → slice_get zs m ≡ Some y → line_level 0 y ≤ n → deeper_rows n zs ≡ deeper_rows n (take m zs)
+deeper_upto n zero [] y e low = refl
+deeper_upto n (suc m) [] y e low = refl
+deeper_upto n zero (z ∷ zs) y e low = cc (le-ltb n (line_level 0 z) (omega (arith, ap (line_level 0) (same_Some _ _ e))))
+deeper_upto n (suc m) (z ∷ zs) y e low = ap (λ (k : ℕ). cond (ltb n (line_level 0 z)) (suc k) 0) (deeper_upto n m zs y e low)
+
+-- Among rows, of which none begins less deep, the first one that begins as deep.
+pub record Sibling (n : ℕ) (ys : List Slices) : Type 0 where
+  pub before : ℕ
+  pub piece : Slices
+  pub is : deeper_rows n ys ≡ before
+  pub there : slice_get ys before ≡ Some piece
+  pub same : line_level 0 piece ≡ n
+  pub count : level_count n ys ≡ suc (level_count n (drop (suc before) ys))
+  pub deep : AreRowsDeep n (drop (suc before) ys)
+
+pub siblings : (n : ℕ) (ys : List Slices) → AreRowsDeep n ys → ((deeper_rows n ys ≡ length ys) × (level_count n ys ≡ 0)) ⊎ Sibling n ys
+siblings n [] h = inl (refl, refl)
+siblings n (y ∷ ys) h = go (cases_lt n (line_level 0 y)) (siblings n ys h.1)
+  where
+    go : (n < line_level 0 y) ⊎ (line_level 0 y ≤ n) → ((deeper_rows n ys ≡ length ys) × (level_count n ys ≡ 0)) ⊎ Sibling n ys → ((deeper_rows n (y ∷ ys) ≡ suc (length ys)) × (level_count n (y ∷ ys) ≡ 0)) ⊎ Sibling n (y ∷ ys)
+    go h1 h2 = search (rules, cond-true, lt-ltb, cond-false, ne_eqb, le-ltb, eq-eqb)

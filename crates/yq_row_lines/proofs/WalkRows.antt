@@ -20,8 +20,7 @@ use Rattle.yq_cut.specs.View.{Slices, slices, RowsView, colon_of, content_cut}
 use Rattle.yq_row_lines.specs.Lines.{head_of, mark_of}
 use Rattle.yq_row_lines.specs.RowWalk.{line_level, deeper_rows, HasRows}
 use Rattle.yq_row_lines.specs.declared.line_position.Stretch.{Stretch}
-use Rattle.yq_row_lines.proofs.CountLaws.{before_mark}
-use Rattle.yq_row_lines.proofs.RowLaws.{colon_some, mark_line, mark_quoted, scalar_written}
+use Rattle.yq_row_lines.proofs.RowLaws.{before_mark, colon_some, mark_line, mark_quoted, scalar_written}
 use Rattle.yq_row_lines.proofs.WalkLevels.{RowsAgree}
 
 -- row by row, up to one that doesn't begin deeper

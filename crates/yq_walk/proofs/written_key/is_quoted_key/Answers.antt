@@ -1,7 +1,7 @@
 use Rattle.std.proofs.Common.{Bool, cond, eqb, sym, ap, ◌∙◌, bytes_eq}
 use Rattle.std.specs.List.{list_any}
 use Rattle.yq_nodes.specs.Nodes.{first_is}
-use Rattle.yq_row_lines.proofs.QuotedKeys.{quoted_lent}
+use Rattle.yq_row_lines.proofs.RowLaws.{quoted_lent}
 use Rattle.yq_walk.proofs.written_key.is_quoted_key.Goals as goal
 
 pub returns : goal.returns
