@@ -1,5 +1,5 @@
 -- Unique keys, as a test and as a fact.
-use Rattle.std.proofs.Common.{◌≡◌, ◌≢◌, ℕ, zero, suc, List, [], ◌∷◌, get_or, Bool, true, false, not, refl, sym, ap, ◌∙◌, arith, bytes_eq, ◌↔◌}
+use Rattle.std.proofs.Common.{◌≡◌, ◌≢◌, ℕ, zero, suc, List, [], ◌∷◌, get_or, Bool, true, false, not, refl, sym, ap, ◌∙◌, arith, bytes_eq, ◌↔◌, rules}
 use Rattle.std.specs.Bool.{IsTrue}
 use Rattle.std.proofs.lemmas.Bool.{and_parts, and_from, or_parts, false≢true, false_from_ne_true, not-true}
 use Rattle.std.proofs.lemmas.List.Folds.{list_any_none}
@@ -35,8 +35,7 @@ is_distinct (k ∷ ks) h =
 
 -- what a test of keys tells
 pub distinct_agrees : (ks : List (List ℕ)) (b : Bool) → IsTrue b ↔ AreDistinct ks → are_distinct ks ≡ b
-distinct_agrees ks true h = is_distinct ks (h.0 refl)
-distinct_agrees ks false h = false_from_ne_true (are_distinct ks) (λ e. false≢true (h.1 (distinct_is ks e)))
+distinct_agrees ks b h1 = search (rules, is_distinct, false_from_ne_true, false≢true, distinct_is)
 
 mutual
   pub unique_is : (n : Node) → has_unique_keys n ≡ true → HasUniqueKeys n

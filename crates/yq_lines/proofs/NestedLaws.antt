@@ -1,5 +1,5 @@
 -- What is asked of the entries of an inline mapping.
-use Rattle.std.proofs.Common.{◌≡◌, ℕ, ◌≤◌, List, [], ◌++◌, length, drop, Bool, true, ◌&&◌, sym, ap, ◌∙◌, arith, append-nil, ◌↔◌}
+use Rattle.std.proofs.Common.{◌≡◌, ℕ, ◌≤◌, List, ◌++◌, length, drop, Bool, ◌&&◌, arith, append-nil, ◌↔◌}
 use Rattle.std.specs.Bool.{IsTrue}
 use Rattle.std.proofs.lemmas.Bool.{le-leb}
 use Rattle.std.proofs.lemmas.List.{drop_all}
@@ -19,7 +19,4 @@ Field = String Global × Piece × Inline
 -- behind the last entry the keys are left to ask of
 pub entries_left : (d i : ℕ) (es : List Field) (keys : List (List ℕ)) (b all : Bool) → length es ≤ i →
     all ≡ (are_sound d (parts_tree (entries_end (drop i es))) && are_distinct (keys ++ keys_of (parts_tree (entries_end (drop i es))))) → IsTrue b ↔ AreDistinct keys → b ≡ all
-entries_left d i es keys b all past is agrees =
-    sym (is
-    ∙ (ap (λ (x : List Field). are_sound d (parts_tree (entries_end x)) && are_distinct (keys ++ keys_of (parts_tree (entries_end x)))) (drop_all i es past)
-    ∙ (ap (λ x. (x && true) && are_distinct (keys ++ [])) (le-leb 0 d (omega arith)) ∙ (ap are_distinct (append-nil keys) ∙ distinct_agrees keys b agrees))))
+entries_left d i es keys b all past is agrees = cc (drop_all i es past, le-leb 0 d (omega arith), append-nil keys, distinct_agrees keys b agrees)
