@@ -7,8 +7,7 @@ use Rattle.yq_lines.specs.Group.{deeper, group, level_or}
 use Rattle.yq_lines.specs.Ends.{part, is_end, IsEndOf}
 use Rattle.yq_lines.specs.Sound.{is_sound, head_is_sound, line_is_sound, is_entry}
 use Rattle.yq_flow_scalars.specs.Keys.{are_distinct}
-use Rattle.yq_lines.proofs.Parts.{part_row, row_parts}
-use Rattle.yq_lines.proofs.EndsLaws.{deeper_line, not_end}
+use Rattle.yq_lines.proofs.EndsLaws.{deeper_line, not_end, part_row, row_parts}
 use Rattle.yq_lines.proofs.SoundLaws.{asked, keys_with, IsEntryLevel, asked_line, sound_entries, too_deep, sound_bare, lone}
 
 first_deeper : (n d : ℕ) (o : Outline) → n < d → n < level_or d (deeper n o)

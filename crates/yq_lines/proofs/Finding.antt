@@ -1,14 +1,32 @@
 -- Where a path leads.
 use Rattle.std.proofs.Common.{◌≡◌, ℕ, List, [], ◌∷◌, Option, Some, None, option_map, option_and_then, Bool, cond, refl, sym, ap, ◌∙◌, rules}
-use Rattle.yq_flow_scalars.specs.Tree.{Node, Children, children_of}
-use Rattle.yq_lines.specs.Outline.{Mark, Bare, Key, Dash, Line, Outline, end, row, anchored, head_or, label, collection, children, value}
+use Rattle.yq_flow_scalars.specs.Tree.{Node, Children, children_of, none, child}
 use Rattle.yq_flow_scalars.specs.Paths.{Step, is_here, further, child_at, node_at}
+use Rattle.yq_lines.specs.Outline.{Mark, Bare, Key, Dash, Line, Outline, end, row, anchored, head_or, label, collection, children, value}
 use Rattle.yq_lines.specs.Places.{here, plug, FoundLine, next_to, find_row, inside, bare_or, in_head, find, content}
-use Rattle.yq_lines.specs.Labelled.{Labelled, labelled_at}
+use Rattle.yq_lines.specs.Labelled.{Labelled, labelled_at, labelled_from}
 use Rattle.yq_lines.proofs.Allowing.{IsEntry}
-use Rattle.yq_lines.proofs.LabelledLaws.{labelled_child}
 use Rattle.yq_lines.proofs.Plug.{plug-compose}
 use Rattle.yq_lines.proofs.Values.{If}
+
+-- ---- items and entries where steps lead in a tree: their nodes are those of `child_at` and `node_at`
+
+pub labelled_child : (s : Step) (cs : Children) → option_map (λ x. x.1) (labelled_at s cs) ≡ child_at s cs
+labelled_child s none = refl
+labelled_child s (child l n cs) = go (is_here s l) (labelled_child (further s) cs)
+  where
+    go : (b : Bool) → option_map (λ x. x.1) (labelled_at (further s) cs) ≡ child_at (further s) cs → option_map (λ x. x.1) (cond b (Some (l, n)) (labelled_at (further s) cs)) ≡ cond b (Some n) (child_at (further s) cs)
+    go b h1 = search rules
+
+pub labelled_path : (ss : List Step) (x : Labelled) → option_map (λ y. y.1) (labelled_from ss x) ≡ node_at ss x.1
+labelled_path [] x = refl
+labelled_path (s ∷ ss) x = go (λ y. labelled_path ss y) (labelled_at s (children_of x.1)) ∙ ap (option_and_then (node_at ss)) (labelled_child s (children_of x.1))
+  where
+    go : ((y : Labelled) → option_map (λ z. z.1) (labelled_from ss y) ≡ node_at ss y.1) → (r : Option Labelled) →
+        option_map (λ y. y.1) (option_and_then (labelled_from ss) r) ≡ option_and_then (node_at ss) (option_map (λ y. y.1) r)
+    go h1 r = search rules
+
+-- ---- where a path leads
 
 pub row_whole : (s : Step) (o : Outline) → If (find_row s o) (λ f. plug f.place (row f.line f.under f.after) ≡ o)
 row_whole s end = tt

@@ -1,13 +1,21 @@
 -- The anchors and aliases of a node, as those of its lines.
-use Rattle.std.proofs.Common.{◌≡◌, ℕ, ◌+◌, List, [], ◌∷◌, ◌++◌, Option, Some, None, true, refl, sym, ap, ◌∙◌, append_assoc, append-nil, rules}
+use Rattle.std.proofs.Common.{◌≡◌, ℕ, ◌+◌, List, [], ◌∷◌, ◌++◌, Option, Some, None, true, refl, sym, ap, ◌∙◌, append_assoc, append-nil, rules, ◌<◌, false, arith}
 use Rattle.yq_flow_scalars.specs.Tree.{Label, Node, Children, child}
 use Rattle.yq_flow_scalars.specs.Anchors.{Name, with_anchor, names_of, names_in, IsNoAlias}
+use Rattle.std.proofs.lemmas.Bool.{lt-ltb, cond-true, and_parts}
+use Rattle.std.proofs.Math.Bool.{and-false}
+use Rattle.yq_nodes.specs.Inline.{depth_limit}
 use Rattle.yq_lines.specs.LineAnchors.{MayTake, IsFree, HaveOneAnchorEach}
-use Rattle.yq_lines.specs.Group.{group, level_or, is_fine}
+use Rattle.yq_lines.specs.Group.{group, level_or, is_fine, deeper}
 use Rattle.yq_lines.specs.Names.{head_names, line_names, IsUnnamed, MayBeNamed, HaveHeadsApart}
-use Rattle.yq_lines.specs.Outline.{Mark, Bare, Line, Outline, end, row, flatten, IsOpen, IsWhole, IsEven, anchored, head_or, collection, children, value}
+use Rattle.yq_lines.specs.Outline.{Mark, Bare, Line, Outline, end, row, flatten, IsOpen, IsWhole, IsEven, anchored, head_or, collection, children, value, level}
 use Rattle.yq_lines.proofs.Decides.{flatten-group, even_from}
 use Rattle.yq_lines.proofs.NodeLaws.{anchored_none}
+use Rattle.yq_lines.specs.Ends.{part}
+use Rattle.yq_lines.specs.LinesReading.{names_are_sound, lines_are_sound}
+use Rattle.yq_lines.specs.Sound.{is_sound}
+use Rattle.yq_lines.proofs.NameConditions.{anchors_are}
+use Rattle.yq_lines.proofs.Values.{rank_small}
 
 with-append : (a : Option (List ℕ)) (xs ys : List Name) → with_anchor a (xs ++ ys) ≡ with_anchor a xs ++ ys
 with-append a xs ys = search rules
@@ -88,3 +96,29 @@ names_lines ls fine each apart =
     let n = level_or 0 o in
     let even = even_from n o fine in
     search (rules, flatten-group, names_value, names_children, o, n, even)
+
+-- ---- what is asked of all lines of a document
+
+pub above : (l : Line) → 0 < level l
+unfolding level
+above l = omega (arith, rank_small l.mark)
+
+-- all lines are deeper than the level 0
+pub deeper-all : (o : Outline) → deeper 0 o ≡ o
+deeper-all end = refl
+deeper-all (row l u a) = cond-true _ _ _ (lt-ltb 0 (level l) (above l)) ∙ ap (row l u) (deeper-all a)
+
+pub part-all : (ls : List Line) → part ls 0 0 ≡ group ls
+part-all ls = deeper-all (group ls)
+
+-- the node of all lines
+pub all_value : (ls : List Line) → anchored None (value (part ls 0 0)) ≡ value (group ls)
+all_value ls = anchored_none (value (part ls 0 0)) ∙ ap value (part-all ls)
+
+-- lines that don't stand for a node, or not for one that is sound
+pub lines_unsound : (ls : List Line) → false ≡ is_sound depth_limit (part ls 0 0) → false ≡ lines_are_sound ls
+lines_unsound ls h = search (rules, part-all, and-false)
+
+-- of lines that stand for a sound node, their anchors and aliases are left to ask of
+pub lines_named : (ls : List Line) → HaveHeadsApart ls → true ≡ is_sound depth_limit (part ls 0 0) → names_are_sound ls ≡ lines_are_sound ls
+lines_named ls apart h = search (rules, part-all, and_parts, names_lines, anchors_are)

@@ -5,7 +5,7 @@ use Rattle.yq_flow_scalars.specs.Tree.{Node, list, map}
 use Rattle.yq_lines.specs.Ends.{part, rest}
 use Rattle.yq_lines.specs.Group.{deeper}
 use Rattle.yq_lines.specs.Outline.{Bare, Key, Dash, Line, level, Outline, row, first_anchor, anchored, head_or, collection, children, value}
-use Rattle.yq_lines.proofs.Parts.{part_row}
+use Rattle.yq_lines.proofs.EndsLaws.{part_row}
 
 pub anchored_twice : (a b : Option (List ℕ)) (n : Node) → anchored a (anchored b n) ≡ anchored (first_anchor a b) n
 anchored_twice a b n = search rules

@@ -9,8 +9,7 @@ use Rattle.yq_lines.specs.Outline.{Line, level, Outline, flatten, key_of, label}
 use Rattle.yq_lines.specs.Places.{FoundLine, next_to, find_row}
 use Rattle.yq_lines.specs.Positions.{position, line_here}
 use Rattle.yq_lines.proofs.Decides.{flatten-parts, flatten-group}
-use Rattle.yq_lines.proofs.EndsLaws.{deeper_line, not_end}
-use Rattle.yq_lines.proofs.Parts.{part_row, row_parts}
+use Rattle.yq_lines.proofs.EndsLaws.{deeper_line, not_end, part_row, row_parts}
 
 -- how many lines are under a line
 pub under-length : (ls : List Line) (i next : ℕ) (l : Line) → slice_get ls i ≡ Some l → IsEndOf ls i next → suc i + length (flatten (part ls (i + 1) (level l))) ≡ next

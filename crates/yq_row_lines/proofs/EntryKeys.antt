@@ -12,10 +12,9 @@ use Rattle.yq_lines.specs.Outline.{Mark, Bare, Key, Dash, Line, level, Outline, 
 use Rattle.yq_lines.specs.Places.{here, find_row, next_to}
 use Rattle.yq_lines.specs.Sound.{is_sound, head_is_sound, line_is_sound, is_entry, each_has_unique_keys}
 use Rattle.yq_lines.specs.Positions.{position}
-use Rattle.yq_lines.proofs.EndsLaws.{deeper_line, not_end}
+use Rattle.yq_lines.proofs.EndsLaws.{deeper_line, not_end, row_parts}
 use Rattle.yq_lines.proofs.KeyLaws.{differ, differs}
-use Rattle.yq_lines.proofs.LinesLaws.{part-all}
-use Rattle.yq_lines.proofs.Parts.{row_parts}
+use Rattle.yq_lines.proofs.NameLaws.{part-all}
 use Rattle.yq_lines.proofs.SoundLaws.{asked, keys_with, IsEntryLevel, asked_line, entry_level, sound_entries, too_deep, sound_bare}
 
 -- An outline is that of a node, or the rest of a collection's.
