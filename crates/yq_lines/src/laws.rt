@@ -9,7 +9,6 @@ ghost use Rattle.yq_lines.specs.Laws.{NodeExchanged};
 ghost use Rattle.yq_lines.specs.ShapedLines.{ShapedByLines, ShapedIsTree};
 
 /// Lines stand for one node at most.
-#[tactic(auto, using(crate::proofs::Unique::one_node))]
 pub fn one_node()
     ensures { (lines : List Line) (a b : Node) (m n : ℕ) → Stands lines a m → Stands lines b n →
         a ≡ b }
@@ -34,7 +33,6 @@ pub fn lines_shaped()
 {}
 
 /// Lines exchanged at a path change the node at that path alone.
-#[tactic(auto, using(crate::proofs::PlaceLaws::exchanged))]
 pub fn exchanged()
     ensures { NodeExchanged }
 {}
