@@ -11,8 +11,8 @@ use Rattle.yq_lines.specs.Group.{deeper, group}
 use Rattle.yq_lines.specs.Outline.{Mark, Bare, Key, Dash, Line, level, Outline, end, row, flatten, label}
 use Rattle.yq_lines.specs.Places.{Context, here, below, beside, compose, lines_before, FoundLine, next_to, find_row, inside, in_head, bare_or, find}
 use Rattle.yq_lines.proofs.LineEnds.{end_counted}
-use Rattle.yq_lines.proofs.LinesLaws.{part-all}
-use Rattle.yq_lines.proofs.Parts.{part_stop, row_parts}
+use Rattle.yq_lines.proofs.NameLaws.{part-all}
+use Rattle.yq_lines.proofs.EndsLaws.{part_stop, row_parts}
 use Rattle.yq_lines.proofs.PlaceLaws.{at}
 use Rattle.yq_lines.proofs.PositionLaws.{under-length}
 use Rattle.yq_lines.proofs.Values.{If}

@@ -25,8 +25,7 @@ use Rattle.yq_lines.specs.Positions.{is_bare}
 use Rattle.yq_documents.proofs.PartRows.{each}
 use Rattle.yq_lines.proofs.Decides.{flatten-group, even_from}
 use Rattle.yq_lines.specs.Labelled.{labelled_from}
-use Rattle.yq_lines.proofs.LabelledLaws.{labelled_path}
-use Rattle.yq_lines.proofs.Finding.{entry_of, FoundNode, path_node}
+use Rattle.yq_lines.proofs.Finding.{FoundNode, entry_of, labelled_path, path_node}
 use Rattle.yq_lines.proofs.PlaceLaws.{at}
 use Rattle.yq_places.proofs.ReadLaws.{cut_is, text_takes}
 use Rattle.yq_places.proofs.RowPathLaws.{found_place, document_fine}

@@ -21,7 +21,6 @@ use Rattle.yq_row_lines.specs.Lines.{head_of, lines_of}
 use Rattle.yq_nodes.specs.Trees.{node_head}
 use Rattle.yq_documents.specs.Documents.{Document}
 use Rattle.yq_lines.specs.Labelled.{Labelled, labelled_from}
-use Rattle.yq_lines.proofs.LabelledLaws.{labelled_path}
 use Rattle.yq_lines.proofs.LabelPaths.{FoundEntry, path_entry}
 use Rattle.yq_documents.specs.Located.{steps_of, document_at, labelled_located, located, unlabelled}
 use Rattle.yq_lines.specs.Outline as outlines
@@ -32,7 +31,7 @@ use Rattle.yq_documents.specs.Reading.{document_of, read_at}
 use Rattle.yq_lines.specs.Positions.{is_bare}
 use Rattle.yq_documents.proofs.PartRows.{each}
 use Rattle.yq_lines.proofs.Decides.{flatten-group, even_from}
-use Rattle.yq_lines.proofs.Finding.{entry_of}
+use Rattle.yq_lines.proofs.Finding.{entry_of, labelled_path}
 use Rattle.yq_places.proofs.ReadLaws.{cut_is, text_takes}
 use Rattle.yq_places.proofs.RowPathLaws.{found_place, document_fine}
 use Rattle.yq_documents.specs.Pieces.{TextPiece, node_piece, head_piece}

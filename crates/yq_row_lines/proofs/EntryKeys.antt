@@ -11,10 +11,9 @@ use Rattle.yq_lines.specs.Outline.{Mark, Bare, Line, level, Outline, end, row, c
 use Rattle.yq_lines.specs.Places.{here, find_row, next_to}
 use Rattle.yq_lines.specs.Sound.{is_sound, is_entry}
 use Rattle.yq_lines.specs.Positions.{position}
-use Rattle.yq_lines.proofs.EndsLaws.{deeper_line, not_end}
+use Rattle.yq_lines.proofs.EndsLaws.{deeper_line, not_end, row_parts}
 use Rattle.yq_lines.proofs.KeyLaws.{differ, differs}
-use Rattle.yq_lines.proofs.LinesLaws.{part-all}
-use Rattle.yq_lines.proofs.Parts.{row_parts}
+use Rattle.yq_lines.proofs.NameLaws.{part-all}
 use Rattle.yq_lines.proofs.SoundLaws.{asked, keys_with, IsEntryLevel, asked_line, entry_level, sound_entries, too_deep, sound_bare}
 
 -- An outline is that of a node, or the rest of a collection's.

@@ -9,7 +9,7 @@ use Rattle.yq_flow_scalars.specs.Paths.{Step, To, Nth, is_here, is_item, further
 use Rattle.yq_lines.specs.Ends.{IsEndOf, is_end, part}
 use Rattle.yq_lines.specs.Outline.{Line, Outline, children, key_of, label, level}
 use Rattle.yq_lines.specs.Positions as lines
-use Rattle.yq_lines.proofs.Parts.{drop_at}
+use Rattle.yq_lines.proofs.EndsLaws.{drop_at}
 use Rattle.yq_lines.proofs.PositionLaws.{position_here, position_passed, here_item}
 use Rattle.yq_cut.specs.View.{Slices, RowsView}
 use Rattle.yq_row_lines.specs.Lines.{lines_of}

@@ -7,7 +7,7 @@ use Rattle.std.specs.List.{slice_get}
 use Rattle.yq_lines.specs.Ends.{IsEndOf, deeper_count}
 use Rattle.yq_lines.specs.Outline.{Line, level}
 use Rattle.yq_lines.proofs.LineEnds.{end_counted, end_agrees}
-use Rattle.yq_lines.proofs.Parts.{drop_at}
+use Rattle.yq_lines.proofs.EndsLaws.{drop_at}
 
 count_more : (n : ℕ) (l : Line) (ls : List Line) → n < level l → deeper_count n (l ∷ ls) ≡ suc (deeper_count n ls)
 count_more n l ls h = cond-true _ (suc (deeper_count n ls)) 0 (lt-ltb n (level l) h)

@@ -8,7 +8,7 @@ use Rattle.yq_lines.specs.Comments as comments
 use Rattle.yq_lines.specs.Ends.{IsEndOf, deeper_count}
 use Rattle.yq_lines.specs.Outline.{Line, level}
 use Rattle.yq_lines.proofs.LineEnds.{end_counted}
-use Rattle.yq_lines.proofs.Parts.{drop_at}
+use Rattle.yq_lines.proofs.EndsLaws.{drop_at}
 use Rattle.yq_lines.proofs.Values.{rank_small}
 use Rattle.yq_cut.specs.Rows as rows
 use Rattle.yq_cut.specs.Rows.{Content, Row}

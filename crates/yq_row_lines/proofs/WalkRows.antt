@@ -12,7 +12,7 @@ use Rattle.yq_nodes.specs.Nodes.{Node, node_text, IsNode}
 use Rattle.yq_nodes.specs.Trees.{node_head}
 use Rattle.yq_nodes.proofs.NodeAgain.{is_anchored, takes_unanchored}
 use Rattle.yq_lines.specs.Outline.{key_of}
-use Rattle.yq_lines.proofs.Parts.{drop_at}
+use Rattle.yq_lines.proofs.EndsLaws.{drop_at}
 use Rattle.yq_cut.specs.Grammar.{IsContent, IsMark, Limit, limit_after, AreRows}
 use Rattle.yq_cut.specs.Rows as rows
 use Rattle.yq_cut.specs.Rows.{Content, Row, parent_indent, rows_text}
