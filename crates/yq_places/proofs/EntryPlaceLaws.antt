@@ -1,5 +1,5 @@
 -- The places of entries and of their contents, by lines or in flow.
-use Rattle.std.proofs.Common.{◌≡◌, ℕ, suc, ◌+◌, ◌-◌, ◌≤◌, eqb, ltb, List, [], ◌∷◌, ◌++◌, length, drop, Option, Some, None, option_map, option_and_then, Bool, true, false, cond, refl, sym, ap, ◌∙◌, subst, arith}
+use Rattle.std.proofs.Common.{◌≡◌, ℕ, suc, ◌+◌, ◌-◌, ◌≤◌, eqb, ltb, List, [], ◌∷◌, ◌++◌, length, drop, Option, Some, None, option_map, option_and_then, Bool, true, false, cond, refl, sym, ap, ◌∙◌, subst, arith, zero, ◌<◌, take}
 use Rattle.std.proofs.lemmas.Bool.{ltb-false, eq-eqb, eqb-true, false≢true}
 use Rattle.std.proofs.lemmas.Option.{same_Some}
 use Rattle.std.specs.List.{slice_get}
@@ -9,22 +9,21 @@ use Rattle.yq_nodes.specs.Entries.{PlacedEntry, entry_place, content_place}
 use Rattle.yq_nodes.specs.Places.{Placed}
 use Rattle.yq_cut.specs.Exchange.{behind_row}
 use Rattle.yq_cut.specs.Rows.{Row, Part, Cut, cut_text}
-use Rattle.yq_cut.specs.View.{rows_of}
+use Rattle.yq_cut.specs.View.{rows_of, Bound}
 use Rattle.yq_documents.specs.Documents.{document_parts}
 use Rattle.yq_documents.specs.FlowReading.{row_flow}
 use Rattle.yq_documents.specs.declared.path.Path.{Path}
 use Rattle.yq_documents.specs.Located.{steps_of}
-use Rattle.yq_places.specs.EntryReading.{line_entry, line_content, entry_from, content_from, entry_of, content_of, entry_at, content_at, entry_within}
-use Rattle.yq_places.specs.EntryReading.{line_entry_of, line_content_of, flow_entry_from, flow_entry_of, line_entry_at, line_content_at, flow_entry_at}
 use Rattle.yq_lines.specs.Group.{group}
 use Rattle.yq_lines.specs.Places.{lines_before, FoundLine, find}
 use Rattle.yq_row_lines.specs.Lines.{lines_of}
-use Rattle.yq_places.specs.RowLineReading.{Numbers, numbers}
 use Rattle.yq_documents.specs.LinesInRows.{RowLine, behind_one, row_line, row_line_of, row_line_at, document_row}
 use Rattle.yq_lines.specs.Ends.{found_line, reached}
-use Rattle.yq_places.proofs.FlowPlaceLaws.{flow_agrees}
 use Rattle.yq_lines.proofs.Values.{If}
 use Rattle.yq_row_lines.proofs.KnownLaws.{get_dropped, get_front}
+use Rattle.yq_places.specs.EntryReading.{line_entry, line_content, entry_from, content_from, entry_of, content_of, entry_at, content_at, entry_within, line_entry_of, line_content_of, flow_entry_from, flow_entry_of, line_entry_at, line_content_at, flow_entry_at}
+use Rattle.yq_places.specs.RowLineReading.{Numbers, numbers}
+use Rattle.yq_places.proofs.FlowPlaceLaws.{flow_agrees}
 
 -- a line is one of its row, and that is one of the rows
 abbrev pub IsLineInRow : List Row → RowLine → Type 0
@@ -143,3 +142,20 @@ row_line_entry p c first x e = go (slice_get (document_parts c) p.doc) e
     go : (o : Option Part) → Some x ≡ option_map (numbers first) (o >>= λ d. row_line_of (steps_of p) d.rows) → (o >>= λ d. line_entry_of k c d.rows (steps_of p)) ≡ (o >>= λ d. entry_of k c d.rows (steps_of p))
     go None e = refl
     go (Some d) e = line_entry_is k c d.rows (steps_of p) first x e
+
+-- ---- the first of the ends of parts before a row
+
+first_taken : (bs : List Bound) (from k : ℕ) (b : Bound) → slice_get bs from ≡ Some b → take (suc k) (drop from bs) ≡ b ∷ take k (drop (suc from) bs)
+first_taken [] from k b h = cc
+first_taken (x ∷ bs) zero k b h = ap (λ (y : Bound). y ∷ take k bs) (same_Some _ _ h)
+first_taken (x ∷ bs) (suc from) k b h = first_taken bs from k b h
+
+pub range_first : (bs : List Bound) (from to : ℕ) (b : Bound) → slice_get bs from ≡ Some b → from < to → take (to - from) (drop from bs) ≡ b ∷ take (to - from - 1) (drop (suc from) bs)
+range_first bs from to b h less =
+    let count : to - from ≡ suc (to - from - 1) = omega (arith, less) in
+    ap (λ (n : ℕ). take n (drop from bs)) count ∙ first_taken bs from (to - from - 1) b h
+
+pub range_none : (bs : List Bound) (from to : ℕ) → to ≤ from → take (to - from) (drop from bs) ≡ []
+range_none bs from to le = ap (λ (n : ℕ). take n (drop from bs)) (none from to le) where
+  none : (from to : ℕ) → to ≤ from → to - from ≡ 0
+  none from to le = omega (arith, le)

@@ -9,7 +9,6 @@ use Rattle.yq_lines.specs.Labelled.{Labelled, labelled_at, labelled_from}
 use Rattle.yq_lines.proofs.Finding.{entry_of}
 use Rattle.yq_lines.proofs.LabelPaths.{reach, HasHead, rest_head}
 use Rattle.yq_lines.proofs.PlaceLaws.{at}
-use Rattle.yq_places.proofs.FoundLines.{some_head}
 use Rattle.yq_places.proofs.RowPathLaws.{found_place}
 use Rattle.yq_flow_scalars.specs.Paths.{Step, is_here, further}
 use Rattle.yq_flow_scalars.specs.Tree as tree
@@ -27,7 +26,7 @@ use Rattle.yq_lines.specs.Places.{FoundLine, find}
 use Rattle.yq_places.specs.PrintedLines.{line_front, print_lines}
 use Rattle.yq_places.specs.PathPieces.{BlockEntry, FlowEntry, flow_in, flow_under, flow_at, content_inline, line_inline, PrintedDocument}
 use Rattle.yq_places.proofs.PrintedLaws.{IsValid, IsWritten}
-use Rattle.yq_places.proofs.FoundEntries.{IsFound}
+use Rattle.yq_places.proofs.FoundEntries.{IsFound, some_head}
 
 -- a node behind another anchor
 pub none_anchored : (n : tree.Node) → n ≡ outlines.anchored None n

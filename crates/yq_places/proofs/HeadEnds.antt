@@ -1,5 +1,5 @@
 -- Where the head of a row ends, by its pieces.
-use Rattle.std.proofs.Common.{◌≡◌, ℕ, ℤ, ◌+◌, eqb, Bool, true, false, cond, List, [], ◌∷◌, ◌++◌, length, Some, option_map, ◌≤◌, refl, sym, ap, ◌∙◌, arith, append-nil}
+use Rattle.std.proofs.Common.{◌≡◌, ℕ, ℤ, ◌+◌, eqb, Bool, true, false, cond, List, [], ◌∷◌, ◌++◌, length, Some, option_map, ◌≤◌, refl, sym, ap, ◌∙◌, arith, append-nil, Option, None}
 use Rattle.std.proofs.lemmas.Option.{slice_get-map, same_Some}
 use Rattle.std.proofs.lemmas.Bool.{false≢true, cond_both, cond-false}
 use Rattle.std.specs.List.{slice_get}
@@ -15,14 +15,23 @@ use Rattle.yq_cut.specs.Grammar.{IsContent, IsCut}
 use Rattle.yq_cut.specs.Rows.{Content, Nothing, Inline, Block, Row, parent_indent, Cut}
 use Rattle.yq_cut.specs.View.{Slices, slices, anchor_cut, content_cut, rows_of, RowsView, rows_view}
 use Rattle.yq_cut.proofs.PlaceLaws.{row_in}
-use Rattle.yq_places.specs.EntryReading.{ending, head_end, head_extent, through_row}
-use Rattle.yq_places.specs.EntryReading.{head_finish}
 use Rattle.yq_row_lines.specs.Extents.{row_start, front_length, head_place, IsRowsView}
 use Rattle.yq_documents.specs.RowReading.{is_block_head}
 use Rattle.yq_documents.proofs.HeadLaws.{block_marks}
 use Rattle.yq_row_lines.proofs.LengthLaws.{row_fits, view_small}
+use Rattle.yq_places.specs.EntryReading.{ending, head_end, head_extent, through_row, head_finish}
 use Rattle.yq_places.proofs.RowStarts.{head_is, row_ends}
-use Rattle.yq_places.proofs.SpanLaws.{get_row}
+
+-- ---- a row by its pieces
+
+pub get_row : (rs : List Row) (i : ℕ) (x : Slices) → option_map slices (slice_get rs i) ≡ Some x → (r : Row) × (slice_get rs i ≡ Some r) × (slices r ≡ x)
+get_row rs i x e = go (slice_get rs i) refl e
+  where
+    go : (o : Option Row) → slice_get rs i ≡ o → option_map slices o ≡ Some x → (r : Row) × (slice_get rs i ≡ Some r) × (slices r ≡ x)
+    go None is e = absurd (cc)
+    go (Some r) is e = (r, is, same_Some _ _ e)
+
+-- ---- where the head of a row ends, by its pieces
 
 -- no inline node begins as a block scalar does
 scalar_begins_none : (n : ℤ) (p rest : List ℕ) → IsScalarAt false (Some (deeper n)) p rest → is_block_head p ≡ false

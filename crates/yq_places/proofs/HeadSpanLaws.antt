@@ -1,12 +1,10 @@
 -- The heads of rows, and what stands in flow in them, go from one whole character to another.
-use Rattle.std.proofs.Common.{◌≡◌, ℕ, ◌+◌, ◌-◌, ◌<◌, List, [], ◌∷◌, ◌++◌, length, drop, replicate, Option, Some, Bool, true, false, refl, sym, ap, ◌∙◌, subst, arith, append_assoc, length-append, inl}
+use Rattle.std.proofs.Common.{◌≡◌, ℕ, ◌+◌, ◌-◌, ◌<◌, List, [], ◌∷◌, ◌++◌, length, drop, replicate, Option, Some, Bool, true, false, refl, sym, ap, ◌∙◌, subst, arith, append_assoc, length-append, inl, cond}
 use Rattle.std.proofs.Math.Seq.{drop-append_seam}
 use Rattle.std.proofs.lemmas.Bool.{false≢true, and_parts}
 use Rattle.std.specs.List.{slice_get}
 use Rattle.std.specs.Str.{IsUtf8, IsCharBoundary}
 use Rattle.yq_block_scalars.specs.declared.block_header.BlockStyle.{BlockStyle}
-use Rattle.yq_block_scalars.specs.declared.block_header.BlockStyle.TheVariants as styles
-use Rattle.yq_flow_scalars.specs.declared.style.Place.TheVariants as places
 use Rattle.yq_block_scalars.specs.Block.{mark_of}
 use Rattle.yq_flow_scalars.specs.Text.{is_empty}
 use Rattle.yq_nodes.specs.Entries.{end_of}
@@ -18,19 +16,21 @@ use Rattle.yq_nodes.proofs.NodeAgain.{is_anchored, takes_unanchored}
 use Rattle.yq_nodes.proofs.SpanLaws.{inline_spans}
 use Rattle.yq_nodes.proofs.WrittenLaws.{node_then}
 use Rattle.yq_nodes.proofs.EditPlaces.{end_placed}
-use Rattle.yq_cut.specs.Exchange.{before_content, behind_row}
-use Rattle.yq_cut.specs.Grammar.{IsContent, AreDashes, IsMark, is_entry, is_more, IsCut}
-use Rattle.yq_cut.specs.Rows as rows
+use Rattle.yq_cut.specs.Exchange.{before_content, behind_row, with_content, allows_first}
+use Rattle.yq_cut.specs.Grammar.{IsContent, AreDashes, IsMark, is_entry, is_more, IsCut, is_plain, unlimited, limit_after}
 use Rattle.yq_cut.specs.Rows.{Mark, Content, Nothing, Inline, Block, content_text, mark_text, dashes_text, Row, parent_indent, Cut, cut_text}
 use Rattle.yq_cut.specs.View.{Slices, anchor_cut, content_cut, slices, rows_of}
 use Rattle.yq_cut.proofs.NodePieces.{BeginsAscii, tail_ascii, before_ascii, node_pieces}
 use Rattle.yq_cut.proofs.PlaceLaws.{place, row_in}
 use Rattle.yq_cut.proofs.EmptyTexts.{empty_is}
 use Rattle.yq_documents.specs.RowReading.{from_head}
+use Rattle.yq_flow_scalars.specs.Piece.{deeper}
+use Rattle.yq_block_scalars.specs.declared.block_header.BlockStyle.TheVariants as styles
+use Rattle.yq_flow_scalars.specs.declared.style.Place.TheVariants as places
+use Rattle.yq_cut.specs.Rows as rows
 use Rattle.yq_places.specs.CommentReading.{before_tail, before_row}
 use Rattle.yq_places.specs.EntryReading.{before_line, head_end, head_extent}
-use Rattle.yq_places.proofs.CommentPieceLaws.{Ended, content_end}
-use Rattle.yq_places.proofs.CommentPieceLaws.{tail_place}
+use Rattle.yq_places.proofs.CommentPieceLaws.{Ended, content_end, tail_place}
 use Rattle.yq_places.proofs.SeamLaws.{seam_boundary, ended_seam, ended_after, raw_end, last_ended, line_boundary}
 use Rattle.yq_places.proofs.StartLaws.{front_in}
 
@@ -201,3 +201,16 @@ module _ (c : Cut) (i : ℕ) (r : Row) (u : IsUtf8 (cut_text c)) (cut : IsCut (c
           let finish : start + length (slices r).head + length (slices r).tail + length (slices r).raw ≡ head_end (start + length (slices r).head) r.content =
           omega (arith, ap (λ (x : Content). length (content_cut x).4) content, ap (λ (x : Content). length (content_cut x).5) content, ap (head_end (start + length (slices r).head)) content) in
           subst (IsSpan (cut_text c) start) finish (record { ordered = omega arith; begins = there; ends = raw_boundary })
+
+-- ---- rows that may follow a row with another inline node
+
+pub free_first : (rs : List Row) → allows_first unlimited rs ≡ true
+free_first [] = refl
+free_first (r ∷ rs) = refl
+
+pub may_follow : (r : Row) (space : List ℕ) (new : Node) (tail : List ℕ) (rs : List Row) → allows_first (record { column = Some (deeper (parent_indent r)) }) rs ≡ true → allows_first (limit_after (with_content (Inline space new tail) r)) rs ≡ true
+may_follow r space new tail rs h = go (is_plain new)
+  where
+    go : (b : Bool) → allows_first (cond b (record { column = Some (deeper (parent_indent r)) }) unlimited) rs ≡ true
+    go true = h
+    go false = free_first rs

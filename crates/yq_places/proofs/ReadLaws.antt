@@ -1,11 +1,10 @@
 -- Reading bytes as documents, both ways.
-use Rattle.std.proofs.Common.{◌≡◌, ℕ, List, true, Option, Some, None, refl, sym, ap, ◌∙◌, subst}
+use Rattle.std.proofs.Common.{◌≡◌, ℕ, List, true, Option, Some, None, refl, sym, ap, ◌∙◌, subst, ◌↔◌}
 use Rattle.std.proofs.lemmas.Bool.{cond-true}
 use Rattle.std.proofs.lemmas.Option.{cond_some, none-some, same_Some}
 use Rattle.std.specs.Str.{is_utf8}
 use Rattle.yq_flow_scalars.specs.Answers.{◌>>=◌, ReadFails}
 use Rattle.yq_flow_scalars.specs.declared.fault.ReadError.{ReadError}
-use Rattle.yq_flow_scalars.specs.declared.fault.ReadError.TheVariants as errors
 use Rattle.yq_flow_scalars.proofs.Bools.{bind_some, guard_then}
 use Rattle.yq_cut.specs.Grammar.{IsCut}
 use Rattle.yq_cut.specs.Slicing.{read_view}
@@ -14,6 +13,7 @@ use Rattle.yq_cut.specs.Rows.{Cut}
 use Rattle.yq_cut.proofs.ScanLaws.{scan_takes, scan_again}
 use Rattle.yq_documents.specs.Documents.{Document, document_parts, Reads}
 use Rattle.yq_documents.specs.Reading.{documents, all_documents, checked, checked_at, read_at, cut_or, cut_of}
+use Rattle.yq_flow_scalars.specs.declared.fault.ReadError.TheVariants as errors
 use Rattle.yq_places.proofs.DocumentLaws.{documents_take, documents_again}
 
 -- a text and its cut, whose parts stand for documents
@@ -76,3 +76,23 @@ only_by bytes c e docs h = let a = read_again bytes docs h in ap Some (sym a.2 �
 
 pub none_by : (bytes : List ℕ) → read_at bytes ≡ None → (docs : List Document) → Reads bytes docs → Some docs ≡ None
 none_by bytes e docs h = let a = read_again bytes docs h in absurd (none-some _ (sym e ∙ a.1))
+
+-- ---- reading gives a cut exactly where the grammar reads the bytes by it
+
+-- the cut that is read is that of the grammar
+read_parts : (bytes : List ℕ) (c : Cut) → read_at bytes ≡ Some c → (reads : Reads bytes (documents c)) × (reads.parts ≡ c)
+unfolding read_at
+read_parts bytes c e =
+    let p = guard_then (is_utf8 bytes) e in
+    let q = text_takes bytes c p.1 in
+    (record { utf8 = p.0; parts = c; cut = q.0; documents = documents_take (document_parts c) q.1 }, refl)
+
+-- the cut of the grammar is read
+pub parts_read : (bytes : List ℕ) (docs : List Document) (h : Reads bytes docs) → (read_at bytes ≡ Some h.parts) × (documents h.parts ≡ docs)
+unfolding read_at
+parts_read bytes docs h =
+    let d = documents_again (document_parts h.parts) docs h.documents in
+    (cond-true _ _ _ h.utf8 ∙ text_again bytes h.parts h.cut d.0, d.1)
+
+pub exact_reading : (bytes : List ℕ) (c : Cut) → (read_at bytes ≡ Some c) ↔ ((reads : Reads bytes (documents c)) × (reads.parts ≡ c))
+exact_reading bytes c = (read_parts bytes c, λ h. (parts_read bytes (documents c) h.0).0 ∙ ap Some h.1)

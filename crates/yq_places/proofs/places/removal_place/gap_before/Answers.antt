@@ -2,7 +2,7 @@ use Rattle.std.proofs.Common.{sym, ap, ◌∙◌, arith, [], slice_get}
 use Rattle.std.proofs.lemmas.Option.{slice_get_past}
 use Rattle.yq_cut.specs.View.{bound_view}
 use Rattle.yq_places.specs.RemovalReading.{gap_and_column}
-use Rattle.yq_places.proofs.GapRanges.{range_first, range_none}
+use Rattle.yq_places.proofs.EntryPlaceLaws.{range_first, range_none}
 use Rattle.yq_places.proofs.places.removal_place.gap_before.Goals as goal
 
 pub returns-then-from-to : goal.returns-then-from-to
