@@ -1,5 +1,5 @@
 -- The entries of lines that were found.
-use Rattle.std.proofs.Common.{◌≡◌, ℕ, zero, suc, ◌<◌, List, [], ◌∷◌, ◌++◌, length, take, drop, map, Option, Some, option_map, refl, sym, ap, ◌∙◌, subst, arith, length-append, None}
+use Rattle.std.proofs.Common.{◌≡◌, ℕ, zero, suc, ◌<◌, List, [], ◌∷◌, ◌++◌, length, take, drop, map, Option, Some, option_map, refl, sym, ap, ◌∙◌, subst, arith, length-append, rules}
 use Rattle.std.proofs.Math.Seq.{take-append_seam}
 use Rattle.std.proofs.lemmas.List.{take-append-drop, take-map, drop-map}
 use Rattle.std.proofs.lemmas.Option.{slice_get-map, same_Some}
@@ -8,7 +8,7 @@ use Rattle.yq_flow_scalars.specs.Answers.{◌>>=◌}
 use Rattle.yq_flow_scalars.specs.Paths.{Step}
 use Rattle.yq_flow_scalars.proofs.Bools.{bind_some}
 use Rattle.yq_lines.specs.Group.{group}
-use Rattle.yq_lines.specs.Outline.{Line, flatten, Mark, Bare, Key, Dash, Outline, IsWhole}
+use Rattle.yq_lines.specs.Outline.{Line, flatten, Mark, Outline, IsWhole}
 use Rattle.yq_lines.specs.Places.{lines_before, lines_after, FoundLine, find}
 use Rattle.yq_flow_scalars.specs.Tree.{Node}
 use Rattle.yq_lines.proofs.LabelPaths.{HasHead}
@@ -25,12 +25,7 @@ middle [] ys l = refl
 middle (x ∷ xs) ys l = middle xs ys l
 
 pub some_head : (t : Step) (ts : List Step) (m : Mark) (h : Option Node) (after : Outline) → HasHead (t ∷ ts) m h → IsWhole m h after → (n : Node) × (h ≡ Some n)
-some_head t ts Bare None after k w = absurd w
-some_head t ts Bare (Some n) after k w = (n, refl)
-some_head t ts (Key j) None after k w = absurd k
-some_head t ts (Key j) (Some n) after k w = (n, refl)
-some_head t ts Dash None after k w = absurd k
-some_head t ts Dash (Some n) after k w = (n, refl)
+some_head t ts m h after h1 h2 = search rules
 
 -- ---- the entries of lines that were found
 
