@@ -15,13 +15,8 @@ use Rattle.yq_lines.specs.Group.{group}
 use Rattle.yq_lines.specs.Outline.{Line, level, Outline}
 use Rattle.yq_lines.specs.Places.{Context, here, below, lines_before, compose, FoundLine, find, in_head}
 use Rattle.yq_lines.specs.Places as lines
-<<<<<<< HEAD
-use Rattle.yq_lines.specs.Positions.{is_bare, begins_with_node}
-use Rattle.yq_lines.proofs.NameLaws.{part-all}
-=======
 use Rattle.yq_lines.specs.Positions.{begins_with_node}
 use Rattle.yq_lines.proofs.NameLaws.{part-all}
->>>>>>> places_safe
 use Rattle.yq_places.specs.FlowNodes.{bare_line, head_line, find_head}
 use Rattle.yq_places.specs.FlowViews.{placed_collection, if_collection, collection_of, collection_along}
 use Rattle.yq_places.specs.NodeReading.{at_head, at_lines, line_place, with_line, with_steps, place_line, head_at}
