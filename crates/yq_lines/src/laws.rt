@@ -25,8 +25,7 @@ pub fn rules()
 
 /// Lines stand for a node with items and keys where they belong, if what is written on them is such a
 /// node; and such a node, in which no mapping has a key twice, is a tree.
-#[tactic(auto, using(crate::proofs::ShapeLaws::shaped_by_lines,
-    crate::proofs::ShapeLaws::shaped_is_tree))]
+#[tactic(auto, using(crate::proofs::ShapeLaws::shaped_by_lines, crate::proofs::ShapeLaws::shaped_is_tree))]
 pub fn lines_shaped()
     ensures shaped { ShapedByLines }
     ensures tree { ShapedIsTree }
@@ -39,8 +38,7 @@ pub fn exchanged()
 
 /// The comment lines that end lines, in front of which others stand that end in none, are those of
 /// the lines alone; repair leaves them.
-#[tactic(auto, using(crate::proofs::HeadLaws::comments_behind,
-    crate::proofs::HeadLaws::head_repaired))]
+#[tactic(auto, using(crate::proofs::HeadLaws::comments_behind, crate::proofs::HeadLaws::head_repaired))]
 pub fn heads_joined()
     ensures behind { (ls ms : List (List ℕ)) → last_comments ls ≡ [] →
         last_comments (ls ++ ms) ≡ last_comments ms }
