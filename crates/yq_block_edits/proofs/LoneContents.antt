@@ -37,7 +37,7 @@ use Rattle.yq_places.proofs.ReadLaws.{text_takes}
 use Rattle.yq_places.proofs.RemovalLines.{front_some}
 use Rattle.yq_places.proofs.RowPathLaws.{document_fine}
 use Rattle.yq_places.proofs.RunSpans.{rows_then}
-use Rattle.yq_places.proofs.WrittenLaws.{may_follow}
+use Rattle.yq_places.proofs.HeadSpanLaws.{may_follow}
 use Rattle.yq_change.specs.Changed.{IsChanged, put_document}
 use Rattle.yq_change.specs.Contents.{TakesContent, recontent}
 use Rattle.yq_change.specs.DocumentRows.{IsDocumentPart, behind_document}

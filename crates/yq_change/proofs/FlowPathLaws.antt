@@ -24,7 +24,7 @@ use Rattle.yq_row_lines.specs.Lines.{lines_of}
 use Rattle.yq_documents.specs.Reading.{outline_of}
 use Rattle.yq_documents.specs.LinesInRows.{RowLine, row_line, document_row}
 use Rattle.yq_places.proofs.FlowPlaceLaws.{mark_row_line}
-use Rattle.yq_places.proofs.FoundLines.{middle}
+use Rattle.yq_places.proofs.FoundEntries.{middle}
 use Rattle.yq_change.specs.Appends.{inserted}
 use Rattle.yq_change.specs.Changed.{put_part}
 use Rattle.yq_change.specs.DocumentRows.{behind_document}

@@ -27,7 +27,7 @@ use Rattle.yq_documents.specs.Reading.{outline_of}
 use Rattle.yq_places.specs.RowPaths.{IsReadable}
 use Rattle.yq_documents.specs.LinesInRows.{RowLine, row_line_of}
 use Rattle.yq_documents.specs.TreeEdits.{with_line_comment}
-use Rattle.yq_places.proofs.WrittenLaws.{free_first}
+use Rattle.yq_places.proofs.HeadSpanLaws.{free_first}
 use Rattle.yq_change.specs.Appends.{inserted}
 use Rattle.yq_change.specs.Changed.{IsChanged, put_document}
 use Rattle.yq_change.specs.DocumentRows.{IsDocumentPart, behind_document}

@@ -8,7 +8,7 @@ use Rattle.yq_flow_scalars.specs.Tree.{Node, children_of}
 use Rattle.yq_document_nodes.specs.declared.nodes.node.Node as declared
 use Rattle.yq_lines.specs.Labelled.{Labelled, labelled_at, labelled_from}
 use Rattle.yq_document_nodes.specs.Nodes.{node_of, labelled_of}
-use Rattle.yq_lines.proofs.LabelledLaws.{labelled_child, labelled_path}
+use Rattle.yq_lines.proofs.Finding.{labelled_child, labelled_path}
 
 -- the node of one of the code that is given with its label
 nodes : (r : Option declared.Node) → option_map node_of r ≡ option_map (λ x. x.1) (option_map labelled_of r)

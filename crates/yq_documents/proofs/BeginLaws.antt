@@ -2,7 +2,7 @@
 use Rattle.std.proofs.Common.{◌≡◌, ℕ, suc, ◌+◌, true, false, ◌||◌, not, eqb, List, [], ◌∷◌, length, drop, Some, refl, sym, ap, ◌∙◌, arith, eqb-true}
 use Rattle.std.proofs.lemmas.Bool.{false_from_ne_true}
 use Rattle.std.specs.List.{slice_get}
-use Rattle.yq_lines.proofs.Parts.{drop_at}
+use Rattle.yq_lines.proofs.EndsLaws.{drop_at}
 use Rattle.yq_cut.specs.Grammar.{begins_document, no_rows}
 use Rattle.yq_cut.specs.Rows.{Row, Cut, last, marked}
 use Rattle.yq_cut.specs.View.{Bound, bounds_from, bounds_of, RowsView, rows_view}

@@ -18,8 +18,7 @@ use Rattle.yq_row_lines.specs.Lines.{head_of}
 use Rattle.yq_row_lines.specs.RowWalk.{line_rank}
 use Rattle.yq_row_lines.specs.declared.line_position.Position.{Position}
 use Rattle.yq_row_lines.specs.declared.line_position.Stretch.{Stretch}
-use Rattle.yq_row_lines.proofs.BesideLaws.{IsBeside, beside_in}
-use Rattle.yq_row_lines.proofs.RowLaws.{no_comments}
+use Rattle.yq_row_lines.proofs.RowLaws.{IsBeside, beside_in, no_comments}
 use Rattle.yq_row_lines.proofs.WalkMarks.{key_here, key_none}
 use Rattle.yq_row_lines.proofs.WalkPositions.{Located}
 use Rattle.yq_documents.specs.RowReading.{name_in}

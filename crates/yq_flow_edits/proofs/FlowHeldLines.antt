@@ -28,7 +28,7 @@ use Rattle.yq_documents.specs.Reading.{outline_of, read_at, root_of}
 use Rattle.yq_documents.specs.LinesInRows.{document_row, RowLine, row_line}
 use Rattle.yq_places.proofs.FlowPieces.{head_tree}
 use Rattle.yq_places.proofs.FlowPlaceLaws.{TakesSteps, mark_row_line}
-use Rattle.yq_places.proofs.FoundLines.{middle}
+use Rattle.yq_places.proofs.FoundEntries.{middle}
 use Rattle.yq_change.specs.LineRows.{IsRowLine}
 use Rattle.yq_change.specs.Moved.{dash_lines}
 use Rattle.yq_change.proofs.FlowLineLaws.{head_takes, head_whole}

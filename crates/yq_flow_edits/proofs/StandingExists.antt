@@ -26,7 +26,7 @@ use Rattle.yq_places.specs.NodesAt.{node_in}
 use Rattle.yq_places.specs.PlacedRows.{PlacedPart, placed_document}
 use Rattle.yq_places.specs.RemovalPlaces.{has_others_at, has_several}
 use Rattle.yq_places.specs.Standings.{FlowPart, RowsOfEntry, entry_rows_at, flow_part, flow_standing, last_step, rows_of_entry, root_standing}
-use Rattle.yq_places.proofs.FoundLines.{middle}
+use Rattle.yq_places.proofs.FoundEntries.{middle}
 use Rattle.yq_places.proofs.PlacedRowLaws.{document_placed, part_of}
 use Rattle.yq_places.proofs.RowPathLaws.{found_lines}
 use Rattle.yq_places.proofs.DashLineLaws.{row_line_found}

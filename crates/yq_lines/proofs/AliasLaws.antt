@@ -1,5 +1,5 @@
 -- Aliases of a node stand in heads of its lines.
-use Rattle.std.proofs.Common.{◌≡◌, ℕ, zero, suc, ◌+◌, ltb, Bool, true, false, ◌||◌, cond, List, [], ◌∷◌, ◌++◌, drop, Option, Some, None, refl, sym, ap, ◌∙◌, rules}
+use Rattle.std.proofs.Common.{◌≡◌, ℕ, zero, suc, ◌+◌, ltb, Bool, true, false, ◌||◌, cond, List, [], ◌∷◌, ◌++◌, drop, Option, refl, sym, ap, ◌∙◌, rules}
 use Rattle.std.specs.List.{list_any}
 use Rattle.std.proofs.lemmas.Bool.{false≢true, or_parts}
 use Rattle.std.proofs.lemmas.List.Folds.{list_any-append}
@@ -21,8 +21,7 @@ refer-append : (xs ys : List Name) → refer (xs ++ ys) ≡ (refer xs || refer y
 refer-append xs ys = list_any-append is_reference xs ys
 
 refer-anchor : (a : Option (List ℕ)) (ns : List Name) → refer (with_anchor a ns) ≡ refer ns
-refer-anchor None ns = refl
-refer-anchor (Some a) ns = refl
+refer-anchor a ns = search rules
 
 refer-anchored : (a : Option (List ℕ)) (n : Node) → refer (names_of (anchored a n)) ≡ refer (names_of n)
 refer-anchored a n = search (rules, refer-anchor)
@@ -44,12 +43,10 @@ none_collection : (m : Mark) (cs : Children) → refer (names_in cs) ≡ false �
 none_collection m cs h1 = search (rules, or_parts, refer-append)
 
 none_shaped : (o : Outline) (cs : Children) → refer (names_in cs) ≡ false → refer (names_of (shaped o cs)) ≡ false
-none_shaped end cs h = refl
-none_shaped (row l u a) cs h = none_collection l.mark cs h
+none_shaped o cs h1 = search (rules, none_collection)
 
 none_entry : (head : Option Node) (n : Node) → refer (head_names head) ≡ false → refer (names_of n) ≡ false → refer (names_of (head_or head n)) ≡ false
-none_entry None n h g = g
-none_entry (Some m) n h g = h
+none_entry head n h1 h2 = search rules
 
 -- lines without aliases under which nodes stand
 none_children : (o : Outline) → refer (line_names (flatten o)) ≡ false → refer (names_in (children o)) ≡ false
@@ -73,8 +70,7 @@ none_deeper n end h = refl
 none_deeper n (row l u a) h = go (none_deeper n a (none_entries l u a h).1) (ltb n (level l))
   where
     go : refer (names_in (children (deeper n a))) ≡ false → (b : Bool) → refer (names_in (children (cond b (row l u (deeper n a)) end))) ≡ false
-    go behind true = refer-append (entry_names l u) (names_in (children (deeper n a))) ∙ (λ i. (none_entries l u a h).0 i || behind i)
-    go behind false = refl
+    go h1 b = search (rules, refer-append, none_entries)
 
 -- items or entries of lines without aliases
 pub none_part : (ls : List Line) (first floor : ℕ) → refer (line_names ls) ≡ false → refer (names_in (children (part ls first floor))) ≡ false

@@ -1,5 +1,5 @@
 -- Aliases and the anchors before them.
-use Rattle.std.proofs.Common.{◌≡◌, ℕ, List, ◌∷◌, Option, Some, is_some, Bool, true, false, ◌||◌, ◌&&◌, cond, refl, sym, ap, ◌∙◌, bytes_eq, rules}
+use Rattle.std.proofs.Common.{◌≡◌, ℕ, List, ◌∷◌, Option, Some, is_some, Bool, true, ◌||◌, ◌&&◌, cond, sym, ap, ◌∙◌, bytes_eq, rules}
 use Rattle.std.proofs.lemmas.Bool.{false≢true}
 use Rattle.std.proofs.lemmas.Map.Text.{btree_map_updates_str}
 use Rattle.std.proofs.lemmas.Slice.Eq.{bytes_eq-Decides}
@@ -26,8 +26,7 @@ pub equal_back : (a b : List ℕ) → bytes_eq a b ≡ bytes_eq b a
 equal_back a b = search (rules, bytes_eq, bytes_eq-Decides, false≢true)
 
 some_or : {X : Type 0} (b : Bool) (v : X) (o : Option X) → is_some (cond b (Some v) o) ≡ (b || is_some o)
-some_or true v o = refl
-some_or false v o = refl
+some_or b v o = search rules
 
 -- an anchor is known from there on
 pub anchor_known : {X : Type 0} (m n : BTreeMap (Bor (List ℕ)) X) (a : List ℕ) (v : X) (names : List Name) (all : Bool) →

@@ -1,7 +1,6 @@
 -- The rules of the grammar and outlines say the same.
 use Rattle.std.proofs.Common.{◌≡◌, ℕ, ◌+◌, ◌<◌, List, [], ◌∷◌, ◌++◌, Option, Some, None, refl, sym, ◌∙◌, subst, arith, rules}
 use Rattle.std.proofs.lemmas.Option.{none-some}
-use mathlib.Core.List.{nil≢cons}
 use Rattle.yq_flow_scalars.specs.Tree.{Node, Children, none, child}
 use Rattle.yq_lines.specs.Outline.{Mark, Bare, Key, Dash, Line, level, Outline, end, row, flatten, IsOpen, IsWhole, IsEven, anchored, head_or, null_node, label, collection, children, value, Stands}
 use Rattle.yq_lines.specs.Grammar.{IsNode, alone, mapping, sequence, AreEntries, no_more, entry, IsUnder, headed, missing, deeper_lines}
@@ -59,8 +58,7 @@ mutual
       let x = from_node d in record { outline = x.outline; open' = rw head tt; deep = (n, lt, x.even); lines_are = x.lines_are; node_is = rw head x.node_is }
 
 next_entries : (k : Line) (n : ℕ) (a : Outline) → IsEntry k.mark → level k ≡ n → IsEven n a → IsCollection a
-next_entries k n end c e h = tt
-next_entries k n (row l u b) c e h = same_entry k.mark l.mark c (same_rank k l (e ∙ sym h.0))
+next_entries k n a h1 h2 h3 = search (rules, same_entry, same_rank)
 
 entry_mark : (m : Mark) → IsEntry m → m ≡ Bare → ⊥
 entry_mark m h1 h2 = search rules
@@ -97,10 +95,7 @@ pub rules_from : (n : ℕ) (lines : List Line) (v : Node) → Stands lines v n �
 rules_from n lines v s l ls is = go s.outline s.even s.lines_are s.node_is
   where
     go : (o : Outline) → IsEven n o → flatten o ≡ lines → value o ≡ v → IsNode n lines v
-    go end e p q = absurd (nil≢cons (p ∙ is))
-    go (row k u a) e p q =
-        let Q : List Line → Node → Type 0 = IsNode n in
-        subst (λ x. Q x v) p (subst (λ x. Q (flatten (row k u a)) x) q (node_of n k u a k.mark k.head refl refl e.0 e.1 e.2 (λ c. to_entries n (row k u a) c e)))
+    go o h1 h2 h3 = search (rules, node_of, to_entries)
 
 pub rules_give : (n : ℕ) (lines : List Line) (v : Node) → IsNode n lines v → Stands lines v n
 rules_give n lines v d = from_node d

@@ -9,9 +9,8 @@ use Rattle.yq_lines.specs.Labelled.{labelled_at}
 use Rattle.yq_lines.specs.Outline.{Line, level, Outline, anchored, label, children}
 use Rattle.yq_lines.specs.Places.{find_row, content}
 use Rattle.yq_lines.specs.Positions.{position, line_here}
-use Rattle.yq_lines.proofs.EndsLaws.{deeper_line, not_end}
+use Rattle.yq_lines.proofs.EndsLaws.{deeper_line, not_end, row_parts}
 use Rattle.yq_lines.proofs.Finding.{entry_of, row_labelled}
-use Rattle.yq_lines.proofs.Parts.{row_parts}
 
 pub anchored_children : (a : Option (List ℕ)) (n : Node) → children_of (anchored a n) ≡ children_of n
 anchored_children a n = search rules

@@ -1,5 +1,5 @@
 -- `stand` tells exactly what lines stand for.
-use Rattle.std.proofs.Common.{◌≡◌, ℕ, ◌+◌, ◌<◌, ltb, List, [], ◌∷◌, ◌++◌, Option, Some, None, Bool, true, false, cond, refl, ap, ◌∙◌, arith, append_assoc, rules}
+use Rattle.std.proofs.Common.{◌≡◌, ℕ, ◌+◌, ◌<◌, ltb, List, [], ◌∷◌, ◌++◌, Option, Some, None, Bool, true, false, cond, refl, ap, ◌∙◌, append_assoc, rules}
 use Rattle.std.proofs.lemmas.Bool.{lt-ltb, ltb-true, eqb-true, eq-eqb, cond-true, and_parts, and_from, false≢true}
 use Rattle.std.proofs.lemmas.Option.{none-some, same_Some}
 use Rattle.yq_flow_scalars.specs.Tree.{Node}
@@ -15,8 +15,7 @@ flatten-parts n (row l u a) = go (ltb n (level l)) (flatten-parts n a)
   where
     go : (b : Bool) → flatten (deeper n a) ++ flatten (shallow n a) ≡ flatten a
         → flatten (cond b (row l u (deeper n a)) end) ++ flatten (cond b (shallow n a) (row l u a)) ≡ flatten (row l u a)
-    go true ih = ap (λ x. l ∷ x) (append_assoc (flatten u) (flatten (deeper n a)) (flatten (shallow n a)) ∙ ap (λ x. flatten u ++ x) ih)
-    go false ih = refl
+    go b h1 = search (rules, append_assoc)
 
 pub flatten-group : (ls : List Line) → flatten (group ls) ≡ ls
 flatten-group [] = refl
@@ -46,12 +45,10 @@ even_from n (row l u a) e =
 
 -- what is under a line is even at its first line's level
 first_even : (m d : ℕ) (o : Outline) → IsEven m o → IsEven (level_or d o) o
-first_even m d end e = tt
-first_even m d (row l u a) e = rw e.0 ((refl, e.1, e.2, e.3, e.4))
+first_even m d o h1 = search rules
 
 first_above : (n m : ℕ) (l : Line) (o : Outline) → n < m → level l ≡ n → IsEven m o → n < level_or (level l + 1) o
-first_above n m l end lt e h = omega arith
-first_above n m l (row k u a) lt e h = omega (arith, h.0)
+first_above n m l o h1 h2 h3 = search rules
 
 pub to_even : (n : ℕ) (o : Outline) → IsEven n o → is_even n o ≡ true
 to_even n end e = refl

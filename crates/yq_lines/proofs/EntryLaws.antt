@@ -1,5 +1,5 @@
 -- What is asked of the lines of a collection, by their indexes.
-use Rattle.std.proofs.Common.{◌≡◌, ℕ, suc, ◌+◌, ◌<◌, List, [], Some, is_some, Bool, true, false, not, ◌&&◌, refl, sym, ap, ◌∙◌, arith, append-nil, rules}
+use Rattle.std.proofs.Common.{◌≡◌, ℕ, suc, ◌+◌, ◌<◌, List, [], Some, is_some, Bool, true, false, not, ◌&&◌, sym, ap, ◌∙◌, append-nil, rules}
 use Rattle.std.proofs.lemmas.Bool.{ltb-true, le-leb, false≢true}
 use Rattle.std.specs.List.{slice_get}
 use Rattle.yq_lines.specs.Outline.{Bare, Line, level, Outline, end, row}
@@ -7,8 +7,7 @@ use Rattle.yq_lines.specs.Group.{deeper, group, level_or}
 use Rattle.yq_lines.specs.Ends.{part, is_end, IsEndOf}
 use Rattle.yq_lines.specs.Sound.{is_sound, head_is_sound, line_is_sound, is_entry}
 use Rattle.yq_flow_scalars.specs.Keys.{are_distinct}
-use Rattle.yq_lines.proofs.Parts.{part_row, row_parts}
-use Rattle.yq_lines.proofs.EndsLaws.{deeper_line, not_end}
+use Rattle.yq_lines.proofs.EndsLaws.{deeper_line, not_end, part_row, row_parts}
 use Rattle.yq_lines.proofs.SoundLaws.{asked, keys_with, IsEntryLevel, asked_line, sound_entries, too_deep, sound_bare, lone}
 
 first_deeper : (n d : ℕ) (o : Outline) → n < d → n < level_or d (deeper n o)
@@ -29,17 +28,14 @@ module _ (ls : List Line) (start floor depth : ℕ) (l : Line) (is : slice_get l
   start_deep entry none = ap (λ x. is_sound x (part ls start floor)) none ∙ (ap (is_sound 0) (part_row ls start floor l is first_lt) ∙ too_deep l _ _ entry)
 
   pub start_bare : l.mark ≡ Bare → is_sound depth (part ls start floor) ≡ ((is_some l.head && is_end (part ls (start + 1) floor)) && head_is_sound depth l.head)
-  start_bare mark =
-      ap (is_sound depth) (part_row ls start floor l is first_lt)
-      ∙ (sound_bare depth l _ _ mark ∙ ap (λ b. (is_some l.head && b) && head_is_sound depth l.head) (lone (level l) floor (group _) first_lt))
+  start_bare mark = cc (part_row ls start floor l is first_lt, sound_bare depth l _ _ mark, lone (level l) floor (group _) first_lt)
 
 -- one line, with those under it and those behind it
 one_line : (ls : List Line) (at floor next d n : ℕ) (keys : List (List ℕ)) (l : Line) → slice_get ls at ≡ Some l → true ≡ not (is_end (part ls at floor)) → IsEndOf ls at next → IsEntryLevel n →
     asked d n keys (part ls at floor) ≡ (line_is_sound d n l (part ls (at + 1) (level l)) && (is_sound d (part ls (at + 1) (level l)) && asked d n (keys_with keys l.mark) (part ls next floor)))
 one_line ls at floor next d n keys l is deep ends entries =
     let lt = deeper_line ls at floor l is (not_end _ deep) in
-    ap (asked d n keys) (row_parts ls at floor next l is lt (ends.2 l is))
-    ∙ asked_line d n keys l (part ls (at + 1) (level l)) (part ls next floor) entries (first_deeper (level l) (level l + 1) (group _) (omega arith))
+    search (rules, asked, row_parts, asked_line, first_deeper, lt)
 
 -- a line that fails, or under which lines fail
 both_fail : (all x y z : Bool) → all ≡ (x && (y && z)) → false ≡ (x && y) → false ≡ all
@@ -61,5 +57,4 @@ one_passes ls at floor next d n keys l is deep ends entries all so_far e =
 
 -- behind the last line the keys are left to ask of
 pub no_more : (d n : ℕ) (keys : List (List ℕ)) (o : Outline) → false ≡ not (is_end o) → asked d n keys o ≡ are_distinct keys
-no_more d n keys end e = rw (le-leb 0 d (omega arith), append-nil keys) refl
-no_more d n keys (row l u a) e = absurd (false≢true e)
+no_more d n keys o h1 = search (rules, le-leb, append-nil, false≢true)

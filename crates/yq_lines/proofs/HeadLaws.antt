@@ -1,5 +1,5 @@
 -- The comment lines that end lines, behind others, or where the lines are repaired.
-use Rattle.std.proofs.Common.{◌≡◌, ℕ, Bool, true, false, ◌&&◌, eqb, List, [], ◌∷◌, ◌++◌, Option, Some, None, refl, sym, ap, ◌∙◌, subst, ⊎_elim, replicate, eqb-true, drop, rules}
+use Rattle.std.proofs.Common.{◌≡◌, ℕ, Bool, true, false, ◌&&◌, List, [], ◌∷◌, ◌++◌, Option, Some, refl, sym, ap, ◌∙◌, ⊎_elim, replicate, eqb-true, drop, rules}
 use Rattle.std.proofs.lemmas.Bool.{false≢true, cond_both, cond-true, cond-false, false_from_ne_true, and_parts, cases_Bool}
 use Rattle.yq_block_scalars.specs.Block.{Lines}
 use Rattle.yq_block_scalars.specs.BlockRepair.{AreGap, is_short, is_outside, repaired_blank, repaired_comment, repair}
@@ -21,8 +21,7 @@ hash_text : (l : List ℕ) → is_hash (past_white l) ≡ true → (t : List ℕ
 hash_text l h = (less_space (cut ends_line (drop 1 (past_white l))).0, cond-true _ _ _ h)
 
 some_text : (o : Option (List ℕ)) (t : List ℕ) (ts : Lines) → o ≡ Some t → with_text o ts ≡ [] → ⊥
-some_text None t ts e h = absurd (cc)
-some_text (Some x) t ts e h = absurd (cc)
+some_text x t ts e h = absurd (cc)
 
 no_run : (l : List ℕ) (ls : Lines) → last_comments (l ∷ ls) ≡ [] → are_comments (l ∷ ls) ≡ false
 no_run l ls h = search (rules, false_from_ne_true, hash_text, and_parts, some_text, cond-true)
@@ -53,8 +52,7 @@ comment_past : (m column : ℕ) (l : List ℕ) → past_white (repaired_comment 
 comment_past m column l = cond_both (is_outside m l) l (replicate column 32 ++ past_white l) (λ x. past_white x ≡ past_white l) (λ _. refl) (λ _. white_front column (past_white l) ∙ past_again l)
 
 pub end_no_hash : (t : List ℕ) → ends_line t ≡ true → is_hash t ≡ false
-end_no_hash [] h = refl
-end_no_hash (b ∷ t) h = false_from_ne_true (eqb b 35) (λ e. let is : b ≡ 35 = eqb-true b 35 e in false≢true (subst (λ (x : ℕ). ends_line (x ∷ t) ≡ true) is h))
+end_no_hash t h1 = search (rules, false_from_ne_true, eqb-true, false≢true)
 
 blank_off : (l : List ℕ) (ls : Lines) → is_blank l ≡ true → last_comments (l ∷ ls) ≡ last_comments ls
 blank_off l ls h = cond-false _ _ _ (ap (λ b. b && are_comments ls) (end_no_hash (past_white l) h))

@@ -1,14 +1,21 @@
 -- Unique keys, as a test and as a fact.
-use Rattle.std.proofs.Common.{◌≡◌, ◌≢◌, ℕ, zero, suc, List, [], ◌∷◌, get_or, Bool, true, false, not, refl, sym, ap, ◌∙◌, arith, bytes_eq, ◌↔◌}
+use Rattle.std.proofs.Common.{◌≡◌, ◌≢◌, ℕ, zero, suc, List, [], ◌∷◌, get_or, Bool, true, false, not, refl, sym, ap, ◌∙◌, arith, bytes_eq, ◌↔◌, rules, ◌≤◌, ◌++◌, length, drop, ◌&&◌, append-nil}
 use Rattle.std.specs.Bool.{IsTrue}
-use Rattle.std.proofs.lemmas.Bool.{and_parts, and_from, or_parts, false≢true, false_from_ne_true, not-true}
+use Rattle.std.proofs.lemmas.Bool.{and_parts, and_from, or_parts, false≢true, false_from_ne_true, not-true, le-leb}
 use Rattle.std.proofs.lemmas.List.Folds.{list_any_none}
 use Rattle.std.proofs.lemmas.List.Kept.{AllPairs-cons}
 use Rattle.std.proofs.lemmas.Slice.Eq.{bytes_eq-Decides}
 use Rattle.std.specs.List.{list_any, All}
 use Rattle.yq_flow_scalars.specs.Tree.{Node, alias, scalar, list, map, Children, none, child}
 use Rattle.yq_flow_scalars.specs.Keys.{AreDistinct, keys_of, HasUniqueKeys, EachHasUniqueKeys, are_distinct}
-use Rattle.yq_lines.specs.Sound.{has_unique_keys, each_has_unique_keys}
+use Rattle.std.proofs.lemmas.List.{drop_all}
+use Rattle.std.specs.Prelude.{String}
+use Rattle.std.specs.declared.alloc.Global.{Global}
+use Rattle.yq_flow_scalars.specs.declared.piece.Piece.{Piece}
+use Rattle.yq_nodes.specs.declared.inline.Inline.{Inline}
+use Rattle.yq_nodes.specs.Trees.{parts_tree}
+use Rattle.yq_nodes.specs.View.{entries_end}
+use Rattle.yq_lines.specs.Sound.{has_unique_keys, each_has_unique_keys, are_sound}
 
 pub differ : (a b : List ℕ) → bytes_eq a b ≡ false → a ≢ b
 differ a b e is = false≢true (sym e ∙ (bytes_eq-Decides a b).1 is)
@@ -35,8 +42,7 @@ is_distinct (k ∷ ks) h =
 
 -- what a test of keys tells
 pub distinct_agrees : (ks : List (List ℕ)) (b : Bool) → IsTrue b ↔ AreDistinct ks → are_distinct ks ≡ b
-distinct_agrees ks true h = is_distinct ks (h.0 refl)
-distinct_agrees ks false h = false_from_ne_true (are_distinct ks) (λ e. false≢true (h.1 (distinct_is ks e)))
+distinct_agrees ks b h1 = search (rules, is_distinct, false_from_ne_true, false≢true, distinct_is)
 
 mutual
   pub unique_is : (n : Node) → has_unique_keys n ≡ true → HasUniqueKeys n
@@ -59,3 +65,13 @@ mutual
   pub each_is_unique : (cs : Children) → EachHasUniqueKeys cs → each_has_unique_keys cs ≡ true
   each_is_unique none h = refl
   each_is_unique (child label n cs) h = and_from (has_unique_keys n) (each_has_unique_keys cs) (is_unique n h.0) (each_is_unique cs h.1)
+
+-- ---- what is asked of the entries of an inline mapping
+
+abbrev pub Field : Type 0
+Field = String Global × Piece × Inline
+
+-- behind the last entry the keys are left to ask of
+pub entries_left : (d i : ℕ) (es : List Field) (keys : List (List ℕ)) (b all : Bool) → length es ≤ i →
+    all ≡ (are_sound d (parts_tree (entries_end (drop i es))) && are_distinct (keys ++ keys_of (parts_tree (entries_end (drop i es))))) → IsTrue b ↔ AreDistinct keys → b ≡ all
+entries_left d i es keys b all past is agrees = cc (drop_all i es past, le-leb 0 d (omega arith), append-nil keys, distinct_agrees keys b agrees)

@@ -1,5 +1,5 @@
 -- Where steps lead in what lines stand for, with the label there.
-use Rattle.std.proofs.Common.{◌≡◌, ℕ, List, [], ◌∷◌, Option, Some, None, option_map, option_and_then, refl, sym, ap, ◌∙◌, subst, rules}
+use Rattle.std.proofs.Common.{◌≡◌, ℕ, List, [], ◌∷◌, Option, Some, None, option_map, option_and_then, refl, sym, ◌∙◌, rules}
 use Rattle.yq_flow_scalars.specs.Tree.{Node, children_of}
 use Rattle.yq_flow_scalars.specs.Paths.{Step}
 use Rattle.yq_lines.specs.Labelled.{Labelled, labelled_at, labelled_from}
@@ -26,8 +26,7 @@ path_entry s [] (row k v a) = search (rules, option_and_then, entry_of, children
 path_entry s (t ∷ ts) (row k v a) = go (λ u. path_entry t ts u) k.mark
   where
     deep : (f : FoundLine) (q : Option (FoundLine × List Step)) → FoundEntry (option_map (λ x. (inside f x.0, x.1)) q) ≡ FoundEntry q
-    deep f None = refl
-    deep f (Some x) = refl
+    deep f q = search rules
 
     head : ((u : Outline) → reach t ts (value u) ≡ FoundEntry (find t ts u)) → (f : FoundLine) (h : Option Node) →
         reach t ts (anchored f.line.anchor (head_or h (value f.under))) ≡ FoundEntry (in_head h (Some (record { place = f.place; line = record f.line { head = h }; under = f.under; after = f.after }, t ∷ ts)) (option_map (λ x. (inside f x.0, x.1)) (find t ts f.under)))
@@ -42,9 +41,7 @@ path_entry s (t ∷ ts) (row k v a) = go (λ u. path_entry t ts u) k.mark
 
     entry : ((u : Outline) → reach t ts (value u) ≡ FoundEntry (find t ts u)) → (m : Mark) → IsEntry m →
         reach s (t ∷ ts) (collection m (children (row k v a))) ≡ FoundEntry (option_and_then (λ f. in_head f.line.head (Some (f, t ∷ ts)) (option_map (λ x. (inside f x.0, x.1)) (find t ts f.under))) (find_row s (row k v a)))
-    entry ih m c =
-        ap (λ cs. option_and_then (labelled_from (t ∷ ts)) (labelled_at s cs)) (children-collection m (children (row k v a)) c)
-        ∙ (ap (option_and_then (labelled_from (t ∷ ts))) (row_labelled s (row k v a)) ∙ found ih (find_row s (row k v a)))
+    entry ih m c = cc (children-collection m (children (row k v a)) c, row_labelled s (row k v a), found ih (find_row s (row k v a)))
 
     go : ((u : Outline) → reach t ts (value u) ≡ FoundEntry (find t ts u)) → (m : Mark) →
         reach s (t ∷ ts) (collection m (children (row k v a))) ≡ FoundEntry (bare_or m (Some (record { place = here; line = k; under = v; after = a }, s ∷ (t ∷ ts)))
@@ -67,40 +64,21 @@ with_head t ts m n = search rules
 
 pub rest_head : (s : Step) (ss : List Step) (o : Outline) → If (find s ss o) (λ x. HasHead x.1 x.0.line.mark x.0.line.head)
 rest_head s ss end = tt
-rest_head s [] (row k v a) = go k.mark refl (find_row s (row k v a))
-  where
-    bare : (m : Mark) → m ≡ Bare → HasHead (s ∷ []) m k.head
-    bare Bare e = tt
-    bare (Key j) e = absurd (cc)
-    bare Dash e = absurd (cc)
-
-    go : (m : Mark) → k.mark ≡ m → (r : Option FoundLine) → If (bare_or m (Some (record { place = here; line = k; under = v; after = a }, s ∷ [])) (option_map (λ f. (f, [])) r)) (λ x. HasHead x.1 x.0.line.mark x.0.line.head)
-    go Bare e r = bare k.mark e
-    go (Key j) e None = tt
-    go (Key j) e (Some f) = tt
-    go Dash e None = tt
-    go Dash e (Some f) = tt
+rest_head s [] (row k v a) = search rules
 rest_head s (t ∷ ts) (row k v a) = go (λ u. rest_head t ts u) k.mark refl (find_row s (row k v a))
   where
     bare : (m : Mark) → m ≡ Bare → HasHead (s ∷ (t ∷ ts)) m k.head
-    bare Bare e = tt
-    bare (Key j) e = absurd (cc)
-    bare Dash e = absurd (cc)
+    bare m h1 = search rules
 
     deep : (f : FoundLine) (h : Option Node) → f.line.head ≡ h → (q : Option (FoundLine × List Step)) → If q (λ x. HasHead x.1 x.0.line.mark x.0.line.head) →
         If (in_head h (Some (f, t ∷ ts)) (option_map (λ x. (inside f x.0, x.1)) q)) (λ x. HasHead x.1 x.0.line.mark x.0.line.head)
-    deep f (Some n) e q h = subst (HasHead (t ∷ ts) f.line.mark) (sym e) (with_head t ts f.line.mark n)
-    deep f None e None h = tt
-    deep f None e (Some x) h = h
+    deep f h h1 q h2 = search (rules, with_head)
 
     found : ((u : Outline) → If (find t ts u) (λ x. HasHead x.1 x.0.line.mark x.0.line.head)) → (r : Option FoundLine) →
         If (option_and_then (λ f. in_head f.line.head (Some (f, t ∷ ts)) (option_map (λ x. (inside f x.0, x.1)) (find t ts f.under))) r) (λ x. HasHead x.1 x.0.line.mark x.0.line.head)
-    found ih None = tt
-    found ih (Some f) = deep f f.line.head refl (find t ts f.under) (ih f.under)
+    found h1 r = search rules
 
     go : ((u : Outline) → If (find t ts u) (λ x. HasHead x.1 x.0.line.mark x.0.line.head)) → (m : Mark) → k.mark ≡ m → (r : Option FoundLine) →
         If (bare_or m (Some (record { place = here; line = k; under = v; after = a }, s ∷ (t ∷ ts)))
         (option_and_then (λ f. in_head f.line.head (Some (f, t ∷ ts)) (option_map (λ x. (inside f x.0, x.1)) (find t ts f.under))) r)) (λ x. HasHead x.1 x.0.line.mark x.0.line.head)
-    go ih Bare e r = bare k.mark e
-    go ih (Key j) e r = found ih r
-    go ih Dash e r = found ih r
+    go h1 m h2 r = search rules

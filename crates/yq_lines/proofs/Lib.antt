@@ -10,15 +10,11 @@ pub mod Finding
 pub mod HeadLaws
 pub mod KeyLaws
 pub mod LabelPaths
-pub mod LabelledLaws
 pub mod LineEnds
-pub mod LinesLaws
 pub mod NameConditions
 pub mod NameLaws
-pub mod NestedLaws
 pub mod NodeLaws
 pub mod OneLine
-pub mod Parts
 pub mod PathLines
 pub mod PlaceLaws
 pub mod Plug

@@ -1,17 +1,24 @@
 -- The anchors and aliases of a node, as those of its lines.
-use Rattle.std.proofs.Common.{◌≡◌, ℕ, ◌+◌, List, [], ◌∷◌, ◌++◌, Option, Some, None, true, refl, sym, ap, ◌∙◌, subst, append_assoc, append-nil, rules}
+use Rattle.std.proofs.Common.{◌≡◌, ℕ, ◌+◌, List, [], ◌∷◌, ◌++◌, Option, Some, None, true, refl, sym, ap, ◌∙◌, append_assoc, append-nil, rules, ◌<◌, false, arith}
 use Rattle.yq_flow_scalars.specs.Tree.{Label, Node, Children, child}
 use Rattle.yq_flow_scalars.specs.Anchors.{Name, with_anchor, names_of, names_in, IsNoAlias}
+use Rattle.std.proofs.lemmas.Bool.{lt-ltb, cond-true, and_parts}
+use Rattle.std.proofs.Math.Bool.{and-false}
+use Rattle.yq_nodes.specs.Inline.{depth_limit}
 use Rattle.yq_lines.specs.LineAnchors.{MayTake, IsFree, HaveOneAnchorEach}
-use Rattle.yq_lines.specs.Group.{group, level_or, is_fine}
+use Rattle.yq_lines.specs.Group.{group, level_or, is_fine, deeper}
 use Rattle.yq_lines.specs.Names.{head_names, line_names, IsUnnamed, MayBeNamed, HaveHeadsApart}
-use Rattle.yq_lines.specs.Outline.{Mark, Bare, Line, Outline, end, row, flatten, IsOpen, IsWhole, IsEven, anchored, head_or, label, collection, children, value}
+use Rattle.yq_lines.specs.Outline.{Mark, Bare, Line, Outline, end, row, flatten, IsOpen, IsWhole, IsEven, anchored, head_or, collection, children, value, level}
 use Rattle.yq_lines.proofs.Decides.{flatten-group, even_from}
 use Rattle.yq_lines.proofs.NodeLaws.{anchored_none}
+use Rattle.yq_lines.specs.Ends.{part}
+use Rattle.yq_lines.specs.LinesReading.{names_are_sound, lines_are_sound}
+use Rattle.yq_lines.specs.Sound.{is_sound}
+use Rattle.yq_lines.proofs.NameConditions.{anchors_are}
+use Rattle.yq_lines.proofs.Values.{rank_small}
 
 with-append : (a : Option (List ℕ)) (xs ys : List Name) → with_anchor a (xs ++ ys) ≡ with_anchor a xs ++ ys
-with-append None xs ys = refl
-with-append (Some a) xs ys = refl
+with-append a xs ys = search rules
 
 pub line_names-append : (xs ys : List Line) → line_names (xs ++ ys) ≡ line_names xs ++ line_names ys
 line_names-append [] ys = refl
@@ -28,8 +35,7 @@ named_node : (a : Option (List ℕ)) (n : Node) → NodeTakes a n → names_of (
 named_node a n h1 = search rules
 
 head_takes : (a : Option (List ℕ)) (h : Node) → IsUnnamed (Some h) → MayBeNamed a (Some h) → NodeTakes a h
-head_takes None h u m = tt
-head_takes (Some a) h u m = (m, u)
+head_takes a h h1 h2 = search rules
 
 bare_takes : (x : List ℕ) (k : Option (List ℕ)) (h : Option Node) (v w : Outline) → MayTake Bare k h → IsUnnamed h → IsWhole Bare h w → NodeTakes (Some x) (anchored k (head_or h (value v)))
 bare_takes x k h v w h1 h2 h3 = search (rules, anchored_none)
@@ -46,8 +52,7 @@ collection_names : (m : Mark) (h : Option Node) (w : Outline) (lbl : Label) (n :
 collection_names m h w lbl n h1 = search (rules, append-nil)
 
 names_value : (n : ℕ) (o : Outline) → IsEven n o → names_of (value o) ≡ names_in (children o)
-names_value n end even = refl
-names_value n (row m v w) even = collection_names m.mark m.head w (label m) _ even.2
+names_value n o h1 = search (rules, collection_names)
 
 pub free_front : (a : Option (List ℕ)) (xs ys : List Line) → IsFree a (xs ++ ys) → IsFree a xs
 free_front a xs ys h1 = search rules
@@ -82,9 +87,7 @@ names_children n (row l u a) even each apart =
     let below = names_children even.3.0 u even.3.2 (each_front fu fa each.1) (apart_front fu fa apart.1) in
     let here = entry_names l.anchor l.head even.3.0 u even.1 apart.0.0 apart.0.1 even.3.2 (free_front l.anchor fu fa each.0) (apart_front fu fa apart.1) below in
     let behind = names_children n a even.4 (each_back fu fa each.1) (apart_back fu fa apart.1) in
-    (λ i. here i ++ behind i)
-    ∙ (sym (with-append l.anchor (hn ++ line_names fu) (line_names fa))
-    ∙ ap (with_anchor l.anchor) (append_assoc hn (line_names fu) (line_names fa) ∙ ap (λ t. hn ++ t) (sym (line_names-append fu fa))))
+    search (rules, with-append, append_assoc, line_names-append, fu, fa, hn, here, behind)
 
 -- The names of the node that lines stand for are those of the lines, in order.
 pub names_lines : (ls : List Line) → is_fine (group ls) ≡ true → HaveOneAnchorEach ls → HaveHeadsApart ls → names_of (value (group ls)) ≡ line_names ls
@@ -92,5 +95,30 @@ names_lines ls fine each apart =
     let o = group ls in
     let n = level_or 0 o in
     let even = even_from n o fine in
-    let same = flatten-group ls in
-    names_value n o even ∙ (names_children n o even (subst HaveOneAnchorEach (sym same) each) (subst HaveHeadsApart (sym same) apart) ∙ ap line_names same)
+    search (rules, flatten-group, names_value, names_children, o, n, even)
+
+-- ---- what is asked of all lines of a document
+
+pub above : (l : Line) → 0 < level l
+unfolding level
+above l = omega (arith, rank_small l.mark)
+
+-- all lines are deeper than the level 0
+pub deeper-all : (o : Outline) → deeper 0 o ≡ o
+deeper-all end = refl
+deeper-all (row l u a) = cond-true _ _ _ (lt-ltb 0 (level l) (above l)) ∙ ap (row l u) (deeper-all a)
+
+pub part-all : (ls : List Line) → part ls 0 0 ≡ group ls
+part-all ls = deeper-all (group ls)
+
+-- the node of all lines
+pub all_value : (ls : List Line) → anchored None (value (part ls 0 0)) ≡ value (group ls)
+all_value ls = anchored_none (value (part ls 0 0)) ∙ ap value (part-all ls)
+
+-- lines that don't stand for a node, or not for one that is sound
+pub lines_unsound : (ls : List Line) → false ≡ is_sound depth_limit (part ls 0 0) → false ≡ lines_are_sound ls
+lines_unsound ls h = search (rules, part-all, and-false)
+
+-- of lines that stand for a sound node, their anchors and aliases are left to ask of
+pub lines_named : (ls : List Line) → HaveHeadsApart ls → true ≡ is_sound depth_limit (part ls 0 0) → names_are_sound ls ≡ lines_are_sound ls
+lines_named ls apart h = search (rules, part-all, and_parts, names_lines, anchors_are)

@@ -1,19 +1,18 @@
 -- The nodes that lines stand for.
-use Rattle.std.proofs.Common.{◌≡◌, ℕ, ◌+◌, ◌<◌, List, Option, Some, None, refl, sym, ap, ◌∙◌, rules}
+use Rattle.std.proofs.Common.{◌≡◌, ℕ, ◌+◌, ◌<◌, List, Option, Some, None, ap, ◌∙◌, rules}
 use Rattle.std.specs.List.{slice_get}
 use Rattle.yq_flow_scalars.specs.Tree.{Node, list, map}
 use Rattle.yq_lines.specs.Ends.{part, rest}
 use Rattle.yq_lines.specs.Group.{deeper}
 use Rattle.yq_lines.specs.Outline.{Bare, Key, Dash, Line, level, Outline, row, first_anchor, anchored, head_or, collection, children, value}
-use Rattle.yq_lines.proofs.Parts.{part_row}
+use Rattle.yq_lines.proofs.EndsLaws.{part_row}
 
 pub anchored_twice : (a b : Option (List ℕ)) (n : Node) → anchored a (anchored b n) ≡ anchored (first_anchor a b) n
 anchored_twice a b n = search rules
 
 module _ (ls : List Line) (at floor : ℕ) (l : Line) (is : slice_get ls at ≡ Some l) (deep : floor < level l) where
   value_row : value (part ls at floor) ≡ collection l.mark (children (part ls at floor))
-  value_row =
-      ap value (part_row ls at floor l is deep) ∙ ap (λ x. collection l.mark (children x)) (sym (part_row ls at floor l is deep))
+  value_row = cc (part_row ls at floor l is deep)
 
   pub map_value : (k : List ℕ) → l.mark ≡ Key k → value (part ls at floor) ≡ map None (children (part ls at floor))
   map_value k e = value_row ∙ ap (λ m. collection m (children (part ls at floor))) e
@@ -24,12 +23,10 @@ module _ (ls : List Line) (at floor : ℕ) (l : Line) (is : slice_get ls at ≡ 
   pub bare_value : (a : Option (List ℕ)) → l.mark ≡ Bare → anchored a (value (part ls at floor)) ≡ anchored (first_anchor a l.anchor) (head_or l.head (value (part ls (at + 1) (level l))))
   bare_value a e =
       let o : Outline = row l (part ls (at + 1) (level l)) (deeper floor (rest ls (at + 1) (level l))) in
-      ap (anchored a) (ap value (part_row ls at floor l is deep) ∙ ap (λ m. collection m (children o)) e)
-      ∙ anchored_twice a l.anchor (head_or l.head (value (part ls (at + 1) (level l))))
+      cc (part_row ls at floor l is deep, anchored_twice a l.anchor (head_or l.head (value (part ls (at + 1) (level l)))))
 
 pub anchored_none : (n : Node) → anchored None n ≡ n
 anchored_none n = search rules
 
 pub first_none : (a : Option (List ℕ)) → first_anchor a None ≡ a
-first_none None = refl
-first_none (Some a) = refl
+first_none a = search rules

@@ -1,5 +1,5 @@
 -- A plain scalar on one line stands for itself, and a quoted one without escapes for what is between its quotes.
-use Rattle.std.proofs.Common.{◌≡◌, ℕ, Bool, true, false, ◌&&◌, cond, eqb, ◌⊎◌, inl, inr, List, [], ◌∷◌, ◌++◌, refl, sym, ap, ◌∙◌, ⊎_elim, append_assoc, append-nil, subst, ◌-◌, length, take, drop, slice_index}
+use Rattle.std.proofs.Common.{◌≡◌, ℕ, Bool, true, false, ◌&&◌, cond, eqb, ◌⊎◌, List, [], ◌∷◌, ◌++◌, refl, sym, ap, ◌∙◌, ⊎_elim, append_assoc, append-nil, subst, ◌-◌, length, take, drop, slice_index, rules}
 use Rattle.std.proofs.lemmas.Bool.{cases_Bool, or_parts}
 use Rattle.std.specs.List.{list_any}
 use Rattle.yq_flow_scalars.specs.ContentReading.{within, item, item_len, item_before, content_on, plain_content, quoted_content}
@@ -10,8 +10,7 @@ use Rattle.yq_nodes.specs.Scalars.{is_quoted, content_of}
 
 -- no break is in front of a text without an LF
 no_break : (b : ℕ) (bs : List ℕ) → holds_break bs ≡ false → (is_return b && front is_feed bs) ≡ false
-no_break b [] h = ⊎_elim {0, 0, 0} (λ e. rw e refl) (λ e. rw e refl) (cases_Bool (is_return b))
-no_break b (c ∷ cs) h = ⊎_elim {0, 0, 0} (λ e. rw e (or_parts (is_feed c) (holds_break cs) h).0) (λ e. rw e refl) (cases_Bool (is_return b))
+no_break b bs h1 = search (rules, ⊎_elim, cases_Bool, or_parts)
 
 -- a byte of what stands in these quotes, or in none, stands for itself
 abbrev Itself : ℕ → ℕ → List ℕ → Type 0
@@ -51,8 +50,7 @@ keeps_single : Keeps 39 (λ b. eqb b 39)
 keeps_single b bs h = (refl, (rw h refl, refl))
 
 keeps : (quote : ℕ) → (quote ≡ 34) ⊎ (quote ≡ 39) → Keeps quote (λ b. eqb b (sign quote))
-keeps quote (inl e) = subst (λ q. Keeps q (λ b. eqb b (sign q))) (sym e) keeps_double
-keeps quote (inr e) = subst (λ q. Keeps q (λ b. eqb b (sign q))) (sym e) keeps_single
+keeps quote h1 = search (rules, keeps_double, keeps_single)
 
 -- a quoted scalar on one line without escapes stands for what is between its quotes
 in_quotes : (quote : ℕ) → (quote ≡ 34) ⊎ (quote ≡ 39) → (t : List ℕ) → holds_break t ≡ false → list_any (λ b. eqb b (cond (eqb quote 34) 92 39)) t ≡ false → content_on quote 0 within [] t ≡ t

@@ -1,5 +1,5 @@
 -- What exchanging the lines in a place does to the lines, to evenness and to the tree.
-use Rattle.std.proofs.Common.{◌≡◌, ℕ, ◌∷◌, ◌++◌, Option, Some, None, refl, sym, ap, ◌∙◌, subst, append_assoc, append-nil, rules}
+use Rattle.std.proofs.Common.{◌≡◌, ℕ, ◌∷◌, ◌++◌, Option, None, refl, sym, ap, ◌∙◌, subst, append_assoc, append-nil, rules}
 use Rattle.std.proofs.lemmas.Option.{none-some}
 use Rattle.yq_flow_scalars.specs.Tree.{Node}
 use Rattle.yq_lines.specs.Outline.{Mark, Line, level, Outline, row, flatten, IsOpen, IsWhole, IsEven}
@@ -11,8 +11,7 @@ flatten-plug here o = sym (append-nil (flatten o))
 flatten-plug (below l p a) o =
     ap (λ x. l ∷ x) (ap (λ x. x ++ flatten a) (flatten-plug p o)
     ∙ (append_assoc (lines_before p) (flatten o ++ lines_after p) (flatten a) ∙ ap (λ x. lines_before p ++ x) (append_assoc (flatten o) (lines_after p) (flatten a))))
-flatten-plug (beside l u p) o =
-    ap (λ x. l ∷ x) (ap (λ x. flatten u ++ x) (flatten-plug p o) ∙ sym (append_assoc (flatten u) (lines_before p) (flatten o ++ lines_after p)))
+flatten-plug (beside l u p) o = cc (flatten-plug p o, append_assoc (flatten u) (lines_before p) (flatten o ++ lines_after p))
 
 pub plug-compose : (p q : Context) (o : Outline) → plug (compose p q) o ≡ plug p (plug q o)
 plug-compose here q o = refl
@@ -40,8 +39,7 @@ never_end P (below k p b) l u a f = f k (plug p (row l u a)) b
 never_end P (beside k v p) l u a f = f k v (plug p (row l u a))
 
 pub headless : (h : Option Node) (k : Line) (v b : Outline) → IsOpen h (row k v b) → h ≡ None
-headless None k v b e = refl
-headless (Some n) k v b e = absurd e
+headless h k v b h1 = search rules
 
 pub headless_entry : (m : Mark) (h : Option Node) (b : Outline) → h ≡ None → IsWhole m h b → IsEntry m
 headless_entry m h b h1 h2 = search (rules, none-some)

@@ -1,16 +1,15 @@
 -- Where a step leads among lines, one line after the other.
-use Rattle.std.proofs.Common.{◌≡◌, ℕ, zero, suc, ◌+◌, ◌-◌, ◌<◌, eqb, List, ◌++◌, length, drop, Option, Some, None, option_map, true, false, not, ◌&&◌, refl, sym, ap, ◌∙◌, arith, length-append, length-drop, rules}
+use Rattle.std.proofs.Common.{◌≡◌, ℕ, suc, ◌+◌, ◌-◌, ◌<◌, eqb, List, ◌++◌, length, drop, Option, Some, None, option_map, true, false, not, ◌&&◌, sym, ap, ◌∙◌, arith, length-append, length-drop, rules}
 use Rattle.std.proofs.lemmas.Bool.{cond-true, cond-false, ne_eqb, false≢true}
 use Rattle.std.specs.List.{slice_get}
 use Rattle.yq_flow_scalars.specs.Paths.{Step, Nth, is_here, further, is_item}
 use Rattle.yq_lines.specs.Ends.{part, is_end, IsEndOf}
 use Rattle.yq_lines.specs.Group.{deeper, shallow, group}
-use Rattle.yq_lines.specs.Outline.{Line, level, Outline, end, row, flatten, key_of, label}
+use Rattle.yq_lines.specs.Outline.{Line, level, Outline, flatten, key_of, label}
 use Rattle.yq_lines.specs.Places.{FoundLine, next_to, find_row}
 use Rattle.yq_lines.specs.Positions.{position, line_here}
 use Rattle.yq_lines.proofs.Decides.{flatten-parts, flatten-group}
-use Rattle.yq_lines.proofs.EndsLaws.{deeper_line, not_end}
-use Rattle.yq_lines.proofs.Parts.{part_row, row_parts}
+use Rattle.yq_lines.proofs.EndsLaws.{deeper_line, not_end, part_row, row_parts}
 
 -- how many lines are under a line
 pub under-length : (ls : List Line) (i next : ℕ) (l : Line) → slice_get ls i ≡ Some l → IsEndOf ls i next → suc i + length (flatten (part ls (i + 1) (level l))) ≡ next
@@ -41,14 +40,11 @@ module _ (ls : List Line) (at floor : ℕ) (l : Line) (is : slice_get ls at ≡ 
       ∙ (ap (position at) (cond-false _ _ _ other) ∙ position-next at next l (part ls (at + 1) (level l)) (find_row (further s) (part ls next floor)) (under-length ls at next l is ends))
 
 pub position_end : (at : ℕ) (s : Step) (o : Outline) → false ≡ not (is_end o) → position at (find_row s o) ≡ None
-position_end at s end e = refl
-position_end at s (row l u a) e = absurd (false≢true e)
+position_end at s o h1 = search (rules, false≢true)
 
 -- an index leads to the first item where it is 0
 pub here_item : (n : ℕ) (l : Line) → is_here (Nth n) (label l) ≡ (eqb n 0 && is_item (key_of l.mark))
-here_item zero l = refl
-here_item (suc n) l = sym (ap (λ b. b && is_item (key_of l.mark)) (ne_eqb (suc n) 0 (λ e. omega (arith, e))))
+here_item n l = search (rules, ne_eqb)
 
 pub further_item : (n : ℕ) → further (Nth n) ≡ Nth (n - 1)
-further_item zero = refl
-further_item (suc n) = ap Nth (omega arith)
+further_item n = search rules

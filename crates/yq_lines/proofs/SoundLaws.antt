@@ -1,10 +1,10 @@
 -- What is asked of the items or entries of a collection, line by line.
-use Rattle.std.proofs.Common.{◌≡◌, ℕ, suc, ◌+◌, ◌<◌, ◌≤◌, max, leb, ltb, eqb, List, [], ◌∷◌, ◌++◌, Option, Some, None, is_some, Bool, true, false, ◌&&◌, cond, ◌⊎◌, inl, inr, refl, sym, ap, ◌∙◌, arith, append_assoc, rules}
-use Rattle.std.proofs.lemmas.Bool.{lt-ltb, eq-eqb, ne_eqb, leb-true, le-leb, ltb-true, cases_eq, and_parts, false_from_ne_true, false≢true}
+use Rattle.std.proofs.Common.{◌≡◌, ℕ, suc, ◌+◌, ◌<◌, ◌≤◌, max, leb, ltb, eqb, List, [], ◌++◌, Option, Some, None, is_some, Bool, true, false, ◌&&◌, ◌⊎◌, inl, inr, refl, sym, ap, ◌∙◌, arith, append_assoc, rules}
+use Rattle.std.proofs.lemmas.Bool.{lt-ltb, eq-eqb, ne_eqb, leb-true, le-leb, cases_eq, and_parts, false_from_ne_true, false≢true}
 use Rattle.std.proofs.Math.Bool.{and-false, and-true, and_comm}
 use Rattle.yq_flow_scalars.specs.Tree.{Node}
 use Rattle.yq_flow_scalars.specs.Keys.{with_key, keys_of, depth, deepest, are_distinct}
-use Rattle.yq_lines.specs.Outline.{Mark, Bare, Key, Dash, rank, Line, level, Outline, end, row, anchored, head_or, key_of, collection, children, value}
+use Rattle.yq_lines.specs.Outline.{Mark, Bare, Dash, rank, Line, level, Outline, end, row, anchored, head_or, key_of, children, value}
 use Rattle.yq_lines.specs.Group.{deeper, shallow, is_open, is_whole, level_or, is_even, is_fine}
 use Rattle.yq_lines.specs.Ends.{is_end}
 use Rattle.yq_lines.specs.Sound.{has_unique_keys, each_has_unique_keys, is_sound, head_is_sound, line_is_sound, is_entry}
@@ -31,8 +31,7 @@ head_unique None = true
 head_unique (Some h) = has_unique_keys h
 
 head_parts : (d : ℕ) (h : Option Node) → head_is_sound d h ≡ (head_depth d h && head_unique h)
-head_parts d None = refl
-head_parts d (Some h) = refl
+head_parts d h = search rules
 
 pub depth-anchored : (a : Option (List ℕ)) (n : Node) → depth (anchored a n) ≡ depth n
 depth-anchored a n = search rules
@@ -63,8 +62,7 @@ sorted : (f e l h x u g y z : Bool) → (f && e) && (((l && h) && x) && (((u && 
 sorted f e l h x u g y z = search (rules, and-false)
 
 even_any : (d : ℕ) (o : Outline) → is_even (level_or d o) o ≡ is_fine o
-even_any d end = refl
-even_any d (row l u a) = refl
+even_any d o = search rules
 
 whole_entry : (m : Mark) (h : Option Node) (o : Outline) → is_entry m ≡ true → is_whole m h o ≡ true
 whole_entry m h o h1 = search (rules, false≢true)
@@ -75,20 +73,13 @@ even_row : (n : ℕ) (l : Line) (u a : Outline) → is_entry l.mark ≡ true →
 even_row n l u a entry lev open' deep = search (rules, eq-eqb, whole_entry, lt-ltb, even_any)
 
 keys_again : (keys : List (List ℕ)) (k : Option (List ℕ)) (more : List (List ℕ)) → keys ++ with_key k more ≡ (keys ++ with_key k []) ++ more
-keys_again keys None more = sym (append_assoc keys [] more)
-keys_again keys (Some k) more = sym (append_assoc keys (k ∷ []) more)
+keys_again keys k more = search (rules, append_assoc)
 
 -- what is asked of a line and of those behind it
 asked_row : (d n : ℕ) (keys : List (List ℕ)) (l : Line) (u a : Outline) → is_entry l.mark ≡ true → level l ≡ n → is_open l.head u ≡ true → level l < level_or (level l + 1) u →
     asked d n keys (row l u a) ≡ (head_is_sound d l.head && (is_sound d u && asked d n (keys_with keys l.mark) a))
 asked_row d n keys l u a entry lev open' deep =
-    let c : Node = anchored l.anchor (head_or l.head (value u)) in
-    let deep_is : leb (depth c) d ≡ (leb (depth (value u)) d && head_depth d l.head) = ap (λ m. leb m d) (depth-anchored l.anchor (head_or l.head (value u))) ∙ depth-head d l.head u open' in
-    let unique_is : has_unique_keys c ≡ (has_unique_keys (value u) && head_unique l.head) = unique-anchored l.anchor (head_or l.head (value u)) ∙ unique-head l.head u open' in
-    let key_is : keys ++ with_key (key_of l.mark) (keys_of (children a)) ≡ keys_with keys l.mark ++ keys_of (children a) = keys_again keys (key_of l.mark) (keys_of (children a)) in
-    (λ i. even_row n l u a entry lev open' deep i && ((leb-max (depth c) (deepest (children a)) d ∙ ap (λ m. m && leb (deepest (children a)) d) deep_is) i && ((unique_is i && each_has_unique_keys (children a)) && are_distinct (key_is i))))
-    ∙ (sorted (is_fine u) (is_even n a) (leb (depth (value u)) d) (head_depth d l.head) (leb (deepest (children a)) d) (has_unique_keys (value u)) (head_unique l.head) (each_has_unique_keys (children a)) (are_distinct (keys_with keys l.mark ++ keys_of (children a)))
-    ∙ ap (λ b. b && (is_sound d u && asked d n (keys_with keys l.mark) a)) (sym (head_parts d l.head)))
+    search (rules, depth-anchored, depth-head, unique-anchored, unique-head, keys_again, even_row, leb-max, sorted, head_parts)
 
 -- a line at another level, or with a head and lines under it
 not_level : (d n : ℕ) (keys : List (List ℕ)) (l : Line) (u a : Outline) → (level l ≡ n → ⊥) → asked d n keys (row l u a) ≡ false
@@ -106,8 +97,7 @@ asked_line d n keys l u a entries deep = go (cases_eq (level l) n)
     next = is_sound d u && asked d n (keys_with keys l.mark) a
 
     opened : (b : Bool) → level l ≡ n → is_open l.head u ≡ b → asked d n keys (row l u a) ≡ (b && head_is_sound d l.head) && next
-    opened true lev e = asked_row d n keys l u a (entries l lev) lev e deep
-    opened false lev e = not_open d n keys l u a lev e
+    opened b h1 h2 = search (rules, asked_row, not_open)
 
     go : (level l ≡ n) ⊎ (level l ≡ n → ⊥) → asked d n keys (row l u a) ≡ (line_is_sound d n l u && next)
     go (inl lev) = opened (is_open l.head u) lev refl ∙ sym (ap (λ b. (b && (is_open l.head u && head_is_sound d l.head)) && next) (eq-eqb (level l) n lev))
@@ -139,28 +129,18 @@ no_keys l (row m u a) mark e =
     ap (λ k. with_key k (keys_of (children a))) (no_key m.mark (same_rank m l (same (cases_eq (level m) (level l)) p.0) ∙ ap rank mark)) ∙ no_keys l a mark t.1
   where
     same : (level m ≡ level l) ⊎ (level m ≡ level l → ⊥) → eqb (level m) (level l) ≡ true → level m ≡ level l
-    same (inl is) h = is
-    same (inr other) h = absurd (false≢true (sym (ne_eqb (level m) (level l) other) ∙ h))
+    same h1 h2 = search (rules, false≢true, ne_eqb)
 
 -- a fact that follows from the first
 guarded : (b x y z : Bool) → (b ≡ true → z ≡ true) → (b && (x && y)) ≡ (b && (x && (y && z)))
-guarded false x y z h = refl
-guarded true x y z h = ap (λ w. x && w) (sym (ap (λ w. y && w) (h refl) ∙ and-true y))
+guarded b x y z h1 = search (rules, and-true)
 
 -- what is asked of a collection, of its items or entries
 pub sound_entries : (d : ℕ) (l : Line) (u a : Outline) → is_entry l.mark ≡ true → is_sound (suc d) (row l u a) ≡ asked d (level l) [] (row l u a)
 sound_entries d l u a entry = go l.mark refl entry
   where
     go : (m : Mark) → l.mark ≡ m → is_entry m ≡ true → is_sound (suc d) (row l u a) ≡ asked d (level l) [] (row l u a)
-    go Bare mark h = absurd (false≢true h)
-    go (Key k) mark h =
-        ap (λ m. is_even (level l) (row l u a) && (leb (depth (collection m (children (row l u a)))) (suc d) && has_unique_keys (collection m (children (row l u a))))) mark
-        ∙ (λ i. is_even (level l) (row l u a) && (leb-suc (deepest (children (row l u a))) d i && and_comm (are_distinct (keys_of (children (row l u a)))) (each_has_unique_keys (children (row l u a))) i))
-    go Dash mark h =
-        ap (λ m. is_even (level l) (row l u a) && (leb (depth (collection m (children (row l u a)))) (suc d) && has_unique_keys (collection m (children (row l u a))))) mark
-        ∙ (λ i. is_even (level l) (row l u a) && (leb-suc (deepest (children (row l u a))) d i && each_has_unique_keys (children (row l u a))))
-        ∙ guarded (is_even (level l) (row l u a)) (leb (deepest (children (row l u a))) d) (each_has_unique_keys (children (row l u a))) (are_distinct (keys_of (children (row l u a))))
-        (λ e. ap are_distinct (no_keys l (row l u a) mark e))
+    go m h1 h2 = search (rules, false≢true, leb-suc, and_comm, guarded, no_keys)
 
 pub too_deep : (l : Line) (u a : Outline) → is_entry l.mark ≡ true → is_sound 0 (row l u a) ≡ false
 too_deep l u a entry = search (rules, false≢true, leb-zero, and-false)
@@ -178,9 +158,4 @@ sound_bare d l u a mark = search (rules, eq-eqb, depth-anchored, unique-anchored
 -- nothing is under a line and nothing behind it, where the next one is not deeper than a lower level
 pub lone : (n floor : ℕ) (o : Outline) → floor < n → (is_end (deeper n o) && is_end (deeper floor (shallow n o))) ≡ is_end (deeper floor o)
 lone n floor end h = refl
-lone n floor (row l u a) h = go (ltb n (level l)) refl
-  where
-    go : (b : Bool) → ltb n (level l) ≡ b →
-        (is_end (cond b (row l u (deeper n a)) end) && is_end (deeper floor (cond b (shallow n a) (row l u a)))) ≡ is_end (deeper floor (row l u a))
-    go true e = sym (ap (λ b. is_end (cond b (row l u (deeper floor a)) end)) (lt-ltb floor (level l) (omega (arith, h, ltb-true n (level l) e))))
-    go false e = refl
+lone n floor (row l u a) h = search rules

@@ -3,7 +3,7 @@ use Rattle.std.proofs.Common.{◌≡◌, ℕ, ◌<◌, ◌≤◌, List, [], ◌+
 use Rattle.std.proofs.lemmas.Bool.{lt-ltb, le-ltb, cond-true, cond-false}
 use Rattle.yq_flow_scalars.specs.Tree.{Node}
 use Rattle.yq_lines.specs.Outline.{Line, level, Outline, end, row, flatten, IsEven, Stands}
-use Rattle.yq_lines.specs.Group.{deeper, shallow, lead, group}
+use Rattle.yq_lines.specs.Group.{deeper, shallow, group}
 
 -- one outline behind another
 abbrev pub join : Outline → Outline → Outline
@@ -16,28 +16,23 @@ IsShallow n end = Unit {0}
 IsShallow n (row l under after) = level l ≤ n
 
 deeper-shallow : (n : ℕ) (o : Outline) → IsShallow n o → deeper n o ≡ end
-deeper-shallow n end h = refl
-deeper-shallow n (row l u a) h = cond-false _ _ _ (le-ltb n (level l) h)
+deeper-shallow n o h1 = search (rules, cond-false, le-ltb)
 
 shallow-shallow : (n : ℕ) (o : Outline) → IsShallow n o → shallow n o ≡ o
-shallow-shallow n end h = refl
-shallow-shallow n (row l u a) h = cond-false _ _ _ (le-ltb n (level l) h)
+shallow-shallow n o h1 = search (rules, cond-false, le-ltb)
 
 deeper-join : (n m : ℕ) (o b : Outline) → n < m → IsEven m o → IsShallow n b → deeper n (join o b) ≡ o
 deeper-join n m end b lt e h = deeper-shallow n b h
 deeper-join n m (row l u a) b lt e h =
-    let deep : n < level l = omega (arith, e.0) in
-    cond-true _ _ _ (lt-ltb n (level l) deep) ∙ ap (row l u) (deeper-join n m a b lt e.4 h)
+    cond-true _ _ _ (lt-ltb n (level l) (omega (arith, e.0))) ∙ ap (row l u) (deeper-join n m a b lt e.4 h)
 
 shallow-join : (n m : ℕ) (o b : Outline) → n < m → IsEven m o → IsShallow n b → shallow n (join o b) ≡ b
 shallow-join n m end b lt e h = shallow-shallow n b h
 shallow-join n m (row l u a) b lt e h =
-    let deep : n < level l = omega (arith, e.0) in
-    cond-true _ _ _ (lt-ltb n (level l) deep) ∙ shallow-join n m a b lt e.4 h
+    cond-true _ _ _ (lt-ltb n (level l) (omega (arith, e.0))) ∙ shallow-join n m a b lt e.4 h
 
 shallow_up : (n m : ℕ) (o : Outline) → n < m → IsShallow n o → IsShallow m o
-shallow_up n m end lt h = tt
-shallow_up n m (row l u a) lt h = omega arith
+shallow_up n m o h1 h2 = search rules
 
 join-IsShallow : (n : ℕ) (o b : Outline) → IsEven n o → IsShallow n b → IsShallow n (join o b)
 join-IsShallow n end b e h = h
@@ -51,12 +46,7 @@ group-flatten n (row l u a) ls e h =
     let low : IsShallow n (group (flatten a ++ ls)) = rw behind (join-IsShallow n a (group ls) e.4 h) in
     let below : group (flatten u ++ (flatten a ++ ls)) ≡ join u (group (flatten a ++ ls)) =
     group-flatten e.3.0 u (flatten a ++ ls) e.3.2 (shallow_up n e.3.0 _ deep low) in
-    let whole : group (flatten u ++ flatten a ++ ls) ≡ join u (join a (group ls)) = ap group (append_assoc (flatten u) (flatten a) ls) ∙ (below ∙ ap (join u) behind) in
-    let low' : IsShallow n (join a (group ls)) = join-IsShallow n a (group ls) e.4 h in
-    ap (lead l) whole ∙ (rw e.0 (step (deeper-join n e.3.0 u (join a (group ls)) deep e.3.2 low') (shallow-join n e.3.0 u (join a (group ls)) deep e.3.2 low')))
-  where
-    step : {x y x' y' : Outline} → x ≡ x' → y ≡ y' → row l x y ≡ row l x' y'
-    step p q = λ i. row l (p i) (q i)
+    search (rules, append_assoc, join-IsShallow, deeper-join, shallow-join, behind, below)
 
 join-end : (o : Outline) → join o end ≡ o
 join-end end = refl

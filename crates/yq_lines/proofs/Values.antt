@@ -1,9 +1,9 @@
 -- What exchanging the lines in a place does to the tree.
-use Rattle.std.proofs.Common.{◌≡◌, ℕ, ◌≤◌, List, [], ◌∷◌, Option, Some, None, option_map, option_and_then, Bool, true, false, cond, refl, sym, ap, ◌∙◌, subst, arith, rules}
+use Rattle.std.proofs.Common.{◌≡◌, ℕ, ◌≤◌, List, [], ◌∷◌, Option, Some, None, option_map, option_and_then, Bool, cond, refl, sym, ap, ◌∙◌, subst, arith, rules}
 use Rattle.yq_flow_scalars.specs.Tree.{Node, Children, child}
-use Rattle.yq_lines.specs.Outline.{Mark, Bare, Key, Dash, rank, Line, level, Outline, end, row, anchored, label, collection, shaped, children, value}
+use Rattle.yq_lines.specs.Outline.{Mark, Bare, rank, Line, level, Outline, end, row, anchored, label, collection, shaped, children, value}
 use Rattle.yq_flow_scalars.specs.Paths.{Step, is_here, further, change_child, within, change}
-use Rattle.yq_lines.specs.Places.{here, below, plug, FoundLine, next_to, find_row, inside, bare_or, in_head, find, content}
+use Rattle.yq_lines.specs.Places.{here, plug, FoundLine, next_to, find_row, inside, bare_or, in_head, find, content}
 use Rattle.yq_lines.proofs.Allowing.{IsEntry, IsCollection}
 use Rattle.yq_lines.proofs.Plug.{plug-compose}
 
@@ -36,9 +36,7 @@ row_change s h (row k v a) = go (is_here s (label k)) (find_row (further s) a) (
         children (plug f.place (row l u f.after)) ≡ change_child (further s) h (children a)) →
         If (cond b (Some (record { place = here; line = k; under = v; after = a })) (option_map (next_to k v) r)) (λ f. (l : Line) (u : Outline) → label l ≡ label f.line → content l u ≡ h (content f.line f.under) →
         children (plug f.place (row l u f.after)) ≡ cond b (child (label k) (h (content k v)) (children a)) (child (label k) (content k v) (change_child (further s) h (children a))))
-    go true r ih = λ l u p q. λ i. child (p i) (q i) (children a)
-    go false None ih = tt
-    go false (Some f) ih = λ l u p q. ap (child (label k) (content k v)) (ih l u p q)
+    go b r h1 = search rules
 
 pub row_shape : (s : Step) (o : Outline) →
     If (find_row s o) (λ f. (l : Line) (u : Outline) (cs : Children) → level l ≡ level f.line → shaped (plug f.place (row l u f.after)) cs ≡ shaped o cs)
@@ -48,8 +46,7 @@ within-collection : (m : Mark) (g : Children → Children) (cs : Children) → I
 within-collection m g cs h1 = search rules
 
 pub within-shaped : (o : Outline) (g : Children → Children) (cs : Children) → IsCollection o → shaped o (g cs) ≡ within g (shaped o cs)
-within-shaped end g cs e = refl
-within-shaped (row l u a) g cs e = within-collection l.mark g cs e
+within-shaped o g cs h1 = search (rules, within-collection)
 
 abbrev pub RowChanges : Step → Outline → FoundLine → Type 0
 RowChanges s o f =
@@ -77,9 +74,7 @@ PathChanges s ss o x =
     value (plug x.0.place (row l u x.0.after)) ≡ change (s ∷ ss) g (value o)
 
 bare_value : (s : Step) (ss : List Step) (k : Line) (v a : Outline) → k.mark ≡ Bare → PathChanges s ss (row k v a) (record { place = here; line = k; under = v; after = a }, s ∷ ss)
-bare_value s ss k v a e g l u same lev new =
-    let m : rank l.mark ≡ 1 = same_rank l k lev ∙ ap rank e in
-    same_collection l.mark Bare (child (label l) (content l u) (children a)) m ∙ (new ∙ sym (ap (λ m. change (s ∷ ss) g (collection m (children (row k v a)))) e))
+bare_value s ss k v a e g l u same lev new = search (rules, same_rank, same_collection)
 
 -- the step into what is under a line
 deep_value : (s t : Step) (ts : List Step) (o : Outline) (f : FoundLine) (h : Option Node) → f.line.head ≡ h → RowChanges s o f →
@@ -92,33 +87,27 @@ deep_value s t ts o f None e r ih = go (find t ts f.under) ih
     go None h = tt
     go (Some x) h = λ g l u same lev new.
         let below_value : value (plug x.0.place (row l u x.0.after)) ≡ change (t ∷ ts) g (value f.under) = h g l u same lev new in
-        let here_value : content f.line (plug x.0.place (row l u x.0.after)) ≡ change (t ∷ ts) g (content f.line f.under) =
-        rw e (ap (anchored f.line.anchor) below_value ∙ anchored-within f.line.anchor (change_child t (change ts g)) (value f.under)) in
-        ap value (plug-compose f.place (below f.line x.0.place f.after) (row l u x.0.after)) ∙ r (change (t ∷ ts) g) f.line (plug x.0.place (row l u x.0.after)) refl refl here_value
+        search (rules, anchored-within, plug-compose, below_value)
 
 pub path_value : (s : Step) (ss : List Step) (o : Outline) → If (find s ss o) (PathChanges s ss o)
 path_value s ss end = tt
 path_value s [] (row k v a) = go k.mark refl (find_row s (row k v a)) (row_value s (row k v a))
   where
     found : (r : Option FoundLine) → If r (RowChanges s (row k v a)) → If (option_map (λ f. (f, [])) r) (PathChanges s [] (row k v a))
-    found None h = tt
-    found (Some f) h = λ g l u same lev new. h g l u same lev new
+    found r h1 = search rules
 
     go : (m : Mark) → k.mark ≡ m → (r : Option FoundLine) → (IsCollection (row k v a) → If r (RowChanges s (row k v a))) →
         If (bare_or m (Some (record { place = here; line = k; under = v; after = a }, s ∷ [])) (option_map (λ f. (f, [])) r)) (PathChanges s [] (row k v a))
     go Bare e r h = bare_value s [] k v a e
-    go (Key j) e r h = found r (h (subst IsEntry (sym e) tt))
-    go Dash e r h = found r (h (subst IsEntry (sym e) tt))
+    go x e r h = found r (h (subst IsEntry (sym e) tt))
 path_value s (t ∷ ts) (row k v a) = go (λ u. path_value t ts u) k.mark refl (find_row s (row k v a)) (row_value s (row k v a))
   where
     found : ((u : Outline) → If (find t ts u) (PathChanges t ts u)) → (r : Option FoundLine) → If r (RowChanges s (row k v a)) →
         If (option_and_then (λ f. in_head f.line.head (Some (f, t ∷ ts)) (option_map (λ x. (inside f x.0, x.1)) (find t ts f.under))) r) (PathChanges s (t ∷ ts) (row k v a))
-    found ih None h = tt
-    found ih (Some f) h = deep_value s t ts (row k v a) f f.line.head refl h (ih f.under)
+    found h1 r h2 = search (rules, deep_value)
 
     go : ((u : Outline) → If (find t ts u) (PathChanges t ts u)) → (m : Mark) → k.mark ≡ m → (r : Option FoundLine) → (IsCollection (row k v a) → If r (RowChanges s (row k v a))) →
         If (bare_or m (Some (record { place = here; line = k; under = v; after = a }, s ∷ (t ∷ ts)))
         (option_and_then (λ f. in_head f.line.head (Some (f, t ∷ ts)) (option_map (λ x. (inside f x.0, x.1)) (find t ts f.under))) r)) (PathChanges s (t ∷ ts) (row k v a))
     go ih Bare e r h = bare_value s (t ∷ ts) k v a e
-    go ih (Key j) e r h = found ih r (h (subst IsEntry (sym e) tt))
-    go ih Dash e r h = found ih r (h (subst IsEntry (sym e) tt))
+    go ih x e r h = found ih r (h (subst IsEntry (sym e) tt))

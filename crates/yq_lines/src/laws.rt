@@ -15,6 +15,7 @@ pub fn one_node()
 {}
 
 /// What lines stand for is what the rules of block nodes give them (YAML 1.2.2, 8.2).
+#[tactic(auto, using(crate::proofs::ByRules::rules_from, crate::proofs::ByRules::rules_give))]
 pub fn rules()
     ensures sound { (n : ℕ) (lines : List Line) (node : Node) → Stands lines node n → (l : Line)
         (ls : List Line) → lines ≡ l ∷ ls → IsNode n lines node }
@@ -24,6 +25,7 @@ pub fn rules()
 
 /// Lines stand for a node with items and keys where they belong, if what is written on them is such a
 /// node; and such a node, in which no mapping has a key twice, is a tree.
+#[tactic(auto, using(crate::proofs::ShapeLaws::shaped_by_lines, crate::proofs::ShapeLaws::shaped_is_tree))]
 pub fn lines_shaped()
     ensures shaped { ShapedByLines }
     ensures tree { ShapedIsTree }
@@ -36,6 +38,7 @@ pub fn exchanged()
 
 /// The comment lines that end lines, in front of which others stand that end in none, are those of
 /// the lines alone; repair leaves them.
+#[tactic(auto, using(crate::proofs::HeadLaws::comments_behind, crate::proofs::HeadLaws::head_repaired))]
 pub fn heads_joined()
     ensures behind { (ls ms : List (List ℕ)) → last_comments ls ≡ [] →
         last_comments (ls ++ ms) ≡ last_comments ms }

@@ -1,7 +1,7 @@
 -- Where comments stand or would stand, by the row that the code has found.
-use Rattle.std.proofs.Common.{◌≡◌, ℕ, ◌+◌, ◌-◌, ◌≤◌, eqb, List, [], ◌∷◌, ◌++◌, length, take, drop, Option, Some, None, option_map, Bool, true, false, cond, refl, sym, ap, ◌∙◌, subst, arith, append_assoc, append-nil, length-append}
+use Rattle.std.proofs.Common.{◌≡◌, ℕ, ◌+◌, ◌-◌, ◌≤◌, eqb, List, [], ◌∷◌, ◌++◌, length, take, drop, Option, Some, None, option_map, true, cond, refl, sym, ap, ◌∙◌, subst, arith, append_assoc, append-nil, length-append, rules}
 use Rattle.std.proofs.Math.Seq.{take-append_seam, drop-append_seam}
-use Rattle.std.proofs.lemmas.Bool.{eq-eqb, eqb-true}
+use Rattle.std.proofs.lemmas.Bool.{eq-eqb}
 use Rattle.std.proofs.lemmas.Option.{slice_get-map}
 use Rattle.std.specs.List.{slice_get}
 use Rattle.std.specs.Str.{IsUtf8, IsCharBoundary}
@@ -48,12 +48,7 @@ module _ (path : Path) (c : Cut) (n : Numbers) (row_line_is : Some n ≡ option_
   printed_line = (row_line_placed path c n row_line_is).0
 
   pub other_lines_above : (n.1 ≡ 0 → ⊥) → None ≡ lines_above path.doc (steps_of path) c
-  other_lines_above differ =
-      sym (ap (λ (o : Option PlacedRow). o >>= λ w. cond (eqb w.line 0) (Some (above_row w)) None) (row_line_placed path c n row_line_is).1.is ∙ go (eqb printed_line.line 0) refl)
-    where
-      go : (b : Bool) → eqb printed_line.line 0 ≡ b → cond b (Some (above_row printed_line)) None ≡ None
-      go true e = let is = (row_line_placed path c n row_line_is).1 in absurd (differ (is.line ∙ eqb-true printed_line.line 0 e))
-      go false e = refl
+  other_lines_above differ = search (rules, row_line_placed)
 
 -- a run begins in ASCII, or is empty
 pub run_ascii : (ls : List (List ℕ)) → BeginsAscii (joined (last_run ls))
@@ -83,9 +78,7 @@ module _ (t : List ℕ) (start : ℕ) (gap run : List ℕ) (h : GapStands t star
   above_fits = omega (arith, ap length gap_is, length-append kept run)
 
   front_is : take (start + length gap) t ≡ h.before ++ gap
-  front_is =
-      let n : start + length gap ≡ length (h.before ++ gap) = omega (arith, h.start_is, length-append h.before gap) in
-      ap (λ m. take m t) n ∙ (ap (λ x. take (length (h.before ++ gap)) x) (h.text ∙ sym (append_assoc h.before gap h.rest)) ∙ take-append_seam (h.before ++ gap) h.rest)
+  front_is = search (rules, length-append, append_assoc, take-append_seam)
 
   parts : take (start + length gap) t ≡ (h.before ++ kept) ++ run
   parts = front_is ∙ (ap (λ x. h.before ++ x) gap_is ∙ sym (append_assoc h.before kept run))
@@ -105,8 +98,7 @@ module _ (t : List ℕ) (start : ℕ) (gap run : List ℕ) (h : GapStands t star
       let first : before ≡ h.before ++ kept = b ∙ ((λ i. take (size i) (whole i)) ∙ take-append_seam (h.before ++ kept) run) in
       let ends : h.before ≡ k.before = sym (ap (λ n. take n t) (h.start_is) ∙ (ap (take (length h.before)) h.text ∙ take-append_seam h.before (gap ++ h.rest))) ∙ (ap (λ n. take n t) k.start_is ∙ (ap (take (length k.before)) k.text ∙ take-append_seam k.before (gap ++ k.rest))) in
       let n : start + length gap ≡ length (k.before ++ gap) = omega (arith, k.start_is, length-append k.before gap) in
-      let rest : behind ≡ k.rest = d ∙ (ap (λ m. drop m t) n ∙ (ap (λ x. drop (length (k.before ++ gap)) x) (k.text ∙ sym (append_assoc k.before gap k.rest)) ∙ drop-append_seam (k.before ++ gap) k.rest)) in
-      λ i. record { before = (first ∙ ap (λ x. x ++ kept) ends) i; run = run_is i; column = column; behind = rest i }
+      search (rules, append_assoc, drop-append_seam, run_is, first, ends, n)
 
 -- the row of a line that the code tells, in a text that is held
 module _ (t : List ℕ) (x : RowsView) (held : HasCut t x) (path : Path) (n : Numbers) (row_line_is : Some n ≡ option_map (numbers (document_row path.doc (cut_of t))) (row_line_at path (cut_of t))) where
@@ -114,9 +106,7 @@ module _ (t : List ℕ) (x : RowsView) (held : HasCut t x) (path : Path) (n : Nu
   w = (row_line_placed path (cut_of t) n row_line_is).0
 
   whole : t ≡ w.before ++ print_row w.row w.behind
-  whole =
-      let at = (row_line_placed path (cut_of t) n row_line_is).1.at in
-      held.cut.text ∙ (row_place (cut_of t) n.0 w.row at.there ∙ (λ i. at.before_is i ++ print_row w.row (at.behind_is i)))
+  whole = search (rules, row_line_placed, row_place)
 
   -- the lines above
   pub gap_stands : (start : ℕ) (gap text : List ℕ) → start ≡ row_start n.0 x → ((y : Slices) → slice_get x.rows n.0 ≡ Some y → gap ≡ y.gap) → text ≡ t → IsUtf8 t → (h : GapStands text start gap) × (h.before ≡ w.before) × (h.rest ≡ behind_gap w.row w.behind) × (gap ≡ w.row.gap)
@@ -151,7 +141,4 @@ module _ (t : List ℕ) (x : RowsView) (held : HasCut t x) (path : Path) (n : Nu
       let k = (row_line_placed path (cut_of t) n row_line_is).1 in
       let g = gap_stands start gap text begins has e u in
       let view_row : slice_get x.rows n.0 ≡ Some (slices w.row) = ap (λ (y : RowsView). slice_get y.rows n.0) held.rows ∙ (slice_get-map slices (rows_of (cut_of t)) n.0 ∙ ap (option_map slices) k.at.there) in
-      let column_is : column ≡ w.row.column = columns (slices w.row) view_row in
-      let test : eqb w.line 0 ≡ true = eq-eqb w.line 0 (sym k.line ∙ first) in
-      ap Some (agrees g.0 ∙ (λ i. gap_above (g.1 i) (g.3 i) (column_is i) (g.2 i)))
-      ∙ sym (ap (λ (o : Option PlacedRow). o >>= λ w. cond (eqb w.line 0) (Some (above_row w)) None) k.is ∙ ap (λ b. cond b (Some (above_row w)) None) test)
+      search (rules, eq-eqb, k, g, view_row)

@@ -1,5 +1,5 @@
 -- The text holds the pieces of comments.
-use Rattle.std.proofs.Common.{◌≡◌, ◌⊎◌, inl, inr, ℕ, List, [], ◌∷◌, ◌++◌, length, map, Some, None, refl, sym, ap, ◌∙◌, subst, append_assoc}
+use Rattle.std.proofs.Common.{◌≡◌, ◌⊎◌, inl, inr, ℕ, List, [], ◌∷◌, ◌++◌, length, map, Some, None, refl, sym, ap, ◌∙◌, subst, append_assoc, rules}
 use Rattle.std.proofs.lemmas.Option.{none-some}
 use Rattle.std.specs.Str.{IsUtf8}
 use Rattle.yq_flow_scalars.specs.Paths.{Step}
@@ -13,7 +13,7 @@ use Rattle.yq_cut.specs.View.{content_cut}
 use Rattle.yq_documents.specs.declared.path.Part.TheVariants as parts
 use Rattle.yq_places.specs.PathPieces.{BlockEntry, PrintedDocument, found_entry, piece_in_entry, piece_in}
 use Rattle.yq_documents.specs.Pieces.{TextPiece, HoldsPiece, tail_comment, content_comment, gap_comment}
-use Rattle.yq_places.specs.PrintedLines.{line_front, behind_front, print_lines, line_in}
+use Rattle.yq_places.specs.PrintedLines.{behind_front, print_lines, line_in}
 use Rattle.yq_places.proofs.CommentPieceLaws.{Ended, tail_piece, gap_piece}
 use Rattle.yq_places.proofs.PrintedLaws.{IsPrinted, ArePrinted}
 use Rattle.yq_places.proofs.FoundEntries.{entry_found}
@@ -40,12 +40,10 @@ content_holds before c behind x t text u (inr ended) is =
 
 entry_holds : (e : BlockEntry) (x : TextPiece) → IsUtf8 (entry_text e) → IsPrinted e.line (print_lines e.under e.behind) →
     (piece_in_entry parts.LineComment [] e ≡ Some x) ⊎ (piece_in_entry parts.HeadComment [] e ≡ Some x) → HoldsPiece (entry_text e) x
-entry_holds e x u as_printed (inl is) =
-    content_holds (e.before ++ (line_front e.line ++ e.line.mark)) e.line.content (print_lines e.under e.behind) x (entry_text e) (simp append_assoc refl) u as_printed.tail is
+entry_holds e x u as_printed (inl is) = search (rules, content_holds, entry_text, append_assoc)
 entry_holds e x u as_printed (inr is) =
     let rest = e.line.spaces ++ behind_front e.line (print_lines e.under e.behind) in
-    let whole : e.before ++ (e.line.gap ++ (e.line.spaces ++ behind_front e.line (print_lines e.under e.behind))) ≡ entry_text e =
-    ap (λ l. e.before ++ l) (sym (append_assoc e.line.gap e.line.spaces (behind_front e.line (print_lines e.under e.behind)))) in
+    let whole : e.before ++ (e.line.gap ++ (e.line.spaces ++ behind_front e.line (print_lines e.under e.behind))) ≡ entry_text e = simp (append_assoc) in
     subst (λ q. HoldsPiece q x) whole (gap_piece e.before e.line.gap rest x (subst IsUtf8 (sym whole) u) as_printed.gap is)
 
 pub comments_hold : (steps : List Step) (s : PrintedDocument) (x : TextPiece) → IsUtf8 (document_text s) → ArePrinted s.lines s.behind →

@@ -1,5 +1,5 @@
 -- Comments stand in their text between whole characters.
-use Rattle.std.proofs.Common.{◌≡◌, ◌⊎◌, inl, inr, ℕ, zero, suc, ◌+◌, ◌-◌, ◌<◌, ◌≤◌, ℤ, eqb, ltb, List, [], ◌∷◌, ◌++◌, length, take, drop, Some, None, Bool, true, false, cond, not, ◌&&◌, refl, sym, ap, ◌∙◌, subst, arith, append-nil, append_assoc, length-append}
+use Rattle.std.proofs.Common.{◌≡◌, ◌⊎◌, inl, inr, ℕ, zero, suc, ◌+◌, ◌-◌, ◌<◌, ◌≤◌, ℤ, eqb, List, [], ◌∷◌, ◌++◌, length, take, drop, Some, None, Bool, true, false, cond, ◌&&◌, refl, sym, ap, ◌∙◌, subst, arith, append-nil, append_assoc, length-append, rules}
 use Rattle.std.proofs.Math.Seq.{take-append_seam, drop-append_seam}
 use Rattle.std.proofs.lemmas.Bool.{cases_lt, eqb-true, false≢true, lt-ltb, le-ltb, and_parts}
 use Rattle.std.proofs.lemmas.List.{take-append-drop, length-drop}
@@ -7,7 +7,7 @@ use Rattle.std.proofs.lemmas.Option.{same_Some}
 use Rattle.std.proofs.lemmas.Str.{IsUtf8-take, IsUtf8-between}
 use Rattle.std.specs.List.{slice_get}
 use Rattle.std.specs.Str.{IsUtf8, IsCharBoundary}
-use Rattle.yq_flow_scalars.specs.Text.{cut, front, ends_line, is_break, is_white, is_line, is_empty, joined, lines_of, no_white, past_white, upto}
+use Rattle.yq_flow_scalars.specs.Text.{cut, front, ends_line, is_break, is_line, is_empty, joined, lines_of, no_white, past_white, upto}
 use Rattle.yq_block_scalars.proofs.BlockPieceLaws.{IsLf, line_lf, append_lf, cut_lf}
 use Rattle.yq_flow_scalars.proofs.Boundaries.{white_ascii, break_ascii}
 use Rattle.yq_block_scalars.proofs.LineLaws.{joined_lines}
@@ -37,13 +37,7 @@ pieces_at before old behind u start end =
     ap (λ (q : List ℕ). take (length before + length old - length before) q) (drop-append_seam before (old ++ behind))
     ∙ (ap (λ (n : ℕ). take n (old ++ behind)) (let same : length before + length old - length before ≡ length old = omega arith in same)
     ∙ take-append_seam old behind) in
-    record {
-      text = refl;
-      start = start;
-      end = end;
-      before_utf8 = subst IsUtf8 (take-append_seam before (old ++ behind)) front;
-      old_utf8 = subst IsUtf8 middle within;
-    }
+    search (rules, take-append_seam, front, within, middle)
 
 -- the end of a piece: an LF is its last byte, or nothing is behind it
 abbrev pub Ended : List ℕ → List ℕ → Type 0
@@ -88,8 +82,7 @@ upto_lf [] = omega arith
 upto_lf (x ∷ xs) = go (ends_line (x ∷ (xs ++ 10 ∷ []))) (upto_lf xs)
   where
     go : (b : Bool) → upto ends_line (xs ++ 10 ∷ []) ≤ length xs → cond b 0 (suc (upto ends_line (xs ++ 10 ∷ []))) ≤ suc (length xs)
-    go true h = omega arith
-    go false h = omega (arith, h)
+    go b h1 = search rules
 
 -- behind a line's text is a break, or nothing
 no_rest : (c more : List ℕ) → (cut ends_line c).1 ≡ [] → Ended c more → BeginsAscii more
@@ -102,8 +95,7 @@ line_rest : (c more : List ℕ) → Ended c more → BeginsAscii ((cut ends_line
 line_rest c more ended = go (cut ends_line c).1 refl (upto_ends ends_line c refl)
   where
     go : (d : List ℕ) → (cut ends_line c).1 ≡ d → ends_line d ≡ true → BeginsAscii (d ++ more)
-    go (b ∷ d) is at_end = break_ascii b d at_end
-    go [] is at_end = no_rest c more is ended
+    go d h1 h2 = search (rules, break_ascii, no_rest)
 
 tail_text : (tail : List ℕ) → tail ≡ (cut no_white tail).0 ++ past_white tail
 tail_text tail = sym (take-append-drop (upto no_white tail) tail)
@@ -117,8 +109,7 @@ comment_piece before white c more u begins ended =
     let text : List ℕ = (cut ends_line c).0 in
     let behind : List ℕ = (cut ends_line c).1 ++ more in
     let inner : c ++ more ≡ text ++ behind = ap (λ x. x ++ more) (line_text c) ∙ append_assoc text (cut ends_line c).1 more in
-    let whole : before ++ ((white ++ c) ++ more) ≡ (before ++ white) ++ (text ++ behind) =
-    ap (λ x. before ++ x) (append_assoc white c more ∙ ap (λ x. white ++ x) inner) ∙ sym (append_assoc before white (text ++ behind)) in
+    let whole : before ++ ((white ++ c) ++ more) ≡ (before ++ white) ++ (text ++ behind) = search (rules, append_assoc, text, behind, inner) in
     subst (λ q. HasPieces q (before ++ white) text behind) (sym whole)
     (pieces_at (before ++ white) text behind (subst IsUtf8 whole u)
     (begins_at (before ++ white) text behind (subst BeginsAscii inner begins))
@@ -131,9 +122,8 @@ cut_end white c tail more text some (inr none) = inr none
 mark_piece : (before white tail more : List ℕ) (b : ℕ) (bs : List ℕ) → IsUtf8 (before ++ (tail ++ more)) → Ended tail more → tail ≡ white ++ (b ∷ bs) → b ≡ 35 → HoldsPiece (before ++ (tail ++ more)) (record { before = before ++ white; text = (cut ends_line (b ∷ bs)).0; behind = (cut ends_line (b ∷ bs)).1 ++ more })
 mark_piece before white tail more b bs u ended text mark =
     let whole : before ++ (tail ++ more) ≡ before ++ ((white ++ (b ∷ bs)) ++ more) = ap (λ x. before ++ (x ++ more)) text in
-    let small : b < 128 = omega (arith, mark) in
     subst (λ x. HoldsPiece x (record { before = before ++ white; text = (cut ends_line (b ∷ bs)).0; behind = (cut ends_line (b ∷ bs)).1 ++ more })) (sym whole)
-    (comment_piece before white (b ∷ bs) more (subst IsUtf8 whole u) small (cut_end white (b ∷ bs) tail more text (omega arith) ended))
+    (comment_piece before white (b ∷ bs) more (subst IsUtf8 whole u) (omega (arith, mark)) (cut_end white (b ∷ bs) tail more text (omega arith) ended))
 
 pub tail_piece : (before tail more : List ℕ) (q : TextPiece) → IsUtf8 (before ++ (tail ++ more)) → Ended tail more → tail_comment before tail more ≡ Some q → HoldsPiece (before ++ (tail ++ more)) q
 tail_piece before tail more q u ended is = go (past_white tail) refl is
@@ -156,44 +146,29 @@ content_end n (Block space anchor block) rest h = inl (line_lf block.tail (and_p
 
 -- the end of a gap
 line_then : (l ls rest : List ℕ) → Ended l (ls ++ rest) → (ls ≡ []) ⊎ Ended ls rest → Ended (l ++ ls) rest
-line_then l ls rest h (inr (inl lf)) = inl (append_lf l ls lf)
-line_then l ls rest h (inr (inr none)) = inr none
-line_then l ls rest (inl lf) (inl none) = inl (subst IsLf (sym (ap (λ x. l ++ x) none ∙ append-nil l)) lf)
-line_then l ls rest (inr empty) (inl none) = inr (sym (ap (λ x. x ++ rest) none) ∙ empty)
+line_then l ls rest h1 h2 = search (rules, append_lf, append-nil)
 
 gap_lines : (ls : List (List ℕ)) (rest : List ℕ) → AreGapLines ls rest → (joined ls ≡ []) ⊎ Ended (joined ls) rest
 gap_lines [] rest h = inl refl
 gap_lines (l ∷ ls) rest h = inr (line_then l (joined ls) rest (line_end h.0.white h.0.comment l (joined ls ++ rest) h.0.line) (gap_lines ls rest h.1))
 
 pub gap_end : (gap rest : List ℕ) → IsGap gap rest → (gap ≡ []) ⊎ Ended gap rest
-gap_end gap rest h = go (gap_lines h.lines rest h.each)
-  where
-    go : (joined h.lines ≡ []) ⊎ Ended (joined h.lines) rest → (gap ≡ []) ⊎ Ended gap rest
-    go (inl none) = inl (h.spelled ∙ none)
-    go (inr (inl lf)) = inr (inl (subst IsLf (sym h.spelled) lf))
-    go (inr (inr none)) = inr (inr none)
+gap_end gap rest h = search (rules, gap_lines)
 
 -- a comment line begins with white space or a mark
 comment_begins : (l rest : List ℕ) → front (λ b. eqb b 35) (past_white l) ≡ true → BeginsAscii (l ++ rest)
 unfolding upto
-comment_begins [] rest h = absurd (false≢true h)
-comment_begins (b ∷ bs) rest h = go (is_white b) refl h
-  where
-    go : (w : Bool) → is_white b ≡ w → front (λ b. eqb b 35) (drop (cond (not w) 0 (suc (upto no_white bs))) (b ∷ bs)) ≡ true → b < 128
-    go true e h = white_ascii b e
-    go false e h = omega (arith, eqb-true b 35 h)
+comment_begins l rest h1 = search (rules, false≢true, white_ascii, eqb-true)
 
 pub run_begins : (ls : List (List ℕ)) (rest : List ℕ) → 0 < length (joined (last_run ls)) → BeginsAscii (joined (last_run ls) ++ rest)
 run_begins [] rest some = absurd (omega (arith, some))
 run_begins (l ∷ ls) rest some = go (are_comments (l ∷ ls)) refl some (λ k. run_begins ls rest k)
   where
     go : (b : Bool) → are_comments (l ∷ ls) ≡ b → 0 < length (joined (cond b (l ∷ ls) (last_run ls))) → (0 < length (joined (last_run ls)) → BeginsAscii (joined (last_run ls) ++ rest)) → BeginsAscii (joined (cond b (l ∷ ls) (last_run ls)) ++ rest)
-    go true h some again = subst BeginsAscii (sym (append_assoc l (joined ls) rest)) (comment_begins l (joined ls ++ rest) (and_parts (front (λ b. eqb b 35) (past_white l)) (are_comments ls) h).0)
-    go false h some again = again some
+    go b h1 h2 h3 = search (rules, append_assoc, comment_begins, and_parts)
 
 some_bytes : (t : List ℕ) → is_empty t ≡ false → 0 < length t
-some_bytes [] h = absurd (false≢true (sym h))
-some_bytes (b ∷ t) h = omega arith
+some_bytes t h1 = search (rules, false≢true)
 
 -- the run in a gap, as a piece of the text
 pub gap_piece : (before gap rest : List ℕ) (q : TextPiece) → IsUtf8 (before ++ (gap ++ rest)) → (gap ≡ []) ⊎ Ended gap rest → gap_comment before gap rest ≡ Some q → HoldsPiece (before ++ (gap ++ rest)) q
@@ -234,12 +209,7 @@ row_place (marked p marker c) i r h = go (cases_lt i (length p.rows)) (λ there.
   where
     go : (i < length p.rows) ⊎ (length p.rows ≤ i) → (slice_get (rows_of c) (i - length p.rows) ≡ Some r → cut_text c ≡ before_row (i - length p.rows) c ++ print_row r (behind_row (i - length p.rows) c)) →
         cut_text (marked p marker c) ≡ before_row i (marked p marker c) ++ print_row r (behind_row i (marked p marker c))
-    go (inl here) again =
-        let test : ltb i (length p.rows) ≡ true = lt-ltb i (length p.rows) here in
-        rw test (row_at p.rows i r (p.end ++ (marker ++ cut_text c)) (slice_front p.rows (rows_of c) i r here h))
-    go (inr past) again =
-        let test : ltb i (length p.rows) ≡ false = le-ltb i (length p.rows) past in
-        rw test (part_place p marker (before_row (i - length p.rows) c) (print_row r (behind_row (i - length p.rows) c)) (cut_text c) (again (slice_back p.rows (rows_of c) i r past h)))
+    go h1 h2 = search (rules, lt-ltb, row_at, slice_front, le-ltb, part_place, slice_back)
 
 apart : (a b c d e x : List ℕ) → a ++ (b ++ (c ++ (d ++ (e ++ x)))) ≡ (a ++ (b ++ (c ++ (d ++ e)))) ++ x
 apart a b c d e x = simp append_assoc refl

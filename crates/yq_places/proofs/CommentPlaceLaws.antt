@@ -1,15 +1,15 @@
 -- Where the comments of a row stand, by its pieces.
-use Rattle.std.proofs.Common.{◌≡◌, ℕ, ◌+◌, ◌-◌, ◌<◌, ◌≤◌, eqb, List, [], ◌∷◌, ◌++◌, length, Option, Some, None, option_map, Bool, true, false, cond, refl, sym, ap, ◌∙◌, arith, length-append}
+use Rattle.std.proofs.Common.{◌≡◌, ℕ, ◌+◌, ◌-◌, ◌<◌, ◌≤◌, eqb, List, [], ◌++◌, length, Option, Some, None, option_map, Bool, true, false, cond, refl, sym, ap, ◌∙◌, arith, length-append, rules}
 use Rattle.std.proofs.lemmas.Option.{slice_get-map}
 use Rattle.std.specs.List.{slice_get}
 use Rattle.yq_flow_scalars.specs.Text.{cut, front, ends_line, no_white, past_white, is_empty, joined, lines_of}
-use Rattle.yq_cut.specs.Exchange.{before_content, behind_row}
+use Rattle.yq_cut.specs.Exchange.{behind_row}
 use Rattle.yq_cut.specs.Rows.{Row, behind_gap, Cut}
 use Rattle.yq_cut.specs.View.{Slices, slices, rows_of, rows_view}
 use Rattle.yq_block_scalars.proofs.LineLaws.{joined_lines}
 use Rattle.yq_documents.specs.Pieces.{tail_comment, before_run, last_run, gap_comment, piece_span}
 use Rattle.yq_places.specs.CommentReading.{before_tail, line_comment_in, head_comment_in, tail_span, line_comment_span, gap_span, head_comment_span, before_row}
-use Rattle.yq_row_lines.specs.Extents.{row_start, front_length, head_place}
+use Rattle.yq_row_lines.specs.Extents.{row_start, front_length}
 use Rattle.yq_places.specs.RowLineReading.{numbers}
 use Rattle.yq_documents.specs.LinesInRows.{RowLine}
 use Rattle.yq_row_lines.proofs.LengthLaws.{head_agrees}
@@ -30,8 +30,7 @@ tail_view before tail behind start e = go (front (λ b. eqb b 35) (past_white ta
     long = length (cut ends_line (past_white tail)).0
 
     go : (b : Bool) → cond b (Some (start + length white, start + length white + long)) None ≡ option_map piece_span (cond b (Some (record { before = before ++ white; text = (cut ends_line (past_white tail)).0; behind = (cut ends_line (past_white tail)).1 ++ behind })) None)
-    go true = ap Some (pair _ _ _ _ (omega (arith, e, length-append before white)) (omega (arith, e, length-append before white)))
-    go false = refl
+    go b = search (rules, pair, length-append)
 
 -- where a row's tail begins
 before_length : (c : Cut) (i : ℕ) (r : Row) → slice_get (rows_of c) i ≡ Some r → row_start i (rows_view c) + front_length (slices r) + length (slices r).head ≡ length (before_tail i r c)
@@ -39,18 +38,7 @@ before_length c i r is =
     let s : Slices = slices r in
     let there : slice_get (rows_view c).rows i ≡ Some s = slice_get-map slices (rows_of c) i ∙ ap (option_map slices) is in
     let agrees = head_agrees (rows_view c) i (row_start i (rows_view c)) (front_length s) (length s.head) s there refl refl refl c refl r is in
-    let place : row_start i (rows_view c) + front_length s + length s.head ≡ (head_place i c r).1 = ap (λ (x : ℕ × ℕ). x.1) agrees in
-    omega (
-      arith,
-      place,
-      length-append (before_content i c) (s.space ++ (s.anchor ++ s.apart)),
-      length-append s.space (s.anchor ++ s.apart),
-      length-append s.anchor s.apart,
-      length-append (before_content i c) (s.space ++ (s.anchor ++ (s.apart ++ s.head))),
-      length-append s.space (s.anchor ++ (s.apart ++ s.head)),
-      length-append s.anchor (s.apart ++ s.head),
-      length-append s.apart s.head,
-    )
+    search (rules, length-append, s, agrees)
 
 pub beside_agrees : (c : Cut) (i : ℕ) (s : RowLine) (k : ℕ) → slice_get (rows_of c) i ≡ Some s.row → line_comment_span (row_start i (rows_view c)) (slices s.row) (numbers k s) ≡ option_map piece_span (line_comment_in i s c)
 beside_agrees c i s k is = go (eqb s.line (length s.row.dashes))
@@ -59,8 +47,7 @@ beside_agrees c i s k is = go (eqb s.line (length s.row.dashes))
     x = slices s.row
 
     go : (b : Bool) → cond b (tail_span (row_start i (rows_view c) + front_length x + length x.head) x.tail) None ≡ option_map piece_span (cond b (tail_comment (before_tail i s.row c) x.tail (x.raw ++ behind_row i c)) None)
-    go true = tail_view (before_tail i s.row c) x.tail (x.raw ++ behind_row i c) (row_start i (rows_view c) + front_length x + length x.head) (before_length c i s.row is)
-    go false = refl
+    go b = search (rules, tail_view, before_length)
 
 -- the run in a gap
 run_length : (gap : List ℕ) → length gap ≡ length (joined (before_run (lines_of gap))) + length (joined (last_run (lines_of gap)))
@@ -82,8 +69,7 @@ pub no_run : (start : ℕ) (gap run : List ℕ) → lines_of run ≡ last_run (l
 no_run start gap run e none = ap (span_of start gap) (sym (run_is gap run e ∙ none))
 
 some_span : (start : ℕ) (gap run : List ℕ) → 0 < length run → Some (start + length gap - length run, start + length gap) ≡ span_of start gap run
-some_span start gap [] some = absurd (omega (arith, some))
-some_span start gap (b ∷ run) some = refl
+some_span start gap run h1 = search rules
 
 pub some_run : (start : ℕ) (gap run : List ℕ) → lines_of run ≡ last_run (lines_of gap) → 0 < length run → Some (start + length gap - length run, start + length gap) ≡ gap_span start gap
 some_run start gap run e some = some_span start gap run some ∙ ap (span_of start gap) (sym (run_is gap run e))
@@ -105,5 +91,4 @@ pub above_view : (c : Cut) (i : ℕ) (s : RowLine) (k : ℕ) → slice_get (rows
 above_view c i s k is = go (eqb s.line 0)
   where
     go : (b : Bool) → cond b (gap_span (row_start i (rows_view c)) s.row.gap) None ≡ option_map piece_span (cond b (gap_comment (before_row i c) s.row.gap (behind_gap s.row (behind_row i c))) None)
-    go true = gap_agrees (before_row i c) s.row.gap (behind_gap s.row (behind_row i c)) (row_start i (rows_view c)) (start_agrees c i s.row is)
-    go false = refl
+    go b = search (rules, gap_agrees, start_agrees)

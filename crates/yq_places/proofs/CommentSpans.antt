@@ -1,5 +1,5 @@
 -- What the code answers for a comment is the span of its piece.
-use Rattle.std.proofs.Common.{◌≡◌, ℕ, ◌+◌, eqb, List, [], ◌∷◌, ◌++◌, length, take, drop, map, Option, Some, None, option_map, option_and_then, Bool, true, false, cond, refl, sym, ap, ◌∙◌, subst, arith, length-append, replicate}
+use Rattle.std.proofs.Common.{◌≡◌, ℕ, ◌+◌, eqb, List, [], ◌∷◌, ◌++◌, length, take, drop, map, Option, Some, None, option_map, option_and_then, Bool, true, false, cond, refl, sym, ap, ◌∙◌, subst, arith, length-append, rules}
 use Rattle.std.proofs.lemmas.Bool.{eqb-true, eqb-false}
 use Rattle.std.specs.List.{slice_get}
 use Rattle.yq_flow_scalars.specs.Answers.{◌>>=◌}
@@ -8,7 +8,7 @@ use Rattle.yq_lines.specs.Ends.{found_line, line_of}
 use Rattle.yq_lines.specs.Group.{group}
 use Rattle.yq_lines.specs.Places.{lines_before, FoundLine, find}
 use Rattle.yq_cut.specs.Exchange.{before_content, behind_row}
-use Rattle.yq_cut.specs.Rows.{Nothing, dashes_text, behind_gap, Row, Part, Cut}
+use Rattle.yq_cut.specs.Rows.{dashes_text, behind_gap, Row, Part, Cut}
 use Rattle.yq_cut.specs.View.{content_cut, slices, rows_of}
 use Rattle.yq_documents.specs.declared.path.Part.TheVariants as parts
 use Rattle.yq_documents.specs.declared.path.Path.{Path}
@@ -29,7 +29,7 @@ use Rattle.yq_places.proofs.FoundEntries.{line_there, entry_is}
 use Rattle.yq_places.proofs.PrintedTexts.{map_some, lines_then}
 use Rattle.yq_places.proofs.RunSpans.{begin_is, content_size, row_line_at as row_line_there}
 use Rattle.yq_documents.proofs.PartRows.{part_begins}
-use Rattle.yq_places.proofs.PrintedRowLines.{row_begin, IsPrintedLine, IsPlaced, document_placed}
+use Rattle.yq_places.proofs.PrintedRowLines.{IsPrintedLine, IsPlaced, document_placed}
 
 -- spans of comments, by how long the text before them is
 tail_same : (a b tail x y : List ℕ) → length a ≡ length b → option_map piece_span (tail_comment a tail x) ≡ option_map piece_span (tail_comment b tail y)
@@ -73,13 +73,8 @@ module _ (c : Cut) (p : Part) (more : List Row) (k : ℕ) (start end : List ℕ)
             length-append front (x.0 ++ (x.1 ++ (x.2 ++ x.3))),
             length-append (before_content (k + q.before) c) (x.0 ++ (x.1 ++ (x.2 ++ x.3))),
           ) in
-          ap (λ y. option_map piece_span (content_comment (before n ++ (line_front l ++ l.mark)) y rest)) content
-          ∙ (tail_same (front ++ (x.0 ++ (x.1 ++ (x.2 ++ x.3)))) (before_tail (k + q.before) q.row c) x.4 (x.5 ++ rest) (x.5 ++ behind_row (k + q.before) c) size
-          ∙ sym (ap (λ b. option_map piece_span (cond b (tail_comment (before_tail (k + q.before) q.row c) (slices q.row).tail ((slices q.row).raw ++ behind_row (k + q.before) c)) None)) e))
-      go q is d line false e =
-          let dash : l.content ≡ Nothing [] = ap (λ (y : PrintedLine). y.content) (sym line) ∙ d.dash (omega (arith, d.within, eqb-false q.line (length q.row.dashes) e)) in
-          ap (option_map piece_span) (no_comment (before n ++ (line_front l ++ l.mark)) l.content rest dash)
-          ∙ sym (ap (λ b. option_map piece_span (cond b (tail_comment (before_tail (k + q.before) q.row c) (slices q.row).tail ((slices q.row).raw ++ behind_row (k + q.before) c)) None)) e)
+          search (rules, tail_same, x, content, front)
+      go q is d line false e = search (rules, eqb-false, no_comment)
 
   above_span : (n : ℕ) (l : PrintedLine) (rest : List ℕ) → slice_get (printed_lines p.rows) n ≡ Some l →
       option_map piece_span (gap_comment (before n) l.gap rest) ≡ option_map piece_span (row_line n p.rows >>= λ q. head_comment_in (k + q.before) q c)
@@ -97,25 +92,14 @@ module _ (c : Cut) (p : Part) (more : List Row) (k : ℕ) (start end : List ℕ)
             arith,
             ap length (begin_is c p more k document there placed refl n q d),
             ap (λ (y : PrintedLine). length (print_lines (take n (printed_lines p.rows)) (line_front y))) line,
-            length-append (before_row (k + q.before) c) (row_begin q),
-            length-append q.row.gap (replicate q.row.column 32 ++ dashes_text (take q.line q.row.dashes) []),
-            length-append (replicate q.row.column 32) (dashes_text (take q.line q.row.dashes) []),
+            length-append {A = ℕ},
             ap (λ j. length (dashes_text (take j q.row.dashes) [])) at,
-            length-append start (print_lines (take n (printed_lines p.rows)) (line_front d.line)),
             ap length (lines_then (take n (printed_lines p.rows)) [] (line_front d.line)),
-            length-append (print_lines (take n (printed_lines p.rows)) []) (line_front d.line),
-            length-append start (print_lines (take n (printed_lines p.rows)) []),
-            length-append d.line.gap d.line.spaces,
             ap length (d.first at).0,
             ap length (d.first at).1,
           ) in
-          ap (λ y. option_map piece_span (gap_comment (before n) y rest)) gap
-          ∙ (gap_same (before n) (before_row (k + q.before) c) q.row.gap rest (behind_gap q.row (behind_row (k + q.before) c)) size
-          ∙ sym (ap (λ b. option_map piece_span (cond b (gap_comment (before_row (k + q.before) c) q.row.gap (behind_gap q.row (behind_row (k + q.before) c))) None)) e))
-      go q is d line false e =
-          let none : l.gap ≡ [] = ap (λ (y : PrintedLine). y.gap) (sym line) ∙ d.later (omega (arith, eqb-false q.line 0 e)) in
-          ap (option_map piece_span) (ap (λ y. gap_comment (before n) y rest) none ∙ no_gap (before n) rest)
-          ∙ sym (ap (λ b. option_map piece_span (cond b (gap_comment (before_row (k + q.before) c) q.row.gap (behind_gap q.row (behind_row (k + q.before) c))) None)) e)
+          cc (gap_same (before n) (before_row (k + q.before) c) q.row.gap rest (behind_gap q.row (behind_row (k + q.before) c)) size)
+      go q is d line false e = search (rules, eqb-false, no_gap)
 
   pub beside_spans : (steps : List Step) → option_map piece_span (piece_in parts.LineComment steps document) ≡ option_map piece_span (row_line_of steps p.rows >>= λ q. line_comment_in (k + q.before) q c)
   beside_spans [] = refl
@@ -128,9 +112,7 @@ module _ (c : Cut) (p : Part) (more : List Row) (k : ℕ) (start end : List ℕ)
       go (Some (f, [])) is =
           let l = line_there document y ys [] f is in
           ap (λ o. option_map piece_span (o >>= piece_in_entry parts.LineComment [])) (entry_is document f l.0 l.1) ∙ beside_span (length (lines_before f.place)) l.0 _ l.1
-      go (Some (f, t ∷ ts)) is =
-          let l = line_there document y ys (t ∷ ts) f is in
-          ap (λ o. option_map piece_span (o >>= piece_in_entry parts.LineComment (t ∷ ts))) (entry_is document f l.0 l.1)
+      go (Some (f, t ∷ ts)) is = search (rules, line_there, entry_is)
 
   pub above_spans : (steps : List Step) → option_map piece_span (piece_in parts.HeadComment steps document) ≡ option_map piece_span (row_line_of steps p.rows >>= λ q. head_comment_in (k + q.before) q c)
   above_spans [] = refl
@@ -143,9 +125,7 @@ module _ (c : Cut) (p : Part) (more : List Row) (k : ℕ) (start end : List ℕ)
       go (Some (f, [])) is =
           let l = line_there document y ys [] f is in
           ap (λ o. option_map piece_span (o >>= piece_in_entry parts.HeadComment [])) (entry_is document f l.0 l.1) ∙ above_span (length (lines_before f.place)) l.0 _ l.1
-      go (Some (f, t ∷ ts)) is =
-          let l = line_there document y ys (t ∷ ts) f is in
-          ap (λ o. option_map piece_span (o >>= piece_in_entry parts.HeadComment (t ∷ ts))) (entry_is document f l.0 l.1)
+      go (Some (f, t ∷ ts)) is = search (rules, line_there, entry_is)
 
 -- the lines of a document of any cut
 document_lines : (n : ℕ) (c : Cut) (s : PrintedDocument) → printed_document n c ≡ Some s → (p : Part) × (slice_get (document_parts c) n ≡ Some p) × (s.lines ≡ printed_lines p.rows)

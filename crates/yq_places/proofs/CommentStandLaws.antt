@@ -1,5 +1,5 @@
 -- The comments that are told of entries and items are those in the pieces there.
-use Rattle.std.proofs.Common.{◌≡◌, ℕ, List, [], ◌∷◌, ◌++◌, map, Option, Some, None, option_map, option_and_then, true, refl, sym, ap, ◌∙◌, subst}
+use Rattle.std.proofs.Common.{◌≡◌, ℕ, List, [], ◌∷◌, map, Option, Some, None, option_map, option_and_then, true, refl, sym, ap, ◌∙◌, subst, rules}
 use Rattle.std.proofs.lemmas.Option.{slice_get-map}
 use Rattle.std.specs.List.{slice_get}
 use Rattle.std.specs.Str.{is_utf8}
@@ -9,7 +9,6 @@ use Rattle.yq_flow_scalars.proofs.Bools.{guard_then}
 use Rattle.yq_lines.specs.Comments as comments
 use Rattle.yq_cut.specs.Grammar.{IsCut}
 use Rattle.yq_cut.specs.Rows.{Content, Cut}
-use Rattle.yq_cut.specs.View.{content_cut}
 use Rattle.yq_documents.specs.declared.path.Part.TheVariants as parts
 use Rattle.yq_documents.specs.declared.path.Path.{Path}
 use Rattle.yq_places.specs.CommentLaws.{comment_of, comments_of, head_comment_of, CommentsStand}
@@ -22,7 +21,7 @@ use Rattle.yq_lines.specs.Outline.{Line, anchored, head_or, value}
 use Rattle.yq_places.specs.PathPieces.{BlockEntry, PrintedDocument, printed_document, found_entry, piece_in_entry, piece_in}
 use Rattle.yq_documents.specs.Pieces.{TextPiece, content_comment}
 use Rattle.yq_lines.specs.Places.{FoundLine, find}
-use Rattle.yq_places.specs.PrintedLines.{line_front, behind_front, print_lines, line_in}
+use Rattle.yq_places.specs.PrintedLines.{line_in}
 use Rattle.yq_documents.specs.Reading.{all_documents, document_of, read_at}
 use Rattle.yq_lines.proofs.Finding.{entry_of}
 use Rattle.yq_lines.proofs.LabelPaths.{reach, FoundEntry, path_entry}
@@ -39,9 +38,7 @@ use Rattle.yq_places.proofs.CommentTextLaws.{tail_view, gap_agrees}
 use Rattle.yq_places.proofs.RowPathLaws.{document_fine}
 
 content_agrees : (before : List ℕ) (c : Content) (behind : List ℕ) → comments.line_comment (tail_of c) ≡ option_map comment_of (content_comment before c behind)
-content_agrees before c behind =
-    let x = content_cut c in
-    ap comments.line_comment (sym (tail_is c)) ∙ sym (tail_view (before ++ (x.0 ++ (x.1 ++ (x.2 ++ x.3)))) x.4 (x.5 ++ behind))
+content_agrees before c behind = simp (tail_is, tail_view)
 
 -- What is told of an entry or item, and the pieces of its comments.
 record Agree (o : Option Labelled) (beside over : Option TextPiece) : Type 0 where
@@ -52,14 +49,10 @@ no_one : Agree None None None
 no_one = record { line = refl; above = refl }
 
 inside : (o : Option Labelled) → If o (λ y. HasNone y.0) → Agree o None None
-inside None h = no_one
-inside (Some x) h = record { line = h.1; above = h.0 }
+inside o h1 = search (rules, no_one)
 
 entry_agrees : (s : PrintedDocument) (e : BlockEntry) (f : FoundLine) → IsFound s e f → Agree (Some (entry_of f.line f.under)) (piece_in_entry parts.LineComment [] e) (piece_in_entry parts.HeadComment [] e)
-entry_agrees s e f h = record {
-  line = ap (λ (l : Line). l.line_comment) (sym h.line) ∙ (h.as_printed.0.beside ∙ content_agrees (e.before ++ (line_front e.line ++ e.line.mark)) e.line.content (print_lines e.under e.behind));
-  above = ap (λ (l : Line). l.head_comment) (sym h.line) ∙ (h.as_printed.0.above ∙ sym (gap_agrees e.before e.line.gap (e.line.spaces ++ behind_front e.line (print_lines e.under e.behind))));
-}
+entry_agrees s e f h = search (rules, content_agrees, gap_agrees)
 
 steps_agree : (s : PrintedDocument) (y : Step) (ys : List Step) → ArePrinted s.lines s.behind → is_fine (group (map line_in s.lines)) ≡ true →
     Agree (labelled_from (y ∷ ys) (unlabelled, value (group (map line_in s.lines)))) (piece_in parts.LineComment (y ∷ ys) s) (piece_in parts.HeadComment (y ∷ ys) s)
@@ -96,9 +89,7 @@ text_agrees t c path read o is = subst (λ l. Agree l (o >>= piece_in parts.Line
     text = text_takes t c (guard_then (is_utf8 t) read).1
 
     tree : labelled_located path t ≡ option_and_then (λ d. labelled_from (steps_of path) (unlabelled, d.root)) (option_map document_of (slice_get (document_parts c) path.doc))
-    tree =
-        ap (option_and_then (λ d. labelled_from (steps_of path) (unlabelled, d.root)))
-        (ap (λ (k : Cut). slice_get (map document_of (document_parts k)) path.doc) (cut_is t c (text_takes t c (guard_then (is_utf8 t) read).1).0) ∙ slice_get-map document_of (document_parts c) path.doc)
+    tree = cc (cut_is t c (text_takes t c (guard_then (is_utf8 t) read).1).0, slice_get-map document_of (document_parts c) path.doc)
 
     go : (o : Option PrintedDocument) → printed_document path.doc c ≡ o →
         Agree (option_and_then (λ d. labelled_from (steps_of path) (unlabelled, d.root)) (option_map document_of (slice_get (document_parts c) path.doc)))

@@ -1,5 +1,5 @@
 -- The texts of comments, by where they stand.
-use Rattle.std.proofs.Common.{◌≡◌, ℕ, ◌<◌, eqb, List, [], ◌∷◌, ◌++◌, length, drop, Some, None, option_map, Bool, true, false, cond, refl, sym, ap, ◌∙◌, arith}
+use Rattle.std.proofs.Common.{◌≡◌, ℕ, ◌<◌, eqb, List, [], ◌∷◌, ◌++◌, length, drop, Some, None, option_map, Bool, true, false, cond, refl, sym, ap, ◌∙◌, arith, rules}
 use Rattle.std.proofs.lemmas.Bool.{eqb-true, cond-true, cond-false}
 use mathlib.Core.List.{tail-eq_of_cons-eq}
 use Rattle.yq_flow_scalars.specs.Text.{cut, front, ends_line, no_white, past_white, upto, is_empty, joined, lines_of, line_len}
@@ -59,5 +59,4 @@ gap_agrees before gap behind =
     ∙ (go run.0 ∙ (ap texts run.1 ∙ run_texts (lines_of gap)))
   where
     go : (u : List ℕ) → comments_of (cond (is_empty u) None (Some (record { before = before ++ joined (before_run (lines_of gap)); text = u; behind = behind }))) ≡ texts (lines_of u)
-    go [] = ap texts (sym lines_none)
-    go (b ∷ bs) = refl
+    go u = search (rules, lines_none)

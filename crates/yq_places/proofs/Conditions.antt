@@ -1,12 +1,12 @@
 -- What is asked of a document, as a test and as a fact.
-use Rattle.std.proofs.Common.{◌≡◌, ℕ, leb, List, [], ◌∷◌, length, true, not, ◌&&◌, refl, ap, bytes_eq, codes}
+use Rattle.std.proofs.Common.{◌≡◌, ℕ, leb, List, [], ◌∷◌, length, true, not, ◌&&◌, refl, ap, bytes_eq, codes, rules}
 use Rattle.std.proofs.lemmas.Bool.{and_parts, and_from, leb-true, le-leb, not-true}
 use Rattle.std.specs.Str.{chars}
 use Rattle.yq_nodes.specs.Nodes as inline
 use Rattle.yq_nodes.specs.Nodes.{Items, none, item}
 use Rattle.yq_cut.specs.Grammar.{key_limit}
 use Rattle.yq_cut.specs.Rows as rows
-use Rattle.yq_cut.specs.Rows.{Content, Nothing, Inline, Block, Row}
+use Rattle.yq_cut.specs.Rows.{Content, Inline, Row}
 use Rattle.yq_documents.specs.Documents.{IsFit, HasFitKey, HasFitKeys, EachHasFitKeys, ContentHasFitKeys, MarkIsFit, HaveFitKeys, HasShortRoot}
 use Rattle.yq_documents.specs.Reading.{is_fit, has_fit_key, has_fit_keys, each_has_fit_keys, content_is_fit, mark_is_fit, have_fit_keys, has_short_root}
 use Rattle.yq_lines.proofs.KeyLaws.{differ, differs}
@@ -19,12 +19,10 @@ is_fit_of : (key : List ℕ) → IsFit key → is_fit key ≡ true
 is_fit_of key h = and_from (not (bytes_eq key (codes "<<"))) (leb (length (chars key)) key_limit) (ap not (differs key (codes "<<") h.0)) (le-leb _ key_limit h.1)
 
 fit_key_is : (key : inline.Key) → has_fit_key key ≡ true → HasFitKey key
-fit_key_is inline.bare e = tt
-fit_key_is (inline.keyed t b g) e = fit_is t e
+fit_key_is key h1 = search (rules, fit_is)
 
 is_fit_key : (key : inline.Key) → HasFitKey key → has_fit_key key ≡ true
-is_fit_key inline.bare h = refl
-is_fit_key (inline.keyed t b g) h = is_fit_of t h
+is_fit_key key h1 = search (rules, is_fit_of)
 
 mutual
   fit_keys_are : (n : inline.Node) → has_fit_keys n ≡ true → HasFitKeys n
@@ -53,24 +51,18 @@ mutual
   is_each_fit (item key n sep is) h = and_from (has_fit_key key) (has_fit_keys n && each_has_fit_keys is) (is_fit_key key h.0) (and_from (has_fit_keys n) (each_has_fit_keys is) (are_fit_keys n h.1) (is_each_fit is h.2))
 
 content_fit_is : (c : Content) → content_is_fit c ≡ true → ContentHasFitKeys c
-content_fit_is (Nothing tail) e = tt
 content_fit_is (Inline space node tail) e = fit_keys_are node e
-content_fit_is (Block space anchor block) e = tt
+content_fit_is x e = tt
 
 is_content_fit : (c : Content) → ContentHasFitKeys c → content_is_fit c ≡ true
-is_content_fit (Nothing tail) h = refl
 is_content_fit (Inline space node tail) h = are_fit_keys node h
-is_content_fit (Block space anchor block) h = refl
+is_content_fit x h = refl
 
 mark_fit_is : (m : rows.Mark) → mark_is_fit m ≡ true → MarkIsFit m
-mark_fit_is rows.Bare e = tt
-mark_fit_is rows.Dash e = tt
-mark_fit_is (rows.Key key colon) e = differ key (codes "<<") (not-true _ e)
+mark_fit_is m h1 = search (rules, differ, not-true)
 
 is_mark_fit : (m : rows.Mark) → MarkIsFit m → mark_is_fit m ≡ true
-is_mark_fit rows.Bare h = refl
-is_mark_fit rows.Dash h = refl
-is_mark_fit (rows.Key key colon) h = ap not (differs key (codes "<<") h)
+is_mark_fit m h1 = search (rules, differs)
 
 pub keys_are : (rs : List Row) → have_fit_keys rs ≡ true → HaveFitKeys rs
 keys_are [] e = tt
@@ -84,9 +76,7 @@ are_keys (r ∷ rs) h = and_from (mark_is_fit r.mark) (content_is_fit r.content 
 
 -- the root
 pub short_is : (rs : List Row) → has_short_root rs ≡ true → HasShortRoot rs
-short_is [] e = tt
-short_is (r ∷ rs) e = not-true _ e
+short_is rs h1 = search (rules, not-true)
 
 pub is_short : (rs : List Row) → HasShortRoot rs → has_short_root rs ≡ true
-is_short [] h = refl
-is_short (r ∷ rs) h = ap not h
+is_short rs h1 = search rules

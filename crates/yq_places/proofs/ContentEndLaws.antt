@@ -1,5 +1,5 @@
 -- A content ends in a break, or the text ends behind it.
-use Rattle.std.proofs.Common.{◌≡◌, ◌⊎◌, inl, inr, ℕ, ℤ, Bool, true, false, ◌&&◌, List, [], ◌∷◌, ◌++◌, refl, sym, ap, ◌∙◌, subst, append-nil}
+use Rattle.std.proofs.Common.{◌≡◌, ◌⊎◌, inl, inr, ℕ, ℤ, Bool, true, false, ◌&&◌, List, [], ◌∷◌, ◌++◌, refl, sym, ap, ◌∙◌, subst, append-nil, rules}
 use Rattle.std.proofs.lemmas.Bool.{eqb-true, false_from_ne_true, false≢true, and_parts, or_parts}
 use Rattle.yq_flow_scalars.specs.Text.{front, is_white, is_feed, is_return, is_break, is_line, ends_line, NoneIn}
 use Rattle.yq_cut.specs.Gap.{IsBreak, IsComment, IsWhite}
@@ -24,8 +24,7 @@ rest_no_feed [] h = tt
 rest_no_feed (b ∷ c) h = ((or_parts (is_feed b) (is_return b && front is_feed (c ++ [])) h.0).0, rest_no_feed c h.1)
 
 comment_no_feed : (c : List ℕ) → IsComment c [] → HasNoFeed c
-comment_no_feed [] h = tt
-comment_no_feed (b ∷ c) h = (ap is_feed h.0, rest_no_feed c h.1)
+comment_no_feed c h1 = search (rules, rest_no_feed)
 
 both_no_feed : (a b : List ℕ) → HasNoFeed a → HasNoFeed b → HasNoFeed (a ++ b)
 both_no_feed [] b h k = k
@@ -53,5 +52,4 @@ tail_ends tail rest h = go h.line.ends
 pub content_ends : (n : ℤ) (c : Content) (rest : List ℕ) → IsContent n c rest → Ends (is_broken c) (end_break c) rest
 content_ends n (Nothing tail) rest h = tail_ends tail rest h
 content_ends n (Inline space node tail) rest h = tail_ends tail rest h.2
-content_ends n (Block space anchor block) rest h =
-    inl (refl, raw_last block.indent block.raw block.tail h.2.lines (and_parts (is_line block.tail) _ h.2.tail).0)
+content_ends n (Block space anchor block) rest h = search (rules, raw_last, and_parts)

@@ -1,5 +1,5 @@
 -- Rows cut behind a dash, and the lines of items and entries in their rows.
-use Rattle.std.proofs.Common.{◌≡◌, ℕ, zero, suc, ◌<◌, ◌≤◌, List, [], ◌∷◌, ◌++◌, length, take, drop, replicate, Some, refl, sym, ap, ◌∙◌, subst, arith, append_assoc}
+use Rattle.std.proofs.Common.{◌≡◌, ℕ, zero, suc, ◌<◌, ◌≤◌, List, [], ◌∷◌, ◌++◌, length, take, drop, replicate, Some, refl, ap, ◌∙◌, subst, arith, append_assoc}
 use Rattle.yq_flow_scalars.specs.Paths.{Step}
 use Rattle.yq_flow_scalars.proofs.Bools.{bind_some}
 use Rattle.yq_lines.specs.Ends.{line_of}
@@ -32,8 +32,7 @@ row_cut k r t h =
     let f : List ℕ = dashes_text (take k r.dashes) [] in
     let b : List ℕ = past_dash (drop k r.dashes) (behind_dashes r t) in
     let parts : r.gap ++ (replicate r.column 32 ++ (f ++ (45 ∷ b))) ≡ ((r.gap ++ (replicate r.column 32 ++ f)) ++ 45 ∷ []) ++ b = simp append_assoc refl in
-    ap (λ l. r.gap ++ (replicate r.column 32 ++ l)) (dashes_split k r.dashes (behind_dashes r t) ∙ ap (λ l. f ++ l) (from_dash k r.dashes (behind_dashes r t) h))
-    ∙ (parts ∙ ap (λ l. l ++ b) (sym (front_is k r)))
+    cc (dashes_split k r.dashes (behind_dashes r t), from_dash k r.dashes (behind_dashes r t) h, front_is k r)
 
 -- ---- the row of a path
 

@@ -1,20 +1,14 @@
 -- Documents, read from parts and told by them.
-use Rattle.std.proofs.Common.{◌≡◌, leb, List, [], ◌∷◌, map, Bool, true, ◌&&◌, refl, sym, ap, ◌∙◌}
+use Rattle.std.proofs.Common.{◌≡◌, List, [], ◌∷◌, map, Bool, true, ◌&&◌, refl, sym, rules}
 use Rattle.std.proofs.lemmas.Bool.{and_parts, and_from, leb-true, le-leb, cond-true}
 use Rattle.std.proofs.lemmas.Option.{cond_some}
 use Rattle.std.specs.List.{list_all}
 use Rattle.yq_flow_scalars.specs.Tree.{Node}
-use Rattle.yq_flow_scalars.specs.Keys.{depth}
-use Rattle.yq_nodes.specs.Inline.{depth_limit}
 use Rattle.yq_cut.specs.Rows.{Part}
-use Rattle.yq_flow_scalars.specs.Anchors.{names_of}
 use Rattle.yq_documents.specs.Documents.{Document, IsRoot, IsDocument, AreDocuments}
 use Rattle.yq_lines.specs.Group.{group, is_fine}
-use Rattle.yq_row_lines.specs.Lines.{lines_of}
 use Rattle.yq_lines.specs.Outline.{Line, value}
-use Rattle.yq_documents.specs.Reading.{outline_of, root_of, document_of, have_fit_keys, has_short_root, is_document}
-use Rattle.yq_lines.specs.LinesReading.{have_one_anchor_each, are_bound}
-use Rattle.yq_lines.specs.Sound.{has_unique_keys, is_sound}
+use Rattle.yq_documents.specs.Reading.{document_of, is_document}
 use Rattle.yq_lines.proofs.ByRules.{rules_from, rules_give}
 use Rattle.yq_places.proofs.Conditions.{keys_are, are_keys, short_is, is_short}
 use Rattle.yq_lines.proofs.NameConditions.{anchors_are, are_anchors, bound_are, are_bound_of}
@@ -36,40 +30,16 @@ abbrev Tests : Bool → Bool → Bool → Bool → Bool → Type 0
 Tests a b c d e = (a ≡ true) × (b ≡ true) × (c ≡ true) × (d ≡ true) × (e ≡ true)
 
 tests_are : (a b c d e : Bool) → (a && (b && (c && (d && e)))) ≡ true → Tests a b c d e
-tests_are a b c d e h =
-    let p = and_parts a (b && (c && (d && e))) h in let q = and_parts b (c && (d && e)) p.1 in let r = and_parts c (d && e) q.1 in let s = and_parts d e r.1 in
-    (p.0, q.0, r.0, s.0, s.1)
+tests_are a b c d e h = search (rules, and_parts)
 
 are_tests : (a b c d e : Bool) → Tests a b c d e → (a && (b && (c && (d && e)))) ≡ true
 are_tests a b c d e h = and_from a _ h.0 (and_from b _ h.1 (and_from c _ h.2 (and_from d e h.3 h.4)))
 
 pub document_is : (p : Part) → is_document p ≡ true → IsDocument p (document_of p)
-document_is p e =
-    let t = tests_are (have_fit_keys p.rows) (has_short_root p.rows) (have_one_anchor_each (lines_of p.rows)) (are_bound [] (names_of (root_of p))) (is_sound depth_limit (outline_of p)) e in
-    let q = and_parts (is_fine (outline_of p)) (leb (depth (root_of p)) depth_limit && has_unique_keys (root_of p)) t.4 in
-    let r = and_parts (leb (depth (root_of p)) depth_limit) (has_unique_keys (root_of p)) q.1 in
-    record {
-      lead = refl;
-      root = root_is (lines_of p.rows) q.0;
-      keys = keys_are p.rows t.0;
-      unique = unique_is (root_of p) r.1;
-      nested = leb-true (depth (root_of p)) depth_limit r.0;
-      anchors = anchors_are (lines_of p.rows) t.2;
-      bound = bound_are [] (names_of (root_of p)) t.3;
-      short = short_is p.rows t.1;
-    }
+document_is p e = search (rules, tests_are, and_parts, root_is, keys_are, unique_is, leb-true, anchors_are, bound_are, short_is)
 
 pub is_document_of : (p : Part) (d : Document) → IsDocument p d → (is_document p ≡ true) × (document_of p ≡ d)
-is_document_of p d h =
-    let root = is_root (lines_of p.rows) d.root h.root in
-    let nested : leb (depth (root_of p)) depth_limit ≡ true = ap (λ n. leb (depth n) depth_limit) root.1 ∙ le-leb (depth d.root) depth_limit h.nested in
-    let unique : has_unique_keys (root_of p) ≡ true = ap has_unique_keys root.1 ∙ is_unique d.root h.unique in
-    let bound : are_bound [] (names_of (root_of p)) ≡ true = ap (λ n. are_bound [] (names_of n)) root.1 ∙ are_bound_of [] (names_of d.root) h.bound in
-    let sound : is_sound depth_limit (outline_of p) ≡ true = and_from (is_fine (outline_of p)) _ root.0 (and_from (leb (depth (root_of p)) depth_limit) (has_unique_keys (root_of p)) nested unique) in (
-      are_tests (have_fit_keys p.rows) (has_short_root p.rows) (have_one_anchor_each (lines_of p.rows)) (are_bound [] (names_of (root_of p))) (is_sound depth_limit (outline_of p))
-          (are_keys p.rows h.keys, is_short p.rows h.short, are_anchors (lines_of p.rows) h.anchors, bound, sound),
-      λ i. record { lead = sym h.lead i; root = root.1 i },
-    )
+is_document_of p d h = search (rules, is_root, le-leb, is_unique, are_bound_of, and_from, are_tests, are_keys, is_short, are_anchors)
 
 pub documents_take : (ps : List Part) → list_all is_document ps ≡ true → AreDocuments ps (map document_of ps)
 documents_take [] e = tt

@@ -1,5 +1,5 @@
 -- Entries, items and their contents stand in the text, from one whole character to another.
-use Rattle.std.proofs.Common.{◌≡◌, ◌⊎◌, inl, inr, ℕ, suc, ◌+◌, ◌-◌, ◌<◌, ◌≤◌, eqb, ltb, List, [], ◌∷◌, ◌++◌, length, drop, Option, Some, None, is_some, option_map, option_and_then, Bool, true, false, cond, refl, sym, ap, subst, arith, length-append}
+use Rattle.std.proofs.Common.{◌≡◌, ◌⊎◌, inl, inr, ℕ, suc, ◌+◌, ◌-◌, ◌<◌, ◌≤◌, eqb, ltb, List, [], ◌∷◌, ◌++◌, length, drop, Option, Some, None, is_some, option_map, option_and_then, Bool, true, false, cond, refl, sym, subst, arith, length-append, rules}
 use Rattle.std.proofs.lemmas.Bool.{ltb-true, ltb-false, eqb-false}
 use Rattle.std.proofs.lemmas.Option.{slice_get_within, none-some, same_Some}
 use Rattle.std.specs.List.{slice_get}
@@ -53,11 +53,7 @@ row_lines_order (r ∷ rs) from to s q h e f =
     go : (a : Bool) → ltb (length r.dashes) from ≡ a → (b : Bool) → ltb (length r.dashes) to ≡ b → (o : Option RowLine) → row_line (from - suc (length r.dashes)) rs ≡ o → (p : Option RowLine) → row_line (to - suc (length r.dashes)) rs ≡ p →
         ((x y : RowLine) → from - suc (length r.dashes) ≤ to - suc (length r.dashes) → row_line (from - suc (length r.dashes)) rs ≡ Some x → row_line (to - suc (length r.dashes)) rs ≡ Some y → x.before ≤ y.before) →
         cond a (option_map behind_one o) (Some (record { before = 0; row = r; line = from })) ≡ Some s → cond b (option_map behind_one p) (Some (record { before = 0; row = r; line = to })) ≡ Some q → s.before ≤ q.before
-    go false ta b tb o oe p pe again e f = omega (arith, ap (λ (x : RowLine). x.before) (same_Some _ _ e))
-    go true ta false tb o oe p pe again e f = absurd (omega (arith, h, ltb-true (length r.dashes) from ta, ltb-false (length r.dashes) to tb))
-    go true ta true tb None oe p pe again e f = absurd (none-some _ e)
-    go true ta true tb (Some x) oe None pe again e f = absurd (none-some _ f)
-    go true ta true tb (Some x) oe (Some y) pe again e f = omega (arith, again x y (omega (arith, h)) oe pe, ap (λ (z : RowLine). z.before) (same_Some _ _ e), ap (λ (z : RowLine). z.before) (same_Some _ _ f))
+    go a h1 b h2 o h3 p h4 h5 h6 h7 = search (rules, same_Some, ltb-true, ltb-false, none-some)
 
 -- the places among the rows of a document
 module _ (c : Cut) (rs more : List Row) (k : ℕ) (u : IsUtf8 (cut_text c)) (cut : IsCut (cut_text c) c) (there : drop k (rows_of c) ≡ rs ++ more) where
@@ -65,16 +61,7 @@ module _ (c : Cut) (rs more : List Row) (k : ℕ) (u : IsUtf8 (cut_text c)) (cut
   Spans x = IsSpan (cut_text c) x.0 x.1
 
   lines_span : (from to : ℕ) (x : ℕ × ℕ) → from ≤ to → lines_place k c rs from to ≡ Some x → Spans x
-  lines_span from to x less e =
-      let a = bind_some (row_line from rs) e in
-      let b = bind_some (row_line to rs) a.2 in
-      let row = row_there c rs more k from a.0 there a.1 in
-      let other = row_there c rs more k to b.0 there b.1 in
-      subst Spans (same_Some _ _ b.2) (record {
-        ordered = lines_order c (k + a.0.before) (k + b.0.before) a.0.line a.0.row b.0.row (omega (arith, row_lines_order rs from to a.0 b.0 less a.1 b.1)) row other;
-        begins = line_boundary c (k + a.0.before) a.0.line a.0.row u cut.parts row;
-        ends = row_boundary c (k + b.0.before) b.0.row cut.parts other;
-      })
+  lines_span from to x less e = search (rules, bind_some, row_there, same_Some, lines_order, row_lines_order, line_boundary, row_boundary)
 
   line_span : (n : ℕ) (x : ℕ × ℕ) → line_entry k c rs n ≡ Some x → Spans x
   line_span n x e =
@@ -83,9 +70,7 @@ module _ (c : Cut) (rs more : List Row) (k : ℕ) (u : IsUtf8 (cut_text c)) (cut
       lines_span n (lines_end n (lines_of rs) - 1) x (omega (arith, ends.0)) e
 
   head_spans : (n : ℕ) (x : ℕ × ℕ) → line_head k c rs n ≡ Some x → Spans x
-  head_spans n x e =
-      let a = bind_some (row_line n rs) e in
-      subst Spans (same_Some _ _ a.2) (head_span c (k + a.0.before) a.0.row u cut (row_there c rs more k n a.0 there a.1))
+  head_spans n x e = search (rules, bind_some, same_Some, head_span, row_there)
 
   lines_spans : (from to : ℕ) (x : ℕ × ℕ) → from ≤ to → lines_content k c rs from to ≡ Some x → Spans x
   lines_spans from to x less e = go (eqb from to) refl e
@@ -113,8 +98,7 @@ module _ (c : Cut) (rs more : List Row) (k : ℕ) (u : IsUtf8 (cut_text c)) (cut
   entry_span n (s ∷ ss) x e = go (flow_entry k c rs n (s ∷ ss)) refl e
     where
       go : (o : Option PlacedEntry) → flow_entry k c rs n (s ∷ ss) ≡ o → option_map entry_place o ≡ Some x → Spans x
-      go None is e = absurd (none-some _ e)
-      go (Some y) is e = subst Spans (same_Some _ _ e) (in_flow n s ss y is).0
+      go o h1 h2 = search (rules, none-some, same_Some, in_flow)
 
   content_span : (n : ℕ) (left : List Step) (x : ℕ × ℕ) → content_from k c rs n left ≡ Some x → Spans x
   content_span n [] x e = line_spans n x e

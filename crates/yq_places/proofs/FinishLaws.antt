@@ -1,9 +1,9 @@
 -- Rows end, before their breaks, at whole characters, and no later than rows behind them.
-use Rattle.std.proofs.Common.{◌≡◌, ◌⊎◌, inl, inr, ℕ, zero, suc, ◌-◌, ◌<◌, ◌≤◌, List, [], ◌∷◌, ◌++◌, length, take, drop, replicate, Some, Bool, true, false, cond, refl, sym, ap, ◌∙◌, subst, arith, eqb-true, append_assoc, length-append}
+use Rattle.std.proofs.Common.{◌≡◌, ◌⊎◌, inl, inr, ℕ, zero, suc, ◌-◌, ◌<◌, ◌≤◌, List, [], ◌∷◌, ◌++◌, length, take, drop, replicate, Some, Bool, true, false, cond, refl, sym, ap, ◌∙◌, subst, arith, eqb-true, append_assoc, length-append, rules}
 use Rattle.std.proofs.lemmas.Bool.{cases_lt, lt-ltb, le-ltb, cond-true, cond-false, false≢true, and_parts}
 use Rattle.std.specs.List.{slice_get}
 use Rattle.std.specs.Str.{IsCharBoundary}
-use Rattle.yq_flow_scalars.specs.Text.{is_empty, is_feed, is_return}
+use Rattle.yq_flow_scalars.specs.Text.{is_empty}
 use Rattle.yq_block_scalars.proofs.BlockPieceLaws.{IsLf}
 use Rattle.yq_cut.specs.Exchange.{row_front, before_at, before_content, behind_row}
 use Rattle.yq_cut.specs.Grammar.{AreParts}
@@ -12,8 +12,8 @@ use Rattle.yq_cut.specs.View.{Slices, slices, rows_of}
 use Rattle.yq_cut.proofs.ExchangeLaws.{slice_front, slice_back}
 use Rattle.yq_cut.proofs.NodePieces.{BeginsAscii, before_ascii}
 use Rattle.yq_cut.proofs.PlaceLaws.{row_front-append, row_in}
-use Rattle.yq_places.specs.CommentReading.{before_tail, before_row}
-use Rattle.yq_places.specs.EntryReading.{before_line, ending, through_row}
+use Rattle.yq_places.specs.CommentReading.{before_tail}
+use Rattle.yq_places.specs.EntryReading.{before_line, through_row}
 use Rattle.yq_places.specs.PrintedLines.{is_last_break, less_break}
 use Rattle.yq_row_lines.proofs.LengthLaws.{part-length}
 use Rattle.yq_cut.proofs.SliceLaws.{print-length}
@@ -30,9 +30,7 @@ record IsSplit (x less : List ℕ) : Type 0 where
   pub some : IsLf x → 0 < length break
 
 break_ascii : (b : ℕ) (bs : List ℕ) → is_last_break (b ∷ bs) ≡ true → b < 128
-break_ascii b [] e = omega (arith, eqb-true b 10 e)
-break_ascii b (d ∷ []) e = omega (arith, eqb-true b 13 (and_parts (is_return b) (is_feed d) e).0)
-break_ascii b (d ∷ (f ∷ t)) e = absurd (false≢true e)
+break_ascii b bs h1 = search (rules, eqb-true, and_parts, false≢true)
 
 pub lf_behind : (b : ℕ) (bs : List ℕ) → is_last_break (b ∷ bs) ≡ false → IsLf (b ∷ bs) → IsLf bs
 lf_behind b bs e lf = go lf.0 lf.1
@@ -58,15 +56,12 @@ pub break_boundary : (x : List ℕ) → IsCharBoundary x (length (less_break x))
 break_boundary x = let s = split x in subst (λ (q : List ℕ). IsCharBoundary q (length (less_break x))) (sym s.is) (before_ascii (less_break x) s.break s.ascii)
 
 break_behind : (break behind : List ℕ) → BeginsAscii break → (0 < length break) ⊎ (behind ≡ []) → BeginsAscii (break ++ behind)
-break_behind (b ∷ bs) behind h some = h
-break_behind [] behind h (inl some) = absurd (omega (arith, some))
-break_behind [] behind h (inr none) = subst BeginsAscii (sym none) tt
+break_behind break behind h1 h2 = search rules
 
 less_boundary : (before x behind : List ℕ) → Ended x behind → IsCharBoundary (before ++ (x ++ behind)) (length (before ++ less_break x))
 less_boundary before x behind ended =
     let s = split x in
-    let whole : before ++ (x ++ behind) ≡ (before ++ less_break x) ++ (s.break ++ behind) =
-    ap (λ (q : List ℕ). before ++ (q ++ behind)) s.is ∙ (ap (λ (q : List ℕ). before ++ q) (append_assoc (less_break x) s.break behind) ∙ sym (append_assoc before (less_break x) (s.break ++ behind))) in
+    let whole : before ++ (x ++ behind) ≡ (before ++ less_break x) ++ (s.break ++ behind) = search (rules, append_assoc, s) in
     subst (λ (q : List ℕ). IsCharBoundary q (length (before ++ less_break x))) (sym whole) (before_ascii (before ++ less_break x) (s.break ++ behind) (break_behind s.break behind s.ascii (some ended)))
   where
     some : Ended x behind → (0 < length (split x).break) ⊎ (behind ≡ [])
@@ -116,14 +111,7 @@ content_order (marked p marker c) i j r q h is at = go (cases_lt i (length p.row
     go : (i < length p.rows) ⊎ (length p.rows ≤ i) → (j < length p.rows) ⊎ (length p.rows ≤ j) →
         (i - length p.rows ≤ j - length p.rows → slice_get (rows_of c) (i - length p.rows) ≡ Some r → slice_get (rows_of c) (j - length p.rows) ≡ Some q → length (before_content (i - length p.rows) c) ≤ length (before_content (j - length p.rows) c)) →
         length (before_content i (marked p marker c)) ≤ length (before_content j (marked p marker c))
-    go (inl a) (inl b) again = omega (arith, here i a, here j b, at_order p.rows i j q h (slice_front p.rows (rows_of c) j q b at))
-    go (inl a) (inr b) again = omega (arith, here i a, past j b, at_fits p.rows i r (p.end ++ (marker ++ before_content (j - length p.rows) c)) (slice_front p.rows (rows_of c) i r a is))
-    go (inr a) (inl b) again = absurd (omega (arith, a, b, h))
-    go (inr a) (inr b) again =
-        let before : List ℕ = before_content (i - length p.rows) c in
-        let behind : List ℕ = before_content (j - length p.rows) c in
-        let order : length before ≤ length behind = again (omega (arith, a, b, h)) (slice_back p.rows (rows_of c) i r a is) (slice_back p.rows (rows_of c) j q b at) in
-        omega (arith, past i a, past j b, order, part-length p (marker ++ before), part-length p (marker ++ behind), length-append marker before, length-append marker behind)
+    go h1 h2 h3 = search (rules, at_order, slice_front, at_fits, slice_back, part-length, length-append)
 
 pub lines_order : (c : Cut) (i j k : ℕ) (r q : Row) → i ≤ j → slice_get (rows_of c) i ≡ Some r → slice_get (rows_of c) j ≡ Some q → length (before_line i k r c) ≤ length (through_row j q c)
 lines_order c i j k r q h is at =
@@ -132,17 +120,4 @@ lines_order c i j k r q h is at =
     let front : List ℕ = dashes_text (take k r.dashes) [] in
     let behind : List ℕ = dashes_text (drop k r.dashes) (mark_text r.mark []) in
     let before : List ℕ = before_content j c in
-    omega (
-      arith,
-      content_order c i j r q h is at,
-      front_in i c r is,
-      length-append (before_row i c) (r.gap ++ (spaces ++ front)),
-      length-append r.gap (spaces ++ front),
-      length-append spaces front,
-      length-append r.gap (spaces ++ dashes_text r.dashes (mark_text r.mark [])),
-      length-append spaces (dashes_text r.dashes (mark_text r.mark [])),
-      ap length (dashes_split k r.dashes (mark_text r.mark [])),
-      length-append front behind,
-      length-append before (s.space ++ (s.anchor ++ (s.apart ++ s.head))),
-      length-append (before_tail j q c) (ending s),
-    )
+    omega (arith, content_order c i j r q h is at, front_in i c r is, length-append {A = ℕ}, ap length (dashes_split k r.dashes (mark_text r.mark [])))

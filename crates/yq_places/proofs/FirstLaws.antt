@@ -1,9 +1,8 @@
 -- Spaces that end a text, and the text around an item or entry.
-use Rattle.std.proofs.Common.{◌≡◌, inl, ℕ, zero, suc, ◌+◌, ◌-◌, ◌<◌, ◌≤◌, eqb, Bool, true, false, cond, ◌&&◌, List, [], ◌∷◌, ◌++◌, length, take, drop, slice_index, Option, Some, None, option_map, refl, sym, ap, ◌∙◌, subst, arith, append_assoc, length-append}
+use Rattle.std.proofs.Common.{◌≡◌, inl, ℕ, zero, suc, ◌+◌, ◌-◌, ◌<◌, ◌≤◌, eqb, Bool, true, false, cond, ◌&&◌, List, [], ◌∷◌, ◌++◌, length, take, drop, slice_index, Option, Some, None, option_map, refl, sym, ap, ◌∙◌, subst, arith, append_assoc, length-append, rules}
 use Rattle.std.proofs.Math.Seq.{drop-append_seam, take-append_seam}
-use Rattle.std.proofs.lemmas.Bool.{eqb-true, ne_eqb, eq-eqb, cond-true, cond-false, and_parts}
+use Rattle.std.proofs.lemmas.Bool.{eqb-true, ne_eqb, and_parts}
 use Rattle.std.proofs.lemmas.List.{length-take-le}
-use Rattle.std.proofs.lemmas.Option.{same_Some}
 use Rattle.std.proofs.lemmas.Str.{IsCharBoundary-at_seam, IsUtf8-drop, IsUtf8-from_ascii}
 use Rattle.std.proofs.lemmas.Str.Ascii.{IsAscii-nil, IsAscii-cons}
 use Rattle.std.specs.Str.{IsAscii, IsUtf8, IsCharBoundary}
@@ -31,11 +30,7 @@ use Rattle.yq_places.proofs.PrintedTexts.{map_some}
 -- ---- the spaces that end a text
 
 spaces_more : (b : ℕ) (t : List ℕ) → are_spaces t ≡ false → are_spaces (b ∷ t) ≡ false
-spaces_more b t e = go (eqb b 32)
-  where
-    go : (c : Bool) → (c && are_spaces t) ≡ false
-    go true = e
-    go false = refl
+spaces_more b t e = search rules
 
 -- a space behind a text
 spaces_stay : (t : List ℕ) (n : ℕ) → n < length t → slice_index t n ≡ 32 → are_spaces (take (suc n) t) ≡ are_spaces (take n t)
@@ -66,16 +61,10 @@ unfolding less_spaces
 none_less t n e = ap (λ k. length (less_spaces (take k t))) e ∙ sym e
 
 pub some_less : (t : List ℕ) (n : ℕ) → 0 < n → n ≤ length t → (slice_index t (n - 1) ≡ 32 → ⊥) → length (less_spaces (take n t)) ≡ n
-some_less t zero h k e = absurd (omega (arith, h))
-some_less t (suc n) h k e =
-    let same : suc n - 1 ≡ n = omega arith in
-    ap length (other_less t n (omega (arith, k)) (λ s. e (ap (slice_index t) same ∙ s))) ∙ length-take-le (suc n) t k
+some_less t n h1 h2 h3 = search (rules, other_less, slice_index, length-take-le)
 
 pub step_less : (t : List ℕ) (n : ℕ) → 0 < n → n ≤ length t → slice_index t (n - 1) ≡ 32 → less_spaces (take n t) ≡ less_spaces (take (n - 1) t)
-step_less t zero h k e = absurd (omega (arith, h))
-step_less t (suc n) h k e =
-    let same : suc n - 1 ≡ n = omega arith in
-    space_less t n (omega (arith, k)) (ap (slice_index t) (sym same) ∙ e) ∙ ap (λ j. less_spaces (take j t)) (sym same)
+step_less t n h1 h2 h3 = search (rules, space_less, slice_index)
 
 -- a text in two
 pub spaces_parts : (t : List ℕ) → t ≡ less_spaces t ++ end_spaces t
@@ -84,8 +73,7 @@ spaces_parts [] = refl
 spaces_parts (b ∷ t) = go (are_spaces (b ∷ t)) (spaces_parts t)
   where
     go : (c : Bool) → t ≡ less_spaces t ++ drop (length (less_spaces t)) t → b ∷ t ≡ cond c [] (b ∷ less_spaces t) ++ drop (length (cond c [] (b ∷ less_spaces t))) (b ∷ t)
-    go true h = refl
-    go false h = ap (λ (x : List ℕ). b ∷ x) h
+    go c h1 = search rules
 
 end_is : (t : List ℕ) → are_spaces (end_spaces t) ≡ true
 unfolding less_spaces
@@ -93,8 +81,7 @@ end_is [] = refl
 end_is (b ∷ t) = go (are_spaces (b ∷ t)) refl (end_is t)
   where
     go : (c : Bool) → are_spaces (b ∷ t) ≡ c → are_spaces (drop (length (less_spaces t)) t) ≡ true → are_spaces (drop (length (cond c [] (b ∷ less_spaces t))) (b ∷ t)) ≡ true
-    go true e h = e
-    go false e h = h
+    go c h1 h2 = search rules
 
 spaces_ascii : (t : List ℕ) → are_spaces t ≡ true → IsAscii t
 spaces_ascii [] e = IsAscii-nil
@@ -161,38 +148,19 @@ abbrev first_out_of : Option RowLine → Option TextPiece → Option FirstOut
 first_out_of o e = option_map first_out (o >>= λ s. cond (eqb s.line 0) None e)
 
 pub no_first_row_line : (path : Path) (c : Cut) (k : ℕ) → None ≡ option_map (numbers k) (row_line_at path c) → None ≡ first_removal path.doc (steps_of path) c
-no_first_row_line path c k e = go (row_line_at path c) e
-  where
-    go : (o : Option RowLine) → None ≡ option_map (numbers k) o → None ≡ first_out_of o (piece_at path parts.Entry c)
-    go None e = refl
-    go (Some q) e = absurd (cc)
+no_first_row_line path c k e = search rules
 
 pub other_first_line : (path : Path) (c : Cut) (k : ℕ) (n : Numbers) → Some n ≡ option_map (numbers k) (row_line_at path c) → n.1 ≡ 0 → None ≡ first_removal path.doc (steps_of path) c
-other_first_line path c k n e zero_is = go (row_line_at path c) e
-  where
-    go : (o : Option RowLine) → Some n ≡ option_map (numbers k) o → None ≡ first_out_of o (piece_at path parts.Entry c)
-    go None e = absurd (cc)
-    go (Some q) e =
-        let line : q.line ≡ 0 = ap (λ (x : Numbers). x.1) (sym (same_Some _ _ e)) ∙ zero_is in
-        ap (option_map first_out) (sym (cond-true (eqb q.line 0) None (piece_at path parts.Entry c) (eq-eqb q.line 0 line)))
+other_first_line path c k n e zero_is = search rules
 
 pub no_first_entry : (t : List ℕ) (c : Cut) (path : Path) (k : ℕ) (n : Numbers) → IsCut t c → all_documents c ≡ true → Some n ≡ option_map (numbers k) (row_line_at path c) → None ≡ line_entry_at path c → None ≡ first_removal path.doc (steps_of path) c
 no_first_entry t c path k n cut sound there e = go (piece_at path parts.Entry c) (e ∙ entry_is t c path k n cut sound there) (row_line_at path c)
   where
     either : (b : Bool) → None ≡ option_map first_out (cond b None None)
-    either true = refl
-    either false = refl
+    either b = search rules
 
     go : (x : Option TextPiece) → None ≡ option_map piece_span x → (o : Option RowLine) → None ≡ first_out_of o x
-    go (Some x) e o = absurd (cc)
-    go None e None = refl
-    go None e (Some q) = either (eqb q.line 0)
+    go x h1 o = search rules
 
 pub first_is : (path : Path) (c : Cut) (k : ℕ) (n : Numbers) (x : TextPiece) → Some n ≡ option_map (numbers k) (row_line_at path c) → (n.1 ≡ 0 → ⊥) → piece_at path parts.Entry c ≡ Some x → Some (first_out x) ≡ first_removal path.doc (steps_of path) c
-first_is path c k n x e other is = go (row_line_at path c) e
-  where
-    go : (o : Option RowLine) → Some n ≡ option_map (numbers k) o → Some (first_out x) ≡ first_out_of o (piece_at path parts.Entry c)
-    go None e = absurd (cc)
-    go (Some q) e =
-        let line : q.line ≡ 0 → ⊥ = λ z. other (ap (λ (y : Numbers). y.1) (same_Some _ _ e) ∙ z) in
-        ap (option_map first_out) (sym is ∙ sym (cond-false (eqb q.line 0) None (piece_at path parts.Entry c) (ne_eqb q.line 0 line)))
+first_is path c k n x e other is = search rules

@@ -1,12 +1,12 @@
 -- Items and entries in flow go from one whole character to another.
-use Rattle.std.proofs.Common.{◌≡◌, ℕ, ◌≤◌, List, [], ◌∷◌, ◌++◌, length, Option, Some, None, option_map, option_and_then, Bool, true, false, cond, refl, sym, ◌∙◌, subst, arith, length-append}
+use Rattle.std.proofs.Common.{◌≡◌, ℕ, ◌≤◌, List, [], ◌∷◌, ◌++◌, length, Option, Some, None, option_map, option_and_then, Bool, cond, refl, sym, ◌∙◌, subst, length-append, rules}
 use Rattle.std.proofs.lemmas.Option.{same_Some}
 use Rattle.std.specs.List.{slice_get}
 use Rattle.std.specs.Str.{IsUtf8}
 use Rattle.yq_flow_scalars.specs.Paths.{Step, is_here, further}
 use Rattle.yq_nodes.specs.Entries.{PlacedEntry, EntryPieces, parts_of, part_at, placed_entry_at, content_place, end_of, entry_start, entry_place, locate_entry, entry_pieces_at}
-use Rattle.yq_nodes.specs.Nodes.{Key, bare, keyed, empty, node_text, key_text}
-use Rattle.yq_nodes.specs.Places.{Placed, placed, nothing, name, text, sequence, mapping, Parts, end, part, key_placed, locate}
+use Rattle.yq_nodes.specs.Nodes.{Key, bare, empty, node_text, key_text}
+use Rattle.yq_nodes.specs.Places.{Placed, Parts, end, part, key_placed, locate}
 use Rattle.yq_nodes.specs.Spans.{IsSpan, HasKeySpan, HasSpans, PartsHaveSpans}
 use Rattle.yq_nodes.specs.Trees.{inner, unplaced_key}
 use Rattle.yq_nodes.proofs.NodeAgain.{node_longer}
@@ -25,48 +25,34 @@ abbrev pub EntrySpans : List ℕ → PlacedEntry → Type 0
 EntrySpans t e = HasKeySpan t e.0 × HasSpans t e.1
 
 parts_spans : (t : List ℕ) (p : Placed) → HasSpans t p → PartsHaveSpans t (parts_of p)
-parts_spans t (placed a s c e nothing) h = tt
-parts_spans t (placed a s c e (name n)) h = tt
-parts_spans t (placed a s c e (text x piece)) h = tt
-parts_spans t (placed a s c e (sequence parts)) h = h.2
-parts_spans t (placed a s c e (mapping parts)) h = h.2
+parts_spans t p h1 = search rules
 
 part_spans : (t : List ℕ) (s : Step) (ps : Parts) (e : PlacedEntry) → PartsHaveSpans t ps → part_at s ps ≡ Some e → EntrySpans t e
 part_spans t s end e h is = absurd (cc)
 part_spans t s (part key n ps) e h is = go (is_here s (inner (unplaced_key key))) (λ again. part_spans t (further s) ps e h.2 again) is
   where
     go : (b : Bool) → (part_at (further s) ps ≡ Some e → EntrySpans t e) → cond b (Some (key, n)) (part_at (further s) ps) ≡ Some e → EntrySpans t e
-    go true again is = subst (EntrySpans t) (same_Some _ _ is) (h.0, h.1)
-    go false again is = again is
+    go b h1 h2 = search (rules, same_Some)
 
 pub entry_spans : (t : List ℕ) (ss : List Step) (slot e : PlacedEntry) → EntrySpans t slot → placed_entry_at ss slot ≡ Some e → EntrySpans t e
 entry_spans t [] slot e h is = subst (EntrySpans t) (same_Some _ _ is) h
 entry_spans t (s ∷ ss) slot e h is = go (part_at s (parts_of slot.1)) refl (λ x k again. entry_spans t ss x e k again) is
   where
     go : (o : Option PlacedEntry) → part_at s (parts_of slot.1) ≡ o → ((x : PlacedEntry) → EntrySpans t x → placed_entry_at ss x ≡ Some e → EntrySpans t e) → option_and_then (placed_entry_at ss) o ≡ Some e → EntrySpans t e
-    go None at again is = absurd (cc)
-    go (Some x) at again is = again x (part_spans t s (parts_of slot.1) x (parts_spans t slot.1 h.1) at) is
+    go o h1 h2 h3 = search (rules, part_spans, parts_spans)
 
 -- an item or entry ends behind where it begins
 entry_order : (total : ℕ) (y : EntryPieces) → entry_start (locate_entry total y) ≤ end_of (locate_entry total y).1
 entry_order total y = go y.key
   where
     go : (k : Key) → entry_start (key_placed total (key_text k (node_text y.node y.rest)) k, locate total y.node y.rest) ≤ end_of (locate total y.node y.rest)
-    go bare = omega (arith, start_placed total y.node y.rest, end_placed total y.node y.rest, node_longer y.node y.rest)
-    go (keyed p b g) =
-        let n : List ℕ = node_text y.node y.rest in
-        omega (arith, end_placed total y.node y.rest, node_longer y.node y.rest, length-append p (b ++ (58 ∷ (g ++ n))), length-append b (58 ∷ (g ++ n)), length-append g n)
+    go k = search (rules, start_placed, end_placed, node_longer, length-append)
 
 place_span : (t : List ℕ) (e : PlacedEntry) → EntrySpans t e → entry_start e ≤ end_of e.1 → IsSpan t (entry_start e) (end_of e.1)
-place_span t (None, placed a s c x f) h less = record { ordered = less; begins = h.1.0.begins; ends = h.1.1.ends }
-place_span t (Some k, placed a s c x f) h less = record { ordered = less; begins = h.0.begins; ends = h.1.1.ends }
+place_span t e h1 h2 = search rules
 
 content_span : (t : List ℕ) (p : Placed) (x : ℕ × ℕ) → HasSpans t p → content_place p ≡ Some x → IsSpan t x.0 x.1
-content_span t (placed a s c e nothing) x h is = absurd (cc)
-content_span t (placed a s c e (name n)) x h is = subst (λ (y : ℕ × ℕ). IsSpan t y.0 y.1) (same_Some _ _ is) h.1
-content_span t (placed a s c e (text y piece)) x h is = subst (λ (y : ℕ × ℕ). IsSpan t y.0 y.1) (same_Some _ _ is) h.1
-content_span t (placed a s c e (sequence parts)) x h is = subst (λ (y : ℕ × ℕ). IsSpan t y.0 y.1) (same_Some _ _ is) h.1
-content_span t (placed a s c e (mapping parts)) x h is = subst (λ (y : ℕ × ℕ). IsSpan t y.0 y.1) (same_Some _ _ is) h.1
+content_span t p x h1 h2 = search (rules, same_Some)
 
 -- the item or entry, and its content, to which steps lead in the head of a row
 none_within : (total : ℕ) (rest : List ℕ) (s : Step) (ss : List Step) (e : PlacedEntry) → placed_entry_at (s ∷ ss) (None, locate total empty rest) ≡ Some e → ⊥
@@ -74,8 +60,7 @@ unfolding locate
 none_within total rest s ss e is = cc
 
 mapped : {A B : Type 0} (f : A → B) (o : Option A) (y : B) → option_map f o ≡ Some y → (x : A) × (f x ≡ y)
-mapped f None y is = absurd (cc)
-mapped f (Some x) y is = (x, same_Some _ _ is)
+mapped f o y h1 = search (rules, same_Some)
 
 -- an entry's place is one from a character to another, and so is that of its content
 abbrev pub AreSpans : List ℕ → PlacedEntry → Type 0
@@ -92,5 +77,4 @@ flow_spans c i r u cut is s ss e found = go r.content refl found
         let slot : EntryPieces = record { key = bare; node = node; rest = tail ++ behind_row i c } in
         let y = mapped (locate_entry total) (entry_pieces_at (s ∷ ss) slot) e (sym (path_places total (s ∷ ss) slot) ∙ found) in
         let spans = entry_spans (cut_text c) (s ∷ ss) (None, locate total node (tail ++ behind_row i c)) e (tt, node_spans c i r u cut is space node tail content) found in
-        let order : entry_start e ≤ end_of e.1 = subst (λ (z : PlacedEntry). entry_start z ≤ end_of z.1) y.1 (entry_order total y.0) in
-        (place_span (cut_text c) e spans order, λ x at. content_span (cut_text c) e.1 x spans.1 at)
+        search (rules, entry_order, place_span, content_span, total, y, spans)

@@ -1,8 +1,8 @@
 -- The spans of items and entries in flow.
-use Rattle.std.proofs.Common.{◌≡◌, ℕ, ◌+◌, ◌-◌, eqb, List, [], ◌∷◌, ◌++◌, length, Some, None, option_map, true, false, cond, refl, sym, ap, ◌∙◌, arith, append_assoc, length-append}
+use Rattle.std.proofs.Common.{◌≡◌, ℕ, ◌+◌, ◌-◌, List, [], ◌∷◌, ◌++◌, length, option_map, refl, sym, ap, ◌∙◌, arith, append_assoc, length-append, rules}
 use Rattle.yq_nodes.specs.Entries.{entry_place, content_place, locate_entry}
 use Rattle.yq_nodes.specs.Nodes.{Key, bare, keyed, Node, empty, alias, scalar, coll, anchored, key_text, node_text}
-use Rattle.yq_nodes.specs.Places.{Placed, placed, sequence, mapping, holder, locate, locate_items, with_anchor}
+use Rattle.yq_nodes.specs.Places.{Placed, placed, locate, with_anchor}
 use Rattle.yq_nodes.proofs.WrittenLaws.{key_append, node_then}
 use Rattle.yq_nodes.proofs.EditPlaces.{start_placed, end_placed}
 use Rattle.yq_documents.specs.Pieces.{piece_span, node_piece}
@@ -33,32 +33,15 @@ anchor_place n start (placed a s c e f) = refl
 pub node_place : (total : ℕ) (before : List ℕ) (node : Node) (rest : List ℕ) → total ≡ length (before ++ node_text node rest) → content_place (locate total node rest) ≡ option_map piece_span (node_piece before node rest)
 unfolding locate node_text
 node_place total before empty rest e = refl
-node_place total before (alias n) rest e =
-    let text = length-append before (node_text (alias n) rest) in
-    let split = ap length (node_then (alias n) rest) ∙ length-append (node_text (alias n) []) rest in
-    let start : total - length (node_text (alias n) rest) ≡ length before = omega (arith, e, text) in
-    let stop : total - length rest ≡ length before + length (node_text (alias n) []) = omega (arith, e, text, split) in
-    (λ i. Some (start i, stop i))
-node_place total before (scalar p) rest e =
-    let text = length-append before (node_text (scalar p) rest) in
-    let split = ap length (node_then (scalar p) rest) ∙ length-append (node_text (scalar p) []) rest in
-    let start : total - length (node_text (scalar p) rest) ≡ length before = omega (arith, e, text) in
-    let stop : total - length rest ≡ length before + length (node_text (scalar p) []) = omega (arith, e, text, split) in
-    (λ i. Some (start i, stop i))
+node_place total before (alias n) rest e = search (rules, length-append, node_then)
+node_place total before (scalar p) rest e = search (rules, length-append, node_then)
 node_place total before (coll k g is) rest e =
     let text = length-append before (node_text (coll k g is) rest) in
     let split = ap length (node_then (coll k g is) rest) ∙ length-append (node_text (coll k g is) []) rest in
-    let start : total - length (node_text (coll k g is) rest) ≡ length before = omega (arith, e, text) in
-    let stop : total - length rest ≡ length before + length (node_text (coll k g is) []) = omega (arith, e, text, split) in
-    holder_place k (total - length (node_text (coll k g is) rest)) (total - length rest) ∙ (λ i. Some (start i, stop i))
-  where
-    holder_place : (k s t : ℕ) → content_place (placed None s s t (holder k (locate_items total k is rest))) ≡ Some (s, t)
-    holder_place k s t = elim (eqb k 125) as (λ b. content_place (placed None s s t (cond b (mapping (locate_items total k is rest)) (sequence (locate_items total k is rest)))) ≡ Some (s, t)) [ true ↦ refl | false ↦ refl ]
+    search (rules, text, split)
 node_place total before (anchored n g node) rest e =
     anchor_place n (total - length (node_text (anchored n g node) rest)) (locate total node rest)
     ∙ node_place total (before ++ 38 ∷ (n ++ g)) node rest (e ∙ ap length (ap (λ l. before ++ (38 ∷ l)) (sym (append_assoc n g (node_text node rest))) ∙ sym (append_assoc before (38 ∷ (n ++ g)) (node_text node rest))))
 
 pub value_place : (y : FlowEntry) (total : ℕ) → total ≡ length (item_text y) → content_place (locate total y.node y.behind) ≡ option_map piece_span (flow_content y)
-value_place y total e =
-    node_place total (y.before ++ key_text y.key []) y.node y.behind
-    (e ∙ ap length (ap (λ l. y.before ++ l) (key_append y.key [] (node_text y.node y.behind)) ∙ sym (append_assoc y.before (key_text y.key []) (node_text y.node y.behind))))
+value_place y total e = search (rules, node_place, key_append, append_assoc)

@@ -1,5 +1,5 @@
 -- The entries of lines that were found.
-use Rattle.std.proofs.Common.{◌≡◌, ℕ, zero, suc, ◌<◌, List, [], ◌∷◌, ◌++◌, length, take, drop, map, Option, Some, option_map, refl, sym, ap, ◌∙◌, subst, arith, length-append}
+use Rattle.std.proofs.Common.{◌≡◌, ℕ, zero, suc, ◌<◌, List, [], ◌∷◌, ◌++◌, length, take, drop, map, Option, Some, option_map, refl, sym, ap, ◌∙◌, subst, arith, length-append, rules}
 use Rattle.std.proofs.Math.Seq.{take-append_seam}
 use Rattle.std.proofs.lemmas.List.{take-append-drop, take-map, drop-map}
 use Rattle.std.proofs.lemmas.Option.{slice_get-map, same_Some}
@@ -8,14 +8,26 @@ use Rattle.yq_flow_scalars.specs.Answers.{◌>>=◌}
 use Rattle.yq_flow_scalars.specs.Paths.{Step}
 use Rattle.yq_flow_scalars.proofs.Bools.{bind_some}
 use Rattle.yq_lines.specs.Group.{group}
-use Rattle.yq_lines.specs.Outline.{Line, flatten}
+use Rattle.yq_lines.specs.Outline.{Line, flatten, Mark, Outline, IsWhole}
 use Rattle.yq_lines.specs.Places.{lines_before, lines_after, FoundLine, find}
-use Rattle.yq_places.proofs.FoundLines.{middle}
+use Rattle.yq_flow_scalars.specs.Tree.{Node}
+use Rattle.yq_lines.proofs.LabelPaths.{HasHead}
 use Rattle.yq_places.proofs.RowPathLaws.{found_lines}
 use Rattle.yq_places.specs.PrintedLines.{PrintedLine, print_lines, line_in}
 use Rattle.yq_places.specs.PathPieces.{BlockEntry, PrintedDocument, found_entry}
 use Rattle.yq_places.proofs.PrintedTexts.{line_split}
 use Rattle.yq_places.proofs.PrintedLaws.{ArePrinted, printed_split}
+
+-- ---- lines that were found
+
+pub middle : (xs ys : List Line) (l : Line) → slice_get (xs ++ (l ∷ ys)) (length xs) ≡ Some l
+middle [] ys l = refl
+middle (x ∷ xs) ys l = middle xs ys l
+
+pub some_head : (t : Step) (ts : List Step) (m : Mark) (h : Option Node) (after : Outline) → HasHead (t ∷ ts) m h → IsWhole m h after → (n : Node) × (h ≡ Some n)
+some_head t ts m h after h1 h2 = search rules
+
+-- ---- the entries of lines that were found
 
 -- Lines between two texts are some of a document.
 pub record IsIn (s : PrintedDocument) (before : List ℕ) (ls : List PrintedLine) (behind : List ℕ) : Type 0 where

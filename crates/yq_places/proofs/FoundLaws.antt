@@ -1,5 +1,5 @@
 -- Lines that were found, by their indexes.
-use Rattle.std.proofs.Common.{◌≡◌, ◌⊎◌, inl, inr, ℕ, suc, ◌+◌, ◌<◌, ◌≤◌, Bool, true, false, cond, List, [], ◌∷◌, ◌++◌, length, get_or, Option, Some, None, option_map, option_and_then, refl, sym, ap, ◌∙◌, arith, append_assoc, length-append}
+use Rattle.std.proofs.Common.{◌≡◌, ◌⊎◌, inl, inr, ℕ, suc, ◌+◌, ◌<◌, ◌≤◌, Bool, true, false, cond, List, [], ◌∷◌, ◌++◌, length, get_or, Option, Some, None, option_map, option_and_then, refl, sym, ap, ◌∙◌, arith, append_assoc, length-append, rules}
 use Rattle.std.proofs.lemmas.Bool.{cases_lt}
 use Rattle.std.proofs.lemmas.List.{drop_all}
 use Rattle.std.proofs.lemmas.Option.{slice_get_cases}
@@ -7,12 +7,12 @@ use Rattle.std.specs.List.{slice_get}
 use Rattle.yq_flow_scalars.specs.Paths.{Step, is_here, further}
 use Rattle.yq_flow_scalars.specs.Tree.{Node}
 use Rattle.yq_lines.specs.Ends.{part}
-use Rattle.yq_lines.specs.Group.{deeper, group}
+use Rattle.yq_lines.specs.Group.{group}
 use Rattle.yq_lines.specs.Outline.{Mark, Bare, Key, Dash, Line, level, Outline, end, row, flatten, label}
 use Rattle.yq_lines.specs.Places.{Context, here, below, beside, compose, lines_before, FoundLine, next_to, find_row, inside, in_head, bare_or, find}
 use Rattle.yq_lines.proofs.LineEnds.{end_counted}
-use Rattle.yq_lines.proofs.LinesLaws.{part-all}
-use Rattle.yq_lines.proofs.Parts.{part_stop, row_parts}
+use Rattle.yq_lines.proofs.NameLaws.{part-all}
+use Rattle.yq_lines.proofs.EndsLaws.{part_stop, row_parts}
 use Rattle.yq_lines.proofs.PlaceLaws.{at}
 use Rattle.yq_lines.proofs.PositionLaws.{under-length}
 use Rattle.yq_lines.proofs.Values.{If}
@@ -29,9 +29,7 @@ pub first_is : (ls : List Line) (first floor : ℕ) (l : Line) (u a : Outline) �
 first_is ls first floor l u a e = go ((slice_get_cases ls first).1)
   where
     go2 : (k : Line) → slice_get ls first ≡ Some k → (floor < level k) ⊎ (level k ≤ floor) → IsFirst ls first floor l u a
-    go2 k is (inr low) =
-        let no : end ≡ row l u a = sym (part_stop ls first floor k is low) ∙ e in
-        absurd (cc)
+    go2 k is (inr low) = search (rules, part_stop)
     go2 k is (inl deep) =
         let ends = end_counted ls first k is in
         let whole : row k (part ls (first + 1) (level k)) (part ls _ floor) ≡ row l u a = sym (row_parts ls first floor _ k is deep (ends.2 k is)) ∙ e in
@@ -47,9 +45,7 @@ first_is ls first floor l u a e = go ((slice_get_cases ls first).1)
         }
 
     go : ((x : Line) × (first < length ls) × (slice_get ls first ≡ Some x) × (get_or ls first x ≡ x)) ⊎ ((length ls ≤ first) × (slice_get ls first ≡ None)) → IsFirst ls first floor l u a
-    go (inr past) =
-        let no : end ≡ row l u a = sym (ap (λ (ms : List Line). deeper floor (group ms)) (drop_all first ls past.0)) ∙ e in
-        absurd (cc)
+    go (inr past) = search (rules, drop_all)
     go (inl there) = go2 there.0 there.2 (cases_lt floor (level there.0))
 
 -- A line that was found among those from one on is there by its index, and those under it follow it.
@@ -58,16 +54,11 @@ pub record IsFound (ls : List Line) (first : ℕ) (f : FoundLine) : Type 0 where
   pub under : f.under ≡ part ls ((first + length (lines_before f.place)) + 1) (level f.line)
 
 found_first : (ls : List Line) (first floor : ℕ) (l : Line) (u a : Outline) → IsFirst ls first floor l u a → IsFound ls first (record { place = here; line = l; under = u; after = a })
-found_first ls first floor l u a h =
-    let same : first ≡ first + 0 = omega arith in
-    record { line = ap (slice_get ls) (sym same) ∙ h.line; under = h.under ∙ ap (λ (k : ℕ). part ls (k + 1) (level l)) same }
+found_first ls first floor l u a h = search rules
 
 -- a line that was found elsewhere, by another index
 found_on : (ls : List Line) (first other : ℕ) (f g : FoundLine) → f.line ≡ g.line → f.under ≡ g.under → first + length (lines_before f.place) ≡ other + length (lines_before g.place) → IsFound ls first f → IsFound ls other g
-found_on ls first other f g line under same h = record {
-  line = ap (slice_get ls) (sym same) ∙ (h.line ∙ ap Some line);
-  under = sym under ∙ (h.under ∙ (λ i. part ls (same i + 1) (level (line i))));
-}
+found_on ls first other f g line under same h = search rules
 
 row_found : (s : Step) (o : Outline) (ls : List Line) (first floor : ℕ) → part ls first floor ≡ o → If (find_row s o) (IsFound ls first)
 row_found s end ls first floor e = tt
@@ -76,8 +67,7 @@ row_found s (row l u a) ls first floor e =
     go h (is_here s (label l)) (find_row (further s) a) (row_found (further s) a ls h.next floor (sym h.after))
   where
     later : (h : IsFirst ls first floor l u a) (r : Option FoundLine) → If r (IsFound ls h.next) → If (option_map (next_to l u) r) (IsFound ls first)
-    later h None found_it = tt
-    later h (Some f) found_it = found_on ls h.next first f (next_to l u f) refl refl (omega (arith, h.size, length-append (flatten u) (lines_before f.place))) found_it
+    later h r h1 = search (rules, found_on, length-append)
 
     go : (h : IsFirst ls first floor l u a) (b : Bool) (r : Option FoundLine) → If r (IsFound ls h.next) →
         If (cond b (Some (record { place = here; line = l; under = u; after = a })) (option_map (next_to l u) r)) (IsFound ls first)
@@ -99,10 +89,9 @@ path_found s [] (row l u a) ls first floor e = go l.mark (find_row s (row l u a)
   where
     go : (m : Mark) (r : Option FoundLine) → If r (IsFound ls first) → If (bare_or m (Some (record { place = here; line = l; under = u; after = a }, s ∷ [])) (option_map (λ f. (f, [])) r)) (λ x. IsFound ls first x.0)
     go Bare r h = found_first ls first floor l u a (first_is ls first floor l u a e)
-    go (Key k) None h = tt
     go (Key k) (Some f) h = h
-    go Dash None h = tt
     go Dash (Some f) h = h
+    go x None h = tt
 path_found s (t ∷ ts) (row l u a) ls first floor e = go (λ v n deep is. path_found t ts v ls n deep is) l.mark (find_row s (row l u a)) (row_found s (row l u a) ls first floor e)
   where
     under : (f : FoundLine) (h : Option Node) → IsFound ls first f → (q : Option (FoundLine × List Step)) → If q (λ x. IsFound ls ((first + length (lines_before f.place)) + 1) x.0) →
@@ -118,13 +107,11 @@ path_found s (t ∷ ts) (row l u a) ls first floor e = go (λ v n deep is. path_
     go : ((v : Outline) (n deep : ℕ) → part ls n deep ≡ v → If (find t ts v) (λ x. IsFound ls n x.0)) → (m : Mark) (r : Option FoundLine) → If r (IsFound ls first) →
         If (bare_or m (Some (record { place = here; line = l; under = u; after = a }, s ∷ (t ∷ ts))) (option_and_then (λ f. in_head f.line.head (Some (f, t ∷ ts)) (option_map (λ x. (inside f x.0, x.1)) (find t ts f.under))) r)) (λ x. IsFound ls first x.0)
     go again Bare r h = found_first ls first floor l u a (first_is ls first floor l u a e)
-    go again (Key k) r h = found again r h
-    go again Dash r h = found again r h
+    go again x r h = found again r h
 
 -- the line where steps lead
 pub found_in_lines : (s : Step) (ss left : List Step) (ls : List Line) (f : FoundLine) → find s ss (group ls) ≡ Some (f, left) →
     (slice_get ls (length (lines_before f.place)) ≡ Some f.line) × (f.under ≡ part ls (length (lines_before f.place) + 1) (level f.line))
 found_in_lines s ss left ls f is =
     let found_it : IsFound ls 0 f = at (λ x. IsFound ls 0 x.0) (find s ss (group ls)) (f, left) is (path_found s ss (group ls) ls 0 0 (part-all ls)) in
-    let none : 0 + length (lines_before f.place) ≡ length (lines_before f.place) = omega arith in
-    (ap (slice_get ls) (sym none) ∙ found_it.line, found_it.under ∙ ap (λ (k : ℕ). part ls (k + 1) (level f.line)) none)
+    search (rules, found_it)

@@ -1,11 +1,11 @@
 -- What a text in two halves begins and ends with.
-use Rattle.std.proofs.Common.{◌≡◌, ℕ, zero, suc, ◌+◌, ◌-◌, ◌<◌, ◌≤◌, Bool, true, false, cond, eqb, List, [], ◌∷◌, ◌++◌, length, drop, slice_index, ◌&&◌, ◌||◌, refl, sym, ap, ◌∙◌, ◌⊎◌, inl, inr, ⊎_elim, arith, drop-cons}
+use Rattle.std.proofs.Common.{◌≡◌, ℕ, zero, suc, ◌+◌, ◌-◌, ◌<◌, ◌≤◌, Bool, true, false, cond, eqb, List, [], ◌∷◌, ◌++◌, length, drop, slice_index, ◌||◌, refl, sym, ap, ◌∙◌, ◌⊎◌, inl, inr, ⊎_elim, arith, drop-cons, rules}
 use Rattle.std.proofs.lemmas.Bool.{cases_lt, eq-eqb, eqb-true, ne_eqb, false_from_ne_true}
 use Rattle.std.proofs.lemmas.List.{drop_all, get_or_append_left, get_or-append_right, get_or_past}
 use Rattle.std.proofs.lemmas.List.Folds.{prefix_len-append}
 use Rattle.std.proofs.lemmas.List.Sums.{prefix_len-le-length}
 use Rattle.std.specs.List.{prefix_len}
-use Rattle.yq_flow_scalars.specs.Text.{front, is_break, is_empty, is_feed, is_line, is_return, is_white, line_len, past_white}
+use Rattle.yq_flow_scalars.specs.Text.{front, is_break, is_empty, is_feed, is_line, is_white, line_len, past_white}
 use Rattle.yq_flow_scalars.proofs.Upto.{upto_unless}
 use Rattle.yq_cut.specs.Reading.{begins_gap}
 use Rattle.yq_places.specs.PrintedLines.{less_break}
@@ -19,13 +19,10 @@ byte_back a b n h = get_or-append_right a b (length a) n 0 refl h
 
 -- what passes a test in front ends in the first half, or goes on in the second one
 pub prefix_stays : (p : ℕ → Bool) (a b : List ℕ) → prefix_len p a < length a → prefix_len p (a ++ b) ≡ prefix_len p a
-prefix_stays p a b h =
-    prefix_len-append p a b ∙ ap (λ c. cond c (length a + prefix_len p b) (prefix_len p a)) (false_from_ne_true _ (λ (e : eqb (prefix_len p a) (length a) ≡ true). absurd (omega (arith, h, eqb-true (prefix_len p a) (length a) e))))
+prefix_stays p a b h = search (rules, prefix_len-append, false_from_ne_true, eqb-true)
 
 pub prefix_goes : (p : ℕ → Bool) (a b : List ℕ) → length a ≤ prefix_len p a → prefix_len p (a ++ b) ≡ prefix_len p a + prefix_len p b
-prefix_goes p a b h =
-    let same : prefix_len p a ≡ length a = omega (arith, h, prefix_len-le-length p a) in
-    prefix_len-append p a b ∙ rw same (ap (λ c. cond c (length a + prefix_len p b) (length a)) (eq-eqb (length a) (length a) refl))
+prefix_goes p a b h = search (rules, prefix_len-le-length, prefix_len-append, eq-eqb)
 
 -- the line in front ends in the first half, or goes on in the second one
 pub line_stays : (a b : List ℕ) → line_len a < length a → line_len (a ++ b) ≡ line_len a
@@ -34,8 +31,7 @@ line_stays [] b h = absurd (omega (arith, h))
 line_stays (x ∷ a) b h = go (is_feed x) h (line_stays a b)
   where
     go : (c : Bool) → cond c 1 (suc (line_len a)) < suc (length a) → (line_len a < length a → line_len (a ++ b) ≡ line_len a) → cond c 1 (suc (line_len (a ++ b))) ≡ cond c 1 (suc (line_len a))
-    go true h again = refl
-    go false h again = ap suc (again (omega (arith, h)))
+    go c h1 h2 = search rules
 
 pub line_ends : (a b : List ℕ) → is_line a ≡ true → line_len (a ++ b) ≡ line_len a
 unfolding line_len is_line
@@ -43,8 +39,7 @@ line_ends [] b h = absurd (cc)
 line_ends (x ∷ a) b h = go (is_feed x) h (line_ends a b)
   where
     go : (c : Bool) → cond c (is_empty a) (is_line a) ≡ true → (is_line a ≡ true → line_len (a ++ b) ≡ line_len a) → cond c 1 (suc (line_len (a ++ b))) ≡ cond c 1 (suc (line_len a))
-    go true h again = refl
-    go false h again = ap suc (again h)
+    go c h1 h2 = search rules
 
 pub line_goes : (a b : List ℕ) → length a ≤ line_len a → is_line a ≡ false → line_len (a ++ b) ≡ line_len a + line_len b
 unfolding line_len is_line
@@ -52,9 +47,7 @@ line_goes [] b h e = omega arith
 line_goes (x ∷ a) b h e = go a (is_feed x) h e (line_goes a b)
   where
     go : (a : List ℕ) (c : Bool) → suc (length a) ≤ cond c 1 (suc (line_len a)) → cond c (is_empty a) (is_line a) ≡ false → (length a ≤ line_len a → is_line a ≡ false → line_len (a ++ b) ≡ line_len a + line_len b) → cond c 1 (suc (line_len (a ++ b))) ≡ cond c 1 (suc (line_len a)) + line_len b
-    go [] true h e again = absurd (cc)
-    go (y ∷ a) true h e again = absurd (omega (arith, h))
-    go a false h e again = let more = again (omega (arith, h)) e in omega (arith, more)
+    go a c h1 h2 h3 = search rules
 
 -- a gap begins where white space is all there is, or by what stands behind it
 white_at : (t : List ℕ) (n : ℕ) → n ≡ prefix_len is_white t → past_white t ≡ drop n t
@@ -69,12 +62,7 @@ feed_next t n = ⊎_elim (λ h. ap (front is_feed) (drop-cons t n 0 h)) (λ h. a
 gap_by : (t : List ℕ) (n : ℕ) → n ≡ prefix_len is_white t → n < length t → begins_gap t ≡ (is_break (slice_index t n ∷ slice_index t (n + 1) ∷ []) || eqb (slice_index t n) 35)
 gap_by t n w h =
     let next : suc n ≡ n + 1 = omega arith in
-    rw (white_at t n w, drop-cons t n 0 h, some_bytes t n h)
-    (ap (λ (x : Bool). (is_feed (slice_index t n) || (is_return (slice_index t n) && x)) || eqb (slice_index t n) 35) (feed_next t (suc n) ∙ ap (λ k. is_feed (slice_index t k)) next))
-  where
-    some_bytes : (t : List ℕ) (n : ℕ) → n < length t → is_empty t ≡ false
-    some_bytes [] n h = absurd (omega (arith, h))
-    some_bytes (b ∷ t) n h = refl
+    search (rules, white_at, drop-cons, slice_index, feed_next, next)
 
 pub gap_break : (t : List ℕ) (n x y : ℕ) → n ≡ prefix_len is_white t → n < length t → x ≡ slice_index t n → y ≡ slice_index t (n + 1) → is_break (x ∷ y ∷ []) ≡ true → begins_gap t ≡ true
 gap_break t n x y w h ex ey e = gap_by t n w h ∙ ap (λ (c : Bool). c || eqb (slice_index t n) 35) (sym (λ i. is_break (ex i ∷ ey i ∷ [])) ∙ e)
@@ -89,11 +77,7 @@ last_other [] m e f = absurd (omega (arith, e))
 last_other (b ∷ []) zero e f = ap (λ c. length (cond c [] (b ∷ []))) (ne_eqb b 10 f)
 last_other (b ∷ []) (suc m) e f = absurd (omega (arith, e))
 last_other (b ∷ (d ∷ [])) zero e f = absurd (omega (arith, e))
-last_other (b ∷ (d ∷ [])) (suc zero) e f = ap (λ c. length (cond (is_return b && c) [] (b ∷ cond c [] (d ∷ [])))) (ne_eqb d 10 f) ∙ go (is_return b)
-  where
-    go : (c : Bool) → length (cond (c && false) [] (b ∷ (d ∷ []))) ≡ 2
-    go true = refl
-    go false = refl
+last_other (b ∷ (d ∷ [])) (suc zero) e f = search (rules, ne_eqb)
 last_other (b ∷ (d ∷ [])) (suc (suc m)) e f = absurd (omega (arith, e))
 last_other (b ∷ (d ∷ (x ∷ t))) zero e f = absurd (omega (arith, e))
 last_other (b ∷ (d ∷ (x ∷ t))) (suc m) e f = ap suc (last_other (d ∷ (x ∷ t)) m (omega (arith, e)) f)
@@ -104,8 +88,7 @@ last_feed [] m e f r = absurd (omega (arith, e))
 last_feed (b ∷ []) zero e f r = ap (λ c. length (cond c [] (b ∷ []))) (eq-eqb b 10 f)
 last_feed (b ∷ []) (suc m) e f r = absurd (omega (arith, e))
 last_feed (b ∷ (d ∷ [])) zero e f r = absurd (omega (arith, e))
-last_feed (b ∷ (d ∷ [])) (suc zero) e f r =
-    ap (λ c. length (cond (c && is_feed d) [] (b ∷ cond (is_feed d) [] (d ∷ [])))) (ne_eqb b 13 (r zero refl)) ∙ ap (λ c. suc (length (cond c [] (d ∷ [])))) (eq-eqb d 10 f)
+last_feed (b ∷ (d ∷ [])) (suc zero) e f r = cc (ne_eqb b 13 (r zero refl), eq-eqb d 10 f)
 last_feed (b ∷ (d ∷ [])) (suc (suc m)) e f r = absurd (omega (arith, e))
 last_feed (b ∷ (d ∷ (x ∷ t))) zero e f r = absurd (omega (arith, e))
 last_feed (b ∷ (d ∷ (x ∷ t))) (suc m) e f r = ap suc (last_feed (d ∷ (x ∷ t)) m (omega (arith, e)) f (λ k is. r (suc k) (ap suc is)))
@@ -114,8 +97,7 @@ last_return : (t : List ℕ) (m : ℕ) → length t ≡ suc (suc m) → slice_in
 unfolding less_break
 last_return [] m e f r = absurd (omega (arith, e))
 last_return (b ∷ []) m e f r = absurd (omega (arith, e))
-last_return (b ∷ (d ∷ [])) zero e f r =
-    ap (λ c. length (cond (c && is_feed d) [] (b ∷ cond (is_feed d) [] (d ∷ [])))) (eq-eqb b 13 r) ∙ ap (λ c. length (cond c [] (b ∷ cond c [] (d ∷ [])))) (eq-eqb d 10 f)
+last_return (b ∷ (d ∷ [])) zero e f r = cc (eq-eqb b 13 r, eq-eqb d 10 f)
 last_return (b ∷ (d ∷ [])) (suc m) e f r = absurd (omega (arith, e))
 last_return (b ∷ (d ∷ (x ∷ t))) zero e f r = absurd (omega (arith, e))
 last_return (b ∷ (d ∷ (x ∷ t))) (suc m) e f r = ap suc (last_return (d ∷ (x ∷ t)) m (omega (arith, e)) f r)
@@ -137,5 +119,4 @@ break_feed (b ∷ t) f r =
 pub break_return : (t : List ℕ) → 1 < length t → slice_index t (length t - 1) ≡ 10 → slice_index t (length t - 2) ≡ 13 → length (less_break t) ≡ length t - 2
 break_return t h f r =
     let m = length t - 2 in
-    let last : length t - 1 ≡ suc m = omega (arith, h) in
-    last_return t m (omega (arith, h)) (ap (slice_index t) (sym last) ∙ f) r
+    last_return t m (omega (arith, h)) (ap (slice_index t) (sym (omega (arith, h))) ∙ f) r

@@ -1,36 +1,34 @@
 -- The heads of rows, and what stands in flow in them, go from one whole character to another.
-use Rattle.std.proofs.Common.{◌≡◌, ℕ, ◌+◌, ◌-◌, ◌<◌, List, [], ◌∷◌, ◌++◌, length, drop, replicate, Option, Some, Bool, true, false, refl, sym, ap, ◌∙◌, subst, arith, append_assoc, length-append, inl}
+use Rattle.std.proofs.Common.{◌≡◌, ℕ, ◌+◌, ◌-◌, ◌<◌, List, [], ◌∷◌, ◌++◌, length, drop, replicate, Option, Some, Bool, true, false, refl, sym, ap, ◌∙◌, subst, arith, append_assoc, length-append, inl, rules}
 use Rattle.std.proofs.Math.Seq.{drop-append_seam}
 use Rattle.std.proofs.lemmas.Bool.{false≢true, and_parts}
 use Rattle.std.specs.List.{slice_get}
 use Rattle.std.specs.Str.{IsUtf8, IsCharBoundary}
 use Rattle.yq_block_scalars.specs.declared.block_header.BlockStyle.{BlockStyle}
-use Rattle.yq_block_scalars.specs.declared.block_header.BlockStyle.TheVariants as styles
-use Rattle.yq_flow_scalars.specs.declared.style.Place.TheVariants as places
 use Rattle.yq_block_scalars.specs.Block.{mark_of}
-use Rattle.yq_flow_scalars.specs.Text.{is_empty}
 use Rattle.yq_nodes.specs.Entries.{end_of}
 use Rattle.yq_nodes.specs.Inline.{IsInlineAt}
-use Rattle.yq_nodes.specs.Nodes.{Node, empty, alias, scalar, coll, anchored, node_text, IsNode}
+use Rattle.yq_nodes.specs.Nodes.{Node, node_text, IsNode}
 use Rattle.yq_nodes.specs.Places.{Placed, placed, with_anchor, locate}
 use Rattle.yq_nodes.specs.Spans.{IsSpan, HasSpans}
 use Rattle.yq_nodes.proofs.NodeAgain.{is_anchored, takes_unanchored}
 use Rattle.yq_nodes.proofs.SpanLaws.{inline_spans}
 use Rattle.yq_nodes.proofs.WrittenLaws.{node_then}
 use Rattle.yq_nodes.proofs.EditPlaces.{end_placed}
-use Rattle.yq_cut.specs.Exchange.{before_content, behind_row}
-use Rattle.yq_cut.specs.Grammar.{IsContent, AreDashes, IsMark, is_entry, is_more, IsCut}
-use Rattle.yq_cut.specs.Rows as rows
-use Rattle.yq_cut.specs.Rows.{Mark, Content, Nothing, Inline, Block, content_text, mark_text, dashes_text, Row, parent_indent, Cut, cut_text}
+use Rattle.yq_cut.specs.Exchange.{before_content, behind_row, with_content, allows_first}
+use Rattle.yq_cut.specs.Grammar.{IsContent, AreDashes, IsMark, is_entry, IsCut, unlimited, limit_after}
+use Rattle.yq_cut.specs.Rows.{Mark, Content, Inline, Block, mark_text, dashes_text, Row, parent_indent, Cut, cut_text}
 use Rattle.yq_cut.specs.View.{Slices, anchor_cut, content_cut, slices, rows_of}
 use Rattle.yq_cut.proofs.NodePieces.{BeginsAscii, tail_ascii, before_ascii, node_pieces}
 use Rattle.yq_cut.proofs.PlaceLaws.{place, row_in}
 use Rattle.yq_cut.proofs.EmptyTexts.{empty_is}
 use Rattle.yq_documents.specs.RowReading.{from_head}
-use Rattle.yq_places.specs.CommentReading.{before_tail, before_row}
-use Rattle.yq_places.specs.EntryReading.{before_line, head_end, head_extent}
-use Rattle.yq_places.proofs.CommentPieceLaws.{Ended, content_end}
-use Rattle.yq_places.proofs.CommentPieceLaws.{tail_place}
+use Rattle.yq_flow_scalars.specs.Piece.{deeper}
+use Rattle.yq_flow_scalars.specs.declared.style.Place.TheVariants as places
+use Rattle.yq_cut.specs.Rows as rows
+use Rattle.yq_places.specs.CommentReading.{before_tail}
+use Rattle.yq_places.specs.EntryReading.{before_line, head_extent}
+use Rattle.yq_places.proofs.CommentPieceLaws.{Ended, content_end, tail_place}
 use Rattle.yq_places.proofs.SeamLaws.{seam_boundary, ended_seam, ended_after, raw_end, last_ended, line_boundary}
 use Rattle.yq_places.proofs.StartLaws.{front_in}
 
@@ -43,20 +41,11 @@ anchor_core n start (placed a s c e f) = refl
 
 unnamed_core : (total : ℕ) (node : Node) (rest : List ℕ) → is_anchored node ≡ false → core_of (locate total node rest) ≡ total - length (node_text node [] ++ rest)
 unfolding locate
-unnamed_core total empty rest e = ap (λ (l : List ℕ). total - length l) (node_then empty rest)
-unnamed_core total (alias n) rest e = ap (λ (l : List ℕ). total - length l) (node_then (alias n) rest)
-unnamed_core total (scalar p) rest e = ap (λ (l : List ℕ). total - length l) (node_then (scalar p) rest)
-unnamed_core total (coll k g is) rest e = ap (λ (l : List ℕ). total - length l) (node_then (coll k g is) rest)
-unnamed_core total (anchored n g node) rest e = absurd (false≢true (sym e))
+unnamed_core total node rest h1 = search (rules, node_then, false≢true)
 
 node_core : (flow : Bool) (spaces : Option ℕ) (d total : ℕ) (node : Node) (rest : List ℕ) → IsNode flow spaces d node rest → core_of (locate total node rest) ≡ total - length ((anchor_cut node).2 ++ rest)
 unfolding locate IsNode node_text
-node_core flow spaces d total empty rest h = unnamed_core total empty rest refl
-node_core flow spaces d total (alias n) rest h = unnamed_core total (alias n) rest refl
-node_core flow spaces d total (scalar p) rest h = unnamed_core total (scalar p) rest refl
-node_core flow spaces d total (coll k g is) rest h = unnamed_core total (coll k g is) rest refl
-node_core flow spaces d total (anchored n g node) rest h =
-    anchor_core n (total - length (node_text (anchored n g node) rest)) (locate total node rest) ∙ unnamed_core total node rest (takes_unanchored node h.3)
+node_core flow spaces d total node rest h1 = search (rules, unnamed_core, anchor_core, takes_unanchored)
 
 core_span : (t : List ℕ) (p : Placed) → HasSpans t p → IsSpan t (core_of p) (end_of p)
 core_span t (placed a s c e f) h = h.1
@@ -64,18 +53,14 @@ core_span t (placed a s c e f) h = h.1
 -- where a row's inline node begins, with its anchor
 bare_front : (ns : List ℕ) (m : Mark) → is_entry m ≡ false → AreDashes ns m → dashes_text ns (mark_text m []) ≡ []
 bare_front [] rows.Bare e h = refl
-bare_front [] rows.Dash e h = absurd (false≢true (sym e))
-bare_front [] (rows.Key key colon) e h = absurd (false≢true (sym e))
 bare_front (n ∷ ns) m e h = absurd (false≢true (sym e ∙ h.1))
+bare_front [] x e h = absurd (false≢true (sym e))
 
 bare_space : (m : Mark) (space : List ℕ) (node : Node) (tail rest : List ℕ) → is_entry m ≡ false → IsMark m (Inline space node tail) rest → space ≡ []
-bare_space rows.Bare space node tail rest e h = empty_is space (and_parts (is_empty space) (is_more node) h).0
-bare_space rows.Dash space node tail rest e h = absurd (false≢true (sym e))
-bare_space (rows.Key key colon) space node tail rest e h = absurd (false≢true (sym e))
+bare_space m space node tail rest h1 h2 = search (rules, empty_is, and_parts, false≢true)
 
 pub mark_ascii : (style : BlockStyle) → mark_of style < 128
-mark_ascii styles.Literal = omega arith
-mark_ascii styles.Folded = omega arith
+mark_ascii style = search rules
 
 regroup : (a b c d e x : List ℕ) → (a ++ (b ++ (c ++ (d ++ e)))) ++ x ≡ (a ++ (b ++ (c ++ d))) ++ (e ++ x)
 regroup a b c d e x = simp append_assoc refl
@@ -99,26 +84,14 @@ module _ (c : Cut) (i : ℕ) (r : Row) (u : IsUtf8 (cut_text c)) (cut : IsCut (c
       let none : space ≡ [] = bare_space r.mark space node tail (behind_row i c) alone (subst (λ (x : Content). IsMark r.mark x (behind_row i c)) content row.mark) in
       let spaces : List ℕ = replicate r.column 32 in
       let same : length (before_line i 0 r c) ≡ length (before_content i c ++ space) =
-      omega (
-        arith,
-        front_in i c r is,
-        length-append (before_content i c) space,
-        ap length none,
-        length-append r.gap (spaces ++ dashes_text r.dashes (mark_text r.mark [])),
-        length-append spaces (dashes_text r.dashes (mark_text r.mark [])),
-        ap length (bare_front r.dashes r.mark alone row.dashes),
-        length-append (before_row i c) (r.gap ++ (spaces ++ [])),
-        length-append r.gap (spaces ++ []),
-        length-append spaces [],
-      ) in
+      omega (arith, front_in i c r is, length-append {A = ℕ}, ap length none, ap length (bare_front r.dashes r.mark alone row.dashes)) in
       subst (IsCharBoundary (cut_text c)) same (line_boundary c i 0 r u cut.parts is)
 
   pub node_spans : (space : List ℕ) (node : Node) (tail : List ℕ) → r.content ≡ Inline space node tail → HasSpans (cut_text c) (locate (length (cut_text c)) node (tail ++ behind_row i c))
   node_spans space node tail content =
       let before : List ℕ = before_content i c ++ space in
       let rest : List ℕ = tail ++ behind_row i c in
-      let whole : cut_text c ≡ before ++ node_text node rest =
-      place c i r is ∙ (ap (λ (x : Content). before_content i c ++ content_text x (behind_row i c)) content ∙ sym (append_assoc (before_content i c) space (node_text node rest))) in
+      let whole : cut_text c ≡ before ++ node_text node rest = cc (place c i r is, append_assoc (before_content i c) space (node_text node rest)) in
       let at : IsInlineAt places.Block (parent_indent r) 0 (length before) (cut_text c) (locate (length (cut_text c)) node rest) = record {
         node = node;
         rest = rest;
@@ -136,23 +109,10 @@ module _ (c : Cut) (i : ℕ) (r : Row) (u : IsUtf8 (cut_text c)) (cut : IsCut (c
   start_text = head_text c i r is
 
   start_ascii : BeginsAscii ((slices r).head ++ ((slices r).tail ++ ((slices r).raw ++ behind_row i c))) → IsCharBoundary (cut_text c) start
-  start_ascii h =
-      let before : List ℕ = before_content i c ++ ((slices r).space ++ ((slices r).anchor ++ (slices r).apart)) in
-      subst (λ (q : List ℕ). IsCharBoundary q (length before)) (sym start_text) (before_ascii before ((slices r).head ++ ((slices r).tail ++ ((slices r).raw ++ behind_row i c))) h)
+  start_ascii h = search (rules, start_text, before_ascii)
 
   tail_length : length (before_tail i r c) ≡ start + length (slices r).head
-  tail_length =
-      let s : Slices = slices r in
-      omega (
-        arith,
-        length-append (before_content i c) (s.space ++ (s.anchor ++ (s.apart ++ s.head))),
-        length-append s.space (s.anchor ++ (s.apart ++ s.head)),
-        length-append s.anchor (s.apart ++ s.head),
-        length-append s.apart s.head,
-        length-append (before_content i c) (s.space ++ (s.anchor ++ s.apart)),
-        length-append s.space (s.anchor ++ s.apart),
-        length-append s.anchor s.apart,
-      )
+  tail_length = search (rules, length-append)
 
   raw_boundary : IsCharBoundary (cut_text c) (start + length (slices r).head + length (slices r).tail + length (slices r).raw)
   raw_boundary =
@@ -161,8 +121,7 @@ module _ (c : Cut) (i : ℕ) (r : Row) (u : IsUtf8 (cut_text c)) (cut : IsCut (c
       let last : List ℕ = s.tail ++ (s.raw ++ []) in
       let ended : Ended last (behind_row i c) = last_ended s.tail s.raw (behind_row i c) (content_end (parent_indent r) r.content (behind_row i c) holds) (raw_end (parent_indent r) r.content (behind_row i c) holds) in
       let whole : cut_text c ≡ (before ++ last) ++ behind_row i c = tail_place c i r is ∙ grouped before s.tail s.raw (behind_row i c) in
-      let size : length (before ++ last) ≡ start + length s.head + length s.tail + length s.raw = omega (arith, tail_length, length-append before last, length-append s.tail (s.raw ++ []), length-append s.raw []) in
-      subst (IsCharBoundary (cut_text c)) size
+      subst (IsCharBoundary (cut_text c)) (omega (arith, tail_length, length-append before last, length-append s.tail (s.raw ++ []), length-append s.raw []))
       (subst (λ (q : List ℕ). IsCharBoundary q (length (before ++ last))) (sym whole) (seam_boundary (before ++ last) (behind_row i c) (subst IsUtf8 whole u) (ended_seam (before ++ last) (behind_row i c) (ended_after before last (behind_row i c) ended))))
 
   inline_span : (space : List ℕ) (node : Node) (tail : List ℕ) → r.content ≡ Inline space node tail → IsSpan (cut_text c) start (start + length (slices r).head)
@@ -189,15 +148,12 @@ module _ (c : Cut) (i : ℕ) (r : Row) (u : IsUtf8 (cut_text c)) (cut : IsCut (c
   head_span = go r.content refl
     where
       go : (x : Content) → r.content ≡ x → IsSpan (cut_text c) (head_extent i r c).0 (head_extent i r c).1
-      go (Nothing tail) content =
-          let there : IsCharBoundary (cut_text c) start =
-          start_ascii (subst (λ (x : Content). BeginsAscii ((content_cut x).3 ++ ((content_cut x).4 ++ ((content_cut x).5 ++ behind_row i c)))) (sym content) (tail_ascii tail (behind_row i c) (subst (λ (x : Content). IsContent (parent_indent r) x (behind_row i c)) content holds))) in
-          let none : start + length (slices r).head ≡ start = omega (arith, ap (λ (x : Content). length (content_cut x).3) content) in
-          subst (IsSpan (cut_text c) start) (sym (ap (head_end (start + length (slices r).head)) content ∙ none)) (record { ordered = omega arith; begins = there; ends = there })
-      go (Inline space node tail) content = subst (IsSpan (cut_text c) start) (sym (ap (head_end (start + length (slices r).head)) content)) (inline_span space node tail content)
-      go (Block space anchor block) content =
-          let there : IsCharBoundary (cut_text c) start =
-          start_ascii (subst (λ (x : Content). BeginsAscii ((content_cut x).3 ++ ((content_cut x).4 ++ ((content_cut x).5 ++ behind_row i c)))) (sym content) (mark_ascii block.style)) in
-          let finish : start + length (slices r).head + length (slices r).tail + length (slices r).raw ≡ head_end (start + length (slices r).head) r.content =
-          omega (arith, ap (λ (x : Content). length (content_cut x).4) content, ap (λ (x : Content). length (content_cut x).5) content, ap (head_end (start + length (slices r).head)) content) in
-          subst (IsSpan (cut_text c) start) finish (record { ordered = omega arith; begins = there; ends = raw_boundary })
+      go x h1 = search (rules, start_ascii, tail_ascii, holds, inline_span, mark_ascii, raw_boundary)
+
+-- ---- rows that may follow a row with another inline node
+
+pub free_first : (rs : List Row) → allows_first unlimited rs ≡ true
+free_first rs = search rules
+
+pub may_follow : (r : Row) (space : List ℕ) (new : Node) (tail : List ℕ) (rs : List Row) → allows_first (record { column = Some (deeper (parent_indent r)) }) rs ≡ true → allows_first (limit_after (with_content (Inline space new tail) r)) rs ≡ true
+may_follow r space new tail rs h = search rules

@@ -1,5 +1,5 @@
 -- The steps before those that go on in the head of a line lead to it, whichever steps go on there.
-use Rattle.std.proofs.Common.{◌≡◌, ℕ, cond, List, [], ◌∷◌, ◌++◌, Option, Some, None, option_map, refl, sym, ap, ◌∙◌, subst}
+use Rattle.std.proofs.Common.{◌≡◌, ℕ, List, [], ◌∷◌, ◌++◌, Option, Some, None, option_map, refl, sym, ap, ◌∙◌, subst, rules}
 use Rattle.std.proofs.lemmas.Option.{none-some, same_Some}
 use Rattle.std.specs.Prelude.{option_and_then}
 use Rattle.yq_flow_scalars.specs.Answers.{◌>>=◌}
@@ -7,8 +7,7 @@ use Rattle.yq_flow_scalars.specs.Paths.{Step}
 use Rattle.yq_flow_scalars.specs.Tree.{Node}
 use Rattle.yq_lines.specs.Group.{group}
 use Rattle.yq_lines.specs.Outline.{Mark, Bare, Key, Dash, Line, Outline, end, row}
-use Rattle.yq_lines.specs.Places.{Context, here, below, beside, compose, FoundLine, bare_or, find, find_row, in_head, inside}
-use Rattle.yq_lines.specs.Positions.{is_bare}
+use Rattle.yq_lines.specs.Places.{Context, here, below, beside, compose, FoundLine, bare_or, find_row, in_head, inside}
 use Rattle.yq_places.specs.FlowNodes.{bare_line, find_head, head_line}
 use Rattle.yq_places.specs.NodeReading.{head_at}
 use Rattle.yq_places.proofs.FlowViewLaws.{head_found, numbered}
@@ -34,13 +33,10 @@ head_inside f (g, s ∷ ss) = refl
 head_inside f (g, []) = go g.line.head (bare_line g.under)
   where
     go : (h : Option Node) (o : Option FoundLine) → in_head h (Some (inside f g, [])) (option_map {U = Reached} (λ b. (inside (inside f g) b, [])) o) ≡ option_map (within f) (in_head h (Some (g, [])) (option_map {U = Reached} (λ b. (inside g b, [])) o))
-    go (Some n) o = refl
-    go None None = refl
-    go None (Some b) = ap (λ (y : FoundLine). Some (y, [])) (inside_twice f g b)
+    go h o = search (rules, inside_twice)
 
 all_inside : (f : FoundLine) (r : Option Reached) → (option_map {U = Reached} (λ x. (inside f x.0, x.1)) r >>= λ x. head_line x.0 x.1) ≡ option_map (within f) (r >>= λ x. head_line x.0 x.1)
-all_inside f None = refl
-all_inside f (Some x) = head_inside f x
+all_inside f r = search (rules, head_inside)
 
 -- ---- one step
 
@@ -53,33 +49,7 @@ abbrev on_from : List Step → FoundLine → Option Reached
 on_from rest f = in_head f.line.head (Some (f, rest)) (option_map (within f) (find_head rest f.under))
 
 head_in_row : (s : Step) (rest : List Step) (l : Line) (u a : Outline) → find_head (s ∷ rest) (row l u a) ≡ bare_or l.mark (Some (first l u a, s ∷ rest)) (option_and_then (on_from rest) (find_row s (row l u a)))
-head_in_row s [] l u a = go l.mark (find_row s (row l u a))
-  where
-    own : (f : FoundLine) (h : Option Node) (o : Option FoundLine) → in_head h (Some (f, [])) (option_map {U = Reached} (λ g. (inside f g, [])) o) ≡ in_head h (Some (f, [])) (option_map (within f) (option_map {U = Reached} (λ g. (g, [])) o))
-    own f (Some n) o = refl
-    own f None None = refl
-    own f None (Some g) = refl
-
-    go : (m : Mark) (r : Option FoundLine) → (bare_or m (Some (first l u a, s ∷ [])) (option_map {U = Reached} (λ f. (f, [])) r) >>= λ x. head_line x.0 x.1) ≡ bare_or m (Some (first l u a, s ∷ [])) (option_and_then (on_from []) r)
-    go Bare r = refl
-    go (Key k) None = refl
-    go (Key k) (Some f) = own f f.line.head (bare_line f.under)
-    go Dash None = refl
-    go Dash (Some f) = own f f.line.head (bare_line f.under)
-head_in_row s (t ∷ ts) l u a = go l.mark (find_row s (row l u a))
-  where
-    own : (f : FoundLine) (h : Option Node) (r : Option Reached) → (in_head h (Some (f, t ∷ ts)) (option_map {U = Reached} (λ x. (inside f x.0, x.1)) r) >>= λ x. head_line x.0 x.1) ≡ in_head h (Some (f, t ∷ ts)) (option_map (within f) (r >>= λ x. head_line x.0 x.1))
-    own f (Some n) r = refl
-    own f None r = all_inside f r
-
-    go : (m : Mark) (r : Option FoundLine) →
-        (bare_or m (Some (first l u a, s ∷ (t ∷ ts))) (option_and_then (λ f. in_head f.line.head (Some (f, t ∷ ts)) (option_map {U = Reached} (λ x. (inside f x.0, x.1)) (find t ts f.under))) r) >>= λ x. head_line x.0 x.1) ≡
-        bare_or m (Some (first l u a, s ∷ (t ∷ ts))) (option_and_then (on_from (t ∷ ts)) r)
-    go Bare r = refl
-    go (Key k) None = refl
-    go (Key k) (Some f) = own f f.line.head (find t ts f.under)
-    go Dash None = refl
-    go Dash (Some f) = own f f.line.head (find t ts f.under)
+head_in_row s rest l u a = search (rules, all_inside)
 
 -- ---- the steps before those that go on
 
@@ -94,21 +64,10 @@ abbrev Stems : List Step → Type 0
 Stems ss = (o : Outline) (x : Reached) → find_head ss o ≡ Some x → HasStem ss o x
 
 first_leads : (o : Outline) (f : FoundLine) → bare_line o ≡ Some f → (left : List Step) → find_head left o ≡ Some (f, left)
-first_leads end f e left = absurd (none-some _ e)
-first_leads (row l u a) f e [] = ap (option_map {U = Reached} (λ g. (g, []))) e
-first_leads (row l u a) f e (s ∷ ss) = head_in_row s ss l u a ∙ go l.mark e
-  where
-    go : (m : Mark) → cond (is_bare m) (Some (first l u a)) None ≡ Some f → bare_or m (Some (first l u a, s ∷ ss)) (option_and_then (on_from ss) (find_row s (row l u a))) ≡ Some (f, s ∷ ss)
-    go Bare e = ap (option_map {U = Reached} (λ g. (g, s ∷ ss))) e
-    go (Key k) e = absurd (none-some _ e)
-    go Dash e = absurd (none-some _ e)
+first_leads o f h1 left = search (rules, none-some, head_in_row)
 
 pub stem_found : (steps : List Step) (o : Outline) (y : FoundLine × List Step) → find_head steps o ≡ Some y → HasStem steps o y
-stem_found [] o y e = go (bare_line o) refl e
-  where
-    go : (r : Option FoundLine) → bare_line o ≡ r → option_map {U = Reached} (λ f. (f, [])) r ≡ Some y → HasStem [] o y
-    go None is e = absurd (none-some _ e)
-    go (Some f) is e = subst (HasStem [] o) (same_Some _ _ e) (record { stem = []; steps_are = refl; leads = first_leads o f is })
+stem_found [] o y e = search rules
 stem_found (s ∷ ss) end y e = absurd (none-some _ e)
 stem_found (s ∷ ss) (row l u a) y e = go l.mark refl (find_row s (row l u a)) refl (λ o x is. stem_found ss o x is) (sym (head_in_row s ss l u a) ∙ e)
   where
@@ -134,11 +93,7 @@ stem_found (s ∷ ss) (row l u a) y e = go l.mark refl (find_row s (row l u a)) 
     entry f all None is again e = under f all is (find_head ss f.under) refl again e
 
     go : (m : Mark) → l.mark ≡ m → (r : Option FoundLine) → find_row s (row l u a) ≡ r → Stems ss → bare_or m (Some (first l u a, s ∷ ss)) (option_and_then (on_from ss) r) ≡ Some y → HasStem (s ∷ ss) (row l u a) y
-    go Bare is r found again e = subst (HasStem (s ∷ ss) (row l u a)) (same_Some _ _ e) (record {
-      stem = [];
-      steps_are = refl;
-      leads = first_leads (row l u a) (first l u a) (ap (λ (m : Mark). cond (is_bare m) (Some (first l u a)) None) is);
-    })
+    go Bare is r found again e = search (rules, same_Some, first_leads)
     go (Key k) is None found again e = absurd (none-some _ e)
     go (Key k) is (Some f) found again e =
         entry f (λ rest. head_in_row s rest l u a ∙ λ i. bare_or (is i) (Some (first l u a, s ∷ rest)) (option_and_then (on_from rest) (found i))) f.line.head refl again e

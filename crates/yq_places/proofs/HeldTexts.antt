@@ -22,7 +22,7 @@ use Rattle.yq_places.specs.RowPieces.{anchor_before, space_before}
 use Rattle.yq_places.specs.Standings.{Held, RowsOfEntry, before_entry, behind_entry, held}
 use Rattle.yq_places.specs.StandingReading.{AreRowsOf}
 use Rattle.yq_places.proofs.EntryRowLaws.{head_ends, line_boundary_at, line_cut, pieces_at, stop_boundary, stop_is, through_is}
-use Rattle.yq_row_lines.proofs.ToDashes.{last_is, to_dash}
+use Rattle.yq_row_lines.proofs.WalkLevels.{last_is, to_dash}
 
 -- the column behind dashes
 columns : (c : ℕ) (ns : List ℕ) → behind_columns c ns ≡ c + length (dashes_text ns [])

@@ -1,5 +1,5 @@
 -- Items stay known in a text that keeps what is in front.
-use Rattle.std.proofs.Common.{◌≡◌, ℕ, zero, suc, ◌+◌, ◌-◌, ◌<◌, ◌≤◌, ltb, cond, Bool, true, false, List, [], ◌∷◌, ◌++◌, length, take, Option, Some, None, refl, sym, ap, ◌∙◌, subst, arith, ltb-false}
+use Rattle.std.proofs.Common.{◌≡◌, ℕ, zero, suc, ◌+◌, ◌-◌, ◌<◌, ◌≤◌, ltb, cond, Bool, List, [], ◌∷◌, ◌++◌, length, take, Option, Some, None, refl, ap, ◌∙◌, subst, arith, ltb-false, rules}
 use Rattle.std.proofs.lemmas.List.{take-append-le}
 use Rattle.std.proofs.lemmas.Option.{same_Some}
 use Rattle.std.specs.List.{slice_get, sum_by}
@@ -14,7 +14,7 @@ use Rattle.yq_cut.specs.View.{Slices, slices, RowsView, rows_view}
 use Rattle.yq_cut.specs.declared.offsets.Offsets as declared
 use Rattle.yq_cut.proofs.ItemLaws.{items_view_is}
 use Rattle.yq_cut.proofs.NearLaws.{near_at}
-use Rattle.yq_row_lines.specs.RowWalk.{ArePassed, IsKnown}
+use Rattle.yq_row_lines.specs.RowWalk.{IsKnown}
 use Rattle.yq_places.specs.RowWalk.{StaysKnown}
 use Rattle.yq_row_lines.specs.declared.line_position.KnownItem.{KnownItem}
 use Rattle.yq_row_lines.proofs.KnownLaws.{one_there}
@@ -35,16 +35,14 @@ rows_in_front (row_item r ∷ xs) m n (suc i) o e less = go (ltb own n) refl (ro
     own = length (item_text (row_item r))
 
     go : (b : Bool) → ltb own n ≡ b → (o.start < (m + own) + (n - own) → i ≤ length (rows_in_items (in_front (n - own) xs))) → suc i ≤ length (rows_in_items (cond b (row_item r ∷ in_front (n - own) xs) []))
-    go true t f = omega (arith, f (omega (arith, less)))
-    go false t f = absurd (omega (arith, ltb-false own n t, begins_behind xs (m + own) i o e, less))
+    go b h1 h2 = search (rules, ltb-false, begins_behind)
 rows_in_front (end_item gap marker ∷ xs) m n i o e less = go (ltb own n) refl (rows_in_front xs (m + own) (n - own) i o e)
   where
     own : ℕ
     own = length (item_text (end_item gap marker))
 
     go : (b : Bool) → ltb own n ≡ b → (o.start < (m + own) + (n - own) → i ≤ length (rows_in_items (in_front (n - own) xs))) → i ≤ length (rows_in_items (cond b (end_item gap marker ∷ in_front (n - own) xs) []))
-    go true t f = f (omega (arith, less))
-    go false t f = absurd (omega (arith, ltb-false own n t, begins_behind xs (m + own) i o e, less))
+    go b h1 h2 = search (rules, ltb-false, begins_behind)
 
 rows_joined : (xs ys : List Item) → rows_in_items (xs ++ ys) ≡ rows_in_items xs ++ rows_in_items ys
 rows_joined [] ys = refl
@@ -53,10 +51,7 @@ rows_joined (end_item gap marker ∷ xs) ys = rows_joined xs ys
 
 -- the first rows of a cut whose items begin with others
 first_rows : (c : Cut) (front rest : List Item) (i : ℕ) → items_of c ≡ front ++ rest → i ≤ length (rows_in_items front) → take i (rows_view c).rows ≡ take i (rows_in_items front)
-first_rows c front rest i are within =
-    ap (λ (x : RowsView). take i x.rows) (sym (items_view_is c))
-    ∙ (ap (λ (xs : List Item). take i (rows_in_items xs)) are
-    ∙ (ap (take i) (rows_joined front rest) ∙ take-append-le i (rows_in_items front) (rows_in_items rest) within))
+first_rows c front rest i are within = cc (items_view_is c, rows_joined front rest, take-append-le i (rows_in_items front) (rows_in_items rest) within)
 
 -- where a row begins
 none_before : (i : ℕ) → 0 + i ≡ i
@@ -73,8 +68,7 @@ stays_known c k front known within before new back touched =
     let start : 0 + (sum_by row_length (take k.row (rows_in_items (items_of c))) + sum_by (passed_length (0 + k.row)) (bounds_in_items 0 (items_of c))) ≡ row_start k.row (rows_view c) = begins_at (items_of c) k.row ∙ ap (row_start k.row) (items_view_is c) in
     let first : k.row ≤ length (rows_in_items (in_front front (items_of c))) = rows_in_front (items_of c) 0 front k.row _ n (omega (arith, before, start)) in
     let old = first_rows c (in_front front (items_of c)) _ k.row touched.old_are first in
-    let now = first_rows new (in_front front (items_of c)) _ k.row touched.new_are first in
-    subst (λ (xs : List Slices). ArePassed xs k) (old ∙ sym now) known
+    search (rules, first_rows, first, old)
 
 pub view_stays : (s : RowsView) (k : KnownItem) (front : ℕ) → IsKnown s.rows k → k.row < length s.rows → row_start k.row s < front → (c : Cut) → s ≡ rows_view c → StaysKnown front c k
 view_stays s k front known within before c is =

@@ -1,5 +1,5 @@
 -- The break that ends a text, and what stands behind the last line of a content.
-use Rattle.std.proofs.Common.{◌≡◌, ◌⊎◌, inl, inr, ℕ, Bool, true, false, ◌&&◌, cond, List, [], ◌∷◌, ◌++◌, length, drop, refl, ap, ◌∙◌}
+use Rattle.std.proofs.Common.{◌≡◌, ◌⊎◌, ℕ, true, false, cond, List, [], ◌∷◌, ◌++◌, length, drop, refl, ap, ◌∙◌, rules}
 use Rattle.std.proofs.lemmas.Bool.{eqb-true}
 use Rattle.yq_block_scalars.specs.Block.{AreRaw}
 use Rattle.yq_flow_scalars.specs.Text.{is_empty, is_feed, is_return, is_line, joined}
@@ -19,11 +19,7 @@ return_no_feed b e = ap is_feed (eqb-true b 13 e)
 last_behind : (f : List ℕ) → is_line (last_break (f ++ (10 ∷ []))) ≡ true
 unfolding less_break is_line
 last_behind [] = refl
-last_behind (b ∷ []) = go (is_return b) refl
-  where
-    go : (r : Bool) → is_return b ≡ r → is_line (drop (length (cond (r && true) [] (b ∷ []))) (b ∷ (10 ∷ []))) ≡ true
-    go true e = ap (λ x. cond x false true) (return_no_feed b e)
-    go false e = refl
+last_behind (b ∷ []) = search rules
 last_behind (b ∷ (d ∷ [])) = last_behind (d ∷ [])
 last_behind (b ∷ (d ∷ (e ∷ f))) = last_behind (d ∷ (e ∷ f))
 
@@ -38,19 +34,12 @@ pub raw_last : (f : TextIndent) (raw : List (List ℕ)) (tail : List ℕ) → Ar
 raw_last f raw tail h t = go (joined raw) (raw_lf f raw h)
   where
     go : (l : List ℕ) → (l ≡ []) ⊎ IsLf l → is_line (cond (is_empty l) (last_break tail) (last_break l)) ≡ true
-    go [] e = line_last tail t
-    go (b ∷ bs) (inl e) = absurd (cc)
-    go (b ∷ bs) (inr e) = lf_last (b ∷ bs) e
+    go l h1 = search (rules, line_last, lf_last)
 
 -- where no LF is in a text, no break ends it
 pub no_last : (t : List ℕ) → HasNoFeed t → last_break t ≡ []
 unfolding less_break
 no_last [] h = refl
 no_last (b ∷ []) h = ap (λ c. drop (length (cond c [] (b ∷ []))) (b ∷ [])) h.0
-no_last (b ∷ (d ∷ [])) h = go (is_return b) (is_feed d) h.1.0 (no_last (d ∷ []) h.1)
-  where
-    go : (r f : Bool) → f ≡ false → last_break (d ∷ []) ≡ [] → drop (length (cond (r && f) [] (b ∷ less_break (d ∷ [])))) (b ∷ (d ∷ [])) ≡ []
-    go true false e k = k
-    go false false e k = k
-    go r true e k = absurd (cc)
+no_last (b ∷ (d ∷ [])) h = search rules
 no_last (b ∷ (d ∷ (e ∷ t))) h = no_last (d ∷ (e ∷ t)) h.1

@@ -1,5 +1,5 @@
 -- The end of a line, by its white space, its comment and its break.
-use Rattle.std.proofs.Common.{◌≡◌, ◌⊎◌, inl, inr, ℕ, ◌<◌, ℤ, true, false, ◌&&◌, ◌||◌, not, List, [], ◌∷◌, ◌++◌, length, refl, sym, ap, ◌∙◌, subst, arith, append_assoc, append-nil, ⊎_elim}
+use Rattle.std.proofs.Common.{◌≡◌, ◌⊎◌, inl, ℕ, ◌<◌, ℤ, true, false, ◌&&◌, ◌||◌, List, [], ◌∷◌, ◌++◌, length, refl, sym, ap, ◌∙◌, subst, arith, append_assoc, append-nil, ⊎_elim, rules}
 use Rattle.std.proofs.lemmas.Bool.{false≢true, or_cases, and_parts}
 use Rattle.yq_block_scalars.specs.Block.{is_tail}
 use Rattle.yq_flow_scalars.specs.Lines.{is_blank, is_hash}
@@ -8,7 +8,7 @@ use Rattle.yq_flow_scalars.specs.Text.{front, is_white, is_feed, is_return, is_b
 use Rattle.yq_flow_scalars.proofs.Upto.{upto_ends, none_in_cut, cut-append, cut_takes}
 use Rattle.yq_cut.specs.Gap.{IsWhite, IsBreak, IsComment}
 use Rattle.yq_cut.specs.Grammar.{IsTail, IsContent}
-use Rattle.yq_cut.specs.Rows.{Content, Nothing, Inline, Block}
+use Rattle.yq_cut.specs.Rows.{Content}
 use Rattle.yq_cut.specs.View.{content_cut}
 use Rattle.yq_cut.proofs.LineEnds.{white_cut, white_again, white_none, text_line, behind_comment, comment_none}
 use Rattle.yq_places.specs.CommentPlaces.{LineEnd, end_before}
@@ -24,12 +24,10 @@ none_more [] break more some h = tt
 none_more (b ∷ c) break more some h = (ap (λ x. is_feed b || (is_return b && x)) (front_more is_feed c break more some) ∙ h.0, none_more c break more some h.1)
 
 some_break : (break : List ℕ) → (is_break break && is_line break) ≡ true → 0 < length break
-some_break [] h = absurd (false≢true h)
-some_break (b ∷ break) h = omega arith
+some_break break h1 = search (rules, false≢true)
 
 pub comment_more : (c break more : List ℕ) → IsComment c break → IsBreak break more → NoneIn ends_line c (break ++ more)
-comment_more c break more h (inl e) = none_more c break more (some_break break e) (comment_none c break h)
-comment_more c break more h (inr e) = subst (NoneIn ends_line c) (sym (ap (λ x. break ++ x) e.1 ∙ append-nil break)) (comment_none c break h)
+comment_more c break more h1 h2 = search (rules, none_more, some_break, comment_none, append-nil)
 
 -- the end of a line that a tail is
 abbrev pub end_of_tail : (before tail more : List ℕ) → IsTail tail more → LineEnd
@@ -41,28 +39,20 @@ tail_is_end before tail more h =
     let whole : tail ++ more ≡ h.white ++ (h.comment ++ rest) = ap (λ x. x ++ more) h.line.spelled ∙ (append_assoc h.white (h.comment ++ h.line.break) more ∙ ap (λ x. h.white ++ x) (append_assoc h.comment h.line.break more)) in
     let white : text.cut no_white (h.white ++ (h.comment ++ rest)) ≡ (h.white, h.comment ++ rest) = white_again h.white (h.comment ++ rest) h.line.blank (behind_comment h.comment h.line.break more h.line.as_comment h.line.ends).0 in
     let break : ends_line rest ≡ true = (behind_comment [] h.line.break more tt h.line.ends).2 in
-    let line : text.cut ends_line (h.comment ++ rest) ≡ (h.comment, rest) = cut-append ends_line h.comment rest (comment_more h.comment h.line.break more h.line.as_comment h.line.ends) break in
-    ap (end_before before) whole
-    ∙ (ap (λ (x : List ℕ × List ℕ). let l = text.cut ends_line x.1 in record { before = before; white = x.0; comment = l.0; behind = l.1 }) white
-    ∙ ap (λ (l : List ℕ × List ℕ). record { before = before; white = h.white; comment = l.0; behind = l.1 }) line)
+    search (rules, cut-append, comment_more, rest, whole, white, break)
 
 -- the rest of a header's line is a tail
 line_some : (p : List ℕ) → ends_line p ≡ true → is_line p ≡ true → (is_break p && is_line p) ≡ true
 unfolding is_line
-line_some [] e h = absurd (false≢true h)
-line_some (b ∷ bs) e h = rw (e, h) refl
+line_some p h1 h2 = search (rules, false≢true)
 
 hash_comment : (p : List ℕ) → is_hash p ≡ true → IsComment (text.cut ends_line p).0 (text.cut ends_line p).1 × (is_empty (text.cut ends_line p).0 ≡ false)
 unfolding text.upto
-hash_comment [] h = absurd (false≢true h)
-hash_comment (b ∷ bs) h =
-    let is : b ≡ 35 = Rattle.std.proofs.Common.eqb-true b 35 h in
-    subst (λ (x : ℕ). IsComment (text.cut ends_line (x ∷ bs)).0 (text.cut ends_line (x ∷ bs)).1 × (is_empty (text.cut ends_line (x ∷ bs)).0 ≡ false)) (sym is) ((refl, none_in_cut ends_line bs), refl)
+hash_comment p h1 = search (rules, false≢true, none_in_cut)
 
 white_some : (tail : List ℕ) → front is_white tail ≡ true → is_empty (text.cut no_white tail).0 ≡ false
 unfolding text.upto
-white_some [] h = absurd (false≢true h)
-white_some (b ∷ bs) h = rw h refl
+white_some tail h1 = search (rules, false≢true)
 
 pub header_tail : (tail more : List ℕ) → is_tail tail ≡ true → IsTail tail more
 header_tail tail more h =
@@ -98,6 +88,4 @@ header_tail tail more h =
 
 -- the tail behind what is written on the line of a content
 pub line_tail : (n : ℤ) (x : Content) (rest : List ℕ) → IsContent n x rest → IsTail (content_cut x).4 ((content_cut x).5 ++ rest)
-line_tail n (Nothing tail) rest h = h
-line_tail n (Inline space node tail) rest h = h.2
-line_tail n (Block space anchor block) rest h = header_tail block.tail _ h.2.tail
+line_tail n x rest h1 = search (rules, header_tail)

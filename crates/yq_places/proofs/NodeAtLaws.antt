@@ -25,8 +25,7 @@ use Rattle.yq_lines.specs.Group.{group}
 use Rattle.yq_lines.specs.Outline.{Mark, Bare, Key, Dash, Line, level, Outline, end, row, key_of, children, value}
 use Rattle.yq_lines.specs.Places.{lines_before, FoundLine, find}
 use Rattle.yq_lines.specs.Positions.{is_bare, begins_with_node}
-use Rattle.yq_lines.proofs.EndsLaws.{deeper_line, not_end}
-use Rattle.yq_lines.proofs.Parts.{row_parts}
+use Rattle.yq_lines.proofs.EndsLaws.{deeper_line, not_end, row_parts}
 use Rattle.yq_lines.proofs.PlaceLaws.{at}
 use Rattle.yq_cut.specs.Rows.{Row, Part, Cut}
 use Rattle.yq_cut.specs.View.{RowsView}

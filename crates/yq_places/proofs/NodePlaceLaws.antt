@@ -14,7 +14,7 @@ use Rattle.yq_lines.specs.Places.{lines_before, FoundLine, content, find}
 use Rattle.yq_lines.specs.Positions.{is_bare, begins_with_node}
 use Rattle.yq_lines.proofs.Decides.{even_from}
 use Rattle.yq_lines.proofs.Finding.{FoundNode, node-anchored, path_node}
-use Rattle.yq_lines.proofs.LinesLaws.{part-all}
+use Rattle.yq_lines.proofs.NameLaws.{part-all}
 use Rattle.yq_places.specs.NodesAt.{node_summary}
 use Rattle.yq_places.specs.NodeReading.{NodePlace, at_head, at_lines, line_place, with_line, node_place, summary_in_head, summary_in_line, line_or, place_node, said_at}
 use Rattle.yq_row_lines.specs.RowWalk.{lines_stop}

@@ -1,5 +1,5 @@
 -- Contents begin in their entries.
-use Rattle.std.proofs.Common.{◌≡◌, ℕ, List, [], ◌∷◌, ◌++◌, map, Option, Some, None, is_some, option_map, Bool, true, false, cond, sym, ap, ◌∙◌, append_assoc, append-nil}
+use Rattle.std.proofs.Common.{◌≡◌, ℕ, List, [], ◌∷◌, ◌++◌, map, Option, Some, None, is_some, option_map, Bool, true, false, cond, sym, ap, ◌∙◌, append_assoc, append-nil, rules}
 use Rattle.std.proofs.lemmas.Option.{none-some, same_Some}
 use Rattle.yq_flow_scalars.specs.Answers.{◌>>=◌}
 use Rattle.yq_flow_scalars.specs.Paths.{Step}
@@ -62,8 +62,7 @@ item_begins (Some y) e x h k =
     (f.0, f.1 ∙ ap (λ (p : TextPiece). p.before ++ f.0) (same_Some _ _ h))
 
 head_item_begins : (ss : List Step) (o : Option FlowEntry) (e x : TextPiece) → (o >>= λ y. option_map flow_piece (flow_at ss y)) ≡ Some e → (o >>= λ y. flow_at ss y >>= flow_content) ≡ Some x → From e.before x
-head_item_begins ss None e x h k = absurd (none-some _ h)
-head_item_begins ss (Some y) e x h k = item_begins (flow_at ss y) e x h k
+head_item_begins ss o e x h1 h2 = search (rules, none-some, item_begins)
 
 part_begins : (ss : List Step) (o : Option BlockEntry) (e x : TextPiece) → (o >>= piece_in_entry parts.Entry ss) ≡ Some e → (o >>= piece_in_entry parts.Content ss) ≡ Some x → From e.before x
 part_begins ss None e x h k = absurd (none-some _ h)
@@ -72,8 +71,7 @@ part_begins (t ∷ ts) (Some y) e x h k = head_item_begins (t ∷ ts) (line_inli
 
 found_begins : (s : PrintedDocument) (o : Option (FoundLine × List Step)) (e x : TextPiece) → (o >>= λ f. found_entry s f.0 >>= piece_in_entry parts.Entry f.1) ≡ Some e →
     (o >>= λ f. found_entry s f.0 >>= piece_in_entry parts.Content f.1) ≡ Some x → From e.before x
-found_begins s None e x h k = absurd (none-some _ h)
-found_begins s (Some f) e x h k = part_begins f.1 (found_entry s f.0) e x h k
+found_begins s o e x h1 h2 = search (rules, none-some, part_begins)
 
 document_begins : (steps : List Step) (o : Option PrintedDocument) (e x : TextPiece) → (o >>= piece_in parts.Entry steps) ≡ Some e → (o >>= piece_in parts.Content steps) ≡ Some x → From e.before x
 document_begins steps None e x h k = absurd (none-some _ h)

@@ -1,32 +1,30 @@
 -- For which nodes there are pieces.
-use Rattle.std.proofs.Common.{◌≡◌, ℕ, List, [], ◌∷◌, ◌++◌, map, Option, Some, None, is_some, option_map, option_and_then, Bool, true, false, cond, not, ◌&&◌, ◌||◌, refl, sym, ap, ◌∙◌, subst}
+use Rattle.std.proofs.Common.{◌≡◌, ℕ, List, [], ◌∷◌, ◌++◌, map, Option, Some, None, is_some, option_map, option_and_then, Bool, true, false, cond, not, ◌&&◌, ◌||◌, refl, sym, ap, ◌∙◌, subst, rules}
 use Rattle.std.proofs.lemmas.Bool.{or_parts}
 use Rattle.std.proofs.lemmas.Option.{slice_get-map, none-some, same_Some}
-use Rattle.std.specs.List.{slice_get}
 use Rattle.std.specs.Str.{is_utf8}
 use Rattle.yq_flow_scalars.specs.Answers.{◌>>=◌}
 use Rattle.yq_flow_scalars.specs.Paths.{Step, node_at}
 use Rattle.yq_flow_scalars.specs.Tree as tree
 use Rattle.yq_flow_scalars.proofs.Bools.{guard_then}
-use Rattle.yq_nodes.specs.Nodes.{Node, empty, alias, scalar, coll, anchored}
-use Rattle.yq_cut.specs.Rows.{Content, Nothing, Inline, Block, Cut}
+use Rattle.yq_nodes.specs.Nodes.{Node, empty, anchored}
+use Rattle.yq_cut.specs.Rows.{Content, Cut}
 use Rattle.yq_documents.specs.declared.path.Path.{Path}
 use Rattle.yq_documents.specs.declared.path.Part.TheVariants as parts
 use Rattle.yq_documents.specs.Documents.{document_parts}
 use Rattle.yq_lines.specs.Group.{group, level_or, is_fine}
-use Rattle.yq_row_lines.specs.Lines.{head_of, lines_of}
+use Rattle.yq_row_lines.specs.Lines.{head_of}
 use Rattle.yq_nodes.specs.Trees.{tree_of, with_name, node_head}
 use Rattle.yq_documents.specs.Located.{steps_of, located}
 use Rattle.yq_lines.specs.Outline as outlines
-use Rattle.yq_lines.specs.Outline.{Mark, Line, Outline, end, row, flatten, IsEven, IsWhole, head_or, value}
+use Rattle.yq_lines.specs.Outline.{Mark, Outline, end, row, flatten, IsEven, IsWhole, value}
 use Rattle.yq_lines.specs.Places.{FoundLine, find, content}
 use Rattle.yq_documents.specs.Reading.{document_of, read_at}
 use Rattle.yq_lines.specs.Positions.{is_bare}
 use Rattle.yq_documents.proofs.PartRows.{each}
 use Rattle.yq_lines.proofs.Decides.{flatten-group, even_from}
 use Rattle.yq_lines.specs.Labelled.{labelled_from}
-use Rattle.yq_lines.proofs.LabelledLaws.{labelled_path}
-use Rattle.yq_lines.proofs.Finding.{entry_of, FoundNode, path_node}
+use Rattle.yq_lines.proofs.Finding.{FoundNode, entry_of, labelled_path, path_node}
 use Rattle.yq_lines.proofs.PlaceLaws.{at}
 use Rattle.yq_places.proofs.ReadLaws.{cut_is, text_takes}
 use Rattle.yq_places.proofs.RowPathLaws.{found_place, document_fine}
@@ -40,23 +38,15 @@ use Rattle.yq_places.proofs.FoundEntries.{IsFound, entry_there, entry_found}
 use Rattle.yq_places.proofs.FlowPieces.{flow_label, line_labels, head_there, head_item_at}
 
 node_some : (before : List ℕ) (node : Node) (rest : List ℕ) → is_some (node_piece before node rest) ≡ is_some (node_head node)
-node_some before empty rest = refl
-node_some before (alias n) rest = refl
-node_some before (scalar p) rest = refl
-node_some before (coll k g is) rest = refl
 node_some before (anchored n g node) rest = node_some (before ++ 38 ∷ (n ++ g)) node rest
+node_some before x rest = refl
 
 head_some : (before : List ℕ) (c : Content) (rest : List ℕ) → is_some (head_piece before c rest) ≡ is_some (head_of c)
-head_some before (Nothing tail) rest = refl
-head_some before (Inline space node tail) rest = node_some (before ++ space) node (tail ++ rest)
-head_some before (Block space anchor block) rest = refl
+head_some before c rest = search (rules, node_some)
 
 -- a node on a line of its own has a head
 whole_head : (m : Mark) (h : Option tree.Node) (a : Outline) → is_bare m ≡ true → IsWhole m h a → is_some h ≡ true
-whole_head outlines.Bare None a t w = absurd w
-whole_head outlines.Bare (Some n) a t w = refl
-whole_head (outlines.Key k) h a t w = cc
-whole_head outlines.Dash h a t w = cc
+whole_head m h a h1 h2 = search rules
 
 block_some : (before : List ℕ) (ls : List PrintedLine) (rest : List ℕ) (o : Outline) (m : ℕ) → ArePrinted ls rest → map line_in ls ≡ flatten o → IsEven m o → is_some (lines_piece before ls rest) ≡ some_lines ls
 block_some before [] rest o m as_printed lines even = refl
@@ -67,10 +57,7 @@ block_some before (l ∷ ls) rest (row k u a) m as_printed lines even = go (is_b
     first = cc
 
     go : (b : Bool) → is_bare l.line.mark ≡ b → is_some (cond b (head_piece (before ++ (line_front l ++ l.mark)) l.content (print_lines ls rest)) (Some (run_piece before l ls rest))) ≡ true
-    go true t =
-        head_some (before ++ (line_front l ++ l.mark)) l.content (print_lines ls rest)
-        ∙ (ap is_some (sym as_printed.0.head ∙ ap (λ (x : Line). x.head) first) ∙ whole_head k.mark k.head a (ap (λ (x : Line). is_bare x.mark) (sym first) ∙ t) even.2)
-    go false t = refl
+    go b h1 = search (rules, head_some, whole_head)
 
 content_some : (s : PrintedDocument) (e : BlockEntry) (f : FoundLine) (m : ℕ) → IsFound s e f → IsEven m f.under → is_some (content_piece e) ≡ (is_some e.line.line.head || some_lines e.under)
 content_some s e f m h even = go e.line.line.head refl
@@ -78,16 +65,10 @@ content_some s e f m h even = go e.line.line.head refl
     go : (o : Option tree.Node) → e.line.line.head ≡ o →
         is_some (cond (is_some o) (head_piece (e.before ++ (line_front e.line ++ e.line.mark)) e.line.content (print_lines e.under e.behind)) (lines_piece (e.before ++ print_line e.line []) e.under e.behind)) ≡
         (is_some o || some_lines e.under)
-    go (Some x) head = head_some (e.before ++ (line_front e.line ++ e.line.mark)) e.line.content (print_lines e.under e.behind) ∙ ap is_some (sym h.as_printed.0.head ∙ head)
-    go None head = block_some (e.before ++ print_line e.line []) e.under e.behind f.under m h.as_printed.1 h.lines even
+    go o h1 = search (rules, head_some, block_some)
 
 item_some : (ss : List Step) (o : Option FlowEntry) → is_some (o >>= λ x. flow_at ss x >>= flow_content) ≡ or_false (o >>= λ x. option_map flow_written (flow_at ss x))
-item_some ss None = refl
-item_some ss (Some x) = go (flow_at ss x)
-  where
-    go : (o : Option FlowEntry) → is_some (o >>= flow_content) ≡ or_false (option_map flow_written o)
-    go None = refl
-    go (Some y) = node_some _ y.node y.behind
+item_some ss o = search (rules, node_some)
 
 entry_some : (s : PrintedDocument) (ss : List Step) (e : BlockEntry) (f : FoundLine) (m : ℕ) → IsFound s e f → IsEven m f.under → is_some (piece_in_entry parts.Content ss e) ≡ entry_written ss e
 entry_some s [] e f m h even = content_some s e f m h even
@@ -112,8 +93,7 @@ document_some (y ∷ ys) s as_printed fine = go (find y ys (group (map line_in s
     go (Some f) is = entry f.0 f.1 is (found_entry s f.0) refl
 
 some_map : {A B : Type 0} (f : A → B) (o : Option A) → is_some (option_map f o) ≡ is_some o
-some_map f None = refl
-some_map f (Some x) = refl
+some_map f o = search rules
 
 -- an item or entry is in flow exactly where the node is
 line_agrees : (s : PrintedDocument) (t : Step) (ts : List Step) (e : BlockEntry) (f : FoundLine) (h : tree.Node) → IsFound s e f → f.line.head ≡ Some h →
@@ -125,8 +105,7 @@ line_agrees s t ts e f h found head =
 
 -- the entry or item at a path
 then_map : {A B C : Type 0} (f : A → Option B) (g : B → C) (o : Option A) → is_some (o >>= λ x. option_map g (f x)) ≡ is_some (o >>= f)
-then_map f g None = refl
-then_map f g (Some x) = some_map g (f x)
+then_map f g o = search (rules, some_map)
 
 entry_agrees : (s : PrintedDocument) (y : Step) (ys rest : List Step) (f : FoundLine) (e : BlockEntry) → find y ys (group (map line_in s.lines)) ≡ Some (f, rest) → is_fine (group (map line_in s.lines)) ≡ true → IsFound s e f →
     is_some (piece_in_entry parts.Entry rest e) ≡ is_some (node_at rest (content f.line f.under))
@@ -149,14 +128,12 @@ steps_agree s y ys as_printed fine = go (find y ys (group (map line_in s.lines))
 headless : (node : Node) → node_head node ≡ None → IsNull (tree_of node)
 unfolding tree_of
 headless empty e = (None, refl)
-headless (alias n) e = cc
-headless (scalar p) e = cc
-headless (coll k g is) e = cc
 headless (anchored n g node) e = let k = headless node e in (Some n, ap (with_name n) k.1 ∙ go k.0)
   where
     go : (a : Option (List ℕ)) → with_name n (outlines.anchored a outlines.null_node) ≡ outlines.anchored (Some n) outlines.null_node
     go None = refl
     go (Some x) = refl
+headless x e = cc
 
 no_lines : (o : Outline) (ls : List PrintedLine) → map line_in ls ≡ flatten o → some_lines ls ≡ false → o ≡ end
 no_lines end ls e none = refl
@@ -164,8 +141,7 @@ no_lines (row l u a) [] e none = cc
 no_lines (row l u a) (k ∷ ls) e none = cc
 
 no_head : (h : Option tree.Node) → is_some h ≡ false → h ≡ None
-no_head None e = refl
-no_head (Some n) e = cc
+no_head h h1 = search rules
 
 in_null : (s : PrintedDocument) (t : Step) (ts : List Step) (e : BlockEntry) (f : FoundLine) (h n : tree.Node) (o : Option FlowEntry) → IsFound s e f → f.line.head ≡ Some h → line_inline e ≡ o → is_some (o >>= flow_at (t ∷ ts)) ≡ true →
     node_at (t ∷ ts) (content f.line f.under) ≡ Some n → or_false (o >>= λ x. option_map flow_written (flow_at (t ∷ ts) x)) ≡ false → IsNull n
@@ -180,10 +156,7 @@ in_null s t ts e f h n (Some x) found head is some at none = go (flow_at (t ∷ 
 
 entry_null : (s : PrintedDocument) (y : Step) (ys rest : List Step) (f : FoundLine) (e : BlockEntry) (n : tree.Node) → find y ys (group (map line_in s.lines)) ≡ Some (f, rest) → is_fine (group (map line_in s.lines)) ≡ true → IsFound s e f →
     node_at rest (content f.line f.under) ≡ Some n → entry_written rest e ≡ false → IsNull n
-entry_null s y ys [] f e n is fine found at none =
-    let k = or_parts (is_some e.line.line.head) (some_lines e.under) none in
-    let head : f.line.head ≡ None = ap (λ (l : Line). l.head) (sym found.line) ∙ no_head e.line.line.head k.0 in
-    subst IsNull (same_Some _ _ at) (f.line.anchor, (λ i. outlines.anchored f.line.anchor (head_or (head i) (value (no_lines f.under e.under found.lines k.1 i)))))
+entry_null s y ys [] f e n is fine found at none = search (rules, or_parts, no_head, same_Some, no_lines)
 entry_null s y ys (t ∷ ts) f e n is fine found at none =
     let h = head_there (map line_in s.lines) y ys t ts f is fine in
     in_null s t ts e f h.0 n (line_inline e) found h.1 refl (line_agrees s t ts e f h.0 found h.1 ∙ ap is_some at) at none
@@ -210,22 +183,13 @@ unfolding read_at
 document_read t c p s read is =
     let cut = text_takes t c (guard_then (is_utf8 t) read).1 in
     let q = document_is p.doc c s cut.0.parts is in
-    let lines : map line_in s.lines ≡ lines_of q.0.rows = ap (map line_in) q.2.lines ∙ lines_are q.0.rows in
-    record {
-      as_printed = q.2.as_printed;
-      fine = subst (λ ls. is_fine (group ls) ≡ true) (sym lines) (document_fine q.0 (each (document_parts c) cut.1 p.doc q.0 q.1));
-      node =
-          ap (option_and_then (λ d. node_at (steps_of p) d.root))
-          (ap (λ (k : Cut). slice_get (map document_of (document_parts k)) p.doc) (cut_is t c cut.0) ∙ (slice_get-map document_of (document_parts c) p.doc ∙ ap (option_map document_of) q.1))
-          ∙ ap (λ ls. node_at (steps_of p) (value (group ls))) (sym lines);
-    }
+    search (rules, lines_are, document_fine, each, option_and_then, cut_is, slice_get-map, cut, q)
 
 no_document : (t : List ℕ) (c : Cut) (p : Path) → read_at t ≡ Some c → printed_document p.doc c ≡ None → located p t ≡ None
 unfolding read_at
 no_document t c p read is =
     let cut = text_takes t c (guard_then (is_utf8 t) read).1 in
-    ap (option_and_then (λ d. node_at (steps_of p) d.root))
-    (ap (λ (k : Cut). slice_get (map document_of (document_parts k)) p.doc) (cut_is t c cut.0) ∙ (slice_get-map document_of (document_parts c) p.doc ∙ ap (option_map document_of) (no_part p.doc c is)))
+    cc (cut_is t c cut.0, slice_get-map document_of (document_parts c) p.doc, no_part p.doc c is)
 
 pub contents_exist : ContentsExist
 contents_exist t c p read = go (printed_document p.doc c) refl
@@ -240,12 +204,10 @@ pub entries_exist : EntriesExist
 entries_exist t c p read = go (printed_document p.doc c) refl (steps_of p) refl
   where
     none_root : (steps : List Step) → false ≡ (not (are_none steps) && false)
-    none_root [] = refl
-    none_root (y ∷ ys) = refl
+    none_root steps = search rules
 
     by : (s : PrintedDocument) → IsRead t p s → (steps : List Step) → steps_of p ≡ steps → is_some (piece_in parts.Entry steps s) ≡ (not (are_none steps) && is_some (located p t))
-    by s r [] is = refl
-    by s r (y ∷ ys) is = steps_agree s y ys r.as_printed r.fine ∙ ap is_some (sym (r.node ∙ ap (λ ss. node_at ss (value (group (map line_in s.lines)))) is))
+    by s h1 steps h2 = search (rules, steps_agree)
 
     go : (o : Option PrintedDocument) → printed_document p.doc c ≡ o → (steps : List Step) → steps_of p ≡ steps → is_some (o >>= piece_in parts.Entry steps) ≡ (not (are_none steps) && is_some (located p t))
     go None is steps e = none_root steps ∙ ap (λ x. not (are_none steps) && is_some x) (sym (no_document t c p read is))

@@ -1,5 +1,5 @@
 -- What the code answers is the span of a piece, and the text holds each.
-use Rattle.std.proofs.Common.{◌≡◌, ◌⊎◌, inl, inr, ℕ, ◌+◌, ◌-◌, List, ◌++◌, length, take, drop, map, Option, Some, None, option_map, true, refl, sym, ap, ◌∙◌, subst, arith}
+use Rattle.std.proofs.Common.{◌≡◌, ◌⊎◌, inl, inr, ℕ, ◌+◌, ◌-◌, List, ◌++◌, length, take, drop, map, Option, Some, None, option_map, true, refl, sym, ap, ◌∙◌, subst, arith, rules}
 use Rattle.std.proofs.Math.Seq.{take-append_seam, drop-append_seam}
 use Rattle.std.proofs.lemmas.Str.{IsUtf8-take, IsUtf8-between, IsUtf8-from_is_utf8}
 use Rattle.std.specs.List.{slice_get}
@@ -15,7 +15,7 @@ use Rattle.yq_documents.specs.declared.path.Part.TheVariants as parts
 use Rattle.yq_documents.specs.declared.path.Path.{Path}
 use Rattle.yq_documents.specs.Documents.{document_parts}
 use Rattle.yq_documents.specs.PartNumbers.{part_number}
-use Rattle.yq_places.specs.EntryReading.{content_of, content_at, entry_of, entry_at}
+use Rattle.yq_places.specs.EntryReading.{content_at, entry_at}
 use Rattle.yq_lines.specs.Group.{group, is_fine}
 use Rattle.yq_documents.specs.Located.{steps_of}
 use Rattle.yq_documents.specs.Pieces.{piece_span, HoldsPiece}
@@ -32,13 +32,12 @@ use Rattle.yq_places.specs.PathPieces.{PrintedDocument, printed_part, printed_do
 use Rattle.yq_places.specs.PlacedRows.{placed_at, placed_document}
 use Rattle.yq_places.specs.PieceLaws.{PiecesHold}
 use Rattle.yq_places.proofs.PieceTexts.{document_text, document_whole, whole_text}
-use Rattle.yq_places.proofs.PrintedLaws.{ArePrinted, lines_are, document_is}
-use Rattle.yq_places.proofs.PrintedRowLines.{IsPlaced, document_placed}
+use Rattle.yq_places.proofs.PrintedLaws.{lines_are, document_is}
+use Rattle.yq_places.proofs.PrintedRowLines.{document_placed}
 use Rattle.yq_places.proofs.PieceSpans.{contents_span, entries_span}
 
 none_map : {A B : Type 0} (f : A → B) (o : Option A) → option_map f o ≡ None → o ≡ None
-none_map f None e = refl
-none_map f (Some x) e = cc
+none_map f o h1 = search rules
 
 -- no lines, no document
 pub no_part : (n : ℕ) (c : Cut) → printed_document n c ≡ None → slice_get (document_parts c) n ≡ None
@@ -51,11 +50,7 @@ spans_are t c path cut sound = go (printed_document path.doc c) refl
   where
     go : (o : Option PrintedDocument) → printed_document path.doc c ≡ o →
         (option_map piece_span (o >>= piece_in parts.Content (steps_of path)) ≡ content_at path c) × (option_map piece_span (o >>= piece_in parts.Entry (steps_of path)) ≡ entry_at path c)
-    go None is =
-        let none_there = no_part path.doc c is in (
-          sym (ap (λ (d : Option Part). d >>= λ d. content_of (document_row path.doc c) c d.rows (steps_of path)) none_there),
-          sym (ap (λ (d : Option Part). d >>= λ d. entry_of (document_row path.doc c) c d.rows (steps_of path)) none_there),
-        )
+    go None is = search (rules, no_part)
     go (Some s) is =
         let q = document_is path.doc c s cut.parts is in
         let p : Part = q.0 in
@@ -63,16 +58,7 @@ spans_are t c path cut sound = go (printed_document path.doc c) refl
         let b = part_begins c path.doc p q.1 in
         let fine : is_fine (group (map line_in (printed_lines p.rows))) ≡ true = subst (λ ls. is_fine (group ls) ≡ true) (sym (lines_are p.rows)) (document_fine p (each (document_parts c) sound path.doc p q.1)) in
         let own : s ≡ record { before = s.before; lines = printed_lines p.rows; behind = s.behind } = (λ i. record { before = s.before; lines = q.2.lines i; behind = s.behind }) in
-        let placed : IsPlaced c k p (record { before = s.before; lines = printed_lines p.rows; behind = s.behind }) = subst (IsPlaced c k p) own (document_placed path.doc c p s q.1 is) in
-        let as_printed : ArePrinted (printed_lines p.rows) s.behind = subst (λ ls. ArePrinted ls s.behind) q.2.lines q.2.as_printed in
-        let text : document_text (record { before = s.before; lines = printed_lines p.rows; behind = s.behind }) ≡ cut_text c = subst (λ x. document_text x ≡ cut_text c) own (document_whole path.doc c s is) in (
-          ap (λ x. option_map piece_span (piece_in parts.Content (steps_of path) x)) own
-              ∙ (contents_span c p b.0 k s.before s.behind b.1 placed as_printed text fine (steps_of path)
-              ∙ sym (ap (λ (d : Option Part). d >>= λ d. content_of (document_row path.doc c) c d.rows (steps_of path)) q.1)),
-          ap (λ x. option_map piece_span (piece_in parts.Entry (steps_of path) x)) own
-              ∙ (entries_span c p b.0 k s.before s.behind b.1 placed as_printed text fine (steps_of path)
-              ∙ sym (ap (λ (d : Option Part). d >>= λ d. entry_of (document_row path.doc c) c d.rows (steps_of path)) q.1)),
-        )
+        search (rules, document_placed, document_text, document_whole, contents_span, entries_span, q, p, k, b, fine, own)
 
 -- a text in three pieces, by the span of the second
 pieces_at : (t before old behind : List ℕ) → t ≡ before ++ (old ++ behind) → IsUtf8 t → IsSpan t (length before) (length before + length old) → HasPieces t before old behind
@@ -80,17 +66,7 @@ pieces_at t before old behind text u span =
     let front : IsUtf8 (take (length before) t) = IsUtf8-take t (length before) u span.begins in
     let within : IsUtf8 (take (length before + length old - length before) (drop (length before) t)) = IsUtf8-between t (length before) (length before + length old) u span.ordered span.begins span.ends in
     let size : length before + length old - length before ≡ length old = omega arith in
-    let middle : take (length before + length old - length before) (drop (length before) t) ≡ old =
-    ap (λ x. take (length before + length old - length before) (drop (length before) x)) text
-    ∙ (ap (λ x. take (length before + length old - length before) x) (drop-append_seam before (old ++ behind))
-    ∙ (ap (λ (n : ℕ). take n (old ++ behind)) size ∙ take-append_seam old behind)) in
-    record {
-      text = text;
-      start = span.begins;
-      end = span.ends;
-      before_utf8 = subst IsUtf8 (ap (take (length before)) text ∙ take-append_seam before (old ++ behind)) front;
-      old_utf8 = subst IsUtf8 middle within;
-    }
+    search (rules, drop-append_seam, take-append_seam, front, within)
 
 pub pieces_hold : PiecesHold
 unfolding read_at

@@ -1,5 +1,5 @@
 -- What the code answers for a part of a node is the span of its piece.
-use Rattle.std.proofs.Common.{◌≡◌, ◌⊎◌, inl, inr, ℕ, zero, suc, ◌+◌, ◌-◌, ◌<◌, ◌≤◌, eqb, List, [], ◌∷◌, ◌++◌, length, take, drop, map, Option, Some, None, is_some, option_map, option_and_then, Bool, true, false, cond, refl, sym, ap, ◌∙◌, subst, arith, append_assoc, append-nil, length-append}
+use Rattle.std.proofs.Common.{◌≡◌, ◌⊎◌, ℕ, zero, suc, ◌+◌, ◌-◌, ◌<◌, ◌≤◌, eqb, List, [], ◌∷◌, ◌++◌, length, take, drop, map, Option, Some, None, is_some, option_map, option_and_then, Bool, true, false, cond, refl, sym, ap, ◌∙◌, subst, arith, append_assoc, append-nil, length-append, rules}
 use Rattle.std.proofs.Math.Seq.{drop-append_seam}
 use Rattle.std.proofs.lemmas.Bool.{cases_lt, eq-eqb, eqb-true, cond-true, cond-false}
 use Rattle.std.proofs.lemmas.List.{append_cancel_left}
@@ -53,17 +53,12 @@ line_more (k ∷ ls) zero l e = ap (λ (x : PrintedLine). print_line x []) (same
 line_more (k ∷ ls) (suc n) l e = ap (print_line k) (line_more ls n l e)
 
 whole_head : (h : Option tree.Node) (a : Outline) → IsWhole outlines.Bare h a → (n : tree.Node) × (h ≡ Some n)
-whole_head None a w = absurd w
-whole_head (Some n) a w = (n, refl)
+whole_head h a h1 = search rules
 
 -- a line of its own spells a node
 pub bare_head : (e : ℕ) (l : PrintedLine) (us : List PrintedLine) (o : Outline) → IsEven e o → map line_in (l ∷ us) ≡ flatten o → is_bare l.line.mark ≡ true → (n : tree.Node) × (l.line.head ≡ Some n)
 bare_head e l us end even lines t = cc
-bare_head e l us (row x u a) even lines t =
-    let first : l.line ≡ x = cc in
-    let mark : x.mark ≡ outlines.Bare = ap (λ (y : Line). y.mark) (sym first) ∙ bare_is l.line.mark t in
-    let h = whole_head x.head a (subst (λ y. IsWhole y x.head a) mark even.2) in
-    (h.0, ap (λ (y : Line). y.head) first ∙ h.1)
+bare_head e l us (row x u a) even lines t = search (rules, bare_is, whole_head)
 
 -- the lines of a document among those of a cut
 module _ (c : Cut) (p : Part) (more : List Row) (k : ℕ) (before behind : List ℕ) (there : drop k (rows_of c) ≡ p.rows ++ more) (placed_in : IsPlaced c k p (record { before = before; lines = printed_lines p.rows; behind = behind }))
@@ -77,13 +72,7 @@ module _ (c : Cut) (p : Part) (more : List Row) (k : ℕ) (before behind : List 
   -- the last line of a node is the last of its row
   pub last_line : (n : ℕ) (l : PrintedLine) → slice_get (printed_lines p.rows) n ≡ Some l → ((x : PrintedLine) → slice_get (printed_lines p.rows) (suc n) ≡ Some x → level x.line ≤ level l.line) →
       (b : RowLine) × (row_line n p.rows ≡ Some b) × (b.line ≡ length b.row.dashes)
-  last_line n l e none_deeper =
-      let q = row_line_at c p more k document there placed_in refl n l e in
-      (q.0, q.1, go q.0 q.2 q.3 (cases_lt q.0.line (length q.0.row.dashes)))
-    where
-      go : (q : RowLine) (d : IsPrintedLine p.rows n q) → d.line ≡ l → (q.line < length q.row.dashes) ⊎ (length q.row.dashes ≤ q.line) → q.line ≡ length q.row.dashes
-      go q d is (inl less) = let x = d.deeper less in absurd (omega (arith, none_deeper x.0 x.1, x.2, ap (λ (y : PrintedLine). level y.line) is))
-      go q d is (inr most) = omega (arith, most, d.within)
+  last_line n l e none_deeper = search (rules, row_line_at, cases_lt)
 
   -- the node for which lines stand
   block_span : (from m : ℕ) (o : Outline) (e : ℕ) (rest : List ℕ) → from + m ≤ length (printed_lines p.rows) → IsEven e o → map line_in (take m (drop from (printed_lines p.rows))) ≡ flatten o →
@@ -100,8 +89,7 @@ module _ (c : Cut) (p : Part) (more : List Row) (k : ℕ) (before behind : List 
       ∙ sym (cond-false _ _ _ (apart (eqb from (from + suc j)) refl) ∙ ap (λ (x : Option Line). x >>= λ y. cond (is_bare y.mark) (line_head k c p.rows from) (lines_place k c p.rows from (from + suc j - 1))) (line_at from l.0 l.1)))
     where
       apart : (b : Bool) → eqb from (from + suc j) ≡ b → b ≡ false
-      apart true t = absurd (omega (arith, eqb-true from (from + suc j) t))
-      apart false t = refl
+      apart b h1 = search (rules, eqb-true)
 
       go : (l : PrintedLine) → slice_get (printed_lines p.rows) from ≡ Some l → (o : Outline) → IsEven e o → map line_in (l ∷ take j (drop (suc from) (printed_lines p.rows))) ≡ flatten o →
           ArePrinted (l ∷ take j (drop (suc from) (printed_lines p.rows))) rest → (b : Bool) → is_bare l.line.mark ≡ b →
@@ -114,8 +102,7 @@ module _ (c : Cut) (p : Part) (more : List Row) (k : ℕ) (before behind : List 
       go l el o even lines agrees_in false t =
           let z = within_some (printed_lines p.rows) (from + j) (omega (arith, within)) in
           let b = last_line (from + j) z.0 z.1 (λ x ex. last j refl z.0 x z.1 ex) in
-          let to : from + j ≡ from + suc j - 1 = omega arith in
-          run_span c p more k document there placed_in refl from j l z.0 rest b.0 el z.1 b.1 b.2 ∙ ap (lines_place k c p.rows from) to
+          run_span c p more k document there placed_in refl from j l z.0 rest b.0 el z.1 b.1 b.2 ∙ ap (lines_place k c p.rows from) (omega arith)
 
   -- the lines under a line end before one that is no deeper
   pub last_under : (n m : ℕ) (l z x : PrintedLine) → slice_get (printed_lines p.rows) n ≡ Some l → m ≡ deeper_count (level l.line) (drop (suc n) (map line_in (printed_lines p.rows))) →
@@ -131,9 +118,7 @@ module _ (c : Cut) (p : Part) (more : List Row) (k : ℕ) (before behind : List 
           (ap (slice_get (drop (suc n) (map line_in (printed_lines p.rows)))) (sym count) ∙ line m x (let same_at : suc n + m ≡ suc (n + m) = omega arith in ap (slice_get (printed_lines p.rows)) same_at ∙ ex))
 
       deep : (k : ℕ) → m ≡ k → level l.line ≤ level z.line
-      deep zero is =
-          let there_is : n + m ≡ n = omega (arith, is) in
-          omega (arith, ap (λ (w : PrintedLine). level w.line) (same_Some _ _ (sym el ∙ (ap (slice_get (printed_lines p.rows)) (sym there_is) ∙ ez))))
+      deep zero is = search (rules, same_Some)
       deep (suc j) is =
           let there_is : suc n + j ≡ n + m = omega (arith, is) in
           omega (arith, count_holds (level l.line) (drop (suc n) (map line_in (printed_lines p.rows))) j z.line (omega (arith, is, count)) (line j z (ap (slice_get (printed_lines p.rows)) there_is ∙ ez)))
@@ -159,14 +144,7 @@ module _ (c : Cut) (p : Part) (more : List Row) (k : ℕ) (before behind : List 
       let m : ℕ = length (flatten f.under) in
       let whole_is : length (map line_in (printed_lines p.rows)) ≡ length (lines_before f.place ++ (f.line ∷ (flatten f.under ++ (flatten f.after ++ lines_after f.place)))) =
       ap length (found_lines (map line_in (printed_lines p.rows)) y ys rest f is) in
-      let size : suc n + m ≤ length (printed_lines p.rows) =
-      omega (
-        arith,
-        lines_count (printed_lines p.rows),
-        whole_is,
-        length-append (lines_before f.place) (f.line ∷ (flatten f.under ++ (flatten f.after ++ lines_after f.place))),
-        length-append (flatten f.under) (flatten f.after ++ lines_after f.place),
-      ) in
+      let size : suc n + m ≤ length (printed_lines p.rows) = search (rules, lines_count, length-append, whole_is) in
       let l = line_there document y ys rest f is in
       let there_is = entry_is document f l.0 l.1 in
       let found = entry_found document y ys rest f _ is as_printed there_is in
@@ -194,9 +172,8 @@ module _ (c : Cut) (p : Part) (more : List Row) (k : ℕ) (before behind : List 
   entry_span f n m l e h =
       let z = within_some (printed_lines p.rows) (n + m) (omega (arith, h.fits)) in
       let b = last_line (n + m) z.0 z.1 (λ x ex. last_under n m l z.0 x h.line h.count z.1 ex) in
-      let to : n + m ≡ lines_end n (lines_of p.rows) - 1 = omega (arith, h.ends) in
       (λ i. Some (piece_span (run_piece (h.before_is i) (h.line_in_it i) (h.under_is i) e.behind)))
-      ∙ (run_span c p more k document there placed_in refl n m l z.0 e.behind b.0 h.line z.1 b.1 b.2 ∙ ap (lines_place k c p.rows n) to)
+      ∙ (run_span c p more k document there placed_in refl n m l z.0 e.behind b.0 h.line z.1 b.1 b.2 ∙ ap (lines_place k c p.rows n) (omega (arith, h.ends)))
 
   content_span : (f : FoundLine) (n m : ℕ) (l : PrintedLine) (e : BlockEntry) → IsEntryAt f n m l e → option_map piece_span (content_piece e) ≡ line_content k c p.rows n
   content_span f n m l e h =
@@ -234,8 +211,7 @@ module _ (c : Cut) (p : Part) (more : List Row) (k : ℕ) (before behind : List 
   items_agree : (o : Option FlowEntry) → ((w : FlowEntry) → o ≡ Some w → length (cut_text c) ≡ length (item_text w)) →
       (option_map entry_place (option_map (locate_entry (length (cut_text c))) (option_map pieces o)) ≡ option_map piece_span (option_map flow_piece o)) ×
       (option_and_then (λ (x : PlacedEntry). content_place x.1) (option_map (locate_entry (length (cut_text c))) (option_map pieces o)) ≡ option_map piece_span (o >>= flow_content))
-  items_agree None h = (refl, refl)
-  items_agree (Some w) h = (ap Some (item_place w (length (cut_text c)) (h w refl)), value_place w (length (cut_text c)) (h w refl))
+  items_agree o h1 = search (rules, item_place, value_place)
 
   in_content : (t : Step) (ts : List Step) (x : tree.Node) (start : List ℕ) (y : Content) (rest : List ℕ) → Some x ≡ head_of y → cut_text c ≡ start ++ content_text y rest →
       (option_map piece_span (content_inline start y rest >>= λ w. option_map flow_piece (flow_at (t ∷ ts) w)) ≡ option_map entry_place (placed_entry_at (t ∷ ts) (None, locate (length (cut_text c)) (inline_node y) (tail_of y ++ rest)))) ×
@@ -257,8 +233,7 @@ module _ (c : Cut) (p : Part) (more : List Row) (k : ℕ) (before behind : List 
       (option_map piece_span (line_inline e >>= λ x. flow_at (t ∷ ts) x >>= flow_content) ≡ option_and_then (λ (x : PlacedEntry). content_place x.1) (flow_entry k c p.rows n (t ∷ ts)))
   flow_span f n m l e t ts h x head =
       let q = row_line_at c p more k document there placed_in refl n l h.line in
-      let row_line_is : flow_entry k c p.rows n (t ∷ ts) ≡ placed_entry_at (t ∷ ts) (None, placed_inline (k + q.0.before) q.0.row c) =
-      ap (λ (o : Option RowLine). o >>= λ z. placed_entry_at (t ∷ ts) (None, placed_inline (k + z.before) z.row c)) q.1 in
+      let row_line_is : flow_entry k c p.rows n (t ∷ ts) ≡ placed_entry_at (t ∷ ts) (None, placed_inline (k + q.0.before) q.0.row c) = cc (q.1) in
       let r = go q.0 q.1 q.2 q.3 (mark_last q.0 q.2 q.3 (cases_lt q.0.line (length q.0.row.dashes))) q.0.row.content refl in
       (r.0 ∙ ap (option_map entry_place) (sym row_line_is), r.1 ∙ ap (option_and_then (λ (z : PlacedEntry). content_place z.1)) (sym row_line_is))
     where
@@ -266,16 +241,14 @@ module _ (c : Cut) (p : Part) (more : List Row) (k : ℕ) (before behind : List 
       line_head_is = ap (λ (w : Line). w.head) h.line_is ∙ head
 
       mark_last : (q : RowLine) (d : IsPrintedLine p.rows n q) → d.line ≡ l → (q.line < length q.row.dashes) ⊎ (length q.row.dashes ≤ q.line) → q.line ≡ length q.row.dashes
-      mark_last q d is (inl less) = absurd (none-some _ (sym (d.deeper less).3 ∙ (ap (λ (w : PrintedLine). w.line.head) is ∙ line_head_is)))
-      mark_last q d is (inr most) = omega (arith, most, d.within)
+      mark_last q d h1 h2 = search (rules, none-some)
 
       go : (q : RowLine) → row_line n p.rows ≡ Some q → (d : IsPrintedLine p.rows n q) → d.line ≡ l → q.line ≡ length q.row.dashes → (y : Content) → q.row.content ≡ y →
           (option_map piece_span (line_inline e >>= λ w. option_map flow_piece (flow_at (t ∷ ts) w)) ≡ option_map entry_place (placed_entry_at (t ∷ ts) (None, placed_inline (k + q.before) q.row c))) ×
           (option_map piece_span (line_inline e >>= λ w. flow_at (t ∷ ts) w >>= flow_content) ≡ option_and_then (λ (z : PlacedEntry). content_place z.1) (placed_entry_at (t ∷ ts) (None, placed_inline (k + q.before) q.row c)))
       go q is d line_is last y content =
           let own : e.line.content ≡ y = ap (λ (w : PrintedLine). w.content) h.line_in_it ∙ (sym (ap (λ (w : PrintedLine). w.content) line_is) ∙ ((d.last last).0 ∙ content)) in
-          let item : line_inline e ≡ content_inline (e.before ++ (line_front e.line ++ e.line.mark)) y (print_lines e.under e.behind) =
-          ap (λ w. content_inline (e.before ++ (line_front e.line ++ e.line.mark)) w (print_lines e.under e.behind)) own in
+          let item : line_inline e ≡ content_inline (e.before ++ (line_front e.line ++ e.line.mark)) y (print_lines e.under e.behind) = cc in
           let code : placed_entry_at (t ∷ ts) (None, placed_inline (k + q.before) q.row c) ≡ placed_entry_at (t ∷ ts) (None, locate (length (cut_text c)) (inline_node y) (tail_of y ++ behind_row (k + q.before) c)) =
           ap (λ w. placed_entry_at (t ∷ ts) (None, locate (length (cut_text c)) (inline_node w) (tail_of w ++ behind_row (k + q.before) c))) content in
           let size : length (before_content (k + q.before) c) ≡ length (e.before ++ (line_front e.line ++ e.line.mark)) =
@@ -285,9 +258,7 @@ module _ (c : Cut) (p : Part) (more : List Row) (k : ℕ) (before behind : List 
             ap length h.before_is,
             ap (λ (w : PrintedLine). length (line_front w)) (line_is ∙ sym h.line_in_it),
             ap (λ (w : PrintedLine). length w.mark) (line_is ∙ sym h.line_in_it),
-            length-append e.before (line_front e.line ++ e.line.mark),
-            length-append (line_front e.line) e.line.mark,
-            length-append before (print_lines (take n (printed_lines p.rows)) []),
+            length-append {A = ℕ},
           ) in
           let split : before_content (k + q.before) c ++ content_text y (behind_row (k + q.before) c) ≡ (e.before ++ (line_front e.line ++ e.line.mark)) ++ content_text y (print_lines e.under e.behind) =
           ap (λ w. before_content (k + q.before) c ++ content_text w (behind_row (k + q.before) c)) (sym content)
@@ -334,8 +305,6 @@ module _ (c : Cut) (p : Part) (more : List Row) (k : ℕ) (before behind : List 
 
   pub contents_span : (steps : List Step) → option_map piece_span (piece_in parts.Content steps document) ≡ places.content_of k c p.rows steps
   contents_span [] =
-      let ls : List Line = map line_in (printed_lines p.rows) in
-      let size : length (lines_of p.rows) ≡ 0 + length (printed_lines p.rows) = omega (arith, ap length (lines_are p.rows), lines_count (printed_lines p.rows)) in
       let whole_list : take (length (printed_lines p.rows)) (printed_lines p.rows) ≡ printed_lines p.rows = take_whole (printed_lines p.rows) in
       ap (λ x. option_map piece_span (lines_piece x (printed_lines p.rows) behind)) (sym (append-nil before))
       ∙ (ap (λ x. option_map piece_span (lines_piece (before ++ []) x behind)) (sym whole_list)
@@ -343,7 +312,7 @@ module _ (c : Cut) (p : Part) (more : List Row) (k : ℕ) (before behind : List 
       (even_from (level_or 0 (group (map line_in (printed_lines p.rows)))) (group (map line_in (printed_lines p.rows))) fine)
       (ap (map line_in) whole_list ∙ sym (flatten-group (map line_in (printed_lines p.rows)))) (subst (λ x. ArePrinted x behind) (sym whole_list) as_printed)
       (λ j is l x el ex. absurd (omega (arith, is, slice_get_within (printed_lines p.rows) (suc (0 + j)) x ex)))
-      ∙ ap (lines_content k c p.rows 0) (sym size)))
+      ∙ ap (lines_content k c p.rows 0) (sym (omega (arith, ap length (lines_are p.rows), lines_count (printed_lines p.rows))))))
     where
       take_whole : {A : Type 0} (xs : List A) → take (length xs) xs ≡ xs
       take_whole [] = refl
@@ -352,14 +321,7 @@ module _ (c : Cut) (p : Part) (more : List Row) (k : ℕ) (before behind : List 
     where
       go : (o : Option (FoundLine × List Step)) → find y ys (group (map line_in (printed_lines p.rows))) ≡ o →
           option_map piece_span (o >>= λ f. found_entry document f.0 >>= piece_in_entry parts.Content f.1) ≡ (by_line o >>= λ x. content_from k c p.rows x.0 x.1)
-      go None is = refl
-      go (Some f) is = content_from_span y ys f.1 f.0 is
+      go o h1 = search (rules, content_from_span)
 
   pub entries_span : (steps : List Step) → option_map piece_span (piece_in parts.Entry steps document) ≡ places.entry_of k c p.rows steps
-  entries_span [] = refl
-  entries_span (y ∷ ys) = go (find y ys (group (map line_in (printed_lines p.rows)))) refl ∙ ap (λ ls. reached (y ∷ ys) ls >>= λ x. entry_from k c p.rows x.0 x.1) (lines_are p.rows)
-    where
-      go : (o : Option (FoundLine × List Step)) → find y ys (group (map line_in (printed_lines p.rows))) ≡ o →
-          option_map piece_span (o >>= λ f. found_entry document f.0 >>= piece_in_entry parts.Entry f.1) ≡ (by_line o >>= λ x. entry_from k c p.rows x.0 x.1)
-      go None is = refl
-      go (Some f) is = entry_from_span y ys f.1 f.0 is
+  entries_span steps = search (rules, lines_are, by_line, entry_from_span)

@@ -1,7 +1,6 @@
 -- Contents spell the nodes at their paths.
-use Rattle.std.proofs.Common.{◌≡◌, ◌⊎◌, inl, inr, ℕ, ◌<◌, List, [], ◌∷◌, ◌++◌, map, Option, Some, None, is_some, option_map, option_and_then, Bool, true, false, cond, refl, sym, ap, ◌∙◌, subst, append_assoc, append-nil}
+use Rattle.std.proofs.Common.{◌≡◌, ◌⊎◌, inl, inr, ℕ, ◌<◌, List, [], ◌∷◌, ◌++◌, map, Option, Some, None, is_some, option_map, option_and_then, Bool, true, false, cond, refl, sym, ap, ◌∙◌, subst, append_assoc, append-nil, rules}
 use Rattle.std.proofs.lemmas.Option.{slice_get-map, none-some, same_Some}
-use Rattle.std.specs.List.{slice_get}
 use Rattle.std.specs.Str.{is_utf8}
 use Rattle.yq_flow_scalars.specs.Answers.{◌>>=◌}
 use Rattle.yq_block_scalars.specs.Block.{IsBlock}
@@ -9,7 +8,7 @@ use Rattle.yq_flow_scalars.specs.Paths.{Step, node_at}
 use Rattle.yq_flow_scalars.specs.Tree as tree
 use Rattle.yq_flow_scalars.proofs.Bools.{bind_some, guard_then}
 use Rattle.yq_nodes.specs.Entries.{inside}
-use Rattle.yq_nodes.specs.Nodes.{Node, empty, alias, scalar, coll, anchored, key_text, IsNode}
+use Rattle.yq_nodes.specs.Nodes.{Node, empty, alias, scalar, coll, anchored, IsNode}
 use Rattle.yq_nodes.specs.Trees.{tree_of}
 use Rattle.yq_cut.specs.Rows.{Content, Nothing, Inline, Block, Cut}
 use Rattle.yq_documents.specs.declared.path.Part.{Part as WhichPart}
@@ -21,18 +20,17 @@ use Rattle.yq_row_lines.specs.Lines.{head_of, lines_of}
 use Rattle.yq_nodes.specs.Trees.{node_head}
 use Rattle.yq_documents.specs.Documents.{Document}
 use Rattle.yq_lines.specs.Labelled.{Labelled, labelled_from}
-use Rattle.yq_lines.proofs.LabelledLaws.{labelled_path}
 use Rattle.yq_lines.proofs.LabelPaths.{FoundEntry, path_entry}
 use Rattle.yq_documents.specs.Located.{steps_of, document_at, labelled_located, located, unlabelled}
 use Rattle.yq_lines.specs.Outline as outlines
-use Rattle.yq_lines.specs.Outline.{Mark, Line, level, Outline, end, row, flatten, IsEven, first_anchor, head_or, value, label}
-use Rattle.yq_lines.specs.Places.{lines_before, lines_after, FoundLine, find}
+use Rattle.yq_lines.specs.Outline.{Mark, Line, level, Outline, end, row, flatten, IsEven, first_anchor, head_or, value}
+use Rattle.yq_lines.specs.Places.{FoundLine, find}
 use Rattle.yq_lines.specs.Places as places
-use Rattle.yq_documents.specs.Reading.{document_of, read_at}
+use Rattle.yq_documents.specs.Reading.{read_at}
 use Rattle.yq_lines.specs.Positions.{is_bare}
 use Rattle.yq_documents.proofs.PartRows.{each}
 use Rattle.yq_lines.proofs.Decides.{flatten-group, even_from}
-use Rattle.yq_lines.proofs.Finding.{entry_of}
+use Rattle.yq_lines.proofs.Finding.{entry_of, labelled_path}
 use Rattle.yq_places.proofs.ReadLaws.{cut_is, text_takes}
 use Rattle.yq_places.proofs.RowPathLaws.{found_place, document_fine}
 use Rattle.yq_documents.specs.Pieces.{TextPiece, node_piece, head_piece}
@@ -74,9 +72,7 @@ line_spells s before l rest x as_printed e n =
     record { anchor = l.line.anchor; tree = k.0; node = ap (λ h. outlines.anchored l.line.anchor (head_or h n)) (as_printed.head ∙ k.1); spelled = k.2 }
 
 pub bare_is : (m : Mark) → is_bare m ≡ true → m ≡ outlines.Bare
-bare_is outlines.Bare e = refl
-bare_is (outlines.Key k) e = cc
-bare_is outlines.Dash e = cc
+bare_is m h1 = search rules
 
 run_of : (s : PrintedDocument) (before : List ℕ) (l : PrintedLine) (ls : List PrintedLine) (behind : List ℕ) (x : TextPiece) → IsIn s before (l ∷ ls) behind → run_piece before l ls behind ≡ x → IsRun s l ls x
 run_of s before l ls behind x h e = record { above = h.above; below = h.below; lines = h.lines; piece = sym e ∙ (λ i. run_piece (h.start i) l ls (h.stop i)) }
@@ -92,11 +88,7 @@ block_spells s before (l ∷ ls) behind x (row k u a) m inside e as_printed line
     first = cc
 
     go : (b : Bool) → is_bare l.line.mark ≡ b → cond b (head_piece (before ++ (line_front l ++ l.mark)) l.content (print_lines ls behind)) (Some (run_piece before l ls behind)) ≡ Some x → SpellsNode s x (value (row k u a))
-    go true t e =
-        let mark : k.mark ≡ outlines.Bare = ap (λ (j : Line). j.mark) (sym first) ∙ bare_is l.line.mark t in
-        let node : value (row k u a) ≡ outlines.anchored k.anchor (head_or k.head (value u)) = ap (λ j. outlines.collection j (outlines.children (row k u a))) mark in
-        subst (SpellsNode s x) (ap (λ (j : Line). outlines.anchored j.anchor (head_or j.head (value u))) first ∙ sym node)
-        (line_spells s (before ++ (line_front l ++ l.mark)) l (print_lines ls behind) x as_printed.0 e (value u))
+    go true t e = search (rules, bare_is, line_spells)
     go false t e = record {
       anchor = None;
       tree = value (row k u a);
@@ -121,17 +113,13 @@ content_spells s e f x m h even is = go e.line.line.head refl is
   where
     go : (o : Option tree.Node) → e.line.line.head ≡ o → cond (is_some o) (head_piece (e.before ++ (line_front e.line ++ e.line.mark)) e.line.content (print_lines e.under e.behind)) (lines_piece (e.before ++ print_line e.line []) e.under e.behind) ≡ Some x →
         SpellsNode s x (places.content f.line f.under)
-    go (Some k) head is =
-        subst (SpellsNode s x) (ap (λ (j : Line). places.content j f.under) h.line) (line_spells s (e.before ++ (line_front e.line ++ e.line.mark)) e.line (print_lines e.under e.behind) x h.as_printed.0 is (value f.under))
+    go (Some k) head is = search (rules, line_spells)
     go None head is =
         subst (SpellsNode s x) (ap (λ j. outlines.anchored f.line.anchor (head_or j (value f.under))) (sym head ∙ ap (λ (j : Line). j.head) h.line))
         (behind_anchor s f.line.anchor x (value f.under) (block_spells s (e.before ++ print_line e.line []) e.under e.behind x f.under m (under_in s e h.inside) is h.as_printed.1 h.lines even))
 
 pub value_spells : (s : PrintedDocument) (x : FlowEntry) (p : TextPiece) → flow_content x ≡ Some p → IsValid x.node x.behind → SpellsNode s p (tree_of x.node)
-value_spells s x p e v =
-    let k = node_spells (x.before ++ key_text x.key []) x.node x.behind p e v in
-    let a = head_tree x.node k.0 k.1 in
-    record { anchor = a.0; tree = k.0; node = a.1; spelled = inl k.2 }
+value_spells s x p e v = search (rules, node_spells, head_tree)
 
 -- what a part says of a node with its label
 abbrev pub Says : PrintedDocument → WhichPart → TextPiece → Labelled → Type 0
@@ -157,26 +145,12 @@ part_spells s parts.Content (t ∷ ts) e f x h head even is =
     let y = bind_some (flow_at (t ∷ ts) k.0) k.2 in
     let at = head_item_at s t ts e f head.0 k.0 y.0 h head.1 k.1 y.1 in
     (_, at.labelled, value_spells s y.0 x y.2 (true, Some 0, at.valid.0, at.valid.1))
-part_spells s parts.Entry [] e f x h head even is = (
-  _,
-  refl,
-  inl (record {
-    first = e.line;
-    others = e.under;
-    run = run_of s e.before e.line e.under e.behind x h.inside (same_Some _ _ is);
-    under = f.under;
-    even = (even.0, subst (λ (l : Line). level l < even.0) (sym h.line) even.1, even.2);
-    lines = h.lines;
-    label = ap label (sym h.line);
-    tree = ap (λ (l : Line). places.content l f.under) (sym h.line);
-  }),
-)
+part_spells s parts.Entry [] e f x h head even is = search (rules, run_of, same_Some)
 part_spells s parts.Entry (t ∷ ts) e f x h head even is =
     let k = bind_some (line_inline e) is in
     let y = map_some (flow_at (t ∷ ts) k.0) k.2 in
     let at = head_item_at s t ts e f head.0 k.0 y.0 h head.1 k.1 y.1 in
-    let valid = subst (λ (p : TextPiece). IsNode true (Some 0) at.valid.0 y.0.node p.behind) y.2 at.valid.1 in
-    (_, at.labelled, inr (record { key = y.0.key; node = y.0.node; text = ap (λ (p : TextPiece). p.text) (sym y.2); valid = (at.valid.0, valid); label = refl; tree = refl }))
+    search (rules, y, at)
 part_spells s parts.HeadComment [] e f x h head even is = (_, refl, tt)
 part_spells s parts.HeadComment (t ∷ ts) e f x h head even is = absurd (none-some _ is)
 part_spells s parts.LineComment [] e f x h head even is = (_, refl, tt)
@@ -193,8 +167,7 @@ steps_spell part y ys s x as_printed fine is =
     (part_spells s part f.0.1 e.0 f.0.0 x (entry_found s y ys f.0.1 f.0.0 e.0 f.1 as_printed e.1) (head f.0.1 f.1) (even.0, even.1, even.2) e.2)
   where
     head : (rest : List Step) {f : FoundLine} → find y ys (group (map line_in s.lines)) ≡ Some (f, rest) → HasHead rest f
-    head [] is = tt
-    head (t ∷ ts) {f} is = head_there (map line_in s.lines) y ys t ts f is fine
+    head rest h1 = search (rules, head_there)
 
 pub document_spells : (part : WhichPart) (ss : List Step) (s : PrintedDocument) (x : TextPiece) → ArePrinted s.lines s.behind → is_fine (group (map line_in s.lines)) ≡ true → piece_in part ss s ≡ Some x →
     Spelled s part x (labelled_from ss (unlabelled, value (group (map line_in s.lines))))
@@ -216,18 +189,14 @@ by_part part t c p s x read there is =
     let q = document_is p.doc c s cut.0.parts there in
     let lines : map line_in s.lines ≡ lines_of q.0.rows = ap (map line_in) q.2.lines ∙ lines_are q.0.rows in
     let fine = subst (λ ls. is_fine (group ls) ≡ true) (sym lines) (document_fine q.0 (each (document_parts c) cut.1 p.doc q.0 q.1)) in
-    let tree : labelled_located p t ≡ labelled_from (steps_of p) (unlabelled, value (group (lines_of q.0.rows))) =
-    ap (option_and_then (λ d. labelled_from (steps_of p) (unlabelled, d.root)))
-    (ap (λ (k : Cut). slice_get (map document_of (document_parts k)) p.doc) (cut_is t c cut.0) ∙ (slice_get-map document_of (document_parts c) p.doc ∙ ap (option_map document_of) q.1)) in
-    subst (Spelled s part x) (ap (λ ls. labelled_from (steps_of p) (unlabelled, value (group ls))) lines ∙ sym tree) (document_spells part (steps_of p) s x q.2.as_printed fine found)
+    search (rules, option_and_then, cut_is, slice_get-map, document_spells, cut, found, q, lines, fine)
 
 -- a node at a path is there with its label
 located_is : (p : Path) (t : List ℕ) → option_map (λ x. x.1) (labelled_located p t) ≡ located p t
 located_is p t = go (document_at t p.doc)
   where
     go : (o : Option Document) → option_map (λ x. x.1) (option_and_then (λ d. labelled_from (steps_of p) (unlabelled, d.root)) o) ≡ option_and_then (λ d. node_at (steps_of p) d.root) o
-    go None = refl
-    go (Some d) = labelled_path (steps_of p) (unlabelled, d.root)
+    go o = search (rules, labelled_path)
 
 pub contents_spell : ContentsSpell
 contents_spell t c p s x read there is = let r = by_part parts.Content t c p s x read there is in (r.0.1, sym (located_is p t) ∙ ap (option_map (λ x. x.1)) r.1, r.2)
@@ -239,5 +208,4 @@ pub lines_stand : LinesStand
 unfolding read_at
 lines_stand t c n s read there =
     let cut = text_takes t c (guard_then (is_utf8 t) read).1 in
-    let q = document_is n c s cut.0.parts there in
-    (cut.0.text ∙ sym (document_whole n c s there), (q.0, q.1, q.2.lines, ap (map line_in) q.2.lines ∙ lines_are q.0.rows))
+    search (rules, document_is, document_whole, lines_are, cut)

@@ -1,5 +1,5 @@
 -- Pieces with what stands before and behind them are the text.
-use Rattle.std.proofs.Common.{◌≡◌, ℕ, suc, eqb, List, [], ◌∷◌, ◌++◌, length, take, drop, map, Some, None, is_some, Bool, true, false, cond, refl, sym, ap, ◌∙◌, append_assoc}
+use Rattle.std.proofs.Common.{◌≡◌, ℕ, suc, eqb, List, [], ◌∷◌, ◌++◌, length, take, drop, map, Some, None, is_some, Bool, true, false, cond, refl, sym, ap, ◌∙◌, append_assoc, rules}
 use Rattle.std.proofs.lemmas.List.{take-append-drop}
 use Rattle.std.proofs.lemmas.Option.{none-some, same_Some}
 use Rattle.std.specs.List.{slice_get}
@@ -13,24 +13,22 @@ use Rattle.yq_nodes.specs.Nodes.{Node, empty, alias, scalar, coll, anchored, Ite
 use Rattle.yq_nodes.specs.Trees.{inner, key_content}
 use Rattle.yq_nodes.proofs.WrittenLaws.{key_append, sep_append, node_append, node_then}
 use Rattle.yq_nodes.proofs.PathLaws.{then_some}
-use Rattle.yq_cut.specs.Rows.{Content, Nothing, Inline, Block, content_text, Part, Cut, cut_text}
+use Rattle.yq_cut.specs.Rows.{Content, content_text, Cut, cut_text}
 use Rattle.yq_cut.specs.View.{content_cut}
 use Rattle.yq_cut.proofs.SliceLaws.{content_slices}
 use Rattle.yq_documents.specs.declared.path.Part.{Part as WhichPart}
 use Rattle.yq_documents.specs.declared.path.Part.TheVariants as parts
 use Rattle.yq_documents.specs.declared.path.Path.{Path}
-use Rattle.yq_places.specs.PrintedLines.{PrintedLine, line_front, behind_front, print_line, print_lines, line_in, run_text, run_break, run_piece, lines_piece}
+use Rattle.yq_places.specs.PrintedLines.{PrintedLine, line_front, print_line, print_lines, line_in, run_text, run_break, run_piece, lines_piece}
 use Rattle.yq_lines.specs.Group.{group}
 use Rattle.yq_documents.specs.Located.{steps_of}
 use Rattle.yq_lines.specs.Outline.{flatten}
 use Rattle.yq_lines.specs.Places.{lines_before, find}
 use Rattle.yq_documents.specs.Reading.{read_at}
-use Rattle.yq_lines.specs.Positions.{is_bare}
 use Rattle.yq_places.proofs.ReadLaws.{text_takes}
 use Rattle.yq_documents.specs.Pieces.{TextPiece, node_piece, head_piece, tail_comment, content_comment, last_run, before_run, gap_comment}
 use Rattle.yq_documents.proofs.RunLaws.{run_split}
 use Rattle.yq_places.specs.PathPieces.{BlockEntry, content_piece, FlowEntry, flow_in, flow_under, flow_at, content_inline, line_inline, flow_piece, flow_content, PrintedDocument, printed_document, entry_with, found_entry, piece_in_entry, piece_in}
-use Rattle.yq_places.specs.PlacedRows.{placed_document}
 use Rattle.yq_places.proofs.PlacedPartLaws.{part_stands}
 use Rattle.yq_places.proofs.PrintedTexts.{line_then, lines_then, lines_append, run_is, map_some, line_split, rows_are}
 
@@ -50,10 +48,7 @@ node_whole before (anchored name gap node) behind x e =
     ∙ (append_assoc before (38 ∷ (name ++ gap)) (node_text node behind) ∙ ap (λ l. before ++ (38 ∷ l)) (append_assoc name gap (node_text node behind)))
 
 pub head_whole : (before : List ℕ) (c : Content) (behind : List ℕ) (x : TextPiece) → head_piece before c behind ≡ Some x → piece_text x ≡ before ++ content_text c behind
-head_whole before (Nothing tail) behind x e = absurd (none-some _ e)
-head_whole before (Inline space node tail) behind x e = node_whole (before ++ space) node (tail ++ behind) x e ∙ append_assoc before space (node_text node (tail ++ behind))
-head_whole before (Block space None block) behind x e = ap piece_text (sym (same_Some _ _ e)) ∙ simp append_assoc refl
-head_whole before (Block space (Some a) block) behind x e = ap piece_text (sym (same_Some _ _ e)) ∙ simp append_assoc refl
+head_whole before c behind x h1 = search (rules, none-some, node_whole, append_assoc, same_Some)
 
 -- lines
 pub run_whole : (before : List ℕ) (l : PrintedLine) (ls : List PrintedLine) (behind : List ℕ) → piece_text (run_piece before l ls behind) ≡ before ++ print_lines (l ∷ ls) behind
@@ -64,12 +59,7 @@ mark_whole : (before : List ℕ) (l : PrintedLine) (ls : List PrintedLine) (behi
 mark_whole before l ls behind x e = head_whole (before ++ (line_front l ++ l.mark)) l.content (print_lines ls behind) x e ∙ simp append_assoc refl
 
 pub block_whole : (before : List ℕ) (ls : List PrintedLine) (behind : List ℕ) (x : TextPiece) → lines_piece before ls behind ≡ Some x → piece_text x ≡ before ++ print_lines ls behind
-block_whole before [] behind x e = absurd (none-some _ e)
-block_whole before (l ∷ ls) behind x e = go (is_bare l.line.mark) e
-  where
-    go : (b : Bool) → cond b (head_piece (before ++ (line_front l ++ l.mark)) l.content (print_lines ls behind)) (Some (run_piece before l ls behind)) ≡ Some x → piece_text x ≡ before ++ print_lines (l ∷ ls) behind
-    go true e = mark_whole before l ls behind x e
-    go false e = ap piece_text (sym (same_Some _ _ e)) ∙ run_whole before l ls behind
+block_whole before ls behind x h1 = search (rules, none-some, mark_whole, same_Some, run_whole)
 
 -- an entry, with the text before and behind it
 abbrev pub entry_text : BlockEntry → List ℕ
@@ -109,9 +99,7 @@ items_whole k s before (item key n sep is) behind x e = go (is_here s (inner (ke
     front = key_text key (node_text n (sep_text sep []))
 
     split : key_text key (node_text n (sep_text sep tail)) ≡ front ++ tail
-    split =
-        ap (λ l. key_text key (node_text n l)) (sep_append sep [] tail)
-        ∙ (ap (key_text key) (node_append n (sep_text sep []) tail) ∙ key_append key (node_text n (sep_text sep [])) tail)
+    split = cc (sep_append sep [] tail, node_append n (sep_text sep []) tail, key_append key (node_text n (sep_text sep [])) tail)
 
     go : (b : Bool) → (flow_in k (further s) (before ++ front) is behind ≡ Some x → item_text x ≡ (before ++ front) ++ tail) →
         cond b (Some (record { before = before; key = key; node = n; behind = sep_text sep tail })) (flow_in k (further s) (before ++ front) is behind) ≡ Some x → item_text x ≡ before ++ key_text key (node_text n (sep_text sep tail))
@@ -135,9 +123,7 @@ at_whole (s ∷ ss) x y e =
     at_whole ss z.0 y z.2 ∙ (under_whole s (x.before ++ key_text x.key []) x.node x.behind z.0 z.1 ∙ key_before x)
 
 head_item_whole : (before : List ℕ) (c : Content) (behind : List ℕ) (x : FlowEntry) → content_inline before c behind ≡ Some x → item_text x ≡ before ++ content_text c behind
-head_item_whole before (Nothing tail) behind x e = absurd (none-some _ e)
-head_item_whole before (Inline space node tail) behind x e = ap item_text (sym (same_Some _ _ e)) ∙ append_assoc before space (node_text node (tail ++ behind))
-head_item_whole before (Block space anchor block) behind x e = absurd (none-some _ e)
+head_item_whole before c behind x h1 = search (rules, none-some, same_Some, append_assoc)
 
 in_line_whole : (e : BlockEntry) (x : FlowEntry) → line_inline e ≡ Some x → item_text x ≡ entry_text e
 in_line_whole e x is = head_item_whole (e.before ++ (line_front e.line ++ e.line.mark)) e.line.content (print_lines e.under e.behind) x is ∙ simp append_assoc refl
@@ -161,17 +147,10 @@ tail_whole before tail behind x e = go (front (λ b. eqb b 35) (past_white tail)
 
 pub tail_text : (before : List ℕ) (c : Content) (behind : List ℕ) →
     (before ++ ((content_cut c).0 ++ ((content_cut c).1 ++ ((content_cut c).2 ++ (content_cut c).3)))) ++ ((content_cut c).4 ++ ((content_cut c).5 ++ behind)) ≡ before ++ content_text c behind
-tail_text before c behind =
-    let s = content_cut c in
-    append_assoc before (s.0 ++ (s.1 ++ (s.2 ++ s.3))) (s.4 ++ (s.5 ++ behind)) ∙ ap (λ l. before ++ l) (flat s.0 s.1 s.2 s.3 (s.4 ++ (s.5 ++ behind)) ∙ content_slices c behind)
-  where
-    flat : (a b c d z : List ℕ) → (a ++ (b ++ (c ++ d))) ++ z ≡ a ++ (b ++ (c ++ (d ++ z)))
-    flat a b c d z = simp append_assoc refl
+tail_text before c behind = simp (append_assoc, content_slices)
 
 comment_whole : (before : List ℕ) (c : Content) (behind : List ℕ) (x : TextPiece) → content_comment before c behind ≡ Some x → piece_text x ≡ before ++ content_text c behind
-comment_whole before c behind x e =
-    let s = content_cut c in
-    tail_whole (before ++ (s.0 ++ (s.1 ++ (s.2 ++ s.3)))) s.4 (s.5 ++ behind) x e ∙ tail_text before c behind
+comment_whole before c behind x e = search (rules, tail_whole, tail_text)
 
 gap_whole : (before gap behind : List ℕ) (x : TextPiece) → gap_comment before gap behind ≡ Some x → piece_text x ≡ before ++ (gap ++ behind)
 gap_whole before gap behind x e = go (is_empty (joined (last_run (lines_of gap)))) e
@@ -195,13 +174,10 @@ entry_piece_whole parts.Entry (s ∷ ss) e x is =
     let h = bind_some (line_inline e) is in
     let y = map_some (flow_at (s ∷ ss) h.0) h.2 in
     ap piece_text (sym y.2) ∙ (item_is y.0 ∙ (at_whole (s ∷ ss) h.0 y.0 y.1 ∙ in_line_whole e h.0 h.1))
-entry_piece_whole parts.HeadComment [] e x is =
-    let rest : List ℕ = behind_front e.line (print_lines e.under e.behind) in
-    gap_whole e.before e.line.gap (e.line.spaces ++ rest) x is ∙ ap (λ l. e.before ++ l) (sym (append_assoc e.line.gap e.line.spaces rest))
-entry_piece_whole parts.HeadComment (s ∷ ss) e x is = absurd (none-some _ is)
+entry_piece_whole parts.HeadComment [] e x is = search (rules, gap_whole, append_assoc)
 entry_piece_whole parts.LineComment [] e x is =
     comment_whole (e.before ++ (line_front e.line ++ e.line.mark)) e.line.content (print_lines e.under e.behind) x is ∙ simp append_assoc refl
-entry_piece_whole parts.LineComment (s ∷ ss) e x is = absurd (none-some _ is)
+entry_piece_whole y (s ∷ ss) e x is = absurd (none-some _ is)
 
 -- the lines of a document with the text before and behind them
 abbrev pub document_text : PrintedDocument → List ℕ
@@ -218,8 +194,7 @@ entry_whole s n m e is =
     ∙ (ap (λ x. print_lines front (print_line l.0 (print_lines x s.behind))) (sym (take-append-drop m more))
     ∙ (ap (λ x. print_lines front (print_line l.0 x)) (lines_append (take m more) (drop m more) s.behind)
     ∙ lines_then front [] (print_line l.0 (print_lines (take m more) (print_lines (drop m more) s.behind)))))) in
-    ap entry_text (sym (same_Some _ _ l.2))
-    ∙ (append_assoc s.before (print_lines front []) (print_line l.0 (print_lines (take m more) (print_lines (drop m more) s.behind))) ∙ ap (λ x. s.before ++ x) (sym lines))
+    cc (l.2, append_assoc s.before (print_lines front []) (print_line l.0 (print_lines (take m more) (print_lines (drop m more) s.behind))))
 
 steps_whole : (part : WhichPart) (y : Step) (ys : List Step) (s : PrintedDocument) (x : TextPiece) → (find y ys (group (map line_in s.lines)) >>= λ f. found_entry s f.0 >>= piece_in_entry part f.1) ≡ Some x → piece_text x ≡ document_text s
 steps_whole part y ys s x is =
@@ -228,18 +203,11 @@ steps_whole part y ys s x is =
     entry_piece_whole part f.0.1 e.0 x e.2 ∙ entry_whole s (length (lines_before f.0.0.place)) (length (flatten f.0.0.under)) e.0 e.1
 
 pub piece_whole : (part : WhichPart) (ss : List Step) (s : PrintedDocument) (x : TextPiece) → piece_in part ss s ≡ Some x → piece_text x ≡ document_text s
-piece_whole parts.Content [] s x is = block_whole s.before s.lines s.behind x is
-piece_whole parts.Entry [] s x is = absurd (none-some _ is)
-piece_whole parts.HeadComment [] s x is = absurd (none-some _ is)
-piece_whole parts.LineComment [] s x is = absurd (none-some _ is)
-piece_whole part (y ∷ ys) s x is = steps_whole part y ys s x is
+piece_whole part ss s x h1 = search (rules, block_whole, none-some, steps_whole)
 
 -- a document
 pub document_whole : (n : ℕ) (c : Cut) (s : PrintedDocument) → printed_document n c ≡ Some s → document_text s ≡ cut_text c
-document_whole n c s e =
-    let d = map_some (placed_document n c) e in
-    let p : Part = d.0.part in
-    ap document_text (sym d.2) ∙ (ap (λ x. d.0.before ++ x) (rows_are p.rows (p.end ++ d.0.behind)) ∙ sym (part_stands n c d.0 d.1).text)
+document_whole n c s e = search (rules, map_some, rows_are, part_stands)
 
 pub whole_text : (t : List ℕ) (c : Cut) (p : Path) (part : WhichPart) (x : TextPiece) → read_at t ≡ Some c → (printed_document p.doc c >>= piece_in part (steps_of p)) ≡ Some x → t ≡ piece_text x
 unfolding read_at

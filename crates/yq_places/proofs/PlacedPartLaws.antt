@@ -1,6 +1,6 @@
 -- Documents in their place in a text.
-use Rattle.std.proofs.Common.{◌≡◌, ℕ, zero, suc, ◌+◌, ◌-◌, ◌<◌, ltb, List, [], ◌++◌, length, take, Option, Some, None, option_map, true, false, refl, sym, ap, ◌∙◌, subst, arith, append_assoc}
-use Rattle.std.proofs.lemmas.Bool.{lt-ltb, le-ltb, cond-true, cond-false}
+use Rattle.std.proofs.Common.{◌≡◌, ℕ, zero, suc, ◌+◌, ◌-◌, ◌<◌, ltb, List, [], ◌++◌, length, take, Option, Some, option_map, true, false, refl, ap, subst, arith, append_assoc, rules}
+use Rattle.std.proofs.lemmas.Bool.{lt-ltb, le-ltb, cond-true}
 use Rattle.std.proofs.lemmas.Option.{same_Some}
 use Rattle.std.specs.List.{slice_get}
 use Rattle.yq_cut.specs.Grammar.{unlimited, AreRows, AreParts}
@@ -16,12 +16,10 @@ use Rattle.yq_places.specs.CommentReading.{before_row}
 use Rattle.yq_places.specs.PlacedRows.{PlacedPart, before_part, placed_at, placed_document}
 
 pub map_some : {A B : Type 0} (f : A → B) (o : Option A) (y : B) → option_map f o ≡ Some y → (x : A) × (o ≡ Some x) × (f x ≡ y)
-map_some f None y e = absurd (cc)
-map_some f (Some x) y e = (x, refl, same_Some _ _ e)
+map_some f o y h1 = search (rules, same_Some)
 
 pub text_behind : (p : Part) (marker before text rest : List ℕ) → rest ≡ before ++ text → part_text p (marker ++ rest) ≡ (part_text p marker ++ before) ++ text
-text_behind p marker before text rest e =
-    ap (λ (u : List ℕ). part_text p (marker ++ u)) e ∙ (part_then p marker (before ++ text) ∙ sym (append_assoc (part_text p marker) before text))
+text_behind p marker before text rest e = cc (part_then p marker (before ++ text), append_assoc (part_text p marker) before text)
 
 -- part i between two texts
 pub text_at : (i : ℕ) (c : Cut) → cut_text c ≡ before_part i c ++ part_text (nth_part i c) (behind_part i c)
@@ -36,13 +34,7 @@ pub record StandsIn (k : ℕ) (c : Cut) (d : PlacedPart) : Type 0 where
   pub text : cut_text c ≡ d.before ++ part_text d.part d.behind
 
 pub part_stands : (k : ℕ) (c : Cut) (d : PlacedPart) → placed_document k c ≡ Some d → StandsIn k c d
-part_stands k c d e =
-    let x = map_some (λ (p : Part). placed_at (part_number k c) c) (slice_get (document_parts c) k) d e in
-    record {
-      there = x.1 ∙ ap (λ (p : Part). Some p) (sym (part_there c k x.0 x.1) ∙ ap (λ (y : PlacedPart). y.part) x.2);
-      is = x.2;
-      text = subst (λ (y : PlacedPart). cut_text c ≡ y.before ++ part_text y.part y.behind) x.2 (text_at (part_number k c) c);
-    }
+part_stands k c d e = search (rules, map_some, part_there, text_at)
 
 pub placed_is : (k : ℕ) (c : Cut) (p : Part) → slice_get (document_parts c) k ≡ Some p → (d : PlacedPart) × (placed_document k c ≡ Some d) × (d.part ≡ p)
 placed_is k c p e = (placed_at (part_number k c) c, ap (option_map (λ (x : Part). placed_at (part_number k c) c)) e, part_there c k p e)
@@ -54,15 +46,11 @@ part_rows k c d h e = subst (λ (y : PlacedPart). AreRows unlimited y.part.rows 
 -- the text before a row of part i
 pub row_before : (i : ℕ) (c : Cut) (j : ℕ) → j < length (nth_part i c).rows → before_row (rows_to i c + j) c ≡ before_part i c ++ rows_text (take j (nth_part i c).rows) []
 row_before i (last p) j h = let same : 0 + j ≡ j = omega arith in ap (λ (k : ℕ). rows_text (take k p.rows) []) same
-row_before zero (marked p marker c) j h =
-    let same : 0 + j ≡ j = omega arith in
-    ap (λ (k : ℕ). before_row k (marked p marker c)) same ∙ cond-true _ _ _ (lt-ltb j (length p.rows) h)
+row_before zero (marked p marker c) j h = search (rules, cond-true, lt-ltb)
 row_before (suc i) (marked p marker c) j h =
     let past : ltb (length p.rows + rows_to i c + j) (length p.rows) ≡ false = le-ltb (length p.rows + rows_to i c + j) (length p.rows) (omega arith) in
     let left : length p.rows + rows_to i c + j - length p.rows ≡ rows_to i c + j = omega arith in
-    cond-false _ _ _ past
-    ∙ (ap (λ (k : ℕ). part_text p (marker ++ before_row k c)) left
-    ∙ text_behind p marker (before_part i c) (rows_text (take j (nth_part i c).rows) []) (before_row (rows_to i c + j) c) (row_before i c j h))
+    cc (text_behind p marker (before_part i c) (rows_text (take j (nth_part i c).rows) []) (before_row (rows_to i c + j) c) (row_before i c j h))
 
 pub text_before : (n : ℕ) (c : Cut) (d : PlacedPart) → placed_document n c ≡ Some d → (j : ℕ) → j < length d.part.rows → before_row (document_row n c + j) c ≡ d.before ++ rows_text (take j d.part.rows) []
 text_before n c d e = subst (λ (y : PlacedPart). (j : ℕ) → j < length y.part.rows → before_row (document_row n c + j) c ≡ y.before ++ rows_text (take j y.part.rows) []) (part_stands n c d e).is (row_before (part_number n c) c)

@@ -1,11 +1,11 @@
 -- A document's rows in the text of a cut, and the row of a line, by the rows of all parts.
-use Rattle.std.proofs.Common.{◌≡◌, ℕ, zero, suc, ◌+◌, ◌-◌, ltb, List, [], ◌∷◌, ◌++◌, length, take, drop, Option, Some, None, option_map, true, false, refl, sym, ap, ◌∙◌, subst, arith}
+use Rattle.std.proofs.Common.{◌≡◌, ℕ, zero, suc, ◌+◌, ◌-◌, List, [], ◌∷◌, ◌++◌, length, take, drop, Option, Some, None, option_map, refl, sym, ap, ◌∙◌, subst, arith, rules}
 use Rattle.std.proofs.lemmas.Bool.{lt-ltb, le-ltb, cond-true, cond-false}
 use Rattle.std.proofs.lemmas.Option.{slice_get_within, none-some, same_Some}
 use Rattle.std.specs.List.{slice_get}
 use Rattle.yq_flow_scalars.specs.Answers.{◌>>=◌}
 use Rattle.yq_cut.specs.Exchange.{behind_at, behind_row}
-use Rattle.yq_cut.specs.Rows.{Row, rows_text, Part, Cut, last, marked, cut_text}
+use Rattle.yq_cut.specs.Rows.{Row, rows_text, Part, Cut, last, marked}
 use Rattle.yq_cut.specs.Splices.{nth_part, behind_part}
 use Rattle.yq_cut.specs.View.{rows_of}
 use Rattle.yq_lines.specs.Ends.{line_of}
@@ -44,27 +44,14 @@ get_behind (x ∷ xs) ys n = let more : suc (length xs) + n ≡ suc (length xs +
 
 rows_at : (i : ℕ) (c : Cut) (j : ℕ) (r : Row) → slice_get (nth_part i c).rows j ≡ Some r →
     (slice_get (rows_of c) (rows_to i c + j) ≡ Some r) × (behind_row (rows_to i c + j) c ≡ rows_text (drop (suc j) (nth_part i c).rows) ((nth_part i c).end ++ behind_part i c))
-rows_at i (last p) j r is =
-    let n : 0 + j ≡ j = omega arith in
-    (ap (slice_get p.rows) n ∙ is, ap (λ k. behind_row k (last p)) n ∙ rows_behind p.rows j (p.end ++ []))
-rows_at zero (marked p marker c) j r is =
-    let n : 0 + j ≡ j = omega arith in
-    let here : ltb j (length p.rows) ≡ true = lt-ltb j (length p.rows) (slice_get_within p.rows j r is) in (
-      ap (slice_get (p.rows ++ rows_of c)) n ∙ get_front p.rows (rows_of c) j r is,
-      ap (λ k. behind_row k (marked p marker c)) n ∙ (cond-true _ _ _ here ∙ rows_behind p.rows j (p.end ++ (marker ++ cut_text c))),
-    )
+rows_at i (last p) j r is = search (rules, rows_behind)
+rows_at zero (marked p marker c) j r is = search (rules, lt-ltb, slice_get_within, get_front, cond-true, rows_behind)
 rows_at (suc i) (marked q marker c) j r is =
     let x = rows_at i c j r is in
-    let n : length q.rows + rows_to i c + j ≡ length q.rows + (rows_to i c + j) = omega arith in
-    let past : ltb (length q.rows + rows_to i c + j) (length q.rows) ≡ false = le-ltb (length q.rows + rows_to i c + j) (length q.rows) (omega arith) in
-    let left : length q.rows + rows_to i c + j - length q.rows ≡ rows_to i c + j = omega arith in
-    (ap (slice_get (q.rows ++ rows_of c)) n ∙ (get_behind q.rows (rows_of c) (rows_to i c + j) ∙ x.0), cond-false _ _ _ past ∙ (ap (λ k. behind_row k c) left ∙ x.1))
+    search (rules, le-ltb, get_behind, cond-false, x)
 
 pub part_at : (n : ℕ) (c : Cut) (s : PlacedPart) → placed_document n c ≡ Some s → HasRowsAt c (document_row n c) s
-part_at n c s e =
-    let i : ℕ = part_number n c in
-    subst (HasRowsAt c (document_row n c)) (part_stands n c s e).is
-    (λ j r is. let x = rows_at i c j r is in record { there = x.0; before_is = row_before i c j (slice_get_within (nth_part i c).rows j r is); behind_is = x.1 })
+part_at n c s e = search (rules, part_stands, rows_at, row_before, slice_get_within)
 
 -- a document's part
 abbrev pub part_of : Option PlacedPart → Option Part
@@ -74,8 +61,7 @@ pub document_placed : (n : ℕ) (c : Cut) → slice_get (document_parts c) n ≡
 document_placed n c = go (slice_get (document_parts c) n) refl
   where
     go : (o : Option Part) → slice_get (document_parts c) n ≡ o → o ≡ part_of (option_map (λ p. placed_at (part_number n c) c) o)
-    go None e = refl
-    go (Some p) e = ap (λ (x : Part). Some x) (sym (part_there c n p e))
+    go o h1 = search (rules, part_there)
 
 -- The line that the code tells is one of a row that stands there.
 pub record IsRowLineOf (path : Path) (c : Cut) (n : Numbers) (w : PlacedRow) : Type 0 where
@@ -108,12 +94,4 @@ row_line_placed path c n e = go (placed_document path.doc c) refl (e ∙ ap (λ 
     go (Some s) is e = at_row_line s is (row_line_of (steps_of path) s.part.rows) refl e
 
 pub no_row_line_placed : (path : Path) (c : Cut) (k : ℕ) → None ≡ option_map (numbers k) (row_line_at path c) → row_of_path path.doc (steps_of path) c ≡ None
-no_row_line_placed path c k e = go (placed_document path.doc c) refl (e ∙ ap (λ (o : Option Part). option_map (numbers k) (o >>= λ d. row_line_of (steps_of path) d.rows)) (document_placed path.doc c))
-  where
-    at_row_line : (s : PlacedPart) (o : Option RowLine) → row_line_of (steps_of path) s.part.rows ≡ o → None ≡ option_map (numbers k) o → option_map (placed_row s) (row_line_of (steps_of path) s.part.rows) ≡ None
-    at_row_line s None is e = ap (option_map (placed_row s)) is
-    at_row_line s (Some x) is e = absurd (none-some _ e)
-
-    go : (o : Option PlacedPart) → placed_document path.doc c ≡ o → None ≡ option_map (numbers k) (part_of o >>= λ d. row_line_of (steps_of path) d.rows) → row_of_path path.doc (steps_of path) c ≡ None
-    go None is e = ap (λ (o : Option PlacedPart). o >>= λ s. option_map (placed_row s) (row_line_of (steps_of path) s.part.rows)) is
-    go (Some s) is e = ap (λ (o : Option PlacedPart). o >>= λ s. option_map (placed_row s) (row_line_of (steps_of path) s.part.rows)) is ∙ at_row_line s (row_line_of (steps_of path) s.part.rows) refl e
+no_row_line_placed path c k e = search (rules, document_placed)

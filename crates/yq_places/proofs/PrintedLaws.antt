@@ -1,5 +1,5 @@
 -- What is told of lines with their texts, and the lines of a document.
-use Rattle.std.proofs.Common.{◌≡◌, ◌⊎◌, inl, inr, ℕ, suc, ◌+◌, List, [], ◌∷◌, ◌++◌, map, Option, Some, None, Bool, true, refl, sym, ap, ◌∙◌, subst, replicate, ℤ}
+use Rattle.std.proofs.Common.{◌≡◌, ◌⊎◌, inl, ℕ, suc, ◌+◌, List, [], ◌∷◌, ◌++◌, map, Option, Some, None, Bool, true, refl, sym, ap, ◌∙◌, subst, replicate, ℤ, rules}
 use Rattle.std.specs.List.{slice_get}
 use Rattle.yq_block_scalars.specs.Block.{IsBlock}
 use Rattle.yq_flow_scalars.specs.Text.{upto}
@@ -10,7 +10,7 @@ use Rattle.yq_cut.specs.Rows as rows
 use Rattle.yq_cut.specs.View.{content_cut}
 use Rattle.yq_cut.specs.Rows.{Content, Nothing, Inline, Block, content_text, mark_text, dashes_text, behind_gap, Row, rows_text, Part, Cut}
 use Rattle.yq_documents.specs.Documents.{document_parts}
-use Rattle.yq_row_lines.specs.Lines.{head_of, tail_of, dash_line, lines_from, lines_of}
+use Rattle.yq_row_lines.specs.Lines.{head_of, tail_of, lines_from, lines_of}
 use Rattle.yq_row_lines.proofs.RowLaws.{no_comments}
 use Rattle.yq_places.specs.PrintedLines.{behind_front, PrintedLine, print_lines, printed_from, printed_row, printed_lines, line_in}
 use Rattle.yq_places.specs.PathPieces.{PrintedDocument, printed_document}
@@ -52,9 +52,7 @@ printed_split (x ∷ xs) ys rest h = let k = printed_split xs ys rest h.1 in ((s
 
 -- the lines of rows
 pub content_written : (n : ℤ) (c : Content) (rest : List ℕ) → IsContent n c rest → IsWritten c rest
-content_written n (Nothing tail) rest h = tt
-content_written n (Inline space node tail) rest h = (_, _, _, h.1.valid)
-content_written n (Block space anchor block) rest h = (_, h.2)
+content_written n c rest h1 = search rules
 
 pub none_beside : comments.line_comment [] ≡ None
 unfolding upto
@@ -62,8 +60,7 @@ none_beside = refl
 
 pub from_printed : (gap spaces : List ℕ) (column : ℕ) (ns : List ℕ) (m : rows.Mark) (c : Content) (rest : List ℕ) → IsWritten c rest → Ended (content_cut c).4 ((content_cut c).5 ++ rest) →
     (gap ≡ []) ⊎ Ended gap (spaces ++ dashes_text ns (mark_text m (content_text c rest))) → ArePrinted (printed_from gap spaces column ns m c) rest
-from_printed gap spaces column [] m c rest h e g =
-    (record { head = refl; above = refl; beside = refl; written = h; gap = subst (λ x. (gap ≡ []) ⊎ Ended gap (spaces ++ x)) (alone m (content_text c rest)) g; tail = inr e }, tt)
+from_printed gap spaces column [] m c rest h e g = search (rules, alone)
 from_printed gap spaces column (n ∷ ns) m c rest h e g = (
   record { head = refl; above = refl; beside = sym none_beside; written = tt; gap = subst (λ x. (gap ≡ []) ⊎ Ended gap (spaces ++ (45 ∷ (replicate n 32 ++ x)))) (sym (from_is [] [] (suc (column + n)) ns m c rest)) g; tail = inl refl },
   from_printed [] [] (suc (column + n)) ns m c rest h e (inl refl),
@@ -85,8 +82,7 @@ map_append (x ∷ xs) ys = ap (λ l. line_in x ∷ l) (map_append xs ys)
 
 pub from_lines : (gap spaces : List ℕ) (column : ℕ) (ns : List ℕ) (m : rows.Mark) (c : Content) → map line_in (printed_from gap spaces column ns m c) ≡ lines_from (comments.head_comment gap) column ns m c
 from_lines gap spaces column [] m c = refl
-from_lines gap spaces column (n ∷ ns) m c =
-    ap (λ l. dash_line (comments.head_comment gap) column ∷ l) (from_lines [] [] (suc (column + n)) ns m c ∙ ap (λ above. lines_from above (suc (column + n)) ns m c) no_comments)
+from_lines gap spaces column (n ∷ ns) m c = cc (from_lines [] [] (suc (column + n)) ns m c, no_comments)
 
 pub lines_are : (rs : List Row) → map line_in (printed_lines rs) ≡ lines_of rs
 lines_are [] = refl

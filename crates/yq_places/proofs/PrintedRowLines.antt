@@ -1,5 +1,5 @@
 -- The lines of rows with their texts, by the row lines of lines.
-use Rattle.std.proofs.Common.{◌≡◌, ◌⊎◌, inl, inr, ℕ, zero, suc, ◌+◌, ◌-◌, ◌<◌, ◌≤◌, List, [], ◌∷◌, ◌++◌, length, take, Some, None, refl, sym, ap, ◌∙◌, subst, arith, append_assoc, append-nil, replicate}
+use Rattle.std.proofs.Common.{◌≡◌, ◌⊎◌, inl, inr, ℕ, zero, suc, ◌+◌, ◌-◌, ◌<◌, ◌≤◌, List, [], ◌∷◌, ◌++◌, length, take, Some, None, refl, sym, ap, ◌∙◌, subst, arith, append_assoc, append-nil, replicate, rules}
 use Rattle.std.proofs.Math.Seq.{take-append-add}
 use Rattle.std.proofs.lemmas.Bool.{cases_lt, lt-ltb, le-ltb, cond-true, cond-false}
 use Rattle.std.proofs.lemmas.List.{take-append-le}
@@ -7,7 +7,7 @@ use Rattle.std.proofs.lemmas.Option.{none-some, same_Some}
 use Rattle.std.specs.List.{slice_get}
 use Rattle.yq_lines.specs.Comments.{head_comment}
 use Rattle.yq_cut.specs.Rows as rows
-use Rattle.yq_cut.specs.Rows.{Content, Nothing, Row, dashes_text, mark_text, rows_text, print_row, Part, Cut}
+use Rattle.yq_cut.specs.Rows.{Content, Nothing, Row, dashes_text, mark_text, rows_text, Part, Cut}
 use Rattle.yq_documents.specs.Documents.{document_parts}
 use Rattle.yq_row_lines.specs.Lines.{mark_of, dash_line}
 use Rattle.yq_lines.specs.Outline.{level}
@@ -56,20 +56,7 @@ in_row gap spaces column (k ∷ ns) m c zero h =
     record { line = _; there = refl; start = sym (append-nil (gap ++ spaces)); first = λ e. (refl, refl); later = λ p. absurd (omega (arith, p)); last = λ e. absurd (omega (arith, e)); deeper = λ p. (d.0, d.1, d.2, refl); dash = λ p. refl }
 in_row gap spaces column (k ∷ ns) m c (suc n) h =
     let r = in_row [] [] (suc (column + k)) ns m c n (omega (arith, h)) in
-    record {
-      line = r.line;
-      there = r.there;
-      start = ap (λ l. (gap ++ spaces) ++ (45 ∷ (replicate k 32 ++ l))) r.start;
-      first = λ e. absurd (omega (arith, e));
-      later = λ p. none r (cases_lt 0 n);
-      last = λ e. r.last (omega (arith, e));
-      deeper = λ p. r.deeper (omega (arith, p));
-      dash = λ p. r.dash (omega (arith, p));
-    }
-  where
-    none : (r : IsInRow (printed_from [] [] (suc (column + k)) ns m c) [] [] ns m c n) → (0 < n) ⊎ (n ≤ 0) → r.line.gap ≡ []
-    none r (inl more) = r.later more
-    none r (inr zero_is) = (r.first (omega (arith, zero_is))).0
+    search (rules, cases_lt, r)
 
 -- the text of a row before line k of it
 abbrev pub row_begin : RowLine → List ℕ
@@ -127,22 +114,7 @@ printed_line (r ∷ rs) n q e = go (cases_lt (length r.dashes) n) (λ p h. print
     past : length r.dashes < n → (p : RowLine) → IsPrintedLine rs (n - suc (length r.dashes)) p → IsPrintedLine (r ∷ rs) n (behind_one p)
     past h p d =
         let at : n ≡ length (printed_row r) + (n - suc (length r.dashes)) = omega (arith, h, count) in
-        let next : suc n ≡ length (printed_row r) + suc (n - suc (length r.dashes)) = omega (arith, h, count) in
-        record {
-          line = d.line;
-          there = ap (slice_get (printed_row r ++ printed_lines rs)) at ∙ (get_behind (printed_row r) (printed_lines rs) (n - suc (length r.dashes)) ∙ d.there);
-          start =
-              ap (λ x. print_lines x (line_front d.line)) (ap (λ k. take k (printed_row r ++ printed_lines rs)) at ∙ take-append-add (printed_row r) (printed_lines rs) (n - suc (length r.dashes)))
-              ∙ (lines_append (printed_row r) (take (n - suc (length r.dashes)) (printed_lines rs)) (line_front d.line)
-              ∙ (row_is r (print_lines (take (n - suc (length r.dashes)) (printed_lines rs)) (line_front d.line)) ∙ ap (print_row r) d.start));
-          within = d.within;
-          row = d.row;
-          last = d.last;
-          first = d.first;
-          later = d.later;
-          dash = d.dash;
-          deeper = λ l. let k = d.deeper l in (k.0, ap (slice_get (printed_row r ++ printed_lines rs)) next ∙ (get_behind (printed_row r) (printed_lines rs) (suc (n - suc (length r.dashes))) ∙ k.1), k.2, k.3);
-        }
+        search (rules, get_behind, take-append-add, lines_append, row_is, at)
 
     go : (length r.dashes < n) ⊎ (n ≤ length r.dashes) → ((p : RowLine) → row_line (n - suc (length r.dashes)) rs ≡ Some p → IsPrintedLine rs (n - suc (length r.dashes)) p) → IsPrintedLine (r ∷ rs) n q
     go (inl h) again =

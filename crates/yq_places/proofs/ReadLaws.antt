@@ -1,11 +1,10 @@
 -- Reading bytes as documents, both ways.
-use Rattle.std.proofs.Common.{◌≡◌, ℕ, List, true, Option, Some, None, refl, sym, ap, ◌∙◌, subst}
+use Rattle.std.proofs.Common.{◌≡◌, ℕ, List, true, Option, Some, None, refl, sym, ap, ◌∙◌, subst, ◌↔◌, rules}
 use Rattle.std.proofs.lemmas.Bool.{cond-true}
 use Rattle.std.proofs.lemmas.Option.{cond_some, none-some, same_Some}
 use Rattle.std.specs.Str.{is_utf8}
 use Rattle.yq_flow_scalars.specs.Answers.{◌>>=◌, ReadFails}
 use Rattle.yq_flow_scalars.specs.declared.fault.ReadError.{ReadError}
-use Rattle.yq_flow_scalars.specs.declared.fault.ReadError.TheVariants as errors
 use Rattle.yq_flow_scalars.proofs.Bools.{bind_some, guard_then}
 use Rattle.yq_cut.specs.Grammar.{IsCut}
 use Rattle.yq_cut.specs.Slicing.{read_view}
@@ -39,13 +38,11 @@ text_read t c h e = text_again t c h e ∙ ap Some (sym (cut_is t c h))
 
 -- a text without a cut
 not_cut : (o : Option Cut) → read_view o ≡ None → (o >>= checked) ≡ None
-not_cut (Some c) h = cc
-not_cut None h = refl
+not_cut o h1 = search rules
 
 pub scan_fails : (t : List ℕ) (e : ReadError) → ReadFails e (read_view (scan_at t)) → ReadFails e (checked_at t)
 unfolding checked_at
-scan_fails t errors.Memory h = tt
-scan_fails t (errors.Fault f) h = not_cut (scan_at t) h
+scan_fails t e h1 = search (rules, not_cut)
 
 pub read_takes : (bytes : List ℕ) (c : Cut) → read_at bytes ≡ Some c → Reads bytes (documents c)
 unfolding read_at
@@ -56,9 +53,7 @@ read_takes bytes c e =
 
 pub read_again : (bytes : List ℕ) (docs : List Document) → Reads bytes docs → (c : Cut) × (read_at bytes ≡ Some c) × (documents c ≡ docs)
 unfolding read_at
-read_again bytes docs h =
-    let d = documents_again (document_parts h.parts) docs h.documents in
-    (h.parts, cond-true _ _ _ h.utf8 ∙ text_again bytes h.parts h.cut d.0, d.1)
+read_again bytes docs h = search (rules, documents_again, cond-true, text_again)
 
 pub one_reading : (bytes : List ℕ) (docs others : List Document) → Reads bytes docs → Reads bytes others → docs ≡ others
 one_reading bytes docs others h k =
@@ -76,3 +71,21 @@ only_by bytes c e docs h = let a = read_again bytes docs h in ap Some (sym a.2 �
 
 pub none_by : (bytes : List ℕ) → read_at bytes ≡ None → (docs : List Document) → Reads bytes docs → Some docs ≡ None
 none_by bytes e docs h = let a = read_again bytes docs h in absurd (none-some _ (sym e ∙ a.1))
+
+-- ---- reading gives a cut exactly where the grammar reads the bytes by it
+
+-- the cut that is read is that of the grammar
+read_parts : (bytes : List ℕ) (c : Cut) → read_at bytes ≡ Some c → (reads : Reads bytes (documents c)) × (reads.parts ≡ c)
+unfolding read_at
+read_parts bytes c e =
+    let p = guard_then (is_utf8 bytes) e in
+    let q = text_takes bytes c p.1 in
+    (record { utf8 = p.0; parts = c; cut = q.0; documents = documents_take (document_parts c) q.1 }, refl)
+
+-- the cut of the grammar is read
+pub parts_read : (bytes : List ℕ) (docs : List Document) (h : Reads bytes docs) → (read_at bytes ≡ Some h.parts) × (documents h.parts ≡ docs)
+unfolding read_at
+parts_read bytes docs h = search (rules, documents_again, cond-true, text_again)
+
+pub exact_reading : (bytes : List ℕ) (c : Cut) → (read_at bytes ≡ Some c) ↔ ((reads : Reads bytes (documents c)) × (reads.parts ≡ c))
+exact_reading bytes c = (read_parts bytes c, λ h. (parts_read bytes (documents c) h.0).0 ∙ ap Some h.1)

@@ -1,5 +1,5 @@
 -- Documents that are read are ready for the meaning of updates.
-use Rattle.std.proofs.Common.{◌≡◌, ℕ, ℤ, zero, suc, ◌+◌, eqb, Bool, true, false, cond, List, [], ◌∷◌, ◌++◌, map, Option, Some, None, refl, sym, ap, ◌∙◌, subst}
+use Rattle.std.proofs.Common.{◌≡◌, ℕ, ℤ, zero, suc, ◌+◌, eqb, Bool, true, false, cond, List, [], ◌∷◌, ◌++◌, map, Option, Some, None, refl, sym, ap, ◌∙◌, subst, rules}
 use Rattle.std.specs.List.{list_all, slice_get}
 use Rattle.std.proofs.lemmas.Bool.{and_parts, false≢true}
 use Rattle.std.proofs.lemmas.Option.{none-some}
@@ -27,15 +27,11 @@ use Rattle.yq_places.proofs.ReadLaws.{cut_is}
 -- ---- what is written in rows
 
 named_shaped : (a : List ℕ) (n : Node) → IsShaped n → IsShaped (with_name a n)
-named_shaped a (tree.alias name) h = h
-named_shaped a (tree.scalar b kind text) h = h
-named_shaped a (tree.list b cs) h = h
-named_shaped a (tree.map b cs) h = h
+named_shaped a n h1 = search rules
 
 -- items in `]` and entries in `}`
 collection_shaped : (b : Bool) (cs : Children) → (b ≡ true → AreKeyed cs) → (b ≡ false → AreItems cs) → AreShaped cs → IsShaped (cond b (tree.map None cs) (tree.list None cs))
-collection_shaped true cs keyed items h = (keyed refl, h)
-collection_shaped false cs keyed items h = (items refl, h)
+collection_shaped b cs h1 h2 h3 = search rules
 
 all_keyed : (d k : ℕ) (is : Items) (rest : List ℕ) → inline.AreItems d k is rest → eqb k 125 ≡ true → AreKeyed (items_tree is)
 unfolding IsNode items_tree
@@ -74,9 +70,7 @@ inline_shaped flow spaces d (inline.coll k gap is) rest h = node_shaped flow spa
 inline_shaped flow spaces d (inline.anchored name gap n) rest h = inline_shaped flow spaces d n rest h.4
 
 head_shaped : (n : ℤ) (c : Content) (rest : List ℕ) → IsContent n c rest → HeadIsShaped (head_of c)
-head_shaped n (rows.Nothing tail) rest h = tt
-head_shaped n (rows.Inline space node tail) rest h = inline_shaped _ _ _ node (tail ++ rest) h.1.valid
-head_shaped n (rows.Block space anchor block) rest h = tt
+head_shaped n c rest h1 = search (rules, inline_shaped)
 
 from_shaped : (above : List (List ℕ)) (column : ℕ) (dashes : List ℕ) (mark : rows.Mark) (c : Content) → HeadIsShaped (head_of c) → HeadsAreShaped (lines_from above column dashes mark c)
 from_shaped above column [] mark c h = (h, tt)
@@ -98,8 +92,7 @@ PartsAreShaped [] = Unit {0}
 PartsAreShaped (p ∷ ps) = HeadsAreShaped (lines_of p.rows) × PartsAreShaped ps
 
 with_shaped : (is : Bool) (p : Part) (ps : List Part) → HeadsAreShaped (lines_of p.rows) → PartsAreShaped ps → PartsAreShaped (with_part is p ps)
-with_shaped true p ps h k = (h, k)
-with_shaped false p ps h k = k
+with_shaped is p ps h1 h2 = search rules
 
 parts_shaped : (started is : Bool) (c : Cut) → AreParts started c → PartsAreShaped (parts_from is c)
 parts_shaped started is (last p) h = with_shaped is p [] (rows_shaped _ p.rows p.end _ h.rows) tt
@@ -114,9 +107,7 @@ bare_entry : {m : Mark} → m ≡ Bare → is_entry m ≡ true → ⊥
 bare_entry e h = false≢true (sym (ap is_entry e) ∙ h)
 
 node_lead : {n : ℕ} {l : Line} {ls : List Line} {v : Node} (lead : List (List ℕ)) → lines.IsNode n (l ∷ ls) v → is_entry l.mark ≡ true → lead_by true (children_of v) lead ≡ l.head_comment
-node_lead lead (lines.alone lev bare head) h = absurd (bare_entry bare h)
-node_lead lead (lines.mapping mark es) h = first_lead lead es
-node_lead lead (lines.sequence mark es) h = first_lead lead es
+node_lead lead h1 h2 = search (rules, bare_entry, first_lead)
 
 -- the first line has the lead as its head comment
 abbrev LeadAbove : List (List ℕ) → List Line → Type 0
@@ -131,37 +122,23 @@ rows_above : (p : Part) → LeadAbove (lead_of p) (lines_of p.rows)
 rows_above p = go p.rows
   where
     go : (rs : List Row) → LeadAbove (lead_of (record p { rows = rs })) (lines_of rs)
-    go [] = tt
-    go (r ∷ rs) = row_above _ r.column r.dashes r.mark r.content (lines_of rs)
+    go rs = search (rules, row_above)
 
 root_led : (ls : List Line) (v : Node) (lead : List (List ℕ)) → IsRoot ls v → LeadAbove lead ls → lead_by (begins_no_node ls) (children_of v) lead ≡ lead
-root_led [] v lead h above = ap (λ (n : Node). lead_by true (children_of n) lead) h
-root_led (l ∷ ls) v lead h above = go (is_entry l.mark) refl
-  where
-    go : (b : Bool) → is_entry l.mark ≡ b → lead_by b (children_of v) lead ≡ lead
-    go true e = node_lead lead h.1 e ∙ above
-    go false e = refl
+root_led ls v lead h1 h2 = search (rules, node_lead)
 
 -- ---- documents
 
 root_shaped : ShapedByLines → (ls : List Line) (v : Node) → IsRoot ls v → HeadsAreShaped ls → IsShaped v
-root_shaped law [] v h heads = subst IsShaped (sym h) tt
-root_shaped law (l ∷ ls) v h heads = law h.0 (l ∷ ls) v h.1 heads
+root_shaped h1 ls v h2 h3 = search rules
 
 part_ready : ShapedByLines → ShapedIsTree → (p : Part) (d : Document) → IsDocument p d → HeadsAreShaped (lines_of p.rows) → IsReady (begins_no_node (lines_of p.rows)) d
-part_ready shaped law p d h heads =
-    record {
-      tree = law d.root (root_shaped shaped (lines_of p.rows) d.root h.root heads) h.unique;
-      nested = h.nested;
-      led = ap (lead_by (begins_no_node (lines_of p.rows)) (children_of d.root)) h.lead ∙ (root_led (lines_of p.rows) d.root (lead_of p) h.root (rows_above p) ∙ sym h.lead);
-    }
+part_ready shaped law p d h heads = search (rules, root_shaped, root_led, rows_above)
 
 parts_ready : ShapedByLines → ShapedIsTree → (ps : List Part) → PartsAreShaped ps → list_all is_document ps ≡ true → (i : ℕ) (d : Document) → slice_get (map document_of ps) i ≡ Some d →
     IsReady (part_is_block (slice_get ps i)) d
 parts_ready shaped law [] heads all i d at = absurd (none-some _ at)
-parts_ready shaped law (p ∷ ps) heads all zero d at =
-    let same : document_of p ≡ d = cc in
-    subst (IsReady (begins_no_node (lines_of p.rows))) same (part_ready shaped law p (document_of p) (document_is p (and_parts (is_document p) (list_all is_document ps) all).0) heads.0)
+parts_ready shaped law (p ∷ ps) heads all zero d at = search (rules, part_ready, document_is, and_parts)
 parts_ready shaped law (p ∷ ps) heads all (suc i) d at = parts_ready shaped law ps heads.1 (and_parts (is_document p) (list_all is_document ps) all).1 i d at
 
 -- A cut whose parts stand for documents.

@@ -1,12 +1,12 @@
 -- Rows of a document and the gaps behind them, among all rows of a text.
-use Rattle.std.proofs.Common.{◌≡◌, ℕ, zero, suc, ◌+◌, ◌-◌, ◌<◌, ◌≤◌, eqb, List, [], ◌∷◌, ◌++◌, length, length-append, take, Some, option_map, cond, refl, sym, ap, ◌∙◌, subst, arith}
+use Rattle.std.proofs.Common.{◌≡◌, ℕ, zero, suc, ◌+◌, ◌-◌, ◌<◌, ◌≤◌, eqb, List, [], ◌∷◌, ◌++◌, length, length-append, take, Some, refl, ap, ◌∙◌, subst, arith, rules}
 use Rattle.std.proofs.lemmas.Bool.{cond-true, cond-false, eq-eqb, ne_eqb}
 use Rattle.std.proofs.lemmas.Option.{slice_get-map}
 use Rattle.std.specs.List.{slice_get}
 use Rattle.yq_cut.specs.Removal.{block_of, last_block, next_column}
 use Rattle.yq_cut.specs.Rows.{Row, Part, Cut, last, marked}
 use Rattle.yq_cut.specs.Splices.{first_gap, nth_part}
-use Rattle.yq_cut.specs.View.{slices, rows_of, Bound, bounds_from, bounds_of, bounds_at, rows_view}
+use Rattle.yq_cut.specs.View.{rows_of, Bound, bounds_from, bounds_of, bounds_at, rows_view}
 use Rattle.yq_places.specs.PlacedRows.{PlacedPart, placed_document}
 use Rattle.yq_places.specs.RemovalReading.{gap_at, gap_and_column}
 use Rattle.yq_documents.specs.LinesInRows.{document_row}
@@ -17,8 +17,7 @@ use Rattle.yq_places.proofs.PlacedPartLaws.{part_stands}
 
 none_low : (i k : ℕ) (c : Cut) → i < k → bounds_at i (bounds_from k c) ≡ []
 none_low i k (last p) h = cond-false (eqb i (k + length p.rows)) (record { rows = k + length p.rows; end = p.end; marker = [] } ∷ []) [] (ne_eqb i (k + length p.rows) (λ e. omega (arith, e, h)))
-none_low i k (marked p marker c) h =
-    cond-false (eqb i (k + length p.rows)) _ (bounds_at i (bounds_from (k + length p.rows) c)) (ne_eqb i (k + length p.rows) (λ e. omega (arith, e, h))) ∙ none_low i (k + length p.rows) c (omega (arith, h))
+none_low i k (marked p marker c) h = cc (ne_eqb i (k + length p.rows) (λ e. omega (arith, e, h)), none_low i (k + length p.rows) c (omega (arith, h)))
 
 -- Inside a document no part ends before a row; behind its last row it does.
 record EndsAt (k i : ℕ) (c : Cut) (p : Part) (j : ℕ) : Type 0 where
@@ -41,13 +40,7 @@ ends_at zero k (marked p marker c) j i some at =
     }
 ends_at (suc m) k (marked p marker c) j i some at =
     let h = ends_at m (k + length p.rows) c j i some (omega (arith, at)) in
-    let b : Bound = record { rows = k + length p.rows; end = p.end; marker = marker } in
-    let others : List Bound = bounds_at i (bounds_from (k + length p.rows) c) in
-    let past : cond (eqb i (k + length p.rows)) (b ∷ others) others ≡ others = cond-false (eqb i (k + length p.rows)) (b ∷ others) others (ne_eqb i (k + length p.rows) (λ e. omega (arith, e, at, some))) in
-    record {
-      inside = λ e. past ∙ h.inside e;
-      behind = λ e. let x = h.behind e in (x.0, x.1, past ∙ x.2, x.3);
-    }
+    search (rules, cond-false, ne_eqb, h)
 
 -- the gap before the rows of a document behind some, and its column
 pub gap_behind : (n : ℕ) (c : Cut) (d : PlacedPart) (some back : List Row) → placed_document n c ≡ Some d → d.part.rows ≡ some ++ back → 0 < length some →
@@ -63,14 +56,10 @@ gap_behind n c d some back e rows more there = go back refl (subst (λ (y : Plac
 
     go : (bs : List Row) → back ≡ bs → EndsAt 0 (document_row n c + length some) c d.part (length some) →
         gap_and_column (bounds_at (document_row n c + length some) (bounds_of c)) (slice_get (rows_view c).rows (document_row n c + length some)) ≡ (first_gap back d.part.end, next_column back)
-    go [] is h =
-        let x = h.behind (omega (arith, size [] is)) in
-        ap (λ bs. gap_and_column bs (slice_get (rows_view c).rows (document_row n c + length some))) x.2
-        ∙ ((λ j. (x.3 j, 0)) ∙ (λ j. (first_gap (sym is j) d.part.end, next_column (sym is j))))
+    go [] is h = search rules
     go (r ∷ rs) is h =
         let none_there = h.inside (omega (arith, size (r ∷ rs) is)) in
-        (λ j. gap_and_column (none_there j) ((slice_get-map slices (rows_of c) (document_row n c + length some) ∙ ap (option_map slices) (there r rs is)) j))
-        ∙ (λ j. (first_gap (sym is j) d.part.end, next_column (sym is j)))
+        search (rules, slice_get-map, none_there)
 
 -- the last of several rows
 pub last_row : (k : ℕ) (rs : List Row) → 0 < k → k ≤ length rs → (r : Row) × (slice_get rs (k - 1) ≡ Some r) × (last_block (take k rs) ≡ block_of r.content)
@@ -80,6 +69,4 @@ last_row (suc zero) (r ∷ rs) h less = (r, refl, refl)
 last_row (suc (suc k)) (r ∷ []) h less = absurd (omega (arith, less))
 last_row (suc (suc k)) (r ∷ (q ∷ rs)) h less =
     let x = last_row (suc k) (q ∷ rs) (omega arith) (omega (arith, less)) in
-    let here : suc (suc k) - 1 ≡ suc k = omega arith in
-    let there : k ≡ suc k - 1 = omega arith in
-    (x.0, ap (slice_get (r ∷ (q ∷ rs))) here ∙ (ap (slice_get (q ∷ rs)) there ∙ x.1), x.2)
+    search (rules, x)

@@ -1,5 +1,5 @@
 -- What is taken out of a text with rows of a document begins and ends between lines.
-use Rattle.std.proofs.Common.{◌≡◌, ◌⊎◌, inl, inr, ℕ, zero, suc, ℤ, Bool, true, false, List, [], ◌∷◌, ◌++◌, length, take, drop, replicate, Some, refl, sym, ap, ◌∙◌, subst, append-nil}
+use Rattle.std.proofs.Common.{◌≡◌, ◌⊎◌, inl, inr, ℕ, zero, suc, ℤ, Bool, true, false, List, [], ◌∷◌, ◌++◌, length, take, drop, replicate, Some, refl, sym, ap, ◌∙◌, subst, append-nil, rules}
 use Rattle.std.proofs.Math.Seq.{drop-append_seam}
 use Rattle.std.proofs.lemmas.Bool.{and_parts}
 use Rattle.std.proofs.lemmas.List.{take-append-drop}
@@ -33,26 +33,20 @@ abbrev pub LineSeam : List ℕ → List ℕ → Type 0
 LineSeam a b = (a ≡ []) ⊎ Ended a b
 
 pub seam_join : (a b c : List ℕ) → LineSeam a (b ++ c) → LineSeam b c → LineSeam (a ++ b) c
-seam_join a b c h (inl e) = subst (λ (x : List ℕ). LineSeam x c) (sym (ap (λ (x : List ℕ). a ++ x) e ∙ append-nil a)) (subst (λ (x : List ℕ). LineSeam a (x ++ c)) e h)
-seam_join a b c h (inr (inl lf)) = inr (inl (append_lf a b lf))
-seam_join a b c h (inr (inr e)) = inr (inr e)
+seam_join a b c h1 h2 = search (rules, append-nil, append_lf)
 
 -- Nothing, or a text that ends in an LF.
 abbrev pub AtLine : List ℕ → Type 0
 AtLine a = (a ≡ []) ⊎ IsLf a
 
 at_line : (a b : List ℕ) → LineSeam a b → is_empty b ≡ false → AtLine a
-at_line a b (inl e) some = inl e
-at_line a b (inr (inl lf)) some = inr lf
-at_line a b (inr (inr e)) some = absurd (none_is b some e)
+at_line a b h1 h2 = search (rules, none_is)
 
 lines_join : (a b : List ℕ) → AtLine a → AtLine b → AtLine (a ++ b)
-lines_join a b h (inl e) = subst AtLine (sym (ap (λ (x : List ℕ). a ++ x) e ∙ append-nil a)) h
-lines_join a b h (inr lf) = inr (append_lf a b lf)
+lines_join a b h1 h2 = search (rules, append-nil, append_lf)
 
 pub line_seam : (a b : List ℕ) → AtLine a → LineSeam a b
-line_seam a b (inl e) = inl e
-line_seam a b (inr lf) = inr (inl lf)
+line_seam a b h1 = search rules
 
 -- ---- rows
 
@@ -173,5 +167,4 @@ are_lines d front r rs back lies rows =
     }
   where
     ended_after : (a b u : List ℕ) → Ended b u → Ended (a ++ b) u
-    ended_after a b u (inl lf) = inl (append_lf a b lf)
-    ended_after a b u (inr e) = inr e
+    ended_after a b u h1 = search (rules, append_lf)

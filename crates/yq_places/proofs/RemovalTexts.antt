@@ -1,12 +1,12 @@
 -- The text of a document, by rows that are taken out of it.
-use Rattle.std.proofs.Common.{◌≡◌, Bool, true, false, cond, ℕ, List, [], ◌∷◌, ◌++◌, refl, sym, ap, ◌∙◌, append_assoc}
+use Rattle.std.proofs.Common.{◌≡◌, Bool, false, cond, ℕ, List, [], ◌∷◌, ◌++◌, refl, sym, ap, ◌∙◌, append_assoc, rules}
 use Rattle.std.proofs.lemmas.Bool.{false≢true}
 use Rattle.yq_block_scalars.specs.Block.{Lines}
 use Rattle.yq_flow_scalars.specs.Text.{joined, lines_of as text_lines}
 use Rattle.yq_block_scalars.proofs.LineLaws.{joined_lines}
 use Rattle.yq_lines.specs.Comments.{are_comments}
 use Rattle.yq_cut.specs.Grammar.{no_rows}
-use Rattle.yq_cut.specs.Rows.{Row, behind_gap, print_row, rows_text, part_text}
+use Rattle.yq_cut.specs.Rows.{Row, print_row, rows_text, part_text}
 use Rattle.yq_cut.specs.Splices.{behind_first, first_gap, with_row_gap}
 use Rattle.yq_cut.proofs.PlaceLaws.{row_then}
 use Rattle.yq_cut.proofs.seams.SeamLaws.{rows_text-append}
@@ -23,8 +23,7 @@ texts_then (r ∷ rs) t u = ap (λ (x : List ℕ). print_row r x) (texts_then rs
 -- rows behind their gap, before a rest
 pub first_then : (rs : List Row) (end rest : List ℕ) → no_rows rs ≡ false → rows_text rs rest ≡ first_gap rs end ++ (behind_first rs [] [] ++ rest)
 first_then [] end rest some = absurd (false≢true (sym some))
-first_then (r ∷ rs) end rest some =
-    ap (λ (t : List ℕ). r.gap ++ behind_gap r t) (texts_then rs [] rest) ∙ ap (λ (t : List ℕ). r.gap ++ t) (row_then (with_row_gap [] r) (rows_text rs []) rest)
+first_then (r ∷ rs) end rest some = cc (texts_then rs [] rest, row_then (with_row_gap [] r) (rows_text rs []) rest)
 
 -- what stays of a gap, and the comment that ends it
 pub gap_parts : (gap : List ℕ) → joined (before_run (text_lines gap)) ++ joined (last_run (text_lines gap)) ≡ gap
@@ -36,8 +35,7 @@ run_parts [] = refl
 run_parts (l ∷ ls) = go (are_comments (l ∷ ls)) (run_parts ls)
   where
     go : (b : Bool) → ls ≡ before_run ls ++ last_run ls → l ∷ ls ≡ cond b [] (l ∷ before_run ls) ++ cond b (l ∷ ls) (last_run ls)
-    go true h = refl
-    go false h = ap (λ (x : Lines). l ∷ x) h
+    go b h1 = search rules
 
 pub old_text : (d : PlacedPart) (x : OwnRows) → d.part.rows ≡ x.front ++ (x.own ++ x.back) → no_rows x.own ≡ false →
     d.before ++ part_text d.part d.behind ≡ (rows_out d x).before ++ ((rows_out d x).gone ++ ((rows_out d x).gap ++ (rows_out d x).behind))

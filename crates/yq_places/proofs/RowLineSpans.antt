@@ -1,5 +1,5 @@
 -- Where a part of a line stands, by the pieces of its row.
-use Rattle.std.proofs.Common.{◌≡◌, ℕ, suc, ◌+◌, ◌-◌, ◌<◌, ltb, List, [], ◌∷◌, length, Option, Some, None, option_map, Bool, true, false, cond, refl, sym, ap, ◌∙◌, subst}
+use Rattle.std.proofs.Common.{◌≡◌, ℕ, suc, ◌+◌, ◌-◌, ◌<◌, ltb, List, [], ◌∷◌, length, Option, Some, None, option_map, Bool, cond, refl, sym, ap, ◌∙◌, subst, rules}
 use Rattle.std.proofs.lemmas.Option.{slice_get_within, slice_get-map, same_Some}
 use Rattle.std.specs.List.{slice_get}
 use Rattle.yq_flow_scalars.specs.Answers.{◌>>=◌}
@@ -26,13 +26,10 @@ row_line_row n [] = tt
 row_line_row n (r ∷ rs) = go (ltb (length r.dashes) n) (row_line (n - suc (length r.dashes)) rs) (row_line_row (n - suc (length r.dashes)) rs)
   where
     go : (b : Bool) (o : Option RowLine) → If o (λ s. slice_get rs s.before ≡ Some s.row) → If (cond b (option_map behind_one o) (Some (record { before = 0; row = r; line = n }))) (λ s. slice_get (r ∷ rs) s.before ≡ Some s.row)
-    go true None h = tt
-    go true (Some s) h = h
-    go false o h = refl
+    go b o h1 = search rules
 
 of_some : (P : RowLine → Type 0) (o : Option RowLine) (s : RowLine) → If o P → o ≡ Some s → P s
-of_some P None s h e = absurd (cc)
-of_some P (Some q) s h e = subst P (same_Some _ _ e) h
+of_some P o s h1 h2 = search (rules, same_Some)
 
 pub steps_row : (steps : Option ℕ) (rs : List Row) (s : RowLine) → (steps >>= λ n. row_line n rs) ≡ Some s → slice_get rs s.before ≡ Some s.row
 steps_row None rs s e = absurd (cc)
@@ -87,8 +84,4 @@ part_agrees of in_ reports t x path n found h e agrees = go (row_line_at path (c
 
 pub no_part : (in_ : PieceIn) (t : List ℕ) (path : Path) → None ≡ option_map (numbers (document_row path.doc (cut_of t))) (row_line_at path (cut_of t)) →
     None ≡ option_map piece_span (row_line_at path (cut_of t) >>= λ s. in_ (document_row path.doc (cut_of t) + s.before) s (cut_of t))
-no_part in_ t path e = go (row_line_at path (cut_of t)) e
-  where
-    go : (o : Option RowLine) → None ≡ option_map (numbers (document_row path.doc (cut_of t))) o → None ≡ option_map piece_span (o >>= λ s. in_ (document_row path.doc (cut_of t) + s.before) s (cut_of t))
-    go None e = refl
-    go (Some s) e = absurd (cc)
+no_part in_ t path e = search rules

@@ -1,16 +1,14 @@
 -- What is found on a path among lines.
-use Rattle.std.proofs.Common.{◌≡◌, List, [], ◌∷◌, Some, true, sym, ap, ◌∙◌, subst}
+use Rattle.std.proofs.Common.{◌≡◌, List, [], ◌∷◌, Some, true, sym, ap, ◌∙◌, subst, ℕ, ◌≤◌, ◌++◌, arith, rules}
 use Rattle.std.proofs.lemmas.Bool.{and_parts}
 use Rattle.yq_flow_scalars.specs.Paths.{Step}
 use Rattle.yq_cut.specs.Rows.{Part}
-use Rattle.yq_flow_scalars.specs.Anchors.{names_of}
 use Rattle.yq_lines.specs.Group.{group, level_or, is_fine}
 use Rattle.yq_lines.specs.Laws.{with_lines}
 use Rattle.yq_row_lines.specs.Lines.{lines_of}
-use Rattle.yq_lines.specs.Outline.{Line, level, Outline, row, flatten, IsEven}
-use Rattle.yq_lines.specs.Places.{plug, FoundLine, find}
-use Rattle.yq_documents.specs.Reading.{outline_of, root_of, have_fit_keys, has_short_root, is_document}
-use Rattle.yq_lines.specs.LinesReading.{have_one_anchor_each, are_bound}
+use Rattle.yq_lines.specs.Outline.{Line, level, Outline, row, flatten, IsEven, end}
+use Rattle.yq_lines.specs.Places.{plug, FoundLine, find, Context, here, below, beside, lines_after}
+use Rattle.yq_documents.specs.Reading.{is_document}
 use Rattle.yq_lines.proofs.Allowing.{Allows}
 use Rattle.yq_lines.proofs.Decides.{flatten-group, even_from}
 use Rattle.yq_lines.proofs.Finding.{IsFoundIn, path_whole}
@@ -33,9 +31,34 @@ found_place ls s ss rest f is fine =
 
 -- the lines of a document are even
 pub document_fine : (p : Part) → is_document p ≡ true → is_fine (group (lines_of p.rows)) ≡ true
-document_fine p e =
-    let a = and_parts (have_fit_keys p.rows) _ e in
-    let b = and_parts (has_short_root p.rows) _ a.1 in
-    let c = and_parts (have_one_anchor_each (lines_of p.rows)) _ b.1 in
-    let d = and_parts (are_bound [] (names_of (root_of p))) _ c.1 in
-    (and_parts (is_fine (outline_of p)) _ d.1).0
+document_fine p e = search (rules, and_parts)
+
+-- ---- behind a line and what is under it the next line is no deeper
+
+-- the first of lines, if there is one, is no deeper than a level
+abbrev pub StartsAt : ℕ → List Line → Type 0
+StartsAt k [] = Unit {0}
+StartsAt k (l ∷ ls) = level l ≤ k
+
+starts_joined : (k : ℕ) (a b : List Line) → StartsAt k a → StartsAt k b → StartsAt k (a ++ b)
+starts_joined k a b h1 h2 = search rules
+
+even_starts : (n k : ℕ) (o : Outline) → IsEven n o → n ≤ k → StartsAt k (flatten o)
+even_starts n k end e h = tt
+even_starts n k (row l u a) e h = omega (arith, e.0, h)
+
+-- what stands behind a place is no deeper than what it allows
+pub allowed_level : (n m : ℕ) (p : Context) → Allows n p m → n ≤ m
+allowed_level n m here h = omega (arith, h)
+allowed_level n m (below l p a) h = omega (arith, h.3.1, allowed_level h.3.0 m p h.3.2)
+allowed_level n m (beside l u p) h = allowed_level n m p h.4
+
+pub after_starts : (n m : ℕ) (p : Context) → Allows n p m → StartsAt m (lines_after p)
+after_starts n m here h = tt
+after_starts n m (below l p a) h = starts_joined m (lines_after p) (flatten a) (after_starts h.3.0 m p h.3.2) (even_starts n m a h.4 (omega (arith, h.3.1, allowed_level h.3.0 m p h.3.2)))
+after_starts n m (beside l u p) h = after_starts n m p h.4
+
+pub found_starts : (ls : List Line) (s : Step) (ss rest : List Step) (f : FoundLine) → find s ss (group ls) ≡ Some (f, rest) → is_fine (group ls) ≡ true → StartsAt (level f.line) (flatten f.after ++ lines_after f.place)
+found_starts ls s ss rest f is fine =
+    let p = found_place ls s ss rest f is fine in
+    search (rules, starts_joined, even_starts, after_starts, p)

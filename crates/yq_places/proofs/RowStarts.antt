@@ -1,13 +1,11 @@
 -- Where rows and their lines begin, by the pieces of rows.
-use Rattle.yq_row_lines.proofs.ToDashes.{to_dash, last_is}
-use Rattle.std.proofs.Common.{◌≡◌, ℕ, ◌+◌, ◌≤◌, [], ◌++◌, length, take, replicate, Some, option_map, refl, sym, ap, ◌∙◌, arith, length-append}
+use Rattle.yq_row_lines.proofs.WalkLevels.{to_dash, last_is}
+use Rattle.std.proofs.Common.{◌≡◌, ℕ, ◌+◌, ◌≤◌, length, Some, option_map, refl, sym, ap, ◌∙◌, length-append, rules}
 use Rattle.std.proofs.lemmas.List.{length-replicate}
 use Rattle.std.proofs.lemmas.Option.{slice_get-map}
 use Rattle.std.specs.List.{slice_get}
-use Rattle.yq_cut.specs.Exchange.{before_content}
-use Rattle.yq_cut.specs.Rows.{Row, dashes_text, Cut}
-use Rattle.yq_cut.specs.View.{Slices, slices, last_dash, rows_of, rows_view}
-use Rattle.yq_places.specs.CommentReading.{before_tail, before_row}
+use Rattle.yq_cut.specs.Rows.{Row, Cut}
+use Rattle.yq_cut.specs.View.{Slices, slices, rows_of, rows_view}
 use Rattle.yq_places.specs.EntryReading.{before_line, ending, through_row, line_begin}
 use Rattle.yq_row_lines.specs.Extents.{row_start, front_length, head_place}
 use Rattle.yq_row_lines.proofs.LengthLaws.{head_agrees}
@@ -22,30 +20,8 @@ head_is c i r is =
 
 -- where a line of a row begins
 pub line_begins : (c : Cut) (i k : ℕ) (r : Row) → slice_get (rows_of c) i ≡ Some r → k ≤ length r.dashes → line_begin (row_start i (rows_view c)) (slices r) k ≡ length (before_line i k r c)
-line_begins c i k r is within =
-    let spaces : length (replicate r.column 32) ≡ r.column = length-replicate {A = ℕ} r.column 32 in
-    omega (
-      arith,
-      spaces,
-      start_agrees c i r is,
-      to_dash k r.dashes (last_dash r.mark) within (last_is r.mark),
-      length-append (before_row i c) (r.gap ++ (replicate r.column 32 ++ dashes_text (take k r.dashes) [])),
-      length-append r.gap (replicate r.column 32 ++ dashes_text (take k r.dashes) []),
-      length-append (replicate r.column 32) (dashes_text (take k r.dashes) []),
-    )
+line_begins c i k r is within = search (rules, length-replicate, start_agrees, to_dash, last_is, length-append)
 
 -- where a row ends
 pub row_ends : (c : Cut) (i : ℕ) (r : Row) → slice_get (rows_of c) i ≡ Some r → (head_place i c r).1 + length (ending (slices r)) ≡ length (through_row i r c)
-row_ends c i r is =
-    let s : Slices = slices r in
-    omega (
-      arith,
-      length-append (before_content i c) (s.space ++ (s.anchor ++ s.apart)),
-      length-append s.space (s.anchor ++ s.apart),
-      length-append s.anchor s.apart,
-      length-append (before_tail i r c) (ending s),
-      length-append (before_content i c) (s.space ++ (s.anchor ++ (s.apart ++ s.head))),
-      length-append s.space (s.anchor ++ (s.apart ++ s.head)),
-      length-append s.anchor (s.apart ++ s.head),
-      length-append s.apart s.head,
-    )
+row_ends c i r is = search (rules, length-append)

@@ -1,13 +1,12 @@
 -- What the code answers for a content, an entry or an item is the span of its piece.
-use Rattle.std.proofs.Common.{◌≡◌, ◌⊎◌, inl, inr, ℕ, zero, suc, ◌+◌, ◌<◌, ◌≤◌, List, [], ◌∷◌, ◌++◌, length, take, drop, Option, Some, None, option_map, true, refl, sym, ap, ◌∙◌, arith, append_assoc, length-append, replicate}
+use Rattle.std.proofs.Common.{◌≡◌, ◌⊎◌, ℕ, zero, suc, ◌+◌, ◌<◌, ◌≤◌, List, [], ◌∷◌, ◌++◌, length, take, drop, Option, Some, option_map, true, refl, sym, ap, ◌∙◌, arith, append_assoc, length-append, replicate, rules}
 use Rattle.std.proofs.Math.Seq.{take-add}
 use Rattle.std.proofs.lemmas.Bool.{cases_lt}
 use Rattle.std.proofs.lemmas.Option.{slice_get-map, slice_get_within, none-some, same_Some}
 use Rattle.std.specs.List.{slice_get}
 use Rattle.yq_flow_scalars.specs.Answers.{◌>>=◌}
-use Rattle.yq_flow_scalars.specs.Text.{joined}
 use Rattle.yq_flow_scalars.specs.Tree as tree
-use Rattle.yq_nodes.specs.Nodes.{Node, empty, alias, scalar, coll, anchored, node_text, takes_anchor, IsNode}
+use Rattle.yq_nodes.specs.Nodes.{Node, empty, scalar, coll, anchored, node_text, takes_anchor, IsNode}
 use Rattle.yq_cut.specs.Exchange.{row_front, before_content}
 use Rattle.yq_cut.specs.Rows as rows
 use Rattle.yq_cut.specs.Rows.{Content, Nothing, Inline, Block, dashes_text, mark_text, anchor_text, Row, rows_text, Part, Cut}
@@ -23,7 +22,7 @@ use Rattle.yq_places.proofs.EntryPlaceLaws.{row_there}
 use Rattle.yq_places.proofs.DashLineLaws.{row_line_found}
 use Rattle.yq_places.proofs.StartLaws.{front_in}
 use Rattle.yq_documents.specs.Pieces.{TextPiece, piece_span, node_piece, head_piece}
-use Rattle.yq_places.specs.PrintedLines.{line_front, less_last, less_end, PrintedLine, print_line, print_lines, printed_lines, line_in, run_text, run_piece}
+use Rattle.yq_places.specs.PrintedLines.{line_front, less_end, PrintedLine, print_line, print_lines, printed_lines, line_in, run_text, run_piece}
 use Rattle.yq_places.specs.PathPieces.{PrintedDocument}
 use Rattle.yq_places.proofs.PrintedTexts.{lines_then, lines_append}
 use Rattle.yq_places.proofs.PrintedLaws.{IsValid, IsWritten, IsPrinted, lines_are}
@@ -41,25 +40,21 @@ spans_is from to o h = ap (option_map piece_span) h.1 ∙ (λ i. Some (h.2 i, h.
 
 core_size : (before : List ℕ) (node : Node) (rest : List ℕ) (h : tree.Node) → takes_anchor node ≡ true → node_head node ≡ Some h → Spans (length before) (length before + length (node_text node [])) (node_piece before node rest)
 core_size before empty rest h t e = absurd (none-some _ e)
-core_size before (alias n) rest h t e = cc
 core_size before (scalar p) rest h t e = (_, refl, refl, refl)
 core_size before (coll k g is) rest h t e = (_, refl, refl, refl)
-core_size before (anchored n g node) rest h t e = cc
+core_size before x rest h t e = cc
 
 node_size : (before : List ℕ) (node : Node) (rest : List ℕ) (h : tree.Node) → IsValid node rest → node_head node ≡ Some h →
     Spans (length before + length (front_of node)) (length before + length (front_of node) + length (anchor_cut node).2) (node_piece before node rest)
 unfolding IsNode
 node_size before empty rest h v e = absurd (none-some _ e)
-node_size before (alias n) rest h v e = (_, refl, omega arith, omega arith)
-node_size before (scalar p) rest h v e = (_, refl, omega arith, omega arith)
-node_size before (coll k g is) rest h v e = (_, refl, omega arith, omega arith)
 node_size before (anchored n g node) rest h v e =
     let k = core_size (before ++ 38 ∷ (n ++ g)) node rest h v.3.3 e in
     (k.0, k.1, omega (arith, k.2, length-append before (38 ∷ (n ++ g))), omega (arith, k.3, length-append before (38 ∷ (n ++ g))))
+node_size before x rest h v e = (_, refl, omega arith, omega arith)
 
 anchor_size : (a : Option rows.Anchor) → length (anchor_text a []) ≡ length (anchor_of a) + length (apart_of a)
-anchor_size None = refl
-anchor_size (Some a) = omega (arith, length-append a.name (a.gap ++ []), length-append a.gap [])
+anchor_size a = search (rules, length-append)
 
 -- what stands before the head of a content
 abbrev pub head_front : Content → List ℕ
@@ -71,29 +66,7 @@ head_size before (Nothing tail) rest h w e = absurd (none-some _ e)
 head_size before (Inline space node tail) rest h w e =
     let k = node_size (before ++ space) node (tail ++ rest) h w e in
     (k.0, k.1, omega (arith, k.2, length-append before space, length-append space (front_of node)), omega (arith, k.3, length-append before space, length-append space (front_of node)))
-head_size before (Block space anchor block) rest h w e = (
-  _,
-  refl,
-  omega (
-    arith,
-    anchor_size anchor,
-    length-append before (space ++ anchor_text anchor []),
-    length-append space (anchor_text anchor []),
-    length-append space (anchor_of anchor ++ apart_of anchor),
-    length-append (anchor_of anchor) (apart_of anchor),
-  ),
-  omega (
-    arith,
-    anchor_size anchor,
-    length-append before (space ++ anchor_text anchor []),
-    length-append space (anchor_text anchor []),
-    length-append space (anchor_of anchor ++ apart_of anchor),
-    length-append (anchor_of anchor) (apart_of anchor),
-    length-append block.indicators (block.tail ++ (joined block.raw ++ [])),
-    length-append block.tail (joined block.raw ++ []),
-    length-append (joined block.raw) [],
-  ),
-)
+head_size before (Block space anchor block) rest h w e = search (rules, anchor_size, length-append)
 
 -- texts of rows and dashes, before a text
 pub rows_then : (rs : List Row) (t : List ℕ) → rows_text rs t ≡ rows_text rs [] ++ t
@@ -111,13 +84,7 @@ take_all (n ∷ ns) (suc k) e = ap (λ l. n ∷ l) (take_all ns k (omega (arith,
 
 -- a row's front, where the line in a row line is the last of its row
 pub front_is : (q : RowLine) → q.line ≡ length q.row.dashes → row_front q.row ≡ row_begin q ++ mark_text q.row.mark []
-front_is q e =
-    let dashes : dashes_text q.row.dashes (mark_text q.row.mark []) ≡ dashes_text (take q.line q.row.dashes) [] ++ mark_text q.row.mark [] =
-    dashes_then q.row.dashes (mark_text q.row.mark [])
-    ∙ ap (λ ns. dashes_text ns [] ++ mark_text q.row.mark []) (sym (take_all q.row.dashes q.line e)) in
-    ap (λ l. q.row.gap ++ (replicate q.row.column 32 ++ l)) dashes
-    ∙ (ap (λ l. q.row.gap ++ l) (sym (append_assoc (replicate q.row.column 32) (dashes_text (take q.line q.row.dashes) []) (mark_text q.row.mark [])))
-    ∙ sym (append_assoc q.row.gap (replicate q.row.column 32 ++ dashes_text (take q.line q.row.dashes) []) (mark_text q.row.mark [])))
+front_is q e = search (rules, dashes_then, take_all, append_assoc)
 
 -- lists
 pub get_some : {A : Type 0} (xs : List A) (n : ℕ) (x : A) → slice_get xs n ≡ Some x → drop n xs ≡ x ∷ drop (suc n) xs
@@ -138,10 +105,7 @@ run_last (suc m) l z (k ∷ more) e = ap (print_line l) (run_last m k z more e)
 module _ (c : Cut) (p : Part) (more : List Row) (k : ℕ) (s : PrintedDocument) (there : drop k (rows_of c) ≡ p.rows ++ more) (placed : IsPlaced c k p s) (lines : s.lines ≡ printed_lines p.rows) where
   -- the text before a line
   pub begin_is : (n : ℕ) (q : RowLine) (d : IsPrintedLine p.rows n q) → before_line (k + q.before) q.line q.row c ≡ s.before ++ print_lines (take n (printed_lines p.rows)) (line_front d.line)
-  begin_is n q d =
-      ap (λ x. x ++ row_begin q) (placed.row q.before (slice_get_within p.rows q.before q.row d.row))
-      ∙ (append_assoc s.before (rows_text (take q.before p.rows) []) (row_begin q)
-      ∙ ap (λ x. s.before ++ x) (sym (rows_then (take q.before p.rows) (row_begin q)) ∙ sym d.start))
+  begin_is n q d = search (rules, row_begin, slice_get_within, append_assoc, rows_then)
 
   -- how long the text before a line's content is
   pub content_size : (n : ℕ) (q : RowLine) (d : IsPrintedLine p.rows n q) → row_line n p.rows ≡ Some q → q.line ≡ length q.row.dashes →
@@ -151,14 +115,9 @@ module _ (c : Cut) (p : Part) (more : List Row) (k : ℕ) (s : PrintedDocument) 
       let begin : length (before_row (k + q.before) c ++ row_begin q) ≡ length (s.before ++ print_lines (take n (printed_lines p.rows)) (line_front d.line)) = ap length (begin_is n q d) in
       omega (
         arith,
-        front,
-        begin,
         ap length (front_is q e),
-        length-append (row_begin q) (mark_text q.row.mark []),
-        length-append (before_row (k + q.before) c) (row_begin q),
-        length-append s.before (print_lines (take n (printed_lines p.rows)) (line_front d.line)),
+        length-append {A = ℕ},
         ap length (lines_then (take n (printed_lines p.rows)) [] (line_front d.line)),
-        length-append (print_lines (take n (printed_lines p.rows)) []) (line_front d.line),
         ap length (d.last e).1,
       )
 
@@ -172,19 +131,8 @@ module _ (c : Cut) (p : Part) (more : List Row) (k : ℕ) (s : PrintedDocument) 
         arith,
         content_size n q d is e,
         ap length less,
-        length-append (before_content (k + q.before) c ++ (x.0 ++ (x.1 ++ (x.2 ++ x.3)))) (less_last x.4 x.5),
-        length-append (before_content (k + q.before) c) (x.0 ++ (x.1 ++ (x.2 ++ x.3))),
-        length-append x.0 (x.1 ++ (x.2 ++ x.3)),
-        length-append x.1 (x.2 ++ x.3),
-        length-append x.2 x.3,
-        length-append x.0 (x.1 ++ (x.2 ++ (x.3 ++ less_last x.4 x.5))),
-        length-append x.1 (x.2 ++ (x.3 ++ less_last x.4 x.5)),
-        length-append x.2 (x.3 ++ less_last x.4 x.5),
-        length-append x.3 (less_last x.4 x.5),
+        length-append {A = ℕ},
         ap length (lines_then (take n (printed_lines p.rows)) [] (line_less d.line)),
-        length-append (print_lines (take n (printed_lines p.rows)) []) (line_less d.line),
-        length-append (line_front d.line) (d.line.mark ++ less_end d.line.content),
-        length-append d.line.mark (less_end d.line.content),
       )
 
   -- a line that is there is in its row line
@@ -219,14 +167,9 @@ module _ (c : Cut) (p : Part) (more : List Row) (k : ℕ) (s : PrintedDocument) 
         ap (λ (y : PrintedLine). length (print_lines (take (n + m) (printed_lines p.rows)) (line_less y))) last,
         ap length whole,
         ap length (lines_then (take n (printed_lines p.rows)) [] (line_front l ++ run_text l (take m rest))),
-        length-append (print_lines (take n (printed_lines p.rows)) []) (line_front l ++ run_text l (take m rest)),
-        length-append (line_front l) (run_text l (take m rest)),
-        length-append (s.before ++ print_lines (take n (printed_lines p.rows)) []) (line_front l),
-        length-append s.before (print_lines (take n (printed_lines p.rows)) []),
+        length-append {A = ℕ},
       ) in
-      sym (ap (λ (o : Option RowLine). o >>= λ x. row_line (n + m) p.rows >>= λ y. Some (length (before_line (k + x.before) x.line x.row c), length (through_row (k + y.before) y.row c))) a.1
-      ∙ (ap (λ (o : Option RowLine). o >>= λ y. Some (length (before_line (k + a.0.before) a.0.line a.0.row c), length (through_row (k + y.before) y.row c))) is
-      ∙ (λ i. Some (start i, stop i))))
+      search (rules, a, start, stop)
 
   -- the head of a line
   pub head_span : (n : ℕ) (l : PrintedLine) (h : tree.Node) (rest : List ℕ) → slice_get (printed_lines p.rows) n ≡ Some l → l.line.head ≡ Some h → IsPrinted l rest →
@@ -237,16 +180,7 @@ module _ (c : Cut) (p : Part) (more : List Row) (k : ℕ) (s : PrintedDocument) 
       let x = content_cut a.0.row.content in
       let content : l.content ≡ a.0.row.content = ap (λ (y : PrintedLine). y.content) (sym a.3) ∙ (a.2.last at).0 in
       let before : List ℕ = (s.before ++ print_lines (take n (printed_lines p.rows)) []) ++ (line_front l ++ l.mark) in
-      let size : length before ≡ length (before_content (k + a.0.before) c) =
-      omega (
-        arith,
-        content_size n a.0 a.2 a.1 at,
-        ap (λ (y : PrintedLine). length (line_front y)) a.3,
-        ap (λ (y : PrintedLine). length y.mark) a.3,
-        length-append (s.before ++ print_lines (take n (printed_lines p.rows)) []) (line_front l ++ l.mark),
-        length-append s.before (print_lines (take n (printed_lines p.rows)) []),
-        length-append (line_front l) l.mark,
-      ) in
+      let size : length before ≡ length (before_content (k + a.0.before) c) = search (rules, content_size, length-append, a, at) in
       let start : length before + length (head_front l.content) ≡ length (before_content (k + a.0.before) c ++ (x.0 ++ (x.1 ++ x.2))) =
       omega (arith, size, ap (λ y. length (head_front y)) content, length-append (before_content (k + a.0.before) c) (x.0 ++ (x.1 ++ x.2))) in
       spans_is _ _ (head_piece before l.content rest) (head_size before l.content rest h as_printed.written (sym as_printed.head ∙ head))
@@ -254,5 +188,4 @@ module _ (c : Cut) (p : Part) (more : List Row) (k : ℕ) (s : PrintedDocument) 
       ∙ sym (ap (λ (o : Option RowLine). o >>= λ y. Some (head_extent (k + y.before) y.row c)) a.1))
     where
       mark_line : (q : RowLine) (d : IsPrintedLine p.rows n q) → d.line ≡ l → (q.line < length q.row.dashes) ⊎ (length q.row.dashes ≤ q.line) → q.line ≡ length q.row.dashes
-      mark_line q d e (inl less) = absurd (none-some _ (sym (d.deeper less).3 ∙ (ap (λ (y : PrintedLine). y.line.head) e ∙ head)))
-      mark_line q d e (inr more) = omega (arith, more, d.within)
+      mark_line q d h1 h2 = search (rules, none-some)

@@ -1,5 +1,5 @@
 -- Rows and their lines begin at whole characters.
-use Rattle.std.proofs.Common.{◌≡◌, ◌⊎◌, inl, inr, ℕ, zero, suc, ◌-◌, ◌<◌, ◌≤◌, ltb, List, [], ◌∷◌, ◌++◌, length, take, drop, replicate, ℤ, Some, Bool, true, false, refl, sym, ap, ◌∙◌, subst, arith, append-nil, append_assoc}
+use Rattle.std.proofs.Common.{◌≡◌, ◌⊎◌, inl, inr, ℕ, zero, suc, ◌-◌, ◌<◌, ◌≤◌, ltb, List, [], ◌∷◌, ◌++◌, length, take, drop, replicate, ℤ, Some, Bool, true, false, refl, sym, ap, ◌∙◌, subst, arith, append-nil, append_assoc, rules}
 use Rattle.std.proofs.lemmas.Bool.{cases_lt, lt-ltb, le-ltb}
 use Rattle.std.proofs.lemmas.List.{take-append-drop}
 use Rattle.std.proofs.lemmas.Str.{IsCharBoundary-start}
@@ -9,7 +9,7 @@ use Rattle.yq_block_scalars.proofs.BlockPieceLaws.{IsLf, append_lf, raw_lf}
 use Rattle.yq_cut.specs.Exchange.{behind_at, behind_row}
 use Rattle.yq_cut.specs.Gap.{IsGap}
 use Rattle.yq_cut.specs.Grammar.{IsContent, Limit, unlimited, limit_after, IsRow, AreRows, IsMarkerLine, AreParts, begins_document}
-use Rattle.yq_cut.specs.Rows.{Content, Nothing, Inline, Block, Row, behind_dashes, behind_gap, dashes_text, print_row, rows_text, parent_indent, part_text, Cut, last, marked, cut_text}
+use Rattle.yq_cut.specs.Rows.{Content, Row, behind_dashes, behind_gap, dashes_text, print_row, rows_text, parent_indent, part_text, Cut, last, marked, cut_text}
 use Rattle.yq_cut.specs.View.{content_cut, Slices, slices, rows_of}
 use Rattle.yq_cut.proofs.ExchangeLaws.{slice_front, slice_back}
 use Rattle.yq_cut.proofs.NodePieces.{EndsAscii, ends_behind, BeginsAscii, before_ascii, behind_ascii}
@@ -29,49 +29,26 @@ seam_boundary p rest u (inr (inl a)) = behind_ascii p rest u a
 seam_boundary p rest u (inr (inr none)) = before_ascii p rest (subst BeginsAscii (sym none) tt)
 
 pub seam_then : (p q rest : List ℕ) → IsSeam p (q ++ rest) → IsSeam q rest → IsSeam (p ++ q) rest
-seam_then p q rest h (inr (inl a)) = inr (inl (ends_behind p q a))
-seam_then p q rest h (inr (inr none)) = inr (inr none)
-seam_then p q rest h (inl e) = go h
-  where
-    same : p ++ q ≡ p
-    same = ap (λ (x : List ℕ). p ++ x) e ∙ append-nil p
-
-    go : IsSeam p (q ++ rest) → IsSeam (p ++ q) rest
-    go (inl none) = inl (same ∙ none)
-    go (inr (inl a)) = inr (inl (subst EndsAscii (sym same) a))
-    go (inr (inr none)) = inr (inr (sym (ap (λ (x : List ℕ). x ++ rest) e) ∙ none))
+seam_then p q rest h1 h2 = search (rules, ends_behind, append-nil)
 
 pub ended_seam : (p rest : List ℕ) → Ended p rest → IsSeam p rest
-ended_seam p rest (inl lf) = inr (inl (record { front = lf.0; last = 10; is = lf.1; ascii = omega arith }))
-ended_seam p rest (inr none) = inr (inr none)
+ended_seam p rest h1 = search rules
 
 pub gap_seam : (gap rest : List ℕ) → IsGap gap rest → IsSeam gap rest
 gap_seam gap rest h = go (gap_end gap rest h)
   where
     go : (gap ≡ []) ⊎ Ended gap rest → IsSeam gap rest
-    go (inl none) = inl none
-    go (inr e) = ended_seam gap rest e
+    go h1 = search (rules, ended_seam)
 
 pub ended_after : (p q rest : List ℕ) → Ended q rest → Ended (p ++ q) rest
-ended_after p q rest (inl lf) = inl (append_lf p q lf)
-ended_after p q rest (inr none) = inr none
+ended_after p q rest h1 = search (rules, append_lf)
 
 -- the end of a row
 pub raw_end : (n : ℤ) (x : Content) (rest : List ℕ) → IsContent n x rest → ((content_cut x).5 ≡ []) ⊎ IsLf (content_cut x).5
-raw_end n (Nothing tail) rest h = inl refl
-raw_end n (Inline space node tail) rest h = inl refl
-raw_end n (Block space anchor block) rest h = raw_lf block.indent block.raw h.2.lines
+raw_end n x rest h1 = search (rules, raw_lf)
 
 pub last_ended : (tail raw rest : List ℕ) → Ended tail (raw ++ rest) → (raw ≡ []) ⊎ IsLf raw → Ended (tail ++ (raw ++ [])) rest
-last_ended tail raw rest h (inr lf) = inl (append_lf tail (raw ++ []) (subst IsLf (sym (append-nil raw)) lf))
-last_ended tail raw rest h (inl none) = go h
-  where
-    same : tail ++ (raw ++ []) ≡ tail
-    same = ap (λ (x : List ℕ). tail ++ (x ++ [])) none ∙ append-nil tail
-
-    go : Ended tail (raw ++ rest) → Ended (tail ++ (raw ++ [])) rest
-    go (inl lf) = inl (subst IsLf (sym same) lf)
-    go (inr e) = inr (sym (ap (λ (x : List ℕ). x ++ rest) none) ∙ e)
+last_ended tail raw rest h1 h2 = search (rules, append_lf, append-nil)
 
 row_ended : (limit : Limit) (r : Row) (rest : List ℕ) → IsRow limit r rest → Ended (print_row r []) rest
 row_ended limit r rest h =
@@ -116,9 +93,7 @@ row_seam (marked p marker c) i started r h is = go (cases_lt i (length p.rows)) 
   where
     go : (i < length p.rows) ⊎ (length p.rows ≤ i) → (slice_get (rows_of c) (i - length p.rows) ≡ Some r → IsSeam (before_row (i - length p.rows) c) (print_row r (behind_row (i - length p.rows) c))) →
         IsSeam (before_row i (marked p marker c)) (print_row r (behind_row i (marked p marker c)))
-    go (inl here) again =
-        let test : ltb i (length p.rows) ≡ true = lt-ltb i (length p.rows) here in
-        rw test (subst (IsSeam (rows_text (take i p.rows) [])) (row_first p.rows i r (p.end ++ (marker ++ cut_text c)) (slice_front p.rows (rows_of c) i r here is)) (rows_seam p.rows i unlimited p.end (marker ++ cut_text c) h.0.rows))
+    go (inl here) again = search (rules, lt-ltb, row_first, slice_front, rows_seam)
     go (inr past) again =
         let test : ltb i (length p.rows) ≡ false = le-ltb i (length p.rows) past in
         let there : slice_get (rows_of c) (i - length p.rows) ≡ Some r = slice_back p.rows (rows_of c) i r past is in

@@ -1,10 +1,10 @@
 -- Where rows begin, by their pieces.
-use Rattle.std.proofs.Common.{◌≡◌, ◌⊎◌, inl, inr, ℕ, zero, suc, ◌+◌, ◌-◌, ◌<◌, ◌≤◌, List, [], ◌∷◌, ◌++◌, length, take, Some, option_map, refl, ap, ◌∙◌, arith, length-append}
+use Rattle.std.proofs.Common.{◌≡◌, ◌⊎◌, ℕ, zero, suc, ◌+◌, ◌-◌, ◌<◌, ◌≤◌, List, [], ◌∷◌, length, take, Some, option_map, refl, ap, ◌∙◌, arith, length-append, rules}
 use Rattle.std.proofs.lemmas.Bool.{cases_lt, lt-ltb, le-ltb, cond-true, cond-false}
 use Rattle.std.proofs.lemmas.Option.{slice_get-map}
 use Rattle.std.specs.List.{slice_get}
 use Rattle.yq_cut.specs.Exchange.{row_front, before_at, before_content}
-use Rattle.yq_cut.specs.Rows.{Row, rows_text, part_text, Cut, last, marked}
+use Rattle.yq_cut.specs.Rows.{Row, rows_text, Cut, last, marked}
 use Rattle.yq_cut.specs.View.{Slices, slices, rows_of, rows_view}
 use Rattle.yq_cut.proofs.ExchangeLaws.{slice_front, slice_back}
 use Rattle.yq_row_lines.specs.Extents.{row_start, front_length, head_place}
@@ -24,23 +24,7 @@ front_in i (marked p marker c) r is = go (cases_lt i (length p.rows)) (λ there.
   where
     go : (i < length p.rows) ⊎ (length p.rows ≤ i) → (slice_get (rows_of c) (i - length p.rows) ≡ Some r → length (before_content (i - length p.rows) c) ≡ length (before_row (i - length p.rows) c) + length (row_front r)) →
         length (before_content i (marked p marker c)) ≡ length (before_row i (marked p marker c)) + length (row_front r)
-    go (inl here) again =
-        let text : length (before_content i (marked p marker c)) ≡ length (before_at i p.rows) = ap length (cond-true _ _ _ (lt-ltb i (length p.rows) here)) in
-        let row : length (before_row i (marked p marker c)) ≡ length (rows_text (take i p.rows) []) = ap length (cond-true _ _ _ (lt-ltb i (length p.rows) here)) in
-        omega (arith, text, row, front_at p.rows i r (slice_front p.rows (rows_of c) i r here is))
-    go (inr past) again =
-        let text : length (before_content i (marked p marker c)) ≡ length (part_text p (marker ++ before_content (i - length p.rows) c)) = ap length (cond-false _ _ _ (le-ltb i (length p.rows) past)) in
-        let row : length (before_row i (marked p marker c)) ≡ length (part_text p (marker ++ before_row (i - length p.rows) c)) = ap length (cond-false _ _ _ (le-ltb i (length p.rows) past)) in
-        omega (
-          arith,
-          text,
-          row,
-          part-length p (marker ++ before_content (i - length p.rows) c),
-          part-length p (marker ++ before_row (i - length p.rows) c),
-          length-append marker (before_content (i - length p.rows) c),
-          length-append marker (before_row (i - length p.rows) c),
-          again (slice_back p.rows (rows_of c) i r past is),
-        )
+    go h1 h2 = search (rules, cond-true, lt-ltb, front_at, slice_front, cond-false, le-ltb, part-length, length-append, slice_back)
 
 -- where a row begins is how long the text before it is
 pub start_agrees : (c : Cut) (i : ℕ) (r : Row) → slice_get (rows_of c) i ≡ Some r → row_start i (rows_view c) ≡ length (before_row i c)
@@ -49,12 +33,4 @@ start_agrees c i r is =
     let there : slice_get (rows_view c).rows i ≡ Some s = slice_get-map slices (rows_of c) i ∙ ap (option_map slices) is in
     let agrees = head_agrees (rows_view c) i (row_start i (rows_view c)) (front_length s) (length s.head) s there refl refl refl c refl r is in
     let place : row_start i (rows_view c) + front_length s ≡ (head_place i c r).0 = ap (λ (x : ℕ × ℕ). x.0) agrees in
-    omega (
-      arith,
-      place,
-      length-append (before_content i c) (s.space ++ (s.anchor ++ s.apart)),
-      length-append s.space (s.anchor ++ s.apart),
-      length-append s.anchor s.apart,
-      front_in i c r is,
-      front-length r,
-    )
+    omega (arith, place, length-append {A = ℕ}, front_in i c r is, front-length r)

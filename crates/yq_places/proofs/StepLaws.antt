@@ -15,7 +15,7 @@ use Rattle.yq_places.specs.StepReading.{begins_under}
 use Rattle.yq_places.specs.Steps as spec
 use Rattle.yq_places.specs.Steps.{Steps, steps_in, steps_of_part, document_steps, is_key, is_kind, first_step}
 use Rattle.yq_row_lines.specs.declared.line_position.Stretch.{Stretch}
-use Rattle.yq_lines.proofs.Parts.{drop_at}
+use Rattle.yq_lines.proofs.EndsLaws.{drop_at}
 use Rattle.yq_places.proofs.WalkDocuments.{Found}
 use Rattle.yq_row_lines.proofs.WalkLevels.{RowAgrees, line_in, level_is}
 use Rattle.yq_row_lines.proofs.WalkPositions.{Located, located}

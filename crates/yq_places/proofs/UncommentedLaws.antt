@@ -1,11 +1,11 @@
 -- Nothing is told of comments in heads.
-use Rattle.std.proofs.Common.{◌≡◌, ℕ, Bool, true, false, cond, eqb, List, [], ◌∷◌, Option, Some, None, option_and_then, refl}
+use Rattle.std.proofs.Common.{◌≡◌, ℕ, Bool, cond, List, [], ◌∷◌, Option, Some, None, option_and_then, refl, rules}
 use Rattle.yq_flow_scalars.specs.Tree.{Label, Node, alias, scalar, list, map, Children, none, child, children_of}
 use Rattle.yq_flow_scalars.specs.Paths.{Step, is_here, further}
 use Rattle.yq_nodes.specs.Nodes as inline
 use Rattle.yq_nodes.specs.Nodes.{Items, item}
 use Rattle.yq_nodes.specs.Trees.{tree_of, items_tree, collection, with_name, node_head}
-use Rattle.yq_cut.specs.Rows.{Content, Nothing, Inline, Block}
+use Rattle.yq_cut.specs.Rows.{Content}
 use Rattle.yq_lines.specs.Labelled.{Labelled, labelled_at, labelled_from}
 use Rattle.yq_row_lines.specs.Lines.{head_of}
 use Rattle.yq_lines.specs.Outline.{anchored}
@@ -29,17 +29,10 @@ abbrev mutual
   AreUncommented (child l n cs) = HasNone l × Uncommented n × AreUncommented cs
 
 uncommented_collection : (k : ℕ) (cs : Children) → AreUncommented cs → Uncommented (collection k cs)
-uncommented_collection k cs h = go (eqb k 125)
-  where
-    go : (b : Bool) → Uncommented (cond b (map None cs) (list None cs))
-    go true = h
-    go false = h
+uncommented_collection k cs h = search rules
 
 uncommented_named : (a : List ℕ) (n : Node) → Uncommented n → Uncommented (with_name a n)
-uncommented_named a (alias n) h = tt
-uncommented_named a (scalar b k t) h = tt
-uncommented_named a (list b cs) h = h
-uncommented_named a (map b cs) h = h
+uncommented_named a n h1 = search rules
 
 mutual
   unfolding tree_of items_tree
@@ -63,16 +56,11 @@ uncommented_head (inline.coll k g is) = uncommented_tree (inline.coll k g is)
 uncommented_head (inline.anchored n g node) = uncommented_head node
 
 pub uncommented_content : (c : Content) → If (head_of c) Uncommented
-uncommented_content (Nothing tail) = tt
-uncommented_content (Inline space node tail) = uncommented_head node
-uncommented_content (Block space anchor block) = tt
+uncommented_content c = search (rules, uncommented_head)
 
 -- where steps lead in such a node
 uncommented_children : (n : Node) → Uncommented n → AreUncommented (children_of n)
-uncommented_children (alias n) h = tt
-uncommented_children (scalar a k t) h = tt
-uncommented_children (list a cs) h = h
-uncommented_children (map a cs) h = h
+uncommented_children n h1 = search rules
 
 abbrev IsUncommented : Labelled → Type 0
 IsUncommented x = HasNone x.0 × Uncommented x.1
@@ -82,26 +70,20 @@ uncommented_at s none h = tt
 uncommented_at s (child l n cs) h = go (is_here s l) (labelled_at (further s) cs) (uncommented_at (further s) cs h.2)
   where
     go : (b : Bool) (r : Option Labelled) → If r IsUncommented → If (cond b (Some (l, n)) r) IsUncommented
-    go true r again = (h.0, h.1)
-    go false r again = again
+    go b r h1 = search rules
 
 pub uncommented_from : (ss : List Step) (x : Labelled) → IsUncommented x → If (labelled_from ss x) (λ y. HasNone y.0)
 uncommented_from [] x h = h.0
 uncommented_from (s ∷ ss) x h = go (labelled_at s (children_of x.1)) (uncommented_at s (children_of x.1) (uncommented_children x.1 h.1)) (λ y k. uncommented_from ss y k)
   where
     go : (r : Option Labelled) → If r IsUncommented → ((y : Labelled) → IsUncommented y → If (labelled_from ss y) (λ y. HasNone y.0)) → If (option_and_then (labelled_from ss) r) (λ y. HasNone y.0)
-    go None k again = tt
-    go (Some y) k again = again y k
+    go r h1 h2 = search rules
 
 uncommented_anchored : (a : Option (List ℕ)) (n : Node) → Uncommented n → Uncommented (anchored a n)
-uncommented_anchored a (alias n) h = tt
-uncommented_anchored a (scalar b k t) h = tt
-uncommented_anchored a (list b cs) h = h
-uncommented_anchored a (map b cs) h = h
+uncommented_anchored a n h1 = search rules
 
 pub uncommented_reach : (a : Option (List ℕ)) (s : Step) (ss : List Step) (n : Node) → Uncommented n → If (reach s ss (anchored a n)) (λ y. HasNone y.0)
 uncommented_reach a s ss n h = go (labelled_at s (children_of (anchored a n))) (uncommented_at s (children_of (anchored a n)) (uncommented_children (anchored a n) (uncommented_anchored a n h)))
   where
     go : (r : Option Labelled) → If r IsUncommented → If (option_and_then (labelled_from ss) r) (λ y. HasNone y.0)
-    go None k = tt
-    go (Some y) k = uncommented_from ss y k
+    go r h1 = search (rules, uncommented_from)

@@ -1,5 +1,5 @@
 -- How many lines are under one that was found.
-use Rattle.std.proofs.Common.{◌≡◌, ℕ, zero, suc, ◌+◌, ◌<◌, ◌≤◌, ltb, List, [], ◌∷◌, ◌++◌, length, drop, Some, Bool, true, false, cond, refl, ap, ◌∙◌, arith, append_assoc, length-append}
+use Rattle.std.proofs.Common.{◌≡◌, ℕ, suc, ◌+◌, ◌<◌, ◌≤◌, ltb, List, [], ◌∷◌, ◌++◌, length, drop, Some, Bool, true, cond, refl, ap, ◌∙◌, arith, append_assoc, length-append, rules}
 use Rattle.std.proofs.lemmas.Bool.{ltb-true, ltb-false, lt-ltb, le-ltb, cond-true, cond-false}
 use Rattle.std.proofs.lemmas.Option.{none-some, same_Some}
 use Rattle.std.specs.List.{slice_get}
@@ -18,17 +18,14 @@ count_stops k [] x e = absurd (none-some _ e)
 count_stops k (l ∷ ls) x e = go (ltb k (level l)) refl (λ h. count_stops k ls x h) e
   where
     go : (b : Bool) → ltb k (level l) ≡ b → (slice_get ls (deeper_count k ls) ≡ Some x → level x ≤ k) → slice_get (l ∷ ls) (cond b (suc (deeper_count k ls)) 0) ≡ Some x → level x ≤ k
-    go true t again e = again e
-    go false t again e = omega (arith, ltb-false k (level l) t, ap level (same_Some _ _ e))
+    go b h1 h2 h3 = search (rules, ltb-false, same_Some)
 
 pub count_holds : (k : ℕ) (ls : List Line) (j : ℕ) (x : Line) → j < deeper_count k ls → slice_get ls j ≡ Some x → k < level x
 count_holds k [] j x h e = absurd (none-some _ e)
 count_holds k (l ∷ ls) j x h e = go (ltb k (level l)) refl (λ i h e. count_holds k ls i x h e) j h e
   where
     go : (b : Bool) → ltb k (level l) ≡ b → ((i : ℕ) → i < deeper_count k ls → slice_get ls i ≡ Some x → k < level x) → (j : ℕ) → j < cond b (suc (deeper_count k ls)) 0 → slice_get (l ∷ ls) j ≡ Some x → k < level x
-    go true t again zero h e = omega (arith, ltb-true k (level l) t, ap level (same_Some _ _ e))
-    go true t again (suc j) h e = again j (omega (arith, h)) e
-    go false t again j h e = absurd (omega (arith, h))
+    go b h1 h2 j h3 h4 = search (rules, ltb-true, same_Some)
 
 -- the first of lines is no deeper
 abbrev pub Shallow : ℕ → List Line → Type 0
@@ -36,8 +33,7 @@ Shallow m [] = Unit {0}
 Shallow m (l ∷ ls) = level l ≤ m
 
 pub shallow_append : (m : ℕ) (xs ys : List Line) → Shallow m xs → Shallow m ys → Shallow m (xs ++ ys)
-shallow_append m [] ys h k = k
-shallow_append m (x ∷ xs) ys h k = h
+shallow_append m xs ys h1 h2 = search rules
 
 pub shallow_even : (m n : ℕ) (o : Outline) → IsEven n o → n ≤ m → Shallow m (flatten o)
 shallow_even m n end h less = tt
@@ -54,8 +50,7 @@ shallow_after n (below l p after) m h = shallow_append m (lines_after p) (flatte
 shallow_after n (beside l under p) m h = shallow_after n p m h.4
 
 pub count_none : (m : ℕ) (ls : List Line) → Shallow m ls → deeper_count m ls ≡ 0
-count_none m [] h = refl
-count_none m (l ∷ ls) h = cond-false _ _ _ (le-ltb m (level l) h)
+count_none m ls h1 = search (rules, cond-false, le-ltb)
 
 pub count_under : (n m : ℕ) (o : Outline) (more : List Line) → n < m → IsEven m o → deeper_count n (flatten o ++ more) ≡ length (flatten o) + deeper_count n more
 count_under n m end more less h = omega arith

@@ -1,9 +1,8 @@
 -- The rows of documents among those of a text.
-use Rattle.std.proofs.Common.{◌≡◌, ℕ, zero, suc, ◌+◌, ◌-◌, ◌<◌, ◌≤◌, List, [], ◌∷◌, ◌++◌, length, take, drop, Option, Some, None, option_map, true, refl, sym, ap, ◌∙◌, arith, length-append}
+use Rattle.std.proofs.Common.{◌≡◌, ℕ, zero, suc, ◌+◌, ◌-◌, ◌<◌, ◌≤◌, List, [], ◌∷◌, ◌++◌, length, take, drop, Option, Some, None, option_map, true, refl, sym, ap, ◌∙◌, arith, length-append, Bool}
 use Rattle.std.proofs.lemmas.Bool.{lt-ltb, le-ltb, cond-true, cond-false}
 use Rattle.std.proofs.lemmas.Option.{same_Some}
 use Rattle.std.specs.List.{slice_get}
-use Rattle.yq_lines.specs.Comments as comments
 use Rattle.yq_flow_scalars.specs.Answers.{◌>>=◌}
 use Rattle.yq_flow_scalars.specs.Paths.{Step}
 use Rattle.yq_lines.specs.Ends.{line_of}
@@ -13,19 +12,20 @@ use Rattle.yq_cut.specs.Splices.{nth_part}
 use Rattle.yq_cut.specs.View.{Bound, rows_of, RowsView, rows_view}
 use Rattle.yq_documents.specs.Documents.{document_parts}
 use Rattle.yq_row_lines.specs.Lines.{row_lines, lines_of}
-use Rattle.yq_documents.proofs.PartRows.{document_has}
+use Rattle.yq_documents.proofs.PartRows.{document_has, part_begins}
 use Rattle.yq_row_lines.proofs.RowLaws.{lines_count}
-use Rattle.yq_documents.specs.LinesInRows.{behind_one, row_line, row_line_of, row_line_at, document_row}
+use Rattle.yq_documents.specs.LinesInRows.{behind_one, row_line, row_line_of, row_line_at, document_row, RowLine, line_has_room, row_line_has_room}
 use Rattle.yq_documents.specs.PartNumbers.{document_part, rows_to}
 use Rattle.yq_documents.proofs.PartNumberLaws.{part_there, document_found, document_missing, end_agrees}
 use Rattle.yq_documents.specs.declared.path.Path.{Path}
 use Rattle.yq_documents.specs.Located.{steps_of}
 use Rattle.yq_documents.specs.Reading.{all_documents}
 use Rattle.yq_row_lines.specs.RowWalk.{HasDocument, stretch_view}
+use Rattle.yq_row_lines.specs.declared.line_position.Stretch.{Stretch}
+use Rattle.yq_documents.specs.declared.path.Part.{Part as Place}
+use Rattle.yq_lines.specs.Comments as comments
 use Rattle.yq_places.specs.RowWalk.{InCut, document_rows}
 use Rattle.yq_places.specs.RowLineReading.{Numbers, numbers}
-use Rattle.yq_row_lines.specs.declared.line_position.Stretch.{Stretch}
-use Rattle.yq_documents.proofs.PartRows.{part_begins}
 
 -- the rows of a document, by the number of its part
 pub rows_known : (c : Cut) (s : RowsView) (n k first : ℕ) (b : Bound) → s ≡ rows_view c → Some k ≡ document_part n c → first ≡ rows_to k c → slice_get s.bounds k ≡ Some b → Some (first, b.rows) ≡ document_rows n c
@@ -126,3 +126,10 @@ row_line_reached rs steps first i k dashes row r is h row_is count e =
 
 pub none_reached : (rs : List Row) (steps : List Step) (first : ℕ) → None ≡ line_of steps (lines_of rs) → None ≡ option_map (numbers first) (row_line_of steps rs)
 none_reached rs steps first e = ap (λ (o : Option ℕ). option_map (numbers first) (o >>= λ n. row_line n rs)) e
+
+-- ---- whether a line has room, by its numbers
+
+-- whether a line has room, by its numbers
+pub room_agrees : (part : Place) (k : ℕ) (x : Numbers) (o : Option RowLine) (room : Bool) → Some x ≡ option_map (numbers k) o → ((j : ℕ) (s : RowLine) → x ≡ numbers j s → room ≡ line_has_room part s) → room ≡ row_line_has_room part o
+room_agrees part k x None room e agrees = absurd (cc)
+room_agrees part k x (Some s) room e agrees = agrees k s (same_Some _ _ e)

@@ -9,10 +9,9 @@ use Rattle.yq_flow_scalars.specs.Paths.{Step}
 use Rattle.yq_lines.specs.Ends.{is_end, part, deeper_count, lines_end}
 use Rattle.yq_lines.specs.Group.{deeper, group}
 use Rattle.yq_lines.specs.Outline.{Line, level}
-use Rattle.yq_lines.proofs.EndsLaws.{not_end}
+use Rattle.yq_lines.proofs.EndsLaws.{drop_at, not_end, part_row, part_stop}
 use Rattle.yq_lines.proofs.LineEnds.{end_line}
-use Rattle.yq_lines.proofs.LinesLaws.{above}
-use Rattle.yq_lines.proofs.Parts.{drop_at, part_row, part_stop}
+use Rattle.yq_lines.proofs.NameLaws.{above}
 use Rattle.yq_cut.specs.Rows.{Row, Cut}
 use Rattle.yq_cut.specs.View.{rows_of, RowsView}
 use Rattle.yq_documents.specs.LinesInRows.{RowLine, row_line}

@@ -2,7 +2,7 @@
 use Rattle.std.proofs.Common.{◌≡◌, ℕ, ◌+◌, ◌≤◌, Bool, true, false, ◌&&◌, List, length, drop, Some, sym, ap, ◌∙◌}
 use Rattle.std.proofs.lemmas.List.{drop_all}
 use Rattle.std.specs.List.{list_all, slice_get}
-use Rattle.yq_lines.proofs.Parts.{drop_at}
+use Rattle.yq_lines.proofs.EndsLaws.{drop_at}
 
 module _ {A : Type 0} (f : A → Bool) (xs : List A) (i : ℕ) (all : Bool) (so_far : list_all f (drop i xs) ≡ all) where
   next : (x : A) (b : Bool) → slice_get xs i ≡ Some x → f x ≡ b → list_all f (drop i xs) ≡ (b && list_all f (drop (i + 1) xs))

@@ -18,7 +18,7 @@ use Rattle.yq_documents.specs.Decoded.{borrowed_head, borrowed_text, decoded_or,
 use Rattle.yq_documents.specs.RowReading.{string_head}
 use Rattle.yq_documents.specs.declared.decoded.Decoded.{Decoded}
 use Rattle.yq_reading.specs.Named.{flow_names}
-use Rattle.yq_row_lines.proofs.LineNames.{names_row}
+use Rattle.yq_row_lines.proofs.WalkLevels.{names_row}
 use Rattle.yq_reading.proofs.RowContents.{lines_at}
 
 with-append : (a : Option (List ℕ)) (xs ys : List Name) → with_anchor a (xs ++ ys) ≡ with_anchor a xs ++ ys

@@ -6,7 +6,7 @@ use Rattle.std.proofs.lemmas.Option.{same_Some, slice_get-map}
 use Rattle.std.specs.List.{slice_get}
 use Rattle.std.specs.Prelude.{option_map}
 use Rattle.yq_lines.specs.Comments.{head_comment}
-use Rattle.yq_lines.proofs.Parts.{drop_at}
+use Rattle.yq_lines.proofs.EndsLaws.{drop_at}
 use Rattle.yq_cut.specs.Grammar.{begins_document}
 use Rattle.yq_cut.specs.Rows.{Row, Part, Cut, last, marked}
 use Rattle.yq_cut.specs.Splices.{first_gap as gap_of}

@@ -7,12 +7,12 @@ use Rattle.std.specs.Prelude.{is_none}
 use Rattle.yq_flow_scalars.specs.Text.{is_empty}
 use Rattle.yq_lines.specs.LinesReading.{have_one_anchor_each, is_free, may_take}
 use Rattle.yq_lines.specs.Outline.{Line}
-use Rattle.yq_lines.proofs.Parts.{drop_at}
+use Rattle.yq_lines.proofs.EndsLaws.{drop_at}
 use Rattle.yq_cut.specs.Grammar.{AreRows, IsContent, Limit, limit_after}
 use Rattle.yq_cut.specs.Rows.{Row, parent_indent}
 use Rattle.yq_row_lines.specs.Lines.{content_anchor, lines_of, row_lines}
 use Rattle.yq_documents.specs.RowReading.{name_in}
-use Rattle.yq_row_lines.proofs.LineNames.{free_row}
+use Rattle.yq_row_lines.proofs.WalkLevels.{free_row}
 use Rattle.yq_reading.proofs.AnchorRows.{free_agrees}
 
 -- the content of a row is one

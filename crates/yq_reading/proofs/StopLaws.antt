@@ -4,8 +4,7 @@ use Rattle.std.proofs.lemmas.Bool.{lt-ltb, cond-true, cond-false}
 use Rattle.std.specs.List.{slice_get}
 use Rattle.yq_lines.specs.Ends.{deeper_count, part, is_end}
 use Rattle.yq_lines.specs.Outline.{Line, level}
-use Rattle.yq_lines.proofs.EndsLaws.{deeper_at}
-use Rattle.yq_lines.proofs.Parts.{drop_at}
+use Rattle.yq_lines.proofs.EndsLaws.{deeper_at, drop_at}
 
 -- one that is deeper is counted
 pub count_here : (ls : List Line) (at floor : ℕ) (l : Line) → slice_get ls at ≡ Some l → floor < level l → deeper_count floor (drop at ls) ≡ suc (deeper_count floor (drop (suc at) ls))

@@ -1,21 +1,19 @@
 -- The entries under a line, or of a document, have different keys.
-use Rattle.std.proofs.Common.{◌≡◌, ◌⊎◌, inl, inr, ℕ, zero, suc, ◌+◌, ◌<◌, ltb, eqb, leb, Bool, true, false, cond, not, ◌&&◌, List, [], ◌∷◌, ◌++◌, Option, Some, None, option_map, bytes_eq, refl, sym, ap, ◌∙◌, subst, arith}
+use Rattle.std.proofs.Common.{◌≡◌, ◌⊎◌, inl, inr, ℕ, zero, suc, ◌+◌, ltb, Bool, true, false, cond, not, ◌&&◌, List, [], ◌∷◌, ◌++◌, Option, Some, None, option_map, bytes_eq, refl, sym, ap, ◌∙◌, subst, arith, rules}
 use Rattle.std.proofs.lemmas.Bool.{and_parts, or_parts, not-true, ltb-true, eqb-true, le-leb, cond-false, false≢true}
 use Rattle.std.proofs.lemmas.Option.{same_Some, none-some}
 use Rattle.std.specs.List.{slice_get, list_any}
-use Rattle.std.specs.Prelude.{is_some}
-use Rattle.yq_flow_scalars.specs.Keys.{keys_of, with_key, are_distinct, deepest}
+use Rattle.yq_flow_scalars.specs.Keys.{keys_of, with_key, are_distinct}
 use Rattle.yq_flow_scalars.specs.Paths.{To, is_here, key_is}
 use Rattle.yq_lines.specs.Ends.{part, is_end, IsEndOf}
-use Rattle.yq_lines.specs.Group.{deeper, shallow, group, level_or, is_even, is_open, is_whole}
-use Rattle.yq_lines.specs.Outline.{Mark, Bare, Key, Dash, Line, level, Outline, end, row, children, key_of, label}
+use Rattle.yq_lines.specs.Group.{deeper, shallow, group}
+use Rattle.yq_lines.specs.Outline.{Mark, Bare, Line, level, Outline, end, row, children, key_of, label}
 use Rattle.yq_lines.specs.Places.{here, find_row, next_to}
-use Rattle.yq_lines.specs.Sound.{is_sound, head_is_sound, line_is_sound, is_entry, each_has_unique_keys}
+use Rattle.yq_lines.specs.Sound.{is_sound, is_entry}
 use Rattle.yq_lines.specs.Positions.{position}
-use Rattle.yq_lines.proofs.EndsLaws.{deeper_line, not_end}
+use Rattle.yq_lines.proofs.EndsLaws.{deeper_line, not_end, row_parts}
 use Rattle.yq_lines.proofs.KeyLaws.{differ, differs}
-use Rattle.yq_lines.proofs.LinesLaws.{part-all}
-use Rattle.yq_lines.proofs.Parts.{row_parts}
+use Rattle.yq_lines.proofs.NameLaws.{part-all}
 use Rattle.yq_lines.proofs.SoundLaws.{asked, keys_with, IsEntryLevel, asked_line, entry_level, sound_entries, too_deep, sound_bare}
 
 -- An outline is that of a node, or the rest of a collection's.
@@ -42,30 +40,15 @@ node_lines d l u a sound = go l.mark refl d sound
     entry (suc d) is s = record { depth = d; at = level l; keys = []; asks = sym (sound_entries d l u a is) ∙ s; entries = entry_level l is }
 
     go : (m : Mark) → l.mark ≡ m → (d : ℕ) → is_sound d (row l u a) ≡ true → ((is_end u ≡ true) × (is_end a ≡ true) × (l.mark ≡ Bare)) ⊎ Rest (row l u a)
-    go Bare mark d s =
-        let p = and_parts (is_some l.head && (is_end u && is_end a)) (head_is_sound d l.head) (sym (sound_bare d l u a mark) ∙ s) in
-        let q = and_parts (is_some l.head) (is_end u && is_end a) p.0 in
-        let r = and_parts (is_end u) (is_end a) q.1 in
-        inl (r.0, r.1, mark)
-    go (Key k) mark d s = inr (entry d (ap is_entry mark) s)
-    go Dash mark d s = inr (entry d (ap is_entry mark) s)
+    go Bare mark d s = search (rules, and_parts, sound_bare)
+    go x mark d s = inr (entry d (ap is_entry mark) s)
 
 is_nothing : (o : Outline) → is_end o ≡ true → o ≡ end
-is_nothing end e = refl
-is_nothing (row l u a) e = absurd (false≢true e)
+is_nothing o h1 = search (rules, false≢true)
 
 -- what is under a line of a collection, and what is behind
 rest_parts : (l : Line) (u a : Outline) → Rest (row l u a) → IsSound u × Rest a
-rest_parts l u a r =
-    let p = and_parts (is_even r.at (row l u a)) _ r.asks in
-    let even = and_parts (eqb (level l) r.at) _ p.0 in
-    let open' = and_parts (is_open l.head u) _ even.1 in
-    let whole = and_parts (is_whole l.mark l.head a) _ open'.1 in
-    let deep = and_parts (ltb r.at (level_or (level l + 1) u)) _ whole.1 in
-    let less : level l < level_or (level l + 1) u = omega (arith, ltb-true r.at (level_or (level l + 1) u) deep.0, eqb-true (level l) r.at even.0) in
-    let x = and_parts (line_is_sound r.depth r.at l u) _ (sym (asked_line r.depth r.at r.keys l u a r.entries less) ∙ r.asks) in
-    let y = and_parts (is_sound r.depth u) (asked r.depth r.at (keys_with r.keys l.mark) a) x.1 in
-    ((r.depth, y.0), record { depth = r.depth; at = r.at; keys = keys_with r.keys l.mark; asks = y.1; entries = r.entries })
+rest_parts l u a r = search (rules, and_parts, ltb-true, eqb-true, asked_line, asked, keys_with)
 
 -- What is under each line of an outline is that of a node.
 abbrev AreUnder : Outline → Type 0
@@ -90,8 +73,7 @@ under_joined n end h g = tt
 under_joined n (row l u a) h g = go (ltb n (level l)) h g (under_joined n a)
   where
     go : (b : Bool) → AreUnder (cond b (row l u (deeper n a)) end) → AreUnder (cond b (shallow n a) (row l u a)) → (AreUnder (deeper n a) → AreUnder (shallow n a) → AreUnder a) → AreUnder (row l u a)
-    go true h g f = (h.0, h.1, f h.2 g)
-    go false h g f = g
+    go b h1 h2 h3 = search rules
 
 under_line : (ls : List Line) (i : ℕ) (l : Line) → slice_get ls i ≡ Some l → AreUnder (group ls) → IsSound (part ls (i + 1) (level l))
 under_line [] i l is h = absurd (cc)
@@ -106,15 +88,7 @@ behind_keys (k ∷ ks) js e = behind_keys ks js (and_parts (not (list_any (bytes
 
 -- the entries of a node have different keys
 keys_differ : (o : Outline) → IsSound o → are_distinct (keys_of (children o)) ≡ true
-keys_differ end s = refl
-keys_differ (row l u a) s = go (node_lines s.0 l u a s.1)
-  where
-    go : ((is_end u ≡ true) × (is_end a ≡ true) × (l.mark ≡ Bare)) ⊎ Rest (row l u a) → are_distinct (keys_of (children (row l u a))) ≡ true
-    go (inl x) = λ i. are_distinct (with_key (key_of (x.2 i)) (keys_of (children (is_nothing a x.1 i))))
-    go (inr r) =
-        let p = and_parts (is_even r.at (row l u a)) _ r.asks in
-        let q = and_parts (leb (deepest (children (row l u a))) r.depth) _ p.1 in
-        behind_keys r.keys _ (and_parts (each_has_unique_keys (children (row l u a))) _ q.1).1
+keys_differ o h1 = search (rules, node_lines, is_nothing, and_parts, behind_keys)
 
 pub line_keys : (d : ℕ) (ls : List Line) (i : ℕ) (l : Line) → is_sound d (group ls) ≡ true → slice_get ls i ≡ Some l → are_distinct (keys_of (children (part ls (i + 1) (level l)))) ≡ true
 line_keys d ls i l sound is = keys_differ _ (under_line ls i l is (are_under (group ls) (inl (d, sound))))
@@ -129,10 +103,7 @@ nowhere key (row l u a) none = go (key_of l.mark) none (nowhere key a)
   where
     go : (k : Option (List ℕ)) → list_any (bytes_eq key) (with_key k (keys_of (children a))) ≡ false → (list_any (bytes_eq key) (keys_of (children a)) ≡ false → find_row (To key) a ≡ None) →
         cond (key_is key k) (Some (record { place = here; line = l; under = u; after = a })) (option_map (next_to l u) (find_row (To key) a)) ≡ None
-    go None e f = ap (option_map (next_to l u)) (f e)
-    go (Some j) e f =
-        let p = or_parts (bytes_eq key j) (list_any (bytes_eq key) (keys_of (children a))) e in
-        cond-false (key_is key (Some j)) _ _ (differs j key (λ same. differ key j p.0 (sym same))) ∙ ap (option_map (next_to l u)) (f p.1)
+    go k h1 h2 = search (rules, or_parts, bytes_eq, cond-false, differs, differ)
 
 -- The first of lines with different keys is not the entry of a key that one behind it has.
 module _ (ls : List Line) (at floor next : ℕ) (l : Line) (is : slice_get ls at ≡ Some l) (deep : true ≡ not (is_end (part ls at floor))) (ends : IsEndOf ls at next) (differ' : are_distinct (keys_of (children (part ls at floor))) ≡ true) where
@@ -140,11 +111,7 @@ module _ (ls : List Line) (at floor next : ℕ) (l : Line) (is : slice_get ls at
   own = subst (λ (o : Outline). are_distinct (keys_of (children o)) ≡ true) (row_parts ls at floor next l is (deeper_line ls at floor l is (not_end _ deep)) (ends.2 l is)) differ'
 
   pub keys_behind : are_distinct (keys_of (children (part ls next floor))) ≡ true
-  keys_behind = go (key_of l.mark) own
-    where
-      go : (k : Option (List ℕ)) → are_distinct (with_key k (keys_of (children (part ls next floor)))) ≡ true → are_distinct (keys_of (children (part ls next floor))) ≡ true
-      go None e = e
-      go (Some j) e = (and_parts (not (list_any (bytes_eq j) (keys_of (children (part ls next floor))))) _ e).1
+  keys_behind = search (rules, own)
 
   pub other_key : (key : List ℕ) (w : ℕ × Line × Outline) → position next (find_row (To key) (part ls next floor)) ≡ Some w → is_here (To key) (label l) ≡ false
   other_key key w found = go (key_of l.mark) own
@@ -153,8 +120,4 @@ module _ (ls : List Line) (at floor next : ℕ) (l : Line) (is : slice_get ls at
       there none = none-some w (sym (ap (position next) none) ∙ found)
 
       go : (k : Option (List ℕ)) → are_distinct (with_key k (keys_of (children (part ls next floor)))) ≡ true → key_is key k ≡ false
-      go None e = refl
-      go (Some j) e =
-          let p = and_parts (not (list_any (bytes_eq j) (keys_of (children (part ls next floor))))) _ e in
-          let none = not-true _ p.0 in
-          differs j key (λ same. there (nowhere key (part ls next floor) (subst (λ (x : List ℕ). list_any (bytes_eq x) (keys_of (children (part ls next floor))) ≡ false) same none)))
+      go k h1 = search (rules, and_parts, bytes_eq, not-true, differs, nowhere)

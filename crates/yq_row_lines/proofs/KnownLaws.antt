@@ -1,5 +1,5 @@
 -- Items that are passed, row by row.
-use Rattle.std.proofs.Common.{◌≡◌, ℕ, zero, suc, ◌+◌, ◌<◌, ◌≤◌, eqb, cond, Bool, true, false, List, [], ◌∷◌, ◌++◌, length, take, drop, Some, refl, sym, ap, ◌∙◌, subst, arith, length-append}
+use Rattle.std.proofs.Common.{◌≡◌, ℕ, zero, suc, ◌+◌, ◌<◌, ◌≤◌, eqb, cond, Bool, List, [], ◌∷◌, ◌++◌, length, take, drop, Some, refl, sym, ap, ◌∙◌, subst, arith, length-append, rules}
 use Rattle.std.proofs.lemmas.Bool.{cond-true, cond-false, eq-eqb, ne_eqb}
 use Rattle.std.proofs.lemmas.List.{drop-append-le, length-take-le}
 use Rattle.std.proofs.lemmas.Option.{same_Some, slice_get_within}
@@ -51,8 +51,7 @@ count_both n [] ys = omega arith
 count_both n (x ∷ xs) ys = go (eqb (line_level 0 x) n) (count_both n xs ys)
   where
     go : (b : Bool) → level_count n (xs ++ ys) ≡ level_count n xs + level_count n ys → cond b (suc (level_count n (xs ++ ys))) (level_count n (xs ++ ys)) ≡ cond b (suc (level_count n xs)) (level_count n xs) + level_count n ys
-    go true e = omega (arith, e)
-    go false e = e
+    go b h1 = search rules
 
 pub one_as_deep : (n : ℕ) (x : Slices) → line_level 0 x ≡ n → level_count n (x ∷ []) ≡ 1
 one_as_deep n x e = cond-true _ 1 0 (eq-eqb (line_level 0 x) n e)
@@ -61,40 +60,17 @@ pub none_as_deep : (n : ℕ) (x : Slices) → (line_level 0 x ≡ n → ⊥) →
 none_as_deep n x e = cond-false _ 1 0 (ne_eqb (line_level 0 x) n e)
 
 pub count_one : (n i m : ℕ) (x : Slices) → m ≡ line_level 0 x → cond (eqb m n) (i + 1) i ≡ i + level_count n (x ∷ [])
-count_one n i m x e = go (eqb m n) ∙ ap (λ (k : ℕ). i + cond (eqb k n) 1 0) e
-  where
-    go : (b : Bool) → cond b (i + 1) i ≡ i + cond b 1 0
-    go true = refl
-    go false = omega arith
+count_one n i m x e = search rules
 
 -- with one row more, and with one less
 abbrev pub moved_to : KnownItem → ℕ → ℕ → KnownItem
 moved_to k index row = record k { index = index; row = row }
 
 pub passed_more : (xs : List Slices) (x : Slices) (k : KnownItem) (index row : ℕ) → ArePassed xs k → k.level ≤ line_level 0 x → index ≡ k.index + level_count k.level (x ∷ []) → ArePassed (xs ++ (x ∷ [])) (moved_to k index row)
-passed_more xs x k index row h deep e =
-    let within : k.under.row < length xs = slice_get_within xs k.under.row h.piece h.there in
-    let split : drop (k.under.row + 1) (xs ++ (x ∷ [])) ≡ drop (k.under.row + 1) xs ++ (x ∷ []) = drop-append-le (k.under.row + 1) xs (x ∷ []) (omega (arith, within)) in
-    record {
-      piece = h.piece;
-      there = get_front xs (x ∷ []) k.under.row h.piece h.there;
-      level = h.level;
-      deeper = h.deeper;
-      deep = subst (AreRowsDeep k.level) (sym split) (deep_both k.level (drop (k.under.row + 1) xs) (x ∷ []) h.deep (deep, tt));
-      index = omega (arith, e, h.index, ap (level_count k.level) split, count_both k.level (drop (k.under.row + 1) xs) (x ∷ []));
-    }
+passed_more xs x k index row h deep e = search (rules, slice_get_within, drop-append-le, get_front, deep_both, count_both)
 
 pub passed_less : (xs : List Slices) (x : Slices) (k : KnownItem) (index row : ℕ) → ArePassed (xs ++ (x ∷ [])) k → k.under.row < length xs → k.index ≡ index + level_count k.level (x ∷ []) → ArePassed xs (moved_to k index row)
-passed_less xs x k index row h within e =
-    let split : drop (k.under.row + 1) (xs ++ (x ∷ [])) ≡ drop (k.under.row + 1) xs ++ (x ∷ []) = drop-append-le (k.under.row + 1) xs (x ∷ []) (omega (arith, within)) in
-    record {
-      piece = h.piece;
-      there = get_before xs (x ∷ []) k.under.row h.piece within h.there;
-      level = h.level;
-      deeper = h.deeper;
-      deep = deep_first k.level (drop (k.under.row + 1) xs) (x ∷ []) (subst (AreRowsDeep k.level) split h.deep);
-      index = omega (arith, e, h.index, ap (level_count k.level) split, count_both k.level (drop (k.under.row + 1) xs) (x ∷ []));
-    }
+passed_less xs x k index row h within e = search (rules, drop-append-le, get_before, deep_first, count_both)
 
 -- the same of the rows of a text
 pub known_more : (ss : List Slices) (k : KnownItem) (x : Slices) (index row : ℕ) → IsKnown ss k → slice_get ss k.row ≡ Some x → k.level ≤ line_level 0 x → row ≡ k.row + 1 → index ≡ k.index + level_count k.level (x ∷ []) →
@@ -106,8 +82,7 @@ known_more ss k x index row h is deep next e =
 pub known_less : (ss : List Slices) (k : KnownItem) (x : Slices) (index row : ℕ) → IsKnown ss k → slice_get ss row ≡ Some x → k.row ≡ row + 1 → k.under.row < row → k.index ≡ index + level_count k.level (x ∷ []) → IsKnown ss (moved_to k index row)
 known_less ss k x index row h is next less e =
     let more : take k.row ss ≡ take row ss ++ (x ∷ []) = ap (λ (n : ℕ). take n ss) next ∙ taken_more ss row x is in
-    let size : length (take row ss) ≡ row = length-take-le row ss (omega (arith, slice_get_within ss row x is)) in
-    passed_less (take row ss) x k index row (subst (λ (xs : List Slices). ArePassed xs k) more h) (omega (arith, less, size)) e
+    search (rules, length-take-le, slice_get_within, passed_less, more)
 
 -- the first item
 pub known_first : (ss : List Slices) (k : KnownItem) (x : Slices) → slice_get ss k.under.row ≡ Some x → k.level ≡ line_level k.under.line x → k.floor < k.level → k.index ≡ 1 → k.row ≡ k.under.row + 1 → IsKnown ss k

@@ -1,5 +1,5 @@
 -- A walk to an item or entry goes on from one that is known.
-use Rattle.std.proofs.Common.{◌≡◌, ◌⊎◌, inl, inr, ℕ, zero, suc, ◌+◌, ◌-◌, ◌<◌, ◌≤◌, Bool, true, false, not, ◌&&◌, List, ◌∷◌, length, take, drop, Option, Some, option_map, refl, sym, ap, ◌∙◌, subst, arith}
+use Rattle.std.proofs.Common.{◌≡◌, ◌⊎◌, inl, inr, ℕ, zero, suc, ◌+◌, ◌-◌, ◌<◌, ◌≤◌, Bool, true, false, not, ◌&&◌, List, ◌∷◌, length, take, drop, Option, Some, option_map, refl, sym, ap, ◌∙◌, subst, arith, rules}
 use Rattle.std.proofs.lemmas.Bool.{lt-ltb, ne_eqb}
 use Rattle.std.proofs.lemmas.List.{drop-drop, drop-take, take-take, length-take-le, length-drop}
 use Rattle.std.proofs.lemmas.Option.{same_Some, slice_get_within}
@@ -9,7 +9,7 @@ use Rattle.yq_flow_scalars.specs.Paths.{Step, To, Nth, is_here, is_item, further
 use Rattle.yq_lines.specs.Ends.{IsEndOf, is_end, part}
 use Rattle.yq_lines.specs.Outline.{Line, Outline, children, key_of, label, level}
 use Rattle.yq_lines.specs.Positions as lines
-use Rattle.yq_lines.proofs.Parts.{drop_at}
+use Rattle.yq_lines.proofs.EndsLaws.{drop_at}
 use Rattle.yq_lines.proofs.PositionLaws.{position_here, position_passed, here_item}
 use Rattle.yq_cut.specs.View.{Slices, RowsView}
 use Rattle.yq_row_lines.specs.Lines.{lines_of}
@@ -19,9 +19,8 @@ use Rattle.yq_row_lines.specs.declared.line_position.Position.{Position}
 use Rattle.yq_row_lines.specs.declared.line_position.Stretch.{Stretch}
 use Rattle.yq_row_lines.proofs.EntryKeys.{keys_behind, other_key}
 use Rattle.yq_row_lines.proofs.KnownLaws.{get_dropped, one_there}
-use Rattle.yq_row_lines.proofs.Siblings.{Sibling, deeper_upto, get_taken, siblings}
 use Rattle.yq_row_lines.proofs.WalkRows.{under_more}
-use Rattle.yq_row_lines.proofs.WalkPositions.{Located, located, deeper_agrees, behind_agrees, position_line}
+use Rattle.yq_row_lines.proofs.WalkPositions.{Located, Sibling, behind_agrees, deeper_agrees, deeper_upto, get_taken, located, position_line, siblings}
 
 module _ (s : RowsView) (d : Stretch) (h : HasRows s d) (floor row n : ℕ) (y : Slices) (within : row < d.end) (last : slice_get s.rows row ≡ Some y) (low : line_level 0 y ≤ n) (deeper : floor < n) where
   -- where a step leads
@@ -95,13 +94,7 @@ module _ (s : RowsView) (d : Stretch) (h : HasRows s d) (floor row n : ℕ) (y :
   size q less = omega (arith, length-drop (q.row + 1) (take row s.rows), length-take-le row s.rows (omega (arith, slice_get_within s.rows row y last)))
 
   total : (q : Position) → q.row < row → deeper_rows n (take (d.end - (q.row + 1)) (drop (q.row + 1) s.rows)) ≡ deeper_rows n (behind q)
-  total q less =
-      let a : ℕ = q.row + 1 in
-      let m : ℕ = row - a in
-      let whole : a + m ≡ row = omega (arith, less) in
-      let there : slice_get (take (d.end - a) (drop a s.rows)) m ≡ Some y =
-      get_taken (drop a s.rows) (d.end - a) m (omega (arith, within, less)) ∙ (get_dropped s.rows a m ∙ (ap (slice_get s.rows) whole ∙ last)) in
-      deeper_upto n m (take (d.end - a) (drop a s.rows)) y there low ∙ ap (deeper_rows n) (sym (front q less))
+  total q less = search (rules, get_taken, get_dropped, last, deeper_upto, front)
 
   -- the next item
   next_item : (q : Position) (p : ℕ) (h : Passing q (suc p)) (z : Sibling n (behind q)) → Passing (record { row = (q.row + 1) + z.before; line = 0 }) p
@@ -111,15 +104,7 @@ module _ (s : RowsView) (d : Stretch) (h : HasRows s d) (floor row n : ℕ) (y :
       let long = size q h.less in
       let sum : a + suc z.before ≡ (a + z.before) + 1 = omega arith in
       let rest : drop (suc z.before) (behind q) ≡ drop ((a + z.before) + 1) (take row s.rows) = drop-drop (suc z.before) a (take row s.rows) ∙ ap (λ (k : ℕ). drop k (take row s.rows)) sum in
-      record {
-        piece = z.piece;
-        at = record { from = omega (arith, h.at.from); upto = omega (arith, inner, long, h.less, within); line = λ w is. omega arith };
-        there = sym (get_taken s.rows row (a + z.before) (omega (arith, inner, long, h.less))) ∙ (sym (get_dropped (take row s.rows) a z.before) ∙ z.there);
-        same = z.same;
-        less = omega (arith, inner, long, h.less);
-        deep = subst (AreRowsDeep n) rest z.deep;
-        count = omega (arith, z.count, h.count, ap (level_count n) rest);
-      }
+      search (rules, get_taken, get_dropped, a, inner, long, rest)
 
   -- behind an item that is passed comes the next one, or the last one
   abbrev after : (q : Position) → Sibling n (behind q) → Position
@@ -170,8 +155,7 @@ rows_passed ss floor n end less long zero a within deep = let none : a ≡ a + z
 rows_passed ss floor n end less long (suc m) a within deep =
     let x = one_there ss a (omega (arith, within, long)) in
     let sum : a + suc m ≡ (a + 1) + m = omega arith in
-    let first : drop a (take (a + suc m) ss) ≡ x.0 ∷ drop (a + 1) (take ((a + 1) + m) ss) =
-    drop_at (take (a + suc m) ss) a x.0 (get_taken ss (a + suc m) a (omega arith) ∙ x.1) ∙ ap (λ (k : ℕ). x.0 ∷ drop (a + 1) (take k ss)) sum in
+    let first : drop a (take (a + suc m) ss) ≡ x.0 ∷ drop (a + 1) (take ((a + 1) + m) ss) = search (rules, drop_at, get_taken, x) in
     let both : AreRowsDeep n (x.0 ∷ drop (a + 1) (take ((a + 1) + m) ss)) = subst (AreRowsDeep n) first deep in
     under_more ss floor a end x.0 x.1 (omega (arith, within)) (omega (arith, less, both.0))
     ∙ (rows_passed ss floor n end less long m (a + 1) (omega (arith, within)) both.1 ∙ ap (λ (k : ℕ). k + deeper_rows floor (take (end - k) (drop k ss))) (sym sum))
@@ -179,8 +163,7 @@ rows_passed ss floor n end less long (suc m) a within deep =
 -- the end of a collection is looked for from a known item on
 module _ (s : RowsView) (d : Stretch) (h : HasRows s d) (under : Position) (floor : ℕ) (k : KnownItem) (among : IsKnownIn s.rows under floor d.end k) where
   pub row_later : under.row < k.row
-  row_later =
-      omega (arith, slice_get_within (take k.row s.rows) k.under.row among.known.piece among.known.there, length-take-le k.row s.rows (omega (arith, among.within, h.within)), ap (λ (q : Position). q.row) among.under_is)
+  row_later = search (rules, slice_get_within, length-take-le)
 
   pub end_later : rows_end s d floor k.row ≡ rows_end s d floor (under.row + 1)
   end_later =
@@ -211,15 +194,7 @@ module _ (s : RowsView) (d : Stretch) (under : Position) (floor : ℕ) (k : Know
   count = level_count k.level (drop (k.under.row + 1) (take k.row s.rows))
 
   first : (h : HasRows s d) → Passing s d h k.floor k.row k.level (last h).0 among.within (last h).1 (low (last h).0 (last h).1) among.known.deeper k.under count
-  first h = record {
-    piece = among.known.piece;
-    at = position_line s d k.under begin (omega (arith, in_front h, among.within));
-    there = sym (get_taken s.rows k.row k.under.row (in_front h)) ∙ among.known.there;
-    same = sym among.known.level;
-    less = in_front h;
-    deep = among.known.deep;
-    count = refl;
-  }
+  first h = search (rules, position_line, begin, in_front, get_taken)
 
   -- the known item's line
   pub known_line : HasRows s d → IsLine s d row_of
@@ -228,9 +203,7 @@ module _ (s : RowsView) (d : Stretch) (under : Position) (floor : ℕ) (k : Know
   pub goes_on : (index : ℕ) → k.index ≤ index → GoesOn s d floor under index row_of (index - k.index)
   goes_on index more h =
       let all = over_items s d h.stand k.floor k.row k.level (last h.stand).0 among.within (last h.stand).1 (low (last h.stand).0 (last h.stand).1) among.known.deeper count k.under (first h.stand) (index - k.index) in
-      let sum : suc count + (index - k.index) ≡ index = omega (arith, among.known.index, more) in
-      (λ i. found_from d h.stand.rows (sym among.floor_is i) (sym among.under_is i) (Nth (sym sum i)))
-      ∙ (all ∙ (λ i. found_from d h.stand.rows (among.floor_is i) row_of (Nth (index - k.index))))
+      search (rules, all)
 
   -- the entry of a known item is found, where it has the key
   pub goes_to : (key : List ℕ) → HaveKeys s d under floor → ((y : Slices) → slice_get s.rows k.row ≡ Some y → k.level ≡ line_level 0 y) → IsKeyed s d k key → Finds s d under floor (To key) (Some row_of)
@@ -241,7 +214,6 @@ module _ (s : RowsView) (d : Stretch) (under : Position) (floor : ℕ) (k : Know
       let deep : true ≡ not (is_end (part ls i k.floor)) = sym (lt-ltb k.floor k.level among.known.deeper) ∙ deeper_agrees s d h.stand row_of k.level k.floor (known_line h.stand) exact in
       let here = position_here ls i k.floor l.line l.is deep (To key) (keyed h.stand l.line l.is) in
       let one : lines.line_here ls (Some i) ≡ Some (i, l.line, part ls (i + 1) (level l.line)) = ap (option_map (λ m. (i, m, part ls (i + 1) (level m)))) l.is in
-      let differ : are_distinct (keys_of (children (part ls (line_number d h.stand.rows k.under) k.floor))) ≡ true =
-      (λ j. are_distinct (keys_of (children (part ls (line_number d h.stand.rows (among.under_is j)) (among.floor_is j))))) ∙ keys h in
+      let differ : are_distinct (keys_of (children (part ls (line_number d h.stand.rows k.under) k.floor))) ≡ true = search (rules, ls) in
       let all = over_keys s d h.stand k.floor k.row k.level (last h.stand).0 among.within (last h.stand).1 (low (last h.stand).0 (last h.stand).1) among.known.deeper key _ (here ∙ one) count k.under (first h.stand) differ in
       (λ j. found_from d h.stand.rows (sym among.floor_is j) (sym among.under_is j) (To key)) ∙ (all ∙ sym one)

@@ -1,5 +1,5 @@
 -- How long rows and the ends of parts are, and what stands before their pieces.
-use Rattle.std.proofs.Common.{◌≡◌, ◌⊎◌, inl, inr, ℕ, zero, suc, ◌+◌, ◌-◌, ◌<◌, ◌≤◌, leb, List, [], ◌∷◌, ◌++◌, length, map, take, replicate, Some, option_map, Bool, true, false, cond, refl, sym, ap, ◌∙◌, arith, length-append}
+use Rattle.std.proofs.Common.{◌≡◌, ◌⊎◌, inl, inr, ℕ, zero, suc, ◌+◌, ◌-◌, ◌<◌, ◌≤◌, List, [], ◌∷◌, ◌++◌, length, map, take, replicate, Some, ap, ◌∙◌, arith, length-append, rules}
 use Rattle.std.proofs.lemmas.Bool.{cases_lt, lt-ltb, le-ltb, le-leb, lt-leb, cond-true, cond-false}
 use Rattle.std.proofs.lemmas.List.{length-replicate, length-map, map-append, take-append-le}
 use Rattle.std.proofs.lemmas.List.Sums.{sum_by-cons, sum_by-append, sum_by_more_le, sum_by-le-sum_by}
@@ -7,7 +7,7 @@ use Rattle.std.proofs.lemmas.Option.{get_or_from_slice_get, slice_get_within, sl
 use Rattle.std.specs.List.{slice_get, sum_by}
 use Rattle.yq_flow_scalars.specs.Characters.{text_limit}
 use Rattle.yq_cut.specs.Exchange.{row_front, before_at, before_content}
-use Rattle.yq_cut.specs.Rows.{Mark, Bare, Dash, Key, Row, dashes_text, mark_text, rows_text, Part, part_text, Cut, last, marked, cut_text}
+use Rattle.yq_cut.specs.Rows.{Mark, Row, dashes_text, mark_text, rows_text, Part, part_text, Cut, last, marked, cut_text}
 use Rattle.yq_cut.specs.View.{Slices, slices, last_dash, key_of, colon_of, rows_of, Bound, bounds_from, RowsView, rows_view}
 use Rattle.yq_cut.proofs.ExchangeLaws.{slice_front, slice_back}
 use Rattle.yq_cut.proofs.SliceLaws.{print-length}
@@ -30,13 +30,10 @@ part-length p rest = omega (arith, rows-length p.rows (p.end ++ rest), length-ap
 
 -- all pieces are the text
 pieces-length : (n : ℕ) (c : Cut) → length (cut_text c) ≡ rows_sum (rows_of c) + sum_by bound_length (bounds_from n c)
-pieces-length n (last p) =
-    let b : Bound = record { rows = n + length p.rows; end = p.end; marker = [] } in
-    omega (arith, part-length p [], sum_by-cons bound_length b [])
+pieces-length n (last p) = search (rules, part-length, sum_by-cons)
 pieces-length n (marked p marker c) =
     let b : Bound = record { rows = n + length p.rows; end = p.end; marker = marker } in
-    let rows : rows_sum (p.rows ++ rows_of c) ≡ rows_sum p.rows + rows_sum (rows_of c) =
-    ap (sum_by row_length) (map-append slices p.rows (rows_of c)) ∙ sum_by-append row_length (map slices p.rows) (map slices (rows_of c)) in
+    let rows : rows_sum (p.rows ++ rows_of c) ≡ rows_sum p.rows + rows_sum (rows_of c) = simp (map-append, sum_by-append) in
     omega (arith, part-length p (marker ++ cut_text c), length-append marker (cut_text c), rows, sum_by-cons bound_length b (bounds_from (n + length p.rows) c), pieces-length (n + length p.rows) c)
 
 pub rows_view-length : (c : Cut) → length (cut_text c) ≡ view_length (rows_view c)
@@ -44,14 +41,11 @@ rows_view-length c = pieces-length 0 c
 
 -- the front of a row
 mark-length : (m : Mark) → length (mark_text m []) ≡ length (last_dash m) + (length (key_of m) + length (colon_of m))
-mark-length Bare = refl
-mark-length Dash = refl
-mark-length (Key key colon) = omega (arith, length-append key (colon ++ []), length-append colon [])
+mark-length m = search (rules, length-append)
 
 dashes-length : (ns : List ℕ) (t u : List ℕ) (n : ℕ) → length t ≡ length u + n → length (dashes_text ns t) ≡ length (dashes_text ns u) + n
 dashes-length [] t u n e = e
-dashes-length (k ∷ ns) t u n e =
-    omega (arith, dashes-length ns t u n e, length-append (replicate k 32) (dashes_text ns t), length-append (replicate k 32) (dashes_text ns u))
+dashes-length (k ∷ ns) t u n e = omega (arith, dashes-length ns t u n e, length-append {A = ℕ})
 
 -- how long a row is before its content
 abbrev begin_length : Slices → ℕ
@@ -63,16 +57,13 @@ front-length r =
     omega (
       arith,
       spaces,
-      length-append r.gap (replicate r.column 32 ++ dashes_text r.dashes (mark_text r.mark [])),
-      length-append (replicate r.column 32) (dashes_text r.dashes (mark_text r.mark [])),
+      length-append {A = ℕ},
       dashes-length r.dashes (mark_text r.mark []) (last_dash r.mark) (length (key_of r.mark) + length (colon_of r.mark)) (mark-length r.mark),
     )
 
 before-length : (i : ℕ) (rows : List Row) (r : Row) → slice_get rows i ≡ Some r → length (before_at i rows) ≡ sum_by row_length (take i (map slices rows)) + begin_length (slices r)
 before-length i [] r is = cc
-before-length zero (x ∷ rows) r is =
-    let same : x ≡ r = cc in
-    let front : length (row_front x) ≡ begin_length (slices r) = front-length x ∙ ap (λ (y : Row). begin_length (slices y)) same in omega (arith, front)
+before-length zero (x ∷ rows) r is = search (rules, front-length)
 before-length (suc i) (x ∷ rows) r is =
     omega (arith, print-length x (before_at i rows), sum_by-cons row_length (slices x) (take i (map slices rows)), before-length i rows r is)
 
@@ -84,9 +75,7 @@ is_passed : (j : ℕ) (b : Bound) → b.rows ≤ j → passed_length j b ≡ bou
 is_passed j b h = cond-true _ _ _ (le-leb b.rows j h)
 
 none_passed : (j n : ℕ) (c : Cut) → j < n → sum_by (passed_length j) (bounds_from n c) ≡ 0
-none_passed j n (last p) less =
-    let b : Bound = record { rows = n + length p.rows; end = p.end; marker = [] } in
-    omega (arith, sum_by-cons (passed_length j) b [], not_passed j b (omega (arith, less)))
+none_passed j n (last p) less = search (rules, sum_by-cons, not_passed)
 none_passed j n (marked p marker c) less =
     let b : Bound = record { rows = n + length p.rows; end = p.end; marker = marker } in
     omega (arith, sum_by-cons (passed_length j) b (bounds_from (n + length p.rows) c), not_passed j b (omega (arith, less)), none_passed j (n + length p.rows) c (omega (arith, less)))
@@ -101,23 +90,15 @@ abbrev rows_first : ℕ → Cut → ℕ
 rows_first i c = sum_by row_length (take i (map slices (rows_of c)))
 
 rows_here : (i : ℕ) (a b : List Row) → i < length a → sum_by row_length (take i (map slices (a ++ b))) ≡ sum_by row_length (take i (map slices a))
-rows_here i a b h =
-    ap (λ (l : List Slices). sum_by row_length (take i l)) (map-append slices a b)
-    ∙ ap (sum_by row_length) (take-append-le i (map slices a) (map slices b) (omega (arith, h, length-map a slices)))
+rows_here i a b h = cc (map-append slices a b, take-append-le i (map slices a) (map slices b) (omega (arith, length-map a slices)))
 
 rows_past : (i : ℕ) (a b : List Row) → length a ≤ i → sum_by row_length (take i (map slices (a ++ b))) ≡ rows_sum a + sum_by row_length (take (i - length a) (map slices b))
-rows_past i a b h =
-    ap (λ (l : List Slices). sum_by row_length (take i l)) (map-append slices a b)
-    ∙ (ap (sum_by row_length) (take_past (map slices a) (map slices b) i (omega (arith, h, length-map a slices)))
-    ∙ (sum_by-append row_length (map slices a) (take (i - length (map slices a)) (map slices b))
-    ∙ ap (λ (k : ℕ). rows_sum a + sum_by row_length (take (i - k) (map slices b))) (length-map a slices)))
+rows_past i a b h = search (rules, map-append, take_past, length-map, sum_by-append)
 
 -- how long the text before a content is
 content-length : (n i : ℕ) (c : Cut) (r : Row) → slice_get (rows_of c) i ≡ Some r →
     length (before_content i c) ≡ rows_first i c + sum_by (passed_length (n + i)) (bounds_from n c) + begin_length (slices r)
-content-length n i (last p) r is =
-    let b : Bound = record { rows = n + length p.rows; end = p.end; marker = [] } in
-    omega (arith, before-length i p.rows r is, sum_by-cons (passed_length (n + i)) b [], not_passed (n + i) b (omega (arith, slice_get_within p.rows i r is)))
+content-length n i (last p) r is = search (rules, before-length, sum_by-cons, not_passed, slice_get_within)
 content-length n i (marked p marker c) r is = go (cases_lt i (length p.rows)) (λ there. content-length (n + length p.rows) (i - length p.rows) c r there)
   where
     b : Bound
@@ -146,27 +127,15 @@ head_is : (c : Cut) (i : ℕ) (r : Row) (start end : ℕ) → slice_get (rows_of
 head_is c i r start end is e f =
     let s : Slices = slices r in
     let zero : 0 + i ≡ i = omega arith in
-    let text : length (before_content i c) ≡ row_start i (rows_view c) + begin_length s =
-    content-length 0 i c r is ∙ ap (λ (k : ℕ). rows_first i c + sum_by (passed_length k) (bounds_from 0 c) + begin_length (slices r)) zero in
-    let before : length (before_content i c ++ (s.space ++ (s.anchor ++ s.apart))) ≡ start =
-    omega (arith, e, text, length-append (before_content i c) (s.space ++ (s.anchor ++ s.apart)), length-append s.space (s.anchor ++ s.apart), length-append s.anchor s.apart) in
-    λ j. (sym before j, (f ∙ ap (λ (k : ℕ). k + length s.head) (sym before)) j)
+    search (rules, content-length, length-append, s, zero)
 
 -- the same by the sums of the code
 pub head_agrees : (s : RowsView) (i start front head : ℕ) (x : Slices) → slice_get s.rows i ≡ Some x → start ≡ row_start i s → front ≡ front_length x → head ≡ length x.head →
     (c : Cut) → s ≡ rows_view c → (r : Row) → slice_get (rows_of c) i ≡ Some r → (start + front, start + front + head) ≡ head_place i c r
-head_agrees s i start front head x there start_is front_is head_len c rows_view_is r is =
-    let same : x ≡ slices r = same_Some _ _ (sym there ∙ (ap (λ (y : RowsView). slice_get y.rows i) rows_view_is ∙ (slice_get-map slices (rows_of c) i ∙ ap (option_map slices) is))) in
-    head_is c i r (start + front) (start + front + head) is
-    (omega (arith, start_is, front_is, ap (row_start i) rows_view_is, ap front_length same))
-    (omega (arith, head_len, ap (λ (y : Slices). length y.head) same))
+head_agrees s i start front head x there start_is front_is head_len c rows_view_is r is = search (rules, same_Some, slice_get-map, head_is)
 
 passed_less : (i : ℕ) (b : Bound) → passed_length i b ≤ bound_length b
-passed_less i b = go (leb b.rows i)
-  where
-    go : (x : Bool) → cond x (bound_length b) 0 ≤ bound_length b
-    go true = omega arith
-    go false = omega arith
+passed_less i b = search rules
 
 -- what stands before a row and the row are within the whole
 pub row_fits : (s : RowsView) (i : ℕ) (x : Slices) → slice_get s.rows i ≡ Some x → row_start i s + row_length x ≤ view_length s

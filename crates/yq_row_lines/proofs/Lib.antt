@@ -5,15 +5,8 @@ pub mod WalkRows
 pub mod WalkEnds
 pub mod WalkPositions
 pub mod KnownLaws
-pub mod Siblings
 pub mod KnownWalks
-pub mod CountLaws
 pub mod FirstLevels
-pub mod ToDashes
 pub mod RowLaws
-pub mod ReachLaws
-pub mod LineNames
-pub mod BesideLaws
 pub mod WalkMarks
-pub mod QuotedKeys
 pub mod StopLaws

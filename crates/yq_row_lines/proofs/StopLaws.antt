@@ -1,5 +1,5 @@
 -- Where lines end that are deeper than a level: behind one of them and those under it.
-use Rattle.std.proofs.Common.{◌≡◌, ℕ, suc, ◌+◌, ◌<◌, ltb, Bool, true, false, cond, List, [], ◌∷◌, length, drop, Some, refl, sym, ap, ◌∙◌, subst, arith}
+use Rattle.std.proofs.Common.{◌≡◌, ℕ, suc, ◌+◌, ◌<◌, ltb, Bool, cond, List, [], ◌∷◌, length, drop, Some, refl, sym, ap, ◌∙◌, arith, rules}
 use Rattle.std.proofs.lemmas.Bool.{lt-ltb, ltb-true, cond-true}
 use Rattle.std.proofs.lemmas.List.{drop-drop}
 use Rattle.std.proofs.lemmas.Option.{slice_get_within}
@@ -7,7 +7,7 @@ use Rattle.std.specs.List.{slice_get}
 use Rattle.yq_lines.specs.Ends.{IsEndOf, deeper_count}
 use Rattle.yq_lines.specs.Outline.{Line, level}
 use Rattle.yq_lines.proofs.LineEnds.{end_counted, end_agrees}
-use Rattle.yq_lines.proofs.Parts.{drop_at}
+use Rattle.yq_lines.proofs.EndsLaws.{drop_at}
 
 count_more : (n : ℕ) (l : Line) (ls : List Line) → n < level l → deeper_count n (l ∷ ls) ≡ suc (deeper_count n ls)
 count_more n l ls h = cond-true _ (suc (deeper_count n ls)) 0 (lt-ltb n (level l) h)
@@ -19,15 +19,10 @@ passed n floor (l ∷ ls) h = go (ltb n (level l)) refl (passed n floor ls h)
   where
     go : (b : Bool) → ltb n (level l) ≡ b → deeper_count floor ls ≡ deeper_count n ls + deeper_count floor (drop (deeper_count n ls) ls) →
         deeper_count floor (l ∷ ls) ≡ cond b (suc (deeper_count n ls)) 0 + deeper_count floor (drop (cond b (suc (deeper_count n ls)) 0) (l ∷ ls))
-    go true e again =
-        let here : deeper_count floor (l ∷ ls) ≡ suc (deeper_count floor ls) = count_more floor l ls (omega (arith, h, ltb-true n (level l) e)) in
-        omega (arith, here, again)
-    go false e again = omega arith
+    go b h1 h2 = search (rules, count_more, ltb-true)
 
 pub stop_end : (ls : List Line) (at : ℕ) (l : Line) → slice_get ls at ≡ Some l → IsEndOf ls at ((at + 1) + deeper_count (level l) (drop (at + 1) ls))
-stop_end ls at l is =
-    let one : suc at ≡ at + 1 = omega arith in
-    subst (λ (k : ℕ). IsEndOf ls at (k + deeper_count (level l) (drop k ls))) one (end_counted ls at l is)
+stop_end ls at l is = search (rules, end_counted)
 
 pub stop_step : (ls : List Line) (at floor next : ℕ) (l : Line) → slice_get ls at ≡ Some l → floor < level l → IsEndOf ls at next →
     at + deeper_count floor (drop at ls) ≡ next + deeper_count floor (drop next ls)

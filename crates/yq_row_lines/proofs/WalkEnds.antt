@@ -1,5 +1,5 @@
 -- Where the lines under a line end, row by row.
-use Rattle.std.proofs.Common.{◌≡◌, ◌⊎◌, inl, inr, ℕ, zero, suc, ◌+◌, ◌-◌, ◌*◌, ◌<◌, ◌≤◌, List, [], ◌∷◌, ◌++◌, length, map, take, drop, Some, refl, sym, ap, ◌∙◌, subst, arith, append_assoc, length-append}
+use Rattle.std.proofs.Common.{◌≡◌, ◌⊎◌, inl, inr, ℕ, zero, suc, ◌+◌, ◌-◌, ◌*◌, ◌<◌, ◌≤◌, List, [], ◌∷◌, ◌++◌, length, map, take, drop, Some, refl, sym, ap, ◌∙◌, subst, arith, append_assoc, length-append, rules}
 use Rattle.std.proofs.Math.Seq.{drop-append-add}
 use Rattle.std.proofs.lemmas.Bool.{cases_lt, lt-ltb, le-ltb, cond-true, cond-false}
 use Rattle.std.proofs.lemmas.Option.{same_Some}
@@ -8,7 +8,7 @@ use Rattle.yq_lines.specs.Comments as comments
 use Rattle.yq_lines.specs.Ends.{IsEndOf, deeper_count}
 use Rattle.yq_lines.specs.Outline.{Line, level}
 use Rattle.yq_lines.proofs.LineEnds.{end_counted}
-use Rattle.yq_lines.proofs.Parts.{drop_at}
+use Rattle.yq_lines.proofs.EndsLaws.{drop_at}
 use Rattle.yq_lines.proofs.Values.{rank_small}
 use Rattle.yq_cut.specs.Rows as rows
 use Rattle.yq_cut.specs.Rows.{Content, Row}
@@ -48,16 +48,8 @@ all_deeper n above column (k ∷ ns) m c ys h =
 -- the lines of a row whose first one is deeper
 first_deeper : (n : ℕ) (above : List (List ℕ)) (column : ℕ) (ns : List ℕ) (m : rows.Mark) (c : Content) (l : Line) (ys : List Line) → slice_get (lines_from above column ns m c) 0 ≡ Some l → n < level l →
     deeper_count n (lines_from above column ns m c ++ ys) ≡ suc (length ns) + deeper_count n ys
-first_deeper n above column [] m c l ys e h =
-    let same : level (mark_line above column m c) ≡ level l = ap level (same_Some _ _ e) in
-    omega (arith, count_more n (mark_line above column m c) ys (omega (arith, h, same)))
-first_deeper n above column (k ∷ ns) m c l ys e h =
-    let same : level (dash_line above column) ≡ level l = ap level (same_Some _ _ e) in
-    omega (
-      arith,
-      count_more n (dash_line above column) (lines_from [] (suc (column + k)) ns m c ++ ys) (omega (arith, h, same)),
-      all_deeper n [] (suc (column + k)) ns m c ys (omega (arith, h, same, dash_level above column)),
-    )
+first_deeper n above column [] m c l ys e h = search (rules, same_Some, count_more)
+first_deeper n above column (k ∷ ns) m c l ys e h = search (rules, same_Some, count_more, all_deeper, dash_level)
 
 -- none of those whose first one isn't
 first_shallow : (n : ℕ) (above : List (List ℕ)) (column : ℕ) (ns : List ℕ) (m : rows.Mark) (c : Content) (l : Line) (ys : List Line) → slice_get (lines_from above column ns m c) 0 ≡ Some l → level l ≤ n →
@@ -70,9 +62,7 @@ behind_line : (n : ℕ) (above : List (List ℕ)) (column : ℕ) (ns : List ℕ)
     deeper_count n (drop (suc k) (lines_from above column ns m c ++ ys)) ≡ (length ns - k) + deeper_count n ys
 behind_line n above column [] m c zero l ys h e deep = omega arith
 behind_line n above column [] m c (suc k) l ys h e deep = absurd (omega (arith, h))
-behind_line n above column (x ∷ ns) m c zero l ys h e deep =
-    let same : level (dash_line above column) ≡ level l = ap level (same_Some _ _ e) in
-    omega (arith, all_deeper n [] (suc (column + x)) ns m c ys (omega (arith, deep, same, dash_level above column)))
+behind_line n above column (x ∷ ns) m c zero l ys h e deep = search (rules, same_Some, all_deeper, dash_level)
 behind_line n above column (x ∷ ns) m c (suc k) l ys h e deep =
     omega (arith, behind_line n [] (suc (column + x)) ns m c k l ys (omega (arith, h)) e deep)
 
@@ -95,15 +85,11 @@ rows_deeper n (r ∷ rs) h = go (cases_lt n (line_level 0 (slices r))) (rows_dee
     go (inl less) again =
         let x = first_line r h.0 in
         let rest : List Line = lines_of (take (deeper_rows n (map slices rs)) rs) in
-        let lines : deeper_count n (row_lines r ++ lines_of rs) ≡ suc (length r.dashes) + deeper_count n (lines_of rs) =
-        first_deeper n (comments.head_comment r.gap) r.column r.dashes r.mark r.content x.0 (lines_of rs) x.1 (omega (arith, less, x.2)) in
+        let lines : deeper_count n (row_lines r ++ lines_of rs) ≡ suc (length r.dashes) + deeper_count n (lines_of rs) = search (rules, first_deeper, x) in
         let agrees : deeper_rows n (map slices (r ∷ rs)) ≡ suc (deeper_rows n (map slices rs)) = cond-true _ (suc (deeper_rows n (map slices rs))) 0 (lt-ltb n (line_level 0 (slices r)) less) in
         let sum : length (row_lines r ++ rest) ≡ suc (length r.dashes) + deeper_count n (lines_of rs) = omega (arith, count, again, length-append (row_lines r) rest) in
         lines ∙ (sym sum ∙ ap (λ (k : ℕ). length (lines_of (take k (r ∷ rs)))) (sym agrees))
-    go (inr stop) again =
-        let x = first_line r h.0 in
-        let agrees : deeper_rows n (map slices (r ∷ rs)) ≡ 0 = cond-false _ (suc (deeper_rows n (map slices rs))) 0 (le-ltb n (line_level 0 (slices r)) stop) in
-        first_shallow n (comments.head_comment r.gap) r.column r.dashes r.mark r.content x.0 (lines_of rs) x.1 (omega (arith, stop, x.2)) ∙ ap (λ (k : ℕ). length (lines_of (take k (r ∷ rs)))) (sym agrees)
+    go (inr stop) again = search (rules, first_line, cond-false, le-ltb, first_shallow)
 
 -- the lines of rows, cut at a row
 pub lines_cut : (rs : List Row) (i : ℕ) (r : Row) → slice_get rs i ≡ Some r → lines_of rs ≡ lines_of (take i rs) ++ (row_lines r ++ lines_of (drop (suc i) rs))
@@ -114,10 +100,7 @@ lines_cut (x ∷ rs) (suc i) r e = ap (λ (ls : List Line). row_lines x ++ ls) (
 -- how many lines the first rows have, by one row among them
 pub lines_upto : (rs : List Row) (i d : ℕ) (r : Row) → slice_get rs i ≡ Some r → length (lines_of (take (suc i + d) rs)) ≡ length (lines_of (take i rs)) + (suc (length r.dashes) + length (lines_of (take d (drop (suc i) rs))))
 lines_upto [] i d r e = absurd (cc)
-lines_upto (x ∷ rs) zero d r e =
-    let one : suc zero + d ≡ suc d = omega arith in
-    let same : length (row_lines x) ≡ suc (length r.dashes) = ap (λ (y : Row). length (row_lines y)) (same_Some _ _ e) ∙ lines_count (comments.head_comment r.gap) r.column r.dashes r.mark r.content in
-    ap (λ (k : ℕ). length (lines_of (take k (x ∷ rs)))) one ∙ omega (arith, same, length-append (row_lines x) (lines_of (take d rs)))
+lines_upto (x ∷ rs) zero d r e = search (rules, same_Some, lines_count, length-append)
 lines_upto (x ∷ rs) (suc i) d r e =
     let one : suc (suc i) + d ≡ suc (suc i + d) = omega arith in
     ap (λ (k : ℕ). length (lines_of (take k (x ∷ rs)))) one
@@ -158,9 +141,7 @@ module _ (rs : List Row) (i k : ℕ) (r : Row) (l : Line) (t : RowsAgree rs) (e 
       let one : suc at ≡ length a + suc k = omega arith in
       let rest : drop (suc at) (lines_of rs) ≡ drop (suc k) (row_lines r ++ lines_of others) =
       (λ j. drop (one j) (lines_cut rs i r e j)) ∙ drop-append-add a (row_lines r ++ lines_of others) (suc k) in
-      let count : deeper_count n (drop (suc at) (lines_of rs)) ≡ (length r.dashes - k) + deeper_count n (lines_of others) =
-      ap (deeper_count n) rest ∙ behind_line n (comments.head_comment r.gap) r.column r.dashes r.mark r.content k l (lines_of others) h is deep in
-      omega (arith, count, h, rows_deeper n others (rows_agree_drop (suc i) rs t), lines_upto rs i (deeper_rows n (map slices others)) r e)
+      search (rules, behind_line, rows_deeper, rows_agree_drop, lines_upto, others, rest)
 
   pub ends_at : IsEndOf (lines_of rs) at (length (lines_of (take (suc i + deeper_rows (level l) (map slices (drop (suc i) rs))) rs)))
   ends_at = subst (IsEndOf (lines_of rs) at) (followed (level l) (omega arith)) (end_counted (lines_of rs) at l (line_of_row rs i k r e h ∙ is))

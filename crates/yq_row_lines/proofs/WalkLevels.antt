@@ -1,6 +1,6 @@
 -- How deep the lines of rows are, by the pieces of rows.
-use Rattle.std.proofs.Common.{◌≡◌, ◌⊎◌, inl, inr, ℕ, zero, suc, ◌+◌, ◌%◌, ◌<◌, ◌≤◌, ltb, Bool, true, false, cond, List, [], ◌∷◌, length, take, replicate, Some, None, refl, sym, ap, ◌∙◌, arith, length-append}
-use Rattle.std.proofs.lemmas.Bool.{cases_lt, lt-ltb, le-ltb, cond-true, cond-false}
+use Rattle.std.proofs.Common.{◌≡◌, ◌⊎◌, ℕ, zero, suc, ◌+◌, ◌%◌, ◌<◌, ◌≤◌, ltb, true, false, cond, List, [], ◌∷◌, length, take, replicate, Some, None, refl, arith, length-append, rules, ◌-◌, inl, inr, ◌++◌, ap, ◌&&◌}
+use Rattle.std.proofs.lemmas.Bool.{cases_lt, lt-ltb, le-ltb, cond-true, cond-false, ne_eqb}
 use Rattle.std.proofs.lemmas.List.{length-replicate, take_all}
 use Rattle.std.specs.List.{slice_get}
 use Rattle.std.specs.Prelude.{is_none}
@@ -10,14 +10,39 @@ use Rattle.yq_flow_scalars.specs.Plain.{holds_break}
 use Rattle.yq_flow_scalars.specs.Quoted.{IsQuotedText}
 use Rattle.yq_flow_scalars.specs.Text.{is_empty}
 use Rattle.yq_lines.specs.Outline.{Dash, Line, key_of, level, rank}
-use Rattle.yq_cut.specs.Rows as rows
-use Rattle.yq_cut.specs.Rows.{Content, Row, dashes_text}
+use Rattle.yq_cut.specs.Rows.{Content, Row, dashes_text, Mark}
 use Rattle.yq_cut.specs.View.{Slices, slices, last_dash, colon_of, content_cut}
-use Rattle.yq_row_lines.specs.Lines.{head_of, mark_of, mark_line, dash_line, lines_from}
-use Rattle.yq_row_lines.specs.Extents.{dash_at}
-use Rattle.yq_row_lines.specs.Extents.{lines_before_mark}
+use Rattle.yq_flow_scalars.specs.Anchors.{with_anchor}
+use Rattle.yq_lines.specs.LinesReading.{is_free, have_one_anchor_each}
+use Rattle.yq_lines.specs.Names.{head_names, line_names}
+use Rattle.yq_cut.specs.Rows as rows
+use Rattle.yq_lines.specs.Comments as comments
+use Rattle.yq_row_lines.specs.Lines.{head_of, mark_of, mark_line, dash_line, lines_from, content_anchor, row_lines}
+use Rattle.yq_row_lines.specs.Extents.{dash_at, lines_before_mark}
 use Rattle.yq_row_lines.specs.RowWalk.{line_rank, line_level}
-use Rattle.yq_row_lines.proofs.ToDashes.{to_dash, last_is}
+
+-- ---- how far it is to the dashes of a row
+
+-- how far it is to a dash
+past_spaces : (k n : ℕ) (t : List ℕ) → dash_at k (replicate n 32 ++ t) ≡ n + dash_at k t
+unfolding dash_at
+past_spaces k zero t = omega arith
+past_spaces k (suc n) t = let step : dash_at k (replicate (suc n) 32 ++ t) ≡ suc (dash_at k (replicate n 32 ++ t)) = refl in omega (arith, step, past_spaces k n t)
+
+pub to_dash : (k : ℕ) (ns t : List ℕ) → k ≤ length ns → t ≡ [] ⊎ ((u : List ℕ) × (t ≡ 45 ∷ u)) → dash_at k (dashes_text ns t) ≡ length (dashes_text (take k ns) [])
+unfolding dash_at
+to_dash zero [] t h (inl e) = ap (dash_at 0) e
+to_dash zero [] t h (inr e) = ap (dash_at 0) e.1
+to_dash (suc k) [] t h e = absurd (omega (arith, h))
+to_dash zero (n ∷ ns) t h e = refl
+to_dash (suc k) (n ∷ ns) t h e =
+    let again : dash_at k (dashes_text ns t) ≡ length (dashes_text (take k ns) []) = to_dash k ns t (omega (arith, h)) e in
+    search (rules, length-replicate, cond-false, ne_eqb, past_spaces, length-append, again)
+
+pub last_is : (m : Mark) → last_dash m ≡ [] ⊎ ((u : List ℕ) × (last_dash m ≡ 45 ∷ u))
+last_is m = search rules
+
+-- ---- how deep the lines of rows are, by the pieces of rows
 
 -- What is asked of a row, for its pieces to tell its lines.
 pub record RowAgrees (r : Row) : Type 0 where
@@ -44,24 +69,13 @@ line_in above column [] m c (suc k) h = absurd (omega (arith, h))
 line_in above column (n ∷ ns) m c zero h = (dash_line above column, refl, record { column_is = omega arith; dash = λ p. (refl, refl); mark = λ e. absurd (omega (arith, e)) })
 line_in above column (n ∷ ns) m c (suc k) h =
     let x = line_in [] (suc (column + n)) ns m c k (omega (arith, h)) in
-    let spaces : length (replicate {A = ℕ} n 32) ≡ n = length-replicate {A = ℕ} n 32 in
-    let t : List ℕ = dashes_text (take k ns) [] in
-    let there : x.0.column ≡ suc (column + n) + length t = x.2.column_is in (
-      x.0,
-      x.1,
-      record {
-        column_is = omega (arith, there, spaces, length-append (replicate n 32) t);
-        dash = λ p. x.2.dash (omega (arith, p));
-        mark = λ e. x.2.mark (omega (arith, e));
-      },
-    )
+    search (rules, length-replicate, length-append, x)
 
 -- a dash stands before what follows it
 dash_before : (k : ℕ) (ns t : List ℕ) → k < length ns → length (dashes_text (take k ns) []) < length (dashes_text ns t)
 dash_before k [] t h = absurd (omega (arith, h))
 dash_before zero (n ∷ ns) t h = omega arith
-dash_before (suc k) (n ∷ ns) t h =
-    omega (arith, dash_before k ns t (omega (arith, h)), length-append (replicate n 32) (dashes_text (take k ns) []), length-append (replicate n 32) (dashes_text ns t))
+dash_before (suc k) (n ∷ ns) t h = omega (arith, dash_before k ns t (omega (arith, h)), length-append {A = ℕ})
 
 dash_behind : (ns : List ℕ) → length (dashes_text ns (45 ∷ [])) ≡ suc (length (dashes_text ns []))
 dash_behind [] = refl
@@ -70,36 +84,40 @@ dash_behind (n ∷ ns) = omega (arith, dash_behind ns, length-append (replicate 
 -- the rank of a row's last line
 mark_rank : (m : rows.Mark) (ns : List ℕ) (a : ℕ) → a ≡ length (dashes_text ns []) → is_empty (colon_of m) ≡ is_item (key_of (mark_of m)) →
     rank (mark_of m) ≡ cond (ltb a (length (dashes_text ns (last_dash m)))) 3 (cond (is_empty (colon_of m)) 1 2)
-mark_rank rows.Bare ns a e h = sym (cond-false _ 3 1 (le-ltb a (length (dashes_text ns [])) (omega (arith, e))))
-mark_rank rows.Dash ns a e h = sym (cond-true _ 3 1 (lt-ltb a (length (dashes_text ns (45 ∷ []))) (omega (arith, e, dash_behind ns))))
-mark_rank (rows.Key key colon) ns a e h =
-    sym (cond-false _ 3 (cond (is_empty colon) 1 2) (le-ltb a (length (dashes_text ns [])) (omega (arith, e))) ∙ ap (λ (b : Bool). cond b 1 2) h)
+mark_rank m ns a h1 h2 = search (rules, cond-false, le-ltb, cond-true, lt-ltb, dash_behind)
 
 -- the rank of a line of a row
 pub rank_is : (r : Row) (k : ℕ) (l : Line) → RowAgrees r → k ≤ length r.dashes → IsLineOf r.column r.dashes r.mark r.content k l → rank l.mark ≡ line_rank k (slices r)
 rank_is r k l t h is = go (to_dash k r.dashes (last_dash r.mark) h (last_is r.mark)) (cases_lt k (length r.dashes))
   where
     go : dash_at k (slices r).dashes ≡ length (dashes_text (take k r.dashes) []) → (k < length r.dashes) ⊎ (length r.dashes ≤ k) → rank l.mark ≡ line_rank k (slices r)
-    go at (inl less) =
-        ap rank (is.dash less).0
-        ∙ sym (cond-true _ 3 (cond (is_empty (colon_of r.mark)) 1 2) (lt-ltb (dash_at k (slices r).dashes) (length (dashes_text r.dashes (last_dash r.mark))) (omega (arith, at, dash_before k r.dashes (last_dash r.mark) less))))
-    go at (inr last) =
-        let whole : take k r.dashes ≡ r.dashes = take_all k r.dashes last in
-        ap rank (is.mark (omega (arith, h, last))).0
-        ∙ mark_rank r.mark r.dashes (dash_at k (slices r).dashes) (at ∙ ap (λ (ns : List ℕ). length (dashes_text ns [])) whole) t.colon
+    go h1 h2 = search (rules, cond-true, lt-ltb, dash_before, take_all, mark_rank)
 
 -- the level of a line of a row
 pub level_is : (r : Row) (k : ℕ) (l : Line) → RowAgrees r → k ≤ length r.dashes → IsLineOf r.column r.dashes r.mark r.content k l → level l ≡ line_level k (slices r)
 unfolding level
-level_is r k l t h is =
-    let at : dash_at k (slices r).dashes ≡ length (dashes_text (take k r.dashes) []) = to_dash k r.dashes (last_dash r.mark) h (last_is r.mark) in
-    omega (arith, is.column_is, at, rank_is r k l t h is)
+level_is r k l t h is = search (rules, to_dash, last_is, rank_is)
 
 -- what a line of a row begins with, by how deep it is
 pub rank_of_level : (k : ℕ) (x : Slices) (n : ℕ) → n ≡ line_level k x → (n % 3 ≡ 0 → 3 ≡ line_rank k x) × ((n % 3 ≡ 0 → ⊥) → n % 3 ≡ line_rank k x)
-rank_of_level k x n e = let r = within (ltb (dash_at k x.dashes) (length x.dashes)) (is_empty x.colon) in (λ none. omega (arith, none, e, r.0, r.1), λ some. omega (arith, some, e, r.0, r.1))
-  where
-    within : (a b : Bool) → (1 ≤ cond a 3 (cond b 1 2)) × (cond a 3 (cond b 1 2) ≤ 3)
-    within true b = (omega arith, omega arith)
-    within false true = (omega arith, omega arith)
-    within false false = (omega arith, omega arith)
+rank_of_level k x n e = search rules
+
+-- ---- what is asked of the anchors and names of all lines of rows, row by row
+
+-- a row's anchor stands before the row's last line's node, and no other one does
+free_from : (above : List (List ℕ)) (column : ℕ) (ns : List ℕ) (m : rows.Mark) (c : Content) (ls : List Line) →
+    have_one_anchor_each (lines_from above column ns m c ++ ls) ≡ (is_free (content_anchor c) ls && have_one_anchor_each ls)
+free_from above column [] m c ls = refl
+free_from above column (n ∷ ns) m c ls = free_from [] (suc (column + n)) ns m c ls
+
+pub free_row : (r : Row) (ls : List Line) → have_one_anchor_each (row_lines r ++ ls) ≡ (is_free (content_anchor r.content) ls && have_one_anchor_each ls)
+free_row r ls = free_from (comments.head_comment r.gap) r.column r.dashes r.mark r.content ls
+
+-- the names in a row: its anchor, and those in its head
+names_from : (above : List (List ℕ)) (column : ℕ) (ns : List ℕ) (m : rows.Mark) (c : Content) (ls : List Line) →
+    line_names (lines_from above column ns m c ++ ls) ≡ with_anchor (content_anchor c) (head_names (head_of c) ++ line_names ls)
+names_from above column [] m c ls = refl
+names_from above column (n ∷ ns) m c ls = names_from [] (suc (column + n)) ns m c ls
+
+pub names_row : (r : Row) (ls : List Line) → line_names (row_lines r ++ ls) ≡ with_anchor (content_anchor r.content) (head_names (head_of r.content) ++ line_names ls)
+names_row r ls = names_from (comments.head_comment r.gap) r.column r.dashes r.mark r.content ls

@@ -1,12 +1,12 @@
 -- What lines of a document begin with, and whether they have a head, by their rows.
-use Rattle.std.proofs.Common.{◌≡◌, ◌⊎◌, inl, inr, ℕ, ◌<◌, ◌≤◌, eqb, Bool, true, false, not, ◌&&◌, List, length, Option, Some, None, refl, sym, ap, ◌∙◌, subst, arith}
+use Rattle.std.proofs.Common.{◌≡◌, ◌⊎◌, ℕ, ◌<◌, ◌≤◌, eqb, Bool, true, false, not, ◌&&◌, List, length, Option, Some, None, sym, ap, ◌∙◌, subst, rules}
 use Rattle.std.proofs.lemmas.Bool.{cases_lt, eq-eqb, ne_eqb}
 use Rattle.std.proofs.lemmas.Option.{same_Some}
 use Rattle.std.specs.List.{slice_get}
 use Rattle.std.specs.Prelude.{is_none, is_some}
 use Rattle.std.specs.Str.{bytes_eq}
 use Rattle.yq_nodes.specs.Scalars.{content_of, is_quoted}
-use Rattle.yq_lines.specs.Outline.{Mark, Bare, Key, Dash, Line, key_of, rank}
+use Rattle.yq_lines.specs.Outline.{Mark, Line, key_of, rank}
 use Rattle.yq_lines.specs.Positions.{is_bare}
 use Rattle.yq_flow_scalars.specs.Paths.{is_item, key_is}
 use Rattle.yq_flow_scalars.specs.Plain.{holds_break}
@@ -26,14 +26,10 @@ use Rattle.yq_row_lines.proofs.WalkPositions.{Located, located}
 
 -- what is told of a line's mark, by its rank
 bare_ranked : (m : Mark) → is_bare m ≡ eqb (rank m) 1
-bare_ranked Bare = refl
-bare_ranked (Key k) = refl
-bare_ranked Dash = refl
+bare_ranked m = search rules
 
 item_ranked : (m : Mark) → is_item (key_of m) ≡ not (eqb (rank m) 2)
-item_ranked Bare = refl
-item_ranked (Key k) = refl
-item_ranked Dash = refl
+item_ranked m = search rules
 
 module _ (s : RowsView) (d : Stretch) (h : HasRows s d) (q : Position) (at : IsLine s d q) (l : Line) (is : slice_get (lines_of h.rows) (line_number d h.rows q) ≡ Some l) where
   abbrev k : Located s d h q
@@ -57,29 +53,16 @@ module _ (s : RowsView) (d : Stretch) (h : HasRows s d) (q : Position) (at : IsL
 
     -- the key of the line
     pub key_none : (n ≡ 2 → ⊥) → None ≡ key_of l.mark
-    key_none other = go l.mark same
-      where
-        go : (m : Mark) → n ≡ rank m → None ≡ key_of m
-        go Bare r = refl
-        go (Key j) r = absurd (other r)
-        go Dash r = refl
+    key_none other = search (rules, same)
 
     pub key_here : n ≡ 2 → Some (content_of (slices (located s d h q at).row).key) ≡ key_of l.mark
     key_here two = go (cases_lt q.line (length k.row.dashes))
       where
         marked : (m : rows.Mark) → rank (mark_of m) ≡ 2 → Some (content_of (views.key_of m)) ≡ key_of (mark_of m)
-        marked rows.Bare r = absurd (omega (arith, r))
-        marked rows.Dash r = absurd (omega (arith, r))
-        marked (rows.Key j colon) r = refl
+        marked m h1 = search rules
 
         go : (q.line < length k.row.dashes) ⊎ (length k.row.dashes ≤ q.line) → Some (content_of (slices k.row).key) ≡ key_of l.mark
-        go (inl less) =
-            let dash : l.mark ≡ Dash = ap (λ (y : Line). y.mark) (sym own) ∙ (k.agrees.dash less).0 in
-            absurd (omega (arith, ap rank dash, same, two))
-        go (inr past) =
-            let last : q.line ≡ length k.row.dashes = omega (arith, past, k.within) in
-            let mark : l.mark ≡ mark_of k.row.mark = ap (λ (y : Line). y.mark) (sym own) ∙ (k.agrees.mark last).0 in
-            marked k.row.mark (sym (ap rank mark) ∙ (sym same ∙ two)) ∙ sym (ap key_of mark)
+        go h1 = search (rules, own, same)
 
     -- whether it is that key's
     pub other_agrees : (key : List ℕ) → (n ≡ 2 → ⊥) → false ≡ key_is key (key_of l.mark)
@@ -98,18 +81,10 @@ module _ (s : RowsView) (d : Stretch) (h : HasRows s d) (q : Position) (at : IsL
       counted = ap lines_before_mark (sym pieces) ∙ k.row_agrees.counted
 
       some : (o : Option Node) → not (is_none o) ≡ is_some o
-      some None = refl
-      some (Some n) = refl
+      some o = search rules
 
       go : (q.line < length k.row.dashes) ⊎ (length k.row.dashes ≤ q.line) → (last && not (is_empty x.head)) ≡ is_some l.head
-      go (inl less) =
-          let no : last ≡ false = e ∙ ne_eqb q.line (lines_before_mark x) (λ same. omega (arith, same, less, counted)) in
-          ap (λ b. b && not (is_empty x.head)) no ∙ sym (ap is_some (ap (λ (y : Line). y.head) (sym own) ∙ (k.agrees.dash less).1))
-      go (inr past) =
-          let same : q.line ≡ length k.row.dashes = omega (arith, past, k.within) in
-          let yes : last ≡ true = e ∙ eq-eqb q.line (lines_before_mark x) (omega (arith, same, counted)) in
-          let head : is_empty x.head ≡ is_none l.head = ap (λ (y : Slices). is_empty y.head) (sym pieces) ∙ (k.row_agrees.head ∙ ap is_none (sym (k.agrees.mark same).1 ∙ ap (λ (y : Line). y.head) own)) in
-          ap (λ b. b && not (is_empty x.head)) yes ∙ (ap not head ∙ some l.head)
+      go h1 = search (rules, ne_eqb, same, own, eq-eqb)
 
 -- a quoted key is a quoted scalar
 pub quoted_agrees : (s : RowsView) (d : Stretch) (h : HasRows s d) (q : Position) → IsLine s d q → (piece : List ℕ) → ((x : Slices) → slice_get s.rows q.row ≡ Some x → piece ≡ x.key) → is_quoted piece ≡ true → IsQuotedText piece

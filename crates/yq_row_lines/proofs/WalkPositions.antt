@@ -1,12 +1,11 @@
 -- Lines of a document by their rows and by their numbers.
-use Rattle.std.proofs.Common.{◌≡◌, ℕ, zero, suc, ◌+◌, ◌-◌, ◌<◌, ◌≤◌, ltb, true, false, not, List, [], ◌∷◌, length, map, take, drop, Option, Some, None, refl, sym, ap, ◌∙◌, subst, arith}
-use Rattle.std.proofs.lemmas.Bool.{false≢true}
+use Rattle.std.proofs.Common.{◌≡◌, ℕ, zero, suc, ◌+◌, ◌-◌, ◌<◌, ◌≤◌, ltb, true, false, not, List, [], ◌∷◌, length, map, take, drop, Option, Some, refl, sym, ap, ◌∙◌, subst, arith, rules, None, option_and_then, ◌⊎◌, inl, cond}
+use Rattle.std.proofs.lemmas.Bool.{false≢true, cases_lt, cond-true, cond-false, lt-ltb, le-ltb, eq-eqb, ne_eqb}
 use Rattle.std.proofs.lemmas.List.{take_all}
 use Rattle.std.proofs.lemmas.Option.{same_Some}
 use Rattle.std.specs.List.{slice_get}
 use Rattle.std.specs.Prelude.{is_some}
-use Rattle.yq_lines.specs.Comments as comments
-use Rattle.yq_lines.specs.Ends.{IsEndOf, is_end, part}
+use Rattle.yq_lines.specs.Ends.{IsEndOf, is_end, part, line_of, reached}
 use Rattle.yq_lines.specs.Outline.{Line, level}
 use Rattle.yq_lines.specs.Positions.{if_head}
 use Rattle.yq_flow_scalars.specs.Paths.{Step}
@@ -14,9 +13,10 @@ use Rattle.yq_flow_scalars.specs.Tree.{Node}
 use Rattle.yq_lines.proofs.EndsLaws.{deeper_at}
 use Rattle.yq_cut.specs.Rows.{Row}
 use Rattle.yq_cut.specs.View.{Slices, slices, RowsView}
+use Rattle.yq_lines.specs.Comments as comments
 use Rattle.yq_row_lines.specs.Lines.{row_lines, lines_of}
 use Rattle.yq_row_lines.specs.Extents.{lines_before_mark}
-use Rattle.yq_row_lines.specs.RowWalk.{line_level, deeper_rows, HasRows, IsPosition, IsLine, line_number, lines_stop}
+use Rattle.yq_row_lines.specs.RowWalk.{line_level, deeper_rows, HasRows, IsPosition, IsLine, line_number, lines_stop, level_count, AreRowsDeep}
 use Rattle.yq_row_lines.specs.declared.line_position.Position.{Position}
 use Rattle.yq_row_lines.specs.declared.line_position.Stretch.{Stretch}
 use Rattle.yq_row_lines.proofs.WalkEnds.{line_of_row, lines_upto, ends_at, stops_at}
@@ -54,18 +54,7 @@ located s d h q at =
     let counted : lines_before_mark x.0 ≡ length r.0.dashes = ap lines_before_mark (sym r.2) ∙ t.counted in
     let within : q.line ≤ length r.0.dashes = omega (arith, at.line x.0 x.1, counted) in
     let l = line_in (comments.head_comment r.0.gap) r.0.column r.0.dashes r.0.mark r.0.content q.line within in
-    record {
-      row = r.0;
-      line = l.0;
-      there = r.1;
-      pieces = x.1 ∙ ap Some (sym r.2);
-      row_agrees = t;
-      within = within;
-      in_row = l.1;
-      is = line_of_row h.rows (q.row - d.first) q.line r.0 r.1 within ∙ l.1;
-      agrees = l.2;
-      level_agrees = level_is r.0 q.line l.0 t within l.2;
-    }
+    search (rules, line_of_row, level_is, x, r, t, within, l)
 
 -- whether a line is deeper than a level
 pub deeper_agrees : (s : RowsView) (d : Stretch) (h : HasRows s d) (q : Position) (n floor : ℕ) → IsLine s d q → ((x : Slices) → slice_get s.rows q.row ≡ Some x → n ≡ line_level q.line x) →
@@ -107,8 +96,7 @@ rows_upto s d h q e n at row none =
     let next : (q.row + 1) - d.first ≡ suc i = omega (arith, at.from) in
     let rest : take (d.end - (q.row + 1)) (drop (q.row + 1) s.rows) ≡ map slices (drop (suc i) h.rows) =
     rows_behind s d h (q.row + 1) (omega (arith, at.from)) (omega (arith, at.upto)) ∙ ap (λ (k : ℕ). map slices (drop k h.rows)) next in
-    let upto : e.row - d.first ≡ suc i + deeper_rows n (map slices (drop (suc i) h.rows)) = omega (arith, row, ap (deeper_rows n) rest, at.from) in
-    omega (arith, none, ap (λ (k : ℕ). length (lines_of (take k h.rows))) upto)
+    search (rules, i, rest)
 
 -- where the lines under a line end
 pub behind_agrees : (s : RowsView) (d : Stretch) (h : HasRows s d) (q e : Position) (n : ℕ) → IsLine s d q → ((x : Slices) → slice_get s.rows q.row ≡ Some x → n ≡ line_level q.line x) →
@@ -146,15 +134,50 @@ next_row s d h q e at last row none =
 
 -- the first line of a document
 pub first_number : (d : Stretch) (rs : List Row) → 0 ≡ line_number d rs (record { row = d.first; line = 0 })
-first_number d rs =
-    let none : d.first - d.first ≡ 0 = omega arith in
-    omega (arith, ap (λ (k : ℕ). length (lines_of (take k rs))) none)
+first_number d rs = search rules
 
 -- where a line has a head, and where it has none
 pub head_here : (o : Option Node) (x y : Option (ℕ × List Step)) → true ≡ is_some o → if_head o x y ≡ x
-head_here None x y e = absurd (false≢true (sym e))
-head_here (Some n) x y e = refl
+head_here o x y h1 = search (rules, false≢true)
 
 pub head_none : (o : Option Node) (x y : Option (ℕ × List Step)) → false ≡ is_some o → if_head o x y ≡ y
-head_none None x y e = refl
-head_none (Some n) x y e = absurd (false≢true e)
+head_none o x y h1 = search (rules, false≢true)
+
+-- ---- steps that lead nowhere
+
+-- where steps lead nowhere, no line is
+pub no_line : (steps : List Step) (ls : List Line) → None ≡ reached steps ls → None ≡ line_of steps ls
+no_line steps ls h1 = search (rules, option_and_then)
+
+-- ---- the rows of items, one behind the other
+
+pub get_taken : (ss : List Slices) (n i : ℕ) → i < n → slice_get (take n ss) i ≡ slice_get ss i
+get_taken [] zero i h = refl
+get_taken [] (suc n) i h = refl
+get_taken (x ∷ ss) zero i h = absurd (omega (arith, h))
+get_taken (x ∷ ss) (suc n) zero h = refl
+get_taken (x ∷ ss) (suc n) (suc i) h = get_taken ss n i (omega (arith, h))
+
+-- rows are counted up to one that is not deeper
+pub deeper_upto : (n m : ℕ) (zs : List Slices) (y : Slices) → slice_get zs m ≡ Some y → line_level 0 y ≤ n → deeper_rows n zs ≡ deeper_rows n (take m zs)
+deeper_upto n zero [] y e low = refl
+deeper_upto n (suc m) [] y e low = refl
+deeper_upto n zero (z ∷ zs) y e low = cc (le-ltb n (line_level 0 z) (omega (arith, ap (line_level 0) (same_Some _ _ e))))
+deeper_upto n (suc m) (z ∷ zs) y e low = ap (λ (k : ℕ). cond (ltb n (line_level 0 z)) (suc k) 0) (deeper_upto n m zs y e low)
+
+-- Among rows, of which none begins less deep, the first one that begins as deep.
+pub record Sibling (n : ℕ) (ys : List Slices) : Type 0 where
+  pub before : ℕ
+  pub piece : Slices
+  pub is : deeper_rows n ys ≡ before
+  pub there : slice_get ys before ≡ Some piece
+  pub same : line_level 0 piece ≡ n
+  pub count : level_count n ys ≡ suc (level_count n (drop (suc before) ys))
+  pub deep : AreRowsDeep n (drop (suc before) ys)
+
+pub siblings : (n : ℕ) (ys : List Slices) → AreRowsDeep n ys → ((deeper_rows n ys ≡ length ys) × (level_count n ys ≡ 0)) ⊎ Sibling n ys
+siblings n [] h = inl (refl, refl)
+siblings n (y ∷ ys) h = go (cases_lt n (line_level 0 y)) (siblings n ys h.1)
+  where
+    go : (n < line_level 0 y) ⊎ (line_level 0 y ≤ n) → ((deeper_rows n ys ≡ length ys) × (level_count n ys ≡ 0)) ⊎ Sibling n ys → ((deeper_rows n (y ∷ ys) ≡ suc (length ys)) × (level_count n (y ∷ ys) ≡ 0)) ⊎ Sibling n (y ∷ ys)
+    go h1 h2 = search (rules, cond-true, lt-ltb, cond-false, ne_eqb, le-ltb, eq-eqb)

@@ -1,5 +1,5 @@
 -- The rows of a document among those of a text, and that their pieces tell their lines.
-use Rattle.std.proofs.Common.{◌≡◌, ℕ, ℤ, zero, suc, ◌+◌, ◌-◌, ◌<◌, ◌≤◌, false, List, [], ◌∷◌, ◌++◌, length, map, take, drop, Some, refl, sym, ap, ◌∙◌, arith, append-nil}
+use Rattle.std.proofs.Common.{◌≡◌, ℕ, ℤ, zero, suc, ◌+◌, ◌-◌, ◌<◌, ◌≤◌, false, List, [], ◌∷◌, ◌++◌, length, map, take, drop, Some, refl, sym, ◌∙◌, arith, append-nil, rules}
 use Rattle.std.proofs.lemmas.Bool.{false≢true, lt-ltb, le-ltb, cond-true, cond-false}
 use Rattle.std.proofs.lemmas.List.{drop-drop, drop-map, drop-take, length-map, length-take-le, length-drop}
 use Rattle.std.specs.List.{slice_get}
@@ -8,39 +8,28 @@ use Rattle.yq_flow_scalars.specs.Piece.{deeper}
 use Rattle.yq_flow_scalars.specs.Paths.{is_item}
 use Rattle.yq_flow_scalars.specs.Text.{is_empty}
 use Rattle.yq_nodes.specs.Inline.{depth_limit}
-use Rattle.yq_nodes.specs.Nodes.{Node, empty, alias, scalar, coll, anchored, node_text, IsNode}
+use Rattle.yq_nodes.specs.Nodes.{Node, node_text, IsNode}
 use Rattle.yq_nodes.specs.Trees.{node_head}
 use Rattle.yq_nodes.proofs.NodeAgain.{is_anchored, takes_unanchored}
 use Rattle.yq_lines.specs.Outline.{key_of}
-use Rattle.yq_lines.proofs.Parts.{drop_at}
+use Rattle.yq_lines.proofs.EndsLaws.{drop_at}
 use Rattle.yq_cut.specs.Grammar.{IsContent, IsMark, Limit, limit_after, AreRows}
 use Rattle.yq_cut.specs.Rows as rows
-use Rattle.yq_cut.specs.Rows.{Content, Nothing, Inline, Block, Row, parent_indent, rows_text}
+use Rattle.yq_cut.specs.Rows.{Content, Row, parent_indent, rows_text}
 use Rattle.yq_cut.specs.View.{Slices, slices, RowsView, colon_of, content_cut}
 use Rattle.yq_row_lines.specs.Lines.{head_of, mark_of}
 use Rattle.yq_row_lines.specs.RowWalk.{line_level, deeper_rows, HasRows}
 use Rattle.yq_row_lines.specs.declared.line_position.Stretch.{Stretch}
-use Rattle.yq_row_lines.proofs.CountLaws.{before_mark}
-use Rattle.yq_row_lines.proofs.RowLaws.{colon_some, mark_line, mark_quoted, scalar_written}
+use Rattle.yq_row_lines.proofs.RowLaws.{before_mark, colon_some, mark_line, mark_quoted, scalar_written}
 use Rattle.yq_row_lines.proofs.WalkLevels.{RowsAgree}
 
 -- row by row, up to one that doesn't begin deeper
 pub under_more : (ss : List Slices) (n at end : ℕ) (x : Slices) → slice_get ss at ≡ Some x → at < end → n < line_level 0 x →
     at + deeper_rows n (take (end - at) (drop at ss)) ≡ (at + 1) + deeper_rows n (take (end - (at + 1)) (drop (at + 1) ss))
-under_more ss n at end x is h less =
-    let rest : List Slices = take (end - (at + 1)) (drop (at + 1) ss) in
-    let more : end - at ≡ suc (end - (at + 1)) = omega (arith, h) in
-    let pieces : take (end - at) (drop at ss) ≡ x ∷ rest = (λ i. take (more i) (drop_at ss at x is i)) in
-    let count : deeper_rows n (take (end - at) (drop at ss)) ≡ suc (deeper_rows n rest) = ap (deeper_rows n) pieces ∙ cond-true _ (suc (deeper_rows n rest)) 0 (lt-ltb n (line_level 0 x) less) in
-    omega (arith, count)
+under_more ss n at end x is h less = search (rules, drop_at, cond-true, lt-ltb)
 
 pub under_stop : (ss : List Slices) (n at end : ℕ) (x : Slices) → slice_get ss at ≡ Some x → at < end → line_level 0 x ≤ n → at ≡ at + deeper_rows n (take (end - at) (drop at ss))
-under_stop ss n at end x is h stop =
-    let rest : List Slices = take (end - (at + 1)) (drop (at + 1) ss) in
-    let more : end - at ≡ suc (end - (at + 1)) = omega (arith, h) in
-    let pieces : take (end - at) (drop at ss) ≡ x ∷ rest = (λ i. take (more i) (drop_at ss at x is i)) in
-    let count : deeper_rows n (take (end - at) (drop at ss)) ≡ 0 = ap (deeper_rows n) pieces ∙ cond-false _ (suc (deeper_rows n rest)) 0 (le-ltb n (line_level 0 x) stop) in
-    omega (arith, count)
+under_stop ss n at end x is h stop = search (rules, drop_at, cond-false, le-ltb)
 
 -- the rows of a document from one on
 pub rows_behind : (s : RowsView) (d : Stretch) (h : HasRows s d) (k : ℕ) → d.first ≤ k → k ≤ d.end → take (d.end - k) (drop k s.rows) ≡ map slices (drop (k - d.first) h.rows)
@@ -49,23 +38,11 @@ rows_behind s d h k from upto =
     let m : ℕ = d.end - k in
     let sum : d.end - d.first ≡ n + m = omega (arith, from, upto) in
     let at : d.first + n ≡ k = omega (arith, from) in
-    ap (λ (j : ℕ). take m (drop j s.rows)) (sym at)
-    ∙ (ap (take m) (sym (drop-drop n d.first s.rows))
-    ∙ (sym (drop-take n m (drop d.first s.rows))
-    ∙ (ap (λ (j : ℕ). drop n (take j (drop d.first s.rows))) (sym sum)
-    ∙ (ap (drop n) h.pieces ∙ drop-map slices n h.rows))))
+    cc (drop-drop n d.first s.rows, drop-take n m (drop d.first s.rows), h.pieces, drop-map slices n h.rows)
 
 -- how many rows a document has
 pub rows_length : (s : RowsView) (d : Stretch) (h : HasRows s d) → length h.rows ≡ d.end - d.first
-rows_length s d h =
-    omega (
-      arith,
-      h.order,
-      h.within,
-      length-map h.rows slices,
-      ap length h.pieces,
-      length-take-le (d.end - d.first) (drop d.first s.rows) (omega (arith, h.order, h.within, length-drop d.first s.rows)),
-    )
+rows_length s d h = search (rules, length-map, length-take-le, length-drop)
 
 -- one row
 get_from : (xs : List Row) (i : ℕ) (x : Slices) (rest : List Slices) → x ∷ rest ≡ map slices (drop i xs) → (r : Row) × (slice_get xs i ≡ Some r) × (slices r ≡ x)
@@ -84,26 +61,14 @@ row_of s d h i x from upto is =
 -- the pieces of rows tell their lines
 node_summary : (n : ℤ) (node : Node) (rest : List ℕ) → is_anchored node ≡ false → IsNode false (Some (deeper n)) depth_limit node rest → is_empty (node_text node []) ≡ is_none (node_head node)
 unfolding node_text IsNode
-node_summary n empty rest a h = refl
-node_summary n (alias name) rest a h = refl
-node_summary n (scalar p) rest a h = ap is_empty (append-nil p) ∙ scalar_written n p rest h
-node_summary n (coll k g is) rest a h = refl
-node_summary n (anchored name g node) rest a h = absurd (false≢true (sym a))
+node_summary n node rest h1 h2 = search (rules, append-nil, scalar_written, false≢true)
 
 pub head_agrees : (n : ℤ) (c : Content) (rest : List ℕ) → IsContent n c rest → is_empty (content_cut c).3 ≡ is_none (head_of c)
 unfolding IsNode
-head_agrees n (Nothing tail) rest h = refl
-head_agrees n (Inline space empty tail) rest h = refl
-head_agrees n (Inline space (alias name) tail) rest h = node_summary n (alias name) (tail ++ rest) refl h.1.valid
-head_agrees n (Inline space (scalar p) tail) rest h = node_summary n (scalar p) (tail ++ rest) refl h.1.valid
-head_agrees n (Inline space (coll k g is) tail) rest h = node_summary n (coll k g is) (tail ++ rest) refl h.1.valid
-head_agrees n (Inline space (anchored name g node) tail) rest h = node_summary n node (tail ++ rest) (takes_unanchored node h.1.valid.3) h.1.valid.4
-head_agrees n (Block space anchor block) rest h = refl
+head_agrees n c rest h1 = search (rules, node_summary, takes_unanchored)
 
 colon_agrees : (m : rows.Mark) (c : Content) (rest : List ℕ) → IsMark m c rest → is_empty (colon_of m) ≡ is_item (key_of (mark_of m))
-colon_agrees rows.Bare c rest h = refl
-colon_agrees rows.Dash c rest h = refl
-colon_agrees (rows.Key key colon) c rest h = ap is_empty h.colon_is.spelled ∙ colon_some h.colon_is.white
+colon_agrees m c rest h1 = search (rules, colon_some)
 
 pub rows_agree : (limit : Limit) (rs : List Row) (end rest : List ℕ) → AreRows limit rs end rest → RowsAgree rs
 rows_agree limit [] end rest h = tt

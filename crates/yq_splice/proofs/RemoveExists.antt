@@ -21,8 +21,7 @@ use Rattle.yq_places.specs.PlacedRows.{PlacedPart}
 use Rattle.yq_places.specs.PrintedLines.{line_in}
 use Rattle.yq_places.specs.RemovalPlaces.{OwnRows, in_three, own_rows, removal_place, row_count, rows_out}
 use Rattle.yq_places.specs.Standings.{RowsOfEntry, rows_of_entry}
-use Rattle.yq_places.proofs.FoundEntries.{entry_there}
-use Rattle.yq_places.proofs.FoundLines.{middle}
+use Rattle.yq_places.proofs.FoundEntries.{entry_there, middle}
 use Rattle.yq_places.proofs.PrintedLaws.{lines_are}
 use Rattle.yq_places.proofs.RowPathLaws.{found_lines}
 use Rattle.yq_places.proofs.DashLineLaws.{row_line_found}

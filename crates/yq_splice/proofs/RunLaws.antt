@@ -23,7 +23,7 @@ use Rattle.yq_places.specs.FlowNodes.{flow_collection}
 use Rattle.yq_places.specs.NodesAt.{node_in}
 use Rattle.yq_places.specs.Standings.{FlowPart, flow_standing, last_step}
 use Rattle.yq_places.specs.declared.places.flow_node.FlowHead.{FlowHead}
-use Rattle.yq_places.proofs.ExactReading.{parts_read}
+use Rattle.yq_places.proofs.ReadLaws.{parts_read}
 use Rattle.yq_meaning.specs.Fits.{Fits}
 use Rattle.yq_meaning.specs.Operations.{replace}
 use Rattle.yq_meaning.specs.Rooms.{room_of}

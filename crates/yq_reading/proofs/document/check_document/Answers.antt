@@ -3,7 +3,7 @@ use Rattle.yq_nodes.specs.Inline.{depth_limit}
 use Rattle.yq_lines.specs.Ends.{part}
 use Rattle.yq_lines.specs.LinesReading.{lines_are_sound}
 use Rattle.yq_lines.specs.Sound.{is_sound}
-use Rattle.yq_lines.proofs.LinesLaws.{lines_named, lines_unsound}
+use Rattle.yq_lines.proofs.NameLaws.{lines_named, lines_unsound}
 use Rattle.yq_row_lines.specs.Lines.{lines_of}
 use Rattle.yq_row_lines.specs.RowWalk.{line_number}
 use Rattle.yq_row_lines.proofs.WalkPositions.{first_number}

@@ -1,5 +1,5 @@
 use Rattle.std.proofs.Common.{map, arith, sym}
-use Rattle.yq_lines.proofs.NestedLaws.{entries_left}
+use Rattle.yq_lines.proofs.KeyLaws.{entries_left}
 use Rattle.yq_reading.proofs.inline_fault.+nested.Goals as goal
 
 pub entries_fault-returns-then-not-are_distinct-clause-sound : goal.entries_fault-returns-then-not-are_distinct-clause-sound

@@ -1,4 +1,4 @@
-use Rattle.std.proofs.Common.{length, ap, arith}
+use Rattle.std.proofs.Common.{length, ap, arith, rules}
 use Rattle.yq_cut.specs.View.{view}
 use Rattle.yq_row_lines.proofs.LengthLaws.{head_agrees, row_fits, view_small}
 use Rattle.yq_walk.proofs.extent.head_place.Goals as goal
@@ -7,13 +7,10 @@ pub front_len-requires : goal.front_len-requires
 front_len-requires c = let f = row_fits c.args.rows.now c.args.i (view c.row-row.result) c.row-row.ensures in omega (arith, f, view_small c.args.rows.now c.requires.rows_view)
 
 pub overflow_add-start : goal.overflow_add-start
-overflow_add-start c =
-    let f = row_fits c.args.rows.now c.args.i (view c.row-row.result) c.row-row.ensures in omega (arith, f, view_small c.args.rows.now c.requires.rows_view, c.start.ensures, c.front_len.ensures)
+overflow_add-start c = search (rules, row_fits, view_small)
 
 pub overflow_add-result : goal.overflow_add-result
-overflow_add-result c =
-    let f = row_fits c.args.rows.now c.args.i (view c.row-row.result) c.row-row.ensures in
-    omega (arith, f, view_small c.args.rows.now c.requires.rows_view, c.start.ensures, c.front_len.ensures, ap length c.head.ensures)
+overflow_add-result c = search (rules, row_fits, view_small)
 
 pub returns : goal.returns
 returns c = head_agrees c.args.rows.now c.args.i c.start.result c.front_len.result _ (view c.row-row.result) c.row-row.ensures c.start.ensures c.front_len.ensures (ap length c.head.ensures)

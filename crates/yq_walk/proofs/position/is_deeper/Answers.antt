@@ -1,3 +1,4 @@
+use Rattle.std.proofs.Common.{rules}
 use Rattle.yq_row_lines.proofs.WalkPositions.{deeper_agrees, end_agrees, position_line}
 use Rattle.yq_walk.proofs.position.is_deeper.Goals as goal
 
@@ -5,5 +6,4 @@ pub returns-then-position-document-clause-test : goal.returns-then-position-docu
 returns-then-position-document-clause-test c = λ h. end_agrees c.args.rows.now c.args.document h c.args.position c.args.floor c.requires.position c.if-position-document.true
 
 pub returns-clause-test : goal.returns-clause-test
-returns-clause-test c = λ h.
-    deeper_agrees c.args.rows.now c.args.document h c.args.position c.level_at.result c.args.floor (position_line c.args.rows.now c.args.document c.args.position c.requires.position c.if-position-document.false) c.level_at.ensures
+returns-clause-test c = search (rules, deeper_agrees, position_line)

@@ -1,4 +1,4 @@
-use Rattle.std.proofs.Common.{length, ap, ◌∙◌, arith}
+use Rattle.std.proofs.Common.{length, ap, ◌∙◌, arith, rules}
 use Rattle.yq_row_lines.proofs.FirstLevels.{level_most, bare_level_at, dashed_level}
 use Rattle.yq_row_lines.proofs.LengthLaws.{row_fits, view_small}
 use Rattle.yq_row_lines.proofs.WalkPositions.{has_row}
@@ -20,6 +20,4 @@ level_behind-requires c =
     )
 
 pub returns : goal.returns
-returns c = λ x e.
-    c.level_behind.ensures
-    ∙ dashed_level x c.args.position.line c.level-first.result c.as_bytes-dashes.result.now c.has_colon.result (c.level-first.ensures x e) (c.as_bytes-dashes.ensures.value ∙ c.dashes.ensures x e) (c.has_colon.ensures x e) (c.if-not-has_dashes.ensures x e)
+returns c = search (rules, dashed_level)

@@ -1,4 +1,4 @@
-use Rattle.std.proofs.Common.{rules, ◌≡◌, ◌%◌, sym, ap, ◌∙◌}
+use Rattle.std.proofs.Common.{rules, sym, ap, ◌∙◌}
 use Rattle.yq_row_lines.specs.RowWalk.{line_rank}
 use Rattle.yq_row_lines.proofs.FirstLevels.{first_rank}
 use Rattle.yq_row_lines.proofs.WalkLevels.{rank_of_level}
@@ -10,6 +10,4 @@ returns-then-position-eq0 c = λ x e.
     ∙ (first_rank c.args.rows.now c.args.position.row x c.requires.rows_view e _ _ (c.has_dashes.ensures x e) (c.has_colon.ensures x e) ∙ ap (λ k. line_rank k x) (sym c.if-position-eq0.true))
 
 pub returns-in-0 : goal.returns-in-0
-returns-in-0 c = λ x e.
-    let none : c.level_within.result % 3 ≡ 0 = search rules in
-    (rank_of_level c.args.position.line x c.level_within.result (c.level_within.ensures x e)).0 none
+returns-in-0 c = search (rules, rank_of_level)

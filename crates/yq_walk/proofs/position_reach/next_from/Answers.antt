@@ -1,4 +1,4 @@
-use Rattle.std.proofs.Common.{◌≡◌, ap, sym, ◌∙◌}
+use Rattle.std.proofs.Common.{◌≡◌, ap, sym, ◌∙◌, rules}
 use Rattle.std.specs.Prelude.{option_and_then}
 use Rattle.yq_nodes.specs.Entries.{step_of}
 use Rattle.yq_nodes.specs.Inline.{depth_limit}
@@ -6,7 +6,7 @@ use Rattle.yq_flow_scalars.specs.Keys.{are_distinct, keys_of}
 use Rattle.yq_row_lines.specs.Lines.{lines_of}
 use Rattle.yq_lines.specs.Ends.{part}
 use Rattle.yq_lines.specs.Outline.{children, level}
-use Rattle.yq_lines.specs.Positions.{reach_in, reach_under}
+use Rattle.yq_lines.specs.Positions.{reach_under}
 use Rattle.yq_cut.specs.View.{slices}
 use Rattle.yq_row_lines.specs.RowWalk.{line_number}
 use Rattle.yq_row_lines.proofs.EntryKeys.{line_keys}
@@ -30,7 +30,4 @@ returns-clause-found c = λ h ss.
     let n = line_number c.args.document h.stand.rows c.args.at in
     let k = located c.args.rows.now c.args.document h.stand c.args.at c.requires.at in
     let floor : c.level_at.result ≡ level k.line = c.level_at.ensures (slices k.row) k.pieces ∙ sym k.level_agrees in
-    let number = c.next-under.ensures.number h.stand in
-    ap (option_and_then (reach_under (lines_of h.stand.rows) n (step_of c.args.step.now) ss)) k.is
-    ∙ (head_none k.line.head _ _ (c.if-has_head.ensures h.stand k.line k.is)
-    ∙ ((λ j. reach_in (lines_of h.stand.rows) (sym number j) (sym floor j) (step_of c.args.step.now) ss) ∙ c.next_in.ensures.found h ss))
+    search (rules, head_none, n, k, floor)

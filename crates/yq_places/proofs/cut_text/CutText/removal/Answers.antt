@@ -1,11 +1,7 @@
-use Rattle.std.proofs.Common.{Some, sym, ap, ◌∙◌, subst}
-use Rattle.yq_text.specs.Halves.{whole}
-use Rattle.yq_cut.specs.Grammar.{IsCut}
-use Rattle.yq_cut.specs.View.{rows_view}
+use Rattle.std.proofs.Common.{Some, sym, ap, ◌∙◌}
 use Rattle.yq_documents.specs.Located.{steps_of}
 use Rattle.yq_documents.specs.Reading.{cut_of}
 use Rattle.yq_places.specs.RemovalPlaces.{removal_place}
-use Rattle.yq_places.specs.RemovalReading.{marks_at}
 use Rattle.yq_places.proofs.RemovalViewLaws.{none_taken, taken_at}
 use Rattle.yq_places.proofs.cut_text.CutText.removal.Goals as goal
 
@@ -14,16 +10,10 @@ returns-in_err-marks c = rw c.from_residual.ensures (none_taken c.args.path.now.
 
 pub rows_out-requires : goal.rows_out-requires
 rows_out-requires c =
-    let text = c.whole-whole.ensures.text in
-    let cut = subst (λ t. IsCut t (cut_of t)) (sym text) c.whole-whole.ensures.cut in
-    let rows = c.rows.ensures ∙ ap (λ t. rows_view (cut_of t)) (sym text) in
-    let x = taken_at (whole c.whole-whole.result) c.rows.result.now c.args.path.now.doc (steps_of c.args.path.now) _ cut rows (c.in_ok-marks.ensures ∙ ap (λ t. marks_at c.args.path.now.doc (steps_of c.args.path.now) (cut_of t)) (sym text)) in
+    let x = rw (← c.whole-whole.ensures.text) at (taken_at c.args.self.now c.rows.result.now c.args.path.now.doc (steps_of c.args.path.now) _ c.whole-whole.ensures.cut c.rows.ensures c.in_ok-marks.ensures) in
     record { part = x.part; rows = x.rows; is = x.is }
 
 pub returns : goal.returns
 returns c =
-    let text = c.whole-whole.ensures.text in
-    let cut = subst (λ t. IsCut t (cut_of t)) (sym text) c.whole-whole.ensures.cut in
-    let rows = c.rows.ensures ∙ ap (λ t. rows_view (cut_of t)) (sym text) in
-    let x = taken_at (whole c.whole-whole.result) c.rows.result.now c.args.path.now.doc (steps_of c.args.path.now) _ cut rows (c.in_ok-marks.ensures ∙ ap (λ t. marks_at c.args.path.now.doc (steps_of c.args.path.now) (cut_of t)) (sym text)) in
-    ap Some (c.rows_out.ensures x.part x.rows x.is) ∙ (sym x.place ∙ ap (λ t. removal_place c.args.path.now.doc (steps_of c.args.path.now) (cut_of t)) text)
+    let x = rw (← c.whole-whole.ensures.text) at (taken_at c.args.self.now c.rows.result.now c.args.path.now.doc (steps_of c.args.path.now) _ c.whole-whole.ensures.cut c.rows.ensures c.in_ok-marks.ensures) in
+    ap Some (c.rows_out.ensures x.part x.rows x.is) ∙ (sym x.place ∙ ap (λ t. removal_place c.args.path.now.doc (steps_of c.args.path.now) (cut_of t)) c.whole-whole.ensures.text)

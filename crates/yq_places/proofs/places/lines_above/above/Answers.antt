@@ -1,3 +1,4 @@
+use Rattle.std.proofs.Common.{rules}
 use Rattle.yq_text.specs.Halves.{whole}
 use Rattle.yq_places.proofs.CommentEndLaws.{above_fits, above_boundary, above_is}
 use Rattle.yq_places.proofs.places.lines_above.above.Goals as goal
@@ -9,5 +10,4 @@ pub split_at-requires-2 : goal.split_at-requires-2
 split_at-requires-2 c = above_boundary (whole c.args.text) c.args.start c.args.gap.now c.last_run-run.result.now c.requires.gap c.last_run-run.ensures (whole c.split_at.result.0) c.split_at.ensures.front
 
 pub returns : goal.returns
-returns c = above_is (whole c.args.text) c.args.start c.args.gap.now c.last_run-run.result.now c.requires.gap c.last_run-run.ensures
-    (whole c.split_at.result.0) (whole c.split_at-2.result.0) (whole c.split_at.result.1) c.args.column c.split_at.ensures.front c.split_at.ensures.back c.split_at-2.ensures.front
+returns c = search (rules, above_is)

@@ -7,46 +7,31 @@ use Rattle.yq_cut.specs.View.{view}
 use Rattle.yq_documents.specs.Pieces.{before_run}
 use Rattle.yq_documents.specs.Reading.{cut_of}
 use Rattle.yq_places.specs.RemovalPlaces.{seam_behind, rows_out}
-use Rattle.yq_places.specs.RemovalReading.{RowCounts}
 use Rattle.yq_places.proofs.RemovalViewLaws.{code_agrees, out_agrees}
 use Rattle.yq_places.proofs.places.removal_place.rows_out.Goals as goal
 
 pub row-requires : goal.row-requires
-row-requires c =
-    let m : RowCounts = (c.args.marks.0, c.args.marks.1, c.args.marks.2) in
-    let o = out_agrees (whole c.args.text) c.args.rows.now c.requires.part c.requires.rows m c.requires.is in
-    o.at_within
+row-requires c = (out_agrees (whole c.args.text) c.args.rows.now c.requires.part c.requires.rows _ c.requires.is).at_within
 
 pub row_start-requires-clause-within : goal.row_start-requires-clause-within
-row_start-requires-clause-within c =
-    let m : RowCounts = (c.args.marks.0, c.args.marks.1, c.args.marks.2) in
-    let o = out_agrees (whole c.args.text) c.args.rows.now c.requires.part c.requires.rows m c.requires.is in
-    o.at_within
+row_start-requires-clause-within c = (out_agrees (whole c.args.text) c.args.rows.now c.requires.part c.requires.rows _ c.requires.is).at_within
 
 pub overflow_add-start : goal.overflow_add-start
 overflow_add-start c =
-    let m : RowCounts = (c.args.marks.0, c.args.marks.1, c.args.marks.2) in
-    let o = out_agrees (whole c.args.text) c.args.rows.now c.requires.part c.requires.rows m c.requires.is in
+    let o = out_agrees (whole c.args.text) c.args.rows.now c.requires.part c.requires.rows _ c.requires.is in
     let kept = c.split_run.ensures.kept ∙ ap (λ g. joined (before_run (lines_of g))) c.gap.ensures in
     let own = kept ∙ o.kept (view c.row.result) c.row.ensures in
     omega (arith, c.row_start.ensures, ap length own, o.start, ap length o.text, length-append (rows_out c.requires.part c.requires.rows).before ((rows_out c.requires.part c.requires.rows).gone ++ ((rows_out c.requires.part c.requires.rows).gap ++ (rows_out c.requires.part c.requires.rows).behind)), ap length c.requires.is.cut.text, c.requires.is.cut.size)
 
 pub row_stop-stop-requires-clause-within : goal.row_stop-stop-requires-clause-within
-row_stop-stop-requires-clause-within c =
-    let m : RowCounts = (c.args.marks.0, c.args.marks.1, c.args.marks.2) in
-    let o = out_agrees (whole c.args.text) c.args.rows.now c.requires.part c.requires.rows m c.requires.is in
-    o.last_within
+row_stop-stop-requires-clause-within c = (out_agrees (whole c.args.text) c.args.rows.now c.requires.part c.requires.rows _ c.requires.is).last_within
 
 pub block_before-block-requires-clause-within : goal.block_before-block-requires-clause-within
-block_before-block-requires-clause-within c =
-    let m : RowCounts = (c.args.marks.0, c.args.marks.1, c.args.marks.2) in
-    let o = out_agrees (whole c.args.text) c.args.rows.now c.requires.part c.requires.rows m c.requires.is in
-    o.at_within
+block_before-block-requires-clause-within c = (out_agrees (whole c.args.text) c.args.rows.now c.requires.part c.requires.rows _ c.requires.is).at_within
 
 pub split_at-requires : goal.split_at-requires
 split_at-requires c =
-    let m : RowCounts = (c.args.marks.0, c.args.marks.1, c.args.marks.2) in
-    let o = out_agrees (whole c.args.text) c.args.rows.now c.requires.part c.requires.rows m c.requires.is in
+    let o = out_agrees (whole c.args.text) c.args.rows.now c.requires.part c.requires.rows _ c.requires.is in
     let kept = c.split_run.ensures.kept ∙ ap (λ g. joined (before_run (lines_of g))) c.gap.ensures in
     let agrees = code_agrees (whole c.args.text) c.args.rows.now c.requires.part c.requires.rows c.args.marks.0 c.args.marks.1 c.args.marks.2 (view c.row.result) c.split_run.result.0.now c.gap_before-column.result.0.now c.row_start.result c.row_stop-stop.result c.gap_before-column.result.1
     (IsUtf8-append c.args.text.front.now c.args.text.back.now (search rules) (search rules)) o c.row.ensures kept c.row_start.ensures (c.row_stop-stop.ensures o.final o.final_is) c.gap_before-column.ensures in
@@ -54,8 +39,7 @@ split_at-requires c =
 
 pub overflow_sub-stop : goal.overflow_sub-stop
 overflow_sub-stop c =
-    let m : RowCounts = (c.args.marks.0, c.args.marks.1, c.args.marks.2) in
-    let o = out_agrees (whole c.args.text) c.args.rows.now c.requires.part c.requires.rows m c.requires.is in
+    let o = out_agrees (whole c.args.text) c.args.rows.now c.requires.part c.requires.rows _ c.requires.is in
     let kept = c.split_run.ensures.kept ∙ ap (λ g. joined (before_run (lines_of g))) c.gap.ensures in
     let agrees = code_agrees (whole c.args.text) c.args.rows.now c.requires.part c.requires.rows c.args.marks.0 c.args.marks.1 c.args.marks.2 (view c.row.result) c.split_run.result.0.now c.gap_before-column.result.0.now c.row_start.result c.row_stop-stop.result c.gap_before-column.result.1
     (IsUtf8-append c.args.text.front.now c.args.text.back.now (search rules) (search rules)) o c.row.ensures kept c.row_start.ensures (c.row_stop-stop.ensures o.final o.final_is) c.gap_before-column.ensures in
@@ -63,8 +47,7 @@ overflow_sub-stop c =
 
 pub split_at-requires-2 : goal.split_at-requires-2
 split_at-requires-2 c =
-    let m : RowCounts = (c.args.marks.0, c.args.marks.1, c.args.marks.2) in
-    let o = out_agrees (whole c.args.text) c.args.rows.now c.requires.part c.requires.rows m c.requires.is in
+    let o = out_agrees (whole c.args.text) c.args.rows.now c.requires.part c.requires.rows _ c.requires.is in
     let kept = c.split_run.ensures.kept ∙ ap (λ g. joined (before_run (lines_of g))) c.gap.ensures in
     let agrees = code_agrees (whole c.args.text) c.args.rows.now c.requires.part c.requires.rows c.args.marks.0 c.args.marks.1 c.args.marks.2 (view c.row.result) c.split_run.result.0.now c.gap_before-column.result.0.now c.row_start.result c.row_stop-stop.result c.gap_before-column.result.1
     (IsUtf8-append c.args.text.front.now c.args.text.back.now (search rules) (search rules)) o c.row.ensures kept c.row_start.ensures (c.row_stop-stop.ensures o.final o.final_is) c.gap_before-column.ensures in
@@ -72,8 +55,7 @@ split_at-requires-2 c =
 
 pub split_at-requires-3 : goal.split_at-requires-3
 split_at-requires-3 c =
-    let m : RowCounts = (c.args.marks.0, c.args.marks.1, c.args.marks.2) in
-    let o = out_agrees (whole c.args.text) c.args.rows.now c.requires.part c.requires.rows m c.requires.is in
+    let o = out_agrees (whole c.args.text) c.args.rows.now c.requires.part c.requires.rows _ c.requires.is in
     let kept = c.split_run.ensures.kept ∙ ap (λ g. joined (before_run (lines_of g))) c.gap.ensures in
     let agrees = code_agrees (whole c.args.text) c.args.rows.now c.requires.part c.requires.rows c.args.marks.0 c.args.marks.1 c.args.marks.2 (view c.row.result) c.split_run.result.0.now c.gap_before-column.result.0.now c.row_start.result c.row_stop-stop.result c.gap_before-column.result.1
     (IsUtf8-append c.args.text.front.now c.args.text.back.now (search rules) (search rules)) o c.row.ensures kept c.row_start.ensures (c.row_stop-stop.ensures o.final o.final_is) c.gap_before-column.ensures in
@@ -81,8 +63,7 @@ split_at-requires-3 c =
 
 pub returns : goal.returns
 returns c = λ d x h.
-    let m : RowCounts = (c.args.marks.0, c.args.marks.1, c.args.marks.2) in
-    let o = out_agrees (whole c.args.text) c.args.rows.now d x m h in
+    let o = out_agrees (whole c.args.text) c.args.rows.now d x _ h in
     let kept = c.split_run.ensures.kept ∙ ap (λ g. joined (before_run (lines_of g))) c.gap.ensures in
     let agrees = code_agrees (whole c.args.text) c.args.rows.now d x c.args.marks.0 c.args.marks.1 c.args.marks.2 (view c.row.result) c.split_run.result.0.now c.gap_before-column.result.0.now c.row_start.result c.row_stop-stop.result c.gap_before-column.result.1
     (IsUtf8-append c.args.text.front.now c.args.text.back.now (search rules) (search rules)) o c.row.ensures kept c.row_start.ensures (c.row_stop-stop.ensures o.final o.final_is) c.gap_before-column.ensures in

@@ -1,7 +1,7 @@
 use Rattle.std.proofs.Common.{ap, None, ◌∙◌}
 use Rattle.yq_lines.specs.Ends.{part}
 use Rattle.yq_lines.specs.Outline.{anchored, value}
-use Rattle.yq_lines.proofs.LinesLaws.{all_value}
+use Rattle.yq_lines.proofs.NameLaws.{all_value}
 use Rattle.yq_documents.specs.Stretches.{document_lines}
 use Rattle.yq_documents.proofs.WalkedRows.{first_is, root_is}
 use Rattle.yq_document_nodes.proofs.nodes.node.Node.root.Goals as goal
