@@ -3,10 +3,10 @@ use Rattle.std.proofs.Common.{◌≡◌, ℕ, suc, ◌⊎◌, Bool, true, false,
 use Rattle.std.proofs.lemmas.Bool.{cond_both}
 use Rattle.std.proofs.lemmas.Option.{none-some, same_Some}
 use Rattle.yq_flow_scalars.specs.Tree as tree
-use Rattle.yq_flow_scalars.specs.Tree.{Label, Node, alias, scalar, list, Children, none, child}
+use Rattle.yq_flow_scalars.specs.Tree.{Label, Node, alias, list, Children, none, child}
 use Rattle.yq_flow_scalars.specs.Paths.{Step, To, is_here, further, change_child, append_child, within}
-use Rattle.yq_meaning.specs.Changes.{Addition, appends, overwrites, Change, replaces, adds, sets_comment, Changed, value_in}
-use Rattle.yq_meaning.specs.NodeEdits.{NodeEdit, becomes, line, head, goes, NodeEdits, step_to, under, done_at, child_by, inside, each_at_once, at_once, same_path, done_by}
+use Rattle.yq_meaning.specs.Changes.{Addition, appends, overwrites, Change, replaces, adds, Changed, value_in}
+use Rattle.yq_meaning.specs.NodeEdits.{NodeEdit, becomes, NodeEdits, step_to, under, done_at, child_by, inside, each_at_once, at_once, same_path, done_by}
 use Rattle.yq_meaning.specs.Meaning.{add_to, add_all, placed_edit, node_edit_of}
 use Rattle.yq_documents.specs.TreeEdits.{replaced, headed, led, new_label}
 use Rattle.yq_meaning.specs.Changes as changes
@@ -17,9 +17,7 @@ use Rattle.yq_plans.proofs.updates.Spares.{child_kept_or_gone}
 -- what is done at a place brings no alias
 abbrev BringsNone : NodeEdit → Type 0
 BringsNone (becomes g) = (m : Node) → MentionsNoMore (g m) m
-BringsNone (line text) = Unit {0}
-BringsNone (head texts) = Unit {0}
-BringsNone goes = Unit {0}
+BringsNone _ = Unit {0}
 
 abbrev pub BringNone : NodeEdits → Type 0
 BringNone f = (q : List Step) (x : NodeEdit) → f q ≡ Some x → BringsNone x
@@ -32,16 +30,13 @@ child_no_more a d label m n rest cs f g =
 done_no_more : (a : List ℕ) (d : Option NodeEdit) → ((x : NodeEdit) → d ≡ Some x → BringsNone x) → (n m : Node) → (Mentions a m → Mentions a n) → Mentions a (done_at d n m) → Mentions a n
 done_no_more a None b n m f h = f h
 done_no_more a (Some (becomes g)) b n m f h = b (becomes g) refl n a h
-done_no_more a (Some (line text)) b n m f h = h
-done_no_more a (Some (head texts)) b n m f h = h
-done_no_more a (Some goes) b n m f h = h
+done_no_more a (Some _) b n m f h = h
 
 mutual
   inside_no_more : (a : List ℕ) (f : NodeEdits) → BringNone f → (n : Node) → Mentions a (inside f n) → Mentions a n
-  inside_no_more a f b (alias name) h = h
-  inside_no_more a f b (scalar anchor kind text) h = h
   inside_no_more a f b (list anchor cs) h = each_no_more a f b 0 cs h
   inside_no_more a f b (tree.map anchor cs) h = each_no_more a f b 0 cs h
+  inside_no_more a f b _ h = h
 
   each_no_more : (a : List ℕ) (f : NodeEdits) → BringNone f → (i : ℕ) (cs : Children) → AnyMentions a (each_at_once f i cs) → AnyMentions a cs
   each_no_more a f b i none h = h
@@ -105,8 +100,7 @@ all_no_more (x ∷ xs) free n a h = one_no_more x free.0 n a (all_no_more xs fre
 abbrev pub WritesNone : Change → Type 0
 WritesNone (replaces v) = HasNoAlias v
 WritesNone (adds xs) = AddNone xs
-WritesNone changes.removes = Unit {0}
-WritesNone (sets_comment place text) = Unit {0}
+WritesNone _ = Unit {0}
 
 abbrev pub AllWriteNone : List Changed → Type 0
 AllWriteNone cs = Each (λ (c : Changed). WritesNone c.1) cs

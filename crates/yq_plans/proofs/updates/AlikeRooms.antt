@@ -1,5 +1,6 @@
 -- Rooms that are alike for operations say the same of them.
-use Rattle.std.proofs.Common.{◌≡◌, ◌⊎◌, ℕ, zero, suc, Bool, true, false, ◌==◌, List, [], ◌∷◌, refl, sym, ap, subst, ◌∙◌, inl, inr, Some, option_map, rules}
+use Rattle.std.proofs.lemmas.Bool.{cases_Bool}
+use Rattle.std.proofs.Common.{◌≡◌, ◌⊎◌, ℕ, zero, suc, Bool, List, [], ◌∷◌, refl, sym, ap, subst, ◌∙◌, inl, inr, Some, option_map, rules}
 use Rattle.std.specs.List.{slice_get}
 use Rattle.std.proofs.lemmas.Bool.{eqb-true, eqb-false}
 use Rattle.yq_flow_scalars.specs.Tree.{Node}
@@ -59,11 +60,7 @@ there_after rooms op docs fits = (done_to (rooms (document_of op)).block op fits
 module _ (op : Operation) (old new : ℕ → Room) (docs : List Document) (left : LeavesRooms op old new docs) (there : (d : Document) × (slice_get docs (document_of op) ≡ Some d)) where
   -- by what is so of the room of the operation's document, and of that of any other
   by_document : (P : ℕ → Type 0) → P (document_of op) → ((i : ℕ) → (i ≡ document_of op → ⊥) → P i) → (i : ℕ) → P i
-  by_document P here other i = go (i == document_of op) refl
-    where
-      go : (b : Bool) → (i == document_of op) ≡ b → P i
-      go true is = subst P (sym (eqb-true i (document_of op) is)) here
-      go false is = other i (eqb-false i (document_of op) is)
+  by_document P here other i = search (rules, eqb-true, eqb-false, cases_Bool)
 
   all_same : SetsComment op → (others : List Operation) → AreAlike old new others
   all_same set [] = tt

@@ -42,10 +42,8 @@ IsNone (child label n cs) = ⊥
 -- an operation that leaves items or entries, if there are any, and asks for no lead
 abbrev pub KeepsSome : Operation → Type 0
 KeepsSome (replace doc path v) = (s : Step) × (p : List Step) × (path ≡ s ∷ p)
-KeepsSome (append doc path k v) = Unit {0}
 KeepsSome (remove doc path) = ⊥
-KeepsSome (line_comment doc path text) = Unit {0}
-KeepsSome (head_comment doc path text) = Unit {0}
+KeepsSome _ = Unit {0}
 
 abbrev pub AllKeepSome : List Operation → Type 0
 AllKeepSome ops = Each KeepsSome ops
@@ -135,9 +133,8 @@ first_below [] q h = absurd h
 first_below (s ∷ p) q h = (s, p, refl)
 
 second_below : (p q : List Step) → Before p q → (s : Step) × (r : List Step) × (q ≡ s ∷ r)
-second_below [] q h = absurd h
-second_below (t ∷ p) [] h = absurd h
 second_below (t ∷ p) (s ∷ q) h = (s, q, refl)
+second_below _ _ h = absurd h
 
 all_below : (doc : ℕ) (p : List Step) (cs : List Changed) → ToEach Before p cs → AreKept cs → AllKeepSome (ops_of doc cs)
 all_below doc p [] h k = tt
@@ -220,14 +217,9 @@ module _ (block : Bool) (doc : ℕ) (d : Document) (is : IsLed block d) (tree : 
       let kept : lead_by block (children_of root) d.lead ≡ d.lead = root_kept block later d.lead d.root (spares_root later c.0 spared.0) (first_free (children_of d.root) c cs f) ∙ is in
       let created : roots_after block d.lead (change_ops doc c) root ≡ at_once (node_edits_of block d.lead (c ∷ cs)) d.root =
       change_after block d.lead doc c root ∙ sym (one_more c.0 (node_edit_of block d.lead c) later d.root tree spared.0) in
-      ap (λ (xs : List Changed). document_after block (ops_of doc xs) d) (reverse-cons c cs)
-      ∙ (ap (λ (ops : List Operation). document_after block ops d) (ops_join block d.lead doc (reverse cs) (c ∷ []))
-      ∙ (document_join block (ops_of doc (reverse cs)) (change_ops doc c ++ []) d
-      ∙ (ap (document_after block (change_ops doc c ++ [])) (removed_document cs h.1 g.1 (first_rest (children_of d.root) c cs f))
-      ∙ (ap (λ (ops : List Operation). document_after block ops (with_tree block root d)) (append-nil (change_ops doc c))
-      ∙ (ap (λ (lead : List (List ℕ)). document_after block (change_ops doc c) (record { lead = lead; root = root })) kept
-      ∙ (gone_ops c d.lead g.0 root
-      ∙ ap (λ (n : Node). with_tree block n d) created))))))
+      cc (reverse-cons c cs, ops_join block d.lead doc (reverse cs) (c ∷ []),
+      document_join block (ops_of doc (reverse cs)) (change_ops doc c ++ []) d, removed_document cs h.1 g.1 (first_rest (children_of d.root) c cs f),
+      append-nil (change_ops doc c), gone_ops c d.lead g.0 root)
 
   -- the operations of changes, one after the other, make all of them in a document
   pub document_folds : (removal : Bool) (cs : List Changed) → InPairs Before cs → MayFold removal cs → (removal ≡ true → IsFirst d.root cs) → document_after block (ops_of doc (ordered removal cs)) d ≡ changed_at_once block cs d
