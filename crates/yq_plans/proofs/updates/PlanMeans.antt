@@ -80,7 +80,8 @@ from_means u rooms n (d ∷ ds) front css is ready h =
 
 -- a plan comes of changes, where a comment's text may stand
 pub plan_parts : (u : Update) (rooms : ℕ → Room) (docs : List Document) (ops : List Operation) → plan u rooms docs ≡ gives ops →
-    (css : List (List Changed)) × (has_comment u ≡ true) × (changes_from u rooms 0 (roots_of docs) ≡ gives css) × (changes_of u rooms (roots_of docs) ≡ gives css) × (all_ops (is_removal u) 0 css ≡ ops)
+    (css : List (List Changed)) × (has_comment u ≡ true)
+    × (changes_from u rooms 0 (roots_of docs) ≡ gives css) × (changes_of u rooms (roots_of docs) ≡ gives css) × (all_ops (is_removal u) 0 css ≡ ops)
 plan_parts u rooms docs ops h =
     let x = then_gives (λ (css : List (List Changed)). gives (all_ops (is_removal u) 0 css)) (changes_of u rooms (roots_of docs)) ops h in
     elim (chosen (has_comment u) x.1) [ inl c ↦ (x.0, c.0, c.1, x.1, gives_same x.2) | inr c ↦ absurd (let e = c.1 in cc) ]
@@ -90,7 +91,8 @@ pub plan_means : (u : Update) (rooms : ℕ → Room) (docs : List Document) (ops
 plan_means u rooms docs ops ready h =
     let x = plan_parts u rooms docs ops h in
     ap (and_then (λ css. gives (all_changed rooms 0 css docs))) x.3
-    ∙ (ap (λ (ds : List Document). gives ds) (sym (from_means u rooms 0 docs [] x.0 refl ready x.2)) ∙ ap (λ (os : List Operation). gives (all_after rooms os docs)) x.4)
+    ∙ (ap (λ (ds : List Document). gives ds) (sym (from_means u rooms 0 docs [] x.0 refl ready x.2))
+    ∙ ap (λ (os : List Operation). gives (all_after rooms os docs)) x.4)
 
 -- what comes of both steps, where the second one gives something, refuses as the first
 then_refuses : {A B C : Type 0} (f : A → B) (g : A → C) (j : Judgement A) (why : Refusal) → and_then (λ x. gives (f x)) j ≡ refuses why → and_then (λ x. gives (g x)) j ≡ refuses why

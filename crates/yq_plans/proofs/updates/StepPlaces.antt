@@ -46,7 +46,8 @@ leads_there root (index i) p qs tree at h = leads_found root p (index i) (index_
 leads_there root each p qs tree at h = leads_all root p p.node refl tree at qs h
 
 -- what is so of the places to which a step leads where nothing is missing, and of one that is missed, is so of all
-pub step_keeps : (R : List Place → Type 0) (s : Step) (p : Place) (qs : List Place) → (step_there s p ≡ gives qs → R qs) → ((m : Step) (ms : List Step) → p.missing ≡ m ∷ ms → R (miss s p)) → step_on s p ≡ gives qs → R qs
+pub step_keeps : (R : List Place → Type 0) (s : Step) (p : Place) (qs : List Place) → (step_there s p ≡ gives qs → R qs) →
+    ((m : Step) (ms : List Step) → p.missing ≡ m ∷ ms → R (miss s p)) → step_on s p ≡ gives qs → R qs
 step_keeps R s p qs there missed h = go p.missing refl h
   where
     go : (missing : List Step) → p.missing ≡ missing → step_from missing s p ≡ gives qs → R qs
