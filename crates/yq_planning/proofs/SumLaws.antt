@@ -6,7 +6,7 @@ use Rattle.std.specs.Fmt.{decimal, signed_decimal}
 use Rattle.std.specs.Str.{bytes_eq}
 use Rattle.std.proofs.lemmas.Fmt.{decimal_is_IsNumeral}
 use Rattle.std.proofs.lemmas.Int.{to_z-of_z}
-use Rattle.std.proofs.lemmas.List.{length-map, map_push, take_more, take_rest}
+use Rattle.std.proofs.lemmas.List.{length-map, length-take-le, map_push, take_more, take_rest}
 use mir.Val.{to_z, of_z}
 use Rattle.yq_nodes.specs.Values.{items, entries}
 use Rattle.yq_flow_scalars.specs.Numbers as numbers
@@ -158,9 +158,7 @@ number_same k (e ∷ es) zero j v d within is = ap (λ (key : List ℕ). cond (b
 number_same k (e ∷ es) (suc i) j v d within is = ap (λ o. cond (bytes_eq e.0 k) (Some 0) (option_map suc o)) (number_same k es i j v d (omega (arith, within)) is)
 
 counted : {X Y : Type 0} (f : X → Y) (xs : List X) (i : ℕ) → i < length xs → length (map f (take i xs)) ≡ i
-counted f [] i within = absurd (omega (arith, within))
-counted f (x ∷ xs) zero within = refl
-counted f (x ∷ xs) (suc i) within = ap suc (counted f xs i (omega (arith, within)))
+counted f xs i within = length-map (take i xs) f ∙ length-take-le i xs (omega arith)
 
 -- one more entry of several
 pub numbered_more : {X : Type 0} (f : X → List ℕ × Node) (xs : List X) (i : ℕ) (x : X) (key k : List ℕ) (old new : Option ℕ) → i < length xs → x ≡ get_or xs i x → key ≡ (f x).0 →
@@ -186,12 +184,6 @@ numbered_push {X} f xs all x key k n old new named many before kept pushed =
     ∙ (ap (number_kept k (entry_number k es) (f x).0) (many ∙ sym (length-map xs f))
     ∙ (sym (number_last k es (f x))
     ∙ (ap (entry_number k) (sym (map_push f xs x)) ∙ ap (λ (ys : List X). entry_number k (map f ys)) (sym pushed))))))
-
--- a view of a list with one element exchanged
-pub map_set : {A B : Type 0} (f : A → B) (xs : List A) (i : ℕ) (x : A) → map f (set xs i x) ≡ set (map f xs) i (f x)
-map_set f [] i x = refl
-map_set f (y ∷ xs) zero x = refl
-map_set f (y ∷ xs) (suc i) x = ap (λ ys. f y ∷ ys) (map_set f xs i x)
 
 -- a view of one element
 pub map_get : {A B : Type 0} (f : A → B) (xs : List A) (i : ℕ) (d : A) → get_or (map f xs) i (f d) ≡ f (get_or xs i d)
