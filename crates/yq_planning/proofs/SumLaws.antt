@@ -187,9 +187,8 @@ numbered_push {X} f xs all x key k n old new named many before kept pushed =
 
 -- a view of one element
 pub map_get : {A B : Type 0} (f : A → B) (xs : List A) (i : ℕ) (d : A) → get_or (map f xs) i (f d) ≡ f (get_or xs i d)
-map_get f [] i d = refl
-map_get f (y ∷ xs) zero d = refl
 map_get f (y ∷ xs) (suc i) d = map_get f xs i d
+map_get f _ _ d = refl
 
 -- the entries of two mappings
 pub map_sum : (n m : Node) (es ds : List (List ℕ × Node)) (cs : Children) → n ≡ tree.map None (entries es) → m ≡ tree.map None (entries ds) → cs ≡ with_entries (entries es) (entries ds) → value_sum n m ≡ gives (tree.map None cs)
