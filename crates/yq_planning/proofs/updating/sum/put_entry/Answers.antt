@@ -1,4 +1,4 @@
-use Rattle.std.proofs.Common.{◌≡◌, ℕ, List, Some, None, String, length, map, string_bytes, sym, ap, ◌∙◌, arith}
+use Rattle.std.proofs.Common.{◌≡◌, ℕ, List, Some, String, length, map, string_bytes, sym, ap, ◌∙◌, rules}
 use Rattle.std.proofs.lemmas.List.{length-map, map-set, map_push}
 use Rattle.std.specs.declared.alloc.Global.{Global}
 use Rattle.yq_nodes.specs.Values.{entries, field_of, node_of}
@@ -12,13 +12,7 @@ abbrev Entry : Type 0
 Entry = String Global × Value
 
 pub index_mut-requires : goal.index_mut-requires
-index_mut-requires c =
-    let k : List ℕ = c.as_str.result.now in
-    let es : List Entry = c.args.entries.now.items in
-    let at : entry_number k (map field_of es) ≡ Some c.in-Some.number = sym (c.requires k) ∙ (sym c.number_of.ensures ∙ c.in-Some.is) in
-    let within = number_within k (map field_of es) c.in-Some.number at in
-    let same = length-map es field_of in
-    omega (arith, within, same)
+index_mut-requires c = search (rules, number_within, length-map)
 
 pub returns-in-Some-clause-entries : goal.returns-in-Some-clause-entries
 returns-in-Some-clause-entries c =
@@ -43,12 +37,7 @@ returns-in-Some-clause-numbers c = λ k.
     (ap (λ (x : List ℕ × Node). x.0) (map_get field_of es c.in-Some.number r) ∙ ap (λ (x : Entry). string_bytes x.0) (sym c.index_mut.ensures.value)))
 
 pub returns-in_ok-push-in-None-clause-entries : goal.returns-in_ok-push-in-None-clause-entries
-returns-in_ok-push-in-None-clause-entries c =
-    let k : List ℕ = string_bytes c.args.key in
-    let same : entry_number k (map field_of c.args.entries.now.items) ≡ None =
-    ap (λ (j : List ℕ). entry_number j (map field_of c.args.entries.now.items)) (sym c.as_str.ensures.value) ∙ (sym (c.requires c.as_str.result.now) ∙ (sym c.number_of.ensures ∙ c.in-None.is)) in
-    ap (λ (es : List (List ℕ × Node)). entries es) (ap (map field_of) c.in_ok-push-in-None.ensures.items ∙ map_push field_of c.args.entries.now.items (c.args.key, c.args.value))
-    ∙ sym (with_absent k (map field_of c.args.entries.now.items) (node_of c.args.value) same)
+returns-in_ok-push-in-None-clause-entries c = search (rules, string_bytes, map_push, with_absent)
 
 pub returns-in_ok-push-in-None-clause-numbers : goal.returns-in_ok-push-in-None-clause-numbers
 returns-in_ok-push-in-None-clause-numbers c = λ k.
