@@ -6,7 +6,6 @@ use Rattle.std.proofs.lemmas.Bool.{eqb-true, eqb-false}
 use Rattle.yq_flow_scalars.specs.Tree.{Node}
 use Rattle.yq_documents.specs.Documents.{Document}
 use Rattle.yq_documents.specs.TreeEdits.{change_nth}
-use Rattle.yq_program.specs.declared.program.CommentPlace.TheVariants as comments
 use Rattle.yq_meaning.specs.After.{document_of, done_to, after_op, all_after}
 use Rattle.yq_meaning.specs.Changes.{Room}
 use Rattle.yq_meaning.specs.Fits.{FitsRoot, Fits, AllFit}
@@ -41,10 +40,6 @@ module _ (old new : ℕ → Room) where
   lasts_alike (op ∷ ops) docs a h =
       subst (λ (after : List Document). (KeepsBlockIn op after ⊎ NoneOn (document_of op) ops) × BlockLasts new ops after) (sym (after_alike op docs a.0))
       (h.0, lasts_alike ops (after_op old op docs) a.1 h.1)
-
-  -- and may follow by either
-  pub follow_alike : (ops : List Operation) (docs : List Document) → AreAlike old new ops → MayFollow old ops docs → MayFollow new ops docs
-  follow_alike ops docs a h = record { fit = all_fit_alike ops docs a h.fit; last = record { block = lasts_alike ops docs a h.last.block; comments = h.last.comments } }
 
 -- ---- the rooms after an operation
 
@@ -92,7 +87,7 @@ module _ (op : Operation) (ops : List Operation) (old new : ℕ → Room) (docs 
 
   -- the later operations may follow, by the rooms that the first one leaves
   pub rest_follow : MayFollow new ops (after_op old op docs)
-  rest_follow = follow_alike old new ops (after_op old op docs) alike (record { fit = h.fit.1; last = record { block = h.last.block.1; comments = rest_comments op ops h.last.comments } })
+  rest_follow = search (rules, alike, rest_comments, all_fit_alike, lasts_alike)
 
   -- and make the same of documents
   pub rest_after : all_after new ops (after_op old op docs) ≡ all_after old (op ∷ ops) docs

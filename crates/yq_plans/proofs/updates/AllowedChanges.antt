@@ -1,6 +1,5 @@
 -- What is allowed may be done.
 use Rattle.std.proofs.Common.{◌≡◌, ◌≢◌, ℕ, suc, Bool, true, false, cond, ◌||◌, List, [], ◌∷◌, ◌++◌, length, map, Option, Some, None, is_some, refl, sym, ap, subst, ◌∙◌, rules}
-use Rattle.std.specs.Prelude.{ℤ}
 use Rattle.std.specs.List.{list_any}
 use Rattle.yq_flow_scalars.specs.Tree as tree
 use Rattle.yq_flow_scalars.specs.Tree.{Node, list, Children, none, child}
@@ -8,14 +7,14 @@ use Rattle.yq_flow_scalars.specs.Paths as paths
 use Rattle.yq_flow_scalars.specs.Paths.{To, key_is, child_at, node_at, change_child, append_child}
 use Rattle.yq_flow_scalars.specs.Anchors.{names_of}
 use Rattle.yq_meaning.specs.Judgement.{Judgement, gives}
-use Rattle.yq_meaning.specs.Matching.{find, key_step, index_step}
+use Rattle.yq_meaning.specs.Matching.{key_step}
 use Rattle.yq_meaning.specs.Changes.{Addition, appends, overwrites, addition, additions, is_long, has_long_key, writes_long_key, value_in, is_deep, is_used_inside, overwrites_used}
 use Rattle.yq_meaning.specs.Meaning.{add_to}
 use Rattle.yq_meaning.specs.Pipes.{places, select_on}
 use Rattle.yq_meaning.specs.Places.{Place, root_place, child_place, for_each, miss, step_there, step_on}
 use Rattle.yq_flow_scalars.specs.Shapes.{IsNew, AreItems, AreEntries, IsTree, AreTrees}
 use Rattle.yq_documents.specs.TreeEdits.{new_label}
-use Rattle.yq_program.specs.Program.{Step, key, index, Condition, Stage}
+use Rattle.yq_program.specs.Program.{Step, key, Condition, Stage}
 use Rattle.yq_meaning.proofs.JudgementLaws.{then_gives, gives_same}
 use Rattle.yq_meaning.proofs.ChildPlaces.{node_further}
 use Rattle.yq_meaning.proofs.PathLaws.{bytes_differ, bytes_same}
@@ -52,25 +51,14 @@ children_missed : (p : Place) (xs : List (paths.Step × Node)) → AreMissed (ma
 children_missed p [] = tt
 children_missed p (x ∷ xs) = (tt, children_missed p xs)
 
-find_none : (s : paths.Step) (cs : Children) → find s cs ≡ None → child_at s cs ≡ None
-find_none s cs h = search (rules, none-some)
-
 key_lacks : (k : List ℕ) (n : Node) → key_step k n ≡ gives None → Lacks (key k) n
-key_lacks k n h1 = search (rules, find_none, gives_same)
-
-index_lacks : (i : ℤ) (n : Node) → index_step i n ≡ gives None → Lacks (index i) n
-index_lacks i n h1 = search rules
-
--- one more step is missing
-more_missed : (missing : List Step) (s : Step) (n : Node) → IsMissed missing n → (missing ≡ [] → Lacks s n) → IsMissed (missing ++ s ∷ []) n
-more_missed [] s n h k = k refl
-more_missed (m ∷ ms) s n h k = h
+key_lacks k n h1 = search (rules, gives_same, none-some)
 
 miss_missed : (s : Step) (p : Place) → IsMissed p.missing p.node → (p.missing ≡ [] → Lacks s p.node) → AreMissed (miss s p)
-miss_missed s p h1 h2 = search (rules, more_missed)
+miss_missed s p h1 h2 = search rules
 
 there_missed : (s : Step) → Keeps (step_there s)
-there_missed s = search (rules, then_gives, gives_same, miss_missed, key_lacks, index_lacks, children_missed)
+there_missed s = search (rules, then_gives, gives_same, miss_missed, key_lacks, children_missed)
 
 step_missed : (s : Step) → Keeps (step_on s)
 step_missed s p qs m h = step_keeps AreMissed s p qs (there_missed s p qs m) (λ x xs is. miss_missed s p m (λ there. absurd (cons≢nil (sym is ∙ there)))) h

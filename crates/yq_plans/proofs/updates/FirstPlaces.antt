@@ -36,13 +36,8 @@ abbrev pub NoPlaceLater : paths.Step → List Place → Type 0
 NoPlaceLater s [] = Unit {0}
 NoPlaceLater s (p ∷ ps) = NoPlaceAt s ps
 
-no_later : (s : paths.Step) (ps : List Place) → NoPlaceAt s ps → NoPlaceLater s ps
-no_later s [] h = tt
-no_later s (p ∷ ps) h = h.1
-
 later_join : (s : paths.Step) (ps qs : List Place) → NoPlaceLater s ps → NoPlaceAt s qs → NoPlaceLater s (ps ++ qs)
-later_join s [] qs h k = no_later s qs k
-later_join s (p ∷ ps) qs h k = each_join (λ (r : Place). r.path ≢ s ∷ []) ps qs h k
+later_join s ps qs h1 h2 = search (rules, each_join)
 
 no_nil : (p : List paths.Step) (t : paths.Step) → p ++ t ∷ [] ≡ [] → ⊥
 no_nil [] t e = cc

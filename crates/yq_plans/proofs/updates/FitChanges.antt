@@ -2,15 +2,13 @@
 use Rattle.std.proofs.lemmas.Bool.{cases_Bool}
 use Rattle.std.proofs.Common.{◌≡◌, ℕ, Bool, true, false, cond, List, [], ◌∷◌, length, Option, Some, None, refl, sym, ap, subst, ◌∙◌, inl, inr, rules}
 use Rattle.std.proofs.lemmas.Bool.{and_parts, or_parts}
-use Rattle.std.specs.List.{list_any}
 use Rattle.yq_flow_scalars.specs.Tree as tree
 use Rattle.yq_flow_scalars.specs.Tree.{Node, scalar, list, Children, none, child}
 use Rattle.yq_flow_scalars.specs.Anchors.{names_of}
 use Rattle.yq_program.specs.declared.program.CommentPlace.{CommentPlace}
 use Rattle.yq_program.specs.declared.program.Operator.TheVariants as operator
-use Rattle.yq_meaning.specs.declared.refusal.Refusal.TheVariants.{IndexOutOfRange}
-use Rattle.yq_meaning.specs.Judgement.{Judgement, and_then, gives, refuses}
-use Rattle.yq_meaning.specs.Changes.{Change, replaces, Changed, Room, nested, created, put_below, put_at, addition, additions, added, add_below, add_at}
+use Rattle.yq_meaning.specs.Judgement.{Judgement, and_then, gives}
+use Rattle.yq_meaning.specs.Changes.{Change, replaces, Changed, Room, nested, created, put_at, addition, additions, added, add_below, add_at}
 use Rattle.yq_meaning.specs.Changes.{remove_at, comment_at, is_too_long, is_too_deep, is_used_inside, takes_used, allowed, all_allowed, at_each, with_value, changes_at, left_of, changes_in}
 use Rattle.yq_meaning.specs.Changes.{is_comment, has_comment, value_in}
 use Rattle.yq_plans.proofs.updates.Mentions.{HasNoAlias, IsPure}
@@ -19,7 +17,7 @@ use Rattle.yq_meaning.specs.Places.{Place, root_place}
 use Rattle.yq_meaning.specs.PlacesApart.{IsIn}
 use Rattle.yq_meaning.specs.RightValues.{is_null, as_items, sum, right_value}
 use Rattle.yq_flow_scalars.specs.Shapes.{IsTree}
-use Rattle.yq_program.specs.Program.{is_index, SumHolds, UpdatesHold, Step, key, Term, Update, assign, delete, comment}
+use Rattle.yq_program.specs.Program.{SumHolds, UpdatesHold, Step, key, Term, Update, assign, delete, comment}
 use Rattle.yq_plans.proofs.updates.Aliases.{AddNone, WritesNone}
 use Rattle.yq_plans.proofs.updates.AllowedChanges.{IsMissed, AreMissed, places_missed, list_fits, entries_fit}
 use Rattle.yq_plans.proofs.updates.FitsInOrder.{MayChange, AreFit}
@@ -86,21 +84,8 @@ nested_tree (_ ∷ ms) v h = nested_tree ms v h
 nested_pure : (ms : List Step) (v : Node) → IsPure v → IsPure (nested ms v)
 nested_pure ms v h = (nested_tree ms v h.0, nested_free ms v h.1)
 
-created_fit : (room : Room) (root : Node) (p : Place) (v : Node) (m : Step) (ms : List Step) (n : Node) → p.node ≡ n → IsIn root p → IsMissed (m ∷ ms) n → IsPure v → IfFree room root (p.path, created n m ms v)
-created_fit room root p v m ms n h1 h2 h3 h4 = search (rules, puts_fit, nested_pure, nested_free, or_parts, nested_tree)
-
 put_fits : (room : Room) (root : Node) (v : Node) → IsPure v → SoFits room root (λ p. put_at p v)
-put_fits room root v pure p cs tree at miss h =
-    let x = then_gives (λ (c : Change). gives ((p.path, c) ∷ [])) (put_below p.node p.missing v) cs h in
-    subst (EachIfFree room root) (gives_same x.2) (go p.missing miss x.0 x.1, tt)
-  where
-    go : (missing : List Step) → IsMissed missing p.node → (c : Change) → put_below p.node missing v ≡ gives c → IfFree room root (p.path, c)
-    go [] m c e = subst (λ (d : Change). IfFree room root (p.path, d)) (gives_same e) (puts_fit room root p v at pure)
-    go (y ∷ ys) m c e = by (list_any is_index (y ∷ ys)) e
-      where
-        by : (b : Bool) → cond b (refuses IndexOutOfRange) (gives (created p.node y ys v)) ≡ gives c → IfFree room root (p.path, c)
-        by true k = absurd (cc)
-        by false k = subst (λ (d : Change). IfFree room root (p.path, d)) (gives_same k) (created_fit room root p v y ys p.node refl at m pure)
+put_fits room root v pure p cs tree at miss h = search (rules, then_gives, gives_same, puts_fit, nested_pure, nested_free, or_parts, nested_tree, cases_Bool)
 
 addition_value : (cs : Children) (o : Option (List ℕ)) (v : Node) → value_in (addition cs o v) ≡ v
 addition_value cs o v = search rules

@@ -102,9 +102,6 @@ IsSaid _ = ⊥
 written_kept : (c : Change) → IsWritten c → IsKept c
 written_kept c h1 = search rules
 
-said_kept : (c : Change) → IsSaid c → IsKept c
-said_kept c h1 = search rules
-
 -- each is of the kind of the update
 abbrev pub IsOf : Update → Change → Type 0
 IsOf (assign left operator right) = IsWritten
@@ -117,7 +114,7 @@ MayFold true cs = AreGone cs
 MayFold false cs = AreKept cs
 
 pub of_may_fold : (u : Update) (cs : List Changed) → AllAre (IsOf u) cs → MayFold (is_removal u) cs
-of_may_fold u cs h1 = search (rules, each_weaker, written_kept, said_kept)
+of_may_fold u cs h1 = search (rules, each_weaker, written_kept)
 
 -- ---- what is done is the same in any order
 

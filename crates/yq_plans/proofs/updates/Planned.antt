@@ -8,7 +8,7 @@ use Rattle.yq_program.specs.declared.program.CommentPlace.{CommentPlace}
 use Rattle.yq_program.specs.declared.program.Operator.TheVariants as operator
 use Rattle.yq_meaning.specs.Judgement.{Judgement, and_then, gives}
 use Rattle.yq_program.specs.Program.{Step, Term, Update, assign, delete, comment}
-use Rattle.yq_meaning.specs.Changes.{Change, Changed, Room, created, put_below, put_at, added_entries, added, add_at, remove_at, comment_at}
+use Rattle.yq_meaning.specs.Changes.{Change, Changed, Room, put_below, put_at, added, add_at, remove_at, comment_at}
 use Rattle.yq_meaning.specs.Changes.{allowed, all_allowed, at_each, with_value, changes_at, left_of, changes_in}
 use Rattle.yq_meaning.specs.NodeEdits.{step_to}
 use Rattle.yq_meaning.specs.Pipes.{places}
@@ -86,11 +86,8 @@ at_ordered root P f so ps cs a h = each_ordered P (λ p. and_then (all_allowed r
 single : (P : Change → Type 0) (p : Place) (c : Change) (cs : List Changed) → P c → gives ((p.path, c) ∷ []) ≡ gives cs → FromPlace P p cs
 single P p c cs k h = subst (FromPlace P p) (gives_same h) (refl, (k, tt))
 
-created_written : (n : Node) (m : Step) (ms : List Step) (v : Node) → IsWritten (created n m ms v)
-created_written n m ms v = search rules
-
 put_written : (n : Node) (missing : List Step) (v : Node) (c : Change) → put_below n missing v ≡ gives c → IsWritten c
-put_written n missing v c h1 = search (rules, gives_same, created_written)
+put_written n missing v c h1 = search (rules, gives_same)
 
 put_so : (v : Node) → IsSo IsWritten (λ p. put_at p v)
 put_so v p cs h = search (rules, then_gives, single, put_written)
@@ -98,11 +95,8 @@ put_so v p cs h = search (rules, then_gives, single, put_written)
 modify_so : (doc : ℕ) (right : List Term) → IsSo IsWritten (λ p. and_then (put_at p) (right_value doc right p))
 modify_so doc right p cs h = let x = then_gives (put_at p) (right_value doc right p) cs h in put_so x.0 p cs x.2
 
-entries_written : (cs : Children) (v : Node) (c : Change) → added_entries cs v ≡ gives c → IsWritten c
-entries_written cs v c h1 = search (rules, gives_same)
-
 added_written : (n v : Node) (c : Change) → added n v ≡ gives c → IsWritten c
-added_written n v c h1 = search (rules, then_gives, gives_same, entries_written)
+added_written n v c h1 = search (rules, then_gives, gives_same)
 
 add_so : (v : Node) → IsSo IsWritten (λ p. add_at p v)
 add_so v p cs h = search (rules, then_gives, single, added_written, put_so, gives_same, cases_Bool)
@@ -144,15 +138,11 @@ update_ordered u doc room root cs tree h = let k = update_kind u doc room root c
 
 -- ---- what is first
 
-none_later : (s : paths.Step) (cs : List Changed) → NoneAt s cs → NoneLater s cs
-none_later s [] h = tt
-none_later s (c ∷ cs) h = h.1
-
 one_none : (s : paths.Step) (p : List paths.Step) (cs : List Changed) → p ≢ s ∷ [] → AtOne p cs → NoneAt s cs
 one_none s p cs h1 h2 = search rules
 
 one_later : (s : paths.Step) (p : List paths.Step) (cs ds : List Changed) → AtOne p cs → NoneAt s ds → NoneLater s (cs ++ ds)
-one_later s p cs ds h1 h2 = search (rules, none_later)
+one_later s p cs ds h1 h2 = search rules
 
 each_none : (P : Change → Type 0) (f : Place → Judgement (List Changed)) → IsSo P f → (s : paths.Step) (ps : List Place) (cs : List Changed) → NoPlaceAt s ps → for_each f ps ≡ gives cs → NoneAt s cs
 each_none P f so s ps cs n h = each_given (NoPlaceAt s) (λ (c : Changed). c.0 ≢ s ∷ []) f (λ p more none. ((λ ds e. one_none s p.path ds none.0 (so p ds e).0), none.1)) ps cs n h

@@ -1,5 +1,5 @@
 -- Copies are trees without aliases.
-use Rattle.std.proofs.Common.{◌≡◌, ℕ, ◌⊎◌, List, [], ◌∷◌, Option, Some, None, refl, sym, ap, subst, ◌∙◌, inl, inr, rules}
+use Rattle.std.proofs.Common.{◌≡◌, ℕ, List, [], ◌∷◌, Option, Some, None, refl, sym, ap, subst, ◌∙◌, rules}
 use Rattle.yq_flow_scalars.specs.Shapes.{IsNew, AreItems, AreEntries, IsTree, AreTrees}
 use Rattle.yq_flow_scalars.specs.Tree as tree
 use Rattle.yq_flow_scalars.specs.Tree.{Label, Node, alias, scalar, list, Children, none, child}
@@ -12,16 +12,12 @@ use Rattle.yq_meaning.proofs.JudgementLaws.{then_gives, gives_same}
 abbrev pub HaveNoAlias : Children → Type 0
 HaveNoAlias cs = (a : List ℕ) → AnyMentions a cs → ⊥
 
-pub either_of : {A B : Type 0} → (A → ⊥) → (B → ⊥) → A ⊎ B → ⊥
-either_of f g (inl a) = f a
-either_of f g (inr b) = g b
-
 -- items or entries whose nodes are trees without aliases
 abbrev pub AreFree : Children → Type 0
 AreFree cs = AreTrees cs × HaveNoAlias cs
 
 pub free_child : (label : Label) (n : Node) (cs : Children) → IsPure n → AreFree cs → AreFree (child label n cs)
-free_child label n cs p f = ((p.0, f.0), λ a m. either_of (p.1 a) (f.1 a) m)
+free_child label n cs p f = search rules
 
 items_are : (vs : List Node) → AreItems (items vs)
 items_are [] = tt

@@ -1,21 +1,21 @@
 -- The room that the operations of a plan ask for lasts.
-use Rattle.std.proofs.Common.{◌≡◌, ◌<◌, ◌⊎◌, ℕ, suc, Bool, List, [], ◌∷◌, ◌++◌, map, option_and_then, Some, refl, sym, subst, ◌∙◌, inl, inr, arith, rules}
+use Rattle.std.proofs.Common.{◌≡◌, ◌<◌, ◌⊎◌, ℕ, suc, Bool, List, [], ◌∷◌, ◌++◌, map, option_and_then, refl, sym, subst, ◌∙◌, inl, inr, arith, rules}
 use Rattle.std.proofs.lemmas.Option.{same_Some}
 use Rattle.yq_flow_scalars.specs.PathOrder.{Before}
-use Rattle.yq_flow_scalars.specs.Paths.{Step, node_at}
-use Rattle.yq_flow_scalars.specs.Tree.{Node, children_of}
+use Rattle.yq_flow_scalars.specs.Paths.{Step}
+use Rattle.yq_flow_scalars.specs.Tree.{Node}
 use Rattle.yq_documents.specs.Documents.{Document}
 use Rattle.yq_program.specs.declared.program.CommentPlace.TheVariants as comments
 use Rattle.yq_meaning.specs.After.{document_of, after_op}
 use Rattle.yq_meaning.specs.Changes as changes
 use Rattle.yq_meaning.specs.Changes.{Addition, appends, overwrites, replaces, adds, sets_comment, Changed, Room, changes_in, changes_from}
-use Rattle.yq_meaning.specs.Fits.{IsBelow, AllFit}
+use Rattle.yq_meaning.specs.Fits.{AllFit}
 use Rattle.yq_meaning.specs.Judgement.{and_then, gives}
 use Rattle.yq_meaning.specs.Meaning.{roots_of, AreReady}
 use Rattle.yq_meaning.specs.Operations.{Operation, remove}
 use Rattle.yq_meaning.specs.Plans.{add_op, ops_of, is_removal, ordered, all_ops, plan}
 use Rattle.yq_program.specs.Program.{UpdatesHold, Update, comment}
-use Rattle.yq_meaning.specs.RoomsKept.{HasSome, KeepsBlock, KeepsBlockIn, NoneOn, BlockLasts, SetComments, SetNoComment, RoomsLast, MayFollow}
+use Rattle.yq_meaning.specs.RoomsKept.{KeepsBlock, KeepsBlockIn, NoneOn, BlockLasts, SetComments, SetNoComment, MayFollow}
 use Rattle.yq_meaning.proofs.JudgementLaws.{then_gives, gives_same}
 use Rattle.yq_plans.proofs.updates.Folds.{InPairs, AllAre, AreGone, IsWritten, IsSaid, IsOf, MayFold, of_may_fold}
 use Rattle.yq_plans.proofs.updates.Planned.{update_kind}
@@ -39,12 +39,8 @@ abbrev KeepBlocks : List Operation → Type 0
 KeepBlocks [] = Unit {0}
 KeepBlocks (op ∷ ops) = (KeepsSome op ⊎ (NoneOn (document_of op) ops ⊎ RemovesMore op ops)) × KeepBlocks ops
 
--- where a path leads below a root, there are items or entries
-some_below : (path : List Step) (root n : Node) → IsBelow path → node_at path root ≡ Some n → HasSome (children_of root)
-some_below path root n h1 h2 = search (rules, option_and_then)
-
 removes_keeps : (rooms : ℕ → Room) (op : Operation) (ops : List Operation) (docs : List Document) → RemovesMore op ops → AllFit rooms ops docs → KeepsBlockIn op docs
-removes_keeps rooms op ops docs h1 h2 = search (rules, same_Some, some_below)
+removes_keeps rooms op ops docs h1 h2 = search (rules, same_Some, option_and_then)
 
 keep_last : (rooms : ℕ → Room) (ops : List Operation) (docs : List Document) → KeepBlocks ops → AllFit rooms ops docs → BlockLasts rooms ops docs
 keep_last rooms [] docs t f = tt
@@ -148,14 +144,6 @@ from_keep u rooms n (d ∷ ds) css ready h =
     subst (λ (xs : List (List Changed)). KeepBlocks (all_ops (is_removal u) n xs) × Say u (all_ops (is_removal u) n xs)) (gives_same two.2)
     (document_keep (is_removal u) n one.0 others kind.0 (of_may_fold u one.0 kind.1) (none_before (is_removal u) n (suc n) two.0 (omega arith)) rest.0, say_join u n one.0 others kind.1 rest.1)
 
--- the room that the operations of a plan ask for lasts, where each fits at its turn
-rooms_last : (u : Update) (rooms : ℕ → Room) (docs : List Document) (ops : List Operation) → AreReady rooms 0 docs → plan u rooms docs ≡ gives ops → AllFit rooms ops docs → RoomsLast rooms ops docs
-rooms_last u rooms docs ops ready h fit =
-    let x = plan_parts u rooms docs ops h in
-    let y = subst (λ (os : List Operation). KeepBlocks os × Say u os) x.4 (from_keep u rooms 0 docs x.0 ready x.2) in
-    record { block = keep_last rooms ops docs y.0 fit; comments = say_alone u ops y.1 }
-
 -- the operations of a plan may follow one another
 pub plan_follows : (u : Update) (rooms : ℕ → Room) (docs : List Document) (ops : List Operation) → AreReady rooms 0 docs → UpdatesHold (u ∷ []) → plan u rooms docs ≡ gives ops → MayFollow rooms ops docs
-plan_follows u rooms docs ops ready holds h =
-    let fit : AllFit rooms ops docs = plan_fits u rooms docs ops ready holds h in record { fit = fit; last = rooms_last u rooms docs ops ready h fit }
+plan_follows u rooms docs ops ready holds h = search (rules, plan_fits, plan_parts, from_keep, keep_last, say_alone)

@@ -9,13 +9,13 @@ use Rattle.yq_documents.specs.Documents.{Document}
 use Rattle.yq_program.specs.declared.program.CommentPlace.TheVariants as comments
 use Rattle.yq_meaning.specs.After.{root_after, done_to}
 use Rattle.yq_meaning.specs.Changes.{Addition, appends, overwrites, replaces, adds, sets_comment, Changed}
-use Rattle.yq_meaning.specs.NodeEdits.{NodeEdits, same_path, step_to, each_at_once, at_once}
+use Rattle.yq_meaning.specs.NodeEdits.{NodeEdits, same_path, step_to, at_once}
 use Rattle.yq_meaning.specs.Meaning.{head_of, line_of, node_edit_of, changed_at_once, IsLed}
 use Rattle.yq_meaning.specs.Operations.{Operation, replace, append, remove, line_comment, head_comment}
 use Rattle.yq_meaning.specs.Plans.{add_op, change_ops, ops_of, ordered}
 use Rattle.yq_flow_scalars.specs.PathOrder.{Before}
 use Rattle.yq_flow_scalars.specs.Shapes.{IsTree}
-use Rattle.yq_documents.specs.TreeEdits.{replaced, at_end, with_line_comment, with_head_comment, led, lead_by, with_tree, new_label}
+use Rattle.yq_documents.specs.TreeEdits.{replaced, at_end, with_line_comment, with_head_comment, lead_by, with_tree, new_label}
 use Rattle.yq_meaning.specs.Changes as changes
 use Rattle.yq_plans.proofs.updates.AtOnce.{one_more}
 use Rattle.yq_plans.proofs.updates.Spares.{idle, spares_root}
@@ -81,12 +81,8 @@ ops_leave : (block : Bool) (lead : List (List ℕ)) (ops : List Operation) → A
 ops_leave block lead [] l n h = h
 ops_leave block lead (op ∷ ops) l n h = op_keeps_some block lead op l.0 n (ops_leave block lead ops l.1 (root_after block lead op n) h)
 
-led_under : (block : Bool) (lead other : List (List ℕ)) (p : List Step) (v : Node) → ((s : Step) × (q : List Step) × (p ≡ s ∷ q)) → led block lead p v ≡ led block other p v
-led_under block lead other [] v l = absurd (nil≢cons l.2)
-led_under block lead other (s ∷ p) v l = refl
-
 pub op_any_lead : (block : Bool) (lead other : List (List ℕ)) (op : Operation) → KeepsSome op → (n : Node) → root_after block lead op n ≡ root_after block other op n
-op_any_lead block lead other op h1 n = search (rules, led_under)
+op_any_lead block lead other op h1 n = search rules
 
 ops_any_lead : (block : Bool) (lead other : List (List ℕ)) (ops : List Operation) → AllKeepSome ops → (n : Node) → roots_after block lead ops n ≡ roots_after block other ops n
 ops_any_lead block lead other [] l n = refl
@@ -182,12 +178,8 @@ abbrev FirstFree : NodeEdits → Children → Type 0
 FirstFree f none = Unit {0}
 FirstFree f (child label n cs) = f (step_to 0 label ∷ []) ≡ None
 
--- the lead that one tree gives is that of another which has the same first item or entry
-lead_kept : (block : Bool) (f : NodeEdits) (lead : List (List ℕ)) (cs ds : Children) → FirstFree f cs → ds ≡ each_at_once f 0 cs → lead_by block ds lead ≡ lead_by block cs lead
-lead_kept block f lead cs ds h1 h2 = search rules
-
 root_kept : (block : Bool) (f : NodeEdits) (lead : List (List ℕ)) (root : Node) → f [] ≡ None → FirstFree f (children_of root) → lead_by block (children_of (at_once f root)) lead ≡ lead_by block (children_of root) lead
-root_kept block f lead root free h = search (rules, lead_kept)
+root_kept block f lead root free h = search rules
 
 module _ (block : Bool) (doc : ℕ) (d : Document) (is : IsLed block d) (tree : IsTree d.root) where
   -- nothing is done at a path at which there is no change

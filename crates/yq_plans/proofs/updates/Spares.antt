@@ -31,11 +31,8 @@ Spares f p = (q : List Step) → IsSpared (f q) p q
 spared_apart : (x : NodeEdit) (p q : List Step) → IsSpared (Some x) p q → Apart p q
 spared_apart x p q h1 = search rules
 
-spared_under : (s : Step) (p q : List Step) (d : Option NodeEdit) → IsSpared d (s ∷ p) (s ∷ q) → IsSpared d p q
-spared_under s p q d h1 = search (rules, apart_under, before_under)
-
 pub spares_under : (f : NodeEdits) (s : Step) (p : List Step) → Spares f (s ∷ p) → Spares (under s f) p
-spares_under f s p h q = spared_under s p q (f (s ∷ q)) (h (s ∷ q))
+spares_under f s p h q = search (rules, apart_under, before_under)
 
 -- nothing is done at a place that is apart from none
 pub nothing : (d : Option NodeEdit) (p q : List Step) → (Apart p q → ⊥) → IsSpared d p q → d ≡ None

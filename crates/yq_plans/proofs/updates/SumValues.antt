@@ -1,6 +1,5 @@
 -- Sums are trees without aliases.
 use Rattle.std.proofs.Common.{◌≡◌, ◌≢◌, ℕ, Bool, true, false, cond, List, [], ◌∷◌, Option, Some, None, refl, sym, ap, subst, ◌∙◌, inl, inr, rules}
-use Rattle.std.specs.Prelude.{ℤ}
 use Rattle.std.proofs.lemmas.Bool.{false≢true}
 use Rattle.std.proofs.lemmas.Option.{none-some}
 use Rattle.yq_flow_scalars.specs.declared.kind.Kind.{Kind}
@@ -15,7 +14,7 @@ use Rattle.yq_plans.proofs.updates.Mentions.{literal_pure, IsPure}
 use Rattle.yq_meaning.specs.Pipes.{pipe_on}
 use Rattle.yq_meaning.specs.Places.{Place}
 use Rattle.yq_meaning.specs.PlacesApart.{IsIn}
-use Rattle.yq_meaning.specs.RightValues.{is_null, int_sum, scalar_sum, as_items, with_entry, with_entries, value_sum, sum, only_copy, term_value, sum_from, right_value}
+use Rattle.yq_meaning.specs.RightValues.{is_null, scalar_sum, as_items, with_entry, with_entries, value_sum, sum, only_copy, term_value, sum_from, right_value}
 use Rattle.yq_flow_scalars.specs.Shapes.{IsNew, AreItems, AreEntries, IsTree}
 use Rattle.yq_documents.specs.TreeEdits.{new_label}
 use Rattle.yq_meaning.proofs.JudgementLaws.{then_gives, gives_same}
@@ -110,11 +109,8 @@ with_all cs (child label v ds) m n =
     (subst (λ (o : Option (List ℕ)). AreMap (with_entry o v cs)) (sym n.0.0.1) (with_one n.0.0.0 v cs (free_first label v ds n.1) m))
     (n.0.1, free_rest label v ds n.1)
 
-int_pure : (m n : Option ℤ) (w : Node) → int_sum m n ≡ gives w → IsPure w
-int_pure m n w h1 = search (rules, gives_same)
-
 scalar_pure : (k : Kind) (t : List ℕ) (j : Kind) (u : List ℕ) (w : Node) → scalar_sum k t j u ≡ gives w → IsPure w
-scalar_pure k t j u w h1 = search (rules, int_pure, gives_same)
+scalar_pure k t j u w h1 = search (rules, gives_same)
 
 value_pure : (n v w : Node) → IsPure n → IsPure v → value_sum n v ≡ gives w → IsPure w
 value_pure (scalar a k t) (scalar b j u) w p q h = scalar_pure k t j u w h
