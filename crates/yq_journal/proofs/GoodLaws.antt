@@ -19,10 +19,10 @@ use Rattle.yq_journal.specs.State.{State, Pending, moved_text, moved, closed, op
 use Rattle.yq_journal.proofs.HistoryLaws.{same_length, leads_at, move_moves}
 use Rattle.yq_journal.proofs.RecordLaws.{undone_after_done}
 
-bytes_same : (t : List ℕ) → bytes_eq t t ≡ true
+pub bytes_same : (t : List ℕ) → bytes_eq t t ≡ true
 bytes_same t = (bytes_eq-Decides t t).1 refl
 
-bytes_differ : (t u : List ℕ) → t ≢ u → bytes_eq t u ≡ false
+pub bytes_differ : (t u : List ℕ) → t ≢ u → bytes_eq t u ≡ false
 bytes_differ t u d = elim (bytes_eq t u) as (λ b. bytes_eq t u ≡ b → b ≡ false) [
   | true ↦ λ e. absurd (d ((bytes_eq-Decides t u).0 e))
   | false ↦ λ e. refl
@@ -36,31 +36,27 @@ at_rest s t h none d = subst (λ o. DescribesPending s o t h) none d
 pub describes : (s : State) (t : List ℕ) (h : History) → s.pending ≡ None → AtRest s t h → Describes s t h
 describes s t h none k = subst (λ o. DescribesPending s o t h) (sym none) k
 
--- a move is opened: beside the old text the history is what it was
-pub open_before : (s : State) (h : History) (t u : List ℕ) (step : Move) → AtRest s t h → moved_text s.records s.at step t ≡ Some u → u ≢ t → Describes (opened s step t) t h
-open_before s h t u step k m d = record {
-  before = h;
-  reports = record { leads = k.reports.leads; cursor = k.reports.cursor; within = k.reports.within };
-  from = k.text;
-  to = u;
-  moves = m;
-  changes = d;
-  stands = inl (refl, refl);
-}
+module _ (s : State) (h : History) (t u : List ℕ) (step : Move) (k : AtRest s t h) (m : moved_text s.records s.at step t ≡ Some u) (d : u ≢ t) where
+  underway : (v : List ℕ) (g : History) → ((v ≡ t) × (g ≡ h)) ⊎ ((v ≡ u) × (g ≡ after_move h step u)) → Describes (opened s step t) v g
+  underway v g stands = record {
+    before = h;
+    reports = record { leads = k.reports.leads; cursor = k.reports.cursor; within = k.reports.within };
+    from = k.text;
+    to = u;
+    moves = m;
+    changes = d;
+    stands = stands;
+  }
 
--- and beside the new text it is the one after the move
-pub open_after : (s : State) (h : History) (t u : List ℕ) (step : Move) → AtRest s t h → moved_text s.records s.at step t ≡ Some u → u ≢ t → Describes (opened s step t) u (after_move h step u)
-open_after s h t u step k m d = record {
-  before = h;
-  reports = record { leads = k.reports.leads; cursor = k.reports.cursor; within = k.reports.within };
-  from = k.text;
-  to = u;
-  moves = m;
-  changes = d;
-  stands = inr (refl, refl);
-}
+  -- a move is opened: beside the old text the history is what it was
+  pub open_before : Describes (opened s step t) t h
+  open_before = underway t h (inl (refl, refl))
 
-moved_closed : (s : State) (step : Move) → (moved s step).pending ≡ None
+  -- and beside the new text it is the one after the move
+  pub open_after : Describes (opened s step t) u (after_move h step u)
+  open_after = underway u (after_move h step u) (inr (refl, refl))
+
+pub moved_closed : (s : State) (step : Move) → (moved s step).pending ≡ None
 moved_closed s (Edit r) = refl
 moved_closed s Undo = refl
 moved_closed s Redo = refl

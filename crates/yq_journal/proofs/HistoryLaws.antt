@@ -1,10 +1,10 @@
 -- Moves of a journal are moves of its history.
-use Rattle.std.proofs.Common.{◌≡◌, ◌==◌, ℕ, suc, ◌+◌, ◌-◌, ◌≤◌, ◌<◌, List, [], ◌∷◌, ◌++◌, length, take, Some, None, true, false, refl, sym, ap, ◌∙◌, subst, arith, add-one, if◌then◌else◌}
+use Rattle.std.proofs.Common.{◌≡◌, ◌==◌, ℕ, suc, ◌+◌, ◌-◌, ◌≤◌, ◌<◌, List, [], ◌∷◌, ◌++◌, length, take, Option, Some, None, Bool, true, false, refl, sym, ap, ◌∙◌, subst, arith, add-one, if◌then◌else◌}
 use Rattle.std.specs.Prelude.{option_and_then, slice_get}
 use Prim.Native.Nat.{zero}
 use Rattle.std.proofs.lemmas.Bool.Decides.{nat_tests}
 use Rattle.std.proofs.lemmas.Grind.{common_steps}
-use Rattle.std.proofs.lemmas.Option.{slice_get_within, same_Some}
+use Rattle.std.proofs.lemmas.Option.{option_and_then_some, slice_get_within, same_Some}
 use Rattle.yq_journal.specs.declared.moves.Move.{Move}
 use Rattle.yq_journal.specs.declared.moves.Move.TheVariants.{Edit, Undo, Redo}
 use Rattle.yq_journal.specs.Good.{Leads, AtRest, after_move}
@@ -85,20 +85,14 @@ redo_moves s h t u r k is d =
       text = same_Some u (text_at (after_redo h)) (sym d ∙ leads ∙ ap (λ n. Some (text_behind h.first h.later n)) (sym (add-one s.at) ∙ ap (λ n. n + 1) k.reports.cursor));
     }
 
+if_not : {A : Type 0} {o : Option A} {y : A} (b : Bool) → (if b then None else o) ≡ Some y → (b ≡ false) × (o ≡ Some y)
+if_not true h = cc
+if_not false h = (refl, h)
+
 -- where a move stands, the journal and its history go on together
 pub move_moves : (s : State) (h : History) (t u : List ℕ) (step : Move) → AtRest s t h → moved_text s.records s.at step t ≡ Some u → AtRest (moved s step) u (after_move h step u)
 move_moves s h t u (Edit r) k m = edit_moves s h t u r k m
 move_moves s h t u Undo k m =
-    elim (s.at == 0) as (λ b. (s.at == 0) ≡ b → (if b then None else option_and_then (λ r. undone r t) (slice_get s.records (s.at - 1))) ≡ Some u → AtRest (moved s Undo) u (after_undo h)) [
-      | true ↦ λ _ n. cc
-      | false ↦ λ z n.
-          elim (slice_get s.records (s.at - 1)) as (λ o. slice_get s.records (s.at - 1) ≡ o → option_and_then (λ r. undone r t) o ≡ Some u → AtRest (moved s Undo) u (after_undo h)) [
-            | None ↦ λ _ x. cc
-            | Some r ↦ λ is d. undo_moves s h t u r k (positive s.at z) is d
-          ] refl n
-    ] refl m
-move_moves s h t u Redo k m =
-    elim (slice_get s.records s.at) as (λ o. slice_get s.records s.at ≡ o → option_and_then (λ r. done r t) o ≡ Some u → AtRest (moved s Redo) u (after_redo h)) [
-      | None ↦ λ _ x. cc
-      | Some r ↦ λ is d. redo_moves s h t u r k is d
-    ] refl m
+    let p = if_not (s.at == 0) m in
+    option_and_then_some (λ r. undone r t) (slice_get s.records (s.at - 1)) u p.1 (λ r is d. undo_moves s h t u r k (positive s.at p.0) is d)
+move_moves s h t u Redo k m = option_and_then_some (λ r. done r t) (slice_get s.records s.at) u m (λ r is d. redo_moves s h t u r k is d)

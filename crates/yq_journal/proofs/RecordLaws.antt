@@ -3,6 +3,7 @@ use Rattle.std.proofs.Common.{◌≡◌, ◌==◌, ℕ, ◌-◌, ◌≤◌, ◌<
 use Rattle.std.specs.Prelude.{option_and_then}
 use Rattle.std.proofs.lemmas.Bool.{eqb-true}
 use Rattle.std.proofs.lemmas.Grind.{common_steps}
+use Rattle.std.proofs.lemmas.Option.{cond_some}
 use Rattle.yq_script.specs.Splice.{Splice, swapped, change_done, all_done, flipped}
 use Rattle.yq_script.proofs.SpliceLaws.{taken_back, done_again, flipped-append}
 use Rattle.yq_journal.specs.Record.{Record, if_length, done, undone}
@@ -22,10 +23,7 @@ of_stands n m ss b c h =
 stands_if_length : (n m : ℕ) (ss : List Splice) (b c : List ℕ) (r : Option (List ℕ)) → length b ≡ n → all_done ss b ≡ r → if_length m r ≡ Some c → Stands n m ss b c
 stands_if_length n m ss b c None e is h = cc
 stands_if_length n m ss b c (Some d) e is h =
-    elim (length d == m) as (λ t. (length d == m) ≡ t → (if t then Some d else None) ≡ Some c → Stands n m ss b c) [
-      | true ↦ λ t k. let same : d ≡ c = cc in record { starts = e; leads = is ∙ k; ends = ap length (sym same) ∙ eqb-true (length d) m t }
-      | false ↦ λ t k. cc
-    ] refl h
+    let p = cond_some _ _ _ h in record { starts = e; leads = is ∙ ap Some p.1; ends = ap length (sym p.1) ∙ eqb-true (length d) m p.0 }
 
 pub stands_of : (n m : ℕ) (ss : List Splice) (b c : List ℕ) → (if length b == n then if_length m (all_done ss b) else None) ≡ Some c → Stands n m ss b c
 stands_of n m ss b c h =
