@@ -1,8 +1,7 @@
 -- Splices that can be done, told from the bytes of the text before them.
-use Rattle.std.proofs.Common.{◌≡◌, ◌≢◌, ◌⊎◌, inl, inr, ℕ, suc, ◌+◌, ◌-◌, ◌≤◌, ◌<◌, ◌&&◌, Bool, true, false, List, [], ◌∷◌, ◌++◌, length, take, drop, nat_le, nat_lt, Option, Some, None, refl, sym, ap, ◌∙◌, subst, arith, length-append, if◌then◌else◌, eq-eqb}
+use Rattle.std.proofs.Common.{◌≡◌, ◌≢◌, ◌⊎◌, ℕ, suc, ◌+◌, ◌-◌, ◌≤◌, ◌<◌, Bool, true, false, List, [], ◌∷◌, ◌++◌, length, take, drop, nat_le, Option, Some, None, refl, sym, ap, ◌∙◌, subst, arith, length-append, if◌then◌else◌, eq-eqb, rules}
 use Rattle.std.specs.Prelude.{◌==◌, ◌^◌, option_and_then, slice_get, is_some}
 use Prim.Native.Nat.{zero}
-use Rattle.std.specs.Cmp.Derive.{both_true}
 use Rattle.std.proofs.Math.Seq.{drop-append_seam, take-append_seam}
 use Rattle.std.proofs.lemmas.Bool.{and_parts, le-leb, leb-true, lt-ltb, ltb-true}
 use Rattle.std.proofs.lemmas.Bool.Decides.{nat_tests}
@@ -62,18 +61,11 @@ record Lengths (s : Splice) (n m : ℕ) : Type 0 where
 
 parts_of_length : (s : Splice) (n m : ℕ) → length_done s n ≡ Some m → Lengths s n m
 unfolding length_done
-parts_of_length s n m h =
-    let p = cond_some _ _ _ h in
-    let t = and_parts (nat_le (s.at + length s.old) n) _ p.0 in
-    record { fits = leb-true _ _ t.0; small = subst (λ x. x < 2 ^ 64) p.1 (ltb-true _ _ t.1); is = sym p.1 }
+parts_of_length s n m h = search (rules, cond_some, and_parts, leb-true, ltb-true)
 
 length_of_parts : (s : Splice) (n m : ℕ) → Lengths s n m → length_done s n ≡ Some m
 unfolding length_done
-length_of_parts s n m p =
-    let small : n - length s.old + length s.new < 2 ^ 64 = subst (λ x. x < 2 ^ 64) p.is p.small in
-    ap (λ t. if t then Some (n - length s.old + length s.new) else None)
-    (both_true (le-leb (s.at + length s.old) n p.fits) (lt-ltb (n - length s.old + length s.new) (2 ^ 64) small))
-    ∙ ap Some (sym p.is)
+length_of_parts s n m p = search (rules, le-leb, lt-ltb)
 
 -- the lengths of a text before and after a splice
 record Grown (s : Splice) (b c : List ℕ) : Type 0 where
@@ -119,11 +111,7 @@ lengths_flip (s ∷ ss) n m e h = option_and_then_some (lengths_done ss) (length
 
 -- the lengths up to a place of splices whose lengths are all within
 lengths_up_to : (ss rest : List Splice) (text b : List ℕ) → lengths_done (ss ++ rest) (length text) ≢ None → all_done ss text ≡ Some b → (lengths_done ss (length text) ≡ Some (length b)) × (lengths_done rest (length b) ≢ None)
-lengths_up_to ss rest text b h e =
-    let there = and_then_some (lengths_done rest) (lengths_done ss (length text)) (λ none. h (lengths_done-append ss rest (length text) ∙ none)) in
-    let reached : lengths_done ss (length text) ≡ Some (length b) = lengths_follow ss text b e (λ none. none-some there.0 (sym none ∙ there.1)) in
-    let same : there.0 ≡ length b = same_Some there.0 (length b) (sym there.1 ∙ reached) in
-    (reached, λ none. there.2 (ap (lengths_done rest) same ∙ none))
+lengths_up_to ss rest text b h e = search (rules, and_then_some, lengths_done-append, lengths_follow, none-some, same_Some)
 
 -- each splice lies within the text that it finds
 pub lies_within : (ss : List Splice) (k : ℕ) (s : Splice) (text b : List ℕ) → lengths_done ss (length text) ≢ None → all_done (take k ss) text ≡ Some b → slice_get ss k ≡ Some s → s.at + length s.old ≤ length b
@@ -179,14 +167,7 @@ before s b c e =
 
 -- where a byte came from over a splice
 pub came_from : (s : Splice) (b c : List ℕ) (i j : ℕ) → Before s b c → i < length c → ((i < s.at) × (j ≡ i)) ⊎ ((s.at + length s.new ≤ i) × (j ≡ i - length s.new + length s.old)) → (j < length b) × (slice_get b j ≡ slice_get c i)
-came_from s b c i j x h (inl (low, is)) =
-    let long : length c ≡ length b - length s.old + length s.new = x.long in
-    let within : s.at + length s.old ≤ length b = x.within in
-    (omega (arith, low, is, within), ap (slice_get b) is ∙ sym (x.front i low))
-came_from s b c i j x h (inr (high, is)) =
-    let long : length c ≡ length b - length s.old + length s.new = x.long in
-    let within : s.at + length s.old ≤ length b = x.within in
-    (omega (arith, high, is, within, long), ap (slice_get b) is ∙ sym (x.behind i high))
+came_from s b c i j h1 h2 h3 = search rules
 
 -- the text before a splice that was done
 pub record Earlier (ss : List Splice) (text : List ℕ) (k : ℕ) (s : Splice) (c : List ℕ) : Type 0 where
@@ -225,11 +206,7 @@ found_there s b within is = (
 )
 
 pub not_there : (s : Splice) (b : List ℕ) → take (length s.old) (drop s.at b) ≢ s.old → change_done s b ≡ None
-not_there s b other = none_done s b (λ c x.
-    other (ap (λ l. take (length s.old) (drop s.at l)) x.before
-    ∙ ap (λ n. take (length s.old) (drop n (x.front ++ (s.old ++ x.rest)))) (sym x.offset)
-    ∙ ap (take (length s.old)) (drop-append_seam x.front (s.old ++ x.rest))
-    ∙ take-append_seam s.old x.rest))
+not_there s b other = search (rules, none_done, drop-append_seam, take-append_seam)
 
 pub length-turned : (back : Bool) (ss : List Splice) → length (turned back ss) ≡ length ss
 length-turned false ss = refl
@@ -237,13 +214,4 @@ length-turned true ss = length-flipped ss
 
 -- where lengths are within, splices that are done end with the length that is told
 pub ends_alike : (ss : List Splice) (n m : ℕ) (b : List ℕ) → lengths_done ss n ≡ Some m → length b ≡ n → is_some (all_done ss b) ≡ is_some (if length b == n then if_length m (all_done ss b) else None)
-ends_alike ss n m b lengths long =
-    elim (all_done ss b) as (λ o. all_done ss b ≡ o → is_some o ≡ is_some (if_length m o)) [
-      | None ↦ λ e. refl
-      | Some c ↦ λ e.
-          let reached : lengths_done ss (length b) ≡ Some m = ap (lengths_done ss) long ∙ lengths in
-          let follow = lengths_follow ss b c e (λ none. none-some m (sym none ∙ reached)) in
-          let same : length c ≡ m = same_Some (length c) m (sym follow ∙ reached) in
-          sym (ap (λ t. is_some (if t then Some c else None)) (eq-eqb (length c) m same))
-    ] refl
-    ∙ sym (ap (λ t. is_some (if t then if_length m (all_done ss b) else None)) (eq-eqb (length b) n long))
+ends_alike ss n m b lengths long = search (rules, lengths_follow, none-some, same_Some, eq-eqb)

@@ -10,7 +10,6 @@ ghost use Rattle.yq_journal.specs.declared.moves.Move.TheVariants.{Edit, Redo, U
 
 /// A move that stands makes of a journal and its history the ones after it,
 /// also where it leaves the text equal.
-#[tactic(auto, using(crate::proofs::HistoryLaws::move_moves))]
 pub fn moves_go_on()
     ensures { (s : State) (h : History) (t u : List ℕ) (step : Move) → AtRest s t h →
         moved_text s.records s.at step t ≡ Some u → AtRest (moved s step) u (after_move h step u) }
@@ -51,8 +50,7 @@ pub fn faults_are_of_history()
 
 /// Joining the last done records of a journal is a squash of its history; of
 /// one record, it leaves the history.
-#[tactic(auto, using(crate::proofs::SquashLaws::squash_one,
-    crate::proofs::SquashLaws::squash_rests))]
+#[tactic(auto, using(crate::proofs::SquashLaws::squash_one))]
 pub fn squashes_go_on()
     ensures one { (h : History) → 1 ≤ h.at → h.at ≤ length h.later → after_squash h 1 ≡ h }
     ensures rests { (s : State) (t : List ℕ) (h : History) (n : ℕ) → AtRest s t h → 1 ≤ n →
