@@ -35,8 +35,7 @@ pub fn settling_rests()
 
 /// A move of a journal at rest is refused exactly where its history refuses
 /// it: an undo or a redo always stands where there is one.
-#[tactic(auto, using(crate::proofs::GoodLaws::undo_fault, crate::proofs::GoodLaws::redo_fault,
-    crate::proofs::GoodLaws::edit_fault, crate::proofs::SquashLaws::squash_fault_of))]
+#[tactic(auto, using(crate::proofs::GoodLaws::undo_fault, crate::proofs::GoodLaws::redo_fault, crate::proofs::GoodLaws::edit_fault))]
 pub fn faults_are_of_history()
     ensures undo { (s : State) (t : List ℕ) (h : History) → AtRest s t h →
         way_fault s.records s.at Undo t ≡ step_fault h Undo }
