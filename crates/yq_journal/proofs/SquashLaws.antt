@@ -117,7 +117,8 @@ unfolding squashed_front
 length-squashed_front h n some fits within = search (rules, length-take-le, length-drop, length-latest_of, length-append)
 
 -- the text behind the joined edits is that behind these
-end_of_squash : (h : History) (n : ℕ) → text_end (text_end h.first (take (h.at - n) h.later)) (latest_of (drop (h.at - n) (take h.at h.later))) ≡ text_end h.first (take h.at h.later)
+end_of_squash : (h : History) (n : ℕ)
+    → text_end (text_end h.first (take (h.at - n) h.later)) (latest_of (drop (h.at - n) (take h.at h.later))) ≡ text_end h.first (take h.at h.later)
 end_of_squash h n =
     let inner = take h.at h.later in
     text_end-latest_of (text_end h.first (take (h.at - n) h.later)) (drop (h.at - n) inner)
@@ -128,14 +129,17 @@ end_of_squash h n =
 text_end-squashed_front : (h : History) (n : ℕ) → h.at ≤ length h.later → text_end h.first (squashed_front h n) ≡ text_at h
 unfolding squashed_front
 text_end-squashed_front h n within =
-    text_end-append h.first (take (h.at - n) h.later) (latest_of (drop (h.at - n) (take h.at h.later))) ∙ end_of_squash h n ∙ text_end-take h.first h.later h.at within
+    text_end-append h.first (take (h.at - n) h.later) (latest_of (drop (h.at - n) (take h.at h.later)))
+    ∙ end_of_squash h n ∙ text_end-take h.first h.later h.at within
 
 squash_leads : (s : State) (t : List ℕ) (h : History) (n : ℕ) → AtRest s t h → Leads h.first (squashed s n).records (after_squash h n).later
 squash_leads s t h n k =
     let inner = take h.at h.later in
-    let front : text_end h.first (take (h.at - n) inner) ≡ text_end h.first (take (h.at - n) h.later) = ap (text_end h.first) (take-take (h.at - n) h.at h.later (omega arith)) in
+    let front : text_end h.first (take (h.at - n) inner) ≡ text_end h.first (take (h.at - n) h.later) =
+    ap (text_end h.first) (take-take (h.at - n) h.at h.later (omega arith)) in
     let run : Leads (text_end h.first (take (h.at - n) h.later)) (joined_of (last_done s.records s.at n)) (latest_of (drop (h.at - n) inner)) =
-    leads_joined_of _ (last_done s.records s.at n) (drop (h.at - n) inner) (subst (λ u. Leads u (last_done s.records s.at n) (drop (h.at - n) inner)) front (last_leads s t h n k)) in
+    leads_joined_of _ (last_done s.records s.at n) (drop (h.at - n) inner)
+    (subst (λ u. Leads u (last_done s.records s.at n) (drop (h.at - n) inner)) front (last_leads s t h n k)) in
     let tail : Leads (text_end (text_end h.first (take (h.at - n) h.later)) (latest_of (drop (h.at - n) inner))) (drop s.at s.records) (drop h.at h.later) =
     subst (λ u. Leads u (drop s.at s.records) (drop h.at h.later)) (sym (end_of_squash h n))
     (subst (λ a. Leads (text_end h.first inner) (drop a s.records) (drop h.at h.later)) (sym k.reports.cursor) (leads_drop h.first s.records h.later h.at k.reports.leads)) in

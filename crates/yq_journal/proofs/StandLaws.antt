@@ -104,7 +104,8 @@ lengths_flip (s ∷ ss) n m e h = option_and_then_some (lengths_done ss) (length
     let p = parts_of_length s n x is in
     let fits : s.at + length s.old ≤ n = p.fits in
     let long : x ≡ n - length s.old + length s.new = p.is in
-    let back : length_done (swapped s) x ≡ Some n = length_of_parts (swapped s) x n (record { fits = omega (arith, fits, long); small = h; is = omega (arith, fits, long) }) in
+    let back : length_done (swapped s) x ≡ Some n =
+    length_of_parts (swapped s) x n (record { fits = omega (arith, fits, long); small = h; is = omega (arith, fits, long) }) in
     lengths_done-append (flipped ss) (swapped s ∷ []) m
     ∙ ap (option_and_then (lengths_done (swapped s ∷ []))) (lengths_flip ss x m k p.small)
     ∙ ap (option_and_then (λ d. Some d)) back)
