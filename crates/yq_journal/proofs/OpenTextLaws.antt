@@ -148,11 +148,6 @@ pending_reads : (p : Pending) → of_json (outline (move_data p.step)) ≡ Some 
 pending_reads p e =
     ap (λ o. option_map object (option_and_then (λ d. Some (put (codes "record") d (put (codes "kind") (string (kind_text p.step)) (put (codes "from") (bytes_data p.from) no_members)))) o)) e
 
-abbrev object_from : Option Data → Option Data → Option Data → Option Data → Option Data
-object_from a p r v =
-    option_map object (option_and_then (λ x. option_and_then (λ y. option_and_then (λ z. option_and_then (λ w.
-    Some (put (codes "version") w (put (codes "records") z (put (codes "pending") y (put (codes "at") x no_members))))) v) r) p) a)
-
 object_reads : (n : ℕ) (p : Data) (rs : Items) → n < 2 ^ 64 → of_json (outline p) ≡ Some p → of_json (outline (array rs)) ≡ Some (array rs)
     → of_json (outline (journal_object n p rs)) ≡ Some (journal_object n p rs)
 object_reads n p rs h e f =
