@@ -150,10 +150,7 @@ pending_reads p e =
 
 object_reads : (n : ℕ) (p : Data) (rs : Items) → n < 2 ^ 64 → of_json (outline p) ≡ Some p → of_json (outline (array rs)) ≡ Some (array rs)
     → of_json (outline (journal_object n p rs)) ≡ Some (journal_object n p rs)
-object_reads n p rs h e f =
-    let a = Some (number (unsigned n)) in
-    let v = of_json (outline (number (unsigned 2))) in
-    cc (number_reads n h, number_reads 2 (omega arith))
+object_reads n p rs h e f = cc (number_reads n h, number_reads 2 (omega arith))
 
 open_reads : (p : Pending) → move_of true (kind_text p.step) (move_data p.step) ≡ Some p.step → decode_of standard (encode_of standard p.from) ≡ Ok p.from
     → pending_of true (pending_data (Some p)) ≡ Some (Some p)
