@@ -40,10 +40,10 @@ text_end-append t [] fs = refl
 text_end-append t (e ∷ es) fs = text_end-append e.text es fs
 
 leads_take : (t : List ℕ) (rs : List Record) (es : List Revision) (n : ℕ) → Leads t rs es → Leads t (take n rs) (take n es)
+leads_take t rs es zero l = tt
+leads_take t [] [] (suc n) l = tt
 leads_take t (r ∷ rs) (e ∷ es) (suc n) l = (l.0, l.1, leads_take e.text rs es n l.2)
-leads_take t [] (e ∷ es) (suc n) l = absurd l
-leads_take t (r ∷ rs) [] (suc n) l = absurd l
-leads_take t _ _ _ l = tt
+leads_take t _ _ (suc n) l = absurd l
 
 leads_drop : (t : List ℕ) (rs : List Record) (es : List Revision) (n : ℕ) → Leads t rs es → Leads (text_end t (take n es)) (drop n rs) (drop n es)
 unfolding text_end
