@@ -32,8 +32,10 @@ pub distinct_again : (ks : List (List ℕ)) → AreDistinct ks → are_distinct 
 distinct_again [] h = refl
 distinct_again (k ∷ ks) h =
     let fresh : list_any (bytes_eq k) ks ≡ false =
-    list_any_none (bytes_eq k) ks (λ j d within. false_from_ne_true _ (λ e. h zero (suc j) d (omega arith) (omega arith) ((bytes_eq-Decides k (get_or ks j d)).0 e))) in
-    and_from (not (list_any (bytes_eq k) ks)) (are_distinct ks) (ap not fresh) (distinct_again ks (λ i j d lt within. h (suc i) (suc j) d (omega arith) (omega arith)))
+    list_any_none (bytes_eq k) ks (λ j d within. false_from_ne_true _ (λ e.
+    h zero (suc j) d (omega arith) (omega arith) ((bytes_eq-Decides k (get_or ks j d)).0 e))) in
+    and_from (not (list_any (bytes_eq k) ks)) (are_distinct ks) (ap not fresh)
+    (distinct_again ks (λ i j d lt within. h (suc i) (suc j) d (omega arith) (omega arith)))
 
 -- a test that tells whether they differ is that test
 pub tested : (b : Bool) (ks : List (List ℕ)) → IsTrue b ↔ AreDistinct ks → b ≡ are_distinct ks
