@@ -1,5 +1,5 @@
 -- Copies of items and entries, one behind the other.
-use Rattle.std.proofs.Common.{◌≡◌, ℕ, ◌<◌, ◌≤◌, List, [], ◌∷◌, ◌++◌, None, refl, sym, ap, ◌∙◌, append_assoc, arith}
+use Rattle.std.proofs.Common.{◌≡◌, ℕ, ◌<◌, ◌≤◌, List, [], ◌∷◌, ◌++◌, None, sym, ap, ◌∙◌, arith}
 use Rattle.yq_flow_scalars.specs.Keys.{depth, deepest}
 use Rattle.yq_flow_scalars.specs.Tree as tree
 use Rattle.yq_flow_scalars.specs.Tree.{Label, Node, alias, scalar, list, Children, child, children_of}
@@ -8,17 +8,14 @@ use Rattle.yq_lines.specs.Counts.{count}
 use Rattle.yq_document_nodes.specs.Nodes.{kind_of}
 use Rattle.yq_document_nodes.specs.declared.nodes.node.NodeKind.TheVariants as kinds
 use Rattle.yq_meaning.specs.Copies.{and_others, keyed, copy, item_copies, entry_copies}
-use Rattle.yq_meaning.specs.Judgement.{Judgement, and_then, gives, refuses}
+use Rattle.yq_meaning.specs.Judgement.{Judgement, and_then, gives}
 use Rattle.yq_matching.specs.PlaceView.{put_behind}
+use Rattle.yq_matching.proofs.EachLaws.{put_first}
 
 -- one more behind what is there
 put_one : {V A : Type 0} (g : V → A) (before : List A) (v : V) (j : Judgement V) (others : Judgement (List A)) → j ≡ gives v →
     put_behind before (and_then (λ w. and_others others (g w)) j) ≡ put_behind (before ++ g v ∷ []) others
-put_one {V} {A} g before v j others h = ap (λ k. put_behind before (and_then (λ w. and_others others (g w)) k)) h ∙ go others
-  where
-    go : (k : Judgement (List A)) → put_behind before (and_others k (g v)) ≡ put_behind (before ++ g v ∷ []) k
-    go (gives xs) = ap gives (sym (append_assoc before (g v ∷ []) xs))
-    go (refuses why) = refl
+put_one g before v j others h = put_first g before j others ∙ ap (and_then (λ w. put_behind (before ++ g w ∷ []) others)) h
 
 -- one more item's copy
 pub items_more : (before : List Node) (cs rest : Children) (label : Label) (n v : Node) (all : Judgement (List Node)) → cs ≡ child label n rest → copy n ≡ gives v → put_behind before (item_copies cs) ≡ all →
