@@ -31,14 +31,11 @@ entries_more before cs rest label n v all is h so_far =
 
 -- a mapping's copy has copies of its entries
 pub map_copied : (n : Node) (es : List (List ℕ × Node)) → kinds.Map ≡ kind_of n → entry_copies (children_of n) ≡ gives es → copy n ≡ gives (tree.map None (entries es))
-map_copied (alias name) es is h = absurd (cc)
-map_copied (scalar anchor kind text) es is h = absurd (cc)
-map_copied (list anchor cs) es is h = absurd (cc)
 map_copied (tree.map anchor cs) es is h = ap (and_then (λ xs. gives (tree.map None (entries xs)))) h
+map_copied _ es is h = absurd (cc)
 
 -- collections are nested less deep in an item or entry than in its node
 pub depth_below : (n m : Node) (label : Label) (cs rest : Children) → cs ≡ child label m rest → count cs ≤ count (children_of n) → deepest cs ≤ deepest (children_of n) → depth m < depth n
-depth_below (alias name) m label cs rest is some deep = let counted = ap count is in absurd (omega arith)
-depth_below (scalar anchor kind text) m label cs rest is some deep = let counted = ap count is in absurd (omega arith)
 depth_below (list anchor ds) m label cs rest is some deep = let reaches = ap deepest is in omega arith
 depth_below (tree.map anchor ds) m label cs rest is some deep = let reaches = ap deepest is in omega arith
+depth_below _ m label cs rest is some deep = let counted = ap count is in absurd (omega arith)
