@@ -25,7 +25,8 @@ put_both before (gives q) (gives o) = ap gives (sym (append_assoc before q o))
 put_both before _ _ = refl
 
 -- what comes of one and then of the others, behind what is there
-pub put_first : {V A : Type 0} (g : V → A) (before : List A) (j : Judgement V) (k : Judgement (List A)) → put_behind before (and_then (λ v. and_then (λ others. gives (g v ∷ others)) k) j) ≡ and_then (λ v. put_behind (before ++ g v ∷ []) k) j
+pub put_first : {V A : Type 0} (g : V → A) (before : List A) (j : Judgement V) (k : Judgement (List A)) →
+    put_behind before (and_then (λ v. and_then (λ others. gives (g v ∷ others)) k) j) ≡ and_then (λ v. put_behind (before ++ g v ∷ []) k) j
 put_first g before (gives v) (gives xs) = ap gives (sym (append_assoc before (g v ∷ []) xs))
 put_first g before _ _ = refl
 
