@@ -173,9 +173,15 @@ module _ (block : Bool) (lead : List (List ℕ)) where
   pub fold_back : (doc : ℕ) (n : Node) → IsTree n → (cs : List Changed) → AreSpared cs → roots_after block lead (ops_of doc (reverse cs)) n ≡ at_once (node_edits_of cs) n
   fold_back doc n tree [] h = sym (idle (node_edits_of []) n (λ q. refl))
   fold_back doc n tree (c ∷ cs) h =
-      cc (reverse-cons c cs, ops_join doc (reverse cs) (c ∷ []), roots_join block lead (ops_of doc (reverse cs)) (ops_of doc (c ∷ [])) n,
-      fold_back doc n tree cs h.1, append-nil (change_ops doc c), change_after block lead doc c (at_once (node_edits_of cs) n),
-      one_more c.0 (node_edit_of block lead c) (node_edits_of cs) n tree h.0)
+      cc (
+        reverse-cons c cs,
+        ops_join doc (reverse cs) (c ∷ []),
+        roots_join block lead (ops_of doc (reverse cs)) (ops_of doc (c ∷ [])) n,
+        fold_back doc n tree cs h.1,
+        append-nil (change_ops doc c),
+        change_after block lead doc c (at_once (node_edits_of cs) n),
+        one_more c.0 (node_edit_of block lead c) (node_edits_of cs) n tree h.0,
+      )
 
   spared_kept : (c : Changed) → IsKept c.1 → (p : List Step) → Apart p c.0 → IsSpared (Some (node_edit_of block lead c)) p c.0
   spared_kept c h1 p h2 = search rules

@@ -209,9 +209,14 @@ module _ (block : Bool) (doc : ℕ) (d : Document) (is : IsLed block d) (tree : 
       let kept : lead_by block (children_of root) d.lead ≡ d.lead = root_kept block later d.lead d.root (spares_root later c.0 spared.0) (first_free (children_of d.root) c cs f) ∙ is in
       let created : roots_after block d.lead (change_ops doc c) root ≡ at_once (node_edits_of block d.lead (c ∷ cs)) d.root =
       change_after block d.lead doc c root ∙ sym (one_more c.0 (node_edit_of block d.lead c) later d.root tree spared.0) in
-      cc (reverse-cons c cs, ops_join block d.lead doc (reverse cs) (c ∷ []),
-      document_join block (ops_of doc (reverse cs)) (change_ops doc c ++ []) d, removed_document cs h.1 g.1 (first_rest (children_of d.root) c cs f),
-      append-nil (change_ops doc c), gone_ops c d.lead g.0 root)
+      cc (
+        reverse-cons c cs,
+        ops_join block d.lead doc (reverse cs) (c ∷ []),
+        document_join block (ops_of doc (reverse cs)) (change_ops doc c ++ []) d,
+        removed_document cs h.1 g.1 (first_rest (children_of d.root) c cs f),
+        append-nil (change_ops doc c),
+        gone_ops c d.lead g.0 root,
+      )
 
   -- the operations of changes, one after the other, make all of them in a document
   pub document_folds : (removal : Bool) (cs : List Changed) → InPairs Before cs → MayFold removal cs → (removal ≡ true → IsFirst d.root cs) → document_after block (ops_of doc (ordered removal cs)) d ≡ changed_at_once block cs d
