@@ -7,7 +7,7 @@ use Rattle.yq_meaning.specs.Changes.{Room, Changed, put_at, at_each, with_value,
 use Rattle.yq_meaning.specs.Judgement.{MatchFails, Judgement, and_then, gives}
 use Rattle.yq_meaning.specs.Meaning.{roots_of}
 use Rattle.yq_matching.specs.PlaceView.{put_behind}
-use Rattle.yq_meaning.specs.Places.{Place, root_place, for_each}
+use Rattle.yq_meaning.specs.Places.{Place, for_each}
 use Rattle.yq_program.specs.Program.{Stage, Term, Update, assign}
 use Rattle.yq_meaning.specs.RightValues.{right_value}
 use Rattle.yq_matching.specs.declared.matching.place.Place as declared
@@ -41,10 +41,6 @@ module _ (doc : ℕ) (room : Room) (root : Node) (left : List Stage) (op : Opera
   modified is same =
       ap (λ (us : List Term). at_each root (λ p. and_then (put_at p) (right_value doc us p)) ps) same
       ∙ ap (λ (o : Operator). changes_at doc room root (assign left o right) ps) (sym is)
-
--- the right side of an update, evaluated from the root
-pub from_root : (doc : ℕ) (root : Node) (ts : List Term) (p : Place) → p ≡ root_place root → right_value doc ts p ≡ right_value doc ts (root_place root)
-from_root doc root ts p at = ap (right_value doc ts) at
 
 -- ---- documents
 
