@@ -15,16 +15,13 @@ use Rattle.yq_program.specs.Program.{is_index, Step, key, index, each}
 pub nested_last : (ms : List Step) (m : Step) (v : Node) → nested (ms ++ m ∷ []) v ≡ nested ms (nested (m ∷ []) v)
 nested_last [] m v = refl
 nested_last (key k ∷ ms) m v = ap (λ (n : Node). tree.map None (child (new_label (Some k)) n none)) (nested_last ms m v)
-nested_last (index i ∷ ms) m v = nested_last ms m v
-nested_last (each ∷ ms) m v = nested_last ms m v
+nested_last (_ ∷ ms) m v = nested_last ms m v
 
 -- a list, its last element apart
 last_apart : {X : Type 0} (xs : List X) (n : ℕ) (x : X) → length xs ≡ suc n → x ≡ get_or xs n x → xs ≡ take n xs ++ x ∷ []
-last_apart [] n x long is = absurd (omega (arith, long))
 last_apart (y ∷ []) zero x long is = ap (λ z. z ∷ []) (sym is)
-last_apart (y ∷ []) (suc n) x long is = absurd (omega (arith, long))
-last_apart (y ∷ (z ∷ zs)) zero x long is = absurd (omega (arith, long))
 last_apart (y ∷ (z ∷ zs)) (suc n) x long is = ap (λ ys. y ∷ ys) (last_apart (z ∷ zs) n x (omega (arith, long)) is)
+last_apart _ _ x long is = absurd (omega (arith, long))
 
 split_last : {X : Type 0} (xs : List X) (x : X) → 1 ≤ length xs → x ≡ get_or xs (length xs - 1) x → xs ≡ take (length xs - 1) xs ++ x ∷ []
 split_last xs x some is = last_apart xs (length xs - 1) x (omega (arith, some)) is

@@ -36,7 +36,5 @@ two_added view doc p (a ∷ (b ∷ (c ∷ cs))) x y k l s r long is at one two =
 
 -- a scalar is copied as it is
 pub scalar_copied : (n : Node) (k : Kind) → kind_of n ≡ kinds.Scalar k → copy n ≡ gives (scalar None k (text_of n))
-scalar_copied (alias name) k e = absurd (cc)
 scalar_copied (scalar anchor kind text) k e = cc
-scalar_copied (list anchor cs) k e = absurd (cc)
-scalar_copied (tree.map anchor cs) k e = absurd (cc)
+scalar_copied _ k e = absurd (cc)
