@@ -1,5 +1,5 @@
 -- What an update changes: place by place, and document by document.
-use Rattle.std.proofs.Common.{◌≡◌, ℕ, suc, ◌+◌, ◌<◌, ◌≤◌, List, [], ◌∷◌, ◌++◌, length, map, drop, sym, ap, ◌∙◌, subst, append-nil, add-one, arith}
+use Rattle.std.proofs.Common.{refl, append_assoc, ◌≡◌, ℕ, suc, ◌+◌, ◌<◌, ◌≤◌, List, [], ◌∷◌, ◌++◌, length, map, drop, sym, ap, ◌∙◌, subst, append-nil, add-one, arith}
 use Rattle.std.proofs.lemmas.List.{drop_all}
 use Rattle.yq_flow_scalars.specs.Tree.{Node}
 use Rattle.yq_documents.specs.Documents.{Document}
@@ -14,7 +14,7 @@ use Rattle.yq_matching.specs.declared.matching.place.Place as declared
 use Rattle.yq_program.specs.declared.program.Operator.{Operator}
 use Rattle.yq_program.specs.declared.program.Operator.TheVariants as operator
 use Rattle.yq_meaning.specs.declared.expr_error.ExprError.{ExprError}
-use Rattle.yq_matching.proofs.EachLaws.{fails_then, put_first}
+use Rattle.yq_matching.proofs.EachLaws.{fails_then}
 
 -- ---- places
 
@@ -44,13 +44,18 @@ module _ (doc : ℕ) (room : Room) (root : Node) (left : List Stage) (op : Opera
 
 -- ---- documents
 
+-- the changes of one document before those of others
+put_one : {B : Type 0} (before : List B) (j : Judgement B) (k : Judgement (List B)) → put_behind before (and_then (λ first. and_then (λ others. gives (first ∷ others)) k) j) ≡ and_then (λ first. put_behind (before ++ first ∷ []) k) j
+put_one before (gives x) (gives xs) = ap gives (sym (append_assoc before (x ∷ []) xs))
+put_one before _ _ = refl
+
 module _ (u : Update) (rooms : ℕ → Room) where
   -- those from one document on, that one being known
   behind_document : (docs : List Document) (i : ℕ) (d : Document) (before : List (List Changed)) → drop i docs ≡ d ∷ drop (suc i) docs →
       put_behind before (changes_from u rooms i (roots_of (drop i docs))) ≡ and_then (λ first. put_behind (before ++ first ∷ []) (changes_from u rooms (i + 1) (roots_of (drop (i + 1) docs)))) (changes_in u i (rooms i) d.root)
   behind_document docs i d before at =
       ap (λ (ds : List Document). put_behind before (changes_from u rooms i (roots_of ds))) at
-      ∙ (put_first (λ cs. cs) before (changes_in u i (rooms i) d.root) (changes_from u rooms (suc i) (roots_of (drop (suc i) docs)))
+      ∙ (put_one before (changes_in u i (rooms i) d.root) (changes_from u rooms (suc i) (roots_of (drop (suc i) docs)))
       ∙ ap (λ (n : ℕ). and_then (λ first. put_behind (before ++ first ∷ []) (changes_from u rooms n (roots_of (drop n docs)))) (changes_in u i (rooms i) d.root)) (sym (add-one i)))
 
   -- one document more
