@@ -41,7 +41,8 @@ split_first [] x some is = absurd (omega (arith, some))
 split_first (y ∷ ys) x some is = ap (λ z. z ∷ ys) (sym is) ∙ ap (λ zs. x ∷ zs) (sym (take_rest (y ∷ ys) 1))
 
 -- below a node no item is made, and entries are
-pub put_first : {X : Type 0} (f : X → Step) (n : Node) (xs : List X) (x : X) (v : Node) (b : Bool) → 1 ≤ length xs → x ≡ get_or xs 0 x → list_any (λ s. is_index (f s)) xs ≡ b →
+pub put_first : {X : Type 0} (f : X → Step) (n : Node) (xs : List X) (x : X) (v : Node) (b : Bool) → 1 ≤ length xs →
+    x ≡ get_or xs 0 x → list_any (λ s. is_index (f s)) xs ≡ b →
     put_below n (map f xs) v ≡ cond b (refuses IndexOutOfRange) (gives (created n (f x) (map f (take (length xs - 1) (drop 1 xs))) v))
 put_first {X} f n xs x v b some is indexed =
     ap (λ (ys : List X). put_below n (map f ys) v) (split_first xs x some is)

@@ -30,8 +30,8 @@ returns-then-adds c =
     let ts = map term_of c.args.right.now in
     rw c.if-adds.true
     (subst (Judges (λ (v : Vec Changed Global). map changed_of v.items) c.at_found.result)
-    (sym (value_there root (right_value c.args.doc ts (root_place root)) add_at (found_places c.args.places.now) (value_node c.in_ok-value.value) c.requires.some
-    (sym (ap (right_value c.args.doc ts) c.of_root.ensures) ∙ c.in_ok-value.ensures)))
+    (sym (value_there root (right_value c.args.doc ts (root_place root)) add_at (found_places c.args.places.now) (value_node c.in_ok-value.value)
+    c.requires.some (sym (ap (right_value c.args.doc ts) c.of_root.ensures) ∙ c.in_ok-value.ensures)))
     (c.at_found.ensures root c.requires.aliases c.requires.within))
 
 pub returns : goal.returns
@@ -40,6 +40,6 @@ returns c =
     let ts = map term_of c.args.right.now in
     rw c.if-adds.false
     (subst (Judges (λ (v : Vec Changed Global). map changed_of v.items) c.at_found-2.result)
-    (sym (value_there root (right_value c.args.doc ts (root_place root)) put_at (found_places c.args.places.now) (value_node c.in_ok-value.value) c.requires.some
-    (sym (ap (right_value c.args.doc ts) c.of_root.ensures) ∙ c.in_ok-value.ensures)))
+    (sym (value_there root (right_value c.args.doc ts (root_place root)) put_at (found_places c.args.places.now) (value_node c.in_ok-value.value)
+    c.requires.some (sym (ap (right_value c.args.doc ts) c.of_root.ensures) ∙ c.in_ok-value.ensures)))
     (c.at_found-2.ensures root c.requires.aliases c.requires.within))
