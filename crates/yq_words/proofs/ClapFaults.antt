@@ -22,7 +22,7 @@ use Rattle.clap.specs.declared.error.Error.{Error}
 use Rattle.clap.specs.declared.error.kind.ErrorKind.{ErrorKind}
 use Rattle.clap.proofs.OnLiterals.{clap_on_literals}
 use Rattle.clap.proofs.WalkLemmas.{both}
-use Rattle.yq_words.specs.Line.{yq}
+use Rattle.yq_words.specs.Line.{yq, four_commands, two_commands, eval_command, switches_command, file_command, squash_command}
 
 -- neither of two steps fails
 neither : (a b : Kinds) → or_else a b ≡ [] → (a ≡ []) × (b ≡ [])
@@ -285,11 +285,11 @@ built_takes a h words usual e =
 
 -- the words of the program's command line
 pub taken_where_none_fails : (words : List Text) → fault_of yq words ≡ [] → takes yq words ≡ true
-unfolding clap_on_literals
+unfolding clap_on_literals yq four_commands two_commands eval_command switches_command file_command squash_command
 taken_where_none_fails words e = built_takes (built yq) nothing_held (argument_words yq words) refl e
 
 yq_free : is_simple_and_free yq ≡ true
-unfolding clap_on_literals
+unfolding clap_on_literals yq four_commands two_commands eval_command switches_command file_command squash_command
 yq_free = refl
 
 -- ---- what clap answers

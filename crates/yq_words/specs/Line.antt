@@ -16,32 +16,32 @@ abbrev pub switch : List ℕ → ℕ → Rule
 switch id short = record (new_rule id) { short = Some short; long = Some id; action = Some SetTrue }
 
 -- a command with `[--journal PATH] FILE`
-abbrev pub file_command : List ℕ → App
+unfoldable pub file_command : List ℕ → App
 file_command name = with_rule (with_rule (new_app name) journal_option) (positional (codes "file"))
 
 -- the command `squash [--journal PATH] N FILE`
-abbrev pub squash_command : App
+unfoldable pub squash_command : App
 squash_command =
     with_rule (with_rule (with_rule (new_app (codes "squash")) journal_option) (positional (codes "n"))) (positional (codes "file"))
 
 -- the command `eval` with `-i`, `-e` and `-N`
-abbrev pub switches_command : App
+unfoldable pub switches_command : App
 switches_command =
     with_rule (with_rule (with_rule (new_app (codes "eval")) (switch (codes "inplace") 105)) (switch (codes "exit-status") 101)) (switch (codes "no-doc") 78)
 
 -- the command `eval [-i] [-e] [-N] [--journal PATH] EXPR FILE`
-abbrev pub eval_command : App
+unfoldable pub eval_command : App
 eval_command =
     with_rule (with_rule (with_rule switches_command journal_option) (positional (codes "expr"))) (positional (codes "file"))
 
 -- the commands `eval` and `undo`
-abbrev pub two_commands : App
+unfoldable pub two_commands : App
 two_commands = with_subcommand (with_subcommand (new_app (codes "yq")) eval_command.top) (file_command (codes "undo")).top
 
 -- these two, and `redo` and `history`
-abbrev pub four_commands : App
+unfoldable pub four_commands : App
 four_commands = with_subcommand (with_subcommand two_commands (file_command (codes "redo")).top) (file_command (codes "history")).top
 
 -- the whole command line: these four, and `squash`
-abbrev pub yq : App
+unfoldable pub yq : App
 yq = with_subcommand four_commands squash_command.top

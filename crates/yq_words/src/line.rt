@@ -57,6 +57,7 @@ fn with_sub<'a>(command: Command<'a>, sub: Command<'a>) -> Result<Command<'a>, A
 }
 
 /// `undo`, `redo` or `history`.
+#[tactic(auto, unfolding(crate::specs::Line::file_command))]
 fn file_command<'a>(alloc: Global, name: &'a str) -> Result<Command<'a>, AllocError>
     ensures app { IfOk result (λ c. app_of c ≡ spec.file_command name.entry.now) }
     ensures local { IfOk result (λ c. (fields_of c).has_globals ≡ false) }
@@ -66,6 +67,7 @@ fn file_command<'a>(alloc: Global, name: &'a str) -> Result<Command<'a>, AllocEr
 }
 
 /// `squash`
+#[tactic(auto, unfolding(crate::specs::Line::squash_command))]
 fn squash_command<'a>(alloc: Global) -> Result<Command<'a>, AllocError>
     ensures app { IfOk result (λ c. app_of c ≡ spec.squash_command) }
     ensures local { IfOk result (λ c. (fields_of c).has_globals ≡ false) }
@@ -76,6 +78,7 @@ fn squash_command<'a>(alloc: Global) -> Result<Command<'a>, AllocError>
 }
 
 /// `eval` with its switches.
+#[tactic(auto, unfolding(crate::specs::Line::switches_command))]
 fn switches_command<'a>(alloc: Global) -> Result<Command<'a>, AllocError>
     ensures app { IfOk result (λ c. app_of c ≡ spec.switches_command) }
     ensures local { IfOk result (λ c. (fields_of c).has_globals ≡ false) }
@@ -87,6 +90,7 @@ fn switches_command<'a>(alloc: Global) -> Result<Command<'a>, AllocError>
 }
 
 /// `eval`
+#[tactic(auto, unfolding(crate::specs::Line::eval_command))]
 fn eval_command<'a>(alloc: Global) -> Result<Command<'a>, AllocError>
     ensures app { IfOk result (λ c. app_of c ≡ spec.eval_command) }
     ensures local { IfOk result (λ c. (fields_of c).has_globals ≡ false) }
@@ -97,6 +101,7 @@ fn eval_command<'a>(alloc: Global) -> Result<Command<'a>, AllocError>
 }
 
 /// `eval` and `undo`.
+#[tactic(auto, unfolding(crate::specs::Line::two_commands))]
 fn two_commands<'a>(alloc: Global) -> Result<Command<'a>, AllocError>
     ensures app { IfOk result (λ c. app_of c ≡ spec.two_commands) }
     ensures local { IfOk result (λ c. (fields_of c).has_globals ≡ false) }
@@ -106,6 +111,7 @@ fn two_commands<'a>(alloc: Global) -> Result<Command<'a>, AllocError>
 }
 
 /// And `redo` and `history`.
+#[tactic(auto, unfolding(crate::specs::Line::four_commands))]
 fn four_commands<'a>(alloc: Global) -> Result<Command<'a>, AllocError>
     ensures app { IfOk result (λ c. app_of c ≡ spec.four_commands) }
     ensures local { IfOk result (λ c. (fields_of c).has_globals ≡ false) }
@@ -115,6 +121,7 @@ fn four_commands<'a>(alloc: Global) -> Result<Command<'a>, AllocError>
 }
 
 /// The whole command line.
+#[tactic(auto, unfolding(crate::specs::Line::yq))]
 fn line<'a>(alloc: Global) -> Result<Command<'a>, AllocError>
     ensures app { IfOk result (λ c. app_of c ≡ spec.yq) }
 {
