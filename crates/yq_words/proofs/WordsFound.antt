@@ -136,34 +136,6 @@ word_refused : (word : Text) (rest : List Text) → is_command_word word ≡ tru
 word_refused word rest h =
     any_refused command_words word rest (eval_refused rest, (undo_refused rest, (redo_refused rest, (history_refused rest, (squash_words_refused rest, tt))))) h
 
-words_refused : (rest : List Text) → Refused (codes "yq" ∷ codes "squash" ∷ rest)
-unfolding clap_on_literals yq four_commands two_commands eval_command switches_command file_command squash_command
-squash_words_refused rest taken e =
-    let t = command_taken (codes "squash") _ rest refl refl refl taken in
-    count_refused (codes "squash") _ rest t (required_text _ rest (codes "file") refl refl t.passed) (required_text _ rest (codes "n") refl refl t.passed) (λ rows. refl) e
-
--- each word that names a command
-word_refused : (word : Text) (rest : List Text) → is_command_word word ≡ true → Refused (codes "yq" ∷ word ∷ rest)
-word_refused word rest h = elim (or_cases (bytes_eq word (codes "eval")) _ h) [
-  | inl is ↦ by (codes "eval") is (eval_refused rest)
-  | inr h ↦ elim (or_cases (bytes_eq word (codes "undo")) _ h) [
-    | inl is ↦ by (codes "undo") is (undo_refused rest)
-    | inr h ↦ elim (or_cases (bytes_eq word (codes "redo")) _ h) [
-      | inl is ↦ by (codes "redo") is (redo_refused rest)
-      | inr h ↦ elim (or_cases (bytes_eq word (codes "history")) _ h) [
-        | inl is ↦ by (codes "history") is (history_refused rest)
-        | inr h ↦ elim (or_cases (bytes_eq word (codes "squash")) _ h) [
-          | inl is ↦ by (codes "squash") is (squash_words_refused rest)
-          | inr none ↦ absurd (false≢true none)
-        ]
-      ]
-    ]
-  ]
-]
-  where
-    by : (name : Text) → bytes_eq word name ≡ true → Refused (codes "yq" ∷ name ∷ rest) → Refused (codes "yq" ∷ word ∷ rest)
-    by name is refused = subst (λ w. Refused (codes "yq" ∷ w ∷ rest)) (sym ((bytes_eq-Decides word name).0 is)) refused
-
 words_refused : (words : List Text) → Refused (full_words words)
 words_refused [] = eval_refused []
 words_refused (word ∷ rest) = by_command (is_command_word word) refl where
