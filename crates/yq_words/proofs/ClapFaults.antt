@@ -50,9 +50,8 @@ count_passes a [] rows e = value_passes a (count_text (min (count_of a.id rows +
 count_passes a (v ∷ vs) rows e = values_pass a (v ∷ vs) e
 
 repeat_passes : (b again : Bool) (k : ErrorKind) → (if b && not again then k ∷ [] else []) ≡ [] → (not b || again) ≡ true
-repeat_passes true true k e = refl
 repeat_passes true false k e = cc
-repeat_passes false again k e = refl
+repeat_passes _ _ k e = refl
 
 set_passes : (again : Bool) (a : Rule) (values : List Text) (rows : List Row) → fault.set_fault again a values rows ≡ [] → pass.set_passes again a values rows ≡ true
 set_passes again a values rows e =
@@ -65,10 +64,7 @@ action_passes SetTrue again a values rows e = set_passes again a values rows e
 action_passes SetFalse again a values rows e = set_passes again a values rows e
 action_passes Append again a values rows e = values_pass a values e
 action_passes Count again a values rows e = count_passes a values rows e
-action_passes Help again a values rows e = cc
-action_passes HelpShort again a values rows e = cc
-action_passes HelpLong again a values rows e = cc
-action_passes Version again a values rows e = cc
+action_passes _ again a values rows e = cc
 
 -- as many values as are wanted
 in_range : (least most n : ℕ) → range_kinds least most n ≡ [] → (nat_le least n ≡ true) × (nat_le n most ≡ true)
@@ -177,9 +173,6 @@ word_passes s names true waiting word h e = refl
 word_passes s names false waiting word h e = other_passes s (subcommand_met names waiting word) word h e
 
 step_taken : (s : Shape) (position : ℕ) (h : Held) (step : Step) → fault.step_fault s position h step ≡ [] → pass.step_passes s position h step ≡ true
-step_taken s position h (next waiting) e = refl
-step_taken s position h (trailing i) e = refl
-step_taken s position h (subcommand name) e = refl
 step_taken s position h value e = by_rule (arg_by_index s.rules position) e where
   stray : (b : Bool) → (if b then ErrorKind.UnknownArgument ∷ [] else ErrorKind.UnknownArgument ∷ ErrorKind.InvalidSubcommand ∷ []) ≡ [] → false ≡ true
   stray true e = cc
@@ -188,6 +181,7 @@ step_taken s position h value e = by_rule (arg_by_index s.rules position) e wher
   by_rule : (o : Option Rule) → option_map_or (λ a. fault.positional_fault s.rules s.args_override_self a h) o (fault.stray_fault s) ≡ [] → option_map_or (λ a. pass.positional_passes s.rules s.args_override_self a h) o false ≡ true
   by_rule None e = stray s.is_leaf e
   by_rule (Some a) e = positional_passes s.rules s.args_override_self a h e
+step_taken s position h _ e = refl
 
 turn_passes : (s : Shape) (names : Names) (w : Walk) (word : Text) → fault.turn_fault s names w word ≡ [] → pass.turn_passes s names w word ≡ true
 turn_passes s names w word e = by_stop (is_some w.stopped) (word_met s.rules names w.is_trailing w.waiting w.position word w.held) e where
@@ -221,15 +215,12 @@ not_met true k ks e = cc
 not_met false k ks e = (refl, e)
 
 no_help : (has help any : Bool) → (not has && (help && not any)) ≡ false → (not help || (has || any)) ≡ true
-no_help has false any e = refl
-no_help true true any e = refl
-no_help false true true e = refl
 no_help false true false e = cc
+no_help _ _ _ e = refl
 
 no_want : (has wants : Bool) → (not has && wants) ≡ false → (not wants || has) ≡ true
-no_want has false e = refl
-no_want true true e = refl
 no_want false true e = cc
+no_want _ _ e = refl
 
 no_miss : (negated some all : Bool) → (not negated && some) ≡ false → (some ≡ false → all ≡ true) → (negated || all) ≡ true
 no_miss true some all e given = refl
