@@ -22,7 +22,7 @@ use Rattle.clap.specs.declared.error.Error.{Error}
 use Rattle.clap.specs.declared.error.kind.ErrorKind.{ErrorKind}
 use Rattle.clap.proofs.OnLiterals.{clap_on_literals}
 use Rattle.clap.proofs.WalkLemmas.{both}
-use Rattle.yq_words.specs.Line.{yq, four_commands, two_commands, eval_command, switches_command, file_command, squash_command}
+use Rattle.yq_words.specs.Line.{yq, four_commands, two_commands}
 
 -- neither of two steps fails
 neither : (a b : Kinds) → or_else a b ≡ [] → (a ≡ []) × (b ≡ [])
@@ -50,8 +50,9 @@ count_passes a [] rows e = value_passes a (count_text (min (count_of a.id rows +
 count_passes a (v ∷ vs) rows e = values_pass a (v ∷ vs) e
 
 repeat_passes : (b again : Bool) (k : ErrorKind) → (if b && not again then k ∷ [] else []) ≡ [] → (not b || again) ≡ true
+repeat_passes true true k e = refl
 repeat_passes true false k e = cc
-repeat_passes _ _ k e = refl
+repeat_passes false again k e = refl
 
 set_passes : (again : Bool) (a : Rule) (values : List Text) (rows : List Row) → fault.set_fault again a values rows ≡ [] → pass.set_passes again a values rows ≡ true
 set_passes again a values rows e =
@@ -215,12 +216,15 @@ not_met true k ks e = cc
 not_met false k ks e = (refl, e)
 
 no_help : (has help any : Bool) → (not has && (help && not any)) ≡ false → (not help || (has || any)) ≡ true
+no_help has false any e = refl
+no_help true true any e = refl
+no_help false true true e = refl
 no_help false true false e = cc
-no_help _ _ _ e = refl
 
 no_want : (has wants : Bool) → (not has && wants) ≡ false → (not wants || has) ≡ true
+no_want has false e = refl
+no_want true true e = refl
 no_want false true e = cc
-no_want _ _ e = refl
 
 no_miss : (negated some all : Bool) → (not negated && some) ≡ false → (some ≡ false → all ≡ true) → (negated || all) ≡ true
 no_miss true some all e given = refl
@@ -276,11 +280,11 @@ built_takes a h words usual e =
 
 -- the words of the program's command line
 pub taken_where_none_fails : (words : List Text) → fault_of yq words ≡ [] → takes yq words ≡ true
-unfolding clap_on_literals yq four_commands two_commands eval_command switches_command file_command squash_command
+unfolding clap_on_literals yq four_commands two_commands
 taken_where_none_fails words e = built_takes (built yq) nothing_held (argument_words yq words) refl e
 
 yq_free : is_simple_and_free yq ≡ true
-unfolding clap_on_literals yq four_commands two_commands eval_command switches_command file_command squash_command
+unfolding clap_on_literals yq four_commands two_commands
 yq_free = refl
 
 -- ---- what clap answers

@@ -16,21 +16,21 @@ abbrev pub switch : List ℕ → ℕ → Rule
 switch id short = record (new_rule id) { short = Some short; long = Some id; action = Some SetTrue }
 
 -- a command with `[--journal PATH] FILE`
-unfoldable pub file_command : List ℕ → App
+abbrev pub file_command : List ℕ → App
 file_command name = with_rule (with_rule (new_app name) journal_option) (positional (codes "file"))
 
 -- the command `squash [--journal PATH] N FILE`
-unfoldable pub squash_command : App
+abbrev pub squash_command : App
 squash_command =
     with_rule (with_rule (with_rule (new_app (codes "squash")) journal_option) (positional (codes "n"))) (positional (codes "file"))
 
 -- the command `eval` with `-i`, `-e` and `-N`
-unfoldable pub switches_command : App
+abbrev pub switches_command : App
 switches_command =
     with_rule (with_rule (with_rule (new_app (codes "eval")) (switch (codes "inplace") 105)) (switch (codes "exit-status") 101)) (switch (codes "no-doc") 78)
 
 -- the command `eval [-i] [-e] [-N] [--journal PATH] EXPR FILE`
-unfoldable pub eval_command : App
+abbrev pub eval_command : App
 eval_command =
     with_rule (with_rule (with_rule switches_command journal_option) (positional (codes "expr"))) (positional (codes "file"))
 

@@ -57,7 +57,6 @@ fn with_sub<'a>(command: Command<'a>, sub: Command<'a>) -> Result<Command<'a>, A
 }
 
 /// `undo`, `redo` or `history`.
-#[tactic(auto, unfolding(crate::specs::Line::file_command))]
 fn file_command<'a>(alloc: Global, name: &'a str) -> Result<Command<'a>, AllocError>
     ensures app { IfOk result (λ c. app_of c ≡ spec.file_command name.entry.now) }
     ensures local { IfOk result (λ c. (fields_of c).has_globals ≡ false) }
@@ -67,7 +66,6 @@ fn file_command<'a>(alloc: Global, name: &'a str) -> Result<Command<'a>, AllocEr
 }
 
 /// `squash`
-#[tactic(auto, unfolding(crate::specs::Line::squash_command))]
 fn squash_command<'a>(alloc: Global) -> Result<Command<'a>, AllocError>
     ensures app { IfOk result (λ c. app_of c ≡ spec.squash_command) }
     ensures local { IfOk result (λ c. (fields_of c).has_globals ≡ false) }
@@ -78,7 +76,6 @@ fn squash_command<'a>(alloc: Global) -> Result<Command<'a>, AllocError>
 }
 
 /// `eval` with its switches.
-#[tactic(auto, unfolding(crate::specs::Line::switches_command))]
 fn switches_command<'a>(alloc: Global) -> Result<Command<'a>, AllocError>
     ensures app { IfOk result (λ c. app_of c ≡ spec.switches_command) }
     ensures local { IfOk result (λ c. (fields_of c).has_globals ≡ false) }
@@ -90,7 +87,6 @@ fn switches_command<'a>(alloc: Global) -> Result<Command<'a>, AllocError>
 }
 
 /// `eval`
-#[tactic(auto, unfolding(crate::specs::Line::eval_command))]
 fn eval_command<'a>(alloc: Global) -> Result<Command<'a>, AllocError>
     ensures app { IfOk result (λ c. app_of c ≡ spec.eval_command) }
     ensures local { IfOk result (λ c. (fields_of c).has_globals ≡ false) }
@@ -143,6 +139,8 @@ fn line<'a>(alloc: Global) -> Result<Command<'a>, AllocError>
 }
 
 /// What `clap` finds in the words, of which the first is the program's name.
+#[tactic(auto, unfolding(crate::specs::Line::yq, crate::specs::Line::four_commands,
+    crate::specs::Line::two_commands))]
 pub fn matched<'a>(alloc: Global, words: &'a [&'a str]) -> Result<ArgMatches<'a>, Error>
     ensures ok { IfOk result (λ m. subcommand_rows_of m ≡ subcommand_of spec.yq
         (map (λ w. w.now) words.entry.now)) }
