@@ -139,8 +139,7 @@ fn line<'a>(alloc: Global) -> Result<Command<'a>, AllocError>
 }
 
 /// What `clap` finds in the words, of which the first is the program's name.
-#[tactic(auto, unfolding(crate::specs::Line::yq, crate::specs::Line::four_commands,
-    crate::specs::Line::two_commands))]
+#[tactic(auto, unfolding(crate::specs::Line::yq, crate::specs::Line::four_commands, crate::specs::Line::two_commands))]
 pub fn matched<'a>(alloc: Global, words: &'a [&'a str]) -> Result<ArgMatches<'a>, Error>
     ensures ok { IfOk result (λ m. subcommand_rows_of m ≡ subcommand_of spec.yq
         (map (λ w. w.now) words.entry.now)) }
