@@ -125,7 +125,8 @@ abbrev AreRefused : List Text → List Text → Type 0
 AreRefused rest [] = Unit {0}
 AreRefused rest (name ∷ names) = Refused (codes "yq" ∷ name ∷ rest) × AreRefused rest names
 
-any_refused : (names : List Text) (word : Text) (rest : List Text) → AreRefused rest names → list_any (λ name. bytes_eq word name) names ≡ true → Refused (codes "yq" ∷ word ∷ rest)
+any_refused : (names : List Text) (word : Text) (rest : List Text) → AreRefused rest names → list_any (λ name. bytes_eq word name) names ≡ true →
+    Refused (codes "yq" ∷ word ∷ rest)
 any_refused [] word rest h some = absurd (false≢true some)
 any_refused (name ∷ names) word rest h some = elim (or_cases (bytes_eq word name) _ some) [
   | inl is ↦ subst (λ w. Refused (codes "yq" ∷ w ∷ rest)) (sym ((bytes_eq-Decides word name).0 is)) h.0
