@@ -121,7 +121,7 @@ fn two_commands<'a>(alloc: Global) -> Result<Command<'a>, AllocError>
 }
 
 /// And `redo` and `history`.
-#[tactic(auto, unfolding(crate::specs::Line::four_commands))]
+#[tactic(auto, unfolding(crate::specs::Line::four_commands, crate::specs::Line::two_commands))]
 fn four_commands<'a>(alloc: Global) -> Result<Command<'a>, AllocError>
     ensures app { IfOk result (λ c. app_of c ≡ spec.four_commands) }
     ensures local { IfOk result (λ c. (fields_of c).has_globals ≡ false) }
